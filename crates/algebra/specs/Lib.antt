@@ -1,0 +1,5 @@
+pub mod Integers
+pub mod Gcd
+pub mod Sums
+pub mod Polynomials
+pub mod Roots

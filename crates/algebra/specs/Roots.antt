@@ -1,0 +1,71 @@
+-- The integer roots of a polynomial.
+--
+-- Main definitions
+--   keep t l       the members of l that pass the test t
+--   sqrt n         the square root, rounded down
+--   divisors a     the divisors of a > 0, ascending, found in pairs up to the square root
+--   candidates p   0 and the divisors, of either sign, of the lowest nonzero coefficient, ascending
+--   roots p        the integer roots of a nonzero polynomial, ascending, each once
+use Prim.Native.Nat.{ℕ, zero, suc, _+_, _*_, _/_, _%_}
+use mathlib.Core.Path.{_≡_, refl}
+use mathlib.Core.Bool.{Bool, true, false, cond}
+use mathlib.Core.List.{List, [], _∷_, map, _++_, reverse}
+use lib.Dec.{eqb, leb, ltb}
+use lib.IntN.{ℤ, pos, negsuc, negℤ, natAbs}
+use Rattle.algebra.specs.Sums.{range}
+use Rattle.algebra.specs.Polynomials.{Polynomial, eval, isZero, isZeroℤ, lowest}
+
+-- The members of a list that pass a test, in their order.
+unfoldable pub keep : {A : Type 0} → (A → Bool) → List A → List A
+keep t [] = []
+keep t (x ∷ l) = cond (t x) (x ∷ keep t l) (keep t l)
+
+-- The square root, rounded down: of n from that of n / 4. The first argument bounds the number of calls.
+unfoldable pub sqrtWithin : ℕ → ℕ → ℕ
+sqrtWithin zero n = 0
+sqrtWithin (suc k) zero = 0
+sqrtWithin (suc k) (suc n) = let r = 2 * sqrtWithin k (suc n / 4) in cond (leb ((r + 1) * (r + 1)) (suc n)) (r + 1) r
+
+unfoldable pub sqrt : ℕ → ℕ
+unfolding sqrtWithin
+sqrt n = sqrtWithin n n
+
+unfoldable pub divides : ℕ → ℕ → Bool
+divides d a = eqb (a % d) 0
+
+-- The divisors of a > 0, ascending: those up to the square root, then their cofactors.
+unfoldable pub divisors : ℕ → List ℕ
+unfolding keep sqrt divides range
+divisors a =
+    let low = keep (λ d. divides d a) (range 1 (sqrt a)) in
+    low ++ map (λ d. a / d) (reverse (keep (λ d. ltb d (a / d)) low))
+
+unfoldable pub candidates : Polynomial → List ℤ
+unfolding divisors lowest
+candidates p =
+    let ds = divisors (natAbs (lowest p)) in
+    map (λ d. negℤ (pos d)) (reverse ds) ++ (pos 0 ∷ map pos ds)
+
+unfoldable pub isConstant : Polynomial → Bool
+unfolding isZero
+isConstant [] = true
+isConstant (a ∷ p) = isZero p
+
+-- The integer roots of a nonzero polynomial, ascending, each once; none for a constant.
+unfoldable pub roots : Polynomial → List ℤ
+unfolding keep candidates eval isZeroℤ isConstant
+roots p =
+    let found = keep (λ r. isZeroℤ (eval p r)) (candidates p) in
+    cond (isConstant p) [] found
+
+test1 : sqrt 268435455 ≡ 16383
+unfolding sqrt
+test1 = refl
+
+test2 : roots (negsuc 5 ∷ pos 1 ∷ pos 1 ∷ []) ≡ negsuc 2 ∷ pos 2 ∷ []
+unfolding roots
+test2 = refl
+
+test3 : roots (negsuc 268435453 ∷ pos 1 ∷ []) ≡ pos 268435454 ∷ []
+unfolding roots
+test3 = refl
