@@ -1,4 +1,5 @@
 pub mod Integers
+pub mod Division
 pub mod Gcd
 pub mod Sums
 pub mod Polynomials
