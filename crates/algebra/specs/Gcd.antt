@@ -4,9 +4,15 @@
 --   gcd a b       Euclid's recursion: the second operand falls at each call
 --   content p     "the greatest positive whole number that divides every coefficient" (0 if every coefficient is 0)
 --   divideBy d p  every coefficient divided by d
-use Prim.Native.Nat.{ℕ, zero, suc, _%_}
-use mathlib.Core.List.{List, [], _∷_, map}
-use lib.IntN.{ℤ, pos, natAbs}
+--   DividesAll d p  d divides every coefficient of p
+use mathlib.Core.Path.{_≡_, refl, sym, _∙_, ap, ap₂, subst}
+use mathlib.Core.Logic.{_≢_, _↔_, _⊎_, inl, inr}
+use Prim.Native.Nat.{ℕ, zero, suc, _*_, _%_, _/_, _≤_, _<_, _∣_}
+use native.Mathlib.Omega.{arith}
+use native.Mathlib.Nat.{not-suc-le-zero, le-of-suc-le-suc, le-refl, mod-lt, zero-lt-suc, dvd-refl, dvd-zero, dvd-trans, dvd-mod-iff, dvd-antisymm, le-of-dvd, eq-zero-of-zero-dvd, pos-of-dvd-of-pos, eq-zero-or-pos}
+use mathlib.Core.Bool.{Bool, true, false, not, _&&_}
+use mathlib.Core.List.{List, [], _∷_, _++_, map}
+use lib.IntN.{ℤ, pos, negsuc, natAbs}
 use lib.Signed.{quotZ}
 
 -- The first argument bounds the number of calls; the second operand is always enough (`gcd-step`).
@@ -26,3 +32,105 @@ content (a ∷ p) = gcd (natAbs a) (content p)
 
 unfoldable pub divideBy : ℕ → List ℤ → List ℤ
 divideBy d p = map (λ a. quotZ a (pos d)) p
+
+-- ---- Euclid's recursion
+
+remainder-fits : (a b k : ℕ) → suc b ≤ suc k → a % suc b ≤ k
+remainder-fits a b k h = omega (arith, mod-lt a (zero-lt-suc b))
+
+-- Two bounds that both are at least the second operand give the same number.
+pub euclid-bound : (k l a b : ℕ) → b ≤ k → b ≤ l → euclid k a b ≡ euclid l a b
+unfolding euclid
+euclid-bound zero zero a b h g = refl
+euclid-bound zero (suc l) a zero h g = refl
+euclid-bound zero (suc l) a (suc b) h g = absurd (not-suc-le-zero h)
+euclid-bound (suc k) zero a zero h g = refl
+euclid-bound (suc k) zero a (suc b) h g = absurd (not-suc-le-zero g)
+euclid-bound (suc k) (suc l) a zero h g = refl
+euclid-bound (suc k) (suc l) a (suc b) h g = euclid-bound k l (suc b) (a % suc b) (remainder-fits a b k h) (remainder-fits a b l g)
+
+pub gcd-zero : (a : ℕ) → gcd a 0 ≡ a
+unfolding gcd
+gcd-zero a = refl
+
+pub gcd-step : (a b : ℕ) → gcd a (suc b) ≡ gcd (suc b) (a % suc b)
+unfolding gcd
+gcd-step a b = euclid-bound b (a % suc b) (suc b) (a % suc b) (remainder-fits a b b (le-refl (suc b))) (le-refl (a % suc b))
+
+pub gcd-step-pos : (a b : ℕ) → 0 < b → gcd a b ≡ gcd b (a % b)
+gcd-step-pos a zero h = absurd (not-suc-le-zero h)
+gcd-step-pos a (suc b) h = gcd-step a b
+
+-- Induction along the recursion: what holds at (a, 0), and at (a, b) if it holds at the next pair, holds everywhere.
+pub euclid-induction : (P : ℕ → ℕ → Type 0) → ((a : ℕ) → P a 0) → ((a b : ℕ) → P (suc b) (a % suc b) → P a (suc b)) → (a b : ℕ) → P a b
+euclid-induction P base step a b = go b a b (le-refl b)
+  where
+    go : (k a b : ℕ) → b ≤ k → P a b
+    go zero a zero h = base a
+    go zero a (suc b) h = absurd (not-suc-le-zero h)
+    go (suc k) a zero h = base a
+    go (suc k) a (suc b) h = step a b (go k (suc b) (a % suc b) (remainder-fits a b k h))
+
+-- ---- the greatest common divisor of two whole numbers
+
+pub gcd-divides : (a b : ℕ) → (gcd a b ∣ a) × (gcd a b ∣ b)
+gcd-divides = euclid-induction (λ a b. (gcd a b ∣ a) × (gcd a b ∣ b)) base step
+  where
+    base : (a : ℕ) → (gcd a 0 ∣ a) × (gcd a 0 ∣ 0)
+    base a = (rw (gcd-zero a) (dvd-refl a), dvd-zero (gcd a 0))
+
+    step : (a b : ℕ) → (gcd (suc b) (a % suc b) ∣ suc b) × (gcd (suc b) (a % suc b) ∣ a % suc b) → (gcd a (suc b) ∣ a) × (gcd a (suc b) ∣ suc b)
+    step a b h = rw (gcd-step a b) ((dvd-mod-iff (gcd (suc b) (a % suc b)) (h .0)) .0 (h .1), h .0)
+
+pub gcd-divides-left : (a b : ℕ) → gcd a b ∣ a
+gcd-divides-left a b = gcd-divides a b .0
+
+pub gcd-divides-right : (a b : ℕ) → gcd a b ∣ b
+gcd-divides-right a b = gcd-divides a b .1
+
+pub divides-gcd : (d a b : ℕ) → d ∣ a → d ∣ b → d ∣ gcd a b
+divides-gcd d = euclid-induction (λ a b. d ∣ a → d ∣ b → d ∣ gcd a b) base step
+  where
+    base : (a : ℕ) → d ∣ a → d ∣ 0 → d ∣ gcd a 0
+    base a h g = rw (gcd-zero a) h
+
+    step : (a b : ℕ) → (d ∣ suc b → d ∣ a % suc b → d ∣ gcd (suc b) (a % suc b)) → d ∣ a → d ∣ suc b → d ∣ gcd a (suc b)
+    step a b next h g = rw (gcd-step a b) (next g ((dvd-mod-iff d g) .1 h))
+
+-- The two facts determine the number.
+pub gcd-unique : (g a b : ℕ) → g ∣ a → g ∣ b → ((d : ℕ) → d ∣ a → d ∣ b → d ∣ g) → g ≡ gcd a b
+gcd-unique g a b left right greatest =
+    dvd-antisymm (divides-gcd g a b left right) (greatest (gcd a b) (gcd-divides-left a b) (gcd-divides-right a b))
+
+pub gcd-comm : (a b : ℕ) → gcd a b ≡ gcd b a
+gcd-comm a b = gcd-unique (gcd a b) b a (gcd-divides-right a b) (gcd-divides-left a b) (λ d h g. divides-gcd d a b g h)
+
+pub zero-gcd : (a : ℕ) → gcd 0 a ≡ a
+zero-gcd a = gcd-comm 0 a ∙ gcd-zero a
+
+pub gcd-assoc : (a b c : ℕ) → gcd (gcd a b) c ≡ gcd a (gcd b c)
+gcd-assoc a b c = gcd-unique (gcd (gcd a b) c) a (gcd b c)
+    (dvd-trans _ inner (gcd-divides-left a b))
+    (divides-gcd _ b c (dvd-trans _ inner (gcd-divides-right a b)) (gcd-divides-right (gcd a b) c))
+    (λ d h g. divides-gcd d (gcd a b) c (divides-gcd d a b h (dvd-trans d g (gcd-divides-left b c))) (dvd-trans d g (gcd-divides-right b c)))
+  where
+    inner : gcd (gcd a b) c ∣ gcd a b
+    inner = gcd-divides-left (gcd a b) c
+
+pub gcd-eq-zero : (a b : ℕ) → (gcd a b ≡ 0) ↔ ((a ≡ 0) × (b ≡ 0))
+gcd-eq-zero a b = (zeros, λ h. ap₂ gcd (h .0) (h .1) ∙ gcd-zero 0)
+  where
+    zeros : gcd a b ≡ 0 → (a ≡ 0) × (b ≡ 0)
+    zeros h = (eq-zero-of-zero-dvd (rw h at (gcd-divides-left a b)), eq-zero-of-zero-dvd (rw h at (gcd-divides-right a b)))
+
+pub gcd-pos-left : (a b : ℕ) → 0 < a → 0 < gcd a b
+gcd-pos-left a b h = pos-of-dvd-of-pos (gcd-divides-left a b) h
+
+pub gcd-pos-right : (a b : ℕ) → 0 < b → 0 < gcd a b
+gcd-pos-right a b h = pos-of-dvd-of-pos (gcd-divides-right a b) h
+
+pub gcd-le-left : (a b : ℕ) → 0 < a → gcd a b ≤ a
+gcd-le-left a b h = le-of-dvd h (gcd-divides-left a b)
+
+pub gcd-le-right : (a b : ℕ) → 0 < b → gcd a b ≤ b
+gcd-le-right a b h = le-of-dvd h (gcd-divides-right a b)
