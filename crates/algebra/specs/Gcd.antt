@@ -9,11 +9,17 @@ use mathlib.Core.Path.{_≡_, refl, sym, _∙_, ap, ap₂, subst}
 use mathlib.Core.Logic.{_≢_, _↔_, _⊎_, inl, inr}
 use Prim.Native.Nat.{ℕ, zero, suc, _*_, _%_, _/_, _≤_, _<_, _∣_}
 use native.Mathlib.Omega.{arith}
-use native.Mathlib.Nat.{not-suc-le-zero, le-of-suc-le-suc, le-refl, mod-lt, zero-lt-suc, dvd-refl, dvd-zero, dvd-trans, dvd-mod-iff, dvd-antisymm, le-of-dvd, eq-zero-of-zero-dvd, pos-of-dvd-of-pos, eq-zero-or-pos}
+use native.Mathlib.Nat.{pos-of-ne-zero, lt-irrefl, le-antisymm, not-suc-le-zero, le-of-suc-le-suc, le-refl, mod-lt, zero-lt-suc, dvd-refl, dvd-zero, dvd-trans, dvd-mod-iff, dvd-antisymm, le-of-dvd, eq-zero-of-zero-dvd, pos-of-dvd-of-pos, eq-zero-or-pos}
 use mathlib.Core.Bool.{Bool, true, false, not, _&&_}
 use mathlib.Core.List.{List, [], _∷_, _++_, map}
 use lib.IntN.{ℤ, pos, negsuc, natAbs}
 use lib.Signed.{quotZ}
+use lib.Dec.{T, T-not, eqb, eqb→eq, eqb-refl}
+use lib.ListN.{length, getD, length-map, List·getD-map}
+use lib.Ieee.Fits.{and-i, and-l, and-r}
+use Rattle.algebra.specs.Integers.{natAbs-zero}
+use Rattle.algebra.specs.Division.{DividesZ, quotZ-le, natAbs-quotZ, quotZ-dividesZ}
+use Rattle.algebra.specs.Polynomials.{isZeroℤ, isZero, scale, eval, eval-scale}
 
 -- The first argument bounds the number of calls; the second operand is always enough (`gcd-step`).
 unfoldable pub euclid : ℕ → ℕ → ℕ → ℕ
@@ -32,6 +38,15 @@ content (a ∷ p) = gcd (natAbs a) (content p)
 
 unfoldable pub divideBy : ℕ → List ℤ → List ℤ
 divideBy d p = map (λ a. quotZ a (pos d)) p
+
+abbrev pub DividesAll : ℕ → List ℤ → Type 0
+DividesAll d p = (k : ℕ) → DividesZ d (getD p k (pos 0))
+
+-- What "the content of p" means for a polynomial with a nonzero coefficient.
+pub record IsContent (p : List ℤ) (c : ℕ) : Type 0 where
+  pub positive : 0 < c
+  pub divides : DividesAll c p
+  pub greatest : (d : ℕ) → DividesAll d p → d ≤ c
 
 -- ---- Euclid's recursion
 
@@ -134,3 +149,63 @@ gcd-le-left a b h = le-of-dvd h (gcd-divides-left a b)
 
 pub gcd-le-right : (a b : ℕ) → 0 < b → gcd a b ≤ b
 gcd-le-right a b h = le-of-dvd h (gcd-divides-right a b)
+
+-- ---- the content of a list of integers
+
+dividesAll-tail : (d : ℕ) (a : ℤ) (p : List ℤ) → DividesAll d (a ∷ p) → DividesAll d p
+dividesAll-tail d a p h k = h (suc k)
+
+pub content-divides : (p : List ℤ) → DividesAll (content p) p
+unfolding content
+content-divides [] k = dvd-zero 0
+content-divides (a ∷ p) zero = gcd-divides-left (natAbs a) (content p)
+content-divides (a ∷ p) (suc k) = dvd-trans _ (gcd-divides-right (natAbs a) (content p)) (content-divides p k)
+
+pub divides-content : (d : ℕ) (p : List ℤ) → DividesAll d p → d ∣ content p
+unfolding content
+divides-content d [] h = dvd-zero d
+divides-content d (a ∷ p) h = divides-gcd d (natAbs a) (content p) (h 0) (divides-content d p (dividesAll-tail d a p h))
+
+-- A divisor of the content divides every coefficient.
+pub dividesAll-of-content : (d : ℕ) (p : List ℤ) → d ∣ content p → DividesAll d p
+dividesAll-of-content d p h k = dvd-trans d h (content-divides p k)
+
+zero-size : (n : ℕ) → n ≡ 0 → T (eqb n 0)
+zero-size n h = rw h (eqb-refl 0)
+
+pub content-zero : (p : List ℤ) → (content p ≡ 0) ↔ T (isZero p)
+unfolding content isZero
+content-zero [] = (λ h. tt, λ h. refl)
+content-zero (a ∷ p) = (forth (content-zero p .0), back (content-zero p .1))
+  where
+    forth : (content p ≡ 0 → T (isZero p)) → gcd (natAbs a) (content p) ≡ 0 → T (isZeroℤ a && isZero p)
+    forth rest h =
+        let zeros = gcd-eq-zero (natAbs a) (content p) .0 h in and-i (isZeroℤ a) (isZero p) (zero-size (natAbs a) (zeros .0)) (rest (zeros .1))
+
+    back : (T (isZero p) → content p ≡ 0) → T (isZeroℤ a && isZero p) → gcd (natAbs a) (content p) ≡ 0
+    back rest h =
+        gcd-eq-zero (natAbs a) (content p) .1 (eqb→eq (natAbs a) 0 (and-l (isZeroℤ a) (isZero p) h), rest (and-r (isZeroℤ a) (isZero p) h))
+
+pub content-pos : (p : List ℤ) → T (not (isZero p)) → 0 < content p
+content-pos p h = pos-of-ne-zero (λ e. T-not (isZero p) h (content-zero p .0 e))
+
+-- A nonzero coefficient is enough.
+pub content-pos-at : (p : List ℤ) (k : ℕ) → getD p k (pos 0) ≢ pos 0 → 0 < content p
+content-pos-at p k h = pos-of-ne-zero (λ e. h (natAbs-zero (eq-zero-of-zero-dvd (rw e at (content-divides p k)))))
+
+pub content-greatest : (p : List ℤ) → T (not (isZero p)) → IsContent p (content p)
+content-greatest p h =
+    record { positive = content-pos p h; divides = content-divides p; greatest = λ d g. le-of-dvd (content-pos p h) (divides-content d p g) }
+
+-- If every coefficient were 0, every number would divide all of them and none were the greatest.
+pub content-unique : (p : List ℤ) (c : ℕ) → IsContent p c → c ≡ content p
+content-unique p c h = cases (eq-zero-or-pos (content p))
+  where
+    cases : (content p ≡ 0) ⊎ (0 < content p) → c ≡ content p
+    cases (inl e) = absurd (lt-irrefl c (h .greatest (suc c) (dividesAll-of-content (suc c) p (rw e (dvd-zero (suc c))))))
+    cases (inr n) = le-antisymm (le-of-dvd n (divides-content c p (h .divides))) (h .greatest (content p) (content-divides p))
+
+pub content-append : (p q : List ℤ) → content (p ++ q) ≡ gcd (content p) (content q)
+unfolding content
+content-append [] q = sym (zero-gcd (content q))
+content-append (a ∷ p) q = ap (gcd (natAbs a)) (content-append p q) ∙ sym (gcd-assoc (natAbs a) (content p) (content q))
