@@ -1,22 +1,22 @@
--- Exact division of integers: the quotient toward zero and the remainder of `lib.Signed`, and divisibility by a whole
--- number.
+-- Exact division of integers: the quotient toward zero and the remainder of `lib.Signed`, and divisibility by a whole number.
 --
 -- Main definitions
---   DividesZ d a                   the whole number d divides the integer a
+--   DividesZ d a                             the whole number d divides the integer a
 --
 -- Main statements
---   quotZ-remZ                     quotient times divisor plus remainder is the dividend
---   natAbs-quotZ, natAbs-remZ      the sizes of quotient and remainder are those of the division of the sizes
---   quotZ-le                       the quotient's size is at most the dividend's
---   remZ-multiple, quotZ-multiple  a multiple of r has remainder 0, and remainder 0 makes the quotient exact
---   quotZ-exact                    a product divided by its nonzero factor is the other factor
---   dividesZ→multiple, multiple→dividesZ   d divides a exactly if a is an integer times d
+--   quotZ-remZ                               quotient times divisor plus remainder is the dividend
+--   natAbs-quotZ, natAbs-remZ                the sizes of quotient and remainder are those of the division of the sizes
+--   quotZ-le                                 the quotient's size is at most the dividend's
+--   remZ-multiple, quotZ-multiple            a multiple of r has remainder 0, and remainder 0 makes the quotient exact
+--   quotZ-exact                              a product divided by its nonzero factor is the other factor
+--   dividesZ→multiple, multiple→dividesZ     d divides a exactly if a is an integer times d
 --   dividesZ-+ℤ, dividesZ-negℤ, dividesZ-*ℤ  the multiples of d are closed under sum, negation and any integer factor
---   quotZ-dividesZ                 the quotient by a divisor, times the divisor, is the dividend
+--   quotZ-dividesZ                           the quotient by a divisor, times the divisor, is the dividend
 use mathlib.Core.Path.{_≡_, refl, sym, _∙_, ap, ap₂}
 use mathlib.Core.Logic.{_≢_}
 use Prim.Native.Nat.{ℕ, suc, _/_, _%_, _≤_, _∣_}
-use native.Mathlib.Nat.{div-add-mod', div-le-self, mul-mod-left, mod-eq-zero-of-dvd, dvd-of-mod-eq-zero, dvd-mul-left-of-dvd, dvd-mul-right-of-dvd}
+use native.Mathlib.Nat.{div-add-mod', div-le-self, mul-mod-left, mod-eq-zero-of-dvd, dvd-of-mod-eq-zero}
+use native.Mathlib.Nat.{dvd-mul-left-of-dvd, dvd-mul-right-of-dvd}
 use lib.IntN.{ℤ, pos, negsuc, negℤ, natAbs, _+ℤ_, _-ℤ_, _*ℤ_, *ℤ-comm, +ℤ-idr, negℤ-+ℤ, negℤ-negℤ}
 use lib.Signed.{quotZ, remZ}
 use Rattle.algebra.specs.Integers.{natAbs-negℤ, natAbs-*ℤ, natAbs-zero, negℤ-*ℤ, *ℤ-negℤ, +ℤ-*ℤ, *ℤ-cancel-left}
@@ -47,7 +47,8 @@ quotZ-remZ (negsuc a) (pos d) = signs (pos (suc a / d)) (pos d) (pos (suc a % d)
   where
     signs : (x y z : ℤ) → negℤ x *ℤ y +ℤ negℤ z ≡ negℤ (x *ℤ y +ℤ z)
     signs x y z = simp (negℤ-*ℤ, negℤ-+ℤ)
-quotZ-remZ (negsuc a) (negsuc d) = signs (pos (suc a / suc d)) (pos (suc d)) (pos (suc a % suc d)) ∙ ap (λ n. negℤ (pos n)) (div-add-mod' (suc a) (suc d))
+quotZ-remZ (negsuc a) (negsuc d) =
+    signs (pos (suc a / suc d)) (pos (suc d)) (pos (suc a % suc d)) ∙ ap (λ n. negℤ (pos n)) (div-add-mod' (suc a) (suc d))
   where
     signs : (x y z : ℤ) → x *ℤ negℤ y +ℤ negℤ z ≡ negℤ (x *ℤ y +ℤ z)
     signs x y z = simp (*ℤ-negℤ, negℤ-+ℤ)
@@ -59,7 +60,8 @@ pub quotZ-multiple : (a r : ℤ) → remZ a r ≡ pos 0 → quotZ a r *ℤ r ≡
 quotZ-multiple a r h = sym (+ℤ-idr (quotZ a r *ℤ r)) ∙ ap (λ e. quotZ a r *ℤ r +ℤ e) (sym h) ∙ quotZ-remZ a r
 
 pub quotZ-exact : (a d : ℤ) → d ≢ pos 0 → quotZ (a *ℤ d) d ≡ a
-quotZ-exact a d n = *ℤ-cancel-left d (quotZ (a *ℤ d) d) a n (*ℤ-comm d (quotZ (a *ℤ d) d) ∙ quotZ-multiple (a *ℤ d) d (remZ-multiple a d) ∙ *ℤ-comm a d)
+quotZ-exact a d n = *ℤ-cancel-left d (quotZ (a *ℤ d) d) a n
+    (*ℤ-comm d (quotZ (a *ℤ d) d) ∙ quotZ-multiple (a *ℤ d) d (remZ-multiple a d) ∙ *ℤ-comm a d)
 
 -- ---- divisibility by a whole number
 
