@@ -3,3 +3,4 @@ pub mod Gcd
 pub mod Sums
 pub mod Polynomials
 pub mod Roots
+pub mod Order
