@@ -4,3 +4,4 @@ pub mod Sums
 pub mod Polynomials
 pub mod Roots
 pub mod Order
+pub mod Pigeonhole
