@@ -4,3 +4,5 @@ pub mod Gcd
 pub mod Sums
 pub mod Polynomials
 pub mod Roots
+pub mod Order
+pub mod Pigeonhole
