@@ -40,6 +40,11 @@ unfoldable pub every : {A : Type 0} → (A → Bool) → List A → Bool
 every t [] = true
 every t (x ∷ l) = t x && every t l
 
+-- Every member of a list has the property.
+unfoldable pub All : {A : Type 0} → (A → Type 0) → List A → Type 0
+All P [] = Unit {0}
+All P (x ∷ l) = P x × All P l
+
 -- The row with f applied to each of its polynomials.
 unfoldable pub mapRow : (Polynomial → Polynomial) → Row → Row
 mapRow f r = record { blocks = map (map f) (r .blocks) }

@@ -15,7 +15,7 @@ use lib.ListN.{getD, length}
 use lib.IntN.{ℤ, pos, negsuc, natAbs, predℤ, _+ℤ_, _-ℤ_, _*ℤ_}
 use Rattle.algebra.specs.Sums.{range}
 use Rattle.algebra.specs.Polynomials.{Polynomial, eval, isZero, add, mul, shiftBy}
-use Rattle.rules.specs.Rows.{Block, Row, Relation, noRow}
+use Rattle.rules.specs.Rows.{Block, Row, Relation, noRow, All}
 
 -- "A sequence gives an integer to each index n of either sign and each column 1 to m." Columns are counted from 0 here.
 abbrev pub Sequence : Type 0
@@ -37,11 +37,6 @@ blocksValue n z k (b ∷ bs) = blockValue n (z k) b +ℤ blocksValue n z (pred�
 unfoldable pub valueOf : ℤ → Row → Sequence → ℤ → ℤ
 unfolding blocksValue
 valueOf l r z n = blocksValue n z (n +ℤ l) (r .blocks)
-
--- Every member of a list has the property.
-unfoldable pub All : {A : Type 0} → (A → Type 0) → List A → Type 0
-All P [] = Unit {0}
-All P (x ∷ l) = P x × All P l
 
 -- "It satisfies an equation if the sum is zero at every integer n."
 unfoldable pub SatisfiesEquation : ℤ → Sequence → Row → Type 0

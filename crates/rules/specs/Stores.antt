@@ -7,16 +7,18 @@
 --   rowStoreOf, relationStoreOf   the numbers that hold rows; those that hold relations, unused places 0
 --   sizesRight, lengthsRight, numbersRight   the checks for refusals 2, 1 and 5
 --   checkStores              their order
+--   Shaped, Valid            rows as a store holds them; the systems that the checks let through
 use Prim.Native.Nat.{ℕ, zero, suc, _+_, _*_, _-_}
-use mathlib.Core.Bool.{Bool, true, false, _&&_, cond}
+use mathlib.Core.Path.{_≡_}
+use mathlib.Core.Bool.{Bool, _&&_, cond}
 use mathlib.Core.List.{List, [], _∷_, _++_, map, flatten}
-use lib.Dec.{leb, ltb}
+use lib.Dec.{T, leb}
 use lib.ListN.{length, take, drop, getD, replicate}
 use lib.IntN.{ℤ, pos, negℤ, natAbs, _-ℤ_}
 use lib.Signed.{leZ}
 use Rattle.algebra.specs.Polynomials.{isZero}
 use Rattle.rules.specs.Limits.{bound, coefficientCount, columnCount, blockCount, rowLength, relationLength, mostRelations, blockBound, small}
-use Rattle.rules.specs.Rows.{Row, Relation, every, zeroBlock, coefficientsOf, smallRow}
+use Rattle.rules.specs.Rows.{Row, Relation, All, every, zeroBlock, coefficientsOf, smallRow}
 
 -- "A system has m unknowns (1 to 4), m equations, and blocks numbered from t to l"
 pub record Sizes : Type 0 where
@@ -117,3 +119,25 @@ checkStores z count rowStore relationStore =
     let numbers : ℕ = cond (numbersRight z count rowStore relationStore) 0 5 in
     let lengths : ℕ = cond (lengthsRight (z .m) rowStore relationStore) numbers 1 in
     cond (sizesRight z && countRight count) lengths 2
+
+-- ---- valid systems
+
+-- A row of b blocks, each of c columns, each of k coefficients.
+unfoldable pub Shaped : ℕ → ℕ → ℕ → Row → Type 0
+unfolding All
+Shaped b c k r =
+    (length (r .blocks) ≡ b) × All (λ block. (length block ≡ c) × All (λ p. length p ≡ k) block) (r .blocks)
+
+-- A row as a store holds it.
+abbrev pub StoreRow : Row → Type 0
+StoreRow = Shaped blockCount columnCount coefficientCount
+
+-- What the checks of document 01 let through, as rows and relations.
+pub record Valid (z : Sizes) (rows : List Row) (relations : List Relation) : Type 0 where
+  pub sizes : T (sizesRight z)
+  pub row-count : length rows ≡ z .m
+  pub row-shapes : All StoreRow rows
+  pub rows-right : T (every (rowRight z) rows)
+  pub relation-count : T (countRight (length relations))
+  pub relation-shapes : All (λ e. StoreRow (e .row)) relations
+  pub relations-right : T (every (relationRight z) relations)
