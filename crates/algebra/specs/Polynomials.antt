@@ -22,13 +22,13 @@
 use mathlib.Core.Path.{_≡_, refl, sym, _∙_, ap, ap₂, subst}
 use mathlib.Core.Logic.{_≢_, _↔_, ⊎-elim}
 use Prim.Native.Nat.{ℕ, zero, suc, _+_, _≤_, max}
-use native.Mathlib.Nat.{not-suc-le-zero, le-of-suc-le-suc, zero-add, zero-max, max-zero, suc-max-suc, suc-add}
+use native.Mathlib.Nat.{not-suc-le-zero, le-of-suc-le-suc, zero-max, max-zero, suc-max-suc}
 use native.Mathlib.Omega.{arith}
 use mathlib.Core.Bool.{Bool, true, false, _&&_, not, cond}
-use mathlib.Core.List.{List, [], _∷_, _++_, map, map-map, map-id}
+use mathlib.Core.List.{List, [], _∷_, _++_, map}
 use lib.Dec.{T, eqb, eqb→eq, T-not, not-T}
 use lib.ListN.{getD, length, take, drop, replicate, length-map, take-append-drop}
-use lib.IntN.{ℤ, pos, negℤ, natAbs, _+ℤ_, _*ℤ_, +ℤ-idl, +ℤ-idr, +ℤ-comm, +ℤ-assoc, +ℤ-invr, +ℤ-invl, *ℤ-zero, zero-*ℤ, *ℤ-comm, negℤ-negℤ, negℤ-+ℤ}
+use lib.IntN.{ℤ, pos, negℤ, natAbs, _+ℤ_, _*ℤ_, +ℤ-idl, +ℤ-idr, +ℤ-comm, +ℤ-assoc, +ℤ-invl, *ℤ-zero, zero-*ℤ, *ℤ-comm, negℤ-negℤ}
 use Rattle.algebra.specs.Integers.{ringℤ, *ℤ-assoc, *ℤ-+ℤ, +ℤ-*ℤ, natAbs-zero, natAbs-negℤ, no-zero-divisors}
 
 abbrev pub Polynomial : Type 0
@@ -148,7 +148,8 @@ eval-negate (a ∷ p) x = ap (λ e. negℤ a +ℤ x *ℤ e) (eval-negate p x) �
 pub eval-mirror : (p : Polynomial) (x : ℤ) → eval (mirror p) x ≡ eval p (negℤ x)
 unfolding mirror eval
 eval-mirror [] x = refl
-eval-mirror (a ∷ p) x = ap (λ e. a +ℤ x *ℤ e) (eval-negate (mirror p) x) ∙ ap (λ e. a +ℤ x *ℤ negℤ e) (eval-mirror p x) ∙ step (eval p (negℤ x))
+eval-mirror (a ∷ p) x =
+    ap (λ e. a +ℤ x *ℤ e) (eval-negate (mirror p) x ∙ ap negℤ (eval-mirror p x)) ∙ step (eval p (negℤ x))
   where
     step : (e : ℤ) → a +ℤ x *ℤ negℤ e ≡ a +ℤ negℤ x *ℤ e
     step e = simp ringℤ
@@ -232,11 +233,14 @@ isZero-mirror (a ∷ p) = ap (λ t. isZeroℤ a && t) (isZero-negate (mirror p) 
 
 pub isZero-scale : (c : ℤ) → c ≢ pos 0 → (p : Polynomial) → isZero (scale c p) ≡ isZero p
 unfolding scale
-isZero-scale c n p = isZero-map (λ a. c *ℤ a) product p
+isZero-scale c n p = isZero-map (λ a. c *ℤ a) (λ a. same-test (isZeroℤ (c *ℤ a)) (isZeroℤ a) (down a) (up a)) p
   where
-    product : (a : ℤ) → isZeroℤ (c *ℤ a) ≡ isZeroℤ a
-    product a =
-        same-test (isZeroℤ (c *ℤ a)) (isZeroℤ a) (λ h. isZeroℤ-iff a .1 (⊎-elim (λ e. absurd (n e)) (λ e. e) (no-zero-divisors c a (isZeroℤ-iff (c *ℤ a) .0 h)))) (λ h. isZeroℤ-iff (c *ℤ a) .1 (ap (λ z. c *ℤ z) (isZeroℤ-iff a .0 h) ∙ *ℤ-zero c))
+    down : (a : ℤ) → T (isZeroℤ (c *ℤ a)) → T (isZeroℤ a)
+    down a h =
+        isZeroℤ-iff a .1 (⊎-elim (λ e. absurd (n e)) (λ e. e) (no-zero-divisors c a (isZeroℤ-iff (c *ℤ a) .0 h)))
+
+    up : (a : ℤ) → T (isZeroℤ a) → T (isZeroℤ (c *ℤ a))
+    up a h = isZeroℤ-iff (c *ℤ a) .1 (ap (λ z. c *ℤ z) (isZeroℤ-iff a .0 h) ∙ *ℤ-zero c)
 
 pub scale-isZero : (c : ℤ) (p : Polynomial) → T (isZero p) → T (isZero (scale c p))
 unfolding scale isZero
@@ -262,7 +266,9 @@ isZero-add (a ∷ p) (b ∷ q) h z =
 pub isZero-mul-left : (p q : Polynomial) → T (isZero p) → T (isZero (mul p q))
 unfolding mul isZero
 isZero-mul-left [] q h = h
-isZero-mul-left (a ∷ p) q h = isZero-add (scale a q) (pos 0 ∷ mul p q) (first (isZero-cons a p .0 h .0)) (isZero-mul-left p q (isZero-cons a p .0 h .1))
+isZero-mul-left (a ∷ p) q h =
+    let e = isZero-cons a p .0 h in
+    isZero-add (scale a q) (pos 0 ∷ mul p q) (first (e .0)) (isZero-mul-left p q (e .1))
   where
     first : a ≡ pos 0 → T (isZero (scale a q))
     first e = rw e (isZero-scale-zero q)
@@ -400,7 +406,7 @@ pub mirror-mirror : (p : Polynomial) → mirror (mirror p) ≡ p
 unfolding mirror
 mirror-mirror [] = refl
 mirror-mirror (a ∷ p) =
-    ap (λ q. a ∷ negate q) (mirror-negate (mirror p)) ∙ ap (λ q. a ∷ q) (negate-negate (mirror (mirror p))) ∙ ap (λ q. a ∷ q) (mirror-mirror p)
+    ap (λ q. a ∷ q) (ap negate (mirror-negate (mirror p)) ∙ negate-negate (mirror (mirror p)) ∙ mirror-mirror p)
 
 -- Zero coefficients, no more than there are coefficients, change nothing.
 pub add-zeros : (p q : Polynomial) → T (isZero q) → length q ≤ length p → add p q ≡ p
@@ -481,7 +487,10 @@ shiftBy-shiftBy a b (c ∷ p) = shiftBy-horner a b c (shiftBy b p) ∙ ap (horne
 
 horner-by-zero : (a : ℤ) (s : Polynomial) → horner (pos 0) a s ≡ a ∷ s
 unfolding horner
-horner-by-zero a s = ap (add (a ∷ [])) (add-zeros (pos 0 ∷ s) (scale (pos 0) s) (isZero-scale-zero s) (simp length-scale (omega arith))) ∙ ap (λ b. b ∷ s) (+ℤ-idr a)
+horner-by-zero a s = ap (add (a ∷ [])) (add-zeros (pos 0 ∷ s) (scale (pos 0) s) (isZero-scale-zero s) fits) ∙ ap (λ b. b ∷ s) (+ℤ-idr a)
+  where
+    fits : length (scale (pos 0) s) ≤ suc (length s)
+    fits = simp length-scale (omega arith)
 
 pub shiftBy-zero : (p : Polynomial) → shiftBy (pos 0) p ≡ p
 unfolding shiftBy horner
@@ -494,10 +503,13 @@ shiftBy-inverse c p = shiftBy-shiftBy (negℤ c) c p ∙ ap (λ d. shiftBy d p) 
 pub shiftBy-isZero : (c : ℤ) (p : Polynomial) → T (isZero p) → T (isZero (shiftBy c p))
 unfolding shiftBy isZero
 shiftBy-isZero c [] h = h
-shiftBy-isZero c (a ∷ p) h = step (shiftBy c p) (shiftBy-isZero c p (isZero-cons a p .0 h .1))
+shiftBy-isZero c (a ∷ p) h =
+    let e = isZero-cons a p .0 h in
+    step (isZero-cons a [] .1 (e .0, tt)) (shiftBy c p) (shiftBy-isZero c p (e .1))
   where
-    step : (s : Polynomial) → T (isZero s) → T (isZero (add (a ∷ []) (add (pos 0 ∷ s) (scale c s))))
-    step s z = isZero-add (a ∷ []) (add (pos 0 ∷ s) (scale c s)) (isZero-cons a [] .1 (isZero-cons a p .0 h .0, tt)) (isZero-add (pos 0 ∷ s) (scale c s) z (scale-isZero c s z))
+    step : T (isZero (a ∷ [])) → (s : Polynomial) → T (isZero s) → T (isZero (add (a ∷ []) (add (pos 0 ∷ s) (scale c s))))
+    step y s z =
+        isZero-add (a ∷ []) (add (pos 0 ∷ s) (scale c s)) y (isZero-add (pos 0 ∷ s) (scale c s) z (scale-isZero c s z))
 
 pub isZero-shiftBy : (c : ℤ) (p : Polynomial) → isZero (shiftBy c p) ≡ isZero p
 isZero-shiftBy c p = same-test (isZero (shiftBy c p)) (isZero p) back (shiftBy-isZero c p)
