@@ -1,6 +1,9 @@
 pub mod Integers
+pub mod Division
 pub mod Gcd
 pub mod Sums
 pub mod Polynomials
 pub mod Coefficients
 pub mod Roots
+pub mod Order
+pub mod Pigeonhole

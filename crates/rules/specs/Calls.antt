@@ -1,0 +1,127 @@
+-- What each call on stores does as a whole: its result and the contents of each lent store afterwards.
+--
+-- Main definitions
+--   Result, Call        the fields that a run returns; the result with both stores as the run leaves them
+--   callRun side        a whole run on lent stores
+--   polynomialCheck, polynomialPart   the part of the row store that holds one polynomial, and the check on the same values
+use Prim.Native.Nat.{ℕ, zero, suc, _+_, _*_, pred}
+use mathlib.Core.Bool.{Bool, true, false, _&&_, cond}
+use mathlib.Core.List.{List, [], _∷_, _++_, map}
+use mathlib.Core.Option.{Option, none, some}
+use lib.Dec.{leb}
+use lib.ListN.{length, take, drop, replicate}
+use lib.IntN.{ℤ, pos, natAbs, _-ℤ_}
+use lib.Signed.{leZ}
+use Rattle.rules.specs.Limits.{coefficientCount, columnCount, rowLength}
+use Rattle.rules.specs.Elimination.{Side, State, Outcome, going, done, refused, wholeRun, report}
+use Rattle.rules.specs.Stores.{Sizes, span, rowsOf, relationsOf, rowNeed, relationNeed, rowStoreOf, relationStoreOf, sizesRight, checkStores}
+
+-- "Every refusal returns its number, all other fields 0."
+pub record Result : Type 0 where
+  pub refusal : ℕ
+  pub relations : ℕ
+  pub shifts : ℕ
+  pub order : List ℕ
+  pub hasRoot : Bool
+  pub root : ℤ
+
+pub record Call : Type 0 where
+  pub result : Result
+  pub rowStore : List ℤ
+  pub relationStore : List ℤ
+
+-- The first n members of l, and v for those that l lacks.
+unfoldable pub padTo : {A : Type 0} → ℕ → A → List A → List A
+padTo zero v l = []
+padTo (suc n) v [] = v ∷ padTo n v []
+padTo (suc n) v (x ∷ l) = x ∷ padTo n v l
+
+unfoldable pub refusal : ℕ → Result
+refusal n = record { refusal = n; relations = 0; shifts = 0; order = replicate columnCount 0; hasRoot = false; root = pos 0 }
+
+-- "value 0 with "no""
+unfoldable pub rootFound : Option ℤ → Bool
+rootFound none = false
+rootFound (some r) = true
+
+unfoldable pub rootValue : Option ℤ → ℤ
+rootValue none = pos 0
+rootValue (some r) = r
+
+-- Columns are counted from 1 in a result, zeros past the end of the order.
+unfoldable pub reportedOrder : List ℕ → List ℕ
+unfolding padTo
+reportedOrder order = padTo columnCount 0 (map suc order)
+
+unfoldable pub acceptance : Side → ℕ → State → Result
+unfolding reportedOrder rootFound rootValue report
+acceptance side D s =
+    let root = report side D s in
+    record { refusal = 0; relations = length (s .relations); shifts = s .shifts; order = reportedOrder (s .order); hasRoot = rootFound root; root = rootValue root }
+
+-- The store with its needed part replaced; "numbers past the needed part stay".
+unfoldable pub overwrite : List ℤ → List ℤ → List ℤ
+overwrite part store = part ++ drop (length part) store
+
+unfoldable pub zeros : ℕ → List ℤ
+zeros n = replicate n (pos 0)
+
+-- "Refusals 1 to 5 leave lent stores unchanged"
+unfoldable pub unchanged : ℕ → List ℤ → List ℤ → Call
+unfolding refusal
+unchanged n rowStore relationStore = record { result = refusal n; rowStore = rowStore; relationStore = relationStore }
+
+-- "6 to 9 leave the needed part zero, the rest unchanged"
+unfoldable pub cleared : ℕ → ℕ → List ℤ → List ℤ → Call
+unfolding refusal overwrite zeros rowNeed
+cleared n m rowStore relationStore =
+    record { result = refusal n; rowStore = overwrite (zeros (rowNeed m)) rowStore; relationStore = overwrite (zeros relationNeed) relationStore }
+
+unfoldable pub afterRun : Side → Sizes → Outcome → List ℤ → List ℤ → Call
+unfolding acceptance overwrite rowStoreOf relationStoreOf cleared span
+afterRun side z (done s) rowStore relationStore =
+    record { result = acceptance side (span z) s; rowStore = overwrite (rowStoreOf (s .rows)) rowStore; relationStore = overwrite (relationStoreOf (s .relations)) relationStore }
+afterRun side z (refused n) rowStore relationStore = cleared n (z .m) rowStore relationStore
+-- A run always ends (crate theory), so this case never comes.
+afterRun side z (going s) rowStore relationStore = cleared 6 (z .m) rowStore relationStore
+
+unfoldable pub afterCheck : Side → Sizes → ℕ → List ℤ → List ℤ → ℕ → Call
+unfolding afterRun wholeRun rowsOf relationsOf unchanged span
+afterCheck side z count rowStore relationStore zero =
+    afterRun side z (wholeRun side (span z) (rowsOf (z .m) rowStore) (relationsOf count relationStore)) rowStore relationStore
+afterCheck side z count rowStore relationStore (suc n) = unchanged (suc n) rowStore relationStore
+
+-- A run on lent stores: "they hold its input before and its output after".
+unfoldable pub callRun : Side → Sizes → ℕ → List ℤ → List ℤ → Call
+unfolding afterCheck checkStores
+callRun side z count rowStore relationStore =
+    afterCheck side z count rowStore relationStore (checkStores z count rowStore relationStore)
+
+-- ---- one polynomial of the row store
+
+-- "named by row, block and column", rows and columns counted from 1
+unfoldable pub placeRight : Sizes → ℕ → ℤ → ℕ → Bool
+placeRight z row block column =
+    (leb 1 row && leb row (z .m)) && (leZ (z .t) block && leZ block (z .l)) && (leb 1 column && leb column (z .m))
+
+-- "outside the sizes, or of a store too short, [..] a check on the same values returns 2 or 1"
+unfoldable pub polynomialCheck : List ℤ → Sizes → ℕ → ℤ → ℕ → ℕ
+unfolding sizesRight placeRight rowNeed
+polynomialCheck rowStore z row block column =
+    cond (sizesRight z && placeRight z row block column) (cond (leb (rowNeed (z .m)) (length rowStore)) 0 1) 2
+
+-- Where its sixteen numbers begin.
+unfoldable pub polynomialPlace : Sizes → ℕ → ℤ → ℕ → ℕ
+polynomialPlace z row block column =
+    pred row * rowLength + natAbs (z .l -ℤ block) * (columnCount * coefficientCount) + pred column * coefficientCount
+
+unfoldable pub partAt : List ℤ → ℕ → ℕ → List ℤ
+partAt rowStore place zero = take coefficientCount (drop place rowStore)
+partAt rowStore place (suc n) = []
+
+-- "the caller gets back the part of the row store that holds one polynomial [..]; outside the sizes, or of a store too
+-- short, it is the empty part"
+unfoldable pub polynomialPart : List ℤ → Sizes → ℕ → ℤ → ℕ → List ℤ
+unfolding partAt polynomialPlace polynomialCheck
+polynomialPart rowStore z row block column =
+    partAt rowStore (polynomialPlace z row block column) (polynomialCheck rowStore z row block column)

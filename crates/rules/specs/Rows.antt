@@ -1,0 +1,130 @@
+-- Rows of a system: the left side of an equation, relative to block l.
+--
+-- Main definitions
+--   Row, Relation         a list of blocks, block l first, each a list of polynomials, one a column; a row with its n0
+--   coefficientsOf r      its polynomials laid end to end, as in a store
+--   width r               the number of blocks down to the lowest nonzero one
+--   entry r c             the leading entry at column c (columns are counted from 0 here)
+--   firstNonzero ps       the place of the first nonzero polynomial of a list
+--   combine g h r q       g × r + h × q
+--   primitive r           r divided by the greatest positive whole number dividing all its coefficients
+--   shiftUp r             every block moved up by one and n + 1 for n
+--   mirrorRow D r         block -s for s and -n for n, D + 1 blocks being in use
+use Prim.Native.Nat.{ℕ, zero, suc}
+use mathlib.Core.Bool.{Bool, true, false, _&&_, not, cond}
+use mathlib.Core.List.{List, [], _∷_, _++_, map, reverse, tail, flatten, zipWith}
+use mathlib.Core.Option.{Option, none, some, Option·map}
+use lib.Dec.{eqb}
+use lib.ListN.{take, drop, getD}
+use lib.IntN.{ℤ, pos, negℤ}
+use Rattle.algebra.specs.Gcd.{content, divideBy}
+use Rattle.algebra.specs.Polynomials.{Polynomial, isZero, add, mul, shift, mirror}
+use Rattle.rules.specs.Limits.{coefficientCount, small}
+
+abbrev pub Block : Type 0
+Block = List Polynomial
+
+pub record Row : Type 0 where
+  pub blocks : List Block
+
+-- "A relation is an equation with one integer n0: the sum is zero at n0 only."
+pub record Relation : Type 0 where
+  pub index : ℤ
+  pub row : Row
+
+abbrev pub noRow : Row
+noRow = record { blocks = [] }
+
+-- Does every member pass the test?
+unfoldable pub every : {A : Type 0} → (A → Bool) → List A → Bool
+every t [] = true
+every t (x ∷ l) = t x && every t l
+
+-- Every member of a list has the property.
+unfoldable pub All : {A : Type 0} → (A → Type 0) → List A → Type 0
+All P [] = Unit {0}
+All P (x ∷ l) = P x × All P l
+
+-- The row with f applied to each of its polynomials.
+unfoldable pub mapRow : (Polynomial → Polynomial) → Row → Row
+mapRow f r = record { blocks = map (map f) (r .blocks) }
+
+unfoldable pub coefficientsOf : Row → List ℤ
+unfolding flatten
+coefficientsOf r = flatten (flatten (r .blocks))
+
+unfoldable pub zeroBlock : Block → Bool
+unfolding every isZero
+zeroBlock b = every isZero b
+
+unfoldable pub zeroRow : Row → Bool
+unfolding every zeroBlock
+zeroRow r = every zeroBlock (r .blocks)
+
+-- "The width of a nonzero row is l - s + 1, s its lowest nonzero block; of a zero row, 0."
+unfoldable pub widthOf : List Block → ℕ
+unfolding zeroBlock
+widthOf [] = 0
+widthOf (b ∷ bs) = cond (eqb (widthOf bs) 0 && zeroBlock b) 0 (suc (widthOf bs))
+
+unfoldable pub width : Row → ℕ
+unfolding widthOf
+width r = widthOf (r .blocks)
+
+-- The leading block is block l, the first.
+unfoldable pub leadingBlock : Row → Block
+leadingBlock r = getD (r .blocks) 0 []
+
+unfoldable pub entry : Row → ℕ → Polynomial
+unfolding leadingBlock
+entry r c = getD (leadingBlock r) c []
+
+unfoldable pub firstNonzero : List Polynomial → Option ℕ
+unfolding isZero
+firstNonzero [] = none
+firstNonzero (p ∷ ps) = cond (isZero p) (Option·map suc (firstNonzero ps)) (some 0)
+
+-- "g × row i + h × row j"
+unfoldable pub combine : Polynomial → Polynomial → Row → Row → Row
+unfolding zipWith add mul
+combine g h r q =
+    record { blocks = zipWith (zipWith (λ p e. add (mul g p) (mul h e))) (r .blocks) (q .blocks) }
+
+-- "divided by the greatest positive whole number dividing all its coefficients (a zero row is not divided)"
+unfoldable pub primitive : Row → Row
+unfolding content divideBy coefficientsOf mapRow
+primitive r = elim (content (coefficientsOf r)) [ zero ↦ r | suc d ↦ mapRow (divideBy (suc d)) r ]
+
+-- Has every polynomial degree at most 15?
+unfoldable pub lowDegrees : Row → Bool
+unfolding every isZero
+lowDegrees r = every (every (λ p. isZero (drop coefficientCount p))) (r .blocks)
+
+-- The row with 16 coefficients a polynomial: no more where the degrees are at most 15.
+unfoldable pub cut : Row → Row
+unfolding mapRow
+cut r = mapRow (take coefficientCount) r
+
+-- Is every coefficient within ±C?
+unfoldable pub smallRow : Row → Bool
+unfolding every small coefficientsOf
+smallRow r = every small (coefficientsOf r)
+
+-- A block of the same columns and coefficients, all zero.
+unfoldable pub blank : Block → Block
+blank b = map (map (λ _. pos 0)) b
+
+-- "every block moves up by one and n becomes n + 1 in the row"; the leading block is lost, a zero block comes in below.
+unfoldable pub shiftUp : Row → Row
+unfolding mapRow shift blank leadingBlock
+shiftUp r = mapRow shift (record { blocks = tail (r .blocks) ++ (blank (leadingBlock r) ∷ []) })
+
+-- "replace n by -n, block s by -s": the D + 1 blocks in use change places, first with last.
+unfoldable pub mirrorRow : ℕ → Row → Row
+unfolding mapRow mirror
+mirrorRow D r = mapRow mirror (record { blocks = reverse (take (suc D) (r .blocks)) ++ drop (suc D) (r .blocks) })
+
+-- ".. n0 by -n0"
+unfoldable pub mirrorRelation : ℕ → Relation → Relation
+unfolding mirrorRow
+mirrorRelation D e = record { index = negℤ (e .index); row = mirrorRow D (e .row) }

@@ -1,0 +1,143 @@
+-- Systems in stores of 64-bit signed numbers, and the checks of a call on stores.
+--
+-- Main definitions
+--   Sizes, span              m, l and t; D = l - t
+--   rowOf, rowsOf            the row held by 320 numbers, the rows held by a row store
+--   relationOf, relationsOf  the relation held by 321 numbers, the relations held by a relation store
+--   rowStoreOf, relationStoreOf   the numbers that hold rows; those that hold relations, unused places 0
+--   sizesRight, lengthsRight, numbersRight   the checks for refusals 2, 1 and 5
+--   checkStores              their order
+--   Shaped, Valid            rows as a store holds them; the systems that the checks let through
+use Prim.Native.Nat.{ℕ, zero, suc, _+_, _*_, _-_}
+use mathlib.Core.Path.{_≡_}
+use mathlib.Core.Bool.{Bool, _&&_, cond}
+use mathlib.Core.List.{List, [], _∷_, _++_, map, flatten}
+use lib.Dec.{T, leb}
+use lib.ListN.{length, take, drop, getD, replicate}
+use lib.IntN.{ℤ, pos, negℤ, natAbs, _-ℤ_}
+use lib.Signed.{leZ}
+use Rattle.algebra.specs.Polynomials.{isZero}
+use Rattle.rules.specs.Limits.{bound, coefficientCount, columnCount, blockCount, rowLength, relationLength, mostRelations, blockBound, small}
+use Rattle.rules.specs.Rows.{Row, Relation, All, every, zeroBlock, coefficientsOf, smallRow}
+
+-- "A system has m unknowns (1 to 4), m equations, and blocks numbered from t to l"
+pub record Sizes : Type 0 where
+  pub m : ℕ
+  pub l : ℤ
+  pub t : ℤ
+
+-- "D = l - t"
+unfoldable pub span : Sizes → ℕ
+span z = natAbs (z .l -ℤ z .t)
+
+-- ---- the layout: "block l first, four columns a block, 16 coefficients a column, lowest power first"
+
+-- The first n parts of k members each.
+unfoldable pub parts : {A : Type 0} → ℕ → ℕ → List A → List (List A)
+parts k zero l = []
+parts k (suc n) l = take k l ∷ parts k n (drop k l)
+
+unfoldable pub rowOf : List ℤ → Row
+unfolding parts
+rowOf l = record { blocks = map (parts coefficientCount columnCount) (parts (columnCount * coefficientCount) blockCount l) }
+
+unfoldable pub rowsOf : ℕ → List ℤ → List Row
+unfolding parts rowOf
+rowsOf m l = map rowOf (parts rowLength m l)
+
+-- "A relation is n0 and then a row."
+unfoldable pub relationOf : List ℤ → Relation
+unfolding rowOf
+relationOf l = record { index = getD l 0 (pos 0); row = rowOf (drop 1 l) }
+
+unfoldable pub relationsOf : ℕ → List ℤ → List Relation
+unfolding parts relationOf
+relationsOf count l = map relationOf (parts relationLength count l)
+
+unfoldable pub relationNumbers : Relation → List ℤ
+unfolding coefficientsOf
+relationNumbers e = e .index ∷ coefficientsOf (e .row)
+
+-- "The row store needs m × 320 numbers, the relation store 16 × 321."
+unfoldable pub rowNeed : ℕ → ℕ
+rowNeed m = m * rowLength
+
+abbrev pub relationNeed : ℕ
+relationNeed = mostRelations * relationLength
+
+unfoldable pub rowStoreOf : List Row → List ℤ
+unfolding flatten coefficientsOf
+rowStoreOf rows = flatten (map coefficientsOf rows)
+
+-- "Relation places past the count are unused: they hold 0 before and after."
+unfoldable pub relationStoreOf : List Relation → List ℤ
+unfolding flatten relationNumbers
+relationStoreOf l =
+    flatten (map relationNumbers l) ++ replicate ((mostRelations - length l) * relationLength) (pos 0)
+
+-- ---- the checks: "Calls on stores check sizes (2), lengths (1), numbers (5)"
+
+unfoldable pub sizesRight : Sizes → Bool
+sizesRight z =
+    (leb 1 (z .m) && leb (z .m) columnCount)
+    && (leZ (negℤ (pos blockBound)) (z .t) && leZ (z .t) (z .l) && leZ (z .l) (pos blockBound) && leZ (z .l -ℤ z .t) (pos 4))
+
+unfoldable pub countRight : ℕ → Bool
+countRight count = leb count mostRelations
+
+unfoldable pub lengthsRight : ℕ → List ℤ → List ℤ → Bool
+unfolding rowNeed
+lengthsRight m rowStore relationStore =
+    leb (rowNeed m) (length rowStore) && leb relationNeed (length relationStore)
+
+-- "Positions outside the system's blocks and columns hold 0."
+unfoldable pub unusedZero : ℕ → ℕ → Row → Bool
+unfolding every zeroBlock
+unusedZero m D r =
+    every (λ b. zeroBlock (drop m b)) (r .blocks) && every zeroBlock (drop (suc D) (r .blocks))
+
+-- "5 a coefficient [..] outside ±C, or a nonzero number at an unused store position"
+unfoldable pub rowRight : Sizes → Row → Bool
+unfolding smallRow unusedZero span
+rowRight z r = smallRow r && unusedZero (z .m) (span z) r
+
+unfoldable pub relationRight : Sizes → Relation → Bool
+unfolding small rowRight
+relationRight z e = small (e .index) && rowRight z (e .row)
+
+unfoldable pub numbersRight : Sizes → ℕ → List ℤ → List ℤ → Bool
+unfolding every rowRight rowsOf relationRight relationsOf isZero
+numbersRight z count rowStore relationStore =
+    every (rowRight z) (rowsOf (z .m) rowStore)
+    && every (relationRight z) (relationsOf count relationStore)
+    && isZero (drop (count * relationLength) (take relationNeed relationStore))
+
+-- The number of the first check that fails, or 0.
+unfoldable pub checkStores : Sizes → ℕ → List ℤ → List ℤ → ℕ
+unfolding sizesRight countRight lengthsRight numbersRight
+checkStores z count rowStore relationStore =
+    let numbers : ℕ = cond (numbersRight z count rowStore relationStore) 0 5 in
+    let lengths : ℕ = cond (lengthsRight (z .m) rowStore relationStore) numbers 1 in
+    cond (sizesRight z && countRight count) lengths 2
+
+-- ---- valid systems
+
+-- A row of b blocks, each of c columns, each of k coefficients.
+unfoldable pub Shaped : ℕ → ℕ → ℕ → Row → Type 0
+unfolding All
+Shaped b c k r =
+    (length (r .blocks) ≡ b) × All (λ block. (length block ≡ c) × All (λ p. length p ≡ k) block) (r .blocks)
+
+-- A row as a store holds it.
+abbrev pub StoreRow : Row → Type 0
+StoreRow = Shaped blockCount columnCount coefficientCount
+
+-- What the checks of document 01 let through, as rows and relations.
+pub record Valid (z : Sizes) (rows : List Row) (relations : List Relation) : Type 0 where
+  pub sizes : T (sizesRight z)
+  pub row-count : length rows ≡ z .m
+  pub row-shapes : All StoreRow rows
+  pub rows-right : T (every (rowRight z) rows)
+  pub relation-count : T (countRight (length relations))
+  pub relation-shapes : All (λ e. StoreRow (e .row)) relations
+  pub relations-right : T (every (relationRight z) relations)

@@ -1,0 +1,13 @@
+pub mod Lists
+pub mod Steps
+pub mod Ending
+pub mod Triangular
+pub mod Shapes
+pub mod Values
+pub mod Multipliers
+pub mod Solutions
+pub mod Combinations
+pub mod Dependence
+pub mod BackSubstitution
+pub mod Mirror
+pub mod Report

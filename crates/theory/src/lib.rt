@@ -1,0 +1,1 @@
+// Definitions and laws alone: see specs/, from Demands.antt on. There is no code here.
