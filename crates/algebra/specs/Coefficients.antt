@@ -6,6 +6,7 @@
 --
 -- Main statements
 --   coeff-add, coeff-scale, coeff-negate, coeff-mirror   the coefficients of a sum, a multiple, the negative, the mirror image
+--   coeff-shiftBy-zero, coeff-shiftBy-suc   the coefficients of a shift, from those of the shift of the rest
 --   coeff-mul        the coefficients of a product are the convolution of those of the factors
 --   ext-coeff        lists of one length with the same coefficients are equal
 --   coeff-degree, coeff-past-degree   the leading coefficient stands at the degree, and only zeros stand past it
@@ -25,30 +26,15 @@ use lib.ListN.{length, take, drop, List·getD-map, List·getD-eq-default}
 use lib.Seq.{getD-take, getD-drop, ext-getD}
 use lib.IntN.{ℤ, pos, negℤ, _+ℤ_, _*ℤ_, +ℤ-idl, +ℤ-idr, *ℤ-zero, zero-*ℤ}
 use Rattle.algebra.specs.Integers.{ringℤ, *ℤ-nonzero}
-use Rattle.algebra.specs.Sums.{range, sum, sumBelow}
-use Rattle.algebra.specs.Polynomials.{Polynomial, coeff, add, scale, negate, mirror, mul, isZeroℤ, isZero, degree, lead, lowest}
+use Rattle.algebra.specs.Sums.{sumBelow, sumBelow-front, sumBelow-zeros}
+use Rattle.algebra.specs.Polynomials.{Polynomial, coeff, add, scale, negate, mirror, mul, shiftBy}
+use Rattle.algebra.specs.Polynomials.{isZeroℤ, isZero, degree, lead, lowest}
 use Rattle.algebra.specs.Polynomials.{isZeroℤ-iff, isZeroℤ-not-iff, isZero-cons, isZero-coeff, coeff-isZero}
 use Rattle.algebra.specs.Polynomials.{isZero-mul-left, isZero-mul-right}
 
 passes-or-not : (t : Bool) → T t ⊎ T (not t)
 passes-or-not true = inl tt
 passes-or-not false = inr tt
-
--- ---- sums below a bound
-
-sum-shift : (f : ℕ → ℤ) (a n : ℕ) → sum f (range (suc a) n) ≡ sum (λ i. f (suc i)) (range a n)
-unfolding sum range
-sum-shift f a zero = refl
-sum-shift f a (suc n) = ap (λ e. f (suc a) +ℤ e) (sum-shift f (suc a) n)
-
-sumBelow-front : (n : ℕ) (f : ℕ → ℤ) → sumBelow (suc n) f ≡ f 0 +ℤ sumBelow n (λ i. f (suc i))
-unfolding sumBelow
-sumBelow-front n f = ap (λ e. f 0 +ℤ e) (sum-shift f 0 n)
-
-sumBelow-zero : (n : ℕ) (f : ℕ → ℤ) → ((i : ℕ) → f i ≡ pos 0) → sumBelow n f ≡ pos 0
-unfolding sumBelow
-sumBelow-zero zero f h = refl
-sumBelow-zero (suc n) f h = sumBelow-front n f ∙ ap₂ _+ℤ_ (h 0) (sumBelow-zero n (λ i. f (suc i)) (λ i. h (suc i)))
 
 -- ---- coefficients of the operations' results
 
@@ -117,6 +103,22 @@ pub coeff-mul-suc : (a : ℤ) (p q : Polynomial) (k : ℕ) → coeff (mul (a ∷
 unfolding mul coeff
 coeff-mul-suc a p q k = coeff-add (scale a q) (pos 0 ∷ mul p q) (suc k) ∙ ap (λ e. e +ℤ coeff (mul p q) k) (coeff-scale a q (suc k))
 
+-- By Horner's rule: the coefficients of a + (n + c) s, where s is the shift of the rest.
+pub coeff-shiftBy-zero : (c a : ℤ) (p : Polynomial) → coeff (shiftBy c (a ∷ p)) 0 ≡ a +ℤ c *ℤ coeff (shiftBy c p) 0
+unfolding shiftBy
+coeff-shiftBy-zero c a p = step (shiftBy c p)
+  where
+    step : (s : Polynomial) → coeff (add (a ∷ []) (add (pos 0 ∷ s) (scale c s))) 0 ≡ a +ℤ c *ℤ coeff s 0
+    step s = simp (coeff-add, coeff-scale, coeff-cons-zero, +ℤ-idl)
+
+pub coeff-shiftBy-suc : (c a : ℤ) (p : Polynomial) (k : ℕ)
+    → coeff (shiftBy c (a ∷ p)) (suc k) ≡ coeff (shiftBy c p) k +ℤ c *ℤ coeff (shiftBy c p) (suc k)
+unfolding shiftBy
+coeff-shiftBy-suc c a p k = step (shiftBy c p)
+  where
+    step : (s : Polynomial) → coeff (add (a ∷ []) (add (pos 0 ∷ s) (scale c s))) (suc k) ≡ coeff s k +ℤ c *ℤ coeff s (suc k)
+    step s = simp (coeff-add, coeff-scale, coeff-cons-suc, coeff-nil, +ℤ-idl)
+
 -- The term i of the convolution for the coefficient k of p q.
 abbrev term : Polynomial → Polynomial → ℕ → ℕ → ℤ
 term p q k i = coeff p i *ℤ coeff q (k - i)
@@ -124,7 +126,7 @@ term p q k i = coeff p i *ℤ coeff q (k - i)
 -- The coefficients of a product: the convolution of those of the factors.
 pub coeff-mul : (p q : Polynomial) (k : ℕ) → coeff (mul p q) k ≡ sumBelow (suc k) (λ i. coeff p i *ℤ coeff q (k - i))
 unfolding coeff mul sumBelow
-coeff-mul [] q k = sym (sumBelow-zero (suc k) (term [] q k) (λ i. zero-*ℤ (coeff q (k - i))))
+coeff-mul [] q k = sym (sumBelow-zeros (suc k) (term [] q k) (λ i _. zero-*ℤ (coeff q (k - i))))
 coeff-mul (a ∷ p) q zero = coeff-mul-zero a p q ∙ sym (+ℤ-idr (a *ℤ coeff q 0))
 coeff-mul (a ∷ p) q (suc k) =
     coeff-mul-suc a p q k ∙ ap₂ _+ℤ_ first (coeff-mul p q k ∙ ap (sumBelow (suc k)) (fun-ext later))
@@ -190,12 +192,12 @@ degree-isZero (a ∷ p) h = cases (isZero p) (isZero-cons a p .0 h .1)
     cases true h = refl
     cases false h = absurd h
 
-pub degree-le-length : (a : ℤ) (p : Polynomial) → degree (a ∷ p) ≤ length p
+pub degree-lt-length : (a : ℤ) (p : Polynomial) → degree (a ∷ p) < length (a ∷ p)
 unfolding degree
-degree-le-length a [] = omega arith
-degree-le-length a (b ∷ p) = cases (isZero (b ∷ p)) (degree-le-length b p)
+degree-lt-length a [] = omega arith
+degree-lt-length a (b ∷ p) = cases (isZero (b ∷ p)) (degree-lt-length b p)
   where
-    cases : (t : Bool) → degree (b ∷ p) ≤ length p → cond t 0 (suc (degree (b ∷ p))) ≤ suc (length p)
+    cases : (t : Bool) → degree (b ∷ p) < suc (length p) → cond t 0 (suc (degree (b ∷ p))) < suc (suc (length p))
     cases true h = omega arith
     cases false h = omega arith
 

@@ -4,6 +4,7 @@ pub mod Gcd
 pub mod Sums
 pub mod Polynomials
 pub mod Coefficients
+pub mod Binomials
 pub mod Roots
 pub mod Order
 pub mod Pigeonhole

@@ -121,7 +121,8 @@ pub eval-mul : (p q : Polynomial) (x : ℤ) → eval (mul p q) x ≡ eval p x *�
 unfolding mul eval
 eval-mul [] q x = sym (zero-*ℤ (eval q x))
 eval-mul (a ∷ p) q x =
-    eval-add (scale a q) (pos 0 ∷ mul p q) x ∙ ap₂ (λ e f. e +ℤ (pos 0 +ℤ x *ℤ f)) (eval-scale a q x) (eval-mul p q x) ∙ step (eval p x) (eval q x)
+    eval-add (scale a q) (pos 0 ∷ mul p q) x ∙ ap₂ (λ e f. e +ℤ (pos 0 +ℤ x *ℤ f)) (eval-scale a q x) (eval-mul p q x)
+    ∙ step (eval p x) (eval q x)
   where
     step : (e f : ℤ) → a *ℤ f +ℤ (pos 0 +ℤ x *ℤ (e *ℤ f)) ≡ (a +ℤ x *ℤ e) *ℤ f
     step e f = simp ringℤ
@@ -167,9 +168,9 @@ same-test true false f g = absurd (f tt)
 same-test false true f g = absurd (g tt)
 same-test false false f g = refl
 
-pub both : (s t : Bool) → T (s && t) ↔ (T s × T t)
-both true t = (λ h. (tt, h), λ h. h .1)
-both false t = (λ h. absurd h, λ h. h .0)
+pub T-&& : (s t : Bool) → T (s && t) ↔ (T s × T t)
+T-&& true t = (λ h. (tt, h), λ h. h .1)
+T-&& false t = (λ h. absurd h, λ h. h .0)
 
 pub isZeroℤ-iff : (a : ℤ) → T (isZeroℤ a) ↔ (a ≡ pos 0)
 unfolding isZeroℤ
@@ -181,7 +182,7 @@ isZeroℤ-not-iff a = (λ h e. T-not (isZeroℤ a) h (isZeroℤ-iff a .1 e), λ 
 pub isZero-cons : (a : ℤ) (p : Polynomial) → T (isZero (a ∷ p)) ↔ ((a ≡ pos 0) × T (isZero p))
 unfolding isZero
 isZero-cons a p =
-    let e = both (isZeroℤ a) (isZero p) in
+    let e = T-&& (isZeroℤ a) (isZero p) in
     (λ h. (isZeroℤ-iff a .0 (e .0 h .0), e .0 h .1), λ h. e .1 (isZeroℤ-iff a .1 (h .0), h .1))
 
 pub isZero-coeff : (p : Polynomial) → T (isZero p) → (k : ℕ) → coeff p k ≡ pos 0
