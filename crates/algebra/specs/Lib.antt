@@ -2,4 +2,5 @@ pub mod Integers
 pub mod Gcd
 pub mod Sums
 pub mod Polynomials
+pub mod Vanishing
 pub mod Roots
