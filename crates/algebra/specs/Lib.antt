@@ -3,4 +3,5 @@ pub mod Gcd
 pub mod Sums
 pub mod Polynomials
 pub mod Vanishing
+pub mod Divisors
 pub mod Roots

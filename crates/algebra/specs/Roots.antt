@@ -12,33 +12,8 @@ use mathlib.Core.Bool.{Bool, true, false, cond}
 use mathlib.Core.List.{List, [], _∷_, map, _++_, reverse}
 use lib.Dec.{eqb, leb, ltb}
 use lib.IntN.{ℤ, pos, negsuc, negℤ, natAbs}
-use Rattle.algebra.specs.Sums.{range}
+use Rattle.algebra.specs.Divisors.{keep, sqrt, divisors}
 use Rattle.algebra.specs.Polynomials.{Polynomial, eval, isZero, isZeroℤ, lowest}
-
--- The members of a list that pass a test, in their order.
-unfoldable pub keep : {A : Type 0} → (A → Bool) → List A → List A
-keep t [] = []
-keep t (x ∷ l) = cond (t x) (x ∷ keep t l) (keep t l)
-
--- The square root, rounded down: of n from that of n / 4. The first argument bounds the number of calls.
-unfoldable pub sqrtWithin : ℕ → ℕ → ℕ
-sqrtWithin zero n = 0
-sqrtWithin (suc k) zero = 0
-sqrtWithin (suc k) (suc n) = let r = 2 * sqrtWithin k (suc n / 4) in cond (leb ((r + 1) * (r + 1)) (suc n)) (r + 1) r
-
-unfoldable pub sqrt : ℕ → ℕ
-unfolding sqrtWithin
-sqrt n = sqrtWithin n n
-
-unfoldable pub divides : ℕ → ℕ → Bool
-divides d a = eqb (a % d) 0
-
--- The divisors of a > 0, ascending: those up to the square root, then their cofactors.
-unfoldable pub divisors : ℕ → List ℕ
-unfolding keep sqrt divides range
-divisors a =
-    let low = keep (λ d. divides d a) (range 1 (sqrt a)) in
-    low ++ map (λ d. a / d) (reverse (keep (λ d. ltb d (a / d)) low))
 
 unfoldable pub candidates : Polynomial → List ℤ
 unfolding divisors lowest
