@@ -8,8 +8,8 @@
 -- Main statements (`Pairwise R l` of the kit: each member is related by R to every later one)
 --   mem-keep, keep-pairwise          the members of keep t l are those of l that pass t, in their order
 --   sqrt-le, lt-sqrt                 s * s ≤ n < (s + 1) * (s + 1) with s the square root of n
---   mem-divisors                     d is a member of divisors a exactly when d divides a
---   divisors-ascending               and the members ascend
+--   mem-divisors                     d is a member of divisors a exactly when d divides a, for a > 0
+--   divisors-positive, divisors-ascending   the members are positive, and ascend
 use Prim.Native.Nat.{ℕ, zero, suc, _+_, _*_, _/_, _%_, _≤_, _<_, _∣_}
 use mathlib.Core.Path.{_≡_, refl, sym, ap}
 use mathlib.Core.Logic.{_↔_, ite, ∥∥₁-elim, ⊎-elim, Or·elim, by-cases}
@@ -25,7 +25,8 @@ use native.Mathlib.Omega.{arith}
 use native.Mathlib.Bridge.{le-prop}
 use native.Mathlib.Decide.{decLe}
 use native.Mathlib.Nat.{le-refl, eq-or-lt-of-le, lt-of-not-le, mul-le-mul, mul-le-mul-left, mul-lt-mul-of-pos-right}
-use native.Mathlib.Nat.{∣-prop, dvd-of-mod-eq-zero, mod-eq-zero-of-dvd, pos-of-dvd-of-pos, mul-div-cancel', div-mul-cancel, div-eq-of-eq-mul-left}
+use native.Mathlib.Nat.{∣-prop, dvd-of-mod-eq-zero, mod-eq-zero-of-dvd, pos-of-dvd-of-pos}
+use native.Mathlib.Nat.{mul-div-cancel', div-mul-cancel, div-eq-of-eq-mul-left}
 use Rattle.algebra.specs.Sums.{range}
 
 -- The members of a list that pass a test, in their order.
@@ -153,12 +154,12 @@ mem-low a {d} = (from, to)
   where
     from : List·Mem d (low a) → (0 < d) × (d ≤ sqrt a) × (d ∣ a)
     from m =
-        let h = mem-keep (λ d. divides d a) (range 1 (sqrt a)) .0 m in
+        let h = mem-keep (λ e. divides e a) (range 1 (sqrt a)) .0 m in
         let k = mem-range 1 (sqrt a) .0 (h .0) in
         (k .0, omega arith, divides-dvd d a .0 (h .1))
 
     to : (0 < d) × (d ≤ sqrt a) × (d ∣ a) → List·Mem d (low a)
-    to h = mem-keep (λ d. divides d a) (range 1 (sqrt a)) .1 (mem-range 1 (sqrt a) .1 (h .0, omega arith), divides-dvd d a .1 (h .2))
+    to h = mem-keep (λ e. divides e a) (range 1 (sqrt a)) .1 (mem-range 1 (sqrt a) .1 (h .0, omega arith), divides-dvd d a .1 (h .2))
 
 low-ascending : (a : ℕ) → Pairwise _<_ (low a)
 low-ascending a = keep-pairwise (λ d. divides d a) (range-ascending 1 (sqrt a))
@@ -245,6 +246,9 @@ module _ (a : ℕ) (positive : 0 < a) where
           by-cases (decLe d (sqrt a))
           (λ k. mem-append-left (high a) (mem-low a .1 (pos-of-dvd-of-pos h positive, k, h)))
           (λ n. mem-append-right (low a) (mem-high .1 (lt-of-not-le n, h)))
+
+  pub divisors-positive : (d : ℕ) → List·Mem d (divisors a) → 0 < d
+  divisors-positive d m = pos-of-dvd-of-pos (mem-divisors .0 m) positive
 
   pub divisors-ascending : Pairwise _<_ (divisors a)
   divisors-ascending = rw (divisors-split a) (pairwise-append (λ _ _. le-prop) .1 (low-ascending a, high-ascending, across))

@@ -11,7 +11,7 @@
 --   zero-everywhere         a polynomial is zero exactly when it vanishes at every integer
 use mathlib.Core.Path.{_≡_, refl, sym, _∙_, ap, ap₂, subst}
 use mathlib.Core.Logic.{_≢_, _↔_, ⊎-elim}
-use Prim.Native.Nat.{zero, suc, _*_, _≤_, _<_, _∣_, zero-le}
+use Prim.Native.Nat.{suc, _*_, _≤_, _<_, _∣_, zero-le}
 use mathlib.Core.Bool.{Bool, true, false, not, _&&_, cond}
 use mathlib.Core.List.{List, [], _∷_, List·Mem, List·Nodup, pairwise-cons, mem-cons-self, mem-cons-of-mem}
 use lib.Dec.{T, T-not, not-T, eqb→eq}
