@@ -23,12 +23,11 @@ use lib.Dec.{T, T-prop, T-not, not-T, lt→ltb}
 use lib.ListN.{replicate}
 use lib.IntN.{ℤ, pos, negsuc, negℤ, natAbs, _-ℤ_, ℤ-discrete}
 use lib.Signed.{_<ℤ_, ltZ, ltZ-yes, <ℤ-irrefl}
-use native.Mathlib.Nat.{suc-ne-zero, pos-of-ne-zero}
+use native.Mathlib.Nat.{suc-ne-zero}
 use native.Mathlib.Omega.{arith}
-use Rattle.algebra.specs.Integers.{natAbs-zero}
 use Rattle.algebra.specs.Sums.{range}
 use Rattle.algebra.specs.Polynomials.{Polynomial, eval, isZero, isZeroℤ, lowest}
-use Rattle.algebra.specs.Vanishing.{isZeroℤ-sound, isZeroℤ-complete, constant-root, lowest-nonzero, root-divides-lowest}
+use Rattle.algebra.specs.Vanishing.{isZeroℤ-sound, isZeroℤ-complete, constant-root, lowest-positive, root-divides-lowest}
 use Rattle.algebra.specs.Divisors.{keep, divisors, mem-keep, keep-pairwise, mem-divisors, divisors-positive, divisors-ascending}
 
 unfoldable pub candidates : Polynomial → List ℤ
@@ -112,17 +111,13 @@ signed-ascending ds ascends positive = pairwise-append <ℤ-prop .1 (negative, o
         let high = exists-of-mem-map {f = pos} {l = 0 ∷ ds} n in
         ∥∥₁-elim low (<ℤ-prop x y) (λ t. ∥∥₁-elim high (<ℤ-prop x y) (λ u. between (t .0) (u .0) (t .1) (t .2) (u .2)))
 
-module _ (p : Polynomial) (nonzero : T (not (isZero p))) where
-  lowest-positive : 0 < natAbs (lowest p)
-  lowest-positive = pos-of-ne-zero (λ z. lowest-nonzero p nonzero (natAbs-zero z))
+candidates-complete : (p : Polynomial) (r : ℤ) → T (not (isZero p)) → eval p r ≡ pos 0 → List·Mem r (candidates p)
+unfolding candidates
+candidates-complete p r n e = signed-complete _ r (λ h. mem-divisors _ (lowest-positive p n) .1 (root-divides-lowest p r n h e))
 
-  candidates-complete : (r : ℤ) → eval p r ≡ pos 0 → List·Mem r (candidates p)
-  unfolding candidates
-  candidates-complete r e = signed-complete _ r (λ n. mem-divisors _ lowest-positive .1 (root-divides-lowest p r nonzero n e))
-
-  candidates-ascending : Pairwise _<ℤ_ (candidates p)
-  unfolding candidates
-  candidates-ascending = signed-ascending _ (divisors-ascending _ lowest-positive) (divisors-positive _ lowest-positive)
+candidates-ascending : (p : Polynomial) → T (not (isZero p)) → Pairwise _<ℤ_ (candidates p)
+unfolding candidates
+candidates-ascending p n = signed-ascending _ (divisors-ascending _ (lowest-positive p n)) (divisors-positive _ (lowest-positive p n))
 
 -- ---- the roots
 
@@ -151,7 +146,7 @@ roots-complete p r n e = rw (roots-split p) (cases (isConstant p) (constant-no-r
   where
     cases : (b : Bool) → T (not b) → List·Mem r (cond b [] (keep (isRoot p) (candidates p)))
     cases true h = absurd h
-    cases false h = mem-keep (isRoot p) (candidates p) .1 (candidates-complete p n r e, isZeroℤ-complete (eval p r) e)
+    cases false h = mem-keep (isRoot p) (candidates p) .1 (candidates-complete p r n e, isZeroℤ-complete (eval p r) e)
 
 pub roots-ascending : (p : Polynomial) → T (not (isZero p)) → Pairwise _<ℤ_ (roots p)
 roots-ascending p n = rw (roots-split p) (cases (isConstant p))

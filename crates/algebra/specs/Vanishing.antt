@@ -179,12 +179,12 @@ lowest-nonzero (a ∷ p) n = cases (isZeroℤ a) (isZeroℤ-complete a) n (lowes
     cases true z n′ below = below n′
     cases false z n′ below = z
 
-pub nonzero-past-lowest : (p : Polynomial) (x : ℤ) → T (not (isZero p)) → natAbs (lowest p) < natAbs x → eval p x ≢ pos 0
-nonzero-past-lowest p x n h e = omega (arith, le-of-dvd (pos-of-ne-zero size) (root-divides-lowest p x n nonzero e))
-  where
-    size : natAbs (lowest p) ≢ 0
-    size z = lowest-nonzero p n (natAbs-zero z)
+pub lowest-positive : (p : Polynomial) → T (not (isZero p)) → 0 < natAbs (lowest p)
+lowest-positive p n = pos-of-ne-zero (λ z. lowest-nonzero p n (natAbs-zero z))
 
+pub nonzero-past-lowest : (p : Polynomial) (x : ℤ) → T (not (isZero p)) → natAbs (lowest p) < natAbs x → eval p x ≢ pos 0
+nonzero-past-lowest p x n h e = omega (arith, le-of-dvd (lowest-positive p n) (root-divides-lowest p x n nonzero e))
+  where
     nonzero : x ≢ pos 0
     nonzero z = omega (arith, ap natAbs z)
 
