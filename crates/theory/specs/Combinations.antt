@@ -95,7 +95,7 @@ pub sumWithin-below : (N : ℕ) (f : ℤ → ℤ) → sumWithin N f ≡ sumBelow
 unfolding sumWithin shiftsWithin sumBelow
 sumWithin-below N f = sum-map f (λ j. pos j -ℤ pos N) (range 0 (suc (N + N)))
 
-cancel-common : (a b c : ℤ) → a +ℤ c -ℤ (b +ℤ c) ≡ a -ℤ b
+pub cancel-common : (a b c : ℤ) → a +ℤ c -ℤ (b +ℤ c) ≡ a -ℤ b
 cancel-common a b c = regroup ∙ ap (λ d. a -ℤ b +ℤ d) (+ℤ-invr c) ∙ +ℤ-idr (a -ℤ b)
   where
     regroup : a +ℤ c -ℤ (b +ℤ c) ≡ a -ℤ b +ℤ (c -ℤ c)
