@@ -10,10 +10,10 @@
 --   length-multipliers-g, length-multipliers-h   g is as long as a, h as b
 --   multipliers-lead        the highest coefficient of g is positive
 use Prim.Native.Nat.{ℕ, _≤_, _<_}
-use mathlib.Core.Path.{_≡_, refl, sym, _∙_, ap, ap₂, subst}
-use mathlib.Core.Logic.{_≢_, Ne·symm}
-use mathlib.Core.Bool.{Bool, true, false, not, _&&_, cond}
-use mathlib.Core.List.{List, [], _∷_, _++_, map}
+use mathlib.Core.Path.{_≡_, refl, _∙_, ap, ap₂}
+use mathlib.Core.Logic.{Ne·symm}
+use mathlib.Core.Bool.{Bool, true, false, not, cond}
+use mathlib.Core.List.{[], _∷_, _++_, map}
 use native.Mathlib.Nat.{le-trans, le-of-eq}
 use lib.Dec.{T, T-not, not-T, leb→le, le→leb}
 use lib.Ieee.Fits.{and-i, and-l, and-r}
