@@ -14,19 +14,20 @@ use Prim.Native.Nat.{ℕ, zero, suc, _≤_, _<_, zero-le}
 use mathlib.Core.Path.{_≡_, refl, sym, _∙_, ap, subst}
 use mathlib.Core.Logic.{_≢_, _⊎_, inl, inr}
 use mathlib.Core.Bool.{Bool, true, false, not}
-use mathlib.Core.List.{List, [], _∷_, _++_}
+use mathlib.Core.List.{List, [], _∷_, _++_, List·Memᴰ, List·Memᴰ·head, List·Memᴰ·tail}
 use mathlib.Core.Option.{some}
-use native.Mathlib.Nat.{not-suc-le-zero}
+use native.Mathlib.Nat.{not-suc-le-zero, zero-lt-suc, suc-le-suc-iff}
 use native.Mathlib.Numerals.{add-one}
-use native.Mathlib.Decide.{ℕ-discrete}
+use native.Mathlib.Decide.{ℕ-discrete, decLt}
 use native.Mathlib.Omega.{arith}
 use lib.Dec.{T, T-not}
 use lib.ListN.{length, getD, length-append, List·getD-append}
 use lib.Seq.{getD-append-seam}
 use Rattle.algebra.specs.Polynomials.{Polynomial, isZero}
 use Rattle.algebra.specs.Pigeonhole.{Distinct, pigeonhole}
-use Rattle.rules.specs.Rows.{Row, Relation, All, entry, leadingBlock, firstNonzero}
+use Rattle.rules.specs.Rows.{Row, Relation, noRow, All, entry, leadingBlock, firstNonzero}
 use Rattle.rules.specs.Elimination.{Side, State, start, rowAt, putRow, listRelations, settle, countShift}
+use Rattle.theory.specs.Lists.{all-getD}
 use Rattle.theory.specs.Steps.{current, met, MetZeroBelow, exchanged, listed, Stepped, combined, settled, shifted, Chain, chain-induction}
 use Rattle.theory.specs.Steps.{rowAt-putRow-other, rowAt-listRelations, rowAt-countShift, stepped-length, listed-order, length-putRow, length-narrowFirst, order-narrowFirst, rowAt-narrowFirst-other, narrowFirst-both, firstNonzero-some}
 
@@ -119,3 +120,48 @@ triangular-stepped {side} {s} (shifted r more nonzero clear f g) t =
 
 pub triangular-chain : {side : Side} {s s' : State} {k : ℕ} → Chain side s k s' → Triangular s → Triangular s'
 triangular-chain {side} = chain-induction side Triangular (λ u v. triangular-stepped)
+
+-- ---- the columns of the settled rows
+
+-- A member of a list stands at a place of it.
+member-place : {x : ℕ} {l : List ℕ} → List·Memᴰ x l → (k : ℕ) × (k < length l) × (getD l k 0 ≡ x)
+member-place {l = y ∷ l} (List·Memᴰ·head e) = (0, zero-lt-suc (length l), sym e)
+member-place (List·Memᴰ·tail m) = let (k, h, e) = member-place m in (suc k, suc-le-suc-iff .1 h, e)
+
+-- A list whose places hold different numbers.
+distinct-places : (l : List ℕ) → ((k j : ℕ) → k < j → j < length l → getD l k 0 ≢ getD l j 0) → Distinct l
+distinct-places [] h = tt
+distinct-places (x ∷ l) h = (fresh, distinct-places l (λ k j a b. h (suc k) (suc j) (suc-le-suc-iff .1 a) (suc-le-suc-iff .1 b)))
+  where
+    fresh : ¬ List·Memᴰ x l
+    fresh m = let (k, b, e) = member-place m in h 0 (suc k) (zero-lt-suc k) (suc-le-suc-iff .1 b) (sym e)
+
+pub columns-differ : (s : State) → Triangular s → (k j : ℕ) → k < j → j < current s → column s k ≢ column s j
+columns-differ s t k j h b e =
+    T-not (isZero (entry (rowAt s j) (column s j))) (t .pivots j b .diagonal)
+    (subst (λ c. T (isZero (entry (rowAt s j) c))) e (t .pivots j b .zeros k h))
+
+pub order-distinct : (s : State) → Triangular s → Distinct (s .order)
+order-distinct s t = distinct-places (s .order) (columns-differ s t)
+
+-- The row has no nonzero leading entry past the first m columns.
+abbrev pub ColumnsBelow : ℕ → Row → Type 0
+ColumnsBelow m r = (c : ℕ) → m ≤ c → T (isZero (entry r c))
+
+module _ (m : ℕ) (s : State) (t : Triangular s) (narrow : All (ColumnsBelow m) (s .rows)) where
+  pub column-below : (j : ℕ) → j < current s → column s j < m
+  unfolding rowAt
+  column-below j h = cases (decLt (column s j) m)
+    where
+      cases : Dec (column s j < m) → column s j < m
+      cases (yes b) = b
+      cases (no n) = absurd (T-not (isZero (entry (rowAt s j) (column s j))) (t .pivots j h .diagonal)
+          (all-getD (ColumnsBelow m) (s .rows) noRow j (omega (arith, t .fits)) narrow (column s j) (omega arith)))
+
+  order-below : (x : ℕ) → List·Memᴰ x (s .order) → x < m
+  order-below x p = let (k, h, e) = member-place p in subst (λ c. c < m) e (column-below k h)
+
+  -- m different columns below m: every column is there.
+  pub order-complete : current s ≡ m → (c : ℕ) → c < m → (j : ℕ) × (j < m) × (column s j ≡ c)
+  order-complete size c h =
+      let (j, b, e) = member-place (pigeonhole m (s .order) (order-distinct s t) size order-below c h) in (j, subst (λ n. j < n) size b, e)
