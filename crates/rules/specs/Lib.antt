@@ -4,3 +4,6 @@ pub mod Elimination
 pub mod Stores
 pub mod Sequences
 pub mod Calls
+pub mod Numbers
+pub mod Sheets
+pub mod Batch
