@@ -7,3 +7,4 @@ pub mod Calls
 pub mod Numbers
 pub mod Sheets
 pub mod Batch
+pub mod Opened
