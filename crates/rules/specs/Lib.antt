@@ -6,5 +6,7 @@ pub mod Sequences
 pub mod Calls
 pub mod Numbers
 pub mod Sheets
+pub mod SheetCalls
 pub mod Batch
 pub mod Opened
+pub mod Known
