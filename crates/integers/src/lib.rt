@@ -2,7 +2,6 @@
 // negation, division toward zero and the test of a coefficient's range. Each contract gives the result by an
 // equation with a definition of `algebra`, `rules` or the kit; an i64 is a ℤ there and a u64 a ℕ.
 ghost use mathlib.Core.Path.{_≡_};
-ghost use mathlib.Core.Logic.{_≢_};
 ghost use Prim.Native.Nat.{_^_, _<_};
 ghost use lib.IntN.{pos, negℤ, natAbs};
 ghost use lib.Signed.{ltZ, quotZ, remZ};
@@ -43,6 +42,7 @@ pub fn magnitude(a: i64) -> u64
     }
 }
 
+// Every i64 but -2^63 has a negation.
 pub fn negated(a: i64) -> i64
     requires { ⌜ natAbs a < 2 ^ 63 ⌝ }
     ensures { λ r. ⌜ r ≡ negℤ a ⌝ }
@@ -50,9 +50,9 @@ pub fn negated(a: i64) -> i64
     -a
 }
 
-// Rounded toward zero; exact where d divides a.
+// Rounded toward zero; exact where d divides a. The bound on a excludes -2^63 by -1.
 pub fn quotient(a: i64, d: i64) -> i64
-    requires { ⌜ (natAbs a < 2 ^ 63) × (d ≢ pos 0) ⌝ }
+    requires { ⌜ (natAbs a < 2 ^ 63) × (0 < natAbs d) ⌝ }
     ensures { λ r. ⌜ r ≡ quotZ a d ⌝ }
 {
     a / d
@@ -60,7 +60,7 @@ pub fn quotient(a: i64, d: i64) -> i64
 
 // With the sign of a; zero exactly where d divides a.
 pub fn remainder(a: i64, d: i64) -> i64
-    requires { ⌜ (natAbs a < 2 ^ 63) × (d ≢ pos 0) ⌝ }
+    requires { ⌜ (natAbs a < 2 ^ 63) × (0 < natAbs d) ⌝ }
     ensures { λ r. ⌜ r ≡ remZ a d ⌝ }
 {
     a % d

@@ -3,7 +3,7 @@
 -- Assumes nothing.
 use mathlib.Core.Path.{_≡_, refl, subst}
 use mathlib.Core.Bool.{true, false}
-use Prim.Native.Nat.{ℕ, zero, suc, _+_}
+use Prim.Native.Nat.{zero, suc, _+_}
 use native.Mathlib.Nat.{not-suc-le-zero}
 use native.Mathlib.Numerals.{add-one}
 use native.Mathlib.Omega.{arith}
@@ -36,10 +36,6 @@ not-negative : (a : ℤ) → ltZ a (pos 0) ≡ false → T (nonNeg a)
 not-negative (pos n) h = tt
 not-negative (negsuc n) h = subst T h tt
 
--- -(a + 1) as the machine computes it
-rest : (a : ℤ) → SFits w64 a → ltZ a (pos 0) ≡ true → pos 0 -ℤ toZ w64 (ofZ w64 (toZ w64 (ofZ w64 a) +ℤ pos 1)) ≡ pos (mag a)
-rest a f h = simp (toZ-ofZ f, +ℤ-one, toZ-ofZ (suc-fits a f h), +ℤ-idl, neg-suc a h)
-
 module _ (c : tie.Then1) where
   abbrev a : ℤ
   a = c .before .args .a
@@ -50,8 +46,9 @@ module _ (c : tie.Then1) where
   negative : ltZ a (pos 0) ≡ true
   negative = rw (toZ-ofZ fits-a) at (c .if1 .taken)
 
+  -- -(a + 1), as the machine reads its operands back
   rest-is : pos 0 -ℤ toZ w64 (ofZ w64 (toZ w64 (ofZ w64 a) +ℤ pos 1)) ≡ pos (mag a)
-  rest-is = rest a fits-a negative
+  rest-is = simp (toZ-ofZ fits-a, +ℤ-one, toZ-ofZ (suc-fits a fits-a negative), +ℤ-idl, neg-suc a negative)
 
   rest-fits : SFits w64 (pos (mag a))
   rest-fits = sfits-of (fits-a .sfits)
