@@ -4,3 +4,4 @@ pub mod Elimination
 pub mod Stores
 pub mod Sequences
 pub mod Calls
+pub mod Layout
