@@ -1,13 +1,16 @@
 -- Layout
 use Prim.Native.Nat.{ℕ, zero, suc, _+_, _*_, _-_, _≤_, _<_}
-use native.Mathlib.Nat.{not-suc-le-zero, le-of-suc-le-suc, suc-mul, zero-mul, add-comm, add-assoc}
+use native.Mathlib.Nat.{not-suc-le-zero, le-of-eq, suc-inj, suc-ne-zero, le-of-suc-le-suc, suc-mul, zero-mul, add-comm, add-assoc}
 use native.Mathlib.Omega.{arith}
 use mathlib.Core.Path.{_≡_, refl, sym, _∙_, ap, ap₂, subst}
 use mathlib.Core.List.{List, [], _∷_, _++_, map, flatten, append-assoc, append-nil}
 use lib.ListN.{length, take, drop, getD, length-append, length-take, length-drop, length-map}
 use lib.Seq.{take-add, take-take, take-at, drop-at, drop-drop, take-all, length-take-le, drop-nil}
-use Rattle.rules.specs.Rows.{All}
-use Rattle.rules.specs.Stores.{parts}
+use lib.IntN.{ℤ, pos}
+use Rattle.algebra.specs.Polynomials.{isZero, isZero-cons, isZero-replicate}
+use Rattle.rules.specs.Limits.{coefficientCount, columnCount, blockCount, rowLength, relationLength, mostRelations}
+use Rattle.rules.specs.Rows.{Block, Row, Relation, All, coefficientsOf}
+use Rattle.rules.specs.Stores.{parts, rowOf, rowsOf, relationOf, relationsOf, relationNumbers, rowNeed, relationNeed, rowStoreOf, relationStoreOf, Shaped, StoreRow}
 
 -- ---- lists
 
@@ -95,3 +98,129 @@ module _ {A : Type 0} where
   getD-parts k (suc n) l zero h = ap (λ j. take k (drop j l)) (sym (zero-mul k))
   getD-parts k (suc n) l (suc i) h =
       getD-parts k n (drop k l) i (le-of-suc-le-suc h) ∙ ap (λ r. take k r) (drop-drop (i * k) k l ∙ ap (λ j. drop j l) (sym (suc-width i k)))
+
+-- ---- things of one width, written end to end
+
+-- B is written by `encode` as k numbers and read by `decode`.
+module _ {A B : Type 0} (k : ℕ) (decode : List A → B) (encode : B → List A) where
+  -- What is written is read back, whatever follows it.
+  read-written : (P : B → Type 0) → ((x : B) → P x → decode (encode x) ≡ x) → ((x : B) → P x → length (encode x) ≡ k)
+      → (xs : List B) (rest : List A) → All P xs → map decode (parts k (length xs) (flatten (map encode xs) ++ rest)) ≡ xs
+  read-written P back width xs rest h =
+      ap (λ n. map decode (parts k n (flatten (map encode xs) ++ rest))) (sym (length-map xs encode))
+      ∙ ap (map decode) (parts-flatten k (map encode xs) rest (All-map (λ p. length p ≡ k) encode xs (All-imply width xs h)))
+      ∙ map-back encode decode back xs h
+
+  length-written : (P : B → Type 0) → ((x : B) → P x → length (encode x) ≡ k)
+      → (xs : List B) → All P xs → length (flatten (map encode xs)) ≡ length xs * k
+  length-written P width xs h =
+      length-flatten k (map encode xs) (All-map (λ p. length p ≡ k) encode xs (All-imply width xs h))
+      ∙ ap (λ n. n * k) (length-map xs encode)
+
+  -- What is read is written again as it was.
+  write-read : (P : List A → Type 0) → ((l : List A) → P l → encode (decode l) ≡ l)
+      → (n : ℕ) (l : List A) → All P (parts k n l) → flatten (map encode (map decode (parts k n l))) ≡ take (n * k) l
+  write-read P back n l h = ap flatten (map-back decode encode back (parts k n l) h) ∙ flatten-parts k n l
+
+-- ---- rows
+
+abbrev blockLength : ℕ
+blockLength = columnCount * coefficientCount
+
+abbrev blockOf : List ℤ → Block
+blockOf = parts coefficientCount columnCount
+
+abbrev StoreBlock : Block → Type 0
+StoreBlock b = (length b ≡ columnCount) × All (λ p. length p ≡ coefficientCount) b
+
+StoreBlock-length : (b : Block) → StoreBlock b → length (flatten b) ≡ blockLength
+StoreBlock-length b h = length-flatten coefficientCount b (h .1) ∙ ap (λ n. n * coefficientCount) (h .0)
+
+blockOf-flatten : (b : Block) → StoreBlock b → blockOf (flatten b) ≡ b
+blockOf-flatten b h =
+    ap₂ parts₁₆ (sym (h .0)) (sym (append-nil (flatten b))) ∙ parts-flatten coefficientCount b [] (h .1)
+  where
+    parts₁₆ : ℕ → List ℤ → Block
+    parts₁₆ n l = parts coefficientCount n l
+
+pub coefficientsOf-rowOf : (l : List ℤ) → coefficientsOf (rowOf l) ≡ take rowLength l
+unfolding coefficientsOf rowOf
+coefficientsOf-rowOf l =
+    flatten-flatten (map blockOf (parts blockLength blockCount l))
+    ∙ write-read blockLength blockOf flatten (λ p. length p ≤ blockLength) whole blockCount l (parts-short blockLength blockCount l)
+  where
+    whole : (p : List ℤ) → length p ≤ blockLength → flatten (blockOf p) ≡ p
+    whole p h = flatten-parts coefficientCount columnCount p ∙ take-all blockLength p h
+
+pub coefficientsOf-rowOf-all : (l : List ℤ) → length l ≡ rowLength → coefficientsOf (rowOf l) ≡ l
+coefficientsOf-rowOf-all l h = coefficientsOf-rowOf l ∙ take-all rowLength l (le-of-eq h)
+
+pub length-coefficientsOf : (r : Row) → StoreRow r → length (coefficientsOf r) ≡ rowLength
+unfolding coefficientsOf Shaped
+length-coefficientsOf r h =
+    ap length (flatten-flatten (r .blocks))
+    ∙ length-written blockLength blockOf flatten StoreBlock StoreBlock-length (r .blocks) (h .1)
+    ∙ ap (λ n. n * blockLength) (h .0)
+
+pub rowOf-coefficientsOf : (r : Row) → StoreRow r → rowOf (coefficientsOf r) ≡ r
+unfolding coefficientsOf rowOf Shaped
+rowOf-coefficientsOf r h = λ i. record { blocks = same i }
+  where
+    same : map blockOf (parts blockLength blockCount (flatten (flatten (r .blocks)))) ≡ r .blocks
+    same =
+        ap₂ (λ n l. map blockOf (parts blockLength n l)) (sym (h .0)) (flatten-flatten (r .blocks) ∙ sym (append-nil (flatten (map flatten (r .blocks)))))
+        ∙ read-written blockLength blockOf flatten StoreBlock blockOf-flatten StoreBlock-length (r .blocks) [] (h .1)
+
+pub StoreRow-rowOf : (l : List ℤ) → rowLength ≤ length l → StoreRow (rowOf l)
+unfolding rowOf Shaped
+StoreRow-rowOf l h =
+    (length-map (parts blockLength blockCount l) blockOf ∙ parts-length blockLength blockCount l,
+     All-map StoreBlock blockOf (parts blockLength blockCount l) (All-imply shape (parts blockLength blockCount l) (parts-width blockLength blockCount l h)))
+  where
+    shape : (p : List ℤ) → length p ≡ blockLength → StoreBlock (blockOf p)
+    shape p e = (parts-length coefficientCount columnCount p, parts-width coefficientCount columnCount p (le-of-eq (sym e)))
+
+pub rowStoreOf-rowsOf : (m : ℕ) (l : List ℤ) → rowStoreOf (rowsOf m l) ≡ take (rowNeed m) l
+unfolding rowStoreOf rowsOf rowNeed
+rowStoreOf-rowsOf m l =
+    write-read rowLength rowOf coefficientsOf (λ p. length p ≤ rowLength)
+      (λ p h. coefficientsOf-rowOf p ∙ take-all rowLength p h) m l (parts-short rowLength m l)
+
+pub rowsOf-rowStoreOf : (m : ℕ) (rows : List Row) (rest : List ℤ) → length rows ≡ m → All StoreRow rows → rowsOf m (rowStoreOf rows ++ rest) ≡ rows
+unfolding rowStoreOf rowsOf
+rowsOf-rowStoreOf m rows rest e h =
+    ap (λ n. map rowOf (parts rowLength n (rowStoreOf rows ++ rest))) (sym e)
+    ∙ read-written rowLength rowOf coefficientsOf StoreRow rowOf-coefficientsOf length-coefficientsOf rows rest h
+
+pub length-rowStoreOf : (rows : List Row) → All StoreRow rows → length (rowStoreOf rows) ≡ rowNeed (length rows)
+unfolding rowStoreOf rowNeed
+length-rowStoreOf rows h = length-written rowLength rowOf coefficientsOf StoreRow length-coefficientsOf rows h
+
+pub length-rowsOf : (m : ℕ) (l : List ℤ) → length (rowsOf m l) ≡ m
+unfolding rowsOf
+length-rowsOf m l = length-map (parts rowLength m l) rowOf ∙ parts-length rowLength m l
+
+pub StoreRow-rowsOf : (m : ℕ) (l : List ℤ) → rowNeed m ≤ length l → All StoreRow (rowsOf m l)
+unfolding rowsOf rowNeed
+StoreRow-rowsOf m l h =
+    All-map StoreRow rowOf (parts rowLength m l)
+      (All-imply (λ p e. StoreRow-rowOf p (le-of-eq (sym e))) (parts rowLength m l) (parts-width rowLength m l h))
+
+-- ---- relations
+
+pub relationOf-relationNumbers : (e : Relation) → StoreRow (e .row) → relationOf (relationNumbers e) ≡ e
+unfolding relationOf relationNumbers
+relationOf-relationNumbers e h = λ i. record { index = e .index; row = rowOf-coefficientsOf (e .row) h i }
+
+pub relationNumbers-relationOf : (l : List ℤ) → length l ≡ relationLength → relationNumbers (relationOf l) ≡ l
+unfolding relationOf relationNumbers
+relationNumbers-relationOf [] h = absurd (suc-ne-zero 320 (sym h))
+relationNumbers-relationOf (a ∷ l) h = ap (λ r. a ∷ r) (coefficientsOf-rowOf-all l (suc-inj h))
+
+pub length-relationNumbers : (e : Relation) → StoreRow (e .row) → length (relationNumbers e) ≡ relationLength
+unfolding relationNumbers
+length-relationNumbers e h = ap suc (length-coefficientsOf (e .row) h)
+
+abbrev StoreRelation : Relation → Type 0
+StoreRelation e = StoreRow (e .row)
+
