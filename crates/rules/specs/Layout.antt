@@ -4,7 +4,8 @@ use native.Mathlib.Nat.{not-suc-le-zero, le-of-eq, suc-inj, suc-ne-zero, le-of-s
 use native.Mathlib.Omega.{arith}
 use mathlib.Core.Path.{_≡_, refl, sym, _∙_, ap, ap₂, subst}
 use mathlib.Core.List.{List, [], _∷_, _++_, map, flatten, append-assoc, append-nil}
-use lib.ListN.{length, take, drop, getD, length-append, length-take, length-drop, length-map}
+use lib.ListN.{length, take, drop, getD, replicate, length-append, length-take, length-drop, length-map, length-replicate, take-append-drop}
+use lib.Dec.{T}
 use lib.Seq.{take-add, take-take, take-at, drop-at, drop-drop, take-all, length-take-le, drop-nil}
 use lib.IntN.{ℤ, pos}
 use Rattle.algebra.specs.Polynomials.{isZero, isZero-cons, isZero-replicate}
@@ -138,10 +139,7 @@ StoreBlock-length b h = length-flatten coefficientCount b (h .1) ∙ ap (λ n. n
 
 blockOf-flatten : (b : Block) → StoreBlock b → blockOf (flatten b) ≡ b
 blockOf-flatten b h =
-    ap₂ parts₁₆ (sym (h .0)) (sym (append-nil (flatten b))) ∙ parts-flatten coefficientCount b [] (h .1)
-  where
-    parts₁₆ : ℕ → List ℤ → Block
-    parts₁₆ n l = parts coefficientCount n l
+    ap₂ (λ n l. parts coefficientCount n l) (sym (h .0)) (sym (append-nil (flatten b))) ∙ parts-flatten coefficientCount b [] (h .1)
 
 pub coefficientsOf-rowOf : (l : List ℤ) → coefficientsOf (rowOf l) ≡ take rowLength l
 unfolding coefficientsOf rowOf
@@ -224,3 +222,59 @@ length-relationNumbers e h = ap suc (length-coefficientsOf (e .row) h)
 abbrev StoreRelation : Relation → Type 0
 StoreRelation e = StoreRow (e .row)
 
+pub relationsOf-relationStoreOf : (es : List Relation) (rest : List ℤ) → All (λ e. StoreRow (e .row)) es
+    → relationsOf (length es) (relationStoreOf es ++ rest) ≡ es
+unfolding relationsOf relationStoreOf
+relationsOf-relationStoreOf es rest h =
+    ap (λ l. map relationOf (parts relationLength (length es) l)) (append-assoc (flatten (map relationNumbers es)) unused rest)
+    ∙ read-written relationLength relationOf relationNumbers StoreRelation relationOf-relationNumbers length-relationNumbers es (unused ++ rest) h
+  where
+    unused : List ℤ
+    unused = replicate ((mostRelations - length es) * relationLength) (pos 0)
+
+pub length-relationStoreOf : (es : List Relation) → length es ≤ mostRelations → All (λ e. StoreRow (e .row)) es
+    → length (relationStoreOf es) ≡ relationNeed
+unfolding relationStoreOf
+length-relationStoreOf es few h =
+    length-append (flatten (map relationNumbers es)) (replicate ((mostRelations - length es) * relationLength) (pos 0))
+    ∙ ap₂ (λ a b. a + b) (length-written relationLength relationOf relationNumbers StoreRelation length-relationNumbers es h)
+        (length-replicate ((mostRelations - length es) * relationLength) (pos 0))
+    ∙ omega arith
+
+pub length-relationsOf : (count : ℕ) (l : List ℤ) → length (relationsOf count l) ≡ count
+unfolding relationsOf
+length-relationsOf count l = length-map (parts relationLength count l) relationOf ∙ parts-length relationLength count l
+
+pub StoreRow-relationsOf : (count : ℕ) (l : List ℤ) → count * relationLength ≤ length l → All (λ e. StoreRow (e .row)) (relationsOf count l)
+unfolding relationsOf relationOf
+StoreRow-relationsOf count l h =
+    All-map StoreRelation relationOf (parts relationLength count l)
+      (All-imply shape (parts relationLength count l) (parts-width relationLength count l h))
+  where
+    shape : (p : List ℤ) → length p ≡ relationLength → StoreRow (rowOf (drop 1 p))
+    shape p e = StoreRow-rowOf (drop 1 p) (rw length-drop (omega arith))
+
+zero-list : (p : List ℤ) → T (isZero p) → p ≡ replicate (length p) (pos 0)
+zero-list [] h = refl
+zero-list (a ∷ p) h = ap₂ (λ b q. b ∷ q) (isZero-cons a p .0 h .0) (zero-list p (isZero-cons a p .0 h .1))
+
+pub relationStoreOf-relationsOf : (count : ℕ) (l : List ℤ) → count ≤ mostRelations → relationNeed ≤ length l
+    → T (isZero (drop (count * relationLength) (take relationNeed l))) → relationStoreOf (relationsOf count l) ≡ take relationNeed l
+unfolding relationsOf relationStoreOf
+relationStoreOf-relationsOf count l few long zeros =
+    ap₂ (λ r n. r ++ replicate ((mostRelations - n) * relationLength) (pos 0)) used (length-relationsOf count l)
+    ∙ ap (λ r. take (count * relationLength) (take relationNeed l) ++ r) unused
+    ∙ take-append-drop (count * relationLength) (take relationNeed l)
+  where
+    used : flatten (map relationNumbers (map relationOf (parts relationLength count l))) ≡ take (count * relationLength) (take relationNeed l)
+    used =
+        write-read relationLength relationOf relationNumbers (λ p. length p ≡ relationLength) relationNumbers-relationOf count l
+          (parts-width relationLength count l (omega arith))
+        ∙ sym (take-take (count * relationLength) relationNeed l (omega arith))
+
+    unused : replicate ((mostRelations - count) * relationLength) (pos 0) ≡ drop (count * relationLength) (take relationNeed l)
+    unused =
+        sym (zero-list (drop (count * relationLength) (take relationNeed l)) zeros ∙ ap (λ n. replicate n (pos 0)) size)
+      where
+        size : length (drop (count * relationLength) (take relationNeed l)) ≡ (mostRelations - count) * relationLength
+        size = rw (length-drop, length-take) (omega arith)
