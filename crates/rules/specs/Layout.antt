@@ -1,16 +1,22 @@
 -- Layout
-use Prim.Native.Nat.{ℕ, zero, suc, _+_, _*_, _-_, _≤_, _<_}
-use native.Mathlib.Nat.{not-suc-le-zero, le-of-eq, suc-inj, suc-ne-zero, le-of-suc-le-suc, suc-mul, zero-mul, add-comm, add-assoc}
+use Prim.Native.Nat.{ℕ, zero, suc, pred, _+_, _*_, _-_, _≤_, _<_, suc-le-suc}
+use native.Mathlib.Nat.{not-suc-le-zero, le-of-eq, suc-inj, suc-ne-zero, le-of-suc-le-suc, suc-mul, zero-mul, add-comm, add-assoc, suc-add}
 use native.Mathlib.Omega.{arith}
 use mathlib.Core.Path.{_≡_, refl, sym, _∙_, ap, ap₂, subst}
 use mathlib.Core.List.{List, [], _∷_, _++_, map, flatten, append-assoc, append-nil}
 use lib.ListN.{length, take, drop, getD, replicate, length-append, length-take, length-drop, length-map, length-replicate, take-append-drop}
-use lib.Dec.{T}
-use lib.Seq.{take-add, take-take, take-at, drop-at, drop-drop, take-all, length-take-le, drop-nil}
-use lib.IntN.{ℤ, pos}
-use Rattle.algebra.specs.Polynomials.{isZero, isZero-cons, isZero-replicate}
-use Rattle.rules.specs.Limits.{coefficientCount, columnCount, blockCount, rowLength, relationLength, mostRelations}
-use Rattle.rules.specs.Rows.{Block, Row, Relation, All, coefficientsOf}
+use lib.Dec.{T, leb, leb→le, le→leb}
+use mathlib.Core.Logic.{_↔_}
+use mathlib.Core.Bool.{Bool, true, false, _&&_, cond}
+use lib.Seq.{getD-take, getD-drop, take-add, take-take, take-at, drop-at, drop-drop, take-all, length-take-le, drop-nil}
+use lib.IntN.{ℤ, pos, negℤ, natAbs, _-ℤ_}
+use lib.Signed.{leZ, leZ-yes, _≤ℤ_}
+use Rattle.algebra.specs.Order.{≤ℤ-trans, ≤ℤ-difference, negℤ-≤ℤ, +ℤ-≤ℤ-left, natAbs-≤-iff}
+use Rattle.rules.specs.Calls.{placeRight, polynomialCheck, polynomialPlace, partAt, polynomialPart}
+use Rattle.algebra.specs.Polynomials.{T-&&, isZero, isZero-cons, isZero-replicate}
+use Rattle.rules.specs.Limits.{coefficientCount, columnCount, blockCount, rowLength, relationLength, mostRelations, blockBound}
+use Rattle.rules.specs.Rows.{Block, Row, Relation, noRow, All, every, coefficientsOf}
+use Rattle.rules.specs.Stores.{Sizes, sizesRight, countRight, lengthsRight, rowRight, relationRight, numbersRight, checkStores, Valid}
 use Rattle.rules.specs.Stores.{parts, rowOf, rowsOf, relationOf, relationsOf, relationNumbers, rowNeed, relationNeed, rowStoreOf, relationStoreOf, Shaped, StoreRow}
 
 -- ---- lists
@@ -241,6 +247,14 @@ length-relationStoreOf es few h =
         (length-replicate ((mostRelations - length es) * relationLength) (pos 0))
     ∙ omega arith
 
+-- The places past the count.
+unused-places : (es : List Relation) → All (λ e. StoreRow (e .row)) es
+    → drop (length es * relationLength) (relationStoreOf es) ≡ replicate ((mostRelations - length es) * relationLength) (pos 0)
+unfolding relationStoreOf
+unused-places es h =
+    drop-at (flatten (map relationNumbers es)) (replicate ((mostRelations - length es) * relationLength) (pos 0)) (length es * relationLength)
+      (length-written relationLength relationOf relationNumbers StoreRelation length-relationNumbers es h)
+
 pub length-relationsOf : (count : ℕ) (l : List ℤ) → length (relationsOf count l) ≡ count
 unfolding relationsOf
 length-relationsOf count l = length-map (parts relationLength count l) relationOf ∙ parts-length relationLength count l
@@ -278,3 +292,258 @@ relationStoreOf-relationsOf count l few long zeros =
       where
         size : length (drop (count * relationLength) (take relationNeed l)) ≡ (mostRelations - count) * relationLength
         size = rw (length-drop, length-take) (omega arith)
+
+-- ---- the checks
+
+-- A check that gives no refusal has passed, and so have those after it.
+cond-zero : (t : Bool) (a b : ℕ) → cond t a (suc b) ≡ 0 → T t × (a ≡ 0)
+cond-zero true a b e = (tt, e)
+cond-zero false a b e = absurd (suc-ne-zero b e)
+
+cond-passed : {A : Type 0} (t : Bool) (a b : A) → T t → cond t a b ≡ a
+cond-passed true a b h = refl
+cond-passed false a b h = absurd h
+
+pub checkStores-order : (z : Sizes) (count : ℕ) (rowStore relationStore : List ℤ)
+    → checkStores z count rowStore relationStore
+    ≡ cond (sizesRight z && countRight count)
+        (cond (lengthsRight (z .m) rowStore relationStore) (cond (numbersRight z count rowStore relationStore) 0 5) 1) 2
+unfolding checkStores
+checkStores-order z count rowStore relationStore = refl
+
+-- Stores that the checks let through.
+pub record Accepted (z : Sizes) (count : ℕ) (rowStore relationStore : List ℤ) : Type 0 where
+  pub sizes : T (sizesRight z)
+  pub few : T (countRight count)
+  pub lengths : T (lengthsRight (z .m) rowStore relationStore)
+  pub numbers : T (numbersRight z count rowStore relationStore)
+
+pub checkStores-zero : (z : Sizes) (count : ℕ) (rowStore relationStore : List ℤ)
+    → (checkStores z count rowStore relationStore ≡ 0) ↔ Accepted z count rowStore relationStore
+checkStores-zero z count rowStore relationStore = (forth, back)
+  where
+    forth : checkStores z count rowStore relationStore ≡ 0 → Accepted z count rowStore relationStore
+    forth e =
+        let first = cond-zero (sizesRight z && countRight count) _ 1 (sym (checkStores-order z count rowStore relationStore) ∙ e) in
+        let second = cond-zero (lengthsRight (z .m) rowStore relationStore) _ 0 (first .1) in
+        let third = cond-zero (numbersRight z count rowStore relationStore) 0 4 (second .1) in
+        let start = T-&& (sizesRight z) (countRight count) .0 (first .0) in
+        record { sizes = start .0; few = start .1; lengths = second .0; numbers = third .0 }
+
+    back : Accepted z count rowStore relationStore → checkStores z count rowStore relationStore ≡ 0
+    back h =
+        checkStores-order z count rowStore relationStore
+        ∙ cond-passed (sizesRight z && countRight count) _ 2 (T-&& (sizesRight z) (countRight count) .1 (h .sizes, h .few))
+        ∙ cond-passed (lengthsRight (z .m) rowStore relationStore) _ 1 (h .lengths)
+        ∙ cond-passed (numbersRight z count rowStore relationStore) 0 5 (h .numbers)
+
+pub lengthsRight-iff : (m : ℕ) (rowStore relationStore : List ℤ)
+    → T (lengthsRight m rowStore relationStore) ↔ ((rowNeed m ≤ length rowStore) × (relationNeed ≤ length relationStore))
+unfolding lengthsRight
+lengthsRight-iff m rowStore relationStore =
+    (λ h. let e = simp T-&& at h in (leb→le _ _ (e .0), leb→le _ _ (e .1)),
+     λ h. simp T-&& (le→leb _ _ (h .0), le→leb _ _ (h .1)))
+
+pub countRight-iff : (count : ℕ) → T (countRight count) ↔ (count ≤ mostRelations)
+unfolding countRight
+countRight-iff count = (leb→le count mostRelations, le→leb count mostRelations)
+
+-- Numbers that the checks let through.
+pub record NumbersRight (z : Sizes) (count : ℕ) (rowStore relationStore : List ℤ) : Type 0 where
+  pub rows-right : T (every (rowRight z) (rowsOf (z .m) rowStore))
+  pub relations-right : T (every (relationRight z) (relationsOf count relationStore))
+  pub unused-zero : T (isZero (drop (count * relationLength) (take relationNeed relationStore)))
+
+pub numbersRight-iff : (z : Sizes) (count : ℕ) (rowStore relationStore : List ℤ)
+    → T (numbersRight z count rowStore relationStore) ↔ NumbersRight z count rowStore relationStore
+unfolding numbersRight
+numbersRight-iff z count rowStore relationStore =
+    (λ h. let e = simp T-&& at h in record { rows-right = e .0 .0; relations-right = e .0 .1; unused-zero = e .1 },
+     λ h. simp T-&& ((h .rows-right, h .relations-right), h .unused-zero))
+
+pub stores-valid : (z : Sizes) (count : ℕ) (rowStore relationStore : List ℤ)
+    → checkStores z count rowStore relationStore ≡ 0 → Valid z (rowsOf (z .m) rowStore) (relationsOf count relationStore)
+stores-valid z count rowStore relationStore e =
+    record { sizes = h .sizes
+           ; row-count = length-rowsOf (z .m) rowStore
+           ; row-shapes = StoreRow-rowsOf (z .m) rowStore (long .0)
+           ; rows-right = n .rows-right
+           ; relation-count = rw length-relationsOf (h .few)
+           ; relation-shapes = StoreRow-relationsOf count relationStore fits
+           ; relations-right = n .relations-right }
+  where
+    h : Accepted z count rowStore relationStore
+    h = checkStores-zero z count rowStore relationStore .0 e
+
+    long : (rowNeed (z .m) ≤ length rowStore) × (relationNeed ≤ length relationStore)
+    long = lengthsRight-iff (z .m) rowStore relationStore .0 (h .lengths)
+
+    n : NumbersRight z count rowStore relationStore
+    n = numbersRight-iff z count rowStore relationStore .0 (h .numbers)
+
+    fits : count * relationLength ≤ length relationStore
+    fits = omega (arith, countRight-iff count .0 (h .few), long .1)
+
+-- The unused places of a store that holds relations, whatever follows its needed part.
+unused-relationStoreOf : (es : List Relation) (rest : List ℤ) → length es ≤ mostRelations → All (λ e. StoreRow (e .row)) es
+    → T (isZero (drop (length es * relationLength) (take relationNeed (relationStoreOf es ++ rest))))
+unused-relationStoreOf es rest few h =
+    rw (take-at (relationStoreOf es) rest relationNeed (length-relationStoreOf es few h), unused-places es h)
+      (isZero-replicate ((mostRelations - length es) * relationLength))
+
+-- Conversely, every valid system is what such stores hold, and the numbers past the needed parts are free.
+pub valid-stores : (z : Sizes) (rows : List Row) (relations : List Relation) (rest others : List ℤ) → Valid z rows relations
+    → checkStores z (length relations) (rowStoreOf rows ++ rest) (relationStoreOf relations ++ others) ≡ 0
+valid-stores z rows relations rest others v =
+    checkStores-zero z (length relations) (rowStoreOf rows ++ rest) (relationStoreOf relations ++ others) .1
+      (record { sizes = v .sizes
+              ; few = v .relation-count
+              ; lengths = lengthsRight-iff (z .m) (rowStoreOf rows ++ rest) (relationStoreOf relations ++ others) .1 long
+              ; numbers = numbersRight-iff z (length relations) (rowStoreOf rows ++ rest) (relationStoreOf relations ++ others) .1 right })
+  where
+    few : length relations ≤ mostRelations
+    few = countRight-iff (length relations) .0 (v .relation-count)
+
+    long : (rowNeed (z .m) ≤ length (rowStoreOf rows ++ rest)) × (relationNeed ≤ length (relationStoreOf relations ++ others))
+    long =
+        simp length-append
+          (rw (length-rowStoreOf rows (v .row-shapes), length-relationStoreOf relations few (v .relation-shapes), v .row-count) (omega arith))
+
+    right : NumbersRight z (length relations) (rowStoreOf rows ++ rest) (relationStoreOf relations ++ others)
+    right =
+        record { rows-right = rw (rowsOf-rowStoreOf (z .m) rows rest (v .row-count) (v .row-shapes)) (v .rows-right)
+               ; relations-right = rw (relationsOf-relationStoreOf relations others (v .relation-shapes)) (v .relations-right)
+               ; unused-zero = unused-relationStoreOf relations others few (v .relation-shapes) }
+
+pub valid-stores-exact : (z : Sizes) (rows : List Row) (relations : List Relation) → Valid z rows relations
+    → checkStores z (length relations) (rowStoreOf rows) (relationStoreOf relations) ≡ 0
+valid-stores-exact z rows relations v =
+    ap₂ (checkStores z (length relations)) (sym (append-nil (rowStoreOf rows))) (sym (append-nil (relationStoreOf relations)))
+    ∙ valid-stores z rows relations [] [] v
+
+-- ---- one polynomial
+
+-- A part of a part is a part.
+take-drop-take : {A : Type 0} (j k n : ℕ) (l : List A) → j + k ≤ n → take k (drop j (take n l)) ≡ take k (drop j l)
+take-drop-take zero k n l h = take-take k n l (omega arith)
+take-drop-take (suc j) k zero l h = absurd (omega (arith, suc-add j k))
+take-drop-take (suc j) k (suc n) [] h = refl
+take-drop-take (suc j) k (suc n) (x ∷ l) h = take-drop-take j k n l (omega arith)
+
+part-of-part : {A : Type 0} (i j k n : ℕ) (l : List A) → j + k ≤ n → take k (drop j (take n (drop i l))) ≡ take k (drop (i + j) l)
+part-of-part i j k n l h = take-drop-take j k n (drop i l) h ∙ ap (take k) (drop-drop j i l)
+
+pub row-at : (m : ℕ) (l : List ℤ) (i : ℕ) → i < m → getD (rowsOf m l) i noRow ≡ rowOf (take rowLength (drop (i * rowLength) l))
+unfolding rowsOf
+row-at m l i h =
+    getD-map rowOf (parts rowLength m l) i [] noRow (rw parts-length h) ∙ ap rowOf (getD-parts rowLength m l i h)
+
+pub polynomial-at-row : (l : List ℤ) (b c : ℕ) → b < blockCount → c < columnCount
+    → getD (getD (rowOf l .blocks) b []) c [] ≡ take coefficientCount (drop (b * (columnCount * coefficientCount) + c * coefficientCount) l)
+unfolding rowOf
+polynomial-at-row l b c hb hc =
+    ap (λ block. getD block c []) (getD-map blockOf (parts blockLength blockCount l) b [] [] (rw parts-length hb) ∙ ap blockOf (getD-parts blockLength blockCount l b hb))
+    ∙ getD-parts coefficientCount columnCount (take blockLength (drop (b * blockLength) l)) c hc
+    ∙ part-of-part (b * blockLength) (c * coefficientCount) coefficientCount blockLength l (omega arith)
+
+pub polynomial-at : (m : ℕ) (l : List ℤ) (i b c : ℕ) → i < m → b < blockCount → c < columnCount
+    → getD (getD (getD (rowsOf m l) i noRow .blocks) b []) c []
+    ≡ take coefficientCount (drop (i * rowLength + b * (columnCount * coefficientCount) + c * coefficientCount) l)
+polynomial-at m l i b c hi hb hc =
+    ap (λ r. getD (getD (r .blocks) b []) c []) (row-at m l i hi)
+    ∙ polynomial-at-row (take rowLength (drop (i * rowLength) l)) b c hb hc
+    ∙ part-of-part (i * rowLength) (b * blockLength + c * coefficientCount) coefficientCount rowLength l (omega arith)
+    ∙ ap (λ j. take coefficientCount (drop j l)) (sym (add-assoc (i * rowLength) (b * blockLength) (c * coefficientCount)))
+
+pub coefficient-at : (m : ℕ) (l : List ℤ) (i b c k : ℕ) → i < m → b < blockCount → c < columnCount → k < coefficientCount
+    → getD (getD (getD (getD (rowsOf m l) i noRow .blocks) b []) c []) k (pos 0)
+    ≡ getD l (i * rowLength + b * (columnCount * coefficientCount) + c * coefficientCount + k) (pos 0)
+coefficient-at m l i b c k hi hb hc hk =
+    ap (λ p. getD p k (pos 0)) (polynomial-at m l i b c hi hb hc)
+    ∙ getD-take coefficientCount (drop place l) k (pos 0) hk
+    ∙ getD-drop place l k (pos 0)
+  where
+    place : ℕ
+    place = i * rowLength + b * blockLength + c * coefficientCount
+
+
+-- ---- the part of a row store that holds one polynomial
+
+-- The sizes of a system, as facts.
+pub record SizeBounds (z : Sizes) : Type 0 where
+  pub some : 1 ≤ z .m
+  pub few : z .m ≤ columnCount
+  pub low : negℤ (pos blockBound) ≤ℤ z .t
+  pub ordered : z .t ≤ℤ z .l
+  pub high : z .l ≤ℤ pos blockBound
+  pub narrow : (z .l -ℤ z .t) ≤ℤ pos 4
+
+pub size-bounds : (z : Sizes) → T (sizesRight z) → SizeBounds z
+unfolding sizesRight
+size-bounds z h =
+    let e = simp T-&& at h in
+    record { some = leb→le _ _ (e .0 .0)
+           ; few = leb→le _ _ (e .0 .1)
+           ; low = leZ-yes (e .1 .0 .0 .0)
+           ; ordered = leZ-yes (e .1 .0 .0 .1)
+           ; high = leZ-yes (e .1 .0 .1)
+           ; narrow = leZ-yes (e .1 .1) }
+
+-- A place inside a system, as facts.
+pub record PlaceBounds (z : Sizes) (row : ℕ) (block : ℤ) (column : ℕ) : Type 0 where
+  pub row-low : 1 ≤ row
+  pub row-high : row ≤ z .m
+  pub block-low : z .t ≤ℤ block
+  pub block-high : block ≤ℤ z .l
+  pub column-low : 1 ≤ column
+  pub column-high : column ≤ z .m
+
+pub place-bounds : (z : Sizes) (row : ℕ) (block : ℤ) (column : ℕ) → T (placeRight z row block column) → PlaceBounds z row block column
+unfolding placeRight
+place-bounds z row block column h =
+    let e = simp T-&& at h in
+    record { row-low = leb→le _ _ (e .0 .0 .0)
+           ; row-high = leb→le _ _ (e .0 .0 .1)
+           ; block-low = leZ-yes (e .0 .1 .0)
+           ; block-high = leZ-yes (e .0 .1 .1)
+           ; column-low = leb→le _ _ (e .1 .0)
+           ; column-high = leb→le _ _ (e .1 .1) }
+
+-- A block of the system is one of the first five of a row.
+pub block-place : (z : Sizes) (block : ℤ) → SizeBounds z → z .t ≤ℤ block → block ≤ℤ z .l → natAbs (z .l -ℤ block) < blockCount
+block-place z block s low high =
+    suc-le-suc (natAbs-≤-iff (z .l -ℤ block) .1 (≤ℤ-trans (leZ-yes tt) (≤ℤ-difference .0 high), ≤ℤ-trans (+ℤ-≤ℤ-left (z .l) (negℤ-≤ℤ .0 low)) (s .narrow)))
+
+pub polynomialCheck-zero : (rowStore : List ℤ) (z : Sizes) (row : ℕ) (block : ℤ) (column : ℕ)
+    → (polynomialCheck rowStore z row block column ≡ 0)
+    ↔ (T (sizesRight z) × T (placeRight z row block column) × (rowNeed (z .m) ≤ length rowStore))
+unfolding polynomialCheck
+polynomialCheck-zero rowStore z row block column = (forth, back)
+  where
+    forth : polynomialCheck rowStore z row block column ≡ 0
+        → T (sizesRight z) × T (placeRight z row block column) × (rowNeed (z .m) ≤ length rowStore)
+    forth e =
+        let first = cond-zero (sizesRight z && placeRight z row block column) _ 1 e in
+        let second = cond-zero (leb (rowNeed (z .m)) (length rowStore)) 0 0 (first .1) in
+        let start = T-&& (sizesRight z) (placeRight z row block column) .0 (first .0) in
+        (start .0, start .1, leb→le _ _ (second .0))
+
+    back : T (sizesRight z) × T (placeRight z row block column) × (rowNeed (z .m) ≤ length rowStore)
+        → polynomialCheck rowStore z row block column ≡ 0
+    back h =
+        cond-passed (sizesRight z && placeRight z row block column) _ 2
+          (T-&& (sizesRight z) (placeRight z row block column) .1 (h .0, h .1))
+        ∙ cond-passed (leb (rowNeed (z .m)) (length rowStore)) 0 1 (le→leb _ _ (h .2))
+
+pub polynomialPart-at : (rowStore : List ℤ) (z : Sizes) (row : ℕ) (block : ℤ) (column : ℕ)
+    → polynomialCheck rowStore z row block column ≡ 0
+    → polynomialPart rowStore z row block column
+    ≡ getD (getD (getD (rowsOf (z .m) rowStore) (pred row) noRow .blocks) (natAbs (z .l -ℤ block)) []) (pred column) []
+unfolding polynomialPart
+polynomialPart-at rowStore z row block column e =
+    let passed = polynomialCheck-zero rowStore z row block column .0 e in
+    let sizes = size-bounds z (passed .0) in
+    let place = place-bounds z row block column (passed .1) in
+    ap (partAt rowStore (polynomialPlace z row block column)) e
+    ∙ sym (polynomial-at (z .m) rowStore (pred row) (natAbs (z .l -ℤ block)) (pred column) (omega arith)
+        (block-place z block sizes (place .block-low) (place .block-high)) (omega arith))
