@@ -1,27 +1,44 @@
--- Layout
+-- The layout of the stores: what rows and relations are read from them, and what numbers they are written as.
+--
+-- Main definitions
+--   StoreRelation                 a relation as a store holds it
+--   StoresRight, NumbersRight     the facts behind a check of stores that gives no refusal, and behind its check of numbers
+--   SizeBounds, PlaceBounds       the facts behind right sizes, and behind a right place in the row store
+--
+-- Main statements
+--   parts-length, parts-width     `parts k n l` has n members, each of length k where l is long enough
+--   flatten-parts, parts-flatten  the parts joined are the front of l; lists of one width, joined, are parted again
+--   getD-parts                    part i begins at i * k
+--   rowOf-coefficientsOf, coefficientsOf-rowOf, rowsOf-rowStoreOf, rowStoreOf-rowsOf
+--                                 rows are read as they were written, and written as they were read
+--   relationOf-relationNumbers, relationNumbers-relationOf, relationsOf-relationStoreOf, relationStoreOf-relationsOf
+--                                 the same for relations, with the unused places
+--   stores-valid, valid-stores    stores without a refusal hold a valid system, and each valid system is held by such stores
+--   coefficient-at, polynomial-at the place of each coefficient, and of each polynomial, in a row store
+--   polynomialPart-at             the part that a caller gets back is the polynomial of the row, block and column
 use Prim.Native.Nat.{ℕ, zero, suc, pred, _+_, _*_, _-_, _≤_, _<_, suc-le-suc}
-use native.Mathlib.Nat.{not-suc-le-zero, le-of-eq, suc-inj, suc-ne-zero, le-of-suc-le-suc, suc-mul, zero-mul, add-comm, add-assoc, suc-add}
+use native.Mathlib.Nat.{not-suc-le-zero, le-of-suc-le-suc, le-of-eq, suc-inj, suc-ne-zero, suc-add, suc-mul, zero-mul, add-comm, add-assoc}
 use native.Mathlib.Omega.{arith}
-use mathlib.Core.Path.{_≡_, refl, sym, _∙_, ap, ap₂, subst}
-use mathlib.Core.List.{List, [], _∷_, _++_, map, flatten, append-assoc, append-nil}
-use lib.ListN.{length, take, drop, getD, replicate, length-append, length-take, length-drop, length-map, length-replicate, take-append-drop}
-use lib.Dec.{T, leb, leb→le, le→leb}
+use mathlib.Core.Path.{_≡_, refl, sym, _∙_, ap, ap₂}
 use mathlib.Core.Logic.{_↔_}
 use mathlib.Core.Bool.{Bool, true, false, _&&_, cond}
-use lib.Seq.{getD-take, getD-drop, take-add, take-take, take-at, drop-at, drop-drop, take-all, length-take-le, drop-nil}
+use mathlib.Core.List.{List, [], _∷_, _++_, map, flatten, append-assoc, append-nil}
+use lib.Dec.{T, leb, leb→le, le→leb}
+use lib.ListN.{length, take, drop, getD, replicate, length-append, length-take, length-drop, length-map, length-replicate, take-append-drop}
+use lib.Seq.{take-add, take-take, take-at, take-all, drop-at, drop-drop, getD-take, getD-drop, length-take-le}
 use lib.IntN.{ℤ, pos, negℤ, natAbs, _-ℤ_}
-use lib.Signed.{leZ, leZ-yes, _≤ℤ_}
+use lib.Signed.{leZ-yes, _≤ℤ_}
 use Rattle.algebra.specs.Order.{≤ℤ-trans, ≤ℤ-difference, negℤ-≤ℤ, +ℤ-≤ℤ-left, natAbs-≤-iff}
-use Rattle.rules.specs.Calls.{placeRight, polynomialCheck, polynomialPlace, partAt, polynomialPart}
 use Rattle.algebra.specs.Polynomials.{T-&&, isZero, isZero-cons, isZero-replicate}
 use Rattle.rules.specs.Limits.{coefficientCount, columnCount, blockCount, rowLength, relationLength, mostRelations, blockBound}
 use Rattle.rules.specs.Rows.{Block, Row, Relation, noRow, All, every, coefficientsOf}
-use Rattle.rules.specs.Stores.{Sizes, sizesRight, countRight, lengthsRight, rowRight, relationRight, numbersRight, checkStores, Valid}
-use Rattle.rules.specs.Stores.{parts, rowOf, rowsOf, relationOf, relationsOf, relationNumbers, rowNeed, relationNeed, rowStoreOf, relationStoreOf, Shaped, StoreRow}
+use Rattle.rules.specs.Stores.{Sizes, parts, rowOf, rowsOf, relationOf, relationsOf, relationNumbers, rowStoreOf, relationStoreOf}
+use Rattle.rules.specs.Stores.{rowNeed, relationNeed, sizesRight, countRight, lengthsRight, rowRight, relationRight, numbersRight}
+use Rattle.rules.specs.Stores.{checkStores, Shaped, StoreRow, Valid}
+use Rattle.rules.specs.Calls.{placeRight, polynomialCheck, polynomialPlace, partAt, polynomialPart}
 
--- ---- lists
+-- ---- lists of one width, and tests of all members
 
--- What holds of one member more.
 suc-width : (n k : ℕ) → suc n * k ≡ k + n * k
 suc-width n k = suc-mul n k ∙ add-comm (n * k) k
 
@@ -59,6 +76,7 @@ length-flatten k [] h = sym (zero-mul k)
 length-flatten k (l ∷ ls) h =
     length-append l (flatten ls) ∙ ap₂ (λ a b. a + b) (h .0) (length-flatten k ls (h .1)) ∙ sym (suc-width (length ls) k)
 
+-- A member of a mapped list, for any value that stands for a missing one.
 getD-map : {A B : Type 0} (f : A → B) (l : List A) (i : ℕ) (d : A) (e : B) → i < length l → getD (map f l) i e ≡ f (getD l i d)
 getD-map f [] i d e h = absurd (not-suc-le-zero h)
 getD-map f (x ∷ l) zero d e h = refl
@@ -86,43 +104,59 @@ module _ {A : Type 0} where
       fits : (k ≤ length l) × (n * k ≤ length (drop k l))
       fits = simp length-drop (omega (arith, suc-width n k))
 
+  -- Where l is not long enough, the parts are shorter.
   parts-short : (k n : ℕ) (l : List A) → All (λ p. length p ≤ k) (parts k n l)
   unfolding parts All
   parts-short k zero l = tt
   parts-short k (suc n) l = (rw length-take (omega arith), parts-short k n (drop k l))
 
-  pub parts-flatten : (k : ℕ) (ls : List (List A)) (rest : List A) → All (λ p. length p ≡ k) ls → parts k (length ls) (flatten ls ++ rest) ≡ ls
+  -- Lists of width k that were joined are parted again, whatever follows.
+  pub parts-flatten : (k n : ℕ) (ls : List (List A)) (rest : List A) → length ls ≡ n → All (λ p. length p ≡ k) ls
+      → parts k n (flatten ls ++ rest) ≡ ls
   unfolding parts flatten All
-  parts-flatten k [] rest h = refl
-  parts-flatten k (l ∷ ls) rest h =
-      ap (λ s. take k s ∷ parts k (length ls) (drop k s)) (append-assoc l (flatten ls) rest)
-      ∙ ap₂ (λ p s. p ∷ parts k (length ls) s) (take-at l (flatten ls ++ rest) k (h .0)) (drop-at l (flatten ls ++ rest) k (h .0))
-      ∙ ap (λ r. l ∷ r) (parts-flatten k ls rest (h .1))
+  parts-flatten k zero [] rest e h = refl
+  parts-flatten k (suc n) [] rest e h = absurd (suc-ne-zero n (sym e))
+  parts-flatten k zero (l ∷ ls) rest e h = absurd (suc-ne-zero (length ls) e)
+  parts-flatten k (suc n) (l ∷ ls) rest e h =
+      ap (λ s. take k s ∷ parts k n (drop k s)) (append-assoc l (flatten ls) rest)
+      ∙ ap₂ (λ p s. p ∷ parts k n s) (take-at l (flatten ls ++ rest) k (h .0)) (drop-at l (flatten ls ++ rest) k (h .0))
+      ∙ ap (λ r. l ∷ r) (parts-flatten k n ls rest (suc-inj e) (h .1))
 
   pub getD-parts : (k n : ℕ) (l : List A) (i : ℕ) → i < n → getD (parts k n l) i [] ≡ take k (drop (i * k) l)
   unfolding parts
   getD-parts k zero l i h = absurd (not-suc-le-zero h)
   getD-parts k (suc n) l zero h = ap (λ j. take k (drop j l)) (sym (zero-mul k))
   getD-parts k (suc n) l (suc i) h =
-      getD-parts k n (drop k l) i (le-of-suc-le-suc h) ∙ ap (λ r. take k r) (drop-drop (i * k) k l ∙ ap (λ j. drop j l) (sym (suc-width i k)))
+      getD-parts k n (drop k l) i (le-of-suc-le-suc h)
+      ∙ ap (take k) (drop-drop (i * k) k l ∙ ap (λ j. drop j l) (sym (suc-width i k)))
 
 -- ---- things of one width, written end to end
 
--- B is written by `encode` as k numbers and read by `decode`.
+-- B's members are written by `encode`, k numbers each, and read by `decode`: the polynomials of a block, the blocks of a row,
+-- and the rows and relations of a store.
 module _ {A B : Type 0} (k : ℕ) (decode : List A → B) (encode : B → List A) where
+  widths : (P : B → Type 0) → ((x : B) → P x → length (encode x) ≡ k) → (xs : List B) → All P xs
+      → All (λ p. length p ≡ k) (map encode xs)
+  widths P width xs h = All-map (λ p. length p ≡ k) encode xs (All-imply width xs h)
+
   -- What is written is read back, whatever follows it.
   read-written : (P : B → Type 0) → ((x : B) → P x → decode (encode x) ≡ x) → ((x : B) → P x → length (encode x) ≡ k)
-      → (xs : List B) (rest : List A) → All P xs → map decode (parts k (length xs) (flatten (map encode xs) ++ rest)) ≡ xs
-  read-written P back width xs rest h =
-      ap (λ n. map decode (parts k n (flatten (map encode xs) ++ rest))) (sym (length-map xs encode))
-      ∙ ap (map decode) (parts-flatten k (map encode xs) rest (All-map (λ p. length p ≡ k) encode xs (All-imply width xs h)))
+      → (n : ℕ) (xs : List B) (rest : List A) → length xs ≡ n → All P xs → map decode (parts k n (flatten (map encode xs) ++ rest)) ≡ xs
+  read-written P back width n xs rest e h =
+      ap (map decode) (parts-flatten k n (map encode xs) rest (length-map xs encode ∙ e) (widths P width xs h))
       ∙ map-back encode decode back xs h
 
   length-written : (P : B → Type 0) → ((x : B) → P x → length (encode x) ≡ k)
       → (xs : List B) → All P xs → length (flatten (map encode xs)) ≡ length xs * k
   length-written P width xs h =
-      length-flatten k (map encode xs) (All-map (λ p. length p ≡ k) encode xs (All-imply width xs h))
-      ∙ ap (λ n. n * k) (length-map xs encode)
+      length-flatten k (map encode xs) (widths P width xs h) ∙ ap (λ n. n * k) (length-map xs encode)
+
+  length-read : (n : ℕ) (l : List A) → length (map decode (parts k n l)) ≡ n
+  length-read n l = length-map (parts k n l) decode ∙ parts-length k n l
+
+  all-read : (P : B → Type 0) → ((p : List A) → length p ≡ k → P (decode p))
+      → (n : ℕ) (l : List A) → n * k ≤ length l → All P (map decode (parts k n l))
+  all-read P each n l h = All-map P decode (parts k n l) (All-imply each (parts k n l) (parts-width k n l h))
 
   -- What is read is written again as it was.
   write-read : (P : List A → Type 0) → ((l : List A) → P l → encode (decode l) ≡ l)
@@ -145,7 +179,7 @@ StoreBlock-length b h = length-flatten coefficientCount b (h .1) ∙ ap (λ n. n
 
 blockOf-flatten : (b : Block) → StoreBlock b → blockOf (flatten b) ≡ b
 blockOf-flatten b h =
-    ap₂ (λ n l. parts coefficientCount n l) (sym (h .0)) (sym (append-nil (flatten b))) ∙ parts-flatten coefficientCount b [] (h .1)
+    ap blockOf (sym (append-nil (flatten b))) ∙ parts-flatten coefficientCount columnCount b [] (h .0) (h .1)
 
 pub coefficientsOf-rowOf : (l : List ℤ) → coefficientsOf (rowOf l) ≡ take rowLength l
 unfolding coefficientsOf rowOf
@@ -172,14 +206,14 @@ rowOf-coefficientsOf r h = λ i. record { blocks = same i }
   where
     same : map blockOf (parts blockLength blockCount (flatten (flatten (r .blocks)))) ≡ r .blocks
     same =
-        ap₂ (λ n l. map blockOf (parts blockLength n l)) (sym (h .0)) (flatten-flatten (r .blocks) ∙ sym (append-nil (flatten (map flatten (r .blocks)))))
-        ∙ read-written blockLength blockOf flatten StoreBlock blockOf-flatten StoreBlock-length (r .blocks) [] (h .1)
+        ap (λ l. map blockOf (parts blockLength blockCount l))
+        (flatten-flatten (r .blocks) ∙ sym (append-nil (flatten (map flatten (r .blocks)))))
+        ∙ read-written blockLength blockOf flatten StoreBlock blockOf-flatten StoreBlock-length blockCount (r .blocks) [] (h .0) (h .1)
 
 pub StoreRow-rowOf : (l : List ℤ) → rowLength ≤ length l → StoreRow (rowOf l)
 unfolding rowOf Shaped
 StoreRow-rowOf l h =
-    (length-map (parts blockLength blockCount l) blockOf ∙ parts-length blockLength blockCount l,
-     All-map StoreBlock blockOf (parts blockLength blockCount l) (All-imply shape (parts blockLength blockCount l) (parts-width blockLength blockCount l h)))
+    (length-read blockLength blockOf flatten blockCount l, all-read blockLength blockOf flatten StoreBlock shape blockCount l h)
   where
     shape : (p : List ℤ) → length p ≡ blockLength → StoreBlock (blockOf p)
     shape p e = (parts-length coefficientCount columnCount p, parts-width coefficientCount columnCount p (le-of-eq (sym e)))
@@ -188,13 +222,13 @@ pub rowStoreOf-rowsOf : (m : ℕ) (l : List ℤ) → rowStoreOf (rowsOf m l) ≡
 unfolding rowStoreOf rowsOf rowNeed
 rowStoreOf-rowsOf m l =
     write-read rowLength rowOf coefficientsOf (λ p. length p ≤ rowLength)
-      (λ p h. coefficientsOf-rowOf p ∙ take-all rowLength p h) m l (parts-short rowLength m l)
+    (λ p h. coefficientsOf-rowOf p ∙ take-all rowLength p h) m l (parts-short rowLength m l)
 
-pub rowsOf-rowStoreOf : (m : ℕ) (rows : List Row) (rest : List ℤ) → length rows ≡ m → All StoreRow rows → rowsOf m (rowStoreOf rows ++ rest) ≡ rows
+pub rowsOf-rowStoreOf : (m : ℕ) (rows : List Row) (rest : List ℤ) → length rows ≡ m → All StoreRow rows
+    → rowsOf m (rowStoreOf rows ++ rest) ≡ rows
 unfolding rowStoreOf rowsOf
 rowsOf-rowStoreOf m rows rest e h =
-    ap (λ n. map rowOf (parts rowLength n (rowStoreOf rows ++ rest))) (sym e)
-    ∙ read-written rowLength rowOf coefficientsOf StoreRow rowOf-coefficientsOf length-coefficientsOf rows rest h
+    read-written rowLength rowOf coefficientsOf StoreRow rowOf-coefficientsOf length-coefficientsOf m rows rest e h
 
 pub length-rowStoreOf : (rows : List Row) → All StoreRow rows → length (rowStoreOf rows) ≡ rowNeed (length rows)
 unfolding rowStoreOf rowNeed
@@ -202,17 +236,19 @@ length-rowStoreOf rows h = length-written rowLength rowOf coefficientsOf StoreRo
 
 pub length-rowsOf : (m : ℕ) (l : List ℤ) → length (rowsOf m l) ≡ m
 unfolding rowsOf
-length-rowsOf m l = length-map (parts rowLength m l) rowOf ∙ parts-length rowLength m l
+length-rowsOf m l = length-read rowLength rowOf coefficientsOf m l
 
 pub StoreRow-rowsOf : (m : ℕ) (l : List ℤ) → rowNeed m ≤ length l → All StoreRow (rowsOf m l)
 unfolding rowsOf rowNeed
-StoreRow-rowsOf m l h =
-    All-map StoreRow rowOf (parts rowLength m l)
-      (All-imply (λ p e. StoreRow-rowOf p (le-of-eq (sym e))) (parts rowLength m l) (parts-width rowLength m l h))
+StoreRow-rowsOf m l h = all-read rowLength rowOf coefficientsOf StoreRow (λ p e. StoreRow-rowOf p (le-of-eq (sym e))) m l h
 
 -- ---- relations
 
-pub relationOf-relationNumbers : (e : Relation) → StoreRow (e .row) → relationOf (relationNumbers e) ≡ e
+-- A relation as a store holds it.
+abbrev pub StoreRelation : Relation → Type 0
+StoreRelation e = StoreRow (e .row)
+
+pub relationOf-relationNumbers : (e : Relation) → StoreRelation e → relationOf (relationNumbers e) ≡ e
 unfolding relationOf relationNumbers
 relationOf-relationNumbers e h = λ i. record { index = e .index; row = rowOf-coefficientsOf (e .row) h i }
 
@@ -221,53 +257,55 @@ unfolding relationOf relationNumbers
 relationNumbers-relationOf [] h = absurd (suc-ne-zero 320 (sym h))
 relationNumbers-relationOf (a ∷ l) h = ap (λ r. a ∷ r) (coefficientsOf-rowOf-all l (suc-inj h))
 
-pub length-relationNumbers : (e : Relation) → StoreRow (e .row) → length (relationNumbers e) ≡ relationLength
+pub length-relationNumbers : (e : Relation) → StoreRelation e → length (relationNumbers e) ≡ relationLength
 unfolding relationNumbers
 length-relationNumbers e h = ap suc (length-coefficientsOf (e .row) h)
 
-abbrev StoreRelation : Relation → Type 0
-StoreRelation e = StoreRow (e .row)
+-- A relation store is the part that its relations use and the places past them.
+abbrev usedPart : List Relation → List ℤ
+usedPart es = flatten (map relationNumbers es)
 
-pub relationsOf-relationStoreOf : (es : List Relation) (rest : List ℤ) → All (λ e. StoreRow (e .row)) es
+abbrev unusedPart : ℕ → List ℤ
+unusedPart count = replicate ((mostRelations - count) * relationLength) (pos 0)
+
+length-usedPart : (es : List Relation) → All StoreRelation es → length (usedPart es) ≡ length es * relationLength
+length-usedPart es h = length-written relationLength relationOf relationNumbers StoreRelation length-relationNumbers es h
+
+pub relationsOf-relationStoreOf : (es : List Relation) (rest : List ℤ) → All StoreRelation es
     → relationsOf (length es) (relationStoreOf es ++ rest) ≡ es
 unfolding relationsOf relationStoreOf
 relationsOf-relationStoreOf es rest h =
-    ap (λ l. map relationOf (parts relationLength (length es) l)) (append-assoc (flatten (map relationNumbers es)) unused rest)
-    ∙ read-written relationLength relationOf relationNumbers StoreRelation relationOf-relationNumbers length-relationNumbers es (unused ++ rest) h
-  where
-    unused : List ℤ
-    unused = replicate ((mostRelations - length es) * relationLength) (pos 0)
+    let unused = unusedPart (length es) in
+    ap (λ l. map relationOf (parts relationLength (length es) l)) (append-assoc (usedPart es) unused rest)
+    ∙ read-written relationLength relationOf relationNumbers StoreRelation relationOf-relationNumbers length-relationNumbers (length es) es
+    (unused ++ rest) refl h
 
-pub length-relationStoreOf : (es : List Relation) → length es ≤ mostRelations → All (λ e. StoreRow (e .row)) es
+pub length-relationStoreOf : (es : List Relation) → length es ≤ mostRelations → All StoreRelation es
     → length (relationStoreOf es) ≡ relationNeed
 unfolding relationStoreOf
 length-relationStoreOf es few h =
-    length-append (flatten (map relationNumbers es)) (replicate ((mostRelations - length es) * relationLength) (pos 0))
-    ∙ ap₂ (λ a b. a + b) (length-written relationLength relationOf relationNumbers StoreRelation length-relationNumbers es h)
-        (length-replicate ((mostRelations - length es) * relationLength) (pos 0))
+    length-append (usedPart es) (unusedPart (length es))
+    ∙ ap₂ _+_ (length-usedPart es h) (length-replicate ((mostRelations - length es) * relationLength) (pos 0))
     ∙ omega arith
 
 -- The places past the count.
-unused-places : (es : List Relation) → All (λ e. StoreRow (e .row)) es
-    → drop (length es * relationLength) (relationStoreOf es) ≡ replicate ((mostRelations - length es) * relationLength) (pos 0)
+unused-places : (es : List Relation) → All StoreRelation es
+    → drop (length es * relationLength) (relationStoreOf es) ≡ unusedPart (length es)
 unfolding relationStoreOf
-unused-places es h =
-    drop-at (flatten (map relationNumbers es)) (replicate ((mostRelations - length es) * relationLength) (pos 0)) (length es * relationLength)
-      (length-written relationLength relationOf relationNumbers StoreRelation length-relationNumbers es h)
+unused-places es h = drop-at (usedPart es) (unusedPart (length es)) (length es * relationLength) (length-usedPart es h)
 
 pub length-relationsOf : (count : ℕ) (l : List ℤ) → length (relationsOf count l) ≡ count
 unfolding relationsOf
-length-relationsOf count l = length-map (parts relationLength count l) relationOf ∙ parts-length relationLength count l
+length-relationsOf count l = length-read relationLength relationOf relationNumbers count l
 
-pub StoreRow-relationsOf : (count : ℕ) (l : List ℤ) → count * relationLength ≤ length l → All (λ e. StoreRow (e .row)) (relationsOf count l)
+pub StoreRelation-relationsOf : (count : ℕ) (l : List ℤ) → count * relationLength ≤ length l → All StoreRelation (relationsOf count l)
 unfolding relationsOf relationOf
-StoreRow-relationsOf count l h =
-    All-map StoreRelation relationOf (parts relationLength count l)
-      (All-imply shape (parts relationLength count l) (parts-width relationLength count l h))
+StoreRelation-relationsOf count l h = all-read relationLength relationOf relationNumbers StoreRelation shape count l h
   where
     shape : (p : List ℤ) → length p ≡ relationLength → StoreRow (rowOf (drop 1 p))
     shape p e = StoreRow-rowOf (drop 1 p) (rw length-drop (omega arith))
 
+-- A list of zeros is known by its length.
 zero-list : (p : List ℤ) → T (isZero p) → p ≡ replicate (length p) (pos 0)
 zero-list [] h = refl
 zero-list (a ∷ p) h = ap₂ (λ b q. b ∷ q) (isZero-cons a p .0 h .0) (zero-list p (isZero-cons a p .0 h .1))
@@ -276,22 +314,21 @@ pub relationStoreOf-relationsOf : (count : ℕ) (l : List ℤ) → count ≤ mos
     → T (isZero (drop (count * relationLength) (take relationNeed l))) → relationStoreOf (relationsOf count l) ≡ take relationNeed l
 unfolding relationsOf relationStoreOf
 relationStoreOf-relationsOf count l few long zeros =
-    ap₂ (λ r n. r ++ replicate ((mostRelations - n) * relationLength) (pos 0)) used (length-relationsOf count l)
+    ap₂ (λ r n. r ++ unusedPart n) used (length-relationsOf count l)
     ∙ ap (λ r. take (count * relationLength) (take relationNeed l) ++ r) unused
     ∙ take-append-drop (count * relationLength) (take relationNeed l)
   where
-    used : flatten (map relationNumbers (map relationOf (parts relationLength count l))) ≡ take (count * relationLength) (take relationNeed l)
+    used : usedPart (map relationOf (parts relationLength count l)) ≡ take (count * relationLength) (take relationNeed l)
     used =
         write-read relationLength relationOf relationNumbers (λ p. length p ≡ relationLength) relationNumbers-relationOf count l
-          (parts-width relationLength count l (omega arith))
+        (parts-width relationLength count l (omega arith))
         ∙ sym (take-take (count * relationLength) relationNeed l (omega arith))
 
-    unused : replicate ((mostRelations - count) * relationLength) (pos 0) ≡ drop (count * relationLength) (take relationNeed l)
-    unused =
-        sym (zero-list (drop (count * relationLength) (take relationNeed l)) zeros ∙ ap (λ n. replicate n (pos 0)) size)
-      where
-        size : length (drop (count * relationLength) (take relationNeed l)) ≡ (mostRelations - count) * relationLength
-        size = rw (length-drop, length-take) (omega arith)
+    size : length (drop (count * relationLength) (take relationNeed l)) ≡ (mostRelations - count) * relationLength
+    size = rw (length-drop, length-take) (omega arith)
+
+    unused : unusedPart count ≡ drop (count * relationLength) (take relationNeed l)
+    unused = sym (zero-list (drop (count * relationLength) (take relationNeed l)) zeros ∙ ap (λ n. replicate n (pos 0)) size)
 
 -- ---- the checks
 
@@ -304,25 +341,26 @@ cond-passed : {A : Type 0} (t : Bool) (a b : A) → T t → cond t a b ≡ a
 cond-passed true a b h = refl
 cond-passed false a b h = absurd h
 
+-- Sizes and count first, then lengths, then numbers.
 pub checkStores-order : (z : Sizes) (count : ℕ) (rowStore relationStore : List ℤ)
     → checkStores z count rowStore relationStore
     ≡ cond (sizesRight z && countRight count)
-        (cond (lengthsRight (z .m) rowStore relationStore) (cond (numbersRight z count rowStore relationStore) 0 5) 1) 2
+    (cond (lengthsRight (z .m) rowStore relationStore) (cond (numbersRight z count rowStore relationStore) 0 5) 1) 2
 unfolding checkStores
 checkStores-order z count rowStore relationStore = refl
 
 -- Stores that the checks let through.
-pub record Accepted (z : Sizes) (count : ℕ) (rowStore relationStore : List ℤ) : Type 0 where
+pub record StoresRight (z : Sizes) (count : ℕ) (rowStore relationStore : List ℤ) : Type 0 where
   pub sizes : T (sizesRight z)
   pub few : T (countRight count)
   pub lengths : T (lengthsRight (z .m) rowStore relationStore)
   pub numbers : T (numbersRight z count rowStore relationStore)
 
 pub checkStores-zero : (z : Sizes) (count : ℕ) (rowStore relationStore : List ℤ)
-    → (checkStores z count rowStore relationStore ≡ 0) ↔ Accepted z count rowStore relationStore
+    → (checkStores z count rowStore relationStore ≡ 0) ↔ StoresRight z count rowStore relationStore
 checkStores-zero z count rowStore relationStore = (forth, back)
   where
-    forth : checkStores z count rowStore relationStore ≡ 0 → Accepted z count rowStore relationStore
+    forth : checkStores z count rowStore relationStore ≡ 0 → StoresRight z count rowStore relationStore
     forth e =
         let first = cond-zero (sizesRight z && countRight count) _ 1 (sym (checkStores-order z count rowStore relationStore) ∙ e) in
         let second = cond-zero (lengthsRight (z .m) rowStore relationStore) _ 0 (first .1) in
@@ -330,7 +368,7 @@ checkStores-zero z count rowStore relationStore = (forth, back)
         let start = T-&& (sizesRight z) (countRight count) .0 (first .0) in
         record { sizes = start .0; few = start .1; lengths = second .0; numbers = third .0 }
 
-    back : Accepted z count rowStore relationStore → checkStores z count rowStore relationStore ≡ 0
+    back : StoresRight z count rowStore relationStore → checkStores z count rowStore relationStore ≡ 0
     back h =
         checkStores-order z count rowStore relationStore
         ∙ cond-passed (sizesRight z && countRight count) _ 2 (T-&& (sizesRight z) (countRight count) .1 (h .sizes, h .few))
@@ -340,9 +378,10 @@ checkStores-zero z count rowStore relationStore = (forth, back)
 pub lengthsRight-iff : (m : ℕ) (rowStore relationStore : List ℤ)
     → T (lengthsRight m rowStore relationStore) ↔ ((rowNeed m ≤ length rowStore) × (relationNeed ≤ length relationStore))
 unfolding lengthsRight
-lengthsRight-iff m rowStore relationStore =
-    (λ h. let e = simp T-&& at h in (leb→le _ _ (e .0), leb→le _ _ (e .1)),
-     λ h. simp T-&& (le→leb _ _ (h .0), le→leb _ _ (h .1)))
+lengthsRight-iff m rowStore relationStore = (
+  λ h. let e = simp T-&& at h in (leb→le _ _ (e .0), leb→le _ _ (e .1)),
+  λ h. simp T-&& (le→leb _ _ (h .0), le→leb _ _ (h .1)),
+)
 
 pub countRight-iff : (count : ℕ) → T (countRight count) ↔ (count ≤ mostRelations)
 unfolding countRight
@@ -357,22 +396,25 @@ pub record NumbersRight (z : Sizes) (count : ℕ) (rowStore relationStore : List
 pub numbersRight-iff : (z : Sizes) (count : ℕ) (rowStore relationStore : List ℤ)
     → T (numbersRight z count rowStore relationStore) ↔ NumbersRight z count rowStore relationStore
 unfolding numbersRight
-numbersRight-iff z count rowStore relationStore =
-    (λ h. let e = simp T-&& at h in record { rows-right = e .0 .0; relations-right = e .0 .1; unused-zero = e .1 },
-     λ h. simp T-&& ((h .rows-right, h .relations-right), h .unused-zero))
+numbersRight-iff z count rowStore relationStore = (
+  λ h. let e = simp T-&& at h in record { rows-right = e .0 .0; relations-right = e .0 .1; unused-zero = e .1 },
+  λ h. simp T-&& ((h .rows-right, h .relations-right), h .unused-zero),
+)
 
 pub stores-valid : (z : Sizes) (count : ℕ) (rowStore relationStore : List ℤ)
     → checkStores z count rowStore relationStore ≡ 0 → Valid z (rowsOf (z .m) rowStore) (relationsOf count relationStore)
 stores-valid z count rowStore relationStore e =
-    record { sizes = h .sizes
-           ; row-count = length-rowsOf (z .m) rowStore
-           ; row-shapes = StoreRow-rowsOf (z .m) rowStore (long .0)
-           ; rows-right = n .rows-right
-           ; relation-count = rw length-relationsOf (h .few)
-           ; relation-shapes = StoreRow-relationsOf count relationStore fits
-           ; relations-right = n .relations-right }
+    record {
+      sizes = h .sizes;
+      row-count = length-rowsOf (z .m) rowStore;
+      row-shapes = StoreRow-rowsOf (z .m) rowStore (long .0);
+      rows-right = n .rows-right;
+      relation-count = rw length-relationsOf (h .few);
+      relation-shapes = StoreRelation-relationsOf count relationStore fits;
+      relations-right = n .relations-right;
+    }
   where
-    h : Accepted z count rowStore relationStore
+    h : StoresRight z count rowStore relationStore
     h = checkStores-zero z count rowStore relationStore .0 e
 
     long : (rowNeed (z .m) ≤ length rowStore) × (relationNeed ≤ length relationStore)
@@ -385,21 +427,23 @@ stores-valid z count rowStore relationStore e =
     fits = omega (arith, countRight-iff count .0 (h .few), long .1)
 
 -- The unused places of a store that holds relations, whatever follows its needed part.
-unused-relationStoreOf : (es : List Relation) (rest : List ℤ) → length es ≤ mostRelations → All (λ e. StoreRow (e .row)) es
+unused-relationStoreOf : (es : List Relation) (rest : List ℤ) → length es ≤ mostRelations → All StoreRelation es
     → T (isZero (drop (length es * relationLength) (take relationNeed (relationStoreOf es ++ rest))))
 unused-relationStoreOf es rest few h =
     rw (take-at (relationStoreOf es) rest relationNeed (length-relationStoreOf es few h), unused-places es h)
-      (isZero-replicate ((mostRelations - length es) * relationLength))
+    (isZero-replicate ((mostRelations - length es) * relationLength))
 
 -- Conversely, every valid system is what such stores hold, and the numbers past the needed parts are free.
 pub valid-stores : (z : Sizes) (rows : List Row) (relations : List Relation) (rest others : List ℤ) → Valid z rows relations
     → checkStores z (length relations) (rowStoreOf rows ++ rest) (relationStoreOf relations ++ others) ≡ 0
 valid-stores z rows relations rest others v =
     checkStores-zero z (length relations) (rowStoreOf rows ++ rest) (relationStoreOf relations ++ others) .1
-      (record { sizes = v .sizes
-              ; few = v .relation-count
-              ; lengths = lengthsRight-iff (z .m) (rowStoreOf rows ++ rest) (relationStoreOf relations ++ others) .1 long
-              ; numbers = numbersRight-iff z (length relations) (rowStoreOf rows ++ rest) (relationStoreOf relations ++ others) .1 right })
+    (record {
+      sizes = v .sizes;
+      few = v .relation-count;
+      lengths = lengthsRight-iff (z .m) (rowStoreOf rows ++ rest) (relationStoreOf relations ++ others) .1 long;
+      numbers = numbersRight-iff z (length relations) (rowStoreOf rows ++ rest) (relationStoreOf relations ++ others) .1 right;
+    })
   where
     few : length relations ≤ mostRelations
     few = countRight-iff (length relations) .0 (v .relation-count)
@@ -407,13 +451,15 @@ valid-stores z rows relations rest others v =
     long : (rowNeed (z .m) ≤ length (rowStoreOf rows ++ rest)) × (relationNeed ≤ length (relationStoreOf relations ++ others))
     long =
         simp length-append
-          (rw (length-rowStoreOf rows (v .row-shapes), length-relationStoreOf relations few (v .relation-shapes), v .row-count) (omega arith))
+        (rw (length-rowStoreOf rows (v .row-shapes), length-relationStoreOf relations few (v .relation-shapes), v .row-count) (omega arith))
 
     right : NumbersRight z (length relations) (rowStoreOf rows ++ rest) (relationStoreOf relations ++ others)
     right =
-        record { rows-right = rw (rowsOf-rowStoreOf (z .m) rows rest (v .row-count) (v .row-shapes)) (v .rows-right)
-               ; relations-right = rw (relationsOf-relationStoreOf relations others (v .relation-shapes)) (v .relations-right)
-               ; unused-zero = unused-relationStoreOf relations others few (v .relation-shapes) }
+        record {
+          rows-right = rw (rowsOf-rowStoreOf (z .m) rows rest (v .row-count) (v .row-shapes)) (v .rows-right);
+          relations-right = rw (relationsOf-relationStoreOf relations others (v .relation-shapes)) (v .relations-right);
+          unused-zero = unused-relationStoreOf relations others few (v .relation-shapes);
+        }
 
 pub valid-stores-exact : (z : Sizes) (rows : List Row) (relations : List Relation) → Valid z rows relations
     → checkStores z (length relations) (rowStoreOf rows) (relationStoreOf relations) ≡ 0
@@ -442,7 +488,8 @@ pub polynomial-at-row : (l : List ℤ) (b c : ℕ) → b < blockCount → c < co
     → getD (getD (rowOf l .blocks) b []) c [] ≡ take coefficientCount (drop (b * (columnCount * coefficientCount) + c * coefficientCount) l)
 unfolding rowOf
 polynomial-at-row l b c hb hc =
-    ap (λ block. getD block c []) (getD-map blockOf (parts blockLength blockCount l) b [] [] (rw parts-length hb) ∙ ap blockOf (getD-parts blockLength blockCount l b hb))
+    ap (λ block. getD block c [])
+    (getD-map blockOf (parts blockLength blockCount l) b [] [] (rw parts-length hb) ∙ ap blockOf (getD-parts blockLength blockCount l b hb))
     ∙ getD-parts coefficientCount columnCount (take blockLength (drop (b * blockLength) l)) c hc
     ∙ part-of-part (b * blockLength) (c * coefficientCount) coefficientCount blockLength l (omega arith)
 
@@ -466,7 +513,6 @@ coefficient-at m l i b c k hi hb hc hk =
     place : ℕ
     place = i * rowLength + b * blockLength + c * coefficientCount
 
-
 -- ---- the part of a row store that holds one polynomial
 
 -- The sizes of a system, as facts.
@@ -482,12 +528,14 @@ pub size-bounds : (z : Sizes) → T (sizesRight z) → SizeBounds z
 unfolding sizesRight
 size-bounds z h =
     let e = simp T-&& at h in
-    record { some = leb→le _ _ (e .0 .0)
-           ; few = leb→le _ _ (e .0 .1)
-           ; low = leZ-yes (e .1 .0 .0 .0)
-           ; ordered = leZ-yes (e .1 .0 .0 .1)
-           ; high = leZ-yes (e .1 .0 .1)
-           ; narrow = leZ-yes (e .1 .1) }
+    record {
+      some = leb→le _ _ (e .0 .0);
+      few = leb→le _ _ (e .0 .1);
+      low = leZ-yes (e .1 .0 .0 .0);
+      ordered = leZ-yes (e .1 .0 .0 .1);
+      high = leZ-yes (e .1 .0 .1);
+      narrow = leZ-yes (e .1 .1);
+    }
 
 -- A place inside a system, as facts.
 pub record PlaceBounds (z : Sizes) (row : ℕ) (block : ℤ) (column : ℕ) : Type 0 where
@@ -502,17 +550,21 @@ pub place-bounds : (z : Sizes) (row : ℕ) (block : ℤ) (column : ℕ) → T (p
 unfolding placeRight
 place-bounds z row block column h =
     let e = simp T-&& at h in
-    record { row-low = leb→le _ _ (e .0 .0 .0)
-           ; row-high = leb→le _ _ (e .0 .0 .1)
-           ; block-low = leZ-yes (e .0 .1 .0)
-           ; block-high = leZ-yes (e .0 .1 .1)
-           ; column-low = leb→le _ _ (e .1 .0)
-           ; column-high = leb→le _ _ (e .1 .1) }
+    record {
+      row-low = leb→le _ _ (e .0 .0 .0);
+      row-high = leb→le _ _ (e .0 .0 .1);
+      block-low = leZ-yes (e .0 .1 .0);
+      block-high = leZ-yes (e .0 .1 .1);
+      column-low = leb→le _ _ (e .1 .0);
+      column-high = leb→le _ _ (e .1 .1);
+    }
 
 -- A block of the system is one of the first five of a row.
 pub block-place : (z : Sizes) (block : ℤ) → SizeBounds z → z .t ≤ℤ block → block ≤ℤ z .l → natAbs (z .l -ℤ block) < blockCount
 block-place z block s low high =
-    suc-le-suc (natAbs-≤-iff (z .l -ℤ block) .1 (≤ℤ-trans (leZ-yes tt) (≤ℤ-difference .0 high), ≤ℤ-trans (+ℤ-≤ℤ-left (z .l) (negℤ-≤ℤ .0 low)) (s .narrow)))
+    suc-le-suc
+    (natAbs-≤-iff (z .l -ℤ block) .1
+    (≤ℤ-trans (leZ-yes tt) (≤ℤ-difference .0 high), ≤ℤ-trans (+ℤ-≤ℤ-left (z .l) (negℤ-≤ℤ .0 low)) (s .narrow)))
 
 pub polynomialCheck-zero : (rowStore : List ℤ) (z : Sizes) (row : ℕ) (block : ℤ) (column : ℕ)
     → (polynomialCheck rowStore z row block column ≡ 0)
@@ -532,7 +584,7 @@ polynomialCheck-zero rowStore z row block column = (forth, back)
         → polynomialCheck rowStore z row block column ≡ 0
     back h =
         cond-passed (sizesRight z && placeRight z row block column) _ 2
-          (T-&& (sizesRight z) (placeRight z row block column) .1 (h .0, h .1))
+        (T-&& (sizesRight z) (placeRight z row block column) .1 (h .0, h .1))
         ∙ cond-passed (leb (rowNeed (z .m)) (length rowStore)) 0 1 (le→leb _ _ (h .2))
 
 pub polynomialPart-at : (rowStore : List ℤ) (z : Sizes) (row : ℕ) (block : ℤ) (column : ℕ)
@@ -546,4 +598,4 @@ polynomialPart-at rowStore z row block column e =
     let place = place-bounds z row block column (passed .1) in
     ap (partAt rowStore (polynomialPlace z row block column)) e
     ∙ sym (polynomial-at (z .m) rowStore (pred row) (natAbs (z .l -ℤ block)) (pred column) (omega arith)
-        (block-place z block sizes (place .block-low) (place .block-high)) (omega arith))
+    (block-place z block sizes (place .block-low) (place .block-high)) (omega arith))
