@@ -4,6 +4,7 @@ pub mod Elimination
 pub mod Stores
 pub mod Sequences
 pub mod Calls
+pub mod Layout
 pub mod Numbers
 pub mod Sheets
 pub mod SheetCalls
