@@ -26,7 +26,7 @@ use lib.IntN.{ℤ, pos, negsuc, negℤ, natAbs, _+ℤ_, _-ℤ_, _*ℤ_, +ℤ-idl
 use lib.Signed.{_≤ℤ_}
 use Rattle.algebra.specs.Integers.{ringℤ, natAbs-negℤ, natAbs-+ℤ, *ℤ-assoc}
 use Rattle.algebra.specs.Order.{≤ℤ-witness, ≤ℤ-intro, natAbs-≤-iff}
-use Rattle.algebra.specs.Sums.{range, range-member, sum, sum-map, sum-+ℤ, sum-*ℤ, sum-zero, sumBelow, sumBelow-congr, sumBelow-+ℤ, sumBelow-*ℤ, sumBelow-front, sumBelow-last, sumBelow-single, sumBelow-zeros}
+use Rattle.algebra.specs.Sums.{range, range-member, sum, sum-map, sum-+ℤ, sum-*ℤ, sum-zero, sum-congr, sum-exchange, sumBelow, sumBelow-congr, sumBelow-+ℤ, sumBelow-*ℤ, sumBelow-exchange, sumBelow-front, sumBelow-last, sumBelow-single, sumBelow-zeros}
 use Rattle.algebra.specs.Polynomials.{Polynomial, coeff, eval, isZero, add, mul, negate, eval-negate, shiftBy, eval-add, eval-mul, eval-shiftBy, isZero-coeff, coeff-isZero, isZero-cons, isZero-mul-left, isZero-shiftBy}
 use Rattle.algebra.specs.Coefficients.{coeff-add, mul-nonzero}
 use Rattle.rules.specs.Sequences.{Sequence, shiftsWithin}
@@ -228,13 +228,40 @@ pub record DependentValues (m : ℕ) (E : Values) : Type 0 where
   pub nonzero : T (not (isZero (multiplier number shift)))
   pub vanishes : (z : Sequence) (x : ℤ) → combinationValue m E reach multiplier z x ≡ pos 0
 
--- The copies add up to the same where multipliers and equations are the same by their values.
-copies-congr : (E E' : Values) (N : ℕ) (S S' : ℕ → ℤ → Polynomial) (z : Sequence) (x : ℤ) (i : ℕ)
-    → ((k : ℤ) → natAbs k ≤ N → eval (S i k) x *ℤ E z i (x +ℤ k) ≡ eval (S' i k) x *ℤ E' z i (x +ℤ k))
-    → copies E N S z x i ≡ copies E' N S' z x i
-unfolding copies
-copies-congr E E' N S S' z x i h =
-    sumWithin-congr N (λ k. eval (S i k) x *ℤ E z i (x +ℤ k)) (λ k. eval (S' i k) x *ℤ E' z i (x +ℤ k)) h
+-- Combinations of equations that are the same at the indices within reach are the same.
+pub combination-congr : (m : ℕ) (E E' : Values) (N : ℕ) (S : ℕ → ℤ → Polynomial) (z : Sequence) (x : ℤ)
+    → ((i : ℕ) (k : ℤ) → natAbs k ≤ N → E z i (x +ℤ k) ≡ E' z i (x +ℤ k)) → combinationValue m E N S z x ≡ combinationValue m E' N S z x
+unfolding combinationValue copies
+combination-congr m E E' N S z x h =
+    sumBelow-congr m (copies E N S z x) (copies E' N S z x) (λ i _. sumWithin-congr N (λ k. eval (S i k) x *ℤ E z i (x +ℤ k))
+    (λ k. eval (S i k) x *ℤ E' z i (x +ℤ k)) (λ k p. ap (λ e. eval (S i k) x *ℤ e) (h i k p)))
+
+-- A combination is linear in the equations.
+module _ (m N : ℕ) (S : ℕ → ℤ → Polynomial) (z : Sequence) (x : ℤ) where
+  pub combination-sum : (n : ℕ) (f : ℕ → ℕ → ℤ → ℤ)
+      → combinationValue m (λ _ i y. sumBelow n (λ q. f q i y)) N S z x ≡ sumBelow n (λ q. combinationValue m (λ _. f q) N S z x)
+  unfolding combinationValue copies sumWithin sumBelow
+  combination-sum n f =
+      sumBelow-congr m (copies (λ _ i y. sumBelow n (λ q. f q i y)) N S z x) (λ i. sumBelow n (λ q. copies (λ _. f q) N S z x i)) (λ i _. inside i)
+      ∙ sumBelow-exchange m n (λ i q. copies (λ _. f q) N S z x i)
+    where
+      inside : (i : ℕ) → copies (λ _ i y. sumBelow n (λ q. f q i y)) N S z x i ≡ sumBelow n (λ q. copies (λ _. f q) N S z x i)
+      inside i =
+          sum-congr (λ k. eval (S i k) x *ℤ sumBelow n (λ q. f q i (x +ℤ k))) (λ k. sumBelow n (λ q. eval (S i k) x *ℤ f q i (x +ℤ k)))
+          (λ k. sym (sumBelow-*ℤ n (eval (S i k) x) (λ q. f q i (x +ℤ k)))) (shiftsWithin N)
+          ∙ sum-exchange (λ k q. eval (S i k) x *ℤ f q i (x +ℤ k)) (shiftsWithin N) (range 0 n)
+
+  pub combination-scale : (c : ℤ) (f : ℕ → ℤ → ℤ) → combinationValue m (λ _ i y. c *ℤ f i y) N S z x ≡ c *ℤ combinationValue m (λ _. f) N S z x
+  unfolding combinationValue copies
+  combination-scale c f = sumBelow-congr m (copies (λ _ i y. c *ℤ f i y) N S z x) (λ i. c *ℤ copies (λ _. f) N S z x i) (λ i _. inside i) ∙ sumBelow-*ℤ m c (copies (λ _. f) N S z x)
+    where
+      swap : (a b : ℤ) → a *ℤ (c *ℤ b) ≡ c *ℤ (a *ℤ b)
+      swap a b = simp ringℤ
+
+      inside : (i : ℕ) → copies (λ _ i y. c *ℤ f i y) N S z x i ≡ c *ℤ copies (λ _. f) N S z x i
+      inside i =
+          sumWithin-congr N (λ k. eval (S i k) x *ℤ (c *ℤ f i (x +ℤ k))) (λ k. c *ℤ (eval (S i k) x *ℤ f i (x +ℤ k))) (λ k _. swap (eval (S i k) x) (f i (x +ℤ k)))
+          ∙ sumWithin-*ℤ N c (λ k. eval (S i k) x *ℤ f i (x +ℤ k))
 
 -- ---- one equation replaced
 

@@ -11,13 +11,14 @@ use native.Mathlib.Numerals.{add-one}
 use native.Mathlib.Omega.{arith}
 use lib.Dec.{T, T-not, not-T}
 use lib.ListN.{length, getD, length-append, List·getD-eq-default, List·getD-map}
-use lib.IntN.{ℤ, pos, negsuc, negℤ, natAbs, predℤ, _+ℤ_, _-ℤ_, _*ℤ_, +ℤ-idl, +ℤ-idr, +ℤ-assoc, +ℤ-comm, zero-*ℤ, -ℤ-one, +ℤ-negℤ-cancel}
+use lib.IntN.{ℤ, pos, negsuc, negℤ, natAbs, predℤ, _+ℤ_, _-ℤ_, _*ℤ_, +ℤ-idl, +ℤ-idr, +ℤ-assoc, +ℤ-comm, zero-*ℤ, *ℤ-comm, -ℤ-one, +ℤ-negℤ-cancel}
 use Rattle.algebra.specs.Integers.{ringℤ}
 use Rattle.algebra.specs.Order.{≤ℤ-witness, natAbs-≤-iff}
 use Rattle.algebra.specs.Sums.{range, sum, sum-congr, sum-exchange, sumBelow, sumBelow-congr, sumBelow-*ℤ, sumBelow-exchange, sumBelow-front, sumBelow-append, sumBelow-extend, sumBelow-zeros}
 use Rattle.algebra.specs.Polynomials.{Polynomial, eval, isZero, add, mul, shiftBy, eval-add, eval-mul, eval-shiftBy}
 use Rattle.rules.specs.Rows.{Block, Row, noRow}
 use Rattle.rules.specs.Sequences.{Sequence, blockValue, blocksValue, valueOf, blockFrom, polynomialAt, copyAt, addAll, shiftsWithin, combinationAt, Dependent}
+use Rattle.theory.specs.Values.{delta, value-delta, value-combined, value-zero, value-shiftUp}
 use Rattle.theory.specs.Combinations.{cancel-common, Values, sumWithin, sumWithin-congr, copies, combinationValue, DependentValues}
 
 -- ---- the value of a row as a sum over a window of indices and columns
@@ -97,7 +98,50 @@ blocks-window W p n z k bs h =
         split : q ≡ p + (q - p)
         split = omega arith
 
--- ---- a sequence as a sum of sequences with one nonzero value
+-- ---- the value at a sequence from the values at the sequences with one nonzero value
+
+blockFrom-length : (C : ℕ) (bs : List Block) → ((q : ℕ) → length (getD bs q []) ≤ C) → (s : ℤ) → length (blockFrom bs s) ≤ C
+unfolding blockFrom
+blockFrom-length C bs h (pos q) = h q
+blockFrom-length C bs h (negsuc q) = zero-le
+
+-- The places of a window from p places above the first block of the row, at n.
+row-expansion : (l : ℤ) (r : Row) (W C p : ℕ) (z : Sequence) (n top : ℤ) → p + length (r .blocks) ≤ W → ((q : ℕ) → length (getD (r .blocks) q []) ≤ C)
+    → n +ℤ l +ℤ pos p ≡ top
+    → valueOf l r z n ≡ sumBelow W (λ q. sumBelow C (λ c. z (top -ℤ pos q) c *ℤ valueOf l r (delta (top -ℤ pos q) c) n))
+unfolding valueOf polynomialAt
+row-expansion l r W C p z n top wide columns e =
+    blocks-window W p n z (n +ℤ l) (r .blocks) wide
+    ∙ sumBelow-congr W (λ q. blockValue n (z (n +ℤ l +ℤ pos p -ℤ pos q)) (blockFrom (r .blocks) (pos q -ℤ pos p)))
+      (λ q. sumBelow C (λ c. z (top -ℤ pos q) c *ℤ valueOf l r (delta (top -ℤ pos q) c) n)) (λ q _. at q)
+  where
+    at : (q : ℕ)
+        → blockValue n (z (n +ℤ l +ℤ pos p -ℤ pos q)) (blockFrom (r .blocks) (pos q -ℤ pos p))
+        ≡ sumBelow C (λ c. z (top -ℤ pos q) c *ℤ valueOf l r (delta (top -ℤ pos q) c) n)
+    at q =
+        ap (λ t. blockValue n (z (t -ℤ pos q)) (blockFrom (r .blocks) (pos q -ℤ pos p))) e
+        ∙ block-window C n (z (top -ℤ pos q)) (blockFrom (r .blocks) (pos q -ℤ pos p)) (blockFrom-length C (r .blocks) columns (pos q -ℤ pos p))
+        ∙ sumBelow-congr C (λ c. eval (getD (blockFrom (r .blocks) (pos q -ℤ pos p)) c []) n *ℤ z (top -ℤ pos q) c)
+          (λ c. z (top -ℤ pos q) c *ℤ valueOf l r (delta (top -ℤ pos q) c) n) (λ c _. term c)
+      where
+        cancel : (a b : ℤ) → b -ℤ a ≡ l -ℤ (n +ℤ l +ℤ a -ℤ b -ℤ n)
+        cancel a b = sym (+ℤ-negℤ-cancel (b -ℤ a) l) ∙ right ∙ ap (λ t. l -ℤ t) (sym (+ℤ-negℤ-cancel (l +ℤ a -ℤ b) n) ∙ left)
+          where
+            left : l +ℤ a -ℤ b +ℤ n -ℤ n ≡ n +ℤ l +ℤ a -ℤ b -ℤ n
+            left = simp ringℤ
+
+            right : b -ℤ a +ℤ l -ℤ l ≡ l -ℤ (l +ℤ a -ℤ b)
+            right = simp ringℤ
+
+        place : pos q -ℤ pos p ≡ l -ℤ (top -ℤ pos q -ℤ n)
+        place = cancel (pos p) (pos q) ∙ ap (λ t. l -ℤ (t -ℤ pos q -ℤ n)) e
+
+        term : (c : ℕ)
+            → eval (getD (blockFrom (r .blocks) (pos q -ℤ pos p)) c []) n *ℤ z (top -ℤ pos q) c
+            ≡ z (top -ℤ pos q) c *ℤ valueOf l r (delta (top -ℤ pos q) c) n
+        term c =
+            *ℤ-comm (eval (getD (blockFrom (r .blocks) (pos q -ℤ pos p)) c []) n) (z (top -ℤ pos q) c)
+            ∙ ap (λ v. z (top -ℤ pos q) c *ℤ v) (ap (λ s. eval (getD (blockFrom (r .blocks) s) c []) n) place ∙ sym (value-delta l r (top -ℤ pos q) c n))
 
 getD-flatten-length : {A : Type 0} (l : List (List A)) (i : ℕ) → length (getD l i []) ≤ length (flatten l)
 unfolding flatten
