@@ -6,20 +6,21 @@ use mathlib.Core.Logic.{_≢_, _↔_, by-cases}
 use mathlib.Core.Bool.{Bool, true, false, not}
 use mathlib.Core.List.{List, [], _∷_, _++_, map, flatten}
 use Prim.Native.Nat.{ℕ, zero, suc, _+_, _-_, _≤_, _<_, zero-le}
-use native.Mathlib.Nat.{le-refl}
+use native.Mathlib.Nat.{le-refl, le-trans}
 use native.Mathlib.Numerals.{add-one}
 use native.Mathlib.Omega.{arith}
 use lib.Dec.{T, T-not, not-T}
 use lib.ListN.{length, getD, length-append, List·getD-eq-default, List·getD-map}
-use lib.IntN.{ℤ, pos, negsuc, negℤ, natAbs, predℤ, _+ℤ_, _-ℤ_, _*ℤ_, +ℤ-idl, +ℤ-idr, +ℤ-assoc, +ℤ-comm, zero-*ℤ, *ℤ-comm, -ℤ-one, +ℤ-negℤ-cancel}
+use lib.IntN.{ℤ, pos, negsuc, negℤ, natAbs, predℤ, _+ℤ_, _-ℤ_, _*ℤ_, +ℤ-idl, +ℤ-idr, +ℤ-assoc, +ℤ-comm, zero-*ℤ, *ℤ-zero, *ℤ-comm, -ℤ-one, +ℤ-negℤ-cancel}
 use Rattle.algebra.specs.Integers.{ringℤ}
 use Rattle.algebra.specs.Order.{≤ℤ-witness, natAbs-≤-iff}
 use Rattle.algebra.specs.Sums.{range, sum, sum-congr, sum-exchange, sumBelow, sumBelow-congr, sumBelow-*ℤ, sumBelow-exchange, sumBelow-front, sumBelow-append, sumBelow-extend, sumBelow-zeros}
-use Rattle.algebra.specs.Polynomials.{Polynomial, eval, isZero, add, mul, shiftBy, eval-add, eval-mul, eval-shiftBy}
+use Rattle.algebra.specs.Polynomials.{Polynomial, eval, isZero, add, mul, shiftBy, eval-add, eval-mul, eval-shiftBy, eval-isZero}
+use Rattle.algebra.specs.Vanishing.{zero-everywhere}
 use Rattle.rules.specs.Rows.{Block, Row, noRow}
 use Rattle.rules.specs.Sequences.{Sequence, blockValue, blocksValue, valueOf, blockFrom, polynomialAt, copyAt, addAll, shiftsWithin, combinationAt, Dependent}
 use Rattle.theory.specs.Values.{delta, value-delta, value-combined, value-zero, value-shiftUp}
-use Rattle.theory.specs.Combinations.{cancel-common, Values, sumWithin, sumWithin-congr, copies, combinationValue, DependentValues}
+use Rattle.theory.specs.Combinations.{cancel-common, Values, sumWithin, sumWithin-congr, place-of, copies, combinationValue, combination-congr, combination-sum, combination-scale, DependentValues}
 
 -- ---- the value of a row as a sum over a window of indices and columns
 
@@ -151,3 +152,151 @@ getD-flatten-length (x ∷ l) (suc i) = step (getD-flatten-length l i)
   where
     step : length (getD l i []) ≤ length (flatten l) → length (getD l i []) ≤ length (x ++ flatten l)
     step h = omega (arith, length-append x (flatten l))
+
+-- Bounds of the blocks of all rows, and of the columns of all their blocks.
+rows-bounded : {A : Type 0} (f : Row → List A) → f noRow ≡ [] → (rows : List Row) (i : ℕ) → length (f (getD rows i noRow)) ≤ length (flatten (map f rows))
+rows-bounded f e rows i =
+    subst (λ l. length l ≤ length (flatten (map f rows))) (ap (getD (map f rows) i) (sym e) ∙ List·getD-map f rows i noRow) (getD-flatten-length (map f rows) i)
+
+blockBound : List Row → ℕ
+blockBound rows = length (flatten (map (λ r. r .blocks) rows))
+
+columnBound : List Row → ℕ
+columnBound rows = length (flatten (map (λ r. flatten (r .blocks)) rows))
+
+blocks-bounded : (rows : List Row) (i : ℕ) → length (getD rows i noRow .blocks) ≤ blockBound rows
+unfolding blockBound
+blocks-bounded rows i = rows-bounded (λ r. r .blocks) refl rows i
+
+columns-bounded : (rows : List Row) (i q : ℕ) → length (getD (getD rows i noRow .blocks) q []) ≤ columnBound rows
+unfolding columnBound flatten
+columns-bounded rows i q = le-trans (getD-flatten-length (getD rows i noRow .blocks) q) (rows-bounded (λ r. flatten (r .blocks)) refl rows i)
+
+-- ---- the combination by coefficients and by values
+
+-- The values of the rows of a list, as equations.
+abbrev pub rowValues : ℤ → List Row → Values
+rowValues l rows z i n = valueOf l (getD rows i noRow) z n
+
+eval-addAll : {A : Type 0} (f : A → Polynomial) (l : List A) (x : ℤ) → eval (addAll f l) x ≡ sum (λ a. eval (f a) x) l
+unfolding addAll sum
+eval-addAll f [] x = eval-nil x
+eval-addAll f (a ∷ l) x = eval-add (f a) (addAll f l) x ∙ ap (λ s. eval (f a) x +ℤ s) (eval-addAll f l x)
+
+combinationAt-law : (l : ℤ) (rows : List Row) (N : ℕ) (S : ℕ → ℤ → Polynomial) (s : ℤ) (c : ℕ)
+    → combinationAt l rows N S s c
+      ≡ addAll (λ i. addAll (λ k. mul (S i k) (shiftBy k (polynomialAt l (getD rows i noRow) (s -ℤ k) c))) (shiftsWithin N)) (range 0 (length rows))
+unfolding combinationAt
+combinationAt-law l rows N S s c = refl
+
+-- The value of the combination's polynomial at block s and column c is the combination of values at the sequence that is
+-- 1 there and 0 elsewhere.
+pub eval-combination : (l : ℤ) (rows : List Row) (N : ℕ) (S : ℕ → ℤ → Polynomial) (s : ℤ) (c : ℕ) (x : ℤ)
+    → eval (combinationAt l rows N S s c) x ≡ combinationValue (length rows) (rowValues l rows) N S (delta (x +ℤ s) c) x
+unfolding combinationValue copies sumBelow sumWithin
+eval-combination l rows N S s c x =
+    ap (λ p. eval p x) (combinationAt-law l rows N S s c) ∙ eval-addAll (λ i. addAll (term i) (shiftsWithin N)) (range 0 (length rows)) x
+    ∙ sum-congr (λ i. eval (addAll (term i) (shiftsWithin N)) x) (λ i. sum (value i) (shiftsWithin N))
+      (λ i. eval-addAll (term i) (shiftsWithin N) x ∙ sum-congr (λ k. eval (term i k) x) (value i) (same i) (shiftsWithin N)) (range 0 (length rows))
+  where
+    term : ℕ → ℤ → Polynomial
+    term i k = mul (S i k) (shiftBy k (polynomialAt l (getD rows i noRow) (s -ℤ k) c))
+
+    value : ℕ → ℤ → ℤ
+    value i k = eval (S i k) x *ℤ valueOf l (getD rows i noRow) (delta (x +ℤ s) c) (x +ℤ k)
+
+    block : (k : ℤ) → s -ℤ k ≡ x +ℤ s -ℤ (x +ℤ k)
+    block k = sym (cancel-common s k x) ∙ ap₂ (λ a b. a -ℤ b) (+ℤ-comm s x) (+ℤ-comm k x)
+
+    same : (i : ℕ) (k : ℤ) → eval (term i k) x ≡ value i k
+    same i k =
+        eval-mul (S i k) (shiftBy k (polynomialAt l (getD rows i noRow) (s -ℤ k) c)) x
+        ∙ ap (λ e. eval (S i k) x *ℤ e)
+          (eval-shiftBy k (polynomialAt l (getD rows i noRow) (s -ℤ k) c) x ∙ ap (λ b. eval (polynomialAt l (getD rows i noRow) b c) (x +ℤ k)) (block k)
+          ∙ sym (value-delta l (getD rows i noRow) (x +ℤ s) c (x +ℤ k)))
+
+module _ (l : ℤ) (rows : List Row) where
+  -- Any sequence is a sum of such sequences, as far as finitely many shifted rows reach.
+  combination-zero : (N : ℕ) (S : ℕ → ℤ → Polynomial) → ((s : ℤ) (c : ℕ) → T (isZero (combinationAt l rows N S s c)))
+      → (z : Sequence) (x : ℤ) → combinationValue (length rows) (rowValues l rows) N S z x ≡ pos 0
+  unfolding combinationValue copies
+  combination-zero N S vanish z x =
+      combination-congr (length rows) (rowValues l rows) (λ _ i n. sumBelow W (λ q. part q i n)) N S z x expand
+      ∙ combination-sum (length rows) N S z x W part
+      ∙ sumBelow-zeros W (λ q. combinationValue (length rows) (λ _. part q) N S z x) (λ q _. combination-sum (length rows) N S z x C (piece q)
+      ∙ sumBelow-zeros C (λ c. combinationValue (length rows) (λ _. piece q c) N S z x) (λ c _. zero-piece q c))
+    where
+      W : ℕ
+      W = N + N + blockBound rows
+
+      C : ℕ
+      C = columnBound rows
+
+      index : ℕ → ℤ
+      index q = x +ℤ l +ℤ pos N -ℤ pos q
+
+      piece : ℕ → ℕ → ℕ → ℤ → ℤ
+      piece q c i n = z (index q) c *ℤ valueOf l (getD rows i noRow) (delta (index q) c) n
+
+      part : ℕ → ℕ → ℤ → ℤ
+      part q i n = sumBelow C (λ c. piece q c i n)
+
+      expand : (i : ℕ) (k : ℤ) → natAbs k ≤ N → rowValues l rows z i (x +ℤ k) ≡ sumBelow W (λ q. part q i (x +ℤ k))
+      expand i k h =
+          let (j, below, e) = place-of N k h in
+          row-expansion l (getD rows i noRow) W C (N + N - j) z (x +ℤ k) (x +ℤ l +ℤ pos N) (omega (arith, blocks-bounded rows i)) (columns-bounded rows i)
+          (ap (λ a. x +ℤ a +ℤ l +ℤ pos (N + N - j)) (sym e) ∙ top j below)
+        where
+          regroup : (a b c : ℤ) → x +ℤ (a -ℤ b) +ℤ l +ℤ c ≡ x +ℤ l +ℤ (a +ℤ c -ℤ b)
+          regroup a b c = simp ringℤ
+
+          top : (j : ℕ) → j < suc (N + N) → x +ℤ (pos j -ℤ pos N) +ℤ l +ℤ pos (N + N - j) ≡ x +ℤ l +ℤ pos N
+          top j below = regroup (pos j) (pos N) (pos (N + N - j)) ∙ ap (λ a. x +ℤ l +ℤ a) (ap (λ a. pos a -ℤ pos N) whole ∙ +ℤ-negℤ-cancel (pos N) (pos N))
+            where
+              whole : j + (N + N - j) ≡ N + N
+              whole = omega arith
+
+      zero-value : (q c : ℕ) → combinationValue (length rows) (rowValues l rows) N S (delta (index q) c) x ≡ pos 0
+      zero-value q c =
+          ap (λ y. combinationValue (length rows) (rowValues l rows) N S (delta y c) x) (regroup (pos N) (pos q))
+          ∙ sym (eval-combination l rows N S (l +ℤ pos N -ℤ pos q) c x)
+          ∙ eval-isZero (combinationAt l rows N S (l +ℤ pos N -ℤ pos q) c) x (vanish (l +ℤ pos N -ℤ pos q) c)
+        where
+          regroup : (a b : ℤ) → x +ℤ l +ℤ a -ℤ b ≡ x +ℤ (l +ℤ a -ℤ b)
+          regroup a b = simp +ℤ-assoc
+
+      zero-piece : (q c : ℕ) → combinationValue (length rows) (λ _. piece q c) N S z x ≡ pos 0
+      zero-piece q c =
+          combination-scale (length rows) N S z x (z (index q) c) (λ i n. valueOf l (getD rows i noRow) (delta (index q) c) n)
+          ∙ ap (λ e. z (index q) c *ℤ e) (zero-value q c) ∙ *ℤ-zero (z (index q) c)
+
+  pub values-of-dependent : Dependent l rows → DependentValues (length rows) (rowValues l rows)
+  values-of-dependent D =
+      record {
+        reach = D .reach;
+        multiplier = D .multiplier;
+        number = D .number;
+        shift = D .shift;
+        number-below = D .number-below;
+        shift-within = D .shift-within;
+        nonzero = D .nonzero;
+        vanishes = combination-zero (D .reach) (D .multiplier) (D .vanishes)
+      }
+
+  pub dependent-of-values : DependentValues (length rows) (rowValues l rows) → Dependent l rows
+  dependent-of-values D =
+      record {
+        reach = D .reach;
+        multiplier = D .multiplier;
+        number = D .number;
+        shift = D .shift;
+        number-below = D .number-below;
+        shift-within = D .shift-within;
+        nonzero = D .nonzero;
+        vanishes = λ s c. zero-everywhere (combinationAt l rows (D .reach) (D .multiplier) s c) .1
+            (λ x. eval-combination l rows (D .reach) (D .multiplier) s c x ∙ D .vanishes (delta (x +ℤ s) c) x)
+      }
+
+  -- "Dependent means that a nonzero combination of shifted equations vanishes": by coefficients or by values.
+  pub dependent-values : Dependent l rows ↔ DependentValues (length rows) (rowValues l rows)
+  dependent-values = (values-of-dependent, dependent-of-values)
