@@ -273,7 +273,7 @@ add-nonzero p q n z = not-T (isZero (add p q)) (λ t. T-not (isZero p) n (coeff-
     zero-at k e =
         sym (+ℤ-idr (coeff p k)) ∙ ap (λ a. coeff p k +ℤ a) (sym (isZero-coeff q z k)) ∙ sym (coeff-add p q k) ∙ e
 
-dec-T : (t : Bool) → Dec (T t)
+pub dec-T : (t : Bool) → Dec (T t)
 dec-T true = yes tt
 dec-T false = no (λ t. t)
 

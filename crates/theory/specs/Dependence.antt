@@ -6,21 +6,23 @@ use mathlib.Core.Logic.{_≢_, _↔_, by-cases}
 use mathlib.Core.Bool.{Bool, true, false, not}
 use mathlib.Core.List.{List, [], _∷_, _++_, map, flatten}
 use Prim.Native.Nat.{ℕ, zero, suc, _+_, _-_, _≤_, _<_, zero-le}
-use native.Mathlib.Nat.{le-refl, le-trans}
+use native.Mathlib.Nat.{le-refl, le-trans, not-suc-le-zero}
+use native.Mathlib.Decide.{decLt}
 use native.Mathlib.Numerals.{add-one}
 use native.Mathlib.Omega.{arith}
 use lib.Dec.{T, T-not, not-T}
 use lib.ListN.{length, getD, length-append, List·getD-eq-default, List·getD-map}
-use lib.IntN.{ℤ, pos, negsuc, negℤ, natAbs, predℤ, _+ℤ_, _-ℤ_, _*ℤ_, +ℤ-idl, +ℤ-idr, +ℤ-assoc, +ℤ-comm, zero-*ℤ, *ℤ-zero, *ℤ-comm, -ℤ-one, +ℤ-negℤ-cancel}
+use lib.IntN.{ℤ, pos, negsuc, negℤ, natAbs, predℤ, _+ℤ_, _-ℤ_, _*ℤ_, +ℤ-idl, +ℤ-idr, +ℤ-assoc, +ℤ-comm, zero-*ℤ, *ℤ-zero, *ℤ-comm, -ℤ-one, +ℤ-negℤ-cancel, +ℤ-invr}
 use Rattle.algebra.specs.Integers.{ringℤ}
 use Rattle.algebra.specs.Order.{≤ℤ-witness, natAbs-≤-iff}
-use Rattle.algebra.specs.Sums.{range, sum, sum-congr, sum-exchange, sumBelow, sumBelow-congr, sumBelow-*ℤ, sumBelow-exchange, sumBelow-front, sumBelow-append, sumBelow-extend, sumBelow-zeros}
-use Rattle.algebra.specs.Polynomials.{Polynomial, eval, isZero, add, mul, shiftBy, eval-add, eval-mul, eval-shiftBy, eval-isZero}
+use Rattle.algebra.specs.Sums.{range, sum, sum-congr, sum-exchange, sumBelow, sumBelow-congr, sumBelow-*ℤ, sumBelow-exchange, sumBelow-front, sumBelow-append, sumBelow-extend, sumBelow-zeros, sumBelow-single}
+use Rattle.algebra.specs.Polynomials.{Polynomial, eval, isZero, add, mul, shiftBy, eval-add, eval-mul, eval-shiftBy, eval-isZero, isZero-shiftBy}
+use Rattle.algebra.specs.Coefficients.{mul-nonzero}
 use Rattle.algebra.specs.Vanishing.{zero-everywhere}
-use Rattle.rules.specs.Rows.{Block, Row, noRow}
+use Rattle.rules.specs.Rows.{Block, Row, noRow, leadingBlock, entry}
 use Rattle.rules.specs.Sequences.{Sequence, blockValue, blocksValue, valueOf, blockFrom, polynomialAt, copyAt, addAll, shiftsWithin, combinationAt, Dependent}
 use Rattle.theory.specs.Values.{delta, value-delta, value-combined, value-zero, value-shiftUp}
-use Rattle.theory.specs.Combinations.{cancel-common, Values, sumWithin, sumWithin-congr, place-of, copies, combinationValue, combination-congr, combination-sum, combination-scale, DependentValues}
+use Rattle.theory.specs.Combinations.{cancel-common, dec-T, Values, sumWithin, sumWithin-below, place-of, copies, combinationValue, combination-congr, combination-sum, combination-scale, DependentValues}
 
 -- ---- the value of a row as a sum over a window of indices and columns
 
@@ -300,3 +302,144 @@ module _ (l : ℤ) (rows : List Row) where
   -- "Dependent means that a nonzero combination of shifted equations vanishes": by coefficients or by values.
   pub dependent-values : Dependent l rows ↔ DependentValues (length rows) (rowValues l rows)
   dependent-values = (values-of-dependent, dependent-of-values)
+
+-- ---- a triangular system is independent
+
+-- What a row makes at n of the sequence that is 1 at index n + l, the last that the row reaches: its leading entry.
+leading-value : (l : ℤ) (r : Row) (c : ℕ) (n : ℤ) → valueOf l r (delta (n +ℤ l) c) n ≡ eval (entry r c) n
+unfolding polynomialAt blockFrom entry leadingBlock
+leading-value l r c n = value-delta l r (n +ℤ l) c n ∙ ap (λ s. eval (getD (blockFrom (r .blocks) s) c []) n) place
+  where
+    place : l -ℤ (n +ℤ l -ℤ n) ≡ pos 0
+    place = ap (λ a. l -ℤ a) (ap (λ a. a -ℤ n) (+ℤ-comm n l) ∙ +ℤ-negℤ-cancel l n) ∙ +ℤ-invr l
+
+-- Of the sequence that is 1 at an index past n + l it makes nothing.
+past-value : (l : ℤ) (r : Row) (c : ℕ) (n : ℤ) (e : ℕ) → valueOf l r (delta (n +ℤ l +ℤ pos (suc e)) c) n ≡ pos 0
+unfolding polynomialAt blockFrom eval
+past-value l r c n e = value-delta l r (n +ℤ l +ℤ pos (suc e)) c n ∙ ap (λ s. eval (getD (blockFrom (r .blocks) s) c []) n) (place (pos (suc e)))
+  where
+    place : (a : ℤ) → l -ℤ (n +ℤ l +ℤ a -ℤ n) ≡ negℤ a
+    place a = ap (λ b. l -ℤ b) (inner ∙ +ℤ-negℤ-cancel (l +ℤ a) n) ∙ outer ∙ +ℤ-negℤ-cancel (negℤ a) l
+      where
+        inner : n +ℤ l +ℤ a -ℤ n ≡ l +ℤ a +ℤ n -ℤ n
+        inner = simp ringℤ
+
+        outer : l -ℤ (l +ℤ a) ≡ negℤ a +ℤ l -ℤ l
+        outer = simp ringℤ
+
+module _ (l : ℤ) (rows : List Row) (column : ℕ → ℕ)
+    (zeros : (j k : ℕ) → j < length rows → k < j → T (isZero (entry (getD rows j noRow) (column k))))
+    (diagonal : (j : ℕ) → j < length rows → T (not (isZero (entry (getD rows j noRow) (column j)))))
+    (N : ℕ) (S : ℕ → ℤ → Polynomial)
+    (vanishes : (z : Sequence) (x : ℤ) → combinationValue (length rows) (rowValues l rows) N S z x ≡ pos 0) where
+
+  shiftAt : ℕ → ℤ
+  shiftAt J = pos J -ℤ pos N
+
+  -- The multipliers at the shifts above the place J are zero.
+  ClearAbove : ℕ → Type 0
+  ClearAbove J = (I : ℕ) → J < I → I < suc (N + N) → (i : ℕ) → i < length rows → T (isZero (S i (shiftAt I)))
+
+  -- Then the leading entries of the copies at place J, each times its multiplier, add up to zero in every column.
+  leading-sum : (J : ℕ) → J < suc (N + N) → ClearAbove J → (c : ℕ) (x : ℤ)
+      → sumBelow (length rows) (λ i. eval (S i (shiftAt J)) x *ℤ eval (entry (getD rows i noRow) c) (x +ℤ shiftAt J)) ≡ pos 0
+  unfolding combinationValue copies ClearAbove shiftAt
+  leading-sum J below clear c x =
+      sumBelow-congr (length rows) (λ i. eval (S i K) x *ℤ eval (entry (getD rows i noRow) c) (x +ℤ K)) (copies (rowValues l rows) N S z x) (λ i h. sym (only i h))
+      ∙ vanishes z x
+    where
+      K : ℤ
+      K = pos J -ℤ pos N
+
+      z : Sequence
+      z = delta (x +ℤ K +ℤ l) c
+
+      term : ℕ → ℤ → ℤ
+      term i k = eval (S i k) x *ℤ valueOf l (getD rows i noRow) z (x +ℤ k)
+
+      only : (i : ℕ) → i < length rows → copies (rowValues l rows) N S z x i ≡ eval (S i K) x *ℤ eval (entry (getD rows i noRow) c) (x +ℤ K)
+      only i h =
+          sumWithin-below N (term i) ∙ sumBelow-single (suc (N + N)) J (λ I. term i (pos I -ℤ pos N)) below others
+          ∙ ap (λ e. eval (S i K) x *ℤ e) (leading-value l (getD rows i noRow) c (x +ℤ K))
+        where
+          others : (I : ℕ) → I < suc (N + N) → I ≢ J → term i (pos I -ℤ pos N) ≡ pos 0
+          others I b n = by-cases (decLt I J) before (λ m. rw (eval-isZero (S i (pos I -ℤ pos N)) x (clear I (omega arith) b i h)) (zero-*ℤ (value I)))
+            where
+              value : ℕ → ℤ
+              value I = valueOf l (getD rows i noRow) z (x +ℤ (pos I -ℤ pos N))
+
+              before : I < J → term i (pos I -ℤ pos N) ≡ pos 0
+              before m =
+                  ap (λ e. eval (S i (pos I -ℤ pos N)) x *ℤ e)
+                  (ap (λ y. valueOf l (getD rows i noRow) (delta y c) (x +ℤ (pos I -ℤ pos N))) index ∙ past-value l (getD rows i noRow) c (x +ℤ (pos I -ℤ pos N)) (J - suc I))
+                  ∙ *ℤ-zero (eval (S i (pos I -ℤ pos N)) x)
+                where
+                  regroup : (a b e : ℤ) → x +ℤ (a +ℤ e -ℤ b) +ℤ l ≡ x +ℤ (a -ℤ b) +ℤ l +ℤ e
+                  regroup a b e = simp ringℤ
+
+                  split : J ≡ I + suc (J - suc I)
+                  split = omega arith
+
+                  index : x +ℤ (pos J -ℤ pos N) +ℤ l ≡ x +ℤ (pos I -ℤ pos N) +ℤ l +ℤ pos (suc (J - suc I))
+                  index = ap (λ a. x +ℤ (pos a -ℤ pos N) +ℤ l) split ∙ regroup (pos I) (pos N) (pos (suc (J - suc I)))
+
+  module _ (J : ℕ) (below : J < suc (N + N)) (clear : ClearAbove J) where
+    -- At the column of row i the later rows have no leading entry, and the earlier ones have multiplier zero.
+    next-clear : (i : ℕ) → i < length rows → ((k : ℕ) → k < i → T (isZero (S k (shiftAt J)))) → T (isZero (S i (shiftAt J)))
+    next-clear i h earlier = by-cases (dec-T (isZero (S i K))) (λ t. t) (λ n. absurd (T-not (isZero (mul (S i K) pivot)) (product-nonzero n) product-zero))
+      where
+        K : ℤ
+        K = shiftAt J
+
+        pivot : Polynomial
+        pivot = shiftBy K (entry (getD rows i noRow) (column i))
+
+        term : ℤ → ℕ → ℤ
+        term x k = eval (S k K) x *ℤ eval (entry (getD rows k noRow) (column i)) (x +ℤ K)
+
+        others : (x : ℤ) (k : ℕ) → k < length rows → k ≢ i → term x k ≡ pos 0
+        others x k b n = by-cases (decLt k i)
+            (λ m. rw (eval-isZero (S k K) x (earlier k m)) (zero-*ℤ (eval (entry (getD rows k noRow) (column i)) (x +ℤ K))))
+            (λ m. rw (eval-isZero (entry (getD rows k noRow) (column i)) (x +ℤ K) (zeros k i b (omega arith))) (*ℤ-zero (eval (S k K) x)))
+
+        product-zero : T (isZero (mul (S i K) pivot))
+        product-zero = zero-everywhere (mul (S i K) pivot) .1 (λ x. eval-mul (S i K) pivot x ∙ ap (λ e. eval (S i K) x *ℤ e) (eval-shiftBy K (entry (getD rows i noRow) (column i)) x)
+            ∙ sym (sumBelow-single (length rows) i (term x) h (others x)) ∙ leading-sum J below clear (column i) x)
+
+        product-nonzero : ¬ T (isZero (S i K)) → T (not (isZero (mul (S i K) pivot)))
+        product-nonzero n =
+            mul-nonzero (S i K) pivot (not-T (isZero (S i K)) n) (rw (isZero-shiftBy K (entry (getD rows i noRow) (column i))) (diagonal i h))
+
+    first-clear : (i : ℕ) → i ≤ length rows → (k : ℕ) → k < i → T (isZero (S k (shiftAt J)))
+    first-clear zero h k b = absurd (not-suc-le-zero b)
+    first-clear (suc i) h k b = last (first-clear i (omega arith))
+      where
+        last : ((a : ℕ) → a < i → T (isZero (S a (shiftAt J)))) → T (isZero (S k (shiftAt J)))
+        last earlier = by-cases (decLt k i) (earlier k) (λ m. subst (λ a. T (isZero (S a (shiftAt J)))) (same m) (next-clear i h earlier))
+          where
+            same : ¬ (k < i) → i ≡ k
+            same m = omega arith
+
+  -- From the highest shift down, all multipliers are zero.
+  all-clear : (t J : ℕ) → N + N < J + t → J < suc (N + N) → (i : ℕ) → i < length rows → T (isZero (S i (shiftAt J)))
+  unfolding ClearAbove
+  all-clear zero J p b i h = absurd (omega arith)
+  all-clear (suc t) J p b i h =
+      first-clear J b (λ I above inside k below. all-clear t I (omega arith) inside k below) (length rows) (le-refl (length rows)) i h
+
+-- "row j is zero at columns c(1) to c(j - 1) and nonzero at c(j)": then no nonzero combination vanishes.
+pub triangular-independent : (l : ℤ) (rows : List Row) (column : ℕ → ℕ)
+    → ((j k : ℕ) → j < length rows → k < j → T (isZero (entry (getD rows j noRow) (column k))))
+    → ((j : ℕ) → j < length rows → T (not (isZero (entry (getD rows j noRow) (column j)))))
+    → Dependent l rows → ⊥
+unfolding shiftAt
+triangular-independent l rows column zeros diagonal D =
+    let (j, below, e) = place-of N (D .shift) (D .shift-within) in
+    T-not (isZero (S (D .number) (D .shift))) (D .nonzero) (subst (λ k. T (isZero (S (D .number) k))) e
+    (all-clear l rows column zeros diagonal N S (combination-zero l rows N S (D .vanishes)) (suc (N + N)) j (omega arith) below (D .number) (D .number-below)))
+  where
+    N : ℕ
+    N = D .reach
+
+    S : ℕ → ℤ → Polynomial
+    S = D .multiplier
