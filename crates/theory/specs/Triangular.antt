@@ -10,10 +10,10 @@
 --   order-distinct           the columns of the settled rows are different
 --   order-complete           with m settled rows and m columns in use, every column belongs to a settled row
 --   combined-clears          the row that a combination with row j makes is zero at the columns of rows 1 to j
-use Prim.Native.Nat.{ℕ, zero, suc, _≤_, _<_, zero-le}
+use Prim.Native.Nat.{ℕ, suc, _≤_, _<_, zero-le}
 use mathlib.Core.Path.{_≡_, refl, sym, _∙_, ap, subst}
-use mathlib.Core.Logic.{_≢_, _⊎_, inl, inr}
-use mathlib.Core.Bool.{Bool, true, false, not}
+use mathlib.Core.Logic.{_≢_}
+use mathlib.Core.Bool.{not}
 use mathlib.Core.List.{List, [], _∷_, _++_, List·Memᴰ, List·Memᴰ·head, List·Memᴰ·tail}
 use mathlib.Core.Option.{some}
 use native.Mathlib.Nat.{not-suc-le-zero, zero-lt-suc, suc-le-suc-iff}
@@ -23,13 +23,13 @@ use native.Mathlib.Omega.{arith}
 use lib.Dec.{T, T-not}
 use lib.ListN.{length, getD, length-append, List·getD-append}
 use lib.Seq.{getD-append-seam}
-use Rattle.algebra.specs.Polynomials.{Polynomial, isZero}
+use Rattle.algebra.specs.Polynomials.{isZero}
 use Rattle.algebra.specs.Pigeonhole.{Distinct, pigeonhole}
 use Rattle.rules.specs.Rows.{Row, Relation, noRow, All, entry, leadingBlock, firstNonzero}
-use Rattle.rules.specs.Elimination.{Side, State, start, rowAt, putRow, listRelations, settle, countShift}
+use Rattle.rules.specs.Elimination.{Side, State, start, rowAt, putRow, settle, countShift}
 use Rattle.theory.specs.Lists.{all-getD}
 use Rattle.theory.specs.Steps.{current, met, MetZeroBelow, exchanged, listed, Stepped, combined, settled, shifted, Chain, chain-induction}
-use Rattle.theory.specs.Steps.{rowAt-putRow-other, rowAt-listRelations, rowAt-countShift, stepped-length, listed-order, length-putRow, length-narrowFirst, order-narrowFirst, rowAt-narrowFirst-other, narrowFirst-both, firstNonzero-some}
+use Rattle.theory.specs.Steps.{rowAt-putRow-other, rowAt-listRelations, rowAt-countShift, stepped-length, listed-order, length-putRow, rowAt-narrowFirst-other, narrowFirst-both, firstNonzero-some}
 
 abbrev pub column : State → ℕ → ℕ
 column s k = getD (s .order) k 0
