@@ -2,7 +2,7 @@
 --
 -- Main statements
 use mathlib.Core.Path.{_≡_, refl, sym, _∙_, ap, ap₂, subst}
-use mathlib.Core.Logic.{_≢_, _↔_, by-cases}
+use mathlib.Core.Logic.{_≢_, _↔_, Iff·symm, Iff·trans, by-cases}
 use mathlib.Core.Bool.{Bool, true, false, not}
 use mathlib.Core.List.{List, [], _∷_, _++_, map, flatten}
 use Prim.Native.Nat.{ℕ, zero, suc, _+_, _-_, _≤_, _<_, zero-le}
@@ -11,7 +11,8 @@ use native.Mathlib.Decide.{decLt}
 use native.Mathlib.Numerals.{add-one}
 use native.Mathlib.Omega.{arith}
 use lib.Dec.{T, T-not, not-T}
-use lib.ListN.{length, getD, length-append, List·getD-eq-default, List·getD-map}
+use lib.Seq.{getD-set-same, getD-set-other, lt-length-set}
+use lib.ListN.{length, getD, set, length-append, length-set, List·getD-eq-default, List·getD-map}
 use lib.IntN.{ℤ, pos, negsuc, negℤ, natAbs, predℤ, _+ℤ_, _-ℤ_, _*ℤ_, +ℤ-idl, +ℤ-idr, +ℤ-assoc, +ℤ-comm, zero-*ℤ, *ℤ-zero, *ℤ-comm, -ℤ-one, +ℤ-negℤ-cancel, +ℤ-invr}
 use Rattle.algebra.specs.Integers.{ringℤ}
 use Rattle.algebra.specs.Order.{≤ℤ-witness, natAbs-≤-iff}
@@ -19,10 +20,11 @@ use Rattle.algebra.specs.Sums.{range, sum, sum-congr, sum-exchange, sumBelow, s
 use Rattle.algebra.specs.Polynomials.{Polynomial, eval, isZero, add, mul, shiftBy, eval-add, eval-mul, eval-shiftBy, eval-isZero, isZero-shiftBy}
 use Rattle.algebra.specs.Coefficients.{mul-nonzero}
 use Rattle.algebra.specs.Vanishing.{zero-everywhere}
-use Rattle.rules.specs.Rows.{Block, Row, noRow, leadingBlock, entry}
+use Rattle.rules.specs.Rows.{Block, Row, noRow, zeroBlock, zeroRow, leadingBlock, entry, shiftUp}
 use Rattle.rules.specs.Sequences.{Sequence, blockValue, blocksValue, valueOf, blockFrom, polynomialAt, copyAt, addAll, shiftsWithin, combinationAt, Dependent}
 use Rattle.theory.specs.Values.{delta, value-delta, value-combined, value-zero, value-shiftUp}
 use Rattle.theory.specs.Combinations.{cancel-common, dec-T, Values, sumWithin, sumWithin-below, place-of, copies, combinationValue, combination-congr, combination-sum, combination-scale, DependentValues}
+use Rattle.theory.specs.Combinations.{combined-forward, combined-back, shifted-forward, shifted-back, exchanged-dependent, zero-dependent}
 
 -- ---- the value of a row as a sum over a window of indices and columns
 
@@ -443,3 +445,76 @@ triangular-independent l rows column zeros diagonal D =
 
     S : ℕ → ℤ → Polynomial
     S = D .multiplier
+
+-- ---- each change of a list of rows
+
+-- The number of rows given apart.
+counted-values : (l : ℤ) (rows : List Row) (m : ℕ) → length rows ≡ m → Dependent l rows ↔ DependentValues m (rowValues l rows)
+counted-values l rows m e = subst (λ n. Dependent l rows ↔ DependentValues n (rowValues l rows)) e (dependent-values l rows)
+
+-- A change that keeps the number of rows, by its values.
+by-values : (l : ℤ) (rows rows' : List Row) → length rows' ≡ length rows
+    → DependentValues (length rows) (rowValues l rows) ↔ DependentValues (length rows) (rowValues l rows')
+    → Dependent l rows ↔ Dependent l rows'
+by-values l rows rows' e change =
+    Iff·trans (dependent-values l rows) (Iff·trans change (Iff·symm (counted-values l rows' (length rows) e)))
+
+module _ (l : ℤ) (rows : List Row) where
+  same-elsewhere : (i : ℕ) (r : Row) (z : Sequence) (k : ℕ) (n : ℤ) → k ≢ i → rowValues l (set rows i r) z k n ≡ rowValues l rows z k n
+  same-elsewhere i r z k n d = ap (λ q. valueOf l q z n) (getD-set-other rows i k r noRow d)
+
+  new-row : (i : ℕ) (r : Row) → i < length rows → (z : Sequence) (n : ℤ) → rowValues l (set rows i r) z i n ≡ valueOf l r z n
+  new-row i r h z n = ap (λ q. valueOf l q z n) (getD-set-same rows i r noRow h)
+
+  pub combine-dependent : (g h : Polynomial) (d i j : ℕ) (r : Row) → i < length rows → j < length rows → i ≢ j → T (not (isZero g)) → 0 < d
+      → ((z : Sequence) (n : ℤ) → pos d *ℤ valueOf l r z n ≡ eval g n *ℤ valueOf l (getD rows i noRow) z n +ℤ eval h n *ℤ valueOf l (getD rows j noRow) z n)
+      → Dependent l rows ↔ Dependent l (set rows i r)
+  combine-dependent g h d i j r i-below j-below apart nonzero positive value =
+      by-values l rows (set rows i r) (length-set rows i r) (
+        combined-forward (length rows) i j (rowValues l rows) (rowValues l (set rows i r)) i-below j-below apart (same-elsewhere i r) d positive g h nonzero law,
+        combined-back (length rows) i j (rowValues l rows) (rowValues l (set rows i r)) i-below j-below apart (same-elsewhere i r) d positive g h nonzero law,
+      )
+    where
+      law : (z : Sequence) (n : ℤ)
+          → pos d *ℤ rowValues l (set rows i r) z i n ≡ eval g n *ℤ rowValues l rows z i n +ℤ eval h n *ℤ rowValues l rows z j n
+      law z n = ap (λ v. pos d *ℤ v) (new-row i r i-below z n) ∙ value z n
+
+  pub shift-dependent : (i : ℕ) → i < length rows → T (zeroBlock (leadingBlock (getD rows i noRow)))
+      → Dependent l rows ↔ Dependent l (set rows i (shiftUp (getD rows i noRow)))
+  shift-dependent i below zeros =
+      by-values l rows (set rows i r) (length-set rows i r) (
+        shifted-forward (length rows) i (rowValues l rows) (rowValues l (set rows i r)) at-i (same-elsewhere i r),
+        shifted-back (length rows) i (rowValues l rows) (rowValues l (set rows i r)) at-i (same-elsewhere i r),
+      )
+    where
+      r : Row
+      r = shiftUp (getD rows i noRow)
+
+      at-i : (z : Sequence) (n : ℤ) → rowValues l (set rows i r) z i n ≡ rowValues l rows z i (n +ℤ pos 1)
+      at-i z n = new-row i r below z n ∙ value-shiftUp l (getD rows i noRow) z n zeros
+
+  pub exchange-dependent : (i j : ℕ) → i < length rows → j < length rows → i ≢ j
+      → Dependent l rows ↔ Dependent l (set (set rows j (getD rows i noRow)) i (getD rows j noRow))
+  exchange-dependent i j i-below j-below apart =
+      by-values l rows rows' (length-set (set rows j (getD rows i noRow)) i (getD rows j noRow) ∙ length-set rows j (getD rows i noRow)) (
+        exchanged-dependent i j apart (length rows) (rowValues l rows) (rowValues l rows') i-below j-below
+        (λ z n. at-i z n) (λ z n. at-j z n) (λ z k n c o. others z k n c o),
+        exchanged-dependent i j apart (length rows) (rowValues l rows') (rowValues l rows) i-below j-below
+        (λ z n. sym (at-j z n)) (λ z n. sym (at-i z n)) (λ z k n c o. sym (others z k n c o)),
+      )
+    where
+      rows' : List Row
+      rows' = set (set rows j (getD rows i noRow)) i (getD rows j noRow)
+
+      at-i : (z : Sequence) (n : ℤ) → rowValues l rows' z i n ≡ rowValues l rows z j n
+      at-i z n = ap (λ q. valueOf l q z n) (getD-set-same (set rows j (getD rows i noRow)) i (getD rows j noRow) noRow (lt-length-set rows j (getD rows i noRow) i-below))
+
+      at-j : (z : Sequence) (n : ℤ) → rowValues l rows' z j n ≡ rowValues l rows z i n
+      at-j z n = ap (λ q. valueOf l q z n) (getD-set-other (set rows j (getD rows i noRow)) i j (getD rows j noRow) noRow (λ e. apart (sym e)) ∙ getD-set-same rows j (getD rows i noRow) noRow j-below)
+
+      others : (z : Sequence) (k : ℕ) (n : ℤ) → k ≢ i → k ≢ j → rowValues l rows' z k n ≡ rowValues l rows z k n
+      others z k n c o = ap (λ q. valueOf l q z n) (getD-set-other (set rows j (getD rows i noRow)) i k (getD rows j noRow) noRow c ∙ getD-set-other rows j k (getD rows i noRow) noRow o)
+
+  pub zero-row-dependent : (i : ℕ) → i < length rows → T (zeroRow (getD rows i noRow)) → Dependent l rows
+  zero-row-dependent i below zeros =
+      dependent-values l rows .1 (zero-dependent (length rows) i (rowValues l rows) below (λ z n. value-zero l (getD rows i noRow) z n zeros))
