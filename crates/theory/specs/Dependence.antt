@@ -2,8 +2,9 @@
 --
 -- Main statements
 use mathlib.Core.Path.{_≡_, refl, sym, _∙_, ap, ap₂, subst}
-use mathlib.Core.Logic.{_≢_, _↔_, Iff·symm, Iff·trans, by-cases}
+use mathlib.Core.Logic.{_≢_, _↔_, Iff·rfl, Iff·symm, Iff·trans, by-cases}
 use mathlib.Core.Bool.{Bool, true, false, not}
+use mathlib.Core.Option.{none}
 use mathlib.Core.List.{List, [], _∷_, _++_, map, flatten}
 use Prim.Native.Nat.{ℕ, zero, suc, _+_, _-_, _≤_, _<_, zero-le}
 use native.Mathlib.Nat.{le-refl, le-trans, not-suc-le-zero}
@@ -20,10 +21,17 @@ use Rattle.algebra.specs.Sums.{range, sum, sum-congr, sum-exchange, sumBelow, s
 use Rattle.algebra.specs.Polynomials.{Polynomial, eval, isZero, add, mul, shiftBy, eval-add, eval-mul, eval-shiftBy, eval-isZero, isZero-shiftBy}
 use Rattle.algebra.specs.Coefficients.{mul-nonzero}
 use Rattle.algebra.specs.Vanishing.{zero-everywhere}
-use Rattle.rules.specs.Rows.{Block, Row, noRow, zeroBlock, zeroRow, leadingBlock, entry, shiftUp}
+use Rattle.rules.specs.Rows.{Block, Row, noRow, All, zeroBlock, zeroRow, leadingBlock, entry, firstNonzero, shiftUp}
+use Rattle.rules.specs.Elimination.{Side, State, done, refused, within, limitDegrees, limitCoefficients, rowAt, putRow, listRelations, settle, countShift, exchange, narrowFirst, run}
+use Rattle.rules.specs.Stores.{StoreRow}
 use Rattle.rules.specs.Sequences.{Sequence, blockValue, blocksValue, valueOf, blockFrom, polynomialAt, copyAt, addAll, shiftsWithin, combinationAt, Dependent}
 use Rattle.theory.specs.Values.{delta, value-delta, value-combined, value-zero, value-shiftUp}
 use Rattle.theory.specs.Combinations.{cancel-common, dec-T, Values, sumWithin, sumWithin-below, place-of, copies, combinationValue, combination-congr, combination-sum, combination-scale, DependentValues}
+use Rattle.theory.specs.Steps.{current, met, exchanged, multipliersFor, listed, combination, Stepped, combined, settled, shifted, Chain, here, next}
+use Rattle.theory.specs.Steps.{Narrowed, kept, swapped, narrowed, length-narrowFirst, limitCoefficients-within, step-refused-6, run-refused, run-done}
+use Rattle.theory.specs.Triangular.{Triangular, column, triangular-chain}
+use Rattle.theory.specs.Shapes.{StateShaped, chain-shapes}
+use Rattle.theory.specs.Solutions.{combined-value, multipliersFor-nonzero, shifted-zeros}
 use Rattle.theory.specs.Combinations.{combined-forward, combined-back, shifted-forward, shifted-back, exchanged-dependent, zero-dependent}
 
 -- ---- the value of a row as a sum over a window of indices and columns
@@ -518,3 +526,74 @@ module _ (l : ℤ) (rows : List Row) where
   pub zero-row-dependent : (i : ℕ) → i < length rows → T (zeroRow (getD rows i noRow)) → Dependent l rows
   zero-row-dependent i below zeros =
       dependent-values l rows .1 (zero-dependent (length rows) i (rowValues l rows) below (λ z n. value-zero l (getD rows i noRow) z n zeros))
+
+-- ---- one step, and chains of steps
+
+module _ (l : ℤ) where
+  -- With or without the exchange of rule 2.
+  narrowed-dependent : (s : State) (i j : ℕ) → i < length (s .rows) → j < length (s .rows) → i ≢ j
+      → Dependent l (s .rows) ↔ Dependent l (narrowFirst s i j .rows)
+  unfolding exchange putRow rowAt
+  narrowed-dependent s i j i-below j-below apart = go (narrowed s i j)
+    where
+      go : {e : State} → Narrowed s i j e → Dependent l (s .rows) ↔ Dependent l (e .rows)
+      go (kept w) = Iff·rfl
+      go (swapped w) = exchange-dependent l (s .rows) i j i-below j-below apart
+
+  combined-dependent : (side : Side) (s : State) (j : ℕ) (r : Row) → All StoreRow (s .rows) → Triangular s → j < current s → current s < length (s .rows)
+      → T (not (isZero (met s j))) → limitDegrees (combination s j) ≡ within r
+      → Dependent l (exchanged s j .rows) ↔ Dependent l (putRow (listed side s j) (current s) r .rows)
+  unfolding putRow listRelations rowAt
+  combined-dependent side s j r shapes t before below meets e =
+      let value = combined-value s j r shapes before below e in
+      combine-dependent l (exchanged s j .rows) (multipliersFor s j .g) (multipliersFor s j .h) (value .0) (current s) j r
+      (omega (arith, length-narrowFirst s (current s) j)) (omega (arith, length-narrowFirst s (current s) j)) (omega arith)
+      (multipliersFor-nonzero s j t before below meets) (value .1) (value .2 l)
+
+  shifted-dependent : (s : State) (r : Row) → current s < length (s .rows) → firstNonzero (leadingBlock (rowAt s (current s))) ≡ none
+      → limitCoefficients (shiftUp (rowAt s (current s))) ≡ within r
+      → Dependent l (s .rows) ↔ Dependent l (set (s .rows) (current s) r)
+  unfolding rowAt
+  shifted-dependent s r below f e =
+      subst (λ q. Dependent l (s .rows) ↔ Dependent l (set (s .rows) (current s) q)) (sym (limitCoefficients-within (shiftUp (rowAt s (current s))) r e .1))
+      (shift-dependent l (s .rows) (current s) below (shifted-zeros s f))
+
+  -- A step keeps dependence, and independence.
+  pub stepped-dependent : {side : Side} {s s' : State} → StateShaped s → Triangular s → Stepped side s s'
+      → Dependent l (s .rows) ↔ Dependent l (s' .rows)
+  unfolding putRow settle countShift
+  stepped-dependent {side} {s} shaped t (combined j before below nonzero clear meets few r e) =
+      Iff·trans (narrowed-dependent s (current s) j below (omega arith) (omega arith))
+      (combined-dependent side s j r (shaped .row-shapes) t before below meets e)
+  stepped-dependent shaped t (settled c below nonzero clear e) = Iff·rfl
+  stepped-dependent {s} shaped t (shifted r below nonzero clear f e) = shifted-dependent s r below f e
+
+  pub chain-dependent : {side : Side} {s s' : State} {k : ℕ} → StateShaped s → Triangular s → Chain side s k s'
+      → Dependent l (s .rows) ↔ Dependent l (s' .rows)
+  chain-dependent shaped t here = Iff·rfl
+  chain-dependent shaped t (next c u) = Iff·trans (chain-dependent shaped t c) (stepped-dependent (chain-shapes c shaped) (triangular-chain c t) u)
+
+  -- A state all of whose rows are settled is independent.
+  pub settled-independent : (s : State) → Triangular s → length (s .rows) ≤ current s → Dependent l (s .rows) → ⊥
+  unfolding rowAt
+  settled-independent s t all =
+      triangular-independent l (s .rows) (column s) (λ j k h b. t .pivots j (omega arith) .zeros k b) (λ j h. t .pivots j (omega arith) .diagonal)
+
+  -- A state whose current row is zero is dependent.
+  pub zero-current-dependent : (s : State) → current s < length (s .rows) → T (zeroRow (rowAt s (current s))) → Dependent l (s .rows)
+  unfolding rowAt
+  zero-current-dependent s below zeros = zero-row-dependent l (s .rows) (current s) below zeros
+
+  module _ (side : Side) (k : ℕ) (s : State) (shaped : StateShaped s) (t : Triangular s) where
+    -- "refusal 6: dependent"
+    pub refused-dependent : run side k s ≡ refused 6 → Dependent l (s .rows)
+    refused-dependent e =
+        let (j, u, c, f) = run-refused side k s 6 e in
+        let (below, zeros) = step-refused-6 side u f in
+        chain-dependent shaped t c .1 (zero-current-dependent u below zeros)
+
+    -- An accepted system is not dependent.
+    pub done-independent : (s' : State) → run side k s ≡ done s' → Dependent l (s .rows) → ⊥
+    done-independent s' e d =
+        let (j, c, all) = run-done side k s s' e in
+        settled-independent s' (triangular-chain c t) all (chain-dependent shaped t c .0 d)
