@@ -59,16 +59,16 @@ sumBelow-apart m i f h =
     parts : (k : ℕ) → f k ≡ put i (f i) (λ _. pos 0) k +ℤ put i (pos 0) f k
     parts k = by-cases (ℕ-discrete k i)
         (λ e. rw e (rw (put-same i (f i) (λ _. pos 0), put-same i (pos 0) f) (sym (+ℤ-idr (f i)))))
-        (λ n. rw (put-other i (f i) (λ _. pos 0) k n, put-other i (pos 0) f k n) (sym (+ℤ-idl (f k))))
+        (λ n. sym (ap₂ (λ a b. a +ℤ b) (put-other i _ _ k n) (put-other i _ _ k n) ∙ +ℤ-idl (f k)))
 
     alone : sumBelow m (put i (f i) (λ _. pos 0)) ≡ f i
-    alone = sumBelow-single m i (put i (f i) (λ _. pos 0)) h (λ k _ n. put-other i (f i) (λ _. pos 0) k n) ∙ put-same i (f i) (λ _. pos 0)
+    alone = sumBelow-single m i _ h (λ k _ n. put-other i _ _ k n) ∙ put-same i _ _
 
 sumBelow-apart-two : (m i j : ℕ) (f : ℕ → ℤ) → i < m → j < m → i ≢ j
     → sumBelow m f ≡ f i +ℤ f j +ℤ sumBelow m (put j (pos 0) (put i (pos 0) f))
 sumBelow-apart-two m i j f p q n =
     sumBelow-apart m i f p
-    ∙ ap (λ s. f i +ℤ s) (sumBelow-apart m j (put i (pos 0) f) q ∙ ap (λ a. a +ℤ rest) (put-other i (pos 0) f j (λ e. n (sym e))))
+    ∙ ap (λ s. f i +ℤ s) (sumBelow-apart m j (put i (pos 0) f) q ∙ ap (λ a. a +ℤ rest) (put-other i _ _ j (λ e. n (sym e))))
     ∙ sym (+ℤ-assoc (f i) (f j) rest)
   where
     rest : ℤ
@@ -86,10 +86,10 @@ sumBelow-pair m i j f g p q n two others =
 
     same : (k : ℕ) → rest f k ≡ rest g k
     same k = by-cases (ℕ-discrete k j)
-        (λ e. rw e (put-same j (pos 0) (put i (pos 0) f) ∙ sym (put-same j (pos 0) (put i (pos 0) g))))
-        (λ d. rw (put-other j (pos 0) (put i (pos 0) f) k d, put-other j (pos 0) (put i (pos 0) g) k d) (by-cases (ℕ-discrete k i)
-        (λ e. rw e (put-same i (pos 0) f ∙ sym (put-same i (pos 0) g)))
-        (λ c. rw (put-other i (pos 0) f k c, put-other i (pos 0) g k c) (others k c d))))
+        (λ e. rw e (put-same j _ _ ∙ sym (put-same j _ _)))
+        (λ d. put-other j _ _ k d ∙ by-cases (ℕ-discrete k i)
+        (λ e. rw e (put-same i _ _ ∙ sym (put-same i _ _)))
+        (λ c. put-other i _ _ k c ∙ others k c d ∙ sym (put-other i _ _ k c)) ∙ sym (put-other j _ _ k d))
 
 -- ---- sums over the shifts from -N to N
 
@@ -121,19 +121,20 @@ later a N = ap (λ k. k -ℤ pos N) (pos-suc a) ∙ swap (pos a) (pos 1) (pos N)
     swap : (a b c : ℤ) → a +ℤ b -ℤ c ≡ a -ℤ c +ℤ b
     swap a b c = simp ringℤ
 
--- The shift at a place is within the reach, and every shift within the reach has a place.
-pub place-within : (N j : ℕ) → j < suc (N + N) → natAbs (pos j -ℤ pos N) ≤ N
-place-within N j h =
-    natAbs-≤-iff (pos j -ℤ pos N) .1 (≤ℤ-intro j (+ℤ-comm (negℤ (pos N)) (pos j)), ≤ℤ-intro (N + N - j) upper)
+-- The shift at place j is j - N: from there 2N - j steps lead to N.
+pub place-rest : (N j : ℕ) → j < suc (N + N) → pos j -ℤ pos N +ℤ pos (N + N - j) ≡ pos N
+place-rest N j h = regroup (pos j) (pos N) (pos (N + N - j)) ∙ ap (λ k. pos k -ℤ pos N) whole ∙ +ℤ-negℤ-cancel (pos N) (pos N)
   where
-    upper : pos j -ℤ pos N +ℤ pos (N + N - j) ≡ pos N
-    upper = regroup (pos j) (pos N) (pos (N + N - j)) ∙ ap (λ k. pos k -ℤ pos N) whole ∙ +ℤ-negℤ-cancel (pos N) (pos N)
-      where
-        regroup : (a b c : ℤ) → a -ℤ b +ℤ c ≡ a +ℤ c -ℤ b
-        regroup a b c = simp ringℤ
+    regroup : (a b c : ℤ) → a -ℤ b +ℤ c ≡ a +ℤ c -ℤ b
+    regroup a b c = simp ringℤ
 
-        whole : j + (N + N - j) ≡ N + N
-        whole = omega arith
+    whole : j + (N + N - j) ≡ N + N
+    whole = omega arith
+
+-- The shift at a place is within the reach, and every shift within the reach has a place.
+place-within : (N j : ℕ) → j < suc (N + N) → natAbs (pos j -ℤ pos N) ≤ N
+place-within N j h =
+    natAbs-≤-iff (pos j -ℤ pos N) .1 (≤ℤ-intro j (+ℤ-comm (negℤ (pos N)) (pos j)), ≤ℤ-intro (N + N - j) (place-rest N j h))
 
 pub place-of : (N : ℕ) (k : ℤ) → natAbs k ≤ N → (j : ℕ) × (j < suc (N + N)) × (pos j -ℤ pos N ≡ k)
 place-of N k h =
@@ -162,7 +163,7 @@ sumWithin-*ℤ : (N : ℕ) (c : ℤ) (f : ℤ → ℤ) → sumWithin N (λ k. c 
 unfolding sumWithin
 sumWithin-*ℤ N c f = sum-*ℤ c f (shiftsWithin N)
 
-pub sumWithin-zeros : (N : ℕ) (f : ℤ → ℤ) → ((k : ℤ) → natAbs k ≤ N → f k ≡ pos 0) → sumWithin N f ≡ pos 0
+sumWithin-zeros : (N : ℕ) (f : ℤ → ℤ) → ((k : ℤ) → natAbs k ≤ N → f k ≡ pos 0) → sumWithin N f ≡ pos 0
 unfolding sumWithin
 sumWithin-zeros N f h = sumWithin-congr N h ∙ sum-zero (shiftsWithin N)
 
@@ -600,7 +601,7 @@ module _ (i j : ℕ) (apart : i ≢ j) where
 
 -- ---- the reach
 
-eval-nil : (x : ℤ) → eval [] x ≡ pos 0
+pub eval-nil : (x : ℤ) → eval [] x ≡ pos 0
 unfolding eval
 eval-nil x = refl
 

@@ -1,9 +1,20 @@
 -- Dependence of rows: by their coefficients and by their values, and through the steps of the elimination.
 --
+-- Main definitions
+--   rowValues l rows         the values of the rows of a list, as equations
+--
 -- Main statements
+--   eval-combination         the value of a combination's polynomial is the combination at a sequence with one nonzero value
+--   dependent-values         rows are dependent exactly if they are by their values
+--   triangular-independent   rows with a triangular leading block and a nonzero diagonal are independent
+--   exchange-dependent, combine-dependent, shift-dependent   each change keeps dependence and independence
+--   zero-row-dependent       rows with a zero row are dependent
+--   stepped-dependent, chain-dependent   steps keep dependence and independence
+--   settled-independent, zero-current-dependent   all rows settled: independent; the current row zero: dependent
+--   refused-dependent, done-independent   a run that refuses with 6 began with dependent rows, one that is done did not
 use mathlib.Core.Path.{_≡_, refl, sym, _∙_, ap, ap₂, subst}
 use mathlib.Core.Logic.{_≢_, _↔_, Iff·rfl, Iff·symm, Iff·trans, by-cases}
-use mathlib.Core.Bool.{Bool, true, false, not}
+use mathlib.Core.Bool.{not}
 use mathlib.Core.Option.{none}
 use mathlib.Core.List.{List, [], _∷_, _++_, map, flatten}
 use Prim.Native.Nat.{ℕ, zero, suc, _+_, _-_, _≤_, _<_, zero-le}
@@ -14,42 +25,47 @@ use native.Mathlib.Omega.{arith}
 use lib.Dec.{T, T-not, not-T}
 use lib.Seq.{getD-set-same, getD-set-other, lt-length-set}
 use lib.ListN.{length, getD, set, length-append, length-set, List·getD-eq-default, List·getD-map}
-use lib.IntN.{ℤ, pos, negsuc, negℤ, natAbs, predℤ, _+ℤ_, _-ℤ_, _*ℤ_, +ℤ-idl, +ℤ-idr, +ℤ-assoc, +ℤ-comm, zero-*ℤ, *ℤ-zero, *ℤ-comm, -ℤ-one, +ℤ-negℤ-cancel, +ℤ-invr}
+use lib.IntN.{ℤ, pos, negsuc, negℤ, natAbs, predℤ, _+ℤ_, _-ℤ_, _*ℤ_, +ℤ-idl, +ℤ-idr, +ℤ-assoc, +ℤ-comm, +ℤ-invr}
+use lib.IntN.{zero-*ℤ, *ℤ-zero, *ℤ-comm, -ℤ-one, +ℤ-negℤ-cancel}
 use Rattle.algebra.specs.Integers.{ringℤ}
-use Rattle.algebra.specs.Order.{≤ℤ-witness, natAbs-≤-iff}
-use Rattle.algebra.specs.Sums.{range, sum, sum-congr, sum-exchange, sumBelow, sumBelow-congr, sumBelow-*ℤ, sumBelow-exchange, sumBelow-front, sumBelow-append, sumBelow-extend, sumBelow-zeros, sumBelow-single}
-use Rattle.algebra.specs.Polynomials.{Polynomial, eval, isZero, add, mul, shiftBy, eval-add, eval-mul, eval-shiftBy, eval-isZero, isZero-shiftBy}
+use Rattle.algebra.specs.Sums.{range, sum, sum-congr, sumBelow, sumBelow-congr, sumBelow-front, sumBelow-append, sumBelow-extend}
+use Rattle.algebra.specs.Sums.{sumBelow-zeros, sumBelow-single}
+use Rattle.algebra.specs.Polynomials.{Polynomial, eval, isZero, mul, shiftBy, eval-add, eval-mul, eval-shiftBy, eval-isZero}
+use Rattle.algebra.specs.Polynomials.{isZero-shiftBy}
 use Rattle.algebra.specs.Coefficients.{mul-nonzero}
 use Rattle.algebra.specs.Vanishing.{zero-everywhere}
 use Rattle.rules.specs.Rows.{Block, Row, noRow, All, zeroBlock, zeroRow, leadingBlock, entry, firstNonzero, shiftUp}
-use Rattle.rules.specs.Elimination.{Side, State, done, refused, within, limitDegrees, limitCoefficients, rowAt, putRow, listRelations, settle, countShift, exchange, narrowFirst, run}
+use Rattle.rules.specs.Elimination.{Side, State, done, refused, within, limitDegrees, limitCoefficients, rowAt, putRow}
+use Rattle.rules.specs.Elimination.{listRelations, settle, countShift, exchange, narrowFirst, run}
 use Rattle.rules.specs.Stores.{StoreRow}
-use Rattle.rules.specs.Sequences.{Sequence, blockValue, blocksValue, valueOf, blockFrom, polynomialAt, copyAt, addAll, shiftsWithin, combinationAt, Dependent}
-use Rattle.theory.specs.Values.{delta, value-delta, value-combined, value-zero, value-shiftUp}
-use Rattle.theory.specs.Combinations.{cancel-common, dec-T, Values, sumWithin, sumWithin-below, place-of, copies, combinationValue, combination-congr, combination-sum, combination-scale, DependentValues}
-use Rattle.theory.specs.Steps.{current, met, exchanged, multipliersFor, listed, combination, Stepped, combined, settled, shifted, Chain, here, next}
-use Rattle.theory.specs.Steps.{Narrowed, kept, swapped, narrowed, length-narrowFirst, limitCoefficients-within, step-refused-6, run-refused, run-done}
+use Rattle.rules.specs.Sequences.{Sequence, blockValue, blocksValue, valueOf, blockFrom, polynomialAt, addAll, shiftsWithin}
+use Rattle.rules.specs.Sequences.{combinationAt, Dependent}
+use Rattle.theory.specs.Steps.{current, met, exchanged, multipliersFor, listed, combination, Stepped, combined, settled, shifted}
+use Rattle.theory.specs.Steps.{Chain, here, next, Narrowed, kept, swapped, narrowed, length-narrowFirst}
+use Rattle.theory.specs.Steps.{limitCoefficients-within, step-refused-6, run-refused, run-done}
 use Rattle.theory.specs.Triangular.{Triangular, column, triangular-chain}
 use Rattle.theory.specs.Shapes.{StateShaped, chain-shapes}
+use Rattle.theory.specs.Values.{delta, value-delta, value-zero, value-shiftUp}
 use Rattle.theory.specs.Solutions.{combined-value, multipliersFor-nonzero, shifted-zeros}
-use Rattle.theory.specs.Combinations.{combined-forward, combined-back, shifted-forward, shifted-back, exchanged-dependent, zero-dependent}
+use Rattle.theory.specs.Combinations.{cancel-common, dec-T, eval-nil, sumWithin, sumWithin-below, place-rest, place-of}
+use Rattle.theory.specs.Combinations.{Values, Multiplier, copies, combinationValue, combination-congr, combination-sum}
+use Rattle.theory.specs.Combinations.{combination-scale, DependentValues, combined-forward, combined-back, shifted-forward, shifted-back}
+use Rattle.theory.specs.Combinations.{exchanged-dependent, zero-dependent}
 
 -- ---- the value of a row as a sum over a window of indices and columns
-
-eval-nil : (x : ℤ) → eval [] x ≡ pos 0
-unfolding eval
-eval-nil x = refl
 
 block-columns : (n : ℤ) (v : ℕ → ℤ) (b : Block) → blockValue n v b ≡ sumBelow (length b) (λ c. eval (getD b c []) n *ℤ v c)
 unfolding blockValue sumBelow sum range
 block-columns n v [] = refl
 block-columns n v (p ∷ b) =
-    ap (λ s. eval p n *ℤ v 0 +ℤ s) (block-columns n (λ c. v (suc c)) b) ∙ sym (sumBelow-front (length b) (λ c. eval (getD (p ∷ b) c []) n *ℤ v c))
+    ap (λ s. eval p n *ℤ v 0 +ℤ s) (block-columns n (λ c. v (suc c)) b)
+    ∙ sym (sumBelow-front (length b) (λ c. eval (getD (p ∷ b) c []) n *ℤ v c))
 
 -- Columns past a block's end add nothing.
 block-window : (C : ℕ) (n : ℤ) (v : ℕ → ℤ) (b : Block) → length b ≤ C → blockValue n v b ≡ sumBelow C (λ c. eval (getD b c []) n *ℤ v c)
 block-window C n v b h =
-    block-columns n v b ∙ sym (sumBelow-extend (length b) C (λ c. eval (getD b c []) n *ℤ v c) h (λ c p _. rw (List·getD-eq-default b [] p, eval-nil n) (zero-*ℤ (v c))))
+    block-columns n v b
+    ∙ sym (sumBelow-extend (length b) C _ h (λ c p _. rw (List·getD-eq-default b [] p, eval-nil n) (zero-*ℤ (v c))))
 
 blocks-places : (n : ℤ) (z : Sequence) (k : ℤ) (bs : List Block)
     → blocksValue n z k bs ≡ sumBelow (length bs) (λ q. blockValue n (z (k -ℤ pos q)) (getD bs q []))
@@ -57,8 +73,7 @@ unfolding blocksValue sumBelow sum range
 blocks-places n z k [] = refl
 blocks-places n z k (b ∷ bs) =
     ap₂ (λ a s. blockValue n (z a) b +ℤ s) (sym (+ℤ-idr k))
-    (blocks-places n z (predℤ k) bs
-    ∙ sumBelow-congr (length bs) (λ q. blockValue n (z (predℤ k -ℤ pos q)) (getD bs q [])) (λ q. blockValue n (z (k -ℤ pos (suc q))) (getD bs q [])) (λ q _. ap (λ i. blockValue n (z i) (getD bs q [])) (earlier q)))
+    (blocks-places n z (predℤ k) bs ∙ sumBelow-congr (length bs) _ _ (λ q _. ap (λ i. blockValue n (z i) (getD bs q [])) (earlier q)))
     ∙ sym (sumBelow-front (length bs) (λ q. blockValue n (z (k -ℤ pos q)) (getD (b ∷ bs) q [])))
   where
     earlier : (q : ℕ) → predℤ k -ℤ pos q ≡ k -ℤ pos (suc q)
@@ -91,8 +106,9 @@ blocks-window : (W p : ℕ) (n : ℤ) (z : Sequence) (k : ℤ) (bs : List Block)
     → blocksValue n z k bs ≡ sumBelow W (λ q. blockValue n (z (k +ℤ pos p -ℤ pos q)) (blockFrom bs (pos q -ℤ pos p)))
 blocks-window W p n z k bs h =
     blocks-places n z k bs
-    ∙ sumBelow-congr (length bs) (λ q. blockValue n (z (k -ℤ pos q)) (getD bs q [])) (λ q. term (p + q)) (λ q _. ap₂ (λ i b. blockValue n (z i) b) (sym (index (pos p) (pos q))) (sym (block-after bs q p)))
-    ∙ sym (sumBelow-extend (p + length bs) W term h past ∙ sumBelow-append p (length bs) term ∙ ap (λ s. s +ℤ sumBelow (length bs) (λ q. term (p + q))) before ∙ +ℤ-idl (sumBelow (length bs) (λ q. term (p + q))))
+    ∙ sumBelow-congr (length bs) _ _ (λ q _. ap₂ (λ i b. blockValue n (z i) b) (sym (index (pos p) (pos q))) (sym (block-after bs q p)))
+    ∙ sym (sumBelow-extend (p + length bs) W term h past ∙ sumBelow-append p (length bs) term
+    ∙ ap (λ s. s +ℤ sumBelow (length bs) (λ q. term (p + q))) before ∙ +ℤ-idl (sumBelow (length bs) (λ q. term (p + q))))
   where
     term : ℕ → ℤ
     term q = blockValue n (z (k +ℤ pos p -ℤ pos q)) (blockFrom bs (pos q -ℤ pos p))
@@ -101,11 +117,11 @@ blocks-window W p n z k bs h =
     index a b = ap (λ c. k +ℤ a -ℤ c) (+ℤ-comm a b) ∙ cancel-common k b a
 
     before : sumBelow p term ≡ pos 0
-    before = sumBelow-zeros p term (λ q c. block-nil n (z (k +ℤ pos p -ℤ pos q)) (blockFrom bs (pos q -ℤ pos p)) (block-before bs q p c))
+    before = sumBelow-zeros p term (λ q c. block-nil n _ _ (block-before bs q p c))
 
     past : (q : ℕ) → p + length bs ≤ q → q < W → term q ≡ pos 0
     past q c _ =
-        block-nil n (z (k +ℤ pos p -ℤ pos q)) (blockFrom bs (pos q -ℤ pos p))
+        block-nil n _ _
         (ap (λ a. blockFrom bs (pos a -ℤ pos p)) split ∙ block-after bs (q - p) p ∙ List·getD-eq-default bs [] (omega arith))
       where
         split : q ≡ p + (q - p)
@@ -118,43 +134,38 @@ unfolding blockFrom
 blockFrom-length C bs h (pos q) = h q
 blockFrom-length C bs h (negsuc q) = zero-le
 
--- The places of a window from p places above the first block of the row, at n.
-row-expansion : (l : ℤ) (r : Row) (W C p : ℕ) (z : Sequence) (n top : ℤ) → p + length (r .blocks) ≤ W → ((q : ℕ) → length (getD (r .blocks) q []) ≤ C)
-    → n +ℤ l +ℤ pos p ≡ top
+-- The indices of a window from p places above the first block of the row at n down.
+row-expansion : (l : ℤ) (r : Row) (W C p : ℕ) (z : Sequence) (n top : ℤ) → p + length (r .blocks) ≤ W
+    → ((q : ℕ) → length (getD (r .blocks) q []) ≤ C) → n +ℤ l +ℤ pos p ≡ top
     → valueOf l r z n ≡ sumBelow W (λ q. sumBelow C (λ c. z (top -ℤ pos q) c *ℤ valueOf l r (delta (top -ℤ pos q) c) n))
 unfolding valueOf polynomialAt
 row-expansion l r W C p z n top wide columns e =
-    blocks-window W p n z (n +ℤ l) (r .blocks) wide
-    ∙ sumBelow-congr W (λ q. blockValue n (z (n +ℤ l +ℤ pos p -ℤ pos q)) (blockFrom (r .blocks) (pos q -ℤ pos p)))
-    (λ q. sumBelow C (λ c. z (top -ℤ pos q) c *ℤ valueOf l r (delta (top -ℤ pos q) c) n)) (λ q _. at q)
+    blocks-window W p n z (n +ℤ l) (r .blocks) wide ∙ sumBelow-congr W _ _ (λ q _. at q)
   where
-    at : (q : ℕ)
-        → blockValue n (z (n +ℤ l +ℤ pos p -ℤ pos q)) (blockFrom (r .blocks) (pos q -ℤ pos p))
+    block : ℕ → Block
+    block q = blockFrom (r .blocks) (pos q -ℤ pos p)
+
+    cancel : (a b : ℤ) → b -ℤ a ≡ l -ℤ (n +ℤ l +ℤ a -ℤ b -ℤ n)
+    cancel a b = sym (+ℤ-negℤ-cancel (b -ℤ a) l) ∙ right ∙ ap (λ t. l -ℤ t) (sym (+ℤ-negℤ-cancel (l +ℤ a -ℤ b) n) ∙ left)
+      where
+        left : l +ℤ a -ℤ b +ℤ n -ℤ n ≡ n +ℤ l +ℤ a -ℤ b -ℤ n
+        left = simp ringℤ
+
+        right : b -ℤ a +ℤ l -ℤ l ≡ l -ℤ (l +ℤ a -ℤ b)
+        right = simp ringℤ
+
+    place : (q : ℕ) → pos q -ℤ pos p ≡ l -ℤ (top -ℤ pos q -ℤ n)
+    place q = cancel (pos p) (pos q) ∙ ap (λ t. l -ℤ (t -ℤ pos q -ℤ n)) e
+
+    value : (q c : ℕ) → eval (getD (block q) c []) n ≡ valueOf l r (delta (top -ℤ pos q) c) n
+    value q c = ap (λ s. eval (getD (blockFrom (r .blocks) s) c []) n) (place q) ∙ sym (value-delta l r (top -ℤ pos q) c n)
+
+    at : (q : ℕ) → blockValue n (z (n +ℤ l +ℤ pos p -ℤ pos q)) (block q)
         ≡ sumBelow C (λ c. z (top -ℤ pos q) c *ℤ valueOf l r (delta (top -ℤ pos q) c) n)
     at q =
-        ap (λ t. blockValue n (z (t -ℤ pos q)) (blockFrom (r .blocks) (pos q -ℤ pos p))) e
-        ∙ block-window C n (z (top -ℤ pos q)) (blockFrom (r .blocks) (pos q -ℤ pos p)) (blockFrom-length C (r .blocks) columns (pos q -ℤ pos p))
-        ∙ sumBelow-congr C (λ c. eval (getD (blockFrom (r .blocks) (pos q -ℤ pos p)) c []) n *ℤ z (top -ℤ pos q) c)
-        (λ c. z (top -ℤ pos q) c *ℤ valueOf l r (delta (top -ℤ pos q) c) n) (λ c _. term c)
-      where
-        cancel : (a b : ℤ) → b -ℤ a ≡ l -ℤ (n +ℤ l +ℤ a -ℤ b -ℤ n)
-        cancel a b = sym (+ℤ-negℤ-cancel (b -ℤ a) l) ∙ right ∙ ap (λ t. l -ℤ t) (sym (+ℤ-negℤ-cancel (l +ℤ a -ℤ b) n) ∙ left)
-          where
-            left : l +ℤ a -ℤ b +ℤ n -ℤ n ≡ n +ℤ l +ℤ a -ℤ b -ℤ n
-            left = simp ringℤ
-
-            right : b -ℤ a +ℤ l -ℤ l ≡ l -ℤ (l +ℤ a -ℤ b)
-            right = simp ringℤ
-
-        place : pos q -ℤ pos p ≡ l -ℤ (top -ℤ pos q -ℤ n)
-        place = cancel (pos p) (pos q) ∙ ap (λ t. l -ℤ (t -ℤ pos q -ℤ n)) e
-
-        term : (c : ℕ)
-            → eval (getD (blockFrom (r .blocks) (pos q -ℤ pos p)) c []) n *ℤ z (top -ℤ pos q) c
-            ≡ z (top -ℤ pos q) c *ℤ valueOf l r (delta (top -ℤ pos q) c) n
-        term c =
-            *ℤ-comm (eval (getD (blockFrom (r .blocks) (pos q -ℤ pos p)) c []) n) (z (top -ℤ pos q) c)
-            ∙ ap (λ v. z (top -ℤ pos q) c *ℤ v) (ap (λ s. eval (getD (blockFrom (r .blocks) s) c []) n) place ∙ sym (value-delta l r (top -ℤ pos q) c n))
+        ap (λ t. blockValue n (z (t -ℤ pos q)) (block q)) e
+        ∙ block-window C n (z (top -ℤ pos q)) (block q) (blockFrom-length C (r .blocks) columns (pos q -ℤ pos p))
+        ∙ sumBelow-congr C _ _ (λ c _. ap (λ v. v *ℤ z (top -ℤ pos q) c) (value q c) ∙ *ℤ-comm _ (z (top -ℤ pos q) c))
 
 getD-flatten-length : {A : Type 0} (l : List (List A)) (i : ℕ) → length (getD l i []) ≤ length (flatten l)
 unfolding flatten
@@ -166,9 +177,11 @@ getD-flatten-length (x ∷ l) (suc i) = step (getD-flatten-length l i)
     step h = omega (arith, length-append x (flatten l))
 
 -- Bounds of the blocks of all rows, and of the columns of all their blocks.
-rows-bounded : {A : Type 0} (f : Row → List A) → f noRow ≡ [] → (rows : List Row) (i : ℕ) → length (f (getD rows i noRow)) ≤ length (flatten (map f rows))
+rows-bounded : {A : Type 0} (f : Row → List A) → f noRow ≡ [] → (rows : List Row) (i : ℕ)
+    → length (f (getD rows i noRow)) ≤ length (flatten (map f rows))
 rows-bounded f e rows i =
-    subst (λ l. length l ≤ length (flatten (map f rows))) (ap (getD (map f rows) i) (sym e) ∙ List·getD-map f rows i noRow) (getD-flatten-length (map f rows) i)
+    subst (λ l. length l ≤ length (flatten (map f rows))) (ap (getD (map f rows) i) (sym e) ∙ List·getD-map f rows i noRow)
+    (getD-flatten-length (map f rows) i)
 
 blockBound : List Row → ℕ
 blockBound rows = length (flatten (map (λ r. r .blocks) rows))
@@ -182,7 +195,8 @@ blocks-bounded rows i = rows-bounded (λ r. r .blocks) refl rows i
 
 columns-bounded : (rows : List Row) (i q : ℕ) → length (getD (getD rows i noRow .blocks) q []) ≤ columnBound rows
 unfolding columnBound flatten
-columns-bounded rows i q = le-trans (getD-flatten-length (getD rows i noRow .blocks) q) (rows-bounded (λ r. flatten (r .blocks)) refl rows i)
+columns-bounded rows i q =
+    le-trans (getD-flatten-length (getD rows i noRow .blocks) q) (rows-bounded (λ r. flatten (r .blocks)) refl rows i)
 
 -- ---- the combination by coefficients and by values
 
@@ -195,48 +209,48 @@ unfolding addAll sum
 eval-addAll f [] x = eval-nil x
 eval-addAll f (a ∷ l) x = eval-add (f a) (addAll f l) x ∙ ap (λ s. eval (f a) x +ℤ s) (eval-addAll f l x)
 
-combinationAt-law : (l : ℤ) (rows : List Row) (N : ℕ) (S : ℕ → ℤ → Polynomial) (s : ℤ) (c : ℕ)
-    → combinationAt l rows N S s c
-    ≡ addAll (λ i. addAll (λ k. mul (S i k) (shiftBy k (polynomialAt l (getD rows i noRow) (s -ℤ k) c))) (shiftsWithin N)) (range 0 (length rows))
-unfolding combinationAt
+-- One summand of a combination's polynomial at block s and column c.
+combinationTerm : ℤ → List Row → Multiplier → ℤ → ℕ → ℕ → ℤ → Polynomial
+combinationTerm l rows S s c i k = mul (S i k) (shiftBy k (polynomialAt l (getD rows i noRow) (s -ℤ k) c))
+
+combinationAt-law : (l : ℤ) (rows : List Row) (N : ℕ) (S : Multiplier) (s : ℤ) (c : ℕ)
+    → combinationAt l rows N S s c ≡ addAll (λ i. addAll (combinationTerm l rows S s c i) (shiftsWithin N)) (range 0 (length rows))
+unfolding combinationAt combinationTerm
 combinationAt-law l rows N S s c = refl
+
+eval-term : (l : ℤ) (rows : List Row) (S : Multiplier) (s : ℤ) (c : ℕ) (x : ℤ) (i : ℕ) (k : ℤ)
+    → eval (combinationTerm l rows S s c i k) x ≡ eval (S i k) x *ℤ valueOf l (getD rows i noRow) (delta (x +ℤ s) c) (x +ℤ k)
+unfolding combinationTerm
+eval-term l rows S s c x i k =
+    eval-mul (S i k) (shiftBy k (polynomialAt l r (s -ℤ k) c)) x
+    ∙ ap (λ e. eval (S i k) x *ℤ e) (eval-shiftBy k (polynomialAt l r (s -ℤ k) c) x
+    ∙ ap (λ b. eval (polynomialAt l r b c) (x +ℤ k)) block ∙ sym (value-delta l r (x +ℤ s) c (x +ℤ k)))
+  where
+    r : Row
+    r = getD rows i noRow
+
+    block : s -ℤ k ≡ x +ℤ s -ℤ (x +ℤ k)
+    block = sym (cancel-common s k x) ∙ ap₂ (λ a b. a -ℤ b) (+ℤ-comm s x) (+ℤ-comm k x)
 
 -- The value of the combination's polynomial at block s and column c is the combination of values at the sequence that is
 -- 1 there and 0 elsewhere.
-pub eval-combination : (l : ℤ) (rows : List Row) (N : ℕ) (S : ℕ → ℤ → Polynomial) (s : ℤ) (c : ℕ) (x : ℤ)
+pub eval-combination : (l : ℤ) (rows : List Row) (N : ℕ) (S : Multiplier) (s : ℤ) (c : ℕ) (x : ℤ)
     → eval (combinationAt l rows N S s c) x ≡ combinationValue (length rows) (rowValues l rows) N S (delta (x +ℤ s) c) x
 unfolding combinationValue copies sumBelow sumWithin
 eval-combination l rows N S s c x =
-    ap (λ p. eval p x) (combinationAt-law l rows N S s c) ∙ eval-addAll (λ i. addAll (term i) (shiftsWithin N)) (range 0 (length rows)) x
-    ∙ sum-congr (λ i. eval (addAll (term i) (shiftsWithin N)) x) (λ i. sum (value i) (shiftsWithin N))
-    (λ i. eval-addAll (term i) (shiftsWithin N) x ∙ sum-congr (λ k. eval (term i k) x) (value i) (same i) (shiftsWithin N)) (range 0 (length rows))
-  where
-    term : ℕ → ℤ → Polynomial
-    term i k = mul (S i k) (shiftBy k (polynomialAt l (getD rows i noRow) (s -ℤ k) c))
-
-    value : ℕ → ℤ → ℤ
-    value i k = eval (S i k) x *ℤ valueOf l (getD rows i noRow) (delta (x +ℤ s) c) (x +ℤ k)
-
-    block : (k : ℤ) → s -ℤ k ≡ x +ℤ s -ℤ (x +ℤ k)
-    block k = sym (cancel-common s k x) ∙ ap₂ (λ a b. a -ℤ b) (+ℤ-comm s x) (+ℤ-comm k x)
-
-    same : (i : ℕ) (k : ℤ) → eval (term i k) x ≡ value i k
-    same i k =
-        eval-mul (S i k) (shiftBy k (polynomialAt l (getD rows i noRow) (s -ℤ k) c)) x
-        ∙ ap (λ e. eval (S i k) x *ℤ e)
-        (eval-shiftBy k (polynomialAt l (getD rows i noRow) (s -ℤ k) c) x ∙ ap (λ b. eval (polynomialAt l (getD rows i noRow) b c) (x +ℤ k)) (block k)
-        ∙ sym (value-delta l (getD rows i noRow) (x +ℤ s) c (x +ℤ k)))
+    ap (λ p. eval p x) (combinationAt-law l rows N S s c) ∙ eval-addAll _ (range 0 (length rows)) x
+    ∙ sum-congr _ _ (λ i. eval-addAll _ (shiftsWithin N) x ∙ sum-congr _ _ (eval-term l rows S s c x i) (shiftsWithin N))
+    (range 0 (length rows))
 
 module _ (l : ℤ) (rows : List Row) where
   -- Any sequence is a sum of such sequences, as far as finitely many shifted rows reach.
-  combination-zero : (N : ℕ) (S : ℕ → ℤ → Polynomial) → ((s : ℤ) (c : ℕ) → T (isZero (combinationAt l rows N S s c)))
+  combination-zero : (N : ℕ) (S : Multiplier) → ((s : ℤ) (c : ℕ) → T (isZero (combinationAt l rows N S s c)))
       → (z : Sequence) (x : ℤ) → combinationValue (length rows) (rowValues l rows) N S z x ≡ pos 0
   unfolding combinationValue copies
   combination-zero N S vanish z x =
       combination-congr (length rows) (rowValues l rows) (λ _ i n. sumBelow W (λ q. part q i n)) N S z x expand
       ∙ combination-sum (length rows) N S z x W part
-      ∙ sumBelow-zeros W (λ q. combinationValue (length rows) (λ _. part q) N S z x) (λ q _. combination-sum (length rows) N S z x C (piece q)
-      ∙ sumBelow-zeros C (λ c. combinationValue (length rows) (λ _. piece q c) N S z x) (λ c _. zero-piece q c))
+      ∙ sumBelow-zeros W _ (λ q _. combination-sum (length rows) N S z x C (piece q) ∙ sumBelow-zeros C _ (λ c _. zero-piece q c))
     where
       W : ℕ
       W = N + N + blockBound rows
@@ -256,17 +270,12 @@ module _ (l : ℤ) (rows : List Row) where
       expand : (i : ℕ) (k : ℤ) → natAbs k ≤ N → rowValues l rows z i (x +ℤ k) ≡ sumBelow W (λ q. part q i (x +ℤ k))
       expand i k h =
           let (j, below, e) = place-of N k h in
-          row-expansion l (getD rows i noRow) W C (N + N - j) z (x +ℤ k) (x +ℤ l +ℤ pos N) (omega (arith, blocks-bounded rows i)) (columns-bounded rows i)
-          (ap (λ a. x +ℤ a +ℤ l +ℤ pos (N + N - j)) (sym e) ∙ top j below)
+          row-expansion l (getD rows i noRow) W C (N + N - j) z (x +ℤ k) (x +ℤ l +ℤ pos N)
+          (omega (arith, blocks-bounded rows i)) (columns-bounded rows i)
+          (regroup k (pos (N + N - j)) ∙ ap (λ a. x +ℤ l +ℤ (a +ℤ pos (N + N - j))) (sym e) ∙ ap (λ a. x +ℤ l +ℤ a) (place-rest N j below))
         where
-          regroup : (a b c : ℤ) → x +ℤ (a -ℤ b) +ℤ l +ℤ c ≡ x +ℤ l +ℤ (a +ℤ c -ℤ b)
-          regroup a b c = simp ringℤ
-
-          top : (j : ℕ) → j < suc (N + N) → x +ℤ (pos j -ℤ pos N) +ℤ l +ℤ pos (N + N - j) ≡ x +ℤ l +ℤ pos N
-          top j below = regroup (pos j) (pos N) (pos (N + N - j)) ∙ ap (λ a. x +ℤ l +ℤ a) (ap (λ a. pos a -ℤ pos N) whole ∙ +ℤ-negℤ-cancel (pos N) (pos N))
-            where
-              whole : j + (N + N - j) ≡ N + N
-              whole = omega arith
+          regroup : (a b : ℤ) → x +ℤ a +ℤ l +ℤ b ≡ x +ℤ l +ℤ (a +ℤ b)
+          regroup a b = simp ringℤ
 
       zero-value : (q c : ℕ) → combinationValue (length rows) (rowValues l rows) N S (delta (index q) c) x ≡ pos 0
       zero-value q c =
@@ -326,7 +335,8 @@ leading-value l r c n = value-delta l r (n +ℤ l) c n ∙ ap (λ s. eval (getD 
 -- Of the sequence that is 1 at an index past n + l it makes nothing.
 past-value : (l : ℤ) (r : Row) (c : ℕ) (n : ℤ) (e : ℕ) → valueOf l r (delta (n +ℤ l +ℤ pos (suc e)) c) n ≡ pos 0
 unfolding polynomialAt blockFrom eval
-past-value l r c n e = value-delta l r (n +ℤ l +ℤ pos (suc e)) c n ∙ ap (λ s. eval (getD (blockFrom (r .blocks) s) c []) n) (place (pos (suc e)))
+past-value l r c n e =
+    value-delta l r (n +ℤ l +ℤ pos (suc e)) c n ∙ ap (λ s. eval (getD (blockFrom (r .blocks) s) c []) n) (place (pos (suc e)))
   where
     place : (a : ℤ) → l -ℤ (n +ℤ l +ℤ a -ℤ n) ≡ negℤ a
     place a = ap (λ b. l -ℤ b) (inner ∙ +ℤ-negℤ-cancel (l +ℤ a) n) ∙ outer ∙ +ℤ-negℤ-cancel (negℤ a) l
@@ -337,120 +347,127 @@ past-value l r c n e = value-delta l r (n +ℤ l +ℤ pos (suc e)) c n ∙ ap (�
         outer : l -ℤ (l +ℤ a) ≡ negℤ a +ℤ l -ℤ l
         outer = simp ringℤ
 
+-- The shift at a place, from -N on.
+abbrev shiftAt : ℕ → ℕ → ℤ
+shiftAt N J = pos J -ℤ pos N
+
+-- The multipliers of the first m equations at place J are zero.
+abbrev Clear : ℕ → ℕ → Multiplier → ℕ → Type 0
+Clear m N S J = (i : ℕ) → i < m → T (isZero (S i (shiftAt N J)))
+
+abbrev ClearAbove : ℕ → ℕ → Multiplier → ℕ → Type 0
+ClearAbove m N S J = (I : ℕ) → J < I → I < suc (N + N) → Clear m N S I
+
+-- A combination that vanishes, with zero multipliers at the shifts above place J.
+module _ (l : ℤ) (rows : List Row) (N : ℕ) (S : Multiplier)
+    (vanishes : (z : Sequence) (x : ℤ) → combinationValue (length rows) (rowValues l rows) N S z x ≡ pos 0)
+    (J : ℕ) (below : J < suc (N + N)) (clear : ClearAbove (length rows) N S J) where
+  -- At the sequence that is 1 at the last index that the copies at J reach, the other copies make nothing.
+  leading-copies : (c : ℕ) (x : ℤ) (i : ℕ) → i < length rows
+      → copies (rowValues l rows) N S (delta (x +ℤ shiftAt N J +ℤ l) c) x i
+      ≡ eval (S i (shiftAt N J)) x *ℤ eval (entry (getD rows i noRow) c) (x +ℤ shiftAt N J)
+  unfolding copies
+  leading-copies c x i h =
+      sumWithin-below N _ ∙ sumBelow-single (suc (N + N)) J (λ I. eval (S i (shiftAt N I)) x *ℤ value I) below others
+      ∙ ap (λ e. eval (S i (shiftAt N J)) x *ℤ e) (leading-value l (getD rows i noRow) c (x +ℤ shiftAt N J))
+    where
+      value : ℕ → ℤ
+      value I = valueOf l (getD rows i noRow) (delta (x +ℤ shiftAt N J +ℤ l) c) (x +ℤ shiftAt N I)
+
+      lower : (I : ℕ) → I < J → value I ≡ pos 0
+      lower I m =
+          ap (λ y. valueOf l (getD rows i noRow) (delta y c) (x +ℤ shiftAt N I)) index
+          ∙ past-value l (getD rows i noRow) c (x +ℤ shiftAt N I) (J - suc I)
+        where
+          regroup : (a b e : ℤ) → x +ℤ (a +ℤ e -ℤ b) +ℤ l ≡ x +ℤ (a -ℤ b) +ℤ l +ℤ e
+          regroup a b e = simp ringℤ
+
+          split : J ≡ I + suc (J - suc I)
+          split = omega arith
+
+          index : x +ℤ shiftAt N J +ℤ l ≡ x +ℤ shiftAt N I +ℤ l +ℤ pos (suc (J - suc I))
+          index = ap (λ a. x +ℤ shiftAt N a +ℤ l) split ∙ regroup (pos I) (pos N) (pos (suc (J - suc I)))
+
+      others : (I : ℕ) → I < suc (N + N) → I ≢ J → eval (S i (shiftAt N I)) x *ℤ value I ≡ pos 0
+      others I b n = by-cases (decLt I J)
+          (λ m. rw (lower I m) (*ℤ-zero (eval (S i (shiftAt N I)) x)))
+          (λ m. rw (eval-isZero (S i (shiftAt N I)) x (clear I (omega arith) b i h)) (zero-*ℤ (value I)))
+
+  -- So the leading entries of the copies at J, each times its multiplier, add up to zero in every column.
+  leading-sum : (c : ℕ) (x : ℤ)
+      → sumBelow (length rows) (λ i. eval (S i (shiftAt N J)) x *ℤ eval (entry (getD rows i noRow) c) (x +ℤ shiftAt N J)) ≡ pos 0
+  unfolding combinationValue
+  leading-sum c x =
+      sumBelow-congr (length rows) _ _ (λ i h. sym (leading-copies c x i h)) ∙ vanishes (delta (x +ℤ shiftAt N J +ℤ l) c) x
+
 module _ (l : ℤ) (rows : List Row) (column : ℕ → ℕ)
     (zeros : (j k : ℕ) → j < length rows → k < j → T (isZero (entry (getD rows j noRow) (column k))))
     (diagonal : (j : ℕ) → j < length rows → T (not (isZero (entry (getD rows j noRow) (column j)))))
-    (N : ℕ) (S : ℕ → ℤ → Polynomial)
+    (N : ℕ) (S : Multiplier)
     (vanishes : (z : Sequence) (x : ℤ) → combinationValue (length rows) (rowValues l rows) N S z x ≡ pos 0) where
-  shiftAt : ℕ → ℤ
-  shiftAt J = pos J -ℤ pos N
-
-  -- The multipliers at the shifts above the place J are zero.
-  ClearAbove : ℕ → Type 0
-  ClearAbove J = (I : ℕ) → J < I → I < suc (N + N) → (i : ℕ) → i < length rows → T (isZero (S i (shiftAt I)))
-
-  -- Then the leading entries of the copies at place J, each times its multiplier, add up to zero in every column.
-  leading-sum : (J : ℕ) → J < suc (N + N) → ClearAbove J → (c : ℕ) (x : ℤ)
-      → sumBelow (length rows) (λ i. eval (S i (shiftAt J)) x *ℤ eval (entry (getD rows i noRow) c) (x +ℤ shiftAt J)) ≡ pos 0
-  unfolding combinationValue copies ClearAbove shiftAt
-  leading-sum J below clear c x =
-      sumBelow-congr (length rows) (λ i. eval (S i K) x *ℤ eval (entry (getD rows i noRow) c) (x +ℤ K)) (copies (rowValues l rows) N S z x) (λ i h. sym (only i h))
-      ∙ vanishes z x
+  -- At the column of row i the later rows have no leading entry, and the earlier ones have multiplier zero.
+  next-clear : (J : ℕ) → J < suc (N + N) → ClearAbove (length rows) N S J → (i : ℕ) → i < length rows → Clear i N S J
+      → T (isZero (S i (shiftAt N J)))
+  next-clear J below clear i h earlier = by-cases (dec-T (isZero (S i K))) (λ t. t)
+      (λ n. absurd (T-not (isZero (mul (S i K) pivot)) (product-nonzero n) product-zero))
     where
       K : ℤ
-      K = pos J -ℤ pos N
+      K = shiftAt N J
 
-      z : Sequence
-      z = delta (x +ℤ K +ℤ l) c
+      pivot : Polynomial
+      pivot = shiftBy K (entry (getD rows i noRow) (column i))
 
-      term : ℕ → ℤ → ℤ
-      term i k = eval (S i k) x *ℤ valueOf l (getD rows i noRow) z (x +ℤ k)
+      term : ℤ → ℕ → ℤ
+      term x k = eval (S k K) x *ℤ eval (entry (getD rows k noRow) (column i)) (x +ℤ K)
 
-      only : (i : ℕ) → i < length rows → copies (rowValues l rows) N S z x i ≡ eval (S i K) x *ℤ eval (entry (getD rows i noRow) c) (x +ℤ K)
-      only i h =
-          sumWithin-below N (term i) ∙ sumBelow-single (suc (N + N)) J (λ I. term i (pos I -ℤ pos N)) below others
-          ∙ ap (λ e. eval (S i K) x *ℤ e) (leading-value l (getD rows i noRow) c (x +ℤ K))
+      others : (x : ℤ) (k : ℕ) → k < length rows → k ≢ i → term x k ≡ pos 0
+      others x k b n = by-cases (decLt k i)
+          (λ m. rw (eval-isZero (S k K) x (earlier k m)) (zero-*ℤ (eval (entry (getD rows k noRow) (column i)) (x +ℤ K))))
+          (λ m. rw (eval-isZero (entry (getD rows k noRow) (column i)) (x +ℤ K) (zeros k i b (omega arith))) (*ℤ-zero (eval (S k K) x)))
+
+      value : (x : ℤ) → eval (mul (S i K) pivot) x ≡ term x i
+      value x = eval-mul (S i K) pivot x ∙ ap (λ e. eval (S i K) x *ℤ e) (eval-shiftBy K (entry (getD rows i noRow) (column i)) x)
+
+      product-zero : T (isZero (mul (S i K) pivot))
+      product-zero = zero-everywhere (mul (S i K) pivot) .1
+          (λ x. value x ∙ sym (sumBelow-single (length rows) i _ h (others x)) ∙ leading-sum l rows N S vanishes J below clear (column i) x)
+
+      product-nonzero : ¬ T (isZero (S i K)) → T (not (isZero (mul (S i K) pivot)))
+      product-nonzero n = mul-nonzero (S i K) pivot (not-T (isZero (S i K)) n)
+          (rw (isZero-shiftBy K (entry (getD rows i noRow) (column i))) (diagonal i h))
+
+  first-clear : (J : ℕ) → J < suc (N + N) → ClearAbove (length rows) N S J → (i : ℕ) → i ≤ length rows → Clear i N S J
+  first-clear J below clear zero h k b = absurd (not-suc-le-zero b)
+  first-clear J below clear (suc i) h k b = last (first-clear J below clear i (omega arith))
+    where
+      last : Clear i N S J → T (isZero (S k (shiftAt N J)))
+      last earlier = by-cases (decLt k i) (earlier k)
+          (λ m. subst (λ a. T (isZero (S a (shiftAt N J)))) (same m) (next-clear J below clear i h earlier))
         where
-          others : (I : ℕ) → I < suc (N + N) → I ≢ J → term i (pos I -ℤ pos N) ≡ pos 0
-          others I b n = by-cases (decLt I J) before (λ m. rw (eval-isZero (S i (pos I -ℤ pos N)) x (clear I (omega arith) b i h)) (zero-*ℤ (value I)))
-            where
-              value : ℕ → ℤ
-              value I = valueOf l (getD rows i noRow) z (x +ℤ (pos I -ℤ pos N))
-
-              before : I < J → term i (pos I -ℤ pos N) ≡ pos 0
-              before m =
-                  ap (λ e. eval (S i (pos I -ℤ pos N)) x *ℤ e)
-                  (ap (λ y. valueOf l (getD rows i noRow) (delta y c) (x +ℤ (pos I -ℤ pos N))) index ∙ past-value l (getD rows i noRow) c (x +ℤ (pos I -ℤ pos N)) (J - suc I))
-                  ∙ *ℤ-zero (eval (S i (pos I -ℤ pos N)) x)
-                where
-                  regroup : (a b e : ℤ) → x +ℤ (a +ℤ e -ℤ b) +ℤ l ≡ x +ℤ (a -ℤ b) +ℤ l +ℤ e
-                  regroup a b e = simp ringℤ
-
-                  split : J ≡ I + suc (J - suc I)
-                  split = omega arith
-
-                  index : x +ℤ (pos J -ℤ pos N) +ℤ l ≡ x +ℤ (pos I -ℤ pos N) +ℤ l +ℤ pos (suc (J - suc I))
-                  index = ap (λ a. x +ℤ (pos a -ℤ pos N) +ℤ l) split ∙ regroup (pos I) (pos N) (pos (suc (J - suc I)))
-
-  module _ (J : ℕ) (below : J < suc (N + N)) (clear : ClearAbove J) where
-    -- At the column of row i the later rows have no leading entry, and the earlier ones have multiplier zero.
-    next-clear : (i : ℕ) → i < length rows → ((k : ℕ) → k < i → T (isZero (S k (shiftAt J)))) → T (isZero (S i (shiftAt J)))
-    next-clear i h earlier = by-cases (dec-T (isZero (S i K))) (λ t. t) (λ n. absurd (T-not (isZero (mul (S i K) pivot)) (product-nonzero n) product-zero))
-      where
-        K : ℤ
-        K = shiftAt J
-
-        pivot : Polynomial
-        pivot = shiftBy K (entry (getD rows i noRow) (column i))
-
-        term : ℤ → ℕ → ℤ
-        term x k = eval (S k K) x *ℤ eval (entry (getD rows k noRow) (column i)) (x +ℤ K)
-
-        others : (x : ℤ) (k : ℕ) → k < length rows → k ≢ i → term x k ≡ pos 0
-        others x k b n = by-cases (decLt k i)
-            (λ m. rw (eval-isZero (S k K) x (earlier k m)) (zero-*ℤ (eval (entry (getD rows k noRow) (column i)) (x +ℤ K))))
-            (λ m. rw (eval-isZero (entry (getD rows k noRow) (column i)) (x +ℤ K) (zeros k i b (omega arith))) (*ℤ-zero (eval (S k K) x)))
-
-        product-zero : T (isZero (mul (S i K) pivot))
-        product-zero = zero-everywhere (mul (S i K) pivot) .1 (λ x. eval-mul (S i K) pivot x ∙ ap (λ e. eval (S i K) x *ℤ e) (eval-shiftBy K (entry (getD rows i noRow) (column i)) x)
-            ∙ sym (sumBelow-single (length rows) i (term x) h (others x)) ∙ leading-sum J below clear (column i) x)
-
-        product-nonzero : ¬ T (isZero (S i K)) → T (not (isZero (mul (S i K) pivot)))
-        product-nonzero n =
-            mul-nonzero (S i K) pivot (not-T (isZero (S i K)) n) (rw (isZero-shiftBy K (entry (getD rows i noRow) (column i))) (diagonal i h))
-
-    first-clear : (i : ℕ) → i ≤ length rows → (k : ℕ) → k < i → T (isZero (S k (shiftAt J)))
-    first-clear zero h k b = absurd (not-suc-le-zero b)
-    first-clear (suc i) h k b = last (first-clear i (omega arith))
-      where
-        last : ((a : ℕ) → a < i → T (isZero (S a (shiftAt J)))) → T (isZero (S k (shiftAt J)))
-        last earlier = by-cases (decLt k i) (earlier k) (λ m. subst (λ a. T (isZero (S a (shiftAt J)))) (same m) (next-clear i h earlier))
-          where
-            same : ¬ (k < i) → i ≡ k
-            same m = omega arith
+          same : ¬ (k < i) → i ≡ k
+          same m = omega arith
 
   -- From the highest shift down, all multipliers are zero.
-  all-clear : (t J : ℕ) → N + N < J + t → J < suc (N + N) → (i : ℕ) → i < length rows → T (isZero (S i (shiftAt J)))
-  unfolding ClearAbove
-  all-clear zero J p b i h = absurd (omega arith)
-  all-clear (suc t) J p b i h =
-      first-clear J b (λ I above inside k below. all-clear t I (omega arith) inside k below) (length rows) (le-refl (length rows)) i h
+  all-clear : (t J : ℕ) → N + N < J + t → J < suc (N + N) → Clear (length rows) N S J
+  all-clear zero J p b = absurd (omega arith)
+  all-clear (suc t) J p b = first-clear J b (λ I above inside. all-clear t I (omega arith) inside) (length rows) (le-refl (length rows))
 
 -- "row j is zero at columns c(1) to c(j - 1) and nonzero at c(j)": then no nonzero combination vanishes.
 pub triangular-independent : (l : ℤ) (rows : List Row) (column : ℕ → ℕ)
     → ((j k : ℕ) → j < length rows → k < j → T (isZero (entry (getD rows j noRow) (column k))))
     → ((j : ℕ) → j < length rows → T (not (isZero (entry (getD rows j noRow) (column j)))))
     → Dependent l rows → ⊥
-unfolding shiftAt
 triangular-independent l rows column zeros diagonal D =
     let (j, below, e) = place-of N (D .shift) (D .shift-within) in
-    T-not (isZero (S (D .number) (D .shift))) (D .nonzero) (subst (λ k. T (isZero (S (D .number) k))) e
-    (all-clear l rows column zeros diagonal N S (combination-zero l rows N S (D .vanishes)) (suc (N + N)) j (omega arith) below (D .number) (D .number-below)))
+    let zero-values = combination-zero l rows N S (D .vanishes) in
+    let clear = all-clear l rows column zeros diagonal N S zero-values (suc (N + N)) j (omega arith) below in
+    T-not (isZero (S (D .number) (D .shift))) (D .nonzero)
+    (subst (λ k. T (isZero (S (D .number) k))) e (clear (D .number) (D .number-below)))
   where
     N : ℕ
     N = D .reach
 
-    S : ℕ → ℤ → Polynomial
+    S : Multiplier
     S = D .multiplier
 
 -- ---- each change of a list of rows
@@ -474,14 +491,23 @@ module _ (l : ℤ) (rows : List Row) where
   new-row i r h z n = ap (λ q. valueOf l q z n) (getD-set-same rows i r noRow h)
 
   pub combine-dependent : (g h : Polynomial) (d i j : ℕ) (r : Row) → i < length rows → j < length rows → i ≢ j → T (not (isZero g)) → 0 < d
-      → ((z : Sequence) (n : ℤ) → pos d *ℤ valueOf l r z n ≡ eval g n *ℤ valueOf l (getD rows i noRow) z n +ℤ eval h n *ℤ valueOf l (getD rows j noRow) z n)
+      → ((z : Sequence) (n : ℤ) → pos d *ℤ valueOf l r z n ≡ eval g n *ℤ rowValues l rows z i n +ℤ eval h n *ℤ rowValues l rows z j n)
       → Dependent l rows ↔ Dependent l (set rows i r)
   combine-dependent g h d i j r i-below j-below apart nonzero positive value =
       by-values l rows (set rows i r) (length-set rows i r) (
-        combined-forward (length rows) i j (rowValues l rows) (rowValues l (set rows i r)) i-below j-below apart (same-elsewhere i r) d positive g h nonzero law,
-        combined-back (length rows) i j (rowValues l rows) (rowValues l (set rows i r)) i-below j-below apart (same-elsewhere i r) d positive g h nonzero law,
+        combined-forward m i j old new i-below j-below apart (same-elsewhere i r) d positive g h nonzero law,
+        combined-back m i j old new i-below j-below apart (same-elsewhere i r) d positive g h nonzero law,
       )
     where
+      m : ℕ
+      m = length rows
+
+      old : Values
+      old = rowValues l rows
+
+      new : Values
+      new = rowValues l (set rows i r)
+
       law : (z : Sequence) (n : ℤ)
           → pos d *ℤ rowValues l (set rows i r) z i n ≡ eval g n *ℤ rowValues l rows z i n +ℤ eval h n *ℤ rowValues l rows z j n
       law z n = ap (λ v. pos d *ℤ v) (new-row i r i-below z n) ∙ value z n
@@ -503,28 +529,30 @@ module _ (l : ℤ) (rows : List Row) where
   pub exchange-dependent : (i j : ℕ) → i < length rows → j < length rows → i ≢ j
       → Dependent l rows ↔ Dependent l (set (set rows j (getD rows i noRow)) i (getD rows j noRow))
   exchange-dependent i j i-below j-below apart =
-      by-values l rows rows' (length-set (set rows j (getD rows i noRow)) i (getD rows j noRow) ∙ length-set rows j (getD rows i noRow)) (
-        exchanged-dependent i j apart (length rows) (rowValues l rows) (rowValues l rows') i-below j-below
-            (λ z n. at-i z n) (λ z n. at-j z n) (λ z k n c o. others z k n c o),
+      by-values l rows rows' (length-set half i _ ∙ length-set rows j _) (
+        exchanged-dependent i j apart (length rows) (rowValues l rows) (rowValues l rows') i-below j-below at-i at-j others,
         exchanged-dependent i j apart (length rows) (rowValues l rows') (rowValues l rows) i-below j-below
             (λ z n. sym (at-j z n)) (λ z n. sym (at-i z n)) (λ z k n c o. sym (others z k n c o)),
       )
     where
+      half : List Row
+      half = set rows j (getD rows i noRow)
+
       rows' : List Row
-      rows' = set (set rows j (getD rows i noRow)) i (getD rows j noRow)
+      rows' = set half i (getD rows j noRow)
 
       at-i : (z : Sequence) (n : ℤ) → rowValues l rows' z i n ≡ rowValues l rows z j n
-      at-i z n = ap (λ q. valueOf l q z n) (getD-set-same (set rows j (getD rows i noRow)) i (getD rows j noRow) noRow (lt-length-set rows j (getD rows i noRow) i-below))
+      at-i z n = ap (λ q. valueOf l q z n) (getD-set-same half i _ noRow (lt-length-set rows j _ i-below))
 
       at-j : (z : Sequence) (n : ℤ) → rowValues l rows' z j n ≡ rowValues l rows z i n
-      at-j z n = ap (λ q. valueOf l q z n) (getD-set-other (set rows j (getD rows i noRow)) i j (getD rows j noRow) noRow (λ e. apart (sym e)) ∙ getD-set-same rows j (getD rows i noRow) noRow j-below)
+      at-j z n = ap (λ q. valueOf l q z n) (getD-set-other half i j _ noRow (λ e. apart (sym e)) ∙ getD-set-same rows j _ noRow j-below)
 
       others : (z : Sequence) (k : ℕ) (n : ℤ) → k ≢ i → k ≢ j → rowValues l rows' z k n ≡ rowValues l rows z k n
-      others z k n c o = ap (λ q. valueOf l q z n) (getD-set-other (set rows j (getD rows i noRow)) i k (getD rows j noRow) noRow c ∙ getD-set-other rows j k (getD rows i noRow) noRow o)
+      others z k n c o = ap (λ q. valueOf l q z n) (getD-set-other half i k _ noRow c ∙ getD-set-other rows j k _ noRow o)
 
   pub zero-row-dependent : (i : ℕ) → i < length rows → T (zeroRow (getD rows i noRow)) → Dependent l rows
-  zero-row-dependent i below zeros =
-      dependent-values l rows .1 (zero-dependent (length rows) i (rowValues l rows) below (λ z n. value-zero l (getD rows i noRow) z n zeros))
+  zero-row-dependent i below zeros = dependent-values l rows .1
+      (zero-dependent (length rows) i (rowValues l rows) below (λ z n. value-zero l (getD rows i noRow) z n zeros))
 
 -- ---- one step, and chains of steps
 
@@ -539,8 +567,8 @@ module _ (l : ℤ) where
       go (kept w) = Iff·rfl
       go (swapped w) = exchange-dependent l (s .rows) i j i-below j-below apart
 
-  combined-dependent : (side : Side) (s : State) (j : ℕ) (r : Row) → All StoreRow (s .rows) → Triangular s → j < current s → current s < length (s .rows)
-      → T (not (isZero (met s j))) → limitDegrees (combination s j) ≡ within r
+  combined-dependent : (side : Side) (s : State) (j : ℕ) (r : Row) → All StoreRow (s .rows) → Triangular s → j < current s
+      → current s < length (s .rows) → T (not (isZero (met s j))) → limitDegrees (combination s j) ≡ within r
       → Dependent l (exchanged s j .rows) ↔ Dependent l (putRow (listed side s j) (current s) r .rows)
   unfolding putRow listRelations rowAt
   combined-dependent side s j r shapes t before below meets e =
@@ -554,7 +582,8 @@ module _ (l : ℤ) where
       → Dependent l (s .rows) ↔ Dependent l (set (s .rows) (current s) r)
   unfolding rowAt
   shifted-dependent s r below f e =
-      subst (λ q. Dependent l (s .rows) ↔ Dependent l (set (s .rows) (current s) q)) (sym (limitCoefficients-within (shiftUp (rowAt s (current s))) r e .1))
+      subst (λ q. Dependent l (s .rows) ↔ Dependent l (set (s .rows) (current s) q))
+      (sym (limitCoefficients-within (shiftUp (rowAt s (current s))) r e .1))
       (shift-dependent l (s .rows) (current s) below (shifted-zeros s f))
 
   -- A step keeps dependence, and independence.
@@ -570,13 +599,15 @@ module _ (l : ℤ) where
   pub chain-dependent : {side : Side} {s s' : State} {k : ℕ} → StateShaped s → Triangular s → Chain side s k s'
       → Dependent l (s .rows) ↔ Dependent l (s' .rows)
   chain-dependent shaped t here = Iff·rfl
-  chain-dependent shaped t (next c u) = Iff·trans (chain-dependent shaped t c) (stepped-dependent (chain-shapes c shaped) (triangular-chain c t) u)
+  chain-dependent shaped t (next c u) =
+      Iff·trans (chain-dependent shaped t c) (stepped-dependent (chain-shapes c shaped) (triangular-chain c t) u)
 
   -- A state all of whose rows are settled is independent.
   pub settled-independent : (s : State) → Triangular s → length (s .rows) ≤ current s → Dependent l (s .rows) → ⊥
   unfolding rowAt
   settled-independent s t all =
-      triangular-independent l (s .rows) (column s) (λ j k h b. t .pivots j (omega arith) .zeros k b) (λ j h. t .pivots j (omega arith) .diagonal)
+      triangular-independent l (s .rows) (column s)
+      (λ j k h b. t .pivots j (omega arith) .zeros k b) (λ j h. t .pivots j (omega arith) .diagonal)
 
   -- A state whose current row is zero is dependent.
   pub zero-current-dependent : (s : State) → current s < length (s .rows) → T (zeroRow (rowAt s (current s))) → Dependent l (s .rows)
