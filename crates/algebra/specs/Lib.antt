@@ -3,6 +3,8 @@ pub mod Division
 pub mod Gcd
 pub mod Sums
 pub mod Polynomials
+pub mod Coefficients
+pub mod Binomials
 pub mod Roots
 pub mod Order
 pub mod Pigeonhole
