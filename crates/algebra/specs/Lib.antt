@@ -5,6 +5,8 @@ pub mod Sums
 pub mod Polynomials
 pub mod Coefficients
 pub mod Binomials
+pub mod Vanishing
+pub mod Divisors
 pub mod Roots
 pub mod Order
 pub mod Pigeonhole

@@ -1,44 +1,34 @@
 -- The integer roots of a polynomial.
 --
 -- Main definitions
---   keep t l       the members of l that pass the test t
---   sqrt n         the square root, rounded down
---   divisors a     the divisors of a > 0, ascending, found in pairs up to the square root
 --   candidates p   0 and the divisors, of either sign, of the lowest nonzero coefficient, ascending
 --   roots p        the integer roots of a nonzero polynomial, ascending, each once
-use Prim.Native.Nat.{ℕ, zero, suc, _+_, _*_, _/_, _%_}
-use mathlib.Core.Path.{_≡_, refl}
-use mathlib.Core.Bool.{Bool, true, false, cond}
+--
+-- Main statements
+--   roots-sound       every member of roots p is a root
+--   roots-complete    every integer root of a nonzero polynomial is a member
+--   roots-ascending   the members ascend strictly
+--   roots-distinct    so each stands once
+-- (`List·Mem` and `Pairwise` are the kit's membership and "each member is related to every later one".)
+use Prim.Native.Nat.{ℕ, zero, suc, _<_}
+use mathlib.Core.Path.{_≡_, refl, ap}
+use mathlib.Core.Logic.{_≢_, ∥∥₁-elim, by-cases}
+use mathlib.Core.Bool.{Bool, true, false, cond, not}
 use mathlib.Core.List.{List, [], _∷_, map, _++_, reverse}
-use lib.Dec.{eqb, leb, ltb}
-use lib.IntN.{ℤ, pos, negsuc, negℤ, natAbs}
+use mathlib.Core.List.{List·Mem, List·Memᴰ, List·Memᴰ·head, List·Memᴰ·tail, not-mem-nil, mem-cons-self, mem-cons-of-mem, mem-of-ne-of-mem}
+use mathlib.Core.List.{mem-append-left, mem-append-right, mem-reverse, mem-map-of-mem, exists-of-mem-map}
+use mathlib.Core.List.{Pairwise, Pairwise·nil, Pairwise·cons, Pairwise·imp, Pairwise·map, List·Nodup}
+use mathlib.Core.List.{pairwise-append, pairwise-map, pairwise-reverse}
+use lib.Dec.{T, T-prop, T-not, not-T, lt→ltb}
+use lib.ListN.{replicate}
+use lib.IntN.{ℤ, pos, negsuc, negℤ, natAbs, _-ℤ_, ℤ-discrete}
+use lib.Signed.{_<ℤ_, ltZ, ltZ-yes, <ℤ-irrefl}
+use native.Mathlib.Nat.{suc-ne-zero}
+use native.Mathlib.Omega.{arith}
 use Rattle.algebra.specs.Sums.{range}
 use Rattle.algebra.specs.Polynomials.{Polynomial, eval, isZero, isZeroℤ, lowest}
-
--- The members of a list that pass a test, in their order.
-unfoldable pub keep : {A : Type 0} → (A → Bool) → List A → List A
-keep t [] = []
-keep t (x ∷ l) = cond (t x) (x ∷ keep t l) (keep t l)
-
--- The square root, rounded down: of n from that of n / 4. The first argument bounds the number of calls.
-unfoldable pub sqrtWithin : ℕ → ℕ → ℕ
-sqrtWithin zero n = 0
-sqrtWithin (suc k) zero = 0
-sqrtWithin (suc k) (suc n) = let r = 2 * sqrtWithin k (suc n / 4) in cond (leb ((r + 1) * (r + 1)) (suc n)) (r + 1) r
-
-unfoldable pub sqrt : ℕ → ℕ
-unfolding sqrtWithin
-sqrt n = sqrtWithin n n
-
-unfoldable pub divides : ℕ → ℕ → Bool
-divides d a = eqb (a % d) 0
-
--- The divisors of a > 0, ascending: those up to the square root, then their cofactors.
-unfoldable pub divisors : ℕ → List ℕ
-unfolding keep sqrt divides range
-divisors a =
-    let low = keep (λ d. divides d a) (range 1 (sqrt a)) in
-    low ++ map (λ d. a / d) (reverse (keep (λ d. ltb d (a / d)) low))
+use Rattle.algebra.specs.Vanishing.{isZeroℤ-sound, isZeroℤ-complete, constant-root, lowest-positive, root-divides-lowest}
+use Rattle.algebra.specs.Divisors.{keep, divisors, mem-keep, keep-pairwise, mem-divisors, divisors-positive, divisors-ascending}
 
 unfoldable pub candidates : Polynomial → List ℤ
 unfolding divisors lowest
@@ -58,14 +48,156 @@ roots p =
     let found = keep (λ r. isZeroℤ (eval p r)) (candidates p) in
     cond (isConstant p) [] found
 
-test1 : sqrt 268435455 ≡ 16383
-unfolding sqrt
-test1 = refl
+-- ---- lists of integers
 
-test2 : roots (negsuc 5 ∷ pos 1 ∷ pos 1 ∷ []) ≡ negsuc 2 ∷ pos 2 ∷ []
-unfolding roots
-test2 = refl
+-- A member of a list of integers has a place in it.
+pub place : {x : ℤ} (l : List ℤ) → List·Mem x l → List·Memᴰ x l
+place [] m = absurd (not-mem-nil m)
+place {x} (y ∷ l) m = by-cases (ℤ-discrete x y) List·Memᴰ·head (λ n. List·Memᴰ·tail (place l (mem-of-ne-of-mem n m)))
 
-test3 : roots (negsuc 268435453 ∷ pos 1 ∷ []) ≡ pos 268435454 ∷ []
+<ℤ-prop : (a b : ℤ) → IsProp (a <ℤ b)
+<ℤ-prop a b h k = λ i. record { lt = T-prop (ltZ a b) (h .lt) (k .lt) i }
+
+pub ascending-distinct : {l : List ℤ} → Pairwise _<ℤ_ l → List·Nodup l
+ascending-distinct = Pairwise·imp (λ a b h e. <ℤ-irrefl (rw e at h))
+
+pos-<ℤ : (d e : ℕ) → d < e → pos d <ℤ pos e
+pos-<ℤ d e h = ltZ-yes (lt→ltb d e h)
+
+negℤ-<ℤ : (d e : ℕ) → d < e → negℤ (pos e) <ℤ negℤ (pos d)
+negℤ-<ℤ zero zero h = absurd (omega arith)
+negℤ-<ℤ zero (suc e) h = ltZ-yes tt
+negℤ-<ℤ (suc d) zero h = absurd (omega arith)
+negℤ-<ℤ (suc d) (suc e) h = ltZ-yes (lt→ltb d e (omega arith))
+
+negℤ-<ℤ-pos : (d e : ℕ) → 0 < d → negℤ (pos d) <ℤ pos e
+negℤ-<ℤ-pos zero e h = absurd (omega arith)
+negℤ-<ℤ-pos (suc d) e h = ltZ-yes tt
+
+-- ---- the candidates
+
+-- The negatives of the numbers ds, 0 and the numbers themselves: ascending if the numbers are positive and ascend.
+abbrev negatives : List ℕ → List ℤ
+negatives ds = map (λ d. negℤ (pos d)) (reverse ds)
+
+abbrev signed : List ℕ → List ℤ
+signed ds = negatives ds ++ map pos (0 ∷ ds)
+
+signed-complete : (ds : List ℕ) (r : ℤ) → (r ≢ pos 0 → List·Mem (natAbs r) ds) → List·Mem r (signed ds)
+signed-complete ds (pos zero) h = mem-append-right (negatives ds) mem-cons-self
+signed-complete ds (pos (suc n)) h =
+    mem-append-right (negatives ds) (mem-map-of-mem pos (mem-cons-of-mem 0 (h (λ e. suc-ne-zero n (ap natAbs e)))))
+signed-complete ds (negsuc n) h =
+    mem-append-left (map pos (0 ∷ ds)) (mem-map-of-mem (λ d. negℤ (pos d)) (mem-reverse .1 (h (λ e. suc-ne-zero n (ap natAbs e)))))
+
+signed-ascending : (ds : List ℕ) → Pairwise _<_ ds → ((d : ℕ) → List·Mem d ds → 0 < d) → Pairwise _<ℤ_ (signed ds)
+signed-ascending ds ascends positive = pairwise-append <ℤ-prop .1 (negative, others, across)
+  where
+    others : Pairwise _<ℤ_ (map pos (0 ∷ ds))
+    others = Pairwise·map <ℤ-prop pos pos-<ℤ (Pairwise·cons positive ascends)
+
+    reversed : Pairwise (λ d e. negℤ (pos d) <ℤ negℤ (pos e)) (reverse ds)
+    reversed = pairwise-reverse (λ d e. <ℤ-prop (negℤ (pos d)) (negℤ (pos e))) .1 (Pairwise·imp negℤ-<ℤ ascends)
+
+    negative : Pairwise _<ℤ_ (negatives ds)
+    negative = pairwise-map <ℤ-prop (λ d. negℤ (pos d)) .1 reversed
+
+    between : {x y : ℤ} (d e : ℕ) → List·Mem d (reverse ds) → negℤ (pos d) ≡ x → pos e ≡ y → x <ℤ y
+    between d e m h k = rw (← h, ← k) (negℤ-<ℤ-pos d e (positive d (mem-reverse .0 m)))
+
+    across : (x : ℤ) → List·Mem x (negatives ds) → (y : ℤ) → List·Mem y (map pos (0 ∷ ds)) → x <ℤ y
+    across x m y n =
+        let low = exists-of-mem-map {f = λ d. negℤ (pos d)} {l = reverse ds} m in
+        let high = exists-of-mem-map {f = pos} {l = 0 ∷ ds} n in
+        ∥∥₁-elim low (<ℤ-prop x y) (λ t. ∥∥₁-elim high (<ℤ-prop x y) (λ u. between (t .0) (u .0) (t .1) (t .2) (u .2)))
+
+candidates-complete : (p : Polynomial) (r : ℤ) → T (not (isZero p)) → eval p r ≡ pos 0 → List·Mem r (candidates p)
+unfolding candidates
+candidates-complete p r n e = signed-complete _ r (λ h. mem-divisors _ (lowest-positive p n) .1 (root-divides-lowest p r n h e))
+
+candidates-ascending : (p : Polynomial) → T (not (isZero p)) → Pairwise _<ℤ_ (candidates p)
+unfolding candidates
+candidates-ascending p n = signed-ascending _ (divisors-ascending _ (lowest-positive p n)) (divisors-positive _ (lowest-positive p n))
+
+-- ---- the roots
+
+-- A nonconstant polynomial's roots are the candidates that pass the test.
+abbrev isRoot : Polynomial → ℤ → Bool
+isRoot p r = isZeroℤ (eval p r)
+
+roots-split : (p : Polynomial) → roots p ≡ cond (isConstant p) [] (keep (isRoot p) (candidates p))
 unfolding roots
-test3 = refl
+roots-split p = refl
+
+pub roots-sound : (p : Polynomial) {r : ℤ} → List·Mem r (roots p) → eval p r ≡ pos 0
+roots-sound p {r} m = cases (isConstant p) (rw (roots-split p) at m)
+  where
+    cases : (b : Bool) → List·Mem r (cond b [] (keep (isRoot p) (candidates p))) → eval p r ≡ pos 0
+    cases true m = absurd (not-mem-nil m)
+    cases false m = isZeroℤ-sound (eval p r) (mem-keep (isRoot p) (candidates p) .0 m .1)
+
+constant-no-root : (p : Polynomial) (r : ℤ) → T (not (isZero p)) → eval p r ≡ pos 0 → T (not (isConstant p))
+unfolding isConstant
+constant-no-root [] r n e = n
+constant-no-root (a ∷ p) r n e = not-T (isZero p) (λ z. T-not (isZero (a ∷ p)) n (constant-root a p r z e))
+
+pub roots-complete : (p : Polynomial) (r : ℤ) → T (not (isZero p)) → eval p r ≡ pos 0 → List·Mem r (roots p)
+roots-complete p r n e = rw (roots-split p) (cases (isConstant p) (constant-no-root p r n e))
+  where
+    cases : (b : Bool) → T (not b) → List·Mem r (cond b [] (keep (isRoot p) (candidates p)))
+    cases true h = absurd h
+    cases false h = mem-keep (isRoot p) (candidates p) .1 (candidates-complete p r n e, isZeroℤ-complete (eval p r) e)
+
+pub roots-ascending : (p : Polynomial) → T (not (isZero p)) → Pairwise _<ℤ_ (roots p)
+roots-ascending p n = rw (roots-split p) (cases (isConstant p))
+  where
+    cases : (b : Bool) → Pairwise _<ℤ_ (cond b [] (keep (isRoot p) (candidates p)))
+    cases true = Pairwise·nil
+    cases false = keep-pairwise (isRoot p) (candidates-ascending p n)
+
+pub roots-distinct : (p : Polynomial) → T (not (isZero p)) → List·Nodup (roots p)
+roots-distinct p n = ascending-distinct (roots-ascending p n)
+
+-- ---- examples
+
+abbrev examples : List (Polynomial × List ℤ)
+examples =
+    -- both signs: (n + 3)(n - 2)
+    (negℤ (pos 6) ∷ pos 1 ∷ pos 1 ∷ [], negℤ (pos 3) ∷ pos 2 ∷ []) ∷
+    -- zero among the roots: n³ - n
+    (pos 0 ∷ negℤ (pos 1) ∷ pos 0 ∷ pos 1 ∷ [], negℤ (pos 1) ∷ pos 0 ∷ pos 1 ∷ []) ∷
+    -- a double root: (n - 2)²
+    (pos 4 ∷ negℤ (pos 4) ∷ pos 1 ∷ [], pos 2 ∷ []) ∷
+    -- zero as a double root: n²(2n - 3)(n + 4)
+    (pos 0 ∷ pos 0 ∷ negℤ (pos 12) ∷ pos 5 ∷ pos 2 ∷ [], negℤ (pos 4) ∷ pos 0 ∷ []) ∷
+    -- no real root: n² + 1
+    (pos 1 ∷ pos 0 ∷ pos 1 ∷ [], []) ∷
+    -- no integer root: 6n² - 5n + 1
+    (pos 1 ∷ negℤ (pos 5) ∷ pos 6 ∷ [], []) ∷
+    -- constants
+    (pos 7 ∷ [], []) ∷
+    (negℤ (pos 7) ∷ [], []) ∷
+    (pos 0 ∷ [], []) ∷
+    ([], []) ∷
+    -- a constant in sixteen entries
+    (pos 5 ∷ replicate 15 (pos 0), []) ∷
+    -- sixteen entries, most of them zero
+    (negℤ (pos 6) ∷ pos 1 ∷ pos 1 ∷ replicate 13 (pos 0), negℤ (pos 3) ∷ pos 2 ∷ []) ∷
+    -- degree 15: the product of n - k for k from -7 to 7
+    (
+      pos 0 ∷ negℤ (pos 25401600) ∷ pos 0 ∷ pos 38402064 ∷ pos 0 ∷ negℤ (pos 15291640) ∷ pos 0 ∷ pos 2475473 ∷ pos 0 ∷
+          negℤ (pos 191620) ∷ pos 0 ∷ pos 7462 ∷ pos 0 ∷ negℤ (pos 140) ∷ pos 0 ∷ pos 1 ∷ [],
+      map (λ k. pos k -ℤ pos 7) (range 0 15),
+    ) ∷
+    -- a large prime: n + 268435399
+    (pos 268435399 ∷ pos 1 ∷ [], negℤ (pos 268435399) ∷ []) ∷
+    -- a large square: (n - 16383)²
+    (pos 268402689 ∷ negℤ (pos 32766) ∷ pos 1 ∷ [], pos 16383 ∷ []) ∷
+    -- a large number with 64 divisors: n² - 268435455 and n - 268435455
+    (negℤ (pos 268435455) ∷ pos 0 ∷ pos 1 ∷ [], []) ∷
+    (negℤ (pos 268435455) ∷ pos 1 ∷ [], pos 268435455 ∷ []) ∷
+    []
+
+roots-examples : map (λ e. roots (e .0)) examples ≡ map (λ e. e .1) examples
+unfolding roots range
+roots-examples = refl
