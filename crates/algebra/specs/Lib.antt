@@ -3,10 +3,10 @@ pub mod Division
 pub mod Gcd
 pub mod Sums
 pub mod Polynomials
-pub mod Coefficients
-pub mod Binomials
 pub mod Vanishing
 pub mod Divisors
+pub mod Coefficients
+pub mod Binomials
 pub mod Roots
 pub mod Order
 pub mod Pigeonhole
