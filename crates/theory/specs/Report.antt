@@ -186,7 +186,7 @@ flat-member : {A B : Type 0} (f : A → List B) {p : A} {r : B} (l : List A)
 unfolding flatten
 flat-member f [] m k = absurd (List·Memᴰ·not-nil m)
 flat-member f {p} {r} (x ∷ l) m k =
-    ⊎-elim (λ e. Memᴰ·append-left (flatten (map f l)) (rw e at k)) (λ q. Memᴰ·append-right (f x) (flat-member f l q k)) (List·Memᴰ·cases-cons m)
+    ⊎-elim (λ e. Memᴰ·append-left _ (rw e at k)) (λ q. Memᴰ·append-right (f x) (flat-member f l q k)) (List·Memᴰ·cases-cons m)
 
 flat-origin : {A B : Type 0} (f : A → List B) {r : B} (l : List A)
     → List·Memᴰ r (flatten (map f l)) → (p : A) × List·Memᴰ p l × List·Memᴰ r (f p)
