@@ -17,7 +17,7 @@ use native.Mathlib.Nat.{not-suc-le-zero}
 use native.Mathlib.Omega.{arith}
 use native.Mathlib.Decide.{decLt}
 use mathlib.Core.Path.{_≡_, refl, sym, _∙_, ap, ap₂, subst}
-use mathlib.Core.Logic.{_≢_, ⊎-elim}
+use mathlib.Core.Logic.{_↔_, _≢_, ⊎-elim}
 use mathlib.Core.List.{List, [], _∷_}
 use lib.Dec.{T}
 use lib.ListN.{length, getD, drop}
@@ -32,7 +32,7 @@ use Rattle.algebra.specs.Order.{≤ℤ-+ℤ-pos, +ℤ-≤ℤ-right, ≤ℤ-canc
 use Rattle.rules.specs.Rows.{Block, Row, noRow, All, every, zeroBlock, leadingBlock, entry}
 use Rattle.rules.specs.Stores.{unusedZero}
 use Rattle.rules.specs.Sequences.{Sequence, blockValue, blocksValue, valueOf, SatisfiesEquation, Same}
-use Rattle.theory.specs.Lists.{all-getD, all-of-every}
+use Rattle.theory.specs.Lists.{all-getD, every-all}
 
 -- ---- the value of a block as a sum over its columns
 
@@ -46,7 +46,7 @@ zero-term p n v h = ap (λ e. e *ℤ v) (eval-isZero p n h) ∙ zero-*ℤ v
 times-zero : (a v : ℤ) → v ≡ pos 0 → a *ℤ v ≡ pos 0
 times-zero a v e = ap (λ x. a *ℤ x) e ∙ *ℤ-zero a
 
-zero-block-value : (n : ℤ) (v : ℕ → ℤ) (b : Block) → T (zeroBlock b) → blockValue n v b ≡ pos 0
+pub zero-block-value : (n : ℤ) (v : ℕ → ℤ) (b : Block) → T (zeroBlock b) → blockValue n v b ≡ pos 0
 unfolding blockValue
 zero-block-value n v [] h = refl
 zero-block-value n v (p ∷ b) h =
@@ -66,14 +66,21 @@ blockValue-sum (suc m) n v (p ∷ b) h =
 -- ---- rows whose value has only one block
 
 -- Every block is zero past column m, and every block from place D on is zero.
-abbrev Used : ℕ → ℕ → List Block → Type 0
+abbrev pub Used : ℕ → ℕ → List Block → Type 0
 Used m D bs = All (λ b. T (zeroBlock (drop m b))) bs × All (λ b. T (zeroBlock b)) (drop D bs)
 
-used : (m D : ℕ) (r : Row) → T (unusedZero m D r) → Used m (suc D) (r .blocks)
+pub used : (m D : ℕ) (r : Row) → T (unusedZero m D r) ↔ Used m (suc D) (r .blocks)
 unfolding unusedZero
-used m D r h =
-    let both = T-&& (every (λ b. zeroBlock (drop m b)) (r .blocks)) (every zeroBlock (drop (suc D) (r .blocks))) .0 h in
-    (all-of-every (λ b. zeroBlock (drop m b)) (r .blocks) (both .0), all-of-every zeroBlock (drop (suc D) (r .blocks)) (both .1))
+used m D r = (λ h. let both = tests .0 h in (columns .0 (both .0), blocks .0 (both .1)), λ u. tests .1 (columns .1 (u .0), blocks .1 (u .1)))
+  where
+    columns : T (every (λ b. zeroBlock (drop m b)) (r .blocks)) ↔ All (λ b. T (zeroBlock (drop m b))) (r .blocks)
+    columns = every-all (λ b. zeroBlock (drop m b)) (r .blocks)
+
+    blocks : T (every zeroBlock (drop (suc D) (r .blocks))) ↔ All (λ b. T (zeroBlock b)) (drop (suc D) (r .blocks))
+    blocks = every-all zeroBlock (drop (suc D) (r .blocks))
+
+    tests : T (unusedZero m D r) ↔ (T (every (λ b. zeroBlock (drop m b)) (r .blocks)) × T (every zeroBlock (drop (suc D) (r .blocks))))
+    tests = T-&& (every (λ b. zeroBlock (drop m b)) (r .blocks)) (every zeroBlock (drop (suc D) (r .blocks)))
 
 -- The sequence is zero at the D indices from k downward.
 abbrev ZeroDown : ℕ → ℕ → Sequence → ℤ → Type 0
@@ -87,7 +94,7 @@ zero-vector-value m n v b h z =
 one-add : (i : ℕ) → 1 + i ≡ suc i
 one-add i = omega arith
 
-predℤ-minus : (k : ℤ) (i : ℕ) → predℤ k -ℤ pos i ≡ k -ℤ pos (suc i)
+pub predℤ-minus : (k : ℤ) (i : ℕ) → predℤ k -ℤ pos i ≡ k -ℤ pos (suc i)
 predℤ-minus k i = ap (λ x. x -ℤ pos i) (sym (-ℤ-one k)) ∙ +ℤ-assoc k (negℤ (pos 1)) (negℤ (pos i)) ∙ ap (λ x. k +ℤ x) together
   where
     together : negℤ (pos 1) +ℤ negℤ (pos i) ≡ negℤ (pos (suc i))
@@ -119,7 +126,7 @@ module _ (m : ℕ) (n : ℤ) (w : Sequence) where
   leading-value : (D : ℕ) (l : ℤ) (r : Row) → T (unusedZero m D r) → ZeroDown m D w (predℤ (n +ℤ l))
       → valueOf l r w n ≡ sumBelow m (λ c. eval (entry r c) n *ℤ w (n +ℤ l) c)
   unfolding valueOf entry leadingBlock
-  leading-value D l r h z = first-block D (n +ℤ l) (r .blocks) (used m D r h) z
+  leading-value D l r h z = first-block D (n +ℤ l) (r .blocks) (used m D r .0 h) z
 
 -- ---- back substitution
 
@@ -234,7 +241,7 @@ minus-below x i = <ℤ-+1 .1 (≤ℤ-intro i (+ℤ-assoc lower (pos 1) (pos i) �
     lower : ℤ
     lower = x -ℤ pos (suc i)
 
-move-right : (a b c : ℤ) → a +ℤ b ≡ c → a ≡ c -ℤ b
+pub move-right : (a b c : ℤ) → a +ℤ b ≡ c → a ≡ c -ℤ b
 move-right a b c e = sym (+ℤ-negℤ-cancel a b) ∙ ap (λ x. x -ℤ b) e
 
 -- An index i + 1 ≤ D below n + l is at least n + t.
