@@ -3,6 +3,7 @@ pub mod Steps
 pub mod Ending
 pub mod Triangular
 pub mod Shapes
+pub mod Limits
 pub mod Values
 pub mod Multipliers
 pub mod Solutions

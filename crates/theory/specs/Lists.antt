@@ -9,7 +9,7 @@
 --   all-take, all-drop, all-tail, all-reverse, all-zipWith   All of parts, of the reverse, of a list made from two
 --   every-all                              the test `every` says that all pass
 --   every-append, every-take, every-drop, every-mono   the test on ++ and on parts, and a weaker test
---   length-zipWith, zipWith-drop           the length of a list made from two, and what is left of it
+--   length-zipWith, zipWith-drop, map-drop   the length of a list made from two; drop goes inside
 use mathlib.Core.Path.{_≡_, refl, sym, _∙_, ap, subst}
 use mathlib.Core.Logic.{_↔_, ⊎-elim}
 use Prim.Native.Nat.{ℕ, zero, suc, _<_}
@@ -215,3 +215,8 @@ zipWith-drop f (suc n) (x ∷ l) [] = sym (zipWith-nil f (drop n l))
     zipWith-nil f [] = refl
     zipWith-nil f (x ∷ l) = refl
 zipWith-drop f (suc n) (x ∷ l) (y ∷ m) = zipWith-drop f n l m
+
+pub map-drop : {A B : Type 0} (f : A → B) (n : ℕ) (l : List A) → drop n (map f l) ≡ map f (drop n l)
+map-drop f zero l = refl
+map-drop f (suc n) [] = refl
+map-drop f (suc n) (x ∷ l) = map-drop f n l
