@@ -1,5 +1,6 @@
 pub mod Lists
 pub mod Steps
+pub mod Cells
 pub mod Ending
 pub mod Triangular
 pub mod Shapes

@@ -208,7 +208,7 @@ relationRight-iff z e = T-&& (small (e .index)) (rowRight z (e .row))
 module _ (z : Sizes) (s : State) (j : ℕ) (before : j < current s) (below : current s < length (s .rows)) (right : All (λ r. T (rowRight z r)) (s .rows)) where
   -- The rows after the exchange.
   exchanged-right : All (λ r. T (rowRight z r)) (exchanged s j .rows)
-  exchanged-right = narrowFirst-all (λ r. T (rowRight z r)) s (current s) j below (omega arith) right
+  exchanged-right = narrowFirst-all (λ r. T (rowRight z r)) s (current s) j below (omega arith) .1 right
 
   exchanged-row : (i : ℕ) → i ≤ current s → T (rowRight z (rowAt (exchanged s j) i))
   unfolding rowAt

@@ -10,10 +10,10 @@
 --   order-distinct           the columns of the settled rows are different
 --   order-complete           with m settled rows and m columns in use, every column belongs to a settled row
 --   combined-clears          the row that a combination with row j makes is zero at the columns of rows 1 to j
-use Prim.Native.Nat.{ℕ, zero, suc, _≤_, _<_, zero-le}
-use mathlib.Core.Path.{_≡_, refl, sym, _∙_, ap, subst}
+use Prim.Native.Nat.{ℕ, suc, _≤_, _<_, zero-le}
+use mathlib.Core.Path.{_≡_, refl, sym, _∙_, ap, ap₂, subst}
 use mathlib.Core.Logic.{_≢_, _⊎_, inl, inr}
-use mathlib.Core.Bool.{Bool, true, false, not}
+use mathlib.Core.Bool.{not}
 use mathlib.Core.List.{List, [], _∷_, _++_, List·Memᴰ, List·Memᴰ·head, List·Memᴰ·tail}
 use mathlib.Core.Option.{some}
 use native.Mathlib.Nat.{not-suc-le-zero, zero-lt-suc, suc-le-suc-iff}
@@ -21,15 +21,19 @@ use native.Mathlib.Numerals.{add-one}
 use native.Mathlib.Decide.{ℕ-discrete, decLt}
 use native.Mathlib.Omega.{arith}
 use lib.Dec.{T, T-not}
+use lib.IntN.{ℤ, pos, _+ℤ_}
 use lib.ListN.{length, getD, length-append, List·getD-append}
 use lib.Seq.{getD-append-seam}
-use Rattle.algebra.specs.Polynomials.{Polynomial, isZero}
+use Rattle.algebra.specs.Polynomials.{isZero, add, mul, eval, eval-add, eval-mul}
+use Rattle.algebra.specs.Vanishing.{zero-everywhere}
 use Rattle.algebra.specs.Pigeonhole.{Distinct, pigeonhole}
-use Rattle.rules.specs.Rows.{Row, Relation, noRow, All, entry, leadingBlock, firstNonzero}
-use Rattle.rules.specs.Elimination.{Side, State, start, rowAt, putRow, listRelations, settle, countShift}
+use Rattle.rules.specs.Rows.{Row, Relation, noRow, All, entry, leadingBlock, firstNonzero, combine}
+use Rattle.rules.specs.Elimination.{Side, Multipliers, multipliers, multipliersAt, limitDegrees, within, State, start, rowAt, putRow, settle, countShift}
 use Rattle.theory.specs.Lists.{all-getD}
-use Rattle.theory.specs.Steps.{current, met, MetZeroBelow, exchanged, listed, Stepped, combined, settled, shifted, Chain, chain-induction}
-use Rattle.theory.specs.Steps.{rowAt-putRow-other, rowAt-listRelations, rowAt-countShift, stepped-length, listed-order, length-putRow, length-narrowFirst, order-narrowFirst, rowAt-narrowFirst-other, narrowFirst-both, firstNonzero-some}
+use Rattle.theory.specs.Multipliers.{multipliers-cancel}
+use Rattle.theory.specs.Cells.{cell, cell-combine, combine-zero, primitive-zero, cut-zero}
+use Rattle.theory.specs.Steps.{current, met, MetZeroBelow, exchanged, listed, combination, multipliersFor, Stepped, combined, settled, shifted, Chain, chain-induction}
+use Rattle.theory.specs.Steps.{rowAt-putRow-same, rowAt-putRow-other, order-narrowFirst, limitDegrees-within, rowAt-listRelations, rowAt-countShift, stepped-length, listed-order, listed-rows, length-putRow, rowAt-narrowFirst-other, narrowFirst-both, firstNonzero-some}
 
 abbrev pub column : State → ℕ → ℕ
 column s k = getD (s .order) k 0
@@ -49,14 +53,18 @@ unfolding start
 triangular-start rows relations = record { fits = zero-le; pivots = λ j h. absurd (not-suc-le-zero h) }
 
 -- The exchange of rule 2: row i meets column c(j) first, so it can take the place of row j.
-exchanged-pivots : (s : State) (j : ℕ) → Triangular s → j < current s → current s < length (s .rows) → MetZeroBelow s j
-    → T (not (isZero (met s j))) → (k : ℕ) → k < current s → PivotRow (s .order) k (rowAt (exchanged s j) k)
-exchanged-pivots s j t below more clear meets k h = cases (ℕ-discrete k j)
-  where
-    cases : Dec (k ≡ j) → PivotRow (s .order) k (rowAt (exchanged s j) k)
-    cases (yes e) = subst (λ n. PivotRow (s .order) n (rowAt (exchanged s j) n)) (sym e)
-        (narrowFirst-both (PivotRow (s .order) j) s (current s) j more (omega arith) (record { zeros = clear; diagonal = meets }) (t .pivots j below) .1)
-    cases (no n) = rw (rowAt-narrowFirst-other s (current s) j k (omega arith) n) (t .pivots k h)
+module _ (s : State) (j : ℕ) (t : Triangular s) (below : j < current s) (more : current s < length (s .rows))
+    (clear : MetZeroBelow s j) (meets : T (not (isZero (met s j)))) where
+  pub exchanged-both : PivotRow (s .order) j (rowAt (exchanged s j) (current s)) × PivotRow (s .order) j (rowAt (exchanged s j) j)
+  exchanged-both = narrowFirst-both (PivotRow (s .order) j) s (current s) j more (omega arith)
+      (record { zeros = clear; diagonal = meets }) (t .pivots j below)
+
+  pub exchanged-pivots : (k : ℕ) → k < current s → PivotRow (s .order) k (rowAt (exchanged s j) k)
+  exchanged-pivots k h = cases (ℕ-discrete k j)
+    where
+      cases : Dec (k ≡ j) → PivotRow (s .order) k (rowAt (exchanged s j) k)
+      cases (yes e) = subst (λ n. PivotRow (s .order) n (rowAt (exchanged s j) n)) (sym e) (exchanged-both .1)
+      cases (no n) = rw (rowAt-narrowFirst-other s (current s) j k (omega arith) n) (t .pivots k h)
 
 -- One more column at the end does not change what is said of the columns before it.
 pivot-append : (order : List ℕ) (c j : ℕ) (r : Row) → j < length order → PivotRow order j r → PivotRow (order ++ (c ∷ [])) j r
@@ -165,3 +173,64 @@ module _ (m : ℕ) (s : State) (t : Triangular s) (narrow : All (ColumnsBelow m)
   pub order-complete : current s ≡ m → (c : ℕ) → c < m → (j : ℕ) × (j < m) × (column s j ≡ c)
   order-complete size c h =
       let (j, b, e) = member-place (pigeonhole m (s .order) (order-distinct s t) size order-below c h) in (j, subst (λ n. j < n) size b, e)
+
+-- ---- the step is the document's loop over j
+
+-- Two rows that first meet the order at place j: their combination by rule 2's multipliers is zero there.
+cancelled : (r q : Row) (c : ℕ) → T (not (isZero (entry q c)))
+    → T (isZero (cell (combine (multipliers (entry q c) (entry r c) .g) (multipliers (entry q c) (entry r c) .h) r q) 0 c))
+unfolding entry isZero
+cancelled r q c nonzero = go (cell-combine x.g x.h r q 0 c)
+  where
+    x : Multipliers
+    x = multipliers (entry q c) (entry r c)
+
+    go : (cell (combine x.g x.h r q) 0 c ≡ add (mul x.g (cell r 0 c)) (mul x.h (cell q 0 c))) ⊎ (cell (combine x.g x.h r q) 0 c ≡ [])
+        → T (isZero (cell (combine x.g x.h r q) 0 c))
+    go (inl e) = rw e (zero-everywhere (add (mul x.g (cell r 0 c)) (mul x.h (cell q 0 c))) .1 vanishes)
+      where
+        vanishes : (n : ℤ) → eval (add (mul x.g (cell r 0 c)) (mul x.h (cell q 0 c))) n ≡ pos 0
+        vanishes n =
+            eval-add (mul x.g (cell r 0 c)) (mul x.h (cell q 0 c)) n ∙ ap₂ _+ℤ_ (eval-mul x.g (cell r 0 c) n) (eval-mul x.h (cell q 0 c) n)
+            ∙ multipliers-cancel (entry q c) (entry r c) nonzero n
+    go (inr e) = rw e tt
+
+-- At the columns before it both rows are zero.
+combine-pivots : (order : List ℕ) (j : ℕ) (r q : Row) (x : Multipliers)
+    → x ≡ multipliers (entry q (getD order j 0)) (entry r (getD order j 0)) → PivotRow order j r → PivotRow order j q
+    → (k : ℕ) → k ≤ j → T (isZero (cell (combine (x .g) (x .h) r q) 0 (getD order k 0)))
+unfolding entry
+combine-pivots order j r q x same p e k h = cases (ℕ-discrete k j)
+  where
+    cases : Dec (k ≡ j) → T (isZero (cell (combine (x .g) (x .h) r q) 0 (getD order k 0)))
+    cases (yes f) = subst (λ n. T (isZero (cell (combine (x .g) (x .h) r q) 0 (getD order n 0)))) (sym f)
+        (subst (λ y. T (isZero (cell (combine (y .g) (y .h) r q) 0 (getD order j 0)))) (sym same) (cancelled r q (getD order j 0) (e .diagonal)))
+    cases (no n) = let b : k < j = omega arith in combine-zero (x .g) (x .h) r q 0 (getD order k 0) (p .zeros k b) (e .zeros k b)
+
+module _ (s : State) (j : ℕ) (t : Triangular s) (below : j < current s) (more : current s < length (s .rows))
+    (clear : MetZeroBelow s j) (meets : T (not (isZero (met s j)))) where
+  both : PivotRow (s .order) j (rowAt (exchanged s j) (current s)) × PivotRow (s .order) j (rowAt (exchanged s j) j)
+  both = exchanged-both s j t below more clear meets
+
+  multipliersFor-entries : multipliersFor s j
+      ≡ multipliers (entry (rowAt (exchanged s j) j) (column s j)) (entry (rowAt (exchanged s j) (current s)) (column s j))
+  unfolding multipliersAt
+  multipliersFor-entries =
+      ap (λ l. multipliers (entry (rowAt (exchanged s j) j) (getD l j 0)) (entry (rowAt (exchanged s j) (current s)) (getD l j 0)))
+      (order-narrowFirst s (current s) j)
+
+  -- The row that the combination makes is zero at c(1) to c(j).
+  pub combined-clears : (r : Row) → limitDegrees (combination s j) ≡ within r → (k : ℕ) → k ≤ j → T (isZero (entry r (column s k)))
+  unfolding entry
+  combined-clears r e k h = rw (limitDegrees-within (combination s j) r e .2)
+      (cut-zero (combination s j) 0 (column s k) (primitive-zero _ 0 (column s k)
+      (combine-pivots (s .order) j (rowAt (exchanged s j) (current s)) (rowAt (exchanged s j) j) (multipliersFor s j)
+      multipliersFor-entries (both .0) (both .1) k h)))
+
+  -- So the next step meets a settled row after row j, or none.
+  pub combined-advances : (side : Side) (r : Row) → limitDegrees (combination s j) ≡ within r
+      → MetZeroBelow (putRow (listed side s j) (current s) r) (suc j)
+  unfolding putRow
+  combined-advances side r e k h =
+      subst (λ l. T (isZero (entry (rowAt (putRow (listed side s j) (current s) r) (length l)) (getD l k 0)))) (sym (listed-order side s j))
+      (rw (rowAt-putRow-same (listed side s j) (current s) r (omega (arith, listed-rows side s j))) (combined-clears r e k (omega arith)))
