@@ -4,6 +4,7 @@ pub mod Cells
 pub mod Ending
 pub mod Triangular
 pub mod Shapes
+pub mod Limits
 pub mod Values
 pub mod Multipliers
 pub mod Solutions

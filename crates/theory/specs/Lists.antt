@@ -4,12 +4,12 @@
 --   all-mono, all-both                     All under an implication, under a conjunction
 --   all-getD, getD-all                     All by the members at the places below the length
 --   all-member, member-all                 All by membership
---   all-set, all-of-set                    one member put in, and taken back
+--   all-set, all-of-set, all-swap          one member put in, and taken back; two members change places
 --   all-append, all-map, all-flatten       All of ++, of map, of flatten, both ways
 --   all-take, all-drop, all-tail, all-reverse, all-zipWith   All of parts, of the reverse, of a list made from two
 --   every-all                              the test `every` says that all pass
 --   every-append, every-take, every-drop, every-mono   the test on ++ and on parts, and a weaker test
---   length-zipWith, zipWith-drop           the length of a list made from two, and what is left of it
+--   length-zipWith, zipWith-drop, map-drop   the length of a list made from two; drop goes inside
 use mathlib.Core.Path.{_≡_, refl, sym, _∙_, ap, subst}
 use mathlib.Core.Logic.{_↔_, ⊎-elim}
 use Prim.Native.Nat.{ℕ, zero, suc, _<_}
@@ -18,6 +18,8 @@ use mathlib.Core.Bool.{Bool, true, false, _&&_}
 use mathlib.Core.List.{List, [], _∷_, _++_, map, reverse, reverseAux, tail, flatten, zipWith, List·Memᴰ, List·Memᴰ·head, List·Memᴰ·tail, List·Memᴰ·cases-cons, List·Memᴰ·not-nil, reverse-reverse}
 use lib.Dec.{T}
 use lib.ListN.{length, take, drop, getD, set}
+use lib.Seq.{getD-set-same, getD-set-other, lt-length-set}
+use native.Mathlib.Decide.{ℕ-discrete}
 use Rattle.algebra.specs.Polynomials.{T-&&}
 use Rattle.rules.specs.Rows.{All, every}
 
@@ -82,6 +84,41 @@ module _ {A : Type 0} (P : A → Type 0) where
   all-of-set [] i x d p a = tt
   all-of-set (y ∷ l) zero x d p a = (p, a .1)
   all-of-set (y ∷ l) (suc i) x d p a = (a .0, all-of-set l i x d p (a .1))
+
+  -- Two members change places.
+  swapped-place : (l : List A) (d : A) (i j : ℕ) → i < length l → getD (set l j (getD l i d)) i d ≡ getD l i d
+  swapped-place l d i j h = cases (ℕ-discrete i j)
+    where
+      cases : Dec (i ≡ j) → getD (set l j (getD l i d)) i d ≡ getD l i d
+      cases (yes e) = subst (λ k. getD (set l k (getD l i d)) i d ≡ getD l i d) e (getD-set-same l i (getD l i d) d h)
+      cases (no n) = getD-set-other l j i (getD l i d) d n
+
+  pub all-swap : (l : List A) (d : A) (i j : ℕ) → i < length l → j < length l → All P (set (set l j (getD l i d)) i (getD l j d)) ↔ All P l
+  all-swap l d i j below-i below-j = (back, forth)
+    where
+      once : List A
+      once = set l j (getD l i d)
+
+      twice : List A
+      twice = set once i (getD l j d)
+
+      inside : (k : ℕ) → k < length l → k < length twice
+      inside k h = lt-length-set once i (getD l j d) (lt-length-set l j (getD l i d) h)
+
+      forth : All P l → All P twice
+      forth a = all-set once i (getD l j d) (all-getD l d j below-j a) (all-set l j (getD l i d) (all-getD l d i below-i a) a)
+
+      -- What stands at place i now stood at place j, and the other way round.
+      now-i : getD twice i d ≡ getD l j d
+      now-i = getD-set-same once i (getD l j d) d (lt-length-set l j (getD l i d) below-i)
+
+      now-j : Dec (j ≡ i) → getD twice j d ≡ getD l i d
+      now-j (yes e) = ap (λ k. getD twice k d) e ∙ now-i ∙ ap (λ k. getD l k d) e
+      now-j (no n) = getD-set-other once i j (getD l j d) d n ∙ getD-set-same l j (getD l i d) d below-j
+
+      back : All P twice → All P l
+      back a = all-of-set l j (getD l i d) d (subst P now-i (all-getD twice d i (inside i below-i) a))
+          (all-of-set once i (getD l j d) d (subst P (sym (swapped-place l d i j below-i)) (subst P (now-j (ℕ-discrete j i)) (all-getD twice d j (inside j below-j) a))) a)
 
   pub append-all : (l m : List A) → All P l → All P m → All P (l ++ m)
   unfolding All
@@ -215,3 +252,8 @@ zipWith-drop f (suc n) (x ∷ l) [] = sym (zipWith-nil f (drop n l))
     zipWith-nil f [] = refl
     zipWith-nil f (x ∷ l) = refl
 zipWith-drop f (suc n) (x ∷ l) (y ∷ m) = zipWith-drop f n l m
+
+pub map-drop : {A B : Type 0} (f : A → B) (n : ℕ) (l : List A) → drop n (map f l) ≡ map f (drop n l)
+map-drop f zero l = refl
+map-drop f (suc n) [] = refl
+map-drop f (suc n) (x ∷ l) = map-drop f n l

@@ -5,32 +5,32 @@
 --
 -- Main statements
 --   primitive-divides             `primitive` divides by a positive common divisor of all coefficients
---   exchange-all, narrowFirst-all   what all rows have, all rows have after an exchange
+--   exchange-all, narrowFirst-all   all rows have a property exactly if all rows have it after an exchange
 --   mapRow-shaped, combine-shaped, primitive-shaped, cut-shaped, shiftUp-shaped, mirrorRow-shaped   the shape after each change
 --   entry-column, entry-length    a nonzero entry stands at a column of the row; every entry has the row's number of coefficients
---   multipliers-lengths           the multipliers have as many coefficients as the entries
 --   rootRelations-all             what the relations of rule 3 have
 --   current-shaped, pivot-shaped, combined-shaped, shifted-shaped   the rows of a step
 --   stepped-shapes, chain-shapes  steps keep the shapes
 use mathlib.Core.Path.{_≡_, refl, sym, _∙_, ap, ap₂, subst}
+use mathlib.Core.Logic.{_↔_}
 use Prim.Native.Nat.{ℕ, zero, suc, _+_, _≤_, _<_, max}
 use native.Mathlib.Nat.{suc-inj, zero-lt-suc, one-dvd, suc-le-suc-iff}
 use native.Mathlib.Omega.{arith}
-use mathlib.Core.Bool.{Bool, true, false, not, cond}
+use mathlib.Core.Bool.{not}
 use mathlib.Core.List.{List, [], _∷_, _++_, map, reverse, tail, zipWith, List·Mem}
 use lib.Dec.{T}
-use lib.ListN.{length, take, drop, getD, set, length-append, length-map, length-reverse, take-append-drop}
+use lib.ListN.{length, take, drop, getD, length-append, length-map, length-reverse, take-append-drop}
 use lib.Seq.{length-take-le}
 use lib.IntN.{ℤ, pos}
-use lib.Signed.{ltZ}
 use Rattle.algebra.specs.Gcd.{content, divideBy, DividesAll, content-divides, length-divideBy, divideBy-one}
-use Rattle.algebra.specs.Polynomials.{Polynomial, isZero, add, mul, lead, shift, mirror, negate, length-add, length-mul, length-negate, length-shift, length-mirror}
+use Rattle.algebra.specs.Polynomials.{Polynomial, isZero, add, mul, shift, mirror, length-add, length-mul, length-shift, length-mirror}
 use Rattle.algebra.specs.Roots.{roots}
 use Rattle.rules.specs.Limits.{coefficientCount, columnCount, blockCount}
 use Rattle.rules.specs.Rows.{Block, Row, Relation, noRow, All, mapRow, coefficientsOf, leadingBlock, entry, combine, primitive, cut, blank, shiftUp, mirrorRow}
-use Rattle.rules.specs.Elimination.{Side, Multipliers, leading, trailing, turnSigns, multipliers, State, within, limitCoefficients, limitDegrees, rowAt, putRow, listRelations, settle, countShift, exchange, narrowFirst, multipliersAt, listing, rootRelations}
+use Rattle.rules.specs.Elimination.{Side, leading, trailing, multipliers, State, within, limitCoefficients, limitDegrees, rowAt, putRow, listRelations, settle, countShift, exchange, narrowFirst, multipliersAt, listing, rootRelations}
 use Rattle.rules.specs.Stores.{Shaped, StoreRow}
-use Rattle.theory.specs.Lists.{all-mono, all-getD, all-set, append-all, all-take, all-drop, reverse-all, map-all, member-all, all-zipWith, length-zipWith}
+use Rattle.theory.specs.Lists.{all-mono, all-getD, all-set, all-swap, append-all, all-take, all-drop, reverse-all, map-all, member-all, all-zipWith, length-zipWith}
+use Rattle.theory.specs.Multipliers.{length-multipliers-g, length-multipliers-h}
 use Rattle.theory.specs.Steps.{Stepped, combined, settled, shifted, Chain, current, met, exchanged, multipliersFor, combination}
 use Rattle.theory.specs.Steps.{Narrowed, narrowed, kept, swapped, length-narrowFirst, order-narrowFirst, relations-narrowFirst, limitDegrees-within, limitCoefficients-within, chain-induction}
 
@@ -57,18 +57,16 @@ primitive-divides r = go (content (coefficientsOf r)) (content-divides (coeffici
 -- ---- the rows after an exchange
 
 module _ (P : Row → Type 0) (s : State) (i j : ℕ) (below-i : i < length (s .rows)) (below-j : j < length (s .rows)) where
-  pub exchange-all : All P (s .rows) → All P (exchange s i j .rows)
+  pub exchange-all : All P (exchange s i j .rows) ↔ All P (s .rows)
   unfolding exchange putRow rowAt
-  exchange-all a =
-      all-set P (set (s .rows) j (rowAt s i)) i (rowAt s j) (all-getD P (s .rows) noRow j below-j a)
-      (all-set P (s .rows) j (rowAt s i) (all-getD P (s .rows) noRow i below-i a) a)
+  exchange-all = all-swap P (s .rows) noRow i j below-i below-j
 
-  pub narrowFirst-all : All P (s .rows) → All P (narrowFirst s i j .rows)
-  narrowFirst-all a = go (narrowed s i j)
+  pub narrowFirst-all : All P (narrowFirst s i j .rows) ↔ All P (s .rows)
+  narrowFirst-all = go (narrowed s i j)
     where
-      go : {e : State} → Narrowed s i j e → All P (e .rows)
-      go (kept w) = a
-      go (swapped w) = exchange-all a
+      go : {e : State} → Narrowed s i j e → All P (e .rows) ↔ All P (s .rows)
+      go (kept w) = (λ a. a, λ a. a)
+      go (swapped w) = exchange-all
 
 -- ---- shapes
 
@@ -164,7 +162,7 @@ mirrorRow-shaped b c k D r h = mapRow-shaped mirror k k (λ p e. length-mirror p
         (reverse-all (BlockShaped c k) (take (suc D) (r .blocks)) (all-take (BlockShaped c k) (suc D) (r .blocks) (h .1)))
         (all-drop (BlockShaped c k) (suc D) (r .blocks) (h .1))
 
--- ---- entries and multipliers
+-- ---- entries
 
 nonzero-place : (ps : List Polynomial) (c : ℕ) → T (not (isZero (getD ps c []))) → c < length ps
 unfolding isZero
@@ -185,22 +183,6 @@ pub entry-length : (b w k : ℕ) (r : Row) (c : ℕ) → 0 < b → Shaped b w k 
 unfolding entry
 entry-length b w k r c n h e = let block = leadingBlock-shaped b w k r n h in
     all-getD (λ p. length p ≡ k) (leadingBlock r) [] c (subst (λ l. c < l) (sym (block .0)) e) (block .1)
-
-turnSigns-lengths : (g h : Polynomial) → (length (turnSigns g h .g) ≡ length g) × (length (turnSigns g h .h) ≡ length h)
-unfolding turnSigns
-turnSigns-lengths g h = go (ltZ (lead g) (pos 0))
-  where
-    go : (t : Bool) → let x : Multipliers = cond t (record { g = negate g; h = negate h }) (record { g = g; h = h }) in
-        (length (x .g) ≡ length g) × (length (x .h) ≡ length h)
-    go true = (length-negate g, length-negate h)
-    go false = (refl, refl)
-
-pub multipliers-lengths : (a b : Polynomial) → (length (multipliers a b .g) ≡ length a) × (length (multipliers a b .h) ≡ length b)
-unfolding multipliers
-multipliers-lengths a b =
-    let d = content (a ++ b) in
-    let l = turnSigns-lengths (divideBy d a) (negate (divideBy d b)) in
-    (l .0 ∙ length-divideBy d a, l .1 ∙ length-negate (divideBy d b) ∙ length-divideBy d b)
 
 -- ---- steps
 
@@ -225,7 +207,7 @@ rootRelations-all P side g r h = map-all P (λ n. record { index = n; row = r })
 module _ (s : State) (j : ℕ) (before : j < current s) (below : current s < length (s .rows)) (shapes : All StoreRow (s .rows)) where
   -- The two rows of a combination, after the exchange.
   pub exchanged-shapes : All StoreRow (exchanged s j .rows)
-  exchanged-shapes = narrowFirst-all StoreRow s (current s) j below (omega arith) shapes
+  exchanged-shapes = narrowFirst-all StoreRow s (current s) j below (omega arith) .1 shapes
 
   pub current-shaped : StoreRow (rowAt (exchanged s j) (current s))
   unfolding rowAt
@@ -250,9 +232,10 @@ module _ (s : State) (j : ℕ) (before : j < current s) (below : current s < len
     unfolding multipliersAt
     multipliersFor-lengths =
         let c = getD (exchanged s j .order) j 0 in
-        let l = multipliers-lengths (entry (rowAt (exchanged s j) j) c) (entry (rowAt (exchanged s j) (current s)) c) in (
-          l .0 ∙ entry-length-at (rowAt (exchanged s j) j) pivot-shaped,
-          l .1 ∙ entry-length-at (rowAt (exchanged s j) (current s)) current-shaped,
+        let a = entry (rowAt (exchanged s j) j) c in
+        let b = entry (rowAt (exchanged s j) (current s)) c in (
+          length-multipliers-g a b ∙ entry-length-at (rowAt (exchanged s j) j) pivot-shaped,
+          length-multipliers-h a b ∙ entry-length-at (rowAt (exchanged s j) (current s)) current-shaped,
         )
 
     pub combination-shaped : Shaped blockCount columnCount 31 (combination s j)
