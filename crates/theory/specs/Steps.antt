@@ -405,22 +405,22 @@ step-view side s = go (ltb (current s) (length (s .rows))) (ltb→lt (current s)
 
 -- ---- the same by the outcome
 
-going-injective : {s s' : State} → going s ≡ going s' → s ≡ s'
+pub going-injective : {s s' : State} → going s ≡ going s' → s ≡ s'
 going-injective e = cc
 
-done-injective : {s s' : State} → done s ≡ done s' → s ≡ s'
+pub done-injective : {s s' : State} → done s ≡ done s' → s ≡ s'
 done-injective e = cc
 
-refused-injective : {n n' : ℕ} → refused n ≡ refused n' → n ≡ n'
+pub refused-injective : {n n' : ℕ} → refused n ≡ refused n' → n ≡ n'
 refused-injective e = cc
 
-going≢done : {s s' : State} → going s ≡ done s' → ⊥
+pub going≢done : {s s' : State} → going s ≡ done s' → ⊥
 going≢done e = let z : _≡_ {A = ℕ} 0 1 = cc in omega arith
 
-going≢refused : {s : State} {n : ℕ} → going s ≡ refused n → ⊥
+pub going≢refused : {s : State} {n : ℕ} → going s ≡ refused n → ⊥
 going≢refused e = let z : _≡_ {A = ℕ} 0 1 = cc in omega arith
 
-done≢refused : {s : State} {n : ℕ} → done s ≡ refused n → ⊥
+pub done≢refused : {s : State} {n : ℕ} → done s ≡ refused n → ⊥
 done≢refused e = let z : _≡_ {A = ℕ} 0 1 = cc in omega arith
 
 view-going : {side : Side} {s s' : State} {o : Outcome} → StepView side s o → o ≡ going s' → Stepped side s s'

@@ -9,7 +9,9 @@
 --   triangular-start, triangular-stepped, triangular-chain   every state of a run is triangular
 --   order-distinct           the columns of the settled rows are different
 --   order-complete           with m settled rows and m columns in use, every column belongs to a settled row
+--   column-below             the columns of the settled rows are in use
 --   combined-clears          the row that a combination with row j makes is zero at the columns of rows 1 to j
+--   combined-advances        so the settled row that is met next comes after row j
 use Prim.Native.Nat.{ℕ, suc, _≤_, _<_, zero-le}
 use mathlib.Core.Path.{_≡_, refl, sym, _∙_, ap, ap₂, subst}
 use mathlib.Core.Logic.{_≢_, _⊎_, inl, inr}
