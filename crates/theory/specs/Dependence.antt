@@ -57,8 +57,8 @@ unfolding blocksValue sumBelow sum range
 blocks-places n z k [] = refl
 blocks-places n z k (b ∷ bs) =
     ap₂ (λ a s. blockValue n (z a) b +ℤ s) (sym (+ℤ-idr k))
-      (blocks-places n z (predℤ k) bs
-      ∙ sumBelow-congr (length bs) (λ q. blockValue n (z (predℤ k -ℤ pos q)) (getD bs q [])) (λ q. blockValue n (z (k -ℤ pos (suc q))) (getD bs q [])) (λ q _. ap (λ i. blockValue n (z i) (getD bs q [])) (earlier q)))
+    (blocks-places n z (predℤ k) bs
+    ∙ sumBelow-congr (length bs) (λ q. blockValue n (z (predℤ k -ℤ pos q)) (getD bs q [])) (λ q. blockValue n (z (k -ℤ pos (suc q))) (getD bs q [])) (λ q _. ap (λ i. blockValue n (z i) (getD bs q [])) (earlier q)))
     ∙ sym (sumBelow-front (length bs) (λ q. blockValue n (z (k -ℤ pos q)) (getD (b ∷ bs) q [])))
   where
     earlier : (q : ℕ) → predℤ k -ℤ pos q ≡ k -ℤ pos (suc q)
@@ -126,7 +126,7 @@ unfolding valueOf polynomialAt
 row-expansion l r W C p z n top wide columns e =
     blocks-window W p n z (n +ℤ l) (r .blocks) wide
     ∙ sumBelow-congr W (λ q. blockValue n (z (n +ℤ l +ℤ pos p -ℤ pos q)) (blockFrom (r .blocks) (pos q -ℤ pos p)))
-      (λ q. sumBelow C (λ c. z (top -ℤ pos q) c *ℤ valueOf l r (delta (top -ℤ pos q) c) n)) (λ q _. at q)
+    (λ q. sumBelow C (λ c. z (top -ℤ pos q) c *ℤ valueOf l r (delta (top -ℤ pos q) c) n)) (λ q _. at q)
   where
     at : (q : ℕ)
         → blockValue n (z (n +ℤ l +ℤ pos p -ℤ pos q)) (blockFrom (r .blocks) (pos q -ℤ pos p))
@@ -135,7 +135,7 @@ row-expansion l r W C p z n top wide columns e =
         ap (λ t. blockValue n (z (t -ℤ pos q)) (blockFrom (r .blocks) (pos q -ℤ pos p))) e
         ∙ block-window C n (z (top -ℤ pos q)) (blockFrom (r .blocks) (pos q -ℤ pos p)) (blockFrom-length C (r .blocks) columns (pos q -ℤ pos p))
         ∙ sumBelow-congr C (λ c. eval (getD (blockFrom (r .blocks) (pos q -ℤ pos p)) c []) n *ℤ z (top -ℤ pos q) c)
-          (λ c. z (top -ℤ pos q) c *ℤ valueOf l r (delta (top -ℤ pos q) c) n) (λ c _. term c)
+        (λ c. z (top -ℤ pos q) c *ℤ valueOf l r (delta (top -ℤ pos q) c) n) (λ c _. term c)
       where
         cancel : (a b : ℤ) → b -ℤ a ≡ l -ℤ (n +ℤ l +ℤ a -ℤ b -ℤ n)
         cancel a b = sym (+ℤ-negℤ-cancel (b -ℤ a) l) ∙ right ∙ ap (λ t. l -ℤ t) (sym (+ℤ-negℤ-cancel (l +ℤ a -ℤ b) n) ∙ left)
@@ -197,7 +197,7 @@ eval-addAll f (a ∷ l) x = eval-add (f a) (addAll f l) x ∙ ap (λ s. eval (f 
 
 combinationAt-law : (l : ℤ) (rows : List Row) (N : ℕ) (S : ℕ → ℤ → Polynomial) (s : ℤ) (c : ℕ)
     → combinationAt l rows N S s c
-      ≡ addAll (λ i. addAll (λ k. mul (S i k) (shiftBy k (polynomialAt l (getD rows i noRow) (s -ℤ k) c))) (shiftsWithin N)) (range 0 (length rows))
+    ≡ addAll (λ i. addAll (λ k. mul (S i k) (shiftBy k (polynomialAt l (getD rows i noRow) (s -ℤ k) c))) (shiftsWithin N)) (range 0 (length rows))
 unfolding combinationAt
 combinationAt-law l rows N S s c = refl
 
@@ -209,7 +209,7 @@ unfolding combinationValue copies sumBelow sumWithin
 eval-combination l rows N S s c x =
     ap (λ p. eval p x) (combinationAt-law l rows N S s c) ∙ eval-addAll (λ i. addAll (term i) (shiftsWithin N)) (range 0 (length rows)) x
     ∙ sum-congr (λ i. eval (addAll (term i) (shiftsWithin N)) x) (λ i. sum (value i) (shiftsWithin N))
-      (λ i. eval-addAll (term i) (shiftsWithin N) x ∙ sum-congr (λ k. eval (term i k) x) (value i) (same i) (shiftsWithin N)) (range 0 (length rows))
+    (λ i. eval-addAll (term i) (shiftsWithin N) x ∙ sum-congr (λ k. eval (term i k) x) (value i) (same i) (shiftsWithin N)) (range 0 (length rows))
   where
     term : ℕ → ℤ → Polynomial
     term i k = mul (S i k) (shiftBy k (polynomialAt l (getD rows i noRow) (s -ℤ k) c))
@@ -224,8 +224,8 @@ eval-combination l rows N S s c x =
     same i k =
         eval-mul (S i k) (shiftBy k (polynomialAt l (getD rows i noRow) (s -ℤ k) c)) x
         ∙ ap (λ e. eval (S i k) x *ℤ e)
-          (eval-shiftBy k (polynomialAt l (getD rows i noRow) (s -ℤ k) c) x ∙ ap (λ b. eval (polynomialAt l (getD rows i noRow) b c) (x +ℤ k)) (block k)
-          ∙ sym (value-delta l (getD rows i noRow) (x +ℤ s) c (x +ℤ k)))
+        (eval-shiftBy k (polynomialAt l (getD rows i noRow) (s -ℤ k) c) x ∙ ap (λ b. eval (polynomialAt l (getD rows i noRow) b c) (x +ℤ k)) (block k)
+        ∙ sym (value-delta l (getD rows i noRow) (x +ℤ s) c (x +ℤ k)))
 
 module _ (l : ℤ) (rows : List Row) where
   -- Any sequence is a sum of such sequences, as far as finitely many shifted rows reach.
@@ -292,7 +292,7 @@ module _ (l : ℤ) (rows : List Row) where
         number-below = D .number-below;
         shift-within = D .shift-within;
         nonzero = D .nonzero;
-        vanishes = combination-zero (D .reach) (D .multiplier) (D .vanishes)
+        vanishes = combination-zero (D .reach) (D .multiplier) (D .vanishes);
       }
 
   pub dependent-of-values : DependentValues (length rows) (rowValues l rows) → Dependent l rows
@@ -306,7 +306,7 @@ module _ (l : ℤ) (rows : List Row) where
         shift-within = D .shift-within;
         nonzero = D .nonzero;
         vanishes = λ s c. zero-everywhere (combinationAt l rows (D .reach) (D .multiplier) s c) .1
-            (λ x. eval-combination l rows (D .reach) (D .multiplier) s c x ∙ D .vanishes (delta (x +ℤ s) c) x)
+            (λ x. eval-combination l rows (D .reach) (D .multiplier) s c x ∙ D .vanishes (delta (x +ℤ s) c) x);
       }
 
   -- "Dependent means that a nonzero combination of shifted equations vanishes": by coefficients or by values.
@@ -342,7 +342,6 @@ module _ (l : ℤ) (rows : List Row) (column : ℕ → ℕ)
     (diagonal : (j : ℕ) → j < length rows → T (not (isZero (entry (getD rows j noRow) (column j)))))
     (N : ℕ) (S : ℕ → ℤ → Polynomial)
     (vanishes : (z : Sequence) (x : ℤ) → combinationValue (length rows) (rowValues l rows) N S z x ≡ pos 0) where
-
   shiftAt : ℕ → ℤ
   shiftAt J = pos J -ℤ pos N
 
@@ -506,9 +505,9 @@ module _ (l : ℤ) (rows : List Row) where
   exchange-dependent i j i-below j-below apart =
       by-values l rows rows' (length-set (set rows j (getD rows i noRow)) i (getD rows j noRow) ∙ length-set rows j (getD rows i noRow)) (
         exchanged-dependent i j apart (length rows) (rowValues l rows) (rowValues l rows') i-below j-below
-        (λ z n. at-i z n) (λ z n. at-j z n) (λ z k n c o. others z k n c o),
+            (λ z n. at-i z n) (λ z n. at-j z n) (λ z k n c o. others z k n c o),
         exchanged-dependent i j apart (length rows) (rowValues l rows') (rowValues l rows) i-below j-below
-        (λ z n. sym (at-j z n)) (λ z n. sym (at-i z n)) (λ z k n c o. sym (others z k n c o)),
+            (λ z n. sym (at-j z n)) (λ z n. sym (at-i z n)) (λ z k n c o. sym (others z k n c o)),
       )
     where
       rows' : List Row

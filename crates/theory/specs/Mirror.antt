@@ -15,34 +15,39 @@
 --   mirror-equation, mirror-relation, mirror-satisfies   so a sequence satisfies a system exactly if the reflected one does the mirror
 --   sizes-facts, span-sum, span-bound, mirror-span, mirror-sizes   sizes, and those of the mirror
 --   mirror-valid           the mirror of a valid system is valid
-use Prim.Native.Nat.{ℕ, zero, suc, _+_, _≤_, _<_}
+--   mirror-dependent       a system is dependent exactly if its mirror is
+use Prim.Native.Nat.{ℕ, zero, suc, _+_, _-_, _≤_, _<_}
 use native.Mathlib.Omega.{arith}
 use mathlib.Core.Path.{_≡_, refl, sym, _∙_, ap, ap₂, subst, subst₂, fun-ext}
-use mathlib.Core.Logic.{_↔_, Iff·symm}
-use mathlib.Core.Bool.{Bool, true, false, _&&_}
+use mathlib.Core.Logic.{_↔_, Iff·symm, Iff·trans}
+use mathlib.Core.Bool.{Bool, true, false, _&&_, not}
 use mathlib.Core.List.{List, [], _∷_, _++_, map, map-append, zipWith, flatten}
 use mathlib.Core.List.{reverse, reverse-cons, reverse-append, reverse-reverse}
 use lib.Dec.{T, leb, leb→le, le→leb}
 use lib.ListN.{length, getD, take, drop, length-reverse, length-map, length-append, take-append-drop, List·getD-map}
 use lib.Seq.{length-take-le, take-at, drop-at, take-suc}
-use lib.IntN.{ℤ, pos, negℤ, natAbs, predℤ, _+ℤ_, _-ℤ_, +ℤ-idl, +ℤ-idr, +ℤ-assoc, +ℤ-comm, +ℤ-one, -ℤ-one}
+use lib.IntN.{ℤ, pos, negℤ, natAbs, predℤ, _+ℤ_, _-ℤ_, _*ℤ_, +ℤ-idl, +ℤ-idr, +ℤ-assoc, +ℤ-comm, +ℤ-one, -ℤ-one}
 use lib.IntN.{+ℤ-invr, negℤ-negℤ, negℤ-+ℤ, predℤ-+ℤ, suc-pred, -ℤ-+ℤ-cancel}
 use lib.Signed.{_≤ℤ_, leZ, leZ-yes}
 use Rattle.algebra.specs.Integers.{+ℤ-left-comm, natAbs-negℤ}
 use Rattle.algebra.specs.Order.{≤ℤ-difference, negℤ-≤ℤ, pos-≤ℤ, pos-natAbs-nonneg}
+use Rattle.algebra.specs.Sums.{sumBelow-congr, sumBelow-reverse}
 use Rattle.algebra.specs.Polynomials.{Polynomial, eval, isZero, negate, mirror, mirror-mirror, isZero-mirror, eval-mirror, T-&&}
 use Rattle.rules.specs.Limits.{bound, coefficientCount, columnCount, blockCount, blockBound, small}
-use Rattle.rules.specs.Rows.{Block, Row, Relation, All, every, mapRow, coefficientsOf, smallRow, zeroBlock, leadingBlock, entry}
+use Rattle.rules.specs.Rows.{Block, Row, Relation, noRow, All, every, mapRow, coefficientsOf, smallRow, zeroBlock, leadingBlock, entry}
 use Rattle.rules.specs.Rows.{mirrorRow, mirrorRelation}
 use Rattle.rules.specs.Elimination.{Side, leading, trailing, State, mirrorState, diagonalPlace, diagonal}
 use Rattle.rules.specs.Stores.{Sizes, span, sizesRight, countRight, unusedZero, rowRight, relationRight, Shaped, StoreRow, Valid}
-use Rattle.rules.specs.Sequences.{Sequence, blockValue, blocksValue, valueOf, SatisfiesEquation, SatisfiesRelation, Satisfies}
+use Rattle.rules.specs.Sequences.{Sequence, blockValue, blocksValue, valueOf, SatisfiesEquation, SatisfiesRelation, Satisfies, Dependent}
 use Rattle.theory.specs.Lists.{all-always, all-mono, all-both, all-take, all-drop, append-all, reverse-all, map-all, map-drop}
-use Rattle.theory.specs.Lists.{all-flatten, every-all}
+use Rattle.theory.specs.Lists.{all-getD, all-flatten, every-all}
 use Rattle.theory.specs.Shapes.{mirrorRow-shaped}
 use Rattle.theory.specs.Values.{blocks-same, blocks-append-zero, index-below}
 use Rattle.theory.specs.Limits.{unusedZero-iff, mapRow-unused}
 use Rattle.theory.specs.BackSubstitution.{move-right}
+use Rattle.theory.specs.Combinations.{sumWithin, sumWithin-below, sumWithin-congr, cancel-common}
+use Rattle.theory.specs.Combinations.{Values, copies, combinationValue, DependentValues}
+use Rattle.theory.specs.Dependence.{rowValues, dependent-values}
 
 -- ---- the blocks change places
 
@@ -229,6 +234,9 @@ one-block : (n : ℤ) (z : Sequence) (k : ℤ) (b : Block) → blocksValue n z k
 unfolding blocksValue
 one-block n z k b = +ℤ-idr (blockValue n (z k) b)
 
+mirror-minus : (a b : ℤ) → negℤ (a -ℤ b) ≡ b -ℤ a
+mirror-minus a b = negℤ-+ℤ a (negℤ b) ∙ ap (λ x. negℤ a +ℤ x) (negℤ-negℤ b) ∙ +ℤ-comm (negℤ a) b
+
 -- The indices that the first of the blocks meets, and the rest.
 module _ (k h : ℤ) (i : ℕ) (e : h +ℤ k +ℤ pos 1 ≡ pos (suc i)) where
   indices : h +ℤ k ≡ pos i
@@ -238,8 +246,7 @@ module _ (k h : ℤ) (i : ℕ) (e : h +ℤ k +ℤ pos 1 ≡ pos (suc i)) where
   indices-next = ap (λ x. x +ℤ pos 1) (predℤ-+ℤ h k) ∙ +ℤ-one (predℤ (h +ℤ k)) ∙ suc-pred (h +ℤ k) ∙ indices
 
   reflected-index : negℤ (k -ℤ pos i) ≡ h
-  reflected-index =
-      negℤ-+ℤ k (negℤ (pos i)) ∙ ap (λ x. negℤ k +ℤ x) (negℤ-negℤ (pos i)) ∙ +ℤ-comm (negℤ k) (pos i) ∙ sym (move-right h k (pos i) indices)
+  reflected-index = mirror-minus k (pos i) ∙ sym (move-right h k (pos i) indices)
 
 -- The blocks in reverse order meet the reflected sequence at the same indices.
 blocks-reverse : (n : ℤ) (z : Sequence) (bs : List Block) (k h : ℤ) → h +ℤ k +ℤ pos 1 ≡ pos (length bs)
@@ -603,3 +610,93 @@ module _ (z : Sizes) (rows : List Row) (relations : List Relation) (valid : Vali
             (map-keeps RelationFacts (λ e. T (relationRight (mirrorSizes z) e)) (mirrorRelation (span z)) relation-right
             relations relations-facts);
       }
+
+-- ---- dependence
+
+reflected-shift : (N j a : ℕ) → N + N ≡ j + a → negℤ (pos a -ℤ pos N) ≡ pos j -ℤ pos N
+reflected-shift N j a e =
+    mirror-minus (pos a) (pos N) ∙ sym (cancel-common (pos N) (pos a) (pos N)) ∙ ap₂ _-ℤ_ (ap pos e) (+ℤ-comm (pos a) (pos N))
+    ∙ cancel-common (pos j) (pos N) (pos a)
+
+-- The shifts from -N to N, the other way round.
+sumWithin-reflect : (N : ℕ) (f : ℤ → ℤ) → sumWithin N (λ k. f (negℤ k)) ≡ sumWithin N f
+sumWithin-reflect N f =
+    sumWithin-below N (λ k. f (negℤ k)) ∙ sumBelow-reverse (suc (N + N)) (λ j. f (negℤ (pos j -ℤ pos N)))
+    ∙ sumBelow-congr (suc (N + N)) (λ j. f (negℤ (pos (suc (N + N) - suc j) -ℤ pos N))) (λ j. f (pos j -ℤ pos N)) (λ j h. ap f (place j h))
+    ∙ sym (sumWithin-below N f)
+  where
+    place : (j : ℕ) → j < suc (N + N) → negℤ (pos (suc (N + N) - suc j) -ℤ pos N) ≡ pos j -ℤ pos N
+    place j h = reflected-shift N j (suc (N + N) - suc j) (omega arith)
+
+module _ (m : ℕ) (E E' : Values) (mirrored : (z : Sequence) (i : ℕ) (n : ℤ) → i < m → E' z i n ≡ E (reflect z) i (negℤ n)) where
+  -- The multipliers of the mirror: -n for n, and shift -k for k.
+  mirrorMultipliers : (ℕ → ℤ → Polynomial) → ℕ → ℤ → Polynomial
+  mirrorMultipliers S i k = mirror (S i (negℤ k))
+
+  copies-mirror : (N : ℕ) (S : ℕ → ℤ → Polynomial) (z : Sequence) (x : ℤ) (i : ℕ) → i < m
+      → copies E' N (mirrorMultipliers S) z x i ≡ copies E N S (reflect z) (negℤ x) i
+  unfolding copies mirrorMultipliers
+  copies-mirror N S z x i h =
+      sumWithin-congr N (λ k. eval (mirror (S i (negℤ k))) x *ℤ E' z i (x +ℤ k)) (λ k. f (negℤ k)) (λ k p. one k) ∙ sumWithin-reflect N f
+    where
+      f : ℤ → ℤ
+      f k = eval (S i k) (negℤ x) *ℤ E (reflect z) i (negℤ x +ℤ k)
+
+      one : (k : ℤ) → eval (mirror (S i (negℤ k))) x *ℤ E' z i (x +ℤ k) ≡ f (negℤ k)
+      one k = ap₂ _*ℤ_ (eval-mirror (S i (negℤ k)) x) (mirrored z i (x +ℤ k) h ∙ ap (E (reflect z) i) (negℤ-+ℤ x k))
+
+  values-mirror : DependentValues m E → DependentValues m E'
+  unfolding mirrorMultipliers combinationValue
+  values-mirror d =
+      record {
+        reach = d .reach;
+        multiplier = mirrorMultipliers (d .multiplier);
+        number = d .number;
+        shift = negℤ (d .shift);
+        number-below = d .number-below;
+        shift-within = subst (λ n. n ≤ d .reach) (sym (natAbs-negℤ (d .shift))) (d .shift-within);
+        nonzero = subst (λ b. T (not b)) (sym same) (d .nonzero);
+        vanishes = vanish;
+      }
+    where
+      same : isZero (mirror (d .multiplier (d .number) (negℤ (negℤ (d .shift))))) ≡ isZero (d .multiplier (d .number) (d .shift))
+      same =
+          isZero-mirror (d .multiplier (d .number) (negℤ (negℤ (d .shift))))
+          ∙ ap (λ k. isZero (d .multiplier (d .number) k)) (negℤ-negℤ (d .shift))
+
+      vanish : (z : Sequence) (x : ℤ) → combinationValue m E' (d .reach) (mirrorMultipliers (d .multiplier)) z x ≡ pos 0
+      vanish z x =
+          sumBelow-congr m (copies E' (d .reach) (mirrorMultipliers (d .multiplier)) z x)
+          (copies E (d .reach) (d .multiplier) (reflect z) (negℤ x)) (copies-mirror (d .reach) (d .multiplier) z x)
+          ∙ d .vanishes (reflect z) (negℤ x)
+
+-- Equations whose values are those of others, mirrored, are dependent exactly if those are.
+values-mirror-iff : (m : ℕ) (E E' : Values) → ((z : Sequence) (i : ℕ) (n : ℤ) → i < m → E' z i n ≡ E (reflect z) i (negℤ n))
+    → DependentValues m E ↔ DependentValues m E'
+values-mirror-iff m E E' h = (values-mirror m E E' h, values-mirror m E' E back)
+  where
+    back : (z : Sequence) (i : ℕ) (n : ℤ) → i < m → E z i n ≡ E' (reflect z) i (negℤ n)
+    back z i n p = sym (h (reflect z) i (negℤ n) p ∙ ap₂ (λ x k. E x i k) (reflect-twice z) (negℤ-negℤ n))
+
+mirrored-row : (D : ℕ) (rows : List Row) (i : ℕ) → getD (map (mirrorRow D) rows) i noRow ≡ mirrorRow D (getD rows i noRow)
+unfolding mirrorRow mapRow
+mirrored-row D rows i = List·getD-map (mirrorRow D) rows i noRow
+
+-- "dependent" is the same for a system and its mirror.
+pub mirror-dependent : (D : ℕ) (l t : ℤ) → l ≡ t +ℤ pos D → (rows : List Row) → All (Spans D) rows
+    → Dependent l rows ↔ Dependent (negℤ t) (map (mirrorRow D) rows)
+mirror-dependent D l t e rows a =
+    Iff·trans (dependent-values l rows) (Iff·trans (values-mirror-iff (length rows) (rowValues l rows) mirrored values) back)
+  where
+    mirrored : Values
+    mirrored = rowValues (negℤ t) (map (mirrorRow D) rows)
+
+    values : (z : Sequence) (i : ℕ) (n : ℤ) → i < length rows → mirrored z i n ≡ rowValues l rows (reflect z) i (negℤ n)
+    values z i n h =
+        ap₂ (λ r x. valueOf (negℤ t) r x n) (mirrored-row D rows i) (sym (reflect-twice z))
+        ∙ mirror-value D l t e (getD rows i noRow) (all-getD (Spans D) rows noRow i h a) (reflect z) n
+
+    back : DependentValues (length rows) mirrored ↔ Dependent (negℤ t) (map (mirrorRow D) rows)
+    back =
+        subst (λ m. DependentValues m mirrored ↔ Dependent (negℤ t) (map (mirrorRow D) rows)) (length-map rows (mirrorRow D))
+        (Iff·symm (dependent-values (negℤ t) (map (mirrorRow D) rows)))
