@@ -1,8 +1,10 @@
 pub mod Lists
 pub mod Steps
+pub mod Cells
 pub mod Ending
 pub mod Triangular
 pub mod Shapes
+pub mod Limits
 pub mod Values
 pub mod Multipliers
 pub mod Solutions

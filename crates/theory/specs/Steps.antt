@@ -2,17 +2,38 @@
 --
 -- Main definitions
 --   Stepped side s s'      s' is the state after one step from s: a combination, a settling or a shift
---   Chain side k s s'      k steps lead from s to s'
+--   Chain side s k s'      k steps lead from s to s'
+--   Narrowed s i j e       e is the state after the exchange of rule 2, if there is one
+--   FirstNonzero ps c      the polynomial at place c is the first of ps that is not zero
+--   StepView side s o      o is the outcome of a step from s
+--
+-- Main statements
+--   rowAt-putRow-same, rowAt-exchange-left, ..   the rows of a changed state
+--   narrowFirst-both, narrowFirst-width          what the exchange of rule 2 leaves
+--   firstNonzero-some, firstNonzero-none         the laws of firstNonzero
+--   stepped-length, stepped-relations            a step keeps the number of rows and the listed relations
+--   step-view, step-going, step-done, step-refused, step-refused-6   what a step's outcome says
+--   chain-induction                              what every step keeps, a chain keeps
+--   run-going, run-done, run-refused             a run is a chain of steps
 use Prim.Native.Nat.{ℕ, zero, suc, _≤_, _<_}
-use mathlib.Core.Path.{_≡_}
-use mathlib.Core.Bool.{not}
-use mathlib.Core.Option.{Option, none, some}
-use lib.Dec.{T}
-use lib.ListN.{length, getD}
+use mathlib.Core.Path.{_≡_, refl, sym, _∙_, ap, subst}
+use mathlib.Core.Logic.{_≢_, _⊎_, inl, inr}
+use mathlib.Core.Bool.{Bool, true, false, not, cond}
+use mathlib.Core.List.{List, [], _∷_, _++_, map, append-assoc, append-nil}
+use mathlib.Core.Option.{Option, none, some, Option·map, map-eq-some-iff, map-eq-none-iff, Option·some-injective, Option·none-ne-some, Option·some-ne-none}
+use native.Mathlib.Nat.{zero-lt-suc, not-suc-le-zero, suc-le-suc-iff}
+use native.Mathlib.Decide.{ℕ-discrete}
+use native.Mathlib.Omega.{arith}
+use lib.Dec.{T, leb, ltb, leb→le, ltb→lt, nltb→le}
+use lib.Ieee.Fits.{and-i, and-l, and-r}
+use lib.ListN.{length, getD, set, length-set, length-map}
+use lib.Seq.{getD-set-same, getD-set-other}
 use Rattle.algebra.specs.Polynomials.{Polynomial, isZero}
 use Rattle.rules.specs.Limits.{mostRelations}
-use Rattle.rules.specs.Rows.{Row, zeroRow, entry, leadingBlock, firstNonzero, combine, primitive, shiftUp}
-use Rattle.rules.specs.Elimination.{Side, Multipliers, State, Limited, within, limitCoefficients, limitDegrees, rowAt, putRow, listRelations, settle, countShift, rootRelations, multipliersAt, narrowFirst}
+use Rattle.rules.specs.Rows.{Block, Row, Relation, noRow, every, zeroBlock, zeroRow, width, entry, leadingBlock, firstNonzero, combine, primitive, lowDegrees, cut, smallRow, shiftUp}
+use Rattle.rules.specs.Elimination.{Side, Multipliers, State, Outcome, going, done, refused, Limited, within, beyond, limitCoefficients, limitDegrees}
+use Rattle.rules.specs.Elimination.{rowAt, putRow, putLimited, listRelations, settle, countShift, exchange, rootRelations, multipliersAt, narrowFirst}
+use Rattle.rules.specs.Elimination.{combineStep, eliminateStep, shiftStep, settleOrShift, meet, workOn, step, andThen, run}
 
 -- The row that a step works on: row i = w + 1 of document 01, counted from 0.
 abbrev pub current : State → ℕ
@@ -45,11 +66,463 @@ combination s j =
 
 -- One step that goes on.
 pub data Stepped (side : Side) (s : State) : State → Type 0 where
-  combined : (j : ℕ) → j < current s → current s < length (s .rows) → T (not (zeroRow (rowAt s (current s)))) → MetZeroBelow s j → T (not (isZero (met s j))) → length (listed side s j .relations) ≤ mostRelations → (r : Row) → limitDegrees (combination s j) ≡ within r → Stepped side s (putRow (listed side s j) (current s) r)
-  settled : (c : ℕ) → current s < length (s .rows) → T (not (zeroRow (rowAt s (current s)))) → MetZeroBelow s (current s) → firstNonzero (leadingBlock (rowAt s (current s))) ≡ some c → Stepped side s (settle s c)
-  shifted : (r : Row) → current s < length (s .rows) → T (not (zeroRow (rowAt s (current s)))) → MetZeroBelow s (current s) → firstNonzero (leadingBlock (rowAt s (current s))) ≡ none → limitCoefficients (shiftUp (rowAt s (current s))) ≡ within r → Stepped side s (putRow (countShift s) (current s) r)
+  combined : (j : ℕ) → j < current s → current s < length (s .rows) → T (not (zeroRow (rowAt s (current s)))) → MetZeroBelow s j
+      → T (not (isZero (met s j))) → length (listed side s j .relations) ≤ mostRelations → (r : Row) → limitDegrees (combination s j) ≡ within r
+      → Stepped side s (putRow (listed side s j) (current s) r)
+  settled : (c : ℕ) → current s < length (s .rows) → T (not (zeroRow (rowAt s (current s)))) → MetZeroBelow s (current s)
+      → firstNonzero (leadingBlock (rowAt s (current s))) ≡ some c → Stepped side s (settle s c)
+  shifted : (r : Row) → current s < length (s .rows) → T (not (zeroRow (rowAt s (current s)))) → MetZeroBelow s (current s)
+      → firstNonzero (leadingBlock (rowAt s (current s))) ≡ none → limitCoefficients (shiftUp (rowAt s (current s))) ≡ within r
+      → Stepped side s (putRow (countShift s) (current s) r)
 
 -- k steps, one after another.
 pub data Chain (side : Side) (s : State) : ℕ → State → Type 0 where
   here : Chain side s zero s
   next : {k : ℕ} {u v : State} → Chain side s k u → Stepped side u v → Chain side s (suc k) v
+
+-- ---- the rows of a changed state
+
+pub rowAt-putRow-same : (s : State) (i : ℕ) (r : Row) → i < length (s .rows) → rowAt (putRow s i r) i ≡ r
+unfolding rowAt putRow
+rowAt-putRow-same s i r h = getD-set-same (s .rows) i r noRow h
+
+pub rowAt-putRow-other : (s : State) (i j : ℕ) (r : Row) → j ≢ i → rowAt (putRow s i r) j ≡ rowAt s j
+unfolding rowAt putRow
+rowAt-putRow-other s i j r h = getD-set-other (s .rows) i j r noRow h
+
+pub length-putRow : (s : State) (i : ℕ) (r : Row) → length (putRow s i r .rows) ≡ length (s .rows)
+unfolding putRow
+length-putRow s i r = length-set (s .rows) i r
+
+pub rowAt-listRelations : (s : State) (l : List Relation) (i : ℕ) → rowAt (listRelations s l) i ≡ rowAt s i
+unfolding rowAt listRelations
+rowAt-listRelations s l i = refl
+
+pub rowAt-settle : (s : State) (c i : ℕ) → rowAt (settle s c) i ≡ rowAt s i
+unfolding rowAt settle
+rowAt-settle s c i = refl
+
+pub rowAt-countShift : (s : State) (i : ℕ) → rowAt (countShift s) i ≡ rowAt s i
+unfolding rowAt countShift
+rowAt-countShift s i = refl
+
+-- Two rows change places.
+pub rowAt-exchange-left : (s : State) (i j : ℕ) → i < length (s .rows) → rowAt (exchange s i j) i ≡ rowAt s j
+unfolding exchange
+rowAt-exchange-left s i j h = rowAt-putRow-same (putRow s j (rowAt s i)) i (rowAt s j) (rw (length-putRow s j (rowAt s i)) h)
+
+pub rowAt-exchange-right : (s : State) (i j : ℕ) → j < length (s .rows) → rowAt (exchange s i j) j ≡ rowAt s i
+unfolding exchange
+rowAt-exchange-right s i j h = cases (ℕ-discrete j i)
+  where
+    cases : Dec (j ≡ i) → rowAt (putRow (putRow s j (rowAt s i)) i (rowAt s j)) j ≡ rowAt s i
+    cases (yes e) = rw e (rowAt-exchange-left s i i (rw e at h))
+    cases (no n) = rowAt-putRow-other (putRow s j (rowAt s i)) i j (rowAt s j) n ∙ rowAt-putRow-same s j (rowAt s i) h
+
+pub rowAt-exchange-other : (s : State) (i j k : ℕ) → k ≢ i → k ≢ j → rowAt (exchange s i j) k ≡ rowAt s k
+unfolding exchange
+rowAt-exchange-other s i j k n m =
+    rowAt-putRow-other (putRow s j (rowAt s i)) i k (rowAt s j) n ∙ rowAt-putRow-other s j k (rowAt s i) m
+
+pub length-exchange : (s : State) (i j : ℕ) → length (exchange s i j .rows) ≡ length (s .rows)
+unfolding exchange
+length-exchange s i j = length-putRow (putRow s j (rowAt s i)) i (rowAt s j) ∙ length-putRow s j (rowAt s i)
+
+-- ---- narrowFirst: the exchange of rule 2, made only if row j is the wider
+
+pub data Narrowed (s : State) (i j : ℕ) : State → Type 0 where
+  kept : width (rowAt s j) ≤ width (rowAt s i) → Narrowed s i j s
+  swapped : width (rowAt s i) < width (rowAt s j) → Narrowed s i j (exchange s i j)
+
+pub narrowed : (s : State) (i j : ℕ) → Narrowed s i j (narrowFirst s i j)
+unfolding narrowFirst
+narrowed s i j = go (ltb (width (rowAt s i)) (width (rowAt s j)))
+    (ltb→lt (width (rowAt s i)) (width (rowAt s j))) (nltb→le (width (rowAt s i)) (width (rowAt s j)))
+  where
+    go : (t : Bool) → (T t → width (rowAt s i) < width (rowAt s j)) → (T (not t) → width (rowAt s j) ≤ width (rowAt s i))
+        → Narrowed s i j (cond t (exchange s i j) s)
+    go true f g = swapped (f tt)
+    go false f g = kept (g tt)
+
+pub length-narrowFirst : (s : State) (i j : ℕ) → length (narrowFirst s i j .rows) ≡ length (s .rows)
+length-narrowFirst s i j = go (narrowed s i j)
+  where
+    go : {e : State} → Narrowed s i j e → length (e .rows) ≡ length (s .rows)
+    go (kept h) = refl
+    go (swapped h) = length-exchange s i j
+
+-- What does not look at the rows is as it was.
+pub narrowFirst-keeps : {A : Type 0} (f : State → A) (s : State) (i j : ℕ)
+    → ((l : List Row) → f (record { rows = l; relations = s .relations; order = s .order; shifts = s .shifts }) ≡ f s)
+    → f (narrowFirst s i j) ≡ f s
+unfolding exchange putRow
+narrowFirst-keeps f s i j same = go (narrowed s i j)
+  where
+    go : {e : State} → Narrowed s i j e → f e ≡ f s
+    go (kept h) = refl
+    go (swapped h) = same (set (set (s .rows) j (rowAt s i)) i (rowAt s j))
+
+pub order-narrowFirst : (s : State) (i j : ℕ) → narrowFirst s i j .order ≡ s .order
+order-narrowFirst s i j = narrowFirst-keeps (λ u. u .order) s i j (λ l. refl)
+
+pub relations-narrowFirst : (s : State) (i j : ℕ) → narrowFirst s i j .relations ≡ s .relations
+relations-narrowFirst s i j = narrowFirst-keeps (λ u. u .relations) s i j (λ l. refl)
+
+pub shifts-narrowFirst : (s : State) (i j : ℕ) → narrowFirst s i j .shifts ≡ s .shifts
+shifts-narrowFirst s i j = narrowFirst-keeps (λ u. u .shifts) s i j (λ l. refl)
+
+pub rowAt-narrowFirst-other : (s : State) (i j k : ℕ) → k ≢ i → k ≢ j → rowAt (narrowFirst s i j) k ≡ rowAt s k
+rowAt-narrowFirst-other s i j k n m = go (narrowed s i j)
+  where
+    go : {e : State} → Narrowed s i j e → rowAt e k ≡ rowAt s k
+    go (kept h) = refl
+    go (swapped h) = rowAt-exchange-other s i j k n m
+
+-- What both rows have, both rows have after it.
+pub narrowFirst-both : (P : Row → Type 0) (s : State) (i j : ℕ) → i < length (s .rows) → j < length (s .rows)
+    → P (rowAt s i) → P (rowAt s j) → P (rowAt (narrowFirst s i j) i) × P (rowAt (narrowFirst s i j) j)
+narrowFirst-both P s i j h k p q = go (narrowed s i j)
+  where
+    go : {e : State} → Narrowed s i j e → P (rowAt e i) × P (rowAt e j)
+    go (kept w) = (p, q)
+    go (swapped w) = (rw (rowAt-exchange-left s i j h) q, rw (rowAt-exchange-right s i j k) p)
+
+-- Row j is not the wider after it.
+pub narrowFirst-width : (s : State) (i j : ℕ) → i < length (s .rows) → j < length (s .rows)
+    → width (rowAt (narrowFirst s i j) j) ≤ width (rowAt (narrowFirst s i j) i)
+narrowFirst-width s i j h k = go (narrowed s i j)
+  where
+    go : {e : State} → Narrowed s i j e → width (rowAt e j) ≤ width (rowAt e i)
+    go (kept w) = w
+    go (swapped w) = rw (rowAt-exchange-left s i j h, rowAt-exchange-right s i j k) (omega arith)
+
+-- ---- the first nonzero polynomial of a list
+
+pub record FirstNonzero (ps : List Polynomial) (c : ℕ) : Type 0 where
+  pub inside : c < length ps
+  pub nonzero : T (not (isZero (getD ps c [])))
+  pub before : (k : ℕ) → k < c → T (isZero (getD ps k []))
+
+-- One zero polynomial in front moves the place up by one.
+firstNonzero-behind : (p : Polynomial) (ps : List Polynomial) (c : ℕ) → T (isZero p) → FirstNonzero ps c → FirstNonzero (p ∷ ps) (suc c)
+firstNonzero-behind p ps c z f = record { inside = suc-le-suc-iff .1 (f .inside); nonzero = f .nonzero; before = earlier }
+  where
+    earlier : (k : ℕ) → k < suc c → T (isZero (getD (p ∷ ps) k []))
+    earlier zero h = z
+    earlier (suc k) h = f .before k (omega arith)
+
+pub firstNonzero-some : (ps : List Polynomial) (c : ℕ) → firstNonzero ps ≡ some c → FirstNonzero ps c
+unfolding firstNonzero
+firstNonzero-some [] c e = absurd (Option·none-ne-some c e)
+firstNonzero-some (p ∷ ps) c e = go (isZero p) refl (firstNonzero-some ps) e
+  where
+    go : (z : Bool) → isZero p ≡ z → ((k : ℕ) → firstNonzero ps ≡ some k → FirstNonzero ps k)
+        → cond z (Option·map suc (firstNonzero ps)) (some 0) ≡ some c → FirstNonzero (p ∷ ps) c
+    go true z rec e =
+        let (k, found, up) = map-eq-some-iff suc (firstNonzero ps) .0 e in
+        subst (FirstNonzero (p ∷ ps)) up (firstNonzero-behind p ps k (rw z tt) (rec k found))
+    go false z rec e = subst (FirstNonzero (p ∷ ps)) (Option·some-injective 0 c e)
+        (record { inside = zero-lt-suc (length ps); nonzero = rw z tt; before = λ k h. absurd (not-suc-le-zero h) })
+
+pub firstNonzero-none : (ps : List Polynomial) → firstNonzero ps ≡ none → (k : ℕ) → T (isZero (getD ps k []))
+unfolding firstNonzero isZero
+firstNonzero-none [] e k = tt
+firstNonzero-none (p ∷ ps) e k = go (isZero p) refl (firstNonzero-none ps) k e
+  where
+    go : (z : Bool) → isZero p ≡ z → (firstNonzero ps ≡ none → (k : ℕ) → T (isZero (getD ps k [])))
+        → (k : ℕ) → cond z (Option·map suc (firstNonzero ps)) (some 0) ≡ none → T (isZero (getD (p ∷ ps) k []))
+    go true z rec zero e = rw z tt
+    go true z rec (suc k) e = rec (map-eq-none-iff suc (firstNonzero ps) .0 e) k
+    go false z rec k e = absurd (Option·some-ne-none 0 e)
+
+-- A list of zero polynomials is a zero block.
+pub zeroBlock-all : (b : Block) → ((k : ℕ) → T (isZero (getD b k []))) → T (zeroBlock b)
+unfolding zeroBlock
+zeroBlock-all [] h = tt
+zeroBlock-all (p ∷ ps) h = and-i (isZero p) (every isZero ps) (h 0) (zeroBlock-all ps (λ k. h (suc k)))
+
+pub zeroBlock-at : (b : Block) → T (zeroBlock b) → (k : ℕ) → T (isZero (getD b k []))
+unfolding zeroBlock isZero
+zeroBlock-at [] h k = tt
+zeroBlock-at (p ∷ ps) h zero = and-l (isZero p) (every isZero ps) h
+zeroBlock-at (p ∷ ps) h (suc k) = zeroBlock-at ps (and-r (isZero p) (every isZero ps) h) k
+
+-- ---- what a step that goes on keeps
+
+pub listed-rows : (side : Side) (s : State) (j : ℕ) → length (listed side s j .rows) ≡ length (s .rows)
+unfolding listRelations
+listed-rows side s j = length-narrowFirst s (current s) j
+
+pub listed-order : (side : Side) (s : State) (j : ℕ) → listed side s j .order ≡ s .order
+unfolding listRelations
+listed-order side s j = order-narrowFirst s (current s) j
+
+-- "Input relations stay first, in their order."
+pub listed-relations : (side : Side) (s : State) (j : ℕ)
+    → listed side s j .relations ≡ s .relations ++ rootRelations side (multipliersFor s j .g) (rowAt (exchanged s j) (current s))
+unfolding listRelations
+listed-relations side s j =
+    ap (λ l. l ++ rootRelations side (multipliersFor s j .g) (rowAt (exchanged s j) (current s))) (relations-narrowFirst s (current s) j)
+
+pub stepped-length : {side : Side} {s s' : State} → Stepped side s s' → length (s' .rows) ≡ length (s .rows)
+unfolding settle countShift
+stepped-length {side} {s} (combined j a b c d e f r g) = length-putRow (listed side s j) (current s) r ∙ listed-rows side s j
+stepped-length (settled c a b d e) = refl
+stepped-length {s} (shifted r a b c d e) = length-putRow (countShift s) (current s) r
+
+pub stepped-relations : {side : Side} {s s' : State} → Stepped side s s' → (l : List Relation) × (s' .relations ≡ s .relations ++ l)
+unfolding putRow settle countShift
+stepped-relations {side} {s} (combined j a b c d e f r g) =
+    (rootRelations side (multipliersFor s j .g) (rowAt (exchanged s j) (current s)), listed-relations side s j)
+stepped-relations {s} (settled c a b d e) = ([], sym (append-nil (s .relations)))
+stepped-relations {s} (shifted r a b c d e) = ([], sym (append-nil (s .relations)))
+
+pub chain-length : {side : Side} {s s' : State} {k : ℕ} → Chain side s k s' → length (s' .rows) ≡ length (s .rows)
+chain-length here = refl
+chain-length (next c t) = stepped-length t ∙ chain-length c
+
+pub chain-relations : {side : Side} {s s' : State} {k : ℕ} → Chain side s k s' → (l : List Relation) × (s' .relations ≡ s .relations ++ l)
+chain-relations {s} here = ([], sym (append-nil (s .relations)))
+chain-relations {s} (next c t) =
+    let (l, e) = chain-relations c in
+    let (k, f) = stepped-relations t in
+    (l ++ k, f ∙ ap (λ x. x ++ k) e ∙ append-assoc (s .relations) l k)
+
+-- ---- what a step gives
+
+-- The outcome of one step from s.
+pub data StepView (side : Side) (s : State) : Outcome → Type 0 where
+  ended : length (s .rows) ≤ current s → StepView side s (done s)
+  zero-row : current s < length (s .rows) → T (zeroRow (rowAt s (current s))) → StepView side s (refused 6)
+  over-limit : (n : ℕ) → current s < length (s .rows) → T (not (zeroRow (rowAt s (current s))))
+      → (n ≡ 7) ⊎ (n ≡ 8) ⊎ (n ≡ 9) → StepView side s (refused n)
+  goes-on : {s' : State} → Stepped side s s' → StepView side s (going s')
+
+within≢beyond : {r : Row} {n : ℕ} → within r ≡ beyond n → ⊥
+within≢beyond e = let z : _≡_ {A = ℕ} 0 1 = cc in omega arith
+
+beyond-injective : {k n : ℕ} → beyond k ≡ beyond n → k ≡ n
+beyond-injective e = cc
+
+pub limitCoefficients-beyond : (r : Row) (n : ℕ) → limitCoefficients r ≡ beyond n → n ≡ 8
+unfolding limitCoefficients
+limitCoefficients-beyond r n = go (smallRow r)
+  where
+    go : (t : Bool) → cond t (within r) (beyond 8) ≡ beyond n → n ≡ 8
+    go true e = absurd (within≢beyond e)
+    go false e = sym (beyond-injective e)
+
+pub limitDegrees-beyond : (r : Row) (n : ℕ) → limitDegrees r ≡ beyond n → (n ≡ 7) ⊎ (n ≡ 8)
+unfolding limitDegrees
+limitDegrees-beyond r n = go (lowDegrees r)
+  where
+    go : (t : Bool) → cond t (limitCoefficients (cut r)) (beyond 7) ≡ beyond n → (n ≡ 7) ⊎ (n ≡ 8)
+    go true e = inr (limitCoefficients-beyond (cut r) n e)
+    go false e = inl (sym (beyond-injective e))
+
+-- A row within the limits is the row itself, cut to 16 coefficients after a combination.
+pub limitCoefficients-within : (q r : Row) → limitCoefficients q ≡ within r → T (smallRow q) × (r ≡ q)
+unfolding limitCoefficients
+limitCoefficients-within q r = go (smallRow q)
+  where
+    go : (t : Bool) → cond t (within q) (beyond 8) ≡ within r → T t × (r ≡ q)
+    go true e = (tt, cc)
+    go false e = absurd (within≢beyond (sym e))
+
+pub limitDegrees-within : (q r : Row) → limitDegrees q ≡ within r → T (lowDegrees q) × T (smallRow (cut q)) × (r ≡ cut q)
+unfolding limitDegrees
+limitDegrees-within q r = go (lowDegrees q)
+  where
+    go : (t : Bool) → cond t (limitCoefficients (cut q)) (beyond 7) ≡ within r → T t × T (smallRow (cut q)) × (r ≡ cut q)
+    go true e = let (small, same) = limitCoefficients-within (cut q) r e in (tt, small, same)
+    go false e = absurd (within≢beyond (sym e))
+
+-- Inside a list, a mapped list has the images at the same places.
+getD-map-inside : {A B : Type 0} (f : A → B) (l : List A) (k : ℕ) (d : A) (e : B) → k < length l → getD (map f l) k e ≡ f (getD l k d)
+getD-map-inside f [] k d e h = absurd (not-suc-le-zero h)
+getD-map-inside f (x ∷ l) zero d e h = refl
+getD-map-inside f (x ∷ l) (suc k) d e h = getD-map-inside f l k d e (suc-le-suc-iff .0 h)
+
+module _ (side : Side) (s : State) (more : current s < length (s .rows)) (nonzero : T (not (zeroRow (rowAt s (current s))))) where
+  shiftStep-view : MetZeroBelow s (current s) → firstNonzero (leadingBlock (rowAt s (current s))) ≡ none
+      → StepView side s (shiftStep s (current s))
+  unfolding shiftStep
+  shiftStep-view clear e = go (limitCoefficients (shiftUp (rowAt s (current s)))) refl
+    where
+      go : (l : Limited) → limitCoefficients (shiftUp (rowAt s (current s))) ≡ l → StepView side s (putLimited (countShift s) (current s) l)
+      go (within r) f = goes-on (shifted r more nonzero clear e f)
+      go (beyond n) f = over-limit n more nonzero (inr (inl (limitCoefficients-beyond (shiftUp (rowAt s (current s))) n f)))
+
+  settleOrShift-view : MetZeroBelow s (current s) → (o : Option ℕ) → firstNonzero (leadingBlock (rowAt s (current s))) ≡ o
+      → StepView side s (settleOrShift s (current s) o)
+  unfolding settleOrShift
+  settleOrShift-view clear (some c) e = goes-on (settled c more nonzero clear e)
+  settleOrShift-view clear none e = shiftStep-view clear e
+
+  eliminateStep-view : (j : ℕ) → j < current s → MetZeroBelow s j → T (not (isZero (met s j)))
+      → StepView side s (eliminateStep side s (current s) j)
+  unfolding eliminateStep combineStep
+  eliminateStep-view j below clear meets =
+      go (leb (length (listed side s j .relations)) mostRelations) (leb→le (length (listed side s j .relations)) mostRelations)
+      (limitDegrees (combination s j)) refl
+    where
+      go : (t : Bool) → (T t → length (listed side s j .relations) ≤ mostRelations) → (l : Limited) → limitDegrees (combination s j) ≡ l
+          → StepView side s (cond t (putLimited (listed side s j) (current s) l) (refused 9))
+      go true few (within r) f = goes-on (combined j below more nonzero clear meets (few tt) r f)
+      go true few (beyond n) f = over-limit n more nonzero
+          (elim (limitDegrees-beyond (combination s j) n f) [ inl e ↦ inl e | inr e ↦ inr (inl e) ])
+      go false few l f = over-limit 9 more nonzero (inr (inr refl))
+
+  meet-view : (o : Option ℕ) → firstNonzero (map (entry (rowAt s (current s))) (s .order)) ≡ o → StepView side s (meet side s (current s) o)
+  unfolding meet
+  meet-view (some j) e = eliminateStep-view j below clear meets
+    where
+      entries : List Polynomial
+      entries = map (entry (rowAt s (current s))) (s .order)
+
+      found : FirstNonzero entries j
+      found = firstNonzero-some entries j e
+
+      below : j < current s
+      below = rw (length-map (s .order) (entry (rowAt s (current s)))) at (found .inside)
+
+      at : (k : ℕ) → k < current s → getD entries k [] ≡ met s k
+      at k h = getD-map-inside (entry (rowAt s (current s))) (s .order) k 0 [] h
+
+      clear : MetZeroBelow s j
+      clear k h = rw (at k (omega (arith, below))) at (found .before k h)
+
+      meets : T (not (isZero (met s j)))
+      meets = rw (at j below) at (found .nonzero)
+  meet-view none e = settleOrShift-view clear (firstNonzero (leadingBlock (rowAt s (current s)))) refl
+    where
+      clear : MetZeroBelow s (current s)
+      clear k h = rw (getD-map-inside (entry (rowAt s (current s))) (s .order) k 0 [] h) at
+          (firstNonzero-none (map (entry (rowAt s (current s))) (s .order)) e k)
+
+pub step-view : (side : Side) (s : State) → StepView side s (step side s)
+unfolding step workOn
+step-view side s = go (ltb (current s) (length (s .rows))) (ltb→lt (current s) (length (s .rows))) (nltb→le (current s) (length (s .rows)))
+  where
+    zero-or : current s < length (s .rows) → (z : Bool) → zeroRow (rowAt s (current s)) ≡ z
+        → StepView side s (cond z (refused 6) (meet side s (current s) (firstNonzero (map (entry (rowAt s (current s))) (s .order)))))
+    zero-or more true z = zero-row more (rw z tt)
+    zero-or more false z = meet-view side s more (rw z tt) (firstNonzero (map (entry (rowAt s (current s))) (s .order))) refl
+
+    go : (t : Bool) → (T t → current s < length (s .rows)) → (T (not t) → length (s .rows) ≤ current s)
+        → StepView side s (cond t (workOn side s (current s)) (done s))
+    go true more rest = zero-or (more tt) (zeroRow (rowAt s (current s))) refl
+    go false more rest = ended (rest tt)
+
+-- ---- the same by the outcome
+
+pub going-injective : {s s' : State} → going s ≡ going s' → s ≡ s'
+going-injective e = cc
+
+pub done-injective : {s s' : State} → done s ≡ done s' → s ≡ s'
+done-injective e = cc
+
+pub refused-injective : {n n' : ℕ} → refused n ≡ refused n' → n ≡ n'
+refused-injective e = cc
+
+pub going≢done : {s s' : State} → going s ≡ done s' → ⊥
+going≢done e = let z : _≡_ {A = ℕ} 0 1 = cc in omega arith
+
+pub going≢refused : {s : State} {n : ℕ} → going s ≡ refused n → ⊥
+going≢refused e = let z : _≡_ {A = ℕ} 0 1 = cc in omega arith
+
+pub done≢refused : {s : State} {n : ℕ} → done s ≡ refused n → ⊥
+done≢refused e = let z : _≡_ {A = ℕ} 0 1 = cc in omega arith
+
+view-going : {side : Side} {s s' : State} {o : Outcome} → StepView side s o → o ≡ going s' → Stepped side s s'
+view-going (ended h) e = absurd (going≢done (sym e))
+view-going (zero-row h z) e = absurd (going≢refused (sym e))
+view-going (over-limit n h z k) e = absurd (going≢refused (sym e))
+view-going {side} {s} (goes-on p) e = subst (Stepped side s) (going-injective e) p
+
+view-done : {side : Side} {s s' : State} {o : Outcome} → StepView side s o → o ≡ done s' → (s' ≡ s) × (length (s .rows) ≤ current s)
+view-done (ended h) e = (sym (done-injective e), h)
+view-done (zero-row h z) e = absurd (done≢refused (sym e))
+view-done (over-limit n h z k) e = absurd (done≢refused (sym e))
+view-done (goes-on p) e = absurd (going≢done e)
+
+-- Document 01's refusals of a run.
+abbrev pub Refusal : State → ℕ → Type 0
+Refusal s n = ((n ≡ 6) × T (zeroRow (rowAt s (current s)))) ⊎ ((n ≡ 7) ⊎ (n ≡ 8) ⊎ (n ≡ 9))
+
+view-refused : {side : Side} {s : State} {o : Outcome} {n : ℕ} → StepView side s o → o ≡ refused n
+    → (current s < length (s .rows)) × Refusal s n
+view-refused (ended h) e = absurd (done≢refused e)
+view-refused (zero-row h z) e = (h, inl (sym (refused-injective e), z))
+view-refused {n} (over-limit k h z c) e = (h, inr (rw (refused-injective e) at c))
+view-refused (goes-on p) e = absurd (going≢refused e)
+
+pub step-going : (side : Side) (s s' : State) → step side s ≡ going s' → Stepped side s s'
+step-going side s s' = view-going (step-view side s)
+
+pub step-done : (side : Side) (s s' : State) → step side s ≡ done s' → (s' ≡ s) × (length (s .rows) ≤ current s)
+step-done side s s' = view-done (step-view side s)
+
+pub step-refused : (side : Side) (s : State) (n : ℕ) → step side s ≡ refused n → (current s < length (s .rows)) × Refusal s n
+step-refused side s n = view-refused (step-view side s)
+
+pub step-refused-6 : (side : Side) (s : State) → step side s ≡ refused 6 → (current s < length (s .rows)) × T (zeroRow (rowAt s (current s)))
+step-refused-6 side s e = let (more, why) = step-refused side s 6 e in (more, the-zero why)
+  where
+    the-zero : Refusal s 6 → T (zeroRow (rowAt s (current s)))
+    the-zero (inl h) = h .1
+    the-zero (inr (inl e)) = absurd (omega arith)
+    the-zero (inr (inr (inl e))) = absurd (omega arith)
+    the-zero (inr (inr (inr e))) = absurd (omega arith)
+
+-- ---- chains and runs
+
+pub chain-induction : (side : Side) (P : State → Type 0) → ((u v : State) → Stepped side u v → P u → P v)
+    → {s s' : State} {k : ℕ} → Chain side s k s' → P s → P s'
+chain-induction side P keep here p = p
+chain-induction side P keep (next {u} {v} c t) p = keep u v t (chain-induction side P keep c p)
+
+-- A step before a chain.
+pub chain-before : {side : Side} {s u v : State} {k : ℕ} → Stepped side s u → Chain side u k v → Chain side s (suc k) v
+chain-before t here = next here t
+chain-before t (next c t') = next (chain-before t c) t'
+
+pub run-going : (side : Side) (k : ℕ) (s s' : State) → run side k s ≡ going s' → Chain side s k s'
+unfolding run
+run-going side zero s s' e = subst (Chain side s zero) (going-injective e) here
+run-going side (suc k) s s' e = go (step-view side s) (run-going side k) e
+  where
+    go : {o : Outcome} → StepView side s o → ((u v : State) → run side k u ≡ going v → Chain side u k v)
+        → andThen o (run side k) ≡ going s' → Chain side s (suc k) s'
+    go (ended h) rec e = absurd (going≢done (sym e))
+    go (zero-row h z) rec e = absurd (going≢refused (sym e))
+    go (over-limit n h z c) rec e = absurd (going≢refused (sym e))
+    go (goes-on {s' = u} p) rec e = chain-before p (rec u s' e)
+
+pub run-done : (side : Side) (k : ℕ) (s s' : State) → run side k s ≡ done s'
+    → (j : ℕ) × Chain side s j s' × (length (s' .rows) ≤ current s')
+unfolding run
+run-done side zero s s' e = absurd (going≢done e)
+run-done side (suc k) s s' e = go (step-view side s) (run-done side k) e
+  where
+    go : {o : Outcome} → StepView side s o
+        → ((u v : State) → run side k u ≡ done v → (j : ℕ) × Chain side u j v × (length (v .rows) ≤ current v))
+        → andThen o (run side k) ≡ done s' → (j : ℕ) × Chain side s j s' × (length (s' .rows) ≤ current s')
+    go (ended h) rec e =
+        subst (λ v. (j : ℕ) × Chain side s j v × (length (v .rows) ≤ current v)) (done-injective e) (0, here, h)
+    go (zero-row h z) rec e = absurd (done≢refused (sym e))
+    go (over-limit n h z c) rec e = absurd (done≢refused (sym e))
+    go (goes-on {s' = u} p) rec e = let (j, c, h) = rec u s' e in (suc j, chain-before p c, h)
+
+pub run-refused : (side : Side) (k : ℕ) (s : State) (n : ℕ) → run side k s ≡ refused n
+    → (j : ℕ) × (u : State) × Chain side s j u × (step side u ≡ refused n)
+unfolding run
+run-refused side zero s n e = absurd (going≢refused e)
+run-refused side (suc k) s n e = go (step side s) refl (step-view side s) (run-refused side k) e
+  where
+    go : (o : Outcome) → step side s ≡ o → StepView side s o
+        → ((v : State) (n : ℕ) → run side k v ≡ refused n → (j : ℕ) × (u : State) × Chain side v j u × (step side u ≡ refused n))
+        → andThen o (run side k) ≡ refused n → (j : ℕ) × (u : State) × Chain side s j u × (step side u ≡ refused n)
+    go (done v) f h rec e = absurd (done≢refused e)
+    go (refused k) f h rec e = (0, s, here, f ∙ e)
+    go (going v) f h rec e = let (j, u, c, g) = rec v n e in (suc j, u, chain-before (view-going h refl) c, g)
