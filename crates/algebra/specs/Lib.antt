@@ -1,12 +1,12 @@
 pub mod Integers
+pub mod Order
 pub mod Division
-pub mod Gcd
 pub mod Sums
+pub mod Pigeonhole
 pub mod Polynomials
-pub mod Vanishing
-pub mod Divisors
 pub mod Coefficients
 pub mod Binomials
+pub mod Gcd
+pub mod Vanishing
+pub mod Divisors
 pub mod Roots
-pub mod Order
-pub mod Pigeonhole

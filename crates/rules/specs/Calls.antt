@@ -60,7 +60,7 @@ acceptance side D s =
     record { refusal = 0; relations = length (s .relations); shifts = s .shifts; order = reportedOrder (s .order); hasRoot = rootFound root; root = rootValue root }
 
 -- The store with its needed part replaced; "numbers past the needed part stay".
-unfoldable pub overwrite : List ℤ → List ℤ → List ℤ
+unfoldable pub overwrite : {A : Type 0} → List A → List A → List A
 overwrite part store = part ++ drop (length part) store
 
 unfoldable pub zeros : ℕ → List ℤ

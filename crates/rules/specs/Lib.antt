@@ -4,3 +4,10 @@ pub mod Elimination
 pub mod Stores
 pub mod Sequences
 pub mod Calls
+pub mod Layout
+pub mod Numbers
+pub mod Sheets
+pub mod SheetCalls
+pub mod Batch
+pub mod Opened
+pub mod Known

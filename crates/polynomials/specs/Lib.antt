@@ -1,0 +1,4 @@
+pub mod Content
+pub mod Product
+pub mod Shift
+pub mod RootSearch

@@ -1,0 +1,1 @@
+// A coefficient of g·p + h·q.

@@ -1,0 +1,1 @@
+// Root test, root search, largest and smallest root.

@@ -1,0 +1,1 @@
+// Pascal's numbers, p(n + 1) and p(-n).

@@ -1,0 +1,1 @@
+// Working rows: arrays of 320 numbers, handed on by value.

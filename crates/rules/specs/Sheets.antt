@@ -1,0 +1,239 @@
+-- Sheets: the grammar of document 01, read and written.
+--
+-- Main definitions
+--   Sheet              what a sheet holds
+--   readSheet bytes    the sheet, or the number of its first fault in byte order
+--   writeSheet sheet   its bytes
+use Prim.Native.Nat.{ℕ, zero, suc, _+_, _*_, pred}
+use mathlib.Core.Bool.{Bool, true, false, _&&_, _||_, not, cond}
+use mathlib.Core.List.{List, [], _∷_, _++_, map, flatten}
+use lib.Dec.{leb, ltb, eqb}
+use lib.ListN.{length, getD, set, replicate}
+use lib.IntN.{ℤ, pos, negℤ, natAbs, predℤ, _-ℤ_}
+use lib.Signed.{leZ, ltZ}
+use Rattle.algebra.specs.Polynomials.{Polynomial, isZero, isZeroℤ}
+use Rattle.rules.specs.Limits.{coefficientCount, columnCount, blockCount, mostRelations, blockBound, small}
+use Rattle.rules.specs.Rows.{Block, Row, Relation}
+use Rattle.rules.specs.Stores.{Sizes, span}
+use Rattle.rules.specs.Calls.{padTo}
+use Rattle.rules.specs.Numbers.{space, newline, Read, got, fault, thenRead, field, between, judgeSmall, lines}
+
+-- The column order holds columns counted from 1, as in the sheet; it is empty if there is none.
+pub record Sheet : Type 0 where
+  pub sizes : Sizes
+  pub rows : List Row
+  pub relations : List Relation
+  pub order : List ℕ
+
+-- "each term as s, c, number of coefficients (1 to 16), coefficients from power 0"; the column is counted from 1.
+pub record Term : Type 0 where
+  pub block : ℤ
+  pub column : ℕ
+  pub polynomial : Polynomial
+
+-- ---- reading
+
+-- A separator that does not depend on the number.
+unfoldable pub always : ℕ → ℤ → ℕ
+always separator v = separator
+
+-- The separator after a count: the line ends if nothing is counted.
+unfoldable pub afterCount : ℤ → ℕ
+unfolding isZeroℤ
+afterCount v = cond (isZeroℤ v) newline space
+
+-- The separator after one of several things of which k are still to come.
+unfoldable pub parting : ℕ → ℕ → ℕ
+parting last zero = last
+parting last (suc k) = space
+
+-- "-64 ≤ t ≤ l ≤ 64. D = l - t is 0 to 4."
+unfoldable pub judgeLowest : ℤ → ℤ → ℕ
+judgeLowest l t =
+    cond (leZ (negℤ (pos blockBound)) t && leZ t l && leZ (l -ℤ t) (pos 4)) 0 2
+
+-- "`3 m l t`"
+unfoldable pub readSizes : List ℕ → Read Sizes
+unfolding thenRead field between always judgeLowest
+readSizes bytes =
+    thenRead (field (between (pos 3) (pos 3)) (always space) bytes) λ _ bytes₁.
+    thenRead (field (between (pos 1) (pos columnCount)) (always space) bytes₁) λ m bytes₂.
+    thenRead (field (between (negℤ (pos blockBound)) (pos blockBound)) (always space) bytes₂) λ l bytes₃.
+    thenRead (field (judgeLowest l) (always newline) bytes₃) λ t bytes₄.
+    got (record { m = natAbs m; l = l; t = t }) bytes₄
+
+-- "The last coefficient of a term is nonzero."
+unfoldable pub judgeLast : ℤ → ℕ
+unfolding small isZeroℤ
+judgeLast v = cond (small v) (cond (isZeroℤ v) 3 0) 5
+
+-- Coefficients, `last` standing after the last of them.
+unfoldable pub readCoefficients : ℕ → ℕ → List ℕ → Read Polynomial
+unfolding thenRead field judgeLast judgeSmall always
+readCoefficients last zero bytes = got [] bytes
+readCoefficients last (suc zero) bytes =
+    thenRead (field judgeLast (always last) bytes) λ a rest. got (a ∷ []) rest
+readCoefficients last (suc (suc k)) bytes =
+    thenRead (field judgeSmall (always space) bytes) λ a rest.
+    thenRead (readCoefficients last (suc k) rest) λ p more. got (a ∷ p) more
+
+-- "Terms go by falling s, then rising c." The term before stood at block s₀ and column c₀.
+unfoldable pub judgeBlock : Sizes → ℤ → ℤ → ℕ
+judgeBlock z s₀ s = cond (leZ (z .t) s && leZ s (z .l)) (cond (leZ s s₀) 0 3) 2
+
+unfoldable pub judgeColumn : Sizes → ℤ → ℕ → ℤ → ℤ → ℕ
+judgeColumn z s₀ c₀ s c =
+    cond (leZ (pos 1) c && leZ c (pos (z .m))) (cond (ltZ s s₀ || ltZ (pos c₀) c) 0 3) 2
+
+unfoldable pub readTerm : Sizes → ℤ → ℕ → ℕ → List ℕ → Read Term
+unfolding thenRead field judgeBlock judgeColumn between readCoefficients always
+readTerm z s₀ c₀ last bytes =
+    thenRead (field (judgeBlock z s₀) (always space) bytes) λ s bytes₁.
+    thenRead (field (judgeColumn z s₀ c₀ s) (always space) bytes₁) λ c bytes₂.
+    thenRead (field (between (pos 1) (pos coefficientCount)) (always space) bytes₂) λ k bytes₃.
+    thenRead (readCoefficients last (natAbs k) bytes₃) λ p bytes₄.
+    got (record { block = s; column = natAbs c; polynomial = p }) bytes₄
+
+unfoldable pub readTerms : Sizes → ℕ → ℤ → ℕ → List ℕ → Read (List Term)
+unfolding thenRead readTerm parting
+readTerms z zero s₀ c₀ bytes = got [] bytes
+readTerms z (suc k) s₀ c₀ bytes =
+    thenRead (readTerm z s₀ c₀ (parting newline k) bytes) λ e rest.
+    thenRead (readTerms z k (e .block) (e .column) rest) λ l more. got (e ∷ l) more
+
+-- The row of a store, all zero.
+unfoldable pub blankRow : Row
+blankRow = record { blocks = replicate blockCount (replicate columnCount (replicate coefficientCount (pos 0))) }
+
+unfoldable pub putTerm : ℤ → Term → Row → Row
+unfolding padTo
+putTerm l e r =
+    let k = natAbs (l -ℤ e .block) in
+    record { blocks = set (r .blocks) k (set (getD (r .blocks) k []) (pred (e .column)) (padTo coefficientCount (pos 0) (e .polynomial))) }
+
+unfoldable pub rowOfTerms : ℤ → List Term → Row
+unfolding blankRow putTerm
+rowOfTerms l [] = blankRow
+rowOfTerms l (e ∷ es) = putTerm l e (rowOfTerms l es)
+
+-- "An equation is its number of terms (0 to m × (D + 1)), then each term"
+unfoldable pub readEquation : Sizes → List ℕ → Read Row
+unfolding thenRead field between afterCount readTerms rowOfTerms span
+readEquation z bytes =
+    thenRead (field (between (pos 0) (pos (z .m * suc (span z)))) afterCount bytes) λ k rest.
+    thenRead (readTerms z (natAbs k) (z .l) 0 rest) λ es more. got (rowOfTerms (z .l) es) more
+
+unfoldable pub readEquations : Sizes → ℕ → List ℕ → Read (List Row)
+unfolding thenRead readEquation
+readEquations z zero bytes = got [] bytes
+readEquations z (suc k) bytes =
+    thenRead (readEquation z bytes) λ r rest.
+    thenRead (readEquations z k rest) λ l more. got (r ∷ l) more
+
+-- "n0 and an equation"
+unfoldable pub readRelation : Sizes → List ℕ → Read Relation
+unfolding thenRead field judgeSmall always readEquation
+readRelation z bytes =
+    thenRead (field judgeSmall (always space) bytes) λ n0 rest.
+    thenRead (readEquation z rest) λ r more. got (record { index = n0; row = r }) more
+
+unfoldable pub readRelations : Sizes → ℕ → List ℕ → Read (List Relation)
+unfolding thenRead readRelation
+readRelations z zero bytes = got [] bytes
+readRelations z (suc k) bytes =
+    thenRead (readRelation z bytes) λ e rest.
+    thenRead (readRelations z k rest) λ l more. got (e ∷ l) more
+
+unfoldable pub contains : ℕ → List ℕ → Bool
+contains c [] = false
+contains c (d ∷ l) = eqb c d || contains c l
+
+-- "a permutation of 1..m": a column outside 1..m, or one that stands already, is a wrong order line (2).
+unfoldable pub judgeOrder : ℕ → List ℕ → ℤ → ℕ
+unfolding contains
+judgeOrder m taken v =
+    cond (leZ (pos 1) v && leZ v (pos m) && not (contains (natAbs v) taken)) 0 2
+
+unfoldable pub readColumns : ℕ → ℕ → List ℕ → List ℕ → Read (List ℕ)
+unfolding thenRead field judgeOrder always parting
+readColumns m zero taken bytes = got [] bytes
+readColumns m (suc k) taken bytes =
+    thenRead (field (judgeOrder m taken) (always (parting newline k)) bytes) λ c rest.
+    thenRead (readColumns m k (natAbs c ∷ taken) rest) λ l more. got (natAbs c ∷ l) more
+
+unfoldable pub judgeOrderCount : ℕ → ℤ → ℕ
+unfolding isZeroℤ
+judgeOrderCount m v = cond (isZeroℤ v || isZeroℤ (v -ℤ pos m)) 0 2
+
+-- "one line with the column order, `0` if none, otherwise m and a permutation of 1..m"
+unfoldable pub readOrder : ℕ → List ℕ → Read (List ℕ)
+unfolding thenRead field judgeOrderCount afterCount readColumns
+readOrder m bytes =
+    thenRead (field (judgeOrderCount m) afterCount bytes) λ k rest. readColumns m (natAbs k) [] rest
+
+-- "4 the bytes [..] go on after the fourth section"
+unfoldable pub readEnd : Sheet → List ℕ → Read Sheet
+readEnd sheet [] = got sheet []
+readEnd sheet (b ∷ bytes) = fault 4
+
+-- "Four sections, fixed order, each after its count"; "an equation count that isn't m" is 2.
+unfoldable pub readSheet : List ℕ → Read Sheet
+unfolding thenRead readSizes field between always readEquations readRelations readOrder readEnd
+readSheet bytes =
+    thenRead (readSizes bytes) λ z bytes₁.
+    thenRead (field (between (pos (z .m)) (pos (z .m))) (always newline) bytes₁) λ _ bytes₂.
+    thenRead (readEquations z (z .m) bytes₂) λ rows bytes₃.
+    thenRead (field (between (pos 0) (pos mostRelations)) (always newline) bytes₃) λ count bytes₄.
+    thenRead (readRelations z (natAbs count) bytes₄) λ relations bytes₅.
+    thenRead (readOrder (z .m) bytes₅) λ order bytes₆.
+    readEnd (record { sizes = z; rows = rows; relations = relations; order = order }) bytes₆
+
+-- ---- writing
+
+-- The polynomial without its zero high coefficients.
+unfoldable pub trim : Polynomial → Polynomial
+unfolding isZero
+trim [] = []
+trim (a ∷ p) = cond (isZero (a ∷ p)) [] (a ∷ trim p)
+
+-- The terms of one block, from column c on.
+unfoldable pub blockTerms : ℤ → ℕ → Block → List Term
+unfolding isZero trim
+blockTerms s c [] = []
+blockTerms s c (p ∷ b) =
+    let more = blockTerms s (suc c) b in
+    cond (isZero p) more (record { block = s; column = c; polynomial = trim p } ∷ more)
+
+-- The terms of the blocks from s down: "by falling s, then rising c".
+unfoldable pub termsFrom : ℤ → List Block → List Term
+unfolding blockTerms
+termsFrom s [] = []
+termsFrom s (b ∷ bs) = blockTerms s 1 b ++ termsFrom (predℤ s) bs
+
+unfoldable pub termNumbers : Term → List ℤ
+termNumbers e = e .block ∷ pos (e .column) ∷ pos (length (e .polynomial)) ∷ e .polynomial
+
+unfoldable pub equationNumbers : ℤ → Row → List ℤ
+unfolding termsFrom flatten termNumbers
+equationNumbers l r =
+    let es = termsFrom l (r .blocks) in
+    pos (length es) ∷ flatten (map termNumbers es)
+
+unfoldable pub relationLine : ℤ → Relation → List ℤ
+unfolding equationNumbers
+relationLine l e = e .index ∷ equationNumbers l (e .row)
+
+unfoldable pub orderLine : List ℕ → List ℤ
+orderLine order = pos (length order) ∷ map pos order
+
+unfoldable pub sheetLines : Sheet → List (List ℤ)
+unfolding equationNumbers relationLine orderLine
+sheetLines sheet =
+    let z = sheet .sizes in
+    ((pos 3 ∷ pos (z .m) ∷ z .l ∷ z .t ∷ []) ∷ (pos (length (sheet .rows)) ∷ []) ∷ map (equationNumbers (z .l)) (sheet .rows))
+    ++ ((pos (length (sheet .relations)) ∷ []) ∷ map (relationLine (z .l)) (sheet .relations))
+    ++ (orderLine (sheet .order) ∷ [])
+
+unfoldable pub writeSheet : Sheet → List ℕ
+unfolding lines sheetLines
+writeSheet sheet = lines (sheetLines sheet)
