@@ -9,7 +9,6 @@
 --   SameBetween m z y a b     z and y agree at every index from a up to, not with, b
 --
 -- Main statements
---   blockValue-sum        the value of a block is a sum over its columns
 --   back-substitution     a sequence that satisfies the rows at n and is zero at n + l - D .. n + l - 1 is zero at n + l
 --   agreement             two solutions that agree at n + t .. n + l - 1 agree at every index from n + t on
 use Prim.Native.Nat.{ℕ, zero, suc, _+_, _-_, _≤_, _<_}
@@ -32,13 +31,11 @@ use Rattle.algebra.specs.Order.{≤ℤ-+ℤ-pos, +ℤ-≤ℤ-right, ≤ℤ-canc
 use Rattle.rules.specs.Rows.{Block, Row, noRow, All, every, zeroBlock, leadingBlock, entry}
 use Rattle.rules.specs.Stores.{unusedZero}
 use Rattle.rules.specs.Sequences.{Sequence, blockValue, blocksValue, valueOf, SatisfiesEquation, Same}
-use Rattle.theory.specs.Lists.{all-getD, every-all}
+use Rattle.theory.specs.Lists.{all-getD}
+use Rattle.theory.specs.Values.{block-zero, index-below, value-difference}
+use Rattle.theory.specs.Limits.{unusedZero-iff}
 
 -- ---- the value of a block as a sum over its columns
-
-zero-column : (p : Polynomial) (b : Block) → T (zeroBlock (p ∷ b)) → T (isZero p) × T (zeroBlock b)
-unfolding zeroBlock every
-zero-column p b h = T-&& (isZero p) (every isZero b) .0 h
 
 zero-term : (p : Polynomial) (n v : ℤ) → T (isZero p) → eval p n *ℤ v ≡ pos 0
 zero-term p n v h = ap (λ e. e *ℤ v) (eval-isZero p n h) ∙ zero-*ℤ v
@@ -46,41 +43,22 @@ zero-term p n v h = ap (λ e. e *ℤ v) (eval-isZero p n h) ∙ zero-*ℤ v
 times-zero : (a v : ℤ) → v ≡ pos 0 → a *ℤ v ≡ pos 0
 times-zero a v e = ap (λ x. a *ℤ x) e ∙ *ℤ-zero a
 
-pub zero-block-value : (n : ℤ) (v : ℕ → ℤ) (b : Block) → T (zeroBlock b) → blockValue n v b ≡ pos 0
-unfolding blockValue
-zero-block-value n v [] h = refl
-zero-block-value n v (p ∷ b) h =
-    ap₂ (λ x y. x +ℤ y) (zero-term p n (v 0) (zero-column p b h .0)) (zero-block-value n (λ c. v (suc c)) b (zero-column p b h .1))
-
 -- The term of column c.
 abbrev term : ℤ → (ℕ → ℤ) → Block → ℕ → ℤ
 term n v b c = eval (getD b c []) n *ℤ v c
 
-pub blockValue-sum : (m : ℕ) (n : ℤ) (v : ℕ → ℤ) (b : Block) → T (zeroBlock (drop m b)) → blockValue n v b ≡ sumBelow m (term n v b)
+block-columns : (m : ℕ) (n : ℤ) (v : ℕ → ℤ) (b : Block) → T (zeroBlock (drop m b)) → blockValue n v b ≡ sumBelow m (term n v b)
 unfolding blockValue eval sumBelow
-blockValue-sum m n v [] h = sym (sumBelow-zeros m (term n v []) (λ c p. zero-*ℤ (v c)))
-blockValue-sum zero n v (p ∷ b) h = zero-block-value n v (p ∷ b) h
-blockValue-sum (suc m) n v (p ∷ b) h =
-    ap (λ s. eval p n *ℤ v 0 +ℤ s) (blockValue-sum m n (λ c. v (suc c)) b h) ∙ sym (sumBelow-front m (term n v (p ∷ b)))
+block-columns m n v [] h = sym (sumBelow-zeros m (term n v []) (λ c p. zero-*ℤ (v c)))
+block-columns zero n v (p ∷ b) h = block-zero n v (p ∷ b) h
+block-columns (suc m) n v (p ∷ b) h =
+    ap (λ s. eval p n *ℤ v 0 +ℤ s) (block-columns m n (λ c. v (suc c)) b h) ∙ sym (sumBelow-front m (term n v (p ∷ b)))
 
 -- ---- rows whose value has only one block
 
 -- Every block is zero past column m, and every block from place D on is zero.
-abbrev pub Used : ℕ → ℕ → List Block → Type 0
+abbrev Used : ℕ → ℕ → List Block → Type 0
 Used m D bs = All (λ b. T (zeroBlock (drop m b))) bs × All (λ b. T (zeroBlock b)) (drop D bs)
-
-pub used : (m D : ℕ) (r : Row) → T (unusedZero m D r) ↔ Used m (suc D) (r .blocks)
-unfolding unusedZero
-used m D r = (λ h. let both = tests .0 h in (columns .0 (both .0), blocks .0 (both .1)), λ u. tests .1 (columns .1 (u .0), blocks .1 (u .1)))
-  where
-    columns : T (every (λ b. zeroBlock (drop m b)) (r .blocks)) ↔ All (λ b. T (zeroBlock (drop m b))) (r .blocks)
-    columns = every-all (λ b. zeroBlock (drop m b)) (r .blocks)
-
-    blocks : T (every zeroBlock (drop (suc D) (r .blocks))) ↔ All (λ b. T (zeroBlock b)) (drop (suc D) (r .blocks))
-    blocks = every-all zeroBlock (drop (suc D) (r .blocks))
-
-    tests : T (unusedZero m D r) ↔ (T (every (λ b. zeroBlock (drop m b)) (r .blocks)) × T (every zeroBlock (drop (suc D) (r .blocks))))
-    tests = T-&& (every (λ b. zeroBlock (drop m b)) (r .blocks)) (every zeroBlock (drop (suc D) (r .blocks)))
 
 -- The sequence is zero at the D indices from k downward.
 abbrev ZeroDown : ℕ → ℕ → Sequence → ℤ → Type 0
@@ -89,31 +67,22 @@ ZeroDown m D w k = (i : ℕ) → i < D → (c : ℕ) → c < m → w (k -ℤ pos
 zero-vector-value : (m : ℕ) (n : ℤ) (v : ℕ → ℤ) (b : Block)
     → T (zeroBlock (drop m b)) → ((c : ℕ) → c < m → v c ≡ pos 0) → blockValue n v b ≡ pos 0
 zero-vector-value m n v b h z =
-    blockValue-sum m n v b h ∙ sumBelow-zeros m (term n v b) (λ c p. times-zero (eval (getD b c []) n) (v c) (z c p))
-
-one-add : (i : ℕ) → 1 + i ≡ suc i
-one-add i = omega arith
-
-pub predℤ-minus : (k : ℤ) (i : ℕ) → predℤ k -ℤ pos i ≡ k -ℤ pos (suc i)
-predℤ-minus k i = ap (λ x. x -ℤ pos i) (sym (-ℤ-one k)) ∙ +ℤ-assoc k (negℤ (pos 1)) (negℤ (pos i)) ∙ ap (λ x. k +ℤ x) together
-  where
-    together : negℤ (pos 1) +ℤ negℤ (pos i) ≡ negℤ (pos (suc i))
-    together = sym (negℤ-+ℤ (pos 1) (pos i)) ∙ ap (λ j. negℤ (pos j)) (one-add i)
+    block-columns m n v b h ∙ sumBelow-zeros m (term n v b) (λ c p. times-zero (eval (getD b c []) n) (v c) (z c p))
 
 module _ (m : ℕ) (n : ℤ) (w : Sequence) where
   zero-first : (D : ℕ) (k : ℤ) → ZeroDown m (suc D) w k → (c : ℕ) → c < m → w k c ≡ pos 0
   zero-first D k z c h = ap (λ i. w i c) (sym (+ℤ-idr k)) ∙ z 0 (omega arith) c h
 
   zero-next : (D : ℕ) (k : ℤ) → ZeroDown m (suc D) w k → ZeroDown m D w (predℤ k)
-  zero-next D k z i h c p = ap (λ x. w x c) (predℤ-minus k i) ∙ z (suc i) (omega arith) c p
+  zero-next D k z i h c p = ap (λ x. w x c) (index-below k i) ∙ z (suc i) (omega arith) c p
 
-  blocks-zero : (D : ℕ) (k : ℤ) (bs : List Block) → Used m D bs → ZeroDown m D w k → blocksValue n w k bs ≡ pos 0
+  blocks-vanish : (D : ℕ) (k : ℤ) (bs : List Block) → Used m D bs → ZeroDown m D w k → blocksValue n w k bs ≡ pos 0
   unfolding blocksValue All
-  blocks-zero D k [] u z = refl
-  blocks-zero zero k (b ∷ bs) u z =
-      ap₂ _+ℤ_ (zero-block-value n (w k) b (u .1 .0)) (blocks-zero zero (predℤ k) bs (u .0 .1, u .1 .1) (λ i h. absurd (not-suc-le-zero h)))
-  blocks-zero (suc D) k (b ∷ bs) u z =
-      ap₂ _+ℤ_ (zero-vector-value m n (w k) b (u .0 .0) (zero-first D k z)) (blocks-zero D (predℤ k) bs (u .0 .1, u .1) (zero-next D k z))
+  blocks-vanish D k [] u z = refl
+  blocks-vanish zero k (b ∷ bs) u z =
+      ap₂ _+ℤ_ (block-zero n (w k) b (u .1 .0)) (blocks-vanish zero (predℤ k) bs (u .0 .1, u .1 .1) (λ i h. absurd (not-suc-le-zero h)))
+  blocks-vanish (suc D) k (b ∷ bs) u z =
+      ap₂ _+ℤ_ (zero-vector-value m n (w k) b (u .0 .0) (zero-first D k z)) (blocks-vanish D (predℤ k) bs (u .0 .1, u .1) (zero-next D k z))
 
   -- Where the sequence is zero at the D indices before k, only the first block counts.
   first-block : (D : ℕ) (k : ℤ) (bs : List Block) → Used m (suc D) bs → ZeroDown m D w (predℤ k)
@@ -121,12 +90,12 @@ module _ (m : ℕ) (n : ℤ) (w : Sequence) where
   unfolding blocksValue All eval
   first-block D k [] u z = sym (sumBelow-zeros m (term n (w k) []) (λ c p. zero-*ℤ (w k c)))
   first-block D k (b ∷ bs) u z =
-      ap₂ _+ℤ_ (blockValue-sum m n (w k) b (u .0 .0)) (blocks-zero D (predℤ k) bs (u .0 .1, u .1) z) ∙ +ℤ-idr (sumBelow m (term n (w k) b))
+      ap₂ _+ℤ_ (block-columns m n (w k) b (u .0 .0)) (blocks-vanish D (predℤ k) bs (u .0 .1, u .1) z) ∙ +ℤ-idr (sumBelow m (term n (w k) b))
 
   leading-value : (D : ℕ) (l : ℤ) (r : Row) → T (unusedZero m D r) → ZeroDown m D w (predℤ (n +ℤ l))
       → valueOf l r w n ≡ sumBelow m (λ c. eval (entry r c) n *ℤ w (n +ℤ l) c)
   unfolding valueOf entry leadingBlock
-  leading-value D l r h z = first-block D (n +ℤ l) (r .blocks) (used m D r .0 h) z
+  leading-value D l r h z = first-block D (n +ℤ l) (r .blocks) (unusedZero-iff m D r .0 h) z
 
 -- ---- back substitution
 
@@ -191,7 +160,7 @@ module _ {m D : ℕ} {rows : List Row} {order : List ℕ} (triangular : Triangul
       ap (w (n +ℤ l)) (sym x) ∙ from-the-last n (w (n +ℤ l)) d sums m j (omega arith) b
     where
       before : ZeroDown m D w (predℤ (n +ℤ l))
-      before i p c q = ap (λ k. w k c) (predℤ-minus (n +ℤ l) i) ∙ z i p c q
+      before i p c q = ap (λ k. w k c) (index-below (n +ℤ l) i) ∙ z i p c q
 
       sums : (j : ℕ) → j < m → sumBelow m (λ c. eval (entry (getD rows j noRow) c) n *ℤ w (n +ℤ l) c) ≡ pos 0
       sums j b = sym (leading-value m n w D l (getD rows j noRow) (triangular .unused j b) before) ∙ e j b
@@ -201,40 +170,14 @@ module _ {m D : ℕ} {rows : List Row} {order : List ℕ} (triangular : Triangul
 abbrev difference : Sequence → Sequence → Sequence
 difference z y = λ n c. z n c -ℤ y n c
 
-blockValue-difference : (n : ℤ) (u v : ℕ → ℤ) (b : Block) → blockValue n (λ c. u c -ℤ v c) b ≡ blockValue n u b -ℤ blockValue n v b
-unfolding blockValue
-blockValue-difference n u v [] = refl
-blockValue-difference n u v (p ∷ b) =
-    ap (λ s. eval p n *ℤ (u 0 -ℤ v 0) +ℤ s) (blockValue-difference n (λ c. u (suc c)) (λ c. v (suc c)) b) ∙ regroup (eval p n) (u 0) (v 0) _ _
-  where
-    regroup : (e a b x y : ℤ) → e *ℤ (a -ℤ b) +ℤ (x -ℤ y) ≡ e *ℤ a +ℤ x -ℤ (e *ℤ b +ℤ y)
-    regroup e a b x y = simp ringℤ
-
-blocksValue-difference : (n : ℤ) (z y : Sequence) (k : ℤ) (bs : List Block)
-    → blocksValue n (difference z y) k bs ≡ blocksValue n z k bs -ℤ blocksValue n y k bs
-unfolding blocksValue
-blocksValue-difference n z y k [] = refl
-blocksValue-difference n z y k (b ∷ bs) =
-    ap₂ _+ℤ_ (blockValue-difference n (z k) (y k) b) (blocksValue-difference n z y (predℤ k) bs) ∙ regroup (first z) (first y) (rest z) (rest y)
-  where
-    first : Sequence → ℤ
-    first x = blockValue n (x k) b
-
-    rest : Sequence → ℤ
-    rest x = blocksValue n x (predℤ k) bs
-
-    regroup : (a b x y : ℤ) → a -ℤ b +ℤ (x -ℤ y) ≡ a +ℤ x -ℤ (b +ℤ y)
-    regroup a b x y = simp ringℤ
-
-valueOf-difference : (l : ℤ) (r : Row) (z y : Sequence) (n : ℤ) → valueOf l r (difference z y) n ≡ valueOf l r z n -ℤ valueOf l r y n
-unfolding valueOf
-valueOf-difference l r z y n = blocksValue-difference n z y (n +ℤ l) (r .blocks)
-
 -- Two sequences agree at every index from a up to, not with, b.
 abbrev pub SameBetween : ℕ → Sequence → Sequence → ℤ → ℤ → Type 0
 SameBetween m z y a b = (i : ℤ) → a ≤ℤ i → i <ℤ b → Same m z y i
 
 -- Sums and differences of indices.
+one-add : (i : ℕ) → 1 + i ≡ suc i
+one-add i = omega arith
+
 minus-below : (x : ℤ) (i : ℕ) → (x -ℤ pos (suc i)) <ℤ x
 minus-below x i = <ℤ-+1 .1 (≤ℤ-intro i (+ℤ-assoc lower (pos 1) (pos i) ∙ ap (λ k. lower +ℤ pos k) (one-add i) ∙ -ℤ-+ℤ-cancel x (pos (suc i))))
   where
@@ -266,7 +209,7 @@ module _ {m D : ℕ} {rows : List Row} {order : List ℕ} (triangular : Triangul
     (z y : Sequence) (solves-z : All (SatisfiesEquation l z) rows) (solves-y : All (SatisfiesEquation l y) rows) where
   solves : (n : ℤ) (j : ℕ) → j < m → valueOf l (getD rows j noRow) (difference z y) n ≡ pos 0
   unfolding SatisfiesEquation
-  solves n j h = valueOf-difference l (getD rows j noRow) z y n ∙ ap₂ (λ a b. a -ℤ b) (at z solves-z) (at y solves-y)
+  solves n j h = value-difference l (getD rows j noRow) z y n ∙ ap₂ (λ a b. a -ℤ b) (at z solves-z) (at y solves-y)
     where
       at : (x : Sequence) → All (SatisfiesEquation l x) rows → valueOf l (getD rows j noRow) x n ≡ pos 0
       at x a = all-getD (SatisfiesEquation l x) rows noRow j (subst (λ k. j < k) (sym (triangular .row-count)) h) a n

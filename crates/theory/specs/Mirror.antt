@@ -1,27 +1,53 @@
 -- The mirror: -n for n, block -s for s, -n0 for n0. The trailing side is the leading side of the mirrored system.
-use Prim.Native.Nat.{ℕ, zero, suc, _+_, _≤_, _<_}
+--
+-- Main definitions
+--   turn D l               the first D + 1 members in reverse order
+--   reflect z              the sequence read backwards
+--   Reaches D r, Spans D r  D + 1 blocks or more; and all of them zero after the first D + 1
+--   mirrorSizes z          the same m, blocks from -l to -t
+--   SizesFacts z           what the check of the sizes tests
+--
+-- Main statements
+--   mirrorRow-twice, mirrorRelation-twice, mirrorState-twice   the mirror undoes itself
+--   mirror-leadingBlock, mirror-entry, mirror-lastEntry   blocks l and t change places
+--   mirror-diagonal        the diagonal polynomials of the trailing side are mirrors of those of the leading side
+--   mirror-value           the value of the mirrored row at n, on the reflected sequence, is the value at -n
+--   mirror-equation, mirror-relation, mirror-satisfies   so a sequence satisfies a system exactly if the reflected one does the mirror
+--   sizes-facts, span-sum, span-bound, mirror-span, mirror-sizes   sizes, and those of the mirror
+--   mirror-valid           the mirror of a valid system is valid
+--   mirror-dependent       a system is dependent exactly if its mirror is
+use Prim.Native.Nat.{ℕ, zero, suc, _+_, _-_, _≤_, _<_}
 use native.Mathlib.Omega.{arith}
-use mathlib.Core.Path.{_≡_, refl, sym, _∙_, ap, ap₂, subst}
-use mathlib.Core.Logic.{_↔_, _≢_}
-use mathlib.Core.Bool.{Bool, true, false, _&&_}
-use mathlib.Core.List.{List, [], _∷_, _++_, map, map-map, map-append, zipWith, flatten, reverse, reverse-cons, reverse-append, reverse-reverse}
+use mathlib.Core.Path.{_≡_, refl, sym, _∙_, ap, ap₂, subst, subst₂, fun-ext}
+use mathlib.Core.Logic.{_↔_, Iff·symm, Iff·trans}
+use mathlib.Core.Bool.{Bool, true, false, _&&_, not}
+use mathlib.Core.List.{List, [], _∷_, _++_, map, map-append, zipWith, flatten}
+use mathlib.Core.List.{reverse, reverse-cons, reverse-append, reverse-reverse}
 use lib.Dec.{T, leb, leb→le, le→leb}
 use lib.ListN.{length, getD, take, drop, length-reverse, length-map, length-append, take-append-drop, List·getD-map}
 use lib.Seq.{length-take-le, take-at, drop-at, take-suc}
-use lib.IntN.{ℤ, pos, negℤ, predℤ, _+ℤ_, _-ℤ_, _*ℤ_, +ℤ-idl, +ℤ-idr, +ℤ-assoc, +ℤ-comm, +ℤ-one, -ℤ-one}
-use lib.IntN.{+ℤ-invr, negℤ-negℤ, negℤ-+ℤ, predℤ-+ℤ, suc-pred, natAbs, -ℤ-+ℤ-cancel}
-use Rattle.algebra.specs.Integers.{+ℤ-left-comm, natAbs-negℤ}
-use Rattle.algebra.specs.Polynomials.{Polynomial, eval, isZero, negate, mirror, mirror-mirror, isZero-mirror, eval-mirror, T-&&}
+use lib.IntN.{ℤ, pos, negℤ, natAbs, predℤ, _+ℤ_, _-ℤ_, _*ℤ_, +ℤ-idl, +ℤ-idr, +ℤ-assoc, +ℤ-comm, +ℤ-one, -ℤ-one}
+use lib.IntN.{+ℤ-invr, negℤ-negℤ, negℤ-+ℤ, predℤ-+ℤ, suc-pred, -ℤ-+ℤ-cancel}
 use lib.Signed.{_≤ℤ_, leZ, leZ-yes}
+use Rattle.algebra.specs.Integers.{+ℤ-left-comm, natAbs-negℤ}
 use Rattle.algebra.specs.Order.{≤ℤ-difference, negℤ-≤ℤ, pos-≤ℤ, pos-natAbs-nonneg}
+use Rattle.algebra.specs.Sums.{sumBelow-congr, sumBelow-reverse}
+use Rattle.algebra.specs.Polynomials.{Polynomial, eval, isZero, negate, mirror, mirror-mirror, isZero-mirror, eval-mirror, T-&&}
 use Rattle.rules.specs.Limits.{bound, coefficientCount, columnCount, blockCount, blockBound, small}
-use Rattle.rules.specs.Rows.{Block, Row, Relation, noRow, All, every, mapRow, coefficientsOf, smallRow, zeroBlock, leadingBlock, entry, mirrorRow, mirrorRelation}
+use Rattle.rules.specs.Rows.{Block, Row, Relation, noRow, All, every, mapRow, coefficientsOf, smallRow, zeroBlock, leadingBlock, entry}
+use Rattle.rules.specs.Rows.{mirrorRow, mirrorRelation}
 use Rattle.rules.specs.Elimination.{Side, leading, trailing, State, mirrorState, diagonalPlace, diagonal}
 use Rattle.rules.specs.Stores.{Sizes, span, sizesRight, countRight, unusedZero, rowRight, relationRight, Shaped, StoreRow, Valid}
-use Rattle.rules.specs.Sequences.{Sequence, blockValue, blocksValue, valueOf, SatisfiesEquation, SatisfiesRelation, Satisfies, Same}
+use Rattle.rules.specs.Sequences.{Sequence, blockValue, blocksValue, valueOf, SatisfiesEquation, SatisfiesRelation, Satisfies, Dependent}
+use Rattle.theory.specs.Lists.{all-always, all-mono, all-both, all-take, all-drop, append-all, reverse-all, map-all, map-drop}
+use Rattle.theory.specs.Lists.{all-getD, all-flatten, every-all}
 use Rattle.theory.specs.Shapes.{mirrorRow-shaped}
-use Rattle.theory.specs.BackSubstitution.{predℤ-minus, move-right, zero-block-value, used}
-use Rattle.theory.specs.Lists.{all-always, all-mono, all-take, all-drop, append-all, reverse-all, map-all, all-flatten, all-both, every-all}
+use Rattle.theory.specs.Values.{blocks-same, blocks-append-zero, index-below}
+use Rattle.theory.specs.Limits.{unusedZero-iff, mapRow-unused}
+use Rattle.theory.specs.BackSubstitution.{move-right}
+use Rattle.theory.specs.Combinations.{sumWithin, sumWithin-below, sumWithin-congr, cancel-common}
+use Rattle.theory.specs.Combinations.{Values, copies, combinationValue, DependentValues}
+use Rattle.theory.specs.Dependence.{rowValues, dependent-values}
 
 -- ---- the blocks change places
 
@@ -42,20 +68,18 @@ map-take f zero l = refl
 map-take f (suc n) [] = refl
 map-take f (suc n) (x ∷ l) = ap (λ k. f x ∷ k) (map-take f n l)
 
-map-drop : {A B : Type 0} (f : A → B) (n : ℕ) (l : List A) → drop n (map f l) ≡ map f (drop n l)
-map-drop f zero l = refl
-map-drop f (suc n) [] = refl
-map-drop f (suc n) (x ∷ l) = map-drop f n l
-
 map-reverse : {A B : Type 0} (f : A → B) (l : List A) → reverse (map f l) ≡ map f (reverse l)
 map-reverse f [] = refl
 map-reverse f (x ∷ l) =
-    reverse-cons (f x) (map f l) ∙ ap (λ k. k ++ (f x ∷ [])) (map-reverse f l) ∙ sym (map-append f (reverse l) (x ∷ [])) ∙ ap (map f) (sym (reverse-cons x l))
+    reverse-cons (f x) (map f l) ∙ ap (λ k. k ++ (f x ∷ [])) (map-reverse f l)
+    ∙ sym (map-append f (reverse l) (x ∷ [])) ∙ ap (map f) (sym (reverse-cons x l))
 
 map-turn : {A B : Type 0} (f : A → B) (D : ℕ) (l : List A) → turn D (map f l) ≡ map f (turn D l)
 unfolding turn
 map-turn f D l =
-    ap₂ (λ a b. reverse a ++ b) (map-take f (suc D) l) (map-drop f (suc D) l) ∙ ap (λ a. a ++ map f (drop (suc D) l)) (map-reverse f (take (suc D) l)) ∙ sym (map-append f (reverse (take (suc D) l)) (drop (suc D) l))
+    ap₂ (λ a b. reverse a ++ b) (map-take f (suc D) l) (map-drop f (suc D) l)
+    ∙ ap (λ a. a ++ map f (drop (suc D) l)) (map-reverse f (take (suc D) l))
+    ∙ sym (map-append f (reverse (take (suc D) l)) (drop (suc D) l))
 
 turn-parts : {A : Type 0} (D : ℕ) (l : List A) → turn D l ≡ reverse (take (suc D) l) ++ drop (suc D) l
 unfolding turn
@@ -81,7 +105,9 @@ module _ {A : Type 0} (D : ℕ) (l : List A) (h : suc D ≤ length l) where
   -- The member at place D comes to the front.
   turn-front : (d : A) → turn D l ≡ getD l D d ∷ (reverse (take D l) ++ drop (suc D) l)
   unfolding turn
-  turn-front d = ap (λ a. reverse a ++ drop (suc D) l) (take-suc l D d h) ∙ ap (λ a. a ++ drop (suc D) l) (reverse-append (take D l) (getD l D d ∷ []))
+  turn-front d =
+      ap (λ a. reverse a ++ drop (suc D) l) (take-suc l D d h)
+      ∙ ap (λ a. a ++ drop (suc D) l) (reverse-append (take D l) (getD l D d ∷ []))
 
 pub turn-length : {A : Type 0} (D : ℕ) (l : List A) → length (turn D l) ≡ length l
 unfolding turn
@@ -97,6 +123,9 @@ Reaches D r = suc D ≤ length (r .blocks)
 
 pub mirrorRow-length : (D : ℕ) (r : Row) → length (mirrorRow D r .blocks) ≡ length (r .blocks)
 mirrorRow-length D r = ap length (mirrorRow-blocks D r) ∙ length-map (turn D (r .blocks)) mirrorBlock ∙ turn-length D (r .blocks)
+
+pub mirror-reaches : (D : ℕ) (r : Row) → Reaches D r → Reaches D (mirrorRow D r)
+mirror-reaches D r h = subst (λ n. suc D ≤ n) (sym (mirrorRow-length D r)) h
 
 mirrorBlock-twice : (b : Block) → mirrorBlock (mirrorBlock b) ≡ b
 mirrorBlock-twice [] = refl
@@ -125,11 +154,14 @@ pub mirrorRows-twice : (D : ℕ) (rows : List Row) → All (Reaches D) rows → 
 mirrorRows-twice D rows a =
     map-twice (mirrorRow D) rows (all-mono (Reaches D) (λ r. mirrorRow D (mirrorRow D r) ≡ r) (mirrorRow-twice D) rows a)
 
-pub mirrorRelations-twice : (D : ℕ) (l : List Relation) → All (λ e. Reaches D (e .row)) l → map (mirrorRelation D) (map (mirrorRelation D) l) ≡ l
+pub mirrorRelations-twice : (D : ℕ) (l : List Relation) → All (λ e. Reaches D (e .row)) l
+    → map (mirrorRelation D) (map (mirrorRelation D) l) ≡ l
 mirrorRelations-twice D l a =
-    map-twice (mirrorRelation D) l (all-mono (λ e. Reaches D (e .row)) (λ e. mirrorRelation D (mirrorRelation D e) ≡ e) (mirrorRelation-twice D) l a)
+    map-twice (mirrorRelation D) l
+    (all-mono (λ e. Reaches D (e .row)) (λ e. mirrorRelation D (mirrorRelation D e) ≡ e) (mirrorRelation-twice D) l a)
 
-pub mirrorState-twice : (D : ℕ) (s : State) → All (Reaches D) (s .rows) → All (λ e. Reaches D (e .row)) (s .relations) → mirrorState D (mirrorState D s) ≡ s
+pub mirrorState-twice : (D : ℕ) (s : State) → All (Reaches D) (s .rows) → All (λ e. Reaches D (e .row)) (s .relations)
+    → mirrorState D (mirrorState D s) ≡ s
 unfolding mirrorState
 mirrorState-twice D s a b =
     ap₂ (λ rows relations. record { rows = rows; relations = relations; order = s .order; shifts = s .shifts })
@@ -148,8 +180,8 @@ mirror-entry D r c h = ap (λ b. getD b c []) (mirror-leadingBlock D r h) ∙ Li
 -- Block t of the mirror is the mirror of block l.
 pub mirror-lastBlock : (D : ℕ) (r : Row) → Reaches D r → getD (mirrorRow D r .blocks) D [] ≡ mirrorBlock (leadingBlock r)
 mirror-lastBlock D r h =
-    sym (mirrorBlock-twice (getD (mirrorRow D r .blocks) D [])) ∙
-    ap mirrorBlock (sym (mirror-leadingBlock D (mirrorRow D r) (subst (λ n. suc D ≤ n) (sym (mirrorRow-length D r)) h)) ∙ ap leadingBlock (mirrorRow-twice D r h))
+    sym (mirrorBlock-twice (getD (mirrorRow D r .blocks) D []))
+    ∙ ap mirrorBlock (sym (mirror-leadingBlock D (mirrorRow D r) (mirror-reaches D r h)) ∙ ap leadingBlock (mirrorRow-twice D r h))
 
 pub mirror-lastEntry : (D : ℕ) (r : Row) (c : ℕ) → Reaches D r → getD (getD (mirrorRow D r .blocks) D []) c [] ≡ mirror (entry r c)
 unfolding entry mirror
@@ -167,7 +199,8 @@ zip-mirror D (r ∷ rows) [] a = refl
 zip-mirror D (r ∷ rows) (c ∷ order) a = ap₂ _∷_ (mirror-lastEntry D r c (a .0)) (zip-mirror D rows order (a .1))
 
 -- The diagonal polynomials of the trailing side are the mirrors of those of the mirrored state's leading side.
-pub mirror-diagonal : (D : ℕ) (s : State) → All (Reaches D) (s .rows) → diagonal trailing D (mirrorState D s) ≡ map mirror (diagonal leading D s)
+pub mirror-diagonal : (D : ℕ) (s : State) → All (Reaches D) (s .rows)
+    → diagonal trailing D (mirrorState D s) ≡ map mirror (diagonal leading D s)
 unfolding diagonal diagonalPlace mirrorState
 mirror-diagonal D s a = zip-mirror D (s .rows) (s .order) a
 
@@ -177,27 +210,32 @@ mirror-diagonal D s a = zip-mirror D (s .rows) (s .order) a
 abbrev pub reflect : Sequence → Sequence
 reflect z = λ n c. z (negℤ n) c
 
-block-mirror : (n : ℤ) (v : ℕ → ℤ) (b : Block) → blockValue n v (mirrorBlock b) ≡ blockValue (negℤ n) v b
-unfolding blockValue
-block-mirror n v [] = refl
-block-mirror n v (p ∷ b) = ap₂ (λ e s. e *ℤ v 0 +ℤ s) (eval-mirror p n) (block-mirror n (λ c. v (suc c)) b)
-
 blocks-mirror : (n : ℤ) (z : Sequence) (k : ℤ) (bs : List Block) → blocksValue n z k (map mirrorBlock bs) ≡ blocksValue (negℤ n) z k bs
-unfolding blocksValue
-blocks-mirror n z k [] = refl
-blocks-mirror n z k (b ∷ bs) = ap₂ _+ℤ_ (block-mirror n (z k) b) (blocks-mirror n z (predℤ k) bs)
+unfolding mapRow
+blocks-mirror n z k bs =
+    blocks-same mirror (record { blocks = bs }) z n (negℤ n) k (all-always (All Mirrored) (all-always Mirrored (λ p. eval-mirror p n)) bs)
+  where
+    Mirrored : Polynomial → Type 0
+    Mirrored p = eval (mirror p) n ≡ eval p (negℤ n)
 
 blocks-append : (n : ℤ) (z : Sequence) (k : ℤ) (bs cs : List Block)
     → blocksValue n z k (bs ++ cs) ≡ blocksValue n z k bs +ℤ blocksValue n z (k -ℤ pos (length bs)) cs
 unfolding blocksValue
 blocks-append n z k [] cs = ap (λ i. blocksValue n z i cs) (sym (+ℤ-idr k)) ∙ sym (+ℤ-idl (blocksValue n z (k -ℤ pos 0) cs))
 blocks-append n z k (b ∷ bs) cs =
-    ap (λ s. blockValue n (z k) b +ℤ s) (blocks-append n z (predℤ k) bs cs ∙ ap (λ i. blocksValue n z (predℤ k) bs +ℤ blocksValue n z i cs) (predℤ-minus k (length bs)))
-    ∙ sym (+ℤ-assoc (blockValue n (z k) b) (blocksValue n z (predℤ k) bs) (blocksValue n z (k -ℤ pos (suc (length bs))) cs))
+    ap (λ s. blockValue n (z k) b +ℤ s) (blocks-append n z (predℤ k) bs cs)
+    ∙ ap (λ i. blockValue n (z k) b +ℤ (rest +ℤ blocksValue n z i cs)) (index-below k (length bs))
+    ∙ sym (+ℤ-assoc (blockValue n (z k) b) rest (blocksValue n z (k -ℤ pos (suc (length bs))) cs))
+  where
+    rest : ℤ
+    rest = blocksValue n z (predℤ k) bs
 
 one-block : (n : ℤ) (z : Sequence) (k : ℤ) (b : Block) → blocksValue n z k (b ∷ []) ≡ blockValue n (z k) b
 unfolding blocksValue
 one-block n z k b = +ℤ-idr (blockValue n (z k) b)
+
+mirror-minus : (a b : ℤ) → negℤ (a -ℤ b) ≡ b -ℤ a
+mirror-minus a b = negℤ-+ℤ a (negℤ b) ∙ ap (λ x. negℤ a +ℤ x) (negℤ-negℤ b) ∙ +ℤ-comm (negℤ a) b
 
 -- The indices that the first of the blocks meets, and the rest.
 module _ (k h : ℤ) (i : ℕ) (e : h +ℤ k +ℤ pos 1 ≡ pos (suc i)) where
@@ -208,8 +246,7 @@ module _ (k h : ℤ) (i : ℕ) (e : h +ℤ k +ℤ pos 1 ≡ pos (suc i)) where
   indices-next = ap (λ x. x +ℤ pos 1) (predℤ-+ℤ h k) ∙ +ℤ-one (predℤ (h +ℤ k)) ∙ suc-pred (h +ℤ k) ∙ indices
 
   reflected-index : negℤ (k -ℤ pos i) ≡ h
-  reflected-index =
-      negℤ-+ℤ k (negℤ (pos i)) ∙ ap (λ x. negℤ k +ℤ x) (negℤ-negℤ (pos i)) ∙ +ℤ-comm (negℤ k) (pos i) ∙ sym (move-right h k (pos i) indices)
+  reflected-index = mirror-minus k (pos i) ∙ sym (move-right h k (pos i) indices)
 
 -- The blocks in reverse order meet the reflected sequence at the same indices.
 blocks-reverse : (n : ℤ) (z : Sequence) (bs : List Block) (k h : ℤ) → h +ℤ k +ℤ pos 1 ≡ pos (length bs)
@@ -226,22 +263,13 @@ blocks-reverse n z (b ∷ bs) k h e =
         ap (λ i. blocksValue n (reflect z) (k -ℤ pos i) (b ∷ [])) (length-reverse bs) ∙ one-block n (reflect z) (k -ℤ pos (length bs)) b
         ∙ ap (λ i. blockValue n (z i) b) (reflected-index k h (length bs) e)
 
-zero-blocks : (n : ℤ) (z : Sequence) (k : ℤ) (bs : List Block) → All (λ b. T (zeroBlock b)) bs → blocksValue n z k bs ≡ pos 0
-unfolding blocksValue All
-zero-blocks n z k [] a = refl
-zero-blocks n z k (b ∷ bs) a = ap₂ _+ℤ_ (zero-block-value n (z k) b (a .0)) (zero-blocks n z (predℤ k) bs (a .1))
-
-blocks-append-zero : (n : ℤ) (z : Sequence) (k : ℤ) (bs cs : List Block) → All (λ b. T (zeroBlock b)) cs → blocksValue n z k (bs ++ cs) ≡ blocksValue n z k bs
-blocks-append-zero n z k bs cs a =
-    blocks-append n z k bs cs ∙ ap (λ s. blocksValue n z k bs +ℤ s) (zero-blocks n z (k -ℤ pos (length bs)) cs a) ∙ +ℤ-idr (blocksValue n z k bs)
-
 -- D + 1 blocks or more, all of them zero after the first D + 1.
 pub record Spans (D : ℕ) (r : Row) : Type 0 where
   pub reaches : Reaches D r
-  pub zero-after : All (λ b. T (zeroBlock b)) (drop (suc D) (r .blocks))
+  pub zero-after : T (every zeroBlock (drop (suc D) (r .blocks)))
 
 pub spans : (m D : ℕ) (r : Row) → Reaches D r → T (unusedZero m D r) → Spans D r
-spans m D r h u = record { reaches = h; zero-after = used m D r .0 u .1 }
+spans m D r h u = record { reaches = h; zero-after = every-all zeroBlock (drop (suc D) (r .blocks)) .1 (unusedZero-iff m D r .0 u .1) }
 
 mirror-indices : (D : ℕ) (l t : ℤ) → l ≡ t +ℤ pos D → (n : ℤ) → negℤ n +ℤ l +ℤ (n -ℤ t) +ℤ pos 1 ≡ pos (suc D)
 mirror-indices D l t e n =
@@ -259,14 +287,18 @@ mirror-value D l t e r s z n =
     ap (blocksValue n (reflect z) (n -ℤ t)) (mirrorRow-blocks D r) ∙ blocks-mirror n (reflect z) (n -ℤ t) (turn D (r .blocks))
     ∙ ap (blocksValue (negℤ n) (reflect z) (n -ℤ t)) (turn-parts D (r .blocks))
     ∙ blocks-append-zero (negℤ n) (reflect z) (n -ℤ t) (reverse first) rest (s .zero-after)
-    ∙ blocks-reverse (negℤ n) z first (n -ℤ t) (negℤ n +ℤ l) (mirror-indices D l t e n ∙ ap pos (sym (length-take-le (suc D) (r .blocks) (s .reaches))))
-    ∙ sym (blocks-append-zero (negℤ n) z (negℤ n +ℤ l) first rest (s .zero-after)) ∙ ap (blocksValue (negℤ n) z (negℤ n +ℤ l)) (take-append-drop (suc D) (r .blocks))
+    ∙ blocks-reverse (negℤ n) z first (n -ℤ t) (negℤ n +ℤ l) (mirror-indices D l t e n ∙ ap pos (sym count))
+    ∙ sym (blocks-append-zero (negℤ n) z (negℤ n +ℤ l) first rest (s .zero-after))
+    ∙ ap (blocksValue (negℤ n) z (negℤ n +ℤ l)) (take-append-drop (suc D) (r .blocks))
   where
     first : List Block
     first = take (suc D) (r .blocks)
 
     rest : List Block
     rest = drop (suc D) (r .blocks)
+
+    count : length first ≡ suc D
+    count = length-take-le (suc D) (r .blocks) (s .reaches)
 
 -- ---- what a sequence satisfies
 
@@ -288,7 +320,8 @@ module _ (D : ℕ) (l t : ℤ) (span : l ≡ t +ℤ pos D) (z : Sequence) where
       back : ((n : ℤ) → valueOf (negℤ t) (mirrorRow D r) (reflect z) n ≡ pos 0) → (n : ℤ) → valueOf l r z n ≡ pos 0
       back h n = ap (valueOf l r z) (sym (negℤ-negℤ n)) ∙ sym (mirror-value D l t span r s z (negℤ n)) ∙ h (negℤ n)
 
-  pub mirror-relation : (e : Relation) → Spans D (e .row) → SatisfiesRelation l z e ↔ SatisfiesRelation (negℤ t) (reflect z) (mirrorRelation D e)
+  pub mirror-relation : (e : Relation) → Spans D (e .row)
+      → SatisfiesRelation l z e ↔ SatisfiesRelation (negℤ t) (reflect z) (mirrorRelation D e)
   unfolding SatisfiesRelation mirrorRelation
   mirror-relation e s = (λ h. same ∙ h, λ h. sym same ∙ h)
     where
@@ -306,7 +339,28 @@ module _ (D : ℕ) (l t : ℤ) (span : l ≡ t +ℤ pos D) (z : Sequence) where
 
       conditions : All (SatisfiesRelation l z) relations ↔ All (SatisfiesRelation (negℤ t) (reflect z)) (map (mirrorRelation D) relations)
       conditions =
-          all-images (λ e. Spans D (e .row)) (SatisfiesRelation l z) (SatisfiesRelation (negℤ t) (reflect z)) (mirrorRelation D) mirror-relation relations b
+          all-images (λ e. Spans D (e .row)) (SatisfiesRelation l z) (SatisfiesRelation (negℤ t) (reflect z)) (mirrorRelation D)
+          mirror-relation relations b
+
+pub reflect-twice : (z : Sequence) → reflect (reflect z) ≡ z
+reflect-twice z = fun-ext (λ n. fun-ext (λ c. ap (λ k. z k c) (negℤ-negℤ n)))
+
+-- D is the number of blocks from -l to -t too.
+pub mirror-span-sum : (D : ℕ) (l t : ℤ) → l ≡ t +ℤ pos D → negℤ t ≡ negℤ l +ℤ pos D
+mirror-span-sum D l t e =
+    sym (-ℤ-+ℤ-cancel (negℤ t) (pos D)) ∙ ap (λ x. x +ℤ pos D) (sym (negℤ-+ℤ t (pos D)) ∙ ap negℤ (sym e))
+
+-- The other way round: a sequence satisfies the mirror exactly if the reflected one satisfies the system.
+pub mirror-satisfies-back : (D : ℕ) (l t : ℤ) → l ≡ t +ℤ pos D → (z : Sequence) (rows : List Row) (relations : List Relation)
+    → All (Spans D) rows → All (λ e. Spans D (e .row)) relations
+    → Satisfies l (map (mirrorRow D) rows) (map (mirrorRelation D) relations) z ↔ Satisfies (negℤ t) rows relations (reflect z)
+mirror-satisfies-back D l t e z rows relations a b = Iff·symm (subst₂ Same (negℤ-negℤ l) (reflect-twice z) same)
+  where
+    Same : ℤ → Sequence → Type 0
+    Same k x = Satisfies (negℤ t) rows relations (reflect z) ↔ Satisfies k (map (mirrorRow D) rows) (map (mirrorRelation D) relations) x
+
+    same : Same (negℤ (negℤ l)) (reflect (reflect z))
+    same = mirror-satisfies D (negℤ t) (negℤ l) (mirror-span-sum D l t e) (reflect z) rows relations a b
 
 -- ---- sizes
 
@@ -345,7 +399,8 @@ sizes-facts z = (forth, back)
     column-tests : T columns ↔ (T (leb 1 (z .m)) × T (leb (z .m) columnCount))
     column-tests = T-&& (leb 1 (z .m)) (leb (z .m) columnCount)
 
-    block-tests : T blocks ↔ (T (leZ (negℤ (pos blockBound)) (z .t)) × T (leZ (z .t) (z .l)) × T (leZ (z .l) (pos blockBound)) × T (leZ (z .l -ℤ z .t) (pos 4)))
+    block-tests : T blocks
+        ↔ (T (leZ (negℤ (pos blockBound)) (z .t)) × T (leZ (z .t) (z .l)) × T (leZ (z .l) (pos blockBound)) × T (leZ (z .l -ℤ z .t) (pos 4)))
     block-tests = four (leZ (negℤ (pos blockBound)) (z .t)) (leZ (z .t) (z .l)) (leZ (z .l) (pos blockBound)) (leZ (z .l -ℤ z .t) (pos 4))
 
     forth : T (sizesRight z) → SizesFacts z
@@ -353,11 +408,20 @@ sizes-facts z = (forth, back)
         let tests = T-&& columns blocks .0 h in
         let c = column-tests .0 (tests .0) in
         let b = block-tests .0 (tests .1) in
-        record { m-low = leb→le 1 (z .m) (c .0); m-high = leb→le (z .m) columnCount (c .1); t-low = leZ-yes (b .0); t-high = leZ-yes (b .1); l-high = leZ-yes (b .2); difference-high = leZ-yes (b .3) }
+        record {
+          m-low = leb→le 1 (z .m) (c .0);
+          m-high = leb→le (z .m) columnCount (c .1);
+          t-low = leZ-yes (b .0);
+          t-high = leZ-yes (b .1);
+          l-high = leZ-yes (b .2);
+          difference-high = leZ-yes (b .3);
+        }
 
     back : SizesFacts z → T (sizesRight z)
-    back f =
-        T-&& columns blocks .1 (column-tests .1 (le→leb 1 (z .m) (f .m-low), le→leb (z .m) columnCount (f .m-high)), block-tests .1 (f .t-low .le, f .t-high .le, f .l-high .le, f .difference-high .le))
+    back f = T-&& columns blocks .1 (
+      column-tests .1 (le→leb 1 (z .m) (f .m-low), le→leb (z .m) columnCount (f .m-high)),
+      block-tests .1 (f .t-low .le, f .t-high .le, f .l-high .le, f .difference-high .le),
+    )
 
 -- D = l - t for the mirrored sizes too.
 mirror-difference : (l t : ℤ) → negℤ t -ℤ negℤ l ≡ l -ℤ t
@@ -367,34 +431,42 @@ pub mirror-span : (z : Sizes) → span (mirrorSizes z) ≡ span z
 unfolding span
 mirror-span z = ap natAbs (mirror-difference (z .l) (z .t))
 
-pub span-sum : (z : Sizes) → T (sizesRight z) → z .l ≡ z .t +ℤ pos (span z)
+span-difference : (z : Sizes) → SizesFacts z → pos (span z) ≡ z .l -ℤ z .t
 unfolding span
-span-sum z h = sym (-ℤ-+ℤ-cancel (z .l) (z .t)) ∙ +ℤ-comm (z .l -ℤ z .t) (z .t) ∙ ap (λ x. z .t +ℤ x) (sym (pos-natAbs-nonneg (≤ℤ-difference .0 (sizes-facts z .0 h .t-high))))
+span-difference z f = pos-natAbs-nonneg (≤ℤ-difference .0 (f .t-high))
+
+pub span-sum : (z : Sizes) → T (sizesRight z) → z .l ≡ z .t +ℤ pos (span z)
+span-sum z h =
+    sym (-ℤ-+ℤ-cancel (z .l) (z .t)) ∙ +ℤ-comm (z .l -ℤ z .t) (z .t) ∙ ap (λ x. z .t +ℤ x) (sym (span-difference z (sizes-facts z .0 h)))
 
 pub span-bound : (z : Sizes) → T (sizesRight z) → span z ≤ 4
-unfolding span
-span-bound z h = let f = sizes-facts z .0 h in pos-≤ℤ .0 (subst (λ x. x ≤ℤ pos 4) (sym (pos-natAbs-nonneg (≤ℤ-difference .0 (f .t-high)))) (f .difference-high))
+span-bound z h = let f = sizes-facts z .0 h in pos-≤ℤ .0 (subst (λ x. x ≤ℤ pos 4) (sym (span-difference z f)) (f .difference-high))
 
 pub mirror-sizes : (z : Sizes) → T (sizesRight z) → T (sizesRight (mirrorSizes z))
 mirror-sizes z h = sizes-facts (mirrorSizes z) .1 (turned (sizes-facts z .0 h))
   where
     turned : SizesFacts z → SizesFacts (mirrorSizes z)
     turned f =
-        record { m-low = f .m-low; m-high = f .m-high; t-low = negℤ-≤ℤ .0 (f .l-high); t-high = negℤ-≤ℤ .0 (f .t-high); l-high = negℤ-≤ℤ .0 (f .t-low); difference-high = subst (λ x. x ≤ℤ pos 4) (sym (mirror-difference (z .l) (z .t))) (f .difference-high) }
+        record {
+          m-low = f .m-low;
+          m-high = f .m-high;
+          t-low = negℤ-≤ℤ .0 (f .l-high);
+          t-high = negℤ-≤ℤ .0 (f .t-high);
+          l-high = negℤ-≤ℤ .0 (f .t-low);
+          difference-high = subst (λ x. x ≤ℤ pos 4) (sym (mirror-difference (z .l) (z .t))) (f .difference-high);
+        }
 
 -- ---- valid systems
 
 all-turn : {A : Type 0} (P : A → Type 0) (D : ℕ) (l : List A) → All P l → All P (turn D l)
 unfolding turn
-all-turn P D l a = append-all P (reverse (take (suc D) l)) (drop (suc D) l) (reverse-all P (take (suc D) l) (all-take P (suc D) l a)) (all-drop P (suc D) l a)
+all-turn P D l a =
+    append-all P (reverse (take (suc D) l)) (drop (suc D) l)
+    (reverse-all P (take (suc D) l) (all-take P (suc D) l a)) (all-drop P (suc D) l a)
 
-map-keeps : {A B : Type 0} (P : A → Type 0) (Q : B → Type 0) (f : A → B) → ((x : A) → P x → Q (f x)) → (l : List A) → All P l → All Q (map f l)
+map-keeps : {A B : Type 0} (P : A → Type 0) (Q : B → Type 0) (f : A → B) → ((x : A) → P x → Q (f x))
+    → (l : List A) → All P l → All Q (map f l)
 map-keeps P Q f h l a = map-all Q f l (all-mono P (λ x. Q (f x)) h l a)
-
--- A property of blocks that the mirror keeps holds of the blocks of the mirrored row.
-mirrored-blocks : (P : Block → Type 0) → ((b : Block) → P b → P (mirrorBlock b)) → (D : ℕ) (r : Row) → All P (r .blocks) → All P (mirrorRow D r .blocks)
-mirrored-blocks P f D r a =
-    subst (All P) (sym (mirrorRow-blocks D r)) (map-keeps P P mirrorBlock f (turn D (r .blocks)) (all-turn P D (r .blocks) a))
 
 abbrev Small : ℤ → Type 0
 Small a = T (small a)
@@ -410,69 +482,62 @@ small-mirror (x ∷ p) a = (a .0, map-keeps Small Small negℤ small-negℤ (mir
 
 small-row : (r : Row) → T (smallRow r) ↔ All (All (All Small)) (r .blocks)
 unfolding smallRow coefficientsOf
-small-row r = (λ h. all-flatten (All Small) (r .blocks) .0 (all-flatten Small (flatten (r .blocks)) .0 (every-all small _ .0 h)), λ a. every-all small _ .1 (all-flatten Small (flatten (r .blocks)) .1 (all-flatten (All Small) (r .blocks) .1 a)))
+small-row r = (λ h. blocks .0 (coefficients .0 (tests .0 h)), λ a. tests .1 (coefficients .1 (blocks .1 a)))
+  where
+    tests : T (every small (flatten (flatten (r .blocks)))) ↔ All Small (flatten (flatten (r .blocks)))
+    tests = every-all small (flatten (flatten (r .blocks)))
+
+    coefficients : All Small (flatten (flatten (r .blocks))) ↔ All (All Small) (flatten (r .blocks))
+    coefficients = all-flatten Small (flatten (r .blocks))
+
+    blocks : All (All Small) (flatten (r .blocks)) ↔ All (All (All Small)) (r .blocks)
+    blocks = all-flatten (All Small) (r .blocks)
 
 pub mirror-small : (D : ℕ) (r : Row) → T (smallRow r) → T (smallRow (mirrorRow D r))
-mirror-small D r h = small-row (mirrorRow D r) .1 (mirrored-blocks (All (All Small)) block D r (small-row r .0 h))
+mirror-small D r h =
+    small-row (mirrorRow D r) .1
+    (subst (All Fits) (sym (mirrorRow-blocks D r)) (map-keeps Fits Fits mirrorBlock block (turn D (r .blocks)) turned))
   where
-    block : (b : Block) → All (All Small) b → All (All Small) (mirrorBlock b)
+    Fits : Block → Type 0
+    Fits b = All (All Small) b
+
+    turned : All Fits (turn D (r .blocks))
+    turned = all-turn Fits D (r .blocks) (small-row r .0 h)
+
+    block : (b : Block) → Fits b → Fits (mirrorBlock b)
     block b a = map-keeps (All Small) (All Small) mirror small-mirror b a
 
-zeroBlock-mirror : (b : Block) → T (zeroBlock b) → T (zeroBlock (mirrorBlock b))
-unfolding zeroBlock
-zeroBlock-mirror b h = every-all isZero (mirrorBlock b) .1 (map-keeps Zero Zero mirror zero b (every-all isZero b .0 h))
-  where
-    Zero : Polynomial → Type 0
-    Zero p = T (isZero p)
+isZero-kept : (p : Polynomial) → T (isZero p) → T (isZero (mirror p))
+isZero-kept p z = subst T (sym (isZero-mirror p)) z
 
-    zero : (p : Polynomial) → Zero p → Zero (mirror p)
-    zero p z = subst T (sym (isZero-mirror p)) z
-
--- No more blocks are in use than before.
-mirror-zero-after : (D : ℕ) (r : Row) → Reaches D r → All (λ b. T (zeroBlock b)) (drop (suc D) (r .blocks))
-    → All (λ b. T (zeroBlock b)) (drop (suc D) (mirrorRow D r .blocks))
-mirror-zero-after D r h a = subst (All Zero) (sym after) (map-keeps Zero Zero mirrorBlock zeroBlock-mirror rest a)
-  where
-    rest : List Block
-    rest = drop (suc D) (r .blocks)
-
-    Zero : Block → Type 0
-    Zero b = T (zeroBlock b)
-
-    after : drop (suc D) (mirrorRow D r .blocks) ≡ map mirrorBlock rest
-    after =
-        ap (drop (suc D)) (mirrorRow-blocks D r) ∙ map-drop mirrorBlock (suc D) (turn D (r .blocks)) ∙ ap (map mirrorBlock) (drop-turn D (r .blocks) h)
-
-pub mirror-reaches : (D : ℕ) (r : Row) → Reaches D r → Reaches D (mirrorRow D r)
-mirror-reaches D r h = subst (λ n. suc D ≤ n) (sym (mirrorRow-length D r)) h
-
-pub mirror-spans : (D : ℕ) (r : Row) → Spans D r → Spans D (mirrorRow D r)
-mirror-spans D r s = record { reaches = mirror-reaches D r (s .reaches); zero-after = mirror-zero-after D r (s .reaches) (s .zero-after) }
+turned-unused : (m D : ℕ) (r : Row) → Reaches D r → T (unusedZero m D r) → T (unusedZero m D (record { blocks = turn D (r .blocks) }))
+turned-unused m D r h u = unusedZero-iff m D (record { blocks = turn D (r .blocks) }) .1 (
+  all-turn (λ b. T (zeroBlock (drop m b))) D (r .blocks) (unusedZero-iff m D r .0 u .0),
+  subst (All (λ b. T (zeroBlock b))) (sym (drop-turn D (r .blocks) h)) (unusedZero-iff m D r .0 u .1),
+)
 
 pub mirror-unused : (m D : ℕ) (r : Row) → Reaches D r → T (unusedZero m D r) → T (unusedZero m D (mirrorRow D r))
-mirror-unused m D r h u = used m D (mirrorRow D r) .1 (columns, mirror-zero-after D r h (used m D r .0 u .1))
-  where
-    column : (b : Block) → T (zeroBlock (drop m b)) → T (zeroBlock (drop m (mirrorBlock b)))
-    column b z = subst (λ x. T (zeroBlock x)) (sym (map-drop mirror m b)) (zeroBlock-mirror (drop m b) z)
-
-    columns : All (λ b. T (zeroBlock (drop m b))) (mirrorRow D r .blocks)
-    columns = mirrored-blocks (λ b. T (zeroBlock (drop m b))) column D r (used m D r .0 u .0)
+unfolding mirrorRow turn
+mirror-unused m D r h u = mapRow-unused mirror isZero-kept m D (record { blocks = turn D (r .blocks) }) (turned-unused m D r h u)
 
 -- Rows of D + 1 blocks that pass the check still pass it, for the mirrored sizes.
 pub mirror-rowRight : (z : Sizes) (r : Row) → Reaches (span z) r → T (rowRight z r) → T (rowRight (mirrorSizes z) (mirrorRow (span z) r))
 unfolding rowRight
 mirror-rowRight z r h t =
     let both = T-&& (smallRow r) (unusedZero (z .m) (span z) r) .0 t in
-    T-&& (smallRow (mirrorRow (span z) r)) (unusedZero (z .m) (span (mirrorSizes z)) (mirrorRow (span z) r)) .1 (mirror-small (span z) r (both .0), unused (both .1))
+    T-&& (smallRow (mirrorRow (span z) r)) (unusedZero (z .m) (span (mirrorSizes z)) (mirrorRow (span z) r)) .1
+    (mirror-small (span z) r (both .0), unused (both .1))
   where
     unused : T (unusedZero (z .m) (span z) r) → T (unusedZero (z .m) (span (mirrorSizes z)) (mirrorRow (span z) r))
     unused u = subst (λ D. T (unusedZero (z .m) D (mirrorRow (span z) r))) (sym (mirror-span z)) (mirror-unused (z .m) (span z) r h u)
 
-pub mirror-relationRight : (z : Sizes) (e : Relation) → Reaches (span z) (e .row) → T (relationRight z e) → T (relationRight (mirrorSizes z) (mirrorRelation (span z) e))
+pub mirror-relationRight : (z : Sizes) (e : Relation) → Reaches (span z) (e .row) → T (relationRight z e)
+    → T (relationRight (mirrorSizes z) (mirrorRelation (span z) e))
 unfolding relationRight mirrorRelation
 mirror-relationRight z e h t =
     let both = T-&& (small (e .index)) (rowRight z (e .row)) .0 t in
-    T-&& (small (negℤ (e .index))) (rowRight (mirrorSizes z) (mirrorRow (span z) (e .row))) .1 (small-negℤ (e .index) (both .0), mirror-rowRight z (e .row) h (both .1))
+    T-&& (small (negℤ (e .index))) (rowRight (mirrorSizes z) (mirrorRow (span z) (e .row))) .1
+    (small-negℤ (e .index) (both .0), mirror-rowRight z (e .row) h (both .1))
 
 -- A row as a store holds it has enough blocks.
 pub storeRow-reaches : (z : Sizes) → T (sizesRight z) → (r : Row) → StoreRow r → Reaches (span z) r
@@ -538,8 +603,100 @@ module _ (z : Sizes) (rows : List Row) (relations : List Relation) (valid : Vali
             (map-keeps RowFacts (λ r. T (rowRight (mirrorSizes z) r)) (mirrorRow (span z)) row-right rows rows-facts);
         relation-count = subst (λ n. T (countRight n)) (sym (length-map relations (mirrorRelation (span z)))) (valid .relation-count);
         relation-shapes =
-            map-keeps (λ e. StoreRow (e .row)) (λ e. StoreRow (e .row)) (mirrorRelation (span z)) relation-shape relations (valid .relation-shapes);
+            map-keeps (λ e. StoreRow (e .row)) (λ e. StoreRow (e .row)) (mirrorRelation (span z)) relation-shape relations
+            (valid .relation-shapes);
         relations-right =
             every-all (relationRight (mirrorSizes z)) (map (mirrorRelation (span z)) relations) .1
-            (map-keeps RelationFacts (λ e. T (relationRight (mirrorSizes z) e)) (mirrorRelation (span z)) relation-right relations relations-facts);
+            (map-keeps RelationFacts (λ e. T (relationRight (mirrorSizes z) e)) (mirrorRelation (span z)) relation-right
+            relations relations-facts);
       }
+
+-- ---- dependence
+
+reflected-shift : (N j a : ℕ) → N + N ≡ j + a → negℤ (pos a -ℤ pos N) ≡ pos j -ℤ pos N
+reflected-shift N j a e =
+    mirror-minus (pos a) (pos N) ∙ sym (cancel-common (pos N) (pos a) (pos N)) ∙ ap₂ _-ℤ_ (ap pos e) (+ℤ-comm (pos a) (pos N))
+    ∙ cancel-common (pos j) (pos N) (pos a)
+
+-- The shifts from -N to N, the other way round.
+sumWithin-reflect : (N : ℕ) (f : ℤ → ℤ) → sumWithin N (λ k. f (negℤ k)) ≡ sumWithin N f
+sumWithin-reflect N f =
+    sumWithin-below N (λ k. f (negℤ k)) ∙ sumBelow-reverse (suc (N + N)) (λ j. f (negℤ (pos j -ℤ pos N)))
+    ∙ sumBelow-congr (suc (N + N)) (λ j. f (negℤ (pos (suc (N + N) - suc j) -ℤ pos N))) (λ j. f (pos j -ℤ pos N)) (λ j h. ap f (place j h))
+    ∙ sym (sumWithin-below N f)
+  where
+    place : (j : ℕ) → j < suc (N + N) → negℤ (pos (suc (N + N) - suc j) -ℤ pos N) ≡ pos j -ℤ pos N
+    place j h = reflected-shift N j (suc (N + N) - suc j) (omega arith)
+
+module _ (m : ℕ) (E E' : Values) (mirrored : (z : Sequence) (i : ℕ) (n : ℤ) → i < m → E' z i n ≡ E (reflect z) i (negℤ n)) where
+  -- The multipliers of the mirror: -n for n, and shift -k for k.
+  mirrorMultipliers : (ℕ → ℤ → Polynomial) → ℕ → ℤ → Polynomial
+  mirrorMultipliers S i k = mirror (S i (negℤ k))
+
+  copies-mirror : (N : ℕ) (S : ℕ → ℤ → Polynomial) (z : Sequence) (x : ℤ) (i : ℕ) → i < m
+      → copies E' N (mirrorMultipliers S) z x i ≡ copies E N S (reflect z) (negℤ x) i
+  unfolding copies mirrorMultipliers
+  copies-mirror N S z x i h =
+      sumWithin-congr N (λ k. eval (mirror (S i (negℤ k))) x *ℤ E' z i (x +ℤ k)) (λ k. f (negℤ k)) (λ k p. one k) ∙ sumWithin-reflect N f
+    where
+      f : ℤ → ℤ
+      f k = eval (S i k) (negℤ x) *ℤ E (reflect z) i (negℤ x +ℤ k)
+
+      one : (k : ℤ) → eval (mirror (S i (negℤ k))) x *ℤ E' z i (x +ℤ k) ≡ f (negℤ k)
+      one k = ap₂ _*ℤ_ (eval-mirror (S i (negℤ k)) x) (mirrored z i (x +ℤ k) h ∙ ap (E (reflect z) i) (negℤ-+ℤ x k))
+
+  values-mirror : DependentValues m E → DependentValues m E'
+  unfolding mirrorMultipliers combinationValue
+  values-mirror d =
+      record {
+        reach = d .reach;
+        multiplier = mirrorMultipliers (d .multiplier);
+        number = d .number;
+        shift = negℤ (d .shift);
+        number-below = d .number-below;
+        shift-within = subst (λ n. n ≤ d .reach) (sym (natAbs-negℤ (d .shift))) (d .shift-within);
+        nonzero = subst (λ b. T (not b)) (sym same) (d .nonzero);
+        vanishes = vanish;
+      }
+    where
+      same : isZero (mirror (d .multiplier (d .number) (negℤ (negℤ (d .shift))))) ≡ isZero (d .multiplier (d .number) (d .shift))
+      same =
+          isZero-mirror (d .multiplier (d .number) (negℤ (negℤ (d .shift))))
+          ∙ ap (λ k. isZero (d .multiplier (d .number) k)) (negℤ-negℤ (d .shift))
+
+      vanish : (z : Sequence) (x : ℤ) → combinationValue m E' (d .reach) (mirrorMultipliers (d .multiplier)) z x ≡ pos 0
+      vanish z x =
+          sumBelow-congr m (copies E' (d .reach) (mirrorMultipliers (d .multiplier)) z x)
+          (copies E (d .reach) (d .multiplier) (reflect z) (negℤ x)) (copies-mirror (d .reach) (d .multiplier) z x)
+          ∙ d .vanishes (reflect z) (negℤ x)
+
+-- Equations whose values are those of others, mirrored, are dependent exactly if those are.
+values-mirror-iff : (m : ℕ) (E E' : Values) → ((z : Sequence) (i : ℕ) (n : ℤ) → i < m → E' z i n ≡ E (reflect z) i (negℤ n))
+    → DependentValues m E ↔ DependentValues m E'
+values-mirror-iff m E E' h = (values-mirror m E E' h, values-mirror m E' E back)
+  where
+    back : (z : Sequence) (i : ℕ) (n : ℤ) → i < m → E z i n ≡ E' (reflect z) i (negℤ n)
+    back z i n p = sym (h (reflect z) i (negℤ n) p ∙ ap₂ (λ x k. E x i k) (reflect-twice z) (negℤ-negℤ n))
+
+mirrored-row : (D : ℕ) (rows : List Row) (i : ℕ) → getD (map (mirrorRow D) rows) i noRow ≡ mirrorRow D (getD rows i noRow)
+unfolding mirrorRow mapRow
+mirrored-row D rows i = List·getD-map (mirrorRow D) rows i noRow
+
+-- "dependent" is the same for a system and its mirror.
+pub mirror-dependent : (D : ℕ) (l t : ℤ) → l ≡ t +ℤ pos D → (rows : List Row) → All (Spans D) rows
+    → Dependent l rows ↔ Dependent (negℤ t) (map (mirrorRow D) rows)
+mirror-dependent D l t e rows a =
+    Iff·trans (dependent-values l rows) (Iff·trans (values-mirror-iff (length rows) (rowValues l rows) mirrored values) back)
+  where
+    mirrored : Values
+    mirrored = rowValues (negℤ t) (map (mirrorRow D) rows)
+
+    values : (z : Sequence) (i : ℕ) (n : ℤ) → i < length rows → mirrored z i n ≡ rowValues l rows (reflect z) i (negℤ n)
+    values z i n h =
+        ap₂ (λ r x. valueOf (negℤ t) r x n) (mirrored-row D rows i) (sym (reflect-twice z))
+        ∙ mirror-value D l t e (getD rows i noRow) (all-getD (Spans D) rows noRow i h a) (reflect z) n
+
+    back : DependentValues (length rows) mirrored ↔ Dependent (negℤ t) (map (mirrorRow D) rows)
+    back =
+        subst (λ m. DependentValues m mirrored ↔ Dependent (negℤ t) (map (mirrorRow D) rows)) (length-map rows (mirrorRow D))
+        (Iff·symm (dependent-values (negℤ t) (map (mirrorRow D) rows)))
