@@ -22,7 +22,7 @@ use native.Mathlib.Decide.{decLe}
 use native.Mathlib.Omega.{arith}
 use lib.Dec.{T, T-not, eqb, eqb→eq, eqb·suc-zero}
 use lib.Ieee.Fits.{and-i, and-l, and-r}
-use lib.IntN.{pos, natAbs}
+use lib.IntN.{natAbs}
 use lib.ListN.{length, getD, take, drop, take-append-drop, length-append, length-reverse, List·getD-map, List·getD-eq-default}
 use lib.Seq.{getD-drop, getD-append-add, length-take-le}
 use Rattle.algebra.specs.Integers.{natAbs-zero}
@@ -34,6 +34,7 @@ use Rattle.rules.specs.Stores.{unusedZero}
 use Rattle.theory.specs.Lists.{all-getD-default, all-of-every}
 use Rattle.theory.specs.Steps.{zeroBlock-all, zeroBlock-at}
 use Rattle.theory.specs.Shapes.{primitive-divides}
+use Rattle.theory.specs.Values.{blank-zero}
 
 abbrev cellOf : List Block → ℕ → ℕ → Polynomial
 cellOf bs i c = getD (getD bs i []) c []
@@ -88,7 +89,8 @@ combine-zero g h r q i c p e = go (cell-combine g h r q i c)
   where
     go : (cell (combine g h r q) i c ≡ add (mul g (cell r i c)) (mul h (cell q i c))) ⊎ (cell (combine g h r q) i c ≡ [])
         → T (isZero (cell (combine g h r q) i c))
-    go (inl f) = rw f (isZero-add (mul g (cell r i c)) (mul h (cell q i c)) (isZero-mul-right g (cell r i c) p) (isZero-mul-right h (cell q i c) e))
+    go (inl f) = rw f (isZero-add (mul g (cell r i c)) (mul h (cell q i c))
+        (isZero-mul-right g (cell r i c) p) (isZero-mul-right h (cell q i c) e))
     go (inr f) = rw f tt
 
 -- What makes zero polynomials of zero polynomials keeps the zero cells.
@@ -129,14 +131,6 @@ append-zero [] z h zero c = passed (isZero (getD z c [])) (zeroBlock-at z h c)
 append-zero [] z h (suc i) c = refl
 append-zero (b ∷ bs) z h zero c = refl
 append-zero (b ∷ bs) z h (suc i) c = append-zero bs z h i c
-
-blank-zero : (b : Block) → T (zeroBlock (blank b))
-unfolding blank isZero
-blank-zero b = zeroBlock-all (blank b) (λ k. rw (List·getD-map (map (λ _. pos 0)) b k []) (zeros (getD b k [])))
-  where
-    zeros : (p : Polynomial) → T (isZero (map (λ _. pos 0) p))
-    zeros [] = tt
-    zeros (a ∷ p) = zeros p
 
 -- The blocks move up by one.
 pub cell-shiftUp : (r : Row) (i c : ℕ) → isZero (cell (shiftUp r) i c) ≡ isZero (cell r (suc i) c)
@@ -265,8 +259,11 @@ width-unused m D r h = width-le r (suc D) .1 (λ i c k. zeroBlock-at (getD (r .b
     rest = and-r (every (λ b. zeroBlock (drop m b)) (r .blocks)) (every zeroBlock (drop (suc D) (r .blocks))) h
 
     below : (i : ℕ) → suc D ≤ i → T (zeroBlock (getD (r .blocks) i []))
-    below i k = subst (λ n. T (zeroBlock (getD (r .blocks) n []))) (add-sub-of-le k) (subst (λ b. T (zeroBlock b)) (getD-drop (suc D) (r .blocks) (i - suc D) [])
-        (all-getD-default (λ b. T (zeroBlock b)) (drop (suc D) (r .blocks)) [] (i - suc D) tt (all-of-every zeroBlock (drop (suc D) (r .blocks)) rest)))
+    below i k =
+        subst (λ n. T (zeroBlock (getD (r .blocks) n []))) (add-sub-of-le k)
+        (subst (λ b. T (zeroBlock b)) (getD-drop (suc D) (r .blocks) (i - suc D) [])
+        (all-getD-default (λ b. T (zeroBlock b)) (drop (suc D) (r .blocks)) [] (i - suc D) tt
+        (all-of-every zeroBlock (drop (suc D) (r .blocks)) rest)))
 
 -- Turned round in its first n members, a list is as before from place n on.
 turned-rest : (n : ℕ) (bs : List Block) (i : ℕ) → n ≤ i → getD (reverse (take n bs) ++ drop n bs) i [] ≡ getD bs i []
@@ -282,7 +279,8 @@ turned-rest n bs i h = cases (decLe n (length bs))
 
     cases : Dec (n ≤ length bs) → getD (front ++ drop n bs) i [] ≡ getD bs i []
     cases (yes k) =
-        ap (λ p. getD (front ++ drop n bs) p []) (sym (ap (λ a. a + (i - n)) (length-reverse (take n bs) ∙ length-take-le n bs k) ∙ add-sub-of-le h))
+        ap (λ p. getD (front ++ drop n bs) p [])
+        (sym (ap (λ a. a + (i - n)) (length-reverse (take n bs) ∙ length-take-le n bs k) ∙ add-sub-of-le h))
         ∙ getD-append-add front (drop n bs) (i - n) [] ∙ getD-drop n bs (i - n) [] ∙ ap (λ p. getD bs p []) (add-sub-of-le h)
     cases (no k) = List·getD-eq-default (front ++ drop n bs) [] (omega (arith, size)) ∙ sym (List·getD-eq-default bs [] (omega arith))
 

@@ -13,21 +13,24 @@
 --   shifted-forward, shifted-back        it survives a shift of one equation, and goes back
 --   zero-dependent                       a zero equation is dependent by itself
 use mathlib.Core.Path.{_≡_, refl, sym, _∙_, ap, ap₂, subst}
-use mathlib.Core.Logic.{_≢_, _↔_, _⊎_, ⊎-elim, ite, if-pos, if-neg, by-cases}
+use mathlib.Core.Logic.{_≢_, _⊎_, ⊎-elim, ite, if-pos, if-neg, by-cases}
 use mathlib.Core.Bool.{Bool, true, false, not}
 use mathlib.Core.List.{List, [], _∷_, List·Memᴰ, List·Memᴰ·not-nil, List·Memᴰ·cases-cons, Memᴰ·cast, Memᴰ·map}
-use Prim.Native.Nat.{ℕ, zero, suc, _+_, _-_, _≤_, _<_}
+use Prim.Native.Nat.{ℕ, suc, _+_, _-_, _≤_, _<_}
 use native.Mathlib.Nat.{le-refl}
 use native.Mathlib.Decide.{ℕ-discrete, decLe, decLt}
 use native.Mathlib.Numerals.{add-one}
 use native.Mathlib.Omega.{arith}
 use lib.Dec.{T, T-not, not-T}
-use lib.IntN.{ℤ, pos, negsuc, negℤ, natAbs, _+ℤ_, _-ℤ_, _*ℤ_, +ℤ-idl, +ℤ-idr, +ℤ-assoc, +ℤ-comm, *ℤ-zero, zero-*ℤ, *ℤ-comm, -ℤ-+ℤ-cancel, +ℤ-negℤ-cancel, +ℤ-invr, negℤ-+ℤ, ℤ-discrete}
-use lib.Signed.{_≤ℤ_}
+use lib.IntN.{ℤ, pos, negsuc, negℤ, natAbs, _+ℤ_, _-ℤ_, _*ℤ_, ℤ-discrete, +ℤ-idl, +ℤ-idr, +ℤ-assoc, +ℤ-comm, +ℤ-invr}
+use lib.IntN.{*ℤ-zero, zero-*ℤ, *ℤ-comm, -ℤ-+ℤ-cancel, +ℤ-negℤ-cancel, negℤ-+ℤ}
 use Rattle.algebra.specs.Integers.{ringℤ, natAbs-negℤ, natAbs-+ℤ, *ℤ-assoc}
 use Rattle.algebra.specs.Order.{≤ℤ-witness, ≤ℤ-intro, natAbs-≤-iff}
-use Rattle.algebra.specs.Sums.{range, range-member, sum, sum-map, sum-+ℤ, sum-*ℤ, sum-zero, sum-congr, sum-exchange, sumBelow, sumBelow-congr, sumBelow-+ℤ, sumBelow-*ℤ, sumBelow-exchange, sumBelow-front, sumBelow-last, sumBelow-single, sumBelow-zeros}
-use Rattle.algebra.specs.Polynomials.{Polynomial, coeff, eval, isZero, add, mul, negate, eval-negate, shiftBy, eval-add, eval-mul, eval-shiftBy, isZero-coeff, coeff-isZero, isZero-cons, isZero-mul-left, isZero-shiftBy}
+use Rattle.algebra.specs.Sums.{range, range-member, sum, sum-map, sum-+ℤ, sum-*ℤ, sum-zero, sum-congr, sum-exchange}
+use Rattle.algebra.specs.Sums.{sumBelow, sumBelow-congr, sumBelow-+ℤ, sumBelow-*ℤ, sumBelow-exchange, sumBelow-front, sumBelow-last}
+use Rattle.algebra.specs.Sums.{sumBelow-single, sumBelow-zeros}
+use Rattle.algebra.specs.Polynomials.{Polynomial, coeff, eval, isZero, add, mul, negate, shiftBy, eval-add, eval-mul, eval-negate}
+use Rattle.algebra.specs.Polynomials.{eval-shiftBy, isZero-coeff, coeff-isZero, isZero-cons, isZero-mul-left, isZero-shiftBy}
 use Rattle.algebra.specs.Coefficients.{coeff-add, mul-nonzero}
 use Rattle.rules.specs.Sequences.{Sequence, shiftsWithin}
 
@@ -64,7 +67,8 @@ sumBelow-apart m i f h =
 sumBelow-apart-two : (m i j : ℕ) (f : ℕ → ℤ) → i < m → j < m → i ≢ j
     → sumBelow m f ≡ f i +ℤ f j +ℤ sumBelow m (put j (pos 0) (put i (pos 0) f))
 sumBelow-apart-two m i j f p q n =
-    sumBelow-apart m i f p ∙ ap (λ s. f i +ℤ s) (sumBelow-apart m j (put i (pos 0) f) q ∙ ap (λ a. a +ℤ rest) (put-other i (pos 0) f j (λ e. n (sym e))))
+    sumBelow-apart m i f p
+    ∙ ap (λ s. f i +ℤ s) (sumBelow-apart m j (put i (pos 0) f) q ∙ ap (λ a. a +ℤ rest) (put-other i (pos 0) f j (λ e. n (sym e))))
     ∙ sym (+ℤ-assoc (f i) (f j) rest)
   where
     rest : ℤ
@@ -74,7 +78,8 @@ sumBelow-apart-two m i j f p q n =
 sumBelow-pair : (m i j : ℕ) (f g : ℕ → ℤ) → i < m → j < m → i ≢ j → f i +ℤ f j ≡ g i +ℤ g j
     → ((k : ℕ) → k ≢ i → k ≢ j → f k ≡ g k) → sumBelow m f ≡ sumBelow m g
 sumBelow-pair m i j f g p q n two others =
-    sumBelow-apart-two m i j f p q n ∙ ap₂ (λ a s. a +ℤ s) two (sumBelow-congr m (rest f) (rest g) (λ k _. same k)) ∙ sym (sumBelow-apart-two m i j g p q n)
+    sumBelow-apart-two m i j f p q n ∙ ap₂ (λ a s. a +ℤ s) two (sumBelow-congr m (rest f) (rest g) (λ k _. same k))
+    ∙ sym (sumBelow-apart-two m i j g p q n)
   where
     rest : (ℕ → ℤ) → ℕ → ℤ
     rest u = put j (pos 0) (put i (pos 0) u)
@@ -145,9 +150,9 @@ place-of N k h =
         sizes : pos (j + t) ≡ pos (N + N)
         sizes = regroup (pos N) (pos j) (pos t) ∙ ap (λ a. a +ℤ pos t +ℤ pos N) e ∙ ap (λ a. a +ℤ pos N) f
 
-pub sumWithin-congr : (N : ℕ) (f g : ℤ → ℤ) → ((k : ℤ) → natAbs k ≤ N → f k ≡ g k) → sumWithin N f ≡ sumWithin N g
-sumWithin-congr N f g h =
-    sumWithin-below N f ∙ sumBelow-congr (suc (N + N)) (λ j. f (pos j -ℤ pos N)) (λ j. g (pos j -ℤ pos N)) (λ j p. h (pos j -ℤ pos N) (place-within N j p)) ∙ sym (sumWithin-below N g)
+sumWithin-congr : (N : ℕ) {f g : ℤ → ℤ} → ((k : ℤ) → natAbs k ≤ N → f k ≡ g k) → sumWithin N f ≡ sumWithin N g
+sumWithin-congr N {f} {g} h =
+    sumWithin-below N f ∙ sumBelow-congr (suc (N + N)) _ _ (λ j p. h (pos j -ℤ pos N) (place-within N j p)) ∙ sym (sumWithin-below N g)
 
 sumWithin-+ℤ : (N : ℕ) (f g : ℤ → ℤ) → sumWithin N (λ k. f k +ℤ g k) ≡ sumWithin N f +ℤ sumWithin N g
 unfolding sumWithin
@@ -159,7 +164,7 @@ sumWithin-*ℤ N c f = sum-*ℤ c f (shiftsWithin N)
 
 pub sumWithin-zeros : (N : ℕ) (f : ℤ → ℤ) → ((k : ℤ) → natAbs k ≤ N → f k ≡ pos 0) → sumWithin N f ≡ pos 0
 unfolding sumWithin
-sumWithin-zeros N f h = sumWithin-congr N f (λ _. pos 0) h ∙ sum-zero (shiftsWithin N)
+sumWithin-zeros N f h = sumWithin-congr N h ∙ sum-zero (shiftsWithin N)
 
 -- Terms past the reach that are zero may be added.
 sumWithin-grow : (N : ℕ) (f : ℤ → ℤ) → ((k : ℤ) → N < natAbs k → f k ≡ pos 0) → sumWithin (suc N) f ≡ sumWithin N f
@@ -190,7 +195,7 @@ sumWithin-move : (N : ℕ) (f : ℤ → ℤ) → f (negℤ (pos N)) ≡ pos 0 �
 sumWithin-move N f first last =
     sumWithin-below N (λ k. f (k +ℤ pos 1)) ∙ sumBelow-last (N + N) moved ∙ ap₂ (λ s a. s +ℤ a) common (ap f top ∙ last)
     ∙ +ℤ-comm (sumBelow (N + N) rest) (pos 0)
-    ∙ sym (sumWithin-below N f ∙ sumBelow-front (N + N) (λ j. f (pos j -ℤ pos N)) ∙ ap (λ a. a +ℤ sumBelow (N + N) rest) (ap f (+ℤ-idl (negℤ (pos N))) ∙ first))
+    ∙ sym (sumWithin-below N f ∙ sumBelow-front (N + N) (λ j. f (pos j -ℤ pos N)) ∙ ap (λ a. a +ℤ sumBelow (N + N) rest) bottom)
   where
     moved : ℕ → ℤ
     moved j = f (pos j -ℤ pos N +ℤ pos 1)
@@ -201,6 +206,9 @@ sumWithin-move N f first last =
     common : sumBelow (N + N) moved ≡ sumBelow (N + N) rest
     common = sumBelow-congr (N + N) moved rest (λ j _. ap f (sym (later j N)))
 
+    bottom : f (pos 0 -ℤ pos N) ≡ pos 0
+    bottom = ap f (+ℤ-idl (negℤ (pos N))) ∙ first
+
     top : pos (N + N) -ℤ pos N +ℤ pos 1 ≡ pos (suc N)
     top = ap (λ a. a +ℤ pos 1) (+ℤ-negℤ-cancel (pos N) (pos N)) ∙ sym (pos-suc N)
 
@@ -210,17 +218,21 @@ sumWithin-move N f first last =
 abbrev pub Values : Type 0
 Values = Sequence → ℕ → ℤ → ℤ
 
+-- A polynomial for each equation and shift.
+abbrev pub Multiplier : Type 0
+Multiplier = ℕ → ℤ → Polynomial
+
 -- What the copies of equation i add to the combination with multipliers S, at x: the sum over k of S i k (x) × E i (x + k).
-unfoldable pub copies : Values → ℕ → (ℕ → ℤ → Polynomial) → Sequence → ℤ → ℕ → ℤ
+unfoldable pub copies : Values → ℕ → Multiplier → Sequence → ℤ → ℕ → ℤ
 copies E N S z x i = sumWithin N (λ k. eval (S i k) x *ℤ E z i (x +ℤ k))
 
 -- The combination of the first m equations at x.
-unfoldable pub combinationValue : ℕ → Values → ℕ → (ℕ → ℤ → Polynomial) → Sequence → ℤ → ℤ
+unfoldable pub combinationValue : ℕ → Values → ℕ → Multiplier → Sequence → ℤ → ℤ
 combinationValue m E N S z x = sumBelow m (copies E N S z x)
 
 pub record DependentValues (m : ℕ) (E : Values) : Type 0 where
   pub reach : ℕ
-  pub multiplier : ℕ → ℤ → Polynomial
+  pub multiplier : Multiplier
   pub number : ℕ
   pub shift : ℤ
   pub number-below : number < m
@@ -229,39 +241,36 @@ pub record DependentValues (m : ℕ) (E : Values) : Type 0 where
   pub vanishes : (z : Sequence) (x : ℤ) → combinationValue m E reach multiplier z x ≡ pos 0
 
 -- Combinations of equations that are the same at the indices within reach are the same.
-pub combination-congr : (m : ℕ) (E E' : Values) (N : ℕ) (S : ℕ → ℤ → Polynomial) (z : Sequence) (x : ℤ)
+pub combination-congr : (m : ℕ) (E E' : Values) (N : ℕ) (S : Multiplier) (z : Sequence) (x : ℤ)
     → ((i : ℕ) (k : ℤ) → natAbs k ≤ N → E z i (x +ℤ k) ≡ E' z i (x +ℤ k)) → combinationValue m E N S z x ≡ combinationValue m E' N S z x
 unfolding combinationValue copies
 combination-congr m E E' N S z x h =
-    sumBelow-congr m (copies E N S z x) (copies E' N S z x) (λ i _. sumWithin-congr N (λ k. eval (S i k) x *ℤ E z i (x +ℤ k))
-    (λ k. eval (S i k) x *ℤ E' z i (x +ℤ k)) (λ k p. ap (λ e. eval (S i k) x *ℤ e) (h i k p)))
+    sumBelow-congr m _ _ (λ i _. sumWithin-congr N (λ k p. ap (λ e. eval (S i k) x *ℤ e) (h i k p)))
 
 -- A combination is linear in the equations.
-module _ (m N : ℕ) (S : ℕ → ℤ → Polynomial) (z : Sequence) (x : ℤ) where
+module _ (m N : ℕ) (S : Multiplier) (z : Sequence) (x : ℤ) where
   pub combination-sum : (n : ℕ) (f : ℕ → ℕ → ℤ → ℤ)
       → combinationValue m (λ _ i y. sumBelow n (λ q. f q i y)) N S z x ≡ sumBelow n (λ q. combinationValue m (λ _. f q) N S z x)
   unfolding combinationValue copies sumWithin sumBelow
   combination-sum n f =
-      sumBelow-congr m (copies (λ _ i y. sumBelow n (λ q. f q i y)) N S z x) (λ i. sumBelow n (λ q. copies (λ _. f q) N S z x i)) (λ i _. inside i)
-      ∙ sumBelow-exchange m n (λ i q. copies (λ _. f q) N S z x i)
+      sumBelow-congr m _ _ (λ i _. inside i) ∙ sumBelow-exchange m n (λ i q. copies (λ _. f q) N S z x i)
     where
       inside : (i : ℕ) → copies (λ _ i y. sumBelow n (λ q. f q i y)) N S z x i ≡ sumBelow n (λ q. copies (λ _. f q) N S z x i)
       inside i =
-          sum-congr (λ k. eval (S i k) x *ℤ sumBelow n (λ q. f q i (x +ℤ k))) (λ k. sumBelow n (λ q. eval (S i k) x *ℤ f q i (x +ℤ k)))
-          (λ k. sym (sumBelow-*ℤ n (eval (S i k) x) (λ q. f q i (x +ℤ k)))) (shiftsWithin N)
+          sum-congr _ _ (λ k. sym (sumBelow-*ℤ n (eval (S i k) x) (λ q. f q i (x +ℤ k)))) (shiftsWithin N)
           ∙ sum-exchange (λ k q. eval (S i k) x *ℤ f q i (x +ℤ k)) (shiftsWithin N) (range 0 n)
 
-  pub combination-scale : (c : ℤ) (f : ℕ → ℤ → ℤ) → combinationValue m (λ _ i y. c *ℤ f i y) N S z x ≡ c *ℤ combinationValue m (λ _. f) N S z x
+  pub combination-scale : (c : ℤ) (f : ℕ → ℤ → ℤ)
+      → combinationValue m (λ _ i y. c *ℤ f i y) N S z x ≡ c *ℤ combinationValue m (λ _. f) N S z x
   unfolding combinationValue copies
-  combination-scale c f = sumBelow-congr m (copies (λ _ i y. c *ℤ f i y) N S z x) (λ i. c *ℤ copies (λ _. f) N S z x i) (λ i _. inside i) ∙ sumBelow-*ℤ m c (copies (λ _. f) N S z x)
+  combination-scale c f = sumBelow-congr m _ _ (λ i _. inside i) ∙ sumBelow-*ℤ m c (copies (λ _. f) N S z x)
     where
       swap : (a b : ℤ) → a *ℤ (c *ℤ b) ≡ c *ℤ (a *ℤ b)
       swap a b = simp ringℤ
 
       inside : (i : ℕ) → copies (λ _ i y. c *ℤ f i y) N S z x i ≡ c *ℤ copies (λ _. f) N S z x i
       inside i =
-          sumWithin-congr N (λ k. eval (S i k) x *ℤ (c *ℤ f i (x +ℤ k))) (λ k. c *ℤ (eval (S i k) x *ℤ f i (x +ℤ k))) (λ k _. swap (eval (S i k) x) (f i (x +ℤ k)))
-          ∙ sumWithin-*ℤ N c (λ k. eval (S i k) x *ℤ f i (x +ℤ k))
+          sumWithin-congr N (λ k _. swap (eval (S i k) x) (f i (x +ℤ k))) ∙ sumWithin-*ℤ N c (λ k. eval (S i k) x *ℤ f i (x +ℤ k))
 
 -- ---- one equation replaced
 
@@ -278,31 +287,27 @@ dec-T true = yes tt
 dec-T false = no (λ t. t)
 
 -- The multipliers after equation i has been replaced, for the first i and j and all the others.
-newMultiplier : ℕ → ℕ → (ℕ → ℤ → Polynomial) → (ℤ → Polynomial) → (ℤ → Polynomial) → Polynomial → ℕ → ℤ → Polynomial
+newMultiplier : ℕ → ℕ → Multiplier → (ℤ → Polynomial) → (ℤ → Polynomial) → Polynomial → Multiplier
 newMultiplier i j S A C B n k =
     put i (mul (S i k) (A k)) (put j (add (mul (S j k) B) (mul (S i k) (C k))) (λ a. mul (S a k) B)) n
 
 -- Equation i is replaced by one that makes it up together with equation j, after multiplication by B: A times the new
 -- equation i and C times equation j.
-module _ (i j : ℕ) (apart : i ≢ j) (S : ℕ → ℤ → Polynomial) (A C : ℤ → Polynomial) (B : Polynomial) where
-  new : ℕ → ℤ → Polynomial
+module _ (i j : ℕ) (apart : i ≢ j) (S : Multiplier) (A C : ℤ → Polynomial) (B : Polynomial) where
+  new : Multiplier
   new = newMultiplier i j S A C B
 
   new-i : (k : ℤ) → new i k ≡ mul (S i k) (A k)
   unfolding new newMultiplier
-  new-i k = put-same i (mul (S i k) (A k)) (put j (add (mul (S j k) B) (mul (S i k) (C k))) (λ a. mul (S a k) B))
+  new-i k = put-same i _ _
 
   new-j : (k : ℤ) → new j k ≡ add (mul (S j k) B) (mul (S i k) (C k))
   unfolding new newMultiplier
-  new-j k =
-      put-other i (mul (S i k) (A k)) (put j (add (mul (S j k) B) (mul (S i k) (C k))) (λ a. mul (S a k) B)) j (λ e. apart (sym e))
-      ∙ put-same j (add (mul (S j k) B) (mul (S i k) (C k))) (λ a. mul (S a k) B)
+  new-j k = put-other i _ _ j (λ e. apart (sym e)) ∙ put-same j _ _
 
   new-other : (n : ℕ) → n ≢ i → n ≢ j → (k : ℤ) → new n k ≡ mul (S n k) B
   unfolding new newMultiplier
-  new-other n p q k =
-      put-other i (mul (S i k) (A k)) (put j (add (mul (S j k) B) (mul (S i k) (C k))) (λ a. mul (S a k) B)) n p
-      ∙ put-other j (add (mul (S j k) B) (mul (S i k) (C k))) (λ a. mul (S a k) B) n q
+  new-other n p q k = put-other i _ _ n p ∙ put-other j _ _ n q
 
   -- A nonzero multiplier leaves a nonzero one at the same shift.
   new-nonzero : (m : ℕ) (k : ℤ) → T (not (isZero B)) → T (not (isZero (A k))) → i < m → (n : ℕ) → n < m → T (not (isZero (S n k)))
@@ -331,8 +336,7 @@ module _ (i j : ℕ) (apart : i ≢ j) (S : ℕ → ℤ → Polynomial) (A C : �
     others : (z : Sequence) (x : ℤ) (n : ℕ) → n ≢ i → n ≢ j → copies E' N new z x n ≡ eval B x *ℤ copies E N S z x n
     unfolding copies
     others z x n p q =
-        sumWithin-congr N (λ k. eval (new n k) x *ℤ E' z n (x +ℤ k)) (λ k. eval B x *ℤ (eval (S n k) x *ℤ E z n (x +ℤ k))) (λ k _. at k)
-        ∙ sumWithin-*ℤ N (eval B x) (λ k. eval (S n k) x *ℤ E z n (x +ℤ k))
+        sumWithin-congr N (λ k _. at k) ∙ sumWithin-*ℤ N (eval B x) (λ k. eval (S n k) x *ℤ E z n (x +ℤ k))
       where
         factors : (a b c : ℤ) → a *ℤ b *ℤ c ≡ b *ℤ (a *ℤ c)
         factors a b c = simp ringℤ
@@ -344,8 +348,7 @@ module _ (i j : ℕ) (apart : i ≢ j) (S : ℕ → ℤ → Polynomial) (A C : �
         → copies E' N new z x i +ℤ copies E' N new z x j ≡ eval B x *ℤ copies E N S z x i +ℤ eval B x *ℤ copies E N S z x j
     unfolding copies
     two z x =
-        sym (sumWithin-+ℤ N (after i) (after j))
-        ∙ sumWithin-congr N (λ k. after i k +ℤ after j k) (λ k. eval B x *ℤ before i k +ℤ eval B x *ℤ before j k) at
+        sym (sumWithin-+ℤ N (after i) (after j)) ∙ sumWithin-congr N at
         ∙ sumWithin-+ℤ N (λ k. eval B x *ℤ before i k) (λ k. eval B x *ℤ before j k)
         ∙ ap₂ (λ a b. a +ℤ b) (sumWithin-*ℤ N (eval B x) (before i)) (sumWithin-*ℤ N (eval B x) (before j))
       where
@@ -355,7 +358,8 @@ module _ (i j : ℕ) (apart : i ≢ j) (S : ℕ → ℤ → Polynomial) (A C : �
         after : ℕ → ℤ → ℤ
         after n k = eval (new n k) x *ℤ E' z n (x +ℤ k)
 
-        collect : (s t a b c u v w : ℤ) → a *ℤ u +ℤ c *ℤ v ≡ b *ℤ w → s *ℤ a *ℤ u +ℤ (t *ℤ b +ℤ s *ℤ c) *ℤ v ≡ b *ℤ (s *ℤ w) +ℤ b *ℤ (t *ℤ v)
+        collect : (s t a b c u v w : ℤ) → a *ℤ u +ℤ c *ℤ v ≡ b *ℤ w
+            → s *ℤ a *ℤ u +ℤ (t *ℤ b +ℤ s *ℤ c) *ℤ v ≡ b *ℤ (s *ℤ w) +ℤ b *ℤ (t *ℤ v)
         collect s t a b c u v w h = left ∙ ap (λ e. s *ℤ e +ℤ t *ℤ b *ℤ v) h ∙ right
           where
             left : s *ℤ a *ℤ u +ℤ (t *ℤ b +ℤ s *ℤ c) *ℤ v ≡ s *ℤ (a *ℤ u +ℤ c *ℤ v) +ℤ t *ℤ b *ℤ v
@@ -370,7 +374,7 @@ module _ (i j : ℕ) (apart : i ≢ j) (S : ℕ → ℤ → Polynomial) (A C : �
         at : (k : ℤ) → natAbs k ≤ N → after i k +ℤ after j k ≡ eval B x *ℤ before i k +ℤ eval B x *ℤ before j k
         at k h =
             rw (new-i k, eval-mul (S i k) (A k) x, value-j k, same z j (x +ℤ k) (λ e. apart (sym e)))
-            (collect (eval (S i k) x) (eval (S j k) x) (eval (A k) x) (eval B x) (eval (C k) x) (E' z i (x +ℤ k)) (E z j (x +ℤ k)) (E z i (x +ℤ k)) (law z x k h))
+            (collect (eval (S i k) x) (eval (S j k) x) (eval (A k) x) (eval B x) (eval (C k) x) _ _ _ (law z x k h))
 
     new-combination : (z : Sequence) (x : ℤ) → combinationValue m E' N new z x ≡ eval B x *ℤ combinationValue m E N S z x
     unfolding combinationValue
@@ -395,14 +399,17 @@ replaced m i j E E' i-below j-below apart same D A C B b a law =
       number-below = found .1;
       shift-within = D .shift-within;
       nonzero = found .2;
-      vanishes = λ z x. new-combination i j apart S A C B m (D .reach) E E' i-below j-below same law z x ∙ ap (λ e. eval B x *ℤ e) (D .vanishes z x) ∙ *ℤ-zero (eval B x);
+      vanishes = λ z x. multiplied z x ∙ ap (λ e. eval B x *ℤ e) (D .vanishes z x) ∙ *ℤ-zero (eval B x);
     }
   where
-    S : ℕ → ℤ → Polynomial
+    S : Multiplier
     S = D .multiplier
 
-    S' : ℕ → ℤ → Polynomial
+    S' : Multiplier
     S' = new i j apart S A C B
+
+    multiplied : (z : Sequence) (x : ℤ) → combinationValue m E' (D .reach) S' z x ≡ eval B x *ℤ combinationValue m E (D .reach) S z x
+    multiplied = new-combination i j apart S A C B m (D .reach) E E' i-below j-below same law
 
     found : (n : ℕ) × (n < m) × T (not (isZero (S' n (D .shift))))
     found = new-nonzero i j apart S A C B m (D .shift) b (a (D .shift)) i-below (D .number) (D .number-below) (D .nonzero)
@@ -441,7 +448,8 @@ unfolding cofactor
 cofactor-nonzero p [] k n = number-nonzero 1 (omega arith)
 cofactor-nonzero p (a ∷ l) k n = step (ℤ-discrete k a) (cofactor-nonzero p l k n)
   where
-    step : (d : Dec (k ≡ a)) → T (not (isZero (cofactor p l k))) → T (not (isZero (ite d (product p l) (mul (shiftBy a p) (cofactor p l k)))))
+    step : (d : Dec (k ≡ a)) → T (not (isZero (cofactor p l k)))
+        → T (not (isZero (ite d (product p l) (mul (shiftBy a p) (cofactor p l k)))))
     step (yes e) h = product-nonzero p l n
     step (no e) h = shifted-nonzero a p (cofactor p l k) n h
 
@@ -475,11 +483,15 @@ module _ (m i j : ℕ) (E E' : Values) (i-below : i < m) (j-below : j < m) (apar
   -- Everything is multiplied by the product of g(n + k) over the shifts: then the multiplier of equation i shifted by k
   -- has the factor g(n + k), and g × equation i is d × the new equation i - h × equation j.
   pub combined-forward : DependentValues m E → DependentValues m E'
-  combined-forward D = replaced m i j E E' i-below j-below apart same D A C (product g (shiftsWithin (D .reach)))
-      (product-nonzero g (shiftsWithin (D .reach)) g-nonzero) (λ k. mul-nonzero (pos d ∷ []) (G k) (number-nonzero d d-positive) (cofactor-nonzero g (shiftsWithin (D .reach)) k g-nonzero)) at
+  combined-forward D =
+      replaced m i j E E' i-below j-below apart same D A C (product g shifts) (product-nonzero g shifts g-nonzero)
+      (λ k. mul-nonzero (pos d ∷ []) (G k) (number-nonzero d d-positive) (cofactor-nonzero g shifts k g-nonzero)) at
     where
+      shifts : List ℤ
+      shifts = shiftsWithin (D .reach)
+
       G : ℤ → Polynomial
-      G k = cofactor g (shiftsWithin (D .reach)) k
+      G k = cofactor g shifts k
 
       A : ℤ → Polynomial
       A k = mul (pos d ∷ []) (G k)
@@ -488,12 +500,12 @@ module _ (m i j : ℕ) (E E' : Values) (i-below : i < m) (j-below : j < m) (apar
       C k = negate (mul (G k) (shiftBy k h))
 
       collect : (b c e u v w y : ℤ) → b *ℤ e ≡ u *ℤ w +ℤ v *ℤ y → b *ℤ c *ℤ e +ℤ negℤ (c *ℤ v) *ℤ y ≡ c *ℤ u *ℤ w
-      collect b c e u v w y q = left ∙ ap (λ a. c *ℤ a -ℤ c *ℤ v *ℤ y) q ∙ ap (λ a. a -ℤ c *ℤ v *ℤ y) right ∙ +ℤ-negℤ-cancel (c *ℤ u *ℤ w) (c *ℤ v *ℤ y)
+      collect b c e u v w y q = left ∙ ap (λ a. c *ℤ a -ℤ c *ℤ v *ℤ y) q ∙ right ∙ +ℤ-negℤ-cancel (c *ℤ u *ℤ w) (c *ℤ v *ℤ y)
         where
           left : b *ℤ c *ℤ e +ℤ negℤ (c *ℤ v) *ℤ y ≡ c *ℤ (b *ℤ e) -ℤ c *ℤ v *ℤ y
           left = simp ringℤ
 
-          right : c *ℤ (u *ℤ w +ℤ v *ℤ y) ≡ c *ℤ u *ℤ w +ℤ c *ℤ v *ℤ y
+          right : c *ℤ (u *ℤ w +ℤ v *ℤ y) -ℤ c *ℤ v *ℤ y ≡ c *ℤ u *ℤ w +ℤ c *ℤ v *ℤ y -ℤ c *ℤ v *ℤ y
           right = simp ringℤ
 
       value-A : (k x : ℤ) → eval (A k) x ≡ pos d *ℤ eval (G k) x
@@ -501,17 +513,19 @@ module _ (m i j : ℕ) (E E' : Values) (i-below : i < m) (j-below : j < m) (apar
 
       value-C : (k x : ℤ) → eval (C k) x ≡ negℤ (eval (G k) x *ℤ eval h (x +ℤ k))
       value-C k x =
-          eval-negate (mul (G k) (shiftBy k h)) x ∙ ap negℤ (eval-mul (G k) (shiftBy k h) x ∙ ap (λ a. eval (G k) x *ℤ a) (eval-shiftBy k h x))
+          eval-negate (mul (G k) (shiftBy k h)) x
+          ∙ ap negℤ (eval-mul (G k) (shiftBy k h) x ∙ ap (λ a. eval (G k) x *ℤ a) (eval-shiftBy k h x))
 
       at : (z : Sequence) (x k : ℤ) → natAbs k ≤ D .reach
-          → eval (A k) x *ℤ E' z i (x +ℤ k) +ℤ eval (C k) x *ℤ E z j (x +ℤ k) ≡ eval (product g (shiftsWithin (D .reach))) x *ℤ E z i (x +ℤ k)
+          → eval (A k) x *ℤ E' z i (x +ℤ k) +ℤ eval (C k) x *ℤ E z j (x +ℤ k) ≡ eval (product g shifts) x *ℤ E z i (x +ℤ k)
       at z x k w =
           ap₂ (λ a c. a *ℤ E' z i (x +ℤ k) +ℤ c *ℤ E z j (x +ℤ k)) (value-A k x) (value-C k x)
-          ∙ collect (pos d) (eval (G k) x) (E' z i (x +ℤ k)) (eval g (x +ℤ k)) (eval h (x +ℤ k)) (E z i (x +ℤ k)) (E z j (x +ℤ k)) (law z (x +ℤ k))
-          ∙ ap (λ a. a *ℤ E z i (x +ℤ k)) (sym (cofactor-law g (shiftsWithin (D .reach)) k x (within-member (D .reach) k w)))
+          ∙ collect (pos d) (eval (G k) x) (E' z i (x +ℤ k)) (eval g (x +ℤ k)) (eval h (x +ℤ k)) _ _ (law z (x +ℤ k))
+          ∙ ap (λ a. a *ℤ E z i (x +ℤ k)) (sym (cofactor-law g shifts k x (within-member (D .reach) k w)))
 
   pub combined-back : DependentValues m E' → DependentValues m E
-  combined-back D = replaced m i j E' E i-below j-below apart (λ z k n p. sym (same z k n p)) D (λ k. shiftBy k g) (λ k. shiftBy k h) (pos d ∷ [])
+  combined-back D =
+      replaced m i j E' E i-below j-below apart (λ z k n p. sym (same z k n p)) D (λ k. shiftBy k g) (λ k. shiftBy k h) (pos d ∷ [])
       (number-nonzero d d-positive) (λ k. rw (isZero-shiftBy k g) g-nonzero) at
     where
       at : (z : Sequence) (x k : ℤ) → natAbs k ≤ D .reach
@@ -527,15 +541,15 @@ module _ (i j : ℕ) (apart : i ≢ j) where
 
   swap-i : swap i ≡ j
   unfolding swap
-  swap-i = put-same i j (put j i (λ k. k))
+  swap-i = put-same i _ _
 
   swap-j : swap j ≡ i
   unfolding swap
-  swap-j = put-other i j (put j i (λ k. k)) j (λ e. apart (sym e)) ∙ put-same j i (λ k. k)
+  swap-j = put-other i _ _ j (λ e. apart (sym e)) ∙ put-same j _ _
 
   swap-other : (k : ℕ) → k ≢ i → k ≢ j → swap k ≡ k
   unfolding swap
-  swap-other k p q = put-other i j (put j i (λ k. k)) k p ∙ put-other j i (λ k. k) k q
+  swap-other k p q = put-other i _ _ k p ∙ put-other j _ _ k q
 
   -- Every equation comes to some place.
   swap-back : (m k : ℕ) → i < m → j < m → k < m → (a : ℕ) × (a < m) × (swap a ≡ k)
@@ -553,34 +567,36 @@ module _ (i j : ℕ) (apart : i ≢ j) where
       → ((z : Sequence) (k : ℕ) (n : ℤ) → k ≢ i → k ≢ j → E' z k n ≡ E z k n)
       → DependentValues m E → DependentValues m E'
   unfolding combinationValue copies
-  exchanged-dependent m E E' p q at-i at-j others D =
+  exchanged-dependent m E E' p q at-i at-j elsewhere D =
       record {
-        reach = D .reach;
-        multiplier = λ n. D .multiplier (swap n);
+        reach = N;
+        multiplier = λ n. S (swap n);
         number = found .0;
         shift = D .shift;
         number-below = found .1;
         shift-within = D .shift-within;
-        nonzero = subst (λ n. T (not (isZero (D .multiplier n (D .shift))))) (sym (found .2)) (D .nonzero);
-        vanishes = λ z x. combination z x ∙ D .vanishes z x;
+        nonzero = subst (λ n. T (not (isZero (S n (D .shift))))) (sym (found .2)) (D .nonzero);
+        vanishes = λ z x. renamed z x ∙ D .vanishes z x;
       }
     where
+      N : ℕ
+      N = D .reach
+
+      S : Multiplier
+      S = D .multiplier
+
       found : (n : ℕ) × (n < m) × (swap n ≡ D .number)
       found = swap-back m (D .number) p q (D .number-below)
 
       same : (z : Sequence) (k : ℕ) (n : ℤ) → E' z k n ≡ E z (swap k) n
       same z k n = by-cases (ℕ-discrete k i)
           (λ e. rw (e, swap-i) (at-i z n))
-          (λ c. by-cases (ℕ-discrete k j) (λ e. rw (e, swap-j) (at-j z n)) (λ o. rw (swap-other k c o) (others z k n c o)))
+          (λ c. by-cases (ℕ-discrete k j) (λ e. rw (e, swap-j) (at-j z n)) (λ o. rw (swap-other k c o) (elsewhere z k n c o)))
 
-      combination : (z : Sequence) (x : ℤ) → combinationValue m E' (D .reach) (λ n. D .multiplier (swap n)) z x ≡ combinationValue m E (D .reach) (D .multiplier) z x
-      combination z x =
-          sumBelow-congr m (copies E' (D .reach) (λ n. D .multiplier (swap n)) z x) (λ k. copies E (D .reach) (D .multiplier) z x (swap k)) (λ k _. at k)
-          ∙ sumBelow-swap m (copies E (D .reach) (D .multiplier) z x) p q
-        where
-          at : (k : ℕ) → copies E' (D .reach) (λ n. D .multiplier (swap n)) z x k ≡ copies E (D .reach) (D .multiplier) z x (swap k)
-          at k = sumWithin-congr (D .reach) (λ s. eval (D .multiplier (swap k) s) x *ℤ E' z k (x +ℤ s)) (λ s. eval (D .multiplier (swap k) s) x *ℤ E z (swap k) (x +ℤ s))
-              (λ s _. ap (λ e. eval (D .multiplier (swap k) s) x *ℤ e) (same z k (x +ℤ s)))
+      renamed : (z : Sequence) (x : ℤ) → combinationValue m E' N (λ n. S (swap n)) z x ≡ combinationValue m E N S z x
+      renamed z x =
+          sumBelow-congr m _ _ (λ k _. sumWithin-congr N (λ s _. ap (λ e. eval (S (swap k) s) x *ℤ e) (same z k (x +ℤ s))))
+          ∙ sumBelow-swap m (copies E N S z x) p q
 
 -- ---- the reach
 
@@ -593,14 +609,14 @@ unfolding isZero
 nil-not-nonzero t = t
 
 -- The multipliers past the reach put to zero.
-trim : ℕ → (ℕ → ℤ → Polynomial) → ℕ → ℤ → Polynomial
+trim : ℕ → Multiplier → Multiplier
 trim N S i k = ite (decLe (natAbs k) N) (S i k) []
 
-trim-within : (N : ℕ) (S : ℕ → ℤ → Polynomial) (i : ℕ) (k : ℤ) → natAbs k ≤ N → trim N S i k ≡ S i k
+trim-within : (N : ℕ) (S : Multiplier) (i : ℕ) (k : ℤ) → natAbs k ≤ N → trim N S i k ≡ S i k
 unfolding trim
 trim-within N S i k h = if-pos (decLe (natAbs k) N) h (S i k) []
 
-trim-past : (N : ℕ) (S : ℕ → ℤ → Polynomial) (i : ℕ) (k : ℤ) → N < natAbs k → trim N S i k ≡ []
+trim-past : (N : ℕ) (S : Multiplier) (i : ℕ) (k : ℤ) → N < natAbs k → trim N S i k ≡ []
 unfolding trim
 trim-past N S i k h = if-neg (decLe (natAbs k) N) (omega arith) (S i k) []
 
@@ -613,13 +629,13 @@ extended m E D = (wider, λ i k h. trim-past N S i k h)
     N : ℕ
     N = D .reach
 
-    S : ℕ → ℤ → Polynomial
+    S : Multiplier
     S = D .multiplier
 
     at : (z : Sequence) (x : ℤ) (i : ℕ) → copies E (suc N) (trim N S) z x i ≡ copies E N S z x i
     at z x i =
         sumWithin-grow N after (λ k h. rw (trim-past N S i k h, eval-nil x) (zero-*ℤ (E z i (x +ℤ k))))
-        ∙ sumWithin-congr N after (λ k. eval (S i k) x *ℤ E z i (x +ℤ k)) (λ k h. ap (λ p. eval p x *ℤ E z i (x +ℤ k)) (trim-within N S i k h))
+        ∙ sumWithin-congr N (λ k h. ap (λ p. eval p x *ℤ E z i (x +ℤ k)) (trim-within N S i k h))
       where
         after : ℤ → ℤ
         after k = eval (trim N S i k) x *ℤ E z i (x +ℤ k)
@@ -634,7 +650,7 @@ extended m E D = (wider, λ i k h. trim-past N S i k h)
           number-below = D .number-below;
           shift-within = omega (arith, D .shift-within);
           nonzero = rw (trim-within N S (D .number) (D .shift) (D .shift-within)) (D .nonzero);
-          vanishes = λ z x. sumBelow-congr m (copies E (suc N) (trim N S) z x) (copies E N S z x) (λ i _. at z x i) ∙ D .vanishes z x;
+          vanishes = λ z x. sumBelow-congr m _ _ (λ i _. at z x i) ∙ D .vanishes z x;
         }
 
 -- ---- an equation shifted
@@ -651,7 +667,7 @@ movable-down : Movable (negsuc 0)
 unfolding Movable
 movable-down N f h =
     sym (sumWithin-move N moved (h (negℤ (pos N) -ℤ pos 1) below) (ap f top ∙ h (pos N) (le-refl N)))
-    ∙ sumWithin-congr N (λ k. moved (k +ℤ pos 1)) f (λ k _. ap f (+ℤ-negℤ-cancel k (pos 1)))
+    ∙ sumWithin-congr N (λ k _. ap f (+ℤ-negℤ-cancel k (pos 1)))
   where
     moved : ℤ → ℤ
     moved k = f (k -ℤ pos 1)
@@ -677,49 +693,54 @@ module _ (m i : ℕ) (c : ℤ) (small : natAbs c ≤ 1) (movable : Movable c) (E
         number-below = D .number-below;
         shift-within = found .1;
         nonzero = found .2;
-        vanishes = λ z x. sumBelow-congr m (copies E' N S' z x) (copies E N S z x) (λ n _. at z x n) ∙ D .vanishes z x;
+        vanishes = λ z x. sumBelow-congr m _ _ (λ n _. at z x n) ∙ D .vanishes z x;
       }
     where
       N : ℕ
       N = D .reach
 
-      S : ℕ → ℤ → Polynomial
+      S : Multiplier
       S = D .multiplier
 
-      S' : ℕ → ℤ → Polynomial
+      S' : Multiplier
       S' n k = put i (S i (k +ℤ c)) (λ a. S a k) n
 
+      -- From the reach on the multipliers are zero, and this one is not.
       inside : natAbs (D .shift) < N
-      inside = by-cases (decLt (natAbs (D .shift)) N) (λ h. h) (λ h. absurd (nil-not-nonzero (rw (past (D .number) (D .shift) (omega arith)) at (D .nonzero))))
+      inside = by-cases (decLt (natAbs (D .shift)) N) (λ h. h)
+          (λ h. absurd (nil-not-nonzero (rw (past (D .number) (D .shift) (omega arith)) at (D .nonzero))))
 
       found : (k : ℤ) × (natAbs k ≤ N) × T (not (isZero (S' (D .number) k)))
       found = by-cases (ℕ-discrete (D .number) i) moved kept
         where
           moved : D .number ≡ i → (k : ℤ) × (natAbs k ≤ N) × T (not (isZero (S' (D .number) k)))
-          moved e = (D .shift -ℤ c, omega (arith, inside, natAbs-+ℤ (D .shift) (negℤ c), natAbs-negℤ c), subst (λ p. T (not (isZero p))) (sym same-multiplier) (D .nonzero))
+          moved e = (D .shift -ℤ c, near, subst (λ p. T (not (isZero p))) (sym same-multiplier) (D .nonzero))
             where
+              near : natAbs (D .shift -ℤ c) ≤ N
+              near = omega (arith, inside, natAbs-+ℤ (D .shift) (negℤ c), natAbs-negℤ c)
+
               same-multiplier : S' (D .number) (D .shift -ℤ c) ≡ S (D .number) (D .shift)
-              same-multiplier =
-                  ap (put i (S i (D .shift -ℤ c +ℤ c)) (λ a. S a (D .shift -ℤ c))) e ∙ put-same i (S i (D .shift -ℤ c +ℤ c)) (λ a. S a (D .shift -ℤ c))
-                  ∙ ap₂ S (sym e) (-ℤ-+ℤ-cancel (D .shift) c)
+              same-multiplier = ap (λ n. S' n (D .shift -ℤ c)) e ∙ put-same i _ _ ∙ ap₂ S (sym e) (-ℤ-+ℤ-cancel (D .shift) c)
 
           kept : D .number ≢ i → (k : ℤ) × (natAbs k ≤ N) × T (not (isZero (S' (D .number) k)))
           kept n = (D .shift, D .shift-within, rw (put-other i (S i (D .shift +ℤ c)) (λ a. S a (D .shift)) (D .number) n) (D .nonzero))
 
       at : (z : Sequence) (x : ℤ) (n : ℕ) → copies E' N S' z x n ≡ copies E N S z x n
-      at z x n = by-cases (ℕ-discrete n i) (λ e. subst (λ a. copies E' N S' z x a ≡ copies E N S z x a) (sym e) (moved z x)) other
+      at z x n = by-cases (ℕ-discrete n i) (λ e. subst (λ a. copies E' N S' z x a ≡ copies E N S z x a) (sym e) moved) other
         where
           other : n ≢ i → copies E' N S' z x n ≡ copies E N S z x n
-          other d = sumWithin-congr N (λ k. eval (S' n k) x *ℤ E' z n (x +ℤ k)) (λ k. eval (S n k) x *ℤ E z n (x +ℤ k))
-              (λ k _. ap₂ (λ p v. eval p x *ℤ v) (put-other i (S i (k +ℤ c)) (λ a. S a k) n d) (same z n (x +ℤ k) d))
+          other d = sumWithin-congr N (λ k _. ap₂ (λ p v. eval p x *ℤ v) (put-other i _ _ n d) (same z n (x +ℤ k) d))
 
-          moved : (z : Sequence) (x : ℤ) → copies E' N S' z x i ≡ copies E N S z x i
-          moved z x =
-              sumWithin-congr N (λ k. eval (S' i k) x *ℤ E' z i (x +ℤ k)) (λ k. before (k +ℤ c)) (λ k _. ap₂ (λ p v. eval p x *ℤ v) (put-same i (S i (k +ℤ c)) (λ a. S a k)) (at-i z (x +ℤ k) ∙ ap (E z i) (+ℤ-assoc x k c)))
-              ∙ movable N before (λ k h. ap (λ p. eval p x *ℤ E z i (x +ℤ k)) (past i k h) ∙ rw (eval-nil x) (zero-*ℤ (E z i (x +ℤ k))))
-            where
-              before : ℤ → ℤ
-              before k = eval (S i k) x *ℤ E z i (x +ℤ k)
+          term : ℤ → ℤ
+          term k = eval (S i k) x *ℤ E z i (x +ℤ k)
+
+          zero-term : (k : ℤ) → N ≤ natAbs k → term k ≡ pos 0
+          zero-term k h = rw (past i k h, eval-nil x) (zero-*ℤ (E z i (x +ℤ k)))
+
+          moved : copies E' N S' z x i ≡ copies E N S z x i
+          moved =
+              sumWithin-congr N (λ k _. ap₂ (λ p v. eval p x *ℤ v) (put-same i _ _) (at-i z (x +ℤ k) ∙ ap (E z i) (+ℤ-assoc x k c)))
+              ∙ movable N term zero-term
 
 moved-dependent : (m i : ℕ) (c : ℤ) → natAbs c ≤ 1 → Movable c → (E E' : Values)
     → ((z : Sequence) (n : ℤ) → E' z i n ≡ E z i (n +ℤ c)) → ((z : Sequence) (k : ℕ) (n : ℤ) → k ≢ i → E' z k n ≡ E z k n)
@@ -752,10 +773,10 @@ zero-dependent m i E h zero-i =
       number-below = h;
       shift-within = omega arith;
       nonzero = rw (put-same i (pos 1 ∷ []) (λ _. [])) (number-nonzero 1 (omega arith));
-      vanishes = λ z x. sumBelow-zeros m (copies E 0 S z x) (λ k _. sumWithin-zeros 0 (λ s. eval (S k s) x *ℤ E z k (x +ℤ s)) (λ s _. at z x k s));
+      vanishes = λ z x. sumBelow-zeros m _ (λ k _. sumWithin-zeros 0 _ (λ s _. at z x k s));
     }
   where
-    S : ℕ → ℤ → Polynomial
+    S : Multiplier
     S k s = put i (pos 1 ∷ []) (λ _. []) k
 
     at : (z : Sequence) (x : ℤ) (k : ℕ) (s : ℤ) → eval (S k s) x *ℤ E z k (x +ℤ s) ≡ pos 0

@@ -19,17 +19,18 @@ use native.Mathlib.Numerals.{add-one}
 use native.Mathlib.Omega.{arith}
 use lib.Dec.{T, T-not}
 use lib.ListN.{length, getD, set, length-append, length-set, length-map}
-use lib.Seq.{getD-set-other}
 use Rattle.algebra.specs.Polynomials.{isZero}
 use Rattle.rules.specs.Limits.{blockCount, columnCount, coefficientCount}
 use Rattle.rules.specs.Rows.{Row, Relation, noRow, All, zeroRow, width, shiftUp, mirrorRow, mirrorRelation}
-use Rattle.rules.specs.Elimination.{Side, within, limitDegrees, limitCoefficients, State, Outcome, going, rowAt, putRow, listRelations, settle, countShift, exchange, narrowFirst, start, run, enough, leading, trailing, leadingRun, trailingRun, wholeRun, mirrorState, mirrorOutcome, done, refused}
+use Rattle.rules.specs.Elimination.{Side, leading, trailing, State, start, Outcome, going, done, refused, within, limitDegrees, limitCoefficients}
+use Rattle.rules.specs.Elimination.{rowAt, putRow, listRelations, settle, countShift, exchange, narrowFirst}
+use Rattle.rules.specs.Elimination.{run, enough, leadingRun, mirrorState, mirrorOutcome, trailingRun, wholeRun}
 use Rattle.rules.specs.Stores.{Shaped, StoreRow}
 use Rattle.theory.specs.Lists.{all-mono, map-all, getD-all}
 use Rattle.theory.specs.Shapes.{mirrorRow-shaped}
 use Rattle.theory.specs.Cells.{width-combine, width-primitive, width-cut, width-shiftUp, width-positive, width-le-length, width-mirrorRow, cell-within, entry-cell}
 use Rattle.theory.specs.Steps.{current, met, MetZeroBelow, exchanged, listed, combination, multipliersFor, Stepped, combined, settled, shifted, Chain, here, next}
-use Rattle.theory.specs.Steps.{Narrowed, narrowed, kept, swapped, narrowFirst-width, length-narrowFirst, shifts-narrowFirst, listed-order, stepped-length, run-going, run-done, going≢done, going≢refused, done≢refused, done-injective, chain-length, limitDegrees-within, limitCoefficients-within}
+use Rattle.theory.specs.Steps.{Narrowed, narrowed, kept, swapped, narrowFirst-width, length-narrowFirst, shifts-narrowFirst, rowAt-putRow-other, length-putRow, listed-order, stepped-length, run-going, run-done, going≢done, going≢refused, done≢refused, done-injective, chain-length, limitDegrees-within, limitCoefficients-within}
 use Rattle.theory.specs.Triangular.{Triangular, triangular-start, triangular-chain, column, combined-advances}
 
 unfoldable pub totalWidth : List Row → ℕ
@@ -67,16 +68,21 @@ totalWidth-rows (r ∷ l) h = step (width r) (h .0) (totalWidth-rows l (h .1))
     step : (w : ℕ) {n t : ℕ} → 0 < w → n ≤ t → suc n ≤ w + t
     step w u v = omega arith
 
+totalWidth-putRow : (s : State) (i : ℕ) (r : Row) → i < length (s .rows)
+    → totalWidth (putRow s i r .rows) + width (rowAt s i) ≡ totalWidth (s .rows) + width r
+unfolding putRow rowAt
+totalWidth-putRow s i r h = totalWidth-set (s .rows) i r h
+
 module _ (s : State) (i j : ℕ) (below-i : i < length (s .rows)) (below-j : j < length (s .rows)) (other : i ≢ j) where
   totalWidth-exchange : totalWidth (exchange s i j .rows) ≡ totalWidth (s .rows)
-  unfolding exchange putRow rowAt
+  unfolding exchange
   totalWidth-exchange =
+      let first : State = putRow s j (rowAt s i) in
       omega (
         arith,
-        totalWidth-set (s .rows) j (rowAt s i) below-j,
-        subst (λ r. totalWidth (set (set (s .rows) j (rowAt s i)) i (rowAt s j)) + width r ≡ totalWidth (set (s .rows) j (rowAt s i)) + width (rowAt s j))
-            (getD-set-other (s .rows) j i (rowAt s i) noRow other)
-            (totalWidth-set (set (s .rows) j (rowAt s i)) i (rowAt s j) (rw (length-set (s .rows) j (rowAt s i)) below-i)),
+        totalWidth-putRow s j (rowAt s i) below-j,
+        totalWidth-putRow first i (rowAt s j) (rw (length-putRow s j (rowAt s i)) below-i),
+        ap width (rowAt-putRow-other s j i (rowAt s i) other),
       )
 
   totalWidth-narrowFirst : totalWidth (narrowFirst s i j .rows) ≡ totalWidth (s .rows)
@@ -109,7 +115,8 @@ module _ (s : State) (j : ℕ) (below : j < current s) (more : current s < lengt
 
 -- A shift makes its row one block narrower.
 shifted-total : (s : State) (r : Row) → current s < length (s .rows) → T (not (zeroRow (rowAt s (current s))))
-    → limitCoefficients (shiftUp (rowAt s (current s))) ≡ within r → suc (totalWidth (putRow (countShift s) (current s) r .rows)) ≡ totalWidth (s .rows)
+    → limitCoefficients (shiftUp (rowAt s (current s))) ≡ within r
+    → suc (totalWidth (putRow (countShift s) (current s) r .rows)) ≡ totalWidth (s .rows)
 unfolding putRow countShift rowAt
 shifted-total s r more nonzero e =
     omega (
@@ -138,7 +145,8 @@ stepped-width {side} {s} (combined j below more nonzero clear meets few r e) =
 stepped-width {s} (settled c more nonzero clear e) = le-refl (s .shifts + totalWidth (s .rows))
 stepped-width {s} (shifted r more nonzero clear f e) = omega (arith, shifted-shifts s r, shifted-total s r more nonzero e)
 
-pub chain-width : {side : Side} {s s' : State} {k : ℕ} → Chain side s k s' → s' .shifts + totalWidth (s' .rows) ≤ s .shifts + totalWidth (s .rows)
+pub chain-width : {side : Side} {s s' : State} {k : ℕ} → Chain side s k s'
+    → s' .shifts + totalWidth (s' .rows) ≤ s .shifts + totalWidth (s .rows)
 chain-width {s} here = le-refl (s .shifts + totalWidth (s .rows))
 chain-width (next c t) = le-trans (stepped-width t) (chain-width c)
 
@@ -149,8 +157,8 @@ unfoldable pub measure : State → ℕ → ℕ
 measure s z = suc (length (s .rows)) * (length (s .rows) - current s + totalWidth (s .rows)) + (current s - z)
 
 -- A combination leaves the rows to settle as they are, and one settled row fewer is to be met.
-further-falls : (s u : State) (z j : ℕ) → length (u .rows) ≡ length (s .rows) → current u ≡ current s → totalWidth (u .rows) ≤ totalWidth (s .rows)
-    → z ≤ j → j < current s → measure u (suc j) < measure s z
+further-falls : (s u : State) (z j : ℕ) → length (u .rows) ≡ length (s .rows) → current u ≡ current s
+    → totalWidth (u .rows) ≤ totalWidth (s .rows) → z ≤ j → j < current s → measure u (suc j) < measure s z
 unfolding measure
 further-falls s u z j size same no-wider first below =
     subst (λ n. n < measure s z) (sym (ap₂ (λ n v. suc n * (n - v + totalWidth (u .rows)) + (v - suc j)) size same))
@@ -161,7 +169,8 @@ further-falls s u z j size same no-wider first below =
 
 -- One row or one block fewer pays for meeting every settled row again.
 fewer-falls : (s u : State) (z : ℕ) → length (u .rows) ≡ length (s .rows) → current u ≤ length (s .rows)
-    → length (s .rows) - current s + totalWidth (s .rows) ≡ suc (length (s .rows) - current u + totalWidth (u .rows)) → measure u 0 < measure s z
+    → length (s .rows) - current s + totalWidth (s .rows) ≡ suc (length (s .rows) - current u + totalWidth (u .rows))
+    → measure u 0 < measure s z
 unfolding measure
 fewer-falls s u z size fits one-less =
     subst (λ n. n < measure s z) (sym (ap (λ n. suc n * (n - current u + totalWidth (u .rows)) + (current u - 0)) size))
@@ -182,7 +191,8 @@ settled-falls s c z more = fewer-falls s (settle s c) z refl (omega (arith, size
     size = length-append (s .order) (c ∷ []) ∙ add-one (current s)
 
 shifted-falls : (s : State) (r : Row) (z : ℕ) → current s < length (s .rows)
-    → suc (totalWidth (putRow (countShift s) (current s) r .rows)) ≡ totalWidth (s .rows) → measure (putRow (countShift s) (current s) r) 0 < measure s z
+    → suc (totalWidth (putRow (countShift s) (current s) r .rows)) ≡ totalWidth (s .rows)
+    → measure (putRow (countShift s) (current s) r) 0 < measure s z
 unfolding putRow countShift
 shifted-falls s r z more narrower =
     fewer-falls s (putRow (countShift s) (current s) r) z (length-set (s .rows) (current s) r) (omega arith) (omega arith)
@@ -192,8 +202,10 @@ pub stepped-measure : {side : Side} {s s' : State} → Stepped side s s' → Tri
 stepped-measure {side} {s} (combined j below more nonzero clear meets few r e) t z known = (
   suc j,
   combined-advances s j t below more clear meets side r e,
-  further-falls s (putRow (listed side s j) (current s) r) z j (stepped-length {side = side} (combined j below more nonzero clear meets few r e))
-      (ap length (combined-order side s j r)) (combined-total s j below more side r e) (first (λ b. T-not (isZero (met s j)) meets (known j b))) below,
+  further-falls s (putRow (listed side s j) (current s) r) z j
+      (stepped-length {side = side} (combined j below more nonzero clear meets few r e))
+      (ap length (combined-order side s j r)) (combined-total s j below more side r e)
+      (first (λ b. T-not (isZero (met s j)) meets (known j b))) below,
 )
   where
     first : ¬ (j < z) → z ≤ j
@@ -226,7 +238,8 @@ measure-start b rows relations narrow = omega (arith, mul-le-mul-left (suc (leng
 pub run-ends : (side : Side) (b k : ℕ) (rows : List Row) (relations : List Relation) (s : State) → All (λ r. width r ≤ b) rows
     → suc (length rows) * (length rows + length rows * b) < k → run side k (start rows relations) ≢ going s
 run-ends side b k rows relations s narrow fuel e =
-    let (z, clear, bound) = chain-measure (run-going side k (start rows relations) s e) (triangular-start rows relations) 0 (nothing-met (start rows relations)) in
+    let chain = run-going side k (start rows relations) s e in
+    let (z, clear, bound) = chain-measure chain (triangular-start rows relations) 0 (nothing-met (start rows relations)) in
     absurd (omega (arith, measure-start b rows relations narrow))
 
 -- No row is wider than its number of blocks, which is the same for every row.
@@ -235,13 +248,15 @@ widths-within : (b : ℕ) (rows others : List Row) → length others ≡ length 
 unfolding All
 widths-within b [] [] size h k = tt
 widths-within b [] (r ∷ others) size h k = absurd (omega arith)
-widths-within b (q ∷ rows) others size h k = all-mono (λ r. length (r .blocks) ≡ b) (λ r. width r ≤ length (q .blocks)) within-first others k
+widths-within b (q ∷ rows) others size h k =
+    all-mono (λ r. length (r .blocks) ≡ b) (λ r. width r ≤ length (q .blocks)) within-first others k
   where
     within-first : (r : Row) → length (r .blocks) ≡ b → width r ≤ length (q .blocks)
     within-first r e = omega (arith, width-le-length r, h .0)
 
 pub enough-ends : (side : Side) (b : ℕ) (rows others : List Row) (relations : List Relation) (s : State) → length others ≡ length rows
-    → All (λ r. length (r .blocks) ≡ b) rows → All (λ r. length (r .blocks) ≡ b) others → run side (enough rows) (start others relations) ≢ going s
+    → All (λ r. length (r .blocks) ≡ b) rows → All (λ r. length (r .blocks) ≡ b) others
+    → run side (enough rows) (start others relations) ≢ going s
 unfolding enough
 enough-ends side b rows others relations s size h k =
     run-ends side (length (getD rows 0 noRow .blocks)) (enough rows) others relations s (widths-within b rows others size h k)
@@ -261,7 +276,8 @@ mirrorOutcome-going D (going u) s e = (u, refl)
 mirrorOutcome-going D (done u) s e = absurd (going≢done (sym e))
 mirrorOutcome-going D (refused n) s e = absurd (going≢refused (sym e))
 
-pub trailingRun-ends : (D : ℕ) (rows : List Row) (relations : List Relation) (s : State) → All StoreRow rows → trailingRun D rows relations ≢ going s
+pub trailingRun-ends : (D : ℕ) (rows : List Row) (relations : List Relation) (s : State) → All StoreRow rows
+    → trailingRun D rows relations ≢ going s
 unfolding trailingRun mirrorState start
 trailingRun-ends D rows relations s h e =
     let (u, f) = mirrorOutcome-going D (run trailing (enough rows) (mirrorState D (start rows relations))) s e in
@@ -285,7 +301,8 @@ wholeRun-ends trailing D rows relations s h = trailingRun-ends D rows relations 
 settled-widths : (s : State) → Triangular s → length (s .rows) ≤ current s → All (λ r. 0 < width r) (s .rows)
 unfolding rowAt
 settled-widths s t all = getD-all (λ r. 0 < width r) (s .rows) noRow
-    (λ j h. cell-within (rowAt s j) 0 (column s j) (subst (λ p. T (not (isZero p))) (entry-cell (rowAt s j) (column s j)) (t .pivots j (omega arith) .diagonal)))
+    (λ j h. cell-within (rowAt s j) 0 (column s j)
+    (subst (λ p. T (not (isZero p))) (entry-cell (rowAt s j) (column s j)) (t .pivots j (omega arith) .diagonal)))
 
 -- Each shift lowers the total width, which begins at m × (D + 1) or less and ends at m or more.
 pub shift-bound : (side : Side) (D k : ℕ) (rows : List Row) (relations : List Relation) (s : State) → All (λ r. width r ≤ suc D) rows
@@ -320,4 +337,5 @@ wholeRun-shifts trailing D rows relations s narrow e =
     (shift-bound trailing D (enough rows) (map (mirrorRow D) rows) (map (mirrorRelation D) relations) u mirrored f))
   where
     mirrored : All (λ r. width r ≤ suc D) (map (mirrorRow D) rows)
-    mirrored = map-all (λ r. width r ≤ suc D) (mirrorRow D) rows (all-mono (λ r. width r ≤ suc D) (λ r. width (mirrorRow D r) ≤ suc D) (width-mirrorRow D) rows narrow)
+    mirrored = map-all (λ r. width r ≤ suc D) (mirrorRow D) rows
+        (all-mono (λ r. width r ≤ suc D) (λ r. width (mirrorRow D r) ≤ suc D) (width-mirrorRow D) rows narrow)
