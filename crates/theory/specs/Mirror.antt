@@ -31,21 +31,22 @@ use lib.IntN.{+ℤ-invr, negℤ-negℤ, negℤ-+ℤ, predℤ-+ℤ, suc-pred, -�
 use lib.Signed.{_≤ℤ_, leZ, leZ-yes}
 use Rattle.algebra.specs.Integers.{+ℤ-left-comm, natAbs-negℤ}
 use Rattle.algebra.specs.Order.{≤ℤ-difference, negℤ-≤ℤ, pos-≤ℤ, pos-natAbs-nonneg}
-use Rattle.algebra.specs.Sums.{sumBelow-congr, sumBelow-reverse}
+use Rattle.algebra.specs.Sums.{sum-congr, sumBelow-congr, sumBelow-reverse}
 use Rattle.algebra.specs.Polynomials.{Polynomial, eval, isZero, negate, mirror, mirror-mirror, isZero-mirror, eval-mirror, T-&&}
 use Rattle.rules.specs.Limits.{bound, coefficientCount, columnCount, blockCount, blockBound, small}
 use Rattle.rules.specs.Rows.{Block, Row, Relation, noRow, All, every, mapRow, coefficientsOf, smallRow, zeroBlock, leadingBlock, entry}
 use Rattle.rules.specs.Rows.{mirrorRow, mirrorRelation}
 use Rattle.rules.specs.Elimination.{Side, leading, trailing, State, mirrorState, diagonalPlace, diagonal}
 use Rattle.rules.specs.Stores.{Sizes, span, sizesRight, countRight, unusedZero, rowRight, relationRight, Shaped, StoreRow, Valid}
-use Rattle.rules.specs.Sequences.{Sequence, blockValue, blocksValue, valueOf, SatisfiesEquation, SatisfiesRelation, Satisfies, Dependent}
+use Rattle.rules.specs.Sequences.{Sequence, blockValue, blocksValue, valueOf, SatisfiesEquation, SatisfiesRelation, Satisfies}
+use Rattle.rules.specs.Sequences.{shiftsWithin, Dependent}
 use Rattle.theory.specs.Lists.{all-always, all-mono, all-both, all-take, all-drop, append-all, reverse-all, map-all, map-drop}
 use Rattle.theory.specs.Lists.{all-getD, all-flatten, every-all}
 use Rattle.theory.specs.Shapes.{mirrorRow-shaped}
 use Rattle.theory.specs.Values.{blocks-same, blocks-append-zero, index-below}
 use Rattle.theory.specs.Limits.{unusedZero-iff, mapRow-unused}
 use Rattle.theory.specs.BackSubstitution.{move-right}
-use Rattle.theory.specs.Combinations.{sumWithin, sumWithin-below, sumWithin-congr, cancel-common}
+use Rattle.theory.specs.Combinations.{sumWithin, sumWithin-below, cancel-common}
 use Rattle.theory.specs.Combinations.{Values, copies, combinationValue, DependentValues}
 use Rattle.theory.specs.Dependence.{rowValues, dependent-values}
 
@@ -635,9 +636,9 @@ module _ (m : ℕ) (E E' : Values) (mirrored : (z : Sequence) (i : ℕ) (n : ℤ
 
   copies-mirror : (N : ℕ) (S : ℕ → ℤ → Polynomial) (z : Sequence) (x : ℤ) (i : ℕ) → i < m
       → copies E' N (mirrorMultipliers S) z x i ≡ copies E N S (reflect z) (negℤ x) i
-  unfolding copies mirrorMultipliers
+  unfolding copies mirrorMultipliers sumWithin
   copies-mirror N S z x i h =
-      sumWithin-congr N (λ k. eval (mirror (S i (negℤ k))) x *ℤ E' z i (x +ℤ k)) (λ k. f (negℤ k)) (λ k p. one k) ∙ sumWithin-reflect N f
+      sum-congr (λ k. eval (mirror (S i (negℤ k))) x *ℤ E' z i (x +ℤ k)) (λ k. f (negℤ k)) one (shiftsWithin N) ∙ sumWithin-reflect N f
     where
       f : ℤ → ℤ
       f k = eval (S i k) (negℤ x) *ℤ E (reflect z) i (negℤ x +ℤ k)
