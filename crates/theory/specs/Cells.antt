@@ -10,25 +10,31 @@
 --   cell-shiftUp               a shift moves the zero cells up by one block
 --   width-le                   the width is at most n exactly if every cell from place n on is zero
 --   width-combine, width-primitive, width-cut, width-shiftUp   the widths of changed rows
+--   width-unused, width-mirrorRow   unused blocks are zero, also after the mirror
 --   width-positive, cell-within   a nonzero row has a positive width, and its nonzero cells stand within it
-use Prim.Native.Nat.{ℕ, zero, suc, _-_, _≤_, _<_, zero-le}
+use Prim.Native.Nat.{ℕ, zero, suc, _+_, _-_, _≤_, _<_, zero-le}
 use mathlib.Core.Path.{_≡_, refl, sym, _∙_, ap, subst}
 use mathlib.Core.Logic.{_⊎_, inl, inr, _↔_}
 use mathlib.Core.Bool.{Bool, true, false, not, _&&_, cond}
-use mathlib.Core.List.{List, [], _∷_, _++_, map, tail, zipWith}
-use native.Mathlib.Nat.{suc-le-suc-iff, not-suc-le-zero, le-refl}
+use mathlib.Core.List.{List, [], _∷_, _++_, map, reverse, tail, zipWith}
+use native.Mathlib.Nat.{suc-le-suc-iff, not-suc-le-zero, le-refl, add-sub-of-le}
+use native.Mathlib.Decide.{decLe}
 use native.Mathlib.Omega.{arith}
 use lib.Dec.{T, T-not, eqb, eqb→eq, eqb·suc-zero}
-use lib.Ieee.Fits.{and-i, and-l}
-use lib.IntN.{pos, natAbs}
-use lib.ListN.{length, getD, take, drop, take-append-drop, List·getD-map, List·getD-eq-default}
+use lib.Ieee.Fits.{and-i, and-l, and-r}
+use lib.IntN.{natAbs}
+use lib.ListN.{length, getD, take, drop, take-append-drop, length-append, length-reverse, List·getD-map, List·getD-eq-default}
+use lib.Seq.{getD-drop, getD-append-add, length-take-le}
 use Rattle.algebra.specs.Integers.{natAbs-zero}
 use Rattle.algebra.specs.Gcd.{divideBy, divideBy-le}
-use Rattle.algebra.specs.Polynomials.{Polynomial, coeff, isZero, isZero-iff, isZero-append, add, mul, shift, isZero-shift, isZero-add, isZero-mul-right}
+use Rattle.algebra.specs.Polynomials.{Polynomial, coeff, isZero, isZero-iff, isZero-append, add, mul, shift, mirror, isZero-shift, isZero-mirror, isZero-add, isZero-mul-right}
 use Rattle.rules.specs.Limits.{coefficientCount}
-use Rattle.rules.specs.Rows.{Block, Row, every, mapRow, zeroBlock, zeroRow, widthOf, width, leadingBlock, entry, combine, primitive, cut, blank, shiftUp}
+use Rattle.rules.specs.Rows.{Block, Row, every, mapRow, zeroBlock, zeroRow, widthOf, width, leadingBlock, entry, combine, primitive, cut, blank, shiftUp, mirrorRow}
+use Rattle.rules.specs.Stores.{unusedZero}
+use Rattle.theory.specs.Lists.{all-getD-default, all-of-every}
 use Rattle.theory.specs.Steps.{zeroBlock-all, zeroBlock-at}
 use Rattle.theory.specs.Shapes.{primitive-divides}
+use Rattle.theory.specs.Values.{blank-zero}
 
 abbrev cellOf : List Block → ℕ → ℕ → Polynomial
 cellOf bs i c = getD (getD bs i []) c []
@@ -83,7 +89,8 @@ combine-zero g h r q i c p e = go (cell-combine g h r q i c)
   where
     go : (cell (combine g h r q) i c ≡ add (mul g (cell r i c)) (mul h (cell q i c))) ⊎ (cell (combine g h r q) i c ≡ [])
         → T (isZero (cell (combine g h r q) i c))
-    go (inl f) = rw f (isZero-add (mul g (cell r i c)) (mul h (cell q i c)) (isZero-mul-right g (cell r i c) p) (isZero-mul-right h (cell q i c) e))
+    go (inl f) = rw f (isZero-add (mul g (cell r i c)) (mul h (cell q i c))
+        (isZero-mul-right g (cell r i c) p) (isZero-mul-right h (cell q i c) e))
     go (inr f) = rw f tt
 
 -- What makes zero polynomials of zero polynomials keeps the zero cells.
@@ -124,14 +131,6 @@ append-zero [] z h zero c = passed (isZero (getD z c [])) (zeroBlock-at z h c)
 append-zero [] z h (suc i) c = refl
 append-zero (b ∷ bs) z h zero c = refl
 append-zero (b ∷ bs) z h (suc i) c = append-zero bs z h i c
-
-blank-zero : (b : Block) → T (zeroBlock (blank b))
-unfolding blank isZero
-blank-zero b = zeroBlock-all (blank b) (λ k. rw (List·getD-map (map (λ _. pos 0)) b k []) (zeros (getD b k [])))
-  where
-    zeros : (p : Polynomial) → T (isZero (map (λ _. pos 0) p))
-    zeros [] = tt
-    zeros (a ∷ p) = zeros p
 
 -- The blocks move up by one.
 pub cell-shiftUp : (r : Row) (i c : ℕ) → isZero (cell (shiftUp r) i c) ≡ isZero (cell r (suc i) c)
@@ -248,3 +247,51 @@ cell-within r i c h = not-le (λ k. T-not (isZero (cell r i c)) h (width-le r i 
   where
     not-le : ¬ (width r ≤ i) → i < width r
     not-le n = omega arith
+
+-- ---- the blocks in use
+
+-- "Positions outside the system's blocks and columns hold 0."
+pub width-unused : (m D : ℕ) (r : Row) → T (unusedZero m D r) → width r ≤ suc D
+unfolding unusedZero zeroBlock
+width-unused m D r h = width-le r (suc D) .1 (λ i c k. zeroBlock-at (getD (r .blocks) i []) (below i k) c)
+  where
+    rest : T (every zeroBlock (drop (suc D) (r .blocks)))
+    rest = and-r (every (λ b. zeroBlock (drop m b)) (r .blocks)) (every zeroBlock (drop (suc D) (r .blocks))) h
+
+    below : (i : ℕ) → suc D ≤ i → T (zeroBlock (getD (r .blocks) i []))
+    below i k =
+        subst (λ n. T (zeroBlock (getD (r .blocks) n []))) (add-sub-of-le k)
+        (subst (λ b. T (zeroBlock b)) (getD-drop (suc D) (r .blocks) (i - suc D) [])
+        (all-getD-default (λ b. T (zeroBlock b)) (drop (suc D) (r .blocks)) [] (i - suc D) tt
+        (all-of-every zeroBlock (drop (suc D) (r .blocks)) rest)))
+
+-- Turned round in its first n members, a list is as before from place n on.
+turned-rest : (n : ℕ) (bs : List Block) (i : ℕ) → n ≤ i → getD (reverse (take n bs) ++ drop n bs) i [] ≡ getD bs i []
+turned-rest n bs i h = cases (decLe n (length bs))
+  where
+    front : List Block
+    front = reverse (take n bs)
+
+    size : length (front ++ drop n bs) ≡ length bs
+    size =
+        length-append front (drop n bs) ∙ ap (λ k. k + length (drop n bs)) (length-reverse (take n bs))
+        ∙ sym (length-append (take n bs) (drop n bs)) ∙ ap length (take-append-drop n bs)
+
+    cases : Dec (n ≤ length bs) → getD (front ++ drop n bs) i [] ≡ getD bs i []
+    cases (yes k) =
+        ap (λ p. getD (front ++ drop n bs) p [])
+        (sym (ap (λ a. a + (i - n)) (length-reverse (take n bs) ∙ length-take-le n bs k) ∙ add-sub-of-le h))
+        ∙ getD-append-add front (drop n bs) (i - n) [] ∙ getD-drop n bs (i - n) [] ∙ ap (λ p. getD bs p []) (add-sub-of-le h)
+    cases (no k) = List·getD-eq-default (front ++ drop n bs) [] (omega (arith, size)) ∙ sym (List·getD-eq-default bs [] (omega arith))
+
+-- The mirror moves only the blocks in use.
+pub width-mirrorRow : (D : ℕ) (r : Row) → width r ≤ suc D → width (mirrorRow D r) ≤ suc D
+unfolding mirrorRow mirror
+width-mirrorRow D r h = width-le (mirrorRow D r) (suc D) .1 kept
+  where
+    turned : Row
+    turned = record { blocks = reverse (take (suc D) (r .blocks)) ++ drop (suc D) (r .blocks) }
+
+    kept : ZeroFrom (suc D) (mapRow mirror turned)
+    kept i c k = rw (cell-mapRow mirror refl turned i c, isZero-mirror (cell turned i c))
+        (subst (λ b. T (isZero (getD b c []))) (sym (turned-rest (suc D) (r .blocks) i k)) (width-le r (suc D) .0 h i c k))

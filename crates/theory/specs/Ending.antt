@@ -1,1 +1,341 @@
--- Ending
+-- Every run ends: the fuel suffices, and an accepted run makes at most m × D shifts.
+--
+-- Main definitions
+--   totalWidth rows       the sum of the widths
+--   measure s z           falls at each step, z being a number of settled rows that the current row is known not to meet
+--
+-- Main statements
+--   stepped-width         the shifts made and the total width together never rise
+--   stepped-measure, chain-measure   the measure falls at each step, so it bounds the number of steps
+--   run-ends, enough-ends, wholeRun-ends   a run with enough fuel is not still going at its end
+--   shift-bound, wholeRun-shifts           "there are at most m × D shifts"
+use Prim.Native.Nat.{ℕ, zero, suc, _+_, _*_, _-_, _≤_, _<_, zero-le}
+use mathlib.Core.Path.{_≡_, refl, sym, _∙_, ap, ap₂, subst}
+use mathlib.Core.Logic.{_≢_}
+use mathlib.Core.Bool.{not}
+use mathlib.Core.List.{List, [], _∷_, _++_, map}
+use native.Mathlib.Nat.{not-suc-le-zero, zero-add, le-of-eq, suc-le-suc-iff, le-refl, le-trans, suc-mul, mul-suc, mul-le-mul-left}
+use native.Mathlib.Numerals.{add-one}
+use native.Mathlib.Omega.{arith}
+use lib.Dec.{T, T-not}
+use lib.ListN.{length, getD, set, length-append, length-set, length-map}
+use Rattle.algebra.specs.Polynomials.{isZero}
+use Rattle.rules.specs.Limits.{blockCount, columnCount, coefficientCount}
+use Rattle.rules.specs.Rows.{Row, Relation, noRow, All, zeroRow, width, shiftUp, mirrorRow, mirrorRelation}
+use Rattle.rules.specs.Elimination.{Side, leading, trailing, State, start, Outcome, going, done, refused, within, limitDegrees, limitCoefficients}
+use Rattle.rules.specs.Elimination.{rowAt, putRow, listRelations, settle, countShift, exchange, narrowFirst}
+use Rattle.rules.specs.Elimination.{run, enough, leadingRun, mirrorState, mirrorOutcome, trailingRun, wholeRun}
+use Rattle.rules.specs.Stores.{Shaped, StoreRow}
+use Rattle.theory.specs.Lists.{all-mono, map-all, getD-all}
+use Rattle.theory.specs.Shapes.{mirrorRow-shaped}
+use Rattle.theory.specs.Cells.{width-combine, width-primitive, width-cut, width-shiftUp, width-positive, width-le-length, width-mirrorRow, cell-within, entry-cell}
+use Rattle.theory.specs.Steps.{current, met, MetZeroBelow, exchanged, listed, combination, multipliersFor, Stepped, combined, settled, shifted, Chain, here, next}
+use Rattle.theory.specs.Steps.{Narrowed, narrowed, kept, swapped, narrowFirst-width, length-narrowFirst, shifts-narrowFirst, rowAt-putRow-other, length-putRow, listed-order, stepped-length, run-going, run-done, going≢done, going≢refused, done≢refused, done-injective, chain-length, limitDegrees-within, limitCoefficients-within}
+use Rattle.theory.specs.Triangular.{Triangular, triangular-start, triangular-chain, column, combined-advances}
+
+unfoldable pub totalWidth : List Row → ℕ
+totalWidth [] = 0
+totalWidth (r ∷ l) = width r + totalWidth l
+
+-- ---- the total width
+
+-- One row put in the place of another.
+pub totalWidth-set : (l : List Row) (i : ℕ) (r : Row) → i < length l
+    → totalWidth (set l i r) + width (getD l i noRow) ≡ totalWidth l + width r
+unfolding totalWidth
+totalWidth-set [] i r h = absurd (not-suc-le-zero h)
+totalWidth-set (q ∷ l) zero r h = omega arith
+totalWidth-set (q ∷ l) (suc i) r h = step (totalWidth-set l i r (suc-le-suc-iff .0 h))
+  where
+    step : totalWidth (set l i r) + width (getD l i noRow) ≡ totalWidth l + width r
+        → width q + totalWidth (set l i r) + width (getD l i noRow) ≡ width q + totalWidth l + width r
+    step e = omega arith
+
+pub totalWidth-bound : (b : ℕ) (l : List Row) → All (λ r. width r ≤ b) l → totalWidth l ≤ length l * b
+unfolding totalWidth All
+totalWidth-bound b [] h = zero-le
+totalWidth-bound b (r ∷ l) h = step (width r) (h .0) (totalWidth-bound b l (h .1))
+  where
+    step : (w : ℕ) {t : ℕ} → w ≤ b → t ≤ length l * b → w + t ≤ suc (length l) * b
+    step w u v = rw (suc-mul (length l) b) (omega arith)
+
+-- Rows that are not zero have a block each.
+pub totalWidth-rows : (l : List Row) → All (λ r. 0 < width r) l → length l ≤ totalWidth l
+unfolding totalWidth All
+totalWidth-rows [] h = zero-le
+totalWidth-rows (r ∷ l) h = step (width r) (h .0) (totalWidth-rows l (h .1))
+  where
+    step : (w : ℕ) {n t : ℕ} → 0 < w → n ≤ t → suc n ≤ w + t
+    step w u v = omega arith
+
+totalWidth-putRow : (s : State) (i : ℕ) (r : Row) → i < length (s .rows)
+    → totalWidth (putRow s i r .rows) + width (rowAt s i) ≡ totalWidth (s .rows) + width r
+unfolding putRow rowAt
+totalWidth-putRow s i r h = totalWidth-set (s .rows) i r h
+
+module _ (s : State) (i j : ℕ) (below-i : i < length (s .rows)) (below-j : j < length (s .rows)) (other : i ≢ j) where
+  totalWidth-exchange : totalWidth (exchange s i j .rows) ≡ totalWidth (s .rows)
+  unfolding exchange
+  totalWidth-exchange =
+      let first : State = putRow s j (rowAt s i) in
+      omega (
+        arith,
+        totalWidth-putRow s j (rowAt s i) below-j,
+        totalWidth-putRow first i (rowAt s j) (rw (length-putRow s j (rowAt s i)) below-i),
+        ap width (rowAt-putRow-other s j i (rowAt s i) other),
+      )
+
+  totalWidth-narrowFirst : totalWidth (narrowFirst s i j .rows) ≡ totalWidth (s .rows)
+  totalWidth-narrowFirst = go (narrowed s i j)
+    where
+      go : {e : State} → Narrowed s i j e → totalWidth (e .rows) ≡ totalWidth (s .rows)
+      go (kept w) = refl
+      go (swapped w) = totalWidth-exchange
+
+-- ---- the rows that a step makes
+
+module _ (s : State) (j : ℕ) (below : j < current s) (more : current s < length (s .rows)) where
+  combined-width : (r : Row) → limitDegrees (combination s j) ≡ within r → width r ≤ width (rowAt (exchanged s j) (current s))
+  combined-width r e = rw (limitDegrees-within (combination s j) r e .2)
+      (le-trans (width-cut (combination s j)) (le-trans (width-primitive _)
+      (width-combine (multipliersFor s j .g) (multipliersFor s j .h) (rowAt (exchanged s j) (current s)) (rowAt (exchanged s j) j)
+      (narrowFirst-width s (current s) j more (omega arith)))))
+
+  -- A combination makes no row wider.
+  combined-total : (side : Side) (r : Row) → limitDegrees (combination s j) ≡ within r
+      → totalWidth (putRow (listed side s j) (current s) r .rows) ≤ totalWidth (s .rows)
+  unfolding putRow listRelations rowAt
+  combined-total side r e =
+      omega (
+        arith,
+        totalWidth-set (exchanged s j .rows) (current s) r (omega (arith, length-narrowFirst s (current s) j)),
+        combined-width r e,
+        totalWidth-narrowFirst s (current s) j more (omega arith) (omega arith),
+      )
+
+-- A shift makes its row one block narrower.
+shifted-total : (s : State) (r : Row) → current s < length (s .rows) → T (not (zeroRow (rowAt s (current s))))
+    → limitCoefficients (shiftUp (rowAt s (current s))) ≡ within r
+    → suc (totalWidth (putRow (countShift s) (current s) r .rows)) ≡ totalWidth (s .rows)
+unfolding putRow countShift rowAt
+shifted-total s r more nonzero e =
+    omega (
+      arith,
+      totalWidth-set (s .rows) (current s) r more,
+      width-shiftUp (rowAt s (current s)) (width-positive (rowAt s (current s)) nonzero),
+      ap width (limitCoefficients-within (shiftUp (rowAt s (current s))) r e .1),
+    )
+
+combined-shifts : (side : Side) (s : State) (j : ℕ) (r : Row) → putRow (listed side s j) (current s) r .shifts ≡ s .shifts
+unfolding putRow listRelations
+combined-shifts side s j r = shifts-narrowFirst s (current s) j
+
+combined-order : (side : Side) (s : State) (j : ℕ) (r : Row) → putRow (listed side s j) (current s) r .order ≡ s .order
+unfolding putRow
+combined-order side s j r = listed-order side s j
+
+shifted-shifts : (s : State) (r : Row) → putRow (countShift s) (current s) r .shifts ≡ suc (s .shifts)
+unfolding putRow countShift
+shifted-shifts s r = refl
+
+pub stepped-width : {side : Side} {s s' : State} → Stepped side s s' → s' .shifts + totalWidth (s' .rows) ≤ s .shifts + totalWidth (s .rows)
+unfolding settle
+stepped-width {side} {s} (combined j below more nonzero clear meets few r e) =
+    omega (arith, combined-shifts side s j r, combined-total s j below more side r e)
+stepped-width {s} (settled c more nonzero clear e) = le-refl (s .shifts + totalWidth (s .rows))
+stepped-width {s} (shifted r more nonzero clear f e) = omega (arith, shifted-shifts s r, shifted-total s r more nonzero e)
+
+pub chain-width : {side : Side} {s s' : State} {k : ℕ} → Chain side s k s'
+    → s' .shifts + totalWidth (s' .rows) ≤ s .shifts + totalWidth (s .rows)
+chain-width {s} here = le-refl (s .shifts + totalWidth (s .rows))
+chain-width (next c t) = le-trans (stepped-width t) (chain-width c)
+
+-- ---- the measure
+
+-- Rows to settle and blocks to lose, each worth a combination with every settled row; then the settled rows still to be met.
+unfoldable pub measure : State → ℕ → ℕ
+measure s z = suc (length (s .rows)) * (length (s .rows) - current s + totalWidth (s .rows)) + (current s - z)
+
+-- A combination leaves the rows to settle as they are, and one settled row fewer is to be met.
+further-falls : (s u : State) (z j : ℕ) → length (u .rows) ≡ length (s .rows) → current u ≡ current s
+    → totalWidth (u .rows) ≤ totalWidth (s .rows) → z ≤ j → j < current s → measure u (suc j) < measure s z
+unfolding measure
+further-falls s u z j size same no-wider first below =
+    subst (λ n. n < measure s z) (sym (ap₂ (λ n v. suc n * (n - v + totalWidth (u .rows)) + (v - suc j)) size same))
+    (omega (arith, mul-le-mul-left (suc (length (s .rows))) fewer))
+  where
+    fewer : length (s .rows) - current s + totalWidth (u .rows) ≤ length (s .rows) - current s + totalWidth (s .rows)
+    fewer = omega arith
+
+-- One row or one block fewer pays for meeting every settled row again.
+fewer-falls : (s u : State) (z : ℕ) → length (u .rows) ≡ length (s .rows) → current u ≤ length (s .rows)
+    → length (s .rows) - current s + totalWidth (s .rows) ≡ suc (length (s .rows) - current u + totalWidth (u .rows))
+    → measure u 0 < measure s z
+unfolding measure
+fewer-falls s u z size fits one-less =
+    subst (λ n. n < measure s z) (sym (ap (λ n. suc n * (n - current u + totalWidth (u .rows)) + (current u - 0)) size))
+    (omega (
+      arith,
+      ap (λ n. suc (length (s .rows)) * n) one-less,
+      mul-suc (suc (length (s .rows))) (length (s .rows) - current u + totalWidth (u .rows)),
+    ))
+
+nothing-met : (s : State) → MetZeroBelow s 0
+nothing-met s k h = absurd (not-suc-le-zero h)
+
+settled-falls : (s : State) (c z : ℕ) → current s < length (s .rows) → measure (settle s c) 0 < measure s z
+unfolding settle
+settled-falls s c z more = fewer-falls s (settle s c) z refl (omega (arith, size)) (omega (arith, size))
+  where
+    size : length (s .order ++ (c ∷ [])) ≡ suc (current s)
+    size = length-append (s .order) (c ∷ []) ∙ add-one (current s)
+
+shifted-falls : (s : State) (r : Row) (z : ℕ) → current s < length (s .rows)
+    → suc (totalWidth (putRow (countShift s) (current s) r .rows)) ≡ totalWidth (s .rows)
+    → measure (putRow (countShift s) (current s) r) 0 < measure s z
+unfolding putRow countShift
+shifted-falls s r z more narrower =
+    fewer-falls s (putRow (countShift s) (current s) r) z (length-set (s .rows) (current s) r) (omega arith) (omega arith)
+
+pub stepped-measure : {side : Side} {s s' : State} → Stepped side s s' → Triangular s → (z : ℕ) → MetZeroBelow s z
+    → (z' : ℕ) × MetZeroBelow s' z' × (measure s' z' < measure s z)
+stepped-measure {side} {s} (combined j below more nonzero clear meets few r e) t z known = (
+  suc j,
+  combined-advances s j t below more clear meets side r e,
+  further-falls s (putRow (listed side s j) (current s) r) z j
+      (stepped-length {side = side} (combined j below more nonzero clear meets few r e))
+      (ap length (combined-order side s j r)) (combined-total s j below more side r e)
+      (first (λ b. T-not (isZero (met s j)) meets (known j b))) below,
+)
+  where
+    first : ¬ (j < z) → z ≤ j
+    first n = omega arith
+stepped-measure {s} (settled c more nonzero clear e) t z known = (0, nothing-met (settle s c), settled-falls s c z more)
+stepped-measure {s} (shifted r more nonzero clear f e) t z known =
+    (0, nothing-met (putRow (countShift s) (current s) r), shifted-falls s r z more (shifted-total s r more nonzero e))
+
+-- So the measure bounds the number of steps.
+pub chain-measure : {side : Side} {s s' : State} {k : ℕ} → Chain side s k s' → Triangular s → (z : ℕ) → MetZeroBelow s z
+    → (z' : ℕ) × MetZeroBelow s' z' × (k + measure s' z' ≤ measure s z)
+chain-measure {s} here t z known = (z, known, le-of-eq (zero-add (measure s z)))
+chain-measure {s} (next {k} {u} {v} c step) t z known = go (chain-measure c t z known)
+  where
+    go : (x : ℕ) × MetZeroBelow u x × (k + measure u x ≤ measure s z) → (x : ℕ) × MetZeroBelow v x × (suc k + measure v x ≤ measure s z)
+    go (x, clear, bound) =
+        let (y, cleared, falls) = stepped-measure step (triangular-chain c t) x clear in
+        (y, cleared, omega arith)
+
+-- ---- the fuel suffices
+
+measure-start : (b : ℕ) (rows : List Row) (relations : List Relation) → All (λ r. width r ≤ b) rows
+    → measure (start rows relations) 0 ≤ suc (length rows) * (length rows + length rows * b)
+unfolding measure start
+measure-start b rows relations narrow = omega (arith, mul-le-mul-left (suc (length rows)) fewer)
+  where
+    fewer : length rows - 0 + totalWidth rows ≤ length rows + length rows * b
+    fewer = omega (arith, totalWidth-bound b rows narrow)
+
+pub run-ends : (side : Side) (b k : ℕ) (rows : List Row) (relations : List Relation) (s : State) → All (λ r. width r ≤ b) rows
+    → suc (length rows) * (length rows + length rows * b) < k → run side k (start rows relations) ≢ going s
+run-ends side b k rows relations s narrow fuel e =
+    let chain = run-going side k (start rows relations) s e in
+    let (z, clear, bound) = chain-measure chain (triangular-start rows relations) 0 (nothing-met (start rows relations)) in
+    absurd (omega (arith, measure-start b rows relations narrow))
+
+-- No row is wider than its number of blocks, which is the same for every row.
+widths-within : (b : ℕ) (rows others : List Row) → length others ≡ length rows → All (λ r. length (r .blocks) ≡ b) rows
+    → All (λ r. length (r .blocks) ≡ b) others → All (λ r. width r ≤ length (getD rows 0 noRow .blocks)) others
+unfolding All
+widths-within b [] [] size h k = tt
+widths-within b [] (r ∷ others) size h k = absurd (omega arith)
+widths-within b (q ∷ rows) others size h k =
+    all-mono (λ r. length (r .blocks) ≡ b) (λ r. width r ≤ length (q .blocks)) within-first others k
+  where
+    within-first : (r : Row) → length (r .blocks) ≡ b → width r ≤ length (q .blocks)
+    within-first r e = omega (arith, width-le-length r, h .0)
+
+pub enough-ends : (side : Side) (b : ℕ) (rows others : List Row) (relations : List Relation) (s : State) → length others ≡ length rows
+    → All (λ r. length (r .blocks) ≡ b) rows → All (λ r. length (r .blocks) ≡ b) others
+    → run side (enough rows) (start others relations) ≢ going s
+unfolding enough
+enough-ends side b rows others relations s size h k =
+    run-ends side (length (getD rows 0 noRow .blocks)) (enough rows) others relations s (widths-within b rows others size h k)
+    (subst (λ m. suc m * (m + m * length (getD rows 0 noRow .blocks)) < enough rows) (sym size) (le-refl (enough rows)))
+
+store-blocks : (rows : List Row) → All StoreRow rows → All (λ r. length (r .blocks) ≡ blockCount) rows
+unfolding Shaped
+store-blocks rows h = all-mono StoreRow (λ r. length (r .blocks) ≡ blockCount) (λ r k. k .0) rows h
+
+pub leadingRun-ends : (rows : List Row) (relations : List Relation) (s : State) → All StoreRow rows → leadingRun rows relations ≢ going s
+unfolding leadingRun
+leadingRun-ends rows relations s h = enough-ends leading blockCount rows rows relations s refl (store-blocks rows h) (store-blocks rows h)
+
+mirrorOutcome-going : (D : ℕ) (o : Outcome) (s : State) → mirrorOutcome D o ≡ going s → (u : State) × (o ≡ going u)
+unfolding mirrorOutcome
+mirrorOutcome-going D (going u) s e = (u, refl)
+mirrorOutcome-going D (done u) s e = absurd (going≢done (sym e))
+mirrorOutcome-going D (refused n) s e = absurd (going≢refused (sym e))
+
+pub trailingRun-ends : (D : ℕ) (rows : List Row) (relations : List Relation) (s : State) → All StoreRow rows
+    → trailingRun D rows relations ≢ going s
+unfolding trailingRun mirrorState start
+trailingRun-ends D rows relations s h e =
+    let (u, f) = mirrorOutcome-going D (run trailing (enough rows) (mirrorState D (start rows relations))) s e in
+    enough-ends trailing blockCount rows (map (mirrorRow D) rows) (map (mirrorRelation D) relations) u (length-map rows (mirrorRow D))
+    (store-blocks rows h) (store-blocks (map (mirrorRow D) rows) mirrored) f
+  where
+    mirrored : All StoreRow (map (mirrorRow D) rows)
+    mirrored = map-all StoreRow (mirrorRow D) rows
+        (all-mono StoreRow (λ r. StoreRow (mirrorRow D r)) (mirrorRow-shaped blockCount columnCount coefficientCount D) rows h)
+
+-- Every whole run accepts or refuses.
+pub wholeRun-ends : (side : Side) (D : ℕ) (rows : List Row) (relations : List Relation) (s : State) → All StoreRow rows
+    → wholeRun side D rows relations ≢ going s
+unfolding wholeRun
+wholeRun-ends leading D rows relations s h = leadingRun-ends rows relations s h
+wholeRun-ends trailing D rows relations s h = trailingRun-ends D rows relations s h
+
+-- ---- the number of shifts
+
+-- The rows of an accepted run are settled, so none is zero.
+settled-widths : (s : State) → Triangular s → length (s .rows) ≤ current s → All (λ r. 0 < width r) (s .rows)
+unfolding rowAt
+settled-widths s t all = getD-all (λ r. 0 < width r) (s .rows) noRow
+    (λ j h. cell-within (rowAt s j) 0 (column s j)
+    (subst (λ p. T (not (isZero p))) (entry-cell (rowAt s j) (column s j)) (t .pivots j (omega arith) .diagonal)))
+
+-- Each shift lowers the total width, which begins at m × (D + 1) or less and ends at m or more.
+pub shift-bound : (side : Side) (D k : ℕ) (rows : List Row) (relations : List Relation) (s : State) → All (λ r. width r ≤ suc D) rows
+    → run side k (start rows relations) ≡ done s → s .shifts ≤ length rows * D
+unfolding start
+shift-bound side D k rows relations s narrow e =
+    let (j, chain, all) = run-done side k (start rows relations) s e in
+    let t : Triangular s = triangular-chain chain (triangular-start rows relations) in
+    omega (
+      arith,
+      chain-width chain,
+      chain-length chain,
+      totalWidth-bound (suc D) rows narrow,
+      totalWidth-rows (s .rows) (settled-widths s t all),
+      mul-suc (length rows) D,
+    )
+
+mirrorOutcome-done : (D : ℕ) (o : Outcome) (s : State) → mirrorOutcome D o ≡ done s → (u : State) × (o ≡ done u) × (mirrorState D u ≡ s)
+unfolding mirrorOutcome
+mirrorOutcome-done D (going u) s e = absurd (going≢done e)
+mirrorOutcome-done D (done u) s e = (u, refl, done-injective e)
+mirrorOutcome-done D (refused n) s e = absurd (done≢refused (sym e))
+
+pub wholeRun-shifts : (side : Side) (D : ℕ) (rows : List Row) (relations : List Relation) (s : State) → All (λ r. width r ≤ suc D) rows
+    → wholeRun side D rows relations ≡ done s → s .shifts ≤ length rows * D
+unfolding wholeRun leadingRun trailingRun mirrorState start
+wholeRun-shifts leading D rows relations s narrow e = shift-bound leading D (enough rows) rows relations s narrow e
+wholeRun-shifts trailing D rows relations s narrow e =
+    let (u, f, same) = mirrorOutcome-done D (run trailing (enough rows) (mirrorState D (start rows relations))) s e in
+    subst (λ x. x .shifts ≤ length rows * D) same
+    (subst (λ n. u .shifts ≤ n * D) (length-map rows (mirrorRow D))
+    (shift-bound trailing D (enough rows) (map (mirrorRow D) rows) (map (mirrorRelation D) relations) u mirrored f))
+  where
+    mirrored : All (λ r. width r ≤ suc D) (map (mirrorRow D) rows)
+    mirrored = map-all (λ r. width r ≤ suc D) (mirrorRow D) rows
+        (all-mono (λ r. width r ≤ suc D) (λ r. width (mirrorRow D r) ≤ suc D) (width-mirrorRow D) rows narrow)

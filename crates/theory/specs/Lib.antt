@@ -13,3 +13,4 @@ pub mod Dependence
 pub mod BackSubstitution
 pub mod Mirror
 pub mod Report
+pub mod Agreement

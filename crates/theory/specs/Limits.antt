@@ -20,18 +20,24 @@ use lib.ListN.{length, take, drop, getD, set, take-append-drop}
 use lib.IntN.{ℤ, pos, natAbs, ℤ-discrete}
 use lib.Signed.{quotZ}
 use Rattle.algebra.specs.Gcd.{divideBy, divideBy-getD}
-use Rattle.algebra.specs.Polynomials.{Polynomial, coeff, isZero, lowest, add, mul, shift, T-&&, isZero-cons, isZero-coeff, coeff-isZero, isZero-append, isZero-add, isZero-mul-right, isZero-shift}
+use Rattle.algebra.specs.Polynomials.{Polynomial, coeff, isZero, lowest, add, mul, shift, T-&&, isZero-cons, isZero-coeff}
+use Rattle.algebra.specs.Polynomials.{coeff-isZero, isZero-append, isZero-add, isZero-mul-right, isZero-shift}
 use Rattle.algebra.specs.Coefficients.{lowest-place}
 use Rattle.algebra.specs.Vanishing.{root-divides-lowest, lowest-positive}
 use Rattle.algebra.specs.Roots.{roots, isConstant, roots-sound}
 use Rattle.rules.specs.Limits.{bound, coefficientCount, mostRelations, small}
-use Rattle.rules.specs.Rows.{Block, Row, Relation, noRow, All, every, mapRow, coefficientsOf, zeroBlock, leadingBlock, entry, combine, primitive, cut, smallRow, blank, shiftUp}
-use Rattle.rules.specs.Elimination.{Side, State, start, within, limitDegrees, limitCoefficients, rowAt, putRow, listRelations, settle, countShift, rootRelations, multipliersAt}
+use Rattle.rules.specs.Rows.{Block, Row, Relation, noRow, All, every, mapRow, coefficientsOf, zeroBlock, leadingBlock, entry}
+use Rattle.rules.specs.Rows.{combine, primitive, cut, smallRow, blank, shiftUp}
+use Rattle.rules.specs.Elimination.{Side, State, start, within, limitDegrees, limitCoefficients, rowAt, putRow, listRelations}
+use Rattle.rules.specs.Elimination.{settle, countShift, rootRelations, multipliersAt}
 use Rattle.rules.specs.Stores.{Sizes, span, countRight, unusedZero, rowRight, relationRight, Valid}
-use Rattle.theory.specs.Lists.{all-mono, all-getD-default, all-of-every, every-of-all, all-zipWith, zipWith-drop, map-all, map-drop, all-tail, all-drop, all-getD, all-set, append-all, all-of-flatten, every-drop}
-use Rattle.theory.specs.Steps.{Stepped, combined, settled, shifted, Chain, chain-induction, current, exchanged, multipliersFor, combination, stepped-length, limitDegrees-within, limitCoefficients-within, relations-narrowFirst, length-narrowFirst}
+use Rattle.theory.specs.Lists.{all-mono, all-getD-default, all-of-every, every-of-all, all-zipWith, zipWith-drop, map-all}
+use Rattle.theory.specs.Lists.{map-drop, all-tail, all-drop, all-getD, all-set, append-all, all-of-flatten, every-drop}
+use Rattle.theory.specs.Steps.{Stepped, combined, settled, shifted, Chain, chain-induction, current, exchanged}
+use Rattle.theory.specs.Steps.{multipliersFor, combination, stepped-length, limitDegrees-within, limitCoefficients-within}
+use Rattle.theory.specs.Steps.{relations-narrowFirst, length-narrowFirst}
 use Rattle.theory.specs.Multipliers.{multipliers-small}
-use Rattle.theory.specs.Shapes.{StateShaped, stepped-shapes, primitive-divides, narrowFirst-all, rootRelations-all}
+use Rattle.theory.specs.Shapes.{combineEntry, StateShaped, stepped-shapes, primitive-divides, narrowFirst-all, rootRelations-all}
 use Rattle.theory.specs.Values.{blank-zero}
 
 -- ---- unused blocks and columns stay zero
@@ -78,10 +84,12 @@ module _ (f : Polynomial → Polynomial) (keeps : (p : Polynomial) → T (isZero
 
 divideBy-zero : (d : ℕ) (p : Polynomial) → T (isZero p) → T (isZero (divideBy d p))
 unfolding coeff
-divideBy-zero d p h = coeff-isZero (divideBy d p) (λ k. divideBy-getD d p k ∙ ap (λ a. quotZ a (pos d)) (isZero-coeff p h k) ∙ ap pos (zero-div d))
+divideBy-zero d p h = coeff-isZero (divideBy d p)
+    (λ k. divideBy-getD d p k ∙ ap (λ a. quotZ a (pos d)) (isZero-coeff p h k) ∙ ap pos (zero-div d))
 
 take-zero : (n : ℕ) (p : Polynomial) → T (isZero p) → T (isZero (take n p))
-take-zero n p h = T-&& (isZero (take n p)) (isZero (drop n p)) .0 (rw (isZero-append (take n p) (drop n p)) at (rw (← take-append-drop n p) at h)) .0
+take-zero n p h = T-&& (isZero (take n p)) (isZero (drop n p)) .0
+    (rw (isZero-append (take n p) (drop n p)) at (rw (← take-append-drop n p) at h)) .0
 
 pub primitive-unused : (m D : ℕ) (r : Row) → T (unusedZero m D r) → T (unusedZero m D (primitive r))
 primitive-unused m D r h = let d = primitive-divides r in
@@ -95,16 +103,16 @@ module _ (g h : Polynomial) where
   combine-zero : (p e : Polynomial) → T (isZero p) → T (isZero e) → T (isZero (add (mul g p) (mul h e)))
   combine-zero p e x y = isZero-add (mul g p) (mul h e) (isZero-mul-right g p x) (isZero-mul-right h e y)
 
-  combine-zeroBlock : (b b′ : Block) → ZeroBlock b → ZeroBlock b′ → ZeroBlock (zipWith (λ p e. add (mul g p) (mul h e)) b b′)
+  combine-zeroBlock : (b b′ : Block) → ZeroBlock b → ZeroBlock b′ → ZeroBlock (zipWith (combineEntry g h) b b′)
   unfolding zeroBlock
-  combine-zeroBlock b b′ x y = every-of-all isZero (zipWith (λ p e. add (mul g p) (mul h e)) b b′)
-      (all-zipWith (λ p. T (isZero p)) (λ p. T (isZero p)) (λ p. T (isZero p)) (λ p e. add (mul g p) (mul h e)) combine-zero b b′
+  combine-zeroBlock b b′ x y = every-of-all isZero (zipWith (combineEntry g h) b b′)
+      (all-zipWith (λ p. T (isZero p)) (λ p. T (isZero p)) (λ p. T (isZero p)) (combineEntry g h) combine-zero b b′
       (all-of-every isZero b x) (all-of-every isZero b′ y))
 
   combine-columns : (m : ℕ) (b b′ : Block) → ZeroBlock (drop m b) → ZeroBlock (drop m b′)
-      → ZeroBlock (drop m (zipWith (λ p e. add (mul g p) (mul h e)) b b′))
+      → ZeroBlock (drop m (zipWith (combineEntry g h) b b′))
   combine-columns m b b′ x y =
-      rw (zipWith-drop (λ p e. add (mul g p) (mul h e)) m b b′) (combine-zeroBlock (drop m b) (drop m b′) x y)
+      rw (zipWith-drop (combineEntry g h) m b b′) (combine-zeroBlock (drop m b) (drop m b′) x y)
 
   pub combine-unused : (m D : ℕ) (r q : Row) → T (unusedZero m D r) → T (unusedZero m D q) → T (unusedZero m D (combine g h r q))
   unfolding combine
@@ -112,10 +120,10 @@ module _ (g h : Polynomial) where
       let u = unusedZero-iff m D r .0 x in
       let v = unusedZero-iff m D q .0 y in
       unusedZero-iff m D (combine g h r q) .1 (
-        all-zipWith (λ b. ZeroBlock (drop m b)) (λ b. ZeroBlock (drop m b)) (λ b. ZeroBlock (drop m b)) (zipWith (λ p e. add (mul g p) (mul h e)))
+        all-zipWith (λ b. ZeroBlock (drop m b)) (λ b. ZeroBlock (drop m b)) (λ b. ZeroBlock (drop m b)) (zipWith (combineEntry g h))
             (combine-columns m) (r .blocks) (q .blocks) (u .0) (v .0),
-        rw (zipWith-drop (zipWith (λ p e. add (mul g p) (mul h e))) (suc D) (r .blocks) (q .blocks))
-            (all-zipWith ZeroBlock ZeroBlock ZeroBlock (zipWith (λ p e. add (mul g p) (mul h e))) combine-zeroBlock
+        rw (zipWith-drop (zipWith (combineEntry g h)) (suc D) (r .blocks) (q .blocks))
+            (all-zipWith ZeroBlock ZeroBlock ZeroBlock (zipWith (combineEntry g h)) combine-zeroBlock
             (drop (suc D) (r .blocks)) (drop (suc D) (q .blocks)) (u .1) (v .1)),
       )
 
@@ -142,8 +150,11 @@ unfolding shiftUp All zeroBlock
 shiftUp-unused m D r h = let parts = unusedZero-iff m D r .0 h in
     mapRow-unused shift (λ p z. subst T (sym (isZero-shift p)) z) m D moved
     (unusedZero-iff m D moved .1 (
-      append-all (λ b. ZeroBlock (drop m b)) (tail (r .blocks)) (blank (leadingBlock r) ∷ []) (all-tail (λ b. ZeroBlock (drop m b)) (r .blocks) (parts .0)) (every-drop isZero m (blank (leadingBlock r)) (blank-zero (leadingBlock r)), tt),
-      drop-behind ZeroBlock (suc D) (tail (r .blocks)) (blank (leadingBlock r)) (blank-zero (leadingBlock r)) (drop-tail ZeroBlock (suc D) (r .blocks) (parts .1)),
+      append-all (λ b. ZeroBlock (drop m b)) (tail (r .blocks)) (blank (leadingBlock r) ∷ [])
+          (all-tail (λ b. ZeroBlock (drop m b)) (r .blocks) (parts .0))
+          (every-drop isZero m (blank (leadingBlock r)) (blank-zero (leadingBlock r)), tt),
+      drop-behind ZeroBlock (suc D) (tail (r .blocks)) (blank (leadingBlock r)) (blank-zero (leadingBlock r))
+          (drop-tail ZeroBlock (suc D) (r .blocks) (parts .1)),
     ))
   where
     moved : Row
@@ -176,7 +187,8 @@ roots-of-zero (a ∷ p) h = choose (isZero p) _ (isZero-cons a p .0 h .1)
 lowest-small : (g : Polynomial) → T (every small g) → T (not (isZero g)) → natAbs (lowest g) ≤ bound
 unfolding coeff small
 lowest-small g h nonzero = let (k, e, _) = lowest-place g nonzero in
-    leb→le (natAbs (lowest g)) bound (subst (λ a. T (small a)) e (all-getD-default (λ a. T (small a)) g (pos 0) k tt (all-of-every small g h)))
+    leb→le (natAbs (lowest g)) bound
+    (subst (λ a. T (small a)) e (all-getD-default (λ a. T (small a)) g (pos 0) k tt (all-of-every small g h)))
 
 -- A nonzero root divides the lowest nonzero coefficient.
 pub root-small : (g : Polynomial) (n : ℤ) → T (every small g) → List·Mem n (roots g) → T (small n)
@@ -205,14 +217,16 @@ relationRight-iff : (z : Sizes) (e : Relation) → T (relationRight z e) ↔ (T 
 unfolding relationRight
 relationRight-iff z e = T-&& (small (e .index)) (rowRight z (e .row))
 
-module _ (z : Sizes) (s : State) (j : ℕ) (before : j < current s) (below : current s < length (s .rows)) (right : All (λ r. T (rowRight z r)) (s .rows)) where
+module _ (z : Sizes) (s : State) (j : ℕ) (before : j < current s) (below : current s < length (s .rows))
+    (right : All (λ r. T (rowRight z r)) (s .rows)) where
   -- The rows after the exchange.
   exchanged-right : All (λ r. T (rowRight z r)) (exchanged s j .rows)
   exchanged-right = narrowFirst-all (λ r. T (rowRight z r)) s (current s) j below (omega arith) .1 right
 
   exchanged-row : (i : ℕ) → i ≤ current s → T (rowRight z (rowAt (exchanged s j) i))
   unfolding rowAt
-  exchanged-row i h = all-getD (λ r. T (rowRight z r)) (exchanged s j .rows) noRow i (omega (arith, length-narrowFirst s (current s) j)) exchanged-right
+  exchanged-row i h = all-getD (λ r. T (rowRight z r)) (exchanged s j .rows) noRow i
+      (omega (arith, length-narrowFirst s (current s) j)) exchanged-right
 
   g-small : T (every small (multipliersFor s j .g))
   unfolding multipliersAt
@@ -238,7 +252,8 @@ module _ (z : Sizes) (s : State) (j : ℕ) (before : j < current s) (below : cur
             (rowRight-iff z a .0 (exchanged-row (current s) (omega arith)) .1) (rowRight-iff z b .0 (exchanged-row j (omega arith)) .1))),
       ))
 
-  listed-right : (side : Side) → All (λ e. T (relationRight z e)) (rootRelations side (multipliersFor s j .g) (rowAt (exchanged s j) (current s)))
+  listed-right : (side : Side)
+      → All (λ e. T (relationRight z e)) (rootRelations side (multipliersFor s j .g) (rowAt (exchanged s j) (current s)))
   listed-right side = rootRelations-all (λ e. T (relationRight z e)) side (multipliersFor s j .g) (rowAt (exchanged s j) (current s))
       (λ n m. relationRight-iff z (record { index = n; row = rowAt (exchanged s j) (current s) }) .1
       (root-small (multipliersFor s j .g) n g-small m, exchanged-row (current s) (omega arith)))
@@ -249,12 +264,15 @@ unfolding rowAt
 shifted-right z s r below right e =
     let q = rowAt s (current s) in
     let limits = limitCoefficients-within (shiftUp q) r e in
-    subst (λ q. T (rowRight z q)) (sym (limits .1)) (rowRight-iff z (shiftUp q) .1
-    (limits .0, shiftUp-unused (z .m) (span z) q (rowRight-iff z q .0 (all-getD (λ r. T (rowRight z r)) (s .rows) noRow (current s) below right) .1)))
+    subst (λ q. T (rowRight z q)) (sym (limits .1)) (rowRight-iff z (shiftUp q) .1 (
+      limits .0,
+      shiftUp-unused (z .m) (span z) q
+          (rowRight-iff z q .0 (all-getD (λ r. T (rowRight z r)) (s .rows) noRow (current s) below right) .1),
+    ))
 
-pub stepped-right : {side : Side} {s s′ : State} (z : Sizes) → Stepped side s s′ → StateRight z s → StateRight z s′
+pub stepped-right : {side : Side} {s s′ : State} {z : Sizes} → Stepped side s s′ → StateRight z s → StateRight z s′
 unfolding putRow listRelations settle countShift
-stepped-right {side} {s} z (combined j before below nonzero clear meets few r e) h =
+stepped-right {side} {s} {z} (combined j before below nonzero clear meets few r e) h =
     let right = all-of-every (rowRight z) (s .rows) (h .rows-right) in
     record {
       rows-right = every-of-all (rowRight z) (set (exchanged s j .rows) (current s) r)
@@ -262,11 +280,12 @@ stepped-right {side} {s} z (combined j before below nonzero clear meets few r e)
           (exchanged-right z s j before below right));
       relations-right = every-of-all (relationRight z) _
           (append-all (λ e. T (relationRight z e)) (exchanged s j .relations) _
-          (subst (All (λ e. T (relationRight z e))) (sym (relations-narrowFirst s (current s) j)) (all-of-every (relationRight z) (s .relations) (h .relations-right)))
+          (subst (All (λ e. T (relationRight z e))) (sym (relations-narrowFirst s (current s) j))
+          (all-of-every (relationRight z) (s .relations) (h .relations-right)))
           (listed-right z s j before below right side));
     }
-stepped-right z (settled c below nonzero clear e) h = record { rows-right = h .rows-right; relations-right = h .relations-right }
-stepped-right {s} z (shifted r below nonzero clear f e) h =
+stepped-right (settled c below nonzero clear e) h = record { rows-right = h .rows-right; relations-right = h .relations-right }
+stepped-right {s} {z} (shifted r below nonzero clear f e) h =
     let right = all-of-every (rowRight z) (s .rows) (h .rows-right) in
     record {
       rows-right = every-of-all (rowRight z) (set (s .rows) (current s) r)
@@ -274,21 +293,24 @@ stepped-right {s} z (shifted r below nonzero clear f e) h =
       relations-right = h .relations-right;
     }
 
-stepped-count : {side : Side} {s s′ : State} → Stepped side s s′ → length (s .relations) ≤ mostRelations → length (s′ .relations) ≤ mostRelations
+stepped-count : {side : Side} {s s′ : State} → Stepped side s s′
+    → length (s .relations) ≤ mostRelations → length (s′ .relations) ≤ mostRelations
 unfolding putRow settle countShift
 stepped-count (combined j before below nonzero clear meets few r e) h = few
 stepped-count (settled c below nonzero clear e) h = h
 stepped-count (shifted r below nonzero clear f e) h = h
 
-pub stepped-valid : {side : Side} {s s′ : State} (z : Sizes) → Stepped side s s′ → Valid z (s .rows) (s .relations) → Valid z (s′ .rows) (s′ .relations)
+pub stepped-valid : {side : Side} {s s′ : State} {z : Sizes} → Stepped side s s′
+    → Valid z (s .rows) (s .relations) → Valid z (s′ .rows) (s′ .relations)
 unfolding countRight
-stepped-valid {side} {s} {s′} z t v =
+stepped-valid {side} {s} {s′} {z} t v =
     record {
       sizes = v .sizes;
       row-count = stepped-length t ∙ v .row-count;
       row-shapes = shaped .row-shapes;
       rows-right = right .rows-right;
-      relation-count = le→leb (length (s′ .relations)) mostRelations (stepped-count t (leb→le (length (s .relations)) mostRelations (v .relation-count)));
+      relation-count = le→leb (length (s′ .relations)) mostRelations
+          (stepped-count t (leb→le (length (s .relations)) mostRelations (v .relation-count)));
       relation-shapes = shaped .relation-shapes;
       relations-right = right .relations-right;
     }
@@ -297,10 +319,10 @@ stepped-valid {side} {s} {s′} z t v =
     shaped = stepped-shapes t (record { row-shapes = v .row-shapes; relation-shapes = v .relation-shapes })
 
     right : StateRight z s′
-    right = stepped-right z t (record { rows-right = v .rows-right; relations-right = v .relations-right })
+    right = stepped-right t (record { rows-right = v .rows-right; relations-right = v .relations-right })
 
 -- Every state of a run from a valid system is a valid system.
-pub valid-kept : {side : Side} {k : ℕ} {s : State} (z : Sizes) (rows : List Row) (relations : List Relation)
+pub valid-kept : {side : Side} {k : ℕ} {s : State} {z : Sizes} {rows : List Row} {relations : List Relation}
     → Valid z rows relations → Chain side (start rows relations) k s → Valid z (s .rows) (s .relations)
 unfolding start
-valid-kept {side} z rows relations v c = chain-induction side (λ u. Valid z (u .rows) (u .relations)) (λ u w. stepped-valid z) c v
+valid-kept {side} {z} v c = chain-induction side (λ u. Valid z (u .rows) (u .relations)) (λ u w. stepped-valid) c v

@@ -15,7 +15,8 @@ use mathlib.Core.Logic.{_↔_, ⊎-elim}
 use Prim.Native.Nat.{ℕ, zero, suc, _<_}
 use native.Mathlib.Nat.{not-suc-le-zero, le-of-suc-le-suc, suc-le-suc-iff, zero-lt-suc, suc-inj}
 use mathlib.Core.Bool.{Bool, true, false, _&&_}
-use mathlib.Core.List.{List, [], _∷_, _++_, map, reverse, reverseAux, tail, flatten, zipWith, List·Memᴰ, List·Memᴰ·head, List·Memᴰ·tail, List·Memᴰ·cases-cons, List·Memᴰ·not-nil, reverse-reverse}
+use mathlib.Core.List.{List, [], _∷_, _++_, map, reverse, reverseAux, tail, flatten, zipWith, List·Memᴰ, List·Memᴰ·head}
+use mathlib.Core.List.{List·Memᴰ·tail, List·Memᴰ·cases-cons, List·Memᴰ·not-nil, reverse-reverse}
 use lib.Dec.{T}
 use lib.ListN.{length, take, drop, getD, set}
 use lib.Seq.{getD-set-same, getD-set-other, lt-length-set}
@@ -118,7 +119,8 @@ module _ {A : Type 0} (P : A → Type 0) where
 
       back : All P twice → All P l
       back a = all-of-set l j (getD l i d) d (subst P now-i (all-getD twice d i (inside i below-i) a))
-          (all-of-set once i (getD l j d) d (subst P (sym (swapped-place l d i j below-i)) (subst P (now-j (ℕ-discrete j i)) (all-getD twice d j (inside j below-j) a))) a)
+          (all-of-set once i (getD l j d) d (subst P (now-j (ℕ-discrete j i) ∙ sym (swapped-place l d i j below-i))
+          (all-getD twice d j (inside j below-j) a)) a)
 
   pub append-all : (l m : List A) → All P l → All P m → All P (l ++ m)
   unfolding All
@@ -242,7 +244,8 @@ length-zipWith f [] m h = refl
 length-zipWith f (x ∷ l) [] h = sym h
 length-zipWith f (x ∷ l) (y ∷ m) h = ap suc (length-zipWith f l m (suc-inj h))
 
-pub zipWith-drop : {A B C : Type 0} (f : A → B → C) (n : ℕ) (l : List A) (m : List B) → drop n (zipWith f l m) ≡ zipWith f (drop n l) (drop n m)
+pub zipWith-drop : {A B C : Type 0} (f : A → B → C) (n : ℕ) (l : List A) (m : List B)
+    → drop n (zipWith f l m) ≡ zipWith f (drop n l) (drop n m)
 unfolding zipWith
 zipWith-drop f zero l m = refl
 zipWith-drop f (suc n) [] m = refl

@@ -115,7 +115,8 @@ module _ (a b : Polynomial) where
       go (as-they-are _) = plain
       go (turned _) = length-negate (negate (divideBy common b)) ∙ plain
 
-  pub multipliers-small : T (every small a) → T (every small b) → T (every small (multipliers a b .g)) × T (every small (multipliers a b .h))
+  pub multipliers-small : T (every small a) → T (every small b)
+      → T (every small (multipliers a b .g)) × T (every small (multipliers a b .h))
   multipliers-small p q = go multipliers-turned
     where
       left : T (every small (divideBy common a))
@@ -139,7 +140,8 @@ module _ (a b : Polynomial) where
   module _ (nonzero : T (not (isZero a))) where
     common-pos : 0 < common
     unfolding common
-    common-pos = content-pos (a ++ b) (not-T (isZero (a ++ b)) (λ z. T-not (isZero a) nonzero (and-l (isZero a) (isZero b) (rw (isZero-append a b) at z))))
+    common-pos = content-pos (a ++ b)
+        (not-T (isZero (a ++ b)) (λ z. T-not (isZero a) nonzero (and-l (isZero a) (isZero b) (rw (isZero-append a b) at z))))
 
     divided-nonzero : T (not (isZero (divideBy common a)))
     divided-nonzero = rw (isZero-divideBy common a common-pos divides-left) nonzero

@@ -1,1 +1,254 @@
--- Report
+-- The root report: what it says about the integer roots of the diagonal polynomials, on both sides.
+--
+-- Main definitions
+--   NoFurther side a r     a ≤ r on the leading side, r ≤ a on the trailing side
+--   Past side o n          n lies past the report o: anywhere if it is "no", otherwise above r, or below r
+--   NonzeroDiagonal side D s   no diagonal polynomial is zero
+--   Rootless l, FurthestRoot side l r   no polynomial of l has an integer root; r is the furthest one among them all
+--   diagonalEntry side D s j   the diagonal polynomial of row j
+--
+-- Main statements
+--   furthest-none, furthest-some   the furthest member of a list: none of an empty list, otherwise a member and no member further
+--   diagonal-member, diagonal-index   the members of the diagonal are its entries by row
+--   report-none, report-some   "no" exactly if no diagonal polynomial has an integer root; otherwise the furthest root of all
+--   past-report            past the report no diagonal polynomial is zero
+use Prim.Native.Nat.{ℕ, zero, suc, _<_, suc-le-suc}
+use native.Mathlib.Nat.{le-of-suc-le-suc, not-suc-le-zero}
+use native.Mathlib.Omega.{arith}
+use mathlib.Core.Path.{_≡_, refl, sym, _∙_, ap, subst}
+use mathlib.Core.Logic.{_↔_, _≢_, _⊎_, inl, inr, ⊎-elim}
+use mathlib.Core.Bool.{Bool, true, false, not, cond}
+use mathlib.Core.Option.{Option, none, some}
+use mathlib.Core.List.{List, [], _∷_, map, flatten, zipWith}
+use mathlib.Core.List.{List·Memᴰ, List·Memᴰ·head, List·Memᴰ·tail, List·Memᴰ·cases-cons, List·Memᴰ·not-nil, List·Memᴰ·append-cases}
+use mathlib.Core.List.{Memᴰ·append-left, Memᴰ·append-right, Memᴰ·cast}
+use lib.Dec.{T, T-not}
+use lib.ListN.{length, getD}
+use lib.IntN.{ℤ, pos}
+use lib.Signed.{_≤ℤ_, _<ℤ_, leZ, leZ-yes, ≤ℤ-refl, clashℤ}
+use Rattle.algebra.specs.Order.{≤ℤ-trans, ¬≤ℤ→<ℤ, <ℤ-to-≤ℤ}
+use Rattle.algebra.specs.Polynomials.{Polynomial, eval, isZero}
+use Rattle.algebra.specs.Roots.{roots, roots-sound, roots-complete, place}
+use Rattle.rules.specs.Rows.{noRow}
+use Rattle.rules.specs.Elimination.{Side, leading, trailing, State, diagonalPlace, diagonal, further, furthest, report}
+
+abbrev pub NoFurther : Side → ℤ → ℤ → Type 0
+NoFurther leading a r = a ≤ℤ r
+NoFurther trailing a r = r ≤ℤ a
+
+abbrev pub Past : Side → Option ℤ → ℤ → Type 0
+Past side none n = Unit {0}
+Past leading (some r) n = r <ℤ n
+Past trailing (some r) n = n <ℤ r
+
+abbrev pub NonzeroDiagonal : Side → ℕ → State → Type 0
+NonzeroDiagonal side D s = (p : Polynomial) → List·Memᴰ p (diagonal side D s) → T (not (isZero p))
+
+-- No member has an integer root.
+abbrev pub Rootless : List Polynomial → Type 0
+Rootless l = (p : Polynomial) → List·Memᴰ p l → (n : ℤ) → eval p n ≢ pos 0
+
+-- r is a root of a member, and no member has an integer root that is further.
+pub record FurthestRoot (side : Side) (l : List Polynomial) (r : ℤ) : Type 0 where
+  pub attained : (p : Polynomial) × List·Memᴰ p l × (eval p r ≡ pos 0)
+  pub furthest : (p : Polynomial) → List·Memᴰ p l → (n : ℤ) → eval p n ≡ pos 0 → NoFurther side n r
+
+-- ---- the furthest member of a list
+
+NoFurther-refl : (side : Side) (a : ℤ) → NoFurther side a a
+NoFurther-refl leading a = ≤ℤ-refl a
+NoFurther-refl trailing a = ≤ℤ-refl a
+
+NoFurther-trans : (side : Side) (a b c : ℤ) → NoFurther side a b → NoFurther side b c → NoFurther side a c
+NoFurther-trans leading a b c h k = ≤ℤ-trans h k
+NoFurther-trans trailing a b c h k = ≤ℤ-trans k h
+
+-- The further of two numbers is one of them, and neither is further.
+record Chosen (side : Side) (a b r : ℤ) : Type 0 where
+  among : (r ≡ a) ⊎ (r ≡ b)
+  first : NoFurther side a r
+  second : NoFurther side b r
+
+leZ-no : {a b : ℤ} → T (not (leZ a b)) → b ≤ℤ a
+leZ-no {a} {b} t = <ℤ-to-≤ℤ (¬≤ℤ→<ℤ (λ h. T-not (leZ a b) t (h .le)))
+
+further-chosen : (side : Side) (a b : ℤ) → Chosen side a b (further side a (some b))
+unfolding further
+further-chosen leading a b = cases (leZ a b) leZ-yes leZ-no
+  where
+    cases : (t : Bool) → (T t → a ≤ℤ b) → (T (not t) → b ≤ℤ a) → Chosen leading a b (cond t b a)
+    cases true h k = record { among = inr refl; first = h tt; second = ≤ℤ-refl b }
+    cases false h k = record { among = inl refl; first = ≤ℤ-refl a; second = k tt }
+further-chosen trailing a b = cases (leZ a b) leZ-yes leZ-no
+  where
+    cases : (t : Bool) → (T t → a ≤ℤ b) → (T (not t) → b ≤ℤ a) → Chosen trailing a b (cond t a b)
+    cases true h k = record { among = inl refl; first = ≤ℤ-refl a; second = h tt }
+    cases false h k = record { among = inr refl; first = k tt; second = ≤ℤ-refl b }
+
+-- What "the furthest member of l" says of an optional number.
+Furthest : Side → List ℤ → Option ℤ → Type 0
+Furthest side l none = l ≡ []
+Furthest side l (some r) = List·Memᴰ r l × ((a : ℤ) → List·Memᴰ a l → NoFurther side a r)
+
+furthest-is : (side : Side) (l : List ℤ) → Furthest side l (furthest side l)
+unfolding furthest further Furthest
+furthest-is side [] = refl
+furthest-is side (a ∷ l) = step (furthest side l) (furthest-is side l)
+  where
+    step : (o : Option ℤ) → Furthest side l o → Furthest side (a ∷ l) (some (further side a o))
+    step none e = (List·Memᴰ·head refl, λ b m. ⊎-elim level (λ k. absurd (List·Memᴰ·not-nil (rw e at k))) (List·Memᴰ·cases-cons m))
+      where
+        level : {b : ℤ} → b ≡ a → NoFurther side b a
+        level {b} h = rw h (NoFurther-refl side a)
+    step (some r) h = (⊎-elim List·Memᴰ·head later (chosen .among), λ b m. ⊎-elim (first b) (rest b) (List·Memᴰ·cases-cons m))
+      where
+        new : ℤ
+        new = further side a (some r)
+
+        chosen : Chosen side a r new
+        chosen = further-chosen side a r
+
+        later : new ≡ r → List·Memᴰ new (a ∷ l)
+        later e = List·Memᴰ·tail (Memᴰ·cast e (h .0))
+
+        first : (b : ℤ) → b ≡ a → NoFurther side b new
+        first b e = rw e (chosen .first)
+
+        rest : (b : ℤ) → List·Memᴰ b l → NoFurther side b new
+        rest b m = NoFurther-trans side b r new (h .1 b m) (chosen .second)
+
+pub furthest-none : (side : Side) (l : List ℤ) → (furthest side l ≡ none) ↔ (l ≡ [])
+unfolding Furthest furthest
+furthest-none side l = (λ e. subst (Furthest side l) e (furthest-is side l), λ e. ap (furthest side) e)
+
+pub furthest-some : (side : Side) (l : List ℤ) {r : ℤ}
+    → furthest side l ≡ some r → List·Memᴰ r l × ((a : ℤ) → List·Memᴰ a l → NoFurther side a r)
+unfolding Furthest
+furthest-some side l e = subst (Furthest side l) e (furthest-is side l)
+
+past-clash : (side : Side) (n r : ℤ) → Past side (some r) n → NoFurther side n r → ⊥
+past-clash leading n r h k = clashℤ h k
+past-clash trailing n r h k = clashℤ h k
+
+-- ---- the diagonal
+
+-- The diagonal polynomial of row j.
+abbrev pub diagonalEntry : Side → ℕ → State → ℕ → Polynomial
+diagonalEntry side D s j = getD (getD (getD (s .rows) j noRow .blocks) (diagonalPlace side D) []) (getD (s .order) j 0) []
+
+zip-member : {A B C : Type 0} (f : A → B → C) (l : List A) (m : List B) (a : A) (b : B) (j : ℕ) → j < length l → j < length m
+    → List·Memᴰ (f (getD l j a) (getD m j b)) (zipWith f l m)
+unfolding zipWith
+zip-member f [] m a b j h k = absurd (not-suc-le-zero h)
+zip-member f (x ∷ l) [] a b j h k = absurd (not-suc-le-zero k)
+zip-member f (x ∷ l) (y ∷ m) a b zero h k = List·Memᴰ·head refl
+zip-member f (x ∷ l) (y ∷ m) a b (suc j) h k =
+    List·Memᴰ·tail (zip-member f l m a b j (le-of-suc-le-suc h) (le-of-suc-le-suc k))
+
+-- c is made from the members of both lists at one place.
+abbrev Zipped : {A B C : Type 0} → (A → B → C) → List A → List B → A → B → C → Type 0
+Zipped f l m a b c = (j : ℕ) × (j < length l) × (j < length m) × (c ≡ f (getD l j a) (getD m j b))
+
+zip-index : {A B C : Type 0} (f : A → B → C) (l : List A) (m : List B) (a : A) (b : B) {c : C}
+    → List·Memᴰ c (zipWith f l m) → Zipped f l m a b c
+unfolding zipWith
+zip-index f [] m a b p = absurd (List·Memᴰ·not-nil p)
+zip-index f (x ∷ l) [] a b p = absurd (List·Memᴰ·not-nil p)
+zip-index f (x ∷ l) (y ∷ m) a b {c} p = ⊎-elim here (λ q. there (zip-index f l m a b q)) (List·Memᴰ·cases-cons p)
+  where
+    here : c ≡ f x y → Zipped f (x ∷ l) (y ∷ m) a b c
+    here e = (0, omega arith, omega arith, e)
+
+    there : Zipped f l m a b c → Zipped f (x ∷ l) (y ∷ m) a b c
+    there z = (suc (z .0), suc-le-suc (z .1), suc-le-suc (z .2), z .3)
+
+pub diagonal-member : (side : Side) (D : ℕ) (s : State) (j : ℕ) → j < length (s .rows) → j < length (s .order)
+    → List·Memᴰ (diagonalEntry side D s j) (diagonal side D s)
+unfolding diagonal
+diagonal-member side D s j h k =
+    zip-member (λ r c. getD (getD (r .blocks) (diagonalPlace side D) []) c []) (s .rows) (s .order) noRow 0 j h k
+
+pub diagonal-index : (side : Side) (D : ℕ) (s : State) {p : Polynomial} → List·Memᴰ p (diagonal side D s)
+    → (j : ℕ) × (j < length (s .rows)) × (j < length (s .order)) × (p ≡ diagonalEntry side D s j)
+unfolding diagonal
+diagonal-index side D s m =
+    zip-index (λ r c. getD (getD (r .blocks) (diagonalPlace side D) []) c []) (s .rows) (s .order) noRow 0 m
+
+-- The diagonal is nonzero if each of its entries is.
+pub nonzero-diagonal : (side : Side) (D : ℕ) (s : State)
+    → ((j : ℕ) → j < length (s .rows) → j < length (s .order) → T (not (isZero (diagonalEntry side D s j)))) → NonzeroDiagonal side D s
+nonzero-diagonal side D s h p m = let (j, k, o, e) = diagonal-index side D s m in rw e (h j k o)
+
+-- ---- the report
+
+flat-member : {A B : Type 0} (f : A → List B) {p : A} {r : B} (l : List A)
+    → List·Memᴰ p l → List·Memᴰ r (f p) → List·Memᴰ r (flatten (map f l))
+unfolding flatten
+flat-member f [] m k = absurd (List·Memᴰ·not-nil m)
+flat-member f {p} {r} (x ∷ l) m k =
+    ⊎-elim (λ e. Memᴰ·append-left _ (rw e at k)) (λ q. Memᴰ·append-right (f x) (flat-member f l q k)) (List·Memᴰ·cases-cons m)
+
+flat-origin : {A B : Type 0} (f : A → List B) {r : B} (l : List A)
+    → List·Memᴰ r (flatten (map f l)) → (p : A) × List·Memᴰ p l × List·Memᴰ r (f p)
+unfolding flatten
+flat-origin f [] m = absurd (List·Memᴰ·not-nil m)
+flat-origin {A = A} f {r} (x ∷ l) m =
+    ⊎-elim (λ k. (x, List·Memᴰ·head refl, k)) (λ k. later (flat-origin f l k)) (List·Memᴰ·append-cases (f x) m)
+  where
+    later : (p : A) × List·Memᴰ p l × List·Memᴰ r (f p) → (p : A) × List·Memᴰ p (x ∷ l) × List·Memᴰ r (f p)
+    later o = (o .0, List·Memᴰ·tail (o .1), o .2)
+
+-- The integer roots of the diagonal polynomials, all in one list.
+abbrev rootsOf : List Polynomial → List ℤ
+rootsOf l = flatten (map roots l)
+
+root-member : (l : List Polynomial) {p : Polynomial} (n : ℤ)
+    → List·Memᴰ p l → T (not (isZero p)) → eval p n ≡ pos 0 → List·Memᴰ n (rootsOf l)
+root-member l {p} n m z e = flat-member roots l m (place (roots p) (roots-complete p n z e))
+
+member-root : (l : List Polynomial) {n : ℤ} → List·Memᴰ n (rootsOf l) → (p : Polynomial) × List·Memᴰ p l × (eval p n ≡ pos 0)
+member-root l m = let (p, i, k) = flat-origin roots l m in (p, i, roots-sound p ∣ k ∣₁)
+
+module _ (side : Side) (D : ℕ) (s : State) (nonzero : NonzeroDiagonal side D s) where
+  found : List ℤ
+  found = rootsOf (diagonal side D s)
+
+  report-is : report side D s ≡ furthest side found
+  unfolding report found
+  report-is = refl
+
+  root-found : {p : Polynomial} (n : ℤ) → List·Memᴰ p (diagonal side D s) → eval p n ≡ pos 0 → List·Memᴰ n found
+  unfolding found
+  root-found {p} n m e = root-member (diagonal side D s) n m (nonzero p m) e
+
+  found-root : {n : ℤ} → List·Memᴰ n found → (p : Polynomial) × List·Memᴰ p (diagonal side D s) × (eval p n ≡ pos 0)
+  unfolding found
+  found-root m = member-root (diagonal side D s) m
+
+  -- "whether any diagonal polynomial of the output has an integer root"
+  pub report-none : (report side D s ≡ none) ↔ Rootless (diagonal side D s)
+  report-none = (forth, back)
+    where
+      forth : report side D s ≡ none → Rootless (diagonal side D s)
+      forth e p m n h = List·Memᴰ·not-nil (rw (furthest-none side found .0 (sym report-is ∙ e)) at (root-found n m h))
+
+      empty : (l : List ℤ) → ((n : ℤ) → ¬ List·Memᴰ n l) → l ≡ []
+      empty [] h = refl
+      empty (a ∷ l) h = absurd (h a (List·Memᴰ·head refl))
+
+      back : Rootless (diagonal side D s) → report side D s ≡ none
+      back h = report-is ∙ furthest-none side found .1 (empty found (λ n m. let (p, i, e) = found-root m in h p i n e))
+
+  -- "the largest integer root among them all"; "the smallest integer root among them all"
+  pub report-some : {r : ℤ} → report side D s ≡ some r → FurthestRoot side (diagonal side D s) r
+  report-some {r} e = record { attained = found-root (far .0); furthest = λ p m n h. far .1 n (root-found n m h) }
+    where
+      far : List·Memᴰ r found × ((a : ℤ) → List·Memᴰ a found → NoFurther side a r)
+      far = furthest-some side found (sym report-is ∙ e)
+
+  pub past-report : (n : ℤ) → Past side (report side D s) n → (p : Polynomial) → List·Memᴰ p (diagonal side D s) → eval p n ≢ pos 0
+  past-report n past p m e = cases (report side D s) refl past
+    where
+      cases : (o : Option ℤ) → report side D s ≡ o → Past side o n → ⊥
+      cases none h q = report-none .0 h p m n e
+      cases (some r) h q = past-clash side n r q (report-some h .furthest p m n e)

@@ -26,13 +26,18 @@ use Rattle.algebra.specs.Gcd.{content, divideBy, DividesAll, content-divides, l
 use Rattle.algebra.specs.Polynomials.{Polynomial, isZero, add, mul, shift, mirror, length-add, length-mul, length-shift, length-mirror}
 use Rattle.algebra.specs.Roots.{roots}
 use Rattle.rules.specs.Limits.{coefficientCount, columnCount, blockCount}
-use Rattle.rules.specs.Rows.{Block, Row, Relation, noRow, All, mapRow, coefficientsOf, leadingBlock, entry, combine, primitive, cut, blank, shiftUp, mirrorRow}
-use Rattle.rules.specs.Elimination.{Side, leading, trailing, multipliers, State, within, limitCoefficients, limitDegrees, rowAt, putRow, listRelations, settle, countShift, exchange, narrowFirst, multipliersAt, listing, rootRelations}
+use Rattle.rules.specs.Rows.{Block, Row, Relation, noRow, All, mapRow, coefficientsOf, leadingBlock, entry, combine, primitive}
+use Rattle.rules.specs.Rows.{cut, blank, shiftUp, mirrorRow}
+use Rattle.rules.specs.Elimination.{Side, leading, trailing, multipliers, State, within, limitCoefficients, limitDegrees, rowAt}
+use Rattle.rules.specs.Elimination.{putRow, listRelations, settle, countShift, exchange, narrowFirst, multipliersAt, listing}
+use Rattle.rules.specs.Elimination.{rootRelations}
 use Rattle.rules.specs.Stores.{Shaped, StoreRow}
-use Rattle.theory.specs.Lists.{all-mono, all-getD, all-set, all-swap, append-all, all-take, all-drop, reverse-all, map-all, member-all, all-zipWith, length-zipWith}
+use Rattle.theory.specs.Lists.{all-mono, all-getD, all-set, all-swap, append-all, all-take, all-drop, reverse-all, map-all}
+use Rattle.theory.specs.Lists.{member-all, all-zipWith, length-zipWith}
 use Rattle.theory.specs.Multipliers.{length-multipliers-g, length-multipliers-h}
 use Rattle.theory.specs.Steps.{Stepped, combined, settled, shifted, Chain, current, met, exchanged, multipliersFor, combination}
-use Rattle.theory.specs.Steps.{Narrowed, narrowed, kept, swapped, length-narrowFirst, order-narrowFirst, relations-narrowFirst, limitDegrees-within, limitCoefficients-within, chain-induction}
+use Rattle.theory.specs.Steps.{Narrowed, narrowed, kept, swapped, length-narrowFirst, order-narrowFirst}
+use Rattle.theory.specs.Steps.{relations-narrowFirst, limitDegrees-within, limitCoefficients-within, chain-induction}
 
 -- ---- division by the content
 
@@ -50,7 +55,8 @@ unfolding primitive
 primitive-divides r = go (content (coefficientsOf r)) (content-divides (coefficientsOf r))
   where
     go : (c : ℕ) → DividesAll c (coefficientsOf r)
-        → (d : ℕ) × (0 < d) × DividesAll d (coefficientsOf r) × (_≡_ {A = Row} (elim c [ zero ↦ r | suc e ↦ mapRow (divideBy (suc e)) r ]) (mapRow (divideBy d) r))
+        → (d : ℕ) × (0 < d) × DividesAll d (coefficientsOf r)
+        × (_≡_ {A = Row} (elim c [ zero ↦ r | suc e ↦ mapRow (divideBy (suc e)) r ]) (mapRow (divideBy d) r))
     go zero h = (1, zero-lt-suc 0, λ k. one-dvd _, sym (mapRow-same (divideBy 1) divideBy-one r))
     go (suc e) h = (suc e, zero-lt-suc e, h, refl)
 
@@ -88,6 +94,10 @@ module _ (f : Polynomial → Polynomial) (k k′ : ℕ) (keeps : (p : Polynomial
         (all-mono (BlockShaped c k) (λ block. BlockShaped c k′ (map f block)) (map-blockShaped c) (r .blocks) (h .1)),
   )
 
+-- What `combine` makes of two polynomials at the same place.
+abbrev pub combineEntry : Polynomial → Polynomial → Polynomial → Polynomial → Polynomial
+combineEntry g h p e = add (mul g p) (mul h e)
+
 -- The product of polynomials with suc a and suc k coefficients has suc (a + k).
 product-length : (g p : Polynomial) (a k : ℕ) → length g ≡ suc a → length p ≡ suc k → length (mul g p) ≡ suc (a + k)
 product-length [] p a k hg hp = absurd (omega arith)
@@ -95,15 +105,15 @@ product-length (x ∷ g) [] a k hg hp = absurd (omega arith)
 product-length (x ∷ g) (y ∷ p) a k hg hp = length-mul x g y p ∙ ap₂ (λ u v. suc (u + v)) (suc-inj hg) (suc-inj hp)
 
 module _ (g h : Polynomial) (a : ℕ) (length-g : length g ≡ suc a) (length-h : length h ≡ suc a) where
-  sum-length : (k : ℕ) (p e : Polynomial) → length p ≡ suc k → length e ≡ suc k → length (add (mul g p) (mul h e)) ≡ suc (a + k)
+  sum-length : (k : ℕ) (p e : Polynomial) → length p ≡ suc k → length e ≡ suc k → length (combineEntry g h p e) ≡ suc (a + k)
   sum-length k p e hp he =
       length-add (mul g p) (mul h e) ∙ ap₂ max (product-length g p a k length-g hp) (product-length h e a k length-h he) ∙ omega arith
 
   combine-blockShaped : (c k : ℕ) (block block′ : Block) → BlockShaped c (suc k) block → BlockShaped c (suc k) block′
-      → BlockShaped c (suc (a + k)) (zipWith (λ p e. add (mul g p) (mul h e)) block block′)
+      → BlockShaped c (suc (a + k)) (zipWith (combineEntry g h) block block′)
   combine-blockShaped c k block block′ x y = (
-    length-zipWith (λ p e. add (mul g p) (mul h e)) block block′ (x .0 ∙ sym (y .0)) ∙ x .0,
-    all-zipWith (λ p. length p ≡ suc k) (λ p. length p ≡ suc k) (λ p. length p ≡ suc (a + k)) (λ p e. add (mul g p) (mul h e))
+    length-zipWith (combineEntry g h) block block′ (x .0 ∙ sym (y .0)) ∙ x .0,
+    all-zipWith (λ p. length p ≡ suc k) (λ p. length p ≡ suc k) (λ p. length p ≡ suc (a + k)) (combineEntry g h)
         (sum-length k) block block′ (x .1) (y .1),
   )
 
@@ -111,9 +121,9 @@ module _ (g h : Polynomial) (a : ℕ) (length-g : length g ≡ suc a) (length-h 
   pub combine-shaped : (b c k : ℕ) (r q : Row) → Shaped b c (suc k) r → Shaped b c (suc k) q → Shaped b c (suc (a + k)) (combine g h r q)
   unfolding Shaped combine
   combine-shaped b c k r q x y = (
-    length-zipWith (zipWith (λ p e. add (mul g p) (mul h e))) (r .blocks) (q .blocks) (x .0 ∙ sym (y .0)) ∙ x .0,
+    length-zipWith (zipWith (combineEntry g h)) (r .blocks) (q .blocks) (x .0 ∙ sym (y .0)) ∙ x .0,
     all-zipWith (BlockShaped c (suc k)) (BlockShaped c (suc k)) (BlockShaped c (suc (a + k)))
-        (zipWith (λ p e. add (mul g p) (mul h e))) (combine-blockShaped c k) (r .blocks) (q .blocks) (x .1) (y .1),
+        (zipWith (combineEntry g h)) (combine-blockShaped c k) (r .blocks) (q .blocks) (x .1) (y .1),
   )
 
 pub primitive-shaped : (b c k : ℕ) (r : Row) → Shaped b c k r → Shaped b c k (primitive r)
@@ -123,7 +133,8 @@ primitive-shaped b c k r h = let d = primitive-divides r in
 pub cut-shaped : (b c k : ℕ) (r : Row) → coefficientCount ≤ k → Shaped b c k r → Shaped b c coefficientCount (cut r)
 unfolding cut
 cut-shaped b c k r n h =
-    mapRow-shaped (take coefficientCount) k coefficientCount (λ p e. length-take-le coefficientCount p (subst (λ l. coefficientCount ≤ l) (sym e) n)) b c r h
+    mapRow-shaped (take coefficientCount) k coefficientCount
+    (λ p e. length-take-le coefficientCount p (subst (λ l. coefficientCount ≤ l) (sym e) n)) b c r h
 
 blank-shaped : (c k : ℕ) (block : Block) → BlockShaped c k block → BlockShaped c k (blank block)
 unfolding blank
@@ -134,8 +145,10 @@ moved-shaped : (b c k : ℕ) (bs : List Block) → 0 < b → (length bs ≡ b) �
     → (length (tail bs ++ (blank (getD bs 0 []) ∷ [])) ≡ b) × All (BlockShaped c k) (tail bs ++ (blank (getD bs 0 []) ∷ []))
 unfolding All
 moved-shaped b c k [] n h = absurd (omega (arith, h .0))
-moved-shaped b c k (x ∷ bs) n h =
-    (length-append bs (blank x ∷ []) ∙ omega (arith, h .0), append-all (BlockShaped c k) bs (blank x ∷ []) (h .1 .1) (blank-shaped c k x (h .1 .0), tt))
+moved-shaped b c k (x ∷ bs) n h = (
+  length-append bs (blank x ∷ []) ∙ omega (arith, h .0),
+  append-all (BlockShaped c k) bs (blank x ∷ []) (h .1 .1) (blank-shaped c k x (h .1 .0), tt),
+)
 
 pub shiftUp-shaped : (b c k : ℕ) (r : Row) → 0 < b → Shaped b c k r → Shaped b c k (shiftUp r)
 unfolding shiftUp Shaped
@@ -255,7 +268,8 @@ pub shifted-shaped : (s : State) → current s < length (s .rows) → All StoreR
 unfolding rowAt
 shifted-shaped s below shapes r e =
     subst StoreRow (sym (limitCoefficients-within (shiftUp (rowAt s (current s))) r e .1))
-    (shiftUp-shaped blockCount columnCount coefficientCount (rowAt s (current s)) (omega arith) (all-getD StoreRow (s .rows) noRow (current s) below shapes))
+    (shiftUp-shaped blockCount columnCount coefficientCount (rowAt s (current s)) (omega arith)
+    (all-getD StoreRow (s .rows) noRow (current s) below shapes))
 
 -- A step keeps the shapes.
 pub stepped-shapes : {side : Side} {s s′ : State} → Stepped side s s′ → StateShaped s → StateShaped s′

@@ -27,14 +27,19 @@ use Rattle.algebra.specs.Roots.{roots, roots-complete, place}
 use Rattle.rules.specs.Limits.{coefficientCount, columnCount, blockCount}
 use Rattle.rules.specs.Stores.{StoreRow}
 use Rattle.rules.specs.Rows.{Row, Relation, noRow, All, zeroBlock, leadingBlock, firstNonzero, entry, shiftUp}
-use Rattle.rules.specs.Elimination.{Side, leading, trailing, State, start, within, limitDegrees, limitCoefficients, rowAt, putRow, listRelations, settle, countShift, listing, rootRelations, multipliersAt}
+use Rattle.rules.specs.Elimination.{Side, leading, trailing, State, start, within, limitDegrees, limitCoefficients, rowAt, putRow}
+use Rattle.rules.specs.Elimination.{listRelations, settle, countShift, listing, rootRelations, multipliersAt}
 use Rattle.rules.specs.Sequences.{Sequence, valueOf, SatisfiesEquation, SatisfiesRelation, Satisfies}
-use Rattle.theory.specs.Steps.{Stepped, combined, settled, shifted, Chain, here, next, current, met, exchanged, multipliersFor, combination, listed, relations-narrowFirst, order-narrowFirst, length-narrowFirst, narrowFirst-both, limitCoefficients-within, firstNonzero-none, zeroBlock-all}
+use Rattle.theory.specs.Steps.{Stepped, combined, settled, shifted, Chain, here, next, current, met, exchanged}
+use Rattle.theory.specs.Steps.{multipliersFor, combination, listed, relations-narrowFirst, order-narrowFirst}
+use Rattle.theory.specs.Steps.{length-narrowFirst, narrowFirst-both, limitCoefficients-within, firstNonzero-none}
+use Rattle.theory.specs.Steps.{zeroBlock-all}
 use Rattle.theory.specs.Triangular.{Triangular, triangular-start, triangular-chain}
 use Rattle.theory.specs.Multipliers.{multipliers-nonzero}
 use Rattle.theory.specs.Shapes.{StateShaped, chain-shapes, narrowFirst-all, current-shaped, pivot-shaped}
 use Rattle.theory.specs.Values.{shaped-same, value-combined, value-shiftUp}
-use Rattle.theory.specs.Lists.{all-getD, all-set, all-of-set, append-all, all-front, all-back, all-map, all-reverse, all-member, all-swap, all-always}
+use Rattle.theory.specs.Lists.{all-getD, all-set, all-of-set, append-all, all-front, all-back, all-map, all-reverse}
+use Rattle.theory.specs.Lists.{all-member, all-swap, all-always}
 
 -- ---- one combination
 
@@ -72,12 +77,14 @@ module _ (l : ℤ) (z : Sequence) (g h : Polynomial) (d : ℕ) (positive : 0 < d
 
   pub combine-back-at : (n : ℤ) → eval g n ≢ pos 0 → valueOf l r′ z n ≡ pos 0 → valueOf l q z n ≡ pos 0 → valueOf l r z n ≡ pos 0
   combine-back-at n nonzero x y = nonzero-factor (eval g n) (valueOf l r z n) nonzero
-      (sym (left-multiple (eval g n) (eval h n) (valueOf l r z n) (valueOf l q z n) y) ∙ sym (value n) ∙ ap (λ v. pos d *ℤ v) x ∙ *ℤ-zero (pos d))
+      (sym (left-multiple (eval g n) (eval h n) (valueOf l r z n) (valueOf l q z n) y)
+      ∙ sym (value n) ∙ ap (λ v. pos d *ℤ v) x ∙ *ℤ-zero (pos d))
 
   pub combine-root-at : (side : Side) (n : ℤ) → T (not (isZero g)) → eval g n ≡ pos 0 → All (SatisfiesRelation l z) (rootRelations side g r)
       → valueOf l r z n ≡ pos 0
   combine-root-at side n nonzero e a =
-      all-member (λ n. valueOf l r z n ≡ pos 0) (roots g) (place (roots g) (roots-complete g n nonzero e)) (rootRelations-satisfied l z side g r .0 a)
+      all-member (λ n. valueOf l r z n ≡ pos 0) (roots g) (place (roots g) (roots-complete g n nonzero e))
+      (rootRelations-satisfied l z side g r .0 a)
 
   pub combine-solutions : (side : Side) → T (not (isZero g))
       → (SatisfiesEquation l z r × SatisfiesEquation l z q)
@@ -87,7 +94,11 @@ module _ (l : ℤ) (z : Sequence) (g h : Polynomial) (d : ℕ) (positive : 0 < d
     where
       forth : ((n : ℤ) → valueOf l r z n ≡ pos 0) × ((n : ℤ) → valueOf l q z n ≡ pos 0)
           → ((n : ℤ) → valueOf l r′ z n ≡ pos 0) × ((n : ℤ) → valueOf l q z n ≡ pos 0) × All (SatisfiesRelation l z) (rootRelations side g r)
-      forth s = (λ n. combine-at n (s .0 n) (s .1 n), s .1, rootRelations-satisfied l z side g r .1 (all-always (λ n. valueOf l r z n ≡ pos 0) (s .0) (roots g)))
+      forth s = (
+        λ n. combine-at n (s .0 n) (s .1 n),
+        s .1,
+        rootRelations-satisfied l z side g r .1 (all-always (λ n. valueOf l r z n ≡ pos 0) (s .0) (roots g)),
+      )
 
       back : ((n : ℤ) → valueOf l r′ z n ≡ pos 0) × ((n : ℤ) → valueOf l q z n ≡ pos 0) × All (SatisfiesRelation l z) (rootRelations side g r)
           → ((n : ℤ) → valueOf l r z n ≡ pos 0) × ((n : ℤ) → valueOf l q z n ≡ pos 0)
@@ -121,7 +132,8 @@ module _ (l : ℤ) (z : Sequence) (rows : List Row) (relations : List Relation) 
       let e = all-swap (SatisfiesEquation l z) rows noRow i j below-i below-j in
       (λ s. (e .1 (s .0), s .1), λ s. (e .0 (s .0), s .1))
 
-  pub combine-satisfied : (side : Side) (g h : Polynomial) (d i j : ℕ) (r′ : Row) → i < length rows → j < length rows → j ≢ i → T (not (isZero g)) → 0 < d
+  pub combine-satisfied : (side : Side) (g h : Polynomial) (d i j : ℕ) (r′ : Row)
+      → i < length rows → j < length rows → j ≢ i → T (not (isZero g)) → 0 < d
       → ((n : ℤ) → pos d *ℤ valueOf l r′ z n ≡ eval g n *ℤ valueOf l (getD rows i noRow) z n +ℤ eval h n *ℤ valueOf l (getD rows j noRow) z n)
       → Satisfies l rows relations z ↔ Satisfies l (set rows i r′) (relations ++ rootRelations side g (getD rows i noRow)) z
   unfolding Satisfies
@@ -143,7 +155,8 @@ module _ (l : ℤ) (z : Sequence) (rows : List Row) (relations : List Relation) 
       forth : All (SatisfiesEquation l z) rows × All (SatisfiesRelation l z) relations
           → All (SatisfiesEquation l z) (set rows i r′) × All (SatisfiesRelation l z) (relations ++ listed)
       forth s =
-          let new = both .0 (all-getD (SatisfiesEquation l z) rows noRow i below-i (s .0), all-getD (SatisfiesEquation l z) rows noRow j below-j (s .0)) in
+          let old = all-getD (SatisfiesEquation l z) rows noRow i below-i (s .0) in
+          let new = both .0 (old, all-getD (SatisfiesEquation l z) rows noRow j below-j (s .0)) in
           (all-set (SatisfiesEquation l z) rows i r′ (new .0) (s .0), append-all (SatisfiesRelation l z) relations listed (s .1) (new .2))
 
       back : All (SatisfiesEquation l z) (set rows i r′) × All (SatisfiesRelation l z) (relations ++ listed)
@@ -170,7 +183,8 @@ module _ (l : ℤ) (z : Sequence) (rows : List Row) (relations : List Relation) 
       forth : All (SatisfiesEquation l z) rows × All (SatisfiesRelation l z) relations
           → All (SatisfiesEquation l z) (set rows i (shiftUp r)) × All (SatisfiesRelation l z) relations
       forth s =
-          (all-set (SatisfiesEquation l z) rows i (shiftUp r) (both .1 (all-getD (SatisfiesEquation l z) rows noRow i below (s .0))) (s .0), s .1)
+          let new = both .1 (all-getD (SatisfiesEquation l z) rows noRow i below (s .0)) in
+          (all-set (SatisfiesEquation l z) rows i (shiftUp r) new (s .0), s .1)
 
       back : All (SatisfiesEquation l z) (set rows i (shiftUp r)) × All (SatisfiesRelation l z) relations
           → All (SatisfiesEquation l z) rows × All (SatisfiesRelation l z) relations
@@ -191,7 +205,9 @@ multipliersFor-nonzero s j t before below meets =
     (subst (λ o. T (not (isZero (entry (rowAt (exchanged s j) j) (getD o j 0))))) (sym (order-narrowFirst s (current s) j)) pivot)
   where
     pivot : T (not (isZero (entry (rowAt (exchanged s j) j) (getD (s .order) j 0))))
-    pivot = narrowFirst-both (λ r. T (not (isZero (entry r (getD (s .order) j 0))))) s (current s) j below (omega arith) meets (t .pivots j before .diagonal) .1
+    pivot =
+        narrowFirst-both (λ r. T (not (isZero (entry r (getD (s .order) j 0))))) s (current s) j below (omega arith)
+        meets (t .pivots j before .diagonal) .1
 
 -- The row that a combination makes, at every n.
 pub combined-value : (s : State) (j : ℕ) (r : Row) → All StoreRow (s .rows) → j < current s → current s < length (s .rows)
@@ -205,7 +221,8 @@ combined-value s j r shapes before below e =
     (current-shaped s j before below shapes) (pivot-shaped s j before below shapes)) e
 
 -- Rule 6 shifts only a row whose leading block is zero.
-pub shifted-zeros : (s : State) → firstNonzero (leadingBlock (rowAt s (current s))) ≡ none → T (zeroBlock (leadingBlock (rowAt s (current s))))
+pub shifted-zeros : (s : State) → firstNonzero (leadingBlock (rowAt s (current s))) ≡ none
+    → T (zeroBlock (leadingBlock (rowAt s (current s))))
 shifted-zeros s f = zeroBlock-all (leadingBlock (rowAt s (current s))) (firstNonzero-none (leadingBlock (rowAt s (current s))) f)
 
 module _ (l : ℤ) (z : Sequence) where
@@ -218,14 +235,16 @@ module _ (l : ℤ) (z : Sequence) where
         λ a. (rows .0 (a .0), subst (All (SatisfiesRelation l z)) (relations-narrowFirst s (current s) j) (a .1)),
       )
 
-  combined-satisfied : (side : Side) (s : State) (j : ℕ) (r : Row) → All StoreRow (s .rows) → Triangular s → j < current s → current s < length (s .rows)
+  combined-satisfied : (side : Side) (s : State) (j : ℕ) (r : Row) → All StoreRow (s .rows) → Triangular s
+      → j < current s → current s < length (s .rows)
       → T (not (isZero (met s j))) → limitDegrees (combination s j) ≡ within r
       → Satisfies l (exchanged s j .rows) (exchanged s j .relations) z
       ↔ Satisfies l (putRow (listed side s j) (current s) r .rows) (putRow (listed side s j) (current s) r .relations) z
   unfolding putRow listRelations rowAt
   combined-satisfied side s j r shapes t before below meets e =
       let value = combined-value s j r shapes before below e in
-      combine-satisfied l z (exchanged s j .rows) (exchanged s j .relations) side (multipliersFor s j .g) (multipliersFor s j .h) (value .0) (current s) j r
+      combine-satisfied l z (exchanged s j .rows) (exchanged s j .relations)
+      side (multipliersFor s j .g) (multipliersFor s j .h) (value .0) (current s) j r
       (omega (arith, length-narrowFirst s (current s) j)) (omega (arith, length-narrowFirst s (current s) j)) (omega arith)
       (multipliersFor-nonzero s j t before below meets) (value .1) (value .2 l z)
 
@@ -250,7 +269,8 @@ module _ (l : ℤ) (z : Sequence) where
   pub chain-solutions : {side : Side} {s s′ : State} {k : ℕ} → StateShaped s → Triangular s → Chain side s k s′
       → Satisfies l (s .rows) (s .relations) z ↔ Satisfies l (s′ .rows) (s′ .relations) z
   chain-solutions shaped t here = (λ a. a, λ a. a)
-  chain-solutions shaped t (next c u) = Iff·trans (chain-solutions shaped t c) (stepped-solutions (chain-shapes c shaped) (triangular-chain c t) u)
+  chain-solutions shaped t (next c u) =
+      Iff·trans (chain-solutions shaped t c) (stepped-solutions (chain-shapes c shaped) (triangular-chain c t) u)
 
   -- A run from rows and relations of the shapes of a store.
   pub run-solutions : {side : Side} {s : State} {k : ℕ} (rows : List Row) (relations : List Relation)

@@ -66,9 +66,14 @@ combination s j =
 
 -- One step that goes on.
 pub data Stepped (side : Side) (s : State) : State → Type 0 where
-  combined : (j : ℕ) → j < current s → current s < length (s .rows) → T (not (zeroRow (rowAt s (current s)))) → MetZeroBelow s j → T (not (isZero (met s j))) → length (listed side s j .relations) ≤ mostRelations → (r : Row) → limitDegrees (combination s j) ≡ within r → Stepped side s (putRow (listed side s j) (current s) r)
-  settled : (c : ℕ) → current s < length (s .rows) → T (not (zeroRow (rowAt s (current s)))) → MetZeroBelow s (current s) → firstNonzero (leadingBlock (rowAt s (current s))) ≡ some c → Stepped side s (settle s c)
-  shifted : (r : Row) → current s < length (s .rows) → T (not (zeroRow (rowAt s (current s)))) → MetZeroBelow s (current s) → firstNonzero (leadingBlock (rowAt s (current s))) ≡ none → limitCoefficients (shiftUp (rowAt s (current s))) ≡ within r → Stepped side s (putRow (countShift s) (current s) r)
+  combined : (j : ℕ) → j < current s → current s < length (s .rows) → T (not (zeroRow (rowAt s (current s)))) → MetZeroBelow s j
+      → T (not (isZero (met s j))) → length (listed side s j .relations) ≤ mostRelations → (r : Row) → limitDegrees (combination s j) ≡ within r
+      → Stepped side s (putRow (listed side s j) (current s) r)
+  settled : (c : ℕ) → current s < length (s .rows) → T (not (zeroRow (rowAt s (current s)))) → MetZeroBelow s (current s)
+      → firstNonzero (leadingBlock (rowAt s (current s))) ≡ some c → Stepped side s (settle s c)
+  shifted : (r : Row) → current s < length (s .rows) → T (not (zeroRow (rowAt s (current s)))) → MetZeroBelow s (current s)
+      → firstNonzero (leadingBlock (rowAt s (current s))) ≡ none → limitCoefficients (shiftUp (rowAt s (current s))) ≡ within r
+      → Stepped side s (putRow (countShift s) (current s) r)
 
 -- k steps, one after another.
 pub data Chain (side : Side) (s : State) : ℕ → State → Type 0 where
@@ -131,7 +136,8 @@ pub data Narrowed (s : State) (i j : ℕ) : State → Type 0 where
 
 pub narrowed : (s : State) (i j : ℕ) → Narrowed s i j (narrowFirst s i j)
 unfolding narrowFirst
-narrowed s i j = go (ltb (width (rowAt s i)) (width (rowAt s j))) (ltb→lt (width (rowAt s i)) (width (rowAt s j))) (nltb→le (width (rowAt s i)) (width (rowAt s j)))
+narrowed s i j = go (ltb (width (rowAt s i)) (width (rowAt s j)))
+    (ltb→lt (width (rowAt s i)) (width (rowAt s j))) (nltb→le (width (rowAt s i)) (width (rowAt s j)))
   where
     go : (t : Bool) → (T t → width (rowAt s i) < width (rowAt s j)) → (T (not t) → width (rowAt s j) ≤ width (rowAt s i))
         → Narrowed s i j (cond t (exchange s i j) s)
@@ -288,7 +294,8 @@ chain-relations {s} (next c t) =
 pub data StepView (side : Side) (s : State) : Outcome → Type 0 where
   ended : length (s .rows) ≤ current s → StepView side s (done s)
   zero-row : current s < length (s .rows) → T (zeroRow (rowAt s (current s))) → StepView side s (refused 6)
-  over-limit : (n : ℕ) → current s < length (s .rows) → T (not (zeroRow (rowAt s (current s)))) → (n ≡ 7) ⊎ (n ≡ 8) ⊎ (n ≡ 9) → StepView side s (refused n)
+  over-limit : (n : ℕ) → current s < length (s .rows) → T (not (zeroRow (rowAt s (current s))))
+      → (n ≡ 7) ⊎ (n ≡ 8) ⊎ (n ≡ 9) → StepView side s (refused n)
   goes-on : {s' : State} → Stepped side s s' → StepView side s (going s')
 
 within≢beyond : {r : Row} {n : ℕ} → within r ≡ beyond n → ⊥
@@ -337,7 +344,8 @@ getD-map-inside f (x ∷ l) zero d e h = refl
 getD-map-inside f (x ∷ l) (suc k) d e h = getD-map-inside f l k d e (suc-le-suc-iff .0 h)
 
 module _ (side : Side) (s : State) (more : current s < length (s .rows)) (nonzero : T (not (zeroRow (rowAt s (current s))))) where
-  shiftStep-view : MetZeroBelow s (current s) → firstNonzero (leadingBlock (rowAt s (current s))) ≡ none → StepView side s (shiftStep s (current s))
+  shiftStep-view : MetZeroBelow s (current s) → firstNonzero (leadingBlock (rowAt s (current s))) ≡ none
+      → StepView side s (shiftStep s (current s))
   unfolding shiftStep
   shiftStep-view clear e = go (limitCoefficients (shiftUp (rowAt s (current s)))) refl
     where
@@ -351,7 +359,8 @@ module _ (side : Side) (s : State) (more : current s < length (s .rows)) (nonzer
   settleOrShift-view clear (some c) e = goes-on (settled c more nonzero clear e)
   settleOrShift-view clear none e = shiftStep-view clear e
 
-  eliminateStep-view : (j : ℕ) → j < current s → MetZeroBelow s j → T (not (isZero (met s j))) → StepView side s (eliminateStep side s (current s) j)
+  eliminateStep-view : (j : ℕ) → j < current s → MetZeroBelow s j → T (not (isZero (met s j)))
+      → StepView side s (eliminateStep side s (current s) j)
   unfolding eliminateStep combineStep
   eliminateStep-view j below clear meets =
       go (leb (length (listed side s j .relations)) mostRelations) (leb→le (length (listed side s j .relations)) mostRelations)
@@ -360,7 +369,8 @@ module _ (side : Side) (s : State) (more : current s < length (s .rows)) (nonzer
       go : (t : Bool) → (T t → length (listed side s j .relations) ≤ mostRelations) → (l : Limited) → limitDegrees (combination s j) ≡ l
           → StepView side s (cond t (putLimited (listed side s j) (current s) l) (refused 9))
       go true few (within r) f = goes-on (combined j below more nonzero clear meets (few tt) r f)
-      go true few (beyond n) f = over-limit n more nonzero (elim (limitDegrees-beyond (combination s j) n f) [ inl e ↦ inl e | inr e ↦ inr (inl e) ])
+      go true few (beyond n) f = over-limit n more nonzero
+          (elim (limitDegrees-beyond (combination s j) n f) [ inl e ↦ inl e | inr e ↦ inr (inl e) ])
       go false few l f = over-limit 9 more nonzero (inr (inr refl))
 
   meet-view : (o : Option ℕ) → firstNonzero (map (entry (rowAt s (current s))) (s .order)) ≡ o → StepView side s (meet side s (current s) o)
@@ -387,7 +397,8 @@ module _ (side : Side) (s : State) (more : current s < length (s .rows)) (nonzer
   meet-view none e = settleOrShift-view clear (firstNonzero (leadingBlock (rowAt s (current s)))) refl
     where
       clear : MetZeroBelow s (current s)
-      clear k h = rw (getD-map-inside (entry (rowAt s (current s))) (s .order) k 0 [] h) at (firstNonzero-none (map (entry (rowAt s (current s))) (s .order)) e k)
+      clear k h = rw (getD-map-inside (entry (rowAt s (current s))) (s .order) k 0 [] h) at
+          (firstNonzero-none (map (entry (rowAt s (current s))) (s .order)) e k)
 
 pub step-view : (side : Side) (s : State) → StepView side s (step side s)
 unfolding step workOn
@@ -405,22 +416,22 @@ step-view side s = go (ltb (current s) (length (s .rows))) (ltb→lt (current s)
 
 -- ---- the same by the outcome
 
-going-injective : {s s' : State} → going s ≡ going s' → s ≡ s'
+pub going-injective : {s s' : State} → going s ≡ going s' → s ≡ s'
 going-injective e = cc
 
-done-injective : {s s' : State} → done s ≡ done s' → s ≡ s'
+pub done-injective : {s s' : State} → done s ≡ done s' → s ≡ s'
 done-injective e = cc
 
-refused-injective : {n n' : ℕ} → refused n ≡ refused n' → n ≡ n'
+pub refused-injective : {n n' : ℕ} → refused n ≡ refused n' → n ≡ n'
 refused-injective e = cc
 
-going≢done : {s s' : State} → going s ≡ done s' → ⊥
+pub going≢done : {s s' : State} → going s ≡ done s' → ⊥
 going≢done e = let z : _≡_ {A = ℕ} 0 1 = cc in omega arith
 
-going≢refused : {s : State} {n : ℕ} → going s ≡ refused n → ⊥
+pub going≢refused : {s : State} {n : ℕ} → going s ≡ refused n → ⊥
 going≢refused e = let z : _≡_ {A = ℕ} 0 1 = cc in omega arith
 
-done≢refused : {s : State} {n : ℕ} → done s ≡ refused n → ⊥
+pub done≢refused : {s : State} {n : ℕ} → done s ≡ refused n → ⊥
 done≢refused e = let z : _≡_ {A = ℕ} 0 1 = cc in omega arith
 
 view-going : {side : Side} {s s' : State} {o : Outcome} → StepView side s o → o ≡ going s' → Stepped side s s'
@@ -439,7 +450,8 @@ view-done (goes-on p) e = absurd (going≢done e)
 abbrev pub Refusal : State → ℕ → Type 0
 Refusal s n = ((n ≡ 6) × T (zeroRow (rowAt s (current s)))) ⊎ ((n ≡ 7) ⊎ (n ≡ 8) ⊎ (n ≡ 9))
 
-view-refused : {side : Side} {s : State} {o : Outcome} {n : ℕ} → StepView side s o → o ≡ refused n → (current s < length (s .rows)) × Refusal s n
+view-refused : {side : Side} {s : State} {o : Outcome} {n : ℕ} → StepView side s o → o ≡ refused n
+    → (current s < length (s .rows)) × Refusal s n
 view-refused (ended h) e = absurd (done≢refused e)
 view-refused (zero-row h z) e = (h, inl (sym (refused-injective e), z))
 view-refused {n} (over-limit k h z c) e = (h, inr (rw (refused-injective e) at c))
@@ -487,7 +499,8 @@ run-going side (suc k) s s' e = go (step-view side s) (run-going side k) e
     go (over-limit n h z c) rec e = absurd (going≢refused (sym e))
     go (goes-on {s' = u} p) rec e = chain-before p (rec u s' e)
 
-pub run-done : (side : Side) (k : ℕ) (s s' : State) → run side k s ≡ done s' → (j : ℕ) × Chain side s j s' × (length (s' .rows) ≤ current s')
+pub run-done : (side : Side) (k : ℕ) (s s' : State) → run side k s ≡ done s'
+    → (j : ℕ) × Chain side s j s' × (length (s' .rows) ≤ current s')
 unfolding run
 run-done side zero s s' e = absurd (going≢done e)
 run-done side (suc k) s s' e = go (step-view side s) (run-done side k) e

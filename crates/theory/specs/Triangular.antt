@@ -9,7 +9,9 @@
 --   triangular-start, triangular-stepped, triangular-chain   every state of a run is triangular
 --   order-distinct           the columns of the settled rows are different
 --   order-complete           with m settled rows and m columns in use, every column belongs to a settled row
+--   column-below             the columns of the settled rows are in use
 --   combined-clears          the row that a combination with row j makes is zero at the columns of rows 1 to j
+--   combined-advances        so the settled row that is met next comes after row j
 use Prim.Native.Nat.{ℕ, suc, _≤_, _<_, zero-le}
 use mathlib.Core.Path.{_≡_, refl, sym, _∙_, ap, ap₂, subst}
 use mathlib.Core.Logic.{_≢_, _⊎_, inl, inr}
@@ -75,8 +77,8 @@ pivot-append order c j r h p =
     }
 
 -- Rule 5 gives the row a column at which it is nonzero; at the earlier columns it is zero.
-settled-pivots : (s : State) (c : ℕ) → MetZeroBelow s (current s) → firstNonzero (leadingBlock (rowAt s (current s))) ≡ some c → Triangular s
-    → (k : ℕ) → k < suc (current s) → PivotRow (s .order ++ (c ∷ [])) k (rowAt s k)
+settled-pivots : (s : State) (c : ℕ) → MetZeroBelow s (current s) → firstNonzero (leadingBlock (rowAt s (current s))) ≡ some c
+    → Triangular s → (k : ℕ) → k < suc (current s) → PivotRow (s .order ++ (c ∷ [])) k (rowAt s k)
 unfolding entry
 settled-pivots s c clear found t k h = cases (ℕ-discrete k (current s))
   where
@@ -119,7 +121,8 @@ rowAt-combined side s j r k h = rowAt-putRow-other (listed side s j) (current s)
 pub triangular-stepped : {side : Side} {s s' : State} → Stepped side s s' → Triangular s → Triangular s'
 unfolding putRow countShift
 triangular-stepped {side} {s} (combined j below more nonzero clear meets few r f) t =
-    same-order s (putRow (listed side s j) (current s) r) (listed-order side s j) (stepped-length (combined j below more nonzero clear meets few r f)) (t .fits)
+    same-order s (putRow (listed side s j) (current s) r) (listed-order side s j)
+    (stepped-length (combined j below more nonzero clear meets few r f)) (t .fits)
     λ k h. rw (rowAt-combined side s j r k h) (exchanged-pivots s j t below more clear meets k h)
 triangular-stepped {side} {s} (settled c more nonzero clear f) t = settled-triangular s c more clear f t
 triangular-stepped {side} {s} (shifted r more nonzero clear f g) t =
@@ -204,7 +207,8 @@ combine-pivots order j r q x same p e k h = cases (ℕ-discrete k j)
   where
     cases : Dec (k ≡ j) → T (isZero (cell (combine (x .g) (x .h) r q) 0 (getD order k 0)))
     cases (yes f) = subst (λ n. T (isZero (cell (combine (x .g) (x .h) r q) 0 (getD order n 0)))) (sym f)
-        (subst (λ y. T (isZero (cell (combine (y .g) (y .h) r q) 0 (getD order j 0)))) (sym same) (cancelled r q (getD order j 0) (e .diagonal)))
+        (subst (λ y. T (isZero (cell (combine (y .g) (y .h) r q) 0 (getD order j 0)))) (sym same)
+        (cancelled r q (getD order j 0) (e .diagonal)))
     cases (no n) = let b : k < j = omega arith in combine-zero (x .g) (x .h) r q 0 (getD order k 0) (p .zeros k b) (e .zeros k b)
 
 module _ (s : State) (j : ℕ) (t : Triangular s) (below : j < current s) (more : current s < length (s .rows))

@@ -23,20 +23,23 @@ use mathlib.Core.Bool.{Bool, true, false, _&&_, cond}
 use mathlib.Core.List.{List, [], _∷_, _++_, map, tail, flatten, zipWith, head-eq-of-cons-eq, tail-eq-of-cons-eq, nil≢cons, cons≢nil}
 use lib.Dec.{T, eqb, eqb-refl, eqb→eq}
 use lib.ListN.{length, take, drop, getD, replicate}
-use lib.IntN.{ℤ, pos, negsuc, negℤ, natAbs, predℤ, _+ℤ_, _-ℤ_, _*ℤ_, +ℤ-idl, +ℤ-idr, +ℤ-one, +ℤ-invr, sucℤ-+ℤ, predℤ-+ℤ, +ℤ-predℤ, negℤ-sucℤ, pred-suc, *ℤ-zero}
+use lib.IntN.{ℤ, pos, negsuc, negℤ, natAbs, predℤ, _+ℤ_, _-ℤ_, _*ℤ_, +ℤ-idl, +ℤ-idr, +ℤ-one, +ℤ-invr, sucℤ-+ℤ, predℤ-+ℤ, +ℤ-predℤ}
+use lib.IntN.{negℤ-sucℤ, pred-suc, *ℤ-zero}
 use Rattle.algebra.specs.Integers.{ringℤ, one-*ℤ, *ℤ-+ℤ, -ℤ-zero}
 use Rattle.algebra.specs.Division.{DividesZ}
 use Rattle.algebra.specs.Gcd.{divideBy, DividesAll, eval-divideBy}
-use Rattle.algebra.specs.Polynomials.{Polynomial, eval, isZero, isZeroℤ, add, mul, shift, eval-add, eval-mul, eval-shift, eval-take, eval-isZero, isZeroℤ-iff, T-&&}
+use Rattle.algebra.specs.Polynomials.{Polynomial, eval, isZero, isZeroℤ, add, mul, shift, eval-add, eval-mul, eval-shift}
+use Rattle.algebra.specs.Polynomials.{eval-take, eval-isZero, isZeroℤ-iff, T-&&}
 use Rattle.algebra.specs.Sums.{sum, range, sumBelow, sumBelow-front, sumBelow-congr}
 use Rattle.rules.specs.Limits.{coefficientCount}
-use Rattle.rules.specs.Rows.{Block, Row, All, every, mapRow, coefficientsOf, zeroBlock, zeroRow, leadingBlock, combine, primitive, lowDegrees, cut, smallRow, blank, shiftUp}
+use Rattle.rules.specs.Rows.{Block, Row, All, every, mapRow, coefficientsOf, zeroBlock, zeroRow, leadingBlock, combine, primitive}
+use Rattle.rules.specs.Rows.{lowDegrees, cut, smallRow, blank, shiftUp}
 use Rattle.rules.specs.Elimination.{within, limitDegrees}
 use Rattle.rules.specs.Stores.{Shaped, unusedZero}
 use Rattle.rules.specs.Sequences.{Sequence, blockValue, blocksValue, valueOf, Same, blockFrom, polynomialAt}
 use Rattle.theory.specs.Lists.{all-mono, all-getD-default, getD-all, all-of-flatten, all-of-every, all-always}
 use Rattle.theory.specs.Steps.{limitDegrees-within}
-use Rattle.theory.specs.Shapes.{primitive-divides}
+use Rattle.theory.specs.Shapes.{combineEntry, primitive-divides}
 
 -- ---- g × r + h × q
 
@@ -48,7 +51,8 @@ pub shaped-columns : (b c k : ℕ) (r : Row) → Shaped b c k r → map {B = ℕ
 unfolding Shaped
 shaped-columns b c k r h = go (r .blocks) (h .1) ∙ ap (λ n. replicate n c) (h .0)
   where
-    go : (bs : List Block) → All (λ block. (length block ≡ c) × All (λ p. length p ≡ k) block) bs → map {B = ℕ} length bs ≡ replicate (length bs) c
+    go : (bs : List Block) → All (λ block. (length block ≡ c) × All (λ p. length p ≡ k) block) bs
+        → map {B = ℕ} length bs ≡ replicate (length bs) c
     go [] a = refl
     go (b ∷ bs) a = ap₂ _∷_ (a .0 .0) (go bs (a .1))
 
@@ -62,14 +66,17 @@ module _ (g h : Polynomial) (n : ℤ) where
   nothing-combined : pos 0 ≡ eval g n *ℤ pos 0 +ℤ eval h n *ℤ pos 0
   nothing-combined = simp ringℤ
 
-  combined-term : (x y : ℤ) (v s t : ℤ) → (eval g n *ℤ x +ℤ eval h n *ℤ y) *ℤ v +ℤ (eval g n *ℤ s +ℤ eval h n *ℤ t) ≡ eval g n *ℤ (x *ℤ v +ℤ s) +ℤ eval h n *ℤ (y *ℤ v +ℤ t)
+  combined-term : (x y v s t : ℤ)
+      → (eval g n *ℤ x +ℤ eval h n *ℤ y) *ℤ v +ℤ (eval g n *ℤ s +ℤ eval h n *ℤ t)
+      ≡ eval g n *ℤ (x *ℤ v +ℤ s) +ℤ eval h n *ℤ (y *ℤ v +ℤ t)
   combined-term x y v s t = simp ringℤ
 
-  combined-sum : (x y s t : ℤ) → eval g n *ℤ x +ℤ eval h n *ℤ y +ℤ (eval g n *ℤ s +ℤ eval h n *ℤ t) ≡ eval g n *ℤ (x +ℤ s) +ℤ eval h n *ℤ (y +ℤ t)
+  combined-sum : (x y s t : ℤ)
+      → eval g n *ℤ x +ℤ eval h n *ℤ y +ℤ (eval g n *ℤ s +ℤ eval h n *ℤ t) ≡ eval g n *ℤ (x +ℤ s) +ℤ eval h n *ℤ (y +ℤ t)
   combined-sum x y s t = simp ringℤ
 
   block-combine : (v : ℕ → ℤ) (b b′ : Block) → length b ≡ length b′
-      → blockValue n v (zipWith (λ p e. add (mul g p) (mul h e)) b b′) ≡ eval g n *ℤ blockValue n v b +ℤ eval h n *ℤ blockValue n v b′
+      → blockValue n v (zipWith (combineEntry g h) b b′) ≡ eval g n *ℤ blockValue n v b +ℤ eval h n *ℤ blockValue n v b′
   unfolding blockValue zipWith
   block-combine v [] [] e = nothing-combined
   block-combine v [] (q ∷ b′) e = absurd (omega arith)
@@ -79,7 +86,8 @@ module _ (g h : Polynomial) (n : ℤ) where
       ∙ combined-term (eval p n) (eval q n) (v 0) (blockValue n (λ c. v (suc c)) b) (blockValue n (λ c. v (suc c)) b′)
 
   blocks-combine : (z : ℤ → ℕ → ℤ) (k : ℤ) (bs bs′ : List Block) → map {B = ℕ} length bs ≡ map length bs′
-      → blocksValue n z k (zipWith (zipWith (λ p e. add (mul g p) (mul h e))) bs bs′) ≡ eval g n *ℤ blocksValue n z k bs +ℤ eval h n *ℤ blocksValue n z k bs′
+      → blocksValue n z k (zipWith (zipWith (combineEntry g h)) bs bs′)
+      ≡ eval g n *ℤ blocksValue n z k bs +ℤ eval h n *ℤ blocksValue n z k bs′
   unfolding blocksValue zipWith
   blocks-combine z k [] [] e = nothing-combined
   blocks-combine z k [] (b′ ∷ bs′) e = absurd (nil≢cons e)
@@ -119,13 +127,15 @@ dividesAll-parts : (d : ℕ) (r : Row) → DividesAll d (coefficientsOf r) → A
 unfolding coefficientsOf
 dividesAll-parts d r h =
     all-mono (All (All (DividesZ d))) (All (DividesAll d)) (λ b. all-mono (All (DividesZ d)) (DividesAll d) coefficients b) (r .blocks)
-    (all-of-flatten (All (DividesZ d)) (r .blocks) (all-of-flatten (DividesZ d) (flatten (r .blocks)) (getD-all (DividesZ d) _ (pos 0) (λ k _. h k))))
+    (all-of-flatten (All (DividesZ d)) (r .blocks)
+    (all-of-flatten (DividesZ d) (flatten (r .blocks)) (getD-all (DividesZ d) _ (pos 0) (λ k _. h k))))
   where
     coefficients : (p : Polynomial) → All (DividesZ d) p → DividesAll d p
     coefficients p a k = all-getD-default (DividesZ d) p (pos 0) k (dvd-zero d) a
 
 -- Division by the content: one number for all sequences and all n.
-pub value-primitive : (r : Row) → (d : ℕ) × (0 < d) × ((l : ℤ) (z : Sequence) (n : ℤ) → pos d *ℤ valueOf l (primitive r) z n ≡ valueOf l r z n)
+pub value-primitive : (r : Row)
+    → (d : ℕ) × (0 < d) × ((l : ℤ) (z : Sequence) (n : ℤ) → pos d *ℤ valueOf l (primitive r) z n ≡ valueOf l r z n)
 unfolding valueOf mapRow
 value-primitive r = (d, divides .1, value)
   where
@@ -170,18 +180,23 @@ value-cut l r z n h = blocks-same (take coefficientCount) r z n n (n +ℤ l)
 
 -- The row that one combination makes, within the limits: d times its value is the combination of the values, for one positive d.
 pub value-combined : (g h : Polynomial) (r q r′ : Row) → SameColumns r q → limitDegrees (primitive (combine g h r q)) ≡ within r′
-    → (d : ℕ) × (0 < d) × ((l : ℤ) (z : Sequence) (n : ℤ) → pos d *ℤ valueOf l r′ z n ≡ eval g n *ℤ valueOf l r z n +ℤ eval h n *ℤ valueOf l q z n)
+    → (d : ℕ) × (0 < d) × ((l : ℤ) (z : Sequence) (n : ℤ)
+    → pos d *ℤ valueOf l r′ z n ≡ eval g n *ℤ valueOf l r z n +ℤ eval h n *ℤ valueOf l q z n)
 value-combined g h r q r′ same e = (divided .0, divided .1, value)
   where
-    divided : (d : ℕ) × (0 < d) × ((l : ℤ) (z : Sequence) (n : ℤ) → pos d *ℤ valueOf l (primitive (combine g h r q)) z n ≡ valueOf l (combine g h r q) z n)
-    divided = value-primitive (combine g h r q)
+    whole : Row
+    whole = combine g h r q
 
-    limits : T (lowDegrees (primitive (combine g h r q))) × T (smallRow (cut (primitive (combine g h r q)))) × (r′ ≡ cut (primitive (combine g h r q)))
-    limits = limitDegrees-within (primitive (combine g h r q)) r′ e
+    divided : (d : ℕ) × (0 < d) × ((l : ℤ) (z : Sequence) (n : ℤ) → pos d *ℤ valueOf l (primitive whole) z n ≡ valueOf l whole z n)
+    divided = value-primitive whole
 
-    value : (l : ℤ) (z : Sequence) (n : ℤ) → pos (divided .0) *ℤ valueOf l r′ z n ≡ eval g n *ℤ valueOf l r z n +ℤ eval h n *ℤ valueOf l q z n
+    limits : T (lowDegrees (primitive whole)) × T (smallRow (cut (primitive whole))) × (r′ ≡ cut (primitive whole))
+    limits = limitDegrees-within (primitive whole) r′ e
+
+    value : (l : ℤ) (z : Sequence) (n : ℤ)
+        → pos (divided .0) *ℤ valueOf l r′ z n ≡ eval g n *ℤ valueOf l r z n +ℤ eval h n *ℤ valueOf l q z n
     value l z n =
-        ap (λ x. pos (divided .0) *ℤ x) (ap (λ x. valueOf l x z n) (limits .2) ∙ value-cut l (primitive (combine g h r q)) z n (limits .0))
+        ap (λ x. pos (divided .0) *ℤ x) (ap (λ x. valueOf l x z n) (limits .2) ∙ value-cut l (primitive whole) z n (limits .0))
         ∙ divided .2 l z n ∙ value-combine g h l r q z n same
 
 -- ---- zero blocks and zero rows
@@ -206,7 +221,8 @@ unfolding valueOf zeroRow
 value-zero l r z n h = blocks-zero n z (n +ℤ l) (r .blocks) h
 
 -- Zero blocks below the others do not count.
-pub blocks-append-zero : (n : ℤ) (z : Sequence) (k : ℤ) (bs cs : List Block) → T (every zeroBlock cs) → blocksValue n z k (bs ++ cs) ≡ blocksValue n z k bs
+pub blocks-append-zero : (n : ℤ) (z : Sequence) (k : ℤ) (bs cs : List Block) → T (every zeroBlock cs)
+    → blocksValue n z k (bs ++ cs) ≡ blocksValue n z k bs
 unfolding blocksValue
 blocks-append-zero n z k [] cs h = blocks-zero n z k cs h
 blocks-append-zero n z k (b ∷ bs) cs h = ap (λ s. blockValue n (z k) b +ℤ s) (blocks-append-zero n z (predℤ k) bs cs h)
@@ -224,22 +240,29 @@ blank-zero [] = tt
 blank-zero (p ∷ b) = T-&& (isZero (map (λ _. pos 0) p)) (every isZero (map (map (λ _. pos 0)) b)) .1 (zero-polynomial p, blank-zero b)
 
 -- Block l is zero, so the index of the first block that counts is that of the block below it.
-moved-up : (n k : ℤ) (z : Sequence) (bs : List Block) → T (zeroBlock (getD bs 0 [])) → blocksValue n z (predℤ k) (tail bs) ≡ blocksValue n z k bs
+moved-up : (n k : ℤ) (z : Sequence) (bs : List Block) → T (zeroBlock (getD bs 0 []))
+    → blocksValue n z (predℤ k) (tail bs) ≡ blocksValue n z k bs
 unfolding blocksValue
 moved-up n k z [] h = refl
-moved-up n k z (b ∷ bs) h = sym (ap (λ x. x +ℤ blocksValue n z (predℤ k) bs) (block-zero n (z k) b h) ∙ +ℤ-idl (blocksValue n z (predℤ k) bs))
+moved-up n k z (b ∷ bs) h =
+    sym (ap (λ x. x +ℤ blocksValue n z (predℤ k) bs) (block-zero n (z k) b h) ∙ +ℤ-idl (blocksValue n z (predℤ k) bs))
 
-pub value-shiftUp : (l : ℤ) (r : Row) (z : Sequence) (n : ℤ) → T (zeroBlock (leadingBlock r)) → valueOf l (shiftUp r) z n ≡ valueOf l r z (n +ℤ pos 1)
+pub value-shiftUp : (l : ℤ) (r : Row) (z : Sequence) (n : ℤ) → T (zeroBlock (leadingBlock r))
+    → valueOf l (shiftUp r) z n ≡ valueOf l r z (n +ℤ pos 1)
 unfolding valueOf shiftUp every
 value-shiftUp l r z n h =
-    blocks-same shift moved z n (n +ℤ pos 1) (n +ℤ l)
-    (all-always (All (λ p. eval (shift p) n ≡ eval p (n +ℤ pos 1))) (all-always (λ p. eval (shift p) n ≡ eval p (n +ℤ pos 1)) (λ p. eval-shift p n)) (moved .blocks))
-    ∙ blocks-append-zero (n +ℤ pos 1) z (n +ℤ l) (tail (r .blocks)) (blank (leadingBlock r) ∷ []) (T-&& (zeroBlock (blank (leadingBlock r))) true .1 (blank-zero (leadingBlock r), tt))
+    blocks-same shift moved z n (n +ℤ pos 1) (n +ℤ l) shifted
+    ∙ blocks-append-zero (n +ℤ pos 1) z (n +ℤ l) (tail (r .blocks)) (blank (leadingBlock r) ∷ [])
+    (T-&& (zeroBlock (blank (leadingBlock r))) true .1 (blank-zero (leadingBlock r), tt))
     ∙ ap (λ k. blocksValue (n +ℤ pos 1) z k (tail (r .blocks))) index
     ∙ moved-up (n +ℤ pos 1) (n +ℤ pos 1 +ℤ l) z (r .blocks) h
   where
     moved : Row
     moved = record { blocks = tail (r .blocks) ++ (blank (leadingBlock r) ∷ []) }
+
+    shifted : All (All (λ p. eval (shift p) n ≡ eval p (n +ℤ pos 1))) (moved .blocks)
+    shifted = all-always (All (λ p. eval (shift p) n ≡ eval p (n +ℤ pos 1)))
+        (all-always (λ p. eval (shift p) n ≡ eval p (n +ℤ pos 1)) (λ p. eval-shift p n)) (moved .blocks)
 
     index : n +ℤ l ≡ predℤ (n +ℤ pos 1 +ℤ l)
     index = sym (ap predℤ (ap (λ m. m +ℤ l) (+ℤ-one n) ∙ sucℤ-+ℤ n l) ∙ pred-suc (n +ℤ l))
@@ -250,7 +273,8 @@ pub blockValue-sum : (n : ℤ) (v : ℕ → ℤ) (b : Block) → blockValue n v 
 unfolding blockValue sumBelow sum range
 blockValue-sum n v [] = refl
 blockValue-sum n v (p ∷ b) =
-    ap (λ s. eval p n *ℤ v 0 +ℤ s) (blockValue-sum n (λ c. v (suc c)) b) ∙ sym (sumBelow-front (length b) (λ c. eval (getD (p ∷ b) c []) n *ℤ v c))
+    ap (λ s. eval p n *ℤ v 0 +ℤ s) (blockValue-sum n (λ c. v (suc c)) b)
+    ∙ sym (sumBelow-front (length b) (λ c. eval (getD (p ∷ b) c []) n *ℤ v c))
 
 pub index-below : (k : ℤ) (j : ℕ) → predℤ k -ℤ pos j ≡ k -ℤ pos (suc j)
 index-below k j = predℤ-+ℤ k (negℤ (pos j)) ∙ sym (ap (λ x. k +ℤ x) (negℤ-sucℤ (pos j)) ∙ +ℤ-predℤ k (negℤ (pos j)))
@@ -262,7 +286,8 @@ blocksValue-sum n z k [] = refl
 blocksValue-sum n z k (b ∷ bs) =
     ap₂ (λ i s. blockValue n (z i) b +ℤ s) (sym (+ℤ-idr k))
     (blocksValue-sum n z (predℤ k) bs
-    ∙ sumBelow-congr (length bs) (λ j. blockValue n (z (predℤ k -ℤ pos j)) (getD bs j [])) (λ j. blockValue n (z (k -ℤ pos (suc j))) (getD bs j []))
+    ∙ sumBelow-congr (length bs) (λ j. blockValue n (z (predℤ k -ℤ pos j)) (getD bs j []))
+    (λ j. blockValue n (z (k -ℤ pos (suc j))) (getD bs j []))
     (λ j h. ap (λ i. blockValue n (z i) (getD bs j [])) (index-below k j)))
     ∙ sym (sumBelow-front (length bs) (λ j. blockValue n (z (k -ℤ pos j)) (getD (b ∷ bs) j [])))
 
@@ -295,7 +320,8 @@ value-difference l r z y n = blocks-difference n z y (n +ℤ l) (r .blocks)
 
 -- ---- the indices and columns that count
 
-block-congruence : (n : ℤ) (m : ℕ) (v w : ℕ → ℤ) (b : Block) → T (zeroBlock (drop m b)) → ((c : ℕ) → c < m → v c ≡ w c) → blockValue n v b ≡ blockValue n w b
+block-congruence : (n : ℤ) (m : ℕ) (v w : ℕ → ℤ) (b : Block) → T (zeroBlock (drop m b)) → ((c : ℕ) → c < m → v c ≡ w c)
+    → blockValue n v b ≡ blockValue n w b
 unfolding blockValue
 block-congruence n zero v w b h e = block-zero n v b h ∙ sym (block-zero n w b h)
 block-congruence n (suc m) v w [] h e = refl
@@ -348,7 +374,8 @@ delta-index i c a b n = cond-failed (isZeroℤ (a -ℤ i) && eqb b c) (pos 1) (p
 
 pub delta-column : (i : ℤ) (c : ℕ) (a : ℤ) (b : ℕ) → b ≢ c → delta i c a b ≡ pos 0
 unfolding delta
-delta-column i c a b n = cond-failed (isZeroℤ (a -ℤ i) && eqb b c) (pos 1) (pos 0) (λ h. n (eqb→eq b c (T-&& (isZeroℤ (a -ℤ i)) (eqb b c) .0 h .1)))
+delta-column i c a b n = cond-failed (isZeroℤ (a -ℤ i) && eqb b c) (pos 1) (pos 0)
+    (λ h. n (eqb→eq b c (T-&& (isZeroℤ (a -ℤ i)) (eqb b c) .0 h .1)))
 
 -- A vector of zeros meets nothing.
 block-nothing : (n : ℤ) (v : ℕ → ℤ) (b : Block) → ((j : ℕ) → v j ≡ pos 0) → blockValue n v b ≡ pos 0
@@ -359,7 +386,8 @@ block-nothing n v (p ∷ b) zeros =
     ∙ ap (λ x. x +ℤ pos 0) (*ℤ-zero (eval p n))
 
 -- A vector that is 1 at column c and 0 elsewhere meets one polynomial.
-block-single : (n : ℤ) (v : ℕ → ℤ) (c : ℕ) (b : Block) → v c ≡ pos 1 → ((j : ℕ) → j ≢ c → v j ≡ pos 0) → blockValue n v b ≡ eval (getD b c []) n
+block-single : (n : ℤ) (v : ℕ → ℤ) (c : ℕ) (b : Block) → v c ≡ pos 1 → ((j : ℕ) → j ≢ c → v j ≡ pos 0)
+    → blockValue n v b ≡ eval (getD b c []) n
 unfolding blockValue eval
 block-single n v c [] one zeros = refl
 block-single n v zero (p ∷ b) one zeros =
@@ -381,7 +409,8 @@ module _ (n i : ℤ) (c : ℕ) where
   blocks-delta k [] (pos m) e = refl
   blocks-delta k [] (negsuc m) e = refl
   blocks-delta k (b ∷ bs) (pos zero) e =
-      ap₂ _+ℤ_ (block-single n (delta i c k) c b (subst (λ a. delta i c a c ≡ pos 1) (sym (-ℤ-zero k i e)) (delta-here i c)) (λ j. delta-column i c k j))
+      ap₂ _+ℤ_
+      (block-single n (delta i c k) c b (subst (λ a. delta i c a c ≡ pos 1) (sym (-ℤ-zero k i e)) (delta-here i c)) (λ j. delta-column i c k j))
       (blocks-delta (predℤ k) bs (negsuc 0) (predℤ-+ℤ k (negℤ i) ∙ ap predℤ e))
       ∙ +ℤ-idr (eval (getD b c []) n)
   blocks-delta k (b ∷ bs) (pos (suc m)) e =
@@ -395,7 +424,8 @@ module _ (n i : ℤ) (c : ℕ) where
 -- What a row makes of a sequence that is 1 at one index and one column is the polynomial there.
 pub value-delta : (l : ℤ) (r : Row) (i : ℤ) (c : ℕ) (n : ℤ) → valueOf l r (delta i c) n ≡ eval (polynomialAt l r (i -ℤ n) c) n
 unfolding valueOf polynomialAt
-value-delta l r i c n = blocks-delta n i c (n +ℤ l) (r .blocks) (n +ℤ l -ℤ i) refl ∙ ap (λ x. eval (getD (blockFrom (r .blocks) x) c []) n) place
+value-delta l r i c n =
+    blocks-delta n i c (n +ℤ l) (r .blocks) (n +ℤ l -ℤ i) refl ∙ ap (λ x. eval (getD (blockFrom (r .blocks) x) c []) n) place
   where
     place : n +ℤ l -ℤ i ≡ l -ℤ (i -ℤ n)
     place = simp ringℤ

@@ -1,0 +1,165 @@
+-- Demand 3's agreement on both sides: past the reported root, D vectors of a solution settle all that follow.
+--
+-- Main statements
+--   triangular-rows, diagonal-nonzero   the settled rows of a valid system can be substituted back, and no diagonal polynomial is zero
+--   leading-agreement      solutions equal at n + t to n + l - 1 are equal at every index from n + t on
+--   trailing-agreement     solutions equal at n + t + 1 to n + l are equal at every index up to n + l
+use Prim.Native.Nat.{ℕ, _-_, _≤_, _<_}
+use mathlib.Core.Path.{_≡_, sym, _∙_, ap, subst}
+use mathlib.Core.Bool.{not}
+use mathlib.Core.Option.{Option, none, some}
+use mathlib.Core.List.{[], map, List·Memᴰ, Memᴰ·map, Memᴰ·of-map}
+use lib.Dec.{T}
+use lib.ListN.{length, getD, drop}
+use lib.Seq.{getD-drop, drop-nil}
+use native.Mathlib.Nat.{add-sub-of-le}
+use lib.IntN.{ℤ, pos, negℤ, _+ℤ_, negℤ-negℤ, negℤ-+ℤ}
+use lib.Signed.{_≤ℤ_, _<ℤ_, <ℤ-≤ℤ-trans}
+use Rattle.algebra.specs.Order.{≤ℤ-<ℤ-trans, negℤ-≤ℤ, negℤ-<ℤ}
+use Rattle.algebra.specs.Polynomials.{Polynomial, eval, isZero, mirror, isZero-mirror, eval-mirror, T-&&}
+use Rattle.rules.specs.Rows.{Block, Row, noRow, All, every, smallRow, zeroBlock, entry, leadingBlock}
+use Rattle.rules.specs.Elimination.{leading, trailing, State, rowAt, mirrorState, diagonalPlace, diagonal, report}
+use Rattle.rules.specs.Stores.{Sizes, span, unusedZero, rowRight, Valid}
+use Rattle.rules.specs.Sequences.{Sequence, SatisfiesEquation, Satisfies, Same}
+use Rattle.theory.specs.Lists.{all-mono, all-getD, all-getD-default, every-all}
+use Rattle.theory.specs.Steps.{current}
+use Rattle.theory.specs.Triangular.{Triangular, ColumnsBelow, column-below, order-complete}
+use Rattle.theory.specs.Limits.{unusedZero-iff}
+use Rattle.theory.specs.BackSubstitution.{TriangularRows, NonzeroAt, SameBetween, agreement}
+use Rattle.theory.specs.Report.{Past, NonzeroDiagonal, diagonalEntry, diagonal-member, nonzero-diagonal, past-report}
+use Rattle.theory.specs.Mirror.{Reaches, Spans, reflect, mirror-diagonal, mirror-span-sum, mirror-satisfies-back}
+
+-- ---- the settled rows of a valid system
+
+-- A column past m of a block that is zero there.
+unused-column : (m : ℕ) (b : Block) (c : ℕ) → m ≤ c → T (zeroBlock (drop m b)) → T (isZero (getD b c []))
+unfolding zeroBlock isZero
+unused-column m b c h z =
+    subst (λ p. T (isZero p)) (getD-drop m b (c - m) [] ∙ ap (λ i. getD b i []) (add-sub-of-le h))
+    (all-getD-default (λ p. T (isZero p)) (drop m b) [] (c - m) tt (every-all isZero (drop m b) .0 z))
+
+unused-columns : (m D : ℕ) (r : Row) → T (unusedZero m D r) → ColumnsBelow m r
+unfolding entry leadingBlock zeroBlock every
+unused-columns m D r u c h =
+    unused-column m (getD (r .blocks) 0 []) c h
+    (all-getD-default (λ b. T (zeroBlock (drop m b))) (r .blocks) [] 0 none-used (unusedZero-iff m D r .0 u .0))
+  where
+    none-used : T (zeroBlock (drop m []))
+    none-used = subst (λ b. T (zeroBlock b)) (sym (drop-nil m)) tt
+
+module _ (z : Sizes) (s : State) (valid : Valid z (s .rows) (s .relations)) (triangular : Triangular s) (settled : current s ≡ z .m) where
+  unused-rows : All (λ r. T (unusedZero (z .m) (span z) r)) (s .rows)
+  unfolding rowRight
+  unused-rows =
+      all-mono (λ r. T (rowRight z r)) (λ r. T (unusedZero (z .m) (span z) r))
+      (λ r h. T-&& (smallRow r) (unusedZero (z .m) (span z) r) .0 h .1) (s .rows) (every-all (rowRight z) (s .rows) .0 (valid .rows-right))
+
+  narrow : All (ColumnsBelow (z .m)) (s .rows)
+  narrow = all-mono (λ r. T (unusedZero (z .m) (span z) r)) (ColumnsBelow (z .m)) (unused-columns (z .m) (span z)) (s .rows) unused-rows
+
+  pub triangular-rows : TriangularRows (z .m) (span z) (s .rows) (s .order)
+  unfolding rowAt
+  triangular-rows =
+      record {
+        row-count = valid .row-count;
+        column-below = λ j h. column-below (z .m) s triangular narrow j (below j h);
+        column-of = order-complete (z .m) s triangular narrow settled;
+        zero-before = λ j k h b. triangular .pivots j (below j b) .zeros k h;
+        unused = λ j h. all-getD (λ r. T (unusedZero (z .m) (span z) r)) (s .rows) noRow j (within j h) unused-rows;
+      }
+    where
+      within : (j : ℕ) → j < z .m → j < length (s .rows)
+      within j h = subst (λ n. j < n) (sym (valid .row-count)) h
+
+      below : (j : ℕ) → j < z .m → j < current s
+      below j h = subst (λ n. j < n) (sym settled) h
+
+  pub diagonal-nonzero : NonzeroDiagonal leading (span z) s
+  unfolding rowAt entry leadingBlock diagonalPlace
+  diagonal-nonzero = nonzero-diagonal leading (span z) s (λ j h b. triangular .pivots j b .diagonal)
+
+-- ---- agreement
+
+past-further : (o : Option ℤ) (n k : ℤ) → Past leading o n → n ≤ℤ k → Past leading o k
+past-further none n k p h = tt
+past-further (some r) n k p h = <ℤ-≤ℤ-trans p h
+
+past-lower : (o : Option ℤ) (n k : ℤ) → Past trailing o n → k ≤ℤ n → Past trailing o k
+past-lower none n k p h = tt
+past-lower (some r) n k p h = ≤ℤ-<ℤ-trans h p
+
+negate-sum : (a b : ℤ) → negℤ (negℤ a +ℤ negℤ b) ≡ a +ℤ b
+negate-sum a b = ap negℤ (sym (negℤ-+ℤ a b)) ∙ negℤ-negℤ (a +ℤ b)
+
+-- The state s holds m settled rows, triangular, of the leading side; or of the mirrored system.
+module _ (m D : ℕ) (s : State) (triangular : TriangularRows m D (s .rows) (s .order)) (settled : length (s .order) ≡ m)
+    (nonzero : NonzeroDiagonal leading D s) where
+  member : (j : ℕ) → j < m → List·Memᴰ (diagonalEntry leading D s j) (diagonal leading D s)
+  member j h =
+      diagonal-member leading D s j (subst (λ k. j < k) (sym (triangular .row-count)) h) (subst (λ k. j < k) (sym settled) h)
+
+  nonzero-past : (n : ℤ) → Past leading (report leading D s) n → NonzeroAt m (s .rows) (s .order) n
+  unfolding entry leadingBlock diagonalPlace
+  nonzero-past n past j h = past-report leading D s nonzero n past (diagonalEntry leading D s j) (member j h)
+
+  -- "Demand 3's agreement, leading side: for every equation index n past the reported root, or any n with "no", two of the
+  -- demand's sequences that are equal at indices n + t to n + l - 1 (none if D = 0) are equal at every index from n + t on."
+  pub leading-agreement : (l t : ℤ) → l ≡ t +ℤ pos D → (z y : Sequence)
+      → All (SatisfiesEquation l z) (s .rows) → All (SatisfiesEquation l y) (s .rows)
+      → (n : ℤ) → Past leading (report leading D s) n → SameBetween m z y (n +ℤ t) (n +ℤ l)
+      → (i : ℤ) → (n +ℤ t) ≤ℤ i → Same m z y i
+  leading-agreement l t span z y a b n past =
+      agreement triangular l t span z y a b n (λ k h. nonzero-past k (past-further (report leading D s) n k past h))
+
+  module _ (spans : All (Spans D) (s .rows)) where
+    mirrored-diagonal : diagonal trailing D (mirrorState D s) ≡ map mirror (diagonal leading D s)
+    mirrored-diagonal = mirror-diagonal D s (all-mono (Spans D) (Reaches D) (λ r h. h .reaches) (s .rows) spans)
+
+    nonzero-mirrored : NonzeroDiagonal trailing D (mirrorState D s)
+    nonzero-mirrored p h =
+        let (q, i, e) = Memᴰ·of-map mirror (diagonal leading D s) (subst (List·Memᴰ p) mirrored-diagonal h) in
+        subst (λ x. T (not (isZero x))) e (subst (λ b. T (not b)) (sym (isZero-mirror q)) (nonzero q i))
+
+    -- Below the report of the mirror at -k, the diagonal is nonzero at k.
+    nonzero-below : (k : ℤ) → Past trailing (report trailing D (mirrorState D s)) (negℤ k) → NonzeroAt m (s .rows) (s .order) k
+    unfolding entry leadingBlock diagonalPlace
+    nonzero-below k past j h e =
+        past-report trailing D (mirrorState D s) nonzero-mirrored (negℤ k) past (mirror p) inside
+        (eval-mirror p (negℤ k) ∙ ap (eval p) (negℤ-negℤ k) ∙ e)
+      where
+        p : Polynomial
+        p = diagonalEntry leading D s j
+
+        inside : List·Memᴰ (mirror p) (diagonal trailing D (mirrorState D s))
+        inside = subst (List·Memᴰ (mirror p)) (sym mirrored-diagonal) (Memᴰ·map mirror (member j h))
+
+    reflected : (l t : ℤ) → l ≡ t +ℤ pos D → (z : Sequence) → All (SatisfiesEquation l z) (mirrorState D s .rows)
+        → All (SatisfiesEquation (negℤ t) (reflect z)) (s .rows)
+    unfolding mirrorState Satisfies All
+    reflected l t span z a = mirror-satisfies-back D l t span z (s .rows) [] spans tt .0 (a, tt) .0
+
+    -- "Trailing side: for every n below the reported root, or any n with "no", two that are equal at n + t + 1 to n + l are
+    -- equal at every index up to n + l."
+    pub trailing-agreement : (l t : ℤ) → l ≡ t +ℤ pos D → (z y : Sequence)
+        → All (SatisfiesEquation l z) (mirrorState D s .rows) → All (SatisfiesEquation l y) (mirrorState D s .rows)
+        → (n : ℤ) → Past trailing (report trailing D (mirrorState D s)) n
+        → ((i : ℤ) → (n +ℤ t) <ℤ i → i ≤ℤ (n +ℤ l) → Same m z y i)
+        → (i : ℤ) → i ≤ℤ (n +ℤ l) → Same m z y i
+    unfolding Same
+    trailing-agreement l t span z y a b n past same i h =
+        subst (Same m z y) (negℤ-negℤ i)
+        (agreement triangular (negℤ t) (negℤ l) (mirror-span-sum D l t span) (reflect z) (reflect y)
+        (reflected l t span z a) (reflected l t span y b) (negℤ n) settles before (negℤ i) from)
+      where
+        settles : (k : ℤ) → negℤ n ≤ℤ k → NonzeroAt m (s .rows) (s .order) k
+        settles k p =
+            let below : negℤ k ≤ℤ n = subst (λ x. negℤ k ≤ℤ x) (negℤ-negℤ n) (negℤ-≤ℤ .0 p) in
+            nonzero-below k (past-lower (report trailing D (mirrorState D s)) n (negℤ k) past below)
+
+        before : SameBetween m (reflect z) (reflect y) (negℤ n +ℤ negℤ l) (negℤ n +ℤ negℤ t)
+        before k p q =
+            same (negℤ k) (subst (λ x. x <ℤ negℤ k) (negate-sum n t) (negℤ-<ℤ .0 q))
+            (subst (λ x. negℤ k ≤ℤ x) (negate-sum n l) (negℤ-≤ℤ .0 p))
+
+        from : (negℤ n +ℤ negℤ l) ≤ℤ negℤ i
+        from = subst (λ x. x ≤ℤ negℤ i) (negℤ-+ℤ n l) (negℤ-≤ℤ .0 h)
