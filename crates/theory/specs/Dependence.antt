@@ -49,8 +49,8 @@ use Rattle.theory.specs.Values.{delta, value-delta, value-zero, value-sh
 use Rattle.theory.specs.Solutions.{combined-value, multipliersFor-nonzero, shifted-zeros}
 use Rattle.theory.specs.Combinations.{cancel-common, dec-T, eval-nil, sumWithin, sumWithin-below, place-rest, place-of}
 use Rattle.theory.specs.Combinations.{Values, Multiplier, copies, combinationValue, combination-congr, combination-sum}
-use Rattle.theory.specs.Combinations.{combination-scale, DependentValues, combined-forward, combined-back, shifted-forward, shifted-back}
-use Rattle.theory.specs.Combinations.{exchanged-dependent, zero-dependent}
+use Rattle.theory.specs.Combinations.{combination-scale, DependentValues, combined-forward, combined-back, shifted-forward}
+use Rattle.theory.specs.Combinations.{shifted-back, exchanged-dependent, zero-dependent}
 
 -- ---- the value of a row as a sum over a window of indices and columns
 
