@@ -320,7 +320,13 @@ shift-bound side D k rows relations s narrow e =
       mul-suc (length rows) D,
     )
 
-mirrorOutcome-done : (D : ℕ) (o : Outcome) (s : State) → mirrorOutcome D o ≡ done s → (u : State) × (o ≡ done u) × (mirrorState D u ≡ s)
+pub mirrorOutcome-refused : (D : ℕ) (o : Outcome) (n : ℕ) → mirrorOutcome D o ≡ refused n → o ≡ refused n
+unfolding mirrorOutcome
+mirrorOutcome-refused D (going u) n e = absurd (going≢refused e)
+mirrorOutcome-refused D (done u) n e = absurd (done≢refused e)
+mirrorOutcome-refused D (refused k) n e = e
+
+pub mirrorOutcome-done : (D : ℕ) (o : Outcome) (s : State) → mirrorOutcome D o ≡ done s → (u : State) × (o ≡ done u) × (mirrorState D u ≡ s)
 unfolding mirrorOutcome
 mirrorOutcome-done D (going u) s e = absurd (going≢done e)
 mirrorOutcome-done D (done u) s e = (u, refl, done-injective e)

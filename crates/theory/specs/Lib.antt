@@ -14,3 +14,6 @@ pub mod BackSubstitution
 pub mod Mirror
 pub mod Report
 pub mod Agreement
+pub mod Settled
+pub mod Trailing
+pub mod Demands

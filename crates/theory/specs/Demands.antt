@@ -1,0 +1,205 @@
+-- Demand 3, sentence by sentence, for both sides: "For every accepted system, either side: the same two-sided integer
+-- sequences satisfy input and output; each diagonal polynomial is nonzero; solutions that agree on D successive vectors past
+-- the reported root agree ever after. No dependent system is accepted, and refusal 6 is given only where a nonzero combination
+-- of shifted equations vanishes."
+--
+-- Main definitions
+--   Accepted side z rows relations s   the system is valid and the whole run on that side accepts it with the final state s
+--   Ended o                            the outcomes of a run that has ended
+-- Main statements, by the numbers of their comments
+--   1 same-sequences          4 accepted-independent    7 report-no, report-root
+--   2 diagonal-nonzero        5 refused-dependent       8 output-valid
+--   3 agreement-leading,      6 run-ends,               9 next-row-later, zero-row-refused
+--     agreement-trailing        shifts-bounded
+use Prim.Native.Nat.{ℕ, zero, suc, _*_, _≤_, _<_}
+use mathlib.Core.Path.{_≡_, refl, sym, _∙_, subst}
+use mathlib.Core.Logic.{_↔_, inl, inr}
+use mathlib.Core.Bool.{Bool, true, false, not, cond}
+use mathlib.Core.List.{List, map}
+use mathlib.Core.Option.{Option, none, some}
+use lib.Dec.{T, ltb, lt→ltb}
+use lib.ListN.{length}
+use lib.IntN.{ℤ, _+ℤ_}
+use lib.Signed.{_≤ℤ_, _<ℤ_}
+use Rattle.algebra.specs.Polynomials.{isZero, T-&&}
+use Rattle.rules.specs.Rows.{Row, Relation, All, zeroRow, width, smallRow, entry, firstNonzero}
+use Rattle.rules.specs.Elimination.{Side, leading, trailing, State, Outcome, going, done, refused, start, enough, step, workOn, meet, run, wholeRun, leadingRun, trailingRun, mirrorState, diagonal, report, rowAt, putRow, limitDegrees, within}
+use Rattle.rules.specs.Stores.{Sizes, span, rowRight, unusedZero, Valid}
+use Rattle.rules.specs.Sequences.{Sequence, Satisfies, Same, Dependent}
+use Rattle.theory.specs.Lists.{all-mono, every-all}
+use Rattle.theory.specs.Steps.{current, met, MetZeroBelow, combination, listed, Chain, Refusal, run-refused, step-refused}
+use Rattle.theory.specs.Cells.{width-unused}
+use Rattle.theory.specs.Ending.{wholeRun-ends, wholeRun-shifts, mirrorOutcome-refused}
+use Rattle.theory.specs.Report.{Past, Rootless, FurthestRoot, report-none, report-some}
+use Rattle.theory.specs.Solutions.{run-solutions}
+use Rattle.theory.specs.Triangular.{triangular-start, triangular-chain, combined-advances}
+use Rattle.theory.specs.Dependence.{chain-dependent, settled-independent, refused-dependent as run-dependent}
+use Rattle.theory.specs.Mirror.{span-sum}
+use Rattle.theory.specs.Agreement.{leading-agreement}
+use Rattle.theory.specs.Trailing.{valid-shapes, mirrored-sequences, diagonal-back, valid-back, independent-back, agrees-back, trailing-dependent}
+use Rattle.theory.specs.Settled.{settled-triangular, settled-rows, Diagonal, Settled, settled-leading, settled-trailing, settled-diagonal, settled-valid, mirrored-diagonal, nonzero-of-diagonal}
+
+-- "A run accepts a system if it returns no refusal." Valid is exactly what the checks of document 01 let through.
+pub record Accepted (side : Side) (z : Sizes) (rows : List Row) (relations : List Relation) (s : State) : Type 0 where
+  pub valid : Valid z rows relations
+  pub accepts : wholeRun side (span z) rows relations ≡ done s
+
+-- ---- each sentence, first from a run to its final state, then mirrored back
+
+sequences : (side : Side) {z : Sizes} {rows : List Row} {relations : List Relation} {s : State} → Valid z rows relations
+    → wholeRun side (span z) rows relations ≡ done s
+    → (y : Sequence) → Satisfies (z .l) rows relations y ↔ Satisfies (z .l) (s .rows) (s .relations) y
+sequences leading {z} {rows} {relations} v e y =
+    run-solutions (z .l) y rows relations (v .row-shapes) (v .relation-shapes) (settled-leading v e .chain)
+sequences trailing {z} {rows} {relations} v e y =
+    let m = settled-trailing v e in
+    subst (λ x. Satisfies (z .l) rows relations y ↔ Satisfies (z .l) (x .rows) (x .relations) y) (m .back) (mirrored-sequences v (m .settled) y)
+
+triangular : (side : Side) {z : Sizes} {rows : List Row} {relations : List Relation} {s : State} → Valid z rows relations
+    → wholeRun side (span z) rows relations ≡ done s → Diagonal side (z .m) (span z) s
+triangular leading v e = settled-diagonal (settled-leading v e)
+triangular trailing {z} v e =
+    let m = settled-trailing v e in
+    subst (Diagonal trailing (z .m) (span z)) (m .back) (diagonal-back v (m .settled))
+
+independent : (side : Side) {z : Sizes} {rows : List Row} {relations : List Relation} {s : State} → Valid z rows relations
+    → wholeRun side (span z) rows relations ≡ done s → Dependent (z .l) rows → ⊥
+unfolding start
+independent leading {z} {rows} {relations} v e d =
+    let a = settled-leading v e in
+    settled-independent (z .l) _ (settled-triangular a) (a .all)
+    (chain-dependent (z .l) (valid-shapes v) (triangular-start rows relations) (a .chain) .0 d)
+independent trailing v e d = independent-back v (settled-trailing v e .settled) d
+
+valid-output : (side : Side) {z : Sizes} {rows : List Row} {relations : List Relation} {s : State} → Valid z rows relations
+    → wholeRun side (span z) rows relations ≡ done s → Valid z (s .rows) (s .relations)
+valid-output leading v e = settled-valid (settled-leading v e)
+valid-output trailing {z} v e =
+    let m = settled-trailing v e in
+    subst (λ x. Valid z (x .rows) (x .relations)) (m .back) (valid-back v (m .settled))
+
+-- The rows of a valid system have no block below t.
+valid-widths : {z : Sizes} {rows : List Row} {relations : List Relation} → Valid z rows relations → All (λ r. width r ≤ suc (span z)) rows
+unfolding rowRight
+valid-widths {z} {rows} v =
+    all-mono (λ r. T (rowRight z r)) (λ r. width r ≤ suc (span z))
+    (λ r t. width-unused (z .m) (span z) r (T-&& (smallRow r) (unusedZero (z .m) (span z) r) .0 t .1)) rows (every-all (rowRight z) rows .0 (v .rows-right))
+
+module _ {side : Side} {z : Sizes} {rows : List Row} {relations : List Relation} {s : State} (a : Accepted side z rows relations s) where
+  -- 1. "the same two-sided integer sequences satisfy input and output"
+  pub same-sequences : (y : Sequence) → Satisfies (z .l) rows relations y ↔ Satisfies (z .l) (s .rows) (s .relations) y
+  same-sequences y = sequences side (a .valid) (a .accepts) y
+
+  -- 2. "each diagonal polynomial is nonzero"
+  pub diagonal-nonzero : Diagonal side (z .m) (span z) s
+  diagonal-nonzero = triangular side (a .valid) (a .accepts)
+
+  -- 4. "No dependent system is accepted"
+  pub accepted-independent : Dependent (z .l) rows → ⊥
+  accepted-independent d = independent side (a .valid) (a .accepts) d
+
+  -- 6. "so there are at most m × D shifts"
+  pub shifts-bounded : s .shifts ≤ z .m * span z
+  shifts-bounded =
+      subst (λ n. s .shifts ≤ n * span z) (a .valid .row-count)
+      (wholeRun-shifts side (span z) rows relations s (valid-widths (a .valid)) (a .accepts))
+
+  -- 7. "Root report: whether any diagonal polynomial of the output has an integer root, and the largest integer root among
+  -- them all"; on the trailing side "the smallest integer root among them all".
+  pub report-no : (report side (span z) s ≡ none) ↔ Rootless (diagonal side (span z) s)
+  report-no = report-none side (span z) s (nonzero-of-diagonal side (z .m) (span z) s diagonal-nonzero)
+
+  pub report-root : {r : ℤ} → report side (span z) s ≡ some r → FurthestRoot side (diagonal side (span z) s) r
+  report-root e = report-some side (span z) s (nonzero-of-diagonal side (z .m) (span z) s diagonal-nonzero) e
+
+  -- 8. Every coefficient and every n0 of the output lies within ±C, every degree is at most 15, unused positions stay zero.
+  pub output-valid : Valid z (s .rows) (s .relations)
+  output-valid = valid-output side (a .valid) (a .accepts)
+
+-- 3. "solutions that agree on D successive vectors past the reported root agree ever after"
+-- "leading side: for every equation index n past the reported root, or any n with "no", two of the demand's sequences that are
+-- equal at indices n + t to n + l - 1 (none if D = 0) are equal at every index from n + t on."
+pub agreement-leading : {z : Sizes} {rows : List Row} {relations : List Relation} {s : State} → Accepted leading z rows relations s
+    → (y w : Sequence) → Satisfies (z .l) rows relations y → Satisfies (z .l) rows relations w
+    → (n : ℤ) → Past leading (report leading (span z) s) n
+    → ((i : ℤ) → (n +ℤ z .t) ≤ℤ i → i <ℤ (n +ℤ z .l) → Same (z .m) y w i)
+    → (i : ℤ) → (n +ℤ z .t) ≤ℤ i → Same (z .m) y w i
+unfolding Satisfies
+agreement-leading {z} {s = s} a y w hy hw =
+    let b = settled-leading (a .valid) (a .accepts) in
+    leading-agreement (z .m) (span z) s (settled-rows b) (settled-diagonal b .order-count) (nonzero-of-diagonal leading (z .m) (span z) s (settled-diagonal b))
+    (z .l) (z .t) (span-sum z (a .valid .sizes)) y w (same-sequences a y .0 hy .0) (same-sequences a w .0 hw .0)
+
+-- "Trailing side: for every n below the reported root, or any n with "no", two that are equal at n + t + 1 to n + l are equal
+-- at every index up to n + l."
+pub agreement-trailing : {z : Sizes} {rows : List Row} {relations : List Relation} {s : State} → Accepted trailing z rows relations s
+    → (y w : Sequence) → Satisfies (z .l) rows relations y → Satisfies (z .l) rows relations w
+    → (n : ℤ) → Past trailing (report trailing (span z) s) n
+    → ((i : ℤ) → (n +ℤ z .t) <ℤ i → i ≤ℤ (n +ℤ z .l) → Same (z .m) y w i)
+    → (i : ℤ) → i ≤ℤ (n +ℤ z .l) → Same (z .m) y w i
+agreement-trailing {z} a y w hy hw n past =
+    let m = settled-trailing (a .valid) (a .accepts) in
+    agrees-back (a .valid) (m .settled) y w hy hw n (subst (λ x. Past trailing (report trailing (span z) x) n) (sym (m .back)) past)
+
+-- 5. "refusal 6 is given only where a nonzero combination of shifted equations vanishes"
+pub refused-dependent : (side : Side) {z : Sizes} {rows : List Row} {relations : List Relation} → Valid z rows relations
+    → wholeRun side (span z) rows relations ≡ refused 6 → Dependent (z .l) rows
+unfolding wholeRun leadingRun start
+refused-dependent leading {z} {rows} {relations} v e =
+    run-dependent (z .l) leading (enough rows) (start rows relations) (valid-shapes v) (triangular-start rows relations) e
+refused-dependent trailing v e = trailing-dependent v e
+
+-- 6. Every run on a valid system ends in an acceptance or in one of the refusals 6 to 9.
+pub data Ended : Outcome → Type 0 where
+  accepted : (s : State) → Ended (done s)
+  six : Ended (refused 6)
+  seven : Ended (refused 7)
+  eight : Ended (refused 8)
+  nine : Ended (refused 9)
+
+-- The number of a refused run is that of its refused step.
+refused-number : (side : Side) (k : ℕ) (s : State) (n : ℕ) → run side k s ≡ refused n → Ended (refused n)
+refused-number side k s n e =
+    let (j, u, c, f) = run-refused side k s n e in
+    number u (step-refused side u n f .1)
+  where
+    number : (u : State) → Refusal u n → Ended (refused n)
+    number u (inl h) = subst (λ k. Ended (refused k)) (sym (h .0)) six
+    number u (inr (inl h)) = subst (λ k. Ended (refused k)) (sym h) seven
+    number u (inr (inr (inl h))) = subst (λ k. Ended (refused k)) (sym h) eight
+    number u (inr (inr (inr h))) = subst (λ k. Ended (refused k)) (sym h) nine
+
+whole-refused : (side : Side) (D : ℕ) (rows : List Row) (relations : List Relation) (n : ℕ) → wholeRun side D rows relations ≡ refused n → Ended (refused n)
+unfolding wholeRun leadingRun trailingRun
+whole-refused leading D rows relations n e = refused-number leading (enough rows) (start rows relations) n e
+whole-refused trailing D rows relations n e =
+    refused-number trailing (enough rows) (mirrorState D (start rows relations)) n
+    (mirrorOutcome-refused D (run trailing (enough rows) (mirrorState D (start rows relations))) n e)
+
+pub run-ends : (side : Side) {z : Sizes} {rows : List Row} {relations : List Relation} → Valid z rows relations
+    → Ended (wholeRun side (span z) rows relations)
+run-ends side {z} {rows} {relations} v = cases (wholeRun side (span z) rows relations) refl
+  where
+    cases : (o : Outcome) → wholeRun side (span z) rows relations ≡ o → Ended o
+    cases (going s) e = absurd (wholeRun-ends side (span z) rows relations s (v .row-shapes) e)
+    cases (done s) e = accepted s
+    cases (refused n) e = whole-refused side (span z) rows relations n e
+
+-- 9. "For each settled row j from 1 to w [..] Then the next j": after a combination with settled row j, row i is zero at c(1) to
+-- c(j), so the next settled row that a step works with comes after j.
+pub next-row-later : {side : Side} (rows : List Row) (relations : List Relation) {k : ℕ} {s : State} → Chain side (start rows relations) k s
+    → (j : ℕ) → j < current s → current s < length (s .rows) → MetZeroBelow s j → T (not (isZero (met s j)))
+    → (r : Row) → limitDegrees (combination s j) ≡ within r → MetZeroBelow (putRow (listed side s j) (current s) r) (suc j)
+next-row-later {side} rows relations {s = s} c j below more clear meets =
+    combined-advances s j (triangular-chain c (triangular-start rows relations)) below more clear meets side
+
+chosen : (x y : Outcome) (b : Bool) → T b → cond b x y ≡ x
+chosen x y true t = refl
+chosen x y false t = absurd t
+
+-- "A zero row: refusal 6. Then the next j": the row that a combination has made zero is refused by the next step.
+pub zero-row-refused : (side : Side) (s : State) → current s < length (s .rows) → T (zeroRow (rowAt s (current s))) → step side s ≡ refused 6
+unfolding step workOn
+zero-row-refused side s below zeros =
+    chosen (workOn side s (current s)) (done s) (ltb (current s) (length (s .rows))) (lt→ltb (current s) (length (s .rows)) below)
+    ∙ chosen (refused 6) (meet side s (current s) (firstNonzero (map (entry (rowAt s (current s))) (s .order)))) (zeroRow (rowAt s (current s))) zeros

@@ -1,0 +1,132 @@
+-- What a run has when all rows of a valid system are settled, on the leading side and mirrored back.
+--
+-- Main definitions
+--   Diagonal side m D s    triangular in the column order, which holds every column once
+--   Settled side z rows relations u   a run from the valid system rows, relations leads to u, all of whose rows are settled
+-- Main statements
+--   settled-leading        an accepted leading run leads to its final state
+--   settled-trailing       an accepted trailing run leads to the mirror of its final state, from the mirrored system
+--   settled-diagonal, mirrored-diagonal     the diagonal of u, and of its mirror
+use Prim.Native.Nat.{ℕ, zero, suc, _≤_, _<_}
+use mathlib.Core.Path.{_≡_, refl, sym, _∙_, ap, subst}
+use mathlib.Core.Bool.{not}
+use mathlib.Core.List.{List, [], map}
+use native.Mathlib.Omega.{arith}
+use native.Mathlib.Nat.{le-antisymm}
+use lib.Dec.{T}
+use lib.ListN.{length, getD, length-map, List·getD-map}
+use Rattle.algebra.specs.Pigeonhole.{Distinct}
+use Rattle.algebra.specs.Polynomials.{Polynomial, isZero, isZero-mirror, mirror, T-&&}
+use Rattle.rules.specs.Rows.{Row, Relation, noRow, All, every, zeroBlock, entry, leadingBlock, smallRow, mapRow, mirrorRow, mirrorRelation}
+use Rattle.rules.specs.Elimination.{Side, leading, trailing, State, start, done, run, enough, wholeRun, leadingRun, trailingRun, mirrorState, diagonalPlace, rowAt}
+use Rattle.rules.specs.Stores.{Sizes, span, Valid, rowRight, unusedZero}
+use Rattle.theory.specs.Lists.{all-getD}
+use Rattle.theory.specs.Steps.{current, Chain, run-done}
+use Rattle.theory.specs.Triangular.{Triangular, triangular-start, triangular-chain, column, ColumnsBelow, column-below, order-distinct, order-complete}
+use Rattle.theory.specs.Limits.{valid-kept}
+use Rattle.theory.specs.Ending.{mirrorOutcome-done}
+use Rattle.theory.specs.BackSubstitution.{TriangularRows}
+use Rattle.theory.specs.Agreement.{triangular-rows}
+use Rattle.theory.specs.Report.{NonzeroDiagonal, nonzero-diagonal}
+use Rattle.theory.specs.Mirror.{mirrorSizes, Reaches, Spans, mirror-valid, mirror-lastEntry, valid-rows-span, valid-relations-span}
+
+-- The polynomial of row j at column c of the block that is made triangular: block l, or block t.
+abbrev pub pivotEntry : Side → ℕ → State → ℕ → ℕ → Polynomial
+pivotEntry side D s j c = getD (getD (getD (s .rows) j noRow .blocks) (diagonalPlace side D) []) c []
+
+-- "in block l, row j is zero at columns c(1) to c(j - 1) and nonzero at c(j)", and the order is a permutation of the columns.
+pub record Diagonal (side : Side) (m D : ℕ) (s : State) : Type 0 where
+  pub row-count : length (s .rows) ≡ m
+  pub order-count : length (s .order) ≡ m
+  pub zero-before : (j k : ℕ) → k < j → j < m → T (isZero (pivotEntry side D s j (getD (s .order) k 0)))
+  pub nonzero : (j : ℕ) → j < m → T (not (isZero (pivotEntry side D s j (getD (s .order) j 0))))
+  pub column-below : (j : ℕ) → j < m → getD (s .order) j 0 < m
+  pub columns-different : Distinct (s .order)
+  pub every-column : (c : ℕ) → c < m → (j : ℕ) × (j < m) × (getD (s .order) j 0 ≡ c)
+
+pub record Settled (side : Side) (z : Sizes) (rows : List Row) (relations : List Relation) (u : State) : Type 0 where
+  pub valid : Valid z rows relations
+  pub steps : ℕ
+  pub chain : Chain side (start rows relations) steps u
+  pub all : length (u .rows) ≤ current u
+
+-- ---- a settled state
+
+module _ {side : Side} {z : Sizes} {rows : List Row} {relations : List Relation} {u : State} (a : Settled side z rows relations u) where
+  pub settled-valid : Valid z (u .rows) (u .relations)
+  settled-valid = valid-kept (a .valid) (a .chain)
+
+  pub settled-triangular : Triangular u
+  settled-triangular = triangular-chain (a .chain) (triangular-start rows relations)
+
+  settled-count : current u ≡ z .m
+  settled-count = le-antisymm (settled-triangular .fits) (a .all) ∙ settled-valid .row-count
+
+  pub settled-rows : TriangularRows (z .m) (span z) (u .rows) (u .order)
+  settled-rows = triangular-rows z u settled-valid settled-triangular settled-count
+
+  pub settled-diagonal : Diagonal leading (z .m) (span z) u
+  unfolding diagonalPlace rowAt entry leadingBlock
+  settled-diagonal =
+      record {
+        row-count = settled-rows .row-count;
+        order-count = settled-count;
+        zero-before = λ j k b h. settled-rows .zero-before j k b h;
+        nonzero = λ j h. settled-triangular .pivots j (subst (λ n. j < n) (sym settled-count) h) .diagonal;
+        column-below = settled-rows .column-below;
+        columns-different = order-distinct u settled-triangular;
+        every-column = settled-rows .column-of;
+      }
+
+-- Each diagonal polynomial is nonzero.
+pub nonzero-of-diagonal : (side : Side) (m D : ℕ) (s : State) → Diagonal side m D s → NonzeroDiagonal side D s
+nonzero-of-diagonal side m D s d = nonzero-diagonal side D s (λ j h k. d .nonzero j (subst (λ n. j < n) (d .row-count) h))
+
+-- ---- mirrored back
+
+pub mirrored-diagonal : (m D : ℕ) (u : State) → All (Reaches D) (u .rows) → Diagonal leading m D u → Diagonal trailing m D (mirrorState D u)
+unfolding diagonalPlace entry leadingBlock mirrorState mirrorRow mapRow
+mirrored-diagonal m D u r d =
+    record {
+      row-count = length-map (u .rows) (mirrorRow D) ∙ d .row-count;
+      order-count = d .order-count;
+      zero-before = λ j k b h. subst (λ t. T t) (sym (same j (getD (u .order) k 0) h)) (d .zero-before j k b h);
+      nonzero = λ j h. subst (λ t. T (not t)) (sym (same j (getD (u .order) j 0) h)) (d .nonzero j h);
+      column-below = d .column-below;
+      columns-different = d .columns-different;
+      every-column = d .every-column;
+    }
+  where
+    row-at : (j : ℕ) → getD (map (mirrorRow D) (u .rows)) j noRow ≡ mirrorRow D (getD (u .rows) j noRow)
+    row-at j = List·getD-map (mirrorRow D) (u .rows) j noRow
+
+    reach : (j : ℕ) → j < m → Reaches D (getD (u .rows) j noRow)
+    reach j h = all-getD (Reaches D) (u .rows) noRow j (subst (λ n. j < n) (sym (d .row-count)) h) r
+
+    same : (j c : ℕ) → j < m → isZero (pivotEntry trailing D (mirrorState D u) j c) ≡ isZero (pivotEntry leading D u j c)
+    same j c h =
+        ap (λ q. isZero (getD (getD (q .blocks) D []) c [])) (row-at j) ∙ ap isZero (mirror-lastEntry D (getD (u .rows) j noRow) c (reach j h))
+        ∙ isZero-mirror (entry (getD (u .rows) j noRow) c)
+
+-- ---- the whole runs
+
+pub settled-leading : {z : Sizes} {rows : List Row} {relations : List Relation} {s : State} → Valid z rows relations
+    → wholeRun leading (span z) rows relations ≡ done s → Settled leading z rows relations s
+unfolding wholeRun leadingRun
+settled-leading {rows = rows} {relations} {s} v e =
+    let (k, chain, all) = run-done leading (enough rows) (start rows relations) s e in
+    record { valid = v; steps = k; chain = chain; all = all }
+
+-- The run that a trailing run makes, on the mirrored system, and its final state.
+pub record MirroredRun (z : Sizes) (rows : List Row) (relations : List Relation) (s : State) : Type 0 where
+  pub final : State
+  pub settled : Settled trailing (mirrorSizes z) (map (mirrorRow (span z)) rows) (map (mirrorRelation (span z)) relations) final
+  pub back : mirrorState (span z) final ≡ s
+
+pub settled-trailing : {z : Sizes} {rows : List Row} {relations : List Relation} {s : State} → Valid z rows relations
+    → wholeRun trailing (span z) rows relations ≡ done s → MirroredRun z rows relations s
+unfolding wholeRun trailingRun mirrorState start
+settled-trailing {z} {rows} {relations} {s} v e =
+    let (u, f, same) = mirrorOutcome-done (span z) (run trailing (enough rows) (mirrorState (span z) (start rows relations))) s e in
+    let (k, chain, all) = run-done trailing (enough rows) (mirrorState (span z) (start rows relations)) u f in
+    record { final = u; settled = record { valid = mirror-valid z rows relations v; steps = k; chain = chain; all = all }; back = same }
