@@ -1,0 +1,1 @@
+// The public runs on lent stores.
