@@ -1,1 +1,2 @@
 pub mod StoreStates
+pub mod Progress
