@@ -1,15 +1,20 @@
--- What the loops over a polynomial's coefficients go by: one coefficient more from the front or from the top.
+-- What the functions on one polynomial's coefficients go by: loops from the front and from the top, coefficients read from and stored
+-- as i64, and the sizes that keep them in range.
+--
+-- Main definitions
+--   Below n p              every coefficient of p has a size below n
 --
 -- Main statements
---   zero-bits, nonzero-bits   a coefficient is zero exactly if its bits are
---   isZero-false       a nonzero coefficient makes a polynomial nonzero
---   drop-next          the coefficients from i on are coefficient i and those from i + 1 on
---   skip-zero          what does not see a zero at the front does not see a zero coefficient passed
---   lowest-first       a nonzero first coefficient is the lowest
---   content-next       the greatest common divisor d of what was passed takes coefficient i in
---   one-gcd            once it is 1 it stays 1
---   within-down        a zero coefficient at the top leaves the powers below it
---   degree-bottom      no nonzero coefficient past power 0: the degree is 0
+--   read-back, zero-bits, nonzero-bits   an i64 and its bits
+--   drop-next, skip-zero   one coefficient more from the front, and one that is zero and changes nothing
+--   isZero-false, lowest-first   a nonzero coefficient makes p nonzero; at the front it is the lowest
+--   within-down, degree-bottom   one zero coefficient less from the top; none left past power 0: the degree is 0
+--   content-next, one-gcd  a coefficient joins the greatest common divisor of those passed; 1 stays 1
+--   prefix-next, prefix-all, suffix-next, suffix-first   a list that is overwritten from the front
+--   quotient-at            the quotient by a positive i64 is a coefficient of `divideBy`
+--   small-at, below-of-small, below-divideBy, below-negate   sizes of coefficients, of quotients and of negatives
+--   content-bounds         the content of a nonzero polynomial within ±C and of another is positive and at most C
+--   signs-turned, signs-kept   the two cases of rule 2's signs
 use mathlib.Core.Path.{_≡_, refl, sym, _∙_, ap, ap₂, subst}
 use mathlib.Core.Logic.{_≢_, ⊎-elim}
 use mathlib.Core.Bool.{Bool, true, false, not, cond}
@@ -22,30 +27,45 @@ use lib.Dec.{T, ltb→lt, leb→le}
 use lib.IntN.{ℤ, pos, negsuc, natAbs}
 use lib.ListN.{length, getD, take, drop, set}
 use lib.Seq.{take-suc, take-all, take-suc-set, drop-cons, drop-drop, drop-set-lt, getD-drop}
-use lib.Signed.{ltZ, quotZ}
+use lib.Signed.{mag, ltZ, quotZ}
 use mir.Syntax.{w64}
-use mir.Val.{SFits, ofZ}
-use mir.Facts.{sfits-lit}
-use Rattle.integers.specs.Ranges.{ofZ-inj}
+use mir.Val.{SFits, ofZ, toZ}
+use mir.Facts.{sfits-lit, toZ-ofZ}
+use borrow.Author.Needs.{sfits-of}
+use Rattle.algebra.specs.Integers.{natAbs-negℤ, natAbs-zero}
 use Rattle.algebra.specs.Polynomials.{Polynomial, coeff, negate, isZeroℤ, isZero, lead, lowest, degree, isZeroℤ-not-iff, isZero-coeff, T-&&}
 use Rattle.algebra.specs.Coefficients.{Within, coeff-negate, coeff-degree, lead-nonzero, degree-le}
-use Rattle.rules.specs.Elimination.{Multipliers, turnSigns}
-use Rattle.algebra.specs.Integers.{natAbs-negℤ, natAbs-zero}
+use Rattle.algebra.specs.Gcd.{gcd, content, divideBy, gcd-comm, gcd-assoc, gcd-divides-left, gcd-pos-left, gcd-le-left}
+use Rattle.algebra.specs.Gcd.{content-divides, content-pos, content-append, divideBy-getD, divideBy-le}
 use Rattle.rules.specs.Limits.{bound, small}
 use Rattle.rules.specs.Rows.{every}
-use Rattle.algebra.specs.Gcd.{gcd, content, divideBy, divideBy-getD, gcd-comm, gcd-assoc, gcd-divides-left, gcd-pos-left, gcd-le-left}
-use Rattle.algebra.specs.Gcd.{divideBy-le, content-divides, content-pos, content-append}
+use Rattle.rules.specs.Elimination.{turnSigns}
+use Rattle.integers.specs.Ranges.{ofZ-inj}
 
 -- Every coefficient has a size below n.
 abbrev pub Below : ℕ → Polynomial → Type 0
 Below n p = (k : ℕ) → natAbs (getD p k (pos 0)) < n
 
--- The machine tests the bits of an i64.
+-- ---- an i64 and its bits
+
+pub read-back : (a : ℤ) → mag a < 2 ^ 63 → toZ w64 (ofZ w64 a) ≡ a
+read-back a h = toZ-ofZ (sfits-of h)
+
+-- The machine tests the bits.
 pub zero-bits : {a : ℤ} → SFits w64 a → ofZ w64 a ≡ 0 → a ≡ pos 0
 zero-bits f e = ofZ-inj {z = pos 0} f (sfits-lit tt) e
 
 pub nonzero-bits : {a : ℤ} → (ofZ w64 a ≡ 0 → ⊥) → a ≢ pos 0
 nonzero-bits h e = h (ap (ofZ w64) e)
+
+-- ---- from the front
+
+pub drop-next : (p : Polynomial) (i : ℕ) → i < length p → drop i p ≡ getD p i (pos 0) ∷ drop (i + 1) p
+drop-next p i h = rw (add-one, drop-cons p i (pos 0))
+
+pub skip-zero : {A : Type 0} (f : Polynomial → A) → ((q : Polynomial) → f (pos 0 ∷ q) ≡ f q)
+    → (p : Polynomial) (i : ℕ) → i < length p → getD p i (pos 0) ≡ pos 0 → f (drop i p) ≡ f (drop (i + 1) p)
+skip-zero f h p i l e = ap f (drop-next p i l ∙ ap (λ a. a ∷ drop (i + 1) p) e) ∙ h (drop (i + 1) p)
 
 pub isZero-false : (p : Polynomial) (k : ℕ) → getD p k (pos 0) ≢ pos 0 → isZero p ≡ false
 unfolding coeff
@@ -55,14 +75,13 @@ isZero-false p k n = cases (isZero p) (λ z. n (isZero-coeff p z k))
     cases true h = absurd (h tt)
     cases false h = refl
 
-pub drop-next : (p : Polynomial) (i : ℕ) → i < length p → drop i p ≡ getD p i (pos 0) ∷ drop (i + 1) p
-drop-next p i h = rw (add-one, drop-cons p i (pos 0))
-
-pub skip-zero : {A : Type 0} (f : Polynomial → A) → ((q : Polynomial) → f (pos 0 ∷ q) ≡ f q)
-    → (p : Polynomial) (i : ℕ) → i < length p → getD p i (pos 0) ≡ pos 0 → f (drop i p) ≡ f (drop (i + 1) p)
-skip-zero f h p i l e = ap f (drop-next p i l ∙ ap (λ a. a ∷ drop (i + 1) p) e) ∙ h (drop (i + 1) p)
-
--- ---- content
+pub lowest-first : (a : ℤ) (q : Polynomial) → a ≢ pos 0 → lowest (a ∷ q) ≡ a
+unfolding lowest
+lowest-first a q n = cases (isZeroℤ a) (isZeroℤ-not-iff a .1 n)
+  where
+    cases : (t : Bool) → T (not t) → cond t (lowest q) a ≡ a
+    cases true h = absurd h
+    cases false h = refl
 
 -- Coefficient i is joined to the greatest common divisor d of those before it.
 pub content-next : (d : ℕ) (p : Polynomial) (i : ℕ) → i < length p
@@ -76,15 +95,7 @@ content-next d p i h =
 pub one-gcd : (n : ℕ) → gcd 1 n ≡ 1
 one-gcd n = dvd-one .0 (gcd-divides-left 1 n)
 
--- ---- the highest and the lowest coefficient
-
-pub lowest-first : (a : ℤ) (q : Polynomial) → a ≢ pos 0 → lowest (a ∷ q) ≡ a
-unfolding lowest
-lowest-first a q n = cases (isZeroℤ a) (isZeroℤ-not-iff a .1 n)
-  where
-    cases : (t : Bool) → T (not t) → cond t (lowest q) a ≡ a
-    cases true h = absurd h
-    cases false h = refl
+-- ---- from the top
 
 pub within-down : (p : Polynomial) (n : ℕ) → 1 < n → Within p (n - 1) → coeff p (n - 1) ≡ pos 0 → Within p (n - 1 - 1)
 within-down p n h w e k l = ⊎-elim at-top (w k) (eq-or-lt-of-le (omega arith))
@@ -113,7 +124,7 @@ suffix-next q l i a e = drop-set-lt (i + 1) q i a (omega arith) ∙ sym (drop-dr
 pub suffix-first : {A : Type 0} (q l : List A) (i : ℕ) (z : A) → drop i q ≡ drop i l → getD q i z ≡ getD l i z
 suffix-first q l i z e = simp add-zero at (sym (getD-drop i q 0 z) ∙ ap (λ r. getD r 0 z) e ∙ getD-drop i l 0 z)
 
--- ---- division and negation
+-- ---- division, and sizes
 
 pub positive : (d : ℤ) → T (ltZ (pos 0) d) → (pos (natAbs d) ≡ d) × (0 < natAbs d)
 positive (pos n) h = (refl, ltb→lt 0 n h)

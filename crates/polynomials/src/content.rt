@@ -14,6 +14,7 @@ ghost use Rattle.rules.specs.Limits.{small};
 ghost use Rattle.rules.specs.Rows.{every};
 ghost use Rattle.rules.specs.Elimination as Elimination;
 
+// Stops at the first nonzero coefficient.
 pub fn is_zero(p: &[i64]) -> bool
     ensures { λ r. ⌜ r ≡ Polynomials.isZero (now (p .entry)) ⌝ }
 {
@@ -41,6 +42,7 @@ pub fn degree(p: &[i64]) -> usize
     0
 }
 
+// The highest nonzero coefficient stands at the degree.
 pub fn lead(p: &[i64]) -> i64
     ensures { λ r. ⌜ r ≡ Polynomials.lead (now (p .entry)) ⌝ }
 {
@@ -48,6 +50,7 @@ pub fn lead(p: &[i64]) -> i64
     if d < p.len() { p[d] } else { 0 }
 }
 
+// The first nonzero coefficient from the front.
 pub fn lowest(p: &[i64]) -> i64
     ensures { λ r. ⌜ r ≡ Polynomials.lowest (now (p .entry)) ⌝ }
 {
@@ -83,6 +86,7 @@ pub fn content_of_both(a: &[i64], b: &[i64]) -> u64
     integers::gcd(content(a), content(b))
 }
 
+// Every coefficient divided by d, toward zero: exact where d divides them all.
 pub fn divided(p: &[i64], d: i64) -> [i64; 16]
     requires { ⌜ (length (now p) ≡ 16) × Below (2 ^ 63) (now p) × T (ltZ (pos 0) d) ⌝ }
     ensures { λ r. ⌜ r ≡ Gcd.divideBy (natAbs d) (now (p .entry)) ⌝ }
@@ -96,6 +100,7 @@ pub fn divided(p: &[i64], d: i64) -> [i64; 16]
     q
 }
 
+// The same of any number of coefficients, where they stand.
 pub fn divide_in_place(p: &mut [i64], d: i64)
     requires { ⌜ Below (2 ^ 63) (now p) × T (ltZ (pos 0) d) ⌝ }
     ensures { λ _. ⌜ now (p .exit) ≡ Gcd.divideBy (natAbs d) (now (p .entry)) ⌝ }
@@ -128,8 +133,10 @@ pub struct Multipliers {
 // Rule 2: "g = a/d, h = -b/d; a negative highest coefficient of g turns the signs of both". The content d is at most C,
 // since a is not zero.
 pub fn multipliers_of(a: &[i64], b: &[i64]) -> Multipliers
-    requires { ⌜ (length (now a) ≡ 16) × (length (now b) ≡ 16) × T (every small (now a)) × T (every small (now b)) × T (not (Polynomials.isZero (now a))) ⌝ }
-    ensures { λ r. ⌜ (r .g ≡ Elimination.multipliers (now (a .entry)) (now (b .entry)) .g) × (r .h ≡ Elimination.multipliers (now (a .entry)) (now (b .entry)) .h) ⌝ }
+    requires { ⌜ (length (now a) ≡ 16) × T (every small (now a)) × T (not (Polynomials.isZero (now a))) ⌝ }
+    requires { ⌜ (length (now b) ≡ 16) × T (every small (now b)) ⌝ }
+    ensures { λ r. ⌜ r .g ≡ Elimination.multipliers (now (a .entry)) (now (b .entry)) .g ⌝ }
+    ensures { λ r. ⌜ r .h ≡ Elimination.multipliers (now (a .entry)) (now (b .entry)) .h ⌝ }
 {
     let d = content_of_both(a, b) as i64;
     let g = divided(a, d);

@@ -1,6 +1,6 @@
 -- `polynomials::content::degree` meets its contract. The loop's invariant: no coefficient past power n - 1 is left.
 -- Assumes nothing.
-use mathlib.Core.Path.{_≡_, sym}
+use mathlib.Core.Path.{sym}
 use Prim.Native.Nat.{_≤_, _-_}
 use native.Mathlib.Omega.{arith}
 use borrow.Author.Needs.{needs, sfits-of}

@@ -3,9 +3,9 @@
 -- Assumes nothing.
 use mathlib.Core.Path.{_≡_, _∙_, ap}
 use mathlib.Core.List.{List}
-use Prim.Native.Nat.{ℕ, _^_, _≤_, _<_, _-_}
+use Prim.Native.Nat.{ℕ, _≤_, _-_}
 use native.Mathlib.Omega.{arith}
-use borrow.Author.Needs.{needs, sfits-of}
+use borrow.Author.Needs.{needs}
 use denote.Ref.{now}
 use lib.Dec.{T}
 use lib.IntN.{ℤ, pos, natAbs}
@@ -15,7 +15,7 @@ use mir.Syntax.{w64}
 use mir.Val.{ofZ, toZ}
 use mir.Facts.{toZ-ofZ}
 use Rattle.algebra.specs.Gcd.{divideBy, length-divideBy}
-use Rattle.polynomials.specs.Content.{positive, quotient-at, prefix-next, prefix-all, suffix-next, suffix-first}
+use Rattle.polynomials.specs.Content.{read-back, positive, quotient-at, prefix-next, prefix-all, suffix-next, suffix-first}
 use Rattle.polynomials.proofs.content.divide_in_place.Statement.{statement}
 use Rattle.polynomials.proofs.content.divide_in_place.Tie as tie
 
@@ -41,13 +41,16 @@ module _ (c : tie.After-quotient-arg Inv-loop μ-loop) where
   positive-d = rw (toZ-ofZ (c .before .before .before .fits .d)) (c .before .before .before .pre .1)
 
   back : toZ w64 (ofZ w64 (getD (c .before .before .loop .p) i (pos 0))) ≡ getD p i (pos 0)
-  back = toZ-ofZ (sfits-of (c .quotient-arg .given)) ∙ suffix-first (c .before .before .loop .p) p i (pos 0) (c .before .before .loop .inv .3)
+  back =
+      let now-p = c .before .before .loop .p in
+      read-back (getD now-p i (pos 0)) (c .quotient-arg .given) ∙ suffix-first now-p p i (pos 0) (c .before .before .loop .inv .3)
 
 stored : (c : tie.After-quotient Inv-loop μ-loop)
     → toZ w64 (ofZ w64 (c .quotient .result)) ≡ getD (divideBy (natAbs (d (c .before))) (p (c .before))) (i (c .before)) (pos 0)
 stored c =
     let e = c .before in
-    toZ-ofZ (sfits-of (c .quotient .ok)) ∙ c .quotient .ensures ∙ ap (λ a. quotZ a (d e)) (back e) ∙ quotient-at (d e) (positive-d e) (p e) (i e)
+    read-back (c .quotient .result) (c .quotient .ok) ∙ c .quotient .ensures ∙ ap (λ a. quotZ a (d e)) (back e)
+    ∙ quotient-at (d e) (positive-d e) (p e) (i e)
 
 loop-holds : tie.Need-loop-holds Inv-loop μ-loop
 loop-holds c = search needs

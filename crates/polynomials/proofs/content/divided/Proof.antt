@@ -4,7 +4,7 @@ use mathlib.Core.Path.{_≡_, _∙_, ap}
 use mathlib.Core.List.{List}
 use Prim.Native.Nat.{ℕ, _≤_, _-_}
 use native.Mathlib.Omega.{arith}
-use borrow.Author.Needs.{needs, sfits-of}
+use borrow.Author.Needs.{needs}
 use denote.Ref.{now}
 use lib.Dec.{T}
 use lib.IntN.{ℤ, pos, natAbs}
@@ -14,7 +14,7 @@ use mir.Syntax.{w64}
 use mir.Val.{ofZ, toZ}
 use mir.Facts.{toZ-ofZ}
 use Rattle.algebra.specs.Gcd.{divideBy, length-divideBy}
-use Rattle.polynomials.specs.Content.{positive, quotient-at, prefix-next, prefix-all}
+use Rattle.polynomials.specs.Content.{read-back, positive, quotient-at, prefix-next, prefix-all}
 use Rattle.polynomials.proofs.content.divided.Statement.{statement}
 use Rattle.polynomials.proofs.content.divided.Tie as tie
 
@@ -39,13 +39,14 @@ module _ (c : tie.After-quotient-arg Inv-loop μ-loop) where
   positive-d = rw (toZ-ofZ (c .before .before .before .fits .d)) (c .before .before .before .pre .2)
 
   back : toZ w64 (ofZ w64 (getD p i (pos 0))) ≡ getD p i (pos 0)
-  back = toZ-ofZ (sfits-of (c .quotient-arg .given))
+  back = read-back (getD p i (pos 0)) (c .quotient-arg .given)
 
 stored : (c : tie.After-quotient Inv-loop μ-loop)
     → toZ w64 (ofZ w64 (c .quotient .result)) ≡ getD (divideBy (natAbs (d (c .before))) (p (c .before))) (i (c .before)) (pos 0)
 stored c =
     let e = c .before in
-    toZ-ofZ (sfits-of (c .quotient .ok)) ∙ c .quotient .ensures ∙ ap (λ a. quotZ a (d e)) (back e) ∙ quotient-at (d e) (positive-d e) (p e) (i e)
+    read-back (c .quotient .result) (c .quotient .ok) ∙ c .quotient .ensures ∙ ap (λ a. quotZ a (d e)) (back e)
+    ∙ quotient-at (d e) (positive-d e) (p e) (i e)
 
 loop-holds : tie.Need-loop-holds Inv-loop μ-loop
 loop-holds c = search needs

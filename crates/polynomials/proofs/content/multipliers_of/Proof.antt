@@ -5,8 +5,7 @@ use mathlib.Core.Path.{_≡_, sym, _∙_, ap}
 use mathlib.Core.Bool.{Bool}
 use mathlib.Core.List.{List, _++_}
 use Prim.Native.Nat.{ℕ, _^_, _≤_, _<_}
-use native.Mathlib.Omega.{arith}
-use borrow.Author.Needs.{needs, sfits-of}
+use borrow.Author.Needs.{needs}
 use denote.Ref.{now}
 use lib.Dec.{T, lt→ltb, lit<}
 use lib.IntN.{ℤ, pos, natAbs}
@@ -21,7 +20,7 @@ use Rattle.rules.specs.Limits.{bound, small}
 use Rattle.rules.specs.Rows.{every}
 use Rattle.rules.specs.Elimination.{multipliers}
 use Rattle.integers.specs.Ranges.{sfits-size}
-use Rattle.polynomials.specs.Content.{Below, below-of-small, below-divideBy, below-negate, content-bounds, signs-turned, signs-kept}
+use Rattle.polynomials.specs.Content.{Below, read-back, below-of-small, below-divideBy, below-negate, content-bounds, signs-turned, signs-kept}
 use Rattle.polynomials.proofs.content.multipliers_of.Statement.{statement}
 use Rattle.polynomials.proofs.content.multipliers_of.Tie as tie
 
@@ -37,7 +36,7 @@ module _ (c : tie.After-content-of-both) where
   d = content (a ++ b)
 
   bounds : (0 < d) × (d ≤ bound)
-  bounds = content-bounds a b (c .before .pre .2) (c .before .pre .4)
+  bounds = content-bounds a b (c .before .pre .0 .1) (c .before .pre .0 .2)
 
   fits : SFits w64 (pos (c .content-of-both .result))
   fits = rw (c .content-of-both .ensures) (sfits-size (pos d) (bounds .1) (lit< tt))
@@ -69,7 +68,7 @@ quotients-negatable n p l h = (length-divideBy n p ∙ l, below-divideBy n p (be
 quotient-negatable : (c : tie.After-divided2) → Negatable (c .divided2 .result)
 quotient-negatable c =
     let e = c .before .before in
-    rw (quotient-is c) (quotients-negatable (d e) (b e) (e .before .pre .1) (e .before .pre .3))
+    rw (quotient-is c) (quotients-negatable (d e) (b e) (e .before .pre .1 .0) (e .before .pre .1 .1))
 
 -- g, h and the test of g's highest coefficient
 module _ (c : tie.After-lead) where
@@ -85,7 +84,7 @@ module _ (c : tie.After-lead) where
   sign : {t : Bool} → ltZ (toZ w64 (ofZ w64 (c .lead .result))) (pos 0) ≡ t → ltZ (lead g) (pos 0) ≡ t
   sign e =
       let is = c .lead .ensures ∙ ap lead (g-is (c .before .before .before .before .before)) in
-      ap (λ z. ltZ z (pos 0)) (sym (toZ-ofZ (sfits-of (c .lead .ok)) ∙ is)) ∙ e
+      ap (λ z. ltZ z (pos 0)) (sym (read-back (c .lead .result) (c .lead .ok) ∙ is)) ∙ e
 
 content-of-both-requires : tie.Need-content-of-both-requires
 content-of-both-requires c κs = search needs
@@ -94,10 +93,10 @@ cast-d : tie.Need-cast-d
 cast-d c = fits c
 
 divided-requires : tie.Need-divided-requires
-divided-requires c κs = (c .before .pre .0, below-of-small (a c) (c .before .pre .2), positive-d c)
+divided-requires c κs = (c .before .pre .0 .0, below-of-small (a c) (c .before .pre .0 .1), positive-d c)
 
 divided-requires-2 : tie.Need-divided-requires-2
-divided-requires-2 c κs = let e = c .before in (e .before .pre .1, below-of-small (b e) (e .before .pre .3), positive-d e)
+divided-requires-2 c κs = let e = c .before in (e .before .pre .1 .0, below-of-small (b e) (e .before .pre .1 .1), positive-d e)
 
 slice-aggregate-negated : tie.Need-slice-aggregate-negated
 slice-aggregate-negated c = search needs
@@ -118,7 +117,7 @@ negated-requires-2 : tie.Need-negated-requires-2
 negated-requires-2 c κs =
     let q = c .before .before .before .before .before .before .before in
     let e = q .before in
-    rw (g-is q) (quotients-negatable (d e) (a e) (e .before .pre .0) (e .before .pre .2))
+    rw (g-is q) (quotients-negatable (d e) (a e) (e .before .pre .0 .0) (e .before .pre .0 .1))
 
 slice-aggregate-negated-3 : tie.Need-slice-aggregate-negated-3
 slice-aggregate-negated-3 c = search needs

@@ -4,16 +4,15 @@ use mathlib.Core.Path.{_≡_, sym, _∙_, ap}
 use mathlib.Core.List.{List}
 use Prim.Native.Nat.{ℕ, _≤_, _-_}
 use native.Mathlib.Omega.{arith}
-use borrow.Author.Needs.{needs, sfits-of}
+use borrow.Author.Needs.{needs}
 use denote.Ref.{now}
 use lib.IntN.{ℤ, pos, negℤ}
 use lib.ListN.{length, getD, take, length-set}
 use mir.Syntax.{w64}
 use mir.Val.{ofZ, toZ}
-use mir.Facts.{toZ-ofZ}
 use Rattle.algebra.specs.Polynomials.{coeff, negate, length-negate}
 use Rattle.algebra.specs.Coefficients.{coeff-negate}
-use Rattle.polynomials.specs.Content.{prefix-next, prefix-all}
+use Rattle.polynomials.specs.Content.{read-back, prefix-next, prefix-all}
 use Rattle.polynomials.proofs.content.negated.Statement.{statement}
 use Rattle.polynomials.proofs.content.negated.Tie as tie
 
@@ -32,14 +31,14 @@ module _ (c : tie.After-negated-arg Inv-loop μ-loop) where
   i = c .before .before .loop .i
 
   back : toZ w64 (ofZ w64 (getD p i (pos 0))) ≡ getD p i (pos 0)
-  back = toZ-ofZ (sfits-of (c .negated-arg .given))
+  back = read-back (getD p i (pos 0)) (c .negated-arg .given)
 
 stored : (c : tie.After-negated Inv-loop μ-loop)
     → toZ w64 (ofZ w64 (c .negated .result)) ≡ getD (negate (p (c .before))) (i (c .before)) (pos 0)
 unfolding coeff
 stored c =
     let e = c .before in
-    toZ-ofZ (sfits-of (c .negated .ok)) ∙ c .negated .ensures ∙ ap negℤ (back e) ∙ sym (coeff-negate (p e) (i e))
+    read-back (c .negated .result) (c .negated .ok) ∙ c .negated .ensures ∙ ap negℤ (back e) ∙ sym (coeff-negate (p e) (i e))
 
 loop-holds : tie.Need-loop-holds Inv-loop μ-loop
 loop-holds c = search needs
