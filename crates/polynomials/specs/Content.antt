@@ -160,8 +160,8 @@ below-negate {n} p h k = subst (λ m. m < n) (sym (ap natAbs (coeff-negate p k) 
 content-le : (p : Polynomial) → T (every small p) → T (not (isZero p)) → content p ≤ bound
 unfolding coeff
 content-le p h n =
-    let size = le-of-dvd (pos-of-ne-zero (λ e. lead-nonzero p .0 n (sym (coeff-degree p) ∙ natAbs-zero e))) (content-divides p (degree p)) in
-    omega (arith, size, small-at p h (degree p))
+    let nonzero = pos-of-ne-zero (λ e. lead-nonzero p .0 n (sym (coeff-degree p) ∙ natAbs-zero e)) in
+    le-trans (le-of-dvd nonzero (content-divides p (degree p))) (small-at p h (degree p))
 
 -- The common content of a nonzero polynomial within the bound and of any other is positive and within the bound.
 pub content-bounds : (a b : Polynomial) → T (every small a) → T (not (isZero a)) → (0 < content (a ++ b)) × (content (a ++ b) ≤ bound)

@@ -22,7 +22,8 @@ returns : tie.Need-returns
 unfolding coeff
 returns c =
     let p = now (c .before .before .before .args .p) in
-    read-back (coeff p (c .before .before .degree .result)) (c .result .given) ∙ ap (coeff p) (c .before .before .degree .ensures) ∙ coeff-degree p
+    let d = c .before .before .degree in
+    read-back (coeff p (d .result)) (c .result .given) ∙ ap (coeff p) (d .ensures) ∙ coeff-degree p
 
 returns-2 : tie.Need-returns-2
 returns-2 c =

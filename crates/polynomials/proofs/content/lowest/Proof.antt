@@ -51,9 +51,11 @@ loop-again : tie.Need-loop-again Inv-loop μ-loop
 unfolding lowest
 loop-again c =
     let p = now (c .before .before .before .before .args .p) in
-    let i = c .before .before .before .loop .i in
-    let zero = zero-bits (sfits-of (c .before .if12 .given)) (c .if1 .left) in
-    (omega arith, c .before .before .before .loop .inv .1 ∙ skip-zero lowest (λ q. refl) p i (c .before .before .loop-test .taken) zero)
+    let i = c .before .before .before .loop .i in (
+      omega arith,
+      c .before .before .before .loop .inv .1
+          ∙ skip-zero lowest (λ q. refl) p i (c .before .before .loop-test .taken) (zero-bits (sfits-of (c .before .if12 .given)) (c .if1 .left)),
+    )
 
 returns-2 : tie.Need-returns-2 Inv-loop μ-loop
 unfolding lowest

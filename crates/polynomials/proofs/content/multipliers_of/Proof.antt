@@ -20,7 +20,8 @@ use Rattle.rules.specs.Limits.{bound, small}
 use Rattle.rules.specs.Rows.{every}
 use Rattle.rules.specs.Elimination.{multipliers}
 use Rattle.integers.specs.Ranges.{sfits-size}
-use Rattle.polynomials.specs.Content.{Below, read-back, below-of-small, below-divideBy, below-negate, content-bounds, signs-turned, signs-kept}
+use Rattle.polynomials.specs.Content.{Below, read-back, below-of-small, below-divideBy, below-negate}
+use Rattle.polynomials.specs.Content.{content-bounds, signs-turned, signs-kept}
 use Rattle.polynomials.proofs.content.multipliers_of.Statement.{statement}
 use Rattle.polynomials.proofs.content.multipliers_of.Tie as tie
 
@@ -125,8 +126,9 @@ slice-aggregate-negated-3 c = search needs
 negated-requires-3 : tie.Need-negated-requires-3
 negated-requires-3 c κs =
     let n = c .before .before .before .before .before .before in
-    let q = quotient-negatable (n .before .before) in
-    rw (n .negated .ensures) (length-negate (n .before .before .divided2 .result) ∙ q .0, below-negate (n .before .before .divided2 .result) (q .1))
+    let q = n .before .before .divided2 .result in
+    let ok = quotient-negatable (n .before .before) in
+    rw (n .negated .ensures) (length-negate q ∙ ok .0, below-negate q (ok .1))
 
 returns : tie.Need-returns
 unfolding multipliers
