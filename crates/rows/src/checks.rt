@@ -1,0 +1,1 @@
+// The number checks of a row: coefficients within ±C, unused positions 0.

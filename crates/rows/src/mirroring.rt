@@ -1,0 +1,1 @@
+// The mirror: block -s for s and -n for n.
