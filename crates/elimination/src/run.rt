@@ -1,12 +1,30 @@
 // The whole run over checked stores: at most `enough` steps.
-use crate::step::{Outcome, Progress};
+use crate::step::Outcome;
+use crate::step::Progress;
 
 // m settlings, five shifts a row, every settled row before each of those, and the step that finds no row left.
-fn enough(m: usize) -> usize { (m + 1) * (m + m * 5) + 1 }
+fn enough(m: usize) -> usize {
+    (m + 1) * (m + m * 5) + 1
+}
 
-pub(crate) fn run(rows: &mut [i64], relations: &mut [i64], m: usize, trailing: bool, count: usize) -> Outcome {
-    let start = Progress { settled: 0, order: [0; 4], count, shifts: 0 };
-    let mut o = Outcome { refusal: 0, done: false, progress: start };
+pub(crate) fn run(
+    rows: &mut [i64],
+    relations: &mut [i64],
+    m: usize,
+    trailing: bool,
+    count: usize,
+) -> Outcome {
+    let start = Progress {
+        settled: 0,
+        order: [0; 4],
+        count,
+        shifts: 0,
+    };
+    let mut o = Outcome {
+        refusal: 0,
+        done: false,
+        progress: start,
+    };
     let mut left = enough(m);
     while 0 < left {
         let refusal = o.refusal;

@@ -18,9 +18,21 @@ pub(crate) struct Outcome {
     pub progress: Progress,
 }
 
-fn refused(n: u8, p: Progress) -> Outcome { Outcome { refusal: n, done: false, progress: p } }
+fn refused(n: u8, p: Progress) -> Outcome {
+    Outcome {
+        refusal: n,
+        done: false,
+        progress: p,
+    }
+}
 
-fn going(p: Progress) -> Outcome { Outcome { refusal: 0, done: false, progress: p } }
+fn going(p: Progress) -> Outcome {
+    Outcome {
+        refusal: 0,
+        done: false,
+        progress: p,
+    }
+}
 
 // "if row j is wider than row i, exchange them"
 fn narrow_first(rows: &mut [i64], i: usize, j: usize) {
@@ -33,7 +45,11 @@ fn narrow_first(rows: &mut [i64], i: usize, j: usize) {
 }
 
 // Rule 2: "Let a be row j's entry and b row i's."
-fn multipliers_at(target: [i64; 320], pivot: [i64; 320], c: usize) -> polynomials::content::Multipliers {
+fn multipliers_at(
+    target: [i64; 320],
+    pivot: [i64; 320],
+    c: usize,
+) -> polynomials::content::Multipliers {
     let t = &target[..];
     let p = &pivot[..];
     let from = c * 16;
@@ -42,7 +58,14 @@ fn multipliers_at(target: [i64; 320], pivot: [i64; 320], c: usize) -> polynomial
 }
 
 // Rules 3 and 4.
-fn combine_step(rows: &mut [i64], relations: &mut [i64], trailing: bool, i: usize, j: usize, p: Progress) -> Outcome {
+fn combine_step(
+    rows: &mut [i64],
+    relations: &mut [i64],
+    trailing: bool,
+    i: usize,
+    j: usize,
+    p: Progress,
+) -> Outcome {
     let target = rows::stores::load(rows, i * 320);
     let pivot = rows::stores::load(rows, j * 320);
     let order = p.order;
@@ -64,7 +87,12 @@ fn combine_step(rows: &mut [i64], relations: &mut [i64], trailing: bool, i: usiz
     }
     let row = worked.row;
     rows::stores::save(rows, i * 320, row);
-    going(Progress { settled: p.settled, order, count: count + more, shifts: p.shifts })
+    going(Progress {
+        settled: p.settled,
+        order,
+        count: count + more,
+        shifts: p.shifts,
+    })
 }
 
 // Rule 6.
@@ -77,7 +105,12 @@ fn shift_step(rows: &mut [i64], i: usize, row: [i64; 320], p: Progress) -> Outco
     let moved = worked.row;
     rows::stores::save(rows, i * 320, moved);
     let order = p.order;
-    going(Progress { settled: p.settled, order, count: p.count, shifts: p.shifts + 1 })
+    going(Progress {
+        settled: p.settled,
+        order,
+        count: p.count,
+        shifts: p.shifts + 1,
+    })
 }
 
 // Rule 5: "c(i) is the smallest column with a nonzero entry, and the row is settled".
@@ -85,13 +118,28 @@ fn settled(c: usize, p: Progress) -> Progress {
     let mut order = p.order;
     let w = p.settled;
     order[w] = c;
-    Progress { settled: w + 1, order, count: p.count, shifts: p.shifts }
+    Progress {
+        settled: w + 1,
+        order,
+        count: p.count,
+        shifts: p.shifts,
+    }
 }
 
-pub(crate) fn step(rows: &mut [i64], relations: &mut [i64], m: usize, trailing: bool, p: Progress) -> Outcome {
+pub(crate) fn step(
+    rows: &mut [i64],
+    relations: &mut [i64],
+    m: usize,
+    trailing: bool,
+    p: Progress,
+) -> Outcome {
     let i = p.settled;
     if m <= i {
-        return Outcome { refusal: 0, done: true, progress: p };
+        return Outcome {
+            refusal: 0,
+            done: true,
+            progress: p,
+        };
     }
     let row = rows::stores::load(rows, i * 320);
     if rows::entries::is_zero_row(row) {
