@@ -6,10 +6,11 @@ use native.Mathlib.Nat.{pos-of-ne-zero}
 use lib.IntN.{ℤ, pos, natAbs}
 use mir.Syntax.{w64}
 use mir.Val.{ofZ}
-use mir.Facts.{toZ-ofZ, sfits-lit}
+use mir.Facts.{toZ-ofZ}
 use Rattle.algebra.specs.Integers.{natAbs-zero}
 use Rattle.algebra.specs.Polynomials.{eval, isZeroℤ}
-use Rattle.integers.specs.Ranges.{ofZ-inj, ofZ-zero}
+use Rattle.integers.specs.Ranges.{ofZ-zero}
+use Rattle.polynomials.specs.Content.{zero-bits}
 use Rattle.polynomials.specs.RootSearch.{eval-empty, eval-at-zero, fits-small}
 use Rattle.polynomials.proofs.roots.is_root.Statement.{statement}
 use Rattle.polynomials.proofs.roots.is_root.Tie as tie
@@ -31,7 +32,7 @@ returns-2 : tie.Need-returns-2
 unfolding isZeroℤ
 returns-2 c =
     let start = c .before .before .before in
-    let zero = ofZ-inj {z = pos 0} (start .fits .r) (sfits-lit tt) (c .before .if2 .taken) in
+    let zero = zero-bits (start .fits .r) (c .before .if2 .taken) in
     ofZ-zero _ (fits-small (start .args .p .now) 0 (start .pre .1)) ∙ ap isZeroℤ (sym (ap (eval _) zero ∙ eval-at-zero _))
 
 returns-3 : tie.Need-returns-3

@@ -12,9 +12,10 @@ use lib.Signed.{quotZ, remZ}
 use lib.ListN.{length, getD}
 use mir.Syntax.{w64}
 use mir.Val.{Fits, SFits, ofZ, toZ}
-use mir.Facts.{toZ-ofZ, ofZ-toZ, sfits-toZ, fits-ofZ, sfits-lit}
-use Rattle.integers.specs.Ranges.{sfits-size, ofZ-inj, ofZ-pos, ofZ-zero, sfits-quotZ, sfits-remZ}
+use mir.Facts.{toZ-ofZ, ofZ-toZ, sfits-toZ, fits-ofZ}
+use Rattle.integers.specs.Ranges.{sfits-size, ofZ-pos, ofZ-zero, sfits-quotZ, sfits-remZ}
 use Rattle.algebra.specs.Polynomials.{isZeroℤ}
+use Rattle.polynomials.specs.Content.{zero-bits}
 use Rattle.polynomials.specs.RootSearch.{Chain, fits-small, chain-start, chain-fails, chain-next, chain-ends}
 use Rattle.polynomials.proofs.roots.vanishes.Statement.{statement}
 use Rattle.polynomials.proofs.roots.vanishes.Tie as tie
@@ -98,7 +99,7 @@ shared-slice-copy-out-b-2 c = omega arith
 
 -- The turn's remainder is 0.
 exact : (c : tie.Else1 Inv-loop μ-loop) → remZ (b (c .before .before)) (r (c .before .before)) ≡ pos 0
-exact c = ofZ-inj {z = pos 0} (fits-rest (c .before .before)) (sfits-lit tt) (rw (toZ-ofZ (fits-r (c .before .before))) at (c .if1 .left))
+exact c = zero-bits (fits-rest (c .before .before)) (rw (toZ-ofZ (fits-r (c .before .before))) at (c .if1 .left))
 
 add-b : tie.Need-add-b Inv-loop μ-loop
 add-b c =
