@@ -1,1 +1,130 @@
--- Shift
+-- A table of Pascal's numbers by its addition rule, and the coefficients of p(n + 1) and p(-n) as the code makes them.
+--
+-- Main definitions
+--   ruleAt table i       does entry i of a table with rows of 16 follow Pascal's addition rule?
+--   expansion p k n      the sum over j < n of the terms binomial j k * coeff p j
+--
+-- Main statements
+--   every-getD           what every member and the default pass, each entry passes
+--   small-coeff          the coefficients of a list within ±C are within ±C
+--   pascal               a table of 256 entries that all follow the rule holds the binomial coefficients
+--   expansion-first      the terms below k are zero
+--   expansion-next       one term more
+--   expansion-all        all terms make the coefficient of n^k in p(n + 1)
+--   expansion-size, shift-size   the sizes of the terms' sums and of the coefficients of p(n + 1), for p of degree at most 15 within ±C
+--   mirror-even, mirror-odd      the coefficients of p(-n) at even and at odd powers
+use mathlib.Core.Path.{_≡_, refl, sym, _∙_, ap, ap₂, subst}
+use mathlib.Core.Bool.{Bool}
+use mathlib.Core.List.{List, [], _∷_}
+use Prim.Native.Nat.{ℕ, zero, suc, _+_, _*_, _/_, _%_, _^_, _≤_, _<_}
+use native.Mathlib.Nat.{zero-add, le-of-suc-le-suc, le-trans, mul-le-mul, mul-le-mul-right, pow-le-pow-right}
+use native.Mathlib.Omega.{arith}
+use lib.Arith.{digits-div, digits-mod}
+use lib.Dec.{T, leb→le}
+use lib.IntN.{ℤ, pos, negℤ, natAbs, _+ℤ_, _-ℤ_, _*ℤ_, negℤ-negℤ, zero-*ℤ, *ℤ-zero}
+use lib.ListN.{length, getD}
+use Rattle.algebra.specs.Integers.{natAbs-*ℤ, -ℤ-zero}
+use Rattle.algebra.specs.Sums.{range, sumBelow, getD-range, sumBelow-last, sumBelow-zeros, sumBelow-extend, natAbs-sumBelow}
+use Rattle.algebra.specs.Polynomials.{Polynomial, coeff, shift, mirror, isZeroℤ, isZeroℤ-iff, T-&&}
+use Rattle.algebra.specs.Coefficients.{alternate, coeff-mirror, coeff-past-length}
+use Rattle.algebra.specs.Binomials.{binomial, binomial-above, binomial-le, coeff-shift, coeff-shift-size}
+use Rattle.rules.specs.Limits.{bound, small}
+use Rattle.rules.specs.Rows.{every}
+
+pub every-getD : {A : Type 0} (t : A → Bool) (l : List A) (d : A) → T (t d) → T (every t l) → (i : ℕ) → T (t (getD l i d))
+unfolding every
+every-getD t [] d h e i = h
+every-getD t (x ∷ l) d h e zero = T-&& (t x) (every t l) .0 e .0
+every-getD t (x ∷ l) d h e (suc i) = every-getD t l d h (T-&& (t x) (every t l) .0 e .1) i
+
+pub small-coeff : (p : Polynomial) → T (every small p) → (i : ℕ) → natAbs (coeff p i) ≤ bound
+unfolding small coeff
+small-coeff p h i = leb→le (natAbs (getD p i (pos 0))) bound (every-getD small p (pos 0) tt h i)
+
+-- ---- the table
+
+-- What the rule asks of row j, number k: 1 at the front, zeros after it in row 0, else the sum of the two entries above.
+unfoldable pub ruled : List ℤ → ℕ → ℕ → ℤ
+ruled table j zero = pos 1
+ruled table zero (suc k) = pos 0
+ruled table (suc j) (suc k) = getD table (j * 16 + k) (pos 0) +ℤ getD table (j * 16 + suc k) (pos 0)
+
+unfoldable pub ruleAt : List ℤ → ℕ → Bool
+unfolding ruled isZeroℤ
+ruleAt table i = isZeroℤ (getD table i (pos 0) -ℤ ruled table (i / 16) (i % 16))
+
+module _ (table : List ℤ) (rule : T (every (ruleAt table) (range 0 256))) where
+  follows : (i : ℕ) → i < 256 → T (ruleAt table i)
+  unfolding every range
+  follows i h =
+      let first = T-&& (ruleAt table 0) (every (ruleAt table) (range 1 255)) .0 rule .0 in
+      subst (λ m. T (ruleAt table m)) (getD-range 0 256 i 0 h ∙ zero-add i) (every-getD (ruleAt table) (range 0 256) 0 first rule i)
+
+  entry : (j k : ℕ) → j < 16 → k < 16 → getD table (j * 16 + k) (pos 0) ≡ ruled table j k
+  unfolding ruleAt
+  entry j k h l =
+      let i = j * 16 + k in
+      let x = getD table i (pos 0) in
+      let y = ruled table (i / 16) (i % 16) in
+      -ℤ-zero x y (isZeroℤ-iff (x -ℤ y) .0 (follows i (omega arith))) ∙ ap₂ (ruled table) (digits-div j l) (digits-mod j l)
+
+  pub pascal : (j k : ℕ) → j < 16 → k < 16 → getD table (j * 16 + k) (pos 0) ≡ pos (binomial j k)
+  unfolding ruled binomial
+  pascal j zero h l = entry j 0 h l
+  pascal zero (suc k) h l = entry 0 (suc k) h l
+  pascal (suc j) (suc k) h l =
+      entry (suc j) (suc k) h l ∙ ap₂ _+ℤ_ (pascal j k (omega arith) (omega arith)) (pascal j (suc k) (omega arith) l)
+
+-- ---- the coefficients of p(n + 1)
+
+unfoldable pub expansion : Polynomial → ℕ → ℕ → ℤ
+expansion p k n = sumBelow n (λ j. pos (binomial j k) *ℤ coeff p j)
+
+pub expansion-first : (p : Polynomial) (k : ℕ) → expansion p k k ≡ pos 0
+unfolding expansion
+expansion-first p k =
+    sumBelow-zeros k (λ j. pos (binomial j k) *ℤ coeff p j)
+    (λ j h. ap (λ b. pos b *ℤ coeff p j) (binomial-above j k h) ∙ zero-*ℤ (coeff p j))
+
+pub expansion-next : (p : Polynomial) (k n : ℕ) → expansion p k (suc n) ≡ expansion p k n +ℤ pos (binomial n k) *ℤ coeff p n
+unfolding expansion
+expansion-next p k n = sumBelow-last n (λ j. pos (binomial j k) *ℤ coeff p j)
+
+pub expansion-all : (p : Polynomial) (k n : ℕ) → length p ≤ n → expansion p k n ≡ coeff (shift p) k
+unfolding expansion
+expansion-all p k n h =
+    sumBelow-extend (length p) n (λ j. pos (binomial j k) *ℤ coeff p j) h
+    (λ j l _. ap (λ a. pos (binomial j k) *ℤ a) (coeff-past-length p j l) ∙ *ℤ-zero (pos (binomial j k)))
+    ∙ sym (coeff-shift p k)
+
+-- The numbers of the rows up to 15 are at most 2 ^ 15.
+pub binomial-size : (j k : ℕ) → j < 16 → binomial j k ≤ 2 ^ 15
+binomial-size j k h = le-trans (binomial-le j k) (pow-le-pow-right (omega arith) (le-of-suc-le-suc h))
+
+pub term-size : (p : Polynomial) → T (every small p) → (k j : ℕ) → j < 16 → natAbs (pos (binomial j k) *ℤ coeff p j) ≤ 2 ^ 15 * bound
+term-size p s k j h = rw (natAbs-*ℤ (pos (binomial j k)) (coeff p j)) (mul-le-mul (binomial-size j k h) (small-coeff p s j))
+
+pub expansion-size : (p : Polynomial) → T (every small p) → (k n : ℕ) → n ≤ 16 → natAbs (expansion p k n) ≤ 2 ^ 19 * bound
+unfolding expansion
+expansion-size p s k n h =
+    omega (arith, natAbs-sumBelow n (2 ^ 15 * bound) (λ j. pos (binomial j k) *ℤ coeff p j) (λ j l. term-size p s k j (omega arith)))
+
+pub shift-size : (p : Polynomial) → T (every small p) → length p ≤ 16 → (k : ℕ) → natAbs (coeff (shift p) k) ≤ 2 ^ 16 * bound
+shift-size p s h k =
+    le-trans (coeff-shift-size p bound (small-coeff p s) k) (mul-le-mul-right bound (pow-le-pow-right (omega arith) h))
+
+-- ---- the coefficients of p(-n)
+
+alternate-even : (k : ℕ) (a : ℤ) → k % 2 ≡ 0 → alternate k a ≡ a
+unfolding alternate
+alternate-even zero a h = refl
+alternate-even (suc zero) a h = absurd (omega arith)
+alternate-even (suc (suc k)) a h = negℤ-negℤ (alternate k a) ∙ alternate-even k a (omega arith)
+
+pub mirror-even : (p : Polynomial) (k : ℕ) → k % 2 ≡ 0 → coeff (mirror p) k ≡ coeff p k
+mirror-even p k h = coeff-mirror p k ∙ alternate-even k (coeff p k) h
+
+pub mirror-odd : (p : Polynomial) (k : ℕ) → (k % 2 ≡ 0 → ⊥) → coeff (mirror p) k ≡ negℤ (coeff p k)
+unfolding alternate
+mirror-odd p zero h = absurd (h refl)
+mirror-odd p (suc k) h = coeff-mirror p (suc k) ∙ ap negℤ (alternate-even k (coeff p (suc k)) (omega arith))
