@@ -5,14 +5,12 @@ use mathlib.Core.Path.{_≡_, sym, _∙_, ap}
 use mathlib.Core.List.{List}
 use Prim.Native.Nat.{ℕ, _+_, _≤_, _-_}
 use native.Mathlib.Omega.{arith}
-use borrow.Author.Needs.{needs, sfits-of}
+use borrow.Author.Needs.{needs}
 use denote.Ref.{now}
 use lib.IntN.{ℤ, pos, natAbs}
 use lib.ListN.{length, getD, drop, drop-of-length-le}
-use mir.Syntax.{w64}
-use mir.Facts.{toZ-ofZ}
 use Rattle.algebra.specs.Gcd.{gcd, content, zero-gcd, gcd-zero}
-use Rattle.polynomials.specs.Content.{content-next, one-gcd}
+use Rattle.polynomials.specs.Content.{read-back, content-next, one-gcd}
 use Rattle.polynomials.proofs.content.content.Statement.{statement}
 use Rattle.polynomials.proofs.content.content.Tie as tie
 
@@ -34,7 +32,7 @@ module _ (c : tie.After-gcd Inv-loop μ-loop) where
   rest = content (drop (i + 1) p)
 
   size : c .before .magnitude .result ≡ natAbs (getD p i (pos 0))
-  size = rw (toZ-ofZ {w = w64} (sfits-of {z = getD p i (pos 0)} (c .before .before .magnitude-arg .given))) at (c .before .magnitude .ensures)
+  size = c .before .magnitude .ensures ∙ ap natAbs (read-back (getD p i (pos 0)) (c .before .before .magnitude-arg .given))
 
   joined : content p ≡ gcd (c .gcd .result) rest
   joined =

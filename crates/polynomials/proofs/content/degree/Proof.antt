@@ -1,6 +1,6 @@
 -- `polynomials::content::degree` meets its contract. The loop's invariant: no coefficient past power n - 1 is left.
 -- Assumes nothing.
-use mathlib.Core.Path.{_≡_, sym}
+use mathlib.Core.Path.{sym}
 use Prim.Native.Nat.{_≤_, _-_}
 use native.Mathlib.Omega.{arith}
 use borrow.Author.Needs.{needs, sfits-of}
@@ -48,9 +48,11 @@ loop-less c = search needs
 loop-again : tie.Need-loop-again Inv-loop μ-loop
 unfolding coeff
 loop-again c =
-    let at = c .before .before .before in
-    let zero = zero-bits (sfits-of (c .before .if12 .given)) (c .if1 .left) in
-    (omega arith, within-down (now (at .before .args .p)) (at .loop .n) (c .before .before .loop-test .taken) (at .loop .inv .1) zero)
+    let at = c .before .before .before in (
+      omega arith,
+      within-down (now (at .before .args .p)) (at .loop .n) (c .before .before .loop-test .taken) (at .loop .inv .1)
+          (zero-bits (sfits-of (c .before .if12 .given)) (c .if1 .left)),
+    )
 
 returns-2 : tie.Need-returns-2 Inv-loop μ-loop
 returns-2 c = sym (degree-bottom (now (c .before .before .args .p)) (c .before .loop .n) (c .loop-test .left) (c .before .loop .inv .1))

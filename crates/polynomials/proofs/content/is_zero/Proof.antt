@@ -27,7 +27,9 @@ shared-slice-copy-out-if1 : tie.Need-shared-slice-copy-out-if1 Inv-loop μ-loop
 shared-slice-copy-out-if1 c = search needs
 
 returns : tie.Need-returns Inv-loop μ-loop
-returns c = sym (isZero-false (now (c .before .before .before .before .args .p)) (c .before .before .before .loop .i) (nonzero-bits (c .if1 .taken)))
+returns c =
+    let at = c .before .before .before in
+    sym (isZero-false (now (at .before .args .p)) (at .loop .i) (nonzero-bits (c .if1 .taken)))
 
 add-i : tie.Need-add-i Inv-loop μ-loop
 add-i c = search needs
@@ -39,9 +41,11 @@ loop-again : tie.Need-loop-again Inv-loop μ-loop
 unfolding isZero
 loop-again c =
     let p = now (c .before .before .before .before .args .p) in
-    let i = c .before .before .before .loop .i in
-    let zero = zero-bits (sfits-of (c .before .if12 .given)) (c .if1 .left) in
-    (omega arith, c .before .before .before .loop .inv .1 ∙ skip-zero isZero (λ q. refl) p i (c .before .before .loop-test .taken) zero)
+    let i = c .before .before .before .loop .i in (
+      omega arith,
+      c .before .before .before .loop .inv .1
+          ∙ skip-zero isZero (λ q. refl) p i (c .before .before .loop-test .taken) (zero-bits (sfits-of (c .before .if12 .given)) (c .if1 .left)),
+    )
 
 returns-2 : tie.Need-returns-2 Inv-loop μ-loop
 unfolding isZero

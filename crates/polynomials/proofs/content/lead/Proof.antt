@@ -1,11 +1,11 @@
 -- `polynomials::content::lead` meets its contract. The highest nonzero coefficient stands at the degree; without coefficients it is 0.
 -- Assumes nothing.
 use mathlib.Core.Path.{sym, _∙_, ap}
-use borrow.Author.Needs.{needs, sfits-of}
+use borrow.Author.Needs.{needs}
 use denote.Ref.{now}
-use mir.Facts.{toZ-ofZ}
 use Rattle.algebra.specs.Polynomials.{coeff}
 use Rattle.algebra.specs.Coefficients.{coeff-degree, coeff-past-length}
+use Rattle.polynomials.specs.Content.{read-back}
 use Rattle.polynomials.proofs.content.lead.Statement.{statement}
 use Rattle.polynomials.proofs.content.lead.Tie as tie
 
@@ -22,7 +22,8 @@ returns : tie.Need-returns
 unfolding coeff
 returns c =
     let p = now (c .before .before .before .args .p) in
-    toZ-ofZ (sfits-of (c .result .given)) ∙ ap (coeff p) (c .before .before .degree .ensures) ∙ coeff-degree p
+    let d = c .before .before .degree in
+    read-back (coeff p (d .result)) (c .result .given) ∙ ap (coeff p) (d .ensures) ∙ coeff-degree p
 
 returns-2 : tie.Need-returns-2
 returns-2 c =

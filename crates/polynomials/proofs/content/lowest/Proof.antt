@@ -5,10 +5,10 @@ use Prim.Native.Nat.{_+_, _≤_, _-_}
 use native.Mathlib.Omega.{arith}
 use borrow.Author.Needs.{needs, sfits-of}
 use denote.Ref.{now}
-use lib.ListN.{length, drop, drop-of-length-le}
-use mir.Facts.{toZ-ofZ}
+use lib.IntN.{pos}
+use lib.ListN.{length, getD, drop, drop-of-length-le}
 use Rattle.algebra.specs.Polynomials.{lowest}
-use Rattle.polynomials.specs.Content.{zero-bits, nonzero-bits, drop-next, skip-zero, lowest-first}
+use Rattle.polynomials.specs.Content.{read-back, zero-bits, nonzero-bits, drop-next, skip-zero, lowest-first}
 use Rattle.polynomials.proofs.content.lowest.Statement.{statement}
 use Rattle.polynomials.proofs.content.lowest.Tie as tie
 
@@ -37,7 +37,7 @@ returns : tie.Need-returns Inv-loop μ-loop
 returns c =
     let p = now (c .before .before .before .before .before .args .p) in
     let i = c .before .before .before .before .loop .i in
-    toZ-ofZ (sfits-of (c .result .given))
+    read-back (getD p i (pos 0)) (c .result .given)
     ∙ sym (c .before .before .before .before .loop .inv .1 ∙ ap lowest (drop-next p i (c .before .before .before .loop-test .taken))
     ∙ lowest-first _ (drop (i + 1) p) (nonzero-bits (c .before .if1 .taken)))
 
@@ -51,9 +51,11 @@ loop-again : tie.Need-loop-again Inv-loop μ-loop
 unfolding lowest
 loop-again c =
     let p = now (c .before .before .before .before .args .p) in
-    let i = c .before .before .before .loop .i in
-    let zero = zero-bits (sfits-of (c .before .if12 .given)) (c .if1 .left) in
-    (omega arith, c .before .before .before .loop .inv .1 ∙ skip-zero lowest (λ q. refl) p i (c .before .before .loop-test .taken) zero)
+    let i = c .before .before .before .loop .i in (
+      omega arith,
+      c .before .before .before .loop .inv .1
+          ∙ skip-zero lowest (λ q. refl) p i (c .before .before .loop-test .taken) (zero-bits (sfits-of (c .before .if12 .given)) (c .if1 .left)),
+    )
 
 returns-2 : tie.Need-returns-2 Inv-loop μ-loop
 unfolding lowest
