@@ -1,13 +1,13 @@
 -- A table of Pascal's numbers by its addition rule, and the coefficients of p(n + 1) and p(-n) as the code makes them.
 --
 -- Main definitions
---   ruleAt table i       does entry i of a table with rows of 16 follow Pascal's addition rule?
+--   followsRule table    do the entries of a table of 16 rows of 16 numbers follow Pascal's addition rule?
 --   expansion p k n      the sum over j < n of the terms binomial j k * coeff p j
 --
 -- Main statements
 --   every-getD           what every member and the default pass, each entry passes
 --   small-coeff          the coefficients of a list within ±C are within ±C
---   pascal               a table of 256 entries that all follow the rule holds the binomial coefficients
+--   pascal-entry         a table that follows the rule holds the binomial coefficients
 --   expansion-first      the terms below k are zero
 --   expansion-next       one term more
 --   expansion-all        all terms make the coefficient of n^k in p(n + 1)
@@ -16,10 +16,9 @@
 use mathlib.Core.Path.{_≡_, refl, sym, _∙_, ap, ap₂, subst}
 use mathlib.Core.Bool.{Bool}
 use mathlib.Core.List.{List, [], _∷_}
-use Prim.Native.Nat.{ℕ, zero, suc, _+_, _*_, _/_, _%_, _^_, _≤_, _<_}
-use native.Mathlib.Nat.{zero-add, le-of-suc-le-suc, le-trans, mul-le-mul, mul-le-mul-right, pow-le-pow-right}
+use Prim.Native.Nat.{ℕ, zero, suc, _+_, _*_, _%_, _^_, _≤_, _<_}
+use native.Mathlib.Nat.{zero-add, not-suc-le-zero, le-of-suc-le-suc, le-trans, mul-le-mul, mul-le-mul-right, pow-le-pow-right}
 use native.Mathlib.Omega.{arith}
-use lib.Arith.{digits-div, digits-mod}
 use lib.Dec.{T, leb→le}
 use lib.IntN.{ℤ, pos, negℤ, natAbs, _+ℤ_, _-ℤ_, _*ℤ_, negℤ-negℤ, zero-*ℤ, *ℤ-zero}
 use lib.ListN.{length, getD}
@@ -43,37 +42,44 @@ small-coeff p h i = leb→le (natAbs (getD p i (pos 0))) bound (every-getD small
 
 -- ---- the table
 
+every-range : (t : ℕ → Bool) (n : ℕ) → T (every t (range 0 n)) → (i : ℕ) → i < n → T (t i)
+unfolding every range
+every-range t zero e i h = absurd (not-suc-le-zero h)
+every-range t (suc n) e i h =
+    let first = T-&& (t 0) (every t (range 1 n)) .0 e .0 in
+    subst (λ m. T (t m)) (getD-range 0 (suc n) i 0 h ∙ zero-add i) (every-getD t (range 0 (suc n)) 0 first e i)
+
+abbrev entry : List (List ℤ) → ℕ → ℕ → ℤ
+entry table j k = getD (getD table j []) k (pos 0)
+
 -- What the rule asks of row j, number k: 1 at the front, zeros after it in row 0, else the sum of the two entries above.
-unfoldable pub ruled : List ℤ → ℕ → ℕ → ℤ
+ruled : List (List ℤ) → ℕ → ℕ → ℤ
 ruled table j zero = pos 1
 ruled table zero (suc k) = pos 0
-ruled table (suc j) (suc k) = getD table (j * 16 + k) (pos 0) +ℤ getD table (j * 16 + suc k) (pos 0)
+ruled table (suc j) (suc k) = entry table j k +ℤ entry table j (suc k)
 
-unfoldable pub ruleAt : List ℤ → ℕ → Bool
-unfolding ruled isZeroℤ
-ruleAt table i = isZeroℤ (getD table i (pos 0) -ℤ ruled table (i / 16) (i % 16))
+ruledAt : List (List ℤ) → ℕ → ℕ → Bool
+ruledAt table j k = isZeroℤ (entry table j k -ℤ ruled table j k)
 
-module _ (table : List ℤ) (rule : T (every (ruleAt table) (range 0 256))) where
-  follows : (i : ℕ) → i < 256 → T (ruleAt table i)
-  unfolding every range
-  follows i h =
-      let first = T-&& (ruleAt table 0) (every (ruleAt table) (range 1 255)) .0 rule .0 in
-      subst (λ m. T (ruleAt table m)) (getD-range 0 256 i 0 h ∙ zero-add i) (every-getD (ruleAt table) (range 0 256) 0 first rule i)
+-- Do all entries of the 16 rows of 16 numbers follow the rule?
+unfoldable pub followsRule : List (List ℤ) → Bool
+unfolding every range ruledAt ruled isZeroℤ
+followsRule table = every (λ j. every (ruledAt table j) (range 0 16)) (range 0 16)
 
-  entry : (j k : ℕ) → j < 16 → k < 16 → getD table (j * 16 + k) (pos 0) ≡ ruled table j k
-  unfolding ruleAt
-  entry j k h l =
-      let i = j * 16 + k in
-      let x = getD table i (pos 0) in
-      let y = ruled table (i / 16) (i % 16) in
-      -ℤ-zero x y (isZeroℤ-iff (x -ℤ y) .0 (follows i (omega arith))) ∙ ap₂ (ruled table) (digits-div j l) (digits-mod j l)
+module _ (table : List (List ℤ)) (rule : T (followsRule table)) where
+  by-rule : (j k : ℕ) → j < 16 → k < 16 → entry table j k ≡ ruled table j k
+  unfolding followsRule ruledAt
+  by-rule j k h l =
+      let row = every-range (λ i. every (ruledAt table i) (range 0 16)) 16 rule j h in
+      -ℤ-zero (entry table j k) (ruled table j k)
+      (isZeroℤ-iff (entry table j k -ℤ ruled table j k) .0 (every-range (ruledAt table j) 16 row k l))
 
-  pub pascal : (j k : ℕ) → j < 16 → k < 16 → getD table (j * 16 + k) (pos 0) ≡ pos (binomial j k)
+  pub pascal-entry : (j k : ℕ) → j < 16 → k < 16 → getD (getD table j []) k (pos 0) ≡ pos (binomial j k)
   unfolding ruled binomial
-  pascal j zero h l = entry j 0 h l
-  pascal zero (suc k) h l = entry 0 (suc k) h l
-  pascal (suc j) (suc k) h l =
-      entry (suc j) (suc k) h l ∙ ap₂ _+ℤ_ (pascal j k (omega arith) (omega arith)) (pascal j (suc k) (omega arith) l)
+  pascal-entry j zero h l = by-rule j 0 h l
+  pascal-entry zero (suc k) h l = by-rule 0 (suc k) h l
+  pascal-entry (suc j) (suc k) h l =
+      by-rule (suc j) (suc k) h l ∙ ap₂ _+ℤ_ (pascal-entry j k (omega arith) (omega arith)) (pascal-entry j (suc k) (omega arith) l)
 
 -- ---- the coefficients of p(n + 1)
 
@@ -98,7 +104,7 @@ expansion-all p k n h =
     ∙ sym (coeff-shift p k)
 
 -- The numbers of the rows up to 15 are at most 2 ^ 15.
-pub binomial-size : (j k : ℕ) → j < 16 → binomial j k ≤ 2 ^ 15
+binomial-size : (j k : ℕ) → j < 16 → binomial j k ≤ 2 ^ 15
 binomial-size j k h = le-trans (binomial-le j k) (pow-le-pow-right (omega arith) (le-of-suc-le-suc h))
 
 pub term-size : (p : Polynomial) → T (every small p) → (k j : ℕ) → j < 16 → natAbs (pos (binomial j k) *ℤ coeff p j) ≤ 2 ^ 15 * bound

@@ -9,7 +9,7 @@ use lib.Dec.{lit<}
 use lib.IntN.{ℤ, pos, natAbs, _+ℤ_, _*ℤ_}
 use lib.ListN.{length, getD}
 use denote.Ref.{now}
-use borrow.Author.Needs.{needs, sfits-of}
+use borrow.Author.Needs.{sfits-of}
 use mir.Syntax.{w64}
 use mir.Val.{SFits, ofZ, toZ}
 use mir.Facts.{toZ-ofZ}
@@ -27,10 +27,13 @@ Inv-loop p k sum₀ j₀ sum j = (j ≤ 16) × (sum ≡ ofZ w64 (expansion p k j
 abbrev μ-loop : tie.MeasureT-loop
 μ-loop p k sum₀ j₀ sum j = length p - j
 
--- what a place after the loop's head knows of the sum of n terms
-module _ (s : tie.Start Inv-loop μ-loop) where
-  sum-fits : (n : ℕ) → n ≤ 16 → SFits w64 (expansion (now (s .args .p)) (s .args .k) n)
-  sum-fits n h = sfits-size (expansion (now (s .args .p)) (s .args .k) n) (expansion-size (now (s .args .p)) (s .pre .1) (s .args .k) n h) (lit< tt)
+-- the sum of n terms is in the range of an i64
+module _ (s : tie.Start Inv-loop μ-loop) (n : ℕ) (h : n ≤ 16) where
+  abbrev terms : ℤ
+  terms = expansion (now (s .args .p)) (s .args .k) n
+
+  sum-fits : SFits w64 terms
+  sum-fits = sfits-size terms (expansion-size (now (s .args .p)) (s .pre .1) (s .args .k) n h) (lit< tt)
 
 -- what a turn knows of the term that it adds
 module _ (c : tie.After-sum Inv-loop μ-loop) where
@@ -61,12 +64,15 @@ module _ (c : tie.After-sum Inv-loop μ-loop) where
   unfolding coeff
   fits-term = sfits-size (number *ℤ x) (term-size (now (s .args .p)) (s .pre .1) (s .args .k) j (omega arith)) (lit< tt)
 
+  abbrev product-read : ℤ
+  product-read = toZ w64 (ofZ w64 (c .before .binomial .result)) *ℤ toZ w64 (ofZ w64 x)
+
   -- the machine's sum, each operand read back from its bits
-  next : toZ w64 (c .before .before .before .loop .sum) +ℤ toZ w64 (ofZ w64 (toZ w64 (ofZ w64 (c .before .binomial .result)) *ℤ toZ w64 (ofZ w64 x)))
-      ≡ expansion (now (s .args .p)) (s .args .k) (suc j)
+  next : toZ w64 (c .before .before .before .loop .sum) +ℤ toZ w64 (ofZ w64 product-read) ≡ expansion (now (s .args .p)) (s .args .k) (suc j)
   unfolding coeff
   next =
-      simp (c .before .before .before .loop .inv .1, number-is, toZ-ofZ fits-x, toZ-ofZ fits-number, toZ-ofZ fits-term, toZ-ofZ (sum-fits s j (omega arith)))
+      let fits-sum = sum-fits s j (omega arith) in
+      simp (c .before .before .before .loop .inv .1, number-is, toZ-ofZ fits-x, toZ-ofZ fits-number, toZ-ofZ fits-term, toZ-ofZ fits-sum)
       (sym (expansion-next (now (s .args .p)) (s .args .k) j))
 
 loop-holds : tie.Need-loop-holds Inv-loop μ-loop
@@ -102,8 +108,8 @@ returns c =
     let p = now (s .args .p) in
     let k = s .args .k in
     let j = c .before .loop .j in
-    let value : toZ w64 (c .before .loop .sum) ≡ coeff (shift p) k =
-    ap (toZ w64) (c .before .loop .inv .1) ∙ toZ-ofZ (sum-fits s j (omega arith)) ∙ expansion-all p k j (omega arith) in
+    let last = toZ-ofZ (sum-fits s j (omega arith)) ∙ expansion-all p k j (omega arith) in
+    let value : toZ w64 (c .before .loop .sum) ≡ coeff (shift p) k = ap (toZ w64) (c .before .loop .inv .1) ∙ last in
     (value, subst (λ r. natAbs r ≤ 2 ^ 16 * bound) (sym value) (shift-size p (s .pre .1) (s .pre .0) k))
 
 pub shifted-coefficient-spec : {M : Type 1} → statement M
