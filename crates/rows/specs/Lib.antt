@@ -1,3 +1,4 @@
 pub mod Flat
 pub mod Found
 pub mod Worked
+pub mod Shifting
