@@ -1,2 +1,3 @@
-pub mod StoreStates
 pub mod Progress
+pub mod StoreStates
+pub mod Relations
