@@ -1,3 +1,5 @@
 pub mod Progress
 pub mod StoreStates
 pub mod Relations
+pub mod NewRows
+pub mod StepLaws
