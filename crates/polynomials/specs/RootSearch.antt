@@ -1,28 +1,45 @@
--- RootSearch
-use Prim.Native.Nat.{ℕ, zero, suc, _+_, _*_, _-_, _/_, _%_, _≤_, _<_, zero-le, suc-le-suc}
-use mathlib.Core.Path.{_≡_, refl, sym, _∙_, ap, ap₂, subst, subst⁻¹}
+-- The search for the integer roots of a polynomial: the test of one candidate without large numbers, the candidates that are
+-- tried, and why these are all.
+--
+-- Main definitions
+--   listed l, held f   the array that holds the list l, zeros past its end; the list that an array holds
+--   tryRoot p r l      the ascending list l with r, if p vanishes at r
+--   tryBoth p d l      the same for d and -d
+--   answered o         a root or none, as an answer
+--   Chain p r i b      the root test after i coefficients
+--   Found p P l        l holds, ascending, only roots of p, and every root of p with the property P
+--
+-- Main statements
+--   test-fails, test-steps   b + r e = 0 exactly if r divides b and b / r + e = 0
+--   chain-start, chain-next, chain-fails, chain-ends   the turns of the root test
+--   found-length       a list of roots has at most as many members as the degree says
+--   search-start, search-divisor, search-other, search-end   the turns of the search, and that it finds the roots
+--   roots-few          a polynomial of 16 coefficients has at most 15 roots
+--   answered-first, answered-last   the first root is the smallest and the last the largest
+use Prim.Native.Nat.{ℕ, zero, suc, _+_, _*_, _-_, _/_, _%_, _≤_, _<_, zero-le}
+use mathlib.Core.Path.{_≡_, refl, sym, _∙_, ap, subst, subst⁻¹}
 use mathlib.Core.Logic.{_≢_, _⊎_, inl, inr, ⊎-elim, by-cases}
 use mathlib.Core.Bool.{Bool, true, false, cond, not}
 use mathlib.Core.List.{List, [], _∷_, _++_}
-use mathlib.Core.List.{List·Mem, List·Memᴰ, List·Memᴰ·head, List·Memᴰ·tail, List·Memᴰ·not-nil, List·Memᴰ·cases-cons, List·Memᴰ·eq-of-singleton, Memᴰ·cast, not-mem-nil}
-use mathlib.Core.List.{Pairwise, Pairwise·nil, Pairwise·cons, Pairwise·of-cons, rel-of-pairwise-cons}
+use mathlib.Core.List.{List·Mem, List·Memᴰ, List·Memᴰ·head, List·Memᴰ·tail, List·Memᴰ·not-nil, Memᴰ·cast}
+use mathlib.Core.List.{Pairwise·nil, Pairwise·of-cons}
 use mathlib.Core.Option.{Option, none, some}
-use native.Mathlib.Nat.{suc-ne-zero, le-refl, eq-or-lt-of-le, eq-zero-or-pos, mul-div-cancel', div-zero, mul-zero, div-eq-of-eq-mul-left, mul-mod-left, mul-mod-right, mul-le-mul, le-trans, le-of-eq, lt-of-not-le, le-div-iff-mul-le}
+use native.Mathlib.Nat.{suc-ne-zero, le-refl, eq-or-lt-of-le, eq-zero-or-pos, mul-div-cancel', div-zero, mul-zero, div-eq-of-eq-mul-left}
+use native.Mathlib.Nat.{mul-mod-left, mul-mod-right, mul-le-mul, le-trans, le-of-eq, lt-of-not-le, le-div-iff-mul-le}
 use native.Mathlib.Decide.{decLe}
-use native.Mathlib.Numerals.{add-one}
 use native.Mathlib.Omega.{arith}
 use lib.Dec.{T, not-T}
 use lib.ListN.{length, take, drop, getD, replicate, drop-of-length-le, List·getD-append}
-use lib.Seq.{drop-cons, take-append-seam}
-use lib.IntN.{ℤ, pos, negsuc, negℤ, natAbs, _+ℤ_, _*ℤ_, +ℤ-assoc, *ℤ-comm}
-use lib.Signed.{_<ℤ_, _≤ℤ_, ltZ, leZ, quotZ, remZ, ltZ-yes, clashℤ, <ℤ-irrefl}
+use lib.Seq.{take-append-seam}
+use lib.IntN.{ℤ, pos, negsuc, negℤ, natAbs, _+ℤ_, _*ℤ_, +ℤ-assoc}
+use lib.Signed.{_<ℤ_, leZ, quotZ, remZ}
 use mir.Syntax.{w64}
 use mir.Val.{SFits}
 use Rattle.integers.specs.Ranges.{sfits-size}
-use Rattle.algebra.specs.Integers.{ringℤ, natAbs-+ℤ, negℤ-unique, negℤ-*ℤ, natAbs-zero, no-zero-divisors}
+use Rattle.algebra.specs.Integers.{ringℤ, natAbs-+ℤ, negℤ-unique, natAbs-zero, no-zero-divisors}
 use Rattle.algebra.specs.Division.{quotZ-le, remZ-multiple, quotZ-multiple}
-use Rattle.algebra.specs.Order.{<ℤ-trans, <ℤ-to-≤ℤ, ≤ℤ-of-≡, ℤ-trichotomy}
-use Rattle.algebra.specs.Polynomials.{Polynomial, coeff, eval, isZero, lowest, degree, isZeroℤ, isZeroℤ-iff, T-&&}
+use Rattle.algebra.specs.Order.{<ℤ-to-≤ℤ}
+use Rattle.algebra.specs.Polynomials.{Polynomial, coeff, eval, isZero, lowest, degree, isZeroℤ}
 use Rattle.algebra.specs.Vanishing.{isZeroℤ-sound, isZeroℤ-complete, roots-at-most-degree, root-divides-lowest, lowest-positive}
 use Rattle.algebra.specs.Coefficients.{degree-isZero, degree-lt-length, lowest-place}
 use Rattle.algebra.specs.Roots.{place, roots, ascending-distinct, roots-sound, roots-complete, roots-ascending}
@@ -30,27 +47,29 @@ use Rattle.rules.specs.Limits.{bound, small}
 use Rattle.rules.specs.Rows.{every}
 use Rattle.rules.specs.Elimination.{Side, leading, trailing, further, furthest}
 use Rattle.rules.specs.Calls.{rootFound, rootValue}
-use Rattle.polynomials.specs.Content.{small-at}
+use Rattle.polynomials.specs.Content.{small-at, drop-next}
+use Rattle.polynomials.specs.Ascending.{Ascending, insert, insert-nil, same-truth, first-below, ascending-unique, insert-longer}
+use Rattle.polynomials.specs.Ascending.{insert-new}
+use Rattle.polynomials.specs.Ascending.{insert-old, insert-only, insert-ascending}
 use Rattle.polynomials.specs.declared.roots.RootList.{RootList}
 use Rattle.polynomials.specs.declared.roots.RootAnswer.{RootAnswer}
 
-unfoldable pub insert : ℤ → List ℤ → List ℤ
-insert x [] = x ∷ []
-insert x (y ∷ l) = cond (ltZ x y) (x ∷ insert y l) (cond (ltZ y x) (y ∷ insert x l) (y ∷ l))
-
-unfoldable pub tryRoot : Polynomial → ℤ → List ℤ → List ℤ
-unfolding insert eval isZeroℤ
-tryRoot p r l = cond (isZeroℤ (eval p r)) (insert r l) l
-
-unfoldable pub tryBoth : Polynomial → ℕ → List ℤ → List ℤ
-unfolding tryRoot
-tryBoth p d l = tryRoot p (negℤ (pos d)) (tryRoot p (pos d) l)
-
+-- The first `count` values.
 abbrev pub held : RootList → List ℤ
 held f = take (f .count) (f .values)
 
 abbrev pub listed : List ℤ → RootList
 listed l = record { count = length l; values = l ++ replicate (16 - length l) (pos 0) }
+
+-- The candidate r.
+unfoldable pub tryRoot : Polynomial → ℤ → List ℤ → List ℤ
+unfolding insert eval isZeroℤ
+tryRoot p r l = cond (isZeroℤ (eval p r)) (insert r l) l
+
+-- The candidates d and -d.
+unfoldable pub tryBoth : Polynomial → ℕ → List ℤ → List ℤ
+unfolding tryRoot
+tryBoth p d l = tryRoot p (negℤ (pos d)) (tryRoot p (pos d) l)
 
 -- "value 0 with "no""
 abbrev pub answered : Option ℤ → RootAnswer
@@ -58,22 +77,21 @@ answered o = record { found = rootFound o; root = rootValue o }
 
 -- ---- the root test
 
-same-truth : (s t : Bool) → (T s → T t) → (T t → T s) → s ≡ t
-same-truth true true f g = refl
-same-truth true false f g = absurd (f tt)
-same-truth false true f g = absurd (g tt)
-same-truth false false f g = refl
-
 isZeroℤ-same : (a b : ℤ) → (a ≡ pos 0 → b ≡ pos 0) → (b ≡ pos 0 → a ≡ pos 0) → isZeroℤ a ≡ isZeroℤ b
 isZeroℤ-same a b f g =
-    same-truth (isZeroℤ a) (isZeroℤ b) (λ t. isZeroℤ-iff b .1 (f (isZeroℤ-iff a .0 t))) (λ t. isZeroℤ-iff a .1 (g (isZeroℤ-iff b .0 t)))
+    same-truth (isZeroℤ a) (isZeroℤ b)
+    (λ t. isZeroℤ-complete b (f (isZeroℤ-sound a t)))
+    (λ t. isZeroℤ-complete a (g (isZeroℤ-sound b t)))
 
 -- b + r e is not 0 where r does not divide b ..
 pub test-fails : (b r e : ℤ) → remZ b r ≢ pos 0 → isZeroℤ (b +ℤ r *ℤ e) ≡ false
-test-fails b r e n = same-truth (isZeroℤ (b +ℤ r *ℤ e)) false (λ t. n (multiple (isZeroℤ-iff (b +ℤ r *ℤ e) .0 t))) (λ t. absurd t)
+test-fails b r e n =
+    same-truth (isZeroℤ (b +ℤ r *ℤ e)) false (λ t. n (multiple (isZeroℤ-sound (b +ℤ r *ℤ e) t))) (λ t. absurd t)
   where
     multiple : b +ℤ r *ℤ e ≡ pos 0 → remZ b r ≡ pos 0
-    multiple h = ap (λ x. remZ x r) (negℤ-unique b (r *ℤ e) h ∙ ap negℤ (*ℤ-comm r e) ∙ sym (negℤ-*ℤ e r)) ∙ remZ-multiple (negℤ e) r
+    multiple h =
+        let b-is : b ≡ negℤ e *ℤ r = negℤ-unique b (r *ℤ e) h ∙ simp ringℤ in
+        ap (λ x. remZ x r) b-is ∙ remZ-multiple (negℤ e) r
 
 -- .. and otherwise exactly if b / r + e is.
 pub test-steps : (b r e : ℤ) → r ≢ pos 0 → remZ b r ≡ pos 0 → isZeroℤ (b +ℤ r *ℤ e) ≡ isZeroℤ (quotZ b r +ℤ e)
@@ -116,130 +134,21 @@ module _ {p : Polynomial} {r : ℤ} {i : ℕ} {b : ℤ} (c : Chain p r i b) wher
   pub chain-fails : remZ b r ≢ pos 0 → isZeroℤ (eval p r) ≡ false
   chain-fails n = c .test ∙ test-fails b r (eval (drop i p) r) n
 
-  pub chain-next : T (every small p) → i < length p → r ≢ pos 0 → remZ b r ≡ pos 0 → Chain p r (i + 1) (quotZ b r +ℤ getD p i (pos 0))
+  pub chain-next : T (every small p) → i < length p → r ≢ pos 0 → remZ b r ≡ pos 0
+      → Chain p r (i + 1) (quotZ b r +ℤ getD p i (pos 0))
   unfolding eval
-  chain-next t h n z = record { within = omega (arith, c .within); size = sizes; test = c .test ∙ test-steps b r _ n z ∙ ap isZeroℤ rest }
+  chain-next t h n z =
+      record { within = omega (arith, c .within); size = sizes; test = c .test ∙ test-steps b r _ n z ∙ ap isZeroℤ rest }
     where
       sizes : natAbs (quotZ b r +ℤ getD p i (pos 0)) ≤ (i + 1) * bound
       sizes = omega (arith, natAbs-+ℤ (quotZ b r) (getD p i (pos 0)), quotZ-le b r, small-at p t i, c .size)
 
       rest : quotZ b r +ℤ eval (drop i p) r ≡ quotZ b r +ℤ getD p i (pos 0) +ℤ r *ℤ eval (drop (i + 1) p) r
-      rest = rw (add-one i, drop-cons p i (pos 0)) (sym (+ℤ-assoc (quotZ b r) (getD p i (pos 0)) (r *ℤ eval (drop (suc i) p) r)))
+      rest = rw (drop-next p i h) (sym (+ℤ-assoc (quotZ b r) (getD p i (pos 0)) (r *ℤ eval (drop (i + 1) p) r)))
 
   pub chain-ends : length p ≤ i → isZeroℤ (eval p r) ≡ isZeroℤ b
   unfolding eval
   chain-ends h = c .test ∙ ap isZeroℤ (rw (drop-of-length-le p h) (simp ringℤ))
-
--- ---- strictly ascending lists of integers
-
-abbrev pub Ascending : List ℤ → Type 0
-Ascending l = Pairwise _<ℤ_ l
-
-first-below : {x : ℤ} {l : List ℤ} → Ascending (x ∷ l) → {y : ℤ} → List·Memᴰ y l → x <ℤ y
-first-below a m = rel-of-pairwise-cons a ∣ m ∣₁
-
--- Two ascending lists with the same members are equal.
-pub ascending-unique : (l m : List ℤ) → Ascending l → Ascending m → ((z : ℤ) → List·Memᴰ z l → List·Memᴰ z m)
-    → ((z : ℤ) → List·Memᴰ z m → List·Memᴰ z l) → l ≡ m
-ascending-unique [] [] a b f g = refl
-ascending-unique [] (y ∷ m) a b f g = absurd (List·Memᴰ·not-nil (g y (List·Memᴰ·head refl)))
-ascending-unique (x ∷ l) [] a b f g = absurd (List·Memᴰ·not-nil (f x (List·Memᴰ·head refl)))
-ascending-unique (x ∷ l) (y ∷ m) a b f g =
-    ap₂ _∷_ first
-    (ascending-unique l m (Pairwise·of-cons a) (Pairwise·of-cons b)
-    (λ z k. later (sym first) (first-below a k) (f z (List·Memᴰ·tail k)))
-    (λ z k. later first (first-below b k) (g z (List·Memᴰ·tail k))))
-  where
-    other : List·Memᴰ x m → List·Memᴰ y (x ∷ l) → x ≡ y
-    other k n =
-        ⊎-elim sym (λ n′. absurd (<ℤ-irrefl (<ℤ-trans (first-below b k) (first-below a n′)))) (List·Memᴰ·cases-cons n)
-
-    first : x ≡ y
-    first = ⊎-elim (λ e. e) (λ k. other k (g y (List·Memᴰ·head refl))) (List·Memᴰ·cases-cons (f x (List·Memᴰ·head refl)))
-
-    -- A member above the first is one of the others.
-    later : {u v z : ℤ} {k : List ℤ} → u ≡ v → v <ℤ z → List·Memᴰ z (u ∷ k) → List·Memᴰ z k
-    later {v} e h n = ⊎-elim (λ i. absurd (<ℤ-irrefl (subst (λ w. v <ℤ w) (i ∙ e) h))) (λ n′. n′) (List·Memᴰ·cases-cons n)
-
--- ---- insertion into an ascending list
-
-below-true : {x y : ℤ} → x <ℤ y → ltZ x y ≡ true
-below-true {x} {y} h = same-truth (ltZ x y) true (λ _. tt) (λ _. h .lt)
-
-below-false : {x y : ℤ} → y ≤ℤ x → ltZ x y ≡ false
-below-false {x} {y} h = same-truth (ltZ x y) false (λ t. clashℤ (ltZ-yes t) h) (λ t. absurd t)
-
-module _ {x y : ℤ} (l : List ℤ) where
-  pub insert-below : x <ℤ y → insert x (y ∷ l) ≡ x ∷ insert y l
-  unfolding insert
-  insert-below h = ap (λ t. cond t (x ∷ insert y l) (cond (ltZ y x) (y ∷ insert x l) (y ∷ l))) (below-true h)
-
-  pub insert-above : y <ℤ x → insert x (y ∷ l) ≡ y ∷ insert x l
-  unfolding insert
-  insert-above h =
-      ap₂ (λ s t. cond s (x ∷ insert y l) (cond t (y ∷ insert x l) (y ∷ l))) (below-false (<ℤ-to-≤ℤ h)) (below-true h)
-
-  pub insert-here : x ≡ y → insert x (y ∷ l) ≡ y ∷ l
-  unfolding insert
-  insert-here e =
-      ap₂ (λ s t. cond s (x ∷ insert y l) (cond t (y ∷ insert x l) (y ∷ l))) (below-false (≤ℤ-of-≡ (sym e))) (below-false (≤ℤ-of-≡ e))
-
--- Insertion by cases on the order of the new member and the first.
-insert-cases : (x y : ℤ) (l : List ℤ) (P : List ℤ → Type 0) → (x <ℤ y → P (x ∷ insert y l)) → (x ≡ y → P (y ∷ l))
-    → (y <ℤ x → P (y ∷ insert x l)) → P (insert x (y ∷ l))
-insert-cases x y l P f g h = cases (ℤ-trichotomy x y)
-  where
-    cases : x <ℤ y ⊎ (x ≡ y) ⊎ y <ℤ x → P (insert x (y ∷ l))
-    cases (inl k) = subst⁻¹ P (insert-below l k) (f k)
-    cases (inr (inl k)) = subst⁻¹ P (insert-here l k) (g k)
-    cases (inr (inr k)) = subst⁻¹ P (insert-above l k) (h k)
-
-pub insert-nil : (x : ℤ) → insert x [] ≡ x ∷ []
-unfolding insert
-insert-nil x = refl
-
-pub insert-longer : (x : ℤ) (l : List ℤ) → length l ≤ length (insert x l)
-insert-longer x [] = zero-le
-insert-longer x (y ∷ l) = insert-cases x y l (λ m. suc (length l) ≤ length m) (λ _. suc-le-suc (insert-longer y l)) (λ _. le-refl _) (λ _. suc-le-suc (insert-longer x l))
-
-pub insert-new : (x : ℤ) (l : List ℤ) → List·Memᴰ x (insert x l)
-unfolding insert
-insert-new x [] = List·Memᴰ·head refl
-insert-new x (y ∷ l) = insert-cases x y l (λ m. List·Memᴰ x m) (λ _. List·Memᴰ·head refl) List·Memᴰ·head (λ _. List·Memᴰ·tail (insert-new x l))
-
-pub insert-old : {z : ℤ} (x : ℤ) (l : List ℤ) → List·Memᴰ z l → List·Memᴰ z (insert x l)
-insert-old x [] m = absurd (List·Memᴰ·not-nil m)
-insert-old {z} x (y ∷ l) m = insert-cases x y l (λ k. List·Memᴰ z k) (λ _. List·Memᴰ·tail (moved (List·Memᴰ·cases-cons m) (insert-old y l))) (λ _. m) (λ _. kept (List·Memᴰ·cases-cons m) (insert-old x l))
-  where
-    moved : (z ≡ y) ⊎ List·Memᴰ z l → (List·Memᴰ z l → List·Memᴰ z (insert y l)) → List·Memᴰ z (insert y l)
-    moved (inl e) f = Memᴰ·cast e (insert-new y l)
-    moved (inr k) f = f k
-
-    kept : (z ≡ y) ⊎ List·Memᴰ z l → (List·Memᴰ z l → List·Memᴰ z (insert x l)) → List·Memᴰ z (y ∷ insert x l)
-    kept (inl e) f = List·Memᴰ·head e
-    kept (inr k) f = List·Memᴰ·tail (f k)
-
-pub insert-only : {z : ℤ} (x : ℤ) (l : List ℤ) → List·Memᴰ z (insert x l) → (z ≡ x) ⊎ List·Memᴰ z l
-unfolding insert
-insert-only x [] = λ m. inl (List·Memᴰ·eq-of-singleton m)
-insert-only {z} x (y ∷ l) = insert-cases x y l (λ k. List·Memᴰ z k → (z ≡ x) ⊎ List·Memᴰ z (y ∷ l)) (λ _ m. moved (List·Memᴰ·cases-cons m) (insert-only y l)) (λ _ m. inr m) (λ _ m. kept (List·Memᴰ·cases-cons m) (insert-only x l))
-  where
-    moved : (z ≡ x) ⊎ List·Memᴰ z (insert y l) → (List·Memᴰ z (insert y l) → (z ≡ y) ⊎ List·Memᴰ z l) → (z ≡ x) ⊎ List·Memᴰ z (y ∷ l)
-    moved (inl e) f = inl e
-    moved (inr k) f = inr (⊎-elim List·Memᴰ·head List·Memᴰ·tail (f k))
-
-    kept : (z ≡ y) ⊎ List·Memᴰ z (insert x l) → (List·Memᴰ z (insert x l) → (z ≡ x) ⊎ List·Memᴰ z l) → (z ≡ x) ⊎ List·Memᴰ z (y ∷ l)
-    kept (inl e) f = inr (List·Memᴰ·head e)
-    kept (inr k) f = ⊎-elim inl (λ n. inr (List·Memᴰ·tail n)) (f k)
-
-pub insert-ascending : (x : ℤ) (l : List ℤ) → Ascending l → Ascending (insert x l)
-unfolding insert
-insert-ascending x [] a = Pairwise·cons (λ z m. absurd (not-mem-nil m)) Pairwise·nil
-insert-ascending x (y ∷ l) a = insert-cases x y l Ascending (λ h. Pairwise·cons (λ z m. above y (λ w k. <ℤ-trans h k) h m) (insert-ascending y l (Pairwise·of-cons a))) (λ _. a) (λ h. Pairwise·cons (λ z m. above x (λ w k. k) h m) (insert-ascending x l (Pairwise·of-cons a)))
-  where
-    -- What is below the new member and, like the first, below every other one.
-    above : {u z : ℤ} (v : ℤ) → ((w : ℤ) → y <ℤ w → u <ℤ w) → u <ℤ v → List·Mem z (insert v l) → u <ℤ z
-    above {z} v f h m = ⊎-elim (λ e. rw e h) (λ k. f z (first-below a k)) (insert-only v l (place (insert v l) m))
 
 -- ---- a tried candidate
 
@@ -253,7 +162,8 @@ held-of l e = ap held e ∙ held-listed l
 pub listed-held : {f : RootList} (l : List ℤ) → f ≡ listed l → f ≡ listed (held f)
 listed-held l e = e ∙ ap listed (sym (held-of l e))
 
-pub listed-getD : {f : RootList} (l : List ℤ) → f ≡ listed l → (i : ℕ) → i < length l → getD (f .values) i (pos 0) ≡ getD l i (pos 0)
+pub listed-getD : {f : RootList} (l : List ℤ) → f ≡ listed l → (i : ℕ) → i < length l
+    → getD (f .values) i (pos 0) ≡ getD l i (pos 0)
 listed-getD l e i h =
     ap (λ f. getD (f .values) i (pos 0)) e ∙ List·getD-append l (replicate (16 - length l) (pos 0)) (pos 0) i h
 
@@ -277,6 +187,9 @@ module _ (p : Polynomial) (r : ℤ) (l : List ℤ) where
 
   pub tryRoot-longer : length l ≤ length (tryRoot p r l)
   tryRoot-longer = tryRoot-cases (λ m. length l ≤ length m) (λ _. insert-longer r l) (λ _. le-refl (length l))
+
+pub tryRoot-one : (p : Polynomial) (r : ℤ) → length (tryRoot p r []) ≤ 1
+tryRoot-one p r = tryRoot-cases p r [] (λ m. length m ≤ 1) (λ _. le-of-eq (ap length (insert-nil r))) (λ _. zero-le)
 
 pub tryBoth-twice : (p : Polynomial) (d : ℕ) (l : List ℤ) → tryBoth p d l ≡ tryRoot p (negℤ (pos d)) (tryRoot p (pos d) l)
 unfolding tryBoth
@@ -320,23 +233,26 @@ module _ {p : Polynomial} where
       signs z e (inr h) = inr (inr h)
 
 module _ (p : Polynomial) (nonzero : T (not (isZero p))) where
-  -- So the list has at most as many members as the degree says,
+  -- Such a list has at most as many members as the degree says, ..
   pub found-length : {P : ℤ → Type 0} {l : List ℤ} → Found p P l → length l < length p
   unfolding isZero
-  found-length {l} c =
-      omega (arith, short p nonzero, roots-at-most-degree l p nonzero (ascending-distinct (c .ascending)) (λ z m. c .sound z (place l m)))
+  found-length {l} c = omega (arith, short p nonzero, roots-at-most-degree l p nonzero (ascending-distinct (c .ascending)) root)
     where
+      root : (z : ℤ) → List·Mem z l → eval p z ≡ pos 0
+      root z m = c .sound z (place l m)
+
       short : (q : Polynomial) → T (not (isZero q)) → degree q < length q
       short [] n = absurd n
       short (a ∷ q) n = degree-lt-length a q
 
-  -- and all roots, in their order, once P holds of each.
+  -- .. and is the list of the roots once P holds of each.
   pub found-all : {P : ℤ → Type 0} {l : List ℤ} → Found p P l → ((z : ℤ) → eval p z ≡ pos 0 → P z) → l ≡ roots p
   found-all {l} c h =
       ascending-unique l (roots p) (c .ascending) (roots-ascending p nonzero)
       (λ z m. place (roots p) (roots-complete p z nonzero (c .sound z m)))
       (λ z m. let e = roots-sound p ∣ m ∣₁ in c .complete z e (h z e))
 
+-- The lowest coefficient is small as the others are.
 pub lowest-small : (p : Polynomial) → T (not (isZero p)) → T (every small p) → natAbs (lowest p) ≤ bound
 unfolding coeff
 lowest-small p n t = let (k, e, _) = lowest-place p n in rw (← e) (small-at p t k)
@@ -471,7 +387,8 @@ unfolding furthest rootFound rootValue
 answered-none side [] h = refl
 answered-none side (a ∷ l) h = absurd (suc-ne-zero (length l) h)
 
-pub answered-first : (l : List ℤ) → Ascending l → 0 < length l → answered (furthest trailing l) ≡ record { found = true; root = getD l 0 (pos 0) }
+pub answered-first : (l : List ℤ) → Ascending l → 0 < length l
+    → answered (furthest trailing l) ≡ record { found = true; root = getD l 0 (pos 0) }
 unfolding rootFound rootValue
 answered-first [] h k = absurd (omega arith)
 answered-first (a ∷ l) h k = ap answered (furthest-first a l h)

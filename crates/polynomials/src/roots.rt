@@ -10,7 +10,8 @@ ghost use Rattle.algebra.specs.Roots as Roots;
 ghost use Rattle.rules.specs.Limits.{small};
 ghost use Rattle.rules.specs.Rows.{every};
 ghost use Rattle.rules.specs.Elimination.{leading, trailing, furthest};
-ghost use Rattle.polynomials.specs.RootSearch.{insert, tryRoot, tryBoth, held, listed, answered};
+ghost use Rattle.polynomials.specs.Ascending.{insert};
+ghost use Rattle.polynomials.specs.RootSearch.{tryRoot, tryBoth, held, listed, answered};
 
 // The integer roots of a polynomial, ascending: the first `count` of `values`; the others are 0.
 pub struct RootList {
@@ -80,7 +81,8 @@ fn inserted(found: RootList, r: i64) -> RootList
 
 // r is listed where p vanishes at r.
 fn tried(p: &[i64], r: i64, found: RootList) -> RootList
-    requires { ⌜ (length (now p) ≤ 16) × T (every small (now p)) × (found ≡ listed (held found)) × (length (tryRoot (now p) r (held found)) ≤ 16) ⌝ }
+    requires { ⌜ (length (now p) ≤ 16) × T (every small (now p)) × (found ≡ listed (held found))
+        × (length (tryRoot (now p) r (held found)) ≤ 16) ⌝ }
     ensures { λ l. ⌜ l ≡ listed (tryRoot (now (p .entry)) r (held found)) ⌝ }
 {
     if is_root(p, r) {
@@ -90,18 +92,22 @@ fn tried(p: &[i64], r: i64, found: RootList) -> RootList
     }
 }
 
+// d and -d are tried.
 fn tried_both(p: &[i64], d: u32, found: RootList) -> RootList
-    requires { ⌜ (length (now p) ≤ 16) × T (every small (now p)) × (found ≡ listed (held found)) × (length (tryBoth (now p) d (held found)) ≤ 16) ⌝ }
+    requires { ⌜ (length (now p) ≤ 16) × T (every small (now p)) × (found ≡ listed (held found))
+        × (length (tryBoth (now p) d (held found)) ≤ 16) ⌝ }
     ensures { λ l. ⌜ l ≡ listed (tryBoth (now (p .entry)) d (held found)) ⌝ }
 {
     let r = d as i64;
-    tried(p, -r, tried(p, r, found))
+    let opposite = -r;
+    tried(p, opposite, tried(p, r, found))
 }
 
 // The candidates are 0 and, with both signs, the divisors d and a/d of the size a of the lowest nonzero coefficient, d up
 // to the square root of a.
 fn searched(p: &[i64], a: u32) -> RootList
-    requires { ⌜ (length (now p) ≤ 16) × T (every small (now p)) × T (not (Polynomials.isZero (now p))) × (a ≡ natAbs (Polynomials.lowest (now p))) ⌝ }
+    requires { ⌜ (length (now p) ≤ 16) × T (every small (now p)) × T (not (Polynomials.isZero (now p)))
+        × (a ≡ natAbs (Polynomials.lowest (now p))) ⌝ }
     ensures { λ l. ⌜ l ≡ listed (Roots.roots (now (p .entry))) ⌝ }
 {
     let none = RootList {

@@ -4,25 +4,25 @@
 use mathlib.Core.Path.{_≡_, refl, sym, _∙_, ap, ap₂, subst, subst⁻¹}
 use mathlib.Core.Logic.{⊎-elim}
 use mathlib.Core.Bool.{true, false, not}
-use mathlib.Core.List.{List, [], _∷_, _++_, append-assoc}
+use mathlib.Core.List.{List, [], _∷_, _++_}
 use Prim.Native.Nat.{ℕ, suc, _+_, _-_, _≤_, _<_, zero-le}
 use native.Mathlib.Numerals.{add-one}
 use native.Mathlib.Omega.{arith}
 use lib.Dec.{T}
 use lib.IntN.{ℤ, pos}
 use lib.Signed.{_<ℤ_, ltZ, ltZ-yes, ltZ-no}
-use lib.ListN.{length, take, drop, getD, set, replicate, length-set, length-append, length-take, length-replicate, take-append-drop, replicate-append-replicate}
-use lib.Seq.{slice, take-set-lt, take-take, length-take-le, drop-at, slice-cons, slice-empty, take-suc, take-suc-set, drop-set-lt, set-split, append-snoc, drop-drop, take-append-seam, drop-append-seam}
+use lib.ListN.{length, take, drop, getD, set, replicate, length-set, length-append, length-replicate, take-append-drop}
+use lib.Seq.{slice, take-set-lt, take-take, length-take-le, drop-at, slice-cons, slice-empty, take-suc, take-suc-set, drop-set-lt}
+use lib.Seq.{set-split, append-snoc, drop-drop}
 use mir.Syntax.{w64}
 use mir.Val.{Fits, SFits, ofZ, toZ}
 use mir.Facts.{toZ-ofZ, ofZ-toZ, fits-ofZ}
 use Rattle.algebra.specs.Order.{≤ℤ-≢-<ℤ}
 use Rattle.polynomials.specs.declared.roots.RootList.{RootList}
-use Rattle.polynomials.specs.RootSearch.{insert, held, listed, insert-nil, insert-below, insert-above, insert-here, insert-longer}
+use Rattle.polynomials.specs.RootSearch.{held, listed}
+use Rattle.polynomials.specs.Ascending.{insert, insert-nil, insert-below, insert-above, insert-here, insert-longer}
 use Rattle.polynomials.proofs.roots.inserted.Statement.{statement}
 use Rattle.polynomials.proofs.roots.inserted.Tie as tie
-use Rattle.polynomials.proofs.roots.inserted.Reads as reads
-use Rattle.polynomials.proofs.roots.inserted.Lts as lts
 
 record Inserting (n : ℕ) (whole v : List ℤ) (x : ℤ) (i : ℕ) : Type 0 where
   within : (i ≤ n) × (n ≤ 16)
@@ -201,9 +201,12 @@ loop-again c =
     let more = c .before .before .before .loop-test .taken in
     let fits = fits-y (c .before .before) in
     let fits-r = head .before .before .fits .r in
+    let below = next-below (state head) more in
+    let above = next-above (state head) more in
+    let other = test-above (head .loop .inv .0) fits (c .before .if1 .left) in
     ⊎-elim
-    (λ w. rw (w .1, w .2) (fits-ofZ fits, simp (toZ-ofZ fits, toZ-ofZ fits-r) (next-below (state head) more (test-below fits (w .0 .taken)))))
-    (λ w. rw (w .1, w .2) (head .loop .inv .0, rw (toZ-ofZ fits-r) (next-above (state head) more (test-above (head .loop .inv .0) fits (c .before .if1 .left) (w .0 .left)))))
+    (λ w. rw (w .1, w .2) (fits-ofZ fits, simp (toZ-ofZ fits, toZ-ofZ fits-r) (below (test-below fits (w .0 .taken)))))
+    (λ w. rw (w .1, w .2) (head .loop .inv .0, rw (toZ-ofZ fits-r) (above (other (w .0 .left)))))
     (c .if2 .came)
 
 mul-v-2 : tie.Need-mul-v-2 Inv-loop μ-loop

@@ -3,7 +3,7 @@
 use mathlib.Core.Path.{_≡_, sym, _∙_, ap, subst}
 use mathlib.Core.List.{List}
 use mathlib.Core.Bool.{true}
-use Prim.Native.Nat.{ℕ, _-_, _<_, _≤_}
+use Prim.Native.Nat.{_-_, _<_, _≤_}
 use native.Mathlib.Nat.{pos-of-ne-zero}
 use native.Mathlib.Omega.{arith}
 use borrow.Author.Needs.{needs}
@@ -46,7 +46,8 @@ returns-2 c =
     let call = c .before .before in
     let some : 0 < length (l call) = subst (λ n. 0 < n) (count call) (pos-of-ne-zero (c .before .if1 .left)) in
     let last = listed-getD (l call) (call .roots .ensures) (call .roots .result .count - 1) (omega (arith, count call)) in
-    ap (λ z. record { found = true; root = z }) (toZ-ofZ (record { sfits = c .t11 .given }) ∙ last ∙ ap (λ n. getD (l call) (n - 1) (pos 0)) (count call))
+    let same = ap (λ n. getD (l call) (n - 1) (pos 0)) (count call) in
+    ap (λ z. record { found = true; root = z }) (toZ-ofZ (record { sfits = c .t11 .given }) ∙ last ∙ same)
     ∙ sym (answered-last (l call) (roots-ascend (call .before .args .p .now)) some)
 
 pub largest-root-spec : {M : Type 1} → statement M

@@ -1,24 +1,22 @@
 -- `polynomials::roots::searched` meets its contract. The invariant: the list holds, ascending, the roots of size below d and those
 -- whose cofactor is below d. The measure falls because d is at most a / d, and so at most a.
 -- Assumes nothing.
-use mathlib.Core.Path.{_≡_, refl, sym, _∙_, ap, subst}
+use mathlib.Core.Path.{_≡_, refl, _∙_, ap}
 use mathlib.Core.Logic.{_⊎_, ⊎-elim}
 use mathlib.Core.List.{List, []}
 use Prim.Native.Nat.{ℕ, _+_, _-_, _/_, _<_, _≤_}
-use native.Mathlib.Nat.{div-le-self}
+use native.Mathlib.Nat.{div-le-self, le-trans}
 use native.Mathlib.Omega.{arith}
-use borrow.Author.Needs.{needs}
+use lib.Dec.{lit≤}
 use lib.IntN.{ℤ, pos, natAbs}
 use lib.ListN.{length}
 use Rattle.rules.specs.Limits.{bound}
 use Rattle.polynomials.specs.declared.roots.RootList.{RootList}
-use Rattle.polynomials.specs.RootSearch.{Found, Passed, held, listed, tryRoot, tryBoth, held-of, listed-held, found-length, found-both, lowest-small, search-start, search-divisor, search-other, search-end}
+use Rattle.polynomials.specs.RootSearch.{Found, Passed, held, listed, tryRoot, tryBoth, tryRoot-one, held-of, listed-held}
+use Rattle.polynomials.specs.RootSearch.{found-length}
+use Rattle.polynomials.specs.RootSearch.{found-both, lowest-small, search-start, search-divisor, search-other, search-end}
 use Rattle.polynomials.proofs.roots.searched.Statement.{statement}
 use Rattle.polynomials.proofs.roots.searched.Tie as tie
-use Rattle.polynomials.proofs.roots.searched.Reads as reads
-use Rattle.polynomials.proofs.roots.searched.Lts as lts
-use Rattle.polynomials.proofs.roots.tried.Reads as tried-reads
-use Rattle.polynomials.proofs.roots.tried_both.Reads as tried-both-reads
 
 -- f holds a list, and that list, ascending, only roots of p, among them every root with the property P.
 abbrev Holds : List ℤ → (ℤ → Type 0) → RootList → Type 0
@@ -63,13 +61,15 @@ module _ (c : tie.At-loop Inv-loop μ-loop) where
   within : {P : ℤ → Type 0} {l : List ℤ} → Found p P l → length l ≤ 16
   within f = omega (arith, found-length p (start .pre .2) f, start .pre .0)
 
-  last : d ≤ a / d → d ≤ bound
-  last h = omega (arith, div-le-self a d, start .pre .3, lowest-small p (start .pre .2) (start .pre .1))
+  -- d is at most a / d in a turn, and so at most a, which is small.
+  quotient : a / d ≤ a
+  quotient = div-le-self a d
+
+  small-a : a ≤ bound
+  small-a = omega (arith, start .pre .3, lowest-small p (start .pre .2) (start .pre .1))
 
 tried-requires : tie.Need-tried-requires Inv-loop μ-loop
-tried-requires c κs =
-    let f = search-start (c .args .p .now) (c .pre .2) (c .args .a) (c .pre .3) in
-    (c .pre .0, c .pre .1, refl, omega (arith, found-length (c .args .p .now) (c .pre .2) f, c .pre .0))
+tried-requires c κs = (c .pre .0, c .pre .1, refl, le-trans (tryRoot-one _ _) (lit≤ tt))
 
 loop-holds : tie.Need-loop-holds Inv-loop μ-loop
 loop-holds c =
@@ -102,12 +102,10 @@ tried-both-requires-2 c κs =
     )
 
 add-d : tie.Need-add-d Inv-loop μ-loop
-add-d c = omega (arith, last (c .before .before) (c .before .loop-test .taken))
+add-d c = omega (arith, quotient (c .before .before), small-a (c .before .before))
 
 loop-less : tie.Need-loop-less Inv-loop μ-loop
-loop-less c =
-    let head = c .before .before in
-    omega (arith, c .before .loop-test .taken, div-le-self (a head) (d head))
+loop-less c = omega (arith, quotient (c .before .before))
 
 loop-again : tie.Need-loop-again Inv-loop μ-loop
 loop-again c =

@@ -1,13 +1,13 @@
 -- `polynomials::roots::tried` meets its contract.
 -- Assumes nothing.
 use mathlib.Core.Path.{_≡_, sym, _∙_, ap, subst}
-use mathlib.Core.Bool.{true, false}
 use Prim.Native.Nat.{_≤_}
 use borrow.Author.Needs.{needs}
 use lib.ListN.{length}
 use mir.Facts.{toZ-ofZ}
 use Rattle.algebra.specs.Polynomials.{eval, isZeroℤ}
-use Rattle.polynomials.specs.RootSearch.{held, listed, insert, tryRoot, tryRoot-yes, tryRoot-no}
+use Rattle.polynomials.specs.RootSearch.{held, listed, tryRoot, tryRoot-yes, tryRoot-no}
+use Rattle.polynomials.specs.Ascending.{insert}
 use Rattle.polynomials.proofs.roots.tried.Statement.{statement}
 use Rattle.polynomials.proofs.roots.tried.Tie as tie
 

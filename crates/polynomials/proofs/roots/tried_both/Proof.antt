@@ -1,15 +1,15 @@
 -- `polynomials::roots::tried_both` meets its contract. The list only grows, so there is room for the first candidate too.
 -- Assumes nothing.
 use mathlib.Core.Path.{_≡_, sym, _∙_, ap, subst}
-use Prim.Native.Nat.{ℕ, _<_, _≤_, _^_}
+use Prim.Native.Nat.{ℕ, _≤_}
 use mathlib.Core.List.{List}
 use native.Mathlib.Nat.{le-trans, le-of-eq}
 use native.Mathlib.Omega.{arith}
 use borrow.Author.Needs.{needs}
-use lib.IntN.{ℤ, pos, negℤ, _-ℤ_, natAbs, +ℤ-idl}
+use lib.IntN.{ℤ, pos, negℤ, _-ℤ_, +ℤ-idl}
 use lib.ListN.{length}
 use mir.Syntax.{w64}
-use mir.Val.{SFits, ofZ, toZ}
+use mir.Val.{SFits, toZ}
 use mir.Facts.{toZ-ofZ, toZ-pos}
 use Rattle.algebra.specs.Integers.{natAbs-negℤ}
 use Rattle.integers.specs.Ranges.{sfits-size}
@@ -43,8 +43,8 @@ module _ (c : tie.Start) where
 cast-r : tie.Need-cast-r
 cast-r c = search needs
 
-sub-tried : tie.Need-sub-tried
-sub-tried c = rw (opposite c) (opposite-fits c)
+sub-opposite : tie.Need-sub-opposite
+sub-opposite c = rw (opposite c) (opposite-fits c)
 
 tried-requires : tie.Need-tried-requires
 tried-requires c κs =
@@ -66,4 +66,4 @@ returns c =
     (simp (opposite s, toZ-ofZ (opposite-fits s), kept) at (c .tried2 .ensures)) ∙ ap listed (sym (twice s))
 
 pub tried-both-spec : {M : Type 1} → statement M
-tried-both-spec = tie.close (tie.spec cast-r sub-tried tried-requires tried-requires-2 returns)
+tried-both-spec = tie.close (tie.spec cast-r sub-opposite tried-requires tried-requires-2 returns)

@@ -1,10 +1,10 @@
 -- `polynomials::roots::vanishes` meets its contract. The invariant is that b is the chain's number after i coefficients, `Chain`;
 -- in it, as in every signed local of a loop, b stands as its bits. The measure is the number of coefficients left.
 -- Assumes nothing.
-use mathlib.Core.Path.{_≡_, refl, sym, _∙_, ap}
+use mathlib.Core.Path.{_≡_, sym, _∙_, ap}
 use mathlib.Core.Logic.{_≢_}
 use mathlib.Core.List.{List}
-use Prim.Native.Nat.{ℕ, _+_, _*_, _-_, _^_, _≤_, _<_}
+use Prim.Native.Nat.{ℕ, _+_, _-_, _^_, _<_}
 use native.Mathlib.Omega.{arith}
 use lib.Dec.{eqb}
 use lib.IntN.{ℤ, pos, natAbs, _+ℤ_}
@@ -19,8 +19,6 @@ use Rattle.polynomials.specs.Content.{zero-bits}
 use Rattle.polynomials.specs.RootSearch.{Chain, fits-small, chain-start, chain-fails, chain-next, chain-ends}
 use Rattle.polynomials.proofs.roots.vanishes.Statement.{statement}
 use Rattle.polynomials.proofs.roots.vanishes.Tie as tie
-use Rattle.polynomials.proofs.roots.vanishes.Reads as reads
-use Rattle.polynomials.proofs.roots.vanishes.Lts as lts
 
 abbrev Inv-loop : tie.InvT-loop
 Inv-loop p r b₀ i₀ b i = Fits w64 b × Chain p (toZ w64 r) i (toZ w64 b)
