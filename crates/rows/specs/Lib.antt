@@ -2,3 +2,4 @@ pub mod Flat
 pub mod Found
 pub mod Worked
 pub mod Shifting
+pub mod Combination

@@ -8,7 +8,7 @@
 use mathlib.Core.Path.{_≡_, refl, sym, _∙_, ap, ap₂}
 use mathlib.Core.List.{List, [], _∷_, _++_, map, flatten, append-assoc, append-nil}
 use Prim.Native.Nat.{ℕ, zero, suc, _+_, _*_, _≤_, _<_}
-use native.Mathlib.Nat.{zero-mul, suc-mul, add-comm}
+use native.Mathlib.Nat.{add-comm}
 use native.Mathlib.Omega.{arith}
 use lib.Dec.{T}
 use lib.IntN.{ℤ, pos}
@@ -17,7 +17,8 @@ use lib.Seq.{drop-at, drop-drop}
 use Rattle.algebra.specs.Polynomials.{Polynomial, isZero, shift, shiftBy, length-shift, isZero-append, isZero-shift, T-&&}
 use Rattle.rules.specs.Rows.{Block, All, coefficientsOf, blank, leadingBlock, shiftUp}
 use Rattle.rules.specs.Stores.{parts, rowOf}
-use Rattle.rules.specs.Layout.{parts-length, parts-width, parts-flatten, getD-parts}
+use Rattle.rules.specs.Layout.{parts-length, parts-width, getD-parts}
+use Rattle.rows.specs.Worked.{length-flatten, part-flatten}
 use Rattle.rows.specs.Flat.{polynomialsOf, numbers-mapRow, parts-parts}
 
 flatten-append : {A : Type 0} (ls ms : List (List A)) → flatten (ls ++ ms) ≡ flatten ls ++ flatten ms
@@ -45,14 +46,6 @@ numbers-shiftUp l =
     ∙ ap flatten (map-append shift (below l) (last l)) ∙ flatten-append (map shift (below l)) (map shift (last l))
 
 -- ---- widths
-
-length-flatten : {A : Type 0} (k : ℕ) (ls : List (List A)) → All (λ p. length p ≡ k) ls → length (flatten ls) ≡ length ls * k
-unfolding flatten All
-length-flatten k [] h = sym (zero-mul k)
-length-flatten k (l ∷ ls) h = length-append l (flatten ls) ∙ ap₂ _+_ (h .0) (length-flatten k ls (h .1)) ∙ step
-  where
-    step : k + length ls * k ≡ suc (length ls) * k
-    step = omega (arith, suc-mul (length ls) k)
 
 map-width : (f : Polynomial → Polynomial) → ((p : Polynomial) → length (f p) ≡ length p) → (k : ℕ) (ps : List Polynomial)
     → All (λ p. length p ≡ k) ps → All (λ p. length p ≡ k) (map f ps)
@@ -106,8 +99,6 @@ module _ (l : List ℤ) (long : length l ≡ 320) where
   unfolding below shift shiftBy
   shiftUp-part e h =
       ap (λ r. take 16 (drop (e * 16) r)) (numbers-shiftUp l)
-      ∙ sym (getD-parts 16 16 (flatten (map shift (below l)) ++ flatten (map shift (last l))) e h)
-      ∙ ap (λ ps. getD ps e [])
-      (parts-flatten 16 16 (map shift (below l)) (flatten (map shift (last l))) (length-map (below l) shift ∙ parts-length 16 16 (drop 64 l)) below-width)
+      ∙ part-flatten 16 16 (map shift (below l)) (flatten (map shift (last l))) (length-map (below l) shift ∙ parts-length 16 16 (drop 64 l)) below-width e h
       ∙ List·getD-map shift (below l) e [] ∙ ap shift (getD-parts 16 16 (drop 64 l) e h)
       ∙ ap (λ r. shift (take 16 r)) (drop-drop (e * 16) 64 l ∙ ap (λ n. drop n l) (add-comm 64 (e * 16)))

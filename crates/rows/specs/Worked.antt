@@ -6,21 +6,21 @@
 --
 -- Main statements
 --   every-passed, every-failed   a test of all members, one member at a time
---   fill-next, fill-all          a list overwritten from the front, one member at a time
 use mathlib.Core.Path.{_≡_, refl, sym, _∙_, ap, ap₂}
 use mathlib.Core.Bool.{Bool, true, false, _&&_, cond}
-use mathlib.Core.List.{List, [], _∷_, _++_, append-assoc}
+use mathlib.Core.List.{List, [], _∷_, _++_, flatten, append-assoc}
 use Prim.Native.Nat.{ℕ, zero, suc, _+_, _*_, _-_, _≤_, _<_}
-use native.Mathlib.Nat.{le-of-eq, sub-zero}
+use native.Mathlib.Nat.{sub-zero, zero-mul, suc-mul}
 use native.Mathlib.Omega.{arith}
 use native.Mathlib.Numerals.{add-one}
 use lib.Dec.{T}
-use lib.ListN.{length, take, drop, getD, set, replicate, length-append, length-drop, length-replicate, replicate-append-replicate, take-append-drop}
-use lib.Seq.{drop-cons, take-suc, take-suc-set, take-all, take-add, take-at, drop-at, length-take-le}
+use lib.ListN.{length, take, drop, getD, replicate, length-append, length-drop, length-replicate, replicate-append-replicate, take-append-drop}
+use lib.Seq.{drop-cons, drop-length, take-add, take-at, drop-at, length-take-le}
 use lib.IntN.{ℤ, pos}
 use Rattle.algebra.specs.Polynomials.{Polynomial, isZero, isZero-cons, T-&&}
 use Rattle.rules.specs.Limits.{small}
-use Rattle.rules.specs.Rows.{Row, every, coefficientsOf, smallRow}
+use Rattle.rules.specs.Rows.{Row, All, every, coefficientsOf, smallRow}
+use Rattle.rules.specs.Layout.{parts-flatten, getD-parts}
 use Rattle.rules.specs.Elimination.{Limited, within, beyond, limitCoefficients}
 
 unfoldable pub refusalOf : Limited → ℕ
@@ -48,16 +48,6 @@ module _ {A : Type 0} (t : A → Bool) (l : List A) (i : ℕ) (d : A) (h : i < l
 
   pub every-failed : t (getD l i d) ≡ false → every t (drop i l) ≡ false
   every-failed e = every-next ∙ ap (λ b. b && every t (drop (i + 1) l)) e
-
--- ---- places filled from the front
-
--- One place more holds what s has there.
-pub fill-next : {A : Type 0} (l s : List A) (k : ℕ) (d : A) → k < length l → k < length s → take k l ≡ take k s
-    → take (k + 1) (set l k (getD s k d)) ≡ take (k + 1) s
-fill-next l s k d hl hs e = rw (add-one k, take-suc-set l k (getD s k d), take-suc s k d, e)
-
-pub fill-all : {A : Type 0} (l s : List A) (n : ℕ) → length l ≡ n → length s ≡ n → take n l ≡ take n s → l ≡ s
-fill-all l s n hl hs e = sym (take-all n l (le-of-eq hl)) ∙ e ∙ take-all n s (le-of-eq hs)
 
 -- ---- the limit of the coefficients
 
@@ -122,6 +112,10 @@ front-all l n h =
     ap (λ m. take n l ++ replicate m (pos 0)) (sym (length-drop n l)) ∙ ap (λ r. take n l ++ r) (sym (zero-list (drop n l) h))
     ∙ take-append-drop n l
 
+pub front-whole : (l : List ℤ) → front l (length l) ≡ l
+unfolding isZero
+front-whole l = front-all l (length l) (rw drop-length tt)
+
 -- The polynomials of a row stand in parts of 16 numbers.
 module _ (l : List ℤ) (e : ℕ) (h : e * 16 + 16 ≤ length l) where
   abbrev n : ℕ
@@ -164,7 +158,7 @@ module _ (l : List ℤ) (e : ℕ) (h : e * 16 + 16 ≤ length l) where
 -- ---- a part of a list
 
 module _ {A : Type 0} (t : A → Bool) where
-  every-take : (n : ℕ) (l : List A) → T (every t l) → T (every t (take n l))
+  pub every-take : (n : ℕ) (l : List A) → T (every t l) → T (every t (take n l))
   unfolding every
   every-take zero l h = tt
   every-take (suc n) [] h = tt
@@ -179,3 +173,19 @@ module _ {A : Type 0} (t : A → Bool) where
   -- What every member passes, every member of a part passes.
   pub every-part : (n m : ℕ) (l : List A) → T (every t l) → T (every t (take m (drop n l)))
   every-part n m l h = every-take m (drop n l) (every-drop n l h)
+
+-- ---- lists of one width, joined
+
+module _ {A : Type 0} (k : ℕ) where
+  pub length-flatten : (ls : List (List A)) → All (λ p. length p ≡ k) ls → length (flatten ls) ≡ length ls * k
+  unfolding flatten All
+  length-flatten [] h = sym (zero-mul k)
+  length-flatten (l ∷ ls) h = length-append l (flatten ls) ∙ ap₂ _+_ (h .0) (length-flatten ls (h .1)) ∙ step
+    where
+      step : k + length ls * k ≡ suc (length ls) * k
+      step = omega (arith, suc-mul (length ls) k)
+
+  pub part-flatten : (n : ℕ) (ls : List (List A)) (rest : List A) → length ls ≡ n → All (λ p. length p ≡ k) ls → (i : ℕ) → i < n
+      → take k (drop (i * k) (flatten ls ++ rest)) ≡ getD ls i []
+  part-flatten n ls rest e h i below =
+      sym (getD-parts k n (flatten ls ++ rest) i below) ∙ ap (λ ps. getD ps i []) (parts-flatten k n ls rest e h)
