@@ -11,7 +11,7 @@ ghost use Rattle.rules.specs.Rows.{every, entry};
 ghost use Rattle.rules.specs.Elimination as Elimination;
 ghost use Rattle.rules.specs.Stores.{rowOf};
 ghost use Rattle.elimination.specs.NewRows.{saved};
-ghost use Rattle.elimination.specs.StepLaws.{narrowed};
+ghost use Rattle.elimination.specs.Exchange.{narrowed};
 
 // How far a run has come: the settled rows with their columns, counted from 0, the relations listed and the shifts made.
 pub(crate) struct Progress {

@@ -10,7 +10,7 @@ use lib.IntN.{ℤ}
 use lib.Seq.{paste}
 use Rattle.rules.specs.Rows.{width}
 use Rattle.rules.specs.Stores.{rowOf}
-use Rattle.elimination.specs.StepLaws.{numbersAt, narrowed-exchanged, narrowed-same}
+use Rattle.elimination.specs.Exchange.{numbersAt, narrowed-exchanged, narrowed-same}
 use Rattle.elimination.proofs.step.narrow_first.Statement.{statement}
 use Rattle.elimination.proofs.step.narrow_first.Tie as tie
 
