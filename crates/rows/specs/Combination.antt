@@ -1,32 +1,43 @@
 -- The combination g·p + h·q of polynomials and of rows as the code makes it.
 --
 -- Main definitions
---   trim p             p without the zeros past its highest nonzero coefficient
+--   trim p             the coefficients of p up to the highest nonzero one
 --   lowPart p          the first 16 coefficients
 --
 -- Main statements
---   combined-trim      trimmed polynomials have the same combination
+--   combined-trim      trimmed polynomials have a combination with the same coefficients
+--   trim-fits, trim-part-fits   a trimmed polynomial, and a trimmed part of a row, within the limits
+--   lowPart-at, lowPart-take    coefficient k of the low part; the low part is the front where there are 16 coefficients
+--   high-free, high-found       the test of the coefficients past power 15
+--   low-degrees, length-polynomials, trimmed-high   the twenty polynomials of a combination of rows, and which have a degree past 15
+--   length-low, trimmed-low, trimmed-zero   the 320 numbers of the low parts: each part, and those that are zero
+--   cut-low            the low parts are the cut of the combination
+--   numbers-below      they are in the range of an i64
 use mathlib.Core.Path.{_≡_, refl, sym, _∙_, ap, ap₂, subst, fun-ext}
 use mathlib.Core.Logic.{_↔_, _≢_}
-use mathlib.Core.Bool.{Bool, true, false, _&&_, not}
+use mathlib.Core.Bool.{Bool, true, false, _&&_}
 use mathlib.Core.List.{List, [], _∷_, _++_, map, flatten, zipWith, append-nil}
-use Prim.Native.Nat.{ℕ, zero, suc, _+_, _*_, _-_, _≤_, _<_, max}
+use Prim.Native.Nat.{ℕ, zero, suc, _+_, _*_, _-_, _^_, _≤_, _<_, max}
 use native.Mathlib.Nat.{not-suc-le-zero, le-of-suc-le-suc, le-trans, zero-add}
 use native.Mathlib.Omega.{arith}
 use native.Mathlib.Decide.{decLe, decLt}
-use lib.Dec.{T}
+use lib.Dec.{T, lit<}
 use lib.IntN.{ℤ, pos, natAbs, _+ℤ_, _*ℤ_}
 use lib.ListN.{length, take, drop, getD, length-take, length-map}
 use lib.Seq.{ext-getD, getD-take, length-take-le}
-use Rattle.rules.specs.Limits.{small}
-use Rattle.rules.specs.Rows.{Row, All, every, mapRow, coefficientsOf, combine, lowDegrees}
-use Rattle.rules.specs.Stores.{parts, rowOf}
-use Rattle.rules.specs.Layout.{parts-length, getD-parts}
-use Rattle.rows.specs.Flat.{polynomialsOf, polynomials-rowOf, polynomials-combine, numbers-mapRow, every-flatten}
-use Rattle.rows.specs.Worked.{every-take, every-part, length-flatten, part-flatten}
+use Rattle.algebra.specs.Integers.{natAbs-+ℤ}
 use Rattle.algebra.specs.Sums.{range, sumBelow, length-range, getD-range}
-use Rattle.algebra.specs.Polynomials.{Polynomial, coeff, isZero, degree, add, mul, T-&&, isZero-cons, isZero-coeff, coeff-isZero, isZero-add, isZero-mul-right}
+use Rattle.algebra.specs.Polynomials.{Polynomial, coeff, isZero, degree, add, mul, T-&&, isZero-cons, isZero-coeff, coeff-isZero}
+use Rattle.algebra.specs.Polynomials.{isZero-add, isZero-mul-right, length-add, length-scale}
 use Rattle.algebra.specs.Coefficients.{coeff-add, coeff-mul, coeff-take, coeff-drop, coeff-past-length, coeff-past-degree, degree-lt-length, mul-within}
+use Rattle.polynomials.specs.Content.{Below}
+use Rattle.polynomials.specs.Product.{product-size}
+use Rattle.rules.specs.Limits.{small}
+use Rattle.rules.specs.Rows.{Row, All, every, mapRow, coefficientsOf, combine, lowDegrees, cut}
+use Rattle.rules.specs.Stores.{parts, rowOf}
+use Rattle.rules.specs.Layout.{parts-length, parts-width, getD-parts}
+use Rattle.rows.specs.Flat.{polynomialsOf, polynomials-rowOf, polynomials-combine, numbers-mapRow, every-flatten}
+use Rattle.rows.specs.Written.{every-take, every-drop, every-part, length-flatten, part-flatten}
 
 -- ---- tests and members of lists
 
@@ -172,6 +183,58 @@ module _ (g p h q : Polynomial) where
   pub high-found : (k : ℕ) → 16 ≤ k → coeff sum k ≢ pos 0 → isZero (drop 16 sum) ≡ false
   high-found k l n = test-false _ (λ z. n (high-zero sum .0 z k l))
 
+-- ---- lengths and sizes
+
+-- A product has at least the coefficients of its second factor, if there is a first.
+length-mul-right : (g p : Polynomial) → 0 < length g → length p ≤ length (mul g p)
+unfolding mul
+length-mul-right [] p h = absurd (not-suc-le-zero h)
+length-mul-right (a ∷ g) p h = rw (length-add, length-scale) (omega arith)
+
+module _ (g h : Polynomial) (some : 0 < length g) where
+  -- Where the polynomials have 16 coefficients, the low part of the combination is its front.
+  low-front : (ps qs : List Polynomial) → All (λ p. length p ≡ 16) ps
+      → map lowPart (zipWith (λ p q. add (mul g p) (mul h q)) ps qs) ≡ map (take 16) (zipWith (λ p q. add (mul g p) (mul h q)) ps qs)
+  unfolding zipWith All
+  low-front [] qs w = refl
+  low-front (p ∷ ps) [] w = refl
+  low-front (p ∷ ps) (q ∷ qs) w = ap₂ _∷_ (lowPart-take (add (mul g p) (mul h q)) (long (w .0))) (low-front ps qs (w .1))
+    where
+      long : length p ≡ 16 → 16 ≤ length (add (mul g p) (mul h q))
+      long e = rw length-add (omega (arith, length-mul-right g p some))
+
+below-append : (n : ℕ) (l m : List ℤ) → Below n l → Below n m → Below n (l ++ m)
+below-append n [] m h k i = k i
+below-append n (a ∷ l) m h k zero = h 0
+below-append n (a ∷ l) m h k (suc i) = below-append n l m (λ j. h (suc j)) k i
+
+below-map : {A : Type 0} (n : ℕ) → 0 < n → (f : A → ℤ) → ((x : A) → natAbs (f x) < n) → (l : List A) → Below n (map f l)
+below-map n some f h [] k = some
+below-map n some f h (x ∷ l) zero = h x
+below-map n some f h (x ∷ l) (suc k) = below-map n some f h l k
+
+small-parts : (n : ℕ) (l : List ℤ) → T (every small l) → All (λ p. T (every small p)) (parts 16 n l)
+unfolding parts All
+small-parts zero l s = tt
+small-parts (suc n) l s = (every-take small 16 l s, small-parts n (drop 16 l) (every-drop small 16 l s))
+
+module _ (g h : Polynomial) (short-g : length g ≤ 16) (short-h : length h ≤ 16) (small-g : T (every small g)) (small-h : T (every small h)) where
+  -- |coefficient| ≤ 32·C² < 2^63
+  coefficient-below : (p q : Polynomial) → T (every small p) → T (every small q) → (k : ℕ) → natAbs (coeff (add (mul g p) (mul h q)) k) < 2 ^ 63
+  coefficient-below p q s t k =
+      rw coeff-add
+      (omega (arith, natAbs-+ℤ (coeff (mul g p) k) (coeff (mul h q) k), product-size g p small-g s k 16 short-g, product-size h q small-h t k 16 short-h))
+
+  low-below : (ps qs : List Polynomial) → All (λ p. T (every small p)) ps → All (λ p. T (every small p)) qs
+      → Below (2 ^ 63) (flatten (map lowPart (zipWith (λ p q. add (mul g p) (mul h q)) ps qs)))
+  unfolding zipWith All flatten lowPart
+  low-below [] qs s t k = lit< tt
+  low-below (p ∷ ps) [] s t k = lit< tt
+  low-below (p ∷ ps) (q ∷ qs) s t k =
+      below-append (2 ^ 63) (lowPart (add (mul g p) (mul h q))) (flatten (map lowPart (zipWith (λ p q. add (mul g p) (mul h q)) ps qs)))
+      (below-map (2 ^ 63) (lit< tt) (coeff (add (mul g p) (mul h q))) (coefficient-below p q (s .0) (t .0)) (range 0 16))
+      (low-below ps qs (s .1) (t .1)) k
+
 -- ---- combinations of rows
 
 -- The polynomials of a combination of two rows that are held by numbers.
@@ -256,3 +319,20 @@ module _ (g h : Polynomial) (t u : List ℤ) where
         let both = T-&& (isZero p) (isZero q) .0 (subst T (sym z) tt) in
         subst (λ l. T (isZero l)) trimmed-low
         (lowPart-zero (add (mul a p) (mul b q)) (isZero-add (mul a p) (mul b q) (isZero-mul-right a p (both .0)) (isZero-mul-right b q (both .1))))
+
+  -- ---- the whole row
+
+  pub cut-low : 0 < length g → length t ≡ 320 → coefficientsOf (cut combination) ≡ coefficientsOf (mapRow lowPart combination)
+  unfolding cut combinations
+  cut-low some long =
+      numbers-mapRow (take 16) combination
+      ∙ ap (λ ps. flatten (map (take 16) ps)) polynomials-combination
+      ∙ ap flatten (sym (low-front g h some (parts 16 20 t) (parts 16 20 u) (parts-width 16 20 t (omega arith))))
+      ∙ sym numbers-low
+
+  pub numbers-below : (length g ≤ 16) × (length h ≤ 16) × T (every small g) × T (every small h) × T (every small t) × T (every small u)
+      → Below (2 ^ 63) (coefficientsOf (mapRow lowPart combination))
+  unfolding combinations
+  numbers-below s =
+      subst (Below (2 ^ 63)) (sym numbers-low)
+      (low-below g h (s .0) (s .1) (s .2) (s .3) (parts 16 20 t) (parts 16 20 u) (small-parts 20 t (s .4)) (small-parts 20 u (s .5)))

@@ -1,5 +1,7 @@
+pub mod Combination
 pub mod Flat
 pub mod Found
-pub mod Worked
+pub mod Primitive
 pub mod Shifting
-pub mod Combination
+pub mod Worked
+pub mod Written

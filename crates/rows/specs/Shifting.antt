@@ -7,19 +7,19 @@
 --   shiftUp-rest      the last block is zero
 use mathlib.Core.Path.{_≡_, refl, sym, _∙_, ap, ap₂}
 use mathlib.Core.List.{List, [], _∷_, _++_, map, flatten, append-assoc, append-nil}
-use Prim.Native.Nat.{ℕ, zero, suc, _+_, _*_, _≤_, _<_}
+use Prim.Native.Nat.{ℕ, _+_, _*_, _<_}
 use native.Mathlib.Nat.{add-comm}
 use native.Mathlib.Omega.{arith}
 use lib.Dec.{T}
 use lib.IntN.{ℤ, pos}
-use lib.ListN.{length, take, drop, getD, length-append, length-take, length-drop, length-map, List·getD-map}
+use lib.ListN.{length, take, drop, length-append, length-take, length-drop, length-map, List·getD-map}
 use lib.Seq.{drop-at, drop-drop}
 use Rattle.algebra.specs.Polynomials.{Polynomial, isZero, shift, shiftBy, length-shift, isZero-append, isZero-shift, T-&&}
 use Rattle.rules.specs.Rows.{Block, All, coefficientsOf, blank, leadingBlock, shiftUp}
 use Rattle.rules.specs.Stores.{parts, rowOf}
 use Rattle.rules.specs.Layout.{parts-length, parts-width, getD-parts}
-use Rattle.rows.specs.Worked.{length-flatten, part-flatten}
-use Rattle.rows.specs.Flat.{polynomialsOf, numbers-mapRow, parts-parts}
+use Rattle.rows.specs.Written.{length-flatten, part-flatten}
+use Rattle.rows.specs.Flat.{numbers-mapRow, parts-parts}
 
 flatten-append : {A : Type 0} (ls ms : List (List A)) → flatten (ls ++ ms) ≡ flatten ls ++ flatten ms
 unfolding flatten

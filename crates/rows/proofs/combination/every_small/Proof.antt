@@ -1,6 +1,6 @@
 -- `rows::combination::every_small` meets its contract. The loop's invariant: the numbers from i on tell whether all are within ±C.
 -- Assumes nothing.
-use mathlib.Core.Path.{_≡_, refl, sym, _∙_, ap}
+use mathlib.Core.Path.{_≡_, sym, _∙_, ap}
 use mathlib.Core.Bool.{not, Bool·not-not}
 use mathlib.Core.List.{List}
 use Prim.Native.Nat.{ℕ, _≤_, _-_}
@@ -14,7 +14,7 @@ use mir.Val.{SFits}
 use mir.Facts.{toZ-ofZ}
 use Rattle.rules.specs.Limits.{small}
 use Rattle.rules.specs.Rows.{every}
-use Rattle.rows.specs.Worked.{every-passed, every-failed}
+use Rattle.rows.specs.Written.{every-passed, every-failed}
 use Rattle.rows.proofs.combination.every_small.Statement.{statement}
 use Rattle.rows.proofs.combination.every_small.Tie as tie
 

@@ -1,8 +1,8 @@
 -- `rows::combination::low_combination` meets its contract. The loop's invariant: the first e polynomials are written, and the others are zero.
 -- Assumes nothing.
-use mathlib.Core.Path.{_≡_, refl, sym, _∙_, ap, ap₂}
+use mathlib.Core.Path.{_≡_, sym, _∙_, ap, ap₂}
 use mathlib.Core.Logic.{⊎-elim}
-use mathlib.Core.Bool.{true, false, not, Bool·not-not}
+use mathlib.Core.Bool.{false, not, Bool·not-not}
 use mathlib.Core.List.{List}
 use Prim.Native.Nat.{ℕ, _+_, _*_, _≤_, _-_}
 use native.Mathlib.Omega.{arith}
@@ -10,11 +10,11 @@ use borrow.Author.Needs.{needs}
 use borrow.Rule.Slice.PartMut.{putMid}
 use denote.Ref.{now}
 use lib.IntN.{ℤ, pos}
-use lib.ListN.{length, take, drop, replicate}
-use Rattle.algebra.specs.Polynomials.{Polynomial, isZero, add, mul}
+use lib.ListN.{length, replicate}
+use Rattle.algebra.specs.Polynomials.{Polynomial, add, mul}
 use Rattle.rules.specs.Rows.{combine, mapRow, coefficientsOf}
 use Rattle.rules.specs.Stores.{rowOf}
-use Rattle.rows.specs.Worked.{front, length-front, front-none, front-whole, front-put, front-skip}
+use Rattle.rows.specs.Written.{front, length-front, front-none, front-whole, front-put, front-skip}
 use Rattle.rows.specs.Combination.{lowPart, trim-fits, trim-part-fits, length-low, trimmed-low, trimmed-zero}
 use Rattle.rows.proofs.combination.low_combination.Statement.{statement}
 use Rattle.rows.proofs.combination.low_combination.Tie as tie

@@ -1,7 +1,7 @@
 -- `rows::combination::past_degree` meets its contract. The loop's invariant: the polynomials from place e on tell whether all have degrees
 -- up to 15.
 -- Assumes nothing.
-use mathlib.Core.Path.{_≡_, refl, sym, _∙_, ap, subst}
+use mathlib.Core.Path.{_≡_, sym, _∙_, ap, subst}
 use mathlib.Core.Bool.{Bool, false, not, Bool·not-not}
 use mathlib.Core.List.{List, []}
 use Prim.Native.Nat.{ℕ, _+_, _*_, _≤_, _<_, _-_}
@@ -9,13 +9,13 @@ use native.Mathlib.Omega.{arith}
 use borrow.Author.Needs.{needs}
 use denote.Ref.{now}
 use lib.IntN.{ℤ}
-use lib.ListN.{length, take, drop, getD, drop-of-length-le}
-use Rattle.algebra.specs.Polynomials.{Polynomial, isZero, add, mul}
+use lib.ListN.{length, drop, getD, drop-of-length-le}
+use Rattle.algebra.specs.Polynomials.{Polynomial, isZero}
 use Rattle.rules.specs.Rows.{every, combine}
 use Rattle.rules.specs.Stores.{rowOf}
 use Rattle.rows.specs.Flat.{polynomialsOf}
-use Rattle.rows.specs.Worked.{every-passed, every-failed}
-use Rattle.rows.specs.Combination.{trim, trim-fits, trim-part-fits, low-degrees, length-polynomials, trimmed-high}
+use Rattle.rows.specs.Written.{every-passed, every-failed}
+use Rattle.rows.specs.Combination.{trim-fits, trim-part-fits, low-degrees, length-polynomials, trimmed-high}
 use Rattle.rows.proofs.combination.past_degree.Statement.{statement}
 use Rattle.rows.proofs.combination.past_degree.Tie as tie
 

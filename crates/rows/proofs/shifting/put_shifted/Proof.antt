@@ -1,6 +1,6 @@
 -- `rows::shifting::put_shifted` meets its contract. The loop's invariant: the first k numbers are those of p(n + 1).
 -- Assumes nothing.
-use mathlib.Core.Path.{_≡_, refl, sym, _∙_, ap}
+use mathlib.Core.Path.{_≡_, _∙_}
 use Prim.Native.Nat.{_≤_, _-_}
 use native.Mathlib.Omega.{arith}
 use borrow.Author.Needs.{needs, sfits-of}
