@@ -29,7 +29,8 @@ use Rattle.algebra.specs.Integers.{natAbs-+ℤ}
 use Rattle.algebra.specs.Sums.{range, sumBelow, length-range, getD-range}
 use Rattle.algebra.specs.Polynomials.{Polynomial, coeff, isZero, degree, add, mul, T-&&, isZero-cons, isZero-coeff, coeff-isZero}
 use Rattle.algebra.specs.Polynomials.{isZero-add, isZero-mul-right, length-add, length-scale}
-use Rattle.algebra.specs.Coefficients.{coeff-add, coeff-mul, coeff-take, coeff-drop, coeff-past-length, coeff-past-degree, degree-lt-length, mul-within}
+use Rattle.algebra.specs.Coefficients.{coeff-add, coeff-mul, coeff-take, coeff-drop, coeff-past-length, coeff-past-degree}
+use Rattle.algebra.specs.Coefficients.{degree-lt-length, mul-within}
 use Rattle.polynomials.specs.Content.{Below}
 use Rattle.polynomials.specs.Product.{product-size}
 use Rattle.rules.specs.Limits.{small}
@@ -218,12 +219,19 @@ unfolding parts All
 small-parts zero l s = tt
 small-parts (suc n) l s = (every-take small 16 l s, small-parts n (drop 16 l) (every-drop small 16 l s))
 
-module _ (g h : Polynomial) (short-g : length g ≤ 16) (short-h : length h ≤ 16) (small-g : T (every small g)) (small-h : T (every small h)) where
+module _ (g h : Polynomial) (short-g : length g ≤ 16) (short-h : length h ≤ 16) (small-g : T (every small g))
+    (small-h : T (every small h)) where
   -- |coefficient| ≤ 32·C² < 2^63
-  coefficient-below : (p q : Polynomial) → T (every small p) → T (every small q) → (k : ℕ) → natAbs (coeff (add (mul g p) (mul h q)) k) < 2 ^ 63
+  coefficient-below : (p q : Polynomial) → T (every small p) → T (every small q) → (k : ℕ)
+      → natAbs (coeff (add (mul g p) (mul h q)) k) < 2 ^ 63
   coefficient-below p q s t k =
       rw coeff-add
-      (omega (arith, natAbs-+ℤ (coeff (mul g p) k) (coeff (mul h q) k), product-size g p small-g s k 16 short-g, product-size h q small-h t k 16 short-h))
+      (omega (
+        arith,
+        natAbs-+ℤ (coeff (mul g p) k) (coeff (mul h q) k),
+        product-size g p small-g s k 16 short-g,
+        product-size h q small-h t k 16 short-h,
+      ))
 
   low-below : (ps qs : List Polynomial) → All (λ p. T (every small p)) ps → All (λ p. T (every small p)) qs
       → Below (2 ^ 63) (flatten (map lowPart (zipWith (λ p q. add (mul g p) (mul h q)) ps qs)))
@@ -308,7 +316,9 @@ module _ (g h : Polynomial) (t u : List ℤ) where
         ∙ ap (λ m. coeff (add (mul g (take m (drop (e * 16) t))) (mul h (take m (drop (e * 16) u)))) k) width
 
     pub trimmed-high : isZero (drop 16 (add (mul a p) (mul b q))) ≡ isZero (drop 16 (getD (polynomialsOf combination) e []))
-    trimmed-high = high-same (add (mul a p) (mul b q)) (entryAt e) trimmed-same ∙ ap (λ r. isZero (drop 16 r)) (sym (combination-at e below))
+    trimmed-high =
+        high-same (add (mul a p) (mul b q)) (entryAt e) trimmed-same
+        ∙ ap (λ r. isZero (drop 16 r)) (sym (combination-at e below))
 
     pub trimmed-low : lowPart (add (mul a p) (mul b q)) ≡ take 16 (drop (e * 16) (coefficientsOf (mapRow lowPart combination)))
     trimmed-low = lowPart-same (add (mul a p) (mul b q)) (entryAt e) trimmed-same ∙ sym (low-part e below)
@@ -318,7 +328,8 @@ module _ (g h : Polynomial) (t u : List ℤ) where
     trimmed-zero z =
         let both = T-&& (isZero p) (isZero q) .0 (subst T (sym z) tt) in
         subst (λ l. T (isZero l)) trimmed-low
-        (lowPart-zero (add (mul a p) (mul b q)) (isZero-add (mul a p) (mul b q) (isZero-mul-right a p (both .0)) (isZero-mul-right b q (both .1))))
+        (lowPart-zero (add (mul a p) (mul b q))
+        (isZero-add (mul a p) (mul b q) (isZero-mul-right a p (both .0)) (isZero-mul-right b q (both .1))))
 
   -- ---- the whole row
 

@@ -107,7 +107,8 @@ module _ (d : ℕ) (positive : 0 < d) where
   divided-low p h =
       ap isZero (drop-map (λ a. quotZ a (pos d)) 16 p)
       ∙ isZero-divideBy d (drop 16 p) positive
-      (dividesAll-of-content d (drop 16 p) (divides-append d (take 16 p) (drop 16 p) (subst (λ q. d ∣ content q) (sym (take-append-drop 16 p)) h) .1))
+      (dividesAll-of-content d (drop 16 p)
+      (divides-append d (take 16 p) (drop 16 p) (subst (λ q. d ∣ content q) (sym (take-append-drop 16 p)) h) .1))
 
   divided-every : (ps : List Polynomial) → d ∣ content (flatten ps) → every isLow (map (divideBy d) ps) ≡ every isLow ps
   unfolding flatten every

@@ -42,7 +42,8 @@ unfolding shiftUp rowOf leadingBlock flatten below last
 numbers-shiftUp l =
     numbers-mapRow shift (record { blocks = map (parts 16 4) (parts 64 4 (drop 64 l)) ++ (last l ∷ []) })
     ∙ ap (λ ps. flatten (map shift ps))
-    (flatten-append (map (parts 16 4) (parts 64 4 (drop 64 l))) (last l ∷ []) ∙ ap₂ _++_ (parts-parts 16 4 4 (drop 64 l)) (append-nil (last l)))
+    (flatten-append (map (parts 16 4) (parts 64 4 (drop 64 l))) (last l ∷ [])
+    ∙ ap₂ _++_ (parts-parts 16 4 4 (drop 64 l)) (append-nil (last l)))
     ∙ ap flatten (map-append shift (below l) (last l)) ∙ flatten-append (map shift (below l)) (map shift (last l))
 
 -- ---- widths
@@ -75,11 +76,14 @@ module _ (l : List ℤ) (long : length l ≡ 320) where
   unfolding last blank
   last-width =
       map-width shift length-shift 16 (last l)
-      (map-width (map (λ _. pos 0)) (λ p. length-map p (λ _. pos 0)) 16 (parts 16 4 (take 64 l)) (parts-width 16 4 (take 64 l) (rw length-take (omega arith))))
+      (map-width (map (λ _. pos 0)) (λ p. length-map p (λ _. pos 0)) 16 (parts 16 4 (take 64 l))
+      (parts-width 16 4 (take 64 l) (rw length-take (omega arith))))
 
   below-length : length (flatten (map shift (below l))) ≡ 256
   unfolding below
-  below-length = length-flatten 16 (map shift (below l)) below-width ∙ ap (λ n. n * 16) (length-map (below l) shift ∙ parts-length 16 16 (drop 64 l))
+  below-length =
+      length-flatten 16 (map shift (below l)) below-width
+      ∙ ap (λ n. n * 16) (length-map (below l) shift ∙ parts-length 16 16 (drop 64 l))
 
   last-length : length (flatten (map shift (last l))) ≡ 64
   unfolding last blank
@@ -87,7 +91,9 @@ module _ (l : List ℤ) (long : length l ≡ 320) where
       ∙ ap (λ n. n * 16) (length-map (last l) shift ∙ length-map (parts 16 4 (take 64 l)) (map (λ _. pos 0)) ∙ parts-length 16 4 (take 64 l))
 
   pub length-shiftUp : length (coefficientsOf (shiftUp (rowOf l))) ≡ 320
-  length-shiftUp = ap length (numbers-shiftUp l) ∙ length-append (flatten (map shift (below l))) (flatten (map shift (last l))) ∙ ap₂ _+_ below-length last-length
+  length-shiftUp =
+      ap length (numbers-shiftUp l) ∙ length-append (flatten (map shift (below l))) (flatten (map shift (last l)))
+      ∙ ap₂ _+_ below-length last-length
 
   pub shiftUp-rest : T (isZero (drop 256 (coefficientsOf (shiftUp (rowOf l)))))
   unfolding last
@@ -99,6 +105,7 @@ module _ (l : List ℤ) (long : length l ≡ 320) where
   unfolding below shift shiftBy
   shiftUp-part e h =
       ap (λ r. take 16 (drop (e * 16) r)) (numbers-shiftUp l)
-      ∙ part-flatten 16 16 (map shift (below l)) (flatten (map shift (last l))) (length-map (below l) shift ∙ parts-length 16 16 (drop 64 l)) below-width e h
+      ∙ part-flatten 16 16 (map shift (below l)) (flatten (map shift (last l)))
+      (length-map (below l) shift ∙ parts-length 16 16 (drop 64 l)) below-width e h
       ∙ List·getD-map shift (below l) e [] ∙ ap shift (getD-parts 16 16 (drop 64 l) e h)
       ∙ ap (λ r. shift (take 16 r)) (drop-drop (e * 16) 64 l ∙ ap (λ n. drop n l) (add-comm 64 (e * 16)))

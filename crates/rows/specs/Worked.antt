@@ -40,7 +40,8 @@ refusal-limit r = go (every small (coefficientsOf r))
     go true = refl
     go false = refl
 
-numbers-limit : (r : Row) → numbersOf (limitCoefficients r) ≡ cond (every small (coefficientsOf r)) (coefficientsOf r) (replicate 320 (pos 0))
+numbers-limit : (r : Row)
+    → numbersOf (limitCoefficients r) ≡ cond (every small (coefficientsOf r)) (coefficientsOf r) (replicate 320 (pos 0))
 unfolding numbersOf limitCoefficients smallRow
 numbers-limit r = go (every small (coefficientsOf r))
   where
@@ -56,7 +57,8 @@ module _ (r : Row) (l : List ℤ) (held : coefficientsOf r ≡ l) where
   limit-numbers : numbersOf (limitCoefficients r) ≡ cond (every small l) l (replicate 320 (pos 0))
   limit-numbers = numbers-limit r ∙ ap (λ m. cond (every small m) m (replicate 320 (pos 0))) held
 
-  pub limit-same : (q : Row) → coefficientsOf q ≡ l → (n : ℕ) (m : List ℤ) → Shown n m (limitCoefficients q) → Shown n m (limitCoefficients r)
+  pub limit-same : (q : Row) → coefficientsOf q ≡ l → (n : ℕ) (m : List ℤ)
+      → Shown n m (limitCoefficients q) → Shown n m (limitCoefficients r)
   limit-same q same n m h = (
     h .0 ∙ refusal-limit q ∙ ap (λ k. cond (every small k) 0 8) same ∙ sym limit-refusal,
     h .1 ∙ numbers-limit q ∙ ap (λ k. cond (every small k) k (replicate 320 (pos 0))) same ∙ sym limit-numbers,
@@ -65,5 +67,6 @@ module _ (r : Row) (l : List ℤ) (held : coefficientsOf r ≡ l) where
 pub limit-within : (r : Row) (l : List ℤ) → coefficientsOf r ≡ l → every small l ≡ true → Shown 0 l (limitCoefficients r)
 limit-within r l held e = rw (limit-refusal r l held, limit-numbers r l held, e) (refl, refl)
 
-pub limit-beyond : (r : Row) (l : List ℤ) → coefficientsOf r ≡ l → every small l ≡ false → Shown 8 (replicate 320 (pos 0)) (limitCoefficients r)
+pub limit-beyond : (r : Row) (l : List ℤ) → coefficientsOf r ≡ l → every small l ≡ false
+    → Shown 8 (replicate 320 (pos 0)) (limitCoefficients r)
 limit-beyond r l held e = rw (limit-refusal r l held, limit-numbers r l held, e) (refl, refl)

@@ -110,7 +110,8 @@ module _ (l : List ℤ) (e : ℕ) (h : e * 16 + 16 ≤ length l) where
       let zeros = replicate (length l - n) (pos 0) in
       let long = length-take-le n l (omega arith) in
       ap₂ (λ a b. a ++ (take 16 (drop n l) ++ drop k b)) (take-at (take n l) zeros n long) (drop-at (take n l) zeros n long)
-      ∙ ap (λ b. take n l ++ (take 16 (drop n l) ++ b)) (ap₂ drop w rest-zeros ∙ drop-at (replicate 16 (pos 0)) _ 16 (length-replicate 16 (pos 0)))
+      ∙ ap (λ b. take n l ++ (take 16 (drop n l) ++ b))
+      (ap₂ drop w rest-zeros ∙ drop-at (replicate 16 (pos 0)) _ 16 (length-replicate 16 (pos 0)))
       ∙ sym front-split
 
   -- A part of zeros is there already.
@@ -120,7 +121,9 @@ module _ (l : List ℤ) (e : ℕ) (h : e * 16 + 16 ≤ length l) where
       ap (λ r. take n l ++ r) (rest-zeros ∙ ap (λ r. r ++ replicate (length l - next) (pos 0)) (sym part-zeros)) ∙ sym front-split
     where
       part-zeros : take 16 (drop n l) ≡ replicate 16 (pos 0)
-      part-zeros = zero-list (take 16 (drop n l)) z ∙ ap (λ m. replicate m (pos 0)) (length-take-le 16 (drop n l) (rw length-drop (omega arith)))
+      part-zeros =
+          zero-list (take 16 (drop n l)) z
+          ∙ ap (λ m. replicate m (pos 0)) (length-take-le 16 (drop n l) (rw length-drop (omega arith)))
 
 -- ---- lists of one width, joined
 

@@ -65,7 +65,8 @@ returns-2 c =
     let numbers = c .before .primitive-part .result in
     let long : length numbers ≡ 320 = search needs in
     let held : coefficientsOf (cut (primitive r)) ≡ numbers = cut-primitive r (subst T (sym low) tt)
-    ∙ ap primitiveNumbers (cut-low (now (start .args .g)) (now (start .args .h)) (start .args .t3) (start .args .t4) (omega arith) (omega arith)
+    ∙ ap primitiveNumbers (cut-low (now (start .args .g)) (now (start .args .h)) (start .args .t3) (start .args .t4)
+    (omega arith) (omega arith)
     ∙ sym (here .low-combination .ensures))
     ∙ sym (c .before .primitive-part .ensures)
     in

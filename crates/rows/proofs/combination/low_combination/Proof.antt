@@ -143,8 +143,10 @@ put-combined-requires c κs =
     let args = start here .args in
     let a = trim-fits (now (args .g)) _ (at here .before .before .trimmed .ensures) (omega arith) (pre .0 .1) in
     let b = trim-fits (now (args .h)) _ (at here .before .trimmed2 .ensures) (omega arith) (pre .0 .3) in
-    let p = trim-part-fits (now (args .target)) (e here * 16) (width here) _ (here .before .before .before .trimmed3 .ensures) (omega arith) (pre .1 .1) in
-    let q = trim-part-fits (now (args .pivot)) (e here * 16) (width here) _ (here .before .trimmed4 .ensures) (omega arith) (pre .1 .3) in
+    let from = e here * 16 in
+    let sixteen : width here ≡ 16 = omega arith in
+    let p = trim-part-fits (now (args .target)) from (width here) _ (here .before .before .before .trimmed3 .ensures) sixteen (pre .1 .1) in
+    let q = trim-part-fits (now (args .pivot)) from (width here) _ (here .before .trimmed4 .ensures) sixteen (pre .1 .3) in
     (search needs, ((a .0, a .1, p .1), (b .0, b .1, q .1)))
 
 add-e : tie.Need-add-e Inv-loop μ-loop

@@ -56,9 +56,7 @@ module _ (c : tie.After-passes Inv-loop μ-loop) where
       (at .before .before .trimmed .ensures) (at .before .trimmed2 .ensures) (p .ensures) (c .before .trimmed4 .ensures))
 
   some-left : e < length ps
-  some-left =
-      subst (λ n. e < n) (sym (length-polynomials (now (start .args .g)) (now (start .args .h)) (now (start .args .target)) (now (start .args .pivot))))
-      (c .before .before .before .before .before .loop-test .taken)
+  some-left = rw length-polynomials (c .before .before .before .before .before .loop-test .taken)
 
 trimmed-requires : tie.Need-trimmed-requires Inv-loop μ-loop
 trimmed-requires c κs = search needs
@@ -113,8 +111,9 @@ passes-requires c κs =
     let width : e * 16 + 16 - e * 16 ≡ 16 = omega arith in
     let a = trim-fits (now (start .args .g)) _ (at .before .before .trimmed .ensures) (omega arith) (start .pre .0 .1) in
     let b = trim-fits (now (start .args .h)) _ (at .before .trimmed2 .ensures) (omega arith) (start .pre .0 .3) in
-    let p = trim-part-fits (now (start .args .target)) (e * 16) (e * 16 + 16 - e * 16) _ (c .before .before .trimmed3 .ensures) width (start .pre .1 .1) in
-    let q = trim-part-fits (now (start .args .pivot)) (e * 16) (e * 16 + 16 - e * 16) _ (c .trimmed4 .ensures) width (start .pre .1 .3) in
+    let from = e * 16 in
+    let p = trim-part-fits (now (start .args .target)) from (from + 16 - from) _ (c .before .before .trimmed3 .ensures) width (start .pre .1 .1) in
+    let q = trim-part-fits (now (start .args .pivot)) from (from + 16 - from) _ (c .trimmed4 .ensures) width (start .pre .1 .3) in
     ((a .0, a .1, p .0, p .1), (b .0, b .1, q .0, q .1))
 
 returns : tie.Need-returns Inv-loop μ-loop

@@ -23,7 +23,9 @@ module _ (c : tie.After-content) where
   row = c .before .before .args .row
 
   fits : SFits w64 (pos (c .content .result))
-  fits = rw (c .content .ensures) (sfits-size (pos (content row)) (le-refl (content row)) (content-below (2 ^ 63) row (lit< tt) (c .before .before .pre)))
+  fits =
+      let below = content-below (2 ^ 63) row (lit< tt) (c .before .before .pre) in
+      rw (c .content .ensures) (sfits-size (pos (content row)) (le-refl (content row)) below)
 
   divisor : toZ w64 (c .content .result) ≡ pos (content row)
   divisor = toZ-ofZ fits ∙ ap pos (c .content .ensures)
@@ -43,7 +45,8 @@ cast-divide-in-place c = fits (c .before .before)
 divide-in-place-requires : tie.Need-divide-in-place-requires
 divide-in-place-requires c κs =
     let here = c .before .before in
-    (here .before .before .pre, rw (divisor here) (lt→ltb 0 (content (row here)) (omega (arith, c .before .if1 .taken, here .content .ensures))))
+    let some : 0 < content (row here) = omega (arith, c .before .if1 .taken, here .content .ensures) in
+    (here .before .before .pre, rw (divisor here) (lt→ltb 0 (content (row here)) some))
 
 returns : tie.Need-returns
 returns c =

@@ -60,7 +60,8 @@ returns : tie.Need-returns Inv-loop μ-loop
 returns c =
     let args = c .before .before .args in
     let sum = add (mul (now (args .g)) (now (args .p))) (mul (now (args .h)) (now (args .q))) in
-    prefix-all (c .before .loop .place) (lowPart sum) (c .before .loop .k) (omega arith) (rw length-lowPart (omega arith)) (c .before .loop .inv .2)
+    prefix-all (c .before .loop .place) (lowPart sum) (c .before .loop .k) (omega arith) (rw length-lowPart (omega arith))
+    (c .before .loop .inv .2)
 
 pub put-combined-spec : {M : Type 1} → statement M
 put-combined-spec =

@@ -56,7 +56,8 @@ module _ (c : tie.After-is-zero Inv-loop μ-loop) where
       front-skip full e (omega (arith, full-long))
       (subst T (sym (ap isZero p-shifted ∙ isZero-shift p ∙ sym (c .is-zero .ensures) ∙ sym (Bool·not-not _) ∙ ap not z)) tt)
 
-  p-put : (q : List ℤ) → q ≡ shift p → putMid (e * 16) (e * 16 + 16 - e * 16) (c .before .before .before .loop .moved) q ≡ front full ((e + 1) * 16)
+  p-put : (q : List ℤ) → q ≡ shift p
+      → putMid (e * 16) (e * 16 + 16 - e * 16) (c .before .before .before .loop .moved) q ≡ front full ((e + 1) * 16)
   p-put q w =
       ap₂ (λ m x. putMid (e * 16) (e * 16 + 16 - e * 16) m x) (c .before .before .before .loop .inv .2) (w ∙ sym p-shifted)
       ∙ front-put full e (omega (arith, full-long)) (e * 16 + 16 - e * 16) (omega arith)
@@ -111,7 +112,8 @@ part-moved-end c = search needs
 put-shifted-requires : tie.Need-put-shifted-requires Inv-loop μ-loop
 put-shifted-requires c κs =
     let at = c .before .before in
-    (search needs, search needs, every-part small (e at * 16 + 64) (e at * 16 + 64 + 16 - (e at * 16 + 64)) (row at) (at .before .before .before .before .pre .1))
+    let from = e at * 16 + 64 in
+    (search needs, search needs, every-part small from (from + 16 - from) (row at) (at .before .before .before .before .pre .1))
 
 add-e : tie.Need-add-e Inv-loop μ-loop
 add-e c = search needs
