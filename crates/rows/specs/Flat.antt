@@ -3,6 +3,7 @@
 -- Main statements
 --   polynomials-rowOf     the polynomials of the row held by a list of numbers are its parts of 16
 --   zeroRow-numbers       a row is zero exactly if its numbers are
+--   smallRow-rowOf        a row's coefficients are within ±C exactly if its numbers are
 --   every-longer          one member more that passes a test
 --   block-at, zeroBlock-at, entry-at   the place of a block, its zero test, and the place of a leading entry
 --   numbers-mapRow        the numbers of a row with f applied to each polynomial
@@ -20,9 +21,10 @@ use lib.Seq.{take-take, take-suc, drop-drop, take-nil, getD-append-add}
 use lib.Dec.{lit<}
 use lib.IntN.{ℤ}
 use Rattle.algebra.specs.Polynomials.{Polynomial, isZero, isZeroℤ, isZero-append, add, mul}
-use Rattle.rules.specs.Rows.{Row, All, every, zeroBlock, zeroRow, leadingBlock, entry, mapRow, combine, coefficientsOf}
+use Rattle.rules.specs.Limits.{small}
+use Rattle.rules.specs.Rows.{Row, All, every, zeroBlock, zeroRow, leadingBlock, entry, mapRow, combine, smallRow, coefficientsOf}
 use Rattle.rules.specs.Stores.{parts, rowOf}
-use Rattle.rules.specs.Layout.{parts-length, flatten-parts, getD-parts, polynomial-at-row}
+use Rattle.rules.specs.Layout.{parts-length, flatten-parts, getD-parts, polynomial-at-row, coefficientsOf-rowOf-all}
 
 abbrev pub polynomialsOf : Row → List Polynomial
 polynomialsOf r = flatten (r .blocks)
@@ -103,6 +105,10 @@ isZero-flatten (p ∷ ps) = isZero-append p (flatten ps) ∙ ap (λ b. isZero p 
 pub zeroRow-numbers : (r : Row) → zeroRow r ≡ isZero (coefficientsOf r)
 unfolding zeroRow zeroBlock coefficientsOf
 zeroRow-numbers r = sym (isZero-flatten (polynomialsOf r) ∙ every-flatten isZero (r .blocks))
+
+pub smallRow-rowOf : (l : List ℤ) → length l ≡ 320 → smallRow (rowOf l) ≡ every small l
+unfolding smallRow
+smallRow-rowOf l h = ap (every small) (coefficientsOf-rowOf-all l h)
 
 -- ---- zero tests by places
 

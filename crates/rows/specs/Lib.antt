@@ -1,3 +1,4 @@
+pub mod Checks
 pub mod Flat
 pub mod Found
 pub mod Worked
