@@ -7,8 +7,8 @@
 -- Main statements
 --   every-false          a member that fails a test fails it for all
 --   unusedZero-true, unusedZero-false   the unused positions hold 0 exactly if every polynomial passes
-use Prim.Native.Nat.{ℕ, zero, suc, _+_, _*_, _/_, _%_, _≤_, _<_, zero-le, suc-le-suc}
-use native.Mathlib.Nat.{not-suc-le-zero, le-of-suc-le-suc, zero-lt-suc}
+use Prim.Native.Nat.{ℕ, zero, suc, _+_, _*_, _/_, _%_, _≤_, _<_, zero-le}
+use native.Mathlib.Nat.{not-suc-le-zero, le-of-suc-le-suc}
 use native.Mathlib.Omega.{arith}
 use mathlib.Core.Path.{_≡_, refl, sym, _∙_, ap, subst}
 use mathlib.Core.Logic.{_↔_, _⊎_, inl, inr, ⊎-elim}
@@ -21,7 +21,7 @@ use Rattle.algebra.specs.Polynomials.{isZero, T-&&}
 use Rattle.rules.specs.Rows.{Block, every, zeroBlock}
 use Rattle.rules.specs.Stores.{rowOf, unusedZero}
 use Rattle.rules.specs.Layout.{parts-length, polynomial-at-row}
-use Rattle.rows.specs.Flat.{length-blocks, block-at}
+use Rattle.rows.specs.Flat.{every-from-at, every-from-all, length-blocks, block-at}
 
 -- Polynomial q lies in block q / 4, counted from block l down, and in column q % 4.
 unfoldable pub outside : ℕ → ℕ → ℕ → Bool
@@ -38,26 +38,6 @@ unfolding every
 every-false t [] i d h e = absurd (not-suc-le-zero h)
 every-false t (x ∷ l) zero d h e = ap (λ b. b && every t l) e
 every-false t (x ∷ l) (suc i) d h e = ap (λ b. t x && b) (every-false t l i d (le-of-suc-le-suc h) e) ∙ and-false (t x)
-
--- The members from place n on.
-module _ {A : Type 0} (t : A → Bool) where
-  every-from-at : (l : List A) (d : A) (n : ℕ) → T (every t (drop n l)) → (i : ℕ) → n ≤ i → i < length l → T (t (getD l i d))
-  unfolding every
-  every-from-at [] d n h i low high = absurd (not-suc-le-zero high)
-  every-from-at (x ∷ l) d zero h zero low high = T-&& (t x) (every t l) .0 h .0
-  every-from-at (x ∷ l) d zero h (suc i) low high =
-      every-from-at l d zero (T-&& (t x) (every t l) .0 h .1) i zero-le (le-of-suc-le-suc high)
-  every-from-at (x ∷ l) d (suc n) h zero low high = absurd (not-suc-le-zero low)
-  every-from-at (x ∷ l) d (suc n) h (suc i) low high = every-from-at l d n h i (le-of-suc-le-suc low) (le-of-suc-le-suc high)
-
-  every-from-all : (l : List A) (d : A) (n : ℕ) → ((i : ℕ) → n ≤ i → i < length l → T (t (getD l i d))) → T (every t (drop n l))
-  unfolding every
-  every-from-all [] d zero h = tt
-  every-from-all [] d (suc n) h = tt
-  every-from-all (x ∷ l) d zero h =
-      T-&& (t x) (every t l) .1
-      (h 0 zero-le (zero-lt-suc (length l)), every-from-all l d zero (λ i _ high. h (suc i) zero-le (suc-le-suc high)))
-  every-from-all (x ∷ l) d (suc n) h = every-from-all l d n (λ i low high. h (suc i) (suc-le-suc low) (suc-le-suc high))
 
 true-of : (t : Bool) → T t → t ≡ true
 true-of true h = refl
