@@ -1,8 +1,8 @@
 // Zero test, width, leading entries and their first nonzero column.
 ghost use mathlib.Core.Path.{_≡_};
 ghost use mathlib.Core.List.{map};
-ghost use Prim.Native.Nat.{_≤_, _<_};
-ghost use lib.ListN.{take, getD};
+ghost use Prim.Native.Nat.{_≤_};
+ghost use lib.ListN.{take};
 ghost use Rattle.rules.specs.Rows as Rows;
 ghost use Rattle.rules.specs.Stores.{rowOf};
 ghost use Rattle.rows.specs.Found.{foundOr, Columns};

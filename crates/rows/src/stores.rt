@@ -7,6 +7,7 @@ ghost use lib.Seq.{paste};
 
 // The numbers of a row, and of a relation: n0 and then a row.
 pub const ROW: usize = 320;
+
 pub const RELATION: usize = 321;
 
 // The 320 numbers of a store from a place on.
