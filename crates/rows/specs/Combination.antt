@@ -23,7 +23,7 @@ use native.Mathlib.Omega.{arith}
 use native.Mathlib.Decide.{decLe, decLt}
 use lib.Dec.{T, lit<}
 use lib.IntN.{ℤ, pos, natAbs, _+ℤ_, _*ℤ_}
-use lib.ListN.{length, take, drop, getD, length-take, length-map}
+use lib.ListN.{length, take, drop, getD, length-take, length-map, List·getD-map}
 use lib.Seq.{ext-getD, getD-take, length-take-le}
 use Rattle.algebra.specs.Integers.{natAbs-+ℤ}
 use Rattle.algebra.specs.Sums.{range, sumBelow, length-range, getD-range}
@@ -37,7 +37,7 @@ use Rattle.rules.specs.Limits.{small}
 use Rattle.rules.specs.Rows.{Row, All, every, mapRow, coefficientsOf, combine, lowDegrees, cut}
 use Rattle.rules.specs.Stores.{parts, rowOf}
 use Rattle.rules.specs.Layout.{parts-length, parts-width, getD-parts}
-use Rattle.rows.specs.Flat.{polynomialsOf, polynomials-rowOf, polynomials-combine, numbers-mapRow, every-flatten}
+use Rattle.rows.specs.Flat.{polynomialsOf, polynomials-rowOf, polynomials-combine, numbers-mapRow, every-flatten, getD-default}
 use Rattle.rows.specs.Written.{every-take, every-drop, every-part, length-flatten, part-flatten}
 
 -- ---- tests and members of lists
@@ -57,9 +57,7 @@ test-false true h = absurd (h tt)
 test-false false h = refl
 
 getD-map : {A B : Type 0} (f : A → B) (l : List A) (i : ℕ) (d : A) (e : B) → i < length l → getD (map f l) i e ≡ f (getD l i d)
-getD-map f [] i d e h = absurd (not-suc-le-zero h)
-getD-map f (x ∷ l) zero d e h = refl
-getD-map f (x ∷ l) (suc i) d e h = getD-map f l i d e (le-of-suc-le-suc h)
+getD-map f l i d e h = getD-default (map f l) i e (f d) (rw length-map h) ∙ List·getD-map f l i d
 
 getD-zipWith : {A B C : Type 0} (f : A → B → C) (l : List A) (m : List B) (i : ℕ) (a : A) (b : B) (c : C) → i < length l → i < length m
     → getD (zipWith f l m) i c ≡ f (getD l i a) (getD m i b)

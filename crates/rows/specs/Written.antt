@@ -1,40 +1,25 @@
--- Lists as the loops over a row go through them: tested member by member, and written part by part over zeros.
+-- Lists as the loops over a row write them: part by part over zeros.
 --
 -- Main definitions
 --   front l n      the first n members of l, and zeros in place of the others
 --
 -- Main statements
---   every-passed, every-failed   a test of all members, by what member i gives
 --   every-take, every-drop, every-part   what all members pass, all members of a part pass
 --   front-none, front-put, front-skip, front-all, front-whole   none written, one part of 16 more, one that is zero, all
 --   length-flatten, part-flatten lists of one width, joined: the length, and part i
 use mathlib.Core.Path.{_≡_, refl, sym, _∙_, ap, ap₂}
-use mathlib.Core.Bool.{Bool, true, false, _&&_}
+use mathlib.Core.Bool.{Bool, _&&_}
 use mathlib.Core.List.{List, [], _∷_, _++_, flatten, append-assoc}
 use Prim.Native.Nat.{ℕ, zero, suc, _+_, _*_, _-_, _≤_, _<_}
 use native.Mathlib.Nat.{sub-zero, zero-mul, suc-mul}
 use native.Mathlib.Omega.{arith}
-use native.Mathlib.Numerals.{add-one}
 use lib.Dec.{T}
 use lib.IntN.{ℤ, pos}
 use lib.ListN.{length, take, drop, getD, replicate, length-append, length-drop, length-replicate, replicate-append-replicate, take-append-drop}
-use lib.Seq.{drop-cons, drop-length, take-add, take-at, drop-at, length-take-le}
+use lib.Seq.{drop-length, take-add, take-at, drop-at, length-take-le}
 use Rattle.algebra.specs.Polynomials.{Polynomial, isZero, isZero-cons, T-&&}
 use Rattle.rules.specs.Rows.{All, every}
 use Rattle.rules.specs.Layout.{parts-flatten, getD-parts}
-
--- ---- a test of all members, one at a time
-
-module _ {A : Type 0} (t : A → Bool) (l : List A) (i : ℕ) (d : A) (h : i < length l) where
-  every-next : every t (drop i l) ≡ (t (getD l i d) && every t (drop (i + 1) l))
-  unfolding every
-  every-next = rw (add-one, drop-cons l i d)
-
-  pub every-passed : t (getD l i d) ≡ true → every t (drop i l) ≡ every t (drop (i + 1) l)
-  every-passed e = every-next ∙ ap (λ b. b && every t (drop (i + 1) l)) e
-
-  pub every-failed : t (getD l i d) ≡ false → every t (drop i l) ≡ false
-  every-failed e = every-next ∙ ap (λ b. b && every t (drop (i + 1) l)) e
 
 -- ---- a part of a list
 

@@ -20,26 +20,12 @@ pub struct Worked {
     pub row: [i64; 320],
 }
 
-// "every coefficient within ±C"
-pub fn every_small(numbers: &[i64]) -> bool
-    ensures { λ r. ⌜ r ≡ every small (now (numbers .entry)) ⌝ }
-{
-    let mut i = 0;
-    while i < numbers.len() {
-        if !integers::within_bound(numbers[i]) {
-            return false;
-        }
-        i += 1;
-    }
-    true
-}
-
 // "a coefficient outside ±C is refusal 8"
 pub fn limited(row: [i64; 320]) -> Worked
     ensures { λ r. ⌜ r .refusal ≡ refusalOf (limitCoefficients (rowOf row)) ⌝ }
     ensures { λ r. ⌜ r .row ≡ numbersOf (limitCoefficients (rowOf row)) ⌝ }
 {
-    if every_small(&row[..]) {
+    if crate::checks::all_small(&row[..]) {
         Worked { refusal: 0, row }
     } else {
         Worked {

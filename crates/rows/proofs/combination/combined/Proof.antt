@@ -1,10 +1,11 @@
 -- `rows::combination::combined` meets its contract.
 -- Assumes nothing.
 use mathlib.Core.Path.{_≡_, sym, _∙_, ap, subst}
-use mathlib.Core.Bool.{true, not, Bool·not-not}
+use mathlib.Core.Bool.{true}
 use Prim.Native.Nat.{_^_}
 use native.Mathlib.Omega.{arith}
 use borrow.Author.Needs.{needs}
+use borrow.Author.Tests.{not-true, not-false}
 use denote.Ref.{now}
 use lib.Dec.{T}
 use lib.ListN.{length}
@@ -33,7 +34,7 @@ past-degree-requires c κs = search needs
 returns : tie.Need-returns
 returns c =
     let start = c .before .before .before .before in
-    limit-past (combination start) (sym (Bool·not-not _) ∙ ap not (sym (c .before .past-degree .ensures) ∙ c .if1 .taken))
+    limit-past (combination start) (not-true _ (sym (c .before .past-degree .ensures) ∙ c .if1 .taken))
 
 slice-aggregate-low-combination : tie.Need-slice-aggregate-low-combination
 slice-aggregate-low-combination c = search needs
@@ -61,7 +62,7 @@ returns-2 c =
     let tested = here .before .before .before in
     let start = tested .before .before .before .before in
     let r = combination start in
-    let low : lowDegrees r ≡ true = sym (Bool·not-not _) ∙ ap not (sym (tested .before .past-degree .ensures) ∙ tested .if1 .left) in
+    let low : lowDegrees r ≡ true = not-false _ (sym (tested .before .past-degree .ensures) ∙ tested .if1 .left) in
     let numbers = c .before .primitive-part .result in
     let long : length numbers ≡ 320 = search needs in
     let held : coefficientsOf (cut (primitive r)) ≡ numbers = cut-primitive r (subst T (sym low) tt)

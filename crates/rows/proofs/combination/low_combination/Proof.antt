@@ -2,11 +2,12 @@
 -- Assumes nothing.
 use mathlib.Core.Path.{_≡_, sym, _∙_, ap, ap₂}
 use mathlib.Core.Logic.{⊎-elim}
-use mathlib.Core.Bool.{false, not, Bool·not-not}
+use mathlib.Core.Bool.{false, not}
 use mathlib.Core.List.{List}
 use Prim.Native.Nat.{ℕ, _+_, _*_, _≤_, _-_}
 use native.Mathlib.Omega.{arith}
 use borrow.Author.Needs.{needs}
+use borrow.Author.Tests.{not-false}
 use borrow.Rule.Slice.PartMut.{putMid}
 use denote.Ref.{now}
 use lib.IntN.{ℤ, pos}
@@ -60,7 +61,7 @@ module _ (c : tie.After-both-zero Inv-loop μ-loop) where
       (trimmed-zero (now (start .args .g)) (now (start .args .h)) (now (start .args .target)) (now (start .args .pivot)) e
       (c .before .before .before .before .before .loop-test .taken) width (omega arith) _ p _ q
       (at .before .before .trimmed .ensures) (at .before .trimmed2 .ensures) (c .before .before .before .trimmed3 .ensures)
-      (c .before .trimmed4 .ensures) (sym (c .both-zero .ensures) ∙ sym (Bool·not-not _) ∙ ap not z))
+      (c .before .trimmed4 .ensures) (sym (c .both-zero .ensures) ∙ not-false _ z))
 
   put : (r : List ℤ) → r ≡ lowPart (add (mul (now (at .before .before .trimmed .result)) p) (mul (now (at .before .trimmed2 .result)) q))
       → putMid (e * 16) width (at .loop .row) r ≡ front full ((e + 1) * 16)

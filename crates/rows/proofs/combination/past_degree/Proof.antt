@@ -1,20 +1,21 @@
--- `rows::combination::past_degree` meets its contract. The loop's invariant: the polynomials from place e on tell whether all have degrees
--- up to 15.
+-- `rows::combination::past_degree` meets its contract. The loop's invariant: the first e polynomials have degrees up to 15.
 -- Assumes nothing.
-use mathlib.Core.Path.{_≡_, sym, _∙_, ap, subst}
-use mathlib.Core.Bool.{Bool, false, not, Bool·not-not}
+use mathlib.Core.Path.{_≡_, sym, _∙_, ap}
+use mathlib.Core.Bool.{Bool, true, not}
 use mathlib.Core.List.{List, []}
 use Prim.Native.Nat.{ℕ, _+_, _*_, _≤_, _<_, _-_}
 use native.Mathlib.Omega.{arith}
 use borrow.Author.Needs.{needs}
+use borrow.Author.Tests.{not-true, not-false}
+use lib.Seq.{take-all}
 use denote.Ref.{now}
 use lib.IntN.{ℤ}
-use lib.ListN.{length, drop, getD, drop-of-length-le}
+use lib.ListN.{length, take, drop, getD}
 use Rattle.algebra.specs.Polynomials.{Polynomial, isZero}
 use Rattle.rules.specs.Rows.{every, combine}
 use Rattle.rules.specs.Stores.{rowOf}
-use Rattle.rows.specs.Flat.{polynomialsOf}
-use Rattle.rows.specs.Written.{every-passed, every-failed}
+use Rattle.rows.specs.Flat.{polynomialsOf, every-longer}
+use Rattle.rows.specs.Checks.{every-false}
 use Rattle.rows.specs.Combination.{trim-fits, trim-part-fits, low-degrees, length-polynomials, trimmed-high}
 use Rattle.rows.proofs.combination.past_degree.Statement.{statement}
 use Rattle.rows.proofs.combination.past_degree.Tie as tie
@@ -27,7 +28,7 @@ polynomials g h target pivot = polynomialsOf (combine g h (rowOf target) (rowOf 
 
 abbrev Inv-loop : tie.InvT-loop
 Inv-loop g h target pivot a b e₀ e =
-    (e ≤ 20) × (every isLow (polynomials g h target pivot) ≡ every isLow (drop e (polynomials g h target pivot)))
+    (e ≤ 20) × (every isLow (take e (polynomials g h target pivot)) ≡ true)
 
 abbrev μ-loop : tie.MeasureT-loop
 μ-loop g h target pivot a b e₀ e = 20 - e
@@ -65,6 +66,7 @@ trimmed-requires-2 : tie.Need-trimmed-requires-2 Inv-loop μ-loop
 trimmed-requires-2 c κs = search needs
 
 loop-holds : tie.Need-loop-holds Inv-loop μ-loop
+unfolding every
 loop-holds c = search needs
 
 mul-from : tie.Need-mul-from Inv-loop μ-loop
@@ -120,9 +122,9 @@ returns : tie.Need-returns Inv-loop μ-loop
 returns c =
     let here = c .before in
     let args = start here .args in
-    let failed : isLow (getD (ps here) (e here) []) ≡ false = sym (Bool·not-not _) ∙ ap not (sym (tested here) ∙ c .if1 .taken) in
-    ap not (sym (low-degrees (now (args .g)) (now (args .h)) (now (args .target)) (now (args .pivot)) ∙ at here .loop .inv .1
-    ∙ every-failed isLow (ps here) (e here) [] (some-left here) failed))
+    let failed = not-true _ (sym (tested here) ∙ c .if1 .taken) in
+    ap not (sym (low-degrees (now (args .g)) (now (args .h)) (now (args .target)) (now (args .pivot))
+    ∙ every-false isLow (ps here) (e here) [] (some-left here) failed))
 
 add-e : tie.Need-add-e Inv-loop μ-loop
 add-e c = search needs
@@ -132,17 +134,17 @@ loop-less c = search needs
 
 loop-again : tie.Need-loop-again Inv-loop μ-loop
 loop-again c =
-    let passed = sym (Bool·not-not _) ∙ ap not (sym (tested (c .before)) ∙ c .if1 .left) in
-    (omega arith, at (c .before) .loop .inv .1 ∙ every-passed isLow (ps (c .before)) (e (c .before)) [] (some-left (c .before)) passed)
+    let here = c .before in
+    let passed = not-false _ (sym (tested here) ∙ c .if1 .left) in
+    (omega arith, every-longer isLow (ps here) (e here) [] (some-left here) (at here .loop .inv .1) passed)
 
 returns-2 : tie.Need-returns-2 Inv-loop μ-loop
-unfolding every
 returns-2 c =
     let args = c .before .before .before .before .args in
     let all = polynomials (now (args .g)) (now (args .h)) (now (args .target)) (now (args .pivot)) in
     let none : length all ≤ c .before .loop .e = rw length-polynomials (c .loop-test .left) in
-    ap not (sym (low-degrees (now (args .g)) (now (args .h)) (now (args .target)) (now (args .pivot)) ∙ c .before .loop .inv .1
-    ∙ ap (every isLow) (drop-of-length-le all none)))
+    ap not (sym (low-degrees (now (args .g)) (now (args .h)) (now (args .target)) (now (args .pivot))
+    ∙ ap (every isLow) (sym (take-all (c .before .loop .e) all none)) ∙ c .before .loop .inv .1))
 
 pub past-degree-spec : {M : Type 1} → statement M
 past-degree-spec =

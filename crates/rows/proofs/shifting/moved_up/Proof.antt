@@ -2,11 +2,12 @@
 -- Assumes nothing.
 use mathlib.Core.Path.{_≡_, sym, _∙_, ap, ap₂, subst}
 use mathlib.Core.Logic.{⊎-elim}
-use mathlib.Core.Bool.{false, not, Bool·not-not}
+use mathlib.Core.Bool.{false, not}
 use mathlib.Core.List.{List}
 use Prim.Native.Nat.{ℕ, _+_, _*_, _≤_, _-_}
 use native.Mathlib.Omega.{arith}
 use borrow.Author.Needs.{needs}
+use borrow.Author.Tests.{not-false}
 use borrow.Rule.Slice.PartMut.{putMid}
 use denote.Ref.{now}
 use lib.Dec.{T}
@@ -54,7 +55,7 @@ module _ (c : tie.After-is-zero Inv-loop μ-loop) where
   p-skipped : not (c .is-zero .result) ≡ false → front full (e * 16) ≡ front full ((e + 1) * 16)
   p-skipped z =
       front-skip full e (omega (arith, full-long))
-      (subst T (sym (ap isZero p-shifted ∙ isZero-shift p ∙ sym (c .is-zero .ensures) ∙ sym (Bool·not-not _) ∙ ap not z)) tt)
+      (subst T (sym (ap isZero p-shifted ∙ isZero-shift p ∙ sym (c .is-zero .ensures) ∙ not-false _ z)) tt)
 
   p-put : (q : List ℤ) → q ≡ shift p
       → putMid (e * 16) (e * 16 + 16 - e * 16) (c .before .before .before .loop .moved) q ≡ front full ((e + 1) * 16)
