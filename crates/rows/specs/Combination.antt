@@ -12,7 +12,8 @@
 --   low-degrees, length-polynomials, trimmed-high   the twenty polynomials of a combination of rows, and which have a degree past 15
 --   length-low, trimmed-low, trimmed-zero   the 320 numbers of the low parts: each part, and those that are zero
 --   cut-low            the low parts are the cut of the combination
---   numbers-below      they are in the range of an i64
+--   combined-held      a combination within the limits is held by its numbers
+--   numbers-below      the numbers of the low parts are in the range of an i64
 use mathlib.Core.Path.{_≡_, refl, sym, _∙_, ap, ap₂, subst, fun-ext}
 use mathlib.Core.Logic.{_↔_, _≢_}
 use mathlib.Core.Bool.{Bool, true, false, _&&_}
@@ -26,6 +27,7 @@ use lib.IntN.{ℤ, pos, natAbs, _+ℤ_, _*ℤ_}
 use lib.ListN.{length, take, drop, getD, length-take, length-map, List·getD-map}
 use lib.Seq.{ext-getD, getD-take, length-take-le}
 use Rattle.algebra.specs.Integers.{natAbs-+ℤ}
+use Rattle.algebra.specs.Gcd.{content, divideBy, length-divideBy}
 use Rattle.algebra.specs.Sums.{range, sumBelow, length-range, getD-range}
 use Rattle.algebra.specs.Polynomials.{Polynomial, coeff, isZero, degree, add, mul, T-&&, isZero-cons, isZero-coeff, coeff-isZero}
 use Rattle.algebra.specs.Polynomials.{isZero-add, isZero-mul-right, length-add, length-scale}
@@ -34,10 +36,13 @@ use Rattle.algebra.specs.Coefficients.{degree-lt-length, mul-within}
 use Rattle.polynomials.specs.Content.{Below}
 use Rattle.polynomials.specs.Product.{product-size}
 use Rattle.rules.specs.Limits.{small}
-use Rattle.rules.specs.Rows.{Row, All, every, mapRow, coefficientsOf, combine, lowDegrees, cut}
-use Rattle.rules.specs.Stores.{parts, rowOf}
+use Rattle.rules.specs.Rows.{Row, All, every, mapRow, coefficientsOf, combine, primitive, lowDegrees, cut}
+use Rattle.rules.specs.Stores.{parts, rowOf, StoreRow}
+use Rattle.rules.specs.Elimination.{within, limitDegrees}
 use Rattle.rules.specs.Layout.{parts-length, parts-width, getD-parts}
 use Rattle.rows.specs.Flat.{polynomialsOf, polynomials-rowOf, polynomials-combine, numbers-mapRow, every-flatten, getD-default}
+use Rattle.rows.specs.Primitive.{polynomials-mapRow, degrees-within}
+use Rattle.rows.specs.Worked.{Held, held, store-row}
 use Rattle.rows.specs.Written.{every-take, every-drop, every-part, length-flatten, part-flatten}
 
 -- ---- tests and members of lists
@@ -190,17 +195,28 @@ unfolding mul
 length-mul-right [] p h = absurd (not-suc-le-zero h)
 length-mul-right (a ∷ g) p h = rw (length-add, length-scale) (omega arith)
 
-module _ (g h : Polynomial) (some : 0 < length g) where
-  -- Where the polynomials have 16 coefficients, the low part of the combination is its front.
-  low-front : (ps qs : List Polynomial) → All (λ p. length p ≡ 16) ps
-      → map lowPart (zipWith (λ p q. add (mul g p) (mul h q)) ps qs) ≡ map (take 16) (zipWith (λ p q. add (mul g p) (mul h q)) ps qs)
-  unfolding zipWith All
-  low-front [] qs w = refl
-  low-front (p ∷ ps) [] w = refl
-  low-front (p ∷ ps) (q ∷ qs) w = ap₂ _∷_ (lowPart-take (add (mul g p) (mul h q)) (long (w .0))) (low-front ps qs (w .1))
-    where
-      long : length p ≡ 16 → 16 ≤ length (add (mul g p) (mul h q))
-      long e = rw length-add (omega (arith, length-mul-right g p some))
+-- Polynomials of 16 coefficients have combinations of at least as many.
+long-sums : (g h : Polynomial) → 0 < length g → (ps qs : List Polynomial) → All (λ p. length p ≡ 16) ps
+    → All (λ p. 16 ≤ length p) (zipWith (λ p q. add (mul g p) (mul h q)) ps qs)
+unfolding zipWith All
+long-sums g h some [] qs w = tt
+long-sums g h some (p ∷ ps) [] w = tt
+long-sums g h some (p ∷ ps) (q ∷ qs) w = (long (w .0), long-sums g h some ps qs (w .1))
+  where
+    long : length p ≡ 16 → 16 ≤ length (add (mul g p) (mul h q))
+    long e = rw length-add (omega (arith, length-mul-right g p some))
+
+low-front : (ps : List Polynomial) → All (λ p. 16 ≤ length p) ps → map lowPart ps ≡ map (take 16) ps
+unfolding All
+low-front [] w = refl
+low-front (p ∷ ps) w = ap₂ _∷_ (lowPart-take p (w .0)) (low-front ps (w .1))
+
+-- A map that keeps lengths, and then the front.
+front-width : (f : Polynomial → Polynomial) → ((p : Polynomial) → length (f p) ≡ length p) → (ps : List Polynomial)
+    → All (λ p. 16 ≤ length p) ps → All (λ p. length p ≡ 16) (map (take 16) (map f ps))
+unfolding All
+front-width f e [] w = tt
+front-width f e (p ∷ ps) w = (length-take-le 16 (f p) (rw e (w .0)), front-width f e ps (w .1))
 
 below-append : (n : ℕ) (l m : List ℤ) → Below n l → Below n m → Below n (l ++ m)
 below-append n [] m h k i = k i
@@ -331,13 +347,40 @@ module _ (g h : Polynomial) (t u : List ℤ) where
 
   -- ---- the whole row
 
-  pub cut-low : 0 < length g → length t ≡ 320 → coefficientsOf (cut combination) ≡ coefficientsOf (mapRow lowPart combination)
-  unfolding cut combinations
-  cut-low some long =
-      numbers-mapRow (take 16) combination
-      ∙ ap (λ ps. flatten (map (take 16) ps)) polynomials-combination
-      ∙ ap flatten (sym (low-front g h some (parts 16 20 t) (parts 16 20 u) (parts-width 16 20 t (omega arith))))
-      ∙ sym numbers-low
+  module _ (some : 0 < length g) (long : length t ≡ 320) where
+    long-combinations : All (λ p. 16 ≤ length p) (combinations g h t u)
+    unfolding combinations
+    long-combinations = long-sums g h some (parts 16 20 t) (parts 16 20 u) (parts-width 16 20 t (omega arith))
+
+    pub cut-low : coefficientsOf (cut combination) ≡ coefficientsOf (mapRow lowPart combination)
+    unfolding cut
+    cut-low =
+        numbers-mapRow (take 16) combination
+        ∙ ap (λ ps. flatten (map (take 16) ps)) polynomials-combination
+        ∙ ap flatten (sym (low-front (combinations g h t u) long-combinations))
+        ∙ sym numbers-low
+
+    -- The row divided by d, cut to 16 coefficients.
+    StoreRow-cut : (f : Polynomial → Polynomial) → ((p : Polynomial) → length (f p) ≡ length p) → StoreRow (cut (mapRow f combination))
+    unfolding cut mapRow combine rowOf zipWith All
+    StoreRow-cut f e =
+        store-row (cut (mapRow f combination)) refl (refl, (refl, (refl, (refl, (refl, tt)))))
+        (subst (All (λ p. length p ≡ 16))
+        (sym (polynomials-mapRow (take 16) (mapRow f combination)
+        ∙ ap (map (take 16)) (polynomials-mapRow f combination ∙ ap (map f) polynomials-combination)))
+        (front-width f e (combinations g h t u) long-combinations))
+
+    StoreRow-primitive : StoreRow (cut (primitive combination))
+    unfolding primitive mapRow combine rowOf zipWith
+    StoreRow-primitive = go (content (coefficientsOf combination))
+      where
+        go : (d : ℕ) → StoreRow (cut (elim d [ zero ↦ combination | suc e ↦ mapRow (divideBy (suc e)) combination ]))
+        go zero = StoreRow-cut (λ p. p) (λ p. refl)
+        go (suc d) = StoreRow-cut (divideBy (suc d)) (length-divideBy (suc d))
+
+    -- A combination within the limits is held by its numbers.
+    pub combined-held : (r : Row) → limitDegrees (primitive combination) ≡ within r → Held r
+    combined-held r e = held (cut (primitive combination)) r StoreRow-primitive (degrees-within (primitive combination) r e)
 
   pub numbers-below : (length g ≤ 16) × (length h ≤ 16) × T (every small g) × T (every small h) × T (every small t) × T (every small u)
       → Below (2 ^ 63) (coefficientsOf (mapRow lowPart combination))

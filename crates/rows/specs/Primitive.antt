@@ -9,8 +9,9 @@
 --   degree-kept           the division does not change which polynomials have degrees up to 15
 --   cut-primitive         where all have, the row may be cut to 16 coefficients before the division
 --   limit-past, limit-low the answer for a row whose degrees pass 15, and for one whose degrees do not
+--   degrees-within        a row within both limits is within that of the coefficients
 use mathlib.Core.Path.{_≡_, refl, sym, _∙_, ap, ap₂, subst}
-use mathlib.Core.Bool.{Bool, true, false, _&&_}
+use mathlib.Core.Bool.{Bool, true, false, _&&_, cond}
 use mathlib.Core.List.{List, [], _∷_, _++_, map, flatten}
 use Prim.Native.Nat.{ℕ, zero, suc, _≤_, _<_, _∣_}
 use native.Mathlib.Nat.{zero-lt-suc, dvd-refl, dvd-trans}
@@ -24,7 +25,7 @@ use Rattle.algebra.specs.Gcd.{dividesAll-of-content, isZero-divideBy, divideBy-
 use Rattle.algebra.specs.Polynomials.{Polynomial, isZero, T-&&}
 use Rattle.polynomials.specs.Content.{Below}
 use Rattle.rules.specs.Rows.{Row, every, mapRow, coefficientsOf, primitive, lowDegrees, cut}
-use Rattle.rules.specs.Elimination.{limitCoefficients, limitDegrees}
+use Rattle.rules.specs.Elimination.{within, beyond, limitCoefficients, limitDegrees}
 use Rattle.rows.specs.Flat.{polynomialsOf, every-flatten, flatten-map, numbers-mapRow}
 use Rattle.rows.specs.Worked.{Shown, refusalOf, numbersOf}
 
@@ -97,7 +98,7 @@ lowDegrees-every : (r : Row) → lowDegrees r ≡ every isLow (polynomialsOf r)
 unfolding lowDegrees
 lowDegrees-every r = sym (every-flatten isLow (r .blocks))
 
-polynomials-mapRow : (f : Polynomial → Polynomial) (r : Row) → polynomialsOf (mapRow f r) ≡ map f (polynomialsOf r)
+pub polynomials-mapRow : (f : Polynomial → Polynomial) (r : Row) → polynomialsOf (mapRow f r) ≡ map f (polynomialsOf r)
 unfolding mapRow
 polynomials-mapRow f r = flatten-map f (r .blocks)
 
@@ -176,3 +177,11 @@ limit-past r e = rw (degree-kept r, e) (refl, refl)
 pub limit-low : (r : Row) → lowDegrees r ≡ true → limitDegrees (primitive r) ≡ limitCoefficients (cut (primitive r))
 unfolding limitDegrees
 limit-low r e = rw (degree-kept r, e)
+
+pub degrees-within : (q r : Row) → limitDegrees q ≡ within r → limitCoefficients (cut q) ≡ within r
+unfolding limitDegrees
+degrees-within q r e = go (lowDegrees q) e
+  where
+    go : (t : Bool) → cond t (limitCoefficients (cut q)) (beyond 7) ≡ within r → limitCoefficients (cut q) ≡ within r
+    go true h = h
+    go false h = let impossible : _≡_ {A = ℕ} 0 1 = cc in absurd (omega arith)
