@@ -1,32 +1,49 @@
 -- The combination g·p + h·q of polynomials and of rows as the code makes it.
 --
 -- Main definitions
---   trim p             p without the zeros past its highest nonzero coefficient
+--   trim p             the coefficients of p up to the highest nonzero one
 --   lowPart p          the first 16 coefficients
 --
 -- Main statements
---   combined-trim      trimmed polynomials have the same combination
+--   combined-trim      trimmed polynomials have a combination with the same coefficients
+--   trim-fits, trim-part-fits   a trimmed polynomial, and a trimmed part of a row, within the limits
+--   lowPart-at, lowPart-take    coefficient k of the low part; the low part is the front where there are 16 coefficients
+--   high-free, high-found       the test of the coefficients past power 15
+--   low-degrees, length-polynomials, trimmed-high   the twenty polynomials of a combination of rows, and which have a degree past 15
+--   length-low, trimmed-low, trimmed-zero   the 320 numbers of the low parts: each part, and those that are zero
+--   cut-low            the low parts are the cut of the combination
+--   combined-held      a combination within the limits is held by its numbers
+--   numbers-below      the numbers of the low parts are in the range of an i64
 use mathlib.Core.Path.{_≡_, refl, sym, _∙_, ap, ap₂, subst, fun-ext}
 use mathlib.Core.Logic.{_↔_, _≢_}
-use mathlib.Core.Bool.{Bool, true, false, _&&_, not}
+use mathlib.Core.Bool.{Bool, true, false, _&&_}
 use mathlib.Core.List.{List, [], _∷_, _++_, map, flatten, zipWith, append-nil}
-use Prim.Native.Nat.{ℕ, zero, suc, _+_, _*_, _-_, _≤_, _<_, max}
+use Prim.Native.Nat.{ℕ, zero, suc, _+_, _*_, _-_, _^_, _≤_, _<_, max}
 use native.Mathlib.Nat.{not-suc-le-zero, le-of-suc-le-suc, le-trans, zero-add}
 use native.Mathlib.Omega.{arith}
 use native.Mathlib.Decide.{decLe, decLt}
-use lib.Dec.{T}
+use lib.Dec.{T, lit<}
 use lib.IntN.{ℤ, pos, natAbs, _+ℤ_, _*ℤ_}
-use lib.ListN.{length, take, drop, getD, length-take, length-map}
+use lib.ListN.{length, take, drop, getD, length-take, length-map, List·getD-map}
 use lib.Seq.{ext-getD, getD-take, length-take-le}
-use Rattle.rules.specs.Limits.{small}
-use Rattle.rules.specs.Rows.{Row, All, every, mapRow, coefficientsOf, combine, lowDegrees}
-use Rattle.rules.specs.Stores.{parts, rowOf}
-use Rattle.rules.specs.Layout.{parts-length, getD-parts}
-use Rattle.rows.specs.Flat.{polynomialsOf, polynomials-rowOf, polynomials-combine, numbers-mapRow, every-flatten}
-use Rattle.rows.specs.Worked.{every-take, every-part, length-flatten, part-flatten}
+use Rattle.algebra.specs.Integers.{natAbs-+ℤ}
+use Rattle.algebra.specs.Gcd.{content, divideBy, length-divideBy}
 use Rattle.algebra.specs.Sums.{range, sumBelow, length-range, getD-range}
-use Rattle.algebra.specs.Polynomials.{Polynomial, coeff, isZero, degree, add, mul, T-&&, isZero-cons, isZero-coeff, coeff-isZero, isZero-add, isZero-mul-right}
-use Rattle.algebra.specs.Coefficients.{coeff-add, coeff-mul, coeff-take, coeff-drop, coeff-past-length, coeff-past-degree, degree-lt-length, mul-within}
+use Rattle.algebra.specs.Polynomials.{Polynomial, coeff, isZero, degree, add, mul, T-&&, isZero-cons, isZero-coeff, coeff-isZero}
+use Rattle.algebra.specs.Polynomials.{isZero-add, isZero-mul-right, length-add, length-scale}
+use Rattle.algebra.specs.Coefficients.{coeff-add, coeff-mul, coeff-take, coeff-drop, coeff-past-length, coeff-past-degree}
+use Rattle.algebra.specs.Coefficients.{degree-lt-length, mul-within}
+use Rattle.polynomials.specs.Content.{Below}
+use Rattle.polynomials.specs.Product.{product-size}
+use Rattle.rules.specs.Limits.{small}
+use Rattle.rules.specs.Rows.{Row, All, every, mapRow, coefficientsOf, combine, primitive, lowDegrees, cut}
+use Rattle.rules.specs.Stores.{parts, rowOf, StoreRow}
+use Rattle.rules.specs.Elimination.{within, limitDegrees}
+use Rattle.rules.specs.Layout.{parts-length, parts-width, getD-parts}
+use Rattle.rows.specs.Flat.{polynomialsOf, polynomials-rowOf, polynomials-combine, numbers-mapRow, every-flatten, getD-default}
+use Rattle.rows.specs.Primitive.{polynomials-mapRow, degrees-within}
+use Rattle.rows.specs.Worked.{Held, held, store-row}
+use Rattle.rows.specs.Written.{every-take, every-drop, every-part, length-flatten, part-flatten}
 
 -- ---- tests and members of lists
 
@@ -45,9 +62,7 @@ test-false true h = absurd (h tt)
 test-false false h = refl
 
 getD-map : {A B : Type 0} (f : A → B) (l : List A) (i : ℕ) (d : A) (e : B) → i < length l → getD (map f l) i e ≡ f (getD l i d)
-getD-map f [] i d e h = absurd (not-suc-le-zero h)
-getD-map f (x ∷ l) zero d e h = refl
-getD-map f (x ∷ l) (suc i) d e h = getD-map f l i d e (le-of-suc-le-suc h)
+getD-map f l i d e h = getD-default (map f l) i e (f d) (rw length-map h) ∙ List·getD-map f l i d
 
 getD-zipWith : {A B C : Type 0} (f : A → B → C) (l : List A) (m : List B) (i : ℕ) (a : A) (b : B) (c : C) → i < length l → i < length m
     → getD (zipWith f l m) i c ≡ f (getD l i a) (getD m i b)
@@ -172,6 +187,76 @@ module _ (g p h q : Polynomial) where
   pub high-found : (k : ℕ) → 16 ≤ k → coeff sum k ≢ pos 0 → isZero (drop 16 sum) ≡ false
   high-found k l n = test-false _ (λ z. n (high-zero sum .0 z k l))
 
+-- ---- lengths and sizes
+
+-- A product has at least the coefficients of its second factor, if there is a first.
+length-mul-right : (g p : Polynomial) → 0 < length g → length p ≤ length (mul g p)
+unfolding mul
+length-mul-right [] p h = absurd (not-suc-le-zero h)
+length-mul-right (a ∷ g) p h = rw (length-add, length-scale) (omega arith)
+
+-- Polynomials of 16 coefficients have combinations of at least as many.
+long-sums : (g h : Polynomial) → 0 < length g → (ps qs : List Polynomial) → All (λ p. length p ≡ 16) ps
+    → All (λ p. 16 ≤ length p) (zipWith (λ p q. add (mul g p) (mul h q)) ps qs)
+unfolding zipWith All
+long-sums g h some [] qs w = tt
+long-sums g h some (p ∷ ps) [] w = tt
+long-sums g h some (p ∷ ps) (q ∷ qs) w = (long (w .0), long-sums g h some ps qs (w .1))
+  where
+    long : length p ≡ 16 → 16 ≤ length (add (mul g p) (mul h q))
+    long e = rw length-add (omega (arith, length-mul-right g p some))
+
+low-front : (ps : List Polynomial) → All (λ p. 16 ≤ length p) ps → map lowPart ps ≡ map (take 16) ps
+unfolding All
+low-front [] w = refl
+low-front (p ∷ ps) w = ap₂ _∷_ (lowPart-take p (w .0)) (low-front ps (w .1))
+
+-- A map that keeps lengths, and then the front.
+front-width : (f : Polynomial → Polynomial) → ((p : Polynomial) → length (f p) ≡ length p) → (ps : List Polynomial)
+    → All (λ p. 16 ≤ length p) ps → All (λ p. length p ≡ 16) (map (take 16) (map f ps))
+unfolding All
+front-width f e [] w = tt
+front-width f e (p ∷ ps) w = (length-take-le 16 (f p) (rw e (w .0)), front-width f e ps (w .1))
+
+below-append : (n : ℕ) (l m : List ℤ) → Below n l → Below n m → Below n (l ++ m)
+below-append n [] m h k i = k i
+below-append n (a ∷ l) m h k zero = h 0
+below-append n (a ∷ l) m h k (suc i) = below-append n l m (λ j. h (suc j)) k i
+
+below-map : {A : Type 0} (n : ℕ) → 0 < n → (f : A → ℤ) → ((x : A) → natAbs (f x) < n) → (l : List A) → Below n (map f l)
+below-map n some f h [] k = some
+below-map n some f h (x ∷ l) zero = h x
+below-map n some f h (x ∷ l) (suc k) = below-map n some f h l k
+
+small-parts : (n : ℕ) (l : List ℤ) → T (every small l) → All (λ p. T (every small p)) (parts 16 n l)
+unfolding parts All
+small-parts zero l s = tt
+small-parts (suc n) l s = (every-take small 16 l s, small-parts n (drop 16 l) (every-drop small 16 l s))
+
+module _ (g h : Polynomial) (short-g : length g ≤ 16) (short-h : length h ≤ 16) (small-g : T (every small g))
+    (small-h : T (every small h)) where
+  -- |coefficient| ≤ 32·C² < 2^63
+  coefficient-below : (p q : Polynomial) → T (every small p) → T (every small q) → (k : ℕ)
+      → natAbs (coeff (add (mul g p) (mul h q)) k) < 2 ^ 63
+  coefficient-below p q s t k =
+      rw coeff-add
+      (omega (
+        arith,
+        natAbs-+ℤ (coeff (mul g p) k) (coeff (mul h q) k),
+        product-size g p small-g s k 16 short-g,
+        product-size h q small-h t k 16 short-h,
+      ))
+
+  low-below : (ps qs : List Polynomial) → All (λ p. T (every small p)) ps → All (λ p. T (every small p)) qs
+      → Below (2 ^ 63) (flatten (map lowPart (zipWith (λ p q. add (mul g p) (mul h q)) ps qs)))
+  unfolding zipWith All flatten lowPart
+  low-below [] qs s t k = lit< tt
+  low-below (p ∷ ps) [] s t k = lit< tt
+  low-below (p ∷ ps) (q ∷ qs) s t k =
+      below-append (2 ^ 63) (lowPart (add (mul g p) (mul h q))) (flatten (map lowPart (zipWith (λ p q. add (mul g p) (mul h q)) ps qs)))
+      (below-map (2 ^ 63) (lit< tt) (coeff (add (mul g p) (mul h q))) (coefficient-below p q (s .0) (t .0)) (range 0 16))
+      (low-below ps qs (s .1) (t .1)) k
+
 -- ---- combinations of rows
 
 -- The polynomials of a combination of two rows that are held by numbers.
@@ -245,7 +330,9 @@ module _ (g h : Polynomial) (t u : List ℤ) where
         ∙ ap (λ m. coeff (add (mul g (take m (drop (e * 16) t))) (mul h (take m (drop (e * 16) u)))) k) width
 
     pub trimmed-high : isZero (drop 16 (add (mul a p) (mul b q))) ≡ isZero (drop 16 (getD (polynomialsOf combination) e []))
-    trimmed-high = high-same (add (mul a p) (mul b q)) (entryAt e) trimmed-same ∙ ap (λ r. isZero (drop 16 r)) (sym (combination-at e below))
+    trimmed-high =
+        high-same (add (mul a p) (mul b q)) (entryAt e) trimmed-same
+        ∙ ap (λ r. isZero (drop 16 r)) (sym (combination-at e below))
 
     pub trimmed-low : lowPart (add (mul a p) (mul b q)) ≡ take 16 (drop (e * 16) (coefficientsOf (mapRow lowPart combination)))
     trimmed-low = lowPart-same (add (mul a p) (mul b q)) (entryAt e) trimmed-same ∙ sym (low-part e below)
@@ -255,4 +342,49 @@ module _ (g h : Polynomial) (t u : List ℤ) where
     trimmed-zero z =
         let both = T-&& (isZero p) (isZero q) .0 (subst T (sym z) tt) in
         subst (λ l. T (isZero l)) trimmed-low
-        (lowPart-zero (add (mul a p) (mul b q)) (isZero-add (mul a p) (mul b q) (isZero-mul-right a p (both .0)) (isZero-mul-right b q (both .1))))
+        (lowPart-zero (add (mul a p) (mul b q))
+        (isZero-add (mul a p) (mul b q) (isZero-mul-right a p (both .0)) (isZero-mul-right b q (both .1))))
+
+  -- ---- the whole row
+
+  module _ (some : 0 < length g) (long : length t ≡ 320) where
+    long-combinations : All (λ p. 16 ≤ length p) (combinations g h t u)
+    unfolding combinations
+    long-combinations = long-sums g h some (parts 16 20 t) (parts 16 20 u) (parts-width 16 20 t (omega arith))
+
+    pub cut-low : coefficientsOf (cut combination) ≡ coefficientsOf (mapRow lowPart combination)
+    unfolding cut
+    cut-low =
+        numbers-mapRow (take 16) combination
+        ∙ ap (λ ps. flatten (map (take 16) ps)) polynomials-combination
+        ∙ ap flatten (sym (low-front (combinations g h t u) long-combinations))
+        ∙ sym numbers-low
+
+    -- The row divided by d, cut to 16 coefficients.
+    StoreRow-cut : (f : Polynomial → Polynomial) → ((p : Polynomial) → length (f p) ≡ length p) → StoreRow (cut (mapRow f combination))
+    unfolding cut mapRow combine rowOf zipWith All
+    StoreRow-cut f e =
+        store-row (cut (mapRow f combination)) refl (refl, (refl, (refl, (refl, (refl, tt)))))
+        (subst (All (λ p. length p ≡ 16))
+        (sym (polynomials-mapRow (take 16) (mapRow f combination)
+        ∙ ap (map (take 16)) (polynomials-mapRow f combination ∙ ap (map f) polynomials-combination)))
+        (front-width f e (combinations g h t u) long-combinations))
+
+    StoreRow-primitive : StoreRow (cut (primitive combination))
+    unfolding primitive mapRow combine rowOf zipWith
+    StoreRow-primitive = go (content (coefficientsOf combination))
+      where
+        go : (d : ℕ) → StoreRow (cut (elim d [ zero ↦ combination | suc e ↦ mapRow (divideBy (suc e)) combination ]))
+        go zero = StoreRow-cut (λ p. p) (λ p. refl)
+        go (suc d) = StoreRow-cut (divideBy (suc d)) (length-divideBy (suc d))
+
+    -- A combination within the limits is held by its numbers.
+    pub combined-held : (r : Row) → limitDegrees (primitive combination) ≡ within r → Held r
+    combined-held r e = held (cut (primitive combination)) r StoreRow-primitive (degrees-within (primitive combination) r e)
+
+  pub numbers-below : (length g ≤ 16) × (length h ≤ 16) × T (every small g) × T (every small h) × T (every small t) × T (every small u)
+      → Below (2 ^ 63) (coefficientsOf (mapRow lowPart combination))
+  unfolding combinations
+  numbers-below s =
+      subst (Below (2 ^ 63)) (sym numbers-low)
+      (low-below g h (s .0) (s .1) (s .2) (s .3) (parts 16 20 t) (parts 16 20 u) (small-parts 20 t (s .4)) (small-parts 20 u (s .5)))

@@ -3,7 +3,9 @@
 -- Main statements
 --   polynomials-rowOf     the polynomials of the row held by a list of numbers are its parts of 16
 --   zeroRow-numbers       a row is zero exactly if its numbers are
+--   smallRow-rowOf        a row's coefficients are within ±C exactly if its numbers are
 --   every-longer          one member more that passes a test
+--   every-from-at, every-from-all   the members from a place on pass exactly if each does
 --   block-at, zeroBlock-at, entry-at   the place of a block, its zero test, and the place of a leading entry
 --   numbers-mapRow        the numbers of a row with f applied to each polynomial
 --   numbers-combine       the numbers of a combination with f applied to each polynomial
@@ -11,18 +13,20 @@
 use mathlib.Core.Path.{_≡_, refl, sym, _∙_, ap, ap₂}
 use mathlib.Core.Bool.{Bool, true, false, _&&_, and-assoc, false≢true}
 use mathlib.Core.List.{List, [], _∷_, _++_, map, flatten, zipWith}
-use Prim.Native.Nat.{ℕ, zero, suc, _+_, _*_, _-_, _≤_, _<_}
-use native.Mathlib.Nat.{suc-mul, zero-mul, zero-add, suc-add, add-comm, le-refl, suc-ne-zero, suc-inj, not-suc-le-zero, le-of-suc-le-suc}
+use Prim.Native.Nat.{ℕ, zero, suc, _+_, _*_, _-_, _≤_, _<_, zero-le, suc-le-suc}
+use native.Mathlib.Nat.{suc-mul, zero-mul, zero-add, suc-add, add-comm, suc-ne-zero, suc-inj}
+use native.Mathlib.Nat.{le-refl, not-suc-le-zero, le-of-suc-le-suc, zero-lt-suc}
 use native.Mathlib.Numerals.{add-one}
 use native.Mathlib.Omega.{arith}
 use lib.ListN.{length, take, drop, getD, length-map, List·getD-append, List·getD-map}
 use lib.Seq.{take-take, take-suc, drop-drop, take-nil, getD-append-add}
-use lib.Dec.{lit<}
+use lib.Dec.{T, lit<}
 use lib.IntN.{ℤ}
-use Rattle.algebra.specs.Polynomials.{Polynomial, isZero, isZeroℤ, isZero-append, add, mul}
-use Rattle.rules.specs.Rows.{Row, All, every, zeroBlock, zeroRow, leadingBlock, entry, mapRow, combine, coefficientsOf}
+use Rattle.algebra.specs.Polynomials.{Polynomial, isZero, isZeroℤ, isZero-append, T-&&, add, mul}
+use Rattle.rules.specs.Limits.{small}
+use Rattle.rules.specs.Rows.{Row, All, every, zeroBlock, zeroRow, leadingBlock, entry, mapRow, combine, smallRow, coefficientsOf}
 use Rattle.rules.specs.Stores.{parts, rowOf}
-use Rattle.rules.specs.Layout.{parts-length, flatten-parts, getD-parts, polynomial-at-row}
+use Rattle.rules.specs.Layout.{parts-length, flatten-parts, getD-parts, polynomial-at-row, coefficientsOf-rowOf-all}
 
 abbrev pub polynomialsOf : Row → List Polynomial
 polynomialsOf r = flatten (r .blocks)
@@ -90,6 +94,26 @@ every-longer t l i d h passed next =
     ap (λ n. every t (take n l)) (add-one i) ∙ ap (every t) (take-suc l i d h) ∙ every-append t (take i l) (getD l i d ∷ [])
     ∙ ap₂ (λ a b. a && (b && true)) passed next
 
+-- The members from place n on.
+module _ {A : Type 0} (t : A → Bool) where
+  pub every-from-at : (l : List A) (d : A) (n : ℕ) → T (every t (drop n l)) → (i : ℕ) → n ≤ i → i < length l → T (t (getD l i d))
+  unfolding every
+  every-from-at [] d n h i low high = absurd (not-suc-le-zero high)
+  every-from-at (x ∷ l) d zero h zero low high = T-&& (t x) (every t l) .0 h .0
+  every-from-at (x ∷ l) d zero h (suc i) low high =
+      every-from-at l d zero (T-&& (t x) (every t l) .0 h .1) i zero-le (le-of-suc-le-suc high)
+  every-from-at (x ∷ l) d (suc n) h zero low high = absurd (not-suc-le-zero low)
+  every-from-at (x ∷ l) d (suc n) h (suc i) low high = every-from-at l d n h i (le-of-suc-le-suc low) (le-of-suc-le-suc high)
+
+  pub every-from-all : (l : List A) (d : A) (n : ℕ) → ((i : ℕ) → n ≤ i → i < length l → T (t (getD l i d))) → T (every t (drop n l))
+  unfolding every
+  every-from-all [] d zero h = tt
+  every-from-all [] d (suc n) h = tt
+  every-from-all (x ∷ l) d zero h =
+      T-&& (t x) (every t l) .1
+      (h 0 zero-le (zero-lt-suc (length l)), every-from-all l d zero (λ i _ high. h (suc i) zero-le (suc-le-suc high)))
+  every-from-all (x ∷ l) d (suc n) h = every-from-all l d n (λ i low high. h (suc i) (suc-le-suc low) (suc-le-suc high))
+
 pub isZero-every : (p : Polynomial) → isZero p ≡ every isZeroℤ p
 unfolding isZero every
 isZero-every [] = refl
@@ -103,6 +127,10 @@ isZero-flatten (p ∷ ps) = isZero-append p (flatten ps) ∙ ap (λ b. isZero p 
 pub zeroRow-numbers : (r : Row) → zeroRow r ≡ isZero (coefficientsOf r)
 unfolding zeroRow zeroBlock coefficientsOf
 zeroRow-numbers r = sym (isZero-flatten (polynomialsOf r) ∙ every-flatten isZero (r .blocks))
+
+pub smallRow-rowOf : (l : List ℤ) → length l ≡ 320 → smallRow (rowOf l) ≡ every small l
+unfolding smallRow
+smallRow-rowOf l h = ap (every small) (coefficientsOf-rowOf-all l h)
 
 -- ---- zero tests by places
 

@@ -1,16 +1,18 @@
 // Rule 4: a combination of two rows, its division by the content and its limits.
 ghost use mathlib.Core.Path.{_≡_};
 ghost use mathlib.Core.Bool.{not, _&&_};
-ghost use Prim.Native.Nat.{_+_, _≤_, _<_, max};
+ghost use Prim.Native.Nat.{_+_, _^_, _≤_, _<_, max};
 ghost use lib.Dec.{T};
 ghost use lib.ListN.{length, drop};
 ghost use Rattle.algebra.specs.Polynomials.{isZero, degree, add, mul};
 ghost use Rattle.rules.specs.Limits.{small};
-ghost use Rattle.rules.specs.Rows.{every, lowDegrees, combine, mapRow, coefficientsOf};
+ghost use Rattle.rules.specs.Rows.{every, lowDegrees, combine, primitive, mapRow, coefficientsOf};
 ghost use Rattle.rules.specs.Stores.{rowOf};
-ghost use Rattle.rules.specs.Elimination.{limitCoefficients};
+ghost use Rattle.rules.specs.Elimination.{limitCoefficients, limitDegrees};
 ghost use Rattle.rows.specs.Worked.{refusalOf, numbersOf};
 ghost use Rattle.rows.specs.Combination.{trim, lowPart};
+ghost use Rattle.rows.specs.Primitive.{primitiveNumbers};
+ghost use Rattle.polynomials.specs.Content.{Below};
 
 // A new row, or the number of the limit that it breaks and zeros.
 pub struct Worked {
@@ -18,25 +20,12 @@ pub struct Worked {
     pub row: [i64; 320],
 }
 
-// "every coefficient within ±C"
-pub fn every_small(numbers: &[i64]) -> bool
-    ensures { λ r. ⌜ r ≡ every small (now (numbers .entry)) ⌝ }
-{
-    let mut i = 0;
-    while i < numbers.len() {
-        if !integers::within_bound(numbers[i]) {
-            return false;
-        }
-        i += 1;
-    }
-    true
-}
-
 // "a coefficient outside ±C is refusal 8"
 pub fn limited(row: [i64; 320]) -> Worked
-    ensures { λ r. ⌜ (r .refusal ≡ refusalOf (limitCoefficients (rowOf row))) × (r .row ≡ numbersOf (limitCoefficients (rowOf row))) ⌝ }
+    ensures { λ r. ⌜ r .refusal ≡ refusalOf (limitCoefficients (rowOf row)) ⌝ }
+    ensures { λ r. ⌜ r .row ≡ numbersOf (limitCoefficients (rowOf row)) ⌝ }
 {
-    if every_small(&row[..]) {
+    if crate::checks::all_small(&row[..]) {
         Worked { refusal: 0, row }
     } else {
         Worked {
@@ -143,4 +132,34 @@ fn low_combination(g: &[i64], h: &[i64], target: &[i64], pivot: &[i64]) -> [i64;
         e += 1;
     }
     row
+}
+
+// "divided by the greatest positive whole number dividing all its coefficients (a zero row is not divided)"
+fn primitive_part(row: [i64; 320]) -> [i64; 320]
+    requires { ⌜ Below (2 ^ 63) row ⌝ }
+    ensures { λ r. ⌜ r ≡ primitiveNumbers row ⌝ }
+{
+    let mut numbers = row;
+    let d = polynomials::content::content(&numbers);
+    if 1 < d {
+        polynomials::content::divide_in_place(&mut numbers, d as i64);
+    }
+    numbers
+}
+
+// "Row i becomes g × row i + h × row j, divided by [..]. Then a degree past 15: refusal 7; otherwise a coefficient outside
+// ±C: refusal 8." The division does not change a degree, so the degrees are looked at first.
+pub fn combined(g: &[i64], h: &[i64], target: [i64; 320], pivot: [i64; 320]) -> Worked
+    requires { ⌜ (length (now g) ≡ 16) × T (every small (now g)) × (length (now h) ≡ 16) × T (every small (now h)) ⌝ }
+    requires { ⌜ T (every small target) × T (every small pivot) ⌝ }
+    ensures { λ r. ⌜ r .refusal ≡ refusalOf (limitDegrees (primitive (combine (now (g .entry)) (now (h .entry)) (rowOf target) (rowOf pivot)))) ⌝ }
+    ensures { λ r. ⌜ r .row ≡ numbersOf (limitDegrees (primitive (combine (now (g .entry)) (now (h .entry)) (rowOf target) (rowOf pivot)))) ⌝ }
+{
+    if past_degree(g, h, &target[..], &pivot[..]) {
+        return Worked {
+            refusal: 7,
+            row: [0; 320],
+        };
+    }
+    limited(primitive_part(low_combination(g, h, &target[..], &pivot[..])))
 }

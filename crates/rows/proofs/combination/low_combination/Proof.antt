@@ -1,20 +1,21 @@
 -- `rows::combination::low_combination` meets its contract. The loop's invariant: the first e polynomials are written, and the others are zero.
 -- Assumes nothing.
-use mathlib.Core.Path.{_≡_, refl, sym, _∙_, ap, ap₂}
+use mathlib.Core.Path.{_≡_, sym, _∙_, ap, ap₂}
 use mathlib.Core.Logic.{⊎-elim}
-use mathlib.Core.Bool.{true, false, not, Bool·not-not}
+use mathlib.Core.Bool.{false, not}
 use mathlib.Core.List.{List}
 use Prim.Native.Nat.{ℕ, _+_, _*_, _≤_, _-_}
 use native.Mathlib.Omega.{arith}
 use borrow.Author.Needs.{needs}
+use borrow.Author.Tests.{not-false}
 use borrow.Rule.Slice.PartMut.{putMid}
 use denote.Ref.{now}
 use lib.IntN.{ℤ, pos}
-use lib.ListN.{length, take, drop, replicate}
-use Rattle.algebra.specs.Polynomials.{Polynomial, isZero, add, mul}
+use lib.ListN.{length, replicate}
+use Rattle.algebra.specs.Polynomials.{Polynomial, add, mul}
 use Rattle.rules.specs.Rows.{combine, mapRow, coefficientsOf}
 use Rattle.rules.specs.Stores.{rowOf}
-use Rattle.rows.specs.Worked.{front, length-front, front-none, front-whole, front-put, front-skip}
+use Rattle.rows.specs.Written.{front, length-front, front-none, front-whole, front-put, front-skip}
 use Rattle.rows.specs.Combination.{lowPart, trim-fits, trim-part-fits, length-low, trimmed-low, trimmed-zero}
 use Rattle.rows.proofs.combination.low_combination.Statement.{statement}
 use Rattle.rows.proofs.combination.low_combination.Tie as tie
@@ -60,7 +61,7 @@ module _ (c : tie.After-both-zero Inv-loop μ-loop) where
       (trimmed-zero (now (start .args .g)) (now (start .args .h)) (now (start .args .target)) (now (start .args .pivot)) e
       (c .before .before .before .before .before .loop-test .taken) width (omega arith) _ p _ q
       (at .before .before .trimmed .ensures) (at .before .trimmed2 .ensures) (c .before .before .before .trimmed3 .ensures)
-      (c .before .trimmed4 .ensures) (sym (c .both-zero .ensures) ∙ sym (Bool·not-not _) ∙ ap not z))
+      (c .before .trimmed4 .ensures) (sym (c .both-zero .ensures) ∙ not-false _ z))
 
   put : (r : List ℤ) → r ≡ lowPart (add (mul (now (at .before .before .trimmed .result)) p) (mul (now (at .before .trimmed2 .result)) q))
       → putMid (e * 16) width (at .loop .row) r ≡ front full ((e + 1) * 16)
@@ -143,8 +144,10 @@ put-combined-requires c κs =
     let args = start here .args in
     let a = trim-fits (now (args .g)) _ (at here .before .before .trimmed .ensures) (omega arith) (pre .0 .1) in
     let b = trim-fits (now (args .h)) _ (at here .before .trimmed2 .ensures) (omega arith) (pre .0 .3) in
-    let p = trim-part-fits (now (args .target)) (e here * 16) (width here) _ (here .before .before .before .trimmed3 .ensures) (omega arith) (pre .1 .1) in
-    let q = trim-part-fits (now (args .pivot)) (e here * 16) (width here) _ (here .before .trimmed4 .ensures) (omega arith) (pre .1 .3) in
+    let from = e here * 16 in
+    let sixteen : width here ≡ 16 = omega arith in
+    let p = trim-part-fits (now (args .target)) from (width here) _ (here .before .before .before .trimmed3 .ensures) sixteen (pre .1 .1) in
+    let q = trim-part-fits (now (args .pivot)) from (width here) _ (here .before .trimmed4 .ensures) sixteen (pre .1 .3) in
     (search needs, ((a .0, a .1, p .1), (b .0, b .1, q .1)))
 
 add-e : tie.Need-add-e Inv-loop μ-loop

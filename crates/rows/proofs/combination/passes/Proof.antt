@@ -1,6 +1,6 @@
 -- `rows::combination::passes` meets its contract. The loop's invariant: the coefficients from power 16 on, below k, are zero.
 -- Assumes nothing.
-use mathlib.Core.Path.{_≡_, refl, sym, _∙_, ap}
+use mathlib.Core.Path.{_≡_, sym, _∙_, ap}
 use mathlib.Core.Bool.{not}
 use Prim.Native.Nat.{ℕ, _+_, _≤_, _<_, _-_}
 use native.Mathlib.Omega.{arith}
@@ -8,8 +8,7 @@ use borrow.Author.Count.{below-more}
 use borrow.Author.Needs.{needs, sfits-of}
 use denote.Ref.{now}
 use lib.IntN.{pos}
-use lib.ListN.{length}
-use Rattle.algebra.specs.Polynomials.{Polynomial, coeff, degree, add, mul}
+use Rattle.algebra.specs.Polynomials.{coeff, add, mul}
 use Rattle.polynomials.specs.Content.{zero-bits, nonzero-bits}
 use Rattle.rows.specs.Combination.{degree-below, high-free, high-found}
 use Rattle.rows.proofs.combination.passes.Statement.{statement}

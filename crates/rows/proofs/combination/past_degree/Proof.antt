@@ -1,21 +1,22 @@
--- `rows::combination::past_degree` meets its contract. The loop's invariant: the polynomials from place e on tell whether all have degrees
--- up to 15.
+-- `rows::combination::past_degree` meets its contract. The loop's invariant: the first e polynomials have degrees up to 15.
 -- Assumes nothing.
-use mathlib.Core.Path.{_≡_, refl, sym, _∙_, ap, subst}
-use mathlib.Core.Bool.{Bool, false, not, Bool·not-not}
+use mathlib.Core.Path.{_≡_, sym, _∙_, ap}
+use mathlib.Core.Bool.{Bool, true, not}
 use mathlib.Core.List.{List, []}
 use Prim.Native.Nat.{ℕ, _+_, _*_, _≤_, _<_, _-_}
 use native.Mathlib.Omega.{arith}
 use borrow.Author.Needs.{needs}
+use borrow.Author.Tests.{not-true, not-false}
+use lib.Seq.{take-all}
 use denote.Ref.{now}
 use lib.IntN.{ℤ}
-use lib.ListN.{length, take, drop, getD, drop-of-length-le}
-use Rattle.algebra.specs.Polynomials.{Polynomial, isZero, add, mul}
+use lib.ListN.{length, take, drop, getD}
+use Rattle.algebra.specs.Polynomials.{Polynomial, isZero}
 use Rattle.rules.specs.Rows.{every, combine}
 use Rattle.rules.specs.Stores.{rowOf}
-use Rattle.rows.specs.Flat.{polynomialsOf}
-use Rattle.rows.specs.Worked.{every-passed, every-failed}
-use Rattle.rows.specs.Combination.{trim, trim-fits, trim-part-fits, low-degrees, length-polynomials, trimmed-high}
+use Rattle.rows.specs.Flat.{polynomialsOf, every-longer}
+use Rattle.rows.specs.Checks.{every-false}
+use Rattle.rows.specs.Combination.{trim-fits, trim-part-fits, low-degrees, length-polynomials, trimmed-high}
 use Rattle.rows.proofs.combination.past_degree.Statement.{statement}
 use Rattle.rows.proofs.combination.past_degree.Tie as tie
 
@@ -27,7 +28,7 @@ polynomials g h target pivot = polynomialsOf (combine g h (rowOf target) (rowOf 
 
 abbrev Inv-loop : tie.InvT-loop
 Inv-loop g h target pivot a b e₀ e =
-    (e ≤ 20) × (every isLow (polynomials g h target pivot) ≡ every isLow (drop e (polynomials g h target pivot)))
+    (e ≤ 20) × (every isLow (take e (polynomials g h target pivot)) ≡ true)
 
 abbrev μ-loop : tie.MeasureT-loop
 μ-loop g h target pivot a b e₀ e = 20 - e
@@ -56,9 +57,7 @@ module _ (c : tie.After-passes Inv-loop μ-loop) where
       (at .before .before .trimmed .ensures) (at .before .trimmed2 .ensures) (p .ensures) (c .before .trimmed4 .ensures))
 
   some-left : e < length ps
-  some-left =
-      subst (λ n. e < n) (sym (length-polynomials (now (start .args .g)) (now (start .args .h)) (now (start .args .target)) (now (start .args .pivot))))
-      (c .before .before .before .before .before .loop-test .taken)
+  some-left = rw length-polynomials (c .before .before .before .before .before .loop-test .taken)
 
 trimmed-requires : tie.Need-trimmed-requires Inv-loop μ-loop
 trimmed-requires c κs = search needs
@@ -67,6 +66,7 @@ trimmed-requires-2 : tie.Need-trimmed-requires-2 Inv-loop μ-loop
 trimmed-requires-2 c κs = search needs
 
 loop-holds : tie.Need-loop-holds Inv-loop μ-loop
+unfolding every
 loop-holds c = search needs
 
 mul-from : tie.Need-mul-from Inv-loop μ-loop
@@ -113,17 +113,18 @@ passes-requires c κs =
     let width : e * 16 + 16 - e * 16 ≡ 16 = omega arith in
     let a = trim-fits (now (start .args .g)) _ (at .before .before .trimmed .ensures) (omega arith) (start .pre .0 .1) in
     let b = trim-fits (now (start .args .h)) _ (at .before .trimmed2 .ensures) (omega arith) (start .pre .0 .3) in
-    let p = trim-part-fits (now (start .args .target)) (e * 16) (e * 16 + 16 - e * 16) _ (c .before .before .trimmed3 .ensures) width (start .pre .1 .1) in
-    let q = trim-part-fits (now (start .args .pivot)) (e * 16) (e * 16 + 16 - e * 16) _ (c .trimmed4 .ensures) width (start .pre .1 .3) in
+    let from = e * 16 in
+    let p = trim-part-fits (now (start .args .target)) from (from + 16 - from) _ (c .before .before .trimmed3 .ensures) width (start .pre .1 .1) in
+    let q = trim-part-fits (now (start .args .pivot)) from (from + 16 - from) _ (c .trimmed4 .ensures) width (start .pre .1 .3) in
     ((a .0, a .1, p .0, p .1), (b .0, b .1, q .0, q .1))
 
 returns : tie.Need-returns Inv-loop μ-loop
 returns c =
     let here = c .before in
     let args = start here .args in
-    let failed : isLow (getD (ps here) (e here) []) ≡ false = sym (Bool·not-not _) ∙ ap not (sym (tested here) ∙ c .if1 .taken) in
-    ap not (sym (low-degrees (now (args .g)) (now (args .h)) (now (args .target)) (now (args .pivot)) ∙ at here .loop .inv .1
-    ∙ every-failed isLow (ps here) (e here) [] (some-left here) failed))
+    let failed = not-true _ (sym (tested here) ∙ c .if1 .taken) in
+    ap not (sym (low-degrees (now (args .g)) (now (args .h)) (now (args .target)) (now (args .pivot))
+    ∙ every-false isLow (ps here) (e here) [] (some-left here) failed))
 
 add-e : tie.Need-add-e Inv-loop μ-loop
 add-e c = search needs
@@ -133,17 +134,17 @@ loop-less c = search needs
 
 loop-again : tie.Need-loop-again Inv-loop μ-loop
 loop-again c =
-    let passed = sym (Bool·not-not _) ∙ ap not (sym (tested (c .before)) ∙ c .if1 .left) in
-    (omega arith, at (c .before) .loop .inv .1 ∙ every-passed isLow (ps (c .before)) (e (c .before)) [] (some-left (c .before)) passed)
+    let here = c .before in
+    let passed = not-false _ (sym (tested here) ∙ c .if1 .left) in
+    (omega arith, every-longer isLow (ps here) (e here) [] (some-left here) (at here .loop .inv .1) passed)
 
 returns-2 : tie.Need-returns-2 Inv-loop μ-loop
-unfolding every
 returns-2 c =
     let args = c .before .before .before .before .args in
     let all = polynomials (now (args .g)) (now (args .h)) (now (args .target)) (now (args .pivot)) in
     let none : length all ≤ c .before .loop .e = rw length-polynomials (c .loop-test .left) in
-    ap not (sym (low-degrees (now (args .g)) (now (args .h)) (now (args .target)) (now (args .pivot)) ∙ c .before .loop .inv .1
-    ∙ ap (every isLow) (drop-of-length-le all none)))
+    ap not (sym (low-degrees (now (args .g)) (now (args .h)) (now (args .target)) (now (args .pivot))
+    ∙ ap (every isLow) (sym (take-all (c .before .loop .e) all none)) ∙ c .before .loop .inv .1))
 
 pub past-degree-spec : {M : Type 1} → statement M
 past-degree-spec =

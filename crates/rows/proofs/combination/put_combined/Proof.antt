@@ -1,6 +1,6 @@
 -- `rows::combination::put_combined` meets its contract. The loop's invariant: the first k numbers are those of g·p + h·q.
 -- Assumes nothing.
-use mathlib.Core.Path.{_≡_, refl, sym, _∙_, ap}
+use mathlib.Core.Path.{_≡_, sym, _∙_}
 use Prim.Native.Nat.{_≤_, _-_}
 use native.Mathlib.Omega.{arith}
 use borrow.Author.Needs.{needs, sfits-of}
@@ -10,7 +10,7 @@ use lib.ListN.{length, take, length-set}
 use mir.Syntax.{w64}
 use mir.Val.{SFits}
 use mir.Facts.{toZ-ofZ}
-use Rattle.algebra.specs.Polynomials.{Polynomial, add, mul}
+use Rattle.algebra.specs.Polynomials.{add, mul}
 use Rattle.polynomials.specs.Content.{prefix-next, prefix-all}
 use Rattle.rows.specs.Combination.{lowPart, length-lowPart, lowPart-at}
 use Rattle.rows.proofs.combination.put_combined.Statement.{statement}
@@ -60,7 +60,8 @@ returns : tie.Need-returns Inv-loop μ-loop
 returns c =
     let args = c .before .before .args in
     let sum = add (mul (now (args .g)) (now (args .p))) (mul (now (args .h)) (now (args .q))) in
-    prefix-all (c .before .loop .place) (lowPart sum) (c .before .loop .k) (omega arith) (rw length-lowPart (omega arith)) (c .before .loop .inv .2)
+    prefix-all (c .before .loop .place) (lowPart sum) (c .before .loop .k) (omega arith) (rw length-lowPart (omega arith))
+    (c .before .loop .inv .2)
 
 pub put-combined-spec : {M : Type 1} → statement M
 put-combined-spec =

@@ -1,6 +1,6 @@
 -- `rows::combination::trimmed` meets its contract.
 -- Assumes nothing.
-use mathlib.Core.Path.{_≡_, sym, ap}
+use mathlib.Core.Path.{sym, ap}
 use Prim.Native.Nat.{_+_}
 use native.Mathlib.Nat.{le-refl}
 use native.Mathlib.Omega.{arith}

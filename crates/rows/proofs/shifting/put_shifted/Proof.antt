@@ -1,6 +1,6 @@
 -- `rows::shifting::put_shifted` meets its contract. The loop's invariant: the first k numbers are those of p(n + 1).
 -- Assumes nothing.
-use mathlib.Core.Path.{_≡_, refl, sym, _∙_, ap}
+use mathlib.Core.Path.{_≡_, _∙_}
 use Prim.Native.Nat.{_≤_, _-_}
 use native.Mathlib.Omega.{arith}
 use borrow.Author.Needs.{needs, sfits-of}
@@ -57,7 +57,8 @@ same-length c = search needs
 returns : tie.Need-returns Inv-loop μ-loop
 returns c =
     let p = now (c .before .before .args .p) in
-    prefix-all (c .before .loop .place) (shift p) (c .before .loop .k) (omega arith) (rw length-shift (omega arith)) (c .before .loop .inv .2)
+    prefix-all (c .before .loop .place) (shift p) (c .before .loop .k) (omega arith) (rw length-shift (omega arith))
+    (c .before .loop .inv .2)
 
 pub put-shifted-spec : {M : Type 1} → statement M
 put-shifted-spec =

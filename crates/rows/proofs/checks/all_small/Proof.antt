@@ -1,25 +1,28 @@
--- `rows::combination::every_small` meets its contract. The loop's invariant: the numbers from i on tell whether all are within ±C.
+-- `rows::checks::all_small` meets its contract. The loop's invariant: the first i numbers are within ±C.
 -- Assumes nothing.
-use mathlib.Core.Path.{_≡_, refl, sym, _∙_, ap}
-use mathlib.Core.Bool.{not, Bool·not-not}
+use mathlib.Core.Path.{_≡_, sym, _∙_, ap}
+use mathlib.Core.Bool.{true}
 use mathlib.Core.List.{List}
-use Prim.Native.Nat.{ℕ, _≤_, _-_}
+use Prim.Native.Nat.{ℕ, _-_, _≤_}
 use native.Mathlib.Omega.{arith}
 use borrow.Author.Needs.{needs, sfits-of}
+use borrow.Author.Tests.{not-true, not-false}
 use denote.Ref.{now}
 use lib.IntN.{ℤ, pos}
-use lib.ListN.{length, getD, drop, drop-of-length-le}
+use lib.ListN.{length, take, getD}
+use lib.Seq.{take-all}
 use mir.Syntax.{w64}
 use mir.Val.{SFits}
 use mir.Facts.{toZ-ofZ}
 use Rattle.rules.specs.Limits.{small}
 use Rattle.rules.specs.Rows.{every}
-use Rattle.rows.specs.Worked.{every-passed, every-failed}
-use Rattle.rows.proofs.combination.every_small.Statement.{statement}
-use Rattle.rows.proofs.combination.every_small.Tie as tie
+use Rattle.rows.specs.Flat.{every-longer}
+use Rattle.rows.specs.Checks.{every-false}
+use Rattle.rows.proofs.checks.all_small.Statement.{statement}
+use Rattle.rows.proofs.checks.all_small.Tie as tie
 
 abbrev Inv-loop : tie.InvT-loop
-Inv-loop numbers i₀ i = (i ≤ length numbers) × (every small numbers ≡ every small (drop i numbers))
+Inv-loop numbers i₀ i = (i ≤ length numbers) × (every small (take i numbers) ≡ true)
 
 abbrev μ-loop : tie.MeasureT-loop
 μ-loop numbers i₀ i = length numbers - i
@@ -32,12 +35,13 @@ module _ (c : tie.After-within-bound Inv-loop μ-loop) where
   abbrev i : ℕ
   i = c .before .before .before .loop .i
 
-  tested : not (small (getD numbers i (pos 0))) ≡ not (c .within-bound .result)
+  tested : c .within-bound .result ≡ small (getD numbers i (pos 0))
   tested =
       let read : SFits w64 (getD numbers i (pos 0)) = sfits-of (c .before .within-bound-arg .given) in
-      ap not (ap small (sym (toZ-ofZ read)) ∙ sym (c .within-bound .ensures))
+      c .within-bound .ensures ∙ ap small (toZ-ofZ read)
 
 loop-holds : tie.Need-loop-holds Inv-loop μ-loop
+unfolding every
 loop-holds c = search needs
 
 mul-within-bound : tie.Need-mul-within-bound Inv-loop μ-loop
@@ -51,9 +55,8 @@ within-bound-requires c κs = search needs
 
 returns : tie.Need-returns Inv-loop μ-loop
 returns c =
-    let at = c .before .before .before in
-    let failed = sym (Bool·not-not _) ∙ ap not (tested (c .before) ∙ c .if1 .taken) in
-    sym (at .before .loop .inv .1 ∙ every-failed small (numbers (c .before)) (i (c .before)) (pos 0) (at .loop-test .taken) failed)
+    let failed = sym (tested (c .before)) ∙ not-true _ (c .if1 .taken) in
+    sym (every-false small (numbers (c .before)) (i (c .before)) (pos 0) (c .before .before .before .loop-test .taken) failed)
 
 add-i : tie.Need-add-i Inv-loop μ-loop
 add-i c = search needs
@@ -63,16 +66,18 @@ loop-less c = search needs
 
 loop-again : tie.Need-loop-again Inv-loop μ-loop
 loop-again c =
-    let at = c .before .before .before in
-    let passed = sym (Bool·not-not _) ∙ ap not (tested (c .before) ∙ c .if1 .left) in
-    (omega arith, at .before .loop .inv .1 ∙ every-passed small (numbers (c .before)) (i (c .before)) (pos 0) (at .loop-test .taken) passed)
+    let passed = c .before .before .before .before .loop .inv .1 in
+    let here = sym (tested (c .before)) ∙ not-false _ (c .if1 .left) in
+    let inside = c .before .before .before .loop-test .taken in
+    (omega arith, every-longer small (numbers (c .before)) (i (c .before)) (pos 0) inside passed here)
 
 returns-2 : tie.Need-returns-2 Inv-loop μ-loop
-unfolding every
-returns-2 c = sym (c .before .loop .inv .1 ∙ ap (every small) (drop-of-length-le (now (c .before .before .args .numbers)) (c .loop-test .left)))
+returns-2 c =
+    let numbers = now (c .before .before .args .numbers) in
+    sym (ap (every small) (sym (take-all (c .before .loop .i) numbers (c .loop-test .left))) ∙ c .before .loop .inv .1)
 
-pub every-small-spec : {M : Type 1} → statement M
-every-small-spec =
+pub all-small-spec : {M : Type 1} → statement M
+all-small-spec =
     tie.close
     (tie.spec
     Inv-loop
