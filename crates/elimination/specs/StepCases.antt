@@ -31,7 +31,7 @@ use Rattle.rows.specs.Found.{foundOr, Columns, entriesAt, length-entriesAt, get
 use Rattle.elimination.specs.declared.step.Progress.{Progress}
 use Rattle.elimination.specs.Progress.{Ready, Kept, Stepped, stateOf, outcomeOf}
 use Rattle.elimination.specs.StoreStates.{kept-same}
-use Rattle.elimination.specs.Exchange.{numbersAt, narrowed, row-of, narrowed-state, narrowed-one}
+use Rattle.elimination.specs.Exchange.{numbersAt, narrowed, row-of, narrowed-within, narrowed-state, narrowed-one}
 
 -- ---- what the searches in a row find
 
@@ -117,6 +117,17 @@ module _ (side : Side) (m : ℕ) (rows relations : List ℤ) (p : Progress) (rea
       }
 
   module _ (inside : w < m) where
+    pub narrowed-ready : (j : ℕ) → j < w → Ready m (narrowed rows w j) relations p
+    narrowed-ready j h =
+        record {
+          unknowns = ready .unknowns;
+          rows-within = narrowed-within m rows (ready .rows-within) w j inside (omega arith);
+          listing = ready .listing;
+          settled = ready .settled;
+          four = ready .four;
+          columns = ready .columns;
+        }
+
     step-is : step side s ≡ cond (zeroRow row) (refused 6) (meet side s w (firstNonzero entries))
     unfolding step workOn stateOf
     step-is =

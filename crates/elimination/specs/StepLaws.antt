@@ -13,7 +13,7 @@ use Prim.Native.Nat.{ℕ, zero, suc, _+_, _*_, _≤_, _<_}
 use native.Mathlib.Nat.{suc-ne-zero}
 use native.Mathlib.Numerals.{add-one}
 use native.Mathlib.Omega.{arith}
-use mathlib.Core.Path.{_≡_, refl, sym, _∙_, ap, ap₂, subst}
+use mathlib.Core.Path.{_≡_, refl, sym, _∙_, ap, ap₂, subst, subst₂}
 use mathlib.Core.Bool.{Bool, true, false, cond}
 use mathlib.Core.List.{List, _++_, map}
 use borrow.Author.Tests.{le-leb, lt-leb}
@@ -31,13 +31,33 @@ use Rattle.rules.specs.Elimination.{limitCoefficients, countShift, shiftStep}
 use Rattle.rules.specs.Layout.{length-relationsOf}
 use Rattle.rows.specs.Worked.{refusalOf, numbersOf}
 use Rattle.elimination.specs.declared.step.Progress.{Progress}
+use Rattle.elimination.specs.declared.step.Outcome as Answer
 use Rattle.elimination.specs.Progress.{Ready, Kept, Stepped, stateOf, outcomeOf}
-use Rattle.elimination.specs.StoreStates.{kept-same}
+use Rattle.elimination.specs.StoreStates.{kept-same, kept-then}
 use Rattle.elimination.specs.Relations.{Relisted, length-listing}
 use Rattle.elimination.specs.NewRows.{Storable, saved, saved-within, saved-kept, saved-outcome, shifted-storable}
 use Rattle.elimination.specs.Exchange.{numbersAt, length-numbersAt, row-of}
 
 -- ---- what a step gives
+
+-- Equal stores, answers and outcomes.
+pub stepped-same : {m : ℕ} {rows relations rows' rows'' relations' : List ℤ} {p : Progress} {o o' : Answer.Outcome} {x x' : Outcome}
+    → rows' ≡ rows'' → o ≡ o' → x ≡ x' → Stepped m rows relations rows'' relations' p o' x' → Stepped m rows relations rows' relations' p o x
+stepped-same {m} {rows} {relations} {rows'} {rows''} {relations'} {p} {o} {o'} {x} {x'} e f g h =
+    subst (λ r. Stepped m rows relations r relations' p o x) (sym e)
+    (subst₂ (λ a b. Stepped m rows relations rows'' relations' p a b) (sym f) (sym g) h)
+
+-- A step after the exchange.
+pub stepped-after : {m : ℕ} {first rows relations rows' relations' : List ℤ} {p : Progress} {o : Answer.Outcome} {x : Outcome}
+    → Kept (rowNeed m) first rows → Stepped m rows relations rows' relations' p o x → Stepped m first relations rows' relations' p o x
+stepped-after k h =
+    record {
+      outcome = h .outcome;
+      rows-kept = kept-then k (h .rows-kept);
+      relations-kept = h .relations-kept;
+      next-shifts = h .next-shifts;
+      next-ready = h .next-ready;
+    }
 
 module _ (m : ℕ) (rows relations : List ℤ) (p : Progress) where
   pub refused-stepped : (n : ℕ) → Stepped m rows relations rows relations p (record { refusal = suc n; done = false; progress = p }) (refused (suc n))

@@ -2,16 +2,19 @@
 ghost use mathlib.Core.Path.{_≡_};
 ghost use mathlib.Core.Bool.{false, not};
 ghost use mathlib.Core.List.{_++_};
-ghost use Prim.Native.Nat.{_+_, _*_, _≤_, _<_};
+ghost use Prim.Native.Nat.{ℕ, _+_, _*_, _^_, _≤_, _<_};
 ghost use lib.Dec.{T};
-ghost use lib.ListN.{length, set};
+ghost use lib.ListN.{length, getD, set};
 ghost use Rattle.algebra.specs.Polynomials.{isZero};
 ghost use Rattle.rules.specs.Limits.{small};
-ghost use Rattle.rules.specs.Rows.{every, entry};
+ghost use Rattle.rules.specs.Rows.{every, entry, shiftUp};
 ghost use Rattle.rules.specs.Elimination as Elimination;
 ghost use Rattle.rules.specs.Stores.{rowOf};
+ghost use Rattle.rows.specs.Worked.{refusalOf, numbersOf};
+ghost use Rattle.elimination.specs.Progress.{Ready, Stepped, sideOf, stateOf};
 ghost use Rattle.elimination.specs.NewRows.{saved};
-ghost use Rattle.elimination.specs.Exchange.{narrowed};
+ghost use Rattle.elimination.specs.Exchange.{numbersAt, narrowed};
+ghost use Rattle.elimination.specs.StepLaws.{shiftedProgress};
 
 // How far a run has come: the settled rows with their columns, counted from 0, the relations listed and the shifts made.
 pub(crate) struct Progress {
@@ -102,5 +105,102 @@ fn settled(c: usize, p: Progress) -> Progress
         order,
         count: p.count,
         shifts: p.shifts,
+    }
+}
+
+// Rule 6.
+fn shift_step(rows: &mut [i64], row: [i64; 320], p: Progress) -> Outcome
+    requires { ⌜ (p .settled * 320 + 320 ≤ length (now rows)) × T (every small row) × (p .shifts < 2 ^ 32) ⌝ }
+    ensures { λ _. ⌜ now (rows .exit) ≡ saved (now (rows .entry)) (p .settled) (refusalOf (Elimination.limitCoefficients (shiftUp (rowOf row)))) (numbersOf (Elimination.limitCoefficients (shiftUp (rowOf row)))) ⌝ }
+    ensures { λ r. ⌜ r ≡ record { refusal = refusalOf (Elimination.limitCoefficients (shiftUp (rowOf row))); done = false; progress = shiftedProgress p } ⌝ }
+{
+    let i = p.settled;
+    let order = p.order;
+    let next = Progress {
+        settled: i,
+        order,
+        count: p.count,
+        shifts: p.shifts + 1,
+    };
+    put_limited(rows, i, rows::shifting::shifted(row), next)
+}
+
+// Rules 3 and 4, in a system of m unknowns.
+fn combine_step(
+    rows: &mut [i64],
+    relations: &mut [i64],
+    m: usize,
+    trailing: bool,
+    j: usize,
+    p: Progress,
+) -> Outcome
+    requires { ⌜ Ready m (now rows) (now relations) p × (p .settled < m) × (j < p .settled) ⌝ }
+    requires { ⌜ T (not (isZero (entry (rowOf (numbersAt (now rows) j)) (getD (p .order) j 0) ++ entry (rowOf (numbersAt (now rows) (p .settled))) (getD (p .order) j 0)))) ⌝ }
+    ensures { λ r. ⌜ Stepped m (now (rows .entry)) (now (relations .entry)) (now (rows .exit)) (now (relations .exit)) p r
+        (Elimination.combineStep (sideOf trailing) (stateOf m (now (rows .entry)) (now (relations .entry)) p) (p .settled) j
+        (Elimination.multipliersAt (stateOf m (now (rows .entry)) (now (relations .entry)) p) (p .settled) j)) ⌝ }
+{
+    let i = p.settled;
+    let target = rows::stores::load(rows, i * 320);
+    let pivot = rows::stores::load(rows, j * 320);
+    let order = p.order;
+    let x = multipliers_at(target, pivot, order[j]);
+    let g = x.g;
+    let h = x.h;
+    let found = polynomials::roots::roots(&g[..]);
+    let count = p.count + found.count;
+    if 16 < count {
+        return answer(9, p);
+    }
+    crate::listing::list_roots(relations, p.count, found, trailing, target);
+    let next = Progress {
+        settled: i,
+        order,
+        count,
+        shifts: p.shifts,
+    };
+    put_limited(
+        rows,
+        i,
+        rows::combination::combined(&g[..], &h[..], target, pivot),
+        next,
+    )
+}
+
+// One exchange with its combination, one combination, one settling, one shift, or the end.
+pub(crate) fn step(
+    rows: &mut [i64],
+    relations: &mut [i64],
+    m: usize,
+    trailing: bool,
+    p: Progress,
+) -> Outcome
+    requires { ⌜ Ready m (now rows) (now relations) p × (p .shifts < 2 ^ 32) ⌝ }
+    ensures { λ r. ⌜ Stepped m (now (rows .entry)) (now (relations .entry)) (now (rows .exit)) (now (relations .exit)) p r
+        (Elimination.step (sideOf trailing) (stateOf m (now (rows .entry)) (now (relations .entry)) p)) ⌝ }
+{
+    let i = p.settled;
+    if m <= i {
+        return Outcome {
+            refusal: 0,
+            done: true,
+            progress: p,
+        };
+    }
+    let row = rows::stores::load(rows, i * 320);
+    if rows::entries::is_zero_row(row) {
+        return answer(6, p);
+    }
+    let order = p.order;
+    let j = rows::entries::first_met(row, order, i);
+    if j < i {
+        narrow_first(rows, i, j);
+        return combine_step(rows, relations, m, trailing, j, p);
+    }
+    let c = rows::entries::first_column(row);
+    if c < 4 {
+        answer(0, settled(c, p))
+    } else {
+        shift_step(rows, row, p)
     }
 }
