@@ -6,3 +6,4 @@ pub mod NewRows
 pub mod Exchange
 pub mod StepLaws
 pub mod StepCases
+pub mod RunLaws

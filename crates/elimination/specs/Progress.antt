@@ -4,11 +4,12 @@
 --   sideOf trailing              the side of a run
 --   stateOf m rows relations p   the state: rows, relations, the columns of the settled rows, shifts
 --   outcomeOf refusal done s     going on, done or refused
+--   outcomeAt m rows relations o the outcome that an answer of the code gives with the stores
 --   Within need store            the store is long enough, and its needed part is within ±C
 --   Listing count relations      a relation store in which `count` places are used and the others hold 0
 --   Ready m rows relations p     what a step asks of the stores and of the progress
 --   Kept need store store'       the length and the numbers past the needed part are the same
---   Stepped m .. x               what a step gives: its outcome is x, the rest of the stores is kept, and the next step may be made
+--   Reached m .. x               what steps give: their outcome is x, the rest of the stores is kept, and the next step may be made
 use Prim.Native.Nat.{ℕ, zero, suc, _+_, _*_, _≤_}
 use mathlib.Core.Path.{_≡_}
 use mathlib.Core.Bool.{Bool, true, false}
@@ -39,6 +40,9 @@ outcomeOf zero false s = going s
 outcomeOf zero true s = done s
 outcomeOf (suc n) d s = refused (suc n)
 
+abbrev pub outcomeAt : ℕ → List ℤ → List ℤ → Answer.Outcome → Outcome
+outcomeAt m rows relations o = outcomeOf (o .refusal) (o .done) (stateOf m rows relations (o .progress))
+
 pub record Within (need : ℕ) (store : List ℤ) : Type 0 where
   pub long : need ≤ length store
   pub numbers : T (every small (take need store))
@@ -60,9 +64,9 @@ pub record Kept (need : ℕ) (store store' : List ℤ) : Type 0 where
   pub same-length : length store' ≡ length store
   pub same-rest : drop need store' ≡ drop need store
 
-pub record Stepped (m : ℕ) (rows relations rows' relations' : List ℤ) (p : Progress) (o : Answer.Outcome) (x : Outcome) : Type 0 where
-  pub outcome : outcomeOf (o .refusal) (o .done) (stateOf m rows' relations' (o .progress)) ≡ x
+pub record Reached (m : ℕ) (rows relations rows' relations' : List ℤ) (most : ℕ) (o : Answer.Outcome) (x : Outcome) : Type 0 where
+  pub outcome : outcomeAt m rows' relations' o ≡ x
   pub rows-kept : Kept (rowNeed m) rows rows'
   pub relations-kept : Kept relationNeed relations relations'
-  pub next-shifts : o .progress .shifts ≤ p .shifts + 1
+  pub few-shifts : o .progress .shifts ≤ most
   pub next-ready : o .refusal ≡ 0 → Ready m rows' relations' (o .progress)

@@ -29,7 +29,7 @@ use Rattle.rules.specs.Layout.{length-rowsOf, parts-length}
 use Rattle.rows.specs.Flat.{block-at}
 use Rattle.rows.specs.Found.{foundOr, Columns, entriesAt, length-entriesAt, getD-entriesAt}
 use Rattle.elimination.specs.declared.step.Progress.{Progress}
-use Rattle.elimination.specs.Progress.{Ready, Kept, Stepped, stateOf, outcomeOf}
+use Rattle.elimination.specs.Progress.{Ready, Kept, Reached, stateOf, outcomeOf}
 use Rattle.elimination.specs.StoreStates.{kept-same}
 use Rattle.elimination.specs.Exchange.{numbersAt, narrowed, row-of, narrowed-within, narrowed-state, narrowed-one}
 
@@ -105,14 +105,14 @@ module _ (side : Side) (m : ℕ) (rows relations : List ℤ) (p : Progress) (rea
   unfolding step
   step-done h = rw (order-length, rows-length, le-ltb w m h)
 
-  pub done-stepped : m ≤ w → Stepped m rows relations rows relations p (record { refusal = 0; done = true; progress = p }) (step side s)
+  pub done-reached : m ≤ w → Reached m rows relations rows relations (p .shifts + 1) (record { refusal = 0; done = true; progress = p }) (step side s)
   unfolding outcomeOf
-  done-stepped h =
+  done-reached h =
       record {
         outcome = sym (step-done h);
         rows-kept = kept-same (rowNeed m) rows;
         relations-kept = kept-same relationNeed relations;
-        next-shifts = omega arith;
+        few-shifts = omega arith;
         next-ready = λ _. ready;
       }
 
@@ -185,15 +185,15 @@ module _ (side : Side) (m : ℕ) (rows relations : List ℤ) (p : Progress) (rea
             columns-four : length (leadingBlock row) ≡ 4
             columns-four = let l = numbersAt rows w in ap length (block-at l 0 (lit< tt)) ∙ parts-length 16 4 (take 64 (drop 0 l))
 
-        pub settled-stepped : (c : ℕ) → foundOr 4 (firstNonzero (leadingBlock row)) ≡ c → c < 4
-            → Stepped m rows relations rows relations p (record { refusal = 0; done = false; progress = settledProgress p c }) (step side s)
+        pub settled-reached : (c : ℕ) → foundOr 4 (firstNonzero (leadingBlock row)) ≡ c → c < 4
+            → Reached m rows relations rows relations (p .shifts + 1) (record { refusal = 0; done = false; progress = settledProgress p c }) (step side s)
         unfolding outcomeOf settle stateOf
-        settled-stepped c e h =
+        settled-reached c e h =
             record {
               outcome = ap (λ o. going (withOrder o)) order ∙ sym (step-settle c e h);
               rows-kept = kept-same (rowNeed m) rows;
               relations-kept = kept-same relationNeed relations;
-              next-shifts = omega arith;
+              few-shifts = omega arith;
               next-ready =
                   λ _. record {
                     unknowns = ready .unknowns;

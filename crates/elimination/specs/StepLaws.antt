@@ -6,7 +6,7 @@
 --   listedProgress p n       the progress with n relations more
 --
 -- Main statements
---   refused-stepped, put-stepped     a refusal before anything is stored, and a new row or its refusal
+--   refused-reached, put-reached     a refusal before anything is stored, and a new row or its refusal
 --   multipliers-in                   the multipliers of the state are those of the store
 --   combine-refused, combine-listed  rules 3 and 4
 use Prim.Native.Nat.{ℕ, zero, suc, _+_, _*_, _≤_, _<_}
@@ -32,7 +32,7 @@ use Rattle.rules.specs.Layout.{length-relationsOf}
 use Rattle.rows.specs.Worked.{refusalOf, numbersOf}
 use Rattle.elimination.specs.declared.step.Progress.{Progress}
 use Rattle.elimination.specs.declared.step.Outcome as Answer
-use Rattle.elimination.specs.Progress.{Ready, Kept, Stepped, stateOf, outcomeOf}
+use Rattle.elimination.specs.Progress.{Ready, Kept, Reached, stateOf, outcomeOf}
 use Rattle.elimination.specs.StoreStates.{kept-same, kept-then}
 use Rattle.elimination.specs.Relations.{Relisted, length-listing}
 use Rattle.elimination.specs.NewRows.{Storable, saved, saved-within, saved-kept, saved-outcome, shifted-storable}
@@ -41,48 +41,48 @@ use Rattle.elimination.specs.Exchange.{numbersAt, length-numbersAt, row-
 -- ---- what a step gives
 
 -- Equal stores, answers and outcomes.
-pub stepped-same : {m : ℕ} {rows relations rows' rows'' relations' : List ℤ} {p : Progress} {o o' : Answer.Outcome} {x x' : Outcome}
-    → rows' ≡ rows'' → o ≡ o' → x ≡ x' → Stepped m rows relations rows'' relations' p o' x' → Stepped m rows relations rows' relations' p o x
-stepped-same {m} {rows} {relations} {rows'} {rows''} {relations'} {p} {o} {o'} {x} {x'} e f g h =
-    subst (λ r. Stepped m rows relations r relations' p o x) (sym e)
-    (subst₂ (λ a b. Stepped m rows relations rows'' relations' p a b) (sym f) (sym g) h)
+pub reached-same : {m : ℕ} {rows relations rows' rows'' relations' : List ℤ} {n : ℕ} {o o' : Answer.Outcome} {x x' : Outcome}
+    → rows' ≡ rows'' → o ≡ o' → x ≡ x' → Reached m rows relations rows'' relations' n o' x' → Reached m rows relations rows' relations' n o x
+reached-same {m} {rows} {relations} {rows'} {rows''} {relations'} {n} {o} {o'} {x} {x'} e f g h =
+    subst (λ r. Reached m rows relations r relations' n o x) (sym e)
+    (subst₂ (λ a b. Reached m rows relations rows'' relations' n a b) (sym f) (sym g) h)
 
 -- A step after the exchange.
-pub stepped-after : {m : ℕ} {first rows relations rows' relations' : List ℤ} {p : Progress} {o : Answer.Outcome} {x : Outcome}
-    → Kept (rowNeed m) first rows → Stepped m rows relations rows' relations' p o x → Stepped m first relations rows' relations' p o x
-stepped-after k h =
+pub reached-after : {m : ℕ} {first rows relations rows' relations' : List ℤ} {n : ℕ} {o : Answer.Outcome} {x : Outcome}
+    → Kept (rowNeed m) first rows → Reached m rows relations rows' relations' n o x → Reached m first relations rows' relations' n o x
+reached-after k h =
     record {
       outcome = h .outcome;
       rows-kept = kept-then k (h .rows-kept);
       relations-kept = h .relations-kept;
-      next-shifts = h .next-shifts;
+      few-shifts = h .few-shifts;
       next-ready = h .next-ready;
     }
 
 module _ (m : ℕ) (rows relations : List ℤ) (p : Progress) where
-  pub refused-stepped : (n : ℕ) → Stepped m rows relations rows relations p (record { refusal = suc n; done = false; progress = p }) (refused (suc n))
+  pub refused-reached : (n : ℕ) → Reached m rows relations rows relations (p .shifts + 1) (record { refusal = suc n; done = false; progress = p }) (refused (suc n))
   unfolding outcomeOf
-  refused-stepped n =
+  refused-reached n =
       record {
         outcome = refl;
         rows-kept = kept-same (rowNeed m) rows;
         relations-kept = kept-same relationNeed relations;
-        next-shifts = omega arith;
+        few-shifts = omega arith;
         next-ready = λ e. absurd (suc-ne-zero n e);
       }
 
   -- The new row in the place of the row that is worked on, or the refusal, after relations have been listed.
-  pub put-stepped : (relations' : List ℤ) (next : Progress) (x : Limited) → p .settled < m → Storable x
+  pub put-reached : (relations' : List ℤ) (next : Progress) (x : Limited) → p .settled < m → Storable x
       → Kept relationNeed relations relations' → Ready m rows relations' next → next .shifts ≤ p .shifts + 1
-      → Stepped m rows relations (saved rows (p .settled) (refusalOf x) (numbersOf x)) relations' p
+      → Reached m rows relations (saved rows (p .settled) (refusalOf x) (numbersOf x)) relations' (p .shifts + 1)
       (record { refusal = refusalOf x; done = false; progress = next }) (putLimited (stateOf m rows relations' next) (p .settled) x)
-  put-stepped relations' next x b h k r s =
+  put-reached relations' next x b h k r s =
       let w = r .rows-within in
       record {
         outcome = saved-outcome m (p .settled) rows w b x h relations' next;
         rows-kept = saved-kept m (p .settled) rows w b x h;
         relations-kept = k;
-        next-shifts = s;
+        few-shifts = s;
         next-ready =
             λ _. record {
               unknowns = r .unknowns;
@@ -176,28 +176,28 @@ module _ (side : Side) (m : ℕ) (rows relations : List ℤ) (p : Progress) (j :
         (ap₂ (λ a b. limitDegrees (primitive (combine (x .g) (x .h) a b))) (row-of m rows relations p i inside)
         (row-of m rows relations p j (omega arith))))
 
-    pub combine-stepped : Ready m rows relations p → p .count + more ≤ 16 → Storable new
-        → Stepped m rows relations (saved rows i (refusalOf new) (numbersOf new)) relations' p
+    pub combine-reached : Ready m rows relations p → p .count + more ≤ 16 → Storable new
+        → Reached m rows relations (saved rows i (refusalOf new) (numbersOf new)) relations' (p .shifts + 1)
         (record { refusal = refusalOf new; done = false; progress = listedProgress p more }) (combineStep side before i j x)
-    combine-stepped r few h =
-        subst (Stepped m rows relations (saved rows i (refusalOf new) (numbersOf new)) relations' p
+    combine-reached r few h =
+        subst (Reached m rows relations (saved rows i (refusalOf new) (numbersOf new)) relations' (p .shifts + 1)
         (record { refusal = refusalOf new; done = false; progress = listedProgress p more })) (sym (combine-listed few))
-        (put-stepped m rows relations p relations' (listedProgress p more) new inside h (l .kept) (listed-ready r) (omega arith))
+        (put-reached m rows relations p relations' (listedProgress p more) new inside h (l .kept) (listed-ready r) (omega arith))
 
 -- ---- rule 6
 
 abbrev pub shiftedProgress : Progress → Progress
 shiftedProgress p = record { settled = p .settled; order = p .order; count = p .count; shifts = p .shifts + 1 }
 
-pub shift-stepped : (m : ℕ) (rows relations : List ℤ) (p : Progress) → Ready m rows relations p → p .settled < m
+pub shift-reached : (m : ℕ) (rows relations : List ℤ) (p : Progress) → Ready m rows relations p → p .settled < m
     → let new = limitCoefficients (shiftUp (rowOf (numbersAt rows (p .settled)))) in
-    Stepped m rows relations (saved rows (p .settled) (refusalOf new) (numbersOf new)) relations p
+    Reached m rows relations (saved rows (p .settled) (refusalOf new) (numbersOf new)) relations (p .shifts + 1)
     (record { refusal = refusalOf new; done = false; progress = shiftedProgress p }) (shiftStep (stateOf m rows relations p) (p .settled))
 unfolding shiftStep countShift stateOf
-shift-stepped m rows relations p r inside =
-    subst (Stepped m rows relations (saved rows (p .settled) (refusalOf new) (numbersOf new)) relations p
+shift-reached m rows relations p r inside =
+    subst (Reached m rows relations (saved rows (p .settled) (refusalOf new) (numbersOf new)) relations (p .shifts + 1)
     (record { refusal = refusalOf new; done = false; progress = shiftedProgress p })) (sym same)
-    (put-stepped m rows relations p relations (shiftedProgress p) new inside storable (kept-same relationNeed relations) ready (omega arith))
+    (put-reached m rows relations p relations (shiftedProgress p) new inside storable (kept-same relationNeed relations) ready (omega arith))
   where
     new : Limited
     new = limitCoefficients (shiftUp (rowOf (numbersAt rows (p .settled))))

@@ -11,7 +11,7 @@ ghost use Rattle.rules.specs.Rows.{every, entry, shiftUp};
 ghost use Rattle.rules.specs.Elimination as Elimination;
 ghost use Rattle.rules.specs.Stores.{rowOf};
 ghost use Rattle.rows.specs.Worked.{refusalOf, numbersOf};
-ghost use Rattle.elimination.specs.Progress.{Ready, Stepped, sideOf, stateOf};
+ghost use Rattle.elimination.specs.Progress.{Ready, Reached, sideOf, stateOf};
 ghost use Rattle.elimination.specs.NewRows.{saved};
 ghost use Rattle.elimination.specs.Exchange.{numbersAt, narrowed};
 ghost use Rattle.elimination.specs.StepLaws.{shiftedProgress};
@@ -136,7 +136,7 @@ fn combine_step(
 ) -> Outcome
     requires { ⌜ Ready m (now rows) (now relations) p × (p .settled < m) × (j < p .settled) ⌝ }
     requires { ⌜ T (not (isZero (entry (rowOf (numbersAt (now rows) j)) (getD (p .order) j 0) ++ entry (rowOf (numbersAt (now rows) (p .settled))) (getD (p .order) j 0)))) ⌝ }
-    ensures { λ r. ⌜ Stepped m (now (rows .entry)) (now (relations .entry)) (now (rows .exit)) (now (relations .exit)) p r
+    ensures { λ r. ⌜ Reached m (now (rows .entry)) (now (relations .entry)) (now (rows .exit)) (now (relations .exit)) (p .shifts + 1) r
         (Elimination.combineStep (sideOf trailing) (stateOf m (now (rows .entry)) (now (relations .entry)) p) (p .settled) j
         (Elimination.multipliersAt (stateOf m (now (rows .entry)) (now (relations .entry)) p) (p .settled) j)) ⌝ }
 {
@@ -176,7 +176,7 @@ pub(crate) fn step(
     p: Progress,
 ) -> Outcome
     requires { ⌜ Ready m (now rows) (now relations) p × (p .shifts < 2 ^ 32) ⌝ }
-    ensures { λ r. ⌜ Stepped m (now (rows .entry)) (now (relations .entry)) (now (rows .exit)) (now (relations .exit)) p r
+    ensures { λ r. ⌜ Reached m (now (rows .entry)) (now (relations .entry)) (now (rows .exit)) (now (relations .exit)) (p .shifts + 1) r
         (Elimination.step (sideOf trailing) (stateOf m (now (rows .entry)) (now (relations .entry)) p)) ⌝ }
 {
     let i = p.settled;

@@ -26,7 +26,7 @@ use Rattle.elimination.specs.Relations.{Relisted}
 use Rattle.elimination.specs.Bounds.{Sixteen, multipliers-fit, roots-small}
 use Rattle.elimination.specs.NewRows.{Storable, saved, row-room, combined-storable}
 use Rattle.elimination.specs.Exchange.{numbersAt, length-numbersAt, small-numbersAt, length-entry, small-entry}
-use Rattle.elimination.specs.StepLaws.{multipliersIn, newRow, listedProgress, multipliers-in, combine-refused, combine-stepped, refused-stepped, stepped-same}
+use Rattle.elimination.specs.StepLaws.{multipliersIn, newRow, listedProgress, multipliers-in, combine-refused, combine-reached, refused-reached, reached-same}
 use Rattle.elimination.proofs.step.combine_step.Statement.{statement}
 use Rattle.elimination.proofs.step.combine_step.Tie as tie
 
@@ -244,9 +244,9 @@ returns c =
     let e = c .before .before .before .before in
     let b = start (multiplied e) in
     let many : 16 < p b .count + length (roots (x b .g)) = omega (arith, count-is e, c .before .if1 .taken) in
-    stepped-same refl (c .answer .ensures)
+    reached-same refl (c .answer .ensures)
     (combine-is e (refused 9) (combine-refused (side b) (m b) (rows b) (relations b) (p b) (j b) (inside b) (b .pre .0 .2) (x b) many))
-    (refused-stepped (m b) (rows b) (relations b) (p b) 8)
+    (refused-reached (m b) (rows b) (relations b) (p b) 8)
 
 list-roots-requires : tie.Need-list-roots-requires
 list-roots-requires c κs =
@@ -289,10 +289,10 @@ returns-2 c =
     let b = base d in
     let put = c .before .put-limited .ensures in
     let few : p b .count + length (roots (x b .g)) ≤ 16 = omega (arith, count-is (rooted d), d .before .before .before .before .before .before .before .if1 .left) in
-    stepped-same (put .0 ∙ ap₂ (saved (rows b) (i b)) (refusal-is d) (numbers-are d))
+    reached-same (put .0 ∙ ap₂ (saved (rows b) (i b)) (refusal-is d) (numbers-are d))
     (put .1 ∙ ap₂ (λ n k. record { refusal = n; done = false; progress = listedProgress (p b) k }) (refusal-is d) (count-is (rooted d)))
     (combine-is (rooted d) _ refl)
-    (combine-stepped (side b) (m b) (rows b) (relations b) (p b) (j b) (inside b) (b .pre .0 .2) (x b) (relations-after d) (relisted d) (ready b) few (storable d))
+    (combine-reached (side b) (m b) (rows b) (relations b) (p b) (j b) (inside b) (b .pre .0 .2) (x b) (relations-after d) (relisted d) (ready b) few (storable d))
 
 pub combine-step-spec : {M : Type 1} → statement M
 combine-step-spec =

@@ -18,11 +18,11 @@ use Rattle.rules.specs.Elimination.{Side, State, limitCoefficients, multipliers
 use Rattle.rows.specs.Found.{foundOr, entriesAt}
 use Rattle.rows.specs.Worked.{refusalOf, numbersOf}
 use Rattle.elimination.specs.declared.step.Progress.{Progress}
-use Rattle.elimination.specs.Progress.{Ready, Stepped, sideOf, stateOf}
+use Rattle.elimination.specs.Progress.{Ready, Reached, sideOf, stateOf}
 use Rattle.elimination.specs.NewRows.{saved, row-room}
 use Rattle.elimination.specs.Exchange.{numbersAt, narrowed, small-numbersAt, narrowed-kept, narrowed-within}
-use Rattle.elimination.specs.StepLaws.{shiftedProgress, stepped-same, stepped-after, refused-stepped, shift-stepped}
-use Rattle.elimination.specs.StepCases.{settledProgress, done-stepped, step-zero, step-met, met-nonzero, narrowed-ready, settled-stepped, step-shift}
+use Rattle.elimination.specs.StepLaws.{shiftedProgress, reached-same, reached-after, refused-reached, shift-reached}
+use Rattle.elimination.specs.StepCases.{settledProgress, done-reached, step-zero, step-met, met-nonzero, narrowed-ready, settled-reached, step-shift}
 use Rattle.elimination.proofs.step.step.Statement.{statement}
 use Rattle.elimination.proofs.step.step.Tie as tie
 
@@ -124,7 +124,7 @@ module _ (c : tie.After-first-column) where
 returns : tie.Need-returns
 returns c =
     let b = c .before in
-    done-stepped (side b) (m b) (rows b) (relations b) (p b) (ready b) (c .if1 .taken)
+    done-reached (side b) (m b) (rows b) (relations b) (p b) (ready b) (c .if1 .taken)
 
 mul-load : tie.Need-mul-load
 mul-load c = search needs
@@ -145,9 +145,9 @@ returns-2 : tie.Need-returns-2
 returns-2 c =
     let d = c .before .before in
     let b = start d in
-    stepped-same refl (c .answer .ensures)
+    reached-same refl (c .answer .ensures)
     (step-zero (side b) (m b) (rows b) (relations b) (p b) (ready b) (inside d) (sym (zero-is d) ∙ c .before .if2 .taken))
-    (refused-stepped (m b) (rows b) (relations b) (p b) 5)
+    (refused-reached (m b) (rows b) (relations b) (p b) 5)
 
 first-met-requires : tie.Need-first-met-requires
 first-met-requires c κs = search needs
@@ -180,10 +180,10 @@ returns-3 c =
     let b = base d in
     let e = tested (meeting d) in
     let combine = c .before .before .combine-step in
-    stepped-after (narrowed-kept (m b) (rows b) (ready b .rows-within) (i b) (j d) (inside e) (omega (arith, inside e, settled-j d)))
-    (stepped-same refl refl
+    reached-after (narrowed-kept (m b) (rows b) (ready b .rows-within) (i b) (j d) (inside e) (omega (arith, inside e, settled-j d)))
+    (reached-same refl refl
     (step-met (side b) (m b) (rows b) (relations b) (p b) (ready b) (inside e) (nonzero (meeting d)) (j d) (met-is (meeting d)) (settled-j d))
-    (subst (λ r. Stepped (m b) r (relations b) (combine .last .0) (combine .last .1 .0) (p b) (combine .result)
+    (subst (λ r. Reached (m b) r (relations b) (combine .last .0) (combine .last .1 .0) (p b .shifts + 1) (combine .result)
     (combineStep (side b) (stateOf (m b) r (relations b) (p b)) (i b) (j d) (multipliersAt (stateOf (m b) r (relations b) (p b)) (i b) (j d)))) (rows-are d) (combine .ensures)))
 
 first-column-requires : tie.Need-first-column-requires
@@ -210,8 +210,8 @@ returns-4 c =
     let d = c .before .before .before in
     let b = origin d in
     let column = d .first-column .result in
-    stepped-same refl (c .answer2 .ensures ∙ ap (λ q. record { refusal = 0; done = false; progress = q }) (c .before .settled .ensures)) refl
-    (settled-stepped (side b) (m b) (rows b) (relations b) (p b) (ready b) (inside (tested (unmet d))) (nonzero (unmet d)) (none-met d) column
+    reached-same refl (c .answer2 .ensures ∙ ap (λ q. record { refusal = 0; done = false; progress = q }) (c .before .settled .ensures)) refl
+    (settled-reached (side b) (m b) (rows b) (relations b) (p b) (ready b) (inside (tested (unmet d))) (nonzero (unmet d)) (none-met d) column
     (column-is d) (c .before .before .if4 .taken))
 
 same-length-5 : tie.Need-same-length-5
@@ -223,11 +223,11 @@ returns-5 c =
     let b = origin d in
     let shift = c .before .shift-step .ensures in
     let e = row-is (tested (unmet d)) in
-    stepped-same (shift .0 ∙ ap (λ l. saved (rows b) (i b) (refusalOf (limitCoefficients (shiftUp (rowOf l)))) (numbersOf (limitCoefficients (shiftUp (rowOf l))))) e)
+    reached-same (shift .0 ∙ ap (λ l. saved (rows b) (i b) (refusalOf (limitCoefficients (shiftUp (rowOf l)))) (numbersOf (limitCoefficients (shiftUp (rowOf l))))) e)
     (shift .1 ∙ ap (λ l. record { refusal = refusalOf (limitCoefficients (shiftUp (rowOf l))); done = false; progress = shiftedProgress (p b) }) e)
     (step-shift (side b) (m b) (rows b) (relations b) (p b) (ready b) (inside (tested (unmet d))) (nonzero (unmet d)) (none-met d)
     (omega (arith, column-is d, c .before .before .before .if4 .left)))
-    (shift-stepped (m b) (rows b) (relations b) (p b) (ready b) (inside (tested (unmet d))))
+    (shift-reached (m b) (rows b) (relations b) (p b) (ready b) (inside (tested (unmet d))))
 
 pub step-spec : {M : Type 1} → statement M
 step-spec =
