@@ -6,16 +6,16 @@
 -- Main statements
 --   multipliers-fit     the multipliers of two polynomials of 16 coefficients within ±C
 --   roots-small         the integer roots of a polynomial within ±C
-use Prim.Native.Nat.{ℕ, zero, suc, _≤_, _<_, suc-le-suc}
+use Prim.Native.Nat.{ℕ, suc, _≤_, suc-le-suc}
 use native.Mathlib.Nat.{le-trans, le-of-suc-le-suc, lt-of-not-le}
 use native.Mathlib.Decide.{decLe}
-use mathlib.Core.Path.{_≡_, refl, sym, _∙_, ap, subst}
+use mathlib.Core.Path.{_≡_, sym, _∙_, subst}
 use mathlib.Core.Logic.{by-cases}
 use mathlib.Core.Bool.{Bool, true, false, not, cond}
 use mathlib.Core.List.{List, [], _∷_, _++_, List·Mem, mem-cons-self, mem-cons-of-mem}
 use lib.Dec.{T, le→leb}
 use lib.IntN.{ℤ, pos, natAbs}
-use lib.ListN.{length, getD}
+use lib.ListN.{length}
 use lib.Signed.{ltZ}
 use Rattle.algebra.specs.Gcd.{content, divideBy, length-divideBy}
 use Rattle.algebra.specs.Polynomials.{Polynomial, isZero, lowest, degree, lead, negate, T-&&, length-negate}

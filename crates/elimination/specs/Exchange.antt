@@ -22,13 +22,13 @@ use lib.IntN.{ℤ}
 use lib.ListN.{length, take, drop, getD, set, length-drop, take-append-drop}
 use lib.Seq.{paste, length-take-le, drop-append-le, take-append-le, getD-set-same, getD-set-other}
 use Rattle.rules.specs.Limits.{small}
-use Rattle.rules.specs.Rows.{Row, noRow, every, width, entry}
+use Rattle.rules.specs.Rows.{noRow, every, width, entry}
 use Rattle.rules.specs.Stores.{rowOf, rowsOf, relationsOf, rowNeed}
 use Rattle.rules.specs.Elimination.{State, rowAt, putRow, exchange, narrowFirst}
 use Rattle.rules.specs.Layout.{row-at, length-rowsOf}
 use Rattle.rows.specs.Flat.{entry-at}
 use Rattle.elimination.specs.declared.step.Progress.{Progress}
-use Rattle.elimination.specs.Progress.{Within, Kept, stateOf}
+use Rattle.elimination.specs.Progress.{Within, Kept, state, stateOf}
 use Rattle.elimination.specs.StoreStates.{every-part, within-paste, kept-paste, kept-then, kept-same, rowsOf-paste}
 use Rattle.elimination.specs.NewRows.{row-room}
 
@@ -83,7 +83,8 @@ module _ (m : ℕ) (rows : List ℤ) (w : Within (rowNeed m) rows) (i : ℕ) (in
           ∙ ap (take 320) (drop-append-le (i * 320) front (drop (rowNeed m) rows) (omega (arith, long, room)))
           ∙ take-append-le 320 (drop (i * 320) front) (drop (rowNeed m) rows) (rw length-drop (omega (arith, long, room)))
 
-pub row-of : (m : ℕ) (rows relations : List ℤ) (p : Progress) (i : ℕ) → i < m → rowAt (stateOf m rows relations p) i ≡ rowOf (numbersAt rows i)
+pub row-of : (m : ℕ) (rows relations : List ℤ) (p : Progress) (i : ℕ) → i < m
+    → rowAt (stateOf m rows relations p) i ≡ rowOf (numbersAt rows i)
 unfolding stateOf rowAt
 row-of m rows relations p i inside = row-at m rows i inside
 
@@ -101,7 +102,8 @@ module _ (m : ℕ) (rows : List ℤ) (w : Within (rowNeed m) rows) (i j : ℕ) (
 
   within-first : Within (rowNeed m) (paste rows (j * 320) (numbersAt rows i) 320)
   within-first =
-      within-paste (rowNeed m) rows w (j * 320) (numbersAt rows i) 320 long-i (row-room m j rows w other) (small-numbersAt m rows w i inside)
+      within-paste (rowNeed m) rows w (j * 320) (numbersAt rows i) 320 long-i (row-room m j rows w other)
+      (small-numbersAt m rows w i inside)
 
   within-exchanged : Within (rowNeed m) exchanged
   within-exchanged =
@@ -155,16 +157,16 @@ module _ (m : ℕ) (rows : List ℤ) (w : Within (rowNeed m) rows) (i j : ℕ) (
       second : rowAt s j ≡ rowOf (numbersAt rows j)
       second = row-of m rows relations p j other
 
-      withRows : List Row → State
-      withRows l = record { rows = l; relations = relationsOf (p .count) relations; order = take (p .settled) (p .order); shifts = p .shifts }
-
       cases : (t : Bool) → cond t (exchange s i j) s ≡ stateOf m (cond t exchanged rows) relations p
-      cases true = ap withRows (ap₂ (λ a b. set (set (rowsOf m rows) j a) i b) first second ∙ sym rows-exchanged)
+      cases true =
+          ap (λ l. state l (relationsOf (p .count) relations) (take (p .settled) (p .order)) (p .shifts))
+          (ap₂ (λ a b. set (set (rowsOf m rows) j a) i b) first second ∙ sym rows-exchanged)
       cases false = refl
 
   -- Row i stands in one of the two places afterwards.
   pub narrowed-one : j ≢ i
-      → (rowOf (numbersAt (narrowed rows i j) j) ≡ rowOf (numbersAt rows i)) ⊎ (rowOf (numbersAt (narrowed rows i j) i) ≡ rowOf (numbersAt rows i))
+      → (rowOf (numbersAt (narrowed rows i j) j) ≡ rowOf (numbersAt rows i))
+      ⊎ (rowOf (numbersAt (narrowed rows i j) i) ≡ rowOf (numbersAt rows i))
   unfolding narrowed
   narrowed-one n = cases (ltb (width (rowOf (numbersAt rows i))) (width (rowOf (numbersAt rows j))))
     where

@@ -27,7 +27,7 @@ use Rattle.rows.specs.Worked.{Held, refusalOf, numbersOf}
 use Rattle.rows.specs.Combination.{combined-held}
 use Rattle.rows.specs.Shifting.{shifted-held}
 use Rattle.elimination.specs.declared.step.Progress.{Progress}
-use Rattle.elimination.specs.Progress.{Within, Kept, stateOf, outcomeOf}
+use Rattle.elimination.specs.Progress.{Within, Kept, state, stateOf, outcomeOf}
 use Rattle.elimination.specs.StoreStates.{rowsOf-paste, within-paste, kept-paste, kept-same}
 
 -- ---- a new row, or the number of the limit that it breaks
@@ -99,7 +99,7 @@ module _ (m i : ℕ) (store : List ℤ) (w : Within (rowNeed m) store) (inside :
       → outcomeOf (refusalOf x) false (stateOf m (after x) relations p) ≡ putLimited (stateOf m store relations p) i x
   unfolding Storable saved refusalOf numbersOf outcomeOf putLimited putRow stateOf rowNeed
   saved-outcome (within r) h relations p =
-      ap (λ rows. going (record { rows = rows; relations = relationsOf (p .count) relations; order = take (p .settled) (p .order); shifts = p .shifts }))
+      ap (λ rows. going (state rows (relationsOf (p .count) relations) (take (p .settled) (p .order)) (p .shifts)))
       (rowsOf-paste m store (coefficientsOf r) i (h .long) (w .long) inside ∙ ap (set (rowsOf m store) i) (h .numbers))
   saved-outcome (beyond zero) h relations p = absurd (not-suc-le-zero h)
   saved-outcome (beyond (suc n)) h relations p = refl

@@ -1,8 +1,7 @@
 -- The run as a loop of steps.
 --
 -- Main definitions
---   startOf count          the progress with which a run begins
---   Run m .. o left x      the loop's invariant: from the outcome that is reached, at most `left` steps more give x
+--   Running side m .. o left x   the loop's invariant: at most `left` steps more from the answer o give x
 --
 -- Main statements
 --   enough-rows            the number of steps that are enough for m rows in a store
@@ -11,21 +10,20 @@ use Prim.Native.Nat.{ℕ, zero, suc, _+_, _*_, _-_, _≤_, _<_, zero-le}
 use native.Mathlib.Nat.{mul-le-mul, not-suc-le-zero}
 use native.Mathlib.Numerals.{add-one}
 use native.Mathlib.Omega.{arith}
-use mathlib.Core.Path.{_≡_, refl, sym, _∙_, ap, ap₂, subst}
+use mathlib.Core.Path.{_≡_, refl, sym, _∙_, ap, ap₂}
 use mathlib.Core.Bool.{Bool, true, false, false≢true}
-use mathlib.Core.List.{List, [], _∷_}
+use mathlib.Core.List.{List}
 use lib.Dec.{lit<}
 use lib.IntN.{ℤ}
-use lib.ListN.{length, take}
-use Rattle.rules.specs.Rows.{noRow, All}
-use Rattle.rules.specs.Stores.{parts, rowOf, rowsOf, relationsOf, relationNeed, rowNeed}
+use lib.ListN.{take}
+use Rattle.rules.specs.Rows.{All}
+use Rattle.rules.specs.Stores.{rowsOf, relationsOf, relationNeed, rowNeed}
 use Rattle.rules.specs.Elimination.{Side, State, Outcome, going, done, refused, step, andThen, run, enough, start}
-use Rattle.rules.specs.Layout.{length-rowsOf, row-at}
+use Rattle.rules.specs.Layout.{length-rowsOf}
 use Rattle.rows.specs.Flat.{length-blocks}
 use Rattle.rows.specs.Found.{Columns}
-use Rattle.elimination.specs.declared.step.Progress.{Progress}
 use Rattle.elimination.specs.declared.step.Outcome as Answer
-use Rattle.elimination.specs.Progress.{Within, Listing, Ready, Reached, stateOf, outcomeOf, outcomeAt}
+use Rattle.elimination.specs.Progress.{Within, Listing, Ready, Reached, stateOf, outcomeOf, outcomeAt, answerOf, startProgress}
 use Rattle.elimination.specs.StoreStates.{kept-same, kept-then}
 
 -- ---- how many steps are enough
@@ -50,12 +48,9 @@ enough-few m h = omega (arith, mul-le-mul (count m h) (width m h))
 
 -- ---- the loop
 
-abbrev pub startOf : ℕ → Progress
-startOf count = record { settled = 0; order = 0 ∷ 0 ∷ 0 ∷ 0 ∷ []; count = count; shifts = 0 }
-
 -- What a run asks is what its first step asks.
 start-ready : (m count : ℕ) (rows relations : List ℤ) → m ≤ 4 → Within (rowNeed m) rows → Listing count relations
-    → Ready m rows relations (startOf count)
+    → Ready m rows relations (startProgress count)
 unfolding Columns All
 start-ready m count rows relations h w l =
     record {
@@ -94,14 +89,15 @@ step-then side (suc k) s h = ap (λ n. andThen (step side s) (run side n)) (befo
     before k = omega arith
 
 -- The loop: o is reached, and at most `left` steps more give x.
-pub record Running (side : Side) (m : ℕ) (rows relations rows' relations' : List ℤ) (o : Answer.Outcome) (left : ℕ) (x : Outcome) : Type 0 where
+pub record Running (side : Side) (m : ℕ) (rows relations rows' relations' : List ℤ) (o : Answer.Outcome) (left : ℕ) (x : Outcome)
+    : Type 0 where
   pub few : left ≤ 121
   pub reached : Reached m rows relations rows' relations' (121 - left) o (outcomeAt m rows' relations' o)
   pub whole : andThen (outcomeAt m rows' relations' o) (run side left) ≡ x
 
 pub run-starts : (side : Side) (m count left : ℕ) (rows relations : List ℤ) → m ≤ 4 → Within (rowNeed m) rows → Listing count relations
     → left ≡ (m + 1) * (m + m * 5) + 1
-    → Running side m rows relations rows relations (record { refusal = 0; done = false; progress = startOf count }) left
+    → Running side m rows relations rows relations (answerOf 0 (startProgress count)) left
     (run side (enough (rowsOf m rows)) (start (rowsOf m rows) (relationsOf count relations)))
 unfolding outcomeOf stateOf start andThen
 run-starts side m count left rows relations h w l e =
@@ -121,7 +117,8 @@ run-starts side m count left rows relations h w l e =
 module _ {side : Side} {m : ℕ} {rows relations rows' relations' : List ℤ} {o : Answer.Outcome} {left : ℕ} {x : Outcome}
     (r : Running side m rows relations rows' relations' o left x) where
   -- The run has come to its end with the outcome that is reached.
-  ended : andThen (outcomeAt m rows' relations' o) (run side left) ≡ outcomeAt m rows' relations' o → Reached m rows relations rows' relations' 121 o x
+  ended : andThen (outcomeAt m rows' relations' o) (run side left) ≡ outcomeAt m rows' relations' o
+      → Reached m rows relations rows' relations' 121 o x
   ended e =
       record {
         outcome = sym e ∙ r .whole;

@@ -6,31 +6,32 @@
 --   step-met, met-nonzero  rule 2: settled row j meets a nonzero entry, and the entries are not both zero after the exchange
 --   step-settled           rule 5: what settling gives
 --   step-shift             rule 6
-use Prim.Native.Nat.{ℕ, zero, suc, _+_, _*_, _≤_, _<_, suc-le-suc}
+use Prim.Native.Nat.{ℕ, zero, suc, _+_, _≤_, _<_, suc-le-suc}
 use native.Mathlib.Nat.{zero-lt-suc, le-of-eq}
 use native.Mathlib.Numerals.{add-one}
 use native.Mathlib.Omega.{arith}
-use mathlib.Core.Path.{_≡_, refl, sym, _∙_, ap, ap₂, subst}
+use mathlib.Core.Path.{_≡_, refl, sym, _∙_, ap, subst}
 use mathlib.Core.Logic.{_⊎_, inl, inr, ⊎-elim}
 use mathlib.Core.Bool.{Bool, true, false, not, _&&_, and-false, cond}
 use mathlib.Core.List.{List, [], _∷_, _++_, map}
 use mathlib.Core.Option.{Option, none, some, Option·map}
 use borrow.Author.Tests.{lt-ltb, le-ltb}
-use lib.Dec.{T, ltb, lit<}
+use lib.Dec.{T, lit<}
 use lib.IntN.{ℤ}
 use lib.ListN.{length, take, drop, getD, set, length-set}
-use lib.Seq.{length-take-le, take-suc-set, getD-set-same, getD-set-other}
+use lib.Seq.{length-take-le, take-suc-set}
 use Rattle.algebra.specs.Polynomials.{Polynomial, isZero, isZero-append}
-use Rattle.rules.specs.Rows.{Row, noRow, All, zeroRow, width, entry, leadingBlock, firstNonzero}
+use Rattle.rules.specs.Rows.{Row, All, zeroRow, entry, leadingBlock, firstNonzero}
 use Rattle.rules.specs.Stores.{rowOf, rowsOf, relationsOf, relationNeed, rowNeed}
-use Rattle.rules.specs.Elimination.{Side, State, Outcome, going, done, refused, rowAt, settle, exchange, putRow, narrowFirst, multipliersAt}
+use Rattle.rules.specs.Elimination.{Side, State, going, done, refused, settle, multipliersAt}
 use Rattle.rules.specs.Elimination.{combineStep, eliminateStep, shiftStep, settleOrShift, meet, workOn, step}
 use Rattle.rules.specs.Layout.{length-rowsOf, parts-length}
 use Rattle.rows.specs.Flat.{block-at}
 use Rattle.rows.specs.Found.{foundOr, Columns, entriesAt, length-entriesAt, getD-entriesAt}
 use Rattle.elimination.specs.declared.step.Progress.{Progress}
-use Rattle.elimination.specs.Progress.{Ready, Kept, Reached, stateOf, outcomeOf}
+use Rattle.elimination.specs.Progress.{Ready, Reached, state, stateOf, outcomeOf, answerOf, settledProgress, ready-with}
 use Rattle.elimination.specs.StoreStates.{kept-same}
+use Rattle.elimination.specs.StepLaws.{metEntries}
 use Rattle.elimination.specs.Exchange.{numbersAt, narrowed, row-of, narrowed-within, narrowed-state, narrowed-one}
 
 -- ---- what the searches in a row find
@@ -62,9 +63,6 @@ found-none n ps h g = cases (firstNonzero ps) (first-found ps) g
     cases none f g = refl
     cases (some k) f g = absurd (omega (arith, f .0))
 
-abbrev pub settledProgress : Progress → ℕ → Progress
-settledProgress p c = record { settled = p .settled + 1; order = set (p .order) (p .settled) c; count = p .count; shifts = p .shifts }
-
 columns-set : (order : List ℕ) (i c : ℕ) → Columns order → c < 4 → Columns (set order i c)
 unfolding Columns All
 columns-set [] i c a h = tt
@@ -77,7 +75,7 @@ not-both-zero a b (inr z) = subst (λ t. T (not t)) (sym (isZero-append a b ∙ 
 
 -- ---- the cases
 
-module _ (side : Side) (m : ℕ) (rows relations : List ℤ) (p : Progress) (ready : Ready m rows relations p) where
+module _ (side : Side) {m : ℕ} {rows relations : List ℤ} {p : Progress} (ready : Ready m rows relations p) where
   abbrev s : State
   s = stateOf m rows relations p
 
@@ -105,7 +103,8 @@ module _ (side : Side) (m : ℕ) (rows relations : List ℤ) (p : Progress) (rea
   unfolding step
   step-done h = rw (order-length, rows-length, le-ltb w m h)
 
-  pub done-reached : m ≤ w → Reached m rows relations rows relations (p .shifts + 1) (record { refusal = 0; done = true; progress = p }) (step side s)
+  pub done-reached : m ≤ w
+      → Reached m rows relations rows relations (p .shifts + 1) (record { refusal = 0; done = true; progress = p }) (step side s)
   unfolding outcomeOf
   done-reached h =
       record {
@@ -118,21 +117,14 @@ module _ (side : Side) (m : ℕ) (rows relations : List ℤ) (p : Progress) (rea
 
   module _ (inside : w < m) where
     pub narrowed-ready : (j : ℕ) → j < w → Ready m (narrowed rows w j) relations p
-    narrowed-ready j h =
-        record {
-          unknowns = ready .unknowns;
-          rows-within = narrowed-within m rows (ready .rows-within) w j inside (omega arith);
-          listing = ready .listing;
-          settled = ready .settled;
-          four = ready .four;
-          columns = ready .columns;
-        }
+    narrowed-ready j h = ready-with ready (narrowed-within m rows (ready .rows-within) w j inside (omega arith)) (ready .listing)
 
     step-is : step side s ≡ cond (zeroRow row) (refused 6) (meet side s w (firstNonzero entries))
     unfolding step workOn stateOf
     step-is =
         rw (order-length, rows-length, lt-ltb w m inside)
-        (ap (λ r. cond (zeroRow r) (refused 6) (meet side s w (firstNonzero (map (entry r) (take w (p .order)))))) (row-of m rows relations p w inside))
+        (ap (λ r. cond (zeroRow r) (refused 6) (meet side s w (firstNonzero (map (entry r) (take w (p .order))))))
+        (row-of m rows relations p w inside))
 
     pub step-zero : zeroRow row ≡ true → step side s ≡ refused 6
     step-zero z = step-is ∙ ap (λ t. cond t (refused 6) (meet side s w (firstNonzero entries))) z
@@ -150,12 +142,11 @@ module _ (side : Side) (m : ℕ) (rows relations : List ℤ) (p : Progress) (rea
           (narrowed-state m rows (ready .rows-within) w j inside (omega arith) relations p)
 
       -- The entry of the row that is worked on stands in one of the two rows after the exchange.
-      pub met-nonzero : (j : ℕ) → foundOr w (firstNonzero entries) ≡ j → j < w → let c = getD (p .order) j 0 in
-          T (not (isZero (entry (rowOf (numbersAt (narrowed rows w j) j)) c ++ entry (rowOf (numbersAt (narrowed rows w j) w)) c)))
+      pub met-nonzero : (j : ℕ) → foundOr w (firstNonzero entries) ≡ j → j < w → T (not (isZero (metEntries (narrowed rows w j) p j)))
       unfolding FoundAt
       met-nonzero j e h =
           not-both-zero (entry (rowOf (numbersAt (narrowed rows w j) j)) column) (entry (rowOf (numbersAt (narrowed rows w j) w)) column)
-          (⊎-elim (λ f. inl (ap (λ r. isZero (entry r column)) f ∙ entry-nonzero)) (λ f. inr (ap (λ r. isZero (entry r column)) f ∙ entry-nonzero))
+          (⊎-elim (λ f. inl (same f)) (λ f. inr (same f))
           (narrowed-one m rows (ready .rows-within) w j inside (omega arith) (λ f. omega arith)))
         where
           column : ℕ
@@ -165,6 +156,9 @@ module _ (side : Side) (m : ℕ) (rows relations : List ℤ) (p : Progress) (rea
           entry-nonzero =
               sym (ap isZero (getD-entriesAt row (p .order) w j enough h))
               ∙ subst (FoundAt entries) (found-some w j (firstNonzero entries) e h) (first-found entries) .1
+
+          same : {r : Row} → r ≡ row → isZero (entry r column) ≡ false
+          same f = ap (λ r. isZero (entry r column)) f ∙ entry-nonzero
 
       module _ (none-met : w ≤ foundOr w (firstNonzero entries)) where
         step-none : step side s ≡ settleOrShift s w (firstNonzero (leadingBlock row))
@@ -186,11 +180,12 @@ module _ (side : Side) (m : ℕ) (rows relations : List ℤ) (p : Progress) (rea
             columns-four = let l = numbersAt rows w in ap length (block-at l 0 (lit< tt)) ∙ parts-length 16 4 (take 64 (drop 0 l))
 
         pub settled-reached : (c : ℕ) → foundOr 4 (firstNonzero (leadingBlock row)) ≡ c → c < 4
-            → Reached m rows relations rows relations (p .shifts + 1) (record { refusal = 0; done = false; progress = settledProgress p c }) (step side s)
+            → Reached m rows relations rows relations (p .shifts + 1) (answerOf 0 (settledProgress p c)) (step side s)
         unfolding outcomeOf settle stateOf
         settled-reached c e h =
             record {
-              outcome = ap (λ o. going (withOrder o)) order ∙ sym (step-settle c e h);
+              outcome =
+                  ap (λ o. going (state (rowsOf m rows) (relationsOf (p .count) relations) o (p .shifts))) order ∙ sym (step-settle c e h);
               rows-kept = kept-same (rowNeed m) rows;
               relations-kept = kept-same relationNeed relations;
               few-shifts = omega arith;
@@ -205,8 +200,5 @@ module _ (side : Side) (m : ℕ) (rows relations : List ℤ) (p : Progress) (rea
                   };
             }
           where
-            withOrder : List ℕ → State
-            withOrder o = record { rows = rowsOf m rows; relations = relationsOf (p .count) relations; order = o; shifts = p .shifts }
-
             order : take (w + 1) (set (p .order) w c) ≡ take w (p .order) ++ (c ∷ [])
             order = rw add-one (take-suc-set (p .order) w c (omega arith))

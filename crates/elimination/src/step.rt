@@ -1,20 +1,20 @@
 // One step of the elimination over the lent stores: what `step` of `rules` says of the state that the stores hold.
 ghost use mathlib.Core.Path.{_≡_};
-ghost use mathlib.Core.Bool.{false, not};
+ghost use mathlib.Core.Bool.{not};
 ghost use mathlib.Core.List.{_++_};
-ghost use Prim.Native.Nat.{ℕ, _+_, _*_, _^_, _≤_, _<_};
+ghost use Prim.Native.Nat.{_+_, _*_, _^_, _≤_, _<_};
 ghost use lib.Dec.{T};
-ghost use lib.ListN.{length, getD, set};
+ghost use lib.ListN.{length};
 ghost use Rattle.algebra.specs.Polynomials.{isZero};
 ghost use Rattle.rules.specs.Limits.{small};
-ghost use Rattle.rules.specs.Rows.{every, entry, shiftUp};
+ghost use Rattle.rules.specs.Rows.{every, entry};
 ghost use Rattle.rules.specs.Elimination as Elimination;
 ghost use Rattle.rules.specs.Stores.{rowOf};
 ghost use Rattle.rows.specs.Worked.{refusalOf, numbersOf};
-ghost use Rattle.elimination.specs.Progress.{Ready, Reached, sideOf, stateOf};
+ghost use Rattle.elimination.specs.Progress.{Ready, Reached, sideOf, stateOf, answerOf, settledProgress, shiftedProgress};
 ghost use Rattle.elimination.specs.NewRows.{saved};
-ghost use Rattle.elimination.specs.Exchange.{numbersAt, narrowed};
-ghost use Rattle.elimination.specs.StepLaws.{shiftedProgress};
+ghost use Rattle.elimination.specs.Exchange.{narrowed};
+ghost use Rattle.elimination.specs.StepLaws.{metEntries, shiftedRow};
 
 // How far a run has come: the settled rows with their columns, counted from 0, the relations listed and the shifts made.
 pub(crate) struct Progress {
@@ -33,7 +33,7 @@ pub(crate) struct Outcome {
 
 // A refusal, or 0: the run goes on.
 fn answer(refusal: u8, p: Progress) -> Outcome
-    ensures { λ r. ⌜ r ≡ record { refusal = refusal; done = false; progress = p } ⌝ }
+    ensures { λ r. ⌜ r ≡ answerOf refusal p ⌝ }
 {
     Outcome {
         refusal,
@@ -51,7 +51,7 @@ fn put_limited(
 ) -> Outcome
     requires { ⌜ i * 320 + 320 ≤ length (now rows) ⌝ }
     ensures { λ _. ⌜ now (rows .exit) ≡ saved (now (rows .entry)) i (worked .refusal) (worked .row) ⌝ }
-    ensures { λ r. ⌜ r ≡ record { refusal = worked .refusal; done = false; progress = next } ⌝ }
+    ensures { λ r. ⌜ r ≡ answerOf (worked .refusal) next ⌝ }
 {
     let refusal = worked.refusal;
     if refusal != 0 {
@@ -81,7 +81,8 @@ fn multipliers_at(
     pivot: [i64; 320],
     c: usize,
 ) -> polynomials::content::Multipliers
-    requires { ⌜ (c < 4) × T (every small target) × T (every small pivot) × T (not (isZero (entry (rowOf pivot) c ++ entry (rowOf target) c))) ⌝ }
+    requires { ⌜ (c < 4) × T (every small target) × T (every small pivot) ⌝ }
+    requires { ⌜ T (not (isZero (entry (rowOf pivot) c ++ entry (rowOf target) c))) ⌝ }
     ensures { λ r. ⌜ r .g ≡ Elimination.multipliers (entry (rowOf pivot) c) (entry (rowOf target) c) .g ⌝ }
     ensures { λ r. ⌜ r .h ≡ Elimination.multipliers (entry (rowOf pivot) c) (entry (rowOf target) c) .h ⌝ }
 {
@@ -95,7 +96,7 @@ fn multipliers_at(
 // Rule 5: "c(i) is the smallest column with a nonzero entry, and the row is settled".
 fn settled(c: usize, p: Progress) -> Progress
     requires { ⌜ (p .settled < 4) × (length (p .order) ≡ 4) ⌝ }
-    ensures { λ r. ⌜ r ≡ record { settled = p .settled + 1; order = set (p .order) (p .settled) c; count = p .count; shifts = p .shifts } ⌝ }
+    ensures { λ r. ⌜ r ≡ settledProgress p c ⌝ }
 {
     let mut order = p.order;
     let w = p.settled;
@@ -111,8 +112,8 @@ fn settled(c: usize, p: Progress) -> Progress
 // Rule 6.
 fn shift_step(rows: &mut [i64], row: [i64; 320], p: Progress) -> Outcome
     requires { ⌜ (p .settled * 320 + 320 ≤ length (now rows)) × T (every small row) × (p .shifts < 2 ^ 32) ⌝ }
-    ensures { λ _. ⌜ now (rows .exit) ≡ saved (now (rows .entry)) (p .settled) (refusalOf (Elimination.limitCoefficients (shiftUp (rowOf row)))) (numbersOf (Elimination.limitCoefficients (shiftUp (rowOf row)))) ⌝ }
-    ensures { λ r. ⌜ r ≡ record { refusal = refusalOf (Elimination.limitCoefficients (shiftUp (rowOf row))); done = false; progress = shiftedProgress p } ⌝ }
+    ensures { λ _. ⌜ now (rows .exit) ≡ saved (now (rows .entry)) (p .settled) (refusalOf (shiftedRow row)) (numbersOf (shiftedRow row)) ⌝ }
+    ensures { λ r. ⌜ r ≡ answerOf (refusalOf (shiftedRow row)) (shiftedProgress p) ⌝ }
 {
     let i = p.settled;
     let order = p.order;
@@ -135,7 +136,7 @@ fn combine_step(
     p: Progress,
 ) -> Outcome
     requires { ⌜ Ready m (now rows) (now relations) p × (p .settled < m) × (j < p .settled) ⌝ }
-    requires { ⌜ T (not (isZero (entry (rowOf (numbersAt (now rows) j)) (getD (p .order) j 0) ++ entry (rowOf (numbersAt (now rows) (p .settled))) (getD (p .order) j 0)))) ⌝ }
+    requires { ⌜ T (not (isZero (metEntries (now rows) p j))) ⌝ }
     ensures { λ r. ⌜ Reached m (now (rows .entry)) (now (relations .entry)) (now (rows .exit)) (now (relations .exit)) (p .shifts + 1) r
         (Elimination.combineStep (sideOf trailing) (stateOf m (now (rows .entry)) (now (relations .entry)) p) (p .settled) j
         (Elimination.multipliersAt (stateOf m (now (rows .entry)) (now (relations .entry)) p) (p .settled) j)) ⌝ }

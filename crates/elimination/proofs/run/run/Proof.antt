@@ -1,7 +1,6 @@
 -- `elimination::run::run` meets its contract. The loop's invariant: at most `left` steps more from the outcome that is reached give what
 -- the whole run gives.
 -- Assumes nothing.
-use mathlib.Core.Path.{_≡_, sym, _∙_}
 use native.Mathlib.Omega.{arith}
 use denote.Ref.{now}
 use Rattle.rules.specs.Stores.{rowsOf, relationsOf}
@@ -14,7 +13,8 @@ use Rattle.elimination.proofs.run.run.Tie as tie
 abbrev Inv-loop : tie.InvT-loop
 Inv-loop rows₀ relations₀ m trailing count o₀ left₀ rows relations o left =
     Running (sideOf trailing) m rows₀ relations₀ rows relations o left
-    (Elimination.run (sideOf trailing) (Elimination.enough (rowsOf m rows₀)) (Elimination.start (rowsOf m rows₀) (relationsOf count relations₀)))
+    (Elimination.run (sideOf trailing) (Elimination.enough (rowsOf m rows₀))
+    (Elimination.start (rowsOf m rows₀) (relationsOf count relations₀)))
 
 abbrev μ-loop : tie.MeasureT-loop
 μ-loop rows₀ relations₀ m trailing count o₀ left₀ rows relations o left = left
@@ -26,8 +26,8 @@ loop-holds : tie.Need-loop-holds Inv-loop μ-loop
 loop-holds c =
     let start = c .before in
     let args = start .args in
-    run-starts (sideOf (args .trailing)) (args .m) (args .count) (c .enough .result) (now (args .rows)) (now (args .relations)) (start .pre .0)
-    (start .pre .1) (start .pre .2) (c .enough .ensures)
+    run-starts (sideOf (args .trailing)) (args .m) (args .count) (c .enough .result) (now (args .rows)) (now (args .relations))
+    (start .pre .0) (start .pre .1) (start .pre .2) (c .enough .ensures)
 
 same-length : tie.Need-same-length Inv-loop μ-loop
 same-length c = c .before .before .loop .inv .reached .rows-kept .same-length
@@ -62,8 +62,8 @@ loop-again : tie.Need-loop-again Inv-loop μ-loop
 loop-again c =
     let asked = c .before .before .before in
     let turn = asked .before .before .before .before .before in
-    run-goes (turn .before .loop .inv) (turn .loop-test .taken) (asked .before .before .before .before .if1 .left) (asked .before .before .before .if2 .left)
-    (c .before .before .step .ensures)
+    run-goes (turn .before .loop .inv) (turn .loop-test .taken) (asked .before .before .before .before .if1 .left)
+    (asked .before .before .before .if2 .left) (c .before .before .step .ensures)
 
 same-length-5 : tie.Need-same-length-5 Inv-loop μ-loop
 same-length-5 c = c .before .loop .inv .reached .rows-kept .same-length

@@ -1,8 +1,8 @@
--- `elimination::step::combine_step` meets its contract.
+-- `elimination::step::combine_step` meets its contract: multipliers, roots, relations and new row are those of the definition.
 -- Assumes nothing.
 use mathlib.Core.Path.{_≡_, refl, sym, _∙_, ap, ap₂, subst, subst₂}
+use mathlib.Core.Bool.{not}
 use mathlib.Core.List.{List, _++_}
-use mathlib.Core.Bool.{false, not}
 use Prim.Native.Nat.{ℕ, _+_, _*_, _≤_, _<_}
 use native.Mathlib.Nat.{le-of-eq}
 use native.Mathlib.Omega.{arith}
@@ -11,33 +11,37 @@ use denote.Ref.{now}
 use lib.Dec.{T}
 use lib.IntN.{ℤ}
 use lib.ListN.{length, getD, length-append, length-replicate}
-use Rattle.algebra.specs.Polynomials.{Polynomial, isZero}
+use Rattle.algebra.specs.Polynomials.{isZero}
 use Rattle.algebra.specs.Roots.{roots}
 use Rattle.rules.specs.Limits.{small}
 use Rattle.rules.specs.Rows.{every, entry, combine, primitive}
 use Rattle.rules.specs.Stores.{rowOf}
-use Rattle.rules.specs.Elimination.{Side, State, Outcome, refused, Multipliers, multipliers, multipliersAt, combineStep, listing, Limited, limitDegrees}
+use Rattle.rules.specs.Elimination.{Side, Limited, limitDegrees, Multipliers, multipliers, multipliersAt, listing, combineStep}
 use Rattle.polynomials.specs.RootSearch.{listed, held, held-of, roots-few}
 use Rattle.rows.specs.Found.{Columns-at}
 use Rattle.rows.specs.Worked.{refusalOf, numbersOf}
 use Rattle.elimination.specs.declared.step.Progress.{Progress}
-use Rattle.elimination.specs.Progress.{Ready, sideOf, stateOf}
+use Rattle.elimination.specs.Progress.{Ready, sideOf, stateOf, answerOf, listedProgress}
 use Rattle.elimination.specs.Relations.{Relisted}
 use Rattle.elimination.specs.Bounds.{Sixteen, multipliers-fit, roots-small}
 use Rattle.elimination.specs.NewRows.{Storable, saved, row-room, combined-storable}
 use Rattle.elimination.specs.Exchange.{numbersAt, length-numbersAt, small-numbersAt, length-entry, small-entry}
-use Rattle.elimination.specs.StepLaws.{multipliersIn, newRow, listedProgress, multipliers-in, combine-refused, combine-reached, refused-reached, reached-same}
+use Rattle.elimination.specs.StepLaws.{multipliersIn, newRow, multipliers-in, combine-refused, combine-reached}
+use Rattle.elimination.specs.StepLaws.{refused-reached, reached-same}
 use Rattle.elimination.proofs.step.combine_step.Statement.{statement}
 use Rattle.elimination.proofs.step.combine_step.Tie as tie
-
-listed-length : (l : List ℤ) → length l ≤ 16 → length (listed l .values) ≡ 16
-listed-length l h = simp (length-append, length-replicate) (omega arith)
 
 abbrev Small : List ℤ → Type 0
 Small l = T (every small l)
 
+abbrev multipliersOf : ℕ → List ℤ → List ℤ → Multipliers
+multipliersOf c target pivot = multipliers (entry (rowOf pivot) c) (entry (rowOf target) c)
+
 abbrev NotBoth : ℕ → List ℤ → List ℤ → Type 0
-NotBoth c l k = T (not (isZero (entry (rowOf l) c ++ entry (rowOf k) c)))
+NotBoth c target pivot = T (not (isZero (entry (rowOf pivot) c ++ entry (rowOf target) c)))
+
+listed-length : (l : List ℤ) → length l ≤ 16 → length (listed l .values) ≡ 16
+listed-length l h = simp (length-append, length-replicate) (omega arith)
 
 -- the arguments
 module _ (c : tie.Start) where
@@ -68,11 +72,21 @@ module _ (c : tie.Start) where
   inside : i < m
   inside = c .pre .0 .1
 
-  other : j < m
-  other = omega (arith, c .pre .0 .1, c .pre .0 .2)
+  settled : j < i
+  settled = c .pre .0 .2
 
-  abbrev before-state : State
-  before-state = stateOf m rows relations p
+  other : j < m
+  other = omega (arith, inside, settled)
+
+  room : (k : ℕ) → k < m → k * 320 + 320 ≤ length rows
+  room k h = omega (arith, row-room m k rows (ready .rows-within) h, ready .rows-within .long)
+
+  -- the two rows and their entries
+  abbrev target : List ℤ
+  target = numbersAt rows i
+
+  abbrev pivot : List ℤ
+  pivot = numbersAt rows j
 
   abbrev column : ℕ
   column = getD (p .order) j 0
@@ -80,32 +94,42 @@ module _ (c : tie.Start) where
   below : column < 4
   below = Columns-at (p .order) (ready .columns) j
 
+  target-small : Small target
+  target-small = small-numbersAt m rows (ready .rows-within) i inside
+
+  pivot-small : Small pivot
+  pivot-small = small-numbersAt m rows (ready .rows-within) j other
+
+  target-long : length target ≡ 320
+  target-long = length-numbersAt m rows (ready .rows-within) i inside
+
+  entry-fits : (l : List ℤ) → length l ≡ 320 → Small l → Sixteen (entry (rowOf l) column)
+  entry-fits l e h = (length-entry l column e below, small-entry l column h below)
+
+  -- the multipliers and their roots
   abbrev x : Multipliers
   x = multipliersIn rows p j
 
-  room : (k : ℕ) → k < m → k * 320 + 320 ≤ length rows
-  room k h = omega (arith, row-room m k rows (ready .rows-within) h, ready .rows-within .long)
-
-  abbrev target : List ℤ
-  target = numbersAt rows i
-
-  abbrev pivot : List ℤ
-  pivot = numbersAt rows j
-
-  target-fits : (length target ≡ 320) × T (every small target)
-  target-fits = (length-numbersAt m rows (ready .rows-within) i inside, small-numbersAt m rows (ready .rows-within) i inside)
-
-  pivot-fits : (length pivot ≡ 320) × T (every small pivot)
-  pivot-fits = (length-numbersAt m rows (ready .rows-within) j other, small-numbersAt m rows (ready .rows-within) j other)
-
-  entry-fits : (l : List ℤ) → (length l ≡ 320) × T (every small l) → Sixteen (entry (rowOf l) column)
-  entry-fits l h = (length-entry l column (h .0) below, small-entry l column (h .1) below)
-
   fits : Sixteen (x .g) × Sixteen (x .h)
   fits =
-      multipliers-fit (entry (rowOf pivot) column) (entry (rowOf target) column) (entry-fits pivot pivot-fits) (entry-fits target target-fits)
+      multipliers-fit (entry (rowOf pivot) column) (entry (rowOf target) column)
+      (entry-fits pivot (length-numbersAt m rows (ready .rows-within) j other) pivot-small) (entry-fits target target-long target-small)
 
--- the two rows
+  few : length (roots (x .g)) ≤ 15
+  few = roots-few (x .g) (le-of-eq (fits .0 .0))
+
+  combine-is : combineStep side (stateOf m rows relations p) i j (multipliersAt (stateOf m rows relations p) i j)
+      ≡ combineStep side (stateOf m rows relations p) i j x
+  combine-is = ap (combineStep side (stateOf m rows relations p) i j) (multipliers-in side ready j inside settled)
+
+  -- the new row
+  abbrev new : Limited
+  new = newRow x target pivot
+
+  storable : Storable new
+  storable = combined-storable (x .g) (x .h) target pivot (omega (arith, fits .0 .0)) target-long
+
+-- the two rows, loaded
 module _ (c : tie.After-order) where
   abbrev loaded : tie.Start
   loaded = c .before .before .before .before .before
@@ -121,78 +145,63 @@ module _ (c : tie.After-multipliers-at) where
   abbrev start : tie.Start
   start = loaded (c .before)
 
-  multipliers-are : (select : Multipliers → Polynomial) → select (multipliers (entry (rowOf (c .before .before .load2 .result)) (column start))
-      (entry (rowOf (c .before .before .before .before .load .result)) (column start))) ≡ select (x start)
-  multipliers-are select =
-      ap₂ (λ a b. select (multipliers (entry (rowOf a) (column start)) (entry (rowOf b) (column start)))) (pivot-is (c .before)) (target-is (c .before))
+  multipliers-are : multipliersOf (column start) (c .before .before .before .before .load .result) (c .before .before .load2 .result) ≡ x start
+  multipliers-are = ap₂ (multipliersOf (column start)) (target-is (c .before)) (pivot-is (c .before))
 
   g-is : c .multipliers-at .result .g ≡ x start .g
-  g-is = c .multipliers-at .ensures .0 ∙ multipliers-are (λ y. y .g)
+  g-is = c .multipliers-at .ensures .0 ∙ ap (λ y. y .g) multipliers-are
 
   h-is : c .multipliers-at .result .h ≡ x start .h
-  h-is = c .multipliers-at .ensures .1 ∙ multipliers-are (λ y. y .h)
+  h-is = c .multipliers-at .ensures .1 ∙ ap (λ y. y .h) multipliers-are
 
 -- the roots
 module _ (c : tie.After-roots) where
   abbrev multiplied : tie.After-multipliers-at
   multiplied = c .before .before .before .before
 
-  found-is : c .roots .result ≡ listed (roots (x (start multiplied) .g))
+  abbrev base : tie.Start
+  base = start multiplied
+
+  found-is : c .roots .result ≡ listed (roots (x base .g))
   found-is = c .roots .ensures ∙ ap (λ q. listed (roots q)) (g-is multiplied)
 
-  count-is : c .roots .result .count ≡ length (roots (x (start multiplied) .g))
+  count-is : c .roots .result .count ≡ length (roots (x base .g))
   count-is = ap (λ f. f .count) found-is
 
-  few : length (roots (x (start multiplied) .g)) ≤ 15
-  few = roots-few (x (start multiplied) .g) (omega (arith, fits (start multiplied) .0 .0))
-
-  values-long : length (c .roots .result .values) ≡ 16
-  values-long = ap (λ f. length (f .values)) found-is ∙ listed-length (roots (x (start multiplied) .g)) (omega (arith, few))
-
-  held-is : held (c .roots .result) ≡ roots (x (start multiplied) .g)
-  held-is = held-of (roots (x (start multiplied) .g)) found-is
-
-  combine-is : (e : Outcome) → combineStep (side (start multiplied)) (before-state (start multiplied)) (i (start multiplied)) (j (start multiplied)) (x (start multiplied)) ≡ e
-      → combineStep (side (start multiplied)) (before-state (start multiplied)) (i (start multiplied)) (j (start multiplied))
-      (multipliersAt (before-state (start multiplied)) (i (start multiplied)) (j (start multiplied))) ≡ e
-  combine-is e h =
-      let b = start multiplied in
-      ap (combineStep (side b) (before-state b) (i b) (j b)) (multipliers-in (m b) (rows b) (relations b) (p b) (j b) (inside b) (b .pre .0 .2)) ∙ h
+  held-is : held (c .roots .result) ≡ roots (x base .g)
+  held-is = held-of (roots (x base .g)) found-is
 
 -- the relations, and the new row
 module _ (c : tie.After-combined) where
   abbrev rooted : tie.After-roots
   rooted = c .before .before .before .before .before .before .before .before .before .before
 
-  abbrev base : tie.Start
-  base = start (multiplied rooted)
+  abbrev origin : tie.Start
+  origin = base rooted
 
-  abbrev new : Limited
-  new = newRow (x base) (target base) (pivot base)
+  abbrev listing-call : tie.After-list-roots
+  listing-call = c .before .before .before .before .before
 
-  abbrev relations-after : List ℤ
-  relations-after = c .before .before .before .before .before .list-roots .last .0
+  abbrev after : List ℤ
+  after = listing-call .list-roots .last .0
 
-  relisted : Relisted (p base .count) (target base) (listing (side base) (roots (x base .g))) (relations base) relations-after
+  relisted : Relisted (p origin .count) (target origin) (listing (side origin) (roots (x origin .g))) (relations origin) after
   relisted =
-      subst₂ (λ t l. Relisted (p base .count) t (listing (side base) l) (relations base) relations-after)
-      (target-is (multiplied rooted .before)) (held-is rooted) (c .before .before .before .before .before .list-roots .ensures)
+      subst₂ (λ t l. Relisted (p origin .count) t (listing (side origin) l) (relations origin) after)
+      (target-is (multiplied rooted .before)) (held-is rooted) (listing-call .list-roots .ensures)
 
-  -- The code's multipliers and rows are those of the definition.
-  same : {A : Type 0} (f : Limited → A) → f (limitDegrees (primitive (combine (multiplied rooted .multipliers-at .result .g) (multiplied rooted .multipliers-at .result .h)
-      (rowOf (multiplied rooted .before .before .before .before .load .result)) (rowOf (multiplied rooted .before .before .load2 .result))))) ≡ f new
-  same f = λ k. f (limitDegrees (primitive (combine (g-is (multiplied rooted) k) (h-is (multiplied rooted) k)
-      (rowOf (target-is (multiplied rooted .before) k)) (rowOf (pivot-is (multiplied rooted .before) k)))))
+  -- the code's multipliers and rows are those of the definition
+  refusal-is : c .combined .result .refusal ≡ refusalOf (new origin)
+  refusal-is =
+      c .combined .ensures .0
+      ∙ (λ k. refusalOf (limitDegrees (primitive (combine (g-is (multiplied rooted) k) (h-is (multiplied rooted) k)
+      (rowOf (target-is (multiplied rooted .before) k)) (rowOf (pivot-is (multiplied rooted .before) k))))))
 
-  refusal-is : c .combined .result .refusal ≡ refusalOf new
-  refusal-is = c .combined .ensures .0 ∙ same refusalOf
-
-  numbers-are : c .combined .result .row ≡ numbersOf new
-  numbers-are = c .combined .ensures .1 ∙ same numbersOf
-
-  storable : Storable new
-  storable =
-      combined-storable (x base .g) (x base .h) (target base) (pivot base) (omega (arith, fits base .0 .0)) (target-fits base .0)
+  numbers-are : c .combined .result .row ≡ numbersOf (new origin)
+  numbers-are =
+      c .combined .ensures .1
+      ∙ (λ k. numbersOf (limitDegrees (primitive (combine (g-is (multiplied rooted) k) (h-is (multiplied rooted) k)
+      (rowOf (target-is (multiplied rooted .before) k)) (rowOf (pivot-is (multiplied rooted .before) k))))))
 
 mul-load : tie.Need-mul-load
 mul-load c = search needs
@@ -204,7 +213,7 @@ mul-load-2 : tie.Need-mul-load-2
 mul-load-2 c = search needs
 
 load-requires-2 : tie.Need-load-requires-2
-load-requires-2 c κs = let start = c .before .before .before in room start (j start) (other start)
+load-requires-2 c κs = let b = c .before .before .before in room b (j b) (other b)
 
 mul-multipliers-at : tie.Need-mul-multipliers-at
 mul-multipliers-at c = search needs
@@ -214,11 +223,9 @@ array-read-multipliers-at c = search needs
 
 multipliers-at-requires : tie.Need-multipliers-at-requires
 multipliers-at-requires c κs =
-    let start = loaded c in (
-      below start,
-      subst Small (sym (target-is c)) (target-fits start .1),
-      subst Small (sym (pivot-is c)) (pivot-fits start .1),
-      subst₂ (NotBoth (column start)) (sym (pivot-is c)) (sym (target-is c)) (start .pre .1),
+    let b = loaded c in (
+      (below b, subst Small (sym (target-is c)) (target-small b), subst Small (sym (pivot-is c)) (pivot-small b)),
+      subst₂ (NotBoth (column b)) (sym (target-is c)) (sym (pivot-is c)) (b .pre .1),
     )
 
 slice-aggregate-roots : tie.Need-slice-aggregate-roots
@@ -227,11 +234,11 @@ slice-aggregate-roots c = search needs
 roots-requires : tie.Need-roots-requires
 roots-requires c κs =
     let e = c .before .before .before in
-    let g-fits = fits (start e) .0 in
-    rw (g-is e) (le-of-eq (g-fits .0), g-fits .1)
+    let g-fits = subst Sixteen (sym (g-is e)) (fits (start e) .0) in
+    (le-of-eq (g-fits .0), g-fits .1)
 
 add-count : tie.Need-add-count
-add-count c = let e = c .before .before in omega (arith, few e, count-is e, ready (start (multiplied e)) .listing .few)
+add-count c = let e = c .before .before in omega (arith, few (base e), count-is e, ready (base e) .listing .few)
 
 answer-requires : tie.Need-answer-requires
 answer-requires c κs = search needs
@@ -242,18 +249,20 @@ same-length c = search needs
 returns : tie.Need-returns
 returns c =
     let e = c .before .before .before .before in
-    let b = start (multiplied e) in
+    let b = base e in
     let many : 16 < p b .count + length (roots (x b .g)) = omega (arith, count-is e, c .before .if1 .taken) in
     reached-same refl (c .answer .ensures)
-    (combine-is e (refused 9) (combine-refused (side b) (m b) (rows b) (relations b) (p b) (j b) (inside b) (b .pre .0 .2) (x b) many))
+    (combine-is b ∙ combine-refused (side b) (ready b) (j b) (inside b) (settled b) (x b) many)
     (refused-reached (m b) (rows b) (relations b) (p b) 8)
 
 list-roots-requires : tie.Need-list-roots-requires
 list-roots-requires c κs =
     let e = c .before .before .before .before in
-    let b = start (multiplied e) in (
-      (ready b .listing, omega (arith, c .before .if1 .left), values-long e),
-      (subst Small (sym (held-is e)) (roots-small (x b .g) (fits b .0 .1)), subst Small (sym (target-is (multiplied e .before))) (target-fits b .1)),
+    let b = base e in
+    let row = subst Small (sym (target-is (multiplied e .before))) (target-small b) in
+    let values = ap (λ f. length (f .values)) (found-is e) ∙ listed-length (roots (x b .g)) (omega (arith, few b)) in (
+      (ready b .listing, omega (arith, c .before .if1 .left), values),
+      (subst Small (sym (held-is e)) (roots-small (x b .g) (fits b .0 .1)), row),
     )
 
 slice-aggregate-combined : tie.Need-slice-aggregate-combined
@@ -271,11 +280,11 @@ combined-requires c κs =
     let g-fits = subst Sixteen (sym (g-is e)) (fits b .0) in
     let h-fits = subst Sixteen (sym (h-is e)) (fits b .1) in (
       (g-fits .0, g-fits .1, h-fits .0, h-fits .1),
-      (subst Small (sym (target-is (e .before))) (target-fits b .1), subst Small (sym (pivot-is (e .before))) (pivot-fits b .1)),
+      (subst Small (sym (target-is (e .before))) (target-small b), subst Small (sym (pivot-is (e .before))) (pivot-small b)),
     )
 
 put-limited-requires : tie.Need-put-limited-requires
-put-limited-requires c κs = room (base c) (i (base c)) (inside (base c))
+put-limited-requires c κs = let b = origin c in room b (i b) (inside b)
 
 same-length-2 : tie.Need-same-length-2
 same-length-2 c = search needs
@@ -286,13 +295,14 @@ same-length-3 c = search needs
 returns-2 : tie.Need-returns-2
 returns-2 c =
     let d = c .before .before in
-    let b = base d in
+    let b = origin d in
     let put = c .before .put-limited .ensures in
-    let few : p b .count + length (roots (x b .g)) ≤ 16 = omega (arith, count-is (rooted d), d .before .before .before .before .before .before .before .if1 .left) in
+    let passed = listing-call d .before .before .if1 .left in
+    let room : p b .count + length (roots (x b .g)) ≤ 16 = omega (arith, count-is (rooted d), passed) in
     reached-same (put .0 ∙ ap₂ (saved (rows b) (i b)) (refusal-is d) (numbers-are d))
-    (put .1 ∙ ap₂ (λ n k. record { refusal = n; done = false; progress = listedProgress (p b) k }) (refusal-is d) (count-is (rooted d)))
-    (combine-is (rooted d) _ refl)
-    (combine-reached (side b) (m b) (rows b) (relations b) (p b) (j b) (inside b) (b .pre .0 .2) (x b) (relations-after d) (relisted d) (ready b) few (storable d))
+    (put .1 ∙ ap₂ (λ n k. answerOf n (listedProgress (p b) k)) (refusal-is d) (count-is (rooted d)))
+    (combine-is b)
+    (combine-reached (side b) (ready b) (j b) (inside b) (settled b) (x b) (relisted d) room (storable b))
 
 pub combine-step-spec : {M : Type 1} → statement M
 combine-step-spec =

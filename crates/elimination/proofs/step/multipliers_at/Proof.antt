@@ -21,7 +21,7 @@ module _ (c : tie.Start) where
   size = omega arith
 
   entry-of : (l : List ℤ) → take (c .args .c * 16 + 16 - c .args .c * 16) (drop (c .args .c * 16) l) ≡ entry (rowOf l) (c .args .c)
-  entry-of l = ap (λ n. take n (drop (c .args .c * 16) l)) size ∙ sym (entry-at l (c .args .c) (c .pre .0))
+  entry-of l = ap (λ n. take n (drop (c .args .c * 16) l)) size ∙ sym (entry-at l (c .args .c) (c .pre .0 .0))
 
 slice-aggregate-t : tie.Need-slice-aggregate-t
 slice-aggregate-t c = search needs
@@ -65,8 +65,8 @@ multipliers-of-requires c κs =
     let args = start .args in
     let fits = start .pre in
     rw (entry-of start (args .t1), entry-of start (args .t2)) (
-      (length-entry (args .t2) (args .c) (omega arith) (fits .0), small-entry (args .t2) (args .c) (fits .2) (fits .0), fits .3),
-      (length-entry (args .t1) (args .c) (omega arith) (fits .0), small-entry (args .t1) (args .c) (fits .1) (fits .0)),
+      (length-entry (args .t2) (args .c) (omega arith) (fits .0 .0), small-entry (args .t2) (args .c) (fits .0 .2) (fits .0 .0), fits .1),
+      (length-entry (args .t1) (args .c) (omega arith) (fits .0 .0), small-entry (args .t1) (args .c) (fits .0 .1) (fits .0 .0)),
     )
 
 returns : tie.Need-returns

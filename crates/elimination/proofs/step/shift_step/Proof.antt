@@ -1,11 +1,10 @@
 -- `elimination::step::shift_step` meets its contract.
 -- Assumes nothing.
 use mathlib.Core.Path.{_∙_, ap, ap₂}
-use mathlib.Core.Bool.{false}
 use borrow.Author.Needs.{needs}
 use denote.Ref.{now}
 use Rattle.elimination.specs.NewRows.{saved}
-use Rattle.elimination.specs.StepLaws.{shiftedProgress}
+use Rattle.elimination.specs.Progress.{answerOf, shiftedProgress}
 use Rattle.elimination.proofs.step.shift_step.Statement.{statement}
 use Rattle.elimination.proofs.step.shift_step.Tie as tie
 
@@ -27,7 +26,7 @@ returns c =
     let put = c .before .put-limited in
     let new = c .before .before .shifted .ensures in (
       put .ensures .0 ∙ ap₂ (saved (now (start .args .rows)) (start .args .p .settled)) (new .0) (new .1),
-      put .ensures .1 ∙ ap (λ n. record { refusal = n; done = false; progress = shiftedProgress (start .args .p) }) (new .0),
+      put .ensures .1 ∙ ap (λ n. answerOf n (shiftedProgress (start .args .p))) (new .0),
     )
 
 pub shift-step-spec : {M : Type 1} → statement M

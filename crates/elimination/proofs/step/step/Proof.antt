@@ -1,35 +1,34 @@
 -- `elimination::step::step` meets its contract: each way of the code is one case of the step.
 -- Assumes nothing.
-use mathlib.Core.Path.{_≡_, refl, sym, _∙_, ap, ap₂, subst, subst₂}
+use mathlib.Core.Path.{_≡_, refl, sym, _∙_, ap, subst}
 use mathlib.Core.Bool.{false, not}
-use mathlib.Core.List.{List, _++_}
+use mathlib.Core.List.{List}
 use Prim.Native.Nat.{ℕ, _+_, _*_, _≤_, _<_}
 use native.Mathlib.Omega.{arith}
 use borrow.Author.Needs.{needs}
 use denote.Ref.{now}
 use lib.Dec.{T}
 use lib.IntN.{ℤ}
-use lib.ListN.{length, getD}
+use lib.ListN.{length}
 use Rattle.algebra.specs.Polynomials.{isZero}
 use Rattle.rules.specs.Limits.{small}
-use Rattle.rules.specs.Rows.{Row, every, entry, zeroRow, leadingBlock, firstNonzero, shiftUp}
+use Rattle.rules.specs.Rows.{Row, every, zeroRow, leadingBlock, firstNonzero}
 use Rattle.rules.specs.Stores.{rowOf}
-use Rattle.rules.specs.Elimination.{Side, State, limitCoefficients, multipliersAt, combineStep}
+use Rattle.rules.specs.Elimination.{Side, multipliersAt, combineStep}
 use Rattle.rows.specs.Found.{foundOr, entriesAt}
 use Rattle.rows.specs.Worked.{refusalOf, numbersOf}
 use Rattle.elimination.specs.declared.step.Progress.{Progress}
-use Rattle.elimination.specs.Progress.{Ready, Reached, sideOf, stateOf}
+use Rattle.elimination.specs.Progress.{Ready, Reached, sideOf, stateOf, answerOf, shiftedProgress}
 use Rattle.elimination.specs.NewRows.{saved, row-room}
-use Rattle.elimination.specs.Exchange.{numbersAt, narrowed, small-numbersAt, narrowed-kept, narrowed-within}
-use Rattle.elimination.specs.StepLaws.{shiftedProgress, reached-same, reached-after, refused-reached, shift-reached}
-use Rattle.elimination.specs.StepCases.{settledProgress, done-reached, step-zero, step-met, met-nonzero, narrowed-ready, settled-reached, step-shift}
+use Rattle.elimination.specs.Exchange.{numbersAt, narrowed, small-numbersAt, narrowed-kept}
+use Rattle.elimination.specs.StepLaws.{metEntries, shiftedRow, reached-same, reached-after, refused-reached, shift-reached}
+use Rattle.elimination.specs.StepCases.{done-reached, step-zero, step-met, met-nonzero, narrowed-ready, settled-reached, step-shift}
 use Rattle.elimination.proofs.step.step.Statement.{statement}
 use Rattle.elimination.proofs.step.step.Tie as tie
 
--- what a combination asks of the entries
-abbrev NotBoth : List ℤ → Progress → ℕ → Type 0
-NotBoth rows p j =
-    T (not (isZero (entry (rowOf (numbersAt rows j)) (getD (p .order) j 0) ++ entry (rowOf (numbersAt rows (p .settled))) (getD (p .order) j 0))))
+-- what a combination asks
+abbrev Asked : ℕ → List ℤ → Progress → ℕ → List ℤ → Type 0
+Asked m relations p j rows = (Ready m rows relations p × (p .settled < m) × (j < p .settled)) × T (not (isZero (metEntries rows p j)))
 
 -- the arguments
 module _ (c : tie.Start) where
@@ -124,7 +123,7 @@ module _ (c : tie.After-first-column) where
 returns : tie.Need-returns
 returns c =
     let b = c .before in
-    done-reached (side b) (m b) (rows b) (relations b) (p b) (ready b) (c .if1 .taken)
+    done-reached (side b) (ready b) (c .if1 .taken)
 
 mul-load : tie.Need-mul-load
 mul-load c = search needs
@@ -146,7 +145,7 @@ returns-2 c =
     let d = c .before .before in
     let b = start d in
     reached-same refl (c .answer .ensures)
-    (step-zero (side b) (m b) (rows b) (relations b) (p b) (ready b) (inside d) (sym (zero-is d) ∙ c .before .if2 .taken))
+    (step-zero (side b) (ready b) (inside d) (sym (zero-is d) ∙ c .before .if2 .taken))
     (refused-reached (m b) (rows b) (relations b) (p b) 5)
 
 first-met-requires : tie.Need-first-met-requires
@@ -163,9 +162,9 @@ combine-step-requires c κs =
     let d = c .before .before .before in
     let b = base d in
     let e = tested (meeting d) in
-    subst (λ r. (Ready (m b) r (relations b) (p b) × (i b < m b) × (j d < i b)) × NotBoth r (p b) (j d)) (sym (rows-are d)) (
-      (narrowed-ready (side b) (m b) (rows b) (relations b) (p b) (ready b) (inside e) (j d) (settled-j d), inside e, settled-j d),
-      met-nonzero (side b) (m b) (rows b) (relations b) (p b) (ready b) (inside e) (nonzero (meeting d)) (j d) (met-is (meeting d)) (settled-j d),
+    subst (Asked (m b) (relations b) (p b) (j d)) (sym (rows-are d)) (
+      (narrowed-ready (side b) (ready b) (inside e) (j d) (settled-j d), inside e, settled-j d),
+      met-nonzero (side b) (ready b) (inside e) (nonzero (meeting d)) (j d) (met-is (meeting d)) (settled-j d),
     )
 
 same-length-2 : tie.Need-same-length-2
@@ -181,10 +180,10 @@ returns-3 c =
     let e = tested (meeting d) in
     let combine = c .before .before .combine-step in
     reached-after (narrowed-kept (m b) (rows b) (ready b .rows-within) (i b) (j d) (inside e) (omega (arith, inside e, settled-j d)))
-    (reached-same refl refl
-    (step-met (side b) (m b) (rows b) (relations b) (p b) (ready b) (inside e) (nonzero (meeting d)) (j d) (met-is (meeting d)) (settled-j d))
-    (subst (λ r. Reached (m b) r (relations b) (combine .last .0) (combine .last .1 .0) (p b .shifts + 1) (combine .result)
-    (combineStep (side b) (stateOf (m b) r (relations b) (p b)) (i b) (j d) (multipliersAt (stateOf (m b) r (relations b) (p b)) (i b) (j d)))) (rows-are d) (combine .ensures)))
+    (reached-same refl refl (step-met (side b) (ready b) (inside e) (nonzero (meeting d)) (j d) (met-is (meeting d)) (settled-j d))
+    (subst (λ r. let s = stateOf (m b) r (relations b) (p b) in
+    Reached (m b) r (relations b) (combine .last .0) (combine .last .1 .0) (p b .shifts + 1) (combine .result)
+    (combineStep (side b) s (i b) (j d) (multipliersAt s (i b) (j d)))) (rows-are d) (combine .ensures)))
 
 first-column-requires : tie.Need-first-column-requires
 first-column-requires c κs = search needs
@@ -200,7 +199,8 @@ shift-step-requires c κs =
     let d = c .before .before in
     let b = origin d in
     let e = tested (unmet d) in
-    (room b (i b) (inside e), subst (λ l. T (every small l)) (sym (row-is e)) (small-numbersAt (m b) (rows b) (ready b .rows-within) (i b) (inside e)), b .pre .1)
+    let numbers = small-numbersAt (m b) (rows b) (ready b .rows-within) (i b) (inside e) in
+    (room b (i b) (inside e), subst (λ l. T (every small l)) (sym (row-is e)) numbers, b .pre .1)
 
 same-length-4 : tie.Need-same-length-4
 same-length-4 c = search needs
@@ -210,8 +210,8 @@ returns-4 c =
     let d = c .before .before .before in
     let b = origin d in
     let column = d .first-column .result in
-    reached-same refl (c .answer2 .ensures ∙ ap (λ q. record { refusal = 0; done = false; progress = q }) (c .before .settled .ensures)) refl
-    (settled-reached (side b) (m b) (rows b) (relations b) (p b) (ready b) (inside (tested (unmet d))) (nonzero (unmet d)) (none-met d) column
+    reached-same refl (c .answer2 .ensures ∙ ap (answerOf 0) (c .before .settled .ensures)) refl
+    (settled-reached (side b) (ready b) (inside (tested (unmet d))) (nonzero (unmet d)) (none-met d) column
     (column-is d) (c .before .before .if4 .taken))
 
 same-length-5 : tie.Need-same-length-5
@@ -223,11 +223,11 @@ returns-5 c =
     let b = origin d in
     let shift = c .before .shift-step .ensures in
     let e = row-is (tested (unmet d)) in
-    reached-same (shift .0 ∙ ap (λ l. saved (rows b) (i b) (refusalOf (limitCoefficients (shiftUp (rowOf l)))) (numbersOf (limitCoefficients (shiftUp (rowOf l))))) e)
-    (shift .1 ∙ ap (λ l. record { refusal = refusalOf (limitCoefficients (shiftUp (rowOf l))); done = false; progress = shiftedProgress (p b) }) e)
-    (step-shift (side b) (m b) (rows b) (relations b) (p b) (ready b) (inside (tested (unmet d))) (nonzero (unmet d)) (none-met d)
+    reached-same (shift .0 ∙ ap (λ l. saved (rows b) (i b) (refusalOf (shiftedRow l)) (numbersOf (shiftedRow l))) e)
+    (shift .1 ∙ ap (λ l. answerOf (refusalOf (shiftedRow l)) (shiftedProgress (p b))) e)
+    (step-shift (side b) (ready b) (inside (tested (unmet d))) (nonzero (unmet d)) (none-met d)
     (omega (arith, column-is d, c .before .before .before .if4 .left)))
-    (shift-reached (m b) (rows b) (relations b) (p b) (ready b) (inside (tested (unmet d))))
+    (shift-reached (ready b) (inside (tested (unmet d))))
 
 pub step-spec : {M : Type 1} → statement M
 step-spec =
