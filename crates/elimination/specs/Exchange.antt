@@ -27,9 +27,10 @@ use Rattle.rules.specs.Stores.{rowOf, rowsOf, relationsOf, rowNeed}
 use Rattle.rules.specs.Elimination.{State, rowAt, putRow, exchange, narrowFirst}
 use Rattle.rules.specs.Layout.{row-at, length-rowsOf}
 use Rattle.rows.specs.Flat.{entry-at}
+use Rattle.rows.specs.Written.{every-part}
 use Rattle.elimination.specs.declared.step.Progress.{Progress}
 use Rattle.elimination.specs.Progress.{Within, Kept, state, stateOf}
-use Rattle.elimination.specs.StoreStates.{every-part, within-paste, kept-paste, kept-then, kept-same, rowsOf-paste}
+use Rattle.elimination.specs.StoreStates.{within-paste, kept-paste, kept-then, kept-same, rowsOf-paste}
 use Rattle.elimination.specs.NewRows.{row-room}
 
 abbrev pub numbersAt : List ℤ → ℕ → List ℤ

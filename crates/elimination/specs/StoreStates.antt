@@ -4,25 +4,29 @@
 --   rowsOf-paste        a row stored at its place is set in the list of rows
 --   relationsOf-paste   a relation stored past the last one is appended to the list of relations
 --   paste-rest          numbers past the needed part stay
+--   paste-cons          n0 stored, and then a row
+--   within-paste, kept-paste, kept-same, kept-then   stores within ±C, and what they keep
+--   listing-paste       one relation more is listed
 use Prim.Native.Nat.{ℕ, zero, suc, _+_, _*_, _-_, _≤_, _<_}
 use mathlib.Core.Path.{_≡_, refl, sym, _∙_, ap, ap₂, subst}
 use mathlib.Core.Bool.{Bool}
 use mathlib.Core.List.{List, [], _∷_, _++_, map, map-append, append-assoc}
 use native.Mathlib.Nat.{suc-mul, zero-mul, zero-add, add-zero, add-comm, add-assoc, add-sub-of-le}
 use native.Mathlib.Nat.{le-of-eq, not-suc-le-zero, le-of-suc-le-suc}
+use native.Mathlib.Numerals.{add-one}
 use native.Mathlib.Omega.{arith}
 use lib.IntN.{ℤ}
-use native.Mathlib.Numerals.{add-one}
 use lib.Dec.{T}
-use lib.ListN.{length, take, drop, set, length-drop, take-append-drop}
+use lib.ListN.{length, take, drop, set, length-drop}
 use lib.Seq.{paste, drop-paste, take-at, drop-at, take-all, take-add, length-take-le, drop-drop, take-suc-set, drop-set-lt, append-snoc}
 use lib.Seq.{take-take, take-append-add, length-paste, length-paste-head}
 use Rattle.algebra.specs.Polynomials.{isZero, isZeroℤ, T-&&}
-use Rattle.rules.specs.Rows.{every}
 use Rattle.rules.specs.Limits.{small}
-use Rattle.rows.specs.Flat.{every-append, isZero-every}
-use Rattle.elimination.specs.Progress.{Within, Listing, Kept}
+use Rattle.rules.specs.Rows.{every}
 use Rattle.rules.specs.Stores.{parts, rowOf, rowsOf, relationOf, relationsOf, relationNeed}
+use Rattle.rows.specs.Flat.{every-append, isZero-every}
+use Rattle.rows.specs.Written.{every-take, every-drop}
+use Rattle.elimination.specs.Progress.{Within, Listing, Kept}
 
 -- ---- parts of a list into which one part has been pasted
 
@@ -142,21 +146,13 @@ paste-cons d at x s n h =
 -- ---- numbers within ±C, and unused places
 
 module _ {A : Type 0} (t : A → Bool) where
-  every-split : (k : ℕ) (l : List A) → T (every t l) → T (every t (take k l)) × T (every t (drop k l))
-  every-split k l h =
-      T-&& (every t (take k l)) (every t (drop k l)) .0
-      (subst T (ap (every t) (sym (take-append-drop k l)) ∙ every-append t (take k l) (drop k l)) h)
-
   every-join : (l m : List A) → T (every t l) → T (every t m) → T (every t (l ++ m))
   every-join l m h g = subst T (sym (every-append t l m)) (T-&& (every t l) (every t m) .1 (h, g))
-
-  pub every-part : (at n : ℕ) (l : List A) → T (every t l) → T (every t (take n (drop at l)))
-  every-part at n l h = every-split n (drop at l) (every-split at l h .1) .0
 
   every-paste : (d : List A) (at : ℕ) (s : List A) (n : ℕ) → T (every t d) → T (every t s) → T (every t (paste d at s n))
   every-paste d at s n h g =
       every-join (take at d ++ take n s) (drop (at + n) d)
-      (every-join (take at d) (take n s) (every-split at d h .0) (every-split n s g .0)) (every-split (at + n) d h .1)
+      (every-join (take at d) (take n s) (every-take t at d h) (every-take t n s g)) (every-drop t (at + n) d h)
 
 -- The front of a list into which a part of that front has been pasted.
 take-paste-within : {A : Type 0} (d : List A) (at : ℕ) (s : List A) (n k : ℕ) → n ≤ length s → at + n ≤ k → k ≤ length d
@@ -204,7 +200,7 @@ unused-paste : (need : ℕ) (store : List ℤ) (at : ℕ) (s : List ℤ) (n : �
 unused-paste need store at s n g b h z = subst (λ l. T (isZero l)) (sym same) (zeros (drop at (take need store)) z)
   where
     zeros : (l : List ℤ) → T (isZero l) → T (isZero (drop n l))
-    zeros l z = subst T (sym (isZero-every (drop n l))) (every-split isZeroℤ n l (subst T (isZero-every l) z) .1)
+    zeros l z = subst T (sym (isZero-every (drop n l))) (every-drop isZeroℤ n l (subst T (isZero-every l) z))
 
     same : drop (at + n) (take need (paste store at s n)) ≡ drop n (drop at (take need store))
     same =

@@ -145,7 +145,8 @@ module _ (c : tie.After-multipliers-at) where
   abbrev start : tie.Start
   start = loaded (c .before)
 
-  multipliers-are : multipliersOf (column start) (c .before .before .before .before .load .result) (c .before .before .load2 .result) ≡ x start
+  multipliers-are : multipliersOf (column start) (c .before .before .before .before .load .result) (c .before .before .load2 .result)
+      ≡ x start
   multipliers-are = ap₂ (multipliersOf (column start)) (target-is (c .before)) (pivot-is (c .before))
 
   g-is : c .multipliers-at .result .g ≡ x start .g

@@ -212,7 +212,7 @@ returns-4 c =
     let column = d .first-column .result in
     reached-same refl (c .answer2 .ensures ∙ ap (answerOf 0) (c .before .settled .ensures)) refl
     (settled-reached (side b) (ready b) (inside (tested (unmet d))) (nonzero (unmet d)) (none-met d) column
-    (column-is d) (c .before .before .if4 .taken))
+    (column-is d) (omega (arith, c .before .before .if4 .taken)))
 
 same-length-5 : tie.Need-same-length-5
 same-length-5 c = search needs
