@@ -21,7 +21,7 @@ use Rattle.rules.specs.Rows.{Block, Row, noRow, All, every, smallRow, zeroBlock
 use Rattle.rules.specs.Elimination.{leading, trailing, State, rowAt, mirrorState, diagonalPlace, diagonal, report}
 use Rattle.rules.specs.Stores.{Sizes, span, unusedZero, rowRight, Valid}
 use Rattle.rules.specs.Sequences.{Sequence, SatisfiesEquation, Satisfies, Same}
-use Rattle.theory.specs.Lists.{all-mono, all-getD, all-getD-default, every-all}
+use Rattle.rules.specs.Lists.{all-mono, all-getD, all-getD-default, every-all}
 use Rattle.theory.specs.Steps.{current}
 use Rattle.theory.specs.Triangular.{Triangular, ColumnsBelow, column-below, order-complete}
 use Rattle.theory.specs.Limits.{unusedZero-iff}

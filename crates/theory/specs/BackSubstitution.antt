@@ -16,22 +16,21 @@ use native.Mathlib.Nat.{not-suc-le-zero}
 use native.Mathlib.Omega.{arith}
 use native.Mathlib.Decide.{decLt}
 use mathlib.Core.Path.{_≡_, refl, sym, _∙_, ap, ap₂, subst}
-use mathlib.Core.Logic.{_↔_, _≢_, ⊎-elim}
+use mathlib.Core.Logic.{_≢_, ⊎-elim}
 use mathlib.Core.List.{List, [], _∷_}
 use lib.Dec.{T}
 use lib.ListN.{length, getD, drop}
-use lib.IntN.{ℤ, pos, negℤ, predℤ, _+ℤ_, _-ℤ_, _*ℤ_, +ℤ-idr, +ℤ-assoc, +ℤ-comm, +ℤ-invr, zero-*ℤ, *ℤ-zero}
-use lib.IntN.{negℤ-+ℤ, -ℤ-one, +ℤ-negℤ-cancel, -ℤ-+ℤ-cancel}
+use lib.IntN.{ℤ, pos, negℤ, predℤ, _+ℤ_, _-ℤ_, _*ℤ_, +ℤ-idr, +ℤ-assoc, +ℤ-comm, +ℤ-invr, zero-*ℤ, *ℤ-zero, +ℤ-negℤ-cancel, -ℤ-+ℤ-cancel}
 use lib.Signed.{_≤ℤ_, _<ℤ_}
-use Rattle.algebra.specs.Integers.{ringℤ, no-zero-divisors, -ℤ-zero}
+use Rattle.algebra.specs.Integers.{no-zero-divisors, -ℤ-zero}
 use Rattle.algebra.specs.Sums.{sumBelow, sumBelow-front, sumBelow-zeros, sumBelow-single}
-use Rattle.algebra.specs.Polynomials.{Polynomial, eval, isZero, eval-isZero, T-&&}
-use Rattle.algebra.specs.Order.{≤ℤ-intro, ≤ℤ-of-≡, ≤ℤ-trans, ≤ℤ-antisym, ≤ℤ-or->, <ℤ-+1}
-use Rattle.algebra.specs.Order.{≤ℤ-+ℤ-pos, +ℤ-≤ℤ-right, ≤ℤ-cancel-right, ℤ-induction-up}
-use Rattle.rules.specs.Rows.{Block, Row, noRow, All, every, zeroBlock, leadingBlock, entry}
+use Rattle.algebra.specs.Polynomials.{Polynomial, eval, isZero, eval-isZero}
+use Rattle.algebra.specs.Order.{≤ℤ-intro, ≤ℤ-of-≡, ≤ℤ-trans, ≤ℤ-antisym, ≤ℤ-or->, <ℤ-+1, ≤ℤ-+ℤ-pos, +ℤ-≤ℤ-right, ≤ℤ-cancel-right}
+use Rattle.algebra.specs.Order.{ℤ-induction-up}
+use Rattle.rules.specs.Rows.{Block, Row, noRow, All, zeroBlock, leadingBlock, entry}
 use Rattle.rules.specs.Stores.{unusedZero}
 use Rattle.rules.specs.Sequences.{Sequence, blockValue, blocksValue, valueOf, SatisfiesEquation, Same}
-use Rattle.theory.specs.Lists.{all-getD}
+use Rattle.rules.specs.Lists.{all-getD}
 use Rattle.theory.specs.Values.{block-zero, index-below, value-difference}
 use Rattle.theory.specs.Limits.{unusedZero-iff}
 

@@ -27,11 +27,13 @@ use lib.ListN.{length, getD, take, drop, take-append-drop, length-append, length
 use lib.Seq.{getD-drop, getD-append-add, length-take-le}
 use Rattle.algebra.specs.Integers.{natAbs-zero}
 use Rattle.algebra.specs.Gcd.{divideBy, divideBy-le}
-use Rattle.algebra.specs.Polynomials.{Polynomial, coeff, isZero, isZero-iff, isZero-append, add, mul, shift, mirror, isZero-shift, isZero-mirror, isZero-add, isZero-mul-right}
+use Rattle.algebra.specs.Polynomials.{Polynomial, coeff, isZero, isZero-iff, isZero-append, add, mul, shift, mirror, isZero-shift}
+use Rattle.algebra.specs.Polynomials.{isZero-mirror, isZero-add, isZero-mul-right}
 use Rattle.rules.specs.Limits.{coefficientCount}
-use Rattle.rules.specs.Rows.{Block, Row, every, mapRow, zeroBlock, zeroRow, widthOf, width, leadingBlock, entry, combine, primitive, cut, blank, shiftUp, mirrorRow}
+use Rattle.rules.specs.Rows.{Block, Row, every, mapRow, zeroBlock, zeroRow, widthOf, width, leadingBlock, entry, combine, primitive, cut}
+use Rattle.rules.specs.Rows.{blank, shiftUp, mirrorRow}
 use Rattle.rules.specs.Stores.{unusedZero}
-use Rattle.theory.specs.Lists.{all-getD-default, all-of-every}
+use Rattle.rules.specs.Lists.{all-getD-default, all-of-every}
 use Rattle.theory.specs.Steps.{zeroBlock-all, zeroBlock-at}
 use Rattle.theory.specs.Shapes.{primitive-divides}
 use Rattle.theory.specs.Values.{blank-zero}

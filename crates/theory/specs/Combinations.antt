@@ -22,13 +22,13 @@ use native.Mathlib.Decide.{ℕ-discrete, decLe, decLt}
 use native.Mathlib.Numerals.{add-one}
 use native.Mathlib.Omega.{arith}
 use lib.Dec.{T, T-not, not-T}
-use lib.IntN.{ℤ, pos, negsuc, negℤ, natAbs, _+ℤ_, _-ℤ_, _*ℤ_, ℤ-discrete, +ℤ-idl, +ℤ-idr, +ℤ-assoc, +ℤ-comm, +ℤ-invr}
-use lib.IntN.{*ℤ-zero, zero-*ℤ, *ℤ-comm, -ℤ-+ℤ-cancel, +ℤ-negℤ-cancel, negℤ-+ℤ}
+use lib.IntN.{ℤ, pos, negsuc, negℤ, natAbs, _+ℤ_, _-ℤ_, _*ℤ_, ℤ-discrete, +ℤ-idl, +ℤ-idr, +ℤ-assoc, +ℤ-comm, +ℤ-invr, *ℤ-zero, zero-*ℤ}
+use lib.IntN.{*ℤ-comm, +ℤ-negℤ-cancel, negℤ-+ℤ, -ℤ-+ℤ-cancel}
 use Rattle.algebra.specs.Integers.{ringℤ, natAbs-negℤ, natAbs-+ℤ, *ℤ-assoc}
 use Rattle.algebra.specs.Order.{≤ℤ-witness, ≤ℤ-intro, natAbs-≤-iff}
-use Rattle.algebra.specs.Sums.{range, range-member, sum, sum-map, sum-+ℤ, sum-*ℤ, sum-zero, sum-congr, sum-exchange}
-use Rattle.algebra.specs.Sums.{sumBelow, sumBelow-congr, sumBelow-+ℤ, sumBelow-*ℤ, sumBelow-exchange, sumBelow-front, sumBelow-last}
-use Rattle.algebra.specs.Sums.{sumBelow-single, sumBelow-zeros}
+use Rattle.algebra.specs.Sums.{range, range-member, sum, sum-map, sum-+ℤ, sum-*ℤ, sum-zero, sum-congr, sum-exchange, sumBelow}
+use Rattle.algebra.specs.Sums.{sumBelow-congr, sumBelow-+ℤ, sumBelow-*ℤ, sumBelow-exchange, sumBelow-front, sumBelow-last, sumBelow-single}
+use Rattle.algebra.specs.Sums.{sumBelow-zeros}
 use Rattle.algebra.specs.Polynomials.{Polynomial, coeff, eval, isZero, add, mul, negate, shiftBy, eval-add, eval-mul, eval-negate}
 use Rattle.algebra.specs.Polynomials.{eval-shiftBy, isZero-coeff, coeff-isZero, isZero-cons, isZero-mul-left, isZero-shiftBy}
 use Rattle.algebra.specs.Coefficients.{coeff-add, mul-nonzero}

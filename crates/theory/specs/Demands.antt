@@ -11,22 +11,23 @@
 --   2 diagonal-nonzero        5 refused-dependent       8 output-valid
 --   3 agreement-leading,      6 run-ends,               9 next-row-later, zero-row-refused
 --     agreement-trailing        shifts-bounded
-use Prim.Native.Nat.{ℕ, zero, suc, _*_, _≤_, _<_}
+use Prim.Native.Nat.{ℕ, suc, _*_, _≤_, _<_}
 use mathlib.Core.Path.{_≡_, refl, sym, _∙_, subst}
 use mathlib.Core.Logic.{_↔_, inl, inr}
-use mathlib.Core.Bool.{Bool, true, false, not, cond}
+use mathlib.Core.Bool.{not}
 use mathlib.Core.List.{List, map}
-use mathlib.Core.Option.{Option, none, some}
+use mathlib.Core.Option.{none, some}
 use lib.Dec.{T, ltb, lt→ltb}
 use lib.ListN.{length}
 use lib.IntN.{ℤ, _+ℤ_}
 use lib.Signed.{_≤ℤ_, _<ℤ_}
 use Rattle.algebra.specs.Polynomials.{isZero, T-&&}
 use Rattle.rules.specs.Rows.{Row, Relation, All, zeroRow, width, smallRow, entry, firstNonzero}
-use Rattle.rules.specs.Elimination.{Side, leading, trailing, State, Outcome, going, done, refused, start, enough, step, workOn, meet, run, wholeRun, leadingRun, trailingRun, mirrorState, diagonal, report, rowAt, putRow, limitDegrees, within}
+use Rattle.rules.specs.Elimination.{Side, leading, trailing, State, Outcome, going, done, refused, start, enough, step, workOn, meet, run}
+use Rattle.rules.specs.Elimination.{wholeRun, leadingRun, trailingRun, mirrorState, diagonal, report, rowAt, putRow, limitDegrees, within}
 use Rattle.rules.specs.Stores.{Sizes, span, rowRight, unusedZero, Valid}
 use Rattle.rules.specs.Sequences.{Sequence, Satisfies, Same, Dependent}
-use Rattle.theory.specs.Lists.{all-mono, every-all}
+use Rattle.rules.specs.Lists.{all-mono, every-all, cond-passed}
 use Rattle.theory.specs.Steps.{current, met, MetZeroBelow, combination, listed, Chain, Refusal, run-refused, step-refused}
 use Rattle.theory.specs.Cells.{width-unused}
 use Rattle.theory.specs.Ending.{wholeRun-ends, wholeRun-shifts, mirrorOutcome-refused}
@@ -36,8 +37,10 @@ use Rattle.theory.specs.Triangular.{triangular-start, triangular-chain, 
 use Rattle.theory.specs.Dependence.{chain-dependent, settled-independent, refused-dependent as run-dependent}
 use Rattle.theory.specs.Mirror.{span-sum}
 use Rattle.theory.specs.Agreement.{leading-agreement}
-use Rattle.theory.specs.Trailing.{valid-shapes, mirrored-sequences, diagonal-back, valid-back, independent-back, agrees-back, trailing-dependent}
-use Rattle.theory.specs.Settled.{settled-triangular, settled-rows, Diagonal, Settled, settled-leading, settled-trailing, settled-diagonal, settled-valid, mirrored-diagonal, nonzero-of-diagonal}
+use Rattle.theory.specs.Trailing.{valid-shapes, mirrored-sequences, diagonal-back, valid-back, independent-back, agrees-back}
+use Rattle.theory.specs.Trailing.{trailing-dependent}
+use Rattle.theory.specs.Settled.{settled-triangular, settled-rows, Diagonal, settled-leading, settled-trailing, settled-diagonal}
+use Rattle.theory.specs.Settled.{settled-valid, nonzero-of-diagonal}
 
 -- "A run accepts a system if it returns no refusal." Valid is exactly what the checks of document 01 let through.
 pub record Accepted (side : Side) (z : Sizes) (rows : List Row) (relations : List Relation) (s : State) : Type 0 where
@@ -193,13 +196,10 @@ pub next-row-later : {side : Side} (rows : List Row) (relations : List Relation)
 next-row-later {side} rows relations {s = s} c j below more clear meets =
     combined-advances s j (triangular-chain c (triangular-start rows relations)) below more clear meets side
 
-chosen : (x y : Outcome) (b : Bool) → T b → cond b x y ≡ x
-chosen x y true t = refl
-chosen x y false t = absurd t
-
 -- "A zero row: refusal 6. Then the next j": the row that a combination has made zero is refused by the next step.
 pub zero-row-refused : (side : Side) (s : State) → current s < length (s .rows) → T (zeroRow (rowAt s (current s))) → step side s ≡ refused 6
 unfolding step workOn
 zero-row-refused side s below zeros =
-    chosen (workOn side s (current s)) (done s) (ltb (current s) (length (s .rows))) (lt→ltb (current s) (length (s .rows)) below)
-    ∙ chosen (refused 6) (meet side s (current s) (firstNonzero (map (entry (rowAt s (current s))) (s .order)))) (zeroRow (rowAt s (current s))) zeros
+    cond-passed (ltb (current s) (length (s .rows))) (workOn side s (current s)) (done s) (lt→ltb (current s) (length (s .rows)) below)
+    ∙ cond-passed (zeroRow (rowAt s (current s))) (refused 6)
+    (meet side s (current s) (firstNonzero (map (entry (rowAt s (current s))) (s .order)))) zeros

@@ -16,7 +16,7 @@ use mathlib.Core.Path.{_≡_, refl, sym, _∙_, ap, ap₂, subst}
 use mathlib.Core.Logic.{_≢_, _↔_, Iff·rfl, Iff·symm, Iff·trans, by-cases}
 use mathlib.Core.Bool.{not}
 use mathlib.Core.Option.{none}
-use mathlib.Core.List.{List, [], _∷_, _++_, map, flatten}
+use mathlib.Core.List.{List, [], _∷_, map, flatten}
 use Prim.Native.Nat.{ℕ, zero, suc, _+_, _-_, _≤_, _<_, zero-le}
 use native.Mathlib.Nat.{le-refl, le-trans, not-suc-le-zero}
 use native.Mathlib.Decide.{decLt}
@@ -24,33 +24,33 @@ use native.Mathlib.Numerals.{add-one}
 use native.Mathlib.Omega.{arith}
 use lib.Dec.{T, T-not, not-T}
 use lib.Seq.{getD-set-same, getD-set-other, lt-length-set}
-use lib.ListN.{length, getD, set, length-append, length-set, List·getD-eq-default, List·getD-map}
-use lib.IntN.{ℤ, pos, negsuc, negℤ, natAbs, predℤ, _+ℤ_, _-ℤ_, _*ℤ_, +ℤ-idl, +ℤ-idr, +ℤ-assoc, +ℤ-comm, +ℤ-invr}
-use lib.IntN.{zero-*ℤ, *ℤ-zero, *ℤ-comm, -ℤ-one, +ℤ-negℤ-cancel}
+use lib.ListN.{length, getD, set, length-set, List·getD-eq-default, List·getD-map}
+use lib.IntN.{ℤ, pos, negsuc, negℤ, natAbs, predℤ, _+ℤ_, _-ℤ_, _*ℤ_, +ℤ-idl, +ℤ-idr, +ℤ-assoc, +ℤ-comm, +ℤ-invr, zero-*ℤ, *ℤ-zero, *ℤ-comm}
+use lib.IntN.{+ℤ-negℤ-cancel, -ℤ-one}
 use Rattle.algebra.specs.Integers.{ringℤ}
 use Rattle.algebra.specs.Sums.{range, sum, sum-congr, sumBelow, sumBelow-congr, sumBelow-front, sumBelow-append, sumBelow-extend}
 use Rattle.algebra.specs.Sums.{sumBelow-zeros, sumBelow-single}
-use Rattle.algebra.specs.Polynomials.{Polynomial, eval, isZero, mul, shiftBy, eval-add, eval-mul, eval-shiftBy, eval-isZero}
-use Rattle.algebra.specs.Polynomials.{isZero-shiftBy}
+use Rattle.algebra.specs.Polynomials.{Polynomial, eval, isZero, mul, shiftBy, eval-add, eval-mul, eval-shiftBy, eval-isZero, isZero-shiftBy}
 use Rattle.algebra.specs.Coefficients.{mul-nonzero}
 use Rattle.algebra.specs.Vanishing.{zero-everywhere}
 use Rattle.rules.specs.Rows.{Block, Row, noRow, All, zeroBlock, zeroRow, leadingBlock, entry, firstNonzero, shiftUp}
-use Rattle.rules.specs.Elimination.{Side, State, done, refused, within, limitDegrees, limitCoefficients, rowAt, putRow}
-use Rattle.rules.specs.Elimination.{listRelations, settle, countShift, exchange, narrowFirst, run}
+use Rattle.rules.specs.Lists.{length-getD-flatten}
+use Rattle.rules.specs.Elimination.{Side, State, done, refused, within, limitDegrees, limitCoefficients, rowAt, putRow, listRelations}
+use Rattle.rules.specs.Elimination.{settle, countShift, exchange, narrowFirst, run}
 use Rattle.rules.specs.Stores.{StoreRow}
-use Rattle.rules.specs.Sequences.{Sequence, blockValue, blocksValue, valueOf, blockFrom, polynomialAt, addAll, shiftsWithin}
-use Rattle.rules.specs.Sequences.{combinationAt, Dependent}
+use Rattle.rules.specs.Sequences.{Sequence, blockValue, blocksValue, valueOf, blockFrom, polynomialAt, addAll, shiftsWithin, combinationAt}
+use Rattle.rules.specs.Sequences.{Dependent}
 use Rattle.theory.specs.Steps.{current, met, exchanged, multipliersFor, listed, combination, Stepped, combined, settled, shifted}
-use Rattle.theory.specs.Steps.{Chain, here, next, Narrowed, kept, swapped, narrowed, length-narrowFirst}
-use Rattle.theory.specs.Steps.{limitCoefficients-within, step-refused-6, run-refused, run-done}
+use Rattle.theory.specs.Steps.{Chain, here, next, Narrowed, kept, swapped, narrowed, length-narrowFirst, limitCoefficients-within}
+use Rattle.theory.specs.Steps.{step-refused-6, run-refused, run-done}
 use Rattle.theory.specs.Triangular.{Triangular, column, triangular-chain}
 use Rattle.theory.specs.Shapes.{StateShaped, chain-shapes}
 use Rattle.theory.specs.Values.{delta, value-delta, value-zero, value-shiftUp}
 use Rattle.theory.specs.Solutions.{combined-value, multipliersFor-nonzero, shifted-zeros}
-use Rattle.theory.specs.Combinations.{cancel-common, dec-T, eval-nil, sumWithin, sumWithin-below, place-rest, place-of}
-use Rattle.theory.specs.Combinations.{Values, Multiplier, copies, combinationValue, combination-congr, combination-sum}
-use Rattle.theory.specs.Combinations.{combination-scale, DependentValues, combined-forward, combined-back, shifted-forward}
-use Rattle.theory.specs.Combinations.{shifted-back, exchanged-dependent, zero-dependent}
+use Rattle.theory.specs.Combinations.{cancel-common, dec-T, eval-nil, sumWithin, sumWithin-below, place-rest, place-of, Values}
+use Rattle.theory.specs.Combinations.{Multiplier, copies, combinationValue, combination-congr, combination-sum, combination-scale}
+use Rattle.theory.specs.Combinations.{DependentValues, combined-forward, combined-back, shifted-forward, shifted-back}
+use Rattle.theory.specs.Combinations.{exchanged-dependent, zero-dependent}
 
 -- ---- the value of a row as a sum over a window of indices and columns
 
@@ -167,21 +167,12 @@ row-expansion l r W C p z n top wide columns e =
         ∙ block-window C n (z (top -ℤ pos q)) (block q) (blockFrom-length C (r .blocks) columns (pos q -ℤ pos p))
         ∙ sumBelow-congr C _ _ (λ c _. ap (λ v. v *ℤ z (top -ℤ pos q) c) (value q c) ∙ *ℤ-comm _ (z (top -ℤ pos q) c))
 
-getD-flatten-length : {A : Type 0} (l : List (List A)) (i : ℕ) → length (getD l i []) ≤ length (flatten l)
-unfolding flatten
-getD-flatten-length [] i = zero-le
-getD-flatten-length (x ∷ l) zero = omega (arith, length-append x (flatten l))
-getD-flatten-length (x ∷ l) (suc i) = step (getD-flatten-length l i)
-  where
-    step : length (getD l i []) ≤ length (flatten l) → length (getD l i []) ≤ length (x ++ flatten l)
-    step h = omega (arith, length-append x (flatten l))
-
 -- Bounds of the blocks of all rows, and of the columns of all their blocks.
 rows-bounded : {A : Type 0} (f : Row → List A) → f noRow ≡ [] → (rows : List Row) (i : ℕ)
     → length (f (getD rows i noRow)) ≤ length (flatten (map f rows))
 rows-bounded f e rows i =
     subst (λ l. length l ≤ length (flatten (map f rows))) (ap (getD (map f rows) i) (sym e) ∙ List·getD-map f rows i noRow)
-    (getD-flatten-length (map f rows) i)
+    (length-getD-flatten (map f rows) i)
 
 blockBound : List Row → ℕ
 blockBound rows = length (flatten (map (λ r. r .blocks) rows))
@@ -196,7 +187,7 @@ blocks-bounded rows i = rows-bounded (λ r. r .blocks) refl rows i
 columns-bounded : (rows : List Row) (i q : ℕ) → length (getD (getD rows i noRow .blocks) q []) ≤ columnBound rows
 unfolding columnBound flatten
 columns-bounded rows i q =
-    le-trans (getD-flatten-length (getD rows i noRow .blocks) q) (rows-bounded (λ r. flatten (r .blocks)) refl rows i)
+    le-trans (length-getD-flatten (getD rows i noRow .blocks) q) (rows-bounded (λ r. flatten (r .blocks)) refl rows i)
 
 -- ---- the combination by coefficients and by values
 

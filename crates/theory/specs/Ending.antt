@@ -22,15 +22,19 @@ use lib.ListN.{length, getD, set, length-append, length-set, length-map}
 use Rattle.algebra.specs.Polynomials.{isZero}
 use Rattle.rules.specs.Limits.{blockCount, columnCount, coefficientCount}
 use Rattle.rules.specs.Rows.{Row, Relation, noRow, All, zeroRow, width, shiftUp, mirrorRow, mirrorRelation}
-use Rattle.rules.specs.Elimination.{Side, leading, trailing, State, start, Outcome, going, done, refused, within, limitDegrees, limitCoefficients}
-use Rattle.rules.specs.Elimination.{rowAt, putRow, listRelations, settle, countShift, exchange, narrowFirst}
-use Rattle.rules.specs.Elimination.{run, enough, leadingRun, mirrorState, mirrorOutcome, trailingRun, wholeRun}
+use Rattle.rules.specs.Elimination.{Side, leading, trailing, State, start, Outcome, going, done, refused, within, limitDegrees}
+use Rattle.rules.specs.Elimination.{limitCoefficients, rowAt, putRow, listRelations, settle, countShift, exchange, narrowFirst, run, enough}
+use Rattle.rules.specs.Elimination.{leadingRun, mirrorState, mirrorOutcome, trailingRun, wholeRun}
 use Rattle.rules.specs.Stores.{Shaped, StoreRow}
-use Rattle.theory.specs.Lists.{all-mono, map-all, getD-all}
+use Rattle.rules.specs.Lists.{all-mono, map-all, getD-all}
 use Rattle.theory.specs.Shapes.{mirrorRow-shaped}
-use Rattle.theory.specs.Cells.{width-combine, width-primitive, width-cut, width-shiftUp, width-positive, width-le-length, width-mirrorRow, cell-within, entry-cell}
-use Rattle.theory.specs.Steps.{current, met, MetZeroBelow, exchanged, listed, combination, multipliersFor, Stepped, combined, settled, shifted, Chain, here, next}
-use Rattle.theory.specs.Steps.{Narrowed, narrowed, kept, swapped, narrowFirst-width, length-narrowFirst, shifts-narrowFirst, rowAt-putRow-other, length-putRow, listed-order, stepped-length, run-going, run-done, going≢done, going≢refused, done≢refused, done-injective, chain-length, limitDegrees-within, limitCoefficients-within}
+use Rattle.theory.specs.Cells.{width-combine, width-primitive, width-cut, width-shiftUp, width-positive, width-le-length}
+use Rattle.theory.specs.Cells.{width-mirrorRow, cell-within, entry-cell}
+use Rattle.theory.specs.Steps.{current, met, MetZeroBelow, exchanged, listed, combination, multipliersFor, Stepped, combined, settled}
+use Rattle.theory.specs.Steps.{shifted, Chain, here, next, Narrowed, narrowed, kept, swapped, narrowFirst-width, length-narrowFirst}
+use Rattle.theory.specs.Steps.{shifts-narrowFirst, rowAt-putRow-other, length-putRow, listed-order, stepped-length, run-going}
+use Rattle.theory.specs.Steps.{run-done, going≢done, going≢refused, done≢refused, done-injective, chain-length, limitDegrees-within}
+use Rattle.theory.specs.Steps.{limitCoefficients-within}
 use Rattle.theory.specs.Triangular.{Triangular, triangular-start, triangular-chain, column, combined-advances}
 
 unfoldable pub totalWidth : List Row → ℕ

@@ -13,29 +13,29 @@ use mathlib.Core.Logic.{_↔_}
 use Prim.Native.Nat.{ℕ, zero, suc, _≤_, _<_, zero-le}
 use native.Mathlib.Nat.{zero-div, le-of-dvd, le-trans}
 use native.Mathlib.Omega.{arith}
-use mathlib.Core.Bool.{Bool, true, false, _&&_, not, cond}
+use mathlib.Core.Bool.{Bool, true, false, _&&_, not}
 use mathlib.Core.List.{List, [], _∷_, _++_, map, tail, flatten, zipWith, List·Mem, not-mem-nil}
 use lib.Dec.{T, leb→le, le→leb}
 use lib.ListN.{length, take, drop, getD, set, take-append-drop}
 use lib.IntN.{ℤ, pos, natAbs, ℤ-discrete}
 use lib.Signed.{quotZ}
 use Rattle.algebra.specs.Gcd.{divideBy, divideBy-getD}
-use Rattle.algebra.specs.Polynomials.{Polynomial, coeff, isZero, lowest, add, mul, shift, T-&&, isZero-cons, isZero-coeff}
-use Rattle.algebra.specs.Polynomials.{coeff-isZero, isZero-append, isZero-add, isZero-mul-right, isZero-shift}
+use Rattle.algebra.specs.Polynomials.{Polynomial, coeff, isZero, lowest, add, mul, shift, T-&&, isZero-cons, isZero-coeff, coeff-isZero}
+use Rattle.algebra.specs.Polynomials.{isZero-append, isZero-add, isZero-mul-right, isZero-shift}
 use Rattle.algebra.specs.Coefficients.{lowest-place}
 use Rattle.algebra.specs.Vanishing.{root-divides-lowest, lowest-positive}
 use Rattle.algebra.specs.Roots.{roots, isConstant, roots-sound}
 use Rattle.rules.specs.Limits.{bound, coefficientCount, mostRelations, small}
-use Rattle.rules.specs.Rows.{Block, Row, Relation, noRow, All, every, mapRow, coefficientsOf, zeroBlock, leadingBlock, entry}
-use Rattle.rules.specs.Rows.{combine, primitive, cut, smallRow, blank, shiftUp}
-use Rattle.rules.specs.Elimination.{Side, State, start, within, limitDegrees, limitCoefficients, rowAt, putRow, listRelations}
-use Rattle.rules.specs.Elimination.{settle, countShift, rootRelations, multipliersAt}
+use Rattle.rules.specs.Rows.{Block, Row, Relation, noRow, All, every, mapRow, coefficientsOf, zeroBlock, leadingBlock, entry, combine}
+use Rattle.rules.specs.Rows.{primitive, cut, smallRow, blank, shiftUp}
+use Rattle.rules.specs.Elimination.{Side, State, start, within, limitDegrees, limitCoefficients, rowAt, putRow, listRelations, settle}
+use Rattle.rules.specs.Elimination.{countShift, rootRelations, multipliersAt}
 use Rattle.rules.specs.Stores.{Sizes, span, countRight, unusedZero, rowRight, relationRight, Valid}
-use Rattle.theory.specs.Lists.{all-mono, all-getD-default, all-of-every, every-of-all, all-zipWith, zipWith-drop, map-all}
-use Rattle.theory.specs.Lists.{map-drop, all-tail, all-drop, all-getD, all-set, append-all, all-of-flatten, every-drop}
-use Rattle.theory.specs.Steps.{Stepped, combined, settled, shifted, Chain, chain-induction, current, exchanged}
-use Rattle.theory.specs.Steps.{multipliersFor, combination, stepped-length, limitDegrees-within, limitCoefficients-within}
-use Rattle.theory.specs.Steps.{relations-narrowFirst, length-narrowFirst}
+use Rattle.rules.specs.Lists.{all-mono, all-getD-default, all-of-every, every-of-all, all-zipWith, zipWith-drop, map-all, map-drop}
+use Rattle.rules.specs.Lists.{all-tail, all-drop, all-getD, all-set, append-all, all-of-flatten, every-drop, cond-passed}
+use Rattle.theory.specs.Steps.{Stepped, combined, settled, shifted, Chain, chain-induction, current, exchanged, multipliersFor}
+use Rattle.theory.specs.Steps.{combination, stepped-length, limitDegrees-within, limitCoefficients-within, relations-narrowFirst}
+use Rattle.theory.specs.Steps.{length-narrowFirst}
 use Rattle.theory.specs.Multipliers.{multipliers-small}
 use Rattle.theory.specs.Shapes.{combineEntry, StateShaped, stepped-shapes, primitive-divides, narrowFirst-all, rootRelations-all}
 use Rattle.theory.specs.Values.{blank-zero}
@@ -179,10 +179,7 @@ entry-small r c h =
 roots-of-zero : (p : Polynomial) → T (isZero p) → roots p ≡ []
 unfolding roots isConstant
 roots-of-zero [] h = refl
-roots-of-zero (a ∷ p) h = choose (isZero p) _ (isZero-cons a p .0 h .1)
-  where
-    choose : (t : Bool) (l : List ℤ) → T t → cond t [] l ≡ []
-    choose true l h = refl
+roots-of-zero (a ∷ p) h = cond-passed (isZero p) [] _ (isZero-cons a p .0 h .1)
 
 lowest-small : (g : Polynomial) → T (every small g) → T (not (isZero g)) → natAbs (lowest g) ≤ bound
 unfolding coeff small

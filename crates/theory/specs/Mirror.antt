@@ -16,18 +16,17 @@
 --   sizes-facts, span-sum, span-bound, mirror-span, mirror-sizes   sizes, and those of the mirror
 --   mirror-valid           the mirror of a valid system is valid
 --   mirror-dependent       a system is dependent exactly if its mirror is
-use Prim.Native.Nat.{ℕ, zero, suc, _+_, _-_, _≤_, _<_}
+use Prim.Native.Nat.{ℕ, suc, _+_, _-_, _≤_, _<_}
 use native.Mathlib.Omega.{arith}
 use mathlib.Core.Path.{_≡_, refl, sym, _∙_, ap, ap₂, subst, subst₂, fun-ext}
 use mathlib.Core.Logic.{_↔_, Iff·symm, Iff·trans}
 use mathlib.Core.Bool.{Bool, true, false, _&&_, not}
-use mathlib.Core.List.{List, [], _∷_, _++_, map, map-append, zipWith, flatten}
-use mathlib.Core.List.{reverse, reverse-cons, reverse-append, reverse-reverse}
+use mathlib.Core.List.{List, [], _∷_, _++_, map, map-append, zipWith, flatten, reverse, reverse-cons, reverse-append, reverse-reverse}
 use lib.Dec.{T, leb, leb→le, le→leb}
-use lib.ListN.{length, getD, take, drop, length-reverse, length-map, length-append, take-append-drop, List·getD-map}
-use lib.Seq.{length-take-le, take-at, drop-at, take-suc}
-use lib.IntN.{ℤ, pos, negℤ, natAbs, predℤ, _+ℤ_, _-ℤ_, _*ℤ_, +ℤ-idl, +ℤ-idr, +ℤ-assoc, +ℤ-comm, +ℤ-one, -ℤ-one}
-use lib.IntN.{+ℤ-invr, negℤ-negℤ, negℤ-+ℤ, predℤ-+ℤ, suc-pred, -ℤ-+ℤ-cancel}
+use lib.ListN.{length, getD, take, drop, length-reverse, length-map, take-append-drop, List·getD-map}
+use lib.Seq.{length-take-le, length-front, take-at, drop-at, take-suc}
+use lib.IntN.{ℤ, pos, negℤ, natAbs, predℤ, _+ℤ_, _-ℤ_, _*ℤ_, +ℤ-idl, +ℤ-idr, +ℤ-assoc, +ℤ-comm, +ℤ-one, +ℤ-invr, negℤ-negℤ, negℤ-+ℤ}
+use lib.IntN.{predℤ-+ℤ, suc-pred, -ℤ-one, -ℤ-+ℤ-cancel}
 use lib.Signed.{_≤ℤ_, leZ, leZ-yes}
 use Rattle.algebra.specs.Integers.{+ℤ-left-comm, natAbs-negℤ}
 use Rattle.algebra.specs.Order.{≤ℤ-difference, negℤ-≤ℤ, pos-≤ℤ, pos-natAbs-nonneg}
@@ -36,18 +35,17 @@ use Rattle.algebra.specs.Polynomials.{Polynomial, eval, isZero, negate, mirror,
 use Rattle.rules.specs.Limits.{bound, coefficientCount, columnCount, blockCount, blockBound, small}
 use Rattle.rules.specs.Rows.{Block, Row, Relation, noRow, All, every, mapRow, coefficientsOf, smallRow, zeroBlock, leadingBlock, entry}
 use Rattle.rules.specs.Rows.{mirrorRow, mirrorRelation}
-use Rattle.rules.specs.Elimination.{Side, leading, trailing, State, mirrorState, diagonalPlace, diagonal}
+use Rattle.rules.specs.Elimination.{leading, trailing, State, mirrorState, diagonalPlace, diagonal}
 use Rattle.rules.specs.Stores.{Sizes, span, sizesRight, countRight, unusedZero, rowRight, relationRight, Shaped, StoreRow, Valid}
-use Rattle.rules.specs.Sequences.{Sequence, blockValue, blocksValue, valueOf, SatisfiesEquation, SatisfiesRelation, Satisfies}
-use Rattle.rules.specs.Sequences.{shiftsWithin, Dependent}
-use Rattle.theory.specs.Lists.{all-always, all-mono, all-both, all-take, all-drop, append-all, reverse-all, map-all, map-drop}
-use Rattle.theory.specs.Lists.{all-getD, all-flatten, every-all}
+use Rattle.rules.specs.Sequences.{Sequence, blockValue, blocksValue, valueOf, SatisfiesEquation, SatisfiesRelation, Satisfies, shiftsWithin}
+use Rattle.rules.specs.Sequences.{Dependent}
+use Rattle.rules.specs.Lists.{all-always, all-mono, all-both, all-take, all-drop, append-all, reverse-all, all-getD, all-flatten, every-all}
+use Rattle.rules.specs.Lists.{map-keeps, all-images, map-back, map-take, map-drop, map-reverse}
 use Rattle.theory.specs.Shapes.{mirrorRow-shaped}
 use Rattle.theory.specs.Values.{blocks-same, blocks-append-zero, index-below}
 use Rattle.theory.specs.Limits.{unusedZero-iff, mapRow-unused}
 use Rattle.theory.specs.BackSubstitution.{move-right}
-use Rattle.theory.specs.Combinations.{sumWithin, sumWithin-below, cancel-common}
-use Rattle.theory.specs.Combinations.{Values, copies, combinationValue, DependentValues}
+use Rattle.theory.specs.Combinations.{sumWithin, sumWithin-below, cancel-common, Values, copies, combinationValue, DependentValues}
 use Rattle.theory.specs.Dependence.{rowValues, dependent-values}
 
 -- ---- the blocks change places
@@ -63,17 +61,6 @@ mirrorBlock b = map mirror b
 pub mirrorRow-blocks : (D : ℕ) (r : Row) → mirrorRow D r .blocks ≡ map mirrorBlock (turn D (r .blocks))
 unfolding mirrorRow mapRow turn
 mirrorRow-blocks D r = refl
-
-map-take : {A B : Type 0} (f : A → B) (n : ℕ) (l : List A) → take n (map f l) ≡ map f (take n l)
-map-take f zero l = refl
-map-take f (suc n) [] = refl
-map-take f (suc n) (x ∷ l) = ap (λ k. f x ∷ k) (map-take f n l)
-
-map-reverse : {A B : Type 0} (f : A → B) (l : List A) → reverse (map f l) ≡ map f (reverse l)
-map-reverse f [] = refl
-map-reverse f (x ∷ l) =
-    reverse-cons (f x) (map f l) ∙ ap (λ k. k ++ (f x ∷ [])) (map-reverse f l)
-    ∙ sym (map-append f (reverse l) (x ∷ [])) ∙ ap (map f) (sym (reverse-cons x l))
 
 map-turn : {A B : Type 0} (f : A → B) (D : ℕ) (l : List A) → turn D (map f l) ≡ map f (turn D l)
 unfolding turn
@@ -112,9 +99,7 @@ module _ {A : Type 0} (D : ℕ) (l : List A) (h : suc D ≤ length l) where
 
 pub turn-length : {A : Type 0} (D : ℕ) (l : List A) → length (turn D l) ≡ length l
 unfolding turn
-turn-length D l =
-    length-append (reverse (take (suc D) l)) (drop (suc D) l) ∙ ap (λ n. n + length (drop (suc D) l)) (length-reverse (take (suc D) l))
-    ∙ sym (length-append (take (suc D) l) (drop (suc D) l)) ∙ ap length (take-append-drop (suc D) l)
+turn-length D l = length-front l (reverse (take (suc D) l)) (suc D) (length-reverse (take (suc D) l))
 
 -- ---- the mirror twice
 
@@ -132,12 +117,6 @@ mirrorBlock-twice : (b : Block) → mirrorBlock (mirrorBlock b) ≡ b
 mirrorBlock-twice [] = refl
 mirrorBlock-twice (p ∷ b) = ap₂ _∷_ (mirror-mirror p) (mirrorBlock-twice b)
 
--- A map that undoes itself at every member undoes itself on the list.
-map-twice : {A : Type 0} (f : A → A) (l : List A) → All (λ x. f (f x) ≡ x) l → map f (map f l) ≡ l
-unfolding All
-map-twice f [] a = refl
-map-twice f (x ∷ l) a = ap₂ _∷_ (a .0) (map-twice f l (a .1))
-
 pub mirrorRow-twice : (D : ℕ) (r : Row) → Reaches D r → mirrorRow D (mirrorRow D r) ≡ r
 mirrorRow-twice D r h = ap (λ bs. record { blocks = bs }) blocks
   where
@@ -145,7 +124,7 @@ mirrorRow-twice D r h = ap (λ bs. record { blocks = bs }) blocks
     blocks =
         mirrorRow-blocks D (mirrorRow D r) ∙ ap (λ bs. map mirrorBlock (turn D bs)) (mirrorRow-blocks D r)
         ∙ ap (map mirrorBlock) (map-turn mirrorBlock D (turn D (r .blocks)) ∙ ap (map mirrorBlock) (turn-turn D (r .blocks) h))
-        ∙ map-twice mirrorBlock (r .blocks) (all-always (λ b. mirrorBlock (mirrorBlock b) ≡ b) mirrorBlock-twice (r .blocks))
+        ∙ map-back mirrorBlock mirrorBlock (r .blocks) (all-always (λ b. mirrorBlock (mirrorBlock b) ≡ b) mirrorBlock-twice (r .blocks))
 
 pub mirrorRelation-twice : (D : ℕ) (e : Relation) → Reaches D (e .row) → mirrorRelation D (mirrorRelation D e) ≡ e
 unfolding mirrorRelation
@@ -153,12 +132,12 @@ mirrorRelation-twice D e h = ap₂ (λ n r. record { index = n; row = r }) (neg�
 
 pub mirrorRows-twice : (D : ℕ) (rows : List Row) → All (Reaches D) rows → map (mirrorRow D) (map (mirrorRow D) rows) ≡ rows
 mirrorRows-twice D rows a =
-    map-twice (mirrorRow D) rows (all-mono (Reaches D) (λ r. mirrorRow D (mirrorRow D r) ≡ r) (mirrorRow-twice D) rows a)
+    map-back (mirrorRow D) (mirrorRow D) rows (all-mono (Reaches D) (λ r. mirrorRow D (mirrorRow D r) ≡ r) (mirrorRow-twice D) rows a)
 
 pub mirrorRelations-twice : (D : ℕ) (l : List Relation) → All (λ e. Reaches D (e .row)) l
     → map (mirrorRelation D) (map (mirrorRelation D) l) ≡ l
 mirrorRelations-twice D l a =
-    map-twice (mirrorRelation D) l
+    map-back (mirrorRelation D) (mirrorRelation D) l
     (all-mono (λ e. Reaches D (e .row)) (λ e. mirrorRelation D (mirrorRelation D e) ≡ e) (mirrorRelation-twice D) l a)
 
 pub mirrorState-twice : (D : ℕ) (s : State) → All (Reaches D) (s .rows) → All (λ e. Reaches D (e .row)) (s .relations)
@@ -302,16 +281,6 @@ mirror-value D l t e r s z n =
     count = length-take-le (suc D) (r .blocks) (s .reaches)
 
 -- ---- what a sequence satisfies
-
--- What holds of every member and of its image.
-all-images : {A B : Type 0} (C P : A → Type 0) (Q : B → Type 0) (f : A → B) → ((x : A) → C x → P x ↔ Q (f x)) → (l : List A)
-    → All C l → All P l ↔ All Q (map f l)
-unfolding All
-all-images C P Q f h [] c = (λ a. tt, λ a. tt)
-all-images C P Q f h (x ∷ l) c = both (h x (c .0)) (all-images C P Q f h l (c .1))
-  where
-    both : P x ↔ Q (f x) → All P l ↔ All Q (map f l) → (P x × All P l) ↔ (Q (f x) × All Q (map f l))
-    both u v = (λ a. (u .0 (a .0), v .0 (a .1)), λ a. (u .1 (a .0), v .1 (a .1)))
 
 module _ (D : ℕ) (l t : ℤ) (span : l ≡ t +ℤ pos D) (z : Sequence) where
   pub mirror-equation : (r : Row) → Spans D r → SatisfiesEquation l z r ↔ SatisfiesEquation (negℤ t) (reflect z) (mirrorRow D r)
@@ -464,10 +433,6 @@ unfolding turn
 all-turn P D l a =
     append-all P (reverse (take (suc D) l)) (drop (suc D) l)
     (reverse-all P (take (suc D) l) (all-take P (suc D) l a)) (all-drop P (suc D) l a)
-
-map-keeps : {A B : Type 0} (P : A → Type 0) (Q : B → Type 0) (f : A → B) → ((x : A) → P x → Q (f x))
-    → (l : List A) → All P l → All Q (map f l)
-map-keeps P Q f h l a = map-all Q f l (all-mono P (λ x. Q (f x)) h l a)
 
 abbrev Small : ℤ → Type 0
 Small a = T (small a)

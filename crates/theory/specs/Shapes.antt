@@ -26,28 +26,26 @@ use Rattle.algebra.specs.Gcd.{content, divideBy, DividesAll, content-divides, l
 use Rattle.algebra.specs.Polynomials.{Polynomial, isZero, add, mul, shift, mirror, length-add, length-mul, length-shift, length-mirror}
 use Rattle.algebra.specs.Roots.{roots}
 use Rattle.rules.specs.Limits.{coefficientCount, columnCount, blockCount}
-use Rattle.rules.specs.Rows.{Block, Row, Relation, noRow, All, mapRow, coefficientsOf, leadingBlock, entry, combine, primitive}
-use Rattle.rules.specs.Rows.{cut, blank, shiftUp, mirrorRow}
-use Rattle.rules.specs.Elimination.{Side, leading, trailing, multipliers, State, within, limitCoefficients, limitDegrees, rowAt}
-use Rattle.rules.specs.Elimination.{putRow, listRelations, settle, countShift, exchange, narrowFirst, multipliersAt, listing}
-use Rattle.rules.specs.Elimination.{rootRelations}
+use Rattle.rules.specs.Rows.{Block, Row, Relation, noRow, All, mapRow, coefficientsOf, leadingBlock, entry, combine, primitive, cut, blank}
+use Rattle.rules.specs.Rows.{shiftUp, mirrorRow}
+use Rattle.rules.specs.Elimination.{Side, leading, trailing, State, within, limitCoefficients, limitDegrees, rowAt, putRow, listRelations}
+use Rattle.rules.specs.Elimination.{settle, countShift, exchange, narrowFirst, multipliersAt, listing, rootRelations}
 use Rattle.rules.specs.Stores.{Shaped, StoreRow}
-use Rattle.theory.specs.Lists.{all-mono, all-getD, all-set, all-swap, append-all, all-take, all-drop, reverse-all, map-all}
-use Rattle.theory.specs.Lists.{member-all, all-zipWith, length-zipWith}
+use Rattle.rules.specs.Lists.{all-mono, all-getD, all-set, all-swap, append-all, all-take, all-drop, reverse-all, map-all, all-always}
+use Rattle.rules.specs.Lists.{map-same, member-all, all-zipWith, length-zipWith}
 use Rattle.theory.specs.Multipliers.{length-multipliers-g, length-multipliers-h}
 use Rattle.theory.specs.Steps.{Stepped, combined, settled, shifted, Chain, current, met, exchanged, multipliersFor, combination}
-use Rattle.theory.specs.Steps.{Narrowed, narrowed, kept, swapped, length-narrowFirst, order-narrowFirst}
-use Rattle.theory.specs.Steps.{relations-narrowFirst, limitDegrees-within, limitCoefficients-within, chain-induction}
+use Rattle.theory.specs.Steps.{Narrowed, narrowed, kept, swapped, length-narrowFirst, order-narrowFirst, relations-narrowFirst}
+use Rattle.theory.specs.Steps.{limitDegrees-within, limitCoefficients-within, chain-induction}
 
 -- ---- division by the content
 
-map-same : {A : Type 0} (f : A → A) → ((x : A) → f x ≡ x) → (l : List A) → map f l ≡ l
-map-same f h [] = refl
-map-same f h (x ∷ l) = ap₂ _∷_ (h x) (map-same f h l)
-
 mapRow-same : (f : Polynomial → Polynomial) → ((p : Polynomial) → f p ≡ p) → (r : Row) → mapRow f r ≡ r
 unfolding mapRow
-mapRow-same f h r = ap (λ bs. record { blocks = bs }) (map-same (map f) (map-same f h) (r .blocks))
+mapRow-same f h r = ap (λ bs. record { blocks = bs }) (map-same (map f) (r .blocks) (all-always (λ b. map f b ≡ b) same (r .blocks)))
+  where
+    same : (b : Block) → map f b ≡ b
+    same b = map-same f b (all-always (λ p. f p ≡ p) h b)
 
 -- A zero row is not divided: it is divided by 1.
 pub primitive-divides : (r : Row) → (d : ℕ) × (0 < d) × DividesAll d (coefficientsOf r) × (primitive r ≡ mapRow (divideBy d) r)
@@ -65,7 +63,7 @@ primitive-divides r = go (content (coefficientsOf r)) (content-divides (coeffici
 module _ (P : Row → Type 0) (s : State) (i j : ℕ) (below-i : i < length (s .rows)) (below-j : j < length (s .rows)) where
   pub exchange-all : All P (exchange s i j .rows) ↔ All P (s .rows)
   unfolding exchange putRow rowAt
-  exchange-all = all-swap P (s .rows) noRow i j below-i below-j
+  exchange-all = all-swap (s .rows) noRow i j P below-i below-j
 
   pub narrowFirst-all : All P (narrowFirst s i j .rows) ↔ All P (s .rows)
   narrowFirst-all = go (narrowed s i j)

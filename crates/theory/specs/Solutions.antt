@@ -20,7 +20,7 @@ use mathlib.Core.Option.{none}
 use lib.Dec.{T}
 use lib.ListN.{length, getD, set}
 use lib.Seq.{getD-set-same, getD-set-other, lt-length-set}
-use lib.IntN.{ℤ, pos, natAbs, _+ℤ_, _-ℤ_, _*ℤ_, *ℤ-zero, +ℤ-idr, -ℤ-+ℤ-cancel, ℤ-discrete}
+use lib.IntN.{ℤ, pos, natAbs, _+ℤ_, _-ℤ_, _*ℤ_, *ℤ-zero, +ℤ-idr, ℤ-discrete, -ℤ-+ℤ-cancel}
 use Rattle.algebra.specs.Integers.{no-zero-divisors}
 use Rattle.algebra.specs.Polynomials.{Polynomial, eval, isZero}
 use Rattle.algebra.specs.Roots.{roots, roots-complete, place}
@@ -30,16 +30,15 @@ use Rattle.rules.specs.Rows.{Row, Relation, noRow, All, zeroBlock, leadingBlock
 use Rattle.rules.specs.Elimination.{Side, leading, trailing, State, start, within, limitDegrees, limitCoefficients, rowAt, putRow}
 use Rattle.rules.specs.Elimination.{listRelations, settle, countShift, listing, rootRelations, multipliersAt}
 use Rattle.rules.specs.Sequences.{Sequence, valueOf, SatisfiesEquation, SatisfiesRelation, Satisfies}
-use Rattle.theory.specs.Steps.{Stepped, combined, settled, shifted, Chain, here, next, current, met, exchanged}
-use Rattle.theory.specs.Steps.{multipliersFor, combination, listed, relations-narrowFirst, order-narrowFirst}
-use Rattle.theory.specs.Steps.{length-narrowFirst, narrowFirst-both, limitCoefficients-within, firstNonzero-none}
-use Rattle.theory.specs.Steps.{zeroBlock-all}
+use Rattle.theory.specs.Steps.{Stepped, combined, settled, shifted, Chain, here, next, current, met, exchanged, multipliersFor}
+use Rattle.theory.specs.Steps.{combination, listed, relations-narrowFirst, order-narrowFirst, length-narrowFirst, narrowFirst-both}
+use Rattle.theory.specs.Steps.{limitCoefficients-within, firstNonzero-none, zeroBlock-all}
 use Rattle.theory.specs.Triangular.{Triangular, triangular-start, triangular-chain}
 use Rattle.theory.specs.Multipliers.{multipliers-nonzero}
 use Rattle.theory.specs.Shapes.{StateShaped, chain-shapes, narrowFirst-all, current-shaped, pivot-shaped}
 use Rattle.theory.specs.Values.{shaped-same, value-combined, value-shiftUp}
-use Rattle.theory.specs.Lists.{all-getD, all-set, all-of-set, append-all, all-front, all-back, all-map, all-reverse}
-use Rattle.theory.specs.Lists.{all-member, all-swap, all-always}
+use Rattle.rules.specs.Lists.{all-getD, all-set, all-of-set, append-all, all-front, all-back, all-map, all-reverse, all-member, all-swap}
+use Rattle.rules.specs.Lists.{all-always}
 
 -- ---- one combination
 
@@ -129,7 +128,7 @@ module _ (l : ℤ) (z : Sequence) (rows : List Row) (relations : List Relation) 
       → Satisfies l rows relations z ↔ Satisfies l (set (set rows j (getD rows i noRow)) i (getD rows j noRow)) relations z
   unfolding Satisfies
   exchange-satisfied i j below-i below-j =
-      let e = all-swap (SatisfiesEquation l z) rows noRow i j below-i below-j in
+      let e = all-swap rows noRow i j (SatisfiesEquation l z) below-i below-j in
       (λ s. (e .1 (s .0), s .1), λ s. (e .0 (s .0), s .1))
 
   pub combine-satisfied : (side : Side) (g h : Polynomial) (d i j : ℕ) (r′ : Row)

@@ -20,9 +20,9 @@ use mathlib.Core.Path.{_≡_, refl, sym, _∙_, ap, subst}
 use mathlib.Core.Logic.{_≢_, _⊎_, inl, inr}
 use mathlib.Core.Bool.{Bool, true, false, not, cond}
 use mathlib.Core.List.{List, [], _∷_, _++_, map, append-assoc, append-nil}
-use mathlib.Core.Option.{Option, none, some, Option·map, map-eq-some-iff, map-eq-none-iff, Option·some-injective, Option·none-ne-some, Option·some-ne-none}
+use mathlib.Core.Option.{Option, none, some, Option·map, map-eq-some-iff, map-eq-none-iff, Option·some-injective, Option·none-ne-some}
+use mathlib.Core.Option.{Option·some-ne-none}
 use native.Mathlib.Nat.{zero-lt-suc, not-suc-le-zero, suc-le-suc-iff}
-use native.Mathlib.Decide.{ℕ-discrete}
 use native.Mathlib.Omega.{arith}
 use lib.Dec.{T, leb, ltb, leb→le, ltb→lt, nltb→le}
 use lib.Ieee.Fits.{and-i, and-l, and-r}
@@ -30,10 +30,13 @@ use lib.ListN.{length, getD, set, length-set, length-map}
 use lib.Seq.{getD-set-same, getD-set-other}
 use Rattle.algebra.specs.Polynomials.{Polynomial, isZero}
 use Rattle.rules.specs.Limits.{mostRelations}
-use Rattle.rules.specs.Rows.{Block, Row, Relation, noRow, every, zeroBlock, zeroRow, width, entry, leadingBlock, firstNonzero, combine, primitive, lowDegrees, cut, smallRow, shiftUp}
-use Rattle.rules.specs.Elimination.{Side, Multipliers, State, Outcome, going, done, refused, Limited, within, beyond, limitCoefficients, limitDegrees}
-use Rattle.rules.specs.Elimination.{rowAt, putRow, putLimited, listRelations, settle, countShift, exchange, rootRelations, multipliersAt, narrowFirst}
-use Rattle.rules.specs.Elimination.{combineStep, eliminateStep, shiftStep, settleOrShift, meet, workOn, step, andThen, run}
+use Rattle.rules.specs.Rows.{Block, Row, Relation, noRow, every, zeroBlock, zeroRow, width, entry, leadingBlock, firstNonzero, combine}
+use Rattle.rules.specs.Rows.{primitive, lowDegrees, cut, smallRow, shiftUp}
+use Rattle.rules.specs.Lists.{getD-map, getD-swap-left, getD-swap-right, getD-swap-other, length-swap}
+use Rattle.rules.specs.Elimination.{Side, Multipliers, State, Outcome, going, done, refused, Limited, within, beyond, limitCoefficients}
+use Rattle.rules.specs.Elimination.{limitDegrees, rowAt, putRow, putLimited, listRelations, settle, countShift, exchange, rootRelations}
+use Rattle.rules.specs.Elimination.{multipliersAt, narrowFirst, combineStep, eliminateStep, shiftStep, settleOrShift, meet, workOn, step}
+use Rattle.rules.specs.Elimination.{andThen, run}
 
 -- The row that a step works on: row i = w + 1 of document 01, counted from 0.
 abbrev pub current : State → ℕ
@@ -108,25 +111,20 @@ rowAt-countShift s i = refl
 
 -- Two rows change places.
 pub rowAt-exchange-left : (s : State) (i j : ℕ) → i < length (s .rows) → rowAt (exchange s i j) i ≡ rowAt s j
-unfolding exchange
-rowAt-exchange-left s i j h = rowAt-putRow-same (putRow s j (rowAt s i)) i (rowAt s j) (rw (length-putRow s j (rowAt s i)) h)
+unfolding exchange putRow rowAt
+rowAt-exchange-left s i j h = getD-swap-left (s .rows) noRow i j h
 
 pub rowAt-exchange-right : (s : State) (i j : ℕ) → j < length (s .rows) → rowAt (exchange s i j) j ≡ rowAt s i
-unfolding exchange
-rowAt-exchange-right s i j h = cases (ℕ-discrete j i)
-  where
-    cases : Dec (j ≡ i) → rowAt (putRow (putRow s j (rowAt s i)) i (rowAt s j)) j ≡ rowAt s i
-    cases (yes e) = rw e (rowAt-exchange-left s i i (rw e at h))
-    cases (no n) = rowAt-putRow-other (putRow s j (rowAt s i)) i j (rowAt s j) n ∙ rowAt-putRow-same s j (rowAt s i) h
+unfolding exchange putRow rowAt
+rowAt-exchange-right s i j h = getD-swap-right (s .rows) noRow i j h
 
 pub rowAt-exchange-other : (s : State) (i j k : ℕ) → k ≢ i → k ≢ j → rowAt (exchange s i j) k ≡ rowAt s k
-unfolding exchange
-rowAt-exchange-other s i j k n m =
-    rowAt-putRow-other (putRow s j (rowAt s i)) i k (rowAt s j) n ∙ rowAt-putRow-other s j k (rowAt s i) m
+unfolding exchange putRow rowAt
+rowAt-exchange-other s i j k n m = getD-swap-other (s .rows) noRow i j k n m
 
 pub length-exchange : (s : State) (i j : ℕ) → length (exchange s i j .rows) ≡ length (s .rows)
-unfolding exchange
-length-exchange s i j = length-putRow (putRow s j (rowAt s i)) i (rowAt s j) ∙ length-putRow s j (rowAt s i)
+unfolding exchange putRow rowAt
+length-exchange s i j = length-swap (s .rows) noRow i j
 
 -- ---- narrowFirst: the exchange of rule 2, made only if row j is the wider
 
@@ -337,12 +335,6 @@ limitDegrees-within q r = go (lowDegrees q)
     go true e = let (small, same) = limitCoefficients-within (cut q) r e in (tt, small, same)
     go false e = absurd (within≢beyond (sym e))
 
--- Inside a list, a mapped list has the images at the same places.
-getD-map-inside : {A B : Type 0} (f : A → B) (l : List A) (k : ℕ) (d : A) (e : B) → k < length l → getD (map f l) k e ≡ f (getD l k d)
-getD-map-inside f [] k d e h = absurd (not-suc-le-zero h)
-getD-map-inside f (x ∷ l) zero d e h = refl
-getD-map-inside f (x ∷ l) (suc k) d e h = getD-map-inside f l k d e (suc-le-suc-iff .0 h)
-
 module _ (side : Side) (s : State) (more : current s < length (s .rows)) (nonzero : T (not (zeroRow (rowAt s (current s))))) where
   shiftStep-view : MetZeroBelow s (current s) → firstNonzero (leadingBlock (rowAt s (current s))) ≡ none
       → StepView side s (shiftStep s (current s))
@@ -387,7 +379,7 @@ module _ (side : Side) (s : State) (more : current s < length (s .rows)) (nonzer
       below = rw (length-map (s .order) (entry (rowAt s (current s)))) at (found .inside)
 
       at : (k : ℕ) → k < current s → getD entries k [] ≡ met s k
-      at k h = getD-map-inside (entry (rowAt s (current s))) (s .order) k 0 [] h
+      at k h = getD-map (entry (rowAt s (current s))) (s .order) k 0 [] h
 
       clear : MetZeroBelow s j
       clear k h = rw (at k (omega (arith, below))) at (found .before k h)
@@ -397,7 +389,7 @@ module _ (side : Side) (s : State) (more : current s < length (s .rows)) (nonzer
   meet-view none e = settleOrShift-view clear (firstNonzero (leadingBlock (rowAt s (current s)))) refl
     where
       clear : MetZeroBelow s (current s)
-      clear k h = rw (getD-map-inside (entry (rowAt s (current s))) (s .order) k 0 [] h) at
+      clear k h = rw (getD-map (entry (rowAt s (current s))) (s .order) k 0 [] h) at
           (firstNonzero-none (map (entry (rowAt s (current s))) (s .order)) e k)
 
 pub step-view : (side : Side) (s : State) → StepView side s (step side s)

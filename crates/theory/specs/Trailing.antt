@@ -8,27 +8,28 @@
 --   agrees-back             solutions that agree on D vectors below the report agree at all lower indices
 -- and of any valid system:
 --   trailing-dependent      a system that the trailing run refuses with 6 is dependent
-use Prim.Native.Nat.{ℕ}
-use mathlib.Core.Path.{_≡_, refl, sym, _∙_, ap, subst}
+use mathlib.Core.Path.{_≡_, subst}
 use mathlib.Core.Logic.{_↔_, Iff·trans, Iff·symm}
 use mathlib.Core.List.{List, map}
 use lib.IntN.{ℤ, pos, negℤ, _+ℤ_, negℤ-negℤ}
 use lib.Signed.{_≤ℤ_, _<ℤ_}
 use Rattle.rules.specs.Rows.{Row, Relation, All, mirrorRow, mirrorRelation}
-use Rattle.rules.specs.Elimination.{Side, leading, trailing, State, start, done, refused, run, enough, wholeRun, trailingRun, mirrorState, report}
+use Rattle.rules.specs.Elimination.{leading, trailing, State, start, refused, run, enough, wholeRun, trailingRun, mirrorState, report}
 use Rattle.rules.specs.Stores.{Sizes, span, Valid}
 use Rattle.rules.specs.Sequences.{Sequence, Satisfies, Same, Dependent}
-use Rattle.theory.specs.Lists.{all-mono}
+use Rattle.rules.specs.Lists.{all-mono}
 use Rattle.theory.specs.Triangular.{triangular-start}
 use Rattle.theory.specs.Shapes.{StateShaped}
 use Rattle.theory.specs.Solutions.{run-solutions}
 use Rattle.theory.specs.Dependence.{chain-dependent, settled-independent, refused-dependent}
 use Rattle.theory.specs.Ending.{mirrorOutcome-refused}
 use Rattle.theory.specs.Report.{Past}
-use Rattle.theory.specs.Mirror.{mirrorSizes, Reaches, Spans, reflect, span-sum, mirror-span, mirror-valid, mirror-satisfies, mirror-satisfies-back, mirror-dependent, valid-rows-span, valid-relations-span}
+use Rattle.theory.specs.Mirror.{mirrorSizes, Reaches, Spans, reflect, span-sum, mirror-span, mirror-valid, mirror-satisfies}
+use Rattle.theory.specs.Mirror.{mirror-satisfies-back, mirror-dependent, valid-rows-span, valid-relations-span}
 use Rattle.theory.specs.BackSubstitution.{TriangularRows}
 use Rattle.theory.specs.Agreement.{trailing-agreement}
-use Rattle.theory.specs.Settled.{Diagonal, Settled, settled-valid, settled-triangular, settled-rows, settled-diagonal, nonzero-of-diagonal, mirrored-diagonal}
+use Rattle.theory.specs.Settled.{Diagonal, Settled, settled-valid, settled-triangular, settled-rows, settled-diagonal}
+use Rattle.theory.specs.Settled.{nonzero-of-diagonal, mirrored-diagonal}
 
 pub valid-shapes : {z : Sizes} {rows : List Row} {relations : List Relation} → Valid z rows relations → StateShaped (start rows relations)
 unfolding start

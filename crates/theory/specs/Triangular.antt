@@ -16,7 +16,7 @@ use Prim.Native.Nat.{ℕ, suc, _≤_, _<_, zero-le}
 use mathlib.Core.Path.{_≡_, refl, sym, _∙_, ap, ap₂, subst}
 use mathlib.Core.Logic.{_≢_, _⊎_, inl, inr}
 use mathlib.Core.Bool.{not}
-use mathlib.Core.List.{List, [], _∷_, _++_, List·Memᴰ, List·Memᴰ·head, List·Memᴰ·tail}
+use mathlib.Core.List.{List, [], _∷_, _++_, List·Memᴰ}
 use mathlib.Core.Option.{some}
 use native.Mathlib.Nat.{not-suc-le-zero, zero-lt-suc, suc-le-suc-iff}
 use native.Mathlib.Numerals.{add-one}
@@ -30,12 +30,15 @@ use Rattle.algebra.specs.Polynomials.{isZero, add, mul, eval, eval-add, eval-mu
 use Rattle.algebra.specs.Vanishing.{zero-everywhere}
 use Rattle.algebra.specs.Pigeonhole.{Distinct, pigeonhole}
 use Rattle.rules.specs.Rows.{Row, Relation, noRow, All, entry, leadingBlock, firstNonzero, combine}
-use Rattle.rules.specs.Elimination.{Side, Multipliers, multipliers, multipliersAt, limitDegrees, within, State, start, rowAt, putRow, settle, countShift}
-use Rattle.theory.specs.Lists.{all-getD}
+use Rattle.rules.specs.Elimination.{Side, Multipliers, multipliers, multipliersAt, limitDegrees, within, State, start, rowAt, putRow}
+use Rattle.rules.specs.Elimination.{settle, countShift}
+use Rattle.rules.specs.Lists.{all-getD, member-place}
 use Rattle.theory.specs.Multipliers.{multipliers-cancel}
 use Rattle.theory.specs.Cells.{cell, cell-combine, combine-zero, primitive-zero, cut-zero}
-use Rattle.theory.specs.Steps.{current, met, MetZeroBelow, exchanged, listed, combination, multipliersFor, Stepped, combined, settled, shifted, Chain, chain-induction}
-use Rattle.theory.specs.Steps.{rowAt-putRow-same, rowAt-putRow-other, order-narrowFirst, limitDegrees-within, rowAt-listRelations, rowAt-countShift, stepped-length, listed-order, listed-rows, length-putRow, rowAt-narrowFirst-other, narrowFirst-both, firstNonzero-some}
+use Rattle.theory.specs.Steps.{current, met, MetZeroBelow, exchanged, listed, combination, multipliersFor, Stepped, combined, settled}
+use Rattle.theory.specs.Steps.{shifted, Chain, chain-induction, rowAt-putRow-same, rowAt-putRow-other, order-narrowFirst}
+use Rattle.theory.specs.Steps.{limitDegrees-within, rowAt-listRelations, rowAt-countShift, stepped-length, listed-order, listed-rows}
+use Rattle.theory.specs.Steps.{length-putRow, rowAt-narrowFirst-other, narrowFirst-both, firstNonzero-some}
 
 abbrev pub column : State → ℕ → ℕ
 column s k = getD (s .order) k 0
@@ -134,18 +137,13 @@ triangular-chain {side} = chain-induction side Triangular (λ u v. triangular-st
 
 -- ---- the columns of the settled rows
 
--- A member of a list stands at a place of it.
-member-place : {x : ℕ} {l : List ℕ} → List·Memᴰ x l → (k : ℕ) × (k < length l) × (getD l k 0 ≡ x)
-member-place {l = y ∷ l} (List·Memᴰ·head e) = (0, zero-lt-suc (length l), sym e)
-member-place (List·Memᴰ·tail m) = let (k, h, e) = member-place m in (suc k, suc-le-suc-iff .1 h, e)
-
 -- A list whose places hold different numbers.
 distinct-places : (l : List ℕ) → ((k j : ℕ) → k < j → j < length l → getD l k 0 ≢ getD l j 0) → Distinct l
 distinct-places [] h = tt
 distinct-places (x ∷ l) h = (fresh, distinct-places l (λ k j a b. h (suc k) (suc j) (suc-le-suc-iff .1 a) (suc-le-suc-iff .1 b)))
   where
     fresh : ¬ List·Memᴰ x l
-    fresh m = let (k, b, e) = member-place m in h 0 (suc k) (zero-lt-suc k) (suc-le-suc-iff .1 b) (sym e)
+    fresh m = let (k, b, e) = member-place 0 m in h 0 (suc k) (zero-lt-suc k) (suc-le-suc-iff .1 b) (sym e)
 
 pub columns-differ : (s : State) → Triangular s → (k j : ℕ) → k < j → j < current s → column s k ≢ column s j
 columns-differ s t k j h b e =
@@ -170,12 +168,12 @@ module _ (m : ℕ) (s : State) (t : Triangular s) (narrow : All (ColumnsBelow m)
           (all-getD (ColumnsBelow m) (s .rows) noRow j (omega (arith, t .fits)) narrow (column s j) (omega arith)))
 
   order-below : (x : ℕ) → List·Memᴰ x (s .order) → x < m
-  order-below x p = let (k, h, e) = member-place p in subst (λ c. c < m) e (column-below k h)
+  order-below x p = let (k, h, e) = member-place 0 p in subst (λ c. c < m) e (column-below k h)
 
   -- m different columns below m: every column is there.
   pub order-complete : current s ≡ m → (c : ℕ) → c < m → (j : ℕ) × (j < m) × (column s j ≡ c)
   order-complete size c h =
-      let (j, b, e) = member-place (pigeonhole m (s .order) (order-distinct s t) size order-below c h) in (j, subst (λ n. j < n) size b, e)
+      let (j, b, e) = member-place 0 (pigeonhole m (s .order) (order-distinct s t) size order-below c h) in (j, subst (λ n. j < n) size b, e)
 
 -- ---- the step is the document's loop over j
 

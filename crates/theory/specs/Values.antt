@@ -19,7 +19,7 @@ use mathlib.Core.Logic.{_≢_}
 use Prim.Native.Nat.{ℕ, zero, suc, _≤_, _<_}
 use native.Mathlib.Nat.{suc-inj, suc-ne-zero, zero-lt-suc, suc-le-suc-iff, dvd-zero}
 use native.Mathlib.Omega.{arith}
-use mathlib.Core.Bool.{Bool, true, false, _&&_, cond}
+use mathlib.Core.Bool.{true, _&&_, cond}
 use mathlib.Core.List.{List, [], _∷_, _++_, map, tail, flatten, zipWith, head-eq-of-cons-eq, tail-eq-of-cons-eq, nil≢cons, cons≢nil}
 use lib.Dec.{T, eqb, eqb-refl, eqb→eq}
 use lib.ListN.{length, take, drop, getD, replicate}
@@ -28,8 +28,8 @@ use lib.IntN.{negℤ-sucℤ, pred-suc, *ℤ-zero}
 use Rattle.algebra.specs.Integers.{ringℤ, one-*ℤ, *ℤ-+ℤ, -ℤ-zero}
 use Rattle.algebra.specs.Division.{DividesZ}
 use Rattle.algebra.specs.Gcd.{divideBy, DividesAll, eval-divideBy}
-use Rattle.algebra.specs.Polynomials.{Polynomial, eval, isZero, isZeroℤ, add, mul, shift, eval-add, eval-mul, eval-shift}
-use Rattle.algebra.specs.Polynomials.{eval-take, eval-isZero, isZeroℤ-iff, T-&&}
+use Rattle.algebra.specs.Polynomials.{Polynomial, eval, isZero, isZeroℤ, add, mul, shift, eval-add, eval-mul, eval-shift, eval-take}
+use Rattle.algebra.specs.Polynomials.{eval-isZero, isZeroℤ-iff, T-&&}
 use Rattle.algebra.specs.Sums.{sum, range, sumBelow, sumBelow-front, sumBelow-congr}
 use Rattle.rules.specs.Limits.{coefficientCount}
 use Rattle.rules.specs.Rows.{Block, Row, All, every, mapRow, coefficientsOf, zeroBlock, zeroRow, leadingBlock, combine, primitive}
@@ -37,7 +37,7 @@ use Rattle.rules.specs.Rows.{lowDegrees, cut, smallRow, blank, shiftUp}
 use Rattle.rules.specs.Elimination.{within, limitDegrees}
 use Rattle.rules.specs.Stores.{Shaped, unusedZero}
 use Rattle.rules.specs.Sequences.{Sequence, blockValue, blocksValue, valueOf, Same, blockFrom, polynomialAt}
-use Rattle.theory.specs.Lists.{all-mono, all-getD-default, getD-all, all-of-flatten, all-of-every, all-always}
+use Rattle.rules.specs.Lists.{all-mono, all-getD-default, getD-all, all-of-flatten, all-of-every, all-always, cond-passed, cond-failed}
 use Rattle.theory.specs.Steps.{limitDegrees-within}
 use Rattle.theory.specs.Shapes.{combineEntry, primitive-divides}
 
@@ -354,13 +354,6 @@ value-congruence m D l r z y n h e =
 unfoldable pub delta : ℤ → ℕ → Sequence
 unfolding isZeroℤ
 delta i c a b = cond (isZeroℤ (a -ℤ i) && eqb b c) (pos 1) (pos 0)
-
-cond-passed : (t : Bool) (x y : ℤ) → T t → cond t x y ≡ x
-cond-passed true x y h = refl
-
-cond-failed : (t : Bool) (x y : ℤ) → (T t → ⊥) → cond t x y ≡ y
-cond-failed true x y h = absurd (h tt)
-cond-failed false x y h = refl
 
 pub delta-here : (i : ℤ) (c : ℕ) → delta i c i c ≡ pos 1
 unfolding delta
