@@ -490,6 +490,10 @@ size-bounds z h =
       narrow = leZ-yes (e .1 .1);
     }
 
+pub bounds-right : (z : Sizes) → SizeBounds z → T (sizesRight z)
+unfolding sizesRight
+bounds-right z b = simp T-&& ((le→leb _ _ (b .some), le→leb _ _ (b .few)), (((b .low .le, b .ordered .le), b .high .le), b .narrow .le))
+
 -- A place inside a system, as facts.
 pub record PlaceBounds (z : Sizes) (row : ℕ) (block : ℤ) (column : ℕ) : Type 0 where
   pub row-low : 1 ≤ row

@@ -5,7 +5,6 @@
 --   reflect z              the sequence read backwards
 --   Reaches D r, Spans D r  D + 1 blocks or more; and all of them zero after the first D + 1
 --   mirrorSizes z          the same m, blocks from -l to -t
---   SizesFacts z           what the check of the sizes tests
 --
 -- Main statements
 --   mirrorRow-twice, mirrorRelation-twice, mirrorState-twice   the mirror undoes itself
@@ -13,30 +12,31 @@
 --   mirror-diagonal        the diagonal polynomials of the trailing side are mirrors of those of the leading side
 --   mirror-value           the value of the mirrored row at n, on the reflected sequence, is the value at -n
 --   mirror-equation, mirror-relation, mirror-satisfies   so a sequence satisfies a system exactly if the reflected one does the mirror
---   sizes-facts, span-sum, span-bound, mirror-span, mirror-sizes   sizes, and those of the mirror
+--   span-sum, span-bound, mirror-span, mirror-sizes   sizes, and those of the mirror
 --   mirror-valid           the mirror of a valid system is valid
 --   mirror-dependent       a system is dependent exactly if its mirror is
 use Prim.Native.Nat.{ℕ, suc, _+_, _-_, _≤_, _<_}
 use native.Mathlib.Omega.{arith}
 use mathlib.Core.Path.{_≡_, refl, sym, _∙_, ap, ap₂, subst, subst₂, fun-ext}
 use mathlib.Core.Logic.{_↔_, Iff·symm, Iff·trans}
-use mathlib.Core.Bool.{Bool, true, false, _&&_, not}
+use mathlib.Core.Bool.{not}
 use mathlib.Core.List.{List, [], _∷_, _++_, map, map-append, zipWith, flatten, reverse, reverse-cons, reverse-append, reverse-reverse}
-use lib.Dec.{T, leb, leb→le, le→leb}
+use lib.Dec.{T, leb}
 use lib.ListN.{length, getD, take, drop, length-reverse, length-map, take-append-drop, List·getD-map}
 use lib.Seq.{length-take-le, length-front, take-at, drop-at, take-suc}
 use lib.IntN.{ℤ, pos, negℤ, natAbs, predℤ, _+ℤ_, _-ℤ_, _*ℤ_, +ℤ-idl, +ℤ-idr, +ℤ-assoc, +ℤ-comm, +ℤ-one, +ℤ-invr, negℤ-negℤ, negℤ-+ℤ}
 use lib.IntN.{predℤ-+ℤ, suc-pred, -ℤ-one, -ℤ-+ℤ-cancel}
-use lib.Signed.{_≤ℤ_, leZ, leZ-yes}
+use lib.Signed.{_≤ℤ_}
 use Rattle.algebra.specs.Integers.{+ℤ-left-comm, natAbs-negℤ}
 use Rattle.algebra.specs.Order.{≤ℤ-difference, negℤ-≤ℤ, pos-≤ℤ, pos-natAbs-nonneg}
 use Rattle.algebra.specs.Sums.{sum-congr, sumBelow-congr, sumBelow-reverse}
 use Rattle.algebra.specs.Polynomials.{Polynomial, eval, isZero, negate, mirror, mirror-mirror, isZero-mirror, eval-mirror, T-&&}
-use Rattle.rules.specs.Limits.{bound, coefficientCount, columnCount, blockCount, blockBound, small}
+use Rattle.rules.specs.Limits.{bound, coefficientCount, columnCount, blockCount, small}
 use Rattle.rules.specs.Rows.{Block, Row, Relation, noRow, All, every, mapRow, coefficientsOf, smallRow, zeroBlock, leadingBlock, entry}
 use Rattle.rules.specs.Rows.{mirrorRow, mirrorRelation}
 use Rattle.rules.specs.Elimination.{leading, trailing, State, mirrorState, diagonalPlace, diagonal}
 use Rattle.rules.specs.Stores.{Sizes, span, sizesRight, countRight, unusedZero, rowRight, relationRight, Shaped, StoreRow, Valid}
+use Rattle.rules.specs.Layout.{SizeBounds, size-bounds, bounds-right}
 use Rattle.rules.specs.Sequences.{Sequence, blockValue, blocksValue, valueOf, SatisfiesEquation, SatisfiesRelation, Satisfies, shiftsWithin}
 use Rattle.rules.specs.Sequences.{Dependent}
 use Rattle.rules.specs.Lists.{all-always, all-mono, all-both, all-take, all-drop, append-all, reverse-all, all-getD, all-flatten, every-all}
@@ -338,61 +338,6 @@ mirror-satisfies-back D l t e z rows relations a b = Iff·symm (subst₂ Same (n
 abbrev pub mirrorSizes : Sizes → Sizes
 mirrorSizes z = record { m = z .m; l = negℤ (z .t); t = negℤ (z .l) }
 
--- "A system has m unknowns (1 to 4) [..] and blocks numbered from t to l, with -64 ≤ t ≤ l ≤ 64. D = l - t is 0 to 4."
-pub record SizesFacts (z : Sizes) : Type 0 where
-  pub m-low : 1 ≤ z .m
-  pub m-high : z .m ≤ columnCount
-  pub t-low : negℤ (pos blockBound) ≤ℤ z .t
-  pub t-high : z .t ≤ℤ z .l
-  pub l-high : z .l ≤ℤ pos blockBound
-  pub difference-high : (z .l -ℤ z .t) ≤ℤ pos 4
-
-four : (a b c d : Bool) → T (a && b && c && d) ↔ (T a × T b × T c × T d)
-four true b c d = three b c d
-  where
-    three : (b c d : Bool) → T (b && c && d) ↔ (Unit {0} × T b × T c × T d)
-    three true true d = (λ h. (tt, tt, tt, h), λ h. h .3)
-    three true false d = (λ h. absurd h, λ h. h .2)
-    three false c d = (λ h. absurd h, λ h. h .1)
-four false b c d = (λ h. absurd h, λ h. h .0)
-
-pub sizes-facts : (z : Sizes) → T (sizesRight z) ↔ SizesFacts z
-unfolding sizesRight
-sizes-facts z = (forth, back)
-  where
-    columns : Bool
-    columns = leb 1 (z .m) && leb (z .m) columnCount
-
-    blocks : Bool
-    blocks = leZ (negℤ (pos blockBound)) (z .t) && leZ (z .t) (z .l) && leZ (z .l) (pos blockBound) && leZ (z .l -ℤ z .t) (pos 4)
-
-    column-tests : T columns ↔ (T (leb 1 (z .m)) × T (leb (z .m) columnCount))
-    column-tests = T-&& (leb 1 (z .m)) (leb (z .m) columnCount)
-
-    block-tests : T blocks
-        ↔ (T (leZ (negℤ (pos blockBound)) (z .t)) × T (leZ (z .t) (z .l)) × T (leZ (z .l) (pos blockBound)) × T (leZ (z .l -ℤ z .t) (pos 4)))
-    block-tests = four (leZ (negℤ (pos blockBound)) (z .t)) (leZ (z .t) (z .l)) (leZ (z .l) (pos blockBound)) (leZ (z .l -ℤ z .t) (pos 4))
-
-    forth : T (sizesRight z) → SizesFacts z
-    forth h =
-        let tests = T-&& columns blocks .0 h in
-        let c = column-tests .0 (tests .0) in
-        let b = block-tests .0 (tests .1) in
-        record {
-          m-low = leb→le 1 (z .m) (c .0);
-          m-high = leb→le (z .m) columnCount (c .1);
-          t-low = leZ-yes (b .0);
-          t-high = leZ-yes (b .1);
-          l-high = leZ-yes (b .2);
-          difference-high = leZ-yes (b .3);
-        }
-
-    back : SizesFacts z → T (sizesRight z)
-    back f = T-&& columns blocks .1 (
-      column-tests .1 (le→leb 1 (z .m) (f .m-low), le→leb (z .m) columnCount (f .m-high)),
-      block-tests .1 (f .t-low .le, f .t-high .le, f .l-high .le, f .difference-high .le),
-    )
-
 -- D = l - t for the mirrored sizes too.
 mirror-difference : (l t : ℤ) → negℤ t -ℤ negℤ l ≡ l -ℤ t
 mirror-difference l t = ap (λ x. negℤ t +ℤ x) (negℤ-negℤ l) ∙ +ℤ-comm (negℤ t) l
@@ -401,29 +346,29 @@ pub mirror-span : (z : Sizes) → span (mirrorSizes z) ≡ span z
 unfolding span
 mirror-span z = ap natAbs (mirror-difference (z .l) (z .t))
 
-span-difference : (z : Sizes) → SizesFacts z → pos (span z) ≡ z .l -ℤ z .t
+span-difference : (z : Sizes) → SizeBounds z → pos (span z) ≡ z .l -ℤ z .t
 unfolding span
-span-difference z f = pos-natAbs-nonneg (≤ℤ-difference .0 (f .t-high))
+span-difference z f = pos-natAbs-nonneg (≤ℤ-difference .0 (f .ordered))
 
 pub span-sum : (z : Sizes) → T (sizesRight z) → z .l ≡ z .t +ℤ pos (span z)
 span-sum z h =
-    sym (-ℤ-+ℤ-cancel (z .l) (z .t)) ∙ +ℤ-comm (z .l -ℤ z .t) (z .t) ∙ ap (λ x. z .t +ℤ x) (sym (span-difference z (sizes-facts z .0 h)))
+    sym (-ℤ-+ℤ-cancel (z .l) (z .t)) ∙ +ℤ-comm (z .l -ℤ z .t) (z .t) ∙ ap (λ x. z .t +ℤ x) (sym (span-difference z (size-bounds z h)))
 
 pub span-bound : (z : Sizes) → T (sizesRight z) → span z ≤ 4
-span-bound z h = let f = sizes-facts z .0 h in pos-≤ℤ .0 (subst (λ x. x ≤ℤ pos 4) (sym (span-difference z f)) (f .difference-high))
+span-bound z h = let f = size-bounds z h in pos-≤ℤ .0 (subst (λ x. x ≤ℤ pos 4) (sym (span-difference z f)) (f .narrow))
 
 pub mirror-sizes : (z : Sizes) → T (sizesRight z) → T (sizesRight (mirrorSizes z))
-mirror-sizes z h = sizes-facts (mirrorSizes z) .1 (turned (sizes-facts z .0 h))
+mirror-sizes z h = bounds-right (mirrorSizes z) (turned (size-bounds z h))
   where
-    turned : SizesFacts z → SizesFacts (mirrorSizes z)
+    turned : SizeBounds z → SizeBounds (mirrorSizes z)
     turned f =
         record {
-          m-low = f .m-low;
-          m-high = f .m-high;
-          t-low = negℤ-≤ℤ .0 (f .l-high);
-          t-high = negℤ-≤ℤ .0 (f .t-high);
-          l-high = negℤ-≤ℤ .0 (f .t-low);
-          difference-high = subst (λ x. x ≤ℤ pos 4) (sym (mirror-difference (z .l) (z .t))) (f .difference-high);
+          some = f .some;
+          few = f .few;
+          low = negℤ-≤ℤ .0 (f .high);
+          ordered = negℤ-≤ℤ .0 (f .ordered);
+          high = negℤ-≤ℤ .0 (f .low);
+          narrow = subst (λ x. x ≤ℤ pos 4) (sym (mirror-difference (z .l) (z .t))) (f .narrow);
         }
 
 -- ---- valid systems
