@@ -133,7 +133,7 @@ pub <ℤ-trans : {a b c : ℤ} → a <ℤ b → b <ℤ c → a <ℤ c
 
 -- ---- decisions
 
-dec-T : (t : Bool) → Dec (T t)
+pub dec-T : (t : Bool) → Dec (T t)
 dec-T true = yes tt
 dec-T false = no (λ t. t)
 

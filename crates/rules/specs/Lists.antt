@@ -5,7 +5,7 @@
 --   without l i                            the member at place i left out, the later ones moved up
 --
 -- Main statements
---   all-mono, all-both                     All under an implication, under a conjunction
+--   all-mono, all-all-mono, all-both       All under an implication, also one level down, and under a conjunction
 --   all-getD, getD-all                     All by the members at the places below the length
 --   all-member, member-all                 All by membership
 --   all-set, all-of-set                    one member put in, and taken back
@@ -41,6 +41,10 @@ pub all-mono : {A : Type 0} (P Q : A → Type 0) → ((x : A) → P x → Q x) �
 unfolding All
 all-mono P Q f [] h = tt
 all-mono P Q f (x ∷ l) h = (f x (h .0), all-mono P Q f l (h .1))
+
+-- The same one level down.
+pub all-all-mono : {A : Type 0} (P Q : A → Type 0) → ((x : A) → P x → Q x) → (ls : List (List A)) → All (All P) ls → All (All Q) ls
+all-all-mono P Q f = all-mono (All P) (All Q) (all-mono P Q f)
 
 pub all-both : {A : Type 0} (P Q : A → Type 0) (l : List A) → All P l → All Q l → All (λ x. P x × Q x) l
 unfolding All

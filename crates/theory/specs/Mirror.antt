@@ -42,11 +42,11 @@ use Rattle.rules.specs.Sequences.{Dependent}
 use Rattle.rules.specs.Lists.{all-always, all-mono, all-both, all-take, all-drop, append-all, reverse-all, all-getD, all-flatten, every-all}
 use Rattle.rules.specs.Lists.{map-keeps, all-images, map-back, map-take, map-drop, map-reverse}
 use Rattle.theory.specs.Shapes.{mirrorRow-shaped}
-use Rattle.theory.specs.Values.{blocks-same, blocks-append-zero, index-below}
-use Rattle.theory.specs.Limits.{unusedZero-iff, mapRow-unused}
+use Rattle.theory.specs.Values.{blocks-always, blocks-append-zero, index-below}
+use Rattle.theory.specs.Cells.{mapRow-zero, unusedZero-iff, unused-kept}
 use Rattle.theory.specs.BackSubstitution.{move-right}
 use Rattle.theory.specs.Combinations.{sumWithin, sumWithin-below, cancel-common, Values, copies, combinationValue, DependentValues}
-use Rattle.theory.specs.Dependence.{rowValues, dependent-values}
+use Rattle.theory.specs.ByValues.{rowValues, dependent-values}
 
 -- ---- the blocks change places
 
@@ -192,11 +192,7 @@ reflect z = λ n c. z (negℤ n) c
 
 blocks-mirror : (n : ℤ) (z : Sequence) (k : ℤ) (bs : List Block) → blocksValue n z k (map mirrorBlock bs) ≡ blocksValue (negℤ n) z k bs
 unfolding mapRow
-blocks-mirror n z k bs =
-    blocks-same mirror (record { blocks = bs }) z n (negℤ n) k (all-always (All Mirrored) (all-always Mirrored (λ p. eval-mirror p n)) bs)
-  where
-    Mirrored : Polynomial → Type 0
-    Mirrored p = eval (mirror p) n ≡ eval p (negℤ n)
+blocks-mirror n z k bs = blocks-always mirror (record { blocks = bs }) z n (negℤ n) k (λ p. eval-mirror p n)
 
 blocks-append : (n : ℤ) (z : Sequence) (k : ℤ) (bs cs : List Block)
     → blocksValue n z k (bs ++ cs) ≡ blocksValue n z k bs +ℤ blocksValue n z (k -ℤ pos (length bs)) cs
@@ -429,7 +425,9 @@ turned-unused m D r h u = unusedZero-iff m D (record { blocks = turn D (r .block
 
 pub mirror-unused : (m D : ℕ) (r : Row) → Reaches D r → T (unusedZero m D r) → T (unusedZero m D (mirrorRow D r))
 unfolding mirrorRow turn
-mirror-unused m D r h u = mapRow-unused mirror isZero-kept m D (record { blocks = turn D (r .blocks) }) (turned-unused m D r h u)
+mirror-unused m D r h u =
+    let turned : Row = record { blocks = turn D (r .blocks) } in
+    unused-kept m D turned (mapRow mirror turned) (mapRow-zero mirror refl isZero-kept turned) (turned-unused m D r h u)
 
 -- Rows of D + 1 blocks that pass the check still pass it, for the mirrored sizes.
 pub mirror-rowRight : (z : Sizes) (r : Row) → Reaches (span z) r → T (rowRight z r) → T (rowRight (mirrorSizes z) (mirrorRow (span z) r))

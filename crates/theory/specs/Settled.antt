@@ -22,7 +22,8 @@ use Rattle.rules.specs.Elimination.{mirrorState, diagonalPlace, rowAt}
 use Rattle.rules.specs.Stores.{Sizes, span, Valid}
 use Rattle.rules.specs.Lists.{all-getD}
 use Rattle.theory.specs.Steps.{current, Chain, run-done}
-use Rattle.theory.specs.Triangular.{Triangular, triangular-start, triangular-chain, column-below, order-distinct}
+use Rattle.theory.specs.Triangular.{Triangular, triangular-start, triangular-chain}
+use Rattle.theory.specs.Pivots.{order-distinct}
 use Rattle.theory.specs.Limits.{valid-kept}
 use Rattle.theory.specs.Ending.{mirrorOutcome-done}
 use Rattle.theory.specs.BackSubstitution.{TriangularRows}
@@ -74,7 +75,7 @@ module _ {side : Side} {z : Sizes} {rows : List Row} {relations : List Relation}
         zero-before = λ j k b h. settled-rows .zero-before j k b h;
         nonzero = λ j h. settled-triangular .pivots j (subst (λ n. j < n) (sym settled-count) h) .diagonal;
         column-below = settled-rows .column-below;
-        columns-different = order-distinct u settled-triangular;
+        columns-different = order-distinct (u .order) (u .rows) (settled-triangular .pivots);
         every-column = settled-rows .column-of;
       }
 

@@ -9,7 +9,7 @@
 --
 -- Main statements
 --   rowAt-putRow-same, rowAt-exchange-left, ..   the rows of a changed state
---   narrowFirst-both, narrowFirst-width          what the exchange of rule 2 leaves
+--   narrowFirst-both, narrowFirst-width, narrowFirst-all   what the exchange of rule 2 leaves
 --   firstNonzero-some, firstNonzero-none         the laws of firstNonzero
 --   stepped-length, stepped-relations            a step keeps the number of rows and the listed relations
 --   step-view, step-going, step-done, step-refused, step-refused-6   what a step's outcome says
@@ -17,7 +17,7 @@
 --   run-going, run-done, run-refused             a run is a chain of steps
 use Prim.Native.Nat.{ℕ, zero, suc, _≤_, _<_}
 use mathlib.Core.Path.{_≡_, refl, sym, _∙_, ap, subst}
-use mathlib.Core.Logic.{_≢_, _⊎_, inl, inr}
+use mathlib.Core.Logic.{_↔_, _≢_, _⊎_, inl, inr}
 use mathlib.Core.Bool.{Bool, true, false, not, cond}
 use mathlib.Core.List.{List, [], _∷_, _++_, map, append-assoc, append-nil}
 use mathlib.Core.Option.{Option, none, some, Option·map, map-eq-some-iff, map-eq-none-iff, Option·some-injective, Option·none-ne-some}
@@ -25,14 +25,13 @@ use mathlib.Core.Option.{Option·some-ne-none}
 use native.Mathlib.Nat.{zero-lt-suc, not-suc-le-zero, suc-le-suc-iff}
 use native.Mathlib.Omega.{arith}
 use lib.Dec.{T, leb, ltb, leb→le, ltb→lt, nltb→le}
-use lib.Ieee.Fits.{and-i, and-l, and-r}
 use lib.ListN.{length, getD, set, length-set, length-map}
 use lib.Seq.{getD-set-same, getD-set-other}
 use Rattle.algebra.specs.Polynomials.{Polynomial, isZero}
 use Rattle.rules.specs.Limits.{mostRelations}
-use Rattle.rules.specs.Rows.{Block, Row, Relation, noRow, every, zeroBlock, zeroRow, width, entry, leadingBlock, firstNonzero, combine}
-use Rattle.rules.specs.Rows.{primitive, lowDegrees, cut, smallRow, shiftUp}
-use Rattle.rules.specs.Lists.{getD-map, getD-swap-left, getD-swap-right, getD-swap-other, length-swap}
+use Rattle.rules.specs.Rows.{All, Row, Relation, noRow, zeroRow, width, entry, leadingBlock, firstNonzero, combine, primitive, lowDegrees}
+use Rattle.rules.specs.Rows.{cut, smallRow, shiftUp}
+use Rattle.rules.specs.Lists.{all-swap, getD-map, getD-swap-left, getD-swap-right, getD-swap-other, length-swap}
 use Rattle.rules.specs.Elimination.{Side, Multipliers, State, Outcome, going, done, refused, Limited, within, beyond, limitCoefficients}
 use Rattle.rules.specs.Elimination.{limitDegrees, rowAt, putRow, putLimited, listRelations, settle, countShift, exchange, rootRelations}
 use Rattle.rules.specs.Elimination.{multipliersAt, narrowFirst, combineStep, eliminateStep, shiftStep, settleOrShift, meet, workOn, step}
@@ -194,6 +193,19 @@ narrowFirst-width s i j h k = go (narrowed s i j)
     go (kept w) = w
     go (swapped w) = rw (rowAt-exchange-left s i j h, rowAt-exchange-right s i j k) (omega arith)
 
+-- All rows have a property exactly if all rows have it after it.
+module _ (P : Row → Type 0) (s : State) (i j : ℕ) (below-i : i < length (s .rows)) (below-j : j < length (s .rows)) where
+  pub exchange-all : All P (exchange s i j .rows) ↔ All P (s .rows)
+  unfolding exchange putRow rowAt
+  exchange-all = all-swap (s .rows) noRow i j P below-i below-j
+
+  pub narrowFirst-all : All P (narrowFirst s i j .rows) ↔ All P (s .rows)
+  narrowFirst-all = go (narrowed s i j)
+    where
+      go : {e : State} → Narrowed s i j e → All P (e .rows) ↔ All P (s .rows)
+      go (kept w) = (λ a. a, λ a. a)
+      go (swapped w) = exchange-all
+
 -- ---- the first nonzero polynomial of a list
 
 pub record FirstNonzero (ps : List Polynomial) (c : ℕ) : Type 0 where
@@ -232,18 +244,6 @@ firstNonzero-none (p ∷ ps) e k = go (isZero p) refl (firstNonzero-none ps) k e
     go true z rec zero e = rw z tt
     go true z rec (suc k) e = rec (map-eq-none-iff suc (firstNonzero ps) .0 e) k
     go false z rec k e = absurd (Option·some-ne-none 0 e)
-
--- A list of zero polynomials is a zero block.
-pub zeroBlock-all : (b : Block) → ((k : ℕ) → T (isZero (getD b k []))) → T (zeroBlock b)
-unfolding zeroBlock
-zeroBlock-all [] h = tt
-zeroBlock-all (p ∷ ps) h = and-i (isZero p) (every isZero ps) (h 0) (zeroBlock-all ps (λ k. h (suc k)))
-
-pub zeroBlock-at : (b : Block) → T (zeroBlock b) → (k : ℕ) → T (isZero (getD b k []))
-unfolding zeroBlock isZero
-zeroBlock-at [] h k = tt
-zeroBlock-at (p ∷ ps) h zero = and-l (isZero p) (every isZero ps) h
-zeroBlock-at (p ∷ ps) h (suc k) = zeroBlock-at ps (and-r (isZero p) (every isZero ps) h) k
 
 -- ---- what a step that goes on keeps
 
