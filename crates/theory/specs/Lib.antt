@@ -28,3 +28,4 @@ pub mod Agreement
 pub mod Settled
 pub mod Trailing
 pub mod Demands
+pub mod StoreDemands
