@@ -10,11 +10,10 @@
 --   all-member, member-all                 All by membership
 --   all-set, all-of-set                    one member put in, and taken back
 --   all-append, all-map, all-flatten       All of ++, of map, of flatten, both ways; map-keeps, all-images: of images
---   all-take, all-drop, all-tail, all-reverse, all-zipWith   All of parts, of the reverse, of a list made from two
+--   all-take, all-drop, all-reverse, all-zipWith   All of parts, of the reverse, of a list made from two
 --   getD-swap-left, getD-swap-right, getD-swap-other, all-swap   the members after an exchange
 --   getD-without-before, getD-without-after, all-without, all-of-without   the members kept
 --   every-all                              the test `every` says that all pass
---   every-append, every-take, every-drop, every-mono   the test on ++ and on parts, and a weaker test
 --   cond-passed, cond-failed               what a test chooses
 --   map-same, map-back, map-take, map-drop, map-reverse, getD-map   map: of what changes nothing or is undone, and of parts
 --   flatten-append, flatten-flatten, length-flatten, length-getD-flatten   lists joined
@@ -25,8 +24,8 @@ use mathlib.Core.Logic.{_↔_, _≢_, ⊎-elim}
 use Prim.Native.Nat.{ℕ, zero, suc, _+_, _*_, _≤_, _<_, zero-le}
 use native.Mathlib.Nat.{not-suc-le-zero, le-of-suc-le-suc, suc-le-suc-iff, zero-lt-suc, suc-inj, suc-mul, zero-mul, add-comm}
 use native.Mathlib.Omega.{arith}
-use mathlib.Core.Bool.{Bool, true, false, _&&_, and-assoc, cond}
-use mathlib.Core.List.{List, [], _∷_, _++_, map, reverse, reverseAux, tail, flatten, zipWith, List·Memᴰ, List·Memᴰ·head, List·Memᴰ·tail}
+use mathlib.Core.Bool.{Bool, true, false, cond}
+use mathlib.Core.List.{List, [], _∷_, _++_, map, reverse, reverseAux, flatten, zipWith, List·Memᴰ, List·Memᴰ·head, List·Memᴰ·tail}
 use mathlib.Core.List.{List·Memᴰ·cases-cons, List·Memᴰ·not-nil, reverse-reverse, reverse-cons, map-append, append-assoc}
 use lib.Dec.{T}
 use lib.ListN.{length, take, drop, getD, set, length-set, length-append}
@@ -67,9 +66,6 @@ module _ {A : Type 0} (P : A → Type 0) where
   unfolding All
   getD-all [] d f = tt
   getD-all (x ∷ l) d f = (f 0 (zero-lt-suc (length l)), getD-all l d (λ i h. f (suc i) (suc-le-suc-iff .1 h)))
-
-  pub all-iff-getD : (l : List A) (d : A) → All P l ↔ ((i : ℕ) → i < length l → P (getD l i d))
-  all-iff-getD l d = (λ a i h. all-getD l d i h a, getD-all l d)
 
   -- At every place, where the default has the property too.
   pub all-getD-default : (l : List A) (d : A) (i : ℕ) → P d → All P l → P (getD l i d)
@@ -130,11 +126,6 @@ module _ {A : Type 0} (P : A → Type 0) where
   all-drop zero l a = a
   all-drop (suc n) [] a = tt
   all-drop (suc n) (x ∷ l) a = all-drop n l (a .1)
-
-  pub all-tail : (l : List A) → All P l → All P (tail l)
-  unfolding All
-  all-tail [] a = tt
-  all-tail (x ∷ l) a = a .1
 
   reverseAux-all : (l m : List A) → All P l → All P m → All P (reverseAux l m)
   unfolding All
@@ -299,20 +290,6 @@ every-of-all t (x ∷ l) h = T-&& (t x) (every t l) .1 (h .0, every-of-all t l (
 
 pub every-all : {A : Type 0} (t : A → Bool) (l : List A) → T (every t l) ↔ All (λ x. T (t x)) l
 every-all t l = (all-of-every t l, every-of-all t l)
-
-pub every-append : {A : Type 0} (t : A → Bool) (l m : List A) → every t (l ++ m) ≡ (every t l && every t m)
-unfolding every
-every-append t [] m = refl
-every-append t (x ∷ l) m = ap (λ b. t x && b) (every-append t l m) ∙ sym (and-assoc (t x) (every t l) (every t m))
-
-pub every-take : {A : Type 0} (t : A → Bool) (n : ℕ) (l : List A) → T (every t l) → T (every t (take n l))
-every-take t n l h = every-of-all t (take n l) (all-take (λ x. T (t x)) n l (all-of-every t l h))
-
-pub every-drop : {A : Type 0} (t : A → Bool) (n : ℕ) (l : List A) → T (every t l) → T (every t (drop n l))
-every-drop t n l h = every-of-all t (drop n l) (all-drop (λ x. T (t x)) n l (all-of-every t l h))
-
-pub every-mono : {A : Type 0} (s t : A → Bool) → ((x : A) → T (s x) → T (t x)) → (l : List A) → T (every s l) → T (every t l)
-every-mono s t f l h = every-of-all t l (all-mono (λ x. T (s x)) (λ x. T (t x)) f l (all-of-every s l h))
 
 pub cond-passed : {A : Type 0} (t : Bool) (x y : A) → T t → cond t x y ≡ x
 cond-passed true x y h = refl

@@ -14,6 +14,7 @@
 --   combine-clears          two rows that are zero at c(1) to c(j - 1) make one that is zero at c(1) to c(j), where g b + h a = 0
 --   combine-width           the total width does not rise where the other row is no wider
 --   combine-shaped, combinedRow-shaped, combinedRow-unused   the shape, and the unused places
+-- The triangular form of the rows before it stays: `replace-pivots`.
 use mathlib.Core.Path.{_≡_, refl, sym, _∙_, ap, ap₂, subst}
 use mathlib.Core.Logic.{_≢_, _↔_, _⊎_, inl, inr, ⊎-elim}
 use Prim.Native.Nat.{ℕ, zero, suc, _+_, _≤_, _<_, max}

@@ -5,7 +5,7 @@
 --   shifted-zeros            the leading block that a step shifts away is zero
 --   stepped-solutions, chain-solutions, run-solutions   steps keep the sequences that satisfy rows and relations
 use mathlib.Core.Path.{_≡_, sym, subst}
-use mathlib.Core.Logic.{_↔_, Iff·trans}
+use mathlib.Core.Logic.{_↔_, Iff·trans, Iff·rfl}
 use Prim.Native.Nat.{ℕ, _<_}
 use native.Mathlib.Omega.{arith}
 use mathlib.Core.Bool.{not}
@@ -19,12 +19,13 @@ use Rattle.rules.specs.Limits.{coefficientCount, columnCount, blockCount}
 use Rattle.rules.specs.Stores.{StoreRow}
 use Rattle.rules.specs.Rows.{Row, Relation, All, zeroBlock, leadingBlock, firstNonzero, shiftUp}
 use Rattle.rules.specs.Elimination.{Side, State, start, within, limitDegrees, limitCoefficients, rowAt, putRow, listRelations, settle}
-use Rattle.rules.specs.Elimination.{countShift}
-use Rattle.rules.specs.Sequences.{Sequence, SatisfiesEquation, SatisfiesRelation, Satisfies}
+use Rattle.rules.specs.Elimination.{countShift, exchange}
+use Rattle.rules.specs.Sequences.{Sequence, Satisfies}
 use Rattle.theory.specs.Steps.{Stepped, combined, settled, shifted, Chain, here, next, current, exchanged, multipliersFor}
-use Rattle.theory.specs.Steps.{combination, listed, relations-narrowFirst, length-narrowFirst, limitCoefficients-within}
-use Rattle.theory.specs.Steps.{firstNonzero-none, limitDegrees-within, narrowFirst-all}
+use Rattle.theory.specs.Steps.{combination, listed, length-narrowFirst, limitCoefficients-within, firstNonzero-none}
+use Rattle.theory.specs.Steps.{limitDegrees-within, Narrowed, narrowed, kept, swapped}
 use Rattle.theory.specs.Cells.{zeroBlock-all}
+use Rattle.theory.specs.Exchange.{exchange-satisfied}
 use Rattle.theory.specs.Combine.{shaped-same, Combines, combinedRow-values, combine-satisfied}
 use Rattle.theory.specs.ShiftUp.{shiftUp-satisfied}
 use Rattle.theory.specs.Triangular.{Triangular, triangular-start, triangular-chain, multipliersFor-nonzero}
@@ -55,12 +56,12 @@ shifted-zeros s f = zeroBlock-all (leadingBlock (rowAt s (current s))) (firstNon
 module _ (l : ℤ) (z : Sequence) where
   exchanged-satisfied : (s : State) (j : ℕ) → j < current s → current s < length (s .rows)
       → Satisfies l (s .rows) (s .relations) z ↔ Satisfies l (exchanged s j .rows) (exchanged s j .relations) z
-  unfolding Satisfies
-  exchanged-satisfied s j before below =
-      let rows = narrowFirst-all (SatisfiesEquation l z) s (current s) j below (omega arith) in (
-        λ a. (rows .1 (a .0), subst (All (SatisfiesRelation l z)) (sym (relations-narrowFirst s (current s) j)) (a .1)),
-        λ a. (rows .0 (a .0), subst (All (SatisfiesRelation l z)) (relations-narrowFirst s (current s) j) (a .1)),
-      )
+  unfolding exchange putRow rowAt
+  exchanged-satisfied s j before below = go (narrowed s (current s) j)
+    where
+      go : {e : State} → Narrowed s (current s) j e → Satisfies l (s .rows) (s .relations) z ↔ Satisfies l (e .rows) (e .relations) z
+      go (kept w) = Iff·rfl
+      go (swapped w) = exchange-satisfied (s .rows) (current s) j l z (s .relations) below (omega arith)
 
   combined-satisfied : (side : Side) (s : State) (j : ℕ) (r : Row) → All StoreRow (s .rows) → T (not (isZero (multipliersFor s j .g)))
       → j < current s → current s < length (s .rows) → limitDegrees (combination s j) ≡ within r
@@ -89,12 +90,12 @@ module _ (l : ℤ) (z : Sequence) where
   stepped-solutions {side} {s} shaped t (combined j before below nonzero clear meets few r e) =
       Iff·trans (exchanged-satisfied s j before below)
       (combined-satisfied side s j r (shaped .row-shapes) (multipliersFor-nonzero s j t before below clear meets) before below e)
-  stepped-solutions shaped t (settled c below nonzero clear e) = (λ a. a, λ a. a)
+  stepped-solutions shaped t (settled c below nonzero clear e) = Iff·rfl
   stepped-solutions {s} shaped t (shifted r below nonzero clear f e) = shifted-satisfied s r below f e
 
   pub chain-solutions : {side : Side} {s s′ : State} {k : ℕ} → StateShaped s → Triangular s → Chain side s k s′
       → Satisfies l (s .rows) (s .relations) z ↔ Satisfies l (s′ .rows) (s′ .relations) z
-  chain-solutions shaped t here = (λ a. a, λ a. a)
+  chain-solutions shaped t here = Iff·rfl
   chain-solutions shaped t (next c u) =
       Iff·trans (chain-solutions shaped t c) (stepped-solutions (chain-shapes c shaped) (triangular-chain c t) u)
 

@@ -17,7 +17,7 @@
 --   run-going, run-done, run-refused             a run is a chain of steps
 use Prim.Native.Nat.{ℕ, zero, suc, _≤_, _<_}
 use mathlib.Core.Path.{_≡_, refl, sym, _∙_, ap, subst}
-use mathlib.Core.Logic.{_↔_, _≢_, _⊎_, inl, inr}
+use mathlib.Core.Logic.{_↔_, _⊎_, inl, inr}
 use mathlib.Core.Bool.{Bool, true, false, not, cond}
 use mathlib.Core.List.{List, [], _∷_, _++_, map, append-assoc, append-nil}
 use mathlib.Core.Option.{Option, none, some, Option·map, map-eq-some-iff, map-eq-none-iff, Option·some-injective, Option·none-ne-some}
@@ -26,12 +26,12 @@ use native.Mathlib.Nat.{zero-lt-suc, not-suc-le-zero, suc-le-suc-iff}
 use native.Mathlib.Omega.{arith}
 use lib.Dec.{T, leb, ltb, leb→le, ltb→lt, nltb→le}
 use lib.ListN.{length, getD, set, length-set, length-map}
-use lib.Seq.{getD-set-same, getD-set-other}
+use lib.Seq.{getD-set-same}
 use Rattle.algebra.specs.Polynomials.{Polynomial, isZero}
 use Rattle.rules.specs.Limits.{mostRelations}
 use Rattle.rules.specs.Rows.{All, Row, Relation, noRow, zeroRow, width, entry, leadingBlock, firstNonzero, combine, primitive, lowDegrees}
 use Rattle.rules.specs.Rows.{cut, smallRow, shiftUp}
-use Rattle.rules.specs.Lists.{all-swap, getD-map, getD-swap-left, getD-swap-right, getD-swap-other, length-swap}
+use Rattle.rules.specs.Lists.{all-swap, getD-map, getD-swap-left, getD-swap-right, length-swap}
 use Rattle.rules.specs.Elimination.{Side, Multipliers, State, Outcome, going, done, refused, Limited, within, beyond, limitCoefficients}
 use Rattle.rules.specs.Elimination.{limitDegrees, rowAt, putRow, putLimited, listRelations, settle, countShift, exchange, rootRelations}
 use Rattle.rules.specs.Elimination.{multipliersAt, narrowFirst, combineStep, eliminateStep, shiftStep, settleOrShift, meet, workOn, step}
@@ -88,25 +88,9 @@ pub rowAt-putRow-same : (s : State) (i : ℕ) (r : Row) → i < length (s .rows)
 unfolding rowAt putRow
 rowAt-putRow-same s i r h = getD-set-same (s .rows) i r noRow h
 
-pub rowAt-putRow-other : (s : State) (i j : ℕ) (r : Row) → j ≢ i → rowAt (putRow s i r) j ≡ rowAt s j
-unfolding rowAt putRow
-rowAt-putRow-other s i j r h = getD-set-other (s .rows) i j r noRow h
-
 pub length-putRow : (s : State) (i : ℕ) (r : Row) → length (putRow s i r .rows) ≡ length (s .rows)
 unfolding putRow
 length-putRow s i r = length-set (s .rows) i r
-
-pub rowAt-listRelations : (s : State) (l : List Relation) (i : ℕ) → rowAt (listRelations s l) i ≡ rowAt s i
-unfolding rowAt listRelations
-rowAt-listRelations s l i = refl
-
-pub rowAt-settle : (s : State) (c i : ℕ) → rowAt (settle s c) i ≡ rowAt s i
-unfolding rowAt settle
-rowAt-settle s c i = refl
-
-pub rowAt-countShift : (s : State) (i : ℕ) → rowAt (countShift s) i ≡ rowAt s i
-unfolding rowAt countShift
-rowAt-countShift s i = refl
 
 -- Two rows change places.
 pub rowAt-exchange-left : (s : State) (i j : ℕ) → i < length (s .rows) → rowAt (exchange s i j) i ≡ rowAt s j
@@ -116,10 +100,6 @@ rowAt-exchange-left s i j h = getD-swap-left (s .rows) noRow i j h
 pub rowAt-exchange-right : (s : State) (i j : ℕ) → j < length (s .rows) → rowAt (exchange s i j) j ≡ rowAt s i
 unfolding exchange putRow rowAt
 rowAt-exchange-right s i j h = getD-swap-right (s .rows) noRow i j h
-
-pub rowAt-exchange-other : (s : State) (i j k : ℕ) → k ≢ i → k ≢ j → rowAt (exchange s i j) k ≡ rowAt s k
-unfolding exchange putRow rowAt
-rowAt-exchange-other s i j k n m = getD-swap-other (s .rows) noRow i j k n m
 
 pub length-exchange : (s : State) (i j : ℕ) → length (exchange s i j .rows) ≡ length (s .rows)
 unfolding exchange putRow rowAt
@@ -167,13 +147,6 @@ relations-narrowFirst s i j = narrowFirst-keeps (λ u. u .relations) s i j (λ l
 
 pub shifts-narrowFirst : (s : State) (i j : ℕ) → narrowFirst s i j .shifts ≡ s .shifts
 shifts-narrowFirst s i j = narrowFirst-keeps (λ u. u .shifts) s i j (λ l. refl)
-
-pub rowAt-narrowFirst-other : (s : State) (i j k : ℕ) → k ≢ i → k ≢ j → rowAt (narrowFirst s i j) k ≡ rowAt s k
-rowAt-narrowFirst-other s i j k n m = go (narrowed s i j)
-  where
-    go : {e : State} → Narrowed s i j e → rowAt e k ≡ rowAt s k
-    go (kept h) = refl
-    go (swapped h) = rowAt-exchange-other s i j k n m
 
 -- What both rows have, both rows have after it.
 pub narrowFirst-both : (P : Row → Type 0) (s : State) (i j : ℕ) → i < length (s .rows) → j < length (s .rows)

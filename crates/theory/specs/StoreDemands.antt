@@ -12,7 +12,7 @@
 use Prim.Native.Nat.{ℕ, zero, suc, _*_, _≤_}
 use mathlib.Core.Path.{_≡_, refl, sym, _∙_, ap, subst, subst₂}
 use mathlib.Core.Logic.{_↔_}
-use mathlib.Core.List.{List, _++_}
+use mathlib.Core.List.{List}
 use native.Mathlib.Nat.{suc-ne-zero}
 use native.Mathlib.Omega.{arith}
 use mathlib.Core.Bool.{Bool, true, false, _&&_, cond}
@@ -20,12 +20,15 @@ use lib.IntN.{ℤ, _+ℤ_}
 use lib.Dec.{T}
 use lib.Signed.{_≤ℤ_, _<ℤ_}
 use mathlib.Core.Option.{Option, none, some}
-use Rattle.rules.specs.Elimination.{Side, leading, trailing, State, Outcome, going, done, refused, wholeRun, report}
+use Rattle.rules.specs.Elimination.{Side, leading, trailing, State, Outcome, done, refused, wholeRun, report}
 use Rattle.rules.specs.Stores.{Sizes, span, rowsOf, relationsOf, checkStores, sizesRight, countRight, lengthsRight, numbersRight, Valid}
 use Rattle.rules.specs.Sequences.{Sequence, Satisfies, Same, Dependent}
-use Rattle.rules.specs.Calls.{Call, Result, reportedOrder, rootFound, rootValue, callRun, afterCheck, afterRun, acceptance, refusal, cleared, unchanged, overwrite}
+use Rattle.rules.specs.Calls.{Call, Result, reportedOrder, rootFound, rootValue, callRun, afterCheck, afterRun, acceptance, refusal}
+use Rattle.rules.specs.Calls.{cleared, unchanged, overwrite}
 use Rattle.rules.specs.Layout.{checkStores-order, stores-valid, rowsOf-rowStoreOf, relationsOf-relationStoreOf}
-use Rattle.theory.specs.Demands.{Accepted, agreement-leading, agreement-trailing, same-sequences, accepted-independent, shifts-bounded, output-valid, diagonal-nonzero, refused-dependent, Ended, accepted, six, seven, eight, nine, run-ends}
+use Rattle.theory.specs.Demands.{Accepted, agreement-leading, agreement-trailing, same-sequences, accepted-independent}
+use Rattle.theory.specs.Demands.{shifts-bounded, output-valid, diagonal-nonzero, refused-dependent, Ended, accepted, six, seven}
+use Rattle.theory.specs.Demands.{eight, nine, run-ends}
 use Rattle.theory.specs.Report.{Past}
 use Rattle.theory.specs.Settled.{Diagonal}
 
