@@ -86,7 +86,8 @@ valid-widths : {z : Sizes} {rows : List Row} {relations : List Relation} → Val
 unfolding rowRight
 valid-widths {z} {rows} v =
     all-mono (λ r. T (rowRight z r)) (λ r. width r ≤ suc (span z))
-    (λ r t. width-unused (z .m) (span z) r (T-&& (smallRow r) (unusedZero (z .m) (span z) r) .0 t .1)) rows (every-all (rowRight z) rows .0 (v .rows-right))
+    (λ r t. width-unused (z .m) (span z) r (T-&& (smallRow r) (unusedZero (z .m) (span z) r) .0 t .1)) rows
+    (every-all (rowRight z) rows .0 (v .rows-right))
 
 module _ {side : Side} {z : Sizes} {rows : List Row} {relations : List Relation} {s : State} (a : Accepted side z rows relations s) where
   -- 1. "the same two-sided integer sequences satisfy input and output"
@@ -130,7 +131,8 @@ pub agreement-leading : {z : Sizes} {rows : List Row} {relations : List Relation
 unfolding Satisfies
 agreement-leading {z} {s = s} a y w hy hw =
     let b = settled-leading (a .valid) (a .accepts) in
-    leading-agreement (z .m) (span z) s (settled-rows b) (settled-diagonal b .order-count) (nonzero-of-diagonal leading (z .m) (span z) s (settled-diagonal b))
+    leading-agreement (z .m) (span z) s (settled-rows b) (settled-diagonal b .order-count)
+    (nonzero-of-diagonal leading (z .m) (span z) s (settled-diagonal b))
     (z .l) (z .t) (span-sum z (a .valid .sizes)) y w (same-sequences a y .0 hy .0) (same-sequences a w .0 hw .0)
 
 -- "Trailing side: for every n below the reported root, or any n with "no", two that are equal at n + t + 1 to n + l are equal
@@ -172,7 +174,8 @@ refused-number side k s n e =
     number u (inr (inr (inl h))) = subst (λ k. Ended (refused k)) (sym h) eight
     number u (inr (inr (inr h))) = subst (λ k. Ended (refused k)) (sym h) nine
 
-whole-refused : (side : Side) (D : ℕ) (rows : List Row) (relations : List Relation) (n : ℕ) → wholeRun side D rows relations ≡ refused n → Ended (refused n)
+whole-refused : (side : Side) (D : ℕ) (rows : List Row) (relations : List Relation) (n : ℕ) → wholeRun side D rows relations ≡ refused n
+    → Ended (refused n)
 unfolding wholeRun leadingRun trailingRun
 whole-refused leading D rows relations n e = refused-number leading (enough rows) (start rows relations) n e
 whole-refused trailing D rows relations n e =

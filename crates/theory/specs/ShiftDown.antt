@@ -106,7 +106,8 @@ pub value-shiftDown : (l : ℤ) (r : Row) (z : Sequence) (n : ℤ) → T (zeroBl
 unfolding valueOf shiftDown blocksValue
 value-shiftDown l r z n zeros =
     blocks-always (shiftBy (negsuc 0)) (moved r) z n m (n +ℤ l) (λ p. eval-shiftBy (negsuc 0) p n)
-    ∙ ap (λ x. x +ℤ blocksValue m z (predℤ (n +ℤ l)) (dropLast (r .blocks))) (block-zero m (z (n +ℤ l)) (blank (lastBlock r)) (blank-zero (lastBlock r)))
+    ∙ ap (λ x. x +ℤ blocksValue m z (predℤ (n +ℤ l)) (dropLast (r .blocks)))
+    (block-zero m (z (n +ℤ l)) (blank (lastBlock r)) (blank-zero (lastBlock r)))
     ∙ +ℤ-idl (blocksValue m z (predℤ (n +ℤ l)) (dropLast (r .blocks)))
     ∙ ap (λ k. blocksValue m z k (dropLast (r .blocks))) (sym (predℤ-+ℤ n l) ∙ ap (λ k. k +ℤ l) (sym (-ℤ-one n)))
     ∙ moved-down m z (m +ℤ l) r zeros
@@ -160,7 +161,8 @@ shiftDown-shiftUp r some zeros = ap (λ bs. record { blocks = bs }) (go (r .bloc
         ap (λ l. map (map down) (blank (getLastD l []) ∷ dropLast l)) (map-append (map up) bs (blank b ∷ []))
         ∙ ap₂ (λ x l. map (map down) (blank x ∷ l)) (getLastD-behind (map (map up) bs) (map up (blank b)) [])
         (dropLast-behind (map (map up) bs) (map up (blank b)))
-        ∙ ap₂ _∷_ (twice-blank up down (shiftBy-inverse (pos 1)) (isZero-shiftBy (pos 1)) b z) (undone-blocks up down (shiftBy-inverse (pos 1)) bs)
+        ∙ ap₂ _∷_ (twice-blank up down (shiftBy-inverse (pos 1)) (isZero-shiftBy (pos 1)) b z)
+        (undone-blocks up down (shiftBy-inverse (pos 1)) bs)
 
 pub shiftUp-shiftDown : (r : Row) → 0 < length (r .blocks) → T (zeroBlock (lastBlock r)) → shiftUp (shiftDown r) ≡ r
 unfolding shiftDown shiftUp mapRow leadingBlock shift

@@ -49,7 +49,8 @@ module _ {z : Sizes} {rows : List Row} {relations : List Relation} (v : Valid z 
   unfolding wholeRun trailingRun mirrorState start
   trailing-dependent e =
       dependent-mirrored .1
-      (refused-dependent (negℤ (z .t)) trailing (enough rows) (mirrorState (span z) (start rows relations)) (valid-shapes (mirror-valid z rows relations v))
+      (refused-dependent (negℤ (z .t)) trailing (enough rows) (mirrorState (span z) (start rows relations))
+      (valid-shapes (mirror-valid z rows relations v))
       (triangular-start (map (mirrorRow (span z)) rows) (map (mirrorRelation (span z)) relations))
       (mirrorOutcome-refused (span z) (run trailing (enough rows) (mirrorState (span z) (start rows relations))) 6 e))
 
@@ -60,16 +61,19 @@ module _ {z : Sizes} {rows : List Row} {relations : List Relation} (v : Valid z 
 
     relations-span : All (λ e. Spans (span z) (e .row)) (u .relations)
     relations-span =
-        subst (λ d. All (λ e. Spans d (e .row)) (u .relations)) (mirror-span z) (valid-relations-span (mirrorSizes z) (u .rows) (u .relations) (settled-valid a))
+        subst (λ d. All (λ e. Spans d (e .row)) (u .relations)) (mirror-span z)
+        (valid-relations-span (mirrorSizes z) (u .rows) (u .relations) (settled-valid a))
 
     pub mirrored-sequences : (y : Sequence)
         → Satisfies (z .l) rows relations y ↔ Satisfies (z .l) (mirrorState (span z) u .rows) (mirrorState (span z) u .relations) y
     unfolding mirrorState
     mirrored-sequences y =
         let m = mirror-valid z rows relations v in
-        Iff·trans (mirror-satisfies (span z) (z .l) (z .t) sum y rows relations (valid-rows-span z rows relations v) (valid-relations-span z rows relations v))
+        Iff·trans (mirror-satisfies (span z) (z .l) (z .t) sum y rows relations (valid-rows-span z rows relations v)
+        (valid-relations-span z rows relations v))
         (Iff·trans
-        (run-solutions (negℤ (z .t)) (reflect y) (map (mirrorRow (span z)) rows) (map (mirrorRelation (span z)) relations) (m .row-shapes) (m .relation-shapes) (a .chain))
+        (run-solutions (negℤ (z .t)) (reflect y) (map (mirrorRow (span z)) rows) (map (mirrorRelation (span z)) relations) (m .row-shapes)
+        (m .relation-shapes) (a .chain))
         (Iff·symm (mirror-satisfies-back (span z) (z .l) (z .t) sum y (u .rows) (u .relations) spans relations-span)))
 
     leading-diagonal : Diagonal leading (z .m) (span z) u
@@ -83,14 +87,16 @@ module _ {z : Sizes} {rows : List Row} {relations : List Relation} (v : Valid z 
     unfolding mirrorState
     valid-back =
         subst (λ d. Valid z (map (mirrorRow d) (u .rows)) (map (mirrorRelation d) (u .relations))) (mirror-span z)
-        (subst (λ y. Valid y (map (mirrorRow (span (mirrorSizes z))) (u .rows)) (map (mirrorRelation (span (mirrorSizes z))) (u .relations))) (mirrorSizes-twice z)
+        (subst (λ y. Valid y (map (mirrorRow (span (mirrorSizes z))) (u .rows))
+        (map (mirrorRelation (span (mirrorSizes z))) (u .relations))) (mirrorSizes-twice z)
         (mirror-valid (mirrorSizes z) (u .rows) (u .relations) (settled-valid a)))
 
     pub independent-back : Dependent (z .l) rows → ⊥
     unfolding start
     independent-back d =
         settled-independent (negℤ (z .t)) u (settled-triangular a) (a .all)
-        (chain-dependent (negℤ (z .t)) (valid-shapes (a .valid)) (triangular-start (map (mirrorRow (span z)) rows) (map (mirrorRelation (span z)) relations)) (a .chain) .0 (dependent-mirrored .0 d))
+        (chain-dependent (negℤ (z .t)) (valid-shapes (a .valid))
+        (triangular-start (map (mirrorRow (span z)) rows) (map (mirrorRelation (span z)) relations)) (a .chain) .0 (dependent-mirrored .0 d))
 
     pub agrees-back : (y w : Sequence) → Satisfies (z .l) rows relations y → Satisfies (z .l) rows relations w
         → (n : ℤ) → Past trailing (report trailing (span z) (mirrorState (span z) u)) n
@@ -98,5 +104,7 @@ module _ {z : Sizes} {rows : List Row} {relations : List Relation} (v : Valid z 
         → (i : ℤ) → i ≤ℤ (n +ℤ z .l) → Same (z .m) y w i
     unfolding Satisfies
     agrees-back y w hy hw =
-        trailing-agreement (z .m) (span z) u (subst (λ d. TriangularRows (z .m) d (u .rows) (u .order)) (mirror-span z) (settled-rows a)) (leading-diagonal .order-count)
-        (nonzero-of-diagonal leading (z .m) (span z) u leading-diagonal) spans (z .l) (z .t) sum y w (mirrored-sequences y .0 hy .0) (mirrored-sequences w .0 hw .0)
+        trailing-agreement (z .m) (span z) u (subst (λ d. TriangularRows (z .m) d (u .rows) (u .order)) (mirror-span z) (settled-rows a))
+        (leading-diagonal .order-count)
+        (nonzero-of-diagonal leading (z .m) (span z) u leading-diagonal) spans (z .l) (z .t) sum y w (mirrored-sequences y .0 hy .0)
+        (mirrored-sequences w .0 hw .0)
