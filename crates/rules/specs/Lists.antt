@@ -11,7 +11,7 @@
 --   all-set, all-of-set                    one member put in, and taken back
 --   all-append, all-map, all-flatten       All of ++, of map, of flatten, both ways; map-keeps, all-images: of images
 --   all-take, all-drop, all-reverse, all-zipWith   All of parts, of the reverse, of a list made from two
---   getD-swap-left, getD-swap-right, getD-swap-other, all-swap   the members after an exchange
+--   swap-same, getD-swap-left, getD-swap-right, getD-swap-other, all-swap   the members after an exchange
 --   getD-without-before, getD-without-after, all-without, all-of-without   the members kept
 --   every-all                              the test `every` says that all pass
 --   cond-passed, cond-failed               what a test chooses
@@ -29,7 +29,7 @@ use mathlib.Core.List.{List, [], _∷_, _++_, map, reverse, reverseAux, flatten,
 use mathlib.Core.List.{List·Memᴰ·cases-cons, List·Memᴰ·not-nil, reverse-reverse, reverse-cons, map-append, append-assoc}
 use lib.Dec.{T}
 use lib.ListN.{length, take, drop, getD, set, length-set, length-append}
-use lib.Seq.{getD-set-same, getD-set-other, lt-length-set}
+use lib.Seq.{getD-set-same, getD-set-other, lt-length-set, set-set, set-getD}
 use native.Mathlib.Decide.{ℕ-discrete}
 use Rattle.algebra.specs.Polynomials.{T-&&}
 use Rattle.rules.specs.Rows.{All, every}
@@ -195,6 +195,10 @@ swap l d i j = set (set l j (getD l i d)) i (getD l j d)
 module _ {A : Type 0} (l : List A) (d : A) (i j : ℕ) where
   pub length-swap : length (swap l d i j) ≡ length l
   length-swap = length-set (set l j (getD l i d)) i (getD l j d) ∙ length-set l j (getD l i d)
+
+  pub swap-same : i ≡ j → swap l d i j ≡ l
+  swap-same e =
+      ap (λ a. set (set l a (getD l i d)) i (getD l a d)) (sym e) ∙ set-set l i (getD l i d) (getD l i d) ∙ set-getD l i d
 
   pub getD-swap-left : i < length l → getD (swap l d i j) i d ≡ getD l j d
   getD-swap-left below = getD-set-same (set l j (getD l i d)) i (getD l j d) d (lt-length-set l j (getD l i d) below)

@@ -11,14 +11,16 @@
 --                           new one where g(n) is not 0, and from the listed relation where it is
 --   combine-satisfied       the same sequences satisfy the list, the relations at the roots of g being added
 --   combine-dependent       the list is dependent exactly if it was
+--   combinedRow-zero        the row of rule 4 is zero where g × r + h × q is, which the next three ask of a new row
 --   combine-clears          two rows that are zero at c(1) to c(j - 1) make one that is zero at c(1) to c(j), where g b + h a = 0
 --   combine-width           the total width does not rise where the other row is no wider
---   combine-shaped, combinedRow-shaped, combinedRow-unused   the shape, and the unused places
+--   combine-unused          unused places stay zero
+--   combine-shaped, combinedRow-shaped   the shape
 -- The triangular form of the rows before it stays: `replace-pivots`.
 use mathlib.Core.Path.{_≡_, refl, sym, _∙_, ap, ap₂, subst}
 use mathlib.Core.Logic.{_≢_, _↔_, _⊎_, inl, inr, ⊎-elim}
 use Prim.Native.Nat.{ℕ, zero, suc, _+_, _≤_, _<_, max}
-use native.Mathlib.Nat.{suc-inj, ne-of-gt, le-refl, le-trans}
+use native.Mathlib.Nat.{suc-inj, ne-of-gt, le-refl}
 use native.Mathlib.Decide.{ℕ-discrete}
 use native.Mathlib.Omega.{arith}
 use mathlib.Core.Bool.{not}
@@ -279,12 +281,13 @@ combine-cancels g h r q c cancels = go (cell-combine g h r q 0 c)
         (λ n. combined-polynomial g h n (cell r 0 c) (cell q 0 c) ∙ cancels n))
     go (inr e) = rw e tt
 
--- At the columns before place j both rows are zero.
-pub combine-clears : (order : List ℕ) (j : ℕ) (g h : Polynomial) (r q : Row) → PivotRow order j r → PivotRow order j q
+-- At the columns before place j both rows are zero. The new row is zero where g × r + h × q is.
+pub combine-clears : (order : List ℕ) (j : ℕ) (g h : Polynomial) (r q r′ : Row) → ZeroWhere (combine g h r q) r′
+    → PivotRow order j r → PivotRow order j q
     → ((n : ℤ) → eval g n *ℤ eval (entry r (getD order j 0)) n +ℤ eval h n *ℤ eval (entry q (getD order j 0)) n ≡ pos 0)
-    → (k : ℕ) → k ≤ j → T (isZero (entry (combinedRow g h r q) (getD order k 0)))
+    → (k : ℕ) → k ≤ j → T (isZero (entry r′ (getD order k 0)))
 unfolding entry
-combine-clears order j g h r q p e cancels k b = combinedRow-zero g h r q 0 (getD order k 0) (cases (ℕ-discrete k j))
+combine-clears order j g h r q r′ kept p e cancels k b = kept 0 (getD order k 0) (cases (ℕ-discrete k j))
   where
     cases : Dec (k ≡ j) → T (isZero (cell (combine g h r q) 0 (getD order k 0)))
     cases (yes f) = subst (λ n. T (isZero (cell (combine g h r q) 0 (getD order n 0)))) (sym f)
@@ -298,18 +301,15 @@ pub width-combine : (g h : Polynomial) (r q : Row) → width q ≤ width r → w
 width-combine g h r q narrow = width-le (combine g h r q) (width r) .1
     (λ i c k. combine-zero g h r q i c (width-le r (width r) .0 (le-refl (width r)) i c k) (width-le q (width r) .0 narrow i c k))
 
-pub width-combinedRow : (g h : Polynomial) (r q : Row) → width q ≤ width r → width (combinedRow g h r q) ≤ width r
-width-combinedRow g h r q narrow =
-    le-trans (width-no-wider (combinedRow g h r q) (combine g h r q) (combinedRow-zero g h r q)) (width-combine g h r q narrow)
-
-pub combine-width : (rows : List Row) (g h : Polynomial) (i j : ℕ) → i < length rows
-    → width (getD rows j noRow) ≤ width (getD rows i noRow)
-    → totalWidth (set rows i (combinedRow g h (getD rows i noRow) (getD rows j noRow))) ≤ totalWidth rows
-combine-width rows g h i j below narrow =
+pub combine-width : (rows : List Row) (g h : Polynomial) (i j : ℕ) (r′ : Row) → i < length rows
+    → ZeroWhere (combine g h (getD rows i noRow) (getD rows j noRow)) r′ → width (getD rows j noRow) ≤ width (getD rows i noRow)
+    → totalWidth (set rows i r′) ≤ totalWidth rows
+combine-width rows g h i j r′ below kept narrow =
     omega (
       arith,
-      totalWidth-set rows i (combinedRow g h (getD rows i noRow) (getD rows j noRow)) below,
-      width-combinedRow g h (getD rows i noRow) (getD rows j noRow) narrow,
+      totalWidth-set rows i r′ below,
+      width-no-wider r′ (combine g h (getD rows i noRow) (getD rows j noRow)) kept,
+      width-combine g h (getD rows i noRow) (getD rows j noRow) narrow,
     )
 
 -- ---- the shape, and the unused places
@@ -349,9 +349,9 @@ module _ (g h : Polynomial) (a : ℕ) (length-g : length g ≡ suc a) (length-h 
       cut-shaped b c (suc (a + k)) (primitive (combine g h r q)) long
       (primitive-shaped b c (suc (a + k)) (combine g h r q) (combine-shaped b c k r q x y))
 
-pub combinedRow-unused : (g h : Polynomial) (m D : ℕ) (r q : Row) → T (unusedZero m D r) → T (unusedZero m D q)
-    → T (unusedZero m D (combinedRow g h r q))
-combinedRow-unused g h m D r q x y =
-    unused-kept m D (combine g h r q) (combinedRow g h r q) (combinedRow-zero g h r q)
+pub combine-unused : (g h : Polynomial) (m D : ℕ) (r q r′ : Row) → ZeroWhere (combine g h r q) r′
+    → T (unusedZero m D r) → T (unusedZero m D q) → T (unusedZero m D r′)
+combine-unused g h m D r q r′ kept x y =
+    unused-kept m D (combine g h r q) r′ kept
     (unused-cells m D (combine g h r q) .1
     (λ i c e. combine-zero g h r q i c (unused-cells m D r .0 x i c e) (unused-cells m D q .0 y i c e)))

@@ -5,7 +5,7 @@
 --   settled-independent, zero-current-dependent   all rows settled: independent; the current row zero: dependent
 --   refused-dependent, done-independent   a run that refuses with 6 began with dependent rows, one that is done did not
 use mathlib.Core.Path.{_≡_, sym, subst}
-use mathlib.Core.Logic.{_≢_, _↔_, Iff·rfl, Iff·trans}
+use mathlib.Core.Logic.{_↔_, Iff·rfl, Iff·trans}
 use mathlib.Core.Bool.{not}
 use mathlib.Core.Option.{none}
 use Prim.Native.Nat.{ℕ, _≤_, _<_}
@@ -35,14 +35,14 @@ use Rattle.theory.specs.DropZero.{zero-row-dependent}
 
 module _ (l : ℤ) where
   -- With or without the exchange of rule 2.
-  narrowed-dependent : (s : State) (i j : ℕ) → i < length (s .rows) → j < length (s .rows) → i ≢ j
+  narrowed-dependent : (s : State) (i j : ℕ) → i < length (s .rows) → j < length (s .rows)
       → Dependent l (s .rows) ↔ Dependent l (narrowFirst s i j .rows)
   unfolding exchange putRow rowAt
-  narrowed-dependent s i j i-below j-below apart = go (narrowed s i j)
+  narrowed-dependent s i j i-below j-below = go (narrowed s i j)
     where
       go : {e : State} → Narrowed s i j e → Dependent l (s .rows) ↔ Dependent l (e .rows)
       go (kept w) = Iff·rfl
-      go (swapped w) = exchange-dependent (s .rows) i j l i-below j-below apart
+      go (swapped w) = exchange-dependent (s .rows) i j l i-below j-below
 
   combined-dependent : (side : Side) (s : State) (j : ℕ) (r : Row) → All StoreRow (s .rows) → T (not (isZero (multipliersFor s j .g)))
       → j < current s → current s < length (s .rows) → limitDegrees (combination s j) ≡ within r
@@ -68,7 +68,7 @@ module _ (l : ℤ) where
       → Dependent l (s .rows) ↔ Dependent l (s' .rows)
   unfolding putRow settle countShift
   stepped-dependent {side} {s} shaped t (combined j before below nonzero clear meets few r e) =
-      Iff·trans (narrowed-dependent s (current s) j below (omega arith) (omega arith))
+      Iff·trans (narrowed-dependent s (current s) j below (omega arith))
       (combined-dependent side s j r (shaped .row-shapes) (multipliersFor-nonzero s j t before below clear meets) before below e)
   stepped-dependent shaped t (settled c below nonzero clear e) = Iff·rfl
   stepped-dependent {s} shaped t (shifted r below nonzero clear f e) = shifted-dependent s r below f e

@@ -30,13 +30,13 @@ use Rattle.theory.specs.Shapes.{mirrorRow-shaped}
 use Rattle.theory.specs.Steps.{current, met, MetZeroBelow, exchanged, listed, combination, multipliersFor, Stepped, combined, settled}
 use Rattle.theory.specs.Steps.{shifted, Chain, here, next, Narrowed, narrowed, kept, swapped, narrowFirst-width, length-narrowFirst}
 use Rattle.theory.specs.Steps.{shifts-narrowFirst, listed-order, stepped-length, run-going, run-done, going≢done, going≢refused}
-use Rattle.theory.specs.Steps.{done≢refused, done-injective, chain-length, limitDegrees-within, limitCoefficients-within}
+use Rattle.theory.specs.Steps.{done≢refused, done-injective, chain-length, limitCoefficients-within}
 use Rattle.theory.specs.Cells.{totalWidth, totalWidth-bound, totalWidth-rows, width-positive, width-le-length, width-mirrorRow}
 use Rattle.theory.specs.Pivots.{pivot-width}
 use Rattle.theory.specs.Exchange.{exchange-width}
 use Rattle.theory.specs.Combine.{combine-width}
 use Rattle.theory.specs.ShiftUp.{shiftUp-width}
-use Rattle.theory.specs.Triangular.{Triangular, triangular-start, triangular-chain, combined-advances}
+use Rattle.theory.specs.Triangular.{combined-zero, Triangular, triangular-start, triangular-chain, combined-advances}
 
 -- ---- the total width after a step
 
@@ -54,10 +54,9 @@ combined-total : (side : Side) (s : State) (j : ℕ) (r : Row) → j < current s
     → limitDegrees (combination s j) ≡ within r → totalWidth (putRow (listed side s j) (current s) r .rows) ≤ totalWidth (s .rows)
 unfolding putRow listRelations rowAt
 combined-total side s j r below more e =
-    subst (λ q. totalWidth (set (exchanged s j .rows) (current s) q) ≤ totalWidth (s .rows)) (sym (limitDegrees-within (combination s j) r e .2))
-    (le-trans (combine-width (exchanged s j .rows) (multipliersFor s j .g) (multipliersFor s j .h) (current s) j
-    (omega (arith, length-narrowFirst s (current s) j)) (narrowFirst-width s (current s) j more (omega arith)))
-    (le-of-eq (totalWidth-narrowFirst s (current s) j more (omega arith))))
+    le-trans (combine-width (exchanged s j .rows) (multipliersFor s j .g) (multipliersFor s j .h) (current s) j r
+    (omega (arith, length-narrowFirst s (current s) j)) (combined-zero s j r e) (narrowFirst-width s (current s) j more (omega arith)))
+    (le-of-eq (totalWidth-narrowFirst s (current s) j more (omega arith)))
 
 -- A shift makes its row one block narrower.
 shifted-total : (s : State) (r : Row) → current s < length (s .rows) → T (not (zeroRow (rowAt s (current s))))

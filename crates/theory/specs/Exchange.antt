@@ -11,19 +11,19 @@
 --   exchange-width           the total width stays
 use Prim.Native.Nat.{ℕ, _≤_, _<_}
 use mathlib.Core.Path.{_≡_, sym, _∙_, ap, ap₂, subst}
-use mathlib.Core.Logic.{_≢_, _↔_, by-cases}
+use mathlib.Core.Logic.{_≢_, _↔_, Iff·rfl, by-cases}
 use mathlib.Core.Bool.{not}
 use mathlib.Core.List.{List}
 use native.Mathlib.Decide.{ℕ-discrete}
 use native.Mathlib.Omega.{arith}
 use lib.Dec.{T}
 use lib.ListN.{length, getD, set, length-set}
-use lib.Seq.{getD-set-other, set-set, set-getD}
+use lib.Seq.{getD-set-other}
 use lib.IntN.{ℤ, _+ℤ_, _*ℤ_, +ℤ-comm}
 use Rattle.algebra.specs.Sums.{sumBelow, sumBelow-congr}
 use Rattle.algebra.specs.Polynomials.{eval, isZero}
 use Rattle.rules.specs.Rows.{Row, Relation, noRow, width}
-use Rattle.rules.specs.Lists.{swap, length-swap, getD-swap-left, getD-swap-right, getD-swap-other, all-swap}
+use Rattle.rules.specs.Lists.{swap, swap-same, length-swap, getD-swap-left, getD-swap-right, getD-swap-other, all-swap}
 use Rattle.rules.specs.Sequences.{Sequence, valueOf, SatisfiesEquation, Satisfies, Dependent}
 use Rattle.theory.specs.Cells.{totalWidth, totalWidth-set}
 use Rattle.theory.specs.Pivots.{PivotRow, PivotRows}
@@ -62,14 +62,10 @@ module _ (rows : List Row) (i j : ℕ) where
           (subst (PivotRow order j) (sym (exchange-right (omega arith))) p)
 
   pub exchange-width : i < length rows → j < length rows → totalWidth (exchangeRows rows i j) ≡ totalWidth rows
-  exchange-width below-i below-j = by-cases (ℕ-discrete i j) same apart
+  exchange-width below-i below-j = by-cases (ℕ-discrete i j) (λ e. ap totalWidth (swap-same rows noRow i j e)) apart
     where
       once : List Row
       once = set rows j (getD rows i noRow)
-
-      same : i ≡ j → totalWidth (exchangeRows rows i j) ≡ totalWidth rows
-      same e = ap totalWidth (ap (λ a. set (set rows a (getD rows i noRow)) i (getD rows a noRow)) (sym e)
-          ∙ set-set rows i (getD rows i noRow) (getD rows i noRow) ∙ set-getD rows i noRow)
 
       apart : i ≢ j → totalWidth (exchangeRows rows i j) ≡ totalWidth rows
       apart n =
@@ -146,14 +142,15 @@ module _ (i j : ℕ) (apart : i ≢ j) where
           sumBelow-congr m _ _ (λ k _. sumWithin-congr N (λ s _. ap (λ e. eval (S (turned k) s) x *ℤ e) (same z k (x +ℤ s))))
           ∙ sumBelow-turned m (copies E N S z x) p q
 
-pub exchange-dependent : (rows : List Row) (i j : ℕ) (l : ℤ) → i < length rows → j < length rows → i ≢ j
+pub exchange-dependent : (rows : List Row) (i j : ℕ) (l : ℤ) → i < length rows → j < length rows
     → Dependent l rows ↔ Dependent l (exchangeRows rows i j)
-exchange-dependent rows i j l i-below j-below apart =
-    by-values l rows (exchangeRows rows i j) (length-swap rows noRow i j) (
+exchange-dependent rows i j l i-below j-below = by-cases (ℕ-discrete i j)
+    (λ e. subst (λ x. Dependent l rows ↔ Dependent l x) (sym (swap-same rows noRow i j e)) Iff·rfl)
+    (λ apart. by-values l rows (exchangeRows rows i j) (length-swap rows noRow i j) (
       exchanged-values i j apart (length rows) (rowValues l rows) (rowValues l (exchangeRows rows i j)) i-below j-below at-i at-j others,
       exchanged-values i j apart (length rows) (rowValues l (exchangeRows rows i j)) (rowValues l rows) i-below j-below
           (λ z n. sym (at-j z n)) (λ z n. sym (at-i z n)) (λ z k n c o. sym (others z k n c o)),
-    )
+    ))
   where
     at-i : (z : Sequence) (n : ℤ) → rowValues l (exchangeRows rows i j) z i n ≡ rowValues l rows z j n
     at-i z n = ap (λ q. valueOf l q z n) (exchange-left rows i j i-below)

@@ -25,7 +25,7 @@ use Rattle.algebra.specs.Coefficients.{lowest-place}
 use Rattle.algebra.specs.Vanishing.{root-divides-lowest, lowest-positive}
 use Rattle.algebra.specs.Roots.{roots, isConstant, roots-sound}
 use Rattle.rules.specs.Limits.{bound, coefficientCount, mostRelations, small, columnCount, blockCount}
-use Rattle.rules.specs.Rows.{Row, Relation, noRow, All, every, coefficientsOf, leadingBlock, entry, cut, smallRow, shiftUp}
+use Rattle.rules.specs.Rows.{Row, Relation, noRow, All, every, coefficientsOf, leadingBlock, entry, smallRow, shiftUp}
 use Rattle.rules.specs.Elimination.{Side, State, start, within, limitDegrees, limitCoefficients, rowAt, putRow, listRelations, settle}
 use Rattle.rules.specs.Elimination.{countShift, rootRelations, multipliersAt}
 use Rattle.rules.specs.Stores.{Sizes, span, countRight, unusedZero, rowRight, relationRight, Valid, StoreRow}
@@ -36,7 +36,8 @@ use Rattle.theory.specs.Steps.{length-narrowFirst, met, order-narrowFirs
 use Rattle.theory.specs.Multipliers.{multipliers-small, length-multipliers-g, length-multipliers-h}
 use Rattle.theory.specs.Shapes.{entry-column, entry-length}
 use Rattle.theory.specs.AddRelations.{rootRelations-all}
-use Rattle.theory.specs.Combine.{combinedRow-shaped, combinedRow-unused}
+use Rattle.theory.specs.Combine.{combinedRow-shaped, combine-unused}
+use Rattle.theory.specs.Triangular.{combined-zero}
 use Rattle.theory.specs.ShiftUp.{shiftUp-shaped, shiftUp-unused}
 
 -- ---- sizes
@@ -198,12 +199,11 @@ module _ (z : Sizes) (s : State) (j : ℕ) (before : j < current s) (below : cur
       let a = rowAt (exchanged s j) (current s) in
       let b = rowAt (exchanged s j) j in
       let limits = limitDegrees-within (combination s j) r e in
-      subst (λ q. T (rowRight z q)) (sym (limits .2))
-      (rowRight-iff z (cut (combination s j)) .1 (
-        limits .1,
-        combinedRow-unused g h (z .m) (span z) a b
+      rowRight-iff z r .1 (
+        subst (λ q. T (smallRow q)) (sym (limits .2)) (limits .1),
+        combine-unused g h (z .m) (span z) a b r (combined-zero s j r e)
             (rowRight-iff z a .0 (exchanged-row (current s) (omega arith)) .1) (rowRight-iff z b .0 (exchanged-row j (omega arith)) .1),
-      ))
+      )
 
   listed-right : (side : Side)
       → All (λ e. T (relationRight z e)) (rootRelations side (multipliersFor s j .g) (rowAt (exchanged s j) (current s)))

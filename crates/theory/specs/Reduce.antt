@@ -5,7 +5,7 @@
 --   value-divided            d times the value after division by d is the value before
 --   value-primitive          so a positive number times the value after division by the content is the value before
 --   value-cut                the cut keeps the value where the degrees are at most 15
---   primitive-zero, cut-zero           zero cells stay zero
+--   divided-zero, primitive-zero, cut-zero   zero cells stay zero
 --   primitive-shaped, cut-shaped       the shape after each
 use mathlib.Core.Path.{_≡_, refl, sym, _∙_, ap, subst}
 use Prim.Native.Nat.{ℕ, zero, suc, _≤_, _<_}
@@ -79,11 +79,12 @@ unfolding coeff
 divideBy-zero d p h = coeff-isZero (divideBy d p)
     (λ k. divideBy-getD d p k ∙ ap (λ a. quotZ a (pos d)) (isZero-coeff p h k) ∙ ap pos (zero-div d))
 
-pub primitive-zero : (r : Row) → ZeroWhere r (primitive r)
+pub divided-zero : (d : ℕ) (r : Row) → ZeroWhere r (mapRow (divideBy d) r)
 unfolding divideBy
-primitive-zero r =
-    let (d, positive, divides, same) = primitive-divides r in
-    subst (ZeroWhere r) (sym same) (mapRow-zero (divideBy d) refl (divideBy-zero d) r)
+divided-zero d r = mapRow-zero (divideBy d) refl (divideBy-zero d) r
+
+pub primitive-zero : (r : Row) → ZeroWhere r (primitive r)
+primitive-zero r = let (d, positive, divides, same) = primitive-divides r in subst (ZeroWhere r) (sym same) (divided-zero d r)
 
 pub primitive-shaped : (b c k : ℕ) (r : Row) → Shaped b c k r → Shaped b c k (primitive r)
 primitive-shaped b c k r h = let d = primitive-divides r in

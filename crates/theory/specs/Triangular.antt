@@ -6,6 +6,7 @@
 --
 -- Main statements
 --   triangular-start, triangular-stepped, triangular-chain   every state of a run is triangular
+--   combined-zero            the row that a combination makes is zero where the combination is, before division and cut
 --   combined-clears          the row that a combination with row j makes is zero at the columns of rows 1 to j
 --   combined-advances        so the settled row that is met next comes after row j
 use Prim.Native.Nat.{ℕ, suc, _≤_, _<_, zero-le}
@@ -20,14 +21,15 @@ use lib.Dec.{T}
 use lib.IntN.{ℤ, pos, _+ℤ_, _*ℤ_}
 use lib.ListN.{length, getD, length-append}
 use Rattle.algebra.specs.Polynomials.{isZero, eval}
-use Rattle.rules.specs.Rows.{Row, Relation, entry, leadingBlock, firstNonzero}
+use Rattle.rules.specs.Rows.{Row, Relation, entry, leadingBlock, firstNonzero, combine}
 use Rattle.rules.specs.Elimination.{Side, multipliers, multipliersAt, limitDegrees, within, State, start, rowAt, putRow, settle, countShift}
 use Rattle.rules.specs.Elimination.{listRelations, exchange}
 use Rattle.theory.specs.Multipliers.{multipliers-cancel, multipliers-nonzero}
 use Rattle.theory.specs.Pivots.{PivotRow, PivotRows, settle-pivots}
 use Rattle.theory.specs.Replace.{replace-pivots}
 use Rattle.theory.specs.Exchange.{exchange-pivots}
-use Rattle.theory.specs.Combine.{combine-clears}
+use Rattle.theory.specs.Combine.{combinedRow-zero, combine-clears}
+use Rattle.theory.specs.Cells.{ZeroWhere}
 use Rattle.theory.specs.Steps.{Narrowed, narrowed, kept, swapped, current, met, MetZeroBelow, exchanged, listed, combination}
 use Rattle.theory.specs.Steps.{multipliersFor, Stepped, combined, settled, shifted, Chain, chain-induction, rowAt-putRow-same}
 use Rattle.theory.specs.Steps.{order-narrowFirst, limitDegrees-within, stepped-length, listed-order, listed-rows, length-putRow}
@@ -101,6 +103,16 @@ triangular-stepped {side} {s} (shifted r more nonzero clear f g) t =
 pub triangular-chain : {side : Side} {s s' : State} {k : ℕ} → Chain side s k s' → Triangular s → Triangular s'
 triangular-chain {side} = chain-induction side Triangular (λ u v. triangular-stepped)
 
+-- The row that a combination makes is zero where the combination is, before division and cut.
+pub combined-zero : (s : State) (j : ℕ) (r : Row) → limitDegrees (combination s j) ≡ within r
+    → ZeroWhere (combine (multipliersFor s j .g) (multipliersFor s j .h) (rowAt (exchanged s j) (current s)) (rowAt (exchanged s j) j)) r
+combined-zero s j r e =
+    let g = multipliersFor s j .g in
+    let h = multipliersFor s j .h in
+    let a = rowAt (exchanged s j) (current s) in
+    let b = rowAt (exchanged s j) j in
+    subst (ZeroWhere (combine g h a b)) (sym (limitDegrees-within (combination s j) r e .2)) (combinedRow-zero g h a b)
+
 -- ---- the step is the document's loop over j
 
 module _ (s : State) (j : ℕ) (t : Triangular s) (below : j < current s) (more : current s < length (s .rows))
@@ -133,9 +145,8 @@ module _ (s : State) (j : ℕ) (t : Triangular s) (below : j < current s) (more 
 
   -- The row that the combination makes is zero at c(1) to c(j).
   pub combined-clears : (r : Row) → limitDegrees (combination s j) ≡ within r → (k : ℕ) → k ≤ j → T (isZero (entry r (column s k)))
-  combined-clears r e k h = rw (limitDegrees-within (combination s j) r e .2)
-      (combine-clears (s .order) j (multipliersFor s j .g) (multipliersFor s j .h) (rowAt (exchanged s j) (current s)) (rowAt (exchanged s j) j)
-      (both .0) (both .1) multipliersFor-cancel k h)
+  combined-clears r e = combine-clears (s .order) j (multipliersFor s j .g) (multipliersFor s j .h) (rowAt (exchanged s j) (current s))
+      (rowAt (exchanged s j) j) r (combined-zero s j r e) (both .0) (both .1) multipliersFor-cancel
 
   -- So the next step meets a settled row after row j, or none.
   pub combined-advances : (side : Side) (r : Row) → limitDegrees (combination s j) ≡ within r
