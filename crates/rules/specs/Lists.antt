@@ -17,7 +17,7 @@
 --   cond-passed, cond-failed               what a test chooses
 --   map-same, map-back, map-take, map-drop, map-reverse, getD-map   map: of what changes nothing or is undone, and of parts
 --   flatten-append, flatten-flatten, length-flatten, length-getD-flatten   lists joined
---   length-zipWith, zipWith-drop           the length of a list made from two; drop goes inside
+--   length-zipWith                         the length of a list made from two
 --   member-place                           a member stands at a place
 use mathlib.Core.Path.{_≡_, refl, sym, _∙_, ap, ap₂, subst}
 use mathlib.Core.Logic.{_↔_, _≢_, ⊎-elim}
@@ -376,18 +376,6 @@ unfolding zipWith
 length-zipWith f [] m h = refl
 length-zipWith f (x ∷ l) [] h = sym h
 length-zipWith f (x ∷ l) (y ∷ m) h = ap suc (length-zipWith f l m (suc-inj h))
-
-pub zipWith-drop : {A B C : Type 0} (f : A → B → C) (n : ℕ) (l : List A) (m : List B)
-    → drop n (zipWith f l m) ≡ zipWith f (drop n l) (drop n m)
-unfolding zipWith
-zipWith-drop f zero l m = refl
-zipWith-drop f (suc n) [] m = refl
-zipWith-drop f (suc n) (x ∷ l) [] = sym (zipWith-nil f (drop n l))
-  where
-    zipWith-nil : {A B C : Type 0} (f : A → B → C) (l : List A) → zipWith f l [] ≡ []
-    zipWith-nil f [] = refl
-    zipWith-nil f (x ∷ l) = refl
-zipWith-drop f (suc n) (x ∷ l) (y ∷ m) = zipWith-drop f n l m
 
 -- ---- members
 

@@ -14,8 +14,8 @@ use lib.ListN.{length}
 use lib.IntN.{ℤ, pos, negℤ, _+ℤ_, negℤ-negℤ, negℤ-+ℤ}
 use lib.Signed.{_≤ℤ_, _<ℤ_, <ℤ-≤ℤ-trans}
 use Rattle.algebra.specs.Order.{≤ℤ-<ℤ-trans, negℤ-≤ℤ, negℤ-<ℤ}
-use Rattle.algebra.specs.Polynomials.{Polynomial, eval, isZero, mirror, isZero-mirror, eval-mirror, T-&&}
-use Rattle.rules.specs.Rows.{Row, noRow, All, smallRow, entry, leadingBlock}
+use Rattle.algebra.specs.Polynomials.{Polynomial, eval, isZero, mirror, isZero-mirror, eval-mirror}
+use Rattle.rules.specs.Rows.{Row, noRow, All, entry, leadingBlock}
 use Rattle.rules.specs.Elimination.{leading, trailing, State, rowAt, mirrorState, diagonalPlace, diagonal, report}
 use Rattle.rules.specs.Stores.{Sizes, span, unusedZero, rowRight, Valid}
 use Rattle.rules.specs.Sequences.{Sequence, SatisfiesEquation, Satisfies, Same}
@@ -25,6 +25,7 @@ use Rattle.theory.specs.Triangular.{Triangular}
 use Rattle.theory.specs.Pivots.{ColumnsBelow, column-below, order-complete}
 use Rattle.theory.specs.Cells.{entry-cell, unused-cells}
 use mathlib.Core.Logic.{inl}
+use Rattle.theory.specs.Limits.{rowRight-iff}
 use Rattle.theory.specs.BackSubstitution.{TriangularRows, NonzeroAt, SameBetween, agreement}
 use Rattle.theory.specs.Report.{Past, NonzeroDiagonal, diagonalEntry, diagonal-member, nonzero-diagonal, past-report}
 use Rattle.theory.specs.Mirror.{Reaches, Spans, reflect, mirror-diagonal, mirror-span-sum, mirror-satisfies-back}
@@ -36,10 +37,9 @@ unused-columns m D r u c h = subst (λ p. T (isZero p)) (sym (entry-cell r c)) (
 
 module _ (z : Sizes) (s : State) (valid : Valid z (s .rows) (s .relations)) (triangular : Triangular s) (settled : current s ≡ z .m) where
   unused-rows : All (λ r. T (unusedZero (z .m) (span z) r)) (s .rows)
-  unfolding rowRight
   unused-rows =
       all-mono (λ r. T (rowRight z r)) (λ r. T (unusedZero (z .m) (span z) r))
-      (λ r h. T-&& (smallRow r) (unusedZero (z .m) (span z) r) .0 h .1) (s .rows) (every-all (rowRight z) (s .rows) .0 (valid .rows-right))
+      (λ r h. rowRight-iff z r .0 h .1) (s .rows) (every-all (rowRight z) (s .rows) .0 (valid .rows-right))
 
   narrow : All (ColumnsBelow (z .m)) (s .rows)
   narrow = all-mono (λ r. T (unusedZero (z .m) (span z) r)) (ColumnsBelow (z .m)) (unused-columns (z .m) (span z)) (s .rows) unused-rows

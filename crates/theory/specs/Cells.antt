@@ -301,7 +301,8 @@ unused-cells m D r = (λ u. forth (unusedZero-iff m D r .0 u), λ z. unusedZero-
 
     blocks : ((i c : ℕ) → (m ≤ c) ⊎ (suc D ≤ i) → T (isZero (cell r i c))) → All (λ b. T (zeroBlock b)) (drop (suc D) (r .blocks))
     blocks z = getD-all (λ b. T (zeroBlock b)) (drop (suc D) (r .blocks)) []
-        (λ i k. rw (getD-drop (suc D) (r .blocks) i []) (zeroBlock-all (getD (r .blocks) (suc D + i) []) (λ c. z (suc D + i) c (inr (omega arith)))))
+        (λ i k. rw (getD-drop (suc D) (r .blocks) i [])
+        (zeroBlock-all (getD (r .blocks) (suc D + i) []) (λ c. z (suc D + i) c (inr (omega arith)))))
 
 -- A row that is zero wherever another is, has its unused places zero where the other has.
 pub unused-kept : (m D : ℕ) (r q : Row) → ZeroWhere r q → T (unusedZero m D r) → T (unusedZero m D q)

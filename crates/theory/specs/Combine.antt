@@ -37,7 +37,7 @@ use Rattle.algebra.specs.Roots.{roots, roots-complete, place}
 use Rattle.algebra.specs.Vanishing.{zero-everywhere}
 use Rattle.rules.specs.Limits.{coefficientCount}
 use Rattle.rules.specs.Rows.{Block, Row, Relation, noRow, All, mapRow, coefficientsOf, width, entry, combine, primitive, lowDegrees, cut}
-use Rattle.rules.specs.Lists.{all-getD, all-set, all-of-set, append-all, all-front, all-back, all-member, all-zipWith, length-zipWith}
+use Rattle.rules.specs.Lists.{all-getD, all-set, all-of-set, all-member, all-zipWith, length-zipWith}
 use Rattle.rules.specs.Elimination.{Side, rootRelations}
 use Rattle.rules.specs.Stores.{Shaped, unusedZero}
 use Rattle.rules.specs.Sequences.{Sequence, blockValue, blocksValue, valueOf, SatisfiesEquation, SatisfiesRelation, Satisfies, Dependent}
@@ -47,7 +47,7 @@ use Rattle.theory.specs.Pivots.{PivotRow}
 use Rattle.theory.specs.CombinedValues.{combined-iff}
 use Rattle.theory.specs.ByValues.{rowValues, by-values}
 use Rattle.theory.specs.Replace.{replaced-value, kept-value}
-use Rattle.theory.specs.AddRelations.{rootRelations-satisfied, equation-relations}
+use Rattle.theory.specs.AddRelations.{added-satisfied, rootRelations-satisfied, equation-relations}
 use Rattle.theory.specs.Reduce.{value-divided, value-primitive, value-cut, primitive-zero, cut-zero, primitive-shaped, cut-shaped}
 
 -- ---- values, pointwise in n
@@ -206,7 +206,7 @@ module _ (l : ℤ) (z : Sequence) (side : Side) (d : ℕ) (g h : Polynomial) whe
       forth : All Solved rows × All Holds relations → All Solved (set rows i r′) × All Holds (relations ++ listed)
       forth s =
           let new = both .0 (all-getD Solved rows noRow i below-i (s .0), all-getD Solved rows noRow j below-j (s .0)) in
-          (all-set Solved rows i r′ (new .0) (s .0), append-all Holds relations listed (s .1) (new .2))
+          added-satisfied l z (set rows i r′) relations listed .1 ((all-set Solved rows i r′ (new .0) (s .0), s .1), new .2)
 
       -- The row at a place of the new list.
       at : (k : ℕ) (p : Row) → getD (set rows i r′) k noRow ≡ p → k < length rows → All Solved (set rows i r′) → Solved p
@@ -214,10 +214,10 @@ module _ (l : ℤ) (z : Sequence) (side : Side) (d : ℕ) (g h : Polynomial) whe
 
       back : All Solved (set rows i r′) × All Holds (relations ++ listed) → All Solved rows × All Holds relations
       back s =
-          let new = at i r′ (getD-set-same rows i r′ noRow below-i) below-i (s .0) in
-          let pivot = at j q (getD-set-other rows i j r′ noRow (λ e. apart (sym e))) below-j (s .0) in
-          let old = both .1 (new, pivot, all-back Holds relations listed (s .1)) in
-          (all-of-set Solved rows i r′ noRow (old .0) (s .0), all-front Holds relations listed (s .1))
+          let (rest, added) = added-satisfied l z (set rows i r′) relations listed .0 s in
+          let new = at i r′ (getD-set-same rows i r′ noRow below-i) below-i (rest .0) in
+          let pivot = at j q (getD-set-other rows i j r′ noRow (λ e. apart (sym e))) below-j (rest .0) in
+          (all-of-set Solved rows i r′ noRow (both .1 (new, pivot, added) .0) (rest .0), rest .1)
 
 -- ---- dependence, both ways
 

@@ -21,11 +21,11 @@ use lib.Dec.{T, ltb, lt→ltb}
 use lib.ListN.{length}
 use lib.IntN.{ℤ, _+ℤ_}
 use lib.Signed.{_≤ℤ_, _<ℤ_}
-use Rattle.algebra.specs.Polynomials.{isZero, T-&&}
-use Rattle.rules.specs.Rows.{Row, Relation, All, zeroRow, width, smallRow, entry, firstNonzero}
+use Rattle.algebra.specs.Polynomials.{isZero}
+use Rattle.rules.specs.Rows.{Row, Relation, All, zeroRow, width, entry, firstNonzero}
 use Rattle.rules.specs.Elimination.{Side, leading, trailing, State, Outcome, going, done, refused, start, enough, step, workOn, meet, run}
 use Rattle.rules.specs.Elimination.{wholeRun, leadingRun, trailingRun, mirrorState, diagonal, report, rowAt, putRow, limitDegrees, within}
-use Rattle.rules.specs.Stores.{Sizes, span, rowRight, unusedZero, Valid}
+use Rattle.rules.specs.Stores.{Sizes, span, rowRight, Valid}
 use Rattle.rules.specs.Sequences.{Sequence, Satisfies, Same, Dependent}
 use Rattle.rules.specs.Lists.{all-mono, every-all, cond-passed}
 use Rattle.theory.specs.Steps.{current, met, MetZeroBelow, combination, listed, Chain, Refusal, run-refused, step-refused}
@@ -35,6 +35,7 @@ use Rattle.theory.specs.Report.{Past, Rootless, FurthestRoot, report-non
 use Rattle.theory.specs.Solutions.{run-solutions}
 use Rattle.theory.specs.Triangular.{triangular-start, triangular-chain, combined-advances}
 use Rattle.theory.specs.Dependence.{chain-dependent, settled-independent, refused-dependent as run-dependent}
+use Rattle.theory.specs.Limits.{rowRight-iff}
 use Rattle.theory.specs.Mirror.{span-sum}
 use Rattle.theory.specs.Agreement.{leading-agreement}
 use Rattle.theory.specs.Trailing.{valid-shapes, mirrored-sequences, diagonal-back, valid-back, independent-back, agrees-back}
@@ -83,10 +84,9 @@ valid-output trailing {z} v e =
 
 -- The rows of a valid system have no block below t.
 valid-widths : {z : Sizes} {rows : List Row} {relations : List Relation} → Valid z rows relations → All (λ r. width r ≤ suc (span z)) rows
-unfolding rowRight
 valid-widths {z} {rows} v =
     all-mono (λ r. T (rowRight z r)) (λ r. width r ≤ suc (span z))
-    (λ r t. width-unused (z .m) (span z) r (T-&& (smallRow r) (unusedZero (z .m) (span z) r) .0 t .1)) rows
+    (λ r t. width-unused (z .m) (span z) r (rowRight-iff z r .0 t .1)) rows
     (every-all (rowRight z) rows .0 (v .rows-right))
 
 module _ {side : Side} {z : Sizes} {rows : List Row} {relations : List Relation} {s : State} (a : Accepted side z rows relations s) where

@@ -122,7 +122,8 @@ module _ (l : ℤ) (rows : List Row) (order : List ℕ) (pivots : PivotRows (len
       others : (x : ℤ) (k : ℕ) → k < length rows → k ≢ i → term x k ≡ pos 0
       others x k b n = by-cases (decLt k i)
           (λ m. rw (eval-isZero (S k K) x (earlier k m)) (zero-*ℤ (eval (entry (getD rows k noRow) (getD order i 0)) (x +ℤ K))))
-          (λ m. rw (eval-isZero (entry (getD rows k noRow) (getD order i 0)) (x +ℤ K) (pivots k b .zeros i (omega arith))) (*ℤ-zero (eval (S k K) x)))
+          (λ m. rw (eval-isZero (entry (getD rows k noRow) (getD order i 0)) (x +ℤ K) (pivots k b .zeros i (omega arith)))
+          (*ℤ-zero (eval (S k K) x)))
 
       value : (x : ℤ) → eval (mul (S i K) pivot) x ≡ term x i
       value x = eval-mul (S i K) pivot x ∙ ap (λ e. eval (S i K) x *ℤ e) (eval-shiftBy K (entry (getD rows i noRow) (getD order i 0)) x)

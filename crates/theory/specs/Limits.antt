@@ -2,12 +2,15 @@
 --
 -- Main definitions
 --   StateShaped s       every row and every relation of s has the shape of a row in a store
+--   Small a             a is within ±C
 --   StateRight z s      every row and every relation of s passes document 01's check of the numbers
 --
 -- Main statements
+--   smallRow-iff                  a row is within ±C exactly if its coefficients are
 --   entry-small, root-small       the entries of a row within ±C, and the integer roots of a polynomial within ±C
 --   current-shaped, pivot-shaped, combined-shaped, shifted-shaped   the shapes of the rows of a step
 --   stepped-shapes, chain-shapes  steps keep the shapes
+--   rowRight-iff, relationRight-iff   what the checks of a row and of a relation test
 --   stepped-right                 a step keeps the numbers right
 --   stepped-valid, valid-kept     the output of a run is a valid system: "an output is a valid input"
 use mathlib.Core.Path.{_≡_, refl, sym, _∙_, subst}
@@ -29,7 +32,8 @@ use Rattle.rules.specs.Rows.{Row, Relation, noRow, All, every, coefficientsOf, 
 use Rattle.rules.specs.Elimination.{Side, State, start, within, limitDegrees, limitCoefficients, rowAt, putRow, listRelations, settle}
 use Rattle.rules.specs.Elimination.{countShift, rootRelations, multipliersAt}
 use Rattle.rules.specs.Stores.{Sizes, span, countRight, unusedZero, rowRight, relationRight, Valid, StoreRow}
-use Rattle.rules.specs.Lists.{all-getD-default, all-of-every, every-of-all, all-getD, all-set, append-all, all-of-flatten, cond-passed}
+use Rattle.rules.specs.Lists.{all-getD-default, all-of-every, every-of-all, all-getD, all-set, append-all, all-flatten, every-all}
+use Rattle.rules.specs.Lists.{cond-passed}
 use Rattle.theory.specs.Steps.{Stepped, combined, settled, shifted, Chain, chain-induction, current, exchanged, multipliersFor}
 use Rattle.theory.specs.Steps.{combination, stepped-length, limitDegrees-within, limitCoefficients-within, relations-narrowFirst}
 use Rattle.theory.specs.Steps.{length-narrowFirst, met, order-narrowFirst, narrowFirst-all}
@@ -42,18 +46,29 @@ use Rattle.theory.specs.ShiftUp.{shiftUp-shaped, shiftUp-unused}
 
 -- ---- sizes
 
-smallRow-parts : (r : Row) → T (smallRow r) → All (All (All (λ a. T (small a)))) (r .blocks)
+-- "within ±C"
+abbrev pub Small : ℤ → Type 0
+Small a = T (small a)
+
+pub smallRow-iff : (r : Row) → T (smallRow r) ↔ All (All (All Small)) (r .blocks)
 unfolding smallRow coefficientsOf
-smallRow-parts r h =
-    all-of-flatten (All (λ a. T (small a))) (r .blocks)
-    (all-of-flatten (λ a. T (small a)) (flatten (r .blocks)) (all-of-every small (flatten (flatten (r .blocks))) h))
+smallRow-iff r = (λ h. blocks .0 (coefficients .0 (tests .0 h)), λ a. tests .1 (coefficients .1 (blocks .1 a)))
+  where
+    tests : T (every small (flatten (flatten (r .blocks)))) ↔ All Small (flatten (flatten (r .blocks)))
+    tests = every-all small (flatten (flatten (r .blocks)))
+
+    coefficients : All Small (flatten (flatten (r .blocks))) ↔ All (All Small) (flatten (r .blocks))
+    coefficients = all-flatten Small (flatten (r .blocks))
+
+    blocks : All (All Small) (flatten (r .blocks)) ↔ All (All (All Small)) (r .blocks)
+    blocks = all-flatten (All Small) (r .blocks)
 
 pub entry-small : (r : Row) (c : ℕ) → T (smallRow r) → T (every small (entry r c))
 unfolding entry leadingBlock All
 entry-small r c h =
     every-of-all small (getD (getD (r .blocks) 0 []) c [])
     (all-getD-default (All (λ a. T (small a))) (getD (r .blocks) 0 []) [] c tt
-    (all-getD-default (All (All (λ a. T (small a)))) (r .blocks) [] 0 tt (smallRow-parts r h)))
+    (all-getD-default (All (All (λ a. T (small a)))) (r .blocks) [] 0 tt (smallRow-iff r .0 h)))
 
 -- The zero polynomial has no roots in the list.
 roots-of-zero : (p : Polynomial) → T (isZero p) → roots p ≡ []
@@ -164,11 +179,11 @@ pub record StateRight (z : Sizes) (s : State) : Type 0 where
   pub rows-right : T (every (rowRight z) (s .rows))
   pub relations-right : T (every (relationRight z) (s .relations))
 
-rowRight-iff : (z : Sizes) (r : Row) → T (rowRight z r) ↔ (T (smallRow r) × T (unusedZero (z .m) (span z) r))
+pub rowRight-iff : (z : Sizes) (r : Row) → T (rowRight z r) ↔ (T (smallRow r) × T (unusedZero (z .m) (span z) r))
 unfolding rowRight
 rowRight-iff z r = T-&& (smallRow r) (unusedZero (z .m) (span z) r)
 
-relationRight-iff : (z : Sizes) (e : Relation) → T (relationRight z e) ↔ (T (small (e .index)) × T (rowRight z (e .row)))
+pub relationRight-iff : (z : Sizes) (e : Relation) → T (relationRight z e) ↔ (T (small (e .index)) × T (rowRight z (e .row)))
 unfolding relationRight
 relationRight-iff z e = T-&& (small (e .index)) (rowRight z (e .row))
 

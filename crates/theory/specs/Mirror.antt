@@ -20,7 +20,7 @@ use native.Mathlib.Omega.{arith}
 use mathlib.Core.Path.{_≡_, refl, sym, _∙_, ap, ap₂, subst, subst₂, fun-ext}
 use mathlib.Core.Logic.{_↔_, Iff·symm, Iff·trans}
 use mathlib.Core.Bool.{not}
-use mathlib.Core.List.{List, [], _∷_, _++_, map, map-append, zipWith, flatten, reverse, reverse-cons, reverse-append, reverse-reverse}
+use mathlib.Core.List.{List, [], _∷_, _++_, map, map-append, zipWith, reverse, reverse-cons, reverse-append, reverse-reverse}
 use lib.Dec.{T, leb}
 use lib.ListN.{length, getD, take, drop, length-reverse, length-map, take-append-drop, List·getD-map}
 use lib.Seq.{length-take-le, length-front, take-at, drop-at, take-suc}
@@ -30,20 +30,21 @@ use lib.Signed.{_≤ℤ_}
 use Rattle.algebra.specs.Integers.{+ℤ-left-comm, natAbs-negℤ}
 use Rattle.algebra.specs.Order.{≤ℤ-difference, negℤ-≤ℤ, pos-≤ℤ, pos-natAbs-nonneg}
 use Rattle.algebra.specs.Sums.{sum-congr, sumBelow-congr, sumBelow-reverse}
-use Rattle.algebra.specs.Polynomials.{Polynomial, eval, isZero, negate, mirror, mirror-mirror, isZero-mirror, eval-mirror, T-&&}
+use Rattle.algebra.specs.Polynomials.{Polynomial, eval, isZero, negate, mirror, mirror-mirror, isZero-mirror, eval-mirror}
 use Rattle.rules.specs.Limits.{bound, coefficientCount, columnCount, blockCount, small}
-use Rattle.rules.specs.Rows.{Block, Row, Relation, noRow, All, every, mapRow, coefficientsOf, smallRow, zeroBlock, leadingBlock, entry}
-use Rattle.rules.specs.Rows.{mirrorRow, mirrorRelation}
+use Rattle.rules.specs.Rows.{Block, Row, Relation, noRow, All, every, mapRow, smallRow, zeroBlock, leadingBlock, entry, mirrorRow}
+use Rattle.rules.specs.Rows.{mirrorRelation}
 use Rattle.rules.specs.Elimination.{leading, trailing, State, mirrorState, diagonalPlace, diagonal}
 use Rattle.rules.specs.Stores.{Sizes, span, sizesRight, countRight, unusedZero, rowRight, relationRight, Shaped, StoreRow, Valid}
 use Rattle.rules.specs.Layout.{SizeBounds, size-bounds, bounds-right}
 use Rattle.rules.specs.Sequences.{Sequence, blockValue, blocksValue, valueOf, SatisfiesEquation, SatisfiesRelation, Satisfies, shiftsWithin}
 use Rattle.rules.specs.Sequences.{Dependent}
-use Rattle.rules.specs.Lists.{all-always, all-mono, all-both, all-take, all-drop, append-all, reverse-all, all-getD, all-flatten, every-all}
-use Rattle.rules.specs.Lists.{map-keeps, all-images, map-back, map-take, map-drop, map-reverse}
+use Rattle.rules.specs.Lists.{all-always, all-mono, all-both, all-take, all-drop, append-all, reverse-all, all-getD, every-all, map-keeps}
+use Rattle.rules.specs.Lists.{all-images, map-back, map-take, map-drop, map-reverse}
 use Rattle.theory.specs.Shapes.{mirrorRow-shaped}
 use Rattle.theory.specs.Values.{blocks-always, blocks-append-zero, index-below}
 use Rattle.theory.specs.Cells.{mapRow-zero, unusedZero-iff, unused-kept}
+use Rattle.theory.specs.Limits.{Small, smallRow-iff, rowRight-iff, relationRight-iff}
 use Rattle.theory.specs.BackSubstitution.{move-right}
 use Rattle.theory.specs.Combinations.{sumWithin, sumWithin-below, cancel-common, Values, copies, combinationValue, DependentValues}
 use Rattle.theory.specs.ByValues.{rowValues, dependent-values}
@@ -375,9 +376,6 @@ all-turn P D l a =
     append-all P (reverse (take (suc D) l)) (drop (suc D) l)
     (reverse-all P (take (suc D) l) (all-take P (suc D) l a)) (all-drop P (suc D) l a)
 
-abbrev Small : ℤ → Type 0
-Small a = T (small a)
-
 small-negℤ : (a : ℤ) → Small a → Small (negℤ a)
 unfolding small
 small-negℤ a h = subst (λ n. T (leb n bound)) (sym (natAbs-negℤ a)) h
@@ -387,29 +385,16 @@ unfolding mirror negate All
 small-mirror [] a = tt
 small-mirror (x ∷ p) a = (a .0, map-keeps Small Small negℤ small-negℤ (mirror p) (small-mirror p (a .1)))
 
-small-row : (r : Row) → T (smallRow r) ↔ All (All (All Small)) (r .blocks)
-unfolding smallRow coefficientsOf
-small-row r = (λ h. blocks .0 (coefficients .0 (tests .0 h)), λ a. tests .1 (coefficients .1 (blocks .1 a)))
-  where
-    tests : T (every small (flatten (flatten (r .blocks)))) ↔ All Small (flatten (flatten (r .blocks)))
-    tests = every-all small (flatten (flatten (r .blocks)))
-
-    coefficients : All Small (flatten (flatten (r .blocks))) ↔ All (All Small) (flatten (r .blocks))
-    coefficients = all-flatten Small (flatten (r .blocks))
-
-    blocks : All (All Small) (flatten (r .blocks)) ↔ All (All (All Small)) (r .blocks)
-    blocks = all-flatten (All Small) (r .blocks)
-
 pub mirror-small : (D : ℕ) (r : Row) → T (smallRow r) → T (smallRow (mirrorRow D r))
 mirror-small D r h =
-    small-row (mirrorRow D r) .1
+    smallRow-iff (mirrorRow D r) .1
     (subst (All Fits) (sym (mirrorRow-blocks D r)) (map-keeps Fits Fits mirrorBlock block (turn D (r .blocks)) turned))
   where
     Fits : Block → Type 0
     Fits b = All (All Small) b
 
     turned : All Fits (turn D (r .blocks))
-    turned = all-turn Fits D (r .blocks) (small-row r .0 h)
+    turned = all-turn Fits D (r .blocks) (smallRow-iff r .0 h)
 
     block : (b : Block) → Fits b → Fits (mirrorBlock b)
     block b a = map-keeps (All Small) (All Small) mirror small-mirror b a
@@ -431,10 +416,9 @@ mirror-unused m D r h u =
 
 -- Rows of D + 1 blocks that pass the check still pass it, for the mirrored sizes.
 pub mirror-rowRight : (z : Sizes) (r : Row) → Reaches (span z) r → T (rowRight z r) → T (rowRight (mirrorSizes z) (mirrorRow (span z) r))
-unfolding rowRight
 mirror-rowRight z r h t =
-    let both = T-&& (smallRow r) (unusedZero (z .m) (span z) r) .0 t in
-    T-&& (smallRow (mirrorRow (span z) r)) (unusedZero (z .m) (span (mirrorSizes z)) (mirrorRow (span z) r)) .1
+    let both = rowRight-iff z r .0 t in
+    rowRight-iff (mirrorSizes z) (mirrorRow (span z) r) .1
     (mirror-small (span z) r (both .0), unused (both .1))
   where
     unused : T (unusedZero (z .m) (span z) r) → T (unusedZero (z .m) (span (mirrorSizes z)) (mirrorRow (span z) r))
@@ -442,10 +426,10 @@ mirror-rowRight z r h t =
 
 pub mirror-relationRight : (z : Sizes) (e : Relation) → Reaches (span z) (e .row) → T (relationRight z e)
     → T (relationRight (mirrorSizes z) (mirrorRelation (span z) e))
-unfolding relationRight mirrorRelation
+unfolding mirrorRelation
 mirror-relationRight z e h t =
-    let both = T-&& (small (e .index)) (rowRight z (e .row)) .0 t in
-    T-&& (small (negℤ (e .index))) (rowRight (mirrorSizes z) (mirrorRow (span z) (e .row))) .1
+    let both = relationRight-iff z e .0 t in
+    relationRight-iff (mirrorSizes z) (mirrorRelation (span z) e) .1
     (small-negℤ (e .index) (both .0), mirror-rowRight z (e .row) h (both .1))
 
 -- A row as a store holds it has enough blocks.
@@ -454,8 +438,7 @@ unfolding Shaped
 storeRow-reaches z h r s = omega (arith, span-bound z h, s .0)
 
 pub valid-row-spans : (z : Sizes) → T (sizesRight z) → (r : Row) → StoreRow r → T (rowRight z r) → Spans (span z) r
-unfolding rowRight
-valid-row-spans z h r s t = spans (z .m) (span z) r (storeRow-reaches z h r s) (T-&& (smallRow r) (unusedZero (z .m) (span z) r) .0 t .1)
+valid-row-spans z h r s t = spans (z .m) (span z) r (storeRow-reaches z h r s) (rowRight-iff z r .0 t .1)
 
 module _ (z : Sizes) (rows : List Row) (relations : List Relation) (valid : Valid z rows relations) where
   RowFacts : Row → Type 0
@@ -479,11 +462,11 @@ module _ (z : Sizes) (rows : List Row) (relations : List Relation) (valid : Vali
   valid-rows-span = all-mono RowFacts (Spans (span z)) (λ r f. valid-row-spans z (valid .sizes) r (f .0) (f .1)) rows rows-facts
 
   pub valid-relations-span : All (λ e. Spans (span z) (e .row)) relations
-  unfolding RelationFacts relationRight
+  unfolding RelationFacts
   valid-relations-span = all-mono RelationFacts (λ e. Spans (span z) (e .row)) one relations relations-facts
     where
       one : (e : Relation) → RelationFacts e → Spans (span z) (e .row)
-      one e f = valid-row-spans z (valid .sizes) (e .row) (f .0) (T-&& (small (e .index)) (rowRight z (e .row)) .0 (f .1) .1)
+      one e f = valid-row-spans z (valid .sizes) (e .row) (f .0) (relationRight-iff z e .0 (f .1) .1)
 
   shape : (r : Row) → StoreRow r → StoreRow (mirrorRow (span z) r)
   shape = mirrorRow-shaped blockCount columnCount coefficientCount (span z)

@@ -65,7 +65,8 @@ pub value-divided : (d : ℕ) (l : ℤ) (r : Row) (z : Sequence) (n : ℤ) → D
 unfolding valueOf mapRow
 value-divided d l r z n h =
     blocks-map (divideBy d) (pos d) n n z (n +ℤ l) (r .blocks)
-    (all-all-mono (DividesAll d) (λ p. pos d *ℤ eval (divideBy d p) n ≡ eval p n) (λ p e. eval-divideBy d p n e) (r .blocks) (dividesAll-parts d r h))
+    (all-all-mono (DividesAll d) (λ p. pos d *ℤ eval (divideBy d p) n ≡ eval p n) (λ p e. eval-divideBy d p n e) (r .blocks)
+    (dividesAll-parts d r h))
 
 -- Division by the content: one number for all sequences and all n.
 pub value-primitive : (r : Row)

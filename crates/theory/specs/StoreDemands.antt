@@ -80,8 +80,10 @@ module _ (side : Side) (z : Sizes) (count : ℕ) (rowStore relationStore : List 
     held s e =
         record {
           run-accepted = a;
-          rows-held = ap (λ x. rowsOf (z .m) (x .rowStore)) (worked (done s) e) ∙ rowsOf-rowStoreOf (z .m) (s .rows) _ (v .row-count) (v .row-shapes);
-          relations-held = ap (λ x. relationsOf (x .result .relations) (x .relationStore)) (worked (done s) e) ∙ relationsOf-relationStoreOf (s .relations) _ (v .relation-shapes);
+          rows-held = ap (λ x. rowsOf (z .m) (x .rowStore)) (worked (done s) e)
+              ∙ rowsOf-rowStoreOf (z .m) (s .rows) _ (v .row-count) (v .row-shapes);
+          relations-held = ap (λ x. relationsOf (x .result .relations) (x .relationStore)) (worked (done s) e)
+              ∙ relationsOf-relationStoreOf (s .relations) _ (v .relation-shapes);
           shifts-held = ap (λ x. x .result .shifts) (worked (done s) e);
           order-held = ap (λ x. x .result .order) (worked (done s) e);
           root-found = ap (λ x. x .result .hasRoot) (worked (done s) e);
@@ -168,7 +170,8 @@ module _ (side : Side) (z : Sizes) (count : ℕ) (rowStore relationStore : List 
     call-valid = let (s, h) = call-accepted e in subst₂ (Valid z) (sym (h .rows-held)) (sym (h .relations-held)) (output-valid (h .run-accepted))
 
     -- "each diagonal polynomial is nonzero": the rows that the store holds are triangular in the reported order.
-    pub call-diagonal : (s : State) × (s .rows ≡ rowsOf (z .m) (call .rowStore)) × (call .result .order ≡ reportedOrder (s .order)) × Diagonal side (z .m) (span z) s
+    pub call-diagonal : (s : State) × (s .rows ≡ rowsOf (z .m) (call .rowStore))
+        × (call .result .order ≡ reportedOrder (s .order)) × Diagonal side (z .m) (span z) s
     call-diagonal = let (s, h) = call-accepted e in (s, sym (h .rows-held), h .order-held, diagonal-nonzero (h .run-accepted))
 
 -- The root report of a result: n is past it, or there is none.
@@ -176,7 +179,8 @@ abbrev pub PastResult : Side → Result → ℤ → Type 0
 PastResult leading r n = T (r .hasRoot) → r .root <ℤ n
 PastResult trailing r n = T (r .hasRoot) → n <ℤ r .root
 
-past-result : (side : Side) (r : Result) (o : Option ℤ) (n : ℤ) → r .hasRoot ≡ rootFound o → r .root ≡ rootValue o → PastResult side r n → Past side o n
+past-result : (side : Side) (r : Result) (o : Option ℤ) (n : ℤ) → r .hasRoot ≡ rootFound o → r .root ≡ rootValue o → PastResult side r n
+    → Past side o n
 unfolding rootFound rootValue
 past-result side r none n e f h = tt
 past-result leading r (some a) n e f h = subst (λ x. x <ℤ n) f (h (subst T (sym e) tt))
@@ -201,4 +205,5 @@ module _ (z : Sizes) (count : ℕ) (rowStore relationStore : List ℤ) (y w : Se
   call-agreement-trailing e n past =
       let (s, h) = call-accepted trailing z count rowStore relationStore e in
       agreement-trailing (h .run-accepted) y w hy hw n
-      (past-result trailing (call trailing z count rowStore relationStore .result) (report trailing (span z) s) n (h .root-found) (h .root-value) past)
+      (past-result trailing (call trailing z count rowStore relationStore .result) (report trailing (span z) s) n (h .root-found)
+      (h .root-value) past)
