@@ -187,7 +187,7 @@ digit-bounds : (b : ℕ) → T (isDigit b) → (48 ≤ b) × (b ≤ 57)
 unfolding isDigit
 digit-bounds b h = let e = T-&& (leb 48 b) (leb b 57) .0 h in (leb→le 48 b (e .0), leb→le b 57 (e .1))
 
-every-cons : {A : Type 0} (t : A → Bool) (x : A) (l : List A) → T (every t (x ∷ l)) ↔ (T (t x) × T (every t l))
+pub every-cons : {A : Type 0} (t : A → Bool) (x : A) (l : List A) → T (every t (x ∷ l)) ↔ (T (t x) × T (every t l))
 unfolding every
 every-cons t x l = T-&& (t x) (every t l)
 
