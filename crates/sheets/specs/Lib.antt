@@ -4,4 +4,5 @@ pub mod WrittenNumbers
 pub mod Exact
 pub mod WrittenTerms
 pub mod Trimmed
+pub mod RowTerms
 pub mod ReadBack

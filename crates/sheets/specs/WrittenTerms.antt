@@ -183,14 +183,14 @@ pub record TermRight (z : Sizes) (s₀ : ℤ) (c₀ : ℕ) (e : Term) : Type 0 w
   pub few : length (e .polynomial) ≤ coefficientCount
   pub sound : Sound (e .polynomial)
 
-judgeBlock-iff : (z : Sizes) (s₀ s : ℤ) → (judgeBlock z s₀ s ≡ 0) ↔ ((z .t ≤ℤ s) × (s ≤ℤ z .l) × (s ≤ℤ s₀))
+pub judgeBlock-iff : (z : Sizes) (s₀ s : ℤ) → (judgeBlock z s₀ s ≡ 0) ↔ ((z .t ≤ℤ s) × (s ≤ℤ z .l) × (s ≤ℤ s₀))
 unfolding judgeBlock
 judgeBlock-iff z s₀ s = (
   λ e. let h = simp (judge-zero, T-&&) at e in (leZ-yes (h .0 .0), leZ-yes (h .0 .1), leZ-yes (h .1 .0)),
   λ h. simp (judge-zero, T-&&) ((h .0 .le, h .1 .le), (h .2 .le, refl)),
 )
 
-judgeColumn-iff : (z : Sizes) (s₀ : ℤ) (c₀ : ℕ) (s c : ℤ)
+pub judgeColumn-iff : (z : Sizes) (s₀ : ℤ) (c₀ : ℕ) (s c : ℤ)
     → (judgeColumn z s₀ c₀ s c ≡ 0) ↔ ((pos 1 ≤ℤ c) × (c ≤ℤ pos (z .m)) × T (ltZ s s₀ || ltZ (pos c₀) c))
 unfolding judgeColumn
 judgeColumn-iff z s₀ c₀ s c = (
