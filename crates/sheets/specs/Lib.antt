@@ -4,5 +4,6 @@ pub mod WrittenNumbers
 pub mod Exact
 pub mod WrittenTerms
 pub mod Trimmed
+pub mod RowBlocks
 pub mod RowTerms
 pub mod ReadBack

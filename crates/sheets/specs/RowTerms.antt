@@ -8,9 +8,9 @@ use mathlib.Core.Logic.{_↔_, _⊎_, inl, inr, ⊎-elim}
 use mathlib.Core.Bool.{Bool, true, false, _&&_, _||_, not, cond, and-assoc}
 use mathlib.Core.List.{List, [], _∷_, _++_, flatten, append-nil, append-assoc, nil≢cons}
 use lib.Dec.{T, lit<, T-not, not-T}
-use lib.ListN.{length, getD, set, take, drop, replicate, length-set, length-replicate}
-use lib.Seq.{drop-set-lt, getD-set-same, getD-set-other}
-use lib.IntN.{ℤ, pos, negℤ, natAbs, predℤ, _+ℤ_, _-ℤ_, negℤ-+ℤ, negℤ-negℤ, +ℤ-assoc, +ℤ-invr, +ℤ-idl, +ℤ-idr, -ℤ-one}
+use lib.ListN.{length, getD, set, take, drop, replicate, length-set, length-replicate, length-append}
+use lib.Seq.{drop-set-lt, getD-at, set-at, append-snoc, getD-set-same, getD-set-other}
+use lib.IntN.{ℤ, pos, negℤ, natAbs, predℤ, _+ℤ_, _-ℤ_, negℤ-+ℤ, negℤ-negℤ, +ℤ-assoc, +ℤ-invr, +ℤ-idl, +ℤ-idr, -ℤ-one, predℤ-+ℤ}
 use lib.Signed.{leZ, ltZ, leZ-yes, ltZ-yes, _≤ℤ_, _<ℤ_}
 use Rattle.algebra.specs.Integers.{ringℤ}
 use Rattle.algebra.specs.Order.{≤ℤ-trans, <ℤ-to-≤ℤ, pos-natAbs-nonneg, ≤ℤ-difference, negℤ-≤ℤ, negℤ-<ℤ, +ℤ-≤ℤ-left, +ℤ-<ℤ-left, pos-≤ℤ, pos-<ℤ}
@@ -22,144 +22,24 @@ use Rattle.rules.specs.Layout.{SizeBounds, block-place}
 use Rattle.rules.specs.Calls.{padTo}
 use Rattle.rules.specs.Sheets.{Term, trim, blankRow, putTerm, rowOfTerms, blockTerms, termsFrom}
 use Rattle.sheets.specs.WrittenNumbers.{cond-passed, cond-failed, every-cons}
+use Rattle.sheets.specs.RowBlocks.{All-set, All-getD, All-replicate, StorePolynomial, BlockRight, StoreBlock, RowRight}
 use Rattle.sheets.specs.WrittenTerms.{Sound, TermRight, Ordered, judgeBlock-iff, judgeColumn-iff}
 use Rattle.sheets.specs.Trimmed.{trim-zero, zero-or-not, length-trim, trim-some, Sound-trim, length-padTo, padTo-trim, trim-padTo, padTo-nonzero, small-padTo}
-
--- ---- lists
-
-module _ {A : Type 0} where
-  every-All : (t : A → Bool) (l : List A) → T (every t l) ↔ All (λ x. T (t x)) l
-  unfolding every All
-  every-All t [] = (λ h. tt, λ h. tt)
-  every-All t (x ∷ l) = (
-    λ h. let e = every-cons t x l .0 h in (e .0, every-All t l .0 (e .1)),
-    λ h. every-cons t x l .1 (h .0, every-All t l .1 (h .1)),
-  )
-
-  every-append : (t : A → Bool) (l more : List A) → every t (l ++ more) ≡ (every t l && every t more)
-  unfolding every
-  every-append t [] more = refl
-  every-append t (x ∷ l) more = ap (λ b. t x && b) (every-append t l more) ∙ sym (and-assoc (t x) (every t l) (every t more))
-
-  every-flatten : (t : A → Bool) (ls : List (List A)) → every t (flatten ls) ≡ every (every t) ls
-  unfolding every flatten
-  every-flatten t [] = refl
-  every-flatten t (l ∷ ls) = every-append t l (flatten ls) ∙ ap (λ b. every t l && b) (every-flatten t ls)
-
-module _ {A : Type 0} (P : A → Type 0) where
-  All-imply : (Q : A → Type 0) → ((x : A) → P x → Q x) → (l : List A) → All P l → All Q l
-  unfolding All
-  All-imply Q f [] h = tt
-  All-imply Q f (x ∷ l) h = (f x (h .0), All-imply Q f l (h .1))
-
-  All-both : (Q : A → Type 0) (l : List A) → All P l → All Q l → All (λ x. P x × Q x) l
-  unfolding All
-  All-both Q [] h i = tt
-  All-both Q (x ∷ l) h i = ((h .0, i .0), All-both Q l (h .1) (i .1))
-
-  All-set : (l : List A) (k : ℕ) (x : A) → All P l → P x → All P (set l k x)
-  unfolding All
-  All-set [] k x h i = tt
-  All-set (y ∷ l) zero x h i = (i, h .1)
-  All-set (y ∷ l) (suc k) x h i = (h .0, All-set l k x (h .1) i)
-
-  All-getD : (l : List A) (k : ℕ) (d : A) → k < length l → All P l → P (getD l k d)
-  unfolding All
-  All-getD [] k d i h = absurd (not-suc-le-zero i)
-  All-getD (x ∷ l) zero d i h = h .0
-  All-getD (x ∷ l) (suc k) d i h = All-getD l k d (le-of-suc-le-suc i) (h .1)
-
-  All-replicate : (n : ℕ) (x : A) → P x → All P (replicate n x)
-  unfolding All
-  All-replicate zero x h = tt
-  All-replicate (suc n) x h = (h, All-replicate n x h)
-
--- ---- the rows of a system, block by block
-
-abbrev StorePolynomial : Polynomial → Type 0
-StorePolynomial p = (length p ≡ coefficientCount) × T (every small p)
-
-abbrev BlockRight : ℕ → Block → Type 0
-BlockRight m b = (length b ≡ columnCount) × All StorePolynomial b × T (zeroBlock (drop m b))
-
-pub record RowRight (z : Sizes) (bs : List Block) : Type 0 where
-  pub count : length bs ≡ blockCount
-  pub each : All (BlockRight (z .m)) bs
-  pub below : T (every zeroBlock (drop (suc (span z)) bs))
-
-smallRow-blocks : (r : Row) → smallRow r ≡ every (every (every small)) (r .blocks)
-unfolding smallRow coefficientsOf
-smallRow-blocks r = every-flatten small (flatten (r .blocks)) ∙ every-flatten (every small) (r .blocks)
-
-abbrev StoreBlock : Block → Type 0
-StoreBlock b = (length b ≡ columnCount) × All (λ p. length p ≡ coefficientCount) b
-
--- The shape of a block, its small numbers and its zeros.
-BlockRight-iff : (m : ℕ) (b : Block)
-    → BlockRight m b ↔ ((StoreBlock b × T (every (every small) b)) × T (zeroBlock (drop m b)))
-BlockRight-iff m b = (
-  λ h. (
-    (
-      (h .0, All-imply StorePolynomial (λ p. length p ≡ coefficientCount) (λ p i. i .0) b (h .1)),
-      every-All (every small) b .1 (All-imply StorePolynomial (λ p. T (every small p)) (λ p i. i .1) b (h .1)),
-    ),
-    h .2,
-  ),
-  λ h. (h .0 .0 .0, All-both (λ p. length p ≡ coefficientCount) (λ p. T (every small p)) b (h .0 .0 .1) (every-All (every small) b .0 (h .0 .1)), h .1),
-)
-
-abbrev BlockParts : ℕ → Block → Type 0
-BlockParts m b = (StoreBlock b × T (every (every small) b)) × T (zeroBlock (drop m b))
-
-pub rowRight-blocks : (z : Sizes) (r : Row) → StoreRow r → T (rowRight z r) → RowRight z (r .blocks)
-unfolding rowRight unusedZero Shaped
-rowRight-blocks z r s h = record { count = s .0; each = each; below = f .1 }
-  where
-    e : T (smallRow r) × T (unusedZero (z .m) (span z) r)
-    e = T-&& (smallRow r) (unusedZero (z .m) (span z) r) .0 h
-
-    f : T (every (λ b. zeroBlock (drop (z .m) b)) (r .blocks)) × T (every zeroBlock (drop (suc (span z)) (r .blocks)))
-    f = T-&& (every (λ b. zeroBlock (drop (z .m) b)) (r .blocks)) _ .0 (e .1)
-
-    smalls : All (λ b. T (every (every small) b)) (r .blocks)
-    smalls = every-All (every (every small)) (r .blocks) .0 (rw smallRow-blocks at (e .0))
-
-    zeros : All (λ b. T (zeroBlock (drop (z .m) b))) (r .blocks)
-    zeros = every-All (λ b. zeroBlock (drop (z .m) b)) (r .blocks) .0 (f .0)
-
-    each : All (BlockRight (z .m)) (r .blocks)
-    each =
-        All-imply (BlockParts (z .m)) (BlockRight (z .m)) (λ b. BlockRight-iff (z .m) b .1) (r .blocks)
-        (All-both (λ b. StoreBlock b × T (every (every small) b)) (λ b. T (zeroBlock (drop (z .m) b))) (r .blocks)
-        (All-both StoreBlock (λ b. T (every (every small) b)) (r .blocks) (s .1) smalls) zeros)
-
-pub blocks-rowRight : (z : Sizes) (r : Row) → RowRight z (r .blocks) → StoreRow r × T (rowRight z r)
-unfolding rowRight unusedZero Shaped
-blocks-rowRight z r h = ((h .count, shape), T-&& (smallRow r) _ .1 (smalls, T-&& (every (λ b. zeroBlock (drop (z .m) b)) (r .blocks)) _ .1 (zeros, h .below)))
-  where
-    part : (Q : Block → Type 0) → ((b : Block) → BlockParts (z .m) b → Q b) → All Q (r .blocks)
-    part Q f = All-imply (BlockRight (z .m)) Q (λ b i. f b (BlockRight-iff (z .m) b .0 i)) (r .blocks) (h .each)
-
-    shape : All StoreBlock (r .blocks)
-    shape = part StoreBlock (λ b i. i .0 .0)
-
-    smalls : T (smallRow r)
-    smalls = rw smallRow-blocks (every-All (every (every small)) (r .blocks) .1 (part (λ b. T (every (every small) b)) (λ b i. i .0 .1)))
-
-    zeros : T (every (λ b. zeroBlock (drop (z .m) b)) (r .blocks))
-    zeros = every-All (λ b. zeroBlock (drop (z .m) b)) (r .blocks) .1 (part (λ b. T (zeroBlock (drop (z .m) b))) (λ b i. i .1))
 
 -- ---- blocks counted down from l
 
 abbrev depth : ℤ → ℤ → ℕ
 depth l s = natAbs (l -ℤ s)
 
+sub-sub : (l s : ℤ) → l -ℤ (l -ℤ s) ≡ s
+sub-sub l s = rw (negℤ-+ℤ, negℤ-negℤ, ← +ℤ-assoc, +ℤ-invr) (+ℤ-idl s)
+
 module _ {l s : ℤ} (h : s ≤ℤ l) where
   depth-pos : pos (depth l s) ≡ l -ℤ s
   depth-pos = pos-natAbs-nonneg (≤ℤ-difference .0 h)
 
   depth-back : l -ℤ pos (depth l s) ≡ s
-  depth-back = ap (λ d. l -ℤ d) depth-pos ∙ rw (negℤ-+ℤ, negℤ-negℤ, ← +ℤ-assoc, +ℤ-invr) (+ℤ-idl s)
+  depth-back = ap (λ d. l -ℤ d) depth-pos ∙ sub-sub l s
 
 depth-≤ : {l s r : ℤ} → r ≤ℤ s → s ≤ℤ l → depth l s ≤ depth l r
 depth-≤ {l} {s} {r} h i = pos-≤ℤ .0 (rw (depth-pos i, depth-pos (≤ℤ-trans h i)) (+ℤ-≤ℤ-left l (negℤ-≤ℤ .0 h)))
@@ -394,40 +274,40 @@ module _ (z : Sizes) (s₀ : ℤ) (c₀ : ℕ) (e : Term) (es : List Term) (b : 
   abbrev row : List Block
   row = rowOfTerms (z .l) es .blocks
 
-  abbrev k : ℕ
-  k = depth (z .l) (e .block)
+  abbrev down : ℕ
+  down = depth (z .l) (e .block)
 
-  abbrev c : ℕ
-  c = pred (e .column)
+  abbrev across : ℕ
+  across = pred (e .column)
 
-  abbrev p : Polynomial
-  p = padTo coefficientCount (pos 0) (e .polynomial)
+  abbrev padded : Polynomial
+  padded = padTo coefficientCount (pos 0) (e .polynomial)
 
-  column-suc : suc c ≡ e .column
+  column-suc : suc across ≡ e .column
   column-suc = suc-pred (e .column) (a .first)
 
-  rows-long : k < length row
+  rows-long : down < length row
   rows-long = rw (held .right .count) (a .inside)
 
-  columns-long : c < length (getD row k [])
+  columns-long : across < length (getD row down [])
   columns-long =
-      rw (All-getD (BlockRight (z .m)) row k [] rows-long (held .right .each) .0, column-suc) (le-trans (a .last) (b .few))
+      rw (All-getD (BlockRight (z .m)) row down [] rows-long (held .right .each) .0, column-suc) (le-trans (a .last) (b .few))
 
-  put-right : RowRight z (putAt k c p row)
+  put-right : RowRight z (putAt down across padded row)
   put-right =
-      RowRight-put z row k c p (a .inside) (a .used) (rw column-suc (a .last))
+      RowRight-put z row down across padded (a .inside) (a .used) (rw column-suc (a .last))
       (length-padTo coefficientCount (pos 0) (e .polynomial), small-padTo coefficientCount (e .polynomial) (r .sound)) (held .right)
 
-  put-clear : Clear (depth (z .l) s₀) c₀ (putAt k c p row)
+  put-clear : Clear (depth (z .l) s₀) c₀ (putAt down across padded row)
   put-clear =
-      Clear-put (depth (z .l) s₀) c₀ k c p row (rw column-suc (a .later)) rows-long
-      (Clear-weaken (depth (z .l) s₀) c₀ k (e .column) row (a .later) (held .clear))
+      Clear-put (depth (z .l) s₀) c₀ down across padded row (rw column-suc (a .later)) rows-long
+      (Clear-weaken (depth (z .l) s₀) c₀ down (e .column) row (a .later) (held .clear))
 
-  put-same : termsFrom (z .l) (putAt k c p row) ≡ e ∷ es
+  put-same : termsFrom (z .l) (putAt down across padded row) ≡ e ∷ es
   put-same =
-      termsFrom-put (z .l) k c p row rows-long columns-long (padTo-nonzero coefficientCount (e .polynomial) (r .sound) (r .some) (r .few))
+      termsFrom-put (z .l) down across padded row rows-long columns-long (padTo-nonzero coefficientCount (e .polynomial) (r .sound) (r .some) (r .few))
       (rw column-suc (held .clear))
-      ∙ ap₂ (λ s l. record { block = s; column = suc c; polynomial = trim p } ∷ l) (depth-back (a .under)) (held .same)
+      ∙ ap₂ (λ s l. record { block = s; column = suc across; polynomial = trim padded } ∷ l) (depth-back (a .under)) (held .same)
       ∙ ap₂ (λ n q. record { block = e .block; column = n; polynomial = q } ∷ es) column-suc
       (trim-padTo coefficientCount (e .polynomial) (r .sound) (r .few))
 
@@ -450,3 +330,89 @@ terms-held z s₀ c₀ [] b h o =
 terms-held z s₀ c₀ (e ∷ es) b h o =
     let a = term-place z s₀ c₀ e b h (o .0) in
     one-more z s₀ c₀ e es b a (o .0) (terms-held z (e .block) (e .column) es b (a .under) (o .1))
+
+-- ---- the terms of a row put into a row again
+
+putTerms : ℤ → List Term → List Block → List Block
+putTerms l [] bs = bs
+putTerms l (e ∷ es) bs = putAt (depth l (e .block)) (pred (e .column)) (padTo coefficientCount (pos 0) (e .polynomial)) (putTerms l es bs)
+
+rowOfTerms-append : (l : ℤ) (es more : List Term) → rowOfTerms l (es ++ more) .blocks ≡ putTerms l es (rowOfTerms l more .blocks)
+unfolding putTerms
+rowOfTerms-append l [] more = refl
+rowOfTerms-append l (e ∷ es) more =
+    rowOfTerms-put l e (es ++ more)
+    ∙ ap (putAt (depth l (e .block)) (pred (e .column)) (padTo coefficientCount (pos 0) (e .polynomial))) (rowOfTerms-append l es more)
+
+abbrev zeros : Polynomial
+zeros = replicate coefficientCount (pos 0)
+
+putAt-seam : (F : List Block) (G : Block) (q : Polynomial) (b : Block) (B : List Block) (p : Polynomial) (k c : ℕ) → length F ≡ k → length G ≡ c
+    → putAt k c p (F ++ ((G ++ (q ∷ b)) ∷ B)) ≡ F ++ ((G ++ (p ∷ b)) ∷ B)
+putAt-seam F G q b B p k c h i =
+    ap (λ r. set (F ++ ((G ++ (q ∷ b)) ∷ B)) k (set r c p)) (getD-at F (G ++ (q ∷ b)) B [] k h)
+    ∙ ap (set (F ++ ((G ++ (q ∷ b)) ∷ B)) k) (set-at G q b p c i)
+    ∙ set-at F (G ++ (q ∷ b)) B (G ++ (p ∷ b)) k h
+
+zero-zeros : (p : Polynomial) → length p ≡ coefficientCount → T (isZero p) → zeros ≡ p
+unfolding padTo
+zero-zeros p h z = ap (padTo coefficientCount (pos 0)) (sym (trim-zero p z)) ∙ padTo-trim coefficientCount p h
+
+-- The terms of a block, from column j on, put into a row whose block of that number has zeros there.
+module _ (l s : ℤ) (F B : List Block) (place : length F ≡ depth l s) where
+  block-step : (G b : Block) (p : Polynomial) (bs : List Block) → length p ≡ coefficientCount
+      → putTerms l (blockTerms s (suc (suc (length G))) b) bs ≡ F ++ ((G ++ (zeros ∷ b)) ∷ B)
+      → putTerms l (blockTerms s (suc (length G)) (p ∷ b)) bs ≡ F ++ ((G ++ (p ∷ b)) ∷ B)
+  unfolding putTerms
+  block-step G b p bs h e =
+      zero-or-not p
+      (λ z. ap (λ es. putTerms l es bs) (blockTerms-zero s (suc (length G)) p b z) ∙ e ∙ ap (λ q. F ++ ((G ++ (q ∷ b)) ∷ B)) (zero-zeros p h z))
+      (λ n.
+      ap (λ es. putTerms l es bs) (blockTerms-nonzero s (suc (length G)) p b n)
+      ∙ ap (putAt (depth l s) (length G) (padTo coefficientCount (pos 0) (trim p))) e
+      ∙ putAt-seam F G zeros b B (padTo coefficientCount (pos 0) (trim p)) (depth l s) (length G) place refl
+      ∙ ap (λ q. F ++ ((G ++ (q ∷ b)) ∷ B)) (padTo-trim coefficientCount p h))
+
+  putTerms-block : (b G : Block) → All (λ p. length p ≡ coefficientCount) b
+      → putTerms l (blockTerms s (suc (length G)) b) (F ++ ((G ++ replicate (length b) zeros) ∷ B)) ≡ F ++ ((G ++ b) ∷ B)
+  unfolding All blockTerms putTerms
+  putTerms-block [] G a = refl
+  putTerms-block (p ∷ b) G a = block-step G b p (F ++ ((G ++ replicate (length (p ∷ b)) zeros) ∷ B)) (a .0) (shift (putTerms-block b (G ++ (zeros ∷ [])) (a .1)))
+    where
+      shift : putTerms l (blockTerms s (suc (length (G ++ (zeros ∷ [])))) b) (F ++ (((G ++ (zeros ∷ [])) ++ replicate (length b) zeros) ∷ B)) ≡ F ++ (((G ++ (zeros ∷ [])) ++ b) ∷ B)
+          → putTerms l (blockTerms s (suc (suc (length G))) b) (F ++ ((G ++ (zeros ∷ replicate (length b) zeros)) ∷ B)) ≡ F ++ ((G ++ (zeros ∷ b)) ∷ B)
+      shift e = rw (append-assoc, append-assoc G (zeros ∷ []) b, length-append, add-one) at e
+
+replicate-snoc : {A : Type 0} (n : ℕ) (x : A) (l : List A) → replicate (suc n) x ++ l ≡ replicate n x ++ (x ∷ l)
+replicate-snoc zero x l = refl
+replicate-snoc (suc n) x l = ap (λ r. x ∷ r) (replicate-snoc n x l)
+
+depth-below : (l : ℤ) (k : ℕ) → depth l (l -ℤ pos k) ≡ k
+depth-below l k = ap natAbs (sub-sub l (pos k))
+
+-- The terms of the blocks from s down, k blocks being above s.
+row-of-blocks : (l s : ℤ) (k : ℕ) (bs : List Block) → s ≡ l -ℤ pos k → k + length bs ≡ blockCount → All StoreBlock bs
+    → rowOfTerms l (termsFrom s bs) .blocks ≡ replicate k (replicate columnCount zeros) ++ bs
+unfolding termsFrom All blankRow
+row-of-blocks l s k [] e h a =
+    ap (λ r. r .blocks) (rowOfTerms-none l) ∙ ap (λ n. replicate n (replicate columnCount zeros)) count ∙ sym (append-nil _)
+  where
+    count : blockCount ≡ k
+    count = omega arith
+row-of-blocks l s k (b ∷ bs) e h a =
+    rowOfTerms-append l (blockTerms s 1 b) (termsFrom (predℤ s) bs)
+    ∙ ap (putTerms l (blockTerms s 1 b)) (row-of-blocks l (predℤ s) (suc k) bs next (omega arith) (a .1) ∙ replicate-snoc k (replicate columnCount zeros) bs ∙ wide)
+    ∙ putTerms-block l s (replicate k (replicate columnCount zeros)) bs place b [] (a .0 .1)
+  where
+    next : predℤ s ≡ l -ℤ pos (suc k)
+    next = ap predℤ e ∙ sym (predℤ-+ℤ l (negℤ (pos k))) ∙ below-next l k
+
+    place : length (replicate k (replicate columnCount zeros)) ≡ depth l s
+    place = length-replicate k _ ∙ sym (ap (depth l) e ∙ depth-below l k)
+
+    wide : replicate k (replicate columnCount zeros) ++ (replicate columnCount zeros ∷ bs) ≡ replicate k (replicate columnCount zeros) ++ (replicate (length b) zeros ∷ bs)
+    wide = ap (λ n. replicate k (replicate columnCount zeros) ++ (replicate n zeros ∷ bs)) (sym (a .0 .0))
+
+pub row-of-terms : (l : ℤ) (r : Row) → StoreRow r → rowOfTerms l (termsFrom l (r .blocks)) ≡ r
+unfolding Shaped
+row-of-terms l r h = λ i. record { blocks = row-of-blocks l l 0 (r .blocks) (sym (+ℤ-idr l)) (zero-add (length (r .blocks)) ∙ h .0) (h .1) i }
