@@ -6,4 +6,5 @@ pub mod WrittenTerms
 pub mod Trimmed
 pub mod RowBlocks
 pub mod RowTerms
+pub mod OrderedTerms
 pub mod ReadBack

@@ -52,7 +52,7 @@ depth-< {l} {s} {r} h i = pos-<ℤ .0 (rw (depth-pos i, depth-pos (≤ℤ-trans 
 abbrev putAt : ℕ → ℕ → Polynomial → List Block → List Block
 putAt k c p bs = set bs k (set (getD bs k []) c p)
 
-abbrev polynomialAt : List Block → ℕ → ℕ → Polynomial
+abbrev pub polynomialAt : List Block → ℕ → ℕ → Polynomial
 polynomialAt bs i j = getD (getD bs i []) j []
 
 RowRight-put : (z : Sizes) (bs : List Block) (k c : ℕ) (p : Polynomial) → k < blockCount → k ≤ span z → c < z .m → StorePolynomial p → RowRight z bs
@@ -111,16 +111,16 @@ Clear-put k₀ c₀ k c p bs b h clear i j a = rw (putAt-other bs k c p i j (ear
 
 -- ---- the terms of a row into which one is put
 
-blockTerms-zero : (s : ℤ) (c : ℕ) (p : Polynomial) (b : Block) → T (isZero p) → blockTerms s c (p ∷ b) ≡ blockTerms s (suc c) b
+pub blockTerms-zero : (s : ℤ) (c : ℕ) (p : Polynomial) (b : Block) → T (isZero p) → blockTerms s c (p ∷ b) ≡ blockTerms s (suc c) b
 unfolding blockTerms
 blockTerms-zero s c p b h = cond-passed (isZero p) _ _ h
 
-blockTerms-nonzero : (s : ℤ) (c : ℕ) (p : Polynomial) (b : Block) → T (not (isZero p))
+pub blockTerms-nonzero : (s : ℤ) (c : ℕ) (p : Polynomial) (b : Block) → T (not (isZero p))
     → blockTerms s c (p ∷ b) ≡ record { block = s; column = c; polynomial = trim p } ∷ blockTerms s (suc c) b
 unfolding blockTerms
 blockTerms-nonzero s c p b h = cond-failed (isZero p) _ _ h
 
-blockTerms-none : (s : ℤ) (c : ℕ) (b : Block) → ((j : ℕ) → T (isZero (getD b j []))) → blockTerms s c b ≡ []
+pub blockTerms-none : (s : ℤ) (c : ℕ) (b : Block) → ((j : ℕ) → T (isZero (getD b j []))) → blockTerms s c b ≡ []
 unfolding blockTerms
 blockTerms-none s c [] h = refl
 blockTerms-none s c (p ∷ b) h = blockTerms-zero s c p b (h 0) ∙ blockTerms-none s (suc c) b (λ j. h (suc j))
@@ -169,7 +169,7 @@ termsFrom-put s (suc k) c p (b ∷ bs) h i n z =
 -- ---- the blank row
 
 -- Every polynomial is zero.
-Blank : List Block → Type 0
+unfoldable pub Blank : List Block → Type 0
 Blank bs = (i j : ℕ) → T (isZero (polynomialAt bs i j))
 
 getD-replicate-each : {A : Type 0} (P : A → Type 0) (n : ℕ) (x d : A) (i : ℕ) → P x → P d → P (getD (replicate n x) i d)
@@ -183,7 +183,7 @@ Blank-blank i =
     getD-replicate-each (λ b. (j : ℕ) → T (isZero (getD b j []))) blockCount (replicate columnCount (replicate coefficientCount (pos 0))) [] i
     (λ j. getD-replicate-each (λ p. T (isZero p)) columnCount (replicate coefficientCount (pos 0)) [] j tt tt) (λ j. tt)
 
-termsFrom-none : (s : ℤ) (bs : List Block) → Blank bs → termsFrom s bs ≡ []
+pub termsFrom-none : (s : ℤ) (bs : List Block) → Blank bs → termsFrom s bs ≡ []
 unfolding termsFrom Blank
 termsFrom-none s [] h = refl
 termsFrom-none s (b ∷ bs) h = ap₂ (λ l r. l ++ r) (blockTerms-none s 1 b (h 0)) (termsFrom-none (predℤ s) bs (λ i. h (suc i)))
