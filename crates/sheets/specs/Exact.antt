@@ -8,17 +8,18 @@
 --   field-written, field-read, field-exact   one number with its separator
 --   nothing-exact, then-exact                a reader that takes no bytes, and one reader after another
 --   same-exact                               the good values and their bytes may be said otherwise
---   chain-exact                              a counted list
+--   chain-exact, many-exact                  a counted list, of things that depend on those before them or of things alike
 use Prim.Native.Nat.{ℕ, zero, suc, _^_, _<_}
 use native.Mathlib.Nat.{suc-ne-zero, suc-inj}
 use native.Mathlib.Omega.{arith}
 use mathlib.Core.Path.{_≡_, refl, sym, _∙_, ap, ap₂, subst}
 use mathlib.Core.Logic.{_↔_, _⊎_, inl, inr}
 use mathlib.Core.Bool.{Bool, true, false, _&&_, _||_, not, cond}
-use mathlib.Core.List.{List, [], _∷_, _++_, tail, append-nil, append-assoc, nil≢cons}
+use mathlib.Core.List.{List, [], _∷_, _++_, tail, map, flatten, append-nil, append-assoc, nil≢cons}
 use lib.Dec.{T, eqb, eqb→eq, eqb-refl}
 use lib.ListN.{length}
 use lib.IntN.{ℤ, natAbs}
+use Rattle.rules.specs.Rows.{All}
 use Rattle.rules.specs.Numbers.{isSeparator, word, afterWord, isNumber, beginsNumber, numberOf, decimal, Read, got, fault, thenRead, judged, readWord}
 use Rattle.rules.specs.Numbers.{readSeparator, field}
 use Rattle.sheets.specs.WrittenNumbers.{cond-passed, isNumber-decimal, numberOf-decimal, decimal-numberOf, word-decimal, afterWord-decimal, word-afterWord}
@@ -228,3 +229,29 @@ module _ {S X A : Type 0} (read : S → ℕ → List ℕ → Read X) (many : S �
       bytes : (b : List A) → Whole b → chainBytes g write b ≡ write k (first g blank b) ++ (chainBytes g write (tail b) ++ [])
       bytes [] h = absurd (nil≢cons (h .1 .1))
       bytes (a ∷ l) h = ap₂ (λ n r. write n (g a) ++ r) (h .1 .0 .0) (sym (append-nil (chainBytes g write l)))
+
+-- Things of one kind, each read as the others.
+module _ {A : Type 0} (read : List ℕ → Read A) (many : ℕ → List ℕ → Read (List A)) (blank : A)
+    (none : (bytes : List ℕ) → many 0 bytes ≡ got [] bytes)
+    (some : (k : ℕ) (bytes : List ℕ)
+    → many (suc k) bytes ≡ thenRead (read bytes) λ a rest. thenRead (many k rest) λ l more. got (a ∷ l) more) where
+  pub many-exact : {Good : A → Type 0} {write : A → List ℕ} → Exact read Good write
+      → (k : ℕ) → Exact (many k) (λ l. (length l ≡ k) × All Good l) (λ l. flatten (map write l))
+  unfolding All Chain chainBytes flatten
+  many-exact {Good} {write} each k =
+      same-exact (many k) (λ l. (length l ≡ k) × All Good l) (λ l. flatten (map write l))
+      (chain-exact {S = Unit {0}} (λ _ _. read) (λ _. many) (λ s _. s) (λ a. a) (λ a. a) blank (λ _. none) (λ _. some) (λ _ _. each) (λ _ _ _ _. refl)
+      (λ _. refl) k tt)
+      (λ _. refl) (λ l h. (h .0, good l (h .1))) (λ l h. (h .0, best l (h .1))) (λ l _. bytes l)
+    where
+      good : (l : List A) → All Good l → Chain {S = Unit {0}} (λ s _. s) (λ a. a) (λ _ _. Good) tt l
+      good [] h = tt
+      good (a ∷ l) h = (h .0, good l (h .1))
+
+      best : (l : List A) → Chain {S = Unit {0}} (λ s _. s) (λ a. a) (λ _ _. Good) tt l → All Good l
+      best [] h = tt
+      best (a ∷ l) h = (h .0, best l (h .1))
+
+      bytes : (l : List A) → flatten (map write l) ≡ chainBytes (λ a. a) (λ _. write) l
+      bytes [] = refl
+      bytes (a ∷ l) = ap (λ r. write a ++ r) (bytes l)

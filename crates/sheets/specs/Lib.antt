@@ -7,4 +7,5 @@ pub mod Trimmed
 pub mod RowBlocks
 pub mod RowTerms
 pub mod OrderedTerms
+pub mod WrittenSections
 pub mod ReadBack

@@ -17,7 +17,7 @@ use mathlib.Core.Logic.{_↔_, _⊎_, inl, inr}
 use mathlib.Core.Bool.{Bool, true, false, _&&_, _||_, not, cond, true≢false}
 use mathlib.Core.List.{List, [], _∷_, _++_, map, flatten, append-nil, append-assoc}
 use lib.Dec.{T, lit<, leb, eqb, leb→le, le→leb}
-use lib.ListN.{length, length-append}
+use lib.ListN.{length, length-append, length-map}
 use lib.IntN.{ℤ, pos, negℤ, natAbs}
 use lib.Signed.{leZ, ltZ, leZ-yes, _≤ℤ_}
 use Rattle.algebra.specs.Order.{≤ℤ-trans, natAbs-≤-iff, pos-natAbs-nonneg, pos-≤ℤ}
@@ -108,7 +108,7 @@ parting-some last zero h = absurd (not-suc-le-zero h)
 parting-some last (suc k) h = refl
 
 -- A number with a space.
-abbrev spaced : ℤ → List ℕ
+abbrev pub spaced : ℤ → List ℕ
 spaced a = decimal a ++ (always space a ∷ [])
 
 pub parted-space : (last : ℕ) (a : ℤ) (l : List ℤ) → 1 ≤ length l → parted last (a ∷ l) ≡ spaced a ++ parted last l
@@ -145,11 +145,18 @@ unfoldable pub Sound : Polynomial → Type 0
 unfolding Chain coefficientJudge
 Sound = Chain {S = Unit {0}} (λ s _. s) (λ a. a) (λ _ k a. coefficientJudge k a ≡ 0) tt
 
-chainBytes-parted : (last : ℕ) (l : List ℤ) → chainBytes (λ a. a) (λ k a. decimal a ++ (always (parting last k) a ∷ [])) l ≡ parted last l
+-- Numbers that are read one after another, each with what parts it from the next.
+pub chainBytes-parted : {A : Type 0} (g : A → ℤ) (last : ℕ) (l : List A)
+    → chainBytes g (λ k a. decimal a ++ (always (parting last k) a ∷ [])) l ≡ parted last (map g l)
 unfolding chainBytes parted always
-chainBytes-parted last [] = refl
-chainBytes-parted last (a ∷ l) =
-    append-assoc (decimal a) (parting last (length l) ∷ []) _ ∙ ap (λ r. decimal a ++ (parting last (length l) ∷ r)) (chainBytes-parted last l)
+chainBytes-parted g last [] = refl
+chainBytes-parted g last (a ∷ l) =
+    append-assoc (decimal (g a)) (parting last (length l) ∷ []) _
+    ∙ ap₂ (λ k r. decimal (g a) ++ (parting last k ∷ r)) (sym (length-map l g)) (chainBytes-parted g last l)
+
+map-same : {A : Type 0} (l : List A) → map (λ a. a) l ≡ l
+map-same [] = refl
+map-same (a ∷ l) = ap (λ r. a ∷ r) (map-same l)
 
 readCoefficients-none : (last : ℕ) (bytes : List ℕ) → readCoefficients last 0 bytes ≡ got [] bytes
 unfolding readCoefficients
@@ -171,7 +178,7 @@ coefficients-exact last k h =
     (λ _. readCoefficients-none last) (λ _. readCoefficients-some last)
     (λ _ k. field-exact (coefficientJudge k) (always (parting last k)) (coefficient-digits k) (λ _. parting-separator last k h))
     (λ _ _ _ _. refl) (λ _. refl) k tt)
-    (λ _. refl) (λ _ h. h) (λ _ h. h) (λ p _. sym (chainBytes-parted last p))
+    (λ _. refl) (λ _ h. h) (λ _ h. h) (λ p _. sym (chainBytes-parted (λ a. a) last p ∙ ap (parted last) (map-same p)))
 
 -- ---- terms
 
@@ -270,17 +277,19 @@ readTerms-some : (z : Sizes) (s₀ : ℤ) (c₀ k : ℕ) (bytes : List ℕ)
 unfolding readTerms
 readTerms-some z s₀ c₀ k bytes = refl
 
+-- The numbers of terms are none exactly if there are no terms.
+pub parting-terms : (es : List Term) → parting newline (length es) ≡ parting newline (length (flatten (map termNumbers es)))
+unfolding flatten parting termNumbers
+parting-terms [] = refl
+parting-terms (e ∷ es) = refl
+
 chainBytes-terms : (es : List Term)
     → chainBytes (λ e. e) (λ k e. parted (parting newline k) (termNumbers e)) es ≡ parted newline (flatten (map termNumbers es))
-unfolding chainBytes flatten parted parting termNumbers
+unfolding chainBytes flatten parted
 chainBytes-terms [] = refl
 chainBytes-terms (e ∷ es) =
-    ap₂ (λ k r. parted k (termNumbers e) ++ r) (same es) (chainBytes-terms es)
+    ap₂ (λ k r. parted k (termNumbers e) ++ r) (parting-terms es) (chainBytes-terms es)
     ∙ sym (parted-append newline (termNumbers e) (flatten (map termNumbers es)))
-  where
-    same : (es : List Term) → parting newline (length es) ≡ parting newline (length (flatten (map termNumbers es)))
-    same [] = refl
-    same (e ∷ es) = refl
 
 pub terms-exact : (z : Sizes) (k : ℕ) (s₀ : ℤ) (c₀ : ℕ) → SizeBounds z
     → Exact (readTerms z k s₀ c₀) (λ es. (length es ≡ k) × Ordered z s₀ c₀ es) (λ es. parted newline (flatten (map termNumbers es)))
