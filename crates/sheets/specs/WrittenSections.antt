@@ -6,7 +6,7 @@ use mathlib.Core.Path.{_≡_, refl, sym, _∙_, ap, ap₂, subst}
 use mathlib.Core.Logic.{_↔_, _⊎_, inl, inr}
 use mathlib.Core.Bool.{Bool, true, false, _&&_, _||_, not, cond}
 use mathlib.Core.List.{List, [], _∷_, _++_, map, flatten, append-nil, append-assoc}
-use lib.Dec.{T, eqb·suc-zero}
+use lib.Dec.{T, le→leb, eqb·suc-zero}
 use lib.ListN.{length}
 use lib.IntN.{ℤ, pos, negℤ, natAbs, _-ℤ_}
 use lib.Signed.{leZ, leZ-yes, _≤ℤ_, ≤ℤ-refl}
@@ -18,9 +18,9 @@ use Rattle.rules.specs.Stores.{Sizes, span, sizesRight, rowRight, relationRight
 use Rattle.rules.specs.Layout.{SizeBounds, size-bounds}
 use Rattle.rules.specs.Numbers.{space, newline, isSeparator, decimal, line, Read, got, fault, thenRead, field, between, judgeSmall}
 use Rattle.rules.specs.Sheets.{Term, always, afterCount, parting, readTerms, rowOfTerms, readEquation, readEquations, readRelation, readRelations}
-use Rattle.rules.specs.Sheets.{termsFrom, termNumbers, equationNumbers, relationLine}
+use Rattle.rules.specs.Sheets.{judgeLowest, readSizes, termsFrom, termNumbers, equationNumbers, relationLine}
 use Rattle.sheets.specs.Exact.{Exact, field-exact, nothing-exact, then-exact, same-exact, Chain, chainBytes, chain-exact, many-exact}
-use Rattle.sheets.specs.WrittenTerms.{between-iff, judgeSmall-iff, small-digits, range-digits, positive-pos, always-space, always-newline}
+use Rattle.sheets.specs.WrittenTerms.{judge-zero, between-iff, judgeSmall-iff, small-digits, range-digits, between-digits, positive-pos, always-space, always-newline}
 use Rattle.sheets.specs.WrittenTerms.{newline-separator, parted, line-parted, spaced, parted-space, Ordered, parting-terms, terms-exact}
 use Rattle.sheets.specs.RowBlocks.{RowRight, rowRight-blocks, blocks-rowRight}
 use Rattle.sheets.specs.RowTerms.{terms-held, row-of-terms}
@@ -52,9 +52,6 @@ count-parted l n e =
     ap (λ b. decimal (pos n) ++ (b ∷ parted newline l)) (sym (afterCount-parting n ∙ e))
     ∙ sym (append-assoc (decimal (pos n)) (afterCount (pos n) ∷ []) (parted newline l))
 
-count-digits : (n : ℕ) (v : ℤ) → n < 10 ^ 10 → between (pos 0) (pos n) v ≡ 0 → natAbs v < 10 ^ 10
-count-digits n v h e = let f = between-iff (pos 0) (pos n) v .0 e in range-digits (pos 0) (pos n) v (leZ-yes tt) (pos-≤ℤ .1 (omega arith)) (f .0) (f .1)
-
 -- ---- equations
 
 most-terms : (z : Sizes) → SizeBounds z → z .m * suc (span z) ≤ columnCount * blockCount
@@ -70,7 +67,7 @@ unfolding readEquation equationNumbers
 equation-exact z b =
     same-exact (readEquation z) (EquationRight z) (λ r. line (equationNumbers (z .l) r))
     (then-exact (λ r. pos (length (terms r)))
-    (field-exact (between (pos 0) (pos most)) afterCount (λ k. count-digits most k (omega (arith, most-terms z b))) afterCount-separator) (λ k hk.
+    (field-exact (between (pos 0) (pos most)) afterCount (between-digits (pos 0) (pos most) (leZ-yes tt) (pos-≤ℤ .1 (omega (arith, most-terms z b)))) afterCount-separator) (λ k hk.
     then-exact terms (terms-exact z (natAbs k) (z .l) 0 b) (λ es he.
     nothing-exact (rowOfTerms (z .l) es))
     (λ es r he e. sym (terms-held z (z .l) 0 es b (≤ℤ-refl (z .l)) (he .1) .same) ∙ ap terms (sym e)))
@@ -140,3 +137,74 @@ pub relations-exact : (z : Sizes) → SizeBounds z → (k : ℕ)
 unfolding readRelations
 relations-exact z b =
     many-exact (readRelation z) (readRelations z) (record { index = pos 0; row = record { blocks = [] } }) (λ _. refl) (λ _ _. refl) (relation-exact z b)
+
+-- ---- the sizes
+
+judgeLowest-iff : (l t : ℤ) → (judgeLowest l t ≡ 0) ↔ ((negℤ (pos blockBound) ≤ℤ t) × (t ≤ℤ l) × ((l -ℤ t) ≤ℤ pos 4))
+unfolding judgeLowest
+judgeLowest-iff l t = (
+  λ e. let h = simp (judge-zero, T-&&) at e in (leZ-yes (h .0 .0 .0), leZ-yes (h .0 .0 .1), leZ-yes (h .0 .1)),
+  λ h. simp (judge-zero, T-&&) (((h .0 .le, h .1 .le), h .2 .le), refl),
+)
+
+sizesRight-bounds : (z : Sizes) → SizeBounds z → T (sizesRight z)
+unfolding sizesRight
+sizesRight-bounds z b =
+    simp T-&& ((le→leb 1 (z .m) (b .some), le→leb (z .m) columnCount (b .few)), (((b .low .le, b .ordered .le), b .high .le), b .narrow .le))
+
+pub sizes-exact : Exact readSizes (λ z. T (sizesRight z)) (λ z. line (pos 3 ∷ pos (z .m) ∷ z .l ∷ z .t ∷ []))
+unfolding readSizes line
+sizes-exact =
+    same-exact readSizes (λ z. T (sizesRight z)) (λ z. line (pos 3 ∷ pos (z .m) ∷ z .l ∷ z .t ∷ []))
+    (then-exact (λ _. pos 3) (field-exact (between (pos 3) (pos 3)) (always space) (between-digits (pos 3) (pos 3) (leZ-yes tt) (leZ-yes tt)) always-space) (λ _ _.
+    then-exact (λ z. pos (z .m)) (field-exact (between (pos 1) (pos columnCount)) (always space) (between-digits (pos 1) (pos columnCount) (leZ-yes tt) (leZ-yes tt)) always-space) (λ m _.
+    then-exact (λ z. z .l) (field-exact (between (negℤ (pos blockBound)) (pos blockBound)) (always space) (between-digits (negℤ (pos blockBound)) (pos blockBound) (leZ-yes tt) (leZ-yes tt)) always-space) (λ l hl.
+    then-exact (λ z. z .t) (field-exact (judgeLowest l) (always newline) (lowest-digits l hl) always-newline) (λ t _.
+    nothing-exact (record { m = natAbs m; l = l; t = t }))
+    (λ t z _ e. ap (λ x. x .t) (sym e)))
+    (λ l z _ e. ap (λ x. x .l) (sym (e .1))))
+    (λ m z hm e. positive-pos (between-iff (pos 1) (pos columnCount) m .0 hm .0) ∙ ap (λ x. pos (x .m)) (sym (e .1 .1))))
+    (λ k z hk e. ≤ℤ-antisym (between-iff (pos 3) (pos 3) k .0 hk .1) (between-iff (pos 3) (pos 3) k .0 hk .0)))
+    (λ _. refl) good best bytes
+  where
+    lowest-digits : (l : ℤ) → between (negℤ (pos blockBound)) (pos blockBound) l ≡ 0 → (t : ℤ) → judgeLowest l t ≡ 0 → natAbs t < 10 ^ 10
+    lowest-digits l hl t e =
+        let f = judgeLowest-iff l t .0 e in
+        let g = between-iff (negℤ (pos blockBound)) (pos blockBound) l .0 hl in
+        range-digits (negℤ (pos blockBound)) (pos blockBound) t (leZ-yes tt) (leZ-yes tt) (f .0) (≤ℤ-trans (f .1) (g .1))
+
+    Whole : Sizes → Type 0
+    Whole z =
+        (between (pos 3) (pos 3) (pos 3) ≡ 0)
+        × ((between (pos 1) (pos columnCount) (pos (z .m)) ≡ 0)
+        × ((between (negℤ (pos blockBound)) (pos blockBound) (z .l) ≡ 0) × ((judgeLowest (z .l) (z .t) ≡ 0) × (z ≡ z))))
+
+    good : (z : Sizes) → T (sizesRight z) → Whole z
+    good z h =
+        let b = size-bounds z h in
+        (
+          refl,
+          (
+            between-iff (pos 1) (pos columnCount) (pos (z .m)) .1 (pos-≤ℤ .1 (b .some), pos-≤ℤ .1 (b .few)),
+            (
+              between-iff (negℤ (pos blockBound)) (pos blockBound) (z .l) .1 (≤ℤ-trans (b .low) (b .ordered), b .high),
+              (judgeLowest-iff (z .l) (z .t) .1 (b .low, b .ordered, b .narrow), refl),
+            ),
+          ),
+        )
+
+    best : (z : Sizes) → Whole z → T (sizesRight z)
+    best z h =
+        let m = between-iff (pos 1) (pos columnCount) (pos (z .m)) .0 (h .1 .0) in
+        let l = between-iff (negℤ (pos blockBound)) (pos blockBound) (z .l) .0 (h .1 .1 .0) in
+        let t = judgeLowest-iff (z .l) (z .t) .0 (h .1 .1 .1 .0) in
+        sizesRight-bounds z
+        (record { some = pos-≤ℤ .0 (m .0); few = pos-≤ℤ .0 (m .1); low = t .0; ordered = t .1; high = l .1; narrow = t .2 })
+
+    bytes : (z : Sizes) → Whole z → line (pos 3 ∷ pos (z .m) ∷ z .l ∷ z .t ∷ [])
+        ≡ spaced (pos 3) ++ (spaced (pos (z .m)) ++ (spaced (z .l) ++ (line (z .t ∷ []) ++ [])))
+    bytes z _ =
+        line-space (pos 3) (pos (z .m)) (z .l ∷ z .t ∷ [])
+        ∙ ap (λ r. spaced (pos 3) ++ r) (line-space (pos (z .m)) (z .l) (z .t ∷ [])
+        ∙ ap (λ r. spaced (pos (z .m)) ++ r) (line-space (z .l) (z .t) []
+        ∙ ap (λ r. spaced (z .l) ++ r) (sym (append-nil (line (z .t ∷ []))))))

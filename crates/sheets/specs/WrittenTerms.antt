@@ -64,11 +64,14 @@ unfolding small
 small-digits v h = omega (arith, leb→le (natAbs v) bound h)
 
 -- The largest number of ten digits.
-abbrev most : ℕ
+abbrev pub most : ℕ
 most = 9999999999
 
 pub range-digits : (low high v : ℤ) → negℤ (pos most) ≤ℤ low → high ≤ℤ pos most → low ≤ℤ v → v ≤ℤ high → natAbs v < 10 ^ 10
 range-digits low high v a b h i = omega (arith, natAbs-≤-iff v .1 (≤ℤ-trans a h, ≤ℤ-trans i b))
+
+pub between-digits : (low high : ℤ) → negℤ (pos most) ≤ℤ low → high ≤ℤ pos most → (v : ℤ) → between low high v ≡ 0 → natAbs v < 10 ^ 10
+between-digits low high a b v e = let f = between-iff low high v .0 e in range-digits low high v a b (f .0) (f .1)
 
 pub positive-pos : {c : ℤ} → pos 1 ≤ℤ c → c ≡ pos (natAbs c)
 positive-pos h = sym (pos-natAbs-nonneg (≤ℤ-trans {b = pos 1} (leZ-yes tt) h))
@@ -212,7 +215,7 @@ term-exact z s₀ c₀ last b h =
     same-exact (readTerm z s₀ c₀ last) (TermRight z s₀ c₀) (λ e. parted last (termNumbers e))
     (then-exact (λ e. e .block) (field-exact (judgeBlock z s₀) (always space) block-digits always-space) (λ s hs.
     then-exact (λ e. pos (e .column)) (field-exact (judgeColumn z s₀ c₀ s) (always space) (column-digits s) always-space) (λ c hc.
-    then-exact (λ e. pos (length (e .polynomial))) (field-exact (between (pos 1) (pos coefficientCount)) (always space) count-digits always-space) (λ k hk.
+    then-exact (λ e. pos (length (e .polynomial))) (field-exact (between (pos 1) (pos coefficientCount)) (always space) (between-digits (pos 1) (pos coefficientCount) (leZ-yes tt) (leZ-yes tt)) always-space) (λ k hk.
     then-exact (λ e. e .polynomial) (coefficients-exact last (natAbs k) h) (λ p hp.
     nothing-exact (record { block = s; column = natAbs c; polynomial = p }))
     (λ p e _ f. ap (λ x. x .polynomial) (sym f)))
@@ -230,9 +233,6 @@ term-exact z s₀ c₀ last b h =
     column-digits s c e =
         let f = judgeColumn-iff z s₀ c₀ s c .0 e in
         range-digits (pos 1) (pos (z .m)) c (leZ-yes tt) (≤ℤ-trans (pos-≤ℤ .1 (b .few)) (leZ-yes tt)) (f .0) (f .1)
-
-    count-digits : (k : ℤ) → between (pos 1) (pos coefficientCount) k ≡ 0 → natAbs k < 10 ^ 10
-    count-digits k e = let f = between-iff _ _ k .0 e in range-digits (pos 1) (pos coefficientCount) k (leZ-yes tt) (leZ-yes tt) (f .0) (f .1)
 
     Whole : Term → Type 0
     Whole e =
