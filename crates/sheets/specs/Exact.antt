@@ -49,7 +49,7 @@ judged-got zero v a bytes rest e = let f = got-inj v a bytes rest e in (refl, f 
 judged-got (suc n) v a bytes rest e = absurd (fault-got (suc n) a rest e)
 
 -- What was read in two steps.
-then-got : {A B : Type 0} (r : Read A) (next : A → List ℕ → Read B) (b : B) (rest : List ℕ) → thenRead r next ≡ got b rest
+pub then-got : {A B : Type 0} (r : Read A) (next : A → List ℕ → Read B) (b : B) (rest : List ℕ) → thenRead r next ≡ got b rest
     → (a : A) × (more : List ℕ) × (r ≡ got a more) × (next a more ≡ got b rest)
 unfolding thenRead
 then-got (got a more) next b rest e = (a, more, refl, e)

@@ -8,4 +8,5 @@ pub mod RowBlocks
 pub mod RowTerms
 pub mod OrderedTerms
 pub mod WrittenSections
+pub mod WrittenOrder
 pub mod ReadBack
