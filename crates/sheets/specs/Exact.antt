@@ -13,16 +13,16 @@ use Prim.Native.Nat.{ℕ, zero, suc, _^_, _<_}
 use native.Mathlib.Nat.{suc-ne-zero, suc-inj}
 use native.Mathlib.Omega.{arith}
 use mathlib.Core.Path.{_≡_, refl, sym, _∙_, ap, ap₂, subst}
-use mathlib.Core.Logic.{_↔_, _⊎_, inl, inr}
-use mathlib.Core.Bool.{Bool, true, false, _&&_, _||_, not, cond}
+use mathlib.Core.Bool.{Bool, true, false, cond}
 use mathlib.Core.List.{List, [], _∷_, _++_, tail, map, flatten, append-nil, append-assoc, nil≢cons}
 use lib.Dec.{T, eqb, eqb→eq, eqb-refl}
 use lib.ListN.{length}
 use lib.IntN.{ℤ, natAbs}
 use Rattle.rules.specs.Rows.{All}
-use Rattle.rules.specs.Numbers.{isSeparator, word, afterWord, isNumber, beginsNumber, numberOf, decimal, Read, got, fault, thenRead, judged, readWord}
+use Rattle.rules.specs.Numbers.{isSeparator, word, afterWord, isNumber, numberOf, decimal, Read, got, fault, thenRead, judged, readWord}
 use Rattle.rules.specs.Numbers.{readSeparator, field}
-use Rattle.sheets.specs.WrittenNumbers.{cond-passed, isNumber-decimal, numberOf-decimal, decimal-numberOf, word-decimal, afterWord-decimal, word-afterWord}
+use Rattle.sheets.specs.WrittenNumbers.{cond-passed, isNumber-decimal, numberOf-decimal, decimal-numberOf, word-decimal}
+use Rattle.sheets.specs.WrittenNumbers.{afterWord-decimal, word-afterWord}
 
 -- The reader reads what is written of a good value, whatever follows; and where it reads a value, the value is good and the
 -- bytes are those written of it.

@@ -1,18 +1,16 @@
 -- The terms of a row, as they stand in a sheet.
-use Prim.Native.Nat.{ℕ, zero, suc, pred, _+_, _*_, _-_, _≤_, _<_, zero-le, suc-le-suc}
-use native.Mathlib.Nat.{not-suc-le-zero, le-of-suc-le-suc, le-refl, mul-suc}
+use Prim.Native.Nat.{ℕ, zero, suc, _*_, _-_, _≤_, _<_, zero-le, suc-le-suc}
+use native.Mathlib.Nat.{le-refl, mul-suc}
 use native.Mathlib.Omega.{arith}
-use mathlib.Core.Path.{_≡_, refl, sym, _∙_, ap, ap₂, subst}
-use mathlib.Core.Logic.{_↔_, _⊎_, inl, inr}
-use mathlib.Core.Bool.{Bool, true, false, _&&_, _||_, not, cond}
+use mathlib.Core.Path.{_≡_, sym, _∙_, ap, subst}
+use mathlib.Core.Bool.{Bool, true, false, _||_, not}
 use mathlib.Core.List.{List, [], _∷_, _++_}
 use lib.Dec.{T, T-not, ltb, ltb→lt, lt→ltb}
 use lib.ListN.{length, getD, drop, length-append}
 use lib.IntN.{ℤ, pos, sucℤ, predℤ, _+ℤ_, _-ℤ_, suc-pred, pred-suc, +ℤ-sucℤ, +ℤ-comm, -ℤ-+ℤ-cancel}
-use lib.Signed.{leZ, ltZ, leZ-yes, ltZ-yes, _≤ℤ_, _<ℤ_, ≤ℤ-refl}
+use lib.Signed.{ltZ, _≤ℤ_, _<ℤ_, ≤ℤ-refl}
 use Rattle.algebra.specs.Order.{≤ℤ-trans, ≤ℤ-intro, pos-≤ℤ, <ℤ-sucℤ, <ℤ-to-≤ℤ, ≤ℤ-difference, pos-natAbs-nonneg}
-use Rattle.algebra.specs.Polynomials.{Polynomial, T-&&, isZero}
-use Rattle.rules.specs.Limits.{coefficientCount, small}
+use Rattle.algebra.specs.Polynomials.{Polynomial, isZero}
 use Rattle.rules.specs.Rows.{Block, All, every, zeroBlock}
 use Rattle.rules.specs.Stores.{Sizes, span}
 use Rattle.rules.specs.Layout.{SizeBounds}
@@ -21,7 +19,7 @@ use Rattle.sheets.specs.WrittenNumbers.{every-cons}
 use Rattle.sheets.specs.WrittenTerms.{TermRight, Ordered, judgeBlock-iff, judgeColumn-iff}
 use Rattle.sheets.specs.Trimmed.{zero-or-not, length-trim, trim-some, Sound-trim}
 use Rattle.sheets.specs.RowBlocks.{StorePolynomial, BlockRight, RowRight}
-use Rattle.sheets.specs.RowTerms.{blockTerms-zero, blockTerms-nonzero, blockTerms-none, polynomialAt, Blank, termsFrom-none}
+use Rattle.sheets.specs.RowTerms.{blockTerms-zero, blockTerms-nonzero, Blank, termsFrom-none}
 
 -- ---- zero blocks have no terms
 

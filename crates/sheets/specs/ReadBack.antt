@@ -1,22 +1,20 @@
 -- Sheets read back: what is written is read, and what is read is what would be written.
-use Prim.Native.Nat.{ℕ, zero, suc, _^_, _≤_, _<_}
-use native.Mathlib.Omega.{arith}
-use mathlib.Core.Path.{_≡_, refl, sym, _∙_, ap, ap₂, subst, fun-ext}
+use Prim.Native.Nat.{ℕ, _^_, _<_}
+use mathlib.Core.Path.{_≡_, refl, sym, _∙_, ap, ap₂, subst}
 use mathlib.Core.Logic.{_↔_}
-use mathlib.Core.Bool.{Bool, true, false, _&&_}
 use mathlib.Core.List.{List, [], _∷_, _++_, map, flatten, append-nil, append-assoc}
 use lib.Dec.{T}
 use lib.ListN.{length}
 use lib.IntN.{ℤ, pos, natAbs}
-use lib.Signed.{leZ-yes, _≤ℤ_, ≤ℤ-refl}
+use lib.Signed.{leZ-yes, ≤ℤ-refl}
 use Rattle.algebra.specs.Order.{≤ℤ-trans, ≤ℤ-antisym, pos-natAbs-nonneg, pos-nonneg, pos-≤ℤ}
-use Rattle.rules.specs.Limits.{columnCount, mostRelations}
-use Rattle.rules.specs.Rows.{Row, Relation, All, every}
-use Rattle.rules.specs.Stores.{Sizes, sizesRight, countRight, rowRight, relationRight, StoreRow, Valid}
+use Rattle.rules.specs.Limits.{mostRelations}
+use Rattle.rules.specs.Rows.{Row, Relation, All}
+use Rattle.rules.specs.Stores.{Sizes, sizesRight, rowRight, relationRight, StoreRow, Valid}
 use Rattle.rules.specs.Layout.{SizeBounds, size-bounds, countRight-iff}
 use Rattle.rules.specs.Numbers.{newline, decimal, line, lines, Read, got, fault, thenRead, field, between}
-use Rattle.rules.specs.Sheets.{Sheet, always, readSizes, readEquations, readRelations, readOrder, readEnd, readSheet, equationNumbers, relationLine}
-use Rattle.rules.specs.Sheets.{orderLine, sheetLines, writeSheet}
+use Rattle.rules.specs.Sheets.{Sheet, always, readSizes, readEquations, readRelations, readOrder, readEnd, readSheet, equationNumbers}
+use Rattle.rules.specs.Sheets.{relationLine, orderLine, writeSheet}
 use Rattle.sheets.specs.Exact.{Exact, got-inj, fault-got, then-got, field-exact, nothing-exact, then-exact, same-exact}
 use Rattle.sheets.specs.WrittenTerms.{between-iff, between-digits, always-newline}
 use Rattle.sheets.specs.RowBlocks.{every-All, All-imply, All-both}
@@ -133,8 +131,7 @@ sections-exact =
     good : (x : Sheet) → SheetRight x → Whole x
     good x h =
         let v = h .valid in
-        let z = x .sizes in
-        (
+        let z = x .sizes in (
           v .sizes,
           (
             between-iff (pos (z .m)) (pos (z .m)) (pos (z .m)) .1 (≤ℤ-refl (pos (z .m)), ≤ℤ-refl (pos (z .m))),
@@ -142,12 +139,12 @@ sections-exact =
               (v .row-count, All-both StoreRow (λ r. T (rowRight z r)) (x .rows) (v .row-shapes) (every-All (rowRight z) (x .rows) .0 (v .rows-right))),
               (
                 between-iff (pos 0) (pos mostRelations) (pos (length (x .relations))) .1
-                (pos-nonneg (length (x .relations)), pos-≤ℤ .1 (countRight-iff (length (x .relations)) .0 (v .relation-count))),
+                    (pos-nonneg (length (x .relations)), pos-≤ℤ .1 (countRight-iff (length (x .relations)) .0 (v .relation-count))),
                 (
                   (
                     refl,
                     All-both (λ e. StoreRow (e .row)) (λ e. T (relationRight z e)) (x .relations) (v .relation-shapes)
-                    (every-All (relationRight z) (x .relations) .0 (v .relations-right)),
+                        (every-All (relationRight z) (x .relations) .0 (v .relations-right)),
                   ),
                   (h .order-right, refl),
                 ),

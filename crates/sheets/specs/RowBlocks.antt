@@ -10,7 +10,7 @@ use Prim.Native.Nat.{ℕ, zero, suc, _<_}
 use native.Mathlib.Nat.{not-suc-le-zero, le-of-suc-le-suc}
 use mathlib.Core.Path.{_≡_, refl, sym, _∙_, ap}
 use mathlib.Core.Logic.{_↔_}
-use mathlib.Core.Bool.{Bool, true, false, _&&_, and-assoc}
+use mathlib.Core.Bool.{Bool, _&&_, and-assoc}
 use mathlib.Core.List.{List, [], _∷_, _++_, flatten}
 use lib.Dec.{T}
 use lib.ListN.{length, getD, set, drop, replicate}
@@ -143,4 +143,3 @@ blocks-rowRight z r h = ((h .count, shape), T-&& (smallRow r) _ .1 (smalls, T-&&
 
     zeros : T (every (λ b. zeroBlock (drop (z .m) b)) (r .blocks))
     zeros = every-All (λ b. zeroBlock (drop (z .m) b)) (r .blocks) .1 (part (λ b. T (zeroBlock (drop (z .m) b))) (λ b i. i .1))
-

@@ -1,30 +1,30 @@
 -- Rows and their terms.
-use Prim.Native.Nat.{ℕ, zero, suc, pred, _+_, _*_, _-_, _≤_, _<_, zero-le, suc-le-suc}
-use native.Mathlib.Nat.{not-suc-le-zero, le-of-suc-le-suc, suc-ne-zero, suc-inj, zero-add, eq-or-lt-of-le, le-trans}
+use Prim.Native.Nat.{ℕ, zero, suc, pred, _+_, _≤_, _<_, zero-le, suc-le-suc}
+use native.Mathlib.Nat.{not-suc-le-zero, le-of-suc-le-suc, zero-add, eq-or-lt-of-le, le-trans}
 use native.Mathlib.Numerals.{add-one}
 use native.Mathlib.Omega.{arith}
-use mathlib.Core.Path.{_≡_, refl, sym, _∙_, ap, ap₂, subst}
-use mathlib.Core.Logic.{_↔_, _⊎_, inl, inr, ⊎-elim}
-use mathlib.Core.Bool.{Bool, true, false, _&&_, _||_, not, cond, and-assoc}
-use mathlib.Core.List.{List, [], _∷_, _++_, flatten, append-nil, append-assoc, nil≢cons}
-use lib.Dec.{T, lit<, T-not, not-T}
-use lib.ListN.{length, getD, set, take, drop, replicate, length-set, length-replicate, length-append}
-use lib.Seq.{drop-set-lt, getD-at, set-at, append-snoc, getD-set-same, getD-set-other}
+use mathlib.Core.Path.{_≡_, refl, sym, _∙_, ap, ap₂}
+use mathlib.Core.Logic.{_⊎_, inl, inr, ⊎-elim}
+use mathlib.Core.Bool.{Bool, true, false, _||_, not}
+use mathlib.Core.List.{List, [], _∷_, _++_, append-nil, append-assoc}
+use lib.Dec.{T, lit<}
+use lib.ListN.{length, getD, set, drop, replicate, length-set, length-replicate, length-append}
+use lib.Seq.{drop-set-lt, getD-at, set-at, getD-set-same, getD-set-other}
 use lib.IntN.{ℤ, pos, negℤ, natAbs, predℤ, _+ℤ_, _-ℤ_, negℤ-+ℤ, negℤ-negℤ, +ℤ-assoc, +ℤ-invr, +ℤ-idl, +ℤ-idr, -ℤ-one, predℤ-+ℤ}
-use lib.Signed.{leZ, ltZ, leZ-yes, ltZ-yes, _≤ℤ_, _<ℤ_}
-use Rattle.algebra.specs.Integers.{ringℤ}
-use Rattle.algebra.specs.Order.{≤ℤ-trans, <ℤ-to-≤ℤ, pos-natAbs-nonneg, ≤ℤ-difference, negℤ-≤ℤ, negℤ-<ℤ, +ℤ-≤ℤ-left, +ℤ-<ℤ-left, pos-≤ℤ, pos-<ℤ}
-use Rattle.algebra.specs.Polynomials.{Polynomial, T-&&, isZero}
+use lib.Signed.{ltZ, ltZ-yes, _≤ℤ_, _<ℤ_}
+use Rattle.algebra.specs.Order.{≤ℤ-trans, <ℤ-to-≤ℤ, pos-natAbs-nonneg, ≤ℤ-difference, negℤ-≤ℤ, negℤ-<ℤ, +ℤ-≤ℤ-left, +ℤ-<ℤ-left, pos-≤ℤ}
+use Rattle.algebra.specs.Order.{pos-<ℤ}
+use Rattle.algebra.specs.Polynomials.{Polynomial, isZero}
 use Rattle.rules.specs.Limits.{coefficientCount, columnCount, blockCount, small}
-use Rattle.rules.specs.Rows.{Block, Row, All, every, zeroBlock, coefficientsOf, smallRow}
-use Rattle.rules.specs.Stores.{Sizes, span, unusedZero, rowRight, Shaped, StoreRow}
+use Rattle.rules.specs.Rows.{Block, Row, All, every, zeroBlock}
+use Rattle.rules.specs.Stores.{Sizes, span, Shaped, StoreRow}
 use Rattle.rules.specs.Layout.{SizeBounds, block-place}
 use Rattle.rules.specs.Calls.{padTo}
-use Rattle.rules.specs.Sheets.{Term, trim, blankRow, putTerm, rowOfTerms, blockTerms, termsFrom}
+use Rattle.rules.specs.Sheets.{Term, trim, blankRow, rowOfTerms, blockTerms, termsFrom}
 use Rattle.sheets.specs.WrittenNumbers.{cond-passed, cond-failed, every-cons}
 use Rattle.sheets.specs.RowBlocks.{All-set, All-getD, All-replicate, StorePolynomial, BlockRight, StoreBlock, RowRight}
-use Rattle.sheets.specs.WrittenTerms.{Sound, TermRight, Ordered, judgeBlock-iff, judgeColumn-iff}
-use Rattle.sheets.specs.Trimmed.{trim-zero, zero-or-not, length-trim, trim-some, Sound-trim, length-padTo, padTo-trim, trim-padTo, padTo-nonzero, small-padTo}
+use Rattle.sheets.specs.WrittenTerms.{TermRight, Ordered, judgeBlock-iff, judgeColumn-iff}
+use Rattle.sheets.specs.Trimmed.{trim-zero, zero-or-not, length-padTo, padTo-trim, trim-padTo, padTo-nonzero, small-padTo}
 
 -- ---- blocks counted down from l
 

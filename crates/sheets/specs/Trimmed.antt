@@ -4,21 +4,19 @@
 --   trim-some, length-trim, Sound-trim     a nonzero polynomial without its high zeros is as a term of a sheet has it
 --   padTo-trim, trim-padTo                 high zeros taken off and put on again, and the other way round
 --   padTo-nonzero, small-padTo             what a term gives the row is not zero, and small
-use Prim.Native.Nat.{ℕ, zero, suc, pred, _+_, _*_, _-_, _≤_, _<_, zero-le, suc-le-suc}
+use Prim.Native.Nat.{ℕ, zero, suc, _≤_, zero-le, suc-le-suc}
 use native.Mathlib.Nat.{not-suc-le-zero, le-of-suc-le-suc, suc-ne-zero, suc-inj}
-use native.Mathlib.Omega.{arith}
 use mathlib.Core.Path.{_≡_, refl, sym, _∙_, ap, ap₂, subst}
-use mathlib.Core.Logic.{_↔_, _⊎_, inl, inr}
-use mathlib.Core.Bool.{Bool, true, false, _&&_, _||_, not, cond}
-use mathlib.Core.List.{List, [], _∷_, _++_, append-nil, append-assoc, nil≢cons}
+use mathlib.Core.Bool.{Bool, true, false, not}
+use mathlib.Core.List.{List, [], _∷_, nil≢cons}
 use lib.Dec.{T, T-not, not-T}
-use lib.ListN.{length, getD, set, take, drop, replicate}
-use lib.IntN.{ℤ, pos, natAbs}
-use Rattle.algebra.specs.Polynomials.{Polynomial, T-&&, isZero, isZeroℤ, isZero-cons, isZeroℤ-iff, isZeroℤ-not-iff}
-use Rattle.rules.specs.Limits.{coefficientCount, small}
+use lib.ListN.{length}
+use lib.IntN.{ℤ, pos}
+use Rattle.algebra.specs.Polynomials.{Polynomial, isZero, isZeroℤ, isZero-cons, isZeroℤ-not-iff}
+use Rattle.rules.specs.Limits.{small}
 use Rattle.rules.specs.Rows.{every}
 use Rattle.rules.specs.Calls.{padTo}
-use Rattle.rules.specs.Sheets.{trim, judgeLast}
+use Rattle.rules.specs.Sheets.{trim}
 use Rattle.sheets.specs.WrittenNumbers.{cond-passed, cond-failed, every-cons}
 use Rattle.sheets.specs.WrittenTerms.{Sound, coefficientJudge, judgeLast-iff, judgeSmall-iff}
 

@@ -6,18 +6,18 @@
 --   word-decimal, afterWord-decimal       a number that is written in front of a separator is the first token
 --   word-afterWord                        a token and what follows it are all bytes
 use Prim.Native.Nat.{ℕ, zero, suc, _+_, _*_, _-_, _/_, _%_, _^_, _≤_, _<_}
-use native.Mathlib.Nat.{not-suc-le-zero, suc-ne-zero, le-of-suc-le-suc, pow-suc, div-lt-iff-lt-mul, suc-add, add-suc}
+use native.Mathlib.Nat.{not-suc-le-zero, suc-ne-zero, pow-suc, div-lt-iff-lt-mul}
 use native.Mathlib.Omega.{arith}
-use mathlib.Core.Path.{_≡_, refl, sym, _∙_, ap, ap₂, subst}
+use mathlib.Core.Path.{_≡_, refl, sym, _∙_, ap, ap₂}
 use mathlib.Core.Logic.{_↔_, _⊎_, inl, inr}
 use mathlib.Core.Bool.{Bool, true, false, _&&_, _||_, not, cond}
 use mathlib.Core.List.{List, [], _∷_, _++_, append-nil}
 use lib.Dec.{T, lit<, leb, ltb, eqb, leb→le, le→leb, ltb→lt, lt→ltb, nltb→le, eqb→eq, eqb-refl, not-T, T-not}
-use lib.ListN.{length, drop}
+use lib.ListN.{length}
 use lib.IntN.{ℤ, pos, negsuc, negℤ, natAbs}
 use Rattle.algebra.specs.Polynomials.{T-&&}
 use Rattle.rules.specs.Rows.{every}
-use Rattle.rules.specs.Numbers.{space, newline, minus, isSeparator, word, afterWord, isDigit, signed, digits, startsRight, beginsNumber, isNumber}
+use Rattle.rules.specs.Numbers.{space, newline, minus, isSeparator, word, afterWord, isDigit, signed, digits, startsRight, isNumber}
 use Rattle.rules.specs.Numbers.{valueFrom, numberOf, decimalWithin, decimal}
 
 -- ---- tests

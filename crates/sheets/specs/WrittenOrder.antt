@@ -1,25 +1,26 @@
 -- The column order of a sheet, and its bytes.
-use Prim.Native.Nat.{ℕ, zero, suc, _^_, _≤_, _<_}
+use Prim.Native.Nat.{ℕ, suc, _^_, _≤_, _<_}
 use native.Mathlib.Nat.{suc-ne-zero}
 use native.Mathlib.Omega.{arith}
-use mathlib.Core.Path.{_≡_, refl, sym, _∙_, ap, ap₂, subst}
+use mathlib.Core.Path.{_≡_, refl, sym, _∙_, ap, subst}
 use mathlib.Core.Logic.{_↔_, _⊎_, inl, inr, ⊎-elim}
-use mathlib.Core.Bool.{Bool, true, false, _&&_, _||_, not, cond}
+use mathlib.Core.Bool.{Bool, true, false, _||_, not}
 use mathlib.Core.List.{List, [], _∷_, _++_, map}
-use lib.Dec.{T, lit<, leb, eqb, leb→le, le→leb, eqb→eq, eqb-refl, T-not, not-T}
+use lib.Dec.{T, lit<, eqb, leb→le, le→leb, eqb→eq, eqb-refl, T-not, not-T}
 use lib.ListN.{length, length-map}
 use lib.IntN.{ℤ, pos, natAbs, _-ℤ_, +ℤ-invr}
-use lib.Signed.{leZ, leZ-yes, _≤ℤ_}
+use lib.Signed.{leZ-yes, _≤ℤ_}
 use Rattle.algebra.specs.Order.{≤ℤ-trans, pos-≤ℤ}
 use Rattle.algebra.specs.Integers.{ -ℤ-zero}
 use Rattle.algebra.specs.Polynomials.{T-&&, isZeroℤ, isZeroℤ-iff}
 use Rattle.rules.specs.Limits.{columnCount}
 use Rattle.rules.specs.Rows.{All}
-use Rattle.rules.specs.Numbers.{newline, isSeparator, decimal, line, Read, got, fault, thenRead, field}
+use Rattle.rules.specs.Numbers.{newline, line, got, thenRead, field}
 use Rattle.rules.specs.Sheets.{always, parting, afterCount, contains, judgeOrder, readColumns, judgeOrderCount, readOrder, orderLine}
 use Rattle.rules.specs.SheetCalls.{differentColumns}
-use Rattle.sheets.specs.Exact.{Exact, field-exact, nothing-exact, then-exact, same-exact, Chain, chainBytes, chain-exact}
-use Rattle.sheets.specs.WrittenTerms.{judge-zero, range-digits, positive-pos, newline-separator, parting-separator, parted, line-parted, chainBytes-parted}
+use Rattle.sheets.specs.Exact.{Exact, field-exact, then-exact, same-exact, Chain, chain-exact}
+use Rattle.sheets.specs.WrittenTerms.{judge-zero, range-digits, positive-pos, newline-separator, parting-separator, parted}
+use Rattle.sheets.specs.WrittenTerms.{line-parted, chainBytes-parted}
 use Rattle.sheets.specs.WrittenSections.{counted, count-parted, afterCount-separator}
 
 -- None, or a permutation of 1..m: as many different columns as there are.
@@ -82,8 +83,7 @@ Columns-iff m taken (c ∷ l) = (
       let g = Fresh-more c taken l .0 (f .1) in
       (different-cons m c l .1 (pos-≤ℤ .0 (e .0), pos-≤ℤ .0 (e .1), g .0, f .0), (e .2, g .1)),
   λ h.
-      let e = different-cons m c l .0 (h .0) in
-      (
+      let e = different-cons m c l .0 (h .0) in (
         judgeOrder-iff m taken (pos c) .1 (pos-≤ℤ .1 (e .0), pos-≤ℤ .1 (e .1), h .1 .0),
         Columns-iff m (c ∷ taken) l .1 (e .3, Fresh-more c taken l .1 (e .2, h .1 .1)),
       ),
@@ -136,9 +136,12 @@ judgeOrderCount-iff m v = (
   λ e.
       ⊎-elim (λ h. inl (isZeroℤ-iff v .0 h)) (λ h. inr (-ℤ-zero v (pos m) (isZeroℤ-iff (v -ℤ pos m) .0 h)))
       (T-or (isZeroℤ v) (isZeroℤ (v -ℤ pos m)) .0 ((simp judge-zero at e) .0)),
-  λ h. simp judge-zero (T-or (isZeroℤ v) (isZeroℤ (v -ℤ pos m)) .1 (⊎-elim
-  (λ e. inl (isZeroℤ-iff v .1 e))
-  (λ e. inr (isZeroℤ-iff (v -ℤ pos m) .1 (ap (λ x. x -ℤ pos m) e ∙ +ℤ-invr (pos m)))) h), refl),
+  λ h. simp judge-zero (
+    T-or (isZeroℤ v) (isZeroℤ (v -ℤ pos m)) .1 (⊎-elim
+        (λ e. inl (isZeroℤ-iff v .1 e))
+        (λ e. inr (isZeroℤ-iff (v -ℤ pos m) .1 (ap (λ x. x -ℤ pos m) e ∙ +ℤ-invr (pos m)))) h),
+    refl,
+  ),
 )
 
 pub order-exact : (m : ℕ) → m ≤ columnCount → Exact (readOrder m) (OrderRight m) (λ order. line (orderLine order))

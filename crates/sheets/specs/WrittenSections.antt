@@ -1,27 +1,28 @@
 -- The sections of a sheet, and their bytes.
-use Prim.Native.Nat.{ℕ, zero, suc, _+_, _*_, _^_, _≤_, _<_, zero-le, suc-le-suc}
-use native.Mathlib.Nat.{le-trans, mul-le-mul}
+use Prim.Native.Nat.{ℕ, zero, suc, _*_, _^_, _≤_, _<_, suc-le-suc}
+use native.Mathlib.Nat.{mul-le-mul}
 use native.Mathlib.Omega.{arith}
-use mathlib.Core.Path.{_≡_, refl, sym, _∙_, ap, ap₂, subst}
-use mathlib.Core.Logic.{_↔_, _⊎_, inl, inr}
-use mathlib.Core.Bool.{Bool, true, false, _&&_, _||_, not, cond}
+use mathlib.Core.Path.{_≡_, refl, sym, _∙_, ap, subst}
+use mathlib.Core.Logic.{_↔_}
+use mathlib.Core.Bool.{Bool, true, false, cond}
 use mathlib.Core.List.{List, [], _∷_, _++_, map, flatten, append-nil, append-assoc}
 use lib.Dec.{T, le→leb, eqb·suc-zero}
 use lib.ListN.{length}
 use lib.IntN.{ℤ, pos, negℤ, natAbs, _-ℤ_}
-use lib.Signed.{leZ, leZ-yes, _≤ℤ_, ≤ℤ-refl}
+use lib.Signed.{leZ-yes, _≤ℤ_, ≤ℤ-refl}
 use Rattle.algebra.specs.Order.{≤ℤ-trans, ≤ℤ-antisym, ≤ℤ-difference, natAbs-≤-iff, pos-natAbs-nonneg, pos-nonneg, pos-≤ℤ}
-use Rattle.algebra.specs.Polynomials.{Polynomial, T-&&, isZeroℤ}
-use Rattle.rules.specs.Limits.{columnCount, blockCount, mostRelations, blockBound, small}
-use Rattle.rules.specs.Rows.{Row, Relation, All, every}
+use Rattle.algebra.specs.Polynomials.{T-&&, isZeroℤ}
+use Rattle.rules.specs.Limits.{columnCount, blockCount, blockBound, small}
+use Rattle.rules.specs.Rows.{Row, Relation, All}
 use Rattle.rules.specs.Stores.{Sizes, span, sizesRight, rowRight, relationRight, StoreRow}
 use Rattle.rules.specs.Layout.{SizeBounds, size-bounds}
-use Rattle.rules.specs.Numbers.{space, newline, isSeparator, decimal, line, Read, got, fault, thenRead, field, between, judgeSmall}
-use Rattle.rules.specs.Sheets.{Term, always, afterCount, parting, readTerms, rowOfTerms, readEquation, readEquations, readRelation, readRelations}
+use Rattle.rules.specs.Numbers.{space, newline, isSeparator, decimal, line, between, judgeSmall}
+use Rattle.rules.specs.Sheets.{Term, always, afterCount, parting, rowOfTerms, readEquation, readEquations, readRelation, readRelations}
 use Rattle.rules.specs.Sheets.{judgeLowest, readSizes, termsFrom, termNumbers, equationNumbers, relationLine}
-use Rattle.sheets.specs.Exact.{Exact, field-exact, nothing-exact, then-exact, same-exact, Chain, chainBytes, chain-exact, many-exact}
-use Rattle.sheets.specs.WrittenTerms.{judge-zero, between-iff, judgeSmall-iff, small-digits, range-digits, between-digits, positive-pos, always-space, always-newline}
-use Rattle.sheets.specs.WrittenTerms.{newline-separator, parted, line-parted, spaced, parted-space, Ordered, parting-terms, terms-exact}
+use Rattle.sheets.specs.Exact.{Exact, field-exact, nothing-exact, then-exact, same-exact, many-exact}
+use Rattle.sheets.specs.WrittenTerms.{judge-zero, between-iff, judgeSmall-iff, small-digits, range-digits, between-digits}
+use Rattle.sheets.specs.WrittenTerms.{positive-pos, always-space, always-newline, parted, line-parted, spaced, Ordered}
+use Rattle.sheets.specs.WrittenTerms.{parting-terms, terms-exact}
 use Rattle.sheets.specs.RowBlocks.{RowRight, rowRight-blocks, blocks-rowRight}
 use Rattle.sheets.specs.RowTerms.{terms-held, row-of-terms}
 use Rattle.sheets.specs.OrderedTerms.{row-ordered, row-count}
@@ -87,8 +88,7 @@ equation-exact z b =
 
     good : (r : Row) → EquationRight z r → Whole r
     good r h =
-        let right = rowRight-blocks z r (h .0) (h .1) in
-        (
+        let right = rowRight-blocks z r (h .0) (h .1) in (
           between-iff (pos 0) (pos most) (pos (length (terms r))) .1 (pos-nonneg (length (terms r)), pos-≤ℤ .1 (row-count z (r .blocks) right)),
           ((refl, row-ordered z (r .blocks) b right), sym (row-of-terms (z .l) r (h .0))),
         )
@@ -181,8 +181,7 @@ sizes-exact =
 
     good : (z : Sizes) → T (sizesRight z) → Whole z
     good z h =
-        let b = size-bounds z h in
-        (
+        let b = size-bounds z h in (
           refl,
           (
             between-iff (pos 1) (pos columnCount) (pos (z .m)) .1 (pos-≤ℤ .1 (b .some), pos-≤ℤ .1 (b .few)),

@@ -9,24 +9,25 @@
 --   judge-zero and the laws after it         what the judgements of numbers ask
 --   line-parted, parted-append               a line is parted numbers, and so are several parts of a line together
 --   coefficients-exact, term-exact, terms-exact
-use Prim.Native.Nat.{ℕ, zero, suc, pred, _+_, _^_, _≤_, _<_, zero-le, suc-le-suc}
-use native.Mathlib.Nat.{not-suc-le-zero, suc-ne-zero, suc-inj, le-trans}
+use Prim.Native.Nat.{ℕ, zero, suc, _^_, _≤_, _<_, zero-le, suc-le-suc}
+use native.Mathlib.Nat.{not-suc-le-zero, suc-ne-zero}
 use native.Mathlib.Omega.{arith}
-use mathlib.Core.Path.{_≡_, refl, sym, _∙_, ap, ap₂, subst}
-use mathlib.Core.Logic.{_↔_, _⊎_, inl, inr}
-use mathlib.Core.Bool.{Bool, true, false, _&&_, _||_, not, cond, true≢false}
+use mathlib.Core.Path.{_≡_, refl, sym, _∙_, ap, ap₂}
+use mathlib.Core.Logic.{_↔_}
+use mathlib.Core.Bool.{Bool, true, false, _||_, not, cond, true≢false}
 use mathlib.Core.List.{List, [], _∷_, _++_, map, flatten, append-nil, append-assoc}
-use lib.Dec.{T, lit<, leb, eqb, leb→le, le→leb}
-use lib.ListN.{length, length-append, length-map}
+use lib.Dec.{T, eqb, leb→le}
+use lib.ListN.{length, length-map}
 use lib.IntN.{ℤ, pos, negℤ, natAbs}
-use lib.Signed.{leZ, ltZ, leZ-yes, _≤ℤ_}
+use lib.Signed.{ltZ, leZ-yes, _≤ℤ_}
 use Rattle.algebra.specs.Order.{≤ℤ-trans, natAbs-≤-iff, pos-natAbs-nonneg, pos-≤ℤ}
 use Rattle.algebra.specs.Polynomials.{Polynomial, T-&&, isZeroℤ}
 use Rattle.rules.specs.Limits.{bound, coefficientCount, small}
 use Rattle.rules.specs.Stores.{Sizes}
 use Rattle.rules.specs.Layout.{SizeBounds}
-use Rattle.rules.specs.Numbers.{space, newline, isSeparator, decimal, line, Read, got, fault, thenRead, field, between, judgeSmall}
-use Rattle.rules.specs.Sheets.{Term, always, parting, judgeLast, readCoefficients, judgeBlock, judgeColumn, readTerm, readTerms, termNumbers}
+use Rattle.rules.specs.Numbers.{space, newline, isSeparator, decimal, line, got, thenRead, field, between, judgeSmall}
+use Rattle.rules.specs.Sheets.{Term, always, parting, judgeLast, readCoefficients, judgeBlock, judgeColumn, readTerm, readTerms}
+use Rattle.rules.specs.Sheets.{termNumbers}
 use Rattle.sheets.specs.Exact.{Exact, field-exact, nothing-exact, then-exact, same-exact, Chain, chainBytes, chain-exact}
 
 -- ---- judgements
