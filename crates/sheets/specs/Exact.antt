@@ -133,11 +133,10 @@ nothing-exact a =
 -- One reader after another; what the first read is picked from the whole.
 pub then-exact : {A B : Type 0} {read : List ℕ → Read A} {Good : A → Type 0} {write : A → List ℕ} {next : A → List ℕ → Read B}
     {Best : A → B → Type 0} {add : A → B → List ℕ} (pick : B → A)
-    → Exact read Good write → ((a : A) → Good a → Exact (next a) (Best a) (add a))
-    → ((a : A) (b : B) → Good a → Best a b → a ≡ pick b)
+    → Exact read Good write → ((a : A) (b : B) → Good a → Best a b → a ≡ pick b) → ((a : A) → Good a → Exact (next a) (Best a) (add a))
     → Exact (λ bytes. thenRead (read bytes) next) (λ b. Good (pick b) × Best (pick b) b) (λ b. write (pick b) ++ add (pick b) b)
 unfolding thenRead
-then-exact {read = read} {Good = Good} {write = write} {next = next} {Best = Best} {add = add} pick first second same =
+then-exact {read = read} {Good = Good} {write = write} {next = next} {Best = Best} {add = add} pick first same second =
     record {
       read-written = λ b rest h.
           ap (λ l. thenRead (read l) next) (append-assoc (write (pick b)) (add (pick b) b) rest)
@@ -206,8 +205,8 @@ module _ {S X A : Type 0} (read : S → ℕ → List ℕ → Read X) (many : S �
       bytes l e = ap (chainBytes g write) e
   chain-exact (suc k) s =
       same-exact (many s (suc k)) (λ l. (length l ≡ suc k) × Chain step g Good s l) (chainBytes g write)
-      (then-exact (first g blank) (each s k)
-      (λ x h. then-exact tail (chain-exact k (step s x)) (λ l _. nothing-exact (f x ∷ l)) (λ l b _ e. ap tail (sym e))) same)
+      (then-exact (first g blank) (each s k) same λ x h.
+      then-exact tail (chain-exact k (step s x)) (λ l b _ e. ap tail (sym e)) λ l _. nothing-exact (f x ∷ l))
       (some s k) good best bytes
     where
       Whole : List A → Type 0

@@ -1,13 +1,13 @@
 -- Sheets read back: what is written is read, and what is read is what would be written.
-use Prim.Native.Nat.{ℕ, _^_, _<_}
+use Prim.Native.Nat.{ℕ}
 use mathlib.Core.Path.{_≡_, refl, sym, _∙_, ap, ap₂, subst}
 use mathlib.Core.Logic.{_↔_}
 use mathlib.Core.List.{List, [], _∷_, _++_, map, flatten, append-nil, append-assoc}
 use lib.Dec.{T}
 use lib.ListN.{length}
 use lib.IntN.{ℤ, pos, natAbs}
-use lib.Signed.{leZ-yes, ≤ℤ-refl}
-use Rattle.algebra.specs.Order.{≤ℤ-trans, ≤ℤ-antisym, pos-natAbs-nonneg, pos-nonneg, pos-≤ℤ}
+use lib.Signed.{leZ-yes, _≤ℤ_, ≤ℤ-refl}
+use Rattle.algebra.specs.Order.{≤ℤ-trans, pos-natAbs-nonneg, pos-nonneg, pos-≤ℤ}
 use Rattle.rules.specs.Limits.{mostRelations}
 use Rattle.rules.specs.Rows.{Row, Relation, All}
 use Rattle.rules.specs.Stores.{Sizes, sizesRight, rowRight, relationRight, StoreRow, Valid}
@@ -15,10 +15,10 @@ use Rattle.rules.specs.Layout.{SizeBounds, size-bounds, countRight-iff}
 use Rattle.rules.specs.Numbers.{newline, decimal, line, lines, Read, got, fault, thenRead, field, between}
 use Rattle.rules.specs.Sheets.{Sheet, always, readSizes, readEquations, readRelations, readOrder, readEnd, readSheet, equationNumbers}
 use Rattle.rules.specs.Sheets.{relationLine, orderLine, writeSheet}
-use Rattle.sheets.specs.Exact.{Exact, got-inj, fault-got, then-got, field-exact, nothing-exact, then-exact, same-exact}
-use Rattle.sheets.specs.WrittenTerms.{between-iff, between-digits, always-newline}
+use Rattle.sheets.specs.Exact.{Exact, got-inj, fault-got, then-got, nothing-exact, then-exact, same-exact}
+use Rattle.sheets.specs.WrittenTerms.{between-iff, between-exact, most, always-newline}
 use Rattle.sheets.specs.RowBlocks.{every-All, All-imply, All-both}
-use Rattle.sheets.specs.WrittenSections.{sizes-exact, EquationRight, equations-exact, RelationGood, relations-exact}
+use Rattle.sheets.specs.WrittenSections.{just, sizes-exact, EquationRight, equations-exact, RelationGood, relations-exact}
 use Rattle.sheets.specs.WrittenOrder.{OrderRight, order-exact}
 
 -- What a sheet can hold: a valid system, and no column order or a permutation of the columns.
@@ -94,29 +94,28 @@ line-ended : (a : ℤ) → line (a ∷ []) ≡ ended a
 unfolding line always
 line-ended a = refl
 
-m-digits : (z : Sizes) → SizeBounds z → (v : ℤ) → between (pos (z .m)) (pos (z .m)) v ≡ 0 → natAbs v < 10 ^ 10
-m-digits z b = between-digits (pos (z .m)) (pos (z .m)) (≤ℤ-trans (leZ-yes tt) (pos-nonneg (z .m))) (≤ℤ-trans (pos-≤ℤ .1 (b .few)) (leZ-yes tt))
-
-just : (m : ℕ) (v : ℤ) → between (pos m) (pos m) v ≡ 0 → v ≡ pos m
-just m v e = let f = between-iff (pos m) (pos m) v .0 e in ≤ℤ-antisym (f .1) (f .0)
+few : (z : Sizes) → SizeBounds z → pos (z .m) ≤ℤ pos most
+few z b = ≤ℤ-trans (pos-≤ℤ .1 (b .few)) (leZ-yes tt)
 
 sections-exact : Exact readSections SheetRight writeSheet
 unfolding readSections
 sections-exact =
     same-exact readSections SheetRight writeSheet
-    (then-exact (λ x. x .sizes) sizes-exact (λ z hz.
-    then-exact (λ x. pos (x .sizes .m)) (field-exact (between (pos (z .m)) (pos (z .m))) (always newline) (m-digits z (size-bounds z hz)) always-newline) (λ k hk.
-    then-exact (λ x. x .rows) (equations-exact z (size-bounds z hz) (z .m)) (λ rows hr.
-    then-exact (λ x. pos (length (x .relations))) (field-exact (between (pos 0) (pos mostRelations)) (always newline) (between-digits (pos 0) (pos mostRelations) (leZ-yes tt) (leZ-yes tt)) always-newline) (λ count hc.
-    then-exact (λ x. x .relations) (relations-exact z (size-bounds z hz) (natAbs count)) (λ relations he.
-    then-exact (λ x. x .order) (order-exact (z .m) (size-bounds z hz .few)) (λ order ho.
+    (then-exact (λ x. x .sizes) sizes-exact
+    (λ z x _ e. ap (λ y. y .sizes) (sym (e .1 .1 .1 .1 .1))) λ z hz.
+    then-exact (λ x. pos (x .sizes .m))
+    (between-exact (pos (z .m)) (pos (z .m)) (always newline) (≤ℤ-trans (leZ-yes tt) (pos-nonneg (z .m))) (few z (size-bounds z hz)) always-newline)
+    (λ k x hk e. just (z .m) k hk ∙ ap (λ y. pos (y .sizes .m)) (sym (e .1 .1 .1 .1))) λ k hk.
+    then-exact (λ x. x .rows) (equations-exact z (size-bounds z hz) (z .m))
+    (λ rows x _ e. ap (λ y. y .rows) (sym (e .1 .1 .1))) λ rows hr.
+    then-exact (λ x. pos (length (x .relations)))
+    (between-exact (pos 0) (pos mostRelations) (always newline) (leZ-yes tt) (leZ-yes tt) always-newline)
+    (λ count x hc e. sym (pos-natAbs-nonneg (between-iff (pos 0) (pos mostRelations) count .0 hc .0)) ∙ ap pos (sym (e .0 .0))) λ count hc.
+    then-exact (λ x. x .relations) (relations-exact z (size-bounds z hz) (natAbs count))
+    (λ relations x _ e. ap (λ y. y .relations) (sym (e .1))) λ relations he.
+    then-exact (λ x. x .order) (order-exact (z .m) (size-bounds z hz .few))
+    (λ order x _ e. ap (λ y. y .order) (sym e)) λ order ho.
     nothing-exact (record { sizes = z; rows = rows; relations = relations; order = order }))
-    (λ order x _ e. ap (λ y. y .order) (sym e)))
-    (λ relations x _ e. ap (λ y. y .relations) (sym (e .1))))
-    (λ count x hc e. sym (pos-natAbs-nonneg (between-iff (pos 0) (pos mostRelations) count .0 hc .0)) ∙ ap pos (sym (e .0 .0))))
-    (λ rows x _ e. ap (λ y. y .rows) (sym (e .1 .1 .1))))
-    (λ k x hk e. just (z .m) k hk ∙ ap (λ y. pos (y .sizes .m)) (sym (e .1 .1 .1 .1))))
-    (λ z x _ e. ap (λ y. y .sizes) (sym (e .1 .1 .1 .1 .1))))
     (λ _. refl) good best bytes
   where
     Whole : Sheet → Type 0

@@ -150,7 +150,8 @@ order-exact m b =
     same-exact (readOrder m) (OrderRight m) (λ order. line (orderLine order))
     (then-exact (λ order. pos (length order))
     (field-exact (judgeOrderCount m) afterCount (λ v h. digits v (judgeOrderCount-iff m v .0 h)) afterCount-separator)
-    (λ k _. columns-exact m (natAbs k) b) (λ k l h e. same k (judgeOrderCount-iff m k .0 h) ∙ ap pos (sym (e .0))))
+    (λ k l h e. same k (judgeOrderCount-iff m k .0 h) ∙ ap pos (sym (e .0))) λ k _.
+    columns-exact m (natAbs k) b)
     (λ _. refl) good best (λ order _. bytes order)
   where
     digits : (v : ℤ) → (v ≡ pos 0) ⊎ (v ≡ pos m) → natAbs v < 10 ^ 10

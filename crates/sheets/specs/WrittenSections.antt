@@ -20,7 +20,7 @@ use Rattle.rules.specs.Numbers.{space, newline, isSeparator, decimal, line, bet
 use Rattle.rules.specs.Sheets.{Term, always, afterCount, parting, rowOfTerms, readEquation, readEquations, readRelation, readRelations}
 use Rattle.rules.specs.Sheets.{judgeLowest, readSizes, termsFrom, termNumbers, equationNumbers, relationLine}
 use Rattle.sheets.specs.Exact.{Exact, field-exact, nothing-exact, then-exact, same-exact, many-exact}
-use Rattle.sheets.specs.WrittenTerms.{judge-zero, between-iff, judgeSmall-iff, small-digits, range-digits, between-digits}
+use Rattle.sheets.specs.WrittenTerms.{judge-zero, between-iff, judgeSmall-iff, small-digits, range-digits, between-exact}
 use Rattle.sheets.specs.WrittenTerms.{positive-pos, always-space, always-newline, parted, line-parted, spaced, Ordered}
 use Rattle.sheets.specs.WrittenTerms.{parting-terms, terms-exact}
 use Rattle.sheets.specs.RowBlocks.{RowRight, rowRight-blocks, blocks-rowRight}
@@ -68,11 +68,11 @@ unfolding readEquation equationNumbers
 equation-exact z b =
     same-exact (readEquation z) (EquationRight z) (λ r. line (equationNumbers (z .l) r))
     (then-exact (λ r. pos (length (terms r)))
-    (field-exact (between (pos 0) (pos most)) afterCount (between-digits (pos 0) (pos most) (leZ-yes tt) (pos-≤ℤ .1 (omega (arith, most-terms z b)))) afterCount-separator) (λ k hk.
-    then-exact terms (terms-exact z (natAbs k) (z .l) 0 b) (λ es he.
+    (between-exact (pos 0) (pos most) afterCount (leZ-yes tt) (pos-≤ℤ .1 (omega (arith, most-terms z b))) afterCount-separator)
+    (λ k r hk e. sym (pos-natAbs-nonneg (between-iff (pos 0) (pos most) k .0 hk .0)) ∙ ap pos (sym (e .0 .0))) λ k hk.
+    then-exact terms (terms-exact z (natAbs k) (z .l) 0 b)
+    (λ es r he e. sym (terms-held z (z .l) 0 es b (≤ℤ-refl (z .l)) (he .1) .same) ∙ ap terms (sym e)) λ es he.
     nothing-exact (rowOfTerms (z .l) es))
-    (λ es r he e. sym (terms-held z (z .l) 0 es b (≤ℤ-refl (z .l)) (he .1) .same) ∙ ap terms (sym e)))
-    (λ k r hk e. sym (pos-natAbs-nonneg (between-iff (pos 0) (pos most) k .0 hk .0)) ∙ ap pos (sym (e .0 .0))))
     (λ _. refl) good best bytes
   where
     most : ℕ
@@ -124,9 +124,10 @@ pub relation-exact : (z : Sizes) → SizeBounds z → Exact (readRelation z) (Re
 unfolding readRelation relationLine equationNumbers relationRight
 relation-exact z b =
     same-exact (readRelation z) (RelationGood z) (λ e. line (relationLine (z .l) e))
-    (then-exact (λ e. e .index) (field-exact judgeSmall (always space) (λ a h. small-digits a (judgeSmall-iff a .0 h)) always-space) (λ n0 _.
-    then-exact (λ e. e .row) (equation-exact z b) (λ r _. nothing-exact (record { index = n0; row = r })) (λ r e _ f. ap (λ x. x .row) (sym f)))
-    (λ n0 e _ f. ap (λ x. x .index) (sym (f .1))))
+    (then-exact (λ e. e .index) (field-exact judgeSmall (always space) (λ a h. small-digits a (judgeSmall-iff a .0 h)) always-space)
+    (λ n0 e _ f. ap (λ x. x .index) (sym (f .1))) λ n0 _.
+    then-exact (λ e. e .row) (equation-exact z b) (λ r e _ f. ap (λ x. x .row) (sym f)) λ r _.
+    nothing-exact (record { index = n0; row = r }))
     (λ _. refl)
     (λ e h. let f = T-&& (small (e .index)) (rowRight z (e .row)) .0 (h .1) in (judgeSmall-iff (e .index) .1 (f .0), ((h .0, f .1), refl)))
     (λ e h. (h .1 .0 .0, T-&& (small (e .index)) (rowRight z (e .row)) .1 (judgeSmall-iff (e .index) .0 (h .0), h .1 .0 .1)))
@@ -139,6 +140,10 @@ relations-exact z b =
     many-exact (readRelation z) (readRelations z) (record { index = pos 0; row = record { blocks = [] } }) (λ _. refl) (λ _ _. refl) (relation-exact z b)
 
 -- ---- the sizes
+
+-- A number that may have one value only.
+pub just : (n : ℕ) (v : ℤ) → between (pos n) (pos n) v ≡ 0 → v ≡ pos n
+just n v e = let f = between-iff (pos n) (pos n) v .0 e in ≤ℤ-antisym (f .1) (f .0)
 
 judgeLowest-iff : (l t : ℤ) → (judgeLowest l t ≡ 0) ↔ ((negℤ (pos blockBound) ≤ℤ t) × (t ≤ℤ l) × ((l -ℤ t) ≤ℤ pos 4))
 unfolding judgeLowest
@@ -156,15 +161,16 @@ pub sizes-exact : Exact readSizes (λ z. T (sizesRight z)) (λ z. line (pos 3 �
 unfolding readSizes line
 sizes-exact =
     same-exact readSizes (λ z. T (sizesRight z)) (λ z. line (pos 3 ∷ pos (z .m) ∷ z .l ∷ z .t ∷ []))
-    (then-exact (λ _. pos 3) (field-exact (between (pos 3) (pos 3)) (always space) (between-digits (pos 3) (pos 3) (leZ-yes tt) (leZ-yes tt)) always-space) (λ _ _.
-    then-exact (λ z. pos (z .m)) (field-exact (between (pos 1) (pos columnCount)) (always space) (between-digits (pos 1) (pos columnCount) (leZ-yes tt) (leZ-yes tt)) always-space) (λ m _.
-    then-exact (λ z. z .l) (field-exact (between (negℤ (pos blockBound)) (pos blockBound)) (always space) (between-digits (negℤ (pos blockBound)) (pos blockBound) (leZ-yes tt) (leZ-yes tt)) always-space) (λ l hl.
-    then-exact (λ z. z .t) (field-exact (judgeLowest l) (always newline) (lowest-digits l hl) always-newline) (λ t _.
+    (then-exact (λ _. pos 3) (between-exact (pos 3) (pos 3) (always space) (leZ-yes tt) (leZ-yes tt) always-space)
+    (λ k z hk e. just 3 k hk) λ _ _.
+    then-exact (λ z. pos (z .m)) (between-exact (pos 1) (pos columnCount) (always space) (leZ-yes tt) (leZ-yes tt) always-space)
+    (λ m z hm e. positive-pos (between-iff (pos 1) (pos columnCount) m .0 hm .0) ∙ ap (λ x. pos (x .m)) (sym (e .1 .1))) λ m _.
+    then-exact (λ z. z .l)
+    (between-exact (negℤ (pos blockBound)) (pos blockBound) (always space) (leZ-yes tt) (leZ-yes tt) always-space)
+    (λ l z _ e. ap (λ x. x .l) (sym (e .1))) λ l hl.
+    then-exact (λ z. z .t) (field-exact (judgeLowest l) (always newline) (lowest-digits l hl) always-newline)
+    (λ t z _ e. ap (λ x. x .t) (sym e)) λ t _.
     nothing-exact (record { m = natAbs m; l = l; t = t }))
-    (λ t z _ e. ap (λ x. x .t) (sym e)))
-    (λ l z _ e. ap (λ x. x .l) (sym (e .1))))
-    (λ m z hm e. positive-pos (between-iff (pos 1) (pos columnCount) m .0 hm .0) ∙ ap (λ x. pos (x .m)) (sym (e .1 .1))))
-    (λ k z hk e. ≤ℤ-antisym (between-iff (pos 3) (pos 3) k .0 hk .1) (between-iff (pos 3) (pos 3) k .0 hk .0)))
     (λ _. refl) good best bytes
   where
     lowest-digits : (l : ℤ) → between (negℤ (pos blockBound)) (pos blockBound) l ≡ 0 → (t : ℤ) → judgeLowest l t ≡ 0 → natAbs t < 10 ^ 10

@@ -71,8 +71,11 @@ most = 9999999999
 pub range-digits : (low high v : ℤ) → negℤ (pos most) ≤ℤ low → high ≤ℤ pos most → low ≤ℤ v → v ≤ℤ high → natAbs v < 10 ^ 10
 range-digits low high v a b h i = omega (arith, natAbs-≤-iff v .1 (≤ℤ-trans a h, ≤ℤ-trans i b))
 
-pub between-digits : (low high : ℤ) → negℤ (pos most) ≤ℤ low → high ≤ℤ pos most → (v : ℤ) → between low high v ≡ 0 → natAbs v < 10 ^ 10
-between-digits low high a b v e = let f = between-iff low high v .0 e in range-digits low high v a b (f .0) (f .1)
+-- A number in a range, with its separator.
+pub between-exact : (low high : ℤ) (follow : ℤ → ℕ) → negℤ (pos most) ≤ℤ low → high ≤ℤ pos most → ((a : ℤ) → T (isSeparator (follow a)))
+    → Exact (field (between low high) follow) (λ a. between low high a ≡ 0) (λ a. decimal a ++ (follow a ∷ []))
+between-exact low high follow a b =
+    field-exact (between low high) follow (λ v e. let f = between-iff low high v .0 e in range-digits low high v a b (f .0) (f .1))
 
 pub positive-pos : {c : ℤ} → pos 1 ≤ℤ c → c ≡ pos (natAbs c)
 positive-pos h = sym (pos-natAbs-nonneg (≤ℤ-trans {b = pos 1} (leZ-yes tt) h))
@@ -214,15 +217,15 @@ pub term-exact : (z : Sizes) (s₀ : ℤ) (c₀ last : ℕ) → SizeBounds z →
 unfolding readTerm termNumbers
 term-exact z s₀ c₀ last b h =
     same-exact (readTerm z s₀ c₀ last) (TermRight z s₀ c₀) (λ e. parted last (termNumbers e))
-    (then-exact (λ e. e .block) (field-exact (judgeBlock z s₀) (always space) block-digits always-space) (λ s hs.
-    then-exact (λ e. pos (e .column)) (field-exact (judgeColumn z s₀ c₀ s) (always space) (column-digits s) always-space) (λ c hc.
-    then-exact (λ e. pos (length (e .polynomial))) (field-exact (between (pos 1) (pos coefficientCount)) (always space) (between-digits (pos 1) (pos coefficientCount) (leZ-yes tt) (leZ-yes tt)) always-space) (λ k hk.
-    then-exact (λ e. e .polynomial) (coefficients-exact last (natAbs k) h) (λ p hp.
+    (then-exact (λ e. e .block) (field-exact (judgeBlock z s₀) (always space) block-digits always-space)
+    (λ s e hs f. ap (λ x. x .block) (sym (f .1 .1 .1))) λ s hs.
+    then-exact (λ e. pos (e .column)) (field-exact (judgeColumn z s₀ c₀ s) (always space) (column-digits s) always-space)
+    (λ c e hc f. positive-pos (judgeColumn-iff z s₀ c₀ s c .0 hc .0) ∙ ap (λ x. pos (x .column)) (sym (f .1 .1))) λ c hc.
+    then-exact (λ e. pos (length (e .polynomial))) (between-exact (pos 1) (pos coefficientCount) (always space) (leZ-yes tt) (leZ-yes tt) always-space)
+    (λ k e hk f. positive-pos (between-iff (pos 1) (pos coefficientCount) k .0 hk .0) ∙ ap pos (sym (f .0 .0))) λ k hk.
+    then-exact (λ e. e .polynomial) (coefficients-exact last (natAbs k) h)
+    (λ p e _ f. ap (λ x. x .polynomial) (sym f)) λ p hp.
     nothing-exact (record { block = s; column = natAbs c; polynomial = p }))
-    (λ p e _ f. ap (λ x. x .polynomial) (sym f)))
-    (λ k e hk f. positive-pos (between-iff (pos 1) (pos coefficientCount) k .0 hk .0) ∙ ap pos (sym (f .0 .0))))
-    (λ c e hc f. positive-pos (judgeColumn-iff z s₀ c₀ s c .0 hc .0) ∙ ap (λ x. pos (x .column)) (sym (f .1 .1))))
-    (λ s e hs f. ap (λ x. x .block) (sym (f .1 .1 .1))))
     (λ l. refl) good best bytes
   where
     block-digits : (s : ℤ) → judgeBlock z s₀ s ≡ 0 → natAbs s < 10 ^ 10
