@@ -61,7 +61,8 @@ unfolding readWord
 readWord-got judge w [] a rest e = absurd (fault-got _ a rest e)
 readWord-got judge w (b ∷ bytes) a rest e = go (isNumber w) (decimal-numberOf w) e
   where
-    go : (t : Bool) → (T t → decimal (numberOf w) ≡ w) → cond t (judged (judge (numberOf w)) (numberOf w) (b ∷ bytes)) (fault 3) ≡ got a rest
+    go : (t : Bool) → (T t → decimal (numberOf w) ≡ w)
+        → cond t (judged (judge (numberOf w)) (numberOf w) (b ∷ bytes)) (fault 3) ≡ got a rest
         → (judge a ≡ 0) × (w ≡ decimal a) × (b ∷ bytes ≡ rest)
     go true d e =
         let f = judged-got (judge (numberOf w)) (numberOf w) a (b ∷ bytes) rest e in
@@ -116,8 +117,11 @@ module _ (judge follow : ℤ → ℕ) where
       → Exact (field judge follow) (λ a. judge a ≡ 0) (λ a. decimal a ++ (follow a ∷ []))
   field-exact few parted =
       record {
-        read-written = λ a rest h. ap (field judge follow) (append-assoc (decimal a) (follow a ∷ []) rest) ∙ field-written a rest (few a h) h (parted a);
-        written-read = λ bytes a rest e. let f = field-read bytes a rest e in (f .0, f .1 ∙ sym (append-assoc (decimal a) (follow a ∷ []) rest));
+        read-written = λ a rest h.
+            ap (field judge follow) (append-assoc (decimal a) (follow a ∷ []) rest) ∙ field-written a rest (few a h) h (parted a);
+        written-read = λ bytes a rest e.
+            let f = field-read bytes a rest e in
+            (f .0, f .1 ∙ sym (append-assoc (decimal a) (follow a ∷ []) rest));
       }
 
 -- ---- readers put together
@@ -210,9 +214,12 @@ module _ {S X A : Type 0} (read : S → ℕ → List ℕ → Read X) (many : S �
       (some s k) good best bytes
     where
       Whole : List A → Type 0
-      Whole b = Good s k (first g blank b) × (((length (tail b) ≡ k) × Chain step g Good (step s (first g blank b)) (tail b)) × (b ≡ f (first g blank b) ∷ tail b))
+      Whole b =
+          Good s k (first g blank b)
+          × (((length (tail b) ≡ k) × Chain step g Good (step s (first g blank b)) (tail b)) × (b ≡ f (first g blank b) ∷ tail b))
 
-      same : (x : X) (b : List A) → Good s k x → ((length (tail b) ≡ k) × Chain step g Good (step s x) (tail b)) × (b ≡ f x ∷ tail b) → x ≡ first g blank b
+      same : (x : X) (b : List A) → Good s k x
+          → ((length (tail b) ≡ k) × Chain step g Good (step s x) (tail b)) × (b ≡ f x ∷ tail b) → x ≡ first g blank b
       same x b h e = sym (gf s k x h) ∙ ap (first g blank) (sym (e .1))
 
       good : (b : List A) → (length b ≡ suc k) × Chain step g Good s b → Whole b
@@ -239,7 +246,8 @@ module _ {A : Type 0} (read : List ℕ → Read A) (many : ℕ → List ℕ → 
   unfolding All Chain chainBytes flatten
   many-exact {Good} {write} each k =
       same-exact (many k) (λ l. (length l ≡ k) × All Good l) (λ l. flatten (map write l))
-      (chain-exact {S = Unit {0}} (λ _ _. read) (λ _. many) (λ s _. s) (λ a. a) (λ a. a) blank (λ _. none) (λ _. some) (λ _ _. each) (λ _ _ _ _. refl)
+      (chain-exact {S = Unit {0}} (λ _ _. read) (λ _. many) (λ s _. s) (λ a. a) (λ a. a) blank (λ _. none) (λ _. some) (λ _ _. each)
+      (λ _ _ _ _. refl)
       (λ _. refl) k tt)
       (λ _. refl) (λ l h. (h .0, good l (h .1))) (λ l h. (h .0, best l (h .1))) (λ l _. bytes l)
     where

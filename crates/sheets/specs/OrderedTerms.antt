@@ -1,6 +1,10 @@
 -- The terms of a row, as they stand in a sheet.
+--
+-- Main statements
+--   row-ordered     the terms of a row of the system are in a sheet's order, in range, and sound
+--   row-count       they are at most m × (D + 1)
 use Prim.Native.Nat.{ℕ, zero, suc, _*_, _-_, _≤_, _<_, zero-le, suc-le-suc}
-use native.Mathlib.Nat.{le-refl, mul-suc}
+use native.Mathlib.Nat.{le-refl, le-trans, le-of-eq, mul-suc}
 use native.Mathlib.Omega.{arith}
 use mathlib.Core.Path.{_≡_, sym, _∙_, ap, subst}
 use mathlib.Core.Bool.{Bool, true, false, _||_, not}
@@ -79,7 +83,8 @@ module _ (z : Sizes) (s : ℤ) (low : z .t ≤ℤ s) (high : s ≤ℤ z .l) (es 
       }
 
   -- One polynomial and then the others of its block.
-  block-step : (b : Block) (p : Polynomial) (s₀ : ℤ) (c₀ c : ℕ) → After s₀ c₀ s c → 1 ≤ c → (T (not (isZero p)) → c ≤ z .m) → StorePolynomial p
+  block-step : (b : Block) (p : Polynomial) (s₀ : ℤ) (c₀ c : ℕ) → After s₀ c₀ s c → 1 ≤ c
+      → (T (not (isZero p)) → c ≤ z .m) → StorePolynomial p
       → ((s₁ : ℤ) (c₁ : ℕ) → After s₁ c₁ s (suc c) → Ordered z s₁ c₁ (blockTerms s (suc c) b ++ es))
       → Ordered z s₀ c₀ (blockTerms s c (p ∷ b) ++ es)
   unfolding Ordered
@@ -94,9 +99,11 @@ module _ (z : Sizes) (s : ℤ) (low : z .t ≤ℤ s) (high : s ≤ℤ z .l) (es 
   block-ordered [] n c s₀ c₀ e a i h y = free s₀ c₀ (a .0)
   block-ordered (p ∷ b) zero c s₀ c₀ e a i h y =
       let f = every-cons isZero p b .0 y in
-      block-step b p s₀ c₀ c a i (λ n. absurd (T-not (isZero p) n (f .0))) (h .0) (λ s₁ c₁ a₁. block-ordered b zero (suc c) s₁ c₁ (omega arith) a₁ (suc-le-suc zero-le) (h .1) (f .1))
+      block-step b p s₀ c₀ c a i (λ n. absurd (T-not (isZero p) n (f .0))) (h .0)
+      (λ s₁ c₁ a₁. block-ordered b zero (suc c) s₁ c₁ (omega arith) a₁ (suc-le-suc zero-le) (h .1) (f .1))
   block-ordered (p ∷ b) (suc n) c s₀ c₀ e a i h y =
-      block-step b p s₀ c₀ c a i (λ _. omega arith) (h .0) (λ s₁ c₁ a₁. block-ordered b n (suc c) s₁ c₁ (omega arith) a₁ (suc-le-suc zero-le) (h .1) y)
+      block-step b p s₀ c₀ c a i (λ _. omega arith) (h .0)
+      (λ s₁ c₁ a₁. block-ordered b n (suc c) s₁ c₁ (omega arith) a₁ (suc-le-suc zero-le) (h .1) y)
 
 -- ---- all blocks
 
@@ -111,7 +118,8 @@ blocks-ordered z [] n s s₀ c₀ e high a h y = tt
 blocks-ordered z (b ∷ bs) zero s s₀ c₀ e high a h y = rw (termsFrom-none s (b ∷ bs) (zero-blocks (b ∷ bs) y)) tt
 blocks-ordered z (b ∷ bs) (suc n) s s₀ c₀ e high a h y =
     block-ordered z s (≤ℤ-intro n low) high (termsFrom (predℤ s) bs)
-    (λ s₁ c₁ i. blocks-ordered z bs n (predℤ s) s₁ c₁ (low ∙ sym (suc-pred s)) (≤ℤ-trans (<ℤ-to-≤ℤ (pred-below (≤ℤ-refl s))) high) (after s₁ c₁ i) (h .1) y)
+    (λ s₁ c₁ i.
+    blocks-ordered z bs n (predℤ s) s₁ c₁ (low ∙ sym (suc-pred s)) (≤ℤ-trans (<ℤ-to-≤ℤ (pred-below (≤ℤ-refl s))) high) (after s₁ c₁ i) (h .1) y)
     b (z .m) 1 s₀ c₀ (omega arith) a (le-refl 1) (h .0 .1) (h .0 .2)
   where
     low : z .t +ℤ pos n ≡ s
@@ -127,7 +135,8 @@ row-ordered z bs b r = blocks-ordered z bs (suc (span z)) (z .l) (z .l) 0 count 
     count : z .t +ℤ pos (suc (span z)) ≡ sucℤ (z .l)
     count =
         +ℤ-sucℤ (z .t) (pos (span z))
-        ∙ ap sucℤ (ap (λ d. z .t +ℤ d) (pos-natAbs-nonneg (≤ℤ-difference .0 (b .ordered))) ∙ +ℤ-comm (z .t) (z .l -ℤ z .t) ∙ -ℤ-+ℤ-cancel (z .l) (z .t))
+        ∙ ap sucℤ (ap (λ d. z .t +ℤ d) (pos-natAbs-nonneg (≤ℤ-difference .0 (b .ordered)))
+        ∙ +ℤ-comm (z .t) (z .l -ℤ z .t) ∙ -ℤ-+ℤ-cancel (z .l) (z .t))
 
 -- ---- the number of terms
 
@@ -135,7 +144,8 @@ block-count-zero : (s : ℤ) (c n : ℕ) (p : Polynomial) (b : Block) → T (isZ
     → length (blockTerms s c (p ∷ b)) ≤ n
 block-count-zero s c n p b y h = rw (blockTerms-zero s c p b y) h
 
-block-count-suc : (s : ℤ) (c n : ℕ) (p : Polynomial) (b : Block) → length (blockTerms s (suc c) b) ≤ n → length (blockTerms s c (p ∷ b)) ≤ suc n
+block-count-suc : (s : ℤ) (c n : ℕ) (p : Polynomial) (b : Block) → length (blockTerms s (suc c) b) ≤ n
+    → length (blockTerms s c (p ∷ b)) ≤ suc n
 block-count-suc s c n p b h =
     zero-or-not p (λ y. block-count-zero s c (suc n) p b y (omega arith)) (λ y. rw (blockTerms-nonzero s c p b y) (suc-le-suc h))
 
@@ -146,12 +156,14 @@ block-count (p ∷ b) s c zero h =
     let f = every-cons isZero p b .0 h in block-count-zero s c zero p b (f .0) (block-count b s (suc c) zero (f .1))
 block-count (p ∷ b) s c (suc n) h = block-count-suc s c n p b (block-count b s (suc c) n h)
 
-blocks-count : (m : ℕ) (bs : List Block) (s : ℤ) (n : ℕ) → All (BlockRight m) bs → T (every zeroBlock (drop n bs)) → length (termsFrom s bs) ≤ m * n
+blocks-count : (m : ℕ) (bs : List Block) (s : ℤ) (n : ℕ) → All (BlockRight m) bs → T (every zeroBlock (drop n bs))
+    → length (termsFrom s bs) ≤ m * n
 unfolding termsFrom All
 blocks-count m [] s n h y = zero-le
 blocks-count m (b ∷ bs) s zero h y = rw (termsFrom-none s (b ∷ bs) (zero-blocks (b ∷ bs) y)) zero-le
 blocks-count m (b ∷ bs) s (suc n) h y =
-    omega (arith, length-append (blockTerms s 1 b) (termsFrom (predℤ s) bs), block-count b s 1 m (h .0 .2), blocks-count m bs (predℤ s) n (h .1) y, mul-suc m n)
+    le-trans (le-of-eq (length-append (blockTerms s 1 b) (termsFrom (predℤ s) bs)))
+    (omega (arith, block-count b s 1 m (h .0 .2), blocks-count m bs (predℤ s) n (h .1) y, mul-suc m n))
 
 pub row-count : (z : Sizes) (bs : List Block) → RowRight z bs → length (termsFrom (z .l) bs) ≤ z .m * suc (span z)
 row-count z bs r = blocks-count (z .m) bs (z .l) (suc (span z)) (r .each) (r .below)

@@ -1,4 +1,13 @@
--- Sheets read back: what is written is read, and what is read is what would be written.
+-- Sheets read back: what is written is read, and what is read would be written so.
+--
+-- Main definitions
+--   SheetRight sheet                     a valid system, with no column order or a permutation of its columns
+--
+-- Main statements
+--   read-written                         what is written of a valid system and a right order is read back
+--   written-read                         what is read, written again, is the same bytes
+--   read-valid, read-order               what is read is a valid system with a right order
+--   read-exactly                         the byte strings that are read are exactly those written of right sheets
 use Prim.Native.Nat.{ℕ}
 use mathlib.Core.Path.{_≡_, refl, sym, _∙_, ap, ap₂, subst}
 use mathlib.Core.Logic.{_↔_}
@@ -104,7 +113,8 @@ sections-exact =
     (then-exact (λ x. x .sizes) sizes-exact
     (λ z x _ e. ap (λ y. y .sizes) (sym (e .1 .1 .1 .1 .1))) λ z hz.
     then-exact (λ x. pos (x .sizes .m))
-    (between-exact (pos (z .m)) (pos (z .m)) (always newline) (≤ℤ-trans (leZ-yes tt) (pos-nonneg (z .m))) (few z (size-bounds z hz)) always-newline)
+    (between-exact (pos (z .m)) (pos (z .m)) (always newline) (≤ℤ-trans (leZ-yes tt) (pos-nonneg (z .m))) (few z (size-bounds z hz))
+    always-newline)
     (λ k x hk e. just (z .m) k hk ∙ ap (λ y. pos (y .sizes .m)) (sym (e .1 .1 .1 .1))) λ k hk.
     then-exact (λ x. x .rows) (equations-exact z (size-bounds z hz) (z .m))
     (λ rows x _ e. ap (λ y. y .rows) (sym (e .1 .1 .1))) λ rows hr.
@@ -135,7 +145,10 @@ sections-exact =
           (
             between-iff (pos (z .m)) (pos (z .m)) (pos (z .m)) .1 (≤ℤ-refl (pos (z .m)), ≤ℤ-refl (pos (z .m))),
             (
-              (v .row-count, All-both StoreRow (λ r. T (rowRight z r)) (x .rows) (v .row-shapes) (every-All (rowRight z) (x .rows) .0 (v .rows-right))),
+              (
+                v .row-count,
+                All-both StoreRow (λ r. T (rowRight z r)) (x .rows) (v .row-shapes) (every-All (rowRight z) (x .rows) .0 (v .rows-right)),
+              ),
               (
                 between-iff (pos 0) (pos mostRelations) (pos (length (x .relations))) .1
                     (pos-nonneg (length (x .relations)), pos-≤ℤ .1 (countRight-iff (length (x .relations)) .0 (v .relation-count))),
@@ -162,8 +175,10 @@ sections-exact =
             sizes = h .0;
             row-count = h .1 .1 .0 .0;
             row-shapes = All-imply (EquationRight z) StoreRow (λ r i. i .0) (x .rows) rows;
-            rows-right = every-All (rowRight z) (x .rows) .1 (All-imply (EquationRight z) (λ r. T (rowRight z r)) (λ r i. i .1) (x .rows) rows);
-            relation-count = countRight-iff (length (x .relations)) .1 (pos-≤ℤ .0 (between-iff (pos 0) (pos mostRelations) _ .0 (h .1 .1 .1 .0) .1));
+            rows-right = every-All (rowRight z) (x .rows) .1
+                (All-imply (EquationRight z) (λ r. T (rowRight z r)) (λ r i. i .1) (x .rows) rows);
+            relation-count = countRight-iff (length (x .relations)) .1
+                (pos-≤ℤ .0 (between-iff (pos 0) (pos mostRelations) _ .0 (h .1 .1 .1 .0) .1));
             relation-shapes = All-imply (RelationGood z) (λ e. StoreRow (e .row)) (λ e i. i .0) (x .relations) relations;
             relations-right = every-All (relationRight z) (x .relations) .1
                 (All-imply (RelationGood z) (λ e. T (relationRight z e)) (λ e i. i .1) (x .relations) relations);
@@ -216,19 +231,24 @@ sheet-read-written x h =
     readSheet-sections (writeSheet x)
     ∙ ap (λ r. thenRead r readEnd) (ap readSections (sym (append-nil (writeSheet x))) ∙ sections-exact .read-written x [] h)
 
-pub read-written : (z : Sizes) (rows : List Row) (relations : List Relation) (order : List ℕ) → Valid z rows relations → OrderRight (z .m) order
+pub read-written : (z : Sizes) (rows : List Row) (relations : List Relation) (order : List ℕ) → Valid z rows relations
+    → OrderRight (z .m) order
     → readSheet (writeSheet (record { sizes = z; rows = rows; relations = relations; order = order }))
     ≡ got (record { sizes = z; rows = rows; relations = relations; order = order }) []
 read-written z rows relations order v h =
     sheet-read-written (record { sizes = z; rows = rows; relations = relations; order = order }) (record { valid = v; order-right = h })
 
 -- What is read is a valid system with a right order, and would be written as it was.
-pub read-right : (bytes : List ℕ) (x : Sheet) (rest : List ℕ) → readSheet bytes ≡ got x rest → SheetRight x × (writeSheet x ≡ bytes) × (rest ≡ [])
+pub read-right : (bytes : List ℕ) (x : Sheet) (rest : List ℕ) → readSheet bytes ≡ got x rest
+    → SheetRight x × (writeSheet x ≡ bytes) × (rest ≡ [])
 read-right bytes x rest e =
     let (y, more, d, f) = then-got (readSections bytes) readEnd x rest (sym (readSheet-sections bytes) ∙ e) in
     let g = readEnd-got y x more rest f in
-    let h = sections-exact .written-read bytes y more d in
-    (subst SheetRight (g .0) (h .0), ap writeSheet (sym (g .0)) ∙ sym (h .1 ∙ ap (λ l. writeSheet y ++ l) (g .1) ∙ append-nil (writeSheet y)), g .2)
+    let h = sections-exact .written-read bytes y more d in (
+      subst SheetRight (g .0) (h .0),
+      ap writeSheet (sym (g .0)) ∙ sym (h .1 ∙ ap (λ l. writeSheet y ++ l) (g .1) ∙ append-nil (writeSheet y)),
+      g .2,
+    )
 
 pub written-read : (bytes : List ℕ) (x : Sheet) (rest : List ℕ) → readSheet bytes ≡ got x rest → (writeSheet x ≡ bytes) × (rest ≡ [])
 written-read bytes x rest e = let h = read-right bytes x rest e in (h .1, h .2)

@@ -100,7 +100,11 @@ BlockRight-iff m b = (
     ),
     h .2,
   ),
-  λ h. (h .0 .0 .0, All-both (λ p. length p ≡ coefficientCount) (λ p. T (every small p)) b (h .0 .0 .1) (every-All (every small) b .0 (h .0 .1)), h .1),
+  λ h. (
+    h .0 .0 .0,
+    All-both (λ p. length p ≡ coefficientCount) (λ p. T (every small p)) b (h .0 .0 .1) (every-All (every small) b .0 (h .0 .1)),
+    h .1,
+  ),
 )
 
 abbrev BlockParts : ℕ → Block → Type 0
@@ -130,7 +134,8 @@ rowRight-blocks z r s h = record { count = s .0; each = each; below = f .1 }
 
 pub blocks-rowRight : (z : Sizes) (r : Row) → RowRight z (r .blocks) → StoreRow r × T (rowRight z r)
 unfolding rowRight unusedZero Shaped
-blocks-rowRight z r h = ((h .count, shape), T-&& (smallRow r) _ .1 (smalls, T-&& (every (λ b. zeroBlock (drop (z .m) b)) (r .blocks)) _ .1 (zeros, h .below)))
+blocks-rowRight z r h =
+    ((h .count, shape), T-&& (smallRow r) _ .1 (smalls, T-&& (every (λ b. zeroBlock (drop (z .m) b)) (r .blocks)) _ .1 (zeros, h .below)))
   where
     part : (Q : Block → Type 0) → ((b : Block) → BlockParts (z .m) b → Q b) → All Q (r .blocks)
     part Q f = All-imply (BlockRight (z .m)) Q (λ b i. f b (BlockRight-iff (z .m) b .0 i)) (r .blocks) (h .each)

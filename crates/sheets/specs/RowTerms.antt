@@ -1,4 +1,14 @@
--- Rows and their terms.
+-- Terms put into rows, and the terms of a row.
+--
+-- Main definitions
+--   putAt k c p bs         the blocks with polynomial p at block k and column c, both counted from 0
+--   Before, Clear k c bs   the places in a sheet's order, and: all polynomials before (k, c) are zero
+--   Blank bs               all polynomials are zero
+--   TermsHeld              what holds of the row into which ordered terms are put
+--
+-- Main statements
+--   terms-held             ordered terms put into a blank row give a row of the system, and are its terms
+--   row-of-terms           the terms of a store's row, put into a blank row, give that row
 use Prim.Native.Nat.{ℕ, zero, suc, pred, _+_, _≤_, _<_, zero-le, suc-le-suc}
 use native.Mathlib.Nat.{not-suc-le-zero, le-of-suc-le-suc, zero-add, eq-or-lt-of-le, le-trans}
 use native.Mathlib.Numerals.{add-one}
@@ -55,7 +65,8 @@ putAt k c p bs = set bs k (set (getD bs k []) c p)
 abbrev pub polynomialAt : List Block → ℕ → ℕ → Polynomial
 polynomialAt bs i j = getD (getD bs i []) j []
 
-RowRight-put : (z : Sizes) (bs : List Block) (k c : ℕ) (p : Polynomial) → k < blockCount → k ≤ span z → c < z .m → StorePolynomial p → RowRight z bs
+RowRight-put : (z : Sizes) (bs : List Block) (k c : ℕ) (p : Polynomial) → k < blockCount → k ≤ span z → c < z .m → StorePolynomial p
+    → RowRight z bs
     → RowRight z (putAt k c p bs)
 RowRight-put z bs k c p inside used column h r =
     record {
@@ -93,13 +104,15 @@ Clear-weaken k₀ c₀ k c bs b h i j a = h i j (earlier a b)
     earlier (inr a) (inr b) = inr (omega arith)
 
 -- A polynomial put at (k, c) leaves the others.
-putAt-other : (bs : List Block) (k c : ℕ) (p : Polynomial) (i j : ℕ) → Before i j k c → k < length bs → polynomialAt (putAt k c p bs) i j ≡ polynomialAt bs i j
+putAt-other : (bs : List Block) (k c : ℕ) (p : Polynomial) (i j : ℕ) → Before i j k c → k < length bs
+    → polynomialAt (putAt k c p bs) i j ≡ polynomialAt bs i j
 putAt-other bs k c p i j (inl a) h = ap (λ b. getD b j []) (getD-set-other bs k i _ [] (omega arith))
 putAt-other bs k c p i j (inr a) h =
     rw (a .0)
     (ap (λ b. getD b j []) (getD-set-same bs k (set (getD bs k []) c p) [] h) ∙ getD-set-other (getD bs k []) c j p [] (omega arith))
 
-Clear-put : (k₀ c₀ k c : ℕ) (p : Polynomial) (bs : List Block) → Before k₀ c₀ k (suc c) → k < length bs → Clear k₀ c₀ bs → Clear k₀ c₀ (putAt k c p bs)
+Clear-put : (k₀ c₀ k c : ℕ) (p : Polynomial) (bs : List Block) → Before k₀ c₀ k (suc c) → k < length bs → Clear k₀ c₀ bs
+    → Clear k₀ c₀ (putAt k c p bs)
 unfolding Clear
 Clear-put k₀ c₀ k c p bs b h clear i j a = rw (putAt-other bs k c p i j (earlier a b) h) (clear i j a)
   where
@@ -126,16 +139,19 @@ blockTerms-none s c [] h = refl
 blockTerms-none s c (p ∷ b) h = blockTerms-zero s c p b (h 0) ∙ blockTerms-none s (suc c) b (λ j. h (suc j))
 
 -- The columns of the block are counted from n.
-blockTerms-put : (s : ℤ) (n c : ℕ) (p : Polynomial) (b : Block) → c < length b → T (not (isZero p)) → ((j : ℕ) → j < suc c → T (isZero (getD b j [])))
+blockTerms-put : (s : ℤ) (n c : ℕ) (p : Polynomial) (b : Block) → c < length b → T (not (isZero p))
+    → ((j : ℕ) → j < suc c → T (isZero (getD b j [])))
     → blockTerms s n (set b c p) ≡ record { block = s; column = c + n; polynomial = trim p } ∷ blockTerms s n b
 blockTerms-put s n c p [] h i z = absurd (not-suc-le-zero h)
 blockTerms-put s n zero p (q ∷ b) h i z =
     blockTerms-nonzero s n p b i
-    ∙ ap₂ (λ k l. record { block = s; column = k; polynomial = trim p } ∷ l) (sym (zero-add n)) (sym (blockTerms-zero s n q b (z 0 (lit< tt))))
+    ∙ ap₂ (λ k l. record { block = s; column = k; polynomial = trim p } ∷ l) (sym (zero-add n))
+    (sym (blockTerms-zero s n q b (z 0 (lit< tt))))
 blockTerms-put s n (suc c) p (q ∷ b) h i z =
     blockTerms-zero s n q (set b c p) (z 0 (suc-le-suc zero-le))
     ∙ blockTerms-put s (suc n) c p b (le-of-suc-le-suc h) i (λ j l. z (suc j) (suc-le-suc l))
-    ∙ ap₂ (λ k l. record { block = s; column = k; polynomial = trim p } ∷ l) (omega arith) (sym (blockTerms-zero s n q b (z 0 (suc-le-suc zero-le))))
+    ∙ ap₂ (λ k l. record { block = s; column = k; polynomial = trim p } ∷ l) (omega arith)
+    (sym (blockTerms-zero s n q b (z 0 (suc-le-suc zero-le))))
 
 below-next : (s : ℤ) (k : ℕ) → predℤ s -ℤ pos k ≡ s -ℤ pos (suc k)
 below-next s k =
@@ -153,7 +169,8 @@ unfolding termsFrom Clear
 termsFrom-put s k c p [] h i n z = absurd (not-suc-le-zero h)
 termsFrom-put s zero c p (b ∷ bs) h i n z =
     ap (λ l. l ++ termsFrom (predℤ s) bs) (blockTerms-put s 1 c p b i n (λ j l. z 0 j (inr (refl, l))))
-    ∙ ap₂ (λ r k. record { block = r; column = k; polynomial = trim p } ∷ (blockTerms s 1 b ++ termsFrom (predℤ s) bs)) (sym (+ℤ-idr s)) (add-one c)
+    ∙ ap₂ (λ r k. record { block = r; column = k; polynomial = trim p } ∷ (blockTerms s 1 b ++ termsFrom (predℤ s) bs))
+    (sym (+ℤ-idr s)) (add-one c)
 termsFrom-put s (suc k) c p (b ∷ bs) h i n z =
     ap (λ l. l ++ termsFrom (predℤ s) (putAt k c p bs)) none
     ∙ termsFrom-put (predℤ s) k c p bs (le-of-suc-le-suc h) i n after
@@ -180,7 +197,8 @@ getD-replicate-each P (suc n) x d (suc i) h k = getD-replicate-each P n x d i h 
 Blank-blank : Blank (blankRow .blocks)
 unfolding Blank blankRow isZero
 Blank-blank i =
-    getD-replicate-each (λ b. (j : ℕ) → T (isZero (getD b j []))) blockCount (replicate columnCount (replicate coefficientCount (pos 0))) [] i
+    getD-replicate-each (λ b. (j : ℕ) → T (isZero (getD b j []))) blockCount
+    (replicate columnCount (replicate coefficientCount (pos 0))) [] i
     (λ j. getD-replicate-each (λ p. T (isZero p)) columnCount (replicate coefficientCount (pos 0)) [] j tt tt) (λ j. tt)
 
 pub termsFrom-none : (s : ℤ) (bs : List Block) → Blank bs → termsFrom s bs ≡ []
@@ -240,7 +258,8 @@ term-place z s₀ c₀ e sizes h r =
       used = depth-≤ (b .0) (b .1);
       first = pos-≤ℤ .0 (c .0);
       last = pos-≤ℤ .0 (c .1);
-      later = go (ltZ (e .block) s₀) (ltZ (pos c₀) (pos (e .column))) (λ i. depth-< {r = e .block} (ltZ-yes i) h) (λ i. pos-<ℤ .0 (ltZ-yes i)) (c .2);
+      later = go (ltZ (e .block) s₀) (ltZ (pos c₀) (pos (e .column)))
+          (λ i. depth-< {r = e .block} (ltZ-yes i) h) (λ i. pos-<ℤ .0 (ltZ-yes i)) (c .2);
     }
   where
     b : (z .t ≤ℤ e .block) × (e .block ≤ℤ z .l) × (e .block ≤ℤ s₀)
@@ -305,7 +324,8 @@ module _ (z : Sizes) (s₀ : ℤ) (c₀ : ℕ) (e : Term) (es : List Term) (b : 
 
   put-same : termsFrom (z .l) (putAt down across padded row) ≡ e ∷ es
   put-same =
-      termsFrom-put (z .l) down across padded row rows-long columns-long (padTo-nonzero coefficientCount (e .polynomial) (r .sound) (r .some) (r .few))
+      termsFrom-put (z .l) down across padded row rows-long columns-long
+      (padTo-nonzero coefficientCount (e .polynomial) (r .sound) (r .some) (r .few))
       (rw column-suc (held .clear))
       ∙ ap₂ (λ s l. record { block = s; column = suc across; polynomial = trim padded } ∷ l) (depth-back (a .under)) (held .same)
       ∙ ap₂ (λ n q. record { block = e .block; column = n; polynomial = q } ∷ es) column-suc
@@ -347,7 +367,8 @@ rowOfTerms-append l (e ∷ es) more =
 abbrev zeros : Polynomial
 zeros = replicate coefficientCount (pos 0)
 
-putAt-seam : (F : List Block) (G : Block) (q : Polynomial) (b : Block) (B : List Block) (p : Polynomial) (k c : ℕ) → length F ≡ k → length G ≡ c
+putAt-seam : (F : List Block) (G : Block) (q : Polynomial) (b : Block) (B : List Block) (p : Polynomial) (k c : ℕ)
+    → length F ≡ k → length G ≡ c
     → putAt k c p (F ++ ((G ++ (q ∷ b)) ∷ B)) ≡ F ++ ((G ++ (p ∷ b)) ∷ B)
 putAt-seam F G q b B p k c h i =
     ap (λ r. set (F ++ ((G ++ (q ∷ b)) ∷ B)) k (set r c p)) (getD-at F (G ++ (q ∷ b)) B [] k h)
@@ -366,7 +387,8 @@ module _ (l s : ℤ) (F B : List Block) (place : length F ≡ depth l s) where
   unfolding putTerms
   block-step G b p bs h e =
       zero-or-not p
-      (λ z. ap (λ es. putTerms l es bs) (blockTerms-zero s (suc (length G)) p b z) ∙ e ∙ ap (λ q. F ++ ((G ++ (q ∷ b)) ∷ B)) (zero-zeros p h z))
+      (λ z. ap (λ es. putTerms l es bs) (blockTerms-zero s (suc (length G)) p b z) ∙ e
+      ∙ ap (λ q. F ++ ((G ++ (q ∷ b)) ∷ B)) (zero-zeros p h z))
       (λ n.
       ap (λ es. putTerms l es bs) (blockTerms-nonzero s (suc (length G)) p b n)
       ∙ ap (putAt (depth l s) (length G) (padTo coefficientCount (pos 0) (trim p))) e
@@ -377,11 +399,15 @@ module _ (l s : ℤ) (F B : List Block) (place : length F ≡ depth l s) where
       → putTerms l (blockTerms s (suc (length G)) b) (F ++ ((G ++ replicate (length b) zeros) ∷ B)) ≡ F ++ ((G ++ b) ∷ B)
   unfolding All blockTerms putTerms
   putTerms-block [] G a = refl
-  putTerms-block (p ∷ b) G a = block-step G b p (F ++ ((G ++ replicate (length (p ∷ b)) zeros) ∷ B)) (a .0) (shift (putTerms-block b (G ++ (zeros ∷ [])) (a .1)))
+  putTerms-block (p ∷ b) G a =
+      block-step G b p (F ++ ((G ++ replicate (length (p ∷ b)) zeros) ∷ B)) (a .0)
+      (shift (putTerms-block b (G ++ (zeros ∷ [])) (a .1)))
     where
-      shift : putTerms l (blockTerms s (suc (length (G ++ (zeros ∷ [])))) b) (F ++ (((G ++ (zeros ∷ [])) ++ replicate (length b) zeros) ∷ B)) ≡ F ++ (((G ++ (zeros ∷ [])) ++ b) ∷ B)
-          → putTerms l (blockTerms s (suc (suc (length G))) b) (F ++ ((G ++ (zeros ∷ replicate (length b) zeros)) ∷ B)) ≡ F ++ ((G ++ (zeros ∷ b)) ∷ B)
-      shift e = rw (append-assoc, append-assoc G (zeros ∷ []) b, length-append, add-one) at e
+      shift : putTerms l (blockTerms s (suc (length (G ++ (zeros ∷ [])))) b) (F ++ (((G ++ (zeros ∷ [])) ++ replicate (length b) zeros) ∷ B))
+          ≡ F ++ (((G ++ (zeros ∷ [])) ++ b) ∷ B)
+          → putTerms l (blockTerms s (suc (suc (length G))) b) (F ++ ((G ++ (zeros ∷ replicate (length b) zeros)) ∷ B))
+          ≡ F ++ ((G ++ (zeros ∷ b)) ∷ B)
+      shift e = rw (append-assoc G (zeros ∷ []) (replicate (length b) zeros), append-assoc G (zeros ∷ []) b, length-append, add-one) at e
 
 replicate-snoc : {A : Type 0} (n : ℕ) (x : A) (l : List A) → replicate (suc n) x ++ l ≡ replicate n x ++ (x ∷ l)
 replicate-snoc zero x l = refl
@@ -401,7 +427,8 @@ row-of-blocks l s k [] e h a =
     count = omega arith
 row-of-blocks l s k (b ∷ bs) e h a =
     rowOfTerms-append l (blockTerms s 1 b) (termsFrom (predℤ s) bs)
-    ∙ ap (putTerms l (blockTerms s 1 b)) (row-of-blocks l (predℤ s) (suc k) bs next (omega arith) (a .1) ∙ replicate-snoc k (replicate columnCount zeros) bs ∙ wide)
+    ∙ ap (putTerms l (blockTerms s 1 b))
+    (row-of-blocks l (predℤ s) (suc k) bs next (omega arith) (a .1) ∙ replicate-snoc k (replicate columnCount zeros) bs ∙ wide)
     ∙ putTerms-block l s (replicate k (replicate columnCount zeros)) bs place b [] (a .0 .1)
   where
     next : predℤ s ≡ l -ℤ pos (suc k)
@@ -410,9 +437,13 @@ row-of-blocks l s k (b ∷ bs) e h a =
     place : length (replicate k (replicate columnCount zeros)) ≡ depth l s
     place = length-replicate k _ ∙ sym (ap (depth l) e ∙ depth-below l k)
 
-    wide : replicate k (replicate columnCount zeros) ++ (replicate columnCount zeros ∷ bs) ≡ replicate k (replicate columnCount zeros) ++ (replicate (length b) zeros ∷ bs)
+    wide : replicate k (replicate columnCount zeros) ++ (replicate columnCount zeros ∷ bs)
+        ≡ replicate k (replicate columnCount zeros) ++ (replicate (length b) zeros ∷ bs)
     wide = ap (λ n. replicate k (replicate columnCount zeros) ++ (replicate n zeros ∷ bs)) (sym (a .0 .0))
 
 pub row-of-terms : (l : ℤ) (r : Row) → StoreRow r → rowOfTerms l (termsFrom l (r .blocks)) ≡ r
 unfolding Shaped
-row-of-terms l r h = λ i. record { blocks = row-of-blocks l l 0 (r .blocks) (sym (+ℤ-idr l)) (zero-add (length (r .blocks)) ∙ h .0) (h .1) i }
+row-of-terms l r h = λ i. record { blocks = same i }
+  where
+    same : rowOfTerms l (termsFrom l (r .blocks)) .blocks ≡ r .blocks
+    same = row-of-blocks l l 0 (r .blocks) (sym (+ℤ-idr l)) (zero-add (length (r .blocks)) ∙ h .0) (h .1)

@@ -38,7 +38,8 @@ cond-else false a b c e = e tt
 -- ---- the digits of a natural number
 
 -- A number with several digits, and its last digit.
-decimalWithin-tens : (k n : ℕ) (written : List ℕ) → 10 ≤ n → decimalWithin (suc k) n written ≡ decimalWithin k (n / 10) ((48 + n % 10) ∷ written)
+decimalWithin-tens : (k n : ℕ) (written : List ℕ) → 10 ≤ n
+    → decimalWithin (suc k) n written ≡ decimalWithin k (n / 10) ((48 + n % 10) ∷ written)
 unfolding decimalWithin
 decimalWithin-tens k n written h = cond-failed (ltb n 10) _ _ (not-T (ltb n 10) (λ i. not-lt (ltb→lt n 10 i)))
   where
@@ -56,7 +57,8 @@ module _ (P : ℕ → List ℕ → List ℕ → Type 0) (one : (n : ℕ) (writte
   decimal-induction : (k n : ℕ) (written : List ℕ) → n < k → P n written (decimalWithin k n written)
   unfolding decimalWithin
   decimal-induction zero n written h = absurd (not-suc-le-zero h)
-  decimal-induction (suc k) n written h = go (ltb n 10) (ltb→lt n 10) (nltb→le n 10) (λ i. decimal-induction k (n / 10) ((48 + n % 10) ∷ written) (fewer i))
+  decimal-induction (suc k) n written h =
+      go (ltb n 10) (ltb→lt n 10) (nltb→le n 10) (λ i. decimal-induction k (n / 10) ((48 + n % 10) ∷ written) (fewer i))
     where
       fewer : 10 ≤ n → n / 10 < k
       fewer i = omega arith
@@ -121,7 +123,8 @@ digits-decimalWithin =
     (λ n written h i. T-&& (isDigit (48 + n)) (every isDigit written) .1 (digit-byte n h, i))
     (λ n written bytes h e i. e (T-&& (isDigit (48 + n % 10)) (every isDigit written) .1 (digit-byte (n % 10) (omega arith), i)))
 
-length-decimalWithin : (k n : ℕ) (written : List ℕ) → n < k → (d : ℕ) → n < 10 ^ suc d → length (decimalWithin k n written) ≤ suc d + length written
+length-decimalWithin : (k n : ℕ) (written : List ℕ) → n < k → (d : ℕ) → n < 10 ^ suc d
+    → length (decimalWithin k n written) ≤ suc d + length written
 length-decimalWithin =
     decimal-induction (λ n written bytes. (d : ℕ) → n < 10 ^ suc d → length bytes ≤ suc d + length written)
     (λ n written h d i. omega arith) more
@@ -274,7 +277,8 @@ unfolding valueFrom
 valueFrom-grows v [] = omega arith
 valueFrom-grows v (d ∷ ds) = omega (arith, valueFrom-grows (10 * v + (d - 48)) ds)
 
-decimalFrom-valueFrom : (v : ℕ) (ds written : List ℕ) → 1 ≤ v → T (every isDigit ds) → decimalFrom (valueFrom v ds) written ≡ decimalFrom v (ds ++ written)
+decimalFrom-valueFrom : (v : ℕ) (ds written : List ℕ) → 1 ≤ v → T (every isDigit ds)
+    → decimalFrom (valueFrom v ds) written ≡ decimalFrom v (ds ++ written)
 unfolding valueFrom
 decimalFrom-valueFrom v [] written h i = refl
 decimalFrom-valueFrom v (d ∷ ds) written h i =

@@ -1,4 +1,11 @@
 -- The column order of a sheet, and its bytes.
+--
+-- Main definitions
+--   OrderRight m order     no column order, or a permutation of 1..m
+--
+-- Main statements
+--   Columns-none           columns of which each is judged by those before it are different columns
+--   order-exact            the reader of the order line reads what is written of right orders, and nothing else
 use Prim.Native.Nat.{ℕ, suc, _^_, _≤_, _<_}
 use native.Mathlib.Nat.{suc-ne-zero}
 use native.Mathlib.Omega.{arith}
@@ -115,11 +122,14 @@ columns-exact : (m k : ℕ) → m ≤ columnCount
 unfolding Columns always
 columns-exact m k b =
     same-exact (readColumns m k []) (λ l. (length l ≡ k) × T (differentColumns m l)) (λ l. parted newline (map pos l))
-    (chain-exact (λ taken k. field (judgeOrder m taken) (always (parting newline k))) (λ taken k. readColumns m k taken) (λ taken c. natAbs c ∷ taken) natAbs pos (pos 0)
+    (chain-exact (λ taken k. field (judgeOrder m taken) (always (parting newline k))) (λ taken k. readColumns m k taken)
+    (λ taken c. natAbs c ∷ taken) natAbs pos (pos 0)
     (readColumns-none m) (readColumns-some m)
-    (λ taken k. field-exact (judgeOrder m taken) (always (parting newline k)) (digits taken) (λ _. parting-separator newline k newline-separator))
+    (λ taken k. field-exact (judgeOrder m taken) (always (parting newline k)) (digits taken)
+    (λ _. parting-separator newline k newline-separator))
     (λ taken _ c h. sym (positive-pos (judgeOrder-iff m taken c .0 h .0))) (λ _. refl) k [])
-    (λ _. refl) (λ l h. (h .0, Columns-none m l .1 (h .1))) (λ l h. (h .0, Columns-none m l .0 (h .1))) (λ l _. sym (chainBytes-parted pos newline l))
+    (λ _. refl) (λ l h. (h .0, Columns-none m l .1 (h .1))) (λ l h. (h .0, Columns-none m l .0 (h .1)))
+    (λ l _. sym (chainBytes-parted pos newline l))
   where
     digits : (taken : List ℕ) (c : ℤ) → judgeOrder m taken c ≡ 0 → natAbs c < 10 ^ 10
     digits taken c e =
@@ -171,7 +181,11 @@ order-exact m b =
 
     best : (order : List ℕ) → Whole order → OrderRight m order
     best [] h = inl refl
-    best (c ∷ l) h = inr (⊎-elim (λ e. absurd (suc-ne-zero (length l) (ap natAbs e))) (λ e. ap natAbs e) (judgeOrderCount-iff m (pos (length (c ∷ l))) .0 (h .0)), h .1 .1)
+    best (c ∷ l) h = inr (whole (judgeOrderCount-iff m (pos (length (c ∷ l))) .0 (h .0)), h .1 .1)
+      where
+        whole : (pos (suc (length l)) ≡ pos 0) ⊎ (pos (suc (length l)) ≡ pos m) → suc (length l) ≡ m
+        whole (inl e) = absurd (suc-ne-zero (length l) (ap natAbs e))
+        whole (inr e) = ap natAbs e
 
     bytes : (order : List ℕ) → line (pos (length order) ∷ map pos order) ≡ counted (length order) ++ parted newline (map pos order)
     bytes order =

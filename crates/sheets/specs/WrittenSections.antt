@@ -1,4 +1,12 @@
--- The sections of a sheet, and their bytes.
+-- Equations, relations and sizes of a sheet, and their bytes.
+--
+-- Main definitions
+--   EquationRight, RelationGood     the rows and relations that a store can hold and the check of its numbers lets through
+--
+-- Main statements
+--   count-parted                                              a count with what it counts
+--   equation-exact, equations-exact, relation-exact, relations-exact, sizes-exact
+--                                                             their readers read what is written of them, and nothing else
 use Prim.Native.Nat.{ℕ, zero, suc, _*_, _^_, _≤_, _<_, suc-le-suc}
 use native.Mathlib.Nat.{mul-le-mul}
 use native.Mathlib.Omega.{arith}
@@ -13,7 +21,7 @@ use lib.Signed.{leZ-yes, _≤ℤ_, ≤ℤ-refl}
 use Rattle.algebra.specs.Order.{≤ℤ-trans, ≤ℤ-antisym, ≤ℤ-difference, natAbs-≤-iff, pos-natAbs-nonneg, pos-nonneg, pos-≤ℤ}
 use Rattle.algebra.specs.Polynomials.{T-&&, isZeroℤ}
 use Rattle.rules.specs.Limits.{columnCount, blockCount, blockBound, small}
-use Rattle.rules.specs.Rows.{Row, Relation, All}
+use Rattle.rules.specs.Rows.{Row, Relation, noRow, All}
 use Rattle.rules.specs.Stores.{Sizes, span, sizesRight, rowRight, relationRight, StoreRow}
 use Rattle.rules.specs.Layout.{SizeBounds, size-bounds}
 use Rattle.rules.specs.Numbers.{space, newline, isSeparator, decimal, line, between, judgeSmall}
@@ -57,7 +65,9 @@ count-parted l n e =
 
 most-terms : (z : Sizes) → SizeBounds z → z .m * suc (span z) ≤ columnCount * blockCount
 unfolding span
-most-terms z b = mul-le-mul (b .few) (suc-le-suc (natAbs-≤-iff (z .l -ℤ z .t) .1 (≤ℤ-trans (leZ-yes tt) (≤ℤ-difference .0 (b .ordered)), b .narrow)))
+most-terms z b =
+    mul-le-mul (b .few)
+    (suc-le-suc (natAbs-≤-iff (z .l -ℤ z .t) .1 (≤ℤ-trans (leZ-yes tt) (≤ℤ-difference .0 (b .ordered)), b .narrow)))
 
 -- A row that an equation of a sheet can give.
 abbrev pub EquationRight : Sizes → Row → Type 0
@@ -106,9 +116,10 @@ equation-exact z b =
         ∙ ap (λ l. counted (length (terms r)) ++ l) (sym (append-nil (parted newline (flatten (map termNumbers (terms r))))))
 
 pub equations-exact : (z : Sizes) → SizeBounds z → (k : ℕ)
-    → Exact (readEquations z k) (λ rows. (length rows ≡ k) × All (EquationRight z) rows) (λ rows. flatten (map (λ r. line (equationNumbers (z .l) r)) rows))
+    → Exact (readEquations z k) (λ rows. (length rows ≡ k) × All (EquationRight z) rows)
+    (λ rows. flatten (map (λ r. line (equationNumbers (z .l) r)) rows))
 unfolding readEquations
-equations-exact z b = many-exact (readEquation z) (readEquations z) (record { blocks = [] }) (λ _. refl) (λ _ _. refl) (equation-exact z b)
+equations-exact z b = many-exact (readEquation z) (readEquations z) noRow (λ _. refl) (λ _ _. refl) (equation-exact z b)
 
 -- ---- relations
 
@@ -131,13 +142,15 @@ relation-exact z b =
     (λ _. refl)
     (λ e h. let f = T-&& (small (e .index)) (rowRight z (e .row)) .0 (h .1) in (judgeSmall-iff (e .index) .1 (f .0), ((h .0, f .1), refl)))
     (λ e h. (h .1 .0 .0, T-&& (small (e .index)) (rowRight z (e .row)) .1 (judgeSmall-iff (e .index) .0 (h .0), h .1 .0 .1)))
-    (λ e _. line-space (e .index) (pos (length (termsFrom (z .l) (e .row .blocks)))) _ ∙ ap (λ l. spaced (e .index) ++ l) (sym (append-nil _)))
+    (λ e _.
+    line-space (e .index) (pos (length (termsFrom (z .l) (e .row .blocks)))) _ ∙ ap (λ l. spaced (e .index) ++ l) (sym (append-nil _)))
 
 pub relations-exact : (z : Sizes) → SizeBounds z → (k : ℕ)
-    → Exact (readRelations z k) (λ es. (length es ≡ k) × All (RelationGood z) es) (λ es. flatten (map (λ e. line (relationLine (z .l) e)) es))
+    → Exact (readRelations z k) (λ es. (length es ≡ k) × All (RelationGood z) es)
+    (λ es. flatten (map (λ e. line (relationLine (z .l) e)) es))
 unfolding readRelations
 relations-exact z b =
-    many-exact (readRelation z) (readRelations z) (record { index = pos 0; row = record { blocks = [] } }) (λ _. refl) (λ _ _. refl) (relation-exact z b)
+    many-exact (readRelation z) (readRelations z) (record { index = pos 0; row = noRow }) (λ _. refl) (λ _ _. refl) (relation-exact z b)
 
 -- ---- the sizes
 

@@ -121,7 +121,8 @@ spaced a = decimal a ++ (always space a ∷ [])
 pub parted-space : (last : ℕ) (a : ℤ) (l : List ℤ) → 1 ≤ length l → parted last (a ∷ l) ≡ spaced a ++ parted last l
 unfolding parted always
 parted-space last a l h =
-    ap (λ b. decimal a ++ (b ∷ parted last l)) (parting-some last (length l) h) ∙ sym (append-assoc (decimal a) (space ∷ []) (parted last l))
+    ap (λ b. decimal a ++ (b ∷ parted last l)) (parting-some last (length l) h)
+    ∙ sym (append-assoc (decimal a) (space ∷ []) (parted last l))
 
 -- Numbers, parted, in front of others.
 pub parted-append : (last : ℕ) (l more : List ℤ) → parted last (l ++ more) ≡ parted (parting last (length more)) l ++ parted last more
@@ -181,7 +182,8 @@ pub coefficients-exact : (last k : ℕ) → T (isSeparator last) → Exact (read
 unfolding Sound always
 coefficients-exact last k h =
     same-exact (readCoefficients last k) (λ p. (length p ≡ k) × Sound p) (parted last)
-    (chain-exact (λ _ k. field (coefficientJudge k) (always (parting last k))) (λ _. readCoefficients last) (λ s _. s) (λ a. a) (λ a. a) (pos 0)
+    (chain-exact (λ _ k. field (coefficientJudge k) (always (parting last k))) (λ _. readCoefficients last) (λ s _. s)
+    (λ a. a) (λ a. a) (pos 0)
     (λ _. readCoefficients-none last) (λ _. readCoefficients-some last)
     (λ _ k. field-exact (coefficientJudge k) (always (parting last k)) (coefficient-digits k) (λ _. parting-separator last k h))
     (λ _ _ _ _. refl) (λ _. refl) k tt)
@@ -221,7 +223,8 @@ term-exact z s₀ c₀ last b h =
     (λ s e hs f. ap (λ x. x .block) (sym (f .1 .1 .1))) λ s hs.
     then-exact (λ e. pos (e .column)) (field-exact (judgeColumn z s₀ c₀ s) (always space) (column-digits s) always-space)
     (λ c e hc f. positive-pos (judgeColumn-iff z s₀ c₀ s c .0 hc .0) ∙ ap (λ x. pos (x .column)) (sym (f .1 .1))) λ c hc.
-    then-exact (λ e. pos (length (e .polynomial))) (between-exact (pos 1) (pos coefficientCount) (always space) (leZ-yes tt) (leZ-yes tt) always-space)
+    then-exact (λ e. pos (length (e .polynomial)))
+    (between-exact (pos 1) (pos coefficientCount) (always space) (leZ-yes tt) (leZ-yes tt) always-space)
     (λ k e hk f. positive-pos (between-iff (pos 1) (pos coefficientCount) k .0 hk .0) ∙ ap pos (sym (f .0 .0))) λ k hk.
     then-exact (λ e. e .polynomial) (coefficients-exact last (natAbs k) h)
     (λ p e _ f. ap (λ x. x .polynomial) (sym f)) λ p hp.
@@ -246,7 +249,9 @@ term-exact z s₀ c₀ last b h =
         × (((length (e .polynomial) ≡ length (e .polynomial)) × Sound (e .polynomial)) × (e ≡ e))))
 
     count : (e : Term) → Whole e → (1 ≤ length (e .polynomial)) × (length (e .polynomial) ≤ coefficientCount)
-    count e f = let g = between-iff (pos 1) (pos coefficientCount) (pos (length (e .polynomial))) .0 (f .1 .1 .0) in (pos-≤ℤ .0 (g .0), pos-≤ℤ .0 (g .1))
+    count e f =
+        let g = between-iff (pos 1) (pos coefficientCount) (pos (length (e .polynomial))) .0 (f .1 .1 .0) in
+        (pos-≤ℤ .0 (g .0), pos-≤ℤ .0 (g .1))
 
     good : (e : Term) → TermRight z s₀ c₀ e → Whole e
     good e r = (
@@ -303,5 +308,6 @@ terms-exact z k s₀ c₀ b =
     (chain-exact {S = ℤ × ℕ} (λ s k. readTerm z (s .0) (s .1) (parting newline k)) (λ s k. readTerms z k (s .0) (s .1))
     (λ s e. (e .block, e .column)) (λ e. e) (λ e. e) (record { block = pos 0; column = 0; polynomial = [] })
     (λ s. readTerms-none z (s .0) (s .1)) (λ s. readTerms-some z (s .0) (s .1))
-    (λ s k. term-exact z (s .0) (s .1) (parting newline k) b (parting-separator newline k newline-separator)) (λ _ _ _ _. refl) (λ _. refl) k (s₀, c₀))
+    (λ s k. term-exact z (s .0) (s .1) (parting newline k) b (parting-separator newline k newline-separator)) (λ _ _ _ _. refl)
+    (λ _. refl) k (s₀, c₀))
     (λ _. refl) (λ _ h. h) (λ _ h. h) (λ es _. sym (chainBytes-terms es))
