@@ -10,3 +10,4 @@ pub mod OrderedTerms
 pub mod WrittenSections
 pub mod WrittenOrder
 pub mod ReadBack
+pub mod CallsReadBack

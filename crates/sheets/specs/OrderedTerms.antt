@@ -19,7 +19,7 @@ use Rattle.rules.specs.Rows.{Block, All, every, zeroBlock}
 use Rattle.rules.specs.Stores.{Sizes, span}
 use Rattle.rules.specs.Layout.{SizeBounds}
 use Rattle.rules.specs.Sheets.{Term, trim, blockTerms, termsFrom}
-use Rattle.sheets.specs.WrittenNumbers.{every-cons}
+use Rattle.sheets.specs.WrittenNumbers.{T-or-left, every-cons}
 use Rattle.sheets.specs.WrittenTerms.{TermRight, Ordered, judgeBlock-iff, judgeColumn-iff}
 use Rattle.sheets.specs.Trimmed.{zero-or-not, length-trim, trim-some, Sound-trim}
 use Rattle.sheets.specs.RowBlocks.{StorePolynomial, BlockRight, RowRight}
@@ -47,15 +47,8 @@ or-imply true t u f h = tt
 or-imply false t u f h = f h
 
 or-right : (s t : Bool) → T t → T (s || t)
-or-right s t h = or-imply s true t (λ _. h) (go s)
-  where
-    go : (s : Bool) → T (s || true)
-    go true = tt
-    go false = tt
-
-or-left : (s t : Bool) → T s → T (s || t)
-or-left true t h = tt
-or-left false t h = absurd h
+or-right true t h = tt
+or-right false t h = h
 
 After-next : (s₀ : ℤ) (c₀ : ℕ) (s : ℤ) (c : ℕ) → After s₀ c₀ s c → After s₀ c₀ s (suc c)
 unfolding After
@@ -126,7 +119,7 @@ blocks-ordered z (b ∷ bs) (suc n) s s₀ c₀ e high a h y =
     low = sym (pred-suc (z .t +ℤ pos n)) ∙ ap predℤ (sym (+ℤ-sucℤ (z .t) (pos n)) ∙ e) ∙ pred-suc s
 
     after : (s₁ : ℤ) (c₁ : ℕ) → s ≤ℤ s₁ → After s₁ c₁ (predℤ s) 1
-    after s₁ c₁ i = (<ℤ-to-≤ℤ (pred-below i), or-left (ltZ (predℤ s) s₁) _ (pred-below i .lt))
+    after s₁ c₁ i = (<ℤ-to-≤ℤ (pred-below i), T-or-left (ltZ (predℤ s) s₁) _ (pred-below i .lt))
 
 pub row-ordered : (z : Sizes) (bs : List Block) → SizeBounds z → RowRight z bs → Ordered z (z .l) 0 (termsFrom (z .l) bs)
 unfolding span After

@@ -230,7 +230,7 @@ rightDigits-iff sign ds = (
   λ h. simp T-&& (le→leb _ _ (h .0), ((h .1, le→leb _ _ (h .2)), h .3)),
 )
 
-T-or-left : (s t : Bool) → T s → T (s || t)
+pub T-or-left : (s t : Bool) → T s → T (s || t)
 T-or-left true t h = tt
 T-or-left false t h = absurd h
 

@@ -72,7 +72,7 @@ Fresh-more c taken (d ∷ l) = (
       (T-not-or (eqb d c) (contains d taken) .1 (not-eqb-comm c d (e .0), h .1 .0), Fresh-more c taken l .1 (e .1, h .1 .1)),
 )
 
-different-cons : (m c : ℕ) (l : List ℕ)
+pub different-cons : (m c : ℕ) (l : List ℕ)
     → T (differentColumns m (c ∷ l)) ↔ ((1 ≤ c) × (c ≤ m) × T (not (contains c l)) × T (differentColumns m l))
 unfolding differentColumns
 different-cons m c l = (
@@ -136,7 +136,7 @@ columns-exact m k b =
         let f = judgeOrder-iff m taken c .0 e in
         range-digits (pos 1) (pos m) c (leZ-yes tt) (≤ℤ-trans (pos-≤ℤ .1 b) (leZ-yes tt)) (f .0) (f .1)
 
-T-or : (s t : Bool) → T (s || t) ↔ (T s ⊎ T t)
+pub T-or : (s t : Bool) → T (s || t) ↔ (T s ⊎ T t)
 T-or true t = (λ h. inl tt, λ h. tt)
 T-or false t = (λ h. inr h, λ h. ⊎-elim (λ i. absurd i) (λ i. i) h)
 
