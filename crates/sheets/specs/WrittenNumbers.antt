@@ -5,13 +5,14 @@
 --   decimal-numberOf                      a token that is a number is what is written of that number
 --   word-decimal, afterWord-decimal       a number that is written in front of a separator is the first token
 --   word-afterWord                        a token and what follows it are all bytes
+--   word-inWord, afterWord-separator      a token holds no separator, and what follows it begins with one
 use Prim.Native.Nat.{ℕ, zero, suc, _+_, _*_, _-_, _/_, _%_, _^_, _≤_, _<_}
 use native.Mathlib.Nat.{not-suc-le-zero, suc-ne-zero, pow-suc, div-lt-iff-lt-mul}
 use native.Mathlib.Omega.{arith}
-use mathlib.Core.Path.{_≡_, refl, sym, _∙_, ap, ap₂}
+use mathlib.Core.Path.{_≡_, refl, sym, _∙_, ap, ap₂, subst}
 use mathlib.Core.Logic.{_↔_, _⊎_, inl, inr}
 use mathlib.Core.Bool.{Bool, true, false, _&&_, _||_, not, cond}
-use mathlib.Core.List.{List, [], _∷_, _++_, append-nil}
+use mathlib.Core.List.{List, [], _∷_, _++_, append-nil, nil≢cons, head-eq-of-cons-eq}
 use lib.Dec.{T, lit<, leb, ltb, eqb, leb→le, le→leb, ltb→lt, lt→ltb, nltb→le, eqb→eq, eqb-refl, not-T, T-not}
 use lib.ListN.{length}
 use lib.IntN.{ℤ, pos, negsuc, negℤ, natAbs}
@@ -369,7 +370,7 @@ decimal-numberOf w h =
 -- ---- words
 
 -- A byte within a token.
-inWord : ℕ → Bool
+unfoldable pub inWord : ℕ → Bool
 inWord b = not (isSeparator b)
 
 separator-low : (b : ℕ) → T (isSeparator b) → b ≤ space
@@ -435,3 +436,23 @@ word-afterWord (b ∷ bytes) = go (isSeparator b) (word-afterWord bytes)
     go : (t : Bool) → word bytes ++ afterWord bytes ≡ bytes → cond t [] (b ∷ word bytes) ++ cond t (b ∷ bytes) (afterWord bytes) ≡ b ∷ bytes
     go true e = refl
     go false e = ap (λ l. b ∷ l) e
+
+-- A token holds no separator, and what follows it begins with one.
+pub word-inWord : (bytes : List ℕ) → T (every inWord (word bytes))
+unfolding word every inWord
+word-inWord [] = tt
+word-inWord (b ∷ bytes) = go (isSeparator b) (λ h. h) (word-inWord bytes)
+  where
+    go : (t : Bool) → (T (not t) → T (inWord b)) → T (every inWord (word bytes)) → T (every inWord (cond t [] (b ∷ word bytes)))
+    go true f h = tt
+    go false f h = every-cons inWord b (word bytes) .1 (f tt, h)
+
+pub afterWord-separator : (bytes : List ℕ) (b : ℕ) (rest : List ℕ) → afterWord bytes ≡ b ∷ rest → T (isSeparator b)
+unfolding afterWord
+afterWord-separator [] b rest e = absurd (nil≢cons e)
+afterWord-separator (c ∷ bytes) b rest e = go (isSeparator c) (λ h. h) (afterWord-separator bytes b rest) e
+  where
+    go : (t : Bool) → (T t → T (isSeparator c)) → (afterWord bytes ≡ b ∷ rest → T (isSeparator b)) → cond t (c ∷ bytes) (afterWord bytes) ≡ b ∷ rest
+        → T (isSeparator b)
+    go true f h e = subst (λ x. T (isSeparator x)) (head-eq-of-cons-eq e) (f tt)
+    go false f h e = h e
