@@ -9,12 +9,13 @@
 --   relation-at, index-at, row-after    the place of a relation in a store, of its n0 and of its row
 --   unused-part             the places past the count, as a part of the store
 --   and-second, and-first, and-joined   what `s && t` is where s passed, where s failed, and where the two cases meet
+--   first-failed, second-failed, both-passed   what `s && t && u` is where s failed, where t failed, and where both passed
 --   difference-fits         l - t is in the range of an i64 where -64 ≤ t ≤ l ≤ 64
 --   difference-nonneg       l - t is not negative where t ≤ l
 use Prim.Native.Nat.{ℕ, _+_, _*_, _-_, _≤_, _<_}
 use native.Mathlib.Nat.{add-zero}
 use native.Mathlib.Omega.{arith}
-use mathlib.Core.Path.{_≡_, refl, sym, _∙_, ap, subst}
+use mathlib.Core.Path.{_≡_, refl, sym, _∙_, ap, ap₂, subst}
 use mathlib.Core.Logic.{_⊎_, ⊎-elim}
 use mathlib.Core.Bool.{Bool, true, false, _&&_}
 use mathlib.Core.List.{List, [], _∷_}
@@ -97,6 +98,17 @@ and-joined r s t taken left came =
 
 pub true-T : (t : Bool) → t ≡ true → T t
 true-T t e = subst T (sym e) tt
+
+-- ---- three tests in order
+
+pub first-failed : (s t u : Bool) → s ≡ false → false ≡ (s && t && u)
+first-failed s t u e = sym (ap (λ b. b && t && u) e)
+
+pub second-failed : (s t u : Bool) → s ≡ true → t ≡ false → false ≡ (s && t && u)
+second-failed s t u e f = sym (ap₂ (λ a b. a && b && u) e f)
+
+pub both-passed : (s t u : Bool) → s ≡ true → t ≡ true → u ≡ (s && t && u)
+both-passed s t u e f = sym (ap₂ (λ a b. a && b && u) e f)
 
 -- ---- D = l - t
 

@@ -17,11 +17,11 @@ pub struct Sizes {
     pub t: i64,
 }
 
-// "m unknowns (1 to 4)"
-fn unknowns_right(m: usize) -> bool
-    ensures { λ r. ⌜ r ≡ (leb 1 m && leb m 4) ⌝ }
+// From 1 to a largest number.
+pub fn counted(k: usize, most: usize) -> bool
+    ensures { λ r. ⌜ r ≡ (leb 1 k && leb k most) ⌝ }
 {
-    1 <= m && m <= 4
+    1 <= k && k <= most
 }
 
 // "-64 ≤ t ≤ l ≤ 64. D = l - t is 0 to 4."
@@ -31,10 +31,11 @@ fn blocks_right(l: i64, t: i64) -> bool
     -64 <= t && t <= l && l <= 64 && l - t <= 4
 }
 
+// "m unknowns (1 to 4)", and the blocks
 pub fn sizes_right(sizes: Sizes) -> bool
     ensures { λ r. ⌜ r ≡ Stores.sizesRight (sizesOf sizes) ⌝ }
 {
-    unknowns_right(sizes.m) && blocks_right(sizes.l, sizes.t)
+    counted(sizes.m, 4) && blocks_right(sizes.l, sizes.t)
 }
 
 // D = l - t.

@@ -43,7 +43,8 @@ module _ (z : Sizes) (count : ℕ) (rows relations : List ℤ) where
   lengths-passed e f = sym (ap (λ t. cond t (cond numbers 0 5) 1) f) ∙ sizes-passed e
 
 -- what the code knows after each test
-tested : (c : tie.Joined1) → c .if1 .if2 ≡ (sizesRight (sizesOf (c .before .before .args .sizes)) && countRight (c .before .before .args .count))
+tested : (c : tie.Joined1)
+    → c .if1 .if2 ≡ (sizesRight (sizesOf (c .before .before .args .sizes)) && countRight (c .before .before .args .count))
 unfolding countRight
 tested c =
     let count = c .before .before .args .count in

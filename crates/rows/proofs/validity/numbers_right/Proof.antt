@@ -1,24 +1,14 @@
 -- `rows::validity::numbers_right` meets its contract. The rows are tested first, then the relations, then the places past them.
 -- Assumes nothing.
-use mathlib.Core.Path.{_≡_, sym, _∙_, ap, ap₂}
-use mathlib.Core.Bool.{Bool, true, false, _&&_}
+use mathlib.Core.Path.{sym, _∙_, ap}
 use borrow.Author.Needs.{needs}
 use borrow.Author.Tests.{not-true, not-false}
 use denote.Ref.{now}
 use Rattle.algebra.specs.Polynomials.{isZero}
 use Rattle.rules.specs.Stores.{numbersRight}
-use Rattle.rows.specs.Validity.{sizesOf, unused-part}
+use Rattle.rows.specs.Validity.{sizesOf, unused-part, first-failed, second-failed, both-passed}
 use Rattle.rows.proofs.validity.numbers_right.Statement.{statement}
 use Rattle.rows.proofs.validity.numbers_right.Tie as tie
-
-first-failed : (s t u : Bool) → s ≡ false → false ≡ (s && t && u)
-first-failed s t u e = sym (ap (λ b. b && t && u) e)
-
-second-failed : (s t u : Bool) → s ≡ true → t ≡ false → false ≡ (s && t && u)
-second-failed s t u e f = sym (ap₂ (λ a b. a && b && u) e f)
-
-both-passed : (s t u : Bool) → s ≡ true → t ≡ true → u ≡ (s && t && u)
-both-passed s t u e f = sym (ap₂ (λ a b. a && b && u) e f)
 
 rows-right-requires : tie.Need-rows-right-requires
 rows-right-requires c κs = search needs

@@ -17,7 +17,8 @@ use Rattle.rows.proofs.validity.relation_right.Tie as tie
 
 -- the test of n0
 tested : (c : tie.After-within-bound)
-    → c .within-bound .result ≡ small (relationOf (take 321 (drop (c .before .before .args .at) (now (c .before .before .args .store)))) .index)
+    → let args = c .before .before .args in
+    c .within-bound .result ≡ small (relationOf (take 321 (drop (args .at) (now (args .store)))) .index)
 tested c =
     let args = c .before .before .args in
     let read : SFits w64 (getD (now (args .store)) (args .at) (pos 0)) = sfits-of (c .before .within-bound-arg .given) in
@@ -50,7 +51,8 @@ unfolding relationTest rowTest
 returns-2 c =
     let start = c .before .before .before in
     let args = start .before .before .args in
-    c .row-right .ensures ∙ ap (rowTest (args .m) (args .span)) (ap rowOf (c .before .load .ensures) ∙ sym (row-after (now (args .store)) (args .at)))
+    let row = ap rowOf (c .before .load .ensures) ∙ sym (row-after (now (args .store)) (args .at)) in
+    c .row-right .ensures ∙ ap (rowTest (args .m) (args .span)) row
     ∙ and-second _ _ (sym (tested start) ∙ not-false _ (c .before .before .if1 .left))
 
 pub relation-right-spec : {M : Type 1} → statement M

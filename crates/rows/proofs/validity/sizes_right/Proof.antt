@@ -11,8 +11,8 @@ use Rattle.rows.specs.Validity.{sizesOf, and-second, and-first}
 use Rattle.rows.proofs.validity.sizes_right.Statement.{statement}
 use Rattle.rows.proofs.validity.sizes_right.Tie as tie
 
-unknowns-right-requires : tie.Need-unknowns-right-requires
-unknowns-right-requires c κs = search needs
+counted-requires : tie.Need-counted-requires
+counted-requires c κs = search needs
 
 blocks-right-requires : tie.Need-blocks-right-requires
 blocks-right-requires c κs = search needs
@@ -31,14 +31,14 @@ module _ (c : tie.After-struct-told2) where
 returns : tie.Need-returns
 unfolding sizesRight sizesOf
 returns c =
-    let unknowns = sym (c .before .before .before .before .unknowns-right .ensures) ∙ c .before .before .before .if1 .taken in
+    let unknowns = sym (c .before .before .before .before .counted .ensures) ∙ c .before .before .before .if1 .taken in
     rw (back-l (c .before), back-t (c .before)) at (c .blocks-right .ensures) ∙ and-second _ _ unknowns
 
 returns-2 : tie.Need-returns-2
 unfolding sizesRight sizesOf
 returns-2 c =
-    let unknowns = c .before .unknowns-right .ensures in
+    let unknowns = c .before .counted .ensures in
     unknowns ∙ and-first _ _ (sym unknowns ∙ c .if1 .left)
 
 pub sizes-right-spec : {M : Type 1} → statement M
-sizes-right-spec = tie.close (tie.spec unknowns-right-requires blocks-right-requires returns returns-2)
+sizes-right-spec = tie.close (tie.spec counted-requires blocks-right-requires returns returns-2)
