@@ -14,7 +14,7 @@ use lib.Dec.{T, ltb, ltb→lt}
 use native.Mathlib.Nat.{eq-zero-or-pos, mul-pos, ne-of-gt, suc-ne-zero}
 use native.Mathlib.Omega.{arith}
 use lib.IntN.{ℤ, pos, negsuc, negℤ, natAbs, sucℤ, predℤ, _+ℤ_, _*ℤ_, _-ℤ_, +ℤ-assoc, +ℤ-comm, +ℤ-idl, +ℤ-idr, +ℤ-invr, +ℤ-invl, negℤ-+ℤ, negℤ-negℤ}
-use lib.IntN.{sucℤ-+ℤ, predℤ-+ℤ, +ℤ-negℤ-cancel, subℕ, *ℤ-comm, sucℤ-*ℤ, predℤ-*ℤ, zero-*ℤ, *ℤ-zero, *ℤ-one, one, ℤ-ind, +ℤ-one, -ℤ-one}
+use lib.IntN.{sucℤ-+ℤ, predℤ-+ℤ, +ℤ-negℤ-cancel, subℕ, *ℤ-comm, sucℤ-*ℤ, predℤ-*ℤ, zero-*ℤ, *ℤ-zero, *ℤ-one, one}
 
 pub +ℤ-left-comm : (a b c : ℤ) → a +ℤ (b +ℤ c) ≡ b +ℤ (a +ℤ c)
 +ℤ-left-comm a b c = sym (+ℤ-assoc a b c) ∙ ap (λ x. x +ℤ c) (+ℤ-comm a b) ∙ +ℤ-assoc b a c
