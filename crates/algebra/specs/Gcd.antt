@@ -24,7 +24,7 @@ use mathlib.Core.Logic.{_≢_, _↔_, _⊎_, inl, inr}
 use mathlib.Core.Bool.{not}
 use mathlib.Core.List.{List, [], _∷_, _++_, map}
 use Prim.Native.Nat.{ℕ, zero, suc, _*_, _%_, _/_, _≤_, _<_, _∣_}
-use native.Mathlib.Nat.{not-suc-le-zero, le-refl, le-antisymm, lt-irrefl, ne-of-gt, pos-of-ne-zero, zero-lt-suc, eq-zero-or-pos}
+use native.Mathlib.Nat.{not-suc-le-zero, le-refl, le-antisymm, lt-irrefl, pos-of-ne-zero, zero-lt-suc, eq-zero-or-pos}
 use native.Mathlib.Nat.{mul-zero, mul-one, eq-of-mul-eq-mul-left, mod-lt, zero-div, mul-div-cancel', dvd-refl, dvd-zero, dvd-trans}
 use native.Mathlib.Nat.{dvd-mul-right, dvd-mod-iff, dvd-antisymm, mul-dvd-mul-left, dvd-of-mul-dvd-mul-left, le-of-dvd, eq-zero-of-zero-dvd}
 use native.Mathlib.Nat.{pos-of-dvd-of-pos}
@@ -33,7 +33,7 @@ use lib.Dec.{T, T-not}
 use lib.IntN.{ℤ, pos, negsuc, natAbs, _*ℤ_, *ℤ-comm}
 use lib.ListN.{length, getD, length-map, List·getD-map}
 use lib.Signed.{quotZ}
-use Rattle.algebra.specs.Integers.{natAbs-zero, natAbs-*ℤ}
+use Rattle.algebra.specs.Integers.{natAbs-zero, natAbs-*ℤ, pos-nonzero}
 use Rattle.algebra.specs.Division.{DividesZ, quotZ-le, quotZ-exact, quotZ-dividesZ}
 use Rattle.algebra.specs.Polynomials.{isZero, scale, eval, eval-scale, isZero-cons, isZero-scale, scale-one}
 
@@ -252,9 +252,6 @@ content-append [] q = sym (zero-gcd (content q))
 content-append (a ∷ p) q = ap (gcd (natAbs a)) (content-append p q) ∙ sym (gcd-assoc (natAbs a) (content p) (content q))
 
 -- ---- division by a common divisor
-
-pos-nonzero : {d : ℕ} → 0 < d → pos d ≢ pos 0
-pos-nonzero h e = ne-of-gt h (ap natAbs e)
 
 pub length-divideBy : (d : ℕ) (p : List ℤ) → length (divideBy d p) ≡ length p
 unfolding divideBy

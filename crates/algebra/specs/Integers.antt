@@ -107,6 +107,9 @@ pub natAbs-zero : {a : ℤ} → natAbs a ≡ 0 → a ≡ pos 0
 natAbs-zero {a = pos n} h = ap pos h
 natAbs-zero {a = negsuc n} h = absurd (suc-ne-zero n h)
 
+pub pos-nonzero : {n : ℕ} → 0 < n → pos n ≢ pos 0
+pos-nonzero h e = ne-of-gt h (ap natAbs e)
+
 pub no-zero-divisors : (a b : ℤ) → a *ℤ b ≡ pos 0 → (a ≡ pos 0) ⊎ (b ≡ pos 0)
 no-zero-divisors a b h = cases (eq-zero-or-pos (natAbs a)) (eq-zero-or-pos (natAbs b))
   where
