@@ -16,7 +16,8 @@ use mathlib.Core.Logic.{_↔_, ite, ∥∥₁-elim, Or·elim, by-cases}
 use mathlib.Core.Bool.{Bool, true, false, cond, not}
 use mathlib.Core.HLevel.{×-prop}
 use mathlib.Core.List.{List, [], _∷_, map, _++_, reverse, filter}
-use mathlib.Core.List.{List·Mem, mem-cast, mem-filter, mem-append, mem-append-left, mem-append-right, mem-reverse, mem-map-of-mem, exists-of-mem-map}
+use mathlib.Core.List.{List·Mem, mem-cast, mem-filter, mem-append, mem-append-left, mem-append-right}
+use mathlib.Core.List.{mem-reverse, mem-map-of-mem, exists-of-mem-map}
 use mathlib.Core.List.{Pairwise, Pairwise·nil, Pairwise·cons, Pairwise·filter, Pairwise·imp-of-mem}
 use mathlib.Core.List.{pairwise-append, pairwise-map, pairwise-reverse}
 use lib.Dec.{T, ltb→lt, lt→ltb, eqb, leb, ltb, leb→le, nleb→lt, eqb→eq}

@@ -3,6 +3,7 @@
 -- Main statements
 --   ≤ℤ-witness, ≤ℤ-intro                   a ≤ b exactly if a + k = b for a natural number k
 --   ≤ℤ-trans, ≤ℤ-antisym, ≤ℤ-total, ..     both orders are transitive, and ≤ is a decidable total order
+--   dec-T, dec-≤ℤ, dec-<ℤ, <ℤ-prop         a test passes or not, so both orders are decided; two proofs of a < b are equal
 --   ≤ℤ-or->, ℤ-trichotomy                  a ≤ b or b < a; a < b or a = b or b < a
 --   <ℤ-sucℤ, <ℤ-+1                         a < b exactly if a + 1 ≤ b
 --   +ℤ-≤ℤ-right, ≤ℤ-cancel-right, ..       a summand is added to both sides, and cancelled; inequalities are added

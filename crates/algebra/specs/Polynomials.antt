@@ -14,7 +14,9 @@
 -- Main statements
 --   eval-add, eval-scale, eval-mul, ..   the value of each operation's result is the operation on the values
 --   eval-take        high coefficients that are zero can be cut off without a change of value
---   isZero-iff       isZero tests that every coefficient is zero; isZero-negate, isZero-shiftBy, .. carry it through the operations
+--   isZeroℤ-iff, isZero-cons, isZero-iff   isZeroℤ tests for the integer 0, isZero that every coefficient is zero;
+--                    isZero-negate, isZero-shiftBy, .. carry the test through the operations
+--   T-&&, same-test  a conjunction of tests passes if both do; tests that pass alike are equal
 --   length-add, length-mul, ..   how many coefficients each operation's result has
 --   add-comm, add-assoc, scale-add, ..   laws of sums and multiples as equations of lists
 --   mirror-mirror, negate-negate   mirror and negate undo themselves

@@ -2,13 +2,15 @@
 --
 -- Main definitions
 --   candidates p   0 and the divisors, of either sign, of the lowest nonzero coefficient, ascending
+--   isConstant p   no coefficient past power 0 is nonzero
 --   roots p        the integer roots of a nonzero polynomial, ascending, each once
 --
 -- Main statements
 --   roots-sound       every member of roots p is a root
 --   roots-complete    every integer root of a nonzero polynomial is a member
 --   roots-ascending   the members ascend strictly
---   roots-distinct    so each stands once
+--   roots-distinct    so each stands once; ascending-distinct: in any ascending list
+--   place             a member of a list of integers has a place in it
 -- (`List·Mem` and `Pairwise` are the kit's membership and "each member is related to every later one".)
 use Prim.Native.Nat.{ℕ, zero, suc, _<_}
 use mathlib.Core.Path.{_≡_, refl, ap}
