@@ -7,8 +7,8 @@
 --   degree-quotient         and its degree is one less
 --   roots-at-most-degree    a nonzero polynomial has at most as many different integer roots as its degree
 --   root-divides-lowest     a nonzero integer root divides the lowest nonzero coefficient
+--   lowest-positive         which is indeed not 0 for a nonzero polynomial
 --   nonzero-past-lowest     a nonzero polynomial is nonzero at every integer larger in size than that coefficient
---   lowest-positive         that coefficient is not zero
 --   zero-everywhere         a polynomial is zero exactly when it vanishes at every integer
 use mathlib.Core.Path.{_≡_, refl, sym, _∙_, ap, ap₂, subst}
 use mathlib.Core.Logic.{_≢_, _↔_, ⊎-elim, by-cases}
