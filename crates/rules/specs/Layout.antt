@@ -14,10 +14,11 @@
 --   relationOf-relationNumbers, relationNumbers-relationOf, relationsOf-relationStoreOf, relationStoreOf-relationsOf
 --                                 the same for relations, with the unused places
 --   stores-valid, valid-stores    stores without a refusal hold a valid system, and each valid system is held by such stores
---   coefficient-at, polynomial-at the place of each coefficient, and of each polynomial, in a row store
+--   coefficient-at, polynomial-at
+--                                 the place of each coefficient, and of each polynomial, in a row store
 --   polynomialPart-at             the part that a caller gets back is the polynomial of the row, block and column
 use Prim.Native.Nat.{ℕ, zero, suc, pred, _+_, _*_, _-_, _≤_, _<_, suc-le-suc}
-use native.Mathlib.Nat.{not-suc-le-zero, le-of-suc-le-suc, le-of-eq, suc-inj, suc-ne-zero, suc-add, zero-mul, add-assoc}
+use native.Mathlib.Nat.{not-suc-le-zero, le-of-suc-le-suc, le-of-eq, suc-inj, suc-ne-zero, zero-mul, add-assoc}
 use native.Mathlib.Omega.{arith}
 use mathlib.Core.Path.{_≡_, refl, sym, _∙_, ap, ap₂}
 use mathlib.Core.Logic.{_↔_}
@@ -32,7 +33,8 @@ use Rattle.algebra.specs.Order.{≤ℤ-trans, ≤ℤ-difference, negℤ-≤ℤ,
 use Rattle.algebra.specs.Polynomials.{T-&&, isZero, isZero-cons, isZero-replicate}
 use Rattle.rules.specs.Limits.{coefficientCount, columnCount, blockCount, rowLength, relationLength, mostRelations, blockBound}
 use Rattle.rules.specs.Rows.{Block, Row, Relation, noRow, All, every, coefficientsOf}
-use Rattle.rules.specs.Lists.{all-mono, map-keeps, map-back, flatten-flatten, length-flatten, suc-width, getD-map, cond-passed}
+use Rattle.rules.specs.Lists.{all-mono, map-keeps, map-back, flatten-flatten, length-flatten, suc-width, drop-take, getD-map}
+use Rattle.rules.specs.Lists.{cond-passed}
 use Rattle.rules.specs.Stores.{Sizes, parts, rowOf, rowsOf, relationOf, relationsOf, relationNumbers, rowStoreOf, relationStoreOf}
 use Rattle.rules.specs.Stores.{rowNeed, relationNeed, sizesRight, countRight, lengthsRight, rowRight, relationRight, numbersRight}
 use Rattle.rules.specs.Stores.{checkStores, Shaped, StoreRow, Valid}
@@ -423,14 +425,13 @@ valid-stores-exact z rows relations v =
 -- ---- one polynomial
 
 -- A part of a part is a part.
-take-drop-take : {A : Type 0} (j k n : ℕ) (l : List A) → j + k ≤ n → take k (drop j (take n l)) ≡ take k (drop j l)
-take-drop-take zero k n l h = take-take k n l (omega arith)
-take-drop-take (suc j) k zero l h = absurd (omega (arith, suc-add j k))
-take-drop-take (suc j) k (suc n) [] h = refl
-take-drop-take (suc j) k (suc n) (x ∷ l) h = take-drop-take j k n l (omega arith)
-
 part-of-part : {A : Type 0} (i j k n : ℕ) (l : List A) → j + k ≤ n → take k (drop j (take n (drop i l))) ≡ take k (drop (i + j) l)
-part-of-part i j k n l h = take-drop-take j k n (drop i l) h ∙ ap (take k) (drop-drop j i l)
+part-of-part i j k n l h =
+    ap (λ m. take k (drop j (take m (drop i l)))) whole ∙ ap (take k) (drop-take j (n - j) (drop i l))
+    ∙ take-take k (n - j) (drop j (drop i l)) (omega arith) ∙ ap (take k) (drop-drop j i l)
+  where
+    whole : n ≡ j + (n - j)
+    whole = omega arith
 
 pub row-at : (m : ℕ) (l : List ℤ) (i : ℕ) → i < m → getD (rowsOf m l) i noRow ≡ rowOf (take rowLength (drop (i * rowLength) l))
 unfolding rowsOf

@@ -14,7 +14,9 @@
 --   swap-same, getD-swap-left, getD-swap-right, getD-swap-other, all-swap   the members after an exchange
 --   getD-without-before, getD-without-after, all-without, all-of-without   the members kept
 --   every-all                              the test `every` says that all pass
+--   every-append, every-flatten            the test of ++ and of flatten
 --   cond-passed, cond-failed               what a test chooses
+--   drop-take, getD-default                a part of a part; a member, whatever stands for a missing one
 --   map-same, map-back, map-take, map-drop, map-reverse, getD-map   map: of what changes nothing or is undone, and of parts
 --   flatten-append, flatten-flatten, length-flatten, length-getD-flatten   lists joined
 --   length-zipWith                         the length of a list made from two
@@ -22,14 +24,15 @@
 use mathlib.Core.Path.{_≡_, refl, sym, _∙_, ap, ap₂, subst}
 use mathlib.Core.Logic.{_↔_, _≢_, ⊎-elim}
 use Prim.Native.Nat.{ℕ, zero, suc, _+_, _*_, _≤_, _<_, zero-le}
-use native.Mathlib.Nat.{not-suc-le-zero, le-of-suc-le-suc, suc-le-suc-iff, zero-lt-suc, suc-inj, suc-mul, zero-mul, add-comm}
+use native.Mathlib.Nat.{not-suc-le-zero, le-of-suc-le-suc, suc-le-suc-iff, zero-lt-suc, suc-inj}
+use native.Mathlib.Nat.{zero-add, suc-add, suc-mul, zero-mul, add-comm}
 use native.Mathlib.Omega.{arith}
-use mathlib.Core.Bool.{Bool, true, false, cond}
+use mathlib.Core.Bool.{Bool, true, false, cond, _&&_, and-assoc}
 use mathlib.Core.List.{List, [], _∷_, _++_, map, reverse, reverseAux, flatten, zipWith, List·Memᴰ, List·Memᴰ·head, List·Memᴰ·tail}
 use mathlib.Core.List.{List·Memᴰ·cases-cons, List·Memᴰ·not-nil, reverse-reverse, reverse-cons, map-append, append-assoc}
 use lib.Dec.{T}
-use lib.ListN.{length, take, drop, getD, set, length-set, length-append}
-use lib.Seq.{getD-set-same, getD-set-other, lt-length-set, set-set, set-getD}
+use lib.ListN.{length, take, drop, getD, set, length-set, length-append, length-map, List·getD-map}
+use lib.Seq.{getD-set-same, getD-set-other, lt-length-set, set-set, set-getD, take-nil}
 use native.Mathlib.Decide.{ℕ-discrete}
 use Rattle.algebra.specs.Polynomials.{T-&&}
 use Rattle.rules.specs.Rows.{All, every}
@@ -295,12 +298,35 @@ every-of-all t (x ∷ l) h = T-&& (t x) (every t l) .1 (h .0, every-of-all t l (
 pub every-all : {A : Type 0} (t : A → Bool) (l : List A) → T (every t l) ↔ All (λ x. T (t x)) l
 every-all t l = (all-of-every t l, every-of-all t l)
 
+pub every-append : {A : Type 0} (t : A → Bool) (l m : List A) → every t (l ++ m) ≡ (every t l && every t m)
+unfolding every
+every-append t [] m = refl
+every-append t (x ∷ l) m = ap (λ b. t x && b) (every-append t l m) ∙ sym (and-assoc (t x) (every t l) (every t m))
+
+pub every-flatten : {A : Type 0} (t : A → Bool) (ls : List (List A)) → every t (flatten ls) ≡ every (every t) ls
+unfolding every flatten
+every-flatten t [] = refl
+every-flatten t (l ∷ ls) = every-append t l (flatten ls) ∙ ap (λ b. every t l && b) (every-flatten t ls)
+
 pub cond-passed : {A : Type 0} (t : Bool) (x y : A) → T t → cond t x y ≡ x
 cond-passed true x y h = refl
 
 pub cond-failed : {A : Type 0} (t : Bool) (x y : A) → ¬ T t → cond t x y ≡ y
 cond-failed true x y h = absurd (h tt)
 cond-failed false x y h = refl
+
+-- ---- parts
+
+pub drop-take : {A : Type 0} (k i : ℕ) (l : List A) → drop k (take (k + i) l) ≡ take i (drop k l)
+drop-take zero i l = ap (λ j. take j l) (zero-add i)
+drop-take (suc k) i [] = ap (λ j. drop (suc k) (take j [])) (suc-add k i) ∙ sym (take-nil i)
+drop-take (suc k) i (x ∷ l) = ap (λ j. drop (suc k) (take j (x ∷ l))) (suc-add k i) ∙ drop-take k i l
+
+-- Inside a list it does not matter what stands for a missing member.
+pub getD-default : {A : Type 0} (l : List A) (i : ℕ) (d e : A) → i < length l → getD l i d ≡ getD l i e
+getD-default [] i d e h = absurd (not-suc-le-zero h)
+getD-default (x ∷ l) zero d e h = refl
+getD-default (x ∷ l) (suc i) d e h = getD-default l i d e (le-of-suc-le-suc h)
 
 -- ---- images
 
@@ -333,9 +359,7 @@ map-reverse f (x ∷ l) =
 
 -- A member of a mapped list, for any value that stands for a missing one.
 pub getD-map : {A B : Type 0} (f : A → B) (l : List A) (i : ℕ) (d : A) (e : B) → i < length l → getD (map f l) i e ≡ f (getD l i d)
-getD-map f [] i d e h = absurd (not-suc-le-zero h)
-getD-map f (x ∷ l) zero d e h = refl
-getD-map f (x ∷ l) (suc i) d e h = getD-map f l i d e (le-of-suc-le-suc h)
+getD-map f l i d e h = getD-default (map f l) i e (f d) (rw (length-map l f) h) ∙ List·getD-map f l i d
 
 -- ---- lists joined
 
