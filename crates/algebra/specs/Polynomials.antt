@@ -211,6 +211,11 @@ unfolding isZero
 isZero-replicate zero = tt
 isZero-replicate (suc n) = isZero-replicate n
 
+-- A list of zeros is known by its length.
+pub zero-list : (p : Polynomial) → T (isZero p) → p ≡ replicate (length p) (pos 0)
+zero-list [] h = refl
+zero-list (a ∷ p) h = ap₂ _∷_ (isZero-cons a p .0 h .0) (zero-list p (isZero-cons a p .0 h .1))
+
 -- A map of the coefficients that takes zero, and nothing else, to zero.
 isZero-map : (f : ℤ → ℤ) → ((a : ℤ) → isZeroℤ (f a) ≡ isZeroℤ a) → (p : Polynomial) → isZero (map f p) ≡ isZero p
 unfolding isZero

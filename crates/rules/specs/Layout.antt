@@ -30,7 +30,7 @@ use lib.Seq.{take-add, take-take, take-at, take-all, drop-at, drop-drop, getD-ta
 use lib.IntN.{ℤ, pos, negℤ, natAbs, _-ℤ_}
 use lib.Signed.{leZ-yes, _≤ℤ_}
 use Rattle.algebra.specs.Order.{≤ℤ-trans, ≤ℤ-difference, negℤ-≤ℤ, +ℤ-≤ℤ-left, natAbs-≤-iff}
-use Rattle.algebra.specs.Polynomials.{T-&&, isZero, isZero-cons, isZero-replicate}
+use Rattle.algebra.specs.Polynomials.{T-&&, isZero, isZero-replicate, zero-list}
 use Rattle.rules.specs.Limits.{coefficientCount, columnCount, blockCount, rowLength, relationLength, mostRelations, blockBound}
 use Rattle.rules.specs.Rows.{Block, Row, Relation, noRow, All, every, coefficientsOf}
 use Rattle.rules.specs.Lists.{all-mono, map-keeps, map-back, flatten-flatten, length-flatten, suc-width, drop-take, getD-map}
@@ -263,11 +263,6 @@ StoreRelation-relationsOf count l h = all-read relationLength relationOf relatio
   where
     shape : (p : List ℤ) → length p ≡ relationLength → StoreRow (rowOf (drop 1 p))
     shape p e = StoreRow-rowOf (drop 1 p) (rw length-drop (omega arith))
-
--- A list of zeros is known by its length.
-zero-list : (p : List ℤ) → T (isZero p) → p ≡ replicate (length p) (pos 0)
-zero-list [] h = refl
-zero-list (a ∷ p) h = ap₂ (λ b q. b ∷ q) (isZero-cons a p .0 h .0) (zero-list p (isZero-cons a p .0 h .1))
 
 pub relationStoreOf-relationsOf : (count : ℕ) (l : List ℤ) → count ≤ mostRelations → relationNeed ≤ length l
     → T (isZero (drop (count * relationLength) (take relationNeed l))) → relationStoreOf (relationsOf count l) ≡ take relationNeed l
