@@ -9,17 +9,26 @@
 --   digits-last   the last digit of a number is written after the digits of its tenth
 use mathlib.Core.Path.{_≡_, refl, sym, _∙_, ap, ap₂, subst}
 use mathlib.Core.Bool.{Bool, true, false, cond}
-use mathlib.Core.List.{List, [], _∷_, _++_, append-assoc, append-nil}
-use Prim.Native.Nat.{ℕ, zero, suc, _+_, _*_, _/_, _%_, _^_, _≤_, _<_, suc-le-suc}
-use native.Mathlib.Nat.{add-zero, add-suc, suc-add, not-suc-le-zero, div-lt-self, div-lt-iff-lt-mul, lt-trans, le-trans, pow-suc}
+use mathlib.Core.Logic.{_≢_}
+use mathlib.Core.List.{List, [], _∷_, _++_, map, flatten, append-assoc, append-nil}
+use Prim.Native.Nat.{ℕ, zero, suc, _+_, _-_, _*_, _/_, _%_, _^_, _≤_, _<_, suc-le-suc}
+use native.Mathlib.Nat.{add-zero, add-suc, suc-add, not-suc-le-zero, div-lt-self, div-lt-iff-lt-mul, lt-trans, le-trans, le-of-suc-le-suc, zero-add, pow-suc}
 use native.Mathlib.Numerals.{add-one}
 use native.Mathlib.Omega.{arith}
-use borrow.Author.Tests.{ltb-true, ltb-false, lt-ltb, le-ltb}
-use lib.Dec.{T, ltb, lit<}
-use lib.IntN.{ℤ, pos, negsuc, natAbs}
+use borrow.Author.Tests.{ltb-true, ltb-false, lt-ltb, le-ltb, ne-eqb}
+use lib.Dec.{T, ltb, eqb, eqb·suc-zero, lit<}
+use lib.IntN.{ℤ, pos, negsuc, natAbs, negℤ, predℤ, _+ℤ_, _-ℤ_, negℤ-sucℤ, +ℤ-predℤ}
 use lib.Signed.{ltZ}
-use lib.ListN.{length, drop, getD, length-append}
+use lib.ListN.{length, take, drop, getD, length-append, length-take, length-drop, drop-of-length-le}
 use lib.Seq.{sets, length-sets, drop-cons}
+use Rattle.algebra.specs.Integers.{natAbs-+ℤ, natAbs-negℤ}
+use Rattle.algebra.specs.Polynomials.{Polynomial, coeff, isZero, isZero-cons, isZero-coeff}
+use Rattle.rules.specs.Limits.{coefficientCount}
+use Rattle.rules.specs.Rows.{Block}
+use Rattle.rules.specs.Stores.{parts, rowOf}
+use Rattle.rules.specs.Layout.{parts-length, getD-parts}
+use Rattle.rules.specs.Sheets.{Term, trim, blockTerms, termsFrom, termNumbers}
+use Rattle.rows.specs.Flat.{polynomials-rowOf}
 use Rattle.rules.specs.Numbers.{space, newline, minus, decimalWithin, decimal, line}
 
 -- ---- runs of bytes
@@ -55,6 +64,11 @@ put-few p few = record { stored = p .stored; passed = p .passed; few = few }
 
 pub put-wide : {d e : List ℕ} {at j k next : ℕ} {xs : List ℕ} → Put d at xs j e next → j ≤ k → Put d at xs k e next
 put-wide p le = put-few p (le-trans (p .few) le)
+
+pub put-none : {d xs : List ℕ} {at k : ℕ} → xs ≡ [] → Put d at xs k d at
+put-none {d} {xs} {at} {k} none =
+    let size = ap length none in
+    record { stored = sym (ap (sets d at) none); passed = omega arith; few = omega arith }
 
 pub put-length : {d e : List ℕ} {at k next : ℕ} {xs : List ℕ} → Put d at xs k e next → length e ≡ length d
 put-length {d} {e} {at} {k} {next} {xs} p = ap length (p .stored) ∙ length-sets d at xs
@@ -195,3 +209,220 @@ spaced-number a = ap (λ r. space ∷ r) (sym (append-nil (decimal a)))
 pub decimal-count : (n : ℕ) → decimal (pos n) ≡ digitsOf n
 unfolding decimal digitsOf
 decimal-count n = refl
+
+-- ---- a polynomial without its zero high coefficients
+
+nonzero-length : (t : Bool) (a : ℤ) (q : Polynomial) (n : ℕ) → (T t → ⊥) → length q ≡ n → length (cond t [] (a ∷ q)) ≡ suc n
+nonzero-length true a q n h e = absurd (h tt)
+nonzero-length false a q n h e = ap suc e
+
+trim-none : (p : Polynomial) → T (isZero p) → trim p ≡ []
+unfolding trim
+trim-none [] h = refl
+trim-none (a ∷ p) h = zero-case (isZero (a ∷ p)) h
+  where
+    zero-case : (t : Bool) → T t → cond t [] (a ∷ trim p) ≡ []
+    zero-case true h = refl
+    zero-case false h = absurd h
+
+-- The highest nonzero coefficient is the last one that is left.
+pub trim-length : (p : Polynomial) (n : ℕ) → n < length p → getD p n (pos 0) ≢ pos 0 → T (isZero (drop (suc n) p)) → length (trim p) ≡ suc n
+unfolding trim coeff
+trim-length [] n h ne z = absurd (not-suc-le-zero h)
+trim-length (a ∷ p) zero h ne z =
+    nonzero-length (isZero (a ∷ p)) a (trim p) 0 (λ t. ne (isZero-cons a p .0 t .0)) (ap length (trim-none p z))
+trim-length (a ∷ p) (suc n) h ne z =
+    nonzero-length (isZero (a ∷ p)) a (trim p) (suc n) (λ t. ne (isZero-coeff p (isZero-cons a p .0 t .1) n))
+    (trim-length p n (le-of-suc-le-suc h) ne z)
+
+pub trim-zero : (p : Polynomial) → T (isZero p) → length (trim p) ≡ 0
+trim-zero p h = ap length (trim-none p h)
+
+pub isZero-trim : (p : Polynomial) → isZero p ≡ eqb (length (trim p)) 0
+unfolding trim isZero
+isZero-trim [] = refl
+isZero-trim (a ∷ p) = cases (isZero (a ∷ p))
+  where
+    cases : (t : Bool) → t ≡ eqb (length (cond t [] (a ∷ trim p))) 0
+    cases true = refl
+    cases false = sym (eqb·suc-zero (length (trim p)))
+
+pub trim-take : (p : Polynomial) → take (length (trim p)) p ≡ trim p
+unfolding trim
+trim-take [] = refl
+trim-take (a ∷ p) = cases (isZero (a ∷ p)) (trim-take p)
+  where
+    cases : (t : Bool) → take (length (trim p)) p ≡ trim p → take (length (cond t [] (a ∷ trim p))) (a ∷ p) ≡ cond t [] (a ∷ trim p)
+    cases true e = refl
+    cases false e = ap (λ q. a ∷ q) e
+
+pub trim-le : (p : Polynomial) → length (trim p) ≤ length p
+trim-le p = subst (λ q. length q ≤ length p) (trim-take p) (rw length-take (omega arith))
+
+-- One coefficient more from the top.
+pub drop-zero : (p : Polynomial) (n : ℕ) → n < length p → getD p n (pos 0) ≡ pos 0 → T (isZero (drop (suc n) p)) → T (isZero (drop n p))
+drop-zero p n h e z = rw (drop-cons p n (pos 0) h) (isZero-cons (getD p n (pos 0)) (drop (suc n) p) .1 (e, z))
+
+-- ---- the numbers of terms
+
+-- The numbers of one term, none for a zero polynomial.
+unfoldable pub termAt : ℤ → ℕ → Polynomial → List ℤ
+unfolding termNumbers trim isZero
+termAt s c p = cond (isZero p) [] (termNumbers (record { block = s; column = c; polynomial = trim p }))
+
+pub term-none : (s : ℤ) (c : ℕ) (p : Polynomial) → length (trim p) ≡ 0 → termAt s c p ≡ []
+unfolding termAt
+term-none s c p e = rw (isZero-trim p ∙ ap (λ n. eqb n 0) e)
+
+pub term-some : (s : ℤ) (c n : ℕ) (p : Polynomial) → n ≡ length (trim p) → n ≢ 0 → termAt s c p ≡ s ∷ pos c ∷ pos n ∷ take n p
+unfolding termAt termNumbers
+term-some s c n p e ne =
+    rw (isZero-trim p ∙ ne-eqb (length (trim p)) 0 (λ z. ne (e ∙ z)))
+    (ap (λ q. s ∷ pos c ∷ pos (length (trim p)) ∷ q) (sym (trim-take p)) ∙ ap (λ m. s ∷ pos c ∷ pos m ∷ take m p) (sym e))
+
+unfoldable pub numbersOf : List Term → List ℤ
+unfolding flatten termNumbers
+numbersOf es = flatten (map termNumbers es)
+
+numbersOf-append : (es fs : List Term) → numbersOf (es ++ fs) ≡ numbersOf es ++ numbersOf fs
+unfolding numbersOf flatten
+numbersOf-append [] fs = refl
+numbersOf-append (e ∷ es) fs =
+    ap (λ r. termNumbers e ++ r) (numbersOf-append es fs) ∙ sym (append-assoc (termNumbers e) (numbersOf es) (numbersOf fs))
+
+pub block-cons : (s : ℤ) (c : ℕ) (p : Polynomial) (b : Block) → numbersOf (blockTerms s c (p ∷ b)) ≡ termAt s c p ++ numbersOf (blockTerms s (suc c) b)
+unfolding numbersOf blockTerms termAt flatten
+block-cons s c p b = cases (isZero p)
+  where
+    cases : (t : Bool)
+        → numbersOf (cond t (blockTerms s (suc c) b) (record { block = s; column = c; polynomial = trim p } ∷ blockTerms s (suc c) b))
+        ≡ cond t [] (termNumbers (record { block = s; column = c; polynomial = trim p })) ++ numbersOf (blockTerms s (suc c) b)
+    cases true = refl
+    cases false = refl
+
+pub terms-cons : (s : ℤ) (b : Block) (bs : List Block)
+    → numbersOf (termsFrom s (b ∷ bs)) ≡ numbersOf (blockTerms s 1 b) ++ numbersOf (termsFrom (predℤ s) bs)
+unfolding termsFrom
+terms-cons s b bs = numbersOf-append (blockTerms s 1 b) (termsFrom (predℤ s) bs)
+
+-- ---- the number of terms
+
+unfoldable pub nonzeroCount : List Polynomial → ℕ
+unfolding isZero
+nonzeroCount [] = 0
+nonzeroCount (p ∷ ps) = let more = nonzeroCount ps in cond (isZero p) more (suc more)
+
+nonzeroCount-append : (ps qs : List Polynomial) → nonzeroCount (ps ++ qs) ≡ nonzeroCount ps + nonzeroCount qs
+unfolding nonzeroCount
+nonzeroCount-append [] qs = sym (zero-add (nonzeroCount qs))
+nonzeroCount-append (p ∷ ps) qs = cases (isZero p) (nonzeroCount-append ps qs)
+  where
+    cases : (t : Bool) → nonzeroCount (ps ++ qs) ≡ nonzeroCount ps + nonzeroCount qs
+        → cond t (nonzeroCount (ps ++ qs)) (suc (nonzeroCount (ps ++ qs))) ≡ cond t (nonzeroCount ps) (suc (nonzeroCount ps)) + nonzeroCount qs
+    cases true e = e
+    cases false e = ap suc e ∙ sym (suc-add (nonzeroCount ps) (nonzeroCount qs))
+
+length-blockTerms : (s : ℤ) (c : ℕ) (b : Block) → length (blockTerms s c b) ≡ nonzeroCount b
+unfolding blockTerms nonzeroCount
+length-blockTerms s c [] = refl
+length-blockTerms s c (p ∷ b) = cases (isZero p) _ _ _ (length-blockTerms s (suc c) b)
+  where
+    cases : (t : Bool) (e : Term) (es : List Term) (n : ℕ) → length es ≡ n → length (cond t es (e ∷ es)) ≡ cond t n (suc n)
+    cases true e es n h = h
+    cases false e es n h = ap suc h
+
+length-termsFrom : (s : ℤ) (bs : List Block) → length (termsFrom s bs) ≡ nonzeroCount (flatten bs)
+unfolding termsFrom nonzeroCount flatten
+length-termsFrom s [] = refl
+length-termsFrom s (b ∷ bs) =
+    length-append (blockTerms s 1 b) (termsFrom (predℤ s) bs)
+    ∙ ap₂ _+_ (length-blockTerms s 1 b) (length-termsFrom (predℤ s) bs)
+    ∙ sym (nonzeroCount-append b (flatten bs))
+
+pub term-count : (s : ℤ) (l : List ℤ) → length (termsFrom s (rowOf l .blocks)) ≡ nonzeroCount (parts coefficientCount 20 l)
+term-count s l = length-termsFrom s (rowOf l .blocks) ∙ ap nonzeroCount (polynomials-rowOf l)
+
+-- ---- parts of one width, one after the other
+
+-- The parts from i on are part i and those from i + 1 on.
+pub parts-next : {A : Type 0} (k n : ℕ) (l : List A) (i : ℕ) → i < n
+    → drop i (parts k n l) ≡ take k (drop (i * k) l) ∷ drop (i + 1) (parts k n l)
+parts-next k n l i h =
+    drop-cons (parts k n l) i [] (rw parts-length h)
+    ∙ ap₂ (λ p j. p ∷ drop j (parts k n l)) (getD-parts k n l i h) (sym (add-one i))
+
+pub parts-end : {A : Type 0} (k n : ℕ) (l : List A) (i : ℕ) → n ≤ i → drop i (parts k n l) ≡ []
+parts-end k n l i h = drop-of-length-le (parts k n l) {i = i} (rw parts-length h)
+
+drop-map : {A B : Type 0} (f : A → B) (i : ℕ) (l : List A) → drop i (map f l) ≡ map f (drop i l)
+drop-map f zero l = refl
+drop-map f (suc i) [] = refl
+drop-map f (suc i) (x ∷ l) = drop-map f i l
+
+-- The same of what the parts hold.
+pub held-next : {A B : Type 0} (f : List A → B) (k n : ℕ) (l : List A) (i : ℕ) → i < n
+    → drop i (map f (parts k n l)) ≡ f (take k (drop (i * k) l)) ∷ drop (i + 1) (map f (parts k n l))
+held-next f k n l i h =
+    drop-map f i (parts k n l) ∙ ap (map f) (parts-next k n l i h)
+    ∙ ap (λ r. f (take k (drop (i * k) l)) ∷ r) (sym (drop-map f (i + 1) (parts k n l)))
+
+pub held-end : {A B : Type 0} (f : List A → B) (k n : ℕ) (l : List A) (i : ℕ) → n ≤ i → drop i (map f (parts k n l)) ≡ []
+held-end f k n l i h = drop-map f i (parts k n l) ∙ ap (map f) (parts-end k n l i h)
+
+-- One polynomial more is counted, unless it is zero.
+pub count-none : (l : List ℤ) (i n : ℕ) → i < 20 → n ≡ length (trim (take 16 (drop (i * 16) l))) → n ≡ 0
+    → nonzeroCount (drop i (parts 16 20 l)) ≡ nonzeroCount (drop (i + 1) (parts 16 20 l))
+unfolding nonzeroCount
+count-none l i n h e none =
+    rw (parts-next 16 20 l i h, isZero-trim (take 16 (drop (i * 16) l)), sym e ∙ none)
+
+pub count-some : (l : List ℤ) (i n : ℕ) → i < 20 → n ≡ length (trim (take 16 (drop (i * 16) l))) → n ≢ 0
+    → nonzeroCount (drop i (parts 16 20 l)) ≡ suc (nonzeroCount (drop (i + 1) (parts 16 20 l)))
+unfolding nonzeroCount
+count-some l i n h e some =
+    rw (parts-next 16 20 l i h, isZero-trim (take 16 (drop (i * 16) l)), ne-eqb (length (trim (take 16 (drop (i * 16) l)))) 0 (λ z. some (e ∙ z)))
+
+-- A part that is lent has its length.
+pub part-length : {A : Type 0} (l : List A) (from k : ℕ) → from + k ≤ length l → length (take (from + k - from) (drop from l)) ≡ k
+part-length l from k h = rw (length-take, length-drop) (omega arith)
+
+-- ---- one term, and one block, more
+
+pub block-next : (s : ℤ) (l : List ℤ) (c : ℕ) → c < 4
+    → spaced (numbersOf (blockTerms s (c + 1) (drop c (parts 16 4 l))))
+    ≡ spaced (termAt s (c + 1) (take 16 (drop (c * 16) l))) ++ spaced (numbersOf (blockTerms s (c + 1 + 1) (drop (c + 1) (parts 16 4 l))))
+block-next s l c h =
+    let part = take 16 (drop (c * 16) l) in
+    let more = drop (c + 1) (parts 16 4 l) in
+    ap spaced
+    (ap (λ b. numbersOf (blockTerms s (c + 1) b)) (parts-next 16 4 l c h) ∙ block-cons s (c + 1) part more
+    ∙ ap (λ j. termAt s (c + 1) part ++ numbersOf (blockTerms s j more)) (sym (add-one (c + 1))))
+    ∙ sym (spaced-append (termAt s (c + 1) part) (numbersOf (blockTerms s (c + 1 + 1) more)))
+
+pub block-end : (s : ℤ) (l : List ℤ) (c : ℕ) → 4 ≤ c → spaced (numbersOf (blockTerms s (c + 1) (drop c (parts 16 4 l)))) ≡ []
+unfolding spaced numbersOf blockTerms flatten
+block-end s l c h = ap (λ b. spaced (numbersOf (blockTerms s (c + 1) b))) (parts-end 16 4 l c h)
+
+-- Block l - b.
+pred-block : (l : ℤ) (b : ℕ) → predℤ (l -ℤ pos b) ≡ l -ℤ pos (b + 1)
+pred-block l b = sym (ap (λ n. l -ℤ pos n) (add-one b) ∙ ap (λ k. l +ℤ k) (negℤ-sucℤ (pos b)) ∙ +ℤ-predℤ l (negℤ (pos b)))
+
+pub block-size : (l : ℤ) (b : ℕ) → natAbs l ≤ 64 → b < 5 → natAbs (l -ℤ pos b) ≤ 68
+block-size l b h g = omega (arith, natAbs-+ℤ l (negℤ (pos b)), natAbs-negℤ (pos b))
+
+pub terms-next : (l : ℤ) (row : List ℤ) (b : ℕ) → b < 5
+    → spaced (numbersOf (termsFrom (l -ℤ pos b) (drop b (rowOf row .blocks))))
+    ≡ spaced (numbersOf (blockTerms (l -ℤ pos b) 1 (parts 16 4 (take 64 (drop (b * 64) row)))))
+    ++ spaced (numbersOf (termsFrom (l -ℤ pos (b + 1)) (drop (b + 1) (rowOf row .blocks))))
+unfolding rowOf
+terms-next l row b h =
+    let block = parts 16 4 (take 64 (drop (b * 64) row)) in
+    let more = drop (b + 1) (rowOf row .blocks) in
+    ap spaced
+    (ap (λ bs. numbersOf (termsFrom (l -ℤ pos b) bs)) (held-next (parts 16 4) 64 5 row b h) ∙ terms-cons (l -ℤ pos b) block more
+    ∙ ap (λ s. numbersOf (blockTerms (l -ℤ pos b) 1 block) ++ numbersOf (termsFrom s more)) (pred-block l b))
+    ∙ sym (spaced-append (numbersOf (blockTerms (l -ℤ pos b) 1 block)) (numbersOf (termsFrom (l -ℤ pos (b + 1)) more)))
+
+pub terms-end : (s : ℤ) (row : List ℤ) (b : ℕ) → 5 ≤ b → spaced (numbersOf (termsFrom s (drop b (rowOf row .blocks)))) ≡ []
+unfolding rowOf spaced numbersOf termsFrom flatten
+terms-end s row b h = ap (λ bs. spaced (numbersOf (termsFrom s bs))) (held-end (parts 16 4) 64 5 row b h)

@@ -2,11 +2,13 @@
 // the next place: called on an empty part of the store it only counts, so that nothing is written before the length is known.
 ghost use mathlib.Core.Path.{_≡_};
 ghost use mathlib.Core.List.{[], _∷_};
-ghost use Prim.Native.Nat.{_+_, _*_, _^_, _<_};
+ghost use Prim.Native.Nat.{_+_, _*_, _^_, _≤_, _<_};
 ghost use Rattle.rules.specs.Numbers.{space, newline, decimal};
-ghost use lib.IntN.{pos};
+ghost use lib.IntN.{pos, natAbs};
 ghost use lib.ListN.{length};
-ghost use Rattle.sheets.specs.Writer.{Put, digitsOf, spaced};
+ghost use Rattle.rules.specs.Sheets.{trim, blockTerms, termsFrom};
+ghost use Rattle.rules.specs.Stores.{parts, rowOf};
+ghost use Rattle.sheets.specs.Writer.{Put, digitsOf, spaced, termAt, numbersOf, nonzeroCount};
 
 fn put_byte(bytes: &mut [u8], at: usize, b: u8) -> usize
     requires { ⌜ at + 1 < 2 ^ 64 ⌝ }
@@ -74,4 +76,83 @@ fn put_numbers(bytes: &mut [u8], at: usize, numbers: &[i64]) -> usize
         i += 1;
     }
     next
+}
+
+// The number of coefficients up to the last nonzero one.
+fn trimmed(p: &[i64]) -> usize
+    ensures { λ r. ⌜ r ≡ length (trim (now (p .entry))) ⌝ }
+{
+    let mut n = p.len();
+    while 0 < n {
+        if p[n - 1] != 0 {
+            return n;
+        }
+        n -= 1;
+    }
+    0
+}
+
+// One term; nothing for a zero polynomial.
+fn put_term(bytes: &mut [u8], at: usize, p: &[i64], block: i64, column: usize) -> usize
+    requires { ⌜ (length (now p) ≡ 16) × (at + 416 < 2 ^ 64) ⌝ }
+    ensures { λ r. ⌜ Put (now (bytes .entry)) at (spaced (termAt block column (now (p .entry)))) 416 (now (bytes .exit)) r ⌝ }
+{
+    let n = trimmed(p);
+    if n == 0 {
+        return at;
+    }
+    let after_block = put_next(bytes, at, block);
+    let after_column = put_next_count(bytes, after_block, column);
+    let after_count = put_next_count(bytes, after_column, n);
+    put_numbers(bytes, after_count, &p[..n])
+}
+
+// The terms of one block, by rising column.
+fn put_block(bytes: &mut [u8], at: usize, numbers: &[i64], block: i64) -> usize
+    requires { ⌜ (length (now numbers) ≡ 64) × (at + 1664 < 2 ^ 64) ⌝ }
+    ensures { λ r. ⌜ Put (now (bytes .entry)) at (spaced (numbersOf (blockTerms block 1 (parts 16 4 (now (numbers .entry)))))) 1664 (now (bytes .exit)) r ⌝ }
+{
+    let mut next = at;
+    let mut c = 0;
+    while c < 4 {
+        let from = c * 16;
+        let to = from + 16;
+        next = put_term(bytes, next, &numbers[from..to], block, c + 1);
+        c += 1;
+    }
+    next
+}
+
+// The terms of a row, "by falling s, then rising c".
+fn put_terms(bytes: &mut [u8], at: usize, row: &[i64], l: i64) -> usize
+    requires { ⌜ (length (now row) ≡ 320) × (natAbs l ≤ 64) × (at + 8320 < 2 ^ 64) ⌝ }
+    ensures { λ r. ⌜ Put (now (bytes .entry)) at (spaced (numbersOf (termsFrom l (rowOf (now (row .entry)) .blocks)))) 8320 (now (bytes .exit)) r ⌝ }
+{
+    let mut next = at;
+    let mut b = 0;
+    while b < 5 {
+        let from = b * 64;
+        let to = from + 64;
+        next = put_block(bytes, next, &row[from..to], l - b as i64);
+        b += 1;
+    }
+    next
+}
+
+// The number of terms of a row: of its polynomials that are not zero.
+fn term_count(row: &[i64]) -> usize
+    requires { ⌜ length (now row) ≡ 320 ⌝ }
+    ensures { λ r. ⌜ r ≡ nonzeroCount (parts 16 20 (now (row .entry))) ⌝ }
+{
+    let mut terms = 0;
+    let mut i = 0;
+    while i < 20 {
+        let from = i * 16;
+        let to = from + 16;
+        if trimmed(&row[from..to]) != 0 {
+            terms += 1;
+        }
+        i += 1;
+    }
+    terms
 }
