@@ -25,11 +25,11 @@ use Rattle.algebra.specs.Integers.{natAbs-+ℤ, natAbs-negℤ}
 use Rattle.algebra.specs.Polynomials.{Polynomial, coeff, isZero, isZero-cons, isZero-coeff}
 use Rattle.rules.specs.Limits.{coefficientCount}
 use Rattle.rules.specs.Rows.{Block}
-use Rattle.rules.specs.Stores.{parts, rowOf}
+use Rattle.rules.specs.Stores.{parts, rowOf, relationOf}
 use Rattle.rules.specs.Layout.{parts-length, getD-parts}
-use Rattle.rules.specs.Sheets.{Term, trim, blockTerms, termsFrom, termNumbers}
+use Rattle.rules.specs.Sheets.{Term, trim, blockTerms, termsFrom, termNumbers, equationNumbers, relationLine, orderLine}
 use Rattle.rows.specs.Flat.{polynomials-rowOf}
-use Rattle.rules.specs.Numbers.{space, newline, minus, decimalWithin, decimal, line}
+use Rattle.rules.specs.Numbers.{space, newline, minus, decimalWithin, decimal, line, lines}
 
 -- ---- runs of bytes
 
@@ -201,6 +201,12 @@ pub spaced-next : (l : List ℤ) (i : ℕ) → i < length l → spaced (drop i l
 spaced-next l i h =
     ap spaced (drop-cons l i (pos 0) h ∙ ap (λ j. getD l i (pos 0) ∷ drop j l) (sym (add-one i)))
     ∙ sym (spaced-append (getD l i (pos 0) ∷ []) (drop (i + 1) l))
+
+pub columns-next : (l : List ℕ) (i : ℕ) → i < length l
+    → spaced (map pos (drop i l)) ≡ spaced (pos (getD l i 0) ∷ []) ++ spaced (map pos (drop (i + 1) l))
+columns-next l i h =
+    ap (λ r. spaced (map pos r)) (drop-cons l i 0 h ∙ ap (λ j. getD l i 0 ∷ drop j l) (sym (add-one i)))
+    ∙ sym (spaced-append (pos (getD l i 0) ∷ []) (map pos (drop (i + 1) l)))
 
 pub spaced-number : (a : ℤ) → space ∷ decimal a ≡ spaced (a ∷ [])
 unfolding spaced
@@ -426,3 +432,46 @@ terms-next l row b h =
 pub terms-end : (s : ℤ) (row : List ℤ) (b : ℕ) → 5 ≤ b → spaced (numbersOf (termsFrom s (drop b (rowOf row .blocks)))) ≡ []
 unfolding rowOf spaced numbersOf termsFrom flatten
 terms-end s row b h = ap (λ bs. spaced (numbersOf (termsFrom s bs))) (held-end (parts 16 4) 64 5 row b h)
+
+-- ---- lines
+
+pub equation-line : (l : ℤ) (row : List ℤ)
+    → (digitsOf (nonzeroCount (parts 16 20 row)) ++ spaced (numbersOf (termsFrom l (rowOf row .blocks)))) ++ (newline ∷ [])
+    ≡ line (equationNumbers l (rowOf row))
+unfolding equationNumbers numbersOf
+equation-line l row =
+    let numbers = numbersOf (termsFrom l (rowOf row .blocks)) in
+    ap (λ n. (n ++ spaced numbers) ++ (newline ∷ [])) (sym (decimal-count (nonzeroCount (parts 16 20 row))))
+    ∙ sym (line-is (pos (nonzeroCount (parts 16 20 row))) numbers)
+    ∙ ap (λ n. line (pos n ∷ numbers)) (sym (term-count l row))
+
+pub relation-line : (l : ℤ) (part : List ℤ)
+    → (decimal (getD part 0 (pos 0)) ++ spaced (pos (nonzeroCount (parts 16 20 (drop 1 part))) ∷ numbersOf (termsFrom l (rowOf (drop 1 part) .blocks))))
+    ++ (newline ∷ [])
+    ≡ line (relationLine l (relationOf part))
+unfolding relationLine relationOf equationNumbers numbersOf
+relation-line l part =
+    let numbers = numbersOf (termsFrom l (rowOf (drop 1 part) .blocks)) in
+    sym (line-is (getD part 0 (pos 0)) (pos (nonzeroCount (parts 16 20 (drop 1 part))) ∷ numbers))
+    ∙ ap (λ n. line (getD part 0 (pos 0) ∷ pos n ∷ numbers)) (sym (term-count l (drop 1 part)))
+
+pub order-line : (order : List ℕ) → (digitsOf (length order) ++ spaced (map pos order)) ++ (newline ∷ []) ≡ line (orderLine order)
+unfolding orderLine
+order-line order =
+    ap (λ n. (n ++ spaced (map pos order)) ++ (newline ∷ [])) (sym (decimal-count (length order)))
+    ∙ sym (line-is (pos (length order)) (map pos order))
+
+pub count-line : (n : ℕ) → digitsOf n ++ (newline ∷ []) ≡ line (pos n ∷ [])
+unfolding line
+count-line n = ap (λ d. d ++ (newline ∷ [])) (sym (decimal-count n))
+
+-- The lines of what the parts of a store hold, one line more.
+pub lines-next : {B : Type 0} (f : B → List ℤ) (g : List ℤ → B) (k n : ℕ) (l : List ℤ) (i : ℕ) → i < n
+    → lines (map f (drop i (map g (parts k n l)))) ≡ line (f (g (take k (drop (i * k) l)))) ++ lines (map f (drop (i + 1) (map g (parts k n l))))
+unfolding lines flatten
+lines-next f g k n l i h = ap (λ r. lines (map f r)) (held-next g k n l i h)
+
+pub lines-end : {B : Type 0} (f : B → List ℤ) (g : List ℤ → B) (k n : ℕ) (l : List ℤ) (i : ℕ) → n ≤ i
+    → lines (map f (drop i (map g (parts k n l)))) ≡ []
+unfolding lines flatten
+lines-end f g k n l i h = ap (λ r. lines (map f r)) (held-end g k n l i h)

@@ -1,13 +1,13 @@
 // Writing a sheet. Each writing function stores its bytes from a place on, as far as the store goes, counts them all and gives
 // the next place: called on an empty part of the store it only counts, so that nothing is written before the length is known.
 ghost use mathlib.Core.Path.{_≡_};
-ghost use mathlib.Core.List.{[], _∷_};
+ghost use mathlib.Core.List.{[], _∷_, map};
 ghost use Prim.Native.Nat.{_+_, _*_, _^_, _≤_, _<_};
-ghost use Rattle.rules.specs.Numbers.{space, newline, decimal};
+ghost use Rattle.rules.specs.Numbers.{decimal, line, lines};
 ghost use lib.IntN.{pos, natAbs};
 ghost use lib.ListN.{length};
-ghost use Rattle.rules.specs.Sheets.{trim, blockTerms, termsFrom};
-ghost use Rattle.rules.specs.Stores.{parts, rowOf};
+ghost use Rattle.rules.specs.Sheets.{trim, blockTerms, termsFrom, equationNumbers, relationLine, orderLine};
+ghost use Rattle.rules.specs.Stores.{parts, rowOf, rowsOf, relationOf, relationsOf};
 ghost use Rattle.sheets.specs.Writer.{Put, digitsOf, spaced, termAt, numbersOf, nonzeroCount};
 
 fn put_byte(bytes: &mut [u8], at: usize, b: u8) -> usize
@@ -155,4 +155,86 @@ fn term_count(row: &[i64]) -> usize
         i += 1;
     }
     terms
+}
+
+fn put_equation(bytes: &mut [u8], at: usize, row: &[i64], l: i64) -> usize
+    requires { ⌜ (length (now row) ≡ 320) × (natAbs l ≤ 64) × (at + 8341 < 2 ^ 64) ⌝ }
+    ensures { λ r. ⌜ Put (now (bytes .entry)) at (line (equationNumbers l (rowOf (now (row .entry))))) 8341 (now (bytes .exit)) r ⌝ }
+{
+    let counted = put_digits(bytes, at, term_count(row) as u64);
+    let written = put_terms(bytes, counted, row, l);
+    put_byte(bytes, written, 10)
+}
+
+// "n0 and an equation"
+fn put_relation(bytes: &mut [u8], at: usize, numbers: &[i64], l: i64) -> usize
+    requires { ⌜ (length (now numbers) ≡ 321) × (natAbs l ≤ 64) × (at + 8363 < 2 ^ 64) ⌝ }
+    ensures { λ r. ⌜ Put (now (bytes .entry)) at (line (relationLine l (relationOf (now (numbers .entry))))) 8363 (now (bytes .exit)) r ⌝ }
+{
+    let row = &numbers[1..];
+    let indexed = put_number(bytes, at, numbers[0]);
+    let counted = put_next_count(bytes, indexed, term_count(row));
+    let written = put_terms(bytes, counted, row, l);
+    put_byte(bytes, written, 10)
+}
+
+fn put_equations(bytes: &mut [u8], at: usize, rows: &[i64], m: usize, l: i64) -> usize
+    requires { ⌜ (m ≤ 4) × (m * 320 ≤ length (now rows)) × (natAbs l ≤ 64) × (at + 33364 < 2 ^ 64) ⌝ }
+    ensures { λ r. ⌜ Put (now (bytes .entry)) at (lines (map (equationNumbers l) (rowsOf m (now (rows .entry))))) 33364 (now (bytes .exit)) r ⌝ }
+{
+    let mut next = at;
+    let mut i = 0;
+    while i < m {
+        let from = i * 320;
+        let to = from + 320;
+        next = put_equation(bytes, next, &rows[from..to], l);
+        i += 1;
+    }
+    next
+}
+
+fn put_relations(bytes: &mut [u8], at: usize, relations: &[i64], count: usize, l: i64) -> usize
+    requires { ⌜ (count ≤ 16) × (count * 321 ≤ length (now relations)) × (natAbs l ≤ 64) × (at + 133808 < 2 ^ 64) ⌝ }
+    ensures { λ r. ⌜ Put (now (bytes .entry)) at (lines (map (relationLine l) (relationsOf count (now (relations .entry))))) 133808 (now (bytes .exit)) r ⌝ }
+{
+    let mut next = at;
+    let mut i = 0;
+    while i < count {
+        let from = i * 321;
+        let to = from + 321;
+        next = put_relation(bytes, next, &relations[from..to], l);
+        i += 1;
+    }
+    next
+}
+
+// A line with one number.
+fn put_count(bytes: &mut [u8], at: usize, n: usize) -> usize
+    requires { ⌜ at + 21 < 2 ^ 64 ⌝ }
+    ensures { λ r. ⌜ Put (now (bytes .entry)) at (line (pos n ∷ [])) 21 (now (bytes .exit)) r ⌝ }
+{
+    let written = put_digits(bytes, at, n as u64);
+    put_byte(bytes, written, 10)
+}
+
+fn put_columns(bytes: &mut [u8], at: usize, columns: &[usize]) -> usize
+    requires { ⌜ at + 21 * length (now columns) < 2 ^ 64 ⌝ }
+    ensures { λ r. ⌜ Put (now (bytes .entry)) at (spaced (map pos (now (columns .entry)))) (21 * length (now (columns .entry))) (now (bytes .exit)) r ⌝ }
+{
+    let mut next = at;
+    let mut i = 0;
+    while i < columns.len() {
+        next = put_next_count(bytes, next, columns[i]);
+        i += 1;
+    }
+    next
+}
+
+fn put_order(bytes: &mut [u8], at: usize, order: &[usize]) -> usize
+    requires { ⌜ (length (now order) ≤ 4) × (at + 105 < 2 ^ 64) ⌝ }
+    ensures { λ r. ⌜ Put (now (bytes .entry)) at (line (orderLine (now (order .entry)))) 105 (now (bytes .exit)) r ⌝ }
+{
+    let counted = put_digits(bytes, at, order.len() as u64);
+    let written = put_columns(bytes, counted, order);
+    put_byte(bytes, written, 10)
 }

@@ -15,7 +15,6 @@ use Rattle.sheets.specs.Writer.{Going, going-first, going-next, going-la
 use borrow.Author.Needs.{needs}
 use Rattle.sheets.proofs.writer.put_block.Statement.{statement}
 use Rattle.sheets.proofs.writer.put_block.Tie as tie
-use Rattle.sheets.proofs.writer.put_term.Reads as put-term-reads
 
 abbrev Inv-loop : tie.InvT-loop
 Inv-loop bytes₀ at numbers block next₀ c₀ bytes next c =

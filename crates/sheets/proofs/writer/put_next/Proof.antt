@@ -8,8 +8,6 @@ use Rattle.sheets.specs.Writer.{put-same, put-then, spaced-number}
 use borrow.Author.Needs.{needs}
 use Rattle.sheets.proofs.writer.put_next.Statement.{statement}
 use Rattle.sheets.proofs.writer.put_next.Tie as tie
-use Rattle.sheets.proofs.writer.put_byte.Reads as put-byte-reads
-use Rattle.sheets.proofs.writer.put_number.Reads as put-number-reads
 
 put-byte-requires : tie.Need-put-byte-requires
 put-byte-requires c κs = search needs

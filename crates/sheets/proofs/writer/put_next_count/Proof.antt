@@ -8,8 +8,6 @@ use Rattle.sheets.specs.Writer.{put-same, put-then, decimal-count, space
 use borrow.Author.Needs.{needs}
 use Rattle.sheets.proofs.writer.put_next_count.Statement.{statement}
 use Rattle.sheets.proofs.writer.put_next_count.Tie as tie
-use Rattle.sheets.proofs.writer.put_byte.Reads as put-byte-reads
-use Rattle.sheets.proofs.writer.put_digits.Reads as put-digits-reads
 
 put-byte-requires : tie.Need-put-byte-requires
 put-byte-requires c κs = search needs

@@ -10,9 +10,6 @@ use Rattle.sheets.specs.Writer.{digitsOf, decimal-negative, decimal-posi
 use borrow.Author.Needs.{needs}
 use Rattle.sheets.proofs.writer.put_number.Statement.{statement}
 use Rattle.sheets.proofs.writer.put_number.Tie as tie
-use Rattle.integers.proofs.magnitude.Reads as magnitude-reads
-use Rattle.sheets.proofs.writer.put_byte.Reads as put-byte-reads
-use Rattle.sheets.proofs.writer.put_digits.Reads as put-digits-reads
 
 magnitude-requires : tie.Need-magnitude-requires
 magnitude-requires c κs = search needs

@@ -14,7 +14,6 @@ use mir.Facts.{toZ-ofZ}
 use Rattle.sheets.specs.Writer.{Put, Going, going-first, going-next, going-last, put-same, spaced, spaced-next}
 use Rattle.sheets.proofs.writer.put_numbers.Statement.{statement}
 use Rattle.sheets.proofs.writer.put_numbers.Tie as tie
-use Rattle.sheets.proofs.writer.put_next.Reads as put-next-reads
 
 abbrev Inv-loop : tie.InvT-loop
 Inv-loop bytes₀ at numbers next₀ i₀ bytes next i =

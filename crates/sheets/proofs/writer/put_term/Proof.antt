@@ -14,10 +14,6 @@ use Rattle.sheets.specs.Writer.{trim-le, term-none, term-some, spaced, s
 use borrow.Author.Needs.{needs}
 use Rattle.sheets.proofs.writer.put_term.Statement.{statement}
 use Rattle.sheets.proofs.writer.put_term.Tie as tie
-use Rattle.sheets.proofs.writer.put_next.Reads as put-next-reads
-use Rattle.sheets.proofs.writer.put_next_count.Reads as put-next-count-reads
-use Rattle.sheets.proofs.writer.put_numbers.Reads as put-numbers-reads
-use Rattle.sheets.proofs.writer.trimmed.Reads as trimmed-reads
 
 -- the coefficients that are written
 module _ (c : tie.After-trimmed) where

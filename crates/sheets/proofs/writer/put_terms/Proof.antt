@@ -18,7 +18,6 @@ use Rattle.sheets.specs.Writer.{Going, going-first, going-next, going-la
 use borrow.Author.Needs.{needs}
 use Rattle.sheets.proofs.writer.put_terms.Statement.{statement}
 use Rattle.sheets.proofs.writer.put_terms.Tie as tie
-use Rattle.sheets.proofs.writer.put_block.Reads as put-block-reads
 
 abbrev Inv-loop : tie.InvT-loop
 Inv-loop bytes₀ at row l next₀ b₀ bytes next b =

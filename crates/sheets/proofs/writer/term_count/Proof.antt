@@ -14,7 +14,6 @@ use Rattle.sheets.specs.Writer.{nonzeroCount, parts-end, count-none, cou
 use borrow.Author.Needs.{needs}
 use Rattle.sheets.proofs.writer.term_count.Statement.{statement}
 use Rattle.sheets.proofs.writer.term_count.Tie as tie
-use Rattle.sheets.proofs.writer.trimmed.Reads as trimmed-reads
 
 abbrev Inv-loop : tie.InvT-loop
 Inv-loop row terms₀ i₀ terms i =
