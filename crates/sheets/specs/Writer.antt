@@ -25,9 +25,10 @@ use Rattle.algebra.specs.Integers.{natAbs-+ℤ, natAbs-negℤ}
 use Rattle.algebra.specs.Polynomials.{Polynomial, coeff, isZero, isZero-cons, isZero-coeff}
 use Rattle.rules.specs.Limits.{coefficientCount}
 use Rattle.rules.specs.Rows.{Block}
-use Rattle.rules.specs.Stores.{parts, rowOf, relationOf}
-use Rattle.rules.specs.Layout.{parts-length, getD-parts}
-use Rattle.rules.specs.Sheets.{Term, trim, blockTerms, termsFrom, termNumbers, equationNumbers, relationLine, orderLine}
+use Rattle.rules.specs.Stores.{Sizes, parts, rowOf, rowsOf, relationOf, relationsOf}
+use Rattle.rules.specs.Layout.{length-rowsOf, length-relationsOf, parts-length, getD-parts}
+use Rattle.rules.specs.Sheets.{Sheet, Term, trim, blockTerms, termsFrom, termNumbers, equationNumbers, relationLine, orderLine, sheetLines, writeSheet}
+use Rattle.sheets.specs.declared.writer.Sizes as declared
 use Rattle.rows.specs.Flat.{polynomials-rowOf}
 use Rattle.rules.specs.Numbers.{space, newline, minus, decimalWithin, decimal, line, lines}
 
@@ -475,3 +476,49 @@ pub lines-end : {B : Type 0} (f : B → List ℤ) (g : List ℤ → B) (k n : �
     → lines (map f (drop i (map g (parts k n l)))) ≡ []
 unfolding lines flatten
 lines-end f g k n l i h = ap (λ r. lines (map f r)) (held-end g k n l i h)
+
+pub sizes-line : (m : ℕ) (l t : ℤ)
+    → ((51 ∷ []) ++ spaced (pos m ∷ l ∷ t ∷ [])) ++ (newline ∷ []) ≡ line (pos 3 ∷ pos m ∷ l ∷ t ∷ [])
+unfolding decimal
+sizes-line m l t = sym (line-is (pos 3) (pos m ∷ l ∷ t ∷ []))
+
+-- ---- the whole sheet
+
+lines-append : (l m : List (List ℤ)) → lines (l ++ m) ≡ lines l ++ lines m
+unfolding lines flatten
+lines-append [] m = refl
+lines-append (a ∷ l) m = ap (λ r. line a ++ r) (lines-append l m) ∙ sym (append-assoc (line a) (lines l) (lines m))
+
+-- Two lines, lines, a line, lines, and a last line.
+lines-join : (a b c e : List ℤ) (l m : List (List ℤ))
+    → line a ++ (line b ++ (lines l ++ (line c ++ (lines m ++ line e)))) ≡ lines ((a ∷ b ∷ l) ++ (c ∷ m) ++ (e ∷ []))
+unfolding lines flatten
+lines-join a b c e l m =
+    ap (λ r. line a ++ (line b ++ r))
+    (ap (λ r. lines l ++ (line c ++ (lines m ++ r))) (sym (append-nil (line e)))
+    ∙ sym (append-assoc (lines l) (line c ++ lines m) (line e ++ []) ∙ ap (λ r. lines l ++ r) (append-assoc (line c) (lines m) (line e ++ [])))
+    ∙ ap (λ r. r ++ (line e ++ [])) (sym (lines-append l (c ∷ m))) ∙ sym (lines-append (l ++ (c ∷ m)) (e ∷ [])))
+
+-- The sizes that the code hands on.
+abbrev pub sizesOf : declared.Sizes → Sizes
+sizesOf z = record { m = z .m; l = z .l; t = z .t }
+
+-- The sheet of a system in stores, with the columns that are written.
+unfoldable pub sheetGiven : Sizes → ℕ → List ℕ → List ℤ → List ℤ → Sheet
+unfolding rowsOf relationsOf
+sheetGiven z count columns rowStore relationStore =
+    record { sizes = z; rows = rowsOf (z .m) rowStore; relations = relationsOf count relationStore; order = columns }
+
+pub sheet-bytes : (z : Sizes) (count : ℕ) (columns : List ℕ) (rowStore relationStore : List ℤ)
+    → line (pos 3 ∷ pos (z .m) ∷ z .l ∷ z .t ∷ [])
+    ++ (line (pos (z .m) ∷ []) ++ (lines (map (equationNumbers (z .l)) (rowsOf (z .m) rowStore))
+    ++ (line (pos count ∷ []) ++ (lines (map (relationLine (z .l)) (relationsOf count relationStore)) ++ line (orderLine columns)))))
+    ≡ writeSheet (sheetGiven z count columns rowStore relationStore)
+unfolding writeSheet sheetLines sheetGiven
+sheet-bytes z count columns rowStore relationStore =
+    let equations = map (equationNumbers (z .l)) (rowsOf (z .m) rowStore) in
+    let relations = map (relationLine (z .l)) (relationsOf count relationStore) in
+    let sizes = pos 3 ∷ pos (z .m) ∷ z .l ∷ z .t ∷ [] in
+    lines-join sizes (pos (z .m) ∷ []) (pos count ∷ []) (orderLine columns) equations relations
+    ∙ ap₂ (λ m n. lines ((sizes ∷ (pos m ∷ []) ∷ equations) ++ ((pos n ∷ []) ∷ relations) ++ (orderLine columns ∷ [])))
+    (sym (length-rowsOf (z .m) rowStore)) (sym (length-relationsOf count relationStore))

@@ -6,9 +6,16 @@ ghost use Prim.Native.Nat.{_+_, _*_, _^_, _≤_, _<_};
 ghost use Rattle.rules.specs.Numbers.{decimal, line, lines};
 ghost use lib.IntN.{pos, natAbs};
 ghost use lib.ListN.{length};
-ghost use Rattle.rules.specs.Sheets.{trim, blockTerms, termsFrom, equationNumbers, relationLine, orderLine};
+ghost use Rattle.rules.specs.Sheets.{trim, blockTerms, termsFrom, equationNumbers, relationLine, orderLine, writeSheet};
 ghost use Rattle.rules.specs.Stores.{parts, rowOf, rowsOf, relationOf, relationsOf};
-ghost use Rattle.sheets.specs.Writer.{Put, digitsOf, spaced, termAt, numbersOf, nonzeroCount};
+ghost use Rattle.sheets.specs.Writer.{Put, digitsOf, spaced, termAt, numbersOf, nonzeroCount, sheetGiven, sizesOf};
+
+// The sizes of a system: "m unknowns (1 to 4)", blocks from t to l.
+pub struct Sizes {
+    pub m: usize,
+    pub l: i64,
+    pub t: i64,
+}
 
 fn put_byte(bytes: &mut [u8], at: usize, b: u8) -> usize
     requires { ⌜ at + 1 < 2 ^ 64 ⌝ }
@@ -237,4 +244,37 @@ fn put_order(bytes: &mut [u8], at: usize, order: &[usize]) -> usize
     let counted = put_digits(bytes, at, order.len() as u64);
     let written = put_columns(bytes, counted, order);
     put_byte(bytes, written, 10)
+}
+
+fn put_sizes(bytes: &mut [u8], at: usize, m: usize, l: i64, t: i64) -> usize
+    requires { ⌜ at + 67 < 2 ^ 64 ⌝ }
+    ensures { λ r. ⌜ Put (now (bytes .entry)) at (line (pos 3 ∷ pos m ∷ l ∷ t ∷ [])) 67 (now (bytes .exit)) r ⌝ }
+{
+    let after_form = put_byte(bytes, at, 51);
+    let after_m = put_next_count(bytes, after_form, m);
+    let after_l = put_next(bytes, after_m, l);
+    let after_t = put_next(bytes, after_l, t);
+    put_byte(bytes, after_t, 10)
+}
+
+// The four sections from the start of the store on.
+fn put_sheet(
+    bytes: &mut [u8],
+    rows: &[i64],
+    relations: &[i64],
+    sizes: Sizes,
+    count: usize,
+    columns: &[usize],
+) -> usize
+    requires { ⌜ (sizes .m ≤ 4) × (sizes .m * 320 ≤ length (now rows)) × (natAbs (sizes .l) ≤ 64) × (count ≤ 16) × (count * 321 ≤ length (now relations)) × (length (now columns) ≤ 4) ⌝ }
+    ensures { λ r. ⌜ Put (now (bytes .entry)) 0 (writeSheet (sheetGiven (sizesOf sizes) count (now (columns .entry)) (now (rows .entry)) (now (relations .entry)))) 167386 (now (bytes .exit)) r ⌝ }
+{
+    let m = sizes.m;
+    let l = sizes.l;
+    let after_sizes = put_sizes(bytes, 0, m, l, sizes.t);
+    let after_m = put_count(bytes, after_sizes, m);
+    let after_rows = put_equations(bytes, after_m, rows, m, l);
+    let after_count = put_count(bytes, after_rows, count);
+    let after_relations = put_relations(bytes, after_count, relations, count, l);
+    put_order(bytes, after_relations, columns)
 }
