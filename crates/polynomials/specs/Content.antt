@@ -1,1 +1,180 @@
--- Content
+-- What the functions on one polynomial's coefficients go by: loops from the front and from the top, coefficients read from and stored
+-- as i64, and the sizes that keep them in range.
+--
+-- Main definitions
+--   Below n p              every coefficient of p has a size below n
+--
+-- Main statements
+--   read-back, zero-bits, nonzero-bits   an i64 and its bits
+--   drop-next, skip-zero   one coefficient more from the front, and one that is zero and changes nothing
+--   isZero-false, lowest-first   a nonzero coefficient makes p nonzero; at the front it is the lowest
+--   within-down, degree-bottom   one zero coefficient less from the top; none left past power 0: the degree is 0
+--   content-next, one-gcd  a coefficient joins the greatest common divisor of those passed; 1 stays 1
+--   prefix-next, prefix-all, suffix-next, suffix-first   a list that is overwritten from the front
+--   quotient-at            the quotient by a positive i64 is a coefficient of `divideBy`
+--   small-at, below-of-small, below-divideBy, below-negate   sizes of coefficients, of quotients and of negatives
+--   content-bounds         the content of a nonzero polynomial within ±C and of another is positive and at most C
+--   signs-turned, signs-kept   the two cases of rule 2's signs
+use mathlib.Core.Path.{_≡_, refl, sym, _∙_, ap, ap₂, subst}
+use mathlib.Core.Logic.{_≢_, ⊎-elim}
+use mathlib.Core.Bool.{Bool, true, false, not, cond}
+use mathlib.Core.List.{List, [], _∷_, _++_}
+use Prim.Native.Nat.{ℕ, zero, suc, _+_, _-_, _^_, _≤_, _<_}
+use native.Mathlib.Nat.{pos-of-ne-zero, le-trans, le-of-dvd, add-zero, dvd-one, eq-or-lt-of-le}
+use native.Mathlib.Numerals.{add-one}
+use native.Mathlib.Omega.{arith}
+use lib.Dec.{T, ltb→lt, leb→le}
+use lib.IntN.{ℤ, pos, negsuc, natAbs}
+use lib.ListN.{length, getD, take, drop, set}
+use lib.Seq.{take-suc, take-all, take-suc-set, drop-cons, drop-drop, drop-set-lt, getD-drop}
+use lib.Signed.{mag, ltZ, quotZ}
+use mir.Syntax.{w64}
+use mir.Val.{SFits, ofZ, toZ}
+use mir.Facts.{sfits-lit, toZ-ofZ}
+use borrow.Author.Needs.{sfits-of}
+use Rattle.algebra.specs.Integers.{natAbs-negℤ, natAbs-zero}
+use Rattle.algebra.specs.Polynomials.{Polynomial, coeff, negate, isZeroℤ, isZero, lead, lowest, degree, isZeroℤ-not-iff, isZero-coeff, T-&&}
+use Rattle.algebra.specs.Coefficients.{Within, coeff-negate, coeff-degree, lead-nonzero, degree-le}
+use Rattle.algebra.specs.Gcd.{gcd, content, divideBy, gcd-comm, gcd-assoc, gcd-divides-left, gcd-pos-left, gcd-le-left}
+use Rattle.algebra.specs.Gcd.{content-divides, content-pos, content-append, divideBy-getD, divideBy-le}
+use Rattle.rules.specs.Limits.{bound, small}
+use Rattle.rules.specs.Rows.{every}
+use Rattle.rules.specs.Elimination.{turnSigns}
+use Rattle.integers.specs.Ranges.{ofZ-inj}
+
+-- Every coefficient has a size below n.
+abbrev pub Below : ℕ → Polynomial → Type 0
+Below n p = (k : ℕ) → natAbs (getD p k (pos 0)) < n
+
+-- ---- an i64 and its bits
+
+pub read-back : (a : ℤ) → mag a < 2 ^ 63 → toZ w64 (ofZ w64 a) ≡ a
+read-back a h = toZ-ofZ (sfits-of h)
+
+-- The machine tests the bits.
+pub zero-bits : {a : ℤ} → SFits w64 a → ofZ w64 a ≡ 0 → a ≡ pos 0
+zero-bits f e = ofZ-inj {z = pos 0} f (sfits-lit tt) e
+
+pub nonzero-bits : {a : ℤ} → (ofZ w64 a ≡ 0 → ⊥) → a ≢ pos 0
+nonzero-bits h e = h (ap (ofZ w64) e)
+
+-- ---- from the front
+
+pub drop-next : (p : Polynomial) (i : ℕ) → i < length p → drop i p ≡ getD p i (pos 0) ∷ drop (i + 1) p
+drop-next p i h = rw (add-one, drop-cons p i (pos 0))
+
+pub skip-zero : {A : Type 0} (f : Polynomial → A) → ((q : Polynomial) → f (pos 0 ∷ q) ≡ f q)
+    → (p : Polynomial) (i : ℕ) → i < length p → getD p i (pos 0) ≡ pos 0 → f (drop i p) ≡ f (drop (i + 1) p)
+skip-zero f h p i l e = ap f (drop-next p i l ∙ ap (λ a. a ∷ drop (i + 1) p) e) ∙ h (drop (i + 1) p)
+
+pub isZero-false : (p : Polynomial) (k : ℕ) → getD p k (pos 0) ≢ pos 0 → isZero p ≡ false
+unfolding coeff
+isZero-false p k n = cases (isZero p) (λ z. n (isZero-coeff p z k))
+  where
+    cases : (t : Bool) → (T t → ⊥) → t ≡ false
+    cases true h = absurd (h tt)
+    cases false h = refl
+
+pub lowest-first : (a : ℤ) (q : Polynomial) → a ≢ pos 0 → lowest (a ∷ q) ≡ a
+unfolding lowest
+lowest-first a q n = cases (isZeroℤ a) (isZeroℤ-not-iff a .1 n)
+  where
+    cases : (t : Bool) → T (not t) → cond t (lowest q) a ≡ a
+    cases true h = absurd h
+    cases false h = refl
+
+-- Coefficient i is joined to the greatest common divisor d of those before it.
+pub content-next : (d : ℕ) (p : Polynomial) (i : ℕ) → i < length p
+    → gcd d (content (drop i p)) ≡ gcd (gcd (natAbs (getD p i (pos 0))) d) (content (drop (i + 1) p))
+unfolding content
+content-next d p i h =
+    let a = natAbs (getD p i (pos 0)) in
+    let rest = content (drop (i + 1) p) in
+    ap (λ q. gcd d (content q)) (drop-next p i h) ∙ sym (gcd-assoc d a rest) ∙ ap (λ e. gcd e rest) (gcd-comm d a)
+
+pub one-gcd : (n : ℕ) → gcd 1 n ≡ 1
+one-gcd n = dvd-one .0 (gcd-divides-left 1 n)
+
+-- ---- from the top
+
+pub within-down : (p : Polynomial) (n : ℕ) → 1 < n → Within p (n - 1) → coeff p (n - 1) ≡ pos 0 → Within p (n - 1 - 1)
+within-down p n h w e k l = ⊎-elim at-top (w k) (eq-or-lt-of-le (omega arith))
+  where
+    at-top : n - 1 ≡ k → coeff p k ≡ pos 0
+    at-top t = rw t at e
+
+pub degree-bottom : (p : Polynomial) (n : ℕ) → n ≤ 1 → Within p (n - 1) → degree p ≡ 0
+degree-bottom p n h w = omega (arith, degree-le p 0 (λ k l. w k (omega arith)))
+
+-- ---- a list q that is overwritten from the front with what t has; l is what it had
+
+-- One place more.
+pub prefix-next : {A : Type 0} (q t : List A) (i : ℕ) (a z : A) → i < length q → i < length t → take i q ≡ take i t → a ≡ getD t i z
+    → take (i + 1) (set q i a) ≡ take (i + 1) t
+prefix-next q t i a z h g e f =
+    rw add-one (take-suc-set q i a h ∙ ap₂ (λ r b. r ++ (b ∷ [])) e f ∙ sym (take-suc t i z g))
+
+pub prefix-all : {A : Type 0} (q t : List A) (i : ℕ) → length q ≤ i → length t ≤ i → take i q ≡ take i t → q ≡ t
+prefix-all q t i h g e = sym (take-all i q h) ∙ e ∙ take-all i t g
+
+-- The places from i on are as they were.
+pub suffix-next : {A : Type 0} (q l : List A) (i : ℕ) (a : A) → drop i q ≡ drop i l → drop (i + 1) (set q i a) ≡ drop (i + 1) l
+suffix-next q l i a e = drop-set-lt (i + 1) q i a (omega arith) ∙ sym (drop-drop 1 i q) ∙ ap (drop 1) e ∙ drop-drop 1 i l
+
+pub suffix-first : {A : Type 0} (q l : List A) (i : ℕ) (z : A) → drop i q ≡ drop i l → getD q i z ≡ getD l i z
+suffix-first q l i z e = simp add-zero at (sym (getD-drop i q 0 z) ∙ ap (λ r. getD r 0 z) e ∙ getD-drop i l 0 z)
+
+-- ---- division, and sizes
+
+pub positive : (d : ℤ) → T (ltZ (pos 0) d) → (pos (natAbs d) ≡ d) × (0 < natAbs d)
+positive (pos n) h = (refl, ltb→lt 0 n h)
+positive (negsuc n) h = absurd h
+
+-- The quotient by a positive d is a place of the divided polynomial.
+pub quotient-at : (d : ℤ) → T (ltZ (pos 0) d) → (p : Polynomial) (i : ℕ)
+    → quotZ (getD p i (pos 0)) d ≡ getD (divideBy (natAbs d) p) i (pos 0)
+quotient-at d h p i = ap (quotZ (getD p i (pos 0))) (sym (positive d h .0)) ∙ sym (divideBy-getD (natAbs d) p i)
+
+every-at : {A : Type 0} (t : A → Bool) (z : A) → T (t z) → (l : List A) → T (every t l) → (k : ℕ) → T (t (getD l k z))
+unfolding every
+every-at t z d [] h k = d
+every-at t z d (x ∷ l) h zero = T-&& (t x) (every t l) .0 h .0
+every-at t z d (x ∷ l) h (suc k) = every-at t z d l (T-&& (t x) (every t l) .0 h .1) k
+
+pub small-at : (p : Polynomial) → T (every small p) → (k : ℕ) → natAbs (getD p k (pos 0)) ≤ bound
+unfolding small
+small-at p h k = leb→le (natAbs (getD p k (pos 0))) bound (every-at small (pos 0) tt p h k)
+
+pub below-of-small : (p : Polynomial) → T (every small p) → Below (2 ^ 63) p
+below-of-small p h k = omega (arith, small-at p h k)
+
+pub below-divideBy : {n : ℕ} (d : ℕ) (p : Polynomial) → Below n p → Below n (divideBy d p)
+below-divideBy d p h k = omega (arith, divideBy-le d p k, h k)
+
+pub below-negate : {n : ℕ} (p : Polynomial) → Below n p → Below n (negate p)
+unfolding coeff
+below-negate {n} p h k = subst (λ m. m < n) (sym (ap natAbs (coeff-negate p k) ∙ natAbs-negℤ (coeff p k))) (h k)
+
+-- ---- the multipliers of rule 2
+
+content-le : (p : Polynomial) → T (every small p) → T (not (isZero p)) → content p ≤ bound
+unfolding coeff
+content-le p h n =
+    let nonzero = pos-of-ne-zero (λ e. lead-nonzero p .0 n (sym (coeff-degree p) ∙ natAbs-zero e)) in
+    le-trans (le-of-dvd nonzero (content-divides p (degree p))) (small-at p h (degree p))
+
+-- The common content of a nonzero polynomial within the bound and of any other is positive and within the bound.
+pub content-bounds : (a b : Polynomial) → T (every small a) → T (not (isZero a)) → (0 < content (a ++ b)) × (content (a ++ b) ≤ bound)
+content-bounds a b h n =
+    rw (content-append a b) (
+      gcd-pos-left (content a) (content b) (content-pos a n),
+      le-trans (gcd-le-left (content a) (content b) (content-pos a n)) (content-le a h n),
+    )
+
+pub signs-turned : (g h : Polynomial) → ltZ (lead g) (pos 0) ≡ true → turnSigns g h ≡ record { g = negate g; h = negate h }
+unfolding turnSigns
+signs-turned g h e = rw e
+
+pub signs-kept : (g h : Polynomial) → ltZ (lead g) (pos 0) ≡ false → turnSigns g h ≡ record { g = g; h = h }
+unfolding turnSigns
+signs-kept g h e = rw e

@@ -1,4 +1,5 @@
 pub mod Content
 pub mod Product
 pub mod Shift
+pub mod Ascending
 pub mod RootSearch

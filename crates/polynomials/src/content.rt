@@ -1,1 +1,152 @@
 // Zero test, degree, lowest and highest coefficient, content, division by it, and the multipliers of rule 2.
+ghost use mathlib.Core.Path.{_≡_};
+ghost use mathlib.Core.Bool.{not};
+ghost use mathlib.Core.List.{_++_};
+ghost use Prim.Native.Nat.{ℕ, _^_, _<_};
+ghost use lib.Dec.{T};
+ghost use lib.IntN.{pos, natAbs};
+ghost use lib.Signed.{ltZ};
+ghost use lib.ListN.{length};
+ghost use Rattle.algebra.specs.Polynomials as Polynomials;
+ghost use Rattle.algebra.specs.Gcd as Gcd;
+ghost use Rattle.polynomials.specs.Content.{Below};
+ghost use Rattle.rules.specs.Limits.{small};
+ghost use Rattle.rules.specs.Rows.{every};
+ghost use Rattle.rules.specs.Elimination as Elimination;
+
+// Stops at the first nonzero coefficient.
+pub fn is_zero(p: &[i64]) -> bool
+    ensures { λ r. ⌜ r ≡ Polynomials.isZero (now (p .entry)) ⌝ }
+{
+    let mut i = 0;
+    while i < p.len() {
+        if p[i] != 0 {
+            return false;
+        }
+        i += 1;
+    }
+    true
+}
+
+// From the top: the first nonzero coefficient found is the highest.
+pub fn degree(p: &[i64]) -> usize
+    ensures { λ r. ⌜ r ≡ Polynomials.degree (now (p .entry)) ⌝ }
+{
+    let mut n = p.len();
+    while 1 < n {
+        if p[n - 1] != 0 {
+            return n - 1;
+        }
+        n -= 1;
+    }
+    0
+}
+
+// The highest nonzero coefficient stands at the degree.
+pub fn lead(p: &[i64]) -> i64
+    ensures { λ r. ⌜ r ≡ Polynomials.lead (now (p .entry)) ⌝ }
+{
+    let d = degree(p);
+    if d < p.len() { p[d] } else { 0 }
+}
+
+// The first nonzero coefficient from the front.
+pub fn lowest(p: &[i64]) -> i64
+    ensures { λ r. ⌜ r ≡ Polynomials.lowest (now (p .entry)) ⌝ }
+{
+    let mut i = 0;
+    while i < p.len() {
+        if p[i] != 0 {
+            return p[i];
+        }
+        i += 1;
+    }
+    0
+}
+
+// Once the greatest common divisor is 1, the coefficients that are left do not matter.
+pub fn content(p: &[i64]) -> u64
+    ensures { λ r. ⌜ r ≡ Gcd.content (now (p .entry)) ⌝ }
+{
+    let mut d = 0;
+    let mut i = 0;
+    while i < p.len() {
+        d = integers::gcd(integers::magnitude(p[i]), d);
+        if d == 1 {
+            return 1;
+        }
+        i += 1;
+    }
+    d
+}
+
+pub fn content_of_both(a: &[i64], b: &[i64]) -> u64
+    ensures { λ r. ⌜ r ≡ Gcd.content (now (a .entry) ++ now (b .entry)) ⌝ }
+{
+    integers::gcd(content(a), content(b))
+}
+
+// Every coefficient divided by d, toward zero: exact where d divides them all.
+pub fn divided(p: &[i64], d: i64) -> [i64; 16]
+    requires { ⌜ (length (now p) ≡ 16) × Below (2 ^ 63) (now p) × T (ltZ (pos 0) d) ⌝ }
+    ensures { λ r. ⌜ r ≡ Gcd.divideBy (natAbs d) (now (p .entry)) ⌝ }
+{
+    let mut q = [0; 16];
+    let mut i = 0;
+    while i < 16 {
+        q[i] = integers::quotient(p[i], d);
+        i += 1;
+    }
+    q
+}
+
+// The same of any number of coefficients, where they stand.
+pub fn divide_in_place(p: &mut [i64], d: i64)
+    requires { ⌜ Below (2 ^ 63) (now p) × T (ltZ (pos 0) d) ⌝ }
+    ensures { λ _. ⌜ now (p .exit) ≡ Gcd.divideBy (natAbs d) (now (p .entry)) ⌝ }
+{
+    let mut i = 0;
+    while i < p.len() {
+        p[i] = integers::quotient(p[i], d);
+        i += 1;
+    }
+}
+
+pub fn negated(p: &[i64]) -> [i64; 16]
+    requires { ⌜ (length (now p) ≡ 16) × Below (2 ^ 63) (now p) ⌝ }
+    ensures { λ r. ⌜ r ≡ Polynomials.negate (now (p .entry)) ⌝ }
+{
+    let mut q = [0; 16];
+    let mut i = 0;
+    while i < 16 {
+        q[i] = integers::negated(p[i]);
+        i += 1;
+    }
+    q
+}
+
+pub struct Multipliers {
+    pub g: [i64; 16],
+    pub h: [i64; 16],
+}
+
+// Rule 2: "g = a/d, h = -b/d; a negative highest coefficient of g turns the signs of both". The content d is at most C,
+// since a is not zero.
+pub fn multipliers_of(a: &[i64], b: &[i64]) -> Multipliers
+    requires { ⌜ (length (now a) ≡ 16) × T (every small (now a)) × T (not (Polynomials.isZero (now a))) ⌝ }
+    requires { ⌜ (length (now b) ≡ 16) × T (every small (now b)) ⌝ }
+    ensures { λ r. ⌜ r .g ≡ Elimination.multipliers (now (a .entry)) (now (b .entry)) .g ⌝ }
+    ensures { λ r. ⌜ r .h ≡ Elimination.multipliers (now (a .entry)) (now (b .entry)) .h ⌝ }
+{
+    let d = content_of_both(a, b) as i64;
+    let g = divided(a, d);
+    let h = negated(&divided(b, d));
+    if lead(&g) < 0 {
+        Multipliers {
+            g: negated(&g),
+            h: negated(&h),
+        }
+    } else {
+        Multipliers { g, h }
+    }
+}

@@ -1,1 +1,5 @@
+pub mod Checks
 pub mod Flat
+pub mod Found
+pub mod Mirroring
+pub mod Worked

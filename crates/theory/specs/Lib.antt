@@ -17,3 +17,4 @@ pub mod Agreement
 pub mod Settled
 pub mod Trailing
 pub mod Demands
+pub mod StoreDemands

@@ -1,0 +1,92 @@
+-- `polynomials::content::content` meets its contract. The loop's invariant: the content is the greatest common divisor of d and of the
+-- content of the coefficients from i on.
+-- Assumes nothing.
+use mathlib.Core.Path.{_≡_, sym, _∙_, ap}
+use mathlib.Core.List.{List}
+use Prim.Native.Nat.{ℕ, _+_, _≤_, _-_}
+use native.Mathlib.Omega.{arith}
+use borrow.Author.Needs.{needs}
+use denote.Ref.{now}
+use lib.IntN.{ℤ, pos, natAbs}
+use lib.ListN.{length, getD, drop, drop-of-length-le}
+use Rattle.algebra.specs.Gcd.{gcd, content, zero-gcd, gcd-zero}
+use Rattle.polynomials.specs.Content.{read-back, content-next, one-gcd}
+use Rattle.polynomials.proofs.content.content.Statement.{statement}
+use Rattle.polynomials.proofs.content.content.Tie as tie
+
+abbrev Inv-loop : tie.InvT-loop
+Inv-loop p d₀ i₀ d i = (i ≤ length p) × (content p ≡ gcd d (content (drop i p)))
+
+abbrev μ-loop : tie.MeasureT-loop
+μ-loop p d₀ i₀ d i = length p - i
+
+-- the content, with coefficient i joined to d
+module _ (c : tie.After-gcd Inv-loop μ-loop) where
+  abbrev p : List ℤ
+  p = now (c .before .before .before .before .before .args .p)
+
+  abbrev i : ℕ
+  i = c .before .before .before .before .loop .i
+
+  abbrev rest : ℕ
+  rest = content (drop (i + 1) p)
+
+  size : c .before .magnitude .result ≡ natAbs (getD p i (pos 0))
+  size = c .before .magnitude .ensures ∙ ap natAbs (read-back (getD p i (pos 0)) (c .before .before .magnitude-arg .given))
+
+  joined : content p ≡ gcd (c .gcd .result) rest
+  joined =
+      let d = c .before .before .before .before .loop .d in
+      c .before .before .before .before .loop .inv .1 ∙ content-next d p i (c .before .before .before .loop-test .taken)
+      ∙ ap (λ e. gcd e rest) (sym (c .gcd .ensures ∙ ap (λ e. gcd e d) size))
+
+loop-holds : tie.Need-loop-holds Inv-loop μ-loop
+loop-holds c = (omega arith, sym (zero-gcd (content (now (c .args .p)))))
+
+mul-magnitude : tie.Need-mul-magnitude Inv-loop μ-loop
+mul-magnitude c = search needs
+
+shared-slice-copy-out-magnitude : tie.Need-shared-slice-copy-out-magnitude Inv-loop μ-loop
+shared-slice-copy-out-magnitude c = search needs
+
+magnitude-requires : tie.Need-magnitude-requires Inv-loop μ-loop
+magnitude-requires c κs = search needs
+
+gcd-requires : tie.Need-gcd-requires Inv-loop μ-loop
+gcd-requires c κs = search needs
+
+returns : tie.Need-returns Inv-loop μ-loop
+returns c = sym (joined (c .before) ∙ ap (λ e. gcd e (rest (c .before))) (c .if1 .taken) ∙ one-gcd (rest (c .before)))
+
+add-i : tie.Need-add-i Inv-loop μ-loop
+add-i c = search needs
+
+loop-less : tie.Need-loop-less Inv-loop μ-loop
+loop-less c = search needs
+
+loop-again : tie.Need-loop-again Inv-loop μ-loop
+loop-again c = (omega arith, joined (c .before))
+
+returns-2 : tie.Need-returns-2 Inv-loop μ-loop
+unfolding content
+returns-2 c =
+    let d = c .before .loop .d in
+    sym (c .before .loop .inv .1 ∙ ap (λ q. gcd d (content q)) (drop-of-length-le (now (c .before .before .args .p)) (c .loop-test .left))
+    ∙ gcd-zero d)
+
+pub content-spec : {M : Type 1} → statement M
+content-spec =
+    tie.close
+    (tie.spec
+    Inv-loop
+    μ-loop
+    loop-holds
+    mul-magnitude
+    shared-slice-copy-out-magnitude
+    magnitude-requires
+    gcd-requires
+    returns
+    add-i
+    loop-less
+    loop-again
+    returns-2)
