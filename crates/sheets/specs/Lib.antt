@@ -1,3 +1,4 @@
 pub mod Reader
 pub mod Writer
+pub mod WriterChecks
 pub mod ReadBack

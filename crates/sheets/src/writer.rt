@@ -1,5 +1,7 @@
 // Writing a sheet. Each writing function stores its bytes from a place on, as far as the store goes, counts them all and gives
 // the next place: called on an empty part of the store it only counts, so that nothing is written before the length is known.
+mod checks;
+
 ghost use mathlib.Core.Path.{_≡_};
 ghost use mathlib.Core.List.{[], _∷_, map};
 ghost use Prim.Native.Nat.{_+_, _*_, _^_, _≤_, _<_};
