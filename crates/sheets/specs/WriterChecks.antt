@@ -5,23 +5,30 @@
 --   every-passed, every-failed   one member more passes a test of all, or fails it
 use mathlib.Core.Path.{_≡_, refl, sym, _∙_, ap, ap₂, subst}
 use mathlib.Core.Bool.{Bool, true, false, _&&_, _||_, not, cond}
+use mathlib.Core.Logic.{_≢_}
 use mathlib.Core.List.{List, [], _∷_, _++_, map}
 use Prim.Native.Nat.{ℕ, zero, suc, _+_, _-_, _*_, _≤_, _<_}
-use native.Mathlib.Nat.{add-zero, sub-zero, suc-sub-suc, not-suc-le-zero, le-of-suc-le-suc}
+use native.Mathlib.Nat.{add-zero, zero-add, suc-ne-zero, sub-zero, suc-sub-suc, not-suc-le-zero, le-of-suc-le-suc}
 use native.Mathlib.Numerals.{add-one}
 use native.Mathlib.Omega.{arith}
+use borrow.Author.Tests.{le-leb, lt-leb}
 use lib.Dec.{T, leb, eqb}
 use lib.IntN.{ℤ, pos, negsuc, negℤ, natAbs, _+ℤ_, _-ℤ_}
 use lib.Signed.{leZ, leZ-yes, _≤ℤ_}
 use lib.ListN.{length, take, drop, getD}
-use lib.Seq.{drop-cons, drop-drop, getD-drop, take-nil}
+use lib.Seq.{drop-cons, drop-drop, getD-drop, take-nil, sets, sets-eq}
 use Rattle.algebra.specs.Integers.{natAbs-+ℤ, natAbs-negℤ}
 use Rattle.algebra.specs.Order.{≤ℤ-trans, natAbs-≤-iff}
 use Rattle.algebra.specs.Polynomials.{isZero}
 use Rattle.rules.specs.Limits.{relationLength, small}
 use Rattle.rules.specs.Rows.{Row, Relation, every, smallRow}
-use Rattle.rules.specs.Stores.{Sizes, span, rowOf, rowsOf, relationOf, relationsOf, relationNeed, sizesRight, unusedZero, rowRight, relationRight, numbersRight}
-use Rattle.rules.specs.SheetCalls.{orderRight, checkWrite}
+use Rattle.rules.specs.Stores.{Sizes, span, rowOf, rowsOf, relationOf, relationsOf, relationNeed, rowNeed, sizesRight, countRight, unusedZero, rowRight, relationRight, numbersRight}
+use Rattle.rules.specs.Layout.{StoresRight, SizeBounds, checkStores-zero, checkStores-order, size-bounds, countRight-iff, lengthsRight-iff}
+use Rattle.rules.specs.Calls.{overwrite}
+use Rattle.rules.specs.Sheets.{writeSheet}
+use Rattle.sheets.specs.Writer.{sheetGiven}
+use Rattle.sheets.specs.declared.writer.Written as declared
+use Rattle.rules.specs.SheetCalls.{WriteCall, orderRight, orderGiven, checkWrite, sheetOf, unwritten, written, afterWriteCheck, writeCall}
 
 -- ---- sizes
 
@@ -105,3 +112,93 @@ pub check-order : (z : Sizes) (count : ℕ) (order : List ℕ) (rowStore relatio
     (cond (leb (z .m * 320) (length rowStore) && leb 5136 (length relationStore)) (cond (numbersRight z count rowStore relationStore) 0 5) 1) 2
 unfolding checkWrite
 check-order z count order rowStore relationStore = refl
+
+-- What the checks tell the writer.
+pub record Checked (z : Sizes) (count : ℕ) (rowStore relationStore : List ℤ) : Type 0 where
+  pub columns : z .m ≤ 4
+  pub rows : z .m * 320 ≤ length rowStore
+  pub blocks : natAbs (z .l) ≤ 64
+  pub few : count ≤ 16
+  pub relations : count * 321 ≤ length relationStore
+
+without-order : (s t : Bool) (n : ℕ) → cond (s && t) n 2 ≡ 0 → cond s n 2 ≡ 0
+without-order true true n e = e
+without-order true false n e = absurd (suc-ne-zero 1 e)
+without-order false t n e = e
+
+pub checked : (z : Sizes) (count : ℕ) (order : List ℕ) (rowStore relationStore : List ℤ)
+    → checkWrite z count order rowStore relationStore ≡ 0 → Checked z count rowStore relationStore
+unfolding checkWrite rowNeed
+checked z count order rowStore relationStore e =
+    record {
+      columns = sizes .few;
+      rows = long .0;
+      blocks = natAbs-≤-iff (z .l) .1 (≤ℤ-trans (sizes .low) (sizes .ordered), sizes .high);
+      few = countRight-iff count .0 (right .few);
+      relations = omega (arith, long .1, countRight-iff count .0 (right .few));
+    }
+  where
+    right : StoresRight z count rowStore relationStore
+    right =
+        checkStores-zero z count rowStore relationStore .0
+        (checkStores-order z count rowStore relationStore ∙ without-order (sizesRight z && countRight count) (orderRight (z .m) order) _ e)
+
+    sizes : SizeBounds z
+    sizes = size-bounds z (right .sizes)
+
+    long : (rowNeed (z .m) ≤ length rowStore) × (relationNeed ≤ length relationStore)
+    long = lengthsRight-iff (z .m) rowStore relationStore .0 (right .lengths)
+
+-- ---- the call
+
+-- What a call did as a whole: the fields that it returned, and the byte store afterwards.
+abbrev pub callOf : declared.Written → List ℕ → WriteCall
+callOf r bytes = record { refusal = r .refusal; length = r .length; byteStore = bytes }
+
+-- The first n columns of the order are written: none, or m.
+pub sheet-given : (z : Sizes) (count : ℕ) (order : List ℕ) (rowStore relationStore : List ℤ) (n : ℕ) → n ≡ cond (every (eqb 0) order) 0 (z .m)
+    → writeSheet (sheetGiven z count (take n order) rowStore relationStore) ≡ writeSheet (sheetOf z count order rowStore relationStore)
+unfolding sheetOf sheetGiven orderGiven
+sheet-given z count order rowStore relationStore n e =
+    ap (λ columns. writeSheet (sheetGiven z count columns rowStore relationStore)) (ap (λ k. take k order) e ∙ cases (every (eqb 0) order))
+  where
+    cases : (t : Bool) → take (cond t 0 (z .m)) order ≡ cond t [] (take (z .m) order)
+    cases true = refl
+    cases false = refl
+
+pub given-few : (t : Bool) {m : ℕ} → m ≤ 4 → cond t 0 m ≤ 4
+given-few true h = omega arith
+given-few false h = h
+
+pub call-refused : (z : Sizes) (count : ℕ) (order : List ℕ) (rowStore relationStore : List ℤ) (byteStore : List ℕ) (n : ℕ)
+    → n ≡ checkWrite z count order rowStore relationStore → n ≢ 0
+    → unwritten n byteStore ≡ writeCall z count order rowStore relationStore byteStore
+unfolding writeCall
+call-refused z count order rowStore relationStore byteStore zero e ne = absurd (ne refl)
+call-refused z count order rowStore relationStore byteStore (suc n) e ne =
+    ap (afterWriteCheck z count order rowStore relationStore byteStore) e
+
+pub call-checked : (z : Sizes) (count : ℕ) (order : List ℕ) (rowStore relationStore : List ℤ) (byteStore : List ℕ)
+    → checkWrite z count order rowStore relationStore ≡ 0
+    → written (writeSheet (sheetOf z count order rowStore relationStore)) byteStore ≡ writeCall z count order rowStore relationStore byteStore
+unfolding writeCall
+call-checked z count order rowStore relationStore byteStore e = ap (afterWriteCheck z count order rowStore relationStore byteStore) (sym e)
+
+pub written-short : (bytes byteStore : List ℕ) → length byteStore < length bytes → unwritten 1 byteStore ≡ written bytes byteStore
+unfolding written
+written-short bytes byteStore h = rw (lt-leb (length bytes) (length byteStore) h)
+
+pub written-whole : (bytes byteStore : List ℕ) → length bytes ≤ length byteStore
+    → _≡_ {A = WriteCall} (record { refusal = 0; length = length bytes; byteStore = sets byteStore 0 bytes }) (written bytes byteStore)
+unfolding written overwrite
+written-whole bytes byteStore h =
+    rw (le-leb (length bytes) (length byteStore) h)
+    (λ i. record { refusal = 0; length = length bytes; byteStore = whole i })
+  where
+    whole : sets byteStore 0 bytes ≡ bytes ++ drop (length bytes) byteStore
+    whole = sets-eq bytes byteStore 0 (omega arith) ∙ ap (λ n. bytes ++ drop n byteStore) (zero-add (length bytes))
+
+-- An empty part stays empty.
+pub sets-none : (i : ℕ) (bytes : List ℕ) → sets [] i bytes ≡ []
+sets-none i [] = refl
+sets-none i (b ∷ bytes) = sets-none (suc i) bytes

@@ -11,6 +11,8 @@ ghost use lib.ListN.{length};
 ghost use Rattle.rules.specs.Sheets.{trim, blockTerms, termsFrom, equationNumbers, relationLine, orderLine, writeSheet};
 ghost use Rattle.rules.specs.Stores.{parts, rowOf, rowsOf, relationOf, relationsOf};
 ghost use Rattle.sheets.specs.Writer.{Put, digitsOf, spaced, termAt, numbersOf, nonzeroCount, sheetGiven, sizesOf};
+ghost use Rattle.sheets.specs.WriterChecks.{callOf};
+ghost use Rattle.rules.specs.SheetCalls.{writeCall};
 
 // The sizes of a system: "m unknowns (1 to 4)", blocks from t to l.
 pub struct Sizes {
@@ -279,4 +281,39 @@ fn put_sheet(
     let after_count = put_count(bytes, after_rows, count);
     let after_relations = put_relations(bytes, after_count, relations, count, l);
     put_order(bytes, after_relations, columns)
+}
+
+// "Every refusal returns its number, all other fields 0."
+pub struct Written {
+    pub refusal: u8,
+    pub length: usize,
+}
+
+// The system of the stores and its column order as a sheet: all four numbers of the order 0 for none, otherwise a permutation of
+// 1..m and zeros past its end. Nothing is written on a refusal, and bytes past the length stay.
+pub fn write_sheet(
+    rows: &[i64],
+    relations: &[i64],
+    sizes: Sizes,
+    count: usize,
+    order: [usize; 4],
+    bytes: &mut [u8],
+) -> Written
+    ensures { λ r. ⌜ callOf r (now (bytes .exit)) ≡ writeCall (sizesOf sizes) count order (now (rows .entry)) (now (relations .entry)) (now (bytes .entry)) ⌝ }
+{
+    let refusal = checks::check_write(rows, relations, sizes, count, order);
+    if refusal != 0 {
+        return Written { refusal, length: 0 };
+    }
+    let n = checks::order_length(order, sizes.m);
+    let all = &order[..];
+    let length = put_sheet(&mut bytes[..0], rows, relations, sizes, count, &all[..n]);
+    if bytes.len() < length {
+        return Written {
+            refusal: 1,
+            length: 0,
+        };
+    }
+    put_sheet(bytes, rows, relations, sizes, count, &all[..n]);
+    Written { refusal: 0, length }
 }
