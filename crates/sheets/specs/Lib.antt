@@ -9,5 +9,6 @@ pub mod RowTerms
 pub mod OrderedTerms
 pub mod WrittenSections
 pub mod WrittenOrder
+pub mod WriterChecks
 pub mod ReadBack
 pub mod CallsReadBack
