@@ -15,7 +15,7 @@
 --   degree-mul, lead-mul, mul-nonzero   degree and leading coefficient of a product; a product of nonzero polynomials is nonzero
 --   lowest-iff, lowest-place   the lowest nonzero coefficient and the zeros below its place
 use mathlib.Core.Path.{_≡_, refl, sym, _∙_, ap, ap₂, fun-ext}
-use mathlib.Core.Logic.{_≢_, _↔_, _⊎_, inl, inr, ⊎-elim}
+use mathlib.Core.Logic.{_≢_, _↔_, by-cases}
 use Prim.Native.Nat.{ℕ, zero, suc, _+_, _-_, _≤_, _<_}
 use native.Mathlib.Nat.{not-suc-le-zero, le-of-suc-le-suc, sub-zero, suc-sub-suc, zero-add, suc-add, le-antisymm}
 use native.Mathlib.Omega.{arith, by-contra}
@@ -26,15 +26,12 @@ use lib.ListN.{length, take, drop, List·getD-map, List·getD-eq-default}
 use lib.Seq.{getD-take, getD-drop, ext-getD}
 use lib.IntN.{ℤ, pos, negℤ, _+ℤ_, _*ℤ_, +ℤ-idl, +ℤ-idr, *ℤ-zero, zero-*ℤ}
 use Rattle.algebra.specs.Integers.{ringℤ, *ℤ-nonzero}
+use Rattle.algebra.specs.Order.{dec-T}
 use Rattle.algebra.specs.Sums.{sumBelow, sumBelow-front, sumBelow-zeros}
 use Rattle.algebra.specs.Polynomials.{Polynomial, coeff, add, scale, negate, mirror, mul, shiftBy}
 use Rattle.algebra.specs.Polynomials.{isZeroℤ, isZero, degree, lead, lowest}
 use Rattle.algebra.specs.Polynomials.{isZeroℤ-iff, isZeroℤ-not-iff, isZero-cons, isZero-coeff, coeff-isZero}
 use Rattle.algebra.specs.Polynomials.{isZero-mul-left, isZero-mul-right}
-
-passes-or-not : (t : Bool) → T t ⊎ T (not t)
-passes-or-not true = inl tt
-passes-or-not false = inr tt
 
 -- ---- coefficients of the operations' results
 
@@ -270,7 +267,7 @@ mul-nonzero p q f g = not-T (isZero (mul p q)) (λ z. coeff-mul-nonzero p q f g 
 
 -- The leading coefficient of a product, zero or not.
 pub lead-mul : (p q : Polynomial) → lead (mul p q) ≡ lead p *ℤ lead q
-lead-mul p q = ⊎-elim left (λ f. ⊎-elim right (neither f) (passes-or-not (isZero q))) (passes-or-not (isZero p))
+lead-mul p q = by-cases (dec-T (isZero p)) left (λ f. by-cases (dec-T (isZero q)) right (neither f))
   where
     left : T (isZero p) → lead (mul p q) ≡ lead p *ℤ lead q
     left z = lead-isZero (mul p q) (isZero-mul-left p q z) ∙ sym (ap (λ e. e *ℤ lead q) (lead-isZero p z) ∙ zero-*ℤ (lead q))
@@ -278,8 +275,10 @@ lead-mul p q = ⊎-elim left (λ f. ⊎-elim right (neither f) (passes-or-not (i
     right : T (isZero q) → lead (mul p q) ≡ lead p *ℤ lead q
     right z = lead-isZero (mul p q) (isZero-mul-right p q z) ∙ sym (ap (λ e. lead p *ℤ e) (lead-isZero q z) ∙ *ℤ-zero (lead p))
 
-    neither : T (not (isZero p)) → T (not (isZero q)) → lead (mul p q) ≡ lead p *ℤ lead q
-    neither f g = sym (coeff-degree (mul p q)) ∙ ap (coeff (mul p q)) (degree-mul p q f g) ∙ coeff-mul-degrees p q
+    neither : ¬ T (isZero p) → ¬ T (isZero q) → lead (mul p q) ≡ lead p *ℤ lead q
+    neither f g =
+        sym (coeff-degree (mul p q)) ∙ ap (coeff (mul p q)) (degree-mul p q (not-T (isZero p) f) (not-T (isZero q) g))
+        ∙ coeff-mul-degrees p q
 
 -- ---- the lowest nonzero coefficient
 

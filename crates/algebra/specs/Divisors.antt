@@ -12,22 +12,23 @@
 --   divisors-positive, divisors-ascending   the members are positive, and ascend
 use Prim.Native.Nat.{ℕ, zero, suc, _+_, _*_, _/_, _%_, _≤_, _<_, _∣_}
 use mathlib.Core.Path.{_≡_, refl, sym, ap}
-use mathlib.Core.Logic.{_↔_, ite, ∥∥₁-elim, ⊎-elim, Or·elim, by-cases}
+use mathlib.Core.Logic.{_↔_, ite, ∥∥₁-elim, Or·elim, by-cases}
 use mathlib.Core.Bool.{Bool, true, false, cond, not}
 use mathlib.Core.HLevel.{×-prop}
 use mathlib.Core.List.{List, [], _∷_, map, _++_, reverse, filter}
-use mathlib.Core.List.{List·Memᴰ, List·Memᴰ·head, List·Memᴰ·tail, List·Memᴰ·not-nil, List·Memᴰ·cases-cons, List·Mem, mem-cast, mem-filter}
-use mathlib.Core.List.{mem-append, mem-append-left, mem-append-right, mem-reverse, mem-map-of-mem, exists-of-mem-map}
+use mathlib.Core.List.{List·Mem, mem-cast, mem-filter, mem-append, mem-append-left, mem-append-right}
+use mathlib.Core.List.{mem-reverse, mem-map-of-mem, exists-of-mem-map}
 use mathlib.Core.List.{Pairwise, Pairwise·nil, Pairwise·cons, Pairwise·filter, Pairwise·imp-of-mem}
 use mathlib.Core.List.{pairwise-append, pairwise-map, pairwise-reverse}
 use lib.Dec.{T, ltb→lt, lt→ltb, eqb, leb, ltb, leb→le, nleb→lt, eqb→eq}
 use native.Mathlib.Omega.{arith}
 use native.Mathlib.Bridge.{le-prop}
 use native.Mathlib.Decide.{decLe}
-use native.Mathlib.Nat.{le-refl, eq-or-lt-of-le, lt-of-not-le, mul-le-mul, mul-le-mul-left, mul-lt-mul-of-pos-right}
+use native.Mathlib.Nat.{le-refl, lt-of-not-le, mul-le-mul, mul-le-mul-left, mul-lt-mul-of-pos-right}
 use native.Mathlib.Nat.{∣-prop, dvd-of-mod-eq-zero, mod-eq-zero-of-dvd, pos-of-dvd-of-pos}
 use native.Mathlib.Nat.{mul-div-cancel', div-mul-cancel, div-eq-of-eq-mul-left}
-use Rattle.algebra.specs.Sums.{range}
+use Rattle.algebra.specs.Order.{dec-T}
+use Rattle.algebra.specs.Sums.{range, range-bounds, range-member}
 
 -- The members of a list that pass a test, in their order.
 unfoldable pub keep : {A : Type 0} → (A → Bool) → List A → List A
@@ -56,24 +57,22 @@ divisors a =
 
 -- ---- keep: the kit's `filter` by a test
 
-passes : (b : Bool) → Dec (T b)
-passes true = yes tt
-passes false = no (λ z. z)
-
-keep-filter : {A : Type 0} (t : A → Bool) (l : List A) → keep t l ≡ filter (λ x. passes (t x)) l
-unfolding keep passes
+keep-filter : {A : Type 0} (t : A → Bool) (l : List A) → keep t l ≡ filter (λ x. dec-T (t x)) l
+unfolding keep
 keep-filter t [] = refl
-keep-filter {A} t (x ∷ l) = step (t x) (keep-filter t l)
+keep-filter {A} t (x ∷ l) = step (t x) (dec-T (t x)) (keep-filter t l)
   where
-    step : (b : Bool) {k f : List A} → k ≡ f → cond b (x ∷ k) k ≡ ite (passes b) (x ∷ f) f
-    step true h = ap (λ m. x ∷ m) h
-    step false h = h
+    step : (b : Bool) (d : Dec (T b)) {k f : List A} → k ≡ f → cond b (x ∷ k) k ≡ ite d (x ∷ f) f
+    step true (yes y) h = ap (λ m. x ∷ m) h
+    step true (no n) h = absurd (n tt)
+    step false (yes y) h = absurd y
+    step false (no n) h = h
 
 pub mem-keep : {A : Type 0} (t : A → Bool) (l : List A) {x : A} → List·Mem x (keep t l) ↔ (List·Mem x l × T (t x))
-mem-keep t l = rw (keep-filter t l) (mem-filter (λ x. passes (t x)))
+mem-keep t l = rw (keep-filter t l) (mem-filter (λ x. dec-T (t x)))
 
 pub keep-pairwise : {A : Type 0} {R : A → A → Type 0} (t : A → Bool) {l : List A} → Pairwise R l → Pairwise R (keep t l)
-keep-pairwise t {l} h = rw (keep-filter t l) (Pairwise·filter (λ x. passes (t x)) h)
+keep-pairwise t {l} h = rw (keep-filter t l) (Pairwise·filter (λ x. dec-T (t x)) h)
 
 -- ---- the square root
 
@@ -108,25 +107,8 @@ lt-sqrt n = sqrtWithin-isSqrt n n (le-refl n) .1
 
 -- ---- the numbers a, a + 1, ..
 
-memᴰ-range : (a n : ℕ) {x : ℕ} → List·Memᴰ x (range a n) → (a ≤ x) × (x < a + n)
-unfolding range
-memᴰ-range a zero m = absurd (List·Memᴰ·not-nil m)
-memᴰ-range a (suc n) {x} m = ⊎-elim here (λ t. there (memᴰ-range (suc a) n t)) (List·Memᴰ·cases-cons m)
-  where
-    here : x ≡ a → (a ≤ x) × (x < a + suc n)
-    here e = omega arith
-
-    there : (suc a ≤ x) × (x < suc a + n) → (a ≤ x) × (x < a + suc n)
-    there h = omega arith
-
-range-memᴰ : (a n : ℕ) {x : ℕ} → a ≤ x → x < a + n → List·Memᴰ x (range a n)
-unfolding range
-range-memᴰ a zero h k = absurd (omega arith)
-range-memᴰ a (suc n) h k =
-    ⊎-elim (λ e. List·Memᴰ·head (sym e)) (λ l. List·Memᴰ·tail (range-memᴰ (suc a) n l (omega arith))) (eq-or-lt-of-le h)
-
 mem-range : (a n : ℕ) {x : ℕ} → List·Mem x (range a n) ↔ ((a ≤ x) × (x < a + n))
-mem-range a n = (λ m. ∥∥₁-elim m (×-prop le-prop le-prop) (memᴰ-range a n), λ h. ∣ range-memᴰ a n (h .0) (h .1) ∣₁)
+mem-range a n = (λ m. ∥∥₁-elim m (×-prop le-prop le-prop) (range-bounds a n), λ h. ∣ range-member a n (h .0) (h .1) ∣₁)
 
 range-ascending : (a n : ℕ) → Pairwise _<_ (range a n)
 unfolding range

@@ -21,22 +21,21 @@
 --   content-primitive                                   the content divided out leaves content 1
 use mathlib.Core.Path.{_≡_, refl, sym, _∙_, ap, ap₂}
 use mathlib.Core.Logic.{_≢_, _↔_, _⊎_, inl, inr}
-use mathlib.Core.Bool.{not, _&&_}
+use mathlib.Core.Bool.{not}
 use mathlib.Core.List.{List, [], _∷_, _++_, map}
-use Prim.Native.Nat.{ℕ, zero, suc, _+_, _*_, _%_, _/_, _≤_, _<_, _∣_}
-use native.Mathlib.Nat.{not-suc-le-zero, le-refl, le-antisymm, lt-irrefl, ne-of-gt, pos-of-ne-zero, zero-lt-suc, eq-zero-or-pos, add-suc}
-use native.Mathlib.Nat.{mul-zero, mul-suc, mul-one, eq-of-mul-eq-mul-left, mod-lt, zero-div, mul-div-cancel', dvd-refl, dvd-zero, dvd-trans}
+use Prim.Native.Nat.{ℕ, zero, suc, _*_, _%_, _/_, _≤_, _<_, _∣_}
+use native.Mathlib.Nat.{not-suc-le-zero, le-refl, le-antisymm, lt-irrefl, pos-of-ne-zero, zero-lt-suc, eq-zero-or-pos}
+use native.Mathlib.Nat.{mul-zero, mul-one, eq-of-mul-eq-mul-left, mod-lt, zero-div, mul-div-cancel', dvd-refl, dvd-zero, dvd-trans}
 use native.Mathlib.Nat.{dvd-mul-right, dvd-mod-iff, dvd-antisymm, mul-dvd-mul-left, dvd-of-mul-dvd-mul-left, le-of-dvd, eq-zero-of-zero-dvd}
 use native.Mathlib.Nat.{pos-of-dvd-of-pos}
 use native.Mathlib.Omega.{arith}
-use lib.Dec.{T, T-not, eqb, eqb→eq, eqb-refl, eqb·suc-zero}
-use lib.Ieee.Fits.{and-i, and-l, and-r}
+use lib.Dec.{T, T-not}
 use lib.IntN.{ℤ, pos, negsuc, natAbs, _*ℤ_, *ℤ-comm}
 use lib.ListN.{length, getD, length-map, List·getD-map}
 use lib.Signed.{quotZ}
-use Rattle.algebra.specs.Integers.{natAbs-zero, natAbs-*ℤ, one-*ℤ}
+use Rattle.algebra.specs.Integers.{natAbs-zero, natAbs-*ℤ, pos-nonzero}
 use Rattle.algebra.specs.Division.{DividesZ, quotZ-le, quotZ-exact, quotZ-dividesZ}
-use Rattle.algebra.specs.Polynomials.{isZeroℤ, isZero, scale, eval, eval-scale}
+use Rattle.algebra.specs.Polynomials.{isZero, scale, eval, eval-scale, isZero-cons, isZero-scale, scale-one}
 
 -- The first argument bounds the number of calls; the second operand is always enough (`gcd-step`).
 unfoldable pub euclid : ℕ → ℕ → ℕ → ℕ
@@ -211,22 +210,18 @@ divides-content d (a ∷ p) h = divides-gcd d (natAbs a) (content p) (h 0) (divi
 pub dividesAll-of-content : (d : ℕ) (p : List ℤ) → d ∣ content p → DividesAll d p
 dividesAll-of-content d p h k = dvd-trans d h (content-divides p k)
 
-zero-size : (n : ℕ) → n ≡ 0 → T (eqb n 0)
-zero-size n h = rw h (eqb-refl 0)
-
 pub content-zero : (p : List ℤ) → (content p ≡ 0) ↔ T (isZero p)
 unfolding content isZero
 content-zero [] = (λ h. tt, λ h. refl)
 content-zero (a ∷ p) = (forth (content-zero p .0), back (content-zero p .1))
   where
-    forth : (content p ≡ 0 → T (isZero p)) → gcd (natAbs a) (content p) ≡ 0 → T (isZeroℤ a && isZero p)
-    forth rest h =
-        let zeros = gcd-eq-zero (natAbs a) (content p) .0 h in
-        and-i (isZeroℤ a) (isZero p) (zero-size (natAbs a) (zeros .0)) (rest (zeros .1))
+    forth : (content p ≡ 0 → T (isZero p)) → gcd (natAbs a) (content p) ≡ 0 → T (isZero (a ∷ p))
+    forth rest h = let zeros = gcd-eq-zero (natAbs a) (content p) .0 h in isZero-cons a p .1 (natAbs-zero (zeros .0), rest (zeros .1))
 
-    back : (T (isZero p) → content p ≡ 0) → T (isZeroℤ a && isZero p) → gcd (natAbs a) (content p) ≡ 0
+    back : (T (isZero p) → content p ≡ 0) → T (isZero (a ∷ p)) → gcd (natAbs a) (content p) ≡ 0
     back rest h =
-        gcd-eq-zero (natAbs a) (content p) .1 (eqb→eq (natAbs a) 0 (and-l (isZeroℤ a) (isZero p) h), rest (and-r (isZeroℤ a) (isZero p) h))
+        let zeros = isZero-cons a p .0 h in
+        gcd-eq-zero (natAbs a) (content p) .1 (ap natAbs (zeros .0), rest (zeros .1))
 
 pub content-pos : (p : List ℤ) → T (not (isZero p)) → 0 < content p
 content-pos p h = pos-of-ne-zero (λ e. T-not (isZero p) h (content-zero p .0 e))
@@ -258,14 +253,6 @@ content-append (a ∷ p) q = ap (gcd (natAbs a)) (content-append p q) ∙ sym (g
 
 -- ---- division by a common divisor
 
-pos-nonzero : {d : ℕ} → 0 < d → pos d ≢ pos 0
-pos-nonzero h e = ne-of-gt h (ap natAbs e)
-
-scale-one : (p : List ℤ) → scale (pos 1) p ≡ p
-unfolding scale
-scale-one [] = refl
-scale-one (a ∷ p) = ap₂ _∷_ (one-*ℤ a) (scale-one p)
-
 pub length-divideBy : (d : ℕ) (p : List ℤ) → length (divideBy d p) ≡ length p
 unfolding divideBy
 length-divideBy d p = length-map p (λ a. quotZ a (pos d))
@@ -296,19 +283,8 @@ divideBy-one p = ap (divideBy 1) (sym (scale-one p)) ∙ divideBy-scale 1 p (zer
 pub eval-divideBy : (d : ℕ) (p : List ℤ) (x : ℤ) → DividesAll d p → pos d *ℤ eval (divideBy d p) x ≡ eval p x
 eval-divideBy d p x h = sym (eval-scale (pos d) (divideBy d p) x) ∙ ap (λ q. eval q x) (scale-divideBy d p h)
 
-eqb-mul-zero : (m n : ℕ) → 0 < m → eqb (m * n) 0 ≡ eqb n 0
-eqb-mul-zero m zero h = ap (λ e. eqb e 0) (mul-zero m)
-eqb-mul-zero zero (suc n) h = absurd (not-suc-le-zero h)
-eqb-mul-zero (suc m) (suc n) h =
-    ap (λ e. eqb e 0) (mul-suc (suc m) n ∙ add-suc (suc m * n) m) ∙ eqb·suc-zero (suc m * n + m) ∙ sym (eqb·suc-zero n)
-
-isZero-scale : (d : ℕ) (p : List ℤ) → 0 < d → isZero (scale (pos d) p) ≡ isZero p
-unfolding scale isZero
-isZero-scale d [] h = refl
-isZero-scale d (a ∷ p) h = ap₂ _&&_ (ap (λ e. eqb e 0) (natAbs-*ℤ (pos d) a) ∙ eqb-mul-zero d (natAbs a) h) (isZero-scale d p h)
-
 pub isZero-divideBy : (d : ℕ) (p : List ℤ) → 0 < d → DividesAll d p → isZero (divideBy d p) ≡ isZero p
-isZero-divideBy d p n h = sym (isZero-scale d (divideBy d p) n) ∙ ap isZero (scale-divideBy d p h)
+isZero-divideBy d p n h = sym (isZero-scale (pos d) (pos-nonzero n) (divideBy d p)) ∙ ap isZero (scale-divideBy d p h)
 
 pub content-scale : (d : ℕ) (p : List ℤ) → 0 < d → content (scale (pos d) p) ≡ d * content p
 unfolding content scale

@@ -1,7 +1,7 @@
 -- The integers as a commutative ring without zero divisors: the laws that the kit's `lib.IntN` does not have.
 --
 -- Main statements
---   ringℤ                                  the rules by which `simp` proves ring equations
+--   ringℤ = (expandℤ, sortℤ, neutralℤ)     the rules by which `simp` proves ring equations
 --   *ℤ-assoc, *ℤ-+ℤ, +ℤ-*ℤ                 associativity and distributivity of the product
 --   negℤ-*ℤ, *ℤ-negℤ                       negation and product
 --   natAbs-*ℤ, natAbs-+ℤ, natAbs-negℤ      the size of a product, of a sum (at most the sum of the sizes), of -a
@@ -13,8 +13,8 @@ use mathlib.Core.Bool.{Bool, true, false, cond}
 use lib.Dec.{T, ltb, ltb→lt}
 use native.Mathlib.Nat.{eq-zero-or-pos, mul-pos, ne-of-gt, suc-ne-zero}
 use native.Mathlib.Omega.{arith}
-use lib.IntN.{ℤ, pos, negsuc, negℤ, natAbs, sucℤ, predℤ, _+ℤ_, _*ℤ_, _-ℤ_, +ℤ-assoc, +ℤ-comm, +ℤ-idl, +ℤ-idr, +ℤ-invr, +ℤ-invl, negℤ-+ℤ, negℤ-negℤ}
-use lib.IntN.{sucℤ-+ℤ, predℤ-+ℤ, +ℤ-negℤ-cancel, subℕ, *ℤ-comm, sucℤ-*ℤ, predℤ-*ℤ, zero-*ℤ, *ℤ-zero, *ℤ-one, one, ℤ-ind, +ℤ-one, -ℤ-one}
+use lib.IntN.{ℤ, pos, negsuc, negℤ, natAbs, sucℤ, predℤ, _+ℤ_, _*ℤ_, _-ℤ_, +ℤ-assoc, +ℤ-comm, +ℤ-idl, +ℤ-idr, +ℤ-invr, +ℤ-invl}
+use lib.IntN.{negℤ-+ℤ, negℤ-negℤ, sucℤ-+ℤ, predℤ-+ℤ, +ℤ-negℤ-cancel, subℕ, *ℤ-comm, sucℤ-*ℤ, predℤ-*ℤ, zero-*ℤ, *ℤ-zero, *ℤ-one, one}
 
 pub +ℤ-left-comm : (a b c : ℤ) → a +ℤ (b +ℤ c) ≡ b +ℤ (a +ℤ c)
 +ℤ-left-comm a b c = sym (+ℤ-assoc a b c) ∙ ap (λ x. x +ℤ c) (+ℤ-comm a b) ∙ +ℤ-assoc b a c
@@ -73,8 +73,14 @@ pub *ℤ-1 : (a : ℤ) → a *ℤ pos 1 ≡ a
 unfolding one
 *ℤ-1 a = *ℤ-one a
 
--- Every sum is multiplied out, signs go inwards, and sums and products are sorted.
-pub ruleset ringℤ = (+ℤ-*ℤ, *ℤ-+ℤ, negℤ-+ℤ, negℤ-*ℤ, *ℤ-negℤ, negℤ-negℤ, *ℤ-assoc, *ℤ-comm, *ℤ-left-comm, +ℤ-assoc, +ℤ-comm, +ℤ-left-comm, +ℤ-idl, +ℤ-idr, zero-*ℤ, *ℤ-zero, one-*ℤ, *ℤ-1)
+-- Every sum is multiplied out, and signs go inwards; sums and products are sorted; 0 and 1 go.
+pub ruleset expandℤ = (+ℤ-*ℤ, *ℤ-+ℤ, negℤ-+ℤ, negℤ-*ℤ, *ℤ-negℤ, negℤ-negℤ)
+
+pub ruleset sortℤ = (*ℤ-assoc, *ℤ-comm, *ℤ-left-comm, +ℤ-assoc, +ℤ-comm, +ℤ-left-comm)
+
+pub ruleset neutralℤ = (+ℤ-idl, +ℤ-idr, zero-*ℤ, *ℤ-zero, one-*ℤ, *ℤ-1)
+
+pub ruleset ringℤ = (expandℤ, sortℤ, neutralℤ)
 
 ring-example : (a b c d : ℤ) → (a +ℤ b) *ℤ (c +ℤ negℤ d) ≡ a *ℤ c +ℤ (negℤ (d *ℤ a) +ℤ (c *ℤ b +ℤ negℤ (b *ℤ d)))
 ring-example a b c d = simp ringℤ
@@ -106,6 +112,9 @@ natAbs-+ℤ (negsuc a) (negsuc b) = omega arith
 pub natAbs-zero : {a : ℤ} → natAbs a ≡ 0 → a ≡ pos 0
 natAbs-zero {a = pos n} h = ap pos h
 natAbs-zero {a = negsuc n} h = absurd (suc-ne-zero n h)
+
+pub pos-nonzero : {n : ℕ} → 0 < n → pos n ≢ pos 0
+pos-nonzero h e = ne-of-gt h (ap natAbs e)
 
 pub no-zero-divisors : (a b : ℤ) → a *ℤ b ≡ pos 0 → (a ≡ pos 0) ⊎ (b ≡ pos 0)
 no-zero-divisors a b h = cases (eq-zero-or-pos (natAbs a)) (eq-zero-or-pos (natAbs b))

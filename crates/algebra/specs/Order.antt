@@ -3,6 +3,7 @@
 -- Main statements
 --   ≤ℤ-witness, ≤ℤ-intro                   a ≤ b exactly if a + k = b for a natural number k
 --   ≤ℤ-trans, ≤ℤ-antisym, ≤ℤ-total, ..     both orders are transitive, and ≤ is a decidable total order
+--   dec-T, dec-≤ℤ, dec-<ℤ, <ℤ-prop         a test passes or not, so both orders are decided; two proofs of a < b are equal
 --   ≤ℤ-or->, ℤ-trichotomy                  a ≤ b or b < a; a < b or a = b or b < a
 --   <ℤ-sucℤ, <ℤ-+1                         a < b exactly if a + 1 ≤ b
 --   +ℤ-≤ℤ-right, ≤ℤ-cancel-right, ..       a summand is added to both sides, and cancelled; inequalities are added
@@ -18,7 +19,7 @@ use native.Mathlib.Nat.{add-sub-of-le, le-antisymm, le-of-suc-le-suc, not-suc-le
 use native.Mathlib.Numerals.{add-one}
 use native.Mathlib.Omega.{arith}
 use native.Mathlib.Decide.{map-dec}
-use lib.Dec.{T, ltb, leb→le, le→leb, ltb→lt, lt→ltb, not-T}
+use lib.Dec.{T, T-prop, ltb, leb→le, le→leb, ltb→lt, lt→ltb, not-T}
 use lib.IntN.{ℤ, pos, negsuc, negℤ, natAbs, sucℤ, _+ℤ_, _-ℤ_, _*ℤ_, +ℤ-assoc, +ℤ-comm, +ℤ-idl, +ℤ-idr, +ℤ-invl, +ℤ-invr}
 use lib.IntN.{+ℤ-one, +ℤ-negℤ-cancel, -ℤ-+ℤ-cancel, negℤ-+ℤ, negℤ-negℤ, *ℤ-comm, *ℤ-zero}
 use lib.Signed.{_≤ℤ_, _<ℤ_, leZ, ltZ, leZ-yes, ltZ-yes, ltZ-no, ≤ℤ-refl, <ℤ-≤ℤ-trans, clashℤ, yes-nonNeg, pos-natAbs}
@@ -133,7 +134,7 @@ pub <ℤ-trans : {a b c : ℤ} → a <ℤ b → b <ℤ c → a <ℤ c
 
 -- ---- decisions
 
-dec-T : (t : Bool) → Dec (T t)
+pub dec-T : (t : Bool) → Dec (T t)
 dec-T true = yes tt
 dec-T false = no (λ t. t)
 
@@ -142,6 +143,9 @@ dec-≤ℤ a b = map-dec leZ-yes (λ h. h .le) (dec-T (leZ a b))
 
 pub dec-<ℤ : (a b : ℤ) → Dec (a <ℤ b)
 dec-<ℤ a b = map-dec ltZ-yes (λ h. h .lt) (dec-T (ltZ a b))
+
+pub <ℤ-prop : (a b : ℤ) → IsProp (a <ℤ b)
+<ℤ-prop a b h k = λ i. record { lt = T-prop (ltZ a b) (h .lt) (k .lt) i }
 
 pub ≤ℤ-or-> : (a b : ℤ) → a ≤ℤ b ⊎ b <ℤ a
 ≤ℤ-or-> a b = cases (dec-<ℤ b a)

@@ -14,7 +14,9 @@
 -- Main statements
 --   eval-add, eval-scale, eval-mul, ..   the value of each operation's result is the operation on the values
 --   eval-take        high coefficients that are zero can be cut off without a change of value
---   isZero-iff       isZero tests that every coefficient is zero; isZero-negate, isZero-shiftBy, .. carry it through the operations
+--   isZeroℤ-iff, isZero-cons, isZero-iff   isZeroℤ tests for the integer 0, isZero that every coefficient is zero;
+--                    isZero-negate, isZero-shiftBy, .. carry the test through the operations
+--   T-&&, same-test  a conjunction of tests passes if both do; tests that pass alike are equal
 --   length-add, length-mul, ..   how many coefficients each operation's result has
 --   add-comm, add-assoc, scale-add, ..   laws of sums and multiples as equations of lists
 --   mirror-mirror, negate-negate   mirror and negate undo themselves
@@ -24,12 +26,12 @@ use mathlib.Core.Logic.{_≢_, _↔_, ⊎-elim}
 use Prim.Native.Nat.{ℕ, zero, suc, _+_, _≤_, max}
 use native.Mathlib.Nat.{not-suc-le-zero, le-of-suc-le-suc, zero-max, max-zero, suc-max-suc}
 use native.Mathlib.Omega.{arith}
-use mathlib.Core.Bool.{Bool, true, false, _&&_, not, cond}
+use mathlib.Core.Bool.{Bool, true, false, _&&_, not, cond, and-assoc}
 use mathlib.Core.List.{List, [], _∷_, _++_, map}
 use lib.Dec.{T, eqb, eqb→eq, T-not, not-T}
 use lib.ListN.{getD, length, take, drop, replicate, length-map, take-append-drop}
 use lib.IntN.{ℤ, pos, negℤ, natAbs, _+ℤ_, _*ℤ_, +ℤ-idl, +ℤ-idr, +ℤ-comm, +ℤ-assoc, +ℤ-invl, *ℤ-zero, zero-*ℤ, *ℤ-comm, negℤ-negℤ}
-use Rattle.algebra.specs.Integers.{ringℤ, *ℤ-assoc, *ℤ-+ℤ, +ℤ-*ℤ, natAbs-zero, natAbs-negℤ, no-zero-divisors}
+use Rattle.algebra.specs.Integers.{ringℤ, *ℤ-assoc, *ℤ-+ℤ, +ℤ-*ℤ, one-*ℤ, natAbs-zero, natAbs-negℤ, no-zero-divisors}
 
 abbrev pub Polynomial : Type 0
 Polynomial = List ℤ
@@ -162,7 +164,7 @@ eval-shift p x = eval-shiftBy (pos 1) p x
 -- ---- the test for zero
 
 -- Two tests that pass alike are equal.
-same-test : (s t : Bool) → (T s → T t) → (T t → T s) → s ≡ t
+pub same-test : (s t : Bool) → (T s → T t) → (T t → T s) → s ≡ t
 same-test true true f g = refl
 same-test true false f g = absurd (f tt)
 same-test false true f g = absurd (g tt)
@@ -202,16 +204,17 @@ isZero-iff p = (isZero-coeff p, coeff-isZero p)
 pub isZero-append : (p q : Polynomial) → isZero (p ++ q) ≡ (isZero p && isZero q)
 unfolding isZero
 isZero-append [] q = refl
-isZero-append (a ∷ p) q = ap (λ t. isZeroℤ a && t) (isZero-append p q) ∙ step (isZeroℤ a)
-  where
-    step : (t : Bool) → (t && (isZero p && isZero q)) ≡ (t && isZero p && isZero q)
-    step true = refl
-    step false = refl
+isZero-append (a ∷ p) q = ap (λ t. isZeroℤ a && t) (isZero-append p q) ∙ sym (and-assoc (isZeroℤ a) (isZero p) (isZero q))
 
 pub isZero-replicate : (n : ℕ) → T (isZero (replicate n (pos 0)))
 unfolding isZero
 isZero-replicate zero = tt
 isZero-replicate (suc n) = isZero-replicate n
+
+-- A list of zeros is known by its length.
+pub zero-list : (p : Polynomial) → T (isZero p) → p ≡ replicate (length p) (pos 0)
+zero-list [] h = refl
+zero-list (a ∷ p) h = ap₂ _∷_ (isZero-cons a p .0 h .0) (zero-list p (isZero-cons a p .0 h .1))
 
 -- A map of the coefficients that takes zero, and nothing else, to zero.
 isZero-map : (f : ℤ → ℤ) → ((a : ℤ) → isZeroℤ (f a) ≡ isZeroℤ a) → (p : Polynomial) → isZero (map f p) ≡ isZero p
@@ -384,6 +387,11 @@ pub +ℤ-scale : (c d : ℤ) (p : Polynomial) → scale (c +ℤ d) p ≡ add (sc
 unfolding scale add
 +ℤ-scale c d [] = refl
 +ℤ-scale c d (a ∷ p) = ap₂ _∷_ (+ℤ-*ℤ c d a) (+ℤ-scale c d p)
+
+pub scale-one : (p : Polynomial) → scale (pos 1) p ≡ p
+unfolding scale
+scale-one [] = refl
+scale-one (a ∷ p) = ap₂ _∷_ (one-*ℤ a) (scale-one p)
 
 pub scale-scale : (c d : ℤ) (p : Polynomial) → scale c (scale d p) ≡ scale (c *ℤ d) p
 unfolding scale

@@ -2,13 +2,15 @@
 --
 -- Main definitions
 --   candidates p   0 and the divisors, of either sign, of the lowest nonzero coefficient, ascending
+--   isConstant p   no coefficient past power 0 is nonzero
 --   roots p        the integer roots of a nonzero polynomial, ascending, each once
 --
 -- Main statements
 --   roots-sound       every member of roots p is a root
 --   roots-complete    every integer root of a nonzero polynomial is a member
 --   roots-ascending   the members ascend strictly
---   roots-distinct    so each stands once
+--   roots-distinct    so each stands once; ascending-distinct: in any ascending list
+--   place             a member of a list of integers has a place in it
 -- (`List·Mem` and `Pairwise` are the kit's membership and "each member is related to every later one".)
 use Prim.Native.Nat.{ℕ, zero, suc, _<_}
 use mathlib.Core.Path.{_≡_, refl, ap}
@@ -19,15 +21,15 @@ use mathlib.Core.List.{List·Mem, List·Memᴰ, List·Memᴰ·head, List·Memᴰ
 use mathlib.Core.List.{mem-append-left, mem-append-right, mem-reverse, mem-map-of-mem, exists-of-mem-map}
 use mathlib.Core.List.{Pairwise, Pairwise·nil, Pairwise·cons, Pairwise·imp, Pairwise·map, List·Nodup}
 use mathlib.Core.List.{pairwise-append, pairwise-map, pairwise-reverse}
-use lib.Dec.{T, T-prop, T-not, not-T, lt→ltb}
+use lib.Dec.{T, T-not, not-T}
 use lib.ListN.{replicate}
 use lib.IntN.{ℤ, pos, negsuc, negℤ, natAbs, _-ℤ_, ℤ-discrete}
-use lib.Signed.{_<ℤ_, ltZ, ltZ-yes, <ℤ-irrefl}
+use lib.Signed.{_<ℤ_, <ℤ-irrefl, <ℤ-≤ℤ-trans}
 use native.Mathlib.Nat.{suc-ne-zero}
-use native.Mathlib.Omega.{arith}
+use Rattle.algebra.specs.Order.{pos-<ℤ, negℤ-<ℤ, pos-nonneg, <ℤ-prop}
 use Rattle.algebra.specs.Sums.{range}
-use Rattle.algebra.specs.Polynomials.{Polynomial, eval, isZero, isZeroℤ, lowest}
-use Rattle.algebra.specs.Vanishing.{isZeroℤ-sound, isZeroℤ-complete, constant-root, lowest-positive, root-divides-lowest}
+use Rattle.algebra.specs.Polynomials.{Polynomial, eval, isZero, isZeroℤ, lowest, isZeroℤ-iff}
+use Rattle.algebra.specs.Vanishing.{constant-root, lowest-positive, root-divides-lowest}
 use Rattle.algebra.specs.Divisors.{keep, divisors, mem-keep, keep-pairwise, mem-divisors, divisors-positive, divisors-ascending}
 
 unfoldable pub candidates : Polynomial → List ℤ
@@ -55,24 +57,8 @@ pub place : {x : ℤ} (l : List ℤ) → List·Mem x l → List·Memᴰ x l
 place [] m = absurd (not-mem-nil m)
 place {x} (y ∷ l) m = by-cases (ℤ-discrete x y) List·Memᴰ·head (λ n. List·Memᴰ·tail (place l (mem-of-ne-of-mem n m)))
 
-<ℤ-prop : (a b : ℤ) → IsProp (a <ℤ b)
-<ℤ-prop a b h k = λ i. record { lt = T-prop (ltZ a b) (h .lt) (k .lt) i }
-
 pub ascending-distinct : {l : List ℤ} → Pairwise _<ℤ_ l → List·Nodup l
 ascending-distinct = Pairwise·imp (λ a b h e. <ℤ-irrefl (rw e at h))
-
-pos-<ℤ : (d e : ℕ) → d < e → pos d <ℤ pos e
-pos-<ℤ d e h = ltZ-yes (lt→ltb d e h)
-
-negℤ-<ℤ : (d e : ℕ) → d < e → negℤ (pos e) <ℤ negℤ (pos d)
-negℤ-<ℤ zero zero h = absurd (omega arith)
-negℤ-<ℤ zero (suc e) h = ltZ-yes tt
-negℤ-<ℤ (suc d) zero h = absurd (omega arith)
-negℤ-<ℤ (suc d) (suc e) h = ltZ-yes (lt→ltb d e (omega arith))
-
-negℤ-<ℤ-pos : (d e : ℕ) → 0 < d → negℤ (pos d) <ℤ pos e
-negℤ-<ℤ-pos zero e h = absurd (omega arith)
-negℤ-<ℤ-pos (suc d) e h = ltZ-yes tt
 
 -- ---- the candidates
 
@@ -94,16 +80,17 @@ signed-ascending : (ds : List ℕ) → Pairwise _<_ ds → ((d : ℕ) → List·
 signed-ascending ds ascends positive = pairwise-append <ℤ-prop .1 (negative, others, across)
   where
     others : Pairwise _<ℤ_ (map pos (0 ∷ ds))
-    others = Pairwise·map <ℤ-prop pos pos-<ℤ (Pairwise·cons positive ascends)
+    others = Pairwise·map <ℤ-prop pos (λ d e. pos-<ℤ .1) (Pairwise·cons positive ascends)
 
     reversed : Pairwise (λ d e. negℤ (pos d) <ℤ negℤ (pos e)) (reverse ds)
-    reversed = pairwise-reverse (λ d e. <ℤ-prop (negℤ (pos d)) (negℤ (pos e))) .1 (Pairwise·imp negℤ-<ℤ ascends)
+    reversed = pairwise-reverse (λ d e. <ℤ-prop (negℤ (pos d)) (negℤ (pos e))) .1
+        (Pairwise·imp (λ d e h. negℤ-<ℤ .0 (pos-<ℤ .1 h)) ascends)
 
     negative : Pairwise _<ℤ_ (negatives ds)
     negative = pairwise-map <ℤ-prop (λ d. negℤ (pos d)) .1 reversed
 
     between : {x y : ℤ} (d e : ℕ) → List·Mem d (reverse ds) → negℤ (pos d) ≡ x → pos e ≡ y → x <ℤ y
-    between d e m h k = rw (← h, ← k) (negℤ-<ℤ-pos d e (positive d (mem-reverse .0 m)))
+    between d e m h k = rw (← h, ← k) (<ℤ-≤ℤ-trans (negℤ-<ℤ .0 (pos-<ℤ .1 (positive d (mem-reverse .0 m)))) (pos-nonneg e))
 
     across : (x : ℤ) → List·Mem x (negatives ds) → (y : ℤ) → List·Mem y (map pos (0 ∷ ds)) → x <ℤ y
     across x m y n =
@@ -134,7 +121,7 @@ roots-sound p {r} m = cases (isConstant p) (rw (roots-split p) at m)
   where
     cases : (b : Bool) → List·Mem r (cond b [] (keep (isRoot p) (candidates p))) → eval p r ≡ pos 0
     cases true m = absurd (not-mem-nil m)
-    cases false m = isZeroℤ-sound (eval p r) (mem-keep (isRoot p) (candidates p) .0 m .1)
+    cases false m = isZeroℤ-iff (eval p r) .0 (mem-keep (isRoot p) (candidates p) .0 m .1)
 
 constant-no-root : (p : Polynomial) (r : ℤ) → T (not (isZero p)) → eval p r ≡ pos 0 → T (not (isConstant p))
 unfolding isConstant
@@ -146,7 +133,7 @@ roots-complete p r n e = rw (roots-split p) (cases (isConstant p) (constant-no-r
   where
     cases : (b : Bool) → T (not b) → List·Mem r (cond b [] (keep (isRoot p) (candidates p)))
     cases true h = absurd h
-    cases false h = mem-keep (isRoot p) (candidates p) .1 (candidates-complete p r n e, isZeroℤ-complete (eval p r) e)
+    cases false h = mem-keep (isRoot p) (candidates p) .1 (candidates-complete p r n e, isZeroℤ-iff (eval p r) .1 e)
 
 pub roots-ascending : (p : Polynomial) → T (not (isZero p)) → Pairwise _<ℤ_ (roots p)
 roots-ascending p n = rw (roots-split p) (cases (isConstant p))

@@ -7,48 +7,35 @@
 --   degree-quotient         and its degree is one less
 --   roots-at-most-degree    a nonzero polynomial has at most as many different integer roots as its degree
 --   root-divides-lowest     a nonzero integer root divides the lowest nonzero coefficient
+--   lowest-positive         which is indeed not 0 for a nonzero polynomial
 --   nonzero-past-lowest     a nonzero polynomial is nonzero at every integer larger in size than that coefficient
 --   zero-everywhere         a polynomial is zero exactly when it vanishes at every integer
 use mathlib.Core.Path.{_≡_, refl, sym, _∙_, ap, ap₂, subst}
-use mathlib.Core.Logic.{_≢_, _↔_, ⊎-elim}
+use mathlib.Core.Logic.{_≢_, _↔_, ⊎-elim, by-cases}
 use Prim.Native.Nat.{suc, _*_, _≤_, _<_, _∣_, zero-le}
 use mathlib.Core.Bool.{Bool, true, false, not, _&&_, cond}
 use mathlib.Core.List.{List, [], _∷_, List·Mem, List·Nodup, pairwise-cons, mem-cons-self, mem-cons-of-mem}
-use lib.Dec.{T, T-not, not-T, eqb→eq}
+use lib.Dec.{T, T-not, not-T}
 use lib.ListN.{length}
 use native.Mathlib.Nat.{dvd-mul-right, le-of-dvd, pos-of-ne-zero}
 use native.Mathlib.Omega.{arith}
 use lib.IntN.{ℤ, pos, natAbs, _+ℤ_, _-ℤ_, _*ℤ_, +ℤ-idl, +ℤ-idr, -ℤ-+ℤ-cancel}
 use Rattle.algebra.specs.Integers.{ringℤ, negℤ-unique, natAbs-negℤ, natAbs-*ℤ, natAbs-zero, no-zero-divisors, -ℤ-zero}
+use Rattle.algebra.specs.Order.{dec-T}
 use Rattle.algebra.specs.Polynomials.{Polynomial, isZeroℤ, coeff, eval, isZero, degree, lowest, quotient}
+use Rattle.algebra.specs.Polynomials.{same-test, isZeroℤ-iff, isZero-cons, eval-isZero}
+use Rattle.algebra.specs.Coefficients.{isZero-lowest}
 
 -- ---- tests for zero
 
+-- The two directions of `isZeroℤ-iff`.
 pub isZeroℤ-sound : (a : ℤ) → T (isZeroℤ a) → a ≡ pos 0
-unfolding isZeroℤ
-isZeroℤ-sound a t = natAbs-zero (eqb→eq (natAbs a) 0 t)
+isZeroℤ-sound a = isZeroℤ-iff a .0
 
 pub isZeroℤ-complete : (a : ℤ) → a ≡ pos 0 → T (isZeroℤ a)
-unfolding isZeroℤ
-isZeroℤ-complete a e = rw e tt
+isZeroℤ-complete a = isZeroℤ-iff a .1
 
-isZero-cons : (a : ℤ) (p : Polynomial) → T (isZero (a ∷ p)) ↔ ((a ≡ pos 0) × T (isZero p))
-unfolding isZero
-isZero-cons a p = cases (isZeroℤ a) (isZeroℤ-sound a) (isZeroℤ-complete a)
-  where
-    cases : (t : Bool) → (T t → a ≡ pos 0) → (a ≡ pos 0 → T t) → T (t && isZero p) ↔ ((a ≡ pos 0) × T (isZero p))
-    cases true sound complete = (λ z. (sound tt, z), λ h. h .1)
-    cases false sound complete = (λ z. absurd z, λ h. complete (h .0))
-
--- The zero polynomial vanishes everywhere, and the value is the constant coefficient if the others are zero.
-pub eval-isZero : (p : Polynomial) (x : ℤ) → T (isZero p) → eval p x ≡ pos 0
-unfolding eval
-eval-isZero [] x z = refl
-eval-isZero (a ∷ p) x z = step (isZero-cons a p .0 z .0) (eval-isZero p x (isZero-cons a p .0 z .1))
-  where
-    step : {e : ℤ} → a ≡ pos 0 → e ≡ pos 0 → a +ℤ x *ℤ e ≡ pos 0
-    step h k = rw (h, k) (simp ringℤ)
-
+-- The value is the constant coefficient if the others are zero.
 pub eval-constant : (a : ℤ) (p : Polynomial) (x : ℤ) → T (isZero p) → eval (a ∷ p) x ≡ a
 unfolding eval
 eval-constant a p x z = rw (eval-isZero p x z) (simp ringℤ)
@@ -101,13 +88,8 @@ quotient-of-constant r a (b ∷ p) z =
     isZero-cons (eval (b ∷ p) r) (quotient r (b ∷ p)) .1 (eval-isZero (b ∷ p) r z, quotient-of-constant r b p (isZero-cons b p .0 z .1))
 
 pub quotient-isZero : (r a : ℤ) (p : Polynomial) → isZero (quotient r (a ∷ p)) ≡ isZero p
-quotient-isZero r a p = cases (isZero (quotient r (a ∷ p))) (isZero p) (constant-of-quotient r a p) (quotient-of-constant r a p)
-  where
-    cases : (s t : Bool) → (T s → T t) → (T t → T s) → s ≡ t
-    cases true true f g = refl
-    cases true false f g = absurd (f tt)
-    cases false true f g = absurd (g tt)
-    cases false false f g = refl
+quotient-isZero r a p =
+    same-test (isZero (quotient r (a ∷ p))) (isZero p) (constant-of-quotient r a p) (quotient-of-constant r a p)
 
 pub quotient-nonzero : (r : ℤ) (p : Polynomial) → T (not (isZero p)) → eval p r ≡ pos 0 → T (not (isZero (quotient r p)))
 unfolding isZero
@@ -157,7 +139,7 @@ roots-at-most-degree (r ∷ rs) p n d h = step (roots-at-most-degree rs (quotien
 pub root-divides-lowest : (p : Polynomial) (r : ℤ) → T (not (isZero p)) → r ≢ pos 0 → eval p r ≡ pos 0 → natAbs r ∣ natAbs (lowest p)
 unfolding lowest eval isZero
 root-divides-lowest [] r n h e = absurd n
-root-divides-lowest (a ∷ p) r n h e = cases (isZeroℤ a) (isZeroℤ-sound a) n (λ n′. root-divides-lowest p r n′ h)
+root-divides-lowest (a ∷ p) r n h e = cases (isZeroℤ a) (isZeroℤ-iff a .0) n (λ n′. root-divides-lowest p r n′ h)
   where
     size : natAbs a ≡ natAbs r * natAbs (eval p r)
     size = ap natAbs (negℤ-unique a (r *ℤ eval p r) e) ∙ natAbs-negℤ (r *ℤ eval p r) ∙ natAbs-*ℤ r (eval p r)
@@ -170,17 +152,8 @@ root-divides-lowest (a ∷ p) r n h e = cases (isZeroℤ a) (isZeroℤ-sound a) 
     cases true z n′ below = below n′ (tail-root (z tt))
     cases false z n′ below = rw size (dvd-mul-right (natAbs r) (natAbs (eval p r)))
 
-pub lowest-nonzero : (p : Polynomial) → T (not (isZero p)) → lowest p ≢ pos 0
-unfolding lowest isZero
-lowest-nonzero [] n = absurd n
-lowest-nonzero (a ∷ p) n = cases (isZeroℤ a) (isZeroℤ-complete a) n (lowest-nonzero p)
-  where
-    cases : (t : Bool) → (a ≡ pos 0 → T t) → T (not (t && isZero p)) → (T (not (isZero p)) → lowest p ≢ pos 0) → cond t (lowest p) a ≢ pos 0
-    cases true z n′ below = below n′
-    cases false z n′ below = z
-
 pub lowest-positive : (p : Polynomial) → T (not (isZero p)) → 0 < natAbs (lowest p)
-lowest-positive p n = pos-of-ne-zero (λ z. lowest-nonzero p n (natAbs-zero z))
+lowest-positive p n = pos-of-ne-zero (λ z. T-not (isZero p) n (isZero-lowest p (natAbs-zero z)))
 
 pub nonzero-past-lowest : (p : Polynomial) (x : ℤ) → T (not (isZero p)) → natAbs (lowest p) < natAbs x → eval p x ≢ pos 0
 nonzero-past-lowest p x n h e = omega (arith, le-of-dvd (lowest-positive p n) (root-divides-lowest p x n nonzero e))
@@ -189,11 +162,10 @@ nonzero-past-lowest p x n h e = omega (arith, le-of-dvd (lowest-positive p n) (r
     nonzero z = omega (arith, ap natAbs z)
 
 pub zero-everywhere : (p : Polynomial) → T (isZero p) ↔ ((x : ℤ) → eval p x ≡ pos 0)
-zero-everywhere p = (λ z x. eval-isZero p x z, λ h. cases (isZero p) (λ n. nonzero-past-lowest p far n (omega arith) (h far)))
+zero-everywhere p = (λ z x. eval-isZero p x z, λ h. by-cases (dec-T (isZero p)) (λ z. z) (λ n. absurd (missed n h)))
   where
     far : ℤ
     far = pos (suc (natAbs (lowest p)))
 
-    cases : (t : Bool) → (T (not t) → ⊥) → T t
-    cases true f = tt
-    cases false f = f tt
+    missed : ¬ T (isZero p) → ((x : ℤ) → eval p x ≡ pos 0) → ⊥
+    missed n h = nonzero-past-lowest p far (not-T (isZero p) n) (omega arith) (h far)

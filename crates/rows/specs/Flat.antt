@@ -4,27 +4,29 @@
 --   polynomials-rowOf     the polynomials of the row held by a list of numbers are its parts of 16
 --   zeroRow-numbers       a row is zero exactly if its numbers are
 --   smallRow-rowOf        a row's coefficients are within ±C exactly if its numbers are
+--   every-append, every-flatten, drop-take, getD-default   of rules' Lists, passed on
 --   every-longer          one member more that passes a test
 --   every-from-at, every-from-all   the members from a place on pass exactly if each does
 --   block-at, zeroBlock-at, entry-at   the place of a block, its zero test, and the place of a leading entry
 --   numbers-mapRow        the numbers of a row with f applied to each polynomial
---   numbers-combine       the numbers of a combination with f applied to each polynomial
+--   polynomials-combine   the polynomials of a combination of two rows
 --   getD-flatten          a number of a list of lists of one width, by its place
-use mathlib.Core.Path.{_≡_, refl, sym, _∙_, ap, ap₂}
-use mathlib.Core.Bool.{Bool, true, false, _&&_, and-assoc, false≢true}
-use mathlib.Core.List.{List, [], _∷_, _++_, map, flatten, zipWith}
-use Prim.Native.Nat.{ℕ, zero, suc, _+_, _*_, _-_, _≤_, _<_, zero-le, suc-le-suc}
-use native.Mathlib.Nat.{suc-mul, zero-mul, zero-add, suc-add, add-comm, suc-ne-zero, suc-inj}
-use native.Mathlib.Nat.{le-refl, not-suc-le-zero, le-of-suc-le-suc, zero-lt-suc}
+use mathlib.Core.Path.{_≡_, refl, sym, _∙_, ap, ap₂, subst, fun-ext}
+use mathlib.Core.Bool.{Bool, true, false, _&&_, false≢true}
+use mathlib.Core.List.{List, [], _∷_, _++_, map, flatten, zipWith, map-append}
+use Prim.Native.Nat.{ℕ, zero, suc, _+_, _*_, _-_, _≤_, _<_}
+use native.Mathlib.Nat.{zero-mul, zero-add, suc-add, add-sub-of-le, suc-ne-zero, suc-inj, le-refl, not-suc-le-zero, le-of-suc-le-suc}
 use native.Mathlib.Numerals.{add-one}
 use native.Mathlib.Omega.{arith}
-use lib.ListN.{length, take, drop, getD, length-map, List·getD-append, List·getD-map}
-use lib.Seq.{take-take, take-suc, drop-drop, take-nil, getD-append-add}
+use lib.ListN.{length, take, drop, getD, length-drop, length-map, List·getD-append}
+use lib.Seq.{take-take, take-suc, drop-drop, getD-drop, getD-append-add}
 use lib.Dec.{T, lit<}
 use lib.IntN.{ℤ}
-use Rattle.algebra.specs.Polynomials.{Polynomial, isZero, isZeroℤ, isZero-append, T-&&, add, mul}
+use Rattle.algebra.specs.Polynomials.{Polynomial, isZero, isZeroℤ, add, mul}
 use Rattle.rules.specs.Limits.{small}
 use Rattle.rules.specs.Rows.{Row, All, every, zeroBlock, zeroRow, leadingBlock, entry, mapRow, combine, smallRow, coefficientsOf}
+use Rattle.rules.specs.Lists.{suc-width, all-getD, getD-all, all-of-every, every-of-all, getD-map}
+pub use Rattle.rules.specs.Lists.{every-append, every-flatten, drop-take, getD-default}
 use Rattle.rules.specs.Stores.{parts, rowOf}
 use Rattle.rules.specs.Layout.{parts-length, flatten-parts, getD-parts, polynomial-at-row, coefficientsOf-rowOf-all}
 
@@ -33,15 +35,7 @@ polynomialsOf r = flatten (r .blocks)
 
 -- ---- parts of parts
 
-suc-width : (n k : ℕ) → suc n * k ≡ k + n * k
-suc-width n k = suc-mul n k ∙ add-comm (n * k) k
-
 module _ {A : Type 0} where
-  drop-take : (k i : ℕ) (l : List A) → drop k (take (k + i) l) ≡ take i (drop k l)
-  drop-take zero i l = ap (λ j. take j l) (zero-add i)
-  drop-take (suc k) i [] = ap (λ j. drop (suc k) (take j [])) (suc-add k i) ∙ sym (take-nil i)
-  drop-take (suc k) i (x ∷ l) = ap (λ j. drop (suc k) (take j (x ∷ l))) (suc-add k i) ∙ drop-take k i l
-
   parts-append : (k n m : ℕ) (l : List A) → parts k (n + m) l ≡ parts k n l ++ parts k m (drop (n * k) l)
   unfolding parts
   parts-append k zero m l = ap₂ (λ j i. parts k j (drop i l)) (zero-add m) (sym (zero-mul k))
@@ -76,16 +70,6 @@ pub both-true : (s t : Bool) → (s && t) ≡ true → (s ≡ true) × (t ≡ tr
 both-true true t e = (refl, e)
 both-true false t e = absurd (false≢true e)
 
-pub every-append : {A : Type 0} (t : A → Bool) (l m : List A) → every t (l ++ m) ≡ (every t l && every t m)
-unfolding every
-every-append t [] m = refl
-every-append t (x ∷ l) m = ap (λ b. t x && b) (every-append t l m) ∙ sym (and-assoc (t x) (every t l) (every t m))
-
-pub every-flatten : {A : Type 0} (t : A → Bool) (ls : List (List A)) → every t (flatten ls) ≡ every (every t) ls
-unfolding every flatten
-every-flatten t [] = refl
-every-flatten t (l ∷ ls) = every-append t l (flatten ls) ∙ ap (λ b. every t l && b) (every-flatten t ls)
-
 -- One member more that passes.
 pub every-longer : {A : Type 0} (t : A → Bool) (l : List A) (i : ℕ) (d : A) → i < length l
     → every t (take i l) ≡ true → t (getD l i d) ≡ true → every t (take (i + 1) l) ≡ true
@@ -97,22 +81,15 @@ every-longer t l i d h passed next =
 -- The members from place n on.
 module _ {A : Type 0} (t : A → Bool) where
   pub every-from-at : (l : List A) (d : A) (n : ℕ) → T (every t (drop n l)) → (i : ℕ) → n ≤ i → i < length l → T (t (getD l i d))
-  unfolding every
-  every-from-at [] d n h i low high = absurd (not-suc-le-zero high)
-  every-from-at (x ∷ l) d zero h zero low high = T-&& (t x) (every t l) .0 h .0
-  every-from-at (x ∷ l) d zero h (suc i) low high =
-      every-from-at l d zero (T-&& (t x) (every t l) .0 h .1) i zero-le (le-of-suc-le-suc high)
-  every-from-at (x ∷ l) d (suc n) h zero low high = absurd (not-suc-le-zero low)
-  every-from-at (x ∷ l) d (suc n) h (suc i) low high = every-from-at l d n h i (le-of-suc-le-suc low) (le-of-suc-le-suc high)
+  every-from-at l d n h i low high =
+      subst (λ x. T (t x)) (getD-drop n l (i - n) d ∙ ap (λ k. getD l k d) (add-sub-of-le low))
+      (all-getD (λ x. T (t x)) (drop n l) d (i - n) (rw length-drop (omega arith)) (all-of-every t (drop n l) h))
 
   pub every-from-all : (l : List A) (d : A) (n : ℕ) → ((i : ℕ) → n ≤ i → i < length l → T (t (getD l i d))) → T (every t (drop n l))
-  unfolding every
-  every-from-all [] d zero h = tt
-  every-from-all [] d (suc n) h = tt
-  every-from-all (x ∷ l) d zero h =
-      T-&& (t x) (every t l) .1
-      (h 0 zero-le (zero-lt-suc (length l)), every-from-all l d zero (λ i _ high. h (suc i) zero-le (suc-le-suc high)))
-  every-from-all (x ∷ l) d (suc n) h = every-from-all l d n (λ i low high. h (suc i) (suc-le-suc low) (suc-le-suc high))
+  every-from-all l d n h = every-of-all t (drop n l) (getD-all (λ x. T (t x)) (drop n l) d each)
+    where
+      each : (i : ℕ) → i < length (drop n l) → T (t (getD (drop n l) i d))
+      each i below = rw (getD-drop n l i d) (h (n + i) (omega arith) (omega (arith, length-drop n l)))
 
 pub isZero-every : (p : Polynomial) → isZero p ≡ every isZeroℤ p
 unfolding isZero every
@@ -120,9 +97,8 @@ isZero-every [] = refl
 isZero-every (a ∷ p) = ap (λ b. isZeroℤ a && b) (isZero-every p)
 
 pub isZero-flatten : (ps : List Polynomial) → isZero (flatten ps) ≡ every isZero ps
-unfolding isZero flatten every
-isZero-flatten [] = refl
-isZero-flatten (p ∷ ps) = isZero-append p (flatten ps) ∙ ap (λ b. isZero p && b) (isZero-flatten ps)
+isZero-flatten ps =
+    isZero-every (flatten ps) ∙ every-flatten isZeroℤ ps ∙ ap (λ t. every t ps) (sym (fun-ext isZero-every))
 
 pub zeroRow-numbers : (r : Row) → zeroRow r ≡ isZero (coefficientsOf r)
 unfolding zeroRow zeroBlock coefficientsOf
@@ -137,21 +113,13 @@ smallRow-rowOf l h = ap (every small) (coefficientsOf-rowOf-all l h)
 pub every-parts : (k n : ℕ) (l : List ℤ) → every isZero (parts k n l) ≡ isZero (take (n * k) l)
 every-parts k n l = sym (isZero-flatten (parts k n l)) ∙ ap isZero (flatten-parts k n l)
 
--- Inside a list it does not matter what stands for a missing member.
-pub getD-default : {A : Type 0} (l : List A) (i : ℕ) (d e : A) → i < length l → getD l i d ≡ getD l i e
-getD-default [] i d e h = absurd (not-suc-le-zero h)
-getD-default (x ∷ l) zero d e h = refl
-getD-default (x ∷ l) (suc i) d e h = getD-default l i d e (le-of-suc-le-suc h)
-
 pub length-blocks : (l : List ℤ) → length (rowOf l .blocks) ≡ 5
 unfolding rowOf
 length-blocks l = length-map (parts 64 5 l) (parts 16 4) ∙ parts-length 64 5 l
 
 pub block-at : (l : List ℤ) (b : ℕ) → b < 5 → getD (rowOf l .blocks) b [] ≡ parts 16 4 (take 64 (drop (b * 64) l))
 unfolding rowOf
-block-at l b h =
-    getD-default (map (parts 16 4) (parts 64 5 l)) b [] (parts 16 4 []) (rw (length-map, parts-length) h)
-    ∙ List·getD-map (parts 16 4) (parts 64 5 l) b [] ∙ ap (parts 16 4) (getD-parts 64 5 l b h)
+block-at l b h = getD-map (parts 16 4) (parts 64 5 l) b [] [] (rw parts-length h) ∙ ap (parts 16 4) (getD-parts 64 5 l b h)
 
 pub zeroBlock-at : (l : List ℤ) (b : ℕ) → b < 5 → zeroBlock (getD (rowOf l .blocks) b []) ≡ isZero (take 64 (drop (b * 64) l))
 unfolding zeroBlock
@@ -164,10 +132,6 @@ unfolding entry leadingBlock
 entry-at l c h = polynomial-at-row l 0 c (lit< tt) h ∙ ap (λ n. take 16 (drop n l)) (zero-add (c * 16))
 
 -- ---- changes of every polynomial
-
-map-append : {A B : Type 0} (f : A → B) (l m : List A) → map f (l ++ m) ≡ map f l ++ map f m
-map-append f [] m = refl
-map-append f (x ∷ l) m = ap (λ r. f x ∷ r) (map-append f l m)
 
 pub flatten-map : {A B : Type 0} (f : A → B) (ls : List (List A)) → flatten (map (map f) ls) ≡ map f (flatten ls)
 unfolding flatten
@@ -202,13 +166,6 @@ module _ {A B C : Type 0} (f : A → B → C) where
   flatten-zipWith k (l ∷ ls) (m ∷ ms) h g =
       ap (λ r. zipWith f l m ++ r) (flatten-zipWith k ls ms (h .1) (g .1))
       ∙ sym (zipWith-append l (flatten ls) m (flatten ms) (h .0 ∙ sym (g .0)))
-
-map-zipWith : {A B C D : Type 0} (g : C → D) (f : A → B → C) (l : List A) (m : List B)
-    → map g (zipWith f l m) ≡ zipWith (λ x y. g (f x y)) l m
-unfolding zipWith
-map-zipWith g f [] m = refl
-map-zipWith g f (x ∷ l) [] = refl
-map-zipWith g f (x ∷ l) (y ∷ m) = ap (λ r. g (f x y) ∷ r) (map-zipWith g f l m)
 
 -- The polynomials of a combination of two rows of the same number of columns.
 pub polynomials-combine : (g h : Polynomial) (c : ℕ) (r q : Row)

@@ -7,3 +7,4 @@ pub mod Primitive
 pub mod Shifting
 pub mod Worked
 pub mod Written
+pub mod Validity

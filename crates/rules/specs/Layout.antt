@@ -14,10 +14,11 @@
 --   relationOf-relationNumbers, relationNumbers-relationOf, relationsOf-relationStoreOf, relationStoreOf-relationsOf
 --                                 the same for relations, with the unused places
 --   stores-valid, valid-stores    stores without a refusal hold a valid system, and each valid system is held by such stores
---   coefficient-at, polynomial-at the place of each coefficient, and of each polynomial, in a row store
+--   coefficient-at, polynomial-at
+--                                 the place of each coefficient, and of each polynomial, in a row store
 --   polynomialPart-at             the part that a caller gets back is the polynomial of the row, block and column
 use Prim.Native.Nat.{ℕ, zero, suc, pred, _+_, _*_, _-_, _≤_, _<_, suc-le-suc}
-use native.Mathlib.Nat.{not-suc-le-zero, le-of-suc-le-suc, le-of-eq, suc-inj, suc-ne-zero, suc-add, suc-mul, zero-mul, add-comm, add-assoc}
+use native.Mathlib.Nat.{not-suc-le-zero, le-of-suc-le-suc, le-of-eq, suc-inj, suc-ne-zero, zero-mul, add-assoc}
 use native.Mathlib.Omega.{arith}
 use mathlib.Core.Path.{_≡_, refl, sym, _∙_, ap, ap₂}
 use mathlib.Core.Logic.{_↔_}
@@ -29,58 +30,15 @@ use lib.Seq.{take-add, take-take, take-at, take-all, drop-at, drop-drop, getD-ta
 use lib.IntN.{ℤ, pos, negℤ, natAbs, _-ℤ_}
 use lib.Signed.{leZ-yes, _≤ℤ_}
 use Rattle.algebra.specs.Order.{≤ℤ-trans, ≤ℤ-difference, negℤ-≤ℤ, +ℤ-≤ℤ-left, natAbs-≤-iff}
-use Rattle.algebra.specs.Polynomials.{T-&&, isZero, isZero-cons, isZero-replicate}
+use Rattle.algebra.specs.Polynomials.{T-&&, isZero, isZero-replicate, zero-list}
 use Rattle.rules.specs.Limits.{coefficientCount, columnCount, blockCount, rowLength, relationLength, mostRelations, blockBound}
 use Rattle.rules.specs.Rows.{Block, Row, Relation, noRow, All, every, coefficientsOf}
+use Rattle.rules.specs.Lists.{all-mono, map-keeps, map-back, flatten-flatten, length-flatten, suc-width, drop-take, getD-map}
+use Rattle.rules.specs.Lists.{cond-passed}
 use Rattle.rules.specs.Stores.{Sizes, parts, rowOf, rowsOf, relationOf, relationsOf, relationNumbers, rowStoreOf, relationStoreOf}
 use Rattle.rules.specs.Stores.{rowNeed, relationNeed, sizesRight, countRight, lengthsRight, rowRight, relationRight, numbersRight}
 use Rattle.rules.specs.Stores.{checkStores, Shaped, StoreRow, Valid}
 use Rattle.rules.specs.Calls.{placeRight, polynomialCheck, polynomialPlace, partAt, polynomialPart}
-
--- ---- lists of one width, and tests of all members
-
-suc-width : (n k : ℕ) → suc n * k ≡ k + n * k
-suc-width n k = suc-mul n k ∙ add-comm (n * k) k
-
-All-imply : {A : Type 0} {P Q : A → Type 0} → ((x : A) → P x → Q x) → (l : List A) → All P l → All Q l
-unfolding All
-All-imply f [] h = tt
-All-imply f (x ∷ l) h = (f x (h .0), All-imply f l (h .1))
-
-All-map : {A B : Type 0} (P : B → Type 0) (f : A → B) (l : List A) → All (λ x. P (f x)) l → All P (map f l)
-unfolding All
-All-map P f [] h = tt
-All-map P f (x ∷ l) h = (h .0, All-map P f l (h .1))
-
--- If g takes back what f makes of each member, so does map g of the list.
-map-back : {A B : Type 0} {P : A → Type 0} (f : A → B) (g : B → A) → ((x : A) → P x → g (f x) ≡ x)
-    → (l : List A) → All P l → map g (map f l) ≡ l
-unfolding All
-map-back f g e [] h = refl
-map-back f g e (x ∷ l) h = ap₂ (λ y r. y ∷ r) (e x (h .0)) (map-back f g e l (h .1))
-
-flatten-append : {A : Type 0} (ls ms : List (List A)) → flatten (ls ++ ms) ≡ flatten ls ++ flatten ms
-unfolding flatten
-flatten-append [] ms = refl
-flatten-append (l ∷ ls) ms = ap (λ r. l ++ r) (flatten-append ls ms) ∙ sym (append-assoc l (flatten ls) (flatten ms))
-
--- Lists of lists of lists may be joined from the inside or from the outside.
-flatten-flatten : {A : Type 0} (ls : List (List (List A))) → flatten (flatten ls) ≡ flatten (map flatten ls)
-unfolding flatten
-flatten-flatten [] = refl
-flatten-flatten (l ∷ ls) = flatten-append l (flatten ls) ∙ ap (λ r. flatten l ++ r) (flatten-flatten ls)
-
-length-flatten : {A : Type 0} (k : ℕ) (ls : List (List A)) → All (λ p. length p ≡ k) ls → length (flatten ls) ≡ length ls * k
-unfolding flatten All
-length-flatten k [] h = sym (zero-mul k)
-length-flatten k (l ∷ ls) h =
-    length-append l (flatten ls) ∙ ap₂ (λ a b. a + b) (h .0) (length-flatten k ls (h .1)) ∙ sym (suc-width (length ls) k)
-
--- A member of a mapped list, for any value that stands for a missing one.
-getD-map : {A B : Type 0} (f : A → B) (l : List A) (i : ℕ) (d : A) (e : B) → i < length l → getD (map f l) i e ≡ f (getD l i d)
-getD-map f [] i d e h = absurd (not-suc-le-zero h)
-getD-map f (x ∷ l) zero d e h = refl
-getD-map f (x ∷ l) (suc i) d e h = getD-map f l i d e (le-of-suc-le-suc h)
 
 -- ---- parts of one width
 
@@ -137,14 +95,14 @@ module _ {A : Type 0} where
 module _ {A B : Type 0} (k : ℕ) (decode : List A → B) (encode : B → List A) where
   widths : (P : B → Type 0) → ((x : B) → P x → length (encode x) ≡ k) → (xs : List B) → All P xs
       → All (λ p. length p ≡ k) (map encode xs)
-  widths P width xs h = All-map (λ p. length p ≡ k) encode xs (All-imply width xs h)
+  widths P width xs h = map-keeps P (λ p. length p ≡ k) encode width xs h
 
   -- What is written is read back, whatever follows it.
   read-written : (P : B → Type 0) → ((x : B) → P x → decode (encode x) ≡ x) → ((x : B) → P x → length (encode x) ≡ k)
       → (n : ℕ) (xs : List B) (rest : List A) → length xs ≡ n → All P xs → map decode (parts k n (flatten (map encode xs) ++ rest)) ≡ xs
   read-written P back width n xs rest e h =
       ap (map decode) (parts-flatten k n (map encode xs) rest (length-map xs encode ∙ e) (widths P width xs h))
-      ∙ map-back encode decode back xs h
+      ∙ map-back encode decode xs (all-mono P (λ x. decode (encode x) ≡ x) back xs h)
 
   length-written : (P : B → Type 0) → ((x : B) → P x → length (encode x) ≡ k)
       → (xs : List B) → All P xs → length (flatten (map encode xs)) ≡ length xs * k
@@ -156,12 +114,13 @@ module _ {A B : Type 0} (k : ℕ) (decode : List A → B) (encode : B → List A
 
   all-read : (P : B → Type 0) → ((p : List A) → length p ≡ k → P (decode p))
       → (n : ℕ) (l : List A) → n * k ≤ length l → All P (map decode (parts k n l))
-  all-read P each n l h = All-map P decode (parts k n l) (All-imply each (parts k n l) (parts-width k n l h))
+  all-read P each n l h = map-keeps (λ p. length p ≡ k) P decode each (parts k n l) (parts-width k n l h)
 
   -- What is read is written again as it was.
   write-read : (P : List A → Type 0) → ((l : List A) → P l → encode (decode l) ≡ l)
       → (n : ℕ) (l : List A) → All P (parts k n l) → flatten (map encode (map decode (parts k n l))) ≡ take (n * k) l
-  write-read P back n l h = ap flatten (map-back decode encode back (parts k n l) h) ∙ flatten-parts k n l
+  write-read P back n l h =
+      ap flatten (map-back decode encode (parts k n l) (all-mono P (λ l. encode (decode l) ≡ l) back (parts k n l) h)) ∙ flatten-parts k n l
 
 -- ---- rows
 
@@ -305,11 +264,6 @@ StoreRelation-relationsOf count l h = all-read relationLength relationOf relatio
     shape : (p : List ℤ) → length p ≡ relationLength → StoreRow (rowOf (drop 1 p))
     shape p e = StoreRow-rowOf (drop 1 p) (rw length-drop (omega arith))
 
--- A list of zeros is known by its length.
-zero-list : (p : List ℤ) → T (isZero p) → p ≡ replicate (length p) (pos 0)
-zero-list [] h = refl
-zero-list (a ∷ p) h = ap₂ (λ b q. b ∷ q) (isZero-cons a p .0 h .0) (zero-list p (isZero-cons a p .0 h .1))
-
 pub relationStoreOf-relationsOf : (count : ℕ) (l : List ℤ) → count ≤ mostRelations → relationNeed ≤ length l
     → T (isZero (drop (count * relationLength) (take relationNeed l))) → relationStoreOf (relationsOf count l) ≡ take relationNeed l
 unfolding relationsOf relationStoreOf
@@ -336,10 +290,6 @@ relationStoreOf-relationsOf count l few long zeros =
 cond-zero : (t : Bool) (a b : ℕ) → cond t a (suc b) ≡ 0 → T t × (a ≡ 0)
 cond-zero true a b e = (tt, e)
 cond-zero false a b e = absurd (suc-ne-zero b e)
-
-cond-passed : {A : Type 0} (t : Bool) (a b : A) → T t → cond t a b ≡ a
-cond-passed true a b h = refl
-cond-passed false a b h = absurd h
 
 -- Sizes and count first, then lengths, then numbers.
 pub checkStores-order : (z : Sizes) (count : ℕ) (rowStore relationStore : List ℤ)
@@ -470,14 +420,13 @@ valid-stores-exact z rows relations v =
 -- ---- one polynomial
 
 -- A part of a part is a part.
-take-drop-take : {A : Type 0} (j k n : ℕ) (l : List A) → j + k ≤ n → take k (drop j (take n l)) ≡ take k (drop j l)
-take-drop-take zero k n l h = take-take k n l (omega arith)
-take-drop-take (suc j) k zero l h = absurd (omega (arith, suc-add j k))
-take-drop-take (suc j) k (suc n) [] h = refl
-take-drop-take (suc j) k (suc n) (x ∷ l) h = take-drop-take j k n l (omega arith)
-
 part-of-part : {A : Type 0} (i j k n : ℕ) (l : List A) → j + k ≤ n → take k (drop j (take n (drop i l))) ≡ take k (drop (i + j) l)
-part-of-part i j k n l h = take-drop-take j k n (drop i l) h ∙ ap (take k) (drop-drop j i l)
+part-of-part i j k n l h =
+    ap (λ m. take k (drop j (take m (drop i l)))) whole ∙ ap (take k) (drop-take j (n - j) (drop i l))
+    ∙ take-take k (n - j) (drop j (drop i l)) (omega arith) ∙ ap (take k) (drop-drop j i l)
+  where
+    whole : n ≡ j + (n - j)
+    whole = omega arith
 
 pub row-at : (m : ℕ) (l : List ℤ) (i : ℕ) → i < m → getD (rowsOf m l) i noRow ≡ rowOf (take rowLength (drop (i * rowLength) l))
 unfolding rowsOf
@@ -536,6 +485,10 @@ size-bounds z h =
       high = leZ-yes (e .1 .0 .1);
       narrow = leZ-yes (e .1 .1);
     }
+
+pub bounds-right : (z : Sizes) → SizeBounds z → T (sizesRight z)
+unfolding sizesRight
+bounds-right z b = simp T-&& ((le→leb _ _ (b .some), le→leb _ _ (b .few)), (((b .low .le, b .ordered .le), b .high .le), b .narrow .le))
 
 -- A place inside a system, as facts.
 pub record PlaceBounds (z : Sizes) (row : ℕ) (block : ℤ) (column : ℕ) : Type 0 where

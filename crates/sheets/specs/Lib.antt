@@ -1,3 +1,14 @@
 pub mod Reader
 pub mod Writer
+pub mod WrittenNumbers
+pub mod Exact
+pub mod WrittenTerms
+pub mod Trimmed
+pub mod RowBlocks
+pub mod RowTerms
+pub mod OrderedTerms
+pub mod WrittenSections
+pub mod WrittenOrder
+pub mod WriterChecks
 pub mod ReadBack
+pub mod CallsReadBack

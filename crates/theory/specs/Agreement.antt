@@ -4,55 +4,42 @@
 --   triangular-rows, diagonal-nonzero   the settled rows of a valid system can be substituted back, and no diagonal polynomial is zero
 --   leading-agreement      solutions equal at n + t to n + l - 1 are equal at every index from n + t on
 --   trailing-agreement     solutions equal at n + t + 1 to n + l are equal at every index up to n + l
-use Prim.Native.Nat.{ℕ, _-_, _≤_, _<_}
+use Prim.Native.Nat.{ℕ, _<_}
 use mathlib.Core.Path.{_≡_, sym, _∙_, ap, subst}
 use mathlib.Core.Bool.{not}
 use mathlib.Core.Option.{Option, none, some}
 use mathlib.Core.List.{[], map, List·Memᴰ, Memᴰ·map, Memᴰ·of-map}
 use lib.Dec.{T}
-use lib.ListN.{length, getD, drop}
-use lib.Seq.{getD-drop, drop-nil}
-use native.Mathlib.Nat.{add-sub-of-le}
+use lib.ListN.{length}
 use lib.IntN.{ℤ, pos, negℤ, _+ℤ_, negℤ-negℤ, negℤ-+ℤ}
 use lib.Signed.{_≤ℤ_, _<ℤ_, <ℤ-≤ℤ-trans}
 use Rattle.algebra.specs.Order.{≤ℤ-<ℤ-trans, negℤ-≤ℤ, negℤ-<ℤ}
-use Rattle.algebra.specs.Polynomials.{Polynomial, eval, isZero, mirror, isZero-mirror, eval-mirror, T-&&}
-use Rattle.rules.specs.Rows.{Block, Row, noRow, All, every, smallRow, zeroBlock, entry, leadingBlock}
+use Rattle.algebra.specs.Polynomials.{Polynomial, eval, isZero, mirror, isZero-mirror, eval-mirror}
+use Rattle.rules.specs.Rows.{Row, noRow, All, entry, leadingBlock}
 use Rattle.rules.specs.Elimination.{leading, trailing, State, rowAt, mirrorState, diagonalPlace, diagonal, report}
 use Rattle.rules.specs.Stores.{Sizes, span, unusedZero, rowRight, Valid}
 use Rattle.rules.specs.Sequences.{Sequence, SatisfiesEquation, Satisfies, Same}
-use Rattle.theory.specs.Lists.{all-mono, all-getD, all-getD-default, every-all}
+use Rattle.rules.specs.Lists.{all-mono, all-getD, every-all}
 use Rattle.theory.specs.Steps.{current}
-use Rattle.theory.specs.Triangular.{Triangular, ColumnsBelow, column-below, order-complete}
-use Rattle.theory.specs.Limits.{unusedZero-iff}
+use Rattle.theory.specs.Triangular.{Triangular}
+use Rattle.theory.specs.Pivots.{ColumnsBelow, column-below, order-complete}
+use Rattle.theory.specs.Cells.{entry-cell, unused-cells}
+use mathlib.Core.Logic.{inl}
+use Rattle.theory.specs.Limits.{rowRight-iff}
 use Rattle.theory.specs.BackSubstitution.{TriangularRows, NonzeroAt, SameBetween, agreement}
 use Rattle.theory.specs.Report.{Past, NonzeroDiagonal, diagonalEntry, diagonal-member, nonzero-diagonal, past-report}
 use Rattle.theory.specs.Mirror.{Reaches, Spans, reflect, mirror-diagonal, mirror-span-sum, mirror-satisfies-back}
 
 -- ---- the settled rows of a valid system
 
--- A column past m of a block that is zero there.
-unused-column : (m : ℕ) (b : Block) (c : ℕ) → m ≤ c → T (zeroBlock (drop m b)) → T (isZero (getD b c []))
-unfolding zeroBlock isZero
-unused-column m b c h z =
-    subst (λ p. T (isZero p)) (getD-drop m b (c - m) [] ∙ ap (λ i. getD b i []) (add-sub-of-le h))
-    (all-getD-default (λ p. T (isZero p)) (drop m b) [] (c - m) tt (every-all isZero (drop m b) .0 z))
-
 unused-columns : (m D : ℕ) (r : Row) → T (unusedZero m D r) → ColumnsBelow m r
-unfolding entry leadingBlock zeroBlock every
-unused-columns m D r u c h =
-    unused-column m (getD (r .blocks) 0 []) c h
-    (all-getD-default (λ b. T (zeroBlock (drop m b))) (r .blocks) [] 0 none-used (unusedZero-iff m D r .0 u .0))
-  where
-    none-used : T (zeroBlock (drop m []))
-    none-used = subst (λ b. T (zeroBlock b)) (sym (drop-nil m)) tt
+unused-columns m D r u c h = subst (λ p. T (isZero p)) (sym (entry-cell r c)) (unused-cells m D r .0 u 0 c (inl h))
 
 module _ (z : Sizes) (s : State) (valid : Valid z (s .rows) (s .relations)) (triangular : Triangular s) (settled : current s ≡ z .m) where
   unused-rows : All (λ r. T (unusedZero (z .m) (span z) r)) (s .rows)
-  unfolding rowRight
   unused-rows =
       all-mono (λ r. T (rowRight z r)) (λ r. T (unusedZero (z .m) (span z) r))
-      (λ r h. T-&& (smallRow r) (unusedZero (z .m) (span z) r) .0 h .1) (s .rows) (every-all (rowRight z) (s .rows) .0 (valid .rows-right))
+      (λ r h. rowRight-iff z r .0 h .1) (s .rows) (every-all (rowRight z) (s .rows) .0 (valid .rows-right))
 
   narrow : All (ColumnsBelow (z .m)) (s .rows)
   narrow = all-mono (λ r. T (unusedZero (z .m) (span z) r)) (ColumnsBelow (z .m)) (unused-columns (z .m) (span z)) (s .rows) unused-rows
@@ -62,8 +49,8 @@ module _ (z : Sizes) (s : State) (valid : Valid z (s .rows) (s .relations)) (tri
   triangular-rows =
       record {
         row-count = valid .row-count;
-        column-below = λ j h. column-below (z .m) s triangular narrow j (below j h);
-        column-of = order-complete (z .m) s triangular narrow settled;
+        column-below = λ j h. column-below (z .m) (s .order) (s .rows) (triangular .fits) (triangular .pivots) narrow j (below j h);
+        column-of = order-complete (z .m) (s .order) (s .rows) (triangular .fits) (triangular .pivots) narrow settled;
         zero-before = λ j k h b. triangular .pivots j (below j b) .zeros k h;
         unused = λ j h. all-getD (λ r. T (unusedZero (z .m) (span z) r)) (s .rows) noRow j (within j h) unused-rows;
       }

@@ -16,24 +16,23 @@ use native.Mathlib.Nat.{not-suc-le-zero}
 use native.Mathlib.Omega.{arith}
 use native.Mathlib.Decide.{decLt}
 use mathlib.Core.Path.{_≡_, refl, sym, _∙_, ap, ap₂, subst}
-use mathlib.Core.Logic.{_↔_, _≢_, ⊎-elim}
+use mathlib.Core.Logic.{_≢_, ⊎-elim}
 use mathlib.Core.List.{List, [], _∷_}
 use lib.Dec.{T}
 use lib.ListN.{length, getD, drop}
-use lib.IntN.{ℤ, pos, negℤ, predℤ, _+ℤ_, _-ℤ_, _*ℤ_, +ℤ-idr, +ℤ-assoc, +ℤ-comm, +ℤ-invr, zero-*ℤ, *ℤ-zero}
-use lib.IntN.{negℤ-+ℤ, -ℤ-one, +ℤ-negℤ-cancel, -ℤ-+ℤ-cancel}
+use lib.IntN.{ℤ, pos, negℤ, predℤ, _+ℤ_, _-ℤ_, _*ℤ_, +ℤ-idr, +ℤ-assoc, +ℤ-comm, +ℤ-invr, zero-*ℤ, *ℤ-zero, +ℤ-negℤ-cancel, -ℤ-+ℤ-cancel}
 use lib.Signed.{_≤ℤ_, _<ℤ_}
-use Rattle.algebra.specs.Integers.{ringℤ, no-zero-divisors, -ℤ-zero}
-use Rattle.algebra.specs.Sums.{sumBelow, sumBelow-front, sumBelow-zeros, sumBelow-single}
-use Rattle.algebra.specs.Polynomials.{Polynomial, eval, isZero, eval-isZero, T-&&}
-use Rattle.algebra.specs.Order.{≤ℤ-intro, ≤ℤ-of-≡, ≤ℤ-trans, ≤ℤ-antisym, ≤ℤ-or->, <ℤ-+1}
-use Rattle.algebra.specs.Order.{≤ℤ-+ℤ-pos, +ℤ-≤ℤ-right, ≤ℤ-cancel-right, ℤ-induction-up}
-use Rattle.rules.specs.Rows.{Block, Row, noRow, All, every, zeroBlock, leadingBlock, entry}
+use Rattle.algebra.specs.Integers.{no-zero-divisors, -ℤ-zero}
+use Rattle.algebra.specs.Sums.{sumBelow, sumBelow-zeros, sumBelow-single}
+use Rattle.algebra.specs.Polynomials.{Polynomial, eval, isZero, eval-isZero}
+use Rattle.algebra.specs.Order.{≤ℤ-intro, ≤ℤ-of-≡, ≤ℤ-trans, ≤ℤ-antisym, ≤ℤ-or->, <ℤ-+1, ≤ℤ-+ℤ-pos, +ℤ-≤ℤ-right, ≤ℤ-cancel-right}
+use Rattle.algebra.specs.Order.{ℤ-induction-up}
+use Rattle.rules.specs.Rows.{Block, Row, noRow, All, zeroBlock, leadingBlock, entry}
 use Rattle.rules.specs.Stores.{unusedZero}
 use Rattle.rules.specs.Sequences.{Sequence, blockValue, blocksValue, valueOf, SatisfiesEquation, Same}
-use Rattle.theory.specs.Lists.{all-getD}
-use Rattle.theory.specs.Values.{block-zero, index-below, value-difference}
-use Rattle.theory.specs.Limits.{unusedZero-iff}
+use Rattle.rules.specs.Lists.{all-getD}
+use Rattle.theory.specs.Values.{blockValue-sum, block-zero, index-below, value-difference}
+use Rattle.theory.specs.Cells.{unusedZero-iff, zeroBlock-past}
 
 -- ---- the value of a block as a sum over its columns
 
@@ -48,11 +47,7 @@ abbrev term : ℤ → (ℕ → ℤ) → Block → ℕ → ℤ
 term n v b c = eval (getD b c []) n *ℤ v c
 
 block-columns : (m : ℕ) (n : ℤ) (v : ℕ → ℤ) (b : Block) → T (zeroBlock (drop m b)) → blockValue n v b ≡ sumBelow m (term n v b)
-unfolding blockValue eval sumBelow
-block-columns m n v [] h = sym (sumBelow-zeros m (term n v []) (λ c p. zero-*ℤ (v c)))
-block-columns zero n v (p ∷ b) h = block-zero n v (p ∷ b) h
-block-columns (suc m) n v (p ∷ b) h =
-    ap (λ s. eval p n *ℤ v 0 +ℤ s) (block-columns m n (λ c. v (suc c)) b h) ∙ sym (sumBelow-front m (term n v (p ∷ b)))
+block-columns m n v b h = blockValue-sum m n v b (zeroBlock-past m b .0 h)
 
 -- ---- rows whose value has only one block
 

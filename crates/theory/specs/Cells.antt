@@ -1,40 +1,82 @@
--- The polynomials of a row by place: the block, counted down from block l, and the column.
+-- The polynomials of a row by place: the block, counted down from block l, and the column; widths and unused places.
 --
 -- Main definitions
 --   cell r i c                 the polynomial at block l - i and column c
 --   ZeroFrom n r               every cell of r from place n on is zero
+--   ZeroWhere r q              every cell that is zero in r is zero in q
+--   totalWidth rows            the sum of the widths
 --
 -- Main statements
---   cell-mapRow, cell-combine  the cells of a changed row
---   primitive-zero, cut-zero   zero cells stay zero
---   cell-shiftUp               a shift moves the zero cells up by one block
+--   zeroBlock-all, zeroBlock-at, zeroBlock-past   a block is zero exactly if its polynomials are
+--   blank-zero, blank-same     a blank block is zero, and a zero block its own blank
+--   cell-mapRow, mapRow-zero   the cells of a row with f applied to each polynomial
+--   append-zero                a zero block behind the others changes no cell from zero to nonzero or back
 --   width-le                   the width is at most n exactly if every cell from place n on is zero
---   width-combine, width-primitive, width-cut, width-shiftUp   the widths of changed rows
+--   width-no-wider             a row that is zero wherever another is, is no wider
+--   width-moved                a row whose cells are those of another one block lower is one block wider
+--   zeroRow-width, width-positive, cell-within   zero rows, nonzero rows and nonzero cells by the width
+--   totalWidth-set, totalWidth-bound, totalWidth-rows   the total width with one row replaced, and its bounds
+--   unusedZero-iff, unused-cells, unused-kept   positions outside the system's blocks and columns by place
 --   width-unused, width-mirrorRow   unused blocks are zero, also after the mirror
---   width-positive, cell-within   a nonzero row has a positive width, and its nonzero cells stand within it
-use Prim.Native.Nat.{ℕ, zero, suc, _+_, _-_, _≤_, _<_, zero-le}
-use mathlib.Core.Path.{_≡_, refl, sym, _∙_, ap, subst}
+use Prim.Native.Nat.{ℕ, zero, suc, _+_, _*_, _-_, _≤_, _<_, zero-le}
+use mathlib.Core.Path.{_≡_, refl, sym, _∙_, ap, ap₂, subst}
 use mathlib.Core.Logic.{_⊎_, inl, inr, _↔_}
 use mathlib.Core.Bool.{Bool, true, false, not, _&&_, cond}
-use mathlib.Core.List.{List, [], _∷_, _++_, map, reverse, tail, zipWith}
-use native.Mathlib.Nat.{suc-le-suc-iff, not-suc-le-zero, le-refl, add-sub-of-le}
+use mathlib.Core.List.{List, [], _∷_, _++_, map, reverse}
+use native.Mathlib.Nat.{suc-le-suc-iff, not-suc-le-zero, le-refl, add-sub-of-le, suc-mul}
 use native.Mathlib.Decide.{decLe}
 use native.Mathlib.Omega.{arith}
 use lib.Dec.{T, T-not, eqb, eqb→eq, eqb·suc-zero}
 use lib.Ieee.Fits.{and-i, and-l, and-r}
-use lib.IntN.{natAbs}
-use lib.ListN.{length, getD, take, drop, take-append-drop, length-append, length-reverse, List·getD-map, List·getD-eq-default}
-use lib.Seq.{getD-drop, getD-append-add, length-take-le}
-use Rattle.algebra.specs.Integers.{natAbs-zero}
-use Rattle.algebra.specs.Gcd.{divideBy, divideBy-le}
-use Rattle.algebra.specs.Polynomials.{Polynomial, coeff, isZero, isZero-iff, isZero-append, add, mul, shift, mirror, isZero-shift, isZero-mirror, isZero-add, isZero-mul-right}
-use Rattle.rules.specs.Limits.{coefficientCount}
-use Rattle.rules.specs.Rows.{Block, Row, every, mapRow, zeroBlock, zeroRow, widthOf, width, leadingBlock, entry, combine, primitive, cut, blank, shiftUp, mirrorRow}
+use lib.IntN.{pos}
+use lib.ListN.{length, getD, set, take, drop, length-reverse, List·getD-map, List·getD-eq-default}
+use lib.Seq.{getD-drop, getD-append-add, length-take-le, length-front}
+use Rattle.algebra.specs.Polynomials.{Polynomial, isZero, mirror, isZero-mirror, isZero-cons, T-&&}
+use Rattle.rules.specs.Rows.{Block, Row, noRow, All, every, mapRow, zeroBlock, zeroRow, widthOf, width, entry, blank, mirrorRow}
+use Rattle.rules.specs.Lists.{all-mono, map-same, all-getD-default, getD-all, all-of-every, every-of-all}
 use Rattle.rules.specs.Stores.{unusedZero}
-use Rattle.theory.specs.Lists.{all-getD-default, all-of-every}
-use Rattle.theory.specs.Steps.{zeroBlock-all, zeroBlock-at}
-use Rattle.theory.specs.Shapes.{primitive-divides}
-use Rattle.theory.specs.Values.{blank-zero}
+
+-- ---- zero blocks
+
+-- A list of zero polynomials is a zero block.
+pub zeroBlock-all : (b : Block) → ((k : ℕ) → T (isZero (getD b k []))) → T (zeroBlock b)
+unfolding zeroBlock
+zeroBlock-all [] h = tt
+zeroBlock-all (p ∷ ps) h = and-i (isZero p) (every isZero ps) (h 0) (zeroBlock-all ps (λ k. h (suc k)))
+
+pub zeroBlock-at : (b : Block) → T (zeroBlock b) → (k : ℕ) → T (isZero (getD b k []))
+unfolding zeroBlock isZero
+zeroBlock-at [] h k = tt
+zeroBlock-at (p ∷ ps) h zero = and-l (isZero p) (every isZero ps) h
+zeroBlock-at (p ∷ ps) h (suc k) = zeroBlock-at ps (and-r (isZero p) (every isZero ps) h) k
+
+-- A block that is zero from column m on.
+pub zeroBlock-past : (m : ℕ) (b : Block) → T (zeroBlock (drop m b)) ↔ ((c : ℕ) → m ≤ c → T (isZero (getD b c [])))
+zeroBlock-past m b = (
+  λ z c h. subst (λ p. T (isZero p)) (getD-drop m b (c - m) [] ∙ ap (λ i. getD b i []) (add-sub-of-le h)) (zeroBlock-at (drop m b) z (c - m)),
+  λ z. zeroBlock-all (drop m b) (λ k. rw (getD-drop m b k []) (z (m + k) (omega arith))),
+)
+
+zero-polynomial : (p : Polynomial) → T (isZero (map (λ _. pos 0) p))
+unfolding isZero
+zero-polynomial [] = tt
+zero-polynomial (a ∷ p) = zero-polynomial p
+
+pub blank-zero : (b : Block) → T (zeroBlock (blank b))
+unfolding zeroBlock blank
+blank-zero [] = tt
+blank-zero (p ∷ b) = T-&& (isZero (map (λ _. pos 0) p)) (every isZero (map (map (λ _. pos 0)) b)) .1 (zero-polynomial p, blank-zero b)
+
+-- A zero block is its own blank.
+pub blank-same : (b : Block) → T (zeroBlock b) → blank b ≡ b
+unfolding zeroBlock blank
+blank-same b z = map-same (map (λ _. pos 0)) b (all-mono (λ p. T (isZero p)) (λ p. map (λ _. pos 0) p ≡ p) zeros b (all-of-every isZero b z))
+  where
+    zeros : (p : Polynomial) → T (isZero p) → map (λ _. pos 0) p ≡ p
+    zeros [] h = refl
+    zeros (a ∷ p) h = let e = isZero-cons a p .0 h in ap₂ _∷_ (sym (e .0)) (zeros p (e .1))
+
+-- ---- cells
 
 abbrev cellOf : List Block → ℕ → ℕ → Polynomial
 cellOf bs i c = getD (getD bs i []) c []
@@ -45,11 +87,12 @@ cell r i c = getD (getD (r .blocks) i []) c []
 abbrev pub ZeroFrom : ℕ → Row → Type 0
 ZeroFrom n r = (i c : ℕ) → n ≤ i → T (isZero (cell r i c))
 
+abbrev pub ZeroWhere : Row → Row → Type 0
+ZeroWhere r q = (i c : ℕ) → T (isZero (cell r i c)) → T (isZero (cell q i c))
+
 pub entry-cell : (r : Row) (c : ℕ) → entry r c ≡ cell r 0 c
 unfolding entry
 entry-cell r c = refl
-
--- ---- the cells of a changed row
 
 pub cell-mapRow : (f : Polynomial → Polynomial) → f [] ≡ [] → (r : Row) (i c : ℕ) → cell (mapRow f r) i c ≡ f (cell r i c)
 unfolding mapRow
@@ -57,92 +100,21 @@ cell-mapRow f e r i c =
     ap (λ b. getD b c []) (List·getD-map (map f) (r .blocks) i []) ∙ ap (getD (map f (getD (r .blocks) i [])) c) (sym e)
     ∙ List·getD-map f (getD (r .blocks) i []) c []
 
--- A list made from two has at a place what f makes there, or ends before it.
-zipWith-place : {A B C : Type 0} (f : A → B → C) (l : List A) (m : List B) (i : ℕ) (a : A) (b : B) (c : C)
-    → (getD (zipWith f l m) i c ≡ f (getD l i a) (getD m i b)) ⊎ (getD (zipWith f l m) i c ≡ c)
-unfolding zipWith
-zipWith-place f [] m i a b c = inr refl
-zipWith-place f (x ∷ l) [] i a b c = inr refl
-zipWith-place f (x ∷ l) (y ∷ m) zero a b c = inl refl
-zipWith-place f (x ∷ l) (y ∷ m) (suc i) a b c = zipWith-place f l m i a b c
-
-pub cell-combine : (g h : Polynomial) (r q : Row) (i c : ℕ)
-    → (cell (combine g h r q) i c ≡ add (mul g (cell r i c)) (mul h (cell q i c))) ⊎ (cell (combine g h r q) i c ≡ [])
-unfolding combine
-cell-combine g h r q i c = go (zipWith-place (zipWith f) (r .blocks) (q .blocks) i [] [] [])
-  where
-    f : Polynomial → Polynomial → Polynomial
-    f p e = add (mul g p) (mul h e)
-
-    go : (getD (zipWith (zipWith f) (r .blocks) (q .blocks)) i [] ≡ zipWith f (getD (r .blocks) i []) (getD (q .blocks) i []))
-        ⊎ (getD (zipWith (zipWith f) (r .blocks) (q .blocks)) i [] ≡ [])
-        → (cell (combine g h r q) i c ≡ f (cell r i c) (cell q i c)) ⊎ (cell (combine g h r q) i c ≡ [])
-    go (inl e) = rw e (zipWith-place f (getD (r .blocks) i []) (getD (q .blocks) i []) c [] [] [])
-    go (inr e) = inr (ap (λ b. getD b c []) e)
-
--- ---- zero cells
-
-pub combine-zero : (g h : Polynomial) (r q : Row) (i c : ℕ) → T (isZero (cell r i c)) → T (isZero (cell q i c))
-    → T (isZero (cell (combine g h r q) i c))
-unfolding isZero
-combine-zero g h r q i c p e = go (cell-combine g h r q i c)
-  where
-    go : (cell (combine g h r q) i c ≡ add (mul g (cell r i c)) (mul h (cell q i c))) ⊎ (cell (combine g h r q) i c ≡ [])
-        → T (isZero (cell (combine g h r q) i c))
-    go (inl f) = rw f (isZero-add (mul g (cell r i c)) (mul h (cell q i c))
-        (isZero-mul-right g (cell r i c) p) (isZero-mul-right h (cell q i c) e))
-    go (inr f) = rw f tt
-
 -- What makes zero polynomials of zero polynomials keeps the zero cells.
-mapRow-zero : (f : Polynomial → Polynomial) → f [] ≡ [] → ((p : Polynomial) → T (isZero p) → T (isZero (f p)))
-    → (r : Row) (i c : ℕ) → T (isZero (cell r i c)) → T (isZero (cell (mapRow f r) i c))
+pub mapRow-zero : (f : Polynomial → Polynomial) → f [] ≡ [] → ((p : Polynomial) → T (isZero p) → T (isZero (f p)))
+    → (r : Row) → ZeroWhere r (mapRow f r)
 mapRow-zero f e keep r i c h = rw (cell-mapRow f e r i c) (keep (cell r i c) h)
-
-divideBy-zero : (d : ℕ) (p : Polynomial) → T (isZero p) → T (isZero (divideBy d p))
-unfolding coeff
-divideBy-zero d p h = isZero-iff (divideBy d p) .1 (λ k. natAbs-zero (smaller k (divideBy-le d p k) (ap natAbs (isZero-iff p .0 h k))))
-  where
-    smaller : (k : ℕ) {a b : ℕ} → a ≤ b → b ≡ 0 → a ≡ 0
-    smaller k u v = omega arith
-
-take-zero : (n : ℕ) (p : Polynomial) → T (isZero p) → T (isZero (take n p))
-take-zero n p h =
-    and-l (isZero (take n p)) (isZero (drop n p)) (subst T (isZero-append (take n p) (drop n p)) (rw (take-append-drop n p) h))
-
-pub primitive-zero : (r : Row) (i c : ℕ) → T (isZero (cell r i c)) → T (isZero (cell (primitive r) i c))
-unfolding divideBy
-primitive-zero r i c h =
-    let (d, positive, divides, same) = primitive-divides r in
-    rw same (mapRow-zero (divideBy d) refl (divideBy-zero d) r i c h)
-
-pub cut-zero : (r : Row) (i c : ℕ) → T (isZero (cell r i c)) → T (isZero (cell (cut r) i c))
-unfolding cut
-cut-zero r i c h = mapRow-zero (take coefficientCount) refl (take-zero coefficientCount) r i c h
-
--- ---- the shift
 
 passed : (b : Bool) → T b → b ≡ true
 passed true h = refl
 
 -- A zero block behind the others changes no cell from zero to nonzero or back.
-append-zero : (bs : List Block) (z : Block) → T (zeroBlock z) → (i c : ℕ) → isZero (cellOf (bs ++ (z ∷ [])) i c) ≡ isZero (cellOf bs i c)
+pub append-zero : (bs : List Block) (z : Block) → T (zeroBlock z) → (i c : ℕ) → isZero (cellOf (bs ++ (z ∷ [])) i c) ≡ isZero (cellOf bs i c)
 unfolding isZero
 append-zero [] z h zero c = passed (isZero (getD z c [])) (zeroBlock-at z h c)
 append-zero [] z h (suc i) c = refl
 append-zero (b ∷ bs) z h zero c = refl
 append-zero (b ∷ bs) z h (suc i) c = append-zero bs z h i c
-
--- The blocks move up by one.
-pub cell-shiftUp : (r : Row) (i c : ℕ) → isZero (cell (shiftUp r) i c) ≡ isZero (cell r (suc i) c)
-unfolding shiftUp leadingBlock
-cell-shiftUp r i c = ap isZero (cell-mapRow shift refl moved i c) ∙ isZero-shift (cell moved i c) ∙ go (r .blocks)
-  where
-    moved : Row
-    moved = record { blocks = tail (r .blocks) ++ (blank (leadingBlock r) ∷ []) }
-
-    go : (bs : List Block) → isZero (cellOf (tail bs ++ (blank (getD bs 0 []) ∷ [])) i c) ≡ isZero (cellOf bs (suc i) c)
-    go [] = append-zero [] (blank []) (blank-zero []) i c
-    go (b ∷ bs) = append-zero bs (blank b) (blank-zero b) i c
 
 -- ---- the width
 
@@ -197,46 +169,48 @@ unfolding isZero
 width-le-length r = width-le r (length (r .blocks)) .1 (λ i c h. rw (List·getD-eq-default (r .blocks) [] h) tt)
 
 -- A row that is zero wherever q is zero is no wider than q.
-width-no-wider : (r q : Row) → ((i c : ℕ) → T (isZero (cell q i c)) → T (isZero (cell r i c))) → width r ≤ width q
+pub width-no-wider : (r q : Row) → ZeroWhere q r → width r ≤ width q
 width-no-wider r q h = width-le r (width q) .1 (λ i c k. h i c (width-le q (width q) .0 (le-refl (width q)) i c k))
 
--- The row that a combination makes is no wider than the wider of the two rows.
-pub width-combine : (g h : Polynomial) (r q : Row) → width q ≤ width r → width (combine g h r q) ≤ width r
-width-combine g h r q narrow = width-le (combine g h r q) (width r) .1
-    (λ i c k. combine-zero g h r q i c (width-le r (width r) .0 (le-refl (width r)) i c k) (width-le q (width r) .0 narrow i c k))
+-- A row whose cells are those of q, one block lower, with anything at the top.
+module _ (r q : Row) (lower : (i c : ℕ) → isZero (cell r (suc i) c) ≡ isZero (cell q i c)) where
+  pub width-moved-le : width q ≤ width r
+  width-moved-le = width-le q (width r) .1
+      (λ i c k. subst T (lower i c) (width-le r (width r) .0 (le-refl (width r)) (suc i) c (omega arith)))
 
-pub width-primitive : (r : Row) → width (primitive r) ≤ width r
-width-primitive r = width-no-wider (primitive r) r (primitive-zero r)
+  pub width-moved : 0 < width r → width r ≡ suc (width q)
+  width-moved positive = omega (arith, falls (width r - 1) (omega arith), rises)
+    where
+      rises : width r ≤ suc (width q)
+      rises = width-le r (suc (width q)) .1 kept
+        where
+          kept : ZeroFrom (suc (width q)) r
+          kept zero c k = absurd (not-suc-le-zero k)
+          kept (suc i) c k = subst T (sym (lower i c)) (width-le q (width q) .0 (le-refl (width q)) i c (suc-le-suc-iff .0 k))
 
-pub width-cut : (r : Row) → width (cut r) ≤ width r
-width-cut r = width-no-wider (cut r) r (cut-zero r)
-
--- "A shift lowers the total width"
-pub width-shiftUp : (r : Row) → 0 < width r → width r ≡ suc (width (shiftUp r))
-width-shiftUp r positive = omega (arith, lower (width (shiftUp r)) (le-refl (width (shiftUp r))), raise (width r - 1) (omega arith))
-  where
-    lower : (n : ℕ) → width (shiftUp r) ≤ n → width r ≤ suc n
-    lower n h = width-le r (suc n) .1 kept
-      where
-        kept : ZeroFrom (suc n) r
-        kept zero c k = absurd (not-suc-le-zero k)
-        kept (suc i) c k = subst T (cell-shiftUp r i c) (width-le (shiftUp r) n .0 h i c (suc-le-suc-iff .0 k))
-
-    raise : (n : ℕ) → width r ≤ suc n → width (shiftUp r) ≤ n
-    raise n h = width-le (shiftUp r) n .1 (λ i c k. rw (cell-shiftUp r i c) (width-le r (suc n) .0 h (suc i) c (suc-le-suc-iff .1 k)))
+      falls : (n : ℕ) → width r ≤ suc n → width q ≤ n
+      falls n h = width-le q n .1 (λ i c k. subst T (lower i c) (width-le r (suc n) .0 h (suc i) c (suc-le-suc-iff .1 k)))
 
 -- ---- nonzero rows
 
-zero-blocks : (bs : List Block) → widthOf bs ≤ 0 → T (every zeroBlock bs)
-unfolding every
-zero-blocks [] h = tt
-zero-blocks (b ∷ bs) h =
-    let none = widthOf-none b bs .0 h in
-    and-i (zeroBlock b) (every zeroBlock bs) (none .1) (zero-blocks bs (none .0))
+zero-blocks : (bs : List Block) → T (every zeroBlock bs) ↔ (widthOf bs ≤ 0)
+unfolding every widthOf
+zero-blocks [] = (λ h. zero-le, λ h. tt)
+zero-blocks (b ∷ bs) = both (zero-blocks bs)
+  where
+    both : T (every zeroBlock bs) ↔ (widthOf bs ≤ 0) → T (zeroBlock b && every zeroBlock bs) ↔ (widthOf (b ∷ bs) ≤ 0)
+    both rec = (
+      λ h. widthOf-none b bs .1 (rec .0 (and-r (zeroBlock b) (every zeroBlock bs) h), and-l (zeroBlock b) (every zeroBlock bs) h),
+      λ h. let none = widthOf-none b bs .0 h in and-i (zeroBlock b) (every zeroBlock bs) (none .1) (rec .1 (none .0)),
+    )
+
+-- "The width [..] of a zero row, 0."
+pub zeroRow-width : (r : Row) → T (zeroRow r) ↔ (width r ≤ 0)
+unfolding zeroRow width
+zeroRow-width r = zero-blocks (r .blocks)
 
 pub width-positive : (r : Row) → T (not (zeroRow r)) → 0 < width r
-unfolding zeroRow width
-width-positive r h = not-le (λ k. T-not (zeroRow r) h (zero-blocks (r .blocks) k))
+width-positive r h = not-le (λ k. T-not (zeroRow r) h (zeroRow-width r .1 k))
   where
     not-le : ¬ (width r ≤ 0) → 0 < width r
     not-le n = omega arith
@@ -248,22 +222,94 @@ cell-within r i c h = not-le (λ k. T-not (isZero (cell r i c)) h (width-le r i 
     not-le : ¬ (width r ≤ i) → i < width r
     not-le n = omega arith
 
--- ---- the blocks in use
+-- ---- the total width of a list of rows
+
+unfoldable pub totalWidth : List Row → ℕ
+totalWidth [] = 0
+totalWidth (r ∷ l) = width r + totalWidth l
+
+-- One row put in the place of another.
+pub totalWidth-set : (l : List Row) (i : ℕ) (r : Row) → i < length l
+    → totalWidth (set l i r) + width (getD l i noRow) ≡ totalWidth l + width r
+unfolding totalWidth
+totalWidth-set [] i r h = absurd (not-suc-le-zero h)
+totalWidth-set (q ∷ l) zero r h = omega arith
+totalWidth-set (q ∷ l) (suc i) r h = step (totalWidth-set l i r (suc-le-suc-iff .0 h))
+  where
+    step : totalWidth (set l i r) + width (getD l i noRow) ≡ totalWidth l + width r
+        → width q + totalWidth (set l i r) + width (getD l i noRow) ≡ width q + totalWidth l + width r
+    step e = omega arith
+
+pub totalWidth-bound : (b : ℕ) (l : List Row) → All (λ r. width r ≤ b) l → totalWidth l ≤ length l * b
+unfolding totalWidth All
+totalWidth-bound b [] h = zero-le
+totalWidth-bound b (r ∷ l) h = step (width r) (h .0) (totalWidth-bound b l (h .1))
+  where
+    step : (w : ℕ) {t : ℕ} → w ≤ b → t ≤ length l * b → w + t ≤ suc (length l) * b
+    step w u v = rw (suc-mul (length l) b) (omega arith)
+
+-- Rows that are not zero have a block each.
+pub totalWidth-rows : (l : List Row) → All (λ r. 0 < width r) l → length l ≤ totalWidth l
+unfolding totalWidth All
+totalWidth-rows [] h = zero-le
+totalWidth-rows (r ∷ l) h = step (width r) (h .0) (totalWidth-rows l (h .1))
+  where
+    step : (w : ℕ) {n t : ℕ} → 0 < w → n ≤ t → suc n ≤ w + t
+    step w u v = omega arith
+
+-- ---- the blocks and columns in use
 
 -- "Positions outside the system's blocks and columns hold 0."
-pub width-unused : (m D : ℕ) (r : Row) → T (unusedZero m D r) → width r ≤ suc D
-unfolding unusedZero zeroBlock
-width-unused m D r h = width-le r (suc D) .1 (λ i c k. zeroBlock-at (getD (r .blocks) i []) (below i k) c)
+pub unusedZero-iff : (m D : ℕ) (r : Row)
+    → T (unusedZero m D r) ↔ (All (λ b. T (zeroBlock (drop m b))) (r .blocks) × All (λ b. T (zeroBlock b)) (drop (suc D) (r .blocks)))
+unfolding unusedZero
+unusedZero-iff m D r = (forth, back)
   where
-    rest : T (every zeroBlock (drop (suc D) (r .blocks)))
-    rest = and-r (every (λ b. zeroBlock (drop m b)) (r .blocks)) (every zeroBlock (drop (suc D) (r .blocks))) h
+    columns : Bool
+    columns = every (λ b. zeroBlock (drop m b)) (r .blocks)
 
-    below : (i : ℕ) → suc D ≤ i → T (zeroBlock (getD (r .blocks) i []))
-    below i k =
-        subst (λ n. T (zeroBlock (getD (r .blocks) n []))) (add-sub-of-le k)
-        (subst (λ b. T (zeroBlock b)) (getD-drop (suc D) (r .blocks) (i - suc D) [])
-        (all-getD-default (λ b. T (zeroBlock b)) (drop (suc D) (r .blocks)) [] (i - suc D) tt
-        (all-of-every zeroBlock (drop (suc D) (r .blocks)) rest)))
+    blocks : Bool
+    blocks = every zeroBlock (drop (suc D) (r .blocks))
+
+    forth : T (columns && blocks) → All (λ b. T (zeroBlock (drop m b))) (r .blocks) × All (λ b. T (zeroBlock b)) (drop (suc D) (r .blocks))
+    forth h =
+        let both = T-&& columns blocks .0 h in
+        (all-of-every (λ b. zeroBlock (drop m b)) (r .blocks) (both .0), all-of-every zeroBlock (drop (suc D) (r .blocks)) (both .1))
+
+    back : All (λ b. T (zeroBlock (drop m b))) (r .blocks) × All (λ b. T (zeroBlock b)) (drop (suc D) (r .blocks)) → T (columns && blocks)
+    back h = T-&& columns blocks .1
+        (every-of-all (λ b. zeroBlock (drop m b)) (r .blocks) (h .0), every-of-all zeroBlock (drop (suc D) (r .blocks)) (h .1))
+
+-- The same by place.
+pub unused-cells : (m D : ℕ) (r : Row) → T (unusedZero m D r) ↔ ((i c : ℕ) → (m ≤ c) ⊎ (suc D ≤ i) → T (isZero (cell r i c)))
+unfolding isZero zeroBlock
+unused-cells m D r = (λ u. forth (unusedZero-iff m D r .0 u), λ z. unusedZero-iff m D r .1 (columns z, blocks z))
+  where
+    forth : All (λ b. T (zeroBlock (drop m b))) (r .blocks) × All (λ b. T (zeroBlock b)) (drop (suc D) (r .blocks))
+        → (i c : ℕ) → (m ≤ c) ⊎ (suc D ≤ i) → T (isZero (cell r i c))
+    forth u i c (inl h) = zeroBlock-past m (getD (r .blocks) i []) .0
+        (all-getD-default (λ b. T (zeroBlock (drop m b))) (r .blocks) [] i (zeroBlock-past m [] .1 (λ c h. tt)) (u .0)) c h
+    forth u i c (inr h) = zeroBlock-at (getD (r .blocks) i []) (subst (λ b. T (zeroBlock b)) place
+        (all-getD-default (λ b. T (zeroBlock b)) (drop (suc D) (r .blocks)) [] (i - suc D) tt (u .1))) c
+      where
+        place : getD (drop (suc D) (r .blocks)) (i - suc D) [] ≡ getD (r .blocks) i []
+        place = getD-drop (suc D) (r .blocks) (i - suc D) [] ∙ ap (λ n. getD (r .blocks) n []) (add-sub-of-le h)
+
+    columns : ((i c : ℕ) → (m ≤ c) ⊎ (suc D ≤ i) → T (isZero (cell r i c))) → All (λ b. T (zeroBlock (drop m b))) (r .blocks)
+    columns z = getD-all (λ b. T (zeroBlock (drop m b))) (r .blocks) []
+        (λ i k. zeroBlock-past m (getD (r .blocks) i []) .1 (λ c h. z i c (inl h)))
+
+    blocks : ((i c : ℕ) → (m ≤ c) ⊎ (suc D ≤ i) → T (isZero (cell r i c))) → All (λ b. T (zeroBlock b)) (drop (suc D) (r .blocks))
+    blocks z = getD-all (λ b. T (zeroBlock b)) (drop (suc D) (r .blocks)) []
+        (λ i k. rw (getD-drop (suc D) (r .blocks) i [])
+        (zeroBlock-all (getD (r .blocks) (suc D + i) []) (λ c. z (suc D + i) c (inr (omega arith)))))
+
+-- A row that is zero wherever another is, has its unused places zero where the other has.
+pub unused-kept : (m D : ℕ) (r q : Row) → ZeroWhere r q → T (unusedZero m D r) → T (unusedZero m D q)
+unused-kept m D r q kept u = unused-cells m D q .1 (λ i c h. kept i c (unused-cells m D r .0 u i c h))
+
+pub width-unused : (m D : ℕ) (r : Row) → T (unusedZero m D r) → width r ≤ suc D
+width-unused m D r u = width-le r (suc D) .1 (λ i c h. unused-cells m D r .0 u i c (inr h))
 
 -- Turned round in its first n members, a list is as before from place n on.
 turned-rest : (n : ℕ) (bs : List Block) (i : ℕ) → n ≤ i → getD (reverse (take n bs) ++ drop n bs) i [] ≡ getD bs i []
@@ -273,9 +319,7 @@ turned-rest n bs i h = cases (decLe n (length bs))
     front = reverse (take n bs)
 
     size : length (front ++ drop n bs) ≡ length bs
-    size =
-        length-append front (drop n bs) ∙ ap (λ k. k + length (drop n bs)) (length-reverse (take n bs))
-        ∙ sym (length-append (take n bs) (drop n bs)) ∙ ap length (take-append-drop n bs)
+    size = length-front bs front n (length-reverse (take n bs))
 
     cases : Dec (n ≤ length bs) → getD (front ++ drop n bs) i [] ≡ getD bs i []
     cases (yes k) =

@@ -11,22 +11,23 @@
 --   2 diagonal-nonzero        5 refused-dependent       8 output-valid
 --   3 agreement-leading,      6 run-ends,               9 next-row-later, zero-row-refused
 --     agreement-trailing        shifts-bounded
-use Prim.Native.Nat.{ℕ, zero, suc, _*_, _≤_, _<_}
+use Prim.Native.Nat.{ℕ, suc, _*_, _≤_, _<_}
 use mathlib.Core.Path.{_≡_, refl, sym, _∙_, subst}
 use mathlib.Core.Logic.{_↔_, inl, inr}
-use mathlib.Core.Bool.{Bool, true, false, not, cond}
+use mathlib.Core.Bool.{not}
 use mathlib.Core.List.{List, map}
-use mathlib.Core.Option.{Option, none, some}
+use mathlib.Core.Option.{none, some}
 use lib.Dec.{T, ltb, lt→ltb}
 use lib.ListN.{length}
 use lib.IntN.{ℤ, _+ℤ_}
 use lib.Signed.{_≤ℤ_, _<ℤ_}
-use Rattle.algebra.specs.Polynomials.{isZero, T-&&}
-use Rattle.rules.specs.Rows.{Row, Relation, All, zeroRow, width, smallRow, entry, firstNonzero}
-use Rattle.rules.specs.Elimination.{Side, leading, trailing, State, Outcome, going, done, refused, start, enough, step, workOn, meet, run, wholeRun, leadingRun, trailingRun, mirrorState, diagonal, report, rowAt, putRow, limitDegrees, within}
-use Rattle.rules.specs.Stores.{Sizes, span, rowRight, unusedZero, Valid}
+use Rattle.algebra.specs.Polynomials.{isZero}
+use Rattle.rules.specs.Rows.{Row, Relation, All, zeroRow, width, entry, firstNonzero}
+use Rattle.rules.specs.Elimination.{Side, leading, trailing, State, Outcome, going, done, refused, start, enough, step, workOn, meet, run}
+use Rattle.rules.specs.Elimination.{wholeRun, leadingRun, trailingRun, mirrorState, diagonal, report, rowAt, putRow, limitDegrees, within}
+use Rattle.rules.specs.Stores.{Sizes, span, rowRight, Valid}
 use Rattle.rules.specs.Sequences.{Sequence, Satisfies, Same, Dependent}
-use Rattle.theory.specs.Lists.{all-mono, every-all}
+use Rattle.rules.specs.Lists.{all-mono, every-all, cond-passed}
 use Rattle.theory.specs.Steps.{current, met, MetZeroBelow, combination, listed, Chain, Refusal, run-refused, step-refused}
 use Rattle.theory.specs.Cells.{width-unused}
 use Rattle.theory.specs.Ending.{wholeRun-ends, wholeRun-shifts, mirrorOutcome-refused}
@@ -34,10 +35,13 @@ use Rattle.theory.specs.Report.{Past, Rootless, FurthestRoot, report-non
 use Rattle.theory.specs.Solutions.{run-solutions}
 use Rattle.theory.specs.Triangular.{triangular-start, triangular-chain, combined-advances}
 use Rattle.theory.specs.Dependence.{chain-dependent, settled-independent, refused-dependent as run-dependent}
+use Rattle.theory.specs.Limits.{rowRight-iff}
 use Rattle.theory.specs.Mirror.{span-sum}
 use Rattle.theory.specs.Agreement.{leading-agreement}
-use Rattle.theory.specs.Trailing.{valid-shapes, mirrored-sequences, diagonal-back, valid-back, independent-back, agrees-back, trailing-dependent}
-use Rattle.theory.specs.Settled.{settled-triangular, settled-rows, Diagonal, Settled, settled-leading, settled-trailing, settled-diagonal, settled-valid, mirrored-diagonal, nonzero-of-diagonal}
+use Rattle.theory.specs.Trailing.{valid-shapes, mirrored-sequences, diagonal-back, valid-back, independent-back, agrees-back}
+use Rattle.theory.specs.Trailing.{trailing-dependent}
+use Rattle.theory.specs.Settled.{settled-triangular, settled-rows, Diagonal, settled-leading, settled-trailing, settled-diagonal}
+use Rattle.theory.specs.Settled.{settled-valid, nonzero-of-diagonal}
 
 -- "A run accepts a system if it returns no refusal." Valid is exactly what the checks of document 01 let through.
 pub record Accepted (side : Side) (z : Sizes) (rows : List Row) (relations : List Relation) (s : State) : Type 0 where
@@ -80,10 +84,10 @@ valid-output trailing {z} v e =
 
 -- The rows of a valid system have no block below t.
 valid-widths : {z : Sizes} {rows : List Row} {relations : List Relation} → Valid z rows relations → All (λ r. width r ≤ suc (span z)) rows
-unfolding rowRight
 valid-widths {z} {rows} v =
     all-mono (λ r. T (rowRight z r)) (λ r. width r ≤ suc (span z))
-    (λ r t. width-unused (z .m) (span z) r (T-&& (smallRow r) (unusedZero (z .m) (span z) r) .0 t .1)) rows (every-all (rowRight z) rows .0 (v .rows-right))
+    (λ r t. width-unused (z .m) (span z) r (rowRight-iff z r .0 t .1)) rows
+    (every-all (rowRight z) rows .0 (v .rows-right))
 
 module _ {side : Side} {z : Sizes} {rows : List Row} {relations : List Relation} {s : State} (a : Accepted side z rows relations s) where
   -- 1. "the same two-sided integer sequences satisfy input and output"
@@ -127,7 +131,8 @@ pub agreement-leading : {z : Sizes} {rows : List Row} {relations : List Relation
 unfolding Satisfies
 agreement-leading {z} {s = s} a y w hy hw =
     let b = settled-leading (a .valid) (a .accepts) in
-    leading-agreement (z .m) (span z) s (settled-rows b) (settled-diagonal b .order-count) (nonzero-of-diagonal leading (z .m) (span z) s (settled-diagonal b))
+    leading-agreement (z .m) (span z) s (settled-rows b) (settled-diagonal b .order-count)
+    (nonzero-of-diagonal leading (z .m) (span z) s (settled-diagonal b))
     (z .l) (z .t) (span-sum z (a .valid .sizes)) y w (same-sequences a y .0 hy .0) (same-sequences a w .0 hw .0)
 
 -- "Trailing side: for every n below the reported root, or any n with "no", two that are equal at n + t + 1 to n + l are equal
@@ -169,7 +174,8 @@ refused-number side k s n e =
     number u (inr (inr (inl h))) = subst (λ k. Ended (refused k)) (sym h) eight
     number u (inr (inr (inr h))) = subst (λ k. Ended (refused k)) (sym h) nine
 
-whole-refused : (side : Side) (D : ℕ) (rows : List Row) (relations : List Relation) (n : ℕ) → wholeRun side D rows relations ≡ refused n → Ended (refused n)
+whole-refused : (side : Side) (D : ℕ) (rows : List Row) (relations : List Relation) (n : ℕ) → wholeRun side D rows relations ≡ refused n
+    → Ended (refused n)
 unfolding wholeRun leadingRun trailingRun
 whole-refused leading D rows relations n e = refused-number leading (enough rows) (start rows relations) n e
 whole-refused trailing D rows relations n e =
@@ -193,13 +199,10 @@ pub next-row-later : {side : Side} (rows : List Row) (relations : List Relation)
 next-row-later {side} rows relations {s = s} c j below more clear meets =
     combined-advances s j (triangular-chain c (triangular-start rows relations)) below more clear meets side
 
-chosen : (x y : Outcome) (b : Bool) → T b → cond b x y ≡ x
-chosen x y true t = refl
-chosen x y false t = absurd t
-
 -- "A zero row: refusal 6. Then the next j": the row that a combination has made zero is refused by the next step.
 pub zero-row-refused : (side : Side) (s : State) → current s < length (s .rows) → T (zeroRow (rowAt s (current s))) → step side s ≡ refused 6
 unfolding step workOn
 zero-row-refused side s below zeros =
-    chosen (workOn side s (current s)) (done s) (ltb (current s) (length (s .rows))) (lt→ltb (current s) (length (s .rows)) below)
-    ∙ chosen (refused 6) (meet side s (current s) (firstNonzero (map (entry (rowAt s (current s))) (s .order)))) (zeroRow (rowAt s (current s))) zeros
+    cond-passed (ltb (current s) (length (s .rows))) (workOn side s (current s)) (done s) (lt→ltb (current s) (length (s .rows)) below)
+    ∙ cond-passed (zeroRow (rowAt s (current s))) (refused 6)
+    (meet side s (current s) (firstNonzero (map (entry (rowAt s (current s))) (s .order)))) zeros

@@ -1,7 +1,6 @@
 -- Every run ends: the fuel suffices, and an accepted run makes at most m × D shifts.
 --
 -- Main definitions
---   totalWidth rows       the sum of the widths
 --   measure s z           falls at each step, z being a number of settled rows that the current row is known not to meet
 --
 -- Main statements
@@ -9,12 +8,12 @@
 --   stepped-measure, chain-measure   the measure falls at each step, so it bounds the number of steps
 --   run-ends, enough-ends, wholeRun-ends   a run with enough fuel is not still going at its end
 --   shift-bound, wholeRun-shifts           "there are at most m × D shifts"
-use Prim.Native.Nat.{ℕ, zero, suc, _+_, _*_, _-_, _≤_, _<_, zero-le}
+use Prim.Native.Nat.{ℕ, suc, _+_, _*_, _-_, _≤_, _<_}
 use mathlib.Core.Path.{_≡_, refl, sym, _∙_, ap, ap₂, subst}
 use mathlib.Core.Logic.{_≢_}
 use mathlib.Core.Bool.{not}
 use mathlib.Core.List.{List, [], _∷_, _++_, map}
-use native.Mathlib.Nat.{not-suc-le-zero, zero-add, le-of-eq, suc-le-suc-iff, le-refl, le-trans, suc-mul, mul-suc, mul-le-mul-left}
+use native.Mathlib.Nat.{not-suc-le-zero, zero-add, le-of-eq, le-refl, le-trans, mul-suc, mul-le-mul-left}
 use native.Mathlib.Numerals.{add-one}
 use native.Mathlib.Omega.{arith}
 use lib.Dec.{T, T-not}
@@ -22,96 +21,42 @@ use lib.ListN.{length, getD, set, length-append, length-set, length-map}
 use Rattle.algebra.specs.Polynomials.{isZero}
 use Rattle.rules.specs.Limits.{blockCount, columnCount, coefficientCount}
 use Rattle.rules.specs.Rows.{Row, Relation, noRow, All, zeroRow, width, shiftUp, mirrorRow, mirrorRelation}
-use Rattle.rules.specs.Elimination.{Side, leading, trailing, State, start, Outcome, going, done, refused, within, limitDegrees, limitCoefficients}
-use Rattle.rules.specs.Elimination.{rowAt, putRow, listRelations, settle, countShift, exchange, narrowFirst}
-use Rattle.rules.specs.Elimination.{run, enough, leadingRun, mirrorState, mirrorOutcome, trailingRun, wholeRun}
+use Rattle.rules.specs.Elimination.{Side, leading, trailing, State, start, Outcome, going, done, refused, within, limitDegrees}
+use Rattle.rules.specs.Elimination.{limitCoefficients, rowAt, putRow, listRelations, settle, countShift, exchange, narrowFirst, run, enough}
+use Rattle.rules.specs.Elimination.{leadingRun, mirrorState, mirrorOutcome, trailingRun, wholeRun}
 use Rattle.rules.specs.Stores.{Shaped, StoreRow}
-use Rattle.theory.specs.Lists.{all-mono, map-all, getD-all}
+use Rattle.rules.specs.Lists.{all-mono, map-all, getD-all}
 use Rattle.theory.specs.Shapes.{mirrorRow-shaped}
-use Rattle.theory.specs.Cells.{width-combine, width-primitive, width-cut, width-shiftUp, width-positive, width-le-length, width-mirrorRow, cell-within, entry-cell}
-use Rattle.theory.specs.Steps.{current, met, MetZeroBelow, exchanged, listed, combination, multipliersFor, Stepped, combined, settled, shifted, Chain, here, next}
-use Rattle.theory.specs.Steps.{Narrowed, narrowed, kept, swapped, narrowFirst-width, length-narrowFirst, shifts-narrowFirst, rowAt-putRow-other, length-putRow, listed-order, stepped-length, run-going, run-done, going≢done, going≢refused, done≢refused, done-injective, chain-length, limitDegrees-within, limitCoefficients-within}
-use Rattle.theory.specs.Triangular.{Triangular, triangular-start, triangular-chain, column, combined-advances}
+use Rattle.theory.specs.Steps.{current, met, MetZeroBelow, exchanged, listed, combination, multipliersFor, Stepped, combined, settled}
+use Rattle.theory.specs.Steps.{shifted, Chain, here, next, Narrowed, narrowed, kept, swapped, narrowFirst-width, length-narrowFirst}
+use Rattle.theory.specs.Steps.{shifts-narrowFirst, listed-order, stepped-length, run-going, run-done, going≢done, going≢refused}
+use Rattle.theory.specs.Steps.{done≢refused, done-injective, chain-length, limitCoefficients-within}
+use Rattle.theory.specs.Cells.{totalWidth, totalWidth-bound, totalWidth-rows, width-positive, width-le-length, width-mirrorRow}
+use Rattle.theory.specs.Pivots.{pivot-width}
+use Rattle.theory.specs.Exchange.{exchange-width}
+use Rattle.theory.specs.Combine.{combine-width}
+use Rattle.theory.specs.ShiftUp.{shiftUp-width}
+use Rattle.theory.specs.Triangular.{combined-zero, Triangular, triangular-start, triangular-chain, combined-advances}
 
-unfoldable pub totalWidth : List Row → ℕ
-totalWidth [] = 0
-totalWidth (r ∷ l) = width r + totalWidth l
+-- ---- the total width after a step
 
--- ---- the total width
-
--- One row put in the place of another.
-pub totalWidth-set : (l : List Row) (i : ℕ) (r : Row) → i < length l
-    → totalWidth (set l i r) + width (getD l i noRow) ≡ totalWidth l + width r
-unfolding totalWidth
-totalWidth-set [] i r h = absurd (not-suc-le-zero h)
-totalWidth-set (q ∷ l) zero r h = omega arith
-totalWidth-set (q ∷ l) (suc i) r h = step (totalWidth-set l i r (suc-le-suc-iff .0 h))
+totalWidth-narrowFirst : (s : State) (i j : ℕ) → i < length (s .rows) → j < length (s .rows)
+    → totalWidth (narrowFirst s i j .rows) ≡ totalWidth (s .rows)
+unfolding exchange putRow rowAt
+totalWidth-narrowFirst s i j below-i below-j = go (narrowed s i j)
   where
-    step : totalWidth (set l i r) + width (getD l i noRow) ≡ totalWidth l + width r
-        → width q + totalWidth (set l i r) + width (getD l i noRow) ≡ width q + totalWidth l + width r
-    step e = omega arith
+    go : {e : State} → Narrowed s i j e → totalWidth (e .rows) ≡ totalWidth (s .rows)
+    go (kept w) = refl
+    go (swapped w) = exchange-width (s .rows) i j below-i below-j
 
-pub totalWidth-bound : (b : ℕ) (l : List Row) → All (λ r. width r ≤ b) l → totalWidth l ≤ length l * b
-unfolding totalWidth All
-totalWidth-bound b [] h = zero-le
-totalWidth-bound b (r ∷ l) h = step (width r) (h .0) (totalWidth-bound b l (h .1))
-  where
-    step : (w : ℕ) {t : ℕ} → w ≤ b → t ≤ length l * b → w + t ≤ suc (length l) * b
-    step w u v = rw (suc-mul (length l) b) (omega arith)
-
--- Rows that are not zero have a block each.
-pub totalWidth-rows : (l : List Row) → All (λ r. 0 < width r) l → length l ≤ totalWidth l
-unfolding totalWidth All
-totalWidth-rows [] h = zero-le
-totalWidth-rows (r ∷ l) h = step (width r) (h .0) (totalWidth-rows l (h .1))
-  where
-    step : (w : ℕ) {n t : ℕ} → 0 < w → n ≤ t → suc n ≤ w + t
-    step w u v = omega arith
-
-totalWidth-putRow : (s : State) (i : ℕ) (r : Row) → i < length (s .rows)
-    → totalWidth (putRow s i r .rows) + width (rowAt s i) ≡ totalWidth (s .rows) + width r
-unfolding putRow rowAt
-totalWidth-putRow s i r h = totalWidth-set (s .rows) i r h
-
-module _ (s : State) (i j : ℕ) (below-i : i < length (s .rows)) (below-j : j < length (s .rows)) (other : i ≢ j) where
-  totalWidth-exchange : totalWidth (exchange s i j .rows) ≡ totalWidth (s .rows)
-  unfolding exchange
-  totalWidth-exchange =
-      let first : State = putRow s j (rowAt s i) in
-      omega (
-        arith,
-        totalWidth-putRow s j (rowAt s i) below-j,
-        totalWidth-putRow first i (rowAt s j) (rw (length-putRow s j (rowAt s i)) below-i),
-        ap width (rowAt-putRow-other s j i (rowAt s i) other),
-      )
-
-  totalWidth-narrowFirst : totalWidth (narrowFirst s i j .rows) ≡ totalWidth (s .rows)
-  totalWidth-narrowFirst = go (narrowed s i j)
-    where
-      go : {e : State} → Narrowed s i j e → totalWidth (e .rows) ≡ totalWidth (s .rows)
-      go (kept w) = refl
-      go (swapped w) = totalWidth-exchange
-
--- ---- the rows that a step makes
-
-module _ (s : State) (j : ℕ) (below : j < current s) (more : current s < length (s .rows)) where
-  combined-width : (r : Row) → limitDegrees (combination s j) ≡ within r → width r ≤ width (rowAt (exchanged s j) (current s))
-  combined-width r e = rw (limitDegrees-within (combination s j) r e .2)
-      (le-trans (width-cut (combination s j)) (le-trans (width-primitive _)
-      (width-combine (multipliersFor s j .g) (multipliersFor s j .h) (rowAt (exchanged s j) (current s)) (rowAt (exchanged s j) j)
-      (narrowFirst-width s (current s) j more (omega arith)))))
-
-  -- A combination makes no row wider.
-  combined-total : (side : Side) (r : Row) → limitDegrees (combination s j) ≡ within r
-      → totalWidth (putRow (listed side s j) (current s) r .rows) ≤ totalWidth (s .rows)
-  unfolding putRow listRelations rowAt
-  combined-total side r e =
-      omega (
-        arith,
-        totalWidth-set (exchanged s j .rows) (current s) r (omega (arith, length-narrowFirst s (current s) j)),
-        combined-width r e,
-        totalWidth-narrowFirst s (current s) j more (omega arith) (omega arith),
-      )
+-- A combination makes no row wider.
+combined-total : (side : Side) (s : State) (j : ℕ) (r : Row) → j < current s → current s < length (s .rows)
+    → limitDegrees (combination s j) ≡ within r → totalWidth (putRow (listed side s j) (current s) r .rows) ≤ totalWidth (s .rows)
+unfolding putRow listRelations rowAt
+combined-total side s j r below more e =
+    le-trans (combine-width (exchanged s j .rows) (multipliersFor s j .g) (multipliersFor s j .h) (current s) j r
+    (omega (arith, length-narrowFirst s (current s) j)) (combined-zero s j r e) (narrowFirst-width s (current s) j more (omega arith)))
+    (le-of-eq (totalWidth-narrowFirst s (current s) j more (omega arith)))
 
 -- A shift makes its row one block narrower.
 shifted-total : (s : State) (r : Row) → current s < length (s .rows) → T (not (zeroRow (rowAt s (current s))))
@@ -119,12 +64,8 @@ shifted-total : (s : State) (r : Row) → current s < length (s .rows) → T (no
     → suc (totalWidth (putRow (countShift s) (current s) r .rows)) ≡ totalWidth (s .rows)
 unfolding putRow countShift rowAt
 shifted-total s r more nonzero e =
-    omega (
-      arith,
-      totalWidth-set (s .rows) (current s) r more,
-      width-shiftUp (rowAt s (current s)) (width-positive (rowAt s (current s)) nonzero),
-      ap width (limitCoefficients-within (shiftUp (rowAt s (current s))) r e .1),
-    )
+    sym (shiftUp-width (s .rows) (current s) more (width-positive (rowAt s (current s)) nonzero)
+    ∙ ap (λ q. suc (totalWidth (set (s .rows) (current s) q))) (sym (limitCoefficients-within (shiftUp (rowAt s (current s))) r e .1)))
 
 combined-shifts : (side : Side) (s : State) (j : ℕ) (r : Row) → putRow (listed side s j) (current s) r .shifts ≡ s .shifts
 unfolding putRow listRelations
@@ -141,7 +82,7 @@ shifted-shifts s r = refl
 pub stepped-width : {side : Side} {s s' : State} → Stepped side s s' → s' .shifts + totalWidth (s' .rows) ≤ s .shifts + totalWidth (s .rows)
 unfolding settle
 stepped-width {side} {s} (combined j below more nonzero clear meets few r e) =
-    omega (arith, combined-shifts side s j r, combined-total s j below more side r e)
+    omega (arith, combined-shifts side s j r, combined-total side s j r below more e)
 stepped-width {s} (settled c more nonzero clear e) = le-refl (s .shifts + totalWidth (s .rows))
 stepped-width {s} (shifted r more nonzero clear f e) = omega (arith, shifted-shifts s r, shifted-total s r more nonzero e)
 
@@ -204,7 +145,7 @@ stepped-measure {side} {s} (combined j below more nonzero clear meets few r e) t
   combined-advances s j t below more clear meets side r e,
   further-falls s (putRow (listed side s j) (current s) r) z j
       (stepped-length {side = side} (combined j below more nonzero clear meets few r e))
-      (ap length (combined-order side s j r)) (combined-total s j below more side r e)
+      (ap length (combined-order side s j r)) (combined-total side s j r below more e)
       (first (λ b. T-not (isZero (met s j)) meets (known j b))) below,
 )
   where
@@ -299,10 +240,8 @@ wholeRun-ends trailing D rows relations s h = trailingRun-ends D rows relations 
 
 -- The rows of an accepted run are settled, so none is zero.
 settled-widths : (s : State) → Triangular s → length (s .rows) ≤ current s → All (λ r. 0 < width r) (s .rows)
-unfolding rowAt
 settled-widths s t all = getD-all (λ r. 0 < width r) (s .rows) noRow
-    (λ j h. cell-within (rowAt s j) 0 (column s j)
-    (subst (λ p. T (not (isZero p))) (entry-cell (rowAt s j) (column s j)) (t .pivots j (omega arith) .diagonal)))
+    (λ j h. pivot-width (s .order) j (getD (s .rows) j noRow) (t .pivots j (omega arith)))
 
 -- Each shift lowers the total width, which begins at m × (D + 1) or less and ends at m or more.
 pub shift-bound : (side : Side) (D k : ℕ) (rows : List Row) (relations : List Relation) (s : State) → All (λ r. width r ≤ suc D) rows

@@ -1,188 +1,80 @@
 -- The limits are kept: a step from a valid system leads to a valid system.
 --
 -- Main definitions
+--   StateShaped s       every row and every relation of s has the shape of a row in a store
+--   Small a             a is within ±C
 --   StateRight z s      every row and every relation of s passes document 01's check of the numbers
 --
 -- Main statements
---   combine-unused, primitive-unused, cut-unused, shiftUp-unused   unused blocks and columns stay zero
+--   smallRow-iff                  a row is within ±C exactly if its coefficients are
 --   entry-small, root-small       the entries of a row within ±C, and the integer roots of a polynomial within ±C
+--   current-shaped, pivot-shaped, combined-shaped, shifted-shaped   the shapes of the rows of a step
+--   stepped-shapes, chain-shapes  steps keep the shapes
+--   rowRight-iff, relationRight-iff   what the checks of a row and of a relation test
 --   stepped-right                 a step keeps the numbers right
 --   stepped-valid, valid-kept     the output of a run is a valid system: "an output is a valid input"
-use mathlib.Core.Path.{_≡_, refl, sym, _∙_, ap, subst}
+use mathlib.Core.Path.{_≡_, refl, sym, _∙_, subst}
 use mathlib.Core.Logic.{_↔_}
-use Prim.Native.Nat.{ℕ, zero, suc, _≤_, _<_, zero-le}
-use native.Mathlib.Nat.{zero-div, le-of-dvd, le-trans}
+use Prim.Native.Nat.{ℕ, _≤_, _<_, zero-le}
+use native.Mathlib.Nat.{le-of-dvd, le-trans}
 use native.Mathlib.Omega.{arith}
-use mathlib.Core.Bool.{Bool, true, false, _&&_, not, cond}
-use mathlib.Core.List.{List, [], _∷_, _++_, map, tail, flatten, zipWith, List·Mem, not-mem-nil}
+use mathlib.Core.Bool.{Bool, true, false, not}
+use mathlib.Core.List.{List, [], _∷_, flatten, List·Mem, not-mem-nil}
 use lib.Dec.{T, leb→le, le→leb}
-use lib.ListN.{length, take, drop, getD, set, take-append-drop}
+use lib.ListN.{length, getD, set}
 use lib.IntN.{ℤ, pos, natAbs, ℤ-discrete}
-use lib.Signed.{quotZ}
-use Rattle.algebra.specs.Gcd.{divideBy, divideBy-getD}
-use Rattle.algebra.specs.Polynomials.{Polynomial, coeff, isZero, lowest, add, mul, shift, T-&&, isZero-cons, isZero-coeff}
-use Rattle.algebra.specs.Polynomials.{coeff-isZero, isZero-append, isZero-add, isZero-mul-right, isZero-shift}
+use Rattle.algebra.specs.Polynomials.{Polynomial, coeff, isZero, lowest, T-&&, isZero-cons}
 use Rattle.algebra.specs.Coefficients.{lowest-place}
 use Rattle.algebra.specs.Vanishing.{root-divides-lowest, lowest-positive}
 use Rattle.algebra.specs.Roots.{roots, isConstant, roots-sound}
-use Rattle.rules.specs.Limits.{bound, coefficientCount, mostRelations, small}
-use Rattle.rules.specs.Rows.{Block, Row, Relation, noRow, All, every, mapRow, coefficientsOf, zeroBlock, leadingBlock, entry}
-use Rattle.rules.specs.Rows.{combine, primitive, cut, smallRow, blank, shiftUp}
-use Rattle.rules.specs.Elimination.{Side, State, start, within, limitDegrees, limitCoefficients, rowAt, putRow, listRelations}
-use Rattle.rules.specs.Elimination.{settle, countShift, rootRelations, multipliersAt}
-use Rattle.rules.specs.Stores.{Sizes, span, countRight, unusedZero, rowRight, relationRight, Valid}
-use Rattle.theory.specs.Lists.{all-mono, all-getD-default, all-of-every, every-of-all, all-zipWith, zipWith-drop, map-all}
-use Rattle.theory.specs.Lists.{map-drop, all-tail, all-drop, all-getD, all-set, append-all, all-of-flatten, every-drop}
-use Rattle.theory.specs.Steps.{Stepped, combined, settled, shifted, Chain, chain-induction, current, exchanged}
-use Rattle.theory.specs.Steps.{multipliersFor, combination, stepped-length, limitDegrees-within, limitCoefficients-within}
-use Rattle.theory.specs.Steps.{relations-narrowFirst, length-narrowFirst}
-use Rattle.theory.specs.Multipliers.{multipliers-small}
-use Rattle.theory.specs.Shapes.{combineEntry, StateShaped, stepped-shapes, primitive-divides, narrowFirst-all, rootRelations-all}
-use Rattle.theory.specs.Values.{blank-zero}
-
--- ---- unused blocks and columns stay zero
-
-abbrev ZeroBlock : Block → Type 0
-ZeroBlock b = T (zeroBlock b)
-
--- What `unusedZero` tests.
-pub unusedZero-iff : (m D : ℕ) (r : Row)
-    → T (unusedZero m D r) ↔ (All (λ b. T (zeroBlock (drop m b))) (r .blocks) × All (λ b. T (zeroBlock b)) (drop (suc D) (r .blocks)))
-unfolding unusedZero
-unusedZero-iff m D r = (forth, back)
-  where
-    forth : T (every (λ b. zeroBlock (drop m b)) (r .blocks) && every zeroBlock (drop (suc D) (r .blocks)))
-        → All (λ b. T (zeroBlock (drop m b))) (r .blocks) × All (λ b. T (zeroBlock b)) (drop (suc D) (r .blocks))
-    forth h =
-        let both = T-&& (every (λ b. zeroBlock (drop m b)) (r .blocks)) (every zeroBlock (drop (suc D) (r .blocks))) .0 h in
-        (all-of-every (λ b. zeroBlock (drop m b)) (r .blocks) (both .0), all-of-every zeroBlock (drop (suc D) (r .blocks)) (both .1))
-
-    back : All (λ b. T (zeroBlock (drop m b))) (r .blocks) × All (λ b. T (zeroBlock b)) (drop (suc D) (r .blocks))
-        → T (every (λ b. zeroBlock (drop m b)) (r .blocks) && every zeroBlock (drop (suc D) (r .blocks)))
-    back h = T-&& (every (λ b. zeroBlock (drop m b)) (r .blocks)) (every zeroBlock (drop (suc D) (r .blocks))) .1
-        (every-of-all (λ b. zeroBlock (drop m b)) (r .blocks) (h .0), every-of-all zeroBlock (drop (suc D) (r .blocks)) (h .1))
-
--- A function that keeps zero polynomials zero.
-module _ (f : Polynomial → Polynomial) (keeps : (p : Polynomial) → T (isZero p) → T (isZero (f p))) where
-  map-zeroBlock : (b : Block) → ZeroBlock b → ZeroBlock (map f b)
-  unfolding zeroBlock
-  map-zeroBlock b h = every-of-all isZero (map f b)
-      (map-all (λ p. T (isZero p)) f b (all-mono (λ p. T (isZero p)) (λ p. T (isZero (f p))) keeps b (all-of-every isZero b h)))
-
-  map-unused : (m : ℕ) (b : Block) → ZeroBlock (drop m b) → ZeroBlock (drop m (map f b))
-  map-unused m b h = rw (map-drop f m b) (map-zeroBlock (drop m b) h)
-
-  pub mapRow-unused : (m D : ℕ) (r : Row) → T (unusedZero m D r) → T (unusedZero m D (mapRow f r))
-  unfolding mapRow
-  mapRow-unused m D r h = let parts = unusedZero-iff m D r .0 h in
-      unusedZero-iff m D (mapRow f r) .1 (
-        map-all (λ b. T (zeroBlock (drop m b))) (map f) (r .blocks)
-            (all-mono (λ b. T (zeroBlock (drop m b))) (λ b. T (zeroBlock (drop m (map f b)))) (map-unused m) (r .blocks) (parts .0)),
-        rw (map-drop (map f) (suc D) (r .blocks)) (map-all ZeroBlock (map f) (drop (suc D) (r .blocks))
-            (all-mono ZeroBlock (λ b. ZeroBlock (map f b)) map-zeroBlock (drop (suc D) (r .blocks)) (parts .1))),
-      )
-
-divideBy-zero : (d : ℕ) (p : Polynomial) → T (isZero p) → T (isZero (divideBy d p))
-unfolding coeff
-divideBy-zero d p h = coeff-isZero (divideBy d p)
-    (λ k. divideBy-getD d p k ∙ ap (λ a. quotZ a (pos d)) (isZero-coeff p h k) ∙ ap pos (zero-div d))
-
-take-zero : (n : ℕ) (p : Polynomial) → T (isZero p) → T (isZero (take n p))
-take-zero n p h = T-&& (isZero (take n p)) (isZero (drop n p)) .0
-    (rw (isZero-append (take n p) (drop n p)) at (rw (← take-append-drop n p) at h)) .0
-
-pub primitive-unused : (m D : ℕ) (r : Row) → T (unusedZero m D r) → T (unusedZero m D (primitive r))
-primitive-unused m D r h = let d = primitive-divides r in
-    subst (λ q. T (unusedZero m D q)) (sym (d .3)) (mapRow-unused (divideBy (d .0)) (divideBy-zero (d .0)) m D r h)
-
-pub cut-unused : (m D : ℕ) (r : Row) → T (unusedZero m D r) → T (unusedZero m D (cut r))
-unfolding cut
-cut-unused m D r h = mapRow-unused (take coefficientCount) (take-zero coefficientCount) m D r h
-
-module _ (g h : Polynomial) where
-  combine-zero : (p e : Polynomial) → T (isZero p) → T (isZero e) → T (isZero (add (mul g p) (mul h e)))
-  combine-zero p e x y = isZero-add (mul g p) (mul h e) (isZero-mul-right g p x) (isZero-mul-right h e y)
-
-  combine-zeroBlock : (b b′ : Block) → ZeroBlock b → ZeroBlock b′ → ZeroBlock (zipWith (combineEntry g h) b b′)
-  unfolding zeroBlock
-  combine-zeroBlock b b′ x y = every-of-all isZero (zipWith (combineEntry g h) b b′)
-      (all-zipWith (λ p. T (isZero p)) (λ p. T (isZero p)) (λ p. T (isZero p)) (combineEntry g h) combine-zero b b′
-      (all-of-every isZero b x) (all-of-every isZero b′ y))
-
-  combine-columns : (m : ℕ) (b b′ : Block) → ZeroBlock (drop m b) → ZeroBlock (drop m b′)
-      → ZeroBlock (drop m (zipWith (combineEntry g h) b b′))
-  combine-columns m b b′ x y =
-      rw (zipWith-drop (combineEntry g h) m b b′) (combine-zeroBlock (drop m b) (drop m b′) x y)
-
-  pub combine-unused : (m D : ℕ) (r q : Row) → T (unusedZero m D r) → T (unusedZero m D q) → T (unusedZero m D (combine g h r q))
-  unfolding combine
-  combine-unused m D r q x y =
-      let u = unusedZero-iff m D r .0 x in
-      let v = unusedZero-iff m D q .0 y in
-      unusedZero-iff m D (combine g h r q) .1 (
-        all-zipWith (λ b. ZeroBlock (drop m b)) (λ b. ZeroBlock (drop m b)) (λ b. ZeroBlock (drop m b)) (zipWith (combineEntry g h))
-            (combine-columns m) (r .blocks) (q .blocks) (u .0) (v .0),
-        rw (zipWith-drop (zipWith (combineEntry g h)) (suc D) (r .blocks) (q .blocks))
-            (all-zipWith ZeroBlock ZeroBlock ZeroBlock (zipWith (combineEntry g h)) combine-zeroBlock
-            (drop (suc D) (r .blocks)) (drop (suc D) (q .blocks)) (u .1) (v .1)),
-      )
-
--- What is left of a list and one more member behind it.
-drop-behind : {A : Type 0} (P : A → Type 0) (n : ℕ) (l : List A) (x : A) → P x → All P (drop n l) → All P (drop n (l ++ (x ∷ [])))
-unfolding All
-drop-behind P zero l x p a = append-all P l (x ∷ []) a (p, tt)
-drop-behind P (suc n) [] x p a = all-drop P n [] tt
-drop-behind P (suc n) (y ∷ l) x p a = drop-behind P n l x p a
-
-drop-more : {A : Type 0} (P : A → Type 0) (n : ℕ) (l : List A) → All P (drop n l) → All P (drop (suc n) l)
-unfolding All
-drop-more P zero [] a = tt
-drop-more P zero (x ∷ l) a = a .1
-drop-more P (suc n) [] a = tt
-drop-more P (suc n) (x ∷ l) a = drop-more P n l a
-
-drop-tail : {A : Type 0} (P : A → Type 0) (n : ℕ) (l : List A) → All P (drop n l) → All P (drop n (tail l))
-drop-tail P n [] a = a
-drop-tail P n (x ∷ l) a = drop-more P n (x ∷ l) a
-
-pub shiftUp-unused : (m D : ℕ) (r : Row) → T (unusedZero m D r) → T (unusedZero m D (shiftUp r))
-unfolding shiftUp All zeroBlock
-shiftUp-unused m D r h = let parts = unusedZero-iff m D r .0 h in
-    mapRow-unused shift (λ p z. subst T (sym (isZero-shift p)) z) m D moved
-    (unusedZero-iff m D moved .1 (
-      append-all (λ b. ZeroBlock (drop m b)) (tail (r .blocks)) (blank (leadingBlock r) ∷ [])
-          (all-tail (λ b. ZeroBlock (drop m b)) (r .blocks) (parts .0))
-          (every-drop isZero m (blank (leadingBlock r)) (blank-zero (leadingBlock r)), tt),
-      drop-behind ZeroBlock (suc D) (tail (r .blocks)) (blank (leadingBlock r)) (blank-zero (leadingBlock r))
-          (drop-tail ZeroBlock (suc D) (r .blocks) (parts .1)),
-    ))
-  where
-    moved : Row
-    moved = record { blocks = tail (r .blocks) ++ (blank (leadingBlock r) ∷ []) }
+use Rattle.rules.specs.Limits.{bound, coefficientCount, mostRelations, small, columnCount, blockCount}
+use Rattle.rules.specs.Rows.{Row, Relation, noRow, All, every, coefficientsOf, leadingBlock, entry, smallRow, shiftUp}
+use Rattle.rules.specs.Elimination.{Side, State, start, within, limitDegrees, limitCoefficients, rowAt, putRow, listRelations, settle}
+use Rattle.rules.specs.Elimination.{countShift, rootRelations, multipliersAt}
+use Rattle.rules.specs.Stores.{Sizes, span, countRight, unusedZero, rowRight, relationRight, Valid, StoreRow}
+use Rattle.rules.specs.Lists.{all-getD-default, all-of-every, every-of-all, all-getD, all-set, append-all, all-flatten, every-all}
+use Rattle.rules.specs.Lists.{cond-passed}
+use Rattle.theory.specs.Steps.{Stepped, combined, settled, shifted, Chain, chain-induction, current, exchanged, multipliersFor}
+use Rattle.theory.specs.Steps.{combination, stepped-length, limitDegrees-within, limitCoefficients-within, relations-narrowFirst}
+use Rattle.theory.specs.Steps.{length-narrowFirst, met, order-narrowFirst, narrowFirst-all}
+use Rattle.theory.specs.Multipliers.{multipliers-small, length-multipliers-g, length-multipliers-h}
+use Rattle.theory.specs.Shapes.{entry-column, entry-length}
+use Rattle.theory.specs.AddRelations.{rootRelations-all}
+use Rattle.theory.specs.Combine.{combinedRow-shaped, combine-unused}
+use Rattle.theory.specs.Triangular.{combined-zero}
+use Rattle.theory.specs.ShiftUp.{shiftUp-shaped, shiftUp-unused}
 
 -- ---- sizes
 
-smallRow-parts : (r : Row) → T (smallRow r) → All (All (All (λ a. T (small a)))) (r .blocks)
+-- "within ±C"
+abbrev pub Small : ℤ → Type 0
+Small a = T (small a)
+
+pub smallRow-iff : (r : Row) → T (smallRow r) ↔ All (All (All Small)) (r .blocks)
 unfolding smallRow coefficientsOf
-smallRow-parts r h =
-    all-of-flatten (All (λ a. T (small a))) (r .blocks)
-    (all-of-flatten (λ a. T (small a)) (flatten (r .blocks)) (all-of-every small (flatten (flatten (r .blocks))) h))
+smallRow-iff r = (λ h. blocks .0 (coefficients .0 (tests .0 h)), λ a. tests .1 (coefficients .1 (blocks .1 a)))
+  where
+    tests : T (every small (flatten (flatten (r .blocks)))) ↔ All Small (flatten (flatten (r .blocks)))
+    tests = every-all small (flatten (flatten (r .blocks)))
+
+    coefficients : All Small (flatten (flatten (r .blocks))) ↔ All (All Small) (flatten (r .blocks))
+    coefficients = all-flatten Small (flatten (r .blocks))
+
+    blocks : All (All Small) (flatten (r .blocks)) ↔ All (All (All Small)) (r .blocks)
+    blocks = all-flatten (All Small) (r .blocks)
 
 pub entry-small : (r : Row) (c : ℕ) → T (smallRow r) → T (every small (entry r c))
 unfolding entry leadingBlock All
 entry-small r c h =
     every-of-all small (getD (getD (r .blocks) 0 []) c [])
     (all-getD-default (All (λ a. T (small a))) (getD (r .blocks) 0 []) [] c tt
-    (all-getD-default (All (All (λ a. T (small a)))) (r .blocks) [] 0 tt (smallRow-parts r h)))
+    (all-getD-default (All (All (λ a. T (small a)))) (r .blocks) [] 0 tt (smallRow-iff r .0 h)))
 
 -- The zero polynomial has no roots in the list.
 roots-of-zero : (p : Polynomial) → T (isZero p) → roots p ≡ []
 unfolding roots isConstant
 roots-of-zero [] h = refl
-roots-of-zero (a ∷ p) h = choose (isZero p) _ (isZero-cons a p .0 h .1)
-  where
-    choose : (t : Bool) (l : List ℤ) → T t → cond t [] l ≡ []
-    choose true l h = refl
+roots-of-zero (a ∷ p) h = cond-passed (isZero p) [] _ (isZero-cons a p .0 h .1)
 
 lowest-small : (g : Polynomial) → T (every small g) → T (not (isZero g)) → natAbs (lowest g) ≤ bound
 unfolding coeff small
@@ -202,18 +94,96 @@ root-small g n h m = le→leb (natAbs n) bound (cases (isZero g) refl (ℤ-discr
         let nonzero : T (not (isZero g)) = rw e tt in
         le-trans (le-of-dvd (lowest-positive g nonzero) (root-divides-lowest g n nonzero z (roots-sound g m))) (lowest-small g h nonzero)
 
--- ---- steps
+-- ---- steps keep the shapes
+
+-- Every row and every relation has the shape of a row in a store.
+pub record StateShaped (s : State) : Type 0 where
+  pub row-shapes : All StoreRow (s .rows)
+  pub relation-shapes : All (λ e. StoreRow (e .row)) (s .relations)
+
+module _ (s : State) (j : ℕ) (before : j < current s) (below : current s < length (s .rows)) (shapes : All StoreRow (s .rows)) where
+  -- The two rows of a combination, after the exchange.
+  pub exchanged-shapes : All StoreRow (exchanged s j .rows)
+  exchanged-shapes = narrowFirst-all StoreRow s (current s) j below (omega arith) .1 shapes
+
+  pub current-shaped : StoreRow (rowAt (exchanged s j) (current s))
+  unfolding rowAt
+  current-shaped = all-getD StoreRow (exchanged s j .rows) noRow (current s)
+      (omega (arith, length-narrowFirst s (current s) j)) exchanged-shapes
+
+  pub pivot-shaped : StoreRow (rowAt (exchanged s j) j)
+  unfolding rowAt
+  pivot-shaped = all-getD StoreRow (exchanged s j .rows) noRow j (omega (arith, length-narrowFirst s (current s) j)) exchanged-shapes
+
+  module _ (nonzero : T (not (isZero (met s j)))) where
+    pub met-column : getD (s .order) j 0 < columnCount
+    unfolding rowAt
+    met-column = entry-column blockCount columnCount coefficientCount (rowAt s (current s)) (getD (s .order) j 0) (omega arith)
+        (all-getD StoreRow (s .rows) noRow (current s) below shapes) nonzero
+
+    entry-length-at : (r : Row) → StoreRow r → length (entry r (getD (exchanged s j .order) j 0)) ≡ coefficientCount
+    entry-length-at r h = entry-length blockCount columnCount coefficientCount r (getD (exchanged s j .order) j 0) (omega arith) h
+        (subst (λ l. getD l j 0 < columnCount) (sym (order-narrowFirst s (current s) j)) met-column)
+
+    pub multipliersFor-lengths : (length (multipliersFor s j .g) ≡ coefficientCount) × (length (multipliersFor s j .h) ≡ coefficientCount)
+    unfolding multipliersAt
+    multipliersFor-lengths =
+        let c = getD (exchanged s j .order) j 0 in
+        let a = entry (rowAt (exchanged s j) j) c in
+        let b = entry (rowAt (exchanged s j) (current s)) c in (
+          length-multipliers-g a b ∙ entry-length-at (rowAt (exchanged s j) j) pivot-shaped,
+          length-multipliers-h a b ∙ entry-length-at (rowAt (exchanged s j) (current s)) current-shaped,
+        )
+
+    pub combined-shaped : (r : Row) → limitDegrees (combination s j) ≡ within r → StoreRow r
+    combined-shaped r e =
+        subst StoreRow (sym (limitDegrees-within (combination s j) r e .2))
+        (combinedRow-shaped (multipliersFor s j .g) (multipliersFor s j .h) 15 (multipliersFor-lengths .0) (multipliersFor-lengths .1)
+        blockCount columnCount 15 (rowAt (exchanged s j) (current s)) (rowAt (exchanged s j) j) (omega arith) current-shaped pivot-shaped)
+
+pub shifted-shaped : (s : State) → current s < length (s .rows) → All StoreRow (s .rows) → (r : Row)
+    → limitCoefficients (shiftUp (rowAt s (current s))) ≡ within r → StoreRow r
+unfolding rowAt
+shifted-shaped s below shapes r e =
+    subst StoreRow (sym (limitCoefficients-within (shiftUp (rowAt s (current s))) r e .1))
+    (shiftUp-shaped blockCount columnCount coefficientCount (rowAt s (current s)) (omega arith)
+    (all-getD StoreRow (s .rows) noRow (current s) below shapes))
+
+-- A step keeps the shapes.
+pub stepped-shapes : {side : Side} {s s′ : State} → Stepped side s s′ → StateShaped s → StateShaped s′
+unfolding putRow listRelations settle countShift
+stepped-shapes {side} {s} (combined j before below nonzero clear meets few r e) h =
+    record {
+      row-shapes = all-set StoreRow (exchanged s j .rows) (current s) r (combined-shaped s j before below (h .row-shapes) meets r e)
+          (exchanged-shapes s j before below (h .row-shapes));
+      relation-shapes = append-all (λ e. StoreRow (e .row)) (exchanged s j .relations)
+          (rootRelations side (multipliersFor s j .g) (rowAt (exchanged s j) (current s)))
+          (subst (All (λ e. StoreRow (e .row))) (sym (relations-narrowFirst s (current s) j)) (h .relation-shapes))
+          (rootRelations-all (λ e. StoreRow (e .row)) side (multipliersFor s j .g) (rowAt (exchanged s j) (current s))
+          (λ n m. current-shaped s j before below (h .row-shapes)));
+    }
+stepped-shapes (settled c below nonzero clear e) h = record { row-shapes = h .row-shapes; relation-shapes = h .relation-shapes }
+stepped-shapes {s} (shifted r below nonzero clear f e) h =
+    record {
+      row-shapes = all-set StoreRow (s .rows) (current s) r (shifted-shaped s below (h .row-shapes) r e) (h .row-shapes);
+      relation-shapes = h .relation-shapes;
+    }
+
+pub chain-shapes : {side : Side} {s s′ : State} {k : ℕ} → Chain side s k s′ → StateShaped s → StateShaped s′
+chain-shapes {side} c h = chain-induction side StateShaped (λ u v. stepped-shapes) c h
+
+-- ---- steps keep the numbers right
 
 -- Every row and every relation passes the check of the numbers.
 pub record StateRight (z : Sizes) (s : State) : Type 0 where
   pub rows-right : T (every (rowRight z) (s .rows))
   pub relations-right : T (every (relationRight z) (s .relations))
 
-rowRight-iff : (z : Sizes) (r : Row) → T (rowRight z r) ↔ (T (smallRow r) × T (unusedZero (z .m) (span z) r))
+pub rowRight-iff : (z : Sizes) (r : Row) → T (rowRight z r) ↔ (T (smallRow r) × T (unusedZero (z .m) (span z) r))
 unfolding rowRight
 rowRight-iff z r = T-&& (smallRow r) (unusedZero (z .m) (span z) r)
 
-relationRight-iff : (z : Sizes) (e : Relation) → T (relationRight z e) ↔ (T (small (e .index)) × T (rowRight z (e .row)))
+pub relationRight-iff : (z : Sizes) (e : Relation) → T (relationRight z e) ↔ (T (small (e .index)) × T (rowRight z (e .row)))
 unfolding relationRight
 relationRight-iff z e = T-&& (small (e .index)) (rowRight z (e .row))
 
@@ -244,13 +214,11 @@ module _ (z : Sizes) (s : State) (j : ℕ) (before : j < current s) (below : cur
       let a = rowAt (exchanged s j) (current s) in
       let b = rowAt (exchanged s j) j in
       let limits = limitDegrees-within (combination s j) r e in
-      subst (λ q. T (rowRight z q)) (sym (limits .2))
-      (rowRight-iff z (cut (combination s j)) .1 (
-        limits .1,
-        cut-unused (z .m) (span z) (combination s j)
-            (primitive-unused (z .m) (span z) (combine g h a b) (combine-unused g h (z .m) (span z) a b
-            (rowRight-iff z a .0 (exchanged-row (current s) (omega arith)) .1) (rowRight-iff z b .0 (exchanged-row j (omega arith)) .1))),
-      ))
+      rowRight-iff z r .1 (
+        subst (λ q. T (smallRow q)) (sym (limits .2)) (limits .1),
+        combine-unused g h (z .m) (span z) a b r (combined-zero s j r e)
+            (rowRight-iff z a .0 (exchanged-row (current s) (omega arith)) .1) (rowRight-iff z b .0 (exchanged-row j (omega arith)) .1),
+      )
 
   listed-right : (side : Side)
       → All (λ e. T (relationRight z e)) (rootRelations side (multipliersFor s j .g) (rowAt (exchanged s j) (current s)))

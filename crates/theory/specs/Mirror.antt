@@ -5,7 +5,6 @@
 --   reflect z              the sequence read backwards
 --   Reaches D r, Spans D r  D + 1 blocks or more; and all of them zero after the first D + 1
 --   mirrorSizes z          the same m, blocks from -l to -t
---   SizesFacts z           what the check of the sizes tests
 --
 -- Main statements
 --   mirrorRow-twice, mirrorRelation-twice, mirrorState-twice   the mirror undoes itself
@@ -13,42 +12,42 @@
 --   mirror-diagonal        the diagonal polynomials of the trailing side are mirrors of those of the leading side
 --   mirror-value           the value of the mirrored row at n, on the reflected sequence, is the value at -n
 --   mirror-equation, mirror-relation, mirror-satisfies   so a sequence satisfies a system exactly if the reflected one does the mirror
---   sizes-facts, span-sum, span-bound, mirror-span, mirror-sizes   sizes, and those of the mirror
+--   span-sum, span-bound, mirror-span, mirror-sizes   sizes, and those of the mirror
 --   mirror-valid           the mirror of a valid system is valid
 --   mirror-dependent       a system is dependent exactly if its mirror is
-use Prim.Native.Nat.{ℕ, zero, suc, _+_, _-_, _≤_, _<_}
+use Prim.Native.Nat.{ℕ, suc, _+_, _-_, _≤_, _<_}
 use native.Mathlib.Omega.{arith}
 use mathlib.Core.Path.{_≡_, refl, sym, _∙_, ap, ap₂, subst, subst₂, fun-ext}
 use mathlib.Core.Logic.{_↔_, Iff·symm, Iff·trans}
-use mathlib.Core.Bool.{Bool, true, false, _&&_, not}
-use mathlib.Core.List.{List, [], _∷_, _++_, map, map-append, zipWith, flatten}
-use mathlib.Core.List.{reverse, reverse-cons, reverse-append, reverse-reverse}
-use lib.Dec.{T, leb, leb→le, le→leb}
-use lib.ListN.{length, getD, take, drop, length-reverse, length-map, length-append, take-append-drop, List·getD-map}
-use lib.Seq.{length-take-le, take-at, drop-at, take-suc}
-use lib.IntN.{ℤ, pos, negℤ, natAbs, predℤ, _+ℤ_, _-ℤ_, _*ℤ_, +ℤ-idl, +ℤ-idr, +ℤ-assoc, +ℤ-comm, +ℤ-one, -ℤ-one}
-use lib.IntN.{+ℤ-invr, negℤ-negℤ, negℤ-+ℤ, predℤ-+ℤ, suc-pred, -ℤ-+ℤ-cancel}
-use lib.Signed.{_≤ℤ_, leZ, leZ-yes}
+use mathlib.Core.Bool.{not}
+use mathlib.Core.List.{List, [], _∷_, _++_, map, map-append, zipWith, reverse, reverse-cons, reverse-append, reverse-reverse}
+use lib.Dec.{T, leb}
+use lib.ListN.{length, getD, take, drop, length-reverse, length-map, take-append-drop, List·getD-map}
+use lib.Seq.{length-take-le, length-front, take-at, drop-at, take-suc}
+use lib.IntN.{ℤ, pos, negℤ, natAbs, predℤ, _+ℤ_, _-ℤ_, _*ℤ_, +ℤ-idl, +ℤ-idr, +ℤ-assoc, +ℤ-comm, +ℤ-one, +ℤ-invr, negℤ-negℤ, negℤ-+ℤ}
+use lib.IntN.{predℤ-+ℤ, suc-pred, -ℤ-one, -ℤ-+ℤ-cancel}
+use lib.Signed.{_≤ℤ_}
 use Rattle.algebra.specs.Integers.{+ℤ-left-comm, natAbs-negℤ}
 use Rattle.algebra.specs.Order.{≤ℤ-difference, negℤ-≤ℤ, pos-≤ℤ, pos-natAbs-nonneg}
 use Rattle.algebra.specs.Sums.{sum-congr, sumBelow-congr, sumBelow-reverse}
-use Rattle.algebra.specs.Polynomials.{Polynomial, eval, isZero, negate, mirror, mirror-mirror, isZero-mirror, eval-mirror, T-&&}
-use Rattle.rules.specs.Limits.{bound, coefficientCount, columnCount, blockCount, blockBound, small}
-use Rattle.rules.specs.Rows.{Block, Row, Relation, noRow, All, every, mapRow, coefficientsOf, smallRow, zeroBlock, leadingBlock, entry}
-use Rattle.rules.specs.Rows.{mirrorRow, mirrorRelation}
-use Rattle.rules.specs.Elimination.{Side, leading, trailing, State, mirrorState, diagonalPlace, diagonal}
+use Rattle.algebra.specs.Polynomials.{Polynomial, eval, isZero, negate, mirror, mirror-mirror, isZero-mirror, eval-mirror}
+use Rattle.rules.specs.Limits.{bound, coefficientCount, columnCount, blockCount, small}
+use Rattle.rules.specs.Rows.{Block, Row, Relation, noRow, All, every, mapRow, smallRow, zeroBlock, leadingBlock, entry, mirrorRow}
+use Rattle.rules.specs.Rows.{mirrorRelation}
+use Rattle.rules.specs.Elimination.{leading, trailing, State, mirrorState, diagonalPlace, diagonal}
 use Rattle.rules.specs.Stores.{Sizes, span, sizesRight, countRight, unusedZero, rowRight, relationRight, Shaped, StoreRow, Valid}
-use Rattle.rules.specs.Sequences.{Sequence, blockValue, blocksValue, valueOf, SatisfiesEquation, SatisfiesRelation, Satisfies}
-use Rattle.rules.specs.Sequences.{shiftsWithin, Dependent}
-use Rattle.theory.specs.Lists.{all-always, all-mono, all-both, all-take, all-drop, append-all, reverse-all, map-all, map-drop}
-use Rattle.theory.specs.Lists.{all-getD, all-flatten, every-all}
+use Rattle.rules.specs.Layout.{SizeBounds, size-bounds, bounds-right}
+use Rattle.rules.specs.Sequences.{Sequence, blockValue, blocksValue, valueOf, SatisfiesEquation, SatisfiesRelation, Satisfies, shiftsWithin}
+use Rattle.rules.specs.Sequences.{Dependent}
+use Rattle.rules.specs.Lists.{all-always, all-mono, all-both, all-take, all-drop, append-all, reverse-all, all-getD, every-all, map-keeps}
+use Rattle.rules.specs.Lists.{all-images, map-back, map-take, map-drop, map-reverse}
 use Rattle.theory.specs.Shapes.{mirrorRow-shaped}
-use Rattle.theory.specs.Values.{blocks-same, blocks-append-zero, index-below}
-use Rattle.theory.specs.Limits.{unusedZero-iff, mapRow-unused}
+use Rattle.theory.specs.Values.{blocks-always, blocks-append-zero, index-below}
+use Rattle.theory.specs.Cells.{mapRow-zero, unusedZero-iff, unused-kept}
+use Rattle.theory.specs.Limits.{Small, smallRow-iff, rowRight-iff, relationRight-iff}
 use Rattle.theory.specs.BackSubstitution.{move-right}
-use Rattle.theory.specs.Combinations.{sumWithin, sumWithin-below, cancel-common}
-use Rattle.theory.specs.Combinations.{Values, copies, combinationValue, DependentValues}
-use Rattle.theory.specs.Dependence.{rowValues, dependent-values}
+use Rattle.theory.specs.Combinations.{sumWithin, sumWithin-below, cancel-common, Values, copies, combinationValue, DependentValues}
+use Rattle.theory.specs.ByValues.{rowValues, dependent-values}
 
 -- ---- the blocks change places
 
@@ -63,17 +62,6 @@ mirrorBlock b = map mirror b
 pub mirrorRow-blocks : (D : ℕ) (r : Row) → mirrorRow D r .blocks ≡ map mirrorBlock (turn D (r .blocks))
 unfolding mirrorRow mapRow turn
 mirrorRow-blocks D r = refl
-
-map-take : {A B : Type 0} (f : A → B) (n : ℕ) (l : List A) → take n (map f l) ≡ map f (take n l)
-map-take f zero l = refl
-map-take f (suc n) [] = refl
-map-take f (suc n) (x ∷ l) = ap (λ k. f x ∷ k) (map-take f n l)
-
-map-reverse : {A B : Type 0} (f : A → B) (l : List A) → reverse (map f l) ≡ map f (reverse l)
-map-reverse f [] = refl
-map-reverse f (x ∷ l) =
-    reverse-cons (f x) (map f l) ∙ ap (λ k. k ++ (f x ∷ [])) (map-reverse f l)
-    ∙ sym (map-append f (reverse l) (x ∷ [])) ∙ ap (map f) (sym (reverse-cons x l))
 
 map-turn : {A B : Type 0} (f : A → B) (D : ℕ) (l : List A) → turn D (map f l) ≡ map f (turn D l)
 unfolding turn
@@ -112,9 +100,7 @@ module _ {A : Type 0} (D : ℕ) (l : List A) (h : suc D ≤ length l) where
 
 pub turn-length : {A : Type 0} (D : ℕ) (l : List A) → length (turn D l) ≡ length l
 unfolding turn
-turn-length D l =
-    length-append (reverse (take (suc D) l)) (drop (suc D) l) ∙ ap (λ n. n + length (drop (suc D) l)) (length-reverse (take (suc D) l))
-    ∙ sym (length-append (take (suc D) l) (drop (suc D) l)) ∙ ap length (take-append-drop (suc D) l)
+turn-length D l = length-front l (reverse (take (suc D) l)) (suc D) (length-reverse (take (suc D) l))
 
 -- ---- the mirror twice
 
@@ -132,12 +118,6 @@ mirrorBlock-twice : (b : Block) → mirrorBlock (mirrorBlock b) ≡ b
 mirrorBlock-twice [] = refl
 mirrorBlock-twice (p ∷ b) = ap₂ _∷_ (mirror-mirror p) (mirrorBlock-twice b)
 
--- A map that undoes itself at every member undoes itself on the list.
-map-twice : {A : Type 0} (f : A → A) (l : List A) → All (λ x. f (f x) ≡ x) l → map f (map f l) ≡ l
-unfolding All
-map-twice f [] a = refl
-map-twice f (x ∷ l) a = ap₂ _∷_ (a .0) (map-twice f l (a .1))
-
 pub mirrorRow-twice : (D : ℕ) (r : Row) → Reaches D r → mirrorRow D (mirrorRow D r) ≡ r
 mirrorRow-twice D r h = ap (λ bs. record { blocks = bs }) blocks
   where
@@ -145,7 +125,7 @@ mirrorRow-twice D r h = ap (λ bs. record { blocks = bs }) blocks
     blocks =
         mirrorRow-blocks D (mirrorRow D r) ∙ ap (λ bs. map mirrorBlock (turn D bs)) (mirrorRow-blocks D r)
         ∙ ap (map mirrorBlock) (map-turn mirrorBlock D (turn D (r .blocks)) ∙ ap (map mirrorBlock) (turn-turn D (r .blocks) h))
-        ∙ map-twice mirrorBlock (r .blocks) (all-always (λ b. mirrorBlock (mirrorBlock b) ≡ b) mirrorBlock-twice (r .blocks))
+        ∙ map-back mirrorBlock mirrorBlock (r .blocks) (all-always (λ b. mirrorBlock (mirrorBlock b) ≡ b) mirrorBlock-twice (r .blocks))
 
 pub mirrorRelation-twice : (D : ℕ) (e : Relation) → Reaches D (e .row) → mirrorRelation D (mirrorRelation D e) ≡ e
 unfolding mirrorRelation
@@ -153,12 +133,12 @@ mirrorRelation-twice D e h = ap₂ (λ n r. record { index = n; row = r }) (neg�
 
 pub mirrorRows-twice : (D : ℕ) (rows : List Row) → All (Reaches D) rows → map (mirrorRow D) (map (mirrorRow D) rows) ≡ rows
 mirrorRows-twice D rows a =
-    map-twice (mirrorRow D) rows (all-mono (Reaches D) (λ r. mirrorRow D (mirrorRow D r) ≡ r) (mirrorRow-twice D) rows a)
+    map-back (mirrorRow D) (mirrorRow D) rows (all-mono (Reaches D) (λ r. mirrorRow D (mirrorRow D r) ≡ r) (mirrorRow-twice D) rows a)
 
 pub mirrorRelations-twice : (D : ℕ) (l : List Relation) → All (λ e. Reaches D (e .row)) l
     → map (mirrorRelation D) (map (mirrorRelation D) l) ≡ l
 mirrorRelations-twice D l a =
-    map-twice (mirrorRelation D) l
+    map-back (mirrorRelation D) (mirrorRelation D) l
     (all-mono (λ e. Reaches D (e .row)) (λ e. mirrorRelation D (mirrorRelation D e) ≡ e) (mirrorRelation-twice D) l a)
 
 pub mirrorState-twice : (D : ℕ) (s : State) → All (Reaches D) (s .rows) → All (λ e. Reaches D (e .row)) (s .relations)
@@ -213,11 +193,7 @@ reflect z = λ n c. z (negℤ n) c
 
 blocks-mirror : (n : ℤ) (z : Sequence) (k : ℤ) (bs : List Block) → blocksValue n z k (map mirrorBlock bs) ≡ blocksValue (negℤ n) z k bs
 unfolding mapRow
-blocks-mirror n z k bs =
-    blocks-same mirror (record { blocks = bs }) z n (negℤ n) k (all-always (All Mirrored) (all-always Mirrored (λ p. eval-mirror p n)) bs)
-  where
-    Mirrored : Polynomial → Type 0
-    Mirrored p = eval (mirror p) n ≡ eval p (negℤ n)
+blocks-mirror n z k bs = blocks-always mirror (record { blocks = bs }) z n (negℤ n) k (λ p. eval-mirror p n)
 
 blocks-append : (n : ℤ) (z : Sequence) (k : ℤ) (bs cs : List Block)
     → blocksValue n z k (bs ++ cs) ≡ blocksValue n z k bs +ℤ blocksValue n z (k -ℤ pos (length bs)) cs
@@ -303,16 +279,6 @@ mirror-value D l t e r s z n =
 
 -- ---- what a sequence satisfies
 
--- What holds of every member and of its image.
-all-images : {A B : Type 0} (C P : A → Type 0) (Q : B → Type 0) (f : A → B) → ((x : A) → C x → P x ↔ Q (f x)) → (l : List A)
-    → All C l → All P l ↔ All Q (map f l)
-unfolding All
-all-images C P Q f h [] c = (λ a. tt, λ a. tt)
-all-images C P Q f h (x ∷ l) c = both (h x (c .0)) (all-images C P Q f h l (c .1))
-  where
-    both : P x ↔ Q (f x) → All P l ↔ All Q (map f l) → (P x × All P l) ↔ (Q (f x) × All Q (map f l))
-    both u v = (λ a. (u .0 (a .0), v .0 (a .1)), λ a. (u .1 (a .0), v .1 (a .1)))
-
 module _ (D : ℕ) (l t : ℤ) (span : l ≡ t +ℤ pos D) (z : Sequence) where
   pub mirror-equation : (r : Row) → Spans D r → SatisfiesEquation l z r ↔ SatisfiesEquation (negℤ t) (reflect z) (mirrorRow D r)
   unfolding SatisfiesEquation
@@ -369,61 +335,6 @@ mirror-satisfies-back D l t e z rows relations a b = Iff·symm (subst₂ Same (n
 abbrev pub mirrorSizes : Sizes → Sizes
 mirrorSizes z = record { m = z .m; l = negℤ (z .t); t = negℤ (z .l) }
 
--- "A system has m unknowns (1 to 4) [..] and blocks numbered from t to l, with -64 ≤ t ≤ l ≤ 64. D = l - t is 0 to 4."
-pub record SizesFacts (z : Sizes) : Type 0 where
-  pub m-low : 1 ≤ z .m
-  pub m-high : z .m ≤ columnCount
-  pub t-low : negℤ (pos blockBound) ≤ℤ z .t
-  pub t-high : z .t ≤ℤ z .l
-  pub l-high : z .l ≤ℤ pos blockBound
-  pub difference-high : (z .l -ℤ z .t) ≤ℤ pos 4
-
-four : (a b c d : Bool) → T (a && b && c && d) ↔ (T a × T b × T c × T d)
-four true b c d = three b c d
-  where
-    three : (b c d : Bool) → T (b && c && d) ↔ (Unit {0} × T b × T c × T d)
-    three true true d = (λ h. (tt, tt, tt, h), λ h. h .3)
-    three true false d = (λ h. absurd h, λ h. h .2)
-    three false c d = (λ h. absurd h, λ h. h .1)
-four false b c d = (λ h. absurd h, λ h. h .0)
-
-pub sizes-facts : (z : Sizes) → T (sizesRight z) ↔ SizesFacts z
-unfolding sizesRight
-sizes-facts z = (forth, back)
-  where
-    columns : Bool
-    columns = leb 1 (z .m) && leb (z .m) columnCount
-
-    blocks : Bool
-    blocks = leZ (negℤ (pos blockBound)) (z .t) && leZ (z .t) (z .l) && leZ (z .l) (pos blockBound) && leZ (z .l -ℤ z .t) (pos 4)
-
-    column-tests : T columns ↔ (T (leb 1 (z .m)) × T (leb (z .m) columnCount))
-    column-tests = T-&& (leb 1 (z .m)) (leb (z .m) columnCount)
-
-    block-tests : T blocks
-        ↔ (T (leZ (negℤ (pos blockBound)) (z .t)) × T (leZ (z .t) (z .l)) × T (leZ (z .l) (pos blockBound)) × T (leZ (z .l -ℤ z .t) (pos 4)))
-    block-tests = four (leZ (negℤ (pos blockBound)) (z .t)) (leZ (z .t) (z .l)) (leZ (z .l) (pos blockBound)) (leZ (z .l -ℤ z .t) (pos 4))
-
-    forth : T (sizesRight z) → SizesFacts z
-    forth h =
-        let tests = T-&& columns blocks .0 h in
-        let c = column-tests .0 (tests .0) in
-        let b = block-tests .0 (tests .1) in
-        record {
-          m-low = leb→le 1 (z .m) (c .0);
-          m-high = leb→le (z .m) columnCount (c .1);
-          t-low = leZ-yes (b .0);
-          t-high = leZ-yes (b .1);
-          l-high = leZ-yes (b .2);
-          difference-high = leZ-yes (b .3);
-        }
-
-    back : SizesFacts z → T (sizesRight z)
-    back f = T-&& columns blocks .1 (
-      column-tests .1 (le→leb 1 (z .m) (f .m-low), le→leb (z .m) columnCount (f .m-high)),
-      block-tests .1 (f .t-low .le, f .t-high .le, f .l-high .le, f .difference-high .le),
-    )
-
 -- D = l - t for the mirrored sizes too.
 mirror-difference : (l t : ℤ) → negℤ t -ℤ negℤ l ≡ l -ℤ t
 mirror-difference l t = ap (λ x. negℤ t +ℤ x) (negℤ-negℤ l) ∙ +ℤ-comm (negℤ t) l
@@ -432,29 +343,29 @@ pub mirror-span : (z : Sizes) → span (mirrorSizes z) ≡ span z
 unfolding span
 mirror-span z = ap natAbs (mirror-difference (z .l) (z .t))
 
-span-difference : (z : Sizes) → SizesFacts z → pos (span z) ≡ z .l -ℤ z .t
+span-difference : (z : Sizes) → SizeBounds z → pos (span z) ≡ z .l -ℤ z .t
 unfolding span
-span-difference z f = pos-natAbs-nonneg (≤ℤ-difference .0 (f .t-high))
+span-difference z f = pos-natAbs-nonneg (≤ℤ-difference .0 (f .ordered))
 
 pub span-sum : (z : Sizes) → T (sizesRight z) → z .l ≡ z .t +ℤ pos (span z)
 span-sum z h =
-    sym (-ℤ-+ℤ-cancel (z .l) (z .t)) ∙ +ℤ-comm (z .l -ℤ z .t) (z .t) ∙ ap (λ x. z .t +ℤ x) (sym (span-difference z (sizes-facts z .0 h)))
+    sym (-ℤ-+ℤ-cancel (z .l) (z .t)) ∙ +ℤ-comm (z .l -ℤ z .t) (z .t) ∙ ap (λ x. z .t +ℤ x) (sym (span-difference z (size-bounds z h)))
 
 pub span-bound : (z : Sizes) → T (sizesRight z) → span z ≤ 4
-span-bound z h = let f = sizes-facts z .0 h in pos-≤ℤ .0 (subst (λ x. x ≤ℤ pos 4) (sym (span-difference z f)) (f .difference-high))
+span-bound z h = let f = size-bounds z h in pos-≤ℤ .0 (subst (λ x. x ≤ℤ pos 4) (sym (span-difference z f)) (f .narrow))
 
 pub mirror-sizes : (z : Sizes) → T (sizesRight z) → T (sizesRight (mirrorSizes z))
-mirror-sizes z h = sizes-facts (mirrorSizes z) .1 (turned (sizes-facts z .0 h))
+mirror-sizes z h = bounds-right (mirrorSizes z) (turned (size-bounds z h))
   where
-    turned : SizesFacts z → SizesFacts (mirrorSizes z)
+    turned : SizeBounds z → SizeBounds (mirrorSizes z)
     turned f =
         record {
-          m-low = f .m-low;
-          m-high = f .m-high;
-          t-low = negℤ-≤ℤ .0 (f .l-high);
-          t-high = negℤ-≤ℤ .0 (f .t-high);
-          l-high = negℤ-≤ℤ .0 (f .t-low);
-          difference-high = subst (λ x. x ≤ℤ pos 4) (sym (mirror-difference (z .l) (z .t))) (f .difference-high);
+          some = f .some;
+          few = f .few;
+          low = negℤ-≤ℤ .0 (f .high);
+          ordered = negℤ-≤ℤ .0 (f .ordered);
+          high = negℤ-≤ℤ .0 (f .low);
+          narrow = subst (λ x. x ≤ℤ pos 4) (sym (mirror-difference (z .l) (z .t))) (f .narrow);
         }
 
 -- ---- valid systems
@@ -465,13 +376,6 @@ all-turn P D l a =
     append-all P (reverse (take (suc D) l)) (drop (suc D) l)
     (reverse-all P (take (suc D) l) (all-take P (suc D) l a)) (all-drop P (suc D) l a)
 
-map-keeps : {A B : Type 0} (P : A → Type 0) (Q : B → Type 0) (f : A → B) → ((x : A) → P x → Q (f x))
-    → (l : List A) → All P l → All Q (map f l)
-map-keeps P Q f h l a = map-all Q f l (all-mono P (λ x. Q (f x)) h l a)
-
-abbrev Small : ℤ → Type 0
-Small a = T (small a)
-
 small-negℤ : (a : ℤ) → Small a → Small (negℤ a)
 unfolding small
 small-negℤ a h = subst (λ n. T (leb n bound)) (sym (natAbs-negℤ a)) h
@@ -481,29 +385,16 @@ unfolding mirror negate All
 small-mirror [] a = tt
 small-mirror (x ∷ p) a = (a .0, map-keeps Small Small negℤ small-negℤ (mirror p) (small-mirror p (a .1)))
 
-small-row : (r : Row) → T (smallRow r) ↔ All (All (All Small)) (r .blocks)
-unfolding smallRow coefficientsOf
-small-row r = (λ h. blocks .0 (coefficients .0 (tests .0 h)), λ a. tests .1 (coefficients .1 (blocks .1 a)))
-  where
-    tests : T (every small (flatten (flatten (r .blocks)))) ↔ All Small (flatten (flatten (r .blocks)))
-    tests = every-all small (flatten (flatten (r .blocks)))
-
-    coefficients : All Small (flatten (flatten (r .blocks))) ↔ All (All Small) (flatten (r .blocks))
-    coefficients = all-flatten Small (flatten (r .blocks))
-
-    blocks : All (All Small) (flatten (r .blocks)) ↔ All (All (All Small)) (r .blocks)
-    blocks = all-flatten (All Small) (r .blocks)
-
 pub mirror-small : (D : ℕ) (r : Row) → T (smallRow r) → T (smallRow (mirrorRow D r))
 mirror-small D r h =
-    small-row (mirrorRow D r) .1
+    smallRow-iff (mirrorRow D r) .1
     (subst (All Fits) (sym (mirrorRow-blocks D r)) (map-keeps Fits Fits mirrorBlock block (turn D (r .blocks)) turned))
   where
     Fits : Block → Type 0
     Fits b = All (All Small) b
 
     turned : All Fits (turn D (r .blocks))
-    turned = all-turn Fits D (r .blocks) (small-row r .0 h)
+    turned = all-turn Fits D (r .blocks) (smallRow-iff r .0 h)
 
     block : (b : Block) → Fits b → Fits (mirrorBlock b)
     block b a = map-keeps (All Small) (All Small) mirror small-mirror b a
@@ -519,14 +410,15 @@ turned-unused m D r h u = unusedZero-iff m D (record { blocks = turn D (r .block
 
 pub mirror-unused : (m D : ℕ) (r : Row) → Reaches D r → T (unusedZero m D r) → T (unusedZero m D (mirrorRow D r))
 unfolding mirrorRow turn
-mirror-unused m D r h u = mapRow-unused mirror isZero-kept m D (record { blocks = turn D (r .blocks) }) (turned-unused m D r h u)
+mirror-unused m D r h u =
+    let turned : Row = record { blocks = turn D (r .blocks) } in
+    unused-kept m D turned (mapRow mirror turned) (mapRow-zero mirror refl isZero-kept turned) (turned-unused m D r h u)
 
 -- Rows of D + 1 blocks that pass the check still pass it, for the mirrored sizes.
 pub mirror-rowRight : (z : Sizes) (r : Row) → Reaches (span z) r → T (rowRight z r) → T (rowRight (mirrorSizes z) (mirrorRow (span z) r))
-unfolding rowRight
 mirror-rowRight z r h t =
-    let both = T-&& (smallRow r) (unusedZero (z .m) (span z) r) .0 t in
-    T-&& (smallRow (mirrorRow (span z) r)) (unusedZero (z .m) (span (mirrorSizes z)) (mirrorRow (span z) r)) .1
+    let both = rowRight-iff z r .0 t in
+    rowRight-iff (mirrorSizes z) (mirrorRow (span z) r) .1
     (mirror-small (span z) r (both .0), unused (both .1))
   where
     unused : T (unusedZero (z .m) (span z) r) → T (unusedZero (z .m) (span (mirrorSizes z)) (mirrorRow (span z) r))
@@ -534,10 +426,10 @@ mirror-rowRight z r h t =
 
 pub mirror-relationRight : (z : Sizes) (e : Relation) → Reaches (span z) (e .row) → T (relationRight z e)
     → T (relationRight (mirrorSizes z) (mirrorRelation (span z) e))
-unfolding relationRight mirrorRelation
+unfolding mirrorRelation
 mirror-relationRight z e h t =
-    let both = T-&& (small (e .index)) (rowRight z (e .row)) .0 t in
-    T-&& (small (negℤ (e .index))) (rowRight (mirrorSizes z) (mirrorRow (span z) (e .row))) .1
+    let both = relationRight-iff z e .0 t in
+    relationRight-iff (mirrorSizes z) (mirrorRelation (span z) e) .1
     (small-negℤ (e .index) (both .0), mirror-rowRight z (e .row) h (both .1))
 
 -- A row as a store holds it has enough blocks.
@@ -546,8 +438,7 @@ unfolding Shaped
 storeRow-reaches z h r s = omega (arith, span-bound z h, s .0)
 
 pub valid-row-spans : (z : Sizes) → T (sizesRight z) → (r : Row) → StoreRow r → T (rowRight z r) → Spans (span z) r
-unfolding rowRight
-valid-row-spans z h r s t = spans (z .m) (span z) r (storeRow-reaches z h r s) (T-&& (smallRow r) (unusedZero (z .m) (span z) r) .0 t .1)
+valid-row-spans z h r s t = spans (z .m) (span z) r (storeRow-reaches z h r s) (rowRight-iff z r .0 t .1)
 
 module _ (z : Sizes) (rows : List Row) (relations : List Relation) (valid : Valid z rows relations) where
   RowFacts : Row → Type 0
@@ -571,11 +462,11 @@ module _ (z : Sizes) (rows : List Row) (relations : List Relation) (valid : Vali
   valid-rows-span = all-mono RowFacts (Spans (span z)) (λ r f. valid-row-spans z (valid .sizes) r (f .0) (f .1)) rows rows-facts
 
   pub valid-relations-span : All (λ e. Spans (span z) (e .row)) relations
-  unfolding RelationFacts relationRight
+  unfolding RelationFacts
   valid-relations-span = all-mono RelationFacts (λ e. Spans (span z) (e .row)) one relations relations-facts
     where
       one : (e : Relation) → RelationFacts e → Spans (span z) (e .row)
-      one e f = valid-row-spans z (valid .sizes) (e .row) (f .0) (T-&& (small (e .index)) (rowRight z (e .row)) .0 (f .1) .1)
+      one e f = valid-row-spans z (valid .sizes) (e .row) (f .0) (relationRight-iff z e .0 (f .1) .1)
 
   shape : (r : Row) → StoreRow r → StoreRow (mirrorRow (span z) r)
   shape = mirrorRow-shaped blockCount columnCount coefficientCount (span z)

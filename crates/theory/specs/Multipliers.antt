@@ -23,8 +23,8 @@ use lib.Signed.{_≤ℤ_, _<ℤ_, ltZ, ltZ-yes, ltZ-no, quotZ}
 use Rattle.algebra.specs.Integers.{ringℤ, natAbs-negℤ}
 use Rattle.algebra.specs.Order.{≤ℤ-≢-<ℤ, negℤ-<ℤ}
 use Rattle.algebra.specs.Division.{quotZ-le}
-use Rattle.algebra.specs.Gcd.{content, divideBy, DividesAll, content-pos, content-append, gcd-divides-left, gcd-divides-right, dividesAll-of-content}
-use Rattle.algebra.specs.Gcd.{length-divideBy, eval-divideBy, isZero-divideBy}
+use Rattle.algebra.specs.Gcd.{content, divideBy, DividesAll, content-pos, content-append, gcd-divides-left, gcd-divides-right}
+use Rattle.algebra.specs.Gcd.{dividesAll-of-content, length-divideBy, eval-divideBy, isZero-divideBy}
 use Rattle.algebra.specs.Polynomials.{Polynomial, isZero, negate, lead, eval, eval-negate, isZero-negate, isZero-append, length-negate}
 use Rattle.algebra.specs.Coefficients.{lead-nonzero}
 use Rattle.rules.specs.Limits.{small, bound}

@@ -7,28 +7,29 @@
 --   settled-leading        an accepted leading run leads to its final state
 --   settled-trailing       an accepted trailing run leads to the mirror of its final state, from the mirrored system
 --   settled-diagonal, mirrored-diagonal     the diagonal of u, and of its mirror
-use Prim.Native.Nat.{ℕ, zero, suc, _≤_, _<_}
-use mathlib.Core.Path.{_≡_, refl, sym, _∙_, ap, subst}
+use Prim.Native.Nat.{ℕ, _≤_, _<_}
+use mathlib.Core.Path.{_≡_, sym, _∙_, ap, subst}
 use mathlib.Core.Bool.{not}
 use mathlib.Core.List.{List, [], map}
-use native.Mathlib.Omega.{arith}
 use native.Mathlib.Nat.{le-antisymm}
 use lib.Dec.{T}
 use lib.ListN.{length, getD, length-map, List·getD-map}
 use Rattle.algebra.specs.Pigeonhole.{Distinct}
-use Rattle.algebra.specs.Polynomials.{Polynomial, isZero, isZero-mirror, mirror, T-&&}
-use Rattle.rules.specs.Rows.{Row, Relation, noRow, All, every, zeroBlock, entry, leadingBlock, smallRow, mapRow, mirrorRow, mirrorRelation}
-use Rattle.rules.specs.Elimination.{Side, leading, trailing, State, start, done, run, enough, wholeRun, leadingRun, trailingRun, mirrorState, diagonalPlace, rowAt}
-use Rattle.rules.specs.Stores.{Sizes, span, Valid, rowRight, unusedZero}
-use Rattle.theory.specs.Lists.{all-getD}
+use Rattle.algebra.specs.Polynomials.{Polynomial, isZero, isZero-mirror}
+use Rattle.rules.specs.Rows.{Row, Relation, noRow, All, entry, leadingBlock, mapRow, mirrorRow, mirrorRelation}
+use Rattle.rules.specs.Elimination.{Side, leading, trailing, State, start, done, run, enough, wholeRun, leadingRun, trailingRun}
+use Rattle.rules.specs.Elimination.{mirrorState, diagonalPlace, rowAt}
+use Rattle.rules.specs.Stores.{Sizes, span, Valid}
+use Rattle.rules.specs.Lists.{all-getD}
 use Rattle.theory.specs.Steps.{current, Chain, run-done}
-use Rattle.theory.specs.Triangular.{Triangular, triangular-start, triangular-chain, column, ColumnsBelow, column-below, order-distinct, order-complete}
+use Rattle.theory.specs.Triangular.{Triangular, triangular-start, triangular-chain}
+use Rattle.theory.specs.Pivots.{order-distinct}
 use Rattle.theory.specs.Limits.{valid-kept}
 use Rattle.theory.specs.Ending.{mirrorOutcome-done}
 use Rattle.theory.specs.BackSubstitution.{TriangularRows}
 use Rattle.theory.specs.Agreement.{triangular-rows}
 use Rattle.theory.specs.Report.{NonzeroDiagonal, nonzero-diagonal}
-use Rattle.theory.specs.Mirror.{mirrorSizes, Reaches, Spans, mirror-valid, mirror-lastEntry, valid-rows-span, valid-relations-span}
+use Rattle.theory.specs.Mirror.{mirrorSizes, Reaches, mirror-valid, mirror-lastEntry}
 
 -- The polynomial of row j at column c of the block that is made triangular: block l, or block t.
 abbrev pub pivotEntry : Side → ℕ → State → ℕ → ℕ → Polynomial
@@ -74,7 +75,7 @@ module _ {side : Side} {z : Sizes} {rows : List Row} {relations : List Relation}
         zero-before = λ j k b h. settled-rows .zero-before j k b h;
         nonzero = λ j h. settled-triangular .pivots j (subst (λ n. j < n) (sym settled-count) h) .diagonal;
         column-below = settled-rows .column-below;
-        columns-different = order-distinct u settled-triangular;
+        columns-different = order-distinct (u .order) (u .rows) (settled-triangular .pivots);
         every-column = settled-rows .column-of;
       }
 

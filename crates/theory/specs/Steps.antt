@@ -9,7 +9,7 @@
 --
 -- Main statements
 --   rowAt-putRow-same, rowAt-exchange-left, ..   the rows of a changed state
---   narrowFirst-both, narrowFirst-width          what the exchange of rule 2 leaves
+--   narrowFirst-both, narrowFirst-width, narrowFirst-all   what the exchange of rule 2 leaves
 --   firstNonzero-some, firstNonzero-none         the laws of firstNonzero
 --   stepped-length, stepped-relations            a step keeps the number of rows and the listed relations
 --   step-view, step-going, step-done, step-refused, step-refused-6   what a step's outcome says
@@ -17,23 +17,25 @@
 --   run-going, run-done, run-refused             a run is a chain of steps
 use Prim.Native.Nat.{ℕ, zero, suc, _≤_, _<_}
 use mathlib.Core.Path.{_≡_, refl, sym, _∙_, ap, subst}
-use mathlib.Core.Logic.{_≢_, _⊎_, inl, inr}
+use mathlib.Core.Logic.{_↔_, _⊎_, inl, inr}
 use mathlib.Core.Bool.{Bool, true, false, not, cond}
 use mathlib.Core.List.{List, [], _∷_, _++_, map, append-assoc, append-nil}
-use mathlib.Core.Option.{Option, none, some, Option·map, map-eq-some-iff, map-eq-none-iff, Option·some-injective, Option·none-ne-some, Option·some-ne-none}
+use mathlib.Core.Option.{Option, none, some, Option·map, map-eq-some-iff, map-eq-none-iff, Option·some-injective, Option·none-ne-some}
+use mathlib.Core.Option.{Option·some-ne-none}
 use native.Mathlib.Nat.{zero-lt-suc, not-suc-le-zero, suc-le-suc-iff}
-use native.Mathlib.Decide.{ℕ-discrete}
 use native.Mathlib.Omega.{arith}
 use lib.Dec.{T, leb, ltb, leb→le, ltb→lt, nltb→le}
-use lib.Ieee.Fits.{and-i, and-l, and-r}
 use lib.ListN.{length, getD, set, length-set, length-map}
-use lib.Seq.{getD-set-same, getD-set-other}
+use lib.Seq.{getD-set-same}
 use Rattle.algebra.specs.Polynomials.{Polynomial, isZero}
 use Rattle.rules.specs.Limits.{mostRelations}
-use Rattle.rules.specs.Rows.{Block, Row, Relation, noRow, every, zeroBlock, zeroRow, width, entry, leadingBlock, firstNonzero, combine, primitive, lowDegrees, cut, smallRow, shiftUp}
-use Rattle.rules.specs.Elimination.{Side, Multipliers, State, Outcome, going, done, refused, Limited, within, beyond, limitCoefficients, limitDegrees}
-use Rattle.rules.specs.Elimination.{rowAt, putRow, putLimited, listRelations, settle, countShift, exchange, rootRelations, multipliersAt, narrowFirst}
-use Rattle.rules.specs.Elimination.{combineStep, eliminateStep, shiftStep, settleOrShift, meet, workOn, step, andThen, run}
+use Rattle.rules.specs.Rows.{All, Row, Relation, noRow, zeroRow, width, entry, leadingBlock, firstNonzero, combine, primitive, lowDegrees}
+use Rattle.rules.specs.Rows.{cut, smallRow, shiftUp}
+use Rattle.rules.specs.Lists.{all-swap, getD-map, getD-swap-left, getD-swap-right, length-swap}
+use Rattle.rules.specs.Elimination.{Side, Multipliers, State, Outcome, going, done, refused, Limited, within, beyond, limitCoefficients}
+use Rattle.rules.specs.Elimination.{limitDegrees, rowAt, putRow, putLimited, listRelations, settle, countShift, exchange, rootRelations}
+use Rattle.rules.specs.Elimination.{multipliersAt, narrowFirst, combineStep, eliminateStep, shiftStep, settleOrShift, meet, workOn, step}
+use Rattle.rules.specs.Elimination.{andThen, run}
 
 -- The row that a step works on: row i = w + 1 of document 01, counted from 0.
 abbrev pub current : State → ℕ
@@ -86,47 +88,22 @@ pub rowAt-putRow-same : (s : State) (i : ℕ) (r : Row) → i < length (s .rows)
 unfolding rowAt putRow
 rowAt-putRow-same s i r h = getD-set-same (s .rows) i r noRow h
 
-pub rowAt-putRow-other : (s : State) (i j : ℕ) (r : Row) → j ≢ i → rowAt (putRow s i r) j ≡ rowAt s j
-unfolding rowAt putRow
-rowAt-putRow-other s i j r h = getD-set-other (s .rows) i j r noRow h
-
 pub length-putRow : (s : State) (i : ℕ) (r : Row) → length (putRow s i r .rows) ≡ length (s .rows)
 unfolding putRow
 length-putRow s i r = length-set (s .rows) i r
 
-pub rowAt-listRelations : (s : State) (l : List Relation) (i : ℕ) → rowAt (listRelations s l) i ≡ rowAt s i
-unfolding rowAt listRelations
-rowAt-listRelations s l i = refl
-
-pub rowAt-settle : (s : State) (c i : ℕ) → rowAt (settle s c) i ≡ rowAt s i
-unfolding rowAt settle
-rowAt-settle s c i = refl
-
-pub rowAt-countShift : (s : State) (i : ℕ) → rowAt (countShift s) i ≡ rowAt s i
-unfolding rowAt countShift
-rowAt-countShift s i = refl
-
 -- Two rows change places.
 pub rowAt-exchange-left : (s : State) (i j : ℕ) → i < length (s .rows) → rowAt (exchange s i j) i ≡ rowAt s j
-unfolding exchange
-rowAt-exchange-left s i j h = rowAt-putRow-same (putRow s j (rowAt s i)) i (rowAt s j) (rw (length-putRow s j (rowAt s i)) h)
+unfolding exchange putRow rowAt
+rowAt-exchange-left s i j h = getD-swap-left (s .rows) noRow i j h
 
 pub rowAt-exchange-right : (s : State) (i j : ℕ) → j < length (s .rows) → rowAt (exchange s i j) j ≡ rowAt s i
-unfolding exchange
-rowAt-exchange-right s i j h = cases (ℕ-discrete j i)
-  where
-    cases : Dec (j ≡ i) → rowAt (putRow (putRow s j (rowAt s i)) i (rowAt s j)) j ≡ rowAt s i
-    cases (yes e) = rw e (rowAt-exchange-left s i i (rw e at h))
-    cases (no n) = rowAt-putRow-other (putRow s j (rowAt s i)) i j (rowAt s j) n ∙ rowAt-putRow-same s j (rowAt s i) h
-
-pub rowAt-exchange-other : (s : State) (i j k : ℕ) → k ≢ i → k ≢ j → rowAt (exchange s i j) k ≡ rowAt s k
-unfolding exchange
-rowAt-exchange-other s i j k n m =
-    rowAt-putRow-other (putRow s j (rowAt s i)) i k (rowAt s j) n ∙ rowAt-putRow-other s j k (rowAt s i) m
+unfolding exchange putRow rowAt
+rowAt-exchange-right s i j h = getD-swap-right (s .rows) noRow i j h
 
 pub length-exchange : (s : State) (i j : ℕ) → length (exchange s i j .rows) ≡ length (s .rows)
-unfolding exchange
-length-exchange s i j = length-putRow (putRow s j (rowAt s i)) i (rowAt s j) ∙ length-putRow s j (rowAt s i)
+unfolding exchange putRow rowAt
+length-exchange s i j = length-swap (s .rows) noRow i j
 
 -- ---- narrowFirst: the exchange of rule 2, made only if row j is the wider
 
@@ -171,13 +148,6 @@ relations-narrowFirst s i j = narrowFirst-keeps (λ u. u .relations) s i j (λ l
 pub shifts-narrowFirst : (s : State) (i j : ℕ) → narrowFirst s i j .shifts ≡ s .shifts
 shifts-narrowFirst s i j = narrowFirst-keeps (λ u. u .shifts) s i j (λ l. refl)
 
-pub rowAt-narrowFirst-other : (s : State) (i j k : ℕ) → k ≢ i → k ≢ j → rowAt (narrowFirst s i j) k ≡ rowAt s k
-rowAt-narrowFirst-other s i j k n m = go (narrowed s i j)
-  where
-    go : {e : State} → Narrowed s i j e → rowAt e k ≡ rowAt s k
-    go (kept h) = refl
-    go (swapped h) = rowAt-exchange-other s i j k n m
-
 -- What both rows have, both rows have after it.
 pub narrowFirst-both : (P : Row → Type 0) (s : State) (i j : ℕ) → i < length (s .rows) → j < length (s .rows)
     → P (rowAt s i) → P (rowAt s j) → P (rowAt (narrowFirst s i j) i) × P (rowAt (narrowFirst s i j) j)
@@ -195,6 +165,19 @@ narrowFirst-width s i j h k = go (narrowed s i j)
     go : {e : State} → Narrowed s i j e → width (rowAt e j) ≤ width (rowAt e i)
     go (kept w) = w
     go (swapped w) = rw (rowAt-exchange-left s i j h, rowAt-exchange-right s i j k) (omega arith)
+
+-- All rows have a property exactly if all rows have it after it.
+module _ (P : Row → Type 0) (s : State) (i j : ℕ) (below-i : i < length (s .rows)) (below-j : j < length (s .rows)) where
+  pub exchange-all : All P (exchange s i j .rows) ↔ All P (s .rows)
+  unfolding exchange putRow rowAt
+  exchange-all = all-swap (s .rows) noRow i j P below-i below-j
+
+  pub narrowFirst-all : All P (narrowFirst s i j .rows) ↔ All P (s .rows)
+  narrowFirst-all = go (narrowed s i j)
+    where
+      go : {e : State} → Narrowed s i j e → All P (e .rows) ↔ All P (s .rows)
+      go (kept w) = (λ a. a, λ a. a)
+      go (swapped w) = exchange-all
 
 -- ---- the first nonzero polynomial of a list
 
@@ -234,18 +217,6 @@ firstNonzero-none (p ∷ ps) e k = go (isZero p) refl (firstNonzero-none ps) k e
     go true z rec zero e = rw z tt
     go true z rec (suc k) e = rec (map-eq-none-iff suc (firstNonzero ps) .0 e) k
     go false z rec k e = absurd (Option·some-ne-none 0 e)
-
--- A list of zero polynomials is a zero block.
-pub zeroBlock-all : (b : Block) → ((k : ℕ) → T (isZero (getD b k []))) → T (zeroBlock b)
-unfolding zeroBlock
-zeroBlock-all [] h = tt
-zeroBlock-all (p ∷ ps) h = and-i (isZero p) (every isZero ps) (h 0) (zeroBlock-all ps (λ k. h (suc k)))
-
-pub zeroBlock-at : (b : Block) → T (zeroBlock b) → (k : ℕ) → T (isZero (getD b k []))
-unfolding zeroBlock isZero
-zeroBlock-at [] h k = tt
-zeroBlock-at (p ∷ ps) h zero = and-l (isZero p) (every isZero ps) h
-zeroBlock-at (p ∷ ps) h (suc k) = zeroBlock-at ps (and-r (isZero p) (every isZero ps) h) k
 
 -- ---- what a step that goes on keeps
 
@@ -337,12 +308,6 @@ limitDegrees-within q r = go (lowDegrees q)
     go true e = let (small, same) = limitCoefficients-within (cut q) r e in (tt, small, same)
     go false e = absurd (within≢beyond (sym e))
 
--- Inside a list, a mapped list has the images at the same places.
-getD-map-inside : {A B : Type 0} (f : A → B) (l : List A) (k : ℕ) (d : A) (e : B) → k < length l → getD (map f l) k e ≡ f (getD l k d)
-getD-map-inside f [] k d e h = absurd (not-suc-le-zero h)
-getD-map-inside f (x ∷ l) zero d e h = refl
-getD-map-inside f (x ∷ l) (suc k) d e h = getD-map-inside f l k d e (suc-le-suc-iff .0 h)
-
 module _ (side : Side) (s : State) (more : current s < length (s .rows)) (nonzero : T (not (zeroRow (rowAt s (current s))))) where
   shiftStep-view : MetZeroBelow s (current s) → firstNonzero (leadingBlock (rowAt s (current s))) ≡ none
       → StepView side s (shiftStep s (current s))
@@ -387,7 +352,7 @@ module _ (side : Side) (s : State) (more : current s < length (s .rows)) (nonzer
       below = rw (length-map (s .order) (entry (rowAt s (current s)))) at (found .inside)
 
       at : (k : ℕ) → k < current s → getD entries k [] ≡ met s k
-      at k h = getD-map-inside (entry (rowAt s (current s))) (s .order) k 0 [] h
+      at k h = getD-map (entry (rowAt s (current s))) (s .order) k 0 [] h
 
       clear : MetZeroBelow s j
       clear k h = rw (at k (omega (arith, below))) at (found .before k h)
@@ -397,7 +362,7 @@ module _ (side : Side) (s : State) (more : current s < length (s .rows)) (nonzer
   meet-view none e = settleOrShift-view clear (firstNonzero (leadingBlock (rowAt s (current s)))) refl
     where
       clear : MetZeroBelow s (current s)
-      clear k h = rw (getD-map-inside (entry (rowAt s (current s))) (s .order) k 0 [] h) at
+      clear k h = rw (getD-map (entry (rowAt s (current s))) (s .order) k 0 [] h) at
           (firstNonzero-none (map (entry (rowAt s (current s))) (s .order)) e k)
 
 pub step-view : (side : Side) (s : State) → StepView side s (step side s)

@@ -8,27 +8,28 @@
 --   agrees-back             solutions that agree on D vectors below the report agree at all lower indices
 -- and of any valid system:
 --   trailing-dependent      a system that the trailing run refuses with 6 is dependent
-use Prim.Native.Nat.{ℕ}
-use mathlib.Core.Path.{_≡_, refl, sym, _∙_, ap, subst}
+use mathlib.Core.Path.{_≡_, subst}
 use mathlib.Core.Logic.{_↔_, Iff·trans, Iff·symm}
 use mathlib.Core.List.{List, map}
 use lib.IntN.{ℤ, pos, negℤ, _+ℤ_, negℤ-negℤ}
 use lib.Signed.{_≤ℤ_, _<ℤ_}
 use Rattle.rules.specs.Rows.{Row, Relation, All, mirrorRow, mirrorRelation}
-use Rattle.rules.specs.Elimination.{Side, leading, trailing, State, start, done, refused, run, enough, wholeRun, trailingRun, mirrorState, report}
+use Rattle.rules.specs.Elimination.{leading, trailing, State, start, refused, run, enough, wholeRun, trailingRun, mirrorState, report}
 use Rattle.rules.specs.Stores.{Sizes, span, Valid}
 use Rattle.rules.specs.Sequences.{Sequence, Satisfies, Same, Dependent}
-use Rattle.theory.specs.Lists.{all-mono}
+use Rattle.rules.specs.Lists.{all-mono}
 use Rattle.theory.specs.Triangular.{triangular-start}
-use Rattle.theory.specs.Shapes.{StateShaped}
+use Rattle.theory.specs.Limits.{StateShaped}
 use Rattle.theory.specs.Solutions.{run-solutions}
 use Rattle.theory.specs.Dependence.{chain-dependent, settled-independent, refused-dependent}
 use Rattle.theory.specs.Ending.{mirrorOutcome-refused}
 use Rattle.theory.specs.Report.{Past}
-use Rattle.theory.specs.Mirror.{mirrorSizes, Reaches, Spans, reflect, span-sum, mirror-span, mirror-valid, mirror-satisfies, mirror-satisfies-back, mirror-dependent, valid-rows-span, valid-relations-span}
+use Rattle.theory.specs.Mirror.{mirrorSizes, Reaches, Spans, reflect, span-sum, mirror-span, mirror-valid, mirror-satisfies}
+use Rattle.theory.specs.Mirror.{mirror-satisfies-back, mirror-dependent, valid-rows-span, valid-relations-span}
 use Rattle.theory.specs.BackSubstitution.{TriangularRows}
 use Rattle.theory.specs.Agreement.{trailing-agreement}
-use Rattle.theory.specs.Settled.{Diagonal, Settled, settled-valid, settled-triangular, settled-rows, settled-diagonal, nonzero-of-diagonal, mirrored-diagonal}
+use Rattle.theory.specs.Settled.{Diagonal, Settled, settled-valid, settled-triangular, settled-rows, settled-diagonal}
+use Rattle.theory.specs.Settled.{nonzero-of-diagonal, mirrored-diagonal}
 
 pub valid-shapes : {z : Sizes} {rows : List Row} {relations : List Relation} → Valid z rows relations → StateShaped (start rows relations)
 unfolding start
@@ -48,7 +49,8 @@ module _ {z : Sizes} {rows : List Row} {relations : List Relation} (v : Valid z 
   unfolding wholeRun trailingRun mirrorState start
   trailing-dependent e =
       dependent-mirrored .1
-      (refused-dependent (negℤ (z .t)) trailing (enough rows) (mirrorState (span z) (start rows relations)) (valid-shapes (mirror-valid z rows relations v))
+      (refused-dependent (negℤ (z .t)) trailing (enough rows) (mirrorState (span z) (start rows relations))
+      (valid-shapes (mirror-valid z rows relations v))
       (triangular-start (map (mirrorRow (span z)) rows) (map (mirrorRelation (span z)) relations))
       (mirrorOutcome-refused (span z) (run trailing (enough rows) (mirrorState (span z) (start rows relations))) 6 e))
 
@@ -59,16 +61,19 @@ module _ {z : Sizes} {rows : List Row} {relations : List Relation} (v : Valid z 
 
     relations-span : All (λ e. Spans (span z) (e .row)) (u .relations)
     relations-span =
-        subst (λ d. All (λ e. Spans d (e .row)) (u .relations)) (mirror-span z) (valid-relations-span (mirrorSizes z) (u .rows) (u .relations) (settled-valid a))
+        subst (λ d. All (λ e. Spans d (e .row)) (u .relations)) (mirror-span z)
+        (valid-relations-span (mirrorSizes z) (u .rows) (u .relations) (settled-valid a))
 
     pub mirrored-sequences : (y : Sequence)
         → Satisfies (z .l) rows relations y ↔ Satisfies (z .l) (mirrorState (span z) u .rows) (mirrorState (span z) u .relations) y
     unfolding mirrorState
     mirrored-sequences y =
         let m = mirror-valid z rows relations v in
-        Iff·trans (mirror-satisfies (span z) (z .l) (z .t) sum y rows relations (valid-rows-span z rows relations v) (valid-relations-span z rows relations v))
+        Iff·trans (mirror-satisfies (span z) (z .l) (z .t) sum y rows relations (valid-rows-span z rows relations v)
+        (valid-relations-span z rows relations v))
         (Iff·trans
-        (run-solutions (negℤ (z .t)) (reflect y) (map (mirrorRow (span z)) rows) (map (mirrorRelation (span z)) relations) (m .row-shapes) (m .relation-shapes) (a .chain))
+        (run-solutions (negℤ (z .t)) (reflect y) (map (mirrorRow (span z)) rows) (map (mirrorRelation (span z)) relations) (m .row-shapes)
+        (m .relation-shapes) (a .chain))
         (Iff·symm (mirror-satisfies-back (span z) (z .l) (z .t) sum y (u .rows) (u .relations) spans relations-span)))
 
     leading-diagonal : Diagonal leading (z .m) (span z) u
@@ -82,14 +87,16 @@ module _ {z : Sizes} {rows : List Row} {relations : List Relation} (v : Valid z 
     unfolding mirrorState
     valid-back =
         subst (λ d. Valid z (map (mirrorRow d) (u .rows)) (map (mirrorRelation d) (u .relations))) (mirror-span z)
-        (subst (λ y. Valid y (map (mirrorRow (span (mirrorSizes z))) (u .rows)) (map (mirrorRelation (span (mirrorSizes z))) (u .relations))) (mirrorSizes-twice z)
+        (subst (λ y. Valid y (map (mirrorRow (span (mirrorSizes z))) (u .rows))
+        (map (mirrorRelation (span (mirrorSizes z))) (u .relations))) (mirrorSizes-twice z)
         (mirror-valid (mirrorSizes z) (u .rows) (u .relations) (settled-valid a)))
 
     pub independent-back : Dependent (z .l) rows → ⊥
     unfolding start
     independent-back d =
         settled-independent (negℤ (z .t)) u (settled-triangular a) (a .all)
-        (chain-dependent (negℤ (z .t)) (valid-shapes (a .valid)) (triangular-start (map (mirrorRow (span z)) rows) (map (mirrorRelation (span z)) relations)) (a .chain) .0 (dependent-mirrored .0 d))
+        (chain-dependent (negℤ (z .t)) (valid-shapes (a .valid))
+        (triangular-start (map (mirrorRow (span z)) rows) (map (mirrorRelation (span z)) relations)) (a .chain) .0 (dependent-mirrored .0 d))
 
     pub agrees-back : (y w : Sequence) → Satisfies (z .l) rows relations y → Satisfies (z .l) rows relations w
         → (n : ℤ) → Past trailing (report trailing (span z) (mirrorState (span z) u)) n
@@ -97,5 +104,7 @@ module _ {z : Sizes} {rows : List Row} {relations : List Relation} (v : Valid z 
         → (i : ℤ) → i ≤ℤ (n +ℤ z .l) → Same (z .m) y w i
     unfolding Satisfies
     agrees-back y w hy hw =
-        trailing-agreement (z .m) (span z) u (subst (λ d. TriangularRows (z .m) d (u .rows) (u .order)) (mirror-span z) (settled-rows a)) (leading-diagonal .order-count)
-        (nonzero-of-diagonal leading (z .m) (span z) u leading-diagonal) spans (z .l) (z .t) sum y w (mirrored-sequences y .0 hy .0) (mirrored-sequences w .0 hw .0)
+        trailing-agreement (z .m) (span z) u (subst (λ d. TriangularRows (z .m) d (u .rows) (u .order)) (mirror-span z) (settled-rows a))
+        (leading-diagonal .order-count)
+        (nonzero-of-diagonal leading (z .m) (span z) u leading-diagonal) spans (z .l) (z .t) sum y w (mirrored-sequences y .0 hy .0)
+        (mirrored-sequences w .0 hw .0)

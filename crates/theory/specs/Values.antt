@@ -1,105 +1,33 @@
--- The values of rows: the sum that an equation makes at n, after each change of the row, pointwise in n.
+-- The values of rows: the sum that an equation makes at n, pointwise in n.
 --
 -- Main definitions
---   SameColumns r q      the rows have equally many blocks, and as many columns in each
 --   delta i c            the sequence that is 1 at index i and column c and 0 elsewhere
 --
 -- Main statements
---   value-combine        the value of g × r + h × q is g(n) × that of r plus h(n) × that of q
---   value-primitive      a positive number times the value after division by the content is the value before
---   value-cut            the cut to 16 coefficients keeps the value where the degrees are at most 15
---   value-combined       the row that one combination makes within the limits: the three together
---   value-shiftUp        the value at n after the shift is the value at n + 1 before, block l being zero
---   value-zero, value-difference   the value of a zero row; the value is linear in the sequence
+--   blocks-map, blocks-same, blocks-always   a function of the polynomials that multiplies their values, or keeps them
+--   value-zero           the value of a zero row is 0; blocks-append-zero: zero blocks below the others do not count
+--   blockValue-sum, blocksValue-sum   the values as sums below a bound
+--   value-difference     the value is linear in the sequence
 --   value-congruence     only the indices n + l down to n + l - D and the columns below m count
 --   value-delta          a sequence that is 1 at one place picks one polynomial of the row
---   blockValue-sum, blocksValue-sum   the values as sums below a bound
 use mathlib.Core.Path.{_≡_, refl, sym, _∙_, ap, ap₂, subst}
 use mathlib.Core.Logic.{_≢_}
-use Prim.Native.Nat.{ℕ, zero, suc, _≤_, _<_}
-use native.Mathlib.Nat.{suc-inj, suc-ne-zero, zero-lt-suc, suc-le-suc-iff, dvd-zero}
-use native.Mathlib.Omega.{arith}
-use mathlib.Core.Bool.{Bool, true, false, _&&_, cond}
-use mathlib.Core.List.{List, [], _∷_, _++_, map, tail, flatten, zipWith, head-eq-of-cons-eq, tail-eq-of-cons-eq, nil≢cons, cons≢nil}
+use Prim.Native.Nat.{ℕ, zero, suc, _≤_, _<_, zero-le}
+use native.Mathlib.Nat.{suc-inj, suc-ne-zero, zero-lt-suc, suc-le-suc-iff}
+use mathlib.Core.Bool.{_&&_, cond}
+use mathlib.Core.List.{List, [], _∷_, _++_, map}
 use lib.Dec.{T, eqb, eqb-refl, eqb→eq}
-use lib.ListN.{length, take, drop, getD, replicate}
-use lib.IntN.{ℤ, pos, negsuc, negℤ, natAbs, predℤ, _+ℤ_, _-ℤ_, _*ℤ_, +ℤ-idl, +ℤ-idr, +ℤ-one, +ℤ-invr, sucℤ-+ℤ, predℤ-+ℤ, +ℤ-predℤ}
-use lib.IntN.{negℤ-sucℤ, pred-suc, *ℤ-zero}
+use lib.ListN.{length, drop, getD}
+use lib.IntN.{ℤ, pos, negsuc, negℤ, natAbs, predℤ, _+ℤ_, _-ℤ_, _*ℤ_, +ℤ-idl, +ℤ-idr, +ℤ-invr, predℤ-+ℤ, +ℤ-predℤ, negℤ-sucℤ, *ℤ-zero}
+use lib.IntN.{zero-*ℤ}
 use Rattle.algebra.specs.Integers.{ringℤ, one-*ℤ, *ℤ-+ℤ, -ℤ-zero}
-use Rattle.algebra.specs.Division.{DividesZ}
-use Rattle.algebra.specs.Gcd.{divideBy, DividesAll, eval-divideBy}
-use Rattle.algebra.specs.Polynomials.{Polynomial, eval, isZero, isZeroℤ, add, mul, shift, eval-add, eval-mul, eval-shift}
-use Rattle.algebra.specs.Polynomials.{eval-take, eval-isZero, isZeroℤ-iff, T-&&}
-use Rattle.algebra.specs.Sums.{sum, range, sumBelow, sumBelow-front, sumBelow-congr}
-use Rattle.rules.specs.Limits.{coefficientCount}
-use Rattle.rules.specs.Rows.{Block, Row, All, every, mapRow, coefficientsOf, zeroBlock, zeroRow, leadingBlock, combine, primitive}
-use Rattle.rules.specs.Rows.{lowDegrees, cut, smallRow, blank, shiftUp}
-use Rattle.rules.specs.Elimination.{within, limitDegrees}
-use Rattle.rules.specs.Stores.{Shaped, unusedZero}
+use Rattle.algebra.specs.Polynomials.{Polynomial, eval, isZero, isZeroℤ, eval-isZero, isZeroℤ-iff, T-&&}
+use Rattle.algebra.specs.Sums.{sum, range, sumBelow, sumBelow-front, sumBelow-congr, sumBelow-zeros}
+use Rattle.rules.specs.Rows.{Block, Row, All, every, mapRow, zeroBlock, zeroRow}
+use Rattle.rules.specs.Stores.{unusedZero}
 use Rattle.rules.specs.Sequences.{Sequence, blockValue, blocksValue, valueOf, Same, blockFrom, polynomialAt}
-use Rattle.theory.specs.Lists.{all-mono, all-getD-default, getD-all, all-of-flatten, all-of-every, all-always}
-use Rattle.theory.specs.Steps.{limitDegrees-within}
-use Rattle.theory.specs.Shapes.{combineEntry, primitive-divides}
-
--- ---- g × r + h × q
-
--- The rows have equally many blocks, and as many columns in each.
-abbrev pub SameColumns : Row → Row → Type 0
-SameColumns r q = map {B = ℕ} length (r .blocks) ≡ map length (q .blocks)
-
-pub shaped-columns : (b c k : ℕ) (r : Row) → Shaped b c k r → map {B = ℕ} length (r .blocks) ≡ replicate b c
-unfolding Shaped
-shaped-columns b c k r h = go (r .blocks) (h .1) ∙ ap (λ n. replicate n c) (h .0)
-  where
-    go : (bs : List Block) → All (λ block. (length block ≡ c) × All (λ p. length p ≡ k) block) bs
-        → map {B = ℕ} length bs ≡ replicate (length bs) c
-    go [] a = refl
-    go (b ∷ bs) a = ap₂ _∷_ (a .0 .0) (go bs (a .1))
-
-pub shaped-same : (b c k k′ : ℕ) (r q : Row) → Shaped b c k r → Shaped b c k′ q → SameColumns r q
-shaped-same b c k k′ r q x y = shaped-columns b c k r x ∙ sym (shaped-columns b c k′ q y)
-
-module _ (g h : Polynomial) (n : ℤ) where
-  combined-polynomial : (p e : Polynomial) → eval (add (mul g p) (mul h e)) n ≡ eval g n *ℤ eval p n +ℤ eval h n *ℤ eval e n
-  combined-polynomial p e = eval-add (mul g p) (mul h e) n ∙ ap₂ _+ℤ_ (eval-mul g p n) (eval-mul h e n)
-
-  nothing-combined : pos 0 ≡ eval g n *ℤ pos 0 +ℤ eval h n *ℤ pos 0
-  nothing-combined = simp ringℤ
-
-  combined-term : (x y v s t : ℤ)
-      → (eval g n *ℤ x +ℤ eval h n *ℤ y) *ℤ v +ℤ (eval g n *ℤ s +ℤ eval h n *ℤ t)
-      ≡ eval g n *ℤ (x *ℤ v +ℤ s) +ℤ eval h n *ℤ (y *ℤ v +ℤ t)
-  combined-term x y v s t = simp ringℤ
-
-  combined-sum : (x y s t : ℤ)
-      → eval g n *ℤ x +ℤ eval h n *ℤ y +ℤ (eval g n *ℤ s +ℤ eval h n *ℤ t) ≡ eval g n *ℤ (x +ℤ s) +ℤ eval h n *ℤ (y +ℤ t)
-  combined-sum x y s t = simp ringℤ
-
-  block-combine : (v : ℕ → ℤ) (b b′ : Block) → length b ≡ length b′
-      → blockValue n v (zipWith (combineEntry g h) b b′) ≡ eval g n *ℤ blockValue n v b +ℤ eval h n *ℤ blockValue n v b′
-  unfolding blockValue zipWith
-  block-combine v [] [] e = nothing-combined
-  block-combine v [] (q ∷ b′) e = absurd (omega arith)
-  block-combine v (p ∷ b) [] e = absurd (omega arith)
-  block-combine v (p ∷ b) (q ∷ b′) e =
-      ap₂ (λ x s. x *ℤ v 0 +ℤ s) (combined-polynomial p q) (block-combine (λ c. v (suc c)) b b′ (suc-inj e))
-      ∙ combined-term (eval p n) (eval q n) (v 0) (blockValue n (λ c. v (suc c)) b) (blockValue n (λ c. v (suc c)) b′)
-
-  blocks-combine : (z : ℤ → ℕ → ℤ) (k : ℤ) (bs bs′ : List Block) → map {B = ℕ} length bs ≡ map length bs′
-      → blocksValue n z k (zipWith (zipWith (combineEntry g h)) bs bs′)
-      ≡ eval g n *ℤ blocksValue n z k bs +ℤ eval h n *ℤ blocksValue n z k bs′
-  unfolding blocksValue zipWith
-  blocks-combine z k [] [] e = nothing-combined
-  blocks-combine z k [] (b′ ∷ bs′) e = absurd (nil≢cons e)
-  blocks-combine z k (b ∷ bs) [] e = absurd (cons≢nil e)
-  blocks-combine z k (b ∷ bs) (b′ ∷ bs′) e =
-      ap₂ _+ℤ_ (block-combine (z k) b b′ (head-eq-of-cons-eq e)) (blocks-combine z (predℤ k) bs bs′ (tail-eq-of-cons-eq e))
-      ∙ combined-sum (blockValue n (z k) b) (blockValue n (z k) b′) (blocksValue n z (predℤ k) bs) (blocksValue n z (predℤ k) bs′)
-
-pub value-combine : (g h : Polynomial) (l : ℤ) (r q : Row) (z : Sequence) (n : ℤ) → SameColumns r q
-    → valueOf l (combine g h r q) z n ≡ eval g n *ℤ valueOf l r z n +ℤ eval h n *ℤ valueOf l q z n
-unfolding valueOf combine
-value-combine g h l r q z n e = blocks-combine g h n z (n +ℤ l) (r .blocks) (q .blocks) e
+use Rattle.rules.specs.Lists.{all-all-mono, all-always, all-of-every, cond-passed, cond-failed}
+use Rattle.theory.specs.Cells.{zeroBlock-all}
 
 -- ---- a function of the polynomials that multiplies the values
 
@@ -122,37 +50,6 @@ module _ (f : Polynomial → Polynomial) (c n m : ℤ) where
       *ℤ-+ℤ c (blockValue n (z k) (map f b)) (blocksValue n z (predℤ k) (map (map f) bs))
       ∙ ap₂ _+ℤ_ (block-map (z k) b (a .0)) (blocks-map z (predℤ k) bs (a .1))
 
--- A common divisor of all coefficients of a row divides those of each polynomial.
-dividesAll-parts : (d : ℕ) (r : Row) → DividesAll d (coefficientsOf r) → All (All (DividesAll d)) (r .blocks)
-unfolding coefficientsOf
-dividesAll-parts d r h =
-    all-mono (All (All (DividesZ d))) (All (DividesAll d)) (λ b. all-mono (All (DividesZ d)) (DividesAll d) coefficients b) (r .blocks)
-    (all-of-flatten (All (DividesZ d)) (r .blocks)
-    (all-of-flatten (DividesZ d) (flatten (r .blocks)) (getD-all (DividesZ d) _ (pos 0) (λ k _. h k))))
-  where
-    coefficients : (p : Polynomial) → All (DividesZ d) p → DividesAll d p
-    coefficients p a k = all-getD-default (DividesZ d) p (pos 0) k (dvd-zero d) a
-
--- Division by the content: one number for all sequences and all n.
-pub value-primitive : (r : Row)
-    → (d : ℕ) × (0 < d) × ((l : ℤ) (z : Sequence) (n : ℤ) → pos d *ℤ valueOf l (primitive r) z n ≡ valueOf l r z n)
-unfolding valueOf mapRow
-value-primitive r = (d, divides .1, value)
-  where
-    divides : (d : ℕ) × (0 < d) × DividesAll d (coefficientsOf r) × (primitive r ≡ mapRow (divideBy d) r)
-    divides = primitive-divides r
-
-    d : ℕ
-    d = divides .0
-
-    value : (l : ℤ) (z : Sequence) (n : ℤ) → pos d *ℤ valueOf l (primitive r) z n ≡ valueOf l r z n
-    value l z n =
-        ap (λ q. pos d *ℤ valueOf l q z n) (divides .3) ∙
-        blocks-map (divideBy d) (pos d) n n z (n +ℤ l) (r .blocks)
-        (all-mono (All (DividesAll d)) (All (λ p. pos d *ℤ eval (divideBy d p) n ≡ eval p n))
-        (λ b. all-mono (DividesAll d) (λ p. pos d *ℤ eval (divideBy d p) n ≡ eval p n) (λ p h. eval-divideBy d p n h) b)
-        (r .blocks) (dividesAll-parts d r (divides .2)))
-
 -- A function that keeps the values of the polynomials keeps those of the row.
 pub blocks-same : (f : Polynomial → Polynomial) (r : Row) (z : Sequence) (n m k : ℤ)
     → All (All (λ p. eval (f p) n ≡ eval p m)) (r .blocks) → blocksValue n z k (mapRow f r .blocks) ≡ blocksValue m z k (r .blocks)
@@ -160,44 +57,13 @@ unfolding mapRow
 blocks-same f r z n m k a =
     sym (one-*ℤ (blocksValue n z k (map (map f) (r .blocks)))) ∙
     blocks-map f (pos 1) n m z k (r .blocks)
-    (all-mono (All (λ p. eval (f p) n ≡ eval p m)) (All (λ p. pos 1 *ℤ eval (f p) n ≡ eval p m))
-    (λ b. all-mono (λ p. eval (f p) n ≡ eval p m) (λ p. pos 1 *ℤ eval (f p) n ≡ eval p m) (λ p e. one-*ℤ (eval (f p) n) ∙ e) b)
-    (r .blocks) a)
+    (all-all-mono (λ p. eval (f p) n ≡ eval p m) (λ p. pos 1 *ℤ eval (f p) n ≡ eval p m) (λ p e. one-*ℤ (eval (f p) n) ∙ e) (r .blocks) a)
 
-lowDegrees-parts : (r : Row) → T (lowDegrees r) → All (All (λ p. T (isZero (drop coefficientCount p)))) (r .blocks)
-unfolding lowDegrees
-lowDegrees-parts r h =
-    all-mono (λ b. T (every (λ p. isZero (drop coefficientCount p)) b)) (All (λ p. T (isZero (drop coefficientCount p))))
-    (all-of-every (λ p. isZero (drop coefficientCount p))) (r .blocks)
-    (all-of-every (every (λ p. isZero (drop coefficientCount p))) (r .blocks) h)
-
-pub value-cut : (l : ℤ) (r : Row) (z : Sequence) (n : ℤ) → T (lowDegrees r) → valueOf l (cut r) z n ≡ valueOf l r z n
-unfolding valueOf cut
-value-cut l r z n h = blocks-same (take coefficientCount) r z n n (n +ℤ l)
-    (all-mono (All (λ p. T (isZero (drop coefficientCount p)))) (All (λ p. eval (take coefficientCount p) n ≡ eval p n))
-    (λ b. all-mono (λ p. T (isZero (drop coefficientCount p))) (λ p. eval (take coefficientCount p) n ≡ eval p n)
-    (λ p e. eval-take coefficientCount p n e) b) (r .blocks) (lowDegrees-parts r h))
-
--- The row that one combination makes, within the limits: d times its value is the combination of the values, for one positive d.
-pub value-combined : (g h : Polynomial) (r q r′ : Row) → SameColumns r q → limitDegrees (primitive (combine g h r q)) ≡ within r′
-    → (d : ℕ) × (0 < d) × ((l : ℤ) (z : Sequence) (n : ℤ)
-    → pos d *ℤ valueOf l r′ z n ≡ eval g n *ℤ valueOf l r z n +ℤ eval h n *ℤ valueOf l q z n)
-value-combined g h r q r′ same e = (divided .0, divided .1, value)
-  where
-    whole : Row
-    whole = combine g h r q
-
-    divided : (d : ℕ) × (0 < d) × ((l : ℤ) (z : Sequence) (n : ℤ) → pos d *ℤ valueOf l (primitive whole) z n ≡ valueOf l whole z n)
-    divided = value-primitive whole
-
-    limits : T (lowDegrees (primitive whole)) × T (smallRow (cut (primitive whole))) × (r′ ≡ cut (primitive whole))
-    limits = limitDegrees-within (primitive whole) r′ e
-
-    value : (l : ℤ) (z : Sequence) (n : ℤ)
-        → pos (divided .0) *ℤ valueOf l r′ z n ≡ eval g n *ℤ valueOf l r z n +ℤ eval h n *ℤ valueOf l q z n
-    value l z n =
-        ap (λ x. pos (divided .0) *ℤ x) (ap (λ x. valueOf l x z n) (limits .2) ∙ value-cut l (primitive whole) z n (limits .0))
-        ∙ divided .2 l z n ∙ value-combine g h l r q z n same
+-- Where it does so for every polynomial, as a shift and the mirror do.
+pub blocks-always : (f : Polynomial → Polynomial) (r : Row) (z : Sequence) (n m k : ℤ) → ((p : Polynomial) → eval (f p) n ≡ eval p m)
+    → blocksValue n z k (mapRow f r .blocks) ≡ blocksValue m z k (r .blocks)
+blocks-always f r z n m k e =
+    blocks-same f r z n m k (all-always (All (λ p. eval (f p) n ≡ eval p m)) (all-always (λ p. eval (f p) n ≡ eval p m) e) (r .blocks))
 
 -- ---- zero blocks and zero rows
 
@@ -227,54 +93,17 @@ unfolding blocksValue
 blocks-append-zero n z k [] cs h = blocks-zero n z k cs h
 blocks-append-zero n z k (b ∷ bs) cs h = ap (λ s. blockValue n (z k) b +ℤ s) (blocks-append-zero n z (predℤ k) bs cs h)
 
--- ---- the shift
-
-zero-polynomial : (p : Polynomial) → T (isZero (map (λ _. pos 0) p))
-unfolding isZero
-zero-polynomial [] = tt
-zero-polynomial (a ∷ p) = zero-polynomial p
-
-pub blank-zero : (b : Block) → T (zeroBlock (blank b))
-unfolding zeroBlock blank
-blank-zero [] = tt
-blank-zero (p ∷ b) = T-&& (isZero (map (λ _. pos 0) p)) (every isZero (map (map (λ _. pos 0)) b)) .1 (zero-polynomial p, blank-zero b)
-
--- Block l is zero, so the index of the first block that counts is that of the block below it.
-moved-up : (n k : ℤ) (z : Sequence) (bs : List Block) → T (zeroBlock (getD bs 0 []))
-    → blocksValue n z (predℤ k) (tail bs) ≡ blocksValue n z k bs
-unfolding blocksValue
-moved-up n k z [] h = refl
-moved-up n k z (b ∷ bs) h =
-    sym (ap (λ x. x +ℤ blocksValue n z (predℤ k) bs) (block-zero n (z k) b h) ∙ +ℤ-idl (blocksValue n z (predℤ k) bs))
-
-pub value-shiftUp : (l : ℤ) (r : Row) (z : Sequence) (n : ℤ) → T (zeroBlock (leadingBlock r))
-    → valueOf l (shiftUp r) z n ≡ valueOf l r z (n +ℤ pos 1)
-unfolding valueOf shiftUp every
-value-shiftUp l r z n h =
-    blocks-same shift moved z n (n +ℤ pos 1) (n +ℤ l) shifted
-    ∙ blocks-append-zero (n +ℤ pos 1) z (n +ℤ l) (tail (r .blocks)) (blank (leadingBlock r) ∷ [])
-    (T-&& (zeroBlock (blank (leadingBlock r))) true .1 (blank-zero (leadingBlock r), tt))
-    ∙ ap (λ k. blocksValue (n +ℤ pos 1) z k (tail (r .blocks))) index
-    ∙ moved-up (n +ℤ pos 1) (n +ℤ pos 1 +ℤ l) z (r .blocks) h
-  where
-    moved : Row
-    moved = record { blocks = tail (r .blocks) ++ (blank (leadingBlock r) ∷ []) }
-
-    shifted : All (All (λ p. eval (shift p) n ≡ eval p (n +ℤ pos 1))) (moved .blocks)
-    shifted = all-always (All (λ p. eval (shift p) n ≡ eval p (n +ℤ pos 1)))
-        (all-always (λ p. eval (shift p) n ≡ eval p (n +ℤ pos 1)) (λ p. eval-shift p n)) (moved .blocks)
-
-    index : n +ℤ l ≡ predℤ (n +ℤ pos 1 +ℤ l)
-    index = sym (ap predℤ (ap (λ m. m +ℤ l) (+ℤ-one n) ∙ sucℤ-+ℤ n l) ∙ pred-suc (n +ℤ l))
-
 -- ---- the value as a sum
 
-pub blockValue-sum : (n : ℤ) (v : ℕ → ℤ) (b : Block) → blockValue n v b ≡ sumBelow (length b) (λ c. eval (getD b c []) n *ℤ v c)
-unfolding blockValue sumBelow sum range
-blockValue-sum n v [] = refl
-blockValue-sum n v (p ∷ b) =
-    ap (λ s. eval p n *ℤ v 0 +ℤ s) (blockValue-sum n (λ c. v (suc c)) b)
-    ∙ sym (sumBelow-front (length b) (λ c. eval (getD (p ∷ b) c []) n *ℤ v c))
+-- Columns from C on that are zero add nothing.
+pub blockValue-sum : (C : ℕ) (n : ℤ) (v : ℕ → ℤ) (b : Block) → ((c : ℕ) → C ≤ c → T (isZero (getD b c [])))
+    → blockValue n v b ≡ sumBelow C (λ c. eval (getD b c []) n *ℤ v c)
+unfolding blockValue eval sumBelow
+blockValue-sum C n v [] z = sym (sumBelow-zeros C _ (λ c _. zero-*ℤ (v c)))
+blockValue-sum zero n v (p ∷ b) z = block-zero n v (p ∷ b) (zeroBlock-all (p ∷ b) (λ c. z c zero-le))
+blockValue-sum (suc C) n v (p ∷ b) z =
+    ap (λ s. eval p n *ℤ v 0 +ℤ s) (blockValue-sum C n (λ c. v (suc c)) b (λ c h. z (suc c) (suc-le-suc-iff .1 h)))
+    ∙ sym (sumBelow-front C (λ c. eval (getD (p ∷ b) c []) n *ℤ v c))
 
 pub index-below : (k : ℤ) (j : ℕ) → predℤ k -ℤ pos j ≡ k -ℤ pos (suc j)
 index-below k j = predℤ-+ℤ k (negℤ (pos j)) ∙ sym (ap (λ x. k +ℤ x) (negℤ-sucℤ (pos j)) ∙ +ℤ-predℤ k (negℤ (pos j)))
@@ -354,13 +183,6 @@ value-congruence m D l r z y n h e =
 unfoldable pub delta : ℤ → ℕ → Sequence
 unfolding isZeroℤ
 delta i c a b = cond (isZeroℤ (a -ℤ i) && eqb b c) (pos 1) (pos 0)
-
-cond-passed : (t : Bool) (x y : ℤ) → T t → cond t x y ≡ x
-cond-passed true x y h = refl
-
-cond-failed : (t : Bool) (x y : ℤ) → (T t → ⊥) → cond t x y ≡ y
-cond-failed true x y h = absurd (h tt)
-cond-failed false x y h = refl
 
 pub delta-here : (i : ℤ) (c : ℕ) → delta i c i c ≡ pos 1
 unfolding delta

@@ -1,0 +1,119 @@
+-- `sheets::writer::checks::check_write` meets its contract: the tests in the order of the definition.
+-- Assumes nothing.
+use mathlib.Core.Path.{_≡_, sym, _∙_}
+use mathlib.Core.Bool.{true, _&&_, cond}
+use mathlib.Core.List.{List}
+use Prim.Native.Nat.{ℕ, _*_, _≤_}
+use native.Mathlib.Omega.{arith}
+use borrow.Author.Tests.{le-leb, lt-leb, not-true, not-false}
+use denote.Ref.{now}
+use lib.Dec.{leb}
+use lib.IntN.{ℤ}
+use lib.ListN.{length}
+use Rattle.rules.specs.SheetCalls.{orderRight, checkWrite}
+use Rattle.rules.specs.Stores.{Sizes, sizesRight, numbersRight}
+use Rattle.rules.specs.Layout.{size-bounds}
+use Rattle.sheets.specs.Writer.{sizesOf}
+use Rattle.sheets.specs.WriterChecks.{holds, check-order}
+use borrow.Author.Needs.{needs}
+use Rattle.sheets.proofs.writer.checks.check_write.Statement.{statement}
+use Rattle.sheets.proofs.writer.checks.check_write.Tie as tie
+
+-- what the function is to give, and its tests
+module _ (c : tie.Start) where
+  abbrev z : Sizes
+  z = sizesOf (c .args .sizes)
+
+  abbrev count : ℕ
+  count = c .args .count
+
+  abbrev rows : List ℤ
+  rows = now (c .args .rows)
+
+  abbrev relations : List ℤ
+  relations = now (c .args .relations)
+
+  abbrev answer : ℕ
+  answer = checkWrite z count (c .args .order) rows relations
+
+  abbrev numbers : ℕ
+  numbers = cond (numbersRight z count rows relations) 0 5
+
+  abbrev lengths : ℕ
+  lengths = cond (leb (z .m * 320) (length rows) && leb 5136 (length relations)) numbers 1
+
+  tests : answer ≡ cond ((sizesRight z && leb count 16) && orderRight (z .m) (c .args .order)) lengths 2
+  tests = check-order z count (c .args .order) rows relations
+
+sizes-passed : (c : tie.Else1) → sizesRight (z (c .before .before)) ≡ true
+sizes-passed c = sym (c .before .sizes-right .ensures) ∙ not-false _ (c .if1 .left)
+
+few : (c : tie.Else1) → z (c .before .before) .m ≤ 4
+few c = size-bounds (z (c .before .before)) (holds (sizes-passed c)) .few
+
+at-lengths : (c : tie.Else3) → answer (c .before .before .before .before .before) ≡ lengths (c .before .before .before .before .before)
+at-lengths c =
+    let start = c .before .before .before .before .before in
+    rw (tests start, sizes-passed (c .before .before .before), le-leb (count start) 16 (c .before .before .if2 .left), sym (c .before .order-right .ensures) ∙ not-false _ (c .if3 .left))
+
+at-numbers : (c : tie.Else5) → answer (c .before .before .before .before .before .before .before) ≡ numbers (c .before .before .before .before .before .before .before)
+at-numbers c =
+    let start = c .before .before .before .before .before .before .before in
+    at-lengths (c .before .before)
+    ∙ rw (le-leb (z start .m * 320) (length (rows start)) (c .before .if4 .left), le-leb 5136 (length (relations start)) (c .if5 .left))
+
+sizes-right-requires : tie.Need-sizes-right-requires
+sizes-right-requires c κs = search needs
+
+returns : tie.Need-returns
+returns c = rw (tests (c .before .before), sym (c .before .sizes-right .ensures) ∙ not-true _ (c .if1 .taken))
+
+returns-2 : tie.Need-returns-2
+returns-2 c = rw (tests (c .before .before .before), sizes-passed (c .before), lt-leb (count (c .before .before .before)) 16 (c .if2 .taken))
+
+order-right-requires : tie.Need-order-right-requires
+order-right-requires c κs = few (c .before)
+
+returns-3 : tie.Need-returns-3
+returns-3 c =
+    let start = c .before .before .before .before .before in
+    rw (tests start, sizes-passed (c .before .before .before), le-leb (count start) 16 (c .before .before .if2 .left), sym (c .before .order-right .ensures) ∙ not-true _ (c .if3 .taken))
+
+mul-if4 : tie.Need-mul-if4
+mul-if4 c = omega (arith, few (c .before .before .before))
+
+returns-4 : tie.Need-returns-4
+returns-4 c =
+    let start = c .before .before .before .before .before .before in
+    rw (at-lengths (c .before), lt-leb (z start .m * 320) (length (rows start)) (c .if4 .taken))
+
+returns-5 : tie.Need-returns-5
+returns-5 c =
+    let start = c .before .before .before .before .before .before .before in
+    rw (at-lengths (c .before .before), le-leb (z start .m * 320) (length (rows start)) (c .before .if4 .left), lt-leb 5136 (length (relations start)) (c .if5 .taken))
+
+numbers-right-requires : tie.Need-numbers-right-requires
+numbers-right-requires c κs =
+    (holds (sizes-passed (c .before .before .before .before .before)), c .before .before .before .before .if2 .left, c .before .if4 .left, c .if5 .left)
+
+returns-6 : tie.Need-returns-6
+returns-6 c = rw (at-numbers (c .before .before), sym (c .before .numbers-right .ensures) ∙ c .if6 .taken)
+
+returns-7 : tie.Need-returns-7
+returns-7 c = rw (at-numbers (c .before .before), sym (c .before .numbers-right .ensures) ∙ c .if6 .left)
+
+pub check-write-spec : {M : Type 1} → statement M
+check-write-spec =
+    tie.close
+    (tie.spec
+    sizes-right-requires
+    returns
+    returns-2
+    order-right-requires
+    returns-3
+    mul-if4
+    returns-4
+    returns-5
+    numbers-right-requires
+    returns-6
+    returns-7)
