@@ -1,17 +1,27 @@
--- What the functions that write a sheet go by: a run of bytes stored from a place on, as far as the store goes.
+-- What the functions that write a sheet go by: runs of bytes stored from a place on, as far as the store goes, and the bytes
+-- of numbers, terms, lines and the whole sheet as such runs.
 --
 -- Main definitions
---   Put           what a writing function does: it stores bytes from a place on and gives the next place
---   digitsOf      the digits of a whole number
+--   Put, Going        what a writing function does; what a loop that writes has still to do
+--   digitsOf, spaced  the digits of a whole number; numbers with a space before each
+--   termAt, numbersOf, nonzeroCount   the numbers of one term, of several, and how many there are
+--   sizesOf, sheetGiven   the sizes that the code hands on; the sheet of a system in stores, with the columns that are written
 --
 -- Main statements
---   put-then      two runs of bytes stored one after the other are one run
---   digits-last   the last digit of a number is written after the digits of its tenth
+--   put-then          two runs of bytes stored one after the other are one run
+--   going-first, going-next, going-last   a loop that stores a run part by part
+--   digits-last       the last digit of a number is written after the digits of its tenth
+--   line-is           a line is its first number, the others spaced, and byte 10
+--   trim-length, trim-take   how many coefficients a term has, and which
+--   block-next, terms-next, lines-next   one term, one block, one line more
+--   term-count        the number of terms of a row is that of its nonzero polynomials
+--   equation-line, relation-line, order-line, count-line, sizes-line   the lines of a sheet, as they are written
+--   sheet-bytes       the bytes of a sheet, section by section
 use mathlib.Core.Path.{_≡_, refl, sym, _∙_, ap, ap₂, subst}
 use mathlib.Core.Bool.{Bool, true, false, cond}
 use mathlib.Core.Logic.{_≢_}
 use mathlib.Core.List.{List, [], _∷_, _++_, map, flatten, append-assoc, append-nil}
-use Prim.Native.Nat.{ℕ, zero, suc, _+_, _-_, _*_, _/_, _%_, _^_, _≤_, _<_, suc-le-suc}
+use Prim.Native.Nat.{ℕ, zero, suc, _+_, _-_, _*_, _/_, _%_, _^_, _≤_, _<_}
 use native.Mathlib.Nat.{add-zero, add-suc, suc-add, not-suc-le-zero, div-lt-self, div-lt-iff-lt-mul, lt-trans, le-trans, le-of-suc-le-suc, zero-add, pow-suc}
 use native.Mathlib.Numerals.{add-one}
 use native.Mathlib.Omega.{arith}
@@ -19,7 +29,7 @@ use borrow.Author.Tests.{ltb-true, ltb-false, lt-ltb, le-ltb, ne-eqb}
 use lib.Dec.{T, ltb, eqb, eqb·suc-zero, lit<}
 use lib.IntN.{ℤ, pos, negsuc, natAbs, negℤ, predℤ, _+ℤ_, _-ℤ_, negℤ-sucℤ, +ℤ-predℤ}
 use lib.Signed.{ltZ}
-use lib.ListN.{length, take, drop, getD, length-append, length-take, length-drop, drop-of-length-le}
+use lib.ListN.{length, take, drop, getD, length-append, length-take, drop-of-length-le}
 use lib.Seq.{sets, length-sets, drop-cons}
 use Rattle.algebra.specs.Integers.{natAbs-+ℤ, natAbs-negℤ}
 use Rattle.algebra.specs.Polynomials.{Polynomial, coeff, isZero, isZero-cons, isZero-coeff}
@@ -198,16 +208,17 @@ pub spaced-then : {d e f : List ℕ} {at j k next last : ℕ} (l m : List ℤ) �
     → Put d at (spaced (l ++ m)) (j + k) f last
 spaced-then l m p q = put-same (put-then p q) (spaced-append l m)
 
+-- The members from i on are member i and those from i + 1 on.
+pub drop-next : {A : Type 0} (l : List A) (i : ℕ) (d : A) → i < length l → drop i l ≡ getD l i d ∷ drop (i + 1) l
+drop-next l i d h = drop-cons l i d h ∙ ap (λ j. getD l i d ∷ drop j l) (sym (add-one i))
+
 pub spaced-next : (l : List ℤ) (i : ℕ) → i < length l → spaced (drop i l) ≡ spaced (getD l i (pos 0) ∷ []) ++ spaced (drop (i + 1) l)
-spaced-next l i h =
-    ap spaced (drop-cons l i (pos 0) h ∙ ap (λ j. getD l i (pos 0) ∷ drop j l) (sym (add-one i)))
-    ∙ sym (spaced-append (getD l i (pos 0) ∷ []) (drop (i + 1) l))
+spaced-next l i h = ap spaced (drop-next l i (pos 0) h) ∙ sym (spaced-append (getD l i (pos 0) ∷ []) (drop (i + 1) l))
 
 pub columns-next : (l : List ℕ) (i : ℕ) → i < length l
     → spaced (map pos (drop i l)) ≡ spaced (pos (getD l i 0) ∷ []) ++ spaced (map pos (drop (i + 1) l))
 columns-next l i h =
-    ap (λ r. spaced (map pos r)) (drop-cons l i 0 h ∙ ap (λ j. getD l i 0 ∷ drop j l) (sym (add-one i)))
-    ∙ sym (spaced-append (pos (getD l i 0) ∷ []) (map pos (drop (i + 1) l)))
+    ap (λ r. spaced (map pos r)) (drop-next l i 0 h) ∙ sym (spaced-append (pos (getD l i 0) ∷ []) (map pos (drop (i + 1) l)))
 
 pub spaced-number : (a : ℤ) → space ∷ decimal a ≡ spaced (a ∷ [])
 unfolding spaced
@@ -355,8 +366,7 @@ term-count s l = length-termsFrom s (rowOf l .blocks) ∙ ap nonzeroCount (polyn
 pub parts-next : {A : Type 0} (k n : ℕ) (l : List A) (i : ℕ) → i < n
     → drop i (parts k n l) ≡ take k (drop (i * k) l) ∷ drop (i + 1) (parts k n l)
 parts-next k n l i h =
-    drop-cons (parts k n l) i [] (rw parts-length h)
-    ∙ ap₂ (λ p j. p ∷ drop j (parts k n l)) (getD-parts k n l i h) (sym (add-one i))
+    drop-next (parts k n l) i [] (rw parts-length h) ∙ ap (λ p. p ∷ drop (i + 1) (parts k n l)) (getD-parts k n l i h)
 
 pub parts-end : {A : Type 0} (k n : ℕ) (l : List A) (i : ℕ) → n ≤ i → drop i (parts k n l) ≡ []
 parts-end k n l i h = drop-of-length-le (parts k n l) {i = i} (rw parts-length h)
@@ -388,10 +398,6 @@ pub count-some : (l : List ℤ) (i n : ℕ) → i < 20 → n ≡ length (trim (t
 unfolding nonzeroCount
 count-some l i n h e some =
     rw (parts-next 16 20 l i h, isZero-trim (take 16 (drop (i * 16) l)), ne-eqb (length (trim (take 16 (drop (i * 16) l)))) 0 (λ z. some (e ∙ z)))
-
--- A part that is lent has its length.
-pub part-length : {A : Type 0} (l : List A) (from k : ℕ) → from + k ≤ length l → length (take (from + k - from) (drop from l)) ≡ k
-part-length l from k h = rw (length-take, length-drop) (omega arith)
 
 -- ---- one term, and one block, more
 

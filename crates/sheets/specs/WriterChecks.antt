@@ -1,22 +1,31 @@
--- What the checks before a sheet is written go by.
+-- What the checks before a sheet is written go by, and what the whole call does.
+--
+-- Main definitions
+--   rightRow, rightRelation   the tests of a row and of a relation, at m and the span
+--   Checked           what the checks tell the writer
+--   callOf            what a call did as a whole
 --
 -- Main statements
---   span-size          right sizes have small l, t and l - t
---   every-passed, every-failed   one member more passes a test of all, or fails it
+--   difference-size   l - t of right sizes is small
+--   every-passed, every-failed, every-end   a test of all members, member by member
+--   numbers-right, relation-at   the check of the numbers by these tests, and where a relation lies
+--   check-order       sizes with count and order first, then lengths, then numbers
+--   checked           what holds where the checks give no refusal
+--   sheet-given       the sheet that is written is the definition's
+--   call-refused, call-checked, written-short, written-whole   the cases of a call
 use mathlib.Core.Path.{_≡_, refl, sym, _∙_, ap, ap₂, subst}
-use mathlib.Core.Bool.{Bool, true, false, _&&_, _||_, not, cond}
+use mathlib.Core.Bool.{Bool, true, false, _&&_, cond}
 use mathlib.Core.Logic.{_≢_}
-use mathlib.Core.List.{List, [], _∷_, _++_, map}
+use mathlib.Core.List.{List, [], _∷_, _++_}
 use Prim.Native.Nat.{ℕ, zero, suc, _+_, _-_, _*_, _≤_, _<_}
 use native.Mathlib.Nat.{add-zero, zero-add, suc-ne-zero, sub-zero, suc-sub-suc, not-suc-le-zero, le-of-suc-le-suc}
-use native.Mathlib.Numerals.{add-one}
 use native.Mathlib.Omega.{arith}
 use borrow.Author.Tests.{le-leb, lt-leb}
 use lib.Dec.{T, leb, eqb}
 use lib.IntN.{ℤ, pos, negsuc, negℤ, natAbs, _+ℤ_, _-ℤ_}
-use lib.Signed.{leZ, leZ-yes, _≤ℤ_}
+use lib.Signed.{_≤ℤ_}
 use lib.ListN.{length, take, drop, getD}
-use lib.Seq.{drop-cons, drop-drop, getD-drop, take-nil, sets, sets-eq}
+use lib.Seq.{drop-drop, getD-drop, take-nil, sets, sets-eq}
 use Rattle.algebra.specs.Integers.{natAbs-+ℤ, natAbs-negℤ}
 use Rattle.algebra.specs.Order.{≤ℤ-trans, natAbs-≤-iff}
 use Rattle.algebra.specs.Polynomials.{isZero}
@@ -43,10 +52,6 @@ difference-size l t low ordered high =
     omega (arith, natAbs-+ℤ l (negℤ t), natAbs-negℤ t)
 
 -- ---- tests of all members
-
--- The members from i on are member i and those from i + 1 on.
-pub drop-next : {A : Type 0} (l : List A) (i : ℕ) (d : A) → i < length l → drop i l ≡ getD l i d ∷ drop (i + 1) l
-drop-next l i d h = drop-cons l i d h ∙ ap (λ j. getD l i d ∷ drop j l) (sym (add-one i))
 
 module _ {A : Type 0} (t : A → Bool) (l : List A) (i : ℕ) {x : A} (next : drop i l ≡ x ∷ drop (i + 1) l) (left : every t l ≡ every t (drop i l)) where
   pub every-passed : t x ≡ true → every t l ≡ every t (drop (i + 1) l)

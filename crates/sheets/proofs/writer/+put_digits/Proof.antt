@@ -111,7 +111,8 @@ put-digits-returns-2 t c =
     let at-call = c .before .before .before .before .before .before in
     let n = at-call .before .before .before .before .args .n in
     put-few
-    (put-same (put-then (at-call .put-digits .ensures) (c .before .before .put-byte2 .ensures)) (sym (digits-last n (at-call .before .before .if1 .left))))
+    (put-same (put-then (at-call .put-digits .ensures) (c .before .before .put-byte2 .ensures))
+    (sym (digits-last n (at-call .before .before .if1 .left))))
     (digits-length n (omega arith))
 
 pub +put-digits-spec : {M : Type 1} → statement M

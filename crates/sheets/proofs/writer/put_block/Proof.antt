@@ -1,8 +1,7 @@
 -- `sheets::writer::put_block` meets its contract. The loop's invariant: the terms from column c + 1 on are still to be written.
 -- Assumes nothing.
-use mathlib.Core.Path.{_≡_, refl, sym, _∙_, ap}
-use mathlib.Core.List.{List, [], _∷_}
-use Prim.Native.Nat.{ℕ, _+_, _*_, _-_, _≤_}
+use mathlib.Core.Path.{_≡_, refl, ap}
+use Prim.Native.Nat.{_+_, _*_, _-_, _≤_}
 use native.Mathlib.Omega.{arith}
 use denote.Ref.{now}
 use lib.ListN.{take, drop}
@@ -11,7 +10,8 @@ use mir.Val.{toZ, ofZ}
 use mir.Facts.{toZ-ofZ}
 use Rattle.rules.specs.Sheets.{blockTerms}
 use Rattle.rules.specs.Stores.{parts}
-use Rattle.sheets.specs.Writer.{Going, going-first, going-next, going-last, put-same, spaced, termAt, numbersOf, part-length, block-next, block-end}
+use Rattle.sheets.specs.Writer.{Going, going-first, going-next, going-last, put-same}
+use Rattle.sheets.specs.Writer.{spaced, termAt, numbersOf, block-next, block-end}
 use borrow.Author.Needs.{needs}
 use Rattle.sheets.proofs.writer.put_block.Statement.{statement}
 use Rattle.sheets.proofs.writer.put_block.Tie as tie
@@ -77,8 +77,9 @@ same-length c = search needs
 returns : tie.Need-returns Inv-loop μ-loop
 returns c =
     let args = c .before .before .before .args in
-    put-same
-    (going-last (c .before .loop .inv .1) (block-end (toZ w64 (ofZ w64 (args .block))) (now (args .numbers)) (c .before .loop .c) (c .loop-test .left)) (omega arith))
+    let block = toZ w64 (ofZ w64 (args .block)) in
+    let none = block-end block (now (args .numbers)) (c .before .loop .c) (c .loop-test .left) in
+    put-same (going-last (c .before .loop .inv .1) none (omega arith))
     (ap (λ s. spaced (numbersOf (blockTerms s 1 (parts 16 4 (now (args .numbers)))))) (toZ-ofZ (c .before .before .before .fits .block)))
 
 pub put-block-spec : {M : Type 1} → statement M

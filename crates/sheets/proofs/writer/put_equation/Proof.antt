@@ -1,6 +1,6 @@
 -- `sheets::writer::put_equation` meets its contract: the number of terms, the terms, and the end of the line.
 -- Assumes nothing.
-use mathlib.Core.Path.{_∙_, ap, ap₂}
+use mathlib.Core.Path.{_∙_, ap₂}
 use mathlib.Core.List.{List, [], _∷_, _++_}
 use Prim.Native.Nat.{ℕ}
 use denote.Ref.{now}

@@ -63,13 +63,15 @@ unfolding rowsOf
 loop-again c =
     let turn = c .before .before .before .before .before in
     let args = turn .before .before .before .args in
+    let store = now (args .rows) in
     let i = turn .before .loop .i in
     let l = toZ w64 (ofZ w64 (args .l)) in
-    let width : i * 320 + 320 - i * 320 ≡ 320 = omega arith in (
+    let width : i * 320 + 320 - i * 320 ≡ 320 = omega arith in
+    let part = ap (λ n. line (equationNumbers l (rowOf (take n (drop (i * 320) store))))) width in
+    (
       omega arith,
-      going-next (turn .before .loop .inv .1) (lines-next (equationNumbers l) rowOf 320 (args .m) (now (args .rows)) i (turn .loop-test .taken))
-          (put-same (c .before .before .put-equation .ensures) (ap (λ n. line (equationNumbers l (rowOf (take n (drop (i * 320) (now (args .rows))))))) width))
-          (omega arith),
+      going-next (turn .before .loop .inv .1) (lines-next (equationNumbers l) rowOf 320 (args .m) store i (turn .loop-test .taken))
+      (put-same (c .before .before .put-equation .ensures) part) (omega arith),
     )
 
 same-length : tie.Need-same-length Inv-loop μ-loop
@@ -79,9 +81,11 @@ returns : tie.Need-returns Inv-loop μ-loop
 unfolding rowsOf
 returns c =
     let args = c .before .before .before .args in
-    put-same
-    (going-last (c .before .loop .inv .1) (lines-end (equationNumbers (toZ w64 (ofZ w64 (args .l)))) rowOf 320 (args .m) (now (args .rows)) (c .before .loop .i) (c .loop-test .left)) (omega arith))
-    (ap (λ l. lines (map (equationNumbers l) (rowsOf (args .m) (now (args .rows))))) (toZ-ofZ (c .before .before .before .fits .l)))
+    let store = now (args .rows) in
+    let written = equationNumbers (toZ w64 (ofZ w64 (args .l))) in
+    let none = lines-end written rowOf 320 (args .m) store (c .before .loop .i) (c .loop-test .left) in
+    put-same (going-last (c .before .loop .inv .1) none (omega arith))
+    (ap (λ l. lines (map (equationNumbers l) (rowsOf (args .m) store))) (toZ-ofZ (c .before .before .before .fits .l)))
 
 pub put-equations-spec : {M : Type 1} → statement M
 put-equations-spec =

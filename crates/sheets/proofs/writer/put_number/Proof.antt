@@ -44,7 +44,8 @@ returns-2 c =
     let back = toZ-ofZ (start .fits .a) in
     let size = c .before .before .before .before .before .magnitude .ensures ∙ ap natAbs back in
     let positive = rw back at (c .before .before .before .before .if1 .left) in
-    put-wide (put-same (c .before .before .put-digits2 .ensures) (ap digitsOf size ∙ sym (decimal-positive (start .args .a) positive))) (lit≤ tt)
+    put-wide
+    (put-same (c .before .before .put-digits2 .ensures) (ap digitsOf size ∙ sym (decimal-positive (start .args .a) positive))) (lit≤ tt)
 
 pub put-number-spec : {M : Type 1} → statement M
 put-number-spec =

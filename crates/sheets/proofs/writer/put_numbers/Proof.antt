@@ -1,17 +1,17 @@
 -- `sheets::writer::put_numbers` meets its contract. The loop's invariant: the numbers from i on are still to be written.
 -- Assumes nothing.
-use mathlib.Core.Path.{_≡_, refl, sym, _∙_, ap}
-use mathlib.Core.List.{List, [], _∷_, _++_}
-use Prim.Native.Nat.{ℕ, _+_, _*_, _-_, _≤_, _<_}
+use mathlib.Core.Path.{refl, ap}
+use mathlib.Core.List.{[], _∷_}
+use Prim.Native.Nat.{_*_, _-_, _≤_}
 use native.Mathlib.Omega.{arith}
 use borrow.Author.Needs.{needs, sfits-of}
 use denote.Ref.{now}
-use lib.IntN.{ℤ, pos}
+use lib.IntN.{pos}
 use lib.ListN.{length, drop, getD, drop-of-length-le}
 use mir.Syntax.{w64}
 use mir.Val.{SFits}
 use mir.Facts.{toZ-ofZ}
-use Rattle.sheets.specs.Writer.{Put, Going, going-first, going-next, going-last, put-same, spaced, spaced-next}
+use Rattle.sheets.specs.Writer.{Going, going-first, going-next, going-last, put-same, spaced, spaced-next}
 use Rattle.sheets.proofs.writer.put_numbers.Statement.{statement}
 use Rattle.sheets.proofs.writer.put_numbers.Tie as tie
 

@@ -63,13 +63,15 @@ unfolding relationsOf
 loop-again c =
     let turn = c .before .before .before .before .before in
     let args = turn .before .before .before .args in
+    let store = now (args .relations) in
     let i = turn .before .loop .i in
     let l = toZ w64 (ofZ w64 (args .l)) in
-    let width : i * 321 + 321 - i * 321 ≡ 321 = omega arith in (
+    let width : i * 321 + 321 - i * 321 ≡ 321 = omega arith in
+    let part = ap (λ n. line (relationLine l (relationOf (take n (drop (i * 321) store))))) width in
+    (
       omega arith,
-      going-next (turn .before .loop .inv .1) (lines-next (relationLine l) relationOf 321 (args .count) (now (args .relations)) i (turn .loop-test .taken))
-          (put-same (c .before .before .put-relation .ensures) (ap (λ n. line (relationLine l (relationOf (take n (drop (i * 321) (now (args .relations))))))) width))
-          (omega arith),
+      going-next (turn .before .loop .inv .1) (lines-next (relationLine l) relationOf 321 (args .count) store i (turn .loop-test .taken))
+      (put-same (c .before .before .put-relation .ensures) part) (omega arith),
     )
 
 same-length : tie.Need-same-length Inv-loop μ-loop
@@ -79,9 +81,11 @@ returns : tie.Need-returns Inv-loop μ-loop
 unfolding relationsOf
 returns c =
     let args = c .before .before .before .args in
-    put-same
-    (going-last (c .before .loop .inv .1) (lines-end (relationLine (toZ w64 (ofZ w64 (args .l)))) relationOf 321 (args .count) (now (args .relations)) (c .before .loop .i) (c .loop-test .left)) (omega arith))
-    (ap (λ l. lines (map (relationLine l) (relationsOf (args .count) (now (args .relations))))) (toZ-ofZ (c .before .before .before .fits .l)))
+    let store = now (args .relations) in
+    let written = relationLine (toZ w64 (ofZ w64 (args .l))) in
+    let none = lines-end written relationOf 321 (args .count) store (c .before .loop .i) (c .loop-test .left) in
+    put-same (going-last (c .before .loop .inv .1) none (omega arith))
+    (ap (λ l. lines (map (relationLine l) (relationsOf (args .count) store))) (toZ-ofZ (c .before .before .before .fits .l)))
 
 pub put-relations-spec : {M : Type 1} → statement M
 put-relations-spec =

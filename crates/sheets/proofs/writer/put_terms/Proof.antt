@@ -1,7 +1,7 @@
 -- `sheets::writer::put_terms` meets its contract. The loop's invariant: the terms from block l - b down are still to be written.
 -- Assumes nothing.
-use mathlib.Core.Path.{_≡_, refl, sym, _∙_, ap, ap₂}
-use mathlib.Core.List.{List, [], _∷_}
+use mathlib.Core.Path.{_≡_, sym, _∙_, ap, ap₂}
+use mathlib.Core.List.{List}
 use Prim.Native.Nat.{ℕ, _+_, _*_, _-_, _≤_}
 use native.Mathlib.Omega.{arith}
 use denote.Ref.{now}
@@ -14,7 +14,8 @@ use mir.Facts.{toZ-ofZ}
 use Rattle.integers.specs.Ranges.{sfits-size}
 use Rattle.rules.specs.Sheets.{blockTerms, termsFrom}
 use Rattle.rules.specs.Stores.{parts, rowOf}
-use Rattle.sheets.specs.Writer.{Going, going-first, going-next, going-last, put-same, spaced, numbersOf, block-size, terms-next, terms-end}
+use Rattle.sheets.specs.Writer.{Going, going-first, going-next, going-last, put-same}
+use Rattle.sheets.specs.Writer.{spaced, numbersOf, block-size, terms-next, terms-end}
 use borrow.Author.Needs.{needs}
 use Rattle.sheets.proofs.writer.put_terms.Statement.{statement}
 use Rattle.sheets.proofs.writer.put_terms.Tie as tie

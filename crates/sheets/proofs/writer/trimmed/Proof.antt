@@ -1,20 +1,16 @@
 -- `sheets::writer::trimmed` meets its contract. The loop's invariant: the coefficients from n on are zero.
 -- Assumes nothing.
-use mathlib.Core.Path.{_≡_, sym, _∙_, ap, subst}
+use mathlib.Core.Path.{_≡_, sym, _∙_, subst}
 use mathlib.Core.List.{List}
 use Prim.Native.Nat.{ℕ, suc, _-_, _≤_}
-use native.Mathlib.Nat.{le-refl}
 use native.Mathlib.Omega.{arith}
 use borrow.Author.Needs.{needs, sfits-of}
 use denote.Ref.{now}
 use lib.Dec.{T}
-use lib.IntN.{ℤ, pos}
+use lib.IntN.{ℤ}
 use lib.ListN.{length, drop}
 use lib.Seq.{drop-length}
-use mir.Syntax.{w64}
-use mir.Val.{ofZ}
-use mir.Facts.{sfits-lit}
-use Rattle.integers.specs.Ranges.{ofZ-inj}
+use Rattle.polynomials.specs.Content.{zero-bits, nonzero-bits}
 use Rattle.algebra.specs.Polynomials.{isZero}
 use Rattle.sheets.specs.Writer.{trim-length, trim-zero, drop-zero}
 use Rattle.sheets.proofs.writer.trimmed.Statement.{statement}
@@ -56,7 +52,7 @@ shared-slice-copy-out-if1 c = search needs
 returns : tie.Need-returns Inv-loop μ-loop
 returns c =
     let e = c .before in
-    some-left e ∙ sym (trim-length (p e) (top e) (omega arith) (λ z. c .if1 .taken (ap (ofZ w64) z)) (above e))
+    some-left e ∙ sym (trim-length (p e) (top e) (omega arith) (nonzero-bits (c .if1 .taken)) (above e))
 
 sub-n : tie.Need-sub-n Inv-loop μ-loop
 sub-n c = search needs
@@ -67,7 +63,7 @@ loop-less c = search needs
 loop-again : tie.Need-loop-again Inv-loop μ-loop
 loop-again c =
     let e = c .before in
-    (omega arith, drop-zero (p e) (top e) (omega arith) (ofZ-inj {z = pos 0} (sfits-of (e .if12 .given)) (sfits-lit tt) (c .if1 .left)) (above e))
+    (omega arith, drop-zero (p e) (top e) (omega arith) (zero-bits (sfits-of (e .if12 .given)) (c .if1 .left)) (above e))
 
 returns-2 : tie.Need-returns-2 Inv-loop μ-loop
 returns-2 c =

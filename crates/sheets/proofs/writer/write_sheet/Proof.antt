@@ -1,7 +1,6 @@
 -- `sheets::writer::write_sheet` meets its contract. The first call of `put_sheet` only counts; the second stores all bytes, for which there is room.
 -- Assumes nothing.
 use mathlib.Core.Path.{_≡_, sym, _∙_, ap, ap₂, subst}
-use mathlib.Core.Bool.{cond}
 use mathlib.Core.List.{List, _++_}
 use Prim.Native.Nat.{ℕ, _≤_, _<_}
 use native.Mathlib.Nat.{zero-add}

@@ -8,7 +8,8 @@ use denote.Ref.{now}
 use lib.Dec.{eqb}
 use lib.ListN.{length, drop, drop-of-length-le}
 use Rattle.rules.specs.Rows.{every}
-use Rattle.sheets.specs.WriterChecks.{drop-next, every-passed, every-failed, every-end}
+use Rattle.sheets.specs.Writer.{drop-next}
+use Rattle.sheets.specs.WriterChecks.{every-passed, every-failed, every-end}
 use borrow.Author.Needs.{needs}
 use Rattle.sheets.proofs.writer.checks.all_zero.Statement.{statement}
 use Rattle.sheets.proofs.writer.checks.all_zero.Tie as tie
@@ -48,7 +49,8 @@ loop-again c =
     let numbers = now (turn .before .before .args .numbers) in
     let i = turn .before .loop .i in (
       omega arith,
-      every-passed (eqb 0) numbers i (drop-next numbers i 0 (turn .loop-test .taken)) (turn .before .loop .inv .1) (ap (eqb 0) (c .if1 .left)),
+      every-passed (eqb 0) numbers i (drop-next numbers i 0 (turn .loop-test .taken)) (turn .before .loop .inv .1)
+      (ap (eqb 0) (c .if1 .left)),
     )
 
 returns-2 : tie.Need-returns-2 Inv-loop μ-loop

@@ -45,22 +45,33 @@ module _ (c : tie.Start) where
   tests : answer ≡ cond ((sizesRight z && leb count 16) && orderRight (z .m) (c .args .order)) lengths 2
   tests = check-order z count (c .args .order) rows relations
 
-sizes-passed : (c : tie.Else1) → sizesRight (z (c .before .before)) ≡ true
-sizes-passed c = sym (c .before .sizes-right .ensures) ∙ not-false _ (c .if1 .left)
+-- the tests that passed
+module _ (c : tie.Else1) where
+  sizes-passed : sizesRight (z (c .before .before)) ≡ true
+  sizes-passed = sym (c .before .sizes-right .ensures) ∙ not-false _ (c .if1 .left)
 
-few : (c : tie.Else1) → z (c .before .before) .m ≤ 4
-few c = size-bounds (z (c .before .before)) (holds (sizes-passed c)) .few
+  few : z (c .before .before) .m ≤ 4
+  few = size-bounds (z (c .before .before)) (holds sizes-passed) .few
 
-at-lengths : (c : tie.Else3) → answer (c .before .before .before .before .before) ≡ lengths (c .before .before .before .before .before)
-at-lengths c =
-    let start = c .before .before .before .before .before in
-    rw (tests start, sizes-passed (c .before .before .before), le-leb (count start) 16 (c .before .before .if2 .left), sym (c .before .order-right .ensures) ∙ not-false _ (c .if3 .left))
+count-passed : (c : tie.Else2) → leb (count (c .before .before .before)) 16 ≡ true
+count-passed c = le-leb _ 16 (c .if2 .left)
 
-at-numbers : (c : tie.Else5) → answer (c .before .before .before .before .before .before .before) ≡ numbers (c .before .before .before .before .before .before .before)
+module _ (c : tie.Else3) where
+  abbrev start : tie.Start
+  start = c .before .before .before .before .before
+
+  order-passed : orderRight (z start .m) (start .args .order) ≡ true
+  order-passed = sym (c .before .order-right .ensures) ∙ not-false _ (c .if3 .left)
+
+  at-lengths : answer start ≡ lengths start
+  at-lengths = rw (tests start, sizes-passed (c .before .before .before), count-passed (c .before .before), order-passed)
+
+rows-passed : (c : tie.Else4) → leb (z (start (c .before)) .m * 320) (length (rows (start (c .before)))) ≡ true
+rows-passed c = le-leb _ _ (c .if4 .left)
+
+at-numbers : (c : tie.Else5) → answer (start (c .before .before)) ≡ numbers (start (c .before .before))
 at-numbers c =
-    let start = c .before .before .before .before .before .before .before in
-    at-lengths (c .before .before)
-    ∙ rw (le-leb (z start .m * 320) (length (rows start)) (c .before .if4 .left), le-leb 5136 (length (relations start)) (c .if5 .left))
+    rw (at-lengths (c .before .before), rows-passed (c .before), le-leb 5136 (length (relations (start (c .before .before)))) (c .if5 .left))
 
 sizes-right-requires : tie.Need-sizes-right-requires
 sizes-right-requires c κs = search needs
@@ -69,32 +80,31 @@ returns : tie.Need-returns
 returns c = rw (tests (c .before .before), sym (c .before .sizes-right .ensures) ∙ not-true _ (c .if1 .taken))
 
 returns-2 : tie.Need-returns-2
-returns-2 c = rw (tests (c .before .before .before), sizes-passed (c .before), lt-leb (count (c .before .before .before)) 16 (c .if2 .taken))
+returns-2 c = rw (tests (c .before .before .before), sizes-passed (c .before), lt-leb _ 16 (c .if2 .taken))
 
 order-right-requires : tie.Need-order-right-requires
 order-right-requires c κs = few (c .before)
 
 returns-3 : tie.Need-returns-3
 returns-3 c =
-    let start = c .before .before .before .before .before in
-    rw (tests start, sizes-passed (c .before .before .before), le-leb (count start) 16 (c .before .before .if2 .left), sym (c .before .order-right .ensures) ∙ not-true _ (c .if3 .taken))
+    let e = c .before .before in
+    rw (tests (e .before .before .before), sizes-passed (e .before), count-passed e, sym (c .before .order-right .ensures) ∙ not-true _ (c .if3 .taken))
 
 mul-if4 : tie.Need-mul-if4
 mul-if4 c = omega (arith, few (c .before .before .before))
 
 returns-4 : tie.Need-returns-4
-returns-4 c =
-    let start = c .before .before .before .before .before .before in
-    rw (at-lengths (c .before), lt-leb (z start .m * 320) (length (rows start)) (c .if4 .taken))
+returns-4 c = rw (at-lengths (c .before), lt-leb (z (start (c .before)) .m * 320) (length (rows (start (c .before)))) (c .if4 .taken))
 
 returns-5 : tie.Need-returns-5
 returns-5 c =
-    let start = c .before .before .before .before .before .before .before in
-    rw (at-lengths (c .before .before), le-leb (z start .m * 320) (length (rows start)) (c .before .if4 .left), lt-leb 5136 (length (relations start)) (c .if5 .taken))
+    let e = c .before .before in
+    rw (at-lengths e, rows-passed (c .before), lt-leb 5136 (length (relations (start e))) (c .if5 .taken))
 
 numbers-right-requires : tie.Need-numbers-right-requires
 numbers-right-requires c κs =
-    (holds (sizes-passed (c .before .before .before .before .before)), c .before .before .before .before .if2 .left, c .before .if4 .left, c .if5 .left)
+    let e = c .before .before .before .before in
+    (holds (sizes-passed (e .before)), e .if2 .left, c .before .if4 .left, c .if5 .left)
 
 returns-6 : tie.Need-returns-6
 returns-6 c = rw (at-numbers (c .before .before), sym (c .before .numbers-right .ensures) ∙ c .if6 .taken)

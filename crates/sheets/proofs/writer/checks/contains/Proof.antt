@@ -8,7 +8,7 @@ use borrow.Author.Tests.{eq-eqb, ne-eqb}
 use denote.Ref.{now}
 use lib.ListN.{length, drop, drop-of-length-le}
 use Rattle.rules.specs.Sheets.{contains}
-use Rattle.sheets.specs.WriterChecks.{drop-next}
+use Rattle.sheets.specs.Writer.{drop-next}
 use borrow.Author.Needs.{needs}
 use Rattle.sheets.proofs.writer.checks.contains.Statement.{statement}
 use Rattle.sheets.proofs.writer.checks.contains.Tie as tie

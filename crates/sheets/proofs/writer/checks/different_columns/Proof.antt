@@ -1,7 +1,7 @@
 -- `sheets::writer::checks::different_columns` meets its contract. The loop's invariant: the columns from i on tell whether all are right.
 -- Assumes nothing.
 use mathlib.Core.Path.{_≡_, refl, sym, _∙_, ap}
-use mathlib.Core.Bool.{_&&_, not}
+use mathlib.Core.Bool.{true, _&&_, not}
 use mathlib.Core.List.{List}
 use Prim.Native.Nat.{ℕ, _+_, _-_, _≤_}
 use native.Mathlib.Nat.{le-refl}
@@ -9,11 +9,11 @@ use native.Mathlib.Omega.{arith}
 use borrow.Author.Tests.{le-leb, lt-leb}
 use denote.Ref.{now}
 use lib.Dec.{leb}
-use lib.ListN.{length, take, drop, getD, length-drop, drop-of-length-le}
+use lib.ListN.{length, drop, getD, length-drop, drop-of-length-le}
 use lib.Seq.{take-all}
 use Rattle.rules.specs.Sheets.{contains}
 use Rattle.rules.specs.SheetCalls.{differentColumns}
-use Rattle.sheets.specs.WriterChecks.{drop-next}
+use Rattle.sheets.specs.Writer.{drop-next}
 use borrow.Author.Needs.{needs}
 use Rattle.sheets.proofs.writer.checks.different_columns.Statement.{statement}
 use Rattle.sheets.proofs.writer.checks.different_columns.Tie as tie
@@ -52,6 +52,17 @@ found c =
     let e = c .before .before .before .before .before in
     c .contains .ensures ∙ ap (contains (x e)) (take-all (length (columns e) - (i e + 1)) (rest e) (rw length-drop (le-refl _)))
 
+-- column i is in 1..m
+module _ (c : tie.Else2 Inv-loop μ-loop) where
+  abbrev turn : tie.In-loop Inv-loop μ-loop
+  turn = c .before .before .before
+
+  low : leb 1 (x turn) ≡ true
+  low = le-leb 1 (x turn) (c .before .if1 .left)
+
+  high : leb (x turn) (m turn) ≡ true
+  high = le-leb (x turn) (m turn) (c .if2 .left)
+
 loop-holds : tie.Need-loop-holds Inv-loop μ-loop
 loop-holds c = (omega arith, refl)
 
@@ -89,18 +100,16 @@ contains-requires c κs = search needs
 
 returns-3 : tie.Need-returns-3 Inv-loop μ-loop
 returns-3 c =
-    let e = c .before .before .before .before .before .before in
-    rw (left e, le-leb 1 (x e) (c .before .before .before .before .if1 .left), le-leb (x e) (m e) (c .before .before .before .if2 .left), sym (found (c .before)) ∙ c .if3 .taken)
+    let e = c .before .before .before in
+    rw (left (turn e), low e, high e, sym (found (c .before)) ∙ c .if3 .taken)
 
 loop-less : tie.Need-loop-less Inv-loop μ-loop
 loop-less c = search needs
 
 loop-again : tie.Need-loop-again Inv-loop μ-loop
 loop-again c =
-    let e = c .before .before .before .before .before .before in (
-      omega arith,
-      rw (left e, le-leb 1 (x e) (c .before .before .before .before .if1 .left), le-leb (x e) (m e) (c .before .before .before .if2 .left), sym (found (c .before)) ∙ c .if3 .left),
-    )
+    let e = c .before .before .before in
+    (omega arith, rw (left (turn e), low e, high e, sym (found (c .before)) ∙ c .if3 .left))
 
 returns-4 : tie.Need-returns-4 Inv-loop μ-loop
 unfolding differentColumns

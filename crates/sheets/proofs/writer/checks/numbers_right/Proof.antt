@@ -30,7 +30,8 @@ module _ (c : tie.Start) where
   abbrev unused : Bool
   unused = isZero (drop (c .args .count * 321) (take 5136 (now (c .args .relations))))
 
-  all-tests : numbersRight z (c .args .count) (now (c .args .rows)) (now (c .args .relations)) ≡ ((rowTest (span z) && relationTest (span z)) && unused)
+  all-tests : numbersRight z (c .args .count) (now (c .args .rows)) (now (c .args .relations))
+      ≡ ((rowTest (span z) && relationTest (span z)) && unused)
   all-tests = sym (numbers-right z (c .args .count) (now (c .args .rows)) (now (c .args .relations)))
 
 rows-tested : (c : tie.After-rows-right) → rowTest (c .before .before) (span (z (c .before .before))) ≡ c .rows-right .result
@@ -38,7 +39,9 @@ rows-tested c = sym (c .rows-right .ensures ∙ ap (rowTest (c .before .before))
 
 relations-tested : (c : tie.After-relations-right)
     → relationTest (c .before .before .before .before) (span (z (c .before .before .before .before))) ≡ c .relations-right .result
-relations-tested c = sym (c .relations-right .ensures ∙ ap (relationTest (c .before .before .before .before)) (c .before .before .before .span .ensures))
+relations-tested c =
+    let spanned = c .before .before .before in
+    sym (c .relations-right .ensures ∙ ap (relationTest (spanned .before)) (spanned .span .ensures))
 
 span-requires : tie.Need-span-requires
 span-requires c κs = search needs
@@ -49,7 +52,8 @@ rows-right-requires c κs = search needs
 returns : tie.Need-returns
 returns c =
     let start = c .before .before .before in
-    sym (all-tests start ∙ ap (λ b. (b && relationTest start (span (z start))) && unused start) (rows-tested (c .before) ∙ not-true _ (c .if1 .taken)))
+    let rows = rows-tested (c .before) ∙ not-true _ (c .if1 .taken) in
+    sym (all-tests start ∙ ap (λ b. (b && relationTest start (span (z start))) && unused start) rows)
 
 relations-right-requires : tie.Need-relations-right-requires
 relations-right-requires c κs = search needs

@@ -1,8 +1,7 @@
 -- `sheets::writer::checks::order_right` meets its contract: none, or columns and zeros past them.
 -- Assumes nothing.
-use mathlib.Core.Path.{_≡_, sym, _∙_, ap}
-use mathlib.Core.List.{List}
-use Prim.Native.Nat.{ℕ, _-_}
+use mathlib.Core.Path.{sym, _∙_, ap}
+use Prim.Native.Nat.{_-_}
 use native.Mathlib.Nat.{le-refl}
 use native.Mathlib.Omega.{arith}
 use lib.Dec.{eqb}
@@ -50,20 +49,21 @@ all-zero-requires-2 c κs = search needs
 returns-2 : tie.Need-returns-2
 unfolding orderRight
 returns-2 c =
-    let start = c .before .before .before .before .before .before .before .before in
+    let searched = c .before .before .before in
+    let start = searched .before .before .before .before .before in
     let order = start .args .t1 in
     let m = start .args .m in
-    let searched = c .before .before .before in
+    let some = sym (searched .before .before .before .all-zero .ensures) ∙ searched .before .before .if1 .left in
+    let different = sym (searched .different-columns .ensures) ∙ c .before .before .if2 .taken in
     let rest = take-all (length order - m) (drop m order) (rw length-drop (le-refl _)) in
-    rw (sym (searched .before .before .before .all-zero .ensures) ∙ searched .before .before .if1 .left, sym (searched .different-columns .ensures) ∙ c .before .before .if2 .taken)
-    (c .all-zero2 .ensures ∙ ap (every (eqb 0)) rest)
+    rw (some, different) (c .all-zero2 .ensures ∙ ap (every (eqb 0)) rest)
 
 returns-3 : tie.Need-returns-3
 unfolding orderRight
 returns-3 c =
     let searched = c .before in
-    rw (sym (searched .before .before .before .all-zero .ensures) ∙ searched .before .before .if1 .left, sym (searched .different-columns .ensures) ∙ c .if2 .left)
-    (c .if2 .left)
+    let some = sym (searched .before .before .before .all-zero .ensures) ∙ searched .before .before .if1 .left in
+    rw (some, sym (searched .different-columns .ensures) ∙ c .if2 .left) (c .if2 .left)
 
 pub order-right-spec : {M : Type 1} → statement M
 order-right-spec =

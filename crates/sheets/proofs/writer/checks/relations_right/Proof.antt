@@ -2,7 +2,7 @@
 -- Assumes nothing.
 use mathlib.Core.Path.{_≡_, refl, sym, _∙_, ap, ap₂}
 use mathlib.Core.Bool.{Bool, true, false, _&&_}
-use mathlib.Core.List.{List}
+use mathlib.Core.List.{List, _∷_}
 use Prim.Native.Nat.{ℕ, _+_, _*_, _-_, _≤_}
 use native.Mathlib.Omega.{arith}
 use borrow.Author.Tests.{not-true, not-false}
@@ -51,17 +51,18 @@ module _ (c : tie.In-loop Inv-loop μ-loop) where
   abbrev row : Row
   row = rowOf (take 320 (drop (i * 321 + 1) store))
 
-  failed : (small index && rowTest row) ≡ false → false ≡ every right (relationsOf count store)
-  unfolding relationsOf
-  failed e =
-      every-failed right (relationsOf count store) i (held-next relationOf 321 count store i (c .loop-test .taken)) (c .before .loop .inv .1)
-      (sym (relation-at store i _ _) ∙ e)
+  abbrev all : List Relation
+  all = relationsOf count store
 
-  passed : (small index && rowTest row) ≡ true → every right (relationsOf count store) ≡ every right (drop (i + 1) (relationsOf count store))
+  next : drop i all ≡ relationOf (take 321 (drop (i * 321) store)) ∷ drop (i + 1) all
   unfolding relationsOf
-  passed e =
-      every-passed right (relationsOf count store) i (held-next relationOf 321 count store i (c .loop-test .taken)) (c .before .loop .inv .1)
-      (sym (relation-at store i _ _) ∙ e)
+  next = held-next relationOf 321 count store i (c .loop-test .taken)
+
+  failed : (small index && rowTest row) ≡ false → false ≡ every right all
+  failed e = every-failed right all i next (c .before .loop .inv .1) (sym (relation-at store i _ _) ∙ e)
+
+  passed : (small index && rowTest row) ≡ true → every right all ≡ every right (drop (i + 1) all)
+  passed e = every-passed right all i next (c .before .loop .inv .1) (sym (relation-at store i _ _) ∙ e)
 
 -- the test of its n0, and of its row
 index-tested : (c : tie.After-within-bound Inv-loop μ-loop) → c .within-bound .result ≡ small (index (c .before .before))
@@ -123,7 +124,8 @@ returns-3 : tie.Need-returns-3 Inv-loop μ-loop
 unfolding relationsOf
 returns-3 c =
     let args = c .before .before .args in
-    every-end (rightRelation (args .m) (args .span)) (relationsOf (args .count) (now (args .relations))) (c .before .loop .i) (c .before .loop .inv .1)
+    let all = relationsOf (args .count) (now (args .relations)) in
+    every-end (rightRelation (args .m) (args .span)) all (c .before .loop .i) (c .before .loop .inv .1)
     (held-end relationOf 321 (args .count) (now (args .relations)) (c .before .loop .i) (c .loop-test .left))
 
 pub relations-right-spec : {M : Type 1} → statement M

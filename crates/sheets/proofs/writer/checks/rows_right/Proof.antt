@@ -2,7 +2,7 @@
 -- Assumes nothing.
 use mathlib.Core.Path.{_≡_, refl, sym, _∙_, ap}
 use mathlib.Core.Bool.{Bool, true, false}
-use mathlib.Core.List.{List}
+use mathlib.Core.List.{List, _∷_}
 use Prim.Native.Nat.{ℕ, _+_, _*_, _-_, _≤_}
 use native.Mathlib.Omega.{arith}
 use borrow.Author.Tests.{not-true, not-false}
@@ -41,13 +41,18 @@ module _ (c : tie.In-loop Inv-loop μ-loop) where
   abbrev row : Row
   row = rowOf (take 320 (drop (i * 320) store))
 
-  failed : right row ≡ false → false ≡ every right (rowsOf m store)
-  unfolding rowsOf
-  failed = every-failed right (rowsOf m store) i (held-next rowOf 320 m store i (c .loop-test .taken)) (c .before .loop .inv .1)
+  abbrev all : List Row
+  all = rowsOf m store
 
-  passed : right row ≡ true → every right (rowsOf m store) ≡ every right (drop (i + 1) (rowsOf m store))
+  next : drop i all ≡ row ∷ drop (i + 1) all
   unfolding rowsOf
-  passed = every-passed right (rowsOf m store) i (held-next rowOf 320 m store i (c .loop-test .taken)) (c .before .loop .inv .1)
+  next = held-next rowOf 320 m store i (c .loop-test .taken)
+
+  failed : right row ≡ false → false ≡ every right all
+  failed = every-failed right all i next (c .before .loop .inv .1)
+
+  passed : right row ≡ true → every right all ≡ every right (drop (i + 1) all)
+  passed = every-passed right all i next (c .before .loop .inv .1)
 
 -- the test of row i
 tested : (c : tie.After-row-right Inv-loop μ-loop) → c .row-right .result ≡ right (c .before .before) (row (c .before .before))

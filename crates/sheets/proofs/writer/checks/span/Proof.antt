@@ -1,9 +1,9 @@
 -- `sheets::writer::checks::span` meets its contract. Right sizes have t ≤ l, both small.
 -- Assumes nothing.
-use mathlib.Core.Path.{_≡_, sym, _∙_, ap}
+use mathlib.Core.Path.{_≡_}
 use borrow.Author.Needs.{sfits-of}
 use lib.Dec.{T, lit<}
-use lib.IntN.{ℤ, pos, natAbs, _-ℤ_}
+use lib.IntN.{ℤ, _-ℤ_}
 use lib.Signed.{nonNeg, yes-nonNeg}
 use mir.Syntax.{w64}
 use mir.Val.{SFits, toZ, ofZ}
@@ -14,7 +14,6 @@ use Rattle.rules.specs.Stores.{span}
 use Rattle.rules.specs.Layout.{SizeBounds, size-bounds}
 use Rattle.sheets.specs.Writer.{sizesOf}
 use Rattle.sheets.specs.WriterChecks.{difference-size}
-use borrow.Author.Needs.{needs}
 use Rattle.sheets.proofs.writer.checks.span.Statement.{statement}
 use Rattle.sheets.proofs.writer.checks.span.Tie as tie
 
