@@ -1,1 +1,132 @@
 // Reading a sheet: numbers, terms, equations, sections.
+ghost use mathlib.Core.Path.{_≡_};
+ghost use mathlib.Core.Bool.{true};
+ghost use Prim.Native.Nat.{_+_, _^_, _≤_, _<_};
+ghost use lib.ListN.{length, drop};
+ghost use lib.Seq.{slice};
+ghost use Rattle.rules.specs.Rows.{every};
+ghost use Rattle.rules.specs.Numbers.{isSeparator, isDigit, startsRight, beginsNumber, valueFrom, readWord};
+ghost use Rattle.sheets.specs.Reader.{TokenEnd, DigitsStart, unjudged, tokenAnswer};
+
+fn is_separator(b: u8) -> bool
+    ensures { λ r. ⌜ r ≡ isSeparator b ⌝ }
+{
+    b == 32 || b == 10
+}
+
+// "A token runs to the next space or byte 10": where the token that begins at `at` ends.
+fn token_end(bytes: &[u8], at: usize) -> usize
+    requires { ⌜ at ≤ length (now bytes) ⌝ }
+    ensures { λ r. ⌜ TokenEnd (now (bytes .entry)) at r ⌝ }
+{
+    let mut end = at;
+    while end < bytes.len() {
+        if is_separator(bytes[end]) {
+            break;
+        }
+        end += 1;
+    }
+    end
+}
+
+// Where the digits begin of the bytes from `at` up to `end`: after a minus, if they have one.
+fn digits_start(bytes: &[u8], at: usize, end: usize) -> usize
+    requires { ⌜ (at ≤ end) × (end ≤ length (now bytes)) ⌝ }
+    ensures { λ r. ⌜ DigitsStart (now (bytes .entry)) at end r ⌝ }
+{
+    if at < end {
+        if bytes[at] == 45 {
+            return at + 1;
+        }
+    }
+    at
+}
+
+fn is_digit(b: u8) -> bool
+    ensures { λ r. ⌜ r ≡ isDigit b ⌝ }
+{
+    48 <= b && b <= 57
+}
+
+fn all_digits(bytes: &[u8], from: usize, end: usize) -> bool
+    requires { ⌜ (from ≤ end) × (end ≤ length (now bytes)) ⌝ }
+    ensures { λ r. ⌜ r ≡ every isDigit (slice from end (now (bytes .entry))) ⌝ }
+{
+    let mut i = from;
+    while i < end {
+        if !is_digit(bytes[i]) {
+            return false;
+        }
+        i += 1;
+    }
+    true
+}
+
+// "without leading zeros or `-0`": a 0 stands alone and without a sign.
+fn starts_right(bytes: &[u8], signed: bool, from: usize, end: usize) -> bool
+    requires { ⌜ (from ≤ end) × (end ≤ length (now bytes)) ⌝ }
+    ensures { λ r. ⌜ r ≡ startsRight signed (slice from end (now (bytes .entry))) ⌝ }
+{
+    if from == end {
+        return true;
+    }
+    if bytes[from] != 48 {
+        return true;
+    }
+    !signed && from + 1 == end
+}
+
+// Can the bytes from `at` up to `end` begin a number?
+fn begins_number(bytes: &[u8], at: usize, end: usize) -> bool
+    requires { ⌜ (at ≤ end) × (end ≤ length (now bytes)) ⌝ }
+    ensures { λ r. ⌜ r ≡ beginsNumber (slice at end (now (bytes .entry))) ⌝ }
+{
+    let from = digits_start(bytes, at, end);
+    if 10 < end - from {
+        return false;
+    }
+    if !starts_right(bytes, at < from, from, end) {
+        return false;
+    }
+    all_digits(bytes, from, end)
+}
+
+// The value of at most ten digits.
+fn digits_value(bytes: &[u8], from: usize, end: usize) -> u64
+    requires { ⌜ (from ≤ end) × ((end ≤ length (now bytes)) × (end ≤ from + 10)) ⌝ }
+    requires { ⌜ every isDigit (slice from end (now bytes)) ≡ true ⌝ }
+    ensures { λ r. ⌜ (r ≡ valueFrom 0 (slice from end (now (bytes .entry)))) × (r < 10 ^ 10) ⌝ }
+{
+    let mut value: u64 = 0;
+    let mut i = from;
+    while i < end {
+        value = 10 * value + (bytes[i] - 48) as u64;
+        i += 1;
+    }
+    value
+}
+
+// What a token is, over bytes whose separator has been found.
+pub enum Token {
+    Number(i64),
+    NoNumber,
+}
+
+fn read_token(bytes: &[u8], at: usize, end: usize) -> Token
+    requires { ⌜ (at ≤ end) × (end < length (now bytes)) ⌝ }
+    ensures { λ r. ⌜ tokenAnswer r (drop end (now (bytes .entry))) ≡ readWord unjudged (slice at end (now (bytes .entry))) (drop end (now (bytes .entry))) ⌝ }
+{
+    let from = digits_start(bytes, at, end);
+    if from == end {
+        return Token::NoNumber;
+    }
+    if !begins_number(bytes, at, end) {
+        return Token::NoNumber;
+    }
+    let value = digits_value(bytes, from, end) as i64;
+    if from == at {
+        Token::Number(value)
+    } else {
+        Token::Number(-value)
+    }
+}
