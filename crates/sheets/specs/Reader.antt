@@ -5,7 +5,7 @@
 --
 -- Main statements
 --   word-step, word-stop, word-end   a token goes on at a byte that is no separator, and ends at one or at the end of the bytes
-use Prim.Native.Nat.{ℕ, zero, suc, _+_, _-_, _*_, _^_, _≤_, _<_}
+use Prim.Native.Nat.{ℕ, zero, suc, _+_, _-_, _*_, _^_, _≤_, _<_, zero-le}
 use native.Mathlib.Nat.{le-refl, le-of-lt, lt-of-lt-of-le, sub-self, pow-le-pow-right, pow-succ'}
 use native.Mathlib.Numerals.{add-one}
 use native.Mathlib.Omega.{arith}
@@ -20,7 +20,7 @@ use native.Mathlib.Decide.{ℕ-discrete}
 use Rattle.algebra.specs.Polynomials.{T-&&}
 use lib.IntN.{ℤ, pos, negℤ}
 use Rattle.rules.specs.Rows.{every}
-use Rattle.rules.specs.Numbers.{minus, isSeparator, word, afterWord, isDigit, signed, digits, startsRight, beginsNumber, isNumber, valueFrom, numberOf, Read, got, fault, readWord}
+use Rattle.rules.specs.Numbers.{minus, isSeparator, word, afterWord, isDigit, signed, digits, startsRight, beginsNumber, isNumber, valueFrom, numberOf, Read, got, fault, thenRead, judged, readWord, readSeparator, field}
 use Rattle.sheets.specs.declared.reader.Token.{Token}
 use Rattle.sheets.specs.declared.reader.Token.the-variants.{Number, NoNumber}
 
@@ -309,3 +309,122 @@ module _ (bytes : List ℕ) (at end from : ℕ) (inside : end < length bytes) (s
     token-signed e =
         number (negℤ (pos (valueFrom 0 (slice from end bytes))))
         (rw (start .digit-part, start .sign, lt-ltb at from (omega (arith, start .begun))))
+
+-- ---- what a function answers
+
+-- A refusal of 0 gives the value and the bytes from the next place on; another gives that fault, whatever stands beside it.
+unfoldable pub readOf : {A : Type 0} → List ℕ → ℕ → A → ℕ → Read A
+readOf bytes zero v at = got v (drop at bytes)
+readOf bytes (suc n) v at = fault (suc n)
+
+-- What was answered is what was to be read, and the next place is one of the bytes.
+pub record Answers {A : Type 0} (bytes : List ℕ) (refusal : ℕ) (value : A) (at : ℕ) (expected : Read A) : Type 0 where
+  pub answer : readOf bytes refusal value at ≡ expected
+  pub within : at ≤ length bytes
+
+pub fault-of : {A : Type 0} (bytes : List ℕ) (n : ℕ) (v : A) (at : ℕ) → (n ≡ 0 → ⊥) → readOf bytes n v at ≡ fault n
+unfolding readOf
+fault-of bytes zero v at h = absurd (h refl)
+fault-of bytes (suc n) v at h = refl
+
+-- An answer with a refusal, and with none.
+module _ {A : Type 0} {bytes : List ℕ} {refusal : ℕ} {v : A} {at : ℕ} {expected : Read A} where
+  pub answer-fault : (refusal ≡ 0 → ⊥) → Answers bytes refusal v at expected → expected ≡ fault refusal
+  answer-fault h e = sym (e .answer) ∙ fault-of bytes refusal v at h
+
+  pub answer-got : refusal ≡ 0 → Answers bytes refusal v at expected → expected ≡ got v (drop at bytes)
+  unfolding readOf
+  answer-got z e = sym (e .answer) ∙ ap (λ n. readOf bytes n v at) z
+
+  -- A function that refuses with n.
+  pub refuses : {n : ℕ} → (n ≡ 0 → ⊥) → expected ≡ fault n → (refusal ≡ n) × (at ≡ 0) → Answers bytes refusal v at expected
+  refuses {n} h e r =
+      record { answer = ap (λ k. readOf bytes k v at) (r .0) ∙ fault-of bytes n v at h ∙ sym e; within = rw (r .1) zero-le }
+
+-- A function that has read v.
+pub gives : {A : Type 0} {bytes : List ℕ} {v w : A} {at : ℕ} {expected : Read A} → w ≡ v → expected ≡ got v (drop at bytes) → at ≤ length bytes
+    → Answers bytes 0 w at expected
+unfolding readOf
+gives {bytes = bytes} {at = at} same e h = record { answer = ap (λ v. got v (drop at bytes)) same ∙ sym e; within = h }
+
+module _ {A B : Type 0} (f : A → List ℕ → Read B) where
+  pub then-got : {r : Read A} {a : A} {rest : List ℕ} → r ≡ got a rest → thenRead r f ≡ f a rest
+  unfolding thenRead
+  then-got e = ap (λ r. thenRead r f) e
+
+  pub then-fault : {r : Read A} {n : ℕ} → r ≡ fault n → thenRead r f ≡ fault n
+  unfolding thenRead
+  then-fault e = ap (λ r. thenRead r f) e
+
+-- ---- one field
+
+-- A number, not yet judged, and the bytes from its separator on.
+unfoldable pub readNumber : List ℕ → Read ℤ
+unfolding readWord word afterWord
+readNumber bytes = readWord unjudged (word bytes) (afterWord bytes)
+
+-- The answer to reading a number at a place.
+pub record NumberAt (bytes : List ℕ) (at refusal : ℕ) (value : ℤ) (next : ℕ) : Type 0 where
+  pub answer : readOf bytes refusal value next ≡ readNumber (drop at bytes)
+  pub separator : refusal ≡ 0 → next < length bytes
+
+-- What is done with a number that was read: its judgement, and the separator that has to follow.
+unfoldable pub closing : ℕ → ℕ → ℤ → List ℕ → Read ℤ
+unfolding thenRead judged readSeparator
+closing judgement separator v rest = thenRead (judged judgement v rest) (readSeparator separator)
+
+-- Reading a number: the bytes end with the token, before its separator.
+pub number-cut : (bytes : List ℕ) (at end : ℕ) → TokenEnd bytes at end → end ≡ length bytes
+    → readNumber (drop at bytes) ≡ fault (cond (beginsNumber (slice at end bytes)) 4 3)
+unfolding readNumber readWord
+number-cut bytes at end t e = rw (t .token, t .rest, e, drop-length bytes)
+
+pub number-token : (bytes : List ℕ) (at end : ℕ) → TokenEnd bytes at end
+    → readNumber (drop at bytes) ≡ readWord unjudged (slice at end bytes) (drop end bytes)
+unfolding readNumber
+number-token bytes at end t = rw (t .token, t .rest)
+
+pub number-refuses : {bytes : List ℕ} {at refusal : ℕ} {v : ℤ} {next n : ℕ} → (n ≡ 0 → ⊥) → readNumber (drop at bytes) ≡ fault n
+    → (refusal ≡ n) × (next ≡ 0) → NumberAt bytes at refusal v next
+number-refuses {bytes} {v = v} {next = next} h e r =
+    record { answer = refuses {v = v} h e r .answer; separator = λ z. absurd (h (sym (r .0) ∙ z)) }
+
+module _ (bytes : List ℕ) (n : ℕ) (v : ℤ) (at judgement separator : ℕ) where
+  -- The number's own refusal comes first, then its judgement, then the separator.
+  pub closing-refused : (n ≡ 0 → ⊥) → thenRead (readOf bytes n v at) (closing judgement separator) ≡ fault n
+  closing-refused h = then-fault (closing judgement separator) (fault-of bytes n v at h)
+
+  module _ (z : n ≡ 0) where
+    closing-read : thenRead (readOf bytes n v at) (closing judgement separator) ≡ closing judgement separator v (drop at bytes)
+    unfolding readOf
+    closing-read = then-got (closing judgement separator) (ap (λ n. readOf bytes n v at) z)
+
+    pub closing-judged : (judgement ≡ 0 → ⊥) → thenRead (readOf bytes n v at) (closing judgement separator) ≡ fault judgement
+    unfolding closing
+    closing-judged h = closing-read ∙ then-fault (readSeparator separator) (fault-judged judgement h)
+      where
+        fault-judged : (j : ℕ) → (j ≡ 0 → ⊥) → judged j v (drop at bytes) ≡ fault j
+        fault-judged zero h = absurd (h refl)
+        fault-judged (suc j) h = refl
+
+    module _ (j : judgement ≡ 0) (inside : at < length bytes) where
+      closing-separator : thenRead (readOf bytes n v at) (closing judgement separator)
+          ≡ readSeparator separator v (getD bytes at 0 ∷ drop (suc at) bytes)
+      unfolding closing
+      closing-separator =
+          closing-read
+          ∙ then-got (readSeparator separator) (ap (λ k. judged k v (drop at bytes)) j)
+          ∙ ap (readSeparator separator v) (drop-cons bytes at 0 inside)
+
+      pub closing-wrong : (getD bytes at 0 ≡ separator → ⊥) → thenRead (readOf bytes n v at) (closing judgement separator) ≡ fault 3
+      unfolding readSeparator
+      closing-wrong h =
+          closing-separator ∙ ap (λ t. cond t (got v (drop (suc at) bytes)) (fault 3)) (ne-eqb (getD bytes at 0) separator h)
+
+      pub closing-right : getD bytes at 0 ≡ separator
+          → thenRead (readOf bytes n v at) (closing judgement separator) ≡ got v (drop (at + 1) bytes)
+      unfolding readSeparator
+      closing-right e =
+          closing-separator
+          ∙ ap (λ t. cond t (got v (drop (suc at) bytes)) (fault 3)) (eq-eqb (getD bytes at 0) separator e)
+          ∙ ap (λ k. got v (drop k bytes)) (sym (add-one at))

@@ -5,8 +5,8 @@ ghost use Prim.Native.Nat.{_+_, _^_, _≤_, _<_};
 ghost use lib.ListN.{length, drop};
 ghost use lib.Seq.{slice};
 ghost use Rattle.rules.specs.Rows.{every};
-ghost use Rattle.rules.specs.Numbers.{isSeparator, isDigit, startsRight, beginsNumber, valueFrom, readWord};
-ghost use Rattle.sheets.specs.Reader.{TokenEnd, DigitsStart, unjudged, tokenAnswer};
+ghost use Rattle.rules.specs.Numbers.{isSeparator, isDigit, startsRight, beginsNumber, valueFrom, readWord, thenRead};
+ghost use Rattle.sheets.specs.Reader.{TokenEnd, DigitsStart, unjudged, tokenAnswer, NumberAt, Answers, readOf, closing};
 
 fn is_separator(b: u8) -> bool
     ensures { λ r. ⌜ r ≡ isSeparator b ⌝ }
@@ -128,5 +128,67 @@ fn read_token(bytes: &[u8], at: usize, end: usize) -> Token
         Token::Number(value)
     } else {
         Token::Number(-value)
+    }
+}
+
+// A number that was read and the place after it, or a refusal.
+struct NumberRead {
+    refusal: u8,
+    value: i64,
+    at: usize,
+}
+
+fn no_number(refusal: u8) -> NumberRead
+    ensures { λ r. ⌜ (r .refusal ≡ refusal) × (r .at ≡ 0) ⌝ }
+{
+    NumberRead {
+        refusal,
+        value: 0,
+        at: 0,
+    }
+}
+
+// The number at `at`; the place after it is that of its separator. "bytes that end before a token's separator are 4, or 3 if
+// they cannot begin a number"
+fn number_at(bytes: &[u8], at: usize) -> NumberRead
+    requires { ⌜ at ≤ length (now bytes) ⌝ }
+    ensures { λ r. ⌜ NumberAt (now (bytes .entry)) at (r .refusal) (r .value) (r .at) ⌝ }
+{
+    let end = token_end(bytes, at);
+    if end == bytes.len() {
+        if begins_number(bytes, at, end) {
+            return no_number(4);
+        }
+        return no_number(3);
+    }
+    let Token::Number(value) = read_token(bytes, at, end) else {
+        return no_number(3);
+    };
+    NumberRead {
+        refusal: 0,
+        value,
+        at: end,
+    }
+}
+
+// A number that was judged, with its separator: "also a wrong separator" (3).
+fn separated(bytes: &[u8], n: NumberRead, judgement: u8, separator: u8) -> NumberRead
+    requires { ⌜ (n .refusal ≡ 0 → n .at < length (now bytes)) ⌝ }
+    ensures { λ r. ⌜ Answers (now (bytes .entry)) (r .refusal) (r .value) (r .at) (thenRead (readOf (now (bytes .entry)) (n .refusal) (n .value) (n .at)) (closing judgement separator)) ⌝ }
+{
+    if n.refusal != 0 {
+        return no_number(n.refusal);
+    }
+    if judgement != 0 {
+        return no_number(judgement);
+    }
+    let at = n.at;
+    if bytes[at] != separator {
+        return no_number(3);
+    }
+    NumberRead {
+        refusal: 0,
+        value: n.value,
+        at: at + 1,
     }
 }
