@@ -9,7 +9,7 @@ use Prim.Native.Nat.{ℕ, zero, suc, _+_, _-_, _*_, _^_, _≤_, _<_, zero-le}
 use native.Mathlib.Nat.{le-refl, le-of-lt, lt-of-lt-of-le, sub-self, pow-le-pow-right, pow-succ'}
 use native.Mathlib.Numerals.{add-one}
 use native.Mathlib.Omega.{arith}
-use mathlib.Core.Path.{_≡_, refl, sym, ap, _∙_, subst}
+use mathlib.Core.Path.{_≡_, refl, sym, ap, ap₂, _∙_, subst}
 use mathlib.Core.Bool.{Bool, true, false, _&&_, _||_, not, cond}
 use mathlib.Core.List.{List, [], _∷_, _++_, append-nil}
 use lib.ListN.{length, getD, take, drop, drop-of-length-le}
@@ -17,10 +17,15 @@ use lib.Seq.{slice, slice-empty, slice-cons, length-slice, drop-cons, drop-appen
 use lib.Dec.{T, eqb, leb, ltb, leb→le, lit<}
 use borrow.Author.Tests.{lt-ltb, le-ltb, eq-eqb, ne-eqb, lt-leb, le-leb, leb-true}
 use native.Mathlib.Decide.{ℕ-discrete}
-use Rattle.algebra.specs.Polynomials.{T-&&}
-use lib.IntN.{ℤ, pos, negℤ}
+use Rattle.algebra.specs.Integers.{natAbs-zero, -ℤ-zero}
+use Rattle.algebra.specs.Polynomials.{isZeroℤ, T-&&}
+use lib.IntN.{ℤ, pos, negℤ, natAbs, _-ℤ_, +ℤ-invr}
+use lib.Signed.{leZ, leZ-yes, _≤ℤ_}
+use Rattle.algebra.specs.Order.{≤ℤ-trans, natAbs-≤-iff}
 use Rattle.rules.specs.Rows.{every}
 use Rattle.rules.specs.Numbers.{minus, isSeparator, word, afterWord, isDigit, signed, digits, startsRight, beginsNumber, isNumber, valueFrom, numberOf, Read, got, fault, thenRead, judged, readWord, readSeparator, field}
+use Rattle.rules.specs.Stores.{Sizes}
+use Rattle.sheets.specs.declared.reader.Sizes as CodeSizes
 use Rattle.sheets.specs.declared.reader.Token.{Token}
 use Rattle.sheets.specs.declared.reader.Token.the-variants.{Number, NoNumber}
 
@@ -310,6 +315,12 @@ module _ (bytes : List ℕ) (at end from : ℕ) (inside : end < length bytes) (s
         number (negℤ (pos (valueFrom 0 (slice from end bytes))))
         (rw (start .digit-part, start .sign, lt-ltb at from (omega (arith, start .begun))))
 
+-- ---- sizes
+
+-- The sizes of `rules` that a value of the code's type gives.
+unfoldable pub sizesOf : CodeSizes.Sizes → Sizes
+sizesOf z = record { m = z .m; l = z .l; t = z .t }
+
 -- ---- what a function answers
 
 -- A refusal of 0 gives the value and the bytes from the next place on; another gives that fault, whatever stands beside it.
@@ -340,6 +351,9 @@ module _ {A : Type 0} {bytes : List ℕ} {refusal : ℕ} {v : A} {at : ℕ} {exp
   pub refuses : {n : ℕ} → (n ≡ 0 → ⊥) → expected ≡ fault n → (refusal ≡ n) × (at ≡ 0) → Answers bytes refusal v at expected
   refuses {n} h e r =
       record { answer = ap (λ k. readOf bytes k v at) (r .0) ∙ fault-of bytes n v at h ∙ sym e; within = rw (r .1) zero-le }
+
+  pub answers-as : {other : Read A} → Answers bytes refusal v at expected → expected ≡ other → Answers bytes refusal v at other
+  answers-as a e = record { answer = a .answer ∙ e; within = a .within }
 
 -- A function that has read v.
 pub gives : {A : Type 0} {bytes : List ℕ} {v w : A} {at : ℕ} {expected : Read A} → w ≡ v → expected ≡ got v (drop at bytes) → at ≤ length bytes
@@ -428,3 +442,62 @@ module _ (bytes : List ℕ) (n : ℕ) (v : ℤ) (at judgement separator : ℕ) w
           closing-separator
           ∙ ap (λ t. cond t (got v (drop (suc at) bytes)) (fault 3)) (eq-eqb (getD bytes at 0) separator e)
           ∙ ap (λ k. got v (drop k bytes)) (sym (add-one at))
+
+-- A field is a number, its judgement and its separator.
+module _ (judge follow : ℤ → ℕ) where
+  closing-field : (v : ℤ) (rest : List ℕ) (j : ℕ)
+      → closing j (follow v) v rest ≡ thenRead (judged j v rest) (λ u more. readSeparator (follow u) u more)
+  unfolding closing thenRead judged
+  closing-field v rest zero = refl
+  closing-field v rest (suc j) = refl
+
+  field-split : (w rest : List ℕ)
+      → thenRead (readWord unjudged w rest) (λ v more. closing (judge v) (follow v) v more)
+      ≡ thenRead (readWord judge w rest) (λ v more. readSeparator (follow v) v more)
+  unfolding thenRead readWord unjudged judged
+  field-split w [] = refl
+  field-split w (b ∷ rest) = by (isNumber w)
+    where
+      by : (t : Bool)
+          → thenRead (cond t (got (numberOf w) (b ∷ rest)) (fault 3)) (λ v more. closing (judge v) (follow v) v more)
+          ≡ thenRead (cond t (judged (judge (numberOf w)) (numberOf w) (b ∷ rest)) (fault 3)) (λ v more. readSeparator (follow v) v more)
+      by true = closing-field (numberOf w) (b ∷ rest) (judge (numberOf w))
+      by false = refl
+
+  closing-of : (bytes : List ℕ) (n : ℕ) (v : ℤ) (at : ℕ)
+      → thenRead (readOf bytes n v at) (closing (judge v) (follow v))
+      ≡ thenRead (readOf bytes n v at) (λ u more. closing (judge u) (follow u) u more)
+  unfolding thenRead readOf
+  closing-of bytes zero v at = refl
+  closing-of bytes (suc n) v at = refl
+
+  -- What `separated` gives, where it is told the number's own judgement and separator.
+  pub field-of : {bytes : List ℕ} {at n : ℕ} {v : ℤ} {next judgement separator : ℕ} → NumberAt bytes at n v next
+      → judgement ≡ judge v → separator ≡ follow v
+      → thenRead (readOf bytes n v next) (closing judgement separator) ≡ field judge follow (drop at bytes)
+  unfolding field readNumber
+  field-of {bytes} {at} {n} {v} {next} read j s =
+      ap₂ (λ j s. thenRead (readOf bytes n v next) (closing j s)) j s
+      ∙ closing-of bytes n v next
+      ∙ ap (λ r. thenRead r (λ u more. closing (judge u) (follow u) u more)) (read .answer)
+      ∙ field-split (word (drop at bytes)) (afterWord (drop at bytes))
+
+-- ---- judgements
+
+leZ-true : {a b : ℤ} → leZ a b ≡ true → a ≤ℤ b
+leZ-true e = leZ-yes (subst T (sym e) tt)
+
+-- Where -n ≤ a ≤ b ≤ n, the size of a is at most n.
+pub size-between : (b a : ℤ) (n : ℕ) → natAbs b ≤ n → (leZ (negℤ (pos n)) a && leZ a b) ≡ true → natAbs a ≤ n
+size-between b a n h e =
+    let two = both-true (leZ (negℤ (pos n)) a) (leZ a b) e in
+    natAbs-≤-iff a .1 (leZ-true (two .0), ≤ℤ-trans (leZ-true (two .1)) (natAbs-≤-iff b .0 h .1))
+
+-- A difference is zero exactly if its parts are equal.
+pub difference-zero : (a b : ℤ) → a ≡ b → isZeroℤ (a -ℤ b) ≡ true
+unfolding isZeroℤ
+difference-zero a b e = rw (e, +ℤ-invr b)
+
+pub difference-nonzero : (a b : ℤ) → (a ≡ b → ⊥) → isZeroℤ (a -ℤ b) ≡ false
+unfolding isZeroℤ
+difference-nonzero a b h = ne-eqb (natAbs (a -ℤ b)) 0 (λ e. h (-ℤ-zero a b (natAbs-zero e)))

@@ -1,12 +1,22 @@
 // Reading a sheet: numbers, terms, equations, sections.
 ghost use mathlib.Core.Path.{_≡_};
-ghost use mathlib.Core.Bool.{true};
+ghost use mathlib.Core.Bool.{true, _&&_};
 ghost use Prim.Native.Nat.{_+_, _^_, _≤_, _<_};
 ghost use lib.ListN.{length, drop};
 ghost use lib.Seq.{slice};
 ghost use Rattle.rules.specs.Rows.{every};
-ghost use Rattle.rules.specs.Numbers.{isSeparator, isDigit, startsRight, beginsNumber, valueFrom, readWord, thenRead};
-ghost use Rattle.sheets.specs.Reader.{TokenEnd, DigitsStart, unjudged, tokenAnswer, NumberAt, Answers, readOf, closing};
+ghost use Rattle.rules.specs.Numbers.{isSeparator, isDigit, startsRight, beginsNumber, valueFrom, readWord, thenRead, field, between, judgeSmall};
+ghost use Rattle.rules.specs.Sheets.{judgeLowest, judgeLast, judgeBlock, judgeColumn, judgeOrderCount, afterCount, always};
+ghost use lib.IntN.{natAbs};
+ghost use lib.Signed.{leZ};
+ghost use Rattle.sheets.specs.Reader.{TokenEnd, DigitsStart, unjudged, tokenAnswer, NumberAt, Answers, readOf, closing, sizesOf};
+
+// The sizes of a system: m unknowns and equations, blocks t to l.
+pub struct Sizes {
+    pub m: usize,
+    pub l: i64,
+    pub t: i64,
+}
 
 fn is_separator(b: u8) -> bool
     ensures { λ r. ⌜ r ≡ isSeparator b ⌝ }
@@ -191,4 +201,112 @@ fn separated(bytes: &[u8], n: NumberRead, judgement: u8, separator: u8) -> Numbe
         value: n.value,
         at: at + 1,
     }
+}
+
+// ---- judgements: 0, or the refusal of a number's value
+
+fn is_between(low: i64, high: i64, value: i64) -> bool
+    ensures { λ r. ⌜ r ≡ (leZ low value && leZ value high) ⌝ }
+{
+    low <= value && value <= high
+}
+
+// "2 a size, block, column or count outside its range"
+fn judge_between(low: i64, high: i64, value: i64) -> u8
+    ensures { λ r. ⌜ r ≡ between low high value ⌝ }
+{
+    if is_between(low, high, value) { 0 } else { 2 }
+}
+
+// "-64 ≤ t ≤ l ≤ 64. D = l - t is 0 to 4."
+fn judge_lowest(l: i64, t: i64) -> u8
+    requires { ⌜ natAbs l ≤ 64 ⌝ }
+    ensures { λ r. ⌜ r ≡ judgeLowest l t ⌝ }
+{
+    if is_between(-64, l, t) {
+        if l - t <= 4 {
+            return 0;
+        }
+    }
+    2
+}
+
+// "5 a coefficient or n0 outside ±C"
+fn judge_small(value: i64) -> u8
+    ensures { λ r. ⌜ r ≡ judgeSmall value ⌝ }
+{
+    if integers::within_bound(value) { 0 } else { 5 }
+}
+
+// "The last coefficient of a term is nonzero."
+fn judge_last(value: i64) -> u8
+    ensures { λ r. ⌜ r ≡ judgeLast value ⌝ }
+{
+    if integers::within_bound(value) {
+        if value == 0 {
+            return 3;
+        }
+        return 0;
+    }
+    5
+}
+
+// "Terms go by falling s, then rising c." The term before stood at block `before` and column `last`.
+fn judge_block(z: Sizes, before: i64, s: i64) -> u8
+    ensures { λ r. ⌜ r ≡ judgeBlock (sizesOf z) before s ⌝ }
+{
+    if is_between(z.t, z.l, s) {
+        if s <= before {
+            return 0;
+        }
+        return 3;
+    }
+    2
+}
+
+fn judge_column(z: Sizes, before: i64, last: usize, s: i64, c: i64) -> u8
+    requires { ⌜ (z .m ≤ 4) × (last ≤ 4) ⌝ }
+    ensures { λ r. ⌜ r ≡ judgeColumn (sizesOf z) before last s c ⌝ }
+{
+    if is_between(1, z.m as i64, c) {
+        if s < before {
+            return 0;
+        }
+        if (last as i64) < c {
+            return 0;
+        }
+        return 3;
+    }
+    2
+}
+
+fn judge_order_count(m: usize, value: i64) -> u8
+    requires { ⌜ m ≤ 4 ⌝ }
+    ensures { λ r. ⌜ r ≡ judgeOrderCount m value ⌝ }
+{
+    if value == 0 {
+        return 0;
+    }
+    if value == m as i64 {
+        return 0;
+    }
+    2
+}
+
+// The separator after a count: the line ends if nothing is counted.
+fn after_count(value: i64) -> u8
+    ensures { λ r. ⌜ r ≡ afterCount value ⌝ }
+{
+    if value == 0 { 10 } else { 32 }
+}
+
+// ---- fields: a number, its judgement, its separator
+
+fn number_between(bytes: &[u8], at: usize, low: i64, high: i64, separator: u8) -> NumberRead
+    requires { ⌜ at ≤ length (now bytes) ⌝ }
+    ensures { λ r. ⌜ Answers (now (bytes .entry)) (r .refusal) (r .value) (r .at) (field (between low high) (always separator) (drop at (now (bytes .entry)))) ⌝ }
+{
+    let n = number_at(bytes, at);
+    let judgement = judge_between(low, high, n.value);
+    separated(bytes, n, judgement, separator)
 }
