@@ -19,12 +19,13 @@ use borrow.Author.Tests.{lt-ltb, le-ltb, eq-eqb, ne-eqb, lt-leb, le-leb, leb-tru
 use native.Mathlib.Decide.{ℕ-discrete}
 use Rattle.algebra.specs.Integers.{natAbs-zero, -ℤ-zero}
 use Rattle.algebra.specs.Polynomials.{isZeroℤ, T-&&}
-use lib.IntN.{ℤ, pos, negℤ, natAbs, _-ℤ_, +ℤ-invr}
-use lib.Signed.{leZ, leZ-yes, _≤ℤ_}
+use lib.IntN.{ℤ, pos, negℤ, negsuc, natAbs, _-ℤ_, +ℤ-invr}
+use lib.Signed.{leZ, nonNeg, leZ-yes, _≤ℤ_}
 use Rattle.algebra.specs.Order.{≤ℤ-trans, natAbs-≤-iff}
 use Rattle.rules.specs.Rows.{every}
 use Rattle.rules.specs.Numbers.{minus, isSeparator, word, afterWord, isDigit, signed, digits, startsRight, beginsNumber, isNumber, valueFrom, numberOf, Read, got, fault, thenRead, judged, readWord, readSeparator, field}
 use Rattle.rules.specs.Stores.{Sizes}
+use Rattle.rules.specs.Sheets.{contains}
 use Rattle.sheets.specs.declared.reader.Sizes as CodeSizes
 use Rattle.sheets.specs.declared.reader.Token.{Token}
 use Rattle.sheets.specs.declared.reader.Token.the-variants.{Number, NoNumber}
@@ -501,3 +502,32 @@ difference-zero a b e = rw (e, +ℤ-invr b)
 pub difference-nonzero : (a b : ℤ) → (a ≡ b → ⊥) → isZeroℤ (a -ℤ b) ≡ false
 unfolding isZeroℤ
 difference-nonzero a b h = ne-eqb (natAbs (a -ℤ b)) 0 (λ e. h (-ℤ-zero a b (natAbs-zero e)))
+
+-- ---- the column order
+
+-- The first i columns of an order, the latest first: the columns that stand already.
+unfoldable pub takenOf : List ℕ → ℕ → List ℕ
+takenOf order zero = []
+takenOf order (suc i) = getD order i 0 ∷ takenOf order i
+
+module _ (c : ℕ) (order : List ℕ) (i : ℕ) (some : 0 < i) where
+  taken-step : contains c (takenOf order i) ≡ (eqb c (getD order (i - 1) 0) || contains c (takenOf order (i - 1)))
+  unfolding takenOf contains
+  taken-step =
+      let e : i ≡ suc (i - 1) = omega arith in
+      ap (λ k. contains c (takenOf order k)) e
+
+  pub taken-here : getD order (i - 1) 0 ≡ c → contains c (takenOf order i) ≡ true
+  taken-here e = taken-step ∙ ap (λ t. t || contains c (takenOf order (i - 1))) (eq-eqb c (getD order (i - 1) 0) (sym e))
+
+  pub taken-before : (getD order (i - 1) 0 ≡ c → ⊥) → contains c (takenOf order i) ≡ contains c (takenOf order (i - 1))
+  taken-before h =
+      taken-step ∙ ap (λ t. t || contains c (takenOf order (i - 1))) (ne-eqb c (getD order (i - 1) 0) (λ e. h (sym e)))
+
+-- A number between bounds that are not negative is the one that its size gives.
+pub between-size : (low high : ℕ) (v : ℤ) → (leZ (pos low) v && leZ v (pos high)) ≡ true
+    → T (nonNeg v) × (low ≤ natAbs v) × (natAbs v ≤ high)
+between-size low high (pos n) e =
+    let two = both-true (leb low n) (leb n high) e in
+    (tt, leb-true low n (two .0), leb-true n high (two .1))
+between-size low high (negsuc n) e = absurd (subst T (sym e) tt)

@@ -6,10 +6,10 @@ ghost use lib.ListN.{length, drop};
 ghost use lib.Seq.{slice};
 ghost use Rattle.rules.specs.Rows.{every};
 ghost use Rattle.rules.specs.Numbers.{isSeparator, isDigit, startsRight, beginsNumber, valueFrom, readWord, thenRead, field, between, judgeSmall};
-ghost use Rattle.rules.specs.Sheets.{judgeLowest, judgeLast, judgeBlock, judgeColumn, judgeOrderCount, afterCount, always};
-ghost use lib.IntN.{natAbs};
+ghost use Rattle.rules.specs.Sheets.{judgeLowest, judgeLast, judgeBlock, judgeColumn, judgeOrderCount, afterCount, always, contains, judgeOrder};
+ghost use lib.IntN.{pos, natAbs};
 ghost use lib.Signed.{leZ};
-ghost use Rattle.sheets.specs.Reader.{TokenEnd, DigitsStart, unjudged, tokenAnswer, NumberAt, Answers, readOf, closing, sizesOf};
+ghost use Rattle.sheets.specs.Reader.{TokenEnd, DigitsStart, unjudged, tokenAnswer, NumberAt, Answers, readOf, closing, sizesOf, takenOf};
 
 // The sizes of a system: m unknowns and equations, blocks t to l.
 pub struct Sizes {
@@ -308,5 +308,110 @@ fn number_between(bytes: &[u8], at: usize, low: i64, high: i64, separator: u8) -
 {
     let n = number_at(bytes, at);
     let judgement = judge_between(low, high, n.value);
+    separated(bytes, n, judgement, separator)
+}
+
+// A count of 0 to `most` things.
+fn count_at(bytes: &[u8], at: usize, most: i64) -> NumberRead
+    requires { ⌜ at ≤ length (now bytes) ⌝ }
+    ensures { λ r. ⌜ Answers (now (bytes .entry)) (r .refusal) (r .value) (r .at) (field (between (pos 0) most) afterCount (drop at (now (bytes .entry)))) ⌝ }
+{
+    let n = number_at(bytes, at);
+    let judgement = judge_between(0, most, n.value);
+    let separator = after_count(n.value);
+    separated(bytes, n, judgement, separator)
+}
+
+fn lowest_at(bytes: &[u8], at: usize, l: i64) -> NumberRead
+    requires { ⌜ (at ≤ length (now bytes)) × (natAbs l ≤ 64) ⌝ }
+    ensures { λ r. ⌜ Answers (now (bytes .entry)) (r .refusal) (r .value) (r .at) (field (judgeLowest l) (always 10) (drop at (now (bytes .entry)))) ⌝ }
+{
+    let n = number_at(bytes, at);
+    let judgement = judge_lowest(l, n.value);
+    separated(bytes, n, judgement, 10)
+}
+
+// A coefficient that is not the last, or n0.
+fn small_at(bytes: &[u8], at: usize) -> NumberRead
+    requires { ⌜ at ≤ length (now bytes) ⌝ }
+    ensures { λ r. ⌜ Answers (now (bytes .entry)) (r .refusal) (r .value) (r .at) (field judgeSmall (always 32) (drop at (now (bytes .entry)))) ⌝ }
+{
+    let n = number_at(bytes, at);
+    let judgement = judge_small(n.value);
+    separated(bytes, n, judgement, 32)
+}
+
+fn last_at(bytes: &[u8], at: usize, separator: u8) -> NumberRead
+    requires { ⌜ at ≤ length (now bytes) ⌝ }
+    ensures { λ r. ⌜ Answers (now (bytes .entry)) (r .refusal) (r .value) (r .at) (field judgeLast (always separator) (drop at (now (bytes .entry)))) ⌝ }
+{
+    let n = number_at(bytes, at);
+    let judgement = judge_last(n.value);
+    separated(bytes, n, judgement, separator)
+}
+
+fn block_at(bytes: &[u8], at: usize, z: Sizes, before: i64) -> NumberRead
+    requires { ⌜ at ≤ length (now bytes) ⌝ }
+    ensures { λ r. ⌜ Answers (now (bytes .entry)) (r .refusal) (r .value) (r .at) (field (judgeBlock (sizesOf z) before) (always 32) (drop at (now (bytes .entry)))) ⌝ }
+{
+    let n = number_at(bytes, at);
+    let judgement = judge_block(z, before, n.value);
+    separated(bytes, n, judgement, 32)
+}
+
+fn column_at(bytes: &[u8], at: usize, z: Sizes, before: i64, last: usize, s: i64) -> NumberRead
+    requires { ⌜ (at ≤ length (now bytes)) × ((z .m ≤ 4) × (last ≤ 4)) ⌝ }
+    ensures { λ r. ⌜ Answers (now (bytes .entry)) (r .refusal) (r .value) (r .at) (field (judgeColumn (sizesOf z) before last s) (always 32) (drop at (now (bytes .entry)))) ⌝ }
+{
+    let n = number_at(bytes, at);
+    let judgement = judge_column(z, before, last, s, n.value);
+    separated(bytes, n, judgement, 32)
+}
+
+fn order_count_at(bytes: &[u8], at: usize, m: usize) -> NumberRead
+    requires { ⌜ (at ≤ length (now bytes)) × (m ≤ 4) ⌝ }
+    ensures { λ r. ⌜ Answers (now (bytes .entry)) (r .refusal) (r .value) (r .at) (field (judgeOrderCount m) afterCount (drop at (now (bytes .entry)))) ⌝ }
+{
+    let n = number_at(bytes, at);
+    let judgement = judge_order_count(m, n.value);
+    let separator = after_count(n.value);
+    separated(bytes, n, judgement, separator)
+}
+
+// Is c one of the first `taken` columns of the order?
+fn is_taken(order: &[usize], taken: usize, c: usize) -> bool
+    requires { ⌜ taken ≤ length (now order) ⌝ }
+    ensures { λ r. ⌜ r ≡ contains c (takenOf (now (order .entry)) taken) ⌝ }
+{
+    let mut i = taken;
+    while 0 < i {
+        i -= 1;
+        if order[i] == c {
+            return true;
+        }
+    }
+    false
+}
+
+// "a permutation of 1..m": a column outside 1..m, or one that stands already, is a wrong order line (2).
+fn judge_order(m: usize, order: &[usize], taken: usize, value: i64) -> u8
+    requires { ⌜ (m ≤ 4) × (taken ≤ length (now order)) ⌝ }
+    ensures { λ r. ⌜ r ≡ judgeOrder m (takenOf (now (order .entry)) taken) value ⌝ }
+{
+    if is_between(1, m as i64, value) {
+        if is_taken(order, taken, value as usize) {
+            return 2;
+        }
+        return 0;
+    }
+    2
+}
+
+fn order_column_at(bytes: &[u8], at: usize, m: usize, order: &[usize], taken: usize, separator: u8) -> NumberRead
+    requires { ⌜ (at ≤ length (now bytes)) × ((m ≤ 4) × (taken ≤ length (now order))) ⌝ }
+    ensures { λ r. ⌜ Answers (now (bytes .entry)) (r .refusal) (r .value) (r .at) (field (judgeOrder m (takenOf (now (order .entry)) taken)) (always separator) (drop at (now (bytes .entry)))) ⌝ }
+{
+    let n = number_at(bytes, at);
+    let judgement = judge_order(m, order, taken, n.value);
     separated(bytes, n, judgement, separator)
 }
