@@ -6,14 +6,14 @@
 -- Main statements
 --   word-step, word-stop, word-end   a token goes on at a byte that is no separator, and ends at one or at the end of the bytes
 use Prim.Native.Nat.{ℕ, zero, suc, _+_, _-_, _*_, _^_, _≤_, _<_, zero-le}
-use native.Mathlib.Nat.{le-refl, le-of-lt, lt-of-lt-of-le, sub-self, pow-le-pow-right, pow-succ'}
+use native.Mathlib.Nat.{suc-inj, suc-ne-zero, le-refl, le-of-lt, lt-of-lt-of-le, sub-self, pow-le-pow-right, pow-succ'}
 use native.Mathlib.Numerals.{add-one}
 use native.Mathlib.Omega.{arith}
 use mathlib.Core.Path.{_≡_, refl, sym, ap, ap₂, _∙_, subst}
 use mathlib.Core.Bool.{Bool, true, false, _&&_, _||_, not, cond}
-use mathlib.Core.List.{List, [], _∷_, _++_, append-nil}
-use lib.ListN.{length, getD, take, drop, drop-of-length-le}
-use lib.Seq.{slice, slice-empty, slice-cons, length-slice, drop-cons, drop-append-le, append-snoc, take-suc, length-take-le, drop-length}
+use mathlib.Core.List.{List, [], _∷_, _++_, append-nil, tail}
+use lib.ListN.{length, getD, take, drop, set, length-set, drop-of-length-le}
+use lib.Seq.{slice, slice-empty, slice-cons, length-slice, drop-cons, drop-append-le, append-snoc, take-suc, take-suc-set, length-take-le, drop-length}
 use lib.Dec.{T, eqb, leb, ltb, leb→le, lit<}
 use borrow.Author.Tests.{lt-ltb, le-ltb, eq-eqb, ne-eqb, lt-leb, le-leb, leb-true}
 use native.Mathlib.Decide.{ℕ-discrete}
@@ -23,9 +23,10 @@ use lib.IntN.{ℤ, pos, negℤ, negsuc, natAbs, _-ℤ_, +ℤ-invr}
 use lib.Signed.{leZ, nonNeg, leZ-yes, _≤ℤ_}
 use Rattle.algebra.specs.Order.{≤ℤ-trans, natAbs-≤-iff}
 use Rattle.rules.specs.Rows.{every}
-use Rattle.rules.specs.Numbers.{minus, isSeparator, word, afterWord, isDigit, signed, digits, startsRight, beginsNumber, isNumber, valueFrom, numberOf, Read, got, fault, thenRead, judged, readWord, readSeparator, field}
+use Rattle.rules.specs.Numbers.{minus, isSeparator, word, afterWord, isDigit, signed, digits, startsRight, beginsNumber, isNumber, valueFrom, numberOf, Read, got, fault, thenRead, judged, readWord, readSeparator, field, judgeSmall, space}
+use Rattle.rules.specs.Calls.{padTo}
 use Rattle.rules.specs.Stores.{Sizes}
-use Rattle.rules.specs.Sheets.{contains}
+use Rattle.rules.specs.Sheets.{contains, judgeLast, always, readCoefficients}
 use Rattle.sheets.specs.declared.reader.Sizes as CodeSizes
 use Rattle.sheets.specs.declared.reader.Token.{Token}
 use Rattle.sheets.specs.declared.reader.Token.the-variants.{Number, NoNumber}
@@ -531,3 +532,114 @@ between-size low high (pos n) e =
     let two = both-true (leb low n) (leb n high) e in
     (tt, leb-true low n (two .0), leb-true n high (two .1))
 between-size low high (negsuc n) e = absurd (subst T (sym e) tt)
+
+-- ---- a list of known length, read into an array
+
+module _ {A : Type 0} (n : ℕ) (v : A) where
+  -- What was read as n members, v for those that it lacks.
+  unfoldable pub padded : Read (List A) → Read (List A)
+  unfolding thenRead padTo
+  padded r = thenRead r λ l more. got (padTo n v l) more
+
+  -- The same where the first i members of the array p come first.
+  unfoldable pub prefixed : List A → ℕ → Read (List A) → Read (List A)
+  unfolding thenRead padTo
+  prefixed p i r = thenRead r λ l more. got (padTo n v (take i p ++ l)) more
+
+  padTo-set : (k : ℕ) (a : A) (i : ℕ) (p : List A) → length p ≡ k → p ≡ padTo k v (take i p)
+      → set p i a ≡ padTo k v (take (suc i) (set p i a))
+  unfolding padTo
+  padTo-set zero a i [] e h = refl
+  padTo-set (suc k) a i [] e h = absurd (suc-ne-zero k (sym e))
+  padTo-set zero a i (x ∷ p) e h = absurd (suc-ne-zero (length p) e)
+  padTo-set (suc k) a zero (x ∷ p) e h = ap (λ l. a ∷ l) (ap tail h)
+  padTo-set (suc k) a (suc i) (x ∷ p) e h = ap (λ l. x ∷ l) (padTo-set k a i p (suc-inj e) (ap tail h))
+
+  one-more : (p : List A) (i : ℕ) (a : A) → i < length p → (r : Read (List A))
+      → prefixed p i (thenRead r (λ l more. got (a ∷ l) more)) ≡ prefixed (set p i a) (i + 1) r
+  unfolding prefixed thenRead
+  one-more p i a h (fault k) = refl
+  one-more p i a h (got l more) =
+      ap (λ l. got (padTo n v l) more)
+      (sym (ap (λ t. t ++ l) (ap (λ k. take k (set p i a)) (add-one i) ∙ take-suc-set p i a h) ∙ append-snoc (take i p) a l))
+
+  -- The array p holds the first i members of what was to be read and v after them; `rest` reads the others from the place `next`.
+  pub record FilledTo (whole : Read (List A)) (bytes : List ℕ) (p : List A) (i next : ℕ) (rest : Read (List A)) : Type 0 where
+    pub within : next ≤ length bytes
+    pub long : length p ≡ n
+    pub blank : p ≡ padTo n v (take i p)
+    pub left : padded whole ≡ prefixed p i rest
+
+  module _ (whole : Read (List A)) (bytes : List ℕ) where
+    pub filled-begins : (p : List A) (at : ℕ) → at ≤ length bytes → length p ≡ n → p ≡ padTo n v [] → FilledTo whole bytes p 0 at whole
+    unfolding padded prefixed
+    filled-begins p at h e b = record { within = h; long = e; blank = b; left = refl }
+
+    module _ (p : List A) (i next : ℕ) (rest : Read (List A)) (so-far : FilledTo whole bytes p i next rest) where
+      pub filled-ends : rest ≡ got [] (drop next bytes) → padded whole ≡ got p (drop next bytes)
+      unfolding prefixed
+      filled-ends e =
+          so-far .left
+          ∙ ap (prefixed p i) e
+          ∙ ap (λ l. got l (drop next bytes)) (ap (padTo n v) (append-nil (take i p)) ∙ sym (so-far .blank))
+
+      -- One more member, read by `one` and made a member by g.
+      module _ {X : Type 0} (one : Read X) (g : X → A) (others : X → List ℕ → Read (List A))
+          (e : rest ≡ thenRead one (λ x r. thenRead (others x r) (λ l more. got (g x ∷ l) more))) where
+        pub filled-refused : (k : ℕ) → one ≡ fault k → padded whole ≡ fault k
+        unfolding prefixed
+        filled-refused k f =
+            so-far .left
+            ∙ ap (prefixed p i) (e ∙ then-fault (λ x r. thenRead (others x r) (λ l more. got (g x ∷ l) more)) f)
+
+        pub filled-goes-on : (x : X) (at : ℕ) → i < n → one ≡ got x (drop at bytes) → at ≤ length bytes
+            → FilledTo whole bytes (set p i (g x)) (i + 1) at (others x (drop at bytes))
+        filled-goes-on x at h f inside =
+            record {
+              within = inside;
+              long = length-set p i (g x) ∙ so-far .long;
+              blank = rw (add-one i) (padTo-set n (g x) i p (so-far .long) (so-far .blank));
+              left =
+                  so-far .left
+                  ∙ ap (prefixed p i) (e ∙ then-got (λ x r. thenRead (others x r) (λ l more. got (g x ∷ l) more)) f)
+                  ∙ one-more p i (g x) (rw (so-far .long) h) (others x (drop at bytes));
+            }
+
+-- ---- coefficients
+
+-- A coefficient after which `left` others are to come.
+unfoldable pub readCoefficient : ℕ → ℕ → List ℕ → Read ℤ
+unfolding field judgeLast judgeSmall always
+readCoefficient last zero bytes = field judgeLast (always last) bytes
+readCoefficient last (suc k) bytes = field judgeSmall (always space) bytes
+
+pub coefficient-last : (last k : ℕ) (bytes : List ℕ) → k ≡ 0 → readCoefficient last k bytes ≡ field judgeLast (always last) bytes
+unfolding readCoefficient
+coefficient-last last k bytes e = ap (λ k. readCoefficient last k bytes) e
+
+pub coefficient-inner : (last k : ℕ) (bytes : List ℕ) → (k ≡ 0 → ⊥) → readCoefficient last k bytes ≡ field judgeSmall (always space) bytes
+unfolding readCoefficient
+coefficient-inner last zero bytes h = absurd (h refl)
+coefficient-inner last (suc k) bytes h = refl
+
+pub coefficients-step : (last k : ℕ) (bytes : List ℕ)
+    → readCoefficients last (suc k) bytes
+    ≡ thenRead (readCoefficient last k bytes) (λ a rest. thenRead (readCoefficients last k rest) (λ p more. got (a ∷ p) more))
+unfolding readCoefficients readCoefficient thenRead
+coefficients-step last zero bytes = refl
+coefficients-step last (suc k) bytes = refl
+
+-- With i of `count` coefficients read, the next one and those after it.
+pub coefficients-next : (last count i : ℕ) (bytes : List ℕ) → i < count
+    → readCoefficients last (count - i) bytes
+    ≡ thenRead (readCoefficient last (count - (i + 1)) bytes)
+    (λ a rest. thenRead (readCoefficients last (count - (i + 1)) rest) (λ p more. got (a ∷ p) more))
+coefficients-next last count i bytes h =
+    let e : count - i ≡ suc (count - (i + 1)) = omega arith in
+    ap (λ k. readCoefficients last k bytes) e ∙ coefficients-step last (count - (i + 1)) bytes
+
+pub coefficients-none : (last count i : ℕ) (bytes : List ℕ) → i ≡ count → readCoefficients last (count - i) bytes ≡ got [] bytes
+unfolding readCoefficients
+coefficients-none last count i bytes h =
+    let e : count - i ≡ 0 = omega arith in
+    ap (λ k. readCoefficients last k bytes) e

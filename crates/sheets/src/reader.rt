@@ -6,10 +6,10 @@ ghost use lib.ListN.{length, drop};
 ghost use lib.Seq.{slice};
 ghost use Rattle.rules.specs.Rows.{every};
 ghost use Rattle.rules.specs.Numbers.{isSeparator, isDigit, startsRight, beginsNumber, valueFrom, readWord, thenRead, field, between, judgeSmall};
-ghost use Rattle.rules.specs.Sheets.{judgeLowest, judgeLast, judgeBlock, judgeColumn, judgeOrderCount, afterCount, always, contains, judgeOrder};
+ghost use Rattle.rules.specs.Sheets.{judgeLowest, judgeLast, judgeBlock, judgeColumn, judgeOrderCount, afterCount, always, contains, judgeOrder, readCoefficients};
 ghost use lib.IntN.{pos, natAbs};
 ghost use lib.Signed.{leZ};
-ghost use Rattle.sheets.specs.Reader.{TokenEnd, DigitsStart, unjudged, tokenAnswer, NumberAt, Answers, readOf, closing, sizesOf, takenOf};
+ghost use Rattle.sheets.specs.Reader.{TokenEnd, DigitsStart, unjudged, tokenAnswer, NumberAt, Answers, readOf, closing, sizesOf, takenOf, readCoefficient, padded};
 
 // The sizes of a system: m unknowns and equations, blocks t to l.
 pub struct Sizes {
@@ -414,4 +414,58 @@ fn order_column_at(bytes: &[u8], at: usize, m: usize, order: &[usize], taken: us
     let n = number_at(bytes, at);
     let judgement = judge_order(m, order, taken, n.value);
     separated(bytes, n, judgement, separator)
+}
+
+// ---- terms
+
+// A coefficient after which `left` others are to come; `last` stands after the last.
+fn coefficient_at(bytes: &[u8], at: usize, left: usize, last: u8) -> NumberRead
+    requires { ⌜ at ≤ length (now bytes) ⌝ }
+    ensures { λ r. ⌜ Answers (now (bytes .entry)) (r .refusal) (r .value) (r .at) (readCoefficient last left (drop at (now (bytes .entry)))) ⌝ }
+{
+    if left == 0 {
+        return last_at(bytes, at, last);
+    }
+    small_at(bytes, at)
+}
+
+// The coefficients of a term, zeros past them, or a refusal.
+struct PolynomialRead {
+    refusal: u8,
+    at: usize,
+    coefficients: [i64; 16],
+}
+
+fn no_polynomial(refusal: u8) -> PolynomialRead
+    ensures { λ r. ⌜ (r .refusal ≡ refusal) × (r .at ≡ 0) ⌝ }
+{
+    PolynomialRead {
+        refusal,
+        at: 0,
+        coefficients: [0; 16],
+    }
+}
+
+fn coefficients_at(bytes: &[u8], at: usize, count: usize, last: u8) -> PolynomialRead
+    requires { ⌜ (at ≤ length (now bytes)) × (count ≤ 16) ⌝ }
+    ensures { λ r. ⌜ Answers (now (bytes .entry)) (r .refusal) (r .coefficients) (r .at) (padded 16 (pos 0) (readCoefficients last count (drop at (now (bytes .entry))))) ⌝ }
+{
+    let mut p: [i64; 16] = [0; 16];
+    let mut next = at;
+    let mut i = 0;
+    while i < count {
+        let a = coefficient_at(bytes, next, count - (i + 1), last);
+        if a.refusal != 0 {
+            return no_polynomial(a.refusal);
+        }
+        let value = a.value;
+        p[i] = value;
+        next = a.at;
+        i += 1;
+    }
+    PolynomialRead {
+        refusal: 0,
+        at: next,
+        coefficients: p,
+    }
 }
