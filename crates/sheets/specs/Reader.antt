@@ -18,15 +18,16 @@ use lib.Dec.{T, eqb, leb, ltb, leb→le, lit<}
 use borrow.Author.Tests.{lt-ltb, le-ltb, eq-eqb, ne-eqb, lt-leb, le-leb, leb-true}
 use native.Mathlib.Decide.{ℕ-discrete}
 use Rattle.algebra.specs.Integers.{natAbs-zero, -ℤ-zero}
-use Rattle.algebra.specs.Polynomials.{isZeroℤ, T-&&}
+use Rattle.algebra.specs.Polynomials.{Polynomial, isZeroℤ, T-&&}
 use lib.IntN.{ℤ, pos, negℤ, negsuc, natAbs, _-ℤ_, +ℤ-invr}
-use lib.Signed.{leZ, nonNeg, leZ-yes, _≤ℤ_}
+use lib.Signed.{leZ, ltZ, nonNeg, leZ-yes, _≤ℤ_}
 use Rattle.algebra.specs.Order.{≤ℤ-trans, natAbs-≤-iff}
+use Rattle.rules.specs.Limits.{coefficientCount}
 use Rattle.rules.specs.Rows.{every}
-use Rattle.rules.specs.Numbers.{minus, isSeparator, word, afterWord, isDigit, signed, digits, startsRight, beginsNumber, isNumber, valueFrom, numberOf, Read, got, fault, thenRead, judged, readWord, readSeparator, field, judgeSmall, space}
+use Rattle.rules.specs.Numbers.{minus, isSeparator, word, afterWord, isDigit, signed, digits, startsRight, beginsNumber, isNumber, valueFrom, numberOf, Read, got, fault, thenRead, judged, readWord, readSeparator, field, between, judgeSmall, space}
 use Rattle.rules.specs.Calls.{padTo}
 use Rattle.rules.specs.Stores.{Sizes}
-use Rattle.rules.specs.Sheets.{contains, judgeLast, always, readCoefficients}
+use Rattle.rules.specs.Sheets.{Term, contains, judgeLast, judgeBlock, judgeColumn, always, readCoefficients, readTerm}
 use Rattle.sheets.specs.declared.reader.Sizes as CodeSizes
 use Rattle.sheets.specs.declared.reader.Token.{Token}
 use Rattle.sheets.specs.declared.reader.Token.the-variants.{Number, NoNumber}
@@ -643,3 +644,174 @@ unfolding readCoefficients
 coefficients-none last count i bytes h =
     let e : count - i ≡ 0 = omega arith in
     ap (λ k. readCoefficients last k bytes) e
+
+-- ---- laws of reading one thing after another
+
+got-not-fault : {A : Type 0} {a : A} {rest : List ℕ} {n : ℕ} → got a rest ≡ fault n → ⊥
+got-not-fault e = let z : _≡_ {A = ℕ} 0 1 = cc in omega arith
+
+module _ {A B : Type 0} where
+  pub then-cong : (r : Read A) {f g : A → List ℕ → Read B} → ((a : A) (rest : List ℕ) → f a rest ≡ g a rest) → thenRead r f ≡ thenRead r g
+  unfolding thenRead
+  then-cong (got a rest) h = h a rest
+  then-cong (fault n) h = refl
+
+  pub then-then : {C : Type 0} (r : Read A) (f : A → List ℕ → Read B) (g : B → List ℕ → Read C)
+      → thenRead (thenRead r f) g ≡ thenRead r (λ a rest. thenRead (f a rest) g)
+  unfolding thenRead
+  then-then (got a rest) f g = refl
+  then-then (fault n) f g = refl
+
+  -- Where something was read in the end, its first part was read.
+  pub then-parts : (r : Read A) (f : A → List ℕ → Read B) {b : B} {rest : List ℕ} → thenRead r f ≡ got b rest
+      → (a : A) × (more : List ℕ) × (r ≡ got a more) × (f a more ≡ got b rest)
+  unfolding thenRead
+  then-parts (got a more) f e = (a, more, refl, e)
+  then-parts (fault n) f e = absurd (got-not-fault (sym e))
+
+-- A number that was read as a field has passed its judgement.
+module _ (judge follow : ℤ → ℕ) where
+  pub field-judged : (bytes : List ℕ) {v : ℤ} {rest : List ℕ} → field judge follow bytes ≡ got v rest → judge v ≡ 0
+  unfolding field
+  field-judged bytes {v} {rest} e = at-word (word bytes) (afterWord bytes) e
+    where
+      separator : (s : ℕ) (u : ℤ) (l : List ℕ) → readSeparator s u l ≡ got v rest → u ≡ v
+      separator s u [] e = absurd (got-not-fault (sym e))
+      separator s u (b ∷ l) e = by (eqb b s) e
+        where
+          by : (t : Bool) → cond t (got u l) (fault 3) ≡ got v rest → u ≡ v
+          by true e = cc
+          by false e = absurd (got-not-fault (sym e))
+
+      number : (u : ℤ) (j : ℕ) (l : List ℕ) → judge u ≡ j → thenRead (judged j u l) (λ v more. readSeparator (follow v) v more) ≡ got v rest → judge v ≡ 0
+      number u zero l h e = ap judge (sym (separator (follow u) u l e)) ∙ h
+      number u (suc j) l h e = absurd (got-not-fault (sym e))
+
+      at-word : (w l : List ℕ) → thenRead (readWord judge w l) (λ v more. readSeparator (follow v) v more) ≡ got v rest → judge v ≡ 0
+      at-word w [] e = absurd (got-not-fault (sym e))
+      at-word w (b ∷ l) e = by (isNumber w) e
+        where
+          by : (t : Bool)
+              → thenRead (cond t (judged (judge (numberOf w)) (numberOf w) (b ∷ l)) (fault 3)) (λ v more. readSeparator (follow v) v more)
+              ≡ got v rest → judge v ≡ 0
+          by true e = number (numberOf w) (judge (numberOf w)) (b ∷ l) refl e
+          by false e = absurd (got-not-fault (sym e))
+
+-- ---- what a judgement of 0 says
+
+passed : (t : Bool) (a b : ℕ) → cond t a (suc b) ≡ 0 → (t ≡ true) × (a ≡ 0)
+passed true a b e = (refl, e)
+passed false a b e = absurd (suc-ne-zero b e)
+
+pub between-zero : (low high : ℕ) (v : ℤ) → between (pos low) (pos high) v ≡ 0 → T (nonNeg v) × (low ≤ natAbs v) × (natAbs v ≤ high)
+unfolding between
+between-zero low high v e = between-size low high v (passed (leZ (pos low) v && leZ v (pos high)) 0 1 e .0)
+
+-- A block that was let through: t ≤ s ≤ l, and no higher than the one before.
+pub record BlockRight (z : Sizes) (s₀ s : ℤ) : Type 0 where
+  pub low : z .t ≤ℤ s
+  pub high : s ≤ℤ z .l
+  pub falling : s ≤ℤ s₀
+
+pub block-zero : (z : Sizes) (s₀ s : ℤ) → judgeBlock z s₀ s ≡ 0 → BlockRight z s₀ s
+unfolding judgeBlock
+block-zero z s₀ s e =
+    let first = passed (leZ (z .t) s && leZ s (z .l)) (cond (leZ s s₀) 0 3) 1 e in
+    let two = both-true (leZ (z .t) s) (leZ s (z .l)) (first .0) in
+    record { low = leZ-true (two .0); high = leZ-true (two .1); falling = leZ-true (passed (leZ s s₀) 0 2 (first .1) .0) }
+
+-- A column that was let through: 1 ≤ c ≤ m, and after the one before if the block is the same.
+pub record ColumnRight (z : Sizes) (s₀ : ℤ) (c₀ : ℕ) (s c : ℤ) : Type 0 where
+  pub counted : T (nonNeg c)
+  pub low : 1 ≤ natAbs c
+  pub high : natAbs c ≤ z .m
+  pub rising : (ltZ s s₀ || ltZ (pos c₀) c) ≡ true
+
+pub column-zero : (z : Sizes) (s₀ : ℤ) (c₀ : ℕ) (s c : ℤ) → judgeColumn z s₀ c₀ s c ≡ 0 → ColumnRight z s₀ c₀ s c
+unfolding judgeColumn
+column-zero z s₀ c₀ s c e =
+    let first = passed (leZ (pos 1) c && leZ c (pos (z .m))) (cond (ltZ s s₀ || ltZ (pos c₀) c) 0 3) 1 e in
+    let two = between-size 1 (z .m) c (first .0) in
+    record { counted = two .0; low = two .1; high = two .2; rising = passed (ltZ s s₀ || ltZ (pos c₀) c) 0 2 (first .1) .0 }
+
+-- ---- terms
+
+abbrev pub termOf : ℤ → ℕ → Polynomial → Term
+termOf s c p = record { block = s; column = c; polynomial = p }
+
+-- A term with all its sixteen coefficients.
+unfoldable pub padTerm : Term → Term
+padTerm e = termOf (e .block) (e .column) (padTo coefficientCount (pos 0) (e .polynomial))
+
+unfoldable pub readPadded : Sizes → ℤ → ℕ → ℕ → List ℕ → Read Term
+readPadded z s₀ c₀ last bytes = thenRead (readTerm z s₀ c₀ last bytes) λ e rest. got (padTerm e) rest
+
+-- The block and the column of a term, and then its polynomial.
+unfoldable pub readPlace : Sizes → ℤ → ℕ → List ℕ → Read (ℤ × ℕ)
+readPlace z s₀ c₀ bytes =
+    thenRead (field (judgeBlock z s₀) (always space) bytes) λ s rest.
+    thenRead (field (judgeColumn z s₀ c₀ s) (always space) rest) λ c more. got (s, natAbs c) more
+
+unfoldable pub readPolynomial : ℕ → List ℕ → Read Polynomial
+readPolynomial last bytes =
+    thenRead (field (between (pos 1) (pos 16)) (always space) bytes) λ k rest. padded 16 (pos 0) (readCoefficients last (natAbs k) rest)
+
+module _ (z : Sizes) (s₀ : ℤ) (c₀ last : ℕ) where
+  -- The definition of a term, with its parts named.
+  coefficientsThen : ℤ → ℤ → ℤ → List ℕ → Read Term
+  coefficientsThen s c k bytes = thenRead (readCoefficients last (natAbs k) bytes) λ p rest. got (termOf s (natAbs c) p) rest
+
+  countThen : ℤ → ℤ → List ℕ → Read Term
+  countThen s c bytes = thenRead (field (between (pos 1) (pos 16)) (always space) bytes) (coefficientsThen s c)
+
+  columnThen : ℤ → List ℕ → Read Term
+  columnThen s bytes = thenRead (field (judgeColumn z s₀ c₀ s) (always space) bytes) (countThen s)
+
+  term-is : (bytes : List ℕ) → readTerm z s₀ c₀ last bytes ≡ thenRead (field (judgeBlock z s₀) (always space) bytes) columnThen
+  unfolding readTerm columnThen countThen coefficientsThen
+  term-is bytes = refl
+
+  -- What is made of a place and the polynomial at it.
+  unfoldable pub withPlace : ℤ × ℕ → List ℕ → Read Term
+  withPlace q bytes = thenRead (readPolynomial last bytes) λ p rest. got (termOf (q .0) (q .1) p) rest
+
+  pad : Term → List ℕ → Read Term
+  pad e rest = got (padTerm e) rest
+
+  pad-coefficients : (s c : ℤ) (r : Read Polynomial)
+      → thenRead (thenRead r (λ p rest. got (termOf s (natAbs c) p) rest)) pad
+      ≡ thenRead (padded 16 (pos 0) r) (λ p rest. got (termOf s (natAbs c) p) rest)
+  unfolding thenRead padded pad padTerm
+  pad-coefficients s c (got p rest) = refl
+  pad-coefficients s c (fault n) = refl
+
+  pad-count : (s c : ℤ) (bytes : List ℕ) → thenRead (countThen s c bytes) pad ≡ withPlace (s, natAbs c) bytes
+  unfolding countThen coefficientsThen withPlace readPolynomial
+  pad-count s c bytes =
+      then-then count (coefficientsThen s c) pad
+      ∙ then-cong count (λ k rest. pad-coefficients s c (readCoefficients last (natAbs k) rest))
+      ∙ sym (then-then count (λ k rest. padded 16 (pos 0) (readCoefficients last (natAbs k) rest)) (λ p rest. got (termOf s (natAbs c) p) rest))
+    where
+      count : Read ℤ
+      count = field (between (pos 1) (pos 16)) (always space) bytes
+
+  pub readPadded-is : (bytes : List ℕ) → readPadded z s₀ c₀ last bytes ≡ thenRead (readPlace z s₀ c₀ bytes) withPlace
+  unfolding readPadded readPlace pad columnThen
+  readPadded-is bytes =
+      ap (λ r. thenRead r pad) (term-is bytes)
+      ∙ then-then (field (judgeBlock z s₀) (always space) bytes) columnThen pad
+      ∙ then-cong (field (judgeBlock z s₀) (always space) bytes) pad-column
+      ∙ sym
+      (then-then (field (judgeBlock z s₀) (always space) bytes)
+      (λ s rest. thenRead (field (judgeColumn z s₀ c₀ s) (always space) rest) λ c more. got (s, natAbs c) more) withPlace)
+    where
+      pad-column : (s : ℤ) (rest : List ℕ)
+          → thenRead (columnThen s rest) pad
+          ≡ thenRead (thenRead (field (judgeColumn z s₀ c₀ s) (always space) rest) λ c more. got (s, natAbs c) more) withPlace
+      pad-column s rest =
+          then-then column (countThen s) pad
+          ∙ then-cong column (λ c more. pad-count s c more ∙ sym (then-got withPlace refl))
+          ∙ sym (then-then column (λ c more. got (s, natAbs c) more) withPlace)
+        where
+          column : Read ℤ
+          column = field (judgeColumn z s₀ c₀ s) (always space) rest

@@ -9,7 +9,7 @@ ghost use Rattle.rules.specs.Numbers.{isSeparator, isDigit, startsRight, begins
 ghost use Rattle.rules.specs.Sheets.{judgeLowest, judgeLast, judgeBlock, judgeColumn, judgeOrderCount, afterCount, always, contains, judgeOrder, readCoefficients};
 ghost use lib.IntN.{pos, natAbs};
 ghost use lib.Signed.{leZ};
-ghost use Rattle.sheets.specs.Reader.{TokenEnd, DigitsStart, unjudged, tokenAnswer, NumberAt, Answers, readOf, closing, sizesOf, takenOf, readCoefficient, padded};
+ghost use Rattle.sheets.specs.Reader.{TokenEnd, DigitsStart, unjudged, tokenAnswer, NumberAt, Answers, readOf, closing, sizesOf, takenOf, readCoefficient, padded, termOf, readPadded, readPlace, readPolynomial};
 
 // The sizes of a system: m unknowns and equations, blocks t to l.
 pub struct Sizes {
@@ -467,5 +467,57 @@ fn coefficients_at(bytes: &[u8], at: usize, count: usize, last: u8) -> Polynomia
         refusal: 0,
         at: next,
         coefficients: p,
+    }
+}
+
+// The number of coefficients (1 to 16) and the coefficients.
+fn polynomial_at(bytes: &[u8], at: usize, separator: u8) -> PolynomialRead
+    requires { ⌜ at ≤ length (now bytes) ⌝ }
+    ensures { λ r. ⌜ Answers (now (bytes .entry)) (r .refusal) (r .coefficients) (r .at) (readPolynomial separator (drop at (now (bytes .entry)))) ⌝ }
+{
+    let k = number_between(bytes, at, 1, 16, 32);
+    if k.refusal != 0 {
+        return no_polynomial(k.refusal);
+    }
+    coefficients_at(bytes, k.at, k.value as usize, separator)
+}
+
+// The block and the column of a term, or a refusal.
+struct PlaceRead {
+    refusal: u8,
+    at: usize,
+    block: i64,
+    column: usize,
+}
+
+fn no_place(refusal: u8) -> PlaceRead
+    ensures { λ r. ⌜ (r .refusal ≡ refusal) × (r .at ≡ 0) ⌝ }
+{
+    PlaceRead {
+        refusal,
+        at: 0,
+        block: 0,
+        column: 0,
+    }
+}
+
+// The term before stood at block `before` and column `last`.
+fn place_at(bytes: &[u8], at: usize, z: Sizes, before: i64, last: usize) -> PlaceRead
+    requires { ⌜ (at ≤ length (now bytes)) × ((z .m ≤ 4) × (last ≤ 4)) ⌝ }
+    ensures { λ r. ⌜ Answers (now (bytes .entry)) (r .refusal) (r .block, r .column) (r .at) (readPlace (sizesOf z) before last (drop at (now (bytes .entry)))) ⌝ }
+{
+    let s = block_at(bytes, at, z, before);
+    if s.refusal != 0 {
+        return no_place(s.refusal);
+    }
+    let c = column_at(bytes, s.at, z, before, last, s.value);
+    if c.refusal != 0 {
+        return no_place(c.refusal);
+    }
+    PlaceRead {
+        refusal: 0,
+        at: c.at,
+        block: s.value,
+        column: c.value as usize,
     }
 }
