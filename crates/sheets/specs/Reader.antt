@@ -5,7 +5,7 @@
 --
 -- Main statements
 --   word-step, word-stop, word-end   a token goes on at a byte that is no separator, and ends at one or at the end of the bytes
-use Prim.Native.Nat.{ℕ, zero, suc, _+_, _-_, _*_, _^_, _≤_, _<_, zero-le}
+use Prim.Native.Nat.{ℕ, zero, suc, pred, _+_, _-_, _*_, _^_, _≤_, _<_, zero-le}
 use native.Mathlib.Nat.{suc-inj, suc-ne-zero, le-refl, le-of-lt, lt-of-lt-of-le, sub-self, pow-le-pow-right, pow-succ'}
 use native.Mathlib.Numerals.{add-one}
 use native.Mathlib.Omega.{arith}
@@ -22,7 +22,7 @@ use Rattle.algebra.specs.Polynomials.{Polynomial, isZeroℤ, T-&&}
 use lib.IntN.{ℤ, pos, negℤ, negsuc, natAbs, _-ℤ_, +ℤ-invr}
 use lib.Signed.{leZ, ltZ, nonNeg, leZ-yes, _≤ℤ_}
 use Rattle.algebra.specs.Order.{≤ℤ-trans, natAbs-≤-iff}
-use Rattle.rules.specs.Limits.{coefficientCount}
+use Rattle.rules.specs.Limits.{coefficientCount, columnCount}
 use Rattle.rules.specs.Rows.{every}
 use Rattle.rules.specs.Numbers.{minus, isSeparator, word, afterWord, isDigit, signed, digits, startsRight, beginsNumber, isNumber, valueFrom, numberOf, Read, got, fault, thenRead, judged, readWord, readSeparator, field, between, judgeSmall, space}
 use Rattle.rules.specs.Calls.{padTo}
@@ -815,3 +815,11 @@ module _ (z : Sizes) (s₀ : ℤ) (c₀ last : ℕ) where
         where
           column : Read ℤ
           column = field (judgeColumn z s₀ c₀ s) (always space) rest
+
+-- ---- rows
+
+-- Where the polynomial of a block and a column, counted from 1, begins in a row: "block l first, four columns a block, 16
+-- coefficients a column".
+unfoldable pub placeInRow : ℤ → ℤ → ℕ → ℕ
+placeInRow l block column =
+    natAbs (l -ℤ block) * (columnCount * coefficientCount) + pred column * coefficientCount

@@ -3,13 +3,13 @@ ghost use mathlib.Core.Path.{_≡_};
 ghost use mathlib.Core.Bool.{true, _&&_};
 ghost use Prim.Native.Nat.{_+_, _^_, _≤_, _<_};
 ghost use lib.ListN.{length, drop};
-ghost use lib.Seq.{slice};
+ghost use lib.Seq.{slice, paste};
 ghost use Rattle.rules.specs.Rows.{every};
 ghost use Rattle.rules.specs.Numbers.{isSeparator, isDigit, startsRight, beginsNumber, valueFrom, readWord, thenRead, field, between, judgeSmall};
 ghost use Rattle.rules.specs.Sheets.{judgeLowest, judgeLast, judgeBlock, judgeColumn, judgeOrderCount, afterCount, always, contains, judgeOrder, readCoefficients};
-ghost use lib.IntN.{pos, natAbs};
-ghost use lib.Signed.{leZ};
-ghost use Rattle.sheets.specs.Reader.{TokenEnd, DigitsStart, unjudged, tokenAnswer, NumberAt, Answers, readOf, closing, sizesOf, takenOf, readCoefficient, padded, termOf, readPadded, readPlace, readPolynomial};
+ghost use lib.IntN.{pos, natAbs, _-ℤ_};
+ghost use lib.Signed.{leZ, _≤ℤ_};
+ghost use Rattle.sheets.specs.Reader.{TokenEnd, DigitsStart, unjudged, tokenAnswer, NumberAt, Answers, readOf, closing, sizesOf, takenOf, readCoefficient, padded, termOf, readPadded, readPlace, readPolynomial, placeInRow};
 
 // The sizes of a system: m unknowns and equations, blocks t to l.
 pub struct Sizes {
@@ -520,4 +520,71 @@ fn place_at(bytes: &[u8], at: usize, z: Sizes, before: i64, last: usize) -> Plac
         block: s.value,
         column: c.value as usize,
     }
+}
+
+// A term, its coefficients with zeros past them, or a refusal.
+struct TermRead {
+    refusal: u8,
+    at: usize,
+    block: i64,
+    column: usize,
+    coefficients: [i64; 16],
+}
+
+fn no_term(refusal: u8) -> TermRead
+    ensures { λ r. ⌜ (r .refusal ≡ refusal) × (r .at ≡ 0) ⌝ }
+{
+    TermRead {
+        refusal,
+        at: 0,
+        block: 0,
+        column: 0,
+        coefficients: [0; 16],
+    }
+}
+
+// "each term as s, c, number of coefficients (1 to 16), coefficients from power 0"; `separator` stands after the term.
+fn term_at(bytes: &[u8], at: usize, z: Sizes, before: i64, last: usize, separator: u8) -> TermRead
+    requires { ⌜ (at ≤ length (now bytes)) × ((z .m ≤ 4) × (last ≤ 4)) ⌝ }
+    ensures { λ r. ⌜ Answers (now (bytes .entry)) (r .refusal) (termOf (r .block) (r .column) (r .coefficients)) (r .at) (readPadded (sizesOf z) before last separator (drop at (now (bytes .entry)))) ⌝ }
+{
+    let q = place_at(bytes, at, z, before, last);
+    if q.refusal != 0 {
+        return no_term(q.refusal);
+    }
+    let p = polynomial_at(bytes, q.at, separator);
+    if p.refusal != 0 {
+        return no_term(p.refusal);
+    }
+    let coefficients = p.coefficients;
+    TermRead {
+        refusal: 0,
+        at: p.at,
+        block: q.block,
+        column: q.column,
+        coefficients,
+    }
+}
+
+// ---- equations
+
+// The first n numbers of `from`, copied to the place `at` of `to`.
+fn copy(to: &mut [i64], at: usize, from: &[i64], n: usize)
+    requires { ⌜ (at + n ≤ length (now to)) × (n ≤ length (now from)) ⌝ }
+    ensures { λ _. ⌜ now (to .exit) ≡ paste (now (to .entry)) at (now (from .entry)) n ⌝ }
+{
+    let mut i = 0;
+    while i < n {
+        to[at + i] = from[i];
+        i += 1;
+    }
+}
+
+// Where the polynomial of a block and a column begins in a row.
+fn place_in_row(l: i64, block: i64, column: usize) -> usize
+    requires { ⌜ (natAbs (l -ℤ block) ≤ 4) × (block ≤ℤ l) ⌝ }
+    requires { ⌜ (1 ≤ column) × (column ≤ 4) ⌝ }
+    ensures { λ r. ⌜ r ≡ placeInRow l block column ⌝ }
+{
+    (l - block) as usize * 64 + (column - 1) * 16
 }
