@@ -1,3 +1,4 @@
 pub mod Reader
+pub mod ReaderRows
 pub mod Writer
 pub mod ReadBack

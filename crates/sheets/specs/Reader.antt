@@ -656,6 +656,13 @@ module _ {A B : Type 0} where
   then-cong (got a rest) h = h a rest
   then-cong (fault n) h = refl
 
+  -- The same, where f and g need agree only on what was read.
+  pub then-cong-read : (r : Read A) {f g : A → List ℕ → Read B} → ((a : A) (rest : List ℕ) → r ≡ got a rest → f a rest ≡ g a rest)
+      → thenRead r f ≡ thenRead r g
+  unfolding thenRead
+  then-cong-read (got a rest) h = h a rest refl
+  then-cong-read (fault n) h = refl
+
   pub then-then : {C : Type 0} (r : Read A) (f : A → List ℕ → Read B) (g : B → List ℕ → Read C)
       → thenRead (thenRead r f) g ≡ thenRead r (λ a rest. thenRead (f a rest) g)
   unfolding thenRead
