@@ -9,8 +9,8 @@
 -- Main statements
 --   rowOf-paste          sixteen numbers stored at the place of a block and a column are a term put into the row
 --   equation-is          an equation is its count and then its terms, put into the blank row as they are read
-use Prim.Native.Nat.{ℕ, zero, suc, pred, _+_, _*_, _-_, _≤_, _<_, zero-le}
-use native.Mathlib.Nat.{le-refl, le-trans, le-of-eq, add-zero, not-suc-le-zero, le-of-suc-le-suc, le-of-lt, add-assoc, add-comm, zero-add, suc-mul, zero-mul, mul-le-mul-right}
+use Prim.Native.Nat.{ℕ, zero, suc, pred, _+_, _*_, _-_, _≤_, _<_, zero-le, suc-le-suc}
+use native.Mathlib.Nat.{suc-inj, suc-ne-zero, le-refl, le-trans, le-of-eq, add-zero, not-suc-le-zero, le-of-suc-le-suc, le-of-lt, add-assoc, add-comm, zero-add, suc-mul, zero-mul, mul-le-mul-right}
 use native.Mathlib.Numerals.{add-one}
 use native.Mathlib.Decide.{ℕ-discrete}
 use native.Mathlib.Omega.{arith}
@@ -20,14 +20,14 @@ use borrow.Author.Tests.{ltb-true}
 use mathlib.Core.Bool.{Bool, true, false, _&&_, _||_, not, cond}
 use mathlib.Core.List.{List, [], _∷_, _++_, map, append-nil, append-assoc}
 use lib.ListN.{length, getD, take, drop, set, replicate, length-append, length-take, length-drop, length-set, drop-of-length-le}
-use lib.Seq.{paste, take-all, take-add, drop-at, take-take, take-append-le, take-append-add, drop-append-le, drop-drop, drop-paste, length-paste-head, length-take-le, set-set, set-comm, getD-set-other}
+use lib.Seq.{paste, length-paste, take-all, take-add, drop-at, take-take, take-append-le, take-append-add, drop-append-le, drop-drop, drop-paste, length-paste-head, length-take-le, set-set, set-comm, getD-set-other}
 use lib.Dec.{T, ltb}
 use lib.IntN.{ℤ, pos, natAbs, _-ℤ_}
 use lib.Signed.{ltZ, ltZ-yes, ≤ℤ-refl, clashℤ, pos-natAbs, _≤ℤ_, _<ℤ_}
 use Rattle.rules.specs.Limits.{coefficientCount, columnCount, blockCount, rowLength}
 use Rattle.rules.specs.Rows.{Row, Block, All}
-use Rattle.rules.specs.Stores.{Sizes, span, parts, rowOf}
-use Rattle.rules.specs.Layout.{parts-length, getD-parts}
+use Rattle.rules.specs.Stores.{Sizes, span, parts, rowOf, sizesRight}
+use Rattle.rules.specs.Layout.{parts-length, getD-parts, size-bounds, block-place}
 use Rattle.rules.specs.Calls.{padTo}
 use Rattle.rules.specs.Numbers.{Read, got, fault, thenRead, field, between, space, newline}
 use Rattle.rules.specs.Sheets.{Term, putTerm, rowOfTerms, blankRow, readTerm, readTerms, readEquation, parting, afterCount, always, judgeBlock, judgeColumn, readCoefficients}
@@ -454,3 +454,99 @@ equation-is z few bytes =
     ∙ then-cong (field (between (pos 0) (pos (z .m * suc (span z)))) afterCount bytes)
     (λ k rest. then-cong (readTerms z (natAbs k) (z .l) 0 rest) (λ es more. ap (λ q. got q more) (rowOfTerms-is (z .l) es))
     ∙ sym (terms-into z few (natAbs k) (z .l) 0 blankRow rest (≤ℤ-refl (z .l)) zero-le))
+
+padTo-all : {A : Type 0} (n : ℕ) (v : A) (l : List A) → length l ≡ n → padTo n v l ≡ l
+unfolding padTo
+padTo-all zero v [] h = refl
+padTo-all (suc n) v [] h = absurd (suc-ne-zero n (sym h))
+padTo-all zero v (x ∷ l) h = absurd (suc-ne-zero (length l) h)
+padTo-all (suc n) v (x ∷ l) h = ap (λ r. x ∷ r) (padTo-all n v l (suc-inj h))
+
+-- What a term that was read asks of its place in the row.
+pub term-place : (z : Sizes) (s₀ : ℤ) (c₀ : ℕ) (e : Term) → T (sizesRight z) → TermRight z s₀ c₀ e
+    → (natAbs (z .l -ℤ e .block) ≤ 4) × (e .block ≤ℤ z .l) × (1 ≤ e .column) × (e .column ≤ columnCount)
+term-place z s₀ c₀ e sizes right =
+    let bounds = size-bounds z sizes in
+    (le-of-suc-le-suc (block-place z (e .block) bounds (right .block-right .low) (right .block-right .high)),
+    right .block-right .high,
+    right .low,
+    le-trans (right .high) (bounds .few))
+
+pub place-fits : (z : Sizes) (s₀ : ℤ) (c₀ : ℕ) (e : Term) → T (sizesRight z) → TermRight z s₀ c₀ e
+    → placeInRow (z .l) (e .block) (e .column) + coefficientCount ≤ rowLength
+unfolding placeInRow
+place-fits z s₀ c₀ e sizes right = omega (arith, term-place z s₀ c₀ e sizes right)
+
+-- Sixteen numbers stored at a term's place.
+put-is : (z : Sizes) (s₀ : ℤ) (c₀ : ℕ) (e : Term) (row : List ℤ) → T (sizesRight z) → TermRight z s₀ c₀ e → length (e .polynomial) ≡ coefficientCount
+    → length row ≡ rowLength → rowOf (paste row (placeInRow (z .l) (e .block) (e .column)) (e .polynomial) coefficientCount) ≡ putTerm (z .l) e (rowOf row)
+unfolding placeInRow putColumn update
+put-is z s₀ c₀ e row sizes right whole long =
+    let place = term-place z s₀ c₀ e sizes right in
+    let column : pred (e .column) < columnCount = omega (arith, place .2, place .3) in
+    rowOf-paste row (e .polynomial) (natAbs (z .l -ℤ e .block)) (pred (e .column)) long whole (suc-le-suc (place .0)) column
+    ∙ ap (λ p. record { blocks = set (rowOf row .blocks) (natAbs (z .l -ℤ e .block)) (set (getD (rowOf row .blocks) (natAbs (z .l -ℤ e .block)) []) (pred (e .column)) p) })
+    (sym (padTo-all coefficientCount (pos 0) (e .polynomial) whole))
+    ∙ sym (putTerm-is (z .l) e (rowOf row))
+
+-- The numbers of `row` are those of the terms before the place `next`; the last of them stood at block s and column c, and `left` terms
+-- are to come.
+pub record TermsTo (z : Sizes) (count : ℕ) (bytes : List ℕ) (at : ℕ) (row : List ℤ) (next : ℕ) (s : ℤ) (c left : ℕ) : Type 0 where
+  pub within : next ≤ length bytes
+  pub long : length row ≡ rowLength
+  pub few : c ≤ columnCount
+  pub rest : termsInto z count (z .l) 0 blankRow (drop at bytes) ≡ termsInto z left s c (rowOf row) (drop next bytes)
+
+module _ (z : Sizes) (sizes : T (sizesRight z)) (count : ℕ) (bytes : List ℕ) (at : ℕ) where
+  pub terms-begin : (row : List ℤ) (s : ℤ) → at ≤ length bytes → s ≡ z .l → length row ≡ rowLength → rowOf row ≡ blankRow
+      → TermsTo z count bytes at row at s 0 count
+  terms-begin row s h e long blank =
+      record {
+        within = h;
+        long = long;
+        few = zero-le;
+        rest = ap₂ (λ s r. termsInto z count s 0 r (drop at bytes)) (sym e) (sym blank);
+      }
+
+  module _ (row : List ℤ) (next : ℕ) (s : ℤ) (c left : ℕ) (so-far : TermsTo z count bytes at row next s c left) where
+    pub terms-end : left ≡ 0 → termsInto z count (z .l) 0 blankRow (drop at bytes) ≡ got (rowOf row) (drop next bytes)
+    unfolding termsInto
+    terms-end e = so-far .rest ∙ ap (λ k. termsInto z k s c (rowOf row) (drop next bytes)) e
+
+    module _ (some : 0 < left) where
+      term-next : termsInto z left s c (rowOf row) (drop next bytes)
+          ≡ thenRead (readPadded z s c (parting newline (left - 1)) (drop next bytes)) (intoRest z (left - 1) (rowOf row))
+      unfolding termsInto intoRest
+      term-next =
+          let e : left ≡ suc (left - 1) = omega arith in
+          ap (λ k. termsInto z k s c (rowOf row) (drop next bytes)) e
+
+      pub terms-refused : (n : ℕ) → readPadded z s c (parting newline (left - 1)) (drop next bytes) ≡ fault n
+          → termsInto z count (z .l) 0 blankRow (drop at bytes) ≡ fault n
+      terms-refused n e = so-far .rest ∙ term-next ∙ then-fault (intoRest z (left - 1) (rowOf row)) e
+
+      pub terms-go-on : (e : Term) (after : ℕ) → readPadded z s c (parting newline (left - 1)) (drop next bytes) ≡ got e (drop after bytes)
+          → after ≤ length bytes
+          → TermsTo z count bytes at (paste row (placeInRow (z .l) (e .block) (e .column)) (e .polynomial) coefficientCount) after (e .block) (e .column) (left - 1)
+      unfolding intoRest
+      terms-go-on e after h inside =
+          let right = padded-right z s c (parting newline (left - 1)) (drop next bytes) e (drop after bytes) h in
+          record {
+            within = inside;
+            long =
+                length-paste row (placeInRow (z .l) (e .block) (e .column)) (e .polynomial) coefficientCount
+                (rw (so-far .long) (place-fits z s c e sizes (right .0))) (le-of-eq (sym (right .1)))
+                ∙ so-far .long;
+            few = term-place z s c e sizes (right .0) .3;
+            rest =
+                so-far .rest
+                ∙ term-next
+                ∙ then-got (intoRest z (left - 1) (rowOf row)) h
+                ∙ ap (λ q. termsInto z (left - 1) (e .block) (e .column) q (drop after bytes))
+                (sym (put-is z s c e row sizes (right .0) (right .1) (so-far .long)));
+          }
+
+-- A row of zeros is blank.
+pub zeros-blank : rowOf (replicate rowLength (pos 0)) ≡ blankRow
+unfolding rowOf blankRow
+zeros-blank = refl

@@ -6,7 +6,11 @@ ghost use lib.ListN.{length, drop};
 ghost use lib.Seq.{slice, paste};
 ghost use Rattle.rules.specs.Rows.{every};
 ghost use Rattle.rules.specs.Numbers.{isSeparator, isDigit, startsRight, beginsNumber, valueFrom, readWord, thenRead, field, between, judgeSmall};
-ghost use Rattle.rules.specs.Sheets.{judgeLowest, judgeLast, judgeBlock, judgeColumn, judgeOrderCount, afterCount, always, contains, judgeOrder, readCoefficients};
+ghost use Rattle.rules.specs.Sheets as Sheets;
+ghost use Rattle.rules.specs.Stores.{rowOf, sizesRight};
+ghost use lib.Dec.{T};
+ghost use Rattle.sheets.specs.ReaderRows.{termsInto};
+ghost use Rattle.rules.specs.Sheets.{blankRow, judgeLowest, judgeLast, judgeBlock, judgeColumn, judgeOrderCount, afterCount, always, contains, judgeOrder, readCoefficients};
 ghost use lib.IntN.{pos, natAbs, _-ℤ_};
 ghost use lib.Signed.{leZ, _≤ℤ_};
 ghost use Rattle.sheets.specs.Reader.{TokenEnd, DigitsStart, unjudged, tokenAnswer, NumberAt, Answers, readOf, closing, sizesOf, takenOf, readCoefficient, padded, termOf, readPadded, readPlace, readPolynomial, placeInRow};
@@ -587,4 +591,67 @@ fn place_in_row(l: i64, block: i64, column: usize) -> usize
     ensures { λ r. ⌜ r ≡ placeInRow l block column ⌝ }
 {
     (l - block) as usize * 64 + (column - 1) * 16
+}
+
+// The coefficients of a term, stored at its place.
+fn put_term(row: &mut [i64], l: i64, e: TermRead)
+    requires { ⌜ (natAbs (l -ℤ e .block) ≤ 4) × (e .block ≤ℤ l) ⌝ }
+    requires { ⌜ (1 ≤ e .column) × (e .column ≤ 4) ⌝ }
+    requires { ⌜ placeInRow l (e .block) (e .column) + 16 ≤ length (now row) ⌝ }
+    ensures { λ _. ⌜ now (row .exit) ≡ paste (now (row .entry)) (placeInRow l (e .block) (e .column)) (e .coefficients) 16 ⌝ }
+{
+    let coefficients = e.coefficients;
+    copy(row, place_in_row(l, e.block, e.column), &coefficients, 16);
+}
+
+// The separator after one of several things on a line of which `left` are still to come.
+fn parting(left: usize) -> u8
+    ensures { λ r. ⌜ r ≡ Sheets.parting 10 left ⌝ }
+{
+    if left == 0 { 10 } else { 32 }
+}
+
+// A row of a system, or a refusal.
+struct EquationRead {
+    refusal: u8,
+    at: usize,
+    row: [i64; 320],
+}
+
+fn no_equation(refusal: u8) -> EquationRead
+    ensures { λ r. ⌜ (r .refusal ≡ refusal) × (r .at ≡ 0) ⌝ }
+{
+    EquationRead {
+        refusal,
+        at: 0,
+        row: [0; 320],
+    }
+}
+
+// `count` terms, put into a row as they are read.
+fn terms_at(bytes: &[u8], at: usize, z: Sizes, count: usize) -> EquationRead
+    requires { ⌜ (at ≤ length (now bytes)) × T (sizesRight (sizesOf z)) ⌝ }
+    ensures { λ r. ⌜ Answers (now (bytes .entry)) (r .refusal) (rowOf (r .row)) (r .at) (termsInto (sizesOf z) count (z .l) 0 blankRow (drop at (now (bytes .entry)))) ⌝ }
+{
+    let mut row: [i64; 320] = [0; 320];
+    let mut next = at;
+    let mut block = z.l;
+    let mut column = 0;
+    let mut left = count;
+    while 0 < left {
+        left -= 1;
+        let e = term_at(bytes, next, z, block, column, parting(left));
+        if e.refusal != 0 {
+            return no_equation(e.refusal);
+        }
+        put_term(&mut row, z.l, e);
+        next = e.at;
+        block = e.block;
+        column = e.column;
+    }
+    EquationRead {
+        refusal: 0,
+        at: next,
+        row,
+    }
 }
