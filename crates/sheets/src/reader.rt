@@ -1,16 +1,16 @@
 // Reading a sheet: numbers, terms, equations, sections.
 ghost use mathlib.Core.Path.{_≡_};
 ghost use mathlib.Core.Bool.{true, _&&_};
-ghost use Prim.Native.Nat.{_+_, _^_, _≤_, _<_};
+ghost use Prim.Native.Nat.{suc, _+_, _*_, _^_, _≤_, _<_};
 ghost use lib.ListN.{length, drop};
 ghost use lib.Seq.{slice, paste};
 ghost use Rattle.rules.specs.Rows.{every};
 ghost use Rattle.rules.specs.Numbers.{isSeparator, isDigit, startsRight, beginsNumber, valueFrom, readWord, thenRead, field, between, judgeSmall};
 ghost use Rattle.rules.specs.Sheets as Sheets;
-ghost use Rattle.rules.specs.Stores.{rowOf, sizesRight};
+ghost use Rattle.rules.specs.Stores.{span, rowOf, sizesRight};
 ghost use lib.Dec.{T};
 ghost use Rattle.sheets.specs.ReaderRows.{termsInto};
-ghost use Rattle.rules.specs.Sheets.{blankRow, judgeLowest, judgeLast, judgeBlock, judgeColumn, judgeOrderCount, afterCount, always, contains, judgeOrder, readCoefficients};
+ghost use Rattle.rules.specs.Sheets.{blankRow, readEquation, judgeLowest, judgeLast, judgeBlock, judgeColumn, judgeOrderCount, afterCount, always, contains, judgeOrder, readCoefficients};
 ghost use lib.IntN.{pos, natAbs, _-ℤ_};
 ghost use lib.Signed.{leZ, _≤ℤ_};
 ghost use Rattle.sheets.specs.Reader.{TokenEnd, DigitsStart, unjudged, tokenAnswer, NumberAt, Answers, readOf, closing, sizesOf, takenOf, readCoefficient, padded, termOf, readPadded, readPlace, readPolynomial, placeInRow};
@@ -654,4 +654,24 @@ fn terms_at(bytes: &[u8], at: usize, z: Sizes, count: usize) -> EquationRead
         at: next,
         row,
     }
+}
+
+// "its number of terms (0 to m × (D + 1))"
+fn most_terms(z: Sizes) -> i64
+    requires { ⌜ T (sizesRight (sizesOf z)) ⌝ }
+    ensures { λ r. ⌜ r ≡ pos (z .m * suc (span (sizesOf z))) ⌝ }
+{
+    (z.m * ((z.l - z.t) as usize + 1)) as i64
+}
+
+// "An equation is its number of terms [..], then each term"
+fn equation_at(bytes: &[u8], at: usize, z: Sizes) -> EquationRead
+    requires { ⌜ (at ≤ length (now bytes)) × T (sizesRight (sizesOf z)) ⌝ }
+    ensures { λ r. ⌜ Answers (now (bytes .entry)) (r .refusal) (rowOf (r .row)) (r .at) (readEquation (sizesOf z) (drop at (now (bytes .entry)))) ⌝ }
+{
+    let k = count_at(bytes, at, most_terms(z));
+    if k.refusal != 0 {
+        return no_equation(k.refusal);
+    }
+    terms_at(bytes, k.at, z, k.value as usize)
 }
