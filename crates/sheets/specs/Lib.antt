@@ -1,4 +1,5 @@
 pub mod Reader
 pub mod ReaderRows
+pub mod ReaderSections
 pub mod Writer
 pub mod ReadBack

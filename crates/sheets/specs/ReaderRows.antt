@@ -42,7 +42,7 @@ module _ {A : Type 0} where
   drop-take m n l h = ap (drop m) (take-add m n l) ∙ drop-at (take m l) (take n (drop m l)) m (length-take-le m l h)
 
   module _ (l : List A) (at : ℕ) (p : List A) (w : ℕ) (long : w ≤ length p) where
-    take-before-paste : (k : ℕ) → k ≤ at → at ≤ length l → take k (paste l at p w) ≡ take k l
+    pub take-before-paste : (k : ℕ) → k ≤ at → at ≤ length l → take k (paste l at p w) ≡ take k l
     take-before-paste k h inside =
         take-append-le k (take at l ++ take w p) (drop (at + w) l) (rw (length-paste-head l at p w inside long) (omega arith))
         ∙ take-append-le k (take at l) (take w p) (rw (length-take-le at l inside) h)
@@ -66,7 +66,7 @@ module _ {A : Type 0} where
         ∙ ap₂ (λ t r. t ++ take w p ++ r) (sym (take-take at k l (omega arith)))
         (sym (ap (λ j. drop (at + w) (take j l)) e ∙ drop-take (at + w) d l (omega arith)))
 
-  drop-into-paste : (l : List A) (k q : ℕ) (p : List A) (w : ℕ) → k + q ≤ length l → drop k (paste l (k + q) p w) ≡ paste (drop k l) q p w
+  pub drop-into-paste : (l : List A) (k q : ℕ) (p : List A) (w : ℕ) → k + q ≤ length l → drop k (paste l (k + q) p w) ≡ paste (drop k l) q p w
   drop-into-paste l k q p w inside =
       ap (drop k) (append-assoc (take (k + q) l) (take w p) (drop (k + q + w) l))
       ∙ drop-append-le k (take (k + q) l) (take w p ++ drop (k + q + w) l) (rw (length-take-le (k + q) l inside) (omega arith))

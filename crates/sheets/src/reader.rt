@@ -7,10 +7,10 @@ ghost use lib.Seq.{slice, paste};
 ghost use Rattle.rules.specs.Rows.{every};
 ghost use Rattle.rules.specs.Numbers.{isSeparator, isDigit, startsRight, beginsNumber, valueFrom, readWord, thenRead, field, between, judgeSmall};
 ghost use Rattle.rules.specs.Sheets as Sheets;
-ghost use Rattle.rules.specs.Stores.{span, rowOf, sizesRight};
+ghost use Rattle.rules.specs.Stores.{span, rowOf, rowsOf, sizesRight};
 ghost use lib.Dec.{T};
 ghost use Rattle.sheets.specs.ReaderRows.{termsInto};
-ghost use Rattle.rules.specs.Sheets.{blankRow, readEquation, judgeLowest, judgeLast, judgeBlock, judgeColumn, judgeOrderCount, afterCount, always, contains, judgeOrder, readCoefficients};
+ghost use Rattle.rules.specs.Sheets.{blankRow, readEquation, readEquations, judgeLowest, judgeLast, judgeBlock, judgeColumn, judgeOrderCount, afterCount, always, contains, judgeOrder, readCoefficients};
 ghost use lib.IntN.{pos, natAbs, _-ℤ_};
 ghost use lib.Signed.{leZ, _≤ℤ_};
 ghost use Rattle.sheets.specs.Reader.{TokenEnd, DigitsStart, unjudged, tokenAnswer, NumberAt, Answers, readOf, closing, sizesOf, takenOf, readCoefficient, padded, termOf, readPadded, readPlace, readPolynomial, placeInRow};
@@ -674,4 +674,42 @@ fn equation_at(bytes: &[u8], at: usize, z: Sizes) -> EquationRead
         return no_equation(k.refusal);
     }
     terms_at(bytes, k.at, z, k.value as usize)
+}
+
+// ---- sections
+
+// The place after a section, or a refusal.
+struct SectionRead {
+    refusal: u8,
+    at: usize,
+}
+
+fn no_section(refusal: u8) -> SectionRead
+    ensures { λ r. ⌜ (r .refusal ≡ refusal) × (r .at ≡ 0) ⌝ }
+{
+    SectionRead { refusal, at: 0 }
+}
+
+// The m equations, read into the first m × 320 numbers of `rows`.
+fn equations_at(bytes: &[u8], at: usize, z: Sizes, rows: &mut [i64]) -> SectionRead
+    requires { ⌜ (at ≤ length (now bytes)) × T (sizesRight (sizesOf z)) ⌝ }
+    requires { ⌜ 1280 ≤ length (now rows) ⌝ }
+    ensures { λ r. ⌜ Answers (now (bytes .entry)) (r .refusal) (rowsOf (z .m) (now (rows .exit))) (r .at) (readEquations (sizesOf z) (z .m) (drop at (now (bytes .entry)))) ⌝ }
+{
+    let mut next = at;
+    let mut i = 0;
+    while i < z.m {
+        let e = equation_at(bytes, next, z);
+        if e.refusal != 0 {
+            return no_section(e.refusal);
+        }
+        let row = e.row;
+        copy(rows, i * 320, &row, 320);
+        next = e.at;
+        i += 1;
+    }
+    SectionRead {
+        refusal: 0,
+        at: next,
+    }
 }
