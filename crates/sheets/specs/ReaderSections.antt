@@ -19,8 +19,8 @@ use lib.IntN.{ℤ, pos}
 use Rattle.rules.specs.Limits.{rowLength, relationLength}
 use Rattle.rules.specs.Rows.{Row, Relation}
 use Rattle.rules.specs.Stores.{Sizes, parts, rowOf, rowsOf, relationOf, relationsOf}
-use Rattle.rules.specs.Numbers.{Read, got, fault, thenRead}
-use Rattle.rules.specs.Sheets.{readEquation, readEquations, readRelation, readRelations}
+use Rattle.rules.specs.Numbers.{space, Read, got, fault, thenRead, field, judgeSmall}
+use Rattle.rules.specs.Sheets.{always, readEquation, readEquations, readRelation, readRelations}
 use Rattle.sheets.specs.Reader.{then-got, then-fault, then-then, then-cong}
 use Rattle.sheets.specs.ReaderRows.{take-before-paste, drop-into-paste}
 
@@ -169,6 +169,14 @@ relationOf-paste (x ∷ l) row n0 el er h =
     behind =
         ap₂ (λ t r. t ++ r) (take-all rowLength row (le-of-eq er)) (drop-of-length-le l (le-of-eq (suc-inj el)))
         ∙ append-nil row
+
+-- The definition of a relation, with its second part named.
+unfoldable pub relationThen : Sizes → ℤ → List ℕ → Read Relation
+relationThen z n0 bytes = thenRead (readEquation z bytes) λ r rest. got (record { index = n0; row = r }) rest
+
+pub relation-is : (z : Sizes) (bytes : List ℕ) → readRelation z bytes ≡ thenRead (field judgeSmall (always space) bytes) (relationThen z)
+unfolding readRelation relationThen
+relation-is z bytes = refl
 
 -- ---- the stores
 

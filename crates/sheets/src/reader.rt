@@ -7,10 +7,10 @@ ghost use lib.Seq.{slice, paste};
 ghost use Rattle.rules.specs.Rows.{every};
 ghost use Rattle.rules.specs.Numbers.{isSeparator, isDigit, startsRight, beginsNumber, valueFrom, readWord, thenRead, field, between, judgeSmall};
 ghost use Rattle.rules.specs.Sheets as Sheets;
-ghost use Rattle.rules.specs.Stores.{span, rowOf, rowsOf, sizesRight};
+ghost use Rattle.rules.specs.Stores.{span, rowOf, rowsOf, relationOf, relationsOf, sizesRight};
 ghost use lib.Dec.{T};
 ghost use Rattle.sheets.specs.ReaderRows.{termsInto};
-ghost use Rattle.rules.specs.Sheets.{blankRow, readEquation, readEquations, judgeLowest, judgeLast, judgeBlock, judgeColumn, judgeOrderCount, afterCount, always, contains, judgeOrder, readCoefficients};
+ghost use Rattle.rules.specs.Sheets.{blankRow, readEquation, readEquations, readRelation, readRelations, judgeLowest, judgeLast, judgeBlock, judgeColumn, judgeOrderCount, afterCount, always, contains, judgeOrder, readCoefficients};
 ghost use lib.IntN.{pos, natAbs, _-ℤ_};
 ghost use lib.Signed.{leZ, _≤ℤ_};
 ghost use Rattle.sheets.specs.Reader.{TokenEnd, DigitsStart, unjudged, tokenAnswer, NumberAt, Answers, readOf, closing, sizesOf, takenOf, readCoefficient, padded, termOf, readPadded, readPlace, readPolynomial, placeInRow};
@@ -705,6 +705,72 @@ fn equations_at(bytes: &[u8], at: usize, z: Sizes, rows: &mut [i64]) -> SectionR
         }
         let row = e.row;
         copy(rows, i * 320, &row, 320);
+        next = e.at;
+        i += 1;
+    }
+    SectionRead {
+        refusal: 0,
+        at: next,
+    }
+}
+
+// A relation, n0 and then a row, or a refusal.
+struct RelationRead {
+    refusal: u8,
+    at: usize,
+    numbers: [i64; 321],
+}
+
+fn no_relation(refusal: u8) -> RelationRead
+    ensures { λ r. ⌜ (r .refusal ≡ refusal) × (r .at ≡ 0) ⌝ }
+{
+    RelationRead {
+        refusal,
+        at: 0,
+        numbers: [0; 321],
+    }
+}
+
+// "n0 and an equation"
+fn relation_at(bytes: &[u8], at: usize, z: Sizes) -> RelationRead
+    requires { ⌜ (at ≤ length (now bytes)) × T (sizesRight (sizesOf z)) ⌝ }
+    ensures { λ r. ⌜ Answers (now (bytes .entry)) (r .refusal) (relationOf (r .numbers)) (r .at) (readRelation (sizesOf z) (drop at (now (bytes .entry)))) ⌝ }
+{
+    let n = small_at(bytes, at);
+    if n.refusal != 0 {
+        return no_relation(n.refusal);
+    }
+    let e = equation_at(bytes, n.at, z);
+    if e.refusal != 0 {
+        return no_relation(e.refusal);
+    }
+    let index = n.value;
+    let row = e.row;
+    // n0 comes first; the row takes the other places
+    let mut numbers: [i64; 321] = [index; 321];
+    copy(&mut numbers, 1, &row, 320);
+    RelationRead {
+        refusal: 0,
+        at: e.at,
+        numbers,
+    }
+}
+
+// The relations, read into the first `count` × 321 numbers of `relations`.
+fn relations_at(bytes: &[u8], at: usize, z: Sizes, count: usize, relations: &mut [i64]) -> SectionRead
+    requires { ⌜ (at ≤ length (now bytes)) × T (sizesRight (sizesOf z)) ⌝ }
+    requires { ⌜ (count ≤ 16) × (5136 ≤ length (now relations)) ⌝ }
+    ensures { λ r. ⌜ Answers (now (bytes .entry)) (r .refusal) (relationsOf count (now (relations .exit))) (r .at) (readRelations (sizesOf z) count (drop at (now (bytes .entry)))) ⌝ }
+{
+    let mut next = at;
+    let mut i = 0;
+    while i < count {
+        let e = relation_at(bytes, next, z);
+        if e.refusal != 0 {
+            return no_section(e.refusal);
+        }
+        let numbers = e.numbers;
+        copy(relations, i * 321, &numbers, 321);
         next = e.at;
         i += 1;
     }
