@@ -1,4 +1,6 @@
 pub mod Reader
+pub mod ReaderRows
+pub mod ReaderSections
 pub mod Writer
 pub mod WrittenNumbers
 pub mod Exact
