@@ -22,7 +22,8 @@ use mathlib.Core.Bool.{Bool, true, false, cond}
 use mathlib.Core.Logic.{_≢_}
 use mathlib.Core.List.{List, [], _∷_, _++_, map, flatten, append-assoc, append-nil}
 use Prim.Native.Nat.{ℕ, zero, suc, _+_, _-_, _*_, _/_, _%_, _^_, _≤_, _<_}
-use native.Mathlib.Nat.{add-zero, add-suc, suc-add, not-suc-le-zero, div-lt-self, div-lt-iff-lt-mul, lt-trans, le-trans, le-of-suc-le-suc, zero-add, pow-suc}
+use native.Mathlib.Nat.{zero-add, add-zero, suc-add, add-suc, pow-suc, div-lt-self, div-lt-iff-lt-mul}
+use native.Mathlib.Nat.{lt-trans, le-trans, le-of-suc-le-suc, not-suc-le-zero}
 use native.Mathlib.Numerals.{add-one}
 use native.Mathlib.Omega.{arith}
 use borrow.Author.Tests.{ltb-true, ltb-false, lt-ltb, le-ltb, ne-eqb}
@@ -37,7 +38,8 @@ use Rattle.rules.specs.Limits.{coefficientCount}
 use Rattle.rules.specs.Rows.{Block}
 use Rattle.rules.specs.Stores.{Sizes, parts, rowOf, rowsOf, relationOf, relationsOf}
 use Rattle.rules.specs.Layout.{length-rowsOf, length-relationsOf, parts-length, getD-parts}
-use Rattle.rules.specs.Sheets.{Sheet, Term, trim, blockTerms, termsFrom, termNumbers, equationNumbers, relationLine, orderLine, sheetLines, writeSheet}
+use Rattle.rules.specs.Sheets.{Sheet, Term, trim, blockTerms, termsFrom, termNumbers}
+use Rattle.rules.specs.Sheets.{equationNumbers, relationLine, orderLine, sheetLines, writeSheet}
 use Rattle.sheets.specs.declared.writer.Sizes as declared
 use Rattle.rows.specs.Flat.{polynomials-rowOf}
 use Rattle.rules.specs.Numbers.{space, newline, minus, decimalWithin, decimal, line, lines}
@@ -308,7 +310,8 @@ numbersOf-append [] fs = refl
 numbersOf-append (e ∷ es) fs =
     ap (λ r. termNumbers e ++ r) (numbersOf-append es fs) ∙ sym (append-assoc (termNumbers e) (numbersOf es) (numbersOf fs))
 
-pub block-cons : (s : ℤ) (c : ℕ) (p : Polynomial) (b : Block) → numbersOf (blockTerms s c (p ∷ b)) ≡ termAt s c p ++ numbersOf (blockTerms s (suc c) b)
+pub block-cons : (s : ℤ) (c : ℕ) (p : Polynomial) (b : Block)
+    → numbersOf (blockTerms s c (p ∷ b)) ≡ termAt s c p ++ numbersOf (blockTerms s (suc c) b)
 unfolding numbersOf blockTerms termAt flatten
 block-cons s c p b = cases (isZero p)
   where
@@ -336,7 +339,8 @@ nonzeroCount-append [] qs = sym (zero-add (nonzeroCount qs))
 nonzeroCount-append (p ∷ ps) qs = cases (isZero p) (nonzeroCount-append ps qs)
   where
     cases : (t : Bool) → nonzeroCount (ps ++ qs) ≡ nonzeroCount ps + nonzeroCount qs
-        → cond t (nonzeroCount (ps ++ qs)) (suc (nonzeroCount (ps ++ qs))) ≡ cond t (nonzeroCount ps) (suc (nonzeroCount ps)) + nonzeroCount qs
+        → cond t (nonzeroCount (ps ++ qs)) (suc (nonzeroCount (ps ++ qs)))
+        ≡ cond t (nonzeroCount ps) (suc (nonzeroCount ps)) + nonzeroCount qs
     cases true e = e
     cases false e = ap suc e ∙ sym (suc-add (nonzeroCount ps) (nonzeroCount qs))
 
@@ -397,7 +401,8 @@ pub count-some : (l : List ℤ) (i n : ℕ) → i < 20 → n ≡ length (trim (t
     → nonzeroCount (drop i (parts 16 20 l)) ≡ suc (nonzeroCount (drop (i + 1) (parts 16 20 l)))
 unfolding nonzeroCount
 count-some l i n h e some =
-    rw (parts-next 16 20 l i h, isZero-trim (take 16 (drop (i * 16) l)), ne-eqb (length (trim (take 16 (drop (i * 16) l)))) 0 (λ z. some (e ∙ z)))
+    let part = take 16 (drop (i * 16) l) in
+    rw (parts-next 16 20 l i h, isZero-trim part, ne-eqb (length (trim part)) 0 (λ z. some (e ∙ z)))
 
 -- ---- one term, and one block, more
 
@@ -453,7 +458,8 @@ equation-line l row =
     ∙ ap (λ n. line (pos n ∷ numbers)) (sym (term-count l row))
 
 pub relation-line : (l : ℤ) (part : List ℤ)
-    → (decimal (getD part 0 (pos 0)) ++ spaced (pos (nonzeroCount (parts 16 20 (drop 1 part))) ∷ numbersOf (termsFrom l (rowOf (drop 1 part) .blocks))))
+    → (decimal (getD part 0 (pos 0))
+    ++ spaced (pos (nonzeroCount (parts 16 20 (drop 1 part))) ∷ numbersOf (termsFrom l (rowOf (drop 1 part) .blocks))))
     ++ (newline ∷ [])
     ≡ line (relationLine l (relationOf part))
 unfolding relationLine relationOf equationNumbers numbersOf
@@ -474,7 +480,8 @@ count-line n = ap (λ d. d ++ (newline ∷ [])) (sym (decimal-count n))
 
 -- The lines of what the parts of a store hold, one line more.
 pub lines-next : {B : Type 0} (f : B → List ℤ) (g : List ℤ → B) (k n : ℕ) (l : List ℤ) (i : ℕ) → i < n
-    → lines (map f (drop i (map g (parts k n l)))) ≡ line (f (g (take k (drop (i * k) l)))) ++ lines (map f (drop (i + 1) (map g (parts k n l))))
+    → lines (map f (drop i (map g (parts k n l))))
+    ≡ line (f (g (take k (drop (i * k) l)))) ++ lines (map f (drop (i + 1) (map g (parts k n l))))
 unfolding lines flatten
 lines-next f g k n l i h = ap (λ r. lines (map f r)) (held-next g k n l i h)
 
@@ -502,7 +509,8 @@ unfolding lines flatten
 lines-join a b c e l m =
     ap (λ r. line a ++ (line b ++ r))
     (ap (λ r. lines l ++ (line c ++ (lines m ++ r))) (sym (append-nil (line e)))
-    ∙ sym (append-assoc (lines l) (line c ++ lines m) (line e ++ []) ∙ ap (λ r. lines l ++ r) (append-assoc (line c) (lines m) (line e ++ [])))
+    ∙ sym
+    (append-assoc (lines l) (line c ++ lines m) (line e ++ []) ∙ ap (λ r. lines l ++ r) (append-assoc (line c) (lines m) (line e ++ [])))
     ∙ ap (λ r. r ++ (line e ++ [])) (sym (lines-append l (c ∷ m))) ∙ sym (lines-append (l ++ (c ∷ m)) (e ∷ [])))
 
 -- The sizes that the code hands on.

@@ -31,7 +31,8 @@ use Rattle.algebra.specs.Order.{≤ℤ-trans, natAbs-≤-iff}
 use Rattle.algebra.specs.Polynomials.{isZero}
 use Rattle.rules.specs.Limits.{relationLength, small}
 use Rattle.rules.specs.Rows.{Row, Relation, every, smallRow}
-use Rattle.rules.specs.Stores.{Sizes, span, rowOf, rowsOf, relationOf, relationsOf, relationNeed, rowNeed, sizesRight, countRight, unusedZero, rowRight, relationRight, numbersRight}
+use Rattle.rules.specs.Stores.{Sizes, span, rowOf, rowsOf, relationOf, relationsOf, relationNeed, rowNeed}
+use Rattle.rules.specs.Stores.{sizesRight, countRight, unusedZero, rowRight, relationRight, numbersRight}
 use Rattle.rules.specs.Layout.{StoresRight, SizeBounds, checkStores-zero, checkStores-order, size-bounds, countRight-iff, lengthsRight-iff}
 use Rattle.rules.specs.Calls.{overwrite}
 use Rattle.rules.specs.Sheets.{writeSheet}
@@ -53,7 +54,9 @@ difference-size l t low ordered high =
 
 -- ---- tests of all members
 
-module _ {A : Type 0} (t : A → Bool) (l : List A) (i : ℕ) {x : A} (next : drop i l ≡ x ∷ drop (i + 1) l) (left : every t l ≡ every t (drop i l)) where
+-- `next` says what member i is, `left` that those before it passed.
+module _ {A : Type 0} (t : A → Bool) (l : List A) (i : ℕ) {x : A} (next : drop i l ≡ x ∷ drop (i + 1) l)
+    (left : every t l ≡ every t (drop i l)) where
   pub every-passed : t x ≡ true → every t l ≡ every t (drop (i + 1) l)
   unfolding every
   every-passed e = left ∙ ap (every t) next ∙ ap (λ b. b && every t (drop (i + 1) l)) e
@@ -78,7 +81,8 @@ unfolding small rightRow
 rightRelation m D e = small (e .index) && rightRow m D (e .row)
 
 pub numbers-right : (z : Sizes) (count : ℕ) (rowStore relationStore : List ℤ)
-    → ((every (rightRow (z .m) (span z)) (rowsOf (z .m) rowStore) && every (rightRelation (z .m) (span z)) (relationsOf count relationStore))
+    → ((every (rightRow (z .m) (span z)) (rowsOf (z .m) rowStore)
+    && every (rightRelation (z .m) (span z)) (relationsOf count relationStore))
     && isZero (drop (count * relationLength) (take relationNeed relationStore)))
     ≡ numbersRight z count rowStore relationStore
 unfolding numbersRight rowRight relationRight rightRow rightRelation
@@ -94,7 +98,8 @@ part-rest k [] = sym (take-nil k)
 part-rest k (a ∷ l) = refl
 
 pub relation-at : (l : List ℤ) (i m D : ℕ)
-    → (small (getD l (i * 321) (pos 0)) && rightRow m D (rowOf (take 320 (drop (i * 321 + 1) l)))) ≡ rightRelation m D (relationOf (take 321 (drop (i * 321) l)))
+    → (small (getD l (i * 321) (pos 0)) && rightRow m D (rowOf (take 320 (drop (i * 321 + 1) l))))
+    ≡ rightRelation m D (relationOf (take 321 (drop (i * 321) l)))
 unfolding rightRelation relationOf
 relation-at l i m D =
     let part = drop (i * 321) l in
@@ -114,7 +119,8 @@ drop-take (suc j) (suc n) (x ∷ l) h = drop-take j n l (le-of-suc-le-suc h) ∙
 pub check-order : (z : Sizes) (count : ℕ) (order : List ℕ) (rowStore relationStore : List ℤ)
     → checkWrite z count order rowStore relationStore
     ≡ cond ((sizesRight z && leb count 16) && orderRight (z .m) order)
-    (cond (leb (z .m * 320) (length rowStore) && leb 5136 (length relationStore)) (cond (numbersRight z count rowStore relationStore) 0 5) 1) 2
+    (cond (leb (z .m * 320) (length rowStore) && leb 5136 (length relationStore))
+    (cond (numbersRight z count rowStore relationStore) 0 5) 1) 2
 unfolding checkWrite
 check-order z count order rowStore relationStore = refl
 
@@ -161,7 +167,8 @@ abbrev pub callOf : declared.Written → List ℕ → WriteCall
 callOf r bytes = record { refusal = r .refusal; length = r .length; byteStore = bytes }
 
 -- The first n columns of the order are written: none, or m.
-pub sheet-given : (z : Sizes) (count : ℕ) (order : List ℕ) (rowStore relationStore : List ℤ) (n : ℕ) → n ≡ cond (every (eqb 0) order) 0 (z .m)
+pub sheet-given : (z : Sizes) (count : ℕ) (order : List ℕ) (rowStore relationStore : List ℤ) (n : ℕ)
+    → n ≡ cond (every (eqb 0) order) 0 (z .m)
     → writeSheet (sheetGiven z count (take n order) rowStore relationStore) ≡ writeSheet (sheetOf z count order rowStore relationStore)
 unfolding sheetOf sheetGiven orderGiven
 sheet-given z count order rowStore relationStore n e =
@@ -185,7 +192,8 @@ call-refused z count order rowStore relationStore byteStore (suc n) e ne =
 
 pub call-checked : (z : Sizes) (count : ℕ) (order : List ℕ) (rowStore relationStore : List ℤ) (byteStore : List ℕ)
     → checkWrite z count order rowStore relationStore ≡ 0
-    → written (writeSheet (sheetOf z count order rowStore relationStore)) byteStore ≡ writeCall z count order rowStore relationStore byteStore
+    → written (writeSheet (sheetOf z count order rowStore relationStore)) byteStore
+    ≡ writeCall z count order rowStore relationStore byteStore
 unfolding writeCall
 call-checked z count order rowStore relationStore byteStore e = ap (afterWriteCheck z count order rowStore relationStore byteStore) (sym e)
 

@@ -11,7 +11,7 @@ ghost use lib.ListN.{length};
 ghost use Rattle.rules.specs.Sheets.{trim, blockTerms, termsFrom, equationNumbers, relationLine, orderLine, writeSheet};
 ghost use Rattle.rules.specs.Stores.{parts, rowOf, rowsOf, relationOf, relationsOf};
 ghost use Rattle.sheets.specs.Writer.{Put, digitsOf, spaced, termAt, numbersOf, nonzeroCount, sheetGiven, sizesOf};
-ghost use Rattle.sheets.specs.WriterChecks.{callOf};
+ghost use Rattle.sheets.specs.WriterChecks.{Checked, callOf};
 ghost use Rattle.rules.specs.SheetCalls.{writeCall};
 
 // The sizes of a system: "m unknowns (1 to 4)", blocks from t to l.
@@ -78,7 +78,8 @@ fn put_next_count(bytes: &mut [u8], at: usize, n: usize) -> usize
 
 fn put_numbers(bytes: &mut [u8], at: usize, numbers: &[i64]) -> usize
     requires { ⌜ at + 22 * length (now numbers) < 2 ^ 64 ⌝ }
-    ensures { λ r. ⌜ Put (now (bytes .entry)) at (spaced (now (numbers .entry))) (22 * length (now (numbers .entry))) (now (bytes .exit)) r ⌝ }
+    ensures { λ r. ⌜
+        Put (now (bytes .entry)) at (spaced (now (numbers .entry))) (22 * length (now (numbers .entry))) (now (bytes .exit)) r ⌝ }
 {
     let mut next = at;
     let mut i = 0;
@@ -121,7 +122,9 @@ fn put_term(bytes: &mut [u8], at: usize, p: &[i64], block: i64, column: usize) -
 // The terms of one block, by rising column.
 fn put_block(bytes: &mut [u8], at: usize, numbers: &[i64], block: i64) -> usize
     requires { ⌜ (length (now numbers) ≡ 64) × (at + 1664 < 2 ^ 64) ⌝ }
-    ensures { λ r. ⌜ Put (now (bytes .entry)) at (spaced (numbersOf (blockTerms block 1 (parts 16 4 (now (numbers .entry)))))) 1664 (now (bytes .exit)) r ⌝ }
+    ensures { λ r. ⌜
+        Put (now (bytes .entry)) at (spaced (numbersOf (blockTerms block 1 (parts 16 4 (now (numbers .entry)))))) 1664
+        (now (bytes .exit)) r ⌝ }
 {
     let mut next = at;
     let mut c = 0;
@@ -137,7 +140,8 @@ fn put_block(bytes: &mut [u8], at: usize, numbers: &[i64], block: i64) -> usize
 // The terms of a row, "by falling s, then rising c".
 fn put_terms(bytes: &mut [u8], at: usize, row: &[i64], l: i64) -> usize
     requires { ⌜ (length (now row) ≡ 320) × (natAbs l ≤ 64) × (at + 8320 < 2 ^ 64) ⌝ }
-    ensures { λ r. ⌜ Put (now (bytes .entry)) at (spaced (numbersOf (termsFrom l (rowOf (now (row .entry)) .blocks)))) 8320 (now (bytes .exit)) r ⌝ }
+    ensures { λ r. ⌜
+        Put (now (bytes .entry)) at (spaced (numbersOf (termsFrom l (rowOf (now (row .entry)) .blocks)))) 8320 (now (bytes .exit)) r ⌝ }
 {
     let mut next = at;
     let mut b = 0;
@@ -191,7 +195,8 @@ fn put_relation(bytes: &mut [u8], at: usize, numbers: &[i64], l: i64) -> usize
 
 fn put_equations(bytes: &mut [u8], at: usize, rows: &[i64], m: usize, l: i64) -> usize
     requires { ⌜ (m ≤ 4) × (m * 320 ≤ length (now rows)) × (natAbs l ≤ 64) × (at + 33364 < 2 ^ 64) ⌝ }
-    ensures { λ r. ⌜ Put (now (bytes .entry)) at (lines (map (equationNumbers l) (rowsOf m (now (rows .entry))))) 33364 (now (bytes .exit)) r ⌝ }
+    ensures { λ r. ⌜
+        Put (now (bytes .entry)) at (lines (map (equationNumbers l) (rowsOf m (now (rows .entry))))) 33364 (now (bytes .exit)) r ⌝ }
 {
     let mut next = at;
     let mut i = 0;
@@ -206,7 +211,9 @@ fn put_equations(bytes: &mut [u8], at: usize, rows: &[i64], m: usize, l: i64) ->
 
 fn put_relations(bytes: &mut [u8], at: usize, relations: &[i64], count: usize, l: i64) -> usize
     requires { ⌜ (count ≤ 16) × (count * 321 ≤ length (now relations)) × (natAbs l ≤ 64) × (at + 133808 < 2 ^ 64) ⌝ }
-    ensures { λ r. ⌜ Put (now (bytes .entry)) at (lines (map (relationLine l) (relationsOf count (now (relations .entry))))) 133808 (now (bytes .exit)) r ⌝ }
+    ensures { λ r. ⌜
+        Put (now (bytes .entry)) at (lines (map (relationLine l) (relationsOf count (now (relations .entry))))) 133808
+        (now (bytes .exit)) r ⌝ }
 {
     let mut next = at;
     let mut i = 0;
@@ -230,7 +237,8 @@ fn put_count(bytes: &mut [u8], at: usize, n: usize) -> usize
 
 fn put_columns(bytes: &mut [u8], at: usize, columns: &[usize]) -> usize
     requires { ⌜ at + 21 * length (now columns) < 2 ^ 64 ⌝ }
-    ensures { λ r. ⌜ Put (now (bytes .entry)) at (spaced (map pos (now (columns .entry)))) (21 * length (now (columns .entry))) (now (bytes .exit)) r ⌝ }
+    ensures { λ r. ⌜
+        Put (now (bytes .entry)) at (spaced (map pos (now (columns .entry)))) (21 * length (now (columns .entry))) (now (bytes .exit)) r ⌝ }
 {
     let mut next = at;
     let mut i = 0;
@@ -270,8 +278,11 @@ fn put_sheet(
     count: usize,
     columns: &[usize],
 ) -> usize
-    requires { ⌜ (sizes .m ≤ 4) × (sizes .m * 320 ≤ length (now rows)) × (natAbs (sizes .l) ≤ 64) × (count ≤ 16) × (count * 321 ≤ length (now relations)) × (length (now columns) ≤ 4) ⌝ }
-    ensures { λ r. ⌜ Put (now (bytes .entry)) 0 (writeSheet (sheetGiven (sizesOf sizes) count (now (columns .entry)) (now (rows .entry)) (now (relations .entry)))) 167386 (now (bytes .exit)) r ⌝ }
+    requires { ⌜ Checked (sizesOf sizes) count (now rows) (now relations) × (length (now columns) ≤ 4) ⌝ }
+    ensures { λ r. ⌜
+        Put (now (bytes .entry)) 0
+        (writeSheet (sheetGiven (sizesOf sizes) count (now (columns .entry)) (now (rows .entry)) (now (relations .entry)))) 167386
+        (now (bytes .exit)) r ⌝ }
 {
     let m = sizes.m;
     let l = sizes.l;
@@ -299,7 +310,9 @@ pub fn write_sheet(
     order: [usize; 4],
     bytes: &mut [u8],
 ) -> Written
-    ensures { λ r. ⌜ callOf r (now (bytes .exit)) ≡ writeCall (sizesOf sizes) count order (now (rows .entry)) (now (relations .entry)) (now (bytes .entry)) ⌝ }
+    ensures { λ r. ⌜
+        callOf r (now (bytes .exit))
+        ≡ writeCall (sizesOf sizes) count order (now (rows .entry)) (now (relations .entry)) (now (bytes .entry)) ⌝ }
 {
     let refusal = checks::check_write(rows, relations, sizes, count, order);
     if refusal != 0 {

@@ -145,7 +145,8 @@ fn relations_right(relations: &[i64], count: usize, m: usize, span: usize) -> bo
 
 // "a coefficient or n0 outside ±C, or a nonzero number at an unused store position"
 fn numbers_right(rows: &[i64], relations: &[i64], sizes: Sizes, count: usize) -> bool
-    requires { ⌜ T (sizesRight (sizesOf sizes)) × (count ≤ 16) × (sizes .m * 320 ≤ length (now rows)) × (5136 ≤ length (now relations)) ⌝ }
+    requires { ⌜
+        T (sizesRight (sizesOf sizes)) × (count ≤ 16) × (sizes .m * 320 ≤ length (now rows)) × (5136 ≤ length (now relations)) ⌝ }
     ensures { λ r. ⌜ r ≡ numbersRight (sizesOf sizes) count (now (rows .entry)) (now (relations .entry)) ⌝ }
 {
     let m = sizes.m;

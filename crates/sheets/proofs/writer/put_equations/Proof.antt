@@ -67,11 +67,10 @@ loop-again c =
     let i = turn .before .loop .i in
     let l = toZ w64 (ofZ w64 (args .l)) in
     let width : i * 320 + 320 - i * 320 ≡ 320 = omega arith in
-    let part = ap (λ n. line (equationNumbers l (rowOf (take n (drop (i * 320) store))))) width in
-    (
+    let part = ap (λ n. line (equationNumbers l (rowOf (take n (drop (i * 320) store))))) width in (
       omega arith,
       going-next (turn .before .loop .inv .1) (lines-next (equationNumbers l) rowOf 320 (args .m) store i (turn .loop-test .taken))
-      (put-same (c .before .before .put-equation .ensures) part) (omega arith),
+          (put-same (c .before .before .put-equation .ensures) part) (omega arith),
     )
 
 same-length : tie.Need-same-length Inv-loop μ-loop

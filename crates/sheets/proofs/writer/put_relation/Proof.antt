@@ -66,7 +66,8 @@ returns c =
     let rest : part ≡ drop 1 numbers = take-all (length numbers - 1) (drop 1 numbers) (rw length-drop (le-refl _)) in
     put-same
     (put-then
-    (put-then (indexed .put-number .ensures) (spaced-then (_ ∷ []) (terms part read-l) (counted .put-next-count .ensures) (written .put-terms .ensures)))
+    (put-then (indexed .put-number .ensures)
+    (spaced-then (_ ∷ []) (terms part read-l) (counted .put-next-count .ensures) (written .put-terms .ensures)))
     (c .before .before .put-byte .ensures))
     (ap₂ (λ a n. bytes a n part read-l) (toZ-ofZ read) (counted .before .term-count .ensures)
     ∙ ap₂ (λ row l. bytes (getD numbers 0 (pos 0)) (nonzeroCount (parts 16 20 row)) row l) rest (toZ-ofZ (start .fits .l))

@@ -67,11 +67,10 @@ loop-again c =
     let i = turn .before .loop .i in
     let l = toZ w64 (ofZ w64 (args .l)) in
     let width : i * 321 + 321 - i * 321 ≡ 321 = omega arith in
-    let part = ap (λ n. line (relationLine l (relationOf (take n (drop (i * 321) store))))) width in
-    (
+    let part = ap (λ n. line (relationLine l (relationOf (take n (drop (i * 321) store))))) width in (
       omega arith,
       going-next (turn .before .loop .inv .1) (lines-next (relationLine l) relationOf 321 (args .count) store i (turn .loop-test .taken))
-      (put-same (c .before .before .put-relation .ensures) part) (omega arith),
+          (put-same (c .before .before .put-relation .ensures) part) (omega arith),
     )
 
 same-length : tie.Need-same-length Inv-loop μ-loop

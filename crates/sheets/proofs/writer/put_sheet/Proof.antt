@@ -31,7 +31,7 @@ module _ (c : tie.After-struct-told) where
   back-t = toZ-ofZ {w = w64} {z = t} (sfits-of (c .struct-told .given .1 .1 .0 .1))
 
   small : natAbs (toZ w64 (ofZ w64 l)) ≤ 64
-  small = rw back-l (c .before .before .before .pre .2)
+  small = rw back-l (c .before .before .before .pre .0 .blocks)
 
 put-sizes-requires : tie.Need-put-sizes-requires
 put-sizes-requires c κs = search needs
@@ -40,13 +40,20 @@ put-count-requires : tie.Need-put-count-requires
 put-count-requires c κs = search needs
 
 put-equations-requires : tie.Need-put-equations-requires
-put-equations-requires c κs = (search needs, search needs, small (c .before .before .before .before .before .before .before .before .before .before), search needs)
+put-equations-requires c κs =
+    let told = c .before .before .before .before .before .before .before .before .before .before in
+    let ready = told .before .before .before .pre .0 in
+    (ready .columns, ready .rows, small told, search needs)
 
 put-count-requires-2 : tie.Need-put-count-requires-2
 put-count-requires-2 c κs = search needs
 
 put-relations-requires : tie.Need-put-relations-requires
-put-relations-requires c κs = (search needs, search needs, small (c .before .before .before .before .before .before .before .before .before .before .before .before .before .before .before .before .before .before), search needs)
+put-relations-requires c κs =
+    let after-rows = c .before .before .before .before .before .before .before .before in
+    let told = after-rows .before .before .before .before .before .before .before .before .before .before in
+    let ready = told .before .before .before .pre .0 in
+    (ready .few, ready .relations, small told, search needs)
 
 put-order-requires : tie.Need-put-order-requires
 put-order-requires c κs = search needs
@@ -67,12 +74,14 @@ returns c =
     let bytes : ℤ → ℤ → List ℕ = λ l t.
     line (pos 3 ∷ pos m ∷ l ∷ t ∷ [])
     ++ (line (pos m ∷ []) ++ (lines (map (equationNumbers l) (rowsOf m (now (args .rows))))
-    ++ (line (pos (args .count) ∷ []) ++ (lines (map (relationLine l) (relationsOf (args .count) (now (args .relations)))) ++ line (orderLine (now (args .columns))))))) in
+    ++ (line (pos (args .count) ∷ []) ++ (lines (map (relationLine l) (relationsOf (args .count) (now (args .relations))))
+    ++ line (orderLine (now (args .columns))))))) in
     put-same
     (put-then (after-sizes .put-sizes .ensures)
     (put-then (after-m .put-count .ensures)
     (put-then (after-rows .put-equations .ensures)
-    (put-then (after-count .put-count2 .ensures) (put-then (after-relations .put-relations .ensures) (c .before .before .put-order .ensures))))))
+    (put-then (after-count .put-count2 .ensures)
+    (put-then (after-relations .put-relations .ensures) (c .before .before .put-order .ensures))))))
     (ap₂ bytes (back-l told) (back-t told)
     ∙ sheet-bytes (sizesOf (args .sizes)) (args .count) (now (args .columns)) (now (args .rows)) (now (args .relations)))
 

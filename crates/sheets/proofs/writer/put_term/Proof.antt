@@ -47,7 +47,9 @@ put-next-count-requires-2 : tie.Need-put-next-count-requires-2
 put-next-count-requires-2 c κs = search needs
 
 slice-aggregate-put-numbers : tie.Need-slice-aggregate-put-numbers
-slice-aggregate-put-numbers c = sym (size (c .before .before .before .before .before .before .before .before .before .before .before .before .before .before .before))
+slice-aggregate-put-numbers c =
+    let blocked = c .before .before .before .before .before .before .before .before .before .before .before .before in
+    sym (size (blocked .before .before .before))
 
 put-numbers-requires : tie.Need-put-numbers-requires
 put-numbers-requires c κs =

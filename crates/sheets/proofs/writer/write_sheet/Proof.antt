@@ -1,4 +1,5 @@
--- `sheets::writer::write_sheet` meets its contract. The first call of `put_sheet` only counts; the second stores all bytes, for which there is room.
+-- `sheets::writer::write_sheet` meets its contract. The first call of `put_sheet` only counts; the second stores
+-- all bytes, for which there is room then.
 -- Assumes nothing.
 use mathlib.Core.Path.{_≡_, sym, _∙_, ap, ap₂, subst}
 use mathlib.Core.List.{List, _++_}
@@ -15,7 +16,8 @@ use Rattle.rules.specs.Sheets.{writeSheet}
 use Rattle.rules.specs.SheetCalls.{checkWrite, sheetOf, unwritten}
 use Rattle.rules.specs.Stores.{Sizes}
 use Rattle.sheets.specs.Writer.{sizesOf, sheetGiven}
-use Rattle.sheets.specs.WriterChecks.{Checked, checked, sheet-given, given-few, call-refused, call-checked, written-short, written-whole, sets-none}
+use Rattle.sheets.specs.WriterChecks.{Checked, checked, sheet-given, given-few, sets-none}
+use Rattle.sheets.specs.WriterChecks.{call-refused, call-checked, written-short, written-whole}
 use borrow.Author.Needs.{needs}
 use Rattle.sheets.proofs.writer.write_sheet.Statement.{statement}
 use Rattle.sheets.proofs.writer.write_sheet.Tie as tie
@@ -67,7 +69,8 @@ module _ (c : tie.After-order-length) where
   bytes = writeSheet (sheetGiven (z start) (count start) columns (rows start) (relations start))
 
   same : bytes ≡ sheet start
-  same = sheet-given (z start) (count start) (order start) (rows start) (relations start) (c .order-length .result) (c .order-length .ensures)
+  same =
+      sheet-given (z start) (count start) (order start) (rows start) (relations start) (c .order-length .result) (c .order-length .ensures)
 
 -- what the first call tells
 module _ (c : tie.After-put-sheet) where
@@ -87,7 +90,8 @@ returns : tie.Need-returns
 unfolding unwritten
 returns c =
     let s = c .before .before .before in
-    call-refused (z s) (count s) (order s) (rows s) (relations s) (store s) (c .before .check-write .result) (c .before .check-write .ensures) (c .if1 .taken)
+    let found = c .before .check-write in
+    call-refused (z s) (count s) (order s) (rows s) (relations s) (store s) (found .result) (found .ensures) (c .if1 .taken)
 
 order-length-requires : tie.Need-order-length-requires
 order-length-requires c κs = search needs
@@ -107,7 +111,7 @@ slice-aggregate-put-sheet-2 c = sym (size (c .before .before .before))
 put-sheet-requires : tie.Need-put-sheet-requires
 put-sheet-requires c κs =
     let o = c .before .before .before in
-    (facts o .columns, facts o .rows, facts o .blocks, facts o .few, facts o .relations, omega (arith, size o, few o))
+    (facts o, omega (arith, size o, few o))
 
 same-length : tie.Need-same-length
 same-length c = search needs
@@ -127,7 +131,7 @@ slice-aggregate-put-sheet-3 c = sym (size (c .before .before .before .before .be
 put-sheet-requires-2 : tie.Need-put-sheet-requires-2
 put-sheet-requires-2 c κs =
     let o = c .before .before .before .before .before .before .before .before .before in
-    (facts o .columns, facts o .rows, facts o .blocks, facts o .few, facts o .relations, omega (arith, size o, few o))
+    (facts o, omega (arith, size o, few o))
 
 same-length-2 : tie.Need-same-length-2
 same-length-2 c = search needs
@@ -136,7 +140,8 @@ returns-3 : tie.Need-returns-3
 returns-3 c =
     let p = c .before .before .before .before .before .before .before .before in
     let s = start (given p) in
-    let whole : length (sheet s) ≤ length (store s) = omega (arith, counted p, ap length (kept p), c .before .before .before .before .before .if2 .left) in
+    let room = c .before .before .before .before .before .if2 .left in
+    let whole : length (sheet s) ≤ length (store s) = omega (arith, counted p, ap length (kept p), room) in
     let stored : c .before .before .put-sheet2 .last .0 ≡ sets (store s) 0 (sheet s) =
     c .before .before .put-sheet2 .ensures .stored ∙ ap₂ (λ l xs. sets l 0 xs) (kept p) (same (given p)) in
     (λ i. record { refusal = 0; length = counted p i; byteStore = stored i }) ∙ written-whole (sheet s) (store s) whole

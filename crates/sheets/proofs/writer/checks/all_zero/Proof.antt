@@ -50,7 +50,7 @@ loop-again c =
     let i = turn .before .loop .i in (
       omega arith,
       every-passed (eqb 0) numbers i (drop-next numbers i 0 (turn .loop-test .taken)) (turn .before .loop .inv .1)
-      (ap (eqb 0) (c .if1 .left)),
+          (ap (eqb 0) (c .if1 .left)),
     )
 
 returns-2 : tie.Need-returns-2 Inv-loop μ-loop

@@ -71,7 +71,8 @@ rows-passed c = le-leb _ _ (c .if4 .left)
 
 at-numbers : (c : tie.Else5) → answer (start (c .before .before)) ≡ numbers (start (c .before .before))
 at-numbers c =
-    rw (at-lengths (c .before .before), rows-passed (c .before), le-leb 5136 (length (relations (start (c .before .before)))) (c .if5 .left))
+    let e = c .before .before in
+    rw (at-lengths e, rows-passed (c .before), le-leb 5136 (length (relations (start e))) (c .if5 .left))
 
 sizes-right-requires : tie.Need-sizes-right-requires
 sizes-right-requires c κs = search needs
@@ -88,7 +89,8 @@ order-right-requires c κs = few (c .before)
 returns-3 : tie.Need-returns-3
 returns-3 c =
     let e = c .before .before in
-    rw (tests (e .before .before .before), sizes-passed (e .before), count-passed e, sym (c .before .order-right .ensures) ∙ not-true _ (c .if3 .taken))
+    let failed = sym (c .before .order-right .ensures) ∙ not-true _ (c .if3 .taken) in
+    rw (tests (e .before .before .before), sizes-passed (e .before), count-passed e, failed)
 
 mul-if4 : tie.Need-mul-if4
 mul-if4 c = omega (arith, few (c .before .before .before))

@@ -73,7 +73,8 @@ returns-3 : tie.Need-returns-3
 unfolding sizesRight
 returns-3 c =
     let m = c .before .before .before in
-    simp (some-columns m, few-columns m, low (c .before .before), ordered (c .before), high c, back-l (told c), back-t (told c), toZ-ofZ (fits c))
+    let low-t = low (c .before .before) in
+    simp (some-columns m, few-columns m, low-t, ordered (c .before), high c, back-l (told c), back-t (told c), toZ-ofZ (fits c))
 
 returns-4 : tie.Need-returns-4
 unfolding sizesRight
