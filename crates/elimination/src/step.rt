@@ -109,7 +109,7 @@ fn settled(c: usize, p: Progress) -> Progress
     }
 }
 
-// Rule 6.
+// Rule 6: "every block moves up by one and n becomes n + 1 in the row".
 fn shift_step(rows: &mut [i64], row: [i64; 320], p: Progress) -> Outcome
     requires { ⌜ (p .settled * 320 + 320 ≤ length (now rows)) × T (every small row) × (p .shifts < 2 ^ 32) ⌝ }
     ensures { λ _. ⌜ now (rows .exit) ≡ saved (now (rows .entry)) (p .settled) (refusalOf (shiftedRow row)) (numbersOf (shiftedRow row)) ⌝ }
@@ -126,7 +126,7 @@ fn shift_step(rows: &mut [i64], row: [i64; 320], p: Progress) -> Outcome
     put_limited(rows, i, rows::shifting::shifted(row), next)
 }
 
-// Rules 3 and 4, in a system of m unknowns.
+// Rules 3 and 4 for the row that is worked on and settled row j. The number m of rows stands in the contract only.
 fn combine_step(
     rows: &mut [i64],
     relations: &mut [i64],
