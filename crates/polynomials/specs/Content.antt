@@ -13,7 +13,7 @@
 --   prefix-next, prefix-all, suffix-next, suffix-first   a list that is overwritten from the front
 --   quotient-at            the quotient by a positive i64 is a coefficient of `divideBy`
 --   small-at, below-of-small, below-divideBy, below-negate   sizes of coefficients, of quotients and of negatives
---   content-bounds         the content of a nonzero polynomial within ±C and of another is positive and at most C
+--   content-bounds         the content of two polynomials within ±C that are not both zero is positive and at most C
 --   signs-turned, signs-kept   the two cases of rule 2's signs
 use mathlib.Core.Path.{_≡_, refl, sym, _∙_, ap, ap₂, subst}
 use mathlib.Core.Logic.{_≢_, ⊎-elim}
@@ -35,8 +35,8 @@ use borrow.Author.Needs.{sfits-of}
 use Rattle.algebra.specs.Integers.{natAbs-negℤ, natAbs-zero}
 use Rattle.algebra.specs.Polynomials.{Polynomial, coeff, negate, isZeroℤ, isZero, lead, lowest, degree, isZeroℤ-not-iff, isZero-coeff, T-&&}
 use Rattle.algebra.specs.Coefficients.{Within, coeff-negate, coeff-degree, lead-nonzero, degree-le}
-use Rattle.algebra.specs.Gcd.{gcd, content, divideBy, gcd-comm, gcd-assoc, gcd-divides-left, gcd-pos-left, gcd-le-left}
-use Rattle.algebra.specs.Gcd.{content-divides, content-pos, content-append, divideBy-getD, divideBy-le}
+use Rattle.algebra.specs.Gcd.{gcd, content, divideBy, gcd-comm, gcd-assoc, gcd-divides-left}
+use Rattle.algebra.specs.Gcd.{content-divides, content-pos, divideBy-getD, divideBy-le}
 use Rattle.rules.specs.Limits.{bound, small}
 use Rattle.rules.specs.Rows.{every}
 use Rattle.rules.specs.Elimination.{turnSigns}
@@ -163,13 +163,16 @@ content-le p h n =
     let nonzero = pos-of-ne-zero (λ e. lead-nonzero p .0 n (sym (coeff-degree p) ∙ natAbs-zero e)) in
     le-trans (le-of-dvd nonzero (content-divides p (degree p))) (small-at p h (degree p))
 
--- The common content of a nonzero polynomial within the bound and of any other is positive and within the bound.
-pub content-bounds : (a b : Polynomial) → T (every small a) → T (not (isZero a)) → (0 < content (a ++ b)) × (content (a ++ b) ≤ bound)
-content-bounds a b h n =
-    rw (content-append a b) (
-      gcd-pos-left (content a) (content b) (content-pos a n),
-      le-trans (gcd-le-left (content a) (content b) (content-pos a n)) (content-le a h n),
-    )
+every-append : {A : Type 0} (t : A → Bool) (l m : List A) → T (every t l) → T (every t m) → T (every t (l ++ m))
+unfolding every
+every-append t [] m h g = g
+every-append t (x ∷ l) m h g =
+    let both = T-&& (t x) (every t l) .0 h in T-&& (t x) (every t (l ++ m)) .1 (both .0, every-append t l m (both .1) g)
+
+-- The common content of two polynomials within the bound, not both zero, is positive and within the bound.
+pub content-bounds : (a b : Polynomial) → T (every small a) → T (every small b) → T (not (isZero (a ++ b)))
+    → (0 < content (a ++ b)) × (content (a ++ b) ≤ bound)
+content-bounds a b h g n = (content-pos (a ++ b) n, content-le (a ++ b) (every-append small a b h g) n)
 
 pub signs-turned : (g h : Polynomial) → ltZ (lead g) (pos 0) ≡ true → turnSigns g h ≡ record { g = negate g; h = negate h }
 unfolding turnSigns

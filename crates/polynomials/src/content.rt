@@ -131,9 +131,9 @@ pub struct Multipliers {
 }
 
 // Rule 2: "g = a/d, h = -b/d; a negative highest coefficient of g turns the signs of both". The content d is at most C,
-// since a is not zero.
+// since a and b are not both zero.
 pub fn multipliers_of(a: &[i64], b: &[i64]) -> Multipliers
-    requires { ⌜ (length (now a) ≡ 16) × T (every small (now a)) × T (not (Polynomials.isZero (now a))) ⌝ }
+    requires { ⌜ (length (now a) ≡ 16) × T (every small (now a)) × T (not (Polynomials.isZero (now a ++ now b))) ⌝ }
     requires { ⌜ (length (now b) ≡ 16) × T (every small (now b)) ⌝ }
     ensures { λ r. ⌜ r .g ≡ Elimination.multipliers (now (a .entry)) (now (b .entry)) .g ⌝ }
     ensures { λ r. ⌜ r .h ≡ Elimination.multipliers (now (a .entry)) (now (b .entry)) .h ⌝ }

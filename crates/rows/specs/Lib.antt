@@ -3,3 +3,4 @@ pub mod Flat
 pub mod Found
 pub mod Mirroring
 pub mod Worked
+pub mod Shifting

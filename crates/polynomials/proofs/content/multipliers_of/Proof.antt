@@ -37,7 +37,7 @@ module _ (c : tie.After-content-of-both) where
   d = content (a ++ b)
 
   bounds : (0 < d) × (d ≤ bound)
-  bounds = content-bounds a b (c .before .pre .0 .1) (c .before .pre .0 .2)
+  bounds = content-bounds a b (c .before .pre .0 .1) (c .before .pre .1 .1) (c .before .pre .0 .2)
 
   fits : SFits w64 (pos (c .content-of-both .result))
   fits = rw (c .content-of-both .ensures) (sfits-size (pos d) (bounds .1) (lit< tt))
