@@ -1,3 +1,4 @@
 pub mod Progress
 pub mod StoreStates
 pub mod Relations
+pub mod MirrorLaws

@@ -1,4 +1,5 @@
 // The public runs on lent stores. `run_leading`, `run_trailing`, `polynomial` and `check_polynomial` are the public entry
 // points: no `requires`, and contracts that give the result and every lent store by equations with `rules`.
 mod listing;
+mod mirror;
 mod step;
