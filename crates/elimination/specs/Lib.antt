@@ -2,3 +2,4 @@ pub mod Progress
 pub mod StoreStates
 pub mod Relations
 pub mod MirrorLaws
+pub mod ReportLaws

@@ -2,4 +2,5 @@
 // points: no `requires`, and contracts that give the result and every lent store by equations with `rules`.
 mod listing;
 mod mirror;
+mod report;
 mod step;
