@@ -37,7 +37,7 @@ suc-width : (n k : ℕ) → suc n * k ≡ k + n * k
 suc-width n k = suc-mul n k ∙ add-comm (n * k) k
 
 module _ {A : Type 0} where
-  drop-take : (k i : ℕ) (l : List A) → drop k (take (k + i) l) ≡ take i (drop k l)
+  pub drop-take : (k i : ℕ) (l : List A) → drop k (take (k + i) l) ≡ take i (drop k l)
   drop-take zero i l = ap (λ j. take j l) (zero-add i)
   drop-take (suc k) i [] = ap (λ j. drop (suc k) (take j [])) (suc-add k i) ∙ sym (take-nil i)
   drop-take (suc k) i (x ∷ l) = ap (λ j. drop (suc k) (take j (x ∷ l))) (suc-add k i) ∙ drop-take k i l

@@ -4,3 +4,4 @@ pub mod Found
 pub mod Mirroring
 pub mod Worked
 pub mod Shifting
+pub mod Validity

@@ -1,0 +1,134 @@
+// Sizes, and the checks of a call on stores: "Calls on stores check sizes (2), lengths (1), numbers (5)".
+ghost use mathlib.Core.Path.{_≡_};
+ghost use Prim.Native.Nat.{_+_, _≤_};
+ghost use mathlib.Core.Bool.{_&&_};
+ghost use lib.Dec.{T, leb};
+ghost use lib.IntN.{pos, negℤ, _-ℤ_};
+ghost use lib.Signed.{leZ};
+ghost use lib.ListN.{length, take, drop};
+ghost use Rattle.rules.specs.Rows.{every};
+ghost use Rattle.rules.specs.Stores as Stores;
+ghost use Rattle.rows.specs.Validity.{sizesOf, relationTest};
+
+// "A system has m unknowns (1 to 4), m equations, and blocks numbered from t to l".
+pub struct Sizes {
+    pub m: usize,
+    pub l: i64,
+    pub t: i64,
+}
+
+// From 1 to a largest number.
+pub fn counted(k: usize, most: usize) -> bool
+    ensures { λ r. ⌜ r ≡ (leb 1 k && leb k most) ⌝ }
+{
+    1 <= k && k <= most
+}
+
+// "-64 ≤ t ≤ l ≤ 64. D = l - t is 0 to 4."
+fn blocks_right(l: i64, t: i64) -> bool
+    ensures { λ r. ⌜ r ≡ (leZ (negℤ (pos 64)) t && leZ t l && leZ l (pos 64) && leZ (l -ℤ t) (pos 4)) ⌝ }
+{
+    -64 <= t && t <= l && l <= 64 && l - t <= 4
+}
+
+// "m unknowns (1 to 4)", and the blocks
+pub fn sizes_right(sizes: Sizes) -> bool
+    ensures { λ r. ⌜ r ≡ Stores.sizesRight (sizesOf sizes) ⌝ }
+{
+    counted(sizes.m, 4) && blocks_right(sizes.l, sizes.t)
+}
+
+// D = l - t.
+pub fn span(sizes: Sizes) -> usize
+    requires { ⌜ T (Stores.sizesRight (sizesOf sizes)) ⌝ }
+    ensures { λ r. ⌜ r ≡ Stores.span (sizesOf sizes) ⌝ }
+{
+    let l = sizes.l;
+    let t = sizes.t;
+    (l - t) as usize
+}
+
+// Every row of the store passes its number check.
+pub fn rows_right(store: &[i64], sizes: Sizes) -> bool
+    requires { ⌜ T (Stores.sizesRight (sizesOf sizes)) × (Stores.rowNeed (sizes .m) ≤ length (now store)) ⌝ }
+    ensures { λ r. ⌜ r ≡ every (Stores.rowRight (sizesOf sizes)) (Stores.rowsOf (sizes .m) (now (store .entry))) ⌝ }
+{
+    let m = sizes.m;
+    let d = span(sizes);
+    let mut i = 0;
+    while i < m {
+        if !crate::checks::row_right(crate::stores::load(store, i * 320), m, d) {
+            return false;
+        }
+        i += 1;
+    }
+    true
+}
+
+// The relation from a place on: its n0 within ±C, and its row.
+fn relation_right(store: &[i64], at: usize, m: usize, span: usize) -> bool
+    requires { ⌜ at + 321 ≤ length (now store) ⌝ }
+    ensures { λ r. ⌜ r ≡ relationTest m span (Stores.relationOf (take 321 (drop at (now (store .entry))))) ⌝ }
+{
+    if !integers::within_bound(store[at]) {
+        return false;
+    }
+    crate::checks::row_right(crate::stores::load(store, at + 1), m, span)
+}
+
+// Every relation up to the count passes its number check.
+pub fn relations_right(store: &[i64], sizes: Sizes, count: usize) -> bool
+    requires { ⌜ T (Stores.sizesRight (sizesOf sizes)) × (count ≤ 16) × (Stores.relationNeed ≤ length (now store)) ⌝ }
+    ensures { λ r. ⌜ r ≡ every (Stores.relationRight (sizesOf sizes)) (Stores.relationsOf count (now (store .entry))) ⌝ }
+{
+    let m = sizes.m;
+    let d = span(sizes);
+    let mut k = 0;
+    while k < count {
+        if !relation_right(store, k * 321, m, d) {
+            return false;
+        }
+        k += 1;
+    }
+    true
+}
+
+// "The row store needs m × 320 numbers, the relation store 16 × 321."
+fn lengths_right(rows: &[i64], relations: &[i64], m: usize) -> bool
+    requires { ⌜ m ≤ 4 ⌝ }
+    ensures { λ r. ⌜ r ≡ Stores.lengthsRight m (now (rows .entry)) (now (relations .entry)) ⌝ }
+{
+    m * 320 <= rows.len() && 5136 <= relations.len()
+}
+
+// "5 a coefficient [..] outside ±C, or a nonzero number at an unused store position"
+fn numbers_right(rows: &[i64], relations: &[i64], sizes: Sizes, count: usize) -> bool
+    requires { ⌜ T (Stores.sizesRight (sizesOf sizes)) × (Stores.rowNeed (sizes .m) ≤ length (now rows)) ⌝ }
+    requires { ⌜ (count ≤ 16) × (Stores.relationNeed ≤ length (now relations)) ⌝ }
+    ensures { λ r. ⌜ r ≡ Stores.numbersRight (sizesOf sizes) count (now (rows .entry)) (now (relations .entry)) ⌝ }
+{
+    if !rows_right(rows, sizes) {
+        return false;
+    }
+    if !relations_right(relations, sizes, count) {
+        return false;
+    }
+    let from = count * 321;
+    polynomials::content::is_zero(&relations[from..5136])
+}
+
+// The number of the first check that fails, or 0.
+pub fn check_stores(rows: &[i64], relations: &[i64], sizes: Sizes, count: usize) -> u8
+    ensures { λ r. ⌜ r ≡ Stores.checkStores (sizesOf sizes) count (now (rows .entry)) (now (relations .entry)) ⌝ }
+{
+    if !(sizes_right(sizes) && count <= 16) {
+        return 2;
+    }
+    if !lengths_right(rows, relations, sizes.m) {
+        return 1;
+    }
+    if !numbers_right(rows, relations, sizes, count) {
+        return 5;
+    }
+    0
+}
