@@ -11,15 +11,15 @@
 --   rows-mirrored, relations-mirrored           all parts mirrored
 use Prim.Native.Nat.{ℕ, zero, suc, _+_, _*_, _-_, _≤_, _<_}
 use native.Mathlib.Nat.{not-suc-le-zero, le-of-suc-le-suc, le-of-eq, le-refl, suc-ne-zero, suc-inj}
-use native.Mathlib.Nat.{suc-mul, mul-le-mul-right, add-zero, add-sub-of-le}
+use native.Mathlib.Nat.{suc-mul, mul-le-mul-right, add-sub-of-le}
 use native.Mathlib.Numerals.{add-one}
 use native.Mathlib.Omega.{arith}
 use mathlib.Core.Path.{_≡_, refl, sym, _∙_, ap, ap₂, subst}
 use mathlib.Core.List.{List, [], _∷_, _++_, map}
-use lib.Dec.{T, lit<}
+use lib.Dec.{T}
 use lib.IntN.{ℤ, pos, negℤ, natAbs}
 use lib.ListN.{length, take, drop, getD, set, length-drop}
-use lib.Seq.{paste, length-take-le, take-add, take-take, drop-at, drop-drop, getD-take, getD-drop}
+use lib.Seq.{paste, length-take-le, take-add, take-take, drop-drop}
 use Rattle.algebra.specs.Integers.{natAbs-negℤ}
 use Rattle.algebra.specs.Polynomials.{T-&&, isZero}
 use Rattle.rules.specs.Limits.{bound, small}
@@ -27,7 +27,8 @@ use Rattle.rules.specs.Rows.{All, every, coefficientsOf, smallRow, mirrorRow, m
 use Rattle.rules.specs.Stores.{parts, rowOf, rowsOf, relationOf, relationsOf, relationNumbers, rowNeed, relationNeed}
 use Rattle.rules.specs.Layout.{parts-length, parts-width, getD-parts}
 use Rattle.polynomials.specs.Content.{small-at}
-use Rattle.rows.specs.Flat.{parts-take, every-append}
+use Rattle.rows.specs.Flat.{drop-take, parts-take, every-append}
+use Rattle.rows.specs.Validity.{index-at, row-after}
 use Rattle.rows.specs.Mirroring.{length-mirrorRow, rowOf-mirrorRow, small-mirrorRow}
 use Rattle.elimination.specs.Progress.{Within, Listing, Kept}
 use Rattle.elimination.specs.StoreStates.{parts-paste, every-part, within-paste, kept-paste, kept-same, kept-then}
@@ -113,19 +114,16 @@ module _ (n need : ℕ) (inside : n ≤ need) where
   first-and-rest : (l : List ℤ) → take need l ≡ take n l ++ take (need - n) (drop n l)
   first-and-rest l = ap (λ j. take j l) (sym (add-sub-of-le inside)) ∙ take-add n (need - n) l
 
-  rest-of : (l : List ℤ) → n ≤ length l → drop n (take need l) ≡ take (need - n) (drop n l)
-  rest-of l h = ap (drop n) (first-and-rest l) ∙ drop-at (take n l) (take (need - n) (drop n l)) n (length-take-le n l h)
+  rest-of : (l : List ℤ) → drop n (take need l) ≡ take (need - n) (drop n l)
+  rest-of l = ap (λ j. drop n (take j l)) (sym (add-sub-of-le inside)) ∙ drop-take n (need - n) l
 
   past : (l : List ℤ) → drop need l ≡ drop (need - n) (drop n l)
   past l = ap (λ j. drop j l) (sym (add-sub-of-le inside)) ∙ sym (drop-drop (need - n) n l)
 
   -- Within ±C, and only the first n numbers have changed.
   module _ (before after : List ℤ) (w : Within need before) (c : Within n after) (kept : Kept n before after) where
-    long-before : n ≤ length before
-    long-before = omega (arith, w .long)
-
     rest-kept : drop n (take need after) ≡ drop n (take need before)
-    rest-kept = rest-of after (c .long) ∙ ap (take (need - n)) (kept .same-rest) ∙ sym (rest-of before long-before)
+    rest-kept = rest-of after ∙ ap (take (need - n)) (kept .same-rest) ∙ sym (rest-of before)
 
     within-longer : Within need after
     within-longer =
@@ -134,7 +132,7 @@ module _ (n need : ℕ) (inside : n ≤ need) where
         rest : T (every small (take (need - n) (drop n after)))
         rest =
             subst (λ l. T (every small l))
-            (ap (take (need - n)) (rest-of before long-before) ∙ take-take (need - n) (need - n) (drop n before) (le-refl (need - n))
+            (ap (take (need - n)) (rest-of before) ∙ take-take (need - n) (need - n) (drop n before) (le-refl (need - n))
             ∙ ap (take (need - n)) (sym (kept .same-rest)))
             (every-part small n (need - n) (take need before) (w .numbers))
 
@@ -200,29 +198,21 @@ module _ (store : List ℤ) (at : ℕ) where
   abbrev relation : List ℤ
   relation = take 321 (drop at store)
 
-  index-at : getD relation 0 (pos 0) ≡ getD store at (pos 0)
-  index-at = getD-take 321 (drop at store) 0 (pos 0) (lit< tt) ∙ getD-drop at store 0 (pos 0) ∙ ap (λ j. getD store j (pos 0)) (add-zero at)
-
-  row-after : drop 1 relation ≡ take 320 (drop (at + 1) store)
-  row-after = rest (drop at store) ∙ ap (take 320) (drop-drop 1 at store)
-    where
-      rest : (l : List ℤ) → drop 1 (take 321 l) ≡ take 320 (drop 1 l)
-      rest [] = refl
-      rest (x ∷ l) = refl
-
   pub index-small : T (every small relation) → natAbs (getD store at (pos 0)) ≤ bound
-  index-small s = rw index-at at (small-at relation s 0)
+  unfolding relationOf
+  index-small s = rw (index-at store at) at (small-at relation s 0)
 
   pub row-small : T (every small relation) → T (every small (take 320 (drop (at + 1) store)))
   row-small s =
-      let same = ap (take 320) row-after ∙ take-take 320 320 (drop (at + 1) store) (le-refl 320) in
-      subst (λ l. T (every small l)) same (every-part small 1 320 relation s)
+      let row = ap (take 320) (drop-take 1 320 (drop at store)) ∙ take-take 320 320 (drop 1 (drop at store)) (le-refl 320) in
+      subst (λ l. T (every small l)) (row ∙ ap (take 320) (drop-drop 1 at store)) (every-part small 1 320 relation s)
 
   -- n0 negated and then the row's mirror.
   pub mirror-relation : (D : ℕ)
       → negℤ (getD store at (pos 0)) ∷ mirrorNumbers D (take 320 (drop (at + 1) store)) ≡ mirrorRelationNumbers D relation
-  unfolding relationNumbers mirrorRelation relationOf
-  mirror-relation D = ap₂ (λ n0 row. negℤ n0 ∷ mirrorNumbers D row) (sym index-at) (sym row-after)
+  unfolding relationNumbers mirrorRelation
+  mirror-relation D =
+      ap₂ (λ n0 r. negℤ n0 ∷ coefficientsOf (mirrorRow D r)) (sym (index-at store at)) (sym (row-after store at))
 
 pub relation-stays : (D : ℕ) → D ≤ 4 → Stays 321 (mirrorRelationNumbers D)
 unfolding smallRow every small relationNumbers mirrorRelation relationOf
