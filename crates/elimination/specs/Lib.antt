@@ -3,3 +3,4 @@ pub mod StoreStates
 pub mod Relations
 pub mod MirrorLaws
 pub mod ReportLaws
+pub mod CallLaws
