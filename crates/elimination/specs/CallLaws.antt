@@ -9,14 +9,25 @@ use Prim.Native.Nat.{ℕ, zero, suc, _+_, _≤_, _<_}
 use native.Mathlib.Nat.{not-suc-le-zero, le-of-suc-le-suc, le-of-lt, le-of-eq, zero-add}
 use native.Mathlib.Numerals.{add-one}
 use mathlib.Core.Path.{_≡_, refl, sym, _∙_, ap, ap₂}
+use mathlib.Core.Logic.{_≢_}
+use mathlib.Core.Bool.{Bool, true}
 use mathlib.Core.List.{List, [], _∷_, _++_, map, map-append}
+use lib.Dec.{T}
 use lib.IntN.{ℤ, pos}
+use lib.Signed.{≤ℤ-refl}
 use lib.ListN.{length, take, drop, getD, set, replicate, length-map, length-replicate, take-append-drop}
 use lib.Seq.{paste, take-suc, take-all, length-take-le}
-use Rattle.rules.specs.Stores.{rowsOf, relationsOf, rowNeed, relationNeed, rowStoreOf, relationStoreOf}
-use Rattle.rules.specs.Layout.{rowStoreOf-rowsOf, relationStoreOf-relationsOf}
-use Rattle.rules.specs.Calls.{Result, Call, padTo, reportedOrder, overwrite, zeros}
-use Rattle.elimination.specs.Progress.{Listing, Kept}
+use Rattle.rules.specs.Elimination.{Side, State, done, report}
+use Rattle.rules.specs.Stores.{Sizes, span, sizesRight, rowsOf, relationsOf, rowNeed, relationNeed, rowStoreOf, relationStoreOf}
+use Rattle.rules.specs.Layout.{rowStoreOf-rowsOf, relationStoreOf-relationsOf, length-relationsOf, size-bounds, block-place}
+use Rattle.rules.specs.Calls.{Result, Call, padTo, reportedOrder, refusal, acceptance, overwrite, zeros, cleared, afterRun}
+use Rattle.polynomials.specs.declared.roots.RootAnswer.{RootAnswer}
+use Rattle.polynomials.specs.RootSearch.{answered}
+use Rattle.elimination.specs.Progress.{stateOf, outcomeOf, Listing, Kept, Ready}
+use Rattle.elimination.specs.StoreStates.{kept-same}
+use Rattle.elimination.specs.ReportLaws.{settledState, report-settled}
+use Rattle.elimination.specs.declared.step.Progress.{Progress}
+use Rattle.elimination.specs.declared.step.Outcome as Answer
 use Rattle.elimination.specs.declared.calls.RunResult.{RunResult}
 
 unfoldable pub resultOf : RunResult → Result
@@ -55,6 +66,17 @@ counted-next order j h g =
     size : length columns ≡ j
     size = length-map (take j order) suc ∙ length-take-le j order (le-of-lt g)
 
+-- ---- the sizes of a call
+
+pub few-unknowns : (z : Sizes) → T (sizesRight z) → z .m ≤ 4
+few-unknowns z h = size-bounds z h .few
+
+pub few-blocks : (z : Sizes) → T (sizesRight z) → span z ≤ 4
+unfolding span
+few-blocks z h =
+    let bounds = size-bounds z h in
+    le-of-suc-le-suc (block-place z (z .t) bounds (≤ℤ-refl (z .t)) (bounds .ordered))
+
 -- ---- the stores after a call
 
 -- A store whose needed part is overwritten by the numbers of another with the same rest.
@@ -87,3 +109,60 @@ overwrite-zeros need store after kept =
   where
     size : length (zeros need) ≡ need
     size = length-replicate need (pos 0)
+
+-- ---- the result of a run that accepts
+
+abbrev acceptedWith : ℕ → ℕ → List ℕ → RootAnswer → Result
+acceptedWith count shifts order a =
+    record { refusal = 0; relations = count; shifts = shifts; order = order; hasRoot = a .found; root = a .root }
+
+pub accepted-result : (side : Side) (D m : ℕ) (rows relations : List ℤ) (p : Progress) (order : List ℕ) (a : RootAnswer) → p .settled ≡ m
+    → order ≡ reportedOrder (take m (p .order)) → a ≡ answered (report side D (settledState m rows (p .order)))
+    → acceptedWith (p .count) (p .shifts) order a ≡ acceptance side D (stateOf m rows relations p)
+unfolding acceptance stateOf
+accepted-result side D m rows relations p order a e f g =
+    let s = stateOf m rows relations p in
+    let columns = ap (λ n. take n (p .order)) e in
+    ap₂ (acceptedWith (p .count) (p .shifts)) (f ∙ ap reportedOrder (sym columns))
+    (g ∙ ap answered (sym (report-settled side D m rows (p .order) s refl columns)))
+    ∙ ap (λ n. acceptedWith n (p .shifts) (reportedOrder (take (p .settled) (p .order))) (answered (report side D s)))
+    (sym (length-relationsOf (p .count) relations))
+
+-- ---- the call after its run
+
+-- What the stores hold when the run has ended.
+pub record Ended (m : ℕ) (rows relations : List ℤ) (o : Answer.Outcome) : Type 0 where
+  pub rows-long : rowNeed m ≤ length rows
+  pub relations-long : relationNeed ≤ length relations
+  pub ready : o .refusal ≡ 0 → Ready m rows relations (o .progress)
+  pub all-settled : o .refusal ≡ 0 → (o .done ≡ true) × (o .progress .settled ≡ m)
+
+-- A call by its parts.
+call-of : (c : Call) (r : RunResult) (rows relations : List ℤ) → resultOf r ≡ c .result → rows ≡ c .rowStore → relations ≡ c .relationStore
+    → callOf r rows relations ≡ c
+unfolding callOf
+call-of c r rows relations e f g = λ i. record { result = e i; rowStore = f i; relationStore = g i }
+
+module _ (side : Side) (z : Sizes) (r : RunResult) (rows relations : List ℤ) where
+  pub ended-refused : (n : ℕ) (d : Bool) (s : State) (rows' relations' : List ℤ) → n ≢ 0 → resultOf r ≡ refusal n
+      → rows' ≡ paste rows 0 (replicate (rowNeed (z .m)) (pos 0)) (rowNeed (z .m))
+      → relations' ≡ paste relations 0 (replicate relationNeed (pos 0)) relationNeed
+      → callOf r rows' relations' ≡ afterRun side z (outcomeOf n d s) rows relations
+  unfolding afterRun outcomeOf cleared
+  ended-refused zero d s rows' relations' h e f g = absurd (h refl)
+  ended-refused (suc n) d s rows' relations' h e f g =
+      call-of (cleared (suc n) (z .m) rows relations) r rows' relations' e
+      (f ∙ overwrite-zeros (rowNeed (z .m)) rows rows (kept-same (rowNeed (z .m)) rows))
+      (g ∙ overwrite-zeros relationNeed relations relations (kept-same relationNeed relations))
+
+  pub ended-accepted : (o : Answer.Outcome) → o .refusal ≡ 0 → Ended (z .m) rows relations o
+      → resultOf r ≡ acceptance side (span z) (stateOf (z .m) rows relations (o .progress))
+      → callOf r rows relations
+      ≡ afterRun side z (outcomeOf (o .refusal) (o .done) (stateOf (z .m) rows relations (o .progress))) rows relations
+  unfolding afterRun outcomeOf stateOf
+  ended-accepted o e h f =
+      let s = stateOf (z .m) rows relations (o .progress) in
+      call-of (afterRun side z (done s) rows relations) r rows relations f
+      (sym (overwrite-rows (z .m) rows rows (h .rows-long) (kept-same (rowNeed (z .m)) rows)))
+      (sym (overwrite-relations (o .progress .count) relations relations (h .ready e .listing) (kept-same relationNeed relations)))
+      ∙ ap₂ (λ n d. afterRun side z (outcomeOf n d s) rows relations) (sym e) (sym (h .all-settled e .0))

@@ -1,10 +1,16 @@
 // What a run on lent stores gives back.
 ghost use mathlib.Core.Path.{_≡_};
 ghost use Prim.Native.Nat.{_≤_};
+ghost use mathlib.Core.List.{List};
+ghost use lib.IntN.{ℤ};
 ghost use lib.ListN.{take};
+ghost use lib.Dec.{T};
+ghost use Rattle.rules.specs.Stores.{rowNeed, sizesRight};
+ghost use Rattle.rows.specs.Validity.{sizesOf};
 ghost use Rattle.rules.specs.Calls as Calls;
 ghost use Rattle.rows.specs.Found.{Columns};
-ghost use Rattle.elimination.specs.CallLaws.{resultOf};
+ghost use Rattle.elimination.specs.Progress.{sideOf, stateOf, outcomeOf, Within};
+ghost use Rattle.elimination.specs.CallLaws.{resultOf, callOf, Ended};
 
 // The number of the refusal or 0, and for a run that accepts: how many relations the store holds, how many shifts were made,
 // the columns of the settled rows, counted from 1, with zeros past the last, and whether there is a root, and which; 0 with "no".
@@ -43,4 +49,52 @@ fn counted(order: [usize; 4], m: usize) -> [usize; 4]
         j += 1;
     }
     result
+}
+
+// The result of a run that accepts.
+fn accepted(
+    rows: &[i64],
+    m: usize,
+    span: usize,
+    trailing: bool,
+    p: crate::step::Progress,
+) -> RunResult
+    requires { ⌜ (m ≤ 4) × (span ≤ 4) × Within (rowNeed m) (now rows) × (p .settled ≡ m) × Columns (p .order) ⌝ }
+    ensures { λ r. ⌜ ((relations : List ℤ)
+        → resultOf r ≡ Calls.acceptance (sideOf trailing) span (stateOf m (now (rows .entry)) relations p)) ⌝ }
+{
+    let order = p.order;
+    let answer = crate::report::report(rows, m, order, trailing, span);
+    RunResult {
+        refusal: 0,
+        relations: p.count,
+        shifts: p.shifts,
+        order: counted(order, m),
+        has_root: answer.found,
+        root: answer.root,
+    }
+}
+
+// "6 to 9 leave the needed part zero, the rest unchanged"; a run that accepts has left its output in the stores.
+fn ended(
+    rows: &mut [i64],
+    relations: &mut [i64],
+    sizes: rows::validity::Sizes,
+    trailing: bool,
+    o: crate::step::Outcome,
+) -> RunResult
+    requires { ⌜ T (sizesRight (sizesOf sizes)) × Ended (sizes .m) (now rows) (now relations) o ⌝ }
+    ensures { λ r. ⌜ callOf r (now (rows .exit)) (now (relations .exit)) ≡ Calls.afterRun (sideOf trailing) (sizesOf sizes)
+        (outcomeOf (o .refusal) (o .done) (stateOf (sizes .m) (now (rows .entry)) (now (relations .entry)) (o .progress)))
+        (now (rows .entry)) (now (relations .entry)) ⌝ }
+{
+    let m = sizes.m;
+    let refusal = o.refusal;
+    if refusal != 0 {
+        rows::stores::clear(rows, 0, m * 320);
+        rows::stores::clear(relations, 0, 5136);
+        return refused(refusal);
+    }
+    let p = o.progress;
+    accepted(rows, m, rows::validity::span(sizes), trailing, p)
 }
