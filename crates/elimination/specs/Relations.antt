@@ -8,17 +8,17 @@
 --   listed-first, listed-last  the k-th root in the order of a side
 --   relisted-none, relisted-more   no root, and one root more
 --   every-listing              what all roots pass, they pass in the order of a side
-use Prim.Native.Nat.{ℕ, zero, suc, _+_, _*_, _-_, _≤_, _<_}
+use Prim.Native.Nat.{ℕ, suc, _+_, _*_, _-_, _≤_, _<_}
 use native.Mathlib.Nat.{not-suc-le-zero, le-of-suc-le-suc, eq-or-lt-of-le, add-zero, le-of-eq}
 use native.Mathlib.Numerals.{add-one}
 use native.Mathlib.Omega.{arith}
-use mathlib.Core.Path.{_≡_, refl, sym, _∙_, ap, ap₂, subst}
+use mathlib.Core.Path.{_≡_, refl, sym, _∙_, ap, subst}
 use mathlib.Core.Logic.{⊎-elim}
 use mathlib.Core.Bool.{Bool, true, _&&_}
 use mathlib.Core.List.{List, [], _∷_, _++_, map, reverse, reverse-cons, append-assoc, append-nil, map-append}
 use lib.Dec.{T, le→leb}
 use lib.IntN.{ℤ, pos, natAbs}
-use lib.ListN.{length, take, drop, getD, length-append, length-reverse, List·getD-append}
+use lib.ListN.{length, take, getD, length-append, length-reverse, List·getD-append}
 use lib.Seq.{paste, take-suc, getD-at, getD-take, length-take-le}
 use Rattle.algebra.specs.Polynomials.{T-&&}
 use Rattle.rules.specs.Limits.{bound, small}

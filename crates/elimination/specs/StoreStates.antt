@@ -8,9 +8,10 @@ use Prim.Native.Nat.{ℕ, zero, suc, _+_, _*_, _-_, _≤_, _<_}
 use mathlib.Core.Path.{_≡_, refl, sym, _∙_, ap, ap₂, subst}
 use mathlib.Core.Bool.{Bool}
 use mathlib.Core.List.{List, [], _∷_, _++_, map, map-append, append-assoc}
-use native.Mathlib.Nat.{suc-mul, zero-mul, zero-add, add-zero, add-comm, add-assoc, le-of-eq, not-suc-le-zero, le-of-suc-le-suc, add-sub-of-le}
+use native.Mathlib.Nat.{suc-mul, zero-mul, zero-add, add-zero, add-comm, add-assoc, add-sub-of-le}
+use native.Mathlib.Nat.{le-of-eq, not-suc-le-zero, le-of-suc-le-suc}
 use native.Mathlib.Omega.{arith}
-use lib.IntN.{ℤ, pos}
+use lib.IntN.{ℤ}
 use native.Mathlib.Numerals.{add-one}
 use lib.Dec.{T}
 use lib.ListN.{length, take, drop, set, length-drop, take-append-drop}
@@ -97,7 +98,8 @@ module _ {A : Type 0} where
       fits = simp length-drop (omega (arith, suc-width n k))
 
   -- A part pasted past the first n is part n of the new list.
-  pub parts-paste-end : (k n : ℕ) (d s : List A) → length s ≡ k → n * k + k ≤ length d → parts k (suc n) (paste d (n * k) s k) ≡ parts k n d ++ (s ∷ [])
+  pub parts-paste-end : (k n : ℕ) (d s : List A) → length s ≡ k → n * k + k ≤ length d
+      → parts k (suc n) (paste d (n * k) s k) ≡ parts k n d ++ (s ∷ [])
   parts-paste-end k n d s e h =
       parts-more k n (paste d (n * k) s k)
       ∙ ap₂ (λ x y. x ++ (y ∷ [])) (parts-paste-past k n d s k (omega arith)) (part-here (n * k) (omega arith))
@@ -120,7 +122,8 @@ pub paste-rest : {A : Type 0} (d : List A) (at : ℕ) (s : List A) (n i : ℕ) �
     → drop i (paste d at s n) ≡ drop i d
 paste-rest d at s n i h g b =
     ap (λ j. drop j (paste d at s n)) (sym (add-sub-of-le b)) ∙ sym (drop-drop (i - (at + n)) (at + n) (paste d at s n))
-    ∙ ap (drop (i - (at + n))) (drop-paste d at s n (omega arith) g) ∙ drop-drop (i - (at + n)) (at + n) d ∙ ap (λ j. drop j d) (add-sub-of-le b)
+    ∙ ap (drop (i - (at + n))) (drop-paste d at s n (omega arith) g) ∙ drop-drop (i - (at + n)) (at + n) d
+    ∙ ap (λ j. drop j d) (add-sub-of-le b)
 
 -- ---- a relation stored as n0 and then a row
 

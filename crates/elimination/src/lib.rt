@@ -4,4 +4,5 @@ pub mod calls;
 mod listing;
 mod mirror;
 mod report;
+mod run;
 mod step;

@@ -1,7 +1,10 @@
 pub mod Checks
+pub mod Combination
 pub mod Flat
 pub mod Found
 pub mod Mirroring
-pub mod Worked
+pub mod Primitive
 pub mod Shifting
 pub mod Validity
+pub mod Worked
+pub mod Written

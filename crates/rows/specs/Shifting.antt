@@ -1,24 +1,27 @@
 -- The numbers of a row shifted up by one block.
 --
 -- Main statements
---   numbers-shiftUp   the numbers of blocks 2 to 5 with n + 1 for n, and then those of a blank block
 --   length-shiftUp    they are 320
 --   shiftUp-part      polynomial e is p(n + 1) for the polynomial p one block further down
 --   shiftUp-rest      the last block is zero
-use mathlib.Core.Path.{_≡_, refl, sym, _∙_, ap, ap₂}
+--   shifted-held      a shifted row within the limit is held by its numbers
+use mathlib.Core.Path.{_≡_, refl, sym, _∙_, ap, ap₂, subst}
 use mathlib.Core.List.{List, [], _∷_, _++_, map, flatten, append-assoc, append-nil}
-use Prim.Native.Nat.{ℕ, zero, suc, _+_, _*_, _≤_, _<_}
-use native.Mathlib.Nat.{zero-mul, suc-mul, add-comm}
+use Prim.Native.Nat.{ℕ, _+_, _*_, _<_}
+use native.Mathlib.Nat.{add-comm}
 use native.Mathlib.Omega.{arith}
 use lib.Dec.{T}
 use lib.IntN.{ℤ, pos}
-use lib.ListN.{length, take, drop, getD, length-append, length-take, length-drop, length-map, List·getD-map}
+use lib.ListN.{length, take, drop, length-take, length-drop, length-map, List·getD-map}
 use lib.Seq.{drop-at, drop-drop}
 use Rattle.algebra.specs.Polynomials.{Polynomial, isZero, shift, shiftBy, length-shift, isZero-append, isZero-shift, T-&&}
-use Rattle.rules.specs.Rows.{Block, All, coefficientsOf, blank, leadingBlock, shiftUp}
-use Rattle.rules.specs.Stores.{parts, rowOf}
-use Rattle.rules.specs.Layout.{parts-length, parts-width, parts-flatten, getD-parts}
-use Rattle.rows.specs.Flat.{polynomialsOf, numbers-mapRow, parts-parts}
+use Rattle.rules.specs.Rows.{Block, Row, All, mapRow, coefficientsOf, blank, leadingBlock, shiftUp}
+use Rattle.rules.specs.Stores.{parts, rowOf, StoreRow}
+use Rattle.rules.specs.Elimination.{within, limitCoefficients}
+use Rattle.rules.specs.Layout.{parts-length, parts-width, getD-parts, length-coefficientsOf}
+use Rattle.rows.specs.Written.{length-flatten, part-flatten}
+use Rattle.rows.specs.Flat.{polynomialsOf, flatten-map, parts-parts}
+use Rattle.rows.specs.Worked.{Held, held, store-row}
 
 flatten-append : {A : Type 0} (ls ms : List (List A)) → flatten (ls ++ ms) ≡ flatten ls ++ flatten ms
 unfolding flatten
@@ -36,29 +39,31 @@ below l = parts 16 16 (drop 64 l)
 last : List ℤ → Block
 last l = blank (parts 16 4 (take 64 l))
 
+polynomials-shiftUp : (l : List ℤ) → polynomialsOf (shiftUp (rowOf l)) ≡ map shift (below l) ++ map shift (last l)
+unfolding shiftUp mapRow rowOf leadingBlock flatten below last
+polynomials-shiftUp l =
+    flatten-map shift (map (parts 16 4) (parts 64 4 (drop 64 l)) ++ (last l ∷ []))
+    ∙ ap (map shift)
+    (flatten-append (map (parts 16 4) (parts 64 4 (drop 64 l))) (last l ∷ [])
+    ∙ ap₂ _++_ (parts-parts 16 4 4 (drop 64 l)) (append-nil (last l)))
+    ∙ map-append shift (below l) (last l)
+
 numbers-shiftUp : (l : List ℤ) → coefficientsOf (shiftUp (rowOf l)) ≡ flatten (map shift (below l)) ++ flatten (map shift (last l))
-unfolding shiftUp rowOf leadingBlock flatten below last
-numbers-shiftUp l =
-    numbers-mapRow shift (record { blocks = map (parts 16 4) (parts 64 4 (drop 64 l)) ++ (last l ∷ []) })
-    ∙ ap (λ ps. flatten (map shift ps))
-    (flatten-append (map (parts 16 4) (parts 64 4 (drop 64 l))) (last l ∷ []) ∙ ap₂ _++_ (parts-parts 16 4 4 (drop 64 l)) (append-nil (last l)))
-    ∙ ap flatten (map-append shift (below l) (last l)) ∙ flatten-append (map shift (below l)) (map shift (last l))
+unfolding coefficientsOf
+numbers-shiftUp l = ap flatten (polynomials-shiftUp l) ∙ flatten-append (map shift (below l)) (map shift (last l))
 
 -- ---- widths
-
-length-flatten : {A : Type 0} (k : ℕ) (ls : List (List A)) → All (λ p. length p ≡ k) ls → length (flatten ls) ≡ length ls * k
-unfolding flatten All
-length-flatten k [] h = sym (zero-mul k)
-length-flatten k (l ∷ ls) h = length-append l (flatten ls) ∙ ap₂ _+_ (h .0) (length-flatten k ls (h .1)) ∙ step
-  where
-    step : k + length ls * k ≡ suc (length ls) * k
-    step = omega (arith, suc-mul (length ls) k)
 
 map-width : (f : Polynomial → Polynomial) → ((p : Polynomial) → length (f p) ≡ length p) → (k : ℕ) (ps : List Polynomial)
     → All (λ p. length p ≡ k) ps → All (λ p. length p ≡ k) (map f ps)
 unfolding All
 map-width f e k [] h = tt
 map-width f e k (p ∷ ps) h = (e p ∙ h .0, map-width f e k ps (h .1))
+
+append-all : (ps qs : List Polynomial) → All (λ p. length p ≡ 16) ps → All (λ p. length p ≡ 16) qs → All (λ p. length p ≡ 16) (ps ++ qs)
+unfolding All
+append-all [] qs h k = k
+append-all (p ∷ ps) qs h k = (h .0, append-all ps qs (h .1) k)
 
 zeros-zero : (p : Polynomial) → T (isZero (map (λ _. pos 0) p))
 unfolding isZero
@@ -82,19 +87,27 @@ module _ (l : List ℤ) (long : length l ≡ 320) where
   unfolding last blank
   last-width =
       map-width shift length-shift 16 (last l)
-      (map-width (map (λ _. pos 0)) (λ p. length-map p (λ _. pos 0)) 16 (parts 16 4 (take 64 l)) (parts-width 16 4 (take 64 l) (rw length-take (omega arith))))
+      (map-width (map (λ _. pos 0)) (λ p. length-map p (λ _. pos 0)) 16 (parts 16 4 (take 64 l))
+      (parts-width 16 4 (take 64 l) (rw length-take (omega arith))))
+
+  StoreRow-shiftUp : StoreRow (shiftUp (rowOf l))
+  unfolding shiftUp mapRow rowOf leadingBlock blank All
+  StoreRow-shiftUp =
+      store-row (shiftUp (rowOf l)) refl (refl, (refl, (refl, (refl, (refl, tt)))))
+      (subst (All (λ p. length p ≡ 16)) (sym (polynomials-shiftUp l)) (append-all (map shift (below l)) (map shift (last l)) below-width last-width))
+
+  -- A shifted row within the limit is held by its numbers.
+  pub shifted-held : (r : Row) → limitCoefficients (shiftUp (rowOf l)) ≡ within r → Held r
+  shifted-held r e = held (shiftUp (rowOf l)) r StoreRow-shiftUp e
 
   below-length : length (flatten (map shift (below l))) ≡ 256
   unfolding below
-  below-length = length-flatten 16 (map shift (below l)) below-width ∙ ap (λ n. n * 16) (length-map (below l) shift ∙ parts-length 16 16 (drop 64 l))
-
-  last-length : length (flatten (map shift (last l))) ≡ 64
-  unfolding last blank
-  last-length = length-flatten 16 (map shift (last l)) last-width
-      ∙ ap (λ n. n * 16) (length-map (last l) shift ∙ length-map (parts 16 4 (take 64 l)) (map (λ _. pos 0)) ∙ parts-length 16 4 (take 64 l))
+  below-length =
+      length-flatten 16 (map shift (below l)) below-width
+      ∙ ap (λ n. n * 16) (length-map (below l) shift ∙ parts-length 16 16 (drop 64 l))
 
   pub length-shiftUp : length (coefficientsOf (shiftUp (rowOf l))) ≡ 320
-  length-shiftUp = ap length (numbers-shiftUp l) ∙ length-append (flatten (map shift (below l))) (flatten (map shift (last l))) ∙ ap₂ _+_ below-length last-length
+  length-shiftUp = length-coefficientsOf (shiftUp (rowOf l)) StoreRow-shiftUp
 
   pub shiftUp-rest : T (isZero (drop 256 (coefficientsOf (shiftUp (rowOf l)))))
   unfolding last
@@ -106,8 +119,7 @@ module _ (l : List ℤ) (long : length l ≡ 320) where
   unfolding below shift shiftBy
   shiftUp-part e h =
       ap (λ r. take 16 (drop (e * 16) r)) (numbers-shiftUp l)
-      ∙ sym (getD-parts 16 16 (flatten (map shift (below l)) ++ flatten (map shift (last l))) e h)
-      ∙ ap (λ ps. getD ps e [])
-      (parts-flatten 16 16 (map shift (below l)) (flatten (map shift (last l))) (length-map (below l) shift ∙ parts-length 16 16 (drop 64 l)) below-width)
+      ∙ part-flatten 16 16 (map shift (below l)) (flatten (map shift (last l)))
+      (length-map (below l) shift ∙ parts-length 16 16 (drop 64 l)) below-width e h
       ∙ List·getD-map shift (below l) e [] ∙ ap shift (getD-parts 16 16 (drop 64 l) e h)
       ∙ ap (λ r. shift (take 16 r)) (drop-drop (e * 16) 64 l ∙ ap (λ n. drop n l) (add-comm 64 (e * 16)))

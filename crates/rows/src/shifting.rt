@@ -1,9 +1,8 @@
 // Rule 6: a row shifted up by one block, and its limit.
 ghost use mathlib.Core.Path.{_≡_};
-ghost use Prim.Native.Nat.{_+_, _≤_};
+ghost use Prim.Native.Nat.{_+_};
 ghost use lib.Dec.{T};
 ghost use lib.ListN.{length};
-ghost use lib.Seq.{paste};
 ghost use Rattle.algebra.specs.Polynomials.{shift};
 ghost use Rattle.rules.specs.Limits.{small};
 ghost use Rattle.rules.specs.Rows.{every, shiftUp, coefficientsOf};
@@ -23,7 +22,8 @@ fn put_shifted(place: &mut [i64], p: &[i64])
     }
 }
 
-// Block b of the new row is block b + 1 of the old one with n + 1 for n; the last block is zero.
+// Block b of the new row is block b + 1 of the old one with n + 1 for n; the last block is zero. Nothing is done for
+// polynomials that are zero.
 fn moved_up(row: &[i64]) -> [i64; 320]
     requires { ⌜ (length (now row) ≡ 320) × T (every small (now row)) ⌝ }
     ensures { λ r. ⌜ r ≡ coefficientsOf (shiftUp (rowOf (now (row .entry)))) ⌝ }
@@ -33,7 +33,7 @@ fn moved_up(row: &[i64]) -> [i64; 320]
     while e < 16 {
         let at = e * 16;
         let from = at + 64;
-        let to = at + 80;
+        let to = from + 16;
         let p = &row[from..to];
         if !polynomials::content::is_zero(p) {
             let end = at + 16;
@@ -44,9 +44,11 @@ fn moved_up(row: &[i64]) -> [i64; 320]
     moved
 }
 
+// "every block moves up by one and n becomes n + 1 in the row [..]; a coefficient outside ±C is refusal 8"
 pub fn shifted(row: [i64; 320]) -> crate::combination::Worked
     requires { ⌜ T (every small row) ⌝ }
-    ensures { λ r. ⌜ (r .refusal ≡ refusalOf (limitCoefficients (shiftUp (rowOf row)))) × (r .row ≡ numbersOf (limitCoefficients (shiftUp (rowOf row)))) ⌝ }
+    ensures { λ r. ⌜ r .refusal ≡ refusalOf (limitCoefficients (shiftUp (rowOf row))) ⌝ }
+    ensures { λ r. ⌜ r .row ≡ numbersOf (limitCoefficients (shiftUp (rowOf row))) ⌝ }
 {
     crate::combination::limited(moved_up(&row[..]))
 }

@@ -1,11 +1,11 @@
 -- `elimination::listing::list_roots` meets its contract. The loop's invariant: the relations of the first k roots are listed.
 -- Assumes nothing.
-use mathlib.Core.Path.{_≡_, refl, sym, _∙_, ap}
+use mathlib.Core.Path.{_≡_, refl, _∙_, ap}
 use mathlib.Core.List.{List, _∷_}
-use Prim.Native.Nat.{ℕ, _+_, _*_, _-_, _≤_}
+use Prim.Native.Nat.{_+_, _*_, _-_, _≤_}
 use native.Mathlib.Omega.{arith}
 use denote.Ref.{now}
-use lib.IntN.{ℤ, pos}
+use lib.IntN.{ℤ}
 use lib.ListN.{take, length}
 use lib.Seq.{paste, take-all, length-take-le}
 use Rattle.rules.specs.Limits.{small}
@@ -61,7 +61,8 @@ loop-again c =
     let k = at .loop .k in
     let root = c .before .before .root-at in
     let value = read-back (root .result) (root .ok) ∙ root .ensures in
-    let stored = c .before .save-relation .ensures ∙ ap (λ z. paste (at .loop .relations) ((args .count + k) * 321) (z ∷ args .row) 321) value in
+    let stored =
+    c .before .save-relation .ensures ∙ ap (λ z. paste (at .loop .relations) ((args .count + k) * 321) (z ∷ args .row) 321) value in
     let small-listed = every-listing (sideOf (args .trailing)) small (held (args .found)) (at .before .pre .1 .0) in
     let more = relisted-more (args .count) k (args .row) (listed at) (now (args .relations)) (at .loop .relations) (at .loop .inv .1 .1)
     (rw (size at) (omega arith)) (omega arith) (omega arith) (at .before .pre .1 .1) small-listed in

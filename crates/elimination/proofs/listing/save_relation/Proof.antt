@@ -6,7 +6,7 @@ use native.Mathlib.Omega.{arith}
 use borrow.Author.Needs.{needs}
 use denote.Ref.{now}
 use lib.ListN.{length-set, set}
-use lib.Seq.{paste, length-paste}
+use lib.Seq.{paste}
 use mir.Facts.{toZ-ofZ}
 use Rattle.elimination.specs.StoreStates.{paste-cons}
 use Rattle.elimination.proofs.listing.save_relation.Statement.{statement}

@@ -1,12 +1,13 @@
 -- `rows::shifting::moved_up` meets its contract. The loop's invariant: the first e polynomials are written, and the others are zero.
 -- Assumes nothing.
-use mathlib.Core.Path.{_≡_, refl, sym, _∙_, ap, ap₂, subst}
+use mathlib.Core.Path.{_≡_, sym, _∙_, ap, ap₂, subst}
 use mathlib.Core.Logic.{⊎-elim}
-use mathlib.Core.Bool.{false, not, Bool·not-not}
-use mathlib.Core.List.{List, _++_}
+use mathlib.Core.Bool.{false, not}
+use mathlib.Core.List.{List}
 use Prim.Native.Nat.{ℕ, _+_, _*_, _≤_, _-_}
 use native.Mathlib.Omega.{arith}
 use borrow.Author.Needs.{needs}
+use borrow.Author.Tests.{not-false}
 use borrow.Rule.Slice.PartMut.{putMid}
 use denote.Ref.{now}
 use lib.Dec.{T}
@@ -16,7 +17,7 @@ use Rattle.algebra.specs.Polynomials.{isZero, shift, isZero-shift}
 use Rattle.rules.specs.Limits.{small}
 use Rattle.rules.specs.Rows.{shiftUp, coefficientsOf}
 use Rattle.rules.specs.Stores.{rowOf}
-use Rattle.rows.specs.Worked.{every-part, front, length-front, front-none, front-all, front-put, front-skip}
+use Rattle.rows.specs.Written.{every-part, front, length-front, front-none, front-all, front-put, front-skip}
 use Rattle.rows.specs.Shifting.{length-shiftUp, shiftUp-part, shiftUp-rest}
 use Rattle.rows.proofs.shifting.moved_up.Statement.{statement}
 use Rattle.rows.proofs.shifting.moved_up.Tie as tie
@@ -40,23 +41,24 @@ module _ (c : tie.After-is-zero Inv-loop μ-loop) where
   e = c .before .before .before .loop .e
 
   abbrev p : List ℤ
-  p = take (e * 16 + 80 - (e * 16 + 64)) (drop (e * 16 + 64) row)
+  p = take (e * 16 + 64 + 16 - (e * 16 + 64)) (drop (e * 16 + 64) row)
 
   full-long : length full ≡ 320
   full-long = length-shiftUp row (c .before .before .before .before .pre .0)
 
   p-shifted : take 16 (drop (e * 16) full) ≡ shift p
   p-shifted =
-      let width : e * 16 + 80 - (e * 16 + 64) ≡ 16 = omega arith in
+      let width : e * 16 + 64 + 16 - (e * 16 + 64) ≡ 16 = omega arith in
       shiftUp-part row (c .before .before .before .before .pre .0) e (c .before .before .loop-test .taken)
       ∙ ap (λ k. shift (take k (drop (e * 16 + 64) row))) (sym width)
 
   p-skipped : not (c .is-zero .result) ≡ false → front full (e * 16) ≡ front full ((e + 1) * 16)
   p-skipped z =
       front-skip full e (omega (arith, full-long))
-      (subst T (sym (ap isZero p-shifted ∙ isZero-shift p ∙ sym (c .is-zero .ensures) ∙ sym (Bool·not-not _) ∙ ap not z)) tt)
+      (subst T (sym (ap isZero p-shifted ∙ isZero-shift p ∙ sym (c .is-zero .ensures) ∙ not-false _ z)) tt)
 
-  p-put : (q : List ℤ) → q ≡ shift p → putMid (e * 16) (e * 16 + 16 - e * 16) (c .before .before .before .loop .moved) q ≡ front full ((e + 1) * 16)
+  p-put : (q : List ℤ) → q ≡ shift p
+      → putMid (e * 16) (e * 16 + 16 - e * 16) (c .before .before .before .loop .moved) q ≡ front full ((e + 1) * 16)
   p-put q w =
       ap₂ (λ m x. putMid (e * 16) (e * 16 + 16 - e * 16) m x) (c .before .before .before .loop .inv .2) (w ∙ sym p-shifted)
       ∙ front-put full e (omega (arith, full-long)) (e * 16 + 16 - e * 16) (omega arith)
@@ -111,7 +113,8 @@ part-moved-end c = search needs
 put-shifted-requires : tie.Need-put-shifted-requires Inv-loop μ-loop
 put-shifted-requires c κs =
     let at = c .before .before in
-    (search needs, search needs, every-part small (e at * 16 + 64) (e at * 16 + 80 - (e at * 16 + 64)) (row at) (at .before .before .before .before .pre .1))
+    let from = e at * 16 + 64 in
+    (search needs, search needs, every-part small from (from + 16 - from) (row at) (at .before .before .before .before .pre .1))
 
 add-e : tie.Need-add-e Inv-loop μ-loop
 add-e c = search needs

@@ -1,6 +1,6 @@
 -- `rows::shifting::put_shifted` meets its contract. The loop's invariant: the first k numbers are those of p(n + 1).
 -- Assumes nothing.
-use mathlib.Core.Path.{_≡_, refl, sym, _∙_, ap}
+use mathlib.Core.Path.{_≡_, _∙_}
 use Prim.Native.Nat.{_≤_, _-_}
 use native.Mathlib.Omega.{arith}
 use borrow.Author.Needs.{needs, sfits-of}
@@ -11,7 +11,7 @@ use mir.Syntax.{w64}
 use mir.Val.{SFits}
 use mir.Facts.{toZ-ofZ}
 use Rattle.algebra.specs.Polynomials.{shift, coeff, length-shift}
-use Rattle.rows.specs.Worked.{fill-next, fill-all}
+use Rattle.polynomials.specs.Content.{prefix-next, prefix-all}
 use Rattle.rows.proofs.shifting.put_shifted.Statement.{statement}
 use Rattle.rows.proofs.shifting.put_shifted.Tie as tie
 
@@ -47,8 +47,8 @@ loop-again c =
     let result : SFits w64 (c .shifted-coefficient .result) = sfits-of (c .shifted-coefficient .ok) in (
       omega arith,
       simp length-set (at .loop .inv .1),
-      rw (toZ-ofZ result, c .shifted-coefficient .ensures .0)
-          (fill-next (at .loop .place) (shift p) (at .loop .k) (pos 0) (omega arith) (rw length-shift (omega arith)) (at .loop .inv .2)),
+      prefix-next (at .loop .place) (shift p) (at .loop .k) _ (pos 0) (omega arith) (rw length-shift (omega arith)) (at .loop .inv .2)
+          (toZ-ofZ result ∙ c .shifted-coefficient .ensures .0),
     )
 
 same-length : tie.Need-same-length Inv-loop μ-loop
@@ -57,8 +57,8 @@ same-length c = search needs
 returns : tie.Need-returns Inv-loop μ-loop
 returns c =
     let p = now (c .before .before .args .p) in
-    let all : c .before .loop .k ≡ 16 = omega arith in
-    fill-all (c .before .loop .place) (shift p) 16 (c .before .loop .inv .1) (length-shift p ∙ c .before .before .pre .1) (rw all at (c .before .loop .inv .2))
+    prefix-all (c .before .loop .place) (shift p) (c .before .loop .k) (omega arith) (rw length-shift (omega arith))
+    (c .before .loop .inv .2)
 
 pub put-shifted-spec : {M : Type 1} → statement M
 put-shifted-spec =

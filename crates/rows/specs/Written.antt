@@ -1,0 +1,127 @@
+-- Lists as the loops over a row write them: part by part over zeros.
+--
+-- Main definitions
+--   front l n      the first n members of l, and zeros in place of the others
+--
+-- Main statements
+--   every-take, every-drop, every-part   what all members pass, all members of a part pass
+--   front-none, front-put, front-skip, front-all, front-whole   none written, one part of 16 more, one that is zero, all
+--   length-flatten, part-flatten lists of one width, joined: the length, and part i
+use mathlib.Core.Path.{_≡_, refl, sym, _∙_, ap, ap₂}
+use mathlib.Core.Bool.{Bool, _&&_}
+use mathlib.Core.List.{List, [], _∷_, _++_, flatten, append-assoc}
+use Prim.Native.Nat.{ℕ, zero, suc, _+_, _*_, _-_, _≤_, _<_}
+use native.Mathlib.Nat.{sub-zero, zero-mul, suc-mul}
+use native.Mathlib.Omega.{arith}
+use lib.Dec.{T}
+use lib.IntN.{ℤ, pos}
+use lib.ListN.{length, take, drop, getD, replicate, length-append, length-drop, length-replicate, replicate-append-replicate, take-append-drop}
+use lib.Seq.{drop-length, take-add, take-at, drop-at, length-take-le}
+use Rattle.algebra.specs.Polynomials.{Polynomial, isZero, isZero-cons, T-&&}
+use Rattle.rules.specs.Rows.{All, every}
+use Rattle.rules.specs.Layout.{parts-flatten, getD-parts}
+
+-- ---- a part of a list
+
+module _ {A : Type 0} (t : A → Bool) where
+  pub every-take : (n : ℕ) (l : List A) → T (every t l) → T (every t (take n l))
+  unfolding every
+  every-take zero l h = tt
+  every-take (suc n) [] h = tt
+  every-take (suc n) (x ∷ l) h = let e = T-&& (t x) (every t l) .0 h in T-&& (t x) (every t (take n l)) .1 (e .0, every-take n l (e .1))
+
+  pub every-drop : (n : ℕ) (l : List A) → T (every t l) → T (every t (drop n l))
+  unfolding every
+  every-drop zero l h = h
+  every-drop (suc n) [] h = tt
+  every-drop (suc n) (x ∷ l) h = every-drop n l (T-&& (t x) (every t l) .0 h .1)
+
+  -- What every member passes, every member of a part passes.
+  pub every-part : (n m : ℕ) (l : List A) → T (every t l) → T (every t (take m (drop n l)))
+  every-part n m l h = every-take m (drop n l) (every-drop n l h)
+
+-- ---- a list written part by part over zeros
+
+unfoldable pub front : List ℤ → ℕ → List ℤ
+front l n = take n l ++ replicate (length l - n) (pos 0)
+
+zero-list : (p : Polynomial) → T (isZero p) → p ≡ replicate (length p) (pos 0)
+unfolding isZero
+zero-list [] h = refl
+zero-list (a ∷ p) h = let e = isZero-cons a p .0 h in ap₂ _∷_ (e .0) (zero-list p (e .1))
+
+pub length-front : (l : List ℤ) (n : ℕ) → n ≤ length l → length (front l n) ≡ length l
+unfolding front
+length-front l n h = simp (length-append, length-replicate, length-take-le n l h) (omega arith)
+
+pub front-none : (l : List ℤ) → front l 0 ≡ replicate (length l) (pos 0)
+unfolding front
+front-none l = ap (λ n. replicate n (pos 0)) (sub-zero (length l))
+
+pub front-all : (l : List ℤ) (n : ℕ) → T (isZero (drop n l)) → front l n ≡ l
+unfolding front
+front-all l n h =
+    ap (λ m. take n l ++ replicate m (pos 0)) (sym (length-drop n l)) ∙ ap (λ r. take n l ++ r) (sym (zero-list (drop n l) h))
+    ∙ take-append-drop n l
+
+pub front-whole : (l : List ℤ) → front l (length l) ≡ l
+unfolding isZero
+front-whole l = front-all l (length l) (rw drop-length tt)
+
+-- The polynomials of a row stand in parts of 16 numbers.
+module _ (l : List ℤ) (e : ℕ) (h : e * 16 + 16 ≤ length l) where
+  abbrev n : ℕ
+  n = e * 16
+
+  abbrev next : ℕ
+  next = (e + 1) * 16
+
+  rest-zeros : replicate (length l - n) (pos 0) ≡ replicate 16 (pos 0) ++ replicate (length l - next) (pos 0)
+  rest-zeros =
+      let count : length l - n ≡ 16 + (length l - next) = omega arith in
+      rw (replicate-append-replicate 16 (length l - next) (pos 0), count)
+
+  front-split : front l next ≡ take n l ++ (take 16 (drop n l) ++ replicate (length l - next) (pos 0))
+  unfolding front
+  front-split =
+      let zeros = replicate (length l - next) (pos 0) in
+      let sum : next ≡ n + 16 = omega arith in
+      ap (λ m. take m l ++ zeros) sum ∙ ap (λ r. r ++ zeros) (take-add n 16 l) ∙ append-assoc (take n l) (take 16 (drop n l)) zeros
+
+  -- The next part in its place.
+  pub front-put : (k : ℕ) → k ≡ 16 → take n (front l n) ++ (take 16 (drop n l) ++ drop k (drop n (front l n))) ≡ front l next
+  unfolding front
+  front-put k w =
+      let zeros = replicate (length l - n) (pos 0) in
+      let long = length-take-le n l (omega arith) in
+      ap₂ (λ a b. a ++ (take 16 (drop n l) ++ drop k b)) (take-at (take n l) zeros n long) (drop-at (take n l) zeros n long)
+      ∙ ap (λ b. take n l ++ (take 16 (drop n l) ++ b))
+      (ap₂ drop w rest-zeros ∙ drop-at (replicate 16 (pos 0)) _ 16 (length-replicate 16 (pos 0)))
+      ∙ sym front-split
+
+  -- A part of zeros is there already.
+  pub front-skip : T (isZero (take 16 (drop n l))) → front l n ≡ front l next
+  unfolding front
+  front-skip z =
+      ap (λ r. take n l ++ r) (rest-zeros ∙ ap (λ r. r ++ replicate (length l - next) (pos 0)) (sym part-zeros)) ∙ sym front-split
+    where
+      part-zeros : take 16 (drop n l) ≡ replicate 16 (pos 0)
+      part-zeros =
+          zero-list (take 16 (drop n l)) z
+          ∙ ap (λ m. replicate m (pos 0)) (length-take-le 16 (drop n l) (rw length-drop (omega arith)))
+
+-- ---- lists of one width, joined
+
+module _ {A : Type 0} (k : ℕ) where
+  pub length-flatten : (ls : List (List A)) → All (λ p. length p ≡ k) ls → length (flatten ls) ≡ length ls * k
+  unfolding flatten All
+  length-flatten [] h = sym (zero-mul k)
+  length-flatten (l ∷ ls) h = length-append l (flatten ls) ∙ ap₂ _+_ (h .0) (length-flatten ls (h .1)) ∙ step
+    where
+      step : k + length ls * k ≡ suc (length ls) * k
+      step = omega (arith, suc-mul (length ls) k)
+
+  pub part-flatten : (n : ℕ) (ls : List (List A)) (rest : List A) → length ls ≡ n → All (λ p. length p ≡ k) ls → (i : ℕ) → i < n
+      → take k (drop (i * k) (flatten ls ++ rest)) ≡ getD ls i []
+  part-flatten n ls rest e h i below =
+      sym (getD-parts k n (flatten ls ++ rest) i below) ∙ ap (λ ps. getD ps i []) (parts-flatten k n ls rest e h)
