@@ -16,6 +16,8 @@ use native.Mathlib.Numerals.{add-one}
 use native.Mathlib.Omega.{arith}
 use mathlib.Core.Path.{_≡_, refl, sym, _∙_, ap, ap₂, subst}
 use mathlib.Core.List.{List, [], _∷_, _++_, map}
+use mathlib.Core.Logic.{_≢_}
+use mathlib.Core.Bool.{Bool, true, false}
 use lib.Dec.{T}
 use lib.IntN.{ℤ, pos, negℤ, natAbs}
 use lib.ListN.{length, take, drop, getD, set, length-drop}
@@ -24,13 +26,17 @@ use Rattle.algebra.specs.Integers.{natAbs-negℤ}
 use Rattle.algebra.specs.Polynomials.{T-&&, isZero}
 use Rattle.rules.specs.Limits.{bound, small}
 use Rattle.rules.specs.Rows.{All, every, coefficientsOf, smallRow, mirrorRow, mirrorRelation}
+use Rattle.rules.specs.Elimination.{State, going, done, trailing, run, enough, start, mirrorState, mirrorOutcome, trailingRun}
 use Rattle.rules.specs.Stores.{parts, rowOf, rowsOf, relationOf, relationsOf, relationNumbers, rowNeed, relationNeed}
 use Rattle.rules.specs.Layout.{parts-length, parts-width, getD-parts}
 use Rattle.polynomials.specs.Content.{small-at}
 use Rattle.rows.specs.Flat.{drop-take, parts-take, every-append}
 use Rattle.rows.specs.Validity.{index-at, row-after}
 use Rattle.rows.specs.Mirroring.{length-mirrorRow, rowOf-mirrorRow, small-mirrorRow}
-use Rattle.elimination.specs.Progress.{Within, Listing, Kept}
+use Rattle.elimination.specs.Progress.{Within, Listing, Kept, Reached, state, stateOf, outcomeOf, outcomeAt, ready-with}
+use Rattle.elimination.specs.declared.step.Progress.{Progress}
+use Rattle.elimination.specs.declared.step.Outcome as Answer
+use Rattle.elimination.specs.RunLaws.{enough-rows}
 use Rattle.elimination.specs.StoreStates.{parts-paste, every-part, within-paste, kept-paste, kept-same, kept-then}
 
 -- ---- parts of one width, changed one after the other
@@ -257,3 +263,61 @@ relations-mirrored count D i before after few l h c =
   where
     used : count * 321 ≤ relationNeed
     used = omega (arith, l .few)
+
+-- ---- the run on the trailing side: the mirror, the run, and the mirror back
+
+pub mirrored-state : (m D : ℕ) (rows relations rows' relations' : List ℤ) (p : Progress) → RowsMirrored m D rows rows'
+    → RelationsMirrored (p .count) D relations relations' → stateOf m rows' relations' p ≡ mirrorState D (stateOf m rows relations p)
+unfolding stateOf mirrorState
+mirrored-state m D rows relations rows' relations' p h g =
+    ap₂ (λ r e. state r e (take (p .settled) (p .order)) (p .shifts)) (h .rows) (g .relations)
+
+outcome-mirrored : (D n : ℕ) (d : Bool) (s s' : State) → (n ≡ 0 → s' ≡ mirrorState D s) → outcomeOf n d s' ≡ mirrorOutcome D (outcomeOf n d s)
+unfolding outcomeOf mirrorOutcome
+outcome-mirrored D zero false s s' h = ap going (h refl)
+outcome-mirrored D zero true s s' h = ap done (h refl)
+outcome-mirrored D (suc n) d s s' h = refl
+
+-- The stores before the mirror, after it, and after the run.
+module _ (m D count : ℕ) (rows relations rows₁ relations₁ rows₂ relations₂ : List ℤ) (h : RowsMirrored m D rows rows₁)
+    (g : RelationsMirrored count D relations relations₁) (o : Answer.Outcome)
+    (r : Reached m rows₁ relations₁ rows₂ relations₂ 121 o
+    (run trailing (enough (rowsOf m rows₁)) (start (rowsOf m rows₁) (relationsOf count relations₁)))) where
+  mirrored-start : start (rowsOf m rows₁) (relationsOf count relations₁) ≡ mirrorState D (start (rowsOf m rows) (relationsOf count relations))
+  unfolding start mirrorState
+  mirrored-start = ap₂ (λ r e. state r e [] 0) (h .rows) (g .relations)
+
+  reached-mirrored : outcomeAt m rows₂ relations₂ o
+      ≡ run trailing (enough (rowsOf m rows)) (mirrorState D (start (rowsOf m rows) (relationsOf count relations)))
+  reached-mirrored = r .outcome ∙ ap₂ (run trailing) (enough-rows m rows₁ ∙ sym (enough-rows m rows)) mirrored-start
+
+  -- A refusal, and the stores as they are.
+  pub trailing-refused : o .refusal ≢ 0
+      → Reached m rows relations rows₂ relations₂ 121 o (trailingRun D (rowsOf m rows) (relationsOf count relations))
+  unfolding trailingRun
+  trailing-refused n =
+      let s = stateOf m rows₂ relations₂ (o .progress) in
+      record {
+        outcome = outcome-mirrored D (o .refusal) (o .done) s s (λ e. absurd (n e)) ∙ ap (mirrorOutcome D) reached-mirrored;
+        rows-kept = kept-then (h .kept) (r .rows-kept);
+        relations-kept = kept-then (g .kept) (r .relations-kept);
+        few-shifts = r .few-shifts;
+        next-ready = λ e. absurd (n e);
+      }
+
+  -- No refusal, and the stores after the mirror back.
+  pub trailing-reached : (rows₃ relations₃ : List ℤ) → RowsMirrored m D rows₂ rows₃
+      → RelationsMirrored (o .progress .count) D relations₂ relations₃
+      → Reached m rows relations rows₃ relations₃ 121 o (trailingRun D (rowsOf m rows) (relationsOf count relations))
+  unfolding trailingRun
+  trailing-reached rows₃ relations₃ h′ g′ =
+      let s = stateOf m rows₂ relations₂ (o .progress) in
+      let s′ = stateOf m rows₃ relations₃ (o .progress) in
+      let same = mirrored-state m D rows₂ relations₂ rows₃ relations₃ (o .progress) h′ g′ in
+      record {
+        outcome = outcome-mirrored D (o .refusal) (o .done) s s′ (λ _. same) ∙ ap (mirrorOutcome D) reached-mirrored;
+        rows-kept = kept-then (h .kept) (kept-then (r .rows-kept) (h′ .kept));
+        relations-kept = kept-then (g .kept) (kept-then (r .relations-kept) (g′ .kept));
+        few-shifts = r .few-shifts;
+        next-ready = λ e. ready-with (r .next-ready e) (h′ .within) (g′ .listing);
+      }
