@@ -1,15 +1,16 @@
 // What a run on lent stores gives back.
 ghost use mathlib.Core.Path.{_≡_};
-ghost use Prim.Native.Nat.{_≤_};
 ghost use mathlib.Core.List.{List};
+ghost use Prim.Native.Nat.{_≤_};
+ghost use lib.Dec.{T};
 ghost use lib.IntN.{ℤ};
 ghost use lib.ListN.{take};
-ghost use lib.Dec.{T};
-ghost use Rattle.rules.specs.Stores.{rowNeed, sizesRight};
-ghost use Rattle.rows.specs.Validity.{sizesOf};
+ghost use Rattle.rules.specs.Elimination as Elimination;
+ghost use Rattle.rules.specs.Stores.{rowsOf, relationsOf, rowNeed, sizesRight};
 ghost use Rattle.rules.specs.Calls as Calls;
 ghost use Rattle.rows.specs.Found.{Columns};
-ghost use Rattle.elimination.specs.Progress.{sideOf, stateOf, outcomeOf, Within};
+ghost use Rattle.rows.specs.Validity.{sizesOf};
+ghost use Rattle.elimination.specs.Progress.{sideOf, stateOf, outcomeOf, Within, Listing, Reached};
 ghost use Rattle.elimination.specs.CallLaws.{resultOf, callOf, Ended};
 
 // The number of the refusal or 0, and for a run that accepts: how many relations the store holds, how many shifts were made,
@@ -72,6 +73,50 @@ fn accepted(
         order: counted(order, m),
         has_root: answer.found,
         root: answer.root,
+    }
+}
+
+// "Trailing side: replace n by -n, block s by -s, n0 by -n0; run the above; mirror back."
+fn trailing_run(
+    rows: &mut [i64],
+    relations: &mut [i64],
+    m: usize,
+    span: usize,
+    count: usize,
+) -> crate::step::Outcome
+    requires { ⌜ (m ≤ 4) × (span ≤ 4) × Within (rowNeed m) (now rows) × Listing count (now relations) ⌝ }
+    ensures { λ r. ⌜ Reached m (now (rows .entry)) (now (relations .entry)) (now (rows .exit)) (now (relations .exit)) 121 r
+        (Elimination.trailingRun span (rowsOf m (now (rows .entry))) (relationsOf count (now (relations .entry)))) ⌝ }
+{
+    crate::mirror::mirror_rows(rows, m, span);
+    crate::mirror::mirror_relations(relations, count, span);
+    let o = crate::run::run(rows, relations, m, true, count);
+    let refusal = o.refusal;
+    if refusal != 0 {
+        return o;
+    }
+    let p = o.progress;
+    crate::mirror::mirror_rows(rows, m, span);
+    crate::mirror::mirror_relations(relations, p.count, span);
+    o
+}
+
+fn whole_run(
+    rows: &mut [i64],
+    relations: &mut [i64],
+    m: usize,
+    span: usize,
+    trailing: bool,
+    count: usize,
+) -> crate::step::Outcome
+    requires { ⌜ (m ≤ 4) × (span ≤ 4) × Within (rowNeed m) (now rows) × Listing count (now relations) ⌝ }
+    ensures { λ r. ⌜ Reached m (now (rows .entry)) (now (relations .entry)) (now (rows .exit)) (now (relations .exit)) 121 r
+        (Elimination.wholeRun (sideOf trailing) span (rowsOf m (now (rows .entry))) (relationsOf count (now (relations .entry)))) ⌝ }
+{
+    if trailing {
+        trailing_run(rows, relations, m, span, count)
+    } else {
+        crate::run::run(rows, relations, m, false, count)
     }
 }
 
