@@ -11,7 +11,7 @@ ghost use Rattle.rules.specs.Calls as Calls;
 ghost use Rattle.rows.specs.Found.{Columns};
 ghost use Rattle.rows.specs.Validity.{sizesOf};
 ghost use Rattle.elimination.specs.Progress.{sideOf, stateOf, outcomeOf, Within, Listing, Reached};
-ghost use Rattle.elimination.specs.CallLaws.{resultOf, callOf, Ended};
+ghost use Rattle.elimination.specs.CallLaws.{resultOf, callOf, Final};
 
 // The number of the refusal or 0, and for a run that accepts: how many relations the store holds, how many shifts were made,
 // the columns of the settled rows, counted from 1, with zeros past the last, and whether there is a root, and which; 0 with "no".
@@ -128,7 +128,7 @@ fn ended(
     trailing: bool,
     o: crate::step::Outcome,
 ) -> RunResult
-    requires { ⌜ T (sizesRight (sizesOf sizes)) × Ended (sizes .m) (now rows) (now relations) o ⌝ }
+    requires { ⌜ T (sizesRight (sizesOf sizes)) × Final (sizes .m) (now rows) (now relations) o ⌝ }
     ensures { λ r. ⌜ callOf r (now (rows .exit)) (now (relations .exit)) ≡ Calls.afterRun (sideOf trailing) (sizesOf sizes)
         (outcomeOf (o .refusal) (o .done) (stateOf (sizes .m) (now (rows .entry)) (now (relations .entry)) (o .progress)))
         (now (rows .entry)) (now (relations .entry)) ⌝ }
