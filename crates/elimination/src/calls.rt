@@ -143,3 +143,24 @@ fn ended(
     let p = o.progress;
     accepted(rows, m, rows::validity::span(sizes), trailing, p)
 }
+
+// A run on lent stores: the checks, the run, and what it leaves.
+pub(crate) fn called(
+    rows: &mut [i64],
+    relations: &mut [i64],
+    sizes: rows::validity::Sizes,
+    count: usize,
+    trailing: bool,
+) -> RunResult
+    ensures { λ r. ⌜ callOf r (now (rows .exit)) (now (relations .exit))
+        ≡ Calls.callRun (sideOf trailing) (sizesOf sizes) count (now (rows .entry)) (now (relations .entry)) ⌝ }
+{
+    let refusal = rows::validity::check_stores(rows, relations, sizes, count);
+    if refusal != 0 {
+        return refused(refusal);
+    }
+    let m = sizes.m;
+    let span = rows::validity::span(sizes);
+    let o = whole_run(rows, relations, m, span, trailing, count);
+    ended(rows, relations, sizes, trailing, o)
+}
