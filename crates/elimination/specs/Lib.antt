@@ -7,3 +7,6 @@ pub mod Exchange
 pub mod StepLaws
 pub mod StepCases
 pub mod RunLaws
+pub mod MirrorLaws
+pub mod ReportLaws
+pub mod CallLaws
