@@ -2,9 +2,18 @@
 --
 -- Main definitions
 --   resultOf r, callOf r rows relations   the result, and the whole call, as `rules` has them
+--   Final m rows relations o      what the stores hold when the run has ended with the answer o
+--   Checked z count rows relations   what the stores hold when the checks have passed
 --
 -- Main statements
---   counted-none, counted-next            the columns of an order, counted from 1, one after the other
+--   counted-none, counted-next    the columns of an order, counted from 1, one after the other
+--   few-unknowns, few-blocks      m and D of right sizes are at most 4
+--   overwrite-rows, overwrite-relations, overwrite-zeros   the stores that a call leaves are those after its run, or cleared
+--   accepted-result               the result of a run that accepts
+--   ended-refused, ended-accepted the call after its run, from the stores after the run
+--   checked                       what the checks let through
+--   final-run                     a whole run ends, and one that accepts has settled every row
+--   call-run, call-refused        the whole call
 use Prim.Native.Nat.{ℕ, zero, suc, _+_, _*_, _-_, _≤_, _<_}
 use native.Mathlib.Nat.{not-suc-le-zero, le-of-suc-le-suc, le-of-lt, le-of-eq, zero-add, suc-ne-zero}
 use native.Mathlib.Numerals.{add-one}
@@ -22,11 +31,13 @@ use Rattle.algebra.specs.Polynomials.{T-&&}
 use Rattle.rules.specs.Limits.{small}
 use Rattle.rules.specs.Rows.{Row, Relation, every, coefficientsOf, smallRow}
 use Rattle.rules.specs.Elimination.{Side, State, done, wholeRun, report}
-use Rattle.rules.specs.Stores.{Sizes, Valid, span, sizesRight, checkStores, rowsOf, relationsOf, rowNeed, relationNeed, rowStoreOf, relationStoreOf}
-use Rattle.rules.specs.Stores.{relationNumbers, unusedZero, rowRight, relationRight}
+use Rattle.rules.specs.Stores.{Sizes, Valid, span, sizesRight, checkStores, rowsOf, relationsOf, rowNeed, relationNeed}
+use Rattle.rules.specs.Stores.{rowStoreOf, relationStoreOf, relationNumbers, unusedZero, rowRight, relationRight}
 use Rattle.rules.specs.Layout.{rowStoreOf-rowsOf, relationStoreOf-relationsOf, length-relationsOf, size-bounds, block-place}
-use Rattle.rules.specs.Layout.{StoresRight, checkStores-zero, lengthsRight-iff, countRight-iff, NumbersRight, numbersRight-iff, stores-valid}
-use Rattle.rules.specs.Calls.{Result, Call, padTo, reportedOrder, refusal, acceptance, overwrite, zeros, cleared, unchanged, afterRun, afterCheck, callRun}
+use Rattle.rules.specs.Layout.{StoresRight, checkStores-zero, stores-valid, NumbersRight, numbersRight-iff}
+use Rattle.rules.specs.Layout.{lengthsRight-iff, countRight-iff}
+use Rattle.rules.specs.Calls.{Result, Call, padTo, reportedOrder, refusal, acceptance, overwrite, zeros}
+use Rattle.rules.specs.Calls.{cleared, unchanged, afterRun, afterCheck, callRun}
 use Rattle.polynomials.specs.declared.roots.RootAnswer.{RootAnswer}
 use Rattle.polynomials.specs.RootSearch.{answered}
 use Rattle.theory.specs.Ending.{wholeRun-ends}
@@ -205,7 +216,8 @@ rows-small : (z : Sizes) (rows : List Row) → T (every (rowRight z) rows) → T
 unfolding rowStoreOf rowRight smallRow
 rows-small z rows h = every-number (rowRight z) coefficientsOf (λ r t. T-&& (smallRow r) (unusedZero (z .m) (span z) r) .0 t .0) rows h
 
-relations-small : (z : Sizes) (relations : List Relation) → T (every (relationRight z) relations) → T (every small (relationStoreOf relations))
+relations-small : (z : Sizes) (relations : List Relation) → T (every (relationRight z) relations)
+    → T (every small (relationStoreOf relations))
 unfolding relationStoreOf relationRight rowRight smallRow relationNumbers every
 relations-small z relations h =
     rw every-append
@@ -272,7 +284,8 @@ final-run side z count most rows relations rows' relations' o c r =
     settled e f =
         let ready = r .next-ready e in
         let order = diagonal-nonzero (record { valid = c .valid; accepts = came true e f }) .order-count in
-        sym (length-take-le (o .progress .settled) (o .progress .order) (omega (arith, ready .settled, ready .unknowns, ready .four))) ∙ order
+        let inside : o .progress .settled ≤ length (o .progress .order) = omega (arith, ready .settled, ready .unknowns, ready .four) in
+        sym (length-take-le (o .progress .settled) (o .progress .order) inside) ∙ order
 
     cases : o .refusal ≡ 0 → (d : Bool) → o .done ≡ d → (o .done ≡ true) × (o .progress .settled ≡ z .m)
     cases e true f = (f, settled e f)
@@ -326,7 +339,8 @@ module _ (side : Side) (z : Sizes) (rows relations rows' relations' : List ℤ) 
       s = stateOf (z .m) rows' relations' (o .progress)
 
       cases : (n : ℕ) → o .refusal ≡ n
-          → afterRun side z (outcomeOf (o .refusal) (o .done) s) rows' relations' ≡ afterRun side z (outcomeOf (o .refusal) (o .done) s) rows relations
+          → afterRun side z (outcomeOf (o .refusal) (o .done) s) rows' relations'
+          ≡ afterRun side z (outcomeOf (o .refusal) (o .done) s) rows relations
       cases zero e = rw (e, f .all-settled e .0) (after-accepted (o .progress) (f .ready e))
       cases (suc n) e = after-refused (o .refusal) (o .done) s (λ g. suc-ne-zero n (sym e ∙ g))
 

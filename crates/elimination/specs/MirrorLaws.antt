@@ -9,6 +9,8 @@
 -- Main statements
 --   changed-none, changed-next, changed-parts   no part changed, one part more, all parts
 --   rows-mirrored, relations-mirrored           all parts mirrored
+--   mirrored-state                              the state that the mirrored stores hold
+--   trailing-refused, trailing-reached          the run on the trailing side: the mirror, the run, and the mirror back
 use Prim.Native.Nat.{ℕ, zero, suc, _+_, _*_, _-_, _≤_, _<_}
 use native.Mathlib.Nat.{not-suc-le-zero, le-of-suc-le-suc, le-of-eq, le-refl, suc-ne-zero, suc-inj}
 use native.Mathlib.Nat.{suc-mul, mul-le-mul-right, add-sub-of-le}
@@ -272,7 +274,8 @@ unfolding stateOf mirrorState
 mirrored-state m D rows relations rows' relations' p h g =
     ap₂ (λ r e. state r e (take (p .settled) (p .order)) (p .shifts)) (h .rows) (g .relations)
 
-outcome-mirrored : (D n : ℕ) (d : Bool) (s s' : State) → (n ≡ 0 → s' ≡ mirrorState D s) → outcomeOf n d s' ≡ mirrorOutcome D (outcomeOf n d s)
+outcome-mirrored : (D n : ℕ) (d : Bool) (s s' : State) → (n ≡ 0 → s' ≡ mirrorState D s)
+    → outcomeOf n d s' ≡ mirrorOutcome D (outcomeOf n d s)
 unfolding outcomeOf mirrorOutcome
 outcome-mirrored D zero false s s' h = ap going (h refl)
 outcome-mirrored D zero true s s' h = ap done (h refl)

@@ -29,7 +29,7 @@ use Rattle.algebra.specs.Roots.{roots}
 use Rattle.algebra.specs.Order.{≤ℤ-trans, ≤ℤ-total}
 use Rattle.rules.specs.Elimination.{Side, leading, trailing, State, diagonal, diagonalPlace, further, furthest, report}
 use Rattle.rules.specs.Limits.{small}
-use Rattle.rules.specs.Rows.{noRow, every}
+use Rattle.rules.specs.Rows.{Row, noRow, every}
 use Rattle.rules.specs.Stores.{rowsOf, rowNeed}
 use Rattle.rules.specs.Layout.{length-rowsOf, polynomial-at}
 use Rattle.rules.specs.Calls.{rootFound, rootValue}
@@ -195,7 +195,8 @@ pub report-settled : (side : Side) (D m : ℕ) (store : List ℤ) (order : List 
     → s .rows ≡ rowsOf m store → s .order ≡ take m order → report side D s ≡ report side D (settledState m store order)
 unfolding report diagonal
 report-settled side D m store order s e f =
-    ap₂ (λ rows cs. furthest side (flatten (map roots (zipWith (λ r c. getD (getD (r .blocks) (diagonalPlace side D) []) c []) rows cs)))) e f
+    let entry : Row → ℕ → Polynomial = λ r c. getD (getD (r .blocks) (diagonalPlace side D) []) c [] in
+    ap₂ (λ rows cs. furthest side (flatten (map roots (zipWith entry rows cs)))) e f
 
 -- Where the sixteen numbers of diagonal polynomial j begin.
 unfoldable pub diagonalAt : Side → ℕ → List ℕ → ℕ → ℕ

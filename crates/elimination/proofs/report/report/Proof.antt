@@ -1,4 +1,5 @@
--- `elimination::report::report` meets its contract. The loop's invariant: the answer is the furthest root of the first j diagonal polynomials.
+-- `elimination::report::report` meets its contract. The loop's invariant: the answer is the furthest root of the first j
+-- diagonal polynomials.
 -- Assumes nothing.
 use mathlib.Core.Path.{_≡_, sym, _∙_, ap, ap₂}
 use mathlib.Core.Bool.{Bool}
