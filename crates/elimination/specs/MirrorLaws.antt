@@ -39,7 +39,8 @@ use Rattle.elimination.specs.Progress.{Within, Listing, Kept, Reached, s
 use Rattle.elimination.specs.declared.step.Progress.{Progress}
 use Rattle.elimination.specs.declared.step.Outcome as Answer
 use Rattle.elimination.specs.RunLaws.{enough-rows}
-use Rattle.elimination.specs.StoreStates.{parts-paste, every-part, within-paste, kept-paste, kept-same, kept-then}
+use Rattle.rows.specs.Written.{every-part}
+use Rattle.elimination.specs.StoreStates.{parts-paste, within-paste, kept-paste, kept-same, kept-then}
 
 -- ---- parts of one width, changed one after the other
 
