@@ -286,9 +286,10 @@ padded-right z s₀ c₀ last bytes e rest h =
     let polynomial = then-parts (readPolynomial last (place .1)) _ (place .3) in
     let count = then-parts (field (between (pos 1) (pos 16)) (always space) (place .1)) _ (polynomial .2) in
     let coefficients = then-parts (readCoefficients last (natAbs (count .0)) (count .1)) _ (count .3) in
-    subst (λ e. TermRight z s₀ c₀ e × (length (e .polynomial) ≡ coefficientCount)) (got-value (polynomial .3))
-    (place-right z s₀ c₀ bytes (place .0) (place .1) (polynomial .0) (place .2),
-    sym (ap length (got-value (coefficients .3))) ∙ length-padTo coefficientCount (pos 0) (coefficients .0))
+    subst (λ e. TermRight z s₀ c₀ e × (length (e .polynomial) ≡ coefficientCount)) (got-value (polynomial .3)) (
+      place-right z s₀ c₀ bytes (place .0) (place .1) (polynomial .0) (place .2),
+      sym (ap length (got-value (coefficients .3))) ∙ length-padTo coefficientCount (pos 0) (coefficients .0),
+    )
 
 -- ---- terms that were read stand at rising places
 
@@ -363,11 +364,12 @@ terms-after z few (suc k) s₀ c₀ bytes es rest hs hc h =
     let e = first .0 in
     let more = then-parts (readTerms z k (e .block) (e .column) (first .1)) (consTerm e) (first .3) in
     let right = term-right z s₀ c₀ (parting newline k) bytes e (first .1) (first .2) in
-    subst (All (λ f. reach (z .l) s₀ c₀ ≤ placeNumber (z .l) f)) (got-value (more .3))
-    (term-after z s₀ c₀ hs hc e right,
-    All-later (z .l) (reach (z .l) s₀ c₀) (reach (z .l) (e .block) (e .column)) (more .0)
-    (omega (arith, term-after z s₀ c₀ hs hc e right, place-reach z s₀ c₀ hs hc e right))
-    (terms-after z few k (e .block) (e .column) (first .1) (more .0) (more .1) (right .block-right .high) (le-trans (right .high) few) (more .2)))
+    subst (All (λ f. reach (z .l) s₀ c₀ ≤ placeNumber (z .l) f)) (got-value (more .3)) (
+      term-after z s₀ c₀ hs hc e right,
+      All-later (z .l) (reach (z .l) s₀ c₀) (reach (z .l) (e .block) (e .column)) (more .0)
+          (omega (arith, term-after z s₀ c₀ hs hc e right, place-reach z s₀ c₀ hs hc e right))
+          (terms-after z few k (e .block) (e .column) (first .1) (more .0) (more .1) (right .block-right .high) (le-trans (right .high) few) (more .2)),
+    )
 
 -- ---- terms put into a row as they are read
 
@@ -466,11 +468,12 @@ padTo-all (suc n) v (x ∷ l) h = ap (λ r. x ∷ r) (padTo-all n v l (suc-inj h
 pub term-place : (z : Sizes) (s₀ : ℤ) (c₀ : ℕ) (e : Term) → T (sizesRight z) → TermRight z s₀ c₀ e
     → (natAbs (z .l -ℤ e .block) ≤ 4) × (e .block ≤ℤ z .l) × (1 ≤ e .column) × (e .column ≤ columnCount)
 term-place z s₀ c₀ e sizes right =
-    let bounds = size-bounds z sizes in
-    (le-of-suc-le-suc (block-place z (e .block) bounds (right .block-right .low) (right .block-right .high)),
-    right .block-right .high,
-    right .low,
-    le-trans (right .high) (bounds .few))
+    let bounds = size-bounds z sizes in (
+      le-of-suc-le-suc (block-place z (e .block) bounds (right .block-right .low) (right .block-right .high)),
+      right .block-right .high,
+      right .low,
+      le-trans (right .high) (bounds .few),
+    )
 
 pub place-fits : (z : Sizes) (s₀ : ℤ) (c₀ : ℕ) (e : Term) → T (sizesRight z) → TermRight z s₀ c₀ e
     → placeInRow (z .l) (e .block) (e .column) + coefficientCount ≤ rowLength

@@ -411,7 +411,14 @@ fn judge_order(m: usize, order: &[usize], taken: usize, value: i64) -> u8
     2
 }
 
-fn order_column_at(bytes: &[u8], at: usize, m: usize, order: &[usize], taken: usize, separator: u8) -> NumberRead
+fn order_column_at(
+    bytes: &[u8],
+    at: usize,
+    m: usize,
+    order: &[usize],
+    taken: usize,
+    separator: u8,
+) -> NumberRead
     requires { ⌜ (at ≤ length (now bytes)) × ((m ≤ 4) × (taken ≤ length (now order))) ⌝ }
     ensures { λ r. ⌜ Answers (now (bytes .entry)) (r .refusal) (r .value) (r .at) (field (judgeOrder m (takenOf (now (order .entry)) taken)) (always separator) (drop at (now (bytes .entry)))) ⌝ }
 {
@@ -757,7 +764,13 @@ fn relation_at(bytes: &[u8], at: usize, z: Sizes) -> RelationRead
 }
 
 // The relations, read into the first `count` × 321 numbers of `relations`.
-fn relations_at(bytes: &[u8], at: usize, z: Sizes, count: usize, relations: &mut [i64]) -> SectionRead
+fn relations_at(
+    bytes: &[u8],
+    at: usize,
+    z: Sizes,
+    count: usize,
+    relations: &mut [i64],
+) -> SectionRead
     requires { ⌜ (at ≤ length (now bytes)) × T (sizesRight (sizesOf z)) ⌝ }
     requires { ⌜ (count ≤ 16) × (5136 ≤ length (now relations)) ⌝ }
     ensures { λ r. ⌜ Answers (now (bytes .entry)) (r .refusal) (relationsOf count (now (relations .exit))) (r .at) (readRelations (sizesOf z) count (drop at (now (bytes .entry)))) ⌝ }

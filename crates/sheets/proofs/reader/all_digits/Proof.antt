@@ -35,8 +35,11 @@ unfolding every
 returns c =
     let l = c .before .before .before .before .loop in
     let s = c .before .before .before .before .before .before in
-    sym (rw (l .inv .1, slice-next (now (s .args .bytes)) (l .i) (s .args .end) (omega arith) (s .pre .1),
-    sym (c .before .is-digit .ensures) ∙ not-true _ (c .if1 .taken)))
+    sym (rw (
+      l .inv .1,
+      slice-next (now (s .args .bytes)) (l .i) (s .args .end) (omega arith) (s .pre .1),
+      sym (c .before .is-digit .ensures) ∙ not-true _ (c .if1 .taken),
+    ))
 
 add-i : tie.Need-add-i Inv-loop μ-loop
 add-i c = omega arith
@@ -48,9 +51,14 @@ loop-again : tie.Need-loop-again Inv-loop μ-loop
 unfolding every
 loop-again c =
     let l = c .before .before .before .before .loop in
-    let s = c .before .before .before .before .before .before in
-    (omega arith, (rw (l .inv .1, slice-next (now (s .args .bytes)) (l .i) (s .args .end) (omega arith) (s .pre .1),
-    sym (c .before .is-digit .ensures) ∙ not-false _ (c .if1 .left))))
+    let s = c .before .before .before .before .before .before in (
+      omega arith,
+      (rw (
+        l .inv .1,
+        slice-next (now (s .args .bytes)) (l .i) (s .args .end) (omega arith) (s .pre .1),
+        sym (c .before .is-digit .ensures) ∙ not-false _ (c .if1 .left),
+      )),
+    )
 
 returns-2 : tie.Need-returns-2 Inv-loop μ-loop
 unfolding every

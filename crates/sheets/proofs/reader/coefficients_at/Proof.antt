@@ -69,12 +69,13 @@ loop-again c =
     let a = c .before .before .before .before .before .before .before .args in
     let l = c .before .before .before .before .before .loop in
     let v = c .before .before .before .coefficient-at in
-    let fv : SFits w64 (v .result .value) = search needs in
-    (omega arith,
-    rw (toZ-ofZ fv)
-    (filled-goes-on _ _ _ _ _ _ _ _ (l .inv .1) _ (λ x. x) (λ _ r. readCoefficients (a .last) (a .count - (l .i + 1)) r)
-    (coefficients-next (a .last) (a .count) (l .i) (drop (l .next) (now (a .bytes))) (c .before .before .before .before .loop-test .taken)) _ _ (omega arith)
-    (answer-got (c .before .if1 .left) (v .ensures)) (v .ensures .within)))
+    let fv : SFits w64 (v .result .value) = search needs in (
+      omega arith,
+      rw (toZ-ofZ fv)
+          (filled-goes-on _ _ _ _ _ _ _ _ (l .inv .1) _ (λ x. x) (λ _ r. readCoefficients (a .last) (a .count - (l .i + 1)) r)
+          (coefficients-next (a .last) (a .count) (l .i) (drop (l .next) (now (a .bytes))) (c .before .before .before .before .loop-test .taken)) _ _ (omega arith)
+          (answer-got (c .before .if1 .left) (v .ensures)) (v .ensures .within)),
+    )
 
 returns-2 : tie.Need-returns-2 Inv-loop μ-loop
 returns-2 c =

@@ -50,12 +50,15 @@ loop-again : tie.Need-loop-again Inv-loop μ-loop
 loop-again c =
     let a = c .before .before .before .args in
     let l = c .before .before .loop in
-    let f : SFits w64 (getD (now (a .from)) (l .i) (pos 0)) = sfits-of (c .to .given) in
-    (omega arith,
-    (simp length-set (omega arith),
-    rw (toZ-ofZ f, add-one (l .i))
-    (ap (λ t. set t (a .at + l .i) (getD (now (a .from)) (l .i) (pos 0))) (l .inv .1 .1)
-    ∙ paste-suc (now (a .to)) (a .at) (now (a .from)) (l .i) (pos 0) (omega arith) (omega arith))))
+    let f : SFits w64 (getD (now (a .from)) (l .i) (pos 0)) = sfits-of (c .to .given) in (
+      omega arith,
+      (
+        simp length-set (omega arith),
+        rw (toZ-ofZ f, add-one (l .i))
+            (ap (λ t. set t (a .at + l .i) (getD (now (a .from)) (l .i) (pos 0))) (l .inv .1 .1)
+            ∙ paste-suc (now (a .to)) (a .at) (now (a .from)) (l .i) (pos 0) (omega arith) (omega arith)),
+      ),
+    )
 
 same-length : tie.Need-same-length Inv-loop μ-loop
 same-length c = omega arith

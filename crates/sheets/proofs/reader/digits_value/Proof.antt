@@ -66,9 +66,10 @@ unfolding valueFrom
 returns c =
     let s = c .before .before in
     let l = c .before .loop in
-    let e : l .i ≡ s .args .end = omega arith in
-    (sym (l .inv .value ∙ rw (e, slice-empty (s .args .end) (now (s .args .bytes)))),
-    value-size _ _ _ (s .pre .0 .1 .1) (s .pre .0 .1 .0) _ _ (l .inv))
+    let e : l .i ≡ s .args .end = omega arith in (
+      sym (l .inv .value ∙ rw (e, slice-empty (s .args .end) (now (s .args .bytes)))),
+      value-size _ _ _ (s .pre .0 .1 .1) (s .pre .0 .1 .0) _ _ (l .inv),
+    )
 
 pub digits-value-spec : {M : Type 1} → statement M
 digits-value-spec =

@@ -39,7 +39,7 @@ digits-value-requires : tie.Need-digits-value-requires
 digits-value-requires c κs =
     let s = c .before .before .before .before .before in
     let right = begins-true _ _ _ _ (le-of-lt (s .pre .1)) (c .before .before .before .digits-start .ensures)
-        (sym (c .before .begins-number .ensures) ∙ not-false _ (c .if2 .left)) in
+    (sym (c .before .begins-number .ensures) ∙ not-false _ (c .if2 .left)) in
     ((omega arith, (omega arith, right .1)), right .0)
 
 cast-value : tie.Need-cast-value
