@@ -1,5 +1,6 @@
 // Reading a sheet: numbers, terms, equations, sections.
 ghost use mathlib.Core.Path.{_≡_};
+ghost use mathlib.Core.List.{[]};
 ghost use mathlib.Core.Bool.{true, _&&_};
 ghost use Prim.Native.Nat.{suc, _+_, _*_, _^_, _≤_, _<_};
 ghost use lib.ListN.{length, drop};
@@ -10,7 +11,7 @@ ghost use Rattle.rules.specs.Sheets as Sheets;
 ghost use Rattle.rules.specs.Stores.{span, rowOf, rowsOf, relationOf, relationsOf, sizesRight};
 ghost use lib.Dec.{T};
 ghost use Rattle.sheets.specs.ReaderRows.{termsInto};
-ghost use Rattle.rules.specs.Sheets.{blankRow, readEquation, readEquations, readRelation, readRelations, judgeLowest, judgeLast, judgeBlock, judgeColumn, judgeOrderCount, afterCount, always, contains, judgeOrder, readCoefficients};
+ghost use Rattle.rules.specs.Sheets.{blankRow, readEquation, readEquations, readRelation, readRelations, readColumns, readOrder, judgeLowest, judgeLast, judgeBlock, judgeColumn, judgeOrderCount, afterCount, always, contains, judgeOrder, readCoefficients};
 ghost use lib.IntN.{pos, natAbs, _-ℤ_};
 ghost use lib.Signed.{leZ, _≤ℤ_};
 ghost use Rattle.sheets.specs.Reader.{TokenEnd, DigitsStart, unjudged, tokenAnswer, NumberAt, Answers, readOf, closing, sizesOf, takenOf, readCoefficient, padded, termOf, readPadded, readPlace, readPolynomial, placeInRow};
@@ -778,4 +779,57 @@ fn relations_at(bytes: &[u8], at: usize, z: Sizes, count: usize, relations: &mut
         refusal: 0,
         at: next,
     }
+}
+
+// The columns of an order, zeros past them, or a refusal.
+struct OrderRead {
+    refusal: u8,
+    at: usize,
+    order: [usize; 4],
+}
+
+fn no_order(refusal: u8) -> OrderRead
+    ensures { λ r. ⌜ (r .refusal ≡ refusal) × (r .at ≡ 0) ⌝ }
+{
+    OrderRead {
+        refusal,
+        at: 0,
+        order: [0; 4],
+    }
+}
+
+fn columns_at(bytes: &[u8], at: usize, m: usize, count: usize) -> OrderRead
+    requires { ⌜ (at ≤ length (now bytes)) × ((m ≤ 4) × (count ≤ 4)) ⌝ }
+    ensures { λ r. ⌜ Answers (now (bytes .entry)) (r .refusal) (r .order) (r .at) (padded 4 0 (readColumns m count [] (drop at (now (bytes .entry))))) ⌝ }
+{
+    let mut order: [usize; 4] = [0; 4];
+    let mut next = at;
+    let mut i = 0;
+    while i < count {
+        let separator = parting(count - (i + 1));
+        let c = order_column_at(bytes, next, m, &order, i, separator);
+        if c.refusal != 0 {
+            return no_order(c.refusal);
+        }
+        order[i] = c.value as usize;
+        next = c.at;
+        i += 1;
+    }
+    OrderRead {
+        refusal: 0,
+        at: next,
+        order,
+    }
+}
+
+// "one line with the column order, `0` if none, otherwise m and a permutation of 1..m"
+fn order_at(bytes: &[u8], at: usize, m: usize) -> OrderRead
+    requires { ⌜ (at ≤ length (now bytes)) × (m ≤ 4) ⌝ }
+    ensures { λ r. ⌜ Answers (now (bytes .entry)) (r .refusal) (r .order) (r .at) (padded 4 0 (readOrder m (drop at (now (bytes .entry))))) ⌝ }
+{
+    let k = order_count_at(bytes, at, m);
+    if k.refusal != 0 {
+        return no_order(k.refusal);
+    }
+    columns_at(bytes, k.at, m, k.value as usize)
 }
