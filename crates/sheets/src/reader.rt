@@ -11,7 +11,8 @@ ghost use Rattle.rules.specs.Sheets as Sheets;
 ghost use Rattle.rules.specs.Stores.{span, rowOf, rowsOf, relationOf, relationsOf, sizesRight};
 ghost use lib.Dec.{T};
 ghost use Rattle.sheets.specs.ReaderRows.{termsInto};
-ghost use Rattle.rules.specs.Sheets.{blankRow, readEquation, readEquations, readRelation, readRelations, readColumns, readOrder, judgeLowest, judgeLast, judgeBlock, judgeColumn, judgeOrderCount, afterCount, always, contains, judgeOrder, readCoefficients};
+ghost use Rattle.sheets.specs.ReaderSheet.{readUnknowns, readBlocks};
+ghost use Rattle.rules.specs.Sheets.{blankRow, readEquation, readEquations, readRelation, readRelations, readColumns, readOrder, readSizes, judgeLowest, judgeLast, judgeBlock, judgeColumn, judgeOrderCount, afterCount, always, contains, judgeOrder, readCoefficients};
 ghost use lib.IntN.{pos, natAbs, _-ℤ_};
 ghost use lib.Signed.{leZ, _≤ℤ_};
 ghost use Rattle.sheets.specs.Reader.{TokenEnd, DigitsStart, unjudged, tokenAnswer, NumberAt, Answers, readOf, closing, sizesOf, takenOf, readCoefficient, padded, termOf, readPadded, readPlace, readPolynomial, placeInRow};
@@ -832,4 +833,96 @@ fn order_at(bytes: &[u8], at: usize, m: usize) -> OrderRead
         return no_order(k.refusal);
     }
     columns_at(bytes, k.at, m, k.value as usize)
+}
+
+// The section count of a sheet, 3, and the number of unknowns.
+fn unknowns_at(bytes: &[u8], at: usize) -> NumberRead
+    requires { ⌜ at ≤ length (now bytes) ⌝ }
+    ensures { λ r. ⌜ Answers (now (bytes .entry)) (r .refusal) (r .value) (r .at) (readUnknowns (drop at (now (bytes .entry)))) ⌝ }
+{
+    let k = number_between(bytes, at, 3, 3, 32);
+    if k.refusal != 0 {
+        return no_number(k.refusal);
+    }
+    number_between(bytes, k.at, 1, 4, 32)
+}
+
+// The highest and the lowest block, or a refusal.
+struct BlocksRead {
+    refusal: u8,
+    at: usize,
+    l: i64,
+    t: i64,
+}
+
+fn no_blocks(refusal: u8) -> BlocksRead
+    ensures { λ r. ⌜ (r .refusal ≡ refusal) × (r .at ≡ 0) ⌝ }
+{
+    BlocksRead {
+        refusal,
+        at: 0,
+        l: 0,
+        t: 0,
+    }
+}
+
+fn blocks_at(bytes: &[u8], at: usize) -> BlocksRead
+    requires { ⌜ at ≤ length (now bytes) ⌝ }
+    ensures { λ r. ⌜ Answers (now (bytes .entry)) (r .refusal) (r .l, r .t) (r .at) (readBlocks (drop at (now (bytes .entry)))) ⌝ }
+{
+    let l = number_between(bytes, at, -64, 64, 32);
+    if l.refusal != 0 {
+        return no_blocks(l.refusal);
+    }
+    let t = lowest_at(bytes, l.at, l.value);
+    if t.refusal != 0 {
+        return no_blocks(t.refusal);
+    }
+    BlocksRead {
+        refusal: 0,
+        at: t.at,
+        l: l.value,
+        t: t.value,
+    }
+}
+
+// The sizes of a sheet, or a refusal.
+struct SizesRead {
+    refusal: u8,
+    at: usize,
+    sizes: Sizes,
+}
+
+fn no_sizes(refusal: u8) -> SizesRead
+    ensures { λ r. ⌜ (r .refusal ≡ refusal) × (r .at ≡ 0) ⌝ }
+{
+    SizesRead {
+        refusal,
+        at: 0,
+        sizes: Sizes { m: 0, l: 0, t: 0 },
+    }
+}
+
+// "`3 m l t`"
+fn sizes_at(bytes: &[u8], at: usize) -> SizesRead
+    requires { ⌜ at ≤ length (now bytes) ⌝ }
+    ensures { λ r. ⌜ Answers (now (bytes .entry)) (r .refusal) (sizesOf (r .sizes)) (r .at) (readSizes (drop at (now (bytes .entry)))) ⌝ }
+{
+    let m = unknowns_at(bytes, at);
+    if m.refusal != 0 {
+        return no_sizes(m.refusal);
+    }
+    let b = blocks_at(bytes, m.at);
+    if b.refusal != 0 {
+        return no_sizes(b.refusal);
+    }
+    SizesRead {
+        refusal: 0,
+        at: b.at,
+        sizes: Sizes {
+            m: m.value as usize,
+            l: b.l,
+            t: b.t,
+        },
+    }
 }

@@ -1,0 +1,120 @@
+-- A whole sheet: its sizes, its sections, and the call that reads it into lent stores.
+--
+-- Main definitions
+--   readUnknowns, readBlocks   the two halves of a sheet's first line
+--
+-- Main statements
+--   sizes-is      the first line is those two halves
+--   sizes-right   sizes that were read are right
+use Prim.Native.Nat.{ℕ, zero, suc, _+_, _*_, _-_, _≤_, _<_, zero-le}
+use native.Mathlib.Nat.{le-refl}
+use native.Mathlib.Omega.{arith}
+use mathlib.Core.Path.{_≡_, refl, sym, ap, ap₂, _∙_, subst}
+use mathlib.Core.Bool.{Bool, true, false, _&&_, _||_, not, cond}
+use mathlib.Core.List.{List, [], _∷_, _++_, map}
+use lib.Dec.{T}
+use borrow.Author.Tests.{le-leb}
+use lib.ListN.{length, drop}
+use lib.IntN.{ℤ, pos, negℤ, natAbs, _-ℤ_}
+use lib.Signed.{leZ, nonNeg}
+use Rattle.algebra.specs.Polynomials.{T-&&}
+use Rattle.rules.specs.Limits.{columnCount, blockBound}
+use Rattle.rules.specs.Stores.{Sizes, sizesRight}
+use Rattle.rules.specs.Numbers.{space, newline, Read, got, fault, thenRead, field, between}
+use Rattle.rules.specs.Sheets.{always, judgeLowest, readSizes}
+use Rattle.sheets.specs.Reader.{then-got, then-fault, then-then, then-cong, then-parts, field-judged, passed, both-true, size-between, between-zero}
+use Rattle.sheets.specs.ReaderRows.{got-value}
+
+-- ---- sizes
+
+unfoldable pub readUnknowns : List ℕ → Read ℤ
+readUnknowns bytes =
+    thenRead (field (between (pos 3) (pos 3)) (always space) bytes) λ _ rest. field (between (pos 1) (pos 4)) (always space) rest
+
+unfoldable pub readBlocks : List ℕ → Read (ℤ × ℤ)
+readBlocks bytes =
+    thenRead (field (between (negℤ (pos 64)) (pos 64)) (always space) bytes) λ l rest.
+    thenRead (field (judgeLowest l) (always newline) rest) λ t more. got (l, t) more
+
+abbrev pub sizes : ℕ → ℤ → ℤ → Sizes
+sizes m l t = record { m = m; l = l; t = t }
+
+unfoldable pub sizesThen : ℤ → List ℕ → Read Sizes
+sizesThen m bytes = thenRead (readBlocks bytes) λ q rest. got (sizes (natAbs m) (q .0) (q .1)) rest
+
+-- The definition, with its parts named.
+lowestThen : ℤ → ℤ → List ℕ → Read Sizes
+lowestThen m l bytes = thenRead (field (judgeLowest l) (always newline) bytes) λ t rest. got (sizes (natAbs m) l t) rest
+
+highestThen : ℤ → List ℕ → Read Sizes
+highestThen m bytes = thenRead (field (between (negℤ (pos 64)) (pos 64)) (always space) bytes) (lowestThen m)
+
+unknownsThen : ℤ → List ℕ → Read Sizes
+unknownsThen _ bytes = thenRead (field (between (pos 1) (pos 4)) (always space) bytes) highestThen
+
+sizes-parts : (bytes : List ℕ) → readSizes bytes ≡ thenRead (field (between (pos 3) (pos 3)) (always space) bytes) unknownsThen
+unfolding readSizes unknownsThen highestThen lowestThen
+sizes-parts bytes = refl
+
+highest-is : (m : ℤ) (bytes : List ℕ) → highestThen m bytes ≡ sizesThen m bytes
+unfolding highestThen lowestThen sizesThen readBlocks
+highest-is m bytes =
+    then-cong highest (λ l rest. then-cong (field (judgeLowest l) (always newline) rest) (λ t more. sym (then-got made refl)) ∙ sym (then-then (field (judgeLowest l) (always newline) rest) (λ t more. got (l, t) more) made))
+    ∙ sym (then-then highest (λ l rest. thenRead (field (judgeLowest l) (always newline) rest) λ t more. got (l, t) more) made)
+  where
+    highest : Read ℤ
+    highest = field (between (negℤ (pos 64)) (pos 64)) (always space) bytes
+
+    made : ℤ × ℤ → List ℕ → Read Sizes
+    made q rest = got (sizes (natAbs m) (q .0) (q .1)) rest
+
+pub sizes-is : (bytes : List ℕ) → readSizes bytes ≡ thenRead (readUnknowns bytes) sizesThen
+unfolding readUnknowns unknownsThen
+sizes-is bytes =
+    sizes-parts bytes
+    ∙ then-cong (field (between (pos 3) (pos 3)) (always space) bytes)
+    (λ _ rest. then-cong (field (between (pos 1) (pos 4)) (always space) rest) highest-is)
+    ∙ sym (then-then (field (between (pos 3) (pos 3)) (always space) bytes) (λ _ rest. field (between (pos 1) (pos 4)) (always space) rest) sizesThen)
+
+pub unknowns-right : (bytes : List ℕ) (m : ℤ) (rest : List ℕ) → readUnknowns bytes ≡ got m rest → T (nonNeg m) × (1 ≤ natAbs m) × (natAbs m ≤ 4)
+unfolding readUnknowns
+unknowns-right bytes m rest e =
+    let first = then-parts (field (between (pos 3) (pos 3)) (always space) bytes) _ e in
+    between-zero 1 4 m (field-judged (between (pos 1) (pos 4)) (always space) (first .1) (first .3))
+
+highest-passed : (l : ℤ) → between (negℤ (pos 64)) (pos 64) l ≡ 0 → (leZ (negℤ (pos 64)) l && leZ l (pos 64)) ≡ true
+unfolding between
+highest-passed l e = passed (leZ (negℤ (pos 64)) l && leZ l (pos 64)) 0 1 e .0
+
+-- The size of the highest block.
+pub highest-small : (l : ℤ) → between (negℤ (pos 64)) (pos 64) l ≡ 0 → natAbs l ≤ 64
+highest-small l e = size-between (pos 64) l 64 (le-refl 64) (highest-passed l e)
+
+lowest-passed : (l t : ℤ) → judgeLowest l t ≡ 0 → (leZ (negℤ (pos 64)) t && leZ t l && leZ (l -ℤ t) (pos 4)) ≡ true
+unfolding judgeLowest
+lowest-passed l t e = passed (leZ (negℤ (pos 64)) t && leZ t l && leZ (l -ℤ t) (pos 4)) 0 1 e .0
+
+sizes-passed : (m : ℕ) (l t : ℤ) → 1 ≤ m → m ≤ 4 → (leZ (negℤ (pos 64)) l && leZ l (pos 64)) ≡ true
+    → (leZ (negℤ (pos 64)) t && leZ t l && leZ (l -ℤ t) (pos 4)) ≡ true → T (sizesRight (sizes m l t))
+unfolding sizesRight
+sizes-passed m l t low high hl ht =
+    let lowest = both-true (leZ (negℤ (pos 64)) t && leZ t l) (leZ (l -ℤ t) (pos 4)) ht in
+    let highest = both-true (leZ (negℤ (pos 64)) l) (leZ l (pos 64)) hl in
+    subst T
+    (sym
+    (ap₂ _&&_ (ap₂ _&&_ (le-leb 1 m low) (le-leb m 4 high)) (ap₂ _&&_ (ap₂ _&&_ (lowest .0) (highest .1)) (lowest .1))))
+    tt
+
+-- What the judgements let through are right sizes.
+pub sizes-right : (bytes : List ℕ) (z : Sizes) (rest : List ℕ) → readSizes bytes ≡ got z rest → T (sizesRight z)
+unfolding sizesThen readBlocks
+sizes-right bytes z rest e =
+    let unknowns = then-parts (readUnknowns bytes) sizesThen (sym (sizes-is bytes) ∙ e) in
+    let blocks = then-parts (readBlocks (unknowns .1)) _ (unknowns .3) in
+    let highest = then-parts (field (between (negℤ (pos 64)) (pos 64)) (always space) (unknowns .1)) _ (blocks .2) in
+    let lowest = then-parts (field (judgeLowest (highest .0)) (always newline) (highest .1)) _ (highest .3) in
+    let m = unknowns-right bytes (unknowns .0) (unknowns .1) (unknowns .2) in
+    let l = highest-passed (highest .0) (field-judged (between (negℤ (pos 64)) (pos 64)) (always space) (unknowns .1) (highest .2)) in
+    let t = lowest-passed (highest .0) (lowest .0) (field-judged (judgeLowest (highest .0)) (always newline) (highest .1) (lowest .2)) in
+    subst (λ z. T (sizesRight z)) (ap (λ q. sizes (natAbs (unknowns .0)) (q .0) (q .1)) (got-value (lowest .3)) ∙ got-value (blocks .3))
+    (sizes-passed (natAbs (unknowns .0)) (highest .0) (lowest .0) (m .1) (m .2) l t)
