@@ -21,7 +21,8 @@ use Rattle.algebra.specs.Polynomials.{T-&&}
 use Rattle.rules.specs.Limits.{columnCount, blockBound}
 use Rattle.rules.specs.Stores.{Sizes, sizesRight}
 use Rattle.rules.specs.Numbers.{space, newline, Read, got, fault, thenRead, field, between}
-use Rattle.rules.specs.Sheets.{always, judgeLowest, readSizes}
+use Rattle.rules.specs.Rows.{Row, Relation}
+use Rattle.rules.specs.Sheets.{always, judgeLowest, readSizes, readEquations, readRelations}
 use Rattle.sheets.specs.Reader.{then-got, then-fault, then-then, then-cong, then-parts, field-judged, passed, both-true, size-between, between-zero}
 use Rattle.sheets.specs.ReaderRows.{got-value}
 
@@ -118,3 +119,11 @@ sizes-right bytes z rest e =
     let t = lowest-passed (highest .0) (lowest .0) (field-judged (judgeLowest (highest .0)) (always newline) (highest .1) (lowest .2)) in
     subst (λ z. T (sizesRight z)) (ap (λ q. sizes (natAbs (unknowns .0)) (q .0) (q .1)) (got-value (lowest .3)) ∙ got-value (blocks .3))
     (sizes-passed (natAbs (unknowns .0)) (highest .0) (lowest .0) (m .1) (m .2) l t)
+
+-- ---- sections
+
+unfoldable pub equationSection : Sizes → List ℕ → Read (List Row)
+equationSection z bytes = thenRead (field (between (pos (z .m)) (pos (z .m))) (always newline) bytes) λ _ rest. readEquations z (z .m) rest
+
+unfoldable pub relationSection : Sizes → List ℕ → Read (List Relation)
+relationSection z bytes = thenRead (field (between (pos 0) (pos 16)) (always newline) bytes) λ count rest. readRelations z (natAbs count) rest

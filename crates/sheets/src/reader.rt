@@ -11,7 +11,7 @@ ghost use Rattle.rules.specs.Sheets as Sheets;
 ghost use Rattle.rules.specs.Stores.{span, rowOf, rowsOf, relationOf, relationsOf, sizesRight};
 ghost use lib.Dec.{T};
 ghost use Rattle.sheets.specs.ReaderRows.{termsInto};
-ghost use Rattle.sheets.specs.ReaderSheet.{readUnknowns, readBlocks};
+ghost use Rattle.sheets.specs.ReaderSheet.{readUnknowns, readBlocks, equationSection, relationSection};
 ghost use Rattle.rules.specs.Sheets.{blankRow, readEquation, readEquations, readRelation, readRelations, readColumns, readOrder, readSizes, judgeLowest, judgeLast, judgeBlock, judgeColumn, judgeOrderCount, afterCount, always, contains, judgeOrder, readCoefficients};
 ghost use lib.IntN.{pos, natAbs, _-ℤ_};
 ghost use lib.Signed.{leZ, _≤ℤ_};
@@ -924,5 +924,58 @@ fn sizes_at(bytes: &[u8], at: usize) -> SizesRead
             l: b.l,
             t: b.t,
         },
+    }
+}
+
+// "each after its count"; "an equation count that isn't m" is 2.
+fn equation_section(bytes: &[u8], at: usize, z: Sizes, rows: &mut [i64]) -> SectionRead
+    requires { ⌜ (at ≤ length (now bytes)) × T (sizesRight (sizesOf z)) ⌝ }
+    requires { ⌜ 1280 ≤ length (now rows) ⌝ }
+    ensures { λ r. ⌜ Answers (now (bytes .entry)) (r .refusal) (rowsOf (z .m) (now (rows .exit))) (r .at) (equationSection (sizesOf z) (drop at (now (bytes .entry)))) ⌝ }
+{
+    let m = z.m as i64;
+    let k = number_between(bytes, at, m, m, 10);
+    if k.refusal != 0 {
+        return no_section(k.refusal);
+    }
+    equations_at(bytes, k.at, z, rows)
+}
+
+// The number of relations, or a refusal.
+struct RelationsRead {
+    refusal: u8,
+    at: usize,
+    count: usize,
+}
+
+fn no_relations(refusal: u8) -> RelationsRead
+    ensures { λ r. ⌜ (r .refusal ≡ refusal) × (r .at ≡ 0) ⌝ }
+{
+    RelationsRead {
+        refusal,
+        at: 0,
+        count: 0,
+    }
+}
+
+fn relation_section(bytes: &[u8], at: usize, z: Sizes, relations: &mut [i64]) -> RelationsRead
+    requires { ⌜ (at ≤ length (now bytes)) × T (sizesRight (sizesOf z)) ⌝ }
+    requires { ⌜ 5136 ≤ length (now relations) ⌝ }
+    ensures { λ r. ⌜ Answers (now (bytes .entry)) (r .refusal) (relationsOf (r .count) (now (relations .exit))) (r .at) (relationSection (sizesOf z) (drop at (now (bytes .entry)))) ⌝ }
+    ensures { λ r. ⌜ (r .refusal ≡ 0 → r .count ≤ 16) ⌝ }
+{
+    let k = number_between(bytes, at, 0, 16, 10);
+    if k.refusal != 0 {
+        return no_relations(k.refusal);
+    }
+    let count = k.value as usize;
+    let s = relations_at(bytes, k.at, z, count, relations);
+    if s.refusal != 0 {
+        return no_relations(s.refusal);
+    }
+    RelationsRead {
+        refusal: 0,
+        at: s.at,
+        count,
     }
 }
