@@ -22,8 +22,9 @@ use Rattle.rules.specs.Limits.{columnCount, blockBound}
 use Rattle.rules.specs.Stores.{Sizes, sizesRight}
 use Rattle.rules.specs.Numbers.{space, newline, Read, got, fault, thenRead, field, between}
 use Rattle.rules.specs.Rows.{Row, Relation}
-use Rattle.rules.specs.Sheets.{always, judgeLowest, readSizes, readEquations, readRelations}
-use Rattle.sheets.specs.Reader.{then-got, then-fault, then-then, then-cong, then-parts, field-judged, passed, both-true, size-between, between-zero}
+use Rattle.rules.specs.Sheets.{always, judgeLowest, Sheet, readSizes, readEquations, readRelations, readOrder, readEnd, readSheet}
+use Rattle.rules.specs.Calls.{padTo}
+use Rattle.sheets.specs.Reader.{padded, then-got, then-fault, then-then, then-cong, then-parts, field-judged, passed, both-true, size-between, between-zero}
 use Rattle.sheets.specs.ReaderRows.{got-value}
 
 -- ---- sizes
@@ -127,3 +128,100 @@ equationSection z bytes = thenRead (field (between (pos (z .m)) (pos (z .m))) (a
 
 unfoldable pub relationSection : Sizes → List ℕ → Read (List Relation)
 relationSection z bytes = thenRead (field (between (pos 0) (pos 16)) (always newline) bytes) λ count rest. readRelations z (natAbs count) rest
+
+abbrev pub sheet : Sizes → List Row → List Relation → List ℕ → Sheet
+sheet z rows relations order = record { sizes = z; rows = rows; relations = relations; order = order }
+
+-- The three sections after the sizes; the order has zeros past its end.
+unfoldable pub orderSection : Sizes → List Row → List Relation → List ℕ → Read Sheet
+orderSection z rows relations bytes = thenRead (padded 4 0 (readOrder (z .m) bytes)) λ order rest. got (sheet z rows relations order) rest
+
+unfoldable pub relationsThen : Sizes → List Row → List ℕ → Read Sheet
+relationsThen z rows bytes = thenRead (relationSection z bytes) (orderSection z rows)
+
+unfoldable pub readSections : Sizes → List ℕ → Read Sheet
+readSections z bytes = thenRead (equationSection z bytes) (relationsThen z)
+
+-- ---- the whole sheet
+
+-- A sheet with zeros past the end of its order.
+unfoldable pub padSheet : Sheet → List ℕ → Read Sheet
+padSheet s rest = got (sheet (s .sizes) (s .rows) (s .relations) (padTo columnCount 0 (s .order))) rest
+
+-- The definition, with its parts named.
+module _ (z : Sizes) where
+  fromOrder : List Row → List Relation → List ℕ → Read Sheet
+  fromOrder rows relations bytes = thenRead (readOrder (z .m) bytes) λ order rest. readEnd (sheet z rows relations order) rest
+
+  fromRelations : List Row → ℤ → List ℕ → Read Sheet
+  fromRelations rows count bytes = thenRead (readRelations z (natAbs count) bytes) (fromOrder rows)
+
+  fromRelationCount : List Row → List ℕ → Read Sheet
+  fromRelationCount rows bytes = thenRead (field (between (pos 0) (pos 16)) (always newline) bytes) (fromRelations rows)
+
+  fromEquations : ℤ → List ℕ → Read Sheet
+  fromEquations _ bytes = thenRead (readEquations z (z .m) bytes) fromRelationCount
+
+  fromEquationCount : List ℕ → Read Sheet
+  fromEquationCount bytes = thenRead (field (between (pos (z .m)) (pos (z .m))) (always newline) bytes) fromEquations
+
+  order-padded : (rows : List Row) (relations : List Relation) (bytes : List ℕ)
+      → thenRead (fromOrder rows relations bytes) padSheet ≡ thenRead (orderSection z rows relations bytes) readEnd
+  unfolding fromOrder orderSection thenRead padded padSheet readEnd
+  order-padded rows relations bytes = by (readOrder (z .m) bytes)
+    where
+      end : (order : List ℕ) (rest : List ℕ)
+          → thenRead (readEnd (sheet z rows relations order) rest) padSheet ≡ readEnd (sheet z rows relations (padTo 4 0 order)) rest
+      end order [] = refl
+      end order (b ∷ rest) = refl
+
+      by : (r : Read (List ℕ))
+          → thenRead (thenRead r λ order rest. readEnd (sheet z rows relations order) rest) padSheet
+          ≡ thenRead (thenRead (padded 4 0 r) λ order rest. got (sheet z rows relations order) rest) readEnd
+      by (got order rest) = end order rest
+      by (fault n) = refl
+
+  orderEnd : List Row → List Relation → List ℕ → Read Sheet
+  orderEnd rows relations bytes = thenRead (orderSection z rows relations bytes) readEnd
+
+  relations-padded : (rows : List Row) (bytes : List ℕ) → thenRead (fromRelationCount rows bytes) padSheet ≡ thenRead (relationsThen z rows bytes) readEnd
+  unfolding fromRelationCount fromRelations relationsThen relationSection orderEnd
+  relations-padded rows bytes =
+      then-then count (fromRelations rows) padSheet
+      ∙ then-cong count
+      (λ k rest. then-then (readRelations z (natAbs k) rest) (fromOrder rows) padSheet ∙ then-cong (readRelations z (natAbs k) rest) (order-padded rows))
+      ∙ sym (then-then count (λ k rest. readRelations z (natAbs k) rest) (orderEnd rows))
+      ∙ sym (then-then (relationSection z bytes) (orderSection z rows) readEnd)
+    where
+      count : Read ℤ
+      count = field (between (pos 0) (pos 16)) (always newline) bytes
+
+  relationsEnd : List Row → List ℕ → Read Sheet
+  relationsEnd rows bytes = thenRead (relationsThen z rows bytes) readEnd
+
+  equations-padded : (bytes : List ℕ) → thenRead (fromEquationCount bytes) padSheet ≡ thenRead (readSections z bytes) readEnd
+  unfolding fromEquationCount fromEquations readSections equationSection relationsEnd
+  equations-padded bytes =
+      then-then count fromEquations padSheet
+      ∙ then-cong count
+      (λ _ rest. then-then (readEquations z (z .m) rest) fromRelationCount padSheet ∙ then-cong (readEquations z (z .m) rest) relations-padded)
+      ∙ sym (then-then count (λ _ rest. readEquations z (z .m) rest) relationsEnd)
+      ∙ sym (then-then (equationSection z bytes) (relationsThen z) readEnd)
+    where
+      count : Read ℤ
+      count = field (between (pos (z .m)) (pos (z .m))) (always newline) bytes
+
+sheet-parts : (bytes : List ℕ) → readSheet bytes ≡ thenRead (readSizes bytes) fromEquationCount
+unfolding readSheet fromEquationCount fromEquations fromRelationCount fromRelations fromOrder
+sheet-parts bytes = refl
+
+-- The sections of a sheet, and its end.
+unfoldable pub sectionsEnd : Sizes → List ℕ → Read Sheet
+sectionsEnd z bytes = thenRead (readSections z bytes) readEnd
+
+pub sheet-is : (bytes : List ℕ) → thenRead (readSheet bytes) padSheet ≡ thenRead (readSizes bytes) sectionsEnd
+unfolding sectionsEnd
+sheet-is bytes =
+    ap (λ r. thenRead r padSheet) (sheet-parts bytes)
+    ∙ then-then (readSizes bytes) fromEquationCount padSheet
+    ∙ then-cong (readSizes bytes) equations-padded
