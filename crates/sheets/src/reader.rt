@@ -11,7 +11,7 @@ ghost use Rattle.rules.specs.Sheets as Sheets;
 ghost use Rattle.rules.specs.Stores.{span, rowOf, rowsOf, relationOf, relationsOf, sizesRight};
 ghost use lib.Dec.{T};
 ghost use Rattle.sheets.specs.ReaderRows.{termsInto};
-ghost use Rattle.sheets.specs.ReaderSheet.{readUnknowns, readBlocks, equationSection, relationSection};
+ghost use Rattle.sheets.specs.ReaderSheet.{readUnknowns, readBlocks, equationSection, relationSection, sheet, readSections};
 ghost use Rattle.rules.specs.Sheets.{blankRow, readEquation, readEquations, readRelation, readRelations, readColumns, readOrder, readSizes, judgeLowest, judgeLast, judgeBlock, judgeColumn, judgeOrderCount, afterCount, always, contains, judgeOrder, readCoefficients};
 ghost use lib.IntN.{pos, natAbs, _-ℤ_};
 ghost use lib.Signed.{leZ, _≤ℤ_};
@@ -977,5 +977,52 @@ fn relation_section(bytes: &[u8], at: usize, z: Sizes, relations: &mut [i64]) ->
         refusal: 0,
         at: s.at,
         count,
+    }
+}
+
+// The number of relations and the column order, zeros past its end, or a refusal.
+struct SectionsRead {
+    refusal: u8,
+    at: usize,
+    relations: usize,
+    order: [usize; 4],
+}
+
+fn no_sections(refusal: u8) -> SectionsRead
+    ensures { λ r. ⌜ (r .refusal ≡ refusal) × (r .at ≡ 0) ⌝ }
+{
+    SectionsRead {
+        refusal,
+        at: 0,
+        relations: 0,
+        order: [0; 4],
+    }
+}
+
+// The sections after the sizes: equations, relations, the column order.
+fn sections_at(bytes: &[u8], at: usize, z: Sizes, rows: &mut [i64], relations: &mut [i64]) -> SectionsRead
+    requires { ⌜ (at ≤ length (now bytes)) × T (sizesRight (sizesOf z)) ⌝ }
+    requires { ⌜ (1280 ≤ length (now rows)) × (5136 ≤ length (now relations)) ⌝ }
+    ensures { λ r. ⌜ Answers (now (bytes .entry)) (r .refusal) (sheet (sizesOf z) (rowsOf (z .m) (now (rows .exit))) (relationsOf (r .relations) (now (relations .exit))) (r .order)) (r .at) (readSections (sizesOf z) (drop at (now (bytes .entry)))) ⌝ }
+    ensures { λ r. ⌜ (r .refusal ≡ 0 → r .relations ≤ 16) ⌝ }
+{
+    let e = equation_section(bytes, at, z, rows);
+    if e.refusal != 0 {
+        return no_sections(e.refusal);
+    }
+    let s = relation_section(bytes, e.at, z, relations);
+    if s.refusal != 0 {
+        return no_sections(s.refusal);
+    }
+    let o = order_at(bytes, s.at, z.m);
+    if o.refusal != 0 {
+        return no_sections(o.refusal);
+    }
+    let order = o.order;
+    SectionsRead {
+        refusal: 0,
+        at: o.at,
+        relations: s.count,
+        order,
     }
 }
