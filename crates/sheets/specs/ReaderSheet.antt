@@ -14,17 +14,20 @@ use mathlib.Core.Bool.{Bool, true, false, _&&_, _||_, not, cond}
 use mathlib.Core.List.{List, [], _∷_, _++_, map}
 use lib.Dec.{T}
 use borrow.Author.Tests.{le-leb}
-use lib.ListN.{length, drop}
+use lib.ListN.{length, drop, drop-of-length-le}
+use lib.Seq.{drop-length, drop-cons}
 use lib.IntN.{ℤ, pos, negℤ, natAbs, _-ℤ_}
 use lib.Signed.{leZ, nonNeg}
 use Rattle.algebra.specs.Polynomials.{T-&&}
-use Rattle.rules.specs.Limits.{columnCount, blockBound}
-use Rattle.rules.specs.Stores.{Sizes, sizesRight}
+use Rattle.rules.specs.Limits.{columnCount, mostRelations}
+use Rattle.rules.specs.Stores.{Sizes, sizesRight, rowsOf, relationsOf}
 use Rattle.rules.specs.Numbers.{space, newline, Read, got, fault, thenRead, field, between}
 use Rattle.rules.specs.Rows.{Row, Relation}
 use Rattle.rules.specs.Sheets.{always, judgeLowest, Sheet, readSizes, readEquations, readRelations, readOrder, readEnd, readSheet}
 use Rattle.rules.specs.Calls.{padTo}
-use Rattle.sheets.specs.Reader.{padded, then-got, then-fault, then-then, then-cong, then-parts, field-judged, passed, both-true, size-between, between-zero}
+use Rattle.rules.specs.SheetCalls.{ReadResult, ReadCall, readRefusal, readCall}
+use Rattle.sheets.specs.declared.reader.SheetResult.{SheetResult}
+use Rattle.sheets.specs.Reader.{sizesOf, readOf, fault-of, padded, then-got, then-fault, then-then, then-cong, then-parts, field-judged, passed, both-true, size-between, between-zero}
 use Rattle.sheets.specs.ReaderRows.{got-value}
 
 -- ---- sizes
@@ -225,3 +228,49 @@ sheet-is bytes =
     ap (λ r. thenRead r padSheet) (sheet-parts bytes)
     ∙ then-then (readSizes bytes) fromEquationCount padSheet
     ∙ then-cong (readSizes bytes) equations-padded
+
+-- ---- the answer to a whole sheet
+
+-- The result of `rules` that a value of the code's type gives.
+unfoldable pub resultOf : SheetResult → ReadResult
+resultOf r = record { refusal = r .refusal; sizes = sizesOf (r .sizes); relations = r .relations; order = r .order }
+
+-- A sheet that was read into stores: the result and the stores hold it, or the result is the refusal.
+pub record SheetRead (bytes : List ℕ) (r : ReadResult) (rows relations : List ℤ) : Type 0 where
+  pub answer : readOf bytes (r .refusal) (sheet (r .sizes) (rowsOf (r .sizes .m) rows) (relationsOf (r .relations) relations) (r .order)) (length bytes)
+      ≡ thenRead (readSheet bytes) padSheet
+  pub unknowns : r .refusal ≡ 0 → r .sizes .m ≤ columnCount
+  pub few : r .refusal ≡ 0 → r .relations ≤ mostRelations
+
+module _ (bytes : List ℕ) (r : ReadResult) (rows relations : List ℤ) where
+  held : Sheet
+  held = sheet (r .sizes) (rowsOf (r .sizes .m) rows) (relationsOf (r .relations) relations) (r .order)
+
+  -- A sheet that is refused.
+  pub sheet-refuses : (n : ℕ) → r ≡ readRefusal n → (n ≡ 0 → ⊥) → thenRead (readSheet bytes) padSheet ≡ fault n → SheetRead bytes r rows relations
+  unfolding readRefusal held
+  sheet-refuses n e h f =
+      record {
+        answer = ap (λ k. readOf bytes k held (length bytes)) (ap (λ q. q .refusal) e) ∙ fault-of bytes n held (length bytes) h ∙ sym f;
+        unknowns = λ z. absurd (h (sym (ap (λ q. q .refusal) e) ∙ z));
+        few = λ z. absurd (h (sym (ap (λ q. q .refusal) e) ∙ z));
+      }
+
+  -- A sheet that is read to its end.
+  pub sheet-gives : (s : Sheet) (at : ℕ) → r .refusal ≡ 0 → sheet (r .sizes) (rowsOf (r .sizes .m) rows) (relationsOf (r .relations) relations) (r .order) ≡ s
+      → thenRead (readSheet bytes) padSheet ≡ readEnd s (drop at bytes) → length bytes ≤ at → r .sizes .m ≤ columnCount → r .relations ≤ mostRelations
+      → SheetRead bytes r rows relations
+  unfolding readOf readEnd
+  sheet-gives s at z same e end m count =
+      record {
+        answer =
+            ap₂ (λ n s. readOf bytes n s (length bytes)) z same
+            ∙ ap (got s) (drop-length bytes)
+            ∙ sym (e ∙ ap (readEnd s) (drop-of-length-le bytes end));
+        unknowns = λ _. m;
+        few = λ _. count;
+      }
+
+pub end-early : (s : Sheet) (bytes : List ℕ) (at : ℕ) → at < length bytes → readEnd s (drop at bytes) ≡ fault 4
+unfolding readEnd
+end-early s bytes at h = ap (readEnd s) (drop-cons bytes at 0 h)

@@ -11,7 +11,8 @@ ghost use Rattle.rules.specs.Sheets as Sheets;
 ghost use Rattle.rules.specs.Stores.{span, rowOf, rowsOf, relationOf, relationsOf, sizesRight};
 ghost use lib.Dec.{T};
 ghost use Rattle.sheets.specs.ReaderRows.{termsInto};
-ghost use Rattle.sheets.specs.ReaderSheet.{readUnknowns, readBlocks, equationSection, relationSection, sheet, readSections};
+ghost use Rattle.sheets.specs.ReaderSheet.{readUnknowns, readBlocks, equationSection, relationSection, sheet, readSections, resultOf, SheetRead};
+ghost use Rattle.rules.specs.SheetCalls.{readRefusal};
 ghost use Rattle.rules.specs.Sheets.{blankRow, readEquation, readEquations, readRelation, readRelations, readColumns, readOrder, readSizes, judgeLowest, judgeLast, judgeBlock, judgeColumn, judgeOrderCount, afterCount, always, contains, judgeOrder, readCoefficients};
 ghost use lib.IntN.{pos, natAbs, _-ℤ_};
 ghost use lib.Signed.{leZ, _≤ℤ_};
@@ -1023,6 +1024,54 @@ fn sections_at(bytes: &[u8], at: usize, z: Sizes, rows: &mut [i64], relations: &
         refusal: 0,
         at: o.at,
         relations: s.count,
+        order,
+    }
+}
+
+// ---- whole sheets
+
+// What reading a sheet gives: "Every refusal returns its number, all other fields 0." The order holds columns counted from 1,
+// zeros past its end.
+pub struct SheetResult {
+    pub refusal: u8,
+    pub sizes: Sizes,
+    pub relations: usize,
+    pub order: [usize; 4],
+}
+
+fn refused(refusal: u8) -> SheetResult
+    ensures { λ r. ⌜ resultOf r ≡ readRefusal refusal ⌝ }
+{
+    SheetResult {
+        refusal,
+        sizes: Sizes { m: 0, l: 0, t: 0 },
+        relations: 0,
+        order: [0; 4],
+    }
+}
+
+// A sheet read into stores of the largest sizes. "4 the bytes [..] go on after the fourth section"
+fn sheet_at(bytes: &[u8], rows: &mut [i64], relations: &mut [i64]) -> SheetResult
+    requires { ⌜ (1280 ≤ length (now rows)) × (5136 ≤ length (now relations)) ⌝ }
+    ensures { λ r. ⌜ SheetRead (now (bytes .entry)) (resultOf r) (now (rows .exit)) (now (relations .exit)) ⌝ }
+{
+    let z = sizes_at(bytes, 0);
+    if z.refusal != 0 {
+        return refused(z.refusal);
+    }
+    let sizes = z.sizes;
+    let s = sections_at(bytes, z.at, sizes, rows, relations);
+    if s.refusal != 0 {
+        return refused(s.refusal);
+    }
+    if s.at < bytes.len() {
+        return refused(4);
+    }
+    let order = s.order;
+    SheetResult {
+        refusal: 0,
+        sizes,
+        relations: s.relations,
         order,
     }
 }
