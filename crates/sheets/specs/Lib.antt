@@ -1,6 +1,7 @@
 pub mod Reader
 pub mod ReaderRows
 pub mod ReaderSections
+pub mod ReaderSheet
 pub mod Writer
 pub mod WrittenNumbers
 pub mod Exact

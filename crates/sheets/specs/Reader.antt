@@ -18,7 +18,7 @@ use lib.Dec.{T, eqb, leb, ltb, leb→le, lit<}
 use borrow.Author.Tests.{lt-ltb, le-ltb, eq-eqb, ne-eqb, lt-leb, le-leb, leb-true}
 use native.Mathlib.Decide.{ℕ-discrete}
 use Rattle.algebra.specs.Integers.{natAbs-zero, -ℤ-zero}
-use Rattle.algebra.specs.Polynomials.{Polynomial, isZeroℤ, T-&&}
+use Rattle.algebra.specs.Polynomials.{Polynomial, isZeroℤ, isZeroℤ-iff, T-&&}
 use lib.IntN.{ℤ, pos, negℤ, negsuc, natAbs, _-ℤ_, +ℤ-invr}
 use lib.Signed.{leZ, ltZ, nonNeg, leZ-yes, _≤ℤ_}
 use Rattle.algebra.specs.Order.{≤ℤ-trans, natAbs-≤-iff}
@@ -171,7 +171,7 @@ module _ (bytes : List ℕ) (from end : ℕ) (sign : Bool) where
         nothing-left (yes p) = eq-eqb (end - (from + 1)) 0 (omega arith) ∙ sym (eq-eqb (from + 1) end (sym p))
         nothing-left (no p) = ne-eqb (end - (from + 1)) 0 (λ z. p (omega arith)) ∙ sym (ne-eqb (from + 1) end (λ z. p (sym z)))
 
-both-true : (a b : Bool) → (a && b) ≡ true → (a ≡ true) × (b ≡ true)
+pub both-true : (a b : Bool) → (a && b) ≡ true → (a ≡ true) × (b ≡ true)
 both-true true b e = (refl, e)
 both-true false b e = absurd (subst T (sym e) tt)
 
@@ -501,6 +501,9 @@ pub difference-zero : (a b : ℤ) → a ≡ b → isZeroℤ (a -ℤ b) ≡ true
 unfolding isZeroℤ
 difference-zero a b e = rw (e, +ℤ-invr b)
 
+pub difference-equal : (a b : ℤ) → isZeroℤ (a -ℤ b) ≡ true → a ≡ b
+difference-equal a b e = -ℤ-zero a b (isZeroℤ-iff (a -ℤ b) .0 (subst T (sym e) tt))
+
 pub difference-nonzero : (a b : ℤ) → (a ≡ b → ⊥) → isZeroℤ (a -ℤ b) ≡ false
 unfolding isZeroℤ
 difference-nonzero a b h = ne-eqb (natAbs (a -ℤ b)) 0 (λ e. h (-ℤ-zero a b (natAbs-zero e)))
@@ -706,7 +709,7 @@ module _ (judge follow : ℤ → ℕ) where
 
 -- ---- what a judgement of 0 says
 
-passed : (t : Bool) (a b : ℕ) → cond t a (suc b) ≡ 0 → (t ≡ true) × (a ≡ 0)
+pub passed : (t : Bool) (a b : ℕ) → cond t a (suc b) ≡ 0 → (t ≡ true) × (a ≡ 0)
 passed true a b e = (refl, e)
 passed false a b e = absurd (suc-ne-zero b e)
 

@@ -254,7 +254,7 @@ pub record TermRight (z : Sizes) (s₀ : ℤ) (c₀ : ℕ) (e : Term) : Type 0 w
   pub high : e .column ≤ z .m
   pub rising : (ltZ (e .block) s₀ || ltb c₀ (e .column)) ≡ true
 
-got-value : {A : Type 0} {a b : A} {r s : List ℕ} → got a r ≡ got b s → a ≡ b
+pub got-value : {A : Type 0} {a b : A} {r s : List ℕ} → got a r ≡ got b s → a ≡ b
 got-value e = cc
 
 length-padTo : {A : Type 0} (n : ℕ) (v : A) (l : List A) → length (padTo n v l) ≡ n

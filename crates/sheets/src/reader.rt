@@ -1,5 +1,6 @@
 // Reading a sheet: numbers, terms, equations, sections.
 ghost use mathlib.Core.Path.{_≡_};
+ghost use mathlib.Core.List.{[]};
 ghost use mathlib.Core.Bool.{true, _&&_};
 ghost use Prim.Native.Nat.{suc, _+_, _*_, _^_, _≤_, _<_};
 ghost use lib.ListN.{length, drop};
@@ -10,7 +11,9 @@ ghost use Rattle.rules.specs.Sheets as Sheets;
 ghost use Rattle.rules.specs.Stores.{span, rowOf, rowsOf, relationOf, relationsOf, sizesRight};
 ghost use lib.Dec.{T};
 ghost use Rattle.sheets.specs.ReaderRows.{termsInto};
-ghost use Rattle.rules.specs.Sheets.{blankRow, readEquation, readEquations, readRelation, readRelations, judgeLowest, judgeLast, judgeBlock, judgeColumn, judgeOrderCount, afterCount, always, contains, judgeOrder, readCoefficients};
+ghost use Rattle.sheets.specs.ReaderSheet.{readUnknowns, readBlocks, equationSection, relationSection, sheet, readSections, resultOf, SheetRead};
+ghost use Rattle.rules.specs.SheetCalls.{readRefusal};
+ghost use Rattle.rules.specs.Sheets.{blankRow, readEquation, readEquations, readRelation, readRelations, readColumns, readOrder, readSizes, judgeLowest, judgeLast, judgeBlock, judgeColumn, judgeOrderCount, afterCount, always, contains, judgeOrder, readCoefficients};
 ghost use lib.IntN.{pos, natAbs, _-ℤ_};
 ghost use lib.Signed.{leZ, _≤ℤ_};
 ghost use Rattle.sheets.specs.Reader.{TokenEnd, DigitsStart, unjudged, tokenAnswer, NumberAt, Answers, readOf, closing, sizesOf, takenOf, readCoefficient, padded, termOf, readPadded, readPlace, readPolynomial, placeInRow};
@@ -790,5 +793,298 @@ fn relations_at(
     SectionRead {
         refusal: 0,
         at: next,
+    }
+}
+
+// The columns of an order, zeros past them, or a refusal.
+struct OrderRead {
+    refusal: u8,
+    at: usize,
+    order: [usize; 4],
+}
+
+fn no_order(refusal: u8) -> OrderRead
+    ensures { λ r. ⌜ (r .refusal ≡ refusal) × (r .at ≡ 0) ⌝ }
+{
+    OrderRead {
+        refusal,
+        at: 0,
+        order: [0; 4],
+    }
+}
+
+fn columns_at(bytes: &[u8], at: usize, m: usize, count: usize) -> OrderRead
+    requires { ⌜ (at ≤ length (now bytes)) × ((m ≤ 4) × (count ≤ 4)) ⌝ }
+    ensures { λ r. ⌜ Answers (now (bytes .entry)) (r .refusal) (r .order) (r .at) (padded 4 0 (readColumns m count [] (drop at (now (bytes .entry))))) ⌝ }
+{
+    let mut order: [usize; 4] = [0; 4];
+    let mut next = at;
+    let mut i = 0;
+    while i < count {
+        let separator = parting(count - (i + 1));
+        let c = order_column_at(bytes, next, m, &order, i, separator);
+        if c.refusal != 0 {
+            return no_order(c.refusal);
+        }
+        order[i] = c.value as usize;
+        next = c.at;
+        i += 1;
+    }
+    OrderRead {
+        refusal: 0,
+        at: next,
+        order,
+    }
+}
+
+// "one line with the column order, `0` if none, otherwise m and a permutation of 1..m"
+fn order_at(bytes: &[u8], at: usize, m: usize) -> OrderRead
+    requires { ⌜ (at ≤ length (now bytes)) × (m ≤ 4) ⌝ }
+    ensures { λ r. ⌜ Answers (now (bytes .entry)) (r .refusal) (r .order) (r .at) (padded 4 0 (readOrder m (drop at (now (bytes .entry))))) ⌝ }
+{
+    let k = order_count_at(bytes, at, m);
+    if k.refusal != 0 {
+        return no_order(k.refusal);
+    }
+    columns_at(bytes, k.at, m, k.value as usize)
+}
+
+// The section count of a sheet, 3, and the number of unknowns.
+fn unknowns_at(bytes: &[u8], at: usize) -> NumberRead
+    requires { ⌜ at ≤ length (now bytes) ⌝ }
+    ensures { λ r. ⌜ Answers (now (bytes .entry)) (r .refusal) (r .value) (r .at) (readUnknowns (drop at (now (bytes .entry)))) ⌝ }
+{
+    let k = number_between(bytes, at, 3, 3, 32);
+    if k.refusal != 0 {
+        return no_number(k.refusal);
+    }
+    number_between(bytes, k.at, 1, 4, 32)
+}
+
+// The highest and the lowest block, or a refusal.
+struct BlocksRead {
+    refusal: u8,
+    at: usize,
+    l: i64,
+    t: i64,
+}
+
+fn no_blocks(refusal: u8) -> BlocksRead
+    ensures { λ r. ⌜ (r .refusal ≡ refusal) × (r .at ≡ 0) ⌝ }
+{
+    BlocksRead {
+        refusal,
+        at: 0,
+        l: 0,
+        t: 0,
+    }
+}
+
+fn blocks_at(bytes: &[u8], at: usize) -> BlocksRead
+    requires { ⌜ at ≤ length (now bytes) ⌝ }
+    ensures { λ r. ⌜ Answers (now (bytes .entry)) (r .refusal) (r .l, r .t) (r .at) (readBlocks (drop at (now (bytes .entry)))) ⌝ }
+{
+    let l = number_between(bytes, at, -64, 64, 32);
+    if l.refusal != 0 {
+        return no_blocks(l.refusal);
+    }
+    let t = lowest_at(bytes, l.at, l.value);
+    if t.refusal != 0 {
+        return no_blocks(t.refusal);
+    }
+    BlocksRead {
+        refusal: 0,
+        at: t.at,
+        l: l.value,
+        t: t.value,
+    }
+}
+
+// The sizes of a sheet, or a refusal.
+struct SizesRead {
+    refusal: u8,
+    at: usize,
+    sizes: Sizes,
+}
+
+fn no_sizes(refusal: u8) -> SizesRead
+    ensures { λ r. ⌜ (r .refusal ≡ refusal) × (r .at ≡ 0) ⌝ }
+{
+    SizesRead {
+        refusal,
+        at: 0,
+        sizes: Sizes { m: 0, l: 0, t: 0 },
+    }
+}
+
+// "`3 m l t`"
+fn sizes_at(bytes: &[u8], at: usize) -> SizesRead
+    requires { ⌜ at ≤ length (now bytes) ⌝ }
+    ensures { λ r. ⌜ Answers (now (bytes .entry)) (r .refusal) (sizesOf (r .sizes)) (r .at) (readSizes (drop at (now (bytes .entry)))) ⌝ }
+{
+    let m = unknowns_at(bytes, at);
+    if m.refusal != 0 {
+        return no_sizes(m.refusal);
+    }
+    let b = blocks_at(bytes, m.at);
+    if b.refusal != 0 {
+        return no_sizes(b.refusal);
+    }
+    SizesRead {
+        refusal: 0,
+        at: b.at,
+        sizes: Sizes {
+            m: m.value as usize,
+            l: b.l,
+            t: b.t,
+        },
+    }
+}
+
+// "each after its count"; "an equation count that isn't m" is 2.
+fn equation_section(bytes: &[u8], at: usize, z: Sizes, rows: &mut [i64]) -> SectionRead
+    requires { ⌜ (at ≤ length (now bytes)) × T (sizesRight (sizesOf z)) ⌝ }
+    requires { ⌜ 1280 ≤ length (now rows) ⌝ }
+    ensures { λ r. ⌜ Answers (now (bytes .entry)) (r .refusal) (rowsOf (z .m) (now (rows .exit))) (r .at) (equationSection (sizesOf z) (drop at (now (bytes .entry)))) ⌝ }
+{
+    let m = z.m as i64;
+    let k = number_between(bytes, at, m, m, 10);
+    if k.refusal != 0 {
+        return no_section(k.refusal);
+    }
+    equations_at(bytes, k.at, z, rows)
+}
+
+// The number of relations, or a refusal.
+struct RelationsRead {
+    refusal: u8,
+    at: usize,
+    count: usize,
+}
+
+fn no_relations(refusal: u8) -> RelationsRead
+    ensures { λ r. ⌜ (r .refusal ≡ refusal) × (r .at ≡ 0) ⌝ }
+{
+    RelationsRead {
+        refusal,
+        at: 0,
+        count: 0,
+    }
+}
+
+fn relation_section(bytes: &[u8], at: usize, z: Sizes, relations: &mut [i64]) -> RelationsRead
+    requires { ⌜ (at ≤ length (now bytes)) × T (sizesRight (sizesOf z)) ⌝ }
+    requires { ⌜ 5136 ≤ length (now relations) ⌝ }
+    ensures { λ r. ⌜ Answers (now (bytes .entry)) (r .refusal) (relationsOf (r .count) (now (relations .exit))) (r .at) (relationSection (sizesOf z) (drop at (now (bytes .entry)))) ⌝ }
+    ensures { λ r. ⌜ (r .refusal ≡ 0 → r .count ≤ 16) ⌝ }
+{
+    let k = number_between(bytes, at, 0, 16, 10);
+    if k.refusal != 0 {
+        return no_relations(k.refusal);
+    }
+    let count = k.value as usize;
+    let s = relations_at(bytes, k.at, z, count, relations);
+    if s.refusal != 0 {
+        return no_relations(s.refusal);
+    }
+    RelationsRead {
+        refusal: 0,
+        at: s.at,
+        count,
+    }
+}
+
+// The number of relations and the column order, zeros past its end, or a refusal.
+struct SectionsRead {
+    refusal: u8,
+    at: usize,
+    relations: usize,
+    order: [usize; 4],
+}
+
+fn no_sections(refusal: u8) -> SectionsRead
+    ensures { λ r. ⌜ (r .refusal ≡ refusal) × (r .at ≡ 0) ⌝ }
+{
+    SectionsRead {
+        refusal,
+        at: 0,
+        relations: 0,
+        order: [0; 4],
+    }
+}
+
+// The sections after the sizes: equations, relations, the column order.
+fn sections_at(bytes: &[u8], at: usize, z: Sizes, rows: &mut [i64], relations: &mut [i64]) -> SectionsRead
+    requires { ⌜ (at ≤ length (now bytes)) × T (sizesRight (sizesOf z)) ⌝ }
+    requires { ⌜ (1280 ≤ length (now rows)) × (5136 ≤ length (now relations)) ⌝ }
+    ensures { λ r. ⌜ Answers (now (bytes .entry)) (r .refusal) (sheet (sizesOf z) (rowsOf (z .m) (now (rows .exit))) (relationsOf (r .relations) (now (relations .exit))) (r .order)) (r .at) (readSections (sizesOf z) (drop at (now (bytes .entry)))) ⌝ }
+    ensures { λ r. ⌜ (r .refusal ≡ 0 → r .relations ≤ 16) ⌝ }
+{
+    let e = equation_section(bytes, at, z, rows);
+    if e.refusal != 0 {
+        return no_sections(e.refusal);
+    }
+    let s = relation_section(bytes, e.at, z, relations);
+    if s.refusal != 0 {
+        return no_sections(s.refusal);
+    }
+    let o = order_at(bytes, s.at, z.m);
+    if o.refusal != 0 {
+        return no_sections(o.refusal);
+    }
+    let order = o.order;
+    SectionsRead {
+        refusal: 0,
+        at: o.at,
+        relations: s.count,
+        order,
+    }
+}
+
+// ---- whole sheets
+
+// What reading a sheet gives: "Every refusal returns its number, all other fields 0." The order holds columns counted from 1,
+// zeros past its end.
+pub struct SheetResult {
+    pub refusal: u8,
+    pub sizes: Sizes,
+    pub relations: usize,
+    pub order: [usize; 4],
+}
+
+fn refused(refusal: u8) -> SheetResult
+    ensures { λ r. ⌜ resultOf r ≡ readRefusal refusal ⌝ }
+{
+    SheetResult {
+        refusal,
+        sizes: Sizes { m: 0, l: 0, t: 0 },
+        relations: 0,
+        order: [0; 4],
+    }
+}
+
+// A sheet read into stores of the largest sizes. "4 the bytes [..] go on after the fourth section"
+fn sheet_at(bytes: &[u8], rows: &mut [i64], relations: &mut [i64]) -> SheetResult
+    requires { ⌜ (1280 ≤ length (now rows)) × (5136 ≤ length (now relations)) ⌝ }
+    ensures { λ r. ⌜ SheetRead (now (bytes .entry)) (resultOf r) (now (rows .exit)) (now (relations .exit)) ⌝ }
+{
+    let z = sizes_at(bytes, 0);
+    if z.refusal != 0 {
+        return refused(z.refusal);
+    }
+    let sizes = z.sizes;
+    let s = sections_at(bytes, z.at, sizes, rows, relations);
+    if s.refusal != 0 {
+        return refused(s.refusal);
+    }
+    if s.at < bytes.len() {
+        return refused(4);
+    }
+    let order = s.order;
+    SheetResult {
+        refusal: 0,
+        sizes,
+        relations: s.relations,
+        order,
     }
 }
