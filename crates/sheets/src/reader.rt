@@ -1014,7 +1014,13 @@ fn no_sections(refusal: u8) -> SectionsRead
 }
 
 // The sections after the sizes: equations, relations, the column order.
-fn sections_at(bytes: &[u8], at: usize, z: Sizes, rows: &mut [i64], relations: &mut [i64]) -> SectionsRead
+fn sections_at(
+    bytes: &[u8],
+    at: usize,
+    z: Sizes,
+    rows: &mut [i64],
+    relations: &mut [i64],
+) -> SectionsRead
     requires { ⌜ (at ≤ length (now bytes)) × T (sizesRight (sizesOf z)) ⌝ }
     requires { ⌜ (1280 ≤ length (now rows)) × (5136 ≤ length (now relations)) ⌝ }
     ensures { λ r. ⌜ Answers (now (bytes .entry)) (r .refusal) (sheet (sizesOf z) (rowsOf (z .m) (now (rows .exit))) (relationsOf (r .relations) (now (relations .exit))) (r .order)) (r .at) (readSections (sizesOf z) (drop at (now (bytes .entry)))) ⌝ }

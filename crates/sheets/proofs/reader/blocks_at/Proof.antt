@@ -38,9 +38,10 @@ module _ (c : tie.After-struct-told) where
   l-read = answer-got (c .before .if1 .left) (c .before .before .before .number-between .ensures)
 
 lowest-at-requires : tie.Need-lowest-at-requires
-lowest-at-requires c κs =
-    (c .before .before .before .number-between .ensures .within,
-    rw (toZ-ofZ (l-fits c)) (highest-small (l c) (field-judged (between (negℤ (pos 64)) (pos 64)) (always 32) _ (l-read c))))
+lowest-at-requires c κs = (
+  c .before .before .before .number-between .ensures .within,
+  rw (toZ-ofZ (l-fits c)) (highest-small (l c) (field-judged (between (negℤ (pos 64)) (pos 64)) (always 32) _ (l-read c))),
+)
 
 no-blocks-requires-2 : tie.Need-no-blocks-requires-2
 no-blocks-requires-2 c κs = tt

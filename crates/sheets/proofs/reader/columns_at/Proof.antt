@@ -102,14 +102,15 @@ loop-again : tie.Need-loop-again Inv-loop μ-loop
 loop-again c =
     let a = c .before .before .before .before .before .before .before .before .before .before .args in
     let l = c .before .before .before .before .before .before .before .before .loop in
-    let at = c .before .before .before .before .order-column-at .result .at in
-    (omega arith,
-    rw (toZ-ofZ (column-fits c))
-    (subst (FilledTo 4 0 (readColumns (a .m) (a .count) [] (drop (a .at) (now (a .bytes)))) (now (a .bytes)) (set (l .order) (l .i) (natAbs (column (c .before .before .before .before)))) (l .i + 1) at)
-    (columns-left (a .m) (a .count - (l .i + 1)) (l .order) (l .i) (column (c .before .before .before .before)) (drop at (now (a .bytes))) (omega (arith, l .inv .1 .long)))
-    (filled-goes-on _ _ _ _ _ _ _ _ (l .inv .1) _ natAbs (columnsThen (a .m) (a .count - (l .i + 1)) (takenOf (l .order) (l .i)))
-    (columns-next (a .m) (a .count) (l .i) (takenOf (l .order) (l .i)) (drop (l .next) (now (a .bytes))) (c .before .before .before .before .before .before .before .loop-test .taken)) _ _ (omega arith)
-    (column-read c) (c .before .before .before .before .order-column-at .ensures .within))))
+    let at = c .before .before .before .before .order-column-at .result .at in (
+      omega arith,
+      rw (toZ-ofZ (column-fits c))
+          (subst (FilledTo 4 0 (readColumns (a .m) (a .count) [] (drop (a .at) (now (a .bytes)))) (now (a .bytes)) (set (l .order) (l .i) (natAbs (column (c .before .before .before .before)))) (l .i + 1) at)
+          (columns-left (a .m) (a .count - (l .i + 1)) (l .order) (l .i) (column (c .before .before .before .before)) (drop at (now (a .bytes))) (omega (arith, l .inv .1 .long)))
+          (filled-goes-on _ _ _ _ _ _ _ _ (l .inv .1) _ natAbs (columnsThen (a .m) (a .count - (l .i + 1)) (takenOf (l .order) (l .i)))
+          (columns-next (a .m) (a .count) (l .i) (takenOf (l .order) (l .i)) (drop (l .next) (now (a .bytes))) (c .before .before .before .before .before .before .before .loop-test .taken)) _ _ (omega arith)
+          (column-read c) (c .before .before .before .before .order-column-at .ensures .within))),
+    )
 
 returns-2 : tie.Need-returns-2 Inv-loop μ-loop
 returns-2 c =

@@ -39,9 +39,10 @@ returns-2 : tie.Need-returns-2
 unfolding readSections relationsThen
 returns-2 c =
     let h = c .before .if2 .taken in
-    let r = c .no-sections2 .ensures in
-    (refuses h (then-got _ (answer-got (c .before .before .before .before .before .before .if1 .left) (c .before .before .before .before .before .before .before .before .before .equation-section .ensures)) ∙ then-fault _ (answer-fault h (c .before .before .before .before .relation-section .ensures .0))) r,
-    λ z. absurd (h (sym (r .0) ∙ z)))
+    let r = c .no-sections2 .ensures in (
+      refuses h (then-got _ (answer-got (c .before .before .before .before .before .before .if1 .left) (c .before .before .before .before .before .before .before .before .before .equation-section .ensures)) ∙ then-fault _ (answer-fault h (c .before .before .before .before .relation-section .ensures .0))) r,
+      λ z. absurd (h (sym (r .0) ∙ z)),
+    )
 
 order-at-requires : tie.Need-order-at-requires
 unfolding sizesOf
@@ -60,13 +61,14 @@ returns-3 : tie.Need-returns-3
 unfolding readSections relationsThen orderSection sizesOf
 returns-3 c =
     let h = c .before .if3 .taken in
-    let r = c .no-sections3 .ensures in
-    (refuses h
-    (then-got _ (answer-got (c .before .before .before .before .before .before .before .before .before .if1 .left) (c .before .before .before .before .before .before .before .before .before .before .before .before .equation-section .ensures))
-    ∙ then-got _ (answer-got (c .before .before .before .before .if2 .left) (c .before .before .before .before .before .before .before .relation-section .ensures .0))
-    ∙ then-fault _ (answer-fault h (c .before .before .before .order-at .ensures)))
-    r,
-    λ z. absurd (h (sym (r .0) ∙ z)))
+    let r = c .no-sections3 .ensures in (
+      refuses h
+          (then-got _ (answer-got (c .before .before .before .before .before .before .before .before .before .if1 .left) (c .before .before .before .before .before .before .before .before .before .before .before .before .equation-section .ensures))
+          ∙ then-got _ (answer-got (c .before .before .before .before .if2 .left) (c .before .before .before .before .before .before .before .relation-section .ensures .0))
+          ∙ then-fault _ (answer-fault h (c .before .before .before .order-at .ensures)))
+          r,
+      λ z. absurd (h (sym (r .0) ∙ z)),
+    )
 
 same-length-6 : tie.Need-same-length-6
 same-length-6 c = c .before .before .before .before .before .before .before .before .before .before .before .before .equation-section .kept .1 .1 .1 .0
@@ -76,13 +78,14 @@ same-length-7 c = c .before .before .before .before .before .before .before .rel
 
 returns-4 : tie.Need-returns-4
 unfolding readSections relationsThen orderSection sizesOf
-returns-4 c =
-    (gives refl
-    (then-got _ (answer-got (c .before .before .before .before .before .before .before .before .before .if1 .left) (c .before .before .before .before .before .before .before .before .before .before .before .before .equation-section .ensures))
-    ∙ then-got _ (answer-got (c .before .before .before .before .if2 .left) (c .before .before .before .before .before .before .before .relation-section .ensures .0))
-    ∙ then-got _ (answer-got (c .before .if3 .left) (c .before .before .before .order-at .ensures)))
-    (c .before .before .before .order-at .ensures .within),
-    λ _. c .before .before .before .before .before .before .before .relation-section .ensures .1 (c .before .before .before .before .if2 .left))
+returns-4 c = (
+  gives refl
+      (then-got _ (answer-got (c .before .before .before .before .before .before .before .before .before .if1 .left) (c .before .before .before .before .before .before .before .before .before .before .before .before .equation-section .ensures))
+      ∙ then-got _ (answer-got (c .before .before .before .before .if2 .left) (c .before .before .before .before .before .before .before .relation-section .ensures .0))
+      ∙ then-got _ (answer-got (c .before .if3 .left) (c .before .before .before .order-at .ensures)))
+      (c .before .before .before .order-at .ensures .within),
+  λ _. c .before .before .before .before .before .before .before .relation-section .ensures .1 (c .before .before .before .before .if2 .left),
+)
 
 pub sections-at-spec : {M : Type 1} → statement M
 sections-at-spec =
