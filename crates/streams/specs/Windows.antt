@@ -7,6 +7,7 @@
 --   Filled w before need r after   the window r has what w had and then what was read, `need` bytes unless the input ended
 --
 -- Main statements
+--   past-within              a window without some of its first bytes lies in the store
 --   slid-next                bytes moved to the front of their store one after the other
 --   front-kept               the first bytes over a read behind them
 --   same-filled, read-filled, slid-filled   a window that is as it was, that was read on, and whose bytes were moved first
@@ -39,6 +40,9 @@ pub record Filled (w : Window) (before : List ℕ) (need : ℕ) (r : Window) (af
   pub longer : size w ≤ size r
   pub kept : take (size w) (held r after) ≡ held w before
   pub enough : (need ≤ size r) ⊎ (r .ended ≡ true)
+
+pub past-within : {n : ℕ} {w : Window} {k : ℕ} → Within n w → k ≤ size w → Within n (windowOf (w .from + k) (w .to) (w .ended))
+past-within within fits = record { ordered = omega (arith, within .ordered); inside = within .inside }
 
 -- ---- sliding
 
