@@ -25,10 +25,12 @@ unfolding always
 returns c =
     let s = c .before .before .before .before .before in
     let n = c .before .before .before .number-at in
-    let fn : SFits w64 (n .result .value) = search needs in
-    (answers-as (c .separated .ensures .0)
-    (field-of (between (s .args .low) (s .args .high)) (always (s .args .separator)) (n .ensures)
-    (simp (toZ-ofZ (s .fits .low), toZ-ofZ (s .fits .high), toZ-ofZ fn) at (c .before .judge-between .ensures)) refl), c .separated .ensures .1)
+    let fn : SFits w64 (n .result .value) = search needs in (
+      answers-as (c .separated .ensures .0)
+          (field-of (between (s .args .low) (s .args .high)) (always (s .args .separator)) (n .ensures)
+          (simp (toZ-ofZ (s .fits .low), toZ-ofZ (s .fits .high), toZ-ofZ fn) at (c .before .judge-between .ensures)) refl),
+      c .separated .ensures .1,
+    )
 
 pub number-between-spec : {M : Type 1} → statement M
 number-between-spec =

@@ -25,10 +25,12 @@ unfolding always
 returns c =
     let s = c .before .before .before .before .before in
     let n = c .before .before .before .number-at in
-    let fn : SFits w64 (n .result .value) = search needs in
-    (answers-as (c .separated .ensures .0)
-    (field-of judgeSmall (always 32) (n .ensures)
-    (simp (toZ-ofZ fn) at (c .before .judge-small .ensures)) refl), c .separated .ensures .1)
+    let fn : SFits w64 (n .result .value) = search needs in (
+      answers-as (c .separated .ensures .0)
+          (field-of judgeSmall (always 32) (n .ensures)
+          (simp (toZ-ofZ fn) at (c .before .judge-small .ensures)) refl),
+      c .separated .ensures .1,
+    )
 
 pub small-at-spec : {M : Type 1} → statement M
 small-at-spec =
