@@ -4,9 +4,6 @@ ghost use mathlib.Core.Path.{_≡_};
 ghost use Rattle.rules.specs.SheetCalls.{writeCall};
 ghost use Rattle.rows.specs.Validity.{sizesOf};
 ghost use Rattle.writing.specs.WriterChecks.{callOf};
-
-pub mod reader;
-
 pub use writing::writer::WriteResult;
 
 // The system of the stores and its column order as a sheet: all four numbers of the order 0 for none, otherwise a permutation of
