@@ -43,11 +43,11 @@ use Rattle.polynomials.specs.RootSearch.{answered}
 use Rattle.theory.specs.Ending.{wholeRun-ends}
 use Rattle.theory.specs.Demands.{diagonal-nonzero}
 use Rattle.rows.specs.Flat.{every-append}
-use Rattle.elimination.specs.Progress.{stateOf, outcomeOf, outcomeAt, Within, Listing, Kept, Ready, Reached}
-use Rattle.elimination.specs.StoreStates.{kept-same}
+use Rattle.steps.specs.Progress.{stateOf, outcomeOf, outcomeAt, Within, Listing, Kept, Ready, Reached}
+use Rattle.steps.specs.StoreStates.{kept-same}
 use Rattle.elimination.specs.ReportLaws.{settledState, report-settled}
-use Rattle.elimination.specs.declared.step.Progress.{Progress}
-use Rattle.elimination.specs.declared.step.Outcome as Answer
+use Rattle.steps.specs.declared.step.Progress.{Progress}
+use Rattle.steps.specs.declared.step.Outcome as Answer
 use Rattle.elimination.specs.declared.calls.RunResult.{RunResult}
 
 unfoldable pub resultOf : RunResult → Result

@@ -35,12 +35,12 @@ use Rattle.polynomials.specs.Content.{small-at}
 use Rattle.rows.specs.Flat.{drop-take, parts-take, every-append}
 use Rattle.rows.specs.Validity.{index-at, row-after}
 use Rattle.rows.specs.Mirroring.{length-mirrorRow, rowOf-mirrorRow, small-mirrorRow}
-use Rattle.elimination.specs.Progress.{Within, Listing, Kept, Reached, state, stateOf, outcomeOf, outcomeAt, ready-with}
-use Rattle.elimination.specs.declared.step.Progress.{Progress}
-use Rattle.elimination.specs.declared.step.Outcome as Answer
-use Rattle.elimination.specs.RunLaws.{enough-rows}
+use Rattle.steps.specs.Progress.{Within, Listing, Kept, Reached, state, stateOf, outcomeOf, outcomeAt, ready-with}
+use Rattle.steps.specs.declared.step.Progress.{Progress}
+use Rattle.steps.specs.declared.step.Outcome as Answer
+use Rattle.steps.specs.RunLaws.{enough-rows}
 use Rattle.rows.specs.Written.{every-part}
-use Rattle.elimination.specs.StoreStates.{parts-paste, within-paste, kept-paste, kept-same, kept-then}
+use Rattle.steps.specs.StoreStates.{parts-paste, within-paste, kept-paste, kept-same, kept-then}
 
 -- ---- parts of one width, changed one after the other
 

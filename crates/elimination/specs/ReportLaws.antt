@@ -37,7 +37,7 @@ use Rattle.polynomials.specs.Ascending.{same-truth}
 use Rattle.polynomials.specs.declared.roots.RootAnswer.{RootAnswer}
 use Rattle.polynomials.specs.RootSearch.{answered}
 use Rattle.rows.specs.Found.{Columns, Columns-at}
-use Rattle.elimination.specs.Progress.{Within}
+use Rattle.steps.specs.Progress.{Within}
 use Rattle.elimination.specs.MirrorLaws.{part-small}
 
 -- ---- the furthest of two lists

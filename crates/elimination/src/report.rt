@@ -10,7 +10,7 @@ ghost use Rattle.rules.specs.Stores.{rowNeed};
 ghost use Rattle.rules.specs.Elimination as Elimination;
 ghost use Rattle.polynomials.specs.RootSearch.{answered};
 ghost use Rattle.rows.specs.Found.{Columns};
-ghost use Rattle.elimination.specs.Progress.{sideOf, Within};
+ghost use Rattle.steps.specs.Progress.{sideOf, Within};
 ghost use Rattle.elimination.specs.ReportLaws.{isBeyond, furtherOf, optionOf, settledState};
 
 // Of two roots, is b the one to be taken: the larger or, on the trailing side, the smaller?

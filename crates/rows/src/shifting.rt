@@ -45,10 +45,10 @@ fn moved_up(row: &[i64]) -> [i64; 320]
 }
 
 // "every block moves up by one and n becomes n + 1 in the row [..]; a coefficient outside ±C is refusal 8"
-pub fn shifted(row: [i64; 320]) -> crate::combination::Worked
+pub fn shifted(row: [i64; 320]) -> crate::limits::Worked
     requires { ⌜ T (every small row) ⌝ }
     ensures { λ r. ⌜ r .refusal ≡ refusalOf (limitCoefficients (shiftUp (rowOf row))) ⌝ }
     ensures { λ r. ⌜ r .row ≡ numbersOf (limitCoefficients (shiftUp (rowOf row))) ⌝ }
 {
-    crate::combination::limited(moved_up(&row[..]))
+    crate::limits::limited(moved_up(&row[..]))
 }
