@@ -16,7 +16,7 @@
 --   numbers-below      the numbers of the low parts are in the range of an i64
 use mathlib.Core.Path.{_≡_, refl, sym, _∙_, ap, ap₂, subst, fun-ext}
 use mathlib.Core.Logic.{_↔_, _≢_}
-use mathlib.Core.Bool.{Bool, true, false, _&&_}
+use mathlib.Core.Bool.{true, false, _&&_}
 use mathlib.Core.List.{List, [], _∷_, _++_, map, flatten, zipWith, append-nil}
 use Prim.Native.Nat.{ℕ, zero, suc, _+_, _*_, _-_, _^_, _≤_, _<_, max}
 use native.Mathlib.Nat.{not-suc-le-zero, le-of-suc-le-suc, le-trans, zero-add}
@@ -24,12 +24,13 @@ use native.Mathlib.Omega.{arith}
 use native.Mathlib.Decide.{decLe, decLt}
 use lib.Dec.{T, lit<}
 use lib.IntN.{ℤ, pos, natAbs, _+ℤ_, _*ℤ_}
-use lib.ListN.{length, take, drop, getD, length-take, length-map, List·getD-map}
+use lib.ListN.{length, take, drop, getD, length-take, length-map}
 use lib.Seq.{ext-getD, getD-take, length-take-le}
 use Rattle.algebra.specs.Integers.{natAbs-+ℤ}
 use Rattle.algebra.specs.Gcd.{content, divideBy, length-divideBy}
 use Rattle.algebra.specs.Sums.{range, sumBelow, length-range, getD-range}
-use Rattle.algebra.specs.Polynomials.{Polynomial, coeff, isZero, degree, add, mul, T-&&, isZero-cons, isZero-coeff, coeff-isZero}
+use Rattle.algebra.specs.Polynomials.{Polynomial, coeff, isZero, degree, add, mul, same-test, T-&&, isZero-cons, isZero-coeff}
+use Rattle.algebra.specs.Polynomials.{coeff-isZero}
 use Rattle.algebra.specs.Polynomials.{isZero-add, isZero-mul-right, length-add, length-scale}
 use Rattle.algebra.specs.Coefficients.{coeff-add, coeff-mul, coeff-take, coeff-drop, coeff-past-length, coeff-past-degree}
 use Rattle.algebra.specs.Coefficients.{degree-lt-length, mul-within}
@@ -37,32 +38,17 @@ use Rattle.polynomials.specs.Content.{Below}
 use Rattle.polynomials.specs.Product.{product-size}
 use Rattle.rules.specs.Limits.{small}
 use Rattle.rules.specs.Rows.{Row, All, every, mapRow, coefficientsOf, combine, primitive, lowDegrees, cut}
+use Rattle.rules.specs.Lists.{getD-map, length-flatten, every-flatten}
 use Rattle.rules.specs.Stores.{parts, rowOf, StoreRow}
 use Rattle.rules.specs.Elimination.{within, limitDegrees}
 use Rattle.rules.specs.Layout.{parts-length, parts-width, getD-parts}
-use Rattle.rows.specs.Flat.{polynomialsOf, polynomials-rowOf, polynomials-combine, numbers-mapRow, every-flatten, getD-default}
+use Rattle.rows.specs.Flat.{polynomialsOf, polynomials-rowOf, polynomials-combine, numbers-mapRow}
 use Rattle.combinations.specs.Primitive.{polynomials-mapRow, degrees-within}
 use Rattle.rows.specs.Worked.{Held, held, store-row}
-use Rattle.rows.specs.Written.{every-take, every-drop, every-part, length-flatten, part-flatten}
+use Rattle.rows.specs.Written.{every-take, every-drop, every-part, part-flatten}
+use Rattle.rows.specs.Checks.{true-of, false-of}
 
--- ---- tests and members of lists
-
-same-test : (s t : Bool) → (T s → T t) → (T t → T s) → s ≡ t
-same-test true true f g = refl
-same-test true false f g = absurd (f tt)
-same-test false true f g = absurd (g tt)
-same-test false false f g = refl
-
-test-true : (t : Bool) → T t → t ≡ true
-test-true true h = refl
-test-true false h = absurd h
-
-test-false : (t : Bool) → (T t → ⊥) → t ≡ false
-test-false true h = absurd (h tt)
-test-false false h = refl
-
-getD-map : {A B : Type 0} (f : A → B) (l : List A) (i : ℕ) (d : A) (e : B) → i < length l → getD (map f l) i e ≡ f (getD l i d)
-getD-map f l i d e h = getD-default (map f l) i e (f d) (rw length-map h) ∙ List·getD-map f l i d
+-- ---- members of lists
 
 getD-zipWith : {A B C : Type 0} (f : A → B → C) (l : List A) (m : List B) (i : ℕ) (a : A) (b : B) (c : C) → i < length l → i < length m
     → getD (zipWith f l m) i c ≡ f (getD l i a) (getD m i b)
@@ -178,14 +164,14 @@ module _ (g p h q : Polynomial) where
 
   pub high-free : (k : ℕ) → max (degree g + degree p) (degree h + degree q) < k → ((j : ℕ) → j < k → 16 ≤ j → coeff sum j ≡ pos 0)
       → isZero (drop 16 sum) ≡ true
-  high-free k l e = test-true _ (high-zero sum .1 (λ j h. cases j h (decLt j k)))
+  high-free k l e = true-of _ (high-zero sum .1 (λ j h. cases j h (decLt j k)))
     where
       cases : (j : ℕ) → 16 ≤ j → Dec (j < k) → coeff sum j ≡ pos 0
       cases j h (yes m) = e j m h
       cases j h (no m) = past-degrees j (omega arith)
 
   pub high-found : (k : ℕ) → 16 ≤ k → coeff sum k ≢ pos 0 → isZero (drop 16 sum) ≡ false
-  high-found k l n = test-false _ (λ z. n (high-zero sum .0 z k l))
+  high-found k l n = false-of _ (λ z. n (high-zero sum .0 z k l))
 
 -- ---- lengths and sizes
 

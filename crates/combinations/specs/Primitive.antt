@@ -25,8 +25,9 @@ use Rattle.algebra.specs.Gcd.{dividesAll-of-content, isZero-divideBy, divideBy-
 use Rattle.algebra.specs.Polynomials.{Polynomial, isZero, T-&&}
 use Rattle.polynomials.specs.Content.{Below}
 use Rattle.rules.specs.Rows.{Row, every, mapRow, coefficientsOf, primitive, lowDegrees, cut}
+use Rattle.rules.specs.Lists.{every-flatten, map-take, map-drop}
 use Rattle.rules.specs.Elimination.{within, beyond, limitCoefficients, limitDegrees}
-use Rattle.rows.specs.Flat.{polynomialsOf, every-flatten, flatten-map, numbers-mapRow}
+use Rattle.rows.specs.Flat.{polynomialsOf, flatten-map, numbers-mapRow}
 use Rattle.rows.specs.Worked.{Shown, refusalOf, numbersOf}
 
 -- The numbers divided by d, or as they are if d is 0.
@@ -81,16 +82,6 @@ content-take n p z =
 
 -- ---- the degrees
 
-take-map : {A B : Type 0} (f : A → B) (n : ℕ) (l : List A) → take n (map f l) ≡ map f (take n l)
-take-map f zero l = refl
-take-map f (suc n) [] = refl
-take-map f (suc n) (x ∷ l) = ap (λ r. f x ∷ r) (take-map f n l)
-
-drop-map : {A B : Type 0} (f : A → B) (n : ℕ) (l : List A) → drop n (map f l) ≡ map f (drop n l)
-drop-map f zero l = refl
-drop-map f (suc n) [] = refl
-drop-map f (suc n) (x ∷ l) = drop-map f n l
-
 abbrev isLow : Polynomial → Bool
 isLow p = isZero (drop 16 p)
 
@@ -106,7 +97,7 @@ module _ (d : ℕ) (positive : 0 < d) where
   divided-low : (p : Polynomial) → d ∣ content p → isLow (divideBy d p) ≡ isLow p
   unfolding divideBy
   divided-low p h =
-      ap isZero (drop-map (λ a. quotZ a (pos d)) 16 p)
+      ap isZero (map-drop (λ a. quotZ a (pos d)) 16 p)
       ∙ isZero-divideBy d (drop 16 p) positive
       (dividesAll-of-content d (drop 16 p)
       (divides-append d (take 16 p) (drop 16 p) (subst (λ q. d ∣ content q) (sym (take-append-drop 16 p)) h) .1))
@@ -142,7 +133,7 @@ content-low (p ∷ ps) z =
 map-divide-take : (d : ℕ) (ps : List Polynomial) → map (take 16) (map (divideBy d) ps) ≡ map (divideBy d) (map (take 16) ps)
 unfolding divideBy
 map-divide-take d [] = refl
-map-divide-take d (p ∷ ps) = ap₂ _∷_ (take-map (λ a. quotZ a (pos d)) 16 p) (map-divide-take d ps)
+map-divide-take d (p ∷ ps) = ap₂ _∷_ (map-take (λ a. quotZ a (pos d)) 16 p) (map-divide-take d ps)
 
 numbers-cut : (r : Row) → coefficientsOf (cut r) ≡ flatten (map (take 16) (polynomialsOf r))
 unfolding cut

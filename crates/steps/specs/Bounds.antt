@@ -26,7 +26,7 @@ use Rattle.rules.specs.Limits.{bound, small}
 use Rattle.rules.specs.Rows.{every}
 use Rattle.rules.specs.Elimination.{Multipliers, turnSigns, multipliers}
 use Rattle.polynomials.specs.Content.{Below, small-at, below-divideBy, below-negate}
-use Rattle.polynomials.specs.RootSearch.{roots-constant, lowest-small}
+use Rattle.roots.specs.RootSearch.{roots-constant, lowest-small}
 
 abbrev pub Sixteen : Polynomial → Type 0
 Sixteen p = (length p ≡ 16) × T (every small p)

@@ -9,18 +9,18 @@
 --   length-entry, small-entry             the entries of a row within ±C
 --   length-numbersAt, small-numbersAt, row-of   the numbers of a row of the state
 --   narrowed-within, narrowed-kept, narrowed-state, narrowed-one   what the exchange does to the store and to the state
-use Prim.Native.Nat.{ℕ, _+_, _*_, _≤_, _<_}
+use Prim.Native.Nat.{ℕ, _*_, _≤_, _<_}
 use native.Mathlib.Nat.{le-of-eq}
 use native.Mathlib.Omega.{arith}
-use mathlib.Core.Path.{_≡_, refl, sym, _∙_, ap, ap₂, subst}
+use mathlib.Core.Path.{_≡_, refl, sym, _∙_, ap, ap₂}
 use mathlib.Core.Logic.{_≢_, _⊎_, inl, inr}
 use mathlib.Core.Bool.{Bool, true, false, cond}
 use mathlib.Core.List.{List}
 use borrow.Author.Tests.{lt-ltb, le-ltb}
 use lib.Dec.{T, ltb}
 use lib.IntN.{ℤ}
-use lib.ListN.{length, take, drop, getD, set, length-drop, take-append-drop}
-use lib.Seq.{paste, length-take-le, drop-append-le, take-append-le, getD-set-same, getD-set-other}
+use lib.ListN.{length, take, drop, getD, set, length-drop}
+use lib.Seq.{paste, length-take-le, getD-set-same, getD-set-other}
 use Rattle.rules.specs.Limits.{small}
 use Rattle.rules.specs.Rows.{noRow, every, width, entry}
 use Rattle.rules.specs.Stores.{rowOf, rowsOf, relationsOf, rowNeed}
@@ -30,7 +30,7 @@ use Rattle.rows.specs.Flat.{entry-at}
 use Rattle.rows.specs.Written.{every-part}
 use Rattle.steps.specs.declared.step.Progress.{Progress}
 use Rattle.steps.specs.Progress.{Within, Kept, state, stateOf}
-use Rattle.steps.specs.StoreStates.{within-paste, kept-paste, kept-then, kept-same, rowsOf-paste}
+use Rattle.steps.specs.StoreStates.{part-small, within-paste, kept-paste, kept-then, kept-same, rowsOf-paste}
 use Rattle.steps.specs.NewRows.{row-room}
 
 abbrev pub numbersAt : List ℤ → ℕ → List ℤ
@@ -66,23 +66,8 @@ module _ (m : ℕ) (rows : List ℤ) (w : Within (rowNeed m) rows) (i : ℕ) (in
   length-numbersAt = length-take-le 320 (drop (i * 320) rows) (rw length-drop (omega (arith, row-room m i rows w inside, w .long)))
 
   pub small-numbersAt : T (every small (numbersAt rows i))
-  small-numbersAt =
-      subst (λ l. T (every small l)) (sym same) (every-part small (i * 320) 320 (take (rowNeed m) rows) (w .numbers))
-    where
-      front : List ℤ
-      front = take (rowNeed m) rows
-
-      long : length front ≡ rowNeed m
-      long = length-take-le (rowNeed m) rows (w .long)
-
-      room : i * 320 + 320 ≤ rowNeed m
-      room = row-room m i rows w inside
-
-      same : numbersAt rows i ≡ numbersAt front i
-      same =
-          ap (λ l. numbersAt l i) (sym (take-append-drop (rowNeed m) rows))
-          ∙ ap (take 320) (drop-append-le (i * 320) front (drop (rowNeed m) rows) (omega (arith, long, room)))
-          ∙ take-append-le 320 (drop (i * 320) front) (drop (rowNeed m) rows) (rw length-drop (omega (arith, long, room)))
+  unfolding rowNeed
+  small-numbersAt = part-small 320 m i rows inside w
 
 pub row-of : (m : ℕ) (rows relations : List ℤ) (p : Progress) (i : ℕ) → i < m
     → rowAt (stateOf m rows relations p) i ≡ rowOf (numbersAt rows i)

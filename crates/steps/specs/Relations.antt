@@ -24,9 +24,9 @@ use Rattle.algebra.specs.Polynomials.{T-&&}
 use Rattle.rules.specs.Limits.{bound, small}
 use Rattle.rules.specs.Rows.{Row, Relation, every}
 use Rattle.rules.specs.Elimination.{Side, leading, trailing, listing}
+use Rattle.rules.specs.Lists.{every-append}
 use Rattle.rules.specs.Stores.{rowOf, relationOf, relationsOf, relationNeed}
 use Rattle.polynomials.specs.Content.{small-at}
-use Rattle.rows.specs.Flat.{every-append}
 use Rattle.steps.specs.Progress.{Listing, Kept}
 use Rattle.steps.specs.StoreStates.{relationsOf-paste, kept-same, kept-then, kept-paste, listing-paste}
 

@@ -5,33 +5,33 @@
 --   relationsOf-paste   a relation stored past the last one is appended to the list of relations
 --   paste-rest          numbers past the needed part stay
 --   paste-cons          n0 stored, and then a row
+--   part-small          a part of a store within ±C is within ±C
 --   within-paste, kept-paste, kept-same, kept-then   stores within ±C, and what they keep
 --   listing-paste       one relation more is listed
 use Prim.Native.Nat.{ℕ, zero, suc, _+_, _*_, _-_, _≤_, _<_}
 use mathlib.Core.Path.{_≡_, refl, sym, _∙_, ap, ap₂, subst}
 use mathlib.Core.Bool.{Bool}
 use mathlib.Core.List.{List, [], _∷_, _++_, map, map-append, append-assoc}
-use native.Mathlib.Nat.{suc-mul, zero-mul, zero-add, add-zero, add-comm, add-assoc, add-sub-of-le}
-use native.Mathlib.Nat.{le-of-eq, not-suc-le-zero, le-of-suc-le-suc}
+use native.Mathlib.Nat.{suc-mul, zero-mul, zero-add, add-zero, add-assoc, add-sub-of-le}
+use native.Mathlib.Nat.{le-refl, le-of-eq, not-suc-le-zero, le-of-suc-le-suc}
 use native.Mathlib.Numerals.{add-one}
 use native.Mathlib.Omega.{arith}
 use lib.IntN.{ℤ}
 use lib.Dec.{T}
-use lib.ListN.{length, take, drop, set, length-drop}
+use lib.ListN.{length, take, drop, getD, set, length-drop}
 use lib.Seq.{paste, drop-paste, take-at, drop-at, take-all, take-add, length-take-le, drop-drop, take-suc-set, drop-set-lt, append-snoc}
 use lib.Seq.{take-take, take-append-add, length-paste, length-paste-head}
 use Rattle.algebra.specs.Polynomials.{isZero, isZeroℤ, T-&&}
 use Rattle.rules.specs.Limits.{small}
 use Rattle.rules.specs.Rows.{every}
+use Rattle.rules.specs.Lists.{every-append, suc-width}
 use Rattle.rules.specs.Stores.{parts, rowOf, rowsOf, relationOf, relationsOf, relationNeed}
-use Rattle.rows.specs.Flat.{every-append, isZero-every}
-use Rattle.rows.specs.Written.{every-take, every-drop}
+use Rattle.rules.specs.Layout.{getD-parts}
+use Rattle.rows.specs.Flat.{isZero-every, parts-take}
+use Rattle.rows.specs.Written.{every-take, every-drop, every-part}
 use Rattle.steps.specs.Progress.{Within, Listing, Kept}
 
 -- ---- parts of a list into which one part has been pasted
-
-suc-width : (n k : ℕ) → suc n * k ≡ k + n * k
-suc-width n k = suc-mul n k ∙ add-comm (n * k) k
 
 module _ {A : Type 0} where
   -- A paste that begins past the first k members leaves them as they are.
@@ -168,6 +168,16 @@ take-paste-within d at s n k g b h =
     past =
         ap (λ j. drop (at + n) (take j d)) (sym (add-sub-of-le b)) ∙ ap (drop (at + n)) (take-add (at + n) (k - (at + n)) d)
         ∙ drop-at (take (at + n) d) (take (k - (at + n)) (drop (at + n) d)) (at + n) (length-take-le (at + n) d (omega arith))
+
+-- A part of a store within ±C.
+pub part-small : (k n i : ℕ) (store : List ℤ) → i < n → Within (n * k) store → T (every small (take k (drop (i * k) store)))
+part-small k n i store h w =
+    subst (λ p. T (every small p)) same (every-part small (i * k) k (take (n * k) store) (w .numbers))
+  where
+    same : take k (drop (i * k) (take (n * k) store)) ≡ take k (drop (i * k) store)
+    same =
+        sym (getD-parts k n (take (n * k) store) i h) ∙ ap (λ ps. getD ps i []) (parts-take k n (n * k) store (le-refl (n * k)))
+        ∙ getD-parts k n store i h
 
 -- A store within ±C, with a part of its needed numbers overwritten by others within ±C.
 module _ (need : ℕ) (store : List ℤ) (w : Within need store) (at : ℕ) (s : List ℤ) (n : ℕ) (g : n ≤ length s) (b : at + n ≤ need) where

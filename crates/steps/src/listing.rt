@@ -9,7 +9,7 @@ ghost use lib.Seq.{paste};
 ghost use Rattle.rules.specs.Limits.{small};
 ghost use Rattle.rules.specs.Rows.{every};
 ghost use Rattle.rules.specs.Elimination.{listing};
-ghost use Rattle.polynomials.specs.RootSearch.{held};
+ghost use Rattle.roots.specs.RootSearch.{held};
 ghost use Rattle.steps.specs.Progress.{sideOf, Listing};
 ghost use Rattle.steps.specs.Relations.{Relisted};
 
@@ -24,7 +24,7 @@ pub fn save_relation(relations: &mut [i64], k: usize, n0: i64, row: [i64; 320])
 }
 
 // On the trailing side from the largest root down, so that n0 as given back ascends.
-fn root_at(found: polynomials::roots::RootList, trailing: bool, k: usize) -> i64
+fn root_at(found: roots::RootList, trailing: bool, k: usize) -> i64
     requires { ⌜ (k < found .count) × (found .count ≤ 16) × (length (found .values) ≡ 16) ⌝ }
     ensures { λ r. ⌜ r ≡ getD (listing (sideOf trailing) (held found)) k (pos 0) ⌝ }
 {
@@ -41,7 +41,7 @@ fn root_at(found: polynomials::roots::RootList, trailing: bool, k: usize) -> i64
 pub(crate) fn list_roots(
     relations: &mut [i64],
     count: usize,
-    found: polynomials::roots::RootList,
+    found: roots::RootList,
     trailing: bool,
     row: [i64; 320],
 )

@@ -143,7 +143,7 @@ fn combine_step(
     let x = multipliers_at(target, pivot, order[j]);
     let g = x.g;
     let h = x.h;
-    let found = polynomials::roots::roots(&g[..]);
+    let found = roots::roots(&g[..]);
     let count = p.count + found.count;
     if 16 < count {
         return answer(9, p);

@@ -16,7 +16,7 @@ use Rattle.rules.specs.Limits.{small}
 use Rattle.rules.specs.Rows.{every}
 use Rattle.rules.specs.Elimination.{Side, diagonalPlace, furthest}
 use Rattle.rules.specs.Calls.{rootFound, rootValue}
-use Rattle.polynomials.specs.RootSearch.{answered}
+use Rattle.roots.specs.RootSearch.{answered}
 use Rattle.steps.specs.Progress.{sideOf}
 use Rattle.elimination.specs.ReportLaws.{furtherOf, diagonalAt, reported, answered-option, option-of}
 use Rattle.elimination.specs.ReportLaws.{report-none, report-next, report-all, diagonal-long, diagonal-small}

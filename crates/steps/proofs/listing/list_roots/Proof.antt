@@ -11,7 +11,7 @@ use lib.Seq.{paste, take-all, length-take-le}
 use Rattle.rules.specs.Limits.{small}
 use Rattle.rules.specs.Elimination.{listing}
 use Rattle.polynomials.specs.Content.{read-back}
-use Rattle.polynomials.specs.RootSearch.{held}
+use Rattle.roots.specs.RootSearch.{held}
 use Rattle.steps.specs.Progress.{sideOf}
 use Rattle.steps.specs.Relations.{Relisted, relisted-none, relisted-more, length-listing, every-listing}
 use Rattle.steps.proofs.listing.list_roots.Statement.{statement}

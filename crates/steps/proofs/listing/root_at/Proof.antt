@@ -10,7 +10,7 @@ use mir.Syntax.{w64}
 use mir.Val.{SFits}
 use mir.Facts.{toZ-ofZ}
 use Rattle.rules.specs.Elimination.{listing}
-use Rattle.polynomials.specs.RootSearch.{held}
+use Rattle.roots.specs.RootSearch.{held}
 use Rattle.steps.specs.Progress.{sideOf}
 use Rattle.steps.specs.Relations.{listed-first, listed-last}
 use Rattle.steps.proofs.listing.root_at.Statement.{statement}

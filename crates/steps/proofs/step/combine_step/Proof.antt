@@ -17,7 +17,7 @@ use Rattle.rules.specs.Limits.{small}
 use Rattle.rules.specs.Rows.{every, entry, combine, primitive}
 use Rattle.rules.specs.Stores.{rowOf}
 use Rattle.rules.specs.Elimination.{Side, Limited, limitDegrees, Multipliers, multipliers, multipliersAt, listing, combineStep}
-use Rattle.polynomials.specs.RootSearch.{listed, held, held-of, roots-few}
+use Rattle.roots.specs.RootSearch.{listed, held, held-of, roots-few}
 use Rattle.rows.specs.Found.{Columns-at}
 use Rattle.rows.specs.Worked.{refusalOf, numbersOf}
 use Rattle.steps.specs.declared.step.Progress.{Progress}
