@@ -54,7 +54,11 @@ impl Batch<'_> {
             self.sheet()?;
         }
         let left_over = !self.input.bytes.is_empty() && !is(self.input.fault, Fault::LeftOver);
-        if left_over { None } else { Some(()) }
+        if left_over {
+            None
+        } else {
+            Some(())
+        }
     }
 
     /// "for each sheet a line `client bytes` (1 to 8; 0 to 32,768) and that many bytes"

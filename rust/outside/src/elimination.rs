@@ -149,7 +149,11 @@ impl Work {
 
     fn settling_column(&self, i: usize) -> Option<usize> {
         let mut columns = self.rows[i].columns(self.sizes.l);
-        if self.wrong(Fault::LastColumn) { columns.next_back() } else { columns.next() }
+        if self.wrong(Fault::LastColumn) {
+            columns.next_back()
+        } else {
+            columns.next()
+        }
     }
 
     /// Rules 2 to 4 for row i and one settled row j.
@@ -184,7 +188,11 @@ impl Work {
         self.rows[i] = self.judged(combined)?;
         relations?;
         // "A zero row: refusal 6. Then the next j."
-        if self.rows[i].is_zero() { Err(Refusal::Dependent) } else { Ok(()) }
+        if self.rows[i].is_zero() {
+            Err(Refusal::Dependent)
+        } else {
+            Ok(())
+        }
     }
 
     /// The entry of row i in block l at the column of the settled row j.
@@ -268,7 +276,8 @@ impl Work {
 
     /// "every block moves up by one and n becomes n + 1 in the row .. a coefficient outside ±C is refusal 8"
     fn shift(&mut self, i: usize) -> Result<(), Refusal> {
-        let moved = |p: &Polynomial| if self.wrong(Fault::ShiftWithoutIncrement) { p.clone() } else { p.after_increment() };
+        let moved =
+            |p: &Polynomial| if self.wrong(Fault::ShiftWithoutIncrement) { p.clone() } else { p.after_increment() };
         let row = self.rows[i].mapped(|s, p| (s + 1, moved(p)));
         let limit = if self.wrong(Fault::LooseShift) { 4 * C } else { C };
         if row.size() > limit {

@@ -26,7 +26,11 @@ pub enum Separator {
 
 /// The line ends after the last number of so many.
 fn after(number: usize, of: usize) -> Separator {
-    if number == of { Separator::LineEnd } else { Separator::Space }
+    if number == of {
+        Separator::LineEnd
+    } else {
+        Separator::Space
+    }
 }
 
 /// "A number is at most ten digits after an optional minus, without leading zeros or `-0`."
@@ -53,7 +57,11 @@ fn number(token: &[u8], fault: Option<Fault>) -> Option<i128> {
 /// "bytes that end before a token's separator are 4, or 3 if they cannot begin a number"
 fn cut_token(rest: &[u8], fault: Option<Fault>) -> Refusal {
     let can_begin = rest.is_empty() || rest == b"-" || number(rest, fault).is_some();
-    if can_begin || is(fault, Fault::CutTokenEnds) { Refusal::End } else { Refusal::Form }
+    if can_begin || is(fault, Fault::CutTokenEnds) {
+        Refusal::End
+    } else {
+        Refusal::Form
+    }
 }
 
 /// What a token's value is refused with, if it is.
@@ -61,7 +69,11 @@ type Judgement = Result<(), Refusal>;
 
 /// The fault under its number, where the value has it.
 fn refused_if(found: bool, refusal: Refusal) -> Judgement {
-    if found { Err(refusal) } else { Ok(()) }
+    if found {
+        Err(refusal)
+    } else {
+        Ok(())
+    }
 }
 
 /// The bytes of a sheet or of a batch, and how far they are read. "A sheet's first fault in byte order counts".
@@ -184,7 +196,11 @@ impl Reader<'_> {
                 let in_range = refused_if(!(1..=sizes.m as i128).contains(&c), Refusal::Range);
                 let falls = before.is_some_and(|(last, column)| s == last && c <= column as i128);
                 let in_order = refused_if(falls && !any_order, Refusal::Form);
-                if order_first { in_order.and(in_range) } else { in_range.and(in_order) }
+                if order_first {
+                    in_order.and(in_range)
+                } else {
+                    in_range.and(in_order)
+                }
             },
         )?;
         Ok((s, c as usize))

@@ -87,7 +87,11 @@ fn load_row(numbers: &[i64], sizes: Sizes, fault: Option<Fault>) -> Result<Row, 
 fn within_limit(p: &Polynomial, fault: Option<Fault>) -> Result<(), Refusal> {
     let lowest = if is(fault, Fault::LimitBelow) { -C - 1 } else { -C };
     let fits = p.coefficients().iter().all(|a| (lowest..=C).contains(a));
-    if fits { Ok(()) } else { Err(Refusal::Number) }
+    if fits {
+        Ok(())
+    } else {
+        Err(Refusal::Number)
+    }
 }
 
 fn load_relation(numbers: &[i64], sizes: Sizes, fault: Option<Fault>) -> Result<Relation, Refusal> {
@@ -143,12 +147,22 @@ fn order_numbers(order: &[usize]) -> [i64; COLUMNS] {
 
 /// "1 a store too short": each store with the numbers that it needs.
 fn long_enough(lengths: &[(usize, usize)]) -> Result<(), Refusal> {
-    if lengths.iter().all(|(length, need)| length >= need) { Ok(()) } else { Err(Refusal::Short) }
+    if lengths.iter().all(|(length, need)| length >= need) {
+        Ok(())
+    } else {
+        Err(Refusal::Short)
+    }
 }
 
 /// "Calls on stores check sizes (2), lengths (1), numbers (5)": the system of a call, if nothing is refused. `extra` are the
 /// lengths and needs of the call's other stores.
-fn checked(rows: &[i64], relations: &[i64], asked: Asked, extra: &[(usize, usize)], fault: Option<Fault>) -> Result<System, Refusal> {
+fn checked(
+    rows: &[i64],
+    relations: &[i64],
+    asked: Asked,
+    extra: &[(usize, usize)],
+    fault: Option<Fault>,
+) -> Result<System, Refusal> {
     let mut lengths = vec![(rows.len(), row_store(asked.m.min(COLUMNS))), (relations.len(), RELATION_STORE)];
     lengths.extend(extra);
     if is(fault, Fault::LengthsFirst) {
@@ -313,7 +327,15 @@ pub fn check_polynomial(rows: &[i64], m: usize, l: i64, t: i64, row: usize, bloc
     number_of(polynomial_place(rows, m, l, t, row, block, column).map(drop))
 }
 
-fn polynomial_place(rows: &[i64], m: usize, l: i64, t: i64, row: usize, block: i64, column: usize) -> Result<usize, Refusal> {
+fn polynomial_place(
+    rows: &[i64],
+    m: usize,
+    l: i64,
+    t: i64,
+    row: usize,
+    block: i64,
+    column: usize,
+) -> Result<usize, Refusal> {
     let sizes = Sizes::checked(m, l, t)?;
     let inside = (1..=m).contains(&row) && (t..=l).contains(&block) && (1..=m).contains(&column);
     if !inside {

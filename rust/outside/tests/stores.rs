@@ -29,7 +29,10 @@ fn refused_during_the_work() {
     rows[..ROW].fill(0);
     assert_eq!(run_on_stores(Side::Trailing, &mut rows, &mut relations, K3, &mut result, None), 6);
     assert!(rows[..ROW].iter().chain(&relations[..RELATION_STORE]).chain(&result[..RESULT]).all(|&a| a == 0));
-    assert_eq!((&rows[ROW..], &relations[RELATION_STORE..], &result[RESULT..]), (&[9; 2][..], &[9; 2][..], &[9; 2][..]));
+    assert_eq!(
+        (&rows[ROW..], &relations[RELATION_STORE..], &result[RESULT..]),
+        (&[9; 2][..], &[9; 2][..], &[9; 2][..])
+    );
 }
 
 #[test]
@@ -69,7 +72,10 @@ fn written() {
     let text = b"3 1 1 0\n1\n2 1 1 2 -3 1 0 1 1 -1\n0\n0\n";
     let mut bytes = vec![b'#'; text.len() + 1];
     assert_eq!(write_on_stores(&rows, &relations, K3, &[0; 4], &mut bytes, &mut result, None), 0);
-    assert_eq!((&bytes[..text.len()], bytes[text.len()], result[0], result[1]), (&text[..], b'#', text.len() as i64, 9));
+    assert_eq!(
+        (&bytes[..text.len()], bytes[text.len()], result[0], result[1]),
+        (&text[..], b'#', text.len() as i64, 9)
+    );
     let short = &mut bytes[..text.len() - 1];
     assert_eq!(write_on_stores(&rows, &relations, K3, &[0; 4], short, &mut result, None), 1);
     assert_eq!(write_on_stores(&rows, &relations, K3, &[2, 0, 0, 0], &mut [], &mut result, None), 2);
