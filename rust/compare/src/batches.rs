@@ -19,7 +19,7 @@ pub fn batch(random: &mut Random) -> Vec<u8> {
     };
     let mut sheets: Vec<Vec<u8>> = (0..count).map(|_| sheet(random)).collect();
     sheets.retain(|bytes| bytes.len() <= SHEET_BYTES as usize);
-    if random.one_in(10) {
+    if random.one_in(6) {
         let length = OUTPUT - 2 + random.below(6);
         sheets.push(sheet_with_answer_of(random, length));
     }

@@ -2,6 +2,7 @@
 
 pub mod batches;
 pub mod cases;
+pub mod fast;
 pub mod judge;
 pub mod random;
 pub mod sheets;

@@ -60,7 +60,9 @@ fn skip_sheet<'a>(lines: &mut impl Iterator<Item = &'a str>) {
     lines.next();
     for _ in 0..2 {
         let count = lines.next().and_then(|line| line.parse().ok()).unwrap_or(0);
-        (0..count).for_each(|_| drop(lines.next()));
+        for _ in 0..count {
+            lines.next();
+        }
     }
     lines.next();
 }

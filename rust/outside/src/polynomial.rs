@@ -103,7 +103,7 @@ impl Polynomial {
 
     /// "replace n by -n"
     pub fn mirrored(&self) -> Polynomial {
-        let sign = |k: usize| if k % 2 == 0 { 1 } else { -1 };
+        let sign = |k: usize| if k.is_multiple_of(2) { 1 } else { -1 };
         Polynomial(self.0.iter().enumerate().map(|(k, a)| sign(k) * a).collect())
     }
 

@@ -13,7 +13,7 @@ const BATCH_EVERY: usize = 40;
 /// The cases in the order in which a fault meets them.
 fn cases(round: usize) -> Vec<Case> {
     let mut cases: Vec<Case> = Kind::ALL[..4].iter().map(|kind| kind.case(round)).collect();
-    if round % BATCH_EVERY == 0 {
+    if round.is_multiple_of(BATCH_EVERY) {
         cases.push(Kind::Batch.case(round / BATCH_EVERY));
     }
     cases

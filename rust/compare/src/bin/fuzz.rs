@@ -7,6 +7,7 @@ use compare::sheets::whole_sheet;
 use compare::subject::{Library, Outside, Subject};
 use outside::elimination::Side;
 use outside::stores::{row_store, Asked, RELATION_STORE, RESULT};
+use outside::C;
 
 /// Numbers on either side of a lent store.
 const GUARD: usize = 64;
@@ -19,7 +20,7 @@ struct Guarded<T> {
 
 impl<T: Copy + PartialEq> Guarded<T> {
     fn new(store: &[T], guard: T) -> Guarded<T> {
-        let side = vec![guard; GUARD];
+        let side = [guard; GUARD];
         Guarded { all: [&side[..], store, &side[..]].concat(), guard }
     }
 
@@ -98,6 +99,22 @@ impl Fuzz {
         }
     }
 
+    /// The same stores with one number changed, at every position.
+    fn every_position(&mut self, what: &str, call: &Call, whole: &Stores) {
+        for number in [1, C as i64 + 1] {
+            for at in 0..whole.rows.len() {
+                let mut stores = whole.clone();
+                stores.rows[at] = number;
+                self.call(what, call, &stores);
+            }
+            for at in 0..whole.relations.len() {
+                let mut stores = whole.clone();
+                stores.relations[at] = number;
+                self.call(what, call, &stores);
+            }
+        }
+    }
+
     /// Sizes from a list that has the ends of every range, one past them, and the ends of the types.
     fn every_size(&mut self, make: impl Fn(Asked) -> Call, whole: &Stores) {
         let blocks = [i64::MIN, i64::MIN + 1, -65, -64, -63, -5, -1, 0, 1, 4, 60, 63, 64, 65, i64::MAX - 1, i64::MAX];
@@ -149,6 +166,11 @@ fn main() {
             fuzz.call("write, order", &Call::Write(asked, order, vec![b'#'; sheet.len()]), &stores);
         }
     }
+    let sheet = b"3 2 1 0\n2\n2 1 1 2 0 1 0 2 1 -1\n2 1 1 1 1 0 1 1 -1\n1\n0 0\n0\n";
+    let (stores, asked, order) = stores_of(sheet);
+    fuzz.every_position("leading", &Call::Run(Side::Leading, asked), &stores);
+    fuzz.every_position("trailing", &Call::Run(Side::Trailing, asked), &stores);
+    fuzz.every_position("write", &Call::Write(asked, order, vec![b'#'; 99]), &stores);
     for _ in 0..20_000 {
         let noise = (0..random.below(60)).map(|_| random.pick(b"0011223 \n\n -9x")).collect();
         fuzz.call("read, noise", &Call::Read(noise), &small);
