@@ -12,7 +12,7 @@ pub struct Judged {
 
 pub fn judge(case: &Case, right: &dyn Subject, other: &dyn Subject) -> Judged {
     let (expected, found) = (case.answered(right), case.answered(other));
-    let shown = || case.shown() + &difference(&expected, &found, &right.name(), &other.name());
+    let shown = || format!("{}\n{}", case.shown(), difference(&expected, &found, &right.name(), &other.name()));
     let difference = (expected != found).then(shown);
     Judged { expected, found, difference }
 }

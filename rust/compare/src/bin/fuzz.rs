@@ -175,10 +175,14 @@ fn main() {
         let noise = (0..random.below(60)).map(|_| random.pick(b"0011223 \n\n -9x")).collect();
         fuzz.call("read, noise", &Call::Read(noise), &small);
     }
-    let empty = Stores { rows: vec![0; row_store(4)], relations: vec![0; RELATION_STORE], result: vec![7; RESULT] };
-    fuzz.every_size(|asked| Call::Run(Side::Leading, asked), &empty);
-    fuzz.every_size(|asked| Call::Run(Side::Trailing, asked), &empty);
-    fuzz.every_size(|asked| Call::Write(asked, vec![0; 4], vec![b'#'; 400]), &empty);
+    // Zero systems in whole stores, and no stores at all: a size is refused before a length.
+    let zeros = Stores { rows: vec![0; row_store(4)], relations: vec![0; RELATION_STORE], result: vec![7; RESULT] };
+    let none = Stores { rows: Vec::new(), relations: Vec::new(), result: Vec::new() };
+    for stores in [zeros, none] {
+        fuzz.every_size(|asked| Call::Run(Side::Leading, asked), &stores);
+        fuzz.every_size(|asked| Call::Run(Side::Trailing, asked), &stores);
+        fuzz.every_size(|asked| Call::Write(asked, vec![0; 4], vec![b'#'; 400]), &stores);
+    }
     println!("{} calls, {} differences, answers 0 to 9: {:?}", fuzz.calls, fuzz.differences, fuzz.answers);
     std::process::exit((fuzz.differences > 0) as i32);
 }
