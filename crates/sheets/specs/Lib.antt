@@ -1,8 +1,3 @@
-pub mod Reader
-pub mod ReaderRows
-pub mod ReaderSections
-pub mod ReaderSheet
-pub mod Writer
 pub mod WrittenNumbers
 pub mod Exact
 pub mod WrittenTerms
@@ -12,6 +7,5 @@ pub mod RowTerms
 pub mod OrderedTerms
 pub mod WrittenSections
 pub mod WrittenOrder
-pub mod WriterChecks
 pub mod ReadBack
 pub mod CallsReadBack

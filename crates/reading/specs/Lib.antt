@@ -1,0 +1,6 @@
+pub mod Terms
+pub mod Equations
+pub mod Sections
+pub mod Order
+pub mod WholeSheet
+pub mod ReadCalls
