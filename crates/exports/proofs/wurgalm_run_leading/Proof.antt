@@ -1,0 +1,37 @@
+-- `exports::wurgalm_run_leading` meets its contract.
+-- Assumes nothing.
+use mathlib.Core.Path.{_∙_, ap}
+use borrow.Author.Needs.{needs}
+use denote.Ref.{now}
+use Rattle.rules.specs.Elimination.{leading}
+use Rattle.rows.specs.Validity.{sizesOf}
+use Rattle.elimination.specs.Progress.{sideOf}
+use Rattle.exports.specs.Numbers.{sizes-told}
+use Rattle.exports.specs.Runs.{exportRun}
+use Rattle.exports.proofs.wurgalm_run_leading.Statement.{statement}
+use Rattle.exports.proofs.wurgalm_run_leading.Tie as tie
+
+exported-requires : tie.Need-exported-requires
+exported-requires c κs = search needs
+
+same-length : tie.Need-same-length
+same-length c = search needs
+
+same-length-2 : tie.Need-same-length-2
+same-length-2 c = search needs
+
+same-length-3 : tie.Need-same-length-3
+same-length-3 c = search needs
+
+returns : tie.Need-returns
+unfolding sideOf sizesOf
+returns c =
+    let start = c .before .before .before .before .before .before .before in
+    let args = start .args in
+    c .before .before .before .exported .ensures
+    ∙ ap (λ z. exportRun leading z (args .count) (now (args .rows)) (now (args .relations)) (now (args .result)))
+    (sizes-told (args .m) (start .fits .l) (start .fits .t))
+
+pub wurgalm-run-leading-spec : {M : Type 1} → statement M
+wurgalm-run-leading-spec =
+    tie.close (tie.spec exported-requires same-length same-length-2 same-length-3 returns)

@@ -1,0 +1,287 @@
+-- The exported runs: a run on lent stores whose result is a lent store too.
+--
+-- Main definitions
+--   runNumbers r           the eight numbers of a result
+--   checkRun ..            the checks of the call: sizes (2), lengths (1), numbers (5)
+--   ExportedRun            what a call did as a whole: the refusal that it returned, and every lent store afterwards
+--   exportRun side ..      the call
+--   early n, keptOr ..     the refusals that leave the result store as it was, and the store by the refusal
+--   runAfter c ..          the call, by what its run did
+--   SmallResult r          the counts and columns of a result are small
+--
+-- Main statements
+--   refused-numbers        on a refusal the needed part of the result store is zero where it is written
+--   kept-early, kept-late  the result store by the refusal
+--   run-short, run-done    the call with a result store that is too short, and with one that is long enough
+--   run-small              the result of every run is small
+use Prim.Native.Nat.{ℕ, zero, suc, _*_, _≤_, _<_, zero-le}
+use native.Mathlib.Nat.{le-trans, le-of-suc-le-suc, mul-le-mul}
+use native.Mathlib.Omega.{arith}
+use mathlib.Core.Path.{_≡_, refl, sym, _∙_, ap, ap₂, subst}
+use mathlib.Core.Bool.{Bool, true, false, _&&_, cond, and-false}
+use mathlib.Core.List.{List, [], _∷_, _++_, map}
+use borrow.Author.Tests.{le-leb, lt-leb}
+use lib.Dec.{leb}
+use lib.IntN.{ℤ, pos}
+use lib.Signed.{≤ℤ-refl}
+use lib.ListN.{length}
+use Rattle.rules.specs.Limits.{columnCount}
+use Rattle.rules.specs.Rows.{All}
+use Rattle.rules.specs.Elimination.{Side, State, Outcome, going, done, refused, wholeRun}
+use Rattle.rules.specs.Stores.{Sizes, Valid, span, rowsOf, relationsOf, sizesRight, countRight, lengthsRight, numbersRight, rowNeed, checkStores}
+use Rattle.rules.specs.Lists.{all-map, getD-all}
+use Rattle.rules.specs.Layout.{SizeBounds, size-bounds, checkStores-order, stores-valid, countRight-iff, block-place}
+use Rattle.sheets.specs.Trimmed.{length-padTo}
+use Rattle.theory.specs.Demands.{Accepted, Ended, accepted, six, seven, eight, nine, run-ends, shifts-bounded, output-valid, diagonal-nonzero}
+use Rattle.rules.specs.Calls.{padTo, reportedOrder}
+use Rattle.rules.specs.Calls.{Result, Call, callRun, overwrite, zeros, refusal, unchanged, cleared, acceptance, afterRun, afterCheck}
+
+-- "relation count, shifts, c(1) to c(4), 1 or 0 for a root, the root"
+unfoldable pub runNumbers : Result → List ℤ
+runNumbers r =
+    pos (r .relations) ∷ pos (r .shifts) ∷ (map pos (r .order) ++ (pos (cond (r .hasRoot) 1 0) ∷ r .root ∷ []))
+
+abbrev pub runNeed : ℕ
+runNeed = 8
+
+-- "Calls on stores check sizes (2), lengths (1), numbers (5)"; the result store is one of the stores.
+unfoldable pub checkRun : Sizes → ℕ → List ℤ → List ℤ → List ℤ → ℕ
+unfolding sizesRight countRight lengthsRight numbersRight
+checkRun z count rowStore relationStore resultStore =
+    let numbers : ℕ = cond (numbersRight z count rowStore relationStore) 0 5 in
+    let lengths : ℕ = cond (lengthsRight (z .m) rowStore relationStore && leb runNeed (length resultStore)) numbers 1 in
+    cond (sizesRight z && countRight count) lengths 2
+
+pub record ExportedRun : Type 0 where
+  pub refusal : ℕ
+  pub rowStore : List ℤ
+  pub relationStore : List ℤ
+  pub resultStore : List ℤ
+
+-- Refusals 1 to 5: "found before the work begins, stores are unchanged"
+unfoldable pub unrun : ℕ → List ℤ → List ℤ → List ℤ → ExportedRun
+unrun n rowStore relationStore resultStore =
+    record { refusal = n; rowStore = rowStore; relationStore = relationStore; resultStore = resultStore }
+
+-- An acceptance, or a refusal 6 to 9: "all other fields 0", "the needed part of each store that the call may write is zero".
+unfoldable pub ran : Call → List ℤ → ExportedRun
+unfolding overwrite runNumbers
+ran c resultStore =
+    record { refusal = c .result .refusal; rowStore = c .rowStore; relationStore = c .relationStore; resultStore = overwrite (runNumbers (c .result)) resultStore }
+
+unfoldable pub afterRunCheck : Side → Sizes → ℕ → List ℤ → List ℤ → List ℤ → ℕ → ExportedRun
+unfolding ran callRun unrun
+afterRunCheck side z count rowStore relationStore resultStore zero = ran (callRun side z count rowStore relationStore) resultStore
+afterRunCheck side z count rowStore relationStore resultStore (suc n) = unrun (suc n) rowStore relationStore resultStore
+
+unfoldable pub exportRun : Side → Sizes → ℕ → List ℤ → List ℤ → List ℤ → ExportedRun
+unfolding afterRunCheck checkRun
+exportRun side z count rowStore relationStore resultStore =
+    afterRunCheck side z count rowStore relationStore resultStore (checkRun z count rowStore relationStore resultStore)
+
+pub refused-numbers : (n : ℕ) → runNumbers (refusal n) ≡ zeros runNeed
+unfolding runNumbers refusal zeros
+refused-numbers n = refl
+
+-- Counts and columns that fit into a number of the result store.
+pub record SmallResult (r : Result) : Type 0 where
+  pub few-relations : r .relations ≤ 16
+  pub few-shifts : r .shifts ≤ 16
+  pub four : length (r .order) ≡ columnCount
+  pub columns : All (λ c. c ≤ columnCount) (r .order)
+
+-- ---- the result store, by the refusal of the run
+
+-- The refusals that are found before the work begins.
+unfoldable pub early : ℕ → Bool
+early n = leb 1 n && leb n 5
+
+unfoldable pub keptOr : ℕ → List ℤ → List ℤ → List ℤ
+unfolding early overwrite
+keptOr n numbers resultStore = cond (early n) resultStore (overwrite numbers resultStore)
+
+pub kept-early : (n : ℕ) (numbers resultStore : List ℤ) → early n ≡ true → resultStore ≡ keptOr n numbers resultStore
+unfolding keptOr
+kept-early n numbers resultStore e = sym (ap (λ b. cond b resultStore (overwrite numbers resultStore)) e)
+
+pub kept-late : (n : ℕ) (numbers resultStore : List ℤ) → early n ≡ false → overwrite numbers resultStore ≡ keptOr n numbers resultStore
+unfolding keptOr
+kept-late n numbers resultStore e = sym (ap (λ b. cond b resultStore (overwrite numbers resultStore)) e)
+
+unfoldable pub runAfter : Call → List ℤ → ExportedRun
+unfolding keptOr runNumbers
+runAfter c resultStore =
+    record { refusal = c .result .refusal; rowStore = c .rowStore; relationStore = c .relationStore; resultStore = keptOr (c .result .refusal) (runNumbers (c .result)) resultStore }
+
+after-late : (c : Call) (resultStore : List ℤ) → early (c .result .refusal) ≡ false → runAfter c resultStore ≡ ran c resultStore
+unfolding runAfter ran
+after-late c resultStore e =
+    ap (λ l. record { refusal = c .result .refusal; rowStore = c .rowStore; relationStore = c .relationStore; resultStore = l })
+    (sym (kept-late (c .result .refusal) (runNumbers (c .result)) resultStore e))
+
+after-early : (n : ℕ) (rowStore relationStore resultStore : List ℤ) → suc n ≤ 5
+    → runAfter (unchanged (suc n) rowStore relationStore) resultStore ≡ unrun (suc n) rowStore relationStore resultStore
+unfolding runAfter early unchanged refusal unrun
+after-early n rowStore relationStore resultStore h =
+    ap (λ l. record { refusal = suc n; rowStore = rowStore; relationStore = relationStore; resultStore = l })
+    (sym
+    (kept-early (suc n) (runNumbers (refusal (suc n))) resultStore (ap₂ _&&_ (le-leb 1 (suc n) (omega arith)) (le-leb (suc n) 5 h))))
+
+long-check : (s l n : Bool) → cond s (cond (l && true) (cond {A = ℕ} n 0 5) 1) 2 ≡ cond s (cond l (cond n 0 5) 1) 2
+long-check s true n = refl
+long-check s false n = refl
+
+short-check : (s l n : Bool) → cond s (cond (l && false) (cond {A = ℕ} n 0 5) 1) 2 ≡ cond s 1 2
+short-check s true n = refl
+short-check s false n = refl
+
+-- Stores that hold nothing are too short.
+none-checked : (z : Sizes) (count : ℕ) → checkStores z count [] [] ≡ cond (sizesRight z && countRight count) 1 2
+unfolding checkStores lengthsRight rowNeed
+none-checked z count =
+    ap (λ b. cond (sizesRight z && countRight count) (cond b (cond (numbersRight z count [] []) 0 5) 1) 2) (and-false (leb (z .m * 320) 0))
+
+few-checks : (s l n : Bool) → cond s (cond l (cond {A = ℕ} n 0 5) 1) 2 ≤ 5
+few-checks true true true = omega arith
+few-checks true true false = omega arith
+few-checks true false n = omega arith
+few-checks false l n = omega arith
+
+run-zeros : (n : ℕ) → SmallResult (refusal n)
+unfolding refusal All
+run-zeros n = record { few-relations = zero-le; few-shifts = zero-le; four = refl; columns = (zero-le, (zero-le, (zero-le, (zero-le, tt)))) }
+
+all-padTo : {A : Type 0} (P : A → Type 0) (n : ℕ) (v : A) (l : List A) → P v → All P l → All P (padTo n v l)
+unfolding padTo All
+all-padTo P zero v l h a = tt
+all-padTo P (suc n) v [] h a = (h, all-padTo P n v [] h tt)
+all-padTo P (suc n) v (x ∷ l) h a = (a .0, all-padTo P n v l h (a .1))
+
+module _ (side : Side) (z : Sizes) (count : ℕ) (rowStore relationStore : List ℤ) where
+  abbrev outcome : Outcome
+  outcome = wholeRun side (span z) (rowsOf (z .m) rowStore) (relationsOf count relationStore)
+
+  unchecked : (n : ℕ) → checkStores z count rowStore relationStore ≡ suc n
+      → callRun side z count rowStore relationStore ≡ unchanged (suc n) rowStore relationStore
+  unfolding callRun afterCheck
+  unchecked n e = ap (afterCheck side z count rowStore relationStore) e
+
+  worked : checkStores z count rowStore relationStore ≡ 0
+      → callRun side z count rowStore relationStore ≡ afterRun side z outcome rowStore relationStore
+  unfolding callRun afterCheck
+  worked e = ap (afterCheck side z count rowStore relationStore) e
+
+  -- The checks passed.
+  module _ (e : checkStores z count rowStore relationStore ≡ 0) where
+    valid : Valid z (rowsOf (z .m) rowStore) (relationsOf count relationStore)
+    valid = stores-valid z count rowStore relationStore e
+
+    bounds : SizeBounds z
+    bounds = size-bounds z (valid .sizes)
+
+    accepted-small : (s : State) → outcome ≡ done s → SmallResult (acceptance side (span z) s)
+    unfolding acceptance reportedOrder span
+    accepted-small s f =
+        record {
+          few-relations = countRight-iff (length (s .relations)) .0 (output-valid a .relation-count);
+          few-shifts = le-trans (shifts-bounded a) (mul-le-mul (bounds .few) few-blocks);
+          four = length-padTo 4 0 (map suc (s .order));
+          columns = all-padTo (λ c. c ≤ 4) 4 0 (map suc (s .order)) zero-le (all-map (λ c. c ≤ 4) suc (s .order) .1 below);
+        }
+      where
+        a : Accepted side z (rowsOf (z .m) rowStore) (relationsOf count relationStore) s
+        a = record { valid = valid; accepts = f }
+
+        few-blocks : span z ≤ 4
+        few-blocks = le-of-suc-le-suc (block-place z (z .t) bounds (≤ℤ-refl (z .t)) (bounds .ordered))
+
+        below : All (λ c. suc c ≤ 4) (s .order)
+        below =
+            getD-all (λ c. suc c ≤ 4) (s .order) 0
+            (λ j h. le-trans (diagonal-nonzero a .column-below j (subst (λ n. j < n) (diagonal-nonzero a .order-count) h)) (bounds .few))
+
+    -- A run that has begun gives no early refusal.
+    late : (o : Outcome) → Ended o → early (afterRun side z o rowStore relationStore .result .refusal) ≡ false
+    unfolding early afterRun acceptance cleared refusal
+    late o (accepted s) = refl
+    late o six = refl
+    late o seven = refl
+    late o eight = refl
+    late o nine = refl
+
+  -- The result of a run is small.
+  pub run-small : {x : Call} → x ≡ callRun side z count rowStore relationStore → SmallResult (x .result)
+  unfolding afterRun cleared unchanged
+  run-small same = subst (λ c. SmallResult (c .result)) (sym same) (by-check (checkStores z count rowStore relationStore) refl)
+    where
+      by-run : checkStores z count rowStore relationStore ≡ 0 → (o : Outcome) → outcome ≡ o
+          → SmallResult (afterRun side z o rowStore relationStore .result)
+      by-run e (going s) f = run-zeros 6
+      by-run e (done s) f = accepted-small e s f
+      by-run e (refused n) f = run-zeros n
+
+      by-check : (n : ℕ) → checkStores z count rowStore relationStore ≡ n → SmallResult (callRun side z count rowStore relationStore .result)
+      by-check zero e = subst (λ c. SmallResult (c .result)) (sym (worked e)) (by-run e _ refl)
+      by-check (suc n) e = subst (λ c. SmallResult (c .result)) (sym (unchecked n e)) (run-zeros (suc n))
+
+  module _ (resultStore : List ℤ) where
+    -- "its length checked with the other lengths, after the sizes"
+    pub run-short : length resultStore < runNeed
+        → unrun (checkStores z count [] []) rowStore relationStore resultStore
+        ≡ exportRun side z count rowStore relationStore resultStore
+    unfolding exportRun checkRun afterRunCheck
+    run-short h =
+        ap (λ n. unrun n rowStore relationStore resultStore) (none-checked z count) ∙ refused-short (sizesRight z && countRight count)
+        ∙ ap (afterRunCheck side z count rowStore relationStore resultStore)
+        (sym
+        (ap (λ b. cond (sizesRight z && countRight count) (cond (lengthsRight (z .m) rowStore relationStore && b) (cond (numbersRight z count rowStore relationStore) 0 5) 1) 2)
+        (lt-leb runNeed (length resultStore) h)
+        ∙ short-check (sizesRight z && countRight count) (lengthsRight (z .m) rowStore relationStore) (numbersRight z count rowStore relationStore)))
+      where
+        refused-short : (s : Bool) → unrun (cond s 1 2) rowStore relationStore resultStore
+            ≡ afterRunCheck side z count rowStore relationStore resultStore (cond s 1 2)
+        refused-short true = refl
+        refused-short false = refl
+
+    long-checked : runNeed ≤ length resultStore
+        → checkRun z count rowStore relationStore resultStore ≡ checkStores z count rowStore relationStore
+    unfolding checkRun checkStores
+    long-checked h =
+        ap (λ b. cond (sizesRight z && countRight count) (cond (lengthsRight (z .m) rowStore relationStore && b) (cond (numbersRight z count rowStore relationStore) 0 5) 1) 2)
+        (le-leb runNeed (length resultStore) h)
+        ∙ long-check (sizesRight z && countRight count) (lengthsRight (z .m) rowStore relationStore) (numbersRight z count rowStore relationStore)
+
+    run-long : runNeed ≤ length resultStore
+        → runAfter (callRun side z count rowStore relationStore) resultStore ≡ exportRun side z count rowStore relationStore resultStore
+    unfolding exportRun afterRunCheck
+    run-long h =
+        by-check (checkStores z count rowStore relationStore) refl
+        ∙ ap (afterRunCheck side z count rowStore relationStore resultStore) (sym (long-checked h))
+      where
+        begun : checkStores z count rowStore relationStore ≡ 0 → early (callRun side z count rowStore relationStore .result .refusal) ≡ false
+        begun e = ap (λ c. early (c .result .refusal)) (worked e) ∙ late e outcome (run-ends side (valid e))
+
+        few : (n : ℕ) → checkStores z count rowStore relationStore ≡ n → n ≤ 5
+        few n e =
+            subst (λ k. k ≤ 5) (sym (checkStores-order z count rowStore relationStore) ∙ e)
+            (few-checks (sizesRight z && countRight count) (lengthsRight (z .m) rowStore relationStore) (numbersRight z count rowStore relationStore))
+
+        by-check : (n : ℕ) → checkStores z count rowStore relationStore ≡ n
+            → runAfter (callRun side z count rowStore relationStore) resultStore
+            ≡ afterRunCheck side z count rowStore relationStore resultStore (checkStores z count rowStore relationStore)
+        by-check zero e =
+            after-late (callRun side z count rowStore relationStore) resultStore (begun e)
+            ∙ ap (afterRunCheck side z count rowStore relationStore resultStore) (sym e)
+        by-check (suc n) e =
+            ap (λ c. runAfter c resultStore) (unchecked n e) ∙ after-early n rowStore relationStore resultStore (few (suc n) e)
+            ∙ ap (afterRunCheck side z count rowStore relationStore resultStore) (sym e)
+
+    -- The call, from the run that was made and the result store that was left.
+    pub run-done : {x : Call} {after : List ℤ} → x ≡ callRun side z count rowStore relationStore
+        → after ≡ keptOr (x .result .refusal) (runNumbers (x .result)) resultStore → runNeed ≤ length resultStore
+        → record { refusal = x .result .refusal; rowStore = x .rowStore; relationStore = x .relationStore; resultStore = after }
+        ≡ exportRun side z count rowStore relationStore resultStore
+    unfolding runAfter
+    run-done {x} e f h =
+        (λ i. record { refusal = x .result .refusal; rowStore = x .rowStore; relationStore = x .relationStore; resultStore = f i })
+        ∙ ap (λ y. runAfter y resultStore) e ∙ run-long h

@@ -1,0 +1,16 @@
+// Eight numbers at the start of a lent store.
+ghost use mathlib.Core.Path.{_≡_};
+ghost use Prim.Native.Nat.{_≤_};
+ghost use lib.ListN.{length};
+ghost use Rattle.rules.specs.Calls.{overwrite};
+
+pub(crate) fn put(result: &mut [i64], numbers: [i64; 8])
+    requires { ⌜ 8 ≤ length (now result) ⌝ }
+    ensures { λ _. ⌜ now (result .exit) ≡ overwrite numbers (now (result .entry)) ⌝ }
+{
+    let mut i = 0;
+    while i < 8 {
+        result[i] = numbers[i];
+        i += 1;
+    }
+}
