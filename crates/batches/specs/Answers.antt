@@ -122,6 +122,22 @@ answerCall-answer bytes store h = go (answerSheet bytes) (answer-right bytes)
         ∙ ap accepted (take-at sheet (drop (length sheet) store) (length sheet) refl)
     go a (right-refused n) = refl
 
+-- "Every refusal returns its number, all other fields 0."
+pub answerCall-none : (bytes store : List ℕ) → answerCall bytes store .refusal ≢ 0 → answerCall bytes store .length ≡ 0
+unfolding answerCall answered unanswered
+answerCall-none bytes store h = go (answerSheet bytes) h
+  where
+    go : (a : Answer) → answered a store .refusal ≢ 0 → answered a store .length ≡ 0
+    go (accepted sheet) h = by (leb (length sheet) (length store)) h
+      where
+        whole : AnswerCall
+        whole = record { refusal = 0; length = length sheet; store = overwrite sheet store }
+
+        by : (t : Bool) → cond t whole (unanswered 1 store) .refusal ≢ 0 → cond t whole (unanswered 1 store) .length ≡ 0
+        by true h = absurd (h refl)
+        by false h = refl
+    go (refusedWith n) h = refl
+
 -- ---- the column order of a run that accepts
 
 -- A number that the list counted from 1 contains stands in the list.

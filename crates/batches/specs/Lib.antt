@@ -1,3 +1,5 @@
 pub mod Windows
 pub mod Faults
 pub mod Answers
+pub mod Pieces
+pub mod Traces

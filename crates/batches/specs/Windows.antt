@@ -107,7 +107,7 @@ begins-short w h =
     go true i = omega (arith, length-drop 1 w)
     go false i = omega arith
 
-number-short : (w : List ℕ) → T (isNumber w) → length w < numberLine
+pub number-short : (w : List ℕ) → T (isNumber w) → length w < numberLine
 unfolding isNumber
 number-short w h = begins-short w (T-&& (leb 1 (length (digits w))) (beginsNumber w) .0 h .1)
 
