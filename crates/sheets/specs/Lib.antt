@@ -1,7 +1,3 @@
-pub mod Reader
-pub mod ReaderRows
-pub mod ReaderSections
-pub mod ReaderSheet
 pub mod Writer
 pub mod WrittenNumbers
 pub mod Exact

@@ -1,0 +1,107 @@
+-- `reading::terms::coefficients_at` meets its contract. The loop's invariant: the array holds the first i coefficients and zeros
+-- after them, and the others are read from `next`. The measure is their number.
+-- Assumes nothing.
+use mathlib.Core.Path.{refl}
+use Prim.Native.Nat.{_+_, _-_, _≤_, zero-le}
+use native.Mathlib.Nat.{sub-zero}
+use native.Mathlib.Omega.{arith}
+use borrow.Author.Needs.{needs}
+use denote.Ref.{now}
+use lib.IntN.{pos}
+use lib.ListN.{drop}
+use mir.Syntax.{w64}
+use mir.Val.{SFits}
+use mir.Facts.{toZ-ofZ}
+use Rattle.rules.specs.Calls.{padTo}
+use Rattle.rules.specs.Sheets.{readCoefficients}
+use Rattle.tokens.specs.Fields.{answer-fault, answer-got, refuses, gives}
+use Rattle.reading.specs.Terms.{FilledTo, filled-begins, filled-ends, filled-refused, filled-goes-on, coefficients-next, coefficients-none}
+use Rattle.reading.proofs.terms.coefficients_at.Statement.{statement}
+use Rattle.reading.proofs.terms.coefficients_at.Tie as tie
+
+abbrev Inv-loop : tie.InvT-loop
+Inv-loop bytes at count last p₀ next₀ i₀ p next i =
+    (i ≤ count)
+    × FilledTo 16 (pos 0) (readCoefficients last count (drop at bytes)) bytes p i next (readCoefficients last (count - i) (drop next bytes))
+
+abbrev μ-loop : tie.MeasureT-loop
+μ-loop bytes at count last p₀ next₀ i₀ p next i = count - i
+
+loop-holds : tie.Need-loop-holds Inv-loop μ-loop
+unfolding padTo
+loop-holds c = (zero-le, rw (sub-zero (c .before .args .count)) (filled-begins 16 (pos 0) _ _ _ _ (c .before .pre .0) refl refl))
+
+add-coefficient-at : tie.Need-add-coefficient-at Inv-loop μ-loop
+add-coefficient-at c = omega arith
+
+sub-coefficient-at : tie.Need-sub-coefficient-at Inv-loop μ-loop
+sub-coefficient-at c = omega arith
+
+coefficient-at-requires : tie.Need-coefficient-at-requires Inv-loop μ-loop
+coefficient-at-requires c κs = c .before .loop .inv .1 .within
+
+no-polynomial-requires : tie.Need-no-polynomial-requires Inv-loop μ-loop
+no-polynomial-requires c κs = tt
+
+returns : tie.Need-returns Inv-loop μ-loop
+returns c =
+    let a = c .before .before .before .before .before .before .before .args in
+    let l = c .before .before .before .before .before .loop in
+    refuses (c .before .if1 .taken)
+    (filled-refused _ _ _ _ _ _ _ _ (l .inv .1) _ (λ x. x) (λ _ r. readCoefficients (a .last) (a .count - (l .i + 1)) r)
+    (coefficients-next (a .last) (a .count) (l .i) (drop (l .next) (now (a .bytes))) (c .before .before .before .before .loop-test .taken)) _
+    (answer-fault (c .before .if1 .taken) (c .before .before .before .coefficient-at .ensures)))
+    (c .no-polynomial .ensures)
+
+mul-p : tie.Need-mul-p Inv-loop μ-loop
+mul-p c = omega arith
+
+array-set-from-p : tie.Need-array-set-from-p Inv-loop μ-loop
+array-set-from-p c = omega arith
+
+add-i : tie.Need-add-i Inv-loop μ-loop
+add-i c = omega arith
+
+loop-less : tie.Need-loop-less Inv-loop μ-loop
+loop-less c = omega arith
+
+loop-again : tie.Need-loop-again Inv-loop μ-loop
+loop-again c =
+    let a = c .before .before .before .before .before .before .before .args in
+    let l = c .before .before .before .before .before .loop in
+    let v = c .before .before .before .coefficient-at in
+    let fv : SFits w64 (v .result .value) = search needs in (
+      omega arith,
+      rw (toZ-ofZ fv)
+          (filled-goes-on _ _ _ _ _ _ _ _ (l .inv .1) _ (λ x. x) (λ _ r. readCoefficients (a .last) (a .count - (l .i + 1)) r)
+          (coefficients-next (a .last) (a .count) (l .i) (drop (l .next) (now (a .bytes))) (c .before .before .before .before .loop-test .taken)) _ _ (omega arith)
+          (answer-got (c .before .if1 .left) (v .ensures)) (v .ensures .within)),
+    )
+
+returns-2 : tie.Need-returns-2 Inv-loop μ-loop
+returns-2 c =
+    let a = c .before .before .before .args in
+    let l = c .before .loop in
+    gives refl
+    (filled-ends _ _ _ _ _ _ _ _ (l .inv .1)
+    (coefficients-none (a .last) (a .count) (l .i) (drop (l .next) (now (a .bytes))) (omega arith)))
+    (l .inv .1 .within)
+
+pub coefficients-at-spec : {M : Type 1} → statement M
+coefficients-at-spec =
+    tie.close
+    (tie.spec
+    Inv-loop
+    μ-loop
+    loop-holds
+    add-coefficient-at
+    sub-coefficient-at
+    coefficient-at-requires
+    no-polynomial-requires
+    returns
+    mul-p
+    array-set-from-p
+    add-i
+    loop-less
+    loop-again
+    returns-2)

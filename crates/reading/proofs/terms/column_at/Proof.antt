@@ -1,0 +1,40 @@
+-- `reading::terms::column_at` meets its contract: a field is a number, its judgement and its separator.
+-- Assumes nothing.
+use mathlib.Core.Path.{refl}
+use borrow.Author.Needs.{needs}
+use mir.Syntax.{w64}
+use mir.Val.{SFits}
+use mir.Facts.{toZ-ofZ}
+use Rattle.rules.specs.Sheets.{judgeColumn, always}
+use Rattle.tokens.specs.Fields.{answers-as, field-of}
+use Rattle.rows.specs.Validity.{sizesOf}
+use Rattle.reading.proofs.terms.column_at.Statement.{statement}
+use Rattle.reading.proofs.terms.column_at.Tie as tie
+
+number-at-requires : tie.Need-number-at-requires
+number-at-requires c κs = c .before .pre .0
+
+judge-column-requires : tie.Need-judge-column-requires
+judge-column-requires c κs = c .before .before .before .pre .1
+
+separated-requires : tie.Need-separated-requires
+separated-requires c κs = c .before .before .number-at .ensures .separator
+
+returns : tie.Need-returns
+unfolding always
+returns c =
+    let s = c .before .before .before .before .before in
+    let n = c .before .before .before .number-at in
+    let fn : SFits w64 (n .result .value) = search needs in
+    answers-as (c .separated .ensures .0)
+    (field-of (judgeColumn (sizesOf (s .args .z)) (s .args .before) (s .args .last) (s .args .s)) (always 32) (n .ensures)
+    (simp (toZ-ofZ (s .fits .before), toZ-ofZ (s .fits .s), toZ-ofZ fn) at (c .before .judge-column .ensures)) refl)
+
+pub column-at-spec : {M : Type 1} → statement M
+column-at-spec =
+    tie.close
+    (tie.spec
+    number-at-requires
+    judge-column-requires
+    separated-requires
+    returns)

@@ -1,0 +1,5 @@
+pub mod Terms
+pub mod Equations
+pub mod Sections
+pub mod Order
+pub mod WholeSheet

@@ -1,0 +1,277 @@
+-- A whole sheet: its sizes, its sections, and the call that reads it into lent stores.
+--
+-- Main definitions
+--   readUnknowns, readBlocks   the two halves of a sheet's first line
+--
+-- Main statements
+--   sizes-is      the first line is those two halves
+--   sizes-right   sizes that were read are right
+use Prim.Native.Nat.{ℕ, _-_, _≤_, _<_}
+use native.Mathlib.Nat.{le-refl}
+use mathlib.Core.Path.{_≡_, refl, sym, ap, ap₂, _∙_, subst}
+use mathlib.Core.Bool.{true, _&&_}
+use mathlib.Core.List.{List, [], _∷_}
+use lib.Dec.{T}
+use borrow.Author.Tests.{le-leb}
+use lib.ListN.{length, drop, drop-of-length-le}
+use lib.Seq.{drop-length, drop-cons}
+use lib.IntN.{ℤ, pos, negℤ, natAbs, _-ℤ_}
+use lib.Signed.{leZ, nonNeg}
+use Rattle.rules.specs.Limits.{columnCount, mostRelations}
+use Rattle.rules.specs.Stores.{Sizes, sizesRight, rowsOf, relationsOf}
+use Rattle.rules.specs.Numbers.{space, newline, Read, got, fault, thenRead, field, between}
+use Rattle.rules.specs.Rows.{Row, Relation}
+use Rattle.rules.specs.Sheets.{always, judgeLowest, Sheet, readSizes, readEquations, readRelations, readOrder, readEnd, readSheet}
+use Rattle.rules.specs.Calls.{padTo}
+use Rattle.rules.specs.SheetCalls.{ReadResult, readRefusal}
+use Rattle.tokens.specs.Tokens.{both-true}
+use Rattle.tokens.specs.Fields.{readOf, fault-of, then-got, then-cong, then-then, then-parts, field-judged, size-between, passed, between-zero}
+use Rattle.reading.specs.Terms.{padded}
+use Rattle.reading.specs.Equations.{got-value}
+use Rattle.rows.specs.Validity.{sizesOf}
+use Rattle.reading.specs.declared.sheet.SheetResult.{SheetResult}
+
+-- ---- sizes
+
+unfoldable pub readUnknowns : List ℕ → Read ℤ
+readUnknowns bytes =
+    thenRead (field (between (pos 3) (pos 3)) (always space) bytes) λ _ rest. field (between (pos 1) (pos 4)) (always space) rest
+
+unfoldable pub readBlocks : List ℕ → Read (ℤ × ℤ)
+readBlocks bytes =
+    thenRead (field (between (negℤ (pos 64)) (pos 64)) (always space) bytes) λ l rest.
+    thenRead (field (judgeLowest l) (always newline) rest) λ t more. got (l, t) more
+
+abbrev pub sizes : ℕ → ℤ → ℤ → Sizes
+sizes m l t = record { m = m; l = l; t = t }
+
+unfoldable pub sizesThen : ℤ → List ℕ → Read Sizes
+sizesThen m bytes = thenRead (readBlocks bytes) λ q rest. got (sizes (natAbs m) (q .0) (q .1)) rest
+
+-- The definition, with its parts named.
+lowestThen : ℤ → ℤ → List ℕ → Read Sizes
+lowestThen m l bytes = thenRead (field (judgeLowest l) (always newline) bytes) λ t rest. got (sizes (natAbs m) l t) rest
+
+highestThen : ℤ → List ℕ → Read Sizes
+highestThen m bytes = thenRead (field (between (negℤ (pos 64)) (pos 64)) (always space) bytes) (lowestThen m)
+
+unknownsThen : ℤ → List ℕ → Read Sizes
+unknownsThen _ bytes = thenRead (field (between (pos 1) (pos 4)) (always space) bytes) highestThen
+
+sizes-parts : (bytes : List ℕ) → readSizes bytes ≡ thenRead (field (between (pos 3) (pos 3)) (always space) bytes) unknownsThen
+unfolding readSizes unknownsThen highestThen lowestThen
+sizes-parts bytes = refl
+
+highest-is : (m : ℤ) (bytes : List ℕ) → highestThen m bytes ≡ sizesThen m bytes
+unfolding highestThen lowestThen sizesThen readBlocks
+highest-is m bytes =
+    then-cong highest (λ l rest. then-cong (field (judgeLowest l) (always newline) rest) (λ t more. sym (then-got made refl)) ∙ sym (then-then (field (judgeLowest l) (always newline) rest) (λ t more. got (l, t) more) made))
+    ∙ sym (then-then highest (λ l rest. thenRead (field (judgeLowest l) (always newline) rest) λ t more. got (l, t) more) made)
+  where
+    highest : Read ℤ
+    highest = field (between (negℤ (pos 64)) (pos 64)) (always space) bytes
+
+    made : ℤ × ℤ → List ℕ → Read Sizes
+    made q rest = got (sizes (natAbs m) (q .0) (q .1)) rest
+
+pub sizes-is : (bytes : List ℕ) → readSizes bytes ≡ thenRead (readUnknowns bytes) sizesThen
+unfolding readUnknowns unknownsThen
+sizes-is bytes =
+    sizes-parts bytes
+    ∙ then-cong (field (between (pos 3) (pos 3)) (always space) bytes)
+    (λ _ rest. then-cong (field (between (pos 1) (pos 4)) (always space) rest) highest-is)
+    ∙ sym (then-then (field (between (pos 3) (pos 3)) (always space) bytes) (λ _ rest. field (between (pos 1) (pos 4)) (always space) rest) sizesThen)
+
+pub unknowns-right : (bytes : List ℕ) (m : ℤ) (rest : List ℕ) → readUnknowns bytes ≡ got m rest → T (nonNeg m) × (1 ≤ natAbs m) × (natAbs m ≤ 4)
+unfolding readUnknowns
+unknowns-right bytes m rest e =
+    let first = then-parts (field (between (pos 3) (pos 3)) (always space) bytes) _ e in
+    between-zero 1 4 m (field-judged (between (pos 1) (pos 4)) (always space) (first .1) (first .3))
+
+highest-passed : (l : ℤ) → between (negℤ (pos 64)) (pos 64) l ≡ 0 → (leZ (negℤ (pos 64)) l && leZ l (pos 64)) ≡ true
+unfolding between
+highest-passed l e = passed (leZ (negℤ (pos 64)) l && leZ l (pos 64)) 0 1 e .0
+
+-- The size of the highest block.
+pub highest-small : (l : ℤ) → between (negℤ (pos 64)) (pos 64) l ≡ 0 → natAbs l ≤ 64
+highest-small l e = size-between (pos 64) l 64 (le-refl 64) (highest-passed l e)
+
+lowest-passed : (l t : ℤ) → judgeLowest l t ≡ 0 → (leZ (negℤ (pos 64)) t && leZ t l && leZ (l -ℤ t) (pos 4)) ≡ true
+unfolding judgeLowest
+lowest-passed l t e = passed (leZ (negℤ (pos 64)) t && leZ t l && leZ (l -ℤ t) (pos 4)) 0 1 e .0
+
+sizes-passed : (m : ℕ) (l t : ℤ) → 1 ≤ m → m ≤ 4 → (leZ (negℤ (pos 64)) l && leZ l (pos 64)) ≡ true
+    → (leZ (negℤ (pos 64)) t && leZ t l && leZ (l -ℤ t) (pos 4)) ≡ true → T (sizesRight (sizes m l t))
+unfolding sizesRight
+sizes-passed m l t low high hl ht =
+    let lowest = both-true (leZ (negℤ (pos 64)) t && leZ t l) (leZ (l -ℤ t) (pos 4)) ht in
+    let highest = both-true (leZ (negℤ (pos 64)) l) (leZ l (pos 64)) hl in
+    subst T
+    (sym
+    (ap₂ _&&_ (ap₂ _&&_ (le-leb 1 m low) (le-leb m 4 high)) (ap₂ _&&_ (ap₂ _&&_ (lowest .0) (highest .1)) (lowest .1))))
+    tt
+
+-- What the judgements let through are right sizes.
+pub sizes-right : (bytes : List ℕ) (z : Sizes) (rest : List ℕ) → readSizes bytes ≡ got z rest → T (sizesRight z)
+unfolding sizesThen readBlocks
+sizes-right bytes z rest e =
+    let unknowns = then-parts (readUnknowns bytes) sizesThen (sym (sizes-is bytes) ∙ e) in
+    let blocks = then-parts (readBlocks (unknowns .1)) _ (unknowns .3) in
+    let highest = then-parts (field (between (negℤ (pos 64)) (pos 64)) (always space) (unknowns .1)) _ (blocks .2) in
+    let lowest = then-parts (field (judgeLowest (highest .0)) (always newline) (highest .1)) _ (highest .3) in
+    let m = unknowns-right bytes (unknowns .0) (unknowns .1) (unknowns .2) in
+    let l = highest-passed (highest .0) (field-judged (between (negℤ (pos 64)) (pos 64)) (always space) (unknowns .1) (highest .2)) in
+    let t = lowest-passed (highest .0) (lowest .0) (field-judged (judgeLowest (highest .0)) (always newline) (highest .1) (lowest .2)) in
+    subst (λ z. T (sizesRight z)) (ap (λ q. sizes (natAbs (unknowns .0)) (q .0) (q .1)) (got-value (lowest .3)) ∙ got-value (blocks .3))
+    (sizes-passed (natAbs (unknowns .0)) (highest .0) (lowest .0) (m .1) (m .2) l t)
+
+-- ---- sections
+
+unfoldable pub equationSection : Sizes → List ℕ → Read (List Row)
+equationSection z bytes = thenRead (field (between (pos (z .m)) (pos (z .m))) (always newline) bytes) λ _ rest. readEquations z (z .m) rest
+
+unfoldable pub relationSection : Sizes → List ℕ → Read (List Relation)
+relationSection z bytes = thenRead (field (between (pos 0) (pos 16)) (always newline) bytes) λ count rest. readRelations z (natAbs count) rest
+
+abbrev pub sheet : Sizes → List Row → List Relation → List ℕ → Sheet
+sheet z rows relations order = record { sizes = z; rows = rows; relations = relations; order = order }
+
+-- The three sections after the sizes; the order has zeros past its end.
+unfoldable pub orderSection : Sizes → List Row → List Relation → List ℕ → Read Sheet
+orderSection z rows relations bytes = thenRead (padded 4 0 (readOrder (z .m) bytes)) λ order rest. got (sheet z rows relations order) rest
+
+unfoldable pub relationsThen : Sizes → List Row → List ℕ → Read Sheet
+relationsThen z rows bytes = thenRead (relationSection z bytes) (orderSection z rows)
+
+unfoldable pub readSections : Sizes → List ℕ → Read Sheet
+readSections z bytes = thenRead (equationSection z bytes) (relationsThen z)
+
+-- ---- the whole sheet
+
+-- A sheet with zeros past the end of its order.
+unfoldable pub padSheet : Sheet → List ℕ → Read Sheet
+padSheet s rest = got (sheet (s .sizes) (s .rows) (s .relations) (padTo columnCount 0 (s .order))) rest
+
+-- The definition, with its parts named.
+module _ (z : Sizes) where
+  fromOrder : List Row → List Relation → List ℕ → Read Sheet
+  fromOrder rows relations bytes = thenRead (readOrder (z .m) bytes) λ order rest. readEnd (sheet z rows relations order) rest
+
+  fromRelations : List Row → ℤ → List ℕ → Read Sheet
+  fromRelations rows count bytes = thenRead (readRelations z (natAbs count) bytes) (fromOrder rows)
+
+  fromRelationCount : List Row → List ℕ → Read Sheet
+  fromRelationCount rows bytes = thenRead (field (between (pos 0) (pos 16)) (always newline) bytes) (fromRelations rows)
+
+  fromEquations : ℤ → List ℕ → Read Sheet
+  fromEquations _ bytes = thenRead (readEquations z (z .m) bytes) fromRelationCount
+
+  fromEquationCount : List ℕ → Read Sheet
+  fromEquationCount bytes = thenRead (field (between (pos (z .m)) (pos (z .m))) (always newline) bytes) fromEquations
+
+  order-padded : (rows : List Row) (relations : List Relation) (bytes : List ℕ)
+      → thenRead (fromOrder rows relations bytes) padSheet ≡ thenRead (orderSection z rows relations bytes) readEnd
+  unfolding fromOrder orderSection thenRead padded padSheet readEnd
+  order-padded rows relations bytes = by (readOrder (z .m) bytes)
+    where
+      end : (order : List ℕ) (rest : List ℕ)
+          → thenRead (readEnd (sheet z rows relations order) rest) padSheet ≡ readEnd (sheet z rows relations (padTo 4 0 order)) rest
+      end order [] = refl
+      end order (b ∷ rest) = refl
+
+      by : (r : Read (List ℕ))
+          → thenRead (thenRead r λ order rest. readEnd (sheet z rows relations order) rest) padSheet
+          ≡ thenRead (thenRead (padded 4 0 r) λ order rest. got (sheet z rows relations order) rest) readEnd
+      by (got order rest) = end order rest
+      by (fault n) = refl
+
+  orderEnd : List Row → List Relation → List ℕ → Read Sheet
+  orderEnd rows relations bytes = thenRead (orderSection z rows relations bytes) readEnd
+
+  relations-padded : (rows : List Row) (bytes : List ℕ) → thenRead (fromRelationCount rows bytes) padSheet ≡ thenRead (relationsThen z rows bytes) readEnd
+  unfolding fromRelationCount fromRelations relationsThen relationSection orderEnd
+  relations-padded rows bytes =
+      then-then count (fromRelations rows) padSheet
+      ∙ then-cong count
+      (λ k rest. then-then (readRelations z (natAbs k) rest) (fromOrder rows) padSheet ∙ then-cong (readRelations z (natAbs k) rest) (order-padded rows))
+      ∙ sym (then-then count (λ k rest. readRelations z (natAbs k) rest) (orderEnd rows))
+      ∙ sym (then-then (relationSection z bytes) (orderSection z rows) readEnd)
+    where
+      count : Read ℤ
+      count = field (between (pos 0) (pos 16)) (always newline) bytes
+
+  relationsEnd : List Row → List ℕ → Read Sheet
+  relationsEnd rows bytes = thenRead (relationsThen z rows bytes) readEnd
+
+  equations-padded : (bytes : List ℕ) → thenRead (fromEquationCount bytes) padSheet ≡ thenRead (readSections z bytes) readEnd
+  unfolding fromEquationCount fromEquations readSections equationSection relationsEnd
+  equations-padded bytes =
+      then-then count fromEquations padSheet
+      ∙ then-cong count
+      (λ _ rest. then-then (readEquations z (z .m) rest) fromRelationCount padSheet ∙ then-cong (readEquations z (z .m) rest) relations-padded)
+      ∙ sym (then-then count (λ _ rest. readEquations z (z .m) rest) relationsEnd)
+      ∙ sym (then-then (equationSection z bytes) (relationsThen z) readEnd)
+    where
+      count : Read ℤ
+      count = field (between (pos (z .m)) (pos (z .m))) (always newline) bytes
+
+sheet-parts : (bytes : List ℕ) → readSheet bytes ≡ thenRead (readSizes bytes) fromEquationCount
+unfolding readSheet fromEquationCount fromEquations fromRelationCount fromRelations fromOrder
+sheet-parts bytes = refl
+
+-- The sections of a sheet, and its end.
+unfoldable pub sectionsEnd : Sizes → List ℕ → Read Sheet
+sectionsEnd z bytes = thenRead (readSections z bytes) readEnd
+
+pub sheet-is : (bytes : List ℕ) → thenRead (readSheet bytes) padSheet ≡ thenRead (readSizes bytes) sectionsEnd
+unfolding sectionsEnd
+sheet-is bytes =
+    ap (λ r. thenRead r padSheet) (sheet-parts bytes)
+    ∙ then-then (readSizes bytes) fromEquationCount padSheet
+    ∙ then-cong (readSizes bytes) equations-padded
+
+-- ---- the answer to a whole sheet
+
+-- The result of `rules` that a value of the code's type gives.
+unfoldable pub resultOf : SheetResult → ReadResult
+resultOf r = record { refusal = r .refusal; sizes = sizesOf (r .sizes); relations = r .relations; order = r .order }
+
+-- A sheet that was read into stores: the result and the stores hold it, or the result is the refusal.
+pub record SheetRead (bytes : List ℕ) (r : ReadResult) (rows relations : List ℤ) : Type 0 where
+  pub answer : readOf bytes (r .refusal) (sheet (r .sizes) (rowsOf (r .sizes .m) rows) (relationsOf (r .relations) relations) (r .order)) (length bytes)
+      ≡ thenRead (readSheet bytes) padSheet
+  pub unknowns : r .refusal ≡ 0 → r .sizes .m ≤ columnCount
+  pub few : r .refusal ≡ 0 → r .relations ≤ mostRelations
+
+module _ (bytes : List ℕ) (r : ReadResult) (rows relations : List ℤ) where
+  held : Sheet
+  held = sheet (r .sizes) (rowsOf (r .sizes .m) rows) (relationsOf (r .relations) relations) (r .order)
+
+  -- A sheet that is refused.
+  pub sheet-refuses : (n : ℕ) → r ≡ readRefusal n → (n ≡ 0 → ⊥) → thenRead (readSheet bytes) padSheet ≡ fault n → SheetRead bytes r rows relations
+  unfolding readRefusal held
+  sheet-refuses n e h f =
+      record {
+        answer = ap (λ k. readOf bytes k held (length bytes)) (ap (λ q. q .refusal) e) ∙ fault-of bytes n held (length bytes) h ∙ sym f;
+        unknowns = λ z. absurd (h (sym (ap (λ q. q .refusal) e) ∙ z));
+        few = λ z. absurd (h (sym (ap (λ q. q .refusal) e) ∙ z));
+      }
+
+  -- A sheet that is read to its end.
+  pub sheet-gives : (s : Sheet) (at : ℕ) → r .refusal ≡ 0 → sheet (r .sizes) (rowsOf (r .sizes .m) rows) (relationsOf (r .relations) relations) (r .order) ≡ s
+      → thenRead (readSheet bytes) padSheet ≡ readEnd s (drop at bytes) → length bytes ≤ at → r .sizes .m ≤ columnCount → r .relations ≤ mostRelations
+      → SheetRead bytes r rows relations
+  unfolding readOf readEnd
+  sheet-gives s at z same e end m count =
+      record {
+        answer =
+            ap₂ (λ n s. readOf bytes n s (length bytes)) z same
+            ∙ ap (got s) (drop-length bytes)
+            ∙ sym (e ∙ ap (readEnd s) (drop-of-length-le bytes end));
+        unknowns = λ _. m;
+        few = λ _. count;
+      }
+
+pub end-early : (s : Sheet) (bytes : List ℕ) (at : ℕ) → at < length bytes → readEnd s (drop at bytes) ≡ fault 4
+unfolding readEnd
+end-early s bytes at h = ap (readEnd s) (drop-cons bytes at 0 h)

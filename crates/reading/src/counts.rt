@@ -1,0 +1,34 @@
+// Counts, and the separators of what is counted.
+ghost use mathlib.Core.Path.{_≡_};
+ghost use Prim.Native.Nat.{_≤_};
+ghost use lib.ListN.{length, drop};
+ghost use lib.IntN.{pos};
+ghost use Rattle.rules.specs.Numbers.{field, between};
+ghost use Rattle.rules.specs.Sheets.{afterCount};
+ghost use Rattle.tokens.specs.Fields.{Answers};
+ghost use Rattle.rules.specs.Sheets as Sheets;
+
+// The separator after a count: the line ends if nothing is counted.
+pub(crate) fn after_count(value: i64) -> u8
+    ensures { λ r. ⌜ r ≡ afterCount value ⌝ }
+{
+    if value == 0 { 10 } else { 32 }
+}
+
+// The separator after one of several things on a line of which `left` are still to come.
+pub(crate) fn parting(left: usize) -> u8
+    ensures { λ r. ⌜ r ≡ Sheets.parting 10 left ⌝ }
+{
+    if left == 0 { 10 } else { 32 }
+}
+
+// A count of 0 to `most` things.
+pub(crate) fn count_at(bytes: &[u8], at: usize, most: i64) -> tokens::NumberRead
+    requires { ⌜ at ≤ length (now bytes) ⌝ }
+    ensures { λ r. ⌜ Answers (now (bytes .entry)) (r .refusal) (r .value) (r .at) (field (between (pos 0) most) afterCount (drop at (now (bytes .entry)))) ⌝ }
+{
+    let n = tokens::number_at(bytes, at);
+    let judgement = tokens::judge_between(0, most, n.value);
+    let separator = after_count(n.value);
+    tokens::separated(bytes, n, judgement, separator)
+}

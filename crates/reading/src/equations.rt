@@ -1,0 +1,111 @@
+// Equations, read into working rows: "its number of terms (0 to m × (D + 1)), then each term".
+ghost use mathlib.Core.Path.{_≡_};
+ghost use Prim.Native.Nat.{suc, _+_, _*_, _≤_};
+ghost use lib.ListN.{length, drop};
+ghost use lib.Seq.{paste};
+ghost use lib.Dec.{T};
+ghost use lib.IntN.{pos, natAbs, _-ℤ_};
+ghost use lib.Signed.{_≤ℤ_};
+ghost use Rattle.rules.specs.Stores.{span, rowOf, sizesRight};
+ghost use Rattle.rules.specs.Sheets.{blankRow, readEquation};
+ghost use Rattle.tokens.specs.Fields.{Answers};
+ghost use Rattle.rows.specs.Validity.{sizesOf};
+ghost use Rattle.reading.specs.Equations.{termsInto};
+ghost use Rattle.reading.specs.Terms.{placeInRow};
+
+// The first n numbers of `from`, copied to the place `at` of `to`.
+pub(crate) fn copy(to: &mut [i64], at: usize, from: &[i64], n: usize)
+    requires { ⌜ (at + n ≤ length (now to)) × (n ≤ length (now from)) ⌝ }
+    ensures { λ _. ⌜ now (to .exit) ≡ paste (now (to .entry)) at (now (from .entry)) n ⌝ }
+{
+    let mut i = 0;
+    while i < n {
+        to[at + i] = from[i];
+        i += 1;
+    }
+}
+
+// Where the polynomial of a block and a column begins in a row.
+fn place_in_row(l: i64, block: i64, column: usize) -> usize
+    requires { ⌜ (natAbs (l -ℤ block) ≤ 4) × (block ≤ℤ l) ⌝ }
+    requires { ⌜ (1 ≤ column) × (column ≤ 4) ⌝ }
+    ensures { λ r. ⌜ r ≡ placeInRow l block column ⌝ }
+{
+    (l - block) as usize * 64 + (column - 1) * 16
+}
+
+// The coefficients of a term, stored at its place.
+fn put_term(row: &mut [i64], l: i64, e: crate::terms::TermRead)
+    requires { ⌜ (natAbs (l -ℤ e .block) ≤ 4) × (e .block ≤ℤ l) ⌝ }
+    requires { ⌜ (1 ≤ e .column) × (e .column ≤ 4) ⌝ }
+    requires { ⌜ placeInRow l (e .block) (e .column) + 16 ≤ length (now row) ⌝ }
+    ensures { λ _. ⌜ now (row .exit) ≡ paste (now (row .entry)) (placeInRow l (e .block) (e .column)) (e .coefficients) 16 ⌝ }
+{
+    let coefficients = e.coefficients;
+    copy(row, place_in_row(l, e.block, e.column), &coefficients, 16);
+}
+
+// A row of a system, or a refusal.
+pub(crate) struct EquationRead {
+    pub refusal: u8,
+    pub at: usize,
+    pub row: [i64; 320],
+}
+
+fn no_equation(refusal: u8) -> EquationRead
+    ensures { λ r. ⌜ (r .refusal ≡ refusal) × (r .at ≡ 0) ⌝ }
+{
+    EquationRead {
+        refusal,
+        at: 0,
+        row: [0; 320],
+    }
+}
+
+// `count` terms, put into a row as they are read.
+fn terms_at(bytes: &[u8], at: usize, z: rows::validity::Sizes, count: usize) -> EquationRead
+    requires { ⌜ (at ≤ length (now bytes)) × T (sizesRight (sizesOf z)) ⌝ }
+    ensures { λ r. ⌜ Answers (now (bytes .entry)) (r .refusal) (rowOf (r .row)) (r .at) (termsInto (sizesOf z) count (z .l) 0 blankRow (drop at (now (bytes .entry)))) ⌝ }
+{
+    let mut row: [i64; 320] = [0; 320];
+    let mut next = at;
+    let mut block = z.l;
+    let mut column = 0;
+    let mut left = count;
+    while 0 < left {
+        left -= 1;
+        let e = crate::terms::term_at(bytes, next, z, block, column, crate::counts::parting(left));
+        if e.refusal != 0 {
+            return no_equation(e.refusal);
+        }
+        put_term(&mut row, z.l, e);
+        next = e.at;
+        block = e.block;
+        column = e.column;
+    }
+    EquationRead {
+        refusal: 0,
+        at: next,
+        row,
+    }
+}
+
+// "its number of terms (0 to m × (D + 1))"
+fn most_terms(z: rows::validity::Sizes) -> i64
+    requires { ⌜ T (sizesRight (sizesOf z)) ⌝ }
+    ensures { λ r. ⌜ r ≡ pos (z .m * suc (span (sizesOf z))) ⌝ }
+{
+    (z.m * ((z.l - z.t) as usize + 1)) as i64
+}
+
+// "An equation is its number of terms [..], then each term"
+pub(crate) fn equation_at(bytes: &[u8], at: usize, z: rows::validity::Sizes) -> EquationRead
+    requires { ⌜ (at ≤ length (now bytes)) × T (sizesRight (sizesOf z)) ⌝ }
+    ensures { λ r. ⌜ Answers (now (bytes .entry)) (r .refusal) (rowOf (r .row)) (r .at) (readEquation (sizesOf z) (drop at (now (bytes .entry)))) ⌝ }
+{
+    let k = crate::counts::count_at(bytes, at, most_terms(z));
+    if k.refusal != 0 {
+        return no_equation(k.refusal);
+    }
+    terms_at(bytes, k.at, z, k.value as usize)
+}

@@ -1,0 +1,124 @@
+// The sizes: "`3 m l t`".
+ghost use mathlib.Core.Path.{_≡_};
+ghost use Prim.Native.Nat.{_≤_};
+ghost use lib.ListN.{length, drop};
+ghost use lib.IntN.{natAbs};
+ghost use Rattle.rules.specs.Numbers.{field};
+ghost use Rattle.rules.specs.Sheets.{readSizes, judgeLowest, always};
+ghost use Rattle.tokens.specs.Fields.{Answers};
+ghost use Rattle.rows.specs.Validity.{sizesOf};
+ghost use Rattle.reading.specs.WholeSheet.{readUnknowns, readBlocks};
+
+// "-64 ≤ t ≤ l ≤ 64. D = l - t is 0 to 4."
+fn judge_lowest(l: i64, t: i64) -> u8
+    requires { ⌜ natAbs l ≤ 64 ⌝ }
+    ensures { λ r. ⌜ r ≡ judgeLowest l t ⌝ }
+{
+    if tokens::is_between(-64, l, t) {
+        if l - t <= 4 {
+            return 0;
+        }
+    }
+    2
+}
+
+fn lowest_at(bytes: &[u8], at: usize, l: i64) -> tokens::NumberRead
+    requires { ⌜ (at ≤ length (now bytes)) × (natAbs l ≤ 64) ⌝ }
+    ensures { λ r. ⌜ Answers (now (bytes .entry)) (r .refusal) (r .value) (r .at) (field (judgeLowest l) (always 10) (drop at (now (bytes .entry)))) ⌝ }
+{
+    let n = tokens::number_at(bytes, at);
+    let judgement = judge_lowest(l, n.value);
+    tokens::separated(bytes, n, judgement, 10)
+}
+
+// The section count of a sheet, 3, and the number of unknowns.
+fn unknowns_at(bytes: &[u8], at: usize) -> tokens::NumberRead
+    requires { ⌜ at ≤ length (now bytes) ⌝ }
+    ensures { λ r. ⌜ Answers (now (bytes .entry)) (r .refusal) (r .value) (r .at) (readUnknowns (drop at (now (bytes .entry)))) ⌝ }
+{
+    let k = tokens::number_between(bytes, at, 3, 3, 32);
+    if k.refusal != 0 {
+        return tokens::no_number(k.refusal);
+    }
+    tokens::number_between(bytes, k.at, 1, 4, 32)
+}
+
+// The highest and the lowest block, or a refusal.
+struct BlocksRead {
+    refusal: u8,
+    at: usize,
+    l: i64,
+    t: i64,
+}
+
+fn no_blocks(refusal: u8) -> BlocksRead
+    ensures { λ r. ⌜ (r .refusal ≡ refusal) × (r .at ≡ 0) ⌝ }
+{
+    BlocksRead {
+        refusal,
+        at: 0,
+        l: 0,
+        t: 0,
+    }
+}
+
+fn blocks_at(bytes: &[u8], at: usize) -> BlocksRead
+    requires { ⌜ at ≤ length (now bytes) ⌝ }
+    ensures { λ r. ⌜ Answers (now (bytes .entry)) (r .refusal) (r .l, r .t) (r .at) (readBlocks (drop at (now (bytes .entry)))) ⌝ }
+{
+    let l = tokens::number_between(bytes, at, -64, 64, 32);
+    if l.refusal != 0 {
+        return no_blocks(l.refusal);
+    }
+    let t = lowest_at(bytes, l.at, l.value);
+    if t.refusal != 0 {
+        return no_blocks(t.refusal);
+    }
+    BlocksRead {
+        refusal: 0,
+        at: t.at,
+        l: l.value,
+        t: t.value,
+    }
+}
+
+// The sizes of a sheet, or a refusal.
+pub(crate) struct SizesRead {
+    pub refusal: u8,
+    pub at: usize,
+    pub sizes: rows::validity::Sizes,
+}
+
+fn no_sizes(refusal: u8) -> SizesRead
+    ensures { λ r. ⌜ (r .refusal ≡ refusal) × (r .at ≡ 0) ⌝ }
+{
+    SizesRead {
+        refusal,
+        at: 0,
+        sizes: rows::validity::Sizes { m: 0, l: 0, t: 0 },
+    }
+}
+
+// "`3 m l t`"
+pub(crate) fn sizes_at(bytes: &[u8], at: usize) -> SizesRead
+    requires { ⌜ at ≤ length (now bytes) ⌝ }
+    ensures { λ r. ⌜ Answers (now (bytes .entry)) (r .refusal) (sizesOf (r .sizes)) (r .at) (readSizes (drop at (now (bytes .entry)))) ⌝ }
+{
+    let m = unknowns_at(bytes, at);
+    if m.refusal != 0 {
+        return no_sizes(m.refusal);
+    }
+    let b = blocks_at(bytes, m.at);
+    if b.refusal != 0 {
+        return no_sizes(b.refusal);
+    }
+    SizesRead {
+        refusal: 0,
+        at: b.at,
+        sizes: rows::validity::Sizes {
+            m: m.value as usize,
+            l: b.l,
+            t: b.t,
+        },
+    }
+}

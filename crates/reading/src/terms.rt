@@ -1,0 +1,247 @@
+// Terms: "each term as s, c, number of coefficients (1 to 16), coefficients from power 0".
+ghost use mathlib.Core.Path.{_≡_};
+ghost use Prim.Native.Nat.{_≤_};
+ghost use lib.ListN.{length, drop};
+ghost use lib.IntN.{pos};
+ghost use Rattle.rules.specs.Numbers.{field};
+ghost use Rattle.rules.specs.Sheets.{judgeLast, judgeBlock, judgeColumn, always, readCoefficients};
+ghost use Rattle.tokens.specs.Fields.{Answers};
+ghost use Rattle.rows.specs.Validity.{sizesOf};
+ghost use Rattle.reading.specs.Terms.{readCoefficient, padded, termOf, readPadded, readPlace, readPolynomial};
+
+// "The last coefficient of a term is nonzero."
+fn judge_last(value: i64) -> u8
+    ensures { λ r. ⌜ r ≡ judgeLast value ⌝ }
+{
+    if integers::within_bound(value) {
+        if value == 0 {
+            return 3;
+        }
+        return 0;
+    }
+    5
+}
+
+// "Terms go by falling s, then rising c." The term before stood at block `before` and column `last`.
+fn judge_block(z: rows::validity::Sizes, before: i64, s: i64) -> u8
+    ensures { λ r. ⌜ r ≡ judgeBlock (sizesOf z) before s ⌝ }
+{
+    if tokens::is_between(z.t, z.l, s) {
+        if s <= before {
+            return 0;
+        }
+        return 3;
+    }
+    2
+}
+
+fn judge_column(z: rows::validity::Sizes, before: i64, last: usize, s: i64, c: i64) -> u8
+    requires { ⌜ (z .m ≤ 4) × (last ≤ 4) ⌝ }
+    ensures { λ r. ⌜ r ≡ judgeColumn (sizesOf z) before last s c ⌝ }
+{
+    if tokens::is_between(1, z.m as i64, c) {
+        if s < before {
+            return 0;
+        }
+        if (last as i64) < c {
+            return 0;
+        }
+        return 3;
+    }
+    2
+}
+
+fn last_at(bytes: &[u8], at: usize, separator: u8) -> tokens::NumberRead
+    requires { ⌜ at ≤ length (now bytes) ⌝ }
+    ensures { λ r. ⌜ Answers (now (bytes .entry)) (r .refusal) (r .value) (r .at) (field judgeLast (always separator) (drop at (now (bytes .entry)))) ⌝ }
+{
+    let n = tokens::number_at(bytes, at);
+    let judgement = judge_last(n.value);
+    tokens::separated(bytes, n, judgement, separator)
+}
+
+fn block_at(bytes: &[u8], at: usize, z: rows::validity::Sizes, before: i64) -> tokens::NumberRead
+    requires { ⌜ at ≤ length (now bytes) ⌝ }
+    ensures { λ r. ⌜ Answers (now (bytes .entry)) (r .refusal) (r .value) (r .at) (field (judgeBlock (sizesOf z) before) (always 32) (drop at (now (bytes .entry)))) ⌝ }
+{
+    let n = tokens::number_at(bytes, at);
+    let judgement = judge_block(z, before, n.value);
+    tokens::separated(bytes, n, judgement, 32)
+}
+
+fn column_at(
+    bytes: &[u8],
+    at: usize,
+    z: rows::validity::Sizes,
+    before: i64,
+    last: usize,
+    s: i64,
+) -> tokens::NumberRead
+    requires { ⌜ (at ≤ length (now bytes)) × ((z .m ≤ 4) × (last ≤ 4)) ⌝ }
+    ensures { λ r. ⌜ Answers (now (bytes .entry)) (r .refusal) (r .value) (r .at) (field (judgeColumn (sizesOf z) before last s) (always 32) (drop at (now (bytes .entry)))) ⌝ }
+{
+    let n = tokens::number_at(bytes, at);
+    let judgement = judge_column(z, before, last, s, n.value);
+    tokens::separated(bytes, n, judgement, 32)
+}
+
+// A coefficient after which `left` others are to come; `last` stands after the last.
+fn coefficient_at(bytes: &[u8], at: usize, left: usize, last: u8) -> tokens::NumberRead
+    requires { ⌜ at ≤ length (now bytes) ⌝ }
+    ensures { λ r. ⌜ Answers (now (bytes .entry)) (r .refusal) (r .value) (r .at) (readCoefficient last left (drop at (now (bytes .entry)))) ⌝ }
+{
+    if left == 0 {
+        return last_at(bytes, at, last);
+    }
+    tokens::small_at(bytes, at)
+}
+
+// The coefficients of a term, zeros past them, or a refusal.
+struct PolynomialRead {
+    refusal: u8,
+    at: usize,
+    coefficients: [i64; 16],
+}
+
+fn no_polynomial(refusal: u8) -> PolynomialRead
+    ensures { λ r. ⌜ (r .refusal ≡ refusal) × (r .at ≡ 0) ⌝ }
+{
+    PolynomialRead {
+        refusal,
+        at: 0,
+        coefficients: [0; 16],
+    }
+}
+
+fn coefficients_at(bytes: &[u8], at: usize, count: usize, last: u8) -> PolynomialRead
+    requires { ⌜ (at ≤ length (now bytes)) × (count ≤ 16) ⌝ }
+    ensures { λ r. ⌜ Answers (now (bytes .entry)) (r .refusal) (r .coefficients) (r .at) (padded 16 (pos 0) (readCoefficients last count (drop at (now (bytes .entry))))) ⌝ }
+{
+    let mut p: [i64; 16] = [0; 16];
+    let mut next = at;
+    let mut i = 0;
+    while i < count {
+        let a = coefficient_at(bytes, next, count - (i + 1), last);
+        if a.refusal != 0 {
+            return no_polynomial(a.refusal);
+        }
+        let value = a.value;
+        p[i] = value;
+        next = a.at;
+        i += 1;
+    }
+    PolynomialRead {
+        refusal: 0,
+        at: next,
+        coefficients: p,
+    }
+}
+
+// The number of coefficients (1 to 16) and the coefficients.
+fn polynomial_at(bytes: &[u8], at: usize, separator: u8) -> PolynomialRead
+    requires { ⌜ at ≤ length (now bytes) ⌝ }
+    ensures { λ r. ⌜ Answers (now (bytes .entry)) (r .refusal) (r .coefficients) (r .at) (readPolynomial separator (drop at (now (bytes .entry)))) ⌝ }
+{
+    let k = tokens::number_between(bytes, at, 1, 16, 32);
+    if k.refusal != 0 {
+        return no_polynomial(k.refusal);
+    }
+    coefficients_at(bytes, k.at, k.value as usize, separator)
+}
+
+// The block and the column of a term, or a refusal.
+struct PlaceRead {
+    refusal: u8,
+    at: usize,
+    block: i64,
+    column: usize,
+}
+
+fn no_place(refusal: u8) -> PlaceRead
+    ensures { λ r. ⌜ (r .refusal ≡ refusal) × (r .at ≡ 0) ⌝ }
+{
+    PlaceRead {
+        refusal,
+        at: 0,
+        block: 0,
+        column: 0,
+    }
+}
+
+// The term before stood at block `before` and column `last`.
+fn place_at(
+    bytes: &[u8],
+    at: usize,
+    z: rows::validity::Sizes,
+    before: i64,
+    last: usize,
+) -> PlaceRead
+    requires { ⌜ (at ≤ length (now bytes)) × ((z .m ≤ 4) × (last ≤ 4)) ⌝ }
+    ensures { λ r. ⌜ Answers (now (bytes .entry)) (r .refusal) (r .block, r .column) (r .at) (readPlace (sizesOf z) before last (drop at (now (bytes .entry)))) ⌝ }
+{
+    let s = block_at(bytes, at, z, before);
+    if s.refusal != 0 {
+        return no_place(s.refusal);
+    }
+    let c = column_at(bytes, s.at, z, before, last, s.value);
+    if c.refusal != 0 {
+        return no_place(c.refusal);
+    }
+    PlaceRead {
+        refusal: 0,
+        at: c.at,
+        block: s.value,
+        column: c.value as usize,
+    }
+}
+
+// A term, its coefficients with zeros past them, or a refusal.
+pub(crate) struct TermRead {
+    pub refusal: u8,
+    pub at: usize,
+    pub block: i64,
+    pub column: usize,
+    pub coefficients: [i64; 16],
+}
+
+fn no_term(refusal: u8) -> TermRead
+    ensures { λ r. ⌜ (r .refusal ≡ refusal) × (r .at ≡ 0) ⌝ }
+{
+    TermRead {
+        refusal,
+        at: 0,
+        block: 0,
+        column: 0,
+        coefficients: [0; 16],
+    }
+}
+
+// "each term as s, c, number of coefficients (1 to 16), coefficients from power 0"; `separator` stands after the term.
+pub(crate) fn term_at(
+    bytes: &[u8],
+    at: usize,
+    z: rows::validity::Sizes,
+    before: i64,
+    last: usize,
+    separator: u8,
+) -> TermRead
+    requires { ⌜ (at ≤ length (now bytes)) × ((z .m ≤ 4) × (last ≤ 4)) ⌝ }
+    ensures { λ r. ⌜ Answers (now (bytes .entry)) (r .refusal) (termOf (r .block) (r .column) (r .coefficients)) (r .at) (readPadded (sizesOf z) before last separator (drop at (now (bytes .entry)))) ⌝ }
+{
+    let q = place_at(bytes, at, z, before, last);
+    if q.refusal != 0 {
+        return no_term(q.refusal);
+    }
+    let p = polynomial_at(bytes, q.at, separator);
+    if p.refusal != 0 {
+        return no_term(p.refusal);
+    }
+    let coefficients = p.coefficients;
+    TermRead {
+        refusal: 0,
+        at: p.at,
+        block: q.block,
+        column: q.column,
+        coefficients,
+    }
+}
