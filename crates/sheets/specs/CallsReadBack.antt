@@ -8,8 +8,8 @@
 use Prim.Native.Nat.{ℕ, zero, suc, _≤_}
 use native.Mathlib.Nat.{not-suc-le-zero, le-of-suc-le-suc}
 use native.Mathlib.Omega.{arith}
-use mathlib.Core.Path.{_≡_, refl, sym, _∙_, ap, subst}
-use mathlib.Core.Logic.{_↔_, inl, inr}
+use mathlib.Core.Path.{_≡_, refl, _∙_, ap, subst}
+use mathlib.Core.Logic.{inl, inr}
 use mathlib.Core.Bool.{Bool, true, false, _&&_, _||_, not, cond}
 use mathlib.Core.List.{List, [], _∷_}
 use lib.Dec.{T, eqb, eqb→eq, not-T}
@@ -19,16 +19,17 @@ use lib.IntN.{ℤ}
 use Rattle.algebra.specs.Polynomials.{T-&&}
 use Rattle.rules.specs.Limits.{columnCount}
 use Rattle.rules.specs.Rows.{every}
-use Rattle.rules.specs.Stores.{Sizes, rowsOf, relationsOf, sizesRight, countRight, lengthsRight, numbersRight, rowStoreOf}
+use Rattle.rules.specs.Stores.{Sizes, rowsOf, relationsOf, rowStoreOf}
 use Rattle.rules.specs.Stores.{relationStoreOf}
-use Rattle.rules.specs.Layout.{StoresRight, SizeBounds, checkStores-zero, size-bounds, stores-valid, valid-stores, rowsOf-rowStoreOf}
+use Rattle.rules.specs.Layout.{SizeBounds, checkStores-zero, size-bounds, stores-valid, valid-stores, rowsOf-rowStoreOf}
 use Rattle.rules.specs.Layout.{relationsOf-relationStoreOf}
 use Rattle.rules.specs.Calls.{padTo, overwrite}
 use Rattle.rules.specs.Numbers.{got}
 use Rattle.rules.specs.Sheets.{Sheet, readSheet, writeSheet}
 use Rattle.rules.specs.SheetCalls.{differentColumns, orderRight, orderGiven, checkWrite, sheetOf, written, afterWriteCheck, writeCall}
-use Rattle.sheets.specs.WrittenNumbers.{cond-passed, cond-failed}
-use Rattle.sheets.specs.WrittenTerms.{judge-zero}
+use Rattle.rules.specs.Lists.{cond-passed}
+use Rattle.writing.specs.WriterChecks.{checkWrite-iff}
+use Rattle.sheets.specs.WrittenNumbers.{cond-not}
 use Rattle.sheets.specs.WrittenOrder.{OrderRight, different-cons, T-or}
 use Rattle.sheets.specs.ReadBack.{SheetRight, read-written, read-right}
 
@@ -82,7 +83,7 @@ given-order m order h i (inl e) =
     zeros = every-padTo (eqb 0) columnCount 0 tt
 given-order m order h i (inr o) = (
   T-or (every (eqb 0) given) _ .1 (inr (T-&& (differentColumns m (take m given)) _ .1 (rw same (o .1), past))),
-  cond-failed (every (eqb 0) given) [] (take m given) (not-all-zero m order (rw (o .0) h) (o .1)) ∙ same,
+  cond-not (every (eqb 0) given) [] (take m given) (not-all-zero m order (rw (o .0) h) (o .1)) ∙ same,
 )
   where
     given : List ℕ
@@ -94,43 +95,7 @@ given-order m order h i (inr o) = (
     past : T (every (eqb 0) (drop m given))
     past = subst (λ k. T (every (eqb 0) (drop k given))) (o .0) (drop-padTo (eqb 0) columnCount 0 order tt)
 
--- ---- the checks of the call that writes
-
--- Sizes, count and order first, then lengths, then numbers.
-abbrev checked : Bool → Bool → Bool → Bool → Bool → ℕ
-checked sizes count order lengths numbers = cond (sizes && count && order) (cond lengths (cond numbers 0 5) 1) 2
-
-checked-iff : (s c o l n : Bool) → (checked s c o l n ≡ 0) ↔ ((T s × T c × T o) × T l × T n)
-checked-iff s c o l n = (
-  λ e. let h = simp (judge-zero, T-&&) at e in ((h .0 .0 .0, h .0 .0 .1, h .0 .1), h .1 .0, h .1 .1 .0),
-  λ h. simp (judge-zero, T-&&) (((h .0 .0, h .0 .1), h .0 .2), (h .1, (h .2, refl))),
-)
-
-module _ (z : Sizes) (count : ℕ) (order : List ℕ) (rowStore relationStore : List ℤ) where
-  checkWrite-order : checkWrite z count order rowStore relationStore
-      ≡ checked (sizesRight z) (countRight count) (orderRight (z .m) order) (lengthsRight (z .m) rowStore relationStore)
-      (numbersRight z count rowStore relationStore)
-  unfolding checkWrite
-  checkWrite-order = refl
-
-  pub checkWrite-iff : (checkWrite z count order rowStore relationStore ≡ 0)
-      ↔ (T (orderRight (z .m) order) × StoresRight z count rowStore relationStore)
-  checkWrite-iff = (
-    λ e.
-        let h = checks .0 (sym checkWrite-order ∙ e) in
-        (h .0 .2, record { sizes = h .0 .0; few = h .0 .1; lengths = h .1; numbers = h .2 }),
-    λ h. checkWrite-order ∙ checks .1 ((h .1 .sizes, h .1 .few, h .0), h .1 .lengths, h .1 .numbers),
-  )
-    where
-      lengths : Bool
-      lengths = lengthsRight (z .m) rowStore relationStore
-
-      numbers : Bool
-      numbers = numbersRight z count rowStore relationStore
-
-      checks : (checked (sizesRight z) (countRight count) (orderRight (z .m) order) lengths numbers ≡ 0)
-          ↔ ((T (sizesRight z) × T (countRight count) × T (orderRight (z .m) order)) × T lengths × T numbers)
-      checks = checked-iff (sizesRight z) (countRight count) (orderRight (z .m) order) lengths numbers
+-- ---- the calls
 
 -- What a call writes is read back.
 pub written-call-read : (z : Sizes) (count : ℕ) (order : List ℕ) (rowStore relationStore : List ℤ) → z .m ≤ length order

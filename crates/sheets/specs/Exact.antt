@@ -21,7 +21,8 @@ use lib.IntN.{ℤ, natAbs}
 use Rattle.rules.specs.Rows.{All}
 use Rattle.rules.specs.Numbers.{isSeparator, word, afterWord, isNumber, numberOf, decimal, Read, got, fault, thenRead, judged, readWord}
 use Rattle.rules.specs.Numbers.{readSeparator, field}
-use Rattle.sheets.specs.WrittenNumbers.{cond-passed, isNumber-decimal, numberOf-decimal, decimal-numberOf, word-decimal}
+use Rattle.rules.specs.Lists.{cond-passed}
+use Rattle.sheets.specs.WrittenNumbers.{isNumber-decimal, numberOf-decimal, decimal-numberOf, word-decimal}
 use Rattle.sheets.specs.WrittenNumbers.{afterWord-decimal, word-afterWord}
 
 -- The reader reads what is written of a good value, whatever follows; and where it reads a value, the value is good and the

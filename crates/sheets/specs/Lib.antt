@@ -1,4 +1,3 @@
-pub mod Writer
 pub mod WrittenNumbers
 pub mod Exact
 pub mod WrittenTerms
@@ -8,6 +7,5 @@ pub mod RowTerms
 pub mod OrderedTerms
 pub mod WrittenSections
 pub mod WrittenOrder
-pub mod WriterChecks
 pub mod ReadBack
 pub mod CallsReadBack

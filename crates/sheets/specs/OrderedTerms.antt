@@ -19,9 +19,10 @@ use Rattle.rules.specs.Rows.{Block, All, every, zeroBlock}
 use Rattle.rules.specs.Stores.{Sizes, span}
 use Rattle.rules.specs.Layout.{SizeBounds}
 use Rattle.rules.specs.Sheets.{Term, trim, blockTerms, termsFrom}
+use Rattle.writing.specs.Writer.{trim-le}
 use Rattle.sheets.specs.WrittenNumbers.{T-or-left, every-cons}
 use Rattle.sheets.specs.WrittenTerms.{TermRight, Ordered, judgeBlock-iff, judgeColumn-iff}
-use Rattle.sheets.specs.Trimmed.{zero-or-not, length-trim, trim-some, Sound-trim}
+use Rattle.sheets.specs.Trimmed.{zero-or-not, trim-some, Sound-trim}
 use Rattle.sheets.specs.RowBlocks.{StorePolynomial, BlockRight, RowRight}
 use Rattle.sheets.specs.RowTerms.{blockTerms-zero, blockTerms-nonzero, Blank, termsFrom-none}
 
@@ -71,7 +72,7 @@ module _ (z : Sizes) (s : ℤ) (low : z .t ≤ℤ s) (high : s ≤ℤ z .l) (es 
         block-right = judgeBlock-iff z s₀ s .1 (low, high, a .0);
         column-right = judgeColumn-iff z s₀ c₀ s (pos c) .1 (pos-≤ℤ .1 i, pos-≤ℤ .1 j, a .1);
         some = trim-some p n;
-        few = subst (λ k. length (trim p) ≤ k) (h .0) (length-trim p);
+        few = subst (λ k. length (trim p) ≤ k) (h .0) (trim-le p);
         sound = Sound-trim p (h .1);
       }
 

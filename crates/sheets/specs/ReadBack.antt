@@ -26,7 +26,7 @@ use Rattle.rules.specs.Sheets.{Sheet, always, readSizes, readEquations, readRel
 use Rattle.rules.specs.Sheets.{relationLine, orderLine, writeSheet}
 use Rattle.sheets.specs.Exact.{Exact, got-inj, fault-got, then-got, nothing-exact, then-exact, same-exact}
 use Rattle.sheets.specs.WrittenTerms.{between-iff, between-exact, most, always-newline}
-use Rattle.sheets.specs.RowBlocks.{every-All, All-imply, All-both}
+use Rattle.rules.specs.Lists.{every-all, all-mono, all-both}
 use Rattle.sheets.specs.WrittenSections.{just, sizes-exact, EquationRight, equations-exact, RelationGood, relations-exact}
 use Rattle.sheets.specs.WrittenOrder.{OrderRight, order-exact}
 
@@ -147,7 +147,7 @@ sections-exact =
             (
               (
                 v .row-count,
-                All-both StoreRow (λ r. T (rowRight z r)) (x .rows) (v .row-shapes) (every-All (rowRight z) (x .rows) .0 (v .rows-right)),
+                all-both StoreRow (λ r. T (rowRight z r)) (x .rows) (v .row-shapes) (every-all (rowRight z) (x .rows) .0 (v .rows-right)),
               ),
               (
                 between-iff (pos 0) (pos mostRelations) (pos (length (x .relations))) .1
@@ -155,8 +155,8 @@ sections-exact =
                 (
                   (
                     refl,
-                    All-both (λ e. StoreRow (e .row)) (λ e. T (relationRight z e)) (x .relations) (v .relation-shapes)
-                        (every-All (relationRight z) (x .relations) .0 (v .relations-right)),
+                    all-both (λ e. StoreRow (e .row)) (λ e. T (relationRight z e)) (x .relations) (v .relation-shapes)
+                        (every-all (relationRight z) (x .relations) .0 (v .relations-right)),
                   ),
                   (h .order-right, refl),
                 ),
@@ -174,14 +174,14 @@ sections-exact =
           valid = record {
             sizes = h .0;
             row-count = h .1 .1 .0 .0;
-            row-shapes = All-imply (EquationRight z) StoreRow (λ r i. i .0) (x .rows) rows;
-            rows-right = every-All (rowRight z) (x .rows) .1
-                (All-imply (EquationRight z) (λ r. T (rowRight z r)) (λ r i. i .1) (x .rows) rows);
+            row-shapes = all-mono (EquationRight z) StoreRow (λ r i. i .0) (x .rows) rows;
+            rows-right = every-all (rowRight z) (x .rows) .1
+                (all-mono (EquationRight z) (λ r. T (rowRight z r)) (λ r i. i .1) (x .rows) rows);
             relation-count = countRight-iff (length (x .relations)) .1
                 (pos-≤ℤ .0 (between-iff (pos 0) (pos mostRelations) _ .0 (h .1 .1 .1 .0) .1));
-            relation-shapes = All-imply (RelationGood z) (λ e. StoreRow (e .row)) (λ e i. i .0) (x .relations) relations;
-            relations-right = every-All (relationRight z) (x .relations) .1
-                (All-imply (RelationGood z) (λ e. T (relationRight z e)) (λ e i. i .1) (x .relations) relations);
+            relation-shapes = all-mono (RelationGood z) (λ e. StoreRow (e .row)) (λ e i. i .0) (x .relations) relations;
+            relations-right = every-all (relationRight z) (x .relations) .1
+                (all-mono (RelationGood z) (λ e. T (relationRight z e)) (λ e i. i .1) (x .relations) relations);
           };
           order-right = h .1 .1 .1 .1 .1 .0;
         }

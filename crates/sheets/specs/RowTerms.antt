@@ -27,14 +27,16 @@ use Rattle.algebra.specs.Order.{pos-<ℤ}
 use Rattle.algebra.specs.Polynomials.{Polynomial, isZero}
 use Rattle.rules.specs.Limits.{coefficientCount, columnCount, blockCount, small}
 use Rattle.rules.specs.Rows.{Block, Row, All, every, zeroBlock}
+use Rattle.rules.specs.Lists.{all-set, all-getD, cond-passed}
 use Rattle.rules.specs.Stores.{Sizes, span, Shaped, StoreRow}
 use Rattle.rules.specs.Layout.{SizeBounds, block-place}
 use Rattle.rules.specs.Calls.{padTo}
 use Rattle.rules.specs.Sheets.{Term, trim, blankRow, rowOfTerms, blockTerms, termsFrom}
-use Rattle.sheets.specs.WrittenNumbers.{cond-passed, cond-failed, every-cons}
-use Rattle.sheets.specs.RowBlocks.{All-set, All-getD, All-replicate, StorePolynomial, BlockRight, StoreBlock, RowRight}
+use Rattle.writing.specs.Writer.{trim-none}
+use Rattle.sheets.specs.WrittenNumbers.{cond-not, every-cons}
+use Rattle.sheets.specs.RowBlocks.{all-replicate, StorePolynomial, BlockRight, StoreBlock, RowRight}
 use Rattle.sheets.specs.WrittenTerms.{TermRight, Ordered, judgeBlock-iff, judgeColumn-iff}
-use Rattle.sheets.specs.Trimmed.{trim-zero, zero-or-not, length-padTo, padTo-trim, trim-padTo, padTo-nonzero, small-padTo}
+use Rattle.sheets.specs.Trimmed.{zero-or-not, length-padTo, padTo-trim, trim-padTo, padTo-nonzero, small-padTo}
 
 -- ---- blocks counted down from l
 
@@ -71,17 +73,17 @@ RowRight-put : (z : Sizes) (bs : List Block) (k c : ℕ) (p : Polynomial) → k 
 RowRight-put z bs k c p inside used column h r =
     record {
       count = length-set bs k _ ∙ r .count;
-      each = All-set (BlockRight (z .m)) bs k _ (r .each) block;
+      each = all-set (BlockRight (z .m)) bs k _ block (r .each);
       below = rw (drop-set-lt (suc (span z)) bs k _ (suc-le-suc used)) (r .below);
     }
   where
     old : BlockRight (z .m) (getD bs k [])
-    old = All-getD (BlockRight (z .m)) bs k [] (rw (r .count) inside) (r .each)
+    old = all-getD (BlockRight (z .m)) bs [] k (rw (r .count) inside) (r .each)
 
     block : BlockRight (z .m) (set (getD bs k []) c p)
     block = (
       length-set (getD bs k []) c p ∙ old .0,
-      All-set StorePolynomial (getD bs k []) c p (old .1) h,
+      all-set StorePolynomial (getD bs k []) c p h (old .1),
       rw (drop-set-lt (z .m) (getD bs k []) c p column) (old .2),
     )
 
@@ -131,7 +133,7 @@ blockTerms-zero s c p b h = cond-passed (isZero p) _ _ h
 pub blockTerms-nonzero : (s : ℤ) (c : ℕ) (p : Polynomial) (b : Block) → T (not (isZero p))
     → blockTerms s c (p ∷ b) ≡ record { block = s; column = c; polynomial = trim p } ∷ blockTerms s (suc c) b
 unfolding blockTerms
-blockTerms-nonzero s c p b h = cond-failed (isZero p) _ _ h
+blockTerms-nonzero s c p b h = cond-not (isZero p) _ _ h
 
 pub blockTerms-none : (s : ℤ) (c : ℕ) (b : Block) → ((j : ℕ) → T (isZero (getD b j []))) → blockTerms s c b ≡ []
 unfolding blockTerms
@@ -217,7 +219,7 @@ unfolding blankRow every small zeroBlock
 RowRight-blank z =
     record {
       count = refl;
-      each = All-replicate (BlockRight (z .m)) blockCount blank block;
+      each = all-replicate (BlockRight (z .m)) blockCount blank block;
       below = every-drop zeroBlock (suc (span z)) (replicate blockCount blank) zeros;
     }
   where
@@ -225,7 +227,7 @@ RowRight-blank z =
     blank = replicate columnCount (replicate coefficientCount (pos 0))
 
     block : BlockRight (z .m) blank
-    block = (refl, All-replicate StorePolynomial columnCount _ (refl, tt), every-drop isZero (z .m) blank tt)
+    block = (refl, all-replicate StorePolynomial columnCount _ (refl, tt), every-drop isZero (z .m) blank tt)
 
     zeros : T (every zeroBlock (replicate blockCount blank))
     zeros = tt
@@ -310,7 +312,7 @@ module _ (z : Sizes) (s₀ : ℤ) (c₀ : ℕ) (e : Term) (es : List Term) (b : 
 
   columns-long : across < length (getD row down [])
   columns-long =
-      rw (All-getD (BlockRight (z .m)) row down [] rows-long (held .right .each) .0, column-suc) (le-trans (a .last) (b .few))
+      rw (all-getD (BlockRight (z .m)) row [] down rows-long (held .right .each) .0, column-suc) (le-trans (a .last) (b .few))
 
   put-right : RowRight z (putAt down across padded row)
   put-right =
@@ -377,7 +379,7 @@ putAt-seam F G q b B p k c h i =
 
 zero-zeros : (p : Polynomial) → length p ≡ coefficientCount → T (isZero p) → zeros ≡ p
 unfolding padTo
-zero-zeros p h z = ap (padTo coefficientCount (pos 0)) (sym (trim-zero p z)) ∙ padTo-trim coefficientCount p h
+zero-zeros p h z = ap (padTo coefficientCount (pos 0)) (sym (trim-none p z)) ∙ padTo-trim coefficientCount p h
 
 -- The terms of a block, from column j on, put into a row whose block of that number has zeros there.
 module _ (l s : ℤ) (F B : List Block) (place : length F ≡ depth l s) where

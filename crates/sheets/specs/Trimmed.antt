@@ -1,7 +1,7 @@
 -- Polynomials without their high zeros, and with zeros up to a length.
 --
 -- Main statements
---   trim-some, length-trim, Sound-trim     a nonzero polynomial without its high zeros is as a term of a sheet has it
+--   trim-some, Sound-trim                  a nonzero polynomial without its high zeros is as a term of a sheet has it
 --   padTo-trim, trim-padTo                 high zeros taken off and put on again, and the other way round
 --   padTo-nonzero, small-padTo             what a term gives the row is not zero, and small
 use Prim.Native.Nat.{ℕ, zero, suc, _≤_, zero-le, suc-le-suc}
@@ -17,17 +17,13 @@ use Rattle.rules.specs.Limits.{small}
 use Rattle.rules.specs.Rows.{every}
 use Rattle.rules.specs.Calls.{padTo}
 use Rattle.rules.specs.Sheets.{trim}
-use Rattle.sheets.specs.WrittenNumbers.{cond-passed, cond-failed, every-cons}
+use Rattle.writing.specs.Writer.{trim-none}
+use Rattle.sheets.specs.WrittenNumbers.{cond-not, every-cons}
 use Rattle.sheets.specs.WrittenTerms.{Sound, coefficientJudge, judgeLast-iff, judgeSmall-iff}
-
-pub trim-zero : (p : Polynomial) → T (isZero p) → trim p ≡ []
-unfolding trim
-trim-zero [] h = refl
-trim-zero (a ∷ p) h = cond-passed (isZero (a ∷ p)) _ _ h
 
 trim-nonzero : (a : ℤ) (p : Polynomial) → T (not (isZero (a ∷ p))) → trim (a ∷ p) ≡ a ∷ trim p
 unfolding trim
-trim-nonzero a p h = cond-failed (isZero (a ∷ p)) _ _ h
+trim-nonzero a p h = cond-not (isZero (a ∷ p)) _ _ h
 
 -- A polynomial is zero or not.
 pub zero-or-not : {C : Type 0} (p : Polynomial) → (T (isZero p) → C) → (T (not (isZero p)) → C) → C
@@ -40,12 +36,7 @@ zero-or-not {C} p = go (isZero p)
 trim-cons : (P : Polynomial → Type 0) (a : ℤ) (p : Polynomial) → (T (isZero (a ∷ p)) → P [])
     → (T (not (isZero (a ∷ p))) → P (a ∷ trim p)) → P (trim (a ∷ p))
 trim-cons P a p f g =
-    zero-or-not (a ∷ p) (λ h. subst P (sym (trim-zero (a ∷ p) h)) (f h)) (λ h. subst P (sym (trim-nonzero a p h)) (g h))
-
-pub length-trim : (p : Polynomial) → length (trim p) ≤ length p
-unfolding trim
-length-trim [] = zero-le
-length-trim (a ∷ p) = trim-cons (λ q. length q ≤ suc (length p)) a p (λ _. zero-le) (λ _. suc-le-suc (length-trim p))
+    zero-or-not (a ∷ p) (λ h. subst P (sym (trim-none (a ∷ p) h)) (f h)) (λ h. subst P (sym (trim-nonzero a p h)) (g h))
 
 pub trim-some : (p : Polynomial) → T (not (isZero p)) → 1 ≤ length (trim p)
 unfolding isZero
@@ -59,7 +50,7 @@ trim-judged a p h n = zero-or-not p last (λ i. before (length (trim p)) (trim-s
   where
     last : T (isZero p) → coefficientJudge (length (trim p)) a ≡ 0
     last z =
-        ap (λ q. coefficientJudge (length q) a) (trim-zero p z)
+        ap (λ q. coefficientJudge (length q) a) (trim-none p z)
         ∙ judgeLast-iff a .1 (h, isZeroℤ-not-iff a .1 (λ e. T-not (isZero (a ∷ p)) n (isZero-cons a p .1 (e, z))))
 
     before : (k : ℕ) → 1 ≤ k → coefficientJudge k a ≡ 0
@@ -89,7 +80,7 @@ padTo-trim (suc n) (a ∷ p) h = go (padTo-trim n p (suc-inj h))
     go : padTo n (pos 0) (trim p) ≡ p → padTo (suc n) (pos 0) (trim (a ∷ p)) ≡ a ∷ p
     go e =
         trim-cons (λ q. padTo (suc n) (pos 0) q ≡ a ∷ p) a p
-        (λ z. let f = isZero-cons a p .0 z in ap₂ (λ x l. x ∷ l) (sym (f .0)) (ap (padTo n (pos 0)) (sym (trim-zero p (f .1))) ∙ e))
+        (λ z. let f = isZero-cons a p .0 z in ap₂ (λ x l. x ∷ l) (sym (f .0)) (ap (padTo n (pos 0)) (sym (trim-none p (f .1))) ∙ e))
         (λ _. ap (λ l. a ∷ l) e)
 
 isZero-padTo : (n : ℕ) → T (isZero (padTo n (pos 0) []))
@@ -104,18 +95,18 @@ keeps-first a [] q j e =
     trim-nonzero a q (not-T (isZero (a ∷ q)) (λ z. isZeroℤ-not-iff a .0 (judgeLast-iff a .0 j .1) (isZero-cons a q .0 z .0)))
     ∙ ap (λ l. a ∷ l) e
 keeps-first a (b ∷ p) q j e =
-    trim-nonzero a q (not-T (isZero (a ∷ q)) (λ z. nil≢cons (sym (trim-zero q (isZero-cons a q .0 z .1)) ∙ e))) ∙ ap (λ l. a ∷ l) e
+    trim-nonzero a q (not-T (isZero (a ∷ q)) (λ z. nil≢cons (sym (trim-none q (isZero-cons a q .0 z .1)) ∙ e))) ∙ ap (λ l. a ∷ l) e
 
 pub trim-padTo : (n : ℕ) (p : Polynomial) → Sound p → length p ≤ n → trim (padTo n (pos 0) p) ≡ p
 unfolding padTo Sound
-trim-padTo n [] h i = trim-zero (padTo n (pos 0) []) (isZero-padTo n)
+trim-padTo n [] h i = trim-none (padTo n (pos 0) []) (isZero-padTo n)
 trim-padTo zero (a ∷ p) h i = absurd (not-suc-le-zero i)
 trim-padTo (suc n) (a ∷ p) h i = keeps-first a p (padTo n (pos 0) p) (h .0) (trim-padTo n p (h .1) (le-of-suc-le-suc i))
 
 pub padTo-nonzero : (n : ℕ) (p : Polynomial) → Sound p → 1 ≤ length p → length p ≤ n → T (not (isZero (padTo n (pos 0) p)))
 padTo-nonzero n [] h i j = absurd (not-suc-le-zero i)
 padTo-nonzero n (a ∷ p) h i j =
-    not-T (isZero (padTo n (pos 0) (a ∷ p))) (λ z. nil≢cons (sym (trim-zero (padTo n (pos 0) (a ∷ p)) z) ∙ trim-padTo n (a ∷ p) h j))
+    not-T (isZero (padTo n (pos 0) (a ∷ p))) (λ z. nil≢cons (sym (trim-none (padTo n (pos 0) (a ∷ p)) z) ∙ trim-padTo n (a ∷ p) h j))
 
 small-zero : T (small (pos 0))
 unfolding small

@@ -18,18 +18,15 @@ use lib.ListN.{length}
 use lib.IntN.{ℤ, pos, negsuc, negℤ, natAbs}
 use Rattle.algebra.specs.Polynomials.{T-&&}
 use Rattle.rules.specs.Rows.{every}
+use Rattle.rules.specs.Lists.{cond-passed}
 use Rattle.rules.specs.Numbers.{space, newline, minus, isSeparator, word, afterWord, isDigit, signed, digits, startsRight, isNumber}
 use Rattle.rules.specs.Numbers.{valueFrom, numberOf, decimalWithin, decimal}
 
 -- ---- tests
 
-pub cond-passed : {A : Type 0} (t : Bool) (a b : A) → T t → cond t a b ≡ a
-cond-passed true a b h = refl
-cond-passed false a b h = absurd h
-
-pub cond-failed : {A : Type 0} (t : Bool) (a b : A) → T (not t) → cond t a b ≡ b
-cond-failed true a b h = absurd h
-cond-failed false a b h = refl
+pub cond-not : {A : Type 0} (t : Bool) (a b : A) → T (not t) → cond t a b ≡ b
+cond-not true a b h = absurd h
+cond-not false a b h = refl
 
 -- Two values that agree where the test fails.
 cond-else : {A : Type 0} (t : Bool) (a b c : A) → (T (not t) → b ≡ c) → cond t a b ≡ cond t a c
@@ -42,7 +39,7 @@ cond-else false a b c e = e tt
 decimalWithin-tens : (k n : ℕ) (written : List ℕ) → 10 ≤ n
     → decimalWithin (suc k) n written ≡ decimalWithin k (n / 10) ((48 + n % 10) ∷ written)
 unfolding decimalWithin
-decimalWithin-tens k n written h = cond-failed (ltb n 10) _ _ (not-T (ltb n 10) (λ i. not-lt (ltb→lt n 10 i)))
+decimalWithin-tens k n written h = cond-not (ltb n 10) _ _ (not-T (ltb n 10) (λ i. not-lt (ltb→lt n 10 i)))
   where
     not-lt : n < 10 → ⊥
     not-lt i = omega arith
@@ -412,7 +409,7 @@ unfolding word inWord
 word-append [] b rest h i = cond-passed (isSeparator b) _ _ i
 word-append (c ∷ w) b rest h i =
     let e = every-cons inWord c w .0 h in
-    cond-failed (isSeparator c) _ _ (e .0) ∙ ap (λ l. c ∷ l) (word-append w b rest (e .1) i)
+    cond-not (isSeparator c) _ _ (e .0) ∙ ap (λ l. c ∷ l) (word-append w b rest (e .1) i)
 
 afterWord-append : (w : List ℕ) (b : ℕ) (rest : List ℕ) → T (every inWord w) → T (isSeparator b)
     → afterWord (w ++ (b ∷ rest)) ≡ b ∷ rest
@@ -420,7 +417,7 @@ unfolding afterWord inWord
 afterWord-append [] b rest h i = cond-passed (isSeparator b) _ _ i
 afterWord-append (c ∷ w) b rest h i =
     let e = every-cons inWord c w .0 h in
-    cond-failed (isSeparator c) _ _ (e .0) ∙ afterWord-append w b rest (e .1) i
+    cond-not (isSeparator c) _ _ (e .0) ∙ afterWord-append w b rest (e .1) i
 
 pub word-decimal : (a : ℤ) (b : ℕ) (rest : List ℕ) → T (isSeparator b) → word (decimal a ++ (b ∷ rest)) ≡ decimal a
 word-decimal a b rest h = word-append (decimal a) b rest (decimal-inWord a) h

@@ -1,3 +1,24 @@
 // Sheets read into lent stores and written from them. `read_sheet` and `write_sheet` are the public entry points: no
 // `requires`, and a contract that gives the result and every lent store by equations with `rules`.
-pub mod writer;
+ghost use mathlib.Core.Path.{_≡_};
+ghost use Rattle.rules.specs.SheetCalls.{writeCall};
+ghost use Rattle.rows.specs.Validity.{sizesOf};
+ghost use Rattle.writing.specs.WriterChecks.{callOf};
+pub use writing::writer::WriteResult;
+
+// The system of the stores and its column order as a sheet: all four numbers of the order 0 for none, otherwise a permutation of
+// 1..m and zeros past its end. Nothing is written on a refusal, and bytes past the length stay.
+pub fn write_sheet(
+    rows: &[i64],
+    relations: &[i64],
+    sizes: rows::validity::Sizes,
+    count: usize,
+    order: [usize; 4],
+    bytes: &mut [u8],
+) -> WriteResult
+    ensures { λ r. ⌜
+        callOf r (now (bytes .exit))
+        ≡ writeCall (sizesOf sizes) count order (now (rows .entry)) (now (relations .entry)) (now (bytes .entry)) ⌝ }
+{
+    writing::writer::write_sheet(rows, relations, sizes, count, order, bytes)
+}

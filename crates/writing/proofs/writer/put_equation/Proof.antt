@@ -1,0 +1,51 @@
+-- `writing::writer::put_equation` meets its contract: the number of terms, the terms, and the end of the line.
+-- Assumes nothing.
+use mathlib.Core.Path.{_∙_, ap₂}
+use mathlib.Core.List.{List, [], _∷_, _++_}
+use Prim.Native.Nat.{ℕ}
+use denote.Ref.{now}
+use lib.IntN.{ℤ}
+use mir.Facts.{toZ-ofZ}
+use Rattle.rules.specs.Numbers.{newline}
+use Rattle.rules.specs.Sheets.{termsFrom}
+use Rattle.rules.specs.Stores.{rowOf}
+use Rattle.writing.specs.Writer.{put-same, put-then, digitsOf, spaced, numbersOf, equation-line}
+use borrow.Author.Needs.{needs}
+use Rattle.writing.proofs.writer.put_equation.Statement.{statement}
+use Rattle.writing.proofs.writer.put_equation.Tie as tie
+
+term-count-requires : tie.Need-term-count-requires
+term-count-requires c κs = search needs
+
+put-digits-requires : tie.Need-put-digits-requires
+put-digits-requires c κs = search needs
+
+put-terms-requires : tie.Need-put-terms-requires
+put-terms-requires c κs = search needs
+
+put-byte-requires : tie.Need-put-byte-requires
+put-byte-requires c κs = search needs
+
+same-length : tie.Need-same-length
+same-length c = search needs
+
+returns : tie.Need-returns
+returns c =
+    let written = c .before .before .before .before .before .before in
+    let counted = written .before .before .before .before in
+    let start = counted .before .before .before .before in
+    let row = now (start .args .row) in
+    let bytes : ℕ → ℤ → List ℕ = λ n l. (digitsOf n ++ spaced (numbersOf (termsFrom l (rowOf row .blocks)))) ++ (newline ∷ []) in
+    put-same (put-then (put-then (counted .put-digits .ensures) (written .put-terms .ensures)) (c .before .before .put-byte .ensures))
+    (ap₂ bytes (counted .before .term-count .ensures) (toZ-ofZ (start .fits .l)) ∙ equation-line (start .args .l) row)
+
+pub put-equation-spec : {M : Type 1} → statement M
+put-equation-spec =
+    tie.close
+    (tie.spec
+    term-count-requires
+    put-digits-requires
+    put-terms-requires
+    put-byte-requires
+    same-length
+    returns)

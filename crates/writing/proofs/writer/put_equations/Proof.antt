@@ -1,0 +1,107 @@
+-- `writing::writer::put_equations` meets its contract. The loop's invariant: the lines from i on are still to be written.
+-- Assumes nothing.
+use mathlib.Core.Path.{_≡_, refl, ap}
+use mathlib.Core.List.{map}
+use Prim.Native.Nat.{_+_, _*_, _-_, _≤_}
+use native.Mathlib.Omega.{arith}
+use denote.Ref.{now}
+use lib.ListN.{take, drop}
+use mir.Syntax.{w64}
+use mir.Val.{toZ, ofZ}
+use mir.Facts.{toZ-ofZ}
+use Rattle.rules.specs.Numbers.{line, lines}
+use Rattle.rules.specs.Sheets.{equationNumbers}
+use Rattle.rules.specs.Stores.{rowOf, rowsOf}
+use Rattle.writing.specs.Writer.{Going, going-first, going-next, going-last, put-same, lines-next, lines-end}
+use borrow.Author.Needs.{needs}
+use Rattle.writing.proofs.writer.put_equations.Statement.{statement}
+use Rattle.writing.proofs.writer.put_equations.Tie as tie
+
+abbrev Inv-loop : tie.InvT-loop
+Inv-loop bytes₀ at rows m l next₀ i₀ bytes next i =
+    (i ≤ m)
+    × Going bytes₀ at (lines (map (equationNumbers (toZ w64 l)) (rowsOf m rows))) bytes next
+    (lines (map (equationNumbers (toZ w64 l)) (drop i (rowsOf m rows)))) (8341 * i)
+
+abbrev μ-loop : tie.MeasureT-loop
+μ-loop bytes₀ at rows m l next₀ i₀ bytes next i = m - i
+
+loop-holds : tie.Need-loop-holds Inv-loop μ-loop
+loop-holds c = (omega arith, going-first refl)
+
+mul-from : tie.Need-mul-from Inv-loop μ-loop
+mul-from c = search needs
+
+add-to : tie.Need-add-to Inv-loop μ-loop
+add-to c = search needs
+
+mul-put-equation : tie.Need-mul-put-equation Inv-loop μ-loop
+mul-put-equation c = search needs
+
+sub-put-equation : tie.Need-sub-put-equation Inv-loop μ-loop
+sub-put-equation c = search needs
+
+part-put-equation-start : tie.Need-part-put-equation-start Inv-loop μ-loop
+part-put-equation-start c = search needs
+
+part-put-equation-end : tie.Need-part-put-equation-end Inv-loop μ-loop
+part-put-equation-end c = search needs
+
+put-equation-requires : tie.Need-put-equation-requires Inv-loop μ-loop
+put-equation-requires c κs =
+    let start = c .before .before .before .before .before in
+    (search needs, rw (toZ-ofZ (start .fits .l)) (start .pre .2), search needs)
+
+add-i : tie.Need-add-i Inv-loop μ-loop
+add-i c = search needs
+
+loop-less : tie.Need-loop-less Inv-loop μ-loop
+loop-less c = search needs
+
+loop-again : tie.Need-loop-again Inv-loop μ-loop
+unfolding rowsOf
+loop-again c =
+    let turn = c .before .before .before .before .before in
+    let args = turn .before .before .before .args in
+    let store = now (args .rows) in
+    let i = turn .before .loop .i in
+    let l = toZ w64 (ofZ w64 (args .l)) in
+    let width : i * 320 + 320 - i * 320 ≡ 320 = omega arith in
+    let part = ap (λ n. line (equationNumbers l (rowOf (take n (drop (i * 320) store))))) width in (
+      omega arith,
+      going-next (turn .before .loop .inv .1) (lines-next (equationNumbers l) rowOf 320 (args .m) store i (turn .loop-test .taken))
+          (put-same (c .before .before .put-equation .ensures) part) (omega arith),
+    )
+
+same-length : tie.Need-same-length Inv-loop μ-loop
+same-length c = search needs
+
+returns : tie.Need-returns Inv-loop μ-loop
+unfolding rowsOf
+returns c =
+    let args = c .before .before .before .args in
+    let store = now (args .rows) in
+    let written = equationNumbers (toZ w64 (ofZ w64 (args .l))) in
+    let none = lines-end written rowOf 320 (args .m) store (c .before .loop .i) (c .loop-test .left) in
+    put-same (going-last (c .before .loop .inv .1) none (omega arith))
+    (ap (λ l. lines (map (equationNumbers l) (rowsOf (args .m) store))) (toZ-ofZ (c .before .before .before .fits .l)))
+
+pub put-equations-spec : {M : Type 1} → statement M
+put-equations-spec =
+    tie.close
+    (tie.spec
+    Inv-loop
+    μ-loop
+    loop-holds
+    mul-from
+    add-to
+    mul-put-equation
+    sub-put-equation
+    part-put-equation-start
+    part-put-equation-end
+    put-equation-requires
+    add-i
+    loop-less
+    loop-again
+    same-length
+    returns)

@@ -1,0 +1,90 @@
+-- `writing::writer::put_relation` meets its contract: n0, the number of terms, the terms, and the end of the line.
+-- Assumes nothing.
+use mathlib.Core.Path.{_≡_, _∙_, ap₂}
+use mathlib.Core.List.{List, [], _∷_, _++_}
+use Prim.Native.Nat.{ℕ, _-_}
+use native.Mathlib.Nat.{le-refl}
+use denote.Ref.{now}
+use lib.IntN.{ℤ, pos}
+use lib.ListN.{length, take, drop, getD, length-drop}
+use lib.Seq.{take-all}
+use mir.Syntax.{w64}
+use mir.Val.{SFits, toZ, ofZ}
+use mir.Facts.{toZ-ofZ}
+use Rattle.rules.specs.Numbers.{newline, decimal}
+use Rattle.rules.specs.Sheets.{termsFrom}
+use Rattle.rules.specs.Stores.{parts, rowOf}
+use Rattle.writing.specs.Writer.{put-same, put-then, spaced-then, spaced, numbersOf, nonzeroCount, relation-line}
+use borrow.Author.Needs.{needs, sfits-of}
+use Rattle.writing.proofs.writer.put_relation.Statement.{statement}
+use Rattle.writing.proofs.writer.put_relation.Tie as tie
+
+sub-row : tie.Need-sub-row
+sub-row c = search needs
+
+part-row-start : tie.Need-part-row-start
+part-row-start c = search needs
+
+part-row-end : tie.Need-part-row-end
+part-row-end c = search needs
+
+shared-slice-copy-out-put-number : tie.Need-shared-slice-copy-out-put-number
+shared-slice-copy-out-put-number c = search needs
+
+put-number-requires : tie.Need-put-number-requires
+put-number-requires c κs = search needs
+
+term-count-requires : tie.Need-term-count-requires
+term-count-requires c κs = search needs
+
+put-next-count-requires : tie.Need-put-next-count-requires
+put-next-count-requires c κs = search needs
+
+put-terms-requires : tie.Need-put-terms-requires
+put-terms-requires c κs =
+    let start = c .before .before .before .before .before .before .before .before .before .before .before .before .before in
+    (search needs, rw (toZ-ofZ (start .fits .l)) (start .pre .1), search needs)
+
+put-byte-requires : tie.Need-put-byte-requires
+put-byte-requires c κs = search needs
+
+same-length : tie.Need-same-length
+same-length c = search needs
+
+returns : tie.Need-returns
+returns c =
+    let written = c .before .before .before .before .before .before in
+    let counted = written .before .before .before .before in
+    let indexed = counted .before .before .before .before .before in
+    let start = indexed .before .before .before .before .before in
+    let numbers = now (start .args .numbers) in
+    let terms : List ℤ → ℤ → List ℤ = λ row l. numbersOf (termsFrom l (rowOf row .blocks)) in
+    let bytes : ℤ → ℕ → List ℤ → ℤ → List ℕ = λ a n row l. (decimal a ++ spaced (pos n ∷ terms row l)) ++ (newline ∷ []) in
+    let read : SFits w64 (getD numbers 0 (pos 0)) = sfits-of (indexed .before .put-number-arg2 .given) in
+    let part = take (length numbers - 1) (drop 1 numbers) in
+    let read-l = toZ w64 (ofZ w64 (start .args .l)) in
+    let rest : part ≡ drop 1 numbers = take-all (length numbers - 1) (drop 1 numbers) (rw length-drop (le-refl _)) in
+    put-same
+    (put-then
+    (put-then (indexed .put-number .ensures)
+    (spaced-then (_ ∷ []) (terms part read-l) (counted .put-next-count .ensures) (written .put-terms .ensures)))
+    (c .before .before .put-byte .ensures))
+    (ap₂ (λ a n. bytes a n part read-l) (toZ-ofZ read) (counted .before .term-count .ensures)
+    ∙ ap₂ (λ row l. bytes (getD numbers 0 (pos 0)) (nonzeroCount (parts 16 20 row)) row l) rest (toZ-ofZ (start .fits .l))
+    ∙ relation-line (start .args .l) numbers)
+
+pub put-relation-spec : {M : Type 1} → statement M
+put-relation-spec =
+    tie.close
+    (tie.spec
+    sub-row
+    part-row-start
+    part-row-end
+    shared-slice-copy-out-put-number
+    put-number-requires
+    term-count-requires
+    put-next-count-requires
+    put-terms-requires
+    put-byte-requires
+    same-length
+    returns)

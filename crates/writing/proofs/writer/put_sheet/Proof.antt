@@ -1,0 +1,104 @@
+-- `writing::writer::put_sheet` meets its contract: the six parts of a sheet, one after the other.
+-- Assumes nothing.
+use mathlib.Core.Path.{_≡_, _∙_, ap₂}
+use mathlib.Core.List.{List, [], _∷_, _++_, map}
+use Prim.Native.Nat.{ℕ, _≤_}
+use borrow.Author.Needs.{needs, sfits-of}
+use denote.Ref.{now}
+use lib.IntN.{ℤ, pos, natAbs}
+use mir.Syntax.{w64}
+use mir.Val.{toZ, ofZ}
+use mir.Facts.{toZ-ofZ}
+use Rattle.rules.specs.Numbers.{line, lines}
+use Rattle.rules.specs.Sheets.{equationNumbers, relationLine, orderLine}
+use Rattle.rules.specs.Stores.{rowsOf, relationsOf}
+use Rattle.rows.specs.Validity.{sizesOf}
+use Rattle.writing.specs.Writer.{put-same, put-then, sheet-bytes}
+use Rattle.writing.proofs.writer.put_sheet.Statement.{statement}
+use Rattle.writing.proofs.writer.put_sheet.Tie as tie
+
+-- l and t, as the calls read them
+module _ (c : tie.After-struct-told) where
+  abbrev l : ℤ
+  l = c .before .before .before .args .sizes .l
+
+  abbrev t : ℤ
+  t = c .before .before .before .args .sizes .t
+
+  back-l : toZ w64 (ofZ w64 l) ≡ l
+  back-l = toZ-ofZ {w = w64} {z = l} (sfits-of (c .struct-told .given .1 .0 .1))
+
+  back-t : toZ w64 (ofZ w64 t) ≡ t
+  back-t = toZ-ofZ {w = w64} {z = t} (sfits-of (c .struct-told .given .1 .1 .0 .1))
+
+  small : natAbs (toZ w64 (ofZ w64 l)) ≤ 64
+  unfolding sizesOf
+  small = rw back-l (c .before .before .before .pre .0 .blocks)
+
+put-sizes-requires : tie.Need-put-sizes-requires
+put-sizes-requires c κs = search needs
+
+put-count-requires : tie.Need-put-count-requires
+put-count-requires c κs = search needs
+
+put-equations-requires : tie.Need-put-equations-requires
+unfolding sizesOf
+put-equations-requires c κs =
+    let told = c .before .before .before .before .before .before .before .before .before .before in
+    let ready = told .before .before .before .pre .0 in
+    (ready .columns, ready .rows, small told, search needs)
+
+put-count-requires-2 : tie.Need-put-count-requires-2
+put-count-requires-2 c κs = search needs
+
+put-relations-requires : tie.Need-put-relations-requires
+unfolding sizesOf
+put-relations-requires c κs =
+    let after-rows = c .before .before .before .before .before .before .before .before in
+    let told = after-rows .before .before .before .before .before .before .before .before .before .before in
+    let ready = told .before .before .before .pre .0 in
+    (ready .few, ready .relations, small told, search needs)
+
+put-order-requires : tie.Need-put-order-requires
+put-order-requires c κs = search needs
+
+same-length : tie.Need-same-length
+same-length c = search needs
+
+returns : tie.Need-returns
+unfolding sizesOf
+returns c =
+    let after-relations = c .before .before .before .before .before .before in
+    let after-count = after-relations .before .before .before .before in
+    let after-rows = after-count .before .before .before .before in
+    let after-m = after-rows .before .before .before .before in
+    let after-sizes = after-m .before .before .before .before in
+    let told = after-sizes .before .before .before in
+    let args = told .before .before .before .args in
+    let m = args .sizes .m in
+    let bytes : ℤ → ℤ → List ℕ = λ l t.
+    line (pos 3 ∷ pos m ∷ l ∷ t ∷ [])
+    ++ (line (pos m ∷ []) ++ (lines (map (equationNumbers l) (rowsOf m (now (args .rows))))
+    ++ (line (pos (args .count) ∷ []) ++ (lines (map (relationLine l) (relationsOf (args .count) (now (args .relations))))
+    ++ line (orderLine (now (args .columns))))))) in
+    put-same
+    (put-then (after-sizes .put-sizes .ensures)
+    (put-then (after-m .put-count .ensures)
+    (put-then (after-rows .put-equations .ensures)
+    (put-then (after-count .put-count2 .ensures)
+    (put-then (after-relations .put-relations .ensures) (c .before .before .put-order .ensures))))))
+    (ap₂ bytes (back-l told) (back-t told)
+    ∙ sheet-bytes (sizesOf (args .sizes)) (args .count) (now (args .columns)) (now (args .rows)) (now (args .relations)))
+
+pub put-sheet-spec : {M : Type 1} → statement M
+put-sheet-spec =
+    tie.close
+    (tie.spec
+    put-sizes-requires
+    put-count-requires
+    put-equations-requires
+    put-count-requires-2
+    put-relations-requires
+    put-order-requires
+    same-length
+    returns)

@@ -1,0 +1,93 @@
+-- `writing::writer::put_term` meets its contract. A term is its block, its column, the number of its coefficients and those.
+-- Assumes nothing.
+use mathlib.Core.Path.{_≡_, sym, _∙_, ap}
+use mathlib.Core.List.{List, [], _∷_}
+use Prim.Native.Nat.{ℕ, _+_, _*_, _≤_}
+use native.Mathlib.Omega.{arith}
+use denote.Ref.{now}
+use lib.IntN.{ℤ, pos}
+use lib.ListN.{length, take}
+use lib.Seq.{length-take-le}
+use mir.Facts.{toZ-ofZ}
+use Rattle.writing.specs.Writer.{trim-le, term-none, term-some, spaced, spaced-then, put-none, put-same, put-wide}
+use borrow.Author.Needs.{needs}
+use Rattle.writing.proofs.writer.put_term.Statement.{statement}
+use Rattle.writing.proofs.writer.put_term.Tie as tie
+
+-- the coefficients that are written
+module _ (c : tie.After-trimmed) where
+  abbrev p : List ℤ
+  p = now (c .before .before .args .p)
+
+  abbrev n : ℕ
+  n = c .trimmed .result
+
+  few : n ≤ length p
+  few = omega (arith, trim-le p, c .trimmed .ensures)
+
+  size : length (take n p) ≡ n
+  size = length-take-le n p few
+
+trimmed-requires : tie.Need-trimmed-requires
+trimmed-requires c κs = search needs
+
+returns : tie.Need-returns
+unfolding spaced
+returns c =
+    let args = c .before .before .before .args in
+    put-none (ap spaced (term-none (args .block) (args .column) (p (c .before)) (sym (c .before .trimmed .ensures) ∙ c .if1 .taken)))
+
+put-next-requires : tie.Need-put-next-requires
+put-next-requires c κs = search needs
+
+put-next-count-requires : tie.Need-put-next-count-requires
+put-next-count-requires c κs = search needs
+
+put-next-count-requires-2 : tie.Need-put-next-count-requires-2
+put-next-count-requires-2 c κs = search needs
+
+slice-aggregate-put-numbers : tie.Need-slice-aggregate-put-numbers
+slice-aggregate-put-numbers c =
+    let blocked = c .before .before .before .before .before .before .before .before .before .before .before .before in
+    sym (size (blocked .before .before .before))
+
+put-numbers-requires : tie.Need-put-numbers-requires
+put-numbers-requires c κs =
+    let t = c .before .before .before .before .before .before .before .before .before .before .before .before .before .before .before in
+    omega (arith, size t, few t)
+
+same-length : tie.Need-same-length
+same-length c = search needs
+
+returns-2 : tie.Need-returns-2
+returns-2 c =
+    let counted = c .before .before .before .before .before .before .before in
+    let columned = counted .before .before .before .before in
+    let blocked = columned .before .before .before .before in
+    let t = blocked .before .before .before in
+    let args = t .before .before .args in
+    let column = args .column in
+    let coefficients = take (n t) (p t) in
+    let bound : 22 + (21 + (21 + 22 * length coefficients)) ≤ 416 = omega (arith, size t, few t) in
+    put-wide
+    (put-same
+    (spaced-then (_ ∷ []) (pos column ∷ pos (n t) ∷ coefficients) (blocked .put-next .ensures)
+    (spaced-then (pos column ∷ []) (pos (n t) ∷ coefficients) (columned .put-next-count .ensures)
+    (spaced-then (pos (n t) ∷ []) coefficients (counted .put-next-count2 .ensures) (c .before .before .put-numbers .ensures))))
+    (ap (λ s. spaced (s ∷ pos column ∷ pos (n t) ∷ coefficients)) (toZ-ofZ (t .before .before .fits .block))
+    ∙ ap spaced (sym (term-some (args .block) column (n t) (p t) (t .trimmed .ensures) (blocked .before .before .if1 .left)))))
+    bound
+
+pub put-term-spec : {M : Type 1} → statement M
+put-term-spec =
+    tie.close
+    (tie.spec
+    trimmed-requires
+    returns
+    put-next-requires
+    put-next-count-requires
+    put-next-count-requires-2
+    slice-aggregate-put-numbers
+    put-numbers-requires
+    same-length
+    returns-2)

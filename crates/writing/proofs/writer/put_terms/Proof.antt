@@ -1,0 +1,131 @@
+-- `writing::writer::put_terms` meets its contract. The loop's invariant: the terms from block l - b down are still to be written.
+-- Assumes nothing.
+use mathlib.Core.Path.{_≡_, sym, _∙_, ap, ap₂}
+use mathlib.Core.List.{List}
+use Prim.Native.Nat.{ℕ, _+_, _*_, _-_, _≤_}
+use native.Mathlib.Omega.{arith}
+use denote.Ref.{now}
+use lib.Dec.{lit<}
+use lib.IntN.{ℤ, pos, natAbs, _-ℤ_, +ℤ-idr}
+use lib.ListN.{take, drop}
+use mir.Syntax.{w64}
+use mir.Val.{SFits, toZ, ofZ}
+use mir.Facts.{toZ-ofZ}
+use Rattle.integers.specs.Ranges.{sfits-size}
+use Rattle.rules.specs.Sheets.{blockTerms, termsFrom}
+use Rattle.rules.specs.Stores.{parts, rowOf}
+use Rattle.writing.specs.Writer.{Going, going-first, going-next, going-last, put-same}
+use Rattle.writing.specs.Writer.{spaced, numbersOf, block-size, terms-next, terms-end}
+use borrow.Author.Needs.{needs}
+use Rattle.writing.proofs.writer.put_terms.Statement.{statement}
+use Rattle.writing.proofs.writer.put_terms.Tie as tie
+
+abbrev Inv-loop : tie.InvT-loop
+Inv-loop bytes₀ at row l next₀ b₀ bytes next b =
+    (b ≤ 5)
+    × Going bytes₀ at (spaced (numbersOf (termsFrom (toZ w64 l) (rowOf row .blocks)))) bytes next
+    (spaced (numbersOf (termsFrom (toZ w64 l -ℤ pos b) (drop b (rowOf row .blocks))))) (1664 * b)
+
+abbrev μ-loop : tie.MeasureT-loop
+μ-loop bytes₀ at row l next₀ b₀ bytes next b = 5 - b
+
+-- the block that is written
+module _ (c : tie.After-put-block-arg2 Inv-loop μ-loop) where
+  abbrev b : ℕ
+  b = c .before .before .before .loop .b
+
+  abbrev l : ℤ
+  l = toZ w64 (ofZ w64 (c .before .before .before .before .before .args .l))
+
+  count : toZ w64 b ≡ pos b
+  count = toZ-ofZ {z = pos b} (sfits-size (pos b) {k = 5} (omega arith) (lit< tt))
+
+  small : natAbs l ≤ 64
+  small = rw (toZ-ofZ (c .before .before .before .before .before .fits .l)) (c .before .before .before .before .before .pre .1)
+
+  fits : SFits w64 (l -ℤ pos b)
+  fits = sfits-size (l -ℤ pos b) {k = 68} (block-size l b small (omega arith)) (lit< tt)
+
+loop-holds : tie.Need-loop-holds Inv-loop μ-loop
+loop-holds c =
+    let row = now (c .before .args .row) in
+    (omega arith, going-first (ap (λ s. spaced (numbersOf (termsFrom s (rowOf row .blocks)))) (sym (+ℤ-idr _))))
+
+mul-from : tie.Need-mul-from Inv-loop μ-loop
+mul-from c = search needs
+
+add-to : tie.Need-add-to Inv-loop μ-loop
+add-to c = search needs
+
+mul-put-block : tie.Need-mul-put-block Inv-loop μ-loop
+mul-put-block c = search needs
+
+sub-put-block : tie.Need-sub-put-block Inv-loop μ-loop
+sub-put-block c = search needs
+
+part-put-block-start : tie.Need-part-put-block-start Inv-loop μ-loop
+part-put-block-start c = search needs
+
+part-put-block-end : tie.Need-part-put-block-end Inv-loop μ-loop
+part-put-block-end c = search needs
+
+cast-put-block : tie.Need-cast-put-block Inv-loop μ-loop
+cast-put-block c = search needs
+
+sub-put-block-2 : tie.Need-sub-put-block-2 Inv-loop μ-loop
+sub-put-block-2 c = rw (count c) (fits c)
+
+put-block-requires : tie.Need-put-block-requires Inv-loop μ-loop
+put-block-requires c κs = search needs
+
+add-b : tie.Need-add-b Inv-loop μ-loop
+add-b c = search needs
+
+loop-less : tie.Need-loop-less Inv-loop μ-loop
+loop-less c = search needs
+
+loop-again : tie.Need-loop-again Inv-loop μ-loop
+loop-again c =
+    let arg = c .before .before .before in
+    let turn = arg .before .before in
+    let row = now (turn .before .before .before .args .row) in
+    let width : b arg * 64 + 64 - b arg * 64 ≡ 64 = omega arith in
+    let written : ℤ → ℕ → List ℕ = λ s n. spaced (numbersOf (blockTerms s 1 (parts 16 4 (take n (drop (b arg * 64) row))))) in (
+      omega arith,
+      going-next (turn .before .loop .inv .1) (terms-next (l arg) row (b arg) (turn .loop-test .taken))
+          (put-same (c .before .before .put-block .ensures)
+          (ap₂ written (ap (λ s. toZ w64 (ofZ w64 (l arg -ℤ s))) (count arg) ∙ toZ-ofZ (fits arg)) width))
+          (omega arith),
+    )
+
+same-length : tie.Need-same-length Inv-loop μ-loop
+same-length c = search needs
+
+returns : tie.Need-returns Inv-loop μ-loop
+returns c =
+    let args = c .before .before .before .args in
+    put-same
+    (going-last (c .before .loop .inv .1) (terms-end _ (now (args .row)) (c .before .loop .b) (c .loop-test .left)) (omega arith))
+    (ap (λ s. spaced (numbersOf (termsFrom s (rowOf (now (args .row)) .blocks)))) (toZ-ofZ (c .before .before .before .fits .l)))
+
+pub put-terms-spec : {M : Type 1} → statement M
+put-terms-spec =
+    tie.close
+    (tie.spec
+    Inv-loop
+    μ-loop
+    loop-holds
+    mul-from
+    add-to
+    mul-put-block
+    sub-put-block
+    part-put-block-start
+    part-put-block-end
+    cast-put-block
+    sub-put-block-2
+    put-block-requires
+    add-b
+    loop-less
+    loop-again
+    same-length
+    returns)

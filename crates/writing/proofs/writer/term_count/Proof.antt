@@ -1,0 +1,104 @@
+-- `writing::writer::term_count` meets its contract. The loop's invariant: the polynomials from i on are still to be counted.
+-- Assumes nothing.
+use mathlib.Core.Path.{_≡_, _∙_, ap}
+use mathlib.Core.List.{List}
+use mathlib.Core.Logic.{⊎-elim}
+use Prim.Native.Nat.{ℕ, _+_, _*_, _-_, _≤_}
+use native.Mathlib.Omega.{arith}
+use denote.Ref.{now}
+use lib.IntN.{ℤ}
+use lib.ListN.{length, take, drop}
+use Rattle.rules.specs.Sheets.{trim}
+use Rattle.rules.specs.Stores.{parts}
+use Rattle.writing.specs.Writer.{nonzeroCount, parts-end, count-none, count-some}
+use borrow.Author.Needs.{needs}
+use Rattle.writing.proofs.writer.term_count.Statement.{statement}
+use Rattle.writing.proofs.writer.term_count.Tie as tie
+
+abbrev Inv-loop : tie.InvT-loop
+Inv-loop row terms₀ i₀ terms i =
+    (i ≤ 20) × (terms ≤ i) × (terms + nonzeroCount (drop i (parts 16 20 row)) ≡ nonzeroCount (parts 16 20 row))
+
+abbrev μ-loop : tie.MeasureT-loop
+μ-loop row terms₀ i₀ terms i = 20 - i
+
+-- what `trimmed` says of polynomial i
+module _ (c : tie.After-trimmed Inv-loop μ-loop) where
+  abbrev row : List ℤ
+  row = now (c .before .before .before .before .args .row)
+
+  abbrev i : ℕ
+  i = c .before .before .before .loop .i
+
+  size : c .trimmed .result ≡ length (trim (take 16 (drop (i * 16) row)))
+  size =
+      let width : i * 16 + 16 - i * 16 ≡ 16 = omega arith in
+      c .trimmed .ensures ∙ ap (λ n. length (trim (take n (drop (i * 16) row)))) width
+
+loop-holds : tie.Need-loop-holds Inv-loop μ-loop
+loop-holds c = (omega arith, omega arith, omega arith)
+
+mul-from : tie.Need-mul-from Inv-loop μ-loop
+mul-from c = search needs
+
+add-to : tie.Need-add-to Inv-loop μ-loop
+add-to c = search needs
+
+mul-trimmed : tie.Need-mul-trimmed Inv-loop μ-loop
+mul-trimmed c = search needs
+
+sub-trimmed : tie.Need-sub-trimmed Inv-loop μ-loop
+sub-trimmed c = search needs
+
+part-trimmed-start : tie.Need-part-trimmed-start Inv-loop μ-loop
+part-trimmed-start c = search needs
+
+part-trimmed-end : tie.Need-part-trimmed-end Inv-loop μ-loop
+part-trimmed-end c = search needs
+
+trimmed-requires : tie.Need-trimmed-requires Inv-loop μ-loop
+trimmed-requires c κs = search needs
+
+add-terms : tie.Need-add-terms Inv-loop μ-loop
+add-terms c = search needs
+
+add-i : tie.Need-add-i Inv-loop μ-loop
+add-i c = search needs
+
+loop-less : tie.Need-loop-less Inv-loop μ-loop
+loop-less c = search needs
+
+loop-again : tie.Need-loop-again Inv-loop μ-loop
+loop-again c =
+    let e = c .before in
+    let inside = e .before .before .loop-test .taken in
+    ⊎-elim
+    (λ w. let one = count-some (row e) (i e) (e .trimmed .result) inside (size e) (w .0 .taken) in (omega arith, omega arith, omega arith))
+    (λ w. let none = count-none (row e) (i e) (e .trimmed .result) inside (size e) (w .0 .left) in (omega arith, omega arith, omega arith))
+    (c .if1 .came)
+
+returns : tie.Need-returns Inv-loop μ-loop
+unfolding nonzeroCount
+returns c =
+    let none = ap nonzeroCount (parts-end 16 20 (now (c .before .before .args .row)) (c .before .loop .i) (c .loop-test .left)) in
+    omega (arith, none)
+
+pub term-count-spec : {M : Type 1} → statement M
+term-count-spec =
+    tie.close
+    (tie.spec
+    Inv-loop
+    μ-loop
+    loop-holds
+    mul-from
+    add-to
+    mul-trimmed
+    sub-trimmed
+    part-trimmed-start
+    part-trimmed-end
+    trimmed-requires
+    add-terms
+    add-i
+    loop-less
+    loop-again
+    returns)

@@ -1,0 +1,533 @@
+-- What the functions that write a sheet go by: runs of bytes stored from a place on, as far as the store goes, and the bytes
+-- of numbers, terms, lines and the whole sheet as such runs.
+--
+-- Main definitions
+--   Put, Going        what a writing function does; what a loop that writes has still to do
+--   digitsOf, spaced  the digits of a whole number; numbers with a space before each
+--   termAt, numbersOf, nonzeroCount   the numbers of one term, of several, and how many there are
+--   sheetGiven        the sheet of a system in stores, with the columns that are written
+--
+-- Main statements
+--   put-then          two runs of bytes stored one after the other are one run
+--   going-first, going-next, going-last   a loop that stores a run part by part
+--   digits-last       the last digit of a number is written after the digits of its tenth
+--   line-is           a line is its first number, the others spaced, and byte 10
+--   trim-none, trim-length, trim-take   how many coefficients a term has, and which
+--   block-next, terms-next, lines-next   one term, one block, one line more
+--   term-count        the number of terms of a row is that of its nonzero polynomials
+--   equation-line, relation-line, order-line, count-line, sizes-line   the lines of a sheet, as they are written
+--   sheet-bytes       the bytes of a sheet, section by section
+use mathlib.Core.Path.{_≡_, refl, sym, _∙_, ap, ap₂, subst}
+use mathlib.Core.Bool.{Bool, true, false, cond}
+use mathlib.Core.Logic.{_≢_}
+use mathlib.Core.List.{List, [], _∷_, _++_, map, flatten, append-assoc, append-nil}
+use Prim.Native.Nat.{ℕ, zero, suc, _+_, _-_, _*_, _/_, _%_, _^_, _≤_, _<_}
+use native.Mathlib.Nat.{zero-add, add-zero, suc-add, add-suc, pow-suc, div-lt-self, div-lt-iff-lt-mul}
+use native.Mathlib.Nat.{lt-trans, le-trans, le-of-suc-le-suc, not-suc-le-zero}
+use native.Mathlib.Numerals.{add-one}
+use native.Mathlib.Omega.{arith}
+use borrow.Author.Tests.{ltb-true, ltb-false, lt-ltb, le-ltb, ne-eqb}
+use lib.Dec.{T, ltb, eqb, eqb·suc-zero, lit<}
+use lib.IntN.{ℤ, pos, negsuc, natAbs, negℤ, predℤ, _+ℤ_, _-ℤ_, negℤ-sucℤ, +ℤ-predℤ}
+use lib.Signed.{ltZ}
+use lib.ListN.{length, take, drop, getD, length-append, length-take, drop-of-length-le}
+use lib.Seq.{sets, length-sets, drop-cons}
+use Rattle.algebra.specs.Integers.{natAbs-+ℤ, natAbs-negℤ}
+use Rattle.algebra.specs.Polynomials.{Polynomial, coeff, isZero, isZero-cons, isZero-coeff}
+use Rattle.rules.specs.Limits.{coefficientCount}
+use Rattle.rules.specs.Rows.{Block}
+use Rattle.rules.specs.Stores.{Sizes, parts, rowOf, rowsOf, relationOf, relationsOf}
+use Rattle.rules.specs.Layout.{length-rowsOf, length-relationsOf, parts-length, getD-parts}
+use Rattle.rules.specs.Sheets.{Sheet, Term, trim, blockTerms, termsFrom, termNumbers}
+use Rattle.rules.specs.Sheets.{equationNumbers, relationLine, orderLine, sheetLines, writeSheet}
+use Rattle.rows.specs.Flat.{polynomials-rowOf}
+use Rattle.rules.specs.Numbers.{space, newline, minus, decimalWithin, decimal, line, lines}
+
+-- ---- runs of bytes
+
+-- The bytes xs, at most k of them, were stored in d from a place on, which gave e; those past the end of d were only counted.
+pub record Put (d : List ℕ) (at : ℕ) (xs : List ℕ) (k : ℕ) (e : List ℕ) (next : ℕ) : Type 0 where
+  pub stored : e ≡ sets d at xs
+  pub passed : next ≡ at + length xs
+  pub few : length xs ≤ k
+
+sets-append : (d : List ℕ) (at : ℕ) (xs ys : List ℕ) → sets (sets d at xs) (at + length xs) ys ≡ sets d at (xs ++ ys)
+sets-append d at [] ys = ap (λ n. sets d n ys) (add-zero at)
+sets-append d at (x ∷ xs) ys =
+    ap (λ n. sets (sets d at (x ∷ xs)) n ys) (add-suc at (length xs) ∙ sym (suc-add at (length xs))) ∙ sets-append _ (suc at) xs ys
+
+pub put-then : {d e f : List ℕ} {at j k next last : ℕ} {xs ys : List ℕ} → Put d at xs j e next → Put e next ys k f last
+    → Put d at (xs ++ ys) (j + k) f last
+put-then {d} {e} {f} {at} {j} {k} {next} {last} {xs} {ys} p q =
+    record {
+      stored =
+          q .stored ∙ ap₂ (λ l n. sets l n ys) (p .stored) (p .passed) ∙ sets-append d at xs ys;
+      passed = rw length-append (omega (arith, p .passed, q .passed));
+      few = rw length-append (omega (arith, p .few, q .few));
+    }
+
+-- The same bytes, said otherwise.
+pub put-same : {d e : List ℕ} {at k next : ℕ} {xs ys : List ℕ} → Put d at xs k e next → xs ≡ ys → Put d at ys k e next
+put-same {d} {e} {at} {k} {next} p same = subst (λ l. Put d at l k e next) same p
+
+-- The same number of bytes, bounded otherwise.
+pub put-few : {d e : List ℕ} {at j k next : ℕ} {xs : List ℕ} → Put d at xs j e next → length xs ≤ k → Put d at xs k e next
+put-few p few = record { stored = p .stored; passed = p .passed; few = few }
+
+pub put-wide : {d e : List ℕ} {at j k next : ℕ} {xs : List ℕ} → Put d at xs j e next → j ≤ k → Put d at xs k e next
+put-wide p le = put-few p (le-trans (p .few) le)
+
+pub put-none : {d xs : List ℕ} {at k : ℕ} → xs ≡ [] → Put d at xs k d at
+put-none {d} {xs} {at} {k} none =
+    let size = ap length none in
+    record { stored = sym (ap (sets d at) none); passed = omega arith; few = omega arith }
+
+pub put-length : {d e : List ℕ} {at k next : ℕ} {xs : List ℕ} → Put d at xs k e next → length e ≡ length d
+put-length {d} {e} {at} {k} {next} {xs} p = ap length (p .stored) ∙ length-sets d at xs
+
+-- A loop that stores `all` in d from `at` on, at most k bytes up to now: `rest` is still to be stored in e from `next` on.
+pub record Going (d : List ℕ) (at : ℕ) (all : List ℕ) (e : List ℕ) (next : ℕ) (rest : List ℕ) (k : ℕ) : Type 0 where
+  pub stored : sets e next rest ≡ sets d at all
+  pub passed : next + length rest ≡ at + length all
+  pub few : next ≤ at + k
+  pub kept : length e ≡ length d
+
+pub going-first : {d all rest : List ℕ} {at : ℕ} → all ≡ rest → Going d at all d at rest 0
+going-first {d} {all} {rest} {at} same =
+    record { stored = ap (sets d at) (sym same); passed = ap (λ l. at + length l) (sym same); few = omega arith; kept = refl }
+
+pub going-next : {d all e f part rest more : List ℕ} {at next last j k m : ℕ} → Going d at all e next rest j → rest ≡ part ++ more
+    → Put e next part k f last → j + k ≤ m → Going d at all f last more m
+going-next {d} {all} {e} {f} {part} {rest} {more} {at} {next} {last} {j} {k} {m} g split p le =
+    let size = ap length split ∙ length-append part more in
+    record {
+      stored =
+          ap₂ (λ l n. sets l n more) (p .stored) (p .passed) ∙ sets-append e next part more ∙ ap (sets e next) (sym split) ∙ g .stored;
+      passed = omega (arith, p .passed, g .passed, size);
+      few = omega (arith, p .passed, p .few, g .few);
+      kept = put-length p ∙ g .kept;
+    }
+
+pub going-last : {d all e rest : List ℕ} {at next j k : ℕ} → Going d at all e next rest j → rest ≡ [] → j ≤ k → Put d at all k e next
+going-last {d} {all} {e} {rest} {at} {next} g none le =
+    let size = ap length none in
+    record {
+      stored = sym (ap (sets e next) none) ∙ g .stored;
+      passed = omega (arith, g .passed, size);
+      few = omega (arith, g .passed, g .few);
+    }
+
+-- ---- digits
+
+unfoldable pub digitsOf : ℕ → List ℕ
+unfolding decimalWithin
+digitsOf n = decimalWithin (suc n) n []
+
+-- What is written already only follows.
+within-append : (k n : ℕ) (w v : List ℕ) → decimalWithin k n (w ++ v) ≡ decimalWithin k n w ++ v
+unfolding decimalWithin
+within-append zero n w v = refl
+within-append (suc k) n w v = step (ltb n 10) _ (within-append k (n / 10) ((48 + n % 10) ∷ w) v)
+  where
+    step : (t : Bool) {a : List ℕ} (b : List ℕ) → a ≡ b ++ v → cond t ((48 + n) ∷ (w ++ v)) a ≡ cond t ((48 + n) ∷ w) b ++ v
+    step true b e = refl
+    step false b e = e
+
+-- The number of calls allowed does not matter, if it is above n.
+within-calls : (j k n : ℕ) (w : List ℕ) → n < j → n < k → decimalWithin j n w ≡ decimalWithin k n w
+unfolding decimalWithin
+within-calls zero k n w h g = absurd (not-suc-le-zero h)
+within-calls (suc j) zero n w h g = absurd (not-suc-le-zero g)
+within-calls (suc j) (suc k) n w h g =
+    step (ltb n 10) refl (λ big. within-calls j k (n / 10) ((48 + n % 10) ∷ w) (smaller big j h) (smaller big k g))
+  where
+    smaller : 10 ≤ n → (i : ℕ) → n < suc i → n / 10 < i
+    smaller big i l = omega (arith, div-lt-self {n = n} {k = 10} (omega arith) (omega arith))
+
+    step : (t : Bool) {a b : List ℕ} → ltb n 10 ≡ t → (10 ≤ n → a ≡ b) → cond t ((48 + n) ∷ w) a ≡ cond t ((48 + n) ∷ w) b
+    step true e f = refl
+    step false e f = f (ltb-false n 10 e)
+
+pub digits-one : (n : ℕ) → n < 10 → digitsOf n ≡ (48 + n) ∷ []
+unfolding digitsOf decimalWithin
+digits-one n h = rw (lt-ltb n 10 h)
+
+pub digits-last : (n : ℕ) → 10 ≤ n → digitsOf n ≡ digitsOf (n / 10) ++ ((48 + n % 10) ∷ [])
+unfolding digitsOf decimalWithin
+digits-last n h =
+    rw (le-ltb n 10 h)
+    (within-calls n (suc (n / 10)) (n / 10) ((48 + n % 10) ∷ []) (div-lt-self {n = n} {k = 10} (omega arith) (omega arith)) (omega arith)
+    ∙ within-append (suc (n / 10)) (n / 10) [] ((48 + n % 10) ∷ []))
+
+-- A number below 10^(k + 1) has at most k + 1 digits.
+within-length : (i k n : ℕ) (w : List ℕ) → n < 10 ^ suc k → length (decimalWithin i n w) ≤ suc k + length w
+unfolding decimalWithin
+within-length zero k n w h = omega arith
+within-length (suc i) zero n w h = rw (lt-ltb n 10 h) (omega arith)
+within-length (suc i) (suc k) n w h =
+    step (ltb n 10) _ (within-length i k (n / 10) ((48 + n % 10) ∷ w) (div-lt-iff-lt-mul {k = 10} (lit< tt) .1 (rw pow-suc at h)))
+  where
+    step : (t : Bool) (a : List ℕ) → length a ≤ suc k + suc (length w) → length (cond t ((48 + n) ∷ w) a) ≤ suc (suc k) + length w
+    step true a l = omega arith
+    step false a l = omega arith
+
+pub digits-length : (n : ℕ) → n < 2 ^ 64 → length (digitsOf n) ≤ 20
+unfolding digitsOf
+digits-length n h = within-length (suc n) 19 n [] (lt-trans h (lit< tt))
+
+-- ---- numbers
+
+pub decimal-negative : (a : ℤ) → ltZ a (pos 0) ≡ true → decimal a ≡ minus ∷ digitsOf (natAbs a)
+unfolding decimal digitsOf
+decimal-negative (pos n) h = absurd (not-suc-le-zero (ltb-true n 0 h))
+decimal-negative (negsuc n) h = refl
+
+pub decimal-positive : (a : ℤ) → ltZ a (pos 0) ≡ false → decimal a ≡ digitsOf (natAbs a)
+unfolding decimal digitsOf
+decimal-positive (pos n) h = refl
+decimal-positive (negsuc n) h = absurd (subst T h tt)
+
+-- Numbers of a line past the first: a space before each.
+unfoldable pub spaced : List ℤ → List ℕ
+unfolding decimal
+spaced [] = []
+spaced (a ∷ l) = space ∷ (decimal a ++ spaced l)
+
+pub spaced-append : (l m : List ℤ) → spaced l ++ spaced m ≡ spaced (l ++ m)
+unfolding spaced
+spaced-append [] m = refl
+spaced-append (a ∷ l) m =
+    ap (λ r. space ∷ r) (append-assoc (decimal a) (spaced l) (spaced m) ∙ ap (λ r. decimal a ++ r) (spaced-append l m))
+
+-- A line is its first number, the others, and the byte that ends it.
+pub line-is : (a : ℤ) (l : List ℤ) → line (a ∷ l) ≡ (decimal a ++ spaced l) ++ (newline ∷ [])
+unfolding line spaced
+line-is a [] = ap (λ r. r ++ (newline ∷ [])) (sym (append-nil (decimal a)))
+line-is a (b ∷ l) = ap (λ r. decimal a ++ (space ∷ r)) (line-is b l) ∙ sym (append-assoc (decimal a) (spaced (b ∷ l)) (newline ∷ []))
+
+pub spaced-then : {d e f : List ℕ} {at j k next last : ℕ} (l m : List ℤ) → Put d at (spaced l) j e next → Put e next (spaced m) k f last
+    → Put d at (spaced (l ++ m)) (j + k) f last
+spaced-then l m p q = put-same (put-then p q) (spaced-append l m)
+
+-- The members from i on are member i and those from i + 1 on.
+pub drop-next : {A : Type 0} (l : List A) (i : ℕ) (d : A) → i < length l → drop i l ≡ getD l i d ∷ drop (i + 1) l
+drop-next l i d h = drop-cons l i d h ∙ ap (λ j. getD l i d ∷ drop j l) (sym (add-one i))
+
+pub spaced-next : (l : List ℤ) (i : ℕ) → i < length l → spaced (drop i l) ≡ spaced (getD l i (pos 0) ∷ []) ++ spaced (drop (i + 1) l)
+spaced-next l i h = ap spaced (drop-next l i (pos 0) h) ∙ sym (spaced-append (getD l i (pos 0) ∷ []) (drop (i + 1) l))
+
+pub columns-next : (l : List ℕ) (i : ℕ) → i < length l
+    → spaced (map pos (drop i l)) ≡ spaced (pos (getD l i 0) ∷ []) ++ spaced (map pos (drop (i + 1) l))
+columns-next l i h =
+    ap (λ r. spaced (map pos r)) (drop-next l i 0 h) ∙ sym (spaced-append (pos (getD l i 0) ∷ []) (map pos (drop (i + 1) l)))
+
+pub spaced-number : (a : ℤ) → space ∷ decimal a ≡ spaced (a ∷ [])
+unfolding spaced
+spaced-number a = ap (λ r. space ∷ r) (sym (append-nil (decimal a)))
+
+pub decimal-count : (n : ℕ) → decimal (pos n) ≡ digitsOf n
+unfolding decimal digitsOf
+decimal-count n = refl
+
+-- ---- a polynomial without its zero high coefficients
+
+nonzero-length : (t : Bool) (a : ℤ) (q : Polynomial) (n : ℕ) → (T t → ⊥) → length q ≡ n → length (cond t [] (a ∷ q)) ≡ suc n
+nonzero-length true a q n h e = absurd (h tt)
+nonzero-length false a q n h e = ap suc e
+
+pub trim-none : (p : Polynomial) → T (isZero p) → trim p ≡ []
+unfolding trim
+trim-none [] h = refl
+trim-none (a ∷ p) h = zero-case (isZero (a ∷ p)) h
+  where
+    zero-case : (t : Bool) → T t → cond t [] (a ∷ trim p) ≡ []
+    zero-case true h = refl
+    zero-case false h = absurd h
+
+-- The highest nonzero coefficient is the last one that is left.
+pub trim-length : (p : Polynomial) (n : ℕ) → n < length p → getD p n (pos 0) ≢ pos 0 → T (isZero (drop (suc n) p)) → length (trim p) ≡ suc n
+unfolding trim coeff
+trim-length [] n h ne z = absurd (not-suc-le-zero h)
+trim-length (a ∷ p) zero h ne z =
+    nonzero-length (isZero (a ∷ p)) a (trim p) 0 (λ t. ne (isZero-cons a p .0 t .0)) (ap length (trim-none p z))
+trim-length (a ∷ p) (suc n) h ne z =
+    nonzero-length (isZero (a ∷ p)) a (trim p) (suc n) (λ t. ne (isZero-coeff p (isZero-cons a p .0 t .1) n))
+    (trim-length p n (le-of-suc-le-suc h) ne z)
+
+pub trim-zero : (p : Polynomial) → T (isZero p) → length (trim p) ≡ 0
+trim-zero p h = ap length (trim-none p h)
+
+pub isZero-trim : (p : Polynomial) → isZero p ≡ eqb (length (trim p)) 0
+unfolding trim isZero
+isZero-trim [] = refl
+isZero-trim (a ∷ p) = cases (isZero (a ∷ p))
+  where
+    cases : (t : Bool) → t ≡ eqb (length (cond t [] (a ∷ trim p))) 0
+    cases true = refl
+    cases false = sym (eqb·suc-zero (length (trim p)))
+
+pub trim-take : (p : Polynomial) → take (length (trim p)) p ≡ trim p
+unfolding trim
+trim-take [] = refl
+trim-take (a ∷ p) = cases (isZero (a ∷ p)) (trim-take p)
+  where
+    cases : (t : Bool) → take (length (trim p)) p ≡ trim p → take (length (cond t [] (a ∷ trim p))) (a ∷ p) ≡ cond t [] (a ∷ trim p)
+    cases true e = refl
+    cases false e = ap (λ q. a ∷ q) e
+
+pub trim-le : (p : Polynomial) → length (trim p) ≤ length p
+trim-le p = subst (λ q. length q ≤ length p) (trim-take p) (rw length-take (omega arith))
+
+-- One coefficient more from the top.
+pub drop-zero : (p : Polynomial) (n : ℕ) → n < length p → getD p n (pos 0) ≡ pos 0 → T (isZero (drop (suc n) p)) → T (isZero (drop n p))
+drop-zero p n h e z = rw (drop-cons p n (pos 0) h) (isZero-cons (getD p n (pos 0)) (drop (suc n) p) .1 (e, z))
+
+-- ---- the numbers of terms
+
+-- The numbers of one term, none for a zero polynomial.
+unfoldable pub termAt : ℤ → ℕ → Polynomial → List ℤ
+unfolding termNumbers trim isZero
+termAt s c p = cond (isZero p) [] (termNumbers (record { block = s; column = c; polynomial = trim p }))
+
+pub term-none : (s : ℤ) (c : ℕ) (p : Polynomial) → length (trim p) ≡ 0 → termAt s c p ≡ []
+unfolding termAt
+term-none s c p e = rw (isZero-trim p ∙ ap (λ n. eqb n 0) e)
+
+pub term-some : (s : ℤ) (c n : ℕ) (p : Polynomial) → n ≡ length (trim p) → n ≢ 0 → termAt s c p ≡ s ∷ pos c ∷ pos n ∷ take n p
+unfolding termAt termNumbers
+term-some s c n p e ne =
+    rw (isZero-trim p ∙ ne-eqb (length (trim p)) 0 (λ z. ne (e ∙ z)))
+    (ap (λ q. s ∷ pos c ∷ pos (length (trim p)) ∷ q) (sym (trim-take p)) ∙ ap (λ m. s ∷ pos c ∷ pos m ∷ take m p) (sym e))
+
+unfoldable pub numbersOf : List Term → List ℤ
+unfolding flatten termNumbers
+numbersOf es = flatten (map termNumbers es)
+
+numbersOf-append : (es fs : List Term) → numbersOf (es ++ fs) ≡ numbersOf es ++ numbersOf fs
+unfolding numbersOf flatten
+numbersOf-append [] fs = refl
+numbersOf-append (e ∷ es) fs =
+    ap (λ r. termNumbers e ++ r) (numbersOf-append es fs) ∙ sym (append-assoc (termNumbers e) (numbersOf es) (numbersOf fs))
+
+pub block-cons : (s : ℤ) (c : ℕ) (p : Polynomial) (b : Block)
+    → numbersOf (blockTerms s c (p ∷ b)) ≡ termAt s c p ++ numbersOf (blockTerms s (suc c) b)
+unfolding numbersOf blockTerms termAt flatten
+block-cons s c p b = cases (isZero p)
+  where
+    cases : (t : Bool)
+        → numbersOf (cond t (blockTerms s (suc c) b) (record { block = s; column = c; polynomial = trim p } ∷ blockTerms s (suc c) b))
+        ≡ cond t [] (termNumbers (record { block = s; column = c; polynomial = trim p })) ++ numbersOf (blockTerms s (suc c) b)
+    cases true = refl
+    cases false = refl
+
+pub terms-cons : (s : ℤ) (b : Block) (bs : List Block)
+    → numbersOf (termsFrom s (b ∷ bs)) ≡ numbersOf (blockTerms s 1 b) ++ numbersOf (termsFrom (predℤ s) bs)
+unfolding termsFrom
+terms-cons s b bs = numbersOf-append (blockTerms s 1 b) (termsFrom (predℤ s) bs)
+
+-- ---- the number of terms
+
+unfoldable pub nonzeroCount : List Polynomial → ℕ
+unfolding isZero
+nonzeroCount [] = 0
+nonzeroCount (p ∷ ps) = let more = nonzeroCount ps in cond (isZero p) more (suc more)
+
+nonzeroCount-append : (ps qs : List Polynomial) → nonzeroCount (ps ++ qs) ≡ nonzeroCount ps + nonzeroCount qs
+unfolding nonzeroCount
+nonzeroCount-append [] qs = sym (zero-add (nonzeroCount qs))
+nonzeroCount-append (p ∷ ps) qs = cases (isZero p) (nonzeroCount-append ps qs)
+  where
+    cases : (t : Bool) → nonzeroCount (ps ++ qs) ≡ nonzeroCount ps + nonzeroCount qs
+        → cond t (nonzeroCount (ps ++ qs)) (suc (nonzeroCount (ps ++ qs)))
+        ≡ cond t (nonzeroCount ps) (suc (nonzeroCount ps)) + nonzeroCount qs
+    cases true e = e
+    cases false e = ap suc e ∙ sym (suc-add (nonzeroCount ps) (nonzeroCount qs))
+
+length-blockTerms : (s : ℤ) (c : ℕ) (b : Block) → length (blockTerms s c b) ≡ nonzeroCount b
+unfolding blockTerms nonzeroCount
+length-blockTerms s c [] = refl
+length-blockTerms s c (p ∷ b) = cases (isZero p) _ _ _ (length-blockTerms s (suc c) b)
+  where
+    cases : (t : Bool) (e : Term) (es : List Term) (n : ℕ) → length es ≡ n → length (cond t es (e ∷ es)) ≡ cond t n (suc n)
+    cases true e es n h = h
+    cases false e es n h = ap suc h
+
+length-termsFrom : (s : ℤ) (bs : List Block) → length (termsFrom s bs) ≡ nonzeroCount (flatten bs)
+unfolding termsFrom nonzeroCount flatten
+length-termsFrom s [] = refl
+length-termsFrom s (b ∷ bs) =
+    length-append (blockTerms s 1 b) (termsFrom (predℤ s) bs)
+    ∙ ap₂ _+_ (length-blockTerms s 1 b) (length-termsFrom (predℤ s) bs)
+    ∙ sym (nonzeroCount-append b (flatten bs))
+
+pub term-count : (s : ℤ) (l : List ℤ) → length (termsFrom s (rowOf l .blocks)) ≡ nonzeroCount (parts coefficientCount 20 l)
+term-count s l = length-termsFrom s (rowOf l .blocks) ∙ ap nonzeroCount (polynomials-rowOf l)
+
+-- ---- parts of one width, one after the other
+
+-- The parts from i on are part i and those from i + 1 on.
+pub parts-next : {A : Type 0} (k n : ℕ) (l : List A) (i : ℕ) → i < n
+    → drop i (parts k n l) ≡ take k (drop (i * k) l) ∷ drop (i + 1) (parts k n l)
+parts-next k n l i h =
+    drop-next (parts k n l) i [] (rw parts-length h) ∙ ap (λ p. p ∷ drop (i + 1) (parts k n l)) (getD-parts k n l i h)
+
+pub parts-end : {A : Type 0} (k n : ℕ) (l : List A) (i : ℕ) → n ≤ i → drop i (parts k n l) ≡ []
+parts-end k n l i h = drop-of-length-le (parts k n l) {i = i} (rw parts-length h)
+
+drop-map : {A B : Type 0} (f : A → B) (i : ℕ) (l : List A) → drop i (map f l) ≡ map f (drop i l)
+drop-map f zero l = refl
+drop-map f (suc i) [] = refl
+drop-map f (suc i) (x ∷ l) = drop-map f i l
+
+-- The same of what the parts hold.
+pub held-next : {A B : Type 0} (f : List A → B) (k n : ℕ) (l : List A) (i : ℕ) → i < n
+    → drop i (map f (parts k n l)) ≡ f (take k (drop (i * k) l)) ∷ drop (i + 1) (map f (parts k n l))
+held-next f k n l i h =
+    drop-map f i (parts k n l) ∙ ap (map f) (parts-next k n l i h)
+    ∙ ap (λ r. f (take k (drop (i * k) l)) ∷ r) (sym (drop-map f (i + 1) (parts k n l)))
+
+pub held-end : {A B : Type 0} (f : List A → B) (k n : ℕ) (l : List A) (i : ℕ) → n ≤ i → drop i (map f (parts k n l)) ≡ []
+held-end f k n l i h = drop-map f i (parts k n l) ∙ ap (map f) (parts-end k n l i h)
+
+-- One polynomial more is counted, unless it is zero.
+pub count-none : (l : List ℤ) (i n : ℕ) → i < 20 → n ≡ length (trim (take 16 (drop (i * 16) l))) → n ≡ 0
+    → nonzeroCount (drop i (parts 16 20 l)) ≡ nonzeroCount (drop (i + 1) (parts 16 20 l))
+unfolding nonzeroCount
+count-none l i n h e none =
+    rw (parts-next 16 20 l i h, isZero-trim (take 16 (drop (i * 16) l)), sym e ∙ none)
+
+pub count-some : (l : List ℤ) (i n : ℕ) → i < 20 → n ≡ length (trim (take 16 (drop (i * 16) l))) → n ≢ 0
+    → nonzeroCount (drop i (parts 16 20 l)) ≡ suc (nonzeroCount (drop (i + 1) (parts 16 20 l)))
+unfolding nonzeroCount
+count-some l i n h e some =
+    let part = take 16 (drop (i * 16) l) in
+    rw (parts-next 16 20 l i h, isZero-trim part, ne-eqb (length (trim part)) 0 (λ z. some (e ∙ z)))
+
+-- ---- one term, and one block, more
+
+pub block-next : (s : ℤ) (l : List ℤ) (c : ℕ) → c < 4
+    → spaced (numbersOf (blockTerms s (c + 1) (drop c (parts 16 4 l))))
+    ≡ spaced (termAt s (c + 1) (take 16 (drop (c * 16) l))) ++ spaced (numbersOf (blockTerms s (c + 1 + 1) (drop (c + 1) (parts 16 4 l))))
+block-next s l c h =
+    let part = take 16 (drop (c * 16) l) in
+    let more = drop (c + 1) (parts 16 4 l) in
+    ap spaced
+    (ap (λ b. numbersOf (blockTerms s (c + 1) b)) (parts-next 16 4 l c h) ∙ block-cons s (c + 1) part more
+    ∙ ap (λ j. termAt s (c + 1) part ++ numbersOf (blockTerms s j more)) (sym (add-one (c + 1))))
+    ∙ sym (spaced-append (termAt s (c + 1) part) (numbersOf (blockTerms s (c + 1 + 1) more)))
+
+pub block-end : (s : ℤ) (l : List ℤ) (c : ℕ) → 4 ≤ c → spaced (numbersOf (blockTerms s (c + 1) (drop c (parts 16 4 l)))) ≡ []
+unfolding spaced numbersOf blockTerms flatten
+block-end s l c h = ap (λ b. spaced (numbersOf (blockTerms s (c + 1) b))) (parts-end 16 4 l c h)
+
+-- Block l - b.
+pred-block : (l : ℤ) (b : ℕ) → predℤ (l -ℤ pos b) ≡ l -ℤ pos (b + 1)
+pred-block l b = sym (ap (λ n. l -ℤ pos n) (add-one b) ∙ ap (λ k. l +ℤ k) (negℤ-sucℤ (pos b)) ∙ +ℤ-predℤ l (negℤ (pos b)))
+
+pub block-size : (l : ℤ) (b : ℕ) → natAbs l ≤ 64 → b < 5 → natAbs (l -ℤ pos b) ≤ 68
+block-size l b h g = omega (arith, natAbs-+ℤ l (negℤ (pos b)), natAbs-negℤ (pos b))
+
+pub terms-next : (l : ℤ) (row : List ℤ) (b : ℕ) → b < 5
+    → spaced (numbersOf (termsFrom (l -ℤ pos b) (drop b (rowOf row .blocks))))
+    ≡ spaced (numbersOf (blockTerms (l -ℤ pos b) 1 (parts 16 4 (take 64 (drop (b * 64) row)))))
+    ++ spaced (numbersOf (termsFrom (l -ℤ pos (b + 1)) (drop (b + 1) (rowOf row .blocks))))
+unfolding rowOf
+terms-next l row b h =
+    let block = parts 16 4 (take 64 (drop (b * 64) row)) in
+    let more = drop (b + 1) (rowOf row .blocks) in
+    ap spaced
+    (ap (λ bs. numbersOf (termsFrom (l -ℤ pos b) bs)) (held-next (parts 16 4) 64 5 row b h) ∙ terms-cons (l -ℤ pos b) block more
+    ∙ ap (λ s. numbersOf (blockTerms (l -ℤ pos b) 1 block) ++ numbersOf (termsFrom s more)) (pred-block l b))
+    ∙ sym (spaced-append (numbersOf (blockTerms (l -ℤ pos b) 1 block)) (numbersOf (termsFrom (l -ℤ pos (b + 1)) more)))
+
+pub terms-end : (s : ℤ) (row : List ℤ) (b : ℕ) → 5 ≤ b → spaced (numbersOf (termsFrom s (drop b (rowOf row .blocks)))) ≡ []
+unfolding rowOf spaced numbersOf termsFrom flatten
+terms-end s row b h = ap (λ bs. spaced (numbersOf (termsFrom s bs))) (held-end (parts 16 4) 64 5 row b h)
+
+-- ---- lines
+
+pub equation-line : (l : ℤ) (row : List ℤ)
+    → (digitsOf (nonzeroCount (parts 16 20 row)) ++ spaced (numbersOf (termsFrom l (rowOf row .blocks)))) ++ (newline ∷ [])
+    ≡ line (equationNumbers l (rowOf row))
+unfolding equationNumbers numbersOf
+equation-line l row =
+    let numbers = numbersOf (termsFrom l (rowOf row .blocks)) in
+    ap (λ n. (n ++ spaced numbers) ++ (newline ∷ [])) (sym (decimal-count (nonzeroCount (parts 16 20 row))))
+    ∙ sym (line-is (pos (nonzeroCount (parts 16 20 row))) numbers)
+    ∙ ap (λ n. line (pos n ∷ numbers)) (sym (term-count l row))
+
+pub relation-line : (l : ℤ) (part : List ℤ)
+    → (decimal (getD part 0 (pos 0))
+    ++ spaced (pos (nonzeroCount (parts 16 20 (drop 1 part))) ∷ numbersOf (termsFrom l (rowOf (drop 1 part) .blocks))))
+    ++ (newline ∷ [])
+    ≡ line (relationLine l (relationOf part))
+unfolding relationLine relationOf equationNumbers numbersOf
+relation-line l part =
+    let numbers = numbersOf (termsFrom l (rowOf (drop 1 part) .blocks)) in
+    sym (line-is (getD part 0 (pos 0)) (pos (nonzeroCount (parts 16 20 (drop 1 part))) ∷ numbers))
+    ∙ ap (λ n. line (getD part 0 (pos 0) ∷ pos n ∷ numbers)) (sym (term-count l (drop 1 part)))
+
+pub order-line : (order : List ℕ) → (digitsOf (length order) ++ spaced (map pos order)) ++ (newline ∷ []) ≡ line (orderLine order)
+unfolding orderLine
+order-line order =
+    ap (λ n. (n ++ spaced (map pos order)) ++ (newline ∷ [])) (sym (decimal-count (length order)))
+    ∙ sym (line-is (pos (length order)) (map pos order))
+
+pub count-line : (n : ℕ) → digitsOf n ++ (newline ∷ []) ≡ line (pos n ∷ [])
+unfolding line
+count-line n = ap (λ d. d ++ (newline ∷ [])) (sym (decimal-count n))
+
+-- The lines of what the parts of a store hold, one line more.
+pub lines-next : {B : Type 0} (f : B → List ℤ) (g : List ℤ → B) (k n : ℕ) (l : List ℤ) (i : ℕ) → i < n
+    → lines (map f (drop i (map g (parts k n l))))
+    ≡ line (f (g (take k (drop (i * k) l)))) ++ lines (map f (drop (i + 1) (map g (parts k n l))))
+unfolding lines flatten
+lines-next f g k n l i h = ap (λ r. lines (map f r)) (held-next g k n l i h)
+
+pub lines-end : {B : Type 0} (f : B → List ℤ) (g : List ℤ → B) (k n : ℕ) (l : List ℤ) (i : ℕ) → n ≤ i
+    → lines (map f (drop i (map g (parts k n l)))) ≡ []
+unfolding lines flatten
+lines-end f g k n l i h = ap (λ r. lines (map f r)) (held-end g k n l i h)
+
+pub sizes-line : (m : ℕ) (l t : ℤ)
+    → ((51 ∷ []) ++ spaced (pos m ∷ l ∷ t ∷ [])) ++ (newline ∷ []) ≡ line (pos 3 ∷ pos m ∷ l ∷ t ∷ [])
+unfolding decimal
+sizes-line m l t = sym (line-is (pos 3) (pos m ∷ l ∷ t ∷ []))
+
+-- ---- the whole sheet
+
+lines-append : (l m : List (List ℤ)) → lines (l ++ m) ≡ lines l ++ lines m
+unfolding lines flatten
+lines-append [] m = refl
+lines-append (a ∷ l) m = ap (λ r. line a ++ r) (lines-append l m) ∙ sym (append-assoc (line a) (lines l) (lines m))
+
+-- Two lines, lines, a line, lines, and a last line.
+lines-join : (a b c e : List ℤ) (l m : List (List ℤ))
+    → line a ++ (line b ++ (lines l ++ (line c ++ (lines m ++ line e)))) ≡ lines ((a ∷ b ∷ l) ++ (c ∷ m) ++ (e ∷ []))
+unfolding lines flatten
+lines-join a b c e l m =
+    ap (λ r. line a ++ (line b ++ r))
+    (ap (λ r. lines l ++ (line c ++ (lines m ++ r))) (sym (append-nil (line e)))
+    ∙ sym
+    (append-assoc (lines l) (line c ++ lines m) (line e ++ []) ∙ ap (λ r. lines l ++ r) (append-assoc (line c) (lines m) (line e ++ [])))
+    ∙ ap (λ r. r ++ (line e ++ [])) (sym (lines-append l (c ∷ m))) ∙ sym (lines-append (l ++ (c ∷ m)) (e ∷ [])))
+
+-- The sheet of a system in stores, with the columns that are written.
+unfoldable pub sheetGiven : Sizes → ℕ → List ℕ → List ℤ → List ℤ → Sheet
+unfolding rowsOf relationsOf
+sheetGiven z count columns rowStore relationStore =
+    record { sizes = z; rows = rowsOf (z .m) rowStore; relations = relationsOf count relationStore; order = columns }
+
+pub sheet-bytes : (z : Sizes) (count : ℕ) (columns : List ℕ) (rowStore relationStore : List ℤ)
+    → line (pos 3 ∷ pos (z .m) ∷ z .l ∷ z .t ∷ [])
+    ++ (line (pos (z .m) ∷ []) ++ (lines (map (equationNumbers (z .l)) (rowsOf (z .m) rowStore))
+    ++ (line (pos count ∷ []) ++ (lines (map (relationLine (z .l)) (relationsOf count relationStore)) ++ line (orderLine columns)))))
+    ≡ writeSheet (sheetGiven z count columns rowStore relationStore)
+unfolding writeSheet sheetLines sheetGiven
+sheet-bytes z count columns rowStore relationStore =
+    let equations = map (equationNumbers (z .l)) (rowsOf (z .m) rowStore) in
+    let relations = map (relationLine (z .l)) (relationsOf count relationStore) in
+    let sizes = pos 3 ∷ pos (z .m) ∷ z .l ∷ z .t ∷ [] in
+    lines-join sizes (pos (z .m) ∷ []) (pos count ∷ []) (orderLine columns) equations relations
+    ∙ ap₂ (λ m n. lines ((sizes ∷ (pos m ∷ []) ∷ equations) ++ ((pos n ∷ []) ∷ relations) ++ (orderLine columns ∷ [])))
+    (sym (length-rowsOf (z .m) rowStore)) (sym (length-relationsOf count relationStore))

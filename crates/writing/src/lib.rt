@@ -1,0 +1,2 @@
+// The writing of sheets: behind `sheets::write_sheet`.
+pub mod writer;

@@ -1,0 +1,326 @@
+// Writing a sheet. Each writing function stores its bytes from a place on, as far as the store goes, counts them all and gives
+// the next place: called on an empty part of the store it only counts, so that nothing is written before the length is known.
+mod checks;
+
+ghost use mathlib.Core.Path.{_≡_};
+ghost use mathlib.Core.List.{[], _∷_, map};
+ghost use Prim.Native.Nat.{_+_, _*_, _^_, _≤_, _<_};
+ghost use Rattle.rules.specs.Numbers.{decimal, line, lines};
+ghost use lib.IntN.{pos, natAbs};
+ghost use lib.ListN.{length};
+ghost use Rattle.rules.specs.Sheets.{trim, blockTerms, termsFrom, equationNumbers, relationLine, orderLine, writeSheet};
+ghost use Rattle.rules.specs.Stores.{parts, rowOf, rowsOf, relationOf, relationsOf};
+ghost use Rattle.writing.specs.Writer.{Put, digitsOf, spaced, termAt, numbersOf, nonzeroCount, sheetGiven};
+ghost use Rattle.writing.specs.WriterChecks.{Checked, callOf};
+ghost use Rattle.rules.specs.SheetCalls.{writeCall};
+ghost use Rattle.rows.specs.Validity.{sizesOf};
+
+fn put_byte(bytes: &mut [u8], at: usize, b: u8) -> usize
+    requires { ⌜ at + 1 < 2 ^ 64 ⌝ }
+    ensures { λ r. ⌜ Put (now (bytes .entry)) at (b ∷ []) 1 (now (bytes .exit)) r ⌝ }
+{
+    let next = at + 1;
+    if at < bytes.len() {
+        bytes[at] = b;
+    }
+    next
+}
+
+// The digits of a number, those of its tenth first.
+fn put_digits(bytes: &mut [u8], at: usize, n: u64) -> usize
+    requires { ⌜ at + 20 < 2 ^ 64 ⌝ }
+    ensures { λ r. ⌜ Put (now (bytes .entry)) at (digitsOf n) 20 (now (bytes .exit)) r ⌝ }
+{
+    let last = 48 + (n % 10) as u8;
+    if n < 10 {
+        put_byte(bytes, at, last)
+    } else {
+        let next = put_digits(bytes, at, n / 10);
+        put_byte(bytes, next, last)
+    }
+}
+
+fn put_number(bytes: &mut [u8], at: usize, a: i64) -> usize
+    requires { ⌜ at + 21 < 2 ^ 64 ⌝ }
+    ensures { λ r. ⌜ Put (now (bytes .entry)) at (decimal a) 21 (now (bytes .exit)) r ⌝ }
+{
+    let size = integers::magnitude(a);
+    if a < 0 {
+        let next = put_byte(bytes, at, 45);
+        put_digits(bytes, next, size)
+    } else {
+        put_digits(bytes, at, size)
+    }
+}
+
+// A number of a line past the first.
+fn put_next(bytes: &mut [u8], at: usize, a: i64) -> usize
+    requires { ⌜ at + 22 < 2 ^ 64 ⌝ }
+    ensures { λ r. ⌜ Put (now (bytes .entry)) at (spaced (a ∷ [])) 22 (now (bytes .exit)) r ⌝ }
+{
+    let next = put_byte(bytes, at, 32);
+    put_number(bytes, next, a)
+}
+
+fn put_next_count(bytes: &mut [u8], at: usize, n: usize) -> usize
+    requires { ⌜ at + 21 < 2 ^ 64 ⌝ }
+    ensures { λ r. ⌜ Put (now (bytes .entry)) at (spaced (pos n ∷ [])) 21 (now (bytes .exit)) r ⌝ }
+{
+    let next = put_byte(bytes, at, 32);
+    put_digits(bytes, next, n as u64)
+}
+
+fn put_numbers(bytes: &mut [u8], at: usize, numbers: &[i64]) -> usize
+    requires { ⌜ at + 22 * length (now numbers) < 2 ^ 64 ⌝ }
+    ensures { λ r. ⌜
+        Put (now (bytes .entry)) at (spaced (now (numbers .entry))) (22 * length (now (numbers .entry))) (now (bytes .exit)) r ⌝ }
+{
+    let mut next = at;
+    let mut i = 0;
+    while i < numbers.len() {
+        next = put_next(bytes, next, numbers[i]);
+        i += 1;
+    }
+    next
+}
+
+// The number of coefficients up to the last nonzero one.
+fn trimmed(p: &[i64]) -> usize
+    ensures { λ r. ⌜ r ≡ length (trim (now (p .entry))) ⌝ }
+{
+    let mut n = p.len();
+    while 0 < n {
+        if p[n - 1] != 0 {
+            return n;
+        }
+        n -= 1;
+    }
+    0
+}
+
+// One term; nothing for a zero polynomial.
+fn put_term(bytes: &mut [u8], at: usize, p: &[i64], block: i64, column: usize) -> usize
+    requires { ⌜ (length (now p) ≡ 16) × (at + 416 < 2 ^ 64) ⌝ }
+    ensures { λ r. ⌜ Put (now (bytes .entry)) at (spaced (termAt block column (now (p .entry)))) 416 (now (bytes .exit)) r ⌝ }
+{
+    let n = trimmed(p);
+    if n == 0 {
+        return at;
+    }
+    let after_block = put_next(bytes, at, block);
+    let after_column = put_next_count(bytes, after_block, column);
+    let after_count = put_next_count(bytes, after_column, n);
+    put_numbers(bytes, after_count, &p[..n])
+}
+
+// The terms of one block, by rising column.
+fn put_block(bytes: &mut [u8], at: usize, numbers: &[i64], block: i64) -> usize
+    requires { ⌜ (length (now numbers) ≡ 64) × (at + 1664 < 2 ^ 64) ⌝ }
+    ensures { λ r. ⌜
+        Put (now (bytes .entry)) at (spaced (numbersOf (blockTerms block 1 (parts 16 4 (now (numbers .entry)))))) 1664
+        (now (bytes .exit)) r ⌝ }
+{
+    let mut next = at;
+    let mut c = 0;
+    while c < 4 {
+        let from = c * 16;
+        let to = from + 16;
+        next = put_term(bytes, next, &numbers[from..to], block, c + 1);
+        c += 1;
+    }
+    next
+}
+
+// The terms of a row, "by falling s, then rising c".
+fn put_terms(bytes: &mut [u8], at: usize, row: &[i64], l: i64) -> usize
+    requires { ⌜ (length (now row) ≡ 320) × (natAbs l ≤ 64) × (at + 8320 < 2 ^ 64) ⌝ }
+    ensures { λ r. ⌜
+        Put (now (bytes .entry)) at (spaced (numbersOf (termsFrom l (rowOf (now (row .entry)) .blocks)))) 8320 (now (bytes .exit)) r ⌝ }
+{
+    let mut next = at;
+    let mut b = 0;
+    while b < 5 {
+        let from = b * 64;
+        let to = from + 64;
+        next = put_block(bytes, next, &row[from..to], l - b as i64);
+        b += 1;
+    }
+    next
+}
+
+// The number of terms of a row: of its polynomials that are not zero.
+fn term_count(row: &[i64]) -> usize
+    requires { ⌜ length (now row) ≡ 320 ⌝ }
+    ensures { λ r. ⌜ r ≡ nonzeroCount (parts 16 20 (now (row .entry))) ⌝ }
+{
+    let mut terms = 0;
+    let mut i = 0;
+    while i < 20 {
+        let from = i * 16;
+        let to = from + 16;
+        if trimmed(&row[from..to]) != 0 {
+            terms += 1;
+        }
+        i += 1;
+    }
+    terms
+}
+
+fn put_equation(bytes: &mut [u8], at: usize, row: &[i64], l: i64) -> usize
+    requires { ⌜ (length (now row) ≡ 320) × (natAbs l ≤ 64) × (at + 8341 < 2 ^ 64) ⌝ }
+    ensures { λ r. ⌜ Put (now (bytes .entry)) at (line (equationNumbers l (rowOf (now (row .entry))))) 8341 (now (bytes .exit)) r ⌝ }
+{
+    let counted = put_digits(bytes, at, term_count(row) as u64);
+    let written = put_terms(bytes, counted, row, l);
+    put_byte(bytes, written, 10)
+}
+
+// "n0 and an equation"
+fn put_relation(bytes: &mut [u8], at: usize, numbers: &[i64], l: i64) -> usize
+    requires { ⌜ (length (now numbers) ≡ 321) × (natAbs l ≤ 64) × (at + 8363 < 2 ^ 64) ⌝ }
+    ensures { λ r. ⌜ Put (now (bytes .entry)) at (line (relationLine l (relationOf (now (numbers .entry))))) 8363 (now (bytes .exit)) r ⌝ }
+{
+    let row = &numbers[1..];
+    let indexed = put_number(bytes, at, numbers[0]);
+    let counted = put_next_count(bytes, indexed, term_count(row));
+    let written = put_terms(bytes, counted, row, l);
+    put_byte(bytes, written, 10)
+}
+
+fn put_equations(bytes: &mut [u8], at: usize, rows: &[i64], m: usize, l: i64) -> usize
+    requires { ⌜ (m ≤ 4) × (m * 320 ≤ length (now rows)) × (natAbs l ≤ 64) × (at + 33364 < 2 ^ 64) ⌝ }
+    ensures { λ r. ⌜
+        Put (now (bytes .entry)) at (lines (map (equationNumbers l) (rowsOf m (now (rows .entry))))) 33364 (now (bytes .exit)) r ⌝ }
+{
+    let mut next = at;
+    let mut i = 0;
+    while i < m {
+        let from = i * 320;
+        let to = from + 320;
+        next = put_equation(bytes, next, &rows[from..to], l);
+        i += 1;
+    }
+    next
+}
+
+fn put_relations(bytes: &mut [u8], at: usize, relations: &[i64], count: usize, l: i64) -> usize
+    requires { ⌜ (count ≤ 16) × (count * 321 ≤ length (now relations)) × (natAbs l ≤ 64) × (at + 133808 < 2 ^ 64) ⌝ }
+    ensures { λ r. ⌜
+        Put (now (bytes .entry)) at (lines (map (relationLine l) (relationsOf count (now (relations .entry))))) 133808
+        (now (bytes .exit)) r ⌝ }
+{
+    let mut next = at;
+    let mut i = 0;
+    while i < count {
+        let from = i * 321;
+        let to = from + 321;
+        next = put_relation(bytes, next, &relations[from..to], l);
+        i += 1;
+    }
+    next
+}
+
+// A line with one number.
+fn put_count(bytes: &mut [u8], at: usize, n: usize) -> usize
+    requires { ⌜ at + 21 < 2 ^ 64 ⌝ }
+    ensures { λ r. ⌜ Put (now (bytes .entry)) at (line (pos n ∷ [])) 21 (now (bytes .exit)) r ⌝ }
+{
+    let written = put_digits(bytes, at, n as u64);
+    put_byte(bytes, written, 10)
+}
+
+fn put_columns(bytes: &mut [u8], at: usize, columns: &[usize]) -> usize
+    requires { ⌜ at + 21 * length (now columns) < 2 ^ 64 ⌝ }
+    ensures { λ r. ⌜
+        Put (now (bytes .entry)) at (spaced (map pos (now (columns .entry)))) (21 * length (now (columns .entry))) (now (bytes .exit)) r ⌝ }
+{
+    let mut next = at;
+    let mut i = 0;
+    while i < columns.len() {
+        next = put_next_count(bytes, next, columns[i]);
+        i += 1;
+    }
+    next
+}
+
+fn put_order(bytes: &mut [u8], at: usize, order: &[usize]) -> usize
+    requires { ⌜ (length (now order) ≤ 4) × (at + 105 < 2 ^ 64) ⌝ }
+    ensures { λ r. ⌜ Put (now (bytes .entry)) at (line (orderLine (now (order .entry)))) 105 (now (bytes .exit)) r ⌝ }
+{
+    let counted = put_digits(bytes, at, order.len() as u64);
+    let written = put_columns(bytes, counted, order);
+    put_byte(bytes, written, 10)
+}
+
+fn put_sizes(bytes: &mut [u8], at: usize, m: usize, l: i64, t: i64) -> usize
+    requires { ⌜ at + 67 < 2 ^ 64 ⌝ }
+    ensures { λ r. ⌜ Put (now (bytes .entry)) at (line (pos 3 ∷ pos m ∷ l ∷ t ∷ [])) 67 (now (bytes .exit)) r ⌝ }
+{
+    let after_form = put_byte(bytes, at, 51);
+    let after_m = put_next_count(bytes, after_form, m);
+    let after_l = put_next(bytes, after_m, l);
+    let after_t = put_next(bytes, after_l, t);
+    put_byte(bytes, after_t, 10)
+}
+
+// The four sections from the start of the store on.
+fn put_sheet(
+    bytes: &mut [u8],
+    rows: &[i64],
+    relations: &[i64],
+    sizes: rows::validity::Sizes,
+    count: usize,
+    columns: &[usize],
+) -> usize
+    requires { ⌜ Checked (sizesOf sizes) count (now rows) (now relations) × (length (now columns) ≤ 4) ⌝ }
+    ensures { λ r. ⌜
+        Put (now (bytes .entry)) 0
+        (writeSheet (sheetGiven (sizesOf sizes) count (now (columns .entry)) (now (rows .entry)) (now (relations .entry)))) 167386
+        (now (bytes .exit)) r ⌝ }
+{
+    let m = sizes.m;
+    let l = sizes.l;
+    let after_sizes = put_sizes(bytes, 0, m, l, sizes.t);
+    let after_m = put_count(bytes, after_sizes, m);
+    let after_rows = put_equations(bytes, after_m, rows, m, l);
+    let after_count = put_count(bytes, after_rows, count);
+    let after_relations = put_relations(bytes, after_count, relations, count, l);
+    put_order(bytes, after_relations, columns)
+}
+
+// "Every refusal returns its number, all other fields 0."
+pub struct WriteResult {
+    pub refusal: u8,
+    pub length: usize,
+}
+
+// The system of the stores and its column order as a sheet: all four numbers of the order 0 for none, otherwise a permutation of
+// 1..m and zeros past its end. Nothing is written on a refusal, and bytes past the length stay.
+pub fn write_sheet(
+    rows: &[i64],
+    relations: &[i64],
+    sizes: rows::validity::Sizes,
+    count: usize,
+    order: [usize; 4],
+    bytes: &mut [u8],
+) -> WriteResult
+    ensures { λ r. ⌜
+        callOf r (now (bytes .exit))
+        ≡ writeCall (sizesOf sizes) count order (now (rows .entry)) (now (relations .entry)) (now (bytes .entry)) ⌝ }
+{
+    let refusal = checks::check_write(rows, relations, sizes, count, order);
+    if refusal != 0 {
+        return WriteResult { refusal, length: 0 };
+    }
+    let n = checks::order_length(order, sizes.m);
+    let all = &order[..];
+    let length = put_sheet(&mut bytes[..0], rows, relations, sizes, count, &all[..n]);
+    if bytes.len() < length {
+        return WriteResult {
+            refusal: 1,
+            length: 0,
+        };
+    }
+    put_sheet(bytes, rows, relations, sizes, count, &all[..n]);
+    WriteResult { refusal: 0, length }
+}
