@@ -3,3 +3,4 @@ pub mod Faults
 pub mod Answers
 pub mod Pieces
 pub mod Traces
+pub mod Lines

@@ -183,7 +183,22 @@ line-fault bytes z = go (readSheetLine bytes) refl z
     go (got v rest) e z = absurd (z refl)
     go (fault n) e z = (n, e, refl)
 
--- ---- counting and closing, for a batch of at most 1,000 sheets
+-- ---- counting and closing
+
+pub counted-is : (b : Batch) (n : ℕ) → b .left ≢ 0 → b .accepted < 1000 → b .refused < 1000
+    → countedOf b n ≡ batchWith (pred (b .left)) (count (numbered n) (tallyOf b))
+unfolding countedOf countsMore
+counted-is b n some few few' =
+    let more = batchWith (pred (b .left)) (count (numbered n) (tallyOf b)) in
+    ap₂ (λ s t. cond (s && t) more b) (lt-ltb 0 (b .left) (omega arith))
+    (ap₂ _&&_ (lt-ltb (b .accepted) 1000 few) (lt-ltb (b .refused) 1000 few'))
+
+pub closed-is : (b : Batch) (over : ℕ) → b .left ≡ 0 → b .accepted ≤ 1000 → b .refused ≤ 1000
+    → closeLine b over ≡ closing (tallyOf b) (replicate over 0)
+unfolding closeLine closeable
+closed-is b over none few few' =
+    ap₂ (λ s t. cond (s && t) (closing (tallyOf b) (replicate over 0)) broken) (eq-eqb (b .left) 0 none)
+    (ap₂ _&&_ (le-leb (b .accepted) 1000 few) (le-leb (b .refused) 1000 few'))
 
 -- What a batch that has begun keeps: its sheets are at most 1,000.
 abbrev pub Counted : Batch → Type 0
@@ -192,11 +207,7 @@ Counted b = b .left + b .accepted + b .refused ≤ 1000
 module _ (b : Batch) (few : Counted b) where
   module _ (some : b .left ≢ 0) (n : ℕ) where
     counts : countedOf b n ≡ batchWith (pred (b .left)) (count (numbered n) (tallyOf b))
-    unfolding countedOf countsMore
-    counts =
-        let more = batchWith (pred (b .left)) (count (numbered n) (tallyOf b)) in
-        ap₂ (λ s t. cond (s && t) more b) (lt-ltb 0 (b .left) (omega arith))
-        (ap₂ _&&_ (lt-ltb (b .accepted) 1000 (omega arith)) (lt-ltb (b .refused) 1000 (omega arith)))
+    counts = counted-is b n some (omega arith) (omega arith)
 
     pub counted-left : countedOf b n .left ≡ pred (b .left)
     counted-left = ap (λ c. c .left) counts
@@ -214,12 +225,8 @@ module _ (b : Batch) (few : Counted b) where
         go (suc n) = let h : pred (b .left) + b .accepted + suc (b .refused) ≤ 1000 = omega arith in h
 
   pub close-closing : b .left ≡ 0 → (rest : List ℕ) → closeLine b (length rest) ≡ closing (tallyOf b) rest
-  unfolding closeLine closeable
-  close-closing none rest =
-      let closed = closing (tallyOf b) (replicate (length rest) 0) in
-      ap₂ (λ s t. cond (s && t) closed broken) (eq-eqb (b .left) 0 none)
-      (ap₂ _&&_ (le-leb (b .accepted) 1000 (omega arith)) (le-leb (b .refused) 1000 (omega arith)))
-      ∙ over rest
+  unfolding closing
+  close-closing none rest = closed-is b (length rest) none (omega arith) (omega arith) ∙ over rest
     where
       -- It only matters whether any bytes are left over.
       over : (rest : List ℕ) → closing (tallyOf b) (replicate (length rest) 0) ≡ closing (tallyOf b) rest

@@ -224,13 +224,13 @@ module _ (judge follow : ℤ → ℕ) where
 
 -- ---- the line of a sheet
 
-abbrev countOf : List ℕ → Read ℤ
+abbrev pub countOf : List ℕ → Read ℤ
 countOf bytes = field (between (pos 0) (pos 32768)) (always newline) bytes
 
-abbrev clientOf : List ℕ → Read ℤ
+abbrev pub clientOf : List ℕ → Read ℤ
 clientOf bytes = field (between (pos 1) (pos 8)) (always space) bytes
 
-sheetLine-is : (bytes : List ℕ) → readSheetLine bytes ≡ readAfterClient (clientOf bytes)
+pub sheetLine-is : (bytes : List ℕ) → readSheetLine bytes ≡ readAfterClient (clientOf bytes)
 unfolding readSheetLine readClient
 sheetLine-is bytes = refl
 
