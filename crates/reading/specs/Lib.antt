@@ -3,3 +3,4 @@ pub mod Equations
 pub mod Sections
 pub mod Order
 pub mod WholeSheet
+pub mod ReadCalls

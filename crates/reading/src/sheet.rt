@@ -1,7 +1,9 @@
 // A whole sheet.
 ghost use mathlib.Core.Path.{_≡_};
-ghost use Prim.Native.Nat.{_≤_};
+ghost use Prim.Native.Nat.{_*_, _≤_};
 ghost use lib.ListN.{length};
+ghost use Rattle.rules.specs.Stores.{rowsOf, relationsOf, rowStoreOf, relationStoreOf};
+ghost use Rattle.rules.specs.Calls.{overwrite};
 ghost use Rattle.rules.specs.SheetCalls.{readRefusal};
 ghost use Rattle.reading.specs.WholeSheet.{resultOf, SheetRead};
 
@@ -14,7 +16,7 @@ pub struct SheetResult {
     pub order: [usize; 4],
 }
 
-fn refused(refusal: u8) -> SheetResult
+pub(crate) fn refused(refusal: u8) -> SheetResult
     ensures { λ r. ⌜ resultOf r ≡ readRefusal refusal ⌝ }
 {
     SheetResult {
@@ -49,4 +51,23 @@ pub(crate) fn sheet_at(bytes: &[u8], rows: &mut [i64], relations: &mut [i64]) ->
         relations: s.relations,
         order,
     }
+}
+
+// The numbers of m rows, put into a store that is long enough; "numbers past the needed part stay".
+pub(crate) fn fill_rows(store: &mut [i64], numbers: &[i64], m: usize)
+    requires { ⌜ (m ≤ 4) × (m * 320 ≤ length (now store)) × (m * 320 ≤ length (now numbers)) ⌝ }
+    ensures { λ _. ⌜ now (store .exit) ≡ overwrite (rowStoreOf (rowsOf m (now (numbers .entry)))) (now (store .entry)) ⌝ }
+{
+    crate::equations::copy(store, 0, numbers, m * 320);
+}
+
+// The numbers of the relations, put into a store that is long enough; "Relation places past the count are unused: they hold 0
+// before and after."
+pub(crate) fn fill_relations(store: &mut [i64], numbers: &[i64], count: usize)
+    requires { ⌜ (count ≤ 16) × (5136 ≤ length (now store)) × (count * 321 ≤ length (now numbers)) ⌝ }
+    ensures { λ _. ⌜ now (store .exit) ≡ overwrite (relationStoreOf (relationsOf count (now (numbers .entry)))) (now (store .entry)) ⌝ }
+{
+    let used = count * 321;
+    crate::equations::copy(store, 0, numbers, used);
+    rows::stores::clear(store, used, 5136 - used);
 }

@@ -94,7 +94,7 @@ pub fn relations_right(store: &[i64], sizes: Sizes, count: usize) -> bool
 }
 
 // "The row store needs m × 320 numbers, the relation store 16 × 321."
-fn lengths_right(rows: &[i64], relations: &[i64], m: usize) -> bool
+pub fn lengths_right(rows: &[i64], relations: &[i64], m: usize) -> bool
     requires { ⌜ m ≤ 4 ⌝ }
     ensures { λ r. ⌜ r ≡ Stores.lengthsRight m (now (rows .entry)) (now (relations .entry)) ⌝ }
 {

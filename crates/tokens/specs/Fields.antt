@@ -199,7 +199,7 @@ module _ (judge follow : ℤ → ℕ) where
 
 -- ---- laws of reading one thing after another
 
-got-not-fault : {A : Type 0} {a : A} {rest : List ℕ} {n : ℕ} → got a rest ≡ fault n → ⊥
+pub got-not-fault : {A : Type 0} {a : A} {rest : List ℕ} {n : ℕ} → got a rest ≡ fault n → ⊥
 got-not-fault e = let z : _≡_ {A = ℕ} 0 1 = cc in omega arith
 
 module _ {A B : Type 0} where

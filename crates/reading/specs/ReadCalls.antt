@@ -1,0 +1,163 @@
+-- The call that reads a sheet into lent stores.
+--
+-- Main definitions
+--   callOf r ..          the call of `rules` that a result and the stores after it give
+--
+-- Main statements
+--   rows-filled, relations-filled   numbers put into a lent store are what `rules` writes into it
+--   call-refuses, call-short, call-fills   the call where the sheet is refused, where a store is too short, and where it is read
+use Prim.Native.Nat.{ℕ, _+_, _*_, _-_, _≤_, zero-le}
+use native.Mathlib.Nat.{le-of-eq, zero-add}
+use native.Mathlib.Omega.{arith}
+use mathlib.Core.Path.{_≡_, sym, ap, ap₂, _∙_}
+use mathlib.Core.Bool.{true, false, cond}
+use mathlib.Core.List.{List, _++_, map, flatten}
+use lib.ListN.{length, take, drop, replicate, length-replicate}
+use lib.Seq.{paste, length-take-le, take-all, take-paste, drop-paste, drop-drop}
+use lib.IntN.{ℤ, pos}
+use Rattle.rules.specs.Limits.{relationLength, mostRelations}
+use Rattle.rules.specs.Stores.{parts, rowsOf, relationOf, relationsOf, relationNumbers, rowNeed, relationNeed, rowStoreOf, relationStoreOf, lengthsRight}
+use Rattle.rules.specs.Layout.{flatten-parts, parts-width, rowStoreOf-rowsOf, relationNumbers-relationOf, length-relationsOf, length-relationStoreOf, StoreRelation-relationsOf}
+use Rattle.rules.specs.Lists.{map-back, all-mono}
+use Rattle.rules.specs.Calls.{overwrite}
+use Rattle.rules.specs.Numbers.{Read, got, fault, thenRead}
+use Rattle.rules.specs.Sheets.{Sheet, readSheet}
+use Rattle.rules.specs.SheetCalls.{ReadResult, ReadCall, readRefusal, unread, filled, afterRead, readCall}
+use Rattle.tokens.specs.Fields.{readOf, fault-of, then-parts, got-not-fault}
+use Rattle.reading.specs.Equations.{got-value}
+use Rattle.reading.specs.WholeSheet.{resultOf, sheet, padSheet, SheetRead}
+use Rattle.reading.specs.declared.sheet.SheetResult.{SheetResult}
+
+unfoldable pub callOf : SheetResult → List ℤ → List ℤ → ReadCall
+unfolding resultOf
+callOf r rowStore relationStore = record { result = resultOf r; rowStore = rowStore; relationStore = relationStore }
+
+-- ---- stores that are filled
+
+-- Numbers put at the front of a store take the place of its needed part.
+overwrite-paste : (store numbers : List ℤ) (n : ℕ) → n ≤ length numbers → paste store 0 numbers n ≡ overwrite (take n numbers) store
+unfolding overwrite
+overwrite-paste store numbers n h =
+    ap (λ k. take n numbers ++ drop k store) (zero-add n ∙ sym (length-take-le n numbers h))
+
+pub rows-filled : (m : ℕ) (numbers store : List ℤ) → rowNeed m ≤ length numbers
+    → paste store 0 numbers (rowNeed m) ≡ overwrite (rowStoreOf (rowsOf m numbers)) store
+rows-filled m numbers store h =
+    overwrite-paste store numbers (rowNeed m) h ∙ ap (λ part. overwrite part store) (sym (rowStoreOf-rowsOf m numbers))
+
+-- The relations that a store holds, written again, are the part of the store that they use.
+used-again : (count : ℕ) (l : List ℤ) → count * relationLength ≤ length l
+    → flatten (map relationNumbers (relationsOf count l)) ≡ take (count * relationLength) l
+unfolding relationsOf
+used-again count l h =
+    ap flatten
+    (map-back relationOf relationNumbers (parts relationLength count l)
+    (all-mono (λ p. length p ≡ relationLength) (λ p. relationNumbers (relationOf p) ≡ p) relationNumbers-relationOf (parts relationLength count l) (parts-width relationLength count l h)))
+    ∙ flatten-parts relationLength count l
+
+relationStore-again : (count : ℕ) (l : List ℤ) → count * relationLength ≤ length l
+    → relationStoreOf (relationsOf count l) ≡ take (count * relationLength) l ++ replicate ((mostRelations - count) * relationLength) (pos 0)
+unfolding relationStoreOf
+relationStore-again count l h =
+    ap₂ (λ used n. used ++ replicate ((mostRelations - n) * relationLength) (pos 0)) (used-again count l h) (length-relationsOf count l)
+
+-- A second part behind a first one.
+paste-twice : (store p q : List ℤ) (n k : ℕ) → n ≤ length p → paste (paste store 0 p n) n q k ≡ take n p ++ take k q ++ drop (n + k) store
+paste-twice store p q n k h = ap₂ (λ s r. s ++ take k q ++ r) front behind
+  where
+    first : List ℤ
+    first = paste store 0 p n
+
+    front : take n first ≡ take n p
+    front = ap (λ i. take i first) (sym (zero-add n)) ∙ take-paste store 0 p n zero-le h
+
+    behind : drop (n + k) first ≡ drop (n + k) store
+    behind =
+        sym (drop-drop k n first)
+        ∙ ap (drop k) (ap (λ i. drop i first) (sym (zero-add n)) ∙ drop-paste store 0 p n zero-le h ∙ ap (λ i. drop i store) (zero-add n))
+        ∙ drop-drop k n store
+
+-- The relations at the front, and zeros at the places past the count.
+pub relations-filled : (count : ℕ) (numbers store : List ℤ) → count ≤ mostRelations → count * relationLength ≤ length numbers
+    → paste (paste store 0 numbers (count * relationLength)) (count * relationLength) (replicate (relationNeed - count * relationLength) (pos 0)) (relationNeed - count * relationLength)
+    ≡ overwrite (relationStoreOf (relationsOf count numbers)) store
+unfolding overwrite
+relations-filled count numbers store few enough =
+    paste-twice store numbers (replicate left (pos 0)) (count * relationLength) left enough
+    ∙ ap₂ (λ part n. part ++ drop n store) (ap (λ r. take (count * relationLength) numbers ++ r) unused ∙ sym (relationStore-again count numbers enough)) whole
+  where
+    left : ℕ
+    left = relationNeed - count * relationLength
+
+    same : left ≡ (mostRelations - count) * relationLength
+    same = omega arith
+
+    unused : take left (replicate left (pos 0)) ≡ replicate ((mostRelations - count) * relationLength) (pos 0)
+    unused =
+        take-all left (replicate left (pos 0)) (le-of-eq (length-replicate left (pos 0)))
+        ∙ ap (λ n. replicate n (pos 0)) same
+
+    whole : count * relationLength + left ≡ length (relationStoreOf (relationsOf count numbers))
+    whole =
+        sym (length-relationStoreOf (relationsOf count numbers) (rw length-relationsOf few) (StoreRelation-relationsOf count numbers enough) ∙ omega arith)
+
+-- ---- the call
+
+-- A result that is a refusal, with the stores as they were.
+pub call-unread : (q : SheetResult) (n : ℕ) (rowStore relationStore : List ℤ) → resultOf q ≡ readRefusal n
+    → callOf q rowStore relationStore ≡ unread n rowStore relationStore
+unfolding callOf unread
+call-unread q n rowStore relationStore e = ap (λ r. record { result = r; rowStore = rowStore; relationStore = relationStore }) e
+
+-- What was read, from what was read with all the columns of its order.
+pad-fault : (q : Read Sheet) (n : ℕ) → thenRead q padSheet ≡ fault n → q ≡ fault n
+unfolding thenRead padSheet
+pad-fault (got s rest) n e = absurd (got-not-fault e)
+pad-fault (fault k) n e = e
+
+module _ (bytes : List ℕ) (r : ReadResult) (rows relations : List ℤ) (read : SheetRead bytes r rows relations) (rowStore relationStore : List ℤ) where
+  pub call-refuses : (r .refusal ≡ 0 → ⊥) → readCall bytes rowStore relationStore ≡ unread (r .refusal) rowStore relationStore
+  unfolding readCall afterRead
+  call-refuses h =
+      ap (λ q. afterRead q rowStore relationStore)
+      (pad-fault (readSheet bytes) (r .refusal) (sym (read .answer) ∙ fault-of bytes (r .refusal) _ (length bytes) h))
+
+  module _ (none : r .refusal ≡ 0) where
+    abbrev held : Sheet
+    held = sheet (r .sizes) (rowsOf (r .sizes .m) rows) (relationsOf (r .relations) relations) (r .order)
+
+    -- A call that gives a sheet back: the refusal and the number of relations beside it.
+    callWith : ℕ → ℕ → Sheet → ReadCall
+    callWith n k p =
+        record {
+          result = record { refusal = n; sizes = p .sizes; relations = k; order = p .order };
+          rowStore = overwrite (rowStoreOf (p .rows)) rowStore;
+          relationStore = overwrite (relationStoreOf (p .relations)) relationStore;
+        }
+
+    -- The stores with what was read in their needed parts.
+    abbrev pub filledCall : ReadCall
+    filledCall =
+        record {
+          result = r;
+          rowStore = overwrite (rowStoreOf (rowsOf (r .sizes .m) rows)) rowStore;
+          relationStore = overwrite (relationStoreOf (relationsOf (r .relations) relations)) relationStore;
+        }
+
+    call-read : readCall bytes rowStore relationStore
+        ≡ cond (lengthsRight (r .sizes .m) rowStore relationStore) filledCall (unread 1 rowStore relationStore)
+    unfolding readOf padSheet readCall afterRead filled callWith
+    call-read =
+        let parts = then-parts (readSheet bytes) padSheet (sym (read .answer) ∙ ap (λ n. readOf bytes n held (length bytes)) none) in
+        ap (λ q. afterRead q rowStore relationStore) (parts .2)
+        ∙ ap (λ p. cond (lengthsRight (p .sizes .m) rowStore relationStore) (callWith 0 (length (p .relations)) p) (unread 1 rowStore relationStore))
+        (got-value (parts .3))
+        ∙ ap₂ (λ n k. cond (lengthsRight (r .sizes .m) rowStore relationStore) (callWith n k held) (unread 1 rowStore relationStore)) (sym none)
+        (length-relationsOf (r .relations) relations)
+
+    -- "1 only when the sheet is otherwise whole"
+    pub call-short : lengthsRight (r .sizes .m) rowStore relationStore ≡ false → readCall bytes rowStore relationStore ≡ unread 1 rowStore relationStore
+    call-short e = call-read ∙ ap (λ t. cond t filledCall (unread 1 rowStore relationStore)) e
+
+    pub call-fills : lengthsRight (r .sizes .m) rowStore relationStore ≡ true → readCall bytes rowStore relationStore ≡ filledCall
+    call-fills e = call-read ∙ ap (λ t. cond t filledCall (unread 1 rowStore relationStore)) e
