@@ -1,7 +1,7 @@
 // The mirror of what the stores hold, before a run on the trailing side and after it.
 ghost use Prim.Native.Nat.{_≤_};
 ghost use Rattle.rules.specs.Stores.{rowNeed};
-ghost use Rattle.elimination.specs.Progress.{Within, Listing};
+ghost use Rattle.steps.specs.Progress.{Within, Listing};
 ghost use Rattle.elimination.specs.MirrorLaws.{RowsMirrored, RelationsMirrored};
 
 // "replace n by -n, block s by -s" in every row.
@@ -28,7 +28,7 @@ pub(crate) fn mirror_relations(store: &mut [i64], count: usize, span: usize)
         let at = k * 321;
         let n0 = store[at];
         let row = rows::stores::load(store, at + 1);
-        super::listing::save_relation(
+        steps::listing::save_relation(
             store,
             k,
             integers::negated(n0),

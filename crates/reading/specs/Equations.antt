@@ -10,7 +10,7 @@
 --   rowOf-paste          sixteen numbers stored at the place of a block and a column are a term put into the row
 --   equation-is          an equation is its count and then its terms, put into the blank row as they are read
 use Prim.Native.Nat.{ℕ, zero, suc, pred, _+_, _*_, _-_, _≤_, _<_, zero-le, suc-le-suc}
-use native.Mathlib.Nat.{suc-inj, suc-ne-zero, le-trans, le-of-eq, add-zero, not-suc-le-zero, le-of-suc-le-suc, add-assoc, zero-add, suc-mul, zero-mul, mul-le-mul-right}
+use native.Mathlib.Nat.{suc-inj, suc-ne-zero, le-trans, le-of-eq, add-zero, le-of-suc-le-suc, add-assoc, zero-add, suc-mul, zero-mul, mul-le-mul-right}
 use native.Mathlib.Decide.{ℕ-discrete}
 use native.Mathlib.Omega.{arith}
 use mathlib.Core.Path.{_≡_, refl, sym, ap, ap₂, _∙_, subst}
@@ -19,13 +19,14 @@ use borrow.Author.Tests.{ltb-true}
 use mathlib.Core.Bool.{Bool, true, false, _||_}
 use mathlib.Core.List.{List, [], _∷_, _++_, map, append-nil, append-assoc}
 use lib.ListN.{length, getD, take, drop, set, replicate, length-take, length-drop, drop-of-length-le}
-use lib.Seq.{paste, length-paste, take-all, take-add, drop-at, take-take, take-append-le, take-append-add, drop-append-le, drop-drop, drop-paste, length-paste-head, length-take-le, set-comm, getD-set-other}
+use lib.Seq.{paste, length-paste, take-all, take-take, take-append-le, take-append-add, drop-append-le, drop-drop, drop-paste, length-paste-head, length-take-le, set-comm, getD-set-other}
 use lib.Dec.{T, ltb}
 use lib.IntN.{ℤ, pos, natAbs, _-ℤ_}
 use lib.Signed.{ltZ, ltZ-yes, ≤ℤ-refl, clashℤ, pos-natAbs, _≤ℤ_, _<ℤ_}
 use Rattle.rules.specs.Limits.{coefficientCount, columnCount, blockCount, rowLength}
 use Rattle.rules.specs.Rows.{Row, Block, All}
 use Rattle.rules.specs.Stores.{Sizes, span, parts, rowOf, sizesRight}
+use Rattle.rules.specs.Lists.{drop-take, getD-map}
 use Rattle.rules.specs.Layout.{parts-length, getD-parts, size-bounds, block-place}
 use Rattle.rules.specs.Calls.{padTo}
 use Rattle.rules.specs.Numbers.{Read, got, fault, thenRead, field, between, space, newline}
@@ -38,9 +39,6 @@ use Rattle.reading.specs.Terms.{padded, BlockRight, block-zero, column-z
 -- ---- a part of a list replaced
 
 module _ {A : Type 0} where
-  drop-take : (m n : ℕ) (l : List A) → m ≤ length l → drop m (take (m + n) l) ≡ take n (drop m l)
-  drop-take m n l h = ap (drop m) (take-add m n l) ∙ drop-at (take m l) (take n (drop m l)) m (length-take-le m l h)
-
   module _ (l : List A) (at : ℕ) (p : List A) (w : ℕ) (long : w ≤ length p) where
     pub take-before-paste : (k : ℕ) → k ≤ at → at ≤ length l → take k (paste l at p w) ≡ take k l
     take-before-paste k h inside =
@@ -64,13 +62,13 @@ module _ {A : Type 0} where
         ap (λ j. take j (paste l at p w)) (e ∙ ap (λ j. j + d) (sym (length-paste-head l at p w (omega arith) long)))
         ∙ take-append-add (take at l ++ take w p) (drop (at + w) l) d
         ∙ ap₂ (λ t r. t ++ take w p ++ r) (sym (take-take at k l (omega arith)))
-        (sym (ap (λ j. drop (at + w) (take j l)) e ∙ drop-take (at + w) d l (omega arith)))
+        (sym (ap (λ j. drop (at + w) (take j l)) e ∙ drop-take (at + w) d l))
 
   pub drop-into-paste : (l : List A) (k q : ℕ) (p : List A) (w : ℕ) → k + q ≤ length l → drop k (paste l (k + q) p w) ≡ paste (drop k l) q p w
   drop-into-paste l k q p w inside =
       ap (drop k) (append-assoc (take (k + q) l) (take w p) (drop (k + q + w) l))
       ∙ drop-append-le k (take (k + q) l) (take w p ++ drop (k + q + w) l) (rw (length-take-le (k + q) l inside) (omega arith))
-      ∙ ap₂ (λ t r. t ++ (take w p ++ r)) (drop-take k q l (omega arith)) (ap (λ j. drop j l) (add-assoc k q w) ∙ sym (drop-drop (q + w) k l))
+      ∙ ap₂ (λ t r. t ++ (take w p ++ r)) (drop-take k q l) (ap (λ j. drop j l) (add-assoc k q w) ∙ sym (drop-drop (q + w) k l))
       ∙ sym (append-assoc (take q (drop k l)) (take w p) (drop (q + w) (drop k l)))
 
   -- A part replaced within the i-th of the parts of width k.
@@ -107,11 +105,6 @@ map-set : {A B : Type 0} (f : A → B) (l : List A) (i : ℕ) (a : A) → map f 
 map-set f [] i a = refl
 map-set f (x ∷ l) zero a = refl
 map-set f (x ∷ l) (suc i) a = ap (λ r. f x ∷ r) (map-set f l i a)
-
-getD-map : {A B : Type 0} (f : A → B) (l : List A) (i : ℕ) (a : A) (b : B) → i < length l → getD (map f l) i b ≡ f (getD l i a)
-getD-map f [] i a b h = absurd (not-suc-le-zero h)
-getD-map f (x ∷ l) zero a b h = refl
-getD-map f (x ∷ l) (suc i) a b h = getD-map f l i a b (le-of-suc-le-suc h)
 
 -- A part of k numbers replaced in the c-th part of the b-th part, for any widths.
 module _ {A : Type 0} (K k n m : ℕ) (l p : List A) (b c : ℕ) (hb : b < n) (hc : c < m) (width : m * k ≡ K) (enough : n * K ≤ length l)

@@ -1,11 +1,14 @@
--- A whole sheet: its sizes, its sections, and the call that reads it into lent stores.
+-- A whole sheet: its sizes, its sections and its end.
 --
 -- Main definitions
 --   readUnknowns, readBlocks   the two halves of a sheet's first line
+--   equationSection, relationSection, orderSection, readSections   the sections after it
+--   SheetRead                  a sheet that was read into stores, or refused
 --
 -- Main statements
 --   sizes-is      the first line is those two halves
 --   sizes-right   sizes that were read are right
+--   sheet-is      a sheet is its sizes, its sections and its end
 use Prim.Native.Nat.{ℕ, _-_, _≤_, _<_}
 use native.Mathlib.Nat.{le-refl}
 use mathlib.Core.Path.{_≡_, refl, sym, ap, ap₂, _∙_, subst}

@@ -26,9 +26,10 @@ use lib.Seq.{take-add, length-take-le, getD-take, getD-drop}
 use Rattle.algebra.specs.Polynomials.{Polynomial, isZeroℤ, isZero, isZero-append}
 use Rattle.polynomials.specs.Content.{isZero-false}
 use Rattle.rules.specs.Rows.{Block, Row, All, every, zeroBlock, widthOf, leadingBlock, entry, firstNonzero}
+use Rattle.rules.specs.Lists.{getD-default}
 use Rattle.rules.specs.Stores.{parts, rowOf}
 use Rattle.rules.specs.Layout.{parts-length, getD-parts}
-use Rattle.rows.specs.Flat.{both-true, every-longer, isZero-every, every-parts, getD-default, parts-take, block-at}
+use Rattle.rows.specs.Flat.{both-true, every-longer, isZero-every, every-parts, parts-take, block-at}
 
 unfoldable pub foundOr : ℕ → Option ℕ → ℕ
 foundOr n none = n

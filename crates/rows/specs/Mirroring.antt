@@ -10,8 +10,8 @@
 --   rowOf-mirrorRow     the mirror's numbers hold the mirror
 --   number-mirrorRow    each number of the mirror
 --   small-mirrorRow     the mirror of a row with coefficients within ±C has such coefficients
-use Prim.Native.Nat.{ℕ, zero, suc, _+_, _*_, _-_, _/_, _%_, _≤_, _<_, zero-le, suc-le-suc}
-use native.Mathlib.Nat.{not-suc-le-zero, le-of-suc-le-suc, eq-or-lt-of-le, zero-lt-suc, le-of-eq, suc-ne-zero}
+use Prim.Native.Nat.{ℕ, zero, suc, _+_, _*_, _-_, _/_, _%_, _≤_, _<_, zero-le}
+use native.Mathlib.Nat.{not-suc-le-zero, le-of-suc-le-suc, eq-or-lt-of-le, le-of-eq, suc-ne-zero}
 use native.Mathlib.Omega.{arith}
 use mathlib.Core.Path.{_≡_, refl, sym, _∙_, ap}
 use mathlib.Core.Logic.{⊎-elim}
@@ -24,10 +24,11 @@ use lib.ListN.{length, take, drop, getD, length-map, length-append, length-take,
 use lib.ListN.{List·getD-append, List·getD-map}
 use lib.Seq.{length-take-le, getD-take, getD-drop, getD-at, getD-append-add}
 use Rattle.algebra.specs.Integers.{natAbs-negℤ}
-use Rattle.algebra.specs.Polynomials.{Polynomial, coeff, mirror, length-mirror}
+use Rattle.algebra.specs.Polynomials.{coeff, mirror, length-mirror}
 use Rattle.algebra.specs.Coefficients.{alternate, coeff-mirror}
 use Rattle.rules.specs.Limits.{small}
 use Rattle.rules.specs.Rows.{Block, Row, All, every, coefficientsOf, mapRow, smallRow, mirrorRow}
+use Rattle.rules.specs.Lists.{all-getD, getD-all, map-keeps}
 use Rattle.rules.specs.Stores.{rowOf, Shaped, StoreRow}
 use Rattle.rules.specs.Layout.{StoreRow-rowOf, polynomial-at-row, rowOf-coefficientsOf, length-coefficientsOf}
 use Rattle.rows.specs.Flat.{every-from-at, every-from-all, length-blocks}
@@ -113,28 +114,14 @@ natAbs-alternate (suc k) a = natAbs-negℤ (alternate k a) ∙ natAbs-alternate 
 
 -- ---- the shape of the mirror
 
-module _ {A : Type 0} (P : A → Type 0) where
-  All-at : (l : List A) (d : A) → All P l → (i : ℕ) → i < length l → P (getD l i d)
-  unfolding All
-  All-at [] d h i b = absurd (not-suc-le-zero b)
-  All-at (x ∷ l) d h zero b = h .0
-  All-at (x ∷ l) d h (suc i) b = All-at l d (h .1) i (le-of-suc-le-suc b)
-
-  All-of : (l : List A) (d : A) → ((i : ℕ) → i < length l → P (getD l i d)) → All P l
-  unfolding All
-  All-of [] d h = tt
-  All-of (x ∷ l) d h = (h 0 (zero-lt-suc (length l)), All-of l d (λ i b. h (suc i) (suc-le-suc b)))
-
 abbrev StoreBlock : Block → Type 0
 StoreBlock block = (length block ≡ 4) × All (λ p. length p ≡ 16) block
 
 StoreBlock-mirror : (block : Block) → StoreBlock block → StoreBlock (map mirror block)
-unfolding All
-StoreBlock-mirror block h = (length-map block mirror ∙ h .0, widths block (h .1))
-  where
-    widths : (ps : List Polynomial) → All (λ p. length p ≡ 16) ps → All (λ p. length p ≡ 16) (map mirror ps)
-    widths [] h = tt
-    widths (p ∷ ps) h = (length-mirror p ∙ h .0, widths ps (h .1))
+StoreBlock-mirror block h = (
+  length-map block mirror ∙ h .0,
+  map-keeps (λ p. length p ≡ 16) (λ p. length p ≡ 16) mirror (λ p w. length-mirror p ∙ w) block (h .1),
+)
 
 pub mirrorBlock-below : (D b : ℕ) → D ≤ 4 → b < 5 → mirrorBlock D b < 5
 unfolding mirrorBlock
@@ -175,7 +162,7 @@ module _ (D : ℕ) (l : List ℤ) (few : D ≤ 4) (long : length l ≡ 320) wher
 
   StoreRow-mirrorRow : StoreRow mirrored
   unfolding Shaped mirrorRow mapRow
-  StoreRow-mirrorRow = (count, All-of StoreBlock (mirrored .blocks) [] block)
+  StoreRow-mirrorRow = (count, getD-all StoreBlock (mirrored .blocks) [] block)
     where
       count : length (mirrored .blocks) ≡ 5
       count = simp (length-map, length-append, length-reverse, length-take, length-drop, length-blocks) (omega arith)
@@ -183,7 +170,7 @@ module _ (D : ℕ) (l : List ℤ) (few : D ≤ 4) (long : length l ≡ 320) wher
       source : (b : ℕ) → b < length (mirrored .blocks) → StoreBlock (getD (rowOf l .blocks) (mirrorBlock D b) [])
       source b h =
           let inside : mirrorBlock D b < length (rowOf l .blocks) = rw length-blocks (mirrorBlock-below D b few (rw count at h)) in
-          All-at StoreBlock (rowOf l .blocks) [] (StoreRow-rowOf l (le-of-eq (sym long)) .1) (mirrorBlock D b) inside
+          all-getD StoreBlock (rowOf l .blocks) [] (mirrorBlock D b) inside (StoreRow-rowOf l (le-of-eq (sym long)) .1)
 
       block : (b : ℕ) → b < length (mirrored .blocks) → StoreBlock (getD (mirrored .blocks) b [])
       block b h = rw (block-mirrorRow b) (StoreBlock-mirror (getD (rowOf l .blocks) (mirrorBlock D b) []) (source b h))

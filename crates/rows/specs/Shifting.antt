@@ -6,7 +6,7 @@
 --   shiftUp-rest      the last block is zero
 --   shifted-held      a shifted row within the limit is held by its numbers
 use mathlib.Core.Path.{_≡_, refl, sym, _∙_, ap, ap₂, subst}
-use mathlib.Core.List.{List, [], _∷_, _++_, map, flatten, append-assoc, append-nil}
+use mathlib.Core.List.{List, [], _∷_, _++_, map, flatten, append-nil, map-append}
 use Prim.Native.Nat.{ℕ, _+_, _*_, _<_}
 use native.Mathlib.Nat.{add-comm}
 use native.Mathlib.Omega.{arith}
@@ -16,21 +16,13 @@ use lib.ListN.{length, take, drop, length-take, length-drop, length-map, List·g
 use lib.Seq.{drop-at, drop-drop}
 use Rattle.algebra.specs.Polynomials.{Polynomial, isZero, shift, shiftBy, length-shift, isZero-append, isZero-shift, T-&&}
 use Rattle.rules.specs.Rows.{Block, Row, All, mapRow, coefficientsOf, blank, leadingBlock, shiftUp}
+use Rattle.rules.specs.Lists.{append-all, map-keeps, flatten-append, length-flatten}
 use Rattle.rules.specs.Stores.{parts, rowOf, StoreRow}
 use Rattle.rules.specs.Elimination.{within, limitCoefficients}
 use Rattle.rules.specs.Layout.{parts-length, parts-width, getD-parts, length-coefficientsOf}
-use Rattle.rows.specs.Written.{length-flatten, part-flatten}
+use Rattle.rows.specs.Written.{part-flatten}
 use Rattle.rows.specs.Flat.{polynomialsOf, flatten-map, parts-parts}
 use Rattle.rows.specs.Worked.{Held, held, store-row}
-
-flatten-append : {A : Type 0} (ls ms : List (List A)) → flatten (ls ++ ms) ≡ flatten ls ++ flatten ms
-unfolding flatten
-flatten-append [] ms = refl
-flatten-append (l ∷ ls) ms = ap (λ r. l ++ r) (flatten-append ls ms) ∙ sym (append-assoc l (flatten ls) (flatten ms))
-
-map-append : {A B : Type 0} (f : A → B) (l m : List A) → map f (l ++ m) ≡ map f l ++ map f m
-map-append f [] m = refl
-map-append f (x ∷ l) m = ap (λ r. f x ∷ r) (map-append f l m)
 
 -- The polynomials of blocks 2 to 5, and those of a blank block.
 below : List ℤ → List Polynomial
@@ -56,14 +48,7 @@ numbers-shiftUp l = ap flatten (polynomials-shiftUp l) ∙ flatten-append (map s
 
 map-width : (f : Polynomial → Polynomial) → ((p : Polynomial) → length (f p) ≡ length p) → (k : ℕ) (ps : List Polynomial)
     → All (λ p. length p ≡ k) ps → All (λ p. length p ≡ k) (map f ps)
-unfolding All
-map-width f e k [] h = tt
-map-width f e k (p ∷ ps) h = (e p ∙ h .0, map-width f e k ps (h .1))
-
-append-all : (ps qs : List Polynomial) → All (λ p. length p ≡ 16) ps → All (λ p. length p ≡ 16) qs → All (λ p. length p ≡ 16) (ps ++ qs)
-unfolding All
-append-all [] qs h k = k
-append-all (p ∷ ps) qs h k = (h .0, append-all ps qs (h .1) k)
+map-width f e k ps h = map-keeps (λ p. length p ≡ k) (λ p. length p ≡ k) f (λ p w. e p ∙ w) ps h
 
 zeros-zero : (p : Polynomial) → T (isZero (map (λ _. pos 0) p))
 unfolding isZero
@@ -94,7 +79,7 @@ module _ (l : List ℤ) (long : length l ≡ 320) where
   unfolding shiftUp mapRow rowOf leadingBlock blank All
   StoreRow-shiftUp =
       store-row (shiftUp (rowOf l)) refl (refl, (refl, (refl, (refl, (refl, tt)))))
-      (subst (All (λ p. length p ≡ 16)) (sym (polynomials-shiftUp l)) (append-all (map shift (below l)) (map shift (last l)) below-width last-width))
+      (subst (All (λ p. length p ≡ 16)) (sym (polynomials-shiftUp l)) (append-all (λ p. length p ≡ 16) (map shift (below l)) (map shift (last l)) below-width last-width))
 
   -- A shifted row within the limit is held by its numbers.
   pub shifted-held : (r : Row) → limitCoefficients (shiftUp (rowOf l)) ≡ within r → Held r

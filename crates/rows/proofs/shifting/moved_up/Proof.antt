@@ -23,11 +23,11 @@ use Rattle.rows.proofs.shifting.moved_up.Statement.{statement}
 use Rattle.rows.proofs.shifting.moved_up.Tie as tie
 
 abbrev Inv-loop : tie.InvT-loop
-Inv-loop row moved₀ e₀ moved e =
+Inv-loop table row moved₀ e₀ moved e =
     (e ≤ 16) × (length moved ≡ 320) × (moved ≡ front (coefficientsOf (shiftUp (rowOf row))) (e * 16))
 
 abbrev μ-loop : tie.MeasureT-loop
-μ-loop row moved₀ e₀ moved e = 16 - e
+μ-loop table row moved₀ e₀ moved e = 16 - e
 
 -- polynomial e of the row, one block further down
 module _ (c : tie.After-is-zero Inv-loop μ-loop) where
@@ -44,12 +44,12 @@ module _ (c : tie.After-is-zero Inv-loop μ-loop) where
   p = take (e * 16 + 64 + 16 - (e * 16 + 64)) (drop (e * 16 + 64) row)
 
   full-long : length full ≡ 320
-  full-long = length-shiftUp row (c .before .before .before .before .pre .0)
+  full-long = length-shiftUp row (c .before .before .before .before .pre .1)
 
   p-shifted : take 16 (drop (e * 16) full) ≡ shift p
   p-shifted =
       let width : e * 16 + 64 + 16 - (e * 16 + 64) ≡ 16 = omega arith in
-      shiftUp-part row (c .before .before .before .before .pre .0) e (c .before .before .loop-test .taken)
+      shiftUp-part row (c .before .before .before .before .pre .1) e (c .before .before .loop-test .taken)
       ∙ ap (λ k. shift (take k (drop (e * 16 + 64) row))) (sym width)
 
   p-skipped : not (c .is-zero .result) ≡ false → front full (e * 16) ≡ front full ((e + 1) * 16)
@@ -68,7 +68,7 @@ loop-holds c =
     let row = now (c .args .row) in (
       omega arith,
       search needs,
-      sym (front-none (coefficientsOf (shiftUp (rowOf row))) ∙ ap (λ n. replicate n (pos 0)) (length-shiftUp row (c .pre .0))),
+      sym (front-none (coefficientsOf (shiftUp (rowOf row))) ∙ ap (λ n. replicate n (pos 0)) (length-shiftUp row (c .pre .1))),
     )
 
 mul-at : tie.Need-mul-at Inv-loop μ-loop
@@ -114,7 +114,7 @@ put-shifted-requires : tie.Need-put-shifted-requires Inv-loop μ-loop
 put-shifted-requires c κs =
     let at = c .before .before in
     let from = e at * 16 + 64 in
-    (search needs, search needs, every-part small from (from + 16 - from) (row at) (at .before .before .before .before .pre .1))
+    (search needs, search needs, search needs, every-part small from (from + 16 - from) (row at) (at .before .before .before .before .pre .2))
 
 add-e : tie.Need-add-e Inv-loop μ-loop
 add-e c = search needs
@@ -137,7 +137,7 @@ returns c =
     let row = now (c .before .before .args .row) in
     let all : c .before .loop .e ≡ 16 = omega arith in
     c .before .loop .inv .2 ∙ ap (λ e. front (coefficientsOf (shiftUp (rowOf row))) (e * 16)) all
-    ∙ front-all (coefficientsOf (shiftUp (rowOf row))) 256 (shiftUp-rest row (c .before .before .pre .0))
+    ∙ front-all (coefficientsOf (shiftUp (rowOf row))) 256 (shiftUp-rest row (c .before .before .pre .1))
 
 pub moved-up-spec : {M : Type 1} → statement M
 moved-up-spec =

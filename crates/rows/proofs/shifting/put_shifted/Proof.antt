@@ -16,10 +16,10 @@ use Rattle.rows.proofs.shifting.put_shifted.Statement.{statement}
 use Rattle.rows.proofs.shifting.put_shifted.Tie as tie
 
 abbrev Inv-loop : tie.InvT-loop
-Inv-loop place₀ p k₀ place k = (k ≤ 16) × (length place ≡ 16) × (take k place ≡ take k (shift p))
+Inv-loop place₀ table p k₀ place k = (k ≤ 16) × (length place ≡ 16) × (take k place ≡ take k (shift p))
 
 abbrev μ-loop : tie.MeasureT-loop
-μ-loop place₀ p k₀ place k = 16 - k
+μ-loop place₀ table p k₀ place k = 16 - k
 
 loop-holds : tie.Need-loop-holds Inv-loop μ-loop
 loop-holds c = search needs
@@ -27,8 +27,8 @@ loop-holds c = search needs
 shifted-coefficient-requires : tie.Need-shifted-coefficient-requires Inv-loop μ-loop
 shifted-coefficient-requires c κs = search needs
 
-mul-t6 : tie.Need-mul-t6 Inv-loop μ-loop
-mul-t6 c = search needs
+mul-t7 : tie.Need-mul-t7 Inv-loop μ-loop
+mul-t7 c = search needs
 
 slice-set-from-place : tie.Need-slice-set-from-place Inv-loop μ-loop
 slice-set-from-place c = search needs
@@ -68,7 +68,7 @@ put-shifted-spec =
     μ-loop
     loop-holds
     shifted-coefficient-requires
-    mul-t6
+    mul-t7
     slice-set-from-place
     add-k
     loop-less

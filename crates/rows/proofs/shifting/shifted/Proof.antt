@@ -7,9 +7,11 @@ use Rattle.rules.specs.Stores.{rowOf}
 use Rattle.rules.specs.Layout.{coefficientsOf-rowOf-all}
 use Rattle.rows.specs.Worked.{limit-same}
 use borrow.Author.Needs.{needs}
-use borrow.Author.Needs.{needs}
 use Rattle.rows.proofs.shifting.shifted.Statement.{statement}
 use Rattle.rows.proofs.shifting.shifted.Tie as tie
+
+pascal-requires : tie.Need-pascal-requires
+pascal-requires c κs = search needs
 
 slice-aggregate-moved-up : tie.Need-slice-aggregate-moved-up
 slice-aggregate-moved-up c = search needs
@@ -22,7 +24,7 @@ limited-requires c κs = search needs
 
 returns : tie.Need-returns
 returns c =
-    let row = c .before .before .before .args .t1 in
+    let row = c .before .before .before .before .before .args .t1 in
     let moved = c .before .moved-up .result in
     let long : length moved ≡ 320 = search needs in
     limit-same (shiftUp (rowOf row)) moved (sym (c .before .moved-up .ensures)) (rowOf moved) (coefficientsOf-rowOf-all moved long) _ _
@@ -30,4 +32,4 @@ returns c =
 
 pub shifted-spec : {M : Type 1} → statement M
 shifted-spec =
-    tie.close (tie.spec slice-aggregate-moved-up moved-up-requires limited-requires returns)
+    tie.close (tie.spec pascal-requires slice-aggregate-moved-up moved-up-requires limited-requires returns)
