@@ -44,7 +44,7 @@ use Rattle.rules.specs.Elimination.{within, limitDegrees}
 use Rattle.rules.specs.Layout.{parts-length, parts-width, getD-parts}
 use Rattle.rows.specs.Flat.{polynomialsOf, polynomials-rowOf, polynomials-combine, numbers-mapRow}
 use Rattle.combinations.specs.Primitive.{polynomials-mapRow, degrees-within}
-use Rattle.rows.specs.Worked.{Held, held, store-row}
+use Rattle.working.specs.Worked.{Held, held, store-row}
 use Rattle.rows.specs.Written.{every-take, every-drop, every-part, part-flatten}
 use Rattle.rows.specs.Checks.{true-of, false-of}
 

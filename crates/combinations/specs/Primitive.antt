@@ -28,7 +28,7 @@ use Rattle.rules.specs.Rows.{Row, every, mapRow, coefficientsOf, primitive, low
 use Rattle.rules.specs.Lists.{every-flatten, map-take, map-drop}
 use Rattle.rules.specs.Elimination.{within, beyond, limitCoefficients, limitDegrees}
 use Rattle.rows.specs.Flat.{polynomialsOf, flatten-map, numbers-mapRow}
-use Rattle.rows.specs.Worked.{Shown, refusalOf, numbersOf}
+use Rattle.working.specs.Worked.{Shown, refusalOf, numbersOf}
 
 -- The numbers divided by d, or as they are if d is 0.
 abbrev pub divideUnlessZero : ℕ → List ℤ → List ℤ

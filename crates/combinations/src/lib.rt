@@ -9,7 +9,7 @@ ghost use Rattle.rules.specs.Limits.{small};
 ghost use Rattle.rules.specs.Rows.{every, lowDegrees, combine, primitive, mapRow, coefficientsOf};
 ghost use Rattle.rules.specs.Stores.{rowOf};
 ghost use Rattle.rules.specs.Elimination.{limitDegrees};
-ghost use Rattle.rows.specs.Worked.{refusalOf, numbersOf};
+ghost use Rattle.working.specs.Worked.{refusalOf, numbersOf};
 ghost use Rattle.combinations.specs.Combination.{trim, lowPart};
 ghost use Rattle.combinations.specs.Primitive.{primitiveNumbers};
 ghost use Rattle.polynomials.specs.Content.{Below};
@@ -128,17 +128,22 @@ fn primitive_part(row: [i64; 320]) -> [i64; 320]
 
 // "Row i becomes g × row i + h × row j, divided by [..]. Then a degree past 15: refusal 7; otherwise a coefficient outside
 // ±C: refusal 8." The division does not change a degree, so the degrees are looked at first.
-pub fn combined(g: &[i64], h: &[i64], target: [i64; 320], pivot: [i64; 320]) -> rows::limits::Worked
+pub fn combined(
+    g: &[i64],
+    h: &[i64],
+    target: [i64; 320],
+    pivot: [i64; 320],
+) -> working::limits::Worked
     requires { ⌜ (length (now g) ≡ 16) × T (every small (now g)) × (length (now h) ≡ 16) × T (every small (now h)) ⌝ }
     requires { ⌜ T (every small target) × T (every small pivot) ⌝ }
     ensures { λ r. ⌜ r .refusal ≡ refusalOf (limitDegrees (primitive (combine (now (g .entry)) (now (h .entry)) (rowOf target) (rowOf pivot)))) ⌝ }
     ensures { λ r. ⌜ r .row ≡ numbersOf (limitDegrees (primitive (combine (now (g .entry)) (now (h .entry)) (rowOf target) (rowOf pivot)))) ⌝ }
 {
     if past_degree(g, h, &target[..], &pivot[..]) {
-        return rows::limits::Worked {
+        return working::limits::Worked {
             refusal: 7,
             row: [0; 320],
         };
     }
-    rows::limits::limited(primitive_part(low_combination(g, h, &target[..], &pivot[..])))
+    working::limits::limited(primitive_part(low_combination(g, h, &target[..], &pivot[..])))
 }

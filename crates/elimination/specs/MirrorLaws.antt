@@ -34,13 +34,13 @@ use Rattle.rules.specs.Stores.{parts, rowOf, rowsOf, relationOf, relationsOf, r
 use Rattle.rules.specs.Layout.{parts-length, parts-width, getD-parts}
 use Rattle.polynomials.specs.Content.{small-at}
 use Rattle.rows.specs.Validity.{index-at, row-after}
-use Rattle.rows.specs.Mirroring.{length-mirrorRow, rowOf-mirrorRow, small-mirrorRow}
-use Rattle.steps.specs.Progress.{Within, Listing, Kept, Reached, state, stateOf, outcomeOf, outcomeAt, ready-with}
-use Rattle.steps.specs.declared.step.Progress.{Progress}
-use Rattle.steps.specs.declared.step.Outcome as Answer
-use Rattle.steps.specs.RunLaws.{enough-rows}
+use Rattle.working.specs.Mirroring.{length-mirrorRow, rowOf-mirrorRow, small-mirrorRow}
+use Rattle.reduction.specs.Progress.{Within, Listing, Kept, Reached, state, stateOf, outcomeOf, outcomeAt, ready-with}
+use Rattle.reduction.specs.declared.step.Progress.{Progress}
+use Rattle.reduction.specs.declared.step.Outcome as Answer
+use Rattle.reduction.specs.RunLaws.{enough-rows}
 use Rattle.rows.specs.Written.{every-part}
-use Rattle.steps.specs.StoreStates.{parts-paste, part-small, within-paste, kept-paste, kept-same, kept-then}
+use Rattle.reduction.specs.StoreStates.{parts-paste, part-small, within-paste, kept-paste, kept-same, kept-then}
 
 -- ---- parts of one width, changed one after the other
 

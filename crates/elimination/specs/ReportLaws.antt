@@ -35,9 +35,9 @@ use Rattle.rules.specs.Layout.{length-rowsOf, polynomial-at}
 use Rattle.rules.specs.Calls.{rootFound, rootValue}
 use Rattle.roots.specs.declared.RootAnswer.{RootAnswer}
 use Rattle.roots.specs.RootSearch.{answered}
-use Rattle.rows.specs.Found.{Columns, Columns-at}
-use Rattle.steps.specs.Progress.{Within}
-use Rattle.steps.specs.StoreStates.{part-small}
+use Rattle.working.specs.Found.{Columns, Columns-at}
+use Rattle.reduction.specs.Progress.{Within}
+use Rattle.reduction.specs.StoreStates.{part-small}
 
 -- ---- the furthest of two lists
 

@@ -9,8 +9,8 @@ ghost use Rattle.rules.specs.Rows.{every};
 ghost use Rattle.rules.specs.Stores.{rowNeed};
 ghost use Rattle.rules.specs.Elimination as Elimination;
 ghost use Rattle.roots.specs.RootSearch.{answered};
-ghost use Rattle.rows.specs.Found.{Columns};
-ghost use Rattle.steps.specs.Progress.{sideOf, Within};
+ghost use Rattle.working.specs.Found.{Columns};
+ghost use Rattle.reduction.specs.Progress.{sideOf, Within};
 ghost use Rattle.elimination.specs.ReportLaws.{isBeyond, furtherOf, optionOf, settledState};
 
 // Of two roots, is b the one to be taken: the larger or, on the trailing side, the smaller?

@@ -5,7 +5,7 @@ use denote.Ref.{now}
 use Rattle.algebra.specs.Roots.{roots}
 use Rattle.rules.specs.Elimination.{furthest}
 use Rattle.roots.specs.RootSearch.{answered}
-use Rattle.steps.specs.Progress.{sideOf}
+use Rattle.reduction.specs.Progress.{sideOf}
 use borrow.Author.Needs.{needs}
 use Rattle.elimination.proofs.report.furthest_root.Statement.{statement}
 use Rattle.elimination.proofs.report.furthest_root.Tie as tie

@@ -17,7 +17,7 @@ use Rattle.rules.specs.Rows.{every}
 use Rattle.rules.specs.Elimination.{Side, diagonalPlace, furthest}
 use Rattle.rules.specs.Calls.{rootFound, rootValue}
 use Rattle.roots.specs.RootSearch.{answered}
-use Rattle.steps.specs.Progress.{sideOf}
+use Rattle.reduction.specs.Progress.{sideOf}
 use Rattle.elimination.specs.ReportLaws.{furtherOf, diagonalAt, reported, answered-option, option-of}
 use Rattle.elimination.specs.ReportLaws.{report-none, report-next, report-all, diagonal-long, diagonal-small}
 use Rattle.elimination.proofs.report.report.Statement.{statement}
