@@ -10,25 +10,24 @@
 --   answerCall-answer    in a store of at least 65,536 bytes the call leaves the answer of `rules`
 --   read-refused, run-refused, run-written   the answer, by what the three calls on stores give
 --   limited              the writer, lent at most 65,536 bytes of the store, leaves in it what the whole call leaves
-use Prim.Native.Nat.{ℕ, zero, suc, _+_, _*_, _≤_, _<_, zero-le, suc-le-suc}
-use native.Mathlib.Nat.{suc-inj, suc-ne-zero, not-suc-le-zero, le-of-suc-le-suc}
+use Prim.Native.Nat.{ℕ, zero, suc, min, _≤_, _<_, suc-le-suc}
+use native.Mathlib.Nat.{suc-inj, suc-ne-zero}
 use native.Mathlib.Omega.{arith}
 use mathlib.Core.Path.{_≡_, refl, sym, _∙_, ap, ap₂, subst}
-use mathlib.Core.Logic.{_≢_, _⊎_, inr, ⊎-elim}
-use mathlib.Core.Bool.{Bool, true, false, not, cond, _&&_}
+use mathlib.Core.Logic.{_≢_, _⊎_, inl, inr, ⊎-elim}
+use mathlib.Core.Bool.{Bool, true, false, not, cond}
 use mathlib.Core.List.{List, [], _∷_, _++_, map, append-assoc, List·Memᴰ, List·Memᴰ·head, List·Memᴰ·tail}
 use borrow.Author.Tests.{le-leb, lt-leb}
 use lib.Dec.{T, leb, leb→le, le→leb, nleb→lt, eqb, eqb→eq, not-T}
-use lib.ListN.{length, take, drop, getD, length-append, length-take, length-drop, length-map, take-append-drop}
-use lib.Seq.{take-at, drop-at, length-take-le, drop-append-le}
-use lib.IntN.{ℤ, pos}
+use lib.ListN.{length, take, drop, getD, length-map, take-append-drop}
+use lib.Seq.{take-at, length-take-le, drop-append-le}
+use lib.IntN.{ℤ}
 use Rattle.algebra.specs.Pigeonhole.{Distinct}
-use Rattle.rules.specs.Limits.{columnCount}
-use Rattle.rules.specs.Lists.{cond-passed, cond-failed}
-use Rattle.rules.specs.Elimination.{leading, State, Outcome, going, done, refused, wholeRun, leadingRun}
-use Rattle.rules.specs.Stores.{Sizes, Valid, span, rowsOf, relationsOf, rowNeed, relationNeed, rowStoreOf, relationStoreOf, checkStores, lengthsRight}
+use Rattle.rules.specs.Lists.{cond-passed}
+use Rattle.rules.specs.Elimination.{leading, State, Outcome, done, refused, wholeRun, leadingRun}
+use Rattle.rules.specs.Stores.{Valid, span, rowNeed, relationNeed, rowStoreOf, relationStoreOf, lengthsRight}
 use Rattle.rules.specs.Layout.{valid-stores, size-bounds, lengthsRight-iff, rowsOf-rowStoreOf, relationsOf-relationStoreOf}
-use Rattle.rules.specs.Calls.{Call, padTo, overwrite, callRun, afterCheck, afterRun, acceptance, reportedOrder, cleared, refusal}
+use Rattle.rules.specs.Calls.{Call, overwrite, callRun, afterCheck, afterRun, acceptance, reportedOrder, cleared, refusal}
 use Rattle.rules.specs.Numbers.{Read, got, fault}
 use Rattle.rules.specs.Sheets.{Sheet, contains, readSheet, writeSheet}
 use Rattle.rules.specs.SheetCalls.{ReadCall, readCall, afterRead, filled, unread, readRefusal, differentColumns, WriteCall, written, unwritten}
@@ -40,6 +39,7 @@ use Rattle.theory.specs.Settled.{Diagonal}
 use Rattle.sheets.specs.WrittenOrder.{OrderRight, different-cons, T-or}
 use Rattle.sheets.specs.ReadBack.{SheetRight, read-valid, sheet-read-written}
 use Rattle.sheets.specs.CallsReadBack.{read-write-call}
+use Rattle.batches.specs.declared.AnswerResult as declared
 use Rattle.batches.specs.Faults.{Numbered, read, numbered, sheet-numbered}
 
 -- ---- the call
@@ -48,6 +48,10 @@ pub record AnswerCall : Type 0 where
   pub refusal : ℕ
   pub length : ℕ
   pub store : List ℕ
+
+-- What the call returned, with the store as it left it.
+unfoldable pub callOf : declared.AnswerResult → List ℕ → AnswerCall
+callOf r store = record { refusal = r .refusal; length = r .length; store = store }
 
 -- "Every refusal returns its number, all other fields 0"; the lent store is unchanged.
 unfoldable pub unanswered : ℕ → List ℕ → AnswerCall
@@ -397,3 +401,56 @@ module _ (sheet store : List ℕ) (lent : ℕ) (inside : lent ≤ length store) 
       go : (t : Bool) → (T t → length sheet ≤ lent) → (T (not t) → lent < length sheet) → after (written sheet (take lent store)) ≡ answered (sized sheet) store
       go true low high = room (low tt)
       go false low high = no-room (high tt)
+
+-- ---- the whole call
+
+-- The calls on stores gave c, d and w, one after the other.
+module _ (bytes store : List ℕ) (rows relations : List ℤ) (rows-long : 1280 ≤ length rows) (relations-long : relationNeed ≤ length relations)
+    (c : ReadCall) (e : c ≡ readCall bytes rows relations) where
+  pub call-unread : c .result .refusal ≢ 0 → unanswered (c .result .refusal) store ≡ answerCall bytes store
+  unfolding answerCall answered
+  call-unread =
+      subst (λ c. c .result .refusal ≢ 0 → unanswered (c .result .refusal) store ≡ answerCall bytes store) (sym e)
+      (λ h. sym (ap (λ a. answered a store) (read-refused bytes rows relations rows-long relations-long h)))
+
+  module _ (fine : c .result .refusal ≡ 0) (d : Call) (f : d ≡ runOn c) where
+    fine-read : readCall bytes rows relations .result .refusal ≡ 0
+    fine-read = subst (λ c. c .result .refusal ≡ 0) e fine
+
+    same-run : d ≡ runOn (readCall bytes rows relations)
+    same-run = f ∙ ap runOn e
+
+    pub call-refused : d .result .refusal ≢ 0 → unanswered (d .result .refusal) store ≡ answerCall bytes store
+    unfolding answerCall answered
+    call-refused =
+        subst (λ d. d .result .refusal ≢ 0 → unanswered (d .result .refusal) store ≡ answerCall bytes store) (sym same-run)
+        (λ h. sym (ap (λ a. answered a store) (run-refused bytes rows relations rows-long relations-long fine-read h)))
+
+    pub call-written : d .result .refusal ≡ 0 → (lent : ℕ) → lent ≡ min (length store) mostBytes
+        → (w : WriteCall)
+        → w ≡ writeCall (c .result .sizes) (d .result .relations) (d .result .order) (d .rowStore) (d .relationStore) (take lent store)
+        → _≡_ {A = AnswerCall} (record { refusal = w .refusal; length = w .length; store = w .byteStore ++ drop lent store })
+        (answerCall bytes store)
+    unfolding answerCall
+    call-written accepts lent least w g =
+        let (sheet, answer, wrote) = run-written bytes rows relations rows-long relations-long fine-read (subst (λ d. d .result .refusal ≡ 0) same-run accepts) in
+        ap (after sheet store lent inside limited most)
+        (g
+        ∙ ap₂ (λ z d. writeCall z (d .result .relations) (d .result .order) (d .rowStore) (d .relationStore) (take lent store))
+        (ap (λ c. c .result .sizes) e) same-run
+        ∙ wrote (take lent store))
+        ∙ answer-written sheet store lent inside limited most ∙ ap (λ a. answered a store) (sym answer)
+      where
+        inside : lent ≤ length store
+        inside = omega arith
+
+        limited : lent ≤ mostBytes
+        limited = omega arith
+
+        most : (lent ≡ length store) ⊎ (lent ≡ mostBytes)
+        most = go (leb (length store) mostBytes) (leb→le (length store) mostBytes) (nleb→lt (length store) mostBytes)
+          where
+            go : (t : Bool) → (T t → length store ≤ mostBytes) → (T (not t) → mostBytes < length store)
+                → (lent ≡ length store) ⊎ (lent ≡ mostBytes)
+            go true low high = inl (omega (arith, low tt))
+            go false low high = inr (omega (arith, high tt))

@@ -13,7 +13,7 @@ use lib.Dec.{eqb}
 use lib.IntN.{ℤ, natAbs}
 use Rattle.rules.specs.Stores.{Sizes}
 use Rattle.rules.specs.Numbers.{newline, word, afterWord, beginsNumber, isNumber, numberOf, Read, got, fault, thenRead, judged, readWord, readSeparator, field}
-use Rattle.rules.specs.Sheets.{Sheet, Term, parting, readSizes, readCoefficients, readTerm, readTerms, readEquation, readEquations, readRelation}
+use Rattle.rules.specs.Sheets.{Sheet, parting, readSizes, readCoefficients, readTerm, readTerms, readEquation, readEquations, readRelation}
 use Rattle.rules.specs.Sheets.{readRelations, readColumns, readOrder, readEnd, readSheet}
 
 pub data Numbered {A : Type 0} : Read A → Type 0 where

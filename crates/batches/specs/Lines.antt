@@ -7,31 +7,29 @@
 --   counted-none, counted-one  the batch as it is, and with one more answer
 --   text-put                   a line that was stored in 24 zeros
 --   closes-broken, closes-tally   the last line, by the tests
-use Prim.Native.Nat.{ℕ, zero, suc, pred, _+_, _-_, _^_, _≤_, _<_}
+use Prim.Native.Nat.{ℕ, zero, suc, pred, _+_, _-_, _≤_, _<_}
 use native.Mathlib.Nat.{zero-add, le-refl, le-of-lt}
 use native.Mathlib.Numerals.{add-one, sub-one}
 use native.Mathlib.Omega.{arith}
-use mathlib.Core.Path.{_≡_, refl, sym, _∙_, ap, ap₂, subst}
+use mathlib.Core.Path.{_≡_, refl, sym, _∙_, ap, subst}
 use mathlib.Core.Logic.{_≢_, _⊎_, inl, inr}
 use mathlib.Core.Bool.{Bool, true, false, not, cond, _&&_}
 use mathlib.Core.List.{List, [], _∷_, _++_, flatten, append-nil, append-assoc}
-use borrow.Author.Tests.{le-leb, lt-leb, le-ltb, lt-ltb, eq-eqb}
-use lib.Dec.{T, lit<, leb, ltb, eqb, leb→le, nleb→lt}
+use borrow.Author.Tests.{lt-leb, le-ltb}
+use lib.Dec.{T, leb, ltb, eqb, leb→le, nleb→lt}
 use lib.ListN.{length, take, drop, replicate, length-append, length-drop, length-replicate, take-append-drop, drop-of-length-le}
-use lib.Seq.{sets, sets-eq, length-take-le, take-all}
+use lib.Seq.{sets, sets-eq, length-take-le}
 use lib.IntN.{ℤ, pos, natAbs}
 use lib.Signed.{nonNeg}
-use Rattle.rules.specs.Numbers.{space, newline, line, lines, decimal, Read, got, fault, field, between}
+use Rattle.rules.specs.Numbers.{space, line, lines, decimal, got, fault, field, between}
 use Rattle.rules.specs.Sheets.{always}
 use Rattle.rules.specs.Calls.{overwrite}
-use Rattle.rules.specs.Batch.{count, closing, broken, readClient, readSize, readAfterClient, readSheetLine}
-use Rattle.tokens.specs.Fields.{Answers, answer-got, answer-fault, field-judged, between-zero}
+use Rattle.rules.specs.Batch.{count, closing, broken, readSize, readAfterClient, readSheetLine}
+use Rattle.tokens.specs.Fields.{field-judged, between-zero}
 use Rattle.sheets.specs.WrittenNumbers.{isNumber-decimal}
 use Rattle.writing.specs.Writer.{Put, put-then, put-same, digitsOf}
 use Rattle.batches.specs.declared.Batch.{Batch}
-use Rattle.batches.specs.declared.Begun.{Begun}
 use Rattle.batches.specs.declared.SheetLine.{SheetLine}
-use Rattle.batches.specs.declared.TextLine.{TextLine}
 use Rattle.batches.specs.Windows.{numberLine, batchLine, followed, Window, field-window, sheetLine-window, countOf, clientOf, sheetLine-is, number-short}
 use Rattle.batches.specs.Pieces.{readCount, batchWith, noTally, begunOf, begunBy, lineOf, lineBy, tallyOf, numbered, countsMore}
 use Rattle.batches.specs.Pieces.{countedOf, counted-is, textOf, refusalLine, closeable, closeLine, closed-is, refusal-broken, close-broken}

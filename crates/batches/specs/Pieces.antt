@@ -10,28 +10,27 @@
 --   begun-rest, line-rest      the bytes after so many as were taken are the rest
 --   text-bytes                 the first bytes of a line of text are the line
 --   refusal-answer, refusal-broken, close-closing, close-broken   the texts of `rules`
-use Prim.Native.Nat.{ℕ, zero, suc, pred, _+_, _-_, _^_, _≤_, _<_, zero-le}
-use native.Mathlib.Nat.{suc-ne-zero, not-suc-le-zero, le-of-suc-le-suc}
+use Prim.Native.Nat.{ℕ, zero, suc, pred, _+_, _-_, _≤_, _<_, zero-le}
+use native.Mathlib.Nat.{suc-ne-zero}
 use native.Mathlib.Omega.{arith}
 use mathlib.Core.Path.{_≡_, refl, sym, _∙_, ap, ap₂, subst}
 use mathlib.Core.Logic.{_≢_}
-use mathlib.Core.Bool.{Bool, true, false, not, cond, _&&_}
-use mathlib.Core.List.{List, [], _∷_, _++_, append-nil}
-use borrow.Author.Tests.{le-leb, lt-leb, lt-ltb, eq-eqb, ne-eqb}
-use lib.Dec.{T, lit<, leb, ltb, eqb}
-use lib.ListN.{length, take, drop, replicate, length-append}
+use mathlib.Core.Bool.{Bool, cond, _&&_}
+use mathlib.Core.List.{List, [], _∷_, _++_}
+use borrow.Author.Tests.{le-leb, lt-ltb, eq-eqb, ne-eqb}
+use lib.Dec.{leb, ltb, eqb}
+use lib.ListN.{length, take, drop, replicate}
 use lib.Seq.{take-at}
 use lib.IntN.{ℤ, pos, natAbs}
 use Rattle.rules.specs.Calls.{overwrite}
-use Rattle.rules.specs.Numbers.{space, newline, decimal, line, lines, isNumber, Read, got, fault, field, between}
+use Rattle.rules.specs.Numbers.{newline, lines, Read, got, fault, field, between}
 use Rattle.rules.specs.Sheets.{always}
 use Rattle.rules.specs.Batch.{SheetLine as ReadLine, Answer as SheetAnswer, Tally, accepted, refusedWith, count, broken, closing, answerBytes, readSheetLine}
-use Rattle.sheets.specs.WrittenNumbers.{isNumber-decimal}
 use Rattle.batches.specs.declared.Batch.{Batch}
 use Rattle.batches.specs.declared.Begun.{Begun}
 use Rattle.batches.specs.declared.SheetLine.{SheetLine}
 use Rattle.batches.specs.declared.TextLine.{TextLine}
-use Rattle.batches.specs.Windows.{numberLine, batchLine, number-short, Taken, taken-drop, field-taken, sheetLine-taken}
+use Rattle.batches.specs.Windows.{numberLine, batchLine, Taken, taken-drop, field-taken, sheetLine-taken}
 
 -- ---- lines that are read
 

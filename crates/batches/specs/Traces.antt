@@ -8,14 +8,14 @@
 -- Main statements
 --   sheets-output, trace-output  what is written is what `rules` says
 --   trace                        there are such calls for every input
-use Prim.Native.Nat.{ℕ, zero, suc, pred, _+_, _-_, _^_, _≤_, _<_}
-use native.Mathlib.Nat.{suc-ne-zero, le-refl}
+use Prim.Native.Nat.{ℕ, zero, suc, pred, _≤_, _<_}
+use native.Mathlib.Nat.{suc-ne-zero}
 use native.Mathlib.Decide.{ℕ-discrete}
 use native.Mathlib.Omega.{arith}
 use mathlib.Core.Path.{_≡_, refl, sym, _∙_, ap, ap₂, subst}
 use mathlib.Core.Logic.{_≢_, inr}
-use mathlib.Core.Bool.{Bool, true, false, not, cond, _&&_}
-use mathlib.Core.List.{List, [], _∷_, _++_, append-nil, append-assoc}
+use mathlib.Core.Bool.{Bool, true, false, not, cond}
+use mathlib.Core.List.{List, [], _++_, append-nil}
 use borrow.Author.Tests.{le-leb, lt-leb}
 use lib.Dec.{T, leb, leb→le, nleb→lt}
 use lib.IntN.{ℤ, pos, natAbs}
@@ -23,9 +23,9 @@ use lib.Signed.{leZ-yes}
 use lib.ListN.{length, take, drop, length-append, take-append-drop}
 use lib.Seq.{drop-append-le, take-at, drop-at, length-take-le}
 use Rattle.algebra.specs.Order.{≤ℤ-trans, natAbs-≤-iff}
-use Rattle.rules.specs.Numbers.{newline, Read, got, fault, between}
+use Rattle.rules.specs.Numbers.{newline, got, fault, between}
 use Rattle.rules.specs.Sheets.{always}
-use Rattle.rules.specs.Batch.{mostBytes, SheetLine, Answer, accepted, refusedWith, Tally, count, answerSheet, answerBytes, broken, closing}
+use Rattle.rules.specs.Batch.{mostBytes, SheetLine, Tally, count, answerSheet, answerBytes, broken, closing}
 use Rattle.rules.specs.Batch.{readSheetLine, answers, answersAfter, batchOutput}
 use Rattle.sheets.specs.Exact.{field-read}
 use Rattle.sheets.specs.WrittenTerms.{between-iff}

@@ -1,14 +1,11 @@
 -- `batches::begin` meets its contract: the window decides the line.
 -- Assumes nothing.
-use mathlib.Core.Path.{_≡_}
 use borrow.Author.Needs.{needs, sfits-of}
 use denote.Ref.{now}
 use lib.IntN.{ℤ}
-use lib.ListN.{drop}
 use mir.Syntax.{w64}
 use mir.Val.{SFits}
 use mir.Facts.{toZ-ofZ, fits-natAbs}
-use Rattle.rules.specs.Numbers.{got}
 use Rattle.tokens.specs.Fields.{answer-got, answer-fault}
 use Rattle.batches.specs.Pieces.{readCount}
 use Rattle.batches.specs.Lines.{window-of, begun-refused, begun-read, in-range}
