@@ -1,10 +1,21 @@
 // Sheets read into lent stores and written from them. `read_sheet` and `write_sheet` are the public entry points: no
 // `requires`, and a contract that gives the result and every lent store by equations with `rules`.
 ghost use mathlib.Core.Path.{_≡_};
-ghost use Rattle.rules.specs.SheetCalls.{writeCall};
+ghost use Rattle.rules.specs.SheetCalls.{readCall, writeCall};
 ghost use Rattle.rows.specs.Validity.{sizesOf};
-ghost use Rattle.writing.specs.WriterChecks.{callOf};
+ghost use Rattle.reading.specs.ReadCalls as Reading;
+ghost use Rattle.writing.specs.WriterChecks as Writing;
+pub use reading::sheet::SheetResult;
 pub use writing::writer::WriteResult;
+
+// A sheet read into the stores: they are unchanged on a refusal, and numbers past their needed parts stay.
+pub fn read_sheet(bytes: &[u8], rows: &mut [i64], relations: &mut [i64]) -> SheetResult
+    ensures { λ r. ⌜
+        Reading.callOf r (now (rows .exit)) (now (relations .exit))
+        ≡ readCall (now (bytes .entry)) (now (rows .entry)) (now (relations .entry)) ⌝ }
+{
+    reading::read_sheet(bytes, rows, relations)
+}
 
 // The system of the stores and its column order as a sheet: all four numbers of the order 0 for none, otherwise a permutation of
 // 1..m and zeros past its end. Nothing is written on a refusal, and bytes past the length stay.
@@ -17,7 +28,7 @@ pub fn write_sheet(
     bytes: &mut [u8],
 ) -> WriteResult
     ensures { λ r. ⌜
-        callOf r (now (bytes .exit))
+        Writing.callOf r (now (bytes .exit))
         ≡ writeCall (sizesOf sizes) count order (now (rows .entry)) (now (relations .entry)) (now (bytes .entry)) ⌝ }
 {
     writing::writer::write_sheet(rows, relations, sizes, count, order, bytes)
