@@ -31,6 +31,7 @@ use Rattle.algebra.specs.Polynomials.{T-&&}
 use Rattle.rules.specs.Limits.{small}
 use Rattle.rules.specs.Rows.{Row, Relation, every, coefficientsOf, smallRow}
 use Rattle.rules.specs.Elimination.{Side, State, done, wholeRun, report}
+use Rattle.rules.specs.Lists.{every-append}
 use Rattle.rules.specs.Stores.{Sizes, Valid, span, sizesRight, checkStores, rowsOf, relationsOf, rowNeed, relationNeed}
 use Rattle.rules.specs.Stores.{rowStoreOf, relationStoreOf, relationNumbers, unusedZero, rowRight, relationRight}
 use Rattle.rules.specs.Layout.{rowStoreOf-rowsOf, relationStoreOf-relationsOf, length-relationsOf, size-bounds, block-place}
@@ -38,16 +39,15 @@ use Rattle.rules.specs.Layout.{StoresRight, checkStores-zero, stores-valid, Num
 use Rattle.rules.specs.Layout.{lengthsRight-iff, countRight-iff}
 use Rattle.rules.specs.Calls.{Result, Call, padTo, reportedOrder, refusal, acceptance, overwrite, zeros}
 use Rattle.rules.specs.Calls.{cleared, unchanged, afterRun, afterCheck, callRun}
-use Rattle.polynomials.specs.declared.roots.RootAnswer.{RootAnswer}
-use Rattle.polynomials.specs.RootSearch.{answered}
+use Rattle.roots.specs.declared.RootAnswer.{RootAnswer}
+use Rattle.roots.specs.RootSearch.{answered}
 use Rattle.theory.specs.Ending.{wholeRun-ends}
 use Rattle.theory.specs.Demands.{diagonal-nonzero}
-use Rattle.rows.specs.Flat.{every-append}
-use Rattle.elimination.specs.Progress.{stateOf, outcomeOf, outcomeAt, Within, Listing, Kept, Ready, Reached}
-use Rattle.elimination.specs.StoreStates.{kept-same}
+use Rattle.reduction.specs.Progress.{stateOf, outcomeOf, outcomeAt, Within, Listing, Kept, Ready, Reached}
+use Rattle.reduction.specs.StoreStates.{kept-same}
 use Rattle.elimination.specs.ReportLaws.{settledState, report-settled}
-use Rattle.elimination.specs.declared.step.Progress.{Progress}
-use Rattle.elimination.specs.declared.step.Outcome as Answer
+use Rattle.reduction.specs.declared.step.Progress.{Progress}
+use Rattle.reduction.specs.declared.step.Outcome as Answer
 use Rattle.elimination.specs.declared.calls.RunResult.{RunResult}
 
 unfoldable pub resultOf : RunResult → Result

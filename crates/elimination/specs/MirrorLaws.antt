@@ -29,18 +29,18 @@ use Rattle.algebra.specs.Polynomials.{T-&&, isZero}
 use Rattle.rules.specs.Limits.{bound, small}
 use Rattle.rules.specs.Rows.{All, every, coefficientsOf, smallRow, mirrorRow, mirrorRelation}
 use Rattle.rules.specs.Elimination.{State, going, done, trailing, run, enough, start, mirrorState, mirrorOutcome, trailingRun}
+use Rattle.rules.specs.Lists.{drop-take, every-append}
 use Rattle.rules.specs.Stores.{parts, rowOf, rowsOf, relationOf, relationsOf, relationNumbers, rowNeed, relationNeed}
 use Rattle.rules.specs.Layout.{parts-length, parts-width, getD-parts}
 use Rattle.polynomials.specs.Content.{small-at}
-use Rattle.rows.specs.Flat.{drop-take, parts-take, every-append}
 use Rattle.rows.specs.Validity.{index-at, row-after}
-use Rattle.rows.specs.Mirroring.{length-mirrorRow, rowOf-mirrorRow, small-mirrorRow}
-use Rattle.elimination.specs.Progress.{Within, Listing, Kept, Reached, state, stateOf, outcomeOf, outcomeAt, ready-with}
-use Rattle.elimination.specs.declared.step.Progress.{Progress}
-use Rattle.elimination.specs.declared.step.Outcome as Answer
-use Rattle.elimination.specs.RunLaws.{enough-rows}
+use Rattle.working.specs.Mirroring.{length-mirrorRow, rowOf-mirrorRow, small-mirrorRow}
+use Rattle.reduction.specs.Progress.{Within, Listing, Kept, Reached, state, stateOf, outcomeOf, outcomeAt, ready-with}
+use Rattle.reduction.specs.declared.step.Progress.{Progress}
+use Rattle.reduction.specs.declared.step.Outcome as Answer
+use Rattle.reduction.specs.RunLaws.{enough-rows}
 use Rattle.rows.specs.Written.{every-part}
-use Rattle.elimination.specs.StoreStates.{parts-paste, within-paste, kept-paste, kept-same, kept-then}
+use Rattle.reduction.specs.StoreStates.{parts-paste, part-small, within-paste, kept-paste, kept-same, kept-then}
 
 -- ---- parts of one width, changed one after the other
 
@@ -70,16 +70,6 @@ pub record Changed (k n i : ℕ) (g : List ℤ → List ℤ) (before after : Lis
 pub changed-none : (k n : ℕ) (g : List ℤ → List ℤ) (store : List ℤ) → Within (n * k) store → Changed k n 0 g store store
 unfolding changeFirst
 changed-none k n g store w = record { changed = refl; within = w; kept = kept-same (n * k) store }
-
--- A part of a store within ±C.
-pub part-small : (k n i : ℕ) (store : List ℤ) → i < n → Within (n * k) store → T (every small (take k (drop (i * k) store)))
-part-small k n i store h w =
-    subst (λ p. T (every small p)) same (every-part small (i * k) k (take (n * k) store) (w .numbers))
-  where
-    same : take k (drop (i * k) (take (n * k) store)) ≡ take k (drop (i * k) store)
-    same =
-        sym (getD-parts k n (take (n * k) store) i h) ∙ ap (λ ps. getD ps i []) (parts-take k n (n * k) store (le-refl (n * k)))
-        ∙ getD-parts k n store i h
 
 -- g keeps the width k and the bound ±C.
 abbrev pub Stays : ℕ → (List ℤ → List ℤ) → Type 0

@@ -24,7 +24,7 @@ use lib.IntN.{ℤ}
 use lib.ListN.{length, take, drop, getD}
 use lib.Seq.{take-suc, take-all, length-take-le, getD-take}
 use lib.Signed.{_≤ℤ_, leZ, leZ-yes}
-use Rattle.algebra.specs.Polynomials.{Polynomial}
+use Rattle.algebra.specs.Polynomials.{Polynomial, same-test}
 use Rattle.algebra.specs.Roots.{roots}
 use Rattle.algebra.specs.Order.{≤ℤ-trans, ≤ℤ-total}
 use Rattle.rules.specs.Elimination.{Side, leading, trailing, State, diagonal, diagonalPlace, further, furthest, report}
@@ -33,12 +33,11 @@ use Rattle.rules.specs.Rows.{Row, noRow, every}
 use Rattle.rules.specs.Stores.{rowsOf, rowNeed}
 use Rattle.rules.specs.Layout.{length-rowsOf, polynomial-at}
 use Rattle.rules.specs.Calls.{rootFound, rootValue}
-use Rattle.polynomials.specs.Ascending.{same-truth}
-use Rattle.polynomials.specs.declared.roots.RootAnswer.{RootAnswer}
-use Rattle.polynomials.specs.RootSearch.{answered}
-use Rattle.rows.specs.Found.{Columns, Columns-at}
-use Rattle.elimination.specs.Progress.{Within}
-use Rattle.elimination.specs.MirrorLaws.{part-small}
+use Rattle.roots.specs.declared.RootAnswer.{RootAnswer}
+use Rattle.roots.specs.RootSearch.{answered}
+use Rattle.working.specs.Found.{Columns, Columns-at}
+use Rattle.reduction.specs.Progress.{Within}
+use Rattle.reduction.specs.StoreStates.{part-small}
 
 -- ---- the furthest of two lists
 
@@ -68,8 +67,8 @@ failed : (a b : ℤ) → leZ a b ≡ false → a ≤ℤ b → ⊥
 failed a b h k = subst T h (k .le)
 
 leZ-trans : (t : Bool) (a b c : ℤ) → leZ a b ≡ t → leZ b c ≡ t → leZ a c ≡ t
-leZ-trans true a b c h g = same-truth (leZ a c) true (λ _. tt) (λ _. ≤ℤ-trans (passed a b h) (passed b c g) .le)
-leZ-trans false a b c h g = same-truth (leZ a c) false (λ t. failed a b h (≤ℤ-trans (leZ-yes t) below)) (λ t. absurd t)
+leZ-trans true a b c h g = same-test (leZ a c) true (λ _. tt) (λ _. ≤ℤ-trans (passed a b h) (passed b c g) .le)
+leZ-trans false a b c h g = same-test (leZ a c) false (λ t. failed a b h (≤ℤ-trans (leZ-yes t) below)) (λ t. absurd t)
   where
     below : c ≤ℤ b
     below = ⊎-elim (λ k. absurd (failed b c g k)) (λ k. k) (≤ℤ-total b c)

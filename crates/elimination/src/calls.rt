@@ -8,9 +8,9 @@ ghost use lib.ListN.{take};
 ghost use Rattle.rules.specs.Elimination as Elimination;
 ghost use Rattle.rules.specs.Stores.{rowsOf, relationsOf, rowNeed, sizesRight};
 ghost use Rattle.rules.specs.Calls as Calls;
-ghost use Rattle.rows.specs.Found.{Columns};
+ghost use Rattle.working.specs.Found.{Columns};
 ghost use Rattle.rows.specs.Validity.{sizesOf};
-ghost use Rattle.elimination.specs.Progress.{sideOf, stateOf, outcomeOf, Within, Listing, Reached};
+ghost use Rattle.reduction.specs.Progress.{sideOf, stateOf, outcomeOf, Within, Listing, Reached};
 ghost use Rattle.elimination.specs.CallLaws.{resultOf, callOf, Final};
 
 // The number of the refusal or 0, and for a run that accepts: how many relations the store holds, how many shifts were made,
@@ -58,7 +58,7 @@ fn accepted(
     m: usize,
     span: usize,
     trailing: bool,
-    p: crate::step::Progress,
+    p: reduction::step::Progress,
 ) -> RunResult
     requires { ⌜ (m ≤ 4) × (span ≤ 4) × Within (rowNeed m) (now rows) × (p .settled ≡ m) × Columns (p .order) ⌝ }
     ensures { λ r. ⌜ ((relations : List ℤ)
@@ -83,14 +83,14 @@ fn trailing_run(
     m: usize,
     span: usize,
     count: usize,
-) -> crate::step::Outcome
+) -> reduction::step::Outcome
     requires { ⌜ (m ≤ 4) × (span ≤ 4) × Within (rowNeed m) (now rows) × Listing count (now relations) ⌝ }
     ensures { λ r. ⌜ Reached m (now (rows .entry)) (now (relations .entry)) (now (rows .exit)) (now (relations .exit)) 121 r
         (Elimination.trailingRun span (rowsOf m (now (rows .entry))) (relationsOf count (now (relations .entry)))) ⌝ }
 {
     crate::mirror::mirror_rows(rows, m, span);
     crate::mirror::mirror_relations(relations, count, span);
-    let o = crate::run::run(rows, relations, m, true, count);
+    let o = reduction::run::run(rows, relations, m, true, count);
     let refusal = o.refusal;
     if refusal != 0 {
         return o;
@@ -108,7 +108,7 @@ fn whole_run(
     span: usize,
     trailing: bool,
     count: usize,
-) -> crate::step::Outcome
+) -> reduction::step::Outcome
     requires { ⌜ (m ≤ 4) × (span ≤ 4) × Within (rowNeed m) (now rows) × Listing count (now relations) ⌝ }
     ensures { λ r. ⌜ Reached m (now (rows .entry)) (now (relations .entry)) (now (rows .exit)) (now (relations .exit)) 121 r
         (Elimination.wholeRun (sideOf trailing) span (rowsOf m (now (rows .entry))) (relationsOf count (now (relations .entry)))) ⌝ }
@@ -116,7 +116,7 @@ fn whole_run(
     if trailing {
         trailing_run(rows, relations, m, span, count)
     } else {
-        crate::run::run(rows, relations, m, false, count)
+        reduction::run::run(rows, relations, m, false, count)
     }
 }
 
@@ -126,7 +126,7 @@ fn ended(
     relations: &mut [i64],
     sizes: rows::validity::Sizes,
     trailing: bool,
-    o: crate::step::Outcome,
+    o: reduction::step::Outcome,
 ) -> RunResult
     requires { ⌜ T (sizesRight (sizesOf sizes)) × Final (sizes .m) (now rows) (now relations) o ⌝ }
     ensures { λ r. ⌜ callOf r (now (rows .exit)) (now (relations .exit)) ≡ Calls.afterRun (sideOf trailing) (sizesOf sizes)

@@ -1,17 +1,15 @@
-// The public runs on lent stores, `run_leading` and `run_trailing`: no `requires`, and contracts that give the result and both
-// stores by equations with `rules`.
+// The public runs on lent stores, `run_leading` and `run_trailing`, and the access to one polynomial of a row store: no
+// `requires`, and contracts that give the result and each lent store by equations with `rules`.
 ghost use mathlib.Core.Path.{_≡_};
 ghost use Rattle.rules.specs.Elimination.{leading, trailing};
-ghost use Rattle.rules.specs.Calls.{callRun};
+ghost use Rattle.rules.specs.Calls.{callRun, polynomialCheck, polynomialPart};
 ghost use Rattle.rows.specs.Validity.{sizesOf};
 ghost use Rattle.elimination.specs.CallLaws.{callOf};
 
+mod access;
 pub mod calls;
-mod listing;
 mod mirror;
 mod report;
-mod run;
-mod step;
 
 pub fn run_leading(
     rows: &mut [i64],
@@ -35,4 +33,44 @@ pub fn run_trailing(
         ≡ callRun trailing (sizesOf sizes) count (now (rows .entry)) (now (relations .entry)) ⌝ }
 {
     calls::called(rows, relations, sizes, count, true)
+}
+
+// "outside the sizes, or of a store too short, [..] a check on the same values returns 2 or 1"
+pub fn check_polynomial(
+    rows: &[i64],
+    sizes: rows::validity::Sizes,
+    row: usize,
+    block: i64,
+    column: usize,
+) -> u8
+    ensures { λ r. ⌜ r ≡ polynomialCheck (now (rows .entry)) (sizesOf sizes) row block column ⌝ }
+{
+    if !rows::validity::sizes_right(sizes) {
+        return 2;
+    }
+    if !access::place_right(sizes, row, block, column) {
+        return 2;
+    }
+    if rows.len() < sizes.m * 320 {
+        return 1;
+    }
+    0
+}
+
+// "For reading, the caller gets back the part of the row store that holds one polynomial, named by row, block and column": sixteen
+// coefficients, lowest power first; the empty part where the check is not 0.
+pub fn polynomial(
+    rows: &[i64],
+    sizes: rows::validity::Sizes,
+    row: usize,
+    block: i64,
+    column: usize,
+) -> &[i64]
+    ensures { λ r. ⌜ now r ≡ polynomialPart (now (rows .entry)) (sizesOf sizes) row block column ⌝ }
+{
+    if check_polynomial(rows, sizes, row, block, column) != 0 {
+        return &rows[0..0];
+    }
+    let place = access::place_of(sizes, row, block, column);
+    &rows[place..place + 16]
 }

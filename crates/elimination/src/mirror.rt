@@ -1,7 +1,7 @@
 // The mirror of what the stores hold, before a run on the trailing side and after it.
 ghost use Prim.Native.Nat.{_≤_};
 ghost use Rattle.rules.specs.Stores.{rowNeed};
-ghost use Rattle.elimination.specs.Progress.{Within, Listing};
+ghost use Rattle.reduction.specs.Progress.{Within, Listing};
 ghost use Rattle.elimination.specs.MirrorLaws.{RowsMirrored, RelationsMirrored};
 
 // "replace n by -n, block s by -s" in every row.
@@ -13,7 +13,7 @@ pub(crate) fn mirror_rows(store: &mut [i64], m: usize, span: usize)
     while i < m {
         let at = i * 320;
         let row = rows::stores::load(store, at);
-        rows::stores::save(store, at, rows::mirroring::mirrored(row, span));
+        rows::stores::save(store, at, working::mirroring::mirrored(row, span));
         i += 1;
     }
 }
@@ -28,11 +28,11 @@ pub(crate) fn mirror_relations(store: &mut [i64], count: usize, span: usize)
         let at = k * 321;
         let n0 = store[at];
         let row = rows::stores::load(store, at + 1);
-        super::listing::save_relation(
+        reduction::listing::save_relation(
             store,
             k,
             integers::negated(n0),
-            rows::mirroring::mirrored(row, span),
+            working::mirroring::mirrored(row, span),
         );
         k += 1;
     }

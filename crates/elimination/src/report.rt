@@ -8,9 +8,9 @@ ghost use Rattle.rules.specs.Limits.{small};
 ghost use Rattle.rules.specs.Rows.{every};
 ghost use Rattle.rules.specs.Stores.{rowNeed};
 ghost use Rattle.rules.specs.Elimination as Elimination;
-ghost use Rattle.polynomials.specs.RootSearch.{answered};
-ghost use Rattle.rows.specs.Found.{Columns};
-ghost use Rattle.elimination.specs.Progress.{sideOf, Within};
+ghost use Rattle.roots.specs.RootSearch.{answered};
+ghost use Rattle.working.specs.Found.{Columns};
+ghost use Rattle.reduction.specs.Progress.{sideOf, Within};
 ghost use Rattle.elimination.specs.ReportLaws.{isBeyond, furtherOf, optionOf, settledState};
 
 // Of two roots, is b the one to be taken: the larger or, on the trailing side, the smaller?
@@ -21,11 +21,7 @@ fn is_beyond(a: i64, b: i64, trailing: bool) -> bool
 }
 
 // The further of two answers.
-fn further(
-    a: polynomials::roots::RootAnswer,
-    b: polynomials::roots::RootAnswer,
-    trailing: bool,
-) -> polynomials::roots::RootAnswer
+fn further(a: roots::RootAnswer, b: roots::RootAnswer, trailing: bool) -> roots::RootAnswer
     requires { ⌜ (a ≡ answered (optionOf a)) × (b ≡ answered (optionOf b)) ⌝ }
     ensures { λ r. ⌜ r ≡ answered (furtherOf (sideOf trailing) (optionOf a) (optionOf b)) ⌝ }
 {
@@ -41,14 +37,14 @@ fn further(
 }
 
 // The largest root of a polynomial, on the trailing side the smallest.
-fn furthest_root(p: &[i64], trailing: bool) -> polynomials::roots::RootAnswer
+fn furthest_root(p: &[i64], trailing: bool) -> roots::RootAnswer
     requires { ⌜ (length (now p) ≤ 16) × T (every small (now p)) ⌝ }
     ensures { λ r. ⌜ r ≡ answered (Elimination.furthest (sideOf trailing) (roots (now (p .entry)))) ⌝ }
 {
     if trailing {
-        polynomials::roots::smallest_root(p)
+        roots::smallest_root(p)
     } else {
-        polynomials::roots::largest_root(p)
+        roots::largest_root(p)
     }
 }
 
@@ -60,12 +56,12 @@ pub(crate) fn report(
     order: [usize; 4],
     trailing: bool,
     span: usize,
-) -> polynomials::roots::RootAnswer
+) -> roots::RootAnswer
     requires { ⌜ (m ≤ 4) × (span ≤ 4) × Columns order × Within (rowNeed m) (now store) ⌝ }
     ensures { λ r. ⌜ r ≡ answered (Elimination.report (sideOf trailing) span (settledState m (now (store .entry)) order)) ⌝ }
 {
     let block = if trailing { span } else { 0 };
-    let mut answer = polynomials::roots::RootAnswer {
+    let mut answer = roots::RootAnswer {
         found: false,
         root: 0,
     };

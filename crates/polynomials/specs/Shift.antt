@@ -1,4 +1,4 @@
--- A table of Pascal's numbers by its addition rule, and the coefficients of p(n + 1) and p(-n) as the code makes them.
+-- A table of Pascal's numbers by its addition rule, and the coefficients of p(n + 1) as the code makes them.
 --
 -- Main definitions
 --   followsRule table    do the entries of a table of 16 rows of 16 numbers follow Pascal's addition rule?
@@ -12,20 +12,19 @@
 --   expansion-next       one term more
 --   expansion-all        all terms make the coefficient of n^k in p(n + 1)
 --   expansion-size, shift-size   the sizes of the terms' sums and of the coefficients of p(n + 1), for p of degree at most 15 within ±C
---   mirror-even, mirror-odd      the coefficients of p(-n) at even and at odd powers
-use mathlib.Core.Path.{_≡_, refl, sym, _∙_, ap, ap₂, subst}
+use mathlib.Core.Path.{_≡_, sym, _∙_, ap, ap₂, subst}
 use mathlib.Core.Bool.{Bool}
 use mathlib.Core.List.{List, [], _∷_}
-use Prim.Native.Nat.{ℕ, zero, suc, _+_, _*_, _%_, _^_, _≤_, _<_}
+use Prim.Native.Nat.{ℕ, zero, suc, _*_, _^_, _≤_, _<_}
 use native.Mathlib.Nat.{zero-add, not-suc-le-zero, le-of-suc-le-suc, le-trans, mul-le-mul, mul-le-mul-right, pow-le-pow-right}
 use native.Mathlib.Omega.{arith}
 use lib.Dec.{T, leb→le}
-use lib.IntN.{ℤ, pos, negℤ, natAbs, _+ℤ_, _-ℤ_, _*ℤ_, negℤ-negℤ, zero-*ℤ, *ℤ-zero}
+use lib.IntN.{ℤ, pos, natAbs, _+ℤ_, _-ℤ_, _*ℤ_, zero-*ℤ, *ℤ-zero}
 use lib.ListN.{length, getD}
 use Rattle.algebra.specs.Integers.{natAbs-*ℤ, -ℤ-zero}
 use Rattle.algebra.specs.Sums.{range, sumBelow, getD-range, sumBelow-last, sumBelow-zeros, sumBelow-extend, natAbs-sumBelow}
-use Rattle.algebra.specs.Polynomials.{Polynomial, coeff, shift, mirror, isZeroℤ, isZeroℤ-iff, T-&&}
-use Rattle.algebra.specs.Coefficients.{alternate, coeff-mirror, coeff-past-length}
+use Rattle.algebra.specs.Polynomials.{Polynomial, coeff, shift, isZeroℤ, isZeroℤ-iff, T-&&}
+use Rattle.algebra.specs.Coefficients.{coeff-past-length}
 use Rattle.algebra.specs.Binomials.{binomial, binomial-above, binomial-le, coeff-shift, coeff-shift-size}
 use Rattle.rules.specs.Limits.{bound, small}
 use Rattle.rules.specs.Rows.{every}
@@ -118,19 +117,3 @@ expansion-size p s k n h =
 pub shift-size : (p : Polynomial) → T (every small p) → length p ≤ 16 → (k : ℕ) → natAbs (coeff (shift p) k) ≤ 2 ^ 16 * bound
 shift-size p s h k =
     le-trans (coeff-shift-size p bound (small-coeff p s) k) (mul-le-mul-right bound (pow-le-pow-right (omega arith) h))
-
--- ---- the coefficients of p(-n)
-
-alternate-even : (k : ℕ) (a : ℤ) → k % 2 ≡ 0 → alternate k a ≡ a
-unfolding alternate
-alternate-even zero a h = refl
-alternate-even (suc zero) a h = absurd (omega arith)
-alternate-even (suc (suc k)) a h = negℤ-negℤ (alternate k a) ∙ alternate-even k a (omega arith)
-
-pub mirror-even : (p : Polynomial) (k : ℕ) → k % 2 ≡ 0 → coeff (mirror p) k ≡ coeff p k
-mirror-even p k h = coeff-mirror p k ∙ alternate-even k (coeff p k) h
-
-pub mirror-odd : (p : Polynomial) (k : ℕ) → (k % 2 ≡ 0 → ⊥) → coeff (mirror p) k ≡ negℤ (coeff p k)
-unfolding alternate
-mirror-odd p zero h = absurd (h refl)
-mirror-odd p (suc k) h = coeff-mirror p (suc k) ∙ ap negℤ (alternate-even k (coeff p (suc k)) (omega arith))

@@ -2,5 +2,4 @@
 // equation with a definition of `algebra` or `rules`.
 pub mod content;
 pub mod product;
-pub mod roots;
 pub mod shift;

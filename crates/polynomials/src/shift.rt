@@ -1,11 +1,11 @@
-// Pascal's numbers, p(n + 1) and p(-n).
+// Pascal's numbers and p(n + 1).
 ghost use mathlib.Core.Path.{_≡_};
 ghost use Prim.Native.Nat.{_*_, _^_, _≤_, _<_};
 ghost use lib.Dec.{T};
 ghost use lib.IntN.{pos, natAbs};
 ghost use lib.ListN.{length};
 ghost use Rattle.algebra.specs.Binomials as Binomials;
-ghost use Rattle.algebra.specs.Polynomials.{coeff, shift, mirror};
+ghost use Rattle.algebra.specs.Polynomials.{coeff, shift};
 ghost use Rattle.rules.specs.Limits.{bound, small};
 ghost use Rattle.rules.specs.Rows.{every};
 ghost use Rattle.polynomials.specs.Shift.{followsRule};
@@ -115,40 +115,31 @@ const PASCAL: [[i64; 16]; 16] = [
     ],
 ];
 
-// The addition rule: each number is the sum of the two above it.
-fn pascal() -> [[i64; 16]; 16]
+// The addition rule: each number is the sum of the two above it. The table is made once for a row, and lent.
+pub fn pascal() -> [[i64; 16]; 16]
     ensures { λ r. ⌜ T (followsRule r) ⌝ }
 {
     PASCAL
 }
 
-pub fn binomial(j: usize, k: usize) -> i64
-    requires { ⌜ (j < 16) × (k < 16) ⌝ }
+fn binomial(table: &[[i64; 16]; 16], j: usize, k: usize) -> i64
+    requires { ⌜ T (followsRule (now table)) × (j < 16) × (k < 16) ⌝ }
     ensures { λ r. ⌜ r ≡ pos (Binomials.binomial j k) ⌝ }
 {
-    let rows = pascal();
-    rows[j][k]
+    table[j][k]
 }
 
 // The coefficient of n^k in p(n + 1).
-pub fn shifted_coefficient(p: &[i64], k: usize) -> i64
-    requires { ⌜ (length (now p) ≤ 16) × T (every small (now p)) × (k < 16) ⌝ }
+pub fn shifted_coefficient(table: &[[i64; 16]; 16], p: &[i64], k: usize) -> i64
+    requires { ⌜ T (followsRule (now table)) × (length (now p) ≤ 16) × T (every small (now p)) × (k < 16) ⌝ }
     ensures value { λ r. ⌜ r ≡ coeff (shift (now (p .entry))) k ⌝ }
     ensures size { λ r. ⌜ natAbs r ≤ 2 ^ 16 * bound ⌝ }
 {
     let mut sum: i64 = 0;
     let mut j = k;
     while j < p.len() {
-        sum += binomial(j, k) * p[j];
+        sum += binomial(table, j, k) * p[j];
         j += 1;
     }
     sum
-}
-
-// The coefficient of n^k in p(-n).
-pub fn mirrored_coefficient(p: &[i64], k: usize) -> i64
-    requires { ⌜ (k < length (now p)) × T (every small (now p)) ⌝ }
-    ensures { λ r. ⌜ r ≡ coeff (mirror (now (p .entry))) k ⌝ }
-{
-    if k % 2 == 0 { p[k] } else { -p[k] }
 }

@@ -2,7 +2,7 @@
 // coefficients from power 0 up: (n + 3)(n - 2), n^3 - n, n^2 + 1, a constant, the product of n - k for k from -7 to 7,
 // n + 268435399, whose root is a prime in size, and (n - 16383)^2.
 use libc::STDOUT_FILENO;
-use polynomials::roots::RootList;
+use roots::RootList;
 ghost use Prim.Native.Nat.{_≤_};
 ghost use lib.Dec.{T};
 ghost use lib.ListN.{length};
@@ -37,9 +37,9 @@ fn print_roots(p: &[i64])
     requires { ⌜ (length (now p) ≤ 16) × T (every small (now p)) ⌝ }
 {
     print(b"roots");
-    print_list(polynomials::roots::roots(p));
-    let least = polynomials::roots::smallest_root(p);
-    let most = polynomials::roots::largest_root(p);
+    print_list(roots::roots(p));
+    let least = roots::smallest_root(p);
+    let most = roots::largest_root(p);
     if least.found {
         print(b" from");
         print_signed(least.root);

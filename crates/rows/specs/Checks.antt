@@ -39,11 +39,11 @@ every-false t [] i d h e = absurd (not-suc-le-zero h)
 every-false t (x ∷ l) zero d h e = ap (λ b. b && every t l) e
 every-false t (x ∷ l) (suc i) d h e = ap (λ b. t x && b) (every-false t l i d (le-of-suc-le-suc h) e) ∙ and-false (t x)
 
-true-of : (t : Bool) → T t → t ≡ true
+pub true-of : (t : Bool) → T t → t ≡ true
 true-of true h = refl
 true-of false h = absurd h
 
-false-of : (t : Bool) → (T t → ⊥) → t ≡ false
+pub false-of : (t : Bool) → (T t → ⊥) → t ≡ false
 false-of true h = absurd (h tt)
 false-of false h = refl
 

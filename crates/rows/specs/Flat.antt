@@ -4,7 +4,6 @@
 --   polynomials-rowOf     the polynomials of the row held by a list of numbers are its parts of 16
 --   zeroRow-numbers       a row is zero exactly if its numbers are
 --   smallRow-rowOf        a row's coefficients are within ±C exactly if its numbers are
---   every-append, every-flatten, drop-take, getD-default   of rules' Lists, passed on
 --   every-longer          one member more that passes a test
 --   every-from-at, every-from-all   the members from a place on pass exactly if each does
 --   block-at, zeroBlock-at, entry-at   the place of a block, its zero test, and the place of a leading entry
@@ -25,8 +24,7 @@ use lib.IntN.{ℤ}
 use Rattle.algebra.specs.Polynomials.{Polynomial, isZero, isZeroℤ, add, mul}
 use Rattle.rules.specs.Limits.{small}
 use Rattle.rules.specs.Rows.{Row, All, every, zeroBlock, zeroRow, leadingBlock, entry, mapRow, combine, smallRow, coefficientsOf}
-use Rattle.rules.specs.Lists.{suc-width, all-getD, getD-all, all-of-every, every-of-all, getD-map}
-pub use Rattle.rules.specs.Lists.{every-append, every-flatten, drop-take, getD-default}
+use Rattle.rules.specs.Lists.{suc-width, all-getD, getD-all, all-of-every, every-of-all, every-append, every-flatten, drop-take, getD-map}
 use Rattle.rules.specs.Stores.{parts, rowOf}
 use Rattle.rules.specs.Layout.{parts-length, flatten-parts, getD-parts, polynomial-at-row, coefficientsOf-rowOf-all}
 

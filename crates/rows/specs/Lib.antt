@@ -1,10 +1,4 @@
 pub mod Checks
-pub mod Combination
 pub mod Flat
-pub mod Found
-pub mod Mirroring
-pub mod Primitive
-pub mod Shifting
-pub mod Worked
 pub mod Written
 pub mod Validity

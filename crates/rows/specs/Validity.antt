@@ -30,10 +30,10 @@ use Rattle.algebra.specs.Order.{≤ℤ-trans, +ℤ-≤ℤ-left, +ℤ-≤ℤ-rig
 use Rattle.integers.specs.Ranges.{sfits-size}
 use Rattle.rules.specs.Limits.{small}
 use Rattle.rules.specs.Rows.{Row, Relation, smallRow}
+use Rattle.rules.specs.Lists.{drop-take}
 use Rattle.rules.specs.Stores as Stores
 use Rattle.rules.specs.Stores.{span, parts, rowOf, relationOf, relationsOf, unusedZero, rowRight, relationRight}
 use Rattle.rules.specs.Layout.{getD-parts}
-use Rattle.rows.specs.Flat.{drop-take}
 use Rattle.rows.specs.declared.validity.Sizes.{Sizes}
 
 unfoldable pub sizesOf : Sizes → Stores.Sizes

@@ -6,18 +6,18 @@
 -- Main statements
 --   every-take, every-drop, every-part   what all members pass, all members of a part pass
 --   front-none, front-put, front-skip, front-all, front-whole   none written, one part of 16 more, one that is zero, all
---   length-flatten, part-flatten lists of one width, joined: the length, and part i
-use mathlib.Core.Path.{_≡_, refl, sym, _∙_, ap, ap₂}
-use mathlib.Core.Bool.{Bool, _&&_}
+--   part-flatten   part i of lists of one width, joined
+use mathlib.Core.Path.{_≡_, sym, _∙_, ap, ap₂}
+use mathlib.Core.Bool.{Bool}
 use mathlib.Core.List.{List, [], _∷_, _++_, flatten, append-assoc}
 use Prim.Native.Nat.{ℕ, zero, suc, _+_, _*_, _-_, _≤_, _<_}
-use native.Mathlib.Nat.{sub-zero, zero-mul, suc-mul}
+use native.Mathlib.Nat.{sub-zero}
 use native.Mathlib.Omega.{arith}
 use lib.Dec.{T}
 use lib.IntN.{ℤ, pos}
 use lib.ListN.{length, take, drop, getD, replicate, length-append, length-drop, length-replicate, replicate-append-replicate, take-append-drop}
 use lib.Seq.{drop-length, take-add, take-at, drop-at, length-take-le}
-use Rattle.algebra.specs.Polynomials.{Polynomial, isZero, isZero-cons, T-&&}
+use Rattle.algebra.specs.Polynomials.{isZero, zero-list, T-&&}
 use Rattle.rules.specs.Rows.{All, every}
 use Rattle.rules.specs.Layout.{parts-flatten, getD-parts}
 
@@ -44,11 +44,6 @@ module _ {A : Type 0} (t : A → Bool) where
 
 unfoldable pub front : List ℤ → ℕ → List ℤ
 front l n = take n l ++ replicate (length l - n) (pos 0)
-
-zero-list : (p : Polynomial) → T (isZero p) → p ≡ replicate (length p) (pos 0)
-unfolding isZero
-zero-list [] h = refl
-zero-list (a ∷ p) h = let e = isZero-cons a p .0 h in ap₂ _∷_ (e .0) (zero-list p (e .1))
 
 pub length-front : (l : List ℤ) (n : ℕ) → n ≤ length l → length (front l n) ≡ length l
 unfolding front
@@ -113,14 +108,6 @@ module _ (l : List ℤ) (e : ℕ) (h : e * 16 + 16 ≤ length l) where
 -- ---- lists of one width, joined
 
 module _ {A : Type 0} (k : ℕ) where
-  pub length-flatten : (ls : List (List A)) → All (λ p. length p ≡ k) ls → length (flatten ls) ≡ length ls * k
-  unfolding flatten All
-  length-flatten [] h = sym (zero-mul k)
-  length-flatten (l ∷ ls) h = length-append l (flatten ls) ∙ ap₂ _+_ (h .0) (length-flatten ls (h .1)) ∙ step
-    where
-      step : k + length ls * k ≡ suc (length ls) * k
-      step = omega (arith, suc-mul (length ls) k)
-
   pub part-flatten : (n : ℕ) (ls : List (List A)) (rest : List A) → length ls ≡ n → All (λ p. length p ≡ k) ls → (i : ℕ) → i < n
       → take k (drop (i * k) (flatten ls ++ rest)) ≡ getD ls i []
   part-flatten n ls rest e h i below =

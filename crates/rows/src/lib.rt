@@ -1,9 +1,5 @@
-// Working rows: arrays of 320 numbers, handed on by value ("each row held as 320 numbers"). Each contract gives the result by
-// an equation with a definition of `rules` at the row that the numbers hold, `rowOf`.
+// Rows in lent stores: loaded as arrays of 320 numbers ("each row held as 320 numbers"), saved, and checked. Each contract gives
+// the result by an equation with a definition of `rules` at the row that the numbers hold, `rowOf`.
 pub mod checks;
-pub mod combination;
-pub mod entries;
-pub mod mirroring;
-pub mod shifting;
 pub mod stores;
 pub mod validity;

@@ -3,15 +3,15 @@
 ghost use mathlib.Core.Path.{_≡_};
 ghost use Rattle.rules.specs.SheetCalls.{readCall, writeCall};
 ghost use Rattle.rows.specs.Validity.{sizesOf};
-ghost use Rattle.reading.specs.ReadCalls as Reading;
-ghost use Rattle.writing.specs.WriterChecks as Writing;
+ghost use Rattle.reading.specs.ReadCalls as ReadCalls;
+ghost use Rattle.writing.specs.WriterChecks.{callOf};
 pub use reading::sheet::SheetResult;
 pub use writing::writer::WriteResult;
 
-// A sheet read into the stores: they are unchanged on a refusal, and numbers past their needed parts stay.
+// A sheet read into lent stores. On every refusal they are unchanged; numbers past the needed part stay.
 pub fn read_sheet(bytes: &[u8], rows: &mut [i64], relations: &mut [i64]) -> SheetResult
     ensures { λ r. ⌜
-        Reading.callOf r (now (rows .exit)) (now (relations .exit))
+        ReadCalls.callOf r (now (rows .exit)) (now (relations .exit))
         ≡ readCall (now (bytes .entry)) (now (rows .entry)) (now (relations .entry)) ⌝ }
 {
     reading::read_sheet(bytes, rows, relations)
@@ -28,7 +28,7 @@ pub fn write_sheet(
     bytes: &mut [u8],
 ) -> WriteResult
     ensures { λ r. ⌜
-        Writing.callOf r (now (bytes .exit))
+        callOf r (now (bytes .exit))
         ≡ writeCall (sizesOf sizes) count order (now (rows .entry)) (now (relations .entry)) (now (bytes .entry)) ⌝ }
 {
     writing::writer::write_sheet(rows, relations, sizes, count, order, bytes)

@@ -3,7 +3,7 @@
 use mathlib.Core.Path.{ap}
 use native.Mathlib.Omega.{arith}
 use borrow.Author.Needs.{needs}
-use Rattle.polynomials.specs.RootSearch.{roots-few}
+use Rattle.roots.specs.RootSearch.{roots-few}
 use Rattle.root_values.proofs.print_roots.Statement.{statement}
 use Rattle.root_values.proofs.print_roots.Tie as tie
 

@@ -5,7 +5,7 @@ use Prim.Native.Nat.{_-_, _≤_}
 use native.Mathlib.Omega.{arith}
 use lib.ListN.{length, take}
 use Rattle.rules.specs.Calls.{reportedOrder}
-use Rattle.rows.specs.Found.{Columns-at}
+use Rattle.working.specs.Found.{Columns-at}
 use Rattle.elimination.specs.CallLaws.{counted-none, counted-next}
 use Rattle.elimination.proofs.calls.counted.Statement.{statement}
 use Rattle.elimination.proofs.calls.counted.Tie as tie

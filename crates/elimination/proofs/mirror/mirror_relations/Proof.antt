@@ -17,7 +17,8 @@ use Rattle.rules.specs.Limits.{small}
 use Rattle.rules.specs.Rows.{every}
 use Rattle.polynomials.specs.Content.{read-back}
 use Rattle.elimination.specs.MirrorLaws.{Changed, mirrorNumbers, mirrorRelationNumbers, changed-none, changed-next}
-use Rattle.elimination.specs.MirrorLaws.{relation-stays, part-small, used-within, index-small, row-small}
+use Rattle.reduction.specs.StoreStates.{part-small}
+use Rattle.elimination.specs.MirrorLaws.{relation-stays, used-within, index-small, row-small}
 use Rattle.elimination.specs.MirrorLaws.{mirror-relation, relations-mirrored}
 use Rattle.elimination.proofs.mirror.mirror_relations.Statement.{statement}
 use Rattle.elimination.proofs.mirror.mirror_relations.Tie as tie

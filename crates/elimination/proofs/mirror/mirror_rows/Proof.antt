@@ -7,7 +7,8 @@ use denote.Ref.{now}
 use lib.IntN.{ℤ}
 use lib.ListN.{length}
 use Rattle.rules.specs.Stores.{rowNeed}
-use Rattle.elimination.specs.MirrorLaws.{Changed, mirrorNumbers, mirror-stays, part-small, changed-none, changed-next, rows-mirrored}
+use Rattle.reduction.specs.StoreStates.{part-small}
+use Rattle.elimination.specs.MirrorLaws.{Changed, mirrorNumbers, mirror-stays, changed-none, changed-next, rows-mirrored}
 use Rattle.elimination.proofs.mirror.mirror_rows.Statement.{statement}
 use Rattle.elimination.proofs.mirror.mirror_rows.Tie as tie
 

@@ -7,8 +7,8 @@ use mir.Syntax.{w64}
 use mir.Val.{SFits}
 use mir.Facts.{toZ-ofZ}
 use Rattle.rules.specs.Elimination.{Side}
-use Rattle.polynomials.specs.declared.roots.RootAnswer.{RootAnswer}
-use Rattle.elimination.specs.Progress.{sideOf}
+use Rattle.roots.specs.declared.RootAnswer.{RootAnswer}
+use Rattle.reduction.specs.Progress.{sideOf}
 use Rattle.elimination.specs.ReportLaws.{isBeyond, first-missing, second-missing, first-further, second-further}
 use borrow.Author.Needs.{needs}
 use Rattle.elimination.proofs.report.further.Statement.{statement}

@@ -4,8 +4,8 @@ use mathlib.Core.Path.{sym, _∙_, ap}
 use denote.Ref.{now}
 use Rattle.algebra.specs.Roots.{roots}
 use Rattle.rules.specs.Elimination.{furthest}
-use Rattle.polynomials.specs.RootSearch.{answered}
-use Rattle.elimination.specs.Progress.{sideOf}
+use Rattle.roots.specs.RootSearch.{answered}
+use Rattle.reduction.specs.Progress.{sideOf}
 use borrow.Author.Needs.{needs}
 use Rattle.elimination.proofs.report.furthest_root.Statement.{statement}
 use Rattle.elimination.proofs.report.furthest_root.Tie as tie

@@ -2,7 +2,7 @@
 -- Assumes nothing.
 use mathlib.Core.Path.{sym, ap}
 use mir.Facts.{toZ-ofZ}
-use Rattle.elimination.specs.Progress.{sideOf}
+use Rattle.reduction.specs.Progress.{sideOf}
 use Rattle.elimination.specs.ReportLaws.{isBeyond}
 use Rattle.elimination.proofs.report.is_beyond.Statement.{statement}
 use Rattle.elimination.proofs.report.is_beyond.Tie as tie

@@ -16,8 +16,8 @@ use Rattle.rules.specs.Limits.{small}
 use Rattle.rules.specs.Rows.{every}
 use Rattle.rules.specs.Elimination.{Side, diagonalPlace, furthest}
 use Rattle.rules.specs.Calls.{rootFound, rootValue}
-use Rattle.polynomials.specs.RootSearch.{answered}
-use Rattle.elimination.specs.Progress.{sideOf}
+use Rattle.roots.specs.RootSearch.{answered}
+use Rattle.reduction.specs.Progress.{sideOf}
 use Rattle.elimination.specs.ReportLaws.{furtherOf, diagonalAt, reported, answered-option, option-of}
 use Rattle.elimination.specs.ReportLaws.{report-none, report-next, report-all, diagonal-long, diagonal-small}
 use Rattle.elimination.proofs.report.report.Statement.{statement}

@@ -2,14 +2,12 @@
 -- Assumes nothing.
 use mathlib.Core.Path.{_∙_}
 use native.Mathlib.Omega.{arith}
+use denote.Ref.{now}
 use borrow.Author.Needs.{needs, sfits-of}
 use mir.Facts.{toZ-ofZ}
 use Rattle.polynomials.specs.Shift.{pascal-entry}
 use Rattle.polynomials.proofs.shift.binomial.Statement.{statement}
 use Rattle.polynomials.proofs.shift.binomial.Tie as tie
-
-pascal-requires : tie.Need-pascal-requires
-pascal-requires c κs = search needs
 
 mul-result : tie.Need-mul-result
 mul-result c = search needs
@@ -25,10 +23,9 @@ index-2-result c = search needs
 
 returns : tie.Need-returns
 returns c =
-    let j = c .before .before .args .j in
-    let k = c .before .before .args .k in
+    let s = c .before in
     toZ-ofZ (sfits-of (c .result .given))
-    ∙ pascal-entry (c .before .pascal .result) (c .before .pascal .ensures) j k (omega arith) (omega arith)
+    ∙ pascal-entry (now (s .args .table)) (s .pre .0) (s .args .j) (s .args .k) (omega arith) (omega arith)
 
 pub binomial-spec : {M : Type 1} → statement M
-binomial-spec = tie.close (tie.spec pascal-requires mul-result mul-result-2 index-1-result index-2-result returns)
+binomial-spec = tie.close (tie.spec mul-result mul-result-2 index-1-result index-2-result returns)

@@ -9,7 +9,7 @@ use lib.Dec.{lit<}
 use lib.IntN.{ℤ, pos, natAbs, _+ℤ_, _*ℤ_}
 use lib.ListN.{length, getD}
 use denote.Ref.{now}
-use borrow.Author.Needs.{sfits-of}
+use borrow.Author.Needs.{needs, sfits-of}
 use mir.Syntax.{w64}
 use mir.Val.{SFits, ofZ, toZ}
 use mir.Facts.{toZ-ofZ}
@@ -22,10 +22,10 @@ use Rattle.polynomials.proofs.shift.shifted_coefficient.Statement.{stat
 use Rattle.polynomials.proofs.shift.shifted_coefficient.Tie as tie
 
 abbrev Inv-loop : tie.InvT-loop
-Inv-loop p k sum₀ j₀ sum j = (j ≤ 16) × (sum ≡ ofZ w64 (expansion p k j))
+Inv-loop table p k sum₀ j₀ sum j = (j ≤ 16) × (sum ≡ ofZ w64 (expansion p k j))
 
 abbrev μ-loop : tie.MeasureT-loop
-μ-loop p k sum₀ j₀ sum j = length p - j
+μ-loop table p k sum₀ j₀ sum j = length p - j
 
 -- the sum of n terms is in the range of an i64
 module _ (s : tie.Start Inv-loop μ-loop) (n : ℕ) (h : n ≤ 16) where
@@ -33,7 +33,7 @@ module _ (s : tie.Start Inv-loop μ-loop) (n : ℕ) (h : n ≤ 16) where
   terms = expansion (now (s .args .p)) (s .args .k) n
 
   sum-fits : SFits w64 terms
-  sum-fits = sfits-size terms (expansion-size (now (s .args .p)) (s .pre .1) (s .args .k) n h) (lit< tt)
+  sum-fits = sfits-size terms (expansion-size (now (s .args .p)) (s .pre .2) (s .args .k) n h) (lit< tt)
 
 -- what a turn knows of the term that it adds
 module _ (c : tie.After-sum Inv-loop μ-loop) where
@@ -62,7 +62,7 @@ module _ (c : tie.After-sum Inv-loop μ-loop) where
 
   fits-term : SFits w64 (number *ℤ x)
   unfolding coeff
-  fits-term = sfits-size (number *ℤ x) (term-size (now (s .args .p)) (s .pre .1) (s .args .k) j (omega arith)) (lit< tt)
+  fits-term = sfits-size (number *ℤ x) (term-size (now (s .args .p)) (s .pre .2) (s .args .k) j (omega arith)) (lit< tt)
 
   abbrev product-read : ℤ
   product-read = toZ w64 (ofZ w64 (c .before .binomial .result)) *ℤ toZ w64 (ofZ w64 x)
@@ -79,7 +79,7 @@ loop-holds : tie.Need-loop-holds Inv-loop μ-loop
 loop-holds c = (omega arith, sym (ap (ofZ w64) (expansion-first (now (c .args .p)) (c .args .k))))
 
 binomial-requires : tie.Need-binomial-requires Inv-loop μ-loop
-binomial-requires c κs = omega arith
+binomial-requires c κs = search needs
 
 mul-sum : tie.Need-mul-sum Inv-loop μ-loop
 mul-sum c = omega arith
@@ -110,7 +110,7 @@ returns c =
     let j = c .before .loop .j in
     let last = toZ-ofZ (sum-fits s j (omega arith)) ∙ expansion-all p k j (omega arith) in
     let value : toZ w64 (c .before .loop .sum) ≡ coeff (shift p) k = ap (toZ w64) (c .before .loop .inv .1) ∙ last in
-    (value, subst (λ r. natAbs r ≤ 2 ^ 16 * bound) (sym value) (shift-size p (s .pre .1) (s .pre .0) k))
+    (value, subst (λ r. natAbs r ≤ 2 ^ 16 * bound) (sym value) (shift-size p (s .pre .2) (s .pre .1) k))
 
 pub shifted-coefficient-spec : {M : Type 1} → statement M
 shifted-coefficient-spec =

@@ -1,0 +1,207 @@
+-- `combinations::low_combination` meets its contract. The loop's invariant: the first e polynomials are written, and the others are zero.
+-- Assumes nothing.
+use mathlib.Core.Path.{_≡_, sym, _∙_, ap, ap₂}
+use mathlib.Core.Logic.{⊎-elim}
+use mathlib.Core.Bool.{false, not}
+use mathlib.Core.List.{List}
+use Prim.Native.Nat.{ℕ, _+_, _*_, _≤_, _-_}
+use native.Mathlib.Omega.{arith}
+use borrow.Author.Needs.{needs}
+use borrow.Author.Tests.{not-false}
+use borrow.Rule.Slice.PartMut.{putMid}
+use denote.Ref.{now}
+use lib.IntN.{ℤ, pos}
+use lib.ListN.{length, replicate}
+use Rattle.algebra.specs.Polynomials.{Polynomial, add, mul}
+use Rattle.rules.specs.Rows.{combine, mapRow, coefficientsOf}
+use Rattle.rules.specs.Stores.{rowOf}
+use Rattle.rows.specs.Written.{front, length-front, front-none, front-whole, front-put, front-skip}
+use Rattle.combinations.specs.Combination.{lowPart, trim-fits, trim-part-fits, length-low, trimmed-low, trimmed-zero}
+use Rattle.combinations.proofs.low_combination.Statement.{statement}
+use Rattle.combinations.proofs.low_combination.Tie as tie
+
+abbrev numbers : Polynomial → Polynomial → List ℤ → List ℤ → List ℤ
+numbers g h target pivot = coefficientsOf (mapRow lowPart (combine g h (rowOf target) (rowOf pivot)))
+
+abbrev Inv-loop : tie.InvT-loop
+Inv-loop g h target pivot a b row₀ e₀ row e = (e ≤ 20) × (length row ≡ 320) × (row ≡ front (numbers g h target pivot) (e * 16))
+
+abbrev μ-loop : tie.MeasureT-loop
+μ-loop g h target pivot a b row₀ e₀ row e = 20 - e
+
+-- the polynomial at place e
+module _ (c : tie.After-both-zero Inv-loop μ-loop) where
+  abbrev at : tie.At-loop Inv-loop μ-loop
+  at = c .before .before .before .before .before .before
+
+  abbrev start : tie.Start Inv-loop μ-loop
+  start = at .before .before .before
+
+  abbrev e : ℕ
+  e = at .loop .e
+
+  abbrev width : ℕ
+  width = e * 16 + 16 - e * 16
+
+  abbrev full : List ℤ
+  full = numbers (now (start .args .g)) (now (start .args .h)) (now (start .args .target)) (now (start .args .pivot))
+
+  abbrev p : Polynomial
+  p = now (c .before .before .before .trimmed3 .result)
+
+  abbrev q : Polynomial
+  q = now (c .before .trimmed4 .result)
+
+  full-long : length full ≡ 320
+  full-long = length-low (now (start .args .g)) (now (start .args .h)) (now (start .args .target)) (now (start .args .pivot))
+
+  skipped : not (c .both-zero .result) ≡ false → front full (e * 16) ≡ front full ((e + 1) * 16)
+  skipped z =
+      front-skip full e (omega (arith, full-long))
+      (trimmed-zero (now (start .args .g)) (now (start .args .h)) (now (start .args .target)) (now (start .args .pivot)) e
+      (c .before .before .before .before .before .loop-test .taken) width (omega arith) _ p _ q
+      (at .before .before .trimmed .ensures) (at .before .trimmed2 .ensures) (c .before .before .before .trimmed3 .ensures)
+      (c .before .trimmed4 .ensures) (sym (c .both-zero .ensures) ∙ not-false _ z))
+
+  put : (r : List ℤ) → r ≡ lowPart (add (mul (now (at .before .before .trimmed .result)) p) (mul (now (at .before .trimmed2 .result)) q))
+      → putMid (e * 16) width (at .loop .row) r ≡ front full ((e + 1) * 16)
+  put r w =
+      ap₂ (putMid (e * 16) width) (at .loop .inv .2)
+      (w ∙ trimmed-low (now (start .args .g)) (now (start .args .h)) (now (start .args .target)) (now (start .args .pivot)) e
+      (c .before .before .before .before .before .loop-test .taken) width (omega arith) _ p _ q
+      (at .before .before .trimmed .ensures) (at .before .trimmed2 .ensures) (c .before .before .before .trimmed3 .ensures)
+      (c .before .trimmed4 .ensures))
+      ∙ front-put full e (omega (arith, full-long)) width (omega arith)
+
+trimmed-requires : tie.Need-trimmed-requires Inv-loop μ-loop
+trimmed-requires c κs = search needs
+
+trimmed-requires-2 : tie.Need-trimmed-requires-2 Inv-loop μ-loop
+trimmed-requires-2 c κs = search needs
+
+loop-holds : tie.Need-loop-holds Inv-loop μ-loop
+loop-holds c =
+    let args = c .before .before .args in
+    let full = numbers (now (args .g)) (now (args .h)) (now (args .target)) (now (args .pivot)) in
+    let long = length-low (now (args .g)) (now (args .h)) (now (args .target)) (now (args .pivot)) in
+    (omega arith, search needs, sym (front-none full ∙ ap (λ n. replicate n (pos 0)) long))
+
+mul-from : tie.Need-mul-from Inv-loop μ-loop
+mul-from c = search needs
+
+add-to : tie.Need-add-to Inv-loop μ-loop
+add-to c = search needs
+
+mul-trimmed : tie.Need-mul-trimmed Inv-loop μ-loop
+mul-trimmed c = search needs
+
+sub-trimmed : tie.Need-sub-trimmed Inv-loop μ-loop
+sub-trimmed c = search needs
+
+part-trimmed-start : tie.Need-part-trimmed-start Inv-loop μ-loop
+part-trimmed-start c = search needs
+
+part-trimmed-end : tie.Need-part-trimmed-end Inv-loop μ-loop
+part-trimmed-end c = search needs
+
+trimmed-requires-3 : tie.Need-trimmed-requires-3 Inv-loop μ-loop
+trimmed-requires-3 c κs = search needs
+
+mul-trimmed-2 : tie.Need-mul-trimmed-2 Inv-loop μ-loop
+mul-trimmed-2 c = search needs
+
+sub-trimmed-2 : tie.Need-sub-trimmed-2 Inv-loop μ-loop
+sub-trimmed-2 c = search needs
+
+part-trimmed-start-2 : tie.Need-part-trimmed-start-2 Inv-loop μ-loop
+part-trimmed-start-2 c = search needs
+
+part-trimmed-end-2 : tie.Need-part-trimmed-end-2 Inv-loop μ-loop
+part-trimmed-end-2 c = search needs
+
+trimmed-requires-4 : tie.Need-trimmed-requires-4 Inv-loop μ-loop
+trimmed-requires-4 c κs = search needs
+
+both-zero-requires : tie.Need-both-zero-requires Inv-loop μ-loop
+both-zero-requires c κs = search needs
+
+mul-row : tie.Need-mul-row Inv-loop μ-loop
+mul-row c = search needs
+
+sub-put-combined : tie.Need-sub-put-combined Inv-loop μ-loop
+sub-put-combined c = search needs
+
+part-row-start : tie.Need-part-row-start Inv-loop μ-loop
+part-row-start c = search needs
+
+part-row-end : tie.Need-part-row-end Inv-loop μ-loop
+part-row-end c = search needs
+
+put-combined-requires : tie.Need-put-combined-requires Inv-loop μ-loop
+put-combined-requires c κs =
+    let here = c .before .before in
+    let pre = start here .pre in
+    let args = start here .args in
+    let a = trim-fits (now (args .g)) _ (at here .before .before .trimmed .ensures) (omega arith) (pre .0 .1) in
+    let b = trim-fits (now (args .h)) _ (at here .before .trimmed2 .ensures) (omega arith) (pre .0 .3) in
+    let from = e here * 16 in
+    let sixteen : width here ≡ 16 = omega arith in
+    let p = trim-part-fits (now (args .target)) from (width here) _ (here .before .before .before .trimmed3 .ensures) sixteen (pre .1 .1) in
+    let q = trim-part-fits (now (args .pivot)) from (width here) _ (here .before .trimmed4 .ensures) sixteen (pre .1 .3) in
+    (search needs, ((a .0, a .1, p .1), (b .0, b .1, q .1)))
+
+add-e : tie.Need-add-e Inv-loop μ-loop
+add-e c = search needs
+
+loop-less : tie.Need-loop-less Inv-loop μ-loop
+loop-less c = search needs
+
+loop-again : tie.Need-loop-again Inv-loop μ-loop
+loop-again c =
+    let here = c .before in
+    let written : c .if1 .row ≡ front (full here) ((e here + 1) * 16) = ⊎-elim
+    (λ w. w .4 ∙ put here (w .2 .last .0) (w .2 .ensures))
+    (λ w. w .1 ∙ at here .loop .inv .2 ∙ skipped here (w .0 .left))
+    (c .if1 .came)
+    in
+    (omega arith, ap length written ∙ length-front (full here) ((e here + 1) * 16) (omega (arith, full-long here)) ∙ full-long here, written)
+
+returns : tie.Need-returns Inv-loop μ-loop
+returns c =
+    let args = c .before .before .before .before .args in
+    let full = numbers (now (args .g)) (now (args .h)) (now (args .target)) (now (args .pivot)) in
+    let long = length-low (now (args .g)) (now (args .h)) (now (args .target)) (now (args .pivot)) in
+    let all : c .before .loop .e * 16 ≡ length full = omega (arith, long) in
+    c .before .loop .inv .2 ∙ ap (front full) all ∙ front-whole full
+
+pub low-combination-spec : {M : Type 1} → statement M
+low-combination-spec =
+    tie.close
+    (tie.spec
+    Inv-loop
+    μ-loop
+    trimmed-requires
+    trimmed-requires-2
+    loop-holds
+    mul-from
+    add-to
+    mul-trimmed
+    sub-trimmed
+    part-trimmed-start
+    part-trimmed-end
+    trimmed-requires-3
+    mul-trimmed-2
+    sub-trimmed-2
+    part-trimmed-start-2
+    part-trimmed-end-2
+    trimmed-requires-4
+    both-zero-requires
+    mul-row
+    sub-put-combined
+    part-row-start
+    part-row-end
+    put-combined-requires
+    add-e
+    loop-less
+    loop-again
+    returns)

@@ -1,0 +1,175 @@
+-- `combinations::past_degree` meets its contract. The loop's invariant: the first e polynomials have degrees up to 15.
+-- Assumes nothing.
+use mathlib.Core.Path.{_≡_, sym, _∙_, ap}
+use mathlib.Core.Bool.{Bool, true, not}
+use mathlib.Core.List.{List, []}
+use Prim.Native.Nat.{ℕ, _+_, _*_, _≤_, _<_, _-_}
+use native.Mathlib.Omega.{arith}
+use borrow.Author.Needs.{needs}
+use borrow.Author.Tests.{not-true, not-false}
+use lib.Seq.{take-all}
+use denote.Ref.{now}
+use lib.IntN.{ℤ}
+use lib.ListN.{length, take, drop, getD}
+use Rattle.algebra.specs.Polynomials.{Polynomial, isZero}
+use Rattle.rules.specs.Rows.{every, combine}
+use Rattle.rules.specs.Stores.{rowOf}
+use Rattle.rows.specs.Flat.{polynomialsOf, every-longer}
+use Rattle.rows.specs.Checks.{every-false}
+use Rattle.combinations.specs.Combination.{trim-fits, trim-part-fits, low-degrees, length-polynomials, trimmed-high}
+use Rattle.combinations.proofs.past_degree.Statement.{statement}
+use Rattle.combinations.proofs.past_degree.Tie as tie
+
+abbrev isLow : Polynomial → Bool
+isLow p = isZero (drop 16 p)
+
+abbrev polynomials : Polynomial → Polynomial → List ℤ → List ℤ → List Polynomial
+polynomials g h target pivot = polynomialsOf (combine g h (rowOf target) (rowOf pivot))
+
+abbrev Inv-loop : tie.InvT-loop
+Inv-loop g h target pivot a b e₀ e =
+    (e ≤ 20) × (every isLow (take e (polynomials g h target pivot)) ≡ true)
+
+abbrev μ-loop : tie.MeasureT-loop
+μ-loop g h target pivot a b e₀ e = 20 - e
+
+-- the test of the polynomial at place e
+module _ (c : tie.After-passes Inv-loop μ-loop) where
+  abbrev at : tie.At-loop Inv-loop μ-loop
+  at = c .before .before .before .before .before .before
+
+  abbrev start : tie.Start Inv-loop μ-loop
+  start = at .before .before .before
+
+  abbrev e : ℕ
+  e = at .loop .e
+
+  abbrev ps : List Polynomial
+  ps = polynomials (now (start .args .g)) (now (start .args .h)) (now (start .args .target)) (now (start .args .pivot))
+
+  tested : c .passes .result ≡ not (isLow (getD ps e []))
+  tested =
+      let width : e * 16 + 16 - e * 16 ≡ 16 = omega arith in
+      let p = c .before .before .before .trimmed3 in
+      c .passes .ensures
+      ∙ ap not (trimmed-high (now (start .args .g)) (now (start .args .h)) (now (start .args .target)) (now (start .args .pivot)) e
+      (c .before .before .before .before .before .loop-test .taken) (e * 16 + 16 - e * 16) width _ _ _ _
+      (at .before .before .trimmed .ensures) (at .before .trimmed2 .ensures) (p .ensures) (c .before .trimmed4 .ensures))
+
+  some-left : e < length ps
+  some-left = rw length-polynomials (c .before .before .before .before .before .loop-test .taken)
+
+trimmed-requires : tie.Need-trimmed-requires Inv-loop μ-loop
+trimmed-requires c κs = search needs
+
+trimmed-requires-2 : tie.Need-trimmed-requires-2 Inv-loop μ-loop
+trimmed-requires-2 c κs = search needs
+
+loop-holds : tie.Need-loop-holds Inv-loop μ-loop
+unfolding every
+loop-holds c = search needs
+
+mul-from : tie.Need-mul-from Inv-loop μ-loop
+mul-from c = search needs
+
+add-to : tie.Need-add-to Inv-loop μ-loop
+add-to c = search needs
+
+mul-trimmed : tie.Need-mul-trimmed Inv-loop μ-loop
+mul-trimmed c = search needs
+
+sub-trimmed : tie.Need-sub-trimmed Inv-loop μ-loop
+sub-trimmed c = search needs
+
+part-trimmed-start : tie.Need-part-trimmed-start Inv-loop μ-loop
+part-trimmed-start c = search needs
+
+part-trimmed-end : tie.Need-part-trimmed-end Inv-loop μ-loop
+part-trimmed-end c = search needs
+
+trimmed-requires-3 : tie.Need-trimmed-requires-3 Inv-loop μ-loop
+trimmed-requires-3 c κs = search needs
+
+mul-trimmed-2 : tie.Need-mul-trimmed-2 Inv-loop μ-loop
+mul-trimmed-2 c = search needs
+
+sub-trimmed-2 : tie.Need-sub-trimmed-2 Inv-loop μ-loop
+sub-trimmed-2 c = search needs
+
+part-trimmed-start-2 : tie.Need-part-trimmed-start-2 Inv-loop μ-loop
+part-trimmed-start-2 c = search needs
+
+part-trimmed-end-2 : tie.Need-part-trimmed-end-2 Inv-loop μ-loop
+part-trimmed-end-2 c = search needs
+
+trimmed-requires-4 : tie.Need-trimmed-requires-4 Inv-loop μ-loop
+trimmed-requires-4 c κs = search needs
+
+passes-requires : tie.Need-passes-requires Inv-loop μ-loop
+passes-requires c κs =
+    let at = c .before .before .before .before .before in
+    let start = at .before .before .before in
+    let e = at .loop .e in
+    let width : e * 16 + 16 - e * 16 ≡ 16 = omega arith in
+    let a = trim-fits (now (start .args .g)) _ (at .before .before .trimmed .ensures) (omega arith) (start .pre .0 .1) in
+    let b = trim-fits (now (start .args .h)) _ (at .before .trimmed2 .ensures) (omega arith) (start .pre .0 .3) in
+    let from = e * 16 in
+    let p = trim-part-fits (now (start .args .target)) from (from + 16 - from) _ (c .before .before .trimmed3 .ensures) width (start .pre .1 .1) in
+    let q = trim-part-fits (now (start .args .pivot)) from (from + 16 - from) _ (c .trimmed4 .ensures) width (start .pre .1 .3) in
+    ((a .0, a .1, p .0, p .1), (b .0, b .1, q .0, q .1))
+
+returns : tie.Need-returns Inv-loop μ-loop
+returns c =
+    let here = c .before in
+    let args = start here .args in
+    let failed = not-true _ (sym (tested here) ∙ c .if1 .taken) in
+    ap not (sym (low-degrees (now (args .g)) (now (args .h)) (now (args .target)) (now (args .pivot))
+    ∙ every-false isLow (ps here) (e here) [] (some-left here) failed))
+
+add-e : tie.Need-add-e Inv-loop μ-loop
+add-e c = search needs
+
+loop-less : tie.Need-loop-less Inv-loop μ-loop
+loop-less c = search needs
+
+loop-again : tie.Need-loop-again Inv-loop μ-loop
+loop-again c =
+    let here = c .before in
+    let passed = not-false _ (sym (tested here) ∙ c .if1 .left) in
+    (omega arith, every-longer isLow (ps here) (e here) [] (some-left here) (at here .loop .inv .1) passed)
+
+returns-2 : tie.Need-returns-2 Inv-loop μ-loop
+returns-2 c =
+    let args = c .before .before .before .before .args in
+    let all = polynomials (now (args .g)) (now (args .h)) (now (args .target)) (now (args .pivot)) in
+    let none : length all ≤ c .before .loop .e = rw length-polynomials (c .loop-test .left) in
+    ap not (sym (low-degrees (now (args .g)) (now (args .h)) (now (args .target)) (now (args .pivot))
+    ∙ ap (every isLow) (sym (take-all (c .before .loop .e) all none)) ∙ c .before .loop .inv .1))
+
+pub past-degree-spec : {M : Type 1} → statement M
+past-degree-spec =
+    tie.close
+    (tie.spec
+    Inv-loop
+    μ-loop
+    trimmed-requires
+    trimmed-requires-2
+    loop-holds
+    mul-from
+    add-to
+    mul-trimmed
+    sub-trimmed
+    part-trimmed-start
+    part-trimmed-end
+    trimmed-requires-3
+    mul-trimmed-2
+    sub-trimmed-2
+    part-trimmed-start-2
+    part-trimmed-end-2
+    trimmed-requires-4
+    passes-requires
+    returns
+    add-e
+    loop-less
+    loop-again
+    returns-2)

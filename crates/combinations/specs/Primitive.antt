@@ -1,0 +1,178 @@
+-- Rule 4's division by the content, and its limit of the degrees, on the numbers of a row.
+--
+-- Main definitions
+--   primitiveNumbers l    the numbers divided by their content; zeros are not divided
+--
+-- Main statements
+--   primitive-divided, primitive-kept   what the numbers become, by their content
+--   content-below         the content is at most as large as the numbers
+--   degree-kept           the division does not change which polynomials have degrees up to 15
+--   cut-primitive         where all have, the row may be cut to 16 coefficients before the division
+--   limit-past, limit-low the answer for a row whose degrees pass 15, and for one whose degrees do not
+--   degrees-within        a row within both limits is within that of the coefficients
+use mathlib.Core.Path.{_≡_, refl, sym, _∙_, ap, ap₂, subst}
+use mathlib.Core.Bool.{Bool, true, false, _&&_, cond}
+use mathlib.Core.List.{List, [], _∷_, _++_, map, flatten}
+use Prim.Native.Nat.{ℕ, zero, suc, _≤_, _<_, _∣_}
+use native.Mathlib.Nat.{zero-lt-suc, dvd-refl, dvd-trans}
+use native.Mathlib.Omega.{arith}
+use lib.Dec.{T}
+use lib.IntN.{ℤ, pos, natAbs}
+use lib.ListN.{take, drop, replicate, take-append-drop}
+use lib.Signed.{quotZ}
+use Rattle.algebra.specs.Gcd.{gcd, content, divideBy, gcd-zero, gcd-divides-left, gcd-divides-right, gcd-le-right, content-append, content-zero}
+use Rattle.algebra.specs.Gcd.{dividesAll-of-content, isZero-divideBy, divideBy-one}
+use Rattle.algebra.specs.Polynomials.{Polynomial, isZero, T-&&}
+use Rattle.polynomials.specs.Content.{Below}
+use Rattle.rules.specs.Rows.{Row, every, mapRow, coefficientsOf, primitive, lowDegrees, cut}
+use Rattle.rules.specs.Lists.{every-flatten, map-take, map-drop}
+use Rattle.rules.specs.Elimination.{within, beyond, limitCoefficients, limitDegrees}
+use Rattle.rows.specs.Flat.{polynomialsOf, flatten-map, numbers-mapRow}
+use Rattle.working.specs.Worked.{Shown, refusalOf, numbersOf}
+
+-- The numbers divided by d, or as they are if d is 0.
+abbrev pub divideUnlessZero : ℕ → List ℤ → List ℤ
+divideUnlessZero zero l = l
+divideUnlessZero (suc d) l = divideBy (suc d) l
+
+unfoldable pub primitiveNumbers : List ℤ → List ℤ
+unfolding content
+primitiveNumbers l = divideUnlessZero (content l) l
+
+pub primitive-divided : (l : List ℤ) → 1 < content l → primitiveNumbers l ≡ divideBy (content l) l
+unfolding primitiveNumbers
+primitive-divided l h = go (content l) h
+  where
+    go : (d : ℕ) → 1 < d → divideUnlessZero d l ≡ divideBy d l
+    go zero h = absurd (omega arith)
+    go (suc d) h = refl
+
+pub primitive-kept : (l : List ℤ) → content l ≤ 1 → primitiveNumbers l ≡ l
+unfolding primitiveNumbers
+primitive-kept l h = go (content l) h
+  where
+    go : (d : ℕ) → d ≤ 1 → divideUnlessZero d l ≡ l
+    go zero h = refl
+    go (suc zero) h = divideBy-one l
+    go (suc (suc d)) h = absurd (omega arith)
+
+-- ---- the size of the content
+
+gcd-below : (n a b : ℕ) → a < n → b < n → gcd a b < n
+gcd-below n a zero h k = rw (gcd-zero a) h
+gcd-below n a (suc b) h k = omega (arith, gcd-le-right a (suc b) (zero-lt-suc b))
+
+pub content-below : (n : ℕ) (l : List ℤ) → 0 < n → Below n l → content l < n
+unfolding content
+content-below n [] m h = m
+content-below n (a ∷ l) m h = gcd-below n (natAbs a) (content l) (h 0) (content-below n l m (λ k. h (suc k)))
+
+-- ---- divisors of joined lists
+
+divides-append : (d : ℕ) (p q : List ℤ) → d ∣ content (p ++ q) → (d ∣ content p) × (d ∣ content q)
+divides-append d p q h =
+    let both = rw content-append at h in
+    (dvd-trans d both (gcd-divides-left (content p) (content q)), dvd-trans d both (gcd-divides-right (content p) (content q)))
+
+-- Zeros at the end do not change the content.
+content-take : (n : ℕ) (p : Polynomial) → T (isZero (drop n p)) → content (take n p) ≡ content p
+content-take n p z =
+    sym (ap content (sym (take-append-drop n p)) ∙ content-append (take n p) (drop n p)
+    ∙ ap (gcd (content (take n p))) (content-zero (drop n p) .1 z) ∙ gcd-zero (content (take n p)))
+
+-- ---- the degrees
+
+abbrev isLow : Polynomial → Bool
+isLow p = isZero (drop 16 p)
+
+lowDegrees-every : (r : Row) → lowDegrees r ≡ every isLow (polynomialsOf r)
+unfolding lowDegrees
+lowDegrees-every r = sym (every-flatten isLow (r .blocks))
+
+pub polynomials-mapRow : (f : Polynomial → Polynomial) (r : Row) → polynomialsOf (mapRow f r) ≡ map f (polynomialsOf r)
+unfolding mapRow
+polynomials-mapRow f r = flatten-map f (r .blocks)
+
+module _ (d : ℕ) (positive : 0 < d) where
+  divided-low : (p : Polynomial) → d ∣ content p → isLow (divideBy d p) ≡ isLow p
+  unfolding divideBy
+  divided-low p h =
+      ap isZero (map-drop (λ a. quotZ a (pos d)) 16 p)
+      ∙ isZero-divideBy d (drop 16 p) positive
+      (dividesAll-of-content d (drop 16 p)
+      (divides-append d (take 16 p) (drop 16 p) (subst (λ q. d ∣ content q) (sym (take-append-drop 16 p)) h) .1))
+
+  divided-every : (ps : List Polynomial) → d ∣ content (flatten ps) → every isLow (map (divideBy d) ps) ≡ every isLow ps
+  unfolding flatten every
+  divided-every [] h = refl
+  divided-every (p ∷ ps) h =
+      let both = divides-append d p (flatten ps) h in
+      ap₂ _&&_ (divided-low p (both .0)) (divided-every ps (both .1))
+
+pub degree-kept : (r : Row) → lowDegrees (primitive r) ≡ lowDegrees r
+unfolding primitive coefficientsOf
+degree-kept r = go (content (coefficientsOf r)) (dvd-refl (content (coefficientsOf r)))
+  where
+    go : (d : ℕ) → d ∣ content (coefficientsOf r) → lowDegrees (elim d [ zero ↦ r | suc e ↦ mapRow (divideBy (suc e)) r ]) ≡ lowDegrees r
+    go zero h = refl
+    go (suc d) h =
+        lowDegrees-every (mapRow (divideBy (suc d)) r) ∙ ap (every isLow) (polynomials-mapRow (divideBy (suc d)) r)
+        ∙ divided-every (suc d) (zero-lt-suc d) (polynomialsOf r) h ∙ sym (lowDegrees-every r)
+
+-- ---- the numbers after the division
+
+-- Where all degrees are at most 15, the first 16 coefficients have the content of all.
+content-low : (ps : List Polynomial) → T (every isLow ps) → content (flatten (map (take 16) ps)) ≡ content (flatten ps)
+unfolding flatten every
+content-low [] z = refl
+content-low (p ∷ ps) z =
+    let both = T-&& (isLow p) (every isLow ps) .0 z in
+    content-append (take 16 p) (flatten (map (take 16) ps))
+    ∙ ap₂ gcd (content-take 16 p (both .0)) (content-low ps (both .1)) ∙ sym (content-append p (flatten ps))
+
+map-divide-take : (d : ℕ) (ps : List Polynomial) → map (take 16) (map (divideBy d) ps) ≡ map (divideBy d) (map (take 16) ps)
+unfolding divideBy
+map-divide-take d [] = refl
+map-divide-take d (p ∷ ps) = ap₂ _∷_ (map-take (λ a. quotZ a (pos d)) 16 p) (map-divide-take d ps)
+
+numbers-cut : (r : Row) → coefficientsOf (cut r) ≡ flatten (map (take 16) (polynomialsOf r))
+unfolding cut
+numbers-cut r = numbers-mapRow (take 16) r
+
+cut-divided : (d : ℕ) (r : Row) → coefficientsOf (cut (mapRow (divideBy d) r)) ≡ divideBy d (coefficientsOf (cut r))
+unfolding divideBy
+cut-divided d r =
+    numbers-cut (mapRow (divideBy d) r)
+    ∙ ap flatten (ap (map (take 16)) (polynomials-mapRow (divideBy d) r) ∙ map-divide-take d (polynomialsOf r))
+    ∙ flatten-map (λ a. quotZ a (pos d)) (map (take 16) (polynomialsOf r)) ∙ ap (divideBy d) (sym (numbers-cut r))
+
+pub cut-primitive : (r : Row) → T (lowDegrees r) → coefficientsOf (cut (primitive r)) ≡ primitiveNumbers (coefficientsOf (cut r))
+unfolding primitive primitiveNumbers coefficientsOf
+cut-primitive r low =
+    go (content (coefficientsOf r)) ∙ ap (λ d. divideUnlessZero d (coefficientsOf (cut r))) (sym same)
+  where
+    go : (d : ℕ) → coefficientsOf (cut (elim d [ zero ↦ r | suc e ↦ mapRow (divideBy (suc e)) r ]))
+        ≡ divideUnlessZero d (coefficientsOf (cut r))
+    go zero = refl
+    go (suc d) = cut-divided (suc d) r
+
+    same : content (coefficientsOf (cut r)) ≡ content (coefficientsOf r)
+    same = ap content (numbers-cut r) ∙ content-low (polynomialsOf r) (subst T (lowDegrees-every r) low)
+
+-- ---- the answer
+
+pub limit-past : (r : Row) → lowDegrees r ≡ false → Shown 7 (replicate 320 (pos 0)) (limitDegrees (primitive r))
+unfolding limitDegrees refusalOf numbersOf
+limit-past r e = rw (degree-kept r, e) (refl, refl)
+
+pub limit-low : (r : Row) → lowDegrees r ≡ true → limitDegrees (primitive r) ≡ limitCoefficients (cut (primitive r))
+unfolding limitDegrees
+limit-low r e = rw (degree-kept r, e)
+
+pub degrees-within : (q r : Row) → limitDegrees q ≡ within r → limitCoefficients (cut q) ≡ within r
+unfolding limitDegrees
+degrees-within q r e = go (lowDegrees q) e
+  where
+    go : (t : Bool) → cond t (limitCoefficients (cut q)) (beyond 7) ≡ within r → limitCoefficients (cut q) ≡ within r
+    go true h = h
+    go false h = let impossible : _≡_ {A = ℕ} 0 1 = cc in absurd (omega arith)

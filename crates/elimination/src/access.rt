@@ -1,0 +1,43 @@
+// Where one polynomial of a row store stands; rows and columns are counted from 1.
+ghost use mathlib.Core.Path.{_≡_};
+ghost use mathlib.Core.Bool.{_&&_};
+ghost use lib.Dec.{T};
+ghost use lib.Signed.{leZ};
+ghost use Rattle.rules.specs.Stores.{sizesRight};
+ghost use Rattle.rules.specs.Calls as Calls;
+ghost use Rattle.rows.specs.Validity.{sizesOf};
+
+// Blocks are numbered from t to l.
+fn between(block: i64, l: i64, t: i64) -> bool
+    ensures { λ r. ⌜ r ≡ (leZ t block && leZ block l) ⌝ }
+{
+    t <= block && block <= l
+}
+
+// Does the system have this row, block and column?
+pub(crate) fn place_right(
+    sizes: rows::validity::Sizes,
+    row: usize,
+    block: i64,
+    column: usize,
+) -> bool
+    ensures { λ r. ⌜ r ≡ Calls.placeRight (sizesOf sizes) row block column ⌝ }
+{
+    if !rows::validity::counted(row, sizes.m) {
+        return false;
+    }
+    if !between(block, sizes.l, sizes.t) {
+        return false;
+    }
+    rows::validity::counted(column, sizes.m)
+}
+
+// Where the sixteen numbers of the polynomial begin.
+pub(crate) fn place_of(sizes: rows::validity::Sizes, row: usize, block: i64, column: usize) -> usize
+    requires { ⌜ T (sizesRight (sizesOf sizes)) × T (Calls.placeRight (sizesOf sizes) row block column) ⌝ }
+    ensures { λ r. ⌜ r ≡ Calls.polynomialPlace (sizesOf sizes) row block column ⌝ }
+{
+    let l = sizes.l;
+    let down = (l - block) as usize;
+    (row - 1) * 320 + down * 64 + (column - 1) * 16
+}

@@ -1,0 +1,332 @@
+-- `reduction::step::combine_step` meets its contract: multipliers, roots, relations and new row are those of the definition.
+-- Assumes nothing.
+use mathlib.Core.Path.{_≡_, refl, sym, _∙_, ap, ap₂, subst, subst₂}
+use mathlib.Core.Bool.{not}
+use mathlib.Core.List.{List, _++_}
+use Prim.Native.Nat.{ℕ, _+_, _*_, _≤_, _<_}
+use native.Mathlib.Nat.{le-of-eq}
+use native.Mathlib.Omega.{arith}
+use borrow.Author.Needs.{needs}
+use denote.Ref.{now}
+use lib.Dec.{T}
+use lib.IntN.{ℤ}
+use lib.ListN.{length, getD, length-append, length-replicate}
+use Rattle.algebra.specs.Polynomials.{isZero}
+use Rattle.algebra.specs.Roots.{roots}
+use Rattle.rules.specs.Limits.{small}
+use Rattle.rules.specs.Rows.{every, entry, combine, primitive}
+use Rattle.rules.specs.Stores.{rowOf}
+use Rattle.rules.specs.Elimination.{Side, Limited, limitDegrees, Multipliers, multipliers, multipliersAt, listing, combineStep}
+use Rattle.roots.specs.RootSearch.{listed, held, held-of, roots-few}
+use Rattle.working.specs.Found.{Columns-at}
+use Rattle.working.specs.Worked.{refusalOf, numbersOf}
+use Rattle.reduction.specs.declared.step.Progress.{Progress}
+use Rattle.reduction.specs.Progress.{Ready, sideOf, stateOf, answerOf, listedProgress}
+use Rattle.reduction.specs.Relations.{Relisted}
+use Rattle.reduction.specs.Bounds.{Sixteen, multipliers-fit, roots-small}
+use Rattle.reduction.specs.NewRows.{Storable, saved, row-room, combined-storable}
+use Rattle.reduction.specs.Exchange.{numbersAt, length-numbersAt, small-numbersAt, length-entry, small-entry}
+use Rattle.reduction.specs.StepLaws.{multipliersIn, newRow, multipliers-in, combine-refused, combine-reached}
+use Rattle.reduction.specs.StepLaws.{refused-reached, reached-same}
+use Rattle.reduction.proofs.step.combine_step.Statement.{statement}
+use Rattle.reduction.proofs.step.combine_step.Tie as tie
+
+abbrev Small : List ℤ → Type 0
+Small l = T (every small l)
+
+abbrev multipliersOf : ℕ → List ℤ → List ℤ → Multipliers
+multipliersOf c target pivot = multipliers (entry (rowOf pivot) c) (entry (rowOf target) c)
+
+abbrev NotBoth : ℕ → List ℤ → List ℤ → Type 0
+NotBoth c target pivot = T (not (isZero (entry (rowOf pivot) c ++ entry (rowOf target) c)))
+
+listed-length : (l : List ℤ) → length l ≤ 16 → length (listed l .values) ≡ 16
+listed-length l h = simp (length-append, length-replicate) (omega arith)
+
+-- the arguments
+module _ (c : tie.Start) where
+  abbrev rows : List ℤ
+  rows = now (c .args .rows)
+
+  abbrev relations : List ℤ
+  relations = now (c .args .relations)
+
+  abbrev p : Progress
+  p = c .args .p
+
+  abbrev i : ℕ
+  i = p .settled
+
+  abbrev j : ℕ
+  j = c .args .j
+
+  abbrev m : ℕ
+  m = c .args .m
+
+  abbrev side : Side
+  side = sideOf (c .args .trailing)
+
+  ready : Ready m rows relations p
+  ready = c .pre .0 .0
+
+  inside : i < m
+  inside = c .pre .0 .1
+
+  settled : j < i
+  settled = c .pre .0 .2
+
+  other : j < m
+  other = omega (arith, inside, settled)
+
+  room : (k : ℕ) → k < m → k * 320 + 320 ≤ length rows
+  room k h = omega (arith, row-room m k rows (ready .rows-within) h, ready .rows-within .long)
+
+  -- the two rows and their entries
+  abbrev target : List ℤ
+  target = numbersAt rows i
+
+  abbrev pivot : List ℤ
+  pivot = numbersAt rows j
+
+  abbrev column : ℕ
+  column = getD (p .order) j 0
+
+  below : column < 4
+  below = Columns-at (p .order) (ready .columns) j
+
+  target-small : Small target
+  target-small = small-numbersAt m rows (ready .rows-within) i inside
+
+  pivot-small : Small pivot
+  pivot-small = small-numbersAt m rows (ready .rows-within) j other
+
+  target-long : length target ≡ 320
+  target-long = length-numbersAt m rows (ready .rows-within) i inside
+
+  entry-fits : (l : List ℤ) → length l ≡ 320 → Small l → Sixteen (entry (rowOf l) column)
+  entry-fits l e h = (length-entry l column e below, small-entry l column h below)
+
+  -- the multipliers and their roots
+  abbrev x : Multipliers
+  x = multipliersIn rows p j
+
+  fits : Sixteen (x .g) × Sixteen (x .h)
+  fits =
+      multipliers-fit (entry (rowOf pivot) column) (entry (rowOf target) column)
+      (entry-fits pivot (length-numbersAt m rows (ready .rows-within) j other) pivot-small) (entry-fits target target-long target-small)
+
+  few : length (roots (x .g)) ≤ 15
+  few = roots-few (x .g) (le-of-eq (fits .0 .0))
+
+  combine-is : combineStep side (stateOf m rows relations p) i j (multipliersAt (stateOf m rows relations p) i j)
+      ≡ combineStep side (stateOf m rows relations p) i j x
+  combine-is = ap (combineStep side (stateOf m rows relations p) i j) (multipliers-in side ready j inside settled)
+
+  -- the new row
+  abbrev new : Limited
+  new = newRow x target pivot
+
+  storable : Storable new
+  storable = combined-storable (x .g) (x .h) target pivot (omega (arith, fits .0 .0)) target-long
+
+-- the two rows, loaded
+module _ (c : tie.After-order) where
+  abbrev loaded : tie.Start
+  loaded = c .before .before .before .before .before
+
+  target-is : c .before .before .before .load .result ≡ target loaded
+  target-is = c .before .before .before .load .ensures
+
+  pivot-is : c .before .load2 .result ≡ pivot loaded
+  pivot-is = c .before .load2 .ensures
+
+-- the multipliers
+module _ (c : tie.After-multipliers-at) where
+  abbrev start : tie.Start
+  start = loaded (c .before)
+
+  multipliers-are : multipliersOf (column start) (c .before .before .before .before .load .result) (c .before .before .load2 .result)
+      ≡ x start
+  multipliers-are = ap₂ (multipliersOf (column start)) (target-is (c .before)) (pivot-is (c .before))
+
+  g-is : c .multipliers-at .result .g ≡ x start .g
+  g-is = c .multipliers-at .ensures .0 ∙ ap (λ y. y .g) multipliers-are
+
+  h-is : c .multipliers-at .result .h ≡ x start .h
+  h-is = c .multipliers-at .ensures .1 ∙ ap (λ y. y .h) multipliers-are
+
+-- the roots
+module _ (c : tie.After-roots) where
+  abbrev multiplied : tie.After-multipliers-at
+  multiplied = c .before .before .before .before
+
+  abbrev base : tie.Start
+  base = start multiplied
+
+  found-is : c .roots .result ≡ listed (roots (x base .g))
+  found-is = c .roots .ensures ∙ ap (λ q. listed (roots q)) (g-is multiplied)
+
+  count-is : c .roots .result .count ≡ length (roots (x base .g))
+  count-is = ap (λ f. f .count) found-is
+
+  held-is : held (c .roots .result) ≡ roots (x base .g)
+  held-is = held-of (roots (x base .g)) found-is
+
+-- the relations, and the new row
+module _ (c : tie.After-combined) where
+  abbrev rooted : tie.After-roots
+  rooted = c .before .before .before .before .before .before .before .before .before .before
+
+  abbrev origin : tie.Start
+  origin = base rooted
+
+  abbrev listing-call : tie.After-list-roots
+  listing-call = c .before .before .before .before .before
+
+  abbrev after : List ℤ
+  after = listing-call .list-roots .last .0
+
+  relisted : Relisted (p origin .count) (target origin) (listing (side origin) (roots (x origin .g))) (relations origin) after
+  relisted =
+      subst₂ (λ t l. Relisted (p origin .count) t (listing (side origin) l) (relations origin) after)
+      (target-is (multiplied rooted .before)) (held-is rooted) (listing-call .list-roots .ensures)
+
+  -- the code's multipliers and rows are those of the definition
+  refusal-is : c .combined .result .refusal ≡ refusalOf (new origin)
+  refusal-is =
+      c .combined .ensures .0
+      ∙ (λ k. refusalOf (limitDegrees (primitive (combine (g-is (multiplied rooted) k) (h-is (multiplied rooted) k)
+      (rowOf (target-is (multiplied rooted .before) k)) (rowOf (pivot-is (multiplied rooted .before) k))))))
+
+  numbers-are : c .combined .result .row ≡ numbersOf (new origin)
+  numbers-are =
+      c .combined .ensures .1
+      ∙ (λ k. numbersOf (limitDegrees (primitive (combine (g-is (multiplied rooted) k) (h-is (multiplied rooted) k)
+      (rowOf (target-is (multiplied rooted .before) k)) (rowOf (pivot-is (multiplied rooted .before) k))))))
+
+mul-load : tie.Need-mul-load
+mul-load c = search needs
+
+load-requires : tie.Need-load-requires
+load-requires c κs = room (c .before) (i (c .before)) (inside (c .before))
+
+mul-load-2 : tie.Need-mul-load-2
+mul-load-2 c = search needs
+
+load-requires-2 : tie.Need-load-requires-2
+load-requires-2 c κs = let b = c .before .before .before in room b (j b) (other b)
+
+mul-multipliers-at : tie.Need-mul-multipliers-at
+mul-multipliers-at c = search needs
+
+array-read-multipliers-at : tie.Need-array-read-multipliers-at
+array-read-multipliers-at c = search needs
+
+multipliers-at-requires : tie.Need-multipliers-at-requires
+multipliers-at-requires c κs =
+    let b = loaded c in (
+      (below b, subst Small (sym (target-is c)) (target-small b), subst Small (sym (pivot-is c)) (pivot-small b)),
+      subst₂ (NotBoth (column b)) (sym (target-is c)) (sym (pivot-is c)) (b .pre .1),
+    )
+
+slice-aggregate-roots : tie.Need-slice-aggregate-roots
+slice-aggregate-roots c = search needs
+
+roots-requires : tie.Need-roots-requires
+roots-requires c κs =
+    let e = c .before .before .before in
+    let g-fits = subst Sixteen (sym (g-is e)) (fits (start e) .0) in
+    (le-of-eq (g-fits .0), g-fits .1)
+
+add-count : tie.Need-add-count
+add-count c = let e = c .before .before in omega (arith, few (base e), count-is e, ready (base e) .listing .few)
+
+answer-requires : tie.Need-answer-requires
+answer-requires c κs = search needs
+
+same-length : tie.Need-same-length
+same-length c = search needs
+
+returns : tie.Need-returns
+returns c =
+    let e = c .before .before .before .before in
+    let b = base e in
+    let many : 16 < p b .count + length (roots (x b .g)) = omega (arith, count-is e, c .before .if1 .taken) in
+    reached-same refl (c .answer .ensures)
+    (combine-is b ∙ combine-refused (side b) (ready b) (j b) (inside b) (settled b) (x b) many)
+    (refused-reached (m b) (rows b) (relations b) (p b) 8)
+
+list-roots-requires : tie.Need-list-roots-requires
+list-roots-requires c κs =
+    let e = c .before .before .before .before in
+    let b = base e in
+    let row = subst Small (sym (target-is (multiplied e .before))) (target-small b) in
+    let values = ap (λ f. length (f .values)) (found-is e) ∙ listed-length (roots (x b .g)) (omega (arith, few b)) in (
+      (ready b .listing, omega (arith, c .before .if1 .left), values),
+      (subst Small (sym (held-is e)) (roots-small (x b .g) (fits b .0 .1)), row),
+    )
+
+slice-aggregate-combined : tie.Need-slice-aggregate-combined
+slice-aggregate-combined c = search needs
+
+slice-aggregate-combined-2 : tie.Need-slice-aggregate-combined-2
+slice-aggregate-combined-2 c =
+    let e = c .before .before .before .before .before .before .before .before .before .before .before .before .before in
+    sym (ap length (h-is e) ∙ fits (start e) .1 .0)
+
+combined-requires : tie.Need-combined-requires
+combined-requires c κs =
+    let e = c .before .before .before .before .before .before .before .before .before .before .before .before .before in
+    let b = start e in
+    let g-fits = subst Sixteen (sym (g-is e)) (fits b .0) in
+    let h-fits = subst Sixteen (sym (h-is e)) (fits b .1) in (
+      (g-fits .0, g-fits .1, h-fits .0, h-fits .1),
+      (subst Small (sym (target-is (e .before))) (target-small b), subst Small (sym (pivot-is (e .before))) (pivot-small b)),
+    )
+
+put-limited-requires : tie.Need-put-limited-requires
+put-limited-requires c κs = let b = origin c in room b (i b) (inside b)
+
+same-length-2 : tie.Need-same-length-2
+same-length-2 c = search needs
+
+same-length-3 : tie.Need-same-length-3
+same-length-3 c = search needs
+
+returns-2 : tie.Need-returns-2
+returns-2 c =
+    let d = c .before .before in
+    let b = origin d in
+    let put = c .before .put-limited .ensures in
+    let passed = listing-call d .before .before .if1 .left in
+    let room : p b .count + length (roots (x b .g)) ≤ 16 = omega (arith, count-is (rooted d), passed) in
+    reached-same (put .0 ∙ ap₂ (saved (rows b) (i b)) (refusal-is d) (numbers-are d))
+    (put .1 ∙ ap₂ (λ n k. answerOf n (listedProgress (p b) k)) (refusal-is d) (count-is (rooted d)))
+    (combine-is b)
+    (combine-reached (side b) (ready b) (j b) (inside b) (settled b) (x b) (relisted d) room (storable b))
+
+pub combine-step-spec : {M : Type 1} → statement M
+combine-step-spec =
+    tie.close
+    (tie.spec
+    mul-load
+    load-requires
+    mul-load-2
+    load-requires-2
+    mul-multipliers-at
+    array-read-multipliers-at
+    multipliers-at-requires
+    slice-aggregate-roots
+    roots-requires
+    add-count
+    answer-requires
+    same-length
+    returns
+    list-roots-requires
+    slice-aggregate-combined
+    slice-aggregate-combined-2
+    combined-requires
+    put-limited-requires
+    same-length-2
+    same-length-3
+    returns-2)

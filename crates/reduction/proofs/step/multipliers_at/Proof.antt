@@ -1,0 +1,97 @@
+-- `reduction::step::multipliers_at` meets its contract.
+-- Assumes nothing.
+use mathlib.Core.Path.{_≡_, sym, _∙_, ap, ap₂}
+use mathlib.Core.List.{List}
+use Prim.Native.Nat.{_+_, _*_, _-_}
+use native.Mathlib.Omega.{arith}
+use borrow.Author.Needs.{needs}
+use lib.IntN.{ℤ}
+use lib.ListN.{take, drop}
+use Rattle.rules.specs.Rows.{entry}
+use Rattle.rules.specs.Elimination.{multipliers}
+use Rattle.rules.specs.Stores.{rowOf}
+use Rattle.rows.specs.Flat.{entry-at}
+use Rattle.reduction.specs.Exchange.{length-entry, small-entry}
+use Rattle.reduction.proofs.step.multipliers_at.Statement.{statement}
+use Rattle.reduction.proofs.step.multipliers_at.Tie as tie
+
+-- what the parts of the arguments are
+module _ (c : tie.Start) where
+  size : c .args .c * 16 + 16 - c .args .c * 16 ≡ 16
+  size = omega arith
+
+  entry-of : (l : List ℤ) → take (c .args .c * 16 + 16 - c .args .c * 16) (drop (c .args .c * 16) l) ≡ entry (rowOf l) (c .args .c)
+  entry-of l = ap (λ n. take n (drop (c .args .c * 16) l)) size ∙ sym (entry-at l (c .args .c) (c .pre .0 .0))
+
+slice-aggregate-t : tie.Need-slice-aggregate-t
+slice-aggregate-t c = search needs
+
+slice-aggregate-p : tie.Need-slice-aggregate-p
+slice-aggregate-p c = search needs
+
+mul-from : tie.Need-mul-from
+mul-from c = search needs
+
+add-to : tie.Need-add-to
+add-to c = search needs
+
+mul-multipliers-of : tie.Need-mul-multipliers-of
+mul-multipliers-of c = search needs
+
+sub-multipliers-of : tie.Need-sub-multipliers-of
+sub-multipliers-of c = search needs
+
+part-multipliers-of-start : tie.Need-part-multipliers-of-start
+part-multipliers-of-start c = search needs
+
+part-multipliers-of-end : tie.Need-part-multipliers-of-end
+part-multipliers-of-end c = search needs
+
+mul-multipliers-of-2 : tie.Need-mul-multipliers-of-2
+mul-multipliers-of-2 c = search needs
+
+sub-multipliers-of-2 : tie.Need-sub-multipliers-of-2
+sub-multipliers-of-2 c = search needs
+
+part-multipliers-of-start-2 : tie.Need-part-multipliers-of-start-2
+part-multipliers-of-start-2 c = search needs
+
+part-multipliers-of-end-2 : tie.Need-part-multipliers-of-end-2
+part-multipliers-of-end-2 c = search needs
+
+multipliers-of-requires : tie.Need-multipliers-of-requires
+multipliers-of-requires c κs =
+    let start = c .before .before .before .before in
+    let args = start .args in
+    let fits = start .pre in
+    rw (entry-of start (args .t1), entry-of start (args .t2)) (
+      (length-entry (args .t2) (args .c) (omega arith) (fits .0 .0), small-entry (args .t2) (args .c) (fits .0 .2) (fits .0 .0), fits .1),
+      (length-entry (args .t1) (args .c) (omega arith) (fits .0 .0), small-entry (args .t1) (args .c) (fits .0 .1) (fits .0 .0)),
+    )
+
+returns : tie.Need-returns
+returns c =
+    let start = c .before .before .before .before .before in
+    let args = start .args in (
+      c .multipliers-of .ensures .0 ∙ ap₂ (λ a b. multipliers a b .g) (entry-of start (args .t2)) (entry-of start (args .t1)),
+      c .multipliers-of .ensures .1 ∙ ap₂ (λ a b. multipliers a b .h) (entry-of start (args .t2)) (entry-of start (args .t1)),
+    )
+
+pub multipliers-at-spec : {M : Type 1} → statement M
+multipliers-at-spec =
+    tie.close
+    (tie.spec
+    slice-aggregate-t
+    slice-aggregate-p
+    mul-from
+    add-to
+    mul-multipliers-of
+    sub-multipliers-of
+    part-multipliers-of-start
+    part-multipliers-of-end
+    mul-multipliers-of-2
+    sub-multipliers-of-2
+    part-multipliers-of-start-2
+    part-multipliers-of-end-2
+    multipliers-of-requires
+    returns)

@@ -1,0 +1,169 @@
+-- Rows of the store by their numbers, and the exchange of rule 2.
+--
+-- Main definitions
+--   numbersAt store i       the numbers of row i
+--   narrowed store i j      the store after "if row j is wider than row i, exchange them"
+--
+-- Main statements
+--   narrowed-exchanged, narrowed-same     the two cases
+--   length-entry, small-entry             the entries of a row within ±C
+--   length-numbersAt, small-numbersAt, row-of   the numbers of a row of the state
+--   narrowed-within, narrowed-kept, narrowed-state, narrowed-one   what the exchange does to the store and to the state
+use Prim.Native.Nat.{ℕ, _*_, _≤_, _<_}
+use native.Mathlib.Nat.{le-of-eq}
+use native.Mathlib.Omega.{arith}
+use mathlib.Core.Path.{_≡_, refl, sym, _∙_, ap, ap₂}
+use mathlib.Core.Logic.{_≢_, _⊎_, inl, inr}
+use mathlib.Core.Bool.{Bool, true, false, cond}
+use mathlib.Core.List.{List}
+use borrow.Author.Tests.{lt-ltb, le-ltb}
+use lib.Dec.{T, ltb}
+use lib.IntN.{ℤ}
+use lib.ListN.{length, take, drop, getD, set, length-drop}
+use lib.Seq.{paste, length-take-le, getD-set-same, getD-set-other}
+use Rattle.rules.specs.Limits.{small}
+use Rattle.rules.specs.Rows.{noRow, every, width, entry}
+use Rattle.rules.specs.Stores.{rowOf, rowsOf, relationsOf, rowNeed}
+use Rattle.rules.specs.Elimination.{State, rowAt, putRow, exchange, narrowFirst}
+use Rattle.rules.specs.Layout.{row-at, length-rowsOf}
+use Rattle.rows.specs.Flat.{entry-at}
+use Rattle.rows.specs.Written.{every-part}
+use Rattle.reduction.specs.declared.step.Progress.{Progress}
+use Rattle.reduction.specs.Progress.{Within, Kept, state, stateOf}
+use Rattle.reduction.specs.StoreStates.{part-small, within-paste, kept-paste, kept-then, kept-same, rowsOf-paste}
+use Rattle.reduction.specs.NewRows.{row-room}
+
+abbrev pub numbersAt : List ℤ → ℕ → List ℤ
+numbersAt store i = take 320 (drop (i * 320) store)
+
+unfoldable pub narrowed : List ℤ → ℕ → ℕ → List ℤ
+narrowed store i j =
+    let exchanged = paste (paste store (j * 320) (numbersAt store i) 320) (i * 320) (numbersAt store j) 320 in
+    cond (ltb (width (rowOf (numbersAt store i))) (width (rowOf (numbersAt store j)))) exchanged store
+
+pub narrowed-exchanged : (store : List ℤ) (i j : ℕ) → width (rowOf (numbersAt store i)) < width (rowOf (numbersAt store j))
+    → narrowed store i j ≡ paste (paste store (j * 320) (numbersAt store i) 320) (i * 320) (numbersAt store j) 320
+unfolding narrowed
+narrowed-exchanged store i j h = rw (lt-ltb _ _ h)
+
+pub narrowed-same : (store : List ℤ) (i j : ℕ) → width (rowOf (numbersAt store j)) ≤ width (rowOf (numbersAt store i))
+    → narrowed store i j ≡ store
+unfolding narrowed
+narrowed-same store i j h = rw (le-ltb _ _ h)
+
+-- ---- the entries of a row
+
+pub length-entry : (l : List ℤ) (c : ℕ) → length l ≡ 320 → c < 4 → length (entry (rowOf l) c) ≡ 16
+length-entry l c e h = ap length (entry-at l c h) ∙ length-take-le 16 (drop (c * 16) l) (rw length-drop (omega arith))
+
+pub small-entry : (l : List ℤ) (c : ℕ) → T (every small l) → c < 4 → T (every small (entry (rowOf l) c))
+small-entry l c s h = rw (entry-at l c h) (every-part small (c * 16) 16 l s)
+
+-- ---- the rows of a state
+
+module _ (m : ℕ) (rows : List ℤ) (w : Within (rowNeed m) rows) (i : ℕ) (inside : i < m) where
+  pub length-numbersAt : length (numbersAt rows i) ≡ 320
+  length-numbersAt = length-take-le 320 (drop (i * 320) rows) (rw length-drop (omega (arith, row-room m i rows w inside, w .long)))
+
+  pub small-numbersAt : T (every small (numbersAt rows i))
+  unfolding rowNeed
+  small-numbersAt = part-small 320 m i rows inside w
+
+pub row-of : (m : ℕ) (rows relations : List ℤ) (p : Progress) (i : ℕ) → i < m
+    → rowAt (stateOf m rows relations p) i ≡ rowOf (numbersAt rows i)
+unfolding stateOf rowAt
+row-of m rows relations p i inside = row-at m rows i inside
+
+-- ---- the exchange
+
+module _ (m : ℕ) (rows : List ℤ) (w : Within (rowNeed m) rows) (i j : ℕ) (inside : i < m) (other : j < m) where
+  abbrev exchanged : List ℤ
+  exchanged = paste (paste rows (j * 320) (numbersAt rows i) 320) (i * 320) (numbersAt rows j) 320
+
+  long-i : 320 ≤ length (numbersAt rows i)
+  long-i = le-of-eq (sym (length-numbersAt m rows w i inside))
+
+  long-j : 320 ≤ length (numbersAt rows j)
+  long-j = le-of-eq (sym (length-numbersAt m rows w j other))
+
+  within-first : Within (rowNeed m) (paste rows (j * 320) (numbersAt rows i) 320)
+  within-first =
+      within-paste (rowNeed m) rows w (j * 320) (numbersAt rows i) 320 long-i (row-room m j rows w other)
+      (small-numbersAt m rows w i inside)
+
+  within-exchanged : Within (rowNeed m) exchanged
+  within-exchanged =
+      within-paste (rowNeed m) (paste rows (j * 320) (numbersAt rows i) 320) within-first (i * 320) (numbersAt rows j) 320 long-j
+      (row-room m i rows w inside) (small-numbersAt m rows w j other)
+
+  kept-exchanged : Kept (rowNeed m) rows exchanged
+  kept-exchanged =
+      kept-then (kept-paste (rowNeed m) rows w (j * 320) (numbersAt rows i) 320 long-i (row-room m j rows w other))
+      (kept-paste (rowNeed m) (paste rows (j * 320) (numbersAt rows i) 320) within-first (i * 320) (numbersAt rows j) 320 long-j
+      (row-room m i rows w inside))
+
+  rows-exchanged : rowsOf m exchanged ≡ set (set (rowsOf m rows) j (rowOf (numbersAt rows i))) i (rowOf (numbersAt rows j))
+  unfolding rowNeed
+  rows-exchanged =
+      rowsOf-paste m (paste rows (j * 320) (numbersAt rows i) 320) (numbersAt rows j) i (length-numbersAt m rows w j other)
+      (within-first .long) inside
+      ∙ ap (λ l. set l i (rowOf (numbersAt rows j)))
+      (rowsOf-paste m rows (numbersAt rows i) j (length-numbersAt m rows w i inside) (w .long) other)
+
+  -- Which rows the store holds afterwards, and what stays.
+  pub narrowed-within : Within (rowNeed m) (narrowed rows i j)
+  unfolding narrowed
+  narrowed-within = cases (ltb (width (rowOf (numbersAt rows i))) (width (rowOf (numbersAt rows j))))
+    where
+      cases : (t : Bool) → Within (rowNeed m) (cond t exchanged rows)
+      cases true = within-exchanged
+      cases false = w
+
+  pub narrowed-kept : Kept (rowNeed m) rows (narrowed rows i j)
+  unfolding narrowed
+  narrowed-kept = cases (ltb (width (rowOf (numbersAt rows i))) (width (rowOf (numbersAt rows j))))
+    where
+      cases : (t : Bool) → Kept (rowNeed m) rows (cond t exchanged rows)
+      cases true = kept-exchanged
+      cases false = kept-same (rowNeed m) rows
+
+  pub narrowed-state : (relations : List ℤ) (p : Progress)
+      → narrowFirst (stateOf m rows relations p) i j ≡ stateOf m (narrowed rows i j) relations p
+  unfolding narrowFirst narrowed exchange putRow stateOf
+  narrowed-state relations p =
+      ap₂ (λ a b. cond (ltb (width a) (width b)) (exchange s i j) s) first second
+      ∙ cases (ltb (width (rowOf (numbersAt rows i))) (width (rowOf (numbersAt rows j))))
+    where
+      s : State
+      s = stateOf m rows relations p
+
+      first : rowAt s i ≡ rowOf (numbersAt rows i)
+      first = row-of m rows relations p i inside
+
+      second : rowAt s j ≡ rowOf (numbersAt rows j)
+      second = row-of m rows relations p j other
+
+      cases : (t : Bool) → cond t (exchange s i j) s ≡ stateOf m (cond t exchanged rows) relations p
+      cases true =
+          ap (λ l. state l (relationsOf (p .count) relations) (take (p .settled) (p .order)) (p .shifts))
+          (ap₂ (λ a b. set (set (rowsOf m rows) j a) i b) first second ∙ sym rows-exchanged)
+      cases false = refl
+
+  -- Row i stands in one of the two places afterwards.
+  pub narrowed-one : j ≢ i
+      → (rowOf (numbersAt (narrowed rows i j) j) ≡ rowOf (numbersAt rows i))
+      ⊎ (rowOf (numbersAt (narrowed rows i j) i) ≡ rowOf (numbersAt rows i))
+  unfolding narrowed
+  narrowed-one n = cases (ltb (width (rowOf (numbersAt rows i))) (width (rowOf (numbersAt rows j))))
+    where
+      moved : rowOf (numbersAt exchanged j) ≡ rowOf (numbersAt rows i)
+      moved =
+          let first = set (rowsOf m rows) j (rowOf (numbersAt rows i)) in
+          sym (row-at m exchanged j other) ∙ ap (λ l. getD l j noRow) rows-exchanged
+          ∙ getD-set-other first i j (rowOf (numbersAt rows j)) noRow n
+          ∙ getD-set-same (rowsOf m rows) j (rowOf (numbersAt rows i)) noRow (rw length-rowsOf other)
+
+      cases : (t : Bool) → let after = cond t exchanged rows in
+          (rowOf (numbersAt after j) ≡ rowOf (numbersAt rows i)) ⊎ (rowOf (numbersAt after i) ≡ rowOf (numbersAt rows i))
+      cases true = inl moved
+      cases false = inr refl

@@ -1,0 +1,105 @@
+-- The new row of a combination or a shift: what storing it does to the state.
+--
+-- Main definitions
+--   Storable x              a new row that is held by its numbers, or the number of the limit that it breaks
+--   saved store i n l       the store with the numbers l as row i, if n, the refusal, is 0
+--
+-- Main statements
+--   combined-storable, shifted-storable   the new rows of rules 4 and 6
+--   row-room                row i of m rows has room in a store for m rows
+--   saved-none              a refusal stores nothing
+--   saved-outcome, saved-within, saved-kept   what storing the new row does
+use Prim.Native.Nat.{ℕ, zero, suc, _+_, _*_, _≤_, _<_}
+use native.Mathlib.Nat.{suc-mul, le-of-eq, not-suc-le-zero, mul-le-mul-right}
+use native.Mathlib.Omega.{arith}
+use mathlib.Core.Path.{_≡_, refl, sym, _∙_, ap}
+use mathlib.Core.Bool.{Bool, true, false, cond}
+use mathlib.Core.List.{List}
+use lib.Dec.{lit<}
+use lib.IntN.{ℤ}
+use lib.ListN.{length, take, set}
+use lib.Seq.{paste}
+use Rattle.algebra.specs.Polynomials.{Polynomial}
+use Rattle.rules.specs.Rows.{Row, coefficientsOf, combine, primitive, cut, shiftUp, smallRow, lowDegrees}
+use Rattle.rules.specs.Elimination.{Limited, within, beyond, limitCoefficients, limitDegrees, going, putRow, putLimited}
+use Rattle.rules.specs.Stores.{rowOf, rowsOf, relationsOf, rowNeed}
+use Rattle.working.specs.Worked.{Held, refusalOf, numbersOf}
+use Rattle.combinations.specs.Combination.{combined-held}
+use Rattle.working.specs.Shifting.{shifted-held}
+use Rattle.reduction.specs.declared.step.Progress.{Progress}
+use Rattle.reduction.specs.Progress.{Within, Kept, state, stateOf, outcomeOf}
+use Rattle.reduction.specs.StoreStates.{rowsOf-paste, within-paste, kept-paste, kept-same}
+
+-- ---- a new row, or the number of the limit that it breaks
+
+unfoldable pub Storable : Limited → Type 0
+Storable (within r) = Held r
+Storable (beyond n) = 0 < n
+
+coefficients-storable : (q : Row) → ((r : Row) → limitCoefficients q ≡ within r → Held r) → Storable (limitCoefficients q)
+unfolding Storable limitCoefficients
+coefficients-storable q h = cases (smallRow q) h
+  where
+    cases : (t : Bool) → ((r : Row) → cond t (within q) (beyond 8) ≡ within r → Held r) → Storable (cond t (within q) (beyond 8))
+    cases true h = h q refl
+    cases false h = lit< tt
+
+degrees-storable : (q : Row) → ((r : Row) → limitDegrees q ≡ within r → Held r) → Storable (limitDegrees q)
+unfolding Storable limitDegrees
+degrees-storable q h = cases (lowDegrees q) h
+  where
+    rest : Limited
+    rest = limitCoefficients (cut q)
+
+    cases : (t : Bool) → ((r : Row) → cond t rest (beyond 7) ≡ within r → Held r) → Storable (cond t rest (beyond 7))
+    cases true h = coefficients-storable (cut q) h
+    cases false h = lit< tt
+
+pub shifted-storable : (l : List ℤ) → length l ≡ 320 → Storable (limitCoefficients (shiftUp (rowOf l)))
+shifted-storable l e = coefficients-storable (shiftUp (rowOf l)) (shifted-held l e)
+
+pub combined-storable : (g h : Polynomial) (l m : List ℤ) → 0 < length g → length l ≡ 320
+    → Storable (limitDegrees (primitive (combine g h (rowOf l) (rowOf m))))
+combined-storable g h l m some e = degrees-storable (primitive (combine g h (rowOf l) (rowOf m))) (combined-held g h l m some e)
+
+-- ---- the store afterwards
+
+unfoldable pub saved : List ℤ → ℕ → ℕ → List ℤ → List ℤ
+saved store i zero numbers = paste store (i * 320) numbers 320
+saved store i (suc n) numbers = store
+
+pub saved-none : (store : List ℤ) (i n : ℕ) (numbers : List ℤ) → (n ≡ 0 → ⊥) → saved store i n numbers ≡ store
+unfolding saved
+saved-none store i zero numbers h = absurd (h refl)
+saved-none store i (suc n) numbers h = refl
+
+-- Row i of m rows in a store within ±C, in whose place a new row is put.
+module _ (m i : ℕ) (store : List ℤ) (w : Within (rowNeed m) store) (inside : i < m) where
+  pub row-room : i * 320 + 320 ≤ rowNeed m
+  unfolding rowNeed
+  row-room = omega (arith, mul-le-mul-right 320 inside, suc-mul i 320)
+
+  abbrev after : Limited → List ℤ
+  after x = saved store i (refusalOf x) (numbersOf x)
+
+  pub saved-within : (x : Limited) → Storable x → Within (rowNeed m) (after x)
+  unfolding Storable saved refusalOf numbersOf
+  saved-within (within r) h =
+      within-paste (rowNeed m) store w (i * 320) (coefficientsOf r) 320 (le-of-eq (sym (h .long))) row-room (h .within-bound)
+  saved-within (beyond zero) h = absurd (not-suc-le-zero h)
+  saved-within (beyond (suc n)) h = w
+
+  pub saved-kept : (x : Limited) → Storable x → Kept (rowNeed m) store (after x)
+  unfolding Storable saved refusalOf numbersOf
+  saved-kept (within r) h = kept-paste (rowNeed m) store w (i * 320) (coefficientsOf r) 320 (le-of-eq (sym (h .long))) row-room
+  saved-kept (beyond zero) h = absurd (not-suc-le-zero h)
+  saved-kept (beyond (suc n)) h = kept-same (rowNeed m) store
+
+  pub saved-outcome : (x : Limited) → Storable x → (relations : List ℤ) (p : Progress)
+      → outcomeOf (refusalOf x) false (stateOf m (after x) relations p) ≡ putLimited (stateOf m store relations p) i x
+  unfolding Storable saved refusalOf numbersOf outcomeOf putLimited putRow stateOf rowNeed
+  saved-outcome (within r) h relations p =
+      ap (λ rows. going (state rows (relationsOf (p .count) relations) (take (p .settled) (p .order)) (p .shifts)))
+      (rowsOf-paste m store (coefficientsOf r) i (h .long) (w .long) inside ∙ ap (set (rowsOf m store) i) (h .numbers))
+  saved-outcome (beyond zero) h relations p = absurd (not-suc-le-zero h)
+  saved-outcome (beyond (suc n)) h relations p = refl

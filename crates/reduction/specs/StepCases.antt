@@ -1,0 +1,204 @@
+-- The cases of a step: which rule comes next for the row that is worked on.
+--
+-- Main statements
+--   step-done              no row is left
+--   step-zero              rule 1: a zero row
+--   step-met, met-nonzero  rule 2: settled row j meets a nonzero entry, and the entries are not both zero after the exchange
+--   step-settled           rule 5: what settling gives
+--   step-shift             rule 6
+use Prim.Native.Nat.{ℕ, zero, suc, _+_, _≤_, _<_, suc-le-suc}
+use native.Mathlib.Nat.{zero-lt-suc, le-of-eq}
+use native.Mathlib.Numerals.{add-one}
+use native.Mathlib.Omega.{arith}
+use mathlib.Core.Path.{_≡_, refl, sym, _∙_, ap, subst}
+use mathlib.Core.Logic.{_⊎_, inl, inr, ⊎-elim}
+use mathlib.Core.Bool.{Bool, true, false, not, _&&_, and-false, cond}
+use mathlib.Core.List.{List, [], _∷_, _++_, map}
+use mathlib.Core.Option.{Option, none, some, Option·map}
+use borrow.Author.Tests.{lt-ltb, le-ltb}
+use lib.Dec.{T, lit<}
+use lib.IntN.{ℤ}
+use lib.ListN.{length, take, drop, getD, set, length-set}
+use lib.Seq.{length-take-le, take-suc-set}
+use Rattle.algebra.specs.Polynomials.{Polynomial, isZero, isZero-append}
+use Rattle.rules.specs.Rows.{Row, All, zeroRow, entry, leadingBlock, firstNonzero}
+use Rattle.rules.specs.Stores.{rowOf, rowsOf, relationsOf, relationNeed, rowNeed}
+use Rattle.rules.specs.Elimination.{Side, State, going, done, refused, settle, multipliersAt}
+use Rattle.rules.specs.Elimination.{combineStep, eliminateStep, shiftStep, settleOrShift, meet, workOn, step}
+use Rattle.rules.specs.Layout.{length-rowsOf, parts-length}
+use Rattle.rows.specs.Flat.{block-at}
+use Rattle.working.specs.Found.{foundOr, Columns, entriesAt, length-entriesAt, getD-entriesAt}
+use Rattle.reduction.specs.declared.step.Progress.{Progress}
+use Rattle.reduction.specs.Progress.{Ready, Reached, state, stateOf, outcomeOf, answerOf, settledProgress, ready-with}
+use Rattle.reduction.specs.StoreStates.{kept-same}
+use Rattle.reduction.specs.StepLaws.{metEntries}
+use Rattle.reduction.specs.Exchange.{numbersAt, narrowed, row-of, narrowed-within, narrowed-state, narrowed-one}
+
+-- ---- what the searches in a row find
+
+FoundAt : List Polynomial → Option ℕ → Type 0
+FoundAt ps none = Unit {0}
+FoundAt ps (some k) = (k < length ps) × (isZero (getD ps k []) ≡ false)
+
+first-found : (ps : List Polynomial) → FoundAt ps (firstNonzero ps)
+unfolding FoundAt firstNonzero
+first-found [] = tt
+first-found (p ∷ ps) = cases (isZero p) refl (firstNonzero ps) (first-found ps)
+  where
+    cases : (t : Bool) → isZero p ≡ t → (o : Option ℕ) → FoundAt ps o → FoundAt (p ∷ ps) (cond t (Option·map suc o) (some 0))
+    cases true e none f = tt
+    cases true e (some k) f = (suc-le-suc (f .0), f .1)
+    cases false e o f = (zero-lt-suc (length ps), e)
+
+found-some : (n j : ℕ) (o : Option ℕ) → foundOr n o ≡ j → j < n → o ≡ some j
+unfolding foundOr
+found-some n j none e h = absurd (omega arith)
+found-some n j (some k) e h = ap some e
+
+found-none : (n : ℕ) (ps : List Polynomial) → length ps ≤ n → n ≤ foundOr n (firstNonzero ps) → firstNonzero ps ≡ none
+unfolding foundOr FoundAt
+found-none n ps h g = cases (firstNonzero ps) (first-found ps) g
+  where
+    cases : (o : Option ℕ) → FoundAt ps o → n ≤ foundOr n o → o ≡ none
+    cases none f g = refl
+    cases (some k) f g = absurd (omega (arith, f .0))
+
+columns-set : (order : List ℕ) (i c : ℕ) → Columns order → c < 4 → Columns (set order i c)
+unfolding Columns All
+columns-set [] i c a h = tt
+columns-set (x ∷ order) zero c a h = (h, a .1)
+columns-set (x ∷ order) (suc i) c a h = (a .0, columns-set order i c (a .1) h)
+
+not-both-zero : (a b : Polynomial) → (isZero a ≡ false) ⊎ (isZero b ≡ false) → T (not (isZero (a ++ b)))
+not-both-zero a b (inl z) = subst (λ t. T (not t)) (sym (isZero-append a b ∙ ap (λ t. t && isZero b) z)) tt
+not-both-zero a b (inr z) = subst (λ t. T (not t)) (sym (isZero-append a b ∙ ap (λ t. isZero a && t) z ∙ and-false (isZero a))) tt
+
+-- ---- the cases
+
+module _ (side : Side) {m : ℕ} {rows relations : List ℤ} {p : Progress} (ready : Ready m rows relations p) where
+  abbrev s : State
+  s = stateOf m rows relations p
+
+  abbrev w : ℕ
+  w = p .settled
+
+  abbrev row : Row
+  row = rowOf (numbersAt rows w)
+
+  abbrev entries : List Polynomial
+  entries = entriesAt row (p .order) w
+
+  enough : w ≤ length (p .order)
+  enough = omega arith
+
+  order-length : length (s .order) ≡ w
+  unfolding stateOf
+  order-length = length-take-le w (p .order) enough
+
+  rows-length : length (s .rows) ≡ m
+  unfolding stateOf
+  rows-length = length-rowsOf m rows
+
+  pub step-done : m ≤ w → step side s ≡ done s
+  unfolding step
+  step-done h = rw (order-length, rows-length, le-ltb w m h)
+
+  pub done-reached : m ≤ w
+      → Reached m rows relations rows relations (p .shifts + 1) (record { refusal = 0; done = true; progress = p }) (step side s)
+  unfolding outcomeOf
+  done-reached h =
+      record {
+        outcome = sym (step-done h);
+        rows-kept = kept-same (rowNeed m) rows;
+        relations-kept = kept-same relationNeed relations;
+        few-shifts = omega arith;
+        next-ready = λ _. ready;
+      }
+
+  module _ (inside : w < m) where
+    pub narrowed-ready : (j : ℕ) → j < w → Ready m (narrowed rows w j) relations p
+    narrowed-ready j h = ready-with ready (narrowed-within m rows (ready .rows-within) w j inside (omega arith)) (ready .listing)
+
+    step-is : step side s ≡ cond (zeroRow row) (refused 6) (meet side s w (firstNonzero entries))
+    unfolding step workOn stateOf
+    step-is =
+        rw (order-length, rows-length, lt-ltb w m inside)
+        (ap (λ r. cond (zeroRow r) (refused 6) (meet side s w (firstNonzero (map (entry r) (take w (p .order))))))
+        (row-of m rows relations p w inside))
+
+    pub step-zero : zeroRow row ≡ true → step side s ≡ refused 6
+    step-zero z = step-is ∙ ap (λ t. cond t (refused 6) (meet side s w (firstNonzero entries))) z
+
+    module _ (nonzero : zeroRow row ≡ false) where
+      step-meet : step side s ≡ meet side s w (firstNonzero entries)
+      step-meet = step-is ∙ ap (λ t. cond t (refused 6) (meet side s w (firstNonzero entries))) nonzero
+
+      pub step-met : (j : ℕ) → foundOr w (firstNonzero entries) ≡ j → j < w
+          → let e = stateOf m (narrowed rows w j) relations p in step side s ≡ combineStep side e w j (multipliersAt e w j)
+      unfolding meet eliminateStep
+      step-met j e h =
+          step-meet ∙ ap (meet side s w) (found-some w j (firstNonzero entries) e h)
+          ∙ ap (λ e. combineStep side e w j (multipliersAt e w j))
+          (narrowed-state m rows (ready .rows-within) w j inside (omega arith) relations p)
+
+      -- The entry of the row that is worked on stands in one of the two rows after the exchange.
+      pub met-nonzero : (j : ℕ) → foundOr w (firstNonzero entries) ≡ j → j < w → T (not (isZero (metEntries (narrowed rows w j) p j)))
+      unfolding FoundAt
+      met-nonzero j e h =
+          not-both-zero (entry (rowOf (numbersAt (narrowed rows w j) j)) column) (entry (rowOf (numbersAt (narrowed rows w j) w)) column)
+          (⊎-elim (λ f. inl (same f)) (λ f. inr (same f))
+          (narrowed-one m rows (ready .rows-within) w j inside (omega arith) (λ f. omega arith)))
+        where
+          column : ℕ
+          column = getD (p .order) j 0
+
+          entry-nonzero : isZero (entry row column) ≡ false
+          entry-nonzero =
+              sym (ap isZero (getD-entriesAt row (p .order) w j enough h))
+              ∙ subst (FoundAt entries) (found-some w j (firstNonzero entries) e h) (first-found entries) .1
+
+          same : {r : Row} → r ≡ row → isZero (entry r column) ≡ false
+          same f = ap (λ r. isZero (entry r column)) f ∙ entry-nonzero
+
+      module _ (none-met : w ≤ foundOr w (firstNonzero entries)) where
+        step-none : step side s ≡ settleOrShift s w (firstNonzero (leadingBlock row))
+        unfolding meet
+        step-none =
+            step-meet
+            ∙ ap (meet side s w) (found-none w entries (le-of-eq (length-entriesAt row (p .order) w enough)) none-met)
+            ∙ ap (λ r. settleOrShift s w (firstNonzero (leadingBlock r))) (row-of m rows relations p w inside)
+
+        step-settle : (c : ℕ) → foundOr 4 (firstNonzero (leadingBlock row)) ≡ c → c < 4 → step side s ≡ going (settle s c)
+        unfolding settleOrShift
+        step-settle c e h = step-none ∙ ap (settleOrShift s w) (found-some 4 c (firstNonzero (leadingBlock row)) e h)
+
+        pub step-shift : 4 ≤ foundOr 4 (firstNonzero (leadingBlock row)) → step side s ≡ shiftStep s w
+        unfolding settleOrShift leadingBlock
+        step-shift h = step-none ∙ ap (settleOrShift s w) (found-none 4 (leadingBlock row) (le-of-eq columns-four) h)
+          where
+            columns-four : length (leadingBlock row) ≡ 4
+            columns-four = let l = numbersAt rows w in ap length (block-at l 0 (lit< tt)) ∙ parts-length 16 4 (take 64 (drop 0 l))
+
+        pub settled-reached : (c : ℕ) → foundOr 4 (firstNonzero (leadingBlock row)) ≡ c → c < 4
+            → Reached m rows relations rows relations (p .shifts + 1) (answerOf 0 (settledProgress p c)) (step side s)
+        unfolding outcomeOf settle stateOf
+        settled-reached c e h =
+            record {
+              outcome =
+                  ap (λ o. going (state (rowsOf m rows) (relationsOf (p .count) relations) o (p .shifts))) order ∙ sym (step-settle c e h);
+              rows-kept = kept-same (rowNeed m) rows;
+              relations-kept = kept-same relationNeed relations;
+              few-shifts = omega arith;
+              next-ready =
+                  λ _. record {
+                    unknowns = ready .unknowns;
+                    rows-within = ready .rows-within;
+                    listing = ready .listing;
+                    settled = omega arith;
+                    four = length-set (p .order) w c ∙ ready .four;
+                    columns = columns-set (p .order) w c (ready .columns) h;
+                  };
+            }
+          where
+            order : take (w + 1) (set (p .order) w c) ≡ take w (p .order) ++ (c ∷ [])
+            order = rw add-one (take-suc-set (p .order) w c (omega arith))

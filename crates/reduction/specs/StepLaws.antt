@@ -1,0 +1,199 @@
+-- What rules 1 to 4 and 6 give on the state that the stores hold.
+--
+-- Main definitions
+--   metEntries rows p j      the two entries of rule 2: of settled row j and of the row that is worked on
+--   multipliersIn rows p j   their multipliers
+--   newRow x target pivot    the new row of rule 4
+--   shiftedRow l             the new row of rule 6
+--
+-- Main statements
+--   reached-same, reached-after      equal outcomes, and an exchange before the step
+--   refused-reached                  a refusal before anything is stored
+--   multipliers-in                   the multipliers of the state are those of the store
+--   combine-refused, combine-reached rules 3 and 4
+--   shift-reached                    rule 6
+use Prim.Native.Nat.{ℕ, suc, _+_, _≤_, _<_}
+use native.Mathlib.Nat.{suc-ne-zero}
+use native.Mathlib.Numerals.{add-one}
+use native.Mathlib.Omega.{arith}
+use mathlib.Core.Path.{_≡_, refl, sym, _∙_, ap, ap₂, subst, subst₂}
+use mathlib.Core.List.{List, _++_}
+use borrow.Author.Tests.{le-leb, lt-leb}
+use lib.IntN.{ℤ}
+use lib.ListN.{length, take, getD, length-append, length-map}
+use lib.Seq.{getD-take}
+use Rattle.algebra.specs.Polynomials.{Polynomial}
+use Rattle.algebra.specs.Roots.{roots}
+use Rattle.rules.specs.Rows.{entry, combine, primitive, shiftUp}
+use Rattle.rules.specs.Stores.{rowOf, rowsOf, relationsOf, relationNeed, rowNeed}
+use Rattle.rules.specs.Elimination.{Side, State, Outcome, refused, Limited, limitDegrees, rowAt, putLimited}
+use Rattle.rules.specs.Elimination.{Multipliers, multipliers, multipliersAt, listing, listRelations, rootRelations, combineStep}
+use Rattle.rules.specs.Elimination.{limitCoefficients, countShift, shiftStep}
+use Rattle.rules.specs.Layout.{length-relationsOf}
+use Rattle.working.specs.Worked.{refusalOf, numbersOf}
+use Rattle.reduction.specs.declared.step.Progress.{Progress}
+use Rattle.reduction.specs.declared.step.Outcome as Answer
+use Rattle.reduction.specs.Progress.{Ready, Kept, Reached, state, stateOf, outcomeOf, answerOf}
+use Rattle.reduction.specs.Progress.{listedProgress, shiftedProgress, ready-with}
+use Rattle.reduction.specs.StoreStates.{kept-same, kept-then}
+use Rattle.reduction.specs.Relations.{Relisted, length-listing}
+use Rattle.reduction.specs.NewRows.{Storable, saved, saved-within, saved-kept, saved-outcome, shifted-storable}
+use Rattle.reduction.specs.Exchange.{numbersAt, length-numbersAt, row-of}
+
+-- ---- what a step gives
+
+-- Equal stores, answers and outcomes.
+pub reached-same : {m n : ℕ} {rows relations rows' rows'' relations' : List ℤ} {o o' : Answer.Outcome} {x x' : Outcome}
+    → rows' ≡ rows'' → o ≡ o' → x ≡ x' → Reached m rows relations rows'' relations' n o' x'
+    → Reached m rows relations rows' relations' n o x
+reached-same {m} {n} {rows} {relations} {rows'} {rows''} {relations'} {o} {o'} {x} {x'} e f g h =
+    subst (λ r. Reached m rows relations r relations' n o x) (sym e)
+    (subst₂ (λ a b. Reached m rows relations rows'' relations' n a b) (sym f) (sym g) h)
+
+-- A step after the exchange.
+pub reached-after : {m n : ℕ} {first rows relations rows' relations' : List ℤ} {o : Answer.Outcome} {x : Outcome}
+    → Kept (rowNeed m) first rows → Reached m rows relations rows' relations' n o x → Reached m first relations rows' relations' n o x
+reached-after k h =
+    record {
+      outcome = h .outcome;
+      rows-kept = kept-then k (h .rows-kept);
+      relations-kept = h .relations-kept;
+      few-shifts = h .few-shifts;
+      next-ready = h .next-ready;
+    }
+
+pub refused-reached : (m : ℕ) (rows relations : List ℤ) (p : Progress) (n : ℕ)
+    → Reached m rows relations rows relations (p .shifts + 1) (answerOf (suc n) p) (refused (suc n))
+unfolding outcomeOf
+refused-reached m rows relations p n =
+    record {
+      outcome = refl;
+      rows-kept = kept-same (rowNeed m) rows;
+      relations-kept = kept-same relationNeed relations;
+      few-shifts = omega arith;
+      next-ready = λ e. absurd (suc-ne-zero n e);
+    }
+
+-- The new row in the place of the row that is worked on, or the refusal, after relations have been listed.
+put-reached : {m : ℕ} {rows relations relations' : List ℤ} (p next : Progress) (x : Limited) → p .settled < m → Storable x
+    → Kept relationNeed relations relations' → Ready m rows relations' next → next .shifts ≤ p .shifts + 1
+    → Reached m rows relations (saved rows (p .settled) (refusalOf x) (numbersOf x)) relations' (p .shifts + 1)
+    (answerOf (refusalOf x) next) (putLimited (stateOf m rows relations' next) (p .settled) x)
+put-reached {m} {rows} {relations} {relations'} p next x b h k r s =
+    let w = r .rows-within in
+    record {
+      outcome = saved-outcome m (p .settled) rows w b x h relations' next;
+      rows-kept = saved-kept m (p .settled) rows w b x h;
+      relations-kept = k;
+      few-shifts = s;
+      next-ready = λ _. ready-with r (saved-within m (p .settled) rows w b x h) (r .listing);
+    }
+
+-- ---- rules 2 to 4
+
+abbrev pub metEntries : List ℤ → Progress → ℕ → Polynomial
+metEntries rows p j =
+    let c = getD (p .order) j 0 in entry (rowOf (numbersAt rows j)) c ++ entry (rowOf (numbersAt rows (p .settled))) c
+
+abbrev pub multipliersIn : List ℤ → Progress → ℕ → Multipliers
+multipliersIn rows p j =
+    let c = getD (p .order) j 0 in multipliers (entry (rowOf (numbersAt rows j)) c) (entry (rowOf (numbersAt rows (p .settled))) c)
+
+abbrev pub newRow : Multipliers → List ℤ → List ℤ → Limited
+newRow x target pivot = limitDegrees (primitive (combine (x .g) (x .h) (rowOf target) (rowOf pivot)))
+
+module _ (side : Side) {m : ℕ} {rows relations : List ℤ} {p : Progress} (ready : Ready m rows relations p) (j : ℕ)
+    (inside : p .settled < m) (settled : j < p .settled) where
+  abbrev i : ℕ
+  i = p .settled
+
+  abbrev before : State
+  before = stateOf m rows relations p
+
+  i-row : rowAt before i ≡ rowOf (numbersAt rows i)
+  i-row = row-of m rows relations p i inside
+
+  j-row : rowAt before j ≡ rowOf (numbersAt rows j)
+  j-row = row-of m rows relations p j (omega arith)
+
+  pub multipliers-in : multipliersAt before i j ≡ multipliersIn rows p j
+  unfolding multipliersAt stateOf
+  multipliers-in =
+      ap (λ c. multipliers (entry (rowAt before j) c) (entry (rowAt before i) c)) (getD-take i (p .order) j 0 settled)
+      ∙ ap₂ (λ r q. multipliers (entry r (getD (p .order) j 0)) (entry q (getD (p .order) j 0))) j-row i-row
+
+  module _ (x : Multipliers) where
+    abbrev more : ℕ
+    more = length (roots (x .g))
+
+    abbrev listed : State
+    listed = listRelations before (rootRelations side (x .g) (rowAt before i))
+
+    abbrev new : Limited
+    new = newRow x (numbersAt rows i) (numbersAt rows j)
+
+    listed-count : length (listed .relations) ≡ p .count + more
+    unfolding stateOf listRelations rootRelations
+    listed-count =
+        length-append (relationsOf (p .count) relations) (rootRelations side (x .g) (rowAt before i))
+        ∙ ap₂ (λ a b. a + b) (length-relationsOf (p .count) relations)
+        (length-map (listing side (roots (x .g))) (λ n0. record { index = n0; row = rowAt before i }) ∙ length-listing side (roots (x .g)))
+
+    pub combine-refused : 16 < p .count + more → combineStep side before i j x ≡ refused 9
+    unfolding combineStep
+    combine-refused h = rw (listed-count, lt-leb (p .count + more) 16 h)
+
+    module _ {relations' : List ℤ} (l : Relisted (p .count) (numbersAt rows i) (listing side (roots (x .g))) relations relations') where
+      listed-state : listed ≡ stateOf m rows relations' (listedProgress p more)
+      unfolding stateOf listRelations rootRelations
+      listed-state = ap (λ r. state (rowsOf m rows) r (take i (p .order)) (p .shifts)) same
+        where
+          same : relationsOf (p .count) relations ++ rootRelations side (x .g) (rowAt before i) ≡ relationsOf (p .count + more) relations'
+          same =
+              ap (λ r. relationsOf (p .count) relations ++ rootRelations side (x .g) r) i-row ∙ sym (l .relations)
+              ∙ ap (λ n. relationsOf (p .count + n) relations') (length-listing side (roots (x .g)))
+
+      combine-listed : p .count + more ≤ 16
+          → combineStep side before i j x ≡ putLimited (stateOf m rows relations' (listedProgress p more)) i new
+      unfolding combineStep
+      combine-listed h =
+          rw (listed-count, le-leb (p .count + more) 16 h)
+          (ap₂ (λ s r. putLimited s i r) listed-state
+          (ap₂ (λ a b. limitDegrees (primitive (combine (x .g) (x .h) a b))) i-row j-row))
+
+      pub combine-reached : p .count + more ≤ 16 → Storable new
+          → Reached m rows relations (saved rows i (refusalOf new) (numbersOf new)) relations' (p .shifts + 1)
+          (answerOf (refusalOf new) (listedProgress p more)) (combineStep side before i j x)
+      combine-reached few h =
+          let next = ready-with ready (ready .rows-within) (rw (length-listing side (roots (x .g))) at (l .listing)) in
+          reached-same refl refl (combine-listed few) (put-reached p (listedProgress p more) new inside h (l .kept) next (omega arith))
+
+-- ---- rule 6
+
+abbrev pub shiftedRow : List ℤ → Limited
+shiftedRow l = limitCoefficients (shiftUp (rowOf l))
+
+pub shift-reached : {m : ℕ} {rows relations : List ℤ} {p : Progress} → Ready m rows relations p → p .settled < m
+    → let new = shiftedRow (numbersAt rows (p .settled)) in
+    Reached m rows relations (saved rows (p .settled) (refusalOf new) (numbersOf new)) relations (p .shifts + 1)
+    (answerOf (refusalOf new) (shiftedProgress p)) (shiftStep (stateOf m rows relations p) (p .settled))
+unfolding shiftStep countShift stateOf
+shift-reached {m} {rows} {relations} {p} r inside =
+    reached-same refl refl same
+    (put-reached p (shiftedProgress p) (shiftedRow (numbersAt rows i)) inside storable (kept-same relationNeed relations)
+    (ready-with r (r .rows-within) (r .listing)) (omega arith))
+  where
+    i : ℕ
+    i = p .settled
+
+    storable : Storable (shiftedRow (numbersAt rows i))
+    storable = shifted-storable (numbersAt rows i) (length-numbersAt m rows (r .rows-within) i inside)
+
+    withShifts : ℕ → State
+    withShifts n = state (rowsOf m rows) (relationsOf (p .count) relations) (take i (p .order)) n
+
+    same : shiftStep (stateOf m rows relations p) i
+        ≡ putLimited (stateOf m rows relations (shiftedProgress p)) i (shiftedRow (numbersAt rows i))
+    same =
+        ap₂ (λ n q. putLimited (withShifts n) i (limitCoefficients (shiftUp q))) (sym (add-one (p .shifts)))
+        (row-of m rows relations p i inside)

@@ -1,0 +1,207 @@
+// One step of the elimination over the lent stores: what `step` of `rules` says of the state that the stores hold.
+ghost use mathlib.Core.Path.{_≡_};
+ghost use mathlib.Core.Bool.{not};
+ghost use mathlib.Core.List.{_++_};
+ghost use Prim.Native.Nat.{_+_, _*_, _^_, _≤_, _<_};
+ghost use lib.Dec.{T};
+ghost use lib.ListN.{length};
+ghost use Rattle.algebra.specs.Polynomials.{isZero};
+ghost use Rattle.rules.specs.Limits.{small};
+ghost use Rattle.rules.specs.Rows.{every, entry};
+ghost use Rattle.rules.specs.Elimination as Elimination;
+ghost use Rattle.rules.specs.Stores.{rowOf};
+ghost use Rattle.working.specs.Worked.{refusalOf, numbersOf};
+ghost use Rattle.reduction.specs.Progress.{Ready, Reached, sideOf, stateOf, answerOf, settledProgress, shiftedProgress};
+ghost use Rattle.reduction.specs.NewRows.{saved};
+ghost use Rattle.reduction.specs.Exchange.{narrowed};
+ghost use Rattle.reduction.specs.StepLaws.{metEntries, shiftedRow};
+
+// How far a run has come: the settled rows with their columns, counted from 0, the relations listed and the shifts made.
+pub struct Progress {
+    pub settled: usize,
+    pub order: [usize; 4],
+    pub count: usize,
+    pub shifts: usize,
+}
+
+// What a step comes to: a refusal, or the end, or the progress with which the run goes on.
+pub struct Outcome {
+    pub refusal: u8,
+    pub done: bool,
+    pub progress: Progress,
+}
+
+// A refusal, or 0: the run goes on.
+fn answer(refusal: u8, p: Progress) -> Outcome
+    ensures { λ r. ⌜ r ≡ answerOf refusal p ⌝ }
+{
+    Outcome {
+        refusal,
+        done: false,
+        progress: p,
+    }
+}
+
+// The new row in the place of row i, or the refusal.
+fn put_limited(
+    rows: &mut [i64],
+    i: usize,
+    worked: working::limits::Worked,
+    next: Progress,
+) -> Outcome
+    requires { ⌜ i * 320 + 320 ≤ length (now rows) ⌝ }
+    ensures { λ _. ⌜ now (rows .exit) ≡ saved (now (rows .entry)) i (worked .refusal) (worked .row) ⌝ }
+    ensures { λ r. ⌜ r ≡ answerOf (worked .refusal) next ⌝ }
+{
+    let refusal = worked.refusal;
+    if refusal != 0 {
+        return answer(refusal, next);
+    }
+    let row = worked.row;
+    rows::stores::save(rows, i * 320, row);
+    answer(0, next)
+}
+
+// "if row j is wider than row i, exchange them"
+fn narrow_first(rows: &mut [i64], i: usize, j: usize)
+    requires { ⌜ (i * 320 + 320 ≤ length (now rows)) × (j * 320 + 320 ≤ length (now rows)) ⌝ }
+    ensures { λ _. ⌜ now (rows .exit) ≡ narrowed (now (rows .entry)) i j ⌝ }
+{
+    let a = rows::stores::load(rows, i * 320);
+    let b = rows::stores::load(rows, j * 320);
+    if working::entries::width(a) < working::entries::width(b) {
+        rows::stores::save(rows, j * 320, a);
+        rows::stores::save(rows, i * 320, b);
+    }
+}
+
+// Rule 2: "Let a be row j's entry and b row i's."
+fn multipliers_at(
+    target: [i64; 320],
+    pivot: [i64; 320],
+    c: usize,
+) -> polynomials::content::Multipliers
+    requires { ⌜ (c < 4) × T (every small target) × T (every small pivot) ⌝ }
+    requires { ⌜ T (not (isZero (entry (rowOf pivot) c ++ entry (rowOf target) c))) ⌝ }
+    ensures { λ r. ⌜ r .g ≡ Elimination.multipliers (entry (rowOf pivot) c) (entry (rowOf target) c) .g ⌝ }
+    ensures { λ r. ⌜ r .h ≡ Elimination.multipliers (entry (rowOf pivot) c) (entry (rowOf target) c) .h ⌝ }
+{
+    let t = &target[..];
+    let p = &pivot[..];
+    let from = c * 16;
+    let to = from + 16;
+    polynomials::content::multipliers_of(&p[from..to], &t[from..to])
+}
+
+// Rule 5: "c(i) is the smallest column with a nonzero entry, and the row is settled".
+fn settled(c: usize, p: Progress) -> Progress
+    requires { ⌜ (p .settled < 4) × (length (p .order) ≡ 4) ⌝ }
+    ensures { λ r. ⌜ r ≡ settledProgress p c ⌝ }
+{
+    let mut order = p.order;
+    let w = p.settled;
+    order[w] = c;
+    Progress {
+        settled: w + 1,
+        order,
+        count: p.count,
+        shifts: p.shifts,
+    }
+}
+
+// Rule 6: "every block moves up by one and n becomes n + 1 in the row".
+fn shift_step(rows: &mut [i64], row: [i64; 320], p: Progress) -> Outcome
+    requires { ⌜ (p .settled * 320 + 320 ≤ length (now rows)) × T (every small row) × (p .shifts < 2 ^ 32) ⌝ }
+    ensures { λ _. ⌜ now (rows .exit) ≡ saved (now (rows .entry)) (p .settled) (refusalOf (shiftedRow row)) (numbersOf (shiftedRow row)) ⌝ }
+    ensures { λ r. ⌜ r ≡ answerOf (refusalOf (shiftedRow row)) (shiftedProgress p) ⌝ }
+{
+    let i = p.settled;
+    let order = p.order;
+    let next = Progress {
+        settled: i,
+        order,
+        count: p.count,
+        shifts: p.shifts + 1,
+    };
+    put_limited(rows, i, working::shifting::shifted(row), next)
+}
+
+// Rules 3 and 4 for the row that is worked on and settled row j. The number m of rows stands in the contract only.
+fn combine_step(
+    rows: &mut [i64],
+    relations: &mut [i64],
+    m: usize,
+    trailing: bool,
+    j: usize,
+    p: Progress,
+) -> Outcome
+    requires { ⌜ Ready m (now rows) (now relations) p × (p .settled < m) × (j < p .settled) ⌝ }
+    requires { ⌜ T (not (isZero (metEntries (now rows) p j))) ⌝ }
+    ensures { λ r. ⌜ Reached m (now (rows .entry)) (now (relations .entry)) (now (rows .exit)) (now (relations .exit)) (p .shifts + 1) r
+        (Elimination.combineStep (sideOf trailing) (stateOf m (now (rows .entry)) (now (relations .entry)) p) (p .settled) j
+        (Elimination.multipliersAt (stateOf m (now (rows .entry)) (now (relations .entry)) p) (p .settled) j)) ⌝ }
+{
+    let i = p.settled;
+    let target = rows::stores::load(rows, i * 320);
+    let pivot = rows::stores::load(rows, j * 320);
+    let order = p.order;
+    let x = multipliers_at(target, pivot, order[j]);
+    let g = x.g;
+    let h = x.h;
+    let found = roots::roots(&g[..]);
+    let count = p.count + found.count;
+    if 16 < count {
+        return answer(9, p);
+    }
+    crate::listing::list_roots(relations, p.count, found, trailing, target);
+    let next = Progress {
+        settled: i,
+        order,
+        count,
+        shifts: p.shifts,
+    };
+    put_limited(
+        rows,
+        i,
+        combinations::combined(&g[..], &h[..], target, pivot),
+        next,
+    )
+}
+
+// One exchange with its combination, one combination, one settling, one shift, or the end.
+pub(crate) fn step(
+    rows: &mut [i64],
+    relations: &mut [i64],
+    m: usize,
+    trailing: bool,
+    p: Progress,
+) -> Outcome
+    requires { ⌜ Ready m (now rows) (now relations) p × (p .shifts < 2 ^ 32) ⌝ }
+    ensures { λ r. ⌜ Reached m (now (rows .entry)) (now (relations .entry)) (now (rows .exit)) (now (relations .exit)) (p .shifts + 1) r
+        (Elimination.step (sideOf trailing) (stateOf m (now (rows .entry)) (now (relations .entry)) p)) ⌝ }
+{
+    let i = p.settled;
+    if m <= i {
+        return Outcome {
+            refusal: 0,
+            done: true,
+            progress: p,
+        };
+    }
+    let row = rows::stores::load(rows, i * 320);
+    if working::entries::is_zero_row(row) {
+        return answer(6, p);
+    }
+    let order = p.order;
+    let j = working::entries::first_met(row, order, i);
+    if j < i {
+        narrow_first(rows, i, j);
+        return combine_step(rows, relations, m, trailing, j, p);
+    }
+    let c = working::entries::first_column(row);
+    if c < 4 {
+        answer(0, settled(c, p))
+    } else {
+        shift_step(rows, row, p)
+    }
+}

@@ -1,0 +1,66 @@
+-- `roots::roots` meets its contract. A constant has no roots; a nonconstant polynomial is nonzero.
+-- Assumes nothing.
+use mathlib.Core.Path.{_≡_, sym, _∙_, ap}
+use mathlib.Core.List.{List}
+use mathlib.Core.Bool.{not}
+use native.Mathlib.Omega.{arith}
+use borrow.Author.Needs.{needs}
+use lib.Dec.{T}
+use lib.IntN.{ℤ, natAbs}
+use mir.Syntax.{w64}
+use mir.Val.{ofZ, toZ}
+use mir.Facts.{toZ-ofZ}
+use Rattle.integers.specs.Ranges.{sfits-size}
+use Rattle.algebra.specs.Polynomials.{isZero, lowest}
+use Rattle.roots.specs.RootSearch.{listed, lowest-small, nonconstant-nonzero, roots-constant}
+use Rattle.roots.proofs.roots.Statement.{statement}
+use Rattle.roots.proofs.roots.Tie as tie
+
+degree-requires : tie.Need-degree-requires
+degree-requires c κs = search needs
+
+lowest-requires : tie.Need-lowest-requires
+lowest-requires c κs = search needs
+
+magnitude-requires : tie.Need-magnitude-requires
+magnitude-requires c κs = search needs
+
+-- What is searched.
+module _ (c : tie.After-magnitude) where
+  abbrev start : tie.Start
+  start = c .before .before .before .before
+
+  abbrev p : List ℤ
+  p = start .args .p .now
+
+  nonzero : T (not (isZero p))
+  nonzero = nonconstant-nonzero p (λ e. c .before .before .if1 .left (c .before .before .before .degree .ensures ∙ e))
+
+  size : c .magnitude .result ≡ natAbs (lowest p)
+  size =
+      let fits = sfits-size (lowest p) (lowest-small p nonzero (start .pre .1)) (omega arith) in
+      c .magnitude .ensures ∙ ap (λ z. natAbs (toZ w64 (ofZ w64 z))) (c .before .lowest .ensures) ∙ ap natAbs (toZ-ofZ fits)
+
+cast-searched : tie.Need-cast-searched
+cast-searched c = omega (arith, size c, lowest-small (p c) (nonzero c) (start c .pre .1))
+
+searched-requires : tie.Need-searched-requires
+searched-requires c κs = (start c .pre .0, start c .pre .1, nonzero c, size c)
+
+returns : tie.Need-returns
+returns c = ap listed (sym (roots-constant (c .before .before .args .p .now) (sym (c .before .degree .ensures) ∙ c .if1 .taken)))
+
+returns-2 : tie.Need-returns-2
+returns-2 c = search needs
+
+pub roots-spec : {M : Type 1} → statement M
+roots-spec =
+    tie.close
+    (tie.spec
+    degree-requires
+    lowest-requires
+    magnitude-requires
+    cast-searched
+    searched-requires
+    returns
+    returns-2)

@@ -1,0 +1,4 @@
+pub mod Found
+pub mod Worked
+pub mod Shifting
+pub mod Mirroring

@@ -1,0 +1,66 @@
+// Zero test, width, leading entries and their first nonzero column.
+ghost use mathlib.Core.Path.{_≡_};
+ghost use mathlib.Core.List.{map};
+ghost use Prim.Native.Nat.{_≤_};
+ghost use lib.ListN.{take};
+ghost use Rattle.rules.specs.Rows as Rows;
+ghost use Rattle.rules.specs.Stores.{rowOf};
+ghost use Rattle.working.specs.Found.{foundOr, Columns};
+
+pub fn is_zero_row(row: [i64; 320]) -> bool
+    ensures { λ r. ⌜ r ≡ Rows.zeroRow (rowOf row) ⌝ }
+{
+    polynomials::content::is_zero(&row[..])
+}
+
+// "The width of a nonzero row is l - s + 1, s its lowest nonzero block; of a zero row, 0."
+pub fn width(row: [i64; 320]) -> usize
+    ensures { λ r. ⌜ r ≡ Rows.width (rowOf row) ⌝ }
+{
+    let numbers = &row[..];
+    let mut blocks = 5;
+    while 0 < blocks {
+        let from = (blocks - 1) * 64;
+        let to = blocks * 64;
+        if !polynomials::content::is_zero(&numbers[from..to]) {
+            return blocks;
+        }
+        blocks -= 1;
+    }
+    0
+}
+
+// "the smallest column with a nonzero entry": the found column comes out of the loop by break; 4 if the leading block is zero.
+pub fn first_column(row: [i64; 320]) -> usize
+    ensures { λ r. ⌜ r ≡ foundOr 4 (Rows.firstNonzero (Rows.leadingBlock (rowOf row))) ⌝ }
+{
+    let mut i = 0;
+    let column = loop {
+        if i == 64 {
+            break 4;
+        }
+        if row[i] != 0 {
+            break i / 16;
+        }
+        i += 1;
+    };
+    column
+}
+
+// The first settled row whose column meets a nonzero leading entry of the row; `settled` if there is none.
+pub fn first_met(row: [i64; 320], order: [usize; 4], settled: usize) -> usize
+    requires { ⌜ (settled ≤ 4) × Columns order ⌝ }
+    ensures { λ r. ⌜ r ≡ foundOr settled (Rows.firstNonzero (map (Rows.entry (rowOf row)) (take settled order))) ⌝ }
+{
+    let numbers = &row[..];
+    let mut j = 0;
+    while j < settled {
+        let from = order[j] * 16;
+        let to = from + 16;
+        if !polynomials::content::is_zero(&numbers[from..to]) {
+            return j;
+        }
+        j += 1;
+    }
+    settled
+}

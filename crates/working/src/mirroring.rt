@@ -1,0 +1,44 @@
+// The mirror: block -s for s and -n for n.
+ghost use mathlib.Core.Path.{_≡_};
+ghost use Prim.Native.Nat.{_^_, _≤_, _<_};
+ghost use lib.Dec.{T};
+ghost use lib.IntN.{natAbs};
+ghost use Rattle.algebra.specs.Coefficients.{alternate};
+ghost use Rattle.rules.specs.Limits.{small};
+ghost use Rattle.rules.specs.Rows.{every, coefficientsOf, mirrorRow};
+ghost use Rattle.rules.specs.Stores.{rowOf};
+ghost use Rattle.working.specs.Mirroring.{mirrorBlock};
+
+// The block that comes to the place of a block: the blocks in use change places, first with last.
+fn mirrored_block(block: usize, span: usize) -> usize
+    ensures { λ r. ⌜ r ≡ mirrorBlock span block ⌝ }
+{
+    if block <= span { span - block } else { block }
+}
+
+// The coefficient of a power with -n for n: odd powers change the sign.
+fn alternated(a: i64, power: usize) -> i64
+    requires { ⌜ natAbs a < 2 ^ 63 ⌝ }
+    ensures { λ r. ⌜ r ≡ alternate power a ⌝ }
+{
+    if power % 2 == 0 {
+        a
+    } else {
+        integers::negated(a)
+    }
+}
+
+// "replace n by -n, block s by -s"
+pub fn mirrored(row: [i64; 320], span: usize) -> [i64; 320]
+    requires { ⌜ (span ≤ 4) × T (every small row) ⌝ }
+    ensures { λ r. ⌜ r ≡ coefficientsOf (mirrorRow span (rowOf row)) ⌝ }
+{
+    let mut result = [0i64; 320];
+    let mut i = 0;
+    while i < 320 {
+        let from = mirrored_block(i / 64, span) * 64 + i % 64;
+        result[i] = alternated(row[from], i % 16);
+        i += 1;
+    }
+    result
+}

@@ -1,0 +1,56 @@
+// Rule 6: a row shifted up by one block, and its limit.
+ghost use mathlib.Core.Path.{_≡_};
+ghost use Prim.Native.Nat.{_+_};
+ghost use lib.Dec.{T};
+ghost use lib.ListN.{length};
+ghost use Rattle.algebra.specs.Polynomials.{shift};
+ghost use Rattle.rules.specs.Limits.{small};
+ghost use Rattle.rules.specs.Rows.{every, shiftUp, coefficientsOf};
+ghost use Rattle.rules.specs.Stores.{rowOf};
+ghost use Rattle.rules.specs.Elimination.{limitCoefficients};
+ghost use Rattle.polynomials.specs.Shift.{followsRule};
+ghost use Rattle.working.specs.Worked.{refusalOf, numbersOf};
+
+// The 16 coefficients of p(n + 1), by a table of Pascal's numbers.
+fn put_shifted(place: &mut [i64], table: &[[i64; 16]; 16], p: &[i64])
+    requires { ⌜ T (followsRule (now table)) × (length (now place) ≡ 16) × (length (now p) ≡ 16) × T (every small (now p)) ⌝ }
+    ensures { λ _. ⌜ now (place .exit) ≡ shift (now (p .entry)) ⌝ }
+{
+    let mut k = 0;
+    while k < 16 {
+        place[k] = polynomials::shift::shifted_coefficient(table, p, k);
+        k += 1;
+    }
+}
+
+// Block b of the new row is block b + 1 of the old one with n + 1 for n; the last block is zero. Nothing is done for
+// polynomials that are zero.
+fn moved_up(table: &[[i64; 16]; 16], row: &[i64]) -> [i64; 320]
+    requires { ⌜ T (followsRule (now table)) × (length (now row) ≡ 320) × T (every small (now row)) ⌝ }
+    ensures { λ r. ⌜ r ≡ coefficientsOf (shiftUp (rowOf (now (row .entry)))) ⌝ }
+{
+    let mut moved = [0i64; 320];
+    let mut e = 0;
+    while e < 16 {
+        let at = e * 16;
+        let from = at + 64;
+        let to = from + 16;
+        let p = &row[from..to];
+        if !polynomials::content::is_zero(p) {
+            let end = at + 16;
+            put_shifted(&mut moved[at..end], table, p);
+        }
+        e += 1;
+    }
+    moved
+}
+
+// "every block moves up by one and n becomes n + 1 in the row [..]; a coefficient outside ±C is refusal 8"
+pub fn shifted(row: [i64; 320]) -> crate::limits::Worked
+    requires { ⌜ T (every small row) ⌝ }
+    ensures { λ r. ⌜ r .refusal ≡ refusalOf (limitCoefficients (shiftUp (rowOf row))) ⌝ }
+    ensures { λ r. ⌜ r .row ≡ numbersOf (limitCoefficients (shiftUp (rowOf row))) ⌝ }
+{
+    let table = polynomials::shift::pascal();
+    crate::limits::limited(moved_up(&table, &row[..]))
+}

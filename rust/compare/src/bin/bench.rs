@@ -1,0 +1,229 @@
+//! Times of the proved library and program, each as a ratio to the version of `fast`. Build with --release. With the argument
+//! `fast-batch` it is the batch program of that version, so that a process is compared with a process.
+
+use compare::batches::framed;
+use compare::fast;
+use compare::random::Random;
+use compare::sheets::{sheet, whole_sheet};
+use compare::subject::{output_of, Library};
+use compare::systems::large_system;
+use outside::batch::SHEET_BYTES;
+use outside::polynomial::Polynomial;
+use outside::sheet::{write, Sheet};
+use std::hint::black_box;
+use std::io::{stdin, stdout, Read, Write};
+use std::process::Command;
+use std::time::{Duration, Instant};
+use wurgalm::{Heading, Sizes};
+
+const SHEETS: usize = 1_000;
+const POLYNOMIALS: usize = 100;
+/// A measurement is the shortest of so many passes.
+const PASSES: usize = 7;
+
+/// The shortest time of a pass.
+fn shortest(mut pass: impl FnMut()) -> Duration {
+    let timed = |_| {
+        let start = Instant::now();
+        pass();
+        start.elapsed()
+    };
+    (0..PASSES).map(timed).min().expect("at least one pass")
+}
+
+// ---- what is measured ----
+
+fn mixed_sheets(random: &mut Random) -> Vec<Vec<u8>> {
+    let all = std::iter::repeat_with(|| sheet(random));
+    all.filter(|bytes| bytes.len() <= SHEET_BYTES as usize).take(SHEETS).collect()
+}
+
+/// Four unknowns and five blocks.
+fn large_sheets(random: &mut Random) -> Vec<Vec<u8>> {
+    let mut one = || write(&Sheet { system: large_system(random), order: Vec::new() });
+    (0..SHEETS).map(|_| one()).collect()
+}
+
+/// Degree 15: half of them products with many roots, half with large coefficients that have few.
+fn polynomials(random: &mut Random) -> Vec<Vec<i64>> {
+    let mut all = Vec::new();
+    while all.len() < POLYNOMIALS {
+        let p = if all.len() % 2 == 0 { product(random) } else { large_coefficients(random) };
+        if p.degree() == 15 && p.size() <= outside::C {
+            all.push(p.coefficients().iter().map(|&a| a as i64).collect());
+        }
+    }
+    all
+}
+
+fn product(random: &mut Random) -> Polynomial {
+    let factors = (0..15).map(|_| Polynomial::linear(random.between(-4, 4)));
+    factors.fold(Polynomial::new(vec![1]), |p, factor| p.times(&factor))
+}
+
+/// (n - r) times a polynomial with coefficients of eight digits, so that there is a root and the search is not cut short.
+fn large_coefficients(random: &mut Random) -> Polynomial {
+    let coefficients = (0..14).map(|_| random.between(-99_999_999, 99_999_999)).chain([1]).collect();
+    Polynomial::new(coefficients).times(&Polynomial::linear(random.pick(&[1, -1, 2])))
+}
+
+// ---- the two sides ----
+
+/// Stores of the largest sizes.
+struct Stores {
+    rows: Vec<i64>,
+    relations: Vec<i64>,
+}
+
+impl Stores {
+    fn new() -> Stores {
+        Stores { rows: vec![0; wurgalm::row_store(4)], relations: vec![0; wurgalm::RELATION_STORE] }
+    }
+
+    /// A sheet in the stores.
+    fn of(sheet: &[u8]) -> (Stores, Heading) {
+        let mut stores = Stores::new();
+        let heading = wurgalm::read_sheet(sheet, &mut stores.rows, &mut stores.relations).expect("a whole sheet");
+        (stores, heading)
+    }
+
+    /// The largest root of a polynomial, by a run with one unknown and one block.
+    fn root(&mut self, p: &[i64]) -> Option<i64> {
+        self.rows[..p.len()].copy_from_slice(p);
+        let sizes = Sizes { m: 1, l: 0, t: 0 };
+        let report = wurgalm::run_leading(&mut self.rows, &mut self.relations, sizes, 0);
+        report.expect("one nonzero row").root
+    }
+}
+
+/// The largest root of a polynomial, by a run of the fast version.
+fn fast_root(system: &mut fast::System, p: &[i64]) -> Option<i64> {
+    (system.m, system.l, system.blocks, system.count) = (1, 0, 1, 0);
+    let entry = &mut system.rows[0].0[0];
+    entry.numbers[..p.len()].copy_from_slice(p);
+    entry.length = p.len();
+    fast::run(system).expect("one nonzero row").root
+}
+
+/// One line of the table. Without the library there is a time of the fast version only.
+fn line(what: &str, library: Option<Duration>, fast: Duration, bytes: Option<usize>) {
+    let speed = |time: Duration| match bytes {
+        Some(bytes) => format!("{:.1} MB/s", bytes as f64 / time.as_secs_f64() / 1e6),
+        None => format!("{:.3} ms", time.as_secs_f64() * 1e3),
+    };
+    let ratio = library.map_or("-".into(), |time| format!("{:.2}", time.as_secs_f64() / fast.as_secs_f64()));
+    println!("| {what} | {} | {} | {ratio} |", library.map_or("-".into(), speed), speed(fast));
+}
+
+fn batches(what: &str, library: &Option<Library>, sheets: &[Vec<u8>]) {
+    let input = framed(&mut Random::new(1), sheets);
+    let fast_program = || {
+        let mut command = Command::new(std::env::current_exe().expect("this program"));
+        command.arg("fast-batch");
+        command
+    };
+    let expected = output_of(fast_program(), &input);
+    let last = expected.split(|&b| b == b'\n').nth_back(1).unwrap_or(&[]);
+    let time = library.as_ref().map(|library| {
+        let found = output_of(Command::new(library.program()), &input);
+        assert!(found == expected, "{what}: the program writes something else than the fast version");
+        shortest(|| drop(output_of(Command::new(library.program()), &input)))
+    });
+    let fast = shortest(|| drop(output_of(fast_program(), &input)));
+    let what = format!("{what}, {} bytes, accepted and refused {}", input.len(), String::from_utf8_lossy(last));
+    line(&what, time, fast, None);
+}
+
+/// The same runs with constants tell what a run takes without the search.
+fn root_search(library: bool) {
+    let searched = polynomials(&mut Random::new(2));
+    roots_of("root search, 100 polynomials of degree 15", library, &searched);
+    roots_of("the same 100 runs on constants, without the search", library, &vec![vec![1]; POLYNOMIALS]);
+}
+
+fn roots_of(what: &str, library: bool, polynomials: &[Vec<i64>]) {
+    let mut system = fast::System::new();
+    let mut fast_roots = || -> Vec<_> { polynomials.iter().map(|p| fast_root(&mut system, p)).collect() };
+    let time = library.then(|| {
+        let mut stores = Stores::new();
+        let mut roots = || -> Vec<_> { polynomials.iter().map(|p| stores.root(p)).collect() };
+        assert!(roots() == fast_roots(), "{what}: other roots than the fast version");
+        shortest(|| drop(black_box(roots())))
+    });
+    line(what, time, shortest(|| drop(black_box(fast_roots()))), None);
+}
+
+fn reading_and_writing(library: bool) {
+    let mut random = Random::new(4);
+    let mut sheets: Vec<Vec<u8>> = (0..SHEETS / 2).map(|_| whole_sheet(&mut random)).collect();
+    sheets.extend(large_sheets(&mut random).into_iter().take(SHEETS / 2));
+    let bytes = sheets.iter().map(Vec::len).sum();
+    line("reading sheets", library.then(|| reading(&sheets)), fast_reading(&sheets), Some(bytes));
+    line("writing sheets", library.then(|| writing(&sheets)), fast_writing(&sheets), Some(bytes));
+}
+
+fn reading(sheets: &[Vec<u8>]) -> Duration {
+    let mut stores = Stores::new();
+    shortest(|| {
+        for sheet in sheets {
+            black_box(wurgalm::read_sheet(sheet, &mut stores.rows, &mut stores.relations)).expect("a whole sheet");
+        }
+    })
+}
+
+fn fast_reading(sheets: &[Vec<u8>]) -> Duration {
+    let mut system = fast::System::new();
+    shortest(|| sheets.iter().for_each(|sheet| fast::read(sheet, &mut system).expect("a whole sheet")))
+}
+
+fn writing(sheets: &[Vec<u8>]) -> Duration {
+    let lent: Vec<(Stores, Heading)> = sheets.iter().map(|sheet| Stores::of(sheet)).collect();
+    let mut bytes = vec![0; 1 << 17];
+    shortest(|| {
+        for (stores, heading) in &lent {
+            let written = wurgalm::write_sheet(&stores.rows, &stores.relations, heading, &mut bytes);
+            black_box(written).expect("a valid system");
+        }
+    })
+}
+
+fn fast_writing(sheets: &[Vec<u8>]) -> Duration {
+    let systems: Vec<Box<fast::System>> = sheets.iter().map(|sheet| fast_system(sheet)).collect();
+    let mut output = Vec::with_capacity(1 << 17);
+    shortest(|| {
+        for system in &systems {
+            output.clear();
+            fast::write(system, &mut output);
+            black_box(&output);
+        }
+    })
+}
+
+fn fast_system(sheet: &[u8]) -> Box<fast::System> {
+    let mut system = fast::System::new();
+    fast::read(sheet, &mut system).expect("a whole sheet");
+    system
+}
+
+fn fast_batch() {
+    let mut input = Vec::new();
+    stdin().read_to_end(&mut input).expect("the input is read");
+    stdout().write_all(&fast::batch(&input)).expect("the output is written");
+}
+
+fn main() {
+    if std::env::args().nth(1).as_deref() == Some("fast-batch") {
+        return fast_batch();
+    }
+    let library = Library::found();
+    if library.is_none() {
+        println!("The library is not built: times of the fast version only.\n");
+    }
+    println!("| what | library | fast version | ratio |");
+    println!("|---|---:|---:|---:|");
+    let mut random = Random::new(3);
+    batches("batch of 1,000 mixed sheets", &library, &mixed_sheets(&mut random));
+    batches("batch of 1,000 large sheets, m = 4, D = 4", &library, &large_sheets(&mut random));
+    root_search(library.is_some());
+    reading_and_writing(library.is_some());
+}

@@ -1,0 +1,64 @@
+//! The proved library and program against the outside implementation: every answer, every number of every store, every byte. A
+//! difference is printed with its sheet, and the exit code is then 1.
+
+use compare::cases::Kind;
+use compare::judge::judge;
+use compare::subject::{Library, Outside, Subject};
+use compare::tally::{print_refusals, Tally};
+use std::time::Instant;
+
+/// How many cases of each kind.
+const CASES: [(Kind, usize); 5] =
+    [(Kind::Leading, 20_000), (Kind::Trailing, 20_000), (Kind::Read, 20_000), (Kind::Write, 5_000), (Kind::Batch, 500)];
+/// Differences that are printed whole.
+const SHOWN: usize = 3;
+
+/// The cases of one kind; the answers of both sides are counted. Returns the number of differences.
+fn compared(kind: Kind, count: usize, right: &dyn Subject, other: &dyn Subject, tallies: &mut [Tally; 2]) -> usize {
+    let mut differences = 0;
+    for k in 0..count {
+        let judged = judge(&kind.case(k), right, other);
+        tallies[0].count(kind, &judged.expected);
+        tallies[1].count(kind, &judged.found);
+        if let Some(difference) = judged.difference {
+            differences += 1;
+            if differences <= SHOWN {
+                println!("DIFFERENCE in {kind:?} case {k}: {difference}");
+            }
+        }
+    }
+    differences
+}
+
+/// A line of the table for each kind and side.
+fn lines<'a>(tallies: &'a [(Kind, [Tally; 2])], names: &[String; 2]) -> Vec<(String, &'a Tally)> {
+    let mut lines = Vec::new();
+    for (kind, pair) in tallies {
+        for (tally, name) in pair.iter().zip(names) {
+            lines.push((format!("{kind:?}, {name}"), tally));
+        }
+    }
+    lines
+}
+
+fn main() {
+    let (right, other) = (Outside(None), Library::needed());
+    let mut differences = 0;
+    let mut tallies = Vec::new();
+    for (kind, count) in CASES {
+        let start = Instant::now();
+        let mut pair = [Tally::default(), Tally::default()];
+        let different = compared(kind, count, &right, &other, &mut pair);
+        println!("{kind:?}: {count} cases, {different} differences, {:.1} s", start.elapsed().as_secs_f64());
+        differences += different;
+        tallies.push((kind, pair));
+    }
+    println!();
+    let names = [right.name(), other.name()];
+    print_refusals(&lines(&tallies, &names));
+    for (kind, pair) in &tallies[..2] {
+        println!();
+        pair.iter().zip(&names).for_each(|(tally, name)| tally.print_runs(&format!("{kind:?}, {name}")));
+    }
+    std::process::exit((differences > 0) as i32);
+}

@@ -1,0 +1,65 @@
+//! Plants each fault in the outside implementation and says after how many cases the comparison finds it. The other side is the
+//! library where it is built, and otherwise the outside implementation without the fault.
+
+use compare::cases::{Case, Kind};
+use compare::judge::judge;
+use compare::subject::{Library, Outside, Subject};
+use outside::fault::Fault;
+
+/// A fault that is not found in so many cases of each kind is missed. Batches take longer, so there are fewer.
+const MOST: usize = 20_000;
+const BATCH_EVERY: usize = 40;
+
+/// The cases in the order in which a fault meets them.
+fn cases(round: usize) -> Vec<Case> {
+    let mut cases: Vec<Case> = Kind::ALL[..4].iter().map(|kind| kind.case(round)).collect();
+    if round.is_multiple_of(BATCH_EVERY) {
+        cases.push(Kind::Batch.case(round / BATCH_EVERY));
+    }
+    cases
+}
+
+/// How many cases it takes to find the fault, and what the case was.
+fn found(fault: Fault, right: &dyn Subject) -> Option<(usize, &'static str)> {
+    let wrong = Outside(Some(fault));
+    let mut tried = 0;
+    for round in 0..MOST {
+        for case in cases(round) {
+            tried += 1;
+            if judge(&case, right, &wrong).difference.is_some() {
+                return Some((tried, kind_of(&case)));
+            }
+        }
+    }
+    None
+}
+
+fn kind_of(case: &Case) -> &'static str {
+    match case {
+        Case::Run { .. } => "run",
+        Case::Read { .. } => "read",
+        Case::Write { .. } => "write",
+        Case::Batch { .. } => "batch",
+    }
+}
+
+fn main() {
+    let right: Box<dyn Subject> = match Library::found() {
+        Some(library) => Box::new(library),
+        None => Box::new(Outside(None)),
+    };
+    println!("faults against {}", right.name());
+    println!("| fault | what it does | found after | by |");
+    println!("|---|---|---:|---|");
+    let mut missed = 0;
+    for &fault in Fault::ALL {
+        let (after, by) = match found(fault, right.as_ref()) {
+            Some((after, by)) => (after.to_string(), by),
+            None => ("NOT FOUND".into(), ""),
+        };
+        missed += by.is_empty() as i32;
+        println!("| {fault:?} | {} | {after} | {by} |", fault.says());
+    }
+    println!("{} faults, {missed} missed", Fault::ALL.len());
+    std::process::exit((missed > 0) as i32);
+}

@@ -1,0 +1,188 @@
+//! The exported functions with arguments of every size and stores of every length from 0 to beyond the need. Each store lies
+//! between guards that no call may touch, and every answer and every store is compared with the outside implementation.
+
+use compare::cases::{Answer, Stores};
+use compare::random::Random;
+use compare::sheets::whole_sheet;
+use compare::subject::{Library, Outside, Subject};
+use outside::elimination::Side;
+use outside::stores::{row_store, Asked, RELATION_STORE, RESULT};
+use outside::C;
+
+/// Numbers on either side of a lent store.
+const GUARD: usize = 64;
+
+/// A lent store between two guards.
+struct Guarded<T> {
+    all: Vec<T>,
+    guard: T,
+}
+
+impl<T: Copy + PartialEq> Guarded<T> {
+    fn new(store: &[T], guard: T) -> Guarded<T> {
+        let side = [guard; GUARD];
+        Guarded { all: [&side[..], store, &side[..]].concat(), guard }
+    }
+
+    fn lent(&mut self) -> &mut [T] {
+        let end = self.all.len() - GUARD;
+        &mut self.all[GUARD..end]
+    }
+
+    /// The store as the call left it, the guards as they were.
+    fn returned(self) -> Vec<T> {
+        let end = self.all.len() - GUARD;
+        let untouched = |side: &[T]| side.iter().all(|&a| a == self.guard);
+        assert!(untouched(&self.all[..GUARD]) && untouched(&self.all[end..]), "a call wrote outside its store");
+        self.all[GUARD..end].to_vec()
+    }
+}
+
+const MARK: i64 = 0x5a5a_5a5a_5a5a_5a5a;
+
+/// A call on one of the exported functions, all arguments as they are handed in.
+enum Call {
+    Run(Side, Asked),
+    Read(Vec<u8>),
+    Write(Asked, Vec<i64>, Vec<u8>),
+}
+
+fn answer(subject: &dyn Subject, call: &Call, stores: &Stores) -> Answer {
+    let mut rows = Guarded::new(&stores.rows, MARK);
+    let mut relations = Guarded::new(&stores.relations, MARK);
+    let mut result = Guarded::new(&stores.result, MARK);
+    let mut bytes = Guarded::new(if let Call::Write(_, _, bytes) = call { bytes } else { &[] }, 0x5a);
+    let number = match call {
+        Call::Run(side, asked) => subject.run(*side, rows.lent(), relations.lent(), *asked, result.lent()),
+        Call::Read(sheet) => subject.read(sheet, rows.lent(), relations.lent(), result.lent()),
+        Call::Write(asked, order, _) => {
+            subject.write(rows.lent(), relations.lent(), *asked, order, bytes.lent(), result.lent())
+        }
+    };
+    let stores = Stores { rows: rows.returned(), relations: relations.returned(), result: result.returned() };
+    Answer { number, stores, bytes: bytes.returned() }
+}
+
+struct Fuzz {
+    right: Outside,
+    library: Library,
+    calls: usize,
+    differences: usize,
+    /// How often each number was answered.
+    answers: [usize; 10],
+}
+
+impl Fuzz {
+    fn call(&mut self, what: &str, call: &Call, stores: &Stores) {
+        let (expected, found) = (answer(&self.right, call, stores), answer(&self.library, call, stores));
+        self.calls += 1;
+        self.answers[found.number.min(9) as usize] += 1;
+        if expected != found {
+            self.differences += 1;
+            if self.differences <= 10 {
+                let lengths = (stores.rows.len(), stores.relations.len(), stores.result.len());
+                println!("DIFFERENCE: {what}, lengths {lengths:?}: {} and {}", expected.number, found.number);
+            }
+        }
+    }
+
+    /// The same stores with one of them at every length, the others as they are.
+    fn every_length(&mut self, what: &str, call: &Call, whole: &Stores, step: usize) {
+        for length in 0..=whole.rows.len() {
+            self.call(what, call, &Stores { rows: whole.rows[..length].to_vec(), ..whole.clone() });
+        }
+        for length in (0..=whole.relations.len()).step_by(step).chain([RELATION_STORE - 1, RELATION_STORE]) {
+            self.call(what, call, &Stores { relations: whole.relations[..length].to_vec(), ..whole.clone() });
+        }
+        for length in 0..=whole.result.len() {
+            self.call(what, call, &Stores { result: whole.result[..length].to_vec(), ..whole.clone() });
+        }
+    }
+
+    /// The same stores with one number changed, at every position.
+    fn every_position(&mut self, what: &str, call: &Call, whole: &Stores) {
+        for number in [1, C as i64 + 1] {
+            for at in 0..whole.rows.len() {
+                let mut stores = whole.clone();
+                stores.rows[at] = number;
+                self.call(what, call, &stores);
+            }
+            for at in 0..whole.relations.len() {
+                let mut stores = whole.clone();
+                stores.relations[at] = number;
+                self.call(what, call, &stores);
+            }
+        }
+    }
+
+    /// Sizes from a list that has the ends of every range, one past them, and the ends of the types.
+    fn every_size(&mut self, make: impl Fn(Asked) -> Call, whole: &Stores) {
+        let blocks = [i64::MIN, i64::MIN + 1, -65, -64, -63, -5, -1, 0, 1, 4, 60, 63, 64, 65, i64::MAX - 1, i64::MAX];
+        for m in [0, 1, 2, 3, 4, 5, 1 << 32, 1 << 56, usize::MAX] {
+            for l in blocks {
+                for t in blocks {
+                    for count in [0, 1, 15, 16, 17, usize::MAX] {
+                        let asked = Asked { m, l, t, count };
+                        self.call(&format!("{asked:?}"), &make(asked), whole);
+                    }
+                }
+            }
+        }
+    }
+}
+
+/// Stores that hold the system of a sheet, a little longer than they need to be.
+fn stores_of(sheet: &[u8]) -> (Stores, Asked, Vec<i64>) {
+    let mut stores =
+        Stores { rows: vec![7; row_store(4) + 3], relations: vec![7; RELATION_STORE + 3], result: vec![7; RESULT + 2] };
+    let number = Outside(None).read(sheet, &mut stores.rows, &mut stores.relations, &mut stores.result);
+    assert_eq!(number, 0, "a whole sheet");
+    let [m, l, t, count] = [0, 1, 2, 3].map(|k| stores.result[k]);
+    let order = stores.result[4..RESULT].to_vec();
+    (stores, Asked { m: m as usize, l, t, count: count as usize }, order)
+}
+
+fn main() {
+    let mut fuzz =
+        Fuzz { right: Outside(None), library: Library::needed(), calls: 0, differences: 0, answers: [0; 10] };
+    let mut random = Random::new(77);
+    let small = Stores { rows: vec![7; row_store(4)], relations: vec![7; 9], result: vec![7; RESULT] };
+    for round in 0..4 {
+        let sheet = whole_sheet(&mut random);
+        let (stores, asked, order) = stores_of(&sheet);
+        let step = [1, 7, 13, 17][round];
+        fuzz.every_length("leading", &Call::Run(Side::Leading, asked), &stores, step);
+        fuzz.every_length("trailing", &Call::Run(Side::Trailing, asked), &stores, step);
+        fuzz.every_length("read", &Call::Read(sheet.clone()), &stores, step);
+        let room = vec![b'#'; sheet.len() + 3];
+        fuzz.every_length("write", &Call::Write(asked, order.clone(), room), &stores, step);
+        for length in 0..sheet.len() + 3 {
+            fuzz.call("write, bytes", &Call::Write(asked, order.clone(), vec![b'#'; length]), &stores);
+            fuzz.call("read, bytes", &Call::Read(sheet[..length.min(sheet.len())].to_vec()), &stores);
+        }
+        for length in 0..7 {
+            let mut order = order.clone();
+            order.resize(length, 0);
+            fuzz.call("write, order", &Call::Write(asked, order, vec![b'#'; sheet.len()]), &stores);
+        }
+    }
+    let sheet = b"3 2 1 0\n2\n2 1 1 2 0 1 0 2 1 -1\n2 1 1 1 1 0 1 1 -1\n1\n0 0\n0\n";
+    let (stores, asked, order) = stores_of(sheet);
+    fuzz.every_position("leading", &Call::Run(Side::Leading, asked), &stores);
+    fuzz.every_position("trailing", &Call::Run(Side::Trailing, asked), &stores);
+    fuzz.every_position("write", &Call::Write(asked, order, vec![b'#'; 99]), &stores);
+    for _ in 0..20_000 {
+        let noise = (0..random.below(60)).map(|_| random.pick(b"0011223 \n\n -9x")).collect();
+        fuzz.call("read, noise", &Call::Read(noise), &small);
+    }
+    // Zero systems in whole stores, and no stores at all: a size is refused before a length.
+    let zeros = Stores { rows: vec![0; row_store(4)], relations: vec![0; RELATION_STORE], result: vec![7; RESULT] };
+    let none = Stores { rows: Vec::new(), relations: Vec::new(), result: Vec::new() };
+    for stores in [zeros, none] {
+        fuzz.every_size(|asked| Call::Run(Side::Leading, asked), &stores);
+        fuzz.every_size(|asked| Call::Run(Side::Trailing, asked), &stores);
+        fuzz.every_size(|asked| Call::Write(asked, vec![0; 4], vec![b'#'; 400]), &stores);
+    }
+    println!("{} calls, {} differences, answers 0 to 9: {:?}", fuzz.calls, fuzz.differences, fuzz.answers);
+    std::process::exit((fuzz.differences > 0) as i32);
+}

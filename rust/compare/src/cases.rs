@@ -1,0 +1,281 @@
+//! One call each, made from a number: the stores as they are lent and the other arguments, good or bad.
+
+use crate::batches::batch;
+use crate::random::Random;
+use crate::sheets::sheet;
+use crate::subject::Subject;
+use crate::systems::system;
+use outside::elimination::Side;
+use outside::stores::{row_store, store, Asked, COEFFICIENTS, RELATION, RELATION_STORE, RESULT, ROW};
+use outside::system::System;
+use outside::C;
+
+/// The lent stores of a call.
+#[derive(Clone, PartialEq, Eq)]
+pub struct Stores {
+    pub rows: Vec<i64>,
+    pub relations: Vec<i64>,
+    pub result: Vec<i64>,
+}
+
+/// What a call leaves: its number, the stores, and the bytes of a writer or of the batch program.
+#[derive(Clone, PartialEq, Eq)]
+pub struct Answer {
+    pub number: u8,
+    pub stores: Stores,
+    pub bytes: Vec<u8>,
+}
+
+#[derive(Clone)]
+pub enum Case {
+    /// A run on stores.
+    Run { side: Side, stores: Stores, asked: Asked },
+    /// A sheet that is read into stores; what was read is then written into a byte store of `room` bytes more than the sheet has.
+    Read { sheet: Vec<u8>, stores: Stores, room: isize },
+    /// A system in stores that is written into a byte store.
+    Write { stores: Stores, asked: Asked, order: Vec<i64>, bytes: Vec<u8> },
+    /// An input of the batch program.
+    Batch { input: Vec<u8> },
+}
+
+#[derive(Clone, Copy, Debug, PartialEq, Eq)]
+pub enum Kind {
+    Leading,
+    Trailing,
+    Read,
+    Write,
+    Batch,
+}
+
+impl Kind {
+    pub const ALL: [Kind; 5] = [Kind::Leading, Kind::Trailing, Kind::Read, Kind::Write, Kind::Batch];
+
+    /// The k-th case of its kind. Leading and trailing runs have the same systems.
+    pub fn case(self, k: usize) -> Case {
+        let stream = if self == Kind::Trailing { Kind::Leading } else { self };
+        let mut random = Random::new(((stream as u64 + 1) << 40) + k as u64);
+        match self {
+            Kind::Leading => run_case(&mut random, Side::Leading),
+            Kind::Trailing => run_case(&mut random, Side::Trailing),
+            Kind::Read => read_case(&mut random),
+            Kind::Write => write_case(&mut random),
+            Kind::Batch => Case::Batch { input: batch(&mut random) },
+        }
+    }
+}
+
+fn run_case(random: &mut Random, side: Side) -> Case {
+    let system = system(random);
+    let mut stores = lent(random, &system, RESULT);
+    let mut asked = asked_of(&system);
+    if random.one_in(5) {
+        damage(random, &mut stores, &mut asked);
+    }
+    Case::Run { side, stores, asked }
+}
+
+fn read_case(random: &mut Random) -> Case {
+    let sheet = sheet(random);
+    let mut stores =
+        Stores { rows: vec![0; row_store(4)], relations: vec![0; RELATION_STORE], result: vec![0; RESULT] };
+    for store in [&mut stores.rows, &mut stores.relations, &mut stores.result] {
+        store.fill_with(|| random.junk());
+    }
+    lengthen(random, &mut stores);
+    if random.one_in(8) {
+        shorten(random, &mut stores);
+    }
+    if random.one_in(8) {
+        stores.rows.truncate(ROW * random.below(5));
+    }
+    Case::Read { sheet, stores, room: random.pick(&[0, 0, 1, 50, -1]) }
+}
+
+fn write_case(random: &mut Random) -> Case {
+    let system = system(random);
+    let mut stores = lent(random, &system, 1);
+    let mut asked = asked_of(&system);
+    let mut order = vec![0; 4];
+    if random.one_in(2) {
+        let columns = random.permutation(system.sizes.m);
+        columns.iter().zip(&mut order).for_each(|(&column, place)| *place = column as i64);
+    }
+    if random.one_in(6) {
+        let at = random.below(4);
+        order[at] = random.pick(&[0, 1, 2, 3, 4, 5, -1, i64::MIN, i64::MAX]);
+    }
+    if random.one_in(10) {
+        order.resize(random.below(7), 0);
+    }
+    if random.one_in(5) {
+        damage(random, &mut stores, &mut asked);
+    }
+    let text = outside::sheet::write(&outside::sheet::Sheet { system, order: written_order(&order) });
+    let exact = text.len();
+    let length = random.pick(&[exact, exact, exact + 1, exact + 70, exact - 1, exact / 2]);
+    Case::Write { stores, asked, order, bytes: (0..length).map(|k| k as u8).collect() }
+}
+
+fn written_order(order: &[i64]) -> Vec<usize> {
+    order.iter().filter(|&&c| c > 0).map(|&c| c as usize).collect()
+}
+
+fn asked_of(system: &System) -> Asked {
+    Asked { m: system.sizes.m, l: system.sizes.l, t: system.sizes.t, count: system.relations.len() }
+}
+
+/// The system in stores, of the needed length or longer, with junk past the needed part and in the result.
+fn lent(random: &mut Random, system: &System, result: usize) -> Stores {
+    let mut stores = Stores {
+        rows: vec![0; row_store(system.sizes.m)],
+        relations: vec![0; RELATION_STORE],
+        result: (0..result).map(|_| random.junk()).collect(),
+    };
+    store(system, &mut stores.rows, &mut stores.relations);
+    lengthen(random, &mut stores);
+    stores
+}
+
+fn lengthen(random: &mut Random, stores: &mut Stores) {
+    for store in [&mut stores.rows, &mut stores.relations, &mut stores.result] {
+        let more = random.pick(&[0, 0, 1, 5, 330]);
+        store.extend((0..more).map(|_| random.junk()));
+    }
+}
+
+fn shorten(random: &mut Random, stores: &mut Stores) {
+    let store = match random.below(3) {
+        0 => &mut stores.rows,
+        1 => &mut stores.relations,
+        _ => &mut stores.result,
+    };
+    let length = store.len();
+    store.truncate(random.pick(&[0, 1, length / 2, length.saturating_sub(1), RELATION_STORE - 1, ROW - 1, RESULT - 1]));
+}
+
+/// Sizes, lengths and numbers made wrong, each with some chance.
+fn damage(random: &mut Random, stores: &mut Stores, asked: &mut Asked) {
+    if random.one_in(3) {
+        damage_sizes(random, asked);
+    }
+    if random.one_in(3) {
+        shorten(random, stores);
+    }
+    if random.one_in(2) {
+        damage_number(random, stores, *asked);
+    }
+}
+
+fn damage_sizes(random: &mut Random, asked: &mut Asked) {
+    let far = random.pick(&[i64::MIN, i64::MAX, 65, -65, 66, -69, asked.l, asked.t, 0]);
+    match random.below(5) {
+        0 => asked.m = random.pick(&[0, 1, 2, 3, 4, 5, usize::MAX, 1 << 61]),
+        1 => asked.l = far,
+        2 => asked.t = far,
+        3 => {
+            (asked.l, asked.t) =
+                random.pick(&[(i64::MAX, i64::MIN), (far, far), (asked.t, asked.l), (asked.l + 1, asked.t)])
+        }
+        _ => asked.count = random.pick(&[0, 1, 15, 16, 17, usize::MAX]),
+    }
+}
+
+/// A number at some position of the needed parts, used or not.
+fn damage_number(random: &mut Random, stores: &mut Stores, asked: Asked) {
+    let number = random.pick(&[C as i64 + 1, -C as i64 - 1, C as i64, -C as i64, 1, -1, i64::MIN, i64::MAX, 0]);
+    let store = if random.one_in(2) { &mut stores.rows } else { &mut stores.relations };
+    if store.is_empty() {
+        return;
+    }
+    let place = match random.below(4) {
+        0 => asked.count.min(15) * RELATION,
+        1 => random.below(40) * COEFFICIENTS,
+        _ => random.below(store.len()),
+    };
+    let last = store.len() - 1;
+    store[place.min(last)] = number;
+}
+
+// ---- calls ----
+
+impl Case {
+    /// What the subject answers.
+    pub fn answered(&self, subject: &dyn Subject) -> Vec<Answer> {
+        match self {
+            Case::Run { side, stores, asked } => {
+                let mut stores = stores.clone();
+                let number = subject.run(*side, &mut stores.rows, &mut stores.relations, *asked, &mut stores.result);
+                vec![Answer { number, stores, bytes: Vec::new() }]
+            }
+            Case::Read { sheet, stores, room } => read_and_written(subject, sheet, stores, *room),
+            Case::Write { stores, asked, order, bytes } => vec![written(subject, stores, *asked, order, bytes.clone())],
+            Case::Batch { input } => {
+                let stores = Stores { rows: Vec::new(), relations: Vec::new(), result: Vec::new() };
+                vec![Answer { number: 0, stores, bytes: subject.batch(input) }]
+            }
+        }
+    }
+
+    /// The case for a reader: its sizes, and its sheet or as much of it as there is.
+    pub fn shown(&self) -> String {
+        match self {
+            Case::Run { side, stores, asked } => format!("{side:?} {}", stores.shown(*asked)),
+            Case::Write { stores, asked, order, bytes } => {
+                format!("write, order {order:?}, {} bytes, {}", bytes.len(), stores.shown(*asked))
+            }
+            Case::Read { sheet, stores, room } => format!(
+                "read, row store {}, relation store {}, result {}, room {room}\n{}",
+                stores.rows.len(),
+                stores.relations.len(),
+                stores.result.len(),
+                text(sheet)
+            ),
+            Case::Batch { input } => format!("batch\n{}", text(input)),
+        }
+    }
+}
+
+/// Bytes as text, those that can't be printed as escapes.
+pub fn text(bytes: &[u8]) -> String {
+    bytes.iter().map(|&b| if b == b'\n' { "\n".into() } else { b.escape_ascii().to_string() }).collect()
+}
+
+impl Stores {
+    fn shown(&self, asked: Asked) -> String {
+        let mut bytes = vec![0; 1 << 17];
+        let mut result = [0];
+        let number = outside::stores::write_on_stores(
+            &self.rows,
+            &self.relations,
+            asked,
+            &[0; 4],
+            &mut bytes,
+            &mut result,
+            None,
+        );
+        let lengths = (self.rows.len(), self.relations.len(), self.result.len());
+        let sheet = if number == 0 { text(&bytes[..result[0] as usize]) } else { format!("no sheet: {number}\n") };
+        format!("{asked:?}, lengths {lengths:?}\n{sheet}")
+    }
+}
+
+fn written(subject: &dyn Subject, stores: &Stores, asked: Asked, order: &[i64], mut bytes: Vec<u8>) -> Answer {
+    let mut stores = stores.clone();
+    let number = subject.write(&stores.rows, &stores.relations, asked, order, &mut bytes, &mut stores.result);
+    Answer { number, stores, bytes }
+}
+
+/// The answer of the reader and, on acceptance, that of the writer on what was read.
+fn read_and_written(subject: &dyn Subject, sheet: &[u8], stores: &Stores, room: isize) -> Vec<Answer> {
+    let mut stores = stores.clone();
+    let number = subject.read(sheet, &mut stores.rows, &mut stores.relations, &mut stores.result);
+    let read = Answer { number, stores, bytes: Vec::new() };
+    if number != 0 {
+        return vec![read];
+    }
+    let result = &read.stores.result;
+    let asked = Asked { m: result[0] as usize, l: result[1], t: result[2], count: result[3] as usize };
+    let bytes = vec![b'#'; sheet.len().saturating_add_signed(room)];
+    let written = written(subject, &read.stores, asked, &result[4..RESULT], bytes);
+    vec![read, written]
+}

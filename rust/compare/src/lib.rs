@@ -1,0 +1,11 @@
+//! Cases made from fixed seeds, and what it takes to run two implementations on them.
+
+pub mod batches;
+pub mod cases;
+pub mod fast;
+pub mod judge;
+pub mod random;
+pub mod sheets;
+pub mod subject;
+pub mod systems;
+pub mod tally;

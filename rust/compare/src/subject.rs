@@ -1,0 +1,147 @@
+//! What is compared: the outside implementation, right or with a planted fault, and the proved library with its program.
+
+use outside::elimination::Side;
+use outside::fault::Fault;
+use outside::stores::{read_on_stores, run_on_stores, write_on_stores, Asked};
+use std::env;
+use std::io::{Read, Write};
+use std::path::{Path, PathBuf};
+use std::process::{Command, Stdio};
+
+/// The calls on stores and the batch program, with the arguments of the exported functions.
+pub trait Subject {
+    fn name(&self) -> String;
+    fn run(&self, side: Side, rows: &mut [i64], relations: &mut [i64], asked: Asked, result: &mut [i64]) -> u8;
+    fn read(&self, bytes: &[u8], rows: &mut [i64], relations: &mut [i64], result: &mut [i64]) -> u8;
+    #[allow(clippy::too_many_arguments)]
+    fn write(
+        &self,
+        rows: &[i64],
+        relations: &[i64],
+        asked: Asked,
+        order: &[i64],
+        bytes: &mut [u8],
+        result: &mut [i64],
+    ) -> u8;
+    /// What the batch program writes.
+    fn batch(&self, input: &[u8]) -> Vec<u8>;
+}
+
+/// The outside implementation.
+pub struct Outside(pub Option<Fault>);
+
+impl Subject for Outside {
+    fn name(&self) -> String {
+        self.0.map_or("outside".into(), |fault| format!("{fault:?}"))
+    }
+
+    fn run(&self, side: Side, rows: &mut [i64], relations: &mut [i64], asked: Asked, result: &mut [i64]) -> u8 {
+        run_on_stores(side, rows, relations, asked, result, self.0)
+    }
+
+    fn read(&self, bytes: &[u8], rows: &mut [i64], relations: &mut [i64], result: &mut [i64]) -> u8 {
+        read_on_stores(bytes, rows, relations, result, self.0)
+    }
+
+    fn write(
+        &self,
+        rows: &[i64],
+        relations: &[i64],
+        asked: Asked,
+        order: &[i64],
+        bytes: &mut [u8],
+        result: &mut [i64],
+    ) -> u8 {
+        write_on_stores(rows, relations, asked, order, bytes, result, self.0)
+    }
+
+    fn batch(&self, input: &[u8]) -> Vec<u8> {
+        outside::batch::output(input, self.0)
+    }
+}
+
+/// The static library of `exports`, and the program `regularise`.
+pub struct Library {
+    program: PathBuf,
+}
+
+impl Library {
+    /// The library and the program, `None` where one of them is not built. The program is `target/bin/regularise` of the repository,
+    /// or what WURGALM_PROGRAM names.
+    pub fn found() -> Option<Library> {
+        let program = match env::var_os("WURGALM_PROGRAM") {
+            Some(program) => PathBuf::from(program),
+            None => Path::new(env!("CARGO_MANIFEST_DIR")).join("../../target/bin/regularise"),
+        };
+        if wurgalm::LINKED && program.exists() {
+            Some(Library { program })
+        } else {
+            None
+        }
+    }
+
+    /// As [`Library::found`], or a message and the end of the program.
+    pub fn needed() -> Library {
+        Library::found().unwrap_or_else(|| {
+            eprintln!("needs target/staticlib/libexports.a (`rt staticlib exports`) and target/bin/regularise (`rt check regularise`),");
+            eprintln!("and a build of this crate after them");
+            std::process::exit(2)
+        })
+    }
+
+    pub fn program(&self) -> &Path {
+        &self.program
+    }
+}
+
+impl Subject for Library {
+    fn name(&self) -> String {
+        "library".into()
+    }
+
+    fn run(&self, side: Side, rows: &mut [i64], relations: &mut [i64], asked: Asked, result: &mut [i64]) -> u8 {
+        let Asked { m, l, t, count } = asked;
+        match side {
+            Side::Leading => wurgalm::stores::run_leading(rows, relations, m, l, t, count, result),
+            Side::Trailing => wurgalm::stores::run_trailing(rows, relations, m, l, t, count, result),
+        }
+    }
+
+    fn read(&self, bytes: &[u8], rows: &mut [i64], relations: &mut [i64], result: &mut [i64]) -> u8 {
+        wurgalm::stores::read_sheet(bytes, rows, relations, result)
+    }
+
+    fn write(
+        &self,
+        rows: &[i64],
+        relations: &[i64],
+        asked: Asked,
+        order: &[i64],
+        bytes: &mut [u8],
+        result: &mut [i64],
+    ) -> u8 {
+        let Asked { m, l, t, count } = asked;
+        wurgalm::stores::write_sheet(rows, relations, m, l, t, count, order, bytes, result)
+    }
+
+    fn batch(&self, input: &[u8]) -> Vec<u8> {
+        output_of(Command::new(&self.program), input)
+    }
+}
+
+/// What a program writes on an input. One that ends by a signal has that said after its output.
+pub fn output_of(mut command: Command, input: &[u8]) -> Vec<u8> {
+    let mut child = command.stdin(Stdio::piped()).stdout(Stdio::piped()).spawn().expect("the program starts");
+    let mut stdin = child.stdin.take().expect("a pipe");
+    let mut output = Vec::new();
+    std::thread::scope(|scope| {
+        // A program that ends at a broken line leaves the rest of its input unread.
+        scope.spawn(move || stdin.write_all(input).ok());
+        child.stdout.take().expect("a pipe").read_to_end(&mut output).expect("the output is read");
+    });
+    let status = child.wait().expect("the program ends");
+    if status.code().is_none() {
+        output.extend(format!("{status}").bytes());
+    }
+    output
+}

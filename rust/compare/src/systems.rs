@@ -1,0 +1,311 @@
+//! Random systems, of kinds that together reach every rule and every refusal of document 01.
+
+use crate::random::Random;
+use outside::polynomial::Polynomial;
+use outside::row::Row;
+use outside::system::{Relation, Sizes, System};
+use outside::{C, DEGREE, RELATIONS};
+
+/// How large the polynomials of a system may be.
+#[derive(Clone, Copy)]
+struct Shape {
+    degree: usize,
+    size: i128,
+    /// Of a hundred entries, how many are nonzero.
+    density: usize,
+}
+
+const SMALL: Shape = Shape { degree: 2, size: 4, density: 50 };
+
+/// A system of some kind, within all limits of an input.
+pub fn system(random: &mut Random) -> System {
+    let system = match random.below(12) {
+        0 => plain(random, SMALL),
+        1 => plain(random, Shape { degree: 3, size: 6, density: 80 }),
+        2 => plain(random, Shape { degree: 1, size: 2, density: 30 }),
+        3 => staircase(random),
+        4 | 5 => hidden_triangle(random),
+        6 => dependent(random),
+        7 => many_roots(random),
+        8 => plain(random, Shape { degree: DEGREE, size: 3, density: 40 }),
+        9 => high_degree(random),
+        10 => near_limit(random),
+        _ => one_unknown(random),
+    };
+    debug_assert!(within_limits(&system));
+    system
+}
+
+/// A large system: four unknowns, five blocks, nearly all entries nonzero.
+pub fn large_system(random: &mut Random) -> System {
+    let sizes = Sizes { m: 4, l: 2, t: -2 };
+    let mut system = triangle(random, sizes, Shape { degree: 1, size: 5, density: 95 });
+    for _ in 0..4 {
+        row_operation(random, &mut system);
+    }
+    system
+}
+
+fn within_limits(system: &System) -> bool {
+    let relations = &system.relations;
+    let mut rows = system.rows.iter().chain(relations.iter().map(|r| &r.row));
+    rows.all(fits) && relations.len() <= RELATIONS
+}
+
+fn fits(row: &Row) -> bool {
+    row.degree() <= DEGREE && row.size() <= C
+}
+
+// ---- parts ----
+
+fn sizes(random: &mut Random) -> Sizes {
+    sizes_with(random, 1, 4)
+}
+
+fn sizes_with(random: &mut Random, least: usize, most: usize) -> Sizes {
+    let m = least + random.below(most - least + 1);
+    let d = random.below(5) as i64;
+    let l = match random.below(8) {
+        0 => 64,
+        1 => d - 64,
+        2 => random.between(d as i128 - 64, 64) as i64,
+        _ => random.between(-3, 4) as i64,
+    };
+    Sizes { m, l, t: l - d }
+}
+
+fn nonzero(random: &mut Random, size: i128) -> i128 {
+    let a = random.between(1, size);
+    if random.one_in(2) {
+        a
+    } else {
+        -a
+    }
+}
+
+/// A nonzero polynomial: a constant, any coefficients, or a product of linear factors.
+fn polynomial(random: &mut Random, shape: Shape) -> Polynomial {
+    match random.below(10) {
+        0..=2 => Polynomial::new(vec![nonzero(random, shape.size)]),
+        3..=5 => {
+            let mut coefficients: Vec<i128> =
+                (0..random.below(shape.degree + 1)).map(|_| random.between(-shape.size, shape.size)).collect();
+            coefficients.push(nonzero(random, shape.size));
+            Polynomial::new(coefficients)
+        }
+        6 => {
+            let mut coefficients = vec![0; random.below(shape.degree + 1)];
+            coefficients.push(nonzero(random, shape.size));
+            Polynomial::new(coefficients)
+        }
+        _ => {
+            let factors = random.below(shape.degree.min(5) + 1);
+            product(random, factors, 6).times_number(nonzero(random, 2))
+        }
+    }
+}
+
+/// A product of so many factors n - r, with r of at most the given size.
+fn product(random: &mut Random, factors: usize, size: i128) -> Polynomial {
+    let mut p = Polynomial::new(vec![1]);
+    for _ in 0..factors {
+        p = p.times(&Polynomial::linear(random.between(-size, size)));
+    }
+    p
+}
+
+/// A row with entries in some of the blocks from high down to low.
+fn row(random: &mut Random, m: usize, high: i64, low: i64, shape: Shape) -> Row {
+    let mut row = Row::default();
+    for block in low..=high {
+        for column in 1..=m {
+            if random.below(100) < shape.density {
+                row.set(block, column, polynomial(random, shape));
+            }
+        }
+    }
+    row
+}
+
+/// Mostly few relations, now and then nearly as many as there can be.
+fn relations(random: &mut Random, sizes: Sizes, shape: Shape) -> Vec<Relation> {
+    let count = match random.below(8) {
+        0..=4 => 0,
+        5 => 1 + random.below(3),
+        6 => 12 + random.below(5),
+        _ => random.below(RELATIONS + 1),
+    };
+    (0..count).map(|_| relation(random, sizes, shape)).collect()
+}
+
+fn relation(random: &mut Random, sizes: Sizes, shape: Shape) -> Relation {
+    let small = random.between(-9, 9);
+    let n0 = random.pick(&[0, small, small, small, C, -C]);
+    let thin = Shape { density: shape.density / 2, ..shape };
+    let row = if random.one_in(4) { Row::default() } else { row(random, sizes.m, sizes.l, sizes.t, thin) };
+    Relation { n0, row }
+}
+
+fn system_of(random: &mut Random, sizes: Sizes, rows: Vec<Row>) -> System {
+    let relations = relations(random, sizes, SMALL);
+    System { sizes, rows, relations }
+}
+
+// ---- kinds ----
+
+/// Entries anywhere.
+fn plain(random: &mut Random, shape: Shape) -> System {
+    let sizes = sizes(random);
+    let rows = (0..sizes.m).map(|_| row(random, sizes.m, sizes.l, sizes.t, shape)).collect();
+    system_of(random, sizes, rows)
+}
+
+/// Rows that lie in different blocks, so that they have different widths and many are shifted.
+fn staircase(random: &mut Random) -> System {
+    let sizes = sizes(random);
+    let steps = sizes.d() as usize + 1;
+    let mut rows = Vec::new();
+    for _ in 0..sizes.m {
+        let high = sizes.l - random.below(steps) as i64;
+        let low = sizes.t + random.below((high - sizes.t + 1) as usize) as i64;
+        rows.push(row(random, sizes.m, high, low, Shape { degree: 1, size: 3, density: 70 }));
+    }
+    system_of(random, sizes, rows)
+}
+
+/// A system whose leading block is triangular in a random order of the columns.
+fn triangle(random: &mut Random, sizes: Sizes, shape: Shape) -> System {
+    let order = random.permutation(sizes.m);
+    let mut rows = Vec::new();
+    for j in 0..sizes.m {
+        let mut row = row(random, sizes.m, sizes.l, sizes.t, shape);
+        order[..j].iter().for_each(|&column| row.set(sizes.l, column, Polynomial::default()));
+        row.set(sizes.l, order[j], polynomial(random, shape));
+        rows.push(row);
+    }
+    system_of(random, sizes, rows)
+}
+
+/// A triangular system that row operations, shifts down and exchanges hide.
+fn hidden_triangle(random: &mut Random) -> System {
+    let sizes = sizes_with(random, 2, 4);
+    let shape = Shape { degree: 1 + random.below(2), size: 3, density: 30 };
+    let mut system = triangle(random, sizes, shape);
+    for _ in 0..random.below(8) {
+        row_operation(random, &mut system);
+    }
+    system
+}
+
+/// One change that keeps the solutions, or nearly so; it is left out where it would pass a limit.
+fn row_operation(random: &mut Random, system: &mut System) {
+    let Sizes { m, t, .. } = system.sizes;
+    let (i, j) = (random.below(m), random.below(m));
+    if i == j {
+        let row = &system.rows[i];
+        if row.entries().all(|(block, _, _)| block > t) {
+            system.rows[i] = row.mapped(|s, p| (s - 1, p.mirrored().after_increment().mirrored()));
+        }
+    } else if random.one_in(4) {
+        system.rows.swap(i, j);
+    } else {
+        let factor = polynomial(random, Shape { degree: 1, size: 2, density: 100 });
+        let changed = system.rows[i].combined(&Polynomial::new(vec![1]), &system.rows[j], &factor);
+        if fits(&changed) {
+            system.rows[i] = changed;
+        }
+    }
+}
+
+/// A system of which one row is a combination of the others, one of them shifted where that is possible.
+fn dependent(random: &mut Random) -> System {
+    let sizes = sizes_with(random, 2, 4);
+    let mut system = triangle(random, sizes, Shape { degree: 1, size: 2, density: 30 });
+    let which = random.below(sizes.m);
+    let mut sum = Row::default();
+    for (i, row) in system.rows.iter().enumerate().filter(|(i, _)| *i != which) {
+        let up = row.mapped(|s, p| (s + 1, p.after_increment()));
+        let shifted = i % 2 == 0 && up.entries().all(|(block, _, _)| block <= sizes.l);
+        let factor = polynomial(random, SMALL);
+        sum = sum.combined(&Polynomial::new(vec![1]), if shifted { &up } else { row }, &factor);
+    }
+    if fits(&sum) {
+        system.rows[which] = sum;
+    }
+    system
+}
+
+/// Pivots that are products of several linear factors, so that many relations are listed.
+fn many_roots(random: &mut Random) -> System {
+    let sizes = sizes_with(random, 2, 4);
+    let mut rows = Vec::new();
+    for _ in 0..sizes.m {
+        let mut row = row(random, sizes.m, sizes.l, sizes.t, Shape { degree: 0, size: 2, density: 30 });
+        let factors = random.below(8);
+        row.set(sizes.l, 1 + random.below(sizes.m), product(random, factors, 3));
+        rows.push(row);
+    }
+    let mut system = system_of(random, sizes, rows);
+    system.rows.retain(fits);
+    system.rows.resize(sizes.m, Row::default());
+    system
+}
+
+/// Entries of degree near 15, such that a combination is just within the limit or just past it.
+fn high_degree(random: &mut Random) -> System {
+    let sizes = sizes_with(random, 2, 3);
+    let high = 5 + random.below(11);
+    let mut rows = Vec::new();
+    for i in 0..sizes.m {
+        let mut row = row(random, sizes.m, sizes.l, sizes.t, Shape { degree: 1, size: 2, density: 30 });
+        let power = if i == 0 { high } else { (16 - high.min(15)).saturating_sub(random.below(2)) };
+        let mut coefficients = vec![0; power];
+        coefficients.push(nonzero(random, 2));
+        coefficients[0] += random.between(-1, 1);
+        row.set(sizes.l, 1 + random.below(2), Polynomial::new(coefficients));
+        rows.push(row);
+    }
+    system_of(random, sizes, rows)
+}
+
+/// Coefficients up to ±C, or about the square root of C, such that a combination or a shift is just within the limit or past it.
+fn near_limit(random: &mut Random) -> System {
+    let sizes = sizes(random);
+    let size = random.pick(&[C, C, 16_400, 16_400, 100, C / 4]);
+    let rows = (0..sizes.m).map(|_| large_row(random, sizes, size)).collect();
+    let mut system = system_of(random, sizes, rows);
+    for relation in &mut system.relations {
+        relation.row = large_row(random, sizes, size);
+    }
+    system
+}
+
+fn large_row(random: &mut Random, sizes: Sizes, size: i128) -> Row {
+    let mut row = Row::default();
+    for _ in 0..1 + random.below(4) {
+        let block = sizes.l - random.below(sizes.d() as usize + 1) as i64;
+        let near = random.between(size - size / 8, size);
+        let a = random.pick(&[near, -near, size, -size, 1, -1, 2]);
+        let below = random.pick(&[vec![], vec![], vec![1], vec![size - 1], vec![-size, 3], vec![0, 0, 0]]);
+        let coefficients = below.into_iter().chain([a]).collect();
+        row.set(block, 1 + random.below(sizes.m), Polynomial::new(coefficients));
+    }
+    row
+}
+
+/// One unknown, so that the report is about one polynomial, often of high degree with many or large roots.
+fn one_unknown(random: &mut Random) -> System {
+    let sizes = sizes_with(random, 1, 1);
+    let factors = random.below(DEGREE + 1);
+    let size = random.pick(&[1, 2, 4, 30, 16_000]);
+    let mut p = Polynomial::new(vec![nonzero(random, 3)]);
+    for _ in 0..factors {
+        let longer = p.times(&Polynomial::linear(random.between(-size, size)));
+        if longer.size() <= C {
+            p = longer;
+        }
+    }
+    let mut row = row(random, 1, sizes.l, sizes.t, SMALL);
+    row.set(sizes.l - random.below(sizes.d() as usize + 1) as i64, 1, p);
+    system_of(random, sizes, vec![row])
+}

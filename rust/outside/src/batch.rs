@@ -1,0 +1,97 @@
+//! "A batch, on standard input": what the batch program writes.
+
+use crate::elimination::{run, Side};
+use crate::fault::{is, Fault};
+use crate::refusal::Refusal;
+use crate::sheet::{read, write, Reader, Separator, Sheet};
+
+/// "Output sheets above 65,536 bytes are refusal 1."
+pub const OUTPUT: usize = 65_536;
+/// "a line with the sheet count (0 to 1,000)"
+pub const SHEETS: i128 = 1_000;
+/// "a line `client bytes` (1 to 8; 0 to 32,768)"
+pub const SHEET_BYTES: i128 = 32_768;
+
+/// The leading-side sheet that answers the bytes of a sheet. "The input's column order is not used."
+pub fn answer(bytes: &[u8], fault: Option<Fault>) -> Result<Vec<u8>, Refusal> {
+    let sheet = read(bytes, fault)?;
+    let run = run(&sheet.system, Side::Leading, fault)?;
+    let text = write(&Sheet { system: run.system, order: run.order });
+    if text.len() > OUTPUT && !is(fault, Fault::LargeOutput) {
+        return Err(Refusal::Short);
+    }
+    Ok(text)
+}
+
+/// What the batch program writes for a whole input.
+pub fn output(input: &[u8], fault: Option<Fault>) -> Vec<u8> {
+    let mut batch = Batch { input: Reader { bytes: input, fault }, written: Vec::new(), accepted: 0, refused: 0 };
+    let whole = batch.sheets();
+    // "A batch line broken or out of range, or bytes missing or left over, writes 3 and ends the run without that last line."
+    if whole.is_none() {
+        batch.written.extend(b"3\n");
+    }
+    // "last, `accepted refused`"
+    if whole.is_some() || is(fault, Fault::CountsAfterBreak) {
+        let last = format!("{} {}\n", batch.accepted, batch.refused);
+        batch.written.extend(last.bytes());
+    }
+    batch.written
+}
+
+struct Batch<'a> {
+    input: Reader<'a>,
+    written: Vec<u8>,
+    accepted: usize,
+    refused: usize,
+}
+
+impl Batch<'_> {
+    /// All sheets with their answers, `None` at the first broken place. Numbers follow the grammar of sheets.
+    fn sheets(&mut self) -> Option<()> {
+        let count = self.input.within(Separator::LineEnd, |count| (0..=SHEETS).contains(&count)).ok()?;
+        for _ in 0..count {
+            self.sheet()?;
+        }
+        let left_over = !self.input.bytes.is_empty() && !is(self.input.fault, Fault::LeftOver);
+        if left_over {
+            None
+        } else {
+            Some(())
+        }
+    }
+
+    /// "for each sheet a line `client bytes` (1 to 8; 0 to 32,768) and that many bytes"
+    fn sheet(&mut self) -> Option<()> {
+        self.input.within(Separator::Space, |client| (1..=8).contains(&client)).ok()?;
+        let length = self.input.within(Separator::LineEnd, |length| (0..=SHEET_BYTES).contains(&length)).ok()?;
+        let there = self.input.bytes.len();
+        let mut length = length as usize;
+        if is(self.input.fault, Fault::MissingAnswered) {
+            length = length.min(there);
+        }
+        // A sheet of which bytes are missing is not answered.
+        if length > there {
+            return None;
+        }
+        let (bytes, rest) = self.input.bytes.split_at(length);
+        self.input.bytes = rest;
+        self.answer(bytes);
+        Some(())
+    }
+
+    /// "The batch program writes per sheet `0` and the leading-side sheet, or the refusal number alone on a line"
+    fn answer(&mut self, bytes: &[u8]) {
+        match answer(bytes, self.input.fault) {
+            Ok(text) => {
+                self.written.extend(b"0\n");
+                self.written.extend(text);
+                self.accepted += 1;
+            }
+            Err(refusal) => {
+                self.written.extend(format!("{}\n", refusal.number()).bytes());
+                self.refused += 1;
+            }
+        }
+    }
+}

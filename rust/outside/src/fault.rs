@@ -1,0 +1,78 @@
+//! Wrong versions of document 01, planted one at a time, to see that a comparison finds each.
+
+macro_rules! faults {
+    ($($(#[$note:meta])* $name:ident: $says:literal,)*) => {
+        #[derive(Clone, Copy, Debug, PartialEq, Eq)]
+        pub enum Fault { $($(#[$note])* $name,)* }
+
+        impl Fault {
+            pub const ALL: &'static [Fault] = &[$(Fault::$name,)*];
+
+            /// What this version does wrong.
+            pub fn says(self) -> &'static str {
+                match self { $(Fault::$name => $says,)* }
+            }
+        }
+    };
+}
+
+faults! {
+    // "Wrong turns", in the order of document 01.
+    RootsBeforeExchange: "roots of the multiplier of the row before the exchange",
+    PolynomialFactor: "a row is divided by a polynomial factor",
+    ShiftWithoutIncrement: "blocks are shifted without n + 1",
+    NoNegativeRoots: "no negative root is listed",
+    NoPositiveRoots: "no positive root is listed",
+    NoRootZero: "zero is left out as a root",
+    WiderRow: "a wider row eliminates, without the exchange",
+    // The elimination.
+    EqualWidthsExchanged: "rows of equal width are exchanged too",
+    RowBeforeExchange: "the relation is the row before the exchange",
+    RowAfterCombination: "the relation is the row after the combination",
+    RootsRepeated: "a double root is listed twice",
+    RelationSeventeen: "a seventeenth relation is let through",
+    InputRelationsLast: "the input's relations come after the listed ones",
+    SignKept: "a negative highest coefficient of g is kept",
+    ContentKept: "the row is not divided by its content",
+    LimitBeforeDivision: "the limit on coefficients is tested before the division",
+    CoefficientBeforeDegree: "refusal 8 is tested before 7",
+    RelationsTestedLast: "refusal 9 is tested after 7 and 8",
+    LooseShift: "a shift may leave coefficients up to 4 C",
+    LastColumn: "a row settles at its largest nonzero column",
+    SmallestRootReported: "the leading report is the smallest root",
+    LargestRootReported: "the trailing report is the largest root",
+    FirstDiagonalOnly: "the report looks at the first diagonal polynomial only",
+    RelationsNotMirrored: "n0 is not mirrored back on the trailing side",
+    TrailingDescending: "relations of one multiplier descend on the trailing side",
+    // Calls on stores.
+    StoresKept: "a refusal 6 to 9 leaves the stores as they are",
+    ZeroedPastNeed: "a refusal 6 to 9 zeroes the whole store",
+    LengthsFirst: "lengths are tested before sizes",
+    NumbersBeforeLengths: "numbers are tested before the relation store's length",
+    UnusedPositions: "numbers at unused positions are not looked at",
+    UnusedPlaces: "relation places past the count are not looked at",
+    LimitBelow: "the lower limit on numbers is -C - 1",
+    // Sheets.
+    LeadingZero: "a leading zero is accepted",
+    MinusZero: "-0 is accepted",
+    EleventhDigit: "an eleventh digit is judged by its range",
+    TermOrder: "the order of terms is not tested",
+    ZeroLast: "a zero last coefficient is accepted",
+    CutTokenEnds: "a cut token that cannot begin a number is 4",
+    SeparatorFirst: "the separator is judged before the token",
+    OrderBeforeRange: "the order of terms is judged before the range of a column",
+    BytesAfter: "bytes after the fourth section are let through",
+    ColumnTwice: "a column may stand twice in the order line",
+    CoefficientIsSize: "a coefficient outside ±C is 2",
+    ShortBeforeRest: "a short store is found before the rest of the sheet",
+    // Batches.
+    LeftOver: "bytes left over are let through",
+    MissingAnswered: "a sheet of which bytes are missing is answered",
+    LargeOutput: "output sheets above 65,536 bytes are written",
+    CountsAfterBreak: "the last line is written after a broken frame too",
+}
+
+/// Whether the version at hand is the wrong one that is asked for.
+pub fn is(fault: Option<Fault>, wrong: Fault) -> bool {
+    fault == Some(wrong)
+}

@@ -1,0 +1,272 @@
+//! "Sheets": reading and writing.
+
+use crate::fault::{is, Fault};
+use crate::polynomial::Polynomial;
+use crate::refusal::Refusal;
+use crate::row::Row;
+use crate::system::{block_in_range, lowest_in_range, relation_count_in_range, unknowns_in_range};
+use crate::system::{Relation, Sizes, System};
+use crate::{C, DEGREE};
+
+/// A system and a column order, empty if none.
+#[derive(Clone, Debug, PartialEq, Eq)]
+pub struct Sheet {
+    pub system: System,
+    pub order: Vec<usize>,
+}
+
+// ---- tokens ----
+
+/// "Numbers on a line are parted by one space, each line ends in byte 10."
+#[derive(Clone, Copy, PartialEq, Eq)]
+pub enum Separator {
+    Space = b' ' as isize,
+    LineEnd = b'\n' as isize,
+}
+
+/// The line ends after the last number of so many.
+fn after(number: usize, of: usize) -> Separator {
+    if number == of {
+        Separator::LineEnd
+    } else {
+        Separator::Space
+    }
+}
+
+/// "A number is at most ten digits after an optional minus, without leading zeros or `-0`."
+fn number(token: &[u8], fault: Option<Fault>) -> Option<i128> {
+    let (negative, digits) = match token {
+        [b'-', digits @ ..] => (true, digits),
+        digits => (false, digits),
+    };
+    let most = if is(fault, Fault::EleventhDigit) { 11 } else { 10 };
+    let minus_zero = negative && digits == b"0";
+    let leading_zero = digits.len() > 1 && digits[0] == b'0';
+    if digits.is_empty()
+        || digits.len() > most
+        || !digits.iter().all(u8::is_ascii_digit)
+        || minus_zero && !is(fault, Fault::MinusZero)
+        || leading_zero && !is(fault, Fault::LeadingZero)
+    {
+        return None;
+    }
+    let size = digits.iter().fold(0, |value, digit| value * 10 + i128::from(digit - b'0'));
+    Some(if negative { -size } else { size })
+}
+
+/// "bytes that end before a token's separator are 4, or 3 if they cannot begin a number"
+fn cut_token(rest: &[u8], fault: Option<Fault>) -> Refusal {
+    let can_begin = rest.is_empty() || rest == b"-" || number(rest, fault).is_some();
+    if can_begin || is(fault, Fault::CutTokenEnds) {
+        Refusal::End
+    } else {
+        Refusal::Form
+    }
+}
+
+/// What a token's value is refused with, if it is.
+type Judgement = Result<(), Refusal>;
+
+/// The fault under its number, where the value has it.
+fn refused_if(found: bool, refusal: Refusal) -> Judgement {
+    if found {
+        Err(refusal)
+    } else {
+        Ok(())
+    }
+}
+
+/// The bytes of a sheet or of a batch, and how far they are read. "A sheet's first fault in byte order counts".
+pub struct Reader<'a> {
+    pub bytes: &'a [u8],
+    pub fault: Option<Fault>,
+}
+
+impl<'a> Reader<'a> {
+    /// The next number: "within a token, its form (3, also for an eleventh digit), then its range (2 or 5), then term order or a
+    /// zero last coefficient (3)", which `judge` tells, and then the separator (3).
+    pub fn number(
+        &mut self,
+        separator: impl FnOnce(i128) -> Separator,
+        judge: impl FnOnce(i128) -> Judgement,
+    ) -> Result<i128, Refusal> {
+        // "A token runs to the next space or byte 10."
+        let is_separator = |b: &u8| *b == Separator::Space as u8 || *b == Separator::LineEnd as u8;
+        let Some(end) = self.bytes.iter().position(is_separator) else {
+            return Err(cut_token(self.bytes, self.fault));
+        };
+        let value = number(&self.bytes[..end], self.fault).ok_or(Refusal::Form)?;
+        let right_separator = refused_if(self.bytes[end] != separator(value) as u8, Refusal::Form);
+        if is(self.fault, Fault::SeparatorFirst) {
+            right_separator?;
+        }
+        judge(value)?;
+        right_separator?;
+        self.bytes = &self.bytes[end + 1..];
+        Ok(value)
+    }
+
+    /// A number under refusal 2, for sizes, blocks, columns and counts.
+    pub fn within(&mut self, separator: Separator, in_range: impl FnOnce(i128) -> bool) -> Result<i128, Refusal> {
+        self.number(|_| separator, |value| refused_if(!in_range(value), Refusal::Range))
+    }
+}
+
+/// "5 a coefficient or n0 outside ±C"
+fn within_limit(value: i128, fault: Option<Fault>) -> Judgement {
+    let refusal = if is(fault, Fault::CoefficientIsSize) { Refusal::Range } else { Refusal::Number };
+    refused_if(value.abs() > C, refusal)
+}
+
+// ---- reading ----
+
+/// The sheet that the bytes hold: "Four sections, fixed order, each after its count", and nothing after them.
+pub fn read(bytes: &[u8], fault: Option<Fault>) -> Result<Sheet, Refusal> {
+    let mut reader = Reader { bytes, fault };
+    let sizes = reader.sizes()?;
+    let rows = reader.equations(sizes)?;
+    let relations = reader.relations(sizes)?;
+    let order = reader.order(sizes)?;
+    // "4 the bytes .. go on after the fourth section"
+    if !reader.bytes.is_empty() && !is(fault, Fault::BytesAfter) {
+        return Err(Refusal::End);
+    }
+    Ok(Sheet { system: System { sizes, rows, relations }, order })
+}
+
+impl Reader<'_> {
+    /// "`3 m l t`"
+    fn sizes(&mut self) -> Result<Sizes, Refusal> {
+        self.within(Separator::Space, |count| count == 3)?;
+        let m = self.within(Separator::Space, unknowns_in_range)?;
+        let l = self.within(Separator::Space, block_in_range)?;
+        let t = self.within(Separator::LineEnd, |t| lowest_in_range(l, t))?;
+        Ok(Sizes { m: m as usize, l: l as i64, t: t as i64 })
+    }
+
+    /// "a line m and then m equation lines"
+    fn equations(&mut self, sizes: Sizes) -> Result<Vec<Row>, Refusal> {
+        let count = self.within(Separator::LineEnd, |count| count == sizes.m as i128)?;
+        (0..count).map(|_| self.equation(sizes)).collect()
+    }
+
+    /// "a line r and then r lines of n0 and an equation"
+    fn relations(&mut self, sizes: Sizes) -> Result<Vec<Relation>, Refusal> {
+        let count = self.within(Separator::LineEnd, relation_count_in_range)?;
+        (0..count).map(|_| self.relation(sizes)).collect()
+    }
+
+    fn relation(&mut self, sizes: Sizes) -> Result<Relation, Refusal> {
+        let fault = self.fault;
+        let n0 = self.number(|_| Separator::Space, |value| within_limit(value, fault))?;
+        Ok(Relation { n0, row: self.equation(sizes)? })
+    }
+
+    /// "An equation is its number of terms (0 to m × (D + 1)), then each term". "Terms go by falling s, then rising c."
+    fn equation(&mut self, sizes: Sizes) -> Result<Row, Refusal> {
+        let most = sizes.m as i128 * (sizes.d() as i128 + 1);
+        let separator = |count| if count == 0 { Separator::LineEnd } else { Separator::Space };
+        let count = self.number(separator, |count| refused_if(!(0..=most).contains(&count), Refusal::Range))?;
+        let mut row = Row::default();
+        let mut before = None;
+        for term in 1..=count as usize {
+            let (s, c) = self.term_place(sizes, before)?;
+            let p = self.coefficients(after(term, count as usize))?;
+            row.set(s, c, p);
+            before = Some((s, c));
+        }
+        Ok(row)
+    }
+
+    /// The block and the column of a term. The term order is judged at the token that breaks it.
+    fn term_place(&mut self, sizes: Sizes, before: Option<(i64, usize)>) -> Result<(i64, usize), Refusal> {
+        let any_order = is(self.fault, Fault::TermOrder);
+        let order_first = is(self.fault, Fault::OrderBeforeRange);
+        let s = self.number(
+            |_| Separator::Space,
+            |s| {
+                refused_if(!(sizes.t as i128..=sizes.l as i128).contains(&s), Refusal::Range)?;
+                let rises = before.is_some_and(|(last, _)| s > last as i128);
+                refused_if(rises && !any_order, Refusal::Form)
+            },
+        )? as i64;
+        let c = self.number(
+            |_| Separator::Space,
+            |c| {
+                let in_range = refused_if(!(1..=sizes.m as i128).contains(&c), Refusal::Range);
+                let falls = before.is_some_and(|(last, column)| s == last && c <= column as i128);
+                let in_order = refused_if(falls && !any_order, Refusal::Form);
+                if order_first {
+                    in_order.and(in_range)
+                } else {
+                    in_range.and(in_order)
+                }
+            },
+        )?;
+        Ok((s, c as usize))
+    }
+
+    /// "number of coefficients (1 to 16), coefficients from power 0". "The last coefficient of a term is nonzero."
+    fn coefficients(&mut self, line: Separator) -> Result<Polynomial, Refusal> {
+        let fault = self.fault;
+        let count = self.within(Separator::Space, |count| (1..=DEGREE as i128 + 1).contains(&count))? as usize;
+        let mut coefficients = Vec::new();
+        for place in 1..=count {
+            let last = place == count;
+            let separator = if last { line } else { Separator::Space };
+            let judge = |a| {
+                within_limit(a, fault)?;
+                refused_if(last && a == 0 && !is(fault, Fault::ZeroLast), Refusal::Form)
+            };
+            coefficients.push(self.number(|_| separator, judge)?);
+        }
+        Ok(Polynomial::new(coefficients))
+    }
+
+    /// "one line with the column order, `0` if none, otherwise m and a permutation of 1..m". A wrong order line is 2.
+    fn order(&mut self, sizes: Sizes) -> Result<Vec<usize>, Refusal> {
+        let m = sizes.m;
+        let separator = |count| if count == 0 { Separator::LineEnd } else { Separator::Space };
+        let count = self.number(separator, |count| refused_if(count != 0 && count != m as i128, Refusal::Range))?;
+        let twice = is(self.fault, Fault::ColumnTwice);
+        let mut order = Vec::new();
+        for place in 1..=count as usize {
+            let fits = |c| (1..=m as i128).contains(&c) && (twice || !order.contains(&(c as usize)));
+            let column = self.within(after(place, m), fits)?;
+            order.push(column as usize);
+        }
+        Ok(order)
+    }
+}
+
+// ---- writing ----
+
+/// The bytes of a sheet.
+pub fn write(sheet: &Sheet) -> Vec<u8> {
+    let Sizes { m, l, t } = sheet.system.sizes;
+    let mut lines = vec![format!("3 {m} {l} {t}"), m.to_string()];
+    lines.extend(sheet.system.rows.iter().map(equation_text));
+    lines.push(sheet.system.relations.len().to_string());
+    lines.extend(sheet.system.relations.iter().map(|r| format!("{} {}", r.n0, equation_text(&r.row))));
+    lines.push(order_text(&sheet.order));
+    (lines.join("\n") + "\n").into_bytes()
+}
+
+fn equation_text(row: &Row) -> String {
+    let mut terms: Vec<_> = row.entries().collect();
+    terms.sort_by_key(|&(s, c, _)| (-s, c));
+    let mut numbers = vec![terms.len() as i128];
+    for (s, c, p) in terms {
+        numbers.extend([s as i128, c as i128, p.coefficients().len() as i128]);
+        numbers.extend(p.coefficients());
+    }
+    joined(numbers)
+}
+
+fn order_text(order: &[usize]) -> String {
+    joined(std::iter::once(order.len()).chain(order.iter().copied()))
+}
+
+fn joined<T: ToString>(numbers: impl IntoIterator<Item = T>) -> String {
+    numbers.into_iter().map(|n| n.to_string()).collect::<Vec<_>>().join(" ")
+}

@@ -1,0 +1,346 @@
+//! Calls on lent stores: layout, checks, and what each call leaves in them.
+//!
+//! The three calls have the arguments of the exported functions: a lent store `result` takes the answer, its length is
+//! checked with the other lengths, and it is left as the other stores are.
+
+use crate::elimination::{run, Run, Side};
+use crate::fault::{is, Fault};
+use crate::polynomial::Polynomial;
+use crate::refusal::Refusal;
+use crate::row::Row;
+use crate::sheet::{self, Sheet};
+use crate::system::{relation_count_in_range, Relation, Sizes, System};
+use crate::{C, RELATIONS};
+
+/// "16 coefficients a column, lowest power first"
+pub const COEFFICIENTS: usize = 16;
+/// "four columns a block"
+pub const COLUMNS: usize = 4;
+/// "each row held as 320 numbers: block l first": five blocks.
+pub const ROW: usize = 5 * COLUMNS * COEFFICIENTS;
+/// "A relation is n0 and then a row."
+pub const RELATION: usize = 1 + ROW;
+/// The relation store needs 16 × 321 numbers.
+pub const RELATION_STORE: usize = RELATIONS * RELATION;
+/// Numbers that the answer of a run or a reader takes.
+pub const RESULT: usize = 8;
+
+/// The sizes and the relation count of a call, as they are given.
+#[derive(Clone, Copy, Debug, PartialEq, Eq)]
+pub struct Asked {
+    pub m: usize,
+    pub l: i64,
+    pub t: i64,
+    pub count: usize,
+}
+
+impl Asked {
+    /// "Calls on stores check sizes (2)": a relation count above 16 is one of them.
+    fn sizes(&self) -> Result<Sizes, Refusal> {
+        if !relation_count_in_range(self.count as i128) {
+            return Err(Refusal::Range);
+        }
+        Sizes::checked(self.m, self.l, self.t)
+    }
+}
+
+/// "The row store needs m × 320 numbers"
+pub fn row_store(m: usize) -> usize {
+    m * ROW
+}
+
+// ---- the layout ----
+
+/// The block, column and power that a position of a row holds.
+fn place(sizes: Sizes, position: usize) -> (i64, usize, usize) {
+    let (entry, power) = (position / COEFFICIENTS, position % COEFFICIENTS);
+    (sizes.l - (entry / COLUMNS) as i64, entry % COLUMNS + 1, power)
+}
+
+/// Where the entry at a block and column begins in a row.
+fn entry_position(sizes: Sizes, block: i64, column: usize) -> usize {
+    ((sizes.l - block) as usize * COLUMNS + column - 1) * COEFFICIENTS
+}
+
+/// The row in 320 numbers of a store. "Positions outside the system's blocks and columns hold 0."
+fn load_row(numbers: &[i64], sizes: Sizes, fault: Option<Fault>) -> Result<Row, Refusal> {
+    let mut row = Row::default();
+    for (position, held) in numbers.chunks(COEFFICIENTS).enumerate() {
+        let (block, column, _) = place(sizes, position * COEFFICIENTS);
+        let p = Polynomial::new(held.iter().map(|&a| a as i128).collect());
+        if p.is_zero() {
+            continue;
+        }
+        if block < sizes.t || column > sizes.m {
+            if is(fault, Fault::UnusedPositions) {
+                continue;
+            }
+            return Err(Refusal::Number);
+        }
+        within_limit(&p, fault)?;
+        row.set(block, column, p);
+    }
+    Ok(row)
+}
+
+/// "5 a coefficient or n0 outside ±C"
+fn within_limit(p: &Polynomial, fault: Option<Fault>) -> Result<(), Refusal> {
+    let lowest = if is(fault, Fault::LimitBelow) { -C - 1 } else { -C };
+    let fits = p.coefficients().iter().all(|a| (lowest..=C).contains(a));
+    if fits {
+        Ok(())
+    } else {
+        Err(Refusal::Number)
+    }
+}
+
+fn load_relation(numbers: &[i64], sizes: Sizes, fault: Option<Fault>) -> Result<Relation, Refusal> {
+    let n0 = numbers[0] as i128;
+    within_limit(&Polynomial::new(vec![n0]), fault)?;
+    Ok(Relation { n0, row: load_row(&numbers[1..], sizes, fault)? })
+}
+
+/// The system in two stores that are long enough. "Relation places past the count are unused: they hold 0 before and after."
+fn load(rows: &[i64], relations: &[i64], sizes: Sizes, count: usize, fault: Option<Fault>) -> Result<System, Refusal> {
+    let (used, unused) = relations[..RELATION_STORE].split_at(count * RELATION);
+    if unused.iter().any(|&a| a != 0) && !is(fault, Fault::UnusedPlaces) {
+        return Err(Refusal::Number);
+    }
+    let rows = rows[..row_store(sizes.m)].chunks(ROW).map(|numbers| load_row(numbers, sizes, fault));
+    let relations = used.chunks(RELATION).map(|numbers| load_relation(numbers, sizes, fault));
+    Ok(System { sizes, rows: rows.collect::<Result<_, _>>()?, relations: relations.collect::<Result<_, _>>()? })
+}
+
+fn store_row(row: &Row, sizes: Sizes, numbers: &mut [i64]) {
+    numbers.fill(0);
+    for (block, column, p) in row.entries() {
+        let at = entry_position(sizes, block, column);
+        for (place, &a) in numbers[at..at + COEFFICIENTS].iter_mut().zip(p.coefficients()) {
+            *place = a as i64;
+        }
+    }
+}
+
+/// Puts a system into two stores that are long enough; "numbers past the needed part stay".
+pub fn store(system: &System, rows: &mut [i64], relations: &mut [i64]) {
+    for (row, numbers) in system.rows.iter().zip(rows.chunks_mut(ROW)) {
+        store_row(row, system.sizes, numbers);
+    }
+    let needed = &mut relations[..RELATION_STORE];
+    needed.fill(0);
+    for (relation, numbers) in system.relations.iter().zip(needed.chunks_mut(RELATION)) {
+        numbers[0] = relation.n0 as i64;
+        store_row(&relation.row, system.sizes, &mut numbers[1..]);
+    }
+}
+
+/// A column order as four numbers, zeros past its end.
+fn order_numbers(order: &[usize]) -> [i64; COLUMNS] {
+    let mut numbers = [0; COLUMNS];
+    for (place, &column) in numbers.iter_mut().zip(order) {
+        *place = column as i64;
+    }
+    numbers
+}
+
+// ---- the checks ----
+
+/// "1 a store too short": each store with the numbers that it needs.
+fn long_enough(lengths: &[(usize, usize)]) -> Result<(), Refusal> {
+    if lengths.iter().all(|(length, need)| length >= need) {
+        Ok(())
+    } else {
+        Err(Refusal::Short)
+    }
+}
+
+/// "Calls on stores check sizes (2), lengths (1), numbers (5)": the system of a call, if nothing is refused. `extra` are the
+/// lengths and needs of the call's other stores.
+fn checked(
+    rows: &[i64],
+    relations: &[i64],
+    asked: Asked,
+    extra: &[(usize, usize)],
+    fault: Option<Fault>,
+) -> Result<System, Refusal> {
+    let mut lengths = vec![(rows.len(), row_store(asked.m.min(COLUMNS))), (relations.len(), RELATION_STORE)];
+    lengths.extend(extra);
+    if is(fault, Fault::LengthsFirst) {
+        long_enough(&lengths)?;
+    }
+    let sizes = asked.sizes()?;
+    if is(fault, Fault::NumbersBeforeLengths) {
+        rows.chunks_exact(ROW).take(sizes.m).try_for_each(|numbers| load_row(numbers, sizes, fault).map(drop))?;
+    }
+    long_enough(&lengths)?;
+    load(rows, relations, sizes, asked.count, fault)
+}
+
+// ---- the calls ----
+
+fn number_of(answer: Result<(), Refusal>) -> u8 {
+    answer.map_or_else(Refusal::number, |()| 0)
+}
+
+/// "A run is lent one of each: they hold its input before and its output after". The answer is the relation count, the shifts,
+/// c(1) to c(4), 1 or 0 for a root, and the root.
+pub fn run_on_stores(
+    side: Side,
+    rows: &mut [i64],
+    relations: &mut [i64],
+    asked: Asked,
+    result: &mut [i64],
+    fault: Option<Fault>,
+) -> u8 {
+    let system = match checked(rows, relations, asked, &[(result.len(), RESULT)], fault) {
+        Ok(system) => system,
+        Err(refusal) => return refusal.number(),
+    };
+    match run(&system, side, fault) {
+        Ok(run) => {
+            store(&run.system, rows, relations);
+            result[..RESULT].copy_from_slice(&run_numbers(&run));
+            0
+        }
+        Err(refusal) => {
+            zero_needed(rows, row_store(asked.m), fault);
+            zero_needed(relations, RELATION_STORE, fault);
+            zero_needed(result, RESULT, fault);
+            refusal.number()
+        }
+    }
+}
+
+fn run_numbers(run: &Run) -> [i64; RESULT] {
+    let c = order_numbers(&run.order);
+    let root = run.root.unwrap_or(0) as i64;
+    let (count, shifts) = (run.system.relations.len() as i64, run.shifts as i64);
+    [count, shifts, c[0], c[1], c[2], c[3], run.root.is_some() as i64, root]
+}
+
+/// "found during it, the needed part of each store that the call may write is zero"
+fn zero_needed(store: &mut [i64], need: usize, fault: Option<Fault>) {
+    match fault {
+        Some(Fault::StoresKept) => {}
+        Some(Fault::ZeroedPastNeed) => store.fill(0),
+        _ => store[..need].fill(0),
+    }
+}
+
+/// Reads a sheet into stores, which stay as they are on a refusal. "1 only when the sheet is otherwise whole". The answer is m,
+/// l, t, the relation count, c(1) to c(4).
+pub fn read_on_stores(
+    bytes: &[u8],
+    rows: &mut [i64],
+    relations: &mut [i64],
+    result: &mut [i64],
+    fault: Option<Fault>,
+) -> u8 {
+    number_of(read_to_stores(bytes, rows, relations, result, fault))
+}
+
+fn read_to_stores(
+    bytes: &[u8],
+    rows: &mut [i64],
+    relations: &mut [i64],
+    result: &mut [i64],
+    fault: Option<Fault>,
+) -> Result<(), Refusal> {
+    let fixed = [(relations.len(), RELATION_STORE), (result.len(), RESULT)];
+    if is(fault, Fault::ShortBeforeRest) {
+        long_enough(&fixed)?;
+    }
+    let Sheet { system, order } = sheet::read(bytes, fault)?;
+    long_enough(&[(rows.len(), row_store(system.sizes.m))])?;
+    long_enough(&fixed)?;
+    store(&system, rows, relations);
+    let (Sizes { m, l, t }, c) = (system.sizes, order_numbers(&order));
+    result[..RESULT].copy_from_slice(&[m as i64, l, t, system.relations.len() as i64, c[0], c[1], c[2], c[3]]);
+    Ok(())
+}
+
+/// Writes a sheet into a byte store; the answer is its length. "the writer checks its byte store's length (1) last"
+pub fn write_on_stores(
+    rows: &[i64],
+    relations: &[i64],
+    asked: Asked,
+    order: &[i64],
+    bytes: &mut [u8],
+    result: &mut [i64],
+    fault: Option<Fault>,
+) -> u8 {
+    number_of(write_from_stores(rows, relations, asked, order, bytes, result, fault))
+}
+
+fn write_from_stores(
+    rows: &[i64],
+    relations: &[i64],
+    asked: Asked,
+    order: &[i64],
+    bytes: &mut [u8],
+    result: &mut [i64],
+    fault: Option<Fault>,
+) -> Result<(), Refusal> {
+    let extra = [(order.len(), COLUMNS), (result.len(), 1)];
+    if is(fault, Fault::LengthsFirst) {
+        long_enough(&extra)?;
+    }
+    asked.sizes()?;
+    let order = order_argument(order, asked.m)?;
+    let system = checked(rows, relations, asked, &extra, fault)?;
+    let text = sheet::write(&Sheet { system, order });
+    long_enough(&[(bytes.len(), text.len())])?;
+    bytes[..text.len()].copy_from_slice(&text);
+    result[0] = text.len() as i64;
+    Ok(())
+}
+
+/// The order argument is one of the sizes: four numbers, all 0 for none, otherwise a permutation of 1..m with zeros past its end.
+/// Where fewer than four are lent there is no order to judge, and the lengths will refuse.
+fn order_argument(order: &[i64], m: usize) -> Result<Vec<usize>, Refusal> {
+    let Some(numbers) = order.get(..COLUMNS) else { return Ok(Vec::new()) };
+    if numbers.iter().all(|&c| c == 0) {
+        return Ok(Vec::new());
+    }
+    let (columns, rest) = numbers.split_at(m);
+    let is_permutation = (1..=m as i64).all(|c| columns.contains(&c));
+    if is_permutation && rest.iter().all(|&c| c == 0) {
+        Ok(columns.iter().map(|&c| c as usize).collect())
+    } else {
+        Err(Refusal::Range)
+    }
+}
+
+// ---- one polynomial of a row store ----
+
+/// "the caller gets back the part of the row store that holds one polynomial, named by row, block and column; outside the sizes,
+/// or of a store too short, it is the empty part"
+pub fn polynomial(rows: &[i64], m: usize, l: i64, t: i64, row: usize, block: i64, column: usize) -> &[i64] {
+    match polynomial_place(rows, m, l, t, row, block, column) {
+        Ok(at) => &rows[at..at + COEFFICIENTS],
+        Err(_) => &[],
+    }
+}
+
+/// "and a check on the same values returns 2 or 1"
+pub fn check_polynomial(rows: &[i64], m: usize, l: i64, t: i64, row: usize, block: i64, column: usize) -> u8 {
+    number_of(polynomial_place(rows, m, l, t, row, block, column).map(drop))
+}
+
+fn polynomial_place(
+    rows: &[i64],
+    m: usize,
+    l: i64,
+    t: i64,
+    row: usize,
+    block: i64,
+    column: usize,
+) -> Result<usize, Refusal> {
+    let sizes = Sizes::checked(m, l, t)?;
+    let inside = (1..=m).contains(&row) && (t..=l).contains(&block) && (1..=m).contains(&column);
+    if !inside {
+        return Err(Refusal::Range);
+    }
+    long_enough(&[(rows.len(), row_store(m))])?;
+    Ok((row - 1) * ROW + entry_position(sizes, block, column))
+}

@@ -1,0 +1,83 @@
+//! What calls on stores leave, and the order of their checks.
+
+use outside::elimination::Side;
+use outside::stores::*;
+
+const K3: Asked = Asked { m: 1, l: 1, t: 0, count: 0 };
+
+/// (n-3)x(n+1) - x(n) in stores with 9 past the needed part.
+fn k3_stores() -> (Vec<i64>, Vec<i64>, Vec<i64>) {
+    let (mut rows, mut relations) = (vec![0; ROW + 2], vec![0; RELATION_STORE + 2]);
+    (rows[0], rows[1], rows[64]) = (-3, 1, -1);
+    rows[ROW..].fill(9);
+    relations[RELATION_STORE..].fill(9);
+    (rows, relations, vec![9; RESULT + 2])
+}
+
+#[test]
+fn accepted() {
+    let (mut rows, mut relations, mut result) = k3_stores();
+    let before = (rows.clone(), relations.clone());
+    assert_eq!(run_on_stores(Side::Leading, &mut rows, &mut relations, K3, &mut result, None), 0);
+    assert_eq!((rows, relations), before);
+    assert_eq!(result, [0, 0, 1, 0, 0, 0, 1, 3, 9, 9]);
+}
+
+#[test]
+fn refused_during_the_work() {
+    let (mut rows, mut relations, mut result) = k3_stores();
+    rows[..ROW].fill(0);
+    assert_eq!(run_on_stores(Side::Trailing, &mut rows, &mut relations, K3, &mut result, None), 6);
+    assert!(rows[..ROW].iter().chain(&relations[..RELATION_STORE]).chain(&result[..RESULT]).all(|&a| a == 0));
+    assert_eq!(
+        (&rows[ROW..], &relations[RELATION_STORE..], &result[RESULT..]),
+        (&[9; 2][..], &[9; 2][..], &[9; 2][..])
+    );
+}
+
+#[test]
+fn refused_before_the_work() {
+    let refusal = |asked, change: fn(&mut Vec<i64>, &mut Vec<i64>, &mut Vec<i64>)| {
+        let (mut rows, mut relations, mut result) = k3_stores();
+        change(&mut rows, &mut relations, &mut result);
+        let before = (rows.clone(), relations.clone(), result.clone());
+        let number = run_on_stores(Side::Leading, &mut rows, &mut relations, asked, &mut result, None);
+        assert_eq!((rows, relations, result), before);
+        number
+    };
+    assert_eq!(refusal(Asked { m: 0, ..K3 }, |rows, _, _| rows.clear()), 2);
+    assert_eq!(refusal(Asked { count: 17, ..K3 }, |_, _, result| result.clear()), 2);
+    assert_eq!(refusal(Asked { l: i64::MAX, t: i64::MIN, ..K3 }, |_, _, _| ()), 2);
+    assert_eq!(refusal(K3, |rows, _, result| (rows[0], *result) = (i64::MIN, vec![])), 1);
+    assert_eq!(refusal(K3, |_, relations, _| relations.truncate(RELATION_STORE - 1)), 1);
+    assert_eq!(refusal(K3, |rows, _, _| rows[0] = 268_435_456), 5);
+    assert_eq!(refusal(K3, |rows, _, _| rows[16] = 1), 5);
+    assert_eq!(refusal(K3, |_, relations, _| relations[RELATION_STORE - 1] = 1), 5);
+}
+
+#[test]
+fn one_polynomial() {
+    let (rows, _, _) = k3_stores();
+    assert_eq!(polynomial(&rows, 1, 1, 0, 1, 0, 1)[..2], [-1, 0]);
+    assert_eq!(check_polynomial(&rows, 1, 1, 0, 1, 0, 1), 0);
+    assert_eq!(polynomial(&rows, 1, 1, 0, 2, 0, 1), []);
+    assert_eq!(check_polynomial(&rows, 1, 1, 0, 2, 0, 1), 2);
+    assert_eq!(check_polynomial(&rows[..319], 1, 1, 0, 1, 0, 1), 1);
+    assert_eq!(check_polynomial(&rows[..319], 1, 1, -4, 1, 0, 1), 2);
+}
+
+#[test]
+fn written() {
+    let (rows, relations, mut result) = k3_stores();
+    let text = b"3 1 1 0\n1\n2 1 1 2 -3 1 0 1 1 -1\n0\n0\n";
+    let mut bytes = vec![b'#'; text.len() + 1];
+    assert_eq!(write_on_stores(&rows, &relations, K3, &[0; 4], &mut bytes, &mut result, None), 0);
+    assert_eq!(
+        (&bytes[..text.len()], bytes[text.len()], result[0], result[1]),
+        (&text[..], b'#', text.len() as i64, 9)
+    );
+    let short = &mut bytes[..text.len() - 1];
+    assert_eq!(write_on_stores(&rows, &relations, K3, &[0; 4], short, &mut result, None), 1);
+    assert_eq!(write_on_stores(&rows, &relations, K3, &[2, 0, 0, 0], &mut [], &mut result, None), 2);
+    assert_eq!(write_on_stores(&rows, &relations, K3, &[1], &mut [], &mut result, None), 1);
+}

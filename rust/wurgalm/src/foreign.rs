@@ -1,0 +1,42 @@
+//! The symbols of `libexports.a`. Rattle passes a slice as its pointer and its length.
+
+macro_rules! foreign {
+    ($(fn $name:ident($($argument:ident: $kind:ty),* $(,)?) -> u8;)*) => {
+        #[cfg(archive)]
+        extern "C" {
+            $(pub fn $name($($argument: $kind),*) -> u8;)*
+        }
+
+        $(
+            #[cfg(not(archive))]
+            #[allow(clippy::too_many_arguments, clippy::missing_safety_doc)]
+            pub unsafe fn $name($(_: $kind),*) -> u8 {
+                panic!("built without libexports.a: run `rt staticlib exports`, then build again")
+            }
+        )*
+    };
+}
+
+foreign! {
+    fn wurgalm_run_leading(
+        rows: *mut i64, rows_length: usize, relations: *mut i64, relations_length: usize,
+        m: usize, l: i64, t: i64, count: usize,
+        result: *mut i64, result_length: usize,
+    ) -> u8;
+    fn wurgalm_run_trailing(
+        rows: *mut i64, rows_length: usize, relations: *mut i64, relations_length: usize,
+        m: usize, l: i64, t: i64, count: usize,
+        result: *mut i64, result_length: usize,
+    ) -> u8;
+    fn wurgalm_read_sheet(
+        bytes: *const u8, bytes_length: usize,
+        rows: *mut i64, rows_length: usize, relations: *mut i64, relations_length: usize,
+        result: *mut i64, result_length: usize,
+    ) -> u8;
+    fn wurgalm_write_sheet(
+        rows: *const i64, rows_length: usize, relations: *const i64, relations_length: usize,
+        m: usize, l: i64, t: i64, count: usize, order: *const i64, order_length: usize,
+        bytes: *mut u8, bytes_length: usize,
+        result: *mut i64, result_length: usize,
+    ) -> u8;
+}

@@ -1,0 +1,102 @@
+//! The proved regulariser from Rust.
+//!
+//! [`stores`] has the exported functions as they are: calls on lent stores, which answer with a refusal number. Below it
+//! are the same calls with their answers taken apart. The exported functions have no precondition, so nothing here is
+//! tested before a call; document 01 says what each call does with every argument.
+//!
+//! Rows lie in stores of 64-bit numbers, 320 a row; see [`row_store`] and [`RELATION_STORE`].
+
+mod foreign;
+pub mod stores;
+
+/// Whether the static library was there when this crate was built. Without it every call panics.
+pub const LINKED: bool = cfg!(archive);
+
+/// Numbers that hold one row.
+pub const ROW: usize = 320;
+/// Numbers that hold one relation: n0 and a row.
+pub const RELATION: usize = 321;
+/// Numbers that the relation store needs.
+pub const RELATION_STORE: usize = 16 * RELATION;
+
+/// Numbers that the row store of a system with m unknowns needs.
+pub const fn row_store(m: usize) -> usize {
+    m * ROW
+}
+
+/// Unknowns, highest block, lowest block.
+#[derive(Clone, Copy, Debug, PartialEq, Eq)]
+pub struct Sizes {
+    pub m: usize,
+    pub l: i64,
+    pub t: i64,
+}
+
+/// A refusal under its number, 1 to 9.
+#[derive(Clone, Copy, Debug, PartialEq, Eq)]
+pub struct Refusal(pub u8);
+
+/// What an accepted run reports; its rows and relations are in the stores.
+#[derive(Clone, Copy, Debug, PartialEq, Eq)]
+pub struct Report {
+    pub relations: usize,
+    pub shifts: usize,
+    /// c(1) to c(m), zeros past its end.
+    pub order: [i64; 4],
+    /// The largest integer root of a diagonal polynomial; the smallest on the trailing side.
+    pub root: Option<i64>,
+}
+
+/// What a sheet holds beside the rows and relations, which are in the stores.
+#[derive(Clone, Copy, Debug, PartialEq, Eq)]
+pub struct Heading {
+    pub sizes: Sizes,
+    pub relations: usize,
+    /// Zeros if the sheet has no column order.
+    pub order: [i64; 4],
+}
+
+fn accepted<T>(number: u8, answer: T) -> Result<T, Refusal> {
+    if number == 0 {
+        Ok(answer)
+    } else {
+        Err(Refusal(number))
+    }
+}
+
+fn report(number: u8, result: [i64; 8]) -> Result<Report, Refusal> {
+    let [relations, shifts, a, b, c, d, any, root] = result;
+    let root = if any == 1 { Some(root) } else { None };
+    accepted(number, Report { relations: relations as usize, shifts: shifts as usize, order: [a, b, c, d], root })
+}
+
+/// Regularises the leading side of the system in the stores.
+pub fn run_leading(rows: &mut [i64], relations: &mut [i64], sizes: Sizes, count: usize) -> Result<Report, Refusal> {
+    let mut result = [0; 8];
+    let number = stores::run_leading(rows, relations, sizes.m, sizes.l, sizes.t, count, &mut result);
+    report(number, result)
+}
+
+/// Regularises the trailing side of the system in the stores.
+pub fn run_trailing(rows: &mut [i64], relations: &mut [i64], sizes: Sizes, count: usize) -> Result<Report, Refusal> {
+    let mut result = [0; 8];
+    let number = stores::run_trailing(rows, relations, sizes.m, sizes.l, sizes.t, count, &mut result);
+    report(number, result)
+}
+
+/// Reads a sheet into the stores.
+pub fn read_sheet(bytes: &[u8], rows: &mut [i64], relations: &mut [i64]) -> Result<Heading, Refusal> {
+    let mut result = [0; 8];
+    let number = stores::read_sheet(bytes, rows, relations, &mut result);
+    let [m, l, t, relations, order @ ..] = result;
+    let sizes = Sizes { m: m as usize, l, t };
+    accepted(number, Heading { sizes, relations: relations as usize, order })
+}
+
+/// Writes the sheet of the system in the stores to the beginning of `bytes`, and tells its length.
+pub fn write_sheet(rows: &[i64], relations: &[i64], heading: &Heading, bytes: &mut [u8]) -> Result<usize, Refusal> {
+    let mut result = [0; 1];
+    let Sizes { m, l, t } = heading.sizes;
+    let number = stores::write_sheet(rows, relations, m, l, t, heading.relations, &heading.order, bytes, &mut result);
+    accepted(number, result[0] as usize)
+}

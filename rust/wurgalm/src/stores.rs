@@ -1,0 +1,110 @@
+//! The exported functions, as safe Rust: each answers 0 or its refusal number, and takes its answer in the lent store `result`.
+//!
+//! They are safe on every slice: their proofs show that they read and write inside the slices they are lent, and end.
+
+use crate::foreign;
+
+/// Eight numbers in `result`: relation count, shifts, c(1) to c(4), 1 or 0 for a root, the root.
+pub fn run_leading(
+    rows: &mut [i64],
+    relations: &mut [i64],
+    m: usize,
+    l: i64,
+    t: i64,
+    count: usize,
+    result: &mut [i64],
+) -> u8 {
+    // SAFETY: three slices that are borrowed for the call, each by its own pointer and length.
+    unsafe {
+        foreign::wurgalm_run_leading(
+            rows.as_mut_ptr(),
+            rows.len(),
+            relations.as_mut_ptr(),
+            relations.len(),
+            m,
+            l,
+            t,
+            count,
+            result.as_mut_ptr(),
+            result.len(),
+        )
+    }
+}
+
+/// As [`run_leading`], for the trailing side.
+pub fn run_trailing(
+    rows: &mut [i64],
+    relations: &mut [i64],
+    m: usize,
+    l: i64,
+    t: i64,
+    count: usize,
+    result: &mut [i64],
+) -> u8 {
+    // SAFETY: as above.
+    unsafe {
+        foreign::wurgalm_run_trailing(
+            rows.as_mut_ptr(),
+            rows.len(),
+            relations.as_mut_ptr(),
+            relations.len(),
+            m,
+            l,
+            t,
+            count,
+            result.as_mut_ptr(),
+            result.len(),
+        )
+    }
+}
+
+/// Eight numbers in `result`: m, l, t, relation count, c(1) to c(4).
+pub fn read_sheet(bytes: &[u8], rows: &mut [i64], relations: &mut [i64], result: &mut [i64]) -> u8 {
+    // SAFETY: as above; `bytes` is only read.
+    unsafe {
+        foreign::wurgalm_read_sheet(
+            bytes.as_ptr(),
+            bytes.len(),
+            rows.as_mut_ptr(),
+            rows.len(),
+            relations.as_mut_ptr(),
+            relations.len(),
+            result.as_mut_ptr(),
+            result.len(),
+        )
+    }
+}
+
+/// One number in `result`: the length. `order` is four numbers.
+#[allow(clippy::too_many_arguments)]
+pub fn write_sheet(
+    rows: &[i64],
+    relations: &[i64],
+    m: usize,
+    l: i64,
+    t: i64,
+    count: usize,
+    order: &[i64],
+    bytes: &mut [u8],
+    result: &mut [i64],
+) -> u8 {
+    // SAFETY: as above; `rows`, `relations` and `order` are only read.
+    unsafe {
+        foreign::wurgalm_write_sheet(
+            rows.as_ptr(),
+            rows.len(),
+            relations.as_ptr(),
+            relations.len(),
+            m,
+            l,
+            t,
+            count,
+            order.as_ptr(),
+            order.len(),
+            bytes.as_mut_ptr(),
+            bytes.len(),
+            result.as_mut_ptr(),
+            result.len(),
+        )
+    }
+}

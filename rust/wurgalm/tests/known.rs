@@ -1,0 +1,42 @@
+//! K2 and K11 of document 01 through the library; nothing is done where it is not built.
+
+use wurgalm::{read_sheet, row_store, run_leading, run_trailing, write_sheet};
+use wurgalm::{Heading, Refusal, Report, Sizes, LINKED, RELATION_STORE};
+
+const K2: &[u8] = b"3 2 1 0\n2\n2 1 1 2 0 1 0 2 1 -1\n2 1 1 1 1 0 1 1 -1\n0\n0\n";
+const K2_ANSWER: &[u8] =
+    b"3 2 1 0\n2\n2 1 1 2 -1 -1 1 2 1 1\n2 1 2 2 0 1 0 2 2 -1 -1\n2\n0 2 1 1 1 1 0 1 1 -1\n-1 2 1 1 2 0 1 0 2 1 -1\n2 1 2\n";
+
+fn stores() -> (Vec<i64>, Vec<i64>) {
+    (vec![0; row_store(4)], vec![0; RELATION_STORE])
+}
+
+#[test]
+fn k2() {
+    if !LINKED {
+        return;
+    }
+    let (mut rows, mut relations) = stores();
+    let heading = read_sheet(K2, &mut rows, &mut relations).unwrap();
+    let sizes = Sizes { m: 2, l: 1, t: 0 };
+    assert_eq!(heading, Heading { sizes, relations: 0, order: [0; 4] });
+    let report = run_leading(&mut rows, &mut relations, sizes, 0).unwrap();
+    assert_eq!(report, Report { relations: 2, shifts: 1, order: [1, 2, 0, 0], root: Some(0) });
+    let mut bytes = [0; 200];
+    let heading = Heading { sizes, relations: 2, order: report.order };
+    let length = write_sheet(&rows, &relations, &heading, &mut bytes).unwrap();
+    assert_eq!(&bytes[..length], K2_ANSWER);
+    assert_eq!(write_sheet(&rows, &relations, &heading, &mut bytes[..length - 1]), Err(Refusal(1)));
+}
+
+#[test]
+fn k11() {
+    if !LINKED {
+        return;
+    }
+    let (mut rows, mut relations) = stores();
+    let heading = read_sheet(b"3 1 1 0\n1\n1 1 1 2 0 1\n0\n0\n", &mut rows, &mut relations).unwrap();
+    let report = run_trailing(&mut rows, &mut relations, heading.sizes, 0).unwrap();
+    assert_eq!(report, Report { relations: 0, shifts: 1, order: [1, 0, 0, 0], root: Some(1) });
+    assert_eq!(rows[64..66], [-1, 1]);
+}
