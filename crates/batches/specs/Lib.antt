@@ -2,5 +2,5 @@ pub mod Windows
 pub mod Faults
 pub mod Answers
 pub mod Pieces
-pub mod Traces
 pub mod Lines
+pub mod Traces
