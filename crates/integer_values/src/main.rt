@@ -2,26 +2,11 @@
 // size, 1 where it lies within ±C and else 0, its negation, its quotients by 15 and -15, its remainder by -16, and the greatest
 // common divisor of its size and 65535. The least i64 has no negation, and its line ends after the test of its range.
 use integers::BOUND;
-use libc::STDOUT_FILENO;
+use printing::print;
+use printing::print_signed;
+use printing::print_size;
 ghost use Prim.Native.Nat.{_^_, _<_};
 ghost use lib.IntN.{natAbs};
-
-fn print(word: &[u8]) {
-    io::write_all(STDOUT_FILENO, word);
-}
-
-fn print_size(n: u64) {
-    print(b" ");
-    io::print_decimal(STDOUT_FILENO, n);
-}
-
-fn print_signed(a: i64) {
-    print(b" ");
-    if integers::is_negative(a) {
-        print(b"-");
-    }
-    io::print_decimal(STDOUT_FILENO, integers::magnitude(a));
-}
 
 fn print_range(a: i64) {
     print(b"value");

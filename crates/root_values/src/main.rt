@@ -1,25 +1,14 @@
 // Prints the integer roots of some polynomials, ascending, and then the smallest and the largest. The polynomials, by their
 // coefficients from power 0 up: (n + 3)(n - 2), n^3 - n, n^2 + 1, a constant, the product of n - k for k from -7 to 7,
 // n + 268435399, whose root is a prime in size, and (n - 16383)^2.
-use libc::STDOUT_FILENO;
+use printing::print;
+use printing::print_signed;
 use roots::RootList;
 ghost use Prim.Native.Nat.{_≤_};
 ghost use lib.Dec.{T};
 ghost use lib.ListN.{length};
 ghost use Rattle.rules.specs.Limits.{small};
 ghost use Rattle.rules.specs.Rows.{every};
-
-fn print(word: &[u8]) {
-    io::write_all(STDOUT_FILENO, word);
-}
-
-fn print_signed(a: i64) {
-    print(b" ");
-    if integers::is_negative(a) {
-        print(b"-");
-    }
-    io::print_decimal(STDOUT_FILENO, integers::magnitude(a));
-}
 
 fn print_list(all: RootList)
     requires { ⌜ all .count ≤ 16 ⌝ }

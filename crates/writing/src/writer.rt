@@ -15,7 +15,7 @@ ghost use Rattle.writing.specs.WriterChecks.{Checked, callOf};
 ghost use Rattle.rules.specs.SheetCalls.{writeCall};
 ghost use Rattle.rows.specs.Validity.{sizesOf};
 
-fn put_byte(bytes: &mut [u8], at: usize, b: u8) -> usize
+pub fn put_byte(bytes: &mut [u8], at: usize, b: u8) -> usize
     requires { ⌜ at + 1 < 2 ^ 64 ⌝ }
     ensures { λ r. ⌜ Put (now (bytes .entry)) at (b ∷ []) 1 (now (bytes .exit)) r ⌝ }
 {
@@ -27,7 +27,7 @@ fn put_byte(bytes: &mut [u8], at: usize, b: u8) -> usize
 }
 
 // The digits of a number, those of its tenth first.
-fn put_digits(bytes: &mut [u8], at: usize, n: u64) -> usize
+pub fn put_digits(bytes: &mut [u8], at: usize, n: u64) -> usize
     requires { ⌜ at + 20 < 2 ^ 64 ⌝ }
     ensures { λ r. ⌜ Put (now (bytes .entry)) at (digitsOf n) 20 (now (bytes .exit)) r ⌝ }
 {
@@ -221,7 +221,7 @@ fn put_relations(bytes: &mut [u8], at: usize, relations: &[i64], count: usize, l
 }
 
 // A line with one number.
-fn put_count(bytes: &mut [u8], at: usize, n: usize) -> usize
+pub fn put_count(bytes: &mut [u8], at: usize, n: usize) -> usize
     requires { ⌜ at + 21 < 2 ^ 64 ⌝ }
     ensures { λ r. ⌜ Put (now (bytes .entry)) at (line (pos n ∷ [])) 21 (now (bytes .exit)) r ⌝ }
 {

@@ -8,7 +8,7 @@ use denote.Ref.{now}
 use lib.IntN.{ℤ}
 use Rattle.rules.specs.Elimination.{Side}
 use Rattle.rules.specs.Stores.{Sizes}
-use Rattle.reduction.specs.Progress.{sideOf}
+use Rattle.sides.specs.Lent.{sideOf}
 use Rattle.rows.specs.Validity.{sizesOf}
 use Rattle.elimination.specs.CallLaws.{resultOf, callOf}
 use Rattle.exports.specs.Results.{kept}

@@ -1,0 +1,6 @@
+pub mod Windows
+pub mod Faults
+pub mod Answers
+pub mod Pieces
+pub mod Lines
+pub mod Traces

@@ -1,0 +1,247 @@
+// A batch, piece by piece: the line with the sheet count, the line of each sheet, the answer to one sheet, and the last line.
+// All of these are public entry points: no `requires`, and contracts that give the result, and the lent store, by equations
+// with `rules`. `crates/batches/specs/Traces.antt` says that they, called in order, make the output of a whole batch.
+ghost use mathlib.Core.Path.{_≡_};
+ghost use mathlib.Core.List.{[], _∷_};
+ghost use Prim.Native.Nat.{min, _≤_};
+ghost use lib.IntN.{pos};
+ghost use lib.ListN.{length, take};
+ghost use Rattle.rules.specs.Numbers.{lines};
+ghost use Rattle.batches.specs.Answers.{callOf, answerCall};
+ghost use Rattle.batches.specs.Pieces.{begunOf, lineOf, countedOf, textOf, refusalLine, closeLine};
+
+// The sheets still to come, and the answers so far.
+pub struct Batch {
+    pub left: usize,
+    pub accepted: usize,
+    pub refused: usize,
+}
+
+// What a batch begins with; refusal 0 or 3. The line is `taken` bytes long.
+pub struct Begun {
+    pub refusal: u8,
+    pub taken: usize,
+    pub batch: Batch,
+}
+
+// The client and the byte count of a sheet; refusal 0 or 3. The line is `taken` bytes long.
+pub struct SheetLine {
+    pub refusal: u8,
+    pub taken: usize,
+    pub client: usize,
+    pub bytes: usize,
+}
+
+// The answer to one sheet: the refusal, or 0 and the number of bytes that the output begins with.
+pub struct AnswerResult {
+    pub refusal: u8,
+    pub length: usize,
+}
+
+// A line of text, with zeros past its end.
+pub struct TextLine {
+    pub bytes: [u8; 24],
+    pub length: usize,
+}
+
+// ---- lines that are read
+
+// A line is decided by its first 24 bytes: two numbers of at most ten digits and a minus, with their separators.
+fn window(bytes: &[u8]) -> &[u8]
+    ensures { λ r. ⌜ now r ≡ take 24 (now (bytes .entry)) ⌝ }
+{
+    if bytes.len() <= 24 {
+        bytes
+    } else {
+        &bytes[..24]
+    }
+}
+
+// "a line with the sheet count (0 to 1,000)". The bytes are the rest of the input, or a part from its start of at least 24.
+pub fn begin(bytes: &[u8]) -> Begun
+    ensures { λ r. ⌜ r ≡ begunOf (now (bytes .entry)) ⌝ }
+{
+    let n = tokens::number_between(window(bytes), 0, 0, 1000, 10);
+    if n.refusal != 0 {
+        return Begun {
+            refusal: 3,
+            taken: 0,
+            batch: Batch {
+                left: 0,
+                accepted: 0,
+                refused: 0,
+            },
+        };
+    }
+    Begun {
+        refusal: 0,
+        taken: n.at,
+        batch: Batch {
+            left: n.value as usize,
+            accepted: 0,
+            refused: 0,
+        },
+    }
+}
+
+fn no_line() -> SheetLine
+    ensures { λ r. ⌜ r ≡ record { refusal = 3; taken = 0; client = 0; bytes = 0 } ⌝ }
+{
+    SheetLine {
+        refusal: 3,
+        taken: 0,
+        client: 0,
+        bytes: 0,
+    }
+}
+
+// "a line `client bytes` (1 to 8; 0 to 32,768)". The bytes are as for `begin`.
+pub fn line(bytes: &[u8]) -> SheetLine
+    ensures { λ r. ⌜ r ≡ lineOf (now (bytes .entry)) ⌝ }
+{
+    let w = window(bytes);
+    let client = tokens::number_between(w, 0, 1, 8, 32);
+    if client.refusal != 0 {
+        return no_line();
+    }
+    let size = tokens::number_between(w, client.at, 0, 32768, 10);
+    if size.refusal != 0 {
+        return no_line();
+    }
+    SheetLine {
+        refusal: 0,
+        taken: size.at,
+        client: client.value as usize,
+        bytes: size.value as usize,
+    }
+}
+
+// ---- the answer to one sheet
+
+fn no_answer(refusal: u8) -> AnswerResult
+    ensures { λ r. ⌜ r ≡ record { refusal = refusal; length = 0 } ⌝ }
+{
+    AnswerResult { refusal, length: 0 }
+}
+
+// "Output sheets above 65,536 bytes are refusal 1": the writer is lent at most so many bytes.
+fn lent_bytes(length: usize) -> usize
+    ensures { λ r. ⌜ r ≡ min length 65536 ⌝ }
+{
+    if length < 65536 { length } else { 65536 }
+}
+
+// The answer, worked out in stores of the largest sizes.
+fn answer_in(
+    bytes: &[u8],
+    rows: &mut [i64],
+    relations: &mut [i64],
+    output: &mut [u8],
+) -> AnswerResult
+    requires { ⌜ (1280 ≤ length (now rows)) × (5136 ≤ length (now relations)) ⌝ }
+    ensures { λ r. ⌜ callOf r (now (output .exit)) ≡ answerCall (now (bytes .entry)) (now (output .entry)) ⌝ }
+{
+    let sheet = sheets::read_sheet(bytes, rows, relations);
+    if sheet.refusal != 0 {
+        return no_answer(sheet.refusal);
+    }
+    let sizes = sheet.sizes;
+    let run = elimination::run_leading(rows, relations, sizes, sheet.relations);
+    if run.refusal != 0 {
+        return no_answer(run.refusal);
+    }
+    let order = run.order;
+    let lent = lent_bytes(output.len());
+    let written = sheets::write_sheet(
+        rows,
+        relations,
+        sizes,
+        run.relations,
+        order,
+        &mut output[..lent],
+    );
+    AnswerResult {
+        refusal: written.refusal,
+        length: written.length,
+    }
+}
+
+// One sheet: "`0` and the leading-side sheet, or the refusal number". The output begins with the sheet that answers, without the
+// line `0`; on a refusal it is unchanged.
+pub fn answer(bytes: &[u8], output: &mut [u8]) -> AnswerResult
+    ensures { λ r. ⌜ callOf r (now (output .exit)) ≡ answerCall (now (bytes .entry)) (now (output .entry)) ⌝ }
+{
+    let mut rows = [0i64; 1280];
+    let mut relations = [0i64; 5136];
+    answer_in(bytes, &mut rows, &mut relations, output)
+}
+
+// ---- counting
+
+// One sheet fewer to come, and one more accepted (0) or refused. Where none is to come, or 1,000 are counted, the batch stays.
+pub fn counted(batch: Batch, refusal: u8) -> Batch
+    ensures { λ r. ⌜ r ≡ countedOf batch refusal ⌝ }
+{
+    if batch.left == 0 {
+        return batch;
+    }
+    if 1000 <= batch.accepted {
+        return batch;
+    }
+    if 1000 <= batch.refused {
+        return batch;
+    }
+    if refusal == 0 {
+        return Batch {
+            left: batch.left - 1,
+            accepted: batch.accepted + 1,
+            refused: batch.refused,
+        };
+    }
+    Batch {
+        left: batch.left - 1,
+        accepted: batch.accepted,
+        refused: batch.refused + 1,
+    }
+}
+
+// ---- lines that are written
+
+// "the refusal number alone on a line"; `0` before the sheet that answers.
+pub fn refusal_line(refusal: u8) -> TextLine
+    ensures { λ r. ⌜ r ≡ textOf (refusalLine refusal) ⌝ }
+{
+    let mut bytes = [0u8; 24];
+    let length = writing::writer::put_count(&mut bytes, 0, refusal as usize);
+    TextLine { bytes, length }
+}
+
+fn tally_line(accepted: usize, refused: usize) -> TextLine
+    requires { ⌜ (accepted ≤ 1000) × (refused ≤ 1000) ⌝ }
+    ensures { λ r. ⌜ r ≡ textOf (lines ((pos accepted ∷ pos refused ∷ []) ∷ [])) ⌝ }
+{
+    let mut bytes = [0u8; 24];
+    let after = writing::writer::put_digits(&mut bytes, 0, accepted as u64);
+    let next = writing::writer::put_byte(&mut bytes, after, 32);
+    let length = writing::writer::put_count(&mut bytes, next, refused);
+    TextLine { bytes, length }
+}
+
+// "last, `accepted refused`"; 3 where sheets are still to come, `over` bytes are left over, or more than 1,000 are counted.
+pub fn close(batch: Batch, over: usize) -> TextLine
+    ensures { λ r. ⌜ r ≡ textOf (closeLine batch over) ⌝ }
+{
+    if batch.left != 0 {
+        return refusal_line(3);
+    }
+    if over != 0 {
+        return refusal_line(3);
+    }
+    if 1000 < batch.accepted {
+        return refusal_line(3);
+    }
+    if 1000 < batch.refused {
+        return refusal_line(3);
+    }
+    tally_line(batch.accepted, batch.refused)
+}
