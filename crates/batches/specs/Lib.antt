@@ -4,3 +4,4 @@ pub mod Answers
 pub mod Pieces
 pub mod Lines
 pub mod Traces
+pub mod Bounds

@@ -42,9 +42,9 @@ answerShown c = shown (textOf (refusalLine (c .refusal))) ++ take (c .length) (c
 pub data Sheets : Batch → List ℕ → List ℕ → Type 0 where
   -- No sheet is to come: the bytes that are left are left over.
   closed : {b : Batch} {rest : List ℕ} → b .left ≡ 0 → Sheets b rest (shown (textOf (closeLine b (length rest))))
-  -- The line of the next sheet is broken or out of range.
-  line-broken : {b : Batch} {rest : List ℕ} (w : List ℕ) → b .left ≢ 0 → Window w rest → lineOf w .refusal ≢ 0
-      → Sheets b rest (shown (textOf (refusalLine (lineOf w .refusal))))
+  -- The line of the next sheet is broken or out of range: the batch is closed with a sheet to come.
+  line-broken : {b : Batch} {rest : List ℕ} (w : List ℕ) (over : ℕ) → b .left ≢ 0 → Window w rest → lineOf w .refusal ≢ 0
+      → Sheets b rest (shown (textOf (closeLine b over)))
   -- Bytes of the next sheet are missing: the batch is closed with a sheet to come.
   bytes-missing : {b : Batch} {rest : List ℕ} (w : List ℕ) (over : ℕ) → b .left ≢ 0 → Window w rest → lineOf w .refusal ≡ 0
       → length (drop (lineOf w .taken) rest) < lineOf w .bytes → Sheets b rest (shown (textOf (closeLine b over)))
@@ -131,7 +131,7 @@ module _ {w rest : List ℕ} (v : Window w rest) where
 -- ---- what is written
 
 -- One answer, and how it is counted.
-answer-shown : (sheet store : List ℕ) → mostBytes ≤ length store → answerShown (answerCall sheet store) ≡ answerBytes (answerSheet sheet)
+pub answer-shown : (sheet store : List ℕ) → mostBytes ≤ length store → answerShown (answerCall sheet store) ≡ answerBytes (answerSheet sheet)
 unfolding answerBy
 answer-shown sheet store h =
     let c = answerCall sheet store in
@@ -185,9 +185,9 @@ pub sheets-output : {b : Batch} {rest output : List ℕ} → Counted b → Sheet
 sheets-output {b} {rest} few (closed none) =
     shown-text (closeLine b (length rest)) ∙ close-closing b few none rest
     ∙ sym (ap (λ k. answers k (tallyOf b) rest) none ∙ answers-none (tallyOf b) rest)
-sheets-output {b} {rest} few (line-broken w some v z) =
+sheets-output {b} {rest} few (line-broken w over some v z) =
     let (n, e, three) = line-unread v z in
-    shown-text (refusalLine (lineOf w .refusal)) ∙ ap refusalLine three ∙ refusal-broken
+    shown-text (closeLine b over) ∙ close-broken b over some
     ∙ sym (next-answers b rest some ∙ answers-fault (pred (b .left)) (tallyOf b) rest n e)
 sheets-output {b} {rest} few (bytes-missing w over some v z short) =
     shown-text (closeLine b over) ∙ close-broken b over some ∙ sym (missing b rest w some v z short)
@@ -267,7 +267,7 @@ module _ (store : List ℕ) (long : mostBytes ≤ length store) where
       by-line : Dec (lineOf rest .refusal ≡ 0) → ((n : ℕ) (more : List ℕ) → (output : List ℕ) × Sheets (countedOf b n) more output)
           → (output : List ℕ) × Sheets b rest output
       by-line (yes z) others = by-size z (leb size (length after)) (leb→le size (length after)) (nleb→lt size (length after)) others
-      by-line (no z) others = (shown (textOf (refusalLine (lineOf rest .refusal))), line-broken rest some (all-bytes rest) z)
+      by-line (no z) others = (shown (textOf (closeLine b 0)), line-broken rest 0 some (all-bytes rest) z)
 
   trace-exists : (input : List ℕ) → (output : List ℕ) × Trace input output
   trace-exists input = go (ℕ-discrete (begunOf input .refusal) 0)

@@ -7,6 +7,7 @@
 --   Filled w before need r after   the window r has what w had and then what was read, `need` bytes unless the input ended
 --
 -- Main statements
+--   filled-held, held-long   what a window holds that was read on, and how many bytes a window holds
 --   past-within              a window without some of its first bytes lies in the store
 --   slid-next                bytes moved to the front of their store one after the other
 --   front-kept               the first bytes over a read behind them
@@ -16,10 +17,10 @@ use native.Mathlib.Nat.{zero-add, sub-zero, le-refl}
 use native.Mathlib.Omega.{arith}
 use mathlib.Core.Path.{_≡_, refl, sym, _∙_, ap, ap₂}
 use mathlib.Core.Logic.{_⊎_}
-use mathlib.Core.Bool.{Bool, true, false}
+use mathlib.Core.Bool.{Bool, true, false, false≢true}
 use mathlib.Core.List.{List, _++_}
-use lib.ListN.{length, take, drop, getD, set, length-drop}
-use lib.Seq.{paste, paste-suc, take-paste, length-paste, length-paste-head, getD-append-add, getD-drop, take-take}
+use lib.ListN.{length, take, drop, getD, set, length-drop, take-append-drop}
+use lib.Seq.{paste, paste-suc, take-paste, length-paste, length-paste-head, getD-append-add, getD-drop, take-take, length-take-le}
 use Rattle.streams.specs.declared.input.Window.{Window}
 
 abbrev pub windowOf : ℕ → ℕ → Bool → Window
@@ -40,6 +41,7 @@ pub record Filled (w : Window) (before : List ℕ) (need : ℕ) (r : Window) (af
   pub longer : size w ≤ size r
   pub kept : take (size w) (held r after) ≡ held w before
   pub enough : (need ≤ size r) ⊎ (r .ended ≡ true)
+  pub ends : w .ended ≡ true → (r .ended ≡ true) × (size r ≡ size w)
 
 pub past-within : {n : ℕ} {w : Window} {k : ℕ} → Within n w → k ≤ size w → Within n (windowOf (w .from + k) (w .to) (w .ended))
 past-within within fits = record { ordered = omega (arith, within .ordered); inside = within .inside }
@@ -65,9 +67,18 @@ slid-next d from i h =
 
 -- ---- reading on
 
+-- A window that was read on holds what it held and then what came.
+pub filled-held : {w : Window} {before : List ℕ} {need : ℕ} {r : Window} {after : List ℕ} → Filled w before need r after
+    → held r after ≡ held w before ++ drop (size w) (held r after)
+filled-held {w} {r = r} {after = after} filled =
+    sym (take-append-drop (size w) (held r after)) ∙ ap (λ l. l ++ drop (size w) (held r after)) (filled .kept)
+
+pub held-long : {w : Window} (store : List ℕ) → Within (length store) w → length (held w store) ≡ size w
+held-long {w} store within = length-take-le (size w) (drop (w .from) store) (rw length-drop (omega (arith, within .inside)))
+
 pub same-filled : (w : Window) (store : List ℕ) (need : ℕ) → Within (length store) w → (need ≤ size w) ⊎ (w .ended ≡ true) → Filled w store need w store
 same-filled w store need within enough =
-    record { within = within; longer = le-refl (size w); kept = take-take (size w) (size w) (drop (w .from) store) (le-refl (size w)); enough = enough }
+    record { within = within; longer = le-refl (size w); kept = take-take (size w) (size w) (drop (w .from) store) (le-refl (size w)); enough = enough; ends = λ e. (e, refl) }
 
 -- A read behind the first bytes leaves them as they were.
 pub front-kept : (before store after : List ℕ) (there to : ℕ) → there ≤ to → take there store ≡ take there before → take to after ≡ take to store
@@ -78,15 +89,15 @@ front-kept before store after there to longer kept same =
 pub read-filled : (before : List ℕ) (there need to : ℕ) (ended : Bool) (after : List ℕ) → there ≤ to → to ≤ length before
     → take there after ≡ take there before → (need ≤ to) ⊎ (ended ≡ true) → Filled (windowOf 0 there false) before need (windowOf 0 to ended) after
 read-filled before there need to ended after longer inside kept enough =
-    record { within = record { ordered = omega arith; inside = inside }; longer = omega arith; kept = same; enough = rw sub-zero enough }
+    record { within = record { ordered = omega arith; inside = inside }; longer = omega arith; kept = same; enough = rw sub-zero enough; ends = λ e. absurd (false≢true e) }
   where
     same : take (there - 0) (take (to - 0) (drop 0 after)) ≡ take (there - 0) (drop 0 before)
     same = rw (sub-zero there, sub-zero to) (take-take there to after longer ∙ kept)
 
 pub slid-filled : (w : Window) (before : List ℕ) (need : ℕ) (moved : List ℕ) (r : Window) (after : List ℕ) → Within (length before) w
-    → moved ≡ paste before 0 (drop (w .from) before) (size w) → Filled (windowOf 0 (size w) false) moved need r after → Filled w before need r after
-slid-filled w before need moved r after within slid filled =
-    record { within = rw size-moved at (filled .within); longer = rw sub-zero at (filled .longer); kept = same; enough = filled .enough }
+    → w .ended ≡ false → moved ≡ paste before 0 (drop (w .from) before) (size w) → Filled (windowOf 0 (size w) false) moved need r after → Filled w before need r after
+slid-filled w before need moved r after within more slid filled =
+    record { within = rw size-moved at (filled .within); longer = rw sub-zero at (filled .longer); kept = same; enough = filled .enough; ends = λ e. absurd (false≢true (sym more ∙ e)) }
   where
     fits : size w ≤ length (drop (w .from) before)
     fits = rw length-drop (omega arith)

@@ -38,7 +38,7 @@ returns-3 c =
     let args = start .args in
     let slid = c .before .before .before .before .before .before .slide in
     slid-filled (args .w) (now (args .store)) (args .need) (slid .last .0) (c .before .before .read-until .result)
-    (c .before .before .read-until .last .0) (start .pre .0) (slid .ensures) (c .before .before .read-until .ensures)
+    (c .before .before .read-until .last .0) (start .pre .0) (c .before .before .before .before .before .before .before .before .if2 .left) (slid .ensures) (c .before .before .read-until .ensures)
 
 pub fill-spec : {M : Type 1} → statement M
 fill-spec =
