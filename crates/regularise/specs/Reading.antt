@@ -27,7 +27,7 @@ past-held w store k h =
     ∙ ap (λ n. drop k (take n (drop (w .from) store))) whole
 
 -- Nothing comes where the input has ended.
-came-none : {w : Window} {store : List ℕ} {need : ℕ} {r : Window} {after : List ℕ} → Filled w store need r after → Within (length after) r
+pub came-none : {w : Window} {store : List ℕ} {need : ℕ} {r : Window} {after : List ℕ} → Filled w store need r after → Within (length after) r
     → w .ended ≡ true → drop (size w) (held r after) ≡ []
 came-none {w} {r = r} {after = after} filled within e =
     drop-of-length-le (held r after) {i = size w} (omega (arith, held-long after within, filled .ends e .1))

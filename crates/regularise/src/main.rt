@@ -6,7 +6,7 @@ ghost use Prim.Native.Nat.{_+_, _-_, _≤_, _<_};
 ghost use lib.ListN.{length, take};
 ghost use lib.Seq.{paste};
 ghost use Rattle.streams.specs.Windows.{held, Within};
-ghost use Rattle.regularise.specs.Runs.{Answered, Found, Going};
+ghost use Rattle.regularise.specs.Runs.{Answered, Found, Going, Progress, Begins, Ended, Written};
 
 // A line of a batch is decided by its first 24 bytes.
 const LINE: usize = 24;
@@ -103,7 +103,8 @@ fn next_sheet(store: &mut [u8], window: streams::input::Window) -> Next
 // One sheet and its answer.
 fn sheet(store: &mut [u8], output: &mut [u8], run: Run) -> Run
     requires { ⌜ (length (now store) ≡ 65536) × (length (now output) ≡ 131136) × Going run × (0 < run .batch .left) ⌝ }
-    ensures { λ r. ⌜ Going r × (r .whole ≡ true → r .batch .left < run .batch .left) ⌝ }
+    ensures { λ r. ⌜ Going r × (r .whole ≡ true → r .batch .left < run .batch .left)
+        × Progress run (now (store .entry)) (now (output .entry)) r (now (store .exit)) (now (output .exit)) ⌝ }
 {
     let batch = run.batch;
     let at = run.at;
@@ -130,8 +131,9 @@ fn sheet(store: &mut [u8], output: &mut [u8], run: Run) -> Run
 
 // Every sheet, up to one that is broken.
 fn sheets(store: &mut [u8], output: &mut [u8], begun: Run) -> Run
-    requires { ⌜ (length (now store) ≡ 65536) × (length (now output) ≡ 131136) × Going begun ⌝ }
-    ensures { λ r. ⌜ Going r ⌝ }
+    requires { ⌜ (length (now store) ≡ 65536) × (length (now output) ≡ 131136) × Going begun × (begun .whole ≡ true) ⌝ }
+    ensures { λ r. ⌜ Going r × (r .whole ≡ true → r .batch .left ≡ 0)
+        × Progress begun (now (store .entry)) (now (output .entry)) r (now (store .exit)) (now (output .exit)) ⌝ }
 {
     let mut run = begun;
     while 0 < run.batch.left {
@@ -149,9 +151,9 @@ struct Opened {
     run: Run,
 }
 
-fn open(store: &mut [u8]) -> Opened
+fn first_line(store: &mut [u8]) -> Opened
     requires { ⌜ length (now store) ≡ 65536 ⌝ }
-    ensures { λ r. ⌜ Going (r .run) ⌝ }
+    ensures { λ r. ⌜ Begins r (now (store .exit)) ⌝ }
 {
     let w = streams::input::fill(store, streams::input::start(), LINE);
     let from = w.from;
@@ -170,9 +172,9 @@ fn open(store: &mut [u8]) -> Opened
 }
 
 // What a batch ends with: `accepted refused`, or `3` where sheets are still to come or bytes are left over. The place behind it.
-fn end(store: &mut [u8], output: &mut [u8], last: Run) -> usize
-    requires { ⌜ (length (now store) ≡ 65536) × (length (now output) ≡ 131136) × Going last ⌝ }
-    ensures { λ r. ⌜ r ≤ 131136 ⌝ }
+fn last_line(store: &mut [u8], output: &mut [u8], last: Run) -> usize
+    requires { ⌜ (length (now store) ≡ 65536) × (length (now output) ≡ 131136) × Going last × (last .whole ≡ true → last .batch .left ≡ 0) ⌝ }
+    ensures { λ r. ⌜ Ended last (now (store .entry)) (now (output .entry)) r (now (output .exit)) ⌝ }
 {
     let over = streams::input::fill(store, last.window, 1);
     put_line(
@@ -182,17 +184,18 @@ fn end(store: &mut [u8], output: &mut [u8], last: Run) -> usize
     )
 }
 
-// A whole batch, and the place behind what is still gathered.
+// A whole batch. What it has written, and then what is gathered up to the place that it gives, is the output for what it has
+// read.
 fn batch(store: &mut [u8], output: &mut [u8]) -> usize
     requires { ⌜ (length (now store) ≡ 65536) × (length (now output) ≡ 131136) ⌝ }
-    ensures { λ r. ⌜ r ≤ 131136 ⌝ }
+    ensures { λ r. ⌜ Written r (now (output .exit)) ⌝ }
 {
-    let opened = open(store);
+    let opened = first_line(store);
     if opened.refusal != 0 {
         return put_line(output, 0, batches::refusal_line(opened.refusal));
     }
     let last = sheets(store, output, opened.run);
-    end(store, output, last)
+    last_line(store, output, last)
 }
 
 // Room for the output that is kept back, one answer and the last line.

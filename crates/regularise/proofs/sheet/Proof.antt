@@ -1,28 +1,24 @@
--- `regularise::sheet` meets its contract: the window stays in its store, an answer has room, and one sheet less is to come.
+-- `regularise::sheet` meets its contract.
 -- Assumes nothing.
-use Prim.Native.Nat.{ℕ, _≤_, _<_, zero-le}
+use Prim.Native.Nat.{_<_}
 use native.Mathlib.Omega.{arith}
-use mathlib.Core.Path.{_≡_}
+use mathlib.Core.Path.{_≡_, sym, _∙_, ap, subst}
 use mathlib.Core.Logic.{_≢_}
-use mathlib.Core.Bool.{Bool, true, false, cond, false≢true}
+use mathlib.Core.Bool.{true, false, false≢true}
 use borrow.Author.Needs.{needs}
-use lib.Dec.{T, leb, leb→le}
-use Rattle.batches.specs.declared.Batch.{Batch}
-use Rattle.batches.specs.Pieces.{countedOf, Counted, counted-few, counted-left}
+use borrow.Author.Tests.{not-true, not-false}
+use denote.Ref.{now}
+use lib.ListN.{length}
+use Rattle.batches.specs.Pieces.{countedOf, counted-left, counted-few}
+use Rattle.streams.specs.Gathering.{drained-few}
 use Rattle.streams.specs.Windows.{past-within}
+use Rattle.regularise.specs.Turns.{turn-broken, turn-answered}
 use Rattle.regularise.proofs.sheet.Statement.{statement}
 use Rattle.regularise.proofs.sheet.Tie as tie
 
--- what is gathered still is at most what is kept back
-drained-few : (at most : ℕ) → cond (leb at most) at 0 ≤ most
-drained-few at most = go (leb at most) (leb→le at most)
-  where
-    go : (t : Bool) → (T t → at ≤ most) → cond t at 0 ≤ most
-    go true h = h tt
-    go false h = zero-le
-
-one-less : (b : Batch) → Counted b → 0 < b .left → (n : ℕ) → countedOf b n .left < b .left
-one-less b few some n = rw (counted-left b few (λ e. let h : 0 < b .left = some in omega arith) n) (omega arith)
+-- a sheet is to come
+some : (c : tie.Start) → c .args .run .batch .left ≢ 0
+some c e = omega arith
 
 next-sheet-requires : tie.Need-next-sheet-requires
 next-sheet-requires c κs = search needs
@@ -32,9 +28,12 @@ same-length c = search needs
 
 returns : tie.Need-returns
 returns c =
-    let start = c .before .before .before .before .before .before .before .before .before .before in (
-      record { window = c .before .before .before .before .before .next-sheet .ensures .within; gathered = start .pre .2 .gathered; counted = start .pre .2 .counted },
+    let start = c .before .before .before .before .before .before .before .before .before .before in
+    let next = c .before .before .before .before .before .next-sheet in
+    let args = start .args in (
+      record { window = next .ensures .within; gathered = start .pre .2 .gathered; counted = start .pre .2 .counted },
       λ e. absurd (false≢true e),
+      turn-broken (args .run) (now (args .store)) (now (args .output)) (some start) (next .result) (next .last .0) (next .ensures) (not-true _ (c .if1 .taken)),
     )
 
 add-to : tie.Need-add-to
@@ -73,17 +72,20 @@ same-length-3 c = search needs
 returns-2 : tie.Need-returns-2
 returns-2 c =
     let start = c .before .before .before .before .before .before .before .before .before .before .before .before .before .before .before .before .before .before .before .before .before in
-    let found = c .before .before .before .before .before .before .before .before .before .before .before .before .before .before .before .before .next-sheet .ensures in
-    let batch = start .args .run .batch in
-    let number = c .before .before .before .before .before .before .put-answer .result .refusal in
-    let few : Counted batch = start .pre .2 .counted in
-    let some : batch .left ≢ 0 = λ e. let h : 0 < batch .left = start .pre .3 in omega arith in (
+    let args = start .args in
+    let next = c .before .before .before .before .before .before .before .before .before .before .before .before .before .before .before .before .next-sheet in
+    let put = c .before .before .before .before .before .before .put-answer in
+    let b = args .run .batch in
+    let few = start .pre .2 .counted in
+    rw (c .before .before .before .past .ensures, c .before .before .counted .ensures, c .drain .ensures) (
       record {
-        window = rw (c .before .before .before .past .ensures) (past-within (found .within) (found .few));
-        gathered = rw (c .drain .ensures) (drained-few (c .before .before .before .before .before .before .put-answer .result .at) 65536);
-        counted = rw (c .before .before .counted .ensures) (counted-few batch few some number);
+        window = past-within (next .ensures .within) (next .ensures .few);
+        gathered = drained-few (put .result .at) 65536;
+        counted = counted-few b few (some start) (put .result .refusal);
       },
-      λ _. rw (c .before .before .counted .ensures) (one-less batch few (start .pre .3) number),
+      (λ _. omega (arith, counted-left b few (some start) (put .result .refusal), start .pre .3)),
+      turn-answered (args .run) (now (args .store)) (now (args .output)) (some start) (next .result) (next .last .0) (next .ensures)
+          (not-false _ (c .before .before .before .before .before .before .before .before .before .before .before .if1 .left)) (omega (arith, start .pre .1)) (next .kept .0 ∙ start .pre .0) (put .result) (put .last .1 .0) (put .ensures),
     )
 
 pub sheet-spec : {M : Type 1} → statement M

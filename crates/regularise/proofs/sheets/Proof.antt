@@ -1,57 +1,74 @@
--- `regularise::sheets` meets its contract. The measure is the number of sheets to come.
+-- `regularise::sheets` meets its contract. The loop's invariant: the run is whole, and has come from where it began. Each turn but a
+-- broken one leaves fewer sheets to come: that is the measure.
 -- Assumes nothing.
-use mathlib.Core.Bool.{Bool, true, false, not, false≢true}
-use mathlib.Core.Path.{_≡_, refl, sym, _∙_}
+use native.Mathlib.Omega.{arith}
+use mathlib.Core.Path.{_≡_, sym, _∙_}
+use mathlib.Core.Bool.{true, false≢true}
 use borrow.Author.Needs.{needs}
+use borrow.Author.Tests.{not-true, not-false}
+use denote.Ref.{now}
 use lib.ListN.{length}
-use Rattle.regularise.specs.Runs.{Going}
+use Rattle.regularise.specs.Runs.{Going, Progress}
+use Rattle.regularise.specs.Turns.{progress-none, progress-next}
 use Rattle.regularise.proofs.sheets.Statement.{statement}
 use Rattle.regularise.proofs.sheets.Tie as tie
 
 abbrev Inv-loop : tie.InvT-loop
-Inv-loop store₀ output₀ run₀ store output run = (length store ≡ 65536) × (length output ≡ 131136) × Going run
+Inv-loop store₀ output₀ run₀ store output run =
+    (length store ≡ 65536) × (length output ≡ 131136) × Going run × (run .whole ≡ true) × Progress run₀ store₀ output₀ run store output
 
 abbrev μ-loop : tie.MeasureT-loop
 μ-loop store₀ output₀ run₀ store output run = run .batch .left
 
 loop-holds : tie.Need-loop-holds Inv-loop μ-loop
-loop-holds c = c .before .before .pre
+loop-holds c =
+    let start = c .before .before in
+    let pre = start .pre in
+    (pre .0, pre .1, pre .2, pre .3, progress-none (start .args .begun) (now (start .args .store)) (now (start .args .output)) (pre .3))
 
 sheet-requires : tie.Need-sheet-requires Inv-loop μ-loop
-sheet-requires c κs =
-    let inv = c .before .before .before .before .loop .inv in
-    (inv .0, inv .1, inv .2, search needs)
+sheet-requires c κs = search needs
 
-unbroken : (b : Bool) → not b ≡ false → b ≡ true
-unbroken true e = refl
-unbroken false e = absurd (false≢true (sym e))
+-- the run after a turn
+turned : (c : tie.After-sheet Inv-loop μ-loop)
+    → Progress (c .before .before .before .before .before .before .before .before .args .begun) (now (c .before .before .before .before .before .before .before .before .args .store)) (now (c .before .before .before .before .before .before .before .before .args .output)) (c .sheet .result) (c .sheet .last .0) (c .sheet .last .1 .0)
+turned c = let at = c .before .before .before .before .before .loop in progress-next (at .inv .4) (at .inv .3) (c .sheet .ensures .2)
 
 loop-less : tie.Need-loop-less Inv-loop μ-loop
-loop-less c = c .before .before .before .before .before .before .sheet .ensures .1 (unbroken (c .before .before .before .before .before .before .sheet .result .whole) (c .if2 .left))
+loop-less c = c .before .before .before .before .before .before .sheet .ensures .1 (not-false _ (c .if2 .left))
 
 loop-again : tie.Need-loop-again Inv-loop μ-loop
 loop-again c =
-    let inv = c .before .before .before .before .before .before .before .before .before .before .before .loop .inv in
-    let sheet = c .before .before .before .before .before .before .sheet in
-    (sheet .kept .0 ∙ inv .0, sheet .kept .1 .0 ∙ inv .1, sheet .ensures .0)
+    let turn = c .before .before .before .before .before .before in
+    let inv = turn .before .before .before .before .before .loop .inv in (
+      turn .sheet .kept .0 ∙ inv .0,
+      turn .sheet .kept .1 .0 ∙ inv .1,
+      turn .sheet .ensures .0,
+      not-false _ (c .if2 .left),
+      turned turn,
+    )
 
 same-length : tie.Need-same-length Inv-loop μ-loop
-same-length c = c .before .before .loop .inv .0 ∙ sym (c .before .before .before .before .before .pre .0)
+same-length c = search needs
 
 same-length-2 : tie.Need-same-length-2 Inv-loop μ-loop
-same-length-2 c = c .before .before .loop .inv .1 ∙ sym (c .before .before .before .before .before .pre .1)
+same-length-2 c = search needs
 
 returns : tie.Need-returns Inv-loop μ-loop
-returns c = c .before .before .loop .inv .2
+returns c =
+    let inv = c .before .before .loop .inv in
+    (inv .2, (λ _. omega (arith, c .if1 .left)), inv .4)
 
 same-length-3 : tie.Need-same-length-3 Inv-loop μ-loop
-same-length-3 c = c .before .before .before .before .before .before .sheet .kept .0 ∙ c .before .before .before .before .before .before .before .before .before .before .before .loop .inv .0 ∙ sym (c .before .before .before .before .before .before .before .before .before .before .before .before .before .before .pre .0)
+same-length-3 c = search needs
 
 same-length-4 : tie.Need-same-length-4 Inv-loop μ-loop
-same-length-4 c = c .before .before .before .before .before .before .sheet .kept .1 .0 ∙ c .before .before .before .before .before .before .before .before .before .before .before .loop .inv .1 ∙ sym (c .before .before .before .before .before .before .before .before .before .before .before .before .before .before .pre .1)
+same-length-4 c = search needs
 
 returns-2 : tie.Need-returns-2 Inv-loop μ-loop
-returns-2 c = c .before .before .before .before .before .before .sheet .ensures .0
+returns-2 c =
+    let turn = c .before .before .before .before .before .before in
+    (turn .sheet .ensures .0, (λ e. absurd (false≢true (sym (not-true _ (c .if2 .taken)) ∙ e))), turned turn)
 
 pub sheets-spec : {M : Type 1} → statement M
 sheets-spec =
