@@ -8,8 +8,9 @@
 -- Main statements
 --   answer-right         every sheet's answer is one of those
 --   answerCall-answer    in a store of at least 65,536 bytes the call leaves the answer of `rules`
---   read-refused, run-refused, run-written   the answer, by what the three calls on stores give
---   limited              the writer, lent at most 65,536 bytes of the store, leaves in it what the whole call leaves
+--   read-refused, run-refused, run-written   the answer, by what reading and running on stores give
+--   answer-written       the writer, lent at most 65,536 bytes of the store, leaves in it what the whole call leaves
+--   call-unread, call-refused, call-written  the whole call, by what the three calls on stores gave
 use Prim.Native.Nat.{ℕ, zero, suc, min, _≤_, _<_, suc-le-suc}
 use native.Mathlib.Nat.{suc-inj, suc-ne-zero}
 use native.Mathlib.Omega.{arith}

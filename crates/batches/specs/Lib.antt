@@ -2,6 +2,6 @@ pub mod Windows
 pub mod Faults
 pub mod Answers
 pub mod Pieces
-pub mod Traces
 pub mod Lines
+pub mod Traces
 pub mod Bounds

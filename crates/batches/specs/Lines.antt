@@ -1,21 +1,22 @@
 -- What the functions that read and write the lines of a batch go by.
 --
 -- Main statements
---   window-of                  the first 24 bytes are a window
---   begun-refused, begun-read  a batch's first line, by what the window gives
---   line-refused, line-read    the line of a sheet, by what the window gives at its two numbers
---   counted-none, counted-one  the batch as it is, and with one more answer
---   text-put                   a line that was stored in 24 zeros
---   closes-broken, closes-tally   the last line, by the tests
+--   window-of                             the first 24 bytes are a window
+--   begun-refused, begun-read             a batch's first line, by what the window gives
+--   line-no-client, line-no-size, line-read   the line of a sheet, by what the window gives at its two numbers
+--   in-range                              a number that was read is not negative
+--   text-put, text-count, text-tally      a line that was stored in 24 zeros, of one number and of two
+--   stays-empty, stays-accepted, stays-refused, counts-accepted, counts-refused   the batch after one more answer, by the tests
+--   close-left, close-over, close-accepted, close-refused, close-tally            the last line, by the tests
 use Prim.Native.Nat.{ℕ, zero, suc, pred, _+_, _-_, _≤_, _<_}
 use native.Mathlib.Nat.{zero-add, le-refl, le-of-lt}
 use native.Mathlib.Numerals.{add-one, sub-one}
 use native.Mathlib.Omega.{arith}
 use mathlib.Core.Path.{_≡_, refl, sym, _∙_, ap, subst}
 use mathlib.Core.Logic.{_≢_, _⊎_, inl, inr}
-use mathlib.Core.Bool.{Bool, true, false, not, cond, _&&_}
+use mathlib.Core.Bool.{Bool, true, false, not, cond}
 use mathlib.Core.List.{List, [], _∷_, _++_, flatten, append-nil, append-assoc}
-use borrow.Author.Tests.{lt-leb, le-ltb}
+use borrow.Author.Tests.{le-leb, lt-leb, le-ltb, lt-ltb, eq-eqb}
 use lib.Dec.{T, leb, ltb, eqb, leb→le, nleb→lt}
 use lib.ListN.{length, take, drop, replicate, length-append, length-drop, length-replicate, take-append-drop, drop-of-length-le}
 use lib.Seq.{sets, sets-eq, length-take-le}
@@ -28,6 +29,7 @@ use Rattle.rules.specs.Batch.{count, closing, broken, readSize, readAfterClient
 use Rattle.tokens.specs.Fields.{field-judged, between-zero}
 use Rattle.sheets.specs.WrittenNumbers.{isNumber-decimal}
 use Rattle.writing.specs.Writer.{Put, put-then, put-same, digitsOf}
+use Rattle.rows.specs.Validity.{first-failed, second-failed, both-passed}
 use Rattle.batches.specs.declared.Batch.{Batch}
 use Rattle.batches.specs.declared.SheetLine.{SheetLine}
 use Rattle.batches.specs.Windows.{numberLine, batchLine, followed, Window, field-window, sheetLine-window, countOf, clientOf, sheetLine-is, number-short}
@@ -124,15 +126,6 @@ text-put l bytes n h e f = λ i. record { bytes = stored i; length = size i }
 
 -- ---- counting
 
-and-second : (s t u : Bool) → t ≡ false → (s && (t && u)) ≡ false
-and-second true t u e = ap (λ t. t && u) e
-and-second false t u e = refl
-
-and-third : (s t u : Bool) → u ≡ false → (s && (t && u)) ≡ false
-and-third true true u e = e
-and-third true false u e = refl
-and-third false t u e = refl
-
 module _ (b : Batch) (n : ℕ) where
   stays : countsMore b ≡ false → b ≡ countedOf b n
   unfolding countedOf
@@ -140,15 +133,19 @@ module _ (b : Batch) (n : ℕ) where
 
   pub stays-empty : b .left ≡ 0 → b ≡ countedOf b n
   unfolding countsMore
-  stays-empty e = stays (ap (λ t. t && (ltb (b .accepted) 1000 && ltb (b .refused) 1000)) (le-ltb 0 (b .left) (omega arith)))
+  stays-empty e = stays (sym (first-failed (ltb 0 (b .left)) _ _ (le-ltb 0 (b .left) (omega arith))))
 
-  pub stays-accepted : 1000 ≤ b .accepted → b ≡ countedOf b n
+  pub stays-accepted : b .left ≢ 0 → 1000 ≤ b .accepted → b ≡ countedOf b n
   unfolding countsMore
-  stays-accepted h = stays (and-second (ltb 0 (b .left)) _ (ltb (b .refused) 1000) (le-ltb (b .accepted) 1000 h))
+  stays-accepted some h =
+      stays (sym (second-failed (ltb 0 (b .left)) _ _ (lt-ltb 0 (b .left) (omega arith)) (le-ltb (b .accepted) 1000 h)))
 
-  pub stays-refused : 1000 ≤ b .refused → b ≡ countedOf b n
+  pub stays-refused : b .left ≢ 0 → b .accepted < 1000 → 1000 ≤ b .refused → b ≡ countedOf b n
   unfolding countsMore
-  stays-refused h = stays (and-third (ltb 0 (b .left)) (ltb (b .accepted) 1000) _ (le-ltb (b .refused) 1000 h))
+  stays-refused some few h =
+      stays
+      (sym (both-passed (ltb 0 (b .left)) (ltb (b .accepted) 1000) _ (lt-ltb 0 (b .left) (omega arith)) (lt-ltb (b .accepted) 1000 few))
+      ∙ le-ltb (b .refused) 1000 h)
 
   module _ (some : b .left ≢ 0) (few : b .accepted < 1000) (few' : b .refused < 1000) where
     moves : countedOf b n ≡ batchWith (pred (b .left)) (count (numbered n) (tallyOf b))
@@ -181,13 +178,17 @@ module _ (b : Batch) (over : ℕ) where
   pub close-left : b .left ≢ 0 → refusalLine 3 ≡ closeLine b over
   close-left h = refusal-broken ∙ sym (close-broken b over h)
 
-  pub close-accepted : 1000 < b .accepted → refusalLine 3 ≡ closeLine b over
+  pub close-accepted : b .left ≡ 0 → 1000 < b .accepted → refusalLine 3 ≡ closeLine b over
   unfolding closeable
-  close-accepted h = unclosed (and-second (eqb (b .left) 0) _ (leb (b .refused) 1000) (lt-leb (b .accepted) 1000 h))
+  close-accepted none h =
+      unclosed (sym (second-failed (eqb (b .left) 0) _ _ (eq-eqb (b .left) 0 none) (lt-leb (b .accepted) 1000 h)))
 
-  pub close-refused : 1000 < b .refused → refusalLine 3 ≡ closeLine b over
+  pub close-refused : b .left ≡ 0 → b .accepted ≤ 1000 → 1000 < b .refused → refusalLine 3 ≡ closeLine b over
   unfolding closeable
-  close-refused h = unclosed (and-third (eqb (b .left) 0) (leb (b .accepted) 1000) _ (lt-leb (b .refused) 1000 h))
+  close-refused none few h =
+      unclosed
+      (sym (both-passed (eqb (b .left) 0) (leb (b .accepted) 1000) _ (eq-eqb (b .left) 0 none) (le-leb (b .accepted) 1000 few))
+      ∙ lt-leb (b .refused) 1000 h)
 
   pub close-over : over ≢ 0 → refusalLine 3 ≡ closeLine b over
   unfolding closeLine closing

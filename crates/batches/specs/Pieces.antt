@@ -3,17 +3,22 @@
 -- Main definitions
 --   begunOf, lineOf            a batch's first line, and the line of a sheet, read from the bytes given
 --   countedOf                  the batch after one more answer
---   textOf l                   a line of text with zeros past its end
---   refusalText, closeText     a refusal's number alone on a line, and the last line of a batch
+--   refusalLine, closeLine     a refusal's number alone on a line, and the last line of a batch
+--   textOf l, shown t          a line at the start of 24 bytes, and the line of such a text
+--   Counted b                  a batch of at most 1,000 sheets
 --
 -- Main statements
---   begun-rest, line-rest      the bytes after so many as were taken are the rest
---   text-bytes                 the first bytes of a line of text are the line
---   refusal-answer, refusal-broken, close-closing, close-broken   the texts of `rules`
+--   shown-text                 the line of a text is the line that was put there
+--   begun-got, line-got        a refusal of 0 tells that a line was read: its numbers, and the bytes after it
+--   begun-fault, line-fault    another refusal is 3, and the line was not read
+--   counted-is, closed-is      the tests of `countedOf` and `closeLine` passed
+--   counted-left, counted-tally, counted-few   a batch of at most 1,000 sheets, counted as `rules` counts
+--   close-closing, close-broken                its last line, as `rules` closes
+--   refusal-broken, refusal-refused, refusal-accepted   the lines of `rules`
 use Prim.Native.Nat.{ℕ, zero, suc, pred, _+_, _-_, _≤_, _<_, zero-le}
 use native.Mathlib.Nat.{suc-ne-zero}
 use native.Mathlib.Omega.{arith}
-use mathlib.Core.Path.{_≡_, refl, sym, _∙_, ap, ap₂, subst}
+use mathlib.Core.Path.{_≡_, refl, sym, _∙_, ap, subst}
 use mathlib.Core.Logic.{_≢_}
 use mathlib.Core.Bool.{Bool, cond, _&&_}
 use mathlib.Core.List.{List, [], _∷_, _++_}
@@ -26,6 +31,7 @@ use Rattle.rules.specs.Calls.{overwrite}
 use Rattle.rules.specs.Numbers.{newline, lines, Read, got, fault, field, between}
 use Rattle.rules.specs.Sheets.{always}
 use Rattle.rules.specs.Batch.{SheetLine as ReadLine, Answer as SheetAnswer, Tally, accepted, refusedWith, count, broken, closing, answerBytes, readSheetLine}
+use Rattle.rows.specs.Validity.{first-failed, both-passed}
 use Rattle.batches.specs.declared.Batch.{Batch}
 use Rattle.batches.specs.declared.Begun.{Begun}
 use Rattle.batches.specs.declared.SheetLine.{SheetLine}
@@ -76,7 +82,7 @@ numbered (suc n) = refusedWith (suc n)
 
 -- A sheet is still to come, in a batch of at most 1,000.
 unfoldable pub countsMore : Batch → Bool
-countsMore b = ltb 0 (b .left) && (ltb (b .accepted) 1000 && ltb (b .refused) 1000)
+countsMore b = ltb 0 (b .left) && ltb (b .accepted) 1000 && ltb (b .refused) 1000
 
 -- One sheet fewer to come, and one answer more; a batch in which no sheet is still to come stays as it is.
 unfoldable pub countedOf : Batch → ℕ → Batch
@@ -108,7 +114,7 @@ refusalLine n = lines ((pos n ∷ []) ∷ [])
 -- "last, `accepted refused`"; a batch with sheets still to come, or bytes left over, is broken, and so is one that counts more
 -- than 1,000 sheets.
 unfoldable pub closeable : Batch → Bool
-closeable b = eqb (b .left) 0 && (leb (b .accepted) 1000 && leb (b .refused) 1000)
+closeable b = eqb (b .left) 0 && leb (b .accepted) 1000 && leb (b .refused) 1000
 
 unfoldable pub closeLine : Batch → ℕ → List ℕ
 unfolding closeable closing tallyOf broken
@@ -188,16 +194,17 @@ pub counted-is : (b : Batch) (n : ℕ) → b .left ≢ 0 → b .accepted < 1000 
     → countedOf b n ≡ batchWith (pred (b .left)) (count (numbered n) (tallyOf b))
 unfolding countedOf countsMore
 counted-is b n some few few' =
-    let more = batchWith (pred (b .left)) (count (numbered n) (tallyOf b)) in
-    ap₂ (λ s t. cond (s && t) more b) (lt-ltb 0 (b .left) (omega arith))
-    (ap₂ _&&_ (lt-ltb (b .accepted) 1000 few) (lt-ltb (b .refused) 1000 few'))
+    ap (λ t. cond t (batchWith (pred (b .left)) (count (numbered n) (tallyOf b))) b)
+    (sym (both-passed (ltb 0 (b .left)) (ltb (b .accepted) 1000) _ (lt-ltb 0 (b .left) (omega arith)) (lt-ltb (b .accepted) 1000 few))
+    ∙ lt-ltb (b .refused) 1000 few')
 
 pub closed-is : (b : Batch) (over : ℕ) → b .left ≡ 0 → b .accepted ≤ 1000 → b .refused ≤ 1000
     → closeLine b over ≡ closing (tallyOf b) (replicate over 0)
 unfolding closeLine closeable
 closed-is b over none few few' =
-    ap₂ (λ s t. cond (s && t) (closing (tallyOf b) (replicate over 0)) broken) (eq-eqb (b .left) 0 none)
-    (ap₂ _&&_ (le-leb (b .accepted) 1000 few) (le-leb (b .refused) 1000 few'))
+    ap (λ t. cond t (closing (tallyOf b) (replicate over 0)) broken)
+    (sym (both-passed (eqb (b .left) 0) (leb (b .accepted) 1000) _ (eq-eqb (b .left) 0 none) (le-leb (b .accepted) 1000 few))
+    ∙ le-leb (b .refused) 1000 few')
 
 -- What a batch that has begun keeps: its sheets are at most 1,000.
 abbrev pub Counted : Batch → Type 0
@@ -235,8 +242,8 @@ module _ (b : Batch) (few : Counted b) where
 pub close-broken : (b : Batch) (over : ℕ) → b .left ≢ 0 → closeLine b over ≡ broken
 unfolding closeLine closeable
 close-broken b over some =
-    ap (λ s. cond (s && (leb (b .accepted) 1000 && leb (b .refused) 1000)) (closing (tallyOf b) (replicate over 0)) broken)
-    (ne-eqb (b .left) 0 some)
+    ap (λ t. cond t (closing (tallyOf b) (replicate over 0)) broken)
+    (sym (first-failed (eqb (b .left) 0) (leb (b .accepted) 1000) (leb (b .refused) 1000) (ne-eqb (b .left) 0 some)))
 
 -- ---- the lines of `rules`
 

@@ -1,5 +1,6 @@
--- A whole batch as the calls that are made for it, in order: `begin`, for each sheet `line` and `answer`, and `close`. The rest of
--- the input is seen through a window; a sheet is given whole.
+-- A whole batch as the calls that are made for it, in order: `begin`, for each sheet `line` and `answer`, and `close`, each call
+-- with the result that its contract gives. The rest of the input is seen through a window: any part from its start that has at
+-- least 24 bytes or is all of it. A sheet is given whole.
 --
 -- Main definitions
 --   Sheets batch rest output     calls from a batch on: the rest of the input, and what is written for it
@@ -18,22 +19,18 @@ use mathlib.Core.Bool.{Bool, true, false, not, cond}
 use mathlib.Core.List.{List, [], _++_, append-nil}
 use borrow.Author.Tests.{le-leb, lt-leb}
 use lib.Dec.{T, leb, leb→le, nleb→lt}
-use lib.IntN.{ℤ, pos, natAbs}
-use lib.Signed.{leZ-yes}
+use lib.IntN.{ℤ, natAbs}
 use lib.ListN.{length, take, drop, length-append, take-append-drop}
 use lib.Seq.{drop-append-le, take-at, drop-at, length-take-le}
-use Rattle.algebra.specs.Order.{≤ℤ-trans, natAbs-≤-iff}
-use Rattle.rules.specs.Numbers.{newline, got, fault, between}
-use Rattle.rules.specs.Sheets.{always}
+use Rattle.rules.specs.Numbers.{newline, got, fault}
 use Rattle.rules.specs.Batch.{mostBytes, SheetLine, Tally, count, answerSheet, answerBytes, broken, closing}
 use Rattle.rules.specs.Batch.{readSheetLine, answers, answersAfter, batchOutput}
-use Rattle.sheets.specs.Exact.{field-read}
-use Rattle.sheets.specs.WrittenTerms.{between-iff}
 use Rattle.batches.specs.declared.Batch.{Batch}
 use Rattle.batches.specs.Windows.{followed, Window, field-window, sheetLine-window}
 use Rattle.batches.specs.Answers.{AnswerCall, answerCall, answerBy, answerCall-answer, answerCall-none}
 use Rattle.batches.specs.Pieces.{readCount, begunOf, lineOf, tallyOf, numbered, countedOf, textOf, shown, shown-text, refusalLine}
 use Rattle.batches.specs.Pieces.{closeLine, batchWith, noTally, begun-inside, line-inside, begun-got, begun-fault, line-got, line-fault, Counted, counted-left, counted-tally}
+use Rattle.batches.specs.Lines.{in-range}
 use Rattle.batches.specs.Pieces.{counted-few, close-closing, close-broken, refusal-broken, refusal-refused, refusal-accepted}
 
 -- ---- the calls
@@ -212,10 +209,7 @@ batch-got input k rest e = ap answersAfter e
 -- "(0 to 1,000)"
 count-few : (input : List ℕ) (k : ℤ) (rest : List ℕ) → readCount input ≡ got k rest → natAbs k ≤ 1000
 unfolding readCount
-count-few input k rest e =
-    let judged = field-read (between (pos 0) (pos 1000)) (always newline) input k rest e .0 in
-    let range = between-iff (pos 0) (pos 1000) k .0 judged in
-    natAbs-≤-iff k .1 (≤ℤ-trans (leZ-yes tt) (range .0), range .1)
+count-few input k rest e = in-range 0 1000 newline input k rest e .2
 
 begun-few : {w input : List ℕ} → Window w input → begunOf w .refusal ≡ 0 → Counted (begunOf w .batch)
 begun-few {w} {input} v z =

@@ -296,7 +296,6 @@ pub record Window (w bytes : List ℕ) : Type 0 where
   pub joined : w ++ beyond ≡ bytes
   pub enough : (batchLine ≤ length w) ⊎ (beyond ≡ [])
 
--- All bytes read as a window is, followed by the bytes beyond it.
 followed-none : {A : Type 0} (r : Read A) → followed r [] ≡ r
 unfolding followed
 followed-none (got a rest) = ap (got a) (append-nil rest)
@@ -304,6 +303,7 @@ followed-none (fault n) = refl
 
 module _ {A : Type 0} (read : List ℕ → Read A)
     (longer : (w x : List ℕ) → batchLine ≤ length w → read (w ++ x) ≡ followed (read w) x) where
+  -- All bytes read as a window on them does, with the bytes beyond it after the rest.
   window-followed : (w bytes : List ℕ) (v : Window w bytes) → read bytes ≡ followed (read w) (v .beyond)
   window-followed w bytes v = ap read (sym (v .joined)) ∙ go (v .enough)
     where

@@ -43,9 +43,10 @@ use Rattle.roots.specs.declared.RootAnswer.{RootAnswer}
 use Rattle.roots.specs.RootSearch.{answered}
 use Rattle.theory.specs.Ending.{wholeRun-ends}
 use Rattle.theory.specs.Demands.{diagonal-nonzero}
-use Rattle.reduction.specs.Progress.{stateOf, outcomeOf, outcomeAt, Within, Listing, Kept, Ready, Reached}
-use Rattle.reduction.specs.StoreStates.{kept-same}
-use Rattle.elimination.specs.ReportLaws.{settledState, report-settled}
+use Rattle.sides.specs.Lent.{Within, Listing, Kept}
+use Rattle.reduction.specs.Progress.{stateOf, outcomeOf, outcomeAt, Ready, Reached}
+use Rattle.sides.specs.StoreStates.{kept-same}
+use Rattle.sides.specs.ReportLaws.{settledState, report-settled}
 use Rattle.reduction.specs.declared.step.Progress.{Progress}
 use Rattle.reduction.specs.declared.step.Outcome as Answer
 use Rattle.elimination.specs.declared.calls.RunResult.{RunResult}

@@ -1,3 +1,2 @@
-pub mod MirrorLaws
-pub mod ReportLaws
+pub mod TrailingLaws
 pub mod CallLaws

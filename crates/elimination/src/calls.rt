@@ -10,7 +10,8 @@ ghost use Rattle.rules.specs.Stores.{rowsOf, relationsOf, rowNeed, sizesRight};
 ghost use Rattle.rules.specs.Calls as Calls;
 ghost use Rattle.working.specs.Found.{Columns};
 ghost use Rattle.rows.specs.Validity.{sizesOf};
-ghost use Rattle.reduction.specs.Progress.{sideOf, stateOf, outcomeOf, Within, Listing, Reached};
+ghost use Rattle.sides.specs.Lent.{sideOf, Within, Listing};
+ghost use Rattle.reduction.specs.Progress.{stateOf, outcomeOf, Reached};
 ghost use Rattle.elimination.specs.CallLaws.{resultOf, callOf, Final};
 
 // The number of the refusal or 0, and for a run that accepts: how many relations the store holds, how many shifts were made,
@@ -65,7 +66,7 @@ fn accepted(
         → resultOf r ≡ Calls.acceptance (sideOf trailing) span (stateOf m (now (rows .entry)) relations p)) ⌝ }
 {
     let order = p.order;
-    let answer = crate::report::report(rows, m, order, trailing, span);
+    let answer = sides::report::report(rows, m, order, trailing, span);
     RunResult {
         refusal: 0,
         relations: p.count,
@@ -88,16 +89,16 @@ fn trailing_run(
     ensures { λ r. ⌜ Reached m (now (rows .entry)) (now (relations .entry)) (now (rows .exit)) (now (relations .exit)) 121 r
         (Elimination.trailingRun span (rowsOf m (now (rows .entry))) (relationsOf count (now (relations .entry)))) ⌝ }
 {
-    crate::mirror::mirror_rows(rows, m, span);
-    crate::mirror::mirror_relations(relations, count, span);
+    sides::mirror::mirror_rows(rows, m, span);
+    sides::mirror::mirror_relations(relations, count, span);
     let o = reduction::run::run(rows, relations, m, true, count);
     let refusal = o.refusal;
     if refusal != 0 {
         return o;
     }
     let p = o.progress;
-    crate::mirror::mirror_rows(rows, m, span);
-    crate::mirror::mirror_relations(relations, p.count, span);
+    sides::mirror::mirror_rows(rows, m, span);
+    sides::mirror::mirror_relations(relations, p.count, span);
     o
 }
 

@@ -8,8 +8,6 @@ ghost use Rattle.elimination.specs.CallLaws.{callOf};
 
 mod access;
 pub mod calls;
-mod mirror;
-mod report;
 
 pub fn run_leading(
     rows: &mut [i64],

@@ -1,2 +1,4 @@
-pub mod Numbers
+pub mod Results
 pub mod Runs
+pub mod Writes
+pub mod Reads

@@ -3,7 +3,6 @@
 -- Main definitions
 --   runNumbers r           the eight numbers of a result
 --   checkRun ..            the checks of the call: sizes (2), lengths (1), numbers (5)
---   ExportedRun            what a call did as a whole: the refusal that it returned, and every lent store afterwards
 --   exportRun side ..      the call
 --   early n, keptOr ..     the refusals that leave the result store as it was, and the store by the refusal
 --   runAfter c ..          the call, by what its run did
@@ -14,11 +13,11 @@
 --   kept-early, kept-late  the result store by the refusal
 --   run-short, run-done    the call with a result store that is too short, and with one that is long enough
 --   run-small              the result of every run is small
-use Prim.Native.Nat.{ℕ, zero, suc, _*_, _≤_, _<_, zero-le}
+use Prim.Native.Nat.{ℕ, zero, suc, _≤_, _<_, zero-le}
 use native.Mathlib.Nat.{le-trans, le-of-suc-le-suc, mul-le-mul}
 use native.Mathlib.Omega.{arith}
 use mathlib.Core.Path.{_≡_, refl, sym, _∙_, ap, ap₂, subst}
-use mathlib.Core.Bool.{Bool, true, false, _&&_, cond, and-false}
+use mathlib.Core.Bool.{Bool, true, false, _&&_, cond}
 use mathlib.Core.List.{List, [], _∷_, _++_, map}
 use borrow.Author.Tests.{le-leb, lt-leb}
 use lib.Dec.{leb}
@@ -28,58 +27,45 @@ use lib.ListN.{length}
 use Rattle.rules.specs.Limits.{columnCount}
 use Rattle.rules.specs.Rows.{All}
 use Rattle.rules.specs.Elimination.{Side, State, Outcome, going, done, refused, wholeRun}
-use Rattle.rules.specs.Stores.{Sizes, Valid, span, rowsOf, relationsOf, sizesRight, countRight, lengthsRight, numbersRight, rowNeed, checkStores}
+use Rattle.rules.specs.Stores.{Sizes, Valid, span, rowsOf, relationsOf, sizesRight, countRight, lengthsRight, numbersRight, checkStores}
 use Rattle.rules.specs.Lists.{all-map, getD-all}
 use Rattle.rules.specs.Layout.{SizeBounds, size-bounds, checkStores-order, stores-valid, countRight-iff, block-place}
 use Rattle.sheets.specs.Trimmed.{length-padTo}
 use Rattle.theory.specs.Demands.{Accepted, Ended, accepted, six, seven, eight, nine, run-ends, shifts-bounded, output-valid, diagonal-nonzero}
-use Rattle.rules.specs.Calls.{padTo, reportedOrder}
+use Rattle.rules.specs.Calls.{reportedOrder}
 use Rattle.rules.specs.Calls.{Result, Call, callRun, overwrite, zeros, refusal, unchanged, cleared, acceptance, afterRun, afterCheck}
+use Rattle.exports.specs.Results.{Exported, kept, resultNeed, none-checked, all-padTo}
 
 -- "relation count, shifts, c(1) to c(4), 1 or 0 for a root, the root"
 unfoldable pub runNumbers : Result → List ℤ
 runNumbers r =
     pos (r .relations) ∷ pos (r .shifts) ∷ (map pos (r .order) ++ (pos (cond (r .hasRoot) 1 0) ∷ r .root ∷ []))
 
-abbrev pub runNeed : ℕ
-runNeed = 8
-
 -- "Calls on stores check sizes (2), lengths (1), numbers (5)"; the result store is one of the stores.
 unfoldable pub checkRun : Sizes → ℕ → List ℤ → List ℤ → List ℤ → ℕ
 unfolding sizesRight countRight lengthsRight numbersRight
 checkRun z count rowStore relationStore resultStore =
     let numbers : ℕ = cond (numbersRight z count rowStore relationStore) 0 5 in
-    let lengths : ℕ = cond (lengthsRight (z .m) rowStore relationStore && leb runNeed (length resultStore)) numbers 1 in
+    let lengths : ℕ = cond (lengthsRight (z .m) rowStore relationStore && leb resultNeed (length resultStore)) numbers 1 in
     cond (sizesRight z && countRight count) lengths 2
 
-pub record ExportedRun : Type 0 where
-  pub refusal : ℕ
-  pub rowStore : List ℤ
-  pub relationStore : List ℤ
-  pub resultStore : List ℤ
-
--- Refusals 1 to 5: "found before the work begins, stores are unchanged"
-unfoldable pub unrun : ℕ → List ℤ → List ℤ → List ℤ → ExportedRun
-unrun n rowStore relationStore resultStore =
-    record { refusal = n; rowStore = rowStore; relationStore = relationStore; resultStore = resultStore }
-
 -- An acceptance, or a refusal 6 to 9: "all other fields 0", "the needed part of each store that the call may write is zero".
-unfoldable pub ran : Call → List ℤ → ExportedRun
+unfoldable pub ran : Call → List ℤ → Exported
 unfolding overwrite runNumbers
 ran c resultStore =
     record { refusal = c .result .refusal; rowStore = c .rowStore; relationStore = c .relationStore; resultStore = overwrite (runNumbers (c .result)) resultStore }
 
-unfoldable pub afterRunCheck : Side → Sizes → ℕ → List ℤ → List ℤ → List ℤ → ℕ → ExportedRun
-unfolding ran callRun unrun
+unfoldable pub afterRunCheck : Side → Sizes → ℕ → List ℤ → List ℤ → List ℤ → ℕ → Exported
+unfolding ran callRun kept
 afterRunCheck side z count rowStore relationStore resultStore zero = ran (callRun side z count rowStore relationStore) resultStore
-afterRunCheck side z count rowStore relationStore resultStore (suc n) = unrun (suc n) rowStore relationStore resultStore
+afterRunCheck side z count rowStore relationStore resultStore (suc n) = kept (suc n) rowStore relationStore resultStore
 
-unfoldable pub exportRun : Side → Sizes → ℕ → List ℤ → List ℤ → List ℤ → ExportedRun
+unfoldable pub exportRun : Side → Sizes → ℕ → List ℤ → List ℤ → List ℤ → Exported
 unfolding afterRunCheck checkRun
 exportRun side z count rowStore relationStore resultStore =
     afterRunCheck side z count rowStore relationStore resultStore (checkRun z count rowStore relationStore resultStore)
 
-pub refused-numbers : (n : ℕ) → runNumbers (refusal n) ≡ zeros runNeed
+pub refused-numbers : (n : ℕ) → runNumbers (refusal n) ≡ zeros resultNeed
 unfolding runNumbers refusal zeros
 refused-numbers n = refl
 
@@ -108,7 +94,7 @@ pub kept-late : (n : ℕ) (numbers resultStore : List ℤ) → early n ≡ false
 unfolding keptOr
 kept-late n numbers resultStore e = sym (ap (λ b. cond b resultStore (overwrite numbers resultStore)) e)
 
-unfoldable pub runAfter : Call → List ℤ → ExportedRun
+unfoldable pub runAfter : Call → List ℤ → Exported
 unfolding keptOr runNumbers
 runAfter c resultStore =
     record { refusal = c .result .refusal; rowStore = c .rowStore; relationStore = c .relationStore; resultStore = keptOr (c .result .refusal) (runNumbers (c .result)) resultStore }
@@ -120,8 +106,8 @@ after-late c resultStore e =
     (sym (kept-late (c .result .refusal) (runNumbers (c .result)) resultStore e))
 
 after-early : (n : ℕ) (rowStore relationStore resultStore : List ℤ) → suc n ≤ 5
-    → runAfter (unchanged (suc n) rowStore relationStore) resultStore ≡ unrun (suc n) rowStore relationStore resultStore
-unfolding runAfter early unchanged refusal unrun
+    → runAfter (unchanged (suc n) rowStore relationStore) resultStore ≡ kept (suc n) rowStore relationStore resultStore
+unfolding runAfter early unchanged refusal kept
 after-early n rowStore relationStore resultStore h =
     ap (λ l. record { refusal = suc n; rowStore = rowStore; relationStore = relationStore; resultStore = l })
     (sym
@@ -135,12 +121,6 @@ short-check : (s l n : Bool) → cond s (cond (l && false) (cond {A = ℕ} n 0 5
 short-check s true n = refl
 short-check s false n = refl
 
--- Stores that hold nothing are too short.
-none-checked : (z : Sizes) (count : ℕ) → checkStores z count [] [] ≡ cond (sizesRight z && countRight count) 1 2
-unfolding checkStores lengthsRight rowNeed
-none-checked z count =
-    ap (λ b. cond (sizesRight z && countRight count) (cond b (cond (numbersRight z count [] []) 0 5) 1) 2) (and-false (leb (z .m * 320) 0))
-
 few-checks : (s l n : Bool) → cond s (cond l (cond {A = ℕ} n 0 5) 1) 2 ≤ 5
 few-checks true true true = omega arith
 few-checks true true false = omega arith
@@ -150,12 +130,6 @@ few-checks false l n = omega arith
 run-zeros : (n : ℕ) → SmallResult (refusal n)
 unfolding refusal All
 run-zeros n = record { few-relations = zero-le; few-shifts = zero-le; four = refl; columns = (zero-le, (zero-le, (zero-le, (zero-le, tt)))) }
-
-all-padTo : {A : Type 0} (P : A → Type 0) (n : ℕ) (v : A) (l : List A) → P v → All P l → All P (padTo n v l)
-unfolding padTo All
-all-padTo P zero v l h a = tt
-all-padTo P (suc n) v [] h a = (h, all-padTo P n v [] h tt)
-all-padTo P (suc n) v (x ∷ l) h a = (a .0, all-padTo P n v l h (a .1))
 
 module _ (side : Side) (z : Sizes) (count : ℕ) (rowStore relationStore : List ℤ) where
   abbrev outcome : Outcome
@@ -226,32 +200,32 @@ module _ (side : Side) (z : Sizes) (count : ℕ) (rowStore relationStore : List 
 
   module _ (resultStore : List ℤ) where
     -- "its length checked with the other lengths, after the sizes"
-    pub run-short : length resultStore < runNeed
-        → unrun (checkStores z count [] []) rowStore relationStore resultStore
+    pub run-short : length resultStore < resultNeed
+        → kept (checkStores z count [] []) rowStore relationStore resultStore
         ≡ exportRun side z count rowStore relationStore resultStore
     unfolding exportRun checkRun afterRunCheck
     run-short h =
-        ap (λ n. unrun n rowStore relationStore resultStore) (none-checked z count) ∙ refused-short (sizesRight z && countRight count)
+        ap (λ n. kept n rowStore relationStore resultStore) (none-checked z count) ∙ refused-short (sizesRight z && countRight count)
         ∙ ap (afterRunCheck side z count rowStore relationStore resultStore)
         (sym
         (ap (λ b. cond (sizesRight z && countRight count) (cond (lengthsRight (z .m) rowStore relationStore && b) (cond (numbersRight z count rowStore relationStore) 0 5) 1) 2)
-        (lt-leb runNeed (length resultStore) h)
+        (lt-leb resultNeed (length resultStore) h)
         ∙ short-check (sizesRight z && countRight count) (lengthsRight (z .m) rowStore relationStore) (numbersRight z count rowStore relationStore)))
       where
-        refused-short : (s : Bool) → unrun (cond s 1 2) rowStore relationStore resultStore
+        refused-short : (s : Bool) → kept (cond s 1 2) rowStore relationStore resultStore
             ≡ afterRunCheck side z count rowStore relationStore resultStore (cond s 1 2)
         refused-short true = refl
         refused-short false = refl
 
-    long-checked : runNeed ≤ length resultStore
+    long-checked : resultNeed ≤ length resultStore
         → checkRun z count rowStore relationStore resultStore ≡ checkStores z count rowStore relationStore
     unfolding checkRun checkStores
     long-checked h =
         ap (λ b. cond (sizesRight z && countRight count) (cond (lengthsRight (z .m) rowStore relationStore && b) (cond (numbersRight z count rowStore relationStore) 0 5) 1) 2)
-        (le-leb runNeed (length resultStore) h)
+        (le-leb resultNeed (length resultStore) h)
         ∙ long-check (sizesRight z && countRight count) (lengthsRight (z .m) rowStore relationStore) (numbersRight z count rowStore relationStore)
 
-    run-long : runNeed ≤ length resultStore
+    run-long : resultNeed ≤ length resultStore
         → runAfter (callRun side z count rowStore relationStore) resultStore ≡ exportRun side z count rowStore relationStore resultStore
     unfolding exportRun afterRunCheck
     run-long h =
@@ -278,7 +252,7 @@ module _ (side : Side) (z : Sizes) (count : ℕ) (rowStore relationStore : List 
 
     -- The call, from the run that was made and the result store that was left.
     pub run-done : {x : Call} {after : List ℤ} → x ≡ callRun side z count rowStore relationStore
-        → after ≡ keptOr (x .result .refusal) (runNumbers (x .result)) resultStore → runNeed ≤ length resultStore
+        → after ≡ keptOr (x .result .refusal) (runNumbers (x .result)) resultStore → resultNeed ≤ length resultStore
         → record { refusal = x .result .refusal; rowStore = x .rowStore; relationStore = x .relationStore; resultStore = after }
         ≡ exportRun side z count rowStore relationStore resultStore
     unfolding runAfter

@@ -4,9 +4,13 @@
 ghost use mathlib.Core.Path.{_≡_};
 ghost use Rattle.rules.specs.Elimination.{leading, trailing};
 ghost use Rattle.exports.specs.Runs.{exportRun};
+ghost use Rattle.exports.specs.Writes.{exportWrite};
+ghost use Rattle.exports.specs.Reads.{exportRead};
 
 mod numbers;
+mod reads;
 mod runs;
+mod writes;
 
 // A run on the leading side. `result` gets eight numbers: the relation count, the shifts, c(1) to c(4), 1 or 0 for a root, the
 // root.
@@ -56,5 +60,59 @@ pub extern "C" fn wurgalm_run_trailing(
         count,
         result,
         true,
+    )
+}
+
+// A sheet read into the stores. `result` gets eight numbers: m, l, t, the relation count, c(1) to c(4).
+#[no_mangle]
+pub extern "C" fn wurgalm_read_sheet(
+    bytes: &[u8],
+    rows: &mut [i64],
+    relations: &mut [i64],
+    result: &mut [i64],
+) -> u8
+    ensures { λ r. ⌜
+        record { refusal = r; rowStore = now (rows .exit); relationStore = now (relations .exit); resultStore = now (result .exit) }
+        ≡ exportRead (now (bytes .entry)) (now (rows .entry)) (now (relations .entry)) (now (result .entry)) ⌝ }
+{
+    if result.len() < 8 {
+        let judged = sheets::read_sheet(bytes, &mut rows[..0], &mut relations[..0]);
+        return judged.refusal;
+    }
+    let sheet = sheets::read_sheet(bytes, rows, relations);
+    if sheet.refusal != 0 {
+        return sheet.refusal;
+    }
+    numbers::put(result, reads::read_numbers(sheet));
+    0
+}
+
+// The system of the stores written as a sheet. `order` holds four numbers: all 0 for no order, otherwise a permutation of 1..m and
+// zeros past its end. `result` gets one number: the length of the sheet.
+#[no_mangle]
+pub extern "C" fn wurgalm_write_sheet(
+    rows: &[i64],
+    relations: &[i64],
+    m: usize,
+    l: i64,
+    t: i64,
+    count: usize,
+    order: &[i64],
+    bytes: &mut [u8],
+    result: &mut [i64],
+) -> u8
+    ensures { λ r. ⌜
+        record { refusal = r; byteStore = now (bytes .exit); resultStore = now (result .exit) }
+        ≡ exportWrite (record { m = m; l = l; t = t }) count (now (order .entry)) (now (rows .entry)) (now (relations .entry))
+        (now (bytes .entry)) (now (result .entry)) ⌝ }
+{
+    writes::exported(
+        rows,
+        relations,
+        rows::validity::Sizes { m, l, t },
+        count,
+        order,
+        bytes,
+        result,
     )
 }

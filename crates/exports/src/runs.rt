@@ -4,7 +4,7 @@ ghost use Prim.Native.Nat.{_≤_};
 ghost use lib.ListN.{length};
 ghost use Rattle.rules.specs.Calls.{callRun};
 ghost use Rattle.rows.specs.Validity.{sizesOf};
-ghost use Rattle.elimination.specs.Progress.{sideOf};
+ghost use Rattle.sides.specs.Lent.{sideOf};
 ghost use Rattle.elimination.specs.CallLaws.{resultOf, callOf};
 ghost use Rattle.exports.specs.Runs.{runNumbers, SmallResult, keptOr, exportRun};
 

@@ -4,6 +4,7 @@
 --   callOf r ..          the call of `rules` that a result and the stores after it give
 --
 -- Main statements
+--   overwrite-paste      numbers put at the front of a store
 --   rows-filled, relations-filled   numbers put into a lent store are what `rules` writes into it
 --   call-refuses, call-short, call-fills   the call where the sheet is refused, where a store is too short, and where it is read
 use Prim.Native.Nat.{ℕ, _+_, _*_, _-_, _≤_, zero-le}
@@ -35,7 +36,7 @@ callOf r rowStore relationStore = record { result = resultOf r; rowStore = rowSt
 -- ---- stores that are filled
 
 -- Numbers put at the front of a store take the place of its needed part.
-overwrite-paste : (store numbers : List ℤ) (n : ℕ) → n ≤ length numbers → paste store 0 numbers n ≡ overwrite (take n numbers) store
+pub overwrite-paste : (store numbers : List ℤ) (n : ℕ) → n ≤ length numbers → paste store 0 numbers n ≡ overwrite (take n numbers) store
 unfolding overwrite
 overwrite-paste store numbers n h =
     ap (λ k. take n numbers ++ drop k store) (zero-add n ∙ sym (length-take-le n numbers h))

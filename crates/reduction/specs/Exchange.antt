@@ -29,8 +29,9 @@ use Rattle.rules.specs.Layout.{row-at, length-rowsOf}
 use Rattle.rows.specs.Flat.{entry-at}
 use Rattle.rows.specs.Written.{every-part}
 use Rattle.reduction.specs.declared.step.Progress.{Progress}
-use Rattle.reduction.specs.Progress.{Within, Kept, state, stateOf}
-use Rattle.reduction.specs.StoreStates.{part-small, within-paste, kept-paste, kept-then, kept-same, rowsOf-paste}
+use Rattle.sides.specs.Lent.{Within, Kept}
+use Rattle.reduction.specs.Progress.{state, stateOf}
+use Rattle.sides.specs.StoreStates.{part-small, within-paste, kept-paste, kept-then, kept-same, rowsOf-paste}
 use Rattle.reduction.specs.NewRows.{row-room}
 
 abbrev pub numbersAt : List ℤ → ℕ → List ℤ

@@ -1,6 +1,4 @@
 pub mod Progress
-pub mod StoreStates
-pub mod Relations
 pub mod Bounds
 pub mod NewRows
 pub mod Exchange

@@ -27,8 +27,9 @@ use Rattle.working.specs.Worked.{Held, refusalOf, numbersOf}
 use Rattle.combinations.specs.Combination.{combined-held}
 use Rattle.working.specs.Shifting.{shifted-held}
 use Rattle.reduction.specs.declared.step.Progress.{Progress}
-use Rattle.reduction.specs.Progress.{Within, Kept, state, stateOf, outcomeOf}
-use Rattle.reduction.specs.StoreStates.{rowsOf-paste, within-paste, kept-paste, kept-same}
+use Rattle.sides.specs.Lent.{Within, Kept}
+use Rattle.reduction.specs.Progress.{state, stateOf, outcomeOf}
+use Rattle.sides.specs.StoreStates.{rowsOf-paste, within-paste, kept-paste, kept-same}
 
 -- ---- a new row, or the number of the limit that it breaks
 

@@ -1,39 +1,30 @@
 -- The state that the lent stores hold with a run's progress, and what a step asks and gives.
 --
 -- Main definitions
---   sideOf trailing              the side of a run
 --   stateOf m rows relations p   the state: rows, relations, the columns of the settled rows, shifts
 --   outcomeOf refusal done s     going on, done or refused
 --   outcomeAt m rows relations o   the outcome that an answer of the code gives with the stores
 --   startProgress, settledProgress, listedProgress, shiftedProgress   the progress at the start, and after each rule
---   Within need store            the store is long enough, and its needed part is within ±C
---   Listing count relations      a relation store in which `count` places are used and the others hold 0
 --   Ready m rows relations p     what a step asks of the stores and of the progress
---   Kept need store store'       the length and the numbers past the needed part are the same
 --   Reached m .. most o x        what steps give: their outcome is x, the rest of the stores is kept, at most `most` shifts are made,
 --                                and the next step may be made
 --
 -- Main statements
 --   ready-with                   a step may be made with other stores and counts
-use Prim.Native.Nat.{ℕ, zero, suc, _+_, _*_, _≤_}
+use Prim.Native.Nat.{ℕ, zero, suc, _+_, _≤_}
 use mathlib.Core.Path.{_≡_}
 use mathlib.Core.Bool.{Bool, true, false}
 use mathlib.Core.List.{List, [], _∷_}
-use lib.Dec.{T}
 use lib.IntN.{ℤ}
-use lib.ListN.{length, take, drop, set}
-use Rattle.algebra.specs.Polynomials.{isZero}
-use Rattle.rules.specs.Limits.{small, columnCount, relationLength, mostRelations}
-use Rattle.rules.specs.Rows.{Row, Relation, every}
-use Rattle.rules.specs.Elimination.{Side, leading, trailing, State, Outcome, going, done, refused}
+use lib.ListN.{length, take, set}
+use Rattle.rules.specs.Limits.{columnCount}
+use Rattle.rules.specs.Rows.{Row, Relation}
+use Rattle.rules.specs.Elimination.{State, Outcome, going, done, refused}
 use Rattle.rules.specs.Stores.{rowsOf, relationsOf, rowNeed, relationNeed}
 use Rattle.working.specs.Found.{Columns}
+use Rattle.sides.specs.Lent.{Within, Listing, Kept}
 use Rattle.reduction.specs.declared.step.Progress.{Progress}
 use Rattle.reduction.specs.declared.step.Outcome as Answer
-
-unfoldable pub sideOf : Bool → Side
-sideOf false = leading
-sideOf true = trailing
 
 abbrev pub state : List Row → List Relation → List ℕ → ℕ → State
 state rows relations order shifts = record { rows = rows; relations = relations; order = order; shifts = shifts }
@@ -73,15 +64,6 @@ shiftedProgress p = record { settled = p .settled; order = p .order; count = p .
 
 -- ---- what a step asks and gives
 
-pub record Within (need : ℕ) (store : List ℤ) : Type 0 where
-  pub long : need ≤ length store
-  pub numbers : T (every small (take need store))
-
-pub record Listing (count : ℕ) (relations : List ℤ) : Type 0 where
-  pub few : count ≤ mostRelations
-  pub within : Within relationNeed relations
-  pub unused : T (isZero (drop (count * relationLength) (take relationNeed relations)))
-
 pub record Ready (m : ℕ) (rows relations : List ℤ) (p : Progress) : Type 0 where
   pub unknowns : m ≤ columnCount
   pub rows-within : Within (rowNeed m) rows
@@ -96,10 +78,6 @@ pub ready-with : {m count shifts : ℕ} {rows relations rows' relations' : List 
     → Ready m rows' relations' (record { settled = p .settled; order = p .order; count = count; shifts = shifts })
 ready-with r w l =
     record { unknowns = r .unknowns; rows-within = w; listing = l; settled = r .settled; four = r .four; columns = r .columns }
-
-pub record Kept (need : ℕ) (store store' : List ℤ) : Type 0 where
-  pub same-length : length store' ≡ length store
-  pub same-rest : drop need store' ≡ drop need store
 
 pub record Reached (m : ℕ) (rows relations rows' relations' : List ℤ) (most : ℕ) (o : Answer.Outcome) (x : Outcome) : Type 0 where
   pub outcome : outcomeAt m rows' relations' o ≡ x

@@ -23,8 +23,9 @@ use Rattle.rules.specs.Layout.{length-rowsOf}
 use Rattle.rows.specs.Flat.{length-blocks}
 use Rattle.working.specs.Found.{Columns}
 use Rattle.reduction.specs.declared.step.Outcome as Answer
-use Rattle.reduction.specs.Progress.{Within, Listing, Ready, Reached, stateOf, outcomeOf, outcomeAt, answerOf, startProgress}
-use Rattle.reduction.specs.StoreStates.{kept-same, kept-then}
+use Rattle.sides.specs.Lent.{Within, Listing}
+use Rattle.reduction.specs.Progress.{Ready, Reached, stateOf, outcomeOf, outcomeAt, answerOf, startProgress}
+use Rattle.sides.specs.StoreStates.{kept-same, kept-then}
 
 -- ---- how many steps are enough
 

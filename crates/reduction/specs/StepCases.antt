@@ -30,7 +30,7 @@ use Rattle.rows.specs.Flat.{block-at}
 use Rattle.working.specs.Found.{foundOr, Columns, entriesAt, length-entriesAt, getD-entriesAt}
 use Rattle.reduction.specs.declared.step.Progress.{Progress}
 use Rattle.reduction.specs.Progress.{Ready, Reached, state, stateOf, outcomeOf, answerOf, settledProgress, ready-with}
-use Rattle.reduction.specs.StoreStates.{kept-same}
+use Rattle.sides.specs.StoreStates.{kept-same}
 use Rattle.reduction.specs.StepLaws.{metEntries}
 use Rattle.reduction.specs.Exchange.{numbersAt, narrowed, row-of, narrowed-within, narrowed-state, narrowed-one}
 

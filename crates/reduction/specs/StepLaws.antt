@@ -33,10 +33,11 @@ use Rattle.rules.specs.Layout.{length-relationsOf}
 use Rattle.working.specs.Worked.{refusalOf, numbersOf}
 use Rattle.reduction.specs.declared.step.Progress.{Progress}
 use Rattle.reduction.specs.declared.step.Outcome as Answer
-use Rattle.reduction.specs.Progress.{Ready, Kept, Reached, state, stateOf, outcomeOf, answerOf}
+use Rattle.sides.specs.Lent.{Kept}
+use Rattle.reduction.specs.Progress.{Ready, Reached, state, stateOf, outcomeOf, answerOf}
 use Rattle.reduction.specs.Progress.{listedProgress, shiftedProgress, ready-with}
-use Rattle.reduction.specs.StoreStates.{kept-same, kept-then}
-use Rattle.reduction.specs.Relations.{Relisted, length-listing}
+use Rattle.sides.specs.StoreStates.{kept-same, kept-then}
+use Rattle.sides.specs.Relations.{Relisted, length-listing}
 use Rattle.reduction.specs.NewRows.{Storable, saved, saved-within, saved-kept, saved-outcome, shifted-storable}
 use Rattle.reduction.specs.Exchange.{numbersAt, length-numbersAt, row-of}
 

@@ -1,5 +1,4 @@
-// The elimination over checked stores: relations listed, one step, and the whole run. Each contract says what the definition of
-// `rules` does to the state that the stores hold.
-pub mod listing;
+// The elimination over checked stores: one step, and the whole run. Each contract says what the definition of `rules` does to the
+// state that the stores hold.
 pub mod run;
 pub mod step;

@@ -5,7 +5,8 @@ ghost use mathlib.Core.Path.{_≡_};
 ghost use Prim.Native.Nat.{_+_, _*_, _≤_};
 ghost use Rattle.rules.specs.Elimination as Elimination;
 ghost use Rattle.rules.specs.Stores.{rowsOf, relationsOf, rowNeed};
-ghost use Rattle.reduction.specs.Progress.{Within, Listing, Reached, sideOf};
+ghost use Rattle.sides.specs.Lent.{Within, Listing, sideOf};
+ghost use Rattle.reduction.specs.Progress.{Reached};
 
 // m settlings, five shifts a row, every settled row before each of those, and the step that finds no row left.
 fn enough(m: usize) -> usize

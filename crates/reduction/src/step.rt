@@ -11,7 +11,8 @@ ghost use Rattle.rules.specs.Rows.{every, entry};
 ghost use Rattle.rules.specs.Elimination as Elimination;
 ghost use Rattle.rules.specs.Stores.{rowOf};
 ghost use Rattle.working.specs.Worked.{refusalOf, numbersOf};
-ghost use Rattle.reduction.specs.Progress.{Ready, Reached, sideOf, stateOf, answerOf, settledProgress, shiftedProgress};
+ghost use Rattle.sides.specs.Lent.{sideOf};
+ghost use Rattle.reduction.specs.Progress.{Ready, Reached, stateOf, answerOf, settledProgress, shiftedProgress};
 ghost use Rattle.reduction.specs.NewRows.{saved};
 ghost use Rattle.reduction.specs.Exchange.{narrowed};
 ghost use Rattle.reduction.specs.StepLaws.{metEntries, shiftedRow};
@@ -153,7 +154,7 @@ fn combine_step(
     if 16 < count {
         return answer(9, p);
     }
-    crate::listing::list_roots(relations, p.count, found, trailing, target);
+    sides::listing::list_roots(relations, p.count, found, trailing, target);
     let next = Progress {
         settled: i,
         order,

@@ -13,7 +13,8 @@
 --   test-fails, test-steps   b + r e = 0 exactly if r divides b and b / r + e = 0
 --   chain-start, chain-next, chain-fails, chain-ends   the turns of the root test
 --   found-length       a list of roots has at most as many members as the degree says
---   search-start, search-divisor, search-other, search-end   the turns of the search, and that it finds the roots
+--   search-start, search-divisor, search-other   the turns of the search
+--   search-end, search-past   it has found the roots past the square root, and past the bound of the roots
 --   roots-few          a polynomial of 16 coefficients has at most 15 roots
 --   answered-first, answered-last   the first root is the smallest and the last the largest
 use Prim.Native.Nat.{ℕ, zero, suc, _+_, _*_, _-_, _/_, _%_, _≤_, _<_, zero-le}
@@ -51,6 +52,7 @@ use Rattle.polynomials.specs.Content.{small-at, drop-next}
 use Rattle.roots.specs.Ascending.{Ascending, insert, insert-nil, first-below, ascending-unique, insert-longer}
 use Rattle.roots.specs.Ascending.{insert-new}
 use Rattle.roots.specs.Ascending.{insert-old, insert-only, insert-ascending}
+use Rattle.roots.specs.Bound.{rootBound, root-within}
 use Rattle.roots.specs.declared.RootList.{RootList}
 use Rattle.roots.specs.declared.RootAnswer.{RootAnswer}
 
@@ -321,6 +323,10 @@ module _ (p : Polynomial) (nonzero : T (not (isZero p))) (a : ℕ) (lowest-size 
 
   pub search-end : (d : ℕ) (l : List ℤ) → 0 < d → a / d < d → Found p (Passed a d) l → l ≡ roots p
   search-end d l positive h c = found-all p nonzero c (λ z e. passed-end z e d positive h)
+
+  -- Past the bound of the roots there is none.
+  pub search-past : (d : ℕ) (l : List ℤ) → rootBound p < d → Found p (Passed a d) l → l ≡ roots p
+  search-past d l h c = found-all p nonzero c (λ z e. inl (omega (arith, root-within p nonzero z e)))
 
 -- ---- the roots of any polynomial, the largest and the smallest
 

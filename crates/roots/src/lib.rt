@@ -11,6 +11,7 @@ ghost use Rattle.rules.specs.Limits.{small};
 ghost use Rattle.rules.specs.Rows.{every};
 ghost use Rattle.rules.specs.Elimination.{leading, trailing, furthest};
 ghost use Rattle.roots.specs.Ascending.{insert};
+ghost use Rattle.roots.specs.Bound.{largestFrom, rootBound};
 ghost use Rattle.roots.specs.RootSearch.{tryRoot, tryBoth, held, listed, answered};
 
 // The integer roots of a polynomial, ascending: the first `count` of `values`; the others are 0.
@@ -103,8 +104,32 @@ fn tried_both(p: &[i64], d: u32, found: RootList) -> RootList
     tried(p, opposite, tried(p, r, found))
 }
 
+fn largest_size(p: &[i64]) -> u64
+    ensures { λ r. ⌜ r ≡ largestFrom 0 (now (p .entry)) ⌝ }
+{
+    let mut largest = 0;
+    let mut i = 0;
+    while i < p.len() {
+        let size = integers::magnitude(p[i]);
+        if largest < size {
+            largest = size;
+        }
+        i += 1;
+    }
+    largest
+}
+
+// Cauchy's bound: no root is larger in size.
+fn bound_of_roots(p: &[i64]) -> u32
+    requires { ⌜ T (every small (now p)) × T (not (Polynomials.isZero (now p))) ⌝ }
+    ensures { λ r. ⌜ r ≡ rootBound (now (p .entry)) ⌝ }
+{
+    let lead = integers::magnitude(polynomials::content::lead(p));
+    (largest_size(p) / lead + 1) as u32
+}
+
 // The candidates are 0 and, with both signs, the divisors d and a/d of the size a of the lowest nonzero coefficient, d up
-// to the square root of a.
+// to the square root of a and to the bound of the roots: past the bound neither d nor a/d, which is no smaller, is a root.
 fn searched(p: &[i64], a: u32) -> RootList
     requires { ⌜ (length (now p) ≤ 16) × T (every small (now p)) × T (not (Polynomials.isZero (now p)))
         × (a ≡ natAbs (Polynomials.lowest (now p))) ⌝ }
@@ -114,9 +139,10 @@ fn searched(p: &[i64], a: u32) -> RootList
         count: 0,
         values: [0; 16],
     };
+    let last = bound_of_roots(p);
     let mut found = tried(p, 0, none);
     let mut d: u32 = 1;
-    while d <= a / d {
+    while d <= a / d && d <= last {
         if a % d == 0 {
             found = tried_both(p, a / d, tried_both(p, d, found));
         }

@@ -30,7 +30,7 @@ refusal-line-requires-3 c κs = search needs
 returns-3 : tie.Need-returns-3
 returns-3 c =
     let args = c .before .before .before .before .before .before .args in
-    c .refusal-line3 .ensures ∙ ap textOf (close-accepted (args .batch) (args .over) (c .before .if3 .taken))
+    c .refusal-line3 .ensures ∙ ap textOf (close-accepted (args .batch) (args .over) (omega arith) (c .before .if3 .taken))
 
 refusal-line-requires-4 : tie.Need-refusal-line-requires-4
 refusal-line-requires-4 c κs = search needs
@@ -38,7 +38,7 @@ refusal-line-requires-4 c κs = search needs
 returns-4 : tie.Need-returns-4
 returns-4 c =
     let args = c .before .before .before .before .before .before .before .before .args in
-    c .refusal-line4 .ensures ∙ ap textOf (close-refused (args .batch) (args .over) (c .before .if4 .taken))
+    c .refusal-line4 .ensures ∙ ap textOf (close-refused (args .batch) (args .over) (omega arith) (omega arith) (c .before .if4 .taken))
 
 tally-line-requires : tie.Need-tally-line-requires
 tally-line-requires c κs = search needs

@@ -10,12 +10,12 @@ returns : tie.Need-returns
 returns c = let args = c .before .before .args in stays-empty (args .batch) (args .refusal) (c .if1 .taken)
 
 returns-2 : tie.Need-returns-2
-returns-2 c = let args = c .before .before .before .before .args in stays-accepted (args .batch) (args .refusal) (c .if2 .taken)
+returns-2 c = let args = c .before .before .before .before .args in stays-accepted (args .batch) (args .refusal) (omega arith) (c .if2 .taken)
 
 returns-3 : tie.Need-returns-3
 returns-3 c =
     let args = c .before .before .before .before .before .before .args in
-    stays-refused (args .batch) (args .refusal) (c .if3 .taken)
+    stays-refused (args .batch) (args .refusal) (omega arith) (omega arith) (c .if3 .taken)
 
 sub-t4 : tie.Need-sub-t4
 sub-t4 c = search needs

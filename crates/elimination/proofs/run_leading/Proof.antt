@@ -1,7 +1,7 @@
 -- `elimination::run_leading` meets its contract.
 -- Assumes nothing.
 use borrow.Author.Needs.{needs}
-use Rattle.reduction.specs.Progress.{sideOf}
+use Rattle.sides.specs.Lent.{sideOf}
 use Rattle.elimination.proofs.run_leading.Statement.{statement}
 use Rattle.elimination.proofs.run_leading.Tie as tie
 

@@ -5,8 +5,8 @@ use borrow.Author.Needs.{needs}
 use denote.Ref.{now}
 use Rattle.rules.specs.Elimination.{leading}
 use Rattle.rows.specs.Validity.{sizesOf}
-use Rattle.elimination.specs.Progress.{sideOf}
-use Rattle.exports.specs.Numbers.{sizes-told}
+use Rattle.sides.specs.Lent.{sideOf}
+use Rattle.exports.specs.Results.{sizes-told}
 use Rattle.exports.specs.Runs.{exportRun}
 use Rattle.exports.proofs.wurgalm_run_leading.Statement.{statement}
 use Rattle.exports.proofs.wurgalm_run_leading.Tie as tie

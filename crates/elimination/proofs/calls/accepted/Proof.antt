@@ -5,7 +5,7 @@ use denote.Ref.{now}
 use mir.Syntax.{w64}
 use mir.Val.{SFits}
 use mir.Facts.{toZ-ofZ}
-use Rattle.reduction.specs.Progress.{sideOf}
+use Rattle.sides.specs.Lent.{sideOf}
 use Rattle.elimination.specs.CallLaws.{resultOf, accepted-result}
 use Rattle.elimination.proofs.calls.accepted.Statement.{statement}
 use Rattle.elimination.proofs.calls.accepted.Tie as tie

@@ -9,7 +9,8 @@ use lib.IntN.{ℤ}
 use Rattle.rules.specs.Elimination.{Side, wholeRun}
 use Rattle.rules.specs.Stores.{Sizes, span, rowsOf, relationsOf, checkStores}
 use Rattle.rows.specs.Validity.{sizesOf}
-use Rattle.reduction.specs.Progress.{sideOf, Reached}
+use Rattle.sides.specs.Lent.{sideOf}
+use Rattle.reduction.specs.Progress.{Reached}
 use Rattle.elimination.specs.CallLaws.{few-unknowns, few-blocks, Checked, checked, final-run, call-run, call-refused}
 use Rattle.elimination.proofs.calls.called.Statement.{statement}
 use Rattle.elimination.proofs.calls.called.Tie as tie

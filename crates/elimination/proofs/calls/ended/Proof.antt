@@ -7,7 +7,8 @@ use denote.Ref.{now}
 use Rattle.rules.specs.Stores.{rowNeed}
 use Rattle.rules.specs.Calls.{acceptance}
 use Rattle.rows.specs.Validity.{sizesOf}
-use Rattle.reduction.specs.Progress.{sideOf, stateOf}
+use Rattle.sides.specs.Lent.{sideOf}
+use Rattle.reduction.specs.Progress.{stateOf}
 use Rattle.elimination.specs.CallLaws.{few-unknowns, few-blocks, ended-refused, ended-accepted}
 use borrow.Author.Needs.{needs}
 use Rattle.elimination.proofs.calls.ended.Statement.{statement}

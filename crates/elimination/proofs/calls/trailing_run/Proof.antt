@@ -2,8 +2,8 @@
 -- Assumes nothing.
 use borrow.Author.Needs.{needs}
 use denote.Ref.{now}
-use Rattle.reduction.specs.Progress.{sideOf}
-use Rattle.elimination.specs.MirrorLaws.{trailing-refused, trailing-reached}
+use Rattle.sides.specs.Lent.{sideOf}
+use Rattle.elimination.specs.TrailingLaws.{trailing-refused, trailing-reached}
 use Rattle.elimination.proofs.calls.trailing_run.Statement.{statement}
 use Rattle.elimination.proofs.calls.trailing_run.Tie as tie
 

@@ -2,7 +2,7 @@
 -- Assumes nothing.
 use borrow.Author.Needs.{needs}
 use Rattle.rules.specs.Elimination.{wholeRun, leadingRun}
-use Rattle.reduction.specs.Progress.{sideOf}
+use Rattle.sides.specs.Lent.{sideOf}
 use Rattle.elimination.proofs.calls.whole_run.Statement.{statement}
 use Rattle.elimination.proofs.calls.whole_run.Tie as tie
 

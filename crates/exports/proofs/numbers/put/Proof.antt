@@ -9,11 +9,12 @@ use borrow.Author.Needs.{needs, sfits-of}
 use denote.Ref.{now}
 use lib.IntN.{pos}
 use lib.ListN.{length, getD, set, length-set}
-use lib.Seq.{paste, paste-zero, paste-suc}
+use lib.Seq.{paste, paste-zero, paste-suc, take-all}
 use mir.Syntax.{w64}
 use mir.Val.{SFits}
 use mir.Facts.{toZ-ofZ}
-use Rattle.exports.specs.Numbers.{overwrite-paste}
+use Rattle.rules.specs.Calls.{overwrite}
+use Rattle.reading.specs.ReadCalls.{overwrite-paste}
 use Rattle.exports.proofs.numbers.put.Statement.{statement}
 use Rattle.exports.proofs.numbers.put.Tie as tie
 
@@ -65,7 +66,8 @@ returns : tie.Need-returns Inv-loop μ-loop
 returns c =
     let args = c .before .before .args in
     let all : c .before .loop .i ≡ 8 = omega arith in
-    rw all at (c .before .loop .inv .1 .1) ∙ overwrite-paste (args .t2) (now (args .result)) 8 (omega arith)
+    rw all at (c .before .loop .inv .1 .1) ∙ overwrite-paste (now (args .result)) (args .t2) 8 (omega arith)
+    ∙ ap (λ l. overwrite l (now (args .result))) (take-all 8 (args .t2) (omega arith))
 
 pub put-spec : {M : Type 1} → statement M
 put-spec =

@@ -8,10 +8,11 @@ use denote.Ref.{now}
 use lib.IntN.{ℤ}
 use Rattle.rules.specs.Elimination.{Side}
 use Rattle.rules.specs.Stores.{Sizes}
-use Rattle.elimination.specs.Progress.{sideOf}
+use Rattle.sides.specs.Lent.{sideOf}
 use Rattle.rows.specs.Validity.{sizesOf}
 use Rattle.elimination.specs.CallLaws.{resultOf, callOf}
-use Rattle.exports.specs.Runs.{unrun, run-short, run-small, run-done}
+use Rattle.exports.specs.Results.{kept}
+use Rattle.exports.specs.Runs.{run-short, run-small, run-done}
 use Rattle.exports.proofs.runs.exported.Statement.{statement}
 use Rattle.exports.proofs.runs.exported.Tie as tie
 
@@ -51,10 +52,10 @@ same-length-2 : tie.Need-same-length-2
 same-length-2 c = search needs
 
 returns : tie.Need-returns
-unfolding unrun
+unfolding kept
 returns c =
     let start = c .before .before .before .before in
-    ap (λ n. unrun n (rows start) (relations start) (now (start .args .result))) (c .check-stores .ensures)
+    ap (λ n. kept n (rows start) (relations start) (now (start .args .result))) (c .check-stores .ensures)
     ∙ run-short (side start) (z start) (start .args .count) (rows start) (relations start) (now (start .args .result))
     (c .before .before .before .if1 .taken)
 

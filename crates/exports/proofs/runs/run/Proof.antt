@@ -6,7 +6,7 @@ use borrow.Author.Needs.{needs}
 use denote.Ref.{now}
 use Rattle.rules.specs.Calls.{Call, callRun}
 use Rattle.rows.specs.Validity.{sizesOf}
-use Rattle.elimination.specs.Progress.{sideOf}
+use Rattle.sides.specs.Lent.{sideOf}
 use Rattle.exports.proofs.runs.run.Statement.{statement}
 use Rattle.exports.proofs.runs.run.Tie as tie
 

@@ -12,7 +12,7 @@ use mir.Syntax.{w64}
 use mir.Facts.{toZ-ofZ}
 use Rattle.rules.specs.Lists.{all-getD-default}
 use Rattle.elimination.specs.CallLaws.{resultOf}
-use Rattle.exports.specs.Numbers.{small-fits, small-value, answer-value, four-columns}
+use Rattle.exports.specs.Results.{small-fits, small-value, answer-value, four-columns}
 use Rattle.exports.specs.Runs.{runNumbers}
 use Rattle.exports.proofs.runs.run_numbers.Statement.{statement}
 use Rattle.exports.proofs.runs.run_numbers.Tie as tie

@@ -5,7 +5,7 @@ use native.Mathlib.Omega.{arith}
 use denote.Ref.{now}
 use Rattle.rules.specs.Stores.{rowsOf, relationsOf}
 use Rattle.rules.specs.Elimination as Elimination
-use Rattle.reduction.specs.Progress.{sideOf}
+use Rattle.sides.specs.Lent.{sideOf}
 use Rattle.reduction.specs.RunLaws.{Running, run-starts, run-goes, run-ends, run-refused, run-done}
 use Rattle.reduction.proofs.run.run.Statement.{statement}
 use Rattle.reduction.proofs.run.run.Tie as tie

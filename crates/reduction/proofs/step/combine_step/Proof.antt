@@ -21,8 +21,9 @@ use Rattle.roots.specs.RootSearch.{listed, held, held-of, roots-few}
 use Rattle.working.specs.Found.{Columns-at}
 use Rattle.working.specs.Worked.{refusalOf, numbersOf}
 use Rattle.reduction.specs.declared.step.Progress.{Progress}
-use Rattle.reduction.specs.Progress.{Ready, sideOf, stateOf, answerOf, listedProgress}
-use Rattle.reduction.specs.Relations.{Relisted}
+use Rattle.sides.specs.Lent.{sideOf}
+use Rattle.reduction.specs.Progress.{Ready, stateOf, answerOf, listedProgress}
+use Rattle.sides.specs.Relations.{Relisted}
 use Rattle.reduction.specs.Bounds.{Sixteen, multipliers-fit, roots-small}
 use Rattle.reduction.specs.NewRows.{Storable, saved, row-room, combined-storable}
 use Rattle.reduction.specs.Exchange.{numbersAt, length-numbersAt, small-numbersAt, length-entry, small-entry}

@@ -18,7 +18,8 @@ use Rattle.rules.specs.Elimination.{Side, multipliersAt, combineStep}
 use Rattle.working.specs.Found.{foundOr, entriesAt}
 use Rattle.working.specs.Worked.{refusalOf, numbersOf}
 use Rattle.reduction.specs.declared.step.Progress.{Progress}
-use Rattle.reduction.specs.Progress.{Ready, Reached, sideOf, stateOf, answerOf, shiftedProgress}
+use Rattle.sides.specs.Lent.{sideOf}
+use Rattle.reduction.specs.Progress.{Ready, Reached, stateOf, answerOf, shiftedProgress}
 use Rattle.reduction.specs.NewRows.{saved, row-room}
 use Rattle.reduction.specs.Exchange.{numbersAt, narrowed, small-numbersAt, narrowed-kept}
 use Rattle.reduction.specs.StepLaws.{metEntries, shiftedRow, reached-same, reached-after, refused-reached, shift-reached}

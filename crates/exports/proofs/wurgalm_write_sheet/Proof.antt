@@ -1,0 +1,31 @@
+-- `exports::wurgalm_write_sheet` meets its contract.
+-- Assumes nothing.
+use mathlib.Core.Path.{_∙_, ap}
+use borrow.Author.Needs.{needs}
+use denote.Ref.{now}
+use Rattle.rows.specs.Validity.{sizesOf}
+use Rattle.exports.specs.Results.{sizes-told}
+use Rattle.exports.specs.Writes.{exportWrite}
+use Rattle.exports.proofs.wurgalm_write_sheet.Statement.{statement}
+use Rattle.exports.proofs.wurgalm_write_sheet.Tie as tie
+
+exported-requires : tie.Need-exported-requires
+exported-requires c κs = search needs
+
+same-length : tie.Need-same-length
+same-length c = search needs
+
+same-length-2 : tie.Need-same-length-2
+same-length-2 c = search needs
+
+returns : tie.Need-returns
+unfolding sizesOf
+returns c =
+    let start = c .before .before .before .before .before .before .before in
+    let args = start .args in
+    c .before .before .before .exported .ensures
+    ∙ ap (λ z. exportWrite z (args .count) (now (args .order)) (now (args .rows)) (now (args .relations)) (now (args .bytes)) (now (args .result)))
+    (sizes-told (args .m) (start .fits .l) (start .fits .t))
+
+pub wurgalm-write-sheet-spec : {M : Type 1} → statement M
+wurgalm-write-sheet-spec = tie.close (tie.spec exported-requires same-length same-length-2 returns)

@@ -1,0 +1,143 @@
+-- The exported reader of sheets: what a sheet says besides its rows and relations is numbers of a lent store.
+--
+-- Main definitions
+--   readNumbers r          the eight numbers of a result
+--   readAfter c ..         the call, by what reading the sheet did
+--   exportRead ..          the call
+--   SmallRead r            the counts and columns of a result are small
+--
+-- Main statements
+--   short-whole, short-fault   what a call with a result store that is too short refuses
+--   read-short, read-done      the call with a result store that is too short, and with one that is long enough
+--   read-small                 the result of every call is small
+use Prim.Native.Nat.{ℕ, _*_, _≤_, _<_, zero-le}
+use native.Mathlib.Nat.{le-trans}
+use mathlib.Core.Path.{_≡_, refl, sym, _∙_, ap, subst}
+use mathlib.Core.Logic.{inl, inr}
+use mathlib.Core.Bool.{Bool, true, false, cond, and-false}
+use mathlib.Core.List.{List, [], _∷_, map}
+use borrow.Author.Tests.{le-leb, lt-leb}
+use lib.Dec.{T, leb}
+use lib.IntN.{ℤ, pos}
+use lib.ListN.{length}
+use Rattle.rules.specs.Limits.{columnCount}
+use Rattle.rules.specs.Rows.{All}
+use Rattle.rules.specs.Lists.{all-mono}
+use Rattle.rules.specs.Stores.{lengthsRight, rowNeed}
+use Rattle.rules.specs.Layout.{size-bounds, countRight-iff}
+use Rattle.rules.specs.Numbers.{Read, got, fault}
+use Rattle.rules.specs.Sheets.{Sheet, readSheet}
+use Rattle.rules.specs.SheetCalls.{ReadResult, ReadCall, differentColumns, readRefusal, unread, filled, afterRead, readCall}
+use Rattle.sheets.specs.Trimmed.{length-padTo}
+use Rattle.sheets.specs.WrittenOrder.{OrderRight, different-cons}
+use Rattle.sheets.specs.ReadBack.{SheetRight, read-right}
+use Rattle.exports.specs.Results.{Exported, kept, resultNeed, onAcceptance, all-padTo}
+
+-- "m, l, t, relation count, c(1) to c(4)"
+unfoldable pub readNumbers : ReadResult → List ℤ
+readNumbers r = pos (r .sizes .m) ∷ r .sizes .l ∷ r .sizes .t ∷ pos (r .relations) ∷ map pos (r .order)
+
+-- The result store is written on acceptance only: reading refuses 1 to 5 alone.
+unfoldable pub readAfter : ReadCall → List ℤ → Exported
+unfolding onAcceptance readNumbers
+readAfter c resultStore =
+    record { refusal = c .result .refusal; rowStore = c .rowStore; relationStore = c .relationStore; resultStore = onAcceptance (c .result .refusal) (readNumbers (c .result)) resultStore }
+
+-- "1 only when the sheet is otherwise whole": with a result store that is too short the sheet is judged as with stores that hold
+-- nothing, and nothing is written.
+unfoldable pub exportRead : List ℕ → List ℤ → List ℤ → List ℤ → Exported
+unfolding readAfter readCall kept
+exportRead bytes rowStore relationStore resultStore =
+    let whole = readAfter (readCall bytes rowStore relationStore) resultStore in
+    cond (leb resultNeed (length resultStore)) whole (kept (readCall bytes [] [] .result .refusal) rowStore relationStore resultStore)
+
+chosen : {A : Type 0} (x y : A) {b c : Bool} → b ≡ c → cond c x y ≡ cond b x y
+chosen x y e = ap (λ k. cond k x y) (sym e)
+
+module _ (bytes : List ℕ) (rowStore relationStore resultStore : List ℤ) where
+  pub read-short : length resultStore < resultNeed
+      → kept (readCall bytes [] [] .result .refusal) rowStore relationStore resultStore ≡ exportRead bytes rowStore relationStore resultStore
+  unfolding exportRead
+  read-short h = chosen _ _ (lt-leb resultNeed (length resultStore) h)
+
+  -- The call, from what was read and the result store that was left.
+  pub read-done : {x : ReadCall} {left : List ℤ} → x ≡ readCall bytes rowStore relationStore
+      → left ≡ onAcceptance (x .result .refusal) (readNumbers (x .result)) resultStore → resultNeed ≤ length resultStore
+      → record { refusal = x .result .refusal; rowStore = x .rowStore; relationStore = x .relationStore; resultStore = left }
+      ≡ exportRead bytes rowStore relationStore resultStore
+  unfolding exportRead readAfter
+  read-done {x} same f h =
+      (λ i. record { refusal = x .result .refusal; rowStore = x .rowStore; relationStore = x .relationStore; resultStore = f i })
+      ∙ ap (λ y. readAfter y resultStore) same ∙ chosen _ _ (le-leb resultNeed (length resultStore) h)
+
+  -- A whole sheet is refused 1, and any other as it is with stores that are long enough.
+  pub short-whole : (x : Sheet) (rest : List ℕ) → readSheet bytes ≡ got x rest → length resultStore < resultNeed
+      → exportRead bytes rowStore relationStore resultStore ≡ kept 1 rowStore relationStore resultStore
+  unfolding readCall afterRead lengthsRight rowNeed unread readRefusal
+  short-whole x rest e h =
+      sym (read-short h)
+      ∙ ap (λ r. kept (afterRead r [] [] .result .refusal) rowStore relationStore resultStore) e
+      ∙ ap (λ b. kept (cond b (filled x [] []) (unread 1 [] []) .result .refusal) rowStore relationStore resultStore)
+      (and-false (leb (x .sizes .m * 320) 0))
+
+  pub short-fault : (n : ℕ) → readSheet bytes ≡ fault n → length resultStore < resultNeed
+      → exportRead bytes rowStore relationStore resultStore ≡ kept n rowStore relationStore resultStore
+  unfolding readCall afterRead unread readRefusal
+  short-fault n e h =
+      sym (read-short h) ∙ ap (λ r. kept (afterRead r [] [] .result .refusal) rowStore relationStore resultStore) e
+
+-- ---- the result is small
+
+pub record SmallRead (r : ReadResult) : Type 0 where
+  pub few-unknowns : r .sizes .m ≤ columnCount
+  pub few-relations : r .relations ≤ 16
+  pub four : length (r .order) ≡ columnCount
+  pub columns : All (λ c. c ≤ columnCount) (r .order)
+
+read-zeros : (n : ℕ) → SmallRead (readRefusal n)
+unfolding readRefusal All
+read-zeros n =
+    record { few-unknowns = zero-le; few-relations = zero-le; four = refl; columns = (zero-le, (zero-le, (zero-le, (zero-le, tt)))) }
+
+different-columns : (m : ℕ) (l : List ℕ) → T (differentColumns m l) → All (λ c. c ≤ m) l
+unfolding All
+different-columns m [] h = tt
+different-columns m (c ∷ l) h = let e = different-cons m c l .0 h in (e .1, different-columns m l (e .3))
+
+order-columns : (m : ℕ) (order : List ℕ) → OrderRight m order → All (λ c. c ≤ m) order
+unfolding OrderRight All
+order-columns m order (inl e) = subst (All (λ c. c ≤ m)) (sym e) tt
+order-columns m order (inr h) = different-columns m order (h .1)
+
+filled-small : (bytes : List ℕ) (x : Sheet) (rest : List ℕ) (rowStore relationStore : List ℤ) → readSheet bytes ≡ got x rest
+    → SmallRead (filled x rowStore relationStore .result)
+unfolding filled
+filled-small bytes x rest rowStore relationStore e =
+    record {
+      few-unknowns = few;
+      few-relations = countRight-iff (length (x .relations)) .0 (right .valid .relation-count);
+      four = length-padTo columnCount 0 (x .order);
+      columns = all-padTo (λ c. c ≤ columnCount) columnCount 0 (x .order) zero-le
+          (all-mono (λ c. c ≤ x .sizes .m) (λ c. c ≤ columnCount) (λ c h. le-trans h few) (x .order)
+          (order-columns (x .sizes .m) (x .order) (right .order-right)));
+    }
+  where
+    right : SheetRight x
+    right = read-right bytes x rest e .0
+
+    few : x .sizes .m ≤ columnCount
+    few = size-bounds (x .sizes) (right .valid .sizes) .few
+
+pub read-small : (bytes : List ℕ) (rowStore relationStore : List ℤ) {x : ReadCall} → x ≡ readCall bytes rowStore relationStore
+    → SmallRead (x .result)
+unfolding readCall afterRead unread
+read-small bytes rowStore relationStore same = subst (λ c. SmallRead (c .result)) (sym same) (by-sheet (readSheet bytes) refl)
+  where
+    by-lengths : (x : Sheet) (rest : List ℕ) (b : Bool) → readSheet bytes ≡ got x rest
+        → SmallRead (cond b (filled x rowStore relationStore) (unread 1 rowStore relationStore) .result)
+    by-lengths x rest true e = filled-small bytes x rest rowStore relationStore e
+    by-lengths x rest false e = read-zeros 1
+
+    by-sheet : (r : Read Sheet) → readSheet bytes ≡ r → SmallRead (afterRead r rowStore relationStore .result)
+    by-sheet (got x rest) e = by-lengths x rest (lengthsRight (x .sizes .m) rowStore relationStore) e
+    by-sheet (fault n) e = read-zeros n

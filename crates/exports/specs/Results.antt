@@ -1,0 +1,115 @@
+-- Results in a lent store: what an exported call that reads or writes systems did as a whole, and the numbers of its result.
+--
+-- Main definitions
+--   Exported                   the refusal that a call returned, and every lent store afterwards
+--   kept n ..                  a refusal that leaves the stores as they were
+--   onAcceptance n ..          a store that is written where the refusal is 0 only
+--
+-- Main statements
+--   onAcceptance-none, onAcceptance-some   such a store, by the refusal
+--   set-overwrite              one number written at the start of a store
+--   none-before                an empty part of a store, put back
+--   none-checked               stores that hold nothing are too short
+--   all-padTo                  a property of all numbers of an order with zeros past its end
+--   small-fits, small-value    a small count is in the range of an i64, and is the number that it is cast to
+--   answer-value               so is 1 or 0 for yes or no
+--   four-members, four-columns   four members of a list, and the numbers of an order of four columns, one by one
+--   sizes-told                 sizes as they are handed on
+use Prim.Native.Nat.{ℕ, zero, suc, _*_, _≤_}
+use native.Mathlib.Nat.{not-suc-le-zero, suc-ne-zero}
+use native.Mathlib.Omega.{arith}
+use mathlib.Core.Path.{_≡_, refl, sym, _∙_, ap}
+use mathlib.Core.Logic.{_≢_}
+use mathlib.Core.Bool.{Bool, true, false, _&&_, cond, and-false}
+use mathlib.Core.List.{List, [], _∷_, _++_, map}
+use lib.Dec.{lit<, leb}
+use lib.IntN.{ℤ, pos}
+use lib.ListN.{length, take, getD, set}
+use lib.Seq.{take-all}
+use mir.Syntax.{w64}
+use mir.Val.{SFits, toZ, ofZ, boolByte}
+use mir.Facts.{toZ-ofZ, toZ-pos}
+use Rattle.integers.specs.Ranges.{sfits-size}
+use Rattle.rules.specs.Rows.{All}
+use Rattle.rules.specs.Stores.{Sizes, sizesRight, countRight, lengthsRight, numbersRight, rowNeed, checkStores}
+use Rattle.rules.specs.Calls.{overwrite, padTo}
+
+pub record Exported : Type 0 where
+  pub refusal : ℕ
+  pub rowStore : List ℤ
+  pub relationStore : List ℤ
+  pub resultStore : List ℤ
+
+-- "found before the work begins, stores are unchanged"
+unfoldable pub kept : ℕ → List ℤ → List ℤ → List ℤ → Exported
+kept n rowStore relationStore resultStore =
+    record { refusal = n; rowStore = rowStore; relationStore = relationStore; resultStore = resultStore }
+
+-- The numbers that a result of a run or of a sheet that was read has.
+abbrev pub resultNeed : ℕ
+resultNeed = 8
+
+unfoldable pub onAcceptance : ℕ → List ℤ → List ℤ → List ℤ
+unfolding overwrite
+onAcceptance zero numbers resultStore = overwrite numbers resultStore
+onAcceptance (suc n) numbers resultStore = resultStore
+
+pub onAcceptance-none : (n : ℕ) (numbers resultStore : List ℤ) → n ≢ 0 → resultStore ≡ onAcceptance n numbers resultStore
+unfolding onAcceptance
+onAcceptance-none zero numbers resultStore h = absurd (h refl)
+onAcceptance-none (suc n) numbers resultStore h = refl
+
+pub onAcceptance-some : (n : ℕ) (numbers resultStore : List ℤ) → n ≡ 0 → overwrite numbers resultStore ≡ onAcceptance n numbers resultStore
+unfolding onAcceptance
+onAcceptance-some n numbers resultStore e = ap (λ k. onAcceptance k numbers resultStore) (sym e)
+
+pub set-overwrite : (store : List ℤ) (a : ℤ) → 1 ≤ length store → set store 0 a ≡ overwrite (a ∷ []) store
+unfolding overwrite
+set-overwrite [] a h = absurd (not-suc-le-zero h)
+set-overwrite (b ∷ store) a h = refl
+
+-- A part of a store that holds nothing, put back in front of the rest.
+pub none-before : {A : Type 0} (l store : List A) → length l ≡ 0 → l ++ store ≡ store
+none-before [] store e = refl
+none-before (x ∷ l) store e = absurd (suc-ne-zero (length l) e)
+
+-- Stores that hold nothing are too short.
+pub none-checked : (z : Sizes) (count : ℕ) → checkStores z count [] [] ≡ cond (sizesRight z && countRight count) 1 2
+unfolding checkStores lengthsRight rowNeed
+none-checked z count =
+    ap (λ b. cond (sizesRight z && countRight count) (cond b (cond (numbersRight z count [] []) 0 5) 1) 2) (and-false (leb (z .m * 320) 0))
+
+pub all-padTo : {A : Type 0} (P : A → Type 0) (n : ℕ) (v : A) (l : List A) → P v → All P l → All P (padTo n v l)
+unfolding padTo All
+all-padTo P zero v l h a = tt
+all-padTo P (suc n) v [] h a = (h, all-padTo P n v [] h tt)
+all-padTo P (suc n) v (x ∷ l) h a = (a .0, all-padTo P n v l h (a .1))
+
+pub small-fits : (n : ℕ) → n ≤ 16 → SFits w64 (pos n)
+small-fits n h = sfits-size (pos n) h (lit< tt)
+
+pub small-value : (n : ℕ) → n ≤ 16 → toZ w64 n ≡ pos n
+small-value n h = toZ-pos w64 (omega arith)
+
+pub answer-value : (b : Bool) → toZ w64 (boolByte b) ≡ pos (cond b 1 0)
+answer-value true = small-value 1 (omega arith)
+answer-value false = small-value 0 (omega arith)
+
+-- m, l and t, as a call that takes them in a struct reads them.
+pub sizes-told : (m : ℕ) {l t : ℤ} → SFits w64 l → SFits w64 t
+    → _≡_ {A = Sizes} (record { m = m; l = toZ w64 (ofZ w64 l); t = toZ w64 (ofZ w64 t) }) (record { m = m; l = l; t = t })
+sizes-told m f g i = record { m = m; l = toZ-ofZ f i; t = toZ-ofZ g i }
+
+-- The first four members of a list, one by one.
+pub four-members : {A B : Type 0} (f : A → B) (d : A) (l : List A) → 4 ≤ length l
+    → f (getD l 0 d) ∷ f (getD l 1 d) ∷ f (getD l 2 d) ∷ f (getD l 3 d) ∷ [] ≡ map f (take 4 l)
+four-members f d (a ∷ b ∷ c ∷ e ∷ l) h = refl
+four-members f d [] h = absurd (omega arith)
+four-members f d (a ∷ []) h = absurd (omega arith)
+four-members f d (a ∷ b ∷ []) h = absurd (omega arith)
+four-members f d (a ∷ b ∷ c ∷ []) h = absurd (omega arith)
+
+-- The numbers of an order of four columns, one by one.
+pub four-columns : (l : List ℕ) → length l ≡ 4
+    → pos (getD l 0 0) ∷ pos (getD l 1 0) ∷ pos (getD l 2 0) ∷ pos (getD l 3 0) ∷ [] ≡ map pos l
+four-columns l e = four-members pos 0 l (omega arith) ∙ ap (map pos) (take-all 4 l (omega arith))

@@ -1,0 +1,43 @@
+-- `sides::listing::save_relation` meets its contract: n0 and then the row are n0 followed by the row's numbers.
+-- Assumes nothing.
+use mathlib.Core.Path.{_∙_, ap}
+use Prim.Native.Nat.{_*_, _+_}
+use native.Mathlib.Omega.{arith}
+use borrow.Author.Needs.{needs}
+use denote.Ref.{now}
+use lib.ListN.{length-set, set}
+use lib.Seq.{paste}
+use mir.Facts.{toZ-ofZ}
+use Rattle.sides.specs.StoreStates.{paste-cons}
+use Rattle.sides.proofs.listing.save_relation.Statement.{statement}
+use Rattle.sides.proofs.listing.save_relation.Tie as tie
+
+mul-at : tie.Need-mul-at
+mul-at c = search needs
+
+mul-n0 : tie.Need-mul-n0
+mul-n0 c = search needs
+
+slice-set-from-n0 : tie.Need-slice-set-from-n0
+slice-set-from-n0 c = search needs
+
+add-save : tie.Need-add-save
+add-save c = search needs
+
+save-requires : tie.Need-save-requires
+save-requires c κs = simp length-set (omega arith)
+
+same-length : tie.Need-same-length
+same-length c = c .before .save .kept .0 ∙ simp length-set
+
+returns : tie.Need-returns
+returns c =
+    let args = c .before .before .before .args in
+    let at = args .k * 321 in
+    c .before .save .ensures
+    ∙ ap (λ z. paste (set (now (args .relations)) at z) (at + 1) (args .row) 320) (toZ-ofZ (c .before .before .before .fits .n0))
+    ∙ paste-cons (now (args .relations)) at (args .n0) (args .row) 320 (omega arith)
+
+pub save-relation-spec : {M : Type 1} → statement M
+save-relation-spec =
+    tie.close (tie.spec mul-at mul-n0 slice-set-from-n0 add-save save-requires same-length returns)

@@ -1,0 +1,196 @@
+-- `sides::report::report` meets its contract. The loop's invariant: the answer is the furthest root of the first j
+-- diagonal polynomials.
+-- Assumes nothing.
+use mathlib.Core.Path.{_≡_, sym, _∙_, ap, ap₂}
+use mathlib.Core.Bool.{Bool}
+use mathlib.Core.List.{List}
+use mathlib.Core.Logic.{⊎-elim}
+use Prim.Native.Nat.{ℕ, _+_, _*_, _-_, _≤_}
+use native.Mathlib.Omega.{arith}
+use denote.Ref.{now}
+use lib.Dec.{T}
+use lib.IntN.{ℤ}
+use lib.ListN.{length, take, drop, getD, length-take}
+use Rattle.algebra.specs.Roots.{roots}
+use Rattle.rules.specs.Limits.{small}
+use Rattle.rules.specs.Rows.{every}
+use Rattle.rules.specs.Elimination.{Side, diagonalPlace, furthest}
+use Rattle.rules.specs.Calls.{rootFound, rootValue}
+use Rattle.roots.specs.RootSearch.{answered}
+use Rattle.sides.specs.Lent.{sideOf}
+use Rattle.sides.specs.ReportLaws.{furtherOf, diagonalAt, reported, answered-option, option-of}
+use Rattle.sides.specs.ReportLaws.{report-none, report-next, report-all, diagonal-long, diagonal-small}
+use Rattle.sides.proofs.report.report.Statement.{statement}
+use Rattle.sides.proofs.report.report.Tie as tie
+
+abbrev Inv-loop : tie.InvT-loop
+Inv-loop store m trailing span order block answer₀ j₀ answer j =
+    (block ≡ diagonalPlace (sideOf trailing) span)
+    × ((m ≤ length order) × ((j ≤ m) × (answer ≡ answered (reported (sideOf trailing) span m store order j))))
+
+abbrev μ-loop : tie.MeasureT-loop
+μ-loop store m trailing span order block answer₀ j₀ answer j = m - j
+
+-- diagonal polynomial j
+module _ (c : tie.In-loop Inv-loop μ-loop) where
+  abbrev start : tie.Start Inv-loop μ-loop
+  start = c .before .before .before
+
+  abbrev side : Side
+  side = sideOf (start .args .trailing)
+
+  abbrev span : ℕ
+  span = start .args .span
+
+  abbrev m : ℕ
+  m = start .args .m
+
+  abbrev store : List ℤ
+  store = now (start .args .store)
+
+  abbrev order : List ℕ
+  order = start .args .t3
+
+  abbrev j : ℕ
+  j = c .before .loop .j
+
+  abbrev from : ℕ
+  from = j * 320 + c .before .before .if1 .block * 64 + getD order j 0 * 16
+
+  enough : m ≤ length order
+  enough = c .before .loop .inv .1 .0
+
+  place : from ≡ diagonalAt side span order j
+  unfolding diagonalAt
+  place = ap (λ b. j * 320 + b * 64 + getD order j 0 * 16) (c .before .loop .inv .0)
+
+  long : from + 16 ≤ length store
+  long =
+      rw place
+      (diagonal-long side span m store order enough (start .pre .1) (start .pre .2) j (c .loop-test .taken) (start .pre .3 .long))
+
+  numbers : T (every small (take 16 (drop from store)))
+  numbers =
+      rw place
+      (diagonal-small side span m store order enough (start .pre .1) (start .pre .2) j (c .loop-test .taken) (start .pre .3))
+
+  -- it is the part that is lent
+  part : take (from + 16 - from) (drop from store) ≡ take 16 (drop from store)
+  part = let size : from + 16 - from ≡ 16 = omega arith in ap (λ n. take n (drop from store)) size
+
+-- its furthest root
+root : (c : tie.After-furthest-root Inv-loop μ-loop)
+    → let at = c .before .before .before in
+    c .furthest-root .result
+    ≡ answered (furthest (side at) (roots (take 16 (drop (diagonalAt (side at) (span at) (order at) (j at)) (store at)))))
+root c =
+    let at = c .before .before .before in
+    c .furthest-root .ensures
+    ∙ ap (λ p. answered (furthest (side at) (roots p))) (part at ∙ ap (λ n. take 16 (drop n (store at))) (place at))
+
+-- the block of the diagonal
+block : (c : tie.Joined1 Inv-loop μ-loop) → c .if1 .block ≡ diagonalPlace (sideOf (c .before .args .trailing)) (c .before .args .span)
+unfolding diagonalPlace sideOf
+block c =
+    let at : Bool → ℕ = λ t. diagonalPlace (sideOf t) (c .before .args .span) in
+    ⊎-elim (λ w. w .1 ∙ ap at (sym (w .0 .taken))) (λ w. w .1 ∙ ap at (sym (w .0 .left))) (c .if1 .came)
+
+loop-holds : tie.Need-loop-holds Inv-loop μ-loop
+unfolding rootFound rootValue
+loop-holds c =
+    let args = c .before .args in
+    let none = report-none (sideOf (args .trailing)) (args .span) (args .m) (now (args .store)) (args .t3) in
+    (block c, (omega arith, (omega arith, ap answered (sym none))))
+
+mul-from : tie.Need-mul-from Inv-loop μ-loop
+mul-from c = omega (arith, long c)
+
+mul-from-2 : tie.Need-mul-from-2 Inv-loop μ-loop
+mul-from-2 c = omega (arith, long (c .before))
+
+add-from : tie.Need-add-from Inv-loop μ-loop
+add-from c = omega (arith, long (c .before))
+
+mul-from-3 : tie.Need-mul-from-3 Inv-loop μ-loop
+mul-from-3 c = omega (arith, long (c .before))
+
+array-read-from : tie.Need-array-read-from Inv-loop μ-loop
+array-read-from c = omega (arith, long (c .before))
+
+mul-from-4 : tie.Need-mul-from-4 Inv-loop μ-loop
+mul-from-4 c = omega (arith, long (c .before))
+
+add-from-2 : tie.Need-add-from-2 Inv-loop μ-loop
+add-from-2 c = omega (arith, long (c .before))
+
+add-to : tie.Need-add-to Inv-loop μ-loop
+add-to c = omega (arith, long (c .before))
+
+mul-furthest-root : tie.Need-mul-furthest-root Inv-loop μ-loop
+mul-furthest-root c = omega (arith, long (c .before))
+
+sub-furthest-root : tie.Need-sub-furthest-root Inv-loop μ-loop
+sub-furthest-root c = omega (arith, long (c .before))
+
+part-furthest-root-start : tie.Need-part-furthest-root-start Inv-loop μ-loop
+part-furthest-root-start c = omega (arith, long (c .before))
+
+part-furthest-root-end : tie.Need-part-furthest-root-end Inv-loop μ-loop
+part-furthest-root-end c = omega (arith, long (c .before))
+
+furthest-root-requires : tie.Need-furthest-root-requires Inv-loop μ-loop
+furthest-root-requires c κs =
+    let at = c .before .before in
+    rw (part at) (rw length-take (omega arith), numbers at)
+
+further-requires : tie.Need-further-requires Inv-loop μ-loop
+further-requires c κs = (answered-option _ (c .before .before .before .before .loop .inv .1 .1 .1), answered-option _ (root c))
+
+add-j : tie.Need-add-j Inv-loop μ-loop
+add-j c = omega arith
+
+loop-less : tie.Need-loop-less Inv-loop μ-loop
+loop-less c = omega arith
+
+loop-again : tie.Need-loop-again Inv-loop μ-loop
+loop-again c =
+    let at = c .before .before .before .before in
+    let inv = at .before .loop .inv in
+    let answer = ap₂ (λ x y. answered (furtherOf (side at) x y)) (option-of _ (inv .1 .1 .1)) (option-of _ (root (c .before))) in
+    let next = report-next (side at) (span at) (m at) (store at) (order at) (enough at) (start at .pre .1) (start at .pre .2) (j at)
+    (at .loop-test .taken) in
+    (inv .0, (enough at, (omega arith, c .further .ensures ∙ answer ∙ ap answered next)))
+
+returns : tie.Need-returns Inv-loop μ-loop
+returns c =
+    let s = c .before .before .before in
+    let inv = c .before .loop .inv in
+    let all = report-all (sideOf (s .args .trailing)) (s .args .span) (s .args .m) (now (s .args .store)) (s .args .t3) (inv .1 .0)
+    (c .before .loop .j) (c .loop-test .left) in
+    inv .1 .1 .1 ∙ ap answered all
+
+pub report-spec : {M : Type 1} → statement M
+report-spec =
+    tie.close
+    (tie.spec
+    Inv-loop
+    μ-loop
+    loop-holds
+    mul-from
+    mul-from-2
+    add-from
+    mul-from-3
+    array-read-from
+    mul-from-4
+    add-from-2
+    add-to
+    mul-furthest-root
+    sub-furthest-root
+    part-furthest-root-start
+    part-furthest-root-end
+    furthest-root-requires
+    further-requires
+    add-j
+    loop-less
+    loop-again
+    returns)

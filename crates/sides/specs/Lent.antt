@@ -1,0 +1,36 @@
+-- The side of a run, and what is asked of the lent stores.
+--
+-- Main definitions
+--   sideOf trailing              the side of a run
+--   Within need store            the store is long enough, and its needed part is within ±C
+--   Listing count relations      a relation store in which `count` places are used and the others hold 0
+--   Kept need store store'       the length and the numbers past the needed part are the same
+use Prim.Native.Nat.{ℕ, _*_, _≤_}
+use mathlib.Core.Path.{_≡_}
+use mathlib.Core.Bool.{Bool, true, false}
+use mathlib.Core.List.{List}
+use lib.Dec.{T}
+use lib.IntN.{ℤ}
+use lib.ListN.{length, take, drop}
+use Rattle.algebra.specs.Polynomials.{isZero}
+use Rattle.rules.specs.Limits.{small, relationLength, mostRelations}
+use Rattle.rules.specs.Rows.{every}
+use Rattle.rules.specs.Elimination.{Side, leading, trailing}
+use Rattle.rules.specs.Stores.{relationNeed}
+
+unfoldable pub sideOf : Bool → Side
+sideOf false = leading
+sideOf true = trailing
+
+pub record Within (need : ℕ) (store : List ℤ) : Type 0 where
+  pub long : need ≤ length store
+  pub numbers : T (every small (take need store))
+
+pub record Listing (count : ℕ) (relations : List ℤ) : Type 0 where
+  pub few : count ≤ mostRelations
+  pub within : Within relationNeed relations
+  pub unused : T (isZero (drop (count * relationLength) (take relationNeed relations)))
+
+pub record Kept (need : ℕ) (store store' : List ℤ) : Type 0 where
+  pub same-length : length store' ≡ length store
+  pub same-rest : drop need store' ≡ drop need store

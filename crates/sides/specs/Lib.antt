@@ -1,0 +1,5 @@
+pub mod Lent
+pub mod StoreStates
+pub mod Relations
+pub mod MirrorLaws
+pub mod ReportLaws

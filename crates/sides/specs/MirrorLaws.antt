@@ -1,0 +1,250 @@
+-- The mirror of the rows and of the relations that the lent stores hold, one after the other.
+--
+-- Main definitions
+--   mirrorNumbers D p           the numbers of the mirror of the row that p holds
+--   mirrorRelationNumbers D p   the numbers of the mirror of the relation that p holds
+--   Changed k n i g a b         of n parts of width k of the store a the first i have been changed by g, which gives b
+--   RowsMirrored, RelationsMirrored   the store after the mirror: what it holds, and what has stayed
+--
+-- Main statements
+--   changed-none, changed-next, changed-parts   no part changed, one part more, all parts
+--   rows-mirrored, relations-mirrored           all parts mirrored
+use Prim.Native.Nat.{ℕ, zero, suc, _+_, _*_, _-_, _≤_, _<_}
+use native.Mathlib.Nat.{not-suc-le-zero, le-of-suc-le-suc, le-of-eq, le-refl, suc-ne-zero, suc-inj}
+use native.Mathlib.Nat.{suc-mul, mul-le-mul-right, add-sub-of-le}
+use native.Mathlib.Numerals.{add-one}
+use native.Mathlib.Omega.{arith}
+use mathlib.Core.Path.{_≡_, refl, sym, _∙_, ap, ap₂, subst}
+use mathlib.Core.List.{List, [], _∷_, _++_, map}
+use lib.Dec.{T}
+use lib.IntN.{ℤ, pos, negℤ, natAbs}
+use lib.ListN.{length, take, drop, getD, set, length-drop}
+use lib.Seq.{paste, length-take-le, take-add, take-take, drop-drop}
+use Rattle.algebra.specs.Integers.{natAbs-negℤ}
+use Rattle.algebra.specs.Polynomials.{T-&&, isZero}
+use Rattle.rules.specs.Limits.{bound, small}
+use Rattle.rules.specs.Rows.{All, every, coefficientsOf, smallRow, mirrorRow, mirrorRelation}
+use Rattle.rules.specs.Lists.{drop-take, every-append}
+use Rattle.rules.specs.Stores.{parts, rowOf, rowsOf, relationOf, relationsOf, relationNumbers, rowNeed, relationNeed}
+use Rattle.rules.specs.Layout.{parts-length, parts-width, getD-parts}
+use Rattle.polynomials.specs.Content.{small-at}
+use Rattle.rows.specs.Validity.{index-at, row-after}
+use Rattle.working.specs.Mirroring.{length-mirrorRow, rowOf-mirrorRow, small-mirrorRow}
+use Rattle.sides.specs.Lent.{Within, Listing, Kept}
+use Rattle.rows.specs.Written.{every-part}
+use Rattle.sides.specs.StoreStates.{parts-paste, part-small, within-paste, kept-paste, kept-same, kept-then}
+
+-- ---- parts of one width, changed one after the other
+
+-- The list with g applied to its first i members.
+unfoldable pub changeFirst : {A : Type 0} → (A → A) → ℕ → List A → List A
+changeFirst g i l = map g (take i l) ++ drop i l
+
+change-next : {A : Type 0} (g : A → A) (l : List A) (i : ℕ) (d : A) → i < length l
+    → set (changeFirst g i l) i (g (getD (changeFirst g i l) i d)) ≡ changeFirst g (suc i) l
+unfolding changeFirst
+change-next g [] i d h = absurd (not-suc-le-zero h)
+change-next g (x ∷ l) zero d h = refl
+change-next g (x ∷ l) (suc i) d h = ap (λ r. g x ∷ r) (change-next g l i d (le-of-suc-le-suc h))
+
+change-all : {A : Type 0} (g : A → A) (l : List A) (i : ℕ) → length l ≤ i → changeFirst g i l ≡ map g l
+unfolding changeFirst
+change-all g [] zero h = refl
+change-all g [] (suc i) h = refl
+change-all g (x ∷ l) zero h = absurd (not-suc-le-zero h)
+change-all g (x ∷ l) (suc i) h = ap (λ r. g x ∷ r) (change-all g l i (le-of-suc-le-suc h))
+
+pub record Changed (k n i : ℕ) (g : List ℤ → List ℤ) (before after : List ℤ) : Type 0 where
+  pub changed : parts k n after ≡ changeFirst g i (parts k n before)
+  pub within : Within (n * k) after
+  pub kept : Kept (n * k) before after
+
+pub changed-none : (k n : ℕ) (g : List ℤ → List ℤ) (store : List ℤ) → Within (n * k) store → Changed k n 0 g store store
+unfolding changeFirst
+changed-none k n g store w = record { changed = refl; within = w; kept = kept-same (n * k) store }
+
+-- g keeps the width k and the bound ±C.
+abbrev pub Stays : ℕ → (List ℤ → List ℤ) → Type 0
+Stays k g = (p : List ℤ) → length p ≡ k → T (every small p) → (length (g p) ≡ k) × T (every small (g p))
+
+module _ (k n : ℕ) (g : List ℤ → List ℤ) (stays : Stays k g) (before store : List ℤ) where
+  pub changed-next : (i : ℕ) → i < n → Changed k n i g before store
+      → Changed k n (i + 1) g before (paste store (i * k) (g (take k (drop (i * k) store))) k)
+  changed-next i h c =
+      record {
+        changed =
+            parts-paste k n store (g part) i (kept-part .0) (c .within .long) h
+            ∙ ap (λ p. set (parts k n store) i (g p)) (sym (getD-parts k n store i h))
+            ∙ ap (λ ps. set ps i (g (getD ps i []))) (c .changed)
+            ∙ change-next g (parts k n before) i [] (rw parts-length h)
+            ∙ ap (λ j. changeFirst g j (parts k n before)) (sym (add-one i));
+        within = within-paste (n * k) store (c .within) (i * k) (g part) k long inside (kept-part .1);
+        kept = kept-then (c .kept) (kept-paste (n * k) store (c .within) (i * k) (g part) k long inside);
+      }
+    where
+      part : List ℤ
+      part = take k (drop (i * k) store)
+
+      inside : i * k + k ≤ n * k
+      inside = subst (λ j. j ≤ n * k) (suc-mul i k) (mul-le-mul-right k h)
+
+      width : length part ≡ k
+      width = length-take-le k (drop (i * k) store) (rw length-drop (omega (arith, c .within .long, inside)))
+
+      kept-part : (length (g part) ≡ k) × T (every small (g part))
+      kept-part = stays part width (part-small k n i store h (c .within))
+
+      long : k ≤ length (g part)
+      long = le-of-eq (sym (kept-part .0))
+
+  pub changed-parts : (i : ℕ) → n ≤ i → Changed k n i g before store → parts k n store ≡ map g (parts k n before)
+  changed-parts i h c = c .changed ∙ change-all g (parts k n before) i (rw parts-length h)
+
+-- A longer part of a store.
+module _ (n need : ℕ) (inside : n ≤ need) where
+  first-and-rest : (l : List ℤ) → take need l ≡ take n l ++ take (need - n) (drop n l)
+  first-and-rest l = ap (λ j. take j l) (sym (add-sub-of-le inside)) ∙ take-add n (need - n) l
+
+  rest-of : (l : List ℤ) → drop n (take need l) ≡ take (need - n) (drop n l)
+  rest-of l = ap (λ j. drop n (take j l)) (sym (add-sub-of-le inside)) ∙ drop-take n (need - n) l
+
+  past : (l : List ℤ) → drop need l ≡ drop (need - n) (drop n l)
+  past l = ap (λ j. drop j l) (sym (add-sub-of-le inside)) ∙ sym (drop-drop (need - n) n l)
+
+  -- Within ±C, and only the first n numbers have changed.
+  module _ (before after : List ℤ) (w : Within need before) (c : Within n after) (kept : Kept n before after) where
+    rest-kept : drop n (take need after) ≡ drop n (take need before)
+    rest-kept = rest-of after ∙ ap (take (need - n)) (kept .same-rest) ∙ sym (rest-of before)
+
+    within-longer : Within need after
+    within-longer =
+        record { long = rw (kept .same-length) (w .long); numbers = subst (λ l. T (every small l)) (sym (first-and-rest after)) both }
+      where
+        rest : T (every small (take (need - n) (drop n after)))
+        rest =
+            subst (λ l. T (every small l))
+            (ap (take (need - n)) (rest-of before) ∙ take-take (need - n) (need - n) (drop n before) (le-refl (need - n))
+            ∙ ap (take (need - n)) (sym (kept .same-rest)))
+            (every-part small n (need - n) (take need before) (w .numbers))
+
+        both : T (every small (take n after ++ take (need - n) (drop n after)))
+        both = rw every-append (T-&& (every small (take n after)) (every small (take (need - n) (drop n after))) .1 (c .numbers, rest))
+
+    kept-longer : Kept need before after
+    kept-longer =
+        record { same-length = kept .same-length; same-rest = past after ∙ ap (drop (need - n)) (kept .same-rest) ∙ sym (past before) }
+
+-- What the changed parts hold, each read by `decode`.
+decode-changed : {B : Type 0} (k : ℕ) (decode : List ℤ → B) (g : List ℤ → List ℤ) (f : B → B)
+    → ((p : List ℤ) → length p ≡ k → decode (g p) ≡ f (decode p))
+    → (ps : List (List ℤ)) → All (λ p. length p ≡ k) ps → map decode (map g ps) ≡ map f (map decode ps)
+unfolding All
+decode-changed k decode g f e [] h = refl
+decode-changed k decode g f e (p ∷ ps) h = ap₂ (λ x l. x ∷ l) (e p (h .0)) (decode-changed k decode g f e ps (h .1))
+
+-- ---- rows
+
+abbrev pub mirrorNumbers : ℕ → List ℤ → List ℤ
+mirrorNumbers D p = coefficientsOf (mirrorRow D (rowOf p))
+
+pub mirror-stays : (D : ℕ) → D ≤ 4 → Stays 320 (mirrorNumbers D)
+unfolding smallRow
+mirror-stays D few p e s = (length-mirrorRow D p few e, small-mirrorRow D p few e s)
+
+pub record RowsMirrored (m D : ℕ) (before after : List ℤ) : Type 0 where
+  pub rows : rowsOf m after ≡ map (mirrorRow D) (rowsOf m before)
+  pub within : Within (rowNeed m) after
+  pub kept : Kept (rowNeed m) before after
+
+pub rows-mirrored : (m D i : ℕ) (before after : List ℤ) → D ≤ 4 → Within (rowNeed m) before → m ≤ i
+    → Changed 320 m i (mirrorNumbers D) before after → RowsMirrored m D before after
+unfolding rowsOf rowNeed
+rows-mirrored m D i before after few w h c =
+    record {
+      rows =
+          ap (map rowOf) (changed-parts 320 m (mirrorNumbers D) (mirror-stays D few) before after i h c)
+          ∙ decode-changed 320 rowOf (mirrorNumbers D) (mirrorRow D) (λ p. rowOf-mirrorRow D p few) (parts 320 m before)
+          (parts-width 320 m before (w .long));
+      within = c .within;
+      kept = c .kept;
+    }
+
+-- ---- relations
+
+abbrev pub mirrorRelationNumbers : ℕ → List ℤ → List ℤ
+mirrorRelationNumbers D p = relationNumbers (mirrorRelation D (relationOf p))
+
+-- The places in use.
+pub used-within : (count : ℕ) (store : List ℤ) → Listing count store → Within (count * 321) store
+used-within count store l =
+    record {
+      long = omega (arith, l .few, l .within .long);
+      numbers =
+          subst (λ p. T (every small p)) (take-take (count * 321) relationNeed store (omega (arith, l .few)))
+          (every-part small 0 (count * 321) (take relationNeed store) (l .within .numbers));
+    }
+
+-- A relation as it is read from the store: n0 and then a row.
+module _ (store : List ℤ) (at : ℕ) where
+  abbrev relation : List ℤ
+  relation = take 321 (drop at store)
+
+  pub index-small : T (every small relation) → natAbs (getD store at (pos 0)) ≤ bound
+  unfolding relationOf
+  index-small s = rw (index-at store at) at (small-at relation s 0)
+
+  pub row-small : T (every small relation) → T (every small (take 320 (drop (at + 1) store)))
+  row-small s =
+      let row = ap (take 320) (drop-take 1 320 (drop at store)) ∙ take-take 320 320 (drop 1 (drop at store)) (le-refl 320) in
+      subst (λ l. T (every small l)) (row ∙ ap (take 320) (drop-drop 1 at store)) (every-part small 1 320 relation s)
+
+  -- n0 negated and then the row's mirror.
+  pub mirror-relation : (D : ℕ)
+      → negℤ (getD store at (pos 0)) ∷ mirrorNumbers D (take 320 (drop (at + 1) store)) ≡ mirrorRelationNumbers D relation
+  unfolding relationNumbers mirrorRelation
+  mirror-relation D =
+      ap₂ (λ n0 r. negℤ n0 ∷ coefficientsOf (mirrorRow D r)) (sym (index-at store at)) (sym (row-after store at))
+
+pub relation-stays : (D : ℕ) → D ≤ 4 → Stays 321 (mirrorRelationNumbers D)
+unfolding smallRow every small relationNumbers mirrorRelation relationOf
+relation-stays D few [] e s = absurd (suc-ne-zero 320 (sym e))
+relation-stays D few (n0 ∷ row) e s =
+    let both = T-&& (small n0) (every small row) .0 s in
+    let long = suc-inj e in (
+      ap suc (length-mirrorRow D row few long),
+      T-&& (small (negℤ n0)) (every small (mirrorNumbers D row)) .1 (rw natAbs-negℤ (both .0), small-mirrorRow D row few long (both .1)),
+    )
+
+relationOf-mirrorRelation : (D : ℕ) → D ≤ 4 → (p : List ℤ) → length p ≡ 321
+    → relationOf (mirrorRelationNumbers D p) ≡ mirrorRelation D (relationOf p)
+unfolding relationOf relationNumbers mirrorRelation
+relationOf-mirrorRelation D few p e =
+    λ i. record { index = negℤ (getD p 0 (pos 0)); row = rowOf-mirrorRow D (drop 1 p) few (rw length-drop (omega arith)) i }
+
+pub record RelationsMirrored (count D : ℕ) (before after : List ℤ) : Type 0 where
+  pub relations : relationsOf count after ≡ map (mirrorRelation D) (relationsOf count before)
+  pub listing : Listing count after
+  pub kept : Kept relationNeed before after
+
+pub relations-mirrored : (count D i : ℕ) (before after : List ℤ) → D ≤ 4 → Listing count before → count ≤ i
+    → Changed 321 count i (mirrorRelationNumbers D) before after → RelationsMirrored count D before after
+unfolding relationsOf
+relations-mirrored count D i before after few l h c =
+    record {
+      relations =
+          ap (map relationOf) (changed-parts 321 count (mirrorRelationNumbers D) (relation-stays D few) before after i h c)
+          ∙ decode-changed 321 relationOf (mirrorRelationNumbers D) (mirrorRelation D) (relationOf-mirrorRelation D few) (parts 321 count before)
+          (parts-width 321 count before (omega (arith, l .within .long)));
+      listing =
+          record {
+            few = l .few;
+            within = within-longer (count * 321) relationNeed used before after (l .within) (c .within) (c .kept);
+            unused =
+                subst (λ r. T (isZero r)) (sym (rest-kept (count * 321) relationNeed used before after (l .within) (c .within) (c .kept)))
+                (l .unused);
+          };
+      kept = kept-longer (count * 321) relationNeed used before after (l .within) (c .within) (c .kept);
+    }
+  where
+    used : count * 321 ≤ relationNeed
+    used = omega (arith, l .few)

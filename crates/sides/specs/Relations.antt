@@ -1,0 +1,139 @@
+-- Relations listed in the relation store, one for each root, all with the same row.
+--
+-- Main definitions
+--   relationsAt r l            the relations "r at n0", n0 in l
+--   Relisted count row l a b   the relation store b is the store a with those relations listed past the first `count`
+--
+-- Main statements
+--   listed-first, listed-last  the k-th root in the order of a side
+--   relisted-none, relisted-more   no root, and one root more
+--   every-listing              what all roots pass, they pass in the order of a side
+use Prim.Native.Nat.{ℕ, suc, _+_, _*_, _-_, _≤_, _<_}
+use native.Mathlib.Nat.{not-suc-le-zero, le-of-suc-le-suc, eq-or-lt-of-le, add-zero, le-of-eq}
+use native.Mathlib.Numerals.{add-one}
+use native.Mathlib.Omega.{arith}
+use mathlib.Core.Path.{_≡_, refl, sym, _∙_, ap, subst}
+use mathlib.Core.Logic.{⊎-elim}
+use mathlib.Core.Bool.{Bool, true, _&&_}
+use mathlib.Core.List.{List, [], _∷_, _++_, map, reverse, reverse-cons, append-assoc, append-nil, map-append}
+use lib.Dec.{T, le→leb}
+use lib.IntN.{ℤ, pos, natAbs}
+use lib.ListN.{length, take, getD, length-append, length-reverse, List·getD-append}
+use lib.Seq.{paste, take-suc, getD-at, getD-take, length-take-le}
+use Rattle.algebra.specs.Polynomials.{T-&&}
+use Rattle.rules.specs.Limits.{bound, small}
+use Rattle.rules.specs.Rows.{Row, Relation, every}
+use Rattle.rules.specs.Elimination.{Side, leading, trailing, listing}
+use Rattle.rules.specs.Lists.{every-append}
+use Rattle.rules.specs.Stores.{rowOf, relationOf, relationsOf, relationNeed}
+use Rattle.polynomials.specs.Content.{small-at}
+use Rattle.sides.specs.Lent.{Listing, Kept}
+use Rattle.sides.specs.StoreStates.{relationsOf-paste, kept-same, kept-then, kept-paste, listing-paste}
+
+-- ---- the roots in the order of a side
+
+getD-reverse : {A : Type 0} (l : List A) (k : ℕ) (d : A) → k < length l → getD (reverse l) k d ≡ getD l (length l - 1 - k) d
+getD-reverse [] k d h = absurd (not-suc-le-zero h)
+getD-reverse (x ∷ l) k d h =
+    ap (λ r. getD r k d) (reverse-cons x l)
+    ∙ ⊎-elim last (λ b. inside b (getD-reverse l k d b)) (eq-or-lt-of-le (le-of-suc-le-suc h))
+  where
+    last : k ≡ length l → getD (reverse l ++ (x ∷ [])) k d ≡ getD (x ∷ l) (length (x ∷ l) - 1 - k) d
+    last e =
+        let first : length (x ∷ l) - 1 - k ≡ 0 = omega arith in
+        getD-at (reverse l) x [] d k (length-reverse l ∙ sym e) ∙ ap (λ j. getD (x ∷ l) j d) (sym first)
+
+    inside : k < length l → getD (reverse l) k d ≡ getD l (length l - 1 - k) d
+        → getD (reverse l ++ (x ∷ [])) k d ≡ getD (x ∷ l) (length (x ∷ l) - 1 - k) d
+    inside b e =
+        let next : length (x ∷ l) - 1 - k ≡ suc (length l - 1 - k) = omega arith in
+        List·getD-append (reverse l) (x ∷ []) d k (rw length-reverse b) ∙ e ∙ ap (λ j. getD (x ∷ l) j d) (sym next)
+
+pub listed-first : (l : List ℤ) (n k : ℕ) → k < n → getD (listing leading (take n l)) k (pos 0) ≡ getD l k (pos 0)
+unfolding listing
+listed-first l n k h = getD-take n l k (pos 0) h
+
+pub listed-last : (l : List ℤ) (n k : ℕ) → n ≤ length l → k < n → getD (listing trailing (take n l)) k (pos 0) ≡ getD l (n - 1 - k) (pos 0)
+unfolding listing
+listed-last l n k g h =
+    let size : length (take n l) ≡ n = length-take-le n l g in
+    getD-reverse (take n l) k (pos 0) (rw size h) ∙ ap (λ j. getD (take n l) (j - 1 - k) (pos 0)) size
+    ∙ getD-take n l (n - 1 - k) (pos 0) (omega arith)
+
+pub length-listing : (side : Side) (l : List ℤ) → length (listing side l) ≡ length l
+unfolding listing
+length-listing leading l = refl
+length-listing trailing l = length-reverse l
+
+every-reverse : {A : Type 0} (t : A → Bool) (l : List A) → T (every t l) → T (every t (reverse l))
+unfolding every
+every-reverse t [] h = tt
+every-reverse t (x ∷ l) h =
+    let both = T-&& (t x) (every t l) .0 h in
+    subst T (sym (ap (every t) (reverse-cons x l) ∙ every-append t (reverse l) (x ∷ [])))
+    (T-&& (every t (reverse l)) (t x && true) .1 (every-reverse t l (both .1), T-&& (t x) true .1 (both .0, tt)))
+
+pub every-listing : (side : Side) (t : ℤ → Bool) (l : List ℤ) → T (every t l) → T (every t (listing side l))
+unfolding listing
+every-listing leading t l h = h
+every-listing trailing t l h = every-reverse t l h
+
+-- ---- the store
+
+abbrev pub relationsAt : Row → List ℤ → List Relation
+relationsAt r l = map (λ n0. record { index = n0; row = r }) l
+
+pub record Relisted (count : ℕ) (row l before after : List ℤ) : Type 0 where
+  pub relations : relationsOf (count + length l) after ≡ relationsOf count before ++ relationsAt (rowOf row) l
+  pub listing : Listing (count + length l) after
+  pub kept : Kept relationNeed before after
+
+pub relisted-none : (count : ℕ) (row store : List ℤ) → Listing count store → Relisted count row [] store store
+relisted-none count row store h =
+    record {
+      relations = ap (λ n. relationsOf n store) (add-zero count) ∙ sym (append-nil (relationsOf count store));
+      listing = rw (add-zero count) h;
+      kept = kept-same relationNeed store;
+    }
+
+-- A relation more, with the index n0.
+relisted-snoc : (count : ℕ) (row l before store : List ℤ) (n0 : ℤ) → Relisted count row l before store
+    → count + length l < 16 → length row ≡ 320 → T (every small (n0 ∷ row))
+    → Relisted count row (l ++ (n0 ∷ [])) before (paste store ((count + length l) * 321) (n0 ∷ row) 321)
+unfolding relationOf
+relisted-snoc count row l before store n0 h b e s =
+    let place = count + length l in
+    let numbers = n0 ∷ row in
+    let relation : Relation = record { index = n0; row = rowOf row } in
+    record {
+      relations =
+          ap (λ n. relationsOf n (paste store (place * 321) numbers 321)) size
+          ∙ relationsOf-paste place store numbers (ap suc e) (room place b (h .listing .within .long))
+          ∙ ap (λ r. r ++ (relation ∷ [])) (h .relations)
+          ∙ append-assoc (relationsOf count before) (relationsAt (rowOf row) l) (relation ∷ [])
+          ∙ ap (λ r. relationsOf count before ++ r) (sym (map-append (λ n0. record { index = n0; row = rowOf row }) l (n0 ∷ [])));
+      listing = rw size (listing-paste place store numbers (h .listing) (ap suc e) s b);
+      kept =
+          kept-then (h .kept)
+          (kept-paste relationNeed store (h .listing .within) (place * 321) numbers 321 (le-of-eq (sym (ap suc e))) (below place b));
+    }
+  where
+    size : count + length (l ++ (n0 ∷ [])) ≡ suc (count + length l)
+    size = simp length-append (omega arith)
+
+    below : (k : ℕ) → k < 16 → k * 321 + 321 ≤ 5136
+    below k h = omega arith
+
+    room : (k : ℕ) → k < 16 → relationNeed ≤ length store → k * 321 + 321 ≤ length store
+    room k h g = omega arith
+
+pub relisted-more : (count k : ℕ) (row l before store : List ℤ) → Relisted count row (take k l) before store
+    → k < length l → count + k < 16 → length row ≡ 320 → T (every small row) → T (every small l)
+    → Relisted count row (take (k + 1) l) before (paste store ((count + k) * 321) (getD l k (pos 0) ∷ row) 321)
+unfolding every small
+relisted-more count k row l before store h g b e s t =
+    let size : length (take k l) ≡ k = length-take-le k l (omega arith) in
+    let number : T (small (getD l k (pos 0))) = le→leb (natAbs (getD l k (pos 0))) bound (small-at l t k) in
+    let both = T-&& (small (getD l k (pos 0))) (every small row) .1 (number, s) in
+    let more = relisted-snoc count row (take k l) before store (getD l k (pos 0)) h (rw size b) e both in
+    rw (add-one, take-suc l k (pos 0)) (rw size at more)

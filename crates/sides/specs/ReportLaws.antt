@@ -1,0 +1,268 @@
+-- The root report over the rows of a store: the furthest of the furthest roots of the diagonal polynomials.
+--
+-- Main definitions
+--   furtherOf side x y     the further of two roots, each of which may be missing
+--   optionOf r             the root that an answer gives, if any
+--   settledState m l cs    a state of the m rows of the store l, settled at the columns cs
+--
+-- Main statements
+--   furthest-append        the furthest of two lists is the further of their furthest
+--   option-of, answered-option   an answer for a root, as an option again
+--   report-settled         the report depends on the rows and on their columns alone
+--   report-none, report-next, report-all   the report over no rows, one row more, all rows
+use Prim.Native.Nat.{ℕ, zero, suc, _+_, _*_, _≤_, _<_, suc-le-suc}
+use native.Mathlib.Nat.{not-suc-le-zero, le-of-suc-le-suc, suc-ne-zero, suc-inj}
+use native.Mathlib.Numerals.{add-one}
+use native.Mathlib.Omega.{arith}
+use mathlib.Core.Path.{_≡_, refl, sym, _∙_, ap, ap₂, subst}
+use mathlib.Core.Logic.{⊎-elim}
+use mathlib.Core.Bool.{Bool, true, false, cond, not, Bool·not-not}
+use mathlib.Core.List.{List, [], _∷_, _++_, map, flatten, zipWith, append-nil}
+use mathlib.Core.Option.{Option, none, some}
+use lib.Dec.{T, lit<}
+use lib.IntN.{ℤ}
+use lib.ListN.{length, take, drop, getD}
+use lib.Seq.{take-suc, take-all, length-take-le, getD-take}
+use lib.Signed.{_≤ℤ_, leZ, leZ-yes}
+use Rattle.algebra.specs.Polynomials.{Polynomial, same-test}
+use Rattle.algebra.specs.Roots.{roots}
+use Rattle.algebra.specs.Order.{≤ℤ-trans, ≤ℤ-total}
+use Rattle.rules.specs.Elimination.{Side, leading, trailing, State, diagonal, diagonalPlace, further, furthest, report}
+use Rattle.rules.specs.Limits.{small}
+use Rattle.rules.specs.Rows.{Row, noRow, every}
+use Rattle.rules.specs.Stores.{rowsOf, rowNeed}
+use Rattle.rules.specs.Layout.{length-rowsOf, polynomial-at}
+use Rattle.rules.specs.Calls.{rootFound, rootValue}
+use Rattle.roots.specs.declared.RootAnswer.{RootAnswer}
+use Rattle.roots.specs.RootSearch.{answered}
+use Rattle.working.specs.Found.{Columns, Columns-at}
+use Rattle.sides.specs.Lent.{Within}
+use Rattle.sides.specs.StoreStates.{part-small}
+
+-- ---- the furthest of two lists
+
+unfoldable pub furtherOf : Side → Option ℤ → Option ℤ → Option ℤ
+unfolding further
+furtherOf side none o = o
+furtherOf side (some a) o = some (further side a o)
+
+-- Is b taken of the two, as the larger or, on the trailing side, the smaller?
+unfoldable pub isBeyond : Side → ℤ → ℤ → Bool
+isBeyond leading a b = leZ a b
+isBeyond trailing a b = not (leZ a b)
+
+further-one : (side : Side) (a b : ℤ) → further side a (some b) ≡ cond (isBeyond side a b) b a
+unfolding further isBeyond
+further-one leading a b = refl
+further-one trailing a b = turned (leZ a b)
+  where
+    turned : (t : Bool) → cond t a b ≡ cond (not t) b a
+    turned true = refl
+    turned false = refl
+
+passed : (a b : ℤ) → leZ a b ≡ true → a ≤ℤ b
+passed a b h = leZ-yes (subst T (sym h) tt)
+
+failed : (a b : ℤ) → leZ a b ≡ false → a ≤ℤ b → ⊥
+failed a b h k = subst T h (k .le)
+
+leZ-trans : (t : Bool) (a b c : ℤ) → leZ a b ≡ t → leZ b c ≡ t → leZ a c ≡ t
+leZ-trans true a b c h g = same-test (leZ a c) true (λ _. tt) (λ _. ≤ℤ-trans (passed a b h) (passed b c g) .le)
+leZ-trans false a b c h g = same-test (leZ a c) false (λ t. failed a b h (≤ℤ-trans (leZ-yes t) below)) (λ t. absurd t)
+  where
+    below : c ≤ℤ b
+    below = ⊎-elim (λ k. absurd (failed b c g k)) (λ k. k) (≤ℤ-total b c)
+
+isBeyond-trans : (side : Side) (t : Bool) (a b c : ℤ) → isBeyond side a b ≡ t → isBeyond side b c ≡ t → isBeyond side a c ≡ t
+unfolding isBeyond
+isBeyond-trans leading t a b c h g = leZ-trans t a b c h g
+isBeyond-trans trailing t a b c h g = turned (leZ a c) (leZ-trans (not t) a b c (back (leZ a b) h) (back (leZ b c) g))
+  where
+    back : (s : Bool) → not s ≡ t → s ≡ not t
+    back s e = sym (Bool·not-not s) ∙ ap not e
+
+    turned : (s : Bool) → s ≡ not t → not s ≡ t
+    turned s e = ap not e ∙ Bool·not-not t
+
+further-assoc : (side : Side) (a : ℤ) (x y : Option ℤ) → further side a (furtherOf side x y) ≡ further side (further side a x) y
+unfolding further furtherOf
+further-assoc side a none y = refl
+further-assoc side a (some b) none = refl
+further-assoc side a (some b) (some c) =
+    further-one side a (further side b (some c)) ∙ ap (λ z. cond (isBeyond side a z) z a) (further-one side b c)
+    ∙ cases (isBeyond side a b) (isBeyond side b c) refl refl
+    ∙ sym (further-one side (further side a (some b)) c ∙ ap (λ z. cond (isBeyond side z c) c z) (further-one side a b))
+  where
+    cases : (s t : Bool) → isBeyond side a b ≡ s → isBeyond side b c ≡ t
+        → cond (isBeyond side a (cond t c b)) (cond t c b) a ≡ cond (isBeyond side (cond s b a) c) c (cond s b a)
+    cases true true p q = ap (λ u. cond u c a) (isBeyond-trans side true a b c p q) ∙ sym (ap (λ u. cond u c b) q)
+    cases true false p q = ap (λ u. cond u b a) p ∙ sym (ap (λ u. cond u c b) q)
+    cases false true p q = refl
+    cases false false p q = ap (λ u. cond u b a) p ∙ sym (ap (λ u. cond u c a) (isBeyond-trans side false a b c p q))
+
+pub furthest-append : (side : Side) (l m : List ℤ) → furthest side (l ++ m) ≡ furtherOf side (furthest side l) (furthest side m)
+unfolding furthest furtherOf
+furthest-append side [] m = refl
+furthest-append side (a ∷ l) m =
+    ap (λ o. some (further side a o)) (furthest-append side l m) ∙ ap some (further-assoc side a (furthest side l) (furthest side m))
+
+furtherOf-assoc : (side : Side) (x y z : Option ℤ) → furtherOf side x (furtherOf side y z) ≡ furtherOf side (furtherOf side x y) z
+unfolding furtherOf
+furtherOf-assoc side none y z = refl
+furtherOf-assoc side (some a) y z = ap some (further-assoc side a y z)
+
+-- One list more.
+furthest-more : {A : Type 0} (side : Side) (f : A → List ℤ) (xs : List A) (x : A)
+    → furthest side (flatten (map f (xs ++ x ∷ []))) ≡ furtherOf side (furthest side (flatten (map f xs))) (furthest side (f x))
+unfolding flatten furthest furtherOf
+furthest-more side f [] x = ap (furthest side) (append-nil (f x))
+furthest-more side f (y ∷ xs) x =
+    furthest-append side (f y) (flatten (map f (xs ++ x ∷ []))) ∙ ap (furtherOf side (furthest side (f y))) (furthest-more side f xs x)
+    ∙ furtherOf-assoc side (furthest side (f y)) (furthest side (flatten (map f xs))) (furthest side (f x))
+    ∙ ap (λ o. furtherOf side o (furthest side (f x))) (sym (furthest-append side (f y) (flatten (map f xs))))
+
+-- ---- answers
+
+unfoldable pub optionOf : RootAnswer → Option ℤ
+optionOf r = cond (r .found) (some (r .root)) none
+
+pub option-of : {r : RootAnswer} (o : Option ℤ) → r ≡ answered o → optionOf r ≡ o
+unfolding optionOf rootFound rootValue
+option-of none e = ap optionOf e
+option-of (some a) e = ap optionOf e
+
+pub answered-option : {r : RootAnswer} (o : Option ℤ) → r ≡ answered o → r ≡ answered (optionOf r)
+answered-option o e = e ∙ ap answered (sym (option-of o e))
+
+optionOf-found : (r : RootAnswer) → r .found ≡ true → optionOf r ≡ some (r .root)
+unfolding optionOf
+optionOf-found r e = ap (λ t. cond t (some (r .root)) none) e
+
+optionOf-missing : (r : RootAnswer) → r .found ≡ false → optionOf r ≡ none
+unfolding optionOf
+optionOf-missing r e = ap (λ t. cond t (some (r .root)) none) e
+
+-- The answer of the two that is further, by the tests that tell it.
+module _ (side : Side) (a b : RootAnswer) where
+  pub first-missing : a .found ≡ false → b ≡ answered (optionOf b) → b ≡ answered (furtherOf side (optionOf a) (optionOf b))
+  unfolding furtherOf
+  first-missing e h = h ∙ ap (λ o. answered (furtherOf side o (optionOf b))) (sym (optionOf-missing a e))
+
+  pub second-missing : a .found ≡ true → b .found ≡ false → a ≡ answered (optionOf a)
+      → a ≡ answered (furtherOf side (optionOf a) (optionOf b))
+  unfolding furtherOf further
+  second-missing e f h =
+      h ∙ ap answered (optionOf-found a e ∙ ap₂ (furtherOf side) (sym (optionOf-found a e)) (sym (optionOf-missing b f)))
+
+  further-found : a .found ≡ true → b .found ≡ true
+      → some (cond (isBeyond side (a .root) (b .root)) (b .root) (a .root)) ≡ furtherOf side (optionOf a) (optionOf b)
+  unfolding furtherOf
+  further-found e f =
+      ap some (sym (further-one side (a .root) (b .root))) ∙ ap₂ (furtherOf side) (sym (optionOf-found a e)) (sym (optionOf-found b f))
+
+  pub second-further : a .found ≡ true → b .found ≡ true → isBeyond side (a .root) (b .root) ≡ true → b ≡ answered (optionOf b)
+      → b ≡ answered (furtherOf side (optionOf a) (optionOf b))
+  second-further e f t h =
+      h ∙ ap answered (optionOf-found b f ∙ ap (λ u. some (cond u (b .root) (a .root))) (sym t) ∙ further-found e f)
+
+  pub first-further : a .found ≡ true → b .found ≡ true → isBeyond side (a .root) (b .root) ≡ false → a ≡ answered (optionOf a)
+      → a ≡ answered (furtherOf side (optionOf a) (optionOf b))
+  first-further e f t h =
+      h ∙ ap answered (optionOf-found a e ∙ ap (λ u. some (cond u (b .root) (a .root))) (sym t) ∙ further-found e f)
+
+-- ---- the diagonal polynomials in the store
+
+module _ {A B C : Type 0} (f : A → B → C) where
+  length-zipWith : (l : List A) (m : List B) → length l ≡ length m → length (zipWith f l m) ≡ length l
+  unfolding zipWith
+  length-zipWith [] m e = refl
+  length-zipWith (x ∷ l) [] e = absurd (suc-ne-zero (length l) e)
+  length-zipWith (x ∷ l) (y ∷ m) e = ap suc (length-zipWith l m (suc-inj e))
+
+  getD-zipWith : (l : List A) (m : List B) (j : ℕ) (a : A) (b : B) (d : C) → length l ≡ length m → j < length l
+      → getD (zipWith f l m) j d ≡ f (getD l j a) (getD m j b)
+  unfolding zipWith
+  getD-zipWith [] m j a b d e h = absurd (not-suc-le-zero h)
+  getD-zipWith (x ∷ l) [] j a b d e h = absurd (suc-ne-zero (length l) e)
+  getD-zipWith (x ∷ l) (y ∷ m) zero a b d e h = refl
+  getD-zipWith (x ∷ l) (y ∷ m) (suc j) a b d e h = getD-zipWith l m j a b d (suc-inj e) (le-of-suc-le-suc h)
+
+abbrev pub settledState : ℕ → List ℤ → List ℕ → State
+settledState m store order = record { rows = rowsOf m store; relations = []; order = take m order; shifts = 0 }
+
+pub report-settled : (side : Side) (D m : ℕ) (store : List ℤ) (order : List ℕ) (s : State)
+    → s .rows ≡ rowsOf m store → s .order ≡ take m order → report side D s ≡ report side D (settledState m store order)
+unfolding report diagonal
+report-settled side D m store order s e f =
+    let entry : Row → ℕ → Polynomial = λ r c. getD (getD (r .blocks) (diagonalPlace side D) []) c [] in
+    ap₂ (λ rows cs. furthest side (flatten (map roots (zipWith entry rows cs)))) e f
+
+-- Where the sixteen numbers of diagonal polynomial j begin.
+unfoldable pub diagonalAt : Side → ℕ → List ℕ → ℕ → ℕ
+unfolding diagonalPlace
+diagonalAt side D order j = j * 320 + diagonalPlace side D * 64 + getD order j 0 * 16
+
+pub place-below : (side : Side) (D : ℕ) → D ≤ 4 → diagonalPlace side D < 5
+unfolding diagonalPlace
+place-below leading D few = lit< tt
+place-below trailing D few = suc-le-suc few
+
+module _ (side : Side) (D m : ℕ) (store : List ℤ) (order : List ℕ) where
+  abbrev diagonals : List Polynomial
+  diagonals = diagonal side D (settledState m store order)
+
+  -- The furthest root of the first j diagonal polynomials.
+  unfoldable pub reported : ℕ → Option ℤ
+  reported j = furthest side (flatten (map roots (take j diagonals)))
+
+  pub report-none : reported 0 ≡ none
+  unfolding reported furthest flatten
+  report-none = refl
+
+module _ (side : Side) (D m : ℕ) (store : List ℤ) (order : List ℕ) (enough : m ≤ length order) where
+  abbrev ps : List Polynomial
+  ps = diagonals side D m store order
+
+  same-count : length (rowsOf m store) ≡ length (take m order)
+  same-count = length-rowsOf m store ∙ sym (length-take-le m order enough)
+
+  length-diagonals : length ps ≡ m
+  unfolding diagonal
+  length-diagonals = length-zipWith _ (rowsOf m store) (take m order) same-count ∙ length-rowsOf m store
+
+  pub report-all : (j : ℕ) → m ≤ j → reported side D m store order j ≡ report side D (settledState m store order)
+  unfolding reported report
+  report-all j h = ap (λ l. furthest side (flatten (map roots l))) (take-all j ps (rw length-diagonals h))
+
+  module _ (few : D ≤ 4) (columns : Columns order) (j : ℕ) (h : j < m) where
+    diagonal-at : getD ps j [] ≡ take 16 (drop (diagonalAt side D order j) store)
+    unfolding diagonal diagonalAt
+    diagonal-at =
+        getD-zipWith _ (rowsOf m store) (take m order) j noRow 0 [] same-count (rw length-rowsOf h)
+        ∙ ap (λ c. getD (getD (getD (rowsOf m store) j noRow .blocks) (diagonalPlace side D) []) c []) (getD-take m order j 0 h)
+        ∙ polynomial-at m store j (diagonalPlace side D) (getD order j 0) h (place-below side D few) (Columns-at order columns j)
+
+    pub report-next : furtherOf side (reported side D m store order j) (furthest side (roots (take 16 (drop (diagonalAt side D order j) store))))
+        ≡ reported side D m store order (j + 1)
+    unfolding reported
+    report-next =
+        ap (λ p. furtherOf side (reported side D m store order j) (furthest side (roots p))) (sym diagonal-at)
+        ∙ sym (furthest-more side roots (take j ps) (getD ps j []))
+        ∙ ap (λ l. furthest side (flatten (map roots l))) (sym (take-suc ps j [] (rw length-diagonals h)))
+        ∙ ap (reported side D m store order) (sym (add-one j))
+
+    -- Its numbers.
+    pub diagonal-long : rowNeed m ≤ length store → diagonalAt side D order j + 16 ≤ length store
+    unfolding diagonalAt rowNeed
+    diagonal-long long = omega (arith, place-below side D few, Columns-at order columns j)
+
+    pub diagonal-small : Within (rowNeed m) store → T (every small (take 16 (drop (diagonalAt side D order j) store)))
+    unfolding diagonalAt rowNeed
+    diagonal-small w =
+        let b = diagonalPlace side D in
+        let c = getD order j 0 in
+        let place : (j * 20 + b * 4 + c) * 16 ≡ j * 320 + b * 64 + c * 16 = omega arith in
+        let all : m * 320 ≡ m * 20 * 16 = omega arith in
+        let inside : j * 20 + b * 4 + c < m * 20 = omega (arith, place-below side D few, Columns-at order columns j) in
+        subst (λ n. T (every small (take 16 (drop n store)))) place
+        (part-small 16 (m * 20) (j * 20 + b * 4 + c) store inside (subst (λ n. Within n store) all w))

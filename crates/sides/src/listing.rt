@@ -1,0 +1,58 @@
+// Rule 3: relations listed in the relation store.
+ghost use mathlib.Core.Path.{_≡_};
+ghost use mathlib.Core.List.{_∷_};
+ghost use Prim.Native.Nat.{_+_, _*_, _≤_, _<_};
+ghost use lib.Dec.{T};
+ghost use lib.IntN.{pos};
+ghost use lib.ListN.{length, getD};
+ghost use lib.Seq.{paste};
+ghost use Rattle.rules.specs.Limits.{small};
+ghost use Rattle.rules.specs.Rows.{every};
+ghost use Rattle.rules.specs.Elimination.{listing};
+ghost use Rattle.roots.specs.RootSearch.{held};
+ghost use Rattle.sides.specs.Lent.{sideOf, Listing};
+ghost use Rattle.sides.specs.Relations.{Relisted};
+
+// The relation "row at n0" at place k of the store.
+pub fn save_relation(relations: &mut [i64], k: usize, n0: i64, row: [i64; 320])
+    requires { ⌜ k * 321 + 321 ≤ length (now relations) ⌝ }
+    ensures { λ _. ⌜ now (relations .exit) ≡ paste (now (relations .entry)) (k * 321) (n0 ∷ row) 321 ⌝ }
+{
+    let at = k * 321;
+    relations[at] = n0;
+    rows::stores::save(relations, at + 1, row);
+}
+
+// On the trailing side from the largest root down, so that n0 as given back ascends.
+fn root_at(found: roots::RootList, trailing: bool, k: usize) -> i64
+    requires { ⌜ (k < found .count) × (found .count ≤ 16) × (length (found .values) ≡ 16) ⌝ }
+    ensures { λ r. ⌜ r ≡ getD (listing (sideOf trailing) (held found)) k (pos 0) ⌝ }
+{
+    let values = found.values;
+    let n = found.count;
+    if trailing {
+        values[n - 1 - k]
+    } else {
+        values[k]
+    }
+}
+
+// "For every integer root n0 of g, once each, list the relation "row i at n0"", from place `count` on.
+pub fn list_roots(
+    relations: &mut [i64],
+    count: usize,
+    found: roots::RootList,
+    trailing: bool,
+    row: [i64; 320],
+)
+    requires { ⌜ Listing count (now relations) × (count + found .count ≤ 16) × (length (found .values) ≡ 16) ⌝ }
+    requires { ⌜ T (every small (held found)) × T (every small row) ⌝ }
+    ensures { λ _. ⌜ Relisted count row (listing (sideOf trailing) (held found)) (now (relations .entry)) (now (relations .exit)) ⌝ }
+{
+    let n = found.count;
+    let mut k = 0;
+    while k < n {
+        save_relation(relations, count + k, root_at(found, trailing, k), row);
+        k += 1;
+    }
+}

@@ -1,0 +1,39 @@
+// The mirror of what the stores hold, before a run on the trailing side and after it.
+ghost use Prim.Native.Nat.{_≤_};
+ghost use Rattle.rules.specs.Stores.{rowNeed};
+ghost use Rattle.sides.specs.Lent.{Within, Listing};
+ghost use Rattle.sides.specs.MirrorLaws.{RowsMirrored, RelationsMirrored};
+
+// "replace n by -n, block s by -s" in every row.
+pub fn mirror_rows(store: &mut [i64], m: usize, span: usize)
+    requires { ⌜ (span ≤ 4) × Within (rowNeed m) (now store) ⌝ }
+    ensures { λ _. ⌜ RowsMirrored m span (now (store .entry)) (now (store .exit)) ⌝ }
+{
+    let mut i = 0;
+    while i < m {
+        let at = i * 320;
+        let row = rows::stores::load(store, at);
+        rows::stores::save(store, at, working::mirroring::mirrored(row, span));
+        i += 1;
+    }
+}
+
+// The same in every relation, and "n0 by -n0".
+pub fn mirror_relations(store: &mut [i64], count: usize, span: usize)
+    requires { ⌜ (span ≤ 4) × Listing count (now store) ⌝ }
+    ensures { λ _. ⌜ RelationsMirrored count span (now (store .entry)) (now (store .exit)) ⌝ }
+{
+    let mut k = 0;
+    while k < count {
+        let at = k * 321;
+        let n0 = store[at];
+        let row = rows::stores::load(store, at + 1);
+        super::listing::save_relation(
+            store,
+            k,
+            integers::negated(n0),
+            working::mirroring::mirrored(row, span),
+        );
+        k += 1;
+    }
+}

@@ -1,0 +1,75 @@
+/* The recurrence regulariser for C: the functions of the static library that `rt staticlib exports` writes
+ * (target/staticlib/libexports.a). Their contracts are proved: crates/exports/src/lib.rt.
+ *
+ * A store is lent as a pointer and the number of its members. The pointer is not null, also where that number is 0, and is
+ * aligned; no two stores of one call overlap. A store that a function takes as `const` is only read. A store of numbers may be
+ * longer than needed: members past the needed part make no difference, and stay.
+ *
+ * The row store needs m x 320 numbers: m rows of 320, block l first, four columns a block, 16 coefficients a column, lowest power
+ * first. The relation store needs 16 x 321: n0 and then a row, `count` relations, zeros at the places past them. Positions outside
+ * the system's blocks and columns hold 0.
+ *
+ * Every function returns the number of a refusal, or 0:
+ *   1  a store too short
+ *   2  a size, block, column, count or order outside its range
+ *   3  a token of a sheet that is no number, a wrong separator or term order, a zero last coefficient
+ *   4  the bytes of a sheet end early, or go on after the fourth section
+ *   5  a coefficient or n0 outside +-268,435,455, or a nonzero number at an unused position of a store
+ *   6  a dependent system
+ *   7  a degree past 15
+ *   8  a coefficient outside +-268,435,455 in the course of a run
+ *   9  a seventeenth relation
+ * On 1 to 5 no store is changed. On 6 to 9 the needed part of each store that the function may write is zero. Sizes, count and
+ * order are checked first (2), then the lengths of the stores (1), then their numbers (5). */
+#ifndef WURGALM_H
+#define WURGALM_H
+
+#include <stddef.h>
+#include <stdint.h>
+
+#ifdef __cplusplus
+extern "C" {
+#endif
+
+/* The needed parts of the stores, in members. */
+#define WURGALM_ROW 320
+#define WURGALM_RELATION 321
+#define WURGALM_RELATIONS (16 * WURGALM_RELATION)
+#define WURGALM_RESULT 8
+
+/* The elimination on the leading side.
+ * In: `rows` and `relations` hold a system of m unknowns (1 to 4) with blocks t to l (-64 <= t <= l <= 64, l - t <= 4) and `count`
+ * relations (0 to 16).
+ * Out: `rows` and `relations` hold the output; `result` (8 numbers): the relation count, the shifts, the columns c(1) to c(4) counted
+ * from 1 with zeros past c(m), 1 or 0 for whether a diagonal polynomial has an integer root, and the largest such root (0 for none).
+ * Returns 0, 1, 2, or 5 to 9. */
+uint8_t wurgalm_run_leading(int64_t *rows, size_t rows_length, int64_t *relations, size_t relations_length, size_t m, int64_t l,
+                            int64_t t, size_t count, int64_t *result, size_t result_length);
+
+/* The elimination on the trailing side: the same, with the smallest root in place of the largest. */
+uint8_t wurgalm_run_trailing(int64_t *rows, size_t rows_length, int64_t *relations, size_t relations_length, size_t m, int64_t l,
+                             int64_t t, size_t count, int64_t *result, size_t result_length);
+
+/* A sheet read into stores.
+ * In: the bytes of the sheet.
+ * Out: `rows` and `relations` hold the system; `result` (8 numbers): m, l, t, the relation count, and the four columns of the order
+ * line, zeros past its end.
+ * Returns 0, or 1 to 5: the sheet's first fault in byte order (2 to 5), and 1 for a store too short, the result store too, only
+ * when the sheet is otherwise whole. */
+uint8_t wurgalm_read_sheet(const uint8_t *bytes, size_t bytes_length, int64_t *rows, size_t rows_length, int64_t *relations,
+                           size_t relations_length, int64_t *result, size_t result_length);
+
+/* A system written as a sheet.
+ * In: `rows`, `relations`, m, l, t and `count` as for a run; `order` (4 numbers): all 0 for no order, otherwise a permutation of 1 to
+ * m and zeros past its end.
+ * Out: `bytes` begins with the sheet; `result` (1 number): the length of the sheet in bytes.
+ * Returns 0, 1, 2 or 5; 1 for a byte store that is too short comes last. */
+uint8_t wurgalm_write_sheet(const int64_t *rows, size_t rows_length, const int64_t *relations, size_t relations_length, size_t m,
+                            int64_t l, int64_t t, size_t count, const int64_t *order, size_t order_length, uint8_t *bytes,
+                            size_t bytes_length, int64_t *result, size_t result_length);
+
+#ifdef __cplusplus
+}
+#endif
+
+#endif
