@@ -5,17 +5,17 @@
 --   begun-counted    a batch begins with at most 1,000 sheets, and none where its first line is broken
 --   answer-fits      the sheet that answers lies in the lent store
 --   text-fits        a line of text has at most 24 bytes
-use Prim.Native.Nat.{ℕ, zero, suc, _+_, _≤_, zero-le}
+use Prim.Native.Nat.{ℕ, zero, _+_, _≤_, zero-le}
 use native.Mathlib.Omega.{arith}
-use mathlib.Core.Path.{_≡_, refl, sym, _∙_, ap, subst}
+use mathlib.Core.Path.{_≡_, refl, ap}
 use mathlib.Core.Bool.{Bool, true, false, cond}
 use mathlib.Core.List.{List}
 use lib.Dec.{T, leb, leb→le}
-use lib.IntN.{ℤ, pos, natAbs}
+use lib.IntN.{ℤ, natAbs}
 use lib.ListN.{length, drop, replicate, length-append, length-drop, length-replicate}
 use Rattle.rules.specs.Calls.{overwrite}
 use Rattle.rules.specs.Numbers.{newline, Read, got, fault}
-use Rattle.rules.specs.Batch.{Answer, accepted, refusedWith, answerSheet, readSheetLine, readAfterClient, readSize}
+use Rattle.rules.specs.Batch.{Answer, accepted, refusedWith, answerSheet, readAfterClient, readSize}
 use Rattle.batches.specs.declared.TextLine.{TextLine}
 use Rattle.batches.specs.Windows.{batchLine, countOf, clientOf, sheetLine-is}
 use Rattle.batches.specs.Pieces.{readCount, begunBy, begunOf, lineBy, lineOf, textOf, Counted}

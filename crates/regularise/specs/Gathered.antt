@@ -15,8 +15,8 @@ use Rattle.batches.specs.declared.AnswerResult.{AnswerResult}
 use Rattle.batches.specs.declared.TextLine.{TextLine}
 use Rattle.batches.specs.Answers.{callOf, answerBy, answerCall, answerCall-answer, answerCall-none}
 use Rattle.batches.specs.Bounds.{answer-fits}
-use Rattle.batches.specs.Pieces.{textOf, shown, shown-text, refusalLine}
-use Rattle.batches.specs.Traces.{answerShown, answer-shown}
+use Rattle.batches.specs.Pieces.{textOf, shown, refusalLine}
+use Rattle.batches.specs.Traces.{answer-shown}
 use Rattle.regularise.specs.Runs.{numberOf, Answered}
 
 -- The number of the answer that a call has given.

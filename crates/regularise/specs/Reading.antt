@@ -7,16 +7,16 @@ use Prim.Native.Nat.{ℕ, _+_, _-_, _≤_, _<_, zero-le}
 use native.Mathlib.Omega.{arith}
 use mathlib.Core.Path.{_≡_, refl, sym, _∙_, ap, ap₂}
 use mathlib.Core.Logic.{_≢_, _⊎_, inl, inr, ⊎-elim}
-use mathlib.Core.Bool.{Bool, true, false, false≢true}
+use mathlib.Core.Bool.{true, false}
 use mathlib.Core.List.{List, [], _++_, append-assoc, append-nil}
-use lib.ListN.{length, take, drop, length-append, length-drop, drop-of-length-le}
+use lib.ListN.{length, take, drop, length-append, drop-of-length-le}
 use lib.Seq.{drop-drop, drop-append-le}
 use Rattle.rules.specs.Lists.{drop-take}
 use Rattle.batches.specs.Windows as Lines
 use Rattle.batches.specs.Pieces.{lineOf, line-inside}
 use Rattle.streams.specs.declared.input.Window.{Window}
-use Rattle.streams.specs.Windows.{windowOf, size, held, Within, Filled, filled-held, held-long, past-within}
-use Rattle.regularise.specs.Runs.{Ends, Outcome, there, unread, missing, Found}
+use Rattle.streams.specs.Windows.{windowOf, size, held, Within, Filled, filled-held, held-long}
+use Rattle.regularise.specs.Runs.{Ends, there, unread, missing, Found}
 
 pub past-held : (w : Window) (store : List ℕ) (k : ℕ) → k ≤ size w → held (windowOf (w .from + k) (w .to) (w .ended)) store ≡ drop k (held w store)
 past-held w store k h =

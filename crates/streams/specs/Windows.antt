@@ -12,7 +12,7 @@
 --   slid-next                bytes moved to the front of their store one after the other
 --   front-kept               the first bytes over a read behind them
 --   same-filled, read-filled, slid-filled   a window that is as it was, that was read on, and whose bytes were moved first
-use Prim.Native.Nat.{ℕ, zero, suc, _+_, _-_, _≤_, _<_}
+use Prim.Native.Nat.{ℕ, suc, _+_, _-_, _≤_, _<_}
 use native.Mathlib.Nat.{zero-add, sub-zero, le-refl}
 use native.Mathlib.Omega.{arith}
 use mathlib.Core.Path.{_≡_, refl, sym, _∙_, ap, ap₂}

@@ -10,7 +10,6 @@ use denote.Ref.{now}
 use lib.ListN.{length}
 use Rattle.batches.specs.Bounds.{line-small}
 use Rattle.batches.specs.Pieces.{lineOf, line-inside}
-use Rattle.streams.specs.declared.input.Window.{Window}
 use Rattle.streams.specs.Windows.{windowOf, size, held, Within, Filled, past-within}
 use Rattle.regularise.specs.Reading.{fits₁, seen-long, found-unread, found-missing, found-there}
 use Rattle.regularise.proofs.next_sheet.Statement.{statement}

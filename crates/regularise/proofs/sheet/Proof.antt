@@ -1,15 +1,13 @@
 -- `regularise::sheet` meets its contract.
 -- Assumes nothing.
-use Prim.Native.Nat.{_<_}
 use native.Mathlib.Omega.{arith}
-use mathlib.Core.Path.{_≡_, sym, _∙_, ap, subst}
+use mathlib.Core.Path.{_∙_}
 use mathlib.Core.Logic.{_≢_}
 use mathlib.Core.Bool.{true, false, false≢true}
 use borrow.Author.Needs.{needs}
 use borrow.Author.Tests.{not-true, not-false}
 use denote.Ref.{now}
-use lib.ListN.{length}
-use Rattle.batches.specs.Pieces.{countedOf, counted-left, counted-few}
+use Rattle.batches.specs.Pieces.{counted-left, counted-few}
 use Rattle.streams.specs.Gathering.{drained-few}
 use Rattle.streams.specs.Windows.{past-within}
 use Rattle.regularise.specs.Turns.{turn-broken, turn-answered}
