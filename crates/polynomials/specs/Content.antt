@@ -8,6 +8,7 @@
 --   read-back, zero-bits, nonzero-bits   an i64 and its bits
 --   drop-next, skip-zero   one coefficient more from the front, and one that is zero and changes nothing
 --   isZero-false, lowest-first   a nonzero coefficient makes p nonzero; at the front it is the lowest
+--   or-zero, join-next     joined bits are 0 exactly if both are; one coefficient more is joined
 --   within-down, degree-bottom   one zero coefficient less from the top; none left past power 0: the degree is 0
 --   content-next, one-gcd  a coefficient joins the greatest common divisor of those passed; 1 stays 1
 --   prefix-next, prefix-all, suffix-next, suffix-first   a list that is overwritten from the front
@@ -17,13 +18,14 @@
 --   signs-turned, signs-kept   the two cases of rule 2's signs
 use mathlib.Core.Path.{_≡_, refl, sym, _∙_, ap, ap₂, subst}
 use mathlib.Core.Logic.{_≢_, ⊎-elim}
-use mathlib.Core.Bool.{Bool, true, false, not, cond}
+use mathlib.Core.Bool.{Bool, true, false, not, cond, _&&_, and-assoc}
 use mathlib.Core.List.{List, [], _∷_, _++_}
 use Prim.Native.Nat.{ℕ, zero, suc, _+_, _-_, _^_, _≤_, _<_}
 use native.Mathlib.Nat.{pos-of-ne-zero, le-trans, le-of-dvd, add-zero, dvd-one, eq-or-lt-of-le}
 use native.Mathlib.Numerals.{add-one}
 use native.Mathlib.Omega.{arith}
-use lib.Dec.{T, ltb→lt, leb→le}
+use lib.Bits.{bitOr, and-le-r, or-add-and}
+use lib.Dec.{T, eqb, ltb→lt, leb→le, eqb·suc-zero}
 use lib.IntN.{ℤ, pos, negsuc, natAbs}
 use lib.ListN.{length, getD, take, drop, set}
 use lib.Seq.{take-suc, take-all, take-suc-set, drop-cons, drop-drop, drop-set-lt, getD-drop}
@@ -32,6 +34,7 @@ use mir.Syntax.{w64}
 use mir.Val.{SFits, ofZ, toZ}
 use mir.Facts.{sfits-lit, toZ-ofZ}
 use borrow.Author.Needs.{sfits-of}
+use borrow.Author.Tests.{ne-eqb}
 use Rattle.algebra.specs.Integers.{natAbs-negℤ, natAbs-zero}
 use Rattle.algebra.specs.Polynomials.{Polynomial, coeff, negate, isZeroℤ, isZero, lead, lowest, degree, isZeroℤ-not-iff, isZero-coeff, T-&&}
 use Rattle.algebra.specs.Coefficients.{Within, coeff-negate, coeff-degree, lead-nonzero, degree-le}
@@ -40,7 +43,7 @@ use Rattle.algebra.specs.Gcd.{content-divides, content-pos, divideBy-getD, divi
 use Rattle.rules.specs.Limits.{bound, small}
 use Rattle.rules.specs.Rows.{every}
 use Rattle.rules.specs.Elimination.{turnSigns}
-use Rattle.integers.specs.Ranges.{ofZ-inj}
+use Rattle.integers.specs.Ranges.{ofZ-inj, ofZ-zero}
 
 -- Every coefficient has a size below n.
 abbrev pub Below : ℕ → Polynomial → Type 0
@@ -82,6 +85,22 @@ lowest-first a q n = cases (isZeroℤ a) (isZeroℤ-not-iff a .1 n)
     cases : (t : Bool) → T (not t) → cond t (lowest q) a ≡ a
     cases true h = absurd h
     cases false h = refl
+
+pub or-zero : (a b : ℕ) → eqb (bitOr a b) 0 ≡ (eqb a 0 && eqb b 0)
+or-zero zero b = refl
+or-zero (suc a) b =
+    ne-eqb (bitOr (suc a) b) 0 (λ e. omega (arith, or-add-and (suc a) b, and-le-r (suc a) b))
+    ∙ sym (ap (λ t. t && eqb b 0) (eqb·suc-zero a))
+
+-- The bits of coefficient i are joined to those of the coefficients before it.
+pub join-next : (joined : ℕ) (p : Polynomial) (i : ℕ) → i < length p → SFits w64 (getD p i (pos 0))
+    → (eqb joined 0 && isZero (drop i p)) ≡ (eqb (bitOr joined (ofZ w64 (getD p i (pos 0)))) 0 && isZero (drop (i + 1) p))
+unfolding isZero isZeroℤ
+join-next joined p i h f =
+    let a = getD p i (pos 0) in
+    let rest = isZero (drop (i + 1) p) in
+    ap (λ q. eqb joined 0 && isZero q) (drop-next p i h) ∙ ap (λ t. eqb joined 0 && (t && rest)) (sym (ofZ-zero a f))
+    ∙ sym (and-assoc (eqb joined 0) (eqb (ofZ w64 a) 0) rest) ∙ ap (λ t. t && rest) (sym (or-zero joined (ofZ w64 a)))
 
 -- Coefficient i is joined to the greatest common divisor d of those before it.
 pub content-next : (d : ℕ) (p : Polynomial) (i : ℕ) → i < length p

@@ -28,6 +28,20 @@ pub fn is_zero(p: &[i64]) -> bool
     true
 }
 
+// The same of a long list, most often of zeros only: the bits of all its numbers joined, with no stop, which the machine does for several
+// numbers at once.
+pub fn all_zero(p: &[i64]) -> bool
+    ensures { λ r. ⌜ r ≡ Polynomials.isZero (now (p .entry)) ⌝ }
+{
+    let mut joined = 0;
+    let mut i = 0;
+    while i < p.len() {
+        joined |= p[i];
+        i += 1;
+    }
+    joined == 0
+}
+
 // From the top: the first nonzero coefficient found is the highest.
 pub fn degree(p: &[i64]) -> usize
     ensures { λ r. ⌜ r ≡ Polynomials.degree (now (p .entry)) ⌝ }
