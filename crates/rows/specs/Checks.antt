@@ -1,35 +1,36 @@
--- The check of the unused positions of a row, polynomial by polynomial.
+-- The number check of a row, polynomial by polynomial.
 --
 -- Main definitions
 --   outside m D q        does polynomial q of a row lie outside the system's blocks and columns?
---   zeroOutside m D l q  if so, is it zero?
+--   placeRight m D l q   is it zero if so, and otherwise within ±C?
 --
 -- Main statements
 --   every-false          a member that fails a test fails it for all
---   unusedZero-true, unusedZero-false   the unused positions hold 0 exactly if every polynomial passes
+--   row-true, row-false  a row passes its check exactly if every polynomial passes
 use Prim.Native.Nat.{ℕ, zero, suc, _+_, _*_, _/_, _%_, _≤_, _<_, zero-le}
 use native.Mathlib.Nat.{not-suc-le-zero, le-of-suc-le-suc}
 use native.Mathlib.Omega.{arith}
 use mathlib.Core.Path.{_≡_, refl, sym, _∙_, ap, subst}
 use mathlib.Core.Logic.{_↔_, _⊎_, inl, inr, ⊎-elim}
-use mathlib.Core.Bool.{Bool, true, false, _&&_, _||_, cond, and-false, true≢false}
+use mathlib.Core.Bool.{Bool, true, false, _&&_, _||_, cond, and-false}
 use mathlib.Core.List.{List, [], _∷_}
 use lib.Dec.{T, ltb, leb, ltb→lt, lt→ltb, leb→le, le→leb}
 use lib.IntN.{ℤ}
 use lib.ListN.{length, take, drop, getD}
-use Rattle.algebra.specs.Polynomials.{isZero, T-&&}
-use Rattle.rules.specs.Rows.{Block, every, zeroBlock}
-use Rattle.rules.specs.Stores.{rowOf, unusedZero}
-use Rattle.rules.specs.Layout.{parts-length, polynomial-at-row}
-use Rattle.rows.specs.Flat.{every-from-at, every-from-all, length-blocks, block-at}
+use Rattle.algebra.specs.Polynomials.{isZero, isZero-cons, T-&&}
+use Rattle.rules.specs.Limits.{small}
+use Rattle.rules.specs.Rows.{Block, every, zeroBlock, smallRow}
+use Rattle.rules.specs.Stores.{parts, rowOf, unusedZero}
+use Rattle.rules.specs.Layout.{parts-length, getD-parts, polynomial-at-row}
+use Rattle.rows.specs.Flat.{smallRow-rowOf, every-from-at, every-from-all, length-blocks, block-at}
 
 -- Polynomial q lies in block q / 4, counted from block l down, and in column q % 4.
 unfoldable pub outside : ℕ → ℕ → ℕ → Bool
 outside m D q = ltb D (q / 4) || leb m (q % 4)
 
-unfoldable pub zeroOutside : ℕ → ℕ → List ℤ → ℕ → Bool
-unfolding outside isZero
-zeroOutside m D l q = cond (outside m D q) (isZero (take 16 (drop (q * 16) l))) true
+unfoldable pub placeRight : ℕ → ℕ → List ℤ → ℕ → Bool
+unfolding outside isZero every small
+placeRight m D l q = cond (outside m D q) (isZero (take 16 (drop (q * 16) l))) (every small (take 16 (drop (q * 16) l)))
 
 -- ---- tests of all members
 
@@ -64,6 +65,18 @@ outside-iff m D q = (
     back true t f g h = tt
     back false t f g (inl h) = absurd (f h)
     back false t f g (inr h) = g h
+
+-- What a test chooses, where the first choice implies the second.
+chosen : (o s t : Bool) → (T s → T t) → T (cond o s t) ↔ ((T o → T s) × T t)
+chosen true s t f = (λ h. (λ _. h, f h), λ h. h .0 tt)
+chosen false s t f = (λ h. (λ e. absurd e, h), λ h. h .1)
+
+zero-small : (p : List ℤ) → T (isZero p) → T (every small p)
+unfolding every small
+zero-small [] h = tt
+zero-small (a ∷ p) h =
+    let e = isZero-cons a p .0 h in
+    T-&& (small a) (every small p) .1 (subst (λ z. T (small z)) (sym (e .0)) tt, zero-small p (e .1))
 
 module _ (m D : ℕ) (l : List ℤ) where
   abbrev blocks : List Block
@@ -120,42 +133,60 @@ module _ (m D : ℕ) (l : List ℤ) where
           (λ b low hb. every-from-all isZero (getD blocks b []) [] 0
           (λ c _ hc. h b c (inside b hb) (column b c (inside b hb) hc) (inl low)))
 
-  -- The test of one polynomial, as a statement.
-  zeroOutside-iff : (q : ℕ) → (zeroOutside m D l q ≡ true) ↔ ((D < q / 4) ⊎ (m ≤ q % 4) → T (isZero (take 16 (drop (q * 16) l))))
-  unfolding zeroOutside
-  zeroOutside-iff q = (
-    λ h out. forth (outside m D q) (isZero (take 16 (drop (q * 16) l))) h (outside-iff m D q .1 out),
-    λ h. back (outside m D q) (isZero (take 16 (drop (q * 16) l))) (λ out. h (outside-iff m D q .0 out)),
-  )
-    where
-      forth : (s t : Bool) → cond s t true ≡ true → T s → T t
-      forth true t h e = subst T (sym h) tt
-      forth false t h e = absurd e
+  abbrev part : ℕ → List ℤ
+  part q = take 16 (drop (q * 16) l)
 
-      back : (s t : Bool) → (T s → T t) → cond s t true ≡ true
-      back true t h = true-of t (h tt)
-      back false t h = refl
-
-  polynomial-at-place : (b c : ℕ) → b < 5 → c < 4 → getD (getD blocks b []) c [] ≡ take 16 (drop ((b * 4 + c) * 16) l)
-  polynomial-at-place b c hb hc =
+  part-at : (b c : ℕ) → b < 5 → c < 4 → getD (getD blocks b []) c [] ≡ part (b * 4 + c)
+  part-at b c hb hc =
       let place : b * 64 + c * 16 ≡ (b * 4 + c) * 16 = omega arith in
       polynomial-at-row l b c hb hc ∙ ap (λ n. take 16 (drop n l)) place
 
-  pub unusedZero-true : ((q : ℕ) → q < 20 → zeroOutside m D l q ≡ true) → unusedZero m D (rowOf l) ≡ true
-  unusedZero-true h = true-of (unusedZero m D (rowOf l)) (places-unused at)
+  unused-iff : T (unusedZero m D (rowOf l)) ↔ ((q : ℕ) → q < 20 → (D < q / 4) ⊎ (m ≤ q % 4) → T (isZero (part q)))
+  unused-iff = (forth, λ h. places-unused (back h))
     where
-      at : ZeroOutside
-      at b c hb hc out =
-          let block : (b * 4 + c) / 4 ≡ b = omega arith in
-          let column : (b * 4 + c) % 4 ≡ c = omega arith in
-          rw (polynomial-at-place b c hb hc) (zeroOutside-iff (b * 4 + c) .0 (h (b * 4 + c) (omega arith)) (rw (block, column) out))
-
-  pub unusedZero-false : (q : ℕ) → q < 20 → zeroOutside m D l q ≡ false → unusedZero m D (rowOf l) ≡ false
-  unusedZero-false q h e = false-of (unusedZero m D (rowOf l)) (λ z. true≢false (sym (zeroOutside-iff q .1 (zeros z)) ∙ e))
-    where
-      zeros : T (unusedZero m D (rowOf l)) → (D < q / 4) ⊎ (m ≤ q % 4) → T (isZero (take 16 (drop (q * 16) l)))
-      zeros z out =
+      forth : T (unusedZero m D (rowOf l)) → (q : ℕ) → q < 20 → (D < q / 4) ⊎ (m ≤ q % 4) → T (isZero (part q))
+      forth z q h out =
           let place : q / 4 * 4 + q % 4 ≡ q = omega arith in
           let block : q / 4 < 5 = omega arith in
           let column : q % 4 < 4 = omega arith in
-          rw (polynomial-at-place (q / 4) (q % 4) block column, place) at (unused-places z (q / 4) (q % 4) block column out)
+          rw (part-at (q / 4) (q % 4) block column, place) at (unused-places z (q / 4) (q % 4) block column out)
+
+      back : ((q : ℕ) → q < 20 → (D < q / 4) ⊎ (m ≤ q % 4) → T (isZero (part q))) → ZeroOutside
+      back h b c hb hc out =
+          let block : (b * 4 + c) / 4 ≡ b = omega arith in
+          let column : (b * 4 + c) % 4 ≡ c = omega arith in
+          rw (part-at b c hb hc) (h (b * 4 + c) (omega arith) (rw (block, column) out))
+
+  small-iff : T (smallRow (rowOf l)) ↔ ((q : ℕ) → q < 20 → T (every small (part q)))
+  small-iff = (
+    λ h q below. rw (getD-parts 16 20 l q below) at (every-from-at (every small) (parts 16 20 l) [] 0 (rw smallRow-rowOf at h) q zero-le (rw parts-length below)),
+    λ h. rw smallRow-rowOf (every-from-all (every small) (parts 16 20 l) [] 0 (λ q _ below. at h q (rw parts-length at below))),
+  )
+    where
+      at : ((q : ℕ) → q < 20 → T (every small (part q))) → (q : ℕ) → q < 20 → T (every small (getD (parts 16 20 l) q []))
+      at h q below = rw (getD-parts 16 20 l q below) (h q below)
+
+  -- The test of one polynomial, as statements.
+  place-iff : (q : ℕ) → T (placeRight m D l q) ↔ (((D < q / 4) ⊎ (m ≤ q % 4) → T (isZero (part q))) × T (every small (part q)))
+  unfolding placeRight
+  place-iff q =
+      let e = chosen (outside m D q) (isZero (part q)) (every small (part q)) (zero-small (part q)) in (
+        λ h. (λ out. e .0 h .0 (outside-iff m D q .1 out), e .0 h .1),
+        λ h. e .1 (λ out. h .0 (outside-iff m D q .0 out), h .1),
+      )
+
+  abbrev right : Bool
+  right = smallRow (rowOf l) && unusedZero m D (rowOf l)
+
+  right-iff : T right ↔ ((q : ℕ) → q < 20 → T (placeRight m D l q))
+  right-iff =
+      let e = T-&& (smallRow (rowOf l)) (unusedZero m D (rowOf l)) in (
+        λ h q below. place-iff q .1 (unused-iff .0 (e .0 h .1) q below, small-iff .0 (e .0 h .0) q below),
+        λ h. e .1 (small-iff .1 (λ q below. place-iff q .0 (h q below) .1), unused-iff .1 (λ q below. place-iff q .0 (h q below) .0)),
+      )
+
+  pub row-true : ((q : ℕ) → q < 20 → placeRight m D l q ≡ true) → right ≡ true
+  row-true h = true-of right (right-iff .1 (λ q below. subst T (sym (h q below)) tt))
+
+  pub row-false : (q : ℕ) → q < 20 → placeRight m D l q ≡ false → right ≡ false
+  row-false q below e = false-of right (λ h. subst T e (right-iff .0 h q below))

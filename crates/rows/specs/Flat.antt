@@ -3,7 +3,7 @@
 -- Main statements
 --   polynomials-rowOf     the polynomials of the row held by a list of numbers are its parts of 16
 --   zeroRow-numbers       a row is zero exactly if its numbers are
---   smallRow-rowOf        a row's coefficients are within ±C exactly if its numbers are
+--   smallRow-rowOf        a row's coefficients are within ±C exactly if those of its parts of 16 are
 --   every-longer          one member more that passes a test
 --   every-from-at, every-from-all   the members from a place on pass exactly if each does
 --   block-at, zeroBlock-at, entry-at   the place of a block, its zero test, and the place of a leading entry
@@ -26,7 +26,7 @@ use Rattle.rules.specs.Limits.{small}
 use Rattle.rules.specs.Rows.{Row, All, every, zeroBlock, zeroRow, leadingBlock, entry, mapRow, combine, smallRow, coefficientsOf}
 use Rattle.rules.specs.Lists.{suc-width, all-getD, getD-all, all-of-every, every-of-all, every-append, every-flatten, drop-take, getD-map}
 use Rattle.rules.specs.Stores.{parts, rowOf}
-use Rattle.rules.specs.Layout.{parts-length, flatten-parts, getD-parts, polynomial-at-row, coefficientsOf-rowOf-all}
+use Rattle.rules.specs.Layout.{parts-length, flatten-parts, getD-parts, polynomial-at-row}
 
 abbrev pub polynomialsOf : Row → List Polynomial
 polynomialsOf r = flatten (r .blocks)
@@ -102,9 +102,9 @@ pub zeroRow-numbers : (r : Row) → zeroRow r ≡ isZero (coefficientsOf r)
 unfolding zeroRow zeroBlock coefficientsOf
 zeroRow-numbers r = sym (isZero-flatten (polynomialsOf r) ∙ every-flatten isZero (r .blocks))
 
-pub smallRow-rowOf : (l : List ℤ) → length l ≡ 320 → smallRow (rowOf l) ≡ every small l
-unfolding smallRow
-smallRow-rowOf l h = ap (every small) (coefficientsOf-rowOf-all l h)
+pub smallRow-rowOf : (l : List ℤ) → smallRow (rowOf l) ≡ every (every small) (parts 16 20 l)
+unfolding smallRow coefficientsOf
+smallRow-rowOf l = every-flatten small (polynomialsOf (rowOf l)) ∙ ap (every (every small)) (polynomials-rowOf l)
 
 -- ---- zero tests by places
 

@@ -6,7 +6,7 @@ ghost use lib.ListN.{length};
 ghost use Rattle.rules.specs.Limits.{small};
 ghost use Rattle.rules.specs.Rows.{every, smallRow};
 ghost use Rattle.rules.specs.Stores.{rowOf, unusedZero};
-ghost use Rattle.rows.specs.Checks.{zeroOutside};
+ghost use Rattle.rows.specs.Checks.{placeRight};
 
 pub fn all_small(numbers: &[i64]) -> bool
     ensures { λ r. ⌜ r ≡ every small (now (numbers .entry)) ⌝ }
@@ -21,38 +21,33 @@ pub fn all_small(numbers: &[i64]) -> bool
     true
 }
 
-// The polynomial at a place of the row, block place / 4 and column place % 4: is it inside the system's blocks and columns, or zero?
-fn zero_outside(numbers: &[i64], place: usize, m: usize, span: usize) -> bool
+// The polynomial at a place of the row, block place / 4 and column place % 4: outside the system's blocks and columns it is zero,
+// inside its coefficients are within ±C.
+fn place_right(numbers: &[i64], place: usize, m: usize, span: usize) -> bool
     requires { ⌜ place * 16 + 16 ≤ length (now numbers) ⌝ }
-    ensures { λ r. ⌜ r ≡ zeroOutside m span (now (numbers .entry)) place ⌝ }
+    ensures { λ r. ⌜ r ≡ placeRight m span (now (numbers .entry)) place ⌝ }
 {
+    let from = place * 16;
+    let to = from + 16;
+    let p = &numbers[from..to];
     if span < place / 4 || m <= place % 4 {
-        let from = place * 16;
-        let to = from + 16;
-        polynomials::content::is_zero(&numbers[from..to])
+        polynomials::content::all_zero(p)
     } else {
-        true
+        all_small(p)
     }
 }
 
-// "Positions outside the system's blocks and columns hold 0."
-pub fn unused_zero(row: [i64; 320], m: usize, span: usize) -> bool
-    ensures { λ r. ⌜ r ≡ unusedZero m span (rowOf row) ⌝ }
+// "every coefficient within ±C", and "Positions outside the system's blocks and columns hold 0."
+pub fn row_right(row: &[i64], m: usize, span: usize) -> bool
+    requires { ⌜ length (now row) ≡ 320 ⌝ }
+    ensures { λ r. ⌜ r ≡ (smallRow (rowOf (now (row .entry))) && unusedZero m span (rowOf (now (row .entry)))) ⌝ }
 {
-    let numbers = &row[..];
     let mut place = 0;
     while place < 20 {
-        if !zero_outside(numbers, place, m, span) {
+        if !place_right(row, place, m, span) {
             return false;
         }
         place += 1;
     }
     true
-}
-
-// "every coefficient within ±C", and 0 at the unused positions
-pub fn row_right(row: [i64; 320], m: usize, span: usize) -> bool
-    ensures { λ r. ⌜ r ≡ (smallRow (rowOf row) && unusedZero m span (rowOf row)) ⌝ }
-{
-    all_small(&row[..]) && unused_zero(row, m, span)
 }

@@ -57,7 +57,9 @@ pub fn rows_right(store: &[i64], sizes: Sizes) -> bool
     let d = span(sizes);
     let mut i = 0;
     while i < m {
-        if !crate::checks::row_right(crate::stores::load(store, i * 320), m, d) {
+        let from = i * 320;
+        let to = from + 320;
+        if !crate::checks::row_right(&store[from..to], m, d) {
             return false;
         }
         i += 1;
@@ -73,7 +75,9 @@ fn relation_right(store: &[i64], at: usize, m: usize, span: usize) -> bool
     if !integers::within_bound(store[at]) {
         return false;
     }
-    crate::checks::row_right(crate::stores::load(store, at + 1), m, span)
+    let from = at + 1;
+    let to = from + 320;
+    crate::checks::row_right(&store[from..to], m, span)
 }
 
 // Every relation up to the count passes its number check.
@@ -114,7 +118,7 @@ fn numbers_right(rows: &[i64], relations: &[i64], sizes: Sizes, count: usize) ->
         return false;
     }
     let from = count * 321;
-    polynomials::content::is_zero(&relations[from..5136])
+    polynomials::content::all_zero(&relations[from..5136])
 }
 
 // The number of the first check that fails, or 0.

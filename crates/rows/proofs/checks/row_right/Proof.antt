@@ -1,40 +1,62 @@
--- `rows::checks::row_right` meets its contract. The numbers of the row are tested first, then its unused positions.
+-- `rows::checks::row_right` meets its contract. The loop's invariant: the polynomials at the places before `place` pass.
 -- Assumes nothing.
-use mathlib.Core.Path.{_≡_, sym, _∙_, ap}
-use mathlib.Core.Bool.{_&&_}
+use mathlib.Core.Path.{_≡_, sym, _∙_}
+use mathlib.Core.Bool.{true}
+use Prim.Native.Nat.{ℕ, _-_, _≤_, _<_}
 use native.Mathlib.Omega.{arith}
 use borrow.Author.Needs.{needs}
-use Rattle.rules.specs.Rows.{smallRow}
-use Rattle.rules.specs.Stores.{rowOf, unusedZero}
-use Rattle.rows.specs.Flat.{smallRow-rowOf}
+use borrow.Author.Tests.{not-true, not-false}
+use borrow.Author.Count.{below-none, below-more}
+use denote.Ref.{now}
+use Rattle.rows.specs.Checks.{placeRight, row-true, row-false}
 use Rattle.rows.proofs.checks.row_right.Statement.{statement}
 use Rattle.rows.proofs.checks.row_right.Tie as tie
 
--- the test of the numbers
-tested : (c : tie.After-all-small) → c .all-small .result ≡ smallRow (rowOf (c .before .before .args .t1))
-tested c = c .all-small .ensures ∙ sym (smallRow-rowOf (c .before .before .args .t1) (omega arith))
+abbrev Inv-loop : tie.InvT-loop
+Inv-loop row m span place₀ place = (place ≤ 20) × ((q : ℕ) → q < place → placeRight m span row q ≡ true)
 
-slice-aggregate-all-small : tie.Need-slice-aggregate-all-small
-slice-aggregate-all-small c = search needs
+abbrev μ-loop : tie.MeasureT-loop
+μ-loop row m span place₀ place = 20 - place
 
-all-small-requires : tie.Need-all-small-requires
-all-small-requires c κs = search needs
+loop-holds : tie.Need-loop-holds Inv-loop μ-loop
+loop-holds c = (omega arith, below-none _)
 
-unused-zero-requires : tie.Need-unused-zero-requires
-unused-zero-requires c κs = search needs
+place-right-requires : tie.Need-place-right-requires Inv-loop μ-loop
+place-right-requires c κs = search needs
 
-returns : tie.Need-returns
+returns : tie.Need-returns Inv-loop μ-loop
 returns c =
     let args = c .before .before .before .before .args in
-    c .unused-zero .ensures
-    ∙ ap (λ t. t && unusedZero (args .m) (args .span) (rowOf (args .t1))) (sym (c .before .if1 .taken) ∙ tested (c .before .before))
+    let place = c .before .before .before .loop .place in
+    let failed = sym (c .before .place-right .ensures) ∙ not-true _ (c .if1 .taken) in
+    sym (row-false (args .m) (args .span) (now (args .row)) place (c .before .before .loop-test .taken) failed)
 
-returns-2 : tie.Need-returns-2
+add-place : tie.Need-add-place Inv-loop μ-loop
+add-place c = search needs
+
+loop-less : tie.Need-loop-less Inv-loop μ-loop
+loop-less c = search needs
+
+loop-again : tie.Need-loop-again Inv-loop μ-loop
+loop-again c =
+    let here = sym (c .before .place-right .ensures) ∙ not-false _ (c .if1 .left) in
+    (omega arith, below-more _ _ (c .before .before .before .loop .inv .1) here)
+
+returns-2 : tie.Need-returns-2 Inv-loop μ-loop
 returns-2 c =
-    let args = c .before .before .before .args in
-    c .if1 .left ∙ ap (λ t. t && unusedZero (args .m) (args .span) (rowOf (args .t1))) (sym (c .if1 .left) ∙ tested (c .before))
+    let args = c .before .before .args in
+    sym (row-true (args .m) (args .span) (now (args .row)) (λ q h. c .before .loop .inv .1 q (omega arith)))
 
 pub row-right-spec : {M : Type 1} → statement M
 row-right-spec =
     tie.close
-    (tie.spec slice-aggregate-all-small all-small-requires unused-zero-requires returns returns-2)
+    (tie.spec
+    Inv-loop
+    μ-loop
+    loop-holds
+    place-right-requires
+    returns
+    add-place
+    loop-less
+    loop-again
+    returns-2)
