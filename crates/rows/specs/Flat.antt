@@ -4,6 +4,7 @@
 --   polynomials-rowOf     the polynomials of the row held by a list of numbers are its parts of 16
 --   zeroRow-numbers       a row is zero exactly if its numbers are
 --   smallRow-rowOf        a row's coefficients are within ±C exactly if those of its parts of 16 are
+--   isZero-split          the zero test of the next k numbers and of those after them
 --   every-longer          one member more that passes a test
 --   every-from-at, every-from-all   the members from a place on pass exactly if each does
 --   block-at, zeroBlock-at, entry-at   the place of a block, its zero test, and the place of a leading entry
@@ -17,11 +18,11 @@ use Prim.Native.Nat.{ℕ, zero, suc, _+_, _*_, _-_, _≤_, _<_}
 use native.Mathlib.Nat.{zero-mul, zero-add, suc-add, add-sub-of-le, suc-ne-zero, suc-inj, le-refl, not-suc-le-zero, le-of-suc-le-suc}
 use native.Mathlib.Numerals.{add-one}
 use native.Mathlib.Omega.{arith}
-use lib.ListN.{length, take, drop, getD, length-drop, length-map, List·getD-append}
+use lib.ListN.{length, take, drop, getD, length-drop, length-map, take-append-drop, List·getD-append}
 use lib.Seq.{take-take, take-suc, drop-drop, getD-drop, getD-append-add}
 use lib.Dec.{T, lit<}
 use lib.IntN.{ℤ}
-use Rattle.algebra.specs.Polynomials.{Polynomial, isZero, isZeroℤ, add, mul}
+use Rattle.algebra.specs.Polynomials.{Polynomial, isZero, isZeroℤ, isZero-append, add, mul}
 use Rattle.rules.specs.Limits.{small}
 use Rattle.rules.specs.Rows.{Row, All, every, zeroBlock, zeroRow, leadingBlock, entry, mapRow, combine, smallRow, coefficientsOf}
 use Rattle.rules.specs.Lists.{suc-width, all-getD, getD-all, all-of-every, every-of-all, every-append, every-flatten, drop-take, getD-map}
@@ -97,6 +98,12 @@ isZero-every (a ∷ p) = ap (λ b. isZeroℤ a && b) (isZero-every p)
 pub isZero-flatten : (ps : List Polynomial) → isZero (flatten ps) ≡ every isZero ps
 isZero-flatten ps =
     isZero-every (flatten ps) ∙ every-flatten isZeroℤ ps ∙ ap (λ t. every t ps) (sym (fun-ext isZero-every))
+
+-- The next k members, and those after them.
+pub isZero-split : (k i : ℕ) (l : List ℤ) → isZero (drop i l) ≡ (isZero (take k (drop i l)) && isZero (drop (i + k) l))
+isZero-split k i l =
+    ap isZero (sym (take-append-drop k (drop i l))) ∙ isZero-append (take k (drop i l)) (drop k (drop i l))
+    ∙ ap (λ q. isZero (take k (drop i l)) && isZero q) (drop-drop k i l)
 
 pub zeroRow-numbers : (r : Row) → zeroRow r ≡ isZero (coefficientsOf r)
 unfolding zeroRow zeroBlock coefficientsOf

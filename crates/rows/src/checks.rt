@@ -3,6 +3,7 @@ ghost use mathlib.Core.Path.{_≡_};
 ghost use mathlib.Core.Bool.{_&&_};
 ghost use Prim.Native.Nat.{_+_, _*_, _≤_};
 ghost use lib.ListN.{length};
+ghost use Rattle.algebra.specs.Polynomials.{isZero};
 ghost use Rattle.rules.specs.Limits.{small};
 ghost use Rattle.rules.specs.Rows.{every, smallRow};
 ghost use Rattle.rules.specs.Stores.{rowOf, unusedZero};
@@ -19,6 +20,21 @@ pub fn all_small(numbers: &[i64]) -> bool
         i += 1;
     }
     true
+}
+
+// The unused places of a store hold 0: a long part of it, tested 64 numbers at a time.
+pub fn unused_zero(numbers: &[i64]) -> bool
+    ensures { λ r. ⌜ r ≡ isZero (now (numbers .entry)) ⌝ }
+{
+    let mut i = 0;
+    while 64 <= numbers.len() - i {
+        let end = i + 64;
+        if !polynomials::content::all_zero(&numbers[i..end]) {
+            return false;
+        }
+        i = end;
+    }
+    polynomials::content::all_zero(&numbers[i..])
 }
 
 // The polynomial at a place of the row, block place / 4 and column place % 4: outside the system's blocks and columns it is zero,

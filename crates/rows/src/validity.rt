@@ -118,7 +118,7 @@ fn numbers_right(rows: &[i64], relations: &[i64], sizes: Sizes, count: usize) ->
         return false;
     }
     let from = count * 321;
-    polynomials::content::all_zero(&relations[from..5136])
+    crate::checks::unused_zero(&relations[from..5136])
 }
 
 // The number of the first check that fails, or 0.

@@ -32,20 +32,20 @@ returns-2 c =
 mul-from : tie.Need-mul-from
 mul-from c = search needs
 
-mul-all-zero : tie.Need-mul-all-zero
-mul-all-zero c = search needs
+mul-unused-zero : tie.Need-mul-unused-zero
+mul-unused-zero c = search needs
 
-sub-all-zero : tie.Need-sub-all-zero
-sub-all-zero c = search needs
+sub-unused-zero : tie.Need-sub-unused-zero
+sub-unused-zero c = search needs
 
-part-all-zero-start : tie.Need-part-all-zero-start
-part-all-zero-start c = search needs
+part-unused-zero-start : tie.Need-part-unused-zero-start
+part-unused-zero-start c = search needs
 
-part-all-zero-end : tie.Need-part-all-zero-end
-part-all-zero-end c = search needs
+part-unused-zero-end : tie.Need-part-unused-zero-end
+part-unused-zero-end c = search needs
 
-all-zero-requires : tie.Need-all-zero-requires
-all-zero-requires c κs = search needs
+unused-zero-requires : tie.Need-unused-zero-requires
+unused-zero-requires c κs = search needs
 
 returns-3 : tie.Need-returns-3
 unfolding numbersRight sizesOf
@@ -54,7 +54,7 @@ returns-3 c =
     let args = tested .before .before .before .args in
     let rows-passed = sym (tested .before .before .rows-right .ensures) ∙ not-false _ (tested .before .if1 .left) in
     let relations-passed = sym (tested .relations-right .ensures) ∙ not-false _ (c .before .before .if2 .left) in
-    c .all-zero .ensures ∙ ap isZero (unused-part (args .count) (now (args .relations)) (tested .before .before .before .pre .1 .0))
+    c .unused-zero .ensures ∙ ap isZero (unused-part (args .count) (now (args .relations)) (tested .before .before .before .pre .1 .0))
     ∙ both-passed _ _ _ rows-passed relations-passed
 
 pub numbers-right-spec : {M : Type 1} → statement M
@@ -66,9 +66,9 @@ numbers-right-spec =
     relations-right-requires
     returns-2
     mul-from
-    mul-all-zero
-    sub-all-zero
-    part-all-zero-start
-    part-all-zero-end
-    all-zero-requires
+    mul-unused-zero
+    sub-unused-zero
+    part-unused-zero-start
+    part-unused-zero-end
+    unused-zero-requires
     returns-3)
