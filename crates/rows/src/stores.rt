@@ -10,7 +10,17 @@ pub const ROW: usize = 320;
 
 pub const RELATION: usize = 321;
 
-// The 320 numbers of a store from a place on.
+// The 320 numbers of a store from a place on, where they stand.
+pub fn row_at(store: &[i64], at: usize) -> &[i64]
+    requires { ⌜ at + 320 ≤ length (now store) ⌝ }
+    ensures { λ r. ⌜ now r ≡ take 320 (drop at (now (store .entry))) ⌝ }
+    ensures { λ r. ⌜ length (now r) ≡ 320 ⌝ }
+{
+    let end = at + 320;
+    &store[at..end]
+}
+
+// The same, as an array of their own.
 pub fn load(store: &[i64], at: usize) -> [i64; 320]
     requires { ⌜ at + 320 ≤ length (now store) ⌝ }
     ensures { λ r. ⌜ r ≡ take 320 (drop at (now (store .entry))) ⌝ }

@@ -57,9 +57,7 @@ pub fn rows_right(store: &[i64], sizes: Sizes) -> bool
     let d = span(sizes);
     let mut i = 0;
     while i < m {
-        let from = i * 320;
-        let to = from + 320;
-        if !crate::checks::row_right(&store[from..to], m, d) {
+        if !crate::checks::row_right(crate::stores::row_at(store, i * 320), m, d) {
             return false;
         }
         i += 1;
@@ -75,9 +73,7 @@ fn relation_right(store: &[i64], at: usize, m: usize, span: usize) -> bool
     if !integers::within_bound(store[at]) {
         return false;
     }
-    let from = at + 1;
-    let to = from + 320;
-    crate::checks::row_right(&store[from..to], m, span)
+    crate::checks::row_right(crate::stores::row_at(store, at + 1), m, span)
 }
 
 // Every relation up to the count passes its number check.

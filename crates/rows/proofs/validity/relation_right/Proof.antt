@@ -1,8 +1,6 @@
 -- `rows::validity::relation_right` meets its contract. The integer n0 is tested first, then the row after it.
 -- Assumes nothing.
 use mathlib.Core.Path.{_≡_, sym, _∙_, ap}
-use Prim.Native.Nat.{_+_, _-_}
-use native.Mathlib.Omega.{arith}
 use borrow.Author.Needs.{needs, sfits-of}
 use borrow.Author.Tests.{not-true, not-false}
 use denote.Ref.{now}
@@ -39,34 +37,21 @@ returns : tie.Need-returns
 unfolding relationTest
 returns c = sym (not-true _ (c .if1 .taken)) ∙ tested (c .before) ∙ and-first _ _ (sym (tested (c .before)) ∙ not-true _ (c .if1 .taken))
 
-add-from : tie.Need-add-from
-add-from c = search needs
+add-row-at : tie.Need-add-row-at
+add-row-at c = search needs
 
-add-to : tie.Need-add-to
-add-to c = search needs
-
-mul-row-right : tie.Need-mul-row-right
-mul-row-right c = search needs
-
-sub-row-right : tie.Need-sub-row-right
-sub-row-right c = search needs
-
-part-row-right-start : tie.Need-part-row-right-start
-part-row-right-start c = search needs
-
-part-row-right-end : tie.Need-part-row-right-end
-part-row-right-end c = search needs
+row-at-requires : tie.Need-row-at-requires
+row-at-requires c κs = search needs
 
 row-right-requires : tie.Need-row-right-requires
-row-right-requires c κs = search needs
+row-right-requires c κs = c .row-at .ensures .1
 
 returns-2 : tie.Need-returns-2
 unfolding relationTest rowTest
 returns-2 c =
     let start = c .before .before .before in
     let args = start .before .before .args in
-    let size : args .at + 1 + 320 - (args .at + 1) ≡ 320 = omega arith in
-    let row = ap (λ n. rowOf (take n (drop (args .at + 1) (now (args .store))))) size ∙ sym (row-after (now (args .store)) (args .at)) in
+    let row = ap rowOf (c .before .row-at .ensures .0) ∙ sym (row-after (now (args .store)) (args .at)) in
     c .row-right .ensures ∙ ap (rowTest (args .m) (args .span)) row
     ∙ and-second _ _ (sym (tested start) ∙ not-false _ (c .before .before .if1 .left))
 
@@ -78,11 +63,7 @@ relation-right-spec =
     shared-slice-copy-out-within-bound
     within-bound-requires
     returns
-    add-from
-    add-to
-    mul-row-right
-    sub-row-right
-    part-row-right-start
-    part-row-right-end
+    add-row-at
+    row-at-requires
     row-right-requires
     returns-2)

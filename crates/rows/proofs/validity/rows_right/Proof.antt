@@ -3,12 +3,12 @@
 use mathlib.Core.Path.{_≡_, sym, _∙_, ap}
 use mathlib.Core.Bool.{Bool, true}
 use mathlib.Core.List.{List}
-use Prim.Native.Nat.{_+_, _*_, _-_, _≤_, _<_}
+use Prim.Native.Nat.{_-_, _≤_, _<_}
 use native.Mathlib.Omega.{arith}
 use borrow.Author.Needs.{needs}
 use borrow.Author.Tests.{not-true, not-false}
 use denote.Ref.{now}
-use lib.ListN.{length, take, drop, getD}
+use lib.ListN.{length, take, getD}
 use lib.Seq.{take-all}
 use Rattle.rules.specs.Rows.{Row, noRow, every}
 use Rattle.rules.specs.Stores.{rowOf, rowsOf, rowNeed, rowRight}
@@ -51,9 +51,7 @@ module _ (c : tie.After-row-right Inv-loop μ-loop) where
   unfolding rowTest
   tested =
       let args = at .before .before .args in
-      let from = at .loop .i * 320 in
-      let size : from + 320 - from ≡ 320 = omega arith in
-      c .row-right .ensures ∙ ap (λ n. test (rowOf (take n (drop from (now (args .store)))))) size
+      c .row-right .ensures ∙ ap (λ l. test (rowOf l)) (c .before .row-at .ensures .0)
       ∙ ap test (sym (row-at (args .sizes .m) (now (args .store)) (at .loop .i) (c .before .before .loop-test .taken)))
 
 span-requires : tie.Need-span-requires Inv-loop μ-loop
@@ -63,30 +61,16 @@ loop-holds : tie.Need-loop-holds Inv-loop μ-loop
 unfolding every
 loop-holds c = search needs
 
-mul-from : tie.Need-mul-from Inv-loop μ-loop
+mul-row-at : tie.Need-mul-row-at Inv-loop μ-loop
 unfolding rowNeed
-mul-from c = search needs
+mul-row-at c = search needs
 
-add-to : tie.Need-add-to Inv-loop μ-loop
+row-at-requires : tie.Need-row-at-requires Inv-loop μ-loop
 unfolding rowNeed
-add-to c = search needs
-
-mul-row-right : tie.Need-mul-row-right Inv-loop μ-loop
-unfolding rowNeed
-mul-row-right c = search needs
-
-sub-row-right : tie.Need-sub-row-right Inv-loop μ-loop
-sub-row-right c = search needs
-
-part-row-right-start : tie.Need-part-row-right-start Inv-loop μ-loop
-part-row-right-start c = search needs
-
-part-row-right-end : tie.Need-part-row-right-end Inv-loop μ-loop
-unfolding rowNeed
-part-row-right-end c = search needs
+row-at-requires c κs = search needs
 
 row-right-requires : tie.Need-row-right-requires Inv-loop μ-loop
-row-right-requires c κs = search needs
+row-right-requires c κs = c .row-at .ensures .1
 
 returns : tie.Need-returns Inv-loop μ-loop
 returns c =
@@ -119,12 +103,8 @@ rows-right-spec =
     μ-loop
     span-requires
     loop-holds
-    mul-from
-    add-to
-    mul-row-right
-    sub-row-right
-    part-row-right-start
-    part-row-right-end
+    mul-row-at
+    row-at-requires
     row-right-requires
     returns
     add-i
