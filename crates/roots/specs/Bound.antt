@@ -6,6 +6,7 @@
 --
 -- Main statements
 --   degree-inside, top-positive   the highest coefficient of a nonzero polynomial that is not 0 has a place, and is not 0
+--   eval-top          the coefficients from it on have its value
 --   past-start        where it stands, e is its size
 --   past-next         one coefficient more: e n without its size
 --   past-roots        where e is positive at the end, the roots are below n
@@ -33,7 +34,7 @@ abbrev pub Past : Polynomial → ℕ → ℕ → ℕ → Type 0
 Past p n i e = (z : ℤ) → n ≤ natAbs z → e ≤ natAbs (eval (drop i p) z)
 
 -- From the highest nonzero coefficient on there is only that one.
-eval-top : (p : Polynomial) (z : ℤ) → eval (drop (degree p) p) z ≡ lead p
+pub eval-top : (p : Polynomial) (z : ℤ) → eval (drop (degree p) p) z ≡ lead p
 unfolding degree lead eval
 eval-top [] z = refl
 eval-top (a ∷ p) z = cases (isZero p) (λ t. t) (eval-top p z)

@@ -17,6 +17,7 @@
 --   found-length       a list of roots has at most as many members as the degree says
 --   tried-none, tried-with, tried-without   the divisors of a product, by its factors
 --   all-tried          with 0 and the divisors of the lowest coefficient, the roots are found
+--   linear-tried       a polynomial of degree 1 has one candidate
 --   roots-few          a polynomial of 16 coefficients has at most 15 roots
 --   answered-first, answered-last   the first root is the smallest and the last the largest
 use Prim.Native.Nat.{ℕ, zero, suc, _+_, _*_, _-_, _/_, _≤_, _<_, _∣_, zero-le}
@@ -34,18 +35,18 @@ use native.Mathlib.Omega.{arith}
 use lib.Dec.{T, not-T}
 use lib.ListN.{length, take, drop, getD, replicate, drop-of-length-le, List·getD-append}
 use lib.Seq.{take-append-seam}
-use lib.IntN.{ℤ, pos, negsuc, negℤ, natAbs, _+ℤ_, _*ℤ_, +ℤ-assoc}
+use lib.IntN.{ℤ, pos, negsuc, negℤ, natAbs, _+ℤ_, _*ℤ_, +ℤ-assoc, negℤ-negℤ}
 use lib.Signed.{_<ℤ_, leZ, quotZ, remZ}
 use mir.Syntax.{w64}
 use mir.Val.{SFits}
 use Rattle.integers.specs.Ranges.{sfits-size}
-use Rattle.algebra.specs.Integers.{ringℤ, natAbs-+ℤ, negℤ-unique, natAbs-zero, no-zero-divisors}
-use Rattle.algebra.specs.Division.{quotZ-le, remZ-multiple, quotZ-multiple}
+use Rattle.algebra.specs.Integers.{ringℤ, natAbs-+ℤ, negℤ-unique, negℤ-*ℤ, natAbs-zero, no-zero-divisors}
+use Rattle.algebra.specs.Division.{quotZ-le, quotZ-exact, remZ-multiple, quotZ-multiple}
 use Rattle.algebra.specs.Order.{<ℤ-to-≤ℤ}
 use Rattle.algebra.specs.Polynomials.{Polynomial, coeff, eval, isZero, lowest, degree, isZeroℤ, same-test}
 use Rattle.algebra.specs.Vanishing.{isZeroℤ-sound, isZeroℤ-complete, roots-at-most-degree, root-divides-lowest}
 use Rattle.algebra.specs.Vanishing.{nonzero-past-lowest}
-use Rattle.algebra.specs.Coefficients.{degree-isZero, lowest-place}
+use Rattle.algebra.specs.Coefficients.{degree-isZero, coeff-degree, lowest-place}
 use Rattle.algebra.specs.Roots.{place, roots, ascending-distinct, roots-sound, roots-complete, roots-ascending}
 use Rattle.rules.specs.Limits.{bound, small}
 use Rattle.rules.specs.Rows.{every}
@@ -55,7 +56,7 @@ use Rattle.polynomials.specs.Content.{small-at, drop-next}
 use Rattle.roots.specs.Ascending.{Ascending, insert, insert-nil, first-below, ascending-unique, insert-longer}
 use Rattle.roots.specs.Ascending.{insert-new}
 use Rattle.roots.specs.Ascending.{insert-old, insert-only, insert-ascending}
-use Rattle.roots.specs.Bound.{RootsBelow, degree-inside}
+use Rattle.roots.specs.Bound.{RootsBelow, degree-inside, top-positive, eval-top}
 use Rattle.roots.specs.Factors.{product, product-cons, product-positive, Simple, AllSimple, Factored, Run, simple-coprime, run-divides}
 use Rattle.roots.specs.declared.RootList.{RootList}
 use Rattle.roots.specs.declared.RootAnswer.{RootAnswer}
@@ -377,10 +378,44 @@ all-tried p nonzero {n} {l} {f} below factored first tried = tried .holds .exact
         inl (below z e, natAbs z, sym (one-mul (natAbs z)), subst (λ a. natAbs z ∣ a) (sym (factored .whole)) divides))
         (eq-zero-or-pos (natAbs z))
 
--- ---- the roots of any polynomial, the largest and the smallest
+-- ---- degree 1
 
 pub nonconstant-nonzero : (p : Polynomial) → degree p ≢ 0 → T (not (isZero p))
 nonconstant-nonzero p h = not-T (isZero p) (λ z. h (degree-isZero p z))
+
+module _ (p : Polynomial) (linear : degree p ≡ 1) where
+  linear-nonzero : T (not (isZero p))
+  linear-nonzero = nonconstant-nonzero p (λ e. omega (arith, linear))
+
+  pub linear-length : 1 < length p
+  linear-length = omega (arith, linear, degree-inside p linear-nonzero)
+
+  pub linear-positive : 0 < natAbs (getD p 1 (pos 0))
+  linear-positive = subst (λ n. 0 < natAbs (getD p n (pos 0))) linear (top-positive p linear-nonzero)
+
+  -- a + z b = 0 only for z = -(a / b).
+  linear-root : (z : ℤ) → eval p z ≡ pos 0 → z ≡ negℤ (quotZ (getD p 0 (pos 0)) (getD p 1 (pos 0)))
+  unfolding eval coeff
+  linear-root z root = sym (ap negℤ quotient ∙ negℤ-negℤ z)
+    where
+      b : ℤ
+      b = getD p 1 (pos 0)
+
+      value : eval (drop 1 p) z ≡ b
+      value = subst (λ n. eval (drop n p) z ≡ getD p n (pos 0)) linear (eval-top p z ∙ sym (coeff-degree p))
+
+      split : getD p 0 (pos 0) +ℤ z *ℤ b ≡ pos 0
+      split = ap (λ v. getD p 0 (pos 0) +ℤ z *ℤ v) (sym value) ∙ ap (λ q. eval q z) (sym (drop-next p 0 (omega (arith, linear-length)))) ∙ root
+
+      quotient : quotZ (getD p 0 (pos 0)) b ≡ negℤ z
+      quotient =
+          ap (λ a. quotZ a b) (negℤ-unique (getD p 0 (pos 0)) (z *ℤ b) split ∙ sym (negℤ-*ℤ z b))
+          ∙ quotZ-exact (negℤ z) b (λ e. omega (arith, linear-positive, ap natAbs e))
+
+  pub linear-tried : tryRoot p (negℤ (quotZ (getD p 0 (pos 0)) (getD p 1 (pos 0)))) [] ≡ roots p
+  linear-tried = found-all p linear-nonzero (found-root _ [] found-none) (λ z e. inl (linear-root z e))
+
+-- ---- the roots of any polynomial, the largest and the smallest
 
 pub roots-constant : (p : Polynomial) → degree p ≡ 0 → roots p ≡ []
 unfolding roots degree

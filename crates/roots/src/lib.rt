@@ -22,6 +22,15 @@ pub struct RootList {
     pub values: [i64; 16],
 }
 
+fn no_roots() -> RootList
+    ensures { λ l. ⌜ l ≡ listed [] ⌝ }
+{
+    RootList {
+        count: 0,
+        values: [0; 16],
+    }
+}
+
 // Without large numbers: a0 + r·q = 0 exactly if r divides a0 and a0/r + q = 0.
 fn vanishes(p: &[i64], r: i64) -> bool
     requires { ⌜ (0 < length (now p)) × (length (now p) ≤ 16) × T (every small (now p)) × (0 < natAbs r) ⌝ }
@@ -93,6 +102,13 @@ fn tried(p: &[i64], r: i64, found: RootList) -> RootList
     } else {
         found
     }
+}
+
+fn tried_first(p: &[i64], r: i64) -> RootList
+    requires { ⌜ (length (now p) ≤ 16) × T (every small (now p)) ⌝ }
+    ensures { λ l. ⌜ l ≡ listed (tryRoot (now (p .entry)) r []) ⌝ }
+{
+    tried(p, r, no_roots())
 }
 
 // d and -d are tried.
@@ -242,15 +258,20 @@ fn searched(p: &[i64], a: u32) -> RootList
         × (a ≡ natAbs (Polynomials.lowest (now p))) ⌝ }
     ensures { λ l. ⌜ l ≡ listed (Roots.roots (now (p .entry))) ⌝ }
 {
-    let none = RootList {
-        count: 0,
-        values: [0; 16],
-    };
     let limit = bound_of_roots(p);
     let list = factors(a, limit);
     let n = list.count;
     let values = list.values;
-    tried_products(p, limit, &values[..n], 0, 1, tried(p, 0, none))
+    tried_products(p, limit, &values[..n], 0, 1, tried_first(p, 0))
+}
+
+// The candidate is the quotient of the two coefficients, with the other sign.
+fn root_of_linear(p: &[i64]) -> RootList
+    requires { ⌜ (length (now p) ≤ 16) × T (every small (now p)) × (Polynomials.degree (now p) ≡ 1) ⌝ }
+    ensures { λ l. ⌜ l ≡ listed (Roots.roots (now (p .entry))) ⌝ }
+{
+    let quotient = p[0] / p[1];
+    tried_first(p, -quotient)
 }
 
 // The integer roots, ascending, each once; none for a constant, which is not searched.
@@ -258,11 +279,11 @@ pub fn roots(p: &[i64]) -> RootList
     requires { ⌜ (length (now p) ≤ 16) × T (every small (now p)) ⌝ }
     ensures { λ l. ⌜ l ≡ listed (Roots.roots (now (p .entry))) ⌝ }
 {
-    if polynomials::content::degree(p) == 0 {
-        RootList {
-            count: 0,
-            values: [0; 16],
-        }
+    let n = polynomials::content::degree(p);
+    if n == 0 {
+        no_roots()
+    } else if n == 1 {
+        root_of_linear(p)
     } else {
         searched(
             p,

@@ -1,16 +1,14 @@
 -- `roots::searched` meets its contract.
 -- Assumes nothing.
-use mathlib.Core.Path.{refl, sym, subst}
+use mathlib.Core.Path.{sym, subst}
 use Prim.Native.Nat.{_≤_, zero-le}
-use native.Mathlib.Nat.{le-trans}
 use native.Mathlib.Omega.{arith}
 use borrow.Author.Needs.{needs}
-use lib.Dec.{lit≤}
 use lib.Seq.{length-take-le}
 use Rattle.algebra.specs.Vanishing.{lowest-positive}
 use Rattle.rules.specs.Limits.{bound}
 use Rattle.roots.specs.Factors.{Factored, remaining-all}
-use Rattle.roots.specs.RootSearch.{factorsOf, tryRoot-one, lowest-small, zero-tried, only-roots, all-tried}
+use Rattle.roots.specs.RootSearch.{factorsOf, lowest-small, zero-tried, only-roots, all-tried}
 use Rattle.roots.proofs.searched.Statement.{statement}
 use Rattle.roots.proofs.searched.Tie as tie
 
@@ -33,15 +31,13 @@ slice-aggregate-tried-products c =
     let list = c .before .before .factors .result in
     sym (length-take-le (list .count) (list .values) (omega arith))
 
-tried-requires : tie.Need-tried-requires
-tried-requires c κs =
-    let s = c .before .before .before .before in
-    (s .pre .0, s .pre .1, refl, le-trans (tryRoot-one _ _) (lit≤ tt))
+tried-first-requires : tie.Need-tried-first-requires
+tried-first-requires c κs = search needs
 
 tried-products-requires : tie.Need-tried-products-requires
 tried-products-requires c κs =
     let s = c .before .before .before .before .before in
-    let first = only-roots (zero-tried (s .args .p .now) (c .tried .ensures)) in
+    let first = only-roots (zero-tried (s .args .p .now) (c .tried-first .ensures)) in
     (s .pre .0, s .pre .1, s .pre .2, first, zero-le, remaining-all (c .before .before .before .factors .ensures .1) (small-a s))
 
 returns : tie.Need-returns
@@ -50,7 +46,7 @@ returns c =
     let s = at-bound .before in
     let list = c .before .before .before .before .factors in
     let factored = subst (λ a. Factored (at-bound .bound-of-roots .result) a (factorsOf (list .result))) (s .pre .3) (list .ensures .1) in
-    all-tried (s .args .p .now) (s .pre .2) (at-bound .bound-of-roots .ensures) factored (zero-tried _ (c .before .tried .ensures))
+    all-tried (s .args .p .now) (s .pre .2) (at-bound .bound-of-roots .ensures) factored (zero-tried _ (c .before .tried-first .ensures))
     (c .tried-products .ensures)
 
 pub searched-spec : {M : Type 1} → statement M
@@ -61,6 +57,6 @@ searched-spec =
     factors-requires
     array-share-prefix-values
     slice-aggregate-tried-products
-    tried-requires
+    tried-first-requires
     tried-products-requires
     returns)
