@@ -5,6 +5,7 @@
 --   Simple n f         f is above 1, and of its divisors below n there are only 1 and f
 --   Factored n a l     the product of l is a, and each number of l is simple
 --   Factoring n a l rest q   the numbers of l and the rest have the product a, and q is at most every divisor of the rest but 1
+--   Gap q gap          after q, q + gap is tried
 --   Run q l m          l is m after some numbers q
 --   Remaining n d l    simple factors l, whose product with d is at most C
 --
@@ -15,7 +16,7 @@
 --   simple-coprime     a simple number is coprime to a number below the limit that it does not divide
 --   run-next, run-divides   a run passed, and what divides the product and is coprime to the run
 --   remaining-all, remaining-with, remaining-without   the factors of a number, the first factor taken, and passed with those equal to it
-use Prim.Native.Nat.{ℕ, _+_, _*_, _/_, _%_, _^_, _≤_, _<_, _∣_}
+use Prim.Native.Nat.{ℕ, _+_, _*_, _-_, _/_, _%_, _^_, _≤_, _<_, _∣_}
 use mathlib.Core.Path.{_≡_, refl, sym, _∙_, ap, subst}
 use mathlib.Core.Logic.{_≢_, _⊎_, inl, inr, ⊎-elim, by-cases}
 use mathlib.Core.List.{List, [], _∷_, _++_, prod, prod-append}
@@ -23,7 +24,7 @@ use mathlib.Core.List.{List·Memᴰ, List·Memᴰ·head, List·Memᴰ·tail, Lis
 use native.Mathlib.Nat.{le-refl, le-trans, le-of-eq, eq-or-lt-of-le, eq-zero-or-pos, pos-of-ne-zero, lt-of-not-le, two-pow-succ, pow-le-pow-right}
 use native.Mathlib.Nat.{mul-one, one-mul, mul-assoc, mul-comm, mul-zero, mul-le-mul, mul-le-mul-left, mul-pos, le-mul-of-pos-right, le-div-iff-mul-le}
 use native.Mathlib.Nat.{dvd-refl, dvd-zero, dvd-trans, dvd-mul-left, le-of-dvd, pos-of-dvd-of-pos, mul-div-cancel'}
-use native.Mathlib.Nat.{dvd-of-mod-eq-zero, mod-eq-zero-of-dvd}
+use native.Mathlib.Nat.{dvd-of-mod-eq-zero, div-mul-cancel}
 use native.Mathlib.Numerals.{add-one}
 use native.Mathlib.Decide.{decLe}
 use native.Mathlib.Omega.{arith}
@@ -77,6 +78,41 @@ pub record Factoring (n a : ℕ) (l : List ℕ) (rest q : ℕ) : Type 0 where
   pub low : 2 ≤ q
   pub least : (g : ℕ) → g ∣ rest → 1 < g → q ≤ g
 
+-- From q to the number that is tried after it: 2, 3, and then those that neither 2 nor 3 divides.
+pub data Gap : ℕ → ℕ → Type 0 where
+  two : Gap 2 1
+  three : Gap 3 2
+  five : {q : ℕ} → q % 6 ≡ 5 → Gap q 2
+  seven : {q : ℕ} → 3 < q → q % 6 ≡ 1 → Gap q 4
+
+pub gap-bounds : {q gap : ℕ} → Gap q gap → (0 < gap) × (gap ≤ 4)
+gap-bounds two = omega arith
+gap-bounds three = omega arith
+gap-bounds (five e) = omega arith
+gap-bounds (seven h e) = omega arith
+
+pub gap-early : {q gap : ℕ} → Gap q gap → q < 5 → Gap (q + gap) 2
+gap-early two h = three
+gap-early three h = five refl
+gap-early (five e) h = absurd (omega arith)
+gap-early (seven k e) h = absurd (omega arith)
+
+pub gap-late : {q gap : ℕ} → Gap q gap → 5 ≤ q → Gap (q + gap) (6 - gap)
+gap-late two h = absurd (omega arith)
+gap-late three h = absurd (omega arith)
+gap-late {q} (five e) h = seven {q = q + 2} (omega arith) (omega arith)
+gap-late {q} (seven k e) h = five {q = q + 4} (omega arith)
+
+-- What is between has the divisor 2 or 3.
+gap-between : {q gap : ℕ} → Gap q gap → (g : ℕ) → q < g → g < q + gap → ((2 < q) × (g % 2 ≡ 0)) ⊎ ((3 < q) × (g % 3 ≡ 0))
+gap-between two g k m = absurd (omega arith)
+gap-between three g k m = inl (omega arith, omega arith)
+gap-between (five e) g k m = inl (omega arith, omega arith)
+gap-between (seven h e) g k m =
+    by-cases (decLe (g % 2) 0)
+    (λ even. inl (omega arith, omega arith))
+    (λ odd. let o = lt-of-not-le odd in inr (omega arith, omega arith))
+
 pub factoring-start : (n a : ℕ) → Factoring n a [] a 2
 unfolding prod
 factoring-start n a =
@@ -84,7 +120,7 @@ factoring-start n a =
 
 module _ {n a : ℕ} {l : List ℕ} {rest q : ℕ} (s : Factoring n a l rest q) where
   -- The least divisor but 1 is simple.
-  pub factoring-take : rest % q ≡ 0 → Factoring n a (l ++ (q ∷ [])) (rest / q) q
+  pub factoring-take : rest / q * q ≡ rest → Factoring n a (l ++ (q ∷ [])) (rest / q) q
   factoring-take h =
       record {
         whole = ap (λ k. k * (rest / q)) (product-snoc l q) ∙ mul-assoc (product l) q (rest / q) ∙ ap (λ k. product l * k) exact ∙ s .whole;
@@ -94,10 +130,10 @@ module _ {n a : ℕ} {l : List ℕ} {rest q : ℕ} (s : Factoring n a l rest q) 
       }
     where
       divides : q ∣ rest
-      divides = dvd-of-mod-eq-zero q h
+      divides = subst (λ r. q ∣ r) h (dvd-mul-left q (rest / q))
 
       exact : q * (rest / q) ≡ rest
-      exact = mul-div-cancel' q divides
+      exact = mul-comm q (rest / q) ∙ h
 
       simple : (g : ℕ) → g ∣ q → g < n → (g ≡ 1) ⊎ (g ≡ q)
       simple g k _ =
@@ -105,23 +141,26 @@ module _ {n a : ℕ} {l : List ℕ} {rest q : ℕ} (s : Factoring n a l rest q) 
           let small = le-of-dvd (omega (arith, s .low)) k in
           ⊎-elim (λ e. inl (sym e)) (λ m. inr (omega (arith, s .least g (dvd-trans g k divides) m))) (eq-or-lt-of-le positive)
 
-  -- An odd q is followed by an even number, which no divisor is: 2 would be a smaller one.
-  pub factoring-pass : rest % q ≢ 0 → Factoring n a l rest (q + (1 + q % 2))
-  factoring-pass h = record { whole = s .whole; simple = s .simple; low = omega (arith, s .low); least = next }
+  -- A divisor between would have the smaller divisor 2 or 3.
+  pub factoring-pass : {gap : ℕ} → Gap q gap → rest / q * q ≢ rest → Factoring n a l rest (q + gap)
+  factoring-pass {gap} t h = record { whole = s .whole; simple = s .simple; low = omega (arith, s .low); least = next }
     where
-      next : (g : ℕ) → g ∣ rest → 1 < g → q + (1 + q % 2) ≤ g
-      next g d k = by-cases (decLe (q + (1 + q % 2)) g) (λ m. m) (λ m. absurd (between (lt-of-not-le m)))
-        where
-          other : g ≢ q
-          other e = h (mod-eq-zero-of-dvd q (subst (λ r. r ∣ rest) e d))
+      multiple : (g m : ℕ) → g ∣ rest → 1 < m → m < q → g % m ≡ 0 → ⊥
+      multiple g m d k o e = omega (arith, s .least m (dvd-trans m (dvd-of-mod-eq-zero m e) d) k)
 
-          even : g % 2 ≡ 0 → q ≤ 2
-          even e = s .least 2 (dvd-trans 2 (dvd-of-mod-eq-zero 2 e) d) (omega arith)
+      passed : (g : ℕ) → g ∣ rest → q < g → g < q + gap → ⊥
+      passed g d k o =
+          ⊎-elim
+          (λ e. multiple g 2 d (omega arith) (e .0) (e .1))
+          (λ e. multiple g 3 d (omega arith) (e .0) (e .1))
+          (gap-between t g k o)
 
-          between : g < q + (1 + q % 2) → ⊥
-          between m =
-              let least = s .least g d k in
-              ⊎-elim (λ e. other (sym e)) (λ o. let e : g % 2 ≡ 0 = omega arith in omega (arith, even e, s .low)) (eq-or-lt-of-le least)
+      next : (g : ℕ) → g ∣ rest → 1 < g → q + gap ≤ g
+      next g d k =
+          by-cases (decLe (q + gap) g) (λ m. m)
+          (λ m.
+          ⊎-elim (λ e. absurd (h (div-mul-cancel q (subst (λ i. i ∣ rest) (sym e) d)))) (λ o. absurd (passed g d o (lt-of-not-le m)))
+          (eq-or-lt-of-le (s .least g d k)))
 
   pub factoring-done : rest ≡ 1 → Factored n a l
   factoring-done e = record { whole = sym (mul-one (product l)) ∙ ap (λ r. product l * r) (sym e) ∙ s .whole; simple = s .simple }

@@ -2,7 +2,7 @@
 ghost use mathlib.Core.Path.{_≡_};
 ghost use mathlib.Core.Bool.{true, not};
 ghost use mathlib.Core.List.{[], _∷_, _++_};
-ghost use Prim.Native.Nat.{_≤_, _<_};
+ghost use Prim.Native.Nat.{_+_, _≤_, _<_};
 ghost use lib.Dec.{T};
 ghost use lib.IntN.{natAbs};
 ghost use lib.ListN.{length, getD, drop};
@@ -13,7 +13,7 @@ ghost use Rattle.rules.specs.Rows.{every};
 ghost use Rattle.rules.specs.Elimination.{leading, trailing, furthest};
 ghost use Rattle.roots.specs.Ascending.{insert};
 ghost use Rattle.roots.specs.Bound.{RootsBelow};
-ghost use Rattle.roots.specs.Factors.{Factored, Run, Remaining};
+ghost use Rattle.roots.specs.Factors.{Gap, Factored, Run, Remaining};
 ghost use Rattle.roots.specs.RootSearch.{tryRoot, tryBoth, held, listed, factorsOf, Sized, answered, OnlyRoots, Tried};
 
 // The integer roots of a polynomial, ascending: the first `count` of `values`; the others are 0.
@@ -182,7 +182,15 @@ fn with_factor(list: FactorList, f: u32) -> FactorList
     }
 }
 
-// By trial division with 2, 3, 5, 7, 9, .. as far as a divisor below the limit can be found.
+// From the number that is tried after q to the one after that.
+fn next_gap(q: u32, gap: u32) -> u32
+    requires { ⌜ Gap q gap ⌝ }
+    ensures { λ r. ⌜ Gap (q + gap) r ⌝ }
+{
+    if q < 5 { 2 } else { 6 - gap }
+}
+
+// By trial division with 2, 3, 5, 7, 11, 13, 17, .. as far as a divisor below the limit can be found.
 fn factors(a: u32, limit: u32) -> FactorList
     requires { ⌜ (0 < a) × (a ≤ bound) ⌝ }
     ensures { λ r. ⌜ Sized r × Factored limit a (factorsOf r) ⌝ }
@@ -193,12 +201,16 @@ fn factors(a: u32, limit: u32) -> FactorList
     };
     let mut rest = a;
     let mut q: u32 = 2;
+    let mut gap: u32 = 1;
     while q <= rest / q && q < limit {
-        if rest % q == 0 {
+        let quotient = rest / q;
+        if quotient * q == rest {
             list = with_factor(list, q);
-            rest = rest / q;
+            rest = quotient;
         } else {
-            q += 1 + q % 2;
+            let next = next_gap(q, gap);
+            q += gap;
+            gap = next;
         }
     }
     if rest == 1 {
