@@ -29,7 +29,7 @@ use mathlib.Core.List.{List·Mem, List·Memᴰ, List·Memᴰ·head, List·Memᴰ
 use mathlib.Core.List.{Pairwise·nil, Pairwise·of-cons}
 use mathlib.Core.Option.{Option, some}
 use native.Mathlib.Nat.{suc-ne-zero, le-refl, eq-zero-or-pos, mul-div-cancel', mul-one, one-mul, mul-comm, mul-assoc, le-mul-of-pos-right}
-use native.Mathlib.Nat.{le-of-eq, lt-of-not-le, pos-of-dvd-of-pos, eq-one-of-dvd-one, dvd-of-mul-dvd-mul-left}
+use native.Mathlib.Nat.{le-trans, le-of-eq, div-mul-le-self, lt-of-not-le, pos-of-dvd-of-pos, eq-one-of-dvd-one, dvd-of-mul-dvd-mul-left}
 use native.Mathlib.Decide.{decLe, decDvd}
 use native.Mathlib.Omega.{arith}
 use lib.Dec.{T, not-T}
@@ -40,8 +40,8 @@ use lib.Signed.{_<ℤ_, leZ, quotZ, remZ}
 use mir.Syntax.{w64}
 use mir.Val.{SFits}
 use Rattle.integers.specs.Ranges.{sfits-size}
-use Rattle.algebra.specs.Integers.{ringℤ, natAbs-+ℤ, negℤ-unique, negℤ-*ℤ, natAbs-zero, no-zero-divisors}
-use Rattle.algebra.specs.Division.{quotZ-le, quotZ-exact, remZ-multiple, quotZ-multiple}
+use Rattle.algebra.specs.Integers.{ringℤ, natAbs-+ℤ, natAbs-*ℤ, negℤ-unique, negℤ-*ℤ, natAbs-zero, no-zero-divisors}
+use Rattle.algebra.specs.Division.{natAbs-quotZ, quotZ-le, quotZ-exact, remZ-multiple, quotZ-multiple}
 use Rattle.algebra.specs.Order.{<ℤ-to-≤ℤ}
 use Rattle.algebra.specs.Polynomials.{Polynomial, coeff, eval, isZero, lowest, degree, isZeroℤ, same-test}
 use Rattle.algebra.specs.Vanishing.{isZeroℤ-sound, isZeroℤ-complete, roots-at-most-degree, root-divides-lowest}
@@ -146,15 +146,23 @@ chain-start [] r h t = absurd (omega arith)
 chain-start (a ∷ p) r h t = record { within = omega arith; size = omega (arith, small-at (a ∷ p) t 0); test = refl }
 
 module _ {p : Polynomial} {r : ℤ} {i : ℕ} {b : ℤ} (c : Chain p r i b) where
-  pub chain-fails : remZ b r ≢ pos 0 → isZeroℤ (eval p r) ≡ false
-  chain-fails n = c .test ∙ test-fails b r (eval (drop i p) r) n
+  -- The product of quotient and divisor is no larger than b.
+  pub product-size : natAbs (quotZ b r *ℤ r) ≤ natAbs b
+  product-size =
+      le-trans (le-of-eq (natAbs-*ℤ (quotZ b r) r ∙ ap (λ n. n * natAbs r) (natAbs-quotZ b r))) (div-mul-le-self (natAbs b) (natAbs r))
 
-  pub chain-next : T (every small p) → i < length p → r ≢ pos 0 → remZ b r ≡ pos 0
+  pub chain-fails : quotZ b r *ℤ r ≢ b → isZeroℤ (eval p r) ≡ false
+  chain-fails n = c .test ∙ test-fails b r (eval (drop i p) r) (λ z. n (quotZ-multiple b r z))
+
+  pub chain-next : T (every small p) → i < length p → r ≢ pos 0 → quotZ b r *ℤ r ≡ b
       → Chain p r (i + 1) (quotZ b r +ℤ getD p i (pos 0))
   unfolding eval
   chain-next t h n z =
-      record { within = omega (arith, c .within); size = sizes; test = c .test ∙ test-steps b r _ n z ∙ ap isZeroℤ rest }
+      record { within = omega (arith, c .within); size = sizes; test = c .test ∙ test-steps b r _ n exact ∙ ap isZeroℤ rest }
     where
+      exact : remZ b r ≡ pos 0
+      exact = ap (λ x. remZ x r) (sym z) ∙ remZ-multiple (quotZ b r) r
+
       sizes : natAbs (quotZ b r +ℤ getD p i (pos 0)) ≤ (i + 1) * bound
       sizes = omega (arith, natAbs-+ℤ (quotZ b r) (getD p i (pos 0)), quotZ-le b r, small-at p t i, c .size)
 

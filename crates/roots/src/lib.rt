@@ -39,10 +39,11 @@ fn vanishes(p: &[i64], r: i64) -> bool
     let mut b = p[0];
     let mut i = 1;
     while i < p.len() {
-        if b % r != 0 {
+        let quotient = b / r;
+        if quotient * r != b {
             return false;
         }
-        b = b / r + p[i];
+        b = quotient + p[i];
         i += 1;
     }
     b == 0
