@@ -12,19 +12,20 @@
 -- Main statements
 --   factoring-start, factoring-take, factoring-pass   the turns of the trial division
 --   factoring-last, factoring-done   its end, where the rest is a factor and where it is 1
---   rest-small, room-for-more   the rest is at most the number, and a number up to C has at most 28 factors
+--   rest-positive, rest-small, few-factors   the rest is at most the number, and of a number up to C fewer than 28 factors are found
 --   simple-coprime     a simple number is coprime to a number below the limit that it does not divide
 --   run-next, run-divides   a run passed, and what divides the product and is coprime to the run
---   remaining-all, remaining-with, remaining-without   the factors of a number, the first factor taken, and passed with those equal to it
+--   remaining-all, remaining-with, remaining-without   all factors; those after the first; those after the run of the first
 use Prim.Native.Nat.{ℕ, _+_, _*_, _-_, _/_, _%_, _^_, _≤_, _<_, _∣_}
 use mathlib.Core.Path.{_≡_, refl, sym, _∙_, ap, subst}
 use mathlib.Core.Logic.{_≢_, _⊎_, inl, inr, ⊎-elim, by-cases}
 use mathlib.Core.List.{List, [], _∷_, _++_, prod, prod-append}
 use mathlib.Core.List.{List·Memᴰ, List·Memᴰ·head, List·Memᴰ·tail, List·Memᴰ·not-nil, List·Memᴰ·append-cases, List·Memᴰ·eq-of-singleton}
-use native.Mathlib.Nat.{le-refl, le-trans, le-of-eq, eq-or-lt-of-le, eq-zero-or-pos, pos-of-ne-zero, lt-of-not-le, two-pow-succ, pow-le-pow-right}
-use native.Mathlib.Nat.{mul-one, one-mul, mul-assoc, mul-comm, mul-zero, mul-le-mul, mul-le-mul-left, mul-pos, le-mul-of-pos-right, le-div-iff-mul-le}
+use native.Mathlib.Nat.{le-refl, le-trans, le-of-eq, eq-or-lt-of-le, eq-zero-or-pos, pos-of-ne-zero, lt-of-not-le}
+use native.Mathlib.Nat.{two-pow-succ, pow-le-pow-right}
+use native.Mathlib.Nat.{mul-one, one-mul, mul-assoc, mul-comm, mul-zero, mul-pos, mul-le-mul, mul-le-mul-left, le-mul-of-pos-right}
 use native.Mathlib.Nat.{dvd-refl, dvd-zero, dvd-trans, dvd-mul-left, le-of-dvd, pos-of-dvd-of-pos, mul-div-cancel'}
-use native.Mathlib.Nat.{dvd-of-mod-eq-zero, div-mul-cancel}
+use native.Mathlib.Nat.{dvd-of-mod-eq-zero, div-mul-cancel, le-div-iff-mul-le}
 use native.Mathlib.Numerals.{add-one}
 use native.Mathlib.Decide.{decLe}
 use native.Mathlib.Omega.{arith}
@@ -178,7 +179,8 @@ module _ {n a : ℕ} {l : List ℕ} {rest q : ℕ} (s : Factoring n a l rest q) 
           let exact = mul-div-cancel' g d in
           let first = s .least g d m in
           let second = s .least (rest / g) (subst (λ r. rest / g ∣ r) exact (dvd-mul-left (rest / g) g)) o in
-          let square = le-div-iff-mul-le {k = q} {x = q} {y = rest} (omega (arith, s .low)) .1 (subst (λ r. q * q ≤ r) exact (mul-le-mul first second)) in
+          let square = subst (λ r. q * q ≤ r) exact (mul-le-mul first second) in
+          let more = le-div-iff-mul-le {k = q} {x = q} {y = rest} (omega (arith, s .low)) .1 square in
           ⊎-elim (λ e. omega arith) (λ e. omega arith) end
 
       simple : (g : ℕ) → g ∣ rest → g < n → (g ≡ 1) ⊎ (g ≡ rest)
@@ -193,22 +195,20 @@ module _ {n a : ℕ} {l : List ℕ} {rest q : ℕ} (s : Factoring n a l rest q) 
           (eq-zero-or-pos (rest / g)))
           (eq-or-lt-of-le positive)
 
-  -- The rest of a positive number up to C, and the factors that are found already.
-  module _ (positive : 0 < a) (small : a ≤ bound) where
-    pub rest-positive : 0 < rest
-    rest-positive = pos-of-ne-zero (λ z. omega (arith, s .whole, ap (λ r. product l * r) z, mul-zero (product l)))
+  pub rest-positive : 0 < a → 0 < rest
+  rest-positive h = pos-of-ne-zero (λ z. omega (arith, s .whole, ap (λ r. product l * r) z, mul-zero (product l)))
 
-    pub rest-small : rest ≤ a
-    rest-small =
-        omega (arith, s .whole, le-mul-of-pos-right rest (product-positive l (s .simple)), mul-comm rest (product l))
+  pub rest-small : rest ≤ a
+  rest-small = omega (arith, s .whole, le-mul-of-pos-right rest (product-positive l (s .simple)), mul-comm rest (product l))
 
-    -- Another one is at most the 28th.
-    pub room-for-more : 1 < rest → length l < 28
-    room-for-more h = by-cases (decLe 28 (length l)) (λ k. absurd (full k)) lt-of-not-le
-      where
-        full : 28 ≤ length l → ⊥
-        full k =
-            omega (arith, pow-le-pow-right {n = 2} (omega arith) k, product-large l (s .simple), le-mul-of-pos-right (product l) rest-positive, s .whole)
+  -- 2^28 is past C.
+  pub few-factors : 0 < a → a ≤ bound → length l < 28
+  few-factors h small = by-cases (decLe 28 (length l)) (λ k. absurd (full k)) lt-of-not-le
+    where
+      full : 28 ≤ length l → ⊥
+      full k =
+          let large = le-trans (pow-le-pow-right {n = 2} (omega arith) k) (product-large l (s .simple)) in
+          omega (arith, s .whole, le-mul-of-pos-right (product l) (rest-positive h))
 
 -- ---- the divisors of a product
 

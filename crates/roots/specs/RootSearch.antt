@@ -8,6 +8,7 @@
 --   answered o         a root or none, as an answer
 --   Chain p r i b      the root test after i coefficients
 --   Found p P l        l holds, ascending, only roots of p, and every root of p with the property P
+--   Holds p P f        the array f holds such a list; OnlyRoots p f where nothing is asked of P
 --   Candidate n d l z  in size z is below n, and d times a divisor of the product of l
 --   Tried p n d l f g  the array g holds what f holds and the roots among these candidates
 --
@@ -247,7 +248,7 @@ module _ {p : Polynomial} where
       other : eval p r ≢ pos 0 → Found p (λ z. (z ≡ r) ⊎ P z) l
       other n = found-more (λ z e. ⊎-elim (λ i. absurd (n (ap (eval p) (sym i) ∙ e))) (λ h. h)) c
 
-  pub found-both : {P : ℤ → Type 0} (d : ℕ) (l : List ℤ) → Found p P l → Found p (λ z. (natAbs z ≡ d) ⊎ P z) (tryBoth p d l)
+  found-both : {P : ℤ → Type 0} (d : ℕ) (l : List ℤ) → Found p P l → Found p (λ z. (natAbs z ≡ d) ⊎ P z) (tryBoth p d l)
   found-both {P} d l c = rw (tryBoth-twice p d l) (found-more signs (found-root (negℤ (pos d)) _ (found-root (pos d) l c)))
     where
       signs : (z : ℤ) → eval p z ≡ pos 0 → (natAbs z ≡ d) ⊎ P z → (z ≡ negℤ (pos d)) ⊎ (z ≡ pos d) ⊎ P z
@@ -264,7 +265,7 @@ module _ (p : Polynomial) (nonzero : T (not (isZero p))) where
       root z m = c .sound z (place l m)
 
   -- .. and is the list of the roots once P holds of each.
-  pub found-all : {P : ℤ → Type 0} {l : List ℤ} → Found p P l → ((z : ℤ) → eval p z ≡ pos 0 → P z) → l ≡ roots p
+  found-all : {P : ℤ → Type 0} {l : List ℤ} → Found p P l → ((z : ℤ) → eval p z ≡ pos 0 → P z) → l ≡ roots p
   found-all {l} c h =
       ascending-unique l (roots p) (c .ascending) (roots-ascending p nonzero)
       (λ z m. place (roots p) (roots-complete p z nonzero (c .sound z m)))

@@ -10,7 +10,7 @@ use borrow.Author.Tests.{ltb-false}
 use lib.ListN.{length}
 use Rattle.rules.specs.Limits.{bound}
 use Rattle.roots.specs.Factors.{Factoring, factoring-start, factoring-take, factoring-pass, factoring-last, factoring-done}
-use Rattle.roots.specs.Factors.{Gap, two, gap-bounds, rest-positive, rest-small, room-for-more}
+use Rattle.roots.specs.Factors.{Gap, two, gap-bounds, rest-positive, rest-small, few-factors}
 use Rattle.roots.specs.RootSearch.{factorsOf, Sized}
 use Rattle.roots.proofs.factors.Statement.{statement}
 use Rattle.roots.proofs.factors.Tie as tie
@@ -32,13 +32,13 @@ module _ (c : tie.At-loop Inv-loop μ-loop) where
   state = c .loop .inv .1
 
   positive : 0 < rest
-  positive = rest-positive state (c .before .pre .0) (c .before .pre .1)
+  positive = rest-positive state (c .before .pre .0)
 
   small : rest ≤ bound
-  small = omega (arith, rest-small state (c .before .pre .0) (c .before .pre .1))
+  small = omega (arith, rest-small state)
 
-  room : 1 < rest → length (factorsOf (c .loop .list)) < 28
-  room = room-for-more state (c .before .pre .0) (c .before .pre .1)
+  room : length (factorsOf (c .loop .list)) < 28
+  room = few-factors state (c .before .pre .0) (c .before .pre .1)
 
 loop-holds : tie.Need-loop-holds Inv-loop μ-loop
 loop-holds c = ((omega arith, refl), factoring-start (c .args .limit) (c .args .a), two)
@@ -53,9 +53,7 @@ mul-if2 : tie.Need-mul-if2 Inv-loop μ-loop
 mul-if2 c = let head = c .before .before in omega (arith, small head, div-mul-le-self (rest head) (q head))
 
 with-factor-requires : tie.Need-with-factor-requires Inv-loop μ-loop
-with-factor-requires c κs =
-    let head = c .before .before .before in
-    (head .loop .inv .0, room head (omega (arith, state head .low, div-le-self (rest head) (q head))))
+with-factor-requires c κs = let head = c .before .before .before in (head .loop .inv .0, room head)
 
 loop-less : tie.Need-loop-less Inv-loop μ-loop
 loop-less c =
@@ -89,7 +87,7 @@ loop-again-2 c =
     (head .loop .inv .0, factoring-pass (state head) (head .loop .inv .2) (c .before .if2 .left), c .next-gap .ensures)
 
 with-factor-requires-2 : tie.Need-with-factor-requires-2 Inv-loop μ-loop
-with-factor-requires-2 c κs = let head = c .before .before in (head .loop .inv .0, room head (omega (arith, positive head)))
+with-factor-requires-2 c κs = let head = c .before .before in (head .loop .inv .0, room head)
 
 returns : tie.Need-returns Inv-loop μ-loop
 returns c = (c .before .before .loop .inv .0, factoring-done (state (c .before .before)) (c .if3 .taken))
