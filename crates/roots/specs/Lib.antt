@@ -1,3 +1,4 @@
 pub mod Ascending
 pub mod Bound
+pub mod Factors
 pub mod RootSearch

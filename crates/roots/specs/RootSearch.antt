@@ -8,41 +8,46 @@
 --   answered o         a root or none, as an answer
 --   Chain p r i b      the root test after i coefficients
 --   Found p P l        l holds, ascending, only roots of p, and every root of p with the property P
+--   Holds p P f        the array f holds such a list; OnlyRoots p f where nothing is asked of P
+--   Candidate n d l z  in size z is below n, and d times a divisor of the product of l
+--   Tried p n d l f g  the array g holds what f holds and the roots among these candidates
 --
 -- Main statements
 --   test-fails, test-steps   b + r e = 0 exactly if r divides b and b / r + e = 0
 --   chain-start, chain-next, chain-fails, chain-ends   the turns of the root test
 --   found-length       a list of roots has at most as many members as the degree says
---   search-start, search-divisor, search-other   the turns of the search
---   search-end, search-past   it has found the roots past the square root, and past the bound of the roots
+--   tried-none, tried-with, tried-without   the divisors of a product, by its factors
+--   all-tried          with 0 and the divisors of the lowest coefficient, the roots are found
+--   linear-tried       a polynomial of degree 1 has one candidate
 --   roots-few          a polynomial of 16 coefficients has at most 15 roots
 --   answered-first, answered-last   the first root is the smallest and the last the largest
-use Prim.Native.Nat.{ℕ, zero, suc, _+_, _*_, _-_, _/_, _%_, _≤_, _<_, zero-le}
-use mathlib.Core.Path.{_≡_, refl, sym, _∙_, ap, subst, subst⁻¹}
+use Prim.Native.Nat.{ℕ, zero, suc, _+_, _*_, _-_, _/_, _≤_, _<_, _∣_, zero-le}
+use mathlib.Core.Path.{_≡_, refl, sym, _∙_, ap, subst, subst₂, subst⁻¹}
 use mathlib.Core.Logic.{_≢_, _⊎_, inl, inr, ⊎-elim, by-cases}
 use mathlib.Core.Bool.{Bool, true, false, cond, not}
-use mathlib.Core.List.{List, [], _∷_, _++_}
+use mathlib.Core.List.{List, [], _∷_, _++_, prod}
 use mathlib.Core.List.{List·Mem, List·Memᴰ, List·Memᴰ·head, List·Memᴰ·tail, List·Memᴰ·not-nil, Memᴰ·cast}
 use mathlib.Core.List.{Pairwise·nil, Pairwise·of-cons}
-use mathlib.Core.Option.{Option, none, some}
-use native.Mathlib.Nat.{suc-ne-zero, le-refl, eq-or-lt-of-le, eq-zero-or-pos, mul-div-cancel', div-zero, mul-zero, div-eq-of-eq-mul-left}
-use native.Mathlib.Nat.{mul-mod-left, mul-mod-right, mul-le-mul, le-trans, le-of-eq, lt-of-not-le, le-div-iff-mul-le}
-use native.Mathlib.Decide.{decLe}
+use mathlib.Core.Option.{Option, some}
+use native.Mathlib.Nat.{suc-ne-zero, le-refl, eq-zero-or-pos, mul-div-cancel', mul-one, one-mul, mul-comm, mul-assoc, le-mul-of-pos-right}
+use native.Mathlib.Nat.{le-trans, le-of-eq, div-mul-le-self, lt-of-not-le, pos-of-dvd-of-pos, eq-one-of-dvd-one, dvd-of-mul-dvd-mul-left}
+use native.Mathlib.Decide.{decLe, decDvd}
 use native.Mathlib.Omega.{arith}
 use lib.Dec.{T, not-T}
 use lib.ListN.{length, take, drop, getD, replicate, drop-of-length-le, List·getD-append}
 use lib.Seq.{take-append-seam}
-use lib.IntN.{ℤ, pos, negsuc, negℤ, natAbs, _+ℤ_, _*ℤ_, +ℤ-assoc}
+use lib.IntN.{ℤ, pos, negsuc, negℤ, natAbs, _+ℤ_, _*ℤ_, +ℤ-assoc, negℤ-negℤ}
 use lib.Signed.{_<ℤ_, leZ, quotZ, remZ}
 use mir.Syntax.{w64}
 use mir.Val.{SFits}
 use Rattle.integers.specs.Ranges.{sfits-size}
-use Rattle.algebra.specs.Integers.{ringℤ, natAbs-+ℤ, negℤ-unique, natAbs-zero, no-zero-divisors}
-use Rattle.algebra.specs.Division.{quotZ-le, remZ-multiple, quotZ-multiple}
+use Rattle.algebra.specs.Integers.{ringℤ, natAbs-+ℤ, natAbs-*ℤ, negℤ-unique, negℤ-*ℤ, natAbs-zero, no-zero-divisors}
+use Rattle.algebra.specs.Division.{natAbs-quotZ, quotZ-le, quotZ-exact, remZ-multiple, quotZ-multiple}
 use Rattle.algebra.specs.Order.{<ℤ-to-≤ℤ}
 use Rattle.algebra.specs.Polynomials.{Polynomial, coeff, eval, isZero, lowest, degree, isZeroℤ, same-test}
-use Rattle.algebra.specs.Vanishing.{isZeroℤ-sound, isZeroℤ-complete, roots-at-most-degree, root-divides-lowest, lowest-positive}
-use Rattle.algebra.specs.Coefficients.{degree-isZero, degree-lt-length, lowest-place}
+use Rattle.algebra.specs.Vanishing.{isZeroℤ-sound, isZeroℤ-complete, roots-at-most-degree, root-divides-lowest}
+use Rattle.algebra.specs.Vanishing.{nonzero-past-lowest}
+use Rattle.algebra.specs.Coefficients.{degree-isZero, coeff-degree, lowest-place}
 use Rattle.algebra.specs.Roots.{place, roots, ascending-distinct, roots-sound, roots-complete, roots-ascending}
 use Rattle.rules.specs.Limits.{bound, small}
 use Rattle.rules.specs.Rows.{every}
@@ -52,9 +57,11 @@ use Rattle.polynomials.specs.Content.{small-at, drop-next}
 use Rattle.roots.specs.Ascending.{Ascending, insert, insert-nil, first-below, ascending-unique, insert-longer}
 use Rattle.roots.specs.Ascending.{insert-new}
 use Rattle.roots.specs.Ascending.{insert-old, insert-only, insert-ascending}
-use Rattle.roots.specs.Bound.{rootBound, root-within}
+use Rattle.roots.specs.Bound.{RootsBelow, degree-inside, top-positive, eval-top}
+use Rattle.roots.specs.Factors.{product, product-cons, product-positive, Simple, AllSimple, Factored, Run, simple-coprime, run-divides}
 use Rattle.roots.specs.declared.RootList.{RootList}
 use Rattle.roots.specs.declared.RootAnswer.{RootAnswer}
+use Rattle.roots.specs.declared.FactorList.{FactorList}
 
 -- The first `count` values.
 abbrev pub held : RootList → List ℤ
@@ -62,6 +69,13 @@ held f = take (f .count) (f .values)
 
 abbrev pub listed : List ℤ → RootList
 listed l = record { count = length l; values = l ++ replicate (16 - length l) (pos 0) }
+
+-- The first `count` factors.
+abbrev pub factorsOf : FactorList → List ℕ
+factorsOf f = take (f .count) (f .values)
+
+abbrev pub Sized : FactorList → Type 0
+Sized f = (f .count ≤ 28) × (length (f .values) ≡ 28)
 
 -- The candidate r.
 unfoldable pub tryRoot : Polynomial → ℤ → List ℤ → List ℤ
@@ -133,15 +147,23 @@ chain-start [] r h t = absurd (omega arith)
 chain-start (a ∷ p) r h t = record { within = omega arith; size = omega (arith, small-at (a ∷ p) t 0); test = refl }
 
 module _ {p : Polynomial} {r : ℤ} {i : ℕ} {b : ℤ} (c : Chain p r i b) where
-  pub chain-fails : remZ b r ≢ pos 0 → isZeroℤ (eval p r) ≡ false
-  chain-fails n = c .test ∙ test-fails b r (eval (drop i p) r) n
+  -- The product of quotient and divisor is no larger than b.
+  pub product-size : natAbs (quotZ b r *ℤ r) ≤ natAbs b
+  product-size =
+      le-trans (le-of-eq (natAbs-*ℤ (quotZ b r) r ∙ ap (λ n. n * natAbs r) (natAbs-quotZ b r))) (div-mul-le-self (natAbs b) (natAbs r))
 
-  pub chain-next : T (every small p) → i < length p → r ≢ pos 0 → remZ b r ≡ pos 0
+  pub chain-fails : quotZ b r *ℤ r ≢ b → isZeroℤ (eval p r) ≡ false
+  chain-fails n = c .test ∙ test-fails b r (eval (drop i p) r) (λ z. n (quotZ-multiple b r z))
+
+  pub chain-next : T (every small p) → i < length p → r ≢ pos 0 → quotZ b r *ℤ r ≡ b
       → Chain p r (i + 1) (quotZ b r +ℤ getD p i (pos 0))
   unfolding eval
   chain-next t h n z =
-      record { within = omega (arith, c .within); size = sizes; test = c .test ∙ test-steps b r _ n z ∙ ap isZeroℤ rest }
+      record { within = omega (arith, c .within); size = sizes; test = c .test ∙ test-steps b r _ n exact ∙ ap isZeroℤ rest }
     where
+      exact : remZ b r ≡ pos 0
+      exact = ap (λ x. remZ x r) (sym z) ∙ remZ-multiple (quotZ b r) r
+
       sizes : natAbs (quotZ b r +ℤ getD p i (pos 0)) ≤ (i + 1) * bound
       sizes = omega (arith, natAbs-+ℤ (quotZ b r) (getD p i (pos 0)), quotZ-le b r, small-at p t i, c .size)
 
@@ -226,7 +248,7 @@ module _ {p : Polynomial} where
       other : eval p r ≢ pos 0 → Found p (λ z. (z ≡ r) ⊎ P z) l
       other n = found-more (λ z e. ⊎-elim (λ i. absurd (n (ap (eval p) (sym i) ∙ e))) (λ h. h)) c
 
-  pub found-both : {P : ℤ → Type 0} (d : ℕ) (l : List ℤ) → Found p P l → Found p (λ z. (natAbs z ≡ d) ⊎ P z) (tryBoth p d l)
+  found-both : {P : ℤ → Type 0} (d : ℕ) (l : List ℤ) → Found p P l → Found p (λ z. (natAbs z ≡ d) ⊎ P z) (tryBoth p d l)
   found-both {P} d l c = rw (tryBoth-twice p d l) (found-more signs (found-root (negℤ (pos d)) _ (found-root (pos d) l c)))
     where
       signs : (z : ℤ) → eval p z ≡ pos 0 → (natAbs z ≡ d) ⊎ P z → (z ≡ negℤ (pos d)) ⊎ (z ≡ pos d) ⊎ P z
@@ -237,101 +259,172 @@ module _ {p : Polynomial} where
 module _ (p : Polynomial) (nonzero : T (not (isZero p))) where
   -- Such a list has at most as many members as the degree says, ..
   pub found-length : {P : ℤ → Type 0} {l : List ℤ} → Found p P l → length l < length p
-  unfolding isZero
-  found-length {l} c = omega (arith, short p nonzero, roots-at-most-degree l p nonzero (ascending-distinct (c .ascending)) root)
+  found-length {l} c = omega (arith, degree-inside p nonzero, roots-at-most-degree l p nonzero (ascending-distinct (c .ascending)) root)
     where
       root : (z : ℤ) → List·Mem z l → eval p z ≡ pos 0
       root z m = c .sound z (place l m)
 
-      short : (q : Polynomial) → T (not (isZero q)) → degree q < length q
-      short [] n = absurd n
-      short (a ∷ q) n = degree-lt-length a q
-
   -- .. and is the list of the roots once P holds of each.
-  pub found-all : {P : ℤ → Type 0} {l : List ℤ} → Found p P l → ((z : ℤ) → eval p z ≡ pos 0 → P z) → l ≡ roots p
+  found-all : {P : ℤ → Type 0} {l : List ℤ} → Found p P l → ((z : ℤ) → eval p z ≡ pos 0 → P z) → l ≡ roots p
   found-all {l} c h =
       ascending-unique l (roots p) (c .ascending) (roots-ascending p nonzero)
       (λ z m. place (roots p) (roots-complete p z nonzero (c .sound z m)))
-      (λ z m. let e = roots-sound p ∣ m ∣₁ in c .complete z e (h z e))
+      (λ z m. let e = roots-sound p (∣ m ∣₁) in c .complete z e (h z e))
 
 -- The lowest coefficient is small as the others are.
 pub lowest-small : (p : Polynomial) → T (not (isZero p)) → T (every small p) → natAbs (lowest p) ≤ bound
 unfolding coeff
 lowest-small p n t = let (k, e, _) = lowest-place p n in rw (← e) (small-at p t k)
 
--- The integers of size below d, and those whose cofactor in a is below d.
-abbrev pub Passed : ℕ → ℕ → ℤ → Type 0
-Passed a d z = (natAbs z < d) ⊎ (a / natAbs z < d)
+pub roots-small : (p : Polynomial) → T (not (isZero p)) → T (every small p) → RootsBelow p (bound + 1)
+roots-small p n t z root =
+    by-cases (decLe (natAbs z) (natAbs (lowest p)))
+    (λ h. omega (arith, lowest-small p n t))
+    (λ h. absurd (nonzero-past-lowest p z n (lt-of-not-le h) root))
 
--- One more d: those of size d, and those with the cofactor d.
-passed-next : (a d : ℕ) (z : ℤ) → Passed a (d + 1) z → ((natAbs z ≡ d) ⊎ (a / natAbs z ≡ d)) ⊎ Passed a d z
-passed-next a d z (inl h) = ⊎-elim (λ k. inl (inl k)) (λ k. inr (inl k)) (eq-or-lt-of-le (omega arith))
-passed-next a d z (inr h) = ⊎-elim (λ k. inl (inr k)) (λ k. inr (inr k)) (eq-or-lt-of-le (omega arith))
+-- The array f holds a list, and that list, ascending, only roots of p, among them every root with the property P.
+pub record Holds (p : Polynomial) (P : ℤ → Type 0) (f : RootList) : Type 0 where
+  pub exact : f ≡ listed (held f)
+  pub found : Found p P (held f)
 
--- The size a of the lowest coefficient of a nonzero polynomial.
-module _ (p : Polynomial) (nonzero : T (not (isZero p))) (a : ℕ) (lowest-size : a ≡ natAbs (lowest p)) where
-  -- A nonzero root times its cofactor is, in size, the lowest coefficient; the root 0 has the cofactor 0.
-  module _ (z : ℤ) (root : eval p z ≡ pos 0) where
-    divides : 0 < natAbs z → natAbs z * (a / natAbs z) ≡ a
-    divides h = rw lowest-size (mul-div-cancel' (natAbs z) (root-divides-lowest p z nonzero (λ i. omega (arith, ap natAbs i)) root))
+holds-list : {f : RootList} (l : List ℤ) {p : Polynomial} {P : ℤ → Type 0} → f ≡ listed l → Found p P l → Holds p P f
+holds-list l e c = record { exact = listed-held l e; found = rw (held-of l e) c }
 
-    positive-root : 0 < a / natAbs z → 0 < natAbs z
-    positive-root h =
-        ⊎-elim (λ e. absurd (omega (arith, ap (λ n. a / n) e, div-zero a))) (λ k. k) (eq-zero-or-pos (natAbs z))
+abbrev pub OnlyRoots : Polynomial → RootList → Type 0
+OnlyRoots p f = Holds p (λ _. ⊥) f
 
-    cofactor-of-cofactor : (d : ℕ) → 0 < d → a / natAbs z ≡ d → natAbs z ≡ a / d
-    cofactor-of-cofactor d h e =
-        sym (div-eq-of-eq-mul-left h (sym (divides (positive-root (omega arith))) ∙ ap (λ k. natAbs z * k) e))
+-- The integers of size below n that are, in size, d times a divisor of the product of l.
+abbrev pub Candidate : ℕ → ℕ → List ℕ → ℤ → Type 0
+Candidate n d l z = (natAbs z < n) × (e : ℕ) × (natAbs z ≡ d * e) × (e ∣ product l)
 
-    exact : (d : ℕ) → 0 < d → (natAbs z ≡ d) ⊎ (a / natAbs z ≡ d) → a % d ≡ 0
-    exact d h (inl e) = subst (λ k. a % k ≡ 0) e (ap (λ k. k % natAbs z) (sym (divides (omega arith))) ∙ mul-mod-right (natAbs z) _)
-    exact d h (inr e) =
-        let whole = divides (positive-root (omega arith)) in
-        subst (λ k. a % k ≡ 0) e (ap (λ k. k % (a / natAbs z)) (sym whole) ∙ mul-mod-left (natAbs z) (a / natAbs z))
+-- g holds what f holds and the roots among the candidates.
+pub record Tried (p : Polynomial) (n d : ℕ) (l : List ℕ) (f g : RootList) : Type 0 where
+  pub holds : Holds p (λ z. Candidate n d l z ⊎ List·Memᴰ z (held f)) g
 
-    passed-start : Passed a 1 z → (z ≡ pos 0) ⊎ ⊥
-    passed-start h = ⊎-elim (λ e. inl (natAbs-zero e)) (λ k. inr (⊎-elim (λ m. omega arith) (large k) h)) (eq-zero-or-pos (natAbs z))
-      where
-        large : 0 < natAbs z → a / natAbs z < 1 → ⊥
-        large k m =
-            let none : a / natAbs z ≡ 0 = omega arith in
-            omega (arith, lowest-size, lowest-positive p nonzero, divides k, ap (λ q. natAbs z * q) none, mul-zero (natAbs z))
+holds-more : {p : Polynomial} {P Q : ℤ → Type 0} {f : RootList} → ((z : ℤ) → eval p z ≡ pos 0 → Q z → P z) → Holds p P f → Holds p Q f
+holds-more step h = record { exact = h .exact; found = found-more step (h .found) }
 
-    -- Of a root and its cofactor one is at most the square root.
-    passed-end : (d : ℕ) → 0 < d → a / d < d → Passed a d z
-    passed-end d positive h = by-cases (decLe d (natAbs z)) (λ k. inr (lt-of-not-le (λ m. large k m))) (λ n. inl (lt-of-not-le n))
-      where
-        large : d ≤ natAbs z → d ≤ a / natAbs z → ⊥
-        large k m = omega (arith, le-div-iff-mul-le positive .1 (le-trans (mul-le-mul k m) (le-of-eq (divides (omega arith)))))
+pub only-roots : {p : Polynomial} {P : ℤ → Type 0} {f : RootList} → Holds p P f → OnlyRoots p f
+only-roots h = holds-more (λ z e b. absurd b) h
 
-  pub search-start : Found p (Passed a 1) (tryRoot p (pos 0) [])
-  search-start = found-more passed-start (found-root (pos 0) [] found-none)
+pub tried-only : {p : Polynomial} {n d : ℕ} {l : List ℕ} {f g : RootList} → Tried p n d l f g → OnlyRoots p g
+tried-only t = only-roots (t .holds)
 
-  pub search-divisor : (d : ℕ) (l : List ℤ) → 0 < d → Found p (Passed a d) l
-      → Found p (Passed a (d + 1)) (tryBoth p (a / d) (tryBoth p d l))
-  search-divisor d l positive c = found-more (λ z e h. step z e (passed-next a d z h)) (found-both (a / d) _ (found-both d l c))
+-- 0 is the first candidate.
+pub zero-tried : {f : RootList} (p : Polynomial) → f ≡ listed (tryRoot p (pos 0) []) → Holds p (λ z. (z ≡ pos 0) ⊎ ⊥) f
+zero-tried p e = holds-list (tryRoot p (pos 0) []) e (found-root (pos 0) [] found-none)
+
+module _ {p : Polynomial} {f : RootList} (only : OnlyRoots p f) where
+  pub both-found : (d : ℕ) → Found p (λ z. (natAbs z ≡ d) ⊎ List·Memᴰ z (held f)) (tryBoth p d (held f))
+  both-found d =
+      found-both d (held f) (record { ascending = only .found .ascending; sound = only .found .sound; complete = λ z e m. m })
+
+  -- No factor is left.
+  pub tried-none : {g : RootList} (n d : ℕ) → g ≡ listed (tryBoth p d (held f)) → Tried p n d [] f g
+  unfolding prod
+  tried-none n d e = record { holds = holds-list (tryBoth p d (held f)) e (found-more single (both-found d)) }
     where
-      step : (z : ℤ) → eval p z ≡ pos 0 → ((natAbs z ≡ d) ⊎ (a / natAbs z ≡ d)) ⊎ Passed a d z
-          → (natAbs z ≡ a / d) ⊎ (natAbs z ≡ d) ⊎ Passed a d z
-      step z e (inl (inl h)) = inr (inl h)
-      step z e (inl (inr h)) = inl (cofactor-of-cofactor z e d positive h)
-      step z e (inr h) = inr (inr h)
+      single : (z : ℤ) → eval p z ≡ pos 0 → Candidate n d [] z ⊎ List·Memᴰ z (held f) → (natAbs z ≡ d) ⊎ List·Memᴰ z (held f)
+      single z _ (inl h) = inl (h .2 ∙ ap (λ i. d * i) (eq-one-of-dvd-one (h .3)) ∙ mul-one d)
+      single z _ (inr m) = inr m
 
-  pub search-other : (d : ℕ) (l : List ℤ) → 0 < d → a % d ≢ 0 → Found p (Passed a d) l → Found p (Passed a (d + 1)) l
-  search-other d l positive n =
-      found-more (λ z e h. ⊎-elim (λ k. absurd (n (exact z e d positive k))) (λ k. k) (passed-next a d z h))
+-- The factor q: l has the others, and m those after the run of q.
+module _ {n d q : ℕ} {l m : List ℕ} (positive : 0 < d) (simple : AllSimple n (q ∷ l)) (run : Run q (q ∷ l) m) where
+  first-simple : Simple n q
+  first-simple = simple q (List·Memᴰ·head refl)
 
-  pub search-end : (d : ℕ) (l : List ℤ) → 0 < d → a / d < d → Found p (Passed a d) l → l ≡ roots p
-  search-end d l positive h c = found-all p nonzero c (λ z e. passed-end z e d positive h)
+  -- A divisor of the product is q times a divisor of the others' product, or divides the product without the run.
+  with-or-without : (z : ℤ) → Candidate n d (q ∷ l) z → Candidate n (d * q) l z ⊎ Candidate n d m z
+  with-or-without z (small, e, size, divides) = by-cases (decDvd q e) (λ h. inl (with-q h)) (λ h. inr (without-q h))
+    where
+      with-q : q ∣ e → Candidate n (d * q) l z
+      with-q h =
+          let exact = mul-div-cancel' q h in
+          let others = subst₂ (λ i j. i ∣ j) (sym exact) (product-cons q l) divides in
+          let large = first-simple .large in (
+            small,
+            e / q,
+            size ∙ ap (λ k. d * k) (sym exact) ∙ sym (mul-assoc d q (e / q)),
+            dvd-of-mul-dvd-mul-left (e / q) (omega arith) others,
+          )
 
-  -- Past the bound of the roots there is none.
-  pub search-past : (d : ℕ) (l : List ℤ) → rootBound p < d → Found p (Passed a d) l → l ≡ roots p
-  search-past d l h c = found-all p nonzero c (λ z e. inl (omega (arith, root-within p nonzero z e)))
+      without-q : (q ∣ e → ⊥) → Candidate n d m z
+      without-q h =
+          let some = pos-of-dvd-of-pos divides (product-positive (q ∷ l) simple) in
+          let coprime = simple-coprime e first-simple some (omega (arith, le-mul-of-pos-right e positive, mul-comm e d)) h in
+          (small, e, size, run-divides e coprime run divides)
 
--- ---- the roots of any polynomial, the largest and the smallest
+  none-past : n ≤ d * q → (z : ℤ) → Candidate n (d * q) l z → ⊥
+  none-past h z (small, e, size, divides) =
+      let some = pos-of-dvd-of-pos divides (product-positive l (λ g k. simple g (List·Memᴰ·tail k))) in
+      omega (arith, le-mul-of-pos-right (d * q) some)
+
+  module _ {p : Polynomial} {f g : RootList} where
+    pub tried-with : {k : RootList} → Tried p n (d * q) l f g → Tried p n d m g k → Tried p n d (q ∷ l) f k
+    tried-with with-q rest = record { holds = holds-more step (rest .holds) }
+      where
+        step : (z : ℤ) → eval p z ≡ pos 0 → Candidate n d (q ∷ l) z ⊎ List·Memᴰ z (held f) → Candidate n d m z ⊎ List·Memᴰ z (held g)
+        step z e (inl c) = ⊎-elim (λ h. inr (with-q .holds .found .complete z e (inl h))) inl (with-or-without z c)
+        step z e (inr h) = inr (with-q .holds .found .complete z e (inr h))
+
+    pub tried-without : n ≤ d * q → Tried p n d m f g → Tried p n d (q ∷ l) f g
+    tried-without h rest = record { holds = holds-more step (rest .holds) }
+      where
+        step : (z : ℤ) → eval p z ≡ pos 0 → Candidate n d (q ∷ l) z ⊎ List·Memᴰ z (held f) → Candidate n d m z ⊎ List·Memᴰ z (held f)
+        step z e (inl c) = inl (⊎-elim (λ k. absurd (none-past h z k)) (λ k. k) (with-or-without z c))
+        step z e (inr k) = inr k
+
+-- A nonzero root divides the lowest coefficient, whose factors were found.
+pub all-tried : (p : Polynomial) → T (not (isZero p)) → {n : ℕ} {l : List ℕ} {f g : RootList} → RootsBelow p n
+    → Factored n (natAbs (lowest p)) l → Holds p (λ z. (z ≡ pos 0) ⊎ ⊥) f → Tried p n 1 l f g → g ≡ listed (roots p)
+all-tried p nonzero {n} {l} {f} below factored first tried = tried .holds .exact ∙ ap listed (found-all p nonzero (tried .holds .found) candidate)
+  where
+    candidate : (z : ℤ) → eval p z ≡ pos 0 → Candidate n 1 l z ⊎ List·Memᴰ z (held f)
+    candidate z e =
+        ⊎-elim (λ k. inr (first .found .complete z e (inl (natAbs-zero k))))
+        (λ k.
+        let divides = root-divides-lowest p z nonzero (λ i. omega (arith, ap natAbs i)) e in
+        inl (below z e, natAbs z, sym (one-mul (natAbs z)), subst (λ a. natAbs z ∣ a) (sym (factored .whole)) divides))
+        (eq-zero-or-pos (natAbs z))
+
+-- ---- degree 1
 
 pub nonconstant-nonzero : (p : Polynomial) → degree p ≢ 0 → T (not (isZero p))
 nonconstant-nonzero p h = not-T (isZero p) (λ z. h (degree-isZero p z))
+
+module _ (p : Polynomial) (linear : degree p ≡ 1) where
+  linear-nonzero : T (not (isZero p))
+  linear-nonzero = nonconstant-nonzero p (λ e. omega (arith, linear))
+
+  pub linear-length : 1 < length p
+  linear-length = omega (arith, linear, degree-inside p linear-nonzero)
+
+  pub linear-positive : 0 < natAbs (getD p 1 (pos 0))
+  linear-positive = subst (λ n. 0 < natAbs (getD p n (pos 0))) linear (top-positive p linear-nonzero)
+
+  -- a + z b = 0 only for z = -(a / b).
+  linear-root : (z : ℤ) → eval p z ≡ pos 0 → z ≡ negℤ (quotZ (getD p 0 (pos 0)) (getD p 1 (pos 0)))
+  unfolding eval coeff
+  linear-root z root = sym (ap negℤ quotient ∙ negℤ-negℤ z)
+    where
+      b : ℤ
+      b = getD p 1 (pos 0)
+
+      value : eval (drop 1 p) z ≡ b
+      value = subst (λ n. eval (drop n p) z ≡ getD p n (pos 0)) linear (eval-top p z ∙ sym (coeff-degree p))
+
+      split : getD p 0 (pos 0) +ℤ z *ℤ b ≡ pos 0
+      split = ap (λ v. getD p 0 (pos 0) +ℤ z *ℤ v) (sym value) ∙ ap (λ q. eval q z) (sym (drop-next p 0 (omega (arith, linear-length)))) ∙ root
+
+      quotient : quotZ (getD p 0 (pos 0)) b ≡ negℤ z
+      quotient =
+          ap (λ a. quotZ a b) (negℤ-unique (getD p 0 (pos 0)) (z *ℤ b) split ∙ sym (negℤ-*ℤ z b))
+          ∙ quotZ-exact (negℤ z) b (λ e. omega (arith, linear-positive, ap natAbs e))
+
+  pub linear-tried : tryRoot p (negℤ (quotZ (getD p 0 (pos 0)) (getD p 1 (pos 0)))) [] ≡ roots p
+  linear-tried = found-all p linear-nonzero (found-root _ [] found-none) (λ z e. inl (linear-root z e))
+
+-- ---- the roots of any polynomial, the largest and the smallest
 
 pub roots-constant : (p : Polynomial) → degree p ≡ 0 → roots p ≡ []
 unfolding roots degree
@@ -357,7 +450,7 @@ pub roots-few : (p : Polynomial) → length p ≤ 16 → length (roots p) ≤ 15
 roots-few p h = roots-cases p (λ l. length l ≤ 15) zero-le few
   where
     all : T (not (isZero p)) → Found p (λ _. ⊥) (roots p)
-    all n = record { ascending = roots-ascending p n; sound = λ z m. roots-sound p ∣ m ∣₁; complete = λ z e b. absurd b }
+    all n = record { ascending = roots-ascending p n; sound = λ z m. roots-sound p (∣ m ∣₁); complete = λ z e b. absurd b }
 
     few : T (not (isZero p)) → length (roots p) ≤ 15
     few n = omega (arith, found-length p n (all n))

@@ -1,71 +1,53 @@
--- `roots::bound_of_roots` meets its contract.
+-- `roots::bound_of_roots` meets its contract. The measure is what r is below 2^28.
 -- Assumes nothing.
-use mathlib.Core.Path.{_≡_, _∙_, ap, ap₂}
-use mathlib.Core.List.{List}
-use Prim.Native.Nat.{ℕ, _+_, _/_, _≤_}
-use native.Mathlib.Nat.{div-le-self}
+use Prim.Native.Nat.{_-_, _<_}
 use native.Mathlib.Omega.{arith}
 use borrow.Author.Needs.{needs}
-use lib.IntN.{ℤ, natAbs}
-use mir.Syntax.{w64}
-use mir.Val.{ofZ, toZ}
-use mir.Facts.{toZ-ofZ}
-use Rattle.integers.specs.Ranges.{sfits-size}
-use Rattle.algebra.specs.Polynomials.{lead}
-use Rattle.rules.specs.Limits.{bound}
-use Rattle.roots.specs.Bound.{rootBound, lead-positive, lead-small, largest-small}
+use Rattle.roots.specs.RootSearch.{roots-small}
 use Rattle.roots.proofs.bound_of_roots.Statement.{statement}
 use Rattle.roots.proofs.bound_of_roots.Tie as tie
 
-lead-requires : tie.Need-lead-requires
-lead-requires c κs = search needs
+abbrev Inv-loop : tie.InvT-loop
+Inv-loop p r₀ r = 0 < r
 
-magnitude-requires : tie.Need-magnitude-requires
-magnitude-requires c κs = search needs
+abbrev μ-loop : tie.MeasureT-loop
+μ-loop p r₀ r = 268435456 - r
 
-largest-size-requires : tie.Need-largest-size-requires
-largest-size-requires c κs = search needs
+loop-holds : tie.Need-loop-holds Inv-loop μ-loop
+loop-holds c = search needs
 
--- What is divided, and by what.
-module _ (c : tie.After-largest-size) where
-  abbrev start : tie.Start
-  start = c .before .before .before
+cast-stays-positive : tie.Need-cast-stays-positive Inv-loop μ-loop
+cast-stays-positive c = search needs
 
-  abbrev p : List ℤ
-  p = start .args .p .now
+stays-positive-requires : tie.Need-stays-positive-requires Inv-loop μ-loop
+stays-positive-requires c κs = search needs
 
-  abbrev divisor : ℕ
-  divisor = c .before .magnitude .result
+returns : tie.Need-returns Inv-loop μ-loop
+returns c = c .before .stays-positive .ensures (c .if1 .taken)
 
-  divisor-is : divisor ≡ natAbs (lead p)
-  divisor-is =
-      let fits = sfits-size (lead p) (lead-small p (start .pre .0)) (omega arith) in
-      c .before .magnitude .ensures ∙ ap (λ z. natAbs (toZ w64 (ofZ w64 z))) (c .before .before .lead .ensures) ∙ ap natAbs (toZ-ofZ fits)
+mul-r : tie.Need-mul-r Inv-loop μ-loop
+mul-r c = search needs
 
-  quotient : c .largest-size .result / divisor ≤ bound
-  quotient = omega (arith, div-le-self (c .largest-size .result) divisor, c .largest-size .ensures, largest-small p (start .pre .0))
+loop-less : tie.Need-loop-less Inv-loop μ-loop
+loop-less c = search needs
 
-div-result : tie.Need-div-result
-div-result c = omega (arith, divisor-is c, lead-positive (p c) (start c .pre .1))
+loop-again : tie.Need-loop-again Inv-loop μ-loop
+loop-again c = search needs
 
-add-result : tie.Need-add-result
-add-result c = omega (arith, quotient c)
-
-cast-result : tie.Need-cast-result
-cast-result c = omega (arith, quotient c)
-
-returns : tie.Need-returns
-unfolding rootBound
-returns c = ap₂ (λ m n. m / n + 1) (c .largest-size .ensures) (divisor-is c)
+returns-2 : tie.Need-returns-2 Inv-loop μ-loop
+returns-2 c z root = let start = c .before .before in omega (arith, roots-small (start .args .p .now) (start .pre .1) (start .pre .0) z root)
 
 pub bound-of-roots-spec : {M : Type 1} → statement M
 bound-of-roots-spec =
     tie.close
     (tie.spec
-    lead-requires
-    magnitude-requires
-    largest-size-requires
-    div-result
-    add-result
-    cast-result
-    returns)
+    Inv-loop
+    μ-loop
+    loop-holds
+    cast-stays-positive
+    stays-positive-requires
+    returns
+    mul-r
+    loop-less
+    loop-again
+    returns-2)

@@ -1,4 +1,4 @@
--- `roots::roots` meets its contract. A constant has no roots; a nonconstant polynomial is nonzero.
+-- `roots::roots` meets its contract. A constant has no roots; any other polynomial is nonzero.
 -- Assumes nothing.
 use mathlib.Core.Path.{_≡_, sym, _∙_, ap}
 use mathlib.Core.List.{List}
@@ -19,6 +19,12 @@ use Rattle.roots.proofs.roots.Tie as tie
 degree-requires : tie.Need-degree-requires
 degree-requires c κs = search needs
 
+no-roots-requires : tie.Need-no-roots-requires
+no-roots-requires c κs = search needs
+
+root-of-linear-requires : tie.Need-root-of-linear-requires
+root-of-linear-requires c κs = search needs
+
 lowest-requires : tie.Need-lowest-requires
 lowest-requires c κs = search needs
 
@@ -28,13 +34,13 @@ magnitude-requires c κs = search needs
 -- What is searched.
 module _ (c : tie.After-magnitude) where
   abbrev start : tie.Start
-  start = c .before .before .before .before
+  start = c .before .before .before .before .before
 
   abbrev p : List ℤ
   p = start .args .p .now
 
   nonzero : T (not (isZero p))
-  nonzero = nonconstant-nonzero p (λ e. c .before .before .if1 .left (c .before .before .before .degree .ensures ∙ e))
+  nonzero = nonconstant-nonzero p (λ e. c .before .before .before .if1 .left (c .before .before .before .before .degree .ensures ∙ e))
 
   size : c .magnitude .result ≡ natAbs (lowest p)
   size =
@@ -48,19 +54,27 @@ searched-requires : tie.Need-searched-requires
 searched-requires c κs = (start c .pre .0, start c .pre .1, nonzero c, size c)
 
 returns : tie.Need-returns
-returns c = ap listed (sym (roots-constant (c .before .before .args .p .now) (sym (c .before .degree .ensures) ∙ c .if1 .taken)))
+returns c =
+    let p = c .before .before .before .args .p .now in
+    c .no-roots .ensures ∙ ap listed (sym (roots-constant p (sym (c .before .before .degree .ensures) ∙ c .before .if1 .taken)))
 
 returns-2 : tie.Need-returns-2
 returns-2 c = search needs
+
+returns-3 : tie.Need-returns-3
+returns-3 c = search needs
 
 pub roots-spec : {M : Type 1} → statement M
 roots-spec =
     tie.close
     (tie.spec
     degree-requires
+    no-roots-requires
+    root-of-linear-requires
     lowest-requires
     magnitude-requires
     cast-searched
     searched-requires
     returns
-    returns-2)
+    returns-2
+    returns-3)

@@ -7,16 +7,15 @@ use mathlib.Core.List.{List}
 use Prim.Native.Nat.{ℕ, _+_, _-_, _^_, _<_}
 use native.Mathlib.Omega.{arith}
 use lib.Dec.{eqb}
-use lib.IntN.{ℤ, pos, natAbs, _+ℤ_}
-use lib.Signed.{quotZ, remZ}
+use lib.IntN.{ℤ, pos, natAbs, _+ℤ_, _*ℤ_}
+use lib.Signed.{quotZ}
 use lib.ListN.{length, getD}
 use mir.Syntax.{w64}
 use mir.Val.{Fits, SFits, ofZ, toZ}
 use mir.Facts.{toZ-ofZ, ofZ-toZ, sfits-toZ, fits-ofZ}
-use Rattle.integers.specs.Ranges.{sfits-size, ofZ-pos, ofZ-zero, sfits-quotZ, sfits-remZ}
+use Rattle.integers.specs.Ranges.{sfits-size, ofZ-pos, ofZ-zero, sfits-quotZ}
 use Rattle.algebra.specs.Polynomials.{isZeroℤ}
-use Rattle.polynomials.specs.Content.{zero-bits}
-use Rattle.roots.specs.RootSearch.{Chain, fits-small, chain-start, chain-fails, chain-next, chain-ends}
+use Rattle.roots.specs.RootSearch.{Chain, fits-small, chain-start, product-size, chain-fails, chain-next, chain-ends}
 use Rattle.roots.proofs.vanishes.Statement.{statement}
 use Rattle.roots.proofs.vanishes.Tie as tie
 
@@ -58,16 +57,19 @@ module _ (c : tie.At-loop Inv-loop μ-loop) where
   divided : (0 < ofZ w64 r) × SFits w64 (quotZ b (toZ w64 (ofZ w64 r)))
   divided = (ofZ-pos fits-r (c .before .before .pre .3), rw (toZ-ofZ fits-r) (sfits-quotZ b r size))
 
-  fits-rest : SFits w64 (remZ b r)
-  fits-rest = sfits-remZ b r (sfits-toZ (c .loop .inv .0))
+  product-is : toZ w64 (ofZ w64 (quotZ b (toZ w64 (ofZ w64 r)))) *ℤ toZ w64 (ofZ w64 r) ≡ quotZ b r *ℤ r
+  product-is = simp (toZ-ofZ fits-r, toZ-ofZ (sfits-quotZ b r size))
+
+  product-fits : SFits w64 (quotZ b r *ℤ r)
+  product-fits = sfits-size (quotZ b r *ℤ r) (product-size chain) size
 
   next-is : toZ w64 (ofZ w64 (quotZ b (toZ w64 (ofZ w64 r)))) +ℤ toZ w64 (ofZ w64 (getD p i (pos 0))) ≡ next
   next-is = simp (toZ-ofZ fits-r, toZ-ofZ (sfits-quotZ b r size), toZ-ofZ (fits-small p i (c .before .before .pre .2)))
 
-  next-chain : i < length p → remZ b r ≡ pos 0 → Chain p r (i + 1) next
+  next-chain : i < length p → quotZ b r *ℤ r ≡ b → Chain p r (i + 1) next
   next-chain h z = chain-next chain (c .before .before .pre .2) h r-nonzero z
 
-  next-fits : i < length p → remZ b r ≡ pos 0 → SFits w64 next
+  next-fits : i < length p → quotZ b r *ℤ r ≡ b → SFits w64 next
   next-fits h z = sfits-size next (next-chain h z .size) (omega (arith, c .before .before .pre .1))
 
 shared-slice-copy-out-b : tie.Need-shared-slice-copy-out-b Inv-loop μ-loop
@@ -78,16 +80,16 @@ loop-holds c =
     let fits = fits-small (c .before .args .p .now) 0 (c .before .pre .2) in
     (fits-ofZ fits, simp (toZ-ofZ (c .before .fits .r), toZ-ofZ fits) (chain-start _ _ (c .before .pre .0) (c .before .pre .2)))
 
-rem-if1 : tie.Need-rem-if1 Inv-loop μ-loop
-rem-if1 c = divided (c .before)
+div-quotient : tie.Need-div-quotient Inv-loop μ-loop
+div-quotient c = divided (c .before)
+
+mul-if1 : tie.Need-mul-if1 Inv-loop μ-loop
+mul-if1 c = rw (product-is (c .before)) (product-fits (c .before))
 
 returns : tie.Need-returns Inv-loop μ-loop
 returns c =
     let head = c .before .before in
-    sym (chain-fails (chain head) (λ z. c .if1 .taken (rw (toZ-ofZ (fits-r head)) (ap (ofZ w64) z))))
-
-div-b : tie.Need-div-b Inv-loop μ-loop
-div-b c = divided (c .before .before)
+    sym (chain-fails (chain head) (λ z. c .if1 .taken (ap (ofZ w64) (product-is head ∙ z) ∙ ofZ-toZ (head .loop .inv .0))))
 
 mul-b : tie.Need-mul-b Inv-loop μ-loop
 mul-b c = omega arith
@@ -95,9 +97,11 @@ mul-b c = omega arith
 shared-slice-copy-out-b-2 : tie.Need-shared-slice-copy-out-b-2 Inv-loop μ-loop
 shared-slice-copy-out-b-2 c = omega arith
 
--- The turn's remainder is 0.
-exact : (c : tie.Else1 Inv-loop μ-loop) → remZ (b (c .before .before)) (r (c .before .before)) ≡ pos 0
-exact c = zero-bits (fits-rest (c .before .before)) (rw (toZ-ofZ (fits-r (c .before .before))) at (c .if1 .left))
+-- The turn's division is exact.
+exact : (c : tie.Else1 Inv-loop μ-loop) → quotZ (b (c .before .before)) (r (c .before .before)) *ℤ r (c .before .before) ≡ b (c .before .before)
+exact c =
+    let head = c .before .before in
+    sym (toZ-ofZ (product-fits head)) ∙ ap (toZ w64) (ap (ofZ w64) (sym (product-is head)) ∙ c .if1 .left)
 
 add-b : tie.Need-add-b Inv-loop μ-loop
 add-b c =
@@ -131,9 +135,9 @@ vanishes-spec =
     μ-loop
     shared-slice-copy-out-b
     loop-holds
-    rem-if1
+    div-quotient
+    mul-if1
     returns
-    div-b
     mul-b
     shared-slice-copy-out-b-2
     add-b
