@@ -10,7 +10,7 @@
 -- Main statements
 --   put-then          two runs of bytes stored one after the other are one run
 --   going-first, going-next, going-last   a loop that stores a run part by part
---   digits-last       the last digit of a number is written after the digits of its tenth
+--   digits-last, digits-back   the last digit of a number comes after the digits of its tenth, and may be stored before them
 --   line-is           a line is its first number, the others spaced, and byte 10
 --   trim-none, trim-length, trim-take   how many coefficients a term has, and which
 --   block-next, terms-next, lines-next   one term, one block, one line more
@@ -30,8 +30,8 @@ use borrow.Author.Tests.{ltb-true, ltb-false, lt-ltb, le-ltb, ne-eqb}
 use lib.Dec.{T, ltb, eqb, eqb·suc-zero, lit<}
 use lib.IntN.{ℤ, pos, negsuc, natAbs, negℤ, predℤ, _+ℤ_, _-ℤ_, negℤ-sucℤ, +ℤ-predℤ}
 use lib.Signed.{ltZ}
-use lib.ListN.{length, take, drop, getD, length-append, length-take, drop-of-length-le}
-use lib.Seq.{sets, length-sets, drop-cons}
+use lib.ListN.{length, take, drop, getD, set, length-append, length-take, drop-of-length-le}
+use lib.Seq.{sets, set-comm, set-out, length-sets, drop-cons}
 use Rattle.algebra.specs.Integers.{natAbs-+ℤ, natAbs-negℤ}
 use Rattle.algebra.specs.Polynomials.{Polynomial, coeff, isZero, isZero-cons, isZero-coeff}
 use Rattle.rules.specs.Limits.{coefficientCount}
@@ -55,6 +55,17 @@ sets-append : (d : List ℕ) (at : ℕ) (xs ys : List ℕ) → sets (sets d at x
 sets-append d at [] ys = ap (λ n. sets d n ys) (add-zero at)
 sets-append d at (x ∷ xs) ys =
     ap (λ n. sets (sets d at (x ∷ xs)) n ys) (add-suc at (length xs) ∙ sym (suc-add at (length xs))) ∙ sets-append _ (suc at) xs ys
+
+-- Nothing is stored past the end.
+pub sets-out : (d : List ℕ) (at : ℕ) (xs : List ℕ) → length d ≤ at → sets d at xs ≡ d
+sets-out d at [] h = refl
+sets-out d at (x ∷ xs) h = ap (λ l. sets l (suc at) xs) (set-out d at x h) ∙ sets-out d (suc at) xs (omega arith)
+
+-- A store past a run may come before it.
+sets-later : (d : List ℕ) (at : ℕ) (xs : List ℕ) (i b : ℕ) → at + length xs ≤ i → set (sets d at xs) i b ≡ sets (set d i b) at xs
+sets-later d at [] i b h = refl
+sets-later d at (x ∷ xs) i b h =
+    sets-later (set d at x) (suc at) xs i b (omega arith) ∙ ap (λ l. sets l (suc at) xs) (set-comm d at i x b (λ e. omega arith))
 
 pub put-then : {d e f : List ℕ} {at j k next last : ℕ} {xs ys : List ℕ} → Put d at xs j e next → Put e next ys k f last
     → Put d at (xs ++ ys) (j + k) f last
@@ -158,6 +169,16 @@ digits-last n h =
     rw (le-ltb n 10 h)
     (within-calls n (suc (n / 10)) (n / 10) ((48 + n % 10) ∷ []) (div-lt-self {n = n} {k = 10} (omega arith) (omega arith)) (omega arith)
     ∙ within-append (suc (n / 10)) (n / 10) [] ((48 + n % 10) ∷ []))
+
+pub digits-more : (n : ℕ) → 10 ≤ n → length (digitsOf n) ≡ length (digitsOf (n / 10)) + 1
+digits-more n h = ap length (digits-last n h) ∙ length-append (digitsOf (n / 10)) _
+
+-- The last digit may be stored first.
+pub digits-back : (d : List ℕ) (at n : ℕ) → 10 ≤ n
+    → sets (set d (at + length (digitsOf (n / 10))) (48 + n % 10)) at (digitsOf (n / 10)) ≡ sets d at (digitsOf n)
+digits-back d at n h =
+    sym (sets-later d at (digitsOf (n / 10)) _ _ (omega arith)) ∙ sets-append d at (digitsOf (n / 10)) _
+    ∙ ap (sets d at) (sym (digits-last n h))
 
 -- A number below 10^(k + 1) has at most k + 1 digits.
 within-length : (i k n : ℕ) (w : List ℕ) → n < 10 ^ suc k → length (decimalWithin i n w) ≤ suc k + length w

@@ -149,8 +149,3 @@ written-whole bytes byteStore h =
   where
     whole : sets byteStore 0 bytes ≡ bytes ++ drop (length bytes) byteStore
     whole = sets-eq bytes byteStore 0 (omega arith) ∙ ap (λ n. bytes ++ drop n byteStore) (zero-add (length bytes))
-
--- An empty part stays empty.
-pub sets-none : (i : ℕ) (bytes : List ℕ) → sets [] i bytes ≡ []
-sets-none i [] = refl
-sets-none i (b ∷ bytes) = sets-none (suc i) bytes

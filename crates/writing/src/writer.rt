@@ -8,6 +8,7 @@ ghost use Prim.Native.Nat.{_+_, _*_, _^_, _≤_, _<_};
 ghost use Rattle.rules.specs.Numbers.{decimal, line, lines};
 ghost use lib.IntN.{pos, natAbs};
 ghost use lib.ListN.{length};
+ghost use lib.Seq.{sets};
 ghost use Rattle.rules.specs.Sheets.{trim, blockTerms, termsFrom, equationNumbers, relationLine, orderLine, writeSheet};
 ghost use Rattle.rules.specs.Stores.{parts, rowOf, rowsOf, relationOf, relationsOf};
 ghost use Rattle.writing.specs.Writer.{Put, digitsOf, spaced, termAt, numbersOf, nonzeroCount, sheetGiven};
@@ -26,18 +27,46 @@ pub fn put_byte(bytes: &mut [u8], at: usize, b: u8) -> usize
     next
 }
 
-// The digits of a number, those of its tenth first.
+fn digit_count(n: u64) -> usize
+    ensures { λ r. ⌜ r ≡ length (digitsOf n) ⌝ }
+{
+    let mut count = 1;
+    let mut rest = n;
+    while 10 <= rest {
+        rest = rest / 10;
+        count += 1;
+    }
+    count
+}
+
+// The digits of a number, from the last back.
+fn put_digits_back(bytes: &mut [u8], at: usize, n: u64, end: usize)
+    requires { ⌜ end ≡ at + length (digitsOf n) ⌝ }
+    ensures { λ _. ⌜ now (bytes .exit) ≡ sets (now (bytes .entry)) at (digitsOf n) ⌝ }
+{
+    let mut i = end;
+    let mut rest = n;
+    while 10 <= rest {
+        i -= 1;
+        put_byte(bytes, i, 48 + (rest % 10) as u8);
+        rest = rest / 10;
+    }
+    put_byte(bytes, at, 48 + rest as u8);
+}
+
+// Most numbers of a sheet have one digit. Past the store's end digits are only counted.
 pub fn put_digits(bytes: &mut [u8], at: usize, n: u64) -> usize
     requires { ⌜ at + 20 < 2 ^ 64 ⌝ }
     ensures { λ r. ⌜ Put (now (bytes .entry)) at (digitsOf n) 20 (now (bytes .exit)) r ⌝ }
 {
-    let last = 48 + (n % 10) as u8;
     if n < 10 {
-        put_byte(bytes, at, last)
-    } else {
-        let next = put_digits(bytes, at, n / 10);
-        put_byte(bytes, next, last)
+        return put_byte(bytes, at, 48 + n as u8);
     }
+    let end = at + digit_count(n);
+    if at < bytes.len() {
+        put_digits_back(bytes, at, n, end);
+    }
+    end
 }
 
 fn put_number(bytes: &mut [u8], at: usize, a: i64) -> usize

@@ -16,8 +16,8 @@ use Rattle.rules.specs.Sheets.{writeSheet}
 use Rattle.rules.specs.SheetCalls.{checkWrite, sheetOf, unwritten}
 use Rattle.rules.specs.Stores.{Sizes}
 use Rattle.rows.specs.Validity.{sizesOf}
-use Rattle.writing.specs.Writer.{sheetGiven}
-use Rattle.writing.specs.WriterChecks.{Checked, checked, sheet-given, given-few, sets-none}
+use Rattle.writing.specs.Writer.{sheetGiven, sets-out}
+use Rattle.writing.specs.WriterChecks.{Checked, checked, sheet-given, given-few}
 use Rattle.writing.specs.WriterChecks.{call-refused, call-checked, written-short, written-whole}
 use borrow.Author.Needs.{needs}
 use Rattle.writing.proofs.writer.write_sheet.Statement.{statement}
@@ -81,7 +81,7 @@ module _ (c : tie.After-put-sheet) where
   given = c .before .before .before .before
 
   kept : (c .put-sheet .last .0 ++ store (start given)) ≡ store (start given)
-  kept = ap (λ l. l ++ store (start given)) (c .put-sheet .ensures .stored ∙ sets-none 0 (bytes given))
+  kept = ap (λ l. l ++ store (start given)) (c .put-sheet .ensures .stored ∙ sets-out _ 0 (bytes given) (omega arith))
 
   counted : c .put-sheet .result ≡ length (sheet (start given))
   counted = c .put-sheet .ensures .passed ∙ zero-add (length (bytes given)) ∙ ap length (same given)
