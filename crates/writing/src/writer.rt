@@ -1,5 +1,5 @@
 // Writing a sheet. Each writing function stores its bytes from a place on, as far as the store goes, counts them all and gives
-// the next place: called on an empty part of the store it only counts, so that nothing is written before the length is known.
+// the next place: called on an empty part of the store it only counts, so that nothing is written before it is known to fit.
 mod checks;
 
 ghost use mathlib.Core.Path.{_≡_};
@@ -219,7 +219,7 @@ fn put_relation(bytes: &mut [u8], at: usize, numbers: &[i64], l: i64) -> usize
 fn put_equations(bytes: &mut [u8], at: usize, rows: &[i64], m: usize, l: i64) -> usize
     requires { ⌜ (m ≤ 4) × (m * 320 ≤ length (now rows)) × (natAbs l ≤ 64) × (at + 33364 < 2 ^ 64) ⌝ }
     ensures { λ r. ⌜
-        Put (now (bytes .entry)) at (lines (map (equationNumbers l) (rowsOf m (now (rows .entry))))) 33364 (now (bytes .exit)) r ⌝ }
+        Put (now (bytes .entry)) at (lines (map (equationNumbers l) (rowsOf m (now (rows .entry))))) (m * 8341) (now (bytes .exit)) r ⌝ }
 {
     let mut next = at;
     let mut i = 0;
@@ -235,7 +235,7 @@ fn put_equations(bytes: &mut [u8], at: usize, rows: &[i64], m: usize, l: i64) ->
 fn put_relations(bytes: &mut [u8], at: usize, relations: &[i64], count: usize, l: i64) -> usize
     requires { ⌜ (count ≤ 16) × (count * 321 ≤ length (now relations)) × (natAbs l ≤ 64) × (at + 133808 < 2 ^ 64) ⌝ }
     ensures { λ r. ⌜
-        Put (now (bytes .entry)) at (lines (map (relationLine l) (relationsOf count (now (relations .entry))))) 133808
+        Put (now (bytes .entry)) at (lines (map (relationLine l) (relationsOf count (now (relations .entry))))) (count * 8363)
         (now (bytes .exit)) r ⌝ }
 {
     let mut next = at;
@@ -304,7 +304,8 @@ fn put_sheet(
     requires { ⌜ Checked (sizesOf sizes) count (now rows) (now relations) × (length (now columns) ≤ 4) ⌝ }
     ensures { λ r. ⌜
         Put (now (bytes .entry)) 0
-        (writeSheet (sheetGiven (sizesOf sizes) count (now (columns .entry)) (now (rows .entry)) (now (relations .entry)))) 167386
+        (writeSheet (sheetGiven (sizesOf sizes) count (now (columns .entry)) (now (rows .entry)) (now (relations .entry))))
+        (214 + sizes .m * 8341 + count * 8363)
         (now (bytes .exit)) r ⌝ }
 {
     let m = sizes.m;
@@ -324,7 +325,8 @@ pub struct WriteResult {
 }
 
 // The system of the stores and its column order as a sheet: all four numbers of the order 0 for none, otherwise a permutation of
-// 1..m and zeros past its end. Nothing is written on a refusal, and bytes past the length stay.
+// 1..m and zeros past its end. Nothing is written on a refusal, and bytes past the length stay. Where the longest sheet of these sizes
+// fits, nothing has to be counted first.
 pub fn write_sheet(
     rows: &[i64],
     relations: &[i64],
@@ -341,8 +343,14 @@ pub fn write_sheet(
     if refusal != 0 {
         return WriteResult { refusal, length: 0 };
     }
-    let n = checks::order_length(order, sizes.m);
+    let m = sizes.m;
+    let n = checks::order_length(order, m);
     let all = &order[..];
+    let longest = 214 + m * 8341 + count * 8363;
+    if longest <= bytes.len() {
+        let length = put_sheet(bytes, rows, relations, sizes, count, &all[..n]);
+        return WriteResult { refusal: 0, length };
+    }
     let length = put_sheet(&mut bytes[..0], rows, relations, sizes, count, &all[..n]);
     if bytes.len() < length {
         return WriteResult {
@@ -350,6 +358,6 @@ pub fn write_sheet(
             length: 0,
         };
     }
-    put_sheet(bytes, rows, relations, sizes, count, &all[..n]);
+    let length = put_sheet(bytes, rows, relations, sizes, count, &all[..n]);
     WriteResult { refusal: 0, length }
 }

@@ -21,7 +21,7 @@ abbrev Inv-loop : tie.InvT-loop
 Inv-loop bytes₀ at rows m l next₀ i₀ bytes next i =
     (i ≤ m)
     × Going bytes₀ at (lines (map (equationNumbers (toZ w64 l)) (rowsOf m rows))) bytes next
-    (lines (map (equationNumbers (toZ w64 l)) (drop i (rowsOf m rows)))) (8341 * i)
+    (lines (map (equationNumbers (toZ w64 l)) (drop i (rowsOf m rows)))) (i * 8341)
 
 abbrev μ-loop : tie.MeasureT-loop
 μ-loop bytes₀ at rows m l next₀ i₀ bytes next i = m - i

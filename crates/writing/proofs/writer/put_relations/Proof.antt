@@ -21,7 +21,7 @@ abbrev Inv-loop : tie.InvT-loop
 Inv-loop bytes₀ at relations count l next₀ i₀ bytes next i =
     (i ≤ count)
     × Going bytes₀ at (lines (map (relationLine (toZ w64 l)) (relationsOf count relations))) bytes next
-    (lines (map (relationLine (toZ w64 l)) (drop i (relationsOf count relations)))) (8363 * i)
+    (lines (map (relationLine (toZ w64 l)) (drop i (relationsOf count relations)))) (i * 8363)
 
 abbrev μ-loop : tie.MeasureT-loop
 μ-loop bytes₀ at relations count l next₀ i₀ bytes next i = count - i
