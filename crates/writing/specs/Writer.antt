@@ -12,13 +12,13 @@
 --   going-first, going-next, going-last   a loop that stores a run part by part
 --   digits-last, digits-back   the last digit of a number comes after the digits of its tenth, and may be stored before them
 --   line-is           a line is its first number, the others spaced, and byte 10
---   trim-none, trim-length, trim-take   how many coefficients a term has, and which
+--   trim-nonzero, trim-more, trim-take   how many coefficients a term has, and which
 --   block-next, terms-next, lines-next   one term, one block, one line more
 --   term-count        the number of terms of a row is that of its nonzero polynomials
 --   equation-line, relation-line, order-line, count-line, sizes-line   the lines of a sheet, as they are written
 --   sheet-bytes       the bytes of a sheet, section by section
 use mathlib.Core.Path.{_≡_, refl, sym, _∙_, ap, ap₂, subst}
-use mathlib.Core.Bool.{Bool, true, false, cond}
+use mathlib.Core.Bool.{Bool, true, false, and-true, cond}
 use mathlib.Core.Logic.{_≢_}
 use mathlib.Core.List.{List, [], _∷_, _++_, map, flatten, append-assoc, append-nil}
 use Prim.Native.Nat.{ℕ, zero, suc, _+_, _-_, _*_, _/_, _%_, _^_, _≤_, _<_}
@@ -31,9 +31,9 @@ use lib.Dec.{T, ltb, eqb, eqb·suc-zero, lit<}
 use lib.IntN.{ℤ, pos, negsuc, natAbs, negℤ, predℤ, _+ℤ_, _-ℤ_, negℤ-sucℤ, +ℤ-predℤ}
 use lib.Signed.{ltZ}
 use lib.ListN.{length, take, drop, getD, set, length-append, length-take, drop-of-length-le}
-use lib.Seq.{sets, set-comm, set-out, length-sets, drop-cons}
+use lib.Seq.{sets, set-comm, set-out, length-sets, drop-cons, take-suc, getD-take, length-take-le}
 use Rattle.algebra.specs.Integers.{natAbs-+ℤ, natAbs-negℤ}
-use Rattle.algebra.specs.Polynomials.{Polynomial, coeff, isZero, isZero-cons, isZero-coeff}
+use Rattle.algebra.specs.Polynomials.{Polynomial, coeff, isZero, isZero-cons, isZero-coeff, isZero-append}
 use Rattle.rules.specs.Limits.{coefficientCount}
 use Rattle.rules.specs.Rows.{Block}
 use Rattle.rules.specs.Stores.{Sizes, parts, rowOf, rowsOf, relationOf, relationsOf}
@@ -275,9 +275,6 @@ trim-length (a ∷ p) (suc n) h ne z =
     nonzero-length (isZero (a ∷ p)) a (trim p) (suc n) (λ t. ne (isZero-coeff p (isZero-cons a p .0 t .1) n))
     (trim-length p n (le-of-suc-le-suc h) ne z)
 
-pub trim-zero : (p : Polynomial) → T (isZero p) → length (trim p) ≡ 0
-trim-zero p h = ap length (trim-none p h)
-
 pub isZero-trim : (p : Polynomial) → isZero p ≡ eqb (length (trim p)) 0
 unfolding trim isZero
 isZero-trim [] = refl
@@ -299,9 +296,23 @@ trim-take (a ∷ p) = cases (isZero (a ∷ p)) (trim-take p)
 pub trim-le : (p : Polynomial) → length (trim p) ≤ length p
 trim-le p = subst (λ q. length q ≤ length p) (trim-take p) (rw length-take (omega arith))
 
--- One coefficient more from the top.
-pub drop-zero : (p : Polynomial) (n : ℕ) → n < length p → getD p n (pos 0) ≡ pos 0 → T (isZero (drop (suc n) p)) → T (isZero (drop n p))
-drop-zero p n h e z = rw (drop-cons p n (pos 0) h) (isZero-cons (getD p n (pos 0)) (drop (suc n) p) .1 (e, z))
+-- One coefficient more: a nonzero one is the last that is left, and a zero changes nothing.
+pub trim-nonzero : (p : Polynomial) (i : ℕ) → i < length p → getD p i (pos 0) ≢ pos 0 → length (trim (take (suc i) p)) ≡ suc i
+unfolding isZero
+trim-nonzero p i h ne =
+    let size = length-take-le (suc i) p h in
+    trim-length (take (suc i) p) i (omega arith) (rw (getD-take (suc i) p i (pos 0) (omega arith)) ne)
+    (rw (drop-of-length-le (take (suc i) p) {i = suc i} (omega arith)) tt)
+
+trim-last : (p : Polynomial) → trim (p ++ (pos 0 ∷ [])) ≡ trim p
+unfolding trim isZero
+trim-last [] = refl
+trim-last (b ∷ p) = ap₂ (λ t q. cond t [] (b ∷ q)) (isZero-append (b ∷ p) (pos 0 ∷ []) ∙ and-true (isZero (b ∷ p))) (trim-last p)
+
+pub trim-more : (p : Polynomial) (i : ℕ) → i < length p → getD p i (pos 0) ≡ pos 0
+    → length (trim (take (suc i) p)) ≡ length (trim (take i p))
+trim-more p i h e =
+    ap (λ q. length (trim q)) (take-suc p i (pos 0) h ∙ ap (λ a. take i p ++ (a ∷ [])) e) ∙ ap length (trim-last (take i p))
 
 -- ---- the numbers of terms
 

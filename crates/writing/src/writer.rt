@@ -113,18 +113,20 @@ fn put_numbers(bytes: &mut [u8], at: usize, numbers: &[i64]) -> usize
     next
 }
 
-// The number of coefficients up to the last nonzero one.
+// The number of coefficients up to the last nonzero one. All are looked at: a way out of the loop would cost more than it spares.
 fn trimmed(p: &[i64]) -> usize
+    requires { ⌜ length (now p) ≡ 16 ⌝ }
     ensures { λ r. ⌜ r ≡ length (trim (now (p .entry))) ⌝ }
 {
-    let mut n = p.len();
-    while 0 < n {
-        if p[n - 1] != 0 {
-            return n;
+    let mut n = 0;
+    let mut i = 0;
+    while i < 16 {
+        if p[i] != 0 {
+            n = i + 1;
         }
-        n -= 1;
+        i += 1;
     }
-    0
+    n
 }
 
 // One term; nothing for a zero polynomial.
