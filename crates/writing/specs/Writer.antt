@@ -4,7 +4,7 @@
 -- Main definitions
 --   Put, Going        what a writing function does; what a loop that writes has still to do
 --   digitsOf, spaced  the digits of a whole number; numbers with a space before each
---   termAt, numbersOf, nonzeroCount   the numbers of one term, of several, and how many there are
+--   termAt, numbersOf, nonzeroCount, Lengths   the numbers of one term, of several, how many there are, and their lengths
 --   sheetGiven        the sheet of a system in stores, with the columns that are written
 --
 -- Main statements
@@ -26,14 +26,17 @@ use native.Mathlib.Nat.{zero-add, add-zero, suc-add, add-suc, pow-suc, div-lt-se
 use native.Mathlib.Nat.{lt-trans, le-trans, le-of-suc-le-suc, not-suc-le-zero}
 use native.Mathlib.Numerals.{add-one}
 use native.Mathlib.Omega.{arith}
+use borrow.Author.Count.{below-more}
 use borrow.Author.Tests.{ltb-true, ltb-false, lt-ltb, le-ltb, ne-eqb}
 use lib.Dec.{T, ltb, eqb, eqb·suc-zero, lit<}
 use lib.IntN.{ℤ, pos, negsuc, natAbs, negℤ, predℤ, _+ℤ_, _-ℤ_, negℤ-sucℤ, +ℤ-predℤ}
 use lib.Signed.{ltZ}
 use lib.ListN.{length, take, drop, getD, set, length-append, length-take, drop-of-length-le}
-use lib.Seq.{sets, set-comm, set-out, length-sets, drop-cons, take-suc, getD-take, length-take-le}
+use lib.Seq.{sets, set-comm, set-out, length-sets, drop-cons, take-suc, length-take-le, take-take, drop-drop}
+use lib.Seq.{getD-take, getD-drop, getD-set-same, getD-set-other}
 use Rattle.algebra.specs.Integers.{natAbs-+ℤ, natAbs-negℤ}
 use Rattle.algebra.specs.Polynomials.{Polynomial, coeff, isZero, isZero-cons, isZero-coeff, isZero-append}
+use Rattle.rules.specs.Lists.{drop-take}
 use Rattle.rules.specs.Limits.{coefficientCount}
 use Rattle.rules.specs.Rows.{Block}
 use Rattle.rules.specs.Stores.{Sizes, parts, rowOf, rowsOf, relationOf, relationsOf}
@@ -434,6 +437,38 @@ unfolding nonzeroCount
 count-some l i n h e some =
     let part = take 16 (drop (i * 16) l) in
     rw (parts-next 16 20 l i h, isZero-trim part, ne-eqb (length (trim part)) 0 (λ z. some (e ∙ z)))
+
+-- The number of coefficients of each of the first n polynomials that l holds.
+abbrev pub Lengths : ℕ → List ℤ → List ℕ → Type 0
+Lengths n l lengths = (i : ℕ) → i < n → getD lengths i 0 ≡ length (trim (take 16 (drop (i * 16) l)))
+
+-- Those of one block.
+pub lengths-part : (row : List ℤ) (lengths : List ℕ) (b : ℕ) → b < 5 → Lengths 20 row lengths
+    → Lengths 4 (take 64 (drop (b * 64) row)) (take 4 (drop (b * 4) lengths))
+lengths-part row lengths b h all c g =
+    getD-take 4 (drop (b * 4) lengths) c 0 g ∙ getD-drop (b * 4) lengths c 0 ∙ all (b * 4 + c) (omega arith)
+    ∙ ap (λ p. length (trim p)) (sym polynomial)
+  where
+    whole : 64 ≡ c * 16 + (64 - c * 16)
+    whole = omega arith
+
+    place : b * 64 + c * 16 ≡ (b * 4 + c) * 16
+    place = omega arith
+
+    polynomial : take 16 (drop (c * 16) (take 64 (drop (b * 64) row))) ≡ take 16 (drop ((b * 4 + c) * 16) row)
+    polynomial =
+        ap (λ n. take 16 (drop (c * 16) (take n (drop (b * 64) row)))) whole
+        ∙ ap (take 16) (drop-take (c * 16) (64 - c * 16) (drop (b * 64) row))
+        ∙ take-take 16 (64 - c * 16) (drop (c * 16) (drop (b * 64) row)) (omega arith)
+        ∙ ap (take 16) (drop-drop (c * 16) (b * 64) row)
+        ∙ ap (λ n. take 16 (drop n row)) place
+
+-- One length more.
+pub lengths-next : (l : List ℤ) (lengths : List ℕ) (i n : ℕ) → Lengths i l lengths → i < length lengths
+    → n ≡ length (trim (take 16 (drop (i * 16) l))) → Lengths (i + 1) l (set lengths i n)
+lengths-next l lengths i n all h e =
+    below-more (λ k. getD (set lengths i n) k 0 ≡ length (trim (take 16 (drop (k * 16) l)))) i
+    (λ k lt. getD-set-other lengths i k n 0 (λ same. omega arith) ∙ all k lt) (getD-set-same lengths i n 0 h ∙ e)
 
 -- ---- one term, and one block, more
 

@@ -11,7 +11,7 @@ ghost use lib.ListN.{length};
 ghost use lib.Seq.{sets};
 ghost use Rattle.rules.specs.Sheets.{trim, blockTerms, termsFrom, equationNumbers, relationLine, orderLine, writeSheet};
 ghost use Rattle.rules.specs.Stores.{parts, rowOf, rowsOf, relationOf, relationsOf};
-ghost use Rattle.writing.specs.Writer.{Put, digitsOf, spaced, termAt, numbersOf, nonzeroCount, sheetGiven};
+ghost use Rattle.writing.specs.Writer.{Put, digitsOf, spaced, Lengths, termAt, numbersOf, nonzeroCount, sheetGiven};
 ghost use Rattle.writing.specs.WriterChecks.{Checked, callOf};
 ghost use Rattle.rules.specs.SheetCalls.{writeCall};
 ghost use Rattle.rows.specs.Validity.{sizesOf};
@@ -130,11 +130,10 @@ fn trimmed(p: &[i64]) -> usize
 }
 
 // One term; nothing for a zero polynomial.
-fn put_term(bytes: &mut [u8], at: usize, p: &[i64], block: i64, column: usize) -> usize
-    requires { ⌜ (length (now p) ≡ 16) × (at + 416 < 2 ^ 64) ⌝ }
+fn put_term(bytes: &mut [u8], at: usize, p: &[i64], n: usize, block: i64, column: usize) -> usize
+    requires { ⌜ (length (now p) ≡ 16) × (n ≡ length (trim (now p))) × (at + 416 < 2 ^ 64) ⌝ }
     ensures { λ r. ⌜ Put (now (bytes .entry)) at (spaced (termAt block column (now (p .entry)))) 416 (now (bytes .exit)) r ⌝ }
 {
-    let n = trimmed(p);
     if n == 0 {
         return at;
     }
@@ -145,8 +144,9 @@ fn put_term(bytes: &mut [u8], at: usize, p: &[i64], block: i64, column: usize) -
 }
 
 // The terms of one block, by rising column.
-fn put_block(bytes: &mut [u8], at: usize, numbers: &[i64], block: i64) -> usize
-    requires { ⌜ (length (now numbers) ≡ 64) × (at + 1664 < 2 ^ 64) ⌝ }
+fn put_block(bytes: &mut [u8], at: usize, numbers: &[i64], lengths: &[usize], block: i64) -> usize
+    requires { ⌜
+        (length (now numbers) ≡ 64) × (length (now lengths) ≡ 4) × Lengths 4 (now numbers) (now lengths) × (at + 1664 < 2 ^ 64) ⌝ }
     ensures { λ r. ⌜
         Put (now (bytes .entry)) at (spaced (numbersOf (blockTerms block 1 (parts 16 4 (now (numbers .entry)))))) 1664
         (now (bytes .exit)) r ⌝ }
@@ -156,15 +156,17 @@ fn put_block(bytes: &mut [u8], at: usize, numbers: &[i64], block: i64) -> usize
     while c < 4 {
         let from = c * 16;
         let to = from + 16;
-        next = put_term(bytes, next, &numbers[from..to], block, c + 1);
+        next = put_term(bytes, next, &numbers[from..to], lengths[c], block, c + 1);
         c += 1;
     }
     next
 }
 
 // The terms of a row, "by falling s, then rising c".
-fn put_terms(bytes: &mut [u8], at: usize, row: &[i64], l: i64) -> usize
-    requires { ⌜ (length (now row) ≡ 320) × (natAbs l ≤ 64) × (at + 8320 < 2 ^ 64) ⌝ }
+fn put_terms(bytes: &mut [u8], at: usize, row: &[i64], lengths: &[usize], l: i64) -> usize
+    requires { ⌜
+        (length (now row) ≡ 320) × (length (now lengths) ≡ 20) × Lengths 20 (now row) (now lengths) × (natAbs l ≤ 64)
+        × (at + 8320 < 2 ^ 64) ⌝ }
     ensures { λ r. ⌜
         Put (now (bytes .entry)) at (spaced (numbersOf (termsFrom l (rowOf (now (row .entry)) .blocks)))) 8320 (now (bytes .exit)) r ⌝ }
 {
@@ -173,23 +175,33 @@ fn put_terms(bytes: &mut [u8], at: usize, row: &[i64], l: i64) -> usize
     while b < 5 {
         let from = b * 64;
         let to = from + 64;
-        next = put_block(bytes, next, &row[from..to], l - b as i64);
+        let first = b * 4;
+        let last = first + 4;
+        next = put_block(
+            bytes,
+            next,
+            &row[from..to],
+            &lengths[first..last],
+            l - b as i64,
+        );
         b += 1;
     }
     next
 }
 
-// The number of terms of a row: of its polynomials that are not zero.
-fn term_count(row: &[i64]) -> usize
-    requires { ⌜ length (now row) ≡ 320 ⌝ }
-    ensures { λ r. ⌜ r ≡ nonzeroCount (parts 16 20 (now (row .entry))) ⌝ }
+// The number of terms of a row, of its polynomials that are not zero, and the number of coefficients of each polynomial.
+fn term_lengths(lengths: &mut [usize], row: &[i64]) -> usize
+    requires { ⌜ (length (now lengths) ≡ 20) × (length (now row) ≡ 320) ⌝ }
+    ensures { λ r. ⌜ (r ≡ nonzeroCount (parts 16 20 (now (row .entry)))) × Lengths 20 (now (row .entry)) (now (lengths .exit)) ⌝ }
 {
     let mut terms = 0;
     let mut i = 0;
     while i < 20 {
         let from = i * 16;
         let to = from + 16;
-        if trimmed(&row[from..to]) != 0 {
+        let n = trimmed(&row[from..to]);
+        lengths[i] = n;
+        if n != 0 {
             terms += 1;
         }
         i += 1;
@@ -201,8 +213,10 @@ fn put_equation(bytes: &mut [u8], at: usize, row: &[i64], l: i64) -> usize
     requires { ⌜ (length (now row) ≡ 320) × (natAbs l ≤ 64) × (at + 8341 < 2 ^ 64) ⌝ }
     ensures { λ r. ⌜ Put (now (bytes .entry)) at (line (equationNumbers l (rowOf (now (row .entry))))) 8341 (now (bytes .exit)) r ⌝ }
 {
-    let counted = put_digits(bytes, at, term_count(row) as u64);
-    let written = put_terms(bytes, counted, row, l);
+    let mut lengths = [0usize; 20];
+    let terms = term_lengths(&mut lengths, row);
+    let counted = put_digits(bytes, at, terms as u64);
+    let written = put_terms(bytes, counted, row, &lengths, l);
     put_byte(bytes, written, 10)
 }
 
@@ -212,9 +226,11 @@ fn put_relation(bytes: &mut [u8], at: usize, numbers: &[i64], l: i64) -> usize
     ensures { λ r. ⌜ Put (now (bytes .entry)) at (line (relationLine l (relationOf (now (numbers .entry))))) 8363 (now (bytes .exit)) r ⌝ }
 {
     let row = &numbers[1..];
+    let mut lengths = [0usize; 20];
+    let terms = term_lengths(&mut lengths, row);
     let indexed = put_number(bytes, at, numbers[0]);
-    let counted = put_next_count(bytes, indexed, term_count(row));
-    let written = put_terms(bytes, counted, row, l);
+    let counted = put_next_count(bytes, indexed, terms);
+    let written = put_terms(bytes, counted, row, &lengths, l);
     put_byte(bytes, written, 10)
 }
 
