@@ -23,12 +23,12 @@ use mathlib.Core.Logic.{_≢_}
 use mathlib.Core.List.{List, [], _∷_, _++_, map, flatten, append-assoc, append-nil}
 use Prim.Native.Nat.{ℕ, zero, suc, _+_, _-_, _*_, _/_, _%_, _^_, _≤_, _<_}
 use native.Mathlib.Nat.{zero-add, add-zero, suc-add, add-suc, pow-suc, div-lt-self, div-lt-iff-lt-mul}
-use native.Mathlib.Nat.{lt-trans, le-trans, le-of-suc-le-suc, not-suc-le-zero}
+use native.Mathlib.Nat.{lt-trans, le-trans, lt-of-le-of-lt, le-of-suc-le-suc, not-suc-le-zero}
 use native.Mathlib.Numerals.{add-one}
 use native.Mathlib.Omega.{arith}
 use borrow.Author.Count.{below-more}
 use borrow.Author.Tests.{ltb-true, ltb-false, lt-ltb, le-ltb, ne-eqb}
-use lib.Dec.{T, ltb, eqb, eqb·suc-zero, lit<}
+use lib.Dec.{T, ltb, eqb, eqb·suc-zero, leb→le, le→leb, lit<, lit≤}
 use lib.IntN.{ℤ, pos, negsuc, natAbs, negℤ, predℤ, _+ℤ_, _-ℤ_, negℤ-sucℤ, +ℤ-predℤ}
 use lib.Signed.{ltZ}
 use lib.ListN.{length, take, drop, getD, set, length-append, length-take, drop-of-length-le}
@@ -37,8 +37,8 @@ use lib.Seq.{getD-take, getD-drop, getD-set-same, getD-set-other}
 use Rattle.algebra.specs.Integers.{natAbs-+ℤ, natAbs-negℤ}
 use Rattle.algebra.specs.Polynomials.{Polynomial, coeff, isZero, isZero-cons, isZero-coeff, isZero-append}
 use Rattle.rules.specs.Lists.{drop-take}
-use Rattle.rules.specs.Limits.{coefficientCount}
-use Rattle.rules.specs.Rows.{Block}
+use Rattle.rules.specs.Limits.{bound, coefficientCount, small}
+use Rattle.rules.specs.Rows.{Block, every}
 use Rattle.rules.specs.Stores.{Sizes, parts, rowOf, rowsOf, relationOf, relationsOf}
 use Rattle.rules.specs.Layout.{length-rowsOf, length-relationsOf, parts-length, getD-parts}
 use Rattle.rules.specs.Sheets.{Sheet, Term, trim, blockTerms, termsFrom, termNumbers}
@@ -200,6 +200,24 @@ unfolding digitsOf
 digits-length n h = within-length (suc n) 19 n [] (lt-trans h (lit< tt))
 
 -- ---- numbers
+
+nine-digits : (n : ℕ) → n ≤ bound → length (digitsOf n) ≤ 9
+unfolding digitsOf
+nine-digits n h = within-length (suc n) 8 n [] (lt-of-le-of-lt h (lit< tt))
+
+-- A number within ±C has at most nine digits.
+pub decimal-length : (a : ℤ) → T (small a) → length (decimal a) ≤ 10
+unfolding decimal digitsOf small
+decimal-length (pos n) h = omega (arith, nine-digits n (leb→le n bound h))
+decimal-length (negsuc n) h = omega (arith, nine-digits (suc n) (leb→le (suc n) bound h))
+
+pub small-block : (a : ℤ) → natAbs a ≤ 68 → T (small a)
+unfolding small
+small-block a h = le→leb (natAbs a) bound (le-trans h (lit≤ tt))
+
+-- The first n parts of k numbers are within ±C.
+abbrev pub SmallParts : ℕ → ℕ → List ℤ → Type 0
+SmallParts k n l = (i : ℕ) → i < n → T (every small (take k (drop (i * k) l)))
 
 pub decimal-negative : (a : ℤ) → ltZ a (pos 0) ≡ true → decimal a ≡ minus ∷ digitsOf (natAbs a)
 unfolding decimal digitsOf

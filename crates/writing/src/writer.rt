@@ -7,11 +7,14 @@ ghost use mathlib.Core.List.{[], _∷_, map};
 ghost use Prim.Native.Nat.{_+_, _*_, _^_, _≤_, _<_};
 ghost use Rattle.rules.specs.Numbers.{decimal, line, lines};
 ghost use lib.IntN.{pos, natAbs};
+ghost use lib.Dec.{T};
 ghost use lib.ListN.{length};
 ghost use lib.Seq.{sets};
+ghost use Rattle.rules.specs.Limits.{small};
+ghost use Rattle.rules.specs.Rows.{every};
 ghost use Rattle.rules.specs.Sheets.{trim, blockTerms, termsFrom, equationNumbers, relationLine, orderLine, writeSheet};
 ghost use Rattle.rules.specs.Stores.{parts, rowOf, rowsOf, relationOf, relationsOf};
-ghost use Rattle.writing.specs.Writer.{Put, digitsOf, spaced, Lengths, termAt, numbersOf, nonzeroCount, sheetGiven};
+ghost use Rattle.writing.specs.Writer.{Put, digitsOf, spaced, SmallParts, Lengths, termAt, numbersOf, nonzeroCount, sheetGiven};
 ghost use Rattle.writing.specs.WriterChecks.{Checked, callOf};
 ghost use Rattle.rules.specs.SheetCalls.{writeCall};
 ghost use Rattle.rows.specs.Validity.{sizesOf};
@@ -70,8 +73,8 @@ pub fn put_digits(bytes: &mut [u8], at: usize, n: u64) -> usize
 }
 
 fn put_number(bytes: &mut [u8], at: usize, a: i64) -> usize
-    requires { ⌜ at + 21 < 2 ^ 64 ⌝ }
-    ensures { λ r. ⌜ Put (now (bytes .entry)) at (decimal a) 21 (now (bytes .exit)) r ⌝ }
+    requires { ⌜ T (small a) × (at + 21 < 2 ^ 64) ⌝ }
+    ensures { λ r. ⌜ Put (now (bytes .entry)) at (decimal a) 10 (now (bytes .exit)) r ⌝ }
 {
     let size = integers::magnitude(a);
     if a < 0 {
@@ -84,8 +87,8 @@ fn put_number(bytes: &mut [u8], at: usize, a: i64) -> usize
 
 // A number of a line past the first.
 fn put_next(bytes: &mut [u8], at: usize, a: i64) -> usize
-    requires { ⌜ at + 22 < 2 ^ 64 ⌝ }
-    ensures { λ r. ⌜ Put (now (bytes .entry)) at (spaced (a ∷ [])) 22 (now (bytes .exit)) r ⌝ }
+    requires { ⌜ T (small a) × (at + 22 < 2 ^ 64) ⌝ }
+    ensures { λ r. ⌜ Put (now (bytes .entry)) at (spaced (a ∷ [])) 11 (now (bytes .exit)) r ⌝ }
 {
     let next = put_byte(bytes, at, 32);
     put_number(bytes, next, a)
@@ -100,9 +103,9 @@ fn put_next_count(bytes: &mut [u8], at: usize, n: usize) -> usize
 }
 
 fn put_numbers(bytes: &mut [u8], at: usize, numbers: &[i64]) -> usize
-    requires { ⌜ at + 22 * length (now numbers) < 2 ^ 64 ⌝ }
+    requires { ⌜ T (every small (now numbers)) × (at + 22 * length (now numbers) < 2 ^ 64) ⌝ }
     ensures { λ r. ⌜
-        Put (now (bytes .entry)) at (spaced (now (numbers .entry))) (22 * length (now (numbers .entry))) (now (bytes .exit)) r ⌝ }
+        Put (now (bytes .entry)) at (spaced (now (numbers .entry))) (11 * length (now (numbers .entry))) (now (bytes .exit)) r ⌝ }
 {
     let mut next = at;
     let mut i = 0;
@@ -131,8 +134,9 @@ fn trimmed(p: &[i64]) -> usize
 
 // One term; nothing for a zero polynomial.
 fn put_term(bytes: &mut [u8], at: usize, p: &[i64], n: usize, block: i64, column: usize) -> usize
-    requires { ⌜ (length (now p) ≡ 16) × (n ≡ length (trim (now p))) × (at + 416 < 2 ^ 64) ⌝ }
-    ensures { λ r. ⌜ Put (now (bytes .entry)) at (spaced (termAt block column (now (p .entry)))) 416 (now (bytes .exit)) r ⌝ }
+    requires { ⌜
+        (length (now p) ≡ 16) × (n ≡ length (trim (now p))) × (at + 416 < 2 ^ 64) × T (every small (now p)) × T (small block) ⌝ }
+    ensures { λ r. ⌜ Put (now (bytes .entry)) at (spaced (termAt block column (now (p .entry)))) 229 (now (bytes .exit)) r ⌝ }
 {
     if n == 0 {
         return at;
@@ -146,9 +150,10 @@ fn put_term(bytes: &mut [u8], at: usize, p: &[i64], n: usize, block: i64, column
 // The terms of one block, by rising column.
 fn put_block(bytes: &mut [u8], at: usize, numbers: &[i64], lengths: &[usize], block: i64) -> usize
     requires { ⌜
-        (length (now numbers) ≡ 64) × (length (now lengths) ≡ 4) × Lengths 4 (now numbers) (now lengths) × (at + 1664 < 2 ^ 64) ⌝ }
+        (length (now numbers) ≡ 64) × (length (now lengths) ≡ 4) × Lengths 4 (now numbers) (now lengths) × (at + 1664 < 2 ^ 64)
+        × T (every small (now numbers)) × T (small block) ⌝ }
     ensures { λ r. ⌜
-        Put (now (bytes .entry)) at (spaced (numbersOf (blockTerms block 1 (parts 16 4 (now (numbers .entry)))))) 1664
+        Put (now (bytes .entry)) at (spaced (numbersOf (blockTerms block 1 (parts 16 4 (now (numbers .entry)))))) 916
         (now (bytes .exit)) r ⌝ }
 {
     let mut next = at;
@@ -166,9 +171,9 @@ fn put_block(bytes: &mut [u8], at: usize, numbers: &[i64], lengths: &[usize], bl
 fn put_terms(bytes: &mut [u8], at: usize, row: &[i64], lengths: &[usize], l: i64) -> usize
     requires { ⌜
         (length (now row) ≡ 320) × (length (now lengths) ≡ 20) × Lengths 20 (now row) (now lengths) × (natAbs l ≤ 64)
-        × (at + 8320 < 2 ^ 64) ⌝ }
+        × (at + 8320 < 2 ^ 64) × T (every small (now row)) ⌝ }
     ensures { λ r. ⌜
-        Put (now (bytes .entry)) at (spaced (numbersOf (termsFrom l (rowOf (now (row .entry)) .blocks)))) 8320 (now (bytes .exit)) r ⌝ }
+        Put (now (bytes .entry)) at (spaced (numbersOf (termsFrom l (rowOf (now (row .entry)) .blocks)))) 4580 (now (bytes .exit)) r ⌝ }
 {
     let mut next = at;
     let mut b = 0;
@@ -210,8 +215,8 @@ fn term_lengths(lengths: &mut [usize], row: &[i64]) -> usize
 }
 
 fn put_equation(bytes: &mut [u8], at: usize, row: &[i64], l: i64) -> usize
-    requires { ⌜ (length (now row) ≡ 320) × (natAbs l ≤ 64) × (at + 8341 < 2 ^ 64) ⌝ }
-    ensures { λ r. ⌜ Put (now (bytes .entry)) at (line (equationNumbers l (rowOf (now (row .entry))))) 8341 (now (bytes .exit)) r ⌝ }
+    requires { ⌜ (length (now row) ≡ 320) × (natAbs l ≤ 64) × (at + 8341 < 2 ^ 64) × T (every small (now row)) ⌝ }
+    ensures { λ r. ⌜ Put (now (bytes .entry)) at (line (equationNumbers l (rowOf (now (row .entry))))) 4601 (now (bytes .exit)) r ⌝ }
 {
     let mut lengths = [0usize; 20];
     let terms = term_lengths(&mut lengths, row);
@@ -222,8 +227,8 @@ fn put_equation(bytes: &mut [u8], at: usize, row: &[i64], l: i64) -> usize
 
 // "n0 and an equation"
 fn put_relation(bytes: &mut [u8], at: usize, numbers: &[i64], l: i64) -> usize
-    requires { ⌜ (length (now numbers) ≡ 321) × (natAbs l ≤ 64) × (at + 8363 < 2 ^ 64) ⌝ }
-    ensures { λ r. ⌜ Put (now (bytes .entry)) at (line (relationLine l (relationOf (now (numbers .entry))))) 8363 (now (bytes .exit)) r ⌝ }
+    requires { ⌜ (length (now numbers) ≡ 321) × (natAbs l ≤ 64) × (at + 8363 < 2 ^ 64) × T (every small (now numbers)) ⌝ }
+    ensures { λ r. ⌜ Put (now (bytes .entry)) at (line (relationLine l (relationOf (now (numbers .entry))))) 4612 (now (bytes .exit)) r ⌝ }
 {
     let row = &numbers[1..];
     let mut lengths = [0usize; 20];
@@ -235,9 +240,10 @@ fn put_relation(bytes: &mut [u8], at: usize, numbers: &[i64], l: i64) -> usize
 }
 
 fn put_equations(bytes: &mut [u8], at: usize, rows: &[i64], m: usize, l: i64) -> usize
-    requires { ⌜ (m ≤ 4) × (m * 320 ≤ length (now rows)) × (natAbs l ≤ 64) × (at + 33364 < 2 ^ 64) ⌝ }
+    requires { ⌜ (m ≤ 4) × (m * 320 ≤ length (now rows)) × (natAbs l ≤ 64) × (at + 33364 < 2 ^ 64)
+        × SmallParts 320 m (now rows) ⌝ }
     ensures { λ r. ⌜
-        Put (now (bytes .entry)) at (lines (map (equationNumbers l) (rowsOf m (now (rows .entry))))) (m * 8341) (now (bytes .exit)) r ⌝ }
+        Put (now (bytes .entry)) at (lines (map (equationNumbers l) (rowsOf m (now (rows .entry))))) (m * 4601) (now (bytes .exit)) r ⌝ }
 {
     let mut next = at;
     let mut i = 0;
@@ -251,9 +257,10 @@ fn put_equations(bytes: &mut [u8], at: usize, rows: &[i64], m: usize, l: i64) ->
 }
 
 fn put_relations(bytes: &mut [u8], at: usize, relations: &[i64], count: usize, l: i64) -> usize
-    requires { ⌜ (count ≤ 16) × (count * 321 ≤ length (now relations)) × (natAbs l ≤ 64) × (at + 133808 < 2 ^ 64) ⌝ }
+    requires { ⌜ (count ≤ 16) × (count * 321 ≤ length (now relations)) × (natAbs l ≤ 64) × (at + 133808 < 2 ^ 64)
+        × SmallParts 321 count (now relations) ⌝ }
     ensures { λ r. ⌜
-        Put (now (bytes .entry)) at (lines (map (relationLine l) (relationsOf count (now (relations .entry))))) (count * 8363)
+        Put (now (bytes .entry)) at (lines (map (relationLine l) (relationsOf count (now (relations .entry))))) (count * 4612)
         (now (bytes .exit)) r ⌝ }
 {
     let mut next = at;
@@ -300,8 +307,8 @@ fn put_order(bytes: &mut [u8], at: usize, order: &[usize]) -> usize
 }
 
 fn put_sizes(bytes: &mut [u8], at: usize, m: usize, l: i64, t: i64) -> usize
-    requires { ⌜ at + 67 < 2 ^ 64 ⌝ }
-    ensures { λ r. ⌜ Put (now (bytes .entry)) at (line (pos 3 ∷ pos m ∷ l ∷ t ∷ [])) 67 (now (bytes .exit)) r ⌝ }
+    requires { ⌜ (at + 67 < 2 ^ 64) × T (small l) × T (small t) ⌝ }
+    ensures { λ r. ⌜ Put (now (bytes .entry)) at (line (pos 3 ∷ pos m ∷ l ∷ t ∷ [])) 45 (now (bytes .exit)) r ⌝ }
 {
     let after_form = put_byte(bytes, at, 51);
     let after_m = put_next_count(bytes, after_form, m);
@@ -323,7 +330,7 @@ fn put_sheet(
     ensures { λ r. ⌜
         Put (now (bytes .entry)) 0
         (writeSheet (sheetGiven (sizesOf sizes) count (now (columns .entry)) (now (rows .entry)) (now (relations .entry))))
-        (214 + sizes .m * 8341 + count * 8363)
+        (192 + sizes .m * 4601 + count * 4612)
         (now (bytes .exit)) r ⌝ }
 {
     let m = sizes.m;
@@ -364,7 +371,7 @@ pub fn write_sheet(
     let m = sizes.m;
     let n = checks::order_length(order, m);
     let all = &order[..];
-    let longest = 214 + m * 8341 + count * 8363;
+    let longest = 192 + m * 4601 + count * 4612;
     if longest <= bytes.len() {
         let length = put_sheet(bytes, rows, relations, sizes, count, &all[..n]);
         return WriteResult { refusal: 0, length };

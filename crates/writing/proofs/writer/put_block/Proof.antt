@@ -10,6 +10,8 @@ use mir.Val.{toZ, ofZ}
 use mir.Facts.{toZ-ofZ}
 use Rattle.rules.specs.Sheets.{trim, blockTerms}
 use Rattle.rules.specs.Stores.{parts}
+use Rattle.rules.specs.Limits.{small}
+use Rattle.rows.specs.Written.{every-part}
 use Rattle.writing.specs.Writer.{Going, going-first, going-next, going-last, put-same}
 use Rattle.writing.specs.Writer.{spaced, termAt, numbersOf, block-next, block-end}
 use borrow.Author.Needs.{needs}
@@ -20,7 +22,7 @@ abbrev Inv-loop : tie.InvT-loop
 Inv-loop bytes₀ at numbers lengths block next₀ c₀ bytes next c =
     (c ≤ 4)
     × Going bytes₀ at (spaced (numbersOf (blockTerms (toZ w64 block) 1 (parts 16 4 numbers)))) bytes next
-    (spaced (numbersOf (blockTerms (toZ w64 block) (c + 1) (drop c (parts 16 4 numbers))))) (416 * c)
+    (spaced (numbersOf (blockTerms (toZ w64 block) (c + 1) (drop c (parts 16 4 numbers))))) (229 * c)
 
 abbrev μ-loop : tie.MeasureT-loop
 μ-loop bytes₀ at numbers lengths block next₀ c₀ bytes next c = 4 - c
@@ -61,8 +63,13 @@ put-term-requires c κs =
     let start = turn .before .before .before .before in
     let k = turn .before .loop .c in
     let width : 16 ≡ k * 16 + 16 - k * 16 = omega arith in
-    let size = ap (λ n. length (trim (take n (drop (k * 16) (now (start .args .numbers)))))) width in
-    (search needs, start .pre .2 k (turn .loop-test .taken) ∙ size, search needs)
+    let size = ap (λ n. length (trim (take n (drop (k * 16) (now (start .args .numbers)))))) width in (
+      search needs,
+      start .pre .2 k (turn .loop-test .taken) ∙ size,
+      search needs,
+      every-part small (k * 16) (k * 16 + 16 - k * 16) (now (start .args .numbers)) (start .pre .4),
+      rw (toZ-ofZ (start .fits .block)) (start .pre .5),
+    )
 
 add-c : tie.Need-add-c Inv-loop μ-loop
 add-c c = search needs

@@ -29,8 +29,14 @@ slice-aggregate-put-terms c = search needs
 put-terms-requires : tie.Need-put-terms-requires
 put-terms-requires c κs =
     let measured = c .before .before .before .before .before .before .before in
-    let start = measured .before .before .before in
-    (start .pre .0, search needs, measured .term-lengths .ensures .1, rw (toZ-ofZ (start .fits .l)) (start .pre .1), search needs)
+    let start = measured .before .before .before in (
+      start .pre .0,
+      search needs,
+      measured .term-lengths .ensures .1,
+      rw (toZ-ofZ (start .fits .l)) (start .pre .1),
+      search needs,
+      start .pre .3,
+    )
 
 put-byte-requires : tie.Need-put-byte-requires
 put-byte-requires c κs = search needs

@@ -11,6 +11,9 @@ use lib.Seq.{take-all}
 use mir.Syntax.{w64}
 use mir.Val.{SFits, toZ, ofZ}
 use mir.Facts.{toZ-ofZ}
+use Rattle.rules.specs.Limits.{small}
+use Rattle.polynomials.specs.Shift.{every-getD}
+use Rattle.rows.specs.Written.{every-part}
 use Rattle.rules.specs.Numbers.{newline, decimal}
 use Rattle.rules.specs.Sheets.{termsFrom}
 use Rattle.rules.specs.Stores.{parts, rowOf}
@@ -38,7 +41,12 @@ shared-slice-copy-out-put-number : tie.Need-shared-slice-copy-out-put-number
 shared-slice-copy-out-put-number c = search needs
 
 put-number-requires : tie.Need-put-number-requires
-put-number-requires c κs = search needs
+unfolding small
+put-number-requires c κs =
+    let start = c .before .before .before .before .before .before .before in
+    let numbers = now (start .args .numbers) in
+    let read : SFits w64 (getD numbers 0 (pos 0)) = sfits-of (c .put-number-arg2 .given) in
+    (rw (toZ-ofZ read) (every-getD small numbers (pos 0) tt (start .pre .3) 0), search needs)
 
 put-next-count-requires : tie.Need-put-next-count-requires
 put-next-count-requires c κs = search needs
@@ -49,8 +57,14 @@ slice-aggregate-put-terms c = search needs
 put-terms-requires : tie.Need-put-terms-requires
 put-terms-requires c κs =
     let measured = c .before .before .before .before .before .before .before .before .before .before .before .before in
-    let start = measured .before .before .before .before in
-    (search needs, search needs, measured .term-lengths .ensures .1, rw (toZ-ofZ (start .fits .l)) (start .pre .1), search needs)
+    let start = measured .before .before .before .before in (
+      search needs,
+      search needs,
+      measured .term-lengths .ensures .1,
+      rw (toZ-ofZ (start .fits .l)) (start .pre .1),
+      search needs,
+      every-part small 1 (length (now (start .args .numbers)) - 1) (now (start .args .numbers)) (start .pre .3),
+    )
 
 put-byte-requires : tie.Need-put-byte-requires
 put-byte-requires c κs = search needs

@@ -14,7 +14,7 @@ use Rattle.rules.specs.Numbers.{line, lines}
 use Rattle.rules.specs.Sheets.{equationNumbers, relationLine, orderLine}
 use Rattle.rules.specs.Stores.{rowsOf, relationsOf}
 use Rattle.rows.specs.Validity.{sizesOf}
-use Rattle.writing.specs.Writer.{put-same, put-then, put-wide, sheet-bytes}
+use Rattle.writing.specs.Writer.{put-same, put-then, put-wide, small-block, sheet-bytes}
 use Rattle.writing.proofs.writer.put_sheet.Statement.{statement}
 use Rattle.writing.proofs.writer.put_sheet.Tie as tie
 
@@ -37,7 +37,14 @@ module _ (c : tie.After-struct-told) where
   small = rw back-l (c .before .before .before .pre .0 .blocks)
 
 put-sizes-requires : tie.Need-put-sizes-requires
-put-sizes-requires c κs = search needs
+unfolding sizesOf
+put-sizes-requires c κs =
+    let told = c .before .before in
+    let ready = told .before .before .before .pre .0 in (
+      search needs,
+      rw (back-l told) (small-block (l told) (omega (arith, ready .blocks))),
+      rw (back-t told) (small-block (t told) (omega (arith, ready .low))),
+    )
 
 put-count-requires : tie.Need-put-count-requires
 put-count-requires c κs = search needs
@@ -47,7 +54,7 @@ unfolding sizesOf
 put-equations-requires c κs =
     let told = c .before .before .before .before .before .before .before .before .before .before in
     let ready = told .before .before .before .pre .0 in
-    (ready .columns, ready .rows, small told, search needs)
+    (ready .columns, ready .rows, small told, search needs, ready .row-numbers)
 
 put-count-requires-2 : tie.Need-put-count-requires-2
 unfolding sizesOf
@@ -61,7 +68,7 @@ put-relations-requires c κs =
     let after-rows = c .before .before .before .before .before .before .before .before in
     let told = after-rows .before .before .before .before .before .before .before .before .before .before in
     let ready = told .before .before .before .pre .0 in
-    (ready .few, ready .relations, small told, search needs)
+    (ready .few, ready .relations, small told, search needs, ready .relation-numbers)
 
 put-order-requires : tie.Need-put-order-requires
 unfolding sizesOf

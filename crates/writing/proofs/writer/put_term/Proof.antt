@@ -9,6 +9,8 @@ use lib.IntN.{ℤ, pos}
 use lib.ListN.{length, take}
 use lib.Seq.{length-take-le}
 use mir.Facts.{toZ-ofZ}
+use Rattle.rules.specs.Limits.{small}
+use Rattle.rows.specs.Written.{every-take}
 use Rattle.writing.specs.Writer.{trim-le, term-none, term-some, spaced, spaced-then, put-none, put-same, put-wide}
 use borrow.Author.Needs.{needs}
 use Rattle.writing.proofs.writer.put_term.Statement.{statement}
@@ -35,7 +37,9 @@ returns c =
     put-none (ap spaced (term-none (start .args .block) (start .args .column) (p start) (sym (start .pre .1) ∙ c .if1 .taken)))
 
 put-next-requires : tie.Need-put-next-requires
-put-next-requires c κs = search needs
+put-next-requires c κs =
+    let start = c .before .before .before in
+    (rw (toZ-ofZ (start .fits .block)) (start .pre .4), search needs)
 
 put-next-count-requires : tie.Need-put-next-count-requires
 put-next-count-requires c κs = search needs
@@ -51,7 +55,7 @@ slice-aggregate-put-numbers c =
 put-numbers-requires : tie.Need-put-numbers-requires
 put-numbers-requires c κs =
     let t = c .before .before .before .before .before .before .before .before .before .before .before .before .before .before .before .before in
-    omega (arith, size t, few t)
+    (every-take small (n t) (p t) (t .pre .3), omega (arith, size t, few t))
 
 same-length : tie.Need-same-length
 same-length c = search needs
@@ -65,7 +69,7 @@ returns-2 c =
     let args = t .args in
     let column = args .column in
     let coefficients = take (n t) (p t) in
-    let bound : 22 + (21 + (21 + 22 * length coefficients)) ≤ 416 = omega (arith, size t, few t) in
+    let bound : 11 + (21 + (21 + 11 * length coefficients)) ≤ 229 = omega (arith, size t, few t) in
     put-wide
     (put-same
     (spaced-then (_ ∷ []) (pos column ∷ pos (n t) ∷ coefficients) (blocked .put-next .ensures)

@@ -1,21 +1,23 @@
 -- `writing::writer::put_terms` meets its contract. The loop's invariant: the terms from block l - b down are still to be written.
 -- Assumes nothing.
-use mathlib.Core.Path.{_≡_, sym, _∙_, ap, ap₂}
+use mathlib.Core.Path.{_≡_, sym, _∙_, ap, ap₂, subst}
 use mathlib.Core.List.{List}
 use Prim.Native.Nat.{ℕ, _+_, _*_, _-_, _≤_}
 use native.Mathlib.Omega.{arith}
 use denote.Ref.{now}
-use lib.Dec.{lit<}
+use lib.Dec.{T, lit<}
 use lib.IntN.{ℤ, pos, natAbs, _-ℤ_, +ℤ-idr}
 use lib.ListN.{length, take, drop, getD}
 use mir.Syntax.{w64}
 use mir.Val.{SFits, toZ, ofZ}
 use mir.Facts.{toZ-ofZ}
 use Rattle.integers.specs.Ranges.{sfits-size}
+use Rattle.rules.specs.Limits as Limits
+use Rattle.rows.specs.Written.{every-part}
 use Rattle.rules.specs.Sheets.{trim, blockTerms, termsFrom}
 use Rattle.rules.specs.Stores.{parts, rowOf}
 use Rattle.writing.specs.Writer.{Going, going-first, going-next, going-last, put-same}
-use Rattle.writing.specs.Writer.{spaced, numbersOf, block-size, lengths-part, terms-next, terms-end}
+use Rattle.writing.specs.Writer.{spaced, numbersOf, block-size, small-block, lengths-part, terms-next, terms-end}
 use borrow.Author.Needs.{needs}
 use Rattle.writing.proofs.writer.put_terms.Statement.{statement}
 use Rattle.writing.proofs.writer.put_terms.Tie as tie
@@ -24,7 +26,7 @@ abbrev Inv-loop : tie.InvT-loop
 Inv-loop bytes₀ at row lengths l next₀ b₀ bytes next b =
     (b ≤ 5)
     × Going bytes₀ at (spaced (numbersOf (termsFrom (toZ w64 l) (rowOf row .blocks)))) bytes next
-    (spaced (numbersOf (termsFrom (toZ w64 l -ℤ pos b) (drop b (rowOf row .blocks))))) (1664 * b)
+    (spaced (numbersOf (termsFrom (toZ w64 l -ℤ pos b) (drop b (rowOf row .blocks))))) (916 * b)
 
 abbrev μ-loop : tie.MeasureT-loop
 μ-loop bytes₀ at row lengths l next₀ b₀ bytes next b = 5 - b
@@ -54,6 +56,9 @@ module _ (c : tie.After-put-block-arg3 Inv-loop μ-loop) where
 
   fits : SFits w64 (l -ℤ pos b)
   fits = sfits-size (l -ℤ pos b) {k = 68} (block-size l b small (omega arith)) (lit< tt)
+
+  read : toZ w64 (ofZ w64 (l -ℤ toZ w64 b)) ≡ l -ℤ pos b
+  read = ap (λ s. toZ w64 (ofZ w64 (l -ℤ s))) count ∙ toZ-ofZ fits
 
 loop-holds : tie.Need-loop-holds Inv-loop μ-loop
 loop-holds c =
@@ -113,6 +118,8 @@ put-block-requires c κs =
           ∙ lengths-part row lengths (b c) (c .before .before .before .loop-test .taken) (start c .pre .2) i lt
           ∙ ap (λ n. length (trim (take 16 (drop (i * 16) (take n (drop (b c * 64) row)))))) (sym (row-width c)),
       search needs,
+      every-part Limits.small (b c * 64) (b c * 64 + 64 - b c * 64) row (start c .pre .5),
+      subst (λ s. T (Limits.small s)) (sym (read c)) (small-block _ (block-size (l c) (b c) (small c) (omega arith))),
     )
 
 add-b : tie.Need-add-b Inv-loop μ-loop
@@ -130,7 +137,7 @@ loop-again c =
       omega arith,
       going-next (turn .before .loop .inv .1) (terms-next (l arg) row (b arg) (turn .loop-test .taken))
           (put-same (c .before .before .put-block .ensures)
-          (ap₂ written (ap (λ s. toZ w64 (ofZ w64 (l arg -ℤ s))) (count arg) ∙ toZ-ofZ (fits arg)) (row-width arg)))
+          (ap₂ written (read arg) (row-width arg)))
           (omega arith),
     )
 
