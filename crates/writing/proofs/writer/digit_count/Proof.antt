@@ -6,7 +6,6 @@ use native.Mathlib.Nat.{div-lt-self}
 use native.Mathlib.Omega.{arith}
 use lib.Dec.{lit<}
 use lib.ListN.{length}
-use borrow.Author.Needs.{needs}
 use Rattle.writing.specs.Writer.{digitsOf, digits-one, digits-more, digits-length}
 use Rattle.writing.proofs.writer.digit_count.Statement.{statement}
 use Rattle.writing.proofs.writer.digit_count.Tie as tie

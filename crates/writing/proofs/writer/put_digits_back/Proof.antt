@@ -1,6 +1,6 @@
 -- `writing::writer::put_digits_back` meets its contract. The loop's invariant: the digits of the rest are still to be stored.
 -- Assumes nothing.
-use mathlib.Core.Path.{_≡_, refl, sym, _∙_, ap, ap₂}
+use mathlib.Core.Path.{_≡_, refl, sym, _∙_, ap}
 use Prim.Native.Nat.{_+_, _-_, _/_, _%_, _≤_}
 use native.Mathlib.Nat.{div-lt-self}
 use native.Mathlib.Omega.{arith}
@@ -11,8 +11,6 @@ use borrow.Author.Needs.{needs}
 use Rattle.writing.specs.Writer.{digitsOf, digits-one, digits-more, digits-back, put-length}
 use Rattle.writing.proofs.writer.put_digits_back.Statement.{statement}
 use Rattle.writing.proofs.writer.put_digits_back.Tie as tie
-use Rattle.writing.proofs.writer.put_digits_back.Reads as reads
-use Rattle.writing.proofs.writer.put_digits_back.Lts as lts
 
 abbrev Inv-loop : tie.InvT-loop
 Inv-loop bytes₀ at n end i₀ rest₀ bytes i rest =
