@@ -4,38 +4,41 @@
 -- Main definitions
 --   Put, Going        what a writing function does; what a loop that writes has still to do
 --   digitsOf, spaced  the digits of a whole number; numbers with a space before each
---   termAt, numbersOf, nonzeroCount   the numbers of one term, of several, and how many there are
+--   termAt, numbersOf, nonzeroCount, Lengths   the numbers of one term, of several, how many there are, and their lengths
 --   sheetGiven        the sheet of a system in stores, with the columns that are written
 --
 -- Main statements
 --   put-then          two runs of bytes stored one after the other are one run
 --   going-first, going-next, going-last   a loop that stores a run part by part
---   digits-last       the last digit of a number is written after the digits of its tenth
+--   digits-last, digits-back   the last digit of a number comes after the digits of its tenth, and may be stored before them
 --   line-is           a line is its first number, the others spaced, and byte 10
---   trim-none, trim-length, trim-take   how many coefficients a term has, and which
+--   trim-nonzero, trim-more, trim-take   how many coefficients a term has, and which
 --   block-next, terms-next, lines-next   one term, one block, one line more
 --   term-count        the number of terms of a row is that of its nonzero polynomials
 --   equation-line, relation-line, order-line, count-line, sizes-line   the lines of a sheet, as they are written
 --   sheet-bytes       the bytes of a sheet, section by section
 use mathlib.Core.Path.{_≡_, refl, sym, _∙_, ap, ap₂, subst}
-use mathlib.Core.Bool.{Bool, true, false, cond}
+use mathlib.Core.Bool.{Bool, true, false, and-true, cond}
 use mathlib.Core.Logic.{_≢_}
 use mathlib.Core.List.{List, [], _∷_, _++_, map, flatten, append-assoc, append-nil}
 use Prim.Native.Nat.{ℕ, zero, suc, _+_, _-_, _*_, _/_, _%_, _^_, _≤_, _<_}
 use native.Mathlib.Nat.{zero-add, add-zero, suc-add, add-suc, pow-suc, div-lt-self, div-lt-iff-lt-mul}
-use native.Mathlib.Nat.{lt-trans, le-trans, le-of-suc-le-suc, not-suc-le-zero}
+use native.Mathlib.Nat.{lt-trans, le-trans, lt-of-le-of-lt, le-of-suc-le-suc, not-suc-le-zero}
 use native.Mathlib.Numerals.{add-one}
 use native.Mathlib.Omega.{arith}
+use borrow.Author.Count.{below-more}
 use borrow.Author.Tests.{ltb-true, ltb-false, lt-ltb, le-ltb, ne-eqb}
-use lib.Dec.{T, ltb, eqb, eqb·suc-zero, lit<}
+use lib.Dec.{T, ltb, eqb, eqb·suc-zero, leb→le, le→leb, lit<, lit≤}
 use lib.IntN.{ℤ, pos, negsuc, natAbs, negℤ, predℤ, _+ℤ_, _-ℤ_, negℤ-sucℤ, +ℤ-predℤ}
 use lib.Signed.{ltZ}
-use lib.ListN.{length, take, drop, getD, length-append, length-take, drop-of-length-le}
-use lib.Seq.{sets, length-sets, drop-cons}
+use lib.ListN.{length, take, drop, getD, set, length-append, length-take, drop-of-length-le}
+use lib.Seq.{sets, set-comm, set-out, length-sets, drop-cons, take-suc, length-take-le, take-take, drop-drop}
+use lib.Seq.{getD-take, getD-drop, getD-set-same, getD-set-other}
 use Rattle.algebra.specs.Integers.{natAbs-+ℤ, natAbs-negℤ}
-use Rattle.algebra.specs.Polynomials.{Polynomial, coeff, isZero, isZero-cons, isZero-coeff}
-use Rattle.rules.specs.Limits.{coefficientCount}
-use Rattle.rules.specs.Rows.{Block}
+use Rattle.algebra.specs.Polynomials.{Polynomial, coeff, isZero, isZero-cons, isZero-coeff, isZero-append}
+use Rattle.rules.specs.Lists.{drop-take}
+use Rattle.rules.specs.Limits.{bound, coefficientCount, small}
+use Rattle.rules.specs.Rows.{Block, every}
 use Rattle.rules.specs.Stores.{Sizes, parts, rowOf, rowsOf, relationOf, relationsOf}
 use Rattle.rules.specs.Layout.{length-rowsOf, length-relationsOf, parts-length, getD-parts}
 use Rattle.rules.specs.Sheets.{Sheet, Term, trim, blockTerms, termsFrom, termNumbers}
@@ -55,6 +58,17 @@ sets-append : (d : List ℕ) (at : ℕ) (xs ys : List ℕ) → sets (sets d at x
 sets-append d at [] ys = ap (λ n. sets d n ys) (add-zero at)
 sets-append d at (x ∷ xs) ys =
     ap (λ n. sets (sets d at (x ∷ xs)) n ys) (add-suc at (length xs) ∙ sym (suc-add at (length xs))) ∙ sets-append _ (suc at) xs ys
+
+-- Nothing is stored past the end.
+pub sets-out : (d : List ℕ) (at : ℕ) (xs : List ℕ) → length d ≤ at → sets d at xs ≡ d
+sets-out d at [] h = refl
+sets-out d at (x ∷ xs) h = ap (λ l. sets l (suc at) xs) (set-out d at x h) ∙ sets-out d (suc at) xs (omega arith)
+
+-- A store past a run may come before it.
+sets-later : (d : List ℕ) (at : ℕ) (xs : List ℕ) (i b : ℕ) → at + length xs ≤ i → set (sets d at xs) i b ≡ sets (set d i b) at xs
+sets-later d at [] i b h = refl
+sets-later d at (x ∷ xs) i b h =
+    sets-later (set d at x) (suc at) xs i b (omega arith) ∙ ap (λ l. sets l (suc at) xs) (set-comm d at i x b (λ e. omega arith))
 
 pub put-then : {d e f : List ℕ} {at j k next last : ℕ} {xs ys : List ℕ} → Put d at xs j e next → Put e next ys k f last
     → Put d at (xs ++ ys) (j + k) f last
@@ -159,6 +173,16 @@ digits-last n h =
     (within-calls n (suc (n / 10)) (n / 10) ((48 + n % 10) ∷ []) (div-lt-self {n = n} {k = 10} (omega arith) (omega arith)) (omega arith)
     ∙ within-append (suc (n / 10)) (n / 10) [] ((48 + n % 10) ∷ []))
 
+pub digits-more : (n : ℕ) → 10 ≤ n → length (digitsOf n) ≡ length (digitsOf (n / 10)) + 1
+digits-more n h = ap length (digits-last n h) ∙ length-append (digitsOf (n / 10)) _
+
+-- The last digit may be stored first.
+pub digits-back : (d : List ℕ) (at n : ℕ) → 10 ≤ n
+    → sets (set d (at + length (digitsOf (n / 10))) (48 + n % 10)) at (digitsOf (n / 10)) ≡ sets d at (digitsOf n)
+digits-back d at n h =
+    sym (sets-later d at (digitsOf (n / 10)) _ _ (omega arith)) ∙ sets-append d at (digitsOf (n / 10)) _
+    ∙ ap (sets d at) (sym (digits-last n h))
+
 -- A number below 10^(k + 1) has at most k + 1 digits.
 within-length : (i k n : ℕ) (w : List ℕ) → n < 10 ^ suc k → length (decimalWithin i n w) ≤ suc k + length w
 unfolding decimalWithin
@@ -176,6 +200,24 @@ unfolding digitsOf
 digits-length n h = within-length (suc n) 19 n [] (lt-trans h (lit< tt))
 
 -- ---- numbers
+
+nine-digits : (n : ℕ) → n ≤ bound → length (digitsOf n) ≤ 9
+unfolding digitsOf
+nine-digits n h = within-length (suc n) 8 n [] (lt-of-le-of-lt h (lit< tt))
+
+-- A number within ±C has at most nine digits.
+pub decimal-length : (a : ℤ) → T (small a) → length (decimal a) ≤ 10
+unfolding decimal digitsOf small
+decimal-length (pos n) h = omega (arith, nine-digits n (leb→le n bound h))
+decimal-length (negsuc n) h = omega (arith, nine-digits (suc n) (leb→le (suc n) bound h))
+
+pub small-block : (a : ℤ) → natAbs a ≤ 68 → T (small a)
+unfolding small
+small-block a h = le→leb (natAbs a) bound (le-trans h (lit≤ tt))
+
+-- The first n parts of k numbers are within ±C.
+abbrev pub SmallParts : ℕ → ℕ → List ℤ → Type 0
+SmallParts k n l = (i : ℕ) → i < n → T (every small (take k (drop (i * k) l)))
 
 pub decimal-negative : (a : ℤ) → ltZ a (pos 0) ≡ true → decimal a ≡ minus ∷ digitsOf (natAbs a)
 unfolding decimal digitsOf
@@ -254,9 +296,6 @@ trim-length (a ∷ p) (suc n) h ne z =
     nonzero-length (isZero (a ∷ p)) a (trim p) (suc n) (λ t. ne (isZero-coeff p (isZero-cons a p .0 t .1) n))
     (trim-length p n (le-of-suc-le-suc h) ne z)
 
-pub trim-zero : (p : Polynomial) → T (isZero p) → length (trim p) ≡ 0
-trim-zero p h = ap length (trim-none p h)
-
 pub isZero-trim : (p : Polynomial) → isZero p ≡ eqb (length (trim p)) 0
 unfolding trim isZero
 isZero-trim [] = refl
@@ -278,9 +317,23 @@ trim-take (a ∷ p) = cases (isZero (a ∷ p)) (trim-take p)
 pub trim-le : (p : Polynomial) → length (trim p) ≤ length p
 trim-le p = subst (λ q. length q ≤ length p) (trim-take p) (rw length-take (omega arith))
 
--- One coefficient more from the top.
-pub drop-zero : (p : Polynomial) (n : ℕ) → n < length p → getD p n (pos 0) ≡ pos 0 → T (isZero (drop (suc n) p)) → T (isZero (drop n p))
-drop-zero p n h e z = rw (drop-cons p n (pos 0) h) (isZero-cons (getD p n (pos 0)) (drop (suc n) p) .1 (e, z))
+-- One coefficient more: a nonzero one is the last that is left, and a zero changes nothing.
+pub trim-nonzero : (p : Polynomial) (i : ℕ) → i < length p → getD p i (pos 0) ≢ pos 0 → length (trim (take (suc i) p)) ≡ suc i
+unfolding isZero
+trim-nonzero p i h ne =
+    let size = length-take-le (suc i) p h in
+    trim-length (take (suc i) p) i (omega arith) (rw (getD-take (suc i) p i (pos 0) (omega arith)) ne)
+    (rw (drop-of-length-le (take (suc i) p) {i = suc i} (omega arith)) tt)
+
+trim-last : (p : Polynomial) → trim (p ++ (pos 0 ∷ [])) ≡ trim p
+unfolding trim isZero
+trim-last [] = refl
+trim-last (b ∷ p) = ap₂ (λ t q. cond t [] (b ∷ q)) (isZero-append (b ∷ p) (pos 0 ∷ []) ∙ and-true (isZero (b ∷ p))) (trim-last p)
+
+pub trim-more : (p : Polynomial) (i : ℕ) → i < length p → getD p i (pos 0) ≡ pos 0
+    → length (trim (take (suc i) p)) ≡ length (trim (take i p))
+trim-more p i h e =
+    ap (λ q. length (trim q)) (take-suc p i (pos 0) h ∙ ap (λ a. take i p ++ (a ∷ [])) e) ∙ ap length (trim-last (take i p))
 
 -- ---- the numbers of terms
 
@@ -402,6 +455,38 @@ unfolding nonzeroCount
 count-some l i n h e some =
     let part = take 16 (drop (i * 16) l) in
     rw (parts-next 16 20 l i h, isZero-trim part, ne-eqb (length (trim part)) 0 (λ z. some (e ∙ z)))
+
+-- The number of coefficients of each of the first n polynomials that l holds.
+abbrev pub Lengths : ℕ → List ℤ → List ℕ → Type 0
+Lengths n l lengths = (i : ℕ) → i < n → getD lengths i 0 ≡ length (trim (take 16 (drop (i * 16) l)))
+
+-- Those of one block.
+pub lengths-part : (row : List ℤ) (lengths : List ℕ) (b : ℕ) → b < 5 → Lengths 20 row lengths
+    → Lengths 4 (take 64 (drop (b * 64) row)) (take 4 (drop (b * 4) lengths))
+lengths-part row lengths b h all c g =
+    getD-take 4 (drop (b * 4) lengths) c 0 g ∙ getD-drop (b * 4) lengths c 0 ∙ all (b * 4 + c) (omega arith)
+    ∙ ap (λ p. length (trim p)) (sym polynomial)
+  where
+    whole : 64 ≡ c * 16 + (64 - c * 16)
+    whole = omega arith
+
+    place : b * 64 + c * 16 ≡ (b * 4 + c) * 16
+    place = omega arith
+
+    polynomial : take 16 (drop (c * 16) (take 64 (drop (b * 64) row))) ≡ take 16 (drop ((b * 4 + c) * 16) row)
+    polynomial =
+        ap (λ n. take 16 (drop (c * 16) (take n (drop (b * 64) row)))) whole
+        ∙ ap (take 16) (drop-take (c * 16) (64 - c * 16) (drop (b * 64) row))
+        ∙ take-take 16 (64 - c * 16) (drop (c * 16) (drop (b * 64) row)) (omega arith)
+        ∙ ap (take 16) (drop-drop (c * 16) (b * 64) row)
+        ∙ ap (λ n. take 16 (drop n row)) place
+
+-- One length more.
+pub lengths-next : (l : List ℤ) (lengths : List ℕ) (i n : ℕ) → Lengths i l lengths → i < length lengths
+    → n ≡ length (trim (take 16 (drop (i * 16) l))) → Lengths (i + 1) l (set lengths i n)
+lengths-next l lengths i n all h e =
+    below-more (λ k. getD (set lengths i n) k 0 ≡ length (trim (take 16 (drop (k * 16) l)))) i
+    (λ k lt. getD-set-other lengths i k n 0 (λ same. omega arith) ∙ all k lt) (getD-set-same lengths i n 0 h ∙ e)
 
 -- ---- one term, and one block, more
 

@@ -13,22 +13,28 @@
 use mathlib.Core.Path.{_≡_, refl, sym, _∙_, ap}
 use mathlib.Core.Bool.{Bool, true, false, _&&_, cond}
 use mathlib.Core.Logic.{_↔_, _≢_}
-use mathlib.Core.List.{List, [], _∷_, _++_}
-use Prim.Native.Nat.{ℕ, zero, suc, _*_, _≤_, _<_}
+use mathlib.Core.List.{List, [], _++_, map}
+use Prim.Native.Nat.{ℕ, zero, suc, _+_, _*_, _≤_, _<_}
 use native.Mathlib.Nat.{zero-add, suc-ne-zero}
 use native.Mathlib.Omega.{arith}
 use borrow.Author.Tests.{le-leb, lt-leb}
 use lib.Dec.{T, eqb}
-use lib.IntN.{ℤ, natAbs}
-use lib.ListN.{length, take, drop}
-use lib.Seq.{sets, sets-eq}
+use lib.IntN.{ℤ, pos, natAbs}
+use lib.ListN.{length, take, drop, getD, length-take, length-drop}
+use lib.Seq.{sets, sets-eq, drop-cons}
 use Rattle.algebra.specs.Order.{≤ℤ-trans, natAbs-≤-iff}
-use Rattle.rules.specs.Rows.{every}
-use Rattle.rules.specs.Stores.{Sizes, relationNeed, rowNeed, sizesRight, countRight, checkStores}
-use Rattle.rules.specs.Layout.{StoresRight, SizeBounds, checkStores-zero, size-bounds, countRight-iff, lengthsRight-iff}
+use Rattle.algebra.specs.Polynomials.{T-&&}
+use Rattle.rules.specs.Limits.{small}
+use Rattle.rules.specs.Rows.{every, smallRow}
+use Rattle.rules.specs.Stores.{Sizes, span, parts, rowOf, rowsOf, relationOf, relationsOf, relationNeed, rowNeed}
+use Rattle.rules.specs.Stores.{sizesRight, countRight, unusedZero, rowRight, relationRight, checkStores}
+use Rattle.rules.specs.Layout.{StoresRight, NumbersRight, SizeBounds, checkStores-zero, numbersRight-iff, size-bounds}
+use Rattle.rules.specs.Layout.{countRight-iff, lengthsRight-iff}
+use Rattle.rows.specs.Flat.{smallRow-rowOf}
+use Rattle.rows.specs.Written.{every-drop}
 use Rattle.rules.specs.Calls.{overwrite}
 use Rattle.rules.specs.Sheets.{writeSheet}
-use Rattle.writing.specs.Writer.{sheetGiven}
+use Rattle.writing.specs.Writer.{SmallParts, held-next, sheetGiven}
 use Rattle.writing.specs.declared.writer.WriteResult as declared
 use Rattle.rules.specs.SheetCalls.{WriteCall, orderRight, orderGiven, checkWrite, sheetOf, unwritten, written, afterWriteCheck, writeCall}
 
@@ -51,6 +57,31 @@ pub record Checked (z : Sizes) (count : ℕ) (rowStore relationStore : List ℤ)
   pub blocks : natAbs (z .l) ≤ 64
   pub few : count ≤ 16
   pub relations : count * 321 ≤ length relationStore
+  pub low : natAbs (z .t) ≤ 64
+  pub row-numbers : SmallParts 320 (z .m) rowStore
+  pub relation-numbers : SmallParts 321 count relationStore
+
+-- What all parts of a store pass, part i passes.
+held-every : {B : Type 0} (t : B → Bool) (f : List ℤ → B) (k n : ℕ) (l : List ℤ) → T (every t (map f (parts k n l)))
+    → (i : ℕ) → i < n → T (t (f (take k (drop (i * k) l))))
+unfolding every
+held-every t f k n l h i g =
+    T-&& (t (f (take k (drop (i * k) l)))) (every t (drop (i + 1) (map f (parts k n l)))) .0
+    (rw (held-next f k n l i g) at (every-drop t i (map f (parts k n l)) h))
+    .0
+
+row-small : (z : Sizes) (part : List ℤ) → length part ≡ 320 → T (rowRight z (rowOf part)) → T (every small part)
+unfolding rowRight
+row-small z part h right =
+    rw (smallRow-rowOf part h) at (T-&& (smallRow (rowOf part)) (unusedZero (z .m) (span z) (rowOf part)) .0 right .0)
+
+relation-small : (z : Sizes) (part : List ℤ) → length part ≡ 321 → T (relationRight z (relationOf part)) → T (every small part)
+unfolding relationRight relationOf every
+relation-small z part h right =
+    let both = T-&& (small (getD part 0 (pos 0))) (rowRight z (rowOf (drop 1 part))) .0 right in
+    rw (drop-cons part 0 (pos 0) (omega arith))
+    (T-&& (small (getD part 0 (pos 0))) (every small (drop 1 part)) .1
+    (both .0, row-small z (drop 1 part) (rw length-drop (omega arith)) (both .1)))
 
 module _ (z : Sizes) (count : ℕ) (order : List ℕ) (rowStore relationStore : List ℤ) where
   -- A wrong order argument is a wrong size.
@@ -80,24 +111,37 @@ module _ (z : Sizes) (count : ℕ) (order : List ℕ) (rowStore relationStore : 
       chosen = chosen-zero (orderRight (z .m) order) (checkStores z count rowStore relationStore)
 
   pub checked : checkWrite z count order rowStore relationStore ≡ 0 → Checked z count rowStore relationStore
-  unfolding rowNeed
+  unfolding rowNeed rowsOf relationsOf
   checked e =
       record {
         columns = sizes .few;
         rows = long .0;
         blocks = natAbs-≤-iff (z .l) .1 (≤ℤ-trans (sizes .low) (sizes .ordered), sizes .high);
         few = countRight-iff count .0 (right .few);
-        relations = omega (arith, long .1, countRight-iff count .0 (right .few));
+        relations = places;
+        low = natAbs-≤-iff (z .t) .1 (sizes .low, ≤ℤ-trans (sizes .ordered) (sizes .high));
+        row-numbers = λ i h.
+            row-small z (take 320 (drop (i * 320) rowStore)) (simp (length-take, length-drop) (omega (arith, long .0)))
+            (held-every (rowRight z) rowOf 320 (z .m) rowStore (numbers .rows-right) i h);
+        relation-numbers = λ i h.
+            relation-small z (take 321 (drop (i * 321) relationStore)) (simp (length-take, length-drop) (omega (arith, places)))
+            (held-every (relationRight z) relationOf 321 count relationStore (numbers .relations-right) i h);
       }
     where
       right : StoresRight z count rowStore relationStore
       right = checkWrite-iff .0 e .1
+
+      numbers : NumbersRight z count rowStore relationStore
+      numbers = numbersRight-iff z count rowStore relationStore .0 (right .numbers)
 
       sizes : SizeBounds z
       sizes = size-bounds z (right .sizes)
 
       long : (rowNeed (z .m) ≤ length rowStore) × (relationNeed ≤ length relationStore)
       long = lengthsRight-iff (z .m) rowStore relationStore .0 (right .lengths)
+
+      places : count * 321 ≤ length relationStore
+      places = omega (arith, long .1, countRight-iff count .0 (right .few))
 
 -- ---- the call
 
@@ -149,8 +193,3 @@ written-whole bytes byteStore h =
   where
     whole : sets byteStore 0 bytes ≡ bytes ++ drop (length bytes) byteStore
     whole = sets-eq bytes byteStore 0 (omega arith) ∙ ap (λ n. bytes ++ drop n byteStore) (zero-add (length bytes))
-
--- An empty part stays empty.
-pub sets-none : (i : ℕ) (bytes : List ℕ) → sets [] i bytes ≡ []
-sets-none i [] = refl
-sets-none i (b ∷ bytes) = sets-none (suc i) bytes

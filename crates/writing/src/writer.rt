@@ -1,5 +1,5 @@
 // Writing a sheet. Each writing function stores its bytes from a place on, as far as the store goes, counts them all and gives
-// the next place: called on an empty part of the store it only counts, so that nothing is written before the length is known.
+// the next place: called on an empty part of the store it only counts, so that nothing is written before it is known to fit.
 mod checks;
 
 ghost use mathlib.Core.Path.{_≡_};
@@ -7,10 +7,14 @@ ghost use mathlib.Core.List.{[], _∷_, map};
 ghost use Prim.Native.Nat.{_+_, _*_, _^_, _≤_, _<_};
 ghost use Rattle.rules.specs.Numbers.{decimal, line, lines};
 ghost use lib.IntN.{pos, natAbs};
+ghost use lib.Dec.{T};
 ghost use lib.ListN.{length};
+ghost use lib.Seq.{sets};
+ghost use Rattle.rules.specs.Limits.{small};
+ghost use Rattle.rules.specs.Rows.{every};
 ghost use Rattle.rules.specs.Sheets.{trim, blockTerms, termsFrom, equationNumbers, relationLine, orderLine, writeSheet};
 ghost use Rattle.rules.specs.Stores.{parts, rowOf, rowsOf, relationOf, relationsOf};
-ghost use Rattle.writing.specs.Writer.{Put, digitsOf, spaced, termAt, numbersOf, nonzeroCount, sheetGiven};
+ghost use Rattle.writing.specs.Writer.{Put, digitsOf, spaced, SmallParts, Lengths, termAt, numbersOf, nonzeroCount, sheetGiven};
 ghost use Rattle.writing.specs.WriterChecks.{Checked, callOf};
 ghost use Rattle.rules.specs.SheetCalls.{writeCall};
 ghost use Rattle.rows.specs.Validity.{sizesOf};
@@ -26,23 +30,51 @@ pub fn put_byte(bytes: &mut [u8], at: usize, b: u8) -> usize
     next
 }
 
-// The digits of a number, those of its tenth first.
+fn digit_count(n: u64) -> usize
+    ensures { λ r. ⌜ r ≡ length (digitsOf n) ⌝ }
+{
+    let mut count = 1;
+    let mut rest = n;
+    while 10 <= rest {
+        rest = rest / 10;
+        count += 1;
+    }
+    count
+}
+
+// The digits of a number, from the last back.
+fn put_digits_back(bytes: &mut [u8], at: usize, n: u64, end: usize)
+    requires { ⌜ end ≡ at + length (digitsOf n) ⌝ }
+    ensures { λ _. ⌜ now (bytes .exit) ≡ sets (now (bytes .entry)) at (digitsOf n) ⌝ }
+{
+    let mut i = end;
+    let mut rest = n;
+    while 10 <= rest {
+        i -= 1;
+        put_byte(bytes, i, 48 + (rest % 10) as u8);
+        rest = rest / 10;
+    }
+    put_byte(bytes, at, 48 + rest as u8);
+}
+
+// Most numbers of a sheet have one digit. Past the store's end digits are only counted.
 pub fn put_digits(bytes: &mut [u8], at: usize, n: u64) -> usize
     requires { ⌜ at + 20 < 2 ^ 64 ⌝ }
     ensures { λ r. ⌜ Put (now (bytes .entry)) at (digitsOf n) 20 (now (bytes .exit)) r ⌝ }
 {
-    let last = 48 + (n % 10) as u8;
     if n < 10 {
-        put_byte(bytes, at, last)
-    } else {
-        let next = put_digits(bytes, at, n / 10);
-        put_byte(bytes, next, last)
+        return put_byte(bytes, at, 48 + n as u8);
     }
+    let end = at + digit_count(n);
+    if at < bytes.len() {
+        put_digits_back(bytes, at, n, end);
+    }
+    end
 }
 
 fn put_number(bytes: &mut [u8], at: usize, a: i64) -> usize
-    requires { ⌜ at + 21 < 2 ^ 64 ⌝ }
-    ensures { λ r. ⌜ Put (now (bytes .entry)) at (decimal a) 21 (now (bytes .exit)) r ⌝ }
+    requires { ⌜ T (small a) × (at + 21 < 2 ^ 64) ⌝ }
+    ensures { λ r. ⌜ Put (now (bytes .entry)) at (decimal a) 10 (now (bytes .exit)) r ⌝ }
 {
     let size = integers::magnitude(a);
     if a < 0 {
@@ -55,8 +87,8 @@ fn put_number(bytes: &mut [u8], at: usize, a: i64) -> usize
 
 // A number of a line past the first.
 fn put_next(bytes: &mut [u8], at: usize, a: i64) -> usize
-    requires { ⌜ at + 22 < 2 ^ 64 ⌝ }
-    ensures { λ r. ⌜ Put (now (bytes .entry)) at (spaced (a ∷ [])) 22 (now (bytes .exit)) r ⌝ }
+    requires { ⌜ T (small a) × (at + 22 < 2 ^ 64) ⌝ }
+    ensures { λ r. ⌜ Put (now (bytes .entry)) at (spaced (a ∷ [])) 11 (now (bytes .exit)) r ⌝ }
 {
     let next = put_byte(bytes, at, 32);
     put_number(bytes, next, a)
@@ -71,9 +103,9 @@ fn put_next_count(bytes: &mut [u8], at: usize, n: usize) -> usize
 }
 
 fn put_numbers(bytes: &mut [u8], at: usize, numbers: &[i64]) -> usize
-    requires { ⌜ at + 22 * length (now numbers) < 2 ^ 64 ⌝ }
+    requires { ⌜ T (every small (now numbers)) × (at + 22 * length (now numbers) < 2 ^ 64) ⌝ }
     ensures { λ r. ⌜
-        Put (now (bytes .entry)) at (spaced (now (numbers .entry))) (22 * length (now (numbers .entry))) (now (bytes .exit)) r ⌝ }
+        Put (now (bytes .entry)) at (spaced (now (numbers .entry))) (11 * length (now (numbers .entry))) (now (bytes .exit)) r ⌝ }
 {
     let mut next = at;
     let mut i = 0;
@@ -84,26 +116,28 @@ fn put_numbers(bytes: &mut [u8], at: usize, numbers: &[i64]) -> usize
     next
 }
 
-// The number of coefficients up to the last nonzero one.
+// The number of coefficients up to the last nonzero one. All are looked at: a way out of the loop would cost more than it spares.
 fn trimmed(p: &[i64]) -> usize
+    requires { ⌜ length (now p) ≡ 16 ⌝ }
     ensures { λ r. ⌜ r ≡ length (trim (now (p .entry))) ⌝ }
 {
-    let mut n = p.len();
-    while 0 < n {
-        if p[n - 1] != 0 {
-            return n;
+    let mut n = 0;
+    let mut i = 0;
+    while i < 16 {
+        if p[i] != 0 {
+            n = i + 1;
         }
-        n -= 1;
+        i += 1;
     }
-    0
+    n
 }
 
 // One term; nothing for a zero polynomial.
-fn put_term(bytes: &mut [u8], at: usize, p: &[i64], block: i64, column: usize) -> usize
-    requires { ⌜ (length (now p) ≡ 16) × (at + 416 < 2 ^ 64) ⌝ }
-    ensures { λ r. ⌜ Put (now (bytes .entry)) at (spaced (termAt block column (now (p .entry)))) 416 (now (bytes .exit)) r ⌝ }
+fn put_term(bytes: &mut [u8], at: usize, p: &[i64], n: usize, block: i64, column: usize) -> usize
+    requires { ⌜
+        (length (now p) ≡ 16) × (n ≡ length (trim (now p))) × (at + 416 < 2 ^ 64) × T (every small (now p)) × T (small block) ⌝ }
+    ensures { λ r. ⌜ Put (now (bytes .entry)) at (spaced (termAt block column (now (p .entry)))) 229 (now (bytes .exit)) r ⌝ }
 {
-    let n = trimmed(p);
     if n == 0 {
         return at;
     }
@@ -114,10 +148,12 @@ fn put_term(bytes: &mut [u8], at: usize, p: &[i64], block: i64, column: usize) -
 }
 
 // The terms of one block, by rising column.
-fn put_block(bytes: &mut [u8], at: usize, numbers: &[i64], block: i64) -> usize
-    requires { ⌜ (length (now numbers) ≡ 64) × (at + 1664 < 2 ^ 64) ⌝ }
+fn put_block(bytes: &mut [u8], at: usize, numbers: &[i64], lengths: &[usize], block: i64) -> usize
+    requires { ⌜
+        (length (now numbers) ≡ 64) × (length (now lengths) ≡ 4) × Lengths 4 (now numbers) (now lengths) × (at + 1664 < 2 ^ 64)
+        × T (every small (now numbers)) × T (small block) ⌝ }
     ensures { λ r. ⌜
-        Put (now (bytes .entry)) at (spaced (numbersOf (blockTerms block 1 (parts 16 4 (now (numbers .entry)))))) 1664
+        Put (now (bytes .entry)) at (spaced (numbersOf (blockTerms block 1 (parts 16 4 (now (numbers .entry)))))) 916
         (now (bytes .exit)) r ⌝ }
 {
     let mut next = at;
@@ -125,40 +161,52 @@ fn put_block(bytes: &mut [u8], at: usize, numbers: &[i64], block: i64) -> usize
     while c < 4 {
         let from = c * 16;
         let to = from + 16;
-        next = put_term(bytes, next, &numbers[from..to], block, c + 1);
+        next = put_term(bytes, next, &numbers[from..to], lengths[c], block, c + 1);
         c += 1;
     }
     next
 }
 
 // The terms of a row, "by falling s, then rising c".
-fn put_terms(bytes: &mut [u8], at: usize, row: &[i64], l: i64) -> usize
-    requires { ⌜ (length (now row) ≡ 320) × (natAbs l ≤ 64) × (at + 8320 < 2 ^ 64) ⌝ }
+fn put_terms(bytes: &mut [u8], at: usize, row: &[i64], lengths: &[usize], l: i64) -> usize
+    requires { ⌜
+        (length (now row) ≡ 320) × (length (now lengths) ≡ 20) × Lengths 20 (now row) (now lengths) × (natAbs l ≤ 64)
+        × (at + 8320 < 2 ^ 64) × T (every small (now row)) ⌝ }
     ensures { λ r. ⌜
-        Put (now (bytes .entry)) at (spaced (numbersOf (termsFrom l (rowOf (now (row .entry)) .blocks)))) 8320 (now (bytes .exit)) r ⌝ }
+        Put (now (bytes .entry)) at (spaced (numbersOf (termsFrom l (rowOf (now (row .entry)) .blocks)))) 4580 (now (bytes .exit)) r ⌝ }
 {
     let mut next = at;
     let mut b = 0;
     while b < 5 {
         let from = b * 64;
         let to = from + 64;
-        next = put_block(bytes, next, &row[from..to], l - b as i64);
+        let first = b * 4;
+        let last = first + 4;
+        next = put_block(
+            bytes,
+            next,
+            &row[from..to],
+            &lengths[first..last],
+            l - b as i64,
+        );
         b += 1;
     }
     next
 }
 
-// The number of terms of a row: of its polynomials that are not zero.
-fn term_count(row: &[i64]) -> usize
-    requires { ⌜ length (now row) ≡ 320 ⌝ }
-    ensures { λ r. ⌜ r ≡ nonzeroCount (parts 16 20 (now (row .entry))) ⌝ }
+// The number of terms of a row, of its polynomials that are not zero, and the number of coefficients of each polynomial.
+fn term_lengths(lengths: &mut [usize], row: &[i64]) -> usize
+    requires { ⌜ (length (now lengths) ≡ 20) × (length (now row) ≡ 320) ⌝ }
+    ensures { λ r. ⌜ (r ≡ nonzeroCount (parts 16 20 (now (row .entry)))) × Lengths 20 (now (row .entry)) (now (lengths .exit)) ⌝ }
 {
     let mut terms = 0;
     let mut i = 0;
     while i < 20 {
         let from = i * 16;
         let to = from + 16;
-        if trimmed(&row[from..to]) != 0 {
+        let n = trimmed(&row[from..to]);
+        lengths[i] = n;
+        if n != 0 {
             terms += 1;
         }
         i += 1;
@@ -167,30 +215,35 @@ fn term_count(row: &[i64]) -> usize
 }
 
 fn put_equation(bytes: &mut [u8], at: usize, row: &[i64], l: i64) -> usize
-    requires { ⌜ (length (now row) ≡ 320) × (natAbs l ≤ 64) × (at + 8341 < 2 ^ 64) ⌝ }
-    ensures { λ r. ⌜ Put (now (bytes .entry)) at (line (equationNumbers l (rowOf (now (row .entry))))) 8341 (now (bytes .exit)) r ⌝ }
+    requires { ⌜ (length (now row) ≡ 320) × (natAbs l ≤ 64) × (at + 8341 < 2 ^ 64) × T (every small (now row)) ⌝ }
+    ensures { λ r. ⌜ Put (now (bytes .entry)) at (line (equationNumbers l (rowOf (now (row .entry))))) 4601 (now (bytes .exit)) r ⌝ }
 {
-    let counted = put_digits(bytes, at, term_count(row) as u64);
-    let written = put_terms(bytes, counted, row, l);
+    let mut lengths = [0usize; 20];
+    let terms = term_lengths(&mut lengths, row);
+    let counted = put_digits(bytes, at, terms as u64);
+    let written = put_terms(bytes, counted, row, &lengths, l);
     put_byte(bytes, written, 10)
 }
 
 // "n0 and an equation"
 fn put_relation(bytes: &mut [u8], at: usize, numbers: &[i64], l: i64) -> usize
-    requires { ⌜ (length (now numbers) ≡ 321) × (natAbs l ≤ 64) × (at + 8363 < 2 ^ 64) ⌝ }
-    ensures { λ r. ⌜ Put (now (bytes .entry)) at (line (relationLine l (relationOf (now (numbers .entry))))) 8363 (now (bytes .exit)) r ⌝ }
+    requires { ⌜ (length (now numbers) ≡ 321) × (natAbs l ≤ 64) × (at + 8363 < 2 ^ 64) × T (every small (now numbers)) ⌝ }
+    ensures { λ r. ⌜ Put (now (bytes .entry)) at (line (relationLine l (relationOf (now (numbers .entry))))) 4612 (now (bytes .exit)) r ⌝ }
 {
     let row = &numbers[1..];
+    let mut lengths = [0usize; 20];
+    let terms = term_lengths(&mut lengths, row);
     let indexed = put_number(bytes, at, numbers[0]);
-    let counted = put_next_count(bytes, indexed, term_count(row));
-    let written = put_terms(bytes, counted, row, l);
+    let counted = put_next_count(bytes, indexed, terms);
+    let written = put_terms(bytes, counted, row, &lengths, l);
     put_byte(bytes, written, 10)
 }
 
 fn put_equations(bytes: &mut [u8], at: usize, rows: &[i64], m: usize, l: i64) -> usize
-    requires { ⌜ (m ≤ 4) × (m * 320 ≤ length (now rows)) × (natAbs l ≤ 64) × (at + 33364 < 2 ^ 64) ⌝ }
+    requires { ⌜ (m ≤ 4) × (m * 320 ≤ length (now rows)) × (natAbs l ≤ 64) × (at + 33364 < 2 ^ 64)
+        × SmallParts 320 m (now rows) ⌝ }
     ensures { λ r. ⌜
-        Put (now (bytes .entry)) at (lines (map (equationNumbers l) (rowsOf m (now (rows .entry))))) 33364 (now (bytes .exit)) r ⌝ }
+        Put (now (bytes .entry)) at (lines (map (equationNumbers l) (rowsOf m (now (rows .entry))))) (m * 4601) (now (bytes .exit)) r ⌝ }
 {
     let mut next = at;
     let mut i = 0;
@@ -204,9 +257,10 @@ fn put_equations(bytes: &mut [u8], at: usize, rows: &[i64], m: usize, l: i64) ->
 }
 
 fn put_relations(bytes: &mut [u8], at: usize, relations: &[i64], count: usize, l: i64) -> usize
-    requires { ⌜ (count ≤ 16) × (count * 321 ≤ length (now relations)) × (natAbs l ≤ 64) × (at + 133808 < 2 ^ 64) ⌝ }
+    requires { ⌜ (count ≤ 16) × (count * 321 ≤ length (now relations)) × (natAbs l ≤ 64) × (at + 133808 < 2 ^ 64)
+        × SmallParts 321 count (now relations) ⌝ }
     ensures { λ r. ⌜
-        Put (now (bytes .entry)) at (lines (map (relationLine l) (relationsOf count (now (relations .entry))))) 133808
+        Put (now (bytes .entry)) at (lines (map (relationLine l) (relationsOf count (now (relations .entry))))) (count * 4612)
         (now (bytes .exit)) r ⌝ }
 {
     let mut next = at;
@@ -253,8 +307,8 @@ fn put_order(bytes: &mut [u8], at: usize, order: &[usize]) -> usize
 }
 
 fn put_sizes(bytes: &mut [u8], at: usize, m: usize, l: i64, t: i64) -> usize
-    requires { ⌜ at + 67 < 2 ^ 64 ⌝ }
-    ensures { λ r. ⌜ Put (now (bytes .entry)) at (line (pos 3 ∷ pos m ∷ l ∷ t ∷ [])) 67 (now (bytes .exit)) r ⌝ }
+    requires { ⌜ (at + 67 < 2 ^ 64) × T (small l) × T (small t) ⌝ }
+    ensures { λ r. ⌜ Put (now (bytes .entry)) at (line (pos 3 ∷ pos m ∷ l ∷ t ∷ [])) 45 (now (bytes .exit)) r ⌝ }
 {
     let after_form = put_byte(bytes, at, 51);
     let after_m = put_next_count(bytes, after_form, m);
@@ -275,7 +329,8 @@ fn put_sheet(
     requires { ⌜ Checked (sizesOf sizes) count (now rows) (now relations) × (length (now columns) ≤ 4) ⌝ }
     ensures { λ r. ⌜
         Put (now (bytes .entry)) 0
-        (writeSheet (sheetGiven (sizesOf sizes) count (now (columns .entry)) (now (rows .entry)) (now (relations .entry)))) 167386
+        (writeSheet (sheetGiven (sizesOf sizes) count (now (columns .entry)) (now (rows .entry)) (now (relations .entry))))
+        (192 + sizes .m * 4601 + count * 4612)
         (now (bytes .exit)) r ⌝ }
 {
     let m = sizes.m;
@@ -295,7 +350,8 @@ pub struct WriteResult {
 }
 
 // The system of the stores and its column order as a sheet: all four numbers of the order 0 for none, otherwise a permutation of
-// 1..m and zeros past its end. Nothing is written on a refusal, and bytes past the length stay.
+// 1..m and zeros past its end. Nothing is written on a refusal, and bytes past the length stay. Where the longest sheet of these sizes
+// fits, nothing has to be counted first.
 pub fn write_sheet(
     rows: &[i64],
     relations: &[i64],
@@ -312,8 +368,14 @@ pub fn write_sheet(
     if refusal != 0 {
         return WriteResult { refusal, length: 0 };
     }
-    let n = checks::order_length(order, sizes.m);
+    let m = sizes.m;
+    let n = checks::order_length(order, m);
     let all = &order[..];
+    let longest = 192 + m * 4601 + count * 4612;
+    if longest <= bytes.len() {
+        let length = put_sheet(bytes, rows, relations, sizes, count, &all[..n]);
+        return WriteResult { refusal: 0, length };
+    }
     let length = put_sheet(&mut bytes[..0], rows, relations, sizes, count, &all[..n]);
     if bytes.len() < length {
         return WriteResult {
@@ -321,6 +383,6 @@ pub fn write_sheet(
             length: 0,
         };
     }
-    put_sheet(bytes, rows, relations, sizes, count, &all[..n]);
+    let length = put_sheet(bytes, rows, relations, sizes, count, &all[..n]);
     WriteResult { refusal: 0, length }
 }

@@ -1,15 +1,17 @@
 -- `writing::writer::put_block` meets its contract. The loop's invariant: the terms from column c + 1 on are still to be written.
 -- Assumes nothing.
-use mathlib.Core.Path.{_≡_, refl, ap}
+use mathlib.Core.Path.{_≡_, refl, _∙_, ap}
 use Prim.Native.Nat.{_+_, _*_, _-_, _≤_}
 use native.Mathlib.Omega.{arith}
 use denote.Ref.{now}
-use lib.ListN.{take, drop}
+use lib.ListN.{length, take, drop}
 use mir.Syntax.{w64}
 use mir.Val.{toZ, ofZ}
 use mir.Facts.{toZ-ofZ}
-use Rattle.rules.specs.Sheets.{blockTerms}
+use Rattle.rules.specs.Sheets.{trim, blockTerms}
 use Rattle.rules.specs.Stores.{parts}
+use Rattle.rules.specs.Limits.{small}
+use Rattle.rows.specs.Written.{every-part}
 use Rattle.writing.specs.Writer.{Going, going-first, going-next, going-last, put-same}
 use Rattle.writing.specs.Writer.{spaced, termAt, numbersOf, block-next, block-end}
 use borrow.Author.Needs.{needs}
@@ -17,13 +19,13 @@ use Rattle.writing.proofs.writer.put_block.Statement.{statement}
 use Rattle.writing.proofs.writer.put_block.Tie as tie
 
 abbrev Inv-loop : tie.InvT-loop
-Inv-loop bytes₀ at numbers block next₀ c₀ bytes next c =
+Inv-loop bytes₀ at numbers lengths block next₀ c₀ bytes next c =
     (c ≤ 4)
     × Going bytes₀ at (spaced (numbersOf (blockTerms (toZ w64 block) 1 (parts 16 4 numbers)))) bytes next
-    (spaced (numbersOf (blockTerms (toZ w64 block) (c + 1) (drop c (parts 16 4 numbers))))) (416 * c)
+    (spaced (numbersOf (blockTerms (toZ w64 block) (c + 1) (drop c (parts 16 4 numbers))))) (229 * c)
 
 abbrev μ-loop : tie.MeasureT-loop
-μ-loop bytes₀ at numbers block next₀ c₀ bytes next c = 4 - c
+μ-loop bytes₀ at numbers lengths block next₀ c₀ bytes next c = 4 - c
 
 loop-holds : tie.Need-loop-holds Inv-loop μ-loop
 loop-holds c = (omega arith, going-first refl)
@@ -46,11 +48,28 @@ part-put-term-start c = search needs
 part-put-term-end : tie.Need-part-put-term-end Inv-loop μ-loop
 part-put-term-end c = search needs
 
+mul-put-term-2 : tie.Need-mul-put-term-2 Inv-loop μ-loop
+mul-put-term-2 c = search needs
+
+shared-slice-read-put-term : tie.Need-shared-slice-read-put-term Inv-loop μ-loop
+shared-slice-read-put-term c = search needs
+
 add-put-term : tie.Need-add-put-term Inv-loop μ-loop
 add-put-term c = search needs
 
 put-term-requires : tie.Need-put-term-requires Inv-loop μ-loop
-put-term-requires c κs = search needs
+put-term-requires c κs =
+    let turn = c .before .before .before in
+    let start = turn .before .before .before .before in
+    let k = turn .before .loop .c in
+    let width : 16 ≡ k * 16 + 16 - k * 16 = omega arith in
+    let size = ap (λ n. length (trim (take n (drop (k * 16) (now (start .args .numbers)))))) width in (
+      search needs,
+      start .pre .2 k (turn .loop-test .taken) ∙ size,
+      search needs,
+      every-part small (k * 16) (k * 16 + 16 - k * 16) (now (start .args .numbers)) (start .pre .4),
+      rw (toZ-ofZ (start .fits .block)) (start .pre .5),
+    )
 
 add-c : tie.Need-add-c Inv-loop μ-loop
 add-c c = search needs
@@ -60,10 +79,10 @@ loop-less c = search needs
 
 loop-again : tie.Need-loop-again Inv-loop μ-loop
 loop-again c =
-    let turn = c .before .before .before .before .before in
-    let numbers = now (turn .before .before .before .args .numbers) in
+    let turn = c .before .before .before .before .before .before in
+    let numbers = now (turn .before .before .before .before .args .numbers) in
     let k = turn .before .loop .c in
-    let s = toZ w64 (ofZ w64 (turn .before .before .before .args .block)) in
+    let s = toZ w64 (ofZ w64 (turn .before .before .before .before .args .block)) in
     let width : k * 16 + 16 - k * 16 ≡ 16 = omega arith in (
       omega arith,
       going-next (turn .before .loop .inv .1) (block-next s numbers k (turn .loop-test .taken))
@@ -76,11 +95,11 @@ same-length c = search needs
 
 returns : tie.Need-returns Inv-loop μ-loop
 returns c =
-    let args = c .before .before .before .args in
+    let args = c .before .before .before .before .args in
     let block = toZ w64 (ofZ w64 (args .block)) in
     let none = block-end block (now (args .numbers)) (c .before .loop .c) (c .loop-test .left) in
     put-same (going-last (c .before .loop .inv .1) none (omega arith))
-    (ap (λ s. spaced (numbersOf (blockTerms s 1 (parts 16 4 (now (args .numbers)))))) (toZ-ofZ (c .before .before .before .fits .block)))
+    (ap (λ s. spaced (numbersOf (blockTerms s 1 (parts 16 4 (now (args .numbers)))))) (toZ-ofZ (c .before .before .before .before .fits .block)))
 
 pub put-block-spec : {M : Type 1} → statement M
 put-block-spec =
@@ -95,6 +114,8 @@ put-block-spec =
     sub-put-term
     part-put-term-start
     part-put-term-end
+    mul-put-term-2
+    shared-slice-read-put-term
     add-put-term
     put-term-requires
     add-c

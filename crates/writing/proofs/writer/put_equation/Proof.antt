@@ -14,14 +14,29 @@ use borrow.Author.Needs.{needs}
 use Rattle.writing.proofs.writer.put_equation.Statement.{statement}
 use Rattle.writing.proofs.writer.put_equation.Tie as tie
 
-term-count-requires : tie.Need-term-count-requires
-term-count-requires c κs = search needs
+slice-aggregate-term-lengths : tie.Need-slice-aggregate-term-lengths
+slice-aggregate-term-lengths c = search needs
+
+term-lengths-requires : tie.Need-term-lengths-requires
+term-lengths-requires c κs = search needs
 
 put-digits-requires : tie.Need-put-digits-requires
 put-digits-requires c κs = search needs
 
+slice-aggregate-put-terms : tie.Need-slice-aggregate-put-terms
+slice-aggregate-put-terms c = search needs
+
 put-terms-requires : tie.Need-put-terms-requires
-put-terms-requires c κs = search needs
+put-terms-requires c κs =
+    let measured = c .before .before .before .before .before .before .before in
+    let start = measured .before .before .before in (
+      start .pre .0,
+      search needs,
+      measured .term-lengths .ensures .1,
+      rw (toZ-ofZ (start .fits .l)) (start .pre .1),
+      search needs,
+      start .pre .3,
+    )
 
 put-byte-requires : tie.Need-put-byte-requires
 put-byte-requires c κs = search needs
@@ -32,19 +47,22 @@ same-length c = search needs
 returns : tie.Need-returns
 returns c =
     let written = c .before .before .before .before .before .before in
-    let counted = written .before .before .before .before in
-    let start = counted .before .before .before .before in
+    let counted = written .before .before .before .before .before in
+    let measured = counted .before .before .before in
+    let start = measured .before .before .before in
     let row = now (start .args .row) in
     let bytes : ℕ → ℤ → List ℕ = λ n l. (digitsOf n ++ spaced (numbersOf (termsFrom l (rowOf row .blocks)))) ++ (newline ∷ []) in
     put-same (put-then (put-then (counted .put-digits .ensures) (written .put-terms .ensures)) (c .before .before .put-byte .ensures))
-    (ap₂ bytes (counted .before .term-count .ensures) (toZ-ofZ (start .fits .l)) ∙ equation-line (start .args .l) row)
+    (ap₂ bytes (measured .term-lengths .ensures .0) (toZ-ofZ (start .fits .l)) ∙ equation-line (start .args .l) row)
 
 pub put-equation-spec : {M : Type 1} → statement M
 put-equation-spec =
     tie.close
     (tie.spec
-    term-count-requires
+    slice-aggregate-term-lengths
+    term-lengths-requires
     put-digits-requires
+    slice-aggregate-put-terms
     put-terms-requires
     put-byte-requires
     same-length

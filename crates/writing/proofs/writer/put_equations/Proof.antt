@@ -1,14 +1,17 @@
 -- `writing::writer::put_equations` meets its contract. The loop's invariant: the lines from i on are still to be written.
 -- Assumes nothing.
-use mathlib.Core.Path.{_≡_, refl, ap}
+use mathlib.Core.Path.{_≡_, refl, ap, subst}
 use mathlib.Core.List.{map}
 use Prim.Native.Nat.{_+_, _*_, _-_, _≤_}
 use native.Mathlib.Omega.{arith}
 use denote.Ref.{now}
+use lib.Dec.{T}
 use lib.ListN.{take, drop}
 use mir.Syntax.{w64}
 use mir.Val.{toZ, ofZ}
 use mir.Facts.{toZ-ofZ}
+use Rattle.rules.specs.Limits.{small}
+use Rattle.rules.specs.Rows.{every}
 use Rattle.rules.specs.Numbers.{line, lines}
 use Rattle.rules.specs.Sheets.{equationNumbers}
 use Rattle.rules.specs.Stores.{rowOf, rowsOf}
@@ -21,7 +24,7 @@ abbrev Inv-loop : tie.InvT-loop
 Inv-loop bytes₀ at rows m l next₀ i₀ bytes next i =
     (i ≤ m)
     × Going bytes₀ at (lines (map (equationNumbers (toZ w64 l)) (rowsOf m rows))) bytes next
-    (lines (map (equationNumbers (toZ w64 l)) (drop i (rowsOf m rows)))) (8341 * i)
+    (lines (map (equationNumbers (toZ w64 l)) (drop i (rowsOf m rows)))) (i * 4601)
 
 abbrev μ-loop : tie.MeasureT-loop
 μ-loop bytes₀ at rows m l next₀ i₀ bytes next i = m - i
@@ -50,7 +53,14 @@ part-put-equation-end c = search needs
 put-equation-requires : tie.Need-put-equation-requires Inv-loop μ-loop
 put-equation-requires c κs =
     let start = c .before .before .before .before .before in
-    (search needs, rw (toZ-ofZ (start .fits .l)) (start .pre .2), search needs)
+    let i = c .before .before .before .loop .i in
+    let width : 320 ≡ i * 320 + 320 - i * 320 = omega arith in (
+      search needs,
+      rw (toZ-ofZ (start .fits .l)) (start .pre .2),
+      search needs,
+      subst (λ n. T (every small (take n (drop (i * 320) (now (start .args .rows)))))) width
+          (start .pre .4 i (c .before .before .loop-test .taken)),
+    )
 
 add-i : tie.Need-add-i Inv-loop μ-loop
 add-i c = search needs

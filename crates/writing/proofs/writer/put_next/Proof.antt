@@ -13,7 +13,9 @@ put-byte-requires : tie.Need-put-byte-requires
 put-byte-requires c κs = search needs
 
 put-number-requires : tie.Need-put-number-requires
-put-number-requires c κs = search needs
+put-number-requires c κs =
+    let start = c .before .before .before .before .before .before in
+    (rw (toZ-ofZ (start .fits .a)) (start .pre .0), search needs)
 
 same-length : tie.Need-same-length
 same-length c = search needs

@@ -2,11 +2,10 @@
 -- Assumes nothing.
 use mathlib.Core.Path.{sym, _∙_, ap}
 use mathlib.Core.List.{_∷_}
-use lib.Dec.{lit≤}
 use lib.IntN.{natAbs}
 use mir.Facts.{toZ-ofZ}
 use Rattle.rules.specs.Numbers.{minus}
-use Rattle.writing.specs.Writer.{digitsOf, decimal-negative, decimal-positive, put-same, put-wide, put-then}
+use Rattle.writing.specs.Writer.{digitsOf, decimal-negative, decimal-positive, decimal-length, put-same, put-few, put-then}
 use borrow.Author.Needs.{needs}
 use Rattle.writing.proofs.writer.put_number.Statement.{statement}
 use Rattle.writing.proofs.writer.put_number.Tie as tie
@@ -32,8 +31,10 @@ returns c =
     let back = toZ-ofZ (start .fits .a) in
     let size = c .before .before .before .before .before .before .before .before .before .magnitude .ensures ∙ ap natAbs back in
     let negative = rw back at (c .before .before .before .before .before .before .before .before .if1 .taken) in
-    put-same (put-then (c .before .before .before .before .before .before .put-byte .ensures) (c .before .before .put-digits .ensures))
-    (ap (λ n. minus ∷ digitsOf n) size ∙ sym (decimal-negative (start .args .a) negative))
+    put-few
+    (put-same (put-then (c .before .before .before .before .before .before .put-byte .ensures) (c .before .before .put-digits .ensures))
+    (ap (λ n. minus ∷ digitsOf n) size ∙ sym (decimal-negative (start .args .a) negative)))
+    (decimal-length (start .args .a) (start .pre .0))
 
 same-length-2 : tie.Need-same-length-2
 same-length-2 c = search needs
@@ -44,8 +45,9 @@ returns-2 c =
     let back = toZ-ofZ (start .fits .a) in
     let size = c .before .before .before .before .before .magnitude .ensures ∙ ap natAbs back in
     let positive = rw back at (c .before .before .before .before .if1 .left) in
-    put-wide
-    (put-same (c .before .before .put-digits2 .ensures) (ap digitsOf size ∙ sym (decimal-positive (start .args .a) positive))) (lit≤ tt)
+    put-few
+    (put-same (c .before .before .put-digits2 .ensures) (ap digitsOf size ∙ sym (decimal-positive (start .args .a) positive)))
+    (decimal-length (start .args .a) (start .pre .0))
 
 pub put-number-spec : {M : Type 1} → statement M
 put-number-spec =

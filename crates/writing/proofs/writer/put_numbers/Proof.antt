@@ -11,13 +11,15 @@ use lib.ListN.{length, drop, getD, drop-of-length-le}
 use mir.Syntax.{w64}
 use mir.Val.{SFits}
 use mir.Facts.{toZ-ofZ}
+use Rattle.rules.specs.Limits.{small}
+use Rattle.polynomials.specs.Shift.{every-getD}
 use Rattle.writing.specs.Writer.{Going, going-first, going-next, going-last, put-same, spaced, spaced-next}
 use Rattle.writing.proofs.writer.put_numbers.Statement.{statement}
 use Rattle.writing.proofs.writer.put_numbers.Tie as tie
 
 abbrev Inv-loop : tie.InvT-loop
 Inv-loop bytes₀ at numbers next₀ i₀ bytes next i =
-    (i ≤ length numbers) × Going bytes₀ at (spaced numbers) bytes next (spaced (drop i numbers)) (22 * i)
+    (i ≤ length numbers) × Going bytes₀ at (spaced numbers) bytes next (spaced (drop i numbers)) (11 * i)
 
 abbrev μ-loop : tie.MeasureT-loop
 μ-loop bytes₀ at numbers next₀ i₀ bytes next i = length numbers - i
@@ -32,7 +34,14 @@ shared-slice-copy-out-put-next : tie.Need-shared-slice-copy-out-put-next Inv-loo
 shared-slice-copy-out-put-next c = search needs
 
 put-next-requires : tie.Need-put-next-requires Inv-loop μ-loop
-put-next-requires c κs = search needs
+unfolding small
+put-next-requires c κs =
+    let turn = c .before .before in
+    let start = turn .before .before .before in
+    let numbers = now (start .args .numbers) in
+    let i = turn .before .loop .i in
+    let read : SFits w64 (getD numbers i (pos 0)) = sfits-of (c .put-next-arg2 .given) in
+    (rw (toZ-ofZ read) (every-getD small numbers (pos 0) tt (start .pre .0) i), search needs)
 
 add-i : tie.Need-add-i Inv-loop μ-loop
 add-i c = search needs

@@ -11,6 +11,9 @@ use lib.Seq.{take-all}
 use mir.Syntax.{w64}
 use mir.Val.{SFits, toZ, ofZ}
 use mir.Facts.{toZ-ofZ}
+use Rattle.rules.specs.Limits.{small}
+use Rattle.polynomials.specs.Shift.{every-getD}
+use Rattle.rows.specs.Written.{every-part}
 use Rattle.rules.specs.Numbers.{newline, decimal}
 use Rattle.rules.specs.Sheets.{termsFrom}
 use Rattle.rules.specs.Stores.{parts, rowOf}
@@ -28,22 +31,40 @@ part-row-start c = search needs
 part-row-end : tie.Need-part-row-end
 part-row-end c = search needs
 
+slice-aggregate-term-lengths : tie.Need-slice-aggregate-term-lengths
+slice-aggregate-term-lengths c = search needs
+
+term-lengths-requires : tie.Need-term-lengths-requires
+term-lengths-requires c κs = search needs
+
 shared-slice-copy-out-put-number : tie.Need-shared-slice-copy-out-put-number
 shared-slice-copy-out-put-number c = search needs
 
 put-number-requires : tie.Need-put-number-requires
-put-number-requires c κs = search needs
-
-term-count-requires : tie.Need-term-count-requires
-term-count-requires c κs = search needs
+unfolding small
+put-number-requires c κs =
+    let start = c .before .before .before .before .before .before .before in
+    let numbers = now (start .args .numbers) in
+    let read : SFits w64 (getD numbers 0 (pos 0)) = sfits-of (c .put-number-arg2 .given) in
+    (rw (toZ-ofZ read) (every-getD small numbers (pos 0) tt (start .pre .3) 0), search needs)
 
 put-next-count-requires : tie.Need-put-next-count-requires
 put-next-count-requires c κs = search needs
 
+slice-aggregate-put-terms : tie.Need-slice-aggregate-put-terms
+slice-aggregate-put-terms c = search needs
+
 put-terms-requires : tie.Need-put-terms-requires
 put-terms-requires c κs =
-    let start = c .before .before .before .before .before .before .before .before .before .before .before .before .before in
-    (search needs, rw (toZ-ofZ (start .fits .l)) (start .pre .1), search needs)
+    let measured = c .before .before .before .before .before .before .before .before .before .before .before .before in
+    let start = measured .before .before .before .before in (
+      search needs,
+      search needs,
+      measured .term-lengths .ensures .1,
+      rw (toZ-ofZ (start .fits .l)) (start .pre .1),
+      search needs,
+      every-part small 1 (length (now (start .args .numbers)) - 1) (now (start .args .numbers)) (start .pre .3),
+    )
 
 put-byte-requires : tie.Need-put-byte-requires
 put-byte-requires c κs = search needs
@@ -54,9 +75,10 @@ same-length c = search needs
 returns : tie.Need-returns
 returns c =
     let written = c .before .before .before .before .before .before in
-    let counted = written .before .before .before .before in
-    let indexed = counted .before .before .before .before .before in
-    let start = indexed .before .before .before .before .before in
+    let counted = written .before .before .before .before .before in
+    let indexed = counted .before .before .before .before in
+    let measured = indexed .before .before .before .before in
+    let start = measured .before .before .before .before in
     let numbers = now (start .args .numbers) in
     let terms : List ℤ → ℤ → List ℤ = λ row l. numbersOf (termsFrom l (rowOf row .blocks)) in
     let bytes : ℤ → ℕ → List ℤ → ℤ → List ℕ = λ a n row l. (decimal a ++ spaced (pos n ∷ terms row l)) ++ (newline ∷ []) in
@@ -69,7 +91,7 @@ returns c =
     (put-then (indexed .put-number .ensures)
     (spaced-then (_ ∷ []) (terms part read-l) (counted .put-next-count .ensures) (written .put-terms .ensures)))
     (c .before .before .put-byte .ensures))
-    (ap₂ (λ a n. bytes a n part read-l) (toZ-ofZ read) (counted .before .term-count .ensures)
+    (ap₂ (λ a n. bytes a n part read-l) (toZ-ofZ read) (measured .term-lengths .ensures .0)
     ∙ ap₂ (λ row l. bytes (getD numbers 0 (pos 0)) (nonzeroCount (parts 16 20 row)) row l) rest (toZ-ofZ (start .fits .l))
     ∙ relation-line (start .args .l) numbers)
 
@@ -80,10 +102,12 @@ put-relation-spec =
     sub-row
     part-row-start
     part-row-end
+    slice-aggregate-term-lengths
+    term-lengths-requires
     shared-slice-copy-out-put-number
     put-number-requires
-    term-count-requires
     put-next-count-requires
+    slice-aggregate-put-terms
     put-terms-requires
     put-byte-requires
     same-length

@@ -3,6 +3,7 @@
 use mathlib.Core.Path.{_≡_, _∙_, ap₂}
 use mathlib.Core.List.{List, [], _∷_, _++_, map}
 use Prim.Native.Nat.{ℕ, _≤_}
+use native.Mathlib.Omega.{arith}
 use borrow.Author.Needs.{needs, sfits-of}
 use denote.Ref.{now}
 use lib.IntN.{ℤ, pos, natAbs}
@@ -13,7 +14,7 @@ use Rattle.rules.specs.Numbers.{line, lines}
 use Rattle.rules.specs.Sheets.{equationNumbers, relationLine, orderLine}
 use Rattle.rules.specs.Stores.{rowsOf, relationsOf}
 use Rattle.rows.specs.Validity.{sizesOf}
-use Rattle.writing.specs.Writer.{put-same, put-then, sheet-bytes}
+use Rattle.writing.specs.Writer.{put-same, put-then, put-wide, small-block, sheet-bytes}
 use Rattle.writing.proofs.writer.put_sheet.Statement.{statement}
 use Rattle.writing.proofs.writer.put_sheet.Tie as tie
 
@@ -36,7 +37,14 @@ module _ (c : tie.After-struct-told) where
   small = rw back-l (c .before .before .before .pre .0 .blocks)
 
 put-sizes-requires : tie.Need-put-sizes-requires
-put-sizes-requires c κs = search needs
+unfolding sizesOf
+put-sizes-requires c κs =
+    let told = c .before .before in
+    let ready = told .before .before .before .pre .0 in (
+      search needs,
+      rw (back-l told) (small-block (l told) (omega (arith, ready .blocks))),
+      rw (back-t told) (small-block (t told) (omega (arith, ready .low))),
+    )
 
 put-count-requires : tie.Need-put-count-requires
 put-count-requires c κs = search needs
@@ -46,10 +54,13 @@ unfolding sizesOf
 put-equations-requires c κs =
     let told = c .before .before .before .before .before .before .before .before .before .before in
     let ready = told .before .before .before .pre .0 in
-    (ready .columns, ready .rows, small told, search needs)
+    (ready .columns, ready .rows, small told, search needs, ready .row-numbers)
 
 put-count-requires-2 : tie.Need-put-count-requires-2
-put-count-requires-2 c κs = search needs
+unfolding sizesOf
+put-count-requires-2 c κs =
+    let told = c .before .before .before .before .before .before .before .before .before .before .before .before .before .before in
+    omega (arith, told .before .before .before .pre .0 .columns)
 
 put-relations-requires : tie.Need-put-relations-requires
 unfolding sizesOf
@@ -57,10 +68,23 @@ put-relations-requires c κs =
     let after-rows = c .before .before .before .before .before .before .before .before in
     let told = after-rows .before .before .before .before .before .before .before .before .before .before in
     let ready = told .before .before .before .pre .0 in
-    (ready .few, ready .relations, small told, search needs)
+    (ready .few, ready .relations, small told, search needs, ready .relation-numbers)
 
 put-order-requires : tie.Need-put-order-requires
-put-order-requires c κs = search needs
+unfolding sizesOf
+put-order-requires c κs =
+    let after-relations = c .before .before .before in
+    let after-count = after-relations .before .before .before .before in
+    let after-rows = after-count .before .before .before .before in
+    let after-m = after-rows .before .before .before .before in
+    let after-sizes = after-m .before .before .before .before in
+    let ready = after-sizes .before .before .before .before .before .before .pre in
+    let written =
+    put-then (after-sizes .put-sizes .ensures)
+    (put-then (after-m .put-count .ensures)
+    (put-then (after-rows .put-equations .ensures)
+    (put-then (after-count .put-count2 .ensures) (after-relations .put-relations .ensures)))) in
+    (ready .1, omega (arith, written .passed, written .few, ready .0 .columns, ready .0 .few))
 
 same-length : tie.Need-same-length
 same-length c = search needs
@@ -81,14 +105,16 @@ returns c =
     ++ (line (pos m ∷ []) ++ (lines (map (equationNumbers l) (rowsOf m (now (args .rows))))
     ++ (line (pos (args .count) ∷ []) ++ (lines (map (relationLine l) (relationsOf (args .count) (now (args .relations))))
     ++ line (orderLine (now (args .columns))))))) in
-    put-same
+    put-wide
+    (put-same
     (put-then (after-sizes .put-sizes .ensures)
     (put-then (after-m .put-count .ensures)
     (put-then (after-rows .put-equations .ensures)
     (put-then (after-count .put-count2 .ensures)
     (put-then (after-relations .put-relations .ensures) (c .before .before .put-order .ensures))))))
     (ap₂ bytes (back-l told) (back-t told)
-    ∙ sheet-bytes (sizesOf (args .sizes)) (args .count) (now (args .columns)) (now (args .rows)) (now (args .relations)))
+    ∙ sheet-bytes (sizesOf (args .sizes)) (args .count) (now (args .columns)) (now (args .rows)) (now (args .relations))))
+    (omega arith)
 
 pub put-sheet-spec : {M : Type 1} → statement M
 put-sheet-spec =

@@ -18,10 +18,14 @@ put-next-count-requires : tie.Need-put-next-count-requires
 put-next-count-requires c κs = search needs
 
 put-next-requires : tie.Need-put-next-requires
-put-next-requires c κs = search needs
+put-next-requires c κs =
+    let start = c .before .before .before .before .before .before .before .before .before .before in
+    (rw (toZ-ofZ (start .fits .l)) (start .pre .1), search needs)
 
 put-next-requires-2 : tie.Need-put-next-requires-2
-put-next-requires-2 c κs = search needs
+put-next-requires-2 c κs =
+    let start = c .before .before .before .before .before .before .before .before .before .before .before .before .before .before in
+    (rw (toZ-ofZ (start .fits .t)) (start .pre .2), search needs)
 
 put-byte-requires-2 : tie.Need-put-byte-requires-2
 put-byte-requires-2 c κs = search needs

@@ -1,54 +1,68 @@
 -- `writing::writer::put_terms` meets its contract. The loop's invariant: the terms from block l - b down are still to be written.
 -- Assumes nothing.
-use mathlib.Core.Path.{_≡_, sym, _∙_, ap, ap₂}
+use mathlib.Core.Path.{_≡_, sym, _∙_, ap, ap₂, subst}
 use mathlib.Core.List.{List}
 use Prim.Native.Nat.{ℕ, _+_, _*_, _-_, _≤_}
 use native.Mathlib.Omega.{arith}
 use denote.Ref.{now}
-use lib.Dec.{lit<}
+use lib.Dec.{T, lit<}
 use lib.IntN.{ℤ, pos, natAbs, _-ℤ_, +ℤ-idr}
-use lib.ListN.{take, drop}
+use lib.ListN.{length, take, drop, getD}
 use mir.Syntax.{w64}
 use mir.Val.{SFits, toZ, ofZ}
 use mir.Facts.{toZ-ofZ}
 use Rattle.integers.specs.Ranges.{sfits-size}
-use Rattle.rules.specs.Sheets.{blockTerms, termsFrom}
+use Rattle.rules.specs.Limits as Limits
+use Rattle.rows.specs.Written.{every-part}
+use Rattle.rules.specs.Sheets.{trim, blockTerms, termsFrom}
 use Rattle.rules.specs.Stores.{parts, rowOf}
 use Rattle.writing.specs.Writer.{Going, going-first, going-next, going-last, put-same}
-use Rattle.writing.specs.Writer.{spaced, numbersOf, block-size, terms-next, terms-end}
+use Rattle.writing.specs.Writer.{spaced, numbersOf, block-size, small-block, lengths-part, terms-next, terms-end}
 use borrow.Author.Needs.{needs}
 use Rattle.writing.proofs.writer.put_terms.Statement.{statement}
 use Rattle.writing.proofs.writer.put_terms.Tie as tie
 
 abbrev Inv-loop : tie.InvT-loop
-Inv-loop bytes₀ at row l next₀ b₀ bytes next b =
+Inv-loop bytes₀ at row lengths l next₀ b₀ bytes next b =
     (b ≤ 5)
     × Going bytes₀ at (spaced (numbersOf (termsFrom (toZ w64 l) (rowOf row .blocks)))) bytes next
-    (spaced (numbersOf (termsFrom (toZ w64 l -ℤ pos b) (drop b (rowOf row .blocks))))) (1664 * b)
+    (spaced (numbersOf (termsFrom (toZ w64 l -ℤ pos b) (drop b (rowOf row .blocks))))) (916 * b)
 
 abbrev μ-loop : tie.MeasureT-loop
-μ-loop bytes₀ at row l next₀ b₀ bytes next b = 5 - b
+μ-loop bytes₀ at row lengths l next₀ b₀ bytes next b = 5 - b
 
 -- the block that is written
-module _ (c : tie.After-put-block-arg2 Inv-loop μ-loop) where
+module _ (c : tie.After-put-block-arg3 Inv-loop μ-loop) where
+  abbrev start : tie.Start Inv-loop μ-loop
+  start = c .before .before .before .before .before .before .before
+
   abbrev b : ℕ
-  b = c .before .before .before .loop .b
+  b = c .before .before .before .before .loop .b
 
   abbrev l : ℤ
-  l = toZ w64 (ofZ w64 (c .before .before .before .before .before .args .l))
+  l = toZ w64 (ofZ w64 (start .args .l))
 
   count : toZ w64 b ≡ pos b
   count = toZ-ofZ {z = pos b} (sfits-size (pos b) {k = 5} (omega arith) (lit< tt))
 
   small : natAbs l ≤ 64
-  small = rw (toZ-ofZ (c .before .before .before .before .before .fits .l)) (c .before .before .before .before .before .pre .1)
+  small = rw (toZ-ofZ (start .fits .l)) (start .pre .3)
+
+  row-width : b * 64 + 64 - b * 64 ≡ 64
+  row-width = omega arith
+
+  lengths-width : b * 4 + 4 - b * 4 ≡ 4
+  lengths-width = omega arith
 
   fits : SFits w64 (l -ℤ pos b)
   fits = sfits-size (l -ℤ pos b) {k = 68} (block-size l b small (omega arith)) (lit< tt)
 
+  read : toZ w64 (ofZ w64 (l -ℤ toZ w64 b)) ≡ l -ℤ pos b
+  read = ap (λ s. toZ w64 (ofZ w64 (l -ℤ s))) count ∙ toZ-ofZ fits
+
 loop-holds : tie.Need-loop-holds Inv-loop μ-loop
 loop-holds c =
-    let row = now (c .before .args .row) in
+    let row = now (c .before .before .args .row) in
     (omega arith, going-first (ap (λ s. spaced (numbersOf (termsFrom s (rowOf row .blocks)))) (sym (+ℤ-idr _))))
 
 mul-from : tie.Need-mul-from Inv-loop μ-loop
@@ -56,6 +70,12 @@ mul-from c = search needs
 
 add-to : tie.Need-add-to Inv-loop μ-loop
 add-to c = search needs
+
+mul-first : tie.Need-mul-first Inv-loop μ-loop
+mul-first c = search needs
+
+add-last : tie.Need-add-last Inv-loop μ-loop
+add-last c = search needs
 
 mul-put-block : tie.Need-mul-put-block Inv-loop μ-loop
 mul-put-block c = search needs
@@ -69,14 +89,38 @@ part-put-block-start c = search needs
 part-put-block-end : tie.Need-part-put-block-end Inv-loop μ-loop
 part-put-block-end c = search needs
 
+mul-put-block-2 : tie.Need-mul-put-block-2 Inv-loop μ-loop
+mul-put-block-2 c = search needs
+
+sub-put-block-2 : tie.Need-sub-put-block-2 Inv-loop μ-loop
+sub-put-block-2 c = search needs
+
+part-put-block-start-2 : tie.Need-part-put-block-start-2 Inv-loop μ-loop
+part-put-block-start-2 c = search needs
+
+part-put-block-end-2 : tie.Need-part-put-block-end-2 Inv-loop μ-loop
+part-put-block-end-2 c = search needs
+
 cast-put-block : tie.Need-cast-put-block Inv-loop μ-loop
 cast-put-block c = search needs
 
-sub-put-block-2 : tie.Need-sub-put-block-2 Inv-loop μ-loop
-sub-put-block-2 c = rw (count c) (fits c)
+sub-put-block-3 : tie.Need-sub-put-block-3 Inv-loop μ-loop
+sub-put-block-3 c = rw (count c) (fits c)
 
 put-block-requires : tie.Need-put-block-requires Inv-loop μ-loop
-put-block-requires c κs = search needs
+put-block-requires c κs =
+    let row = now (start c .args .row) in
+    let lengths = now (start c .args .lengths) in (
+      search needs,
+      search needs,
+      λ i lt.
+          ap (λ n. getD (take n (drop (b c * 4) lengths)) i 0) (lengths-width c)
+          ∙ lengths-part row lengths (b c) (c .before .before .before .loop-test .taken) (start c .pre .2) i lt
+          ∙ ap (λ n. length (trim (take 16 (drop (i * 16) (take n (drop (b c * 64) row)))))) (sym (row-width c)),
+      search needs,
+      every-part Limits.small (b c * 64) (b c * 64 + 64 - b c * 64) row (start c .pre .5),
+      subst (λ s. T (Limits.small s)) (sym (read c)) (small-block _ (block-size (l c) (b c) (small c) (omega arith))),
+    )
 
 add-b : tie.Need-add-b Inv-loop μ-loop
 add-b c = search needs
@@ -87,14 +131,13 @@ loop-less c = search needs
 loop-again : tie.Need-loop-again Inv-loop μ-loop
 loop-again c =
     let arg = c .before .before .before in
-    let turn = arg .before .before in
-    let row = now (turn .before .before .before .args .row) in
-    let width : b arg * 64 + 64 - b arg * 64 ≡ 64 = omega arith in
+    let turn = arg .before .before .before in
+    let row = now (start arg .args .row) in
     let written : ℤ → ℕ → List ℕ = λ s n. spaced (numbersOf (blockTerms s 1 (parts 16 4 (take n (drop (b arg * 64) row))))) in (
       omega arith,
       going-next (turn .before .loop .inv .1) (terms-next (l arg) row (b arg) (turn .loop-test .taken))
           (put-same (c .before .before .put-block .ensures)
-          (ap₂ written (ap (λ s. toZ w64 (ofZ w64 (l arg -ℤ s))) (count arg) ∙ toZ-ofZ (fits arg)) width))
+          (ap₂ written (read arg) (row-width arg)))
           (omega arith),
     )
 
@@ -103,10 +146,10 @@ same-length c = search needs
 
 returns : tie.Need-returns Inv-loop μ-loop
 returns c =
-    let args = c .before .before .before .args in
+    let args = c .before .before .before .before .args in
     put-same
     (going-last (c .before .loop .inv .1) (terms-end _ (now (args .row)) (c .before .loop .b) (c .loop-test .left)) (omega arith))
-    (ap (λ s. spaced (numbersOf (termsFrom s (rowOf (now (args .row)) .blocks)))) (toZ-ofZ (c .before .before .before .fits .l)))
+    (ap (λ s. spaced (numbersOf (termsFrom s (rowOf (now (args .row)) .blocks)))) (toZ-ofZ (c .before .before .before .before .fits .l)))
 
 pub put-terms-spec : {M : Type 1} → statement M
 put-terms-spec =
@@ -117,12 +160,18 @@ put-terms-spec =
     loop-holds
     mul-from
     add-to
+    mul-first
+    add-last
     mul-put-block
     sub-put-block
     part-put-block-start
     part-put-block-end
-    cast-put-block
+    mul-put-block-2
     sub-put-block-2
+    part-put-block-start-2
+    part-put-block-end-2
+    cast-put-block
+    sub-put-block-3
     put-block-requires
     add-b
     loop-less

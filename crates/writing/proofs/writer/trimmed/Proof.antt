@@ -1,47 +1,29 @@
--- `writing::writer::trimmed` meets its contract. The loop's invariant: the coefficients from n on are zero.
+-- `writing::writer::trimmed` meets its contract. The loop's invariant: n coefficients of the first i are left.
 -- Assumes nothing.
-use mathlib.Core.Path.{_≡_, sym, _∙_, subst}
-use mathlib.Core.List.{List}
-use Prim.Native.Nat.{ℕ, suc, _-_, _≤_}
+use mathlib.Core.Path.{_≡_, sym, _∙_, ap}
+use mathlib.Core.Logic.{⊎-elim}
+use Prim.Native.Nat.{_-_, _≤_}
+use native.Mathlib.Numerals.{add-one}
 use native.Mathlib.Omega.{arith}
 use borrow.Author.Needs.{needs, sfits-of}
 use denote.Ref.{now}
-use lib.Dec.{T}
-use lib.IntN.{ℤ}
-use lib.ListN.{length, drop}
-use lib.Seq.{drop-length}
+use lib.ListN.{length, take}
+use lib.Seq.{take-all}
 use Rattle.polynomials.specs.Content.{zero-bits, nonzero-bits}
-use Rattle.algebra.specs.Polynomials.{isZero}
-use Rattle.writing.specs.Writer.{trim-length, trim-zero, drop-zero}
+use Rattle.rules.specs.Sheets.{trim}
+use Rattle.writing.specs.Writer.{trim-nonzero, trim-more}
 use Rattle.writing.proofs.writer.trimmed.Statement.{statement}
 use Rattle.writing.proofs.writer.trimmed.Tie as tie
 
 abbrev Inv-loop : tie.InvT-loop
-Inv-loop p n₀ n = (n ≤ length p) × T (isZero (drop n p))
+Inv-loop p n₀ i₀ n i = (i ≤ 16) × (n ≡ length (trim (take i p)))
 
 abbrev μ-loop : tie.MeasureT-loop
-μ-loop p n₀ n = n
-
--- the highest coefficient that is left
-module _ (c : tie.After-if12 Inv-loop μ-loop) where
-  abbrev p : List ℤ
-  p = now (c .before .before .before .args .p)
-
-  abbrev top : ℕ
-  top = c .before .before .loop .n - 1
-
-  some-left : c .before .before .loop .n ≡ suc top
-  some-left = omega arith
-
-  above : T (isZero (drop (suc top) p))
-  above = subst (λ n. T (isZero (drop n p))) some-left (c .before .before .loop .inv .1)
+μ-loop p n₀ i₀ n i = 16 - i
 
 loop-holds : tie.Need-loop-holds Inv-loop μ-loop
-unfolding isZero
-loop-holds c = (omega arith, rw (drop-length (now (c .args .p))) tt)
-
-sub-if1 : tie.Need-sub-if1 Inv-loop μ-loop
-sub-if1 c = search needs
+unfolding trim
+loop-holds c = search needs
 
 mul-if1 : tie.Need-mul-if1 Inv-loop μ-loop
 mul-if1 c = search needs
@@ -49,27 +31,32 @@ mul-if1 c = search needs
 shared-slice-copy-out-if1 : tie.Need-shared-slice-copy-out-if1 Inv-loop μ-loop
 shared-slice-copy-out-if1 c = search needs
 
-returns : tie.Need-returns Inv-loop μ-loop
-returns c =
-    let e = c .before in
-    some-left e ∙ sym (trim-length (p e) (top e) (omega arith) (nonzero-bits (c .if1 .taken)) (above e))
+add-n : tie.Need-add-n Inv-loop μ-loop
+add-n c = search needs
 
-sub-n : tie.Need-sub-n Inv-loop μ-loop
-sub-n c = search needs
+add-i : tie.Need-add-i Inv-loop μ-loop
+add-i c = search needs
 
 loop-less : tie.Need-loop-less Inv-loop μ-loop
 loop-less c = search needs
 
 loop-again : tie.Need-loop-again Inv-loop μ-loop
 loop-again c =
-    let e = c .before in
-    (omega arith, drop-zero (p e) (top e) (omega arith) (zero-bits (sfits-of (e .if12 .given)) (c .if1 .left)) (above e))
+    let turn = c .before .before in
+    let p = now (turn .before .before .args .p) in
+    let i = turn .before .loop .i in
+    let next = ap (λ k. length (trim (take k p))) (sym (add-one i)) in (
+      omega arith,
+      ⊎-elim (λ w. w .1 ∙ add-one i ∙ sym (trim-nonzero p i (omega arith) (nonzero-bits (w .0 .taken))) ∙ next)
+          (λ w.
+          w .1 ∙ turn .before .loop .inv .1
+          ∙ sym (trim-more p i (omega arith) (zero-bits (sfits-of (c .before .if12 .given)) (w .0 .left)))
+          ∙ next)
+          (c .if1 .came),
+    )
 
-returns-2 : tie.Need-returns-2 Inv-loop μ-loop
-returns-2 c =
-    let none : c .before .loop .n ≡ 0 = omega arith in
-    let p = now (c .before .before .args .p) in
-    sym (trim-zero p (subst (λ n. T (isZero (drop n p))) none (c .before .loop .inv .1)))
+returns : tie.Need-returns Inv-loop μ-loop
+returns c = c .before .loop .inv .1 ∙ ap (λ q. length (trim q)) (take-all (c .before .loop .i) (now (c .before .before .args .p)) (omega arith))
 
 pub trimmed-spec : {M : Type 1} → statement M
 trimmed-spec =
@@ -78,11 +65,10 @@ trimmed-spec =
     Inv-loop
     μ-loop
     loop-holds
-    sub-if1
     mul-if1
     shared-slice-copy-out-if1
-    returns
-    sub-n
+    add-n
+    add-i
     loop-less
     loop-again
-    returns-2)
+    returns)

@@ -1,7 +1,7 @@
--- `writing::writer::write_sheet` meets its contract. The first call of `put_sheet` only counts; the second stores
--- all bytes, for which there is room then.
+-- `writing::writer::write_sheet` meets its contract. Where the longest sheet would not fit, a first call of `put_sheet` only
+-- counts. The call that stores has room for all bytes.
 -- Assumes nothing.
-use mathlib.Core.Path.{_≡_, sym, _∙_, ap, ap₂, subst}
+use mathlib.Core.Path.{_≡_, refl, sym, _∙_, ap, ap₂, subst}
 use mathlib.Core.List.{List, _++_}
 use Prim.Native.Nat.{ℕ, _≤_, _<_}
 use native.Mathlib.Nat.{zero-add}
@@ -13,11 +13,11 @@ use lib.ListN.{length, take}
 use lib.Seq.{sets, length-take-le}
 use Rattle.rules.specs.Rows.{every}
 use Rattle.rules.specs.Sheets.{writeSheet}
-use Rattle.rules.specs.SheetCalls.{checkWrite, sheetOf, unwritten}
+use Rattle.rules.specs.SheetCalls.{WriteCall, checkWrite, sheetOf, unwritten, writeCall}
 use Rattle.rules.specs.Stores.{Sizes}
 use Rattle.rows.specs.Validity.{sizesOf}
-use Rattle.writing.specs.Writer.{sheetGiven}
-use Rattle.writing.specs.WriterChecks.{Checked, checked, sheet-given, given-few, sets-none}
+use Rattle.writing.specs.Writer.{Put, sheetGiven, sets-out}
+use Rattle.writing.specs.WriterChecks.{Checked, checked, sheet-given, given-few}
 use Rattle.writing.specs.WriterChecks.{call-refused, call-checked, written-short, written-whole}
 use borrow.Author.Needs.{needs}
 use Rattle.writing.proofs.writer.write_sheet.Statement.{statement}
@@ -75,16 +75,31 @@ module _ (c : tie.After-order-length) where
   same =
       sheet-given (z start) (count start) (order start) (rows start) (relations start) (c .order-length .result) (c .order-length .ensures)
 
--- what the first call tells
-module _ (c : tie.After-put-sheet) where
+  -- the call that stored the whole sheet
+  done : {k next : ℕ} {d e : List ℕ} → Put d 0 bytes k e next → d ≡ store start → length (sheet start) ≤ length (store start)
+      → _≡_ {A = WriteCall} (record { refusal = 0; length = next; byteStore = e })
+      (writeCall (z start) (count start) (order start) (rows start) (relations start) (store start))
+  done {k} {next} {d} {e} put from whole =
+      (λ i. record { refusal = 0; length = passed-all i; byteStore = stored-all i })
+      ∙ written-whole (sheet start) (store start) whole
+      ∙ call-checked (z start) (count start) (order start) (rows start) (relations start) (store start) passed
+    where
+      passed-all : next ≡ length (sheet start)
+      passed-all = put .passed ∙ zero-add (length bytes) ∙ ap length same
+
+      stored-all : e ≡ sets (store start) 0 (sheet start)
+      stored-all = put .stored ∙ ap₂ (λ l xs. sets l 0 xs) from same
+
+-- what the call that counts tells
+module _ (c : tie.After-put-sheet2) where
   abbrev given : tie.After-order-length
-  given = c .before .before .before .before
+  given = c .before .before .before .before .before
 
-  kept : (c .put-sheet .last .0 ++ store (start given)) ≡ store (start given)
-  kept = ap (λ l. l ++ store (start given)) (c .put-sheet .ensures .stored ∙ sets-none 0 (bytes given))
+  kept : (c .put-sheet2 .last .0 ++ store (start given)) ≡ store (start given)
+  kept = ap (λ l. l ++ store (start given)) (c .put-sheet2 .ensures .stored ∙ sets-out _ 0 (bytes given) (omega arith))
 
-  counted : c .put-sheet .result ≡ length (sheet (start given))
-  counted = c .put-sheet .ensures .passed ∙ zero-add (length (bytes given)) ∙ ap length (same given)
+  counted : c .put-sheet2 .result ≡ length (sheet (start given))
+  counted = c .put-sheet2 .ensures .passed ∙ zero-add (length (bytes given)) ∙ ap length (same given)
 
 check-write-requires : tie.Need-check-write-requires
 check-write-requires c κs = search needs
@@ -102,53 +117,83 @@ order-length-requires c κs = search needs
 slice-aggregate-all : tie.Need-slice-aggregate-all
 slice-aggregate-all c = search needs
 
-slice-relend-prefix-put-sheet : tie.Need-slice-relend-prefix-put-sheet
-slice-relend-prefix-put-sheet c = search needs
+mul-longest : tie.Need-mul-longest
+unfolding sizesOf
+mul-longest c = omega (arith, facts (c .before) .columns)
+
+add-longest : tie.Need-add-longest
+unfolding sizesOf
+add-longest c = omega (arith, facts (c .before) .columns)
+
+mul-longest-2 : tie.Need-mul-longest-2
+mul-longest-2 c = omega (arith, facts (c .before) .few)
+
+add-longest-2 : tie.Need-add-longest-2
+unfolding sizesOf
+add-longest-2 c = omega (arith, facts (c .before) .columns, facts (c .before) .few)
 
 slice-aggregate-put-sheet : tie.Need-slice-aggregate-put-sheet
-slice-aggregate-put-sheet c = search needs
-
-slice-aggregate-put-sheet-2 : tie.Need-slice-aggregate-put-sheet-2
-slice-aggregate-put-sheet-2 c = sym (size (c .before .before .before))
+slice-aggregate-put-sheet c = sym (size (c .before .before .before .before))
 
 put-sheet-requires : tie.Need-put-sheet-requires
 put-sheet-requires c κs =
-    let o = c .before .before .before in
+    let o = c .before .before .before .before in
     (facts o, omega (arith, size o, few o))
 
 same-length : tie.Need-same-length
 same-length c = search needs
 
 returns-2 : tie.Need-returns-2
-unfolding unwritten
+unfolding sizesOf
 returns-2 c =
-    let p = c .before .before .before in
-    let s = start (given p) in
-    let short : length (store s) < length (sheet s) = omega (arith, counted p, ap length (kept p), c .if2 .taken) in
-    ap (unwritten 1) (kept p) ∙ written-short (sheet s) (store s) short
-    ∙ call-checked (z s) (count s) (order s) (rows s) (relations s) (store s) (passed (given p))
+    let put = c .before .before .put-sheet .ensures in
+    let o = c .before .before .before .before .before .before .before in
+    let room = c .before .before .before .before .before .if2 .taken in
+    done o put refl (omega (arith, put .few, ap length (same o), room))
+
+slice-relend-prefix-put-sheet : tie.Need-slice-relend-prefix-put-sheet
+slice-relend-prefix-put-sheet c = search needs
+
+slice-aggregate-put-sheet-2 : tie.Need-slice-aggregate-put-sheet-2
+slice-aggregate-put-sheet-2 c = search needs
 
 slice-aggregate-put-sheet-3 : tie.Need-slice-aggregate-put-sheet-3
-slice-aggregate-put-sheet-3 c = sym (size (c .before .before .before .before .before .before .before .before .before))
+slice-aggregate-put-sheet-3 c = sym (size (c .before .before .before .before))
 
 put-sheet-requires-2 : tie.Need-put-sheet-requires-2
 put-sheet-requires-2 c κs =
-    let o = c .before .before .before .before .before .before .before .before .before in
+    let o = c .before .before .before .before in
     (facts o, omega (arith, size o, few o))
 
 same-length-2 : tie.Need-same-length-2
 same-length-2 c = search needs
 
 returns-3 : tie.Need-returns-3
+unfolding unwritten
 returns-3 c =
-    let p = c .before .before .before .before .before .before .before .before in
+    let p = c .before .before .before in
     let s = start (given p) in
-    let room = c .before .before .before .before .before .if2 .left in
-    let whole : length (sheet s) ≤ length (store s) = omega (arith, counted p, ap length (kept p), room) in
-    let stored : c .before .before .put-sheet2 .last .0 ≡ sets (store s) 0 (sheet s) =
-    c .before .before .put-sheet2 .ensures .stored ∙ ap₂ (λ l xs. sets l 0 xs) (kept p) (same (given p)) in
-    (λ i. record { refusal = 0; length = counted p i; byteStore = stored i }) ∙ written-whole (sheet s) (store s) whole
+    let short : length (store s) < length (sheet s) = omega (arith, counted p, ap length (kept p), c .if3 .taken) in
+    ap (unwritten 1) (kept p) ∙ written-short (sheet s) (store s) short
     ∙ call-checked (z s) (count s) (order s) (rows s) (relations s) (store s) (passed (given p))
+
+slice-aggregate-put-sheet-4 : tie.Need-slice-aggregate-put-sheet-4
+slice-aggregate-put-sheet-4 c = sym (size (given (c .before .before .before .before .before)))
+
+put-sheet-requires-3 : tie.Need-put-sheet-requires-3
+put-sheet-requires-3 c κs =
+    let o = given (c .before .before .before .before .before) in
+    (facts o, omega (arith, size o, few o))
+
+same-length-3 : tie.Need-same-length-3
+same-length-3 c = search needs
+
+returns-4 : tie.Need-returns-4
+returns-4 c =
+    let p = c .before .before .before .before .before .before .before .before in
+    let o = given p in
+    let room = c .before .before .before .before .before .if3 .left in
+    done o (c .before .before .put-sheet3 .ensures) (kept p) (omega (arith, counted p, ap length (kept p), room))
 
 pub write-sheet-spec : {M : Type 1} → statement M
 write-sheet-spec =
@@ -158,13 +203,21 @@ write-sheet-spec =
     returns
     order-length-requires
     slice-aggregate-all
-    slice-relend-prefix-put-sheet
+    mul-longest
+    add-longest
+    mul-longest-2
+    add-longest-2
     slice-aggregate-put-sheet
-    slice-aggregate-put-sheet-2
     put-sheet-requires
     same-length
     returns-2
+    slice-relend-prefix-put-sheet
+    slice-aggregate-put-sheet-2
     slice-aggregate-put-sheet-3
     put-sheet-requires-2
     same-length-2
-    returns-3)
+    returns-3
+    slice-aggregate-put-sheet-4
+    put-sheet-requires-3
+    same-length-3
+    returns-4)

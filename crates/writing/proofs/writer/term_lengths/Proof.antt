@@ -1,31 +1,37 @@
--- `writing::writer::term_count` meets its contract. The loop's invariant: the polynomials from i on are still to be counted.
+-- `writing::writer::term_lengths` meets its contract. The loop's invariant: the polynomials from i on are still to be counted,
+-- and the lengths of those before it stand.
 -- Assumes nothing.
 use mathlib.Core.Path.{_≡_, _∙_, ap}
 use mathlib.Core.List.{List}
 use mathlib.Core.Logic.{⊎-elim}
 use Prim.Native.Nat.{ℕ, _+_, _*_, _-_, _≤_}
+use native.Mathlib.Nat.{not-suc-le-zero}
 use native.Mathlib.Omega.{arith}
 use denote.Ref.{now}
 use lib.IntN.{ℤ}
-use lib.ListN.{length, take, drop}
+use lib.ListN.{length, take, drop, length-set}
 use Rattle.rules.specs.Sheets.{trim}
 use Rattle.rules.specs.Stores.{parts}
-use Rattle.writing.specs.Writer.{nonzeroCount, parts-end, count-none, count-some}
+use Rattle.writing.specs.Writer.{nonzeroCount, Lengths, lengths-next, parts-end, count-none, count-some}
 use borrow.Author.Needs.{needs}
-use Rattle.writing.proofs.writer.term_count.Statement.{statement}
-use Rattle.writing.proofs.writer.term_count.Tie as tie
+use Rattle.writing.proofs.writer.term_lengths.Statement.{statement}
+use Rattle.writing.proofs.writer.term_lengths.Tie as tie
 
 abbrev Inv-loop : tie.InvT-loop
-Inv-loop row terms₀ i₀ terms i =
-    (i ≤ 20) × (terms ≤ i) × (terms + nonzeroCount (drop i (parts 16 20 row)) ≡ nonzeroCount (parts 16 20 row))
+Inv-loop lengths₀ row terms₀ i₀ lengths terms i =
+    (i ≤ 20)
+    × (terms ≤ i)
+    × (terms + nonzeroCount (drop i (parts 16 20 row)) ≡ nonzeroCount (parts 16 20 row))
+    × (length lengths ≡ 20)
+    × Lengths i row lengths
 
 abbrev μ-loop : tie.MeasureT-loop
-μ-loop row terms₀ i₀ terms i = 20 - i
+μ-loop lengths₀ row terms₀ i₀ lengths terms i = 20 - i
 
 -- what `trimmed` says of polynomial i
 module _ (c : tie.After-trimmed Inv-loop μ-loop) where
   abbrev row : List ℤ
-  row = now (c .before .before .before .before .args .row)
+  row = now (c .before .before .before .before .before .args .row)
 
   abbrev i : ℕ
   i = c .before .before .before .loop .i
@@ -36,7 +42,7 @@ module _ (c : tie.After-trimmed Inv-loop μ-loop) where
       c .trimmed .ensures ∙ ap (λ n. length (trim (take n (drop (i * 16) row)))) width
 
 loop-holds : tie.Need-loop-holds Inv-loop μ-loop
-loop-holds c = (omega arith, omega arith, omega arith)
+loop-holds c = (omega arith, omega arith, omega arith, omega arith, λ k lt. absurd (not-suc-le-zero lt))
 
 mul-from : tie.Need-mul-from Inv-loop μ-loop
 mul-from c = search needs
@@ -59,6 +65,12 @@ part-trimmed-end c = search needs
 trimmed-requires : tie.Need-trimmed-requires Inv-loop μ-loop
 trimmed-requires c κs = search needs
 
+mul-lengths : tie.Need-mul-lengths Inv-loop μ-loop
+mul-lengths c = search needs
+
+slice-write-lengths : tie.Need-slice-write-lengths Inv-loop μ-loop
+slice-write-lengths c = search needs
+
 add-terms : tie.Need-add-terms Inv-loop μ-loop
 add-terms c = search needs
 
@@ -72,19 +84,30 @@ loop-again : tie.Need-loop-again Inv-loop μ-loop
 loop-again c =
     let e = c .before in
     let inside = e .before .before .loop-test .taken in
+    let loop = e .before .before .before .loop in
+    let long = length-set (loop .lengths) (i e) (e .trimmed .result) in
+    let more = lengths-next (row e) (loop .lengths) (i e) (e .trimmed .result) (loop .inv .4) (omega arith) (size e) in
     ⊎-elim
-    (λ w. let one = count-some (row e) (i e) (e .trimmed .result) inside (size e) (w .0 .taken) in (omega arith, omega arith, omega arith))
-    (λ w. let none = count-none (row e) (i e) (e .trimmed .result) inside (size e) (w .0 .left) in (omega arith, omega arith, omega arith))
+    (λ w.
+    let one = count-some (row e) (i e) (e .trimmed .result) inside (size e) (w .0 .taken) in
+    (omega arith, omega arith, omega arith, omega arith, more))
+    (λ w.
+    let none = count-none (row e) (i e) (e .trimmed .result) inside (size e) (w .0 .left) in
+    (omega arith, omega arith, omega arith, omega arith, more))
     (c .if1 .came)
+
+same-length : tie.Need-same-length Inv-loop μ-loop
+same-length c = search needs
 
 returns : tie.Need-returns Inv-loop μ-loop
 unfolding nonzeroCount
 returns c =
-    let none = ap nonzeroCount (parts-end 16 20 (now (c .before .before .args .row)) (c .before .loop .i) (c .loop-test .left)) in
-    omega (arith, none)
+    let loop = c .before .loop in
+    let none = ap nonzeroCount (parts-end 16 20 (now (c .before .before .before .args .row)) (loop .i) (c .loop-test .left)) in
+    (omega (arith, none), λ k lt. loop .inv .4 k (omega arith))
 
-pub term-count-spec : {M : Type 1} → statement M
-term-count-spec =
+pub term-lengths-spec : {M : Type 1} → statement M
+term-lengths-spec =
     tie.close
     (tie.spec
     Inv-loop
@@ -97,8 +120,11 @@ term-count-spec =
     part-trimmed-start
     part-trimmed-end
     trimmed-requires
+    mul-lengths
+    slice-write-lengths
     add-terms
     add-i
     loop-less
     loop-again
+    same-length
     returns)
