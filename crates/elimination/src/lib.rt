@@ -2,6 +2,7 @@
 // `requires`, and contracts that give the result and each lent store by equations with `rules`.
 ghost use mathlib.Core.Path.{_≡_};
 ghost use Rattle.rules.specs.Elimination.{leading, trailing};
+ghost use Rattle.rules.specs.Stores.{checkStores};
 ghost use Rattle.rules.specs.Calls.{callRun, polynomialCheck, polynomialPart};
 ghost use Rattle.rows.specs.Validity.{sizesOf};
 ghost use Rattle.elimination.specs.CallLaws.{callOf};
@@ -19,6 +20,20 @@ pub fn run_leading(
         ≡ callRun leading (sizesOf sizes) count (now (rows .entry)) (now (relations .entry)) ⌝ }
 {
     calls::called(rows, relations, sizes, count, false)
+}
+
+// The same on stores that pass the checks. No public entry point: the caller has to know that they pass.
+pub fn run_leading_checked(
+    rows: &mut [i64],
+    relations: &mut [i64],
+    sizes: rows::validity::Sizes,
+    count: usize,
+) -> calls::RunResult
+    requires { ⌜ checkStores (sizesOf sizes) count (now rows) (now relations) ≡ 0 ⌝ }
+    ensures { λ r. ⌜ callOf r (now (rows .exit)) (now (relations .exit))
+        ≡ callRun leading (sizesOf sizes) count (now (rows .entry)) (now (relations .entry)) ⌝ }
+{
+    calls::checked_run(rows, relations, sizes, count, false)
 }
 
 pub fn run_trailing(

@@ -1,0 +1,22 @@
+-- `elimination::run_leading_checked` meets its contract.
+-- Assumes nothing.
+use borrow.Author.Needs.{needs}
+use Rattle.sides.specs.Lent.{sideOf}
+use Rattle.elimination.proofs.run_leading_checked.Statement.{statement}
+use Rattle.elimination.proofs.run_leading_checked.Tie as tie
+
+checked-run-requires : tie.Need-checked-run-requires
+checked-run-requires c κs = search needs
+
+same-length : tie.Need-same-length
+same-length c = search needs
+
+same-length-2 : tie.Need-same-length-2
+same-length-2 c = search needs
+
+returns : tie.Need-returns
+unfolding sideOf
+returns c = c .before .before .checked-run .ensures
+
+pub run-leading-checked-spec : {M : Type 1} → statement M
+run-leading-checked-spec = tie.close (tie.spec checked-run-requires same-length same-length-2 returns)
