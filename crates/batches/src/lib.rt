@@ -131,9 +131,9 @@ fn lent_bytes(length: usize) -> usize
     if length < 65536 { length } else { 65536 }
 }
 
-// The answer, worked out in stores of the largest sizes. What was read passes the checks of a run, and what a run that accepts
-// leaves passes those of the writer, so neither checks again.
-fn answer_in(
+// The answer, worked out in stores of the largest sizes, whatever they hold. What was read passes the checks of a run, and what a
+// run that accepts leaves passes those of the writer, so neither checks again. No public entry point: it has a `requires`.
+pub fn answer_in(
     bytes: &[u8],
     rows: &mut [i64],
     relations: &mut [i64],
