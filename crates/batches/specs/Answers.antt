@@ -9,8 +9,10 @@
 --   answer-right         every sheet's answer is one of those
 --   answerCall-answer    in a store of at least 65,536 bytes the call leaves the answer of `rules`
 --   read-refused, run-refused, run-written   the answer, by what reading and running on stores give
+--   read-checked         the stores that a sheet was read into pass the checks of a run
 --   answer-written       the writer, lent at most 65,536 bytes of the store, leaves in it what the whole call leaves
 --   call-unread, call-refused, call-written  the whole call, by what the three calls on stores gave
+--   call-checked-read, call-checked-run      what was read, and what an accepting run leaves, passes the checks of the next call
 use Prim.Native.Nat.{ℕ, zero, suc, min, _≤_, _<_, suc-le-suc}
 use native.Mathlib.Nat.{suc-inj, suc-ne-zero}
 use native.Mathlib.Omega.{arith}
@@ -26,20 +28,20 @@ use lib.IntN.{ℤ}
 use Rattle.algebra.specs.Pigeonhole.{Distinct}
 use Rattle.rules.specs.Lists.{cond-passed}
 use Rattle.rules.specs.Elimination.{leading, State, Outcome, done, refused, wholeRun, leadingRun}
-use Rattle.rules.specs.Stores.{Valid, span, rowNeed, relationNeed, rowStoreOf, relationStoreOf, lengthsRight}
+use Rattle.rules.specs.Stores.{Sizes, Valid, span, checkStores, rowNeed, relationNeed, rowStoreOf, relationStoreOf, lengthsRight}
 use Rattle.rules.specs.Layout.{valid-stores, size-bounds, lengthsRight-iff, rowsOf-rowStoreOf, relationsOf-relationStoreOf}
 use Rattle.rules.specs.Calls.{Call, overwrite, callRun, afterCheck, afterRun, acceptance, reportedOrder, cleared, refusal}
 use Rattle.rules.specs.Numbers.{Read, got, fault}
 use Rattle.rules.specs.Sheets.{Sheet, contains, readSheet, writeSheet}
 use Rattle.rules.specs.SheetCalls.{ReadCall, readCall, afterRead, filled, unread, readRefusal, differentColumns, WriteCall, written, unwritten}
-use Rattle.rules.specs.SheetCalls.{writeCall}
+use Rattle.rules.specs.SheetCalls.{checkWrite, writeCall}
 use Rattle.rules.specs.Batch.{mostBytes, Answer, accepted, refusedWith, sized, answerRun, answerRead, answerSheet}
 use Rattle.theory.specs.Demands.{Accepted, Ended, run-ends, six, seven, eight, nine, output-valid, diagonal-nonzero}
 use Rattle.theory.specs.Demands as Demands
 use Rattle.theory.specs.Settled.{Diagonal}
 use Rattle.sheets.specs.WrittenOrder.{OrderRight, different-cons, T-or}
 use Rattle.sheets.specs.ReadBack.{SheetRight, read-valid, sheet-read-written}
-use Rattle.sheets.specs.CallsReadBack.{read-write-call}
+use Rattle.sheets.specs.CallsReadBack.{read-call-write, read-write-call}
 use Rattle.batches.specs.declared.AnswerResult as declared
 use Rattle.batches.specs.Faults.{Numbered, read, numbered, sheet-numbered}
 
@@ -175,6 +177,13 @@ order-after m D s d =
 
 -- ---- the run on the stores that a sheet was read into
 
+-- The check before what a run leaves is written, and the call that writes it.
+abbrev pub checkOn : Sizes → Call → ℕ
+checkOn z c = checkWrite z (c .result .relations) (c .result .order) (c .rowStore) (c .relationStore)
+
+abbrev pub writeOn : Sizes → Call → List ℕ → WriteCall
+writeOn z c store = writeCall z (c .result .relations) (c .result .order) (c .rowStore) (c .relationStore) store
+
 module _ (bytes : List ℕ) (x : Sheet) (rest : List ℕ) (e : readSheet bytes ≡ got x rest) (rows relations : List ℤ) where
   abbrev rowsRead : List ℤ
   rowsRead = overwrite (rowStoreOf (x .rows)) rows
@@ -212,15 +221,16 @@ module _ (bytes : List ℕ) (x : Sheet) (rest : List ℕ) (e : readSheet bytes �
 
   -- A run that accepts, and the writer after it.
   ran-accepted : (s : State) → leadingRun (x .rows) (x .relations) ≡ done s
-      → (ran .result .refusal ≡ 0) × (answerSheet bytes ≡ sized (writeSheet (sheetAfter x s)))
-      × ((store : List ℕ) → writeCall (x .sizes) (ran .result .relations) (ran .result .order) (ran .rowStore) (ran .relationStore) store
-      ≡ written (writeSheet (sheetAfter x s)) store)
+      → (ran .result .refusal ≡ 0) × (answerSheet bytes ≡ sized (writeSheet (sheetAfter x s))) × (checkOn (x .sizes) ran ≡ 0)
+      × ((store : List ℕ) → writeOn (x .sizes) ran store ≡ written (writeSheet (sheetAfter x s)) store)
   unfolding afterRun acceptance reportedOrder answerRun wholeRun
   ran-accepted s f = (
     ap (λ c. c .result .refusal) (ran-by (done s) f),
     answer-by (done s) f,
+    ap (checkOn (x .sizes)) (ran-by (done s) f)
+        ∙ read-call-write (writeSheet (sheetAfter x s)) (sheetAfter x s) [] rowsRead relationsRead (sheet-read-written (sheetAfter x s) right),
     λ store.
-        ap (λ c. writeCall (x .sizes) (c .result .relations) (c .result .order) (c .rowStore) (c .relationStore) store) (ran-by (done s) f)
+        ap (λ c. writeOn (x .sizes) c store) (ran-by (done s) f)
         ∙ read-write-call (writeSheet (sheetAfter x s)) (sheetAfter x s) [] rowsRead relationsRead (sheet-read-written (sheetAfter x s) right) store,
   )
     where
@@ -288,6 +298,13 @@ module _ (bytes : List ℕ) (rows relations : List ℤ) (rows-long : 1280 ≤ le
     unfolding filled
     ran-on x rest e = ap runOn (read-got x rest e)
 
+    pub read-checked : checkStores (readIn .result .sizes) (readIn .result .relations) (readIn .rowStore) (readIn .relationStore) ≡ 0
+    unfolding filled overwrite
+    read-checked =
+        let (x, rest, e) = sheet-read in
+        ap (λ c. checkStores (c .result .sizes) (c .result .relations) (c .rowStore) (c .relationStore)) (read-got x rest e)
+        ∙ valid-stores (x .sizes) (x .rows) (x .relations) _ _ (read-valid bytes x rest e)
+
     -- The run is refused.
     pub run-refused : runOn readIn .result .refusal ≢ 0 → answerSheet bytes ≡ refusedWith (runOn readIn .result .refusal)
     run-refused h = let (x, rest, e) = sheet-read in go x rest e _ refl (leading-ends bytes x rest e)
@@ -309,11 +326,8 @@ module _ (bytes : List ℕ) (rows relations : List ℤ) (rows-long : 1280 ≤ le
 
     -- The run accepts: the writer then has the sheet that answers.
     pub run-written : runOn readIn .result .refusal ≡ 0
-        → (sheet : List ℕ) × (answerSheet bytes ≡ sized sheet)
-        × ((store : List ℕ)
-        → writeCall (readIn .result .sizes) (runOn readIn .result .relations) (runOn readIn .result .order) (runOn readIn .rowStore)
-        (runOn readIn .relationStore) store
-        ≡ written sheet store)
+        → (sheet : List ℕ) × (answerSheet bytes ≡ sized sheet) × (checkOn (readIn .result .sizes) (runOn readIn) ≡ 0)
+        × ((store : List ℕ) → writeOn (readIn .result .sizes) (runOn readIn) store ≡ written sheet store)
     unfolding filled
     run-written h = let (x, rest, e) = sheet-read in go x rest e _ refl (leading-ends bytes x rest e)
       where
@@ -323,19 +337,15 @@ module _ (bytes : List ℕ) (rows relations : List ℤ) (rows-long : 1280 ≤ le
             (sym (ran-refused bytes x rest e rows relations (suc n) f .0) ∙ sym (ap (λ c. c .result .refusal) (ran-on x rest e)) ∙ h)
 
         go : (x : Sheet) (rest : List ℕ) → readSheet bytes ≡ got x rest → (o : Outcome) → leadingRun (x .rows) (x .relations) ≡ o → Ended o
-            → (sheet : List ℕ) × (answerSheet bytes ≡ sized sheet)
-            × ((store : List ℕ)
-            → writeCall (readIn .result .sizes) (runOn readIn .result .relations) (runOn readIn .result .order) (runOn readIn .rowStore)
-            (runOn readIn .relationStore) store
-            ≡ written sheet store)
+            → (sheet : List ℕ) × (answerSheet bytes ≡ sized sheet) × (checkOn (readIn .result .sizes) (runOn readIn) ≡ 0)
+            × ((store : List ℕ) → writeOn (readIn .result .sizes) (runOn readIn) store ≡ written sheet store)
         go x rest e o f (Demands.accepted s) =
-            let both = ran-accepted bytes x rest e rows relations s f in (
+            let all = ran-accepted bytes x rest e rows relations s f in
+            let sizes = ap (λ c. c .result .sizes) (read-got x rest e) in (
               writeSheet (sheetAfter x s),
-              both .1,
-              λ store.
-                  ap₂ (λ z c. writeCall z (c .result .relations) (c .result .order) (c .rowStore) (c .relationStore) store)
-                  (ap (λ c. c .result .sizes) (read-got x rest e)) (ran-on x rest e)
-                  ∙ both .2 store,
+              all .1,
+              ap₂ checkOn sizes (ran-on x rest e) ∙ all .2,
+              λ store. ap₂ (λ z c. writeOn z c store) sizes (ran-on x rest e) ∙ all .3 store,
             )
         go x rest e o f six = absurd (clash x rest e 5 f)
         go x rest e o f seven = absurd (clash x rest e 6 f)
@@ -414,10 +424,15 @@ module _ (bytes store : List ℕ) (rows relations : List ℤ) (rows-long : 1280 
       subst (λ c. c .result .refusal ≢ 0 → unanswered (c .result .refusal) store ≡ answerCall bytes store) (sym e)
       (λ h. sym (ap (λ a. answered a store) (read-refused bytes rows relations rows-long relations-long h)))
 
-  module _ (fine : c .result .refusal ≡ 0) (d : Call) (f : d ≡ runOn c) where
-    fine-read : readCall bytes rows relations .result .refusal ≡ 0
-    fine-read = subst (λ c. c .result .refusal ≡ 0) e fine
+  fine-read : c .result .refusal ≡ 0 → readCall bytes rows relations .result .refusal ≡ 0
+  fine-read = subst (λ c. c .result .refusal ≡ 0) e
 
+  pub call-checked-read : c .result .refusal ≡ 0 → checkStores (c .result .sizes) (c .result .relations) (c .rowStore) (c .relationStore) ≡ 0
+  call-checked-read fine =
+      ap (λ c. checkStores (c .result .sizes) (c .result .relations) (c .rowStore) (c .relationStore)) e
+      ∙ read-checked bytes rows relations rows-long relations-long (fine-read fine)
+
+  module _ (fine : c .result .refusal ≡ 0) (d : Call) (f : d ≡ runOn c) where
     same-run : d ≡ runOn (readCall bytes rows relations)
     same-run = f ∙ ap runOn e
 
@@ -425,21 +440,28 @@ module _ (bytes store : List ℕ) (rows relations : List ℤ) (rows-long : 1280 
     unfolding answerCall answered
     call-refused =
         subst (λ d. d .result .refusal ≢ 0 → unanswered (d .result .refusal) store ≡ answerCall bytes store) (sym same-run)
-        (λ h. sym (ap (λ a. answered a store) (run-refused bytes rows relations rows-long relations-long fine-read h)))
+        (λ h. sym (ap (λ a. answered a store) (run-refused bytes rows relations rows-long relations-long (fine-read fine) h)))
+
+    -- What the writer has, if the run accepts.
+    run-writes : d .result .refusal ≡ 0
+        → (sheet : List ℕ) × (answerSheet bytes ≡ sized sheet) × (checkOn (c .result .sizes) d ≡ 0)
+        × ((store : List ℕ) → writeOn (c .result .sizes) d store ≡ written sheet store)
+    run-writes accepts =
+        let (sheet, answer, passed, wrote) = run-written bytes rows relations rows-long relations-long (fine-read fine) (subst (λ d. d .result .refusal ≡ 0) same-run accepts) in
+        let sizes = ap (λ c. c .result .sizes) e in
+        (sheet, answer, ap₂ checkOn sizes same-run ∙ passed, λ store. ap₂ (λ z d. writeOn z d store) sizes same-run ∙ wrote store)
+
+    pub call-checked-run : d .result .refusal ≡ 0 → checkOn (c .result .sizes) d ≡ 0
+    call-checked-run accepts = run-writes accepts .2
 
     pub call-written : d .result .refusal ≡ 0 → (lent : ℕ) → lent ≡ min (length store) mostBytes
-        → (w : WriteCall)
-        → w ≡ writeCall (c .result .sizes) (d .result .relations) (d .result .order) (d .rowStore) (d .relationStore) (take lent store)
+        → (w : WriteCall) → w ≡ writeOn (c .result .sizes) d (take lent store)
         → _≡_ {A = AnswerCall} (record { refusal = w .refusal; length = w .length; store = w .byteStore ++ drop lent store })
         (answerCall bytes store)
     unfolding answerCall
     call-written accepts lent least w g =
-        let (sheet, answer, wrote) = run-written bytes rows relations rows-long relations-long fine-read (subst (λ d. d .result .refusal ≡ 0) same-run accepts) in
-        ap (after sheet store lent inside limited most)
-        (g
-        ∙ ap₂ (λ z d. writeCall z (d .result .relations) (d .result .order) (d .rowStore) (d .relationStore) (take lent store))
-        (ap (λ c. c .result .sizes) e) same-run
-        ∙ wrote (take lent store))
+        let (sheet, answer, passed, wrote) = run-writes accepts in
+        ap (after sheet store lent inside limited most) (g ∙ wrote (take lent store))
         ∙ answer-written sheet store lent inside limited most ∙ ap (λ a. answered a store) (sym answer)
       where
         inside : lent ≤ length store

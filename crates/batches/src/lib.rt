@@ -131,8 +131,9 @@ fn lent_bytes(length: usize) -> usize
     if length < 65536 { length } else { 65536 }
 }
 
-// The answer, worked out in stores of the largest sizes.
-fn answer_in(
+// The answer, worked out in stores of the largest sizes, whatever they hold. What was read passes the checks of a run, and what a
+// run that accepts leaves passes those of the writer, so neither checks again. No public entry point: it has a `requires`.
+pub fn answer_in(
     bytes: &[u8],
     rows: &mut [i64],
     relations: &mut [i64],
@@ -141,18 +142,18 @@ fn answer_in(
     requires { ⌜ (1280 ≤ length (now rows)) × (5136 ≤ length (now relations)) ⌝ }
     ensures { λ r. ⌜ callOf r (now (output .exit)) ≡ answerCall (now (bytes .entry)) (now (output .entry)) ⌝ }
 {
-    let sheet = sheets::read_sheet(bytes, rows, relations);
+    let sheet = reading::own::read_own(bytes, rows, relations);
     if sheet.refusal != 0 {
         return no_answer(sheet.refusal);
     }
     let sizes = sheet.sizes;
-    let run = elimination::run_leading(rows, relations, sizes, sheet.relations);
+    let run = elimination::calls::leading_run(rows, relations, sizes, sheet.relations);
     if run.refusal != 0 {
         return no_answer(run.refusal);
     }
     let order = run.order;
     let lent = lent_bytes(output.len());
-    let written = sheets::write_sheet(
+    let written = writing::writer::write_checked(
         rows,
         relations,
         sizes,

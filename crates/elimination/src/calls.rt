@@ -6,7 +6,7 @@ ghost use lib.Dec.{T};
 ghost use lib.IntN.{ℤ};
 ghost use lib.ListN.{take};
 ghost use Rattle.rules.specs.Elimination as Elimination;
-ghost use Rattle.rules.specs.Stores.{rowsOf, relationsOf, rowNeed, sizesRight};
+ghost use Rattle.rules.specs.Stores.{rowsOf, relationsOf, rowNeed, sizesRight, checkStores};
 ghost use Rattle.rules.specs.Calls as Calls;
 ghost use Rattle.working.specs.Found.{Columns};
 ghost use Rattle.rows.specs.Validity.{sizesOf};
@@ -145,7 +145,39 @@ fn ended(
     accepted(rows, m, rows::validity::span(sizes), trailing, p)
 }
 
-// A run on lent stores: the checks, the run, and what it leaves.
+// A run on stores that pass the checks, and what it leaves.
+fn checked_run(
+    rows: &mut [i64],
+    relations: &mut [i64],
+    sizes: rows::validity::Sizes,
+    count: usize,
+    trailing: bool,
+) -> RunResult
+    requires { ⌜ checkStores (sizesOf sizes) count (now rows) (now relations) ≡ 0 ⌝ }
+    ensures { λ r. ⌜ callOf r (now (rows .exit)) (now (relations .exit))
+        ≡ Calls.callRun (sideOf trailing) (sizesOf sizes) count (now (rows .entry)) (now (relations .entry)) ⌝ }
+{
+    let m = sizes.m;
+    let span = rows::validity::span(sizes);
+    let o = whole_run(rows, relations, m, span, trailing, count);
+    ended(rows, relations, sizes, trailing, o)
+}
+
+// The same on the leading side. No public entry point: the caller has to know that the stores pass the checks.
+pub fn leading_run(
+    rows: &mut [i64],
+    relations: &mut [i64],
+    sizes: rows::validity::Sizes,
+    count: usize,
+) -> RunResult
+    requires { ⌜ checkStores (sizesOf sizes) count (now rows) (now relations) ≡ 0 ⌝ }
+    ensures { λ r. ⌜ callOf r (now (rows .exit)) (now (relations .exit))
+        ≡ Calls.callRun Elimination.leading (sizesOf sizes) count (now (rows .entry)) (now (relations .entry)) ⌝ }
+{
+    checked_run(rows, relations, sizes, count, false)
+}
+
+// A run on lent stores: the checks, and the run.
 pub(crate) fn called(
     rows: &mut [i64],
     relations: &mut [i64],
@@ -160,8 +192,5 @@ pub(crate) fn called(
     if refusal != 0 {
         return refused(refusal);
     }
-    let m = sizes.m;
-    let span = rows::validity::span(sizes);
-    let o = whole_run(rows, relations, m, span, trailing, count);
-    ended(rows, relations, sizes, trailing, o)
+    checked_run(rows, relations, sizes, count, trailing)
 }

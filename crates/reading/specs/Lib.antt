@@ -4,3 +4,4 @@ pub mod Sections
 pub mod Order
 pub mod WholeSheet
 pub mod ReadCalls
+pub mod OwnStores

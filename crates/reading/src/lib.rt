@@ -7,6 +7,7 @@ ghost use Rattle.reading.specs.ReadCalls.{callOf};
 mod counts;
 mod equations;
 mod order;
+pub mod own;
 mod sections;
 pub mod sheet;
 mod sizes;

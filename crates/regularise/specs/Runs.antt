@@ -3,6 +3,7 @@
 -- written by it, with which the calls made are those of a `Trace`, whatever `rest` of the input comes after them.
 --
 -- Main definitions
+--   Largest rows relations   stores of the largest sizes, in which every sheet can be worked out
 --   numberOf a       the refusal's number of an answer, 0 for one that accepts
 --   Answered sheet before at r after   the answer to a sheet stands behind what was gathered
 --   Ends w rest      nothing comes after the end of the input
@@ -19,6 +20,7 @@ use mathlib.Core.Path.{_≡_}
 use mathlib.Core.Logic.{_≢_}
 use mathlib.Core.Bool.{Bool, true, false}
 use mathlib.Core.List.{List, [], _++_}
+use lib.IntN.{ℤ}
 use lib.ListN.{length, take, drop}
 use Rattle.rules.specs.Batch.{Answer, accepted, refusedWith, answerSheet, answerBytes}
 use Rattle.batches.specs.Windows as Lines
@@ -32,6 +34,10 @@ use Rattle.regularise.specs.declared.Opened.{Opened}
 use Rattle.regularise.specs.declared.Run.{Run}
 
 -- ---- an answer
+
+pub record Largest (rows relations : List ℤ) : Type 0 where
+  pub rows-long : length rows ≡ 1280
+  pub relations-long : length relations ≡ 5136
 
 unfoldable pub numberOf : Answer → ℕ
 numberOf (accepted sheet) = 0

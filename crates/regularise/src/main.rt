@@ -6,7 +6,7 @@ ghost use Prim.Native.Nat.{_+_, _-_, _≤_, _<_};
 ghost use lib.ListN.{length};
 ghost use lib.Seq.{paste};
 ghost use Rattle.streams.specs.Windows.{held, Within};
-ghost use Rattle.regularise.specs.Runs.{Answered, Found, Going, Progress, Begins, Ended, Written};
+ghost use Rattle.regularise.specs.Runs.{Largest, Answered, Found, Going, Progress, Begins, Ended, Written};
 
 // A line of a batch is decided by its first 24 bytes.
 const LINE: usize = 24;
@@ -44,14 +44,20 @@ struct Put {
     at: usize,
 }
 
-fn put_answer(sheet: &[u8], output: &mut [u8], at: usize) -> Put
-    requires { ⌜ at + 65560 ≤ length (now output) ⌝ }
+fn put_answer(
+    sheet: &[u8],
+    output: &mut [u8],
+    rows: &mut [i64],
+    relations: &mut [i64],
+    at: usize,
+) -> Put
+    requires { ⌜ (at + 65560 ≤ length (now output)) × Largest (now rows) (now relations) ⌝ }
     ensures { λ r. ⌜ Answered (now (sheet .entry)) (now (output .entry)) at r (now (output .exit)) ⌝ }
 {
     let zero = batches::refusal_line(0);
     let from = at + zero.length;
     let to = from + SHEET;
-    let answer = batches::answer(sheet, &mut output[from..to]);
+    let answer = batches::answer_in(sheet, rows, relations, &mut output[from..to]);
     let line = batches::refusal_line(answer.refusal);
     let next = put_line(output, at, line);
     Put {
@@ -101,8 +107,15 @@ fn next_sheet(store: &mut [u8], window: streams::input::Window) -> Next
 }
 
 // One sheet and its answer.
-fn sheet(store: &mut [u8], output: &mut [u8], run: Run) -> Run
-    requires { ⌜ (length (now store) ≡ 65536) × (length (now output) ≡ 131136) × Going run × (0 < run .batch .left) ⌝ }
+fn sheet(
+    store: &mut [u8],
+    output: &mut [u8],
+    rows: &mut [i64],
+    relations: &mut [i64],
+    run: Run,
+) -> Run
+    requires { ⌜ (length (now store) ≡ 65536) × (length (now output) ≡ 131136) × Going run × (0 < run .batch .left)
+        × Largest (now rows) (now relations) ⌝ }
     ensures { λ r. ⌜ Going r × (r .whole ≡ true → r .batch .left < run .batch .left)
         × Progress run (now (store .entry)) (now (output .entry)) r (now (store .exit)) (now (output .exit)) ⌝ }
 {
@@ -120,7 +133,7 @@ fn sheet(store: &mut [u8], output: &mut [u8], run: Run) -> Run
     }
     let from = window.from;
     let to = from + next.size;
-    let put = put_answer(&store[from..to], output, at);
+    let put = put_answer(&store[from..to], output, rows, relations, at);
     Run {
         window: streams::input::past(window, next.size),
         batch: batches::counted(batch, put.refusal),
@@ -129,20 +142,37 @@ fn sheet(store: &mut [u8], output: &mut [u8], run: Run) -> Run
     }
 }
 
-// Every sheet, up to one that is broken.
-fn sheets(store: &mut [u8], output: &mut [u8], begun: Run) -> Run
-    requires { ⌜ (length (now store) ≡ 65536) × (length (now output) ≡ 131136) × Going begun × (begun .whole ≡ true) ⌝ }
+// Every sheet, up to one that is broken, each worked out in the same stores.
+fn sheets_in(
+    store: &mut [u8],
+    output: &mut [u8],
+    rows: &mut [i64],
+    relations: &mut [i64],
+    begun: Run,
+) -> Run
+    requires { ⌜ (length (now store) ≡ 65536) × (length (now output) ≡ 131136) × Going begun × (begun .whole ≡ true)
+        × Largest (now rows) (now relations) ⌝ }
     ensures { λ r. ⌜ Going r × (r .whole ≡ true → r .batch .left ≡ 0)
         × Progress begun (now (store .entry)) (now (output .entry)) r (now (store .exit)) (now (output .exit)) ⌝ }
 {
     let mut run = begun;
     while 0 < run.batch.left {
-        run = sheet(store, output, run);
+        run = sheet(store, output, rows, relations, run);
         if !run.whole {
             break;
         }
     }
     run
+}
+
+fn sheets(store: &mut [u8], output: &mut [u8], begun: Run) -> Run
+    requires { ⌜ (length (now store) ≡ 65536) × (length (now output) ≡ 131136) × Going begun × (begun .whole ≡ true) ⌝ }
+    ensures { λ r. ⌜ Going r × (r .whole ≡ true → r .batch .left ≡ 0)
+        × Progress begun (now (store .entry)) (now (output .entry)) r (now (store .exit)) (now (output .exit)) ⌝ }
+{
+    let mut rows = [0i64; 1280];
+    let mut relations = [0i64; 5136];
+    sheets_in(store, output, &mut rows, &mut relations, begun)
 }
 
 // What a batch begins with: the line with the sheet count; refusal 0 or 3.

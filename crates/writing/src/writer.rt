@@ -16,7 +16,7 @@ ghost use Rattle.rules.specs.Sheets.{trim, blockTerms, termsFrom, equationNumbe
 ghost use Rattle.rules.specs.Stores.{parts, rowOf, rowsOf, relationOf, relationsOf};
 ghost use Rattle.writing.specs.Writer.{Put, digitsOf, spaced, SmallParts, Lengths, termAt, numbersOf, nonzeroCount, sheetGiven};
 ghost use Rattle.writing.specs.WriterChecks.{Checked, callOf};
-ghost use Rattle.rules.specs.SheetCalls.{writeCall};
+ghost use Rattle.rules.specs.SheetCalls.{checkWrite, writeCall};
 ghost use Rattle.rows.specs.Validity.{sizesOf};
 
 pub fn put_byte(bytes: &mut [u8], at: usize, b: u8) -> usize
@@ -349,10 +349,9 @@ pub struct WriteResult {
     pub length: usize,
 }
 
-// The system of the stores and its column order as a sheet: all four numbers of the order 0 for none, otherwise a permutation of
-// 1..m and zeros past its end. Nothing is written on a refusal, and bytes past the length stay. Where the longest sheet of these sizes
-// fits, nothing has to be counted first.
-pub fn write_sheet(
+// The sheet of a system that passes the checks; refusal 1 where it is longer than the byte store. Where the longest sheet of these
+// sizes fits, nothing has to be counted first. No public entry point: the caller knows that the checks pass.
+pub fn write_checked(
     rows: &[i64],
     relations: &[i64],
     sizes: rows::validity::Sizes,
@@ -360,14 +359,11 @@ pub fn write_sheet(
     order: [usize; 4],
     bytes: &mut [u8],
 ) -> WriteResult
+    requires { ⌜ checkWrite (sizesOf sizes) count order (now rows) (now relations) ≡ 0 ⌝ }
     ensures { λ r. ⌜
         callOf r (now (bytes .exit))
         ≡ writeCall (sizesOf sizes) count order (now (rows .entry)) (now (relations .entry)) (now (bytes .entry)) ⌝ }
 {
-    let refusal = checks::check_write(rows, relations, sizes, count, order);
-    if refusal != 0 {
-        return WriteResult { refusal, length: 0 };
-    }
     let m = sizes.m;
     let n = checks::order_length(order, m);
     let all = &order[..];
@@ -385,4 +381,25 @@ pub fn write_sheet(
     }
     let length = put_sheet(bytes, rows, relations, sizes, count, &all[..n]);
     WriteResult { refusal: 0, length }
+}
+
+// The system of the stores and its column order as a sheet: all four numbers of the order 0 for none, otherwise a permutation of
+// 1..m and zeros past its end. Nothing is written on a refusal, and bytes past the length stay.
+pub fn write_sheet(
+    rows: &[i64],
+    relations: &[i64],
+    sizes: rows::validity::Sizes,
+    count: usize,
+    order: [usize; 4],
+    bytes: &mut [u8],
+) -> WriteResult
+    ensures { λ r. ⌜
+        callOf r (now (bytes .exit))
+        ≡ writeCall (sizesOf sizes) count order (now (rows .entry)) (now (relations .entry)) (now (bytes .entry)) ⌝ }
+{
+    let refusal = checks::check_write(rows, relations, sizes, count, order);
+    if refusal != 0 {
+        return WriteResult { refusal, length: 0 };
+    }
+    write_checked(rows, relations, sizes, count, order, bytes)
 }

@@ -57,8 +57,8 @@ counted-requires c κs = search needs
 
 drain-requires : tie.Need-drain-requires
 drain-requires c κs =
-    let start = c .before .before .before .before .before .before .before .before .before .before .before .before .before .before .before .before .before .before .before .before in
-    let put = c .before .before .before .before .before .put-answer in
+    let start = c .before .before .before .before .before .before .before .before .before .before .before .before .before .before .before .before .before .before .before .before .before .before .before .before in
+    let put = c .before .before .before .before .before .before .before .put-answer in
     omega (arith, put .ensures .few, put .kept .1 .0, start .pre .1, start .pre .2 .gathered)
 
 same-length-2 : tie.Need-same-length-2
@@ -67,12 +67,18 @@ same-length-2 c = search needs
 same-length-3 : tie.Need-same-length-3
 same-length-3 c = search needs
 
+same-length-4 : tie.Need-same-length-4
+same-length-4 c = search needs
+
+same-length-5 : tie.Need-same-length-5
+same-length-5 c = search needs
+
 returns-2 : tie.Need-returns-2
 returns-2 c =
-    let start = c .before .before .before .before .before .before .before .before .before .before .before .before .before .before .before .before .before .before .before .before .before in
+    let start = c .before .before .before .before .before .before .before .before .before .before .before .before .before .before .before .before .before .before .before .before .before .before .before .before .before in
     let args = start .args in
-    let next = c .before .before .before .before .before .before .before .before .before .before .before .before .before .before .before .before .next-sheet in
-    let put = c .before .before .before .before .before .before .put-answer in
+    let next = c .before .before .before .before .before .before .before .before .before .before .before .before .before .before .before .before .before .before .before .before .next-sheet in
+    let put = c .before .before .before .before .before .before .before .before .put-answer in
     let b = args .run .batch in
     let few = start .pre .2 .counted in
     rw (c .before .before .before .past .ensures, c .before .before .counted .ensures, c .drain .ensures) (
@@ -83,7 +89,7 @@ returns-2 c =
       },
       (λ _. omega (arith, counted-left b few (some start) (put .result .refusal), start .pre .3)),
       turn-answered (args .run) (now (args .store)) (now (args .output)) (some start) (next .result) (next .last .0) (next .ensures)
-          (not-false _ (c .before .before .before .before .before .before .before .before .before .before .before .if1 .left)) (omega (arith, start .pre .1)) (next .kept .0 ∙ start .pre .0) (put .result) (put .last .1 .0) (put .ensures),
+          (not-false _ (c .before .before .before .before .before .before .before .before .before .before .before .before .before .before .before .if1 .left)) (omega (arith, start .pre .1)) (next .kept .0 ∙ start .pre .0) (put .result) (put .last .1 .0) (put .ensures),
     )
 
 pub sheet-spec : {M : Type 1} → statement M
@@ -103,4 +109,6 @@ sheet-spec =
     drain-requires
     same-length-2
     same-length-3
+    same-length-4
+    same-length-5
     returns-2)

@@ -1,105 +1,13 @@
--- `writing::writer::write_sheet` meets its contract. Where the longest sheet would not fit, a first call of `put_sheet` only
--- counts. The call that stores has room for all bytes.
+-- `writing::writer::write_sheet` meets its contract.
 -- Assumes nothing.
-use mathlib.Core.Path.{_≡_, refl, sym, _∙_, ap, ap₂, subst}
-use mathlib.Core.List.{List, _++_}
-use Prim.Native.Nat.{ℕ, _≤_, _<_}
-use native.Mathlib.Nat.{zero-add}
-use native.Mathlib.Omega.{arith}
+use mathlib.Core.Path.{sym, _∙_}
 use denote.Ref.{now}
-use lib.Dec.{eqb}
-use lib.IntN.{ℤ}
-use lib.ListN.{length, take}
-use lib.Seq.{sets, length-take-le}
-use Rattle.rules.specs.Rows.{every}
-use Rattle.rules.specs.Sheets.{writeSheet}
-use Rattle.rules.specs.SheetCalls.{WriteCall, checkWrite, sheetOf, unwritten, writeCall}
-use Rattle.rules.specs.Stores.{Sizes}
+use Rattle.rules.specs.SheetCalls.{unwritten}
 use Rattle.rows.specs.Validity.{sizesOf}
-use Rattle.writing.specs.Writer.{Put, sheetGiven, sets-out}
-use Rattle.writing.specs.WriterChecks.{Checked, checked, sheet-given, given-few}
-use Rattle.writing.specs.WriterChecks.{call-refused, call-checked, written-short, written-whole}
+use Rattle.writing.specs.WriterChecks.{call-refused}
 use borrow.Author.Needs.{needs}
 use Rattle.writing.proofs.writer.write_sheet.Statement.{statement}
 use Rattle.writing.proofs.writer.write_sheet.Tie as tie
-
--- what is written, and into what
-module _ (c : tie.Start) where
-  abbrev z : Sizes
-  z = sizesOf (c .args .sizes)
-
-  abbrev count : ℕ
-  count = c .args .count
-
-  abbrev order : List ℕ
-  order = c .args .t5
-
-  abbrev rows : List ℤ
-  rows = now (c .args .rows)
-
-  abbrev relations : List ℤ
-  relations = now (c .args .relations)
-
-  abbrev store : List ℕ
-  store = now (c .args .bytes)
-
-  abbrev sheet : List ℕ
-  sheet = writeSheet (sheetOf z count order rows relations)
-
--- what the checks tell
-module _ (c : tie.After-order-length) where
-  abbrev start : tie.Start
-  start = c .before .before .before .before
-
-  passed : checkWrite (z start) (count start) (order start) (rows start) (relations start) ≡ 0
-  passed = sym (c .before .before .check-write .ensures) ∙ c .before .if1 .left
-
-  facts : Checked (z start) (count start) (rows start) (relations start)
-  facts = checked (z start) (count start) (order start) (rows start) (relations start) passed
-
-  abbrev columns : List ℕ
-  columns = take (c .order-length .result) (order start)
-
-  few : c .order-length .result ≤ 4
-  unfolding sizesOf
-  few = subst (λ n. n ≤ 4) (sym (c .order-length .ensures)) (given-few (every (eqb 0) (order start)) (facts .columns))
-
-  size : length columns ≡ c .order-length .result
-  size = length-take-le (c .order-length .result) (order start) (omega (arith, few))
-
-  abbrev bytes : List ℕ
-  bytes = writeSheet (sheetGiven (z start) (count start) columns (rows start) (relations start))
-
-  same : bytes ≡ sheet start
-  unfolding sizesOf
-  same =
-      sheet-given (z start) (count start) (order start) (rows start) (relations start) (c .order-length .result) (c .order-length .ensures)
-
-  -- the call that stored the whole sheet
-  done : {k next : ℕ} {d e : List ℕ} → Put d 0 bytes k e next → d ≡ store start → length (sheet start) ≤ length (store start)
-      → _≡_ {A = WriteCall} (record { refusal = 0; length = next; byteStore = e })
-      (writeCall (z start) (count start) (order start) (rows start) (relations start) (store start))
-  done {k} {next} {d} {e} put from whole =
-      (λ i. record { refusal = 0; length = passed-all i; byteStore = stored-all i })
-      ∙ written-whole (sheet start) (store start) whole
-      ∙ call-checked (z start) (count start) (order start) (rows start) (relations start) (store start) passed
-    where
-      passed-all : next ≡ length (sheet start)
-      passed-all = put .passed ∙ zero-add (length bytes) ∙ ap length same
-
-      stored-all : e ≡ sets (store start) 0 (sheet start)
-      stored-all = put .stored ∙ ap₂ (λ l xs. sets l 0 xs) from same
-
--- what the call that counts tells
-module _ (c : tie.After-put-sheet2) where
-  abbrev given : tie.After-order-length
-  given = c .before .before .before .before .before
-
-  kept : (c .put-sheet2 .last .0 ++ store (start given)) ≡ store (start given)
-  kept = ap (λ l. l ++ store (start given)) (c .put-sheet2 .ensures .stored ∙ sets-out _ 0 (bytes given) (omega arith))
-
-  counted : c .put-sheet2 .result ≡ length (sheet (start given))
-  counted = c .put-sheet2 .ensures .passed ∙ zero-add (length (bytes given)) ∙ ap length (same given)
 
 check-write-requires : tie.Need-check-write-requires
 check-write-requires c κs = search needs
@@ -107,117 +15,19 @@ check-write-requires c κs = search needs
 returns : tie.Need-returns
 unfolding unwritten
 returns c =
-    let s = c .before .before .before in
+    let a = c .before .before .before .args in
     let found = c .before .check-write in
-    call-refused (z s) (count s) (order s) (rows s) (relations s) (store s) (found .result) (found .ensures) (c .if1 .taken)
+    call-refused (sizesOf (a .sizes)) (a .count) (a .order) (now (a .rows)) (now (a .relations)) (now (a .bytes)) (found .result)
+    (found .ensures) (c .if1 .taken)
 
-order-length-requires : tie.Need-order-length-requires
-order-length-requires c κs = search needs
-
-slice-aggregate-all : tie.Need-slice-aggregate-all
-slice-aggregate-all c = search needs
-
-mul-longest : tie.Need-mul-longest
-unfolding sizesOf
-mul-longest c = omega (arith, facts (c .before) .columns)
-
-add-longest : tie.Need-add-longest
-unfolding sizesOf
-add-longest c = omega (arith, facts (c .before) .columns)
-
-mul-longest-2 : tie.Need-mul-longest-2
-mul-longest-2 c = omega (arith, facts (c .before) .few)
-
-add-longest-2 : tie.Need-add-longest-2
-unfolding sizesOf
-add-longest-2 c = omega (arith, facts (c .before) .columns, facts (c .before) .few)
-
-slice-aggregate-put-sheet : tie.Need-slice-aggregate-put-sheet
-slice-aggregate-put-sheet c = sym (size (c .before .before .before .before))
-
-put-sheet-requires : tie.Need-put-sheet-requires
-put-sheet-requires c κs =
-    let o = c .before .before .before .before in
-    (facts o, omega (arith, size o, few o))
+write-checked-requires : tie.Need-write-checked-requires
+write-checked-requires c κs = sym (c .before .before .check-write .ensures) ∙ c .before .if1 .left
 
 same-length : tie.Need-same-length
 same-length c = search needs
 
 returns-2 : tie.Need-returns-2
-unfolding sizesOf
-returns-2 c =
-    let put = c .before .before .put-sheet .ensures in
-    let o = c .before .before .before .before .before .before .before in
-    let room = c .before .before .before .before .before .if2 .taken in
-    done o put refl (omega (arith, put .few, ap length (same o), room))
-
-slice-relend-prefix-put-sheet : tie.Need-slice-relend-prefix-put-sheet
-slice-relend-prefix-put-sheet c = search needs
-
-slice-aggregate-put-sheet-2 : tie.Need-slice-aggregate-put-sheet-2
-slice-aggregate-put-sheet-2 c = search needs
-
-slice-aggregate-put-sheet-3 : tie.Need-slice-aggregate-put-sheet-3
-slice-aggregate-put-sheet-3 c = sym (size (c .before .before .before .before))
-
-put-sheet-requires-2 : tie.Need-put-sheet-requires-2
-put-sheet-requires-2 c κs =
-    let o = c .before .before .before .before in
-    (facts o, omega (arith, size o, few o))
-
-same-length-2 : tie.Need-same-length-2
-same-length-2 c = search needs
-
-returns-3 : tie.Need-returns-3
-unfolding unwritten
-returns-3 c =
-    let p = c .before .before .before in
-    let s = start (given p) in
-    let short : length (store s) < length (sheet s) = omega (arith, counted p, ap length (kept p), c .if3 .taken) in
-    ap (unwritten 1) (kept p) ∙ written-short (sheet s) (store s) short
-    ∙ call-checked (z s) (count s) (order s) (rows s) (relations s) (store s) (passed (given p))
-
-slice-aggregate-put-sheet-4 : tie.Need-slice-aggregate-put-sheet-4
-slice-aggregate-put-sheet-4 c = sym (size (given (c .before .before .before .before .before)))
-
-put-sheet-requires-3 : tie.Need-put-sheet-requires-3
-put-sheet-requires-3 c κs =
-    let o = given (c .before .before .before .before .before) in
-    (facts o, omega (arith, size o, few o))
-
-same-length-3 : tie.Need-same-length-3
-same-length-3 c = search needs
-
-returns-4 : tie.Need-returns-4
-returns-4 c =
-    let p = c .before .before .before .before .before .before .before .before in
-    let o = given p in
-    let room = c .before .before .before .before .before .if3 .left in
-    done o (c .before .before .put-sheet3 .ensures) (kept p) (omega (arith, counted p, ap length (kept p), room))
+returns-2 c = c .before .before .write-checked .ensures
 
 pub write-sheet-spec : {M : Type 1} → statement M
-write-sheet-spec =
-    tie.close
-    (tie.spec
-    check-write-requires
-    returns
-    order-length-requires
-    slice-aggregate-all
-    mul-longest
-    add-longest
-    mul-longest-2
-    add-longest-2
-    slice-aggregate-put-sheet
-    put-sheet-requires
-    same-length
-    returns-2
-    slice-relend-prefix-put-sheet
-    slice-aggregate-put-sheet-2
-    slice-aggregate-put-sheet-3
-    put-sheet-requires-2
-    same-length-2
-    returns-3
-    slice-aggregate-put-sheet-4
-    put-sheet-requires-3
-    same-length-3
-    returns-4)
+write-sheet-spec = tie.close (tie.spec check-write-requires returns write-checked-requires same-length returns-2)
