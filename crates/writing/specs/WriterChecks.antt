@@ -29,8 +29,7 @@ use Rattle.rules.specs.Rows.{every, smallRow}
 use Rattle.rules.specs.Stores.{Sizes, span, parts, rowOf, rowsOf, relationOf, relationsOf, relationNeed, rowNeed}
 use Rattle.rules.specs.Stores.{sizesRight, countRight, unusedZero, rowRight, relationRight, checkStores}
 use Rattle.rules.specs.Layout.{StoresRight, NumbersRight, SizeBounds, checkStores-zero, numbersRight-iff, size-bounds}
-use Rattle.rules.specs.Layout.{countRight-iff, lengthsRight-iff}
-use Rattle.rows.specs.Flat.{smallRow-rowOf}
+use Rattle.rules.specs.Layout.{countRight-iff, lengthsRight-iff, coefficientsOf-rowOf-all}
 use Rattle.rows.specs.Written.{every-drop}
 use Rattle.rules.specs.Calls.{overwrite}
 use Rattle.rules.specs.Sheets.{writeSheet}
@@ -71,9 +70,9 @@ held-every t f k n l h i g =
     .0
 
 row-small : (z : Sizes) (part : List ℤ) → length part ≡ 320 → T (rowRight z (rowOf part)) → T (every small part)
-unfolding rowRight
+unfolding rowRight smallRow
 row-small z part h right =
-    rw (smallRow-rowOf part h) at (T-&& (smallRow (rowOf part)) (unusedZero (z .m) (span z) (rowOf part)) .0 right .0)
+    rw (coefficientsOf-rowOf-all part h) at (T-&& (smallRow (rowOf part)) (unusedZero (z .m) (span z) (rowOf part)) .0 right .0)
 
 relation-small : (z : Sizes) (part : List ℤ) → length part ≡ 321 → T (relationRight z (relationOf part)) → T (every small part)
 unfolding relationRight relationOf every
