@@ -5,12 +5,14 @@
 --   Put, Going        what a writing function does; what a loop that writes has still to do
 --   digitsOf, spaced  the digits of a whole number; numbers with a space before each
 --   termAt, numbersOf, nonzeroCount, Lengths   the numbers of one term, of several, how many there are, and their lengths
+--   SmallParts        the parts of a store hold numbers within ±C
 --   sheetGiven        the sheet of a system in stores, with the columns that are written
 --
 -- Main statements
 --   put-then          two runs of bytes stored one after the other are one run
 --   going-first, going-next, going-last   a loop that stores a run part by part
 --   digits-last, digits-back   the last digit of a number comes after the digits of its tenth, and may be stored before them
+--   decimal-length    a number within ±C takes at most ten bytes
 --   line-is           a line is its first number, the others spaced, and byte 10
 --   trim-nonzero, trim-more, trim-take   how many coefficients a term has, and which
 --   block-next, terms-next, lines-next   one term, one block, one line more
