@@ -43,26 +43,14 @@ struct Digits {
     value: u64,
 }
 
-// Where ten digits would end, or where the bytes do.
-fn digits_limit(bytes: &[u8], from: usize) -> usize
-    requires { ⌜ from ≤ length (now bytes) ⌝ }
-    ensures { λ r. ⌜ (from ≤ r) × (r ≤ length (now (bytes .entry))) × (r ≤ from + 10) × (r < length (now (bytes .entry)) → from + 10 ≤ r) ⌝ }
-{
-    if 10 < bytes.len() - from {
-        return from + 10;
-    }
-    bytes.len()
-}
-
 // The digits from `from` on, at most ten.
 fn digits_from(bytes: &[u8], from: usize) -> Digits
     requires { ⌜ from ≤ length (now bytes) ⌝ }
     ensures { λ r. ⌜ DigitsTo (now (bytes .entry)) from (r .end) (r .value) × Stopped (now (bytes .entry)) from (r .end) ⌝ }
 {
-    let limit = digits_limit(bytes, from);
     let mut value: u64 = 0;
     let mut end = from;
-    while end < limit {
+    while end < bytes.len() && end - from < 10 {
         let b = bytes[end];
         if !is_digit(b) {
             break;

@@ -1,30 +1,30 @@
 -- `tokens::digits_from` meets its contract. The loop's invariant: the bytes from `from` up to `end` are digits with the value
--- `value`. The measure is what is left up to the limit.
+-- `value`. The measure is what is left of the bytes.
 -- Assumes nothing.
 use mathlib.Core.Path.{_≡_, sym, _∙_}
 use mathlib.Core.Bool.{true}
 use mathlib.Core.Logic.{inl, inr}
 use Prim.Native.Nat.{_+_, _*_, _-_, _≤_}
 use native.Mathlib.Omega.{arith}
-use borrow.Author.Tests.{not-true, not-false}
+use borrow.Author.Tests.{not-true, not-false, ltb-true, ltb-false}
 use denote.Ref.{now}
-use lib.ListN.{getD}
+use lib.ListN.{length, getD}
 use Rattle.rules.specs.Numbers.{isDigit}
 use Rattle.tokens.specs.Tokens.{DigitsTo, digits-begin, digits-size, digits-go-on, digit-bounds}
 use Rattle.tokens.proofs.digits_from.Statement.{statement}
 use Rattle.tokens.proofs.digits_from.Tie as tie
 
 abbrev Inv-loop : tie.InvT-loop
-Inv-loop bytes from limit value₀ end₀ value end = (end ≤ limit) × DigitsTo bytes from end value
+Inv-loop bytes from value₀ end₀ value end = DigitsTo bytes from end value
 
 abbrev μ-loop : tie.MeasureT-loop
-μ-loop bytes from limit value₀ end₀ value end = limit - end
-
-digits-limit-requires : tie.Need-digits-limit-requires Inv-loop μ-loop
-digits-limit-requires c κs = c .before .pre
+μ-loop bytes from value₀ end₀ value end = length bytes - end
 
 loop-holds : tie.Need-loop-holds Inv-loop μ-loop
-loop-holds c = (c .digits-limit .ensures .0, digits-begin _ _ (c .before .before .pre))
+loop-holds c = digits-begin _ _ (c .before .pre)
+
+sub-if1 : tie.Need-sub-if1 Inv-loop μ-loop
+sub-if1 c = omega arith
 
 shared-slice-read-b : tie.Need-shared-slice-read-b Inv-loop μ-loop
 shared-slice-read-b c = omega arith
@@ -33,24 +33,24 @@ is-digit-requires : tie.Need-is-digit-requires Inv-loop μ-loop
 is-digit-requires c κs = tt
 
 -- What a turn knows of the byte that it reads, and of the digits after it.
-module _ (c : tie.Else1 Inv-loop μ-loop) where
+module _ (c : tie.Else2 Inv-loop μ-loop) where
   abbrev s : tie.Start Inv-loop μ-loop
   s = c .before .before .before .before .before .before .before
 
   abbrev l : tie.At-loop Inv-loop μ-loop
-  l = c .before .before .before .before
+  l = c .before .before .before .before .before
 
   digit : isDigit (getD (now (s .args .bytes)) (l .loop .end) 0) ≡ true
-  digit = sym (c .before .is-digit .ensures) ∙ not-false _ (c .if1 .left)
+  digit = sym (c .before .is-digit .ensures) ∙ not-false _ (c .if2 .left)
 
   bounds : (48 ≤ getD (now (s .args .bytes)) (l .loop .end) 0) × (getD (now (s .args .bytes)) (l .loop .end) 0 ≤ 57)
   bounds = digit-bounds _ digit
 
   goes-on : DigitsTo (now (s .args .bytes)) (s .args .from) (l .loop .end + 1) (10 * l .loop .value + (getD (now (s .args .bytes)) (l .loop .end) 0 - 48))
-  goes-on = digits-go-on _ _ _ _ (l .loop .inv .1) (omega arith) (omega arith) digit
+  goes-on = digits-go-on _ _ _ _ (l .loop .inv) (omega arith) (omega (arith, ltb-true (l .loop .end - s .args .from) 10 (c .before .before .before .if1 .taken))) digit
 
 mul-value : tie.Need-mul-value Inv-loop μ-loop
-mul-value c = omega (arith, digits-size _ _ _ _ (l c .loop .inv .1))
+mul-value c = omega (arith, digits-size _ _ _ _ (l c .loop .inv))
 
 sub-value : tie.Need-sub-value Inv-loop μ-loop
 sub-value c = bounds c .0
@@ -68,13 +68,18 @@ loop-less : tie.Need-loop-less Inv-loop μ-loop
 loop-less c = omega arith
 
 loop-again : tie.Need-loop-again Inv-loop μ-loop
-loop-again c = (omega arith, goes-on c)
+loop-again c = goes-on c
 
 returns : tie.Need-returns Inv-loop μ-loop
-returns c = (c .before .loop .inv .1, λ h. inr (omega (arith, c .before .before .digits-limit .ensures .3 (omega arith))))
+returns c =
+    let l = c .before .before .loop in
+    (l .inv, λ h. inr (omega (arith, ltb-false (l .end - c .before .before .before .before .args .from) 10 (c .if1 .left))))
 
 returns-2 : tie.Need-returns-2 Inv-loop μ-loop
-returns-2 c = (c .before .before .before .before .loop .inv .1, λ h. inl (sym (c .before .is-digit .ensures) ∙ not-true _ (c .if1 .taken)))
+returns-2 c = (c .before .loop .inv, λ h. absurd (omega arith))
+
+returns-3 : tie.Need-returns-3 Inv-loop μ-loop
+returns-3 c = (c .before .before .before .before .before .loop .inv, λ h. inl (sym (c .before .is-digit .ensures) ∙ not-true _ (c .if2 .taken)))
 
 pub digits-from-spec : {M : Type 1} → statement M
 digits-from-spec =
@@ -82,8 +87,8 @@ digits-from-spec =
     (tie.spec
     Inv-loop
     μ-loop
-    digits-limit-requires
     loop-holds
+    sub-if1
     shared-slice-read-b
     is-digit-requires
     mul-value
@@ -94,4 +99,5 @@ digits-from-spec =
     loop-less
     loop-again
     returns
-    returns-2)
+    returns-2
+    returns-3)
