@@ -71,6 +71,11 @@ module _ {A : Type 0} where
       ∙ ap₂ (λ t r. t ++ (take w p ++ r)) (drop-take k q l) (ap (λ j. drop j l) (add-assoc k q w) ∙ sym (drop-drop (q + w) k l))
       ∙ sym (append-assoc (take q (drop k l)) (take w p) (drop (q + w) (drop k l)))
 
+  -- A list that is replaced whole.
+  pub paste-whole : (l p : List A) (k : ℕ) → length l ≤ k → length p ≡ k → paste l 0 p k ≡ p
+  paste-whole l p k short long =
+      ap₂ (λ s r. s ++ r) (take-all k p (le-of-eq long)) (ap (λ j. drop j l) (zero-add k) ∙ drop-of-length-le l short) ∙ append-nil p
+
   -- A part replaced within the i-th of the parts of width k.
   parts-paste : (k n i j : ℕ) (l p : List A) (w : ℕ) → i < n → j + w ≤ k → n * k ≤ length l → w ≤ length p
       → parts k n (paste l (i * k + j) p w) ≡ set (parts k n l) i (paste (getD (parts k n l) i []) j p w)
@@ -126,16 +131,10 @@ module _ {A : Type 0} (K k n m : ℕ) (l p : List A) (b c : ℕ) (hb : b < n) (h
   inner =
       ap (λ at. parts k m (paste part at p k)) (sym (add-zero (c * k)))
       ∙ parts-paste k m c 0 part p k hc (omega arith) (omega (arith, part-long)) (omega arith)
-      ∙ ap (set (parts k m part) c) whole
+      ∙ ap (set (parts k m part) c) (paste-whole (getD (parts k m part) c []) p k short long)
     where
       short : length (getD (parts k m part) c []) ≤ k
       short = rw (getD-parts k m part c hc, length-take) (omega arith)
-
-      whole : paste (getD (parts k m part) c []) 0 p k ≡ p
-      whole =
-          ap₂ (λ s r. s ++ r) (take-all k p (le-of-eq long))
-          (ap (λ j. drop j (getD (parts k m part) c [])) (zero-add k) ∙ drop-of-length-le (getD (parts k m part) c []) short)
-          ∙ append-nil p
 
   blocks-paste : map (parts k m) (parts K n (paste l (b * K + c * k) p k))
       ≡ set (map (parts k m) (parts K n l)) b (set (getD (map (parts k m) (parts K n l)) b []) c p)
@@ -542,7 +541,10 @@ module _ (z : Sizes) (sizes : T (sizesRight z)) (count : ℕ) (bytes : List ℕ)
                 (sym (put-is z s c e row sizes (right .0) (right .1) (so-far .long)));
           }
 
--- A row of zeros is blank.
-pub zeros-blank : rowOf (replicate rowLength (pos 0)) ≡ blankRow
+-- A row that was cleared is blank.
+zeros-blank : rowOf (replicate rowLength (pos 0)) ≡ blankRow
 unfolding rowOf blankRow
 zeros-blank = refl
+
+pub cleared-blank : (row : List ℤ) → length row ≡ rowLength → rowOf (paste row 0 (replicate rowLength (pos 0)) rowLength) ≡ blankRow
+cleared-blank row long = ap rowOf (paste-whole row (replicate rowLength (pos 0)) rowLength (le-of-eq long) refl) ∙ zeros-blank

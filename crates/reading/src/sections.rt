@@ -1,6 +1,6 @@
 // The sections of a sheet, "fixed order, each after its count", read into stores of the largest sizes.
 ghost use mathlib.Core.Path.{_≡_};
-ghost use Prim.Native.Nat.{_≤_};
+ghost use Prim.Native.Nat.{_*_, _≤_};
 ghost use lib.ListN.{length, drop};
 ghost use lib.Dec.{T};
 ghost use Rattle.rules.specs.Stores.{rowsOf, relationOf, relationsOf, sizesRight};
@@ -9,20 +9,8 @@ ghost use Rattle.tokens.specs.Fields.{Answers};
 ghost use Rattle.rows.specs.Validity.{sizesOf};
 ghost use Rattle.reading.specs.WholeSheet.{equationSection, relationSection, sheet, readSections};
 
-// The place after a section, or a refusal.
-struct SectionRead {
-    refusal: u8,
-    at: usize,
-}
-
-fn no_section(refusal: u8) -> SectionRead
-    ensures { λ r. ⌜ (r .refusal ≡ refusal) × (r .at ≡ 0) ⌝ }
-{
-    SectionRead { refusal, at: 0 }
-}
-
 // The m equations, read into the first m × 320 numbers of `rows`.
-fn equations_at(bytes: &[u8], at: usize, z: rows::validity::Sizes, rows: &mut [i64]) -> SectionRead
+fn equations_at(bytes: &[u8], at: usize, z: rows::validity::Sizes, rows: &mut [i64]) -> crate::equations::PartRead
     requires { ⌜ (at ≤ length (now bytes)) × T (sizesRight (sizesOf z)) ⌝ }
     requires { ⌜ 1280 ≤ length (now rows) ⌝ }
     ensures { λ r. ⌜ Answers (now (bytes .entry)) (r .refusal) (rowsOf (z .m) (now (rows .exit))) (r .at) (readEquations (sizesOf z) (z .m) (drop at (now (bytes .entry)))) ⌝ }
@@ -30,61 +18,39 @@ fn equations_at(bytes: &[u8], at: usize, z: rows::validity::Sizes, rows: &mut [i
     let mut next = at;
     let mut i = 0;
     while i < z.m {
-        let e = crate::equations::equation_at(bytes, next, z);
+        let from = i * 320;
+        let to = from + 320;
+        let e = crate::equations::equation_at(bytes, next, z, &mut rows[from..to]);
         if e.refusal != 0 {
-            return no_section(e.refusal);
+            return crate::equations::no_part(e.refusal);
         }
-        let row = e.row;
-        crate::equations::copy(rows, i * 320, &row, 320);
         next = e.at;
         i += 1;
     }
-    SectionRead {
+    crate::equations::PartRead {
         refusal: 0,
         at: next,
     }
 }
 
-// A relation, n0 and then a row, or a refusal.
-struct RelationRead {
-    refusal: u8,
+// "n0 and an equation", read into the 321 numbers of a relation.
+fn relation_at(
+    bytes: &[u8],
     at: usize,
-    numbers: [i64; 321],
-}
-
-fn no_relation(refusal: u8) -> RelationRead
-    ensures { λ r. ⌜ (r .refusal ≡ refusal) × (r .at ≡ 0) ⌝ }
-{
-    RelationRead {
-        refusal,
-        at: 0,
-        numbers: [0; 321],
-    }
-}
-
-// "n0 and an equation"
-fn relation_at(bytes: &[u8], at: usize, z: rows::validity::Sizes) -> RelationRead
+    z: rows::validity::Sizes,
+    relation: &mut [i64],
+) -> crate::equations::PartRead
     requires { ⌜ (at ≤ length (now bytes)) × T (sizesRight (sizesOf z)) ⌝ }
-    ensures { λ r. ⌜ Answers (now (bytes .entry)) (r .refusal) (relationOf (r .numbers)) (r .at) (readRelation (sizesOf z) (drop at (now (bytes .entry)))) ⌝ }
+    requires { ⌜ length (now relation) ≡ 321 ⌝ }
+    ensures { λ r. ⌜ Answers (now (bytes .entry)) (r .refusal) (relationOf (now (relation .exit))) (r .at) (readRelation (sizesOf z) (drop at (now (bytes .entry)))) ⌝ }
 {
     let n = tokens::small_at(bytes, at);
     if n.refusal != 0 {
-        return no_relation(n.refusal);
-    }
-    let e = crate::equations::equation_at(bytes, n.at, z);
-    if e.refusal != 0 {
-        return no_relation(e.refusal);
+        return crate::equations::no_part(n.refusal);
     }
     let index = n.value;
-    let row = e.row;
-    // n0 comes first; the row takes the other places
-    let mut numbers: [i64; 321] = [index; 321];
-    crate::equations::copy(&mut numbers, 1, &row, 320);
-    RelationRead {
-        refusal: 0,
-        at: e.at,
-        numbers,
-    }
+    relation[0] = index;
+    crate::equations::equation_at(bytes, n.at, z, &mut relation[1..])
 }
 
 // The relations, read into the first `count` × 321 numbers of `relations`.
@@ -94,24 +60,24 @@ fn relations_at(
     z: rows::validity::Sizes,
     count: usize,
     relations: &mut [i64],
-) -> SectionRead
+) -> crate::equations::PartRead
     requires { ⌜ (at ≤ length (now bytes)) × T (sizesRight (sizesOf z)) ⌝ }
-    requires { ⌜ (count ≤ 16) × (5136 ≤ length (now relations)) ⌝ }
+    requires { ⌜ (count ≤ 16) × (count * 321 ≤ length (now relations)) ⌝ }
     ensures { λ r. ⌜ Answers (now (bytes .entry)) (r .refusal) (relationsOf count (now (relations .exit))) (r .at) (readRelations (sizesOf z) count (drop at (now (bytes .entry)))) ⌝ }
 {
     let mut next = at;
     let mut i = 0;
     while i < count {
-        let e = relation_at(bytes, next, z);
+        let from = i * 321;
+        let to = from + 321;
+        let e = relation_at(bytes, next, z, &mut relations[from..to]);
         if e.refusal != 0 {
-            return no_section(e.refusal);
+            return crate::equations::no_part(e.refusal);
         }
-        let numbers = e.numbers;
-        crate::equations::copy(relations, i * 321, &numbers, 321);
         next = e.at;
         i += 1;
     }
-    SectionRead {
+    crate::equations::PartRead {
         refusal: 0,
         at: next,
     }
@@ -123,7 +89,7 @@ pub(crate) fn equation_section(
     at: usize,
     z: rows::validity::Sizes,
     rows: &mut [i64],
-) -> SectionRead
+) -> crate::equations::PartRead
     requires { ⌜ (at ≤ length (now bytes)) × T (sizesRight (sizesOf z)) ⌝ }
     requires { ⌜ 1280 ≤ length (now rows) ⌝ }
     ensures { λ r. ⌜ Answers (now (bytes .entry)) (r .refusal) (rowsOf (z .m) (now (rows .exit))) (r .at) (equationSection (sizesOf z) (drop at (now (bytes .entry)))) ⌝ }
@@ -131,7 +97,7 @@ pub(crate) fn equation_section(
     let m = z.m as i64;
     let k = tokens::number_between(bytes, at, m, m, 10);
     if k.refusal != 0 {
-        return no_section(k.refusal);
+        return crate::equations::no_part(k.refusal);
     }
     equations_at(bytes, k.at, z, rows)
 }

@@ -71,6 +71,17 @@ pub gives : {A : Type 0} {bytes : List ℕ} {v w : A} {at : ℕ} {expected : Rea
 unfolding readOf
 gives {bytes = bytes} {at = at} same e h = record { answer = ap (λ v. got v (drop at bytes)) same ∙ sym e; within = h }
 
+-- What is made of a value that was read.
+pub answers-made : {A B : Type 0} (make : A → B) {bytes : List ℕ} {refusal : ℕ} {v : A} {at : ℕ} {expected : Read A}
+    → Answers bytes refusal v at expected → Answers bytes refusal (make v) at (thenRead expected (λ a rest. got (make a) rest))
+unfolding readOf thenRead
+answers-made make {bytes} {refusal} {v} {at} a =
+    record { answer = made refusal ∙ ap (λ r. thenRead r (λ a rest. got (make a) rest)) (a .answer); within = a .within }
+  where
+    made : (n : ℕ) → readOf bytes n (make v) at ≡ thenRead (readOf bytes n v at) (λ a rest. got (make a) rest)
+    made zero = refl
+    made (suc n) = refl
+
 module _ {A B : Type 0} (f : A → List ℕ → Read B) where
   pub then-got : {r : Read A} {a : A} {rest : List ℕ} → r ≡ got a rest → thenRead r f ≡ f a rest
   unfolding thenRead

@@ -2,6 +2,7 @@
 -- Assumes nothing.
 use mathlib.Core.Path.{_≡_, refl, sym, _∙_}
 use Prim.Native.Nat.{_≤_}
+use native.Mathlib.Omega.{arith}
 use borrow.Author.Needs.{needs, sfits-of}
 use denote.Ref.{now}
 use lib.Dec.{T}
@@ -51,7 +52,7 @@ cast-count c = rw (toZ-ofZ (count-fits c)) (bounds c .0, fits-natAbs tt (count-f
 
 relations-at-requires : tie.Need-relations-at-requires
 relations-at-requires c κs =
-    ((c .before .before .before .before .before .number-between .ensures .0 .within, c .before .before .before .before .before .before .before .pre .0 .1), (rw (toZ-ofZ (count-fits (c .before))) (bounds (c .before) .2), c .before .before .before .before .before .before .before .pre .1))
+    ((c .before .before .before .before .before .number-between .ensures .0 .within, c .before .before .before .before .before .before .before .pre .0 .1), rw (toZ-ofZ (count-fits (c .before))) (bounds (c .before) .2, omega (arith, bounds (c .before) .2, c .before .before .before .before .before .before .before .pre .1)))
 
 no-relations-requires-2 : tie.Need-no-relations-requires-2
 no-relations-requires-2 c κs = tt
