@@ -6,17 +6,16 @@
 --
 -- Main statements
 --   equations-each, relations-each    the equations and the relations of a sheet are such things
---   part-long            how long a part of a store is
 --   relationOf-back      n0 and a row read behind it are a relation
 use Prim.Native.Nat.{ℕ, zero, suc, _+_, _*_, _-_, _≤_, _<_, zero-le}
 use native.Mathlib.Nat.{suc-inj, suc-ne-zero, le-of-eq, sub-zero, add-comm, zero-mul, suc-mul}
 use native.Mathlib.Numerals.{add-one}
 use native.Mathlib.Omega.{arith}
 use mathlib.Core.Path.{_≡_, refl, sym, ap, ap₂, _∙_}
-use mathlib.Core.List.{List, [], _∷_, _++_, map, map-append, append-nil, append-assoc}
+use mathlib.Core.List.{List, [], _∷_, _++_, map, map-append, append-nil}
 use lib.ListN.{length, getD, take, drop, set, length-drop, drop-of-length-le}
 use lib.Seq.{paste, length-paste, take-all, take-at, length-take-le, append-snoc}
-use borrow.Rule.Slice.PartMut.{midOf, putMid, mid-len, post-is}
+use borrow.Rule.Slice.PartMut.{putMid}
 use lib.IntN.{ℤ, pos}
 use Rattle.rules.specs.Limits.{rowLength, relationLength}
 use Rattle.rules.specs.Rows.{Relation}
@@ -24,7 +23,7 @@ use Rattle.rules.specs.Stores.{Sizes, parts, rowOf, rowsOf, relationOf, relatio
 use Rattle.rules.specs.Numbers.{space, Read, got, fault, thenRead, field, judgeSmall}
 use Rattle.rules.specs.Sheets.{always, readEquation, readEquations, readRelation, readRelations}
 use Rattle.tokens.specs.Fields.{then-got, then-fault, then-cong, then-then}
-use Rattle.reading.specs.Equations.{take-before-paste, drop-into-paste}
+use Rattle.reading.specs.Equations.{take-before-paste, drop-into-paste, lent-back}
 
 -- ---- things of one kind
 
@@ -70,17 +69,6 @@ module _ {A : Type 0} (k : ℕ) (p : List A) (long : length p ≡ k) where
 
       fits : (k + i * k ≤ length l) × (i * k + k ≤ length l - k)
       fits = omega (arith, suc-mul i k)
-
--- ---- a part of a store that was lent, and is back
-
-module _ {A : Type 0} (store : List A) (a w : ℕ) where
-  pub part-long : a + w ≤ length store → length (midOf a (a + w - a) store) ≡ w
-  part-long h = mid-len a (a + w) store h ∙ omega arith
-
-  part-back : (item : List A) → length item ≡ w → putMid a (a + w - a) store item ≡ paste store a item w
-  part-back item long =
-      ap₂ (λ t r. take a store ++ (t ++ r)) (sym (take-all w item (le-of-eq long))) (post-is a (a + w) store (omega arith))
-      ∙ sym (append-assoc (take a store) (take w item) (drop (a + w) store))
 
 -- ---- a store filled part by part
 
@@ -143,7 +131,7 @@ module _ {B : Type 0} (width : ℕ) (decode : List ℤ → B) (one : List ℕ �
           → StoredTo store₀ (putMid (i * width) (i * width + width - i * width) store item) (i + 1) after
       unfolding others cons storedThen
       stored-goes-on item after whole room e inside =
-          rw (part-back store (i * width) width item whole)
+          rw (lent-back store (i * width) width item whole)
           (record {
             counted = omega arith;
             within = inside;

@@ -34,17 +34,6 @@ fn place_in_row(l: i64, block: i64, column: usize) -> usize
     (l - block) as usize * 64 + (column - 1) * 16
 }
 
-// The coefficients of a term, stored at its place.
-fn put_term(row: &mut [i64], l: i64, e: crate::terms::TermRead)
-    requires { ⌜ (natAbs (l -ℤ e .block) ≤ 4) × (e .block ≤ℤ l) ⌝ }
-    requires { ⌜ (1 ≤ e .column) × (e .column ≤ 4) ⌝ }
-    requires { ⌜ placeInRow l (e .block) (e .column) + 16 ≤ length (now row) ⌝ }
-    ensures { λ _. ⌜ now (row .exit) ≡ paste (now (row .entry)) (placeInRow l (e .block) (e .column)) (e .coefficients) 16 ⌝ }
-{
-    let coefficients = e.coefficients;
-    copy(row, place_in_row(l, e.block, e.column), &coefficients, 16);
-}
-
 // The place after what was read into a store, or a refusal.
 pub(crate) struct PartRead {
     pub refusal: u8,
@@ -57,7 +46,7 @@ pub(crate) fn no_part(refusal: u8) -> PartRead
     PartRead { refusal, at: 0 }
 }
 
-// `count` terms, put into the 320 numbers of a row as they are read.
+// `count` terms, each read into its place in the 320 numbers of a row.
 fn terms_at(
     bytes: &[u8],
     at: usize,
@@ -76,14 +65,20 @@ fn terms_at(
     let mut left = count;
     while 0 < left {
         left -= 1;
-        let e = crate::terms::term_at(bytes, next, z, block, column, crate::counts::parting(left));
-        if e.refusal != 0 {
-            return no_part(e.refusal);
+        let q = crate::terms::place_at(bytes, next, z, block, column);
+        if q.refusal != 0 {
+            return no_part(q.refusal);
         }
-        put_term(row, z.l, e);
-        next = e.at;
-        block = e.block;
-        column = e.column;
+        let from = place_in_row(z.l, q.block, q.column);
+        let to = from + 16;
+        let separator = crate::counts::parting(left);
+        let p = crate::terms::polynomial_at(bytes, q.at, separator, &mut row[from..to]);
+        if p.refusal != 0 {
+            return no_part(p.refusal);
+        }
+        next = p.at;
+        block = q.block;
+        column = q.column;
     }
     PartRead {
         refusal: 0,

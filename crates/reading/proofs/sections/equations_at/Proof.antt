@@ -12,7 +12,8 @@ use Rattle.rules.specs.Stores.{rowOf}
 use Rattle.rules.specs.Sheets.{readEquation}
 use Rattle.rules.specs.Layout.{size-bounds}
 use Rattle.tokens.specs.Fields.{answer-fault, answer-got, refuses, gives}
-use Rattle.reading.specs.Sections.{equations-each, part-long, StoredTo, stored-begins, stored-ends, stored-refused, stored-goes-on, rowsOf-parts}
+use Rattle.reading.specs.Equations.{lent-long}
+use Rattle.reading.specs.Sections.{equations-each, StoredTo, stored-begins, stored-ends, stored-refused, stored-goes-on, rowsOf-parts}
 use Rattle.rows.specs.Validity.{sizesOf}
 use Rattle.reading.proofs.sections.equations_at.Statement.{statement}
 use Rattle.reading.proofs.sections.equations_at.Tie as tie
@@ -33,7 +34,7 @@ module _ (c : tie.Then1 Inv-loop μ-loop) where
   room = omega (arith, size-bounds _ (c .before .before .before .before .pre .0 .1) .few, c .before .before .before .before .pre .1, c .if1 .taken)
 
   long : length (midOf (c .before .before .loop .i * 320) (c .before .before .loop .i * 320 + 320 - c .before .before .loop .i * 320) (c .before .before .loop .rows)) ≡ 320
-  long = part-long (c .before .before .loop .rows) (c .before .before .loop .i * 320) 320 (rw (c .before .before .loop .inv .long) room)
+  long = lent-long (c .before .before .loop .rows) (c .before .before .loop .i * 320) 320 (rw (c .before .before .loop .inv .long) room)
 
 mul-from : tie.Need-mul-from Inv-loop μ-loop
 mul-from c = omega (arith, room c)

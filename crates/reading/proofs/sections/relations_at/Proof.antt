@@ -11,7 +11,8 @@ use lib.ListN.{length}
 use Rattle.rules.specs.Stores.{relationOf}
 use Rattle.rules.specs.Sheets.{readRelation}
 use Rattle.tokens.specs.Fields.{answer-fault, answer-got, refuses, gives}
-use Rattle.reading.specs.Sections.{relations-each, part-long, StoredTo, stored-begins, stored-ends, stored-refused, stored-goes-on, relationsOf-parts}
+use Rattle.reading.specs.Equations.{lent-long}
+use Rattle.reading.specs.Sections.{relations-each, StoredTo, stored-begins, stored-ends, stored-refused, stored-goes-on, relationsOf-parts}
 use Rattle.rows.specs.Validity.{sizesOf}
 use Rattle.reading.proofs.sections.relations_at.Statement.{statement}
 use Rattle.reading.proofs.sections.relations_at.Tie as tie
@@ -32,7 +33,7 @@ module _ (c : tie.In-loop Inv-loop μ-loop) where
   room = omega (arith, c .before .before .before .pre .1, c .loop-test .taken)
 
   long : length (midOf (c .before .loop .i * 321) (c .before .loop .i * 321 + 321 - c .before .loop .i * 321) (c .before .loop .relations)) ≡ 321
-  long = part-long (c .before .loop .relations) (c .before .loop .i * 321) 321 (rw (c .before .loop .inv .long) room)
+  long = lent-long (c .before .loop .relations) (c .before .loop .i * 321) 321 (rw (c .before .loop .inv .long) room)
 
 mul-from : tie.Need-mul-from Inv-loop μ-loop
 mul-from c = omega (arith, room c)
