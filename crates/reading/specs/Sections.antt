@@ -8,7 +8,7 @@
 --   equations-each, relations-each    the equations and the relations of a sheet are such things
 --   relationOf-back      n0 and a row read behind it are a relation
 use Prim.Native.Nat.{ℕ, zero, suc, _+_, _*_, _-_, _≤_, _<_, zero-le}
-use native.Mathlib.Nat.{suc-inj, suc-ne-zero, le-of-eq, sub-zero, add-comm, zero-mul, suc-mul}
+use native.Mathlib.Nat.{suc-ne-zero, le-of-eq, sub-zero, add-comm, zero-mul, suc-mul}
 use native.Mathlib.Numerals.{add-one}
 use native.Mathlib.Omega.{arith}
 use mathlib.Core.Path.{_≡_, refl, sym, ap, ap₂, _∙_}

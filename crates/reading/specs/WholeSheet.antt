@@ -9,7 +9,7 @@
 --   sizes-is      the first line is those two halves
 --   sizes-right   sizes that were read are right
 --   sheet-is      a sheet is its sizes, its sections and its end
-use Prim.Native.Nat.{ℕ, _-_, _≤_, _<_}
+use Prim.Native.Nat.{ℕ, _≤_, _<_}
 use native.Mathlib.Nat.{le-refl}
 use mathlib.Core.Path.{_≡_, refl, sym, ap, ap₂, _∙_, subst}
 use mathlib.Core.Bool.{true, _&&_}

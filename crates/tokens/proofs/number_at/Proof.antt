@@ -2,13 +2,13 @@
 -- Assumes nothing.
 use mathlib.Core.Path.{_≡_, refl, sym, ap, ap₂, _∙_}
 use mathlib.Core.Bool.{Bool, true, false, _&&_, cond}
-use Prim.Native.Nat.{ℕ, _-_, _<_}
+use Prim.Native.Nat.{ℕ, _-_}
 use mathlib.Core.List.{List}
 use native.Mathlib.Omega.{arith}
 use borrow.Author.Tests.{not-true, not-false, lt-leb, le-leb}
 use denote.Ref.{now}
 use lib.Dec.{leb, ltb}
-use lib.ListN.{length, getD, drop}
+use lib.ListN.{length, drop}
 use lib.IntN.{pos, negℤ}
 use lib.Seq.{slice}
 use borrow.Author.Needs.{sfits-of}

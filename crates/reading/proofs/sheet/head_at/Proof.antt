@@ -1,8 +1,8 @@
 -- `reading::sheet::head_at` meets its contract: the sizes, the equations, and the number of relations.
 -- Assumes nothing.
-use mathlib.Core.Path.{_≡_, refl, sym, ap, _∙_}
+use mathlib.Core.Path.{_≡_, refl, _∙_}
 use Prim.Native.Nat.{_≤_, zero-le}
-use borrow.Author.Needs.{needs, sfits-of}
+use borrow.Author.Needs.{sfits-of}
 use denote.Ref.{now}
 use lib.Dec.{T}
 use lib.IntN.{ℤ, pos, natAbs}
@@ -12,10 +12,10 @@ use mir.Syntax.{w64}
 use mir.Val.{SFits}
 use mir.Facts.{toZ-ofZ, fits-natAbs}
 use Rattle.rules.specs.Numbers.{got, field, between}
-use Rattle.rules.specs.Stores.{sizesRight, rowsOf}
+use Rattle.rules.specs.Stores.{sizesRight}
 use Rattle.rules.specs.Sheets.{always, readSizes}
 use Rattle.tokens.specs.Fields.{answer-fault, answer-got, then-fault, field-judged, between-zero}
-use Rattle.reading.specs.WholeSheet.{sizes-right, sheet-is, equationSection, HeadTo, head-refuses, equations-fault, count-fault, count-got}
+use Rattle.reading.specs.WholeSheet.{sizes-right, sheet-is, head-refuses, equations-fault, count-fault, count-got}
 use Rattle.rows.specs.Validity.{sizesOf}
 use Rattle.reading.proofs.sheet.head_at.Statement.{statement}
 use Rattle.reading.proofs.sheet.head_at.Tie as tie
