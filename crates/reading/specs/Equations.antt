@@ -20,6 +20,7 @@ use mathlib.Core.Bool.{Bool, true, false, _||_}
 use mathlib.Core.List.{List, [], _∷_, _++_, map, append-nil, append-assoc}
 use lib.ListN.{length, getD, take, drop, set, replicate, length-take, length-drop, drop-of-length-le}
 use lib.Seq.{paste, length-paste, take-all, take-take, take-append-le, take-append-add, drop-append-le, drop-drop, drop-paste, length-paste-head, length-take-le, set-comm, getD-set-other}
+use borrow.Rule.Slice.PartMut.{midOf, putMid, mid-len, post-is}
 use lib.Dec.{T, ltb}
 use lib.IntN.{ℤ, pos, natAbs, _-ℤ_}
 use lib.Signed.{ltZ, ltZ-yes, ≤ℤ-refl, clashℤ, pos-natAbs, _≤ℤ_, _<ℤ_}
@@ -70,6 +71,20 @@ module _ {A : Type 0} where
       ∙ drop-append-le k (take (k + q) l) (take w p ++ drop (k + q + w) l) (rw (length-take-le (k + q) l inside) (omega arith))
       ∙ ap₂ (λ t r. t ++ (take w p ++ r)) (drop-take k q l) (ap (λ j. drop j l) (add-assoc k q w) ∙ sym (drop-drop (q + w) k l))
       ∙ sym (append-assoc (take q (drop k l)) (take w p) (drop (q + w) (drop k l)))
+
+  -- A part that was lent, and is back.
+  pub lent-long : (l : List A) (at w : ℕ) → at + w ≤ length l → length (midOf at (at + w - at) l) ≡ w
+  lent-long l at w h = mid-len at (at + w) l h ∙ omega arith
+
+  pub lent-back : (l : List A) (at w : ℕ) (p : List A) → length p ≡ w → putMid at (at + w - at) l p ≡ paste l at p w
+  lent-back l at w p long =
+      ap₂ (λ t r. take at l ++ (t ++ r)) (sym (take-all w p (le-of-eq long))) (post-is at (at + w) l (omega arith))
+      ∙ sym (append-assoc (take at l) (take w p) (drop (at + w) l))
+
+  -- A list that is replaced whole.
+  pub paste-whole : (l p : List A) (k : ℕ) → length l ≤ k → length p ≡ k → paste l 0 p k ≡ p
+  paste-whole l p k short long =
+      ap₂ (λ s r. s ++ r) (take-all k p (le-of-eq long)) (ap (λ j. drop j l) (zero-add k) ∙ drop-of-length-le l short) ∙ append-nil p
 
   -- A part replaced within the i-th of the parts of width k.
   parts-paste : (k n i j : ℕ) (l p : List A) (w : ℕ) → i < n → j + w ≤ k → n * k ≤ length l → w ≤ length p
@@ -126,16 +141,10 @@ module _ {A : Type 0} (K k n m : ℕ) (l p : List A) (b c : ℕ) (hb : b < n) (h
   inner =
       ap (λ at. parts k m (paste part at p k)) (sym (add-zero (c * k)))
       ∙ parts-paste k m c 0 part p k hc (omega arith) (omega (arith, part-long)) (omega arith)
-      ∙ ap (set (parts k m part) c) whole
+      ∙ ap (set (parts k m part) c) (paste-whole (getD (parts k m part) c []) p k short long)
     where
       short : length (getD (parts k m part) c []) ≤ k
       short = rw (getD-parts k m part c hc, length-take) (omega arith)
-
-      whole : paste (getD (parts k m part) c []) 0 p k ≡ p
-      whole =
-          ap₂ (λ s r. s ++ r) (take-all k p (le-of-eq long))
-          (ap (λ j. drop j (getD (parts k m part) c [])) (zero-add k) ∙ drop-of-length-le (getD (parts k m part) c []) short)
-          ∙ append-nil p
 
   blocks-paste : map (parts k m) (parts K n (paste l (b * K + c * k) p k))
       ≡ set (map (parts k m) (parts K n l)) b (set (getD (map (parts k m) (parts K n l)) b []) c p)
@@ -256,7 +265,7 @@ length-padTo zero v l = refl
 length-padTo (suc n) v [] = ap suc (length-padTo n v [])
 length-padTo (suc n) v (x ∷ l) = ap suc (length-padTo n v l)
 
-place-right : (z : Sizes) (s₀ : ℤ) (c₀ : ℕ) (bytes : List ℕ) (q : ℤ × ℕ) (rest : List ℕ) (p : Polynomial) → readPlace z s₀ c₀ bytes ≡ got q rest
+pub place-right : (z : Sizes) (s₀ : ℤ) (c₀ : ℕ) (bytes : List ℕ) (q : ℤ × ℕ) (rest : List ℕ) (p : Polynomial) → readPlace z s₀ c₀ bytes ≡ got q rest
     → TermRight z s₀ c₀ (termOf (q .0) (q .1) p)
 unfolding readPlace
 place-right z s₀ c₀ bytes q rest p e =
@@ -521,13 +530,15 @@ module _ (z : Sizes) (sizes : T (sizesRight z)) (count : ℕ) (bytes : List ℕ)
           → termsInto z count (z .l) 0 blankRow (drop at bytes) ≡ fault n
       terms-refused n e = so-far .rest ∙ term-next ∙ then-fault (intoRest z (left - 1) (rowOf row)) e
 
-      pub terms-go-on : (e : Term) (after : ℕ) → readPadded z s c (parting newline (left - 1)) (drop next bytes) ≡ got e (drop after bytes)
-          → after ≤ length bytes
-          → TermsTo z count bytes at (paste row (placeInRow (z .l) (e .block) (e .column)) (e .polynomial) coefficientCount) after (e .block) (e .column) (left - 1)
+      -- One more term, read into its place.
+      pub terms-go-on : (e : Term) (after from : ℕ) → readPadded z s c (parting newline (left - 1)) (drop next bytes) ≡ got e (drop after bytes)
+          → after ≤ length bytes → from ≡ placeInRow (z .l) (e .block) (e .column)
+          → TermsTo z count bytes at (putMid from (from + coefficientCount - from) row (e .polynomial)) after (e .block) (e .column) (left - 1)
       unfolding intoRest
-      terms-go-on e after h inside =
+      terms-go-on e after from h inside same =
           let right = padded-right z s c (parting newline (left - 1)) (drop next bytes) e (drop after bytes) h in
-          record {
+          rw (lent-back row from coefficientCount (e .polynomial) (right .1), same)
+          (record {
             within = inside;
             long =
                 length-paste row (placeInRow (z .l) (e .block) (e .column)) (e .polynomial) coefficientCount
@@ -540,9 +551,12 @@ module _ (z : Sizes) (sizes : T (sizesRight z)) (count : ℕ) (bytes : List ℕ)
                 ∙ then-got (intoRest z (left - 1) (rowOf row)) h
                 ∙ ap (λ q. termsInto z (left - 1) (e .block) (e .column) q (drop after bytes))
                 (sym (put-is z s c e row sizes (right .0) (right .1) (so-far .long)));
-          }
+          })
 
--- A row of zeros is blank.
-pub zeros-blank : rowOf (replicate rowLength (pos 0)) ≡ blankRow
+-- A row that was cleared is blank.
+zeros-blank : rowOf (replicate rowLength (pos 0)) ≡ blankRow
 unfolding rowOf blankRow
 zeros-blank = refl
+
+pub cleared-blank : (row : List ℤ) → length row ≡ rowLength → rowOf (paste row 0 (replicate rowLength (pos 0)) rowLength) ≡ blankRow
+cleared-blank row long = ap rowOf (paste-whole row (replicate rowLength (pos 0)) rowLength (le-of-eq long) refl) ∙ zeros-blank

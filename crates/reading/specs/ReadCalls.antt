@@ -6,7 +6,7 @@
 -- Main statements
 --   overwrite-paste      numbers put at the front of a store
 --   rows-filled, relations-filled   numbers put into a lent store are what `rules` writes into it
---   call-refuses, call-short, call-fills   the call where the sheet is refused, where a store is too short, and where it is read
+--   call-faults, call-refuses, call-short, call-fills   the call where the sheet is refused, where a store is too short, and where it is read
 use Prim.Native.Nat.{ℕ, _+_, _*_, _-_, _≤_, zero-le}
 use native.Mathlib.Nat.{le-of-eq, zero-add}
 use native.Mathlib.Omega.{arith}
@@ -116,12 +116,15 @@ unfolding thenRead padSheet
 pad-fault (got s rest) n e = absurd (got-not-fault e)
 pad-fault (fault k) n e = e
 
+pub call-faults : (bytes : List ℕ) (n : ℕ) (rowStore relationStore : List ℤ) → thenRead (readSheet bytes) padSheet ≡ fault n
+    → readCall bytes rowStore relationStore ≡ unread n rowStore relationStore
+unfolding readCall afterRead
+call-faults bytes n rowStore relationStore e = ap (λ q. afterRead q rowStore relationStore) (pad-fault (readSheet bytes) n e)
+
 module _ (bytes : List ℕ) (r : ReadResult) (rows relations : List ℤ) (read : SheetRead bytes r rows relations) (rowStore relationStore : List ℤ) where
   pub call-refuses : (r .refusal ≡ 0 → ⊥) → readCall bytes rowStore relationStore ≡ unread (r .refusal) rowStore relationStore
-  unfolding readCall afterRead
   call-refuses h =
-      ap (λ q. afterRead q rowStore relationStore)
-      (pad-fault (readSheet bytes) (r .refusal) (sym (read .answer) ∙ fault-of bytes (r .refusal) _ (length bytes) h))
+      call-faults bytes (r .refusal) rowStore relationStore (sym (read .answer) ∙ fault-of bytes (r .refusal) _ (length bytes) h)
 
   module _ (none : r .refusal ≡ 0) where
     abbrev held : Sheet

@@ -6,15 +6,16 @@
 --
 -- Main statements
 --   equations-each, relations-each    the equations and the relations of a sheet are such things
---   relationOf-paste     n0 and a row copied behind it are a relation
+--   relationOf-back      n0 and a row read behind it are a relation
 use Prim.Native.Nat.{ℕ, zero, suc, _+_, _*_, _-_, _≤_, _<_, zero-le}
-use native.Mathlib.Nat.{suc-inj, suc-ne-zero, le-of-eq, sub-zero, add-comm, zero-mul, suc-mul}
+use native.Mathlib.Nat.{suc-ne-zero, le-of-eq, sub-zero, add-comm, zero-mul, suc-mul}
 use native.Mathlib.Numerals.{add-one}
 use native.Mathlib.Omega.{arith}
 use mathlib.Core.Path.{_≡_, refl, sym, ap, ap₂, _∙_}
 use mathlib.Core.List.{List, [], _∷_, _++_, map, map-append, append-nil}
-use lib.ListN.{length, getD, take, drop, length-drop, drop-of-length-le}
+use lib.ListN.{length, getD, take, drop, set, length-drop, drop-of-length-le}
 use lib.Seq.{paste, length-paste, take-all, take-at, length-take-le, append-snoc}
+use borrow.Rule.Slice.PartMut.{putMid}
 use lib.IntN.{ℤ, pos}
 use Rattle.rules.specs.Limits.{rowLength, relationLength}
 use Rattle.rules.specs.Rows.{Relation}
@@ -22,7 +23,7 @@ use Rattle.rules.specs.Stores.{Sizes, parts, rowOf, rowsOf, relationOf, relatio
 use Rattle.rules.specs.Numbers.{space, Read, got, fault, thenRead, field, judgeSmall}
 use Rattle.rules.specs.Sheets.{always, readEquation, readEquations, readRelation, readRelations}
 use Rattle.tokens.specs.Fields.{then-got, then-fault, then-cong, then-then}
-use Rattle.reading.specs.Equations.{take-before-paste, drop-into-paste}
+use Rattle.reading.specs.Equations.{take-before-paste, drop-into-paste, lent-back}
 
 -- ---- things of one kind
 
@@ -124,12 +125,14 @@ module _ {B : Type 0} (width : ℕ) (decode : List ℤ → B) (one : List ℕ �
       pub stored-refused : (k : ℕ) → one (drop next bytes) ≡ fault k → readEach one n (drop at bytes) ≡ fault k
       stored-refused k e = so-far .rest ∙ then-fault (storedThen width decode store i) (next-one ∙ then-fault others e)
 
+      -- One more thing, read into its part of the store.
       pub stored-goes-on : (item : List ℤ) (after : ℕ) → length item ≡ width → i * width + width ≤ length store₀
           → one (drop next bytes) ≡ got (decode item) (drop after bytes) → after ≤ length bytes
-          → StoredTo store₀ (paste store (i * width) item width) (i + 1) after
+          → StoredTo store₀ (putMid (i * width) (i * width + width - i * width) store item) (i + 1) after
       unfolding others cons storedThen
       stored-goes-on item after whole room e inside =
-          record {
+          rw (lent-back store (i * width) width item whole)
+          (record {
             counted = omega arith;
             within = inside;
             long = length-paste store (i * width) item width fits (le-of-eq (sym whole)) ∙ so-far .long;
@@ -139,7 +142,7 @@ module _ {B : Type 0} (width : ℕ) (decode : List ℤ → B) (one : List ℕ �
                 ∙ then-then (readEach one (n - (i + 1)) (drop after bytes)) (cons (decode item)) (storedThen width decode store i)
                 ∙ then-cong (readEach one (n - (i + 1)) (drop after bytes))
                 (λ l more. then-got (storedThen width decode store i) refl ∙ ap (λ s. got s more) (sym (moved l)));
-          }
+          })
         where
           fits : i * width + width ≤ length store
           fits = rw (so-far .long) room
@@ -157,18 +160,13 @@ relationOf-is : (l : List ℤ) → relationOf l ≡ record { index = getD l 0 (p
 unfolding relationOf
 relationOf-is l = refl
 
--- n0 and a row behind it are a relation.
-pub relationOf-paste : (l row : List ℤ) (n0 : ℤ) → length l ≡ relationLength → length row ≡ rowLength → getD l 0 (pos 0) ≡ n0
-    → relationOf (paste l 1 row rowLength) ≡ record { index = n0; row = rowOf row }
-relationOf-paste [] row n0 el er h = absurd (suc-ne-zero 320 (sym el))
-relationOf-paste (x ∷ l) row n0 el er h =
-    relationOf-is (paste (x ∷ l) 1 row rowLength)
-    ∙ ap₂ (λ i r. record { index = i; row = rowOf r }) h behind
-  where
-    behind : take rowLength row ++ drop rowLength l ≡ row
-    behind =
-        ap₂ (λ t r. t ++ r) (take-all rowLength row (le-of-eq er)) (drop-of-length-le l (le-of-eq (suc-inj el)))
-        ∙ append-nil row
+-- n0 and a row read behind it are a relation.
+pub relationOf-back : (l row : List ℤ) (n0 : ℤ) → length l ≡ relationLength
+    → relationOf (putMid 1 (length (set l 0 n0) - 1) (set l 0 n0) row) ≡ record { index = n0; row = rowOf row }
+relationOf-back [] row n0 h = absurd (suc-ne-zero 320 (sym h))
+relationOf-back (x ∷ l) row n0 h =
+    relationOf-is (n0 ∷ (row ++ drop (suc (length l) - 1) l))
+    ∙ ap (λ r. record { index = n0; row = rowOf r }) (ap (λ r. row ++ r) (drop-of-length-le l {i = suc (length l) - 1} (omega arith)) ∙ append-nil row)
 
 -- The definition of a relation, with its second part named.
 unfoldable pub relationThen : Sizes → ℤ → List ℕ → Read Relation

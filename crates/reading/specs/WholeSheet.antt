@@ -9,7 +9,7 @@
 --   sizes-is      the first line is those two halves
 --   sizes-right   sizes that were read are right
 --   sheet-is      a sheet is its sizes, its sections and its end
-use Prim.Native.Nat.{ℕ, _-_, _≤_, _<_}
+use Prim.Native.Nat.{ℕ, _≤_, _<_}
 use native.Mathlib.Nat.{le-refl}
 use mathlib.Core.Path.{_≡_, refl, sym, ap, ap₂, _∙_, subst}
 use mathlib.Core.Bool.{true, _&&_}
@@ -28,7 +28,7 @@ use Rattle.rules.specs.Sheets.{always, judgeLowest, Sheet, readSizes, readEquat
 use Rattle.rules.specs.Calls.{padTo}
 use Rattle.rules.specs.SheetCalls.{ReadResult, readRefusal}
 use Rattle.tokens.specs.Tokens.{both-true}
-use Rattle.tokens.specs.Fields.{readOf, fault-of, then-got, then-cong, then-then, then-parts, field-judged, size-between, passed, between-zero}
+use Rattle.tokens.specs.Fields.{readOf, fault-of, then-got, then-fault, then-cong, then-then, then-parts, field-judged, size-between, passed, between-zero}
 use Rattle.reading.specs.Terms.{padded}
 use Rattle.reading.specs.Equations.{got-value}
 use Rattle.rows.specs.Validity.{sizesOf}
@@ -245,6 +245,63 @@ pub record SheetRead (bytes : List ℕ) (r : ReadResult) (rows relations : List 
       ≡ thenRead (readSheet bytes) padSheet
   pub unknowns : r .refusal ≡ 0 → r .sizes .m ≤ columnCount
   pub few : r .refusal ≡ 0 → r .relations ≤ mostRelations
+
+-- A sheet whose sizes, rows and number of relations have been read, and the relations come at the place `at`.
+pub record HeadTo (bytes : List ℕ) (z : Sizes) (count at : ℕ) (rows : List ℤ) : Type 0 where
+  pub within : at ≤ length bytes
+  pub right : T (sizesRight z)
+  pub few : count ≤ mostRelations
+  pub rest : thenRead (readSheet bytes) padSheet
+      ≡ thenRead (thenRead (readRelations z count (drop at bytes)) (orderSection z (rowsOf (z .m) rows))) readEnd
+
+-- So much of a sheet was read, or it is refused.
+pub record HeadRead (bytes : List ℕ) (refusal : ℕ) (z : Sizes) (count at : ℕ) (rows : List ℤ) : Type 0 where
+  pub read : refusal ≡ 0 → HeadTo bytes z count at rows
+  pub refused : (refusal ≡ 0 → ⊥) → thenRead (readSheet bytes) padSheet ≡ fault refusal
+
+module _ {bytes : List ℕ} {refusal : ℕ} {z : Sizes} {count at : ℕ} {rows : List ℤ} where
+  pub head-refuses : {n : ℕ} → (n ≡ 0 → ⊥) → thenRead (readSheet bytes) padSheet ≡ fault n → refusal ≡ n → HeadRead bytes refusal z count at rows
+  head-refuses h e r = record { read = λ z. absurd (h (sym r ∙ z)); refused = λ _. e ∙ ap fault (sym r) }
+
+module _ (bytes : List ℕ) (z : Sizes) (first : List ℕ) (sizes-read : readSizes bytes ≡ got z first) where
+  -- The equations, and then the relations.
+  pub equations-fault : {n : ℕ} → equationSection z first ≡ fault n → thenRead (readSheet bytes) padSheet ≡ fault n
+  unfolding sectionsEnd readSections
+  equations-fault e = sheet-is bytes ∙ then-got sectionsEnd sizes-read ∙ then-fault readEnd (then-fault (relationsThen z) e)
+
+  module _ (rows : List Row) (second : List ℕ) (rows-read : equationSection z first ≡ got rows second) where
+    to-relations : thenRead (readSheet bytes) padSheet ≡ thenRead (thenRead (relationSection z second) (orderSection z rows)) readEnd
+    unfolding sectionsEnd readSections relationsThen
+    to-relations = sheet-is bytes ∙ then-got sectionsEnd sizes-read ∙ ap (λ r. thenRead r readEnd) (then-got (relationsThen z) rows-read)
+
+    pub count-fault : {n : ℕ} → field (between (pos 0) (pos 16)) (always newline) second ≡ fault n → thenRead (readSheet bytes) padSheet ≡ fault n
+    unfolding relationSection
+    count-fault e = to-relations ∙ then-fault readEnd (then-fault (orderSection z rows) (then-fault _ e))
+
+    pub count-got : (count : ℤ) (third : List ℕ) → field (between (pos 0) (pos 16)) (always newline) second ≡ got count third
+        → thenRead (readSheet bytes) padSheet ≡ thenRead (thenRead (readRelations z (natAbs count) third) (orderSection z rows)) readEnd
+    unfolding relationSection
+    count-got count third e = to-relations ∙ ap (λ r. thenRead (thenRead r (orderSection z rows)) readEnd) (then-got _ e)
+
+module _ {bytes : List ℕ} {z : Sizes} {count at : ℕ} {rows : List ℤ} (head : HeadTo bytes z count at rows) where
+  -- The relations, and then the order.
+  pub relations-fault : {n : ℕ} → readRelations z count (drop at bytes) ≡ fault n → thenRead (readSheet bytes) padSheet ≡ fault n
+  relations-fault e = head .rest ∙ then-fault readEnd (then-fault (orderSection z (rowsOf (z .m) rows)) e)
+
+  module _ (relations : List Relation) (more : List ℕ) (e : readRelations z count (drop at bytes) ≡ got relations more) where
+    pub order-fault : {n : ℕ} → padded 4 0 (readOrder (z .m) more) ≡ fault n → thenRead (readSheet bytes) padSheet ≡ fault n
+    unfolding orderSection
+    order-fault f = head .rest ∙ then-fault readEnd (then-got (orderSection z (rowsOf (z .m) rows)) e ∙ then-fault _ f)
+
+    pub order-got : (order rest : List ℕ) → padded 4 0 (readOrder (z .m) more) ≡ got order rest
+        → thenRead (readSheet bytes) padSheet ≡ readEnd (sheet z (rowsOf (z .m) rows) relations order) rest
+    unfolding orderSection
+    order-got order rest f = head .rest ∙ then-got readEnd (then-got (orderSection z (rowsOf (z .m) rows)) e ∙ then-got _ f)
+
+-- A result that is a refusal.
+pub refused-nonzero : (r : SheetResult) (n : ℕ) → resultOf r ≡ readRefusal n → (n ≡ 0 → ⊥) → r .refusal ≡ 0 → ⊥
+unfolding resultOf readRefusal
+refused-nonzero r n e h z = h (sym (ap (λ q. q .refusal) e) ∙ z)
 
 module _ (bytes : List ℕ) (r : ReadResult) (rows relations : List ℤ) where
   held : Sheet

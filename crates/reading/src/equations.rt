@@ -34,59 +34,55 @@ fn place_in_row(l: i64, block: i64, column: usize) -> usize
     (l - block) as usize * 64 + (column - 1) * 16
 }
 
-// The coefficients of a term, stored at its place.
-fn put_term(row: &mut [i64], l: i64, e: crate::terms::TermRead)
-    requires { ⌜ (natAbs (l -ℤ e .block) ≤ 4) × (e .block ≤ℤ l) ⌝ }
-    requires { ⌜ (1 ≤ e .column) × (e .column ≤ 4) ⌝ }
-    requires { ⌜ placeInRow l (e .block) (e .column) + 16 ≤ length (now row) ⌝ }
-    ensures { λ _. ⌜ now (row .exit) ≡ paste (now (row .entry)) (placeInRow l (e .block) (e .column)) (e .coefficients) 16 ⌝ }
-{
-    let coefficients = e.coefficients;
-    copy(row, place_in_row(l, e.block, e.column), &coefficients, 16);
-}
-
-// A row of a system, or a refusal.
-pub(crate) struct EquationRead {
+// The place after what was read into a store, or a refusal.
+pub(crate) struct PartRead {
     pub refusal: u8,
     pub at: usize,
-    pub row: [i64; 320],
 }
 
-fn no_equation(refusal: u8) -> EquationRead
+pub(crate) fn no_part(refusal: u8) -> PartRead
     ensures { λ r. ⌜ (r .refusal ≡ refusal) × (r .at ≡ 0) ⌝ }
 {
-    EquationRead {
-        refusal,
-        at: 0,
-        row: [0; 320],
-    }
+    PartRead { refusal, at: 0 }
 }
 
-// `count` terms, put into a row as they are read.
-fn terms_at(bytes: &[u8], at: usize, z: rows::validity::Sizes, count: usize) -> EquationRead
+// `count` terms, each read into its place in the 320 numbers of a row.
+fn terms_at(
+    bytes: &[u8],
+    at: usize,
+    z: rows::validity::Sizes,
+    count: usize,
+    row: &mut [i64],
+) -> PartRead
     requires { ⌜ (at ≤ length (now bytes)) × T (sizesRight (sizesOf z)) ⌝ }
-    ensures { λ r. ⌜ Answers (now (bytes .entry)) (r .refusal) (rowOf (r .row)) (r .at) (termsInto (sizesOf z) count (z .l) 0 blankRow (drop at (now (bytes .entry)))) ⌝ }
+    requires { ⌜ length (now row) ≡ 320 ⌝ }
+    ensures { λ r. ⌜ Answers (now (bytes .entry)) (r .refusal) (rowOf (now (row .exit))) (r .at) (termsInto (sizesOf z) count (z .l) 0 blankRow (drop at (now (bytes .entry)))) ⌝ }
 {
-    let mut row: [i64; 320] = [0; 320];
+    rows::stores::clear(row, 0, 320);
     let mut next = at;
     let mut block = z.l;
     let mut column = 0;
     let mut left = count;
     while 0 < left {
         left -= 1;
-        let e = crate::terms::term_at(bytes, next, z, block, column, crate::counts::parting(left));
-        if e.refusal != 0 {
-            return no_equation(e.refusal);
+        let q = crate::terms::place_at(bytes, next, z, block, column);
+        if q.refusal != 0 {
+            return no_part(q.refusal);
         }
-        put_term(&mut row, z.l, e);
-        next = e.at;
-        block = e.block;
-        column = e.column;
+        let from = place_in_row(z.l, q.block, q.column);
+        let to = from + 16;
+        let separator = crate::counts::parting(left);
+        let p = crate::terms::polynomial_at(bytes, q.at, separator, &mut row[from..to]);
+        if p.refusal != 0 {
+            return no_part(p.refusal);
+        }
+        next = p.at;
+        block = q.block;
+        column = q.column;
     }
-    EquationRead {
+    PartRead {
         refusal: 0,
         at: next,
-        row,
     }
 }
 
@@ -98,14 +94,20 @@ fn most_terms(z: rows::validity::Sizes) -> i64
     (z.m * ((z.l - z.t) as usize + 1)) as i64
 }
 
-// "An equation is its number of terms [..], then each term"
-pub(crate) fn equation_at(bytes: &[u8], at: usize, z: rows::validity::Sizes) -> EquationRead
+// "An equation is its number of terms [..], then each term", read into the 320 numbers of a row.
+pub(crate) fn equation_at(
+    bytes: &[u8],
+    at: usize,
+    z: rows::validity::Sizes,
+    row: &mut [i64],
+) -> PartRead
     requires { ⌜ (at ≤ length (now bytes)) × T (sizesRight (sizesOf z)) ⌝ }
-    ensures { λ r. ⌜ Answers (now (bytes .entry)) (r .refusal) (rowOf (r .row)) (r .at) (readEquation (sizesOf z) (drop at (now (bytes .entry)))) ⌝ }
+    requires { ⌜ length (now row) ≡ 320 ⌝ }
+    ensures { λ r. ⌜ Answers (now (bytes .entry)) (r .refusal) (rowOf (now (row .exit))) (r .at) (readEquation (sizesOf z) (drop at (now (bytes .entry)))) ⌝ }
 {
     let k = crate::counts::count_at(bytes, at, most_terms(z));
     if k.refusal != 0 {
-        return no_equation(k.refusal);
+        return no_part(k.refusal);
     }
-    terms_at(bytes, k.at, z, k.value as usize)
+    terms_at(bytes, k.at, z, k.value as usize, row)
 }

@@ -13,22 +13,28 @@ pub mod sheet;
 mod sizes;
 mod terms;
 
-// The sheet is read into stores of the largest sizes first: on a refusal the lent stores are unchanged, and 1 comes "only when the
-// sheet is otherwise whole".
+// The sheet is read into stores of its own first, so that the lent stores are unchanged on a refusal. A sheet without relations needs
+// none for them.
 pub fn read_sheet(bytes: &[u8], rows: &mut [i64], relations: &mut [i64]) -> sheet::SheetResult
     ensures { λ r. ⌜ callOf r (now (rows .exit)) (now (relations .exit))
         ≡ readCall (now (bytes .entry)) (now (rows .entry)) (now (relations .entry)) ⌝ }
 {
     let mut row_numbers = [0i64; 1280];
+    let h = sheet::head_at(bytes, &mut row_numbers);
+    if h.refusal != 0 {
+        return sheet::refused(h.refusal);
+    }
+    if h.relations == 0 {
+        let mut none = [0i64; 1];
+        return sheet::fill(bytes, h, &row_numbers, &mut none, rows, relations);
+    }
     let mut relation_numbers = [0i64; 5136];
-    let r = sheet::sheet_at(bytes, &mut row_numbers, &mut relation_numbers);
-    if r.refusal != 0 {
-        return sheet::refused(r.refusal);
-    }
-    if !rows::validity::lengths_right(rows, relations, r.sizes.m) {
-        return sheet::refused(1);
-    }
-    sheet::fill_rows(rows, &row_numbers, r.sizes.m);
-    sheet::fill_relations(relations, &relation_numbers, r.relations);
-    r
+    sheet::fill(
+        bytes,
+        h,
+        &row_numbers,
+        &mut relation_numbers,
+        rows,
+        relations,
+    )
 }

@@ -1,11 +1,16 @@
 // A whole sheet.
 ghost use mathlib.Core.Path.{_≡_};
 ghost use Prim.Native.Nat.{_*_, _≤_};
+ghost use mathlib.Core.List.{List};
 ghost use lib.ListN.{length};
-ghost use Rattle.rules.specs.Stores.{rowsOf, relationsOf, rowStoreOf, relationStoreOf};
+ghost use lib.IntN.{ℤ};
+ghost use lib.Dec.{T};
+ghost use Rattle.rules.specs.Stores.{sizesRight, rowsOf, relationsOf, rowStoreOf, relationStoreOf};
 ghost use Rattle.rules.specs.Calls.{overwrite};
-ghost use Rattle.rules.specs.SheetCalls.{readRefusal};
-ghost use Rattle.reading.specs.WholeSheet.{resultOf, SheetRead};
+ghost use Rattle.rules.specs.SheetCalls.{readRefusal, readCall};
+ghost use Rattle.rows.specs.Validity.{sizesOf};
+ghost use Rattle.reading.specs.WholeSheet.{resultOf, HeadTo, HeadRead, SheetRead};
+ghost use Rattle.reading.specs.ReadCalls.{callOf};
 
 // What reading a sheet gives: "Every refusal returns its number, all other fields 0." The order holds columns counted from 1,
 // zeros past its end.
@@ -27,30 +32,89 @@ pub(crate) fn refused(refusal: u8) -> SheetResult
     }
 }
 
-// A sheet read into stores of the largest sizes. "4 the bytes [..] go on after the fourth section"
-pub(crate) fn sheet_at(bytes: &[u8], rows: &mut [i64], relations: &mut [i64]) -> SheetResult
-    requires { ⌜ (1280 ≤ length (now rows)) × (5136 ≤ length (now relations)) ⌝ }
-    ensures { λ r. ⌜ SheetRead (now (bytes .entry)) (resultOf r) (now (rows .exit)) (now (relations .exit)) ⌝ }
+// What a sheet begins with: its sizes, its equations and the number of its relations, or a refusal.
+pub(crate) struct SheetHead {
+    pub refusal: u8,
+    pub at: usize,
+    pub sizes: rows::validity::Sizes,
+    pub relations: usize,
+}
+
+fn no_head(refusal: u8) -> SheetHead
+    ensures { λ r. ⌜ r .refusal ≡ refusal ⌝ }
+{
+    SheetHead {
+        refusal,
+        at: 0,
+        sizes: rows::validity::Sizes { m: 0, l: 0, t: 0 },
+        relations: 0,
+    }
+}
+
+// The sizes, the equations, read into `rows`, and the number of relations.
+pub(crate) fn head_at(bytes: &[u8], rows: &mut [i64]) -> SheetHead
+    requires { ⌜ 1280 ≤ length (now rows) ⌝ }
+    ensures { λ r. ⌜ HeadRead (now (bytes .entry)) (r .refusal) (sizesOf (r .sizes)) (r .relations) (r .at) (now (rows .exit)) ⌝ }
 {
     let z = crate::sizes::sizes_at(bytes, 0);
     if z.refusal != 0 {
-        return refused(z.refusal);
+        return no_head(z.refusal);
     }
     let sizes = z.sizes;
-    let s = crate::sections::sections_at(bytes, z.at, sizes, rows, relations);
+    let e = crate::sections::equation_section(bytes, z.at, sizes, rows);
+    if e.refusal != 0 {
+        return no_head(e.refusal);
+    }
+    let k = tokens::number_between(bytes, e.at, 0, 16, 10);
+    if k.refusal != 0 {
+        return no_head(k.refusal);
+    }
+    SheetHead {
+        refusal: 0,
+        at: k.at,
+        sizes,
+        relations: k.value as usize,
+    }
+}
+
+// The relations, read into `relations`, the column order and the end. "4 the bytes [..] go on after the fourth section"
+fn rest_at(bytes: &[u8], h: SheetHead, relations: &mut [i64]) -> SheetResult
+    requires { ⌜ (h .at ≤ length (now bytes)) × T (sizesRight (sizesOf (h .sizes))) ⌝ }
+    requires { ⌜ (h .relations ≤ 16) × (h .relations * 321 ≤ length (now relations)) ⌝ }
+    ensures { λ r. ⌜ ((rows : List ℤ) → HeadTo (now (bytes .entry)) (sizesOf (h .sizes)) (h .relations) (h .at) rows → SheetRead (now (bytes .entry)) (resultOf r) rows (now (relations .exit))) ⌝ }
+    ensures { λ r. ⌜ (r .refusal ≡ 0 → r .relations ≡ h .relations) ⌝ }
+{
+    let sizes = h.sizes;
+    let s = crate::sections::relations_at(bytes, h.at, sizes, h.relations, relations);
     if s.refusal != 0 {
         return refused(s.refusal);
     }
-    if s.at < bytes.len() {
+    let o = crate::order::order_at(bytes, s.at, sizes.m);
+    if o.refusal != 0 {
+        return refused(o.refusal);
+    }
+    if o.at < bytes.len() {
         return refused(4);
     }
-    let order = s.order;
+    let order = o.order;
     SheetResult {
         refusal: 0,
         sizes,
-        relations: s.relations,
+        relations: h.relations,
         order,
     }
+}
+
+// A sheet read into stores of the largest sizes.
+pub fn sheet_at(bytes: &[u8], rows: &mut [i64], relations: &mut [i64]) -> SheetResult
+    requires { ⌜ (1280 ≤ length (now rows)) × (5136 ≤ length (now relations)) ⌝ }
+    ensures { λ r. ⌜ SheetRead (now (bytes .entry)) (resultOf r) (now (rows .exit)) (now (relations .exit)) ⌝ }
+{
+    let h = head_at(bytes, rows);
+    if h.refusal != 0 {
+        return refused(h.refusal);
+    }
+    rest_at(bytes, h, relations)
 }
 
 // The numbers of m rows, put into a store that is long enough; "numbers past the needed part stay".
@@ -70,4 +134,31 @@ pub(crate) fn fill_relations(store: &mut [i64], numbers: &[i64], count: usize)
     let used = count * 321;
     crate::equations::copy(store, 0, numbers, used);
     rows::stores::clear(store, used, 5136 - used);
+}
+
+// The rest of a sheet whose equations have been read, its relations read into `scratch`, and the lent stores filled with what was
+// read: on a refusal they are unchanged, and 1 comes "only when the sheet is otherwise whole".
+pub(crate) fn fill(
+    bytes: &[u8],
+    h: SheetHead,
+    equations: &[i64],
+    scratch: &mut [i64],
+    rows: &mut [i64],
+    relations: &mut [i64],
+) -> SheetResult
+    requires { ⌜ HeadTo (now bytes) (sizesOf (h .sizes)) (h .relations) (h .at) (now equations) ⌝ }
+    requires { ⌜ (1280 ≤ length (now equations)) × (h .relations * 321 ≤ length (now scratch)) ⌝ }
+    ensures { λ r. ⌜ callOf r (now (rows .exit)) (now (relations .exit))
+        ≡ readCall (now (bytes .entry)) (now (rows .entry)) (now (relations .entry)) ⌝ }
+{
+    let r = rest_at(bytes, h, scratch);
+    if r.refusal != 0 {
+        return refused(r.refusal);
+    }
+    if !rows::validity::lengths_right(rows, relations, r.sizes.m) {
+        return refused(1);
+    }
+    fill_rows(rows, equations, r.sizes.m);
+    fill_relations(relations, scratch, r.relations);
+    r
 }

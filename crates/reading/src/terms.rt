@@ -7,7 +7,7 @@ ghost use Rattle.rules.specs.Numbers.{field};
 ghost use Rattle.rules.specs.Sheets.{judgeLast, judgeBlock, judgeColumn, always, readCoefficients};
 ghost use Rattle.tokens.specs.Fields.{Answers};
 ghost use Rattle.rows.specs.Validity.{sizesOf};
-ghost use Rattle.reading.specs.Terms.{readCoefficient, padded, termOf, readPadded, readPlace, readPolynomial};
+ghost use Rattle.reading.specs.Terms.{readCoefficient, padded, readPlace, readPolynomial};
 
 // "The last coefficient of a term is nonzero."
 fn judge_last(value: i64) -> u8
@@ -96,65 +96,61 @@ fn coefficient_at(bytes: &[u8], at: usize, left: usize, last: u8) -> tokens::Num
     tokens::small_at(bytes, at)
 }
 
-// The coefficients of a term, zeros past them, or a refusal.
-struct PolynomialRead {
-    refusal: u8,
+// The coefficients of a term, read into sixteen numbers, zeros past them.
+fn coefficients_at(
+    bytes: &[u8],
     at: usize,
-    coefficients: [i64; 16],
-}
-
-fn no_polynomial(refusal: u8) -> PolynomialRead
-    ensures { λ r. ⌜ (r .refusal ≡ refusal) × (r .at ≡ 0) ⌝ }
-{
-    PolynomialRead {
-        refusal,
-        at: 0,
-        coefficients: [0; 16],
-    }
-}
-
-fn coefficients_at(bytes: &[u8], at: usize, count: usize, last: u8) -> PolynomialRead
+    count: usize,
+    last: u8,
+    p: &mut [i64],
+) -> crate::equations::PartRead
     requires { ⌜ (at ≤ length (now bytes)) × (count ≤ 16) ⌝ }
-    ensures { λ r. ⌜ Answers (now (bytes .entry)) (r .refusal) (r .coefficients) (r .at) (padded 16 (pos 0) (readCoefficients last count (drop at (now (bytes .entry))))) ⌝ }
+    requires { ⌜ length (now p) ≡ 16 ⌝ }
+    ensures { λ r. ⌜ Answers (now (bytes .entry)) (r .refusal) (now (p .exit)) (r .at) (padded 16 (pos 0) (readCoefficients last count (drop at (now (bytes .entry))))) ⌝ }
 {
-    let mut p: [i64; 16] = [0; 16];
+    rows::stores::clear(p, 0, 16);
     let mut next = at;
     let mut i = 0;
     while i < count {
         let a = coefficient_at(bytes, next, count - (i + 1), last);
         if a.refusal != 0 {
-            return no_polynomial(a.refusal);
+            return crate::equations::no_part(a.refusal);
         }
         let value = a.value;
         p[i] = value;
         next = a.at;
         i += 1;
     }
-    PolynomialRead {
+    crate::equations::PartRead {
         refusal: 0,
         at: next,
-        coefficients: p,
     }
 }
 
 // The number of coefficients (1 to 16) and the coefficients.
-fn polynomial_at(bytes: &[u8], at: usize, separator: u8) -> PolynomialRead
+pub(crate) fn polynomial_at(
+    bytes: &[u8],
+    at: usize,
+    separator: u8,
+    p: &mut [i64],
+) -> crate::equations::PartRead
     requires { ⌜ at ≤ length (now bytes) ⌝ }
-    ensures { λ r. ⌜ Answers (now (bytes .entry)) (r .refusal) (r .coefficients) (r .at) (readPolynomial separator (drop at (now (bytes .entry)))) ⌝ }
+    requires { ⌜ length (now p) ≡ 16 ⌝ }
+    ensures { λ r. ⌜ Answers (now (bytes .entry)) (r .refusal) (now (p .exit)) (r .at) (readPolynomial separator (drop at (now (bytes .entry)))) ⌝ }
 {
     let k = tokens::number_between(bytes, at, 1, 16, 32);
     if k.refusal != 0 {
-        return no_polynomial(k.refusal);
+        return crate::equations::no_part(k.refusal);
     }
-    coefficients_at(bytes, k.at, k.value as usize, separator)
+    coefficients_at(bytes, k.at, k.value as usize, separator, p)
 }
 
 // The block and the column of a term, or a refusal.
-struct PlaceRead {
-    refusal: u8,
-    at: usize,
-    block: i64,
-    column: usize,
+pub(crate) struct PlaceRead {
+    pub refusal: u8,
+    pub at: usize,
+    pub block: i64,
+    pub column: usize,
 }
 
 fn no_place(refusal: u8) -> PlaceRead
@@ -169,7 +165,7 @@ fn no_place(refusal: u8) -> PlaceRead
 }
 
 // The term before stood at block `before` and column `last`.
-fn place_at(
+pub(crate) fn place_at(
     bytes: &[u8],
     at: usize,
     z: rows::validity::Sizes,
@@ -192,56 +188,5 @@ fn place_at(
         at: c.at,
         block: s.value,
         column: c.value as usize,
-    }
-}
-
-// A term, its coefficients with zeros past them, or a refusal.
-pub(crate) struct TermRead {
-    pub refusal: u8,
-    pub at: usize,
-    pub block: i64,
-    pub column: usize,
-    pub coefficients: [i64; 16],
-}
-
-fn no_term(refusal: u8) -> TermRead
-    ensures { λ r. ⌜ (r .refusal ≡ refusal) × (r .at ≡ 0) ⌝ }
-{
-    TermRead {
-        refusal,
-        at: 0,
-        block: 0,
-        column: 0,
-        coefficients: [0; 16],
-    }
-}
-
-// "each term as s, c, number of coefficients (1 to 16), coefficients from power 0"; `separator` stands after the term.
-pub(crate) fn term_at(
-    bytes: &[u8],
-    at: usize,
-    z: rows::validity::Sizes,
-    before: i64,
-    last: usize,
-    separator: u8,
-) -> TermRead
-    requires { ⌜ (at ≤ length (now bytes)) × ((z .m ≤ 4) × (last ≤ 4)) ⌝ }
-    ensures { λ r. ⌜ Answers (now (bytes .entry)) (r .refusal) (termOf (r .block) (r .column) (r .coefficients)) (r .at) (readPadded (sizesOf z) before last separator (drop at (now (bytes .entry)))) ⌝ }
-{
-    let q = place_at(bytes, at, z, before, last);
-    if q.refusal != 0 {
-        return no_term(q.refusal);
-    }
-    let p = polynomial_at(bytes, q.at, separator);
-    if p.refusal != 0 {
-        return no_term(p.refusal);
-    }
-    let coefficients = p.coefficients;
-    TermRead {
-        refusal: 0,
-        at: p.at,
-        block: q.block,
-        column: q.column,
-        coefficients,
     }
 }

@@ -19,13 +19,13 @@ use mathlib.Core.Bool.{Bool, true, false, _&&_, cond}
 use mathlib.Core.List.{List, [], _∷_}
 use lib.ListN.{length, getD, drop}
 use lib.Seq.{slice, drop-cons, drop-length}
-use lib.Dec.{T, eqb, leb}
+use lib.Dec.{T, eqb, leb, ltb}
 use borrow.Author.Tests.{eq-eqb, ne-eqb, leb-true}
 use lib.IntN.{ℤ, pos, negℤ, negsuc, natAbs}
 use lib.Signed.{leZ, nonNeg, leZ-yes, _≤ℤ_}
 use Rattle.algebra.specs.Order.{≤ℤ-trans, natAbs-≤-iff}
-use Rattle.rules.specs.Numbers.{word, afterWord, beginsNumber, isNumber, numberOf, Read, got, fault, thenRead, judged, readWord, readSeparator, field, between}
-use Rattle.tokens.specs.Tokens.{TokenEnd, both-true, unjudged}
+use Rattle.rules.specs.Numbers.{isSeparator, word, afterWord, digits, startsRight, beginsNumber, isNumber, numberOf, Read, got, fault, thenRead, judged, readWord, readSeparator, field, between}
+use Rattle.tokens.specs.Tokens.{DigitsStart, DigitsTo, Stopped, token-cut, token-stops, digits-followed, begins-is, number-is, number-of, both-true, and-false, unjudged}
 
 -- ---- what a function answers
 
@@ -71,6 +71,17 @@ pub gives : {A : Type 0} {bytes : List ℕ} {v w : A} {at : ℕ} {expected : Rea
 unfolding readOf
 gives {bytes = bytes} {at = at} same e h = record { answer = ap (λ v. got v (drop at bytes)) same ∙ sym e; within = h }
 
+-- What is made of a value that was read.
+pub answers-made : {A B : Type 0} (make : A → B) {bytes : List ℕ} {refusal : ℕ} {v : A} {at : ℕ} {expected : Read A}
+    → Answers bytes refusal v at expected → Answers bytes refusal (make v) at (thenRead expected (λ a rest. got (make a) rest))
+unfolding readOf thenRead
+answers-made make {bytes} {refusal} {v} {at} a =
+    record { answer = made refusal ∙ ap (λ r. thenRead r (λ a rest. got (make a) rest)) (a .answer); within = a .within }
+  where
+    made : (n : ℕ) → readOf bytes n (make v) at ≡ thenRead (readOf bytes n v at) (λ a rest. got (make a) rest)
+    made zero = refl
+    made (suc n) = refl
+
 module _ {A B : Type 0} (f : A → List ℕ → Read B) where
   pub then-got : {r : Read A} {a : A} {rest : List ℕ} → r ≡ got a rest → thenRead r f ≡ f a rest
   unfolding thenRead
@@ -98,16 +109,34 @@ unfoldable pub closing : ℕ → ℕ → ℤ → List ℕ → Read ℤ
 unfolding thenRead judged readSeparator
 closing judgement separator v rest = thenRead (judged judgement v rest) (readSeparator separator)
 
--- Reading a number: the bytes end with the token, before its separator.
-pub number-cut : (bytes : List ℕ) (at end : ℕ) → TokenEnd bytes at end → end ≡ length bytes
-    → readNumber (drop at bytes) ≡ fault (cond (beginsNumber (slice at end bytes)) 4 3)
-unfolding readNumber readWord
-number-cut bytes at end t e = rw (t .token, t .rest, e, drop-length bytes)
+-- "within a token, its form (3 [..])", and "3 if they cannot begin a number"
+not-begun : (w rest : List ℕ) → beginsNumber w ≡ false → readWord unjudged w rest ≡ fault 3
+unfolding readWord isNumber
+not-begun w [] e = rw e
+not-begun w (b ∷ rest) e = rw (e, and-false (leb 1 (length (digits w))))
 
-pub number-token : (bytes : List ℕ) (at end : ℕ) → TokenEnd bytes at end
-    → readNumber (drop at bytes) ≡ readWord unjudged (slice at end bytes) (drop end bytes)
-unfolding readNumber
-number-token bytes at end t = rw (t .token, t .rest)
+module _ (bytes : List ℕ) (at from end v : ℕ) (start : DigitsStart bytes at from) (read : DigitsTo bytes from end v) where
+  pub number-followed : end < length bytes → isSeparator (getD bytes end 0) ≡ false → Stopped bytes from end
+      → readNumber (drop at bytes) ≡ fault 3
+  unfolding readNumber
+  number-followed h e stopped = not-begun (word (drop at bytes)) (afterWord (drop at bytes)) (digits-followed bytes at from end v start read h e stopped)
+
+  -- "bytes that end before a token's separator are 4, or 3 if they cannot begin a number"
+  pub number-cut : end ≡ length bytes → readNumber (drop at bytes) ≡ fault (cond (startsRight (ltb at from) (slice from end bytes)) 4 3)
+  unfolding readNumber readWord
+  number-cut e =
+      let t = token-cut bytes from end (read .token) (omega arith) in
+      ap (readWord unjudged (word (drop at bytes))) (start .rest ∙ t .rest ∙ ap (λ k. drop k bytes) e ∙ drop-length bytes)
+      ∙ ap (λ t. fault (cond t 4 3)) (begins-is bytes at from end v start read t)
+
+  module _ (h : end < length bytes) (e : isSeparator (getD bytes end 0) ≡ true) where
+    pub number-whole : readNumber (drop at bytes)
+        ≡ cond (leb 1 (end - from) && startsRight (ltb at from) (slice from end bytes)) (got (cond (ltb at from) (negℤ (pos v)) (pos v)) (drop end bytes)) (fault 3)
+    unfolding readNumber readWord unjudged
+    number-whole =
+        let t = token-stops bytes from end (read .token) h e in
+        ap (readWord unjudged (word (drop at bytes))) (start .rest ∙ t .rest ∙ drop-cons bytes end 0 h)
+        ∙ rw (number-is bytes at from end v start read t, number-of bytes at from end v start read t, drop-cons bytes end 0 h)
 
 pub number-refuses : {bytes : List ℕ} {at refusal : ℕ} {v : ℤ} {next n : ℕ} → (n ≡ 0 → ⊥) → readNumber (drop at bytes) ≡ fault n
     → (refusal ≡ n) × (v ≡ pos 0) × (next ≡ 0) → NumberAt bytes at refusal v next

@@ -4,31 +4,31 @@
 -- Main definitions
 --   TokenEnd, TokenTo     the token from a place on ends at another place, or goes at least up to it
 --   DigitsStart           where the digits of a token begin
---   ValueTo               the value of the digits up to a place
---   tokenAnswer           what the cases of `Token` mean
+--   DigitsTo, Stopped     the digits that were read, and that no other follows or they are ten
 --
 -- Main statements
 --   token-goes-on, token-stops, token-cut   a token goes on at a byte that is no separator, and ends at one or at the end of the bytes
---   begins-long, begins-wrong, begins-right   may the bytes of a token begin a number?
---   token-unsigned, token-signed   the number of a token whose separator has been found
+--   digits-go-on          one digit more
+--   digits-followed       digits with another byte of the token after them cannot begin a number
+--   begins-is, number-is, number-of   what a token is whose digits are all that it has
 use Prim.Native.Nat.{ℕ, suc, _+_, _-_, _*_, _^_, _≤_, _<_}
 use native.Mathlib.Nat.{le-refl, le-of-lt, lt-of-lt-of-le, sub-self, pow-le-pow-right, pow-succ'}
 use native.Mathlib.Numerals.{add-one}
 use native.Mathlib.Omega.{arith}
 use mathlib.Core.Path.{_≡_, refl, sym, ap, _∙_, subst}
+use mathlib.Core.Logic.{_⊎_, inl, inr}
 use mathlib.Core.Bool.{Bool, true, false, _&&_, _||_, not, cond}
 use mathlib.Core.List.{List, [], _∷_, _++_, append-nil}
-use lib.ListN.{length, getD, take, drop, drop-of-length-le}
-use lib.Seq.{slice, slice-empty, slice-cons, length-slice, drop-cons, drop-append-le, append-snoc, take-suc, length-take-le}
+use lib.ListN.{length, length-append, getD, take, drop, drop-of-length-le}
+use lib.Seq.{slice, slice-empty, slice-cons, length-slice, drop-cons, drop-length, drop-append-le, append-snoc, take-suc, length-take-le}
 use lib.Dec.{T, eqb, leb, ltb, leb→le, lit<}
-use borrow.Author.Tests.{lt-ltb, le-ltb, eq-eqb, ne-eqb, lt-leb, le-leb, leb-true}
+use borrow.Author.Tests.{lt-ltb, le-ltb, eq-eqb, ne-eqb, lt-leb, le-leb}
 use native.Mathlib.Decide.{ℕ-discrete}
 use Rattle.algebra.specs.Polynomials.{T-&&}
 use lib.IntN.{ℤ, pos, negℤ}
 use Rattle.rules.specs.Rows.{every}
-use Rattle.rules.specs.Numbers.{minus, isSeparator, word, afterWord, isDigit, signed, digits, startsRight, beginsNumber, isNumber, valueFrom, numberOf, Read, got, fault, readWord}
-use Rattle.tokens.specs.declared.Token.{Token}
-use Rattle.tokens.specs.declared.Token.the-variants.{Number, NoNumber}
+use Rattle.rules.specs.Lists.{every-append}
+use Rattle.rules.specs.Numbers.{minus, isSeparator, word, afterWord, isDigit, signed, digits, startsRight, beginsNumber, isNumber, valueFrom, numberOf}
 
 -- ---- tokens
 
@@ -102,43 +102,49 @@ pub slice-next : (bytes : List ℕ) (i end : ℕ) → i < end → end ≤ length
     → slice i end bytes ≡ getD bytes i 0 ∷ slice (i + 1) end bytes
 slice-next bytes i end h within = rw (add-one i) (slice-cons i end bytes 0 h within)
 
--- The digits of the bytes from `at` up to `end` begin at `from`, after the sign if there is one.
-pub record DigitsStart (bytes : List ℕ) (at end from : ℕ) : Type 0 where
+-- The digits of the token at `at` begin at `from`, after the sign if there is one.
+pub record DigitsStart (bytes : List ℕ) (at from : ℕ) : Type 0 where
   pub begun : at ≤ from
-  pub within : from ≤ end
-  pub digit-part : digits (slice at end bytes) ≡ slice from end bytes
-  pub sign : signed (slice at end bytes) ≡ ltb at from
+  pub within : from ≤ length bytes
+  pub sign : signed (word (drop at bytes)) ≡ ltb at from
+  pub digit-part : digits (word (drop at bytes)) ≡ word (drop from bytes)
+  pub rest : afterWord (drop at bytes) ≡ afterWord (drop from bytes)
 
-module _ (bytes : List ℕ) (at end : ℕ) where
-  pub digits-signed : at < end → end ≤ length bytes → getD bytes at 0 ≡ minus → DigitsStart bytes at end (at + 1)
-  unfolding digits signed
-  digits-signed h within e =
+module _ (bytes : List ℕ) (at : ℕ) where
+  pub digits-signed : at < length bytes → getD bytes at 0 ≡ minus → DigitsStart bytes at (at + 1)
+  unfolding word afterWord digits signed
+  digits-signed h e =
+      let first : drop at bytes ≡ minus ∷ drop (at + 1) bytes = rw (add-one at) (drop-cons bytes at 0 h ∙ ap (λ b. b ∷ drop (suc at) bytes) e) in
       record {
         begun = omega arith;
         within = omega arith;
-        digit-part = rw (slice-next bytes at end h within, e);
-        sign = rw (slice-next bytes at end h within, e) (sym (lt-ltb at (at + 1) (omega arith)));
+        sign = rw first (sym (lt-ltb at (at + 1) (omega arith)));
+        digit-part = rw first;
+        rest = rw first;
       }
 
-  pub digits-unsigned : at < end → end ≤ length bytes → (getD bytes at 0 ≡ minus → ⊥) → DigitsStart bytes at end at
-  unfolding digits signed
-  digits-unsigned h within e =
+  unsigned : at ≤ length bytes → signed (word (drop at bytes)) ≡ false → DigitsStart bytes at at
+  unfolding digits
+  unsigned h e =
       record {
         begun = le-refl at;
-        within = omega arith;
-        digit-part = simp (slice-next bytes at end h within, ne-eqb (getD bytes at 0) minus e);
-        sign = simp (slice-next bytes at end h within, ne-eqb (getD bytes at 0) minus e) (sym (le-ltb at at (le-refl at)));
+        within = h;
+        sign = e ∙ sym (le-ltb at at (le-refl at));
+        digit-part = rw e;
+        rest = refl;
       }
 
-  pub digits-none : at ≡ end → DigitsStart bytes at end at
-  unfolding digits signed
-  digits-none e =
-      record {
-        begun = le-refl at;
-        within = omega arith;
-        digit-part = rw (← e, slice-empty at bytes);
-        sign = rw (← e, slice-empty at bytes) (sym (le-ltb at at (le-refl at)));
-      }
+  pub digits-unsigned : at < length bytes → (getD bytes at 0 ≡ minus → ⊥) → DigitsStart bytes at at
+  unfolding word signed
+  digits-unsigned h e = unsigned (le-of-lt h) (ap (λ l. signed (word l)) (drop-cons bytes at 0 h) ∙ by (isSeparator (getD bytes at 0)))
+    where
+      by : (t : Bool) → signed (cond t [] (getD bytes at 0 ∷ word (drop (suc at) bytes))) ≡ false
+      by true = refl
+      by false = ne-eqb (getD bytes at 0) minus e
+
+  pub digits-none : at ≡ length bytes → DigitsStart bytes at at
+  unfolding word signed
+  digits-none e = unsigned (omega arith) (rw (e, drop-length bytes))
 
 -- ---- may the bytes begin a number?
 
@@ -173,48 +179,9 @@ pub both-true : (a b : Bool) → (a && b) ≡ true → (a ≡ true) × (b ≡ tr
 both-true true b e = (refl, e)
 both-true false b e = absurd (subst T (sym e) tt)
 
-and-false : (a : Bool) → (a && false) ≡ false
+pub and-false : (a : Bool) → (a && false) ≡ false
 and-false true = refl
 and-false false = refl
-
-and-true : (a : Bool) → (a && true) ≡ a
-and-true true = refl
-and-true false = refl
-
-module _ (bytes : List ℕ) (at end from : ℕ) (inside : end ≤ length bytes) (start : DigitsStart bytes at end from) where
-  begins-is : beginsNumber (slice at end bytes)
-      ≡ (every isDigit (slice from end bytes) && leb (end - from) 10 && startsRight (ltb at from) (slice from end bytes))
-  unfolding beginsNumber
-  begins-is = rw (start .digit-part, start .sign, length-slice from end bytes inside)
-
-  -- "3, also for an eleventh digit"
-  pub begins-long : 10 < end - from → beginsNumber (slice at end bytes) ≡ false
-  begins-long h =
-      begins-is
-      ∙ ap (λ t. every isDigit (slice from end bytes) && t && startsRight (ltb at from) (slice from end bytes)) (lt-leb (end - from) 10 h)
-      ∙ ap (λ t. t && startsRight (ltb at from) (slice from end bytes)) (and-false (every isDigit (slice from end bytes)))
-
-  pub begins-wrong : startsRight (ltb at from) (slice from end bytes) ≡ false → beginsNumber (slice at end bytes) ≡ false
-  begins-wrong e =
-      begins-is
-      ∙ ap (λ t. every isDigit (slice from end bytes) && leb (end - from) 10 && t) e
-      ∙ and-false (every isDigit (slice from end bytes) && leb (end - from) 10)
-
-  pub begins-right : end - from ≤ 10 → startsRight (ltb at from) (slice from end bytes) ≡ true
-      → beginsNumber (slice at end bytes) ≡ every isDigit (slice from end bytes)
-  begins-right h e =
-      begins-is
-      ∙ ap (λ t. every isDigit (slice from end bytes) && leb (end - from) 10 && t) e
-      ∙ and-true (every isDigit (slice from end bytes) && leb (end - from) 10)
-      ∙ ap (λ t. every isDigit (slice from end bytes) && t) (le-leb (end - from) 10 h)
-      ∙ and-true (every isDigit (slice from end bytes))
-
-  -- What is known of bytes that can begin a number.
-  pub begins-true : beginsNumber (slice at end bytes) ≡ true → (every isDigit (slice from end bytes) ≡ true) × (end ≤ from + 10)
-  begins-true e =
-      let all = both-true (every isDigit (slice from end bytes) && leb (end - from) 10) _ (sym begins-is ∙ e) in
-      let two = both-true (every isDigit (slice from end bytes)) (leb (end - from) 10) (all .0) in
-      (two .0, omega (arith, leb-true (end - from) 10 (two .1)))
 
 -- ---- the value of digits
 
@@ -223,95 +190,101 @@ pub digit-bounds : (b : ℕ) → isDigit b ≡ true → (48 ≤ b) × (b ≤ 57)
 unfolding isDigit
 digit-bounds b e = let h = T-&& (leb 48 b) (leb b 57) .0 (subst T (sym e) tt) in (leb→le 48 b (h .0), leb→le b 57 (h .1))
 
--- The value of the digits up to `end`, those before i having the value v.
-pub record ValueTo (bytes : List ℕ) (from end v i : ℕ) : Type 0 where
-  pub begun : from ≤ i
-  pub within : i ≤ end
-  pub digits-left : every isDigit (slice i end bytes) ≡ true
-  pub value : valueFrom 0 (slice from end bytes) ≡ valueFrom v (slice i end bytes)
-  pub size : v < 10 ^ (i - from)
+-- The bytes from `from` up to `end` are digits of one token, at most ten, and their value is v.
+pub record DigitsTo (bytes : List ℕ) (from end v : ℕ) : Type 0 where
+  pub token : TokenTo bytes from end
+  pub short : end ≤ from + 10
+  pub all-digits : every isDigit (slice from end bytes) ≡ true
+  pub value : valueFrom 0 (slice from end bytes) ≡ v
+  pub size : v < 10 ^ (end - from)
 
-module _ (bytes : List ℕ) (from end : ℕ) (short : end ≤ from + 10) (inside : end ≤ length bytes) where
-  pub value-size : (v i : ℕ) → ValueTo bytes from end v i → v < 10 ^ 10
-  value-size v i s = lt-of-lt-of-le (s .size) (pow-le-pow-right {n = 10} (lit< tt) {i = i - from} {j = 10} (omega arith))
+-- They are all the digits there, or ten.
+abbrev pub Stopped : List ℕ → ℕ → ℕ → Type 0
+Stopped bytes from end = end < length bytes → (isDigit (getD bytes end 0) ≡ false) ⊎ (from + 10 ≤ end)
 
-  pub value-begins : from ≤ end → every isDigit (slice from end bytes) ≡ true → ValueTo bytes from end 0 from
-  value-begins h e = record { begun = le-refl from; within = h; digits-left = e; value = refl; size = rw (sub-self from) (lit< tt) }
+pub digits-begin : (bytes : List ℕ) (from : ℕ) → from ≤ length bytes → DigitsTo bytes from from 0
+unfolding every valueFrom
+digits-begin bytes from h =
+    record {
+      token = token-begins bytes from h;
+      short = omega arith;
+      all-digits = rw (slice-empty from bytes);
+      value = rw (slice-empty from bytes);
+      size = rw (sub-self from) (lit< tt);
+    }
 
-  module _ (v i : ℕ) (s : ValueTo bytes from end v i) (more : i < end) where
-    both : (isDigit (getD bytes i 0) ≡ true) × (every isDigit (slice (i + 1) end bytes) ≡ true)
-    unfolding every
-    both = both-true (isDigit (getD bytes i 0)) (every isDigit (slice (i + 1) end bytes)) (rw (slice-next bytes i end more inside) at (s .digits-left))
+value-append : (v : ℕ) (l : List ℕ) (d : ℕ) → valueFrom v (l ++ (d ∷ [])) ≡ 10 * valueFrom v l + (d - 48)
+unfolding valueFrom
+value-append v [] d = refl
+value-append v (x ∷ l) d = value-append (10 * v + (x - 48)) l d
 
-    pub digit-next : (48 ≤ getD bytes i 0) × (getD bytes i 0 ≤ 57)
-    digit-next = digit-bounds (getD bytes i 0) (both .0)
+no-separator : (b : ℕ) → isDigit b ≡ true → isSeparator b ≡ false
+unfolding isSeparator
+no-separator b e =
+    let h = digit-bounds b e in
+    ap (λ t. t || eqb b 10) (ne-eqb b 32 (λ z. omega (arith, h))) ∙ ne-eqb b 10 (λ z. omega (arith, h))
 
-    pub value-goes-on : ValueTo bytes from end (10 * v + (getD bytes i 0 - 48)) (i + 1)
-    unfolding valueFrom
-    value-goes-on =
-        record {
-          begun = omega arith;
-          within = omega arith;
-          digits-left = both .1;
-          value = s .value ∙ ap (valueFrom v) (slice-next bytes i end more inside);
-          size = rw (power) (omega (arith, digit-next, s .size));
-        }
-      where
-        power : 10 ^ (i + 1 - from) ≡ 10 * 10 ^ (i - from)
-        power = ap (λ k. 10 ^ k) (omega arith) ∙ pow-succ' 10 (i - from)
+module _ (bytes : List ℕ) (from end v : ℕ) (read : DigitsTo bytes from end v) where
+  pub digits-size : v < 10 ^ 10
+  digits-size = lt-of-lt-of-le (read .size) (pow-le-pow-right {n = 10} (lit< tt) {i = end - from} {j = 10} (omega (arith, read .short)))
+
+  pub digits-go-on : end < length bytes → end < from + 10 → isDigit (getD bytes end 0) ≡ true
+      → DigitsTo bytes from (end + 1) (10 * v + (getD bytes end 0 - 48))
+  unfolding every
+  digits-go-on h short e =
+      record {
+        token = token-goes-on bytes from end (read .token) h (no-separator (getD bytes end 0) e);
+        short = omega arith;
+        all-digits = ap (every isDigit) more ∙ every-append isDigit (slice from end bytes) (getD bytes end 0 ∷ []) ∙ rw (read .all-digits, e);
+        value = ap (valueFrom 0) more ∙ value-append 0 (slice from end bytes) (getD bytes end 0) ∙ ap (λ v. 10 * v + (getD bytes end 0 - 48)) (read .value);
+        size = rw power (omega (arith, digit-bounds (getD bytes end 0) e, read .size));
+      }
+    where
+      more : slice from (end + 1) bytes ≡ slice from end bytes ++ (getD bytes end 0 ∷ [])
+      more = rw (add-one end) (slice-suc bytes from end (read .token .begun) h)
+
+      power : 10 ^ (end + 1 - from) ≡ 10 * 10 ^ (end - from)
+      power = ap (λ k. 10 ^ k) (omega (arith, read .token .begun)) ∙ pow-succ' 10 (end - from)
+
+-- ---- the number of a token whose digits have been read
+
+module _ (bytes : List ℕ) (at from end v : ℕ) (start : DigitsStart bytes at from) (read : DigitsTo bytes from end v) where
+  -- Another byte of the token after them: no digit, or an eleventh ("3, also for an eleventh digit").
+  pub digits-followed : end < length bytes → isSeparator (getD bytes end 0) ≡ false → Stopped bytes from end
+      → beginsNumber (word (drop at bytes)) ≡ false
+  unfolding beginsNumber word every
+  digits-followed h e stopped = by (stopped h)
+    where
+      more : List ℕ
+      more = word (drop (suc end) bytes)
+
+      part : digits (word (drop at bytes)) ≡ slice from end bytes ++ (getD bytes end 0 ∷ more)
+      part = start .digit-part ∙ read .token .token ∙ ap (λ w. slice from end bytes ++ w) (rw (drop-cons bytes end 0 h, e))
+
+      by : (isDigit (getD bytes end 0) ≡ false) ⊎ (from + 10 ≤ end) → beginsNumber (word (drop at bytes)) ≡ false
+      by (inl e′) = rw (part, every-append isDigit (slice from end bytes) (getD bytes end 0 ∷ more), read .all-digits, e′)
+      by (inr ten) =
+          rw (lt-leb (length (digits (word (drop at bytes)))) 10 (rw (part, length-append (slice from end bytes) (getD bytes end 0 ∷ more), length-slice from end bytes (le-of-lt h)) (omega arith)))
+          (ap (λ t. t && startsRight (signed (word (drop at bytes))) (digits (word (drop at bytes)))) (and-false (every isDigit (digits (word (drop at bytes))))))
+
+  module _ (ended : TokenEnd bytes from end) where
+    part : digits (word (drop at bytes)) ≡ slice from end bytes
+    part = start .digit-part ∙ ended .token
+
+    pub begins-is : beginsNumber (word (drop at bytes)) ≡ startsRight (ltb at from) (slice from end bytes)
+    unfolding beginsNumber
+    begins-is = rw (part, start .sign, read .all-digits, length-slice from end bytes (ended .within), le-leb (end - from) 10 (omega (arith, read .short)))
+
+    pub number-is : isNumber (word (drop at bytes)) ≡ (leb 1 (end - from) && startsRight (ltb at from) (slice from end bytes))
+    unfolding isNumber
+    number-is =
+        ap (λ t. leb 1 (length (digits (word (drop at bytes)))) && t) begins-is
+        ∙ ap (λ n. leb 1 n && startsRight (ltb at from) (slice from end bytes)) (ap length part ∙ length-slice from end bytes (ended .within))
+
+    pub number-of : numberOf (word (drop at bytes)) ≡ cond (ltb at from) (negℤ (pos v)) (pos v)
+    unfolding numberOf
+    number-of = rw (part, start .sign, read .value)
 
 -- The judgement that lets every number through.
 unfoldable pub unjudged : ℤ → ℕ
 unjudged v = 0
-
--- What a token means: "a token that is no number ends the reading", with refusal 3; a number is read, and its separator is next.
-unfoldable pub tokenAnswer : Token → List ℕ → Read ℤ
-tokenAnswer (Number v) rest = got v rest
-tokenAnswer NoNumber rest = fault 3
-
--- ---- the number of a token whose separator has been found
-
-module _ (bytes : List ℕ) (at end from : ℕ) (inside : end < length bytes) (start : DigitsStart bytes at end from) where
-  number-is : isNumber (slice at end bytes) ≡ (leb 1 (end - from) && beginsNumber (slice at end bytes))
-  unfolding isNumber
-  number-is = rw (start .digit-part, length-slice from end bytes (le-of-lt inside))
-
-  word-is : readWord unjudged (slice at end bytes) (drop end bytes)
-      ≡ cond (isNumber (slice at end bytes)) (got (numberOf (slice at end bytes)) (drop end bytes)) (fault 3)
-  unfolding readWord unjudged
-  word-is = rw (drop-cons bytes end 0 inside)
-
-  none : isNumber (slice at end bytes) ≡ false → tokenAnswer NoNumber (drop end bytes) ≡ readWord unjudged (slice at end bytes) (drop end bytes)
-  unfolding tokenAnswer
-  none e = sym (word-is ∙ ap (λ t. cond t (got (numberOf (slice at end bytes)) (drop end bytes)) (fault 3)) e)
-
-  pub token-empty : from ≡ end → tokenAnswer NoNumber (drop end bytes) ≡ readWord unjudged (slice at end bytes) (drop end bytes)
-  token-empty e = none (number-is ∙ ap (λ t. t && beginsNumber (slice at end bytes)) (lt-leb 1 (end - from) (omega arith)))
-
-  pub token-wrong : beginsNumber (slice at end bytes) ≡ false
-      → tokenAnswer NoNumber (drop end bytes) ≡ readWord unjudged (slice at end bytes) (drop end bytes)
-  token-wrong e = none (number-is ∙ ap (λ t. leb 1 (end - from) && t) e ∙ and-false (leb 1 (end - from)))
-
-  module _ (some : from < end) (right : beginsNumber (slice at end bytes) ≡ true) where
-    number : (v : ℤ) → numberOf (slice at end bytes) ≡ v
-        → tokenAnswer (Number v) (drop end bytes) ≡ readWord unjudged (slice at end bytes) (drop end bytes)
-    unfolding tokenAnswer
-    number v e =
-        sym (word-is
-        ∙ ap (λ t. cond t (got (numberOf (slice at end bytes)) (drop end bytes)) (fault 3))
-        (number-is ∙ ap (λ t. t && beginsNumber (slice at end bytes)) (le-leb 1 (end - from) (omega arith)) ∙ right)
-        ∙ ap (λ v. got v (drop end bytes)) e)
-
-    pub token-unsigned : from ≡ at → tokenAnswer (Number (pos (valueFrom 0 (slice from end bytes)))) (drop end bytes)
-        ≡ readWord unjudged (slice at end bytes) (drop end bytes)
-    unfolding numberOf
-    token-unsigned e =
-        number (pos (valueFrom 0 (slice from end bytes)))
-        (rw (start .digit-part, start .sign, le-ltb at from (omega arith)))
-
-    pub token-signed : (from ≡ at → ⊥) → tokenAnswer (Number (negℤ (pos (valueFrom 0 (slice from end bytes))))) (drop end bytes)
-        ≡ readWord unjudged (slice at end bytes) (drop end bytes)
-    unfolding numberOf
-    token-signed e =
-        number (negℤ (pos (valueFrom 0 (slice from end bytes))))
-        (rw (start .digit-part, start .sign, lt-ltb at from (omega (arith, start .begun))))

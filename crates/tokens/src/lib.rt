@@ -1,16 +1,15 @@
 // The numbers of a sheet and of a batch line: "at most ten digits after an optional minus, without leading zeros or `-0`", each
 // judged and with its separator.
 ghost use mathlib.Core.Path.{_≡_};
-ghost use mathlib.Core.Bool.{true, _&&_};
+ghost use mathlib.Core.Bool.{_&&_, cond};
 ghost use Prim.Native.Nat.{_+_, _^_, _≤_, _<_};
 ghost use lib.ListN.{length, drop};
 ghost use lib.Seq.{slice};
-ghost use lib.IntN.{pos};
+ghost use lib.IntN.{pos, negℤ};
 ghost use lib.Signed.{leZ};
-ghost use Rattle.rules.specs.Rows.{every};
-ghost use Rattle.rules.specs.Numbers.{isSeparator, isDigit, startsRight, beginsNumber, valueFrom, readWord, thenRead, field, between, judgeSmall};
+ghost use Rattle.rules.specs.Numbers.{isSeparator, isDigit, startsRight, thenRead, field, between, judgeSmall};
 ghost use Rattle.rules.specs.Sheets.{always};
-ghost use Rattle.tokens.specs.Tokens.{TokenEnd, DigitsStart, unjudged, tokenAnswer};
+ghost use Rattle.tokens.specs.Tokens.{DigitsStart, DigitsTo, Stopped};
 ghost use Rattle.tokens.specs.Fields.{NumberAt, Answers, Unread, readOf, closing};
 
 fn is_separator(b: u8) -> bool
@@ -19,27 +18,12 @@ fn is_separator(b: u8) -> bool
     b == 32 || b == 10
 }
 
-// "A token runs to the next space or byte 10": where the token that begins at `at` ends.
-fn token_end(bytes: &[u8], at: usize) -> usize
+// Where the digits of the token at `at` begin: after a minus, if it has one.
+fn digits_start(bytes: &[u8], at: usize) -> usize
     requires { ⌜ at ≤ length (now bytes) ⌝ }
-    ensures { λ r. ⌜ TokenEnd (now (bytes .entry)) at r ⌝ }
+    ensures { λ r. ⌜ DigitsStart (now (bytes .entry)) at r ⌝ }
 {
-    let mut end = at;
-    while end < bytes.len() {
-        if is_separator(bytes[end]) {
-            break;
-        }
-        end += 1;
-    }
-    end
-}
-
-// Where the digits begin of the bytes from `at` up to `end`: after a minus, if they have one.
-fn digits_start(bytes: &[u8], at: usize, end: usize) -> usize
-    requires { ⌜ (at ≤ end) × (end ≤ length (now bytes)) ⌝ }
-    ensures { λ r. ⌜ DigitsStart (now (bytes .entry)) at end r ⌝ }
-{
-    if at < end {
+    if at < bytes.len() {
         if bytes[at] == 45 {
             return at + 1;
         }
@@ -53,18 +37,28 @@ fn is_digit(b: u8) -> bool
     48 <= b && b <= 57
 }
 
-fn all_digits(bytes: &[u8], from: usize, end: usize) -> bool
-    requires { ⌜ (from ≤ end) × (end ≤ length (now bytes)) ⌝ }
-    ensures { λ r. ⌜ r ≡ every isDigit (slice from end (now (bytes .entry))) ⌝ }
+// Where digits end, and their value.
+struct Digits {
+    end: usize,
+    value: u64,
+}
+
+// The digits from `from` on, at most ten.
+fn digits_from(bytes: &[u8], from: usize) -> Digits
+    requires { ⌜ from ≤ length (now bytes) ⌝ }
+    ensures { λ r. ⌜ DigitsTo (now (bytes .entry)) from (r .end) (r .value) × Stopped (now (bytes .entry)) from (r .end) ⌝ }
 {
-    let mut i = from;
-    while i < end {
-        if !is_digit(bytes[i]) {
-            return false;
+    let mut value: u64 = 0;
+    let mut end = from;
+    while end < bytes.len() && end - from < 10 {
+        let b = bytes[end];
+        if !is_digit(b) {
+            break;
         }
-        i += 1;
+        value = 10 * value + (b - 48) as u64;
+        end += 1;
     }
-    true
+    Digits { end, value }
 }
 
 // "without leading zeros or `-0`": a 0 stands alone and without a sign.
@@ -81,59 +75,13 @@ fn starts_right(bytes: &[u8], signed: bool, from: usize, end: usize) -> bool
     !signed && from + 1 == end
 }
 
-// Can the bytes from `at` up to `end` begin a number?
-fn begins_number(bytes: &[u8], at: usize, end: usize) -> bool
-    requires { ⌜ (at ≤ end) × (end ≤ length (now bytes)) ⌝ }
-    ensures { λ r. ⌜ r ≡ beginsNumber (slice at end (now (bytes .entry))) ⌝ }
+// A number by its sign and its size.
+fn signed_value(negative: bool, size: u64) -> i64
+    requires { ⌜ size < 10 ^ 10 ⌝ }
+    ensures { λ r. ⌜ r ≡ cond negative (negℤ (pos size)) (pos size) ⌝ }
 {
-    let from = digits_start(bytes, at, end);
-    if 10 < end - from {
-        return false;
-    }
-    if !starts_right(bytes, at < from, from, end) {
-        return false;
-    }
-    all_digits(bytes, from, end)
-}
-
-// The value of at most ten digits.
-fn digits_value(bytes: &[u8], from: usize, end: usize) -> u64
-    requires { ⌜ (from ≤ end) × ((end ≤ length (now bytes)) × (end ≤ from + 10)) ⌝ }
-    requires { ⌜ every isDigit (slice from end (now bytes)) ≡ true ⌝ }
-    ensures { λ r. ⌜ (r ≡ valueFrom 0 (slice from end (now (bytes .entry)))) × (r < 10 ^ 10) ⌝ }
-{
-    let mut value: u64 = 0;
-    let mut i = from;
-    while i < end {
-        value = 10 * value + (bytes[i] - 48) as u64;
-        i += 1;
-    }
-    value
-}
-
-// What a token is, over bytes whose separator has been found.
-pub enum Token {
-    Number(i64),
-    NoNumber,
-}
-
-fn read_token(bytes: &[u8], at: usize, end: usize) -> Token
-    requires { ⌜ (at ≤ end) × (end < length (now bytes)) ⌝ }
-    ensures { λ r. ⌜ tokenAnswer r (drop end (now (bytes .entry))) ≡ readWord unjudged (slice at end (now (bytes .entry))) (drop end (now (bytes .entry))) ⌝ }
-{
-    let from = digits_start(bytes, at, end);
-    if from == end {
-        return Token::NoNumber;
-    }
-    if !begins_number(bytes, at, end) {
-        return Token::NoNumber;
-    }
-    let value = digits_value(bytes, from, end) as i64;
-    if from == at {
-        Token::Number(value)
-    } else {
-        Token::Number(-value)
-    }
+    let value = size as i64;
+    if negative { -value } else { value }
 }
 
 // A number that was read and the place after it, or a refusal.
@@ -159,19 +107,28 @@ pub fn number_at(bytes: &[u8], at: usize) -> NumberRead
     requires { ⌜ at ≤ length (now bytes) ⌝ }
     ensures { λ r. ⌜ NumberAt (now (bytes .entry)) at (r .refusal) (r .value) (r .at) ⌝ }
 {
-    let end = token_end(bytes, at);
+    let from = digits_start(bytes, at);
+    let d = digits_from(bytes, from);
+    let end = d.end;
+    let right = starts_right(bytes, at < from, from, end);
     if end == bytes.len() {
-        if begins_number(bytes, at, end) {
+        if right {
             return no_number(4);
         }
         return no_number(3);
     }
-    let Token::Number(value) = read_token(bytes, at, end) else {
+    if !is_separator(bytes[end]) {
         return no_number(3);
-    };
+    }
+    if from == end {
+        return no_number(3);
+    }
+    if !right {
+        return no_number(3);
+    }
     NumberRead {
         refusal: 0,
-        value,
+        value: signed_value(at < from, d.value),
         at: end,
     }
 }

@@ -12,13 +12,13 @@ add-result : tie.Need-add-result
 add-result c = omega arith
 
 returns : tie.Need-returns
-returns c = digits-signed _ _ _ (c .before .before .if1 .taken) (c .before .before .before .pre .1) (c .if2 .taken)
+returns c = digits-signed _ _ (c .before .before .if1 .taken) (c .if2 .taken)
 
 returns-2 : tie.Need-returns-2
-returns-2 c = digits-unsigned _ _ _ (c .before .before .if1 .taken) (c .before .before .before .pre .1) (c .if2 .left)
+returns-2 c = digits-unsigned _ _ (c .before .before .if1 .taken) (c .if2 .left)
 
 returns-3 : tie.Need-returns-3
-returns-3 c = digits-none _ _ _ (omega arith)
+returns-3 c = digits-none _ _ (omega arith)
 
 pub digits-start-spec : {M : Type 1} → statement M
 digits-start-spec =

@@ -20,13 +20,13 @@ use Rattle.reading.proofs.equations.equation_at.Statement.{statement}
 use Rattle.reading.proofs.equations.equation_at.Tie as tie
 
 most-terms-requires : tie.Need-most-terms-requires
-most-terms-requires c κs = c .before .pre .1
+most-terms-requires c κs = c .before .pre .0 .1
 
 count-at-requires : tie.Need-count-at-requires
-count-at-requires c κs = c .before .before .pre .0
+count-at-requires c κs = c .before .before .pre .0 .0
 
-no-equation-requires : tie.Need-no-equation-requires
-no-equation-requires c κs = tt
+no-part-requires : tie.Need-no-part-requires
+no-part-requires c κs = tt
 
 -- The number of terms, as it was read.
 module _ (c : tie.After-count-at) where
@@ -47,8 +47,8 @@ returns : tie.Need-returns
 unfolding sizesOf
 returns c =
     refuses (c .before .if1 .taken)
-    (equation-is _ (size-bounds _ (c .before .before .before .before .before .before .pre .1) .few) _ ∙ then-fault _ (answer-fault (c .before .if1 .taken) (count-answer (c .before .before .before))))
-    (c .no-equation .ensures)
+    (equation-is _ (size-bounds _ (c .before .before .before .before .before .before .pre .0 .1) .few) _ ∙ then-fault _ (answer-fault (c .before .if1 .taken) (count-answer (c .before .before .before))))
+    (c .no-part .ensures)
 
 module _ (c : tie.After-struct-told) where
   count-fits : SFits w64 (count (c .before .before .before .before))
@@ -62,15 +62,18 @@ cast-terms-at c =
     rw (toZ-ofZ (count-fits c)) (between-zero 0 _ _ (field-judged _ afterCount _ (count-read c)) .0, fits-natAbs tt (count-fits c))
 
 terms-at-requires : tie.Need-terms-at-requires
-terms-at-requires c κs = (c .before .before .before .before .count-at .ensures .within, c .before .before .before .before .before .before .before .pre .1)
+terms-at-requires c κs = ((c .before .before .before .before .before .count-at .ensures .within, c .before .before .before .before .before .before .before .before .pre .0 .1), c .before .before .before .before .before .before .before .before .pre .1)
+
+same-length : tie.Need-same-length
+same-length c = c .before .terms-at .kept .1 .1 .1 .1 .0
 
 returns-2 : tie.Need-returns-2
 unfolding sizesOf termsOf
 returns-2 c =
-    let a = c .before .before .before .before .before .before .before .before .args in
-    answers-as (c .terms-at .ensures)
-    (ap (λ k. termsInto (sizesOf (a .z)) (natAbs k) (a .z .l) 0 blankRow (drop (c .before .before .before .before .before .count-at .result .at) (now (a .bytes)))) (toZ-ofZ (count-fits (c .before)))
-    ∙ sym (equation-is _ (size-bounds _ (c .before .before .before .before .before .before .before .before .pre .1) .few) _ ∙ then-got _ (count-read (c .before))))
+    let a = c .before .before .before .before .before .before .before .before .before .before .args in
+    answers-as (c .before .terms-at .ensures)
+    (ap (λ k. termsInto (sizesOf (a .z)) (natAbs k) (a .z .l) 0 blankRow (drop (c .before .before .before .before .before .before .before .count-at .result .at) (now (a .bytes)))) (toZ-ofZ (count-fits (c .before .before .before)))
+    ∙ sym (equation-is _ (size-bounds _ (c .before .before .before .before .before .before .before .before .before .before .pre .0 .1) .few) _ ∙ then-got _ (count-read (c .before .before .before))))
 
 pub equation-at-spec : {M : Type 1} → statement M
 equation-at-spec =
@@ -78,8 +81,9 @@ equation-at-spec =
     (tie.spec
     most-terms-requires
     count-at-requires
-    no-equation-requires
+    no-part-requires
     returns
     cast-terms-at
     terms-at-requires
+    same-length
     returns-2)

@@ -1,21 +1,28 @@
 -- `reading::equations::terms_at` meets its contract. The loop's invariant: the row holds the terms before the place `next`, and `left` terms
 -- are to come. The measure is their number.
 -- Assumes nothing.
-use mathlib.Core.Path.{_≡_, refl, sym}
-use Prim.Native.Nat.{_-_}
+use mathlib.Core.Path.{_≡_, refl, sym, ap₂, _∙_}
+use mathlib.Core.List.{[]}
+use Prim.Native.Nat.{ℕ, _+_, _-_, _≤_}
+use native.Mathlib.Nat.{le-refl, le-add-right}
 use native.Mathlib.Omega.{arith}
 use borrow.Author.Needs.{sfits-of}
+use borrow.Rule.Slice.PartMut.{same-len-mid}
 use denote.Ref.{now}
-use lib.ListN.{drop}
+use lib.IntN.{pos}
+use lib.ListN.{drop, replicate}
+use lib.Seq.{length-paste}
 use mir.Syntax.{w64}
 use mir.Val.{SFits, toZ}
 use mir.Facts.{toZ-ofZ}
-use Rattle.rules.specs.Sheets.{Term, parting}
+use Rattle.rules.specs.Numbers.{got}
+use Rattle.rules.specs.Sheets.{parting}
 use Rattle.rules.specs.Layout.{size-bounds}
-use Rattle.tokens.specs.Fields.{Answers, answer-fault, answer-got, refuses, gives}
-use Rattle.reading.specs.Terms.{termOf, readPadded}
-use Rattle.reading.specs.Equations.{TermRight, padded-right, term-place, place-fits, TermsTo, terms-begin, terms-end, terms-refused, terms-go-on, zeros-blank}
+use Rattle.tokens.specs.Fields.{Answers, answer-fault, answer-got, refuses, gives, then-got, then-fault}
+use Rattle.reading.specs.Terms.{termOf, readPlace, readPolynomial, withPlace, readPadded-is, placeInRow}
+use Rattle.reading.specs.Equations.{lent-long, TermRight, place-right, term-place, place-fits, TermsTo, terms-begin, terms-end, terms-refused, terms-go-on, cleared-blank}
 use Rattle.rows.specs.Validity.{sizesOf}
+use Rattle.reading.specs.declared.terms.PlaceRead.{PlaceRead}
 use Rattle.reading.proofs.equations.terms_at.Statement.{statement}
 use Rattle.reading.proofs.equations.terms_at.Tie as tie
 
@@ -26,71 +33,150 @@ Inv-loop bytes at z count row₀ next₀ block₀ column₀ left₀ row next blo
 abbrev μ-loop : tie.MeasureT-loop
 μ-loop bytes at z count row₀ next₀ block₀ column₀ left₀ row next block column left = left
 
+clear-requires : tie.Need-clear-requires Inv-loop μ-loop
+clear-requires c κs = omega arith
+
 loop-holds : tie.Need-loop-holds Inv-loop μ-loop
 unfolding sizesOf
 loop-holds c =
-    let f : SFits w64 (c .before .before .args .z .l) = sfits-of (c .struct-told .given .1 .0 .1) in
-    terms-begin _ (c .before .before .pre .1) _ _ _ _ _ (c .before .before .pre .0) (toZ-ofZ f) refl zeros-blank
+    let s = c .before .before .before .before .before in
+    let f : SFits w64 (s .args .z .l) = sfits-of (c .struct-told .given .1 .0 .1) in
+    rw (c .before .before .clear .ensures)
+    (terms-begin _ (s .pre .0 .1) _ _ _ _ _ (s .pre .0 .0) (toZ-ofZ f)
+    (length-paste (now (s .args .row)) 0 (replicate 320 (pos 0)) 320 (omega arith) (le-refl 320) ∙ s .pre .1) (cleared-blank (now (s .args .row)) (s .pre .1)))
 
 sub-left : tie.Need-sub-left Inv-loop μ-loop
 sub-left c = omega arith
 
-parting-requires : tie.Need-parting-requires Inv-loop μ-loop
-parting-requires c κs = tt
-
-term-at-requires : tie.Need-term-at-requires Inv-loop μ-loop
+place-at-requires : tie.Need-place-at-requires Inv-loop μ-loop
 unfolding sizesOf
-term-at-requires c κs = (c .before .before .loop .inv .within, (size-bounds _ (c .before .before .before .before .before .pre .1) .few, c .before .before .loop .inv .few))
+place-at-requires c κs = (c .before .loop .inv .within, (size-bounds _ (c .before .before .before .before .before .before .before .pre .0 .1) .few, c .before .loop .inv .few))
 
-no-equation-requires : tie.Need-no-equation-requires Inv-loop μ-loop
-no-equation-requires c κs = tt
+no-part-requires : tie.Need-no-part-requires Inv-loop μ-loop
+no-part-requires c κs = tt
 
--- The term of a turn, as it was read.
-module _ (c : tie.After-term-at Inv-loop μ-loop) where
-  abbrev term : Term
-  term = termOf (c .term-at .result .block) (c .term-at .result .column) (c .term-at .result .coefficients)
-
-  term-answer : Answers (now (c .before .before .before .before .before .before .args .bytes)) (c .term-at .result .refusal) term (c .term-at .result .at)
-      (readPadded (sizesOf (c .before .before .before .before .before .before .args .z)) (toZ w64 (c .before .before .before .loop .block)) (c .before .before .before .loop .column) (parting 10 (c .before .before .before .loop .left - 1)) (drop (c .before .before .before .loop .next) (now (c .before .before .before .before .before .before .args .bytes))))
-  term-answer = rw (c .before .parting .ensures) at (c .term-at .ensures)
-
-  right : c .term-at .result .refusal ≡ 0 → TermRight (sizesOf (c .before .before .before .before .before .before .args .z)) (toZ w64 (c .before .before .before .loop .block)) (c .before .before .before .loop .column) term
-  right e = padded-right _ _ _ _ _ _ _ (answer-got e term-answer) .0
+same-length : tie.Need-same-length Inv-loop μ-loop
+same-length c = c .before .before .before .before .before .loop .inv .long ∙ sym (c .before .before .before .before .before .before .before .before .before .before .before .pre .1)
 
 returns : tie.Need-returns Inv-loop μ-loop
 unfolding sizesOf
 returns c =
-    refuses (c .before .if1 .taken)
-    (terms-refused _ (c .before .before .before .before .before .before .before .before .before .pre .1) _ _ _ _ _ _ _ _ (c .before .before .before .before .before .before .loop .inv) (c .before .before .before .before .before .loop-test .taken) _ (answer-fault (c .before .if1 .taken) (term-answer (c .before .before .before))))
-    (c .no-equation .ensures)
+    let h = c .before .if1 .taken in
+    refuses h
+    (terms-refused _ (c .before .before .before .before .before .before .before .before .before .before .before .pre .0 .1) _ _ _ _ _ _ _ _ (c .before .before .before .before .before .loop .inv) (c .before .before .before .before .loop-test .taken) _
+    (readPadded-is _ _ _ _ _ ∙ then-fault _ (answer-fault h (c .before .before .before .place-at .ensures))))
+    (c .no-part .ensures)
 
-slice-aggregate-put-term : tie.Need-slice-aggregate-put-term Inv-loop μ-loop
-slice-aggregate-put-term c = sym (c .before .before .before .before .before .before .loop .inv .long)
+-- The place of a turn's term, as it was read.
+module _ (d : tie.After-struct-told3 Inv-loop μ-loop) where
+  abbrev s : tie.Start Inv-loop μ-loop
+  s = d .before .before .before .before .before .before .before .before .before .before .before .before
 
-put-term-requires : tie.Need-put-term-requires Inv-loop μ-loop
+  abbrev l : tie.At-loop Inv-loop μ-loop
+  l = d .before .before .before .before .before .before
+
+  abbrev q : PlaceRead
+  q = d .before .before .before .before .place-at .result
+
+  l-fits : SFits w64 (s .args .z .l)
+  l-fits = sfits-of (d .before .struct-told2 .given .1 .0 .1)
+
+  block-fits : SFits w64 (q .block)
+  block-fits = sfits-of (d .struct-told3 .given .1 .1 .0 .1)
+
+  place-read : readPlace (sizesOf (s .args .z)) (toZ w64 (l .loop .block)) (l .loop .column) (drop (l .loop .next) (now (s .args .bytes))) ≡ got (q .block, q .column) (drop (q .at) (now (s .args .bytes)))
+  place-read = answer-got (d .before .before .if1 .left) (d .before .before .before .before .place-at .ensures)
+
+  right : TermRight (sizesOf (s .args .z)) (toZ w64 (l .loop .block)) (l .loop .column) (termOf (q .block) (q .column) [])
+  right = place-right _ _ _ _ _ _ [] place-read
+
+place-in-row-requires : tie.Need-place-in-row-requires Inv-loop μ-loop
 unfolding sizesOf
-put-term-requires c κs =
-    let f : SFits w64 (c .before .before .before .before .before .before .before .before .before .before .args .z .l) = sfits-of (c .struct-told2 .given .1 .0 .1) in
-    let r = right (c .before .before .before .before) (c .before .before .if1 .left) in
-    let place = term-place _ _ _ _ (c .before .before .before .before .before .before .before .before .before .before .pre .1) r in
-    rw (toZ-ofZ f) (((place .0), (place .1)), (((place .2), (place .3)), rw (c .before .before .before .before .before .before .before .loop .inv .long) (place-fits _ _ _ _ (c .before .before .before .before .before .before .before .before .before .before .pre .1) r)))
+place-in-row-requires c κs =
+    let place = term-place _ _ _ _ (s c .pre .0 .1) (right c) in
+    rw (toZ-ofZ (l-fits c), toZ-ofZ (block-fits c)) ((place .0, place .1), (place .2, place .3))
+
+-- There is room for it.
+module _ (c : tie.After-place-in-row Inv-loop μ-loop) where
+  abbrev from : ℕ
+  from = c .place-in-row .result
+
+  from-is : from ≡ placeInRow (s (c .before) .args .z .l) (q (c .before) .block) (q (c .before) .column)
+  from-is = c .place-in-row .ensures ∙ ap₂ (λ l b. placeInRow l b (q (c .before) .column)) (toZ-ofZ (l-fits (c .before))) (toZ-ofZ (block-fits (c .before)))
+
+  room : from + 16 ≤ 320
+  unfolding sizesOf
+  room = rw from-is (place-fits _ _ _ _ (s (c .before) .pre .0 .1) (right (c .before)))
+
+add-to : tie.Need-add-to Inv-loop μ-loop
+add-to c = omega (arith, room c)
+
+parting-requires : tie.Need-parting-requires Inv-loop μ-loop
+parting-requires c κs = tt
+
+mul-polynomial-at : tie.Need-mul-polynomial-at Inv-loop μ-loop
+mul-polynomial-at c = omega (arith, room (c .before))
+
+sub-polynomial-at : tie.Need-sub-polynomial-at Inv-loop μ-loop
+sub-polynomial-at c = le-add-right _ 16
+
+part-polynomial-at-start : tie.Need-part-polynomial-at-start Inv-loop μ-loop
+part-polynomial-at-start c = le-add-right _ 16
+
+part-polynomial-at-end : tie.Need-part-polynomial-at-end Inv-loop μ-loop
+part-polynomial-at-end c = rw (c .before .before .before .before .before .before .before .before .loop .inv .long) (room (c .before))
+
+polynomial-at-requires : tie.Need-polynomial-at-requires Inv-loop μ-loop
+polynomial-at-requires c κs =
+    let l = c .before .before .before .before .before .before .before .before .before .loop in
+    (c .before .before .before .before .before .before .before .place-at .ensures .within, lent-long (l .row) (from (c .before .before)) 16 (rw (l .inv .long) (room (c .before .before))))
+
+no-part-requires-2 : tie.Need-no-part-requires-2 Inv-loop μ-loop
+no-part-requires-2 c κs = tt
+
+same-length-2 : tie.Need-same-length-2 Inv-loop μ-loop
+same-length-2 c =
+    let at = from (c .before .before .before .before .before .before .before) in
+    same-len-mid at (at + 16 - at) (c .before .before .before .before .before .before .before .before .before .before .before .before .before .before .loop .row) (c .before .before .before .before .polynomial-at .last .1 .1 .1 .0) (c .before .before .before .before .polynomial-at .kept .1 .1 .1 .0)
+    ∙ c .before .before .before .before .before .before .before .before .before .before .before .before .before .before .loop .inv .long
+    ∙ sym (c .before .before .before .before .before .before .before .before .before .before .before .before .before .before .before .before .before .before .before .before .pre .1)
+
+-- The polynomial of a turn's term, as it was read.
+module _ (c : tie.After-polynomial-at Inv-loop μ-loop) where
+  abbrev d : tie.After-struct-told3 Inv-loop μ-loop
+  d = c .before .before .before .before
+
+  polynomial-answer : Answers (now (s d .args .bytes)) (c .polynomial-at .result .refusal) (c .polynomial-at .last .1 .1 .1 .0) (c .polynomial-at .result .at)
+      (readPolynomial (parting 10 (l d .loop .left - 1)) (drop (q d .at) (now (s d .args .bytes))))
+  polynomial-answer = rw (c .before .before .parting .ensures) at (c .polynomial-at .ensures)
+
+returns-2 : tie.Need-returns-2 Inv-loop μ-loop
+unfolding withPlace sizesOf
+returns-2 c =
+    let h = c .before .if2 .taken in
+    refuses h
+    (terms-refused _ (c .before .before .before .before .before .before .before .before .before .before .before .before .before .before .before .before .before .before .before .before .pre .0 .1) _ _ _ _ _ _ _ _ (c .before .before .before .before .before .before .before .before .before .before .before .before .before .before .loop .inv) (c .before .before .before .before .before .before .before .before .before .before .before .before .before .loop-test .taken) _
+    (readPadded-is _ _ _ _ _ ∙ then-got _ (place-read (c .before .before .before .before .before .before .before .before)) ∙ then-fault _ (answer-fault h (polynomial-answer (c .before .before .before .before)))))
+    (c .no-part2 .ensures)
 
 loop-less : tie.Need-loop-less Inv-loop μ-loop
 loop-less c = omega arith
 
 loop-again : tie.Need-loop-again Inv-loop μ-loop
-unfolding sizesOf
+unfolding withPlace sizesOf
 loop-again c =
-    let l : SFits w64 (c .before .before .before .before .before .before .before .before .before .before .before .before .before .args .z .l) = sfits-of (c .before .before .before .struct-told2 .given .1 .0 .1) in
-    let block : SFits w64 (c .before .before .before .before .before .before .before .term-at .result .block) = sfits-of (c .struct-told3 .given .1 .1 .0 .1) in
-    rw (c .before .before .put-term .ensures, toZ-ofZ l, toZ-ofZ block)
-    (terms-go-on _ (c .before .before .before .before .before .before .before .before .before .before .before .before .before .pre .1) _ _ _ _ _ _ _ _ (c .before .before .before .before .before .before .before .before .before .before .loop .inv) (c .before .before .before .before .before .before .before .before .before .loop-test .taken) _ _ (answer-got (c .before .before .before .before .before .if1 .left) (term-answer (c .before .before .before .before .before .before .before)))
-    (c .before .before .before .before .before .before .before .term-at .ensures .within))
+    rw (toZ-ofZ (block-fits (c .before .before .before .before .before .before .before .before)))
+    (terms-go-on _ (c .before .before .before .before .before .before .before .before .before .before .before .before .before .before .before .before .before .before .before .before .pre .0 .1) _ _ _ _ _ _ _ _ (c .before .before .before .before .before .before .before .before .before .before .before .before .before .before .loop .inv) (c .before .before .before .before .before .before .before .before .before .before .before .before .before .loop-test .taken) _ _ _
+    (readPadded-is _ _ _ _ _ ∙ then-got _ (place-read (c .before .before .before .before .before .before .before .before)) ∙ then-got _ (answer-got (c .before .if2 .left) (polynomial-answer (c .before .before .before .before))))
+    (c .before .before .before .before .polynomial-at .ensures .within) (from-is (c .before .before .before .before .before .before .before)))
 
-returns-2 : tie.Need-returns-2 Inv-loop μ-loop
+same-length-3 : tie.Need-same-length-3 Inv-loop μ-loop
+same-length-3 c = c .before .loop .inv .long ∙ sym (c .before .before .before .before .before .before .before .pre .1)
+
+returns-3 : tie.Need-returns-3 Inv-loop μ-loop
 unfolding sizesOf
-returns-2 c =
-    gives refl (terms-end _ (c .before .before .before .before .pre .1) _ _ _ _ _ _ _ _ (c .before .loop .inv) (omega arith)) (c .before .loop .inv .within)
+returns-3 c =
+    gives refl (terms-end _ (c .before .before .before .before .before .before .before .pre .0 .1) _ _ _ _ _ _ _ _ (c .before .loop .inv) (omega arith)) (c .before .loop .inv .within)
 
 pub terms-at-spec : {M : Type 1} → statement M
 terms-at-spec =
@@ -98,14 +184,25 @@ terms-at-spec =
     (tie.spec
     Inv-loop
     μ-loop
+    clear-requires
     loop-holds
     sub-left
-    parting-requires
-    term-at-requires
-    no-equation-requires
+    place-at-requires
+    no-part-requires
+    same-length
     returns
-    slice-aggregate-put-term
-    put-term-requires
+    place-in-row-requires
+    add-to
+    parting-requires
+    mul-polynomial-at
+    sub-polynomial-at
+    part-polynomial-at-start
+    part-polynomial-at-end
+    polynomial-at-requires
+    no-part-requires-2
+    same-length-2
+    returns-2
     loop-less
     loop-again
-    returns-2)
+    same-length-3
+    returns-3)

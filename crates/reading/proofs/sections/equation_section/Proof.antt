@@ -30,8 +30,8 @@ cast-m c = omega (arith, few (c .before .before))
 number-between-requires : tie.Need-number-between-requires
 number-between-requires c κs = c .before .before .pre .0 .0
 
-no-section-requires : tie.Need-no-section-requires
-no-section-requires c κs = tt
+no-part-requires : tie.Need-no-part-requires
+no-part-requires c κs = tt
 
 -- The number of equations, as it was read.
 module _ (c : tie.After-number-between) where
@@ -43,7 +43,7 @@ module _ (c : tie.After-number-between) where
 
 returns : tie.Need-returns
 unfolding equationSection sizesOf
-returns c = refuses (c .before .if1 .taken) (then-fault _ (answer-fault (c .before .if1 .taken) (count-answer (c .before .before .before)))) (c .no-section .ensures)
+returns c = refuses (c .before .if1 .taken) (then-fault _ (answer-fault (c .before .if1 .taken) (count-answer (c .before .before .before)))) (c .no-part .ensures)
 
 equations-at-requires : tie.Need-equations-at-requires
 equations-at-requires c κs = ((c .before .before .before .number-between .ensures .0 .within, c .before .before .before .before .before .before .pre .0 .1), c .before .before .before .before .before .before .pre .1)
@@ -61,7 +61,7 @@ equation-section-spec =
     (tie.spec
     cast-m
     number-between-requires
-    no-section-requires
+    no-part-requires
     returns
     equations-at-requires
     same-length

@@ -3,14 +3,16 @@
 -- Assumes nothing.
 use mathlib.Core.Path.{_≡_, _∙_}
 use Prim.Native.Nat.{_+_, _*_, _-_, _≤_}
+use native.Mathlib.Nat.{le-add-right}
 use native.Mathlib.Omega.{arith}
-use borrow.Author.Needs.{needs}
+use borrow.Rule.Slice.PartMut.{midOf, same-len-mid}
 use denote.Ref.{now}
 use lib.ListN.{length}
 use Rattle.rules.specs.Stores.{rowOf}
 use Rattle.rules.specs.Sheets.{readEquation}
 use Rattle.rules.specs.Layout.{size-bounds}
 use Rattle.tokens.specs.Fields.{answer-fault, answer-got, refuses, gives}
+use Rattle.reading.specs.Equations.{lent-long}
 use Rattle.reading.specs.Sections.{equations-each, StoredTo, stored-begins, stored-ends, stored-refused, stored-goes-on, rowsOf-parts}
 use Rattle.rows.specs.Validity.{sizesOf}
 use Rattle.reading.proofs.sections.equations_at.Statement.{statement}
@@ -25,51 +27,61 @@ abbrev μ-loop : tie.MeasureT-loop
 loop-holds : tie.Need-loop-holds Inv-loop μ-loop
 loop-holds c = stored-begins _ _ _ _ _ _ _ (c .before .pre .0 .0)
 
-equation-at-requires : tie.Need-equation-at-requires Inv-loop μ-loop
-equation-at-requires c κs = (c .before .before .loop .inv .within, c .before .before .before .before .pre .0 .1)
-
-no-section-requires : tie.Need-no-section-requires Inv-loop μ-loop
-no-section-requires c κs = tt
-
-same-length : tie.Need-same-length Inv-loop μ-loop
-same-length c = c .before .before .before .before .before .before .loop .inv .long
-
-returns : tie.Need-returns Inv-loop μ-loop
-returns c =
-    refuses (c .before .if2 .taken)
-    (equations-each _ _ _
-    ∙ stored-refused _ _ _ _ _ _ _ _ _ _ (c .before .before .before .before .before .before .loop .inv) (c .before .before .before .before .if1 .taken) _ (answer-fault (c .before .if2 .taken) (c .before .before .before .equation-at .ensures)))
-    (c .no-section .ensures)
-
 -- There is room for the equation of a turn.
 module _ (c : tie.Then1 Inv-loop μ-loop) where
   room : c .before .before .loop .i * 320 + 320 ≤ length (now (c .before .before .before .before .args .rows))
   unfolding sizesOf
   room = omega (arith, size-bounds _ (c .before .before .before .before .pre .0 .1) .few, c .before .before .before .before .pre .1, c .if1 .taken)
 
-mul-copy : tie.Need-mul-copy Inv-loop μ-loop
-mul-copy c = omega (arith, room (c .before .before .before .before .before))
+  long : length (midOf (c .before .before .loop .i * 320) (c .before .before .loop .i * 320 + 320 - c .before .before .loop .i * 320) (c .before .before .loop .rows)) ≡ 320
+  long = lent-long (c .before .before .loop .rows) (c .before .before .loop .i * 320) 320 (rw (c .before .before .loop .inv .long) room)
 
-slice-aggregate-copy : tie.Need-slice-aggregate-copy Inv-loop μ-loop
-slice-aggregate-copy c = search needs
+mul-from : tie.Need-mul-from Inv-loop μ-loop
+mul-from c = omega (arith, room c)
 
-copy-requires : tie.Need-copy-requires Inv-loop μ-loop
-copy-requires c κs =
-    let long : length (c .before .before .before .before .before .equation-at .result .row) ≡ 320 = search needs in
-    (rw (c .before .before .before .before .before .before .before .before .loop .inv .long) (room (c .before .before .before .before .before .before)), omega arith)
+add-to : tie.Need-add-to Inv-loop μ-loop
+add-to c = omega (arith, room c)
+
+mul-equation-at : tie.Need-mul-equation-at Inv-loop μ-loop
+mul-equation-at c = omega (arith, room c)
+
+sub-equation-at : tie.Need-sub-equation-at Inv-loop μ-loop
+sub-equation-at c = omega arith
+
+part-equation-at-start : tie.Need-part-equation-at-start Inv-loop μ-loop
+part-equation-at-start c = le-add-right _ 320
+
+part-equation-at-end : tie.Need-part-equation-at-end Inv-loop μ-loop
+part-equation-at-end c = rw (c .before .before .loop .inv .long) (room c)
+
+equation-at-requires : tie.Need-equation-at-requires Inv-loop μ-loop
+equation-at-requires c κs = ((c .before .before .before .loop .inv .within, c .before .before .before .before .before .pre .0 .1), long (c .before))
+
+no-part-requires : tie.Need-no-part-requires Inv-loop μ-loop
+no-part-requires c κs = tt
+
+same-length : tie.Need-same-length Inv-loop μ-loop
+same-length c =
+    let l = c .before .before .before .before .before .before .before .before .loop in
+    same-len-mid (l .i * 320) (l .i * 320 + 320 - l .i * 320) (l .rows) (c .before .before .before .before .equation-at .last .1 .1 .1 .0) (c .before .before .before .before .equation-at .kept .1 .1 .1 .0) ∙ l .inv .long
+
+returns : tie.Need-returns Inv-loop μ-loop
+returns c =
+    refuses (c .before .if2 .taken)
+    (equations-each _ _ _
+    ∙ stored-refused _ _ _ _ _ _ _ _ _ _ (c .before .before .before .before .before .before .before .before .loop .inv) (c .before .before .before .before .before .before .if1 .taken) _ (answer-fault (c .before .if2 .taken) (c .before .before .before .before .equation-at .ensures)))
+    (c .no-part .ensures)
 
 add-i : tie.Need-add-i Inv-loop μ-loop
-add-i c = omega (arith, room (c .before .before .before .before .before .before .before .before))
+add-i c = omega (arith, room (c .before .before .before .before .before))
 
 loop-less : tie.Need-loop-less Inv-loop μ-loop
-loop-less c = omega (arith, c .before .before .before .before .before .before .before .before .if1 .taken)
+loop-less c = omega (arith, c .before .before .before .before .before .if1 .taken)
 
 loop-again : tie.Need-loop-again Inv-loop μ-loop
 loop-again c =
-    let long : length (c .before .before .before .before .before .before .before .equation-at .result .row) ≡ 320 = search needs in
-    rw (c .before .copy .ensures)
-    (stored-goes-on _ _ _ _ _ _ _ _ _ _ (c .before .before .before .before .before .before .before .before .before .before .loop .inv) (c .before .before .before .before .before .before .before .before .if1 .taken) _ _ long (room (c .before .before .before .before .before .before .before .before))
-    (answer-got (c .before .before .before .before .before .if2 .left) (c .before .before .before .before .before .before .before .equation-at .ensures)) (c .before .before .before .before .before .before .before .equation-at .ensures .within))
+    stored-goes-on _ _ _ _ _ _ _ _ _ _ (c .before .before .before .before .before .before .before .loop .inv) (c .before .before .before .before .before .if1 .taken) _ _ (c .before .before .before .equation-at .kept .1 .1 .1 .0 ∙ long (c .before .before .before .before .before)) (room (c .before .before .before .before .before))
+    (answer-got (c .if2 .left) (c .before .before .before .equation-at .ensures)) (c .before .before .before .equation-at .ensures .within)
 
 same-length-2 : tie.Need-same-length-2 Inv-loop μ-loop
 same-length-2 c = c .before .before .loop .inv .long
@@ -86,13 +98,16 @@ equations-at-spec =
     Inv-loop
     μ-loop
     loop-holds
+    mul-from
+    add-to
+    mul-equation-at
+    sub-equation-at
+    part-equation-at-start
+    part-equation-at-end
     equation-at-requires
-    no-section-requires
+    no-part-requires
     same-length
     returns
-    mul-copy
-    slice-aggregate-copy
-    copy-requires
     add-i
     loop-less
     loop-again

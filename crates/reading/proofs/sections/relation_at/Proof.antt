@@ -1,77 +1,88 @@
--- `reading::sections::relation_at` meets its contract: n0, and then an equation, whose row is copied behind n0.
+-- `reading::sections::relation_at` meets its contract: n0, and then an equation, whose row is read behind n0.
 -- Assumes nothing.
-use mathlib.Core.Path.{_≡_, refl, ap, _∙_}
+use mathlib.Core.Path.{_≡_, sym, ap, _∙_}
+use mathlib.Core.List.{List}
+use Prim.Native.Nat.{_-_}
+use native.Mathlib.Nat.{le-refl}
 use native.Mathlib.Omega.{arith}
-use borrow.Author.Needs.{needs, sfits-of}
-use lib.ListN.{length, replicate}
+use borrow.Author.Needs.{sfits-of}
+use borrow.Rule.Slice.PartMut.{mid-len, same-len-mid}
+use denote.Ref.{now}
+use lib.Dec.{lit≤}
+use lib.IntN.{ℤ}
+use lib.ListN.{length, set, length-set}
 use mir.Syntax.{w64}
 use mir.Val.{SFits, toZ, ofZ}
 use mir.Facts.{toZ-ofZ}
-use Rattle.rules.specs.Stores.{relationOf}
-use Rattle.tokens.specs.Fields.{answer-fault, answer-got, refuses, gives, then-got, then-fault}
-use Rattle.reading.specs.Sections.{relationOf-paste, relationThen, relation-is}
+use Rattle.tokens.specs.Fields.{answer-fault, answer-got, refuses, answers-as, answers-made, then-got, then-fault}
+use Rattle.reading.specs.Sections.{relationOf-back, relationThen, relation-is}
 use Rattle.reading.proofs.sections.relation_at.Statement.{statement}
 use Rattle.reading.proofs.sections.relation_at.Tie as tie
 
 small-at-requires : tie.Need-small-at-requires
-small-at-requires c κs = c .before .pre .0
+small-at-requires c κs = c .before .pre .0 .0
 
-no-relation-requires : tie.Need-no-relation-requires
-no-relation-requires c κs = tt
+no-part-requires : tie.Need-no-part-requires
+no-part-requires c κs = tt
 
 returns : tie.Need-returns
 returns c =
-    refuses (c .before .if1 .taken) (relation-is _ _ ∙ then-fault _ (answer-fault (c .before .if1 .taken) (c .before .before .before .small-at .ensures .0))) (c .no-relation .ensures)
+    refuses (c .before .if1 .taken) (relation-is _ _ ∙ then-fault _ (answer-fault (c .before .if1 .taken) (c .before .before .before .small-at .ensures .0))) (c .no-part .ensures)
+
+slice-set-from-index : tie.Need-slice-set-from-index
+slice-set-from-index c = omega arith
+
+-- The relation with its n0.
+module _ (c : tie.After-struct-told) where
+  abbrev value : ℤ
+  value = c .before .before .before .small-at .result .value
+
+  abbrev numbers : List ℤ
+  numbers = set (now (c .before .before .before .before .before .args .relation)) 0 (toZ w64 (ofZ w64 value))
+
+  long : length numbers ≡ 321
+  long = length-set (now (c .before .before .before .before .before .args .relation)) 0 _ ∙ c .before .before .before .before .before .pre .1
+
+sub-equation-at : tie.Need-sub-equation-at
+sub-equation-at c = rw (long c) (lit≤ tt)
+
+part-equation-at-start : tie.Need-part-equation-at-start
+part-equation-at-start c = rw (long c) (lit≤ tt)
+
+part-equation-at-end : tie.Need-part-equation-at-end
+part-equation-at-end c = le-refl _
 
 equation-at-requires : tie.Need-equation-at-requires
-equation-at-requires c κs = (c .before .before .small-at .ensures .0 .within, c .before .before .before .before .pre .1)
+equation-at-requires c κs =
+    let n = numbers (c .before) in
+    ((c .before .before .before .before .small-at .ensures .0 .within, c .before .before .before .before .before .before .pre .0 .1), mid-len 1 (length n) n (le-refl (length n)) ∙ ap (λ k. k - 1) (long (c .before)))
 
-no-relation-requires-2 : tie.Need-no-relation-requires-2
-no-relation-requires-2 c κs = tt
+same-length : tie.Need-same-length
+same-length c =
+    let n = numbers (c .before .before .before) in
+    same-len-mid 1 (length n - 1) n (c .before .equation-at .last .1 .1 .1 .0) (c .before .equation-at .kept .1 .1 .1 .0) ∙ long (c .before .before .before) ∙ sym (c .before .before .before .before .before .before .before .before .pre .1)
 
 returns-2 : tie.Need-returns-2
 unfolding relationThen
 returns-2 c =
-    refuses (c .before .if2 .taken)
-    (relation-is _ _
-    ∙ then-got _ (answer-got (c .before .before .before .before .if1 .left) (c .before .before .before .before .before .before .small-at .ensures .0))
-    ∙ then-fault _ (answer-fault (c .before .if2 .taken) (c .before .before .before .equation-at .ensures)))
-    (c .no-relation2 .ensures)
-
-slice-aggregate-copy : tie.Need-slice-aggregate-copy
-slice-aggregate-copy c = refl
-
-slice-aggregate-copy-2 : tie.Need-slice-aggregate-copy-2
-slice-aggregate-copy-2 c = search needs
-
-copy-requires : tie.Need-copy-requires
-copy-requires c κs =
-    let long : length (c .before .before .before .before .before .before .equation-at .result .row) ≡ 320 = search needs in
-    (omega arith, omega arith)
-
-returns-3 : tie.Need-returns-3
-unfolding relationThen
-returns-3 c =
-    let f : SFits w64 (c .before .before .before .before .before .before .before .before .before .before .before .small-at .result .value) = sfits-of (c .before .before .before .before .before .struct-told .given .1 .0 .1) in
-    let index = toZ w64 (ofZ w64 (c .before .before .before .before .before .before .before .before .before .before .before .small-at .result .value)) in
-    let long : length (c .before .before .before .before .before .before .before .before .equation-at .result .row) ≡ 320 = search needs in
-    gives (ap relationOf (c .before .copy .ensures) ∙ relationOf-paste (replicate 321 index) _ _ refl long (toZ-ofZ f))
-    (relation-is _ _
-    ∙ then-got _ (answer-got (c .before .before .before .before .before .before .before .before .before .if1 .left) (c .before .before .before .before .before .before .before .before .before .before .before .small-at .ensures .0))
-    ∙ then-got _ (answer-got (c .before .before .before .before .before .before .if2 .left) (c .before .before .before .before .before .before .before .before .equation-at .ensures)))
-    (c .before .before .before .before .before .before .before .before .equation-at .ensures .within)
+    let v = value (c .before .before .before) in
+    let f : SFits w64 v = sfits-of (c .before .before .before .struct-told .given .1 .0 .1) in
+    let row = c .before .equation-at .last .1 .1 .1 .0 in
+    rw (relationOf-back (now (c .before .before .before .before .before .before .before .before .args .relation)) row (toZ w64 (ofZ w64 v)) (c .before .before .before .before .before .before .before .before .pre .1), toZ-ofZ f)
+    (answers-as (answers-made (λ r. record { index = v; row = r }) (c .before .equation-at .ensures))
+    (sym (relation-is _ _ ∙ then-got _ (answer-got (c .before .before .before .before .if1 .left) (c .before .before .before .before .before .before .small-at .ensures .0)))))
 
 pub relation-at-spec : {M : Type 1} → statement M
 relation-at-spec =
     tie.close
     (tie.spec
     small-at-requires
-    no-relation-requires
+    no-part-requires
     returns
+    slice-set-from-index
+    sub-equation-at
+    part-equation-at-start
+    part-equation-at-end
     equation-at-requires
-    no-relation-requires-2
-    returns-2
-    slice-aggregate-copy
-    slice-aggregate-copy-2
-    copy-requires
-    returns-3)
+    same-length
+    returns-2)

@@ -3,13 +3,15 @@
 -- Assumes nothing.
 use mathlib.Core.Path.{_≡_, _∙_}
 use Prim.Native.Nat.{_+_, _*_, _-_, _≤_}
+use native.Mathlib.Nat.{le-add-right}
 use native.Mathlib.Omega.{arith}
-use borrow.Author.Needs.{needs}
+use borrow.Rule.Slice.PartMut.{midOf, same-len-mid}
 use denote.Ref.{now}
 use lib.ListN.{length}
 use Rattle.rules.specs.Stores.{relationOf}
 use Rattle.rules.specs.Sheets.{readRelation}
 use Rattle.tokens.specs.Fields.{answer-fault, answer-got, refuses, gives}
+use Rattle.reading.specs.Equations.{lent-long}
 use Rattle.reading.specs.Sections.{relations-each, StoredTo, stored-begins, stored-ends, stored-refused, stored-goes-on, relationsOf-parts}
 use Rattle.rows.specs.Validity.{sizesOf}
 use Rattle.reading.proofs.sections.relations_at.Statement.{statement}
@@ -25,50 +27,60 @@ abbrev μ-loop : tie.MeasureT-loop
 loop-holds : tie.Need-loop-holds Inv-loop μ-loop
 loop-holds c = stored-begins _ _ _ _ _ _ _ (c .before .pre .0 .0)
 
-relation-at-requires : tie.Need-relation-at-requires Inv-loop μ-loop
-relation-at-requires c κs = (c .before .loop .inv .within, c .before .before .before .pre .0 .1)
-
-no-section-requires : tie.Need-no-section-requires Inv-loop μ-loop
-no-section-requires c κs = tt
-
-same-length : tie.Need-same-length Inv-loop μ-loop
-same-length c = c .before .before .before .before .before .loop .inv .long
-
-returns : tie.Need-returns Inv-loop μ-loop
-returns c =
-    refuses (c .before .if1 .taken)
-    (relations-each _ _ _
-    ∙ stored-refused _ _ _ _ _ _ _ _ _ _ (c .before .before .before .before .before .loop .inv) (c .before .before .before .before .loop-test .taken) _ (answer-fault (c .before .if1 .taken) (c .before .before .before .relation-at .ensures)))
-    (c .no-section .ensures)
-
 -- There is room for the relation of a turn.
 module _ (c : tie.In-loop Inv-loop μ-loop) where
   room : c .before .loop .i * 321 + 321 ≤ length (now (c .before .before .before .args .relations))
   room = omega (arith, c .before .before .before .pre .1, c .loop-test .taken)
 
-mul-copy : tie.Need-mul-copy Inv-loop μ-loop
-mul-copy c = omega (arith, room (c .before .before .before .before .before))
+  long : length (midOf (c .before .loop .i * 321) (c .before .loop .i * 321 + 321 - c .before .loop .i * 321) (c .before .loop .relations)) ≡ 321
+  long = lent-long (c .before .loop .relations) (c .before .loop .i * 321) 321 (rw (c .before .loop .inv .long) room)
 
-slice-aggregate-copy : tie.Need-slice-aggregate-copy Inv-loop μ-loop
-slice-aggregate-copy c = search needs
+mul-from : tie.Need-mul-from Inv-loop μ-loop
+mul-from c = omega (arith, room c)
 
-copy-requires : tie.Need-copy-requires Inv-loop μ-loop
-copy-requires c κs =
-    let long : length (c .before .before .before .before .before .relation-at .result .numbers) ≡ 321 = search needs in
-    (rw (c .before .before .before .before .before .before .before .loop .inv .long) (room (c .before .before .before .before .before .before)), omega arith)
+add-to : tie.Need-add-to Inv-loop μ-loop
+add-to c = omega (arith, room c)
+
+mul-relation-at : tie.Need-mul-relation-at Inv-loop μ-loop
+mul-relation-at c = omega (arith, room c)
+
+sub-relation-at : tie.Need-sub-relation-at Inv-loop μ-loop
+sub-relation-at c = omega arith
+
+part-relation-at-start : tie.Need-part-relation-at-start Inv-loop μ-loop
+part-relation-at-start c = le-add-right _ 321
+
+part-relation-at-end : tie.Need-part-relation-at-end Inv-loop μ-loop
+part-relation-at-end c = rw (c .before .loop .inv .long) (room c)
+
+relation-at-requires : tie.Need-relation-at-requires Inv-loop μ-loop
+relation-at-requires c κs = ((c .before .before .loop .inv .within, c .before .before .before .before .pre .0 .1), long (c .before))
+
+no-part-requires : tie.Need-no-part-requires Inv-loop μ-loop
+no-part-requires c κs = tt
+
+same-length : tie.Need-same-length Inv-loop μ-loop
+same-length c =
+    let l = c .before .before .before .before .before .before .before .loop in
+    same-len-mid (l .i * 321) (l .i * 321 + 321 - l .i * 321) (l .relations) (c .before .before .before .before .relation-at .last .1 .1 .1 .0) (c .before .before .before .before .relation-at .kept .1 .1 .1 .0) ∙ l .inv .long
+
+returns : tie.Need-returns Inv-loop μ-loop
+returns c =
+    refuses (c .before .if1 .taken)
+    (relations-each _ _ _
+    ∙ stored-refused _ _ _ _ _ _ _ _ _ _ (c .before .before .before .before .before .before .before .loop .inv) (c .before .before .before .before .before .before .loop-test .taken) _ (answer-fault (c .before .if1 .taken) (c .before .before .before .before .relation-at .ensures)))
+    (c .no-part .ensures)
 
 add-i : tie.Need-add-i Inv-loop μ-loop
-add-i c = omega (arith, room (c .before .before .before .before .before .before .before .before))
+add-i c = omega (arith, room (c .before .before .before .before .before))
 
 loop-less : tie.Need-loop-less Inv-loop μ-loop
-loop-less c = omega (arith, c .before .before .before .before .before .before .before .before .loop-test .taken)
+loop-less c = omega (arith, c .before .before .before .before .before .loop-test .taken)
 
 loop-again : tie.Need-loop-again Inv-loop μ-loop
 loop-again c =
-    let long : length (c .before .before .before .before .before .before .before .relation-at .result .numbers) ≡ 321 = search needs in
-    rw (c .before .copy .ensures)
-    (stored-goes-on _ _ _ _ _ _ _ _ _ _ (c .before .before .before .before .before .before .before .before .before .loop .inv) (c .before .before .before .before .before .before .before .before .loop-test .taken) _ _ long (room (c .before .before .before .before .before .before .before .before))
-    (answer-got (c .before .before .before .before .before .if1 .left) (c .before .before .before .before .before .before .before .relation-at .ensures)) (c .before .before .before .before .before .before .before .relation-at .ensures .within))
+    stored-goes-on _ _ _ _ _ _ _ _ _ _ (c .before .before .before .before .before .before .loop .inv) (c .before .before .before .before .before .loop-test .taken) _ _ (c .before .before .before .relation-at .kept .1 .1 .1 .0 ∙ long (c .before .before .before .before .before)) (room (c .before .before .before .before .before))
+    (answer-got (c .if1 .left) (c .before .before .before .relation-at .ensures)) (c .before .before .before .relation-at .ensures .within)
 
 same-length-2 : tie.Need-same-length-2 Inv-loop μ-loop
 same-length-2 c = c .before .loop .inv .long
@@ -86,13 +98,16 @@ relations-at-spec =
     Inv-loop
     μ-loop
     loop-holds
+    mul-from
+    add-to
+    mul-relation-at
+    sub-relation-at
+    part-relation-at-start
+    part-relation-at-end
     relation-at-requires
-    no-section-requires
+    no-part-requires
     same-length
     returns
-    mul-copy
-    slice-aggregate-copy
-    copy-requires
     add-i
     loop-less
     loop-again

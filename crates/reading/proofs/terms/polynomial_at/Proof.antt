@@ -19,14 +19,14 @@ use Rattle.reading.proofs.terms.polynomial_at.Statement.{statement}
 use Rattle.reading.proofs.terms.polynomial_at.Tie as tie
 
 number-between-requires : tie.Need-number-between-requires
-number-between-requires c κs = c .before .pre
+number-between-requires c κs = c .before .pre .0
 
-no-polynomial-requires : tie.Need-no-polynomial-requires
-no-polynomial-requires c κs = tt
+no-part-requires : tie.Need-no-part-requires
+no-part-requires c κs = tt
 
 returns : tie.Need-returns
 unfolding readPolynomial
-returns c = refuses (c .before .if1 .taken) (then-fault _ (answer-fault (c .before .if1 .taken) (c .before .before .before .number-between .ensures .0))) (c .no-polynomial .ensures)
+returns c = refuses (c .before .if1 .taken) (then-fault _ (answer-fault (c .before .if1 .taken) (c .before .before .before .number-between .ensures .0))) (c .no-part .ensures)
 
 -- The number of coefficients, as it was read.
 module _ (c : tie.After-struct-told) where
@@ -47,23 +47,27 @@ cast-coefficients-at : tie.Need-cast-coefficients-at
 cast-coefficients-at c = rw (toZ-ofZ (fits c)) (bounds c .0, fits-natAbs tt (fits c))
 
 coefficients-at-requires : tie.Need-coefficients-at-requires
-coefficients-at-requires c κs = (c .before .before .before .before .number-between .ensures .0 .within, rw (toZ-ofZ (fits c)) (bounds c .2))
+coefficients-at-requires c κs = ((c .before .before .before .before .before .number-between .ensures .0 .within, rw (toZ-ofZ (fits (c .before))) (bounds (c .before) .2)), c .before .before .before .before .before .before .before .pre .1)
+
+same-length : tie.Need-same-length
+same-length c = c .before .coefficients-at .kept .1 .1 .1 .1 .0
 
 returns-2 : tie.Need-returns-2
 unfolding readPolynomial
 returns-2 c =
-    let a = c .before .before .before .before .before .before .before .args in
-    answers-as (c .coefficients-at .ensures)
-    (ap (λ z. padded 16 (pos 0) (readCoefficients (a .separator) (natAbs z) (drop (c .before .before .before .before .before .number-between .result .at) (now (a .bytes))))) (toZ-ofZ (fits (c .before)))
-    ∙ sym (then-got _ (read (c .before))))
+    let a = c .before .before .before .before .before .before .before .before .before .args in
+    answers-as (c .before .coefficients-at .ensures)
+    (ap (λ z. padded 16 (pos 0) (readCoefficients (a .separator) (natAbs z) (drop (c .before .before .before .before .before .before .before .number-between .result .at) (now (a .bytes))))) (toZ-ofZ (fits (c .before .before .before)))
+    ∙ sym (then-got _ (read (c .before .before .before))))
 
 pub polynomial-at-spec : {M : Type 1} → statement M
 polynomial-at-spec =
     tie.close
     (tie.spec
     number-between-requires
-    no-polynomial-requires
+    no-part-requires
     returns
     cast-coefficients-at
     coefficients-at-requires
+    same-length
     returns-2)

@@ -1,0 +1,107 @@
+-- `reading::sheet::fill` meets its contract: the sheet is refused, or a lent store is too short, or both are filled.
+-- Assumes nothing.
+use mathlib.Core.Path.{sym, ap₂, _∙_}
+use native.Mathlib.Omega.{arith}
+use borrow.Author.Needs.{needs}
+use borrow.Author.Tests.{not-true, not-false}
+use denote.Ref.{now}
+use Rattle.rules.specs.Layout.{lengthsRight-iff}
+use Rattle.rules.specs.Stores.{rowNeed}
+use Rattle.rows.specs.Validity.{sizesOf, true-T}
+use Rattle.reading.specs.WholeSheet.{resultOf, SheetRead}
+use Rattle.reading.specs.ReadCalls.{callOf, call-unread, call-refuses, call-short, call-fills}
+use Rattle.reading.proofs.sheet.fill.Statement.{statement}
+use Rattle.reading.proofs.sheet.fill.Tie as tie
+
+rest-at-requires : tie.Need-rest-at-requires
+rest-at-requires c κs =
+    let s = c .before .before in
+    ((s .pre .0 .within, s .pre .0 .right), (s .pre .0 .few, s .pre .1 .1))
+
+-- The sheet, as it was read.
+module _ (d : tie.After-rest-at) where
+  read : SheetRead (now (d .before .before .before .args .bytes)) (resultOf (d .rest-at .result)) (now (d .before .before .before .args .equations)) (d .rest-at .last .1 .1 .0)
+  read = d .rest-at .ensures .0 _ (d .before .before .before .pre .0)
+
+refused-requires : tie.Need-refused-requires
+refused-requires c κs = tt
+
+same-length : tie.Need-same-length
+same-length c = search needs
+
+returns : tie.Need-returns
+unfolding resultOf
+returns c = call-unread _ _ _ _ (c .refused .ensures) ∙ sym (call-refuses _ _ _ _ (read (c .before .before .before .before)) _ _ (c .before .if1 .taken))
+
+lengths-right-requires : tie.Need-lengths-right-requires
+unfolding resultOf sizesOf
+lengths-right-requires c κs = read (c .before .before .before .before .before) .unknowns (c .before .before .if1 .left)
+
+refused-requires-2 : tie.Need-refused-requires-2
+refused-requires-2 c κs = tt
+
+same-length-2 : tie.Need-same-length-2
+same-length-2 c = search needs
+
+same-length-3 : tie.Need-same-length-3
+same-length-3 c = search needs
+
+same-length-4 : tie.Need-same-length-4
+same-length-4 c = search needs
+
+returns-2 : tie.Need-returns-2
+unfolding resultOf sizesOf
+returns-2 c =
+    call-unread _ _ _ _ (c .refused2 .ensures)
+    ∙ sym (call-short _ _ _ _ (read (c .before .before .before .before .before .before .before .before)) _ _ (c .before .before .before .before .before .if1 .left) (sym (c .before .before .lengths-right .ensures) ∙ not-true _ (c .before .if2 .taken)))
+
+fill-rows-requires : tie.Need-fill-rows-requires
+unfolding rowNeed resultOf sizesOf
+fill-rows-requires c κs =
+    let few = read (c .before .before .before .before .before .before .before .before) .unknowns (c .before .before .before .before .before .if1 .left) in
+    let long = lengthsRight-iff _ _ _ .0 (true-T _ (sym (c .before .before .lengths-right .ensures) ∙ not-false _ (c .before .if2 .left))) in
+    (few, long .0, omega (arith, few, c .before .before .before .before .before .before .before .before .before .before .before .pre .1 .0))
+
+fill-relations-requires : tie.Need-fill-relations-requires
+unfolding resultOf sizesOf
+fill-relations-requires c κs =
+    let none = c .before .before .before .before .before .before .before .before .before .if1 .left in
+    let rest = c .before .before .before .before .before .before .before .before .before .before .before .before .rest-at in
+    let long = lengthsRight-iff _ _ _ .0 (true-T _ (sym (c .before .before .before .before .before .before .lengths-right .ensures) ∙ not-false _ (c .before .before .before .before .before .if2 .left))) in
+    (read (c .before .before .before .before .before .before .before .before .before .before .before .before) .few none, long .1, rw (rest .kept .1 .1 .0, rest .ensures .1 none) (c .before .before .before .before .before .before .before .before .before .before .before .before .before .before .before .pre .1 .1))
+
+same-length-5 : tie.Need-same-length-5
+same-length-5 c = search needs
+
+same-length-6 : tie.Need-same-length-6
+same-length-6 c = search needs
+
+same-length-7 : tie.Need-same-length-7
+same-length-7 c = search needs
+
+returns-3 : tie.Need-returns-3
+unfolding callOf resultOf sizesOf
+returns-3 c =
+    ap₂ (λ rows relations. callOf (c .before .before .before .before .before .before .before .before .before .before .before .before .before .before .rest-at .result) rows relations) (c .before .before .before .before .before .fill-rows .ensures) (c .before .fill-relations .ensures)
+    ∙ sym (call-fills _ _ _ _ (read (c .before .before .before .before .before .before .before .before .before .before .before .before .before .before)) _ _ (c .before .before .before .before .before .before .before .before .before .before .before .if1 .left) (sym (c .before .before .before .before .before .before .before .before .lengths-right .ensures) ∙ not-false _ (c .before .before .before .before .before .before .before .if2 .left)))
+
+pub fill-spec : {M : Type 1} → statement M
+fill-spec =
+    tie.close
+    (tie.spec
+    rest-at-requires
+    refused-requires
+    same-length
+    returns
+    lengths-right-requires
+    refused-requires-2
+    same-length-2
+    same-length-3
+    same-length-4
+    returns-2
+    fill-rows-requires
+    fill-relations-requires
+    same-length-5
+    same-length-6
+    same-length-7
+    returns-3)
