@@ -5,6 +5,7 @@
 --   TokenEnd, TokenTo     the token from a place on ends at another place, or goes at least up to it
 --   DigitsStart           where the digits of a token begin
 --   DigitsTo, Stopped     the digits that were read, and that no other follows or they are ten
+--   tokenAnswer           what the cases of `Token` mean
 --
 -- Main statements
 --   token-goes-on, token-stops, token-cut   a token goes on at a byte that is no separator, and ends at one or at the end of the bytes
@@ -28,7 +29,9 @@ use Rattle.algebra.specs.Polynomials.{T-&&}
 use lib.IntN.{ℤ, pos, negℤ}
 use Rattle.rules.specs.Rows.{every}
 use Rattle.rules.specs.Lists.{every-append}
-use Rattle.rules.specs.Numbers.{minus, isSeparator, word, afterWord, isDigit, signed, digits, startsRight, beginsNumber, isNumber, valueFrom, numberOf}
+use Rattle.rules.specs.Numbers.{minus, isSeparator, word, afterWord, isDigit, signed, digits, startsRight, beginsNumber, isNumber, valueFrom, numberOf, Read, got, fault}
+use Rattle.tokens.specs.declared.Token.{Token}
+use Rattle.tokens.specs.declared.Token.the-variants.{Number, NoNumber}
 
 -- ---- tokens
 
@@ -288,3 +291,8 @@ module _ (bytes : List ℕ) (at from end v : ℕ) (start : DigitsStart bytes at 
 -- The judgement that lets every number through.
 unfoldable pub unjudged : ℤ → ℕ
 unjudged v = 0
+
+-- What a token means: "a token that is no number ends the reading", with refusal 3; a number is read, and its separator is next.
+unfoldable pub tokenAnswer : Token → List ℕ → Read ℤ
+tokenAnswer (Number v) rest = got v rest
+tokenAnswer NoNumber rest = fault 3

@@ -5,12 +5,13 @@ ghost use mathlib.Core.Bool.{_&&_, cond};
 ghost use Prim.Native.Nat.{_+_, _^_, _≤_, _<_};
 ghost use lib.ListN.{length, drop};
 ghost use lib.Seq.{slice};
+ghost use lib.Dec.{ltb};
 ghost use lib.IntN.{pos, negℤ};
 ghost use lib.Signed.{leZ};
 ghost use Rattle.rules.specs.Numbers.{isSeparator, isDigit, startsRight, thenRead, field, between, judgeSmall};
 ghost use Rattle.rules.specs.Sheets.{always};
-ghost use Rattle.tokens.specs.Tokens.{DigitsStart, DigitsTo, Stopped};
-ghost use Rattle.tokens.specs.Fields.{NumberAt, Answers, Unread, readOf, closing};
+ghost use Rattle.tokens.specs.Tokens.{DigitsStart, DigitsTo, Stopped, tokenAnswer};
+ghost use Rattle.tokens.specs.Fields.{NumberAt, Answers, Unread, readNumber, readOf, closing};
 
 fn is_separator(b: u8) -> bool
     ensures { λ r. ⌜ r ≡ isSeparator b ⌝ }
@@ -84,6 +85,31 @@ fn signed_value(negative: bool, size: u64) -> i64
     if negative { -value } else { value }
 }
 
+// What a token is, over bytes that go on after its digits.
+pub enum Token {
+    Number(i64),
+    NoNumber,
+}
+
+// The token at `at`, whose digits begin at `from`; `right` says whether they start right.
+fn read_token(bytes: &[u8], at: usize, from: usize, d: Digits, right: bool) -> Token
+    requires { ⌜ DigitsStart (now bytes) at from × DigitsTo (now bytes) from (d .end) (d .value) × Stopped (now bytes) from (d .end) ⌝ }
+    requires { ⌜ (d .end < length (now bytes)) × (right ≡ startsRight (ltb at from) (slice from (d .end) (now bytes))) ⌝ }
+    ensures { λ r. ⌜ tokenAnswer r (drop (d .end) (now (bytes .entry))) ≡ readNumber (drop at (now (bytes .entry))) ⌝ }
+{
+    let end = d.end;
+    if !is_separator(bytes[end]) {
+        return Token::NoNumber;
+    }
+    if from == end {
+        return Token::NoNumber;
+    }
+    if !right {
+        return Token::NoNumber;
+    }
+    Token::Number(signed_value(at < from, d.value))
+}
+
 // A number that was read and the place after it, or a refusal.
 pub struct NumberRead {
     pub refusal: u8,
@@ -117,18 +143,12 @@ pub fn number_at(bytes: &[u8], at: usize) -> NumberRead
         }
         return no_number(3);
     }
-    if !is_separator(bytes[end]) {
+    let Token::Number(value) = read_token(bytes, at, from, d, right) else {
         return no_number(3);
-    }
-    if from == end {
-        return no_number(3);
-    }
-    if !right {
-        return no_number(3);
-    }
+    };
     NumberRead {
         refusal: 0,
-        value: signed_value(at < from, d.value),
+        value,
         at: end,
     }
 }

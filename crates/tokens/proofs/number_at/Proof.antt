@@ -1,21 +1,20 @@
--- `tokens::number_at` meets its contract. The digits are read first; the byte after them says whether the token ends there.
+-- `tokens::number_at` meets its contract. The digits are read first; where the bytes go on after them, the token
+-- is a number or none.
 -- Assumes nothing.
-use mathlib.Core.Path.{_≡_, refl, sym, ap, ap₂, _∙_}
-use mathlib.Core.Bool.{Bool, true, false, _&&_, cond}
-use Prim.Native.Nat.{ℕ, _-_}
+use mathlib.Core.Path.{_≡_, refl, sym, ap, _∙_}
+use mathlib.Core.Bool.{Bool, true, false, cond}
+use Prim.Native.Nat.{ℕ}
 use mathlib.Core.List.{List}
 use native.Mathlib.Omega.{arith}
-use borrow.Author.Tests.{not-true, not-false, lt-leb, le-leb}
+use borrow.Author.Needs.{needs}
 use denote.Ref.{now}
-use lib.Dec.{leb, ltb}
+use lib.Dec.{ltb}
 use lib.ListN.{length, drop}
-use lib.IntN.{pos, negℤ}
 use lib.Seq.{slice}
-use borrow.Author.Needs.{sfits-of}
-use mir.Facts.{toZ-ofZ}
-use Rattle.rules.specs.Numbers.{startsRight, got, fault}
-use Rattle.tokens.specs.Tokens.{digits-size}
-use Rattle.tokens.specs.Fields.{readNumber, readOf, number-followed, number-cut, number-whole, number-refuses}
+use Rattle.rules.specs.Numbers.{startsRight, fault}
+use Rattle.tokens.specs.Tokens.{tokenAnswer}
+use Rattle.tokens.specs.Fields.{readNumber, readOf, number-cut, number-refuses}
+use Rattle.tokens.specs.declared.Token.the-variants.{Number, NoNumber}
 use Rattle.tokens.proofs.number_at.Statement.{statement}
 use Rattle.tokens.proofs.number_at.Tie as tie
 
@@ -60,63 +59,40 @@ no-number-requires-2 c κs = tt
 returns-2 : tie.Need-returns-2
 returns-2 c = number-refuses (λ z. omega arith) (cut (c .before .before .before) false (c .before .before .if1 .taken) (c .before .if2 .left)) (c .no-number2 .ensures)
 
-shared-slice-read-is-separator : tie.Need-shared-slice-read-is-separator
-shared-slice-read-is-separator c = omega arith
+read-token-requires : tie.Need-read-token-requires
+read-token-requires c κs =
+    let a = c .before in
+    ((a .before .before .digits-start .ensures, a .before .digits-from .ensures .0, a .before .digits-from .ensures .1), (omega arith, a .starts-right .ensures))
 
-is-separator-requires : tie.Need-is-separator-requires
-is-separator-requires c κs = tt
+enum-known-value : tie.Need-enum-known-value
+enum-known-value c = search needs
+
+enum-told : tie.Need-enum-told
+enum-told c = search needs
 
 no-number-requires-3 : tie.Need-no-number-requires-3
 no-number-requires-3 c κs = tt
 
 returns-3 : tie.Need-returns-3
+unfolding tokenAnswer
 returns-3 c =
-    let a = c .before .before .before .before .before in
+    let t = c .before .before .before in
+    let a = t .before .before in
+    let told : t .read-token .result ≡ NoNumber = c .before .enum-told .given .1 in
     number-refuses (λ z. omega arith)
-    (number-followed _ _ _ _ _ (a .before .before .digits-start .ensures) (a .before .digits-from .ensures .0) (omega arith)
-    (sym (c .before .before .is-separator .ensures) ∙ not-true _ (c .before .if3 .taken)) (a .before .digits-from .ensures .1))
+    (sym (t .read-token .ensures) ∙ ap (λ k. tokenAnswer k (drop (end a) (bytes a))) told)
     (c .no-number3 .ensures)
 
--- Where the separator stands after the digits.
-module _ (d : tie.Else3) where
-  abbrev a : tie.After-starts-right
-  a = d .before .before .before .before
-
-  whole : (some t : Bool) → leb 1 (end a - from a) ≡ some → a .starts-right .result ≡ t
-      → readNumber (drop (at a) (bytes a)) ≡ cond (some && t) (got (cond (ltb (at a) (from a)) (negℤ (pos (a .before .digits-from .result .value))) (pos (a .before .digits-from .result .value))) (drop (end a) (bytes a))) (fault 3)
-  whole some t h e =
-      number-whole _ _ _ _ _ (a .before .before .digits-start .ensures) (a .before .digits-from .ensures .0) (omega arith)
-      (sym (d .before .is-separator .ensures) ∙ not-false _ (d .if3 .left))
-      ∙ ap₂ (λ some t. cond (some && t) (got (cond (ltb (at a) (from a)) (negℤ (pos (a .before .digits-from .result .value))) (pos (a .before .digits-from .result .value))) (drop (end a) (bytes a))) (fault 3))
-      h (right a t e)
-
-no-number-requires-4 : tie.Need-no-number-requires-4
-no-number-requires-4 c κs = tt
-
 returns-4 : tie.Need-returns-4
+unfolding tokenAnswer readOf
 returns-4 c =
-    let d = c .before .before in
-    number-refuses (λ z. omega arith) (whole d false (a d .starts-right .result) (lt-leb 1 (end (a d) - from (a d)) (omega arith)) refl) (c .no-number4 .ensures)
-
-no-number-requires-5 : tie.Need-no-number-requires-5
-no-number-requires-5 c κs = tt
-
-returns-5 : tie.Need-returns-5
-returns-5 c =
-    let d = c .before .before .before in
-    number-refuses (λ z. omega arith) (whole d true false (le-leb 1 (end (a d) - from (a d)) (omega arith)) (not-true _ (c .before .if5 .taken))) (c .no-number5 .ensures)
-
-signed-value-requires : tie.Need-signed-value-requires
-signed-value-requires c κs = digits-size _ _ _ _ (c .before .before .before .before .before .before .before .digits-from .ensures .0)
-
-returns-6 : tie.Need-returns-6
-unfolding readOf
-returns-6 c =
-    let d = c .before .before .before in
+    let t = c .before .before .before in
+    let a = t .before .before in
+    let known : t .read-token .result ≡ Number (c .before .value .given .0 .0) = c .before .value .given .1 in
     record {
       answer =
-          ap (λ v. got v (drop (end (a d)) (bytes (a d)))) (toZ-ofZ (sfits-of (c .signed-value .ok)) ∙ c .signed-value .ensures)
-          ∙ sym (whole d true true (le-leb 1 (end (a d) - from (a d)) (omega arith)) (not-false _ (c .before .if5 .left)));
+          ap (λ v. readOf (bytes a) 0 v (end a)) (search needs)
+          ∙ sym (sym (t .read-token .ensures) ∙ ap (λ k. tokenAnswer k (drop (end a) (bytes a))) known);
       separator = λ z. omega arith;
       unread = λ h. absurd (h refl);
     }
@@ -132,13 +108,9 @@ number-at-spec =
     returns
     no-number-requires-2
     returns-2
-    shared-slice-read-is-separator
-    is-separator-requires
+    read-token-requires
+    enum-known-value
+    enum-told
     no-number-requires-3
     returns-3
-    no-number-requires-4
-    returns-4
-    no-number-requires-5
-    returns-5
-    signed-value-requires
-    returns-6)
+    returns-4)
