@@ -106,7 +106,7 @@ fn rest_at(bytes: &[u8], h: SheetHead, relations: &mut [i64]) -> SheetResult
 }
 
 // A sheet read into stores of the largest sizes.
-pub fn sheet_at(bytes: &[u8], rows: &mut [i64], relations: &mut [i64]) -> SheetResult
+pub(crate) fn sheet_at(bytes: &[u8], rows: &mut [i64], relations: &mut [i64]) -> SheetResult
     requires { ⌜ (1280 ≤ length (now rows)) × (5136 ≤ length (now relations)) ⌝ }
     ensures { λ r. ⌜ SheetRead (now (bytes .entry)) (resultOf r) (now (rows .exit)) (now (relations .exit)) ⌝ }
 {
