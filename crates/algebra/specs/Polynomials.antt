@@ -16,7 +16,7 @@
 --   eval-take        high coefficients that are zero can be cut off without a change of value
 --   isZeroℤ-iff, isZero-cons, isZero-iff   isZeroℤ tests for the integer 0, isZero that every coefficient is zero;
 --                    isZero-negate, isZero-shiftBy, .. carry the test through the operations
---   T-&&, same-test  a conjunction of tests passes if both do; tests that pass alike are equal
+--   T-&&, both-true, same-test   a conjunction of tests passes if both do; tests that pass alike are equal
 --   length-add, length-mul, ..   how many coefficients each operation's result has
 --   add-comm, add-assoc, scale-add, ..   laws of sums and multiples as equations of lists
 --   mirror-mirror, negate-negate   mirror and negate undo themselves
@@ -26,7 +26,7 @@ use mathlib.Core.Logic.{_≢_, _↔_, ⊎-elim}
 use Prim.Native.Nat.{ℕ, zero, suc, _+_, _≤_, max}
 use native.Mathlib.Nat.{not-suc-le-zero, le-of-suc-le-suc, zero-max, max-zero, suc-max-suc}
 use native.Mathlib.Omega.{arith}
-use mathlib.Core.Bool.{Bool, true, false, _&&_, not, cond, and-assoc}
+use mathlib.Core.Bool.{Bool, true, false, _&&_, not, cond, and-assoc, false≢true}
 use mathlib.Core.List.{List, [], _∷_, _++_, map}
 use lib.Dec.{T, eqb, eqb→eq, T-not, not-T}
 use lib.ListN.{getD, length, take, drop, replicate, length-map, take-append-drop}
@@ -173,6 +173,10 @@ same-test false false f g = refl
 pub T-&& : (s t : Bool) → T (s && t) ↔ (T s × T t)
 T-&& true t = (λ h. (tt, h), λ h. h .1)
 T-&& false t = (λ h. absurd h, λ h. h .0)
+
+pub both-true : (s t : Bool) → (s && t) ≡ true → (s ≡ true) × (t ≡ true)
+both-true true t e = (refl, e)
+both-true false t e = absurd (false≢true e)
 
 pub isZeroℤ-iff : (a : ℤ) → T (isZeroℤ a) ↔ (a ≡ pos 0)
 unfolding isZeroℤ

@@ -24,11 +24,10 @@ use Rattle.rules.specs.Limits.{columnCount}
 use Rattle.rules.specs.Rows.{All}
 use Rattle.rules.specs.Lists.{all-mono}
 use Rattle.rules.specs.Stores.{lengthsRight, rowNeed}
-use Rattle.rules.specs.Layout.{size-bounds, countRight-iff}
+use Rattle.rules.specs.Layout.{size-bounds, countRight-iff, length-padTo}
 use Rattle.rules.specs.Numbers.{Read, got, fault}
 use Rattle.rules.specs.Sheets.{Sheet, readSheet}
 use Rattle.rules.specs.SheetCalls.{ReadResult, ReadCall, differentColumns, readRefusal, unread, filled, afterRead, readCall}
-use Rattle.sheets.specs.Trimmed.{length-padTo}
 use Rattle.sheets.specs.WrittenOrder.{OrderRight, different-cons}
 use Rattle.sheets.specs.ReadBack.{SheetRight, read-right}
 use Rattle.exports.specs.Results.{Exported, kept, resultNeed, onAcceptance, all-padTo}

@@ -29,8 +29,7 @@ use Rattle.rules.specs.Rows.{All}
 use Rattle.rules.specs.Elimination.{Side, State, Outcome, going, done, refused, wholeRun}
 use Rattle.rules.specs.Stores.{Sizes, Valid, span, rowsOf, relationsOf, sizesRight, countRight, lengthsRight, numbersRight, checkStores}
 use Rattle.rules.specs.Lists.{all-map, getD-all}
-use Rattle.rules.specs.Layout.{SizeBounds, size-bounds, checkStores-order, stores-valid, countRight-iff, block-place}
-use Rattle.sheets.specs.Trimmed.{length-padTo}
+use Rattle.rules.specs.Layout.{SizeBounds, size-bounds, checkStores-order, stores-valid, countRight-iff, block-place, length-padTo}
 use Rattle.theory.specs.Demands.{Accepted, Ended, accepted, six, seven, eight, nine, run-ends, shifts-bounded, output-valid, diagonal-nonzero}
 use Rattle.rules.specs.Calls.{reportedOrder}
 use Rattle.rules.specs.Calls.{Result, Call, callRun, overwrite, zeros, refusal, unchanged, cleared, acceptance, afterRun, afterCheck}

@@ -27,8 +27,8 @@ use lib.Signed.{ltZ, ltZ-yes, ≤ℤ-refl, clashℤ, pos-natAbs, _≤ℤ_, _<ℤ
 use Rattle.rules.specs.Limits.{coefficientCount, columnCount, blockCount, rowLength}
 use Rattle.rules.specs.Rows.{Row, Block, All}
 use Rattle.rules.specs.Stores.{Sizes, span, parts, rowOf, sizesRight}
-use Rattle.rules.specs.Lists.{drop-take, getD-map}
-use Rattle.rules.specs.Layout.{parts-length, getD-parts, size-bounds, block-place}
+use Rattle.rules.specs.Lists.{drop-take, getD-map, map-set}
+use Rattle.rules.specs.Layout.{parts-length, getD-parts, size-bounds, block-place, length-padTo}
 use Rattle.rules.specs.Calls.{padTo}
 use Rattle.rules.specs.Numbers.{Read, got, fault, thenRead, field, between, space, newline}
 use Rattle.rules.specs.Sheets.{Term, putTerm, rowOfTerms, blankRow, readTerm, readTerms, readEquation, parting, afterCount, always, judgeBlock, judgeColumn, readCoefficients}
@@ -115,11 +115,6 @@ module _ {A : Type 0} where
       rest = rw (length-drop k l) (omega (arith, suc-mul n k))
 
 -- ---- sixteen numbers put into a row
-
-map-set : {A B : Type 0} (f : A → B) (l : List A) (i : ℕ) (a : A) → map f (set l i a) ≡ set (map f l) i (f a)
-map-set f [] i a = refl
-map-set f (x ∷ l) zero a = refl
-map-set f (x ∷ l) (suc i) a = ap (λ r. f x ∷ r) (map-set f l i a)
 
 -- A part of k numbers replaced in the c-th part of the b-th part, for any widths.
 module _ {A : Type 0} (K k n m : ℕ) (l p : List A) (b c : ℕ) (hb : b < n) (hc : c < m) (width : m * k ≡ K) (enough : n * K ≤ length l)
@@ -259,12 +254,6 @@ pub record TermRight (z : Sizes) (s₀ : ℤ) (c₀ : ℕ) (e : Term) : Type 0 w
 pub got-value : {A : Type 0} {a b : A} {r s : List ℕ} → got a r ≡ got b s → a ≡ b
 got-value e = cc
 
-length-padTo : {A : Type 0} (n : ℕ) (v : A) (l : List A) → length (padTo n v l) ≡ n
-unfolding padTo
-length-padTo zero v l = refl
-length-padTo (suc n) v [] = ap suc (length-padTo n v [])
-length-padTo (suc n) v (x ∷ l) = ap suc (length-padTo n v l)
-
 pub place-right : (z : Sizes) (s₀ : ℤ) (c₀ : ℕ) (bytes : List ℕ) (q : ℤ × ℕ) (rest : List ℕ) (p : Polynomial) → readPlace z s₀ c₀ bytes ≡ got q rest
     → TermRight z s₀ c₀ (termOf (q .0) (q .1) p)
 unfolding readPlace
@@ -381,17 +370,18 @@ termsInto z zero s₀ c₀ r bytes = got r bytes
 termsInto z (suc k) s₀ c₀ r bytes =
     thenRead (readPadded z s₀ c₀ (parting newline k) bytes) λ e rest. termsInto z k (e .block) (e .column) (putTerm (z .l) e r) rest
 
-padTo-padTo : {A : Type 0} (n : ℕ) (v : A) (l : List A) → padTo n v (padTo n v l) ≡ padTo n v l
+padTo-all : {A : Type 0} (n : ℕ) (v : A) (l : List A) → length l ≡ n → padTo n v l ≡ l
 unfolding padTo
-padTo-padTo zero v l = refl
-padTo-padTo (suc n) v [] = ap (λ r. v ∷ r) (padTo-padTo n v [])
-padTo-padTo (suc n) v (x ∷ l) = ap (λ r. x ∷ r) (padTo-padTo n v l)
+padTo-all zero v [] h = refl
+padTo-all (suc n) v [] h = absurd (suc-ne-zero n (sym h))
+padTo-all zero v (x ∷ l) h = absurd (suc-ne-zero (length l) h)
+padTo-all (suc n) v (x ∷ l) h = ap (λ r. x ∷ r) (padTo-all n v l (suc-inj h))
 
 putTerm-padTerm : (l : ℤ) (e : Term) (r : Row) → putTerm l (padTerm e) r ≡ putTerm l e r
 unfolding padTerm putColumn
 putTerm-padTerm l e r =
     putTerm-is l (padTerm e) r
-    ∙ ap (λ p. record { blocks = update [] (r .blocks) (natAbs (l -ℤ e .block)) (λ b. set b (pred (e .column)) p) }) (padTo-padTo coefficientCount (pos 0) (e .polynomial))
+    ∙ ap (λ p. record { blocks = update [] (r .blocks) (natAbs (l -ℤ e .block)) (λ b. set b (pred (e .column)) p) }) (padTo-all coefficientCount (pos 0) _ (length-padTo coefficientCount (pos 0) (e .polynomial)))
     ∙ sym (putTerm-is l e r)
 
 putAll : ℤ → Row → List Term → List ℕ → Read Row
@@ -458,13 +448,6 @@ equation-is z few bytes =
     ∙ then-cong (field (between (pos 0) (pos (z .m * suc (span z)))) afterCount bytes)
     (λ k rest. then-cong (readTerms z (natAbs k) (z .l) 0 rest) (λ es more. ap (λ q. got q more) (rowOfTerms-is (z .l) es))
     ∙ sym (terms-into z few (natAbs k) (z .l) 0 blankRow rest (≤ℤ-refl (z .l)) zero-le))
-
-padTo-all : {A : Type 0} (n : ℕ) (v : A) (l : List A) → length l ≡ n → padTo n v l ≡ l
-unfolding padTo
-padTo-all zero v [] h = refl
-padTo-all (suc n) v [] h = absurd (suc-ne-zero n (sym h))
-padTo-all zero v (x ∷ l) h = absurd (suc-ne-zero (length l) h)
-padTo-all (suc n) v (x ∷ l) h = ap (λ r. x ∷ r) (padTo-all n v l (suc-inj h))
 
 -- What a term that was read asks of its place in the row.
 pub term-place : (z : Sizes) (s₀ : ℤ) (c₀ : ℕ) (e : Term) → T (sizesRight z) → TermRight z s₀ c₀ e

@@ -19,7 +19,7 @@ use mathlib.Core.List.{List, [], _∷_, _++_, append-nil, tail}
 use lib.ListN.{length, take, drop, set, length-set}
 use lib.Seq.{append-snoc, take-suc-set}
 use lib.Dec.{T}
-use Rattle.algebra.specs.Polynomials.{Polynomial}
+use Rattle.algebra.specs.Polynomials.{Polynomial, both-true}
 use lib.IntN.{ℤ, pos, natAbs, _-ℤ_}
 use lib.Signed.{leZ, ltZ, nonNeg, _≤ℤ_}
 use Rattle.rules.specs.Limits.{coefficientCount, columnCount}
@@ -27,7 +27,6 @@ use Rattle.rules.specs.Numbers.{Read, got, fault, thenRead, field, between, jud
 use Rattle.rules.specs.Calls.{padTo}
 use Rattle.rules.specs.Stores.{Sizes}
 use Rattle.rules.specs.Sheets.{Term, judgeLast, judgeBlock, judgeColumn, always, readCoefficients, readTerm}
-use Rattle.tokens.specs.Tokens.{both-true}
 use Rattle.tokens.specs.Fields.{then-got, then-fault, then-cong, then-then, leZ-true, between-size, passed}
 
 -- ---- a list of known length, read into an array

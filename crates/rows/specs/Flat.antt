@@ -12,7 +12,7 @@
 --   polynomials-combine   the polynomials of a combination of two rows
 --   getD-flatten          a number of a list of lists of one width, by its place
 use mathlib.Core.Path.{_≡_, refl, sym, _∙_, ap, ap₂, subst, fun-ext}
-use mathlib.Core.Bool.{Bool, true, false, _&&_, false≢true}
+use mathlib.Core.Bool.{Bool, true, false, _&&_}
 use mathlib.Core.List.{List, [], _∷_, _++_, map, flatten, zipWith, map-append}
 use Prim.Native.Nat.{ℕ, zero, suc, _+_, _*_, _-_, _≤_, _<_}
 use native.Mathlib.Nat.{zero-mul, zero-add, suc-add, add-sub-of-le, suc-ne-zero, suc-inj, le-refl, not-suc-le-zero, le-of-suc-le-suc}
@@ -64,10 +64,6 @@ unfolding rowOf
 polynomials-rowOf l = parts-parts 16 4 5 l
 
 -- ---- tests of all members
-
-pub both-true : (s t : Bool) → (s && t) ≡ true → (s ≡ true) × (t ≡ true)
-both-true true t e = (refl, e)
-both-true false t e = absurd (false≢true e)
 
 -- One member more that passes.
 pub every-longer : {A : Type 0} (t : A → Bool) (l : List A) (i : ℕ) (d : A) → i < length l

@@ -6,6 +6,7 @@
 --   SizeBounds, PlaceBounds       the facts behind right sizes, and behind a right place in the row store
 --
 -- Main statements
+--   length-padTo                  a list with a value up to a length has that length
 --   parts-length, parts-width     `parts k n l` has n members, each of length k where l is long enough
 --   flatten-parts, parts-flatten  the parts joined are the front of l; lists of one width, joined, are parted again
 --   getD-parts                    part i begins at i * k
@@ -38,7 +39,15 @@ use Rattle.rules.specs.Lists.{cond-passed}
 use Rattle.rules.specs.Stores.{Sizes, parts, rowOf, rowsOf, relationOf, relationsOf, relationNumbers, rowStoreOf, relationStoreOf}
 use Rattle.rules.specs.Stores.{rowNeed, relationNeed, sizesRight, countRight, lengthsRight, rowRight, relationRight, numbersRight}
 use Rattle.rules.specs.Stores.{checkStores, Shaped, StoreRow, Valid}
-use Rattle.rules.specs.Calls.{placeRight, polynomialCheck, polynomialPlace, partAt, polynomialPart}
+use Rattle.rules.specs.Calls.{padTo, placeRight, polynomialCheck, polynomialPlace, partAt, polynomialPart}
+
+-- ---- lists of one length
+
+pub length-padTo : {A : Type 0} (n : ℕ) (v : A) (l : List A) → length (padTo n v l) ≡ n
+unfolding padTo
+length-padTo zero v l = refl
+length-padTo (suc n) v [] = ap suc (length-padTo n v [])
+length-padTo (suc n) v (x ∷ l) = ap suc (length-padTo n v l)
 
 -- ---- parts of one width
 

@@ -17,7 +17,7 @@
 --   every-append, every-flatten            the test of ++ and of flatten
 --   cond-passed, cond-failed               what a test chooses
 --   drop-take, getD-default                a part of a part; a member, whatever stands for a missing one
---   map-same, map-back, map-take, map-drop, map-reverse, getD-map   map: of what changes nothing or is undone, and of parts
+--   map-same, map-back, map-take, map-drop, map-set, map-reverse, getD-map   map: of what changes nothing or is undone, and of parts
 --   flatten-append, flatten-flatten, length-flatten, length-getD-flatten   lists joined
 --   length-zipWith                         the length of a list made from two
 --   member-place                           a member stands at a place
@@ -345,6 +345,11 @@ pub map-take : {A B : Type 0} (f : A → B) (n : ℕ) (l : List A) → take n (m
 map-take f zero l = refl
 map-take f (suc n) [] = refl
 map-take f (suc n) (x ∷ l) = ap (λ k. f x ∷ k) (map-take f n l)
+
+pub map-set : {A B : Type 0} (f : A → B) (l : List A) (i : ℕ) (x : A) → map f (set l i x) ≡ set (map f l) i (f x)
+map-set f [] i x = refl
+map-set f (y ∷ l) zero x = refl
+map-set f (y ∷ l) (suc i) x = ap (λ r. f y ∷ r) (map-set f l i x)
 
 pub map-drop : {A B : Type 0} (f : A → B) (n : ℕ) (l : List A) → drop n (map f l) ≡ map f (drop n l)
 map-drop f zero l = refl

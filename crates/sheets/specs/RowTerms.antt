@@ -29,14 +29,14 @@ use Rattle.rules.specs.Limits.{coefficientCount, columnCount, blockCount, small
 use Rattle.rules.specs.Rows.{Block, Row, All, every, zeroBlock}
 use Rattle.rules.specs.Lists.{all-set, all-getD, cond-passed}
 use Rattle.rules.specs.Stores.{Sizes, span, Shaped, StoreRow}
-use Rattle.rules.specs.Layout.{SizeBounds, block-place}
+use Rattle.rules.specs.Layout.{SizeBounds, block-place, length-padTo}
 use Rattle.rules.specs.Calls.{padTo}
 use Rattle.rules.specs.Sheets.{Term, trim, blankRow, rowOfTerms, blockTerms, termsFrom}
 use Rattle.writing.specs.Writer.{trim-none}
 use Rattle.sheets.specs.WrittenNumbers.{cond-not, every-cons}
 use Rattle.sheets.specs.RowBlocks.{all-replicate, StorePolynomial, BlockRight, StoreBlock, RowRight}
 use Rattle.sheets.specs.WrittenTerms.{TermRight, Ordered, judgeBlock-iff, judgeColumn-iff}
-use Rattle.sheets.specs.Trimmed.{zero-or-not, length-padTo, padTo-trim, trim-padTo, padTo-nonzero, small-padTo}
+use Rattle.sheets.specs.Trimmed.{zero-or-not, padTo-trim, trim-padTo, padTo-nonzero, small-padTo}
 
 -- ---- blocks counted down from l
 

@@ -64,12 +64,6 @@ Sound-trim (a ∷ p) h =
     let e = every-cons small a p .0 h in
     trim-cons Sound a p (λ _. tt) (λ n. (trim-judged a p (e .0) n, Sound-trim p (e .1)))
 
-pub length-padTo : {A : Type 0} (n : ℕ) (v : A) (l : List A) → length (padTo n v l) ≡ n
-unfolding padTo
-length-padTo zero v l = refl
-length-padTo (suc n) v [] = ap suc (length-padTo n v [])
-length-padTo (suc n) v (x ∷ l) = ap suc (length-padTo n v l)
-
 pub padTo-trim : (n : ℕ) (p : Polynomial) → length p ≡ n → padTo n (pos 0) (trim p) ≡ p
 unfolding padTo trim
 padTo-trim zero [] h = refl

@@ -24,7 +24,7 @@ use lib.Seq.{take-take, take-append-add, length-paste, length-paste-head}
 use Rattle.algebra.specs.Polynomials.{isZero, isZeroℤ, T-&&}
 use Rattle.rules.specs.Limits.{small}
 use Rattle.rules.specs.Rows.{every}
-use Rattle.rules.specs.Lists.{every-append, suc-width}
+use Rattle.rules.specs.Lists.{every-append, suc-width, map-set}
 use Rattle.rules.specs.Stores.{parts, rowOf, rowsOf, relationOf, relationsOf, relationNeed}
 use Rattle.rules.specs.Layout.{getD-parts}
 use Rattle.rows.specs.Flat.{isZero-every, parts-take}
@@ -67,11 +67,6 @@ module _ {A : Type 0} where
     where
       fits : (k ≤ length d) × (n * k ≤ length (drop k d))
       fits = simp length-drop (omega (arith, suc-width n k))
-
-  map-set : {B : Type 0} (f : A → B) (l : List A) (i : ℕ) (x : A) → map f (set l i x) ≡ set (map f l) i (f x)
-  map-set f [] i x = refl
-  map-set f (y ∷ l) zero x = refl
-  map-set f (y ∷ l) (suc i) x = ap (λ r. f y ∷ r) (map-set f l i x)
 
 pub rowsOf-paste : (m : ℕ) (store row : List ℤ) (i : ℕ) → length row ≡ 320 → m * 320 ≤ length store → i < m
     → rowsOf m (paste store (i * 320) row 320) ≡ set (rowsOf m store) i (rowOf row)

@@ -15,7 +15,7 @@ use native.Mathlib.Nat.{suc-ne-zero}
 use native.Mathlib.Numerals.{add-one}
 use native.Mathlib.Omega.{arith}
 use mathlib.Core.Path.{_≡_, refl, sym, ap, ap₂, _∙_, subst}
-use mathlib.Core.Bool.{Bool, true, false, _&&_, cond}
+use mathlib.Core.Bool.{Bool, true, false, _&&_, cond, and-false}
 use mathlib.Core.List.{List, [], _∷_}
 use lib.ListN.{length, getD, drop}
 use lib.Seq.{slice, drop-cons, drop-length}
@@ -24,8 +24,9 @@ use borrow.Author.Tests.{eq-eqb, ne-eqb, leb-true}
 use lib.IntN.{ℤ, pos, negℤ, negsuc, natAbs}
 use lib.Signed.{leZ, nonNeg, leZ-yes, _≤ℤ_}
 use Rattle.algebra.specs.Order.{≤ℤ-trans, natAbs-≤-iff}
+use Rattle.algebra.specs.Polynomials.{both-true}
 use Rattle.rules.specs.Numbers.{isSeparator, word, afterWord, digits, startsRight, beginsNumber, isNumber, numberOf, Read, got, fault, thenRead, judged, readWord, readSeparator, field, between}
-use Rattle.tokens.specs.Tokens.{DigitsStart, DigitsTo, Stopped, token-cut, token-stops, digits-followed, begins-is, number-is, number-of, both-true, and-false, unjudged}
+use Rattle.tokens.specs.Tokens.{DigitsStart, DigitsTo, Stopped, token-cut, token-stops, digits-followed, begins-is, number-is, number-of, unjudged}
 
 -- ---- what a function answers
 

@@ -18,7 +18,7 @@ use native.Mathlib.Numerals.{add-one}
 use native.Mathlib.Omega.{arith}
 use mathlib.Core.Path.{_≡_, refl, sym, ap, _∙_, subst}
 use mathlib.Core.Logic.{_⊎_, inl, inr}
-use mathlib.Core.Bool.{Bool, true, false, _&&_, _||_, not, cond}
+use mathlib.Core.Bool.{Bool, true, false, _&&_, _||_, not, cond, and-false}
 use mathlib.Core.List.{List, [], _∷_, _++_, append-nil}
 use lib.ListN.{length, length-append, getD, take, drop, drop-of-length-le}
 use lib.Seq.{slice, slice-empty, slice-cons, length-slice, drop-cons, drop-length, drop-append-le, append-snoc, take-suc, length-take-le}
@@ -177,14 +177,6 @@ module _ (bytes : List ℕ) (from end : ℕ) (sign : Bool) where
         nothing-left : Dec (end ≡ from + 1) → eqb (end - (from + 1)) 0 ≡ eqb (from + 1) end
         nothing-left (yes p) = eq-eqb (end - (from + 1)) 0 (omega arith) ∙ sym (eq-eqb (from + 1) end (sym p))
         nothing-left (no p) = ne-eqb (end - (from + 1)) 0 (λ z. p (omega arith)) ∙ sym (ne-eqb (from + 1) end (λ z. p (sym z)))
-
-pub both-true : (a b : Bool) → (a && b) ≡ true → (a ≡ true) × (b ≡ true)
-both-true true b e = (refl, e)
-both-true false b e = absurd (subst T (sym e) tt)
-
-pub and-false : (a : Bool) → (a && false) ≡ false
-and-false true = refl
-and-false false = refl
 
 -- ---- the value of digits
 

@@ -23,13 +23,13 @@ use lib.Dec.{eqb, eqb·suc-zero, lit<, lit≤}
 use lib.IntN.{ℤ, pos}
 use lib.ListN.{length, take, drop, getD, length-map, List·getD-map}
 use lib.Seq.{take-add, length-take-le, getD-take, getD-drop}
-use Rattle.algebra.specs.Polynomials.{Polynomial, isZeroℤ, isZero, isZero-append}
+use Rattle.algebra.specs.Polynomials.{Polynomial, isZeroℤ, isZero, isZero-append, both-true}
 use Rattle.polynomials.specs.Content.{isZero-false}
 use Rattle.rules.specs.Rows.{Block, Row, All, every, zeroBlock, widthOf, leadingBlock, entry, firstNonzero}
 use Rattle.rules.specs.Lists.{getD-default}
 use Rattle.rules.specs.Stores.{parts, rowOf}
 use Rattle.rules.specs.Layout.{parts-length, getD-parts}
-use Rattle.rows.specs.Flat.{both-true, every-longer, isZero-every, every-parts, parts-take, block-at}
+use Rattle.rows.specs.Flat.{every-longer, isZero-every, every-parts, parts-take, block-at}
 
 unfoldable pub foundOr : ℕ → Option ℕ → ℕ
 foundOr n none = n
