@@ -19,7 +19,7 @@ use Rattle.rules.specs.Batch.{Answer, accepted, refusedWith, answerSheet, readA
 use Rattle.batches.specs.declared.TextLine.{TextLine}
 use Rattle.batches.specs.Windows.{batchLine, countOf, clientOf, sheetLine-is}
 use Rattle.batches.specs.Pieces.{readCount, begunBy, begunOf, lineBy, lineOf, textOf, Counted}
-use Rattle.batches.specs.Answers.{AnswerCall, unanswered, answered, answerCall}
+use Rattle.answers.specs.Answers.{AnswerCall, unanswered, answered, answerCall}
 use Rattle.batches.specs.Lines.{in-range}
 
 -- "0 to 32,768"

@@ -27,7 +27,7 @@ use Rattle.rules.specs.Batch.{mostBytes, SheetLine, Tally, count, answerSheet, 
 use Rattle.rules.specs.Batch.{readSheetLine, answers, answersAfter, batchOutput}
 use Rattle.batches.specs.declared.Batch.{Batch}
 use Rattle.batches.specs.Windows.{followed, Window, field-window, sheetLine-window}
-use Rattle.batches.specs.Answers.{AnswerCall, answerCall, answerBy, answerCall-answer, answerCall-none}
+use Rattle.answers.specs.Answers.{AnswerCall, answerCall, answerBy, answerCall-answer, answerCall-none}
 use Rattle.batches.specs.Pieces.{readCount, begunOf, lineOf, tallyOf, numbered, countedOf, textOf, shown, shown-text, refusalLine}
 use Rattle.batches.specs.Pieces.{closeLine, batchWith, noTally, begun-inside, line-inside, begun-got, begun-fault, line-got, line-fault, Counted, counted-left, counted-tally}
 use Rattle.batches.specs.Lines.{in-range}

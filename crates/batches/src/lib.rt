@@ -3,12 +3,13 @@
 // with `rules`. `crates/batches/specs/Traces.antt` says that they, called in order, make the output of a whole batch.
 ghost use mathlib.Core.Path.{_≡_};
 ghost use mathlib.Core.List.{[], _∷_};
-ghost use Prim.Native.Nat.{min, _≤_};
+ghost use Prim.Native.Nat.{_≤_};
 ghost use lib.IntN.{pos};
 ghost use lib.ListN.{length, take};
 ghost use Rattle.rules.specs.Numbers.{lines};
-ghost use Rattle.batches.specs.Answers.{callOf, answerCall};
+ghost use Rattle.answers.specs.Answers.{callOf, answerCall};
 ghost use Rattle.batches.specs.Pieces.{begunOf, lineOf, countedOf, textOf, refusalLine, closeLine};
+pub use answers::AnswerResult;
 
 // The sheets still to come, and the answers so far.
 pub struct Batch {
@@ -30,12 +31,6 @@ pub struct SheetLine {
     pub taken: usize,
     pub client: usize,
     pub bytes: usize,
-}
-
-// The answer to one sheet: the refusal, or 0 and the number of bytes that the output begins with.
-pub struct AnswerResult {
-    pub refusal: u8,
-    pub length: usize,
 }
 
 // A line of text, with zeros past its end.
@@ -118,55 +113,6 @@ pub fn line(bytes: &[u8]) -> SheetLine
 
 // ---- the answer to one sheet
 
-fn no_answer(refusal: u8) -> AnswerResult
-    ensures { λ r. ⌜ r ≡ record { refusal = refusal; length = 0 } ⌝ }
-{
-    AnswerResult { refusal, length: 0 }
-}
-
-// "Output sheets above 65,536 bytes are refusal 1": the writer is lent at most so many bytes.
-fn lent_bytes(length: usize) -> usize
-    ensures { λ r. ⌜ r ≡ min length 65536 ⌝ }
-{
-    if length < 65536 { length } else { 65536 }
-}
-
-// The answer, worked out in stores of the largest sizes, whatever they hold. What was read passes the checks of a run, and what a
-// run that accepts leaves passes those of the writer, so neither checks again. No public entry point: it has a `requires`.
-pub fn answer_in(
-    bytes: &[u8],
-    rows: &mut [i64],
-    relations: &mut [i64],
-    output: &mut [u8],
-) -> AnswerResult
-    requires { ⌜ (1280 ≤ length (now rows)) × (5136 ≤ length (now relations)) ⌝ }
-    ensures { λ r. ⌜ callOf r (now (output .exit)) ≡ answerCall (now (bytes .entry)) (now (output .entry)) ⌝ }
-{
-    let sheet = reading::own::read_own(bytes, rows, relations);
-    if sheet.refusal != 0 {
-        return no_answer(sheet.refusal);
-    }
-    let sizes = sheet.sizes;
-    let run = elimination::calls::leading_run(rows, relations, sizes, sheet.relations);
-    if run.refusal != 0 {
-        return no_answer(run.refusal);
-    }
-    let order = run.order;
-    let lent = lent_bytes(output.len());
-    let written = writing::writer::write_checked(
-        rows,
-        relations,
-        sizes,
-        run.relations,
-        order,
-        &mut output[..lent],
-    );
-    AnswerResult {
-        refusal: written.refusal,
-        length: written.length,
-    }
-}
-
 // One sheet: "`0` and the leading-side sheet, or the refusal number". The output begins with the sheet that answers, without the
 // line `0`; on a refusal it is unchanged.
 pub fn answer(bytes: &[u8], output: &mut [u8]) -> AnswerResult
@@ -174,7 +120,7 @@ pub fn answer(bytes: &[u8], output: &mut [u8]) -> AnswerResult
 {
     let mut rows = [0i64; 1280];
     let mut relations = [0i64; 5136];
-    answer_in(bytes, &mut rows, &mut relations, output)
+    answers::answer_in(bytes, &mut rows, &mut relations, output)
 }
 
 // ---- counting

@@ -4,21 +4,22 @@ ghost use mathlib.Core.Path.{_≡_};
 ghost use Rattle.rules.specs.Elimination.{leading, trailing};
 ghost use Rattle.rules.specs.Calls.{callRun, polynomialCheck, polynomialPart};
 ghost use Rattle.rows.specs.Validity.{sizesOf};
-ghost use Rattle.elimination.specs.CallLaws.{callOf};
+ghost use Rattle.runs.specs.CallLaws.{callOf};
 
 mod access;
-pub mod calls;
+
+pub use runs::RunResult;
 
 pub fn run_leading(
     rows: &mut [i64],
     relations: &mut [i64],
     sizes: rows::validity::Sizes,
     count: usize,
-) -> calls::RunResult
+) -> runs::RunResult
     ensures { λ r. ⌜ callOf r (now (rows .exit)) (now (relations .exit))
         ≡ callRun leading (sizesOf sizes) count (now (rows .entry)) (now (relations .entry)) ⌝ }
 {
-    calls::called(rows, relations, sizes, count, false)
+    runs::called(rows, relations, sizes, count, false)
 }
 
 pub fn run_trailing(
@@ -26,11 +27,11 @@ pub fn run_trailing(
     relations: &mut [i64],
     sizes: rows::validity::Sizes,
     count: usize,
-) -> calls::RunResult
+) -> runs::RunResult
     ensures { λ r. ⌜ callOf r (now (rows .exit)) (now (relations .exit))
         ≡ callRun trailing (sizesOf sizes) count (now (rows .entry)) (now (relations .entry)) ⌝ }
 {
-    calls::called(rows, relations, sizes, count, true)
+    runs::called(rows, relations, sizes, count, true)
 }
 
 // "outside the sizes, or of a store too short, [..] a check on the same values returns 2 or 1"

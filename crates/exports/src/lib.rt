@@ -7,9 +7,9 @@ ghost use Rattle.exports.specs.Runs.{exportRun};
 ghost use Rattle.exports.specs.Writes.{exportWrite};
 ghost use Rattle.exports.specs.Reads.{exportRead};
 
+mod either_side;
 mod numbers;
 mod reads;
-mod runs;
 mod writes;
 
 // A run on the leading side. `result` gets eight numbers: the relation count, the shifts, c(1) to c(4), 1 or 0 for a root, the
@@ -28,7 +28,7 @@ pub extern "C" fn wurgalm_run_leading(
         record { refusal = r; rowStore = now (rows .exit); relationStore = now (relations .exit); resultStore = now (result .exit) }
         ≡ exportRun leading (record { m = m; l = l; t = t }) count (now (rows .entry)) (now (relations .entry)) (now (result .entry)) ⌝ }
 {
-    runs::exported(
+    either_side::exported(
         rows,
         relations,
         rows::validity::Sizes { m, l, t },
@@ -53,7 +53,7 @@ pub extern "C" fn wurgalm_run_trailing(
         record { refusal = r; rowStore = now (rows .exit); relationStore = now (relations .exit); resultStore = now (result .exit) }
         ≡ exportRun trailing (record { m = m; l = l; t = t }) count (now (rows .entry)) (now (relations .entry)) (now (result .entry)) ⌝ }
 {
-    runs::exported(
+    either_side::exported(
         rows,
         relations,
         rows::validity::Sizes { m, l, t },

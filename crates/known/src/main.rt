@@ -2,7 +2,7 @@
 // `trailing BYTES` and a sheet of that many bytes. Each is read, run on that side, and answered by a line `leading REFUSAL
 // relations R shifts S root N` or `trailing REFUSAL shifts S root N`, N a number or `none`, and, where the refusal is 0, by the
 // sheet that the run leaves, with its column order.
-use elimination::calls::RunResult;
+use elimination::RunResult;
 use printing::print;
 use printing::print_signed;
 use printing::print_size;

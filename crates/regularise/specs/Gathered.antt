@@ -11,9 +11,9 @@ use lib.ListN.{length, take, drop, length-drop}
 use lib.Seq.{paste, length-paste-head, take-append-add, take-append-le, take-take, length-take-le, drop-at}
 use borrow.Rule.Slice.PartMut.{midOf, postOf, putMid, take-put, same-len-mid}
 use Rattle.rules.specs.Batch.{mostBytes, answerSheet, answerBytes}
-use Rattle.batches.specs.declared.AnswerResult.{AnswerResult}
+use Rattle.answers.specs.declared.AnswerResult.{AnswerResult}
 use Rattle.batches.specs.declared.TextLine.{TextLine}
-use Rattle.batches.specs.Answers.{callOf, answerBy, answerCall, answerCall-answer, answerCall-none}
+use Rattle.answers.specs.Answers.{callOf, answerBy, answerCall, answerCall-answer, answerCall-none}
 use Rattle.batches.specs.Bounds.{answer-fits}
 use Rattle.batches.specs.Pieces.{textOf, shown, refusalLine}
 use Rattle.batches.specs.Traces.{answer-shown}

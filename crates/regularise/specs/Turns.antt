@@ -13,7 +13,7 @@ use lib.Dec.{leb}
 use lib.ListN.{length, take, drop, take-append-drop}
 use lib.Seq.{take-take, length-take-le}
 use Rattle.rules.specs.Batch.{mostBytes, answerSheet, answerBytes}
-use Rattle.batches.specs.Answers.{answerCall}
+use Rattle.answers.specs.Answers.{answerCall}
 use Rattle.batches.specs.Pieces.{lineOf, textOf, shown, closeLine, countedOf}
 use Rattle.batches.specs.Traces.{Sheets, line-broken, bytes-missing, answered, answerShown, answer-shown}
 use Rattle.streams.specs.declared.input.Window.{Window}

@@ -57,7 +57,7 @@ fn put_answer(
     let zero = batches::refusal_line(0);
     let from = at + zero.length;
     let to = from + SHEET;
-    let answer = batches::answer_in(sheet, rows, relations, &mut output[from..to]);
+    let answer = answers::answer_in(sheet, rows, relations, &mut output[from..to]);
     let line = batches::refusal_line(answer.refusal);
     let next = put_line(output, at, line);
     Put {

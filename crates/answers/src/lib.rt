@@ -1,0 +1,61 @@
+// The answer to one sheet: read, run on the leading side and written, in stores that the caller lends. `batches` has the public entry
+// point.
+ghost use mathlib.Core.Path.{_≡_};
+ghost use Prim.Native.Nat.{min, _≤_};
+ghost use lib.ListN.{length};
+ghost use Rattle.answers.specs.Answers.{callOf, answerCall};
+
+// The answer to one sheet: the refusal, or 0 and the number of bytes that the output begins with.
+pub struct AnswerResult {
+    pub refusal: u8,
+    pub length: usize,
+}
+
+fn no_answer(refusal: u8) -> AnswerResult
+    ensures { λ r. ⌜ r ≡ record { refusal = refusal; length = 0 } ⌝ }
+{
+    AnswerResult { refusal, length: 0 }
+}
+
+// "Output sheets above 65,536 bytes are refusal 1": the writer is lent at most so many bytes.
+fn lent_bytes(length: usize) -> usize
+    ensures { λ r. ⌜ r ≡ min length 65536 ⌝ }
+{
+    if length < 65536 { length } else { 65536 }
+}
+
+// The answer, worked out in stores of the largest sizes, whatever they hold. What was read passes the checks of a run, and what a
+// run that accepts leaves passes those of the writer, so neither checks again.
+pub fn answer_in(
+    bytes: &[u8],
+    rows: &mut [i64],
+    relations: &mut [i64],
+    output: &mut [u8],
+) -> AnswerResult
+    requires { ⌜ (1280 ≤ length (now rows)) × (5136 ≤ length (now relations)) ⌝ }
+    ensures { λ r. ⌜ callOf r (now (output .exit)) ≡ answerCall (now (bytes .entry)) (now (output .entry)) ⌝ }
+{
+    let sheet = reading::own::read_own(bytes, rows, relations);
+    if sheet.refusal != 0 {
+        return no_answer(sheet.refusal);
+    }
+    let sizes = sheet.sizes;
+    let run = runs::leading_run(rows, relations, sizes, sheet.relations);
+    if run.refusal != 0 {
+        return no_answer(run.refusal);
+    }
+    let order = run.order;
+    let lent = lent_bytes(output.len());
+    let written = writing::writer::write_checked(
+        rows,
+        relations,
+        sizes,
+        run.relations,
+        order,
+        &mut output[..lent],
+    );
+    AnswerResult {
+        refusal: written.refusal,
+        length: written.length,
+    }
+}

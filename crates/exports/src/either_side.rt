@@ -1,0 +1,74 @@
+// The result of a run as numbers of a lent store.
+ghost use mathlib.Core.Path.{_≡_};
+ghost use Prim.Native.Nat.{_≤_};
+ghost use lib.ListN.{length};
+ghost use Rattle.rules.specs.Calls.{callRun};
+ghost use Rattle.rows.specs.Validity.{sizesOf};
+ghost use Rattle.sides.specs.Lent.{sideOf};
+ghost use Rattle.runs.specs.CallLaws.{resultOf, callOf};
+ghost use Rattle.exports.specs.Runs.{runNumbers, SmallResult, keptOr, exportRun};
+
+fn run_numbers(answer: elimination::RunResult) -> [i64; 8]
+    requires { ⌜ SmallResult (resultOf answer) ⌝ }
+    ensures { λ r. ⌜ r ≡ runNumbers (resultOf answer) ⌝ }
+{
+    let order = answer.order;
+    [
+        answer.relations as i64,
+        answer.shifts as i64,
+        order[0] as i64,
+        order[1] as i64,
+        order[2] as i64,
+        order[3] as i64,
+        answer.has_root as i64,
+        answer.root,
+    ]
+}
+
+// The result store after a run: unchanged where the refusal was found before the work began.
+fn put_run(result: &mut [i64], answer: elimination::RunResult)
+    requires { ⌜ (8 ≤ length (now result)) × SmallResult (resultOf answer) ⌝ }
+    ensures { λ _. ⌜ now (result .exit) ≡ keptOr (answer .refusal) (runNumbers (resultOf answer)) (now (result .entry)) ⌝ }
+{
+    if rows::validity::counted(answer.refusal as usize, 5) {
+        return;
+    }
+    crate::numbers::put(result, run_numbers(answer));
+}
+
+fn run(
+    rows: &mut [i64],
+    relations: &mut [i64],
+    sizes: rows::validity::Sizes,
+    count: usize,
+    trailing: bool,
+) -> elimination::RunResult
+    ensures { λ r. ⌜ callOf r (now (rows .exit)) (now (relations .exit))
+        ≡ callRun (sideOf trailing) (sizesOf sizes) count (now (rows .entry)) (now (relations .entry)) ⌝ }
+{
+    if trailing {
+        return elimination::run_trailing(rows, relations, sizes, count);
+    }
+    elimination::run_leading(rows, relations, sizes, count)
+}
+
+// The exported run of a side. A result store that is too short is refused with the other lengths, so as stores that hold nothing.
+pub(crate) fn exported(
+    rows: &mut [i64],
+    relations: &mut [i64],
+    sizes: rows::validity::Sizes,
+    count: usize,
+    result: &mut [i64],
+    trailing: bool,
+) -> u8
+    ensures { λ r. ⌜
+        record { refusal = r; rowStore = now (rows .exit); relationStore = now (relations .exit); resultStore = now (result .exit) }
+        ≡ exportRun (sideOf trailing) (sizesOf sizes) count (now (rows .entry)) (now (relations .entry)) (now (result .entry)) ⌝ }
+{
+    if result.len() < 8 {
+        return rows::validity::check_stores(&rows[..0], &relations[..0], sizes, count);
+    }
+    let answer = run(rows, relations, sizes, count, trailing);
+    put_run(result, answer);
+    answer.refusal
+}

@@ -1,0 +1,197 @@
+// A run on stores: their checks, the run on the side asked for, and what it leaves in them and gives back. `elimination` has the public
+// entry points.
+ghost use mathlib.Core.Path.{_≡_};
+ghost use mathlib.Core.List.{List};
+ghost use Prim.Native.Nat.{_≤_};
+ghost use lib.Dec.{T};
+ghost use lib.IntN.{ℤ};
+ghost use lib.ListN.{take};
+ghost use Rattle.rules.specs.Elimination as Elimination;
+ghost use Rattle.rules.specs.Stores.{rowsOf, relationsOf, rowNeed, sizesRight, checkStores};
+ghost use Rattle.rules.specs.Calls as Calls;
+ghost use Rattle.working.specs.Found.{Columns};
+ghost use Rattle.rows.specs.Validity.{sizesOf};
+ghost use Rattle.sides.specs.Lent.{sideOf, Within, Listing};
+ghost use Rattle.reduction.specs.Progress.{stateOf, outcomeOf, Reached};
+ghost use Rattle.runs.specs.CallLaws.{resultOf, callOf, Final};
+
+// The number of the refusal or 0, and for a run that accepts: how many relations the store holds, how many shifts were made,
+// the columns of the settled rows, counted from 1, with zeros past the last, and whether there is a root, and which; 0 with "no".
+pub struct RunResult {
+    pub refusal: u8,
+    pub relations: usize,
+    pub shifts: usize,
+    pub order: [usize; 4],
+    pub has_root: bool,
+    pub root: i64,
+}
+
+// "Every refusal returns its number, all other fields 0."
+fn refused(refusal: u8) -> RunResult
+    ensures { λ r. ⌜ resultOf r ≡ Calls.refusal refusal ⌝ }
+{
+    RunResult {
+        refusal,
+        relations: 0,
+        shifts: 0,
+        order: [0; 4],
+        has_root: false,
+        root: 0,
+    }
+}
+
+// Columns counted from 1, zeros past the last.
+fn counted(order: [usize; 4], m: usize) -> [usize; 4]
+    requires { ⌜ (m ≤ 4) × Columns order ⌝ }
+    ensures { λ r. ⌜ r ≡ Calls.reportedOrder (take m order) ⌝ }
+{
+    let mut result = [0usize; 4];
+    let mut j = 0;
+    while j < m {
+        result[j] = order[j] + 1;
+        j += 1;
+    }
+    result
+}
+
+// The result of a run that accepts.
+fn accepted(
+    rows: &[i64],
+    m: usize,
+    span: usize,
+    trailing: bool,
+    p: reduction::step::Progress,
+) -> RunResult
+    requires { ⌜ (m ≤ 4) × (span ≤ 4) × Within (rowNeed m) (now rows) × (p .settled ≡ m) × Columns (p .order) ⌝ }
+    ensures { λ r. ⌜ ((relations : List ℤ)
+        → resultOf r ≡ Calls.acceptance (sideOf trailing) span (stateOf m (now (rows .entry)) relations p)) ⌝ }
+{
+    let order = p.order;
+    let answer = sides::report::report(rows, m, order, trailing, span);
+    RunResult {
+        refusal: 0,
+        relations: p.count,
+        shifts: p.shifts,
+        order: counted(order, m),
+        has_root: answer.found,
+        root: answer.root,
+    }
+}
+
+// "Trailing side: replace n by -n, block s by -s, n0 by -n0; run the above; mirror back."
+fn trailing_run(
+    rows: &mut [i64],
+    relations: &mut [i64],
+    m: usize,
+    span: usize,
+    count: usize,
+) -> reduction::step::Outcome
+    requires { ⌜ (m ≤ 4) × (span ≤ 4) × Within (rowNeed m) (now rows) × Listing count (now relations) ⌝ }
+    ensures { λ r. ⌜ Reached m (now (rows .entry)) (now (relations .entry)) (now (rows .exit)) (now (relations .exit)) 121 r
+        (Elimination.trailingRun span (rowsOf m (now (rows .entry))) (relationsOf count (now (relations .entry)))) ⌝ }
+{
+    sides::mirror::mirror_rows(rows, m, span);
+    sides::mirror::mirror_relations(relations, count, span);
+    let o = reduction::run::run(rows, relations, m, true, count);
+    let refusal = o.refusal;
+    if refusal != 0 {
+        return o;
+    }
+    let p = o.progress;
+    sides::mirror::mirror_rows(rows, m, span);
+    sides::mirror::mirror_relations(relations, p.count, span);
+    o
+}
+
+fn whole_run(
+    rows: &mut [i64],
+    relations: &mut [i64],
+    m: usize,
+    span: usize,
+    trailing: bool,
+    count: usize,
+) -> reduction::step::Outcome
+    requires { ⌜ (m ≤ 4) × (span ≤ 4) × Within (rowNeed m) (now rows) × Listing count (now relations) ⌝ }
+    ensures { λ r. ⌜ Reached m (now (rows .entry)) (now (relations .entry)) (now (rows .exit)) (now (relations .exit)) 121 r
+        (Elimination.wholeRun (sideOf trailing) span (rowsOf m (now (rows .entry))) (relationsOf count (now (relations .entry)))) ⌝ }
+{
+    if trailing {
+        trailing_run(rows, relations, m, span, count)
+    } else {
+        reduction::run::run(rows, relations, m, false, count)
+    }
+}
+
+// "6 to 9 leave the needed part zero, the rest unchanged"; a run that accepts has left its output in the stores.
+fn ended(
+    rows: &mut [i64],
+    relations: &mut [i64],
+    sizes: rows::validity::Sizes,
+    trailing: bool,
+    o: reduction::step::Outcome,
+) -> RunResult
+    requires { ⌜ T (sizesRight (sizesOf sizes)) × Final (sizes .m) (now rows) (now relations) o ⌝ }
+    ensures { λ r. ⌜ callOf r (now (rows .exit)) (now (relations .exit)) ≡ Calls.afterRun (sideOf trailing) (sizesOf sizes)
+        (outcomeOf (o .refusal) (o .done) (stateOf (sizes .m) (now (rows .entry)) (now (relations .entry)) (o .progress)))
+        (now (rows .entry)) (now (relations .entry)) ⌝ }
+{
+    let m = sizes.m;
+    let refusal = o.refusal;
+    if refusal != 0 {
+        rows::stores::clear(rows, 0, m * 320);
+        rows::stores::clear(relations, 0, 5136);
+        return refused(refusal);
+    }
+    let p = o.progress;
+    accepted(rows, m, rows::validity::span(sizes), trailing, p)
+}
+
+// A run on stores that pass the checks, and what it leaves.
+fn checked_run(
+    rows: &mut [i64],
+    relations: &mut [i64],
+    sizes: rows::validity::Sizes,
+    count: usize,
+    trailing: bool,
+) -> RunResult
+    requires { ⌜ checkStores (sizesOf sizes) count (now rows) (now relations) ≡ 0 ⌝ }
+    ensures { λ r. ⌜ callOf r (now (rows .exit)) (now (relations .exit))
+        ≡ Calls.callRun (sideOf trailing) (sizesOf sizes) count (now (rows .entry)) (now (relations .entry)) ⌝ }
+{
+    let m = sizes.m;
+    let span = rows::validity::span(sizes);
+    let o = whole_run(rows, relations, m, span, trailing, count);
+    ended(rows, relations, sizes, trailing, o)
+}
+
+// The same on the leading side.
+pub fn leading_run(
+    rows: &mut [i64],
+    relations: &mut [i64],
+    sizes: rows::validity::Sizes,
+    count: usize,
+) -> RunResult
+    requires { ⌜ checkStores (sizesOf sizes) count (now rows) (now relations) ≡ 0 ⌝ }
+    ensures { λ r. ⌜ callOf r (now (rows .exit)) (now (relations .exit))
+        ≡ Calls.callRun Elimination.leading (sizesOf sizes) count (now (rows .entry)) (now (relations .entry)) ⌝ }
+{
+    checked_run(rows, relations, sizes, count, false)
+}
+
+// A run on lent stores: the checks, and the run.
+pub fn called(
+    rows: &mut [i64],
+    relations: &mut [i64],
+    sizes: rows::validity::Sizes,
+    count: usize,
+    trailing: bool,
+) -> RunResult
+    ensures { λ r. ⌜ callOf r (now (rows .exit)) (now (relations .exit))
+        ≡ Calls.callRun (sideOf trailing) (sizesOf sizes) count (now (rows .entry)) (now (relations .entry)) ⌝ }
+{
+    let refusal = rows::validity::check_stores(rows, relations, sizes, count);
+    if refusal != 0 {
+        return refused(refusal);
+    }
+    checked_run(rows, relations, sizes, count, trailing)
+}
