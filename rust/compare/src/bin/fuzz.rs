@@ -142,6 +142,15 @@ fn stores_of(sheet: &[u8]) -> (Stores, Asked, Vec<i64>) {
     (stores, Asked { m: m as usize, l, t, count: count as usize }, order)
 }
 
+/// A sheet whose leading run is answered by this number.
+fn answered(random: &mut Random, number: u8) -> Vec<u8> {
+    let is_answered = |sheet: &Vec<u8>| {
+        let (stores, asked, _) = stores_of(sheet);
+        answer(&Outside(None), &Call::Run(Side::Leading, asked), &stores).number == number
+    };
+    std::iter::repeat_with(|| whole_sheet(random)).find(is_answered).expect("sheets without end")
+}
+
 fn main() {
     let mut fuzz =
         Fuzz { right: Outside(None), library: Library::needed(), calls: 0, differences: 0, answers: [0; 10] };
@@ -165,6 +174,11 @@ fn main() {
             order.resize(length, 0);
             fuzz.call("write, order", &Call::Write(asked, order, vec![b'#'; sheet.len()]), &stores);
         }
+    }
+    for number in 6..=9 {
+        let (stores, asked, _) = stores_of(&answered(&mut random, number));
+        fuzz.every_length(&format!("leading, {number}"), &Call::Run(Side::Leading, asked), &stores, 17);
+        fuzz.every_length(&format!("trailing of a leading {number}"), &Call::Run(Side::Trailing, asked), &stores, 17);
     }
     let sheet = b"3 2 1 0\n2\n2 1 1 2 0 1 0 2 1 -1\n2 1 1 1 1 0 1 1 -1\n1\n0 0\n0\n";
     let (stores, asked, order) = stores_of(sheet);
