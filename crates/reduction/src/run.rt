@@ -75,7 +75,8 @@ pub fn run(
         return o;
     }
     let p = o.progress;
+    let listed = p.count;
     rows::stores::clear(rows, 0, m * 320);
-    rows::stores::clear(relations, 0, p.count * 321);
+    rows::stores::clear(relations, 0, listed * 321);
     crate::step::answer(refusal, start(0))
 }

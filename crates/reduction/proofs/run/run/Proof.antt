@@ -53,7 +53,7 @@ returns-2 : tie.Need-returns-2
 unfolding rowNeed
 returns-2 c =
     let listed = c .before .before .before in
-    let first = listed .before .before .before .before in
+    let first = listed .before .before .before in
     let ended = first .before .before .before .before .before .before in
     let answer = c .answer .ensures ∙ ap (answerOf (ended .steps .result .refusal)) (c .before .start .ensures) in
     let refused = first .before .before .before .if1 .left in
