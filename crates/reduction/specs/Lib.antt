@@ -5,3 +5,4 @@ pub mod Exchange
 pub mod StepLaws
 pub mod StepCases
 pub mod RunLaws
+pub mod Ran

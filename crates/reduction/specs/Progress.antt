@@ -7,20 +7,23 @@
 --   startProgress, settledProgress, listedProgress, shiftedProgress   the progress at the start, and after each rule
 --   Ready m rows relations p     what a step asks of the stores and of the progress
 --   Reached m .. most o x        what steps give: their outcome is x, the rest of the stores is kept, at most `most` shifts are made,
---                                and the next step may be made
+--                                and the stores are ready for a step
 --
 -- Main statements
+--   padTo-more                   a member more before the padding
 --   ready-with                   a step may be made with other stores and counts
-use Prim.Native.Nat.{ℕ, zero, suc, _+_, _≤_}
-use mathlib.Core.Path.{_≡_}
+use Prim.Native.Nat.{ℕ, zero, suc, _+_, _≤_, _<_}
+use native.Mathlib.Nat.{not-suc-le-zero, le-of-suc-le-suc}
+use mathlib.Core.Path.{_≡_, refl, ap}
 use mathlib.Core.Bool.{Bool, true, false}
-use mathlib.Core.List.{List, [], _∷_}
+use mathlib.Core.List.{List, [], _∷_, _++_}
 use lib.IntN.{ℤ}
 use lib.ListN.{length, take, set}
 use Rattle.rules.specs.Limits.{columnCount}
 use Rattle.rules.specs.Rows.{Row, Relation}
 use Rattle.rules.specs.Elimination.{State, Outcome, going, done, refused}
 use Rattle.rules.specs.Stores.{rowsOf, relationsOf, rowNeed, relationNeed}
+use Rattle.rules.specs.Calls.{padTo}
 use Rattle.working.specs.Found.{Columns}
 use Rattle.sides.specs.Lent.{Within, Listing, Kept}
 use Rattle.reduction.specs.declared.step.Progress.{Progress}
@@ -64,6 +67,7 @@ shiftedProgress p = record { settled = p .settled; order = p .order; count = p .
 
 -- ---- what a step asks and gives
 
+-- The columns past those of the settled rows are 0.
 pub record Ready (m : ℕ) (rows relations : List ℤ) (p : Progress) : Type 0 where
   pub unknowns : m ≤ columnCount
   pub rows-within : Within (rowNeed m) rows
@@ -71,17 +75,33 @@ pub record Ready (m : ℕ) (rows relations : List ℤ) (p : Progress) : Type 0 w
   pub settled : p .settled ≤ m
   pub four : length (p .order) ≡ columnCount
   pub columns : Columns (p .order)
+  pub padded : p .order ≡ padTo columnCount 0 (take (p .settled) (p .order))
+
+pub padTo-more : {A : Type 0} (n : ℕ) (v : A) (l : List A) (x : A) → length l < n
+    → set (padTo n v l) (length l) x ≡ padTo n v (l ++ x ∷ [])
+unfolding padTo
+padTo-more zero v l x h = absurd (not-suc-le-zero h)
+padTo-more (suc n) v [] x h = refl
+padTo-more (suc n) v (y ∷ l) x h = ap (λ r. y ∷ r) (padTo-more n v l x (le-of-suc-le-suc h))
 
 -- A step may be made with other stores and counts.
 pub ready-with : {m count shifts : ℕ} {rows relations rows' relations' : List ℤ} {p : Progress} → Ready m rows relations p
     → Within (rowNeed m) rows' → Listing count relations'
     → Ready m rows' relations' (record { settled = p .settled; order = p .order; count = count; shifts = shifts })
 ready-with r w l =
-    record { unknowns = r .unknowns; rows-within = w; listing = l; settled = r .settled; four = r .four; columns = r .columns }
+    record {
+      unknowns = r .unknowns;
+      rows-within = w;
+      listing = l;
+      settled = r .settled;
+      four = r .four;
+      columns = r .columns;
+      padded = r .padded;
+    }
 
 pub record Reached (m : ℕ) (rows relations rows' relations' : List ℤ) (most : ℕ) (o : Answer.Outcome) (x : Outcome) : Type 0 where
   pub outcome : outcomeAt m rows' relations' o ≡ x
   pub rows-kept : Kept (rowNeed m) rows rows'
   pub relations-kept : Kept relationNeed relations relations'
   pub few-shifts : o .progress .shifts ≤ most
-  pub next-ready : o .refusal ≡ 0 → Ready m rows' relations' (o .progress)
+  pub ready : Ready m rows' relations' (o .progress)

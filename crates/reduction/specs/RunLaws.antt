@@ -5,6 +5,7 @@
 --
 -- Main statements
 --   enough-rows            the number of steps that are enough for m rows in a store
+--   start-ready            stores that a run asks for are ready for its first step
 --   run-starts, run-goes, run-ends, run-refused, run-done   the turns of the loop
 use Prim.Native.Nat.{ℕ, zero, suc, _+_, _*_, _-_, _≤_, _<_, zero-le}
 use native.Mathlib.Nat.{mul-le-mul, not-suc-le-zero}
@@ -20,6 +21,7 @@ use Rattle.rules.specs.Rows.{All}
 use Rattle.rules.specs.Stores.{rowsOf, relationsOf, relationNeed, rowNeed}
 use Rattle.rules.specs.Elimination.{Side, State, Outcome, going, done, refused, step, andThen, run, enough, start}
 use Rattle.rules.specs.Layout.{length-rowsOf}
+use Rattle.rules.specs.Calls.{padTo}
 use Rattle.rows.specs.Flat.{length-blocks}
 use Rattle.working.specs.Found.{Columns}
 use Rattle.reduction.specs.declared.step.Outcome as Answer
@@ -50,9 +52,9 @@ enough-few m h = omega (arith, mul-le-mul (count m h) (width m h))
 -- ---- the loop
 
 -- What a run asks is what its first step asks.
-start-ready : (m count : ℕ) (rows relations : List ℤ) → m ≤ 4 → Within (rowNeed m) rows → Listing count relations
+pub start-ready : (m count : ℕ) (rows relations : List ℤ) → m ≤ 4 → Within (rowNeed m) rows → Listing count relations
     → Ready m rows relations (startProgress count)
-unfolding Columns All
+unfolding Columns All padTo
 start-ready m count rows relations h w l =
     record {
       unknowns = h;
@@ -61,6 +63,7 @@ start-ready m count rows relations h w l =
       settled = zero-le;
       four = refl;
       columns = (lit< tt, (lit< tt, (lit< tt, (lit< tt, tt))));
+      padded = refl;
     }
 
 -- Nothing comes after a refusal, after the end, or after the last step.
@@ -110,7 +113,7 @@ run-starts side m count left rows relations h w l e =
             rows-kept = kept-same (rowNeed m) rows;
             relations-kept = kept-same relationNeed relations;
             few-shifts = zero-le;
-            next-ready = λ _. start-ready m count rows relations h w l;
+            ready = start-ready m count rows relations h w l;
           };
       whole = ap (λ n. run side n (start (rowsOf m rows) (relationsOf count relations))) (e ∙ sym (enough-rows m rows));
     }
@@ -126,7 +129,7 @@ module _ {side : Side} {m : ℕ} {rows relations rows' relations' : List ℤ} {o
         rows-kept = r .reached .rows-kept;
         relations-kept = r .reached .relations-kept;
         few-shifts = omega (arith, r .reached .few-shifts);
-        next-ready = r .reached .next-ready;
+        ready = r .reached .ready;
       }
 
   pub run-refused : (o .refusal ≡ 0 → ⊥) → Reached m rows relations rows' relations' 121 o x
@@ -152,7 +155,7 @@ module _ {side : Side} {m : ℕ} {rows relations rows' relations' : List ℤ} {o
               rows-kept = kept-then (r .reached .rows-kept) (h .rows-kept);
               relations-kept = kept-then (r .reached .relations-kept) (h .relations-kept);
               few-shifts = omega (arith, r .few, r .reached .few-shifts, h .few-shifts);
-              next-ready = h .next-ready;
+              ready = h .ready;
             };
         whole =
             ap (λ y. andThen y (run side (left - 1))) (h .outcome) ∙ sym (step-then side left (stateOf m rows' relations' (o .progress)) b)

@@ -10,7 +10,7 @@ use Prim.Native.Nat.{ℕ, zero, suc, _+_, _≤_, _<_, suc-le-suc}
 use native.Mathlib.Nat.{zero-lt-suc, le-of-eq}
 use native.Mathlib.Numerals.{add-one}
 use native.Mathlib.Omega.{arith}
-use mathlib.Core.Path.{_≡_, refl, sym, _∙_, ap, subst}
+use mathlib.Core.Path.{_≡_, refl, sym, _∙_, ap, ap₂, subst}
 use mathlib.Core.Logic.{_⊎_, inl, inr, ⊎-elim}
 use mathlib.Core.Bool.{Bool, true, false, not, _&&_, and-false, cond}
 use mathlib.Core.List.{List, [], _∷_, _++_, map}
@@ -26,10 +26,11 @@ use Rattle.rules.specs.Stores.{rowOf, rowsOf, relationsOf, relationNeed, rowNee
 use Rattle.rules.specs.Elimination.{Side, State, going, done, refused, settle, multipliersAt}
 use Rattle.rules.specs.Elimination.{combineStep, eliminateStep, shiftStep, settleOrShift, meet, workOn, step}
 use Rattle.rules.specs.Layout.{length-rowsOf, parts-length}
+use Rattle.rules.specs.Calls.{padTo}
 use Rattle.rows.specs.Flat.{block-at}
 use Rattle.working.specs.Found.{foundOr, Columns, entriesAt, length-entriesAt, getD-entriesAt}
 use Rattle.reduction.specs.declared.step.Progress.{Progress}
-use Rattle.reduction.specs.Progress.{Ready, Reached, state, stateOf, outcomeOf, answerOf, settledProgress, ready-with}
+use Rattle.reduction.specs.Progress.{Ready, Reached, state, stateOf, outcomeOf, answerOf, settledProgress, padTo-more, ready-with}
 use Rattle.sides.specs.StoreStates.{kept-same}
 use Rattle.reduction.specs.StepLaws.{metEntries}
 use Rattle.reduction.specs.Exchange.{numbersAt, narrowed, row-of, narrowed-within, narrowed-state, narrowed-one}
@@ -112,7 +113,7 @@ module _ (side : Side) {m : ℕ} {rows relations : List ℤ} {p : Progress} (rea
         rows-kept = kept-same (rowNeed m) rows;
         relations-kept = kept-same relationNeed relations;
         few-shifts = omega arith;
-        next-ready = λ _. ready;
+        ready = ready;
       }
 
   module _ (inside : w < m) where
@@ -189,16 +190,24 @@ module _ (side : Side) {m : ℕ} {rows relations : List ℤ} {p : Progress} (rea
               rows-kept = kept-same (rowNeed m) rows;
               relations-kept = kept-same relationNeed relations;
               few-shifts = omega arith;
-              next-ready =
-                  λ _. record {
+              ready =
+                  record {
                     unknowns = ready .unknowns;
                     rows-within = ready .rows-within;
                     listing = ready .listing;
                     settled = omega arith;
                     four = length-set (p .order) w c ∙ ready .four;
                     columns = columns-set (p .order) w c (ready .columns) h;
+                    padded = padded ∙ ap (padTo 4 0) (sym order);
                   };
             }
           where
             order : take (w + 1) (set (p .order) w c) ≡ take w (p .order) ++ (c ∷ [])
             order = rw add-one (take-suc-set (p .order) w c (omega arith))
+
+            size : length (take w (p .order)) ≡ w
+            size = length-take-le w (p .order) enough
+
+            padded : set (p .order) w c ≡ padTo 4 0 (take w (p .order) ++ (c ∷ []))
+            padded =
+                ap₂ (λ l k. set l k c) (ready .padded) (sym size) ∙ padTo-more 4 0 (take w (p .order)) c (rw size (omega arith))

@@ -13,7 +13,6 @@
 --   combine-refused, combine-reached rules 3 and 4
 --   shift-reached                    rule 6
 use Prim.Native.Nat.{ℕ, suc, _+_, _≤_, _<_}
-use native.Mathlib.Nat.{suc-ne-zero}
 use native.Mathlib.Numerals.{add-one}
 use native.Mathlib.Omega.{arith}
 use mathlib.Core.Path.{_≡_, refl, sym, _∙_, ap, ap₂, subst, subst₂}
@@ -60,19 +59,19 @@ reached-after k h =
       rows-kept = kept-then k (h .rows-kept);
       relations-kept = h .relations-kept;
       few-shifts = h .few-shifts;
-      next-ready = h .next-ready;
+      ready = h .ready;
     }
 
-pub refused-reached : (m : ℕ) (rows relations : List ℤ) (p : Progress) (n : ℕ)
+pub refused-reached : {m : ℕ} {rows relations : List ℤ} {p : Progress} → Ready m rows relations p → (n : ℕ)
     → Reached m rows relations rows relations (p .shifts + 1) (answerOf (suc n) p) (refused (suc n))
 unfolding outcomeOf
-refused-reached m rows relations p n =
+refused-reached {m} {rows} {relations} r n =
     record {
       outcome = refl;
       rows-kept = kept-same (rowNeed m) rows;
       relations-kept = kept-same relationNeed relations;
       few-shifts = omega arith;
-      next-ready = λ e. absurd (suc-ne-zero n e);
+      ready = r;
     }
 
 -- The new row in the place of the row that is worked on, or the refusal, after relations have been listed.
@@ -87,7 +86,7 @@ put-reached {m} {rows} {relations} {relations'} p next x b h k r s =
       rows-kept = saved-kept m (p .settled) rows w b x h;
       relations-kept = k;
       few-shifts = s;
-      next-ready = λ _. ready-with r (saved-within m (p .settled) rows w b x h) (r .listing);
+      ready = ready-with r (saved-within m (p .settled) rows w b x h) (r .listing);
     }
 
 -- ---- rules 2 to 4

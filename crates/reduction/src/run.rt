@@ -1,12 +1,12 @@
-// The whole run over checked stores: at most `enough` steps.
+// The whole run over checked stores: at most `enough` steps, and what is left of a run that is refused.
 use crate::step::Outcome;
 use crate::step::Progress;
 ghost use mathlib.Core.Path.{_≡_};
 ghost use Prim.Native.Nat.{_+_, _*_, _≤_};
-ghost use Rattle.rules.specs.Elimination as Elimination;
-ghost use Rattle.rules.specs.Stores.{rowsOf, relationsOf, rowNeed};
+ghost use Rattle.rules.specs.Stores.{rowNeed};
 ghost use Rattle.sides.specs.Lent.{Within, Listing, sideOf};
-ghost use Rattle.reduction.specs.Progress.{Reached};
+ghost use Rattle.reduction.specs.Progress.{Reached, startProgress};
+ghost use Rattle.reduction.specs.Ran.{runOf, answerFor, rowsAfter, relationsAfter};
 
 // m settlings, five shifts a row, every settled row before each of those, and the step that finds no row left.
 fn enough(m: usize) -> usize
@@ -16,29 +16,25 @@ fn enough(m: usize) -> usize
     (m + 1) * (m + m * 5) + 1
 }
 
-pub fn run(
-    rows: &mut [i64],
-    relations: &mut [i64],
-    m: usize,
-    trailing: bool,
-    count: usize,
-) -> Outcome
-    requires { ⌜ (m ≤ 4) × Within (rowNeed m) (now rows) × Listing count (now relations) ⌝ }
-    ensures { λ r. ⌜ Reached m (now (rows .entry)) (now (relations .entry)) (now (rows .exit)) (now (relations .exit)) 121 r
-        (Elimination.run (sideOf trailing) (Elimination.enough (rowsOf m (now (rows .entry))))
-        (Elimination.start (rowsOf m (now (rows .entry))) (relationsOf count (now (relations .entry))))) ⌝ }
+// "Settled rows w begin at 0."
+fn start(count: usize) -> Progress
+    ensures { λ r. ⌜ r ≡ startProgress count ⌝ }
 {
-    let start = Progress {
+    Progress {
         settled: 0,
         order: [0; 4],
         count,
         shifts: 0,
-    };
-    let mut o = Outcome {
-        refusal: 0,
-        done: false,
-        progress: start,
-    };
+    }
+}
+
+// Step after step, up to a refusal or the end.
+fn steps(rows: &mut [i64], relations: &mut [i64], m: usize, trailing: bool, count: usize) -> Outcome
+    requires { ⌜ (m ≤ 4) × Within (rowNeed m) (now rows) × Listing count (now relations) ⌝ }
+    ensures { λ r. ⌜ Reached m (now (rows .entry)) (now (relations .entry)) (now (rows .exit)) (now (relations .exit)) 121 r
+        (runOf (sideOf trailing) m count (now (rows .entry)) (now (relations .entry))) ⌝ }
+{
+    let mut o = crate::step::answer(0, start(count));
     let mut left = enough(m);
     while 0 < left {
         let refusal = o.refusal;
@@ -54,4 +50,33 @@ pub fn run(
         left -= 1;
     }
     o
+}
+
+// A refused run leaves zeros. The relation places past those that are listed hold 0 already.
+pub fn run(
+    rows: &mut [i64],
+    relations: &mut [i64],
+    m: usize,
+    trailing: bool,
+    count: usize,
+) -> Outcome
+    requires { ⌜ (m ≤ 4) × Within (rowNeed m) (now rows) × Listing count (now relations) ⌝ }
+    ensures { λ r. ⌜ r ≡ answerFor (runOf (sideOf trailing) m count (now (rows .entry)) (now (relations .entry))) ⌝ }
+    ensures { λ _. ⌜ now (rows .exit)
+        ≡ rowsAfter m (runOf (sideOf trailing) m count (now (rows .entry)) (now (relations .entry))) (now (rows .entry)) ⌝ }
+    ensures { λ _. ⌜ now (relations .exit)
+        ≡ relationsAfter (runOf (sideOf trailing) m count (now (rows .entry)) (now (relations .entry))) (now (relations .entry)) ⌝ }
+    ensures { λ r. ⌜ Reached m (now (rows .entry)) (now (relations .entry)) (now (rows .exit)) (now (relations .exit)) 121 r
+        (runOf (sideOf trailing) m count (now (rows .entry)) (now (relations .entry))) ⌝ }
+{
+    let o = steps(rows, relations, m, trailing, count);
+    let refusal = o.refusal;
+    if refusal == 0 {
+        return o;
+    }
+    let p = o.progress;
+    let listed = p.count;
+    rows::stores::clear(rows, 0, m * 320);
+    rows::stores::clear(relations, 0, listed * 321);
+    crate::step::answer(refusal, start(0))
 }

@@ -33,7 +33,7 @@ pub struct Outcome {
 }
 
 // A refusal, or 0: the run goes on.
-fn answer(refusal: u8, p: Progress) -> Outcome
+pub(crate) fn answer(refusal: u8, p: Progress) -> Outcome
     ensures { λ r. ⌜ r ≡ answerOf refusal p ⌝ }
 {
     Outcome {

@@ -2,9 +2,9 @@
 --
 -- Main statements
 --   mirrored-state                       the state that the mirrored stores hold
---   trailing-refused, trailing-reached   what the run comes to with a refusal, and with none
+--   trailing-refused, trailing-held      what the run comes to with a refusal, and with none
 use Prim.Native.Nat.{ℕ, zero, suc}
-use mathlib.Core.Path.{_≡_, refl, sym, _∙_, ap, ap₂}
+use mathlib.Core.Path.{_≡_, refl, sym, _∙_, ap, ap₂, subst}
 use mathlib.Core.List.{List, []}
 use mathlib.Core.Logic.{_≢_}
 use mathlib.Core.Bool.{Bool, true, false}
@@ -12,7 +12,8 @@ use lib.IntN.{ℤ}
 use lib.ListN.{take}
 use Rattle.rules.specs.Elimination.{State, going, done, trailing, run, enough, start, mirrorState, mirrorOutcome, trailingRun}
 use Rattle.rules.specs.Stores.{rowsOf, relationsOf}
-use Rattle.reduction.specs.Progress.{Reached, state, stateOf, outcomeOf, outcomeAt, ready-with}
+use Rattle.reduction.specs.Progress.{state, stateOf, outcomeOf, outcomeAt, ready-with}
+use Rattle.reduction.specs.Ran.{Ran, runOf, ran-held, ran-kept}
 use Rattle.reduction.specs.declared.step.Progress.{Progress}
 use Rattle.reduction.specs.declared.step.Outcome as Answer
 use Rattle.reduction.specs.RunLaws.{enough-rows}
@@ -35,43 +36,38 @@ outcome-mirrored D (suc n) d s s' h = refl
 -- The stores before the mirror, after it, and after the run.
 module _ (m D count : ℕ) (rows relations rows₁ relations₁ rows₂ relations₂ : List ℤ) (h : RowsMirrored m D rows rows₁)
     (g : RelationsMirrored count D relations relations₁) (o : Answer.Outcome)
-    (r : Reached m rows₁ relations₁ rows₂ relations₂ 121 o
-    (run trailing (enough (rowsOf m rows₁)) (start (rowsOf m rows₁) (relationsOf count relations₁)))) where
+    (r : Ran m rows₁ relations₁ rows₂ relations₂ o (runOf trailing m count rows₁ relations₁)) where
   mirrored-start : start (rowsOf m rows₁) (relationsOf count relations₁) ≡ mirrorState D (start (rowsOf m rows) (relationsOf count relations))
   unfolding start mirrorState
   mirrored-start = ap₂ (λ r e. state r e [] 0) (h .rows) (g .relations)
 
   reached-mirrored : outcomeAt m rows₂ relations₂ o
       ≡ run trailing (enough (rowsOf m rows)) (mirrorState D (start (rowsOf m rows) (relationsOf count relations)))
-  reached-mirrored = r .outcome ∙ ap₂ (run trailing) (enough-rows m rows₁ ∙ sym (enough-rows m rows)) mirrored-start
+  reached-mirrored = r .reached .outcome ∙ ap₂ (run trailing) (enough-rows m rows₁ ∙ sym (enough-rows m rows)) mirrored-start
 
   -- A refusal, and the stores as they are.
   pub trailing-refused : o .refusal ≢ 0
-      → Reached m rows relations rows₂ relations₂ 121 o (trailingRun D (rowsOf m rows) (relationsOf count relations))
+      → Ran m rows relations rows₂ relations₂ o (trailingRun D (rowsOf m rows) (relationsOf count relations))
   unfolding trailingRun
   trailing-refused n =
       let s = stateOf m rows₂ relations₂ (o .progress) in
-      record {
-        outcome = outcome-mirrored D (o .refusal) (o .done) s s (λ e. absurd (n e)) ∙ ap (mirrorOutcome D) reached-mirrored;
-        rows-kept = kept-then (h .kept) (r .rows-kept);
-        relations-kept = kept-then (g .kept) (r .relations-kept);
-        few-shifts = r .few-shifts;
-        next-ready = λ e. absurd (n e);
-      }
+      let same = outcome-mirrored D (o .refusal) (o .done) s s (λ e. absurd (n e)) in
+      subst (Ran m rows relations rows₂ relations₂ o) (sym (r .reached .outcome) ∙ same ∙ ap (mirrorOutcome D) reached-mirrored)
+      (ran-kept (h .kept) (g .kept) n r)
 
   -- No refusal, and the stores after the mirror back.
-  pub trailing-reached : (rows₃ relations₃ : List ℤ) → RowsMirrored m D rows₂ rows₃
+  pub trailing-held : (rows₃ relations₃ : List ℤ) → o .refusal ≡ 0 → RowsMirrored m D rows₂ rows₃
       → RelationsMirrored (o .progress .count) D relations₂ relations₃
-      → Reached m rows relations rows₃ relations₃ 121 o (trailingRun D (rowsOf m rows) (relationsOf count relations))
+      → Ran m rows relations rows₃ relations₃ o (trailingRun D (rowsOf m rows) (relationsOf count relations))
   unfolding trailingRun
-  trailing-reached rows₃ relations₃ h′ g′ =
+  trailing-held rows₃ relations₃ e h′ g′ =
       let s = stateOf m rows₂ relations₂ (o .progress) in
       let s′ = stateOf m rows₃ relations₃ (o .progress) in
       let same = mirrored-state m D rows₂ relations₂ rows₃ relations₃ (o .progress) h′ g′ in
-      record {
+      ran-held (record {
         outcome = outcome-mirrored D (o .refusal) (o .done) s s′ (λ _. same) ∙ ap (mirrorOutcome D) reached-mirrored;
-        rows-kept = kept-then (h .kept) (kept-then (r .rows-kept) (h′ .kept));
-        relations-kept = kept-then (g .kept) (kept-then (r .relations-kept) (g′ .kept));
-        few-shifts = r .few-shifts;
-        next-ready = λ e. ready-with (r .next-ready e) (h′ .within) (g′ .listing);
-      }
+        rows-kept = kept-then (h .kept) (kept-then (r .reached .rows-kept) (h′ .kept));
+        relations-kept = kept-then (g .kept) (kept-then (r .reached .relations-kept) (g′ .kept));
+        few-shifts = r .reached .few-shifts;
+        ready = ready-with (r .reached .ready) (h′ .within) (g′ .listing);
+      }) e

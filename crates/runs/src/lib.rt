@@ -7,13 +7,14 @@ ghost use lib.Dec.{T};
 ghost use lib.IntN.{ℤ};
 ghost use lib.ListN.{take};
 ghost use Rattle.rules.specs.Elimination as Elimination;
-ghost use Rattle.rules.specs.Stores.{rowsOf, relationsOf, rowNeed, sizesRight, checkStores};
+ghost use Rattle.rules.specs.Stores.{rowsOf, relationsOf, rowNeed, sizesRight, span, checkStores};
 ghost use Rattle.rules.specs.Calls as Calls;
 ghost use Rattle.working.specs.Found.{Columns};
 ghost use Rattle.rows.specs.Validity.{sizesOf};
 ghost use Rattle.sides.specs.Lent.{sideOf, Within, Listing};
-ghost use Rattle.reduction.specs.Progress.{stateOf, outcomeOf, Reached};
-ghost use Rattle.runs.specs.CallLaws.{resultOf, callOf, Final};
+ghost use Rattle.reduction.specs.Progress.{stateOf, outcomeAt};
+ghost use Rattle.reduction.specs.Ran.{Ran};
+ghost use Rattle.runs.specs.CallLaws.{resultOf, callOf, resultAfter, Final};
 
 // The number of the refusal or 0, and for a run that accepts: how many relations the store holds, how many shifts were made,
 // the columns of the settled rows, counted from 1, with zeros past the last, and whether there is a root, and which; 0 with "no".
@@ -87,7 +88,7 @@ fn trailing_run(
     count: usize,
 ) -> reduction::step::Outcome
     requires { ⌜ (m ≤ 4) × (span ≤ 4) × Within (rowNeed m) (now rows) × Listing count (now relations) ⌝ }
-    ensures { λ r. ⌜ Reached m (now (rows .entry)) (now (relations .entry)) (now (rows .exit)) (now (relations .exit)) 121 r
+    ensures { λ r. ⌜ Ran m (now (rows .entry)) (now (relations .entry)) (now (rows .exit)) (now (relations .exit)) r
         (Elimination.trailingRun span (rowsOf m (now (rows .entry))) (relationsOf count (now (relations .entry)))) ⌝ }
 {
     sides::mirror::mirror_rows(rows, m, span);
@@ -112,7 +113,7 @@ fn whole_run(
     count: usize,
 ) -> reduction::step::Outcome
     requires { ⌜ (m ≤ 4) × (span ≤ 4) × Within (rowNeed m) (now rows) × Listing count (now relations) ⌝ }
-    ensures { λ r. ⌜ Reached m (now (rows .entry)) (now (relations .entry)) (now (rows .exit)) (now (relations .exit)) 121 r
+    ensures { λ r. ⌜ Ran m (now (rows .entry)) (now (relations .entry)) (now (rows .exit)) (now (relations .exit)) r
         (Elimination.wholeRun (sideOf trailing) span (rowsOf m (now (rows .entry))) (relationsOf count (now (relations .entry)))) ⌝ }
 {
     if trailing {
@@ -122,26 +123,22 @@ fn whole_run(
     }
 }
 
-// "6 to 9 leave the needed part zero, the rest unchanged"; a run that accepts has left its output in the stores.
+// The result of a run that has ended. The stores are as the call leaves them: they hold the output, or zeros after a refusal.
 fn ended(
-    rows: &mut [i64],
-    relations: &mut [i64],
+    rows: &[i64],
     sizes: rows::validity::Sizes,
     trailing: bool,
     o: reduction::step::Outcome,
 ) -> RunResult
-    requires { ⌜ T (sizesRight (sizesOf sizes)) × Final (sizes .m) (now rows) (now relations) o ⌝ }
-    ensures { λ r. ⌜ callOf r (now (rows .exit)) (now (relations .exit)) ≡ Calls.afterRun (sideOf trailing) (sizesOf sizes)
-        (outcomeOf (o .refusal) (o .done) (stateOf (sizes .m) (now (rows .entry)) (now (relations .entry)) (o .progress)))
-        (now (rows .entry)) (now (relations .entry)) ⌝ }
+    requires { ⌜ T (sizesRight (sizesOf sizes)) × Final (sizes .m) (now rows) o ⌝ }
+    ensures { λ r. ⌜ ((relations : List ℤ)
+        → resultOf r ≡ resultAfter (sideOf trailing) (span (sizesOf sizes)) (outcomeAt (sizes .m) (now (rows .entry)) relations o)) ⌝ }
 {
-    let m = sizes.m;
     let refusal = o.refusal;
     if refusal != 0 {
-        rows::stores::clear(rows, 0, m * 320);
-        rows::stores::clear(relations, 0, 5136);
         return refused(refusal);
     }
+    let m = sizes.m;
     let p = o.progress;
     accepted(rows, m, rows::validity::span(sizes), trailing, p)
 }
@@ -161,7 +158,7 @@ fn checked_run(
     let m = sizes.m;
     let span = rows::validity::span(sizes);
     let o = whole_run(rows, relations, m, span, trailing, count);
-    ended(rows, relations, sizes, trailing, o)
+    ended(rows, sizes, trailing, o)
 }
 
 // The same on the leading side.

@@ -1,6 +1,5 @@
 -- `runs::checked_run` meets its contract.
 -- Assumes nothing.
-use mathlib.Core.Path.{_∙_}
 use mathlib.Core.List.{List}
 use Prim.Native.Nat.{ℕ}
 use borrow.Author.Needs.{needs}
@@ -10,7 +9,7 @@ use Rattle.rules.specs.Elimination.{Side, wholeRun}
 use Rattle.rules.specs.Stores.{Sizes, span, rowsOf, relationsOf}
 use Rattle.rows.specs.Validity.{sizesOf}
 use Rattle.sides.specs.Lent.{sideOf}
-use Rattle.reduction.specs.Progress.{Reached}
+use Rattle.reduction.specs.Ran.{Ran}
 use Rattle.runs.specs.CallLaws.{few-unknowns, few-blocks, Checked, checked, final-run, call-run}
 use Rattle.runs.proofs.checked_run.Statement.{statement}
 use Rattle.runs.proofs.checked_run.Tie as tie
@@ -40,10 +39,10 @@ module _ (c : tie.After-whole-run) where
   abbrev start : tie.Start
   start = c .before .before .before .before
 
-  reached : Reached (z start .m) (rows start) (relations start) (c .whole-run .last .0) (c .whole-run .last .1 .0) 121 (c .whole-run .result)
+  ran : Ran (z start .m) (rows start) (relations start) (c .whole-run .last .0) (c .whole-run .last .1 .0) (c .whole-run .result)
       (wholeRun (side start) (span (z start)) (rowsOf (z start .m) (rows start)) (relationsOf (count start) (relations start)))
   unfolding sizesOf
-  reached = rw (c .before .before .before .span .ensures) at (c .whole-run .ensures)
+  ran = rw (c .before .before .before .span .ensures) at (c .whole-run .ensures)
 
 span-requires : tie.Need-span-requires
 span-requires c κs = stores c .sizes
@@ -58,9 +57,9 @@ whole-run-requires c κs =
 ended-requires : tie.Need-ended-requires
 unfolding sizesOf
 ended-requires c κs =
-    let run = c .before .before .before .before in
+    let run = c .before .before .before in
     let s = start run in
-    (stores s .sizes, final-run (side s) (z s) (count s) 121 (rows s) (relations s) _ _ (run .whole-run .result) (stores s) (reached run))
+    (stores s .sizes, final-run (side s) (z s) (count s) (rows s) (relations s) _ _ (run .whole-run .result) (stores s) (ran run))
 
 same-length : tie.Need-same-length
 same-length c = search needs
@@ -71,10 +70,10 @@ same-length-2 c = search needs
 returns : tie.Need-returns
 unfolding sizesOf
 returns c =
-    let run = c .before .before .before .before .before .before .before in
+    let run = c .before .before .before .before in
     let s = start run in
-    c .before .before .ended .ensures
-    ∙ call-run (side s) (z s) (count s) 121 (rows s) (relations s) _ _ (run .whole-run .result) (s .pre) (reached run)
+    call-run (side s) (z s) (count s) (rows s) (relations s) _ _ (run .whole-run .result) (c .ended .result) (s .pre) (ran run)
+    (c .ended .ensures _)
 
 pub checked-run-spec : {M : Type 1} → statement M
 checked-run-spec =

@@ -1,9 +1,13 @@
 -- `runs::trailing_run` meets its contract.
 -- Assumes nothing.
 use borrow.Author.Needs.{needs}
+use mathlib.Core.List.{List}
 use denote.Ref.{now}
+use lib.IntN.{ℤ}
+use Rattle.rules.specs.Elimination.{trailing}
 use Rattle.sides.specs.Lent.{sideOf}
-use Rattle.runs.specs.TrailingLaws.{trailing-refused, trailing-reached}
+use Rattle.reduction.specs.Ran.{Ran, runOf}
+use Rattle.runs.specs.TrailingLaws.{trailing-refused, trailing-held}
 use Rattle.runs.proofs.trailing_run.Statement.{statement}
 use Rattle.runs.proofs.trailing_run.Tie as tie
 
@@ -14,6 +18,19 @@ module _ (c : tie.After-run) where
 
   abbrev start : tie.Start
   start = mirrored .before .before .before .before .before
+
+  abbrev rows : List ℤ
+  rows = mirrored .before .before .before .mirror-rows .last .0
+
+  abbrev relations : List ℤ
+  relations = mirrored .mirror-relations .last .0
+
+  ran : Ran (start .args .m) rows relations (c .run .last .0) (c .run .last .1 .0) (c .run .result)
+      (runOf trailing (start .args .m) (start .args .count) rows relations)
+  unfolding sideOf
+  ran =
+      let ensured = c .run .ensures in
+      record { answer = ensured .0; rows-after = ensured .1 .0; relations-after = ensured .1 .1 .0; reached = ensured .1 .1 .1 }
 
 mirror-rows-requires : tie.Need-mirror-rows-requires
 mirror-rows-requires c κs = search needs
@@ -31,23 +48,22 @@ same-length-2 : tie.Need-same-length-2
 same-length-2 c = search needs
 
 returns : tie.Need-returns
-unfolding sideOf
 returns c =
     let at = c .before .before .before in
     let s = start at in
     trailing-refused (s .args .m) (s .args .span) (s .args .count) (now (s .args .rows)) (now (s .args .relations)) _ _ _ _
-    (mirrored at .before .before .before .mirror-rows .ensures) (mirrored at .mirror-relations .ensures) (at .run .result) (at .run .ensures)
+    (mirrored at .before .before .before .mirror-rows .ensures) (mirrored at .mirror-relations .ensures) (at .run .result) (ran at)
     (c .if1 .taken)
 
 mirror-rows-requires-2 : tie.Need-mirror-rows-requires-2
 mirror-rows-requires-2 c κs =
     let at = c .before .before .before .before .before in
-    (start at .pre .1, at .run .ensures .next-ready (c .before .before .if1 .left) .rows-within)
+    (start at .pre .1, ran at .reached .ready .rows-within)
 
 mirror-relations-requires-2 : tie.Need-mirror-relations-requires-2
 mirror-relations-requires-2 c κs =
     let at = c .before .before .before .before .before .before .before .before in
-    (start at .pre .1, at .run .ensures .next-ready (c .before .before .before .before .before .if1 .left) .listing)
+    (start at .pre .1, ran at .reached .ready .listing)
 
 same-length-3 : tie.Need-same-length-3
 same-length-3 c = search needs
@@ -56,14 +72,14 @@ same-length-4 : tie.Need-same-length-4
 same-length-4 c = search needs
 
 returns-2 : tie.Need-returns-2
-unfolding sideOf
 returns-2 c =
     let back = c .before in
     let at = back .before .before .before .before .before .before .before .before .before in
     let s = start at in
-    trailing-reached (s .args .m) (s .args .span) (s .args .count) (now (s .args .rows)) (now (s .args .relations)) _ _ _ _
-    (mirrored at .before .before .before .mirror-rows .ensures) (mirrored at .mirror-relations .ensures) (at .run .result) (at .run .ensures)
-    _ _ (back .before .before .before .mirror-rows2 .ensures) (back .mirror-relations2 .ensures)
+    trailing-held (s .args .m) (s .args .span) (s .args .count) (now (s .args .rows)) (now (s .args .relations)) _ _ _ _
+    (mirrored at .before .before .before .mirror-rows .ensures) (mirrored at .mirror-relations .ensures) (at .run .result) (ran at)
+    _ _ (back .before .before .before .before .before .before .if1 .left) (back .before .before .before .mirror-rows2 .ensures)
+    (back .mirror-relations2 .ensures)
 
 pub trailing-run-spec : {M : Type 1} → statement M
 trailing-run-spec =

@@ -30,7 +30,11 @@ same-length-4 c = search needs
 
 returns-2 : tie.Need-returns-2
 unfolding sideOf wholeRun leadingRun
-returns-2 c = let at = c .before .before in rw (at .before .before .before .if1 .left) (at .run .ensures)
+returns-2 c =
+    let at = c .before .before in
+    let ran = at .run .ensures in
+    rw (at .before .before .before .if1 .left)
+    (record { answer = ran .0; rows-after = ran .1 .0; relations-after = ran .1 .1 .0; reached = ran .1 .1 .1 })
 
 pub whole-run-spec : {M : Type 1} → statement M
 whole-run-spec =

@@ -1,97 +1,79 @@
--- `reduction::run::run` meets its contract. The loop's invariant: at most `left` steps more from the outcome that is reached give what
--- the whole run gives.
+-- `reduction::run::run` meets its contract: a run without a refusal leaves the stores as its steps do; what a refused one has
+-- used is cleared.
 -- Assumes nothing.
+use mathlib.Core.Path.{_∙_, ap}
 use native.Mathlib.Omega.{arith}
-use denote.Ref.{now}
-use Rattle.rules.specs.Stores.{rowsOf, relationsOf}
-use Rattle.rules.specs.Elimination as Elimination
-use Rattle.sides.specs.Lent.{sideOf}
-use Rattle.reduction.specs.RunLaws.{Running, run-starts, run-goes, run-ends, run-refused, run-done}
+use borrow.Author.Needs.{needs}
+use Rattle.rules.specs.Stores.{rowNeed}
+use Rattle.reduction.specs.Progress.{answerOf}
+use Rattle.reduction.specs.Ran.{ran-held, ran-cleared}
 use Rattle.reduction.proofs.run.run.Statement.{statement}
 use Rattle.reduction.proofs.run.run.Tie as tie
 
-abbrev Inv-loop : tie.InvT-loop
-Inv-loop rows₀ relations₀ m trailing count o₀ left₀ rows relations o left =
-    Running (sideOf trailing) m rows₀ relations₀ rows relations o left
-    (Elimination.run (sideOf trailing) (Elimination.enough (rowsOf m rows₀))
-    (Elimination.start (rowsOf m rows₀) (relationsOf count relations₀)))
+steps-requires : tie.Need-steps-requires
+steps-requires c κs = search needs
 
-abbrev μ-loop : tie.MeasureT-loop
-μ-loop rows₀ relations₀ m trailing count o₀ left₀ rows relations o left = left
+same-length : tie.Need-same-length
+same-length c = search needs
 
-enough-requires : tie.Need-enough-requires Inv-loop μ-loop
-enough-requires c κs = c .pre .0
+same-length-2 : tie.Need-same-length-2
+same-length-2 c = search needs
 
-loop-holds : tie.Need-loop-holds Inv-loop μ-loop
-loop-holds c =
-    let start = c .before in
-    let args = start .args in
-    run-starts (sideOf (args .trailing)) (args .m) (args .count) (c .enough .result) (now (args .rows)) (now (args .relations))
-    (start .pre .0) (start .pre .1) (start .pre .2) (c .enough .ensures)
+returns : tie.Need-returns
+returns c =
+    let ran = ran-held (c .before .before .before .steps .ensures) (c .if1 .taken) in
+    (ran .answer, (ran .rows-after, (ran .relations-after, ran .reached)))
 
-same-length : tie.Need-same-length Inv-loop μ-loop
-same-length c = c .before .before .loop .inv .reached .rows-kept .same-length
+mul-clear : tie.Need-mul-clear
+mul-clear c = search needs
 
-same-length-2 : tie.Need-same-length-2 Inv-loop μ-loop
-same-length-2 c = c .before .before .loop .inv .reached .relations-kept .same-length
+clear-requires : tie.Need-clear-requires
+unfolding rowNeed
+clear-requires c κs = omega (arith, c .before .before .before .before .before .steps .ensures .ready .rows-within .long)
 
-returns : tie.Need-returns Inv-loop μ-loop
-returns c = run-refused (c .before .before .loop .inv) (c .if1 .taken)
+mul-clear-2 : tie.Need-mul-clear-2
+mul-clear-2 c = search needs
 
-same-length-3 : tie.Need-same-length-3 Inv-loop μ-loop
-same-length-3 c = c .before .before .before .loop .inv .reached .rows-kept .same-length
+clear-requires-2 : tie.Need-clear-requires-2
+clear-requires-2 c κs = search needs
 
-same-length-4 : tie.Need-same-length-4 Inv-loop μ-loop
-same-length-4 c = c .before .before .before .loop .inv .reached .relations-kept .same-length
+start-requires : tie.Need-start-requires
+start-requires c κs = search needs
 
-returns-2 : tie.Need-returns-2 Inv-loop μ-loop
-returns-2 c = run-done (c .before .before .before .loop .inv) (c .if2 .taken)
+answer-requires : tie.Need-answer-requires
+answer-requires c κs = search needs
 
-step-requires : tie.Need-step-requires Inv-loop μ-loop
-step-requires c κs =
-    let at = c .before .before .before .before .before .before .loop .inv in
-    (at .reached .next-ready (c .before .before .before .before .if1 .left), omega (arith, at .reached .few-shifts))
+same-length-3 : tie.Need-same-length-3
+same-length-3 c = search needs
 
-sub-left : tie.Need-sub-left Inv-loop μ-loop
-sub-left c = omega arith
+same-length-4 : tie.Need-same-length-4
+same-length-4 c = search needs
 
-loop-less : tie.Need-loop-less Inv-loop μ-loop
-loop-less c = omega arith
-
-loop-again : tie.Need-loop-again Inv-loop μ-loop
-loop-again c =
-    let asked = c .before .before .before in
-    let turn = asked .before .before .before .before .before in
-    run-goes (turn .before .loop .inv) (turn .loop-test .taken) (asked .before .before .before .before .if1 .left)
-    (asked .before .before .before .if2 .left) (c .before .before .step .ensures)
-
-same-length-5 : tie.Need-same-length-5 Inv-loop μ-loop
-same-length-5 c = c .before .loop .inv .reached .rows-kept .same-length
-
-same-length-6 : tie.Need-same-length-6 Inv-loop μ-loop
-same-length-6 c = c .before .loop .inv .reached .relations-kept .same-length
-
-returns-3 : tie.Need-returns-3 Inv-loop μ-loop
-returns-3 c = run-ends (c .before .loop .inv) (omega arith)
+returns-2 : tie.Need-returns-2
+unfolding rowNeed
+returns-2 c =
+    let listed = c .before .before .before in
+    let first = listed .before .before .before in
+    let ended = first .before .before .before .before .before .before in
+    let answer = c .answer .ensures ∙ ap (answerOf (ended .steps .result .refusal)) (c .before .start .ensures) in
+    let refused = first .before .before .before .if1 .left in
+    let ran = ran-cleared (ended .steps .ensures) refused (first .clear .ensures) (listed .clear2 .ensures) answer in
+    (ran .answer, (ran .rows-after, (ran .relations-after, ran .reached)))
 
 pub run-spec : {M : Type 1} → statement M
 run-spec =
     tie.close
     (tie.spec
-    Inv-loop
-    μ-loop
-    enough-requires
-    loop-holds
+    steps-requires
     same-length
     same-length-2
     returns
+    mul-clear
+    clear-requires
+    mul-clear-2
+    clear-requires-2
+    start-requires
+    answer-requires
     same-length-3
     same-length-4
-    returns-2
-    step-requires
-    sub-left
-    loop-less
-    loop-again
-    same-length-5
-    same-length-6
-    returns-3)
+    returns-2)

@@ -255,7 +255,7 @@ returns c =
     let many : 16 < p b .count + length (roots (x b .g)) = omega (arith, count-is e, c .before .if1 .taken) in
     reached-same refl (c .answer .ensures)
     (combine-is b ∙ combine-refused (side b) (ready b) (j b) (inside b) (settled b) (x b) many)
-    (refused-reached (m b) (rows b) (relations b) (p b) 8)
+    (refused-reached (ready b) 8)
 
 list-roots-requires : tie.Need-list-roots-requires
 list-roots-requires c κs =

@@ -147,7 +147,7 @@ returns-2 c =
     let b = start d in
     reached-same refl (c .answer .ensures)
     (step-zero (side b) (ready b) (inside d) (sym (zero-is d) ∙ c .before .if2 .taken))
-    (refused-reached (m b) (rows b) (relations b) (p b) 5)
+    (refused-reached (ready b) 5)
 
 first-met-requires : tie.Need-first-met-requires
 first-met-requires c κs = search needs

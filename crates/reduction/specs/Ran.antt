@@ -1,0 +1,317 @@
+-- What a whole run gives back and leaves in both stores, by its outcome.
+--
+-- Main definitions
+--   runOf side m count rows relations   the run of the state that the stores hold
+--   progressOf s                   how far a run has come with the state s
+--   answerFor x                    the answer of a run with the outcome x
+--   rowsAfter m x store, relationsAfter x store   the stores after it: the state of x, or zeros after a refusal
+--   Ran m .. o x                   the answer o and both stores are those of x, and the stores are ready for a step
+--
+-- Main statements
+--   zeros-small                    zeros are within ±C
+--   ran-held                       a run without a refusal
+--   ran-cleared                    a refused run, after the rows and the relations that it has listed are cleared
+--   ran-kept                       a refused run on stores that were changed before it
+use Prim.Native.Nat.{ℕ, zero, suc, _+_, _*_, _-_, _≤_, zero-le}
+use native.Mathlib.Nat.{le-of-eq, zero-add, add-sub-of-le}
+use native.Mathlib.Omega.{arith}
+use mathlib.Core.Path.{_≡_, refl, sym, _∙_, ap, ap₂, subst, subst₂}
+use mathlib.Core.Logic.{_≢_}
+use mathlib.Core.Bool.{Bool, true, false}
+use mathlib.Core.List.{List, _++_, append-assoc}
+use lib.Dec.{T}
+use lib.IntN.{ℤ, pos}
+use lib.ListN.{length, take, drop, replicate, length-append, length-drop, length-replicate, take-append-drop, replicate-append-replicate}
+use lib.Seq.{paste, take-all, take-at, drop-at, drop-drop, length-take-le}
+use Rattle.algebra.specs.Polynomials.{isZero, isZero-replicate, zero-list}
+use Rattle.rules.specs.Limits.{columnCount, small}
+use Rattle.rules.specs.Rows.{every}
+use Rattle.rules.specs.Lists.{drop-take}
+use Rattle.rules.specs.Stores.{rowsOf, relationsOf, rowNeed, relationNeed, rowStoreOf, relationStoreOf}
+use Rattle.rules.specs.Elimination.{Side, State, Outcome, going, done, refused, run, enough, start}
+use Rattle.rules.specs.Layout.{rowStoreOf-rowsOf, relationStoreOf-relationsOf, length-relationsOf}
+use Rattle.rules.specs.Calls.{padTo, overwrite, zeros}
+use Rattle.sides.specs.Lent.{Within, Listing, Kept}
+use Rattle.sides.specs.StoreStates.{kept-then}
+use Rattle.reduction.specs.declared.step.Progress.{Progress}
+use Rattle.reduction.specs.declared.step.Outcome as Answer
+use Rattle.reduction.specs.Progress.{Ready, Reached, stateOf, outcomeOf, answerOf, startProgress}
+use Rattle.reduction.specs.RunLaws.{start-ready}
+
+abbrev pub runOf : Side → ℕ → ℕ → List ℤ → List ℤ → Outcome
+runOf side m count rows relations = run side (enough (rowsOf m rows)) (start (rowsOf m rows) (relationsOf count relations))
+
+-- Zeros past the columns of the settled rows.
+unfoldable pub progressOf : State → Progress
+unfolding padTo
+progressOf s =
+    record { settled = length (s .order); order = padTo columnCount 0 (s .order); count = length (s .relations); shifts = s .shifts }
+
+unfoldable pub answerFor : Outcome → Answer.Outcome
+unfolding progressOf
+answerFor (going s) = record { refusal = 0; done = false; progress = progressOf s }
+answerFor (done s) = record { refusal = 0; done = true; progress = progressOf s }
+answerFor (refused n) = answerOf n (startProgress 0)
+
+-- "6 to 9 leave the needed part zero, the rest unchanged"
+unfoldable pub rowsAfter : ℕ → Outcome → List ℤ → List ℤ
+unfolding overwrite zeros rowNeed rowStoreOf
+rowsAfter m (going s) store = overwrite (rowStoreOf (s .rows)) store
+rowsAfter m (done s) store = overwrite (rowStoreOf (s .rows)) store
+rowsAfter m (refused n) store = overwrite (zeros (rowNeed m)) store
+
+unfoldable pub relationsAfter : Outcome → List ℤ → List ℤ
+unfolding overwrite zeros relationStoreOf
+relationsAfter (going s) store = overwrite (relationStoreOf (s .relations)) store
+relationsAfter (done s) store = overwrite (relationStoreOf (s .relations)) store
+relationsAfter (refused n) store = overwrite (zeros relationNeed) store
+
+pub record Ran (m : ℕ) (rows relations rows' relations' : List ℤ) (o : Answer.Outcome) (x : Outcome) : Type 0 where
+  pub answer : o ≡ answerFor x
+  pub rows-after : rows' ≡ rowsAfter m x rows
+  pub relations-after : relations' ≡ relationsAfter x relations
+  pub reached : Reached m rows relations rows' relations' 121 o x
+
+-- ---- a run without a refusal
+
+-- A store whose needed part is overwritten by the numbers of another with the same rest.
+overwrite-kept : (need : ℕ) (part store after : List ℤ) → need ≤ length after → Kept need store after → part ≡ take need after
+    → after ≡ overwrite part store
+unfolding overwrite
+overwrite-kept need part store after long kept e =
+    sym
+    (ap₂ (λ p n. p ++ drop n store) e (ap length e ∙ length-take-le need after long)
+    ∙ ap (λ l. take need after ++ l) (sym (kept .same-rest)) ∙ take-append-drop need after)
+
+-- The progress is that of the state that the stores hold with it.
+held-progress : {m : ℕ} {rows relations : List ℤ} {p : Progress} → Ready m rows relations p → p ≡ progressOf (stateOf m rows relations p)
+unfolding progressOf stateOf
+held-progress {m} {rows} {relations} {p} r =
+    let settled = sym (length-take-le (p .settled) (p .order) (omega (arith, r .settled, r .unknowns, r .four))) in
+    let count = sym (length-relationsOf (p .count) relations) in
+    λ i. record { settled = settled i; order = r .padded i; count = count i; shifts = p .shifts }
+
+-- Going on or done.
+module _ (s : State) where
+  held-answer : (d : Bool) → record { refusal = 0; done = d; progress = progressOf s } ≡ answerFor (outcomeOf 0 d s)
+  unfolding answerFor outcomeOf
+  held-answer false = refl
+  held-answer true = refl
+
+  held-rows : (m : ℕ) (d : Bool) (store : List ℤ) → overwrite (rowStoreOf (s .rows)) store ≡ rowsAfter m (outcomeOf 0 d s) store
+  unfolding rowsAfter outcomeOf
+  held-rows m false store = refl
+  held-rows m true store = refl
+
+  held-relations : (d : Bool) (store : List ℤ) → overwrite (relationStoreOf (s .relations)) store ≡ relationsAfter (outcomeOf 0 d s) store
+  unfolding relationsAfter outcomeOf
+  held-relations false store = refl
+  held-relations true store = refl
+
+pub ran-held : {m : ℕ} {rows relations rows' relations' : List ℤ} {o : Answer.Outcome} {x : Outcome}
+    → Reached m rows relations rows' relations' 121 o x → o .refusal ≡ 0 → Ran m rows relations rows' relations' o x
+unfolding stateOf
+ran-held {m} {rows} {relations} {rows'} {relations'} {o} {x} r e =
+    record {
+      answer = whole ∙ held-answer s (o .done) ∙ ap answerFor same;
+      rows-after =
+          overwrite-kept (rowNeed m) (rowStoreOf (s .rows)) rows rows' (ready .rows-within .long) (r .rows-kept) (rowStoreOf-rowsOf m rows')
+          ∙ held-rows s m (o .done) rows ∙ ap (λ y. rowsAfter m y rows) same;
+      relations-after =
+          overwrite-kept relationNeed (relationStoreOf (s .relations)) relations relations' (listing .within .long) (r .relations-kept)
+          (relationStoreOf-relationsOf (o .progress .count) relations' (listing .few) (listing .within .long) (listing .unused))
+          ∙ held-relations s (o .done) relations ∙ ap (λ y. relationsAfter y relations) same;
+      reached = r;
+    }
+  where
+    ready : Ready m rows' relations' (o .progress)
+    ready = r .ready
+
+    listing : Listing (o .progress .count) relations'
+    listing = ready .listing
+
+    s : State
+    s = stateOf m rows' relations' (o .progress)
+
+    same : outcomeOf 0 (o .done) s ≡ x
+    same = ap (λ n. outcomeOf n (o .done) s) (sym e) ∙ r .outcome
+
+    whole : o ≡ record { refusal = 0; done = o .done; progress = progressOf s }
+    whole = λ i. record { refusal = e i; done = o .done; progress = held-progress ready i }
+
+-- ---- a refused run
+
+pub zeros-small : (n : ℕ) → T (every small (zeros n))
+unfolding zeros every small
+zeros-small zero = tt
+zeros-small (suc n) = zeros-small n
+
+length-zeros : (n : ℕ) → length (zeros n) ≡ n
+unfolding zeros
+length-zeros n = length-replicate n (pos 0)
+
+-- A store whose needed part holds zeros.
+module _ (need : ℕ) (store : List ℤ) where
+  abbrev size : length (zeros need) ≡ need
+  size = length-zeros need
+
+  needed-zeros : take need (overwrite (zeros need) store) ≡ zeros need
+  unfolding overwrite
+  needed-zeros = take-at (zeros need) (drop (length (zeros need)) store) need size
+
+  zeros-within : need ≤ length store → Within need (overwrite (zeros need) store)
+  unfolding overwrite
+  zeros-within h =
+      record {
+        long = simp (length-append, length-drop) (omega (arith, size));
+        numbers = subst (λ l. T (every small l)) (sym needed-zeros) (zeros-small need);
+      }
+
+  zeros-kept : need ≤ length store → Kept need store (overwrite (zeros need) store)
+  unfolding overwrite
+  zeros-kept h =
+      record {
+        same-length = simp (length-append, length-drop) (omega (arith, size));
+        same-rest = drop-at (zeros need) (drop (length (zeros need)) store) need size ∙ ap (λ n. drop n store) size;
+      }
+
+  -- Nothing else is left of a store with the same rest.
+  zeros-over : {after : List ℤ} → Kept need store after → overwrite (zeros need) after ≡ overwrite (zeros need) store
+  unfolding overwrite
+  zeros-over {after} kept =
+      ap (λ l. zeros need ++ l)
+      (ap (λ n. drop n after) size ∙ kept .same-rest ∙ ap (λ n. drop n store) (sym size))
+
+  cleared-zeros : paste store 0 (replicate need (pos 0)) need ≡ overwrite (zeros need) store
+  unfolding overwrite zeros
+  cleared-zeros =
+      ap₂ (λ z n. z ++ drop n store) (take-all need (zeros need) (le-of-eq size)) (zero-add need ∙ sym size)
+
+-- Where the places past the used ones hold 0, all are cleared with those.
+clear-used : (used need : ℕ) (store : List ℤ) → used ≤ need → need ≤ length store → T (isZero (drop used (take need store)))
+    → overwrite (zeros used) store ≡ overwrite (zeros need) store
+unfolding overwrite zeros
+clear-used used need store h g z =
+    ap (λ n. zeros used ++ drop n store) (length-zeros used)
+    ∙ ap (λ l. zeros used ++ l) (sym (take-append-drop rest (drop used store)) ∙ ap₂ (λ k l. k ++ l) unused (drop-drop rest used store))
+    ∙ sym (append-assoc (zeros used) (zeros rest) (drop (used + rest) store))
+    ∙ ap₂ (λ k n. k ++ drop n store) (replicate-append-replicate used rest (pos 0) ∙ ap zeros total) (total ∙ sym (length-zeros need))
+  where
+    rest : ℕ
+    rest = need - used
+
+    total : used + rest ≡ need
+    total = add-sub-of-le h
+
+    unused-size : length (drop used (take need store)) ≡ rest
+    unused-size = length-drop used (take need store) ∙ ap (λ n. n - used) (length-take-le need store g)
+
+    unused : take rest (drop used store) ≡ zeros rest
+    unused =
+        sym (drop-take used rest store) ∙ ap (λ n. drop used (take n store)) total ∙ zero-list (drop used (take need store)) z
+        ∙ ap zeros unused-size
+
+zeros-listing : (store : List ℤ) → relationNeed ≤ length store → Listing 0 (overwrite (zeros relationNeed) store)
+unfolding zeros
+zeros-listing store h =
+    record {
+      few = zero-le;
+      within = zeros-within relationNeed store h;
+      unused = subst (λ l. T (isZero l)) (sym (needed-zeros relationNeed store)) (isZero-replicate relationNeed);
+    }
+
+refused-is : (n : ℕ) (d : Bool) (s : State) → n ≢ 0 → refused n ≡ outcomeOf n d s
+unfolding outcomeOf
+refused-is zero d s h = absurd (h refl)
+refused-is (suc n) d s h = refl
+
+refused-outcome : {m : ℕ} {rows relations rows' relations' : List ℤ} {o : Answer.Outcome} {x : Outcome}
+    → Reached m rows relations rows' relations' 121 o x → o .refusal ≢ 0 → refused (o .refusal) ≡ x
+refused-outcome {m} {rows} {relations} {rows'} {relations'} {o} r n =
+    refused-is (o .refusal) (o .done) (stateOf m rows' relations' (o .progress)) n ∙ r .outcome
+
+-- Both stores hold zeros, and the progress is that of a run that has not begun.
+ran-zeros : (m n : ℕ) (rows relations : List ℤ) → n ≢ 0 → m ≤ columnCount → rowNeed m ≤ length rows → relationNeed ≤ length relations
+    → Ran m rows relations (overwrite (zeros (rowNeed m)) rows) (overwrite (zeros relationNeed) relations) (answerOf n (startProgress 0))
+    (refused n)
+unfolding answerFor rowsAfter relationsAfter
+ran-zeros m n rows relations h few rows-long relations-long =
+    record {
+      answer = refl;
+      rows-after = refl;
+      relations-after = refl;
+      reached =
+          record {
+            outcome = sym (refused-is n false (stateOf m rows' relations' (startProgress 0)) h);
+            rows-kept = zeros-kept (rowNeed m) rows rows-long;
+            relations-kept = zeros-kept relationNeed relations relations-long;
+            few-shifts = zero-le;
+            ready =
+                start-ready m 0 rows' relations' few (zeros-within (rowNeed m) rows rows-long) (zeros-listing relations relations-long);
+          };
+    }
+  where
+    rows' : List ℤ
+    rows' = overwrite (zeros (rowNeed m)) rows
+
+    relations' : List ℤ
+    relations' = overwrite (zeros relationNeed) relations
+
+-- The rows and the relations that are listed when the run is refused are cleared.
+pub ran-cleared : {m : ℕ} {rows relations rows₁ relations₁ rows₂ relations₂ : List ℤ} {o o' : Answer.Outcome} {x : Outcome}
+    → Reached m rows relations rows₁ relations₁ 121 o x → o .refusal ≢ 0
+    → rows₂ ≡ paste rows₁ 0 (replicate (rowNeed m) (pos 0)) (rowNeed m)
+    → let used = o .progress .count * 321 in relations₂ ≡ paste relations₁ 0 (replicate used (pos 0)) used
+    → o' ≡ answerOf (o .refusal) (startProgress 0) → Ran m rows relations rows₂ relations₂ o' x
+ran-cleared {m} {rows} {relations} {rows₁} {relations₁} {rows₂} {relations₂} {o} {o'} {x} r n e f g =
+    subst₂ (λ a b. Ran m rows relations a b o' x) (sym rows-zero) (sym relations-zero)
+    (subst₂ (Ran m rows relations (overwrite (zeros (rowNeed m)) rows) (overwrite (zeros relationNeed) relations)) (sym g)
+    (refused-outcome r n)
+    (ran-zeros m (o .refusal) rows relations n (r .ready .unknowns) (long (r .rows-kept) (r .ready .rows-within .long))
+    (long (r .relations-kept) (listing .within .long))))
+  where
+    long : {need : ℕ} {store after : List ℤ} → Kept need store after → need ≤ length after → need ≤ length store
+    long {need} kept h = subst (λ n. need ≤ n) (kept .same-length) h
+
+    rows-zero : rows₂ ≡ overwrite (zeros (rowNeed m)) rows
+    rows-zero = e ∙ cleared-zeros (rowNeed m) rows₁ ∙ zeros-over (rowNeed m) rows (r .rows-kept)
+
+    listing : Listing (o .progress .count) relations₁
+    listing = r .ready .listing
+
+    used : ℕ
+    used = o .progress .count * 321
+
+    relations-zero : relations₂ ≡ overwrite (zeros relationNeed) relations
+    relations-zero =
+        f ∙ cleared-zeros used relations₁
+        ∙ clear-used used relationNeed relations₁ (omega (arith, listing .few)) (listing .within .long) (listing .unused)
+        ∙ zeros-over relationNeed relations (r .relations-kept)
+
+-- The stores were changed before the run.
+pub ran-kept : {m : ℕ} {rows relations rows₁ relations₁ rows₂ relations₂ : List ℤ} {o : Answer.Outcome} {x : Outcome}
+    → Kept (rowNeed m) rows rows₁ → Kept relationNeed relations relations₁ → o .refusal ≢ 0
+    → Ran m rows₁ relations₁ rows₂ relations₂ o x → Ran m rows relations rows₂ relations₂ o x
+unfolding rowsAfter relationsAfter
+ran-kept {m} {rows} {relations} {rows₁} {relations₁} {rows₂} {relations₂} {o} {x} h g n r =
+    record {
+      answer = r .answer;
+      rows-after =
+          r .rows-after
+          ∙ subst (λ y. rowsAfter m y rows₁ ≡ rowsAfter m y rows) (refused-outcome reached n) (zeros-over (rowNeed m) rows h);
+      relations-after =
+          r .relations-after
+          ∙ subst (λ y. relationsAfter y relations₁ ≡ relationsAfter y relations) (refused-outcome reached n)
+          (zeros-over relationNeed relations g);
+      reached =
+          record {
+            outcome = reached .outcome;
+            rows-kept = kept-then h (reached .rows-kept);
+            relations-kept = kept-then g (reached .relations-kept);
+            few-shifts = reached .few-shifts;
+            ready = reached .ready;
+          };
+    }
+  where
+    reached : Reached m rows₁ relations₁ rows₂ relations₂ 121 o x
+    reached = r .reached
