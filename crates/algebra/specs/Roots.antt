@@ -11,7 +11,7 @@
 --   roots-ascending   the members ascend strictly
 --   roots-distinct    so each stands once; ascending-distinct: in any ascending list
 --   place             a member of a list of integers has a place in it
--- (`List·Mem` and `Pairwise` are the kit's membership and "each member is related to every later one".)
+-- (`List·Mem` is the kit's membership; its `Pairwise` relates each member to every later one.)
 use Prim.Native.Nat.{ℕ, zero, suc, _<_}
 use mathlib.Core.Path.{_≡_, refl, ap}
 use mathlib.Core.Logic.{_≢_, ∥∥₁-elim, by-cases}

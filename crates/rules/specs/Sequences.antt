@@ -5,7 +5,7 @@
 --   valueOf l r z n         the sum that an equation makes at n
 --   Satisfies l rows relations z   z satisfies every equation and every relation
 --   Same m z y n            z and y are equal at index n, at the columns of the system
---   Dependent m l rows      a nonzero combination of shifted equations vanishes
+--   Dependent l rows        a nonzero combination of shifted equations vanishes
 use Prim.Native.Nat.{ℕ, zero, suc, _+_, _*_, _≤_, _<_}
 use mathlib.Core.Path.{_≡_}
 use mathlib.Core.Bool.{not}

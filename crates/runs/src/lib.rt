@@ -122,7 +122,7 @@ fn whole_run(
     }
 }
 
-// "6 to 9 leave the needed part zero, the rest unchanged"; a run that accepts has left its output in the stores.
+// Refusals 6 to 9 leave the needed part of each store zero and the rest as it was; a run that accepts has left its output there.
 fn ended(
     rows: &mut [i64],
     relations: &mut [i64],
