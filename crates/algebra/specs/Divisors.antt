@@ -28,7 +28,7 @@ use native.Mathlib.Nat.{le-refl, lt-of-not-le, mul-le-mul, mul-le-mul-left, mul-
 use native.Mathlib.Nat.{∣-prop, dvd-of-mod-eq-zero, mod-eq-zero-of-dvd, pos-of-dvd-of-pos}
 use native.Mathlib.Nat.{mul-div-cancel', div-mul-cancel, div-eq-of-eq-mul-left}
 use Rattle.algebra.specs.Order.{dec-T}
-use Rattle.algebra.specs.Sums.{range, range-bounds, range-member}
+use Rattle.algebra.specs.Sums.{countFrom, countFrom-bounds, countFrom-member}
 
 -- The members of a list that pass a test, in their order.
 unfoldable pub keep : {A : Type 0} → (A → Bool) → List A → List A
@@ -50,9 +50,9 @@ divides d a = eqb (a % d) 0
 
 -- The divisors of a > 0, ascending: those up to the square root, then their cofactors.
 unfoldable pub divisors : ℕ → List ℕ
-unfolding keep sqrt divides range
+unfolding keep sqrt divides countFrom
 divisors a =
-    let low = keep (λ d. divides d a) (range 1 (sqrt a)) in
+    let low = keep (λ d. divides d a) (countFrom 1 (sqrt a)) in
     low ++ map (λ d. a / d) (reverse (keep (λ d. ltb d (a / d)) low))
 
 -- ---- keep: the kit's `filter` by a test
@@ -107,13 +107,14 @@ lt-sqrt n = sqrtWithin-isSqrt n n (le-refl n) .1
 
 -- ---- the numbers a, a + 1, ..
 
-mem-range : (a n : ℕ) {x : ℕ} → List·Mem x (range a n) ↔ ((a ≤ x) × (x < a + n))
-mem-range a n = (λ m. ∥∥₁-elim m (×-prop le-prop le-prop) (range-bounds a n), λ h. ∣ range-member a n (h .0) (h .1) ∣₁)
+mem-countFrom : (a n : ℕ) {x : ℕ} → List·Mem x (countFrom a n) ↔ ((a ≤ x) × (x < a + n))
+mem-countFrom a n =
+    (λ m. ∥∥₁-elim m (×-prop le-prop le-prop) (countFrom-bounds a n), λ h. ∣ countFrom-member a n (h .0) (h .1) ∣₁)
 
-range-ascending : (a n : ℕ) → Pairwise _<_ (range a n)
-unfolding range
-range-ascending a zero = Pairwise·nil
-range-ascending a (suc n) = Pairwise·cons (λ x m. mem-range (suc a) n .0 m .0) (range-ascending (suc a) n)
+countFrom-ascending : (a n : ℕ) → Pairwise _<_ (countFrom a n)
+unfolding countFrom
+countFrom-ascending a zero = Pairwise·nil
+countFrom-ascending a (suc n) = Pairwise·cons (λ x m. mem-countFrom (suc a) n .0 m .0) (countFrom-ascending (suc a) n)
 
 -- ---- divisors
 
@@ -123,7 +124,7 @@ divides-dvd d a = (λ t. dvd-of-mod-eq-zero d (eqb→eq (a % d) 0 t), λ h. rw (
 
 -- The divisors up to the square root, those of them that are below their cofactors, and these cofactors.
 abbrev low : ℕ → List ℕ
-low a = keep (λ d. divides d a) (range 1 (sqrt a))
+low a = keep (λ d. divides d a) (countFrom 1 (sqrt a))
 
 abbrev lower : ℕ → List ℕ
 lower a = keep (λ d. ltb d (a / d)) (low a)
@@ -136,15 +137,17 @@ mem-low a {d} = (from, to)
   where
     from : List·Mem d (low a) → (0 < d) × (d ≤ sqrt a) × (d ∣ a)
     from m =
-        let h = mem-keep (λ e. divides e a) (range 1 (sqrt a)) .0 m in
-        let k = mem-range 1 (sqrt a) .0 (h .0) in
+        let h = mem-keep (λ e. divides e a) (countFrom 1 (sqrt a)) .0 m in
+        let k = mem-countFrom 1 (sqrt a) .0 (h .0) in
         (k .0, omega arith, divides-dvd d a .0 (h .1))
 
     to : (0 < d) × (d ≤ sqrt a) × (d ∣ a) → List·Mem d (low a)
-    to h = mem-keep (λ e. divides e a) (range 1 (sqrt a)) .1 (mem-range 1 (sqrt a) .1 (h .0, omega arith), divides-dvd d a .1 (h .2))
+    to h =
+        mem-keep (λ e. divides e a) (countFrom 1 (sqrt a)) .1
+        (mem-countFrom 1 (sqrt a) .1 (h .0, omega arith), divides-dvd d a .1 (h .2))
 
 low-ascending : (a : ℕ) → Pairwise _<_ (low a)
-low-ascending a = keep-pairwise (λ d. divides d a) (range-ascending 1 (sqrt a))
+low-ascending a = keep-pairwise (λ d. divides d a) (countFrom-ascending 1 (sqrt a))
 
 mem-lower : (a : ℕ) {d : ℕ} → List·Mem d (lower a) ↔ (List·Mem d (low a) × T (ltb d (a / d)))
 mem-lower a = mem-keep (λ d. ltb d (a / d)) (low a)

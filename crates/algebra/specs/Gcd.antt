@@ -58,7 +58,7 @@ divideBy d p = map (λ a. quotZ a (pos d)) p
 abbrev pub DividesAll : ℕ → List ℤ → Type 0
 DividesAll d p = (k : ℕ) → DividesZ d (getD p k (pos 0))
 
--- What "the content of p" means for a polynomial with a nonzero coefficient.
+-- What the content of p is, where p has a nonzero coefficient.
 pub record IsContent (p : List ℤ) (c : ℕ) : Type 0 where
   pub positive : 0 < c
   pub divides : DividesAll c p

@@ -18,7 +18,7 @@
 --                    isZero-negate, isZero-shiftBy, .. carry the test through the operations
 --   T-&&, both-true, same-test   a conjunction of tests passes if both do; tests that pass alike are equal
 --   length-add, length-mul, ..   how many coefficients each operation's result has
---   add-comm, add-assoc, scale-add, ..   laws of sums and multiples as equations of lists
+--   Polynomial·add-comm, Polynomial·add-assoc, scale-add, ..   laws of sums and multiples as equations of lists
 --   mirror-mirror, negate-negate   mirror and negate undo themselves
 --   shiftBy-shiftBy  a shift by b and then by a is the shift by a + b; shiftBy-inverse: by c and by -c undo each other
 use mathlib.Core.Path.{_≡_, refl, sym, _∙_, ap, ap₂, subst}
@@ -365,21 +365,22 @@ unfolding add
 add-nil [] = refl
 add-nil (a ∷ p) = refl
 
-pub add-comm : (p q : Polynomial) → add p q ≡ add q p
+pub Polynomial·add-comm : (p q : Polynomial) → add p q ≡ add q p
 unfolding add
-add-comm [] q = sym (add-nil q)
-add-comm (a ∷ p) [] = refl
-add-comm (a ∷ p) (b ∷ q) = ap₂ _∷_ (+ℤ-comm a b) (add-comm p q)
+Polynomial·add-comm [] q = sym (add-nil q)
+Polynomial·add-comm (a ∷ p) [] = refl
+Polynomial·add-comm (a ∷ p) (b ∷ q) = ap₂ _∷_ (+ℤ-comm a b) (Polynomial·add-comm p q)
 
-pub add-assoc : (p q r : Polynomial) → add (add p q) r ≡ add p (add q r)
+pub Polynomial·add-assoc : (p q r : Polynomial) → add (add p q) r ≡ add p (add q r)
 unfolding add
-add-assoc [] q r = refl
-add-assoc (a ∷ p) [] r = refl
-add-assoc (a ∷ p) (b ∷ q) [] = refl
-add-assoc (a ∷ p) (b ∷ q) (c ∷ r) = ap₂ _∷_ (+ℤ-assoc a b c) (add-assoc p q r)
+Polynomial·add-assoc [] q r = refl
+Polynomial·add-assoc (a ∷ p) [] r = refl
+Polynomial·add-assoc (a ∷ p) (b ∷ q) [] = refl
+Polynomial·add-assoc (a ∷ p) (b ∷ q) (c ∷ r) = ap₂ _∷_ (+ℤ-assoc a b c) (Polynomial·add-assoc p q r)
 
-pub add-left-comm : (p q r : Polynomial) → add p (add q r) ≡ add q (add p r)
-add-left-comm p q r = sym (add-assoc p q r) ∙ ap (λ s. add s r) (add-comm p q) ∙ add-assoc q p r
+pub Polynomial·add-left-comm : (p q r : Polynomial) → add p (add q r) ≡ add q (add p r)
+Polynomial·add-left-comm p q r =
+    sym (Polynomial·add-assoc p q r) ∙ ap (λ s. add s r) (Polynomial·add-comm p q) ∙ Polynomial·add-assoc q p r
 
 pub scale-add : (c : ℤ) (p q : Polynomial) → scale c (add p q) ≡ add (scale c p) (scale c q)
 unfolding scale add
@@ -433,7 +434,7 @@ add-zeros (a ∷ p) (b ∷ q) z h =
 -- ---- shifts, as lists
 
 add-interchange : (p q r s : Polynomial) → add (add p q) (add r s) ≡ add (add p r) (add q s)
-add-interchange p q r s = simp (add-assoc, add-left-comm)
+add-interchange p q r s = simp (Polynomial·add-assoc, Polynomial·add-left-comm)
 
 -- (n + c) s
 timesLinear : ℤ → Polynomial → Polynomial
@@ -452,7 +453,7 @@ timesLinear-scale c d s =
 -- (n + a) s + b s = (n + (a + b)) s
 timesLinear-+ℤ : (a b : ℤ) (s : Polynomial) → add (timesLinear a s) (scale b s) ≡ timesLinear (a +ℤ b) s
 unfolding timesLinear
-timesLinear-+ℤ a b s = add-assoc (pos 0 ∷ s) (scale a s) (scale b s) ∙ ap (add (pos 0 ∷ s)) (sym (+ℤ-scale a b s))
+timesLinear-+ℤ a b s = Polynomial·add-assoc (pos 0 ∷ s) (scale a s) (scale b s) ∙ ap (add (pos 0 ∷ s)) (sym (+ℤ-scale a b s))
 
 -- A step of Horner's rule, a + (n + c) s.
 horner : ℤ → ℤ → Polynomial → Polynomial
@@ -481,7 +482,7 @@ shiftBy-scale c d (a ∷ p) = ap (horner c (d *ℤ a)) (shiftBy-scale c d p) ∙
 
 horner-zero : (c : ℤ) (s : Polynomial) → horner c (pos 0) s ≡ timesLinear c s
 unfolding horner
-horner-zero c s = sym (add-assoc (pos 0 ∷ []) (pos 0 ∷ s) (scale c s))
+horner-zero c s = sym (Polynomial·add-assoc (pos 0 ∷ []) (pos 0 ∷ s) (scale c s))
 
 shiftBy-timesLinear : (b c : ℤ) (s : Polynomial) → shiftBy b (timesLinear c s) ≡ timesLinear (b +ℤ c) (shiftBy b s)
 unfolding timesLinear shiftBy horner

@@ -11,7 +11,7 @@
 --   roots-ascending   the members ascend strictly
 --   roots-distinct    so each stands once; ascending-distinct: in any ascending list
 --   place             a member of a list of integers has a place in it
--- (`List·Mem` and `Pairwise` are the kit's membership and "each member is related to every later one".)
+-- (`List·Mem` is the kit's membership; its `Pairwise` relates each member to every later one.)
 use Prim.Native.Nat.{ℕ, zero, suc, _<_}
 use mathlib.Core.Path.{_≡_, refl, ap}
 use mathlib.Core.Logic.{_≢_, ∥∥₁-elim, by-cases}
@@ -27,7 +27,7 @@ use lib.IntN.{ℤ, pos, negsuc, negℤ, natAbs, _-ℤ_, ℤ-discrete}
 use lib.Signed.{_<ℤ_, <ℤ-irrefl, <ℤ-≤ℤ-trans}
 use native.Mathlib.Nat.{suc-ne-zero}
 use Rattle.algebra.specs.Order.{pos-<ℤ, negℤ-<ℤ, pos-nonneg, <ℤ-prop}
-use Rattle.algebra.specs.Sums.{range}
+use Rattle.algebra.specs.Sums.{countFrom}
 use Rattle.algebra.specs.Polynomials.{Polynomial, eval, isZero, isZeroℤ, lowest, isZeroℤ-iff}
 use Rattle.algebra.specs.Vanishing.{constant-root, lowest-positive, root-divides-lowest}
 use Rattle.algebra.specs.Divisors.{keep, divisors, mem-keep, keep-pairwise, mem-divisors, divisors-positive, divisors-ascending}
@@ -174,7 +174,7 @@ examples =
     (
       pos 0 ∷ negℤ (pos 25401600) ∷ pos 0 ∷ pos 38402064 ∷ pos 0 ∷ negℤ (pos 15291640) ∷ pos 0 ∷ pos 2475473 ∷ pos 0 ∷
           negℤ (pos 191620) ∷ pos 0 ∷ pos 7462 ∷ pos 0 ∷ negℤ (pos 140) ∷ pos 0 ∷ pos 1 ∷ [],
-      map (λ k. pos k -ℤ pos 7) (range 0 15),
+      map (λ k. pos k -ℤ pos 7) (countFrom 0 15),
     ) ∷
     -- a large prime: n + 268435399
     (pos 268435399 ∷ pos 1 ∷ [], negℤ (pos 268435399) ∷ []) ∷
@@ -186,5 +186,5 @@ examples =
     []
 
 roots-examples : map (λ e. roots (e .0)) examples ≡ map (λ e. e .1) examples
-unfolding roots range
+unfolding roots countFrom
 roots-examples = refl

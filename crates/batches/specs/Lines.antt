@@ -25,7 +25,7 @@ use lib.Signed.{nonNeg}
 use Rattle.rules.specs.Numbers.{space, line, lines, decimal, got, fault, field, between}
 use Rattle.rules.specs.Sheets.{always}
 use Rattle.rules.specs.Calls.{overwrite}
-use Rattle.rules.specs.Batch.{count, closing, broken, readSize, readAfterClient, readSheetLine}
+use Rattle.rules.specs.Batch.{countAnswer, closing, broken, readSize, readAfterClient, readSheetLine}
 use Rattle.tokens.specs.Fields.{field-judged, between-zero}
 use Rattle.sheets.specs.WrittenNumbers.{isNumber-decimal}
 use Rattle.writing.specs.Writer.{Put, put-then, put-same, digitsOf}
@@ -129,7 +129,7 @@ text-put l bytes n h e f = λ i. record { bytes = stored i; length = size i }
 module _ (b : Batch) (n : ℕ) where
   stays : countsMore b ≡ false → b ≡ countedOf b n
   unfolding countedOf
-  stays e = sym (ap (λ t. cond t (batchWith (pred (b .left)) (count (numbered n) (tallyOf b))) b) e)
+  stays e = sym (ap (λ t. cond t (batchWith (pred (b .left)) (countAnswer (numbered n) (tallyOf b))) b) e)
 
   pub stays-empty : b .left ≡ 0 → b ≡ countedOf b n
   unfolding countsMore
@@ -148,22 +148,24 @@ module _ (b : Batch) (n : ℕ) where
       ∙ le-ltb (b .refused) 1000 h)
 
   module _ (some : b .left ≢ 0) (few : b .accepted < 1000) (few' : b .refused < 1000) where
-    moves : countedOf b n ≡ batchWith (pred (b .left)) (count (numbered n) (tallyOf b))
+    moves : countedOf b n ≡ batchWith (pred (b .left)) (countAnswer (numbered n) (tallyOf b))
     moves = counted-is b n some few few'
 
     pub counts-accepted : n ≡ 0 → record { left = b .left - 1; accepted = b .accepted + 1; refused = b .refused } ≡ countedOf b n
-    unfolding count numbered tallyOf
+    unfolding countAnswer numbered tallyOf
     counts-accepted z =
         (λ i. record { left = sub-one (b .left) i; accepted = add-one (b .accepted) i; refused = b .refused })
-        ∙ sym (moves ∙ ap (λ n. batchWith (pred (b .left)) (count (numbered n) (tallyOf b))) z)
+        ∙ sym (moves ∙ ap (λ n. batchWith (pred (b .left)) (countAnswer (numbered n) (tallyOf b))) z)
 
     pub counts-refused : n ≢ 0 → record { left = b .left - 1; accepted = b .accepted; refused = b .refused + 1 } ≡ countedOf b n
-    unfolding count numbered tallyOf
+    unfolding countAnswer numbered tallyOf
     counts-refused z =
         (λ i. record { left = sub-one (b .left) i; accepted = b .accepted; refused = add-one (b .refused) i })
         ∙ sym (moves ∙ go n z)
       where
-        go : (n : ℕ) → n ≢ 0 → batchWith (pred (b .left)) (count (numbered n) (tallyOf b)) ≡ record { left = pred (b .left); accepted = b .accepted; refused = suc (b .refused) }
+        go : (n : ℕ) → n ≢ 0
+            → batchWith (pred (b .left)) (countAnswer (numbered n) (tallyOf b))
+            ≡ record { left = pred (b .left); accepted = b .accepted; refused = suc (b .refused) }
         go zero z = absurd (z refl)
         go (suc n) z = refl
 

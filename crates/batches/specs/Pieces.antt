@@ -30,7 +30,8 @@ use lib.IntN.{ℤ, pos, natAbs}
 use Rattle.rules.specs.Calls.{overwrite}
 use Rattle.rules.specs.Numbers.{newline, lines, Read, got, fault, field, between}
 use Rattle.rules.specs.Sheets.{always}
-use Rattle.rules.specs.Batch.{SheetLine as ReadLine, Answer as SheetAnswer, Tally, accepted, refusedWith, count, broken, closing, answerBytes, readSheetLine}
+use Rattle.rules.specs.Batch.{SheetLine as ReadLine, Answer as SheetAnswer, Tally, accepted, refusedWith, countAnswer, broken, closing}
+use Rattle.rules.specs.Batch.{answerBytes, readSheetLine}
 use Rattle.rows.specs.Validity.{first-failed, both-passed}
 use Rattle.batches.specs.declared.Batch.{Batch}
 use Rattle.batches.specs.declared.Begun.{Begun}
@@ -86,9 +87,9 @@ countsMore b = ltb 0 (b .left) && ltb (b .accepted) 1000 && ltb (b .refused) 100
 
 -- One sheet fewer to come, and one answer more; a batch in which no sheet is still to come stays as it is.
 unfoldable pub countedOf : Batch → ℕ → Batch
-unfolding countsMore count numbered tallyOf
+unfolding countsMore countAnswer numbered tallyOf
 countedOf b n =
-    let more = batchWith (pred (b .left)) (count (numbered n) (tallyOf b)) in
+    let more = batchWith (pred (b .left)) (countAnswer (numbered n) (tallyOf b)) in
     cond (countsMore b) more b
 
 -- ---- lines that are written
@@ -191,10 +192,10 @@ line-fault bytes z = go (readSheetLine bytes) refl z
 -- ---- counting and closing
 
 pub counted-is : (b : Batch) (n : ℕ) → b .left ≢ 0 → b .accepted < 1000 → b .refused < 1000
-    → countedOf b n ≡ batchWith (pred (b .left)) (count (numbered n) (tallyOf b))
+    → countedOf b n ≡ batchWith (pred (b .left)) (countAnswer (numbered n) (tallyOf b))
 unfolding countedOf countsMore
 counted-is b n some few few' =
-    ap (λ t. cond t (batchWith (pred (b .left)) (count (numbered n) (tallyOf b))) b)
+    ap (λ t. cond t (batchWith (pred (b .left)) (countAnswer (numbered n) (tallyOf b))) b)
     (sym (both-passed (ltb 0 (b .left)) (ltb (b .accepted) 1000) _ (lt-ltb 0 (b .left) (omega arith)) (lt-ltb (b .accepted) 1000 few))
     ∙ lt-ltb (b .refused) 1000 few')
 
@@ -212,21 +213,21 @@ Counted b = b .left + b .accepted + b .refused ≤ 1000
 
 module _ (b : Batch) (few : Counted b) where
   module _ (some : b .left ≢ 0) (n : ℕ) where
-    counts : countedOf b n ≡ batchWith (pred (b .left)) (count (numbered n) (tallyOf b))
+    counts : countedOf b n ≡ batchWith (pred (b .left)) (countAnswer (numbered n) (tallyOf b))
     counts = counted-is b n some (omega arith) (omega arith)
 
     pub counted-left : countedOf b n .left ≡ pred (b .left)
     counted-left = ap (λ c. c .left) counts
 
-    pub counted-tally : tallyOf (countedOf b n) ≡ count (numbered n) (tallyOf b)
+    pub counted-tally : tallyOf (countedOf b n) ≡ countAnswer (numbered n) (tallyOf b)
     unfolding tallyOf
     counted-tally = ap tallyOf counts
 
     pub counted-few : Counted (countedOf b n)
-    unfolding count numbered tallyOf
+    unfolding countAnswer numbered tallyOf
     counted-few = subst Counted (sym counts) (go n)
       where
-        go : (n : ℕ) → Counted (batchWith (pred (b .left)) (count (numbered n) (tallyOf b)))
+        go : (n : ℕ) → Counted (batchWith (pred (b .left)) (countAnswer (numbered n) (tallyOf b)))
         go zero = let h : pred (b .left) + suc (b .accepted) + b .refused ≤ 1000 = omega arith in h
         go (suc n) = let h : pred (b .left) + b .accepted + suc (b .refused) ≤ 1000 = omega arith in h
 

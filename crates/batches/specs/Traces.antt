@@ -23,7 +23,7 @@ use lib.IntN.{ℤ, natAbs}
 use lib.ListN.{length, take, drop, length-append, take-append-drop}
 use lib.Seq.{drop-append-le, take-at, drop-at, length-take-le}
 use Rattle.rules.specs.Numbers.{newline, got, fault}
-use Rattle.rules.specs.Batch.{mostBytes, SheetLine, Tally, count, answerSheet, answerBytes, broken, closing}
+use Rattle.rules.specs.Batch.{mostBytes, SheetLine, Tally, countAnswer, answerSheet, answerBytes, broken, closing}
 use Rattle.rules.specs.Batch.{readSheetLine, answers, answersAfter, batchOutput}
 use Rattle.batches.specs.declared.Batch.{Batch}
 use Rattle.batches.specs.Windows.{followed, Window, field-window, sheetLine-window}
@@ -75,7 +75,7 @@ answers-fault k y bytes n e = rw e
 abbrev afterLine : ℕ → Tally → ℕ → List ℕ → List ℕ
 afterLine k y size rest =
     let a = answerSheet (take size rest) in
-    answerBytes a ++ answers k (count a y) (drop size rest)
+    answerBytes a ++ answers k (countAnswer a y) (drop size rest)
 
 module _ (k : ℕ) (y : Tally) (bytes : List ℕ) (v : SheetLine) (rest : List ℕ) (e : readSheetLine bytes ≡ got v rest) where
   answers-got : answers (suc k) y bytes ≡ cond (leb (v .bytes) (length rest)) (afterLine k y (v .bytes) rest) broken
@@ -145,13 +145,13 @@ answer-shown sheet store h =
         ap (λ j. refusalLine (suc n) ++ take j l) (z (suc-ne-zero n)) ∙ append-nil (refusalLine (suc n)) ∙ refusal-refused (suc n)
 
 answer-counted : (sheet store : List ℕ) (y : Tally) → mostBytes ≤ length store
-    → count (numbered (answerCall sheet store .refusal)) y ≡ count (answerSheet sheet) y
-unfolding answerBy numbered count
+    → countAnswer (numbered (answerCall sheet store .refusal)) y ≡ countAnswer (answerSheet sheet) y
+unfolding answerBy numbered countAnswer
 answer-counted sheet store y h =
     let c = answerCall sheet store in
-    go (c .refusal) (c .length) (c .store) ∙ ap (λ a. count a y) (answerCall-answer sheet store h)
+    go (c .refusal) (c .length) (c .store) ∙ ap (λ a. countAnswer a y) (answerCall-answer sheet store h)
   where
-    go : (n k : ℕ) (l : List ℕ) → count (numbered n) y ≡ count (answerBy n k l) y
+    go : (n k : ℕ) (l : List ℕ) → countAnswer (numbered n) y ≡ countAnswer (answerBy n k l) y
     go zero k l = refl
     go (suc n) k l = refl
 
@@ -172,13 +172,13 @@ missing b rest w some v z short =
 whole : (b : Batch) (rest w sheet more : List ℕ) → b .left ≢ 0 → Window w rest → lineOf w .refusal ≡ 0
     → drop (lineOf w .taken) rest ≡ sheet ++ more → length sheet ≡ lineOf w .bytes
     → answers (b .left) (tallyOf b) rest
-    ≡ answerBytes (answerSheet sheet) ++ answers (pred (b .left)) (count (answerSheet sheet) (tallyOf b)) more
+    ≡ answerBytes (answerSheet sheet) ++ answers (pred (b .left)) (countAnswer (answerSheet sheet) (tallyOf b)) more
 whole b rest w sheet more some v z split size =
     let (u, e, same) = line-read v z in
     next-answers b rest some
     ∙ answers-whole (pred (b .left)) (tallyOf b) rest u (sheet ++ more) (e ∙ ap (got u) split)
     (rw length-append (omega (arith, size, same)))
-    ∙ ap₂ (λ l r. answerBytes (answerSheet l) ++ answers (pred (b .left)) (count (answerSheet l) (tallyOf b)) r)
+    ∙ ap₂ (λ l r. answerBytes (answerSheet l) ++ answers (pred (b .left)) (countAnswer (answerSheet l) (tallyOf b)) r)
     (take-at sheet more (u .bytes) (size ∙ same)) (drop-at sheet more (u .bytes) (size ∙ same))
 
 pub sheets-output : {b : Batch} {rest output : List ℕ} → Counted b → Sheets b rest output → output ≡ answers (b .left) (tallyOf b) rest

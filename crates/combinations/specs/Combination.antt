@@ -28,7 +28,7 @@ use lib.ListN.{length, take, drop, getD, length-take, length-map}
 use lib.Seq.{ext-getD, getD-take, length-take-le}
 use Rattle.algebra.specs.Integers.{natAbs-+ℤ}
 use Rattle.algebra.specs.Gcd.{content, divideBy, length-divideBy}
-use Rattle.algebra.specs.Sums.{range, sumBelow, length-range, getD-range}
+use Rattle.algebra.specs.Sums.{countFrom, sumBelow, length-countFrom, getD-countFrom}
 use Rattle.algebra.specs.Polynomials.{Polynomial, coeff, isZero, degree, add, mul, same-test, T-&&, isZero-cons, isZero-coeff}
 use Rattle.algebra.specs.Polynomials.{coeff-isZero}
 use Rattle.algebra.specs.Polynomials.{isZero-add, isZero-mul-right, length-add, length-scale}
@@ -103,20 +103,20 @@ trim-part-fits t m n r e w s = trim-fits (take n (drop m t)) r e (rw length-take
 -- ---- the coefficients up to power 15 and those past it
 
 unfoldable pub lowPart : Polynomial → List ℤ
-lowPart p = map (coeff p) (range 0 16)
+lowPart p = map (coeff p) (countFrom 0 16)
 
 pub length-lowPart : (p : Polynomial) → length (lowPart p) ≡ 16
 unfolding lowPart
-length-lowPart p = length-map (range 0 16) (coeff p) ∙ length-range 0 16
+length-lowPart p = length-map (countFrom 0 16) (coeff p) ∙ length-countFrom 0 16
 
 pub lowPart-at : (p : Polynomial) (k : ℕ) → k < 16 → getD (lowPart p) k (pos 0) ≡ coeff p k
 unfolding lowPart
 lowPart-at p k h =
-    getD-map (coeff p) (range 0 16) k 0 (pos 0) (rw length-range h) ∙ ap (coeff p) (getD-range 0 16 k 0 h ∙ zero-add k)
+    getD-map (coeff p) (countFrom 0 16) k 0 (pos 0) (rw length-countFrom h) ∙ ap (coeff p) (getD-countFrom 0 16 k 0 h ∙ zero-add k)
 
 pub lowPart-same : (p q : Polynomial) → Same p q → lowPart p ≡ lowPart q
 unfolding lowPart
-lowPart-same p q s = ap (λ f. map f (range 0 16)) (fun-ext s)
+lowPart-same p q s = ap (λ f. map f (countFrom 0 16)) (fun-ext s)
 
 -- Where there are 16 coefficients, they are these.
 pub lowPart-take : (p : Polynomial) → 16 ≤ length p → lowPart p ≡ take 16 p
@@ -132,7 +132,7 @@ map-zero f h (x ∷ l) = isZero-cons (f x) (map f l) .1 (h x, map-zero f h l)
 
 pub lowPart-zero : (p : Polynomial) → T (isZero p) → T (isZero (lowPart p))
 unfolding lowPart
-lowPart-zero p z = map-zero (coeff p) (isZero-coeff p z) (range 0 16)
+lowPart-zero p z = map-zero (coeff p) (isZero-coeff p z) (countFrom 0 16)
 
 -- No coefficient past power 15 is left.
 pub high-zero : (p : Polynomial) → T (isZero (drop 16 p)) ↔ ((k : ℕ) → 16 ≤ k → coeff p k ≡ pos 0)
@@ -240,7 +240,7 @@ module _ (g h : Polynomial) (short-g : length g ≤ 16) (short-h : length h ≤ 
   low-below (p ∷ ps) [] s t k = lit< tt
   low-below (p ∷ ps) (q ∷ qs) s t k =
       below-append (2 ^ 63) (lowPart (add (mul g p) (mul h q))) (flatten (map lowPart (zipWith (λ p q. add (mul g p) (mul h q)) ps qs)))
-      (below-map (2 ^ 63) (lit< tt) (coeff (add (mul g p) (mul h q))) (coefficient-below p q (s .0) (t .0)) (range 0 16))
+      (below-map (2 ^ 63) (lit< tt) (coeff (add (mul g p) (mul h q))) (coefficient-below p q (s .0) (t .0)) (countFrom 0 16))
       (low-below ps qs (s .1) (t .1)) k
 
 -- ---- combinations of rows

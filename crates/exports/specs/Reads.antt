@@ -32,7 +32,7 @@ use Rattle.sheets.specs.WrittenOrder.{OrderRight, different-cons}
 use Rattle.sheets.specs.ReadBack.{SheetRight, read-right}
 use Rattle.exports.specs.Results.{Exported, kept, resultNeed, onAcceptance, all-padTo}
 
--- "m, l, t, relation count, c(1) to c(4)"
+-- m, l, t, the number of relations, c(1) to c(4).
 unfoldable pub readNumbers : ReadResult → List ℤ
 readNumbers r = pos (r .sizes .m) ∷ r .sizes .l ∷ r .sizes .t ∷ pos (r .relations) ∷ map pos (r .order)
 

@@ -35,7 +35,7 @@ use Rattle.rules.specs.Calls.{reportedOrder}
 use Rattle.rules.specs.Calls.{Result, Call, callRun, overwrite, zeros, refusal, unchanged, cleared, acceptance, afterRun, afterCheck}
 use Rattle.exports.specs.Results.{Exported, kept, resultNeed, none-checked, all-padTo}
 
--- "relation count, shifts, c(1) to c(4), 1 or 0 for a root, the root"
+-- The number of relations, the shifts, c(1) to c(4), 1 or 0 for a root, the root.
 unfoldable pub runNumbers : Result → List ℤ
 runNumbers r =
     pos (r .relations) ∷ pos (r .shifts) ∷ (map pos (r .order) ++ (pos (cond (r .hasRoot) 1 0) ∷ r .root ∷ []))
@@ -198,7 +198,7 @@ module _ (side : Side) (z : Sizes) (count : ℕ) (rowStore relationStore : List 
       by-check (suc n) e = subst (λ c. SmallResult (c .result)) (sym (unchecked n e)) (run-zeros (suc n))
 
   module _ (resultStore : List ℤ) where
-    -- "its length checked with the other lengths, after the sizes"
+    -- The length of the result store is checked with the other lengths, after the sizes.
     pub run-short : length resultStore < resultNeed
         → kept (checkStores z count [] []) rowStore relationStore resultStore
         ≡ exportRun side z count rowStore relationStore resultStore

@@ -22,7 +22,7 @@ use lib.Dec.{T, leb→le}
 use lib.IntN.{ℤ, pos, natAbs, _+ℤ_, _-ℤ_, _*ℤ_, zero-*ℤ, *ℤ-zero}
 use lib.ListN.{length, getD}
 use Rattle.algebra.specs.Integers.{natAbs-*ℤ, -ℤ-zero}
-use Rattle.algebra.specs.Sums.{range, sumBelow, getD-range, sumBelow-last, sumBelow-zeros, sumBelow-extend, natAbs-sumBelow}
+use Rattle.algebra.specs.Sums.{countFrom, sumBelow, getD-countFrom, sumBelow-last, sumBelow-zeros, sumBelow-extend, natAbs-sumBelow}
 use Rattle.algebra.specs.Polynomials.{Polynomial, coeff, shift, isZeroℤ, isZeroℤ-iff, T-&&}
 use Rattle.algebra.specs.Coefficients.{coeff-past-length}
 use Rattle.algebra.specs.Binomials.{binomial, binomial-above, binomial-le, coeff-shift, coeff-shift-size}
@@ -41,12 +41,12 @@ small-coeff p h i = leb→le (natAbs (getD p i (pos 0))) bound (every-getD small
 
 -- ---- the table
 
-every-range : (t : ℕ → Bool) (n : ℕ) → T (every t (range 0 n)) → (i : ℕ) → i < n → T (t i)
-unfolding every range
-every-range t zero e i h = absurd (not-suc-le-zero h)
-every-range t (suc n) e i h =
-    let first = T-&& (t 0) (every t (range 1 n)) .0 e .0 in
-    subst (λ m. T (t m)) (getD-range 0 (suc n) i 0 h ∙ zero-add i) (every-getD t (range 0 (suc n)) 0 first e i)
+every-countFrom : (t : ℕ → Bool) (n : ℕ) → T (every t (countFrom 0 n)) → (i : ℕ) → i < n → T (t i)
+unfolding every countFrom
+every-countFrom t zero e i h = absurd (not-suc-le-zero h)
+every-countFrom t (suc n) e i h =
+    let first = T-&& (t 0) (every t (countFrom 1 n)) .0 e .0 in
+    subst (λ m. T (t m)) (getD-countFrom 0 (suc n) i 0 h ∙ zero-add i) (every-getD t (countFrom 0 (suc n)) 0 first e i)
 
 abbrev entry : List (List ℤ) → ℕ → ℕ → ℤ
 entry table j k = getD (getD table j []) k (pos 0)
@@ -62,16 +62,16 @@ ruledAt table j k = isZeroℤ (entry table j k -ℤ ruled table j k)
 
 -- Do all entries of the 16 rows of 16 numbers follow the rule?
 unfoldable pub followsRule : List (List ℤ) → Bool
-unfolding every range ruledAt ruled isZeroℤ
-followsRule table = every (λ j. every (ruledAt table j) (range 0 16)) (range 0 16)
+unfolding every countFrom ruledAt ruled isZeroℤ
+followsRule table = every (λ j. every (ruledAt table j) (countFrom 0 16)) (countFrom 0 16)
 
 module _ (table : List (List ℤ)) (rule : T (followsRule table)) where
   by-rule : (j k : ℕ) → j < 16 → k < 16 → entry table j k ≡ ruled table j k
   unfolding followsRule ruledAt
   by-rule j k h l =
-      let row = every-range (λ i. every (ruledAt table i) (range 0 16)) 16 rule j h in
+      let row = every-countFrom (λ i. every (ruledAt table i) (countFrom 0 16)) 16 rule j h in
       -ℤ-zero (entry table j k) (ruled table j k)
-      (isZeroℤ-iff (entry table j k -ℤ ruled table j k) .0 (every-range (ruledAt table j) 16 row k l))
+      (isZeroℤ-iff (entry table j k -ℤ ruled table j k) .0 (every-countFrom (ruledAt table j) 16 row k l))
 
   pub pascal-entry : (j k : ℕ) → j < 16 → k < 16 → getD (getD table j []) k (pos 0) ≡ pos (binomial j k)
   unfolding ruled binomial

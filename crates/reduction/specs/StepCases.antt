@@ -1,11 +1,12 @@
 -- The cases of a step: which rule comes next for the row that is worked on.
 --
 -- Main statements
---   step-done              no row is left
---   step-zero              rule 1: a zero row
---   step-met, met-nonzero  rule 2: settled row j meets a nonzero entry, and the entries are not both zero after the exchange
---   step-settled           rule 5: what settling gives
---   step-shift             rule 6
+--   step-done, done-reached   no row is left
+--   step-zero                 rule 1: a zero row
+--   step-met, met-nonzero     rule 2: settled row j meets a nonzero entry, and the entries are not both zero after the exchange
+--   narrowed-ready            after which a step may be made as before it
+--   settled-reached           rule 5: what settling gives
+--   step-shift                rule 6
 use Prim.Native.Nat.{ℕ, zero, suc, _+_, _≤_, _<_, suc-le-suc}
 use native.Mathlib.Nat.{zero-lt-suc, le-of-eq}
 use native.Mathlib.Numerals.{add-one}

@@ -10,7 +10,7 @@
 --   insert-new, insert-old, insert-only       the members are x and those of l
 --   insert-ascending    and they ascend
 --   insert-longer       the list does not get shorter
--- (`List·Memᴰ` and `Pairwise` are the kit's membership and "each member is related to every later one".)
+-- (`List·Memᴰ` is the kit's membership; its `Pairwise` relates each member to every later one.)
 use Prim.Native.Nat.{suc, _≤_, zero-le, suc-le-suc}
 use mathlib.Core.Path.{_≡_, refl, sym, _∙_, ap, ap₂, subst, subst⁻¹}
 use mathlib.Core.Logic.{_⊎_, inl, inr, ⊎-elim}

@@ -58,9 +58,9 @@ pub record Tally : Type 0 where
   pub accepted : ℕ
   pub refused : ℕ
 
-unfoldable pub count : Answer → Tally → Tally
-count (accepted bytes) y = record { accepted = suc (y .accepted); refused = y .refused }
-count (refusedWith n) y = record { accepted = y .accepted; refused = suc (y .refused) }
+unfoldable pub countAnswer : Answer → Tally → Tally
+countAnswer (accepted bytes) y = record { accepted = suc (y .accepted); refused = y .refused }
+countAnswer (refusedWith n) y = record { accepted = y .accepted; refused = suc (y .refused) }
 
 -- "A batch line broken or out of range, or bytes missing or left over, writes 3 and ends the run without that last line."
 unfoldable pub broken : List ℕ
@@ -98,14 +98,14 @@ readSheetLine bytes = readAfterClient (readClient bytes)
 
 -- The answers to k sheets and what comes after them.
 unfoldable pub answers : ℕ → Tally → List ℕ → List ℕ
-unfolding closing broken count answerBytes answerSheet readSheetLine
+unfolding closing broken countAnswer answerBytes answerSheet readSheetLine
 answers zero y bytes = closing y bytes
 answers (suc k) y bytes = afterLine (readSheetLine bytes) (answers k)
   where
     whole : ℕ → List ℕ → (Tally → List ℕ → List ℕ) → List ℕ
     whole size rest more =
         let answer = answerSheet (take size rest) in
-        answerBytes answer ++ more (count answer y) (drop size rest)
+        answerBytes answer ++ more (countAnswer answer y) (drop size rest)
 
     afterLine : Read SheetLine → (Tally → List ℕ → List ℕ) → List ℕ
     afterLine (fault n) more = broken

@@ -66,12 +66,12 @@ overwrite part store = part ++ drop (length part) store
 unfoldable pub zeros : ℕ → List ℤ
 zeros n = replicate n (pos 0)
 
--- "Refusals 1 to 5 leave lent stores unchanged"
+-- Refusals 1 to 5: "found before the work begins, stores are unchanged".
 unfoldable pub unchanged : ℕ → List ℤ → List ℤ → Call
 unfolding refusal
 unchanged n rowStore relationStore = record { result = refusal n; rowStore = rowStore; relationStore = relationStore }
 
--- "6 to 9 leave the needed part zero, the rest unchanged"
+-- Refusals 6 to 9: "found during it, the needed part of each store that the call may write is zero". The rest stays.
 unfoldable pub cleared : ℕ → ℕ → List ℤ → List ℤ → Call
 unfolding refusal overwrite zeros rowNeed
 cleared n m rowStore relationStore =

@@ -1,11 +1,13 @@
 -- The limits of document 01, "Systems and sequences" and "Sheets".
 --
 -- Main definitions
---   bound             C = 268,435,455: "every coefficient within ±C", "|n0| ≤ C"
---   coefficients      16 coefficients a polynomial: "of degree at most 15"
---   columns, blocks   four columns a block, five blocks a row: "m unknowns (1 to 4)", "D = l - t is 0 to 4"
---   mostRelations     "There are at most 16 relations."
---   small a           is |a| ≤ C?
+--   bound                      C = 268,435,455: "every coefficient within ±C", "|n0| ≤ C"
+--   coefficientCount           16 coefficients a polynomial: "of degree at most 15"
+--   columnCount, blockCount    four columns a block, five blocks a row: "m unknowns (1 to 4)", "D = l - t is 0 to 4"
+--   rowLength, relationLength  the numbers of a row, and of a relation
+--   mostRelations              "There are at most 16 relations."
+--   blockBound                 the largest block in size
+--   small a                    is |a| ≤ C?
 use Prim.Native.Nat.{ℕ, _*_}
 use mathlib.Core.Bool.{Bool}
 use lib.Dec.{leb}

@@ -5,7 +5,7 @@
 --   valueOf l r z n         the sum that an equation makes at n
 --   Satisfies l rows relations z   z satisfies every equation and every relation
 --   Same m z y n            z and y are equal at index n, at the columns of the system
---   Dependent m l rows      a nonzero combination of shifted equations vanishes
+--   Dependent l rows        a nonzero combination of shifted equations vanishes
 use Prim.Native.Nat.{ℕ, zero, suc, _+_, _*_, _≤_, _<_}
 use mathlib.Core.Path.{_≡_}
 use mathlib.Core.Bool.{not}
@@ -13,7 +13,7 @@ use mathlib.Core.List.{List, [], _∷_, _++_, map}
 use lib.Dec.{T}
 use lib.ListN.{getD, length}
 use lib.IntN.{ℤ, pos, negsuc, natAbs, predℤ, _+ℤ_, _-ℤ_, _*ℤ_}
-use Rattle.algebra.specs.Sums.{range}
+use Rattle.algebra.specs.Sums.{countFrom}
 use Rattle.algebra.specs.Polynomials.{Polynomial, eval, isZero, add, mul, shiftBy}
 use Rattle.rules.specs.Rows.{Block, Row, Relation, noRow, All}
 
@@ -78,14 +78,14 @@ addAll f (x ∷ l) = add (f x) (addAll f l)
 
 -- The shifts from -N to N.
 unfoldable pub shiftsWithin : ℕ → List ℤ
-unfolding range
-shiftsWithin N = map (λ j. pos j -ℤ pos N) (range 0 (suc (N + N)))
+unfolding countFrom
+shiftsWithin N = map (λ j. pos j -ℤ pos N) (countFrom 0 (suc (N + N)))
 
 -- The combination at block s and column c: the sum over equations i and shifts k of S i k × (equation i shifted by k).
 unfoldable pub combinationAt : ℤ → List Row → ℕ → (ℕ → ℤ → Polynomial) → ℤ → ℕ → Polynomial
-unfolding addAll range shiftsWithin mul copyAt
+unfolding addAll countFrom shiftsWithin mul copyAt
 combinationAt l rows N S s c =
-    addAll (λ i. addAll (λ k. mul (S i k) (copyAt l (getD rows i noRow) k s c)) (shiftsWithin N)) (range 0 (length rows))
+    addAll (λ i. addAll (λ k. mul (S i k) (copyAt l (getD rows i noRow) k s c)) (shiftsWithin N)) (countFrom 0 (length rows))
 
 -- "Dependent means that a nonzero combination of shifted equations vanishes: finitely many shifted copies of the input's
 -- equations, each equation number at each shift taken once, with integer polynomial multipliers of any degree, not all

@@ -4,7 +4,7 @@
 --   OrderRight m order     no column order, or a permutation of 1..m
 --
 -- Main statements
---   Columns-none           columns of which each is judged by those before it are different columns
+--   different-cons         when columns are different with one more before them
 --   order-exact            the reader of the order line reads what is written of right orders, and nothing else
 use Prim.Native.Nat.{ℕ, suc, _^_, _≤_, _<_}
 use native.Mathlib.Nat.{suc-ne-zero}

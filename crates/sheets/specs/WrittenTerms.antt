@@ -6,9 +6,9 @@
 --   TermRight, Ordered       a term that may stand after another one, and terms of which each may stand after that before it
 --
 -- Main statements
---   judge-zero and the laws after it         what the judgements of numbers ask
+--   between-iff, judgeSmall-iff, judgeLast-iff, judgeBlock-iff, judgeColumn-iff   what the judgements of numbers ask
 --   line-parted, parted-append               a line is parted numbers, and so are several parts of a line together
---   coefficients-exact, term-exact, terms-exact
+--   coefficients-exact, term-exact, terms-exact   their readers read what is written of them, and nothing else
 use Prim.Native.Nat.{ℕ, zero, suc, _^_, _≤_, _<_, zero-le, suc-le-suc}
 use native.Mathlib.Nat.{not-suc-le-zero, suc-ne-zero}
 use native.Mathlib.Omega.{arith}

@@ -1,7 +1,7 @@
 -- Relations listed in the relation store, one for each root, all with the same row.
 --
 -- Main definitions
---   relationsAt r l            the relations "r at n0", n0 in l
+--   relationsAt r l            the relations of row r, one at each n0 in l
 --   Relisted count row l a b   the relation store b is the store a with those relations listed past the first `count`
 --
 -- Main statements

@@ -13,7 +13,7 @@ ghost use Rattle.roots.specs.RootSearch.{held};
 ghost use Rattle.sides.specs.Lent.{sideOf, Listing};
 ghost use Rattle.sides.specs.Relations.{Relisted};
 
-// The relation "row at n0" at place k of the store.
+// The relation of the row at n0, at place k of the store.
 pub fn save_relation(relations: &mut [i64], k: usize, n0: i64, row: [i64; 320])
     requires { ⌜ k * 321 + 321 ≤ length (now relations) ⌝ }
     ensures { λ _. ⌜ now (relations .exit) ≡ paste (now (relations .entry)) (k * 321) (n0 ∷ row) 321 ⌝ }

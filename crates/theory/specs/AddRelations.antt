@@ -24,7 +24,7 @@ added-satisfied l z rows relations added =
     let parts = all-append (SatisfiesRelation l z) relations added in
     (λ s. ((s .0, parts .0 (s .1) .0), parts .0 (s .1) .1), λ s. (s .0 .0, parts .1 (s .0 .1, s .1)))
 
--- ---- the relations of rule 3: "row r at n0" for every integer root n0 of g
+-- ---- the relations of rule 3: row r at n0, for every integer root n0 of g
 
 -- The order in which the roots are listed does not count.
 listed-all : (P : ℤ → Type 0) (side : Side) (l : List ℤ) → All P (listing side l) ↔ All P l

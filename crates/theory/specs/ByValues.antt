@@ -18,7 +18,8 @@ use lib.Dec.{T}
 use lib.ListN.{length, getD, List·getD-eq-default, List·getD-map}
 use lib.IntN.{ℤ, pos, negsuc, negℤ, natAbs, _+ℤ_, _-ℤ_, _*ℤ_, +ℤ-idl, +ℤ-assoc, +ℤ-comm, *ℤ-zero, *ℤ-comm, +ℤ-negℤ-cancel}
 use Rattle.algebra.specs.Integers.{ringℤ}
-use Rattle.algebra.specs.Sums.{range, sum, sum-congr, sumBelow, sumBelow-congr, sumBelow-append, sumBelow-extend, sumBelow-zeros}
+use Rattle.algebra.specs.Sums.{countFrom, sumOver, sumOver-congr}
+use Rattle.algebra.specs.Sums.{sumBelow, sumBelow-congr, sumBelow-append, sumBelow-extend, sumBelow-zeros}
 use Rattle.algebra.specs.Polynomials.{Polynomial, eval, isZero, mul, shiftBy, eval-add, eval-mul, eval-shiftBy, eval-isZero}
 use Rattle.algebra.specs.Vanishing.{zero-everywhere}
 use Rattle.rules.specs.Rows.{Block, Row, noRow}
@@ -149,8 +150,8 @@ columns-bounded rows i q =
 abbrev pub rowValues : ℤ → List Row → Values
 rowValues l rows z i n = valueOf l (getD rows i noRow) z n
 
-eval-addAll : {A : Type 0} (f : A → Polynomial) (l : List A) (x : ℤ) → eval (addAll f l) x ≡ sum (λ a. eval (f a) x) l
-unfolding addAll sum
+eval-addAll : {A : Type 0} (f : A → Polynomial) (l : List A) (x : ℤ) → eval (addAll f l) x ≡ sumOver (λ a. eval (f a) x) l
+unfolding addAll sumOver
 eval-addAll f [] x = eval-nil x
 eval-addAll f (a ∷ l) x = eval-add (f a) (addAll f l) x ∙ ap (λ s. eval (f a) x +ℤ s) (eval-addAll f l x)
 
@@ -159,7 +160,7 @@ combinationTerm : ℤ → List Row → Multiplier → ℤ → ℕ → ℕ → �
 combinationTerm l rows S s c i k = mul (S i k) (shiftBy k (polynomialAt l (getD rows i noRow) (s -ℤ k) c))
 
 combinationAt-law : (l : ℤ) (rows : List Row) (N : ℕ) (S : Multiplier) (s : ℤ) (c : ℕ)
-    → combinationAt l rows N S s c ≡ addAll (λ i. addAll (combinationTerm l rows S s c i) (shiftsWithin N)) (range 0 (length rows))
+    → combinationAt l rows N S s c ≡ addAll (λ i. addAll (combinationTerm l rows S s c i) (shiftsWithin N)) (countFrom 0 (length rows))
 unfolding combinationAt combinationTerm
 combinationAt-law l rows N S s c = refl
 
@@ -183,9 +184,9 @@ pub eval-combination : (l : ℤ) (rows : List Row) (N : ℕ) (S : Multiplier) (s
     → eval (combinationAt l rows N S s c) x ≡ combinationValue (length rows) (rowValues l rows) N S (delta (x +ℤ s) c) x
 unfolding combinationValue copies sumBelow sumWithin
 eval-combination l rows N S s c x =
-    ap (λ p. eval p x) (combinationAt-law l rows N S s c) ∙ eval-addAll _ (range 0 (length rows)) x
-    ∙ sum-congr _ _ (λ i. eval-addAll _ (shiftsWithin N) x ∙ sum-congr _ _ (eval-term l rows S s c x i) (shiftsWithin N))
-    (range 0 (length rows))
+    ap (λ p. eval p x) (combinationAt-law l rows N S s c) ∙ eval-addAll _ (countFrom 0 (length rows)) x
+    ∙ sumOver-congr _ _ (λ i. eval-addAll _ (shiftsWithin N) x ∙ sumOver-congr _ _ (eval-term l rows S s c x i) (shiftsWithin N))
+    (countFrom 0 (length rows))
 
 module _ (l : ℤ) (rows : List Row) where
   -- Any sequence is a sum of such sequences, as far as finitely many shifted rows reach.

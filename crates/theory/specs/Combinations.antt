@@ -27,8 +27,8 @@ use lib.IntN.{ℤ, pos, negsuc, negℤ, natAbs, _+ℤ_, _-ℤ_, _*ℤ_, +ℤ-idl
 use lib.IntN.{negℤ-+ℤ, -ℤ-+ℤ-cancel}
 use Rattle.algebra.specs.Integers.{ringℤ, natAbs-negℤ, natAbs-+ℤ}
 use Rattle.algebra.specs.Order.{≤ℤ-witness, ≤ℤ-intro, natAbs-≤-iff}
-use Rattle.algebra.specs.Sums.{range, sum, sum-map, sum-+ℤ, sum-*ℤ, sum-zero, sum-congr, sum-exchange, sumBelow, sumBelow-congr}
-use Rattle.algebra.specs.Sums.{sumBelow-+ℤ, sumBelow-*ℤ, sumBelow-exchange, sumBelow-front, sumBelow-last, sumBelow-single}
+use Rattle.algebra.specs.Sums.{countFrom, sumOver, sumOver-map, sumOver-+ℤ, sumOver-*ℤ, sumOver-zero, sumOver-congr, sumOver-exchange}
+use Rattle.algebra.specs.Sums.{sumBelow, sumBelow-congr, sumBelow-+ℤ, sumBelow-*ℤ, sumBelow-exchange, sumBelow-front, sumBelow-last, sumBelow-single}
 use Rattle.algebra.specs.Polynomials.{Polynomial, eval, isZero, isZero-cons}
 use Rattle.rules.specs.Sequences.{Sequence, shiftsWithin}
 
@@ -92,11 +92,11 @@ sumBelow-pair m i j f g p q n two others =
 -- ---- sums over the shifts from -N to N
 
 unfoldable pub sumWithin : ℕ → (ℤ → ℤ) → ℤ
-sumWithin N f = sum f (shiftsWithin N)
+sumWithin N f = sumOver f (shiftsWithin N)
 
 pub sumWithin-below : (N : ℕ) (f : ℤ → ℤ) → sumWithin N f ≡ sumBelow (suc (N + N)) (λ j. f (pos j -ℤ pos N))
 unfolding sumWithin shiftsWithin sumBelow
-sumWithin-below N f = sum-map f (λ j. pos j -ℤ pos N) (range 0 (suc (N + N)))
+sumWithin-below N f = sumOver-map f (λ j. pos j -ℤ pos N) (countFrom 0 (suc (N + N)))
 
 pub cancel-common : (a b c : ℤ) → a +ℤ c -ℤ (b +ℤ c) ≡ a -ℤ b
 cancel-common a b c = regroup ∙ ap (λ d. a -ℤ b +ℤ d) (+ℤ-invr c) ∙ +ℤ-idr (a -ℤ b)
@@ -155,15 +155,15 @@ sumWithin-congr N {f} {g} h =
 
 pub sumWithin-+ℤ : (N : ℕ) (f g : ℤ → ℤ) → sumWithin N (λ k. f k +ℤ g k) ≡ sumWithin N f +ℤ sumWithin N g
 unfolding sumWithin
-sumWithin-+ℤ N f g = sum-+ℤ f g (shiftsWithin N)
+sumWithin-+ℤ N f g = sumOver-+ℤ f g (shiftsWithin N)
 
 pub sumWithin-*ℤ : (N : ℕ) (c : ℤ) (f : ℤ → ℤ) → sumWithin N (λ k. c *ℤ f k) ≡ c *ℤ sumWithin N f
 unfolding sumWithin
-sumWithin-*ℤ N c f = sum-*ℤ c f (shiftsWithin N)
+sumWithin-*ℤ N c f = sumOver-*ℤ c f (shiftsWithin N)
 
 pub sumWithin-zeros : (N : ℕ) (f : ℤ → ℤ) → ((k : ℤ) → natAbs k ≤ N → f k ≡ pos 0) → sumWithin N f ≡ pos 0
 unfolding sumWithin
-sumWithin-zeros N f h = sumWithin-congr N h ∙ sum-zero (shiftsWithin N)
+sumWithin-zeros N f h = sumWithin-congr N h ∙ sumOver-zero (shiftsWithin N)
 
 -- Terms past the reach that are zero may be added.
 sumWithin-grow : (N : ℕ) (f : ℤ → ℤ) → ((k : ℤ) → N < natAbs k → f k ≡ pos 0) → sumWithin (suc N) f ≡ sumWithin N f
@@ -256,8 +256,8 @@ module _ (m N : ℕ) (S : Multiplier) (z : Sequence) (x : ℤ) where
     where
       inside : (i : ℕ) → copies (λ _ i y. sumBelow n (λ q. f q i y)) N S z x i ≡ sumBelow n (λ q. copies (λ _. f q) N S z x i)
       inside i =
-          sum-congr _ _ (λ k. sym (sumBelow-*ℤ n (eval (S i k) x) (λ q. f q i (x +ℤ k)))) (shiftsWithin N)
-          ∙ sum-exchange (λ k q. eval (S i k) x *ℤ f q i (x +ℤ k)) (shiftsWithin N) (range 0 n)
+          sumOver-congr _ _ (λ k. sym (sumBelow-*ℤ n (eval (S i k) x) (λ q. f q i (x +ℤ k)))) (shiftsWithin N)
+          ∙ sumOver-exchange (λ k q. eval (S i k) x *ℤ f q i (x +ℤ k)) (shiftsWithin N) (countFrom 0 n)
 
   pub combination-scale : (c : ℤ) (f : ℕ → ℤ → ℤ)
       → combinationValue m (λ _ i y. c *ℤ f i y) N S z x ≡ c *ℤ combinationValue m (λ _. f) N S z x

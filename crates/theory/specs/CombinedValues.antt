@@ -13,7 +13,7 @@ use lib.Dec.{T, T-not, not-T}
 use lib.IntN.{ℤ, pos, negℤ, natAbs, _+ℤ_, _-ℤ_, _*ℤ_, ℤ-discrete, +ℤ-idr, *ℤ-zero, *ℤ-comm, +ℤ-negℤ-cancel}
 use Rattle.algebra.specs.Integers.{ringℤ, *ℤ-assoc}
 use Rattle.algebra.specs.Order.{dec-T}
-use Rattle.algebra.specs.Sums.{range-member, sumBelow-*ℤ}
+use Rattle.algebra.specs.Sums.{countFrom-member, sumBelow-*ℤ}
 use Rattle.algebra.specs.Polynomials.{Polynomial, coeff, eval, isZero, add, mul, negate, shiftBy, eval-add, eval-mul, eval-negate}
 use Rattle.algebra.specs.Polynomials.{eval-shiftBy, isZero-coeff, coeff-isZero, isZero-mul-left, isZero-shiftBy}
 use Rattle.algebra.specs.Coefficients.{coeff-add, mul-nonzero}
@@ -212,7 +212,7 @@ within-member : (N : ℕ) (k : ℤ) → natAbs k ≤ N → List·Memᴰ k (shift
 unfolding shiftsWithin
 within-member N k h =
     let (j, below, e) = place-of N k h in
-    Memᴰ·cast (sym e) (Memᴰ·map (λ j. pos j -ℤ pos N) (range-member 0 (suc (N + N)) (omega arith) (omega arith)))
+    Memᴰ·cast (sym e) (Memᴰ·map (λ j. pos j -ℤ pos N) (countFrom-member 0 (suc (N + N)) (omega arith) (omega arith)))
 
 -- d times the new equation i is g times the old one plus h times equation j.
 module _ (m i j : ℕ) (E E' : Values) (i-below : i < m) (j-below : j < m) (apart : i ≢ j)

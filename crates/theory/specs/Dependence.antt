@@ -89,7 +89,7 @@ module _ (l : ℤ) where
   zero-current-dependent s below zeros = zero-row-dependent l (s .rows) (current s) below zeros
 
   module _ (side : Side) (k : ℕ) (s : State) (shaped : StateShaped s) (t : Triangular s) where
-    -- "refusal 6: dependent"
+    -- Refusal 6: "dependent".
     pub refused-dependent : run side k s ≡ refused 6 → Dependent l (s .rows)
     refused-dependent e =
         let (j, u, c, f) = run-refused side k s 6 e in

@@ -12,7 +12,7 @@
 --   stepped-shapes, chain-shapes  steps keep the shapes
 --   rowRight-iff, relationRight-iff   what the checks of a row and of a relation test
 --   stepped-right                 a step keeps the numbers right
---   stepped-valid, valid-kept     the output of a run is a valid system: "an output is a valid input"
+--   stepped-valid, valid-kept     the output of a run is a valid system, as its input was
 use mathlib.Core.Path.{_≡_, refl, sym, _∙_, subst}
 use mathlib.Core.Logic.{_↔_}
 use Prim.Native.Nat.{ℕ, _≤_, _<_, zero-le}

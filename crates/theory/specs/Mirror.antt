@@ -29,7 +29,7 @@ use lib.IntN.{predℤ-+ℤ, suc-pred, -ℤ-one, -ℤ-+ℤ-cancel}
 use lib.Signed.{_≤ℤ_}
 use Rattle.algebra.specs.Integers.{+ℤ-left-comm, natAbs-negℤ}
 use Rattle.algebra.specs.Order.{≤ℤ-difference, negℤ-≤ℤ, pos-≤ℤ, pos-natAbs-nonneg}
-use Rattle.algebra.specs.Sums.{sum-congr, sumBelow-congr, sumBelow-reverse}
+use Rattle.algebra.specs.Sums.{sumOver-congr, sumBelow-congr, sumBelow-reverse}
 use Rattle.algebra.specs.Polynomials.{Polynomial, eval, isZero, negate, mirror, mirror-mirror, isZero-mirror, eval-mirror}
 use Rattle.rules.specs.Limits.{bound, coefficientCount, columnCount, blockCount, small}
 use Rattle.rules.specs.Rows.{Block, Row, Relation, noRow, All, every, mapRow, smallRow, zeroBlock, leadingBlock, entry, mirrorRow}
@@ -529,7 +529,7 @@ module _ (m : ℕ) (E E' : Values) (mirrored : (z : Sequence) (i : ℕ) (n : ℤ
       → copies E' N (mirrorMultipliers S) z x i ≡ copies E N S (reflect z) (negℤ x) i
   unfolding copies mirrorMultipliers sumWithin
   copies-mirror N S z x i h =
-      sum-congr (λ k. eval (mirror (S i (negℤ k))) x *ℤ E' z i (x +ℤ k)) (λ k. f (negℤ k)) one (shiftsWithin N) ∙ sumWithin-reflect N f
+      sumOver-congr (λ k. eval (mirror (S i (negℤ k))) x *ℤ E' z i (x +ℤ k)) (λ k. f (negℤ k)) one (shiftsWithin N) ∙ sumWithin-reflect N f
     where
       f : ℤ → ℤ
       f k = eval (S i k) (negℤ x) *ℤ E (reflect z) i (negℤ x +ℤ k)

@@ -84,7 +84,7 @@ further-chosen trailing a b = cases (leZ a b) leZ-yes leZ-no
     cases true h k = record { among = inl refl; first = ≤ℤ-refl a; second = h tt }
     cases false h k = record { among = inr refl; first = k tt; second = ≤ℤ-refl b }
 
--- What "the furthest member of l" says of an optional number.
+-- An optional number is the furthest member of l, or none where l is empty.
 Furthest : Side → List ℤ → Option ℤ → Type 0
 Furthest side l none = l ≡ []
 Furthest side l (some r) = List·Memᴰ r l × ((a : ℤ) → List·Memᴰ a l → NoFurther side a r)

@@ -83,7 +83,7 @@ module _ (l : ℤ) (z : Sequence) where
       (sym (limitCoefficients-within (shiftUp (rowAt s (current s))) r e .1))
       (shiftUp-satisfied l (s .rows) (current s) below (shifted-zeros s f) z (s .relations))
 
-  -- "Same sequences": a step keeps the sequences that satisfy the rows and the relations.
+  -- A step keeps the sequences that satisfy the rows and the relations.
   pub stepped-solutions : {side : Side} {s s′ : State} → StateShaped s → Triangular s → Stepped side s s′
       → Satisfies l (s .rows) (s .relations) z ↔ Satisfies l (s′ .rows) (s′ .relations) z
   unfolding putRow settle countShift

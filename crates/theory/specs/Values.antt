@@ -22,7 +22,7 @@ use lib.IntN.{ℤ, pos, negsuc, negℤ, natAbs, predℤ, _+ℤ_, _-ℤ_, _*ℤ_,
 use lib.IntN.{zero-*ℤ}
 use Rattle.algebra.specs.Integers.{ringℤ, one-*ℤ, *ℤ-+ℤ, -ℤ-zero}
 use Rattle.algebra.specs.Polynomials.{Polynomial, eval, isZero, isZeroℤ, eval-isZero, isZeroℤ-iff, T-&&}
-use Rattle.algebra.specs.Sums.{sum, range, sumBelow, sumBelow-front, sumBelow-congr, sumBelow-zeros}
+use Rattle.algebra.specs.Sums.{sumOver, countFrom, sumBelow, sumBelow-front, sumBelow-congr, sumBelow-zeros}
 use Rattle.rules.specs.Rows.{Block, Row, All, every, mapRow, zeroBlock, zeroRow}
 use Rattle.rules.specs.Stores.{unusedZero}
 use Rattle.rules.specs.Sequences.{Sequence, blockValue, blocksValue, valueOf, Same, blockFrom, polynomialAt}
@@ -110,7 +110,7 @@ index-below k j = predℤ-+ℤ k (negℤ (pos j)) ∙ sym (ap (λ x. k +ℤ x) (
 
 pub blocksValue-sum : (n : ℤ) (z : Sequence) (k : ℤ) (bs : List Block)
     → blocksValue n z k bs ≡ sumBelow (length bs) (λ j. blockValue n (z (k -ℤ pos j)) (getD bs j []))
-unfolding blocksValue sumBelow sum range
+unfolding blocksValue sumBelow sumOver countFrom
 blocksValue-sum n z k [] = refl
 blocksValue-sum n z k (b ∷ bs) =
     ap₂ (λ i s. blockValue n (z i) b +ℤ s) (sym (+ℤ-idr k))
