@@ -2,8 +2,10 @@
 
 pub mod batches;
 pub mod cases;
+pub mod clients;
 pub mod fast;
 pub mod judge;
+pub mod pieces;
 pub mod random;
 pub mod sheets;
 pub mod subject;

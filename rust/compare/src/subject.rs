@@ -6,7 +6,7 @@ use outside::stores::{read_on_stores, run_on_stores, write_on_stores, Asked};
 use std::env;
 use std::io::{Read, Write};
 use std::path::{Path, PathBuf};
-use std::process::{Command, Stdio};
+use std::process::{ChildStdin, Command, Stdio};
 
 /// The calls on stores and the batch program, with the arguments of the exported functions.
 pub trait Subject {
@@ -129,14 +129,20 @@ impl Subject for Library {
     }
 }
 
-/// What a program writes on an input. One that ends by a signal has that said after its output.
-pub fn output_of(mut command: Command, input: &[u8]) -> Vec<u8> {
+/// What a program writes on an input.
+pub fn output_of(command: Command, input: &[u8]) -> Vec<u8> {
+    // A program that ends at a broken line leaves the rest of its input unread.
+    output_fed(command, |mut stdin, _| drop(stdin.write_all(input)))
+}
+
+/// What a program writes whose input comes from `feed`, which also gets the program's process number. A program that ends by a signal
+/// has that said after its output.
+pub fn output_fed(mut command: Command, feed: impl FnOnce(ChildStdin, u32) + Send) -> Vec<u8> {
     let mut child = command.stdin(Stdio::piped()).stdout(Stdio::piped()).spawn().expect("the program starts");
-    let mut stdin = child.stdin.take().expect("a pipe");
+    let (stdin, number) = (child.stdin.take().expect("a pipe"), child.id());
     let mut output = Vec::new();
     std::thread::scope(|scope| {
-        // A program that ends at a broken line leaves the rest of its input unread.
-        scope.spawn(move || stdin.write_all(input).ok());
+        scope.spawn(move || feed(stdin, number));
         child.stdout.take().expect("a pipe").read_to_end(&mut output).expect("the output is read");
     });
     let status = child.wait().expect("the program ends");

@@ -1,19 +1,20 @@
-//! Every vector of the folder that WURGALM_VECTORS names; nothing is done without it.
+//! Every vector of the folder that WURGALM_VECTORS names. The tests are left out unless they are asked for by
+//! `-- --include-ignored`, and fail where no folder is named.
 
 use outside::elimination::{run, Side};
 use outside::sheet::{read, write, Sheet};
 use std::path::PathBuf;
 use std::{env, fs};
 
-fn folder() -> Option<PathBuf> {
-    env::var_os("WURGALM_VECTORS").map(PathBuf::from)
+fn folder() -> PathBuf {
+    env::var_os("WURGALM_VECTORS").expect("WURGALM_VECTORS names a folder").into()
 }
 
 #[test]
+#[ignore = "needs a folder of vectors"]
 fn batches() {
-    let Some(folder) = folder() else { return };
     let mut count = 0;
-    for file in fs::read_dir(folder).unwrap() {
+    for file in fs::read_dir(folder()).unwrap() {
         let path = file.unwrap().path();
         if path.extension().is_some_and(|e| e == "in") {
             let expected = fs::read(path.with_extension("out")).unwrap();
@@ -41,9 +42,9 @@ fn trailing_text(bytes: &[u8]) -> Vec<u8> {
 }
 
 #[test]
+#[ignore = "needs a folder of vectors"]
 fn trailing() {
-    let Some(folder) = folder() else { return };
-    let all = fs::read(folder.join("trailing.txt")).unwrap();
+    let all = fs::read(folder().join("trailing.txt")).unwrap();
     let mut rest = &all[..];
     let mut count = 0;
     while !rest.is_empty() {

@@ -1,10 +1,13 @@
 //! The proved library and program against the outside implementation: every answer, every number of every store, every byte. A
 //! difference is printed with its sheet, and the exit code is then 1.
 
-use compare::cases::Kind;
+use compare::cases::{text, Kind};
+use compare::clients::{unwritten, waiting};
 use compare::judge::judge;
+use compare::pieces;
 use compare::subject::{Library, Outside, Subject};
 use compare::tally::{print_refusals, Tally};
+use std::process::Command;
 use std::time::Instant;
 
 /// How many cases of each kind.
@@ -12,6 +15,9 @@ const CASES: [(Kind, usize); 5] =
     [(Kind::Leading, 20_000), (Kind::Trailing, 20_000), (Kind::Read, 20_000), (Kind::Write, 5_000), (Kind::Batch, 500)];
 /// Differences that are printed whole.
 const SHOWN: usize = 3;
+/// Whether the program has to answer each sheet before it reads on, and to tell on standard error of output that it could not write.
+/// It gathers its output and does neither so far (docs/DECISIONS.md, 31).
+const ANSWERS_AT_ONCE: bool = false;
 
 /// The cases of one kind; the answers of both sides are counted. Returns the number of differences.
 fn compared(kind: Kind, count: usize, right: &dyn Subject, other: &dyn Subject, tallies: &mut [Tally; 2]) -> usize {
@@ -26,6 +32,46 @@ fn compared(kind: Kind, count: usize, right: &dyn Subject, other: &dyn Subject, 
                 println!("DIFFERENCE in {kind:?} case {k}: {difference}");
             }
         }
+    }
+    differences
+}
+
+/// The program on inputs in pieces; a difference is `Err`.
+fn fed_in_pieces(start: &dyn Fn() -> Command) -> Vec<Result<(), String>> {
+    let compared = |fed: pieces::Fed| {
+        let (expected, found) = (outside::batch::output(&fed.input(), None), fed.output(start()));
+        let pieces: Vec<String> = fed.pieces.iter().map(|piece| text(piece)).collect();
+        let shown = || {
+            format!("{:?} {pieces:?}\noutside writes\n{}the program\n{}", fed.between, text(&expected), text(&found))
+        };
+        if expected == found {
+            Ok(())
+        } else {
+            Err(shown())
+        }
+    };
+    pieces::all().into_iter().map(compared).collect()
+}
+
+/// Prints how many cases of a name there are, and the differences among them, which are then counted.
+fn reported(name: &str, check: impl FnOnce() -> Vec<Result<(), String>>) -> usize {
+    let start = Instant::now();
+    let results = check();
+    let differences: Vec<&String> = results.iter().filter_map(|result| result.as_ref().err()).collect();
+    differences.iter().take(SHOWN).for_each(|difference| println!("DIFFERENCE in {name}: {difference}"));
+    let time = start.elapsed().as_secs_f64();
+    println!("{name}: {} cases, {} differences, {time:.1} s", results.len(), differences.len());
+    differences.len()
+}
+
+/// What the program does with its input and output as streams.
+fn streams(start: &dyn Fn() -> Command) -> usize {
+    let mut differences = reported("Pieces", || fed_in_pieces(start));
+    if ANSWERS_AT_ONCE {
+        differences += reported("Waiting clients", || waiting(start));
+        differences += reported("Unwritten output", || unwritten(start));
+    } else {
+        println!("Waiting clients, unwritten output: not compared, see ANSWERS_AT_ONCE");
     }
     differences
 }
@@ -53,6 +99,7 @@ fn main() {
         differences += different;
         tallies.push((kind, pair));
     }
+    differences += streams(&|| Command::new(other.program()));
     println!();
     let names = [right.name(), other.name()];
     print_refusals(&lines(&tallies, &names));

@@ -1,0 +1,37 @@
+//! The stored answers of `examples/`: what this implementation writes on the same sheets and batches.
+
+use std::fs;
+use std::path::{Path, PathBuf};
+
+/// The examples of one kind, each with its stored answer.
+fn examples(extension: &str) -> Vec<(Vec<u8>, PathBuf, Vec<u8>)> {
+    let folder = Path::new(env!("CARGO_MANIFEST_DIR")).join("../../examples");
+    let files = fs::read_dir(folder).unwrap().map(|file| file.unwrap().path());
+    let with_answer = |path: PathBuf| {
+        let answer = path.with_extension("answer");
+        (fs::read(path).unwrap(), answer.clone(), fs::read(answer).unwrap())
+    };
+    files.filter(|path| path.extension().is_some_and(|e| e == extension)).map(with_answer).collect()
+}
+
+fn answered(batch: &[u8], name: &Path, answer: &[u8]) {
+    assert!(outside::batch::output(batch, None) == answer, "{} differs", name.display());
+}
+
+#[test]
+fn sheets() {
+    let sheets = examples("sheet");
+    assert!(!sheets.is_empty());
+    for (sheet, name, answer) in sheets {
+        answered(&[format!("1\n1 {}\n", sheet.len()).as_bytes(), &sheet].concat(), &name, &answer);
+    }
+}
+
+#[test]
+fn batches() {
+    let batches = examples("batch");
+    assert!(!batches.is_empty());
+    for (batch, name, answer) in batches {
+        answered(&batch, &name, &answer);
+    }
+}

@@ -1,0 +1,337 @@
+/* The library from C, and the same file from C++: systems of known result, a sheet read and written, every refusal, and what each
+ * call leaves in its stores. Prints a line for each check; the first difference ends the program with 1.
+ *
+ *     rt staticlib exports
+ *     gcc -std=c99 -Iinclude tests/c/library.c target/staticlib/libexports.a -o library && ./library
+ */
+#include "wurgalm.h"
+
+#include <stdio.h>
+#include <stdlib.h>
+#include <string.h>
+
+/* ---- stores ---- */
+
+/* The stores of a call for at most two unknowns, each with some numbers past the needed part, which no call may touch. */
+#define MORE 3
+#define ROWS (2 * WURGALM_ROW)
+
+typedef struct {
+    int64_t rows[ROWS + MORE];
+    int64_t relations[WURGALM_RELATIONS + MORE];
+    int64_t result[WURGALM_RESULT + MORE];
+} Stores;
+
+static void fill(int64_t *store, size_t length, int64_t number) {
+    size_t i;
+    for (i = 0; i < length; i++) {
+        store[i] = number;
+    }
+}
+
+/* A number in the needed parts of the row and relation stores, 7 everywhere else. */
+static void prepare(Stores *stores, int64_t number) {
+    fill(stores->rows, ROWS + MORE, 7);
+    fill(stores->relations, WURGALM_RELATIONS + MORE, 7);
+    fill(stores->result, WURGALM_RESULT + MORE, 7);
+    fill(stores->rows, ROWS, number);
+    fill(stores->relations, WURGALM_RELATIONS, number);
+}
+
+/* Where the polynomial of a row, of the block `down` places below block l, and of a column begins. All count from 0. */
+static int64_t *polynomial(int64_t *rows, size_t row, size_t down, size_t column) {
+    return rows + row * WURGALM_ROW + (down * 4 + column) * 16;
+}
+
+static int same(const Stores *a, const Stores *b) {
+    return memcmp(a, b, sizeof *a) == 0;
+}
+
+/* ---- checks ---- */
+
+static void check(int holds, const char *what) {
+    printf("%s: %s\n", holds ? "ok" : "DIFFERENCE", what);
+    if (!holds) {
+        exit(1);
+    }
+}
+
+static void check_result(const int64_t *result, const int64_t *expected, const char *what) {
+    check(memcmp(result, expected, WURGALM_RESULT * sizeof *result) == 0, what);
+}
+
+/* ---- calls ---- */
+
+typedef uint8_t Run(int64_t *, size_t, int64_t *, size_t, size_t, int64_t, int64_t, size_t, int64_t *, size_t);
+
+/* The sizes and the relation count of a call, and the lengths of its stores. */
+typedef struct {
+    size_t m;
+    int64_t l, t;
+    size_t count, rows, relations, result;
+} Asked;
+
+/* Whole stores for a system of two unknowns and two blocks without relations. */
+static Asked asked(void) {
+    Asked call = {2, 1, 0, 0, ROWS + MORE, WURGALM_RELATIONS + MORE, WURGALM_RESULT + MORE};
+    return call;
+}
+
+static uint8_t run(Run *side, Stores *stores, Asked call) {
+    return side(stores->rows, call.rows, stores->relations, call.relations, call.m, call.l, call.t, call.count, stores->result,
+                call.result);
+}
+
+static uint8_t read_sheet(const char *sheet, Stores *stores, Asked call) {
+    return wurgalm_read_sheet((const uint8_t *)sheet, strlen(sheet), stores->rows, call.rows, stores->relations, call.relations,
+                              stores->result, call.result);
+}
+
+static uint8_t write_sheet(Stores *stores, Asked call, const int64_t *order, uint8_t *bytes, size_t length) {
+    return wurgalm_write_sheet(stores->rows, call.rows, stores->relations, call.relations, call.m, call.l, call.t, call.count,
+                               order, 4, bytes, length, stores->result, call.result);
+}
+
+/* ---- known answers ---- */
+
+/* n x(n+1) - y(n) = 0, x(n+1) - x(n) = 0, and its answer on the leading side. */
+static const char *const k2 = "3 2 1 0\n2\n2 1 1 2 0 1 0 2 1 -1\n2 1 1 1 1 0 1 1 -1\n0\n0\n";
+static const char *const k2_answer = "3 2 1 0\n2\n2 1 1 2 -1 -1 1 2 1 1\n2 1 2 2 0 1 0 2 2 -1 -1\n2\n"
+                                     "0 2 1 1 1 1 0 1 1 -1\n-1 2 1 1 2 0 1 0 2 1 -1\n2 1 2\n";
+
+/* The stores that hold k2. */
+static void k2_stores(Stores *stores) {
+    prepare(stores, 0);
+    polynomial(stores->rows, 0, 0, 0)[1] = 1;
+    polynomial(stores->rows, 0, 1, 1)[0] = -1;
+    polynomial(stores->rows, 1, 0, 0)[0] = 1;
+    polynomial(stores->rows, 1, 1, 0)[0] = -1;
+}
+
+/* The stores after the run on k2, but for the result. */
+static void k2_answer_stores(Stores *stores) {
+    int64_t *first = stores->relations, *second = stores->relations + WURGALM_RELATION;
+    prepare(stores, 0);
+    polynomial(stores->rows, 0, 0, 0)[0] = -1;
+    polynomial(stores->rows, 0, 0, 0)[1] = -1;
+    polynomial(stores->rows, 0, 0, 1)[0] = 1;
+    polynomial(stores->rows, 1, 0, 1)[1] = 1;
+    polynomial(stores->rows, 1, 1, 1)[0] = -1;
+    polynomial(stores->rows, 1, 1, 1)[1] = -1;
+    first[0] = 0;
+    polynomial(first + 1, 0, 0, 0)[0] = 1;
+    polynomial(first + 1, 0, 1, 0)[0] = -1;
+    second[0] = -1;
+    polynomial(second + 1, 0, 0, 0)[1] = 1;
+    polynomial(second + 1, 0, 1, 1)[0] = -1;
+}
+
+static void k2_read_run_written(void) {
+    static const int64_t heading[WURGALM_RESULT] = {2, 1, 0, 0, 0, 0, 0, 0};
+    static const int64_t report[WURGALM_RESULT] = {2, 1, 1, 2, 0, 0, 1, 0};
+    static Stores stores, expected;
+    size_t length = strlen(k2_answer);
+    uint8_t bytes[200];
+    Asked call = asked();
+
+    prepare(&stores, 9);
+    check(read_sheet(k2, &stores, call) == 0, "K2 is read");
+    check_result(stores.result, heading, "its sizes, no relation, no order");
+    k2_stores(&expected);
+    memcpy(expected.result, heading, sizeof heading);
+    check(same(&stores, &expected), "its rows, and nothing past the needed parts");
+
+    check(run(wurgalm_run_leading, &stores, call) == 0, "K2, leading side, is accepted");
+    check_result(stores.result, report, "two relations, one shift, order 1 2, last root 0");
+    k2_answer_stores(&expected);
+    memcpy(expected.result, report, sizeof report);
+    check(same(&stores, &expected), "its rows and relations, and nothing past the needed parts");
+
+    call.count = 2;
+    call.result = 1;
+    memset(bytes, '#', sizeof bytes);
+    check(write_sheet(&stores, call, report + 2, bytes, length - 1) == 1, "a byte store one byte too short: 1");
+    check(bytes[0] == '#' && same(&stores, &expected), "and no store is changed");
+    check(write_sheet(&stores, call, report + 2, bytes, length) == 0, "a byte store just long enough: written");
+    check(memcmp(bytes, k2_answer, length) == 0, "the sheet, byte for byte");
+    check(bytes[length] == '#', "and no byte behind it");
+    expected.result[0] = (int64_t)length;
+    check(same(&stores, &expected), "its length in the result, all else as it was");
+}
+
+/* n x(n+1) = 0 with blocks 1 and 0. */
+static const char *const k11 = "3 1 1 0\n1\n1 1 1 2 0 1\n0\n0\n";
+
+static void k11_on_both_sides(void) {
+    static const int64_t trailing[WURGALM_RESULT] = {0, 1, 1, 0, 0, 0, 1, 1};
+    static const int64_t leading[WURGALM_RESULT] = {0, 0, 1, 0, 0, 0, 1, 0};
+    static Stores stores, expected;
+    Asked call = asked();
+    call.m = 1;
+
+    prepare(&stores, 9);
+    check(read_sheet(k11, &stores, call) == 0, "K11 is read");
+    expected = stores;
+    check(run(wurgalm_run_leading, &stores, call) == 0, "K11, leading side, is accepted");
+    memcpy(expected.result, leading, sizeof leading);
+    check(same(&stores, &expected), "unchanged, no shift, last root 0");
+
+    check(run(wurgalm_run_trailing, &stores, call) == 0, "K11, trailing side, is accepted");
+    memcpy(expected.result, trailing, sizeof trailing);
+    fill(expected.rows, WURGALM_ROW, 0);
+    polynomial(expected.rows, 0, 1, 0)[0] = -1;
+    polynomial(expected.rows, 0, 1, 0)[1] = 1;
+    check(same(&stores, &expected), "(n-1) x(n), one shift, first root 1");
+}
+
+/* ---- refusals ---- */
+
+/* Runs that are refused before the work leave every store as it was: K2 with one number of its row store changed. */
+static void refused_before(Run *side, const char *name, Asked call, size_t at, int64_t number, uint8_t refusal,
+                           const char *what) {
+    static Stores stores, before;
+    char line[100];
+    k2_stores(&stores);
+    stores.rows[at] = number;
+    before = stores;
+    snprintf(line, sizeof line, "%s, %s: %d", name, what, refusal);
+    check(run(side, &stores, call) == refusal && same(&stores, &before), line);
+}
+
+static void runs_refused_before_the_work(Run *side, const char *name) {
+    Asked call = asked();
+    call.rows = ROWS - 1;
+    refused_before(side, name, call, 0, 0, 1, "row store too short");
+    call = asked();
+    call.relations = WURGALM_RELATIONS - 1;
+    refused_before(side, name, call, 0, 0, 1, "relation store too short");
+    call = asked();
+    call.result = WURGALM_RESULT - 1;
+    refused_before(side, name, call, 0, 0, 1, "result store too short");
+    call = asked();
+    call.m = 5;
+    refused_before(side, name, call, 0, 0, 2, "five unknowns");
+    call = asked();
+    call.l = 65;
+    call.t = 64;
+    refused_before(side, name, call, 0, 0, 2, "block 65");
+    call = asked();
+    call.count = 17;
+    call.rows = 0;
+    refused_before(side, name, call, 0, 0, 2, "seventeen relations, before a row store too short");
+    call = asked();
+    refused_before(side, name, call, 0, 268435456, 5, "a coefficient past the limit");
+    refused_before(side, name, call, 2 * 16, 1, 5, "a number at an unused position");
+}
+
+/* Runs that are refused during the work leave zeros in the needed parts, and what is past them as it was. */
+static void refused_during(Run *side, const char *sheet, uint8_t refusal, const char *what) {
+    static Stores stores, expected;
+    char line[100];
+    Asked call = asked();
+    prepare(&stores, 9);
+    snprintf(line, sizeof line, "%s: read", what);
+    check(read_sheet(sheet, &stores, call) == 0, line);
+    call.m = (size_t)stores.result[0];
+    call.l = stores.result[1];
+    call.t = stores.result[2];
+    call.count = (size_t)stores.result[3];
+    expected = stores;
+    fill(expected.rows, call.m * WURGALM_ROW, 0);
+    fill(expected.relations, WURGALM_RELATIONS, 0);
+    fill(expected.result, WURGALM_RESULT, 0);
+    snprintf(line, sizeof line, "%s: %d, and zeros", what, refusal);
+    check(run(side, &stores, call) == refusal && same(&stores, &expected), line);
+}
+
+static void runs_refused_during_the_work(Run *side) {
+    refused_during(side, "3 1 0 0\n1\n0\n0\n0\n", 6, "one zero row");
+    refused_during(side, "3 2 1 0\n2\n2 1 1 1 1 0 2 1 1\n2 1 1 1 1 0 2 1 1\n0\n0\n", 6, "the same equation twice");
+    refused_during(side,
+                   "3 2 0 0\n2\n2 0 1 16 0 0 0 0 0 0 0 0 0 0 0 0 0 0 0 1 0 2 1 1\n"
+                   "2 0 1 2 0 1 0 2 2 0 1\n0\n0\n",
+                   7, "n^15 x + y and n x + n y");
+    refused_during(side, "3 2 0 0\n2\n2 0 1 1 20000 0 2 1 1\n2 0 1 1 1 0 2 2 1 20000\n0\n0\n", 8,
+                   "20,000 x + y and x + (20,000 n + 1) y");
+    refused_during(side,
+                   "3 2 0 0\n2\n2 0 1 2 0 1 0 2 1 1\n2 0 1 1 1 0 2 1 1\n16\n"
+                   "0 0\n0 0\n0 0\n0 0\n0 0\n0 0\n0 0\n0 0\n0 0\n0 0\n0 0\n0 0\n0 0\n0 0\n0 0\n0 0\n0\n",
+                   9, "n x + y and x + y with sixteen relations");
+}
+
+/* Sheets that are refused leave every store as it was. */
+static void unread(const char *sheet, Asked call, uint8_t refusal, const char *what) {
+    static Stores stores, before;
+    char line[100];
+    prepare(&stores, 9);
+    before = stores;
+    snprintf(line, sizeof line, "read, %s: %d", what, refusal);
+    check(read_sheet(sheet, &stores, call) == refusal && same(&stores, &before), line);
+}
+
+static void sheets_refused(void) {
+    Asked call = asked();
+    unread("3 5 1 0\n", call, 2, "five unknowns");
+    unread("3 1 1 0\n1\n1 1 2 1 1\n0\n0\n", call, 2, "column 2 of 1");
+    unread("3 1 1 0\n1\n1 1 1 x 1\n0\n0\n", call, 3, "a token that is no number");
+    unread("3 1 1 0\n1\n1 1 1 1 0\n0\n0\n", call, 3, "a zero last coefficient");
+    unread("3 1 1 0\n1\n1 1 1", call, 4, "the bytes end early");
+    unread("3 1 1 0\n1\n1 1 1 2 0 1\n0\n0\n\n", call, 4, "the bytes go on");
+    unread("3 1 1 0\n1\n1 1 1 1 -268435456\n0\n0\n", call, 5, "a coefficient past the limit");
+    call.rows = ROWS - 1;
+    unread(k2, call, 1, "row store too short");
+    call = asked();
+    call.relations = WURGALM_RELATIONS - 1;
+    unread(k2, call, 1, "relation store too short");
+    call = asked();
+    call.result = WURGALM_RESULT - 1;
+    unread(k2, call, 1, "result store too short");
+    unread("3 1 1 0\n1\n1 1 1", call, 4, "an early end, before a result store too short");
+}
+
+/* Systems that are not written leave the bytes and the result as they were. */
+static void unwritten(Stores *stores, Asked call, const int64_t *order, uint8_t refusal, const char *what) {
+    static Stores before;
+    char line[100];
+    uint8_t bytes[200];
+    size_t i, untouched = 0;
+    memset(bytes, '#', sizeof bytes);
+    before = *stores;
+    snprintf(line, sizeof line, "write, %s: %d", what, refusal);
+    check(write_sheet(stores, call, order, bytes, sizeof bytes) == refusal && same(stores, &before), line);
+    for (i = 0; i < sizeof bytes; i++) {
+        untouched += bytes[i] == '#';
+    }
+    check(untouched == sizeof bytes, "and no byte is written");
+}
+
+static void systems_not_written(void) {
+    static const int64_t none[4] = {0, 0, 0, 0}, twice[4] = {1, 1, 0, 0};
+    static Stores stores;
+    Asked call = asked();
+    k2_stores(&stores);
+    call.m = 0;
+    unwritten(&stores, call, none, 2, "no unknowns");
+    call = asked();
+    unwritten(&stores, call, twice, 2, "a column twice in the order");
+    call.rows = ROWS - 1;
+    unwritten(&stores, call, none, 1, "row store too short");
+    call = asked();
+    call.result = 0;
+    unwritten(&stores, call, none, 1, "result store too short");
+    call = asked();
+    stores.relations[WURGALM_RELATIONS - 1] = 1;
+    unwritten(&stores, call, none, 5, "a number past the relations");
+}
+
+int main(void) {
+    k2_read_run_written();
+    k11_on_both_sides();
+    runs_refused_before_the_work(wurgalm_run_leading, "leading");
+    runs_refused_before_the_work(wurgalm_run_trailing, "trailing");
+    runs_refused_during_the_work(wurgalm_run_leading);
+    runs_refused_during_the_work(wurgalm_run_trailing);
+    sheets_refused();
+    systems_not_written();
+    return 0;
+}
