@@ -19,8 +19,8 @@
  *   7  a degree past 15
  *   8  a coefficient outside +-268,435,455 in the course of a run
  *   9  a seventeenth relation
- * On 1 to 5 no store is changed. On 6 to 9 the needed part of each store that the function may write is zero. Sizes, count and
- * order are checked first (2), then the lengths of the stores (1), then their numbers (5). */
+ * On 1 to 5 no store is changed (but see `wurgalm_batch`). On 6 to 9 the needed part of each store that the function may write is zero.
+ * Sizes, count and order are checked first (2), then the lengths of the stores (1), then their numbers (5). */
 #ifndef WURGALM_H
 #define WURGALM_H
 
@@ -67,6 +67,17 @@ uint8_t wurgalm_read_sheet(const uint8_t *bytes, size_t bytes_length, int64_t *r
 uint8_t wurgalm_write_sheet(const int64_t *rows, size_t rows_length, const int64_t *relations, size_t relations_length, size_t m,
                             int64_t l, int64_t t, size_t count, const int64_t *order, size_t order_length, uint8_t *bytes,
                             size_t bytes_length, int64_t *result, size_t result_length);
+
+/* A whole batch worked.
+ * In: the bytes of the batch, a line with the sheet count (0 to 1,000) and then for each sheet a line `client bytes` (1 to 8; 0 to 32,768)
+ * and that many bytes.
+ * Out: `output` begins with what the batch program writes for it: per sheet `0` and the leading-side sheet, or the refusal number alone on a
+ * line; last, `accepted refused`. A broken batch is worked too: its output ends in the line `3`. Bytes past the output stay. `result`
+ * (1 number): the length of the output in bytes.
+ * Returns 0 or 1. A result store of no number is 1 before everything, and no store is changed. An output store that is too short is 1
+ * in the course of the work: then all of `output` and the number of `result` are zero. 65,538 bytes a sheet and 64 more are enough. */
+uint8_t wurgalm_batch(const uint8_t *input, size_t input_length, uint8_t *output, size_t output_length, int64_t *result,
+                      size_t result_length);
 
 #ifdef __cplusplus
 }

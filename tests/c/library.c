@@ -184,6 +184,41 @@ static void k11_on_both_sides(void) {
     check(same(&stores, &expected), "(n-1) x(n), one shift, first root 1");
 }
 
+/* ---- a whole batch ---- */
+
+/* What a call on a batch answers and leaves: the number, and a result and an output that begin so, with everything past them as before. */
+static void check_batch(const char *input, size_t length, size_t results, uint8_t number, int64_t result, const char *output,
+                        size_t output_length, const char *what) {
+    uint8_t bytes[300], expected[300];
+    int64_t numbers[2] = {7, 7}, left[2] = {7, 7};
+    uint8_t answer;
+    memset(bytes, '#', sizeof bytes);
+    memset(expected, '#', sizeof expected);
+    memcpy(expected, output, output_length);
+    left[0] = result;
+    answer = wurgalm_batch((const uint8_t *)input, strlen(input), bytes, length, numbers, results);
+    check(answer == number && memcmp(bytes, expected, sizeof bytes) == 0 && memcmp(numbers, left, sizeof left) == 0, what);
+}
+
+static void k2_in_a_batch(void) {
+    static const char zeros[300] = {0};
+    char input[300], output[300];
+    size_t length;
+    snprintf(input, sizeof input, "1\n1 %d\n%s", (int)strlen(k2), k2);
+    snprintf(output, sizeof output, "0\n%s1 0\n", k2_answer);
+    length = strlen(output);
+    check_batch(input, 300, 2, 0, (int64_t)length, output, length, "batch, K2, byte for byte, and nothing past its end");
+    check_batch(input, length, 1, 0, (int64_t)length, output, length, "batch, an output store just long enough");
+    check_batch(input, length - 1, 2, 1, 0, zeros, length - 1, "batch, an output store one byte too short: 1, and zeros");
+    check_batch(input, 300, 0, 1, 7, "", 0, "batch, result store too short: 1, and no store is changed");
+    check_batch(input, 0, 0, 1, 7, "", 0, "batch, no stores: 1");
+    check_batch("", 300, 1, 0, 2, "3\n", 2, "batch, no bytes: worked, 3 is its only line");
+    check_batch("0\n", 300, 1, 0, 4, "0 0\n", 4, "batch, no sheets");
+    snprintf(input + strlen(input), 10, "1 0\n");
+    memcpy(output + length - 4, "3\n", 3);
+    check_batch(input, 300, 1, 0, (int64_t)length - 2, output, length - 2, "batch, bytes left over: worked, 3 is its last line");
+}
+
 /* ---- refusals ---- */
 
 /* Runs that are refused before the work leave every store as it was: K2 with one number of its row store changed. */
@@ -327,6 +362,7 @@ static void systems_not_written(void) {
 int main(void) {
     k2_read_run_written();
     k11_on_both_sides();
+    k2_in_a_batch();
     runs_refused_before_the_work(wurgalm_run_leading, "leading");
     runs_refused_before_the_work(wurgalm_run_trailing, "trailing");
     runs_refused_during_the_work(wurgalm_run_leading);

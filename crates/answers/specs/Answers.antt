@@ -3,11 +3,12 @@
 --
 -- Main definitions
 --   AnswerCall, answerCall bytes store    what the call returns and leaves in the lent store
---   RightAnswer          the answers that there are: a sheet of at most 65,536 bytes, or a refusal that is not 0
+--   RightAnswer          the answers that there are: a sheet of at most 65,536 bytes, or a refusal from 1 to 9
 --
 -- Main statements
 --   answer-right         every sheet's answer is one of those
 --   answerCall-answer    in a store of at least 65,536 bytes the call leaves the answer of `rules`
+--   order-after          the column order of a run that accepts is a permutation of the columns
 --   read-refused, run-refused, run-written   the answer, by what reading and running on stores give
 --   read-checked         the stores that a sheet was read into pass the checks of a run
 --   answer-written       the writer, lent at most 65,536 bytes of the store, leaves in it what the whole call leaves
@@ -76,7 +77,7 @@ answerCall bytes store = answered (answerSheet bytes) store
 
 pub data RightAnswer : Answer → Type 0 where
   right-accepted : {bytes : List ℕ} → length bytes ≤ mostBytes → RightAnswer (accepted bytes)
-  right-refused : (n : ℕ) → RightAnswer (refusedWith (suc n))
+  right-refused : (n : ℕ) → n ≤ 8 → RightAnswer (refusedWith (suc n))
 
 sized-right : (bytes : List ℕ) → RightAnswer (sized bytes)
 unfolding sized
@@ -84,7 +85,7 @@ sized-right bytes = go (leb (length bytes) mostBytes) (leb→le (length bytes) m
   where
     go : (t : Bool) → (T t → length bytes ≤ mostBytes) → RightAnswer (cond t (accepted bytes) (refusedWith 1))
     go true h = right-accepted (h tt)
-    go false h = right-refused 0
+    go false h = right-refused 0 (omega arith)
 
 -- The sheet that a run which accepts gives.
 abbrev pub sheetAfter : Sheet → State → Sheet
@@ -101,14 +102,14 @@ answer-right bytes = by-read (readSheet bytes) refl (sheet-numbered bytes)
   where
     by-run : (x : Sheet) (o : Outcome) → Ended o → RightAnswer (answerRun x o)
     by-run x o (Demands.accepted s) = sized-right (writeSheet (sheetAfter x s))
-    by-run x o six = right-refused 5
-    by-run x o seven = right-refused 6
-    by-run x o eight = right-refused 7
-    by-run x o nine = right-refused 8
+    by-run x o six = right-refused 5 (omega arith)
+    by-run x o seven = right-refused 6 (omega arith)
+    by-run x o eight = right-refused 7 (omega arith)
+    by-run x o nine = right-refused 8 (omega arith)
 
     by-read : (r : Read Sheet) → readSheet bytes ≡ r → Numbered r → RightAnswer (answerRead r)
     by-read r e (read x rest) = by-run x _ (leading-ends bytes x rest e)
-    by-read r e (numbered n) = right-refused n
+    by-read r e (numbered n low high) = right-refused n (omega arith)
 
 -- ---- the answer that the store holds
 
@@ -127,7 +128,7 @@ answerCall-answer bytes store h = go (answerSheet bytes) (answer-right bytes)
         ap (λ c. answerBy (c .refusal) (c .length) (c .store))
         (cond-passed (leb (length sheet) (length store)) _ (unanswered 1 store) (le→leb (length sheet) (length store) (omega arith)))
         ∙ ap accepted (take-at sheet (drop (length sheet) store) (length sheet) refl)
-    go a (right-refused n) = refl
+    go a (right-refused n few) = refl
 
 -- "Every refusal returns its number, all other fields 0."
 pub answerCall-none : (bytes store : List ℕ) → answerCall bytes store .refusal ≢ 0 → answerCall bytes store .length ≡ 0
@@ -167,7 +168,7 @@ different-columns m (c ∷ l) d below =
       different-columns m l (d .1) (λ k h. below (suc k) (suc-le-suc h)),
     )
 
-order-after : (m D : ℕ) (s : State) → Diagonal leading m D s → OrderRight m (map suc (s .order))
+pub order-after : (m D : ℕ) (s : State) → Diagonal leading m D s → OrderRight m (map suc (s .order))
 unfolding OrderRight
 order-after m D s d =
     inr (
@@ -289,7 +290,7 @@ module _ (bytes : List ℕ) (rows relations : List ℤ) (rows-long : 1280 ≤ le
       where
         go : (r : Read Sheet) → readSheet bytes ≡ r → Numbered r → (x : Sheet) × (rest : List ℕ) × (readSheet bytes ≡ got x rest)
         go r e (read x rest) = (x, rest, e)
-        go r e (numbered n) = absurd (suc-ne-zero n (sym (answer-fault (suc n) e .0) ∙ fine))
+        go r e (numbered n low high) = absurd (suc-ne-zero n (sym (answer-fault (suc n) e .0) ∙ fine))
 
     ran-on : (x : Sheet) (rest : List ℕ) → readSheet bytes ≡ got x rest
         → runOn readIn

@@ -1,8 +1,8 @@
 // The answer to one sheet: read, run on the leading side and written, in stores that the caller lends. `batches` has the public entry
 // point.
 ghost use mathlib.Core.Path.{_≡_};
-ghost use Prim.Native.Nat.{min, _≤_};
-ghost use lib.ListN.{length};
+ghost use Prim.Native.Nat.{min};
+ghost use Rattle.rules.specs.Calls.{zeros};
 ghost use Rattle.answers.specs.Answers.{callOf, answerCall};
 
 // The answer to one sheet: the refusal, or 0 and the number of bytes that the output begins with.
@@ -24,16 +24,17 @@ fn lent_bytes(length: usize) -> usize
     if length < 65536 { length } else { 65536 }
 }
 
-// The answer, worked out in stores of the largest sizes, whatever they hold. What was read passes the checks of a run, and what a
-// run that accepts leaves passes those of the writer, so neither checks again.
+// The answer, worked out in stores of the largest sizes that are zero, and are zero again afterwards: only what was used is cleared.
+// What was read passes the checks of a run, and what a run that accepts leaves passes those of the writer, so neither checks again.
 pub fn answer_in(
     bytes: &[u8],
     rows: &mut [i64],
     relations: &mut [i64],
     output: &mut [u8],
 ) -> AnswerResult
-    requires { ⌜ (1280 ≤ length (now rows)) × (5136 ≤ length (now relations)) ⌝ }
+    requires { ⌜ (now rows ≡ zeros 1280) × (now relations ≡ zeros 5136) ⌝ }
     ensures { λ r. ⌜ callOf r (now (output .exit)) ≡ answerCall (now (bytes .entry)) (now (output .entry)) ⌝ }
+    ensures { λ r. ⌜ (now (rows .exit) ≡ now (rows .entry)) × (now (relations .exit) ≡ now (relations .entry)) ⌝ }
 {
     let sheet = reading::own::read_own(bytes, rows, relations);
     if sheet.refusal != 0 {
@@ -54,6 +55,8 @@ pub fn answer_in(
         order,
         &mut output[..lent],
     );
+    rows::stores::clear(rows, 0, sizes.m * 320);
+    rows::stores::clear(relations, 0, run.relations * 321);
     AnswerResult {
         refusal: written.refusal,
         length: written.length,

@@ -1,194 +1,98 @@
-// A batch, piece by piece: the line with the sheet count, the line of each sheet, the answer to one sheet, and the last line.
-// All of these are public entry points: no `requires`, and contracts that give the result, and the lent store, by equations
-// with `rules`. `crates/batches/specs/Traces.antt` says that they, called in order, make the output of a whole batch.
+// Batches: the answer to one sheet, a whole batch on one slice, and a batch that comes in pieces. Every `pub fn` of this file is an entry
+// point: no `requires`, and a contract that gives the result and every lent store by equations.
 ghost use mathlib.Core.Path.{_≡_};
-ghost use mathlib.Core.List.{[], _∷_};
-ghost use Prim.Native.Nat.{_≤_};
-ghost use lib.IntN.{pos};
-ghost use lib.ListN.{length, take};
-ghost use Rattle.rules.specs.Numbers.{lines};
-ghost use Rattle.answers.specs.Answers.{callOf, answerCall};
-ghost use Rattle.batches.specs.Pieces.{begunOf, lineOf, countedOf, textOf, refusalLine, closeLine};
+ghost use Rattle.answers.specs.Answers as Answers;
+ghost use Rattle.batches.specs.Feeds.{startOf};
+ghost use Rattle.batches.specs.PieceCalls.{callOf, pieceCall, outputOf, endCall, outputCall};
 pub use answers::AnswerResult;
 
-// The sheets still to come, and the answers so far.
-pub struct Batch {
-    pub left: usize,
-    pub accepted: usize,
-    pub refused: usize,
+mod answering;
+mod endings;
+mod feeding;
+mod pieces;
+
+// What a batch that comes in pieces waits for: the line with its sheet count, its sheets, or nothing more, since it is broken.
+pub enum Stage {
+    Count,
+    Sheets,
+    Over,
 }
 
-// What a batch begins with; refusal 0 or 3. The line is `taken` bytes long.
-pub struct Begun {
+// A batch that comes in pieces: the sheets to come with the answers so far, and the number of bytes that are held, which begin a
+// line or a sheet.
+pub struct Stream {
+    pub stage: Stage,
+    pub batch: frames::Batch,
+    pub held: usize,
+}
+
+// What a piece came to: the refusal, or 0 and the batch after it, how many bytes of the piece were taken and how many were written.
+pub struct PieceResult {
     pub refusal: u8,
+    pub stream: Stream,
     pub taken: usize,
-    pub batch: Batch,
+    pub written: usize,
 }
 
-// The client and the byte count of a sheet; refusal 0 or 3. The line is `taken` bytes long.
-pub struct SheetLine {
+// The refusal, or 0 and the number of bytes that the output begins with.
+pub struct OutputResult {
     pub refusal: u8,
-    pub taken: usize,
-    pub client: usize,
-    pub bytes: usize,
-}
-
-// A line of text, with zeros past its end.
-pub struct TextLine {
-    pub bytes: [u8; 24],
     pub length: usize,
 }
 
-// ---- lines that are read
-
-// A line is decided by its first 24 bytes: two numbers of at most ten digits and a minus, with their separators.
-fn window(bytes: &[u8]) -> &[u8]
-    ensures { λ r. ⌜ now r ≡ take 24 (now (bytes .entry)) ⌝ }
-{
-    if bytes.len() <= 24 {
-        bytes
-    } else {
-        &bytes[..24]
-    }
-}
-
-// "a line with the sheet count (0 to 1,000)". The bytes are the rest of the input, or a part from its start of at least 24.
-pub fn begin(bytes: &[u8]) -> Begun
-    ensures { λ r. ⌜ r ≡ begunOf (now (bytes .entry)) ⌝ }
-{
-    let n = tokens::number_between(window(bytes), 0, 0, 1000, 10);
-    if n.refusal != 0 {
-        return Begun {
-            refusal: 3,
-            taken: 0,
-            batch: Batch {
-                left: 0,
-                accepted: 0,
-                refused: 0,
-            },
-        };
-    }
-    Begun {
-        refusal: 0,
-        taken: n.at,
-        batch: Batch {
-            left: n.value as usize,
-            accepted: 0,
-            refused: 0,
-        },
-    }
-}
-
-fn no_line() -> SheetLine
-    ensures { λ r. ⌜ r ≡ record { refusal = 3; taken = 0; client = 0; bytes = 0 } ⌝ }
-{
-    SheetLine {
-        refusal: 3,
-        taken: 0,
-        client: 0,
-        bytes: 0,
-    }
-}
-
-// "a line `client bytes` (1 to 8; 0 to 32,768)". The bytes are as for `begin`.
-pub fn line(bytes: &[u8]) -> SheetLine
-    ensures { λ r. ⌜ r ≡ lineOf (now (bytes .entry)) ⌝ }
-{
-    let w = window(bytes);
-    let client = tokens::number_between(w, 0, 1, 8, 32);
-    if client.refusal != 0 {
-        return no_line();
-    }
-    let size = tokens::number_between(w, client.at, 0, 32768, 10);
-    if size.refusal != 0 {
-        return no_line();
-    }
-    SheetLine {
-        refusal: 0,
-        taken: size.at,
-        client: client.value as usize,
-        bytes: size.value as usize,
-    }
-}
-
-// ---- the answer to one sheet
-
-// One sheet: "`0` and the leading-side sheet, or the refusal number". The output begins with the sheet that answers, without the
-// line `0`; on a refusal it is unchanged.
+// One sheet: the output begins with the sheet that answers, without the line `0` before it; on a refusal it is unchanged.
 pub fn answer(bytes: &[u8], output: &mut [u8]) -> AnswerResult
-    ensures { λ r. ⌜ callOf r (now (output .exit)) ≡ answerCall (now (bytes .entry)) (now (output .entry)) ⌝ }
+    ensures { λ r. ⌜ Answers.callOf r (now (output .exit)) ≡ Answers.answerCall (now (bytes .entry)) (now (output .entry)) ⌝ }
 {
     let mut rows = [0i64; 1280];
     let mut relations = [0i64; 5136];
     answers::answer_in(bytes, &mut rows, &mut relations, output)
 }
 
-// ---- counting
-
-// One sheet fewer to come, and one more accepted (0) or refused. Where none is to come, or 1,000 are counted, the batch stays.
-pub fn counted(batch: Batch, refusal: u8) -> Batch
-    ensures { λ r. ⌜ r ≡ countedOf batch refusal ⌝ }
+// Before anything has come.
+pub fn start() -> Stream
+    ensures { λ r. ⌜ r ≡ startOf ⌝ }
 {
-    if batch.left == 0 {
-        return batch;
-    }
-    if 1000 <= batch.accepted {
-        return batch;
-    }
-    if 1000 <= batch.refused {
-        return batch;
-    }
-    if refusal == 0 {
-        return Batch {
-            left: batch.left - 1,
-            accepted: batch.accepted + 1,
-            refused: batch.refused,
-        };
-    }
-    Batch {
-        left: batch.left - 1,
-        accepted: batch.accepted,
-        refused: batch.refused + 1,
+    Stream {
+        stage: Stage::Count,
+        batch: frames::Batch {
+            left: 0,
+            accepted: 0,
+            refused: 0,
+        },
+        held: 0,
     }
 }
 
-// ---- lines that are written
-
-// "the refusal number alone on a line"; `0` before the sheet that answers.
-pub fn refusal_line(refusal: u8) -> TextLine
-    ensures { λ r. ⌜ r ≡ textOf (refusalLine refusal) ⌝ }
+// The next piece of a batch: its answers are put at the front of the output, up to one that does not fit. Of the piece, `taken` bytes are
+// done with; the others come again with the next piece. `held` is the store for bytes that begin a line or a sheet, of at least 32,792.
+pub fn piece(stream: Stream, held: &mut [u8], bytes: &[u8], output: &mut [u8]) -> PieceResult
+    ensures { λ r. ⌜ callOf r (now (held .exit)) (now (output .exit))
+        ≡ pieceCall stream (now (held .entry)) (now (bytes .entry)) (now (output .entry)) ⌝ }
 {
-    let mut bytes = [0u8; 24];
-    let length = writing::writer::put_count(&mut bytes, 0, refusal as usize);
-    TextLine { bytes, length }
+    let refusal = pieces::check(stream, held);
+    if refusal != 0 {
+        return pieces::refused(refusal);
+    }
+    let mut rows = [0i64; 1280];
+    let mut relations = [0i64; 5136];
+    pieces::checked(stream, held, bytes, output, &mut rows, &mut relations)
 }
 
-fn tally_line(accepted: usize, refused: usize) -> TextLine
-    requires { ⌜ (accepted ≤ 1000) × (refused ≤ 1000) ⌝ }
-    ensures { λ r. ⌜ r ≡ textOf (lines ((pos accepted ∷ pos refused ∷ []) ∷ [])) ⌝ }
+// The end of the input: the last line of the batch, or `3` where it is not whole. An output too short is 1, and stays as it is.
+pub fn finish(stream: Stream, output: &mut [u8]) -> OutputResult
+    ensures { λ r. ⌜ outputOf r (now (output .exit)) ≡ endCall stream (now (output .entry)) ⌝ }
 {
-    let mut bytes = [0u8; 24];
-    let after = writing::writer::put_digits(&mut bytes, 0, accepted as u64);
-    let next = writing::writer::put_byte(&mut bytes, after, 32);
-    let length = writing::writer::put_count(&mut bytes, next, refused);
-    TextLine { bytes, length }
+    let stage = stream.stage;
+    let batch = stream.batch;
+    endings::ending(stage, batch, stream.held, output)
 }
 
-// "last, `accepted refused`"; 3 where sheets are still to come, `over` bytes are left over, or more than 1,000 are counted.
-pub fn close(batch: Batch, over: usize) -> TextLine
-    ensures { λ r. ⌜ r ≡ textOf (closeLine batch over) ⌝ }
+// A whole batch. A broken one is accepted, and its output ends in the line `3`. An output too short is 1, and then all of it is zero.
+pub fn output(input: &[u8], output: &mut [u8]) -> OutputResult
+    ensures { λ r. ⌜ outputOf r (now (output .exit)) ≡ outputCall (now (input .entry)) (now (output .entry)) ⌝ }
 {
-    if batch.left != 0 {
-        return refusal_line(3);
-    }
-    if over != 0 {
-        return refusal_line(3);
-    }
-    if 1000 < batch.accepted {
-        return refusal_line(3);
-    }
-    if 1000 < batch.refused {
-        return refusal_line(3);
-    }
-    tally_line(batch.accepted, batch.refused)
+    let mut rows = [0i64; 1280];
+    let mut relations = [0i64; 5136];
+    endings::whole(input, output, &mut rows, &mut relations)
 }

@@ -2,3 +2,4 @@ pub mod Results
 pub mod Runs
 pub mod Writes
 pub mod Reads
+pub mod Batches

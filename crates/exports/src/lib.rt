@@ -1,11 +1,12 @@
-// The entry points for programs in C and other languages, by plain names: the public calls of `elimination` and `sheets`, the
-// fields of whose results are numbers of a lent store. No `requires`, and contracts that give the refusal and every lent store
-// by equations.
+// The entry points for programs in C and other languages, by plain names: the public calls of `elimination` and `sheets`, and the
+// whole batch of `batches`, the fields of whose results are numbers of a lent store. No `requires`, and contracts that give the
+// refusal and every lent store by equations.
 ghost use mathlib.Core.Path.{_≡_};
 ghost use Rattle.rules.specs.Elimination.{leading, trailing};
 ghost use Rattle.exports.specs.Runs.{exportRun};
 ghost use Rattle.exports.specs.Writes.{exportWrite};
 ghost use Rattle.exports.specs.Reads.{exportRead};
+ghost use Rattle.exports.specs.Batches.{exportBatch};
 
 mod either_side;
 mod numbers;
@@ -115,4 +116,20 @@ pub extern "C" fn wurgalm_write_sheet(
         bytes,
         result,
     )
+}
+
+// A whole batch. `result` gets one number: the length of the output. A broken batch is accepted, and its output ends in the line `3`.
+// An output too short is found in the course of the work: all of it is zero, and so is the number of the result.
+#[no_mangle]
+pub extern "C" fn wurgalm_batch(input: &[u8], output: &mut [u8], result: &mut [i64]) -> u8
+    ensures { λ r. ⌜
+        record { refusal = r; byteStore = now (output .exit); resultStore = now (result .exit) }
+        ≡ exportBatch (now (input .entry)) (now (output .entry)) (now (result .entry)) ⌝ }
+{
+    if result.len() < 1 {
+        return 1;
+    }
+    let worked = batches::output(input, output);
+    result[0] = worked.length as i64;
+    worked.refusal
 }

@@ -166,8 +166,6 @@ fn run_cases(input: &[u8]) {
 
 fn main() {
     let mut store = io::large_buffer();
-    let window = streams::input::fill(&mut store, streams::input::start(), 65536);
-    let from = window.from;
-    let to = window.to;
-    run_cases(&store[from..to]);
+    let count = io::read_full(libc::STDIN_FILENO, &mut store);
+    run_cases(&store[..count]);
 }

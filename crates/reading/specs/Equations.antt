@@ -18,7 +18,7 @@ use mathlib.Core.Logic.{_⊎_, inl, inr}
 use borrow.Author.Tests.{ltb-true}
 use mathlib.Core.Bool.{Bool, true, false, _||_}
 use mathlib.Core.List.{List, [], _∷_, _++_, map, append-nil, append-assoc}
-use lib.ListN.{length, getD, take, drop, set, replicate, length-take, length-drop, drop-of-length-le}
+use lib.ListN.{length, getD, take, drop, set, length-take, length-drop, drop-of-length-le}
 use lib.Seq.{paste, length-paste, take-all, take-take, take-append-le, take-append-add, drop-append-le, drop-drop, drop-paste, length-paste-head, length-take-le, set-comm, getD-set-other}
 use borrow.Rule.Slice.PartMut.{midOf, putMid, mid-len, post-is}
 use lib.Dec.{T, ltb}
@@ -29,7 +29,7 @@ use Rattle.rules.specs.Rows.{Row, Block, All}
 use Rattle.rules.specs.Stores.{Sizes, span, parts, rowOf, sizesRight}
 use Rattle.rules.specs.Lists.{drop-take, getD-map, map-set}
 use Rattle.rules.specs.Layout.{parts-length, getD-parts, size-bounds, block-place, length-padTo}
-use Rattle.rules.specs.Calls.{padTo}
+use Rattle.rules.specs.Calls.{padTo, zeros}
 use Rattle.rules.specs.Numbers.{Read, got, fault, thenRead, field, between, space, newline}
 use Rattle.rules.specs.Sheets.{Term, putTerm, rowOfTerms, blankRow, readTerm, readTerms, readEquation, parting, afterCount, always, judgeBlock, judgeColumn, readCoefficients}
 use Rattle.algebra.specs.Order.{≤ℤ-trans, ≤ℤ-cases, ≤ℤ-of-≡, ≤ℤ-difference, <ℤ-to-≤ℤ, +ℤ-<ℤ-left, negℤ-<ℤ, pos-<ℤ, pos-natAbs-nonneg}
@@ -536,10 +536,7 @@ module _ (z : Sizes) (sizes : T (sizesRight z)) (count : ℕ) (bytes : List ℕ)
                 (sym (put-is z s c e row sizes (right .0) (right .1) (so-far .long)));
           })
 
--- A row that was cleared is blank.
-zeros-blank : rowOf (replicate rowLength (pos 0)) ≡ blankRow
-unfolding rowOf blankRow
+-- A row of zeros is blank.
+pub zeros-blank : rowOf (zeros rowLength) ≡ blankRow
+unfolding rowOf blankRow zeros
 zeros-blank = refl
-
-pub cleared-blank : (row : List ℤ) → length row ≡ rowLength → rowOf (paste row 0 (replicate rowLength (pos 0)) rowLength) ≡ blankRow
-cleared-blank row long = ap rowOf (paste-whole row (replicate rowLength (pos 0)) rowLength (le-of-eq long) refl) ∙ zeros-blank

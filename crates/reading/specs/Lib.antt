@@ -1,3 +1,4 @@
+pub mod Zeros
 pub mod Terms
 pub mod Equations
 pub mod Sections

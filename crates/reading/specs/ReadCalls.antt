@@ -5,6 +5,7 @@
 --
 -- Main statements
 --   overwrite-paste      numbers put at the front of a store
+--   relationStore-again  the relations of a store, as a store of their own
 --   rows-filled, relations-filled   numbers put into a lent store are what `rules` writes into it
 --   call-faults, call-refuses, call-short, call-fills   the call where the sheet is refused, where a store is too short, and where it is read
 use Prim.Native.Nat.{ℕ, _+_, _*_, _-_, _≤_, zero-le}
@@ -56,7 +57,7 @@ used-again count l h =
     (all-mono (λ p. length p ≡ relationLength) (λ p. relationNumbers (relationOf p) ≡ p) relationNumbers-relationOf (parts relationLength count l) (parts-width relationLength count l h)))
     ∙ flatten-parts relationLength count l
 
-relationStore-again : (count : ℕ) (l : List ℤ) → count * relationLength ≤ length l
+pub relationStore-again : (count : ℕ) (l : List ℤ) → count * relationLength ≤ length l
     → relationStoreOf (relationsOf count l) ≡ take (count * relationLength) l ++ replicate ((mostRelations - count) * relationLength) (pos 0)
 unfolding relationStoreOf
 relationStore-again count l h =

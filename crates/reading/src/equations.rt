@@ -7,6 +7,7 @@ ghost use lib.Dec.{T};
 ghost use lib.IntN.{pos, natAbs, _-ℤ_};
 ghost use lib.Signed.{_≤ℤ_};
 ghost use Rattle.rules.specs.Stores.{span, rowOf, sizesRight};
+ghost use Rattle.rules.specs.Calls.{zeros};
 ghost use Rattle.rules.specs.Sheets.{blankRow, readEquation};
 ghost use Rattle.tokens.specs.Fields.{Answers};
 ghost use Rattle.rows.specs.Validity.{sizesOf};
@@ -46,7 +47,7 @@ pub(crate) fn no_part(refusal: u8) -> PartRead
     PartRead { refusal, at: 0 }
 }
 
-// `count` terms, each read into its place in the 320 numbers of a row.
+// `count` terms, each read into its place in the 320 numbers of a row that is zero.
 fn terms_at(
     bytes: &[u8],
     at: usize,
@@ -55,10 +56,9 @@ fn terms_at(
     row: &mut [i64],
 ) -> PartRead
     requires { ⌜ (at ≤ length (now bytes)) × T (sizesRight (sizesOf z)) ⌝ }
-    requires { ⌜ length (now row) ≡ 320 ⌝ }
+    requires { ⌜ now row ≡ zeros 320 ⌝ }
     ensures { λ r. ⌜ Answers (now (bytes .entry)) (r .refusal) (rowOf (now (row .exit))) (r .at) (termsInto (sizesOf z) count (z .l) 0 blankRow (drop at (now (bytes .entry)))) ⌝ }
 {
-    rows::stores::clear(row, 0, 320);
     let mut next = at;
     let mut block = z.l;
     let mut column = 0;
@@ -94,7 +94,7 @@ fn most_terms(z: rows::validity::Sizes) -> i64
     (z.m * ((z.l - z.t) as usize + 1)) as i64
 }
 
-// "An equation is its number of terms [..], then each term", read into the 320 numbers of a row.
+// "An equation is its number of terms [..], then each term", read into the 320 numbers of a row that is zero.
 pub(crate) fn equation_at(
     bytes: &[u8],
     at: usize,
@@ -102,7 +102,7 @@ pub(crate) fn equation_at(
     row: &mut [i64],
 ) -> PartRead
     requires { ⌜ (at ≤ length (now bytes)) × T (sizesRight (sizesOf z)) ⌝ }
-    requires { ⌜ length (now row) ≡ 320 ⌝ }
+    requires { ⌜ now row ≡ zeros 320 ⌝ }
     ensures { λ r. ⌜ Answers (now (bytes .entry)) (r .refusal) (rowOf (now (row .exit))) (r .at) (readEquation (sizesOf z) (drop at (now (bytes .entry)))) ⌝ }
 {
     let k = crate::counts::count_at(bytes, at, most_terms(z));

@@ -24,16 +24,17 @@ pub fn read_sheet(bytes: &[u8], rows: &mut [i64], relations: &mut [i64]) -> shee
     if h.refusal != 0 {
         return sheet::refused(h.refusal);
     }
-    if h.relations == 0 {
+    let used = h.relations * 321;
+    if used == 0 {
         let mut none = [0i64; 1];
-        return sheet::fill(bytes, h, &row_numbers, &mut none, rows, relations);
+        return sheet::fill(bytes, h, &row_numbers, &mut none[..used], rows, relations);
     }
     let mut relation_numbers = [0i64; 5136];
     sheet::fill(
         bytes,
         h,
         &row_numbers,
-        &mut relation_numbers,
+        &mut relation_numbers[..used],
         rows,
         relations,
     )

@@ -1,22 +1,27 @@
 // A sheet read straight into stores of the caller's own.
 ghost use mathlib.Core.Path.{_≡_};
-ghost use Prim.Native.Nat.{_≤_};
-ghost use lib.ListN.{length};
+ghost use Rattle.rules.specs.Calls.{zeros};
 ghost use Rattle.rules.specs.SheetCalls.{readCall};
 ghost use Rattle.reading.specs.ReadCalls.{callOf};
 
-// The stores hold afterwards what reading the sheet into them would leave. No public entry point: the stores must have the
-// largest sizes, and a refusal does not leave them as they were.
+// What `read_sheet` promises, in stores of the largest sizes that are zero: no copy is made, and on a refusal only what may have been
+// written is cleared again. No public entry point.
 pub fn read_own(bytes: &[u8], rows: &mut [i64], relations: &mut [i64]) -> crate::sheet::SheetResult
-    requires { ⌜ (1280 ≤ length (now rows)) × (5136 ≤ length (now relations)) ⌝ }
+    requires { ⌜ (now rows ≡ zeros 1280) × (now relations ≡ zeros 5136) ⌝ }
     ensures { λ r. ⌜ callOf r (now (rows .exit)) (now (relations .exit))
-        ≡ readCall (now (bytes .entry)) (now (rows .exit)) (now (relations .exit)) ⌝ }
+        ≡ readCall (now (bytes .entry)) (now (rows .entry)) (now (relations .entry)) ⌝ }
 {
-    let r = crate::sheet::sheet_at(bytes, rows, relations);
+    let h = crate::sheet::head_at(bytes, rows);
+    if h.refusal != 0 {
+        rows::stores::clear(rows, 0, h.sizes.m * 320);
+        return crate::sheet::refused(h.refusal);
+    }
+    let used = h.relations * 321;
+    let r = crate::sheet::rest_at(bytes, h, &mut relations[..used]);
     if r.refusal != 0 {
+        rows::stores::clear(rows, 0, h.sizes.m * 320);
+        rows::stores::clear(relations, 0, used);
         return crate::sheet::refused(r.refusal);
     }
-    let used = r.relations * 321;
-    rows::stores::clear(relations, used, 5136 - used);
     r
 }

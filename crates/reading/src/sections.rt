@@ -1,15 +1,16 @@
-// The sections of a sheet, "fixed order, each after its count", read into stores of the largest sizes.
+// The sections of a sheet, "fixed order, each after its count", each read into a store of its size that is zero.
 ghost use mathlib.Core.Path.{_≡_};
 ghost use Prim.Native.Nat.{_*_, _≤_};
 ghost use lib.ListN.{length, drop};
 ghost use lib.Dec.{T};
 ghost use Rattle.rules.specs.Stores.{rowsOf, relationOf, relationsOf, sizesRight};
+ghost use Rattle.rules.specs.Calls.{zeros};
 ghost use Rattle.rules.specs.Sheets.{readEquations, readRelation, readRelations};
 ghost use Rattle.tokens.specs.Fields.{Answers};
 ghost use Rattle.rows.specs.Validity.{sizesOf};
 ghost use Rattle.reading.specs.WholeSheet.{equationSection};
 
-// The m equations, read into the first m × 320 numbers of `rows`.
+// The m equations, read into the m × 320 numbers of `rows`.
 fn equations_at(
     bytes: &[u8],
     at: usize,
@@ -17,7 +18,7 @@ fn equations_at(
     rows: &mut [i64],
 ) -> crate::equations::PartRead
     requires { ⌜ (at ≤ length (now bytes)) × T (sizesRight (sizesOf z)) ⌝ }
-    requires { ⌜ 1280 ≤ length (now rows) ⌝ }
+    requires { ⌜ now rows ≡ zeros (z .m * 320) ⌝ }
     ensures { λ r. ⌜ Answers (now (bytes .entry)) (r .refusal) (rowsOf (z .m) (now (rows .exit))) (r .at) (readEquations (sizesOf z) (z .m) (drop at (now (bytes .entry)))) ⌝ }
 {
     let mut next = at;
@@ -46,7 +47,7 @@ fn relation_at(
     relation: &mut [i64],
 ) -> crate::equations::PartRead
     requires { ⌜ (at ≤ length (now bytes)) × T (sizesRight (sizesOf z)) ⌝ }
-    requires { ⌜ length (now relation) ≡ 321 ⌝ }
+    requires { ⌜ now relation ≡ zeros 321 ⌝ }
     ensures { λ r. ⌜ Answers (now (bytes .entry)) (r .refusal) (relationOf (now (relation .exit))) (r .at) (readRelation (sizesOf z) (drop at (now (bytes .entry)))) ⌝ }
 {
     let n = tokens::small_at(bytes, at);
@@ -58,7 +59,7 @@ fn relation_at(
     crate::equations::equation_at(bytes, n.at, z, &mut relation[1..])
 }
 
-// The relations, read into the first `count` × 321 numbers of `relations`.
+// The relations, read into the `count` × 321 numbers of `relations`.
 pub(crate) fn relations_at(
     bytes: &[u8],
     at: usize,
@@ -67,7 +68,7 @@ pub(crate) fn relations_at(
     relations: &mut [i64],
 ) -> crate::equations::PartRead
     requires { ⌜ (at ≤ length (now bytes)) × T (sizesRight (sizesOf z)) ⌝ }
-    requires { ⌜ (count ≤ 16) × (count * 321 ≤ length (now relations)) ⌝ }
+    requires { ⌜ (count ≤ 16) × (now relations ≡ zeros (count * 321)) ⌝ }
     ensures { λ r. ⌜ Answers (now (bytes .entry)) (r .refusal) (relationsOf count (now (relations .exit))) (r .at) (readRelations (sizesOf z) count (drop at (now (bytes .entry)))) ⌝ }
 {
     let mut next = at;
@@ -96,7 +97,7 @@ pub(crate) fn equation_section(
     rows: &mut [i64],
 ) -> crate::equations::PartRead
     requires { ⌜ (at ≤ length (now bytes)) × T (sizesRight (sizesOf z)) ⌝ }
-    requires { ⌜ 1280 ≤ length (now rows) ⌝ }
+    requires { ⌜ now rows ≡ zeros (z .m * 320) ⌝ }
     ensures { λ r. ⌜ Answers (now (bytes .entry)) (r .refusal) (rowsOf (z .m) (now (rows .exit))) (r .at) (equationSection (sizesOf z) (drop at (now (bytes .entry)))) ⌝ }
 {
     let m = z.m as i64;

@@ -2,11 +2,11 @@
 ghost use mathlib.Core.Path.{_≡_};
 ghost use Prim.Native.Nat.{_*_, _≤_};
 ghost use mathlib.Core.List.{List};
-ghost use lib.ListN.{length};
+ghost use lib.ListN.{length, drop};
 ghost use lib.IntN.{ℤ};
 ghost use lib.Dec.{T};
 ghost use Rattle.rules.specs.Stores.{sizesRight, rowsOf, relationsOf, rowStoreOf, relationStoreOf};
-ghost use Rattle.rules.specs.Calls.{overwrite};
+ghost use Rattle.rules.specs.Calls.{overwrite, zeros};
 ghost use Rattle.rules.specs.SheetCalls.{readRefusal, readCall};
 ghost use Rattle.rows.specs.Validity.{sizesOf};
 ghost use Rattle.reading.specs.WholeSheet.{resultOf, HeadTo, HeadRead, SheetRead};
@@ -40,34 +40,37 @@ pub(crate) struct SheetHead {
     pub relations: usize,
 }
 
-fn no_head(refusal: u8) -> SheetHead
-    ensures { λ r. ⌜ r .refusal ≡ refusal ⌝ }
+fn no_head(refusal: u8, m: usize) -> SheetHead
+    ensures { λ r. ⌜ (r .refusal ≡ refusal) × (r .sizes .m ≡ m) ⌝ }
 {
     SheetHead {
         refusal,
         at: 0,
-        sizes: rows::validity::Sizes { m: 0, l: 0, t: 0 },
+        sizes: rows::validity::Sizes { m, l: 0, t: 0 },
         relations: 0,
     }
 }
 
-// The sizes, the equations, read into `rows`, and the number of relations.
+// The sizes, the equations, read into the first m × 320 numbers of `rows`, and the number of relations. With a refusal, m says how
+// much may have been written.
 pub(crate) fn head_at(bytes: &[u8], rows: &mut [i64]) -> SheetHead
-    requires { ⌜ 1280 ≤ length (now rows) ⌝ }
+    requires { ⌜ now rows ≡ zeros 1280 ⌝ }
     ensures { λ r. ⌜ HeadRead (now (bytes .entry)) (r .refusal) (sizesOf (r .sizes)) (r .relations) (r .at) (now (rows .exit)) ⌝ }
+    ensures { λ r. ⌜ (r .sizes .m ≤ 4) × (drop (r .sizes .m * 320) (now (rows .exit)) ≡ drop (r .sizes .m * 320) (now (rows .entry))) ⌝ }
 {
     let z = crate::sizes::sizes_at(bytes, 0);
     if z.refusal != 0 {
-        return no_head(z.refusal);
+        return no_head(z.refusal, 0);
     }
     let sizes = z.sizes;
-    let e = crate::sections::equation_section(bytes, z.at, sizes, rows);
+    let used = sizes.m * 320;
+    let e = crate::sections::equation_section(bytes, z.at, sizes, &mut rows[..used]);
     if e.refusal != 0 {
-        return no_head(e.refusal);
+        return no_head(e.refusal, sizes.m);
     }
     let k = tokens::number_between(bytes, e.at, 0, 16, 10);
     if k.refusal != 0 {
-        return no_head(k.refusal);
+        return no_head(k.refusal, sizes.m);
     }
     SheetHead {
         refusal: 0,
@@ -78,11 +81,11 @@ pub(crate) fn head_at(bytes: &[u8], rows: &mut [i64]) -> SheetHead
 }
 
 // The relations, read into `relations`, the column order and the end. "4 the bytes [..] go on after the fourth section"
-fn rest_at(bytes: &[u8], h: SheetHead, relations: &mut [i64]) -> SheetResult
+pub(crate) fn rest_at(bytes: &[u8], h: SheetHead, relations: &mut [i64]) -> SheetResult
     requires { ⌜ (h .at ≤ length (now bytes)) × T (sizesRight (sizesOf (h .sizes))) ⌝ }
-    requires { ⌜ (h .relations ≤ 16) × (h .relations * 321 ≤ length (now relations)) ⌝ }
+    requires { ⌜ (h .relations ≤ 16) × (now relations ≡ zeros (h .relations * 321)) ⌝ }
     ensures { λ r. ⌜ ((rows : List ℤ) → HeadTo (now (bytes .entry)) (sizesOf (h .sizes)) (h .relations) (h .at) rows → SheetRead (now (bytes .entry)) (resultOf r) rows (now (relations .exit))) ⌝ }
-    ensures { λ r. ⌜ (r .refusal ≡ 0 → r .relations ≡ h .relations) ⌝ }
+    ensures { λ r. ⌜ (r .refusal ≡ 0 → (r .sizes .m ≡ h .sizes .m) × (r .relations ≡ h .relations)) ⌝ }
 {
     let sizes = h.sizes;
     let s = crate::sections::relations_at(bytes, h.at, sizes, h.relations, relations);
@@ -103,18 +106,6 @@ fn rest_at(bytes: &[u8], h: SheetHead, relations: &mut [i64]) -> SheetResult
         relations: h.relations,
         order,
     }
-}
-
-// A sheet read into stores of the largest sizes.
-pub(crate) fn sheet_at(bytes: &[u8], rows: &mut [i64], relations: &mut [i64]) -> SheetResult
-    requires { ⌜ (1280 ≤ length (now rows)) × (5136 ≤ length (now relations)) ⌝ }
-    ensures { λ r. ⌜ SheetRead (now (bytes .entry)) (resultOf r) (now (rows .exit)) (now (relations .exit)) ⌝ }
-{
-    let h = head_at(bytes, rows);
-    if h.refusal != 0 {
-        return refused(h.refusal);
-    }
-    rest_at(bytes, h, relations)
 }
 
 // The numbers of m rows, put into a store that is long enough; "numbers past the needed part stay".
@@ -147,7 +138,7 @@ pub(crate) fn fill(
     relations: &mut [i64],
 ) -> SheetResult
     requires { ⌜ HeadTo (now bytes) (sizesOf (h .sizes)) (h .relations) (h .at) (now equations) ⌝ }
-    requires { ⌜ (1280 ≤ length (now equations)) × (h .relations * 321 ≤ length (now scratch)) ⌝ }
+    requires { ⌜ (1280 ≤ length (now equations)) × (now scratch ≡ zeros (h .relations * 321)) ⌝ }
     ensures { λ r. ⌜ callOf r (now (rows .exit)) (now (relations .exit))
         ≡ readCall (now (bytes .entry)) (now (rows .entry)) (now (relations .entry)) ⌝ }
 {

@@ -1,5 +1,1 @@
-pub mod Runs
-pub mod Gathered
-pub mod Reading
-pub mod Turns
-pub mod Whole
+pub mod Passing

@@ -1,243 +1,117 @@
-// The batch program: a batch on standard input, its answers on standard output. `batches` decides every line and every answer;
-// here the input comes through a window and the output is gathered, so that no `read` or `write` is made for a single line.
+// The batch program: each piece of standard input is handed to `batches::piece`, and what comes out is written before more is read. What
+// is written for which input is proved of the calls of `batches`; that these loops hand over every byte that was read, in order, and
+// write every byte that came out, is for the reader's eye.
+use libc::STDERR_FILENO;
+use libc::STDIN_FILENO;
+use libc::STDOUT_FILENO;
 ghost use mathlib.Core.Path.{_≡_};
-ghost use mathlib.Core.Bool.{true, false};
-ghost use Prim.Native.Nat.{_+_, _-_, _≤_, _<_};
+ghost use Prim.Native.Nat.{_≤_};
 ghost use lib.ListN.{length};
-ghost use lib.Seq.{paste};
-ghost use Rattle.streams.specs.Windows.{held, Within};
-ghost use Rattle.regularise.specs.Runs.{Largest, Answered, Found, Going, Progress, Begins, Ended, Written};
+ghost use Rattle.batches.specs.PieceCalls.{heldNeed, streamCheck};
+ghost use Rattle.batches.specs.Rooms.{answerRoom};
 
-// A line of a batch is decided by its first 24 bytes.
-const LINE: usize = 24;
-
-// "Output sheets above 65,536 bytes are refusal 1."
-const SHEET: usize = 65536;
-
-// Gathered output is written where it is more than this.
-const GATHERED: usize = 65536;
-
-// The window with what is read, the sheets to come with the answers so far, and the place behind the output that is gathered.
-// `whole` says that no line was broken and no bytes were missing.
-struct Run {
-    window: streams::input::Window,
-    batch: batches::Batch,
-    at: usize,
-    whole: bool,
-}
-
-// A line put behind what is gathered, and the place after it.
-fn put_line(output: &mut [u8], at: usize, line: batches::TextLine) -> usize
-    requires { ⌜ (line .length ≤ 24) × (at + 24 ≤ length (now output)) ⌝ }
-    ensures { λ r. ⌜ (r ≡ at + line .length)
-        × (now (output .exit) ≡ paste (now (output .entry)) at (line .bytes) (line .length)) ⌝ }
+// The store for bytes that begin a line or a sheet.
+fn store() -> [u8; 32792]
+    ensures { λ r. ⌜ 32792 ≡ length r ⌝ }
 {
-    let length = line.length;
-    let bytes = line.bytes;
-    streams::output::put(output, at, &bytes[..length])
+    [0; 32792]
 }
 
-// The answer to one sheet, put behind what is gathered: "`0` and the leading-side sheet, or the refusal number alone on a
-// line". The sheet goes to its place behind the line `0`, and then the line before it.
-struct Put {
-    refusal: u8,
-    at: usize,
-}
-
-fn put_answer(
-    sheet: &[u8],
-    output: &mut [u8],
-    rows: &mut [i64],
-    relations: &mut [i64],
-    at: usize,
-) -> Put
-    requires { ⌜ (at + 65560 ≤ length (now output)) × Largest (now rows) (now relations) ⌝ }
-    ensures { λ r. ⌜ Answered (now (sheet .entry)) (now (output .entry)) at r (now (output .exit)) ⌝ }
+// Room for at least two answers.
+fn room() -> [u8; 131076]
+    ensures { λ r. ⌜ 131076 ≡ length r ⌝ }
 {
-    let zero = batches::refusal_line(0);
-    let from = at + zero.length;
-    let to = from + SHEET;
-    let answer = answers::answer_in(sheet, rows, relations, &mut output[from..to]);
-    let line = batches::refusal_line(answer.refusal);
-    let next = put_line(output, at, line);
-    Put {
-        refusal: answer.refusal,
-        at: next + answer.length,
+    [0; 131076]
+}
+
+// Output, written at once. Where that fails, standard error says so.
+fn put(text: &[u8]) -> bool {
+    let written = io::write_all(STDOUT_FILENO, text);
+    if !written {
+        io::write_all(
+            STDERR_FILENO,
+            b"regularise: standard output cannot be written\n",
+        );
     }
+    written
 }
 
-// The next sheet: where `whole`, the window begins with its `size` bytes; otherwise its line is broken or bytes are missing.
-struct Next {
-    window: streams::input::Window,
-    size: usize,
-    whole: bool,
+// How the batch stands, and whether all output could be written.
+struct Passed {
+    stream: batches::Stream,
+    written: bool,
 }
 
-fn broken(window: streams::input::Window) -> Next
-    ensures { λ r. ⌜ r ≡ record { window = window; size = 0; whole = false } ⌝ }
+// A piece of the input, handed over in as many calls as its answers need.
+fn pass(start: batches::Stream, held: &mut [u8], input: &[u8], output: &mut [u8]) -> Passed
+    requires { ⌜ (streamCheck start (now held) ≡ 0) × (answerRoom ≤ length (now output)) ⌝ }
+    ensures { λ r. ⌜ streamCheck (r .stream) (now (held .exit)) ≡ 0 ⌝ }
 {
-    Next {
-        window,
-        size: 0,
-        whole: false,
-    }
-}
-
-fn next_sheet(store: &mut [u8], window: streams::input::Window) -> Next
-    requires { ⌜ (length (now store) ≡ 65536) × Within 65536 window ⌝ }
-    ensures { λ r. ⌜ Found window (held window (now (store .entry))) r (now (store .exit)) ⌝ }
-{
-    let w = streams::input::fill(store, window, LINE);
-    let from = w.from;
-    let to = w.to;
-    let line = batches::line(&store[from..to]);
-    if line.refusal != 0 {
-        return broken(w);
-    }
-    let size = line.bytes;
-    let v = streams::input::fill(store, streams::input::past(w, line.taken), size);
-    if v.to - v.from < size {
-        return broken(v);
-    }
-    Next {
-        window: v,
-        size,
-        whole: true,
-    }
-}
-
-// One sheet and its answer.
-fn sheet(
-    store: &mut [u8],
-    output: &mut [u8],
-    rows: &mut [i64],
-    relations: &mut [i64],
-    run: Run,
-) -> Run
-    requires { ⌜ (length (now store) ≡ 65536) × (length (now output) ≡ 131136) × Going run × (0 < run .batch .left)
-        × Largest (now rows) (now relations) ⌝ }
-    ensures { λ r. ⌜ Going r × (r .whole ≡ true → r .batch .left < run .batch .left)
-        × Progress run (now (store .entry)) (now (output .entry)) r (now (store .exit)) (now (output .exit)) ⌝ }
-{
-    let batch = run.batch;
-    let at = run.at;
-    let next = next_sheet(store, run.window);
-    let window = next.window;
-    if !next.whole {
-        return Run {
-            window,
-            batch,
-            at,
-            whole: false,
-        };
-    }
-    let from = window.from;
-    let to = from + next.size;
-    let put = put_answer(&store[from..to], output, rows, relations, at);
-    Run {
-        window: streams::input::past(window, next.size),
-        batch: batches::counted(batch, put.refusal),
-        at: streams::output::drain(output, put.at, GATHERED),
-        whole: true,
-    }
-}
-
-// Every sheet, up to one that is broken, each worked out in the same stores.
-fn sheets_in(
-    store: &mut [u8],
-    output: &mut [u8],
-    rows: &mut [i64],
-    relations: &mut [i64],
-    begun: Run,
-) -> Run
-    requires { ⌜ (length (now store) ≡ 65536) × (length (now output) ≡ 131136) × Going begun × (begun .whole ≡ true)
-        × Largest (now rows) (now relations) ⌝ }
-    ensures { λ r. ⌜ Going r × (r .whole ≡ true → r .batch .left ≡ 0)
-        × Progress begun (now (store .entry)) (now (output .entry)) r (now (store .exit)) (now (output .exit)) ⌝ }
-{
-    let mut run = begun;
-    while 0 < run.batch.left {
-        run = sheet(store, output, rows, relations, run);
-        if !run.whole {
-            break;
+    let mut stream = start;
+    let mut at = 0;
+    while at < input.len() {
+        let passed = batches::piece(stream, held, &input[at..], output);
+        stream = passed.stream;
+        at += passed.taken;
+        let length = passed.written;
+        if !put(&output[..length]) {
+            return Passed {
+                stream,
+                written: false,
+            };
         }
     }
-    run
-}
-
-fn sheets(store: &mut [u8], output: &mut [u8], begun: Run) -> Run
-    requires { ⌜ (length (now store) ≡ 65536) × (length (now output) ≡ 131136) × Going begun × (begun .whole ≡ true) ⌝ }
-    ensures { λ r. ⌜ Going r × (r .whole ≡ true → r .batch .left ≡ 0)
-        × Progress begun (now (store .entry)) (now (output .entry)) r (now (store .exit)) (now (output .exit)) ⌝ }
-{
-    let mut rows = [0i64; 1280];
-    let mut relations = [0i64; 5136];
-    sheets_in(store, output, &mut rows, &mut relations, begun)
-}
-
-// What a batch begins with: the line with the sheet count; refusal 0 or 3.
-struct Opened {
-    refusal: u8,
-    run: Run,
-}
-
-fn first_line(store: &mut [u8]) -> Opened
-    requires { ⌜ length (now store) ≡ 65536 ⌝ }
-    ensures { λ r. ⌜ Begins r (now (store .exit)) ⌝ }
-{
-    let w = streams::input::fill(store, streams::input::start(), LINE);
-    let from = w.from;
-    let to = w.to;
-    let begun = batches::begin(&store[from..to]);
-    let batch = begun.batch;
-    Opened {
-        refusal: begun.refusal,
-        run: Run {
-            window: streams::input::past(w, begun.taken),
-            batch,
-            at: 0,
-            whole: true,
-        },
+    Passed {
+        stream,
+        written: true,
     }
 }
 
-// What a batch ends with: `accepted refused`, or `3` where sheets are still to come or bytes are left over. The place behind it.
-fn last_line(store: &mut [u8], output: &mut [u8], last: Run) -> usize
-    requires { ⌜ (length (now store) ≡ 65536) × (length (now output) ≡ 131136) × Going last × (last .whole ≡ true → last .batch .left ≡ 0) ⌝ }
-    ensures { λ r. ⌜ Ended last (now (store .entry)) (now (output .entry)) r (now (output .exit)) ⌝ }
-{
-    let over = streams::input::fill(store, last.window, 1);
-    put_line(
-        output,
-        last.at,
-        batches::close(last.batch, over.to - over.from),
-    )
-}
-
-// A whole batch. What it has written, and then what is gathered up to the place that it gives, is the output for what it has
-// read.
-fn batch(store: &mut [u8], output: &mut [u8]) -> usize
-    requires { ⌜ (length (now store) ≡ 65536) × (length (now output) ≡ 131136) ⌝ }
-    ensures { λ r. ⌜ Written r (now (output .exit)) ⌝ }
-{
-    let opened = first_line(store);
-    if opened.refusal != 0 {
-        return put_line(output, 0, batches::refusal_line(opened.refusal));
+// Nothing more is answered after a broken batch.
+fn over(stage: batches::Stage) -> bool {
+    match stage {
+        batches::Stage::Over => true,
+        batches::Stage::Count | batches::Stage::Sheets => false,
     }
-    let last = sheets(store, output, opened.run);
-    last_line(store, output, last)
 }
 
-// Room for the output that is kept back, one answer and the last line.
-fn room() -> [u8; 131136]
-    ensures { λ r. ⌜ 131136 ≡ length r ⌝ }
+// A proved loop has to end, and nothing says that the input does: the turns are counted down from a number that no run uses up.
+fn pass_all(held: &mut [u8], input: &mut [u8], output: &mut [u8]) -> Passed
+    requires { ⌜ (heldNeed ≤ length (now held)) × (answerRoom ≤ length (now output)) ⌝ }
 {
-    [0; 131136]
+    let mut passed = Passed {
+        stream: batches::start(),
+        written: true,
+    };
+    let mut turns = u64::MAX;
+    while 0 < turns {
+        let got = libc::read(STDIN_FILENO, input);
+        let count = io::count(got, input);
+        if count == 0 {
+            return passed;
+        }
+        let stream = passed.stream;
+        passed = pass(stream, held, &input[..count], output);
+        if !passed.written {
+            return passed;
+        }
+        let after = passed.stream;
+        let stage = after.stage;
+        if over(stage) {
+            return passed;
+        }
+        turns -= 1;
+    }
+    passed
 }
 
 fn main() {
-    let mut store = io::large_buffer();
+    let mut held = store();
+    let mut input = io::large_buffer();
     let mut output = room();
-    let at = batch(&mut store, &mut output);
-    streams::output::drain(&output, at, 0);
+    let passed = pass_all(&mut held, &mut input, &mut output);
+    if passed.written {
+        let last = batches::finish(passed.stream, &mut output);
+        put(&output[..last.length]);
+    }
 }

@@ -36,6 +36,8 @@ pub enum Case {
     Write { stores: Stores, asked: Asked, order: Vec<i64>, bytes: Vec<u8> },
     /// An input of the batch program.
     Batch { input: Vec<u8> },
+    /// A batch that is worked by a call, into a byte store.
+    BatchCall { input: Vec<u8>, bytes: Vec<u8>, result: Vec<i64> },
 }
 
 #[derive(Clone, Copy, Debug, PartialEq, Eq)]
@@ -45,10 +47,11 @@ pub enum Kind {
     Read,
     Write,
     Batch,
+    BatchCall,
 }
 
 impl Kind {
-    pub const ALL: [Kind; 5] = [Kind::Leading, Kind::Trailing, Kind::Read, Kind::Write, Kind::Batch];
+    pub const ALL: [Kind; 6] = [Kind::Leading, Kind::Trailing, Kind::Read, Kind::Write, Kind::Batch, Kind::BatchCall];
 
     /// The k-th case of its kind. Leading and trailing runs have the same systems.
     pub fn case(self, k: usize) -> Case {
@@ -60,6 +63,7 @@ impl Kind {
             Kind::Read => read_case(&mut random),
             Kind::Write => write_case(&mut random),
             Kind::Batch => Case::Batch { input: batch(&mut random) },
+            Kind::BatchCall => batch_call_case(&mut random),
         }
     }
 }
@@ -114,6 +118,16 @@ fn write_case(random: &mut Random) -> Case {
     let exact = text.len();
     let length = random.pick(&[exact, exact, exact + 1, exact + 70, exact - 1, exact / 2]);
     Case::Write { stores, asked, order, bytes: (0..length).map(|k| k as u8).collect() }
+}
+
+/// A batch with a byte store for its output: just long enough, longer, one byte too short, or much shorter.
+fn batch_call_case(random: &mut Random) -> Case {
+    let input = batch(random);
+    let exact = outside::batch::output(&input, None).len();
+    let length = random.pick(&[exact, exact, exact + 1, exact + 70, exact - 1, exact - 1, exact / 2, 0]);
+    let bytes = (0..length).map(|k| k as u8 | 1).collect();
+    let result = (0..random.pick(&[1, 1, 1, 2, 5, 0])).map(|_| random.junk()).collect();
+    Case::BatchCall { input, bytes, result }
 }
 
 fn written_order(order: &[i64]) -> Vec<usize> {
@@ -213,6 +227,11 @@ impl Case {
                 let stores = Stores { rows: Vec::new(), relations: Vec::new(), result: Vec::new() };
                 vec![Answer { number: 0, stores, bytes: subject.batch(input) }]
             }
+            Case::BatchCall { input, bytes, result } => {
+                let (mut bytes, mut result) = (bytes.clone(), result.clone());
+                let number = subject.batch_call(input, &mut bytes, &mut result);
+                vec![Answer { number, stores: Stores { rows: Vec::new(), relations: Vec::new(), result }, bytes }]
+            }
         }
     }
 
@@ -231,6 +250,9 @@ impl Case {
                 text(sheet)
             ),
             Case::Batch { input } => format!("batch\n{}", text(input)),
+            Case::BatchCall { input, bytes, result } => {
+                format!("batch, {} bytes, result {}\n{}", bytes.len(), result.len(), text(input))
+            }
         }
     }
 }

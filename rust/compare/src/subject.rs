@@ -2,7 +2,7 @@
 
 use outside::elimination::Side;
 use outside::fault::Fault;
-use outside::stores::{read_on_stores, run_on_stores, write_on_stores, Asked};
+use outside::stores::{batch_on_stores, read_on_stores, run_on_stores, write_on_stores, Asked};
 use std::env;
 use std::io::{Read, Write};
 use std::path::{Path, PathBuf};
@@ -25,6 +25,8 @@ pub trait Subject {
     ) -> u8;
     /// What the batch program writes.
     fn batch(&self, input: &[u8]) -> Vec<u8>;
+    /// The same by a call on stores.
+    fn batch_call(&self, input: &[u8], output: &mut [u8], result: &mut [i64]) -> u8;
 }
 
 /// The outside implementation.
@@ -57,6 +59,10 @@ impl Subject for Outside {
 
     fn batch(&self, input: &[u8]) -> Vec<u8> {
         outside::batch::output(input, self.0)
+    }
+
+    fn batch_call(&self, input: &[u8], output: &mut [u8], result: &mut [i64]) -> u8 {
+        batch_on_stores(input, output, result, self.0)
     }
 }
 
@@ -126,6 +132,10 @@ impl Subject for Library {
 
     fn batch(&self, input: &[u8]) -> Vec<u8> {
         output_of(Command::new(&self.program), input)
+    }
+
+    fn batch_call(&self, input: &[u8], output: &mut [u8], result: &mut [i64]) -> u8 {
+        wurgalm::stores::batch(input, output, result)
     }
 }
 

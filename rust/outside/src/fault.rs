@@ -70,6 +70,12 @@ faults! {
     MissingAnswered: "a sheet of which bytes are missing is answered",
     LargeOutput: "output sheets above 65,536 bytes are written",
     CountsAfterBreak: "the last line is written after a broken frame too",
+    // Batches on stores.
+    BatchStoresKept: "an output store too short for a batch stays as it is",
+    BatchCut: "an output store too short for a batch gets the beginning of the output",
+    BatchTailZeroed: "bytes past the output of a batch become zero",
+    BatchResultLast: "a result store of no number is found after a batch is worked",
+    BatchBrokenRefused: "a broken batch is refused with 3",
 }
 
 /// Whether the version at hand is the wrong one that is asked for.

@@ -1,8 +1,9 @@
 //! Calls on lent stores: layout, checks, and what each call leaves in them.
 //!
-//! The three calls have the arguments of the exported functions: a lent store `result` takes the answer, its length is
+//! The calls have the arguments of the exported functions: a lent store `result` takes the answer, its length is
 //! checked with the other lengths, and it is left as the other stores are.
 
+use crate::batch;
 use crate::elimination::{run, Run, Side};
 use crate::fault::{is, Fault};
 use crate::polynomial::Polynomial;
@@ -309,6 +310,36 @@ fn order_argument(order: &[i64], m: usize) -> Result<Vec<usize>, Refusal> {
     } else {
         Err(Refusal::Range)
     }
+}
+
+/// Works a whole batch into a byte store; the answer is the length of the output. A broken batch is worked too. The result's length is
+/// checked before the work; that the output store is too short is found during it, and all of that store is needed.
+pub fn batch_on_stores(input: &[u8], output: &mut [u8], result: &mut [i64], fault: Option<Fault>) -> u8 {
+    number_of(batch_to_stores(input, output, result, fault))
+}
+
+fn batch_to_stores(input: &[u8], output: &mut [u8], result: &mut [i64], fault: Option<Fault>) -> Result<(), Refusal> {
+    if !is(fault, Fault::BatchResultLast) {
+        long_enough(&[(result.len(), 1)])?;
+    }
+    let text = batch::output(input, fault);
+    let broken = text == b"3\n" || text.ends_with(b"\n3\n");
+    if broken && is(fault, Fault::BatchBrokenRefused) {
+        return Err(Refusal::Form);
+    }
+    let fits = long_enough(&[(output.len(), text.len())]);
+    match fault {
+        _ if fits.is_ok() => output[..text.len()].copy_from_slice(&text),
+        Some(Fault::BatchStoresKept) => return fits,
+        Some(Fault::BatchCut) => output.copy_from_slice(&text[..output.len()]),
+        _ => output.fill(0),
+    }
+    if is(fault, Fault::BatchTailZeroed) && fits.is_ok() {
+        output[text.len()..].fill(0);
+    }
+    long_enough(&[(result.len(), 1)])?;
+    result[0] = if fits.is_ok() { text.len() as i64 } else { 0 };
+    fits
 }
 
 // ---- one polynomial of a row store ----

@@ -39,4 +39,8 @@ foreign! {
         bytes: *mut u8, bytes_length: usize,
         result: *mut i64, result_length: usize,
     ) -> u8;
+    fn wurgalm_batch(
+        input: *const u8, input_length: usize, output: *mut u8, output_length: usize,
+        result: *mut i64, result_length: usize,
+    ) -> u8;
 }

@@ -100,3 +100,26 @@ pub fn write_sheet(rows: &[i64], relations: &[i64], heading: &Heading, bytes: &m
     let number = stores::write_sheet(rows, relations, m, l, t, heading.relations, &heading.order, bytes, &mut result);
     accepted(number, result[0] as usize)
 }
+
+/// Works a whole batch, writes what the batch program would write to the beginning of `output`, and tells its length. A broken batch is
+/// worked too: its output ends in the line `3`. The only refusal is 1, an output store that is too short, which is then zero;
+/// [`batch_output`] bytes are enough.
+///
+/// ```
+/// let sheet = "3 1 1 0\n1\n2 1 1 2 -3 1 0 1 1 -1\n0\n0\n"; // (n - 3) x(n + 1) - x(n) = 0
+/// let input = format!("2\n1 {}\n{sheet}8 3\n3 0", sheet.len());
+/// let mut output = vec![0; wurgalm::batch_output(2)];
+/// let length = wurgalm::batch(input.as_bytes(), &mut output).unwrap();
+/// let answer = "0\n3 1 1 0\n1\n2 1 1 2 -3 1 0 1 1 -1\n0\n1 1\n"; // the same system, in the column order 1
+/// assert_eq!(output[..length], *format!("{answer}4\n1 1\n").as_bytes()); // and the end of a sheet that is cut, refused with 4
+/// ```
+pub fn batch(input: &[u8], output: &mut [u8]) -> Result<usize, Refusal> {
+    let mut result = [0; 1];
+    let number = stores::batch(input, output, &mut result);
+    accepted(number, result[0] as usize)
+}
+
+/// Bytes that are enough for the output of a batch of so many sheets.
+pub const fn batch_output(sheets: usize) -> usize {
+    sheets * (2 + 65_536) + 64
+}

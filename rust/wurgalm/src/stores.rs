@@ -108,3 +108,18 @@ pub fn write_sheet(
         )
     }
 }
+
+/// One number in `result`: the length of the output. An output store that is too short is refused with all of it zero.
+pub fn batch(input: &[u8], output: &mut [u8], result: &mut [i64]) -> u8 {
+    // SAFETY: as above; `input` is only read.
+    unsafe {
+        foreign::wurgalm_batch(
+            input.as_ptr(),
+            input.len(),
+            output.as_mut_ptr(),
+            output.len(),
+            result.as_mut_ptr(),
+            result.len(),
+        )
+    }
+}

@@ -1,6 +1,6 @@
 //! K2 and K11 of document 01 through the library. Where it is not built a call panics, so every test here fails.
 
-use wurgalm::{read_sheet, row_store, run_leading, run_trailing, write_sheet};
+use wurgalm::{batch, batch_output, read_sheet, row_store, run_leading, run_trailing, write_sheet};
 use wurgalm::{Heading, Refusal, Report, Sizes, RELATION_STORE};
 
 const K2: &[u8] = b"3 2 1 0\n2\n2 1 1 2 0 1 0 2 1 -1\n2 1 1 1 1 0 1 1 -1\n0\n0\n";
@@ -33,4 +33,18 @@ fn k11() {
     let report = run_trailing(&mut rows, &mut relations, heading.sizes, 0).unwrap();
     assert_eq!(report, Report { relations: 0, shifts: 1, order: [1, 0, 0, 0], root: Some(1) });
     assert_eq!(rows[64..66], [-1, 1]);
+}
+
+#[test]
+fn k2_in_a_batch() {
+    let input = [b"1\n1 54\n", K2].concat();
+    let expected = [b"0\n", K2_ANSWER, b"1 0\n"].concat();
+    let mut output = vec![b'#'; batch_output(1)];
+    assert_eq!(batch(&input, &mut output), Ok(expected.len()));
+    assert_eq!(output[..expected.len()], expected);
+    assert!(output[expected.len()..].iter().all(|&byte| byte == b'#'));
+    assert_eq!(batch(&input, &mut output[..expected.len() - 1]), Err(Refusal(1)));
+    assert!(output[..expected.len() - 1].iter().all(|&byte| byte == 0));
+    assert_eq!(batch(&input[..60], &mut output), Ok(2));
+    assert_eq!(output[..2], *b"3\n");
 }

@@ -1,31 +1,49 @@
--- `answers::answer_in` meets its contract: the sheet is read into the stores, run and written, or refused on the way.
+-- `answers::answer_in` meets its contract: the sheet is read into the stores, run and written, or refused on the way, and the stores
+-- are zero again: a refusal has left them so, and after an answer what the run has left is cleared.
 -- Assumes nothing.
-use Prim.Native.Nat.{ℕ, _≤_}
+use Prim.Native.Nat.{ℕ, _*_, _≤_}
 use native.Mathlib.Omega.{arith}
-use mathlib.Core.Path.{sym, _∙_, ap}
+use mathlib.Core.Path.{_≡_, sym, _∙_, ap}
+use mathlib.Core.Logic.{_≢_}
 use mathlib.Core.List.{List}
 use denote.Ref.{now}
 use lib.IntN.{ℤ}
-use lib.ListN.{length}
+use lib.ListN.{length, drop}
 use lib.Seq.{length-take-le}
-use Rattle.rules.specs.Calls.{Call}
+use Rattle.rules.specs.Stores.{checkStores}
+use Rattle.rules.specs.Calls.{Call, zeros}
 use Rattle.rules.specs.SheetCalls.{ReadCall, WriteCall}
+use Rattle.rows.specs.Validity.{sizesOf}
+use Rattle.reading.specs.Zeros.{length-zeros, zero-again}
 use Rattle.reading.specs.WholeSheet.{resultOf}
 use Rattle.reading.specs.ReadCalls as ReadCalls
 use Rattle.runs.specs.CallLaws as CallLaws
 use Rattle.writing.specs.WriterChecks as WriterChecks
 use Rattle.answers.specs.Answers.{callOf, unanswered, call-unread, call-refused, call-written, call-checked-read, call-checked-run}
+use Rattle.answers.specs.WorkStores.{Used, unread-same, read-rest, refused-zero, accepted-used}
 use borrow.Author.Needs.{needs}
 use Rattle.answers.proofs.answer_in.Statement.{statement}
 use Rattle.answers.proofs.answer_in.Tie as tie
 
--- The sheet and the byte store that were lent.
+-- What was lent.
 module _ (c : tie.Start) where
   abbrev bytes : List ℕ
   bytes = now (c .args .bytes)
 
   abbrev output : List ℕ
   output = now (c .args .output)
+
+  abbrev rows₀ : List ℤ
+  rows₀ = now (c .args .rows)
+
+  abbrev relations₀ : List ℤ
+  relations₀ = now (c .args .relations)
+
+  rows-long : 1280 ≤ length rows₀
+  rows-long = omega (arith, ap length (c .pre .0), length-zeros 1280)
+
+  relations-long : 5136 ≤ length relations₀
+  relations-long = omega (arith, ap length (c .pre .1), length-zeros 5136)
 
 -- The sheet has been read, or refused.
 module _ (c : tie.After-read-own) where
@@ -41,12 +59,6 @@ module _ (c : tie.After-read-own) where
   abbrev readBy : ReadCall
   readBy = ReadCalls.callOf (c .read-own .result) rows relations
 
-  rows-long : 1280 ≤ length rows
-  rows-long = omega (arith, start .pre .0, c .read-own .kept .1 .0)
-
-  relations-long : 5136 ≤ length relations
-  relations-long = omega (arith, start .pre .1, c .read-own .kept .1 .1 .0)
-
 -- The other two calls.
 abbrev ranBy : tie.After-leading-run → Call
 ranBy c = CallLaws.callOf (c .leading-run .result) (c .leading-run .last .0) (c .leading-run .last .1 .0)
@@ -55,7 +67,7 @@ abbrev wroteBy : tie.After-write-checked → WriteCall
 wroteBy c = WriterChecks.callOf (c .write-checked .result) (c .write-checked .last .1 .1 .1 .1 .1 .0)
 
 read-own-requires : tie.Need-read-own-requires
-read-own-requires c κs = search needs
+read-own-requires c κs = c .before .before .before .before .pre
 
 no-answer-requires : tie.Need-no-answer-requires
 no-answer-requires c κs = search needs
@@ -70,19 +82,59 @@ returns : tie.Need-returns
 unfolding callOf unanswered ReadCalls.callOf resultOf
 returns c =
     let r = c .before .before .before .before .before in
-    let s = start r in
-    ap (λ a. callOf a (output s)) (c .no-answer .ensures)
-    ∙ call-unread (bytes s) (output s) (rows r) (relations r) (rows-long r) (relations-long r) (readBy r) (r .read-own .ensures)
-    (c .before .if1 .taken)
+    let s = start r in (
+      ap (λ a. callOf a (output s)) (c .no-answer .ensures)
+          ∙ call-unread (bytes s) (output s) (rows₀ s) (relations₀ s) (rows-long s) (relations-long s) (readBy r) (r .read-own .ensures)
+          (c .before .if1 .taken),
+      unread-same (bytes s) (rows₀ s) (relations₀ s) (readBy r) (r .read-own .ensures) (c .before .if1 .taken),
+    )
+
+-- The sheet that was read passes the checks of a run.
+module _ (c : tie.Else1) where
+  abbrev r : tie.After-read-own
+  r = c .before .before .before .before
+
+  checked : checkStores (sizesOf (r .read-own .result .sizes)) (r .read-own .result .relations) (rows r) (relations r) ≡ 0
+  unfolding ReadCalls.callOf resultOf
+  checked =
+      let s = start r in
+      call-checked-read (bytes s) (output s) (rows₀ s) (relations₀ s) (rows-long s) (relations-long s) (readBy r) (r .read-own .ensures)
+      (c .if1 .left)
 
 leading-run-requires : tie.Need-leading-run-requires
-unfolding ReadCalls.callOf resultOf
-leading-run-requires c κs =
-    let e = c .before .before .before in
-    let r = e .before .before .before .before in
-    let s = start r in
-    call-checked-read (bytes s) (output s) (rows r) (relations r) (rows-long r) (relations-long r) (readBy r) (r .read-own .ensures)
-    (e .if1 .left)
+leading-run-requires c κs = checked (c .before .before .before)
+
+-- The run on it has accepted, or refused.
+module _ (c : tie.After-leading-run) where
+  abbrev e : tie.Else1
+  e = c .before .before .before .before
+
+  abbrev s : tie.Start
+  s = start (r e)
+
+  abbrev m : ℕ
+  m = r e .read-own .result .sizes .m
+
+  rest : drop (m * 320) (rows (r e)) ≡ drop (m * 320) (zeros 1280)
+  unfolding ReadCalls.callOf resultOf sizesOf
+  rest = read-rest (bytes s) (rows₀ s) (relations₀ s) (readBy (r e)) (r e .read-own .ensures) ∙ ap (drop (m * 320)) (s .pre .0)
+
+  long : length (relations (r e)) ≡ 5136
+  long = r e .read-own .kept .1 .1 .0 ∙ ap length (s .pre .1) ∙ length-zeros 5136
+
+  rows-after : length (c .leading-run .last .0) ≡ 1280
+  rows-after = c .leading-run .kept .0 ∙ r e .read-own .kept .1 .0 ∙ ap length (s .pre .0) ∙ length-zeros 1280
+
+  relations-after : length (c .leading-run .last .1 .0) ≡ 5136
+  relations-after = c .leading-run .kept .1 .0 ∙ long
+
+  zero : ranBy c .result .refusal ≢ 0 → (ranBy c .rowStore ≡ zeros 1280) × (ranBy c .relationStore ≡ zeros 5136)
+  unfolding sizesOf
+  zero = refused-zero _ _ _ _ (checked e) rest long (ranBy c) (c .leading-run .ensures)
+
+  used : ranBy c .result .refusal ≡ 0 → Used (sizesOf (r e .read-own .result .sizes)) (ranBy c)
+  unfolding sizesOf
+  used = accepted-used _ _ _ _ (checked e) rest long (ranBy c) (c .leading-run .ensures)
 
 no-answer-requires-2 : tie.Need-no-answer-requires-2
 no-answer-requires-2 c κs = search needs
@@ -96,13 +148,14 @@ same-length-4 c = search needs
 returns-2 : tie.Need-returns-2
 unfolding callOf unanswered ReadCalls.callOf resultOf CallLaws.callOf CallLaws.resultOf
 returns-2 c =
-    let e = c .before .before .before .before .before .before .before .before .before in
-    let r = e .before .before .before .before in
-    let s = start r in
     let d = c .before .before .before .before .before in
-    ap (λ a. callOf a (output s)) (c .no-answer2 .ensures)
-    ∙ call-refused (bytes s) (output s) (rows r) (relations r) (rows-long r) (relations-long r) (readBy r) (r .read-own .ensures)
-    (e .if1 .left) (ranBy d) (d .leading-run .ensures) (c .before .if2 .taken)
+    let a = s d in
+    let both = zero d (c .before .if2 .taken) in (
+      ap (λ q. callOf q (output a)) (c .no-answer2 .ensures)
+          ∙ call-refused (bytes a) (output a) (rows₀ a) (relations₀ a) (rows-long a) (relations-long a) (readBy (r (e d)))
+          (r (e d) .read-own .ensures) (e d .if1 .left) (ranBy d) (d .leading-run .ensures) (c .before .if2 .taken),
+      (both .0 ∙ sym (a .pre .0), both .1 ∙ sym (a .pre .1)),
+    )
 
 lent-bytes-requires : tie.Need-lent-bytes-requires
 lent-bytes-requires c κs = search needs
@@ -113,40 +166,87 @@ slice-relend-prefix-write-checked c = search needs
 slice-aggregate-write-checked : tie.Need-slice-aggregate-write-checked
 slice-aggregate-write-checked c =
     let lent = c .before .before .before .lent-bytes in
-    sym (length-take-le (lent .result) (output (c .before .before .before .before .before .before .before .before .before .before .before .before .before .before .before .before .before .before .before .before .before .before)) (omega (arith, lent .ensures)))
+    let d = c .before .before .before .before .before .before .before .before .before in
+    sym (length-take-le (lent .result) (output (s d)) (omega (arith, lent .ensures)))
 
 write-checked-requires : tie.Need-write-checked-requires
 unfolding ReadCalls.callOf resultOf CallLaws.callOf CallLaws.resultOf
 write-checked-requires c κs =
     let f = c .before .before .before .before .before in
     let d = f .before .before .before .before in
-    let e = f .before .before .before .before .before .before .before .before in
-    let r = e .before .before .before .before in
-    let s = start r in
-    call-checked-run (bytes s) (output s) (rows r) (relations r) (rows-long r) (relations-long r) (readBy r) (r .read-own .ensures)
-    (e .if1 .left) (ranBy d) (d .leading-run .ensures) (f .if2 .left)
+    let a = s d in
+    call-checked-run (bytes a) (output a) (rows₀ a) (relations₀ a) (rows-long a) (relations-long a) (readBy (r (e d)))
+    (r (e d) .read-own .ensures) (e d .if1 .left) (ranBy d) (d .leading-run .ensures) (f .if2 .left)
+
+-- What the run has left is cleared.
+module _ (c : tie.After-write-checked) where
+  abbrev f : tie.Else2
+  f = c .before .before .before .before .before .before
+
+  abbrev d : tie.After-leading-run
+  d = f .before .before .before .before
+
+  left : Used (sizesOf (r (e d) .read-own .result .sizes)) (ranBy d)
+  unfolding CallLaws.callOf CallLaws.resultOf
+  left = used d (f .if2 .left)
+
+mul-clear : tie.Need-mul-clear
+unfolding sizesOf
+mul-clear c = omega (arith, left (c .before .before .before .before) .unknowns)
+
+clear-requires : tie.Need-clear-requires
+unfolding sizesOf
+clear-requires c κs = let w = c .before .before .before .before in omega (arith, left w .unknowns, rows-after (d w))
+
+mul-clear-2 : tie.Need-mul-clear-2
+unfolding CallLaws.callOf CallLaws.resultOf
+mul-clear-2 c = omega (arith, left (c .before .before .before .before .before .before .before .before) .few)
+
+clear-requires-2 : tie.Need-clear-requires-2
+unfolding CallLaws.callOf CallLaws.resultOf
+clear-requires-2 c κs =
+    let w = c .before .before .before .before .before .before .before .before in
+    omega (arith, left w .few, relations-after (d w))
+
+-- The stores are as they were lent.
+module _ (c : tie.After-relations3) where
+  abbrev w : tie.After-write-checked
+  w = c .before .before .before .before .before .before .before .before .before .before
+
+  rows-back : c .before .before .before .before .before .clear .last .0 ≡ rows₀ (s (d w))
+  unfolding sizesOf CallLaws.callOf CallLaws.resultOf
+  rows-back =
+      c .before .before .before .before .before .clear .ensures
+      ∙ zero-again (m (d w) * 320) 1280 _ (omega (arith, left w .unknowns)) (left w .rows-rest)
+      ∙ sym (s (d w) .pre .0)
+
+  relations-back : c .before .clear2 .last .0 ≡ relations₀ (s (d w))
+  unfolding sizesOf CallLaws.callOf CallLaws.resultOf
+  relations-back =
+      c .before .clear2 .ensures
+      ∙ zero-again (d w .leading-run .result .relations * 321) 5136 _ (omega (arith, left w .few)) (left w .relations-rest)
+      ∙ sym (s (d w) .pre .1)
 
 same-length-5 : tie.Need-same-length-5
-same-length-5 c = search needs
+same-length-5 c = ap length (rows-back c)
 
 same-length-6 : tie.Need-same-length-6
-same-length-6 c = search needs
+same-length-6 c = ap length (relations-back c)
 
 same-length-7 : tie.Need-same-length-7
 same-length-7 c = search needs
 
 returns-3 : tie.Need-returns-3
-unfolding callOf ReadCalls.callOf resultOf CallLaws.callOf CallLaws.resultOf
+unfolding callOf ReadCalls.callOf resultOf sizesOf CallLaws.callOf CallLaws.resultOf
 returns-3 c =
-    let w = c .before .before in
-    let lent = c .before .before .before .before .before .before .lent-bytes in
-    let f = c .before .before .before .before .before .before .before .before in
-    let d = f .before .before .before .before in
-    let e = f .before .before .before .before .before .before .before .before in
-    let r = e .before .before .before .before in
-    let s = start r in
-    call-written (bytes s) (output s) (rows r) (relations r) (rows-long r) (relations-long r) (readBy r) (r .read-own .ensures)
-    (e .if1 .left) (ranBy d) (d .leading-run .ensures) (f .if2 .left) (lent .result) (lent .ensures) (wroteBy w) (w .write-checked .ensures)
+    let lent = w c .before .before .before .before .lent-bytes in
+    let g = d (w c) in
+    let a = s g in (
+      call-written (bytes a) (output a) (rows₀ a) (relations₀ a) (rows-long a) (relations-long a) (readBy (r (e g)))
+          (r (e g) .read-own .ensures) (e g .if1 .left) (ranBy g) (g .leading-run .ensures) (f (w c) .if2 .left) (lent .result) (lent .ensures)
+          (wroteBy (w c)) (w c .write-checked .ensures),
+      (rows-back c, relations-back c),
+    )
 
 pub answer-in-spec : {M : Type 1} → statement M
 answer-in-spec =
@@ -166,6 +266,10 @@ answer-in-spec =
     slice-relend-prefix-write-checked
     slice-aggregate-write-checked
     write-checked-requires
+    mul-clear
+    clear-requires
+    mul-clear-2
+    clear-requires-2
     same-length-5
     same-length-6
     same-length-7

@@ -11,13 +11,16 @@ use std::process::Command;
 use std::time::Instant;
 
 /// How many cases of each kind.
-const CASES: [(Kind, usize); 5] =
-    [(Kind::Leading, 20_000), (Kind::Trailing, 20_000), (Kind::Read, 20_000), (Kind::Write, 5_000), (Kind::Batch, 500)];
+const CASES: [(Kind, usize); 6] = [
+    (Kind::Leading, 20_000),
+    (Kind::Trailing, 20_000),
+    (Kind::Read, 20_000),
+    (Kind::Write, 5_000),
+    (Kind::Batch, 500),
+    (Kind::BatchCall, 500),
+];
 /// Differences that are printed whole.
 const SHOWN: usize = 3;
-/// Whether the program has to answer each sheet before it reads on, and to tell on standard error of output that it could not write.
-/// It gathers its output and does neither so far (docs/DECISIONS.md, 31).
-const ANSWERS_AT_ONCE: bool = false;
 
 /// The cases of one kind; the answers of both sides are counted. Returns the number of differences.
 fn compared(kind: Kind, count: usize, right: &dyn Subject, other: &dyn Subject, tallies: &mut [Tally; 2]) -> usize {
@@ -64,16 +67,12 @@ fn reported(name: &str, check: impl FnOnce() -> Vec<Result<(), String>>) -> usiz
     differences.len()
 }
 
-/// What the program does with its input and output as streams.
+/// What the program does with its input and output as streams: it answers each sheet before it reads on, and tells on standard error of
+/// output that it could not write.
 fn streams(start: &dyn Fn() -> Command) -> usize {
-    let mut differences = reported("Pieces", || fed_in_pieces(start));
-    if ANSWERS_AT_ONCE {
-        differences += reported("Waiting clients", || waiting(start));
-        differences += reported("Unwritten output", || unwritten(start));
-    } else {
-        println!("Waiting clients, unwritten output: not compared, see ANSWERS_AT_ONCE");
-    }
-    differences
+    reported("Pieces", || fed_in_pieces(start))
+        + reported("Waiting clients", || waiting(start))
+        + reported("Unwritten output", || unwritten(start))
 }
 
 /// A line of the table for each kind and side.

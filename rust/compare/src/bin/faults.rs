@@ -14,7 +14,7 @@ const BATCH_EVERY: usize = 40;
 fn cases(round: usize) -> Vec<Case> {
     let mut cases: Vec<Case> = Kind::ALL[..4].iter().map(|kind| kind.case(round)).collect();
     if round.is_multiple_of(BATCH_EVERY) {
-        cases.push(Kind::Batch.case(round / BATCH_EVERY));
+        cases.extend([Kind::Batch, Kind::BatchCall].map(|kind| kind.case(round / BATCH_EVERY)));
     }
     cases
 }
@@ -40,6 +40,7 @@ fn kind_of(case: &Case) -> &'static str {
         Case::Read { .. } => "read",
         Case::Write { .. } => "write",
         Case::Batch { .. } => "batch",
+        Case::BatchCall { .. } => "batch by a call",
     }
 }
 

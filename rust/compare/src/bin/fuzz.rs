@@ -45,19 +45,22 @@ enum Call {
     Run(Side, Asked),
     Read(Vec<u8>),
     Write(Asked, Vec<i64>, Vec<u8>),
+    Batch(Vec<u8>, Vec<u8>),
 }
 
 fn answer(subject: &dyn Subject, call: &Call, stores: &Stores) -> Answer {
     let mut rows = Guarded::new(&stores.rows, MARK);
     let mut relations = Guarded::new(&stores.relations, MARK);
     let mut result = Guarded::new(&stores.result, MARK);
-    let mut bytes = Guarded::new(if let Call::Write(_, _, bytes) = call { bytes } else { &[] }, 0x5a);
+    let lent: &[u8] = if let Call::Write(_, _, bytes) | Call::Batch(_, bytes) = call { bytes } else { &[] };
+    let mut bytes = Guarded::new(lent, 0x5a);
     let number = match call {
         Call::Run(side, asked) => subject.run(*side, rows.lent(), relations.lent(), *asked, result.lent()),
         Call::Read(sheet) => subject.read(sheet, rows.lent(), relations.lent(), result.lent()),
         Call::Write(asked, order, _) => {
             subject.write(rows.lent(), relations.lent(), *asked, order, bytes.lent(), result.lent())
         }
+        Call::Batch(input, _) => subject.batch_call(input, bytes.lent(), result.lent()),
     };
     let stores = Stores { rows: rows.returned(), relations: relations.returned(), result: result.returned() };
     Answer { number, stores, bytes: bytes.returned() }
@@ -115,6 +118,20 @@ impl Fuzz {
         }
     }
 
+    /// A batch, whole and cut at every place, with output stores of every length, and a result store from none to more than it needs.
+    fn every_batch_store(&mut self, input: &[u8]) {
+        let result = |length| Stores { rows: Vec::new(), relations: Vec::new(), result: vec![7; length] };
+        let most = outside::batch::output(input, None).len() + 3;
+        for length in 0..most {
+            for count in 0..3 {
+                self.call("batch, output", &Call::Batch(input.to_vec(), vec![b'#'; length]), &result(count));
+            }
+        }
+        for end in 0..input.len() {
+            self.call("batch, input", &Call::Batch(input[..end].to_vec(), vec![b'#'; most]), &result(1));
+        }
+    }
+
     /// Sizes from a list that has the ends of every range, one past them, and the ends of the types.
     fn every_size(&mut self, make: impl Fn(Asked) -> Call, whole: &Stores) {
         let blocks = [i64::MIN, i64::MIN + 1, -65, -64, -63, -5, -1, 0, 1, 4, 60, 63, 64, 65, i64::MAX - 1, i64::MAX];
@@ -140,6 +157,11 @@ fn stores_of(sheet: &[u8]) -> (Stores, Asked, Vec<i64>) {
     let [m, l, t, count] = [0, 1, 2, 3].map(|k| stores.result[k]);
     let order = stores.result[4..RESULT].to_vec();
     (stores, Asked { m: m as usize, l, t, count: count as usize }, order)
+}
+
+/// A batch of the sheet, of one that is refused, and of none.
+fn batch_of(sheet: &[u8]) -> Vec<u8> {
+    [format!("3\n1 {}\n", sheet.len()).as_bytes(), sheet, b"8 1\nx4 0\n"].concat()
 }
 
 /// A sheet whose leading run is answered by this number.
@@ -188,6 +210,13 @@ fn main() {
     for _ in 0..20_000 {
         let noise = (0..random.below(60)).map(|_| random.pick(b"0011223 \n\n -9x")).collect();
         fuzz.call("read, noise", &Call::Read(noise), &small);
+    }
+    for _ in 0..4 {
+        fuzz.every_batch_store(&batch_of(&whole_sheet(&mut random)));
+    }
+    for _ in 0..20_000 {
+        let noise = (0..random.below(30)).map(|_| random.pick(b"0011223 \n\n -9x")).collect();
+        fuzz.call("batch, noise", &Call::Batch(noise, vec![b'#'; random.below(9)]), &small);
     }
     // Zero systems in whole stores, and no stores at all: a size is refused before a length.
     let zeros = Stores { rows: vec![0; row_store(4)], relations: vec![0; RELATION_STORE], result: vec![7; RESULT] };

@@ -1,26 +1,26 @@
 -- `reading::equations::terms_at` meets its contract. The loop's invariant: the row holds the terms before the place `next`, and `left` terms
 -- are to come. The measure is their number.
 -- Assumes nothing.
-use mathlib.Core.Path.{_≡_, refl, sym, ap₂, _∙_}
+use mathlib.Core.Path.{_≡_, refl, sym, ap, ap₂, _∙_}
 use mathlib.Core.List.{[]}
 use Prim.Native.Nat.{ℕ, _+_, _-_, _≤_}
-use native.Mathlib.Nat.{le-refl, le-add-right}
+use native.Mathlib.Nat.{le-add-right}
 use native.Mathlib.Omega.{arith}
 use borrow.Author.Needs.{sfits-of}
 use borrow.Rule.Slice.PartMut.{same-len-mid}
 use denote.Ref.{now}
-use lib.IntN.{pos}
-use lib.ListN.{drop, replicate}
-use lib.Seq.{length-paste}
+use lib.ListN.{length, drop}
 use mir.Syntax.{w64}
 use mir.Val.{SFits, toZ}
 use mir.Facts.{toZ-ofZ}
 use Rattle.rules.specs.Numbers.{got}
+use Rattle.rules.specs.Stores.{rowOf}
 use Rattle.rules.specs.Sheets.{parting}
 use Rattle.rules.specs.Layout.{size-bounds}
 use Rattle.tokens.specs.Fields.{Answers, answer-fault, answer-got, refuses, gives, then-got, then-fault}
+use Rattle.reading.specs.Zeros.{length-zeros}
 use Rattle.reading.specs.Terms.{termOf, readPlace, readPolynomial, withPlace, readPadded-is, placeInRow}
-use Rattle.reading.specs.Equations.{lent-long, TermRight, place-right, term-place, place-fits, TermsTo, terms-begin, terms-end, terms-refused, terms-go-on, cleared-blank}
+use Rattle.reading.specs.Equations.{lent-long, TermRight, place-right, term-place, place-fits, TermsTo, terms-begin, terms-end, terms-refused, terms-go-on, zeros-blank}
 use Rattle.rows.specs.Validity.{sizesOf}
 use Rattle.reading.specs.declared.terms.PlaceRead.{PlaceRead}
 use Rattle.reading.proofs.equations.terms_at.Statement.{statement}
@@ -33,44 +33,43 @@ Inv-loop bytes at z count row₀ next₀ block₀ column₀ left₀ row next blo
 abbrev μ-loop : tie.MeasureT-loop
 μ-loop bytes at z count row₀ next₀ block₀ column₀ left₀ row next block column left = left
 
-clear-requires : tie.Need-clear-requires Inv-loop μ-loop
-clear-requires c κs = omega arith
+-- The row that was lent has 320 numbers.
+row-long : (c : tie.Start Inv-loop μ-loop) → length (now (c .args .row)) ≡ 320
+row-long c = ap length (c .pre .1) ∙ length-zeros 320
 
 loop-holds : tie.Need-loop-holds Inv-loop μ-loop
 unfolding sizesOf
 loop-holds c =
-    let s = c .before .before .before .before .before in
+    let s = c .before .before in
     let f : SFits w64 (s .args .z .l) = sfits-of (c .struct-told .given .1 .0 .1) in
-    rw (c .before .before .clear .ensures)
-    (terms-begin _ (s .pre .0 .1) _ _ _ _ _ (s .pre .0 .0) (toZ-ofZ f)
-    (length-paste (now (s .args .row)) 0 (replicate 320 (pos 0)) 320 (omega arith) (le-refl 320) ∙ s .pre .1) (cleared-blank (now (s .args .row)) (s .pre .1)))
+    terms-begin _ (s .pre .0 .1) _ _ _ _ _ (s .pre .0 .0) (toZ-ofZ f) (row-long s) (ap rowOf (s .pre .1) ∙ zeros-blank)
 
 sub-left : tie.Need-sub-left Inv-loop μ-loop
 sub-left c = omega arith
 
 place-at-requires : tie.Need-place-at-requires Inv-loop μ-loop
 unfolding sizesOf
-place-at-requires c κs = (c .before .loop .inv .within, (size-bounds _ (c .before .before .before .before .before .before .before .pre .0 .1) .few, c .before .loop .inv .few))
+place-at-requires c κs = (c .before .loop .inv .within, (size-bounds _ (c .before .before .before .before .pre .0 .1) .few, c .before .loop .inv .few))
 
 no-part-requires : tie.Need-no-part-requires Inv-loop μ-loop
 no-part-requires c κs = tt
 
 same-length : tie.Need-same-length Inv-loop μ-loop
-same-length c = c .before .before .before .before .before .loop .inv .long ∙ sym (c .before .before .before .before .before .before .before .before .before .before .before .pre .1)
+same-length c = c .before .before .before .before .before .loop .inv .long ∙ sym (row-long (c .before .before .before .before .before .before .before .before))
 
 returns : tie.Need-returns Inv-loop μ-loop
 unfolding sizesOf
 returns c =
     let h = c .before .if1 .taken in
     refuses h
-    (terms-refused _ (c .before .before .before .before .before .before .before .before .before .before .before .pre .0 .1) _ _ _ _ _ _ _ _ (c .before .before .before .before .before .loop .inv) (c .before .before .before .before .loop-test .taken) _
+    (terms-refused _ (c .before .before .before .before .before .before .before .before .pre .0 .1) _ _ _ _ _ _ _ _ (c .before .before .before .before .before .loop .inv) (c .before .before .before .before .loop-test .taken) _
     (readPadded-is _ _ _ _ _ ∙ then-fault _ (answer-fault h (c .before .before .before .place-at .ensures))))
     (c .no-part .ensures)
 
 -- The place of a turn's term, as it was read.
 module _ (d : tie.After-struct-told3 Inv-loop μ-loop) where
   abbrev s : tie.Start Inv-loop μ-loop
-  s = d .before .before .before .before .before .before .before .before .before .before .before .before
+  s = d .before .before .before .before .before .before .before .before .before
 
   abbrev l : tie.At-loop Inv-loop μ-loop
   l = d .before .before .before .before .before .before
@@ -139,7 +138,7 @@ same-length-2 c =
     let at = from (c .before .before .before .before .before .before .before) in
     same-len-mid at (at + 16 - at) (c .before .before .before .before .before .before .before .before .before .before .before .before .before .before .loop .row) (c .before .before .before .before .polynomial-at .last .1 .1 .1 .0) (c .before .before .before .before .polynomial-at .kept .1 .1 .1 .0)
     ∙ c .before .before .before .before .before .before .before .before .before .before .before .before .before .before .loop .inv .long
-    ∙ sym (c .before .before .before .before .before .before .before .before .before .before .before .before .before .before .before .before .before .before .before .before .pre .1)
+    ∙ sym (row-long (c .before .before .before .before .before .before .before .before .before .before .before .before .before .before .before .before .before))
 
 -- The polynomial of a turn's term, as it was read.
 module _ (c : tie.After-polynomial-at Inv-loop μ-loop) where
@@ -155,7 +154,7 @@ unfolding withPlace sizesOf
 returns-2 c =
     let h = c .before .if2 .taken in
     refuses h
-    (terms-refused _ (c .before .before .before .before .before .before .before .before .before .before .before .before .before .before .before .before .before .before .before .before .pre .0 .1) _ _ _ _ _ _ _ _ (c .before .before .before .before .before .before .before .before .before .before .before .before .before .before .loop .inv) (c .before .before .before .before .before .before .before .before .before .before .before .before .before .loop-test .taken) _
+    (terms-refused _ (c .before .before .before .before .before .before .before .before .before .before .before .before .before .before .before .before .before .pre .0 .1) _ _ _ _ _ _ _ _ (c .before .before .before .before .before .before .before .before .before .before .before .before .before .before .loop .inv) (c .before .before .before .before .before .before .before .before .before .before .before .before .before .loop-test .taken) _
     (readPadded-is _ _ _ _ _ ∙ then-got _ (place-read (c .before .before .before .before .before .before .before .before)) ∙ then-fault _ (answer-fault h (polynomial-answer (c .before .before .before .before)))))
     (c .no-part2 .ensures)
 
@@ -166,17 +165,17 @@ loop-again : tie.Need-loop-again Inv-loop μ-loop
 unfolding withPlace sizesOf
 loop-again c =
     rw (toZ-ofZ (block-fits (c .before .before .before .before .before .before .before .before)))
-    (terms-go-on _ (c .before .before .before .before .before .before .before .before .before .before .before .before .before .before .before .before .before .before .before .before .pre .0 .1) _ _ _ _ _ _ _ _ (c .before .before .before .before .before .before .before .before .before .before .before .before .before .before .loop .inv) (c .before .before .before .before .before .before .before .before .before .before .before .before .before .loop-test .taken) _ _ _
+    (terms-go-on _ (c .before .before .before .before .before .before .before .before .before .before .before .before .before .before .before .before .before .pre .0 .1) _ _ _ _ _ _ _ _ (c .before .before .before .before .before .before .before .before .before .before .before .before .before .before .loop .inv) (c .before .before .before .before .before .before .before .before .before .before .before .before .before .loop-test .taken) _ _ _
     (readPadded-is _ _ _ _ _ ∙ then-got _ (place-read (c .before .before .before .before .before .before .before .before)) ∙ then-got _ (answer-got (c .before .if2 .left) (polynomial-answer (c .before .before .before .before))))
     (c .before .before .before .before .polynomial-at .ensures .within) (from-is (c .before .before .before .before .before .before .before)))
 
 same-length-3 : tie.Need-same-length-3 Inv-loop μ-loop
-same-length-3 c = c .before .loop .inv .long ∙ sym (c .before .before .before .before .before .before .before .pre .1)
+same-length-3 c = c .before .loop .inv .long ∙ sym (row-long (c .before .before .before .before))
 
 returns-3 : tie.Need-returns-3 Inv-loop μ-loop
 unfolding sizesOf
 returns-3 c =
-    gives refl (terms-end _ (c .before .before .before .before .before .before .before .pre .0 .1) _ _ _ _ _ _ _ _ (c .before .loop .inv) (omega arith)) (c .before .loop .inv .within)
+    gives refl (terms-end _ (c .before .before .before .before .pre .0 .1) _ _ _ _ _ _ _ _ (c .before .loop .inv) (omega arith)) (c .before .loop .inv .within)
 
 pub terms-at-spec : {M : Type 1} → statement M
 terms-at-spec =
@@ -184,7 +183,6 @@ terms-at-spec =
     (tie.spec
     Inv-loop
     μ-loop
-    clear-requires
     loop-holds
     sub-left
     place-at-requires

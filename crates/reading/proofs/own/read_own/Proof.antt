@@ -1,78 +1,192 @@
--- `reading::own::read_own` meets its contract: the sheet is refused, or the stores hold it.
+-- `reading::own::read_own` meets its contract: the sheet is refused and what was written of it is cleared, or the stores hold it.
 -- Assumes nothing.
-use mathlib.Core.Path.{sym, _∙_}
-use Prim.Native.Nat.{_≤_}
+use mathlib.Core.Path.{_≡_, refl, sym, ap, ap₂, _∙_}
+use mathlib.Core.List.{List, _++_}
+use Prim.Native.Nat.{ℕ, _*_}
 use native.Mathlib.Omega.{arith}
 use borrow.Author.Needs.{needs}
+use denote.Ref.{now}
+use lib.IntN.{ℤ, pos}
+use lib.ListN.{length, take, drop, replicate, length-append}
+use lib.Seq.{paste, drop-at}
+use Rattle.rules.specs.Calls.{zeros}
+use Rattle.rules.specs.SheetCalls.{readCall}
 use Rattle.rows.specs.Validity.{sizesOf}
-use Rattle.reading.specs.WholeSheet.{resultOf}
-use Rattle.reading.specs.ReadCalls.{callOf, call-unread, call-refuses}
+use Rattle.reading.specs.Zeros.{length-zeros, take-zeros, zero-again}
+use Rattle.reading.specs.WholeSheet.{resultOf, HeadTo, SheetRead}
+use Rattle.reading.specs.ReadCalls.{callOf, call-unread, call-faults, call-refuses}
 use Rattle.reading.specs.OwnStores.{call-holds}
 use Rattle.reading.proofs.own.read_own.Statement.{statement}
 use Rattle.reading.proofs.own.read_own.Tie as tie
 
-sheet-at-requires : tie.Need-sheet-at-requires
-sheet-at-requires c κs = search needs
+head-at-requires : tie.Need-head-at-requires
+head-at-requires c κs = c .before .before .pre .0
+
+-- The rows, as they were read.
+module _ (c : tie.After-head-at) where
+  abbrev start : tie.Start
+  start = c .before .before .before
+
+  abbrev rows : List ℤ
+  rows = c .head-at .last .1 .0
+
+  abbrev m : ℕ
+  m = c .head-at .result .sizes .m
+
+  rows-long : length rows ≡ 1280
+  rows-long = c .head-at .kept .1 .0 ∙ ap length (start .pre .0) ∙ length-zeros 1280
+
+  rows-rest : (k : ℕ) → k ≡ m → drop (k * 320) rows ≡ drop (k * 320) (zeros 1280)
+  rows-rest k e = rw e (c .head-at .ensures .1 .1 ∙ ap (drop (m * 320)) (start .pre .0))
+
+  rows-cleared : paste rows 0 (replicate (m * 320) (pos 0)) (m * 320) ≡ now (start .args .rows)
+  rows-cleared = zero-again (m * 320) 1280 rows (omega (arith, c .head-at .ensures .1 .0)) (rows-rest m refl) ∙ sym (start .pre .0)
+
+mul-clear : tie.Need-mul-clear
+mul-clear c = omega (arith, c .before .before .before .before .before .head-at .ensures .1 .0)
+
+clear-requires : tie.Need-clear-requires
+clear-requires c κs =
+    let h = c .before .before .before .before .before in
+    omega (arith, h .head-at .ensures .1 .0, rows-long h)
 
 refused-requires : tie.Need-refused-requires
-refused-requires c κs = search needs
+refused-requires c κs = tt
 
 same-length : tie.Need-same-length
 same-length c = search needs
 
-same-length-2 : tie.Need-same-length-2
-same-length-2 c = search needs
-
 returns : tie.Need-returns
-unfolding resultOf sizesOf
 returns c =
-    call-unread _ _ _ _ (c .refused .ensures) ∙ sym (call-refuses _ _ _ _ (c .before .before .before .before .before .sheet-at .ensures) _ _ (c .before .if1 .taken))
+    let clear = c .before .before in
+    let h = clear .before .before .before .before .before .before in
+    ap (λ l. callOf (c .refused .result) l (now (start h .args .relations))) (clear .clear .ensures ∙ rows-cleared h)
+    ∙ call-unread _ _ _ _ (c .refused .ensures)
+    ∙ sym (call-faults _ _ _ _ (h .head-at .ensures .0 .refused (clear .before .before .before .if1 .taken)))
 
--- The count of the relations that were read.
-few-relations : (c : tie.Else1) → c .before .before .before .before .sheet-at .result .relations ≤ 16
-unfolding resultOf sizesOf
-few-relations c = c .before .before .before .before .sheet-at .ensures .few (c .if1 .left)
+-- The head of the sheet, and the part of the store that is lent for its relations.
+module _ (c : tie.Else1) where
+  abbrev from : tie.After-head-at
+  from = c .before .before .before
+
+  abbrev used : ℕ
+  used = from .head-at .result .relations * 321
+
+  head : HeadTo (now (start from .args .bytes)) (sizesOf (from .head-at .result .sizes)) (from .head-at .result .relations)
+      (from .head-at .result .at) (rows from)
+  head = from .head-at .ensures .0 .read (c .if1 .left)
+
+  lent : take used (now (start from .args .relations)) ≡ zeros used
+  lent = ap (take used) (start from .pre .1) ∙ take-zeros used 5136 (omega (arith, head .few))
 
 mul-used : tie.Need-mul-used
-unfolding resultOf sizesOf
-mul-used c = omega (arith, few-relations (c .before))
+mul-used c = omega (arith, head (c .before) .few)
 
-sub-clear : tie.Need-sub-clear
-unfolding resultOf sizesOf
-sub-clear c = omega (arith, few-relations (c .before .before))
+slice-relend-prefix-rest-at : tie.Need-slice-relend-prefix-rest-at
+slice-relend-prefix-rest-at c =
+    omega (arith, head (c .before) .few, ap length (start (from (c .before)) .pre .1), length-zeros 5136)
 
-clear-requires : tie.Need-clear-requires
-unfolding resultOf sizesOf
-clear-requires c κs =
-    let read = c .before .before .before .before .before .before in
-    omega (arith, few-relations (c .before .before), read .sheet-at .kept .1 .1 .0, read .before .before .before .before .pre .1)
+slice-aggregate-rest-at : tie.Need-slice-aggregate-rest-at
+slice-aggregate-rest-at c = sym (ap length (lent (c .before .before)) ∙ length-zeros _)
+
+rest-at-requires : tie.Need-rest-at-requires
+rest-at-requires c κs =
+    let e = c .before .before in
+    ((head e .within, head e .right), (head e .few, lent e))
+
+-- The relations, as they were read into the part that was lent.
+module _ (c : tie.After-rest-at) where
+  abbrev e : tie.Else1
+  e = c .before .before .before
+
+  abbrev part : List ℤ
+  part = c .rest-at .last .1 .1 .0
+
+  abbrev relations : List ℤ
+  relations = part ++ drop (used e) (now (start (from e) .args .relations))
+
+  part-long : length part ≡ used e
+  part-long = c .rest-at .kept .1 .1 .0 ∙ ap length (lent e) ∙ length-zeros _
+
+  read : SheetRead (now (start (from e) .args .bytes)) (resultOf (c .rest-at .result)) (rows (from e)) part
+  read = c .rest-at .ensures .0 _ (head e)
+
+  relations-rest : drop (used e) relations ≡ drop (used e) (zeros 5136)
+  relations-rest = drop-at part _ (used e) part-long ∙ ap (drop (used e)) (start (from e) .pre .1)
+
+  relations-cleared : paste relations 0 (replicate (used e) (pos 0)) (used e) ≡ now (start (from e) .args .relations)
+  relations-cleared = zero-again (used e) 5136 relations (omega (arith, head e .few)) relations-rest ∙ sym (start (from e) .pre .1)
+
+mul-clear-2 : tie.Need-mul-clear-2
+mul-clear-2 c = omega (arith, from (e (c .before .before .before .before .before)) .head-at .ensures .1 .0)
+
+clear-requires-2 : tie.Need-clear-requires-2
+clear-requires-2 c κs =
+    let h = from (e (c .before .before .before .before .before)) in
+    omega (arith, h .head-at .ensures .1 .0, rows-long h)
+
+clear-requires-3 : tie.Need-clear-requires-3
+clear-requires-3 c κs =
+    let r = c .before .before .before .before .before .before .before .before in
+    omega (arith, length-append (part r) (drop (used (e r)) (now (start (from (e r)) .args .relations))), part-long r)
+
+refused-requires-2 : tie.Need-refused-requires-2
+refused-requires-2 c κs = tt
+
+same-length-2 : tie.Need-same-length-2
+same-length-2 c = search needs
 
 same-length-3 : tie.Need-same-length-3
 same-length-3 c = search needs
 
+returns-2 : tie.Need-returns-2
+unfolding resultOf sizesOf
+returns-2 c =
+    let last = c .before .before in
+    let first = last .before .before .before in
+    let r = first .before .before .before .before .before .before in
+    ap₂ (callOf (c .refused2 .result)) (first .clear2 .ensures ∙ rows-cleared (from (e r))) (last .clear3 .ensures ∙ relations-cleared r)
+    ∙ call-unread _ _ _ _ (c .refused2 .ensures)
+    ∙ sym (call-refuses _ _ _ _ (read r) _ _ (first .before .before .before .if2 .taken))
+
 same-length-4 : tie.Need-same-length-4
 same-length-4 c = search needs
 
-returns-2 : tie.Need-returns-2
+same-length-5 : tie.Need-same-length-5
+same-length-5 c = search needs
+
+returns-3 : tie.Need-returns-3
 unfolding callOf resultOf sizesOf
-returns-2 c =
-    let read = c .before .before .before .before .before .before .before .before in
-    let s = read .before .before .before .before in
-    call-holds _ _ _ _ (read .sheet-at .ensures) (c .before .before .before .before .if1 .left)
-    (omega (arith, s .pre .0, read .sheet-at .kept .1 .0)) (omega (arith, s .pre .1, read .sheet-at .kept .1 .1 .0)) _ (c .before .clear .ensures)
+returns-3 c =
+    let r = c .before .before .before in
+    let s = start (from (e r)) in
+    let same = r .rest-at .ensures .1 (c .if2 .left) in
+    ap₂ (λ k l. callOf (r .rest-at .result) (rows (from (e r))) (part r ++ drop (k * 321) l)) (sym (same .1)) (s .pre .1)
+    ∙ call-holds _ _ _ _ (read r) (c .if2 .left) (rows-long (from (e r))) (rows-rest (from (e r)) _ (same .0))
+    (part-long r ∙ ap (λ k. k * 321) (sym (same .1)))
+    ∙ ap₂ (readCall (now (s .args .bytes))) (sym (s .pre .0)) (sym (s .pre .1))
 
 pub read-own-spec : {M : Type 1} → statement M
 read-own-spec =
     tie.close
     (tie.spec
-    sheet-at-requires
+    head-at-requires
+    mul-clear
+    clear-requires
     refused-requires
     same-length
-    same-length-2
     returns
     mul-used
-    sub-clear
-    clear-requires
+    slice-relend-prefix-rest-at
+    slice-aggregate-rest-at
+    rest-at-requires
+    mul-clear-2
+    clear-requires-2
+    clear-requires-3
+    refused-requires-2
+    same-length-2
     same-length-3
+    returns-2
     same-length-4
-    returns-2)
+    same-length-5
+    returns-3)

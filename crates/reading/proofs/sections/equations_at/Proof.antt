@@ -1,7 +1,7 @@
 -- `reading::sections::equations_at` meets its contract. The loop's invariant: the first i equations are in the store, and the others are
 -- read from `next`. The measure is their number.
 -- Assumes nothing.
-use mathlib.Core.Path.{_≡_, _∙_}
+use mathlib.Core.Path.{_≡_, ap, _∙_}
 use Prim.Native.Nat.{_+_, _*_, _-_, _≤_}
 use native.Mathlib.Nat.{le-add-right}
 use native.Mathlib.Omega.{arith}
@@ -9,11 +9,12 @@ use borrow.Rule.Slice.PartMut.{midOf, same-len-mid}
 use denote.Ref.{now}
 use lib.ListN.{length}
 use Rattle.rules.specs.Stores.{rowOf}
+use Rattle.rules.specs.Calls.{zeros}
 use Rattle.rules.specs.Sheets.{readEquation}
 use Rattle.rules.specs.Layout.{size-bounds}
 use Rattle.tokens.specs.Fields.{answer-fault, answer-got, refuses, gives}
-use Rattle.reading.specs.Equations.{lent-long}
-use Rattle.reading.specs.Sections.{equations-each, StoredTo, stored-begins, stored-ends, stored-refused, stored-goes-on, rowsOf-parts}
+use Rattle.reading.specs.Zeros.{length-zeros}
+use Rattle.reading.specs.Sections.{equations-each, StoredTo, stored-begins, stored-ends, stored-refused, stored-part, stored-goes-on, rowsOf-parts}
 use Rattle.rows.specs.Validity.{sizesOf}
 use Rattle.reading.proofs.sections.equations_at.Statement.{statement}
 use Rattle.reading.proofs.sections.equations_at.Tie as tie
@@ -25,25 +26,28 @@ abbrev μ-loop : tie.MeasureT-loop
 μ-loop bytes at z rows₀ next₀ i₀ rows next i = z .m - i
 
 loop-holds : tie.Need-loop-holds Inv-loop μ-loop
-loop-holds c = stored-begins _ _ _ _ _ _ _ (c .before .pre .0 .0)
+loop-holds c = stored-begins _ _ _ _ _ _ _ (c .before .pre .1) (c .before .pre .0 .0)
 
 -- There is room for the equation of a turn.
 module _ (c : tie.Then1 Inv-loop μ-loop) where
   room : c .before .before .loop .i * 320 + 320 ≤ length (now (c .before .before .before .before .args .rows))
-  unfolding sizesOf
-  room = omega (arith, size-bounds _ (c .before .before .before .before .pre .0 .1) .few, c .before .before .before .before .pre .1, c .if1 .taken)
+  room = rw (c .before .before .before .before .pre .1, length-zeros) (omega (arith, c .if1 .taken))
 
-  long : length (midOf (c .before .before .loop .i * 320) (c .before .before .loop .i * 320 + 320 - c .before .before .loop .i * 320) (c .before .before .loop .rows)) ≡ 320
-  long = lent-long (c .before .before .loop .rows) (c .before .before .loop .i * 320) 320 (rw (c .before .before .loop .inv .long) room)
+  few : c .before .before .before .before .args .z .m ≤ 4
+  unfolding sizesOf
+  few = size-bounds _ (c .before .before .before .before .pre .0 .1) .few
+
+  part : midOf (c .before .before .loop .i * 320) (c .before .before .loop .i * 320 + 320 - c .before .before .loop .i * 320) (c .before .before .loop .rows) ≡ zeros 320
+  part = stored-part _ _ _ _ _ _ _ _ _ _ (c .before .before .loop .inv) (c .if1 .taken)
 
 mul-from : tie.Need-mul-from Inv-loop μ-loop
-mul-from c = omega (arith, room c)
+mul-from c = omega (arith, few c, c .if1 .taken)
 
 add-to : tie.Need-add-to Inv-loop μ-loop
-add-to c = omega (arith, room c)
+add-to c = omega (arith, few c, c .if1 .taken)
 
 mul-equation-at : tie.Need-mul-equation-at Inv-loop μ-loop
-mul-equation-at c = omega (arith, room c)
+mul-equation-at c = omega (arith, few c, c .if1 .taken)
 
 sub-equation-at : tie.Need-sub-equation-at Inv-loop μ-loop
 sub-equation-at c = omega arith
@@ -55,7 +59,7 @@ part-equation-at-end : tie.Need-part-equation-at-end Inv-loop μ-loop
 part-equation-at-end c = rw (c .before .before .loop .inv .long) (room c)
 
 equation-at-requires : tie.Need-equation-at-requires Inv-loop μ-loop
-equation-at-requires c κs = ((c .before .before .before .loop .inv .within, c .before .before .before .before .before .pre .0 .1), long (c .before))
+equation-at-requires c κs = ((c .before .before .before .loop .inv .within, c .before .before .before .before .before .pre .0 .1), part (c .before))
 
 no-part-requires : tie.Need-no-part-requires Inv-loop μ-loop
 no-part-requires c κs = tt
@@ -73,14 +77,14 @@ returns c =
     (c .no-part .ensures)
 
 add-i : tie.Need-add-i Inv-loop μ-loop
-add-i c = omega (arith, room (c .before .before .before .before .before))
+add-i c = omega (arith, few (c .before .before .before .before .before), c .before .before .before .before .before .if1 .taken)
 
 loop-less : tie.Need-loop-less Inv-loop μ-loop
 loop-less c = omega (arith, c .before .before .before .before .before .if1 .taken)
 
 loop-again : tie.Need-loop-again Inv-loop μ-loop
 loop-again c =
-    stored-goes-on _ _ _ _ _ _ _ _ _ _ (c .before .before .before .before .before .before .before .loop .inv) (c .before .before .before .before .before .if1 .taken) _ _ (c .before .before .before .equation-at .kept .1 .1 .1 .0 ∙ long (c .before .before .before .before .before)) (room (c .before .before .before .before .before))
+    stored-goes-on _ _ _ _ _ _ _ _ _ _ (c .before .before .before .before .before .before .before .loop .inv) (c .before .before .before .before .before .if1 .taken) _ _ (c .before .before .before .equation-at .kept .1 .1 .1 .0 ∙ ap length (part (c .before .before .before .before .before)) ∙ length-zeros 320) (room (c .before .before .before .before .before))
     (answer-got (c .if2 .left) (c .before .before .before .equation-at .ensures)) (c .before .before .before .equation-at .ensures .within)
 
 same-length-2 : tie.Need-same-length-2 Inv-loop μ-loop

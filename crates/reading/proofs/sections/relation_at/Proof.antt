@@ -6,7 +6,7 @@ use Prim.Native.Nat.{_-_}
 use native.Mathlib.Nat.{le-refl}
 use native.Mathlib.Omega.{arith}
 use borrow.Author.Needs.{sfits-of}
-use borrow.Rule.Slice.PartMut.{mid-len, same-len-mid}
+use borrow.Rule.Slice.PartMut.{same-len-mid}
 use denote.Ref.{now}
 use lib.Dec.{lit≤}
 use lib.IntN.{ℤ}
@@ -15,7 +15,8 @@ use mir.Syntax.{w64}
 use mir.Val.{SFits, toZ, ofZ}
 use mir.Facts.{toZ-ofZ}
 use Rattle.tokens.specs.Fields.{answer-fault, answer-got, refuses, answers-as, answers-made, then-got, then-fault}
-use Rattle.reading.specs.Sections.{relationOf-back, relationThen, relation-is}
+use Rattle.reading.specs.Zeros.{length-zeros}
+use Rattle.reading.specs.Sections.{relationOf-back, relation-behind, relationThen, relation-is}
 use Rattle.reading.proofs.sections.relation_at.Statement.{statement}
 use Rattle.reading.proofs.sections.relation_at.Tie as tie
 
@@ -29,8 +30,12 @@ returns : tie.Need-returns
 returns c =
     refuses (c .before .if1 .taken) (relation-is _ _ ∙ then-fault _ (answer-fault (c .before .if1 .taken) (c .before .before .before .small-at .ensures .0))) (c .no-part .ensures)
 
+-- The relation that was lent has 321 numbers.
+whole : (c : tie.Start) → length (now (c .args .relation)) ≡ 321
+whole c = ap length (c .pre .1) ∙ length-zeros 321
+
 slice-set-from-index : tie.Need-slice-set-from-index
-slice-set-from-index c = omega arith
+slice-set-from-index c = omega (arith, whole (c .before .before .before .before .before))
 
 -- The relation with its n0.
 module _ (c : tie.After-struct-told) where
@@ -41,7 +46,7 @@ module _ (c : tie.After-struct-told) where
   numbers = set (now (c .before .before .before .before .before .args .relation)) 0 (toZ w64 (ofZ w64 value))
 
   long : length numbers ≡ 321
-  long = length-set (now (c .before .before .before .before .before .args .relation)) 0 _ ∙ c .before .before .before .before .before .pre .1
+  long = length-set (now (c .before .before .before .before .before .args .relation)) 0 _ ∙ whole (c .before .before .before .before .before)
 
 sub-equation-at : tie.Need-sub-equation-at
 sub-equation-at c = rw (long c) (lit≤ tt)
@@ -54,13 +59,13 @@ part-equation-at-end c = le-refl _
 
 equation-at-requires : tie.Need-equation-at-requires
 equation-at-requires c κs =
-    let n = numbers (c .before) in
-    ((c .before .before .before .before .small-at .ensures .0 .within, c .before .before .before .before .before .before .pre .0 .1), mid-len 1 (length n) n (le-refl (length n)) ∙ ap (λ k. k - 1) (long (c .before)))
+    let s = c .before .before .before .before .before .before in
+    ((c .before .before .before .before .small-at .ensures .0 .within, s .pre .0 .1), relation-behind (now (s .args .relation)) _ (s .pre .1))
 
 same-length : tie.Need-same-length
 same-length c =
     let n = numbers (c .before .before .before) in
-    same-len-mid 1 (length n - 1) n (c .before .equation-at .last .1 .1 .1 .0) (c .before .equation-at .kept .1 .1 .1 .0) ∙ long (c .before .before .before) ∙ sym (c .before .before .before .before .before .before .before .before .pre .1)
+    same-len-mid 1 (length n - 1) n (c .before .equation-at .last .1 .1 .1 .0) (c .before .equation-at .kept .1 .1 .1 .0) ∙ long (c .before .before .before) ∙ sym (whole (c .before .before .before .before .before .before .before .before))
 
 returns-2 : tie.Need-returns-2
 unfolding relationThen
@@ -68,7 +73,7 @@ returns-2 c =
     let v = value (c .before .before .before) in
     let f : SFits w64 v = sfits-of (c .before .before .before .struct-told .given .1 .0 .1) in
     let row = c .before .equation-at .last .1 .1 .1 .0 in
-    rw (relationOf-back (now (c .before .before .before .before .before .before .before .before .args .relation)) row (toZ w64 (ofZ w64 v)) (c .before .before .before .before .before .before .before .before .pre .1), toZ-ofZ f)
+    rw (relationOf-back (now (c .before .before .before .before .before .before .before .before .args .relation)) row (toZ w64 (ofZ w64 v)) (whole (c .before .before .before .before .before .before .before .before)), toZ-ofZ f)
     (answers-as (answers-made (λ r. record { index = v; row = r }) (c .before .equation-at .ensures))
     (sym (relation-is _ _ ∙ then-got _ (answer-got (c .before .before .before .before .if1 .left) (c .before .before .before .before .before .before .small-at .ensures .0)))))
 

@@ -1,7 +1,7 @@
 -- `reading::sections::relations_at` meets its contract. The loop's invariant: the first i relations are in the store, and the others are
 -- read from `next`. The measure is their number.
 -- Assumes nothing.
-use mathlib.Core.Path.{_≡_, _∙_}
+use mathlib.Core.Path.{_≡_, ap, _∙_}
 use Prim.Native.Nat.{_+_, _*_, _-_, _≤_}
 use native.Mathlib.Nat.{le-add-right}
 use native.Mathlib.Omega.{arith}
@@ -9,10 +9,11 @@ use borrow.Rule.Slice.PartMut.{midOf, same-len-mid}
 use denote.Ref.{now}
 use lib.ListN.{length}
 use Rattle.rules.specs.Stores.{relationOf}
+use Rattle.rules.specs.Calls.{zeros}
 use Rattle.rules.specs.Sheets.{readRelation}
 use Rattle.tokens.specs.Fields.{answer-fault, answer-got, refuses, gives}
-use Rattle.reading.specs.Equations.{lent-long}
-use Rattle.reading.specs.Sections.{relations-each, StoredTo, stored-begins, stored-ends, stored-refused, stored-goes-on, relationsOf-parts}
+use Rattle.reading.specs.Zeros.{length-zeros}
+use Rattle.reading.specs.Sections.{relations-each, StoredTo, stored-begins, stored-ends, stored-refused, stored-part, stored-goes-on, relationsOf-parts}
 use Rattle.rows.specs.Validity.{sizesOf}
 use Rattle.reading.proofs.sections.relations_at.Statement.{statement}
 use Rattle.reading.proofs.sections.relations_at.Tie as tie
@@ -25,24 +26,24 @@ abbrev μ-loop : tie.MeasureT-loop
 μ-loop bytes at z count relations₀ next₀ i₀ relations next i = count - i
 
 loop-holds : tie.Need-loop-holds Inv-loop μ-loop
-loop-holds c = stored-begins _ _ _ _ _ _ _ (c .before .pre .0 .0)
+loop-holds c = stored-begins _ _ _ _ _ _ _ (c .before .pre .1 .1) (c .before .pre .0 .0)
 
 -- There is room for the relation of a turn.
 module _ (c : tie.In-loop Inv-loop μ-loop) where
   room : c .before .loop .i * 321 + 321 ≤ length (now (c .before .before .before .args .relations))
-  room = omega (arith, c .before .before .before .pre .1, c .loop-test .taken)
+  room = rw (c .before .before .before .pre .1 .1, length-zeros) (omega (arith, c .loop-test .taken))
 
-  long : length (midOf (c .before .loop .i * 321) (c .before .loop .i * 321 + 321 - c .before .loop .i * 321) (c .before .loop .relations)) ≡ 321
-  long = lent-long (c .before .loop .relations) (c .before .loop .i * 321) 321 (rw (c .before .loop .inv .long) room)
+  part : midOf (c .before .loop .i * 321) (c .before .loop .i * 321 + 321 - c .before .loop .i * 321) (c .before .loop .relations) ≡ zeros 321
+  part = stored-part _ _ _ _ _ _ _ _ _ _ (c .before .loop .inv) (c .loop-test .taken)
 
 mul-from : tie.Need-mul-from Inv-loop μ-loop
-mul-from c = omega (arith, room c)
+mul-from c = omega (arith, c .before .before .before .pre .1 .0, c .loop-test .taken)
 
 add-to : tie.Need-add-to Inv-loop μ-loop
-add-to c = omega (arith, room c)
+add-to c = omega (arith, c .before .before .before .pre .1 .0, c .loop-test .taken)
 
 mul-relation-at : tie.Need-mul-relation-at Inv-loop μ-loop
-mul-relation-at c = omega (arith, room c)
+mul-relation-at c = omega (arith, c .before .before .before .pre .1 .0, c .loop-test .taken)
 
 sub-relation-at : tie.Need-sub-relation-at Inv-loop μ-loop
 sub-relation-at c = omega arith
@@ -54,7 +55,7 @@ part-relation-at-end : tie.Need-part-relation-at-end Inv-loop μ-loop
 part-relation-at-end c = rw (c .before .loop .inv .long) (room c)
 
 relation-at-requires : tie.Need-relation-at-requires Inv-loop μ-loop
-relation-at-requires c κs = ((c .before .before .loop .inv .within, c .before .before .before .before .pre .0 .1), long (c .before))
+relation-at-requires c κs = ((c .before .before .loop .inv .within, c .before .before .before .before .pre .0 .1), part (c .before))
 
 no-part-requires : tie.Need-no-part-requires Inv-loop μ-loop
 no-part-requires c κs = tt
@@ -72,14 +73,14 @@ returns c =
     (c .no-part .ensures)
 
 add-i : tie.Need-add-i Inv-loop μ-loop
-add-i c = omega (arith, room (c .before .before .before .before .before))
+add-i c = omega (arith, c .before .before .before .before .before .before .before .before .pre .1 .0, c .before .before .before .before .before .loop-test .taken)
 
 loop-less : tie.Need-loop-less Inv-loop μ-loop
 loop-less c = omega (arith, c .before .before .before .before .before .loop-test .taken)
 
 loop-again : tie.Need-loop-again Inv-loop μ-loop
 loop-again c =
-    stored-goes-on _ _ _ _ _ _ _ _ _ _ (c .before .before .before .before .before .before .loop .inv) (c .before .before .before .before .before .loop-test .taken) _ _ (c .before .before .before .relation-at .kept .1 .1 .1 .0 ∙ long (c .before .before .before .before .before)) (room (c .before .before .before .before .before))
+    stored-goes-on _ _ _ _ _ _ _ _ _ _ (c .before .before .before .before .before .before .loop .inv) (c .before .before .before .before .before .loop-test .taken) _ _ (c .before .before .before .relation-at .kept .1 .1 .1 .0 ∙ ap length (part (c .before .before .before .before .before)) ∙ length-zeros 321) (room (c .before .before .before .before .before))
     (answer-got (c .if1 .left) (c .before .before .before .relation-at .ensures)) (c .before .before .before .relation-at .ensures .within)
 
 same-length-2 : tie.Need-same-length-2 Inv-loop μ-loop

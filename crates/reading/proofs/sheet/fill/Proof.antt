@@ -1,13 +1,17 @@
 -- `reading::sheet::fill` meets its contract: the sheet is refused, or a lent store is too short, or both are filled.
 -- Assumes nothing.
-use mathlib.Core.Path.{sym, ap₂, _∙_}
+use mathlib.Core.Path.{sym, ap, ap₂, _∙_}
+use Prim.Native.Nat.{_*_}
+use native.Mathlib.Nat.{le-of-eq}
 use native.Mathlib.Omega.{arith}
 use borrow.Author.Needs.{needs}
 use borrow.Author.Tests.{not-true, not-false}
 use denote.Ref.{now}
+use lib.ListN.{length}
 use Rattle.rules.specs.Layout.{lengthsRight-iff}
 use Rattle.rules.specs.Stores.{rowNeed}
 use Rattle.rows.specs.Validity.{sizesOf, true-T}
+use Rattle.reading.specs.Zeros.{length-zeros}
 use Rattle.reading.specs.WholeSheet.{resultOf, SheetRead}
 use Rattle.reading.specs.ReadCalls.{callOf, call-unread, call-refuses, call-short, call-fills}
 use Rattle.reading.proofs.sheet.fill.Statement.{statement}
@@ -68,7 +72,11 @@ fill-relations-requires c κs =
     let none = c .before .before .before .before .before .before .before .before .before .if1 .left in
     let rest = c .before .before .before .before .before .before .before .before .before .before .before .before .rest-at in
     let long = lengthsRight-iff _ _ _ .0 (true-T _ (sym (c .before .before .before .before .before .before .lengths-right .ensures) ∙ not-false _ (c .before .before .before .before .before .if2 .left))) in
-    (read (c .before .before .before .before .before .before .before .before .before .before .before .before) .few none, long .1, rw (rest .kept .1 .1 .0, rest .ensures .1 none) (c .before .before .before .before .before .before .before .before .before .before .before .before .before .before .before .pre .1 .1))
+    let start = c .before .before .before .before .before .before .before .before .before .before .before .before .before .before .before in (
+      read (c .before .before .before .before .before .before .before .before .before .before .before .before) .few none,
+      long .1,
+      le-of-eq (ap (λ k. k * 321) (rest .ensures .1 none .1) ∙ sym (rest .kept .1 .1 .0 ∙ ap length (start .pre .1 .1) ∙ length-zeros _)),
+    )
 
 same-length-5 : tie.Need-same-length-5
 same-length-5 c = search needs

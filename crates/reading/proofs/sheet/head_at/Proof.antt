@@ -1,21 +1,28 @@
 -- `reading::sheet::head_at` meets its contract: the sizes, the equations, and the number of relations.
 -- Assumes nothing.
-use mathlib.Core.Path.{_≡_, refl, _∙_}
-use Prim.Native.Nat.{_≤_, zero-le}
-use borrow.Author.Needs.{sfits-of}
+use mathlib.Core.Path.{_≡_, refl, sym, ap, _∙_}
+use mathlib.Core.List.{List, _++_}
+use Prim.Native.Nat.{ℕ, _*_, _≤_, zero-le}
+use native.Mathlib.Omega.{arith}
+use borrow.Author.Needs.{needs, sfits-of}
 use denote.Ref.{now}
 use lib.Dec.{T}
 use lib.IntN.{ℤ, pos, natAbs}
-use lib.ListN.{drop}
+use lib.ListN.{length, take, drop}
+use lib.Seq.{drop-at}
 use lib.Signed.{nonNeg}
 use mir.Syntax.{w64}
 use mir.Val.{SFits}
 use mir.Facts.{toZ-ofZ, fits-natAbs}
 use Rattle.rules.specs.Numbers.{got, field, between}
-use Rattle.rules.specs.Stores.{sizesRight}
+use Rattle.rules.specs.Stores.{sizesRight, rowsOf, rowNeed}
+use Rattle.rules.specs.Layout.{size-bounds}
+use Rattle.rules.specs.Calls.{zeros}
 use Rattle.rules.specs.Sheets.{always, readSizes}
 use Rattle.tokens.specs.Fields.{answer-fault, answer-got, then-fault, field-judged, between-zero}
-use Rattle.reading.specs.WholeSheet.{sizes-right, sheet-is, head-refuses, equations-fault, count-fault, count-got}
+use Rattle.reading.specs.Zeros.{length-zeros, take-zeros}
+use Rattle.reading.specs.Sections.{rowsOf-front}
+use Rattle.reading.specs.WholeSheet.{equationSection, sizes-right, sheet-is, head-refuses, equations-fault, count-fault, count-got}
 use Rattle.rows.specs.Validity.{sizesOf}
 use Rattle.reading.proofs.sheet.head_at.Statement.{statement}
 use Rattle.reading.proofs.sheet.head_at.Tie as tie
@@ -26,32 +33,97 @@ sizes-at-requires c κs = zero-le
 no-head-requires : tie.Need-no-head-requires
 no-head-requires c κs = tt
 
+-- A head with no rows has changed nothing.
+none : (rows : List ℤ) (m : ℕ) → m ≡ 0 → (m ≤ 4) × (drop (m * 320) rows ≡ drop (m * 320) rows)
+none rows m e = (omega arith, refl)
+
 returns : tie.Need-returns
 returns c =
-    let h = c .before .if1 .taken in
-    head-refuses h (sheet-is _ ∙ then-fault _ (answer-fault h (c .before .before .before .sizes-at .ensures))) (c .no-head .ensures)
+    let h = c .before .if1 .taken in (
+      head-refuses h (sheet-is _ ∙ then-fault _ (answer-fault h (c .before .before .before .sizes-at .ensures))) (c .no-head .ensures .0),
+      none _ _ (c .no-head .ensures .1),
+    )
 
 -- The sizes, as they were read.
 module _ (c : tie.After-sizes) where
-  sizes-read : readSizes (now (c .before .before .before .before .before .args .bytes)) ≡ got (sizesOf (c .before .before .before .sizes-at .result .sizes)) (drop (c .before .before .before .sizes-at .result .at) (now (c .before .before .before .before .before .args .bytes)))
+  abbrev start : tie.Start
+  start = c .before .before .before .before .before
+
+  abbrev rows : List ℤ
+  rows = now (start .args .rows)
+
+  abbrev m : ℕ
+  m = c .before .before .before .sizes-at .result .sizes .m
+
+  sizes-read : readSizes (now (start .args .bytes))
+      ≡ got (sizesOf (c .before .before .before .sizes-at .result .sizes)) (drop (c .before .before .before .sizes-at .result .at) (now (start .args .bytes)))
   sizes-read = answer-got (c .before .if1 .left) (c .before .before .before .sizes-at .ensures)
 
   right : T (sizesRight (sizesOf (c .before .before .before .sizes-at .result .sizes)))
   right = sizes-right _ _ _ sizes-read
 
+  few : m ≤ 4
+  unfolding sizesOf
+  few = size-bounds _ right .few
+
+  -- The part of the store that is lent.
+  lent : take (m * 320) rows ≡ zeros (m * 320)
+  lent = ap (take (m * 320)) (start .pre) ∙ take-zeros (m * 320) 1280 (omega (arith, few))
+
+mul-used : tie.Need-mul-used
+mul-used c = omega (arith, few (c .before))
+
+slice-relend-prefix-equation-section : tie.Need-slice-relend-prefix-equation-section
+slice-relend-prefix-equation-section c = omega (arith, few (c .before), ap length (start (c .before) .pre), length-zeros 1280)
+
+slice-aggregate-equation-section : tie.Need-slice-aggregate-equation-section
+slice-aggregate-equation-section c = sym (ap length (lent (c .before .before)) ∙ length-zeros _)
+
 equation-section-requires : tie.Need-equation-section-requires
-equation-section-requires c κs = ((c .before .before .before .before .sizes-at .ensures .within, right (c .before)), c .before .before .before .before .before .before .pre)
+equation-section-requires c κs =
+    ((c .before .before .before .before .before .sizes-at .ensures .within, right (c .before .before)), lent (c .before .before))
+
+-- The rows, as they were read into the part that was lent.
+module _ (c : tie.After-equation-section) where
+  abbrev d : tie.After-sizes
+  d = c .before .before .before
+
+  abbrev part : List ℤ
+  part = c .equation-section .last .1 .1 .1 .0
+
+  abbrev after : List ℤ
+  after = part ++ drop (m d * 320) (rows d)
+
+  part-long : length part ≡ m d * 320
+  part-long = c .equation-section .kept .1 .1 .1 .0 ∙ ap length (lent d) ∙ length-zeros _
+
+  -- What lies past the rows is as it was.
+  past : (k : ℕ) → k ≡ m d → (k ≤ 4) × (drop (k * 320) after ≡ drop (k * 320) (rows d))
+  past k e = rw e (few d, drop-at part (drop (m d * 320) (rows d)) (m d * 320) part-long)
+
+  rows-read : c .equation-section .result .refusal ≡ 0
+      → equationSection (sizesOf (d .before .before .before .sizes-at .result .sizes))
+      (drop (d .before .before .before .sizes-at .result .at) (now (start d .args .bytes)))
+      ≡ got (rowsOf (m d) after) (drop (c .equation-section .result .at) (now (start d .args .bytes)))
+  unfolding rowNeed
+  rows-read h =
+      answer-got h (c .equation-section .ensures)
+      ∙ ap (λ r. got r (drop (c .equation-section .result .at) (now (start d .args .bytes))))
+      (sym (rowsOf-front (m d) part (drop (m d * 320) (rows d)) part-long))
 
 no-head-requires-2 : tie.Need-no-head-requires-2
 no-head-requires-2 c κs = tt
 
 same-length : tie.Need-same-length
-same-length c = c .before .before .before .before .equation-section .kept .1 .1 .1 .0
+same-length c = search needs
 
 returns-2 : tie.Need-returns-2
 returns-2 c =
     let h = c .before .if2 .taken in
-    head-refuses h (equations-fault _ _ _ (sizes-read (c .before .before .before .before .before .before)) (answer-fault h (c .before .before .before .before .equation-section .ensures))) (c .no-head2 .ensures)
+    let e = c .before .before .before .before in (
+      head-refuses h (equations-fault _ _ _ (sizes-read (d e)) (answer-fault h (e .equation-section .ensures))) (c .no-head2 .ensures .0),
+      past e _ (c .no-head2 .ensures .1),
+    )
 
 number-between-requires : tie.Need-number-between-requires
 number-between-requires c κs = c .before .before .before .equation-section .ensures .within
@@ -60,51 +132,61 @@ no-head-requires-3 : tie.Need-no-head-requires-3
 no-head-requires-3 c κs = tt
 
 same-length-2 : tie.Need-same-length-2
-same-length-2 c = c .before .before .before .before .before .before .before .equation-section .kept .1 .1 .1 .0
+same-length-2 c = search needs
 
 returns-3 : tie.Need-returns-3
 returns-3 c =
     let h = c .before .if3 .taken in
-    head-refuses h
-    (count-fault _ _ _ (sizes-read (c .before .before .before .before .before .before .before .before .before)) _ _ (answer-got (c .before .before .before .before .if2 .left) (c .before .before .before .before .before .before .before .equation-section .ensures)) (answer-fault h (c .before .before .before .number-between .ensures .0)))
-    (c .no-head3 .ensures)
+    let e = c .before .before .before .before .before .before .before in (
+      head-refuses h
+          (count-fault _ _ _ (sizes-read (d e)) _ _ (rows-read e (c .before .before .before .before .if2 .left))
+          (answer-fault h (c .before .before .before .number-between .ensures .0)))
+          (c .no-head3 .ensures .0),
+      past e _ (c .no-head3 .ensures .1),
+    )
 
 -- The number of relations, as it was read.
 module _ (c : tie.After-struct-told) where
+  abbrev e : tie.After-equation-section
+  e = c .before .before .before .before .before .before .before .before
+
   abbrev count : ℤ
   count = c .before .before .before .before .number-between .result .value
 
   count-fits : SFits w64 count
   count-fits = sfits-of (c .struct-told .given .1 .0 .1)
 
-  count-read : field (between (pos 0) (pos 16)) (always 10) (drop (c .before .before .before .before .before .before .before .before .equation-section .result .at) (now (c .before .before .before .before .before .before .before .before .before .before .before .before .before .before .before .args .bytes)))
-      ≡ got count (drop (c .before .before .before .before .number-between .result .at) (now (c .before .before .before .before .before .before .before .before .before .before .before .before .before .before .before .args .bytes)))
+  count-read : field (between (pos 0) (pos 16)) (always 10) (drop (e .equation-section .result .at) (now (start (d e) .args .bytes)))
+      ≡ got count (drop (c .before .before .before .before .number-between .result .at) (now (start (d e) .args .bytes)))
   count-read = answer-got (c .before .before .if3 .left) (c .before .before .before .before .number-between .ensures .0)
 
   bounds : T (nonNeg count) × (0 ≤ natAbs count) × (natAbs count ≤ 16)
   bounds = between-zero 0 16 count (field-judged (between (pos 0) (pos 16)) (always 10) _ count-read)
 
-cast-t10 : tie.Need-cast-t10
-cast-t10 c = rw (toZ-ofZ (count-fits c)) (bounds c .0, fits-natAbs tt (count-fits c))
+cast-t11 : tie.Need-cast-t11
+cast-t11 c = rw (toZ-ofZ (count-fits c)) (bounds c .0, fits-natAbs tt (count-fits c))
 
 same-length-3 : tie.Need-same-length-3
-same-length-3 c = c .before .before .before .before .before .before .before .before .equation-section .kept .1 .1 .1 .0
+same-length-3 c = search needs
 
 returns-4 : tie.Need-returns-4
 unfolding sizesOf
 returns-4 c =
-    rw (toZ-ofZ (count-fits c))
-    (record {
-      read =
-          λ _.
-          record {
-            within = c .before .before .before .before .number-between .ensures .0 .within;
-            right = right (c .before .before .before .before .before .before .before .before .before .before);
-            few = bounds c .2;
-            rest = count-got _ _ _ (sizes-read (c .before .before .before .before .before .before .before .before .before .before)) _ _ (answer-got (c .before .before .before .before .before .if2 .left) (c .before .before .before .before .before .before .before .before .equation-section .ensures)) _ _ (count-read c);
-          };
-      refused = λ h. absurd (h refl);
-    })
+    rw (toZ-ofZ (count-fits c)) (
+      record {
+        read =
+            λ _.
+            record {
+              within = c .before .before .before .before .number-between .ensures .0 .within;
+              right = right (d (e c));
+              few = bounds c .2;
+              rest =
+                  count-got _ _ _ (sizes-read (d (e c))) _ _ (rows-read (e c) (c .before .before .before .before .before .if2 .left)) _ _ (count-read c);
+            };
+        refused = λ h. absurd (h refl);
+      },
+      past (e c) _ refl,
+    )
 
 pub head-at-spec : {M : Type 1} → statement M
 head-at-spec =
@@ -113,6 +195,9 @@ head-at-spec =
     sizes-at-requires
     no-head-requires
     returns
+    mul-used
+    slice-relend-prefix-equation-section
+    slice-aggregate-equation-section
     equation-section-requires
     no-head-requires-2
     same-length
@@ -121,6 +206,6 @@ head-at-spec =
     no-head-requires-3
     same-length-2
     returns-3
-    cast-t10
+    cast-t11
     same-length-3
     returns-4)

@@ -71,7 +71,7 @@ returns-4 c = (
       sheet-gives _ _ _ _ _ _ refl refl
       (order-got head _ _ (answer-got (c .before .before .before .before .before .before .if1 .left) (c .before .before .before .before .before .before .before .before .before .relations-at .ensures)) _ _ (answer-got (c .before .before .before .if2 .left) (c .before .before .before .before .before .order-at .ensures)))
       (c .before .if3 .left) (size-bounds _ (head .right) .few) (head .few),
-  λ _. refl,
+  λ _. (refl, refl),
 )
 
 pub rest-at-spec : {M : Type 1} → statement M

@@ -1,0 +1,199 @@
+-- The work stores of an answer are zero before it and zero again after it: what reading a sheet and running on it leave in them.
+--
+-- Main definitions
+--   Used z d             past the rows and the relations that an accepting run leaves, the stores are zero
+--
+-- Main statements
+--   unread-same          a sheet that is refused leaves the stores as they were
+--   read-rest            reading a sheet leaves what lies past its rows
+--   refused-zero         a run that is refused leaves zeros
+--   accepted-used        a run that accepts leaves zeros past its rows and its relations
+use Prim.Native.Nat.{ℕ, suc, _*_, _-_, _≤_}
+use native.Mathlib.Nat.{le-refl, le-of-eq, suc-ne-zero}
+use native.Mathlib.Omega.{arith}
+use mathlib.Core.Path.{_≡_, refl, sym, ap, _∙_, subst}
+use mathlib.Core.Logic.{_≢_}
+use mathlib.Core.Bool.{Bool, true, false, cond}
+use mathlib.Core.List.{List, _++_, map, flatten, append-nil}
+use lib.ListN.{length, drop, replicate, length-append, length-replicate, drop-of-length-le}
+use lib.Seq.{drop-at}
+use lib.IntN.{ℤ, pos}
+use Rattle.rules.specs.Limits.{rowLength, relationLength, mostRelations}
+use Rattle.rules.specs.Rows.{Row, Relation, All}
+use Rattle.rules.specs.Elimination.{leading, State, Outcome, done, refused, wholeRun}
+use Rattle.rules.specs.Stores.{Sizes, Valid, span, checkStores, rowsOf, relationsOf, relationNumbers, rowNeed, relationNeed, rowStoreOf}
+use Rattle.rules.specs.Stores.{relationStoreOf, lengthsRight}
+use Rattle.rules.specs.Layout.{StoreRelation, stores-valid, size-bounds, countRight-iff, length-rowStoreOf, length-relationStoreOf}
+use Rattle.rules.specs.Calls.{Call, overwrite, zeros, callRun, afterCheck, afterRun, acceptance, cleared, refusal}
+use Rattle.rules.specs.Numbers.{Read, got, fault}
+use Rattle.rules.specs.Sheets.{Sheet, readSheet}
+use Rattle.rules.specs.SheetCalls.{ReadCall, readCall, afterRead, filled, unread, readRefusal}
+use Rattle.theory.specs.Demands.{Ended, run-ends, six, seven, eight, nine, output-valid}
+use Rattle.theory.specs.Demands as Demands
+use Rattle.reading.specs.Zeros.{length-zeros, take-zeros, drop-zeros, zero-again}
+use Rattle.reading.specs.ReadCalls.{overwrite-paste}
+use Rattle.sheets.specs.ReadBack.{read-valid}
+
+-- ---- parts of a store
+
+-- What lies past the part that was overwritten.
+past-overwrite : (part store : List ℤ) (n : ℕ) → length part ≡ n → drop n (overwrite part store) ≡ drop n store
+unfolding overwrite
+past-overwrite part store n e = drop-at part (drop (length part) store) n e ∙ ap (λ k. drop k store) e
+
+past-rows : {z : Sizes} {rows : List Row} {relations : List Relation} (store : List ℤ) → Valid z rows relations
+    → drop (z .m * rowLength) (overwrite (rowStoreOf rows) store) ≡ drop (z .m * rowLength) store
+unfolding rowNeed
+past-rows {z} {rows} store v =
+    past-overwrite (rowStoreOf rows) store (z .m * rowLength)
+    (length-rowStoreOf rows (v .row-shapes) ∙ ap (λ m. m * rowLength) (v .row-count))
+
+-- A store whose used part is overwritten by zeros.
+zero-overwritten : (n k : ℕ) (store : List ℤ) → n ≤ k → drop n store ≡ drop n (zeros k) → overwrite (zeros n) store ≡ zeros k
+unfolding zeros
+zero-overwritten n k store h e =
+    ap (λ p. overwrite p store) (sym (take-zeros n n (le-refl n)))
+    ∙ sym (overwrite-paste store (zeros n) n (le-of-eq (sym (length-zeros n))))
+    ∙ zero-again n k store h e
+
+-- "Relation places past the count are unused: they hold 0 before and after."
+past-relations : (es : List Relation) (store : List ℤ) → length es ≤ mostRelations → All StoreRelation es → length store ≡ relationNeed
+    → drop (length es * relationLength) (overwrite (relationStoreOf es) store) ≡ drop (length es * relationLength) (zeros relationNeed)
+unfolding overwrite relationStoreOf zeros
+past-relations es store few shapes long =
+    ap (λ l. drop n (relationStoreOf es ++ l)) (drop-of-length-le store {i = length (relationStoreOf es)} (omega (arith, whole)))
+    ∙ ap (drop n) (append-nil (relationStoreOf es))
+    ∙ drop-at used (replicate left (pos 0)) n
+    (omega (arith, whole, length-append used (replicate left (pos 0)), length-replicate left (pos 0)))
+    ∙ ap zeros e
+    ∙ sym (drop-zeros n relationNeed (omega arith))
+  where
+    n : ℕ
+    n = length es * relationLength
+
+    left : ℕ
+    left = (mostRelations - length es) * relationLength
+
+    used : List ℤ
+    used = flatten (map relationNumbers es)
+
+    whole : length (relationStoreOf es) ≡ relationNeed
+    whole = length-relationStoreOf es few shapes
+
+    e : left ≡ relationNeed - n
+    e = omega arith
+
+-- ---- a sheet that was read, or refused
+
+module _ (bytes : List ℕ) (rows relations : List ℤ) (c : ReadCall) (e : c ≡ readCall bytes rows relations) where
+  read-by : (r : Read Sheet) → readSheet bytes ≡ r → c ≡ afterRead r rows relations
+  unfolding readCall
+  read-by r f = e ∙ ap (λ r. afterRead r rows relations) f
+
+  by-length : (x : Sheet) (rest : List ℕ) → readSheet bytes ≡ got x rest → (t : Bool) → lengthsRight (x .sizes .m) rows relations ≡ t
+      → c ≡ cond t (filled x rows relations) (unread 1 rows relations)
+  unfolding afterRead
+  by-length x rest f t g = read-by (got x rest) f ∙ ap (λ t. cond t (filled x rows relations) (unread 1 rows relations)) g
+
+  pub unread-same : c .result .refusal ≢ 0 → (c .rowStore ≡ rows) × (c .relationStore ≡ relations)
+  unfolding afterRead filled unread
+  unread-same h = go (readSheet bytes) refl
+    where
+      same : (n : ℕ) → c ≡ unread n rows relations → (c .rowStore ≡ rows) × (c .relationStore ≡ relations)
+      same n g = (ap (λ c. c .rowStore) g, ap (λ c. c .relationStore) g)
+
+      go : (r : Read Sheet) → readSheet bytes ≡ r → (c .rowStore ≡ rows) × (c .relationStore ≡ relations)
+      go (fault n) f = same n (read-by (fault n) f)
+      go (got x rest) f = test (lengthsRight (x .sizes .m) rows relations) refl
+        where
+          test : (t : Bool) → lengthsRight (x .sizes .m) rows relations ≡ t → (c .rowStore ≡ rows) × (c .relationStore ≡ relations)
+          test true g = absurd (h (ap (λ c. c .result .refusal) (by-length x rest f true g)))
+          test false g = same 1 (by-length x rest f false g)
+
+  pub read-rest : drop (c .result .sizes .m * rowLength) (c .rowStore) ≡ drop (c .result .sizes .m * rowLength) rows
+  unfolding afterRead filled unread readRefusal
+  read-rest = go (readSheet bytes) refl
+    where
+      Rest : ReadCall → Type 0
+      Rest c = drop (c .result .sizes .m * rowLength) (c .rowStore) ≡ drop (c .result .sizes .m * rowLength) rows
+
+      go : (r : Read Sheet) → readSheet bytes ≡ r → Rest c
+      go (fault n) f = subst Rest (sym (read-by (fault n) f)) refl
+      go (got x rest) f = test (lengthsRight (x .sizes .m) rows relations) refl
+        where
+          test : (t : Bool) → lengthsRight (x .sizes .m) rows relations ≡ t → Rest c
+          test true g = subst Rest (sym (by-length x rest f true g)) (past-rows rows (read-valid bytes x rest f))
+          test false g = subst Rest (sym (by-length x rest f false g)) refl
+
+-- ---- a run that accepted, or was refused
+
+pub record Used (z : Sizes) (d : Call) : Type 0 where
+  pub unknowns : z .m ≤ 4
+  pub few : d .result .relations ≤ mostRelations
+  pub rows-rest : drop (z .m * rowLength) (d .rowStore) ≡ drop (z .m * rowLength) (zeros 1280)
+  pub relations-rest : drop (d .result .relations * relationLength) (d .relationStore)
+      ≡ drop (d .result .relations * relationLength) (zeros relationNeed)
+
+module _ (z : Sizes) (count : ℕ) (rows relations : List ℤ) (checked : checkStores z count rows relations ≡ 0)
+    (rest : drop (z .m * rowLength) rows ≡ drop (z .m * rowLength) (zeros 1280)) (long : length relations ≡ relationNeed)
+    (d : Call) (e : d ≡ callRun leading z count rows relations) where
+  abbrev outcome : Outcome
+  outcome = wholeRun leading (span z) (rowsOf (z .m) rows) (relationsOf count relations)
+
+  valid : Valid z (rowsOf (z .m) rows) (relationsOf count relations)
+  valid = stores-valid z count rows relations checked
+
+  unknowns : z .m ≤ 4
+  unknowns = size-bounds z (valid .sizes) .few
+
+  ran-by : (o : Outcome) → outcome ≡ o → d ≡ afterRun leading z o rows relations
+  unfolding callRun afterCheck
+  ran-by o f = e ∙ ap (afterCheck leading z count rows relations) checked ∙ ap (λ o. afterRun leading z o rows relations) f
+
+  pub refused-zero : d .result .refusal ≢ 0 → (d .rowStore ≡ zeros 1280) × (d .relationStore ≡ zeros relationNeed)
+  unfolding afterRun acceptance cleared rowNeed
+  refused-zero h = go outcome refl (run-ends leading valid)
+    where
+      zero : (n : ℕ) → outcome ≡ refused n → (d .rowStore ≡ zeros 1280) × (d .relationStore ≡ zeros relationNeed)
+      zero n f = (
+        ap (λ d. d .rowStore) (ran-by (refused n) f) ∙ zero-overwritten (z .m * rowLength) 1280 rows (omega (arith, unknowns)) rest,
+        ap (λ d. d .relationStore) (ran-by (refused n) f)
+            ∙ zero-overwritten relationNeed relationNeed relations (le-refl relationNeed) none,
+      )
+        where
+          none : drop relationNeed relations ≡ drop relationNeed (zeros relationNeed)
+          none =
+              drop-of-length-le relations {i = relationNeed} (le-of-eq long)
+              ∙ sym (drop-of-length-le (zeros relationNeed) {i = relationNeed} (le-of-eq (length-zeros relationNeed)))
+
+      go : (o : Outcome) → outcome ≡ o → Ended o → (d .rowStore ≡ zeros 1280) × (d .relationStore ≡ zeros relationNeed)
+      go o f (Demands.accepted s) = absurd (h (ap (λ d. d .result .refusal) (ran-by (done s) f)))
+      go o f six = zero 6 f
+      go o f seven = zero 7 f
+      go o f eight = zero 8 f
+      go o f nine = zero 9 f
+
+  pub accepted-used : d .result .refusal ≡ 0 → Used z d
+  unfolding afterRun acceptance cleared refusal
+  accepted-used h = go outcome refl (run-ends leading valid)
+    where
+      clash : (n : ℕ) → outcome ≡ refused (suc n) → ⊥
+      clash n f = suc-ne-zero n (sym (ap (λ d. d .result .refusal) (ran-by (refused (suc n)) f)) ∙ h)
+
+      leaves : (s : State) → outcome ≡ done s → Used z (afterRun leading z (done s) rows relations)
+      leaves s f =
+          let v = output-valid (record { valid = valid; accepts = f }) in
+          let few = countRight-iff (length (s .relations)) .0 (v .relation-count) in
+          record {
+            unknowns = unknowns;
+            few = few;
+            rows-rest = past-rows rows v ∙ rest;
+            relations-rest = past-relations (s .relations) relations few (v .relation-shapes) long;
+          }
+
+      go : (o : Outcome) → outcome ≡ o → Ended o → Used z d
+      go o f (Demands.accepted s) = subst (Used z) (sym (ran-by (done s) f)) (leaves s f)
+      go o f six = absurd (clash 5 f)
+      go o f seven = absurd (clash 6 f)
+      go o f eight = absurd (clash 7 f)
+      go o f nine = absurd (clash 8 f)

@@ -1,0 +1,243 @@
+-- The answer to one sheet put at the front of the output, where it fits.
+--
+-- Main definitions
+--   PutCall, answerPut a output   what is told, and the output afterwards
+--
+-- Main statements
+--   length-overwrite     a store keeps its length
+--   whole-part           the end of a store from a place on
+--   put-behind           a text put behind another one
+--   put-two              a line put before a text that stands behind its place
+--   straight-fits, straight-call  the answer made in the output itself
+--   made-within, beside-call, beside-unput   the answer made beside the output, copied where it fits
+use Prim.Native.Nat.{ℕ, zero, suc, _+_, _-_, _≤_, _<_}
+use native.Mathlib.Nat.{le-refl, suc-ne-zero}
+use native.Mathlib.Omega.{arith}
+use mathlib.Core.Path.{_≡_, refl, sym, _∙_, ap, ap₂, subst}
+use mathlib.Core.Logic.{_≢_}
+use mathlib.Core.Bool.{Bool, true, false, cond}
+use mathlib.Core.List.{List, [], _++_, flatten, append-nil, append-assoc}
+use borrow.Author.Tests.{lt-leb}
+use borrow.Rule.Slice.PartMut.{putMid}
+use lib.Dec.{T, leb, leb→le, le→leb}
+use lib.ListN.{length, take, drop, length-append, length-drop, take-append-drop, drop-of-length-le}
+use lib.Seq.{drop-at, drop-drop, take-all, length-take-le}
+use Rattle.rules.specs.Calls.{overwrite}
+use Rattle.rules.specs.Lists.{cond-passed}
+use Rattle.rules.specs.Numbers.{lines}
+use Rattle.rules.specs.Batch.{mostBytes, Answer, accepted, refusedWith, answerSheet, answerBytes}
+use Rattle.answers.specs.declared.AnswerResult.{AnswerResult}
+use Rattle.answers.specs.Answers.{AnswerCall, callOf, answerCall, answered, unanswered, RightAnswer, right-accepted, right-refused, answer-right, answerBy, answerCall-answer, answerCall-none}
+use Rattle.frames.specs.declared.TextLine.{TextLine}
+use Rattle.frames.specs.Windows.{batchLine}
+use Rattle.frames.specs.Bounds.{answer-fits}
+use Rattle.frames.specs.Pieces.{textOf, shown, shown-text, refusalLine, refusal-refused, refusal-accepted}
+use Rattle.batches.specs.declared.answering.Put.{Put}
+use Rattle.batches.specs.Feeds.{numberOf}
+
+-- ---- the call
+
+pub record PutCall : Type 0 where
+  pub fits : Bool
+  pub refusal : ℕ
+  pub written : ℕ
+  pub output : List ℕ
+
+abbrev pub putOf : Put → List ℕ → PutCall
+putOf r output = record { fits = r .fits; refusal = r .refusal; written = r .written; output = output }
+
+abbrev pub put : Answer → List ℕ → PutCall
+put a output = record { fits = true; refusal = numberOf a; written = length (answerBytes a); output = overwrite (answerBytes a) output }
+
+abbrev pub unput : List ℕ → PutCall
+unput output = record { fits = false; refusal = 0; written = 0; output = output }
+
+unfoldable pub answerPut : Answer → List ℕ → PutCall
+unfolding answerBytes overwrite
+answerPut a output = cond (leb (length (answerBytes a)) (length output)) (put a output) (unput output)
+
+-- ---- what is put
+
+-- The end of a store from a place on, as the part that is lent and as what comes after it.
+pub whole-part : (store : List ℕ) (n : ℕ) → n ≤ length store
+    → (take (length store - n) (drop n store) ≡ drop n store) × (drop (length store - n) (drop n store) ≡ [])
+whole-part store n h =
+    let few : length (drop n store) ≤ length store - n = omega (arith, length-drop n store) in
+    (take-all (length store - n) (drop n store) few, drop-of-length-le (drop n store) few)
+
+-- A text put behind another one.
+pub put-behind : (text more output : List ℕ) → text ++ overwrite more (drop (length text) output) ≡ overwrite (text ++ more) output
+unfolding overwrite
+put-behind text more output =
+    ap (λ l. text ++ (more ++ l)) (drop-drop (length more) (length text) output)
+    ∙ sym (append-assoc text more (drop (length text + length more) output))
+    ∙ ap (λ n. (text ++ more) ++ drop n output) (sym (length-append text more))
+
+-- A line put before a text that stands behind its place.
+pub put-two : (line text output : List ℕ) → length line ≤ length output
+    → overwrite line (take (length line) output ++ overwrite text (drop (length line) output)) ≡ overwrite (line ++ text) output
+unfolding overwrite
+put-two line text output h =
+    ap (λ l. line ++ l) (drop-at (take (length line) output) _ (length line) (length-take-le (length line) output h))
+    ∙ put-behind line text output
+
+-- The line of an answer, and the sheet behind it.
+shown-answer : (a : Answer) (c : AnswerCall) → answerBy (c .refusal) (c .length) (c .store) ≡ a → (c .refusal ≢ 0 → c .length ≡ 0)
+    → (numberOf a ≡ c .refusal) × (refusalLine (c .refusal) ++ take (c .length) (c .store) ≡ answerBytes a)
+unfolding answerBy numberOf
+shown-answer a c e none = (sym (ap numberOf e) ∙ number (c .refusal), go (c .refusal) none ∙ ap answerBytes e)
+  where
+    number : (n : ℕ) → numberOf (answerBy n (c .length) (c .store)) ≡ n
+    number zero = refl
+    number (suc n) = refl
+
+    go : (n : ℕ) → (n ≢ 0 → c .length ≡ 0) → refusalLine n ++ take (c .length) (c .store) ≡ answerBytes (answerBy n (c .length) (c .store))
+    go zero z = refusal-accepted (take (c .length) (c .store))
+    go (suc n) z =
+        ap (λ j. refusalLine (suc n) ++ take j (c .store)) (z (suc-ne-zero n)) ∙ append-nil (refusalLine (suc n)) ∙ refusal-refused (suc n)
+
+-- The call keeps the length of its store.
+pub length-overwrite : (part store : List ℕ) → length part ≤ length store → length (overwrite part store) ≡ length store
+unfolding overwrite
+length-overwrite part store h = length-append part (drop (length part) store) ∙ omega (arith, length-drop (length part) store)
+
+answer-keeps : (sheet store : List ℕ) → length (answerCall sheet store .store) ≡ length store
+unfolding answerCall answered unanswered
+answer-keeps sheet store = go (answerSheet sheet)
+  where
+    go : (a : Answer) → length (answered a store .store) ≡ length store
+    go (accepted bytes) = by (leb (length bytes) (length store)) (leb→le (length bytes) (length store))
+      where
+        whole : AnswerCall
+        whole = record { refusal = 0; length = length bytes; store = overwrite bytes store }
+
+        by : (t : Bool) → (T t → length bytes ≤ length store) → length (cond t whole (unanswered 1 store) .store) ≡ length store
+        by true h = length-overwrite bytes store (h tt)
+        by false h = refl
+    go (refusedWith n) = refl
+
+-- An answer is at most the line `0` and 65,536 bytes.
+answer-short : (a : Answer) → RightAnswer a → length (refusalLine (numberOf a)) ≤ batchLine → length (answerBytes a) ≤ 65538
+unfolding numberOf refusalLine lines flatten
+answer-short a (right-accepted {bytes = sheet} few) h = rw (← refusal-accepted sheet, length-append) (omega arith)
+answer-short a (right-refused n low) h = rw (← refusal-refused (suc n)) (omega arith)
+
+-- The answer of a call in a store that is long enough for any, and its line.
+module _ (sheet store : List ℕ) (r : AnswerResult) (stored : List ℕ) (line : TextLine) (long : mostBytes ≤ length store)
+    (e : callOf r stored ≡ answerCall sheet store) (f : line ≡ textOf (refusalLine (r .refusal))) where
+  abbrev answer : Answer
+  answer = answerSheet sheet
+
+  made : (numberOf answer ≡ r .refusal) × (refusalLine (r .refusal) ++ take (r .length) stored ≡ answerBytes answer)
+  unfolding callOf
+  made =
+      subst
+      (λ c. (numberOf answer ≡ c .refusal) × (refusalLine (c .refusal) ++ take (c .length) (c .store) ≡ answerBytes answer)) (sym e)
+      (shown-answer answer (answerCall sheet store) (answerCall-answer sheet store long) (answerCall-none sheet store))
+
+  -- The sheet that answers lies in the store.
+  pub made-within : (r .length ≤ length store) × (length stored ≡ length store)
+  unfolding callOf
+  made-within = (
+    subst (λ c. c .length ≤ length store) (sym e) (answer-fits sheet store),
+    ap (λ c. length (c .store)) e ∙ answer-keeps sheet store,
+  )
+
+  line-length : line .length ≡ length (refusalLine (r .refusal))
+  unfolding textOf
+  line-length = ap (λ t. t .length) f
+
+  line-shown : shown line ≡ refusalLine (r .refusal)
+  line-shown = ap shown f ∙ shown-text (refusalLine (r .refusal))
+
+  made-length : length (answerBytes answer) ≡ line .length + r .length
+  made-length =
+      sym (ap length (made .1)) ∙ length-append (refusalLine (r .refusal)) (take (r .length) stored)
+      ∙ ap₂ _+_ (sym line-length) (length-take-le (r .length) stored (omega (arith, made-within)))
+
+  -- Where the answer fits.
+  fitting : (output after : List ℕ) → line .length + r .length ≤ length output → after ≡ overwrite (answerBytes answer) output
+      → _≡_ {A = PutCall} (record { fits = true; refusal = r .refusal; written = line .length + r .length; output = after }) (answerPut answer output)
+  unfolding answerPut
+  fitting output after h same =
+      (λ i. record { fits = true; refusal = sym (made .0) i; written = sym made-length i; output = same i })
+      ∙ sym (cond-passed (leb (length (answerBytes answer)) (length output)) (put answer output) (unput output)
+      (le→leb (length (answerBytes answer)) (length output) (omega (arith, made-length))))
+
+-- The answer made in the output itself, behind the place of the line `0`.
+straight-put : (a : Answer) (output : List ℕ) → RightAnswer a → 65538 ≤ length output
+    → let c = answered a (take (length output - 2) (drop 2 output)) in
+    overwrite (refusalLine (c .refusal)) (take 2 output ++ (c .store ++ drop (length output - 2) (drop 2 output))) ≡ overwrite (answerBytes a) output
+unfolding answered unanswered refusalLine lines flatten
+straight-put a output right long =
+    let (all, none) = whole-part output 2 (omega arith) in
+    ap₂
+    (λ part after. let c = answered a part in overwrite (refusalLine (c .refusal)) (take 2 output ++ (c .store ++ after)))
+    all none
+    ∙ ap (λ l. overwrite (refusalLine (answered a (drop 2 output) .refusal)) (take 2 output ++ l)) (append-nil (answered a (drop 2 output) .store))
+    ∙ go a right
+  where
+    go : (a : Answer) → RightAnswer a
+        → let c = answered a (drop 2 output) in overwrite (refusalLine (c .refusal)) (take 2 output ++ c .store) ≡ overwrite (answerBytes a) output
+    go a (right-accepted {bytes = sheet} few) =
+        ap (λ c. overwrite (refusalLine (c .refusal)) (take 2 output ++ c .store))
+        (cond-passed (leb (length sheet) (length (drop 2 output))) _ (unanswered 1 (drop 2 output))
+        (le→leb (length sheet) (length (drop 2 output)) (rw length-drop (omega arith))))
+        ∙ put-two (refusalLine 0) sheet output (omega arith)
+        ∙ ap (λ l. overwrite l output) (refusal-accepted sheet)
+    go a (right-refused n low) =
+        ap₂ overwrite (refusal-refused (suc n)) (take-append-drop 2 output)
+
+module _ (sheet output : List ℕ) (r : AnswerResult) (stored : List ℕ) (line : TextLine) (long : 65538 ≤ length output)
+    (e : callOf r stored ≡ answerCall sheet (take (length output - 2) (drop 2 output))) (f : line ≡ textOf (refusalLine (r .refusal)))
+    (few : line .length ≤ batchLine) where
+  behind : mostBytes ≤ length (take (length output - 2) (drop 2 output))
+  behind = rw (whole-part output 2 (omega arith) .0, length-drop) (omega arith)
+
+  made-number : numberOf (answerSheet sheet) ≡ r .refusal
+  made-number = made sheet _ r stored line behind e f .0
+
+  pub straight-fits : line .length + r .length ≤ length output
+  straight-fits =
+      omega
+      (arith, made-length sheet _ r stored line behind e f, answer-short (answerSheet sheet) (answer-right sheet) (rw made-number (omega (arith, line-length sheet _ r stored line behind e f))))
+
+  pub straight-call : (after : List ℕ) → after ≡ overwrite (shown line) (putMid 2 (length output - 2) output stored)
+      → _≡_ {A = PutCall} (record { fits = true; refusal = r .refusal; written = line .length + r .length; output = after })
+      (answerPut (answerSheet sheet) output)
+  unfolding callOf answerCall
+  straight-call after g =
+      fitting sheet _ r stored line behind e f output after straight-fits
+      (g
+      ∙ ap₂ (λ l s. overwrite l (putMid 2 (length output - 2) output s)) (line-shown sheet _ r stored line behind e f) (ap (λ c. c .store) e)
+      ∙ ap (λ n. overwrite (refusalLine n) (putMid 2 (length output - 2) output (answerCall sheet (take (length output - 2) (drop 2 output)) .store))) (ap (λ c. c .refusal) e)
+      ∙ straight-put (answerSheet sheet) output (answer-right sheet) long)
+
+-- The answer made in a store beside the output.
+module _ (sheet store output : List ℕ) (r : AnswerResult) (stored : List ℕ) (line : TextLine) (long : mostBytes ≤ length store)
+    (e : callOf r stored ≡ answerCall sheet store) (f : line ≡ textOf (refusalLine (r .refusal))) where
+  pub beside-unput : length output < line .length + r .length → unput output ≡ answerPut (answerSheet sheet) output
+  unfolding answerPut
+  beside-unput h =
+      sym (ap (λ t. cond t (put (answerSheet sheet) output) (unput output))
+      (lt-leb (length (answerBytes (answerSheet sheet))) (length output) (omega (arith, made-length sheet store r stored line long e f))))
+
+  pub beside-call : line .length + r .length ≤ length output → (copied after : List ℕ)
+      → copied ≡ overwrite (take (r .length) stored) (take (length output - line .length) (drop (line .length) output))
+      → after ≡ overwrite (shown line) (putMid (line .length) (length output - line .length) output copied)
+      → _≡_ {A = PutCall} (record { fits = true; refusal = r .refusal; written = line .length + r .length; output = after })
+      (answerPut (answerSheet sheet) output)
+  beside-call h copied after g i =
+      fitting sheet store r stored line long e f output after h
+      (i
+      ∙ ap₂ (λ l c. overwrite (shown line) (take (line .length) output ++ (c ++ l))) none (g ∙ ap (overwrite (take (r .length) stored)) all)
+      ∙ ap (λ l. overwrite (shown line) (take (line .length) output ++ l)) (append-nil (overwrite (take (r .length) stored) (drop (line .length) output)))
+      ∙ ap₂ (λ l n. overwrite l (take n output ++ overwrite (take (r .length) stored) (drop n output))) (line-shown sheet store r stored line long e f) (line-length sheet store r stored line long e f)
+      ∙ put-two (refusalLine (r .refusal)) (take (r .length) stored) output (omega (arith, line-length sheet store r stored line long e f))
+      ∙ ap (λ l. overwrite l output) (made sheet store r stored line long e f .1))
+    where
+      all : take (length output - line .length) (drop (line .length) output) ≡ drop (line .length) output
+      all = whole-part output (line .length) (omega arith) .0
+
+      none : drop (length output - line .length) (drop (line .length) output) ≡ []
+      none = whole-part output (line .length) (omega arith) .1

@@ -1,0 +1,92 @@
+// The answer to one sheet, put at the front of the output.
+ghost use mathlib.Core.Path.{_≡_};
+ghost use Prim.Native.Nat.{_+_, _≤_};
+ghost use lib.ListN.{length, take};
+ghost use Rattle.rules.specs.Calls.{overwrite, zeros};
+ghost use Rattle.rules.specs.Batch.{answerSheet};
+ghost use Rattle.batches.specs.Answering.{putOf, answerPut};
+
+// `fits` says that there was room for the answer; only then is it written, and its refusal, or 0, told.
+pub(crate) struct Put {
+    pub fits: bool,
+    pub refusal: u8,
+    pub written: usize,
+}
+
+// The line `0` before a sheet that answers.
+const ACCEPTED: usize = 2;
+
+// The largest sheet that answers.
+const SHEET: usize = 65536;
+
+// A line of text at the front of the output.
+pub(crate) fn put_line(output: &mut [u8], line: frames::TextLine)
+    requires { ⌜ (line .length ≤ 24) × (line .length ≤ length (now output)) ⌝ }
+    ensures { λ _. ⌜ now (output .exit) ≡ overwrite (take (line .length) (line .bytes)) (now (output .entry)) ⌝ }
+{
+    let length = line.length;
+    let text = line.bytes;
+    bytes::copy(&text[..length], output);
+}
+
+// There is room for any answer: the sheet goes to its place behind the line `0`, and then the line before it.
+fn put_straight(sheet: &[u8], output: &mut [u8], rows: &mut [i64], relations: &mut [i64]) -> Put
+    requires { ⌜ (65538 ≤ length (now output)) × (now rows ≡ zeros 1280) × (now relations ≡ zeros 5136) ⌝ }
+    ensures { λ r. ⌜ putOf r (now (output .exit)) ≡ answerPut (answerSheet (now (sheet .entry))) (now (output .entry)) ⌝ }
+    ensures { λ _. ⌜ (now (rows .exit) ≡ now (rows .entry)) × (now (relations .exit) ≡ now (relations .entry)) ⌝ }
+{
+    let answer = answers::answer_in(sheet, rows, relations, &mut output[ACCEPTED..]);
+    let line = frames::refusal_line(answer.refusal);
+    let written = line.length + answer.length;
+    put_line(output, line);
+    Put {
+        fits: true,
+        refusal: answer.refusal,
+        written,
+    }
+}
+
+// There may be too little room: the answer is worked out beside the output, and copied where it fits.
+fn put_beside(sheet: &[u8], output: &mut [u8], rows: &mut [i64], relations: &mut [i64]) -> Put
+    requires { ⌜ (now rows ≡ zeros 1280) × (now relations ≡ zeros 5136) ⌝ }
+    ensures { λ r. ⌜ putOf r (now (output .exit)) ≡ answerPut (answerSheet (now (sheet .entry))) (now (output .entry)) ⌝ }
+    ensures { λ _. ⌜ (now (rows .exit) ≡ now (rows .entry)) × (now (relations .exit) ≡ now (relations .entry)) ⌝ }
+{
+    let mut beside = [0u8; SHEET];
+    let answer = answers::answer_in(sheet, rows, relations, &mut beside);
+    let line = frames::refusal_line(answer.refusal);
+    let from = line.length;
+    let length = answer.length;
+    let written = from + length;
+    if output.len() < written {
+        return Put {
+            fits: false,
+            refusal: 0,
+            written: 0,
+        };
+    }
+    bytes::copy(&beside[..length], &mut output[from..]);
+    put_line(output, line);
+    Put {
+        fits: true,
+        refusal: answer.refusal,
+        written,
+    }
+}
+
+pub(crate) fn put_answer(
+    sheet: &[u8],
+    output: &mut [u8],
+    rows: &mut [i64],
+    relations: &mut [i64],
+) -> Put
+    requires { ⌜ (now rows ≡ zeros 1280) × (now relations ≡ zeros 5136) ⌝ }
+    ensures { λ r. ⌜ putOf r (now (output .exit)) ≡ answerPut (answerSheet (now (sheet .entry))) (now (output .entry)) ⌝ }
+    ensures { λ _. ⌜ (now (rows .exit) ≡ now (rows .entry)) × (now (relations .exit) ≡ now (relations .entry)) ⌝ }
+{
+    if output.len() < ACCEPTED + SHEET {
+        put_beside(sheet, output, rows, relations)
+    } else {
+        put_straight(sheet, output, rows, relations)
+    }
+}

@@ -1,0 +1,88 @@
+// The end of a batch, and a whole batch.
+use crate::OutputResult;
+use crate::Stage;
+ghost use mathlib.Core.Path.{_≡_};
+ghost use lib.ListN.{length, replicate};
+ghost use Rattle.rules.specs.Calls.{zeros};
+ghost use Rattle.frames.specs.Pieces.{textOf};
+ghost use Rattle.batches.specs.PieceCalls.{outputOf, endText, putText, outputCall};
+
+// What is still written at the end of the input: nothing after a broken batch.
+fn end_line(stage: Stage, batch: frames::Batch, held: usize) -> frames::TextLine
+    ensures { λ r. ⌜ r ≡ textOf (endText stage batch held) ⌝ }
+{
+    match stage {
+        Stage::Count => frames::refusal_line(3),
+        Stage::Sheets => frames::close(batch, held),
+        Stage::Over => frames::TextLine {
+            bytes: [0; 24],
+            length: 0,
+        },
+    }
+}
+
+pub(crate) fn ending(
+    stage: Stage,
+    batch: frames::Batch,
+    held: usize,
+    output: &mut [u8],
+) -> OutputResult
+    ensures { λ r. ⌜ outputOf r (now (output .exit)) ≡ putText (endText stage batch held) (now (output .entry)) (now (output .entry)) ⌝ }
+{
+    let line = end_line(stage, batch, held);
+    let length = line.length;
+    if output.len() < length {
+        return OutputResult {
+            refusal: 1,
+            length: 0,
+        };
+    }
+    crate::answering::put_line(output, line);
+    OutputResult { refusal: 0, length }
+}
+
+// The output was too short: all of it is zero.
+fn too_short(output: &mut [u8]) -> OutputResult
+    ensures { λ r. ⌜ (r ≡ record { refusal = 1; length = 0 }) × (now (output .exit) ≡ replicate (length (now (output .entry))) 0) ⌝ }
+{
+    let mut i = 0;
+    while i < output.len() {
+        output[i] = 0;
+        i += 1;
+    }
+    OutputResult {
+        refusal: 1,
+        length: 0,
+    }
+}
+
+pub(crate) fn whole(
+    input: &[u8],
+    output: &mut [u8],
+    rows: &mut [i64],
+    relations: &mut [i64],
+) -> OutputResult
+    requires { ⌜ (now rows ≡ zeros 1280) × (now relations ≡ zeros 5136) ⌝ }
+    ensures { λ r. ⌜ outputOf r (now (output .exit)) ≡ outputCall (now (input .entry)) (now (output .entry)) ⌝ }
+{
+    let none = frames::Batch {
+        left: 0,
+        accepted: 0,
+        refused: 0,
+    };
+    let fed = crate::feeding::feed(Stage::Count, none, input, output, rows, relations);
+    if fed.full {
+        return too_short(output);
+    }
+    let out = fed.written;
+    let stage = fed.stage;
+    let batch = fed.batch;
+    let last = ending(stage, batch, input.len() - fed.taken, &mut output[out..]);
+    if last.refusal != 0 {
+        return too_short(output);
+    }
+    OutputResult {
+        refusal: 0,
+        length: out + last.length,
+    }
+}

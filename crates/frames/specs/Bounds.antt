@@ -1,0 +1,70 @@
+-- How large the pieces of a batch are.
+--
+-- Main statements
+--   line-small       a sheet has at most 32,768 bytes
+--   begun-counted    a batch begins with at most 1,000 sheets, and none where its first line is broken
+--   answer-fits      the sheet that answers lies in the lent store
+--   text-fits        a line of text has at most 24 bytes
+use Prim.Native.Nat.{ℕ, zero, _+_, _≤_, zero-le}
+use native.Mathlib.Omega.{arith}
+use mathlib.Core.Path.{_≡_, refl, ap}
+use mathlib.Core.Bool.{Bool, true, false, cond}
+use mathlib.Core.List.{List}
+use lib.Dec.{T, leb, leb→le}
+use lib.IntN.{ℤ, natAbs}
+use lib.ListN.{length, drop, replicate, length-append, length-drop, length-replicate}
+use Rattle.rules.specs.Calls.{overwrite}
+use Rattle.rules.specs.Numbers.{newline, Read, got, fault}
+use Rattle.rules.specs.Batch.{Answer, accepted, refusedWith, answerSheet, readAfterClient, readSize}
+use Rattle.frames.specs.declared.TextLine.{TextLine}
+use Rattle.frames.specs.Windows.{batchLine, countOf, clientOf, sheetLine-is}
+use Rattle.frames.specs.Pieces.{readCount, begunBy, begunOf, lineBy, lineOf, textOf, Counted}
+use Rattle.answers.specs.Answers.{AnswerCall, unanswered, answered, answerCall}
+use Rattle.frames.specs.Lines.{in-range}
+
+-- "0 to 32,768"
+pub line-small : (bytes : List ℕ) → lineOf bytes .bytes ≤ 32768
+unfolding lineOf lineBy readAfterClient readSize
+line-small bytes = rw (sheetLine-is bytes) (client (clientOf bytes))
+  where
+    size : (k : ℤ) (more : List ℕ) (r : Read ℤ) → countOf more ≡ r → lineBy bytes (readSize k r) .bytes ≤ 32768
+    size k more (got n rest) e = in-range 0 32768 newline more n rest e .2
+    size k more (fault n) e = zero-le
+
+    client : (r : Read ℤ) → lineBy bytes (readAfterClient r) .bytes ≤ 32768
+    client (got k more) = size k more (countOf more) refl
+    client (fault n) = zero-le
+
+-- "0 to 1,000"
+pub begun-counted : (bytes : List ℕ) → Counted (begunOf bytes .batch)
+unfolding begunOf begunBy readCount
+begun-counted bytes = go (readCount bytes) refl
+  where
+    go : (r : Read ℤ) → readCount bytes ≡ r → Counted (begunBy bytes r .batch)
+    go (got k rest) e = let few = in-range 0 1000 newline bytes k rest e .2 in let h : natAbs k + 0 + 0 ≤ 1000 = omega arith in h
+    go (fault n) e = zero-le
+
+pub answer-fits : (bytes store : List ℕ) → answerCall bytes store .length ≤ length store
+unfolding answerCall answered unanswered
+answer-fits bytes store = go (answerSheet bytes)
+  where
+    go : (a : Answer) → answered a store .length ≤ length store
+    go (accepted sheet) = by (leb (length sheet) (length store)) (leb→le (length sheet) (length store))
+      where
+        whole : AnswerCall
+        whole = record { refusal = 0; length = length sheet; store = overwrite sheet store }
+
+        by : (t : Bool) → (T t → length sheet ≤ length store) → cond t whole (unanswered 1 store) .length ≤ length store
+        by true h = h tt
+        by false h = zero-le
+    go (refusedWith n) = zero-le
+
+-- The array of a line has 24 bytes, so the line has no more.
+pub text-fits : (t : TextLine) (l : List ℕ) → t ≡ textOf l → length (t .bytes) ≡ batchLine → t .length ≤ batchLine
+unfolding textOf overwrite
+text-fits t l e size =
+    omega
+    (arith, ap (λ r. r .length) e, ap (λ r. length (r .bytes)) e, length-append l (drop (length l) zeros), length-drop (length l) zeros, length-replicate batchLine zero)
+  where
+    zeros : List ℕ
+    zeros = replicate batchLine 0

@@ -1,0 +1,5 @@
+pub mod Windows
+pub mod Pieces
+pub mod Longer
+pub mod Lines
+pub mod Bounds
