@@ -28,4 +28,3 @@ pub mod Agreement
 pub mod Settled
 pub mod Trailing
 pub mod Demands
-pub mod StoreDemands

@@ -1,0 +1,676 @@
+-- What is promised of the public calls, demand by demand. A reader starts here.
+--
+-- Each claim is about a call as it was called. `Ran side z count rows relations c` says that `run_leading` or `run_trailing`
+-- was lent the stores `rows` and `relations`, with the sizes z and `count` relations, and that c is its result with both stores
+-- as it left them: the function's contract, word for word. `SheetWasRead`, `SheetWasWritten`, `SheetWasAnswered`,
+-- `PieceWasGiven`, `InputWasEnded`, `BatchWasAnswered` and `ExportedRun`, `ExportedRead`, `ExportedWrite`, `ExportedBatch` say
+-- so of the other calls. The words of the claims are in the files *Words.antt, and below those in `rules`, where document 01
+-- stands as definitions. Every proof here is one citation of a file Lifted*.antt, which brings the theorems of `theory`,
+-- `sheets`, `answers` and `batches` to the calls, or of a theorem of those crates itself.
+--
+-- Demand 1: whatever reaches a public entry point is worked to its end or gets a refusal number; on the way no digit is lost
+-- and no index is wrong. That part is no theorem here, but what it means that a crate is proved: no public function has a
+-- `requires`, and each is proved to end, to keep its numbers in their types and its indices in their stores, and to meet its
+-- contract. What is claimed here is what a refusal gives back and leaves.
+-- Demand 2: the output is what the rules say, each refusal comes where they say, sheets follow the grammar, and one that was
+-- written reads back.
+-- Demand 3: an accepted system has the solutions of its input, its diagonal is nonzero, past the reported root D vectors settle
+-- all that follow, refusal 6 means dependence, and what is accepted is not dependent.
+--
+-- Main statements, by demand and call
+--   1 runs:         run-number, run-refused-fields, run-refused-before, run-refused-during, run-rest-kept
+--     polynomials:  polynomial-refused
+--     sheets:       read-number, read-refused, write-number, write-refused
+--     answers:      answer-number, answer-refused
+--     batches:      piece-number, piece-refused, piece-rest-kept, finish-number, finish-refused, batch-number, batch-refused
+--     exports:      export-number, export-refused-before, export-refused-during, export-read-number, export-read-refused,
+--                   export-write-number, export-write-refused, export-batch-number, export-batch-missing,
+--                   export-batch-refused
+--   2 runs:         run-course, run-range, run-lengths, run-numbers, run-work-refused, run-accepts, run-output,
+--                   run-relations-first, run-roots, run-roots-once, run-mirrored
+--     polynomials:  polynomial-range, polynomial-length, polynomial-accepts, polynomial-part, polynomial-sixteen
+--     sheets:       read-course, read-faults, read-lengths, read-accepts, read-output, read-writes-back, write-course,
+--                   write-range, write-lengths, write-numbers, write-accepts, write-output, written-reads-back
+--     answers:      answer-course, answer-faults, answer-work-refused, answer-sizes, answer-output
+--     batches:      start-right, piece-course, piece-range, piece-lengths, piece-held, piece-accepts, piece-again,
+--                   piece-writes, piece-takes, piece-gets-on, piece-stops, finish-course, finish-lengths, finish-fits,
+--                   finish-output, pieces-output, pieces-exist, batch-course, batch-lengths, batch-accepts, batch-output
+--     exports:      export-course, export-range, export-lengths, export-numbers, export-work, export-output,
+--                   export-read-course, export-read-faults, export-read-lengths, export-read-accepts, export-read-output,
+--                   export-write-course, export-write-range, export-write-lengths, export-write-numbers, export-write-accepts,
+--                   export-write-output, export-batch-course, export-batch-lengths, export-batch-output
+--   3 runs:         same-solutions, diagonal-nonzero, agreement-leading, agreement-trailing, no-root, no-root-zero, last-root,
+--                   accepted-independent, six-dependent, dependent-refused, shifts-bounded, output-passes
+--     answers:      answer-solutions
+use Prim.Native.Nat.{ℕ, pred, _*_, _≤_, _<_}
+use mathlib.Core.Path.{_≡_}
+use mathlib.Core.Logic.{_↔_, _≢_, _⊎_}
+use mathlib.Core.Bool.{true, false, not}
+use mathlib.Core.List.{List, [], _∷_, _++_, map, List·Mem, List·Nodup}
+use lib.Dec.{T}
+use lib.ListN.{length, take, replicate, getD}
+use lib.IntN.{ℤ, pos, _+ℤ_}
+use Rattle.algebra.specs.Polynomials.{Polynomial, eval, isZero}
+use Rattle.algebra.specs.Roots.{roots, roots-sound, roots-complete, roots-distinct}
+use Rattle.rules.specs.Limits.{coefficientCount}
+use Rattle.rules.specs.Rows.{Row, Relation, noRow, mirrorRow, mirrorRelation}
+use Rattle.rules.specs.Elimination.{Side, leading, trailing, State, Outcome, done, refused, mirrorOutcome, wholeRun}
+use Rattle.rules.specs.Stores.{Sizes, span, rowsOf, relationsOf, rowNeed, relationNeed}
+use Rattle.rules.specs.Sequences.{Sequence, Satisfies, Dependent, polynomialAt}
+use Rattle.rules.specs.Layout.{SizeBounds, NumbersRight}
+use Rattle.rules.specs.Calls.{Call, refusal, polynomialCheck, polynomialPart}
+use Rattle.rules.specs.Numbers.{fault}
+use Rattle.rules.specs.Sheets.{Sheet, readSheet, writeSheet}
+use Rattle.rules.specs.SheetCalls.{ReadCall, WriteCall, unread, unwritten}
+use Rattle.rules.specs.Batch.{batchOutput}
+use Rattle.theory.specs.Demands.{same-sequences}
+use Rattle.answers.specs.Answers.{AnswerCall, unanswered, sheetAfter}
+use Rattle.frames.specs.Windows.{batchLine}
+use Rattle.batches.specs.declared.Stream.{Stream}
+use Rattle.batches.specs.Feeds.{startOf}
+use Rattle.batches.specs.PieceCalls.{heldNeed, PieceCall, pieceRefused, OutputCall}
+use Rattle.batches.specs.PieceLaws.{Run}
+use Rattle.batches.specs.Rooms.{answerRoom}
+use Rattle.batches.specs.PieceLaws as Pieces
+use Rattle.batches.specs.Rooms as Rooms
+use Rattle.exports.specs.Results.{Exported, resultNeed}
+use Rattle.exports.specs.Writes.{Written, notWritten}
+use Rattle.claims.specs.RunWords.{Ran, FoundBefore, FoundDuring, RunNumber, Rewritten, Cleared, Kept, InRange}
+use Rattle.claims.specs.RunWords.{Course, LongEnough, Passed, ruled, GivesBack, Solves, AgreeBetween, AgreeFrom}
+use Rattle.claims.specs.RunWords.{AgreeDown, AgreeUpTo, Triangular, NoRoot, LastRoot, PastRoot}
+use Rattle.claims.specs.SheetWords.{WriteNumber, SheetWasRead, SheetWasWritten, IsSheetOf, HoldsSheet, ReadsBack}
+use Rattle.claims.specs.SheetWords.{ReadCourse, WriteCourse, WriteRange, WriteShort, sheetBytes, PlaceInside}
+use Rattle.claims.specs.SheetWords.{WriteReady}
+use Rattle.claims.specs.ExportWords.{ExportedRun, ExportedRead, ExportedWrite, ExportLong, OrderRange, OrderLong}
+use Rattle.claims.specs.ExportWords.{ExportWriteShort, ExportCourse, ExportReadCourse, ExportWriteCourse}
+use Rattle.claims.specs.ExportWords.{ExportGives, ExportReadGives, ExportWriteGives, ExportWriteReady}
+use Rattle.claims.specs.ExportWords.{ExportedBatch, ExportBatchCourse}
+use Rattle.claims.specs.AnswerWords.{AnswerCourse, SheetWasAnswered, AnswerFits, AnswerHolds, sheetRun}
+use Rattle.claims.specs.AnswerWords.{SheetAccepted}
+use Rattle.claims.specs.BatchWords.{PieceWasGiven, StreamInRange, StoreHolds, HeldWaits, StreamRight, PieceNumber}
+use Rattle.claims.specs.BatchWords.{PieceCourse, NextTooLong, InputWasEnded, BatchWasAnswered, lastText, noRoom}
+use Rattle.claims.specs.BatchWords.{TextCourse}
+use Rattle.claims.specs.LiftedRuns as Runs
+use Rattle.claims.specs.LiftedSheets as Sheets
+use Rattle.claims.specs.LiftedExports as Exports
+use Rattle.claims.specs.MirroredRun.{Alike, trailing-mirrors}
+use Rattle.claims.specs.LiftedAnswers as Answers
+use Rattle.claims.specs.LiftedBatches as Batches
+
+-- ==== runs: `elimination::run_leading` and `run_trailing`
+
+module _ {side : Side} {z : Sizes} {count : ℕ} {rows relations : List ℤ} {c : Call}
+    (ran : Ran side z count rows relations c) where
+  -- ---- demand 1
+
+  -- A run returns 0, 1, 2, 5, or a number from 6 to 9.
+  pub run-number : RunNumber (c .result .refusal)
+  run-number = Runs.number-of ran
+
+  -- A refusal returns its number, and all other fields are 0.
+  pub run-refused-fields : c .result .refusal ≢ 0 → c .result ≡ refusal (c .result .refusal)
+  run-refused-fields = Runs.fields-zero ran
+
+  -- A refusal found before the work leaves both stores as they were.
+  pub run-refused-before : FoundBefore (c .result .refusal) → (c .rowStore ≡ rows) × (c .relationStore ≡ relations)
+  run-refused-before = Runs.stores-kept ran
+
+  -- A refusal found during the work leaves the needed part of both stores zero, and the rest as it was.
+  pub run-refused-during : FoundDuring (c .result .refusal)
+      → Cleared (rowNeed (z .m)) rows (c .rowStore) × Cleared relationNeed relations (c .relationStore)
+  run-refused-during = Runs.stores-cleared ran
+
+  -- Whatever the result, the numbers past the needed part stay, and so do the lengths.
+  pub run-rest-kept : Kept (rowNeed (z .m)) rows (c .rowStore) × Kept relationNeed relations (c .relationStore)
+  run-rest-kept = Runs.rest-kept ran
+
+  -- ---- demand 2
+
+  -- In one: the five things that a run can do, by what the checks and the rules say, and what each gives back and leaves.
+  pub run-course : Course side z count rows relations c
+  run-course = Runs.course ran
+
+  -- 2 exactly if a size or the count is out of its range.
+  pub run-range : (c .result .refusal ≡ 2) ↔ (¬ InRange z count)
+  run-range = Runs.two-exactly ran
+
+  -- 1 exactly if they are in range and a store is too short.
+  pub run-lengths : (c .result .refusal ≡ 1) ↔ (InRange z count × (¬ LongEnough z rows relations))
+  run-lengths = Runs.one-exactly ran
+
+  -- 5 exactly if sizes and lengths are right, and a number is out of range or nonzero at an unused position.
+  pub run-numbers : (c .result .refusal ≡ 5)
+      ↔ (InRange z count × LongEnough z rows relations × (¬ NumbersRight z count rows relations))
+  run-numbers = Runs.five-exactly ran
+
+  -- 6, 7, 8 or 9 exactly if the checks pass and the run of the rules refuses with that number.
+  pub run-work-refused : (n : ℕ) → FoundDuring n
+      → (c .result .refusal ≡ n) ↔ (Passed z count rows relations × (ruled side z count rows relations ≡ refused n))
+  run-work-refused = Runs.during-exactly ran
+
+  -- 0 exactly if the checks pass and the run of the rules accepts.
+  pub run-accepts : (c .result .refusal ≡ 0)
+      ↔ (Passed z count rows relations × ((s : State) × (ruled side z count rows relations ≡ done s)))
+  run-accepts = Runs.accepted-exactly ran
+
+  -- The rows, relations, column order, shift count and root report are those of the rules' final state, and what is past the
+  -- needed part of a store stays.
+  pub run-output : c .result .refusal ≡ 0
+      → (s : State) × (ruled side z count rows relations ≡ done s) × GivesBack side z s rows relations c
+  run-output e = let (s, a) = Runs.accepted ran e in (s, a .accepts, a .given)
+
+  -- The lent relations stay first, in their order.
+  pub run-relations-first : c .result .refusal ≡ 0
+      → (more : List Relation) × (relationsOf (c .result .relations) (c .relationStore) ≡ relationsOf count relations ++ more)
+  run-relations-first = Runs.relations-first ran
+
+  -- ---- demand 3
+
+  -- Refusal 6: a nonzero combination of shifted equations of the lent system vanishes.
+  pub six-dependent : c .result .refusal ≡ 6 → Dependent (z .l) (rowsOf (z .m) rows)
+  six-dependent = Runs.dependent-six ran
+
+  -- A dependent system that passes the checks is refused during the work: as dependent, or because it meets a limit first.
+  pub dependent-refused : Passed z count rows relations → Dependent (z .l) (rowsOf (z .m) rows) → FoundDuring (c .result .refusal)
+  dependent-refused = Runs.dependent-refused ran
+
+  module _ (accepted : c .result .refusal ≡ 0) where
+    -- The same sequences satisfy the system that was lent and the one that was given back.
+    pub same-solutions : (y : Sequence)
+        → Solves z count rows relations y ↔ Solves z (c .result .relations) (c .rowStore) (c .relationStore) y
+    same-solutions = Runs.sequences ran accepted
+
+    -- The reported order is a permutation of the columns that makes block l, or block t, triangular, with nonzero diagonal
+    -- polynomials.
+    pub diagonal-nonzero : Triangular side z c
+    diagonal-nonzero = Runs.triangular ran accepted
+
+    -- "no": exactly if no diagonal polynomial has an integer root.
+    pub no-root : (c .result .hasRoot ≡ false) ↔ NoRoot side z c
+    no-root = Runs.root-no ran accepted
+
+    -- and then the root is 0.
+    pub no-root-zero : c .result .hasRoot ≡ false → c .result .root ≡ pos 0
+    no-root-zero = Runs.root-none ran accepted
+
+    -- "yes": the root is the largest integer root of all diagonal polynomials, on the trailing side the smallest.
+    pub last-root : c .result .hasRoot ≡ true → LastRoot side z c (c .result .root)
+    last-root = Runs.root-yes ran accepted
+
+    -- An accepted system is not dependent.
+    pub accepted-independent : ¬ Dependent (z .l) (rowsOf (z .m) rows)
+    accepted-independent = Runs.independent ran accepted
+
+    -- There are at most m × D shifts.
+    pub shifts-bounded : c .result .shifts ≤ z .m * span z
+    shifts-bounded = Runs.shifts-few ran accepted
+
+    -- What was given back passes the checks of the next call: every number within ±C, every degree at most 15, unused
+    -- positions zero.
+    pub output-passes : Passed z (c .result .relations) (c .rowStore) (c .relationStore)
+    output-passes = Runs.output-passes ran accepted
+
+-- Two solutions that agree on D successive vectors past the reported root agree ever after: on the leading side upwards,
+pub agreement-leading : {z : Sizes} {count : ℕ} {rows relations : List ℤ} {c : Call} → Ran leading z count rows relations c
+    → c .result .refusal ≡ 0 → (y w : Sequence) → Solves z count rows relations y → Solves z count rows relations w → (n : ℤ)
+    → PastRoot leading (c .result) n → AgreeBetween z y w (n +ℤ z .t) (n +ℤ z .l) → AgreeFrom z y w (n +ℤ z .t)
+agreement-leading = Runs.agrees-leading
+
+-- on the trailing side downwards.
+pub agreement-trailing : {z : Sizes} {count : ℕ} {rows relations : List ℤ} {c : Call} → Ran trailing z count rows relations c
+    → c .result .refusal ≡ 0 → (y w : Sequence) → Solves z count rows relations y → Solves z count rows relations w → (n : ℤ)
+    → PastRoot trailing (c .result) n → AgreeDown z y w (n +ℤ z .t) (n +ℤ z .l) → AgreeUpTo z y w (n +ℤ z .l)
+agreement-trailing = Runs.agrees-trailing
+
+-- ---- demand 2, of the rules themselves
+--
+-- The rules are `step` and `run` of crates/rules/specs/Elimination.antt. A step has no memory of j: that it is the loop
+-- over j is
+-- `next-row-later` and `zero-row-refused` of crates/theory/specs/Demands.antt. The order among the roots of one g is ours.
+
+-- The roots that are listed for g are its integer roots,
+pub run-roots : (g : Polynomial) → T (not (isZero g)) → (n : ℤ) → List·Mem n (roots g) ↔ (eval g n ≡ pos 0)
+run-roots g nonzero n = (roots-sound g, roots-complete g n nonzero)
+
+-- each of them once.
+pub run-roots-once : (g : Polynomial) → T (not (isZero g)) → List·Nodup (roots g)
+run-roots-once = roots-distinct
+
+-- The trailing run is the mirror: run the mirrored system on the leading side, with the roots of one g in some order, and
+-- mirror back.
+pub run-mirrored : (D : ℕ) (rows : List Row) (relations : List Relation)
+    → (o : Outcome) × (wholeRun trailing D rows relations ≡ mirrorOutcome D o)
+    × Alike o (wholeRun leading D (map (mirrorRow D) rows) (map (mirrorRelation D) relations))
+run-mirrored = trailing-mirrors
+
+-- ==== one polynomial: `elimination::check_polynomial` and `polynomial`
+
+module _ (rows : List ℤ) (z : Sizes) (row : ℕ) (block : ℤ) (column : ℕ) where
+  -- Where the check is not 0, the part is empty.
+  pub polynomial-refused : polynomialCheck rows z row block column ≢ 0 → polynomialPart rows z row block column ≡ []
+  polynomial-refused = Sheets.part-none rows z row block column
+
+  -- 2 exactly if a size or the place is out of range,
+  pub polynomial-range : (polynomialCheck rows z row block column ≡ 2) ↔ (¬ (SizeBounds z × PlaceInside z row block column))
+  polynomial-range = Sheets.place-two rows z row block column
+
+  -- 1 exactly if it is not and the store is too short,
+  pub polynomial-length : (polynomialCheck rows z row block column ≡ 1)
+      ↔ ((SizeBounds z × PlaceInside z row block column) × (¬ (rowNeed (z .m) ≤ length rows)))
+  polynomial-length = Sheets.place-one rows z row block column
+
+  -- 0 otherwise.
+  pub polynomial-accepts : (polynomialCheck rows z row block column ≡ 0)
+      ↔ ((SizeBounds z × PlaceInside z row block column) × (rowNeed (z .m) ≤ length rows))
+  polynomial-accepts = Sheets.place-zero rows z row block column
+
+  -- Then the part is the polynomial of that row, block and column, sixteen coefficients.
+  pub polynomial-part : polynomialCheck rows z row block column ≡ 0
+      → polynomialPart rows z row block column
+      ≡ polynomialAt (z .l) (getD (rowsOf (z .m) rows) (pred row) noRow) block (pred column)
+  polynomial-part = Sheets.part-polynomial rows z row block column
+
+  pub polynomial-sixteen : polynomialCheck rows z row block column ≡ 0
+      → length (polynomialPart rows z row block column) ≡ coefficientCount
+  polynomial-sixteen = Sheets.part-sixteen rows z row block column
+
+-- ==== sheets: `sheets::read_sheet` and `write_sheet`
+
+module _ {bytes : List ℕ} {rows relations : List ℤ} {c : ReadCall} (was-read : SheetWasRead bytes rows relations c) where
+  -- Reading returns 0, or a refusal from 1 to 5;
+  pub read-number : (c .result .refusal ≡ 0) ⊎ FoundBefore (c .result .refusal)
+  read-number = Sheets.read-number was-read
+
+  -- with a refusal all other fields are 0, and the stores are as they were.
+  pub read-refused : c .result .refusal ≢ 0 → c ≡ unread (c .result .refusal) rows relations
+  read-refused = Sheets.read-refused was-read
+
+  -- In one: the three things that reading can do.
+  pub read-course : ReadCourse bytes rows relations c
+  read-course = Sheets.read-course was-read
+
+  -- 2, 3, 4 or 5 exactly if that is the number of the first fault that the grammar finds.
+  pub read-faults : (n : ℕ) → 2 ≤ n → (c .result .refusal ≡ n) ↔ (readSheet bytes ≡ fault n)
+  read-faults = Sheets.read-fault was-read
+
+  -- 1 exactly if the bytes are a sheet, and a store is too short for it.
+  pub read-lengths : (c .result .refusal ≡ 1) ↔ ((x : Sheet) × IsSheetOf x bytes × (¬ LongEnough (x .sizes) rows relations))
+  read-lengths = Sheets.read-short was-read
+
+  -- 0 exactly if the bytes are those written of a sheet, and the stores are long enough for it.
+  pub read-accepts : (c .result .refusal ≡ 0) ↔ ((x : Sheet) × IsSheetOf x bytes × LongEnough (x .sizes) rows relations)
+  read-accepts = Sheets.read-accepts was-read
+
+  -- Then the result and the stores hold that sheet, and what is past the needed part of a store stays.
+  pub read-output : (x : Sheet) → IsSheetOf x bytes → c .result .refusal ≡ 0 → HoldsSheet x rows relations c
+  read-output = Sheets.read-sheet was-read
+
+  -- What was read is written back as the same bytes.
+  pub read-writes-back : c .result .refusal ≡ 0 → {byteStore : List ℕ} {w : WriteCall}
+      → SheetWasWritten (c .result .sizes) (c .result .relations) (c .result .order) (c .rowStore) (c .relationStore) byteStore w
+      → length bytes ≤ length byteStore
+      → (w .refusal ≡ 0) × (w .length ≡ length bytes) × Rewritten (length bytes) bytes byteStore (w .byteStore)
+  read-writes-back = Sheets.write-back was-read
+
+module _ {z : Sizes} {count : ℕ} {order : List ℕ} {rows relations : List ℤ} {bytes : List ℕ} {w : WriteCall}
+    (was-written : SheetWasWritten z count order rows relations bytes w) where
+  -- Writing returns 0, 1, 2 or 5;
+  pub write-number : WriteNumber (w .refusal)
+  write-number = Sheets.write-number was-written
+
+  -- with a refusal the length is 0, and the byte store is as it was.
+  pub write-refused : w .refusal ≢ 0 → w ≡ unwritten (w .refusal) bytes
+  write-refused = Sheets.write-refused was-written
+
+  -- In one: the five things that writing can do.
+  pub write-course : WriteCourse z count order rows relations bytes w
+  write-course = Sheets.write-course was-written
+
+  -- 2 exactly if a size, the count or the order is out of range,
+  pub write-range : (w .refusal ≡ 2) ↔ (¬ WriteRange z count order)
+  write-range = Sheets.write-range was-written
+
+  -- 1 exactly if they are in range and a store of the system is too short, or all is right but the length of the byte store,
+  pub write-lengths : (w .refusal ≡ 1) ↔ WriteShort z count order rows relations bytes
+  write-lengths = Sheets.write-short was-written
+
+  -- 5 exactly if sizes and lengths are right, and a number is out of range or nonzero at an unused position.
+  pub write-numbers : (w .refusal ≡ 5)
+      ↔ (WriteRange z count order × LongEnough z rows relations × (¬ NumbersRight z count rows relations))
+  write-numbers = Sheets.write-numbers was-written
+
+  -- 0 exactly if all checks pass and the byte store is long enough for the sheet.
+  pub write-accepts : (w .refusal ≡ 0)
+      ↔ (WriteReady z count order rows relations × (length (sheetBytes z count order rows relations) ≤ length bytes))
+  write-accepts = Sheets.write-accepts was-written
+
+  -- Then the byte store begins with the sheet of the system, and the bytes past it stay.
+  pub write-output : w .refusal ≡ 0 → (w .length ≡ length (sheetBytes z count order rows relations))
+      × Rewritten (w .length) (sheetBytes z count order rows relations) bytes (w .byteStore)
+  write-output = Sheets.write-bytes was-written
+
+  -- A sheet that was written reads back, into any stores that are long enough, as its system: sizes, count, order, rows
+  -- and relations.
+  pub written-reads-back : w .refusal ≡ 0 → {rows' relations' : List ℤ} {c : ReadCall}
+      → SheetWasRead (take (w .length) (w .byteStore)) rows' relations' c → LongEnough z rows' relations'
+      → ReadsBack z count order rows relations rows' relations' c
+  written-reads-back = Sheets.read-back was-written
+
+-- ==== the answer to one sheet: `batches::answer`
+
+module _ {bytes store : List ℕ} {a : AnswerCall} (was-answered : SheetWasAnswered bytes store a) where
+  -- An answer is 0 or a refusal from 1 to 9;
+  pub answer-number : (a .refusal ≡ 0) ⊎ ((1 ≤ a .refusal) × (a .refusal ≤ 9))
+  answer-number = Answers.answer-number was-answered
+
+  -- with a refusal the length is 0, and the lent store is as it was: no byte of it was needed.
+  pub answer-refused : a .refusal ≢ 0 → a ≡ unanswered (a .refusal) store
+  answer-refused = Answers.answer-refused was-answered
+
+  -- In one: the four things that the call can do.
+  pub answer-course : AnswerCourse bytes store a
+  answer-course = Answers.answer-course was-answered
+
+  -- 2, 3, 4 or 5 exactly if that is the number of the sheet's first fault,
+  pub answer-faults : (n : ℕ) → 2 ≤ n → n ≤ 5 → (a .refusal ≡ n) ↔ (readSheet bytes ≡ fault n)
+  answer-faults = Answers.answer-fault was-answered
+
+  -- 6, 7, 8 or 9 exactly if the leading run of the rules refuses the sheet with that number,
+  pub answer-work-refused : (n : ℕ) → FoundDuring n
+      → (a .refusal ≡ n) ↔ ((x : Sheet) × IsSheetOf x bytes × (sheetRun x ≡ refused n))
+  answer-work-refused = Answers.answer-during was-answered
+
+  -- and for a sheet that the rules accept 0 or 1: 1 exactly if the answer is above 65,536 bytes or the lent store is too
+  -- short for it.
+  pub answer-sizes : {x : Sheet} {s : State} → IsSheetOf x bytes → SheetAccepted x s
+      → ((a .refusal ≡ 0) ↔ AnswerFits (writeSheet (sheetAfter x s)) store)
+      × ((a .refusal ≡ 1) ↔ (¬ AnswerFits (writeSheet (sheetAfter x s)) store))
+  answer-sizes = Answers.answer-fits was-answered
+
+  -- With 0 the store begins with the sheet of the rules' final state, and the bytes past it stay.
+  pub answer-output : a .refusal ≡ 0 → (x : Sheet) × (s : State) × AnswerHolds bytes store a x s
+  answer-output = Answers.answer-accepted was-answered
+
+  -- The sheet that answers has the solutions of the sheet that was asked. The other sentences of demand 3 hold of it too: they
+  -- take `accepted` of AnswerHolds, in crates/theory/specs/Demands.antt.
+  pub answer-solutions : {x : Sheet} {s : State} → AnswerHolds bytes store a x s → (y : Sequence)
+      → Satisfies (x .sizes .l) (x .rows) (x .relations) y ↔ Satisfies (x .sizes .l) (s .rows) (s .relations) y
+  answer-solutions h = same-sequences (h .accepted)
+
+-- ==== a batch in pieces: `batches::start`, `piece` and `finish`
+--
+-- A `Stream` is a batch that comes in pieces; it is made by `start`, and each call of `piece` gives the next one. A call is given
+-- a piece of the input and says how many bytes of it were taken: the others come again with the next piece. Bytes that begin a
+-- line or a sheet are held in a store that the caller lends, and hands in again as it was left.
+
+module _ {s : Stream} {store piece output : List ℕ} {c : PieceCall} (given : PieceWasGiven s store piece output c) where
+  -- ---- demand 1
+
+  -- A piece returns 0, 1, 2 or 5.
+  pub piece-number : PieceNumber (c .refusal)
+  piece-number = Batches.piece-number given
+
+  -- A refusal leaves both stores as they were, and all other fields are as at the start of a batch.
+  pub piece-refused : c .refusal ≢ 0 → c ≡ pieceRefused (c .refusal) store output
+  piece-refused = Batches.piece-refused given
+
+  -- Whatever the result, the bytes past the first 32,792 of the store for held bytes stay, and so does its length.
+  pub piece-rest-kept : Kept heldNeed store (c .store)
+  piece-rest-kept = Batches.piece-store given
+
+  -- ---- demand 2
+
+  -- In one: the four things that the call can do.
+  pub piece-course : PieceCourse s store piece output c
+  piece-course = Batches.piece-course given
+
+  -- 2 exactly if a size of the stream is out of range,
+  pub piece-range : (c .refusal ≡ 2) ↔ (¬ StreamInRange s)
+  piece-range = Batches.piece-two given
+
+  -- 1 exactly if they are in range, and the store for held bytes is shorter than 32,792,
+  pub piece-lengths : (c .refusal ≡ 1) ↔ (StreamInRange s × (¬ StoreHolds store))
+  piece-lengths = Batches.piece-one given
+
+  -- 5 exactly if sizes and length are right, and the bytes that are held do not begin a line or a sheet.
+  pub piece-held : (c .refusal ≡ 5) ↔ (StreamInRange s × StoreHolds store × (¬ HeldWaits s store))
+  piece-held = Batches.piece-five given
+
+  -- 0 exactly if all three are right.
+  pub piece-accepts : (c .refusal ≡ 0) ↔ StreamRight s store
+  piece-accepts = Batches.piece-zero given
+
+  -- What is written stands at the front of the output, and the bytes past it stay.
+  pub piece-writes : (c .written ≤ length output) × Kept (c .written) output (c .output)
+  piece-writes = Batches.piece-written given
+
+  -- No more bytes are taken than there are,
+  pub piece-takes : c .taken ≤ length piece
+  piece-takes = Batches.piece-taken given
+
+  module _ (accepted : c .refusal ≡ 0) where
+    -- at least one of a piece that is not empty, in an output of at least 65,538 bytes,
+    pub piece-gets-on : answerRoom ≤ length output → 1 ≤ length piece → 1 ≤ c .taken
+    piece-gets-on = Batches.piece-some given accepted
+
+    -- and all of the piece, unless the next answer does not fit behind those that are written.
+    pub piece-stops : c .taken < length piece → NextTooLong piece output c
+    piece-stops = Batches.piece-stops given accepted
+
+    -- The next call does not refuse the stream and the store that this one gives back,
+    pub piece-again : StreamRight (c .stream) (c .store)
+    piece-again = Batches.piece-again given accepted
+
+-- nor those that a batch starts with.
+pub start-right : (store : List ℕ) → StoreHolds store → StreamRight startOf store
+start-right = Pieces.start-right
+
+module _ {s : Stream} {output : List ℕ} {e : OutputCall} (ended : InputWasEnded s output e) where
+  -- The end of the input returns 0 or 1;
+  pub finish-number : (e .refusal ≡ 0) ⊎ (e .refusal ≡ 1)
+  finish-number = Batches.text-number (Batches.end-course ended)
+
+  -- with a refusal the length is 0, and the output is as it was.
+  pub finish-refused : e .refusal ≢ 0 → e ≡ noRoom output
+  finish-refused = Batches.text-refused (Batches.end-course ended)
+
+  -- In one: the two things that the call can do.
+  pub finish-course : TextCourse (lastText s) output output e
+  finish-course = Batches.end-course ended
+
+  -- 1 exactly if the output is too short for what is still to be written,
+  pub finish-lengths : (e .refusal ≡ 1) ↔ (length output < length (lastText s))
+  finish-lengths = Batches.text-one (Batches.end-course ended)
+
+  -- which for a stream that `start` or `piece` gave is at most 24 bytes.
+  pub finish-fits : (store : List ℕ) → StreamRight s store → batchLine ≤ length output → e .refusal ≡ 0
+  finish-fits = Batches.end-fits ended
+
+  -- With 0 the output begins with that, and the bytes past it stay.
+  pub finish-output : e .refusal ≡ 0
+      → (e .length ≡ length (lastText s)) × Rewritten (e .length) (lastText s) output (e .output)
+  finish-output = Batches.text-front (Batches.end-course ended)
+
+-- `Run startOf store input written` says that a batch was started, that calls of `piece` took the whole of `input`, in any pieces
+-- and with any outputs, that `finish` was not refused, and that what they wrote, laid end to end, is `written`.
+
+-- However the input is cut, and whatever room each call has, what is written is what document 01 says that a batch writes,
+pub pieces-output : {store input written : List ℕ} → StoreHolds store → Run startOf store input written
+    → written ≡ batchOutput input
+pieces-output {store} {input} {written} = Pieces.pieces-output store input written
+
+-- and there are such calls for every input, in any output of at least 65,538 bytes.
+pub pieces-exist : (output : List ℕ) → answerRoom ≤ length output → (store input : List ℕ) → StoreHolds store
+    → Run startOf store input (batchOutput input)
+pieces-exist = Rooms.pieces-exist
+
+-- ==== a whole batch: `batches::output`
+
+module _ {input output : List ℕ} {e : OutputCall} (answered : BatchWasAnswered input output e) where
+  -- A whole batch returns 0 or 1, and a broken one 0: its output ends in `3`.
+  pub batch-number : (e .refusal ≡ 0) ⊎ (e .refusal ≡ 1)
+  batch-number = Batches.text-number (Batches.whole-course answered)
+
+  -- A refusal is found during the work: the length is 0, and all of the output is zero.
+  pub batch-refused : e .refusal ≢ 0 → e ≡ noRoom (replicate (length output) 0)
+  batch-refused = Batches.text-refused (Batches.whole-course answered)
+
+  -- In one: the two things that the call can do.
+  pub batch-course : TextCourse (batchOutput input) output (replicate (length output) 0) e
+  batch-course = Batches.whole-course answered
+
+  -- 1 exactly if the output is shorter than what document 01 says that the batch writes,
+  pub batch-lengths : (e .refusal ≡ 1) ↔ (length output < length (batchOutput input))
+  batch-lengths = Batches.text-one (Batches.whole-course answered)
+
+  -- 0 otherwise.
+  pub batch-accepts : (e .refusal ≡ 0) ↔ (length (batchOutput input) ≤ length output)
+  batch-accepts = Batches.text-zero (Batches.whole-course answered)
+
+  -- Then the output begins with that, and the bytes past it stay.
+  pub batch-output : e .refusal ≡ 0
+      → (e .length ≡ length (batchOutput input)) × Rewritten (e .length) (batchOutput input) output (e .output)
+  batch-output = Batches.text-front (Batches.whole-course answered)
+
+-- ==== the exported calls: `wurgalm_run_leading`, `wurgalm_run_trailing`, `wurgalm_read_sheet`, `wurgalm_write_sheet`,
+-- `wurgalm_batch`
+--
+-- They return the refusal, and the other fields of the result are numbers of one more lent store, `result`: eight for a run and
+-- for a sheet that is read, one, the length, for a sheet that is written and for a batch.
+
+module _ {side : Side} {z : Sizes} {count : ℕ} {rows relations result : List ℤ} {e : Exported}
+    (exported : ExportedRun side z count rows relations result e) where
+  -- An exported run returns what a run returns.
+  pub export-number : RunNumber (e .refusal)
+  export-number = Exports.export-number exported
+
+  -- A refusal found before the work leaves all three stores as they were,
+  pub export-refused-before : FoundBefore (e .refusal)
+      → (e .rowStore ≡ rows) × (e .relationStore ≡ relations) × (e .resultStore ≡ result)
+  export-refused-before = Exports.export-refused exported
+
+  -- one found during the work leaves the needed part of all three zero, and the rest as it was.
+  pub export-refused-during : FoundDuring (e .refusal)
+      → Cleared (rowNeed (z .m)) rows (e .rowStore) × Cleared relationNeed relations (e .relationStore)
+      × Cleared resultNeed result (e .resultStore)
+  export-refused-during = Exports.export-cleared exported
+
+  -- In one: the four things that an exported run can do.
+  pub export-course : ExportCourse side z count rows relations result e
+  export-course = Exports.export-course exported
+
+  -- 2 exactly if a size or the count is out of range,
+  pub export-range : (e .refusal ≡ 2) ↔ (¬ InRange z count)
+  export-range = Exports.export-two exported
+
+  -- 1 exactly if they are in range and a store is too short, the result's too,
+  pub export-lengths : (e .refusal ≡ 1) ↔ (InRange z count × (¬ ExportLong z rows relations result))
+  export-lengths = Exports.export-one exported
+
+  -- 5 exactly if sizes and lengths are right and a number is wrong,
+  pub export-numbers : (e .refusal ≡ 5)
+      ↔ (InRange z count × ExportLong z rows relations result × (¬ NumbersRight z count rows relations))
+  export-numbers = Exports.export-five exported
+
+  -- any other number exactly if the run on the same stores returns it and the result's store is long enough.
+  pub export-work : {c : Call} → Ran side z count rows relations c → (n : ℕ) → ¬ FoundBefore n
+      → (e .refusal ≡ n) ↔ ((c .result .refusal ≡ n) × (resultNeed ≤ length result))
+  export-work = Exports.export-as-run exported
+
+  -- With 0 the stores are those of the run, and the result's store begins with the eight numbers of its result.
+  pub export-output : e .refusal ≡ 0 → (c : Call) × ExportGives side z count rows relations result c e
+  export-output = Exports.export-accepted exported
+
+module _ {bytes : List ℕ} {rows relations result : List ℤ} {e : Exported}
+    (exported : ExportedRead bytes rows relations result e) where
+  -- Reading returns 0, or a refusal from 1 to 5,
+  pub export-read-number : (e .refusal ≡ 0) ⊎ FoundBefore (e .refusal)
+  export-read-number = Exports.export-read-number exported
+
+  -- which leaves all three stores as they were.
+  pub export-read-refused : e .refusal ≢ 0 → (e .rowStore ≡ rows) × (e .relationStore ≡ relations) × (e .resultStore ≡ result)
+  export-read-refused = Exports.export-read-refused exported
+
+  -- In one: the two things that the call can do.
+  pub export-read-course : ExportReadCourse bytes rows relations result e
+  export-read-course = Exports.export-read-course exported
+
+  -- 2, 3, 4 or 5 exactly if that is the number of the first fault,
+  pub export-read-faults : (n : ℕ) → 2 ≤ n → (e .refusal ≡ n) ↔ (readSheet bytes ≡ fault n)
+  export-read-faults = Exports.export-read-fault exported
+
+  -- 1 exactly if the bytes are a sheet, and a store is too short, the result's too,
+  pub export-read-lengths : (e .refusal ≡ 1) ↔ ((x : Sheet) × IsSheetOf x bytes × (¬ ExportLong (x .sizes) rows relations result))
+  export-read-lengths = Exports.export-read-short exported
+
+  -- 0 exactly if the bytes are a sheet, and the stores are long enough for it.
+  pub export-read-accepts : (e .refusal ≡ 0) ↔ ((x : Sheet) × IsSheetOf x bytes × ExportLong (x .sizes) rows relations result)
+  export-read-accepts = Exports.export-read-accepts exported
+
+  -- Then the stores are those of the call that reads a sheet, and the result's store begins with the eight numbers of its
+  -- result.
+  pub export-read-output : e .refusal ≡ 0 → (c : ReadCall) × ExportReadGives bytes rows relations result c e
+  export-read-output = Exports.export-read-accepted exported
+
+module _ {z : Sizes} {count : ℕ} {order rows relations : List ℤ} {bytes : List ℕ} {result : List ℤ} {w : Written}
+    (exported : ExportedWrite z count order rows relations bytes result w) where
+  -- Writing returns 0, 1, 2 or 5,
+  pub export-write-number : WriteNumber (w .refusal)
+  export-write-number = Exports.export-write-number exported
+
+  -- and a refusal leaves the byte store and the result's store as they were.
+  pub export-write-refused : w .refusal ≢ 0 → (w .byteStore ≡ bytes) × (w .resultStore ≡ result)
+  export-write-refused = Exports.export-write-refused exported
+
+  -- In one: the four things that the call can do.
+  pub export-write-course : ExportWriteCourse z count order rows relations bytes result w
+  export-write-course = Exports.export-write-course exported
+
+  -- 2 exactly if a size, the count or the order is out of range,
+  pub export-write-range : (w .refusal ≡ 2) ↔ (¬ OrderRange z count order)
+  export-write-range = Exports.export-write-two exported
+
+  -- 1 exactly if they are in range and a store is too short, or all is right but the length of the byte store,
+  pub export-write-lengths : (w .refusal ≡ 1) ↔ ExportWriteShort z count order rows relations bytes result
+  export-write-lengths = Exports.export-write-one exported
+
+  -- 5 exactly if sizes and lengths are right and a number is wrong.
+  pub export-write-numbers : (w .refusal ≡ 5)
+      ↔ (OrderRange z count order × OrderLong z order rows relations result × (¬ NumbersRight z count rows relations))
+  export-write-numbers = Exports.export-write-five exported
+
+  -- 0 exactly if all checks pass and the byte store is long enough for the sheet.
+  pub export-write-accepts : (w .refusal ≡ 0) ↔ ExportWriteReady z count order rows relations bytes result
+  export-write-accepts = Exports.export-write-zero exported
+
+  -- Then the byte store is that of the call that writes a sheet, and the result's store begins with the length of the sheet.
+  pub export-write-output : w .refusal ≡ 0 → (x : WriteCall) × ExportWriteGives z count order rows relations bytes result x w
+  export-write-output = Exports.export-write-accepted exported
+
+module _ {input output : List ℕ} {result : List ℤ} {w : Written} (exported : ExportedBatch input output result w) where
+  -- A whole batch returns 0 or 1.
+  pub export-batch-number : (w .refusal ≡ 0) ⊎ (w .refusal ≡ 1)
+  export-batch-number = Batches.export-batch-number exported
+
+  -- That the result's store has no place for the length is found before the work, and leaves both stores as they were,
+  pub export-batch-missing : length result < 1 → w ≡ notWritten 1 output result
+  export-batch-missing = Batches.export-batch-none exported
+
+  -- any other refusal is found during the work, and leaves all of the output and the number of the result zero.
+  pub export-batch-refused : 1 ≤ length result → w .refusal ≢ 0
+      → (w .byteStore ≡ replicate (length output) 0) × Cleared 1 result (w .resultStore)
+  export-batch-refused = Batches.export-batch-cleared exported
+
+  -- In one: the two things that the call can do.
+  pub export-batch-course : ExportBatchCourse input output result w
+  export-batch-course = Batches.export-batch-course exported
+
+  -- 1 exactly if there is no place for the length, or the output is shorter than what the batch writes.
+  pub export-batch-lengths : (w .refusal ≡ 1) ↔ ((length result < 1) ⊎ (length output < length (batchOutput input)))
+  export-batch-lengths = Batches.export-batch-one exported
+
+  -- With 0 the output begins with that, and the result's store with its length.
+  pub export-batch-output : w .refusal ≡ 0
+      → let l = batchOutput input in
+      Rewritten (length l) l output (w .byteStore) × Rewritten 1 (pos (length l) ∷ []) result (w .resultStore)
+  export-batch-output = Batches.export-batch-front exported

@@ -1,0 +1,12 @@
+pub mod RunWords
+pub mod SheetWords
+pub mod AnswerWords
+pub mod BatchWords
+pub mod ExportWords
+pub mod LiftedRuns
+pub mod LiftedSheets
+pub mod LiftedAnswers
+pub mod LiftedBatches
+pub mod LiftedExports
+pub mod MirroredRun
+pub mod Claims
