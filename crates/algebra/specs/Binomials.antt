@@ -6,7 +6,7 @@
 -- Main statements
 --   binomial-above, binomial-self   zero for k > n, one for k = n
 --   binomial-le     each member of row n is at most 2 ^ n; binomial-sum: their sum is 2 ^ n
---   coeff-shift     the coefficients of the shift by 1 are sums with binomial coefficients
+--   coeff-shift     the coefficients of the shift by 1 are sums with binomial coefficients (SCOPE 2.62)
 --   coeff-shift-size   the coefficients of the shift by 1 are at most 2 ^ length times the largest of the polynomial
 use mathlib.Core.Path.{_≡_, refl, sym, _∙_, ap, ap₂, subst, fun-ext}
 use Prim.Native.Nat.{ℕ, zero, suc, _+_, _*_, _^_, _≤_, _<_}

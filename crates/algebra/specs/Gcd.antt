@@ -1,8 +1,8 @@
 -- The greatest common divisor of whole numbers and of a list of integers.
 --
 -- Main definitions
---   gcd a b         Euclid's recursion: the second operand falls at each call
---   content p       "the greatest positive whole number that divides every coefficient" (0 if every coefficient is 0)
+--   gcd a b         Euclid's recursion: the second operand falls at each call (SCOPE 8.9)
+--   content p       the largest number by which all coefficients are divisible (SCOPE 2.23, 2.42); 0 if all are 0
 --   divideBy d p    every coefficient divided by d
 --   DividesAll d p  d divides every coefficient of p
 --   IsContent p c   c is positive, divides every coefficient of p, and no greater number does

@@ -1,7 +1,7 @@
 -- The integer roots of a polynomial.
 --
 -- Main definitions
---   candidates p   0 and the divisors, of either sign, of the lowest nonzero coefficient, ascending
+--   candidates p   0 and the divisors, of either sign, of the lowest nonzero coefficient, ascending (SCOPE 2.134)
 --   isConstant p   no coefficient past power 0 is nonzero
 --   roots p        the integer roots of a nonzero polynomial, ascending, each once
 --
@@ -43,7 +43,7 @@ unfolding isZero
 isConstant [] = true
 isConstant (a ∷ p) = isZero p
 
--- The integer roots of a nonzero polynomial, ascending, each once; none for a constant.
+-- The integer roots of a nonzero polynomial, ascending, each once; none for a constant (SCOPE 2.31, 2.32).
 unfoldable pub roots : Polynomial → List ℤ
 unfolding keep candidates eval isZeroℤ isConstant
 roots p =

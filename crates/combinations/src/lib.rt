@@ -113,7 +113,7 @@ fn low_combination(g: &[i64], h: &[i64], target: &[i64], pivot: &[i64]) -> [i64;
     row
 }
 
-// "divided by the greatest positive whole number dividing all its coefficients (a zero row is not divided)"
+// Divided by the largest number that divides all coefficients; a zero row stays (SCOPE 2.42).
 fn primitive_part(row: [i64; 320]) -> [i64; 320]
     requires { ⌜ Below (2 ^ 63) row ⌝ }
     ensures { λ r. ⌜ r ≡ primitiveNumbers row ⌝ }
@@ -126,8 +126,9 @@ fn primitive_part(row: [i64; 320]) -> [i64; 320]
     numbers
 }
 
-// "Row i becomes g × row i + h × row j, divided by [..]. Then a degree past 15: refusal 7; otherwise a coefficient outside
-// ±C: refusal 8." The division does not change a degree, so the degrees are looked at first.
+// g × target + h × pivot, divided by its content (SCOPE 2.41, 2.42). A degree past 15 is refused with 7; if there is
+// none, a coefficient past ±C with 8 (SCOPE 2.43, 2.44). The division does not change a degree, so the degrees are
+// looked at first.
 pub fn combined(
     g: &[i64],
     h: &[i64],

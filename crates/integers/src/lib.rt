@@ -9,10 +9,10 @@ ghost use Rattle.algebra.specs.Gcd as Gcd;
 ghost use Rattle.algebra.specs.Polynomials.{isZeroℤ};
 ghost use Rattle.rules.specs.Limits.{small};
 
-// C of document 01: every coefficient and every n0 lies within ±C.
+// C: no coefficient and no n0 is past ±C (SCOPE 1.4, 1.22).
 pub const BOUND: i64 = 268_435_455;
 
-// Euclid's algorithm: the second operand falls at each call.
+// Euclid's algorithm: the second operand falls at each call (SCOPE 8.9).
 pub fn gcd(a: u64, b: u64) -> u64
     ensures { λ r. ⌜ r ≡ Gcd.gcd a b ⌝ }
 {
@@ -66,7 +66,7 @@ pub fn remainder(a: i64, d: i64) -> i64
     a % d
 }
 
-// "every coefficient within ±C"
+// Within ±C (SCOPE 1.4).
 pub fn within_bound(a: i64) -> bool
     ensures { λ r. ⌜ r ≡ small a ⌝ }
 {

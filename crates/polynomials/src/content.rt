@@ -144,8 +144,8 @@ pub struct Multipliers {
     pub h: [i64; 16],
 }
 
-// Rule 2: "g = a/d, h = -b/d; a negative highest coefficient of g turns the signs of both". The content d is at most C,
-// since a and b are not both zero.
+// Rule 2: g = a/d and h = -b/d, both with the other sign if g's highest coefficient is negative (SCOPE 2.23 to 2.25).
+// The content d is at most C, since a and b are not both zero.
 pub fn multipliers_of(a: &[i64], b: &[i64]) -> Multipliers
     requires { ⌜ (length (now a) ≡ 16) × T (every small (now a)) × T (not (Polynomials.isZero (now a ++ now b))) ⌝ }
     requires { ⌜ (length (now b) ≡ 16) × T (every small (now b)) ⌝ }

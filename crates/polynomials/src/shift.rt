@@ -10,7 +10,7 @@ ghost use Rattle.rules.specs.Limits.{bound, small};
 ghost use Rattle.rules.specs.Rows.{every};
 ghost use Rattle.polynomials.specs.Shift.{followsRule};
 
-// "the expansion uses Pascal's numbers up to row 15": row j, number k.
+// Pascal's triangle to row 15, a constant table (SCOPE 2.62, 8.7): row j, number k.
 const PASCAL: [[i64; 16]; 16] = [
     [1, 0, 0, 0, 0, 0, 0, 0, 0, 0, 0, 0, 0, 0, 0, 0],
     [1, 1, 0, 0, 0, 0, 0, 0, 0, 0, 0, 0, 0, 0, 0, 0],
@@ -129,7 +129,7 @@ fn binomial(table: &[[i64; 16]; 16], j: usize, k: usize) -> i64
     table[j][k]
 }
 
-// The coefficient of n^k in p(n + 1).
+// The coefficient of n^k in p(n + 1) (SCOPE 2.62).
 pub fn shifted_coefficient(table: &[[i64; 16]; 16], p: &[i64], k: usize) -> i64
     requires { ⌜ T (followsRule (now table)) × (length (now p) ≤ 16) × T (every small (now p)) × (k < 16) ⌝ }
     ensures value { λ r. ⌜ r ≡ coeff (shift (now (p .entry))) k ⌝ }

@@ -87,7 +87,7 @@ unfoldable pub tryBoth : Polynomial → ℕ → List ℤ → List ℤ
 unfolding tryRoot
 tryBoth p d l = tryRoot p (negℤ (pos d)) (tryRoot p (pos d) l)
 
--- "value 0 with "no""
+-- The value beside "no" is 0 (SCOPE 2.82).
 abbrev pub answered : Option ℤ → RootAnswer
 answered o = record { found = rootFound o; root = rootValue o }
 

@@ -287,7 +287,7 @@ fn root_of_linear(p: &[i64]) -> RootList
     tried_first(p, -quotient)
 }
 
-// The integer roots, ascending, each once; none for a constant, which is not searched.
+// The integer roots, ascending, each once; none for a constant, which is not searched (SCOPE 2.31, 2.32).
 pub fn roots(p: &[i64]) -> RootList
     requires { ⌜ (length (now p) ≤ 16) × T (every small (now p)) ⌝ }
     ensures { λ l. ⌜ l ≡ listed (Roots.roots (now (p .entry))) ⌝ }
@@ -305,7 +305,7 @@ pub fn roots(p: &[i64]) -> RootList
     }
 }
 
-// Whether there is an integer root, and the one asked for; 0 with "no".
+// Whether there is an integer root, and the one asked for; 0 with "no" (SCOPE 2.82).
 pub struct RootAnswer {
     pub found: bool,
     pub root: i64,

@@ -22,7 +22,7 @@ pub fn all_small(numbers: &[i64]) -> bool
     true
 }
 
-// The unused places of a store hold 0: a long part of it, tested 64 numbers at a time.
+// The unused places of a store hold 0 (SCOPE 3.13): a long part of it, tested 64 numbers at a time.
 pub fn unused_zero(numbers: &[i64]) -> bool
     ensures { λ r. ⌜ r ≡ isZero (now (numbers .entry)) ⌝ }
 {
@@ -53,7 +53,7 @@ fn place_right(numbers: &[i64], place: usize, m: usize, span: usize) -> bool
     }
 }
 
-// "every coefficient within ±C", and "Positions outside the system's blocks and columns hold 0."
+// No coefficient is past ±C, and unused positions hold 0 (SCOPE 3.3, 3.34).
 pub fn row_right(row: &[i64], m: usize, span: usize) -> bool
     requires { ⌜ length (now row) ≡ 320 ⌝ }
     ensures { λ r. ⌜ r ≡ (smallRow (rowOf (now (row .entry))) && unusedZero m span (rowOf (now (row .entry)))) ⌝ }

@@ -5,7 +5,7 @@ ghost use lib.IntN.{pos};
 ghost use lib.ListN.{length, take, drop, replicate};
 ghost use lib.Seq.{paste};
 
-// The numbers of a row, and of a relation: n0 and then a row.
+// The numbers of a row, and of a relation: n0 and then a row (SCOPE 3.2, 3.4).
 pub const ROW: usize = 320;
 
 pub const RELATION: usize = 321;

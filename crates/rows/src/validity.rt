@@ -1,4 +1,4 @@
-// Sizes, and the checks of a call on stores: "Calls on stores check sizes (2), lengths (1), numbers (5)".
+// Sizes, and the checks of a call on stores: sizes (2), then lengths (1), then numbers (5) (SCOPE 3.31).
 ghost use mathlib.Core.Path.{_≡_};
 ghost use Prim.Native.Nat.{_+_, _≤_};
 ghost use mathlib.Core.Bool.{_&&_};
@@ -10,7 +10,7 @@ ghost use Rattle.rules.specs.Rows.{every};
 ghost use Rattle.rules.specs.Stores as Stores;
 ghost use Rattle.rows.specs.Validity.{sizesOf, relationTest};
 
-// "A system has m unknowns (1 to 4), m equations, and blocks numbered from t to l".
+// m unknowns and as many equations, blocks from t to l (SCOPE 1.1, 1.2).
 pub struct Sizes {
     pub m: usize,
     pub l: i64,
@@ -24,21 +24,21 @@ pub fn counted(k: usize, most: usize) -> bool
     1 <= k && k <= most
 }
 
-// "-64 ≤ t ≤ l ≤ 64. D = l - t is 0 to 4."
+// Both lie from -64 to 64, t is not above l, and D is at most 4 (SCOPE 1.2).
 fn blocks_right(l: i64, t: i64) -> bool
     ensures { λ r. ⌜ r ≡ (leZ (negℤ (pos 64)) t && leZ t l && leZ l (pos 64) && leZ (l -ℤ t) (pos 4)) ⌝ }
 {
     -64 <= t && t <= l && l <= 64 && l - t <= 4
 }
 
-// "m unknowns (1 to 4)", and the blocks
+// m is from 1 to 4, and the blocks are right (SCOPE 1.1, 3.32).
 pub fn sizes_right(sizes: Sizes) -> bool
     ensures { λ r. ⌜ r ≡ Stores.sizesRight (sizesOf sizes) ⌝ }
 {
     counted(sizes.m, 4) && blocks_right(sizes.l, sizes.t)
 }
 
-// D = l - t.
+// D = l - t (SCOPE 1.2).
 pub fn span(sizes: Sizes) -> usize
     requires { ⌜ T (Stores.sizesRight (sizesOf sizes)) ⌝ }
     ensures { λ r. ⌜ r ≡ Stores.span (sizesOf sizes) ⌝ }
@@ -93,7 +93,7 @@ pub fn relations_right(store: &[i64], sizes: Sizes, count: usize) -> bool
     true
 }
 
-// "The row store needs m × 320 numbers, the relation store 16 × 321."
+// Both stores have their needed parts (SCOPE 3.11, 3.33).
 pub fn lengths_right(rows: &[i64], relations: &[i64], m: usize) -> bool
     requires { ⌜ m ≤ 4 ⌝ }
     ensures { λ r. ⌜ r ≡ Stores.lengthsRight m (now (rows .entry)) (now (relations .entry)) ⌝ }
@@ -101,7 +101,7 @@ pub fn lengths_right(rows: &[i64], relations: &[i64], m: usize) -> bool
     m * 320 <= rows.len() && 5136 <= relations.len()
 }
 
-// "5 a coefficient [..] outside ±C, or a nonzero number at an unused store position"
+// The rows, the relations in use, and zeros in the places behind those (SCOPE 3.13, 3.34).
 fn numbers_right(rows: &[i64], relations: &[i64], sizes: Sizes, count: usize) -> bool
     requires { ⌜ T (Stores.sizesRight (sizesOf sizes)) × (Stores.rowNeed (sizes .m) ≤ length (now rows)) ⌝ }
     requires { ⌜ (count ≤ 16) × (Stores.relationNeed ≤ length (now relations)) ⌝ }
@@ -117,7 +117,7 @@ fn numbers_right(rows: &[i64], relations: &[i64], sizes: Sizes, count: usize) ->
     crate::checks::unused_zero(&relations[from..5136])
 }
 
-// The number of the first check that fails, or 0.
+// The number of the first check that fails, or 0 (SCOPE 3.31).
 pub fn check_stores(rows: &[i64], relations: &[i64], sizes: Sizes, count: usize) -> u8
     ensures { λ r. ⌜ r ≡ Stores.checkStores (sizesOf sizes) count (now (rows .entry)) (now (relations .entry)) ⌝ }
 {

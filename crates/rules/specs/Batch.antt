@@ -1,7 +1,7 @@
 -- What the batch program writes.
 --
 -- Main definitions
---   sheetAnswer bytes    the answer to one sheet: `0` and the leading-side sheet, or the refusal number alone on a line
+--   sheetAnswer bytes    the answer to one sheet (SCOPE 5.11)
 --   batchOutput bytes    the whole output for a whole input
 use Prim.Native.Nat.{ℕ, zero, suc}
 use mathlib.Core.Bool.{Bool, true, false, cond}
@@ -13,7 +13,7 @@ use Rattle.rules.specs.Elimination.{State, Outcome, going, done, refused
 use Rattle.rules.specs.Numbers.{space, newline, Read, got, fault, field, between, lines}
 use Rattle.rules.specs.Sheets.{Sheet, always, readSheet, writeSheet}
 
--- "Output sheets above 65,536 bytes are refusal 1."
+-- A sheet of more bytes is not written: its answer is refusal 1 (SCOPE 5.13).
 abbrev pub mostBytes : ℕ
 mostBytes = 65536
 
@@ -25,14 +25,16 @@ pub data Answer : Type 0 where
 unfoldable pub sized : List ℕ → Answer
 sized bytes = cond (leb (length bytes) mostBytes) (accepted bytes) (refusedWith 1)
 
+-- The sheet has the input's sizes, and the rows, relations and column order of the run (SCOPE 5.14).
 unfoldable pub answerRun : Sheet → Outcome → Answer
 unfolding sized writeSheet
 answerRun sheet (done s) =
     sized (writeSheet (record { sizes = sheet .sizes; rows = s .rows; relations = s .relations; order = map suc (s .order) }))
 answerRun sheet (refused n) = refusedWith n
--- A run always ends (crate theory), so this case never comes.
+-- A run always ends (crate theory), so this case never comes (SCOPE 3.24).
 answerRun sheet (going s) = refusedWith 6
 
+-- The run makes no use of the order that the sheet carries (SCOPE 4.44).
 unfoldable pub answerRead : Read Sheet → Answer
 unfolding answerRun leadingRun
 answerRead (got sheet rest) = answerRun sheet (leadingRun (sheet .rows) (sheet .relations))
@@ -42,7 +44,7 @@ unfoldable pub answerSheet : List ℕ → Answer
 unfolding answerRead readSheet
 answerSheet bytes = answerRead (readSheet bytes)
 
--- "per sheet `0` and the leading-side sheet, or the refusal number alone on a line"
+-- A line `0` and the sheet that the leading side gives, or one line with the refusal (SCOPE 5.11).
 unfoldable pub answerBytes : Answer → List ℕ
 unfolding lines
 answerBytes (accepted bytes) = lines ((pos 0 ∷ []) ∷ []) ++ bytes
@@ -62,23 +64,23 @@ unfoldable pub countAnswer : Answer → Tally → Tally
 countAnswer (accepted bytes) y = record { accepted = suc (y .accepted); refused = y .refused }
 countAnswer (refusedWith n) y = record { accepted = y .accepted; refused = suc (y .refused) }
 
--- "A batch line broken or out of range, or bytes missing or left over, writes 3 and ends the run without that last line."
+-- What is written where the batch is found to be broken; nothing comes after it (SCOPE 5.21).
 unfoldable pub broken : List ℕ
 unfolding lines
 broken = lines ((pos 3 ∷ []) ∷ [])
 
--- "last, `accepted refused`"; bytes left over are a broken batch.
+-- At the end the numbers of accepted and of refused sheets; bytes left over are a broken batch (SCOPE 5.12, 5.21).
 unfoldable pub closing : Tally → List ℕ → List ℕ
 unfolding lines broken
 closing y [] = lines ((pos (y .accepted) ∷ pos (y .refused) ∷ []) ∷ [])
 closing y (b ∷ bytes) = broken
 
--- The client and byte count of a sheet.
+-- The client and byte count of a sheet (SCOPE 5.2).
 pub record SheetLine : Type 0 where
   pub client : ℕ
   pub bytes : ℕ
 
--- "a line `client bytes` (1 to 8; 0 to 32,768)"
+-- The client is from 1 to 8, and the byte count behind it from 0 to 32,768 (SCOPE 5.2).
 unfoldable pub readClient : List ℕ → Read ℤ
 unfolding field between always
 readClient bytes = field (between (pos 1) (pos 8)) (always space) bytes
@@ -96,7 +98,7 @@ unfoldable pub readSheetLine : List ℕ → Read SheetLine
 unfolding readAfterClient readClient
 readSheetLine bytes = readAfterClient (readClient bytes)
 
--- The answers to k sheets and what comes after them.
+-- The answers to k sheets and what comes after them; the sheet of which bytes are missing has none (SCOPE 5.22).
 unfoldable pub answers : ℕ → Tally → List ℕ → List ℕ
 unfolding closing broken countAnswer answerBytes answerSheet readSheetLine
 answers zero y bytes = closing y bytes
@@ -118,8 +120,7 @@ unfolding answers broken
 answersAfter (got k rest) = answers (natAbs k) (record { accepted = 0; refused = 0 }) rest
 answersAfter (fault n) = broken
 
--- "A batch, on standard input, is a line with the sheet count (0 to 1,000), then for each sheet a line [..] and that many
--- bytes."
+-- The first line has the number of sheets, 0 to 1,000 (SCOPE 5.1).
 unfoldable pub batchOutput : List ℕ → List ℕ
 unfolding answersAfter field between always
 batchOutput bytes = answersAfter (field (between (pos 0) (pos 1000)) (always newline) bytes)

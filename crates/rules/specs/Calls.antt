@@ -16,7 +16,7 @@ use Rattle.rules.specs.Limits.{coefficientCount, columnCount, rowLength}
 use Rattle.rules.specs.Elimination.{Side, State, Outcome, going, done, refused, wholeRun, report}
 use Rattle.rules.specs.Stores.{Sizes, span, rowsOf, relationsOf, rowNeed, relationNeed, rowStoreOf, relationStoreOf, sizesRight, checkStores}
 
--- "Every refusal returns its number, all other fields 0."
+-- What a run returns (SCOPE 3.22).
 pub record Result : Type 0 where
   pub refusal : ℕ
   pub relations : ℕ
@@ -36,10 +36,11 @@ padTo zero v l = []
 padTo (suc n) v [] = v ∷ padTo n v []
 padTo (suc n) v (x ∷ l) = x ∷ padTo n v l
 
+-- A refusal returns its number, and 0 in all other fields (SCOPE 6.31).
 unfoldable pub refusal : ℕ → Result
 refusal n = record { refusal = n; relations = 0; shifts = 0; order = replicate columnCount 0; hasRoot = false; root = pos 0 }
 
--- "value 0 with "no""
+-- The value beside "no" is 0 (SCOPE 2.82).
 unfoldable pub rootFound : Option ℤ → Bool
 rootFound none = false
 rootFound (some r) = true
@@ -48,7 +49,7 @@ unfoldable pub rootValue : Option ℤ → ℤ
 rootValue none = pos 0
 rootValue (some r) = r
 
--- Columns are counted from 1 in a result, zeros past the end of the order.
+-- Columns are counted from 1 in a result, zeros past the end of the order (SCOPE 3.23).
 unfoldable pub reportedOrder : List ℕ → List ℕ
 unfolding padTo
 reportedOrder order = padTo columnCount 0 (map suc order)
@@ -59,19 +60,19 @@ acceptance side D s =
     let root = report side D s in
     record { refusal = 0; relations = length (s .relations); shifts = s .shifts; order = reportedOrder (s .order); hasRoot = rootFound root; root = rootValue root }
 
--- The store with its needed part replaced; "numbers past the needed part stay".
+-- The store with its needed part replaced; what lies behind it does not change (SCOPE 3.12).
 unfoldable pub overwrite : {A : Type 0} → List A → List A → List A
 overwrite part store = part ++ drop (length part) store
 
 unfoldable pub zeros : ℕ → List ℤ
 zeros n = replicate n (pos 0)
 
--- Refusals 1 to 5: "found before the work begins, stores are unchanged".
+-- Refusals 1 to 5, found before the work begins, leave the stores as they were (SCOPE 6.32).
 unfoldable pub unchanged : ℕ → List ℤ → List ℤ → Call
 unfolding refusal
 unchanged n rowStore relationStore = record { result = refusal n; rowStore = rowStore; relationStore = relationStore }
 
--- Refusals 6 to 9: "found during it, the needed part of each store that the call may write is zero". The rest stays.
+-- Refusals 6 to 9, found during the work, make the needed parts zero; the rest stays (SCOPE 6.33).
 unfoldable pub cleared : ℕ → ℕ → List ℤ → List ℤ → Call
 unfolding refusal overwrite zeros rowNeed
 cleared n m rowStore relationStore =
@@ -82,7 +83,7 @@ unfolding acceptance overwrite rowStoreOf relationStoreOf cleared span
 afterRun side z (done s) rowStore relationStore =
     record { result = acceptance side (span z) s; rowStore = overwrite (rowStoreOf (s .rows)) rowStore; relationStore = overwrite (relationStoreOf (s .relations)) relationStore }
 afterRun side z (refused n) rowStore relationStore = cleared n (z .m) rowStore relationStore
--- A run always ends (crate theory), so this case never comes.
+-- A run always ends (crate theory), so this case never comes (SCOPE 3.24).
 afterRun side z (going s) rowStore relationStore = cleared 6 (z .m) rowStore relationStore
 
 unfoldable pub afterCheck : Side → Sizes → ℕ → List ℤ → List ℤ → ℕ → Call
@@ -91,7 +92,7 @@ afterCheck side z count rowStore relationStore zero =
     afterRun side z (wholeRun side (span z) (rowsOf (z .m) rowStore) (relationsOf count relationStore)) rowStore relationStore
 afterCheck side z count rowStore relationStore (suc n) = unchanged (suc n) rowStore relationStore
 
--- A run on lent stores: "they hold its input before and its output after".
+-- A run on lent stores, which hold its input and, if it accepts, its output afterwards (SCOPE 3.21).
 unfoldable pub callRun : Side → Sizes → ℕ → List ℤ → List ℤ → Call
 unfolding afterCheck checkStores
 callRun side z count rowStore relationStore =
@@ -99,18 +100,18 @@ callRun side z count rowStore relationStore =
 
 -- ---- one polynomial of the row store
 
--- "named by row, block and column", rows and columns counted from 1
+-- Row and column are from 1 to m, the block from t to l (SCOPE 3.42).
 unfoldable pub placeRight : Sizes → ℕ → ℤ → ℕ → Bool
 placeRight z row block column =
     (leb 1 row && leb row (z .m)) && (leZ (z .t) block && leZ block (z .l)) && (leb 1 column && leb column (z .m))
 
--- "outside the sizes, or of a store too short, [..] a check on the same values returns 2 or 1"
+-- 2 outside the sizes, otherwise 1 where the store is too short for the m rows, otherwise 0 (SCOPE 3.42, 3.43).
 unfoldable pub polynomialCheck : List ℤ → Sizes → ℕ → ℤ → ℕ → ℕ
 unfolding sizesRight placeRight rowNeed
 polynomialCheck rowStore z row block column =
     cond (sizesRight z && placeRight z row block column) (cond (leb (rowNeed (z .m)) (length rowStore)) 0 1) 2
 
--- Where its sixteen numbers begin.
+-- Where its sixteen numbers begin (SCOPE 3.2).
 unfoldable pub polynomialPlace : Sizes → ℕ → ℤ → ℕ → ℕ
 polynomialPlace z row block column =
     pred row * rowLength + natAbs (z .l -ℤ block) * (columnCount * coefficientCount) + pred column * coefficientCount
@@ -119,8 +120,7 @@ unfoldable pub partAt : List ℤ → ℕ → ℕ → List ℤ
 partAt rowStore place zero = take coefficientCount (drop place rowStore)
 partAt rowStore place (suc n) = []
 
--- "the caller gets back the part of the row store that holds one polynomial [..]; outside the sizes, or of a store too
--- short, it is the empty part"
+-- The sixteen numbers of the store that hold one polynomial; none where the check is not 0 (SCOPE 3.41, 3.44).
 unfoldable pub polynomialPart : List ℤ → Sizes → ℕ → ℤ → ℕ → List ℤ
 unfolding partAt polynomialPlace polynomialCheck
 polynomialPart rowStore z row block column =

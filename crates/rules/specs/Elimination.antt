@@ -1,4 +1,4 @@
--- The elimination of document 01: multipliers, step, run, root report, and the trailing side by the mirror.
+-- The elimination: multipliers, step, run, root report, and the trailing side by the mirror (SCOPE 2).
 --
 -- Main definitions
 --   multipliers a b    rule 2's g and h
@@ -31,27 +31,27 @@ pub record Multipliers : Type 0 where
   pub g : Polynomial
   pub h : Polynomial
 
--- "a negative highest coefficient of g turns the signs of both"
+-- Both change their signs if the coefficient of g's highest power is negative (SCOPE 2.25).
 unfoldable pub turnSigns : Polynomial → Polynomial → Multipliers
 unfolding negate lead
 turnSigns g h =
     cond (ltZ (lead g) (pos 0)) (record { g = negate g; h = negate h }) (record { g = g; h = h })
 
--- "Let d be the greatest positive whole number that divides every coefficient of a and b. Then g = a/d, h = -b/d"
+-- g = a/d and h = -b/d, where d is the content of a and b together (SCOPE 2.23, 2.24).
 unfoldable pub multipliers : Polynomial → Polynomial → Multipliers
 unfolding content divideBy negate turnSigns
 multipliers a b = let d = content (a ++ b) in turnSigns (divideBy d a) (negate (divideBy d b))
 
 -- ---- the state of a run and its outcome
 
--- `order` holds the columns c(1), c(2), .. of the settled rows, so its length is w, their number.
+-- `order` holds the columns c(1), c(2), .. of the settled rows, so its length is w, their number (SCOPE 2.2, 2.4).
 pub record State : Type 0 where
   pub rows : List Row
   pub relations : List Relation
   pub order : List ℕ
   pub shifts : ℕ
 
--- "Settled rows w begin at 0."
+-- No row is settled yet (SCOPE 2.2).
 unfoldable pub start : List Row → List Relation → State
 start rows relations = record { rows = rows; relations = relations; order = []; shifts = 0 }
 
@@ -65,12 +65,12 @@ pub data Limited : Type 0 where
   within : Row → Limited
   beyond : ℕ → Limited
 
--- "a coefficient outside ±C is refusal 8"
+-- A coefficient past ±C is refused with 8 (SCOPE 2.44, 2.63).
 unfoldable pub limitCoefficients : Row → Limited
 unfolding smallRow
 limitCoefficients r = cond (smallRow r) (within r) (beyond 8)
 
--- "Then a degree past 15: refusal 7; otherwise a coefficient outside ±C: refusal 8."
+-- A degree past 15 is refused with 7; if there is none, a coefficient past ±C with 8 (SCOPE 2.43, 2.44).
 unfoldable pub limitDegrees : Row → Limited
 unfolding lowDegrees cut limitCoefficients
 limitDegrees r = let rest = limitCoefficients (cut r) in cond (lowDegrees r) rest (beyond 7)
@@ -83,15 +83,19 @@ rowAt s i = getD (s .rows) i noRow
 unfoldable pub putRow : State → ℕ → Row → State
 putRow s i r = record { rows = set (s .rows) i r; relations = s .relations; order = s .order; shifts = s .shifts }
 
+-- Behind the relations that are there (SCOPE 2.3).
 unfoldable pub listRelations : State → List Relation → State
 listRelations s l = record { rows = s .rows; relations = s .relations ++ l; order = s .order; shifts = s .shifts }
 
+-- Rule 5: the row gets a column and does not change (SCOPE 2.51).
 unfoldable pub settle : State → ℕ → State
 settle s c = record { rows = s .rows; relations = s .relations; order = s .order ++ (c ∷ []); shifts = s .shifts }
 
+-- The shifts of a run are counted (SCOPE 2.65).
 unfoldable pub countShift : State → State
 countShift s = record { rows = s .rows; relations = s .relations; order = s .order; shifts = suc (s .shifts) }
 
+-- The rows change places; the columns stay where they are (SCOPE 2.4, 2.22).
 unfoldable pub exchange : State → ℕ → ℕ → State
 unfolding putRow rowAt
 exchange s i j = putRow (putRow s j (rowAt s i)) i (rowAt s j)
@@ -104,18 +108,18 @@ putLimited s i (beyond n) = refused n
 
 -- ---- one step
 
--- The order in which the roots of one g are listed, which document 01 leaves open: n0 as given back ascends.
+-- The order in which the roots of one g are listed: n0 as given back ascends on either side (SCOPE 2.33).
 unfoldable pub listing : Side → List ℤ → List ℤ
 listing leading l = l
 listing trailing l = reverse l
 
--- "For every integer root n0 of g, once each, list the relation "row i at n0", row i as it is after the exchange."
+-- The row, as it is after the exchange, at each integer root of g, once (SCOPE 2.31).
 unfoldable pub rootRelations : Side → Polynomial → Row → List Relation
 unfolding listing roots
 rootRelations side g r = map (λ n0. record { index = n0; row = r }) (listing side (roots g))
 
--- Rules 3 and 4 for row i and settled row j, with their multipliers. "A seventeenth relation: refusal 9."
--- "Row i becomes g × row i + h × row j, divided by the greatest positive whole number dividing all its coefficients"
+-- Rules 3 and 4 for row i and settled row j, with their multipliers. More than 16 relations are refused with 9
+-- (SCOPE 2.34, 2.47); otherwise the combination, divided by its content, takes the place of row i (SCOPE 2.41, 2.42).
 unfoldable pub combineStep : Side → State → ℕ → ℕ → Multipliers → Outcome
 unfolding listRelations rootRelations rowAt combine primitive limitDegrees putLimited
 combineStep side s i j x =
@@ -123,51 +127,51 @@ combineStep side s i j x =
     let rest = putLimited listed i (limitDegrees (primitive (combine (x .g) (x .h) (rowAt s i) (rowAt s j)))) in
     cond (leb (length (listed .relations)) mostRelations) rest (refused 9)
 
--- Rule 2 after the exchange: "Let a be row j's entry and b row i's."
+-- Rule 2 after the exchange: a is the leading entry of row j in column c(j), b that of row i (SCOPE 2.23).
 unfoldable pub multipliersAt : State → ℕ → ℕ → Multipliers
 unfolding rowAt entry multipliers
 multipliersAt s i j =
     let c = getD (s .order) j 0 in
     multipliers (entry (rowAt s j) c) (entry (rowAt s i) c)
 
--- "if row j is wider than row i, exchange them"
+-- Rows i and j change places if row j is the wider (SCOPE 2.22, 2.135).
 unfoldable pub narrowFirst : State → ℕ → ℕ → State
 unfolding rowAt width exchange
 narrowFirst s i j =
     let exchanged = exchange s i j in
     cond (ltb (width (rowAt s i)) (width (rowAt s j))) exchanged s
 
+-- The multipliers are those of the rows after the exchange (SCOPE 2.23, 2.131).
 unfoldable pub eliminateStep : Side → State → ℕ → ℕ → Outcome
 unfolding narrowFirst multipliersAt combineStep
 eliminateStep side s i j = let e = narrowFirst s i j in combineStep side e i j (multipliersAt e i j)
 
--- Rule 6: "Otherwise shift: every block moves up by one and n becomes n + 1 in the row [..]; a coefficient outside ±C is
--- refusal 8."
+-- Rule 6: the row is shifted, and refused with 8 if a coefficient comes to lie past ±C (SCOPE 2.61, 2.63).
 unfoldable pub shiftStep : State → ℕ → Outcome
 unfolding shiftUp rowAt limitCoefficients putLimited countShift
 shiftStep s i = putLimited (countShift s) i (limitCoefficients (shiftUp (rowAt s i)))
 
--- Rule 5: "if the leading block of row i is nonzero, c(i) is the smallest column with a nonzero entry, and the row is
--- settled"; otherwise rule 6.
+-- Rule 5: c(i) is the lowest column with a nonzero leading entry, if there is one (SCOPE 2.51); otherwise rule 6.
 unfoldable pub settleOrShift : State → ℕ → Option ℕ → Outcome
 unfolding shiftStep settle
 settleOrShift s i (some c) = going (settle s c)
 settleOrShift s i none = shiftStep s i
 
--- The first settled row whose column meets a nonzero leading entry of row i is the next that rule 2 works with.
+-- The first settled row whose column meets a nonzero leading entry of row i is the next that rule 2 works with
+-- (SCOPE 2.21, 2.26).
 unfoldable pub meet : Side → State → ℕ → Option ℕ → Outcome
 unfolding eliminateStep firstNonzero leadingBlock rowAt settleOrShift
 meet side s i (some j) = eliminateStep side s i j
 meet side s i none = settleOrShift s i (firstNonzero (leadingBlock (rowAt s i)))
 
--- Rule 1: "A zero row: refusal 6."
+-- Rule 1: a zero row is refused with 6, also one that a combination has made zero (SCOPE 2.11, 2.45).
 unfoldable pub workOn : Side → State → ℕ → Outcome
 unfolding zeroRow meet firstNonzero entry rowAt
 workOn side s i =
     let rest = meet side s i (firstNonzero (map (entry (rowAt s i)) (s .order))) in
     cond (zeroRow (rowAt s i)) (refused 6) rest
 
--- "Take row i = w + 1" (rows are counted from 0 here); with no row left the run is done.
+-- The row in turn is row w + 1, at place w counted from 0; with no row left the run is done (SCOPE 2.2).
 unfoldable pub step : Side → State → Outcome
 unfolding workOn
 step side s =
@@ -189,7 +193,7 @@ run side zero s = going s
 run side (suc k) s = andThen (step side s) (run side k)
 
 -- Enough steps for any rows: a settling for each row, a shift for each block, combinations with every settled row
--- before each of those, and the step that finds no row left.
+-- before each of those, and the step that finds no row left (SCOPE 3.24).
 unfoldable pub enough : List Row → ℕ
 enough rows =
     let m = length rows in
@@ -200,18 +204,20 @@ unfoldable pub leadingRun : List Row → List Relation → Outcome
 unfolding run enough start
 leadingRun rows relations = run leading (enough rows) (start rows relations)
 
+-- Order and shifts stay (SCOPE 2.92).
 unfoldable pub mirrorState : ℕ → State → State
 unfolding mirrorRow mirrorRelation
 mirrorState D s =
     record { rows = map (mirrorRow D) (s .rows); relations = map (mirrorRelation D) (s .relations); order = s .order; shifts = s .shifts }
 
+-- A refusal stays (SCOPE 2.94).
 unfoldable pub mirrorOutcome : ℕ → Outcome → Outcome
 unfolding mirrorState
 mirrorOutcome D (going s) = going (mirrorState D s)
 mirrorOutcome D (done s) = done (mirrorState D s)
 mirrorOutcome D (refused n) = refused n
 
--- "Trailing side: replace n by -n, block s by -s, n0 by -n0; run the above; mirror back."
+-- The trailing side: the mirrored system goes through the same rules, and the result is mirrored again (SCOPE 2.91).
 unfoldable pub trailingRun : ℕ → List Row → List Relation → Outcome
 unfolding mirrorOutcome mirrorState run enough start
 trailingRun D rows relations =
@@ -224,11 +230,12 @@ wholeRun trailing D rows relations = trailingRun D rows relations
 
 -- ---- the root report
 
--- "Its entry there, at c(j), is its diagonal polynomial": in block l, on the trailing side in block t.
+-- Diagonal polynomials stand in block l, on the trailing side in block t (SCOPE 2.72, 2.93).
 unfoldable pub diagonalPlace : Side → ℕ → ℕ
 diagonalPlace leading D = 0
 diagonalPlace trailing D = D
 
+-- The polynomial of row j there in column c(j) (SCOPE 2.72).
 unfoldable pub diagonal : Side → ℕ → State → List Polynomial
 unfolding zipWith diagonalPlace
 diagonal side D s =
@@ -245,8 +252,8 @@ unfolding further
 furthest side [] = none
 furthest side (a ∷ l) = some (further side a (furthest side l))
 
--- "Root report: whether any diagonal polynomial of the output has an integer root, and the largest integer root among
--- them all"; on the trailing side "the smallest integer root among them all".
+-- The greatest integer at which a diagonal polynomial of the output vanishes, if there is one (SCOPE 2.81); on the
+-- trailing side the least (SCOPE 2.93).
 unfoldable pub report : Side → ℕ → State → Option ℤ
 unfolding furthest flatten diagonal roots
 report side D s = furthest side (flatten (map roots (diagonal side D s)))

@@ -1,10 +1,10 @@
--- The systems with known results of document 01 that are marked * there, in one table, computed in the definitions.
+-- The systems K1 to K11 of known result, in one table, computed in the definitions (SCOPE 7.21).
 --
 -- Main definitions
---   Entry, Holds    a system with all that document 01 says of it; the definitions give that
+--   Entry, Holds    a system with all that the scope says of it; the definitions give that
 --   table           K1 to K11, with the second system of K10
 -- Main statements
---   known           every entry of the table holds; K2 through the batch program; K1's relation of the paper
+--   known           every entry of the table holds; K2 through the batch program; K1's condition of source paper 000
 use Prim.Native.Nat.{ℕ, zero, suc, pred}
 use mathlib.Core.Path.{_≡_, refl, sym, _∙_, ap}
 use mathlib.Core.List.{List, [], _∷_, _++_, map}
@@ -21,7 +21,7 @@ use Rattle.rules.specs.Sheets.{Term, rowOfTerms}
 use Rattle.rules.specs.Batch.{batchOutput}
 use Rattle.rules.specs.Opened.{opened}
 
--- An equation by its terms; columns are counted from 1, as in document 01.
+-- An equation by its terms; columns are counted from 1, as in the scope.
 abbrev pub Equation : Type 0
 Equation = List Term
 
@@ -32,7 +32,7 @@ pub record Listed : Type 0 where
   pub index : ℤ
   pub equation : Equation
 
--- What document 01 says of a system: rows, relations, order, shifts and root, or a refusal.
+-- What the scope says of a system: rows, relations, order, shifts and root, or a refusal.
 pub data Expected : Type 0 where
   accepts : List Equation → List Listed → List ℕ → ℕ → Option ℤ → Expected
   refuses : ℕ → Expected
@@ -61,8 +61,8 @@ HoldsAs side z es (refuses n) = wholeRun side (span z) (rowsOfEquations (z .l) e
 abbrev pub Holds : Entry → Type 0
 Holds e = HoldsAs (e .side) (e .sizes) (e .equations) (e .expected)
 
--- "(n-1)x(n) - y(n-3), -2x(n) + (n-2)y(n-1). Output: -2x(n) + (n-2)y(n-1); n(n-1)y(n) - 2y(n-2). One shift, order 1 2,
--- last root 1, no relation."
+-- K1: (n - 1) x(n) - y(n - 3) and -2 x(n) + (n - 2) y(n - 1) come out as -2 x(n) + (n - 2) y(n - 1) and
+-- n (n - 1) y(n) - 2 y(n - 2) after one shift, with order 1 2, no relation and greatest root 1 (SCOPE 7.1).
 abbrev pub k1-first : Equation
 k1-first = term (pos 0) 1 (negsuc 1 ∷ []) ∷ term (negsuc 0) 2 (negsuc 1 ∷ pos 1 ∷ []) ∷ []
 
@@ -70,7 +70,8 @@ abbrev pub k1 : Entry
 k1 =
     record { side = leading; sizes = sizesOf 2 (pos 0) (negsuc 2); equations = (term (pos 0) 1 (negsuc 0 ∷ pos 1 ∷ []) ∷ term (negsuc 2) 2 (negsuc 0 ∷ []) ∷ []) ∷ k1-first ∷ []; expected = accepts (k1-first ∷ (term (pos 0) 2 (pos 0 ∷ negsuc 0 ∷ pos 1 ∷ []) ∷ term (negsuc 1) 2 (negsuc 1 ∷ []) ∷ []) ∷ []) [] (1 ∷ 2 ∷ []) 1 (some (pos 1)) }
 
--- "n x(n+1) - y(n), x(n+1) - x(n)", with the rows and relations of the second listing; "One shift, last root 0."
+-- K2: n x(n + 1) - y(n) and x(n + 1) - x(n) come out as the second sheet says, after one shift, with greatest root 0
+-- (SCOPE 7.2).
 abbrev k2-first : Equation
 k2-first = term (pos 1) 1 (pos 0 ∷ pos 1 ∷ []) ∷ term (pos 0) 2 (negsuc 0 ∷ []) ∷ []
 
@@ -81,7 +82,7 @@ abbrev pub k2 : Entry
 k2 =
     record { side = leading; sizes = sizesOf 2 (pos 1) (pos 0); equations = k2-first ∷ k2-second ∷ []; expected = accepts ((term (pos 1) 1 (negsuc 0 ∷ negsuc 0 ∷ []) ∷ term (pos 1) 2 (pos 1 ∷ []) ∷ []) ∷ (term (pos 1) 2 (pos 0 ∷ pos 1 ∷ []) ∷ term (pos 0) 2 (negsuc 0 ∷ negsuc 0 ∷ []) ∷ []) ∷ []) (record { index = pos 0; equation = k2-second } ∷ record { index = negsuc 0; equation = k2-first } ∷ []) (1 ∷ 2 ∷ []) 1 (some (pos 0)) }
 
--- "m = 1, (n-3)x(n+1) - x(n): unchanged, last root 3."
+-- K3: m = 1, (n - 3) x(n + 1) - x(n) stays as it is, with greatest root 3 (SCOPE 7.3).
 abbrev k3-only : Equation
 k3-only = term (pos 1) 1 (negsuc 2 ∷ pos 1 ∷ []) ∷ term (pos 0) 1 (negsuc 0 ∷ []) ∷ []
 
@@ -89,11 +90,11 @@ abbrev pub k3 : Entry
 k3 =
     record { side = leading; sizes = sizesOf 1 (pos 1) (pos 0); equations = k3-only ∷ []; expected = accepts (k3-only ∷ []) [] (1 ∷ []) 0 (some (pos 3)) }
 
--- "m = 1, zero row: 6."
+-- K4: m = 1, the zero row is refused with 6 (SCOPE 7.4).
 abbrev pub k4 : Entry
 k4 = record { side = leading; sizes = sizesOf 1 (pos 0) (pos 0); equations = [] ∷ []; expected = refuses 6 }
 
--- "x(n+1) + y(n) twice: 6."
+-- K5: x(n + 1) + y(n), two times, is refused with 6 (SCOPE 7.5).
 abbrev k5-twice : Equation
 k5-twice = term (pos 1) 1 (pos 1 ∷ []) ∷ term (pos 0) 2 (pos 1 ∷ []) ∷ []
 
@@ -101,12 +102,12 @@ abbrev pub k5 : Entry
 k5 =
     record { side = leading; sizes = sizesOf 2 (pos 1) (pos 0); equations = k5-twice ∷ k5-twice ∷ []; expected = refuses 6 }
 
--- "m = 1, l = 4, t = 0, only x(n): x(n+4), four shifts."
+-- K6: m = 1, l = 4, t = 0: x(n) alone comes out as x(n + 4) after four shifts (SCOPE 7.6).
 abbrev pub k6 : Entry
 k6 =
     record { side = leading; sizes = sizesOf 1 (pos 4) (pos 0); equations = (term (pos 0) 1 (pos 1 ∷ []) ∷ []) ∷ []; expected = accepts ((term (pos 4) 1 (pos 1 ∷ []) ∷ []) ∷ []) [] (1 ∷ []) 4 none }
 
--- "D = 0, n^14 x + y and n x + n y: accepted."
+-- K7: D = 0, n^14 x + y and n x + n y are accepted (SCOPE 7.7).
 abbrev power : ℕ → Polynomial
 power k = replicate k (pos 0) ++ (pos 1 ∷ [])
 
@@ -120,12 +121,12 @@ abbrev pub k7 : Entry
 k7 =
     record { side = leading; sizes = sizesOf 2 (pos 0) (pos 0); equations = k7-first 14 ∷ k7-second ∷ []; expected = accepts (k7-first 14 ∷ (term (pos 0) 2 (pos 0 ∷ negsuc 0 ∷ power 13) ∷ []) ∷ []) (record { index = pos 0; equation = k7-second } ∷ []) (1 ∷ 2 ∷ []) 0 (some (pos 1)) }
 
--- "with n^15: 7."
+-- K8: with n^15 for n^14 the system is refused with 7 (SCOPE 7.8).
 abbrev pub k8 : Entry
 k8 =
     record { side = leading; sizes = sizesOf 2 (pos 0) (pos 0); equations = k7-first 15 ∷ k7-second ∷ []; expected = refuses 7 }
 
--- "D = 0, 10,000x + y and x + (20,000n + 1)y: accepted."
+-- K9: D = 0, 10,000 x + y and x + (20,000 n + 1) y are accepted (SCOPE 7.9).
 abbrev k9-first : ℕ → Equation
 k9-first a = term (pos 0) 1 (pos a ∷ []) ∷ term (pos 0) 2 (pos 1 ∷ []) ∷ []
 
@@ -136,7 +137,8 @@ abbrev pub k9 : Entry
 k9 =
     record { side = leading; sizes = sizesOf 2 (pos 0) (pos 0); equations = k9-first 10000 ∷ k9-second (pos 1 ∷ pos 20000 ∷ []) ∷ []; expected = accepts (k9-first 10000 ∷ (term (pos 0) 2 (pos 9999 ∷ pos 200000000 ∷ []) ∷ []) ∷ []) [] (1 ∷ 2 ∷ []) 0 none }
 
--- "with 20,000x: 8. With 20,000x + y and x + 20,000y: accepted, second row y."
+-- K10: with 20,000 x for 10,000 x the system is refused with 8; 20,000 x + y and x + 20,000 y are accepted, and y is
+-- the second row (SCOPE 7.10).
 abbrev pub k10 : Entry
 k10 =
     record { side = leading; sizes = sizesOf 2 (pos 0) (pos 0); equations = k9-first 20000 ∷ k9-second (pos 1 ∷ pos 20000 ∷ []) ∷ []; expected = refuses 8 }
@@ -145,7 +147,8 @@ abbrev pub k10-divided : Entry
 k10-divided =
     record { side = leading; sizes = sizesOf 2 (pos 0) (pos 0); equations = k9-first 20000 ∷ k9-second (pos 20000 ∷ []) ∷ []; expected = accepts (k9-first 20000 ∷ (term (pos 0) 2 (pos 1 ∷ []) ∷ []) ∷ []) [] (1 ∷ 2 ∷ []) 0 none }
 
--- "trailing, n x(n+1), l = 1, t = 0: (n-1)x(n), one shift, first root 1."
+-- K11: on the trailing side, with l = 1 and t = 0, n x(n + 1) comes out as (n - 1) x(n) after one shift, with least
+-- root 1 (SCOPE 7.11).
 abbrev pub k11 : Entry
 k11 =
     record { side = trailing; sizes = sizesOf 1 (pos 1) (pos 0); equations = (term (pos 1) 1 (pos 0 ∷ pos 1 ∷ []) ∷ []) ∷ []; expected = accepts ((term (pos 0) 1 (negsuc 0 ∷ pos 1 ∷ []) ∷ []) ∷ []) [] (1 ∷ []) 1 (some (pos 1)) }
@@ -201,7 +204,8 @@ k11-holds : Holds k11
 unfolding opened
 k11-holds = (refl, refl)
 
--- "it is given the lines `1` and `1 54` and then the first listing, and prints `0`, the second listing and `1 0`"
+-- K2 as a batch: the lines `1` and `1 54` and the first sheet; what is printed is `0`, the second sheet and `1 0`
+-- (SCOPE 7.2).
 abbrev pub k2-input : List ℕ
 k2-input =
     49 ∷ 10 ∷
@@ -242,7 +246,7 @@ paper-sum : (x y : ℤ) → negsuc 1 *ℤ x +ℤ negsuc 0 *ℤ y ≡ negsuc 0 *�
 paper-sum x y =
     sym (*ℤ-+ℤ (negsuc 0) (pos 2 *ℤ x) y ∙ ap (λ a. a +ℤ negsuc 0 *ℤ y) (sym (*ℤ-assoc (negsuc 0) (pos 2) x)))
 
--- "The paper's extra 2x(1) + y(0) = 0 is the first row at n = 1."
+-- The condition 2 x(1) + y(0) = 0 that source paper 000 adds is the first output row of K1 at n = 1 (SCOPE 7.1).
 abbrev pub Paper : Type 0
 Paper = (z : Sequence) → valueOf (pos 0) (rowOfTerms (pos 0) k1-first) z (pos 1) ≡ negsuc 0 *ℤ (pos 2 *ℤ z (pos 1) 0 +ℤ z (pos 0) 1)
 

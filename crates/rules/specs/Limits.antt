@@ -1,13 +1,13 @@
--- The limits of document 01, "Systems and sequences" and "Sheets".
+-- The limits of systems, and the sizes of what holds them in stores.
 --
 -- Main definitions
---   bound                      C = 268,435,455: "every coefficient within ±C", "|n0| ≤ C"
---   coefficientCount           16 coefficients a polynomial: "of degree at most 15"
---   columnCount, blockCount    four columns a block, five blocks a row: "m unknowns (1 to 4)", "D = l - t is 0 to 4"
---   rowLength, relationLength  the numbers of a row, and of a relation
---   mostRelations              "There are at most 16 relations."
---   blockBound                 the largest block in size
---   small a                    is |a| ≤ C?
+--   bound                      C = 268,435,455, which no coefficient and no n0 passes in size (SCOPE 1.4, 1.22)
+--   coefficientCount           16 coefficients a polynomial, for degrees up to 15 (SCOPE 1.4)
+--   columnCount, blockCount    four columns a block, five blocks a row, for the largest m and D (SCOPE 1.1, 1.2)
+--   rowLength, relationLength  the numbers of a row, and of a relation (SCOPE 3.2, 3.4)
+--   mostRelations              the relations of a system are 16 or fewer (SCOPE 1.23)
+--   blockBound                 the largest block in size (SCOPE 1.2)
+--   small a                    is |a| ≤ C? (SCOPE 1.4)
 use Prim.Native.Nat.{ℕ, _*_}
 use mathlib.Core.Bool.{Bool}
 use lib.Dec.{leb}
@@ -25,7 +25,7 @@ columnCount = 4
 abbrev pub blockCount : ℕ
 blockCount = 5
 
--- "each row held as 320 numbers", and a relation is n0 and then a row.
+-- A row takes 320 numbers, and a relation its n0 and a row (SCOPE 3.2, 3.4).
 abbrev pub rowLength : ℕ
 rowLength = 320
 
@@ -35,7 +35,7 @@ relationLength = 321
 abbrev pub mostRelations : ℕ
 mostRelations = 16
 
--- "-64 ≤ t ≤ l ≤ 64"
+-- l and t lie from -64 to 64 (SCOPE 1.2).
 abbrev pub blockBound : ℕ
 blockBound = 64
 

@@ -1,5 +1,5 @@
--- Numbers in sheets and batch lines: "ASCII decimal", "at most ten digits after an optional minus, without leading zeros
--- or `-0`".
+-- Numbers in sheets and batch lines: ASCII, one to ten digits, with or without a minus in front; no zero in front of
+-- other digits, no minus in front of a zero (SCOPE 4.1, 4.2, 5.3).
 --
 -- Main definitions
 --   word, afterWord         the bytes of a token, and those from its separator on
@@ -20,7 +20,7 @@ use Rattle.rules.specs.Rows.{every}
 abbrev pub space : ℕ
 space = 32
 
--- "each line ends in byte 10"
+-- Byte 10 closes a line (SCOPE 4.1).
 abbrev pub newline : ℕ
 newline = 10
 
@@ -30,7 +30,7 @@ minus = 45
 unfoldable pub isSeparator : ℕ → Bool
 isSeparator b = eqb b space || eqb b newline
 
--- "A token runs to the next space or byte 10."
+-- The bytes of a token: those before the next space or byte 10 (SCOPE 4.31).
 unfoldable pub word : List ℕ → List ℕ
 unfolding isSeparator
 word [] = []
@@ -54,12 +54,12 @@ unfoldable pub digits : List ℕ → List ℕ
 unfolding signed
 digits w = cond (signed w) (drop 1 w) w
 
--- "without leading zeros or `-0`": a 0 stands alone and without a sign.
+-- A 0 in front stands alone and without a sign (SCOPE 4.2).
 unfoldable pub startsRight : Bool → List ℕ → Bool
 startsRight sign [] = true
 startsRight sign (d ∷ ds) = not (eqb d 48) || (not sign && eqb (length ds) 0)
 
--- Can these bytes begin a number?
+-- Can these bytes begin a number? No byte at all and a minus alone can (SCOPE 4.32).
 unfoldable pub beginsNumber : List ℕ → Bool
 unfolding every isDigit digits startsRight signed
 beginsNumber w = every isDigit (digits w) && leb (length (digits w)) 10 && startsRight (signed w) (digits w)
@@ -83,6 +83,7 @@ pub data Read (A : Type 0) : Type 0 where
   got : A → List ℕ → Read A
   fault : ℕ → Read A
 
+-- The first fault ends the reading (SCOPE 4.37).
 unfoldable pub thenRead : {A B : Type 0} → Read A → (A → List ℕ → Read B) → Read B
 thenRead (got a bytes) f = f a bytes
 thenRead (fault n) f = fault n
@@ -92,8 +93,9 @@ unfoldable pub judged : ℕ → ℤ → List ℕ → Read ℤ
 judged zero v bytes = got v bytes
 judged (suc n) v bytes = fault (suc n)
 
--- "bytes that end before a token's separator are 4, or 3 if they cannot begin a number; within a token, its form (3, also
--- for an eleventh digit), then its range (2 or 5), then term order or a zero last coefficient (3)"
+-- With no separator behind it a token is 4, or 3 if it cannot begin a number (SCOPE 4.32). Otherwise its form comes
+-- first (3), and then what `judge` finds: its range (2 or 5), the order of terms or a zero last coefficient (3)
+-- (SCOPE 4.33 to 4.35).
 unfoldable pub readWord : (ℤ → ℕ) → List ℕ → List ℕ → Read ℤ
 unfolding beginsNumber isNumber numberOf judged
 readWord judge w [] = fault (cond (beginsNumber w) 4 3)
@@ -101,7 +103,7 @@ readWord judge w (b ∷ bytes) =
     let found = judged (judge (numberOf w)) (numberOf w) (b ∷ bytes) in
     cond (isNumber w) found (fault 3)
 
--- "also a wrong separator" (3)
+-- A separator of the wrong kind is 3 (SCOPE 4.36).
 unfoldable pub readSeparator : ℕ → ℤ → List ℕ → Read ℤ
 readSeparator separator v [] = fault 4
 readSeparator separator v (b ∷ bytes) = cond (eqb b separator) (got v bytes) (fault 3)
@@ -112,11 +114,11 @@ unfolding thenRead readWord word afterWord readSeparator
 field judge follow bytes =
     thenRead (readWord judge (word bytes) (afterWord bytes)) (λ v rest. readSeparator (follow v) v rest)
 
--- "2 a size, block, column or count outside its range"
+-- A number out of its range is 2 (SCOPE 4.34).
 unfoldable pub between : ℤ → ℤ → ℤ → ℕ
 between low high v = cond (leZ low v && leZ v high) 0 2
 
--- "5 a coefficient or n0 outside ±C"
+-- A coefficient or n0 past ±C is 5 (SCOPE 4.34).
 unfoldable pub judgeSmall : ℤ → ℕ
 unfolding small
 judgeSmall v = cond (small v) 0 5
@@ -135,7 +137,7 @@ unfolding decimalWithin
 decimal (pos n) = decimalWithin (suc n) n []
 decimal (negsuc n) = minus ∷ decimalWithin (suc (suc n)) (suc n) []
 
--- "Numbers on a line are parted by one space, each line ends in byte 10."
+-- One space between two numbers, byte 10 at the end (SCOPE 4.1).
 unfoldable pub line : List ℤ → List ℕ
 unfolding decimal
 line [] = newline ∷ []

@@ -1,4 +1,4 @@
--- Rows of a system: the left side of an equation, relative to block l.
+-- Rows of a system: the left side of an equation, relative to block l (SCOPE 1.3).
 --
 -- Main definitions
 --   Row, Relation         a list of blocks, block l first, each a list of polynomials, one a column; a row with its n0
@@ -7,7 +7,7 @@
 --   entry r c             the leading entry at column c (columns are counted from 0 here)
 --   firstNonzero ps       the place of the first nonzero polynomial of a list
 --   combine g h r q       g × r + h × q
---   primitive r           r divided by the greatest positive whole number dividing all its coefficients
+--   primitive r           r divided by the content of all its coefficients
 --   shiftUp r             every block moved up by one and n + 1 for n
 --   mirrorRow D r         block -s for s and -n for n, D + 1 blocks being in use
 use Prim.Native.Nat.{ℕ, zero, suc}
@@ -27,7 +27,7 @@ Block = List Polynomial
 pub record Row : Type 0 where
   pub blocks : List Block
 
--- "A relation is an equation with one integer n0: the sum is zero at n0 only."
+-- An equation that is asked for at n = n0 and nowhere else (SCOPE 1.21).
 pub record Relation : Type 0 where
   pub index : ℤ
   pub row : Row
@@ -61,7 +61,7 @@ unfoldable pub zeroRow : Row → Bool
 unfolding every zeroBlock
 zeroRow r = every zeroBlock (r .blocks)
 
--- "The width of a nonzero row is l - s + 1, s its lowest nonzero block; of a zero row, 0."
+-- The blocks from l down to the lowest nonzero one are counted; there is none in a zero row (SCOPE 2.1).
 unfoldable pub widthOf : List Block → ℕ
 unfolding zeroBlock
 widthOf [] = 0
@@ -84,18 +84,18 @@ unfolding isZero
 firstNonzero [] = none
 firstNonzero (p ∷ ps) = cond (isZero p) (Option·map suc (firstNonzero ps)) (some 0)
 
--- "g × row i + h × row j"
+-- Block by block and column by column (SCOPE 2.41).
 unfoldable pub combine : Polynomial → Polynomial → Row → Row → Row
 unfolding zipWith add mul
 combine g h r q =
     record { blocks = zipWith (zipWith (λ p e. add (mul g p) (mul h e))) (r .blocks) (q .blocks) }
 
--- "divided by the greatest positive whole number dividing all its coefficients (a zero row is not divided)"
+-- Divided by the largest number that divides all coefficients; a zero row stays (SCOPE 2.42).
 unfoldable pub primitive : Row → Row
 unfolding content divideBy coefficientsOf mapRow
 primitive r = elim (content (coefficientsOf r)) [ zero ↦ r | suc d ↦ mapRow (divideBy (suc d)) r ]
 
--- Has every polynomial degree at most 15?
+-- Has every polynomial degree at most 15? (SCOPE 1.4, 2.43)
 unfoldable pub lowDegrees : Row → Bool
 unfolding every isZero
 lowDegrees r = every (every (λ p. isZero (drop coefficientCount p))) (r .blocks)
@@ -105,7 +105,7 @@ unfoldable pub cut : Row → Row
 unfolding mapRow
 cut r = mapRow (take coefficientCount) r
 
--- Is every coefficient within ±C?
+-- Is every coefficient within ±C? (SCOPE 1.4, 2.44)
 unfoldable pub smallRow : Row → Bool
 unfolding every small coefficientsOf
 smallRow r = every small (coefficientsOf r)
@@ -114,17 +114,17 @@ smallRow r = every small (coefficientsOf r)
 unfoldable pub blank : Block → Block
 blank b = map (map (λ _. pos 0)) b
 
--- "every block moves up by one and n becomes n + 1 in the row"; the leading block is lost, a zero block comes in below.
+-- The blocks move up and n + 1 is put for n; the leading block is lost, a zero block comes in below (SCOPE 2.61).
 unfoldable pub shiftUp : Row → Row
 unfolding mapRow shift blank leadingBlock
 shiftUp r = mapRow shift (record { blocks = tail (r .blocks) ++ (blank (leadingBlock r) ∷ []) })
 
--- "replace n by -n, block s by -s": the D + 1 blocks in use change places, first with last.
+-- Block -s for s and -n for n: the D + 1 blocks in use change places, first with last (SCOPE 2.91).
 unfoldable pub mirrorRow : ℕ → Row → Row
 unfolding mapRow mirror
 mirrorRow D r = mapRow mirror (record { blocks = reverse (take (suc D) (r .blocks)) ++ drop (suc D) (r .blocks) })
 
--- ".. n0 by -n0"
+-- The mirrored row, at -n0 (SCOPE 2.91).
 unfoldable pub mirrorRelation : ℕ → Relation → Relation
 unfolding mirrorRow
 mirrorRelation D e = record { index = negℤ (e .index); row = mirrorRow D (e .row) }

@@ -17,7 +17,7 @@ use Rattle.algebra.specs.Sums.{countFrom}
 use Rattle.algebra.specs.Polynomials.{Polynomial, eval, isZero, add, mul, shiftBy}
 use Rattle.rules.specs.Rows.{Block, Row, Relation, noRow, All}
 
--- "A sequence gives an integer to each index n of either sign and each column 1 to m." Columns are counted from 0 here.
+-- Two-sided: any integer is an index (SCOPE 1.11, 1.13). Columns are counted from 0 here.
 abbrev pub Sequence : Type 0
 Sequence = ℤ → ℕ → ℤ
 
@@ -33,24 +33,25 @@ unfolding blockValue
 blocksValue n z k [] = pos 0
 blocksValue n z k (b ∷ bs) = blockValue n (z k) b +ℤ blocksValue n z (predℤ k) bs
 
--- "the sum over blocks s and columns c of p(n) × z(n+s, c)"
+-- The products p(n) × z(n + s, c), added up over all blocks s and columns c (SCOPE 1.3).
 unfoldable pub valueOf : ℤ → Row → Sequence → ℤ → ℤ
 unfolding blocksValue
 valueOf l r z n = blocksValue n z (n +ℤ l) (r .blocks)
 
--- "It satisfies an equation if the sum is zero at every integer n."
+-- The sum vanishes at all n (SCOPE 1.12).
 unfoldable pub SatisfiesEquation : ℤ → Sequence → Row → Type 0
 SatisfiesEquation l z r = (n : ℤ) → valueOf l r z n ≡ pos 0
 
--- "A relation is an equation with one integer n0: the sum is zero at n0 only."
+-- The sum vanishes at n0 (SCOPE 1.21).
 unfoldable pub SatisfiesRelation : ℤ → Sequence → Relation → Type 0
 SatisfiesRelation l z e = valueOf l (e .row) z (e .index) ≡ pos 0
 
+-- Each equation and each relation (SCOPE 1.24).
 unfoldable pub Satisfies : ℤ → List Row → List Relation → Sequence → Type 0
 unfolding All SatisfiesEquation SatisfiesRelation
 Satisfies l rows relations z = All (SatisfiesEquation l z) rows × All (SatisfiesRelation l z) relations
 
--- "The vector at an index is the values of all columns there": z and y have the same vector at n.
+-- z and y have the same vector at n, that is the same values in the m columns (SCOPE 1.14).
 unfoldable pub Same : ℕ → Sequence → Sequence → ℤ → Type 0
 Same m z y n = (c : ℕ) → c < m → z n c ≡ y n c
 
@@ -66,7 +67,7 @@ unfoldable pub polynomialAt : ℤ → Row → ℤ → ℕ → Polynomial
 unfolding blockFrom
 polynomialAt l r s c = getD (blockFrom (r .blocks) (l -ℤ s)) c []
 
--- "A copy shifted by k, any integer, has every block moved up by k and n replaced by n + k."
+-- The copy of an equation shifted by k: the polynomials of block s - k at block s, with n + k for n (SCOPE 2.101).
 unfoldable pub copyAt : ℤ → Row → ℤ → ℤ → ℕ → Polynomial
 unfolding shiftBy polynomialAt
 copyAt l r k s c = shiftBy k (polynomialAt l r (s -ℤ k) c)
@@ -87,9 +88,8 @@ unfolding addAll countFrom shiftsWithin mul copyAt
 combinationAt l rows N S s c =
     addAll (λ i. addAll (λ k. mul (S i k) (copyAt l (getD rows i noRow) k s c)) (shiftsWithin N)) (countFrom 0 (length rows))
 
--- "Dependent means that a nonzero combination of shifted equations vanishes: finitely many shifted copies of the input's
--- equations, each equation number at each shift taken once, with integer polynomial multipliers of any degree, not all
--- zero, add up to the zero equation."
+-- Copies of the equations at the shifts within `reach`, each times a polynomial of whatever degree, add up to zero in
+-- every block and column, and at least one multiplier is not zero (SCOPE 2.102).
 pub record Dependent (l : ℤ) (rows : List Row) : Type 0 where
   pub reach : ℕ
   pub multiplier : ℕ → ℤ → Polynomial

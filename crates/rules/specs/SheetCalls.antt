@@ -18,7 +18,7 @@ use Rattle.rules.specs.Sheets.{Sheet, contains, readSheet, writeSheet}
 
 -- ---- reading
 
--- "Every refusal returns its number, all other fields 0." The order holds columns counted from 1, zeros past its end.
+-- What the reader returns (SCOPE 4.41). The order holds columns counted from 1, zeros past its end.
 pub record ReadResult : Type 0 where
   pub refusal : ℕ
   pub sizes : Sizes
@@ -30,21 +30,24 @@ pub record ReadCall : Type 0 where
   pub rowStore : List ℤ
   pub relationStore : List ℤ
 
+-- A refusal returns its number, and 0 in all other fields (SCOPE 6.31).
 unfoldable pub readRefusal : ℕ → ReadResult
 readRefusal n =
     record { refusal = n; sizes = record { m = 0; l = pos 0; t = pos 0 }; relations = 0; order = replicate columnCount 0 }
 
+-- A refusal leaves both stores as they were (SCOPE 4.43).
 unfoldable pub unread : ℕ → List ℤ → List ℤ → ReadCall
 unfolding readRefusal
 unread n rowStore relationStore =
     record { result = readRefusal n; rowStore = rowStore; relationStore = relationStore }
 
+-- A sheet that is read fills the needed parts of both stores (SCOPE 4.43).
 unfoldable pub filled : Sheet → List ℤ → List ℤ → ReadCall
 unfolding padTo overwrite rowStoreOf relationStoreOf
 filled sheet rowStore relationStore =
     record { result = record { refusal = 0; sizes = sheet .sizes; relations = length (sheet .relations); order = padTo columnCount 0 (sheet .order) }; rowStore = overwrite (rowStoreOf (sheet .rows)) rowStore; relationStore = overwrite (relationStoreOf (sheet .relations)) relationStore }
 
--- "1 only when the sheet is otherwise whole"
+-- Stores too short are found (1) only where the sheet has no fault (SCOPE 4.42).
 unfoldable pub afterRead : Read Sheet → List ℤ → List ℤ → ReadCall
 unfolding filled unread lengthsRight
 afterRead (got sheet rest) rowStore relationStore =
@@ -69,7 +72,7 @@ unfolding contains
 differentColumns m [] = true
 differentColumns m (c ∷ l) = (leb 1 c && leb c m) && not (contains c l) && differentColumns m l
 
--- The order argument: four numbers, all 0 for none, otherwise a permutation of 1..m with zeros past its end.
+-- The order argument: four numbers, all 0 for none, else a permutation of 1..m with zeros past its end (SCOPE 4.53).
 unfoldable pub orderRight : ℕ → List ℕ → Bool
 unfolding every differentColumns
 orderRight m order =
@@ -80,7 +83,7 @@ unfoldable pub orderGiven : ℕ → List ℕ → List ℕ
 unfolding every
 orderGiven m order = cond (every (eqb 0) order) [] (take m order)
 
--- "Calls on stores check sizes (2), lengths (1), numbers (5)"; the order argument is one of the sizes.
+-- Sizes (2), then lengths (1), then numbers (5); the order argument is one of the sizes (SCOPE 3.31, 4.53, 4.54).
 unfoldable pub checkWrite : Sizes → ℕ → List ℕ → List ℤ → List ℤ → ℕ
 unfolding sizesRight countRight orderRight lengthsRight numbersRight
 checkWrite z count order rowStore relationStore =
@@ -93,10 +96,11 @@ unfolding rowsOf relationsOf orderGiven
 sheetOf z count order rowStore relationStore =
     record { sizes = z; rows = rowsOf (z .m) rowStore; relations = relationsOf count relationStore; order = orderGiven (z .m) order }
 
+-- On a refusal no byte is written and the length is 0 (SCOPE 4.54).
 unfoldable pub unwritten : ℕ → List ℕ → WriteCall
 unwritten n byteStore = record { refusal = n; length = 0; byteStore = byteStore }
 
--- "the writer checks its byte store's length (1) last"; bytes past the length stay.
+-- That the byte store is too short (1) comes last (SCOPE 4.54); bytes past the length stay (SCOPE 4.51).
 unfoldable pub written : List ℕ → List ℕ → WriteCall
 unfolding unwritten overwrite
 written bytes byteStore =

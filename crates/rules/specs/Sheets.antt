@@ -1,9 +1,9 @@
--- Sheets: the grammar of document 01, read and written.
+-- Sheets, read and written (SCOPE 4).
 --
 -- Main definitions
 --   Sheet              what a sheet holds
---   readSheet bytes    the sheet, or the number of its first fault in byte order
---   writeSheet sheet   its bytes
+--   readSheet bytes    the sheet, or the number of its first fault in byte order (SCOPE 4.37)
+--   writeSheet sheet   its bytes (SCOPE 4.52)
 use Prim.Native.Nat.{ℕ, zero, suc, _+_, _*_, pred}
 use mathlib.Core.Bool.{Bool, true, false, _&&_, _||_, not, cond}
 use mathlib.Core.List.{List, [], _∷_, _++_, map, flatten}
@@ -25,7 +25,7 @@ pub record Sheet : Type 0 where
   pub relations : List Relation
   pub order : List ℕ
 
--- "each term as s, c, number of coefficients (1 to 16), coefficients from power 0"; the column is counted from 1.
+-- Block, column and coefficients from power 0 on (SCOPE 4.22); the column is counted from 1.
 pub record Term : Type 0 where
   pub block : ℤ
   pub column : ℕ
@@ -47,12 +47,12 @@ unfoldable pub parting : ℕ → ℕ → ℕ
 parting last zero = last
 parting last (suc k) = space
 
--- "-64 ≤ t ≤ l ≤ 64. D = l - t is 0 to 4."
+-- t is not below -64 and not above l, and D is at most 4 (SCOPE 1.2, 4.34).
 unfoldable pub judgeLowest : ℤ → ℤ → ℕ
 judgeLowest l t =
     cond (leZ (negℤ (pos blockBound)) t && leZ t l && leZ (l -ℤ t) (pos 4)) 0 2
 
--- "`3 m l t`"
+-- The line `3 m l t` (SCOPE 4.12).
 unfoldable pub readSizes : List ℕ → Read Sizes
 unfolding thenRead field between always judgeLowest
 readSizes bytes =
@@ -62,12 +62,12 @@ readSizes bytes =
     thenRead (field (judgeLowest l) (always newline) bytes₃) λ t bytes₄.
     got (record { m = natAbs m; l = l; t = t }) bytes₄
 
--- "The last coefficient of a term is nonzero."
+-- A term's last coefficient is 5 past ±C, and 3 if it is 0 (SCOPE 4.24, 4.34, 4.35).
 unfoldable pub judgeLast : ℤ → ℕ
 unfolding small isZeroℤ
 judgeLast v = cond (small v) (cond (isZeroℤ v) 3 0) 5
 
--- Coefficients, `last` standing after the last of them.
+-- Coefficients, `last` standing after the last of them (SCOPE 4.22).
 unfoldable pub readCoefficients : ℕ → ℕ → List ℕ → Read Polynomial
 unfolding thenRead field judgeLast judgeSmall always
 readCoefficients last zero bytes = got [] bytes
@@ -77,7 +77,8 @@ readCoefficients last (suc (suc k)) bytes =
     thenRead (field judgeSmall (always space) bytes) λ a rest.
     thenRead (readCoefficients last (suc k) rest) λ p more. got (a ∷ p) more
 
--- "Terms go by falling s, then rising c." The term before stood at block s₀ and column c₀.
+-- The block never rises, and in one block the column rises (SCOPE 4.23, 4.35). The term before stood at block s₀ and
+-- column c₀.
 unfoldable pub judgeBlock : Sizes → ℤ → ℤ → ℕ
 judgeBlock z s₀ s = cond (leZ (z .t) s && leZ s (z .l)) (cond (leZ s s₀) 0 3) 2
 
@@ -111,12 +112,13 @@ putTerm l e r =
     let k = natAbs (l -ℤ e .block) in
     record { blocks = set (r .blocks) k (set (getD (r .blocks) k []) (pred (e .column)) (padTo coefficientCount (pos 0) (e .polynomial))) }
 
+-- A place without a term holds zero (SCOPE 4.23).
 unfoldable pub rowOfTerms : ℤ → List Term → Row
 unfolding blankRow putTerm
 rowOfTerms l [] = blankRow
 rowOfTerms l (e ∷ es) = putTerm l e (rowOfTerms l es)
 
--- "An equation is its number of terms (0 to m × (D + 1)), then each term"
+-- The number of the terms, at most m × (D + 1), and the terms (SCOPE 4.21).
 unfoldable pub readEquation : Sizes → List ℕ → Read Row
 unfolding thenRead field between afterCount readTerms rowOfTerms span
 readEquation z bytes =
@@ -130,7 +132,7 @@ readEquations z (suc k) bytes =
     thenRead (readEquation z bytes) λ r rest.
     thenRead (readEquations z k rest) λ l more. got (r ∷ l) more
 
--- "n0 and an equation"
+-- n0 and then an equation (SCOPE 4.14).
 unfoldable pub readRelation : Sizes → List ℕ → Read Relation
 unfolding thenRead field judgeSmall always readEquation
 readRelation z bytes =
@@ -148,7 +150,7 @@ unfoldable pub contains : ℕ → List ℕ → Bool
 contains c [] = false
 contains c (d ∷ l) = eqb c d || contains c l
 
--- "a permutation of 1..m": a column outside 1..m, or one that stands already, is a wrong order line (2).
+-- A column outside 1..m, or one that stands already, is a wrong order line (2) (SCOPE 4.34).
 unfoldable pub judgeOrder : ℕ → List ℕ → ℤ → ℕ
 unfolding contains
 judgeOrder m taken v =
@@ -161,22 +163,24 @@ readColumns m (suc k) taken bytes =
     thenRead (field (judgeOrder m taken) (always (parting newline k)) bytes) λ c rest.
     thenRead (readColumns m k (natAbs c ∷ taken) rest) λ l more. got (natAbs c ∷ l) more
 
+-- The order line begins with 0 or m (SCOPE 4.15, 4.34).
 unfoldable pub judgeOrderCount : ℕ → ℤ → ℕ
 unfolding isZeroℤ
 judgeOrderCount m v = cond (isZeroℤ v || isZeroℤ (v -ℤ pos m)) 0 2
 
--- "one line with the column order, `0` if none, otherwise m and a permutation of 1..m"
+-- The line of the column order: `0` if there is none, else m and the columns in some order (SCOPE 4.15).
 unfoldable pub readOrder : ℕ → List ℕ → Read (List ℕ)
 unfolding thenRead field judgeOrderCount afterCount readColumns
 readOrder m bytes =
     thenRead (field (judgeOrderCount m) afterCount bytes) λ k rest. readColumns m (natAbs k) [] rest
 
--- "4 the bytes [..] go on after the fourth section"
+-- Bytes behind the fourth section are 4 (SCOPE 4.16, 4.37).
 unfoldable pub readEnd : Sheet → List ℕ → Read Sheet
 readEnd sheet [] = got sheet []
 readEnd sheet (b ∷ bytes) = fault 4
 
--- "Four sections, fixed order, each after its count"; "an equation count that isn't m" is 2.
+-- The four sections in their order, each behind its count (SCOPE 4.11 to 4.16); an equation count other than m is 2
+-- (SCOPE 4.34).
 unfoldable pub readSheet : List ℕ → Read Sheet
 unfolding thenRead readSizes field between always readEquations readRelations readOrder readEnd
 readSheet bytes =
@@ -190,7 +194,7 @@ readSheet bytes =
 
 -- ---- writing
 
--- The polynomial without its zero high coefficients.
+-- The polynomial without its zero high coefficients (SCOPE 4.52).
 unfoldable pub trim : Polynomial → Polynomial
 unfolding isZero
 trim [] = []
@@ -204,7 +208,7 @@ blockTerms s c (p ∷ b) =
     let more = blockTerms s (suc c) b in
     cond (isZero p) more (record { block = s; column = c; polynomial = trim p } ∷ more)
 
--- The terms of the blocks from s down: "by falling s, then rising c".
+-- The terms of the blocks from s down, those of a block by rising column (SCOPE 4.23, 4.52).
 unfoldable pub termsFrom : ℤ → List Block → List Term
 unfolding blockTerms
 termsFrom s [] = []

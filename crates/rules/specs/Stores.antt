@@ -20,17 +20,17 @@ use Rattle.algebra.specs.Polynomials.{isZero}
 use Rattle.rules.specs.Limits.{bound, coefficientCount, columnCount, blockCount, rowLength, relationLength, mostRelations, blockBound, small}
 use Rattle.rules.specs.Rows.{Row, Relation, All, every, zeroBlock, coefficientsOf, smallRow}
 
--- "A system has m unknowns (1 to 4), m equations, and blocks numbered from t to l"
+-- m unknowns and as many equations, blocks from t to l (SCOPE 1.1, 1.2).
 pub record Sizes : Type 0 where
   pub m : ℕ
   pub l : ℤ
   pub t : ℤ
 
--- "D = l - t"
+-- D = l - t (SCOPE 1.2).
 unfoldable pub span : Sizes → ℕ
 span z = natAbs (z .l -ℤ z .t)
 
--- ---- the layout: "block l first, four columns a block, 16 coefficients a column, lowest power first"
+-- ---- the layout: from block l down, four columns a block, 16 coefficients a column from power 0 up (SCOPE 3.2)
 
 -- The first n parts of k members each.
 unfoldable pub parts : {A : Type 0} → ℕ → ℕ → List A → List (List A)
@@ -45,7 +45,7 @@ unfoldable pub rowsOf : ℕ → List ℤ → List Row
 unfolding parts rowOf
 rowsOf m l = map rowOf (parts rowLength m l)
 
--- "A relation is n0 and then a row."
+-- n0 stands before the row (SCOPE 3.4).
 unfoldable pub relationOf : List ℤ → Relation
 unfolding rowOf
 relationOf l = record { index = getD l 0 (pos 0); row = rowOf (drop 1 l) }
@@ -58,7 +58,7 @@ unfoldable pub relationNumbers : Relation → List ℤ
 unfolding coefficientsOf
 relationNumbers e = e .index ∷ coefficientsOf (e .row)
 
--- "The row store needs m × 320 numbers, the relation store 16 × 321."
+-- The needed part of a row store, and of a relation store whatever its count is (SCOPE 3.11).
 unfoldable pub rowNeed : ℕ → ℕ
 rowNeed m = m * rowLength
 
@@ -69,42 +69,47 @@ unfoldable pub rowStoreOf : List Row → List ℤ
 unfolding flatten coefficientsOf
 rowStoreOf rows = flatten (map coefficientsOf rows)
 
--- "Relation places past the count are unused: they hold 0 before and after."
+-- The places behind the relations hold 0 (SCOPE 3.13).
 unfoldable pub relationStoreOf : List Relation → List ℤ
 unfolding flatten relationNumbers
 relationStoreOf l =
     flatten (map relationNumbers l) ++ replicate ((mostRelations - length l) * relationLength) (pos 0)
 
--- ---- the checks: "Calls on stores check sizes (2), lengths (1), numbers (5)"
+-- ---- the checks: sizes (2), then lengths (1), then numbers (5) (SCOPE 3.31)
 
+-- m, l and t are within their ranges (SCOPE 1.1, 1.2, 3.32).
 unfoldable pub sizesRight : Sizes → Bool
 sizesRight z =
     (leb 1 (z .m) && leb (z .m) columnCount)
     && (leZ (negℤ (pos blockBound)) (z .t) && leZ (z .t) (z .l) && leZ (z .l) (pos blockBound) && leZ (z .l -ℤ z .t) (pos 4))
 
+-- A relation count above 16 is refused with the sizes (SCOPE 1.23, 3.32).
 unfoldable pub countRight : ℕ → Bool
 countRight count = leb count mostRelations
 
+-- Both stores have their needed parts (SCOPE 3.33).
 unfoldable pub lengthsRight : ℕ → List ℤ → List ℤ → Bool
 unfolding rowNeed
 lengthsRight m rowStore relationStore =
     leb (rowNeed m) (length rowStore) && leb relationNeed (length relationStore)
 
--- "Positions outside the system's blocks and columns hold 0."
+-- Blocks below t and columns above m are unused and zero (SCOPE 3.3).
 unfoldable pub unusedZero : ℕ → ℕ → Row → Bool
 unfolding every zeroBlock
 unusedZero m D r =
     every (λ b. zeroBlock (drop m b)) (r .blocks) && every zeroBlock (drop (suc D) (r .blocks))
 
--- "5 a coefficient [..] outside ±C, or a nonzero number at an unused store position"
+-- No coefficient is past ±C, and unused positions hold 0 (SCOPE 3.34).
 unfoldable pub rowRight : Sizes → Row → Bool
 unfolding smallRow unusedZero span
 rowRight z r = smallRow r && unusedZero (z .m) (span z) r
 
+-- n0 is within ±C too (SCOPE 1.22, 3.34).
 unfoldable pub relationRight : Sizes → Relation → Bool
 unfolding small rowRight
 relationRight z e = small (e .index) && rowRight z (e .row)
 
+-- The m rows and the relations in use; the places behind those hold 0 (SCOPE 3.13, 3.34).
 unfoldable pub numbersRight : Sizes → ℕ → List ℤ → List ℤ → Bool
 unfolding every rowRight rowsOf relationRight relationsOf isZero
 numbersRight z count rowStore relationStore =
@@ -112,7 +117,7 @@ numbersRight z count rowStore relationStore =
     && every (relationRight z) (relationsOf count relationStore)
     && isZero (drop (count * relationLength) (take relationNeed relationStore))
 
--- The number of the first check that fails, or 0.
+-- The number of the first check that fails, or 0 (SCOPE 3.31).
 unfoldable pub checkStores : Sizes → ℕ → List ℤ → List ℤ → ℕ
 unfolding sizesRight countRight lengthsRight numbersRight
 checkStores z count rowStore relationStore =
@@ -132,7 +137,7 @@ Shaped b c k r =
 abbrev pub StoreRow : Row → Type 0
 StoreRow = Shaped blockCount columnCount coefficientCount
 
--- What the checks of document 01 let through, as rows and relations.
+-- What the checks of a call let through, as rows and relations (SCOPE 3.32, 3.34).
 pub record Valid (z : Sizes) (rows : List Row) (relations : List Relation) : Type 0 where
   pub sizes : T (sizesRight z)
   pub row-count : length rows ≡ z .m

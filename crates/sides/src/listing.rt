@@ -23,7 +23,7 @@ pub fn save_relation(relations: &mut [i64], k: usize, n0: i64, row: [i64; 320])
     rows::stores::save(relations, at + 1, row);
 }
 
-// On the trailing side from the largest root down, so that n0 as given back ascends.
+// On the trailing side from the largest root down, so that n0 as given back ascends (SCOPE 2.33).
 fn root_at(found: roots::RootList, trailing: bool, k: usize) -> i64
     requires { ⌜ (k < found .count) × (found .count ≤ 16) × (length (found .values) ≡ 16) ⌝ }
     ensures { λ r. ⌜ r ≡ getD (listing (sideOf trailing) (held found)) k (pos 0) ⌝ }
@@ -37,7 +37,7 @@ fn root_at(found: roots::RootList, trailing: bool, k: usize) -> i64
     }
 }
 
-// "For every integer root n0 of g, once each, list the relation "row i at n0"", from place `count` on.
+// A relation for each of the roots of g, the row at it, from place `count` on (SCOPE 2.3, 2.31).
 pub fn list_roots(
     relations: &mut [i64],
     count: usize,

@@ -4,7 +4,7 @@ ghost use Rattle.rules.specs.Stores.{rowNeed};
 ghost use Rattle.sides.specs.Lent.{Within, Listing};
 ghost use Rattle.sides.specs.MirrorLaws.{RowsMirrored, RelationsMirrored};
 
-// "replace n by -n, block s by -s" in every row.
+// Block -s for s and -n for n in every row (SCOPE 2.91).
 pub fn mirror_rows(store: &mut [i64], m: usize, span: usize)
     requires { ⌜ (span ≤ 4) × Within (rowNeed m) (now store) ⌝ }
     ensures { λ _. ⌜ RowsMirrored m span (now (store .entry)) (now (store .exit)) ⌝ }
@@ -18,7 +18,7 @@ pub fn mirror_rows(store: &mut [i64], m: usize, span: usize)
     }
 }
 
-// The same in every relation, and "n0 by -n0".
+// The same in every relation, and -n0 for n0 (SCOPE 2.91).
 pub fn mirror_relations(store: &mut [i64], count: usize, span: usize)
     requires { ⌜ (span ≤ 4) × Listing count (now store) ⌝ }
     ensures { λ _. ⌜ RelationsMirrored count span (now (store .entry)) (now (store .exit)) ⌝ }

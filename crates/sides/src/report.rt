@@ -48,8 +48,8 @@ fn furthest_root(p: &[i64], trailing: bool) -> roots::RootAnswer
     }
 }
 
-// "whether any diagonal polynomial of the output has an integer root, and the largest integer root among them all", on the
-// trailing side the smallest.
+// The greatest integer at which a diagonal polynomial of the output vanishes, if there is one (SCOPE 2.81); on the
+// trailing side the least (SCOPE 2.93).
 pub fn report(
     store: &[i64],
     m: usize,

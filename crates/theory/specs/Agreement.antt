@@ -1,4 +1,5 @@
--- Demand 3's agreement on both sides: past the reported root, D vectors of a solution settle all that follow.
+-- Demand 3's agreement on both sides: past the reported root, D vectors of a solution settle all that follow
+-- (SCOPE 2.116, 2.117).
 --
 -- Main statements
 --   triangular-rows, diagonal-nonzero   the settled rows of a valid system can be substituted back, and no diagonal polynomial is zero
@@ -89,8 +90,7 @@ module _ (m D : ℕ) (s : State) (triangular : TriangularRows m D (s .rows) (s .
   unfolding entry leadingBlock diagonalPlace
   nonzero-past n past j h = past-report leading D s nonzero n past (diagonalEntry leading D s j) (member j h)
 
-  -- "Demand 3's agreement, leading side: for every equation index n past the reported root, or any n with "no", two of the
-  -- demand's sequences that are equal at indices n + t to n + l - 1 (none if D = 0) are equal at every index from n + t on."
+  -- For n above the report, equal at n + t to n + l - 1 means equal from n + t upward (SCOPE 2.116).
   pub leading-agreement : (l t : ℤ) → l ≡ t +ℤ pos D → (z y : Sequence)
       → All (SatisfiesEquation l z) (s .rows) → All (SatisfiesEquation l y) (s .rows)
       → (n : ℤ) → Past leading (report leading D s) n → SameBetween m z y (n +ℤ t) (n +ℤ l)
@@ -125,8 +125,7 @@ module _ (m D : ℕ) (s : State) (triangular : TriangularRows m D (s .rows) (s .
     unfolding mirrorState Satisfies All
     reflected l t span z a = mirror-satisfies-back D l t span z (s .rows) [] spans tt .0 (a, tt) .0
 
-    -- "Trailing side: for every n below the reported root, or any n with "no", two that are equal at n + t + 1 to n + l are
-    -- equal at every index up to n + l."
+    -- For n below the report, equal at n + t + 1 to n + l means equal from n + l downward (SCOPE 2.117).
     pub trailing-agreement : (l t : ℤ) → l ≡ t +ℤ pos D → (z y : Sequence)
         → All (SatisfiesEquation l z) (mirrorState D s .rows) → All (SatisfiesEquation l y) (mirrorState D s .rows)
         → (n : ℤ) → Past trailing (report trailing D (mirrorState D s)) n

@@ -228,8 +228,7 @@ module _ {m D : ℕ} {rows : List Row} {order : List ℕ} (triangular : Triangul
       last : (k +ℤ l) ≤ℤ i → Same m z y i
       last q = subst (Same m z y) (sym (only-between i k l q b)) (next-vector k d (λ j p. s j (≤ℤ-trans (+ℤ-≤ℤ-right t h) p)))
 
-  -- "two of the demand's sequences that are equal at indices n + t to n + l - 1 (none if D = 0) are equal at every index
-  -- from n + t on"
+  -- Sequences equal at the D indices from n + t to n + l - 1 are equal from n + t upward (SCOPE 2.116).
   pub agreement : (n : ℤ) → ((k : ℤ) → n ≤ℤ k → NonzeroAt m rows order k)
       → SameBetween m z y (n +ℤ t) (n +ℤ l) → (i : ℤ) → (n +ℤ t) ≤ℤ i → Same m z y i
   agreement n d s i h = ⊎-elim beyond (s i h) (≤ℤ-or-> (n +ℤ l) i)

@@ -264,7 +264,7 @@ module _ (l : ℤ) (rows : List Row) where
             (λ x. eval-combination l rows (D .reach) (D .multiplier) s c x ∙ D .vanishes (delta (x +ℤ s) c) x);
       }
 
-  -- "Dependent means that a nonzero combination of shifted equations vanishes": by coefficients or by values.
+  -- A combination that vanishes (SCOPE 2.102) does so by coefficients or by values.
   pub dependent-values : Dependent l rows ↔ DependentValues (length rows) (rowValues l rows)
   dependent-values = (values-of-dependent, dependent-of-values)
 

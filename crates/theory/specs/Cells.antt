@@ -204,7 +204,7 @@ zero-blocks (b ∷ bs) = both (zero-blocks bs)
       λ h. let none = widthOf-none b bs .0 h in and-i (zeroBlock b) (every zeroBlock bs) (none .1) (rec .1 (none .0)),
     )
 
--- "The width [..] of a zero row, 0."
+-- The zero rows are those of width 0 (SCOPE 2.1).
 pub zeroRow-width : (r : Row) → T (zeroRow r) ↔ (width r ≤ 0)
 unfolding zeroRow width
 zeroRow-width r = zero-blocks (r .blocks)
@@ -259,7 +259,7 @@ totalWidth-rows (r ∷ l) h = step (width r) (h .0) (totalWidth-rows l (h .1))
 
 -- ---- the blocks and columns in use
 
--- "Positions outside the system's blocks and columns hold 0."
+-- What is unused is zero (SCOPE 3.3).
 pub unusedZero-iff : (m D : ℕ) (r : Row)
     → T (unusedZero m D r) ↔ (All (λ b. T (zeroBlock (drop m b))) (r .blocks) × All (λ b. T (zeroBlock b)) (drop (suc D) (r .blocks)))
 unfolding unusedZero

@@ -1,7 +1,5 @@
--- Demand 3, sentence by sentence, for both sides: "For every accepted system, either side: the same two-sided integer
--- sequences satisfy input and output; each diagonal polynomial is nonzero; solutions that agree on D successive vectors past
--- the reported root agree ever after. No dependent system is accepted, and refusal 6 is given only where a nonzero combination
--- of shifted equations vanishes."
+-- Demand 3, sentence by sentence, for both sides (SCOPE 2.114 to 2.119), and what else is proved of a run
+-- (SCOPE 9.26 to 9.28).
 --
 -- Main definitions
 --   Accepted side z rows relations s   the system is valid and the whole run on that side accepts it with the final state s
@@ -43,7 +41,7 @@ use Rattle.theory.specs.Trailing.{trailing-dependent}
 use Rattle.theory.specs.Settled.{settled-triangular, settled-rows, Diagonal, settled-leading, settled-trailing, settled-diagonal}
 use Rattle.theory.specs.Settled.{settled-valid, nonzero-of-diagonal}
 
--- "A run accepts a system if it returns no refusal." Valid is exactly what the checks of document 01 let through.
+-- The run returns no refusal (SCOPE 2.111). Valid is exactly what the checks of a call let through.
 pub record Accepted (side : Side) (z : Sizes) (rows : List Row) (relations : List Relation) (s : State) : Type 0 where
   pub valid : Valid z rows relations
   pub accepts : wholeRun side (span z) rows relations ≡ done s
@@ -90,39 +88,39 @@ valid-widths {z} {rows} v =
     (every-all (rowRight z) rows .0 (v .rows-right))
 
 module _ {side : Side} {z : Sizes} {rows : List Row} {relations : List Relation} {s : State} (a : Accepted side z rows relations s) where
-  -- 1. "the same two-sided integer sequences satisfy input and output"
+  -- 1. A sequence satisfies the input exactly if it satisfies the output (SCOPE 2.114).
   pub same-sequences : (y : Sequence) → Satisfies (z .l) rows relations y ↔ Satisfies (z .l) (s .rows) (s .relations) y
   same-sequences y = sequences side (a .valid) (a .accepts) y
 
-  -- 2. "each diagonal polynomial is nonzero"
+  -- 2. The output is triangular, and no diagonal polynomial is zero (SCOPE 2.71, 2.73, 2.115).
   pub diagonal-nonzero : Diagonal side (z .m) (span z) s
   diagonal-nonzero = triangular side (a .valid) (a .accepts)
 
-  -- 4. "No dependent system is accepted"
+  -- 4. An accepted system is not dependent (SCOPE 2.118).
   pub accepted-independent : Dependent (z .l) rows → ⊥
   accepted-independent d = independent side (a .valid) (a .accepts) d
 
-  -- 6. "so there are at most m × D shifts"
+  -- 6. An accepted run has made no more than m × D shifts (SCOPE 2.65).
   pub shifts-bounded : s .shifts ≤ z .m * span z
   shifts-bounded =
       subst (λ n. s .shifts ≤ n * span z) (a .valid .row-count)
       (wholeRun-shifts side (span z) rows relations s (valid-widths (a .valid)) (a .accepts))
 
-  -- 7. "Root report: whether any diagonal polynomial of the output has an integer root, and the largest integer root among
-  -- them all"; on the trailing side "the smallest integer root among them all".
+  -- 7. The report is "no" exactly if no diagonal polynomial of the output vanishes at an integer; a reported root is
+  -- the greatest of all, on the trailing side the least (SCOPE 2.81, 2.93).
   pub report-no : (report side (span z) s ≡ none) ↔ Rootless (diagonal side (span z) s)
   report-no = report-none side (span z) s (nonzero-of-diagonal side (z .m) (span z) s diagonal-nonzero)
 
   pub report-root : {r : ℤ} → report side (span z) s ≡ some r → FurthestRoot side (diagonal side (span z) s) r
   report-root e = report-some side (span z) s (nonzero-of-diagonal side (z .m) (span z) s diagonal-nonzero) e
 
-  -- 8. Every coefficient and every n0 of the output lies within ±C, every degree is at most 15, unused positions stay zero.
+  -- 8. Every coefficient and every n0 of the output lies within ±C, every degree is at most 15, unused positions stay
+  -- zero (SCOPE 9.27).
   pub output-valid : Valid z (s .rows) (s .relations)
   output-valid = valid-output side (a .valid) (a .accepts)
 
--- 3. "solutions that agree on D successive vectors past the reported root agree ever after"
--- "leading side: for every equation index n past the reported root, or any n with "no", two of the demand's sequences that are
--- equal at indices n + t to n + l - 1 (none if D = 0) are equal at every index from n + t on."
+-- 3. Leading side: where n lies above the reported root, or anywhere if the report is "no", sequences that satisfy the
+-- system and are equal at the D indices from n + t to n + l - 1 are equal from n + t upward (SCOPE 2.116).
 pub agreement-leading : {z : Sizes} {rows : List Row} {relations : List Relation} {s : State} → Accepted leading z rows relations s
     → (y w : Sequence) → Satisfies (z .l) rows relations y → Satisfies (z .l) rows relations w
     → (n : ℤ) → Past leading (report leading (span z) s) n
@@ -135,8 +133,8 @@ agreement-leading {z} {s = s} a y w hy hw =
     (nonzero-of-diagonal leading (z .m) (span z) s (settled-diagonal b))
     (z .l) (z .t) (span-sum z (a .valid .sizes)) y w (same-sequences a y .0 hy .0) (same-sequences a w .0 hw .0)
 
--- "Trailing side: for every n below the reported root, or any n with "no", two that are equal at n + t + 1 to n + l are equal
--- at every index up to n + l."
+-- Trailing side: where n lies below the reported root, or anywhere with "no", such sequences that are equal at the D
+-- indices from n + t + 1 to n + l are equal from n + l downward (SCOPE 2.117).
 pub agreement-trailing : {z : Sizes} {rows : List Row} {relations : List Relation} {s : State} → Accepted trailing z rows relations s
     → (y w : Sequence) → Satisfies (z .l) rows relations y → Satisfies (z .l) rows relations w
     → (n : ℤ) → Past trailing (report trailing (span z) s) n
@@ -146,7 +144,7 @@ agreement-trailing {z} a y w hy hw n past =
     let m = settled-trailing (a .valid) (a .accepts) in
     agrees-back (a .valid) (m .settled) y w hy hw n (subst (λ x. Past trailing (report trailing (span z) x) n) (sym (m .back)) past)
 
--- 5. "refusal 6 is given only where a nonzero combination of shifted equations vanishes"
+-- 5. A system that is refused with 6 is dependent (SCOPE 2.119).
 pub refused-dependent : (side : Side) {z : Sizes} {rows : List Row} {relations : List Relation} → Valid z rows relations
     → wholeRun side (span z) rows relations ≡ refused 6 → Dependent (z .l) rows
 unfolding wholeRun leadingRun start
@@ -154,7 +152,7 @@ refused-dependent leading {z} {rows} {relations} v e =
     run-dependent (z .l) leading (enough rows) (start rows relations) (valid-shapes v) (triangular-start rows relations) e
 refused-dependent trailing v e = trailing-dependent v e
 
--- 6. Every run on a valid system ends in an acceptance or in one of the refusals 6 to 9.
+-- 6. Every run on a valid system ends in an acceptance or in one of the refusals 6 to 9 (SCOPE 9.26).
 pub data Ended : Outcome → Type 0 where
   accepted : (s : State) → Ended (done s)
   six : Ended (refused 6)
@@ -191,15 +189,15 @@ run-ends side {z} {rows} {relations} v = cases (wholeRun side (span z) rows rela
     cases (done s) e = accepted s
     cases (refused n) e = whole-refused side (span z) rows relations n e
 
--- 9. "For each settled row j from 1 to w [..] Then the next j": after a combination with settled row j, row i is zero at c(1) to
--- c(j), so the next settled row that a step works with comes after j.
+-- 9. After a combination with settled row j, row i is zero at c(1) to c(j), so the next settled row that a step works
+-- with comes after j (SCOPE 2.26).
 pub next-row-later : {side : Side} (rows : List Row) (relations : List Relation) {k : ℕ} {s : State} → Chain side (start rows relations) k s
     → (j : ℕ) → j < current s → current s < length (s .rows) → MetZeroBelow s j → T (not (isZero (met s j)))
     → (r : Row) → limitDegrees (combination s j) ≡ within r → MetZeroBelow (putRow (listed side s j) (current s) r) (suc j)
 next-row-later {side} rows relations {s = s} c j below more clear meets =
     combined-advances s j (triangular-chain c (triangular-start rows relations)) below more clear meets side
 
--- "A zero row: refusal 6. Then the next j": the row that a combination has made zero is refused by the next step.
+-- The row that a combination has made zero is refused by the next step (SCOPE 2.45).
 pub zero-row-refused : (side : Side) (s : State) → current s < length (s .rows) → T (zeroRow (rowAt s (current s))) → step side s ≡ refused 6
 unfolding step workOn
 zero-row-refused side s below zeros =

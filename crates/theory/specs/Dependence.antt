@@ -89,14 +89,14 @@ module _ (l : ℤ) where
   zero-current-dependent s below zeros = zero-row-dependent l (s .rows) (current s) below zeros
 
   module _ (side : Side) (k : ℕ) (s : State) (shaped : StateShaped s) (t : Triangular s) where
-    -- Refusal 6: "dependent".
+    -- A system that is refused with 6 is dependent (SCOPE 2.119).
     pub refused-dependent : run side k s ≡ refused 6 → Dependent l (s .rows)
     refused-dependent e =
         let (j, u, c, f) = run-refused side k s 6 e in
         let (below, zeros) = step-refused-6 side u f in
         chain-dependent shaped t c .1 (zero-current-dependent u below zeros)
 
-    -- An accepted system is not dependent.
+    -- An accepted system is not dependent (SCOPE 2.118).
     pub done-independent : (s' : State) → run side k s ≡ done s' → Dependent l (s .rows) → ⊥
     done-independent s' e d =
         let (j, c, all) = run-done side k s s' e in

@@ -1,4 +1,4 @@
--- Every run ends: the fuel suffices, and an accepted run makes at most m × D shifts.
+-- Every run ends: the fuel suffices, and an accepted run makes at most m × D shifts (SCOPE 9.26).
 --
 -- Main definitions
 --   measure s z           falls at each step, z being a number of settled rows that the current row is known not to meet
@@ -7,7 +7,7 @@
 --   stepped-width         the shifts made and the total width together never rise
 --   stepped-measure, chain-measure   the measure falls at each step, so it bounds the number of steps
 --   run-ends, enough-ends, wholeRun-ends   a run with enough fuel is not still going at its end
---   shift-bound, wholeRun-shifts           "there are at most m × D shifts"
+--   shift-bound, wholeRun-shifts           an accepted run has made no more than m × D shifts (SCOPE 2.65)
 use Prim.Native.Nat.{ℕ, suc, _+_, _*_, _-_, _≤_, _<_}
 use mathlib.Core.Path.{_≡_, refl, sym, _∙_, ap, ap₂, subst}
 use mathlib.Core.Logic.{_≢_}

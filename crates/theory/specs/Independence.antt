@@ -152,7 +152,7 @@ module _ (l : ℤ) (rows : List Row) (order : List ℕ) (pivots : PivotRows (len
   all-clear zero J p b = absurd (omega arith)
   all-clear (suc t) J p b = first-clear J b (λ I above inside. all-clear t I (omega arith) inside) (length rows) (le-refl (length rows))
 
--- "row j is zero at columns c(1) to c(j - 1) and nonzero at c(j)": then no nonzero combination vanishes.
+-- Where row j is zero at c(1) to c(j - 1) and nonzero at c(j) (SCOPE 2.71), no nonzero combination vanishes.
 pub triangular-independent : (l : ℤ) (rows : List Row) (order : List ℕ) → PivotRows (length rows) order rows → Dependent l rows → ⊥
 triangular-independent l rows order pivots D =
     let (j, below, e) = place-of N (D .shift) (D .shift-within) in

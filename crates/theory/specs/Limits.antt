@@ -3,7 +3,7 @@
 -- Main definitions
 --   StateShaped s       every row and every relation of s has the shape of a row in a store
 --   Small a             a is within ±C
---   StateRight z s      every row and every relation of s passes document 01's check of the numbers
+--   StateRight z s      every row and every relation of s passes the check of the numbers (SCOPE 3.34)
 --
 -- Main statements
 --   smallRow-iff                  a row is within ±C exactly if its coefficients are
@@ -46,7 +46,7 @@ use Rattle.theory.specs.ShiftUp.{shiftUp-shaped, shiftUp-unused}
 
 -- ---- sizes
 
--- "within ±C"
+-- Within ±C (SCOPE 1.4).
 abbrev pub Small : ℤ → Type 0
 Small a = T (small a)
 

@@ -1,4 +1,5 @@
--- The mirror: -n for n, block -s for s, -n0 for n0. The trailing side is the leading side of the mirrored system.
+-- The mirror: -n for n, block -s for s, -n0 for n0. The trailing side is the leading side of the mirrored system
+-- (SCOPE 2.91).
 --
 -- Main definitions
 --   turn D l               the first D + 1 members in reverse order
@@ -295,7 +296,7 @@ module _ (D : ℕ) (l t : ℤ) (span : l ≡ t +ℤ pos D) (z : Sequence) where
       same : valueOf (negℤ t) (mirrorRow D (e .row)) (reflect z) (negℤ (e .index)) ≡ valueOf l (e .row) z (e .index)
       same = mirror-value D l t span (e .row) s z (negℤ (e .index)) ∙ ap (valueOf l (e .row) z) (negℤ-negℤ (e .index))
 
-  -- "replace n by -n, block s by -s, n0 by -n0": the same sequences, read backwards.
+  -- The mirror is satisfied by the same sequences, read backwards.
   pub mirror-satisfies : (rows : List Row) (relations : List Relation) → All (Spans D) rows → All (λ e. Spans D (e .row)) relations
       → Satisfies l rows relations z ↔ Satisfies (negℤ t) (map (mirrorRow D) rows) (map (mirrorRelation D) relations) (reflect z)
   unfolding Satisfies
@@ -331,7 +332,7 @@ mirror-satisfies-back D l t e z rows relations a b = Iff·symm (subst₂ Same (n
 
 -- ---- sizes
 
--- m unknowns, blocks from -l to -t.
+-- m unknowns, blocks from -l to -t (SCOPE 2.92).
 abbrev pub mirrorSizes : Sizes → Sizes
 mirrorSizes z = record { m = z .m; l = negℤ (z .t); t = negℤ (z .l) }
 
@@ -483,7 +484,7 @@ module _ (z : Sizes) (rows : List Row) (relations : List Relation) (valid : Vali
   unfolding RelationFacts
   relation-right e f = mirror-relationRight z e (storeRow-reaches z (valid .sizes) (e .row) (f .0)) (f .1)
 
-  -- "Trailing side: replace n by -n, block s by -s, n0 by -n0; run the above": a valid system again.
+  -- The mirror, on which the trailing side runs, is a valid system again (SCOPE 2.91, 2.92).
   pub mirror-valid : Valid (mirrorSizes z) (map (mirrorRow (span z)) rows) (map (mirrorRelation (span z)) relations)
   mirror-valid =
       record {
@@ -574,7 +575,7 @@ mirrored-row : (D : ℕ) (rows : List Row) (i : ℕ) → getD (map (mirrorRow D)
 unfolding mirrorRow mapRow
 mirrored-row D rows i = List·getD-map (mirrorRow D) rows i noRow
 
--- "dependent" is the same for a system and its mirror.
+-- A system and its mirror are both dependent, or neither is.
 pub mirror-dependent : (D : ℕ) (l t : ℤ) → l ≡ t +ℤ pos D → (rows : List Row) → All (Spans D) rows
     → Dependent l rows ↔ Dependent (negℤ t) (map (mirrorRow D) rows)
 mirror-dependent D l t e rows a =

@@ -224,7 +224,7 @@ module _ (side : Side) (D : ℕ) (s : State) (nonzero : NonzeroDiagonal side D s
   unfolding found
   found-root m = member-root (diagonal side D s) m
 
-  -- "whether any diagonal polynomial of the output has an integer root"
+  -- The report is "no" exactly if no diagonal polynomial vanishes at an integer (SCOPE 2.81).
   pub report-none : (report side D s ≡ none) ↔ Rootless (diagonal side D s)
   report-none = (forth, back)
     where
@@ -238,7 +238,7 @@ module _ (side : Side) (D : ℕ) (s : State) (nonzero : NonzeroDiagonal side D s
       back : Rootless (diagonal side D s) → report side D s ≡ none
       back h = report-is ∙ furthest-none side found .1 (empty found (λ n m. let (p, i, e) = found-root m in h p i n e))
 
-  -- "the largest integer root among them all"; "the smallest integer root among them all"
+  -- A reported root is the greatest of all, on the trailing side the least (SCOPE 2.81, 2.93).
   pub report-some : {r : ℤ} → report side D s ≡ some r → FurthestRoot side (diagonal side D s) r
   report-some {r} e = record { attained = found-root (far .0); furthest = λ p m n h. far .1 n (root-found n m h) }
     where

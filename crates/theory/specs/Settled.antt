@@ -35,7 +35,8 @@ use Rattle.theory.specs.Mirror.{mirrorSizes, Reaches, mirror-valid, mirr
 abbrev pub pivotEntry : Side → ℕ → State → ℕ → ℕ → Polynomial
 pivotEntry side D s j c = getD (getD (getD (s .rows) j noRow .blocks) (diagonalPlace side D) []) c []
 
--- "in block l, row j is zero at columns c(1) to c(j - 1) and nonzero at c(j)", and the order is a permutation of the columns.
+-- In the block of the side, row j is zero in columns c(1) to c(j - 1) and not zero in c(j); the order is a permutation
+-- of the columns (SCOPE 2.71, 2.73, 2.115).
 pub record Diagonal (side : Side) (m D : ℕ) (s : State) : Type 0 where
   pub row-count : length (s .rows) ≡ m
   pub order-count : length (s .order) ≡ m

@@ -85,7 +85,7 @@ shiftUp-entry r c = ap isZero (entry-cell (shiftUp r) c) ∙ cell-shiftUp r 0 c
 
 -- ---- the widths
 
--- "A shift lowers the total width"
+-- A shift takes one off the sum of all widths (SCOPE 2.65).
 pub width-shiftUp : (r : Row) → 0 < width r → width r ≡ suc (width (shiftUp r))
 width-shiftUp r = width-moved r (shiftUp r) (λ i c. sym (cell-shiftUp r i c))
 

@@ -37,7 +37,7 @@ use Rattle.rules.specs.Elimination.{limitDegrees, rowAt, putRow, putLimited, li
 use Rattle.rules.specs.Elimination.{multipliersAt, narrowFirst, combineStep, eliminateStep, shiftStep, settleOrShift, meet, workOn, step}
 use Rattle.rules.specs.Elimination.{andThen, run}
 
--- The row that a step works on: row i = w + 1 of document 01, counted from 0.
+-- The row that a step works on, row i = w + 1 (SCOPE 2.2), counted from 0.
 abbrev pub current : State → ℕ
 current s = length (s .order)
 
@@ -228,7 +228,7 @@ pub listed-order : (side : Side) (s : State) (j : ℕ) → listed side s j .orde
 unfolding listRelations
 listed-order side s j = order-narrowFirst s (current s) j
 
--- "Input relations stay first, in their order."
+-- What is listed comes behind the relations that are there (SCOPE 2.3).
 pub listed-relations : (side : Side) (s : State) (j : ℕ)
     → listed side s j .relations ≡ s .relations ++ rootRelations side (multipliersFor s j .g) (rowAt (exchanged s j) (current s))
 unfolding listRelations
@@ -411,7 +411,7 @@ view-done (zero-row h z) e = absurd (done≢refused (sym e))
 view-done (over-limit n h z k) e = absurd (done≢refused (sym e))
 view-done (goes-on p) e = absurd (going≢done e)
 
--- Document 01's refusals of a run.
+-- The refusals of a run (SCOPE 6.6 to 6.9).
 abbrev pub Refusal : State → ℕ → Type 0
 Refusal s n = ((n ≡ 6) × T (zeroRow (rowAt s (current s)))) ⊎ ((n ≡ 7) ⊎ (n ≡ 8) ⊎ (n ≡ 9))
 

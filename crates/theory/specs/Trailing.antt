@@ -1,4 +1,4 @@
--- Demand 3 on the trailing side, through the mirror.
+-- Demand 3 on the trailing side, through the mirror (SCOPE 2.91, 2.114 to 2.119).
 --
 -- Main statements, of a run on the mirrored system that has led to u, all of whose rows are settled:
 --   mirrored-sequences      a sequence satisfies the input exactly if it satisfies the mirror of u

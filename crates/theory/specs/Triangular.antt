@@ -113,7 +113,7 @@ combined-zero s j r e =
     let b = rowAt (exchanged s j) j in
     subst (ZeroWhere (combine g h a b)) (sym (limitDegrees-within (combination s j) r e .2)) (combinedRow-zero g h a b)
 
--- ---- the step is the document's loop over j
+-- ---- the step is rule 2's course over the settled rows (SCOPE 2.26)
 
 module _ (s : State) (j : ℕ) (t : Triangular s) (below : j < current s) (more : current s < length (s .rows))
     (clear : MetZeroBelow s j) (meets : T (not (isZero (met s j)))) where

@@ -13,7 +13,7 @@ pub fn is_zero_row(row: [i64; 320]) -> bool
     polynomials::content::is_zero(&row[..])
 }
 
-// "The width of a nonzero row is l - s + 1, s its lowest nonzero block; of a zero row, 0."
+// The blocks from l down to the lowest nonzero one are counted; there is none in a zero row (SCOPE 2.1).
 pub fn width(row: [i64; 320]) -> usize
     ensures { λ r. ⌜ r ≡ Rows.width (rowOf row) ⌝ }
 {
@@ -30,7 +30,8 @@ pub fn width(row: [i64; 320]) -> usize
     0
 }
 
-// "the smallest column with a nonzero entry": the found column comes out of the loop by break; 4 if the leading block is zero.
+// The lowest column with a nonzero leading entry (SCOPE 2.51) comes out of the loop by break (SCOPE 8.8); 4 if the
+// leading block is zero.
 pub fn first_column(row: [i64; 320]) -> usize
     ensures { λ r. ⌜ r ≡ foundOr 4 (Rows.firstNonzero (Rows.leadingBlock (rowOf row))) ⌝ }
 {
@@ -47,7 +48,7 @@ pub fn first_column(row: [i64; 320]) -> usize
     column
 }
 
-// The first settled row whose column meets a nonzero leading entry of the row; `settled` if there is none.
+// The first settled row whose column meets a nonzero leading entry of the row, or `settled` (SCOPE 2.21, 2.26).
 pub fn first_met(row: [i64; 320], order: [usize; 4], settled: usize) -> usize
     requires { ⌜ (settled ≤ 4) × Columns order ⌝ }
     ensures { λ r. ⌜ r ≡ foundOr settled (Rows.firstNonzero (map (Rows.entry (rowOf row)) (take settled order))) ⌝ }

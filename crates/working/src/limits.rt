@@ -10,7 +10,7 @@ pub struct Worked {
     pub row: [i64; 320],
 }
 
-// "a coefficient outside ±C is refusal 8"
+// A coefficient past ±C is refused with 8 (SCOPE 2.44, 2.63).
 pub fn limited(row: [i64; 320]) -> Worked
     ensures { λ r. ⌜ r .refusal ≡ refusalOf (limitCoefficients (rowOf row)) ⌝ }
     ensures { λ r. ⌜ r .row ≡ numbersOf (limitCoefficients (rowOf row)) ⌝ }

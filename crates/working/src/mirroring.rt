@@ -28,7 +28,7 @@ fn alternated(a: i64, power: usize) -> i64
     }
 }
 
-// "replace n by -n, block s by -s"
+// The row with block -s for s and -n for n (SCOPE 2.91).
 pub fn mirrored(row: [i64; 320], span: usize) -> [i64; 320]
     requires { ⌜ (span ≤ 4) × T (every small row) ⌝ }
     ensures { λ r. ⌜ r ≡ coefficientsOf (mirrorRow span (rowOf row)) ⌝ }

@@ -45,7 +45,7 @@ fn moved_up(table: &[[i64; 16]; 16], row: &[i64]) -> [i64; 320]
     moved
 }
 
-// "every block moves up by one and n becomes n + 1 in the row [..]; a coefficient outside ±C is refusal 8"
+// The row one block further up, with n + 1 for n; a coefficient past ±C is refused with 8 (SCOPE 2.61, 2.63).
 pub fn shifted(row: [i64; 320]) -> crate::limits::Worked
     requires { ⌜ T (every small row) ⌝ }
     ensures { λ r. ⌜ r .refusal ≡ refusalOf (limitCoefficients (shiftUp (rowOf row))) ⌝ }
