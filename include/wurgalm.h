@@ -1,26 +1,29 @@
 /* The recurrence regulariser for C: the functions of the static library that `rt staticlib exports` writes
- * (target/staticlib/libexports.a). Their contracts are proved: crates/exports/src/lib.rt.
+ * (target/staticlib/libexports.a). Their contracts are proved: crates/exports/src/lib.rt. What they promise stands in
+ * docs/SCOPE.md, whose rules are cited here by their numbers.
  *
- * A store is lent as a pointer and the number of its members. The pointer is not null, also where that number is 0, and is
- * aligned; no two stores of one call overlap. A store that a function takes as `const` is only read. A store of numbers may be
- * longer than needed: members past the needed part make no difference, and stay.
+ * A store is lent as a pointer and the number of its members. The pointer is not null, also where that number is 0, and
+ * is aligned; no two stores of one call overlap. A store that a function takes as `const` is only read. A store of
+ * numbers may be longer than needed: members past the needed part make no difference, and stay (SCOPE 3.12).
  *
- * The row store needs m x 320 numbers: m rows of 320, block l first, four columns a block, 16 coefficients a column, lowest power
- * first. The relation store needs 16 x 321: n0 and then a row, `count` relations, zeros at the places past them. Positions outside
- * the system's blocks and columns hold 0.
+ * The row store needs m x 320 numbers: for each row five blocks from block l downward, in each block four columns, in
+ * each column 16 coefficients from power 0 upward (SCOPE 3.2, 3.11). The relation store needs 16 x 321: `count`
+ * relations, each n0 and then a row, and zeros at the places past them (SCOPE 3.4, 3.13). Positions of blocks below t
+ * and of columns above m hold 0 (SCOPE 3.3).
  *
- * Every function returns the number of a refusal, or 0:
- *   1  a store too short
- *   2  a size, block, column, count or order outside its range
- *   3  a token of a sheet that is no number, a wrong separator or term order, a zero last coefficient
- *   4  the bytes of a sheet end early, or go on after the fourth section
- *   5  a coefficient or n0 outside +-268,435,455, or a nonzero number at an unused position of a store
- *   6  a dependent system
- *   7  a degree past 15
- *   8  a coefficient outside +-268,435,455 in the course of a run
- *   9  a seventeenth relation
- * On 1 to 5 no store is changed (but see `wurgalm_batch`). On 6 to 9 the needed part of each store that the function may write is zero.
- * Sizes, count and order are checked first (2), then the lengths of the stores (1), then their numbers (5). */
+ * Every function returns the number of a refusal, or 0 (SCOPE 6.1 to 6.9):
+ *   1  a store has too few members
+ *   2  a size, block, column, count or order is out of its range
+ *   3  something in a sheet is not a number; or a separator, the order of the terms or a zero last coefficient is wrong
+ *   4  the bytes of a sheet end too early, or go on behind its last line
+ *   5  a coefficient or n0 is past +-268,435,455, or an unused position of a store does not hold 0
+ *   6  the system is dependent
+ *   7  a degree has passed 15
+ *   8  a coefficient has passed +-268,435,455 in the course of the run
+ *   9  a seventeenth relation would have to be listed
+ * On 1 to 5 no store is changed (SCOPE 6.32; but see `wurgalm_batch`). On 6 to 9 the needed part of each store that the
+ * function may write is zero (SCOPE 6.33). Sizes, count and order are checked first (2), then the lengths of the stores
+ * (1), then their numbers (5) (SCOPE 3.31). */
 #ifndef WURGALM_H
 #define WURGALM_H
 
@@ -38,44 +41,47 @@ extern "C" {
 #define WURGALM_RESULT 8
 
 /* The elimination on the leading side.
- * In: `rows` and `relations` hold a system of m unknowns (1 to 4) with blocks t to l (-64 <= t <= l <= 64, l - t <= 4) and `count`
- * relations (0 to 16).
- * Out: `rows` and `relations` hold the output; `result` (8 numbers): the relation count, the shifts, the columns c(1) to c(4) counted
- * from 1 with zeros past c(m), 1 or 0 for whether a diagonal polynomial has an integer root, and the largest such root (0 for none).
+ * In: `rows` and `relations` hold a system of m unknowns (1 to 4) with blocks t to l (-64 <= t <= l <= 64, l - t <= 4)
+ * and `count` relations (0 to 16) (SCOPE 1.1, 1.2, 1.23).
+ * Out: `rows` and `relations` hold the output; `result` (8 numbers, SCOPE 3.52): the relation count, the shifts, the
+ * columns c(1) to c(4) counted from 1 with zeros past c(m), 1 or 0 for whether a diagonal polynomial has an integer
+ * root, and the largest such root (0 for none).
  * Returns 0, 1, 2, or 5 to 9. */
 uint8_t wurgalm_run_leading(int64_t *rows, size_t rows_length, int64_t *relations, size_t relations_length, size_t m, int64_t l,
                             int64_t t, size_t count, int64_t *result, size_t result_length);
 
-/* The elimination on the trailing side: the same, with the smallest root in place of the largest. */
+/* The elimination on the trailing side: the same, with the smallest root in place of the largest (SCOPE 2.91, 2.93). */
 uint8_t wurgalm_run_trailing(int64_t *rows, size_t rows_length, int64_t *relations, size_t relations_length, size_t m, int64_t l,
                              int64_t t, size_t count, int64_t *result, size_t result_length);
 
 /* A sheet read into stores.
  * In: the bytes of the sheet.
- * Out: `rows` and `relations` hold the system; `result` (8 numbers): m, l, t, the relation count, and the four columns of the order
- * line, zeros past its end.
- * Returns 0, or 1 to 5: the sheet's first fault in byte order (2 to 5), and 1 for a store too short, the result store too, only
- * when the sheet is otherwise whole. */
+ * Out: `rows` and `relations` hold the system; `result` (8 numbers, SCOPE 3.52): m, l, t, the relation count, and the
+ * four columns of the order line, zeros past its end.
+ * Returns 0, or the number of the sheet's first fault, 2 to 5 (SCOPE 4.37). Only a sheet without a fault gets 1, if a
+ * store is too short for it, the result store too (SCOPE 3.53, 4.42). */
 uint8_t wurgalm_read_sheet(const uint8_t *bytes, size_t bytes_length, int64_t *rows, size_t rows_length, int64_t *relations,
                            size_t relations_length, int64_t *result, size_t result_length);
 
 /* A system written as a sheet.
- * In: `rows`, `relations`, m, l, t and `count` as for a run; `order` (4 numbers): all 0 for no order, otherwise a permutation of 1 to
- * m and zeros past its end.
- * Out: `bytes` begins with the sheet; `result` (1 number): the length of the sheet in bytes.
- * Returns 0, 1, 2 or 5; 1 for a byte store that is too short comes last. */
+ * In: `rows`, `relations`, m, l, t and `count` as for a run; `order` (4 numbers): all 0 for no order, otherwise a
+ * permutation of 1 to m and zeros past its end (SCOPE 3.55, 4.53).
+ * Out: `bytes` begins with the sheet; `result` (1 number, SCOPE 3.52): the length of the sheet in bytes.
+ * Returns 0, 1, 2 or 5; 1 for a byte store that is too short comes after all else (SCOPE 4.54). */
 uint8_t wurgalm_write_sheet(const int64_t *rows, size_t rows_length, const int64_t *relations, size_t relations_length, size_t m,
                             int64_t l, int64_t t, size_t count, const int64_t *order, size_t order_length, uint8_t *bytes,
                             size_t bytes_length, int64_t *result, size_t result_length);
 
 /* A whole batch worked.
- * In: the bytes of the batch, a line with the sheet count (0 to 1,000) and then for each sheet a line `client bytes` (1 to 8; 0 to 32,768)
- * and that many bytes.
- * Out: `output` begins with what the batch program writes for it: per sheet `0` and the leading-side sheet, or the refusal number alone on a
- * line; last, `accepted refused`. A broken batch is worked too: its output ends in the line `3`. Bytes past the output stay. `result`
- * (1 number): the length of the output in bytes.
- * Returns 0 or 1. A result store of no number is 1 before everything, and no store is changed. An output store that is too short is 1
- * in the course of the work: then all of `output` and the number of `result` are zero. 65,538 bytes a sheet and 64 more are enough. */
+ * In: the bytes of the batch: a line with the number of sheets, 0 to 1,000, and for each sheet a line with its client,
+ * 1 to 8, and its length, 0 to 32,768, and then its bytes (SCOPE 5.1, 5.2).
+ * Out: `output` begins with what the batch program writes for it: for each sheet a line `0` and the sheet that the
+ * leading side gives, or a line with the refusal; at the end a line with the numbers of accepted and of refused sheets
+ * (SCOPE 5.11, 5.12). A broken batch is worked too: its output ends in the line `3` (SCOPE 5.21, 5.32). Bytes past the
+ * output stay. `result` (1 number): the length of the output in bytes.
+ * Returns 0 or 1. A result store of no number is 1 before everything, and no store is changed. An output store that is
+ * too short is 1 in the course of the work: then all of `output` and the number of `result` are zero. 65,538 bytes a
+ * sheet and 64 more are enough. */
 uint8_t wurgalm_batch(const uint8_t *input, size_t input_length, uint8_t *output, size_t output_length, int64_t *result,
                       size_t result_length);
 

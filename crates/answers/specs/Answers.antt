@@ -57,11 +57,12 @@ pub record AnswerCall : Type 0 where
 unfoldable pub callOf : declared.AnswerResult → List ℕ → AnswerCall
 callOf r store = record { refusal = r .refusal; length = r .length; store = store }
 
--- "Every refusal returns its number, all other fields 0"; the lent store is unchanged.
+-- A refusal has its number and the length 0, and the lent store is unchanged (SCOPE 5.31).
 unfoldable pub unanswered : ℕ → List ℕ → AnswerCall
 unanswered n store = record { refusal = n; length = 0; store = store }
 
--- The sheet that answers stands at the start of the store, and the bytes past it stay; a store too short for it is refusal 1.
+-- The sheet that answers stands at the start of the store, and the bytes past it stay; a store too short for it is
+-- refusal 1 (SCOPE 5.31).
 unfoldable pub answered : Answer → List ℕ → AnswerCall
 unfolding unanswered overwrite
 answered (accepted bytes) store =
@@ -87,7 +88,7 @@ sized-right bytes = go (leb (length bytes) mostBytes) (leb→le (length bytes) m
     go true h = right-accepted (h tt)
     go false h = right-refused 0 (omega arith)
 
--- The sheet that a run which accepts gives.
+-- The sheet that a run which accepts gives (SCOPE 5.14).
 abbrev pub sheetAfter : Sheet → State → Sheet
 sheetAfter x s = record { sizes = x .sizes; rows = s .rows; relations = s .relations; order = map suc (s .order) }
 
@@ -130,7 +131,7 @@ answerCall-answer bytes store h = go (answerSheet bytes) (answer-right bytes)
         ∙ ap accepted (take-at sheet (drop (length sheet) store) (length sheet) refl)
     go a (right-refused n few) = refl
 
--- "Every refusal returns its number, all other fields 0."
+-- With a refusal the length is 0 (SCOPE 6.31).
 pub answerCall-none : (bytes store : List ℕ) → answerCall bytes store .refusal ≢ 0 → answerCall bytes store .length ≡ 0
 unfolding answerCall answered unanswered
 answerCall-none bytes store h = go (answerSheet bytes) h
@@ -355,7 +356,7 @@ module _ (bytes : List ℕ) (rows relations : List ℤ) (rows-long : 1280 ≤ le
 
 -- ---- the limit on the output
 
--- Of the lent store the writer gets at most 65,536 bytes.
+-- Of the lent store the writer gets at most 65,536 bytes (SCOPE 5.13).
 module _ (sheet store : List ℕ) (lent : ℕ) (inside : lent ≤ length store) (limited : lent ≤ mostBytes)
     (most : (lent ≡ length store) ⊎ (lent ≡ mostBytes)) where
   -- What the call leaves, by what the writer did.

@@ -1,4 +1,4 @@
--- A sheet that is not read has a number from 2 to 5: its writer causes 3, 4 and 5, and 2 by a count or an order line.
+-- A sheet that is not read has a number from 2 to 5 (SCOPE 4.32 to 4.37).
 --
 -- Main definitions
 --   Numbered r        the number of the fault, if r is one, is from 2 to 5

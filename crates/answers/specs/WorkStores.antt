@@ -56,7 +56,7 @@ zero-overwritten n k store h e =
     ∙ sym (overwrite-paste store (zeros n) n (le-of-eq (sym (length-zeros n))))
     ∙ zero-again n k store h e
 
--- "Relation places past the count are unused: they hold 0 before and after."
+-- The places behind the relations in use hold 0 (SCOPE 3.13).
 past-relations : (es : List Relation) (store : List ℤ) → length es ≤ mostRelations → All StoreRelation es → length store ≡ relationNeed
     → drop (length es * relationLength) (overwrite (relationStoreOf es) store) ≡ drop (length es * relationLength) (zeros relationNeed)
 unfolding overwrite relationStoreOf zeros

@@ -5,7 +5,7 @@ ghost use Prim.Native.Nat.{min};
 ghost use Rattle.rules.specs.Calls.{zeros};
 ghost use Rattle.answers.specs.Answers.{callOf, answerCall};
 
-// The answer to one sheet: the refusal, or 0 and the number of bytes that the output begins with.
+// The answer to one sheet: the refusal, or 0 and the number of bytes that the output begins with (SCOPE 5.31).
 pub struct AnswerResult {
     pub refusal: u8,
     pub length: usize,
@@ -17,7 +17,7 @@ fn no_answer(refusal: u8) -> AnswerResult
     AnswerResult { refusal, length: 0 }
 }
 
-// "Output sheets above 65,536 bytes are refusal 1": the writer is lent at most so many bytes.
+// A sheet of more than 65,536 bytes is refusal 1: the writer is lent at most so many bytes (SCOPE 5.13).
 fn lent_bytes(length: usize) -> usize
     ensures { λ r. ⌜ r ≡ min length 65536 ⌝ }
 {

@@ -23,7 +23,7 @@ use Rattle.batches.specs.declared.Stream.{Stream}
 pub data Next : Type 0 where
   -- Bytes are missing.
   waits : Next
-  -- A line is broken or out of range, or bytes are left over.
+  -- A line is broken or out of range, or bytes are left over (SCOPE 5.21).
   breaks : Next
   -- A sheet, by the places where its bytes begin and end.
   sheet : ℕ → ℕ → Next
@@ -59,7 +59,7 @@ waitingAt stage b bytes = record { stage = stage; batch = b; rest = bytes; text 
 abbrev pub fullAt : Stage → Batch → List ℕ → Feed
 fullAt stage b bytes = record { stage = stage; batch = b; rest = bytes; text = []; full = true }
 
--- `3` is written, and whatever comes is passed over.
+-- `3` is written, and whatever comes is passed over (SCOPE 5.21).
 abbrev pub overAt : Batch → List ℕ → Feed
 overAt b text = record { stage = Over; batch = b; rest = []; text = text; full = false }
 

@@ -22,7 +22,7 @@ use Rattle.batches.specs.declared.PieceResult.{PieceResult}
 use Rattle.batches.specs.declared.OutputResult.{OutputResult}
 use Rattle.batches.specs.Feeds.{Next, waits, breaks, sheet, nextSheet, Feed, feed, startOf}
 
--- A line of at most 24 bytes and a sheet of at most 32,768.
+-- A line of at most 24 bytes and a sheet of at most 32,768 (SCOPE 5.33).
 abbrev pub heldNeed : ℕ
 heldNeed = 32792
 
@@ -40,13 +40,13 @@ waitsWith Count b held = eqb (begunOf held .refusal) 4
 waitsWith Sheets b held = isWaiting (nextSheet (b .left) held)
 waitsWith Over b held = eqb (length held) 0
 
--- At most 1,000 sheets in all, and fewer bytes are held than a line and a sheet can have.
+-- At most 1,000 sheets in all, and fewer bytes are held than a line and a sheet can have (SCOPE 5.34).
 unfoldable pub streamRight : Stream → Bool
 streamRight s =
     (leb (s .batch .left) 1000 && leb (s .batch .accepted) 1000 && leb (s .batch .refused) 1000)
     && leb (s .batch .left + s .batch .accepted + s .batch .refused) 1000 && ltb (s .held) heldNeed
 
--- Sizes (2), lengths (1), and then the bytes that the store holds (5).
+-- The checks of SCOPE 5.34: sizes (2), lengths (1), and then the bytes that the store holds (5).
 unfoldable pub streamCheck : Stream → List ℕ → ℕ
 unfolding streamRight waitsWith
 streamCheck s store =
@@ -114,7 +114,7 @@ pub record OutputCall : Type 0 where
 unfoldable pub outputOf : OutputResult → List ℕ → OutputCall
 outputOf r output = record { refusal = r .refusal; length = r .length; output = output }
 
--- What is still written at the end of the input: nothing after a broken batch.
+-- What is still written at the end of the input: nothing after a broken batch (SCOPE 5.35).
 unfoldable pub endText : Stage → Batch → ℕ → List ℕ
 unfolding broken closeLine
 endText Count b held = broken
@@ -128,12 +128,12 @@ putText text output short =
     let put : OutputCall = record { refusal = 0; length = length text; output = overwrite text output } in
     cond (leb (length text) (length output)) put (record { refusal = 1; length = 0; output = short })
 
--- An output too short is found before anything is written, and stays as it is.
+-- An output too short is found before anything is written, and stays as it is (SCOPE 5.35).
 unfoldable pub endCall : Stream → List ℕ → OutputCall
 unfolding putText endText
 endCall s output = putText (endText (s .stage) (s .batch) (s .held)) output output
 
--- An output too short is found during the work: all of it is zero.
+-- An output too short is found during the work: all of it is zero (SCOPE 5.32).
 unfoldable pub outputCall : List ℕ → List ℕ → OutputCall
 unfolding putText batchOutput
 outputCall input output = putText (batchOutput input) output (replicate (length output) 0)

@@ -1,4 +1,5 @@
--- A batch that comes in pieces: however it is cut, and whatever room each call has, the calls write what `rules` says.
+-- A batch that comes in pieces (SCOPE 5.36): however it is cut, and whatever room each call has, the calls write what
+-- `rules` says.
 --
 -- Main definitions
 --   Right s store             a stream that may be handed in, with the store of the bytes that it holds
@@ -299,7 +300,7 @@ pieces-output store input written long run = run-meaning (right-check startOf st
 
 -- ---- greed
 
--- A call that does not take its whole piece stopped before an answer that had no room.
+-- A call that does not take its whole piece stopped before an answer that had no room (SCOPE 5.34).
 pub greedy : (s : Stream) (store piece output : List ℕ) (right : streamCheck s store ≡ 0)
     → pieceCall s store piece output .taken < length piece → TooLong (fedBy s store piece output right) (length output)
 unfolding pieceBy keptOf

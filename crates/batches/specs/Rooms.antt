@@ -1,5 +1,5 @@
 -- How much room the calls of a batch need: with 65,538 bytes every call takes at least one byte, so that calls in a row
--- come to the end of the input.
+-- come to the end of the input (SCOPE 5.34).
 --
 -- Main definitions
 --   answerRoom        the bytes of the longest answer: a line and a sheet
@@ -39,7 +39,7 @@ use Rattle.batches.specs.PieceLaws.{start-right, pieces-output}
 
 -- ---- lines
 
--- "at most ten digits after an optional minus"
+-- A number has at most ten digits and a minus (SCOPE 4.2).
 decimal-room : (n : ℕ) → n ≤ 1000 → length (decimal (pos n)) < numberLine
 decimal-room n h = number-short (decimal (pos n)) (isNumber-decimal (pos n) (omega arith))
 
@@ -57,7 +57,7 @@ broken-room = line-room 3 (omega arith)
 
 -- ---- answers
 
--- "Output sheets above 65,536 bytes are refusal 1", and a line before the sheet has two.
+-- The line `0` (SCOPE 5.11) and a sheet of at most 65,536 bytes (SCOPE 5.13).
 abbrev pub answerRoom : ℕ
 answerRoom = 65538
 

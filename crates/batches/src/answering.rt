@@ -13,10 +13,10 @@ pub(crate) struct Put {
     pub written: usize,
 }
 
-// The line `0` before a sheet that answers.
+// The line `0` before a sheet that answers (SCOPE 5.11).
 const ACCEPTED: usize = 2;
 
-// The largest sheet that answers.
+// The largest sheet that answers (SCOPE 5.13).
 const SHEET: usize = 65536;
 
 // A line of text at the front of the output.

@@ -7,7 +7,7 @@ ghost use Rattle.rules.specs.Calls.{zeros};
 ghost use Rattle.frames.specs.Pieces.{textOf};
 ghost use Rattle.batches.specs.PieceCalls.{outputOf, endText, putText, outputCall};
 
-// What is still written at the end of the input: nothing after a broken batch.
+// What is still written at the end of the input: nothing after a broken batch (SCOPE 5.35).
 fn end_line(stage: Stage, batch: frames::Batch, held: usize) -> frames::TextLine
     ensures { λ r. ⌜ r ≡ textOf (endText stage batch held) ⌝ }
 {
@@ -41,7 +41,7 @@ pub(crate) fn ending(
     OutputResult { refusal: 0, length }
 }
 
-// The output was too short: all of it is zero.
+// The output was too short: all of it is zero (SCOPE 5.32).
 fn too_short(output: &mut [u8]) -> OutputResult
     ensures { λ r. ⌜ (r ≡ record { refusal = 1; length = 0 }) × (now (output .exit) ≡ replicate (length (now (output .entry))) 0) ⌝ }
 {

@@ -32,7 +32,7 @@ fn nothing(stage: Stage, batch: frames::Batch, full: bool) -> Fed
     }
 }
 
-// A batch that is broken: `3` is written, and whatever comes is passed over.
+// A batch that is broken: `3` is written, and whatever comes is passed over (SCOPE 5.21).
 fn breaking(stage: Stage, batch: frames::Batch, bytes: &[u8], output: &mut [u8]) -> Fed
     ensures { λ r. ⌜ fedOf r (now (output .exit))
         ≡ fedBy (breakingAt stage batch (now (bytes .entry)) (length (now (output .entry)))) (now (bytes .entry)) (now (output .entry)) ⌝ }

@@ -11,7 +11,8 @@ mod endings;
 mod feeding;
 mod pieces;
 
-// What a batch that comes in pieces waits for: the line with its sheet count, its sheets, or nothing more, since it is broken.
+// What a batch that comes in pieces waits for: the line with its sheet count, its sheets, or nothing more, since it is
+// broken (SCOPE 5.33).
 pub enum Stage {
     Count,
     Sheets,
@@ -40,7 +41,8 @@ pub struct OutputResult {
     pub length: usize,
 }
 
-// One sheet: the output begins with the sheet that answers, without the line `0` before it; on a refusal it is unchanged.
+// One sheet: the output begins with the sheet that answers, without the line `0` before it; on a refusal it is
+// unchanged (SCOPE 5.31).
 pub fn answer(bytes: &[u8], output: &mut [u8]) -> AnswerResult
     ensures { λ r. ⌜ Answers.callOf r (now (output .exit)) ≡ Answers.answerCall (now (bytes .entry)) (now (output .entry)) ⌝ }
 {
@@ -49,7 +51,7 @@ pub fn answer(bytes: &[u8], output: &mut [u8]) -> AnswerResult
     answers::answer_in(bytes, &mut rows, &mut relations, output)
 }
 
-// Before anything has come.
+// Before anything has come (SCOPE 5.33).
 pub fn start() -> Stream
     ensures { λ r. ⌜ r ≡ startOf ⌝ }
 {
@@ -64,8 +66,9 @@ pub fn start() -> Stream
     }
 }
 
-// The next piece of a batch: its answers are put at the front of the output, up to one that does not fit. Of the piece, `taken` bytes are
-// done with; the others come again with the next piece. `held` is the store for bytes that begin a line or a sheet, of at least 32,792.
+// The next piece of a batch: its answers are put at the front of the output, up to one that does not fit (SCOPE 5.34).
+// Of the piece, `taken` bytes are done with; the others come again with the next piece. `held` is the store for bytes
+// that begin a line or a sheet, of at least 32,792 (SCOPE 5.33).
 pub fn piece(stream: Stream, held: &mut [u8], bytes: &[u8], output: &mut [u8]) -> PieceResult
     ensures { λ r. ⌜ callOf r (now (held .exit)) (now (output .exit))
         ≡ pieceCall stream (now (held .entry)) (now (bytes .entry)) (now (output .entry)) ⌝ }
@@ -79,7 +82,8 @@ pub fn piece(stream: Stream, held: &mut [u8], bytes: &[u8], output: &mut [u8]) -
     pieces::checked(stream, held, bytes, output, &mut rows, &mut relations)
 }
 
-// The end of the input: the last line of the batch, or `3` where it is not whole. An output too short is 1, and stays as it is.
+// The end of the input: the last line of the batch, or `3` where it is not whole. An output too short is 1, and stays
+// as it is (SCOPE 5.35).
 pub fn finish(stream: Stream, output: &mut [u8]) -> OutputResult
     ensures { λ r. ⌜ outputOf r (now (output .exit)) ≡ endCall stream (now (output .entry)) ⌝ }
 {
@@ -88,7 +92,8 @@ pub fn finish(stream: Stream, output: &mut [u8]) -> OutputResult
     endings::ending(stage, batch, stream.held, output)
 }
 
-// A whole batch. A broken one is accepted, and its output ends in the line `3`. An output too short is 1, and then all of it is zero.
+// A whole batch. A broken one is accepted, and its output ends in the line `3`. An output too short is 1, and then all
+// of it is zero (SCOPE 5.32).
 pub fn output(input: &[u8], output: &mut [u8]) -> OutputResult
     ensures { λ r. ⌜ outputOf r (now (output .exit)) ≡ outputCall (now (input .entry)) (now (output .entry)) ⌝ }
 {

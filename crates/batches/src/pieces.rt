@@ -11,7 +11,7 @@ ghost use Rattle.batches.specs.Feeds.{nextSheet};
 ghost use Rattle.batches.specs.PieceCalls.{isWaiting, waitsWith, streamRight, streamCheck, callOf, pieceCall, heldNeed};
 ghost use Rattle.batches.specs.PieceSteps.{refusedOf, unheld, untakenOf, restOf};
 
-// The bytes that a line of at most 24 and a sheet of at most 32,768 can have.
+// The bytes that a line of at most 24 and a sheet of at most 32,768 can have (SCOPE 5.33).
 const HELD: usize = 32792;
 
 const SHEETS: usize = 1000;
@@ -64,7 +64,7 @@ fn waits_with(stage: Stage, batch: frames::Batch, bytes: &[u8]) -> bool
     }
 }
 
-// What is wrong with a stream that is handed in, or 0.
+// What is wrong with a stream that is handed in, or 0 (SCOPE 5.34).
 pub(crate) fn check(s: Stream, held: &[u8]) -> u8
     ensures { λ r. ⌜ r ≡ streamCheck s (now (held .entry)) ⌝ }
 {

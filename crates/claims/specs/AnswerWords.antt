@@ -38,7 +38,7 @@ sheetRun x = wholeRun leading (span (x .sizes)) (x .rows) (x .relations)
 abbrev pub SheetAccepted : Sheet → State → Type 0
 SheetAccepted x s = Accepted leading (x .sizes) (x .rows) (x .relations) s
 
--- The store begins with the sheet that answers, and the bytes past it stay.
+-- The store begins with the sheet that answers, and the bytes past it stay (SCOPE 5.31).
 abbrev pub wholeAnswer : List ℕ → List ℕ → AnswerCall
 wholeAnswer sheet store = record { refusal = 0; length = length sheet; store = overwrite sheet store }
 

@@ -31,15 +31,15 @@ use Rattle.batches.specs.PieceLaws.{Right}
 pub record PieceWasGiven (s : Stream) (store piece output : List ℕ) (c : PieceCall) : Type 0 where
   pub called : c ≡ pieceCall s store piece output
 
--- At most 1,000 sheets in all, and fewer than 32,792 bytes held.
+-- At most 1,000 sheets in all, and fewer than 32,792 bytes held (SCOPE 5.34).
 abbrev pub StreamInRange : Stream → Type 0
 StreamInRange s = Counted (s .batch) × (s .held < heldNeed)
 
--- The store for held bytes has at least 32,792: a line of at most 24 and a sheet of at most 32,768.
+-- The store for held bytes has at least 32,792: a line of at most 24 and a sheet of at most 32,768 (SCOPE 5.33).
 abbrev pub StoreHolds : List ℕ → Type 0
 StoreHolds store = heldNeed ≤ length store
 
--- The bytes that are held begin the line or the sheet that is to come, and are too few for it.
+-- The bytes that are held begin the line or the sheet that is to come, and are too few for it (SCOPE 5.34).
 abbrev pub HeldWaits : Stream → List ℕ → Type 0
 HeldWaits s store = waitsWith (s .stage) (s .batch) (take (s .held) store) ≡ true
 
@@ -65,7 +65,7 @@ pub data PieceCourse (s : Stream) (store piece output : List ℕ) : PieceCall �
 abbrev pub leftOver : List ℕ → PieceCall → List ℕ
 leftOver piece c = take (c .stream .held) (c .store) ++ drop (c .taken) piece
 
--- What is left over begins with a whole line or sheet, and the answer to it has no room behind what the call wrote.
+-- What is left over begins with a whole line or sheet whose answer has no room behind what the call wrote (SCOPE 5.34).
 pub record NextTooLong (piece output : List ℕ) (c : PieceCall) : Type 0 where
   pub next : Moved
   pub move : Move (c .stream .stage) (c .stream .batch) (leftOver piece c) next
@@ -81,7 +81,7 @@ pub record InputWasEnded (s : Stream) (output : List ℕ) (e : OutputCall) : Typ
 pub record BatchWasAnswered (input output : List ℕ) (e : OutputCall) : Type 0 where
   pub called : e ≡ outputCall input output
 
--- The last line of the batch, `3` where it is not whole, and nothing where it was broken before.
+-- The last line of the batch, `3` where it is not whole, and nothing where it was broken before (SCOPE 5.35).
 abbrev pub lastText : Stream → List ℕ
 lastText s = endText (s .stage) (s .batch) (s .held)
 

@@ -4,18 +4,18 @@
 -- was lent the stores `rows` and `relations`, with the sizes z and `count` relations, and that c is its result with both stores
 -- as it left them: the function's contract, word for word. `SheetWasRead`, `SheetWasWritten`, `SheetWasAnswered`,
 -- `PieceWasGiven`, `InputWasEnded`, `BatchWasAnswered` and `ExportedRun`, `ExportedRead`, `ExportedWrite`, `ExportedBatch` say
--- so of the other calls. The words of the claims are in the files *Words.antt, and below those in `rules`, where document 01
--- stands as definitions. Every proof here is one citation of a file Lifted*.antt, which brings the theorems of `theory`,
--- `sheets`, `answers` and `batches` to the calls, or of a theorem of those crates itself.
+-- so of the other calls. The words of the claims are in the files *Words.antt, and below those in `rules`, where the
+-- scope (docs/SCOPE.md) stands as definitions. Every proof here is one citation of a file Lifted*.antt, which brings
+-- the theorems of `theory`, `sheets`, `answers` and `batches` to the calls, or of a theorem of those crates itself.
 --
--- Demand 1: whatever reaches a public entry point is worked to its end or gets a refusal number; on the way no digit is lost
--- and no index is wrong. That part is no theorem here, but what it means that a crate is proved: no public function has a
--- `requires`, and each is proved to end, to keep its numbers in their types and its indices in their stores, and to meet its
--- contract. What is claimed here is what a refusal gives back and leaves.
--- Demand 2: the output is what the rules say, each refusal comes where they say, sheets follow the grammar, and one that was
--- written reads back.
--- Demand 3: an accepted system has the solutions of its input, its diagonal is nonzero, past the reported root D vectors settle
--- all that follow, refusal 6 means dependence, and what is accepted is not dependent.
+-- Demand 1 (SCOPE 2.112): whatever reaches a public entry point is worked to its end or gets a refusal number; on the
+-- way no digit is lost and no index is wrong. That part is no theorem here, but what it means that a crate is proved
+-- (SCOPE 9.1): no public function has a `requires`, and each is proved to end, to keep its numbers in their types and
+-- its indices in their stores, and to meet its contract. What is claimed here is what a refusal gives back and leaves.
+-- Demand 2 (SCOPE 2.113): the output is what the rules say, each refusal comes where they say, sheets follow the
+-- grammar, and one that was written reads back.
+-- Demand 3 (SCOPE 2.114 to 2.119): an accepted system has the solutions of its input, its diagonal is nonzero, past the
+-- reported root D vectors settle all that follow, refusal 6 means dependence, and what is accepted is not dependent.
 --
 -- Main statements, by demand and call
 --   1 runs:         run-number, run-refused-fields, run-refused-before, run-refused-during, run-rest-kept
@@ -107,20 +107,20 @@ module _ {side : Side} {z : Sizes} {count : ℕ} {rows relations : List ℤ} {c 
   pub run-number : RunNumber (c .result .refusal)
   run-number = Runs.number-of ran
 
-  -- A refusal returns its number, and all other fields are 0.
+  -- A refusal returns its number, and all other fields are 0 (SCOPE 6.31).
   pub run-refused-fields : c .result .refusal ≢ 0 → c .result ≡ refusal (c .result .refusal)
   run-refused-fields = Runs.fields-zero ran
 
-  -- A refusal found before the work leaves both stores as they were.
+  -- A refusal found before the work leaves both stores as they were (SCOPE 6.32).
   pub run-refused-before : FoundBefore (c .result .refusal) → (c .rowStore ≡ rows) × (c .relationStore ≡ relations)
   run-refused-before = Runs.stores-kept ran
 
-  -- A refusal found during the work leaves the needed part of both stores zero, and the rest as it was.
+  -- A refusal found during the work leaves the needed part of both stores zero, and the rest as it was (SCOPE 6.33).
   pub run-refused-during : FoundDuring (c .result .refusal)
       → Cleared (rowNeed (z .m)) rows (c .rowStore) × Cleared relationNeed relations (c .relationStore)
   run-refused-during = Runs.stores-cleared ran
 
-  -- Whatever the result, the numbers past the needed part stay, and so do the lengths.
+  -- Whatever the result, the numbers past the needed part stay, and so do the lengths (SCOPE 3.12).
   pub run-rest-kept : Kept (rowNeed (z .m)) rows (c .rowStore) × Kept relationNeed relations (c .relationStore)
   run-rest-kept = Runs.rest-kept ran
 
@@ -143,7 +143,7 @@ module _ {side : Side} {z : Sizes} {count : ℕ} {rows relations : List ℤ} {c 
       ↔ (InRange z count × LongEnough z rows relations × (¬ NumbersRight z count rows relations))
   run-numbers = Runs.five-exactly ran
 
-  -- 6, 7, 8 or 9 exactly if the checks pass and the run of the rules refuses with that number.
+  -- 6, 7, 8 or 9 exactly if the checks pass and the run of the rules refuses with that number (SCOPE 6.6 to 6.9).
   pub run-work-refused : (n : ℕ) → FoundDuring n
       → (c .result .refusal ≡ n) ↔ (Passed z count rows relations × (ruled side z count rows relations ≡ refused n))
   run-work-refused = Runs.during-exactly ran
@@ -153,64 +153,67 @@ module _ {side : Side} {z : Sizes} {count : ℕ} {rows relations : List ℤ} {c 
       ↔ (Passed z count rows relations × ((s : State) × (ruled side z count rows relations ≡ done s)))
   run-accepts = Runs.accepted-exactly ran
 
-  -- The rows, relations, column order, shift count and root report are those of the rules' final state, and what is past the
-  -- needed part of a store stays.
+  -- The rows, relations, column order, shift count and root report are those of the rules' final state, and what is
+  -- past the needed part of a store stays (SCOPE 3.21, 3.22).
   pub run-output : c .result .refusal ≡ 0
       → (s : State) × (ruled side z count rows relations ≡ done s) × GivesBack side z s rows relations c
   run-output e = let (s, a) = Runs.accepted ran e in (s, a .accepts, a .given)
 
-  -- The lent relations stay first, in their order.
+  -- The lent relations stay first, in their order (SCOPE 2.3).
   pub run-relations-first : c .result .refusal ≡ 0
       → (more : List Relation) × (relationsOf (c .result .relations) (c .relationStore) ≡ relationsOf count relations ++ more)
   run-relations-first = Runs.relations-first ran
 
   -- ---- demand 3
 
-  -- Refusal 6: a nonzero combination of shifted equations of the lent system vanishes.
+  -- Refusal 6: a nonzero combination of shifted equations of the lent system vanishes (SCOPE 2.119).
   pub six-dependent : c .result .refusal ≡ 6 → Dependent (z .l) (rowsOf (z .m) rows)
   six-dependent = Runs.dependent-six ran
 
-  -- A dependent system that passes the checks is refused during the work: as dependent, or because it meets a limit first.
+  -- A dependent system that passes the checks is refused during the work: as dependent, or because it meets a limit
+  -- first (SCOPE 2.103).
   pub dependent-refused : Passed z count rows relations → Dependent (z .l) (rowsOf (z .m) rows) → FoundDuring (c .result .refusal)
   dependent-refused = Runs.dependent-refused ran
 
   module _ (accepted : c .result .refusal ≡ 0) where
-    -- The same sequences satisfy the system that was lent and the one that was given back.
+    -- The same sequences satisfy the system that was lent and the one that was given back (SCOPE 2.114).
     pub same-solutions : (y : Sequence)
         → Solves z count rows relations y ↔ Solves z (c .result .relations) (c .rowStore) (c .relationStore) y
     same-solutions = Runs.sequences ran accepted
 
-    -- The reported order is a permutation of the columns that makes block l, or block t, triangular, with nonzero diagonal
-    -- polynomials.
+    -- The reported order is a permutation of the columns that makes block l, or block t, triangular, with nonzero
+    -- diagonal polynomials (SCOPE 2.71, 2.73, 2.115).
     pub diagonal-nonzero : Triangular side z c
     diagonal-nonzero = Runs.triangular ran accepted
 
-    -- "no": exactly if no diagonal polynomial has an integer root.
+    -- No root is reported exactly if no diagonal polynomial has an integer root (SCOPE 2.81),
     pub no-root : (c .result .hasRoot ≡ false) ↔ NoRoot side z c
     no-root = Runs.root-no ran accepted
 
-    -- and then the root is 0.
+    -- and then the root is 0 (SCOPE 2.82).
     pub no-root-zero : c .result .hasRoot ≡ false → c .result .root ≡ pos 0
     no-root-zero = Runs.root-none ran accepted
 
-    -- "yes": the root is the largest integer root of all diagonal polynomials, on the trailing side the smallest.
+    -- A root that is reported is the largest integer root of all diagonal polynomials, on the trailing side the
+    -- smallest (SCOPE 2.81, 2.93).
     pub last-root : c .result .hasRoot ≡ true → LastRoot side z c (c .result .root)
     last-root = Runs.root-yes ran accepted
 
-    -- An accepted system is not dependent.
+    -- An accepted system is not dependent (SCOPE 2.118).
     pub accepted-independent : ¬ Dependent (z .l) (rowsOf (z .m) rows)
     accepted-independent = Runs.independent ran accepted
 
-    -- There are at most m × D shifts.
+    -- There are at most m × D shifts (SCOPE 2.65).
     pub shifts-bounded : c .result .shifts ≤ z .m * span z
     shifts-bounded = Runs.shifts-few ran accepted
 
     -- What was given back passes the checks of the next call: every number within ±C, every degree at most 15, unused
-    -- positions zero.
+    -- positions zero (SCOPE 9.27).
     pub output-passes : Passed z (c .result .relations) (c .rowStore) (c .relationStore)
     output-passes = Runs.output-passes ran accepted
 
--- Two solutions that agree on D successive vectors past the reported root agree ever after: on the leading side upwards,
+-- Two solutions that agree on D successive vectors past the reported root agree ever after (SCOPE 2.116, 2.117): on the
+-- leading side upwards,
 pub agreement-leading : {z : Sizes} {count : ℕ} {rows relations : List ℤ} {c : Call} → Ran leading z count rows relations c
     → c .result .refusal ≡ 0 → (y w : Sequence) → Solves z count rows relations y → Solves z count rows relations w → (n : ℤ)
     → PastRoot leading (c .result) n → AgreeBetween z y w (n +ℤ z .t) (n +ℤ z .l) → AgreeFrom z y w (n +ℤ z .t)
@@ -225,19 +228,19 @@ agreement-trailing = Runs.agrees-trailing
 -- ---- demand 2, of the rules themselves
 --
 -- The rules are `step` and `run` of crates/rules/specs/Elimination.antt. A step has no memory of j: that it is the loop
--- over j is
--- `next-row-later` and `zero-row-refused` of crates/theory/specs/Demands.antt. The order among the roots of one g is ours.
+-- over j is `next-row-later` and `zero-row-refused` of crates/theory/specs/Demands.antt (SCOPE 2.26). The order among
+-- the roots of one g is ours (SCOPE 2.33).
 
--- The roots that are listed for g are its integer roots,
+-- The roots that are listed for g are its integer roots (SCOPE 2.31),
 pub run-roots : (g : Polynomial) → T (not (isZero g)) → (n : ℤ) → List·Mem n (roots g) ↔ (eval g n ≡ pos 0)
 run-roots g nonzero n = (roots-sound g, roots-complete g n nonzero)
 
--- each of them once.
+-- each of them once (SCOPE 9.3).
 pub run-roots-once : (g : Polynomial) → T (not (isZero g)) → List·Nodup (roots g)
 run-roots-once = roots-distinct
 
--- The trailing run is the mirror: run the mirrored system on the leading side, with the roots of one g in some order, and
--- mirror back.
+-- The trailing run is the mirror: run the mirrored system on the leading side, with the roots of one g in some order,
+-- and mirror back (SCOPE 2.91).
 pub run-mirrored : (D : ℕ) (rows : List Row) (relations : List Relation)
     → (o : Outcome) × (wholeRun trailing D rows relations ≡ mirrorOutcome D o)
     × Alike o (wholeRun leading D (map (mirrorRow D) rows) (map (mirrorRelation D) relations))
@@ -246,15 +249,15 @@ run-mirrored = trailing-mirrors
 -- ==== one polynomial: `elimination::check_polynomial` and `polynomial`
 
 module _ (rows : List ℤ) (z : Sizes) (row : ℕ) (block : ℤ) (column : ℕ) where
-  -- Where the check is not 0, the part is empty.
+  -- Where the check is not 0, the part is empty (SCOPE 3.44).
   pub polynomial-refused : polynomialCheck rows z row block column ≢ 0 → polynomialPart rows z row block column ≡ []
   polynomial-refused = Sheets.part-none rows z row block column
 
-  -- 2 exactly if a size or the place is out of range,
+  -- 2 exactly if a size or the place is out of range (SCOPE 3.42),
   pub polynomial-range : (polynomialCheck rows z row block column ≡ 2) ↔ (¬ (SizeBounds z × PlaceInside z row block column))
   polynomial-range = Sheets.place-two rows z row block column
 
-  -- 1 exactly if it is not and the store is too short,
+  -- 1 exactly if it is not and the store is too short (SCOPE 3.43),
   pub polynomial-length : (polynomialCheck rows z row block column ≡ 1)
       ↔ ((SizeBounds z × PlaceInside z row block column) × (¬ (rowNeed (z .m) ≤ length rows)))
   polynomial-length = Sheets.place-one rows z row block column
@@ -264,7 +267,7 @@ module _ (rows : List ℤ) (z : Sizes) (row : ℕ) (block : ℤ) (column : ℕ) 
       ↔ ((SizeBounds z × PlaceInside z row block column) × (rowNeed (z .m) ≤ length rows))
   polynomial-accepts = Sheets.place-zero rows z row block column
 
-  -- Then the part is the polynomial of that row, block and column, sixteen coefficients.
+  -- Then the part is the polynomial of that row, block and column, sixteen coefficients (SCOPE 3.41).
   pub polynomial-part : polynomialCheck rows z row block column ≡ 0
       → polynomialPart rows z row block column
       ≡ polynomialAt (z .l) (getD (rowsOf (z .m) rows) (pred row) noRow) block (pred column)
@@ -281,7 +284,7 @@ module _ {bytes : List ℕ} {rows relations : List ℤ} {c : ReadCall} (was-read
   pub read-number : (c .result .refusal ≡ 0) ⊎ FoundBefore (c .result .refusal)
   read-number = Sheets.read-number was-read
 
-  -- with a refusal all other fields are 0, and the stores are as they were.
+  -- with a refusal all other fields are 0, and the stores are as they were (SCOPE 4.43, 6.31).
   pub read-refused : c .result .refusal ≢ 0 → c ≡ unread (c .result .refusal) rows relations
   read-refused = Sheets.read-refused was-read
 
@@ -289,11 +292,11 @@ module _ {bytes : List ℕ} {rows relations : List ℤ} {c : ReadCall} (was-read
   pub read-course : ReadCourse bytes rows relations c
   read-course = Sheets.read-course was-read
 
-  -- 2, 3, 4 or 5 exactly if that is the number of the first fault that the grammar finds.
+  -- 2, 3, 4 or 5 exactly if that is the number of the first fault that the grammar finds (SCOPE 4.37).
   pub read-faults : (n : ℕ) → 2 ≤ n → (c .result .refusal ≡ n) ↔ (readSheet bytes ≡ fault n)
   read-faults = Sheets.read-fault was-read
 
-  -- 1 exactly if the bytes are a sheet, and a store is too short for it.
+  -- 1 exactly if the bytes are a sheet, and a store is too short for it (SCOPE 4.42).
   pub read-lengths : (c .result .refusal ≡ 1) ↔ ((x : Sheet) × IsSheetOf x bytes × (¬ LongEnough (x .sizes) rows relations))
   read-lengths = Sheets.read-short was-read
 
@@ -301,11 +304,11 @@ module _ {bytes : List ℕ} {rows relations : List ℤ} {c : ReadCall} (was-read
   pub read-accepts : (c .result .refusal ≡ 0) ↔ ((x : Sheet) × IsSheetOf x bytes × LongEnough (x .sizes) rows relations)
   read-accepts = Sheets.read-accepts was-read
 
-  -- Then the result and the stores hold that sheet, and what is past the needed part of a store stays.
+  -- Then the result and the stores hold that sheet, and what is past the needed part of a store stays (SCOPE 4.43).
   pub read-output : (x : Sheet) → IsSheetOf x bytes → c .result .refusal ≡ 0 → HoldsSheet x rows relations c
   read-output = Sheets.read-sheet was-read
 
-  -- What was read is written back as the same bytes.
+  -- What was read is written back as the same bytes (SCOPE 4.56).
   pub read-writes-back : c .result .refusal ≡ 0 → {byteStore : List ℕ} {w : WriteCall}
       → SheetWasWritten (c .result .sizes) (c .result .relations) (c .result .order) (c .rowStore) (c .relationStore) byteStore w
       → length bytes ≤ length byteStore
@@ -318,7 +321,7 @@ module _ {z : Sizes} {count : ℕ} {order : List ℕ} {rows relations : List ℤ
   pub write-number : WriteNumber (w .refusal)
   write-number = Sheets.write-number was-written
 
-  -- with a refusal the length is 0, and the byte store is as it was.
+  -- with a refusal the length is 0, and the byte store is as it was (SCOPE 4.54).
   pub write-refused : w .refusal ≢ 0 → w ≡ unwritten (w .refusal) bytes
   write-refused = Sheets.write-refused was-written
 
@@ -344,13 +347,13 @@ module _ {z : Sizes} {count : ℕ} {order : List ℕ} {rows relations : List ℤ
       ↔ (WriteReady z count order rows relations × (length (sheetBytes z count order rows relations) ≤ length bytes))
   write-accepts = Sheets.write-accepts was-written
 
-  -- Then the byte store begins with the sheet of the system, and the bytes past it stay.
+  -- Then the byte store begins with the sheet of the system, and the bytes past it stay (SCOPE 4.51, 4.52).
   pub write-output : w .refusal ≡ 0 → (w .length ≡ length (sheetBytes z count order rows relations))
       × Rewritten (w .length) (sheetBytes z count order rows relations) bytes (w .byteStore)
   write-output = Sheets.write-bytes was-written
 
   -- A sheet that was written reads back, into any stores that are long enough, as its system: sizes, count, order, rows
-  -- and relations.
+  -- and relations (SCOPE 4.56).
   pub written-reads-back : w .refusal ≡ 0 → {rows' relations' : List ℤ} {c : ReadCall}
       → SheetWasRead (take (w .length) (w .byteStore)) rows' relations' c → LongEnough z rows' relations'
       → ReadsBack z count order rows relations rows' relations' c
@@ -363,7 +366,7 @@ module _ {bytes store : List ℕ} {a : AnswerCall} (was-answered : SheetWasAnswe
   pub answer-number : (a .refusal ≡ 0) ⊎ ((1 ≤ a .refusal) × (a .refusal ≤ 9))
   answer-number = Answers.answer-number was-answered
 
-  -- with a refusal the length is 0, and the lent store is as it was: no byte of it was needed.
+  -- with a refusal the length is 0, and the lent store is as it was: no byte of it was needed (SCOPE 5.31).
   pub answer-refused : a .refusal ≢ 0 → a ≡ unanswered (a .refusal) store
   answer-refused = Answers.answer-refused was-answered
 
@@ -380,19 +383,19 @@ module _ {bytes store : List ℕ} {a : AnswerCall} (was-answered : SheetWasAnswe
       → (a .refusal ≡ n) ↔ ((x : Sheet) × IsSheetOf x bytes × (sheetRun x ≡ refused n))
   answer-work-refused = Answers.answer-during was-answered
 
-  -- and for a sheet that the rules accept 0 or 1: 1 exactly if the answer is above 65,536 bytes or the lent store is too
-  -- short for it.
+  -- and for a sheet that the rules accept 0 or 1: 1 exactly if the answer is above 65,536 bytes or the lent store is
+  -- too short for it (SCOPE 5.13, 5.31).
   pub answer-sizes : {x : Sheet} {s : State} → IsSheetOf x bytes → SheetAccepted x s
       → ((a .refusal ≡ 0) ↔ AnswerFits (writeSheet (sheetAfter x s)) store)
       × ((a .refusal ≡ 1) ↔ (¬ AnswerFits (writeSheet (sheetAfter x s)) store))
   answer-sizes = Answers.answer-fits was-answered
 
-  -- With 0 the store begins with the sheet of the rules' final state, and the bytes past it stay.
+  -- With 0 the store begins with the sheet of the rules' final state, and the bytes past it stay (SCOPE 5.14, 5.31).
   pub answer-output : a .refusal ≡ 0 → (x : Sheet) × (s : State) × AnswerHolds bytes store a x s
   answer-output = Answers.answer-accepted was-answered
 
-  -- The sheet that answers has the solutions of the sheet that was asked. The other sentences of demand 3 hold of it too: they
-  -- take `accepted` of AnswerHolds, in crates/theory/specs/Demands.antt.
+  -- The sheet that answers has the solutions of the sheet that was asked (SCOPE 2.114). The other sentences of demand 3
+  -- hold of it too: they take `accepted` of AnswerHolds, in crates/theory/specs/Demands.antt.
   pub answer-solutions : {x : Sheet} {s : State} → AnswerHolds bytes store a x s → (y : Sequence)
       → Satisfies (x .sizes .l) (x .rows) (x .relations) y ↔ Satisfies (x .sizes .l) (s .rows) (s .relations) y
   answer-solutions h = same-sequences (h .accepted)
@@ -401,7 +404,7 @@ module _ {bytes store : List ℕ} {a : AnswerCall} (was-answered : SheetWasAnswe
 --
 -- A `Stream` is a batch that comes in pieces; it is made by `start`, and each call of `piece` gives the next one. A call is given
 -- a piece of the input and says how many bytes of it were taken: the others come again with the next piece. Bytes that begin a
--- line or a sheet are held in a store that the caller lends, and hands in again as it was left.
+-- line or a sheet are held in a store that the caller lends, and hands in again as it was left (SCOPE 5.33).
 
 module _ {s : Stream} {store piece output : List ℕ} {c : PieceCall} (given : PieceWasGiven s store piece output c) where
   -- ---- demand 1
@@ -410,7 +413,7 @@ module _ {s : Stream} {store piece output : List ℕ} {c : PieceCall} (given : P
   pub piece-number : PieceNumber (c .refusal)
   piece-number = Batches.piece-number given
 
-  -- A refusal leaves both stores as they were, and all other fields are as at the start of a batch.
+  -- A refusal leaves both stores as they were, and all other fields are as at the start of a batch (SCOPE 5.34).
   pub piece-refused : c .refusal ≢ 0 → c ≡ pieceRefused (c .refusal) store output
   piece-refused = Batches.piece-refused given
 
@@ -449,11 +452,11 @@ module _ {s : Stream} {store piece output : List ℕ} {c : PieceCall} (given : P
   piece-takes = Batches.piece-taken given
 
   module _ (accepted : c .refusal ≡ 0) where
-    -- at least one of a piece that is not empty, in an output of at least 65,538 bytes,
+    -- at least one of a piece that is not empty, in an output of at least 65,538 bytes (SCOPE 5.34),
     pub piece-gets-on : answerRoom ≤ length output → 1 ≤ length piece → 1 ≤ c .taken
     piece-gets-on = Batches.piece-some given accepted
 
-    -- and all of the piece, unless the next answer does not fit behind those that are written.
+    -- and all of the piece, unless the next answer does not fit behind those that are written (SCOPE 5.34).
     pub piece-stops : c .taken < length piece → NextTooLong piece output c
     piece-stops = Batches.piece-stops given accepted
 
@@ -470,7 +473,7 @@ module _ {s : Stream} {output : List ℕ} {e : OutputCall} (ended : InputWasEnde
   pub finish-number : (e .refusal ≡ 0) ⊎ (e .refusal ≡ 1)
   finish-number = Batches.text-number (Batches.end-course ended)
 
-  -- with a refusal the length is 0, and the output is as it was.
+  -- with a refusal the length is 0, and the output is as it was (SCOPE 5.35).
   pub finish-refused : e .refusal ≢ 0 → e ≡ noRoom output
   finish-refused = Batches.text-refused (Batches.end-course ended)
 
@@ -486,7 +489,7 @@ module _ {s : Stream} {output : List ℕ} {e : OutputCall} (ended : InputWasEnde
   pub finish-fits : (store : List ℕ) → StreamRight s store → batchLine ≤ length output → e .refusal ≡ 0
   finish-fits = Batches.end-fits ended
 
-  -- With 0 the output begins with that, and the bytes past it stay.
+  -- With 0 the output begins with that, and the bytes past it stay (SCOPE 5.35).
   pub finish-output : e .refusal ≡ 0
       → (e .length ≡ length (lastText s)) × Rewritten (e .length) (lastText s) output (e .output)
   finish-output = Batches.text-front (Batches.end-course ended)
@@ -494,7 +497,7 @@ module _ {s : Stream} {output : List ℕ} {e : OutputCall} (ended : InputWasEnde
 -- `Run startOf store input written` says that a batch was started, that calls of `piece` took the whole of `input`, in any pieces
 -- and with any outputs, that `finish` was not refused, and that what they wrote, laid end to end, is `written`.
 
--- However the input is cut, and whatever room each call has, what is written is what document 01 says that a batch writes,
+-- However the input is cut, and whatever room each call has, the calls write what the whole batch writes (SCOPE 5.36),
 pub pieces-output : {store input written : List ℕ} → StoreHolds store → Run startOf store input written
     → written ≡ batchOutput input
 pieces-output {store} {input} {written} = Pieces.pieces-output store input written
@@ -507,11 +510,11 @@ pieces-exist = Rooms.pieces-exist
 -- ==== a whole batch: `batches::output`
 
 module _ {input output : List ℕ} {e : OutputCall} (answered : BatchWasAnswered input output e) where
-  -- A whole batch returns 0 or 1, and a broken one 0: its output ends in `3`.
+  -- A whole batch returns 0 or 1, and a broken one 0: its output ends in `3` (SCOPE 5.32).
   pub batch-number : (e .refusal ≡ 0) ⊎ (e .refusal ≡ 1)
   batch-number = Batches.text-number (Batches.whole-course answered)
 
-  -- A refusal is found during the work: the length is 0, and all of the output is zero.
+  -- A refusal is found during the work: the length is 0, and all of the output is zero (SCOPE 5.32).
   pub batch-refused : e .refusal ≢ 0 → e ≡ noRoom (replicate (length output) 0)
   batch-refused = Batches.text-refused (Batches.whole-course answered)
 
@@ -519,7 +522,7 @@ module _ {input output : List ℕ} {e : OutputCall} (answered : BatchWasAnswered
   pub batch-course : TextCourse (batchOutput input) output (replicate (length output) 0) e
   batch-course = Batches.whole-course answered
 
-  -- 1 exactly if the output is shorter than what document 01 says that the batch writes,
+  -- 1 exactly if the output is shorter than what the batch writes (SCOPE 5.1 to 5.22),
   pub batch-lengths : (e .refusal ≡ 1) ↔ (length output < length (batchOutput input))
   batch-lengths = Batches.text-one (Batches.whole-course answered)
 
@@ -535,8 +538,8 @@ module _ {input output : List ℕ} {e : OutputCall} (answered : BatchWasAnswered
 -- ==== the exported calls: `wurgalm_run_leading`, `wurgalm_run_trailing`, `wurgalm_read_sheet`, `wurgalm_write_sheet`,
 -- `wurgalm_batch`
 --
--- They return the refusal, and the other fields of the result are numbers of one more lent store, `result`: eight for a run and
--- for a sheet that is read, one, the length, for a sheet that is written and for a batch.
+-- They return the refusal, and the other fields of the result are numbers of one more lent store, `result`: eight for a
+-- run and for a sheet that is read, one, the length, for a sheet that is written (SCOPE 3.51, 3.52) and for a batch.
 
 module _ {side : Side} {z : Sizes} {count : ℕ} {rows relations result : List ℤ} {e : Exported}
     (exported : ExportedRun side z count rows relations result e) where
@@ -544,12 +547,12 @@ module _ {side : Side} {z : Sizes} {count : ℕ} {rows relations result : List �
   pub export-number : RunNumber (e .refusal)
   export-number = Exports.export-number exported
 
-  -- A refusal found before the work leaves all three stores as they were,
+  -- A refusal found before the work leaves all three stores as they were (SCOPE 3.54, 6.32),
   pub export-refused-before : FoundBefore (e .refusal)
       → (e .rowStore ≡ rows) × (e .relationStore ≡ relations) × (e .resultStore ≡ result)
   export-refused-before = Exports.export-refused exported
 
-  -- one found during the work leaves the needed part of all three zero, and the rest as it was.
+  -- one found during the work leaves the needed part of all three zero, and the rest as it was (SCOPE 3.54, 6.33).
   pub export-refused-during : FoundDuring (e .refusal)
       → Cleared (rowNeed (z .m)) rows (e .rowStore) × Cleared relationNeed relations (e .relationStore)
       × Cleared resultNeed result (e .resultStore)
@@ -563,7 +566,7 @@ module _ {side : Side} {z : Sizes} {count : ℕ} {rows relations result : List �
   pub export-range : (e .refusal ≡ 2) ↔ (¬ InRange z count)
   export-range = Exports.export-two exported
 
-  -- 1 exactly if they are in range and a store is too short, the result's too,
+  -- 1 exactly if they are in range and a store is too short, the result's too (SCOPE 3.53),
   pub export-lengths : (e .refusal ≡ 1) ↔ (InRange z count × (¬ ExportLong z rows relations result))
   export-lengths = Exports.export-one exported
 
@@ -577,7 +580,7 @@ module _ {side : Side} {z : Sizes} {count : ℕ} {rows relations result : List �
       → (e .refusal ≡ n) ↔ ((c .result .refusal ≡ n) × (resultNeed ≤ length result))
   export-work = Exports.export-as-run exported
 
-  -- With 0 the stores are those of the run, and the result's store begins with the eight numbers of its result.
+  -- With 0 the stores are those of the run, and the result's store begins with the eight numbers of SCOPE 3.52.
   pub export-output : e .refusal ≡ 0 → (c : Call) × ExportGives side z count rows relations result c e
   export-output = Exports.export-accepted exported
 

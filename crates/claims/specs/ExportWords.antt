@@ -36,7 +36,7 @@ use Rattle.claims.specs.BatchWords.{BatchWasAnswered}
 pub record ExportedRun (side : Side) (z : Sizes) (count : ℕ) (rows relations result : List ℤ) (e : Exported) : Type 0 where
   pub called : e ≡ exportRun side z count rows relations result
 
--- The store of the result is one of the lent stores: eight numbers.
+-- The store of the result is one of the lent stores: eight numbers (SCOPE 3.52, 3.53).
 abbrev pub ExportLong : Sizes → List ℤ → List ℤ → List ℤ → Type 0
 ExportLong z rows relations result = LongEnough z rows relations × (resultNeed ≤ length result)
 
@@ -85,11 +85,11 @@ pub record ExportedWrite (z : Sizes) (count : ℕ) (order rows relations : List 
     (w : Written) : Type 0 where
   pub called : w ≡ exportWrite z count order rows relations bytes result
 
--- Sizes, count and order in their ranges; an order store that is too short is not judged.
+-- Sizes, count and order in their ranges; an order store that is too short is not judged (SCOPE 3.55).
 abbrev pub OrderRange : Sizes → ℕ → List ℤ → Type 0
 OrderRange z count order = InRange z count × T (orderStoreRight (z .m) order)
 
--- The order and the result are two of the stores: four numbers and one.
+-- The order and the result are two of the stores: four numbers and one (SCOPE 3.53, 3.55).
 abbrev pub OrderLong : Sizes → List ℤ → List ℤ → List ℤ → List ℤ → Type 0
 OrderLong z order rows relations result = LongEnough z rows relations × (columnCount ≤ length order) × (1 ≤ length result)
 

@@ -90,7 +90,7 @@ zeros-written need before h = overwrite-rewritten (zeros need) before (length-re
 -- ---- the checks
 
 -- The number of the first of three checks that fails, in the order of every call on stores: sizes (2), lengths (1),
--- numbers (5).
+-- numbers (5) (SCOPE 3.31).
 pub data Verdict (A B D : Type 0) : ℕ → Type 0 where
   two : ¬ A → Verdict A B D 2
   one : A → ¬ B → Verdict A B D 1
@@ -515,7 +515,7 @@ module _ {side : Side} {z : Sizes} {count : ℕ} {rows relations : List ℤ} {c 
       by leading r (some x) e f h = subst (λ y. y <ℤ n) f (h e)
       by trailing r (some x) e f h = subst (λ y. n <ℤ y) f (h e)
 
--- "Input relations stay first, in their order."
+-- The input's relations keep their places at the front (SCOPE 2.3).
 relations-before : (side : Side) {z : Sizes} {rows : List Row} {relations : List Relation} {s : State} → Valid z rows relations
     → wholeRun side (span z) rows relations ≡ done s → (more : List Relation) × (s .relations ≡ relations ++ more)
 unfolding start mirrorState
@@ -632,13 +632,13 @@ module _ {side : Side} {z : Sizes} {count : ℕ} {rows relations : List ℤ} {c 
         (rewritten-is (a .given .relation-store))
         ∙ valid-stores z (s .rows) (s .relations) _ _ (output-valid (state-accepted a)))
 
--- A dependent system is refused during the work, if the checks pass.
+-- A dependent system is refused during the work, if the checks pass (SCOPE 2.103).
 pub dependent-refused : {side : Side} {z : Sizes} {count : ℕ} {rows relations : List ℤ} {c : Call}
     → Ran side z count rows relations c
     → Passed z count rows relations → Dependent (z .l) (rowsOf (z .m) rows) → FoundDuring (Number c)
 dependent-refused r p d = ⊎-elim (λ e. absurd (independent r e d)) (λ h. h) (begun r p)
 
--- "solutions that agree on D successive vectors past the reported root agree ever after", on either side.
+-- Solutions that agree on D successive vectors past the reported root agree ever after (SCOPE 2.116, 2.117).
 module _ {z : Sizes} {count : ℕ} {rows relations : List ℤ} {c : Call} where
   pub agrees-leading : Ran leading z count rows relations c → Number c ≡ 0
       → (y w : Sequence) → Solves z count rows relations y → Solves z count rows relations w

@@ -1,5 +1,5 @@
--- The trailing run against the leading run of the mirrored system: mirrored back they are the same, but for the order among the
--- roots of one g, which the rules leave open.
+-- The trailing run against the leading run of the mirrored system: mirrored back they are the same (SCOPE 2.91), but
+-- for the order among the roots of one g (SCOPE 2.33).
 --
 -- Main definitions
 --   relist s l                 the state s with the relations l

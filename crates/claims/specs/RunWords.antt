@@ -72,11 +72,11 @@ Kept need before after = (drop need after ≡ drop need before) × (length after
 
 -- ---- the checks
 
--- 1 ≤ m ≤ 4, -64 ≤ t ≤ l ≤ 64, l - t ≤ 4, and at most 16 relations.
+-- 1 ≤ m ≤ 4, -64 ≤ t ≤ l ≤ 64, l - t ≤ 4, and at most 16 relations (SCOPE 1.1, 1.2, 1.23).
 abbrev pub InRange : Sizes → ℕ → Type 0
 InRange z count = SizeBounds z × (count ≤ mostRelations)
 
--- m × 320 numbers for the rows, 16 × 321 for the relations.
+-- m × 320 numbers for the rows, 16 × 321 for the relations (SCOPE 3.11).
 abbrev pub LongEnough : Sizes → List ℤ → List ℤ → Type 0
 LongEnough z rows relations = (rowNeed (z .m) ≤ length rows) × (relationNeed ≤ length relations)
 
@@ -148,7 +148,8 @@ entryOf side z c row column = polynomialPart (c .rowStore) z row (edge side z) c
 abbrev pub diagonalOf : Side → Sizes → Call → ℕ → Polynomial
 diagonalOf side z c row = entryOf side z c row (columnOf c row)
 
--- c(1) to c(m) are the columns 1 to m in some order, and row j is zero at c(1) to c(j - 1) and nonzero at c(j).
+-- c(1) to c(m) are the columns 1 to m in some order, and row j is zero at c(1) to c(j - 1) and nonzero at c(j)
+-- (SCOPE 2.71, 2.73).
 pub record Triangular (side : Side) (z : Sizes) (c : Call) : Type 0 where
   pub column-inside : (row : ℕ) → Inside z row → Inside z (columnOf c row)
   pub column-once : (row other : ℕ) → Inside z row → Inside z other → columnOf c row ≡ columnOf c other → row ≡ other
@@ -160,7 +161,8 @@ pub record Triangular (side : Side) (z : Sizes) (c : Call) : Type 0 where
 abbrev pub NoRoot : Side → Sizes → Call → Type 0
 NoRoot side z c = (row : ℕ) → Inside z row → (n : ℤ) → eval (diagonalOf side z c row) n ≢ pos 0
 
--- r is a root of some diagonal polynomial, and none has an integer root above it, or, on the trailing side, below it.
+-- r is a root of some diagonal polynomial, and none has an integer root above it, or, on the trailing side, below it
+-- (SCOPE 2.81, 2.93).
 pub record LastRoot (side : Side) (z : Sizes) (c : Call) (r : ℤ) : Type 0 where
   pub attained : (row : ℕ) × Inside z row × (eval (diagonalOf side z c row) r ≡ pos 0)
   pub furthest : (row : ℕ) → Inside z row → (n : ℤ) → eval (diagonalOf side z c row) n ≡ pos 0 → NoFurther side n r

@@ -66,7 +66,7 @@ pub record SheetWasWritten (z : Sizes) (count : ℕ) (order : List ℕ) (rows re
 abbrev pub WriteNumber : ℕ → Type 0
 WriteNumber n = (n ≡ 0) ⊎ ((n ≡ 1) ⊎ ((n ≡ 2) ⊎ (n ≡ 5)))
 
--- The order is one of the sizes: all 0 for none, or a permutation of 1..m with zeros past its end.
+-- The order is one of the sizes: all 0 for none, or a permutation of 1..m with zeros past its end (SCOPE 4.53).
 abbrev pub WriteRange : Sizes → ℕ → List ℕ → Type 0
 WriteRange z count order = InRange z count × T (orderRight (z .m) order)
 

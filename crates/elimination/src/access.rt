@@ -1,4 +1,4 @@
-// Where one polynomial of a row store stands; rows and columns are counted from 1.
+// Where one polynomial of a row store stands; rows and columns are counted from 1 (SCOPE 3.2, 3.23).
 ghost use mathlib.Core.Path.{_≡_};
 ghost use mathlib.Core.Bool.{_&&_};
 ghost use lib.Dec.{T};
@@ -7,14 +7,14 @@ ghost use Rattle.rules.specs.Stores.{sizesRight};
 ghost use Rattle.rules.specs.Calls as Calls;
 ghost use Rattle.rows.specs.Validity.{sizesOf};
 
-// Blocks are numbered from t to l.
+// Blocks are numbered from t to l (SCOPE 1.2).
 fn between(block: i64, l: i64, t: i64) -> bool
     ensures { λ r. ⌜ r ≡ (leZ t block && leZ block l) ⌝ }
 {
     t <= block && block <= l
 }
 
-// Does the system have this row, block and column?
+// Does the system have this row, block and column? (SCOPE 3.42)
 pub(crate) fn place_right(
     sizes: rows::validity::Sizes,
     row: usize,
@@ -32,7 +32,7 @@ pub(crate) fn place_right(
     rows::validity::counted(column, sizes.m)
 }
 
-// Where the sixteen numbers of the polynomial begin.
+// Where the sixteen numbers of the polynomial begin (SCOPE 3.2).
 pub(crate) fn place_of(sizes: rows::validity::Sizes, row: usize, block: i64, column: usize) -> usize
     requires { ⌜ T (sizesRight (sizesOf sizes)) × T (Calls.placeRight (sizesOf sizes) row block column) ⌝ }
     ensures { λ r. ⌜ r ≡ Calls.polynomialPlace (sizesOf sizes) row block column ⌝ }

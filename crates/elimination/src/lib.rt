@@ -1,5 +1,5 @@
 // The public runs on lent stores, `run_leading` and `run_trailing`, and the access to one polynomial of a row store: no
-// `requires`, and contracts that give the result and each lent store by equations with `rules`.
+// `requires`, and contracts that give the result and each lent store by equations with `rules` (SCOPE 9.1, 9.2).
 ghost use mathlib.Core.Path.{_≡_};
 ghost use Rattle.rules.specs.Elimination.{leading, trailing};
 ghost use Rattle.rules.specs.Calls.{callRun, polynomialCheck, polynomialPart};
@@ -34,7 +34,8 @@ pub fn run_trailing(
     runs::called(rows, relations, sizes, count, true)
 }
 
-// "outside the sizes, or of a store too short, [..] a check on the same values returns 2 or 1"
+// 2 where a size or the place is out of its range, otherwise 1 where the store is too short for m rows, otherwise 0
+// (SCOPE 3.42, 3.43).
 pub fn check_polynomial(
     rows: &[i64],
     sizes: rows::validity::Sizes,
@@ -56,8 +57,8 @@ pub fn check_polynomial(
     0
 }
 
-// "For reading, the caller gets back the part of the row store that holds one polynomial, named by row, block and column": sixteen
-// coefficients, lowest power first; the empty part where the check is not 0.
+// The part of the row store that holds one polynomial: sixteen coefficients, lowest power first; the empty part where
+// the check is not 0 (SCOPE 3.41, 3.44, 8.4).
 pub fn polynomial(
     rows: &[i64],
     sizes: rows::validity::Sizes,

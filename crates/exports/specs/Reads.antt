@@ -32,18 +32,18 @@ use Rattle.sheets.specs.WrittenOrder.{OrderRight, different-cons}
 use Rattle.sheets.specs.ReadBack.{SheetRight, read-right}
 use Rattle.exports.specs.Results.{Exported, kept, resultNeed, onAcceptance, all-padTo}
 
--- m, l, t, the number of relations, c(1) to c(4).
+-- m, l, t, the number of relations, c(1) to c(4) (SCOPE 3.52).
 unfoldable pub readNumbers : ReadResult → List ℤ
 readNumbers r = pos (r .sizes .m) ∷ r .sizes .l ∷ r .sizes .t ∷ pos (r .relations) ∷ map pos (r .order)
 
--- The result store is written on acceptance only: reading refuses 1 to 5 alone.
+-- The result store is written on acceptance only: reading refuses 1 to 5 alone (SCOPE 3.54).
 unfoldable pub readAfter : ReadCall → List ℤ → Exported
 unfolding onAcceptance readNumbers
 readAfter c resultStore =
     record { refusal = c .result .refusal; rowStore = c .rowStore; relationStore = c .relationStore; resultStore = onAcceptance (c .result .refusal) (readNumbers (c .result)) resultStore }
 
--- "1 only when the sheet is otherwise whole": with a result store that is too short the sheet is judged as with stores that hold
--- nothing, and nothing is written.
+-- The result store is found too short last of all, with the other stores (SCOPE 3.53, 4.42): the sheet is then judged
+-- as with stores that hold nothing, and nothing is written.
 unfoldable pub exportRead : List ℕ → List ℤ → List ℤ → List ℤ → Exported
 unfolding readAfter readCall kept
 exportRead bytes rowStore relationStore resultStore =

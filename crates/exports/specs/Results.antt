@@ -40,12 +40,12 @@ pub record Exported : Type 0 where
   pub relationStore : List ℤ
   pub resultStore : List ℤ
 
--- "found before the work begins, stores are unchanged"
+-- A refusal found before the work begins leaves every store as it was (SCOPE 3.54, 6.32).
 unfoldable pub kept : ℕ → List ℤ → List ℤ → List ℤ → Exported
 kept n rowStore relationStore resultStore =
     record { refusal = n; rowStore = rowStore; relationStore = relationStore; resultStore = resultStore }
 
--- The numbers that a result of a run or of a sheet that was read has.
+-- The numbers that a result of a run or of a sheet that was read has (SCOPE 3.52).
 abbrev pub resultNeed : ℕ
 resultNeed = 8
 

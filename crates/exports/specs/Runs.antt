@@ -35,12 +35,12 @@ use Rattle.rules.specs.Calls.{reportedOrder}
 use Rattle.rules.specs.Calls.{Result, Call, callRun, overwrite, zeros, refusal, unchanged, cleared, acceptance, afterRun, afterCheck}
 use Rattle.exports.specs.Results.{Exported, kept, resultNeed, none-checked, all-padTo}
 
--- The number of relations, the shifts, c(1) to c(4), 1 or 0 for a root, the root.
+-- The number of relations, the shifts, c(1) to c(4), 1 or 0 for a root, the root (SCOPE 3.52).
 unfoldable pub runNumbers : Result → List ℤ
 runNumbers r =
     pos (r .relations) ∷ pos (r .shifts) ∷ (map pos (r .order) ++ (pos (cond (r .hasRoot) 1 0) ∷ r .root ∷ []))
 
--- "Calls on stores check sizes (2), lengths (1), numbers (5)"; the result store is one of the stores.
+-- Sizes (2), lengths (1), numbers (5) in turn (SCOPE 3.31); the result store is one of the stores (SCOPE 3.53).
 unfoldable pub checkRun : Sizes → ℕ → List ℤ → List ℤ → List ℤ → ℕ
 unfolding sizesRight countRight lengthsRight numbersRight
 checkRun z count rowStore relationStore resultStore =
@@ -48,7 +48,7 @@ checkRun z count rowStore relationStore resultStore =
     let lengths : ℕ = cond (lengthsRight (z .m) rowStore relationStore && leb resultNeed (length resultStore)) numbers 1 in
     cond (sizesRight z && countRight count) lengths 2
 
--- An acceptance, or a refusal 6 to 9: "all other fields 0", "the needed part of each store that the call may write is zero".
+-- An acceptance, or a refusal 6 to 9, which makes the eight numbers of the result zero (SCOPE 3.54, 6.31).
 unfoldable pub ran : Call → List ℤ → Exported
 unfolding overwrite runNumbers
 ran c resultStore =
@@ -77,7 +77,7 @@ pub record SmallResult (r : Result) : Type 0 where
 
 -- ---- the result store, by the refusal of the run
 
--- The refusals that are found before the work begins.
+-- The refusals that are found before the work begins (SCOPE 6.32).
 unfoldable pub early : ℕ → Bool
 early n = leb 1 n && leb n 5
 
@@ -198,7 +198,7 @@ module _ (side : Side) (z : Sizes) (count : ℕ) (rowStore relationStore : List 
       by-check (suc n) e = subst (λ c. SmallResult (c .result)) (sym (unchecked n e)) (run-zeros (suc n))
 
   module _ (resultStore : List ℤ) where
-    -- The length of the result store is checked with the other lengths, after the sizes.
+    -- The length of the result store is checked with the other lengths, after the sizes (SCOPE 3.53).
     pub run-short : length resultStore < resultNeed
         → kept (checkStores z count [] []) rowStore relationStore resultStore
         ≡ exportRun side z count rowStore relationStore resultStore

@@ -33,7 +33,7 @@ use Rattle.exports.specs.Results.{onAcceptance, none-checked}
 
 -- ---- the order
 
--- Four numbers; "numbers past the needed part stay".
+-- The first four numbers; those behind them are not looked at (SCOPE 3.55).
 unfoldable pub orderOf : List ℤ → List ℕ
 orderOf orderStore = map natAbs (take columnCount orderStore)
 
@@ -45,7 +45,8 @@ pub not-negative : (a : ℤ) → nonNeg a ≡ not (ltZ a (pos 0))
 not-negative (pos n) = sym (ap not (le-ltb n 0 zero-le))
 not-negative (negsuc n) = refl
 
--- A wrong order is refused as a size (2), a negative number in it too; an order store that is too short is a store too short (1).
+-- A wrong order is refused as a size (2), a negative number in it too; an order store that is too short is a store too
+-- short (1) (SCOPE 3.55).
 unfoldable pub orderStoreRight : ℕ → List ℤ → Bool
 unfolding noNegative orderRight orderOf
 orderStoreRight m orderStore =
@@ -53,7 +54,7 @@ orderStoreRight m orderStore =
 
 -- ---- the call
 
--- "Calls on stores check sizes (2), lengths (1), numbers (5)"; the order and the result are two of the stores.
+-- Sizes (2), lengths (1), numbers (5) in turn (SCOPE 3.31); order and result are two of the stores (SCOPE 3.53, 3.55).
 unfoldable pub checkOrdered : Sizes → ℕ → List ℤ → List ℤ → List ℤ → List ℤ → ℕ
 unfolding sizesRight countRight orderStoreRight lengthsRight numbersRight
 checkOrdered z count orderStore rowStore relationStore resultStore =
@@ -67,11 +68,11 @@ pub record Written : Type 0 where
   pub byteStore : List ℕ
   pub resultStore : List ℤ
 
--- "found before the work begins, stores are unchanged"
+-- A refusal found before the work begins leaves the stores as they were (SCOPE 6.32).
 unfoldable pub notWritten : ℕ → List ℕ → List ℤ → Written
 notWritten n byteStore resultStore = record { refusal = n; byteStore = byteStore; resultStore = resultStore }
 
--- "the writer checks its byte store's length (1) last": the length is written on acceptance only.
+-- A byte store too short is found after all else (SCOPE 4.54): the length is written on acceptance only (SCOPE 3.54).
 unfoldable pub wrote : WriteCall → List ℤ → Written
 unfolding onAcceptance
 wrote c resultStore =

@@ -25,7 +25,7 @@ fn run_numbers(answer: elimination::RunResult) -> [i64; 8]
     ]
 }
 
-// The result store after a run: unchanged where the refusal was found before the work began.
+// The result store after a run: unchanged where the refusal was found before the work began (SCOPE 3.54).
 fn put_run(result: &mut [i64], answer: elimination::RunResult)
     requires { ⌜ (8 ≤ length (now result)) × SmallResult (resultOf answer) ⌝ }
     ensures { λ _. ⌜ now (result .exit) ≡ keptOr (answer .refusal) (runNumbers (resultOf answer)) (now (result .entry)) ⌝ }
@@ -52,7 +52,8 @@ fn run(
     elimination::run_leading(rows, relations, sizes, count)
 }
 
-// The exported run of a side. A result store that is too short is refused with the other lengths, so as stores that hold nothing.
+// The exported run of a side. A result store that is too short is refused with the other lengths, so as stores that
+// hold nothing (SCOPE 3.53).
 pub(crate) fn exported(
     rows: &mut [i64],
     relations: &mut [i64],

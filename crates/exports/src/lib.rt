@@ -1,6 +1,6 @@
-// The entry points for programs in C and other languages, by plain names: the public calls of `elimination` and `sheets`, and the
-// whole batch of `batches`, the fields of whose results are numbers of a lent store. No `requires`, and contracts that give the
-// refusal and every lent store by equations.
+// The entry points for programs in C and other languages, by plain names: the public calls of `elimination` and
+// `sheets`, and the whole batch of `batches`, the fields of whose results are numbers of a lent store. No `requires`,
+// and contracts that give the refusal and every lent store by equations (SCOPE 3.51, 9.1, 9.2).
 ghost use mathlib.Core.Path.{_≡_};
 ghost use Rattle.rules.specs.Elimination.{leading, trailing};
 ghost use Rattle.exports.specs.Runs.{exportRun};
@@ -13,8 +13,8 @@ mod numbers;
 mod reads;
 mod writes;
 
-// A run on the leading side. `result` gets eight numbers: the relation count, the shifts, c(1) to c(4), 1 or 0 for a root, the
-// root.
+// A run on the leading side. `result` gets eight numbers: the relation count, the shifts, c(1) to c(4), 1 or 0 for a
+// root, the root (SCOPE 3.52).
 #[no_mangle]
 pub extern "C" fn wurgalm_run_leading(
     rows: &mut [i64],
@@ -64,7 +64,7 @@ pub extern "C" fn wurgalm_run_trailing(
     )
 }
 
-// A sheet read into the stores. `result` gets eight numbers: m, l, t, the relation count, c(1) to c(4).
+// A sheet read into the stores. `result` gets eight numbers: m, l, t, the relation count, c(1) to c(4) (SCOPE 3.52).
 #[no_mangle]
 pub extern "C" fn wurgalm_read_sheet(
     bytes: &[u8],
@@ -88,8 +88,8 @@ pub extern "C" fn wurgalm_read_sheet(
     0
 }
 
-// The system of the stores written as a sheet. `order` holds four numbers: all 0 for no order, otherwise a permutation of 1..m and
-// zeros past its end. `result` gets one number: the length of the sheet.
+// The system of the stores written as a sheet. `order` holds four numbers: all 0 for no order, otherwise a permutation
+// of 1..m and zeros past its end (SCOPE 3.55, 4.53). `result` gets one number: the length of the sheet (SCOPE 3.52).
 #[no_mangle]
 pub extern "C" fn wurgalm_write_sheet(
     rows: &[i64],
@@ -118,8 +118,9 @@ pub extern "C" fn wurgalm_write_sheet(
     )
 }
 
-// A whole batch. `result` gets one number: the length of the output. A broken batch is accepted, and its output ends in the line `3`.
-// An output too short is found in the course of the work: all of it is zero, and so is the number of the result.
+// A whole batch. `result` gets one number: the length of the output. A broken batch is accepted, and its output ends in
+// the line `3`. An output too short is found in the course of the work: all of it is zero (SCOPE 5.32), and so is the
+// number of the result.
 #[no_mangle]
 pub extern "C" fn wurgalm_batch(input: &[u8], output: &mut [u8], result: &mut [i64]) -> u8
     ensures { λ r. ⌜

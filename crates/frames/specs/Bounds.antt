@@ -22,7 +22,7 @@ use Rattle.frames.specs.Pieces.{readCount, begunBy, begunOf, lineBy, lin
 use Rattle.answers.specs.Answers.{AnswerCall, unanswered, answered, answerCall}
 use Rattle.frames.specs.Lines.{in-range}
 
--- "0 to 32,768"
+-- A sheet has at most 32,768 bytes (SCOPE 5.2).
 pub line-small : (bytes : List ℕ) → lineOf bytes .bytes ≤ 32768
 unfolding lineOf lineBy readAfterClient readSize
 line-small bytes = rw (sheetLine-is bytes) (client (clientOf bytes))
@@ -35,7 +35,7 @@ line-small bytes = rw (sheetLine-is bytes) (client (clientOf bytes))
     client (got k more) = size k more (countOf more) refl
     client (fault n) = zero-le
 
--- "0 to 1,000"
+-- A batch has at most 1,000 sheets (SCOPE 5.1).
 pub begun-counted : (bytes : List ℕ) → Counted (begunOf bytes .batch)
 unfolding begunOf begunBy readCount
 begun-counted bytes = go (readCount bytes) refl

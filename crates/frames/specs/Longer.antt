@@ -1,4 +1,5 @@
--- Lines of a batch when more bytes follow: a fault other than 4 is final, and 4 comes only of bytes too few to decide.
+-- Lines of a batch when more bytes follow (SCOPE 5.23): a fault other than 4 is final, and 4 comes only of bytes too
+-- few to decide.
 --
 -- Main statements
 --   begins-front                                  the first bytes of what can begin a number can begin one
@@ -75,7 +76,7 @@ begins-front (b ∷ w) x h = go (digits (b ∷ w)) (subst (λ ds. T (form ds)) (
 -- ---- a number with its separator
 
 module _ (judge follow : ℤ → ℕ) where
-  -- "bytes that end before a token's separator are 4, or 3 if they cannot begin a number"
+  -- Bytes that end before the separator are 4 where they could begin a number, 3 where not (SCOPE 4.32).
   field-unended : (w : List ℕ) → length (afterWord w) ≡ 0 → field judge follow w ≡ fault (cond (beginsNumber w) 4 3)
   unfolding readWord thenRead
   field-unended w h = field-is judge follow w ∙ go (afterWord w) h ∙ ap (λ v. fault (cond (beginsNumber v) 4 3)) (word-whole w h)

@@ -42,7 +42,7 @@ use Rattle.frames.specs.Windows.{numberLine, batchLine, Taken, taken-dro
 
 -- ---- lines that are read
 
--- "a line with the sheet count (0 to 1,000)"
+-- The line with the number of sheets, 0 to 1,000 (SCOPE 5.1).
 unfoldable pub readCount : List ℕ → Read ℤ
 unfolding field between always
 readCount bytes = field (between (pos 0) (pos 1000)) (always newline) bytes
@@ -54,7 +54,7 @@ batchWith left y = record { left = left; accepted = y .accepted; refused = y .re
 abbrev pub noTally : Tally
 noTally = record { accepted = 0; refused = 0 }
 
--- The fault of a line is told by its number: 4 where more bytes could make the line whole.
+-- The fault of a line is told by its number: 4 where more bytes could make the line whole (SCOPE 5.23).
 unfoldable pub begunBy : List ℕ → Read ℤ → Begun
 begunBy bytes (got k rest) =
     record { refusal = 0; taken = length bytes - length rest; batch = batchWith (natAbs k) noTally }
@@ -108,13 +108,13 @@ pub shown-text : (l : List ℕ) → shown (textOf l) ≡ l
 unfolding textOf overwrite
 shown-text l = take-at l (drop (length l) (replicate batchLine 0)) (length l) refl
 
--- "the refusal number alone on a line"
+-- A refusal alone on its line (SCOPE 5.11).
 unfoldable pub refusalLine : ℕ → List ℕ
 unfolding lines
 refusalLine n = lines ((pos n ∷ []) ∷ [])
 
--- "last, `accepted refused`"; a batch with sheets still to come, or bytes left over, is broken, and so is one that counts more
--- than 1,000 sheets.
+-- The last line: how many sheets are accepted and how many refused (SCOPE 5.12). A batch with sheets still to come, or
+-- bytes left over, is broken (SCOPE 5.21), and so is one that counts more than 1,000 sheets.
 unfoldable pub closeable : Batch → Bool
 closeable b = eqb (b .left) 0 && leb (b .accepted) 1000 && leb (b .refused) 1000
 
@@ -268,7 +268,7 @@ pub refusal-broken : refusalLine 3 ≡ broken
 unfolding refusalLine broken
 refusal-broken = refl
 
--- An answer is its number on a line, and the sheet that answers.
+-- An answer is its number on a line, and the sheet that answers (SCOPE 5.11).
 pub refusal-refused : (n : ℕ) → refusalLine n ≡ answerBytes (refusedWith n)
 unfolding refusalLine answerBytes
 refusal-refused n = refl

@@ -38,11 +38,11 @@ unfoldable pub followed : {A : Type 0} → Read A → List ℕ → Read A
 followed (got a rest) x = got a (rest ++ x)
 followed (fault n) x = fault n
 
--- "at most ten digits after an optional minus", and a separator
+-- A minus and ten digits at most (SCOPE 4.2), and a separator.
 abbrev pub numberLine : ℕ
 numberLine = 12
 
--- Two numbers with their separators.
+-- Two numbers with their separators (SCOPE 5.23).
 abbrev pub batchLine : ℕ
 batchLine = 24
 

@@ -38,7 +38,8 @@ pub struct TextLine {
 
 // ---- lines that are read
 
-// A line is decided by its first 24 bytes: two numbers of at most ten digits and a minus, with their separators.
+// A line is decided by its first 24 bytes (SCOPE 5.23): two numbers of at most ten digits and a minus, with their
+// separators.
 fn window(bytes: &[u8]) -> &[u8]
     ensures { λ r. ⌜ now r ≡ take 24 (now (bytes .entry)) ⌝ }
 {
@@ -49,7 +50,8 @@ fn window(bytes: &[u8]) -> &[u8]
     }
 }
 
-// "a line with the sheet count (0 to 1,000)". The bytes are the rest of the input, or a part from its start of at least 24.
+// The line with the number of sheets, 0 to 1,000 (SCOPE 5.1). The bytes are the rest of the input, or a part from its
+// start of at least 24.
 pub fn begin(bytes: &[u8]) -> Begun
     ensures { λ r. ⌜ r ≡ begunOf (now (bytes .entry)) ⌝ }
 {
@@ -87,7 +89,7 @@ fn no_line(refusal: u8) -> SheetLine
     }
 }
 
-// "a line `client bytes` (1 to 8; 0 to 32,768)". The bytes are as for `begin`.
+// The line of a sheet: its client, 1 to 8, and its bytes, 0 to 32,768 (SCOPE 5.2). The bytes given are as for `begin`.
 pub fn line(bytes: &[u8]) -> SheetLine
     ensures { λ r. ⌜ r ≡ lineOf (now (bytes .entry)) ⌝ }
 {
@@ -139,7 +141,7 @@ pub fn counted(batch: Batch, refusal: u8) -> Batch
 
 // ---- lines that are written
 
-// "the refusal number alone on a line"; `0` before the sheet that answers.
+// A refusal alone on its line; `0` before the sheet that answers (SCOPE 5.11).
 pub fn refusal_line(refusal: u8) -> TextLine
     ensures { λ r. ⌜ r ≡ textOf (refusalLine refusal) ⌝ }
 {
@@ -159,7 +161,8 @@ fn tally_line(accepted: usize, refused: usize) -> TextLine
     TextLine { bytes, length }
 }
 
-// "last, `accepted refused`"; 3 where sheets are still to come, `over` bytes are left over, or more than 1,000 are counted.
+// The last line: how many sheets are accepted and how many refused (SCOPE 5.12); 3 where sheets are still to come,
+// `over` bytes are left over (SCOPE 5.21), or more than 1,000 are counted.
 pub fn close(batch: Batch, over: usize) -> TextLine
     ensures { λ r. ⌜ r ≡ textOf (closeLine batch over) ⌝ }
 {

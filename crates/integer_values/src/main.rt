@@ -1,6 +1,7 @@
-// Prints what `integers` gives at zero, at both ends of ±C, just outside them, and at the ends of i64. A line has the value, its
-// size, 1 where it lies within ±C and else 0, its negation, its quotients by 15 and -15, its remainder by -16, and the greatest
-// common divisor of its size and 65535. The least i64 has no negation, and its line ends after the test of its range.
+// Prints what `integers` gives at zero, at both ends of ±C (SCOPE 8.6), just outside them, and at the ends of i64. A
+// line has the value, its size, 1 where it lies within ±C and else 0, its negation, its quotients by 15 and -15, its
+// remainder by -16, and the greatest common divisor of its size and 65535. The least i64 has no negation, and its line
+// ends after the test of its range.
 use integers::BOUND;
 use printing::print;
 use printing::print_signed;

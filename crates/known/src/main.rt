@@ -1,7 +1,7 @@
-// Prints what the library gives on systems of known result. Standard input has the cases: for each a line `leading BYTES` or
-// `trailing BYTES` and a sheet of that many bytes. Each is read, run on that side, and answered by a line `leading REFUSAL
-// relations R shifts S root N` or `trailing REFUSAL shifts S root N`, N a number or `none`, and, where the refusal is 0, by the
-// sheet that the run leaves, with its column order.
+// Prints what the library gives on systems of known result (SCOPE 7). Standard input has the cases: for each a line
+// `leading BYTES` or `trailing BYTES` and a sheet of that many bytes. Each is read, run on that side, and answered by a
+// line `leading REFUSAL relations R shifts S root N` or `trailing REFUSAL shifts S root N`, N a number or `none`, and,
+// where the refusal is 0, by the sheet that the run leaves, with its column order.
 use elimination::RunResult;
 use printing::print;
 use printing::print_signed;

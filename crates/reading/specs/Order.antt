@@ -1,4 +1,4 @@
--- The order line of a sheet: "one line with the column order, `0` if none, otherwise m and a permutation of 1..m".
+-- The order line of a sheet: 0 alone for no order, otherwise m and the columns 1 to m in some order (SCOPE 4.15).
 --
 -- Main definitions
 --   takenOf order i    the first i columns of an order, the latest first

@@ -79,7 +79,7 @@ paste-twice store p q n k h = ap₂ (λ s r. s ++ take k q ++ r) front behind
         ∙ ap (drop k) (ap (λ i. drop i first) (sym (zero-add n)) ∙ drop-paste store 0 p n zero-le h ∙ ap (λ i. drop i store) (zero-add n))
         ∙ drop-drop k n store
 
--- The relations at the front, and zeros at the places past the count.
+-- The relations at the front, and zeros at the places past the count (SCOPE 3.13).
 pub relations-filled : (count : ℕ) (numbers store : List ℤ) → count ≤ mostRelations → count * relationLength ≤ length numbers
     → paste (paste store 0 numbers (count * relationLength)) (count * relationLength) (replicate (relationNeed - count * relationLength) (pos 0)) (relationNeed - count * relationLength)
     ≡ overwrite (relationStoreOf (relationsOf count numbers)) store
@@ -160,7 +160,7 @@ module _ (bytes : List ℕ) (r : ReadResult) (rows relations : List ℤ) (read :
         ∙ ap₂ (λ n k. cond (lengthsRight (r .sizes .m) rowStore relationStore) (callWith n k held) (unread 1 rowStore relationStore)) (sym none)
         (length-relationsOf (r .relations) relations)
 
-    -- "1 only when the sheet is otherwise whole"
+    -- A store too short is 1, after all faults of the sheet (SCOPE 4.42).
     pub call-short : lengthsRight (r .sizes .m) rowStore relationStore ≡ false → readCall bytes rowStore relationStore ≡ unread 1 rowStore relationStore
     call-short e = call-read ∙ ap (λ t. cond t filledCall (unread 1 rowStore relationStore)) e
 

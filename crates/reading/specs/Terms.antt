@@ -140,7 +140,7 @@ coefficients-none last count i bytes h =
     let e : count - i ≡ 0 = omega arith in
     ap (λ k. readCoefficients last k bytes) e
 
--- A block that was let through: t ≤ s ≤ l, and no higher than the one before.
+-- A block that was let through: t ≤ s ≤ l, and no higher than the one before (SCOPE 4.23, 4.34).
 pub record BlockRight (z : Sizes) (s₀ s : ℤ) : Type 0 where
   pub low : z .t ≤ℤ s
   pub high : s ≤ℤ z .l
@@ -153,7 +153,7 @@ block-zero z s₀ s e =
     let two = both-true (leZ (z .t) s) (leZ s (z .l)) (first .0) in
     record { low = leZ-true (two .0); high = leZ-true (two .1); falling = leZ-true (passed (leZ s s₀) 0 2 (first .1) .0) }
 
--- A column that was let through: 1 ≤ c ≤ m, and after the one before if the block is the same.
+-- A column that was let through: 1 ≤ c ≤ m, and after the one before if the block is the same (SCOPE 4.23, 4.34).
 pub record ColumnRight (z : Sizes) (s₀ : ℤ) (c₀ : ℕ) (s c : ℤ) : Type 0 where
   pub counted : T (nonNeg c)
   pub low : 1 ≤ natAbs c
@@ -251,8 +251,8 @@ module _ (z : Sizes) (s₀ : ℤ) (c₀ last : ℕ) where
 
 -- ---- rows
 
--- Where the polynomial of a block and a column, counted from 1, begins in a row: "block l first, four columns a block, 16
--- coefficients a column".
+-- Where the polynomial of a block and a column, counted from 1, begins in a row: blocks from l downward, four columns
+-- in each, 16 coefficients in each of those (SCOPE 3.2).
 unfoldable pub placeInRow : ℤ → ℤ → ℕ → ℕ
 placeInRow l block column =
     natAbs (l -ℤ block) * (columnCount * coefficientCount) + pred column * coefficientCount

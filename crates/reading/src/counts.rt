@@ -8,14 +8,14 @@ ghost use Rattle.rules.specs.Sheets.{afterCount};
 ghost use Rattle.tokens.specs.Fields.{Answers};
 ghost use Rattle.rules.specs.Sheets as Sheets;
 
-// The separator after a count: the line ends if nothing is counted.
+// The separator after a count: the line ends if nothing is counted (SCOPE 4.15, 4.21).
 pub(crate) fn after_count(value: i64) -> u8
     ensures { λ r. ⌜ r ≡ afterCount value ⌝ }
 {
     if value == 0 { 10 } else { 32 }
 }
 
-// The separator after one of several things on a line of which `left` are still to come.
+// The separator after one of several things on a line of which `left` are still to come (SCOPE 4.36).
 pub(crate) fn parting(left: usize) -> u8
     ensures { λ r. ⌜ r ≡ Sheets.parting 10 left ⌝ }
 {

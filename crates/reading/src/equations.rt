@@ -1,4 +1,4 @@
-// Equations, read into working rows: "its number of terms (0 to m × (D + 1)), then each term".
+// Equations, read into working rows: the number of terms and then the terms (SCOPE 4.21).
 ghost use mathlib.Core.Path.{_≡_};
 ghost use Prim.Native.Nat.{suc, _+_, _*_, _≤_};
 ghost use lib.ListN.{length, drop};
@@ -26,7 +26,7 @@ pub(crate) fn copy(to: &mut [i64], at: usize, from: &[i64], n: usize)
     }
 }
 
-// Where the polynomial of a block and a column begins in a row.
+// Where the polynomial of a block and a column begins in a row (SCOPE 3.2).
 fn place_in_row(l: i64, block: i64, column: usize) -> usize
     requires { ⌜ (natAbs (l -ℤ block) ≤ 4) × (block ≤ℤ l) ⌝ }
     requires { ⌜ (1 ≤ column) × (column ≤ 4) ⌝ }
@@ -47,7 +47,7 @@ pub(crate) fn no_part(refusal: u8) -> PartRead
     PartRead { refusal, at: 0 }
 }
 
-// `count` terms, each read into its place in the 320 numbers of a row that is zero.
+// `count` terms, each read into its place in the 320 numbers of a row that is zero (SCOPE 4.23).
 fn terms_at(
     bytes: &[u8],
     at: usize,
@@ -86,7 +86,7 @@ fn terms_at(
     }
 }
 
-// "its number of terms (0 to m × (D + 1))"
+// An equation has at most m × (D + 1) terms (SCOPE 4.21).
 fn most_terms(z: rows::validity::Sizes) -> i64
     requires { ⌜ T (sizesRight (sizesOf z)) ⌝ }
     ensures { λ r. ⌜ r ≡ pos (z .m * suc (span (sizesOf z))) ⌝ }
@@ -94,7 +94,7 @@ fn most_terms(z: rows::validity::Sizes) -> i64
     (z.m * ((z.l - z.t) as usize + 1)) as i64
 }
 
-// "An equation is its number of terms [..], then each term", read into the 320 numbers of a row that is zero.
+// The number of terms and then the terms, read into the 320 numbers of a row that is zero (SCOPE 4.21).
 pub(crate) fn equation_at(
     bytes: &[u8],
     at: usize,

@@ -13,8 +13,8 @@ pub mod sheet;
 mod sizes;
 mod terms;
 
-// The sheet is read into stores of its own first, so that the lent stores are unchanged on a refusal. A sheet without relations needs
-// none for them.
+// The sheet is read into stores of its own first, so that the lent stores are unchanged on a refusal (SCOPE 4.43). A
+// sheet without relations needs none for them.
 pub fn read_sheet(bytes: &[u8], rows: &mut [i64], relations: &mut [i64]) -> sheet::SheetResult
     ensures { λ r. ⌜ callOf r (now (rows .exit)) (now (relations .exit))
         ≡ readCall (now (bytes .entry)) (now (rows .entry)) (now (relations .entry)) ⌝ }

@@ -1,4 +1,4 @@
-// The order line: "one line with the column order, `0` if none, otherwise m and a permutation of 1..m".
+// The order line: 0 alone for no order, otherwise m and the columns 1 to m in some order (SCOPE 4.15).
 ghost use mathlib.Core.Path.{_≡_};
 ghost use mathlib.Core.List.{[]};
 ghost use Prim.Native.Nat.{_≤_};
@@ -47,7 +47,7 @@ fn is_taken(order: &[usize], taken: usize, c: usize) -> bool
     false
 }
 
-// "a permutation of 1..m": a column outside 1..m, or one that stands already, is a wrong order line (2).
+// A column that is not from 1 to m, or stands there already, is 2 (SCOPE 4.34).
 fn judge_order(m: usize, order: &[usize], taken: usize, value: i64) -> u8
     requires { ⌜ (m ≤ 4) × (taken ≤ length (now order)) ⌝ }
     ensures { λ r. ⌜ r ≡ judgeOrder m (takenOf (now (order .entry)) taken) value ⌝ }
@@ -118,7 +118,7 @@ fn columns_at(bytes: &[u8], at: usize, m: usize, count: usize) -> OrderRead
     }
 }
 
-// "one line with the column order, `0` if none, otherwise m and a permutation of 1..m"
+// The count, 0 or m, and so many columns (SCOPE 4.15).
 pub(crate) fn order_at(bytes: &[u8], at: usize, m: usize) -> OrderRead
     requires { ⌜ (at ≤ length (now bytes)) × (m ≤ 4) ⌝ }
     ensures { λ r. ⌜ Answers (now (bytes .entry)) (r .refusal) (r .order) (r .at) (padded 4 0 (readOrder m (drop at (now (bytes .entry))))) ⌝ }

@@ -1,4 +1,5 @@
-// The sections of a sheet, "fixed order, each after its count", each read into a store of its size that is zero.
+// The sections of a sheet in their order, each after its count (SCOPE 4.11), each read into a store of its size that is
+// zero.
 ghost use mathlib.Core.Path.{_≡_};
 ghost use Prim.Native.Nat.{_*_, _≤_};
 ghost use lib.ListN.{length, drop};
@@ -10,7 +11,7 @@ ghost use Rattle.tokens.specs.Fields.{Answers};
 ghost use Rattle.rows.specs.Validity.{sizesOf};
 ghost use Rattle.reading.specs.WholeSheet.{equationSection};
 
-// The m equations, read into the m × 320 numbers of `rows`.
+// The m equations, read into the m × 320 numbers of `rows` (SCOPE 4.13).
 fn equations_at(
     bytes: &[u8],
     at: usize,
@@ -39,7 +40,7 @@ fn equations_at(
     }
 }
 
-// "n0 and an equation", read into the 321 numbers of a relation.
+// n0 and an equation, read into the 321 numbers of a relation (SCOPE 3.4, 4.14).
 fn relation_at(
     bytes: &[u8],
     at: usize,
@@ -59,7 +60,7 @@ fn relation_at(
     crate::equations::equation_at(bytes, n.at, z, &mut relation[1..])
 }
 
-// The relations, read into the `count` × 321 numbers of `relations`.
+// The relations, read into the `count` × 321 numbers of `relations` (SCOPE 4.14).
 pub(crate) fn relations_at(
     bytes: &[u8],
     at: usize,
@@ -89,7 +90,7 @@ pub(crate) fn relations_at(
     }
 }
 
-// "each after its count"; "an equation count that isn't m" is 2.
+// The equation count, anything but m being 2 (SCOPE 4.34), and the equations (SCOPE 4.13).
 pub(crate) fn equation_section(
     bytes: &[u8],
     at: usize,

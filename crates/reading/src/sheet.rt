@@ -12,8 +12,8 @@ ghost use Rattle.rows.specs.Validity.{sizesOf};
 ghost use Rattle.reading.specs.WholeSheet.{resultOf, HeadTo, HeadRead, SheetRead};
 ghost use Rattle.reading.specs.ReadCalls.{callOf};
 
-// What reading a sheet gives: "Every refusal returns its number, all other fields 0." The order holds columns counted from 1,
-// zeros past its end.
+// What reading a sheet gives: a refusal has its number, and 0 in all other fields (SCOPE 6.31). The order holds columns
+// counted from 1, zeros past its end (SCOPE 4.41).
 pub struct SheetResult {
     pub refusal: u8,
     pub sizes: rows::validity::Sizes,
@@ -80,7 +80,7 @@ pub(crate) fn head_at(bytes: &[u8], rows: &mut [i64]) -> SheetHead
     }
 }
 
-// The relations, read into `relations`, the column order and the end. "4 the bytes [..] go on after the fourth section"
+// The relations, read into `relations`, the column order, and the end: bytes behind that are 4 (SCOPE 4.37).
 pub(crate) fn rest_at(bytes: &[u8], h: SheetHead, relations: &mut [i64]) -> SheetResult
     requires { ⌜ (h .at ≤ length (now bytes)) × T (sizesRight (sizesOf (h .sizes))) ⌝ }
     requires { ⌜ (h .relations ≤ 16) × (now relations ≡ zeros (h .relations * 321)) ⌝ }
@@ -108,7 +108,7 @@ pub(crate) fn rest_at(bytes: &[u8], h: SheetHead, relations: &mut [i64]) -> Shee
     }
 }
 
-// The numbers of m rows, put into a store that is long enough; "numbers past the needed part stay".
+// The numbers of m rows, put into a store that is long enough; what lies behind them stays (SCOPE 3.12).
 pub(crate) fn fill_rows(store: &mut [i64], numbers: &[i64], m: usize)
     requires { ⌜ (m ≤ 4) × (m * 320 ≤ length (now store)) × (m * 320 ≤ length (now numbers)) ⌝ }
     ensures { λ _. ⌜ now (store .exit) ≡ overwrite (rowStoreOf (rowsOf m (now (numbers .entry)))) (now (store .entry)) ⌝ }
@@ -116,8 +116,7 @@ pub(crate) fn fill_rows(store: &mut [i64], numbers: &[i64], m: usize)
     crate::equations::copy(store, 0, numbers, m * 320);
 }
 
-// The numbers of the relations, put into a store that is long enough; "Relation places past the count are unused: they hold 0
-// before and after."
+// The numbers of the relations, put into a store that is long enough, and 0 at the places behind them (SCOPE 3.13).
 pub(crate) fn fill_relations(store: &mut [i64], numbers: &[i64], count: usize)
     requires { ⌜ (count ≤ 16) × (5136 ≤ length (now store)) × (count * 321 ≤ length (now numbers)) ⌝ }
     ensures { λ _. ⌜ now (store .exit) ≡ overwrite (relationStoreOf (relationsOf count (now (numbers .entry)))) (now (store .entry)) ⌝ }
@@ -127,8 +126,9 @@ pub(crate) fn fill_relations(store: &mut [i64], numbers: &[i64], count: usize)
     rows::stores::clear(store, used, 5136 - used);
 }
 
-// The rest of a sheet whose equations have been read, its relations read into `scratch`, and the lent stores filled with what was
-// read: on a refusal they are unchanged, and 1 comes "only when the sheet is otherwise whole".
+// The rest of a sheet whose equations have been read, its relations read into `scratch`, and the lent stores filled
+// with what was read: on a refusal they are unchanged (SCOPE 4.43), and 1 comes only when the bytes are a sheet without
+// a fault (SCOPE 4.42).
 pub(crate) fn fill(
     bytes: &[u8],
     h: SheetHead,

@@ -1,4 +1,4 @@
-// The sizes: "`3 m l t`".
+// The sizes: the line of 3, m, l and t (SCOPE 4.12).
 ghost use mathlib.Core.Path.{_≡_};
 ghost use Prim.Native.Nat.{_≤_};
 ghost use lib.ListN.{length, drop};
@@ -9,7 +9,7 @@ ghost use Rattle.tokens.specs.Fields.{Answers};
 ghost use Rattle.rows.specs.Validity.{sizesOf};
 ghost use Rattle.reading.specs.WholeSheet.{readUnknowns, readBlocks};
 
-// "-64 ≤ t ≤ l ≤ 64. D = l - t is 0 to 4."
+// t lies between -64 and l, and D = l - t is at most 4 (SCOPE 1.2); otherwise it is 2 (SCOPE 4.34).
 fn judge_lowest(l: i64, t: i64) -> u8
     requires { ⌜ natAbs l ≤ 64 ⌝ }
     ensures { λ r. ⌜ r ≡ judgeLowest l t ⌝ }
@@ -31,7 +31,7 @@ fn lowest_at(bytes: &[u8], at: usize, l: i64) -> tokens::NumberRead
     tokens::separated(bytes, n, judgement, 10)
 }
 
-// The section count of a sheet, 3, and the number of unknowns.
+// The count that a sheet begins with, 3, and the number of unknowns (SCOPE 4.12).
 fn unknowns_at(bytes: &[u8], at: usize) -> tokens::NumberRead
     requires { ⌜ at ≤ length (now bytes) ⌝ }
     ensures { λ r. ⌜ Answers (now (bytes .entry)) (r .refusal) (r .value) (r .at) (readUnknowns (drop at (now (bytes .entry)))) ⌝ }
@@ -99,7 +99,7 @@ fn no_sizes(refusal: u8) -> SizesRead
     }
 }
 
-// "`3 m l t`"
+// The first line of a sheet: 3, m, l, t (SCOPE 4.12).
 pub(crate) fn sizes_at(bytes: &[u8], at: usize) -> SizesRead
     requires { ⌜ at ≤ length (now bytes) ⌝ }
     ensures { λ r. ⌜ Answers (now (bytes .entry)) (r .refusal) (sizesOf (r .sizes)) (r .at) (readSizes (drop at (now (bytes .entry)))) ⌝ }

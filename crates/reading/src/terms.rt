@@ -1,4 +1,4 @@
-// Terms: "each term as s, c, number of coefficients (1 to 16), coefficients from power 0".
+// Terms: block, column, the number of coefficients, and those from power 0 on (SCOPE 4.22).
 ghost use mathlib.Core.Path.{_≡_};
 ghost use Prim.Native.Nat.{_≤_};
 ghost use lib.ListN.{length, drop};
@@ -9,7 +9,7 @@ ghost use Rattle.tokens.specs.Fields.{Answers};
 ghost use Rattle.rows.specs.Validity.{sizesOf};
 ghost use Rattle.reading.specs.Terms.{readCoefficient, padded, readPlace, readPolynomial};
 
-// "The last coefficient of a term is nonzero."
+// A last coefficient past ±C is 5 (SCOPE 4.34), one that is 0 is 3 (SCOPE 4.24, 4.35).
 fn judge_last(value: i64) -> u8
     ensures { λ r. ⌜ r ≡ judgeLast value ⌝ }
 {
@@ -22,7 +22,8 @@ fn judge_last(value: i64) -> u8
     5
 }
 
-// "Terms go by falling s, then rising c." The term before stood at block `before` and column `last`.
+// Out of range is 2 (SCOPE 4.34); then a block that rises, or a column that does not rise within its block, is 3
+// (SCOPE 4.23, 4.35). The term before stood at block `before` and column `last`.
 fn judge_block(z: rows::validity::Sizes, before: i64, s: i64) -> u8
     ensures { λ r. ⌜ r ≡ judgeBlock (sizesOf z) before s ⌝ }
 {
@@ -127,7 +128,7 @@ fn coefficients_at(
     }
 }
 
-// The number of coefficients (1 to 16) and the coefficients.
+// The number of coefficients (1 to 16) and the coefficients (SCOPE 4.22).
 pub(crate) fn polynomial_at(
     bytes: &[u8],
     at: usize,

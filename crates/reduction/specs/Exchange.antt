@@ -2,7 +2,7 @@
 --
 -- Main definitions
 --   numbersAt store i       the numbers of row i
---   narrowed store i j      the store after "if row j is wider than row i, exchange them"
+--   narrowed store i j      the store after the exchange of rows i and j, if row j is the wider (SCOPE 2.22)
 --
 -- Main statements
 --   narrowed-exchanged, narrowed-same     the two cases

@@ -53,7 +53,7 @@ answerFor (going s) = record { refusal = 0; done = false; progress = progressOf 
 answerFor (done s) = record { refusal = 0; done = true; progress = progressOf s }
 answerFor (refused n) = answerOf n (startProgress 0)
 
--- "6 to 9 leave the needed part zero, the rest unchanged"
+-- A refusal during the work leaves the needed part zero, and the rest as it was (SCOPE 6.33).
 unfoldable pub rowsAfter : ℕ → Outcome → List ℤ → List ℤ
 unfolding overwrite zeros rowNeed rowStoreOf
 rowsAfter m (going s) store = overwrite (rowStoreOf (s .rows)) store

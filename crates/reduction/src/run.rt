@@ -8,7 +8,8 @@ ghost use Rattle.sides.specs.Lent.{Within, Listing, sideOf};
 ghost use Rattle.reduction.specs.Progress.{Reached, startProgress};
 ghost use Rattle.reduction.specs.Ran.{runOf, answerFor, rowsAfter, relationsAfter};
 
-// m settlings, five shifts a row, every settled row before each of those, and the step that finds no row left.
+// A bound on the steps that no run reaches (SCOPE 3.24): m settlings, five shifts a row, every settled row before each
+// of those, and the step that finds no row left.
 fn enough(m: usize) -> usize
     requires { ⌜ m ≤ 4 ⌝ }
     ensures { λ r. ⌜ r ≡ (m + 1) * (m + m * 5) + 1 ⌝ }
@@ -16,7 +17,7 @@ fn enough(m: usize) -> usize
     (m + 1) * (m + m * 5) + 1
 }
 
-// "Settled rows w begin at 0."
+// No row is settled at the start (SCOPE 2.2).
 fn start(count: usize) -> Progress
     ensures { λ r. ⌜ r ≡ startProgress count ⌝ }
 {
@@ -52,7 +53,7 @@ fn steps(rows: &mut [i64], relations: &mut [i64], m: usize, trailing: bool, coun
     o
 }
 
-// A refused run leaves zeros. The relation places past those that are listed hold 0 already.
+// A refused run leaves zeros (SCOPE 6.33). The relation places past those that are listed hold 0 already.
 pub fn run(
     rows: &mut [i64],
     relations: &mut [i64],

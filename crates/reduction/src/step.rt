@@ -63,7 +63,7 @@ fn put_limited(
     answer(0, next)
 }
 
-// "if row j is wider than row i, exchange them"
+// If settled row j is wider than row i, the two change places (SCOPE 2.22).
 fn narrow_first(rows: &mut [i64], i: usize, j: usize)
     requires { ⌜ (i * 320 + 320 ≤ length (now rows)) × (j * 320 + 320 ≤ length (now rows)) ⌝ }
     ensures { λ _. ⌜ now (rows .exit) ≡ narrowed (now (rows .entry)) i j ⌝ }
@@ -76,7 +76,7 @@ fn narrow_first(rows: &mut [i64], i: usize, j: usize)
     }
 }
 
-// Rule 2: "Let a be row j's entry and b row i's."
+// The multipliers of rule 2, from the entries of both rows in column c (SCOPE 2.23, 2.24, 2.25).
 fn multipliers_at(
     target: [i64; 320],
     pivot: [i64; 320],
@@ -94,7 +94,7 @@ fn multipliers_at(
     polynomials::content::multipliers_of(&p[from..to], &t[from..to])
 }
 
-// Rule 5: "c(i) is the smallest column with a nonzero entry, and the row is settled".
+// Rule 5: the row in turn is settled at c, the lowest column with a nonzero leading entry (SCOPE 2.51).
 fn settled(c: usize, p: Progress) -> Progress
     requires { ⌜ (p .settled < 4) × (length (p .order) ≡ 4) ⌝ }
     ensures { λ r. ⌜ r ≡ settledProgress p c ⌝ }
@@ -110,7 +110,7 @@ fn settled(c: usize, p: Progress) -> Progress
     }
 }
 
-// Rule 6: "every block moves up by one and n becomes n + 1 in the row".
+// Rule 6: the blocks move up by one, with n + 1 for n, and the shift is counted (SCOPE 2.61, 2.63, 2.65).
 fn shift_step(rows: &mut [i64], row: [i64; 320], p: Progress) -> Outcome
     requires { ⌜ (p .settled * 320 + 320 ≤ length (now rows)) × T (every small row) × (p .shifts < 2 ^ 32) ⌝ }
     ensures { λ _. ⌜ now (rows .exit) ≡ saved (now (rows .entry)) (p .settled) (refusalOf (shiftedRow row)) (numbersOf (shiftedRow row)) ⌝ }
@@ -127,7 +127,8 @@ fn shift_step(rows: &mut [i64], row: [i64; 320], p: Progress) -> Outcome
     put_limited(rows, i, working::shifting::shifted(row), next)
 }
 
-// Rules 3 and 4 for the row that is worked on and settled row j. The number m of rows stands in the contract only.
+// Rules 3 and 4 for the row that is worked on and settled row j (SCOPE 2.31, 2.34, 2.41, 2.42, 2.47). The number m of
+// rows stands in the contract only.
 fn combine_step(
     rows: &mut [i64],
     relations: &mut [i64],
@@ -169,7 +170,7 @@ fn combine_step(
     )
 }
 
-// One exchange with its combination, one combination, one settling, one shift, or the end.
+// One exchange with its combination, one combination, one settling, one shift, or the end (SCOPE 2.2, 2.11, 2.26).
 pub(crate) fn step(
     rows: &mut [i64],
     relations: &mut [i64],

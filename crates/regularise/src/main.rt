@@ -1,6 +1,6 @@
-// The batch program: each piece of standard input is handed to `batches::piece`, and what comes out is written before more is read. What
-// is written for which input is proved of the calls of `batches`; that these loops hand over every byte that was read, in order, and
-// write every byte that came out, is for the reader's eye.
+// The batch program (SCOPE 5.41): each piece of standard input is handed to `batches::piece`, and what comes out is
+// written before more is read. What is written for which input is proved of the calls of `batches`; that these loops
+// hand over every byte that was read, in order, and write every byte that came out, is for the reader's eye.
 use libc::STDERR_FILENO;
 use libc::STDIN_FILENO;
 use libc::STDOUT_FILENO;
@@ -10,7 +10,7 @@ ghost use lib.ListN.{length};
 ghost use Rattle.batches.specs.PieceCalls.{heldNeed, streamCheck};
 ghost use Rattle.batches.specs.Rooms.{answerRoom};
 
-// The store for bytes that begin a line or a sheet.
+// The store for bytes that begin a line or a sheet (SCOPE 5.33).
 fn store() -> [u8; 32792]
     ensures { λ r. ⌜ 32792 ≡ length r ⌝ }
 {
@@ -67,7 +67,7 @@ fn pass(start: batches::Stream, held: &mut [u8], input: &[u8], output: &mut [u8]
     }
 }
 
-// Nothing more is answered after a broken batch.
+// Nothing more is answered after a broken batch (SCOPE 5.21).
 fn over(stage: batches::Stage) -> bool {
     match stage {
         batches::Stage::Over => true,

@@ -117,7 +117,7 @@ unfoldable pub resultAfter : Side → ℕ → Outcome → Result
 unfolding acceptance refusal
 resultAfter side D (done s) = acceptance side D s
 resultAfter side D (refused n) = refusal n
--- A run always ends (crate theory), so this case never comes.
+-- A run always ends (crate theory), so this case never comes (SCOPE 3.24).
 resultAfter side D (going s) = refusal 6
 
 -- What the row store and the answer hold when the run has ended.

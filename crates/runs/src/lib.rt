@@ -16,8 +16,9 @@ ghost use Rattle.reduction.specs.Progress.{stateOf, outcomeAt};
 ghost use Rattle.reduction.specs.Ran.{Ran};
 ghost use Rattle.runs.specs.CallLaws.{resultOf, callOf, resultAfter, Final};
 
-// The number of the refusal or 0, and for a run that accepts: how many relations the store holds, how many shifts were made,
-// the columns of the settled rows, counted from 1, with zeros past the last, and whether there is a root, and which; 0 with "no".
+// The number of the refusal or 0, and for a run that accepts: how many relations the store holds, how many shifts were
+// made, the columns of the settled rows, counted from 1, with zeros past the last, and whether there is a root, and
+// which; 0 where there is none (SCOPE 2.82, 3.22, 3.23).
 pub struct RunResult {
     pub refusal: u8,
     pub relations: usize,
@@ -27,7 +28,7 @@ pub struct RunResult {
     pub root: i64,
 }
 
-// "Every refusal returns its number, all other fields 0."
+// A refusal has its number, and 0 in all other fields (SCOPE 6.31).
 fn refused(refusal: u8) -> RunResult
     ensures { λ r. ⌜ resultOf r ≡ Calls.refusal refusal ⌝ }
 {
@@ -41,7 +42,7 @@ fn refused(refusal: u8) -> RunResult
     }
 }
 
-// Columns counted from 1, zeros past the last.
+// Columns counted from 1, zeros past the last (SCOPE 3.23).
 fn counted(order: [usize; 4], m: usize) -> [usize; 4]
     requires { ⌜ (m ≤ 4) × Columns order ⌝ }
     ensures { λ r. ⌜ r ≡ Calls.reportedOrder (take m order) ⌝ }
@@ -55,7 +56,7 @@ fn counted(order: [usize; 4], m: usize) -> [usize; 4]
     result
 }
 
-// The result of a run that accepts.
+// The result of a run that accepts (SCOPE 2.81, 3.22).
 fn accepted(
     rows: &[i64],
     m: usize,
@@ -79,7 +80,7 @@ fn accepted(
     }
 }
 
-// "Trailing side: replace n by -n, block s by -s, n0 by -n0; run the above; mirror back."
+// The trailing side: the system is mirrored, goes through the rules, and is mirrored again (SCOPE 2.91, 2.94).
 fn trailing_run(
     rows: &mut [i64],
     relations: &mut [i64],
@@ -123,7 +124,8 @@ fn whole_run(
     }
 }
 
-// The result of a run that has ended. The stores are as the call leaves them: they hold the output, or zeros after a refusal.
+// The result of a run that has ended. The stores are as the call leaves them: they hold the output, or zeros after a
+// refusal (SCOPE 3.21, 6.33).
 fn ended(
     rows: &[i64],
     sizes: rows::validity::Sizes,
@@ -175,7 +177,7 @@ pub fn leading_run(
     checked_run(rows, relations, sizes, count, false)
 }
 
-// A run on lent stores: the checks, and the run.
+// A run on lent stores: the checks, and the run (SCOPE 3.21, 3.31).
 pub fn called(
     rows: &mut [i64],
     relations: &mut [i64],

@@ -1,4 +1,4 @@
--- Sheets read back: what is written is read, and what is read would be written so.
+-- Sheets read back: what is written is read, and what is read would be written so (SCOPE 4.56).
 --
 -- Main definitions
 --   SheetRight sheet                     a valid system, with no column order or a permutation of its columns

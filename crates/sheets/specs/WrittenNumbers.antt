@@ -323,7 +323,7 @@ decimalFrom-leading (d ∷ ds) h i = (
     same : 48 + v ≡ d
     same = omega (arith, bounds)
 
--- A 0 in front stands alone and has no sign.
+-- A 0 in front stands alone and has no sign (SCOPE 4.2).
 starts-cases : (sign : Bool) (d : ℕ) (ds : List ℕ) → T (startsRight sign (d ∷ ds))
     → T (leading (d ∷ ds)) ⊎ ((sign ≡ false) × (d ≡ 48) × (ds ≡ []))
 unfolding startsRight leading

@@ -30,7 +30,7 @@ use Rattle.sheets.specs.WrittenTerms.{judge-zero, range-digits, positive
 use Rattle.sheets.specs.WrittenTerms.{line-parted, chainBytes-parted}
 use Rattle.sheets.specs.WrittenSections.{counted, count-parted, afterCount-separator}
 
--- None, or a permutation of 1..m: as many different columns as there are.
+-- None, or a permutation of 1..m: as many different columns as there are (SCOPE 4.15).
 unfoldable pub OrderRight : ℕ → List ℕ → Type 0
 OrderRight m order = (order ≡ []) ⊎ ((length order ≡ m) × T (differentColumns m order))
 

@@ -148,7 +148,7 @@ unfolding coefficientJudge
 coefficient-digits zero a h = small-digits a (judgeLast-iff a .0 h .0)
 coefficient-digits (suc k) a h = small-digits a (judgeSmall-iff a .0 h)
 
--- Small coefficients, the last of them not zero.
+-- Small coefficients, the last of them not zero (SCOPE 4.24).
 unfoldable pub Sound : Polynomial → Type 0
 unfolding Chain coefficientJudge
 Sound = Chain {S = Unit {0}} (λ s _. s) (λ a. a) (λ _ k a. coefficientJudge k a ≡ 0) tt
@@ -191,7 +191,7 @@ coefficients-exact last k h =
 
 -- ---- terms
 
--- A term that may stand after one of block s₀ and column c₀.
+-- A term that may stand after one of block s₀ and column c₀ (SCOPE 4.23).
 pub record TermRight (z : Sizes) (s₀ : ℤ) (c₀ : ℕ) (e : Term) : Type 0 where
   pub block-right : judgeBlock z s₀ (e .block) ≡ 0
   pub column-right : judgeColumn z s₀ c₀ (e .block) (pos (e .column)) ≡ 0

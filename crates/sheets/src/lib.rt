@@ -8,7 +8,8 @@ ghost use Rattle.writing.specs.WriterChecks.{callOf};
 pub use reading::sheet::SheetResult;
 pub use writing::writer::WriteResult;
 
-// A sheet read into lent stores. On every refusal they are unchanged; numbers past the needed part stay.
+// A sheet read into lent stores. On a refusal they are unchanged (SCOPE 4.43); numbers past the needed part stay
+// (SCOPE 3.12).
 pub fn read_sheet(bytes: &[u8], rows: &mut [i64], relations: &mut [i64]) -> SheetResult
     ensures { λ r. ⌜
         ReadCalls.callOf r (now (rows .exit)) (now (relations .exit))
@@ -17,8 +18,9 @@ pub fn read_sheet(bytes: &[u8], rows: &mut [i64], relations: &mut [i64]) -> Shee
     reading::read_sheet(bytes, rows, relations)
 }
 
-// The system of the stores and its column order as a sheet: all four numbers of the order 0 for none, otherwise a permutation of
-// 1..m and zeros past its end. Nothing is written on a refusal, and bytes past the length stay.
+// The system of the stores and its column order as a sheet: all four numbers of the order 0 for none, otherwise a
+// permutation of 1..m and zeros past its end (SCOPE 4.53). Nothing is written on a refusal (SCOPE 4.54), and bytes past
+// the length stay (SCOPE 4.51).
 pub fn write_sheet(
     rows: &[i64],
     relations: &[i64],

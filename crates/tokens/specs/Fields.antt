@@ -110,7 +110,7 @@ unfoldable pub closing : ℕ → ℕ → ℤ → List ℕ → Read ℤ
 unfolding thenRead judged readSeparator
 closing judgement separator v rest = thenRead (judged judgement v rest) (readSeparator separator)
 
--- "within a token, its form (3 [..])", and "3 if they cannot begin a number"
+-- What cannot begin a number is 3, be a separator behind it or not (SCOPE 4.32, 4.33).
 not-begun : (w rest : List ℕ) → beginsNumber w ≡ false → readWord unjudged w rest ≡ fault 3
 unfolding readWord isNumber
 not-begun w [] e = rw e
@@ -122,7 +122,7 @@ module _ (bytes : List ℕ) (at from end v : ℕ) (start : DigitsStart bytes at 
   unfolding readNumber
   number-followed h e stopped = not-begun (word (drop at bytes)) (afterWord (drop at bytes)) (digits-followed bytes at from end v start read h e stopped)
 
-  -- "bytes that end before a token's separator are 4, or 3 if they cannot begin a number"
+  -- Bytes that end before the separator are 4 where they could begin a number, 3 where not (SCOPE 4.32).
   pub number-cut : end ≡ length bytes → readNumber (drop at bytes) ≡ fault (cond (startsRight (ltb at from) (slice from end bytes)) 4 3)
   unfolding readNumber readWord
   number-cut e =
@@ -149,7 +149,7 @@ number-refuses {bytes} {v = v} {next = next} h e r =
     }
 
 module _ (bytes : List ℕ) (n : ℕ) (v : ℤ) (at judgement separator : ℕ) where
-  -- The number's own refusal comes first, then its judgement, then the separator.
+  -- The number's own refusal comes first, then its judgement, then the separator (SCOPE 4.33, 4.34, 4.36).
   pub closing-refused : (n ≡ 0 → ⊥) → thenRead (readOf bytes n v at) (closing judgement separator) ≡ fault n
   closing-refused h = then-fault (closing judgement separator) (fault-of bytes n v at h)
 

@@ -244,7 +244,7 @@ module _ (bytes : List ℕ) (from end v : ℕ) (read : DigitsTo bytes from end v
 -- ---- the number of a token whose digits have been read
 
 module _ (bytes : List ℕ) (at from end v : ℕ) (start : DigitsStart bytes at from) (read : DigitsTo bytes from end v) where
-  -- Another byte of the token after them: no digit, or an eleventh ("3, also for an eleventh digit").
+  -- Another byte of the token after them: no digit, or an eleventh, which is 3 too (SCOPE 4.33).
   pub digits-followed : end < length bytes → isSeparator (getD bytes end 0) ≡ false → Stopped bytes from end
       → beginsNumber (word (drop at bytes)) ≡ false
   unfolding beginsNumber word every
@@ -284,7 +284,7 @@ module _ (bytes : List ℕ) (at from end v : ℕ) (start : DigitsStart bytes at 
 unfoldable pub unjudged : ℤ → ℕ
 unjudged v = 0
 
--- What a token means: "a token that is no number ends the reading", with refusal 3; a number is read, and its separator is next.
+-- What a token means: one that is no number is 3; a number is read, and its separator is next (SCOPE 4.33, 8.21).
 unfoldable pub tokenAnswer : Token → List ℕ → Read ℤ
 tokenAnswer (Number v) rest = got v rest
 tokenAnswer NoNumber rest = fault 3

@@ -1,5 +1,5 @@
-// The numbers of a sheet and of a batch line: "at most ten digits after an optional minus, without leading zeros or `-0`", each
-// judged and with its separator.
+// The numbers of a sheet and of a batch line: one to ten digits, a minus or none in front, no superfluous zero
+// (SCOPE 4.2); each is judged, and has its separator (SCOPE 4.33, 4.34, 4.36).
 ghost use mathlib.Core.Path.{_≡_};
 ghost use mathlib.Core.Bool.{_&&_, cond};
 ghost use Prim.Native.Nat.{_+_, _^_, _≤_, _<_};
@@ -44,7 +44,7 @@ struct Digits {
     value: u64,
 }
 
-// The digits from `from` on, at most ten.
+// The digits from `from` on, at most ten (SCOPE 4.2).
 fn digits_from(bytes: &[u8], from: usize) -> Digits
     requires { ⌜ from ≤ length (now bytes) ⌝ }
     ensures { λ r. ⌜ DigitsTo (now (bytes .entry)) from (r .end) (r .value) × Stopped (now (bytes .entry)) from (r .end) ⌝ }
@@ -62,7 +62,7 @@ fn digits_from(bytes: &[u8], from: usize) -> Digits
     Digits { end, value }
 }
 
-// "without leading zeros or `-0`": a 0 stands alone and without a sign.
+// No superfluous zero stands in front, and zero has no minus: a 0 stands alone and without a sign (SCOPE 4.2).
 fn starts_right(bytes: &[u8], signed: bool, from: usize, end: usize) -> bool
     requires { ⌜ (from ≤ end) × (end ≤ length (now bytes)) ⌝ }
     ensures { λ r. ⌜ r ≡ startsRight signed (slice from end (now (bytes .entry))) ⌝ }
@@ -127,8 +127,8 @@ pub fn no_number(refusal: u8) -> NumberRead
     }
 }
 
-// The number at `at`; the place after it is that of its separator. "bytes that end before a token's separator are 4, or 3 if
-// they cannot begin a number"
+// The number at `at`; the place after it is that of its separator. Bytes that end before the separator are 4 where they
+// could begin a number, 3 where not (SCOPE 4.32); a token that is no number is 3 (SCOPE 4.33, 8.3).
 pub fn number_at(bytes: &[u8], at: usize) -> NumberRead
     requires { ⌜ at ≤ length (now bytes) ⌝ }
     ensures { λ r. ⌜ NumberAt (now (bytes .entry)) at (r .refusal) (r .value) (r .at) ⌝ }
@@ -153,7 +153,7 @@ pub fn number_at(bytes: &[u8], at: usize) -> NumberRead
     }
 }
 
-// A number that was judged, with its separator: "also a wrong separator" (3).
+// A number that was judged, with its separator, a wrong one of which is 3 (SCOPE 4.36).
 pub fn separated(bytes: &[u8], n: NumberRead, judgement: u8, separator: u8) -> NumberRead
     requires { ⌜ (n .refusal ≡ 0 → n .at < length (now bytes)) ⌝ }
     ensures { λ r. ⌜ Answers (now (bytes .entry)) (r .refusal) (r .value) (r .at) (thenRead (readOf (now (bytes .entry)) (n .refusal) (n .value) (n .at)) (closing judgement separator)) ⌝ }
@@ -182,14 +182,14 @@ pub fn is_between(low: i64, high: i64, value: i64) -> bool
     low <= value && value <= high
 }
 
-// "2 a size, block, column or count outside its range"
+// A size, block, column or count out of its range is 2 (SCOPE 4.34, 6.2).
 pub fn judge_between(low: i64, high: i64, value: i64) -> u8
     ensures { λ r. ⌜ r ≡ between low high value ⌝ }
 {
     if is_between(low, high, value) { 0 } else { 2 }
 }
 
-// "5 a coefficient or n0 outside ±C"
+// A coefficient or n0 past ±C is 5 (SCOPE 4.34, 6.5).
 pub fn judge_small(value: i64) -> u8
     ensures { λ r. ⌜ r ≡ judgeSmall value ⌝ }
 {

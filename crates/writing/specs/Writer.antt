@@ -243,7 +243,7 @@ spaced-append [] m = refl
 spaced-append (a ∷ l) m =
     ap (λ r. space ∷ r) (append-assoc (decimal a) (spaced l) (spaced m) ∙ ap (λ r. decimal a ++ r) (spaced-append l m))
 
--- A line is its first number, the others, and the byte that ends it.
+-- A line is its first number, the others, and the byte that ends it (SCOPE 4.1).
 pub line-is : (a : ℤ) (l : List ℤ) → line (a ∷ l) ≡ (decimal a ++ spaced l) ++ (newline ∷ [])
 unfolding line spaced
 line-is a [] = ap (λ r. r ++ (newline ∷ [])) (sym (append-nil (decimal a)))

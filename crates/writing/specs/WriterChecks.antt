@@ -83,7 +83,7 @@ relation-small z part h right =
     (both .0, row-small z (drop 1 part) (rw length-drop (omega arith)) (both .1)))
 
 module _ (z : Sizes) (count : ℕ) (order : List ℕ) (rowStore relationStore : List ℤ) where
-  -- A wrong order argument is a wrong size.
+  -- A wrong order argument is a wrong size (SCOPE 4.53).
   pub checkWrite-order : checkWrite z count order rowStore relationStore
       ≡ cond (orderRight (z .m) order) (checkStores z count rowStore relationStore) 2
   unfolding checkWrite checkStores

@@ -116,7 +116,8 @@ fn put_numbers(bytes: &mut [u8], at: usize, numbers: &[i64]) -> usize
     next
 }
 
-// The number of coefficients up to the last nonzero one. All are looked at: a way out of the loop would cost more than it spares.
+// The number of coefficients up to the last nonzero one (SCOPE 4.24). All are looked at: a way out of the loop would
+// cost more than it spares.
 fn trimmed(p: &[i64]) -> usize
     requires { ⌜ length (now p) ≡ 16 ⌝ }
     ensures { λ r. ⌜ r ≡ length (trim (now (p .entry))) ⌝ }
@@ -132,7 +133,7 @@ fn trimmed(p: &[i64]) -> usize
     n
 }
 
-// One term; nothing for a zero polynomial.
+// One term; nothing for a zero polynomial (SCOPE 4.22, 4.52).
 fn put_term(bytes: &mut [u8], at: usize, p: &[i64], n: usize, block: i64, column: usize) -> usize
     requires { ⌜
         (length (now p) ≡ 16) × (n ≡ length (trim (now p))) × (at + 416 < 2 ^ 64) × T (every small (now p)) × T (small block) ⌝ }
@@ -147,7 +148,7 @@ fn put_term(bytes: &mut [u8], at: usize, p: &[i64], n: usize, block: i64, column
     put_numbers(bytes, after_count, &p[..n])
 }
 
-// The terms of one block, by rising column.
+// The terms of one block, by rising column (SCOPE 4.23).
 fn put_block(bytes: &mut [u8], at: usize, numbers: &[i64], lengths: &[usize], block: i64) -> usize
     requires { ⌜
         (length (now numbers) ≡ 64) × (length (now lengths) ≡ 4) × Lengths 4 (now numbers) (now lengths) × (at + 1664 < 2 ^ 64)
@@ -167,7 +168,7 @@ fn put_block(bytes: &mut [u8], at: usize, numbers: &[i64], lengths: &[usize], bl
     next
 }
 
-// The terms of a row, "by falling s, then rising c".
+// The terms of a row, from block l downward, in each block by rising column (SCOPE 4.23).
 fn put_terms(bytes: &mut [u8], at: usize, row: &[i64], lengths: &[usize], l: i64) -> usize
     requires { ⌜
         (length (now row) ≡ 320) × (length (now lengths) ≡ 20) × Lengths 20 (now row) (now lengths) × (natAbs l ≤ 64)
@@ -194,7 +195,8 @@ fn put_terms(bytes: &mut [u8], at: usize, row: &[i64], lengths: &[usize], l: i64
     next
 }
 
-// The number of terms of a row, of its polynomials that are not zero, and the number of coefficients of each polynomial.
+// The number of terms of a row, of its polynomials that are not zero (SCOPE 4.52), and the number of coefficients of
+// each.
 fn term_lengths(lengths: &mut [usize], row: &[i64]) -> usize
     requires { ⌜ (length (now lengths) ≡ 20) × (length (now row) ≡ 320) ⌝ }
     ensures { λ r. ⌜ (r ≡ nonzeroCount (parts 16 20 (now (row .entry)))) × Lengths 20 (now (row .entry)) (now (lengths .exit)) ⌝ }
@@ -225,7 +227,7 @@ fn put_equation(bytes: &mut [u8], at: usize, row: &[i64], l: i64) -> usize
     put_byte(bytes, written, 10)
 }
 
-// "n0 and an equation"
+// A line with n0 and an equation (SCOPE 4.14).
 fn put_relation(bytes: &mut [u8], at: usize, numbers: &[i64], l: i64) -> usize
     requires { ⌜ (length (now numbers) ≡ 321) × (natAbs l ≤ 64) × (at + 8363 < 2 ^ 64) × T (every small (now numbers)) ⌝ }
     ensures { λ r. ⌜ Put (now (bytes .entry)) at (line (relationLine l (relationOf (now (numbers .entry))))) 4612 (now (bytes .exit)) r ⌝ }
@@ -317,7 +319,7 @@ fn put_sizes(bytes: &mut [u8], at: usize, m: usize, l: i64, t: i64) -> usize
     put_byte(bytes, after_t, 10)
 }
 
-// The four sections from the start of the store on.
+// The four sections from the start of the store on (SCOPE 4.11).
 fn put_sheet(
     bytes: &mut [u8],
     rows: &[i64],
@@ -343,14 +345,15 @@ fn put_sheet(
     put_order(bytes, after_relations, columns)
 }
 
-// "Every refusal returns its number, all other fields 0."
+// The refusal and the length of the sheet, 0 on a refusal (SCOPE 4.51, 6.31).
 pub struct WriteResult {
     pub refusal: u8,
     pub length: usize,
 }
 
-// The sheet of a system that passes the checks; refusal 1 where it is longer than the byte store. Where the longest sheet of these
-// sizes fits, nothing has to be counted first. No public entry point: the caller knows that the checks pass.
+// The sheet of a system that passes the checks; refusal 1 where it is longer than the byte store (SCOPE 4.54). Where
+// the longest sheet of these sizes fits, nothing has to be counted first. No public entry point: the caller knows that
+// the checks pass.
 pub fn write_checked(
     rows: &[i64],
     relations: &[i64],
@@ -383,8 +386,9 @@ pub fn write_checked(
     WriteResult { refusal: 0, length }
 }
 
-// The system of the stores and its column order as a sheet: all four numbers of the order 0 for none, otherwise a permutation of
-// 1..m and zeros past its end. Nothing is written on a refusal, and bytes past the length stay.
+// The system of the stores and its column order as a sheet: all four numbers of the order 0 for none, otherwise a
+// permutation of 1..m and zeros past its end (SCOPE 4.53). Nothing is written on a refusal (SCOPE 4.54), and bytes past
+// the length stay (SCOPE 4.51).
 pub fn write_sheet(
     rows: &[i64],
     relations: &[i64],

@@ -1,4 +1,4 @@
-//! Random systems, of kinds that together reach every rule and every refusal of document 01.
+//! Random systems, of kinds that together reach every rule of the elimination and every refusal of a run (SCOPE 2, 6).
 
 use crate::random::Random;
 use outside::polynomial::Polynomial;

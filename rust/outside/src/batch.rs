@@ -1,18 +1,18 @@
-//! "A batch, on standard input": what the batch program writes.
+//! What the batch program writes (SCOPE 5).
 
 use crate::elimination::{run, Side};
 use crate::fault::{is, Fault};
 use crate::refusal::Refusal;
 use crate::sheet::{read, write, Reader, Separator, Sheet};
 
-/// "Output sheets above 65,536 bytes are refusal 1."
+/// The most bytes of an answering sheet; with more the answer is 1 (SCOPE 5.13).
 pub const OUTPUT: usize = 65_536;
-/// "a line with the sheet count (0 to 1,000)"
+/// The most sheets of a batch (SCOPE 5.1).
 pub const SHEETS: i128 = 1_000;
-/// "a line `client bytes` (1 to 8; 0 to 32,768)"
+/// The most bytes of a sheet (SCOPE 5.2).
 pub const SHEET_BYTES: i128 = 32_768;
 
-/// The leading-side sheet that answers the bytes of a sheet. "The input's column order is not used."
+/// The leading-side sheet that answers the bytes of a sheet; the order that those carry has no use (SCOPE 4.44).
 pub fn answer(bytes: &[u8], fault: Option<Fault>) -> Result<Vec<u8>, Refusal> {
     let sheet = read(bytes, fault)?;
     let run = run(&sheet.system, Side::Leading, fault)?;
@@ -27,11 +27,11 @@ pub fn answer(bytes: &[u8], fault: Option<Fault>) -> Result<Vec<u8>, Refusal> {
 pub fn output(input: &[u8], fault: Option<Fault>) -> Vec<u8> {
     let mut batch = Batch { input: Reader { bytes: input, fault }, written: Vec::new(), accepted: 0, refused: 0 };
     let whole = batch.sheets();
-    // "A batch line broken or out of range, or bytes missing or left over, writes 3 and ends the run without that last line."
+    // A broken batch ends in the line `3`, with no other after it (SCOPE 5.21).
     if whole.is_none() {
         batch.written.extend(b"3\n");
     }
-    // "last, `accepted refused`"
+    // The numbers of accepted and of refused sheets (SCOPE 5.12).
     if whole.is_some() || is(fault, Fault::CountsAfterBreak) {
         let last = format!("{} {}\n", batch.accepted, batch.refused);
         batch.written.extend(last.bytes());
@@ -61,7 +61,7 @@ impl Batch<'_> {
         }
     }
 
-    /// "for each sheet a line `client bytes` (1 to 8; 0 to 32,768) and that many bytes"
+    /// The line with client and length, and so many bytes (SCOPE 5.2).
     fn sheet(&mut self) -> Option<()> {
         self.input.within(Separator::Space, |client| (1..=8).contains(&client)).ok()?;
         let length = self.input.within(Separator::LineEnd, |length| (0..=SHEET_BYTES).contains(&length)).ok()?;
@@ -80,7 +80,7 @@ impl Batch<'_> {
         Some(())
     }
 
-    /// "The batch program writes per sheet `0` and the leading-side sheet, or the refusal number alone on a line"
+    /// A line `0` and the sheet, or one line with the refusal (SCOPE 5.11).
     fn answer(&mut self, bytes: &[u8]) {
         match answer(bytes, self.input.fault) {
             Ok(text) => {

@@ -1,4 +1,4 @@
-//! "The elimination, leading side", and the trailing side by mirroring.
+//! The elimination on the leading side (SCOPE 2), and the trailing side by mirroring.
 
 use crate::fault::{is, Fault};
 use crate::polynomial::{greatest_divisor, Polynomial};
@@ -21,7 +21,7 @@ pub struct Run {
     /// c(1)..c(m)
     pub order: Vec<usize>,
     pub shifts: usize,
-    /// The root of the report, `None` with "no".
+    /// The root of the report, `None` if there is none.
     pub root: Option<i128>,
     /// How often rows were exchanged: for tables only.
     pub exchanges: usize,
@@ -34,9 +34,9 @@ pub fn run(system: &System, side: Side, fault: Option<Fault>) -> Result<Run, Ref
     }
 }
 
-/// "Trailing side: replace n by -n, block s by -s, n0 by -n0; run the above; mirror back. Its diagonal polynomials then
-/// stand in block t, and its report is the smallest integer root among them all." The order among the roots is such that
-/// n0 as given back ascends.
+/// The trailing side: the mirrored system is run and mirrored back (SCOPE 2.91). Its report is the least integer root
+/// of the diagonal polynomials, which stand in block t (SCOPE 2.93). The roots of one g are listed such that n0 as
+/// given back ascends (SCOPE 2.33).
 fn run_trailing(system: &System, fault: Option<Fault>) -> Result<Run, Refusal> {
     let order = if is(fault, Fault::TrailingDescending) { Order::Ascending } else { Order::Descending };
     let mut run = run_leading(&system.mirrored(), order, fault)?;
@@ -55,14 +55,14 @@ fn run_leading(system: &System, order: Order, fault: Option<Fault>) -> Result<Ru
         work.settle_next()?;
     }
     let mut run = work.finished();
-    // "the largest integer root among them all"
+    // The greatest integer root of all (SCOPE 2.81).
     let roots = diagonal_roots(&run, system.sizes.l, fault);
     run.root = if is(fault, Fault::SmallestRootReported) { roots.min() } else { roots.max() };
     Ok(run)
 }
 
-/// "Root report: whether any diagonal polynomial of the output has an integer root": the roots of all of them. They stand in
-/// block l, or in block t on the trailing side.
+/// The integer roots of all diagonal polynomials of the output, for the report (SCOPE 2.81). They stand in block l, or
+/// in block t on the trailing side (SCOPE 2.93).
 fn diagonal_roots(run: &Run, block: i64, fault: Option<Fault>) -> impl Iterator<Item = i128> + '_ {
     let looked_at = if is(fault, Fault::FirstDiagonalOnly) { 1 } else { run.order.len() };
     let diagonal = run.system.rows.iter().zip(&run.order).take(looked_at);
@@ -92,7 +92,7 @@ struct Work {
 }
 
 impl Work {
-    /// "Input relations stay first, in their order. Settled rows w begin at 0."
+    /// The input's relations come first (SCOPE 2.3), and no row is settled (SCOPE 2.2).
     fn new(system: &System, order: Order, fault: Option<Fault>) -> Work {
         Work {
             sizes: system.sizes,
@@ -124,25 +124,24 @@ impl Work {
         is(self.fault, fault)
     }
 
-    /// "Take row i = w + 1", rules 1 to 6.
+    /// The row in turn, behind the settled ones (SCOPE 2.2): rules 1 to 6.
     fn settle_next(&mut self) -> Result<(), Refusal> {
         let i = self.columns.len();
-        // "1. A zero row: refusal 6."
+        // Rule 1 (SCOPE 2.11).
         if self.rows[i].is_zero() {
             return Err(Refusal::Dependent);
         }
         loop {
-            // "2. For each settled row j from 1 to w, with its column c(j)"
+            // Rule 2: the row meets the settled rows one after the other (SCOPE 2.21).
             for j in 0..i {
                 self.meet(i, j)?;
             }
-            // "5. After the last j, if the leading block of row i is nonzero, c(i) is the smallest column with a nonzero entry,
-            // and the row is settled."
+            // Rule 5: with a nonzero leading block it is settled at the lowest column that has an entry (SCOPE 2.51).
             if let Some(column) = self.settling_column(i) {
                 self.columns.push(column);
                 return Ok(());
             }
-            // "6. Otherwise shift .. Return to 2 with the same i."
+            // Rule 6: otherwise it is shifted, and starts anew with rule 2 (SCOPE 2.61, 2.64).
             self.shift(i)?;
         }
     }
@@ -158,21 +157,21 @@ impl Work {
 
     /// Rules 2 to 4 for row i and one settled row j.
     fn meet(&mut self, i: usize, j: usize) -> Result<(), Refusal> {
-        // "if row i's leading entry there is zero, go on"
+        // A settled row is passed over where the leading entry in its column is zero (SCOPE 2.21).
         if self.leading_entry(i, j).is_zero() {
             return Ok(());
         }
         let before = self.rows[i].clone();
         let (g_before, _) = self.multipliers(i, j);
-        // "Otherwise, if row j is wider than row i, exchange them."
+        // If settled row j is the wider, the two change places (SCOPE 2.22).
         if self.exchange_due(i, j) {
             self.rows.swap(i, j);
             self.exchanges += 1;
         }
         let (g, h) = self.multipliers(i, j);
-        // "4. Row i becomes g × row i + h × row j"
+        // Rule 4: the combination (SCOPE 2.41).
         let combined = self.rows[i].combined(&g, &self.rows[j], &h);
-        // "3. For every integer root n0 of g, once each, list the relation "row i at n0", row i as it is after the exchange."
+        // Rule 3: row i, in the form that it has after the exchange, at each root of g (SCOPE 2.31).
         let searched = if self.wrong(Fault::RootsBeforeExchange) { g_before } else { g };
         let listed = if self.wrong(Fault::RowBeforeExchange) {
             before
@@ -187,7 +186,7 @@ impl Work {
         }
         self.rows[i] = self.judged(combined)?;
         relations?;
-        // "A zero row: refusal 6. Then the next j."
+        // A zero row is refused; otherwise the next settled row follows (SCOPE 2.45, 2.46).
         if self.rows[i].is_zero() {
             Err(Refusal::Dependent)
         } else {
@@ -209,8 +208,8 @@ impl Work {
         }
     }
 
-    /// "Let a be row j's entry and b row i's. Let d be the greatest positive whole number that divides every coefficient of a and
-    /// b. Then g = a/d, h = -b/d; a negative highest coefficient of g turns the signs of both."
+    /// g = a/d and h = -b/d, a of row j and b of row i, d the largest integer that divides all coefficients of both
+    /// (SCOPE 2.23, 2.24). If g would have a negative highest coefficient, both signs change (SCOPE 2.25).
     fn multipliers(&self, i: usize, j: usize) -> (Polynomial, Polynomial) {
         let (a, b) = (self.leading_entry(j, j), self.leading_entry(i, j));
         let d = greatest_divisor(a.content(), b.content());
@@ -219,8 +218,7 @@ impl Work {
         (a.over(d), b.over(-d))
     }
 
-    /// Rule 3 for the roots of g and the row to list. "The order among the roots of one g is open. A seventeenth relation:
-    /// refusal 9."
+    /// Rule 3 for the roots of g and the row to list; a seventeenth relation is refused (SCOPE 2.34).
     fn list(&mut self, g: &Polynomial, row: &Row) -> Result<(), Refusal> {
         let most = if self.wrong(Fault::RelationSeventeen) { RELATIONS + 1 } else { RELATIONS };
         for n0 in self.roots_to_list(g) {
@@ -247,8 +245,8 @@ impl Work {
         roots
     }
 
-    /// "divided by the greatest positive whole number dividing all its coefficients (a zero row is not divided). Then a degree past
-    /// 15: refusal 7; otherwise a coefficient outside ±C: refusal 8."
+    /// The row divided by the largest integer that divides all of its coefficients, if it is not zero (SCOPE 2.42);
+    /// then refusal 7 for the degree (SCOPE 2.43), and 8 for the coefficients (SCOPE 2.44).
     fn judged(&self, row: Row) -> Result<Row, Refusal> {
         let too_large = |row: &Row| row.size() > C;
         let divided = self.divided(&row);
@@ -274,7 +272,7 @@ impl Work {
         row.mapped(|s, p| (s, p.over(d)))
     }
 
-    /// "every block moves up by one and n becomes n + 1 in the row .. a coefficient outside ±C is refusal 8"
+    /// Each block moves up by one, and n + 1 is put for n (SCOPE 2.61); 8 for a coefficient past ±C (SCOPE 2.63).
     fn shift(&mut self, i: usize) -> Result<(), Refusal> {
         let moved =
             |p: &Polynomial| if self.wrong(Fault::ShiftWithoutIncrement) { p.clone() } else { p.after_increment() };
@@ -288,8 +286,7 @@ impl Work {
         self.shifts_within_bound()
     }
 
-    /// "A shift lowers the total width and nothing raises it, so there are at most m × D shifts." Only a wrong version gets
-    /// past that, and has to be stopped.
+    /// There are never more than m × D shifts (SCOPE 2.65). Only a wrong version gets past that, and has to be stopped.
     fn shifts_within_bound(&self) -> Result<(), Refusal> {
         if self.shifts as i64 <= self.sizes.m as i64 * self.sizes.d() {
             return Ok(());

@@ -1,4 +1,4 @@
-//! Wrong versions of document 01, planted one at a time, to see that a comparison finds each.
+//! Wrong versions of the rules, planted one at a time, to see that a comparison finds each.
 
 macro_rules! faults {
     ($($(#[$note:meta])* $name:ident: $says:literal,)*) => {
@@ -17,7 +17,7 @@ macro_rules! faults {
 }
 
 faults! {
-    // "Wrong turns", in the order of document 01.
+    // What would be wrong, in the order of SCOPE 2.131 to 2.135.
     RootsBeforeExchange: "roots of the multiplier of the row before the exchange",
     PolynomialFactor: "a row is divided by a polynomial factor",
     ShiftWithoutIncrement: "blocks are shifted without n + 1",

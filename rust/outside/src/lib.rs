@@ -1,11 +1,11 @@
-//! The recurrence regulariser, written from document 01 alone.
+//! The recurrence regulariser, written a second time from the scope document (document 01) alone.
 //!
-//! Nothing here is taken from the proved crates: rows are maps from block and column to a polynomial, integers have
-//! 128 bits, roots are found between turning points, n + 1 is put in by Horner's rule. A quotation in a comment is the
-//! sentence of document 01 that the code below it renders. What document 01 leaves open follows the paragraphs 8 to 19 of
+//! Nothing here is taken from the proved crates: rows are maps from block and column to a polynomial, integers have 128
+//! bits, roots are found between turning points, n + 1 is put in by Horner's rule. A comment cites the rule of
+//! `docs/SCOPE.md` that the code below it renders. What the document left open follows the paragraphs 8 to 19 of
 //! `docs/DECISIONS.md`.
 //!
-//! Every public function takes an `Option<Fault>`: `None` is document 01, `Some` one of the wrong versions of
+//! Every public function takes an `Option<Fault>`: `None` follows the rules, `Some` is one of the wrong versions of
 //! [`fault::Fault`], with which a comparison shows that it would notice.
 
 pub mod batch;
@@ -19,9 +19,9 @@ pub mod sheet;
 pub mod stores;
 pub mod system;
 
-/// "every coefficient within ±C, C = 268,435,455"
+/// No coefficient of an input or output is past ±C (SCOPE 1.4).
 pub const C: i128 = 268_435_455;
-/// "of degree at most 15"
+/// The highest degree of a polynomial (SCOPE 1.4).
 pub const DEGREE: usize = 15;
-/// "There are at most 16 relations."
+/// The most relations that a system has (SCOPE 1.23).
 pub const RELATIONS: usize = 16;

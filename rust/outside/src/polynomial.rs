@@ -94,14 +94,14 @@ impl Polynomial {
         Polynomial::new(quotient)
     }
 
-    /// "n becomes n + 1", by Horner's rule in n + 1.
+    /// n + 1 put for n (SCOPE 2.61), by Horner's rule in n + 1.
     pub fn after_increment(&self) -> Polynomial {
         let next = Polynomial::linear(-1);
         let from_the_top = self.0.iter().rev();
         from_the_top.fold(Polynomial::default(), |sum, &a| sum.times(&next).plus(&Polynomial::new(vec![a])))
     }
 
-    /// "replace n by -n"
+    /// -n put for n (SCOPE 2.91).
     pub fn mirrored(&self) -> Polynomial {
         let sign = |k: usize| if k.is_multiple_of(2) { 1 } else { -1 };
         Polynomial(self.0.iter().enumerate().map(|(k, a)| sign(k) * a).collect())

@@ -1,26 +1,26 @@
-//! "Who can cause a refusal."
+//! The refusals (SCOPE 6).
 
-/// The refusals under the numbers of document 01.
+/// Each refusal under its number.
 #[derive(Clone, Copy, Debug, PartialEq, Eq, PartialOrd, Ord, Hash)]
 #[repr(u8)]
 pub enum Refusal {
-    /// "1 a store too short."
+    /// A store is too short, or an answering sheet too long (SCOPE 6.1).
     Short = 1,
-    /// "2 a size, block, column or count outside its range"
+    /// A number is out of the range of a size, a block, a column or a count (SCOPE 6.2).
     Range = 2,
-    /// "3 a token that is no number ends the reading; also a wrong separator, term order, zero last coefficient."
+    /// A token is no number; or separator, term order or last coefficient is wrong (SCOPE 6.3).
     Form = 3,
-    /// "4 the bytes end early, or go on after the fourth section."
+    /// A sheet stops too early, or something follows it (SCOPE 6.4).
     End = 4,
-    /// "5 a coefficient or n0 outside ±C, or a nonzero number at an unused store position."
+    /// A number is past ±C, or an unused position is not 0 (SCOPE 6.5).
     Number = 5,
-    /// "6 dependent"
+    /// The equations are dependent (SCOPE 6.6).
     Dependent = 6,
-    /// "7 degree"
+    /// A degree has passed 15 (SCOPE 6.7).
     Degree = 7,
-    /// "8 coefficient"
+    /// A coefficient has passed ±C (SCOPE 6.8).
     Coefficient = 8,
-    /// "9 relations"
+    /// There is no place for a relation (SCOPE 6.9).
     Relations = 9,
 }
 
@@ -29,8 +29,8 @@ impl Refusal {
         self as u8
     }
 
-    /// "found before the work begins, stores are unchanged; found during it, the needed part of each store that the call
-    /// may write is zero": the system itself is refused during the work.
+    /// Whether the refusal comes while the work is going on, so that stores become zero (SCOPE 6.33), or before it
+    /// begins (SCOPE 6.32). The system itself is refused during the work.
     pub fn during_the_work(self) -> bool {
         self >= Refusal::Dependent
     }

@@ -1,4 +1,4 @@
-//! Equations: "the sum over blocks s and columns c of p(n) × z(n+s, c) is zero".
+//! Equations: the products p(n) × z(n + s, c) of all blocks and columns sum up to zero (SCOPE 1.3).
 
 use crate::polynomial::{greatest_divisor, Polynomial};
 use std::collections::BTreeMap;
@@ -32,7 +32,7 @@ impl Row {
         self.entries.is_empty()
     }
 
-    /// "The width of a nonzero row is l - s + 1, s its lowest nonzero block; of a zero row, 0."
+    /// l - s + 1 where s is the lowest nonzero block, 0 for a zero row (SCOPE 2.1).
     pub fn width(&self, l: i64) -> i64 {
         self.entries.keys().next().map_or(0, |(s, _)| l - s + 1)
     }
@@ -52,7 +52,7 @@ impl Row {
         sum
     }
 
-    /// "the greatest positive whole number dividing all its coefficients", 0 for a zero row
+    /// The largest integer that divides every coefficient (SCOPE 2.42), 0 for a zero row.
     pub fn content(&self) -> i128 {
         self.entries.values().fold(0, |d, p| greatest_divisor(d, p.content()))
     }
@@ -77,7 +77,7 @@ impl Row {
         row
     }
 
-    /// "replace n by -n, block s by -s"
+    /// The mirror: -n for n, block -s for block s (SCOPE 2.91).
     pub fn mirrored(&self) -> Row {
         self.mapped(|s, p| (-s, p.mirrored()))
     }

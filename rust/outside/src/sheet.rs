@@ -1,4 +1,4 @@
-//! "Sheets": reading and writing.
+//! Sheets, read and written (SCOPE 4).
 
 use crate::fault::{is, Fault};
 use crate::polynomial::Polynomial;
@@ -17,7 +17,7 @@ pub struct Sheet {
 
 // ---- tokens ----
 
-/// "Numbers on a line are parted by one space, each line ends in byte 10."
+/// One space between two numbers, byte 10 behind a line (SCOPE 4.1).
 #[derive(Clone, Copy, PartialEq, Eq)]
 pub enum Separator {
     Space = b' ' as isize,
@@ -33,7 +33,7 @@ fn after(number: usize, of: usize) -> Separator {
     }
 }
 
-/// "A number is at most ten digits after an optional minus, without leading zeros or `-0`."
+/// One to ten digits, a minus or none in front, no superfluous zero (SCOPE 4.2).
 fn number(token: &[u8], fault: Option<Fault>) -> Option<i128> {
     let (negative, digits) = match token {
         [b'-', digits @ ..] => (true, digits),
@@ -54,7 +54,7 @@ fn number(token: &[u8], fault: Option<Fault>) -> Option<i128> {
     Some(if negative { -size } else { size })
 }
 
-/// "bytes that end before a token's separator are 4, or 3 if they cannot begin a number"
+/// The fault of bytes that end with no separator: 4 where they could begin a number, 3 where not (SCOPE 4.32).
 fn cut_token(rest: &[u8], fault: Option<Fault>) -> Refusal {
     let can_begin = rest.is_empty() || rest == b"-" || number(rest, fault).is_some();
     if can_begin || is(fault, Fault::CutTokenEnds) {
@@ -76,21 +76,21 @@ fn refused_if(found: bool, refusal: Refusal) -> Judgement {
     }
 }
 
-/// The bytes of a sheet or of a batch, and how far they are read. "A sheet's first fault in byte order counts".
+/// The bytes of a sheet or of a batch that are still to be read. The first fault ends the reading (SCOPE 4.37).
 pub struct Reader<'a> {
     pub bytes: &'a [u8],
     pub fault: Option<Fault>,
 }
 
 impl<'a> Reader<'a> {
-    /// The next number: "within a token, its form (3, also for an eleventh digit), then its range (2 or 5), then term order or a
-    /// zero last coefficient (3)", which `judge` tells, and then the separator (3).
+    /// The next number: its form (3; SCOPE 4.33), its range and its order (2, 5, 3; SCOPE 4.34, 4.35), which `judge`
+    /// tells, and then its separator (3; SCOPE 4.36).
     pub fn number(
         &mut self,
         separator: impl FnOnce(i128) -> Separator,
         judge: impl FnOnce(i128) -> Judgement,
     ) -> Result<i128, Refusal> {
-        // "A token runs to the next space or byte 10."
+        // A token ends before the next space or byte 10 (SCOPE 4.31).
         let is_separator = |b: &u8| *b == Separator::Space as u8 || *b == Separator::LineEnd as u8;
         let Some(end) = self.bytes.iter().position(is_separator) else {
             return Err(cut_token(self.bytes, self.fault));
@@ -112,7 +112,7 @@ impl<'a> Reader<'a> {
     }
 }
 
-/// "5 a coefficient or n0 outside ±C"
+/// 5 for a number past ±C (SCOPE 4.34).
 fn within_limit(value: i128, fault: Option<Fault>) -> Judgement {
     let refusal = if is(fault, Fault::CoefficientIsSize) { Refusal::Range } else { Refusal::Number };
     refused_if(value.abs() > C, refusal)
@@ -120,14 +120,15 @@ fn within_limit(value: i128, fault: Option<Fault>) -> Judgement {
 
 // ---- reading ----
 
-/// The sheet that the bytes hold: "Four sections, fixed order, each after its count", and nothing after them.
+/// The sheet that the bytes hold: four sections in their order, each with its count, and nothing behind
+/// (SCOPE 4.11, 4.16).
 pub fn read(bytes: &[u8], fault: Option<Fault>) -> Result<Sheet, Refusal> {
     let mut reader = Reader { bytes, fault };
     let sizes = reader.sizes()?;
     let rows = reader.equations(sizes)?;
     let relations = reader.relations(sizes)?;
     let order = reader.order(sizes)?;
-    // "4 the bytes .. go on after the fourth section"
+    // Bytes behind the fourth section are 4 (SCOPE 4.37).
     if !reader.bytes.is_empty() && !is(fault, Fault::BytesAfter) {
         return Err(Refusal::End);
     }
@@ -135,7 +136,7 @@ pub fn read(bytes: &[u8], fault: Option<Fault>) -> Result<Sheet, Refusal> {
 }
 
 impl Reader<'_> {
-    /// "`3 m l t`"
+    /// 3, m, l and t on a line (SCOPE 4.12).
     fn sizes(&mut self) -> Result<Sizes, Refusal> {
         self.within(Separator::Space, |count| count == 3)?;
         let m = self.within(Separator::Space, unknowns_in_range)?;
@@ -144,13 +145,13 @@ impl Reader<'_> {
         Ok(Sizes { m: m as usize, l: l as i64, t: t as i64 })
     }
 
-    /// "a line m and then m equation lines"
+    /// The equation count, which is m, and the equations (SCOPE 4.13).
     fn equations(&mut self, sizes: Sizes) -> Result<Vec<Row>, Refusal> {
         let count = self.within(Separator::LineEnd, |count| count == sizes.m as i128)?;
         (0..count).map(|_| self.equation(sizes)).collect()
     }
 
-    /// "a line r and then r lines of n0 and an equation"
+    /// The relation count, and for each relation n0 and an equation (SCOPE 4.14).
     fn relations(&mut self, sizes: Sizes) -> Result<Vec<Relation>, Refusal> {
         let count = self.within(Separator::LineEnd, relation_count_in_range)?;
         (0..count).map(|_| self.relation(sizes)).collect()
@@ -162,7 +163,7 @@ impl Reader<'_> {
         Ok(Relation { n0, row: self.equation(sizes)? })
     }
 
-    /// "An equation is its number of terms (0 to m × (D + 1)), then each term". "Terms go by falling s, then rising c."
+    /// The number of terms, at most m × (D + 1), and the terms (SCOPE 4.21), ordered by block and column (SCOPE 4.23).
     fn equation(&mut self, sizes: Sizes) -> Result<Row, Refusal> {
         let most = sizes.m as i128 * (sizes.d() as i128 + 1);
         let separator = |count| if count == 0 { Separator::LineEnd } else { Separator::Space };
@@ -178,7 +179,7 @@ impl Reader<'_> {
         Ok(row)
     }
 
-    /// The block and the column of a term. The term order is judged at the token that breaks it.
+    /// The block and the column of a term. The term order is judged at the token that breaks it (SCOPE 4.35).
     fn term_place(&mut self, sizes: Sizes, before: Option<(i64, usize)>) -> Result<(i64, usize), Refusal> {
         let any_order = is(self.fault, Fault::TermOrder);
         let order_first = is(self.fault, Fault::OrderBeforeRange);
@@ -206,7 +207,8 @@ impl Reader<'_> {
         Ok((s, c as usize))
     }
 
-    /// "number of coefficients (1 to 16), coefficients from power 0". "The last coefficient of a term is nonzero."
+    /// The number of coefficients, 1 to 16, and those from power 0 on (SCOPE 4.22), the last of them not 0
+    /// (SCOPE 4.24).
     fn coefficients(&mut self, line: Separator) -> Result<Polynomial, Refusal> {
         let fault = self.fault;
         let count = self.within(Separator::Space, |count| (1..=DEGREE as i128 + 1).contains(&count))? as usize;
@@ -223,7 +225,7 @@ impl Reader<'_> {
         Ok(Polynomial::new(coefficients))
     }
 
-    /// "one line with the column order, `0` if none, otherwise m and a permutation of 1..m". A wrong order line is 2.
+    /// The order line: 0 alone, or m and the columns in some order (SCOPE 4.15); otherwise it is 2 (SCOPE 4.34).
     fn order(&mut self, sizes: Sizes) -> Result<Vec<usize>, Refusal> {
         let m = sizes.m;
         let separator = |count| if count == 0 { Separator::LineEnd } else { Separator::Space };

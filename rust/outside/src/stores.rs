@@ -13,17 +13,17 @@ use crate::sheet::{self, Sheet};
 use crate::system::{relation_count_in_range, Relation, Sizes, System};
 use crate::{C, RELATIONS};
 
-/// "16 coefficients a column, lowest power first"
+/// Coefficients of a column, from power 0 upward (SCOPE 3.2).
 pub const COEFFICIENTS: usize = 16;
-/// "four columns a block"
+/// Columns of a block (SCOPE 3.2).
 pub const COLUMNS: usize = 4;
-/// "each row held as 320 numbers: block l first": five blocks.
+/// Numbers of a row: five blocks, from block l downward (SCOPE 3.2).
 pub const ROW: usize = 5 * COLUMNS * COEFFICIENTS;
-/// "A relation is n0 and then a row."
+/// Numbers of a relation: n0, and a row behind it (SCOPE 3.4).
 pub const RELATION: usize = 1 + ROW;
-/// The relation store needs 16 × 321 numbers.
+/// The relation store needs 16 × 321 numbers (SCOPE 3.11).
 pub const RELATION_STORE: usize = RELATIONS * RELATION;
-/// Numbers that the answer of a run or a reader takes.
+/// Numbers that the answer of a run or a reader takes (SCOPE 3.52).
 pub const RESULT: usize = 8;
 
 /// The sizes and the relation count of a call, as they are given.
@@ -36,7 +36,7 @@ pub struct Asked {
 }
 
 impl Asked {
-    /// "Calls on stores check sizes (2)": a relation count above 16 is one of them.
+    /// The sizes, with which a relation count above 16 is refused too (SCOPE 3.32).
     fn sizes(&self) -> Result<Sizes, Refusal> {
         if !relation_count_in_range(self.count as i128) {
             return Err(Refusal::Range);
@@ -45,7 +45,7 @@ impl Asked {
     }
 }
 
-/// "The row store needs m × 320 numbers"
+/// The numbers that a row store needs (SCOPE 3.11).
 pub fn row_store(m: usize) -> usize {
     m * ROW
 }
@@ -63,7 +63,7 @@ fn entry_position(sizes: Sizes, block: i64, column: usize) -> usize {
     ((sizes.l - block) as usize * COLUMNS + column - 1) * COEFFICIENTS
 }
 
-/// The row in 320 numbers of a store. "Positions outside the system's blocks and columns hold 0."
+/// The row in 320 numbers of a store, whose unused positions hold 0 (SCOPE 3.3, 3.34).
 fn load_row(numbers: &[i64], sizes: Sizes, fault: Option<Fault>) -> Result<Row, Refusal> {
     let mut row = Row::default();
     for (position, held) in numbers.chunks(COEFFICIENTS).enumerate() {
@@ -84,7 +84,7 @@ fn load_row(numbers: &[i64], sizes: Sizes, fault: Option<Fault>) -> Result<Row, 
     Ok(row)
 }
 
-/// "5 a coefficient or n0 outside ±C"
+/// 5 for a number past ±C (SCOPE 3.34).
 fn within_limit(p: &Polynomial, fault: Option<Fault>) -> Result<(), Refusal> {
     let lowest = if is(fault, Fault::LimitBelow) { -C - 1 } else { -C };
     let fits = p.coefficients().iter().all(|a| (lowest..=C).contains(a));
@@ -101,7 +101,7 @@ fn load_relation(numbers: &[i64], sizes: Sizes, fault: Option<Fault>) -> Result<
     Ok(Relation { n0, row: load_row(&numbers[1..], sizes, fault)? })
 }
 
-/// The system in two stores that are long enough. "Relation places past the count are unused: they hold 0 before and after."
+/// The system in two stores that are long enough; behind the relations in use they hold 0 (SCOPE 3.13).
 fn load(rows: &[i64], relations: &[i64], sizes: Sizes, count: usize, fault: Option<Fault>) -> Result<System, Refusal> {
     let (used, unused) = relations[..RELATION_STORE].split_at(count * RELATION);
     if unused.iter().any(|&a| a != 0) && !is(fault, Fault::UnusedPlaces) {
@@ -122,7 +122,7 @@ fn store_row(row: &Row, sizes: Sizes, numbers: &mut [i64]) {
     }
 }
 
-/// Puts a system into two stores that are long enough; "numbers past the needed part stay".
+/// Puts a system into two stores that are long enough; what lies behind their needed parts stays (SCOPE 3.12).
 pub fn store(system: &System, rows: &mut [i64], relations: &mut [i64]) {
     for (row, numbers) in system.rows.iter().zip(rows.chunks_mut(ROW)) {
         store_row(row, system.sizes, numbers);
@@ -146,7 +146,7 @@ fn order_numbers(order: &[usize]) -> [i64; COLUMNS] {
 
 // ---- the checks ----
 
-/// "1 a store too short": each store with the numbers that it needs.
+/// 1 where a store has fewer numbers than it needs (SCOPE 3.33).
 fn long_enough(lengths: &[(usize, usize)]) -> Result<(), Refusal> {
     if lengths.iter().all(|(length, need)| length >= need) {
         Ok(())
@@ -155,8 +155,8 @@ fn long_enough(lengths: &[(usize, usize)]) -> Result<(), Refusal> {
     }
 }
 
-/// "Calls on stores check sizes (2), lengths (1), numbers (5)": the system of a call, if nothing is refused. `extra` are the
-/// lengths and needs of the call's other stores.
+/// The system of a call, if nothing is refused: sizes come first (2), lengths next (1), numbers last (5) (SCOPE 3.31).
+/// `extra` are the lengths and needs of the call's other stores.
 fn checked(
     rows: &[i64],
     relations: &[i64],
@@ -183,8 +183,8 @@ fn number_of(answer: Result<(), Refusal>) -> u8 {
     answer.map_or_else(Refusal::number, |()| 0)
 }
 
-/// "A run is lent one of each: they hold its input before and its output after". The answer is the relation count, the shifts,
-/// c(1) to c(4), 1 or 0 for a root, and the root.
+/// A run, whose stores hold its input and then its output (SCOPE 3.21). The answer is the relation count, the shifts,
+/// c(1) to c(4), 1 or 0 for a root, and the root (SCOPE 3.52).
 pub fn run_on_stores(
     side: Side,
     rows: &mut [i64],
@@ -219,7 +219,7 @@ fn run_numbers(run: &Run) -> [i64; RESULT] {
     [count, shifts, c[0], c[1], c[2], c[3], run.root.is_some() as i64, root]
 }
 
-/// "found during it, the needed part of each store that the call may write is zero"
+/// A refusal that comes while the work is going on makes the needed part zero (SCOPE 6.33).
 fn zero_needed(store: &mut [i64], need: usize, fault: Option<Fault>) {
     match fault {
         Some(Fault::StoresKept) => {}
@@ -228,8 +228,8 @@ fn zero_needed(store: &mut [i64], need: usize, fault: Option<Fault>) {
     }
 }
 
-/// Reads a sheet into stores, which stay as they are on a refusal. "1 only when the sheet is otherwise whole". The answer is m,
-/// l, t, the relation count, c(1) to c(4).
+/// Reads a sheet into stores, which stay as they are on a refusal (SCOPE 4.43); that they are too short comes last
+/// (SCOPE 4.42). The answer is m, l, t, the relation count, c(1) to c(4) (SCOPE 3.52).
 pub fn read_on_stores(
     bytes: &[u8],
     rows: &mut [i64],
@@ -260,7 +260,8 @@ fn read_to_stores(
     Ok(())
 }
 
-/// Writes a sheet into a byte store; the answer is its length. "the writer checks its byte store's length (1) last"
+/// Writes a sheet into a byte store; the answer is its length. That the byte store is too short comes last
+/// (SCOPE 4.54).
 pub fn write_on_stores(
     rows: &[i64],
     relations: &[i64],
@@ -344,8 +345,7 @@ fn batch_to_stores(input: &[u8], output: &mut [u8], result: &mut [i64], fault: O
 
 // ---- one polynomial of a row store ----
 
-/// "the caller gets back the part of the row store that holds one polynomial, named by row, block and column; outside the sizes,
-/// or of a store too short, it is the empty part"
+/// The part of the row store that holds one polynomial (SCOPE 3.41), empty where the check is not 0 (SCOPE 3.44).
 pub fn polynomial(rows: &[i64], m: usize, l: i64, t: i64, row: usize, block: i64, column: usize) -> &[i64] {
     match polynomial_place(rows, m, l, t, row, block, column) {
         Ok(at) => &rows[at..at + COEFFICIENTS],
@@ -353,7 +353,7 @@ pub fn polynomial(rows: &[i64], m: usize, l: i64, t: i64, row: usize, block: i64
     }
 }
 
-/// "and a check on the same values returns 2 or 1"
+/// 2 for a size or place out of its range, otherwise 1 for a store too short (SCOPE 3.42, 3.43).
 pub fn check_polynomial(rows: &[i64], m: usize, l: i64, t: i64, row: usize, block: i64, column: usize) -> u8 {
     number_of(polynomial_place(rows, m, l, t, row, block, column).map(drop))
 }

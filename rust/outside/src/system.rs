@@ -1,4 +1,4 @@
-//! "Systems and sequences."
+//! Systems and their sizes (SCOPE 1).
 
 use crate::refusal::Refusal;
 use crate::row::Row;
@@ -12,23 +12,23 @@ pub struct Sizes {
     pub t: i64,
 }
 
-/// "A system has m unknowns (1 to 4)"
+/// m is from 1 to 4 (SCOPE 1.1).
 pub fn unknowns_in_range(m: i128) -> bool {
     (1..=4).contains(&m)
 }
 
-/// "-64 ≤ t ≤ l ≤ 64"
+/// A block number is from -64 to 64 (SCOPE 1.2).
 pub fn block_in_range(s: i128) -> bool {
     (-64..=64).contains(&s)
 }
 
-/// "-64 ≤ t ≤ l ≤ 64. D = l - t is 0 to 4."
+/// t is a block number, not above l and at most 4 below it (SCOPE 1.2).
 pub fn lowest_in_range(l: i128, t: i128) -> bool {
     block_in_range(t) && (0..=4).contains(&(l - t))
 }
 
 impl Sizes {
-    /// "a size, block, column or count outside its range": the sizes of a call.
+    /// The sizes of a call, 2 where one is out of its range (SCOPE 3.32).
     pub fn checked(m: usize, l: i64, t: i64) -> Result<Sizes, Refusal> {
         let (wide_l, wide_t) = (l as i128, t as i128);
         if unknowns_in_range(m as i128) && block_in_range(wide_l) && lowest_in_range(wide_l, wide_t) {
@@ -48,7 +48,7 @@ impl Sizes {
     }
 }
 
-/// "A relation is an equation with one integer n0: the sum is zero at n0 only."
+/// An equation that is asked for at one integer, n0 (SCOPE 1.21).
 #[derive(Clone, Debug, PartialEq, Eq)]
 pub struct Relation {
     pub n0: i128,
@@ -63,7 +63,7 @@ pub struct System {
 }
 
 impl System {
-    /// "replace n by -n, block s by -s, n0 by -n0"
+    /// The mirror: -n for n, block -s for block s, -n0 for n0 (SCOPE 2.91).
     pub fn mirrored(&self) -> System {
         let relation = |r: &Relation| Relation { n0: -r.n0, row: r.row.mirrored() };
         System {
@@ -74,7 +74,7 @@ impl System {
     }
 }
 
-/// "There are at most 16 relations."
+/// A relation count is from 0 to 16 (SCOPE 1.23).
 pub fn relation_count_in_range(count: i128) -> bool {
     (0..=RELATIONS as i128).contains(&count)
 }

@@ -1,4 +1,4 @@
-//! "Systems with known results", K1 to K11, and K2 with input relations.
+//! The systems of known result, K1 to K11 (SCOPE 7.1 to 7.11), and K2 with input relations (SCOPE 7.12).
 
 use outside::elimination::{run, Run, Side};
 use outside::polynomial::Polynomial;

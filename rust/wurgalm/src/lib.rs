@@ -2,7 +2,7 @@
 //!
 //! [`stores`] has the exported functions as they are: calls on lent stores, which answer with a refusal number. Below it
 //! are the same calls with their answers taken apart. The exported functions have no precondition, so nothing here is
-//! tested before a call; document 01 says what each call does with every argument.
+//! tested before a call; `docs/SCOPE.md` says what each call does with every argument.
 //!
 //! Rows lie in stores of 64-bit numbers, 320 a row; see [`row_store`] and [`RELATION_STORE`].
 

@@ -1,4 +1,4 @@
-//! K2 and K11 of document 01 through the library. Where it is not built a call panics, so every test here fails.
+//! K2 and K11 (SCOPE 7.2, 7.11) through the library. Where it is not built a call panics, so every test here fails.
 
 use wurgalm::{batch, batch_output, read_sheet, row_store, run_leading, run_trailing, write_sheet};
 use wurgalm::{Heading, Refusal, Report, Sizes, RELATION_STORE};

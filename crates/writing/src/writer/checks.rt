@@ -1,4 +1,4 @@
-// The checks before a sheet is written: sizes with count and order (2), lengths (1), numbers (5).
+// The checks before a sheet is written: sizes with count and order (2), lengths (1), numbers (5) (SCOPE 3.31, 4.53).
 ghost use mathlib.Core.Path.{_≡_};
 ghost use mathlib.Core.Bool.{cond};
 ghost use Prim.Native.Nat.{_≤_};
@@ -34,7 +34,7 @@ fn contains(numbers: &[usize], c: usize) -> bool
     false
 }
 
-// Columns of 1..m, each once.
+// Columns of 1..m, each once (SCOPE 4.53).
 fn different_columns(columns: &[usize], m: usize) -> bool
     ensures { λ r. ⌜ r ≡ differentColumns m (now (columns .entry)) ⌝ }
 {
@@ -67,14 +67,14 @@ fn order_right(order: [usize; 4], m: usize) -> bool
     different_columns(&all[..m], m) && all_zero(&all[m..])
 }
 
-// The number of columns that are written: none, or m.
+// The number of columns that are written: none, or m (SCOPE 4.15).
 pub fn order_length(order: [usize; 4], m: usize) -> usize
     ensures { λ r. ⌜ r ≡ cond (every (eqb 0) order) 0 m ⌝ }
 {
     if all_zero(&order[..]) { 0 } else { m }
 }
 
-// "Calls on stores check sizes (2), lengths (1), numbers (5)"; the order argument is one of the sizes.
+// Sizes (2), lengths (1), numbers (5) in turn (SCOPE 3.31); the order argument is one of the sizes (SCOPE 4.53).
 pub fn check_write(
     rows: &[i64],
     relations: &[i64],
