@@ -27,7 +27,8 @@ use Rattle.rules.specs.Lists.{cond-passed}
 use Rattle.rules.specs.Numbers.{lines}
 use Rattle.rules.specs.Batch.{mostBytes, Answer, accepted, refusedWith, answerSheet, answerBytes}
 use Rattle.answers.specs.declared.AnswerResult.{AnswerResult}
-use Rattle.answers.specs.Answers.{AnswerCall, callOf, answerCall, answered, unanswered, RightAnswer, right-accepted, right-refused, answer-right, answerBy, answerCall-answer, answerCall-none}
+use Rattle.answers.specs.Answers.{AnswerCall, callOf, answerCall, answered, unanswered, RightAnswer, right-accepted}
+use Rattle.answers.specs.Answers.{right-refused, answer-right, answerBy, answerCall-answer, answerCall-none}
 use Rattle.frames.specs.declared.TextLine.{TextLine}
 use Rattle.frames.specs.Windows.{batchLine}
 use Rattle.frames.specs.Bounds.{answer-fits}
@@ -157,7 +158,8 @@ module _ (sheet store : List ℕ) (r : AnswerResult) (stored : List ℕ) (line :
 
   -- Where the answer fits.
   fitting : (output after : List ℕ) → line .length + r .length ≤ length output → after ≡ overwrite (answerBytes answer) output
-      → _≡_ {A = PutCall} (record { fits = true; refusal = r .refusal; written = line .length + r .length; output = after }) (answerPut answer output)
+      → _≡_ {A = PutCall} (record
+      { fits = true; refusal = r .refusal; written = line .length + r .length; output = after }) (answerPut answer output)
   unfolding answerPut
   fitting output after h same =
       (λ i. record { fits = true; refusal = sym (made .0) i; written = sym made-length i; output = same i })
@@ -167,18 +169,21 @@ module _ (sheet store : List ℕ) (r : AnswerResult) (stored : List ℕ) (line :
 -- The answer made in the output itself, behind the place of the line `0`.
 straight-put : (a : Answer) (output : List ℕ) → RightAnswer a → 65538 ≤ length output
     → let c = answered a (take (length output - 2) (drop 2 output)) in
-    overwrite (refusalLine (c .refusal)) (take 2 output ++ (c .store ++ drop (length output - 2) (drop 2 output))) ≡ overwrite (answerBytes a) output
+    overwrite (refusalLine (c .refusal)) (take 2 output ++ (c .store ++ drop (length output - 2) (drop 2 output)))
+    ≡ overwrite (answerBytes a) output
 unfolding answered unanswered refusalLine lines flatten
 straight-put a output right long =
     let (all, none) = whole-part output 2 (omega arith) in
     ap₂
     (λ part after. let c = answered a part in overwrite (refusalLine (c .refusal)) (take 2 output ++ (c .store ++ after)))
     all none
-    ∙ ap (λ l. overwrite (refusalLine (answered a (drop 2 output) .refusal)) (take 2 output ++ l)) (append-nil (answered a (drop 2 output) .store))
+    ∙ ap (λ l. overwrite (refusalLine (answered a (drop 2 output) .refusal)) (take 2 output ++ l))
+    (append-nil (answered a (drop 2 output) .store))
     ∙ go a right
   where
     go : (a : Answer) → RightAnswer a
-        → let c = answered a (drop 2 output) in overwrite (refusalLine (c .refusal)) (take 2 output ++ c .store) ≡ overwrite (answerBytes a) output
+        → let c = answered a (drop 2 output) in overwrite (refusalLine (c .refusal)) (take 2 output ++ c .store)
+        ≡ overwrite (answerBytes a) output
     go a (right-accepted {bytes = sheet} few) =
         ap (λ c. overwrite (refusalLine (c .refusal)) (take 2 output ++ c .store))
         (cond-passed (leb (length sheet) (length (drop 2 output))) _ (unanswered 1 (drop 2 output))
@@ -199,8 +204,12 @@ module _ (sheet output : List ℕ) (r : AnswerResult) (stored : List ℕ) (line 
 
   pub straight-fits : line .length + r .length ≤ length output
   straight-fits =
-      omega
-      (arith, made-length sheet _ r stored line behind e f, answer-short (answerSheet sheet) (answer-right sheet) (rw made-number (omega (arith, line-length sheet _ r stored line behind e f))))
+      omega (
+        arith,
+        made-length sheet _ r stored line behind e f,
+        answer-short (answerSheet sheet) (answer-right sheet)
+            (rw made-number (omega (arith, line-length sheet _ r stored line behind e f))),
+      )
 
   pub straight-call : (after : List ℕ) → after ≡ overwrite (shown line) (putMid 2 (length output - 2) output stored)
       → _≡_ {A = PutCall} (record { fits = true; refusal = r .refusal; written = line .length + r .length; output = after })
@@ -209,8 +218,11 @@ module _ (sheet output : List ℕ) (r : AnswerResult) (stored : List ℕ) (line 
   straight-call after g =
       fitting sheet _ r stored line behind e f output after straight-fits
       (g
-      ∙ ap₂ (λ l s. overwrite l (putMid 2 (length output - 2) output s)) (line-shown sheet _ r stored line behind e f) (ap (λ c. c .store) e)
-      ∙ ap (λ n. overwrite (refusalLine n) (putMid 2 (length output - 2) output (answerCall sheet (take (length output - 2) (drop 2 output)) .store))) (ap (λ c. c .refusal) e)
+      ∙ ap₂ (λ l s. overwrite l (putMid 2 (length output - 2) output s)) (line-shown sheet _ r stored line behind e f)
+      (ap (λ c. c .store) e)
+      ∙ ap (λ n. overwrite (refusalLine n)
+      (putMid 2 (length output - 2) output (answerCall sheet (take (length output - 2) (drop 2 output)) .store)))
+      (ap (λ c. c .refusal) e)
       ∙ straight-put (answerSheet sheet) output (answer-right sheet) long)
 
 -- The answer made in a store beside the output.
@@ -231,8 +243,10 @@ module _ (sheet store output : List ℕ) (r : AnswerResult) (stored : List ℕ) 
       fitting sheet store r stored line long e f output after h
       (i
       ∙ ap₂ (λ l c. overwrite (shown line) (take (line .length) output ++ (c ++ l))) none (g ∙ ap (overwrite (take (r .length) stored)) all)
-      ∙ ap (λ l. overwrite (shown line) (take (line .length) output ++ l)) (append-nil (overwrite (take (r .length) stored) (drop (line .length) output)))
-      ∙ ap₂ (λ l n. overwrite l (take n output ++ overwrite (take (r .length) stored) (drop n output))) (line-shown sheet store r stored line long e f) (line-length sheet store r stored line long e f)
+      ∙ ap (λ l. overwrite (shown line) (take (line .length) output ++ l))
+      (append-nil (overwrite (take (r .length) stored) (drop (line .length) output)))
+      ∙ ap₂ (λ l n. overwrite l (take n output ++ overwrite (take (r .length) stored) (drop n output)))
+      (line-shown sheet store r stored line long e f) (line-length sheet store r stored line long e f)
       ∙ put-two (refusalLine (r .refusal)) (take (r .length) stored) output (omega (arith, line-length sheet store r stored line long e f))
       ∙ ap (λ l. overwrite l output) (made sheet store r stored line long e f .1))
     where

@@ -140,7 +140,15 @@ pub record FeedCall : Type 0 where
 unfoldable pub fedBy : Feed → List ℕ → List ℕ → FeedCall
 unfolding overwrite
 fedBy f bytes output =
-    record { stage = f .stage; batch = f .batch; taken = length bytes - length (f .rest); written = length (f .text); full = f .full; output = overwrite (f .text) output }
+    record {
+      stage = f .stage;
+      batch = f .batch;
+      taken = length bytes - length (f .rest);
+      written = length
+          (f .text);
+      full = f .full;
+      output = overwrite (f .text) output;
+    }
 
 unfoldable pub feedCall : Stage → Batch → List ℕ → List ℕ → FeedCall
 unfolding fedBy feed

@@ -30,7 +30,8 @@ use Rattle.batches.specs.declared.feeding.Fed.{Fed}
 use Rattle.batches.specs.Feeds.{Feed, feed, prefixed, fedBy, feedCall}
 use Rattle.batches.specs.PieceCalls.{heldNeed, streamCheck, PieceCall, callOf, keptOf, laid, pieceBy, pieceCall}
 use Rattle.batches.specs.Moves.{CountedIn, counted-in}
-use Rattle.batches.specs.FeedLaws.{Untaken, staysBefore, goesOn, feed-few, feed-room, feed-rest, feed-end, feed-short, append-full, append-fits, feed-held}
+use Rattle.batches.specs.FeedLaws.{Untaken, staysBefore, goesOn, feed-few, feed-room, feed-rest, feed-end}
+use Rattle.batches.specs.FeedLaws.{feed-short, append-full, append-fits, feed-held}
 use Rattle.batches.specs.PieceLaws.{Right, check-right, call-is}
 use Rattle.batches.specs.Answering.{whole-part, length-overwrite}
 use Rattle.batches.specs.Turns.{fedOf}
@@ -47,6 +48,10 @@ shaped f n store output kept =
       store = overwrite kept store;
       output = overwrite (f .text) output;
     }
+
+abbrev pieceWith : Stream → ℕ → ℕ → List ℕ → List ℕ → PieceCall
+pieceWith stream taken written store output =
+    record { refusal = 0; stream = stream; taken = taken; written = written; store = store; output = output }
 
 -- ---- no bytes held
 
@@ -73,7 +78,8 @@ module _ (stage : Stage) (b : Batch) (store piece output : List ℕ) (few : Coun
   unheld-is = refl
 
   -- What is written fits, and no more is taken than there is.
-  pub unheld-bounds : (unheld stage b store piece output .taken ≤ length piece) × (unheld stage b store piece output .written ≤ length output)
+  pub unheld-bounds : (unheld stage b store piece output .taken ≤ length piece) ×
+      (unheld stage b store piece output .written ≤ length output)
   unheld-bounds = (
     rw unheld-is (omega arith),
     rw unheld-is (feed-room stage b piece (length output) few-in),
@@ -98,7 +104,7 @@ module _ (stage : Stage) (b : Batch) (store piece output : List ℕ) (few : Coun
     unheld-full h =
         let full : fed .full ≡ true = sym (ap (λ c. c .full) e) ∙ h in
         let all : r .taken ≡ length piece - (length (fed .rest) - 0) = unheld-taken ∙ omega arith in
-        (λ i. record { refusal = 0; stream = streamAt (e i .stage) (e i .batch) 0; taken = all i; written = e i .written; store = store; output = e i .output })
+        (λ i. pieceWith (streamAt (e i .stage) (e i .batch) 0) (all i) (e i .written) store (e i .output))
         ∙ ap (shaped fed (length piece) store output) (sym (kept-none fed piece inside full)) ∙ sym unheld-is
 
     left : take (length piece - r .taken) (drop (r .taken) piece) ≡ fed .rest
@@ -115,13 +121,21 @@ module _ (stage : Stage) (b : Batch) (store piece output : List ℕ) (few : Coun
     unheld-left h = rw left (feed-short stage b piece (length output) few-in (fits-by h))
 
     pub unheld-rest : r .full ≡ false → (copied : List ℕ) (n : ℕ)
-        → (copied ≡ overwrite (take (length piece - r .taken) (drop (r .taken) piece)) store) → (n ≡ length (take (length piece - r .taken) (drop (r .taken) piece)))
-        → callOf (record { refusal = 0; stream = streamAt (r .stage) (r .batch) n; taken = length piece; written = r .written }) copied after
+        → (copied ≡ overwrite (take (length piece - r .taken) (drop (r .taken) piece)) store) →
+        (n ≡ length (take (length piece - r .taken) (drop (r .taken) piece)))
+        → callOf (record {
+          refusal = 0;
+          stream = streamAt (r .stage)
+              (r .batch) n;
+          taken = length piece;
+          written = r .written;
+        }) copied after
         ≡ unheld stage b store piece output
     unfolding feedCall fedBy callOf
     unheld-rest h copied n f g =
         let all : length piece ≡ length piece - (length (fed .rest) - length (fed .rest)) = omega arith in
-        (λ i. record { refusal = 0; stream = streamAt (e i .stage) (e i .batch) ((g ∙ ap length left) i); taken = all i; written = e i .written; store = (f ∙ ap (λ l. overwrite l store) left) i; output = e i .output })
+        (λ i. pieceWith (streamAt (e i .stage) (e i .batch) ((g ∙ ap length left) i)) (all i) (e i .written)
+        ((f ∙ ap (λ l. overwrite l store) left) i) (e i .output))
         ∙ ap (shaped fed (length piece) store output) (sym (kept-all fed piece (fits-by h))) ∙ sym unheld-is
 
 -- A piece of a stream of which no bytes are held.
@@ -131,7 +145,8 @@ unfolding unheld pieceBy laid
 unheld-call s store piece output right z =
     sym
     (call-is s store piece output right
-    ∙ ap (λ n. pieceBy (feed (s .stage) (s .batch) (take n store ++ piece) (length output)) (streamAt (s .stage) (s .batch) n) store piece output) z)
+    ∙ ap (λ n. pieceBy (feed (s .stage) (s .batch) (take n store ++ piece) (length output))
+    (streamAt (s .stage) (s .batch) n) store piece output) z)
 
 -- ---- what follows the first answers
 
@@ -151,7 +166,8 @@ module _ (f : Fed) (from : ℕ) (store piece output : List ℕ) where
   module _ (inside : from ≤ length piece) (fits : f .written ≤ length output) (few : Counted (f .batch)) (r : PieceResult)
       (held part : List ℕ)
       (e : callOf r held part
-      ≡ unheld (f .stage) (f .batch) store (take (length piece - from) (drop from piece)) (take (length output - f .written) (drop (f .written) output))) where
+      ≡ unheld (f .stage) (f .batch) store (take (length piece - from) (drop from piece))
+      (take (length output - f .written) (drop (f .written) output))) where
     abbrev following : PieceCall
     following = unheld (f .stage) (f .batch) store (drop from piece) (drop (f .written) output)
 
@@ -174,8 +190,10 @@ module _ (f : Fed) (from : ℕ) (store piece output : List ℕ) where
         ≡ restOf f from store piece output
     unfolding callOf restOf behind
     rest-goes h =
-        (λ i. record { refusal = 0; stream = follows i .stream; taken = from + follows i .taken; written = f .written + follows i .written; store = follows i .store; output = take (f .written) output ++ (follows i .output ++ whole-part output (f .written) fits .1 i) })
-        ∙ ap (λ l. record { refusal = 0; stream = following .stream; taken = from + following .taken; written = f .written + following .written; store = following .store; output = take (f .written) output ++ l }) (append-nil (following .output))
+        (λ i. pieceWith (follows i .stream) (from + follows i .taken) (f .written + follows i .written)
+        (follows i .store) (take (f .written) output ++ (follows i .output ++ whole-part output (f .written) fits .1 i)))
+        ∙ ap (λ l. (pieceWith (following .stream) (from + following .taken) (f .written + following .written)
+        (following .store) (take (f .written) output ++ l))) (append-nil (following .output))
         ∙ sym (rest-by h)
 
 -- ---- bytes laid behind those that are held
@@ -267,7 +285,8 @@ module _ (s : Stream) (store piece output : List ℕ) (right : streamCheck s sto
   unfolding laid
   laid-is =
       ap (λ t. cond t [] (take heldNeed (held ++ piece))) (ne-eqb (s .held) 0 (λ z. omega arith))
-      ∙ ap (λ n. take n (held ++ piece)) (let all : heldNeed ≡ length held + (heldNeed - s .held) = omega (arith, held-length, checked .few) in all)
+      ∙ ap (λ n. take n (held ++ piece))
+      (let all : heldNeed ≡ length held + (heldNeed - s .held) = omega (arith, held-length, checked .few) in all)
       ∙ take-append-add held piece (heldNeed - s .held)
       ∙ ap (λ l. held ++ l) (take-least piece (heldNeed - s .held))
 
@@ -306,13 +325,15 @@ module _ (s : Stream) (store piece output : List ℕ) (right : streamCheck s sto
   laid-fits : length (held ++ laidOn) ≤ length store
   laid-fits = omega (arith, both-length, checked .few, checked .long)
 
-  pub laid-on : (n : ℕ) → n ≡ count → (copied : List ℕ) → copied ≡ overwrite (take n piece) (take (length store - s .held) (drop (s .held) store))
+  pub laid-on : (n : ℕ) → n ≡ count → (copied : List ℕ) → copied ≡ overwrite (take n piece)
+      (take (length store - s .held) (drop (s .held) store))
       → LaidOn n (putMid (s .held) (length store - s .held) store copied)
   unfolding overwrite
   laid-on n e copied f =
       let stored = putMid (s .held) (length store - s .held) store copied in
       let is : stored ≡ store' =
-      joins store (take n piece) copied (s .held) (omega (arith, checked .few, checked .long)) f ∙ ap (λ n. overwrite (held ++ take n piece) store) e in
+      joins store (take n piece) copied (s .held) (omega (arith, checked .few, checked .long)) f ∙ ap
+      (λ n. overwrite (held ++ take n piece) store) e in
       let size : length stored ≡ length store = ap length is ∙ length-overwrite (held ++ laidOn) store laid-fits in
       record {
         stored-is = is;
@@ -386,7 +407,8 @@ module _ (s : Stream) (store piece output : List ℕ) (right : streamCheck s sto
         go : (t : Bool) → first .full ≡ t
             → callOf (untakenOf r (s .held) (s .held + count) (length piece)) store' after ≡ pieceCall s store piece output
         go true h =
-            by-full ∙ (λ i. record { refusal = 0; stream = streamAt (told i .stage) (told i .batch) (sym held-length i); taken = none i; written = sym (ap length (u .no-text)) i; store = sym (overwrite-twice held laidOn store) i; output = told i .output })
+            by-full ∙ (λ i. pieceWith (streamAt (told i .stage) (told i .batch) (sym held-length i)) (none i)
+            (sym (ap length (u .no-text)) i) (sym (overwrite-twice held laidOn store) i) (told i .output))
             ∙ sym (called ∙ ap₂ (λ f kept. shaped f (length piece) store' output kept) w kept)
           where
             w : whole ≡ staysBefore first beyond
@@ -398,16 +420,18 @@ module _ (s : Stream) (store piece output : List ℕ) (right : streamCheck s sto
             kept : keptOf whole piece ≡ held
             kept =
                 ap (λ f. keptOf f piece) w ∙ ap (λ l. take (length l - length piece) l) left
-                ∙ take-at held piece _ (let n : length held ≡ length (held ++ piece) - length piece = omega (arith, length-append held piece) in n)
+                ∙ take-at held piece _
+                (let n : length held ≡ length (held ++ piece) - length piece = omega (arith, length-append held piece) in n)
 
             by-full : callOf (untakenOf r (s .held) (s .held + count) (length piece)) store' after
-                ≡ record { refusal = 0; stream = streamAt (r .stage) (r .batch) (s .held); taken = 0; written = 0; store = store'; output = after }
+                ≡ pieceWith (streamAt (r .stage) (r .batch) (s .held)) 0 0 store' after
             by-full = rw (full-by ∙ h)
 
             none : 0 ≡ length piece - (length (first .rest ++ beyond) - length held)
             none = omega (arith, ap length left, length-append held piece)
         go false h =
-            by-full ∙ (λ i. record { refusal = 0; stream = streamAt (told i .stage) (told i .batch) (size i); taken = all i; written = sym (ap length (u .no-text)) i; store = again i; output = told i .output })
+            by-full ∙ (λ i. pieceWith (streamAt (told i .stage) (told i .batch) (size i)) (all i)
+            (sym (ap length (u .no-text)) i) (again i) (told i .output))
             ∙ sym (called ∙ ap₂ (λ f kept. shaped f (length piece) store' output kept) w kept)
           where
             short : s .held + count < heldNeed
@@ -422,7 +446,7 @@ module _ (s : Stream) (store piece output : List ℕ) (right : streamCheck s sto
             kept = ap (λ f. keptOf f piece) w ∙ kept-all first piece h
 
             by-full : callOf (untakenOf r (s .held) (s .held + count) (length piece)) store' after
-                ≡ record { refusal = 0; stream = streamAt (r .stage) (r .batch) (s .held + count); taken = length piece; written = 0; store = store'; output = after }
+                ≡ pieceWith (streamAt (r .stage) (r .batch) (s .held + count)) (length piece) 0 store' after
             by-full = rw (full-by ∙ h)
 
             size : s .held + count ≡ length (first .rest)
@@ -499,7 +523,9 @@ module _ (s : Stream) (store piece output : List ℕ) (right : streamCheck s sto
             end : drop (count - length (first .rest)) laidOn ≡ first .rest
             end =
                 sym (drop-append-add held laidOn (count - length (first .rest)))
-                ∙ ap (λ n. drop n (held ++ laidOn)) (sym (over-held (length (held ++ laidOn)) (length held) count (length (first .rest)) (both-length ∙ ap (λ n. n + count) (sym held-length)) few-left))
+                ∙ ap (λ n. drop n (held ++ laidOn))
+                (sym (over-held (length (held ++ laidOn)) (length held) count (length (first .rest))
+                (both-length ∙ ap (λ n. n + count) (sym held-length)) few-left))
                 ∙ feed-end (s .stage) (s .batch) (held ++ laidOn) room few
 
         parts : (take (r .written) after ≡ first .text) × (drop (r .written) after ≡ free)
@@ -525,7 +551,8 @@ module _ (s : Stream) (store piece output : List ℕ) (right : streamCheck s sto
         kept = keptOf next rest
 
         -- The rest of the piece, worked by itself.
-        following-is : unheld (r .stage) (r .batch) store' (drop from piece) (drop (r .written) after) ≡ shaped next (length rest) store' free kept
+        following-is : unheld (r .stage) (r .batch) store' (drop from piece) (drop (r .written) after) ≡ shaped next
+            (length rest) store' free kept
         unfolding fedBy unheld pieceBy laid overwrite
         following-is =
             (λ i. unheld (told i .stage) (told i .batch) store' (place i) (parts .1 i))
@@ -533,7 +560,9 @@ module _ (s : Stream) (store piece output : List ℕ) (right : streamCheck s sto
         taken-all : from + (length rest - (length (next .rest) - length kept)) ≡ length piece - (length (next .rest) - length kept)
         taken-all =
             taken-in from (length piece) (length rest) (length (next .rest) - length kept) from-is
-            (subst (λ n. n ≤ length piece) (sym rest-is) (within-piece count (length piece) (length (first .rest)) (least-left (length piece) (heldNeed - s .held)) few-left))
+            (subst (λ n. n ≤ length piece) (sym rest-is)
+            (within-piece count (length piece) (length (first .rest))
+            (least-left (length piece) (heldNeed - s .held)) few-left))
             (sub-below (length (next .rest)) (length kept) (length rest) next-length)
 
         written-all : r .written + length (next .text) ≡ length (first .text ++ next .text)
@@ -552,7 +581,8 @@ module _ (s : Stream) (store piece output : List ℕ) (right : streamCheck s sto
         goes-on =
             rest-by r from store' piece after (full-by ∙ h)
             ∙ ap (λ c. behind r from c after) following-is
-            ∙ (λ i. record { refusal = 0; stream = streamAt (next .stage) (next .batch) (length kept); taken = taken-all i; written = written-all i; store = overwrite kept store'; output = output-all i })
+            ∙ (λ i. pieceWith (streamAt (next .stage) (next .batch) (length kept)) (taken-all i) (written-all i)
+            (overwrite kept store') (output-all i))
             ∙ sym (called ∙ ap₂ (λ f kept. shaped f (length piece) store' output kept) w (ap (λ f. keptOf f piece) w ∙ kept-same))
 
       pub held-taken : restOf r from store' piece after ≡ pieceCall s store piece output
@@ -575,7 +605,8 @@ module _ (s : Stream) (store piece output : List ℕ) (right : streamCheck s sto
               all : from ≡ length piece - (length rest - 0)
               all = from-is ∙ omega arith
 
-              same : callOf (record { refusal = 0; stream = streamAt (r .stage) (r .batch) 0; taken = from; written = r .written }) store' after
+              same : callOf (record
+                  { refusal = 0; stream = streamAt (r .stage) (r .batch) 0; taken = from; written = r .written }) store' after
                   ≡ shaped (staysBefore first beyond) (length piece) store' output []
-              same = λ i. record { refusal = 0; stream = streamAt (e i .stage) (e i .batch) 0; taken = all i; written = e i .written; store = store'; output = e i .output }
+              same = λ i. pieceWith (streamAt (e i .stage) (e i .batch) 0) (all i) (e i .written) store' (e i .output)
           go false h = goes-on h

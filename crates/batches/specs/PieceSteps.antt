@@ -29,7 +29,8 @@ use Rattle.batches.specs.declared.Stream.{Stream}
 use Rattle.batches.specs.declared.PieceResult.{PieceResult}
 use Rattle.batches.specs.declared.feeding.Fed.{Fed}
 use Rattle.batches.specs.Feeds.{waits, breaks, nextSheet, Feed, feed, startOf}
-use Rattle.batches.specs.PieceCalls.{heldNeed, isWaiting, streamRight, streamCheck, PieceCall, callOf, pieceBy, pieceRefused, afterStreamCheck, pieceCall}
+use Rattle.batches.specs.PieceCalls.{heldNeed, isWaiting, streamRight, streamCheck, PieceCall, callOf, pieceBy}
+use Rattle.batches.specs.PieceCalls.{pieceRefused, afterStreamCheck, pieceCall}
 use Rattle.batches.specs.Moves.{look-is, sheet-waits, sheet-whole}
 
 abbrev pub refusedOf : ℕ → PieceResult
@@ -51,7 +52,15 @@ untakenOf f held joined count =
 -- What was written before stands at the front of the output.
 unfoldable pub behind : Fed → ℕ → PieceCall → List ℕ → PieceCall
 behind f from c output =
-    record { refusal = 0; stream = c .stream; taken = from + c .taken; written = f .written + c .written; store = c .store; output = take (f .written) output ++ c .output }
+    record {
+      refusal = 0;
+      stream = c .stream;
+      taken = from + c .taken;
+      written = f .written + c .written;
+      store =
+          c .store;
+      output = take (f .written) output ++ c .output;
+    }
 
 unfoldable pub restOf : Fed → ℕ → List ℕ → List ℕ → List ℕ → PieceCall
 unfolding behind unheld
@@ -88,7 +97,8 @@ none-waits left bytes z = rw (eq-eqb left 0 z) (go (eqb (length bytes) 0))
 pub size-waits : (left : ℕ) (bytes : List ℕ) (v : SheetLine) → v ≡ lineOf bytes → left ≢ 0 → v .refusal ≡ 0
     → ltb (length bytes - v .taken) (v .bytes) ≡ isWaiting (nextSheet left bytes)
 unfolding isWaiting
-size-waits left bytes v same some z = subst (λ v. v .refusal ≡ 0 → ltb (length bytes - v .taken) (v .bytes) ≡ isWaiting (nextSheet left bytes)) (sym same) read z
+size-waits left bytes v same some z = subst
+    (λ v. v .refusal ≡ 0 → ltb (length bytes - v .taken) (v .bytes) ≡ isWaiting (nextSheet left bytes)) (sym same) read z
   where
     line : SheetLine
     line = lineOf bytes

@@ -31,21 +31,30 @@ use Rattle.frames.specs.declared.Batch.{Batch}
 use Rattle.frames.specs.declared.Begun.{Begun}
 use Rattle.frames.specs.declared.TextLine.{TextLine}
 use Rattle.frames.specs.Bounds.{begun-counted}
-use Rattle.frames.specs.Pieces.{textOf, shown, shown-text, refusalLine, refusal-broken, begunOf, begun-inside, countedOf, Counted, counted-left, counted-few}
+use Rattle.frames.specs.Pieces.{textOf, shown, shown-text, refusalLine, refusal-broken, begunOf, begun-inside}
+use Rattle.frames.specs.Pieces.{countedOf, Counted, counted-left}
 use Rattle.batches.specs.declared.Stage.{Stage}
 use Rattle.batches.specs.declared.Stage.the-variants.{Count, Sheets, Over}
 use Rattle.batches.specs.declared.answering.Put.{Put}
 use Rattle.batches.specs.declared.feeding.Fed.{Fed}
 use Rattle.batches.specs.declared.feeding.Turn.{Turn}
-use Rattle.batches.specs.Feeds.{Next, waits, breaks, sheet, nextSheet, Feed, waitingAt, fullAt, overAt, breakingAt, Step, stopped, answered, numberOf}
-use Rattle.batches.specs.Feeds.{answerStep, stepBy, step, prefixed, afterStep, steps, feedSheets, feedCount, feed, FeedCall, fedBy}
+use Rattle.batches.specs.Feeds.{Next, waits, breaks, sheet, nextSheet, Feed, waitingAt, fullAt, overAt, breakingAt}
+use Rattle.batches.specs.Feeds.{Step, stopped, answered, numberOf, answerStep, stepBy, step, prefixed}
+use Rattle.batches.specs.Feeds.{afterStep, steps, feedSheets, feedCount, feed, FeedCall, fedBy}
 use Rattle.batches.specs.Moves.{Look, look, look-some, Move, answering, move-inside, move-few}
 use Rattle.batches.specs.FeedLaws.{feed-move, feed-room, feed-rest}
 use Rattle.batches.specs.Answering.{putOf, answerPut, put, unput, whole-part, length-overwrite}
 
+abbrev callWith : Stage → Batch → ℕ → ℕ → Bool → List ℕ → FeedCall
+callWith stage b taken written full output =
+    record { stage = stage; batch = b; taken = taken; written = written; full = full; output = output }
+
+abbrev feedWith : Stage → Batch → List ℕ → List ℕ → Bool → Feed
+feedWith stage b rest text full = record { stage = stage; batch = b; rest = rest; text = text; full = full }
+
 abbrev pub fedOf : Fed → List ℕ → FeedCall
 fedOf r output =
-    record { stage = r .stage; batch = r .batch; taken = r .taken; written = r .written; full = r .full; output = output }
+    callWith (r .stage) (r .batch) (r .taken) (r .written) (r .full) output
 
 abbrev pub stoppedOf : Fed → Turn
 stoppedOf f = record { going = false; fed = f }
@@ -60,7 +69,7 @@ turnOf r output = record { going = r .going; call = fedOf (r .fed) output }
 -- A sheet that was answered: what is written for it stands at the front of the output.
 abbrev pub answeredCall : Batch → List ℕ → List ℕ → List ℕ → List ℕ → FeedCall
 answeredCall b rest text bytes output =
-    record { stage = Sheets; batch = b; taken = length bytes - length rest; written = length text; full = false; output = overwrite text output }
+    callWith Sheets b (length bytes - length rest) (length text) false (overwrite text output)
 
 unfoldable pub turnBy : Step → List ℕ → List ℕ → Turned
 unfolding fedBy overwrite
@@ -76,10 +85,10 @@ abbrev nothing : Stage → Batch → Bool → Fed
 nothing stage b full = record { stage = stage; batch = b; taken = 0; written = 0; full = full }
 
 pub nothing-by : (stage : Stage) (b : Batch) (full : Bool) (bytes output : List ℕ)
-    → fedOf (nothing stage b full) output ≡ fedBy (record { stage = stage; batch = b; rest = bytes; text = []; full = full }) bytes output
+    → fedOf (nothing stage b full) output ≡ fedBy (feedWith stage b bytes [] full) bytes output
 unfolding fedBy overwrite
 nothing-by stage b full bytes output =
-    λ i. record { stage = stage; batch = b; taken = sym (sub-self (length bytes)) i; written = 0; full = full; output = output }
+    λ i. callWith stage b (sym (sub-self (length bytes)) i) 0 full output
 
 module _ (stage : Stage) (b : Batch) (bytes output : List ℕ) (line : TextLine) (e : line ≡ textOf (refusalLine 3)) where
   three : (line .length ≡ length broken) × (shown line ≡ broken)
@@ -95,11 +104,11 @@ module _ (stage : Stage) (b : Batch) (bytes output : List ℕ) (line : TextLine)
       (sym (lt-leb (length broken) (length output) (omega (arith, three .0))))
 
   pub breaks-over : line .length ≤ length output → (after : List ℕ) → after ≡ overwrite (shown line) output
-      → _≡_ {A = FeedCall} (record { stage = Over; batch = b; taken = length bytes; written = line .length; full = false; output = after })
+      → _≡_ {A = FeedCall} (callWith Over b (length bytes) (line .length) false after)
       (fedBy (breakingAt stage b bytes (length output)) bytes output)
   unfolding breakingAt fedBy
   breaks-over h after same =
-      (λ i. record { stage = Over; batch = b; taken = sym (sub-zero (length bytes)) i; written = three .0 i; full = false; output = (same ∙ ap (λ l. overwrite l output) (three .1)) i })
+      (λ i. callWith Over b (sym (sub-zero (length bytes)) i) (three .0 i) false ((same ∙ ap (λ l. overwrite l output) (three .1)) i))
       ∙ ap (λ t. fedBy (cond t (overAt b broken) (fullAt stage b bytes)) bytes output)
       (sym (le-leb (length broken) (length output) (omega (arith, three .0))))
 
@@ -113,13 +122,18 @@ module _ (a : Answer) (b : Batch) (bytes output : List ℕ) (to : ℕ) (r : Put)
       → (putOf r after ≡ cond t (put a output) (unput output))
       × (stepped ≡ cond t (answered (countedOf b (numberOf a)) (drop to bytes) (answerBytes a)) (stopped (fullAt Sheets b bytes)))
   unfolding answerPut answerStep
-  by-fit t f = (e ∙ ap (λ t. cond t (put a output) (unput output)) f, ap (λ t. cond t (answered (countedOf b (numberOf a)) (drop to bytes) (answerBytes a)) (stopped (fullAt Sheets b bytes))) f)
+  by-fit t f = (
+    e ∙ ap (λ t. cond t (put a output) (unput output)) f,
+    ap
+        (λ t. cond t (answered (countedOf b (numberOf a)) (drop to bytes) (answerBytes a)) (stopped (fullAt Sheets b bytes))) f,
+  )
 
   pub put-full : not (r .fits) ≡ true → turnOf (stoppedOf (nothing Sheets b true)) after ≡ turnBy stepped bytes output
   unfolding turnBy
   put-full h = go (leb (length (answerBytes a)) (length output)) refl
     where
-      go : (t : Bool) → leb (length (answerBytes a)) (length output) ≡ t → turnOf (stoppedOf (nothing Sheets b true)) after ≡ turnBy stepped bytes output
+      go : (t : Bool) → leb (length (answerBytes a)) (length output) ≡ t → turnOf
+          (stoppedOf (nothing Sheets b true)) after ≡ turnBy stepped bytes output
       go true f = absurd (true≢false (sym h ∙ ap (λ c. not (c .fits)) (by-fit true f .0)))
       go false f =
           ap (λ o. turnOf (stoppedOf (nothing Sheets b true)) o) (ap (λ c. c .output) (by-fit false f .0))
@@ -127,17 +141,17 @@ module _ (a : Answer) (b : Batch) (bytes output : List ℕ) (to : ℕ) (r : Put)
           ∙ ap (λ s. turnBy s bytes output) (sym (by-fit false f .1))
 
   pub put-done : not (r .fits) ≡ false → to ≤ length bytes
-      → _≡_ {A = Turned} (record { going = true; call = record { stage = Sheets; batch = countedOf b (r .refusal); taken = to; written = r .written; full = false; output = after } })
+      → _≡_ {A = Turned} (record { going = true; call = callWith Sheets (countedOf b (r .refusal)) to (r .written) false after })
       (turnBy stepped bytes output)
   unfolding turnBy
   put-done h inside = go (leb (length (answerBytes a)) (length output)) refl
     where
       go : (t : Bool) → leb (length (answerBytes a)) (length output) ≡ t
-          → _≡_ {A = Turned} (record { going = true; call = record { stage = Sheets; batch = countedOf b (r .refusal); taken = to; written = r .written; full = false; output = after } })
+          → _≡_ {A = Turned} (record { going = true; call = callWith Sheets (countedOf b (r .refusal)) to (r .written) false after })
           (turnBy stepped bytes output)
       go false f = absurd (true≢false (sym (ap (λ c. not (c .fits)) (by-fit false f .0)) ∙ h))
       go true f =
-          ap₂ (λ c n. record { going = true; call = record { stage = Sheets; batch = countedOf b (c .refusal); taken = n; written = c .written; full = false; output = c .output } })
+          ap₂ (λ c n. record { going = true; call = callWith Sheets (countedOf b (c .refusal)) n (c .written) false (c .output) })
           (by-fit true f .0) taken
           ∙ ap (λ s. turnBy s bytes output) (sym (by-fit true f .1))
         where
@@ -195,7 +209,8 @@ step-answered b b' bytes rest text room e = go (nextSheet (b .left) bytes) (look
         a = answerSheet (take (to - from) (drop from bytes))
 
         by : (t : Bool) → (T t → length (answerBytes a) ≤ room)
-            → cond t (answered (countedOf b (numberOf a)) (drop to bytes) (answerBytes a)) (stopped (fullAt Sheets b bytes)) ≡ answered b' rest text
+            → cond t (answered (countedOf b (numberOf a)) (drop to bytes) (answerBytes a))
+            (stopped (fullAt Sheets b bytes)) ≡ answered b' rest text
             → Went b b' bytes rest text room
         by true h e =
             let batch : countedOf b (numberOf a) ≡ b' = cc in
@@ -205,7 +220,9 @@ step-answered b b' bytes rest text room e = go (nextSheet (b .left) bytes) (look
               to = to;
               moved =
                   subst (λ c. Move Sheets b bytes (record { text = text; stage = Sheets; batch = c; taken = to })) batch
-                  (subst (λ l. Move Sheets b bytes (record { text = l; stage = Sheets; batch = countedOf b (numberOf a); taken = to })) shown (answering l refl));
+                  (subst (λ l. Move Sheets b bytes
+                  (record { text = l; stage = Sheets; batch = countedOf b (numberOf a); taken = to })) shown
+                  (answering l refl));
               beyond = sym left;
               fits = subst (λ l. length l ≤ room) shown (h tt);
               some = look-some l;
@@ -238,7 +255,7 @@ sofar-none b bytes output few =
 
 -- A feed with another text.
 abbrev written-before : Feed → List ℕ → Feed
-written-before f l = record { stage = f .stage; batch = f .batch; rest = f .rest; text = l; full = f .full }
+written-before f l = feedWith (f .stage) (f .batch) (f .rest) l (f .full)
 
 -- The output so far keeps its length.
 pub sofar-length : {b₀ b : Batch} {bytes output₀ output : List ℕ} {at out : ℕ} → Sofar b₀ bytes output₀ b at out output
@@ -268,7 +285,8 @@ module _ {b₀ b : Batch} {bytes output₀ output : List ℕ} {at out : ℕ} (s 
   unfolding overwrite
   parted = (
     ap (take out) (s .stored) ∙ take-at (s .text) (drop (length (s .text)) output₀) out (s .written),
-    ap (drop out) (s .stored) ∙ drop-at (s .text) (drop (length (s .text)) output₀) out (s .written) ∙ ap (λ n. drop n output₀) (s .written),
+    ap (drop out) (s .stored) ∙ drop-at (s .text) (drop (length (s .text)) output₀) out (s .written) ∙ ap
+        (λ n. drop n output₀) (s .written),
   )
 
   done : turnOf t after ≡ turnBy (step b left room) left free
@@ -278,8 +296,15 @@ module _ {b₀ b : Batch} {bytes output₀ output : List ℕ} {at out : ℕ} (s 
       (whole-part output out (omega (arith, sofar-length s, s .fits)) .0 ∙ parted .1)
       ∙ ap (λ n. turnBy (step b left n) left free) free-room
 
+  -- The output after the turn, and what the loop gives where it stops.
+  abbrev output' : List ℕ
+  output' = putMid out (length output - out) output after
+
+  abbrev ended : FeedCall
+  ended = callWith (t .fed .stage) (t .fed .batch) (at + t .fed .taken) (out + t .fed .written) (t .fed .full) output'
+
   -- What the turn writes stands behind what was written before.
-  behind : (l : List ℕ) → after ≡ overwrite l free → putMid out (length output - out) output after ≡ overwrite (s .text ++ l) output₀
+  behind : (l : List ℕ) → after ≡ overwrite l free → output' ≡ overwrite (s .text ++ l) output₀
   unfolding overwrite
   behind l same =
       ap₂ (λ p q. p ++ (after ++ q)) (parted .0) (whole-part output out (omega (arith, sofar-length s, s .fits)) .1)
@@ -310,25 +335,19 @@ module _ {b₀ b : Batch} {bytes output₀ output : List ℕ} {at out : ℕ} (s 
     unfolding fedBy
     written = ap (λ c. out + c .written) call ∙ ap (λ n. n + length (g .text)) (sym (s .written)) ∙ sym (length-append (s .text) (g .text))
 
-    stops : _≡_ {A = FeedCall}
-        (record { stage = t .fed .stage; batch = t .fed .batch; taken = at + t .fed .taken; written = out + t .fed .written; full = t .fed .full; output = putMid out (length output - out) output after })
-        (fedBy (feedSheets b₀ bytes (length output₀)) bytes output₀)
+    stops : ended ≡ fedBy (feedSheets b₀ bytes (length output₀)) bytes output₀
     unfolding fedBy
     stops =
-        (λ i. record { stage = call i .stage; batch = call i .batch; taken = taken i; written = written i; full = call i .full; output = behind (g .text) (ap (λ c. c .output) call) i })
+        (λ i. callWith (call i .stage) (call i .batch) (taken i) (written i) (call i .full) (behind (g .text) (ap (λ c. c .output) call) i))
         ∙ ap (λ f. fedBy f bytes output₀) (sym (s .rest ∙ ap (prefixed (s .text)) fed))
 
   pub sofar-stops : not (t .going) ≡ true
-      → _≡_ {A = FeedCall}
-      (record { stage = t .fed .stage; batch = t .fed .batch; taken = at + t .fed .taken; written = out + t .fed .written; full = t .fed .full; output = putMid out (length output - out) output after })
-      (fedBy (feedSheets b₀ bytes (length output₀)) bytes output₀)
+      → ended ≡ fedBy (feedSheets b₀ bytes (length output₀)) bytes output₀
   unfolding turnBy
   sofar-stops h = go (step b left room) refl
     where
       go : (x : Step) → step b left room ≡ x
-          → _≡_ {A = FeedCall}
-          (record { stage = t .fed .stage; batch = t .fed .batch; taken = at + t .fed .taken; written = out + t .fed .written; full = t .fed .full; output = putMid out (length output - out) output after })
-          (fedBy (feedSheets b₀ bytes (length output₀)) bytes output₀)
+          → ended ≡ fedBy (feedSheets b₀ bytes (length output₀)) bytes output₀
       go (answered b' rest text) f =
           absurd (true≢false (sym h ∙ ap (λ c. not (c .going)) (done ∙ ap (λ x. turnBy x left free) f)))
       go (stopped g) f = stops g f
@@ -363,7 +382,7 @@ module _ {b₀ b : Batch} {bytes output₀ output : List ℕ} {at out : ℕ} (s 
     less : room - length text ≡ length output₀ - (out + t .fed .written)
     less = omega (arith, written-to)
 
-    goes : Sofar b₀ bytes output₀ (t .fed .batch) (at + t .fed .taken) (out + t .fed .written) (putMid out (length output - out) output after)
+    goes : Sofar b₀ bytes output₀ (t .fed .batch) (at + t .fed .taken) (out + t .fed .written) output'
         × (t .fed .batch .left < b .left)
     goes = (
       record {
@@ -382,13 +401,13 @@ module _ {b₀ b : Batch} {bytes output₀ output : List ℕ} {at out : ℕ} (s 
     )
 
   pub sofar-goes : not (t .going) ≡ false
-      → Sofar b₀ bytes output₀ (t .fed .batch) (at + t .fed .taken) (out + t .fed .written) (putMid out (length output - out) output after)
+      → Sofar b₀ bytes output₀ (t .fed .batch) (at + t .fed .taken) (out + t .fed .written) output'
       × (t .fed .batch .left < b .left)
   unfolding turnBy
   sofar-goes h = go (step b left room) refl
     where
       go : (x : Step) → step b left room ≡ x
-          → Sofar b₀ bytes output₀ (t .fed .batch) (at + t .fed .taken) (out + t .fed .written) (putMid out (length output - out) output after)
+          → Sofar b₀ bytes output₀ (t .fed .batch) (at + t .fed .taken) (out + t .fed .written) output'
           × (t .fed .batch .left < b .left)
       go (stopped g) f = absurd (true≢false (sym (ap (λ c. not (c .going)) (done ∙ ap (λ x. turnBy x left free) f)) ∙ h))
       go (answered b' rest text) f = goes b' rest text f
@@ -416,7 +435,9 @@ module _ (b : Batch) (bytes output : List ℕ) where
   -- By the number of its fault.
   counted-by : (r : ℕ) → begun .refusal ≡ r
       → counted
-      ≡ fedBy (cond (eqb r 4) (waitingAt Count b bytes) (cond (eqb r 0) (feedSheets (begun .batch) (drop (begun .taken) bytes) (length output)) (breakingAt Count b bytes (length output)))) bytes output
+      ≡ fedBy (cond (eqb r 4) (waitingAt Count b bytes)
+      (cond (eqb r 0) (feedSheets (begun .batch) (drop (begun .taken) bytes) (length output))
+      (breakingAt Count b bytes (length output)))) bytes output
   unfolding feedCount
   counted-by r e = rw e
 
@@ -448,28 +469,30 @@ module _ (b : Batch) (bytes output : List ℕ) where
         ap (λ c. begun .taken + c .taken) sheets-by ∙ omega (arith, few-left, length-drop (begun .taken) bytes, begun-inside bytes)
 
     fed-all : _≡_ {A = FeedCall}
-        (record { stage = r .stage; batch = r .batch; taken = begun .taken + r .taken; written = r .written; full = r .full; output = after })
+        (callWith (r .stage) (r .batch) (begun .taken + r .taken) (r .written) (r .full) after)
         counted
     unfolding fedBy
     fed-all =
-        (λ i. record { stage = sheets-by i .stage; batch = sheets-by i .batch; taken = taken-all i; written = sheets-by i .written; full = sheets-by i .full; output = sheets-by i .output })
+        (λ i. callWith (sheets-by i .stage) (sheets-by i .batch) (taken-all i) (sheets-by i .written)
+        (sheets-by i .full) (sheets-by i .output))
         ∙ sym (counted-by 0 e)
 
   -- The line was read, and its sheets fed.
   abbrev SheetsFed : Begun → Fed → List ℕ → Type 0
   SheetsFed v r after =
       fedOf r after
-      ≡ fedBy (feedSheets (v .batch) (take (length bytes - v .taken) (drop (v .taken) bytes)) (length output)) (take (length bytes - v .taken) (drop (v .taken) bytes)) output
+      ≡ fedBy (feedSheets (v .batch) (take (length bytes - v .taken) (drop (v .taken) bytes)) (length output))
+      (take (length bytes - v .taken) (drop (v .taken) bytes)) output
 
   pub count-sheets : (v : Begun) → v ≡ begun → v .refusal ≡ 0 → (r : Fed) (after : List ℕ) → SheetsFed v r after
       → (v .taken + r .taken ≤ length bytes)
       × (_≡_ {A = FeedCall}
-      (record { stage = r .stage; batch = r .batch; taken = v .taken + r .taken; written = r .written; full = r .full; output = after })
+      (callWith (r .stage) (r .batch) (v .taken + r .taken) (r .written) (r .full) after)
       counted)
   count-sheets v same =
       subst
       (λ v.
       v .refusal ≡ 0 → (r : Fed) (after : List ℕ) → SheetsFed v r after
       → (v .taken + r .taken ≤ length bytes)
-      × (_≡_ {A = FeedCall} (record { stage = r .stage; batch = r .batch; taken = v .taken + r .taken; written = r .written; full = r .full; output = after }) counted))
+      × (_≡_ {A = FeedCall} (callWith (r .stage) (r .batch) (v .taken + r .taken) (r .written) (r .full) after) counted))
       (sym same) (λ e r after f. (omega (arith, taken-all e r after f), fed-all e r after f))

@@ -63,8 +63,15 @@ answer-fits bytes store = go (answerSheet bytes)
 pub text-fits : (t : TextLine) (l : List ℕ) → t ≡ textOf l → length (t .bytes) ≡ batchLine → t .length ≤ batchLine
 unfolding textOf overwrite
 text-fits t l e size =
-    omega
-    (arith, ap (λ r. r .length) e, ap (λ r. length (r .bytes)) e, length-append l (drop (length l) zeros), length-drop (length l) zeros, length-replicate batchLine zero)
+    omega (
+      arith,
+      ap (λ r. r .length) e,
+      ap (λ r. length (r .bytes)) e,
+      length-append l (drop (length l) zeros),
+      length-drop
+          (length l) zeros,
+      length-replicate batchLine zero,
+    )
   where
     zeros : List ℕ
     zeros = replicate batchLine 0

@@ -32,9 +32,11 @@ use Rattle.writing.specs.Writer.{Put, put-then, put-same, digitsOf}
 use Rattle.rows.specs.Validity.{first-failed, second-failed, both-passed}
 use Rattle.frames.specs.declared.Batch.{Batch}
 use Rattle.frames.specs.declared.SheetLine.{SheetLine}
-use Rattle.frames.specs.Windows.{numberLine, batchLine, followed, Window, field-window, sheetLine-window, countOf, clientOf, sheetLine-is, number-short}
+use Rattle.frames.specs.Windows.{numberLine, batchLine, followed, Window, field-window, sheetLine-window}
+use Rattle.frames.specs.Windows.{countOf, clientOf, sheetLine-is, number-short}
 use Rattle.frames.specs.Pieces.{readCount, batchWith, noTally, begunOf, begunBy, lineOf, lineBy, tallyOf, numbered, countsMore}
-use Rattle.frames.specs.Pieces.{countedOf, counted-is, textOf, refusalLine, closeable, closeLine, closed-is, refusal-broken, close-broken}
+use Rattle.frames.specs.Pieces.{countedOf, counted-is, textOf, refusalLine, closeable, closeLine, closed-is}
+use Rattle.frames.specs.Pieces.{refusal-broken, close-broken}
 
 -- ---- the window
 
@@ -106,7 +108,8 @@ module _ {w bytes : List ℕ} (v : Window w bytes) where
 -- A number in the range of a line is not negative, and its size is in the range.
 pub in-range : (low high separator : ℕ) (bytes : List ℕ) (v : ℤ) (rest : List ℕ)
     → field (between (pos low) (pos high)) (always separator) bytes ≡ got v rest → T (nonNeg v) × (low ≤ natAbs v) × (natAbs v ≤ high)
-in-range low high separator bytes v rest e = between-zero low high v (field-judged (between (pos low) (pos high)) (always separator) bytes e)
+in-range low high separator bytes v rest e = between-zero low high v
+    (field-judged (between (pos low) (pos high)) (always separator) bytes e)
 
 -- ---- lines that are written
 
@@ -228,7 +231,8 @@ unfolding line
 two-short a b h i =
     simp length-append (omega (arith, short-decimal a h, short-decimal b i))
 
-pub text-tally : (a b : ℕ) (first second third : List ℕ) (i j r : ℕ) → a ≤ 1000 → b ≤ 1000 → Put (replicate batchLine 0) 0 (digitsOf a) 20 first i
+pub text-tally : (a b : ℕ) (first second third : List ℕ) (i j r : ℕ) → a ≤ 1000 → b ≤ 1000 → Put
+    (replicate batchLine 0) 0 (digitsOf a) 20 first i
     → Put first i (space ∷ []) 1 second j → Put second j (line (pos b ∷ [])) 21 third r
     → record { bytes = third; length = r } ≡ textOf (lines ((pos a ∷ pos b ∷ []) ∷ []))
 unfolding lines flatten

@@ -30,7 +30,8 @@ use lib.IntN.{ℤ, pos, natAbs}
 use Rattle.rules.specs.Calls.{overwrite}
 use Rattle.rules.specs.Numbers.{newline, lines, Read, got, fault, field, between}
 use Rattle.rules.specs.Sheets.{always}
-use Rattle.rules.specs.Batch.{SheetLine as ReadLine, Answer as SheetAnswer, Tally, accepted, refusedWith, countAnswer, broken, closing, answerBytes}
+use Rattle.rules.specs.Batch.{SheetLine as ReadLine, Answer as SheetAnswer, Tally, accepted, refusedWith}
+use Rattle.rules.specs.Batch.{countAnswer, broken, closing, answerBytes}
 use Rattle.rules.specs.Batch.{readSize, readAfterClient, readSheetLine}
 use Rattle.answers.specs.Faults.{Numbered, read, numbered as numbered-fault, field-numbered, between-judging}
 use Rattle.rows.specs.Validity.{first-failed, both-passed}
@@ -38,7 +39,8 @@ use Rattle.frames.specs.declared.Batch.{Batch}
 use Rattle.frames.specs.declared.Begun.{Begun}
 use Rattle.frames.specs.declared.SheetLine.{SheetLine}
 use Rattle.frames.specs.declared.TextLine.{TextLine}
-use Rattle.frames.specs.Windows.{numberLine, batchLine, Taken, taken-drop, field-taken, sheetLine-taken, countOf, clientOf, sheetLine-is}
+use Rattle.frames.specs.Windows.{numberLine, batchLine, Taken, taken-drop, field-taken, sheetLine-taken}
+use Rattle.frames.specs.Windows.{countOf, clientOf, sheetLine-is}
 
 -- ---- lines that are read
 

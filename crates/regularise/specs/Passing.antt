@@ -36,7 +36,8 @@ module _ (s : Stream) (store piece output : List ℕ) (right : streamCheck s sto
   unfolding pieceBy
   fits =
       subst (λ c. c .written ≤ length output) (sym (call-is s store piece output right))
-      (feed-room (s .stage) (s .batch) (take (s .held) store ++ piece) (length output) (counted-in (s .stage) (s .batch) (check-right s store right .counted)))
+      (feed-room (s .stage) (s .batch) (take (s .held) store ++ piece) (length output)
+      (counted-in (s .stage) (s .batch) (check-right s store right .counted)))
 
   pub passed : Passed piece output r store'
   unfolding callOf

@@ -23,7 +23,8 @@ returns c =
     let args = c .before .before .before .before .before .before .before .args in
     let check = c .before .before .check in
     ap (λ r. callOf r (now (args .held)) (now (args .output))) (c .refused .ensures)
-    ∙ piece-refused (args .stream) (now (args .held)) (now (args .bytes)) (now (args .output)) (check .result) (check .ensures) (c .before .if1 .taken)
+    ∙ piece-refused (args .stream) (now (args .held)) (now (args .bytes)) (now (args .output)) (check .result)
+    (check .ensures) (c .before .if1 .taken)
 
 slice-aggregate-checked : tie.Need-slice-aggregate-checked
 slice-aggregate-checked c = search needs

@@ -34,7 +34,11 @@ module _ (c : tie.After-struct-told) where
   k-fits = sfits-of (c .struct-told .given .1 .0 .1)
 
 cast-t6 : tie.Need-cast-t6
-cast-t6 c = rw (toZ-ofZ (k-fits c)) (in-range 0 1000 10 _ _ _ (answer-got (c .before .before .if1 .left) (c .before .before .before .before .number-between .ensures .0)) .0, fits-natAbs tt (k-fits c))
+cast-t6 c = rw (toZ-ofZ (k-fits c)) (
+  in-range 0 1000 10 _ _ _
+      (answer-got (c .before .before .if1 .left) (c .before .before .before .before .number-between .ensures .0)) .0,
+  fits-natAbs tt (k-fits c),
+)
 
 returns-2 : tie.Need-returns-2
 unfolding readCount
@@ -42,7 +46,8 @@ returns-2 c =
     let n = c .before .before .before .before .number-between in
     rw (toZ-ofZ (k-fits c))
     (begun-read
-    (window-of (now (c .before .before .before .before .before .before .before .args .bytes)) (c .before .before .before .before .before .window .ensures))
+    (window-of (now (c .before .before .before .before .before .before .before .args .bytes))
+    (c .before .before .before .before .before .window .ensures))
     (n .result .value) (n .result .at) (answer-got (c .before .before .if1 .left) (n .ensures .0)) (n .ensures .0 .within))
 
 pub begin-spec : {M : Type 1} → statement M

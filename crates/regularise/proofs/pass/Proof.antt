@@ -42,7 +42,8 @@ module _ (c : tie.After-piece Inv-loop μ-loop) where
   done : Passed left (place .loop .output) (c .piece .result) after
   done =
       passed (place .loop .stream) (place .loop .held) left (place .loop .output) (place .loop .inv .1)
-      (omega (arith, start .pre .1, place .loop .inv .3)) (omega (arith, left-length)) (c .piece .result) after (c .piece .last .1 .1 .1 .0) (c .piece .ensures)
+      (omega (arith, start .pre .1, place .loop .inv .3)) (omega (arith, left-length)) (c .piece .result) after
+      (c .piece .last .1 .1 .1 .0) (c .piece .ensures)
 
   held-kept : length after ≡ length (now (start .args .held))
   held-kept = c .piece .kept .1 .0 ∙ place .loop .inv .2
@@ -66,15 +67,18 @@ piece-requires : tie.Need-piece-requires Inv-loop μ-loop
 piece-requires c κs = tt
 
 add-at : tie.Need-add-at Inv-loop μ-loop
-add-at c = let p = c .before .before .before .before .before .before in omega (arith, done p .taken, left-length p, start p .good .1 .1 .0 .0)
+add-at c = let p = c .before .before .before .before .before .before in omega
+    (arith, done p .taken, left-length p, start p .good .1 .1 .0 .0)
 
 slice-reshare-prefix-put : tie.Need-slice-reshare-prefix-put Inv-loop μ-loop
-slice-reshare-prefix-put c = let p = c .before .before .before .before .before .before in omega (arith, done p .written, p .piece .kept .1 .1 .1 .0)
+slice-reshare-prefix-put c = let p = c .before .before .before .before .before .before in omega
+    (arith, done p .written, p .piece .kept .1 .1 .1 .0)
 
 slice-aggregate-put : tie.Need-slice-aggregate-put Inv-loop μ-loop
 slice-aggregate-put c =
     let p = c .before .before .before .before .before .before .before in
-    sym (length-take-le (p .piece .result .written) (p .piece .last .1 .1 .1 .0) (omega (arith, done p .written, p .piece .kept .1 .1 .1 .0)))
+    sym (length-take-le (p .piece .result .written) (p .piece .last .1 .1 .1 .0)
+    (omega (arith, done p .written, p .piece .kept .1 .1 .1 .0)))
 
 put-requires : tie.Need-put-requires Inv-loop μ-loop
 put-requires c κs = tt
@@ -89,7 +93,8 @@ returns : tie.Need-returns Inv-loop μ-loop
 returns c = done (c .before .before .before .before .before .before .before .before .before) .right
 
 loop-less : tie.Need-loop-less Inv-loop μ-loop
-loop-less c = let p = c .before .before .before .before .before .before .before .before .before in omega (arith, done p .some, done p .taken, left-length p)
+loop-less c = let p = c .before .before .before .before .before .before .before .before .before in omega
+    (arith, done p .some, done p .taken, left-length p)
 
 loop-again : tie.Need-loop-again Inv-loop μ-loop
 loop-again c =

@@ -15,7 +15,8 @@ use Rattle.regularise.proofs.pass_all.Tie as tie
 
 abbrev Inv-loop : tie.InvT-loop
 Inv-loop held₀ input₀ output₀ passed₀ turns₀ held input output passed turns =
-    (streamCheck (passed .stream) held ≡ 0) × (length held ≡ length held₀) × (length input ≡ length input₀) × (length output ≡ length output₀)
+    (streamCheck (passed .stream) held ≡ 0) × (length held ≡ length held₀) × (length input ≡ length input₀) ×
+    (length output ≡ length output₀)
 
 abbrev μ-loop : tie.MeasureT-loop
 μ-loop held₀ input₀ output₀ passed₀ turns₀ held input output passed turns = turns
@@ -108,13 +109,20 @@ returns-3 : tie.Need-returns-3 Inv-loop μ-loop
 returns-3 c = tt
 
 sub-turns : tie.Need-sub-turns Inv-loop μ-loop
-sub-turns c = omega (arith, c .before .before .before .before .before .before .before .before .before .before .before .before .before .before .before .before .before .before .before .before .before .loop-test)
+sub-turns c = omega (
+  arith,
+  c .before .before .before .before .before .before .before .before .before .before .before .before .before .before .before .before .before .before .before .before .before .loop-test,
+)
 
 loop-less : tie.Need-loop-less Inv-loop μ-loop
-loop-less c = omega (arith, c .before .before .before .before .before .before .before .before .before .before .before .before .before .before .before .before .before .before .before .before .before .loop-test)
+loop-less c = omega (
+  arith,
+  c .before .before .before .before .before .before .before .before .before .before .before .before .before .before .before .before .before .before .before .before .before .loop-test,
+)
 
 loop-again : tie.Need-loop-again Inv-loop μ-loop
-loop-again c = let p = c .before .before .before .before .before .before .before .before .before in (p .pass .ensures, held-kept p, input-kept (read p), output-kept p)
+loop-again c = let p = c .before .before .before .before .before .before .before .before .before in
+    (p .pass .ensures, held-kept p, input-kept (read p), output-kept p)
 
 same-length-10 : tie.Need-same-length-10 Inv-loop μ-loop
 same-length-10 c = c .before .loop .inv .1

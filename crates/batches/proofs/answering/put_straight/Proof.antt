@@ -53,7 +53,8 @@ put-line-requires : tie.Need-put-line-requires
 put-line-requires c κs =
     let line = c .before .before .before in
     let output = now (start line .args .output) in
-    let same = same-len-mid 2 (length output - 2) output (made line .answer-in .last .1 .1 .1 .0) (made line .answer-in .kept .1 .1 .1 .0) in
+    let same = same-len-mid 2 (length output - 2) output (made line .answer-in .last .1 .1 .1 .0)
+    (made line .answer-in .kept .1 .1 .1 .0) in
     (line-few line, omega (arith, same, line-few line, start line .pre .0))
 
 same-length : tie.Need-same-length

@@ -23,7 +23,8 @@ returns c =
     let args = c .before .before .before .before .before .args in
     let line = c .before .before .refusal-line in
     ap (λ r. fedOf r (now (args .output))) (c .nothing .ensures)
-    ∙ breaks-full (args .stage) (args .batch) (now (args .bytes)) (now (args .output)) (line .result) (line .ensures) (c .before .if1 .taken)
+    ∙ breaks-full (args .stage) (args .batch) (now (args .bytes)) (now (args .output)) (line .result) (line .ensures)
+    (c .before .if1 .taken)
 
 put-line-requires : tie.Need-put-line-requires
 put-line-requires c κs =

@@ -53,7 +53,9 @@ returns-2 c =
     let line = c .before .before .before .before .before .before .before .before in
     let args = start line .args in (
       c .before .before .breaking .ensures
-          ∙ count-breaks (args .batch) (bytes line) (now (args .output)) (rw (← seen line) (c .before .before .before .before .before .before .if1 .left)) (rw (← seen line) (c .before .before .before .before .if2 .taken)),
+          ∙ count-breaks (args .batch) (bytes line) (now (args .output))
+          (rw (← seen line) (c .before .before .before .before .before .before .if1 .left))
+          (rw (← seen line) (c .before .before .before .before .if2 .taken)),
       (refl, refl),
     )
 
@@ -77,7 +79,9 @@ add-t18 c =
     let args = start line .args in
     let fed = c .before .before .before .before .before .before .sheets in
     let all =
-    count-sheets (args .batch) (bytes line) (now (args .output)) (line .begin .result) (seen line) (c .before .before .before .before .before .before .before .before .before .before .before .before .if2 .left) (fed .result)
+    count-sheets (args .batch) (bytes line) (now (args .output)) (line .begin .result) (seen line)
+    (c .before .before .before .before .before .before .before .before .before .before .before .before .if2 .left)
+    (fed .result)
     (fed .last .1 .1 .0) (fed .ensures .0) in
     omega (arith, all .0)
 
@@ -95,7 +99,9 @@ returns-3 c =
     let line = c .before .before .before .before .before .before .before .before .before .before .before .before .before .before .before .before in
     let args = start line .args in
     let fed = c .before .before .before .before .before .before .sheets in (
-      count-sheets (args .batch) (bytes line) (now (args .output)) (line .begin .result) (seen line) (c .before .before .before .before .before .before .before .before .before .before .before .before .if2 .left) (fed .result)
+      count-sheets (args .batch) (bytes line) (now (args .output)) (line .begin .result) (seen line)
+          (c .before .before .before .before .before .before .before .before .before .before .before .before .if2 .left)
+          (fed .result)
           (fed .last .1 .1 .0) (fed .ensures .0) .1,
       fed .ensures .1,
     )

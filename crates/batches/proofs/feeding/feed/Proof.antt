@@ -40,7 +40,9 @@ returns : tie.Need-returns
 unfolding feedCall feed
 returns c =
     let args = c .before .before .before .before .before .before .before .before .before .before .before .before .args in (
-      c .before .before .before .before .counting .ensures .0 ∙ ap (λ stage. feedCall stage (args .batch) (now (args .bytes)) (now (args .output))) (sym (c .before .before .before .before .before .before .before .before .enum-told .given .1)),
+      c .before .before .before .before .counting .ensures .0 ∙ ap
+          (λ stage. feedCall stage (args .batch) (now (args .bytes)) (now (args .output)))
+          (sym (c .before .before .before .before .before .before .before .before .enum-told .given .1)),
       c .before .before .before .before .counting .ensures .1,
     )
 
@@ -57,7 +59,9 @@ returns-2 : tie.Need-returns-2
 unfolding feedCall feed
 returns-2 c =
     let args = c .before .before .before .before .before .before .before .before .before .before .before .before .args in (
-      c .before .before .before .before .sheets .ensures .0 ∙ ap (λ stage. feedCall stage (args .batch) (now (args .bytes)) (now (args .output))) (sym (c .before .before .before .before .before .before .before .before .enum-told2 .given .1)),
+      c .before .before .before .before .sheets .ensures .0 ∙ ap
+          (λ stage. feedCall stage (args .batch) (now (args .bytes)) (now (args .output)))
+          (sym (c .before .before .before .before .before .before .before .before .enum-told2 .given .1)),
       c .before .before .before .before .sheets .ensures .1,
     )
 
@@ -65,7 +69,15 @@ returns-3 : tie.Need-returns-3
 unfolding feedCall feed fedBy overwrite
 returns-3 c =
     let args = c .before .before .before .before .args in (
-      ap (λ n. record { stage = Over; batch = args .batch; taken = n; written = 0; full = false; output = now (args .output) }) (sym (sub-zero (length (now (args .bytes)))))
+      ap (λ n. record {
+        stage = Over;
+        batch = args .batch;
+        taken = n;
+        written = 0;
+        full = false;
+        output = now
+            (args .output);
+      }) (sym (sub-zero (length (now (args .bytes)))))
           ∙ ap (λ stage. feedCall stage (args .batch) (now (args .bytes)) (now (args .output))) (sym (c .enum-told3 .given .1)),
       (refl, refl),
     )

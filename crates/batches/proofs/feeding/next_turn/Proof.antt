@@ -40,7 +40,8 @@ returns : tie.Need-returns
 returns c =
     let args = c .before .before .before .before .before .before .before .args in (
       ap (λ r. turnOf r (now (args .output))) (c .stopped .ensures ∙ ap stoppedOf (c .before .nothing .ensures))
-          ∙ turn-waits (args .batch) (now (args .bytes)) (now (args .output)) (look-is (no-more (c .before .before .before .if1 .taken) (c .before .before .if2 .taken))),
+          ∙ turn-waits (args .batch) (now (args .bytes)) (now (args .output))
+          (look-is (no-more (c .before .before .before .if1 .taken) (c .before .before .if2 .taken))),
       (refl, refl),
     )
 
@@ -58,7 +59,9 @@ returns-2 c =
     let args = c .before .before .before .before .before .before .before .before .before .before .args in
     let breaking = c .before .before .before .breaking in (
       ap (λ r. turnOf r (breaking .last .1 .1 .1 .0)) (c .stopped2 .ensures)
-          ∙ turn-breaks (args .batch) (now (args .bytes)) (now (args .output)) (look-is (left-over (c .before .before .before .before .before .before .if1 .taken) (c .before .before .before .before .before .if2 .left)))
+          ∙ turn-breaks (args .batch) (now (args .bytes)) (now (args .output))
+          (look-is (left-over (c .before .before .before .before .before .before .if1 .taken)
+          (c .before .before .before .before .before .if2 .left)))
           (breaking .result) (breaking .last .1 .1 .1 .0) (breaking .ensures),
       (refl, refl),
     )
@@ -98,7 +101,9 @@ returns-4 c =
     let breaking = c .before .before .before .breaking2 in (
       ap (λ r. turnOf r (breaking .last .1 .1 .1 .0)) (c .stopped4 .ensures)
           ∙ turn-breaks (args .batch) (bytes line) (now (args .output))
-          (look-is (line-breaks (line .before .if1 .left) (rw (← seen line) (c .before .before .before .before .before .before .before .if3 .left)) (rw (← seen line) (c .before .before .before .before .before .if4 .taken))))
+          (look-is (line-breaks (line .before .if1 .left)
+          (rw (← seen line) (c .before .before .before .before .before .before .before .if3 .left))
+          (rw (← seen line) (c .before .before .before .before .before .if4 .taken))))
           (breaking .result) (breaking .last .1 .1 .1 .0) (breaking .ensures),
       (refl, refl),
     )
@@ -147,10 +152,17 @@ returns-6 c =
     let args = start line .args in
     let turn = c .before .before .before .before .sheet-turn in (
       turn .ensures .0
-          ∙ turn-sheet (args .batch) (bytes line) (now (args .output)) (line .line .result .taken) (line .line .result .taken + line .line .result .bytes)
+          ∙ turn-sheet (args .batch) (bytes line) (now (args .output)) (line .line .result .taken)
+          (line .line .result .taken + line .line .result .bytes)
           (look-is
-          (sheet-whole (line .before .if1 .left) (rw (← seen line) (c .before .before .before .before .before .before .before .before .before .before .before .if4 .left)) (ap (λ v. v .taken) (sym (seen line)))
-          (ap (λ v. line .line .result .taken + v .bytes) (sym (seen line))) (omega (arith, inside line, c .before .before .before .before .before .before .before .before .before .if5 .left)))),
+          (sheet-whole (line .before .if1 .left)
+          (rw (← seen line) (c .before .before .before .before .before .before .before .before .before .before .before .if4 .left)) (ap (λ v. v .taken) (sym (seen line)))
+          (ap (λ v. line .line .result .taken + v .bytes) (sym (seen line)))
+          (omega (
+            arith,
+            inside line,
+            c .before .before .before .before .before .before .before .before .before .if5 .left,
+          )))),
       turn .ensures .1,
     )
 

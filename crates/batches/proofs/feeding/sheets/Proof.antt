@@ -29,7 +29,8 @@ module _ (c : tie.After-next-turn Inv-loop μ-loop) where
   abbrev start : tie.Start Inv-loop μ-loop
   start = place .before .before .before
 
-  abbrev sofar : Sofar (start .args .batch) (now (start .args .bytes)) (now (start .args .output)) (place .loop .b) (place .loop .at) (place .loop .out) (place .loop .output)
+  abbrev sofar : Sofar (start .args .batch) (now (start .args .bytes)) (now (start .args .output)) (place .loop .b)
+      (place .loop .at) (place .loop .out) (place .loop .output)
   sofar = place .loop .inv .0
 
   abbrev after : List ℕ
@@ -78,14 +79,17 @@ add-out c = let t = c .before .before .before .before .before .before .before in
 same-length : tie.Need-same-length Inv-loop μ-loop
 same-length c =
     let t = c .before .before .before .before .before .before .before .before .before .before in
-    same-len-mid (place t .loop .out) (length (place t .loop .output) - place t .loop .out) (place t .loop .output) (after t) (t .next-turn .kept .1 .1 .0)
+    same-len-mid (place t .loop .out) (length (place t .loop .output) - place t .loop .out) (place t .loop .output)
+    (after t) (t .next-turn .kept .1 .1 .0)
     ∙ sofar-length (sofar t)
 
 same-length-2 : tie.Need-same-length-2 Inv-loop μ-loop
-same-length-2 c = let t = c .before .before .before .before .before .before .before .before .before .before in ap length (rows-zero t ∙ sym (start t .pre .1))
+same-length-2 c = let t = c .before .before .before .before .before .before .before .before .before .before in ap length
+    (rows-zero t ∙ sym (start t .pre .1))
 
 same-length-3 : tie.Need-same-length-3 Inv-loop μ-loop
-same-length-3 c = let t = c .before .before .before .before .before .before .before .before .before .before in ap length (relations-zero t ∙ sym (start t .pre .2))
+same-length-3 c = let t = c .before .before .before .before .before .before .before .before .before .before in ap length
+    (relations-zero t ∙ sym (start t .pre .2))
 
 returns : tie.Need-returns Inv-loop μ-loop
 returns c =

@@ -33,7 +33,8 @@ returns-2 c =
 slice-aggregate-waits-with : tie.Need-slice-aggregate-waits-with
 slice-aggregate-waits-with c =
     let args = c .before .before .before .before .before .before .args in
-    sym (length-take-le (args .s .held) (now (args .held)) (omega (arith, right-few (args .s) (right (c .before .before .before)), c .before .before .if2 .left)))
+    sym (length-take-le (args .s .held) (now (args .held))
+    (omega (arith, right-few (args .s) (right (c .before .before .before)), c .before .before .if2 .left)))
 
 waits-with-requires : tie.Need-waits-with-requires
 waits-with-requires c κs = search needs
@@ -42,13 +43,23 @@ returns-3 : tie.Need-returns-3
 unfolding streamCheck
 returns-3 c =
     let args = c .before .before .before .before .before .before .before .before .args in
-    rw (right (c .before .before .before .before .before), le-leb 32792 (length (now (args .held))) (c .before .before .before .before .if2 .left), sym (c .before .waits-with .ensures) ∙ c .if3 .taken)
+    rw (
+      right (c .before .before .before .before .before),
+      le-leb 32792 (length (now (args .held)))
+          (c .before .before .before .before .if2 .left),
+      sym (c .before .waits-with .ensures) ∙ c .if3 .taken,
+    )
 
 returns-4 : tie.Need-returns-4
 unfolding streamCheck
 returns-4 c =
     let args = c .before .before .before .before .before .before .before .before .args in
-    rw (right (c .before .before .before .before .before), le-leb 32792 (length (now (args .held))) (c .before .before .before .before .if2 .left), sym (c .before .waits-with .ensures) ∙ c .if3 .left)
+    rw (
+      right (c .before .before .before .before .before),
+      le-leb 32792 (length (now (args .held)))
+          (c .before .before .before .before .if2 .left),
+      sym (c .before .waits-with .ensures) ∙ c .if3 .left,
+    )
 
 pub check-spec : {M : Type 1} → statement M
 check-spec =

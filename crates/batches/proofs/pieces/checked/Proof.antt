@@ -34,7 +34,8 @@ returns : tie.Need-returns
 returns c =
     let start = c .before .before .before .before .before .before .before .before .before .before .before .before .before .before .before .before .before in
     c .before .before .before .before .before .before .unheld-piece .ensures
-    ∙ unheld-call (start .args .s) (now (start .args .held)) (now (start .args .input)) (now (start .args .output)) (start .pre .0) (c .before .before .before .before .before .before .before .before .before .before .before .before .if1 .taken)
+    ∙ unheld-call (start .args .s) (now (start .args .held)) (now (start .args .input)) (now (start .args .output))
+    (start .pre .0) (c .before .before .before .before .before .before .before .before .before .before .before .before .if1 .taken)
 
 same-length-5 : tie.Need-same-length-5
 same-length-5 c = search needs

@@ -41,12 +41,14 @@ module _ (c : tie.After-copy) where
   abbrev stored : List ℕ
   stored = putMid (start begun .args .s .held) (length store - start begun .args .s .held) store (c .copy .last .1 .0)
 
-  laid : LaidOn (start begun .args .s) store (now (start begun .args .input)) (now (start begun .args .output)) (start begun .pre .0) (start begun .pre .1) (begun .joining .result) stored
+  laid : LaidOn (start begun .args .s) store (now (start begun .args .input)) (now (start begun .args .output))
+      (start begun .pre .0) (start begun .pre .1) (begun .joining .result) stored
   unfolding overwrite
   laid =
       let text = take (begun .joining .result) (now (start begun .args .input)) in
       let from = start begun .args .s .held in
-      laid-on (start begun .args .s) store (now (start begun .args .input)) (now (start begun .args .output)) (start begun .pre .0) (start begun .pre .1)
+      laid-on (start begun .args .s) store (now (start begun .args .input)) (now (start begun .args .output))
+      (start begun .pre .0) (start begun .pre .1)
       (begun .joining .result) (begun .joining .ensures) (c .copy .last .1 .0)
       (c .copy .ensures .1 ∙ ap (λ l. l ++ drop (length text) (take (length store - from) (drop from store))) (take-length text))
 
@@ -63,7 +65,8 @@ module _ (c : tie.After-feed) where
 
   told : fedOf (c .feed .result) after
       ≡ feedCall (from-start .args .s .stage) (from-start .args .s .batch)
-      (take (from-start .args .s .held) (store copied) ++ take (min (length (now (from-start .args .input))) (32792 - from-start .args .s .held)) (now (from-start .args .input)))
+      (take (from-start .args .s .held) (store copied) ++ take
+      (min (length (now (from-start .args .input))) (32792 - from-start .args .s .held)) (now (from-start .args .input)))
       (now (from-start .args .output))
   told =
       c .feed .ensures .0
@@ -93,7 +96,8 @@ copy-requires c κs =
     let r = right (start begun) in
     let store = now (start begun .args .held) in
     let from = start begun .args .s .held in
-    rw (counted begun, length-take-le (length store - from) (drop from store) (rw length-drop (omega arith))) (omega (arith, begun .joining .ensures, r .few, r .long))
+    rw (counted begun, length-take-le (length store - from) (drop from store) (rw length-drop (omega arith)))
+    (omega (arith, begun .joining .ensures, r .few, r .long))
 
 slice-reshare-prefix-feed : tie.Need-slice-reshare-prefix-feed
 slice-reshare-prefix-feed c = laid (c .before .before) .fits
@@ -126,26 +130,34 @@ returns c =
     let fed = c .before .before .before .before .before .before .before in
     let input = now (from-start fed .args .input) in
     ap (λ r. callOf r (stored (copied fed)) (after fed)) (c .untaken .ensures)
-    ∙ ap₂ (λ n l. callOf (untakenOf (fed .feed .result) (from-start fed .args .s .held) (from-start fed .args .s .held + n) (length input)) l (after fed))
+    ∙ ap₂ (λ n l. callOf (untakenOf (fed .feed .result) (from-start fed .args .s .held)
+    (from-start fed .args .s .held + n) (length input)) l (after fed))
     (begun (copied fed) .joining .ensures) (laid (copied fed) .stored-is)
-    ∙ held-untaken (from-start fed .args .s) (store (copied fed)) (now (from-start fed .args .input)) (now (from-start fed .args .output)) (from-start fed .pre .0) (from-start fed .pre .1) (fed .feed .result) (after fed) (told fed) (c .before .if1 .taken)
+    ∙ held-untaken (from-start fed .args .s) (store (copied fed)) (now (from-start fed .args .input))
+    (now (from-start fed .args .output)) (from-start fed .pre .0) (from-start fed .pre .1) (fed .feed .result)
+    (after fed) (told fed) (c .before .if1 .taken)
 
 sub-rest-piece : tie.Need-sub-rest-piece
 sub-rest-piece c =
     let fed = c .before .before .before .before .before .before .before in
-    held-from (from-start fed .args .s) (store (copied fed)) (now (from-start fed .args .input)) (now (from-start fed .args .output)) (from-start fed .pre .0) (from-start fed .pre .1) (fed .feed .result) (after fed) (told fed) (c .before .if1 .left) .0
+    held-from (from-start fed .args .s) (store (copied fed)) (now (from-start fed .args .input))
+    (now (from-start fed .args .output)) (from-start fed .pre .0) (from-start fed .pre .1) (fed .feed .result)
+    (after fed) (told fed) (c .before .if1 .left) .0
 
 rest-piece-requires : tie.Need-rest-piece-requires
 rest-piece-requires c κs =
     let fed = c .before .before .before .before .before .before .before .before .before .before .before in
-    let from = held-from (from-start fed .args .s) (store (copied fed)) (now (from-start fed .args .input)) (now (from-start fed .args .output)) (from-start fed .pre .0) (from-start fed .pre .1) (fed .feed .result) (after fed) (told fed) (c .before .before .before .before .before .if1 .left) in
+    let from = held-from (from-start fed .args .s) (store (copied fed)) (now (from-start fed .args .input))
+    (now (from-start fed .args .output)) (from-start fed .pre .0) (from-start fed .pre .1) (fed .feed .result)
+    (after fed) (told fed) (c .before .before .before .before .before .if1 .left) in
     let long : 32792 ≤ length (stored (copied fed)) = omega (arith, laid (copied fed) .same, right (from-start fed) .long) in (
       (from .3, long, fed .feed .ensures .1 .0 ∙ from-start fed .pre .2, fed .feed .ensures .1 .1 ∙ from-start fed .pre .3),
       (from .1, from .2),
     )
 
 same-length-5 : tie.Need-same-length-5
-same-length-5 c = c .before .before .before .before .before .before .rest-piece .kept .1 .1 .0 ∙ laid (copied (c .before .before .before .before .before .before .before .before .before .before .before .before .before .before .before .before .before .before)) .same
+same-length-5 c = c .before .before .before .before .before .before .rest-piece .kept .1 .1 .0 ∙ laid
+    (copied (c .before .before .before .before .before .before .before .before .before .before .before .before .before .before .before .before .before .before)) .same
 
 same-length-6 : tie.Need-same-length-6
 same-length-6 c = search needs
@@ -160,8 +172,12 @@ returns-2 : tie.Need-returns-2
 returns-2 c =
     let fed = c .before .before .before .before .before .before .before .before .before .before .before .before .before .before .before .before .before .before in
     c .before .before .before .before .before .before .rest-piece .ensures
-    ∙ ap (λ l. restOf (fed .feed .result) (fed .feed .result .taken - from-start fed .args .s .held) l (now (from-start fed .args .input)) (after fed)) (laid (copied fed) .stored-is)
-    ∙ held-taken (from-start fed .args .s) (store (copied fed)) (now (from-start fed .args .input)) (now (from-start fed .args .output)) (from-start fed .pre .0) (from-start fed .pre .1) (fed .feed .result) (after fed) (told fed) (c .before .before .before .before .before .before .before .before .before .before .before .before .if1 .left)
+    ∙ ap (λ l. restOf (fed .feed .result) (fed .feed .result .taken - from-start fed .args .s .held) l
+    (now (from-start fed .args .input)) (after fed)) (laid (copied fed) .stored-is)
+    ∙ held-taken (from-start fed .args .s) (store (copied fed)) (now (from-start fed .args .input))
+    (now (from-start fed .args .output)) (from-start fed .pre .0) (from-start fed .pre .1) (fed .feed .result)
+    (after fed) (told fed)
+    (c .before .before .before .before .before .before .before .before .before .before .before .before .if1 .left)
 
 pub held-piece-spec : {M : Type 1} → statement M
 held-piece-spec =

@@ -49,10 +49,12 @@ unheld-piece-requires : tie.Need-unheld-piece-requires
 unheld-piece-requires c κs = search needs
 
 add-t18 : tie.Need-add-t18
-add-t18 c = let t = c .before .before .before .before .before .before .before .before in omega (arith, bounds t .0, start t .good .1 .1 .1 .0 .0)
+add-t18 c = let t = c .before .before .before .before .before .before .before .before in omega
+    (arith, bounds t .0, start t .good .1 .1 .1 .0 .0)
 
 add-t22 : tie.Need-add-t22
-add-t22 c = let t = c .before .before .before .before .before .before .before .before .before in omega (arith, bounds t .1, start t .good .1 .1 .1 .1 .0 .0)
+add-t22 c = let t = c .before .before .before .before .before .before .before .before .before in omega
+    (arith, bounds t .1, start t .good .1 .1 .1 .1 .0 .0)
 
 same-length : tie.Need-same-length
 same-length c = search needs
@@ -69,7 +71,8 @@ same-length-4 c = search needs
 returns-2 : tie.Need-returns-2
 returns-2 c =
     let t = c .before .before .before .before .before .before .before .before .before in
-    rest-goes (start t .args .fed) (start t .args .from) (now (start t .args .held)) (now (start t .args .input)) (now (start t .args .output))
+    rest-goes (start t .args .fed) (start t .args .from) (now (start t .args .held)) (now (start t .args .input))
+    (now (start t .args .output))
     (start t .pre .1 .0) (start t .pre .1 .1) (start t .pre .0 .0) (t .unheld-piece .result) (t .unheld-piece .last .1 .1 .0)
     (t .unheld-piece .last .1 .1 .1 .1 .0) (t .unheld-piece .ensures) (t .before .before .before .before .before .before .if1 .left)
 

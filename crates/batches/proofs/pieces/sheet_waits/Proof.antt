@@ -45,7 +45,8 @@ unfolding isWaiting
 returns-3 c =
     let line = c .before .before .before .before in
     ap isWaiting
-    (sym (look-is (line-breaks (line .before .if1 .left) (rw (← seen line) (c .before .before .if2 .left)) (rw (← seen line) (c .if3 .taken)))))
+    (sym (look-is (line-breaks (line .before .if1 .left) (rw (← seen line) (c .before .before .if2 .left))
+    (rw (← seen line) (c .if3 .taken)))))
 
 sub-result : tie.Need-sub-result
 sub-result c = inside (c .before .before .before .before .before)
@@ -53,7 +54,8 @@ sub-result c = inside (c .before .before .before .before .before)
 returns-4 : tie.Need-returns-4
 returns-4 c =
     let line = c .before .before .before .before .before .before in
-    size-waits (start line .args .left) (bytes line) (line .line .result) (seen line) (line .before .if1 .left) (c .before .before .if3 .left)
+    size-waits (start line .args .left) (bytes line) (line .line .result) (seen line) (line .before .if1 .left)
+    (c .before .before .if3 .left)
 
 pub sheet-waits-spec : {M : Type 1} → statement M
 sheet-waits-spec =

@@ -14,13 +14,19 @@ returns c = let s = c .before .args .s in rw (lt-leb (s .batch .left) 1000 (omeg
 
 returns-2 : tie.Need-returns-2
 unfolding streamRight
-returns-2 c = let s = c .before .before .args .s in rw (le-leb (s .batch .left) 1000 (omega arith), lt-leb (s .batch .accepted) 1000 (omega arith))
+returns-2 c = let s = c .before .before .args .s in rw
+    (le-leb (s .batch .left) 1000 (omega arith), lt-leb (s .batch .accepted) 1000 (omega arith))
 
 returns-3 : tie.Need-returns-3
 unfolding streamRight
 returns-3 c =
     let s = c .before .before .before .args .s in
-    rw (le-leb (s .batch .left) 1000 (omega arith), le-leb (s .batch .accepted) 1000 (omega arith), lt-leb (s .batch .refused) 1000 (omega arith))
+    rw (
+      le-leb (s .batch .left) 1000 (omega arith),
+      le-leb (s .batch .accepted) 1000 (omega arith),
+      lt-leb
+          (s .batch .refused) 1000 (omega arith),
+    )
 
 add-if4 : tie.Need-add-if4
 add-if4 c = search needs
@@ -32,15 +38,27 @@ returns-4 : tie.Need-returns-4
 unfolding streamRight
 returns-4 c =
     let s = c .before .before .before .before .before .args .s in
-    rw
-    (le-leb (s .batch .left) 1000 (omega arith), le-leb (s .batch .accepted) 1000 (omega arith), le-leb (s .batch .refused) 1000 (omega arith), le-leb (s .batch .left + s .batch .accepted + s .batch .refused) 1000 (omega arith))
+    rw (
+      le-leb (s .batch .left) 1000 (omega arith),
+      le-leb (s .batch .accepted) 1000 (omega arith),
+      le-leb
+          (s .batch .refused) 1000 (omega arith),
+      le-leb (s .batch .left + s .batch .accepted + s .batch .refused) 1000
+          (omega arith),
+    )
 
 returns-5 : tie.Need-returns-5
 unfolding streamRight
 returns-5 c =
     let s = c .before .before .before .before .args .s in
-    rw
-    (le-leb (s .batch .left) 1000 (omega arith), le-leb (s .batch .accepted) 1000 (omega arith), le-leb (s .batch .refused) 1000 (omega arith), lt-leb (s .batch .left + s .batch .accepted + s .batch .refused) 1000 (omega arith))
+    rw (
+      le-leb (s .batch .left) 1000 (omega arith),
+      le-leb (s .batch .accepted) 1000 (omega arith),
+      le-leb
+          (s .batch .refused) 1000 (omega arith),
+      lt-leb (s .batch .left + s .batch .accepted + s .batch .refused) 1000
+          (omega arith),
+    )
 
 pub stream-right-spec : {M : Type 1} → statement M
 stream-right-spec =

@@ -20,8 +20,12 @@ module _ (c : tie.After-feed) where
 
   inside : c .feed .result .taken ≤ length (now (start .args .input))
   inside =
-      omega
-      (arith, unheld-taken (start .args .stage) (start .args .batch) (now (start .args .held)) (now (start .args .input)) (now (start .args .output)) (start .pre .0) (c .feed .result) (c .feed .last .1 .1 .1 .0) (c .feed .ensures .0))
+      omega (
+        arith,
+        unheld-taken (start .args .stage) (start .args .batch) (now (start .args .held))
+            (now (start .args .input)) (now (start .args .output)) (start .pre .0) (c .feed .result)
+            (c .feed .last .1 .1 .1 .0) (c .feed .ensures .0),
+      )
 
 feed-requires : tie.Need-feed-requires
 feed-requires c κs = search needs
@@ -39,7 +43,8 @@ returns : tie.Need-returns
 returns c =
     let fed = c .before .before .before .before .before .before in
     let args = start fed .args in
-    unheld-full (args .stage) (args .batch) (now (args .held)) (now (args .input)) (now (args .output)) (start fed .pre .0) (fed .feed .result)
+    unheld-full (args .stage) (args .batch) (now (args .held)) (now (args .input)) (now (args .output))
+    (start fed .pre .0) (fed .feed .result)
     (fed .feed .last .1 .1 .1 .0) (fed .feed .ensures .0) (c .if1 .taken)
 
 sub-copy : tie.Need-sub-copy
@@ -55,8 +60,13 @@ copy-requires : tie.Need-copy-requires
 copy-requires c κs =
     let fed = c .before .before .before .before .before .before .before .before in
     let args = start fed .args in
-    omega
-    (arith, unheld-left (args .stage) (args .batch) (now (args .held)) (now (args .input)) (now (args .output)) (start fed .pre .0) (fed .feed .result) (fed .feed .last .1 .1 .1 .0) (fed .feed .ensures .0) (c .before .before .if1 .left), start fed .pre .1)
+    omega (
+      arith,
+      unheld-left (args .stage) (args .batch) (now (args .held)) (now (args .input)) (now (args .output))
+          (start fed .pre .0) (fed .feed .result) (fed .feed .last .1 .1 .1 .0) (fed .feed .ensures .0)
+          (c .before .before .if1 .left),
+      start fed .pre .1,
+    )
 
 same-length-4 : tie.Need-same-length-4
 same-length-4 c = search needs
@@ -77,8 +87,10 @@ returns-2 c =
     let args = start fed .args in
     let copy = c .before .before .copy in
     let text = take (length (now (args .input)) - fed .feed .result .taken) (drop (fed .feed .result .taken) (now (args .input))) in
-    unheld-rest (args .stage) (args .batch) (now (args .held)) (now (args .input)) (now (args .output)) (start fed .pre .0) (fed .feed .result)
-    (fed .feed .last .1 .1 .1 .0) (fed .feed .ensures .0) (c .before .before .before .before .before .if1 .left) (copy .last .1 .0) (copy .result)
+    unheld-rest (args .stage) (args .batch) (now (args .held)) (now (args .input)) (now (args .output))
+    (start fed .pre .0) (fed .feed .result)
+    (fed .feed .last .1 .1 .1 .0) (fed .feed .ensures .0) (c .before .before .before .before .before .if1 .left)
+    (copy .last .1 .0) (copy .result)
     (copy .ensures .1 ∙ ap (λ l. l ++ drop (length text) (now (args .held))) (take-length text)) (copy .ensures .0)
 
 pub unheld-piece-spec : {M : Type 1} → statement M
