@@ -29,7 +29,8 @@ use lib.IntN.{ℤ}
 use Rattle.algebra.specs.Pigeonhole.{Distinct}
 use Rattle.rules.specs.Lists.{cond-passed}
 use Rattle.rules.specs.Elimination.{leading, State, Outcome, done, refused, wholeRun, leadingRun}
-use Rattle.rules.specs.Stores.{Sizes, Valid, span, checkStores, rowNeed, relationNeed, rowStoreOf, relationStoreOf, lengthsRight}
+use Rattle.rules.specs.Stores.{Sizes, span, rowStoreOf, relationStoreOf, lengthsRight, checkStores, Valid}
+use Rattle.rules.specs.Stores.{rowNeed, largestRows, relationNeed}
 use Rattle.rules.specs.Layout.{valid-stores, size-bounds, lengthsRight-iff, rowsOf-rowStoreOf, relationsOf-relationStoreOf}
 use Rattle.rules.specs.Calls.{Call, overwrite, callRun, afterCheck, afterRun, acceptance, reportedOrder, cleared, refusal}
 use Rattle.rules.specs.Numbers.{Read, got, fault}
@@ -253,7 +254,8 @@ abbrev pub runOn : ReadCall → Call
 runOn c = callRun leading (c .result .sizes) (c .result .relations) (c .rowStore) (c .relationStore)
 
 -- The stores are long enough for every sheet.
-module _ (bytes : List ℕ) (rows relations : List ℤ) (rows-long : 1280 ≤ length rows) (relations-long : relationNeed ≤ length relations) where
+module _ (bytes : List ℕ) (rows relations : List ℤ) (rows-long : largestRows ≤ length rows)
+    (relations-long : relationNeed ≤ length relations) where
   abbrev readIn : ReadCall
   readIn = readCall bytes rows relations
 
@@ -418,7 +420,8 @@ module _ (sheet store : List ℕ) (lent : ℕ) (inside : lent ≤ length store) 
 -- ---- the whole call
 
 -- The calls on stores gave c, d and w, one after the other.
-module _ (bytes store : List ℕ) (rows relations : List ℤ) (rows-long : 1280 ≤ length rows) (relations-long : relationNeed ≤ length relations)
+module _ (bytes store : List ℕ) (rows relations : List ℤ) (rows-long : largestRows ≤ length rows)
+    (relations-long : relationNeed ≤ length relations)
     (c : ReadCall) (e : c ≡ readCall bytes rows relations) where
   pub call-unread : c .result .refusal ≢ 0 → unanswered (c .result .refusal) store ≡ answerCall bytes store
   unfolding answerCall answered

@@ -21,7 +21,8 @@ use lib.IntN.{ℤ, pos}
 use Rattle.rules.specs.Limits.{rowLength, relationLength, mostRelations}
 use Rattle.rules.specs.Rows.{Row, Relation, All}
 use Rattle.rules.specs.Elimination.{leading, State, Outcome, done, refused, wholeRun}
-use Rattle.rules.specs.Stores.{Sizes, Valid, span, checkStores, rowsOf, relationsOf, relationNumbers, rowNeed, relationNeed, rowStoreOf}
+use Rattle.rules.specs.Stores.{Sizes, span, rowsOf, relationsOf, relationNumbers, rowStoreOf, checkStores, Valid}
+use Rattle.rules.specs.Stores.{rowNeed, largestRows, relationNeed}
 use Rattle.rules.specs.Stores.{relationStoreOf, lengthsRight}
 use Rattle.rules.specs.Layout.{StoreRelation, stores-valid, size-bounds, countRight-iff, length-rowStoreOf, length-relationStoreOf}
 use Rattle.rules.specs.Calls.{Call, overwrite, zeros, callRun, afterCheck, afterRun, acceptance, cleared, refusal}
@@ -130,12 +131,12 @@ module _ (bytes : List ℕ) (rows relations : List ℤ) (c : ReadCall) (e : c �
 pub record Used (z : Sizes) (d : Call) : Type 0 where
   pub unknowns : z .m ≤ 4
   pub few : d .result .relations ≤ mostRelations
-  pub rows-rest : drop (z .m * rowLength) (d .rowStore) ≡ drop (z .m * rowLength) (zeros 1280)
+  pub rows-rest : drop (z .m * rowLength) (d .rowStore) ≡ drop (z .m * rowLength) (zeros largestRows)
   pub relations-rest : drop (d .result .relations * relationLength) (d .relationStore)
       ≡ drop (d .result .relations * relationLength) (zeros relationNeed)
 
 module _ (z : Sizes) (count : ℕ) (rows relations : List ℤ) (checked : checkStores z count rows relations ≡ 0)
-    (rest : drop (z .m * rowLength) rows ≡ drop (z .m * rowLength) (zeros 1280)) (long : length relations ≡ relationNeed)
+    (rest : drop (z .m * rowLength) rows ≡ drop (z .m * rowLength) (zeros largestRows)) (long : length relations ≡ relationNeed)
     (d : Call) (e : d ≡ callRun leading z count rows relations) where
   abbrev outcome : Outcome
   outcome = wholeRun leading (span z) (rowsOf (z .m) rows) (relationsOf count relations)
@@ -150,13 +151,14 @@ module _ (z : Sizes) (count : ℕ) (rows relations : List ℤ) (checked : checkS
   unfolding callRun afterCheck
   ran-by o f = e ∙ ap (afterCheck leading z count rows relations) checked ∙ ap (λ o. afterRun leading z o rows relations) f
 
-  pub refused-zero : d .result .refusal ≢ 0 → (d .rowStore ≡ zeros 1280) × (d .relationStore ≡ zeros relationNeed)
+  pub refused-zero : d .result .refusal ≢ 0 → (d .rowStore ≡ zeros largestRows) × (d .relationStore ≡ zeros relationNeed)
   unfolding afterRun acceptance cleared rowNeed
   refused-zero h = go outcome refl (run-ends leading valid)
     where
-      zero : (n : ℕ) → outcome ≡ refused n → (d .rowStore ≡ zeros 1280) × (d .relationStore ≡ zeros relationNeed)
+      zero : (n : ℕ) → outcome ≡ refused n → (d .rowStore ≡ zeros largestRows) × (d .relationStore ≡ zeros relationNeed)
       zero n f = (
-        ap (λ d. d .rowStore) (ran-by (refused n) f) ∙ zero-overwritten (z .m * rowLength) 1280 rows (omega (arith, unknowns)) rest,
+        ap (λ d. d .rowStore) (ran-by (refused n) f) ∙ zero-overwritten (z .m * rowLength) largestRows rows
+            (omega (arith, unknowns)) rest,
         ap (λ d. d .relationStore) (ran-by (refused n) f)
             ∙ zero-overwritten relationNeed relationNeed relations (le-refl relationNeed) none,
       )
@@ -166,7 +168,7 @@ module _ (z : Sizes) (count : ℕ) (rows relations : List ℤ) (checked : checkS
               drop-of-length-le relations {i = relationNeed} (le-of-eq long)
               ∙ sym (drop-of-length-le (zeros relationNeed) {i = relationNeed} (le-of-eq (length-zeros relationNeed)))
 
-      go : (o : Outcome) → outcome ≡ o → Ended o → (d .rowStore ≡ zeros 1280) × (d .relationStore ≡ zeros relationNeed)
+      go : (o : Outcome) → outcome ≡ o → Ended o → (d .rowStore ≡ zeros largestRows) × (d .relationStore ≡ zeros relationNeed)
       go o f (Demands.accepted s) = absurd (h (ap (λ d. d .result .refusal) (ran-by (done s) f)))
       go o f six = zero 6 f
       go o f seven = zero 7 f

@@ -1,9 +1,16 @@
 // The answer to one sheet: read, run on the leading side and written, in stores that the caller lends. `batches` has the public entry
 // point.
+use rows::lengths::RELATION;
+use rows::lengths::ROW;
 ghost use mathlib.Core.Path.{_≡_};
 ghost use Prim.Native.Nat.{min};
+ghost use Rattle.rules.specs.Stores.{largestRows, relationNeed};
 ghost use Rattle.rules.specs.Calls.{zeros};
+ghost use Rattle.rules.specs.Batch.{mostBytes};
 ghost use Rattle.answers.specs.Answers.{callOf, answerCall};
+
+// The bytes of the largest sheet that answers (SCOPE 5.13).
+pub const SHEET: usize = 65536;
 
 // The answer to one sheet: the refusal, or 0 and the number of bytes that the output begins with (SCOPE 5.31).
 pub struct AnswerResult {
@@ -19,9 +26,9 @@ fn no_answer(refusal: u8) -> AnswerResult
 
 // A sheet of more than 65,536 bytes is refusal 1: the writer is lent at most so many bytes (SCOPE 5.13).
 fn lent_bytes(length: usize) -> usize
-    ensures { λ r. ⌜ r ≡ min length 65536 ⌝ }
+    ensures { λ r. ⌜ r ≡ min length mostBytes ⌝ }
 {
-    if length < 65536 { length } else { 65536 }
+    if length < SHEET { length } else { SHEET }
 }
 
 // The answer, worked out in stores of the largest sizes that are zero, and are zero again afterwards: only what was used is cleared.
@@ -32,7 +39,7 @@ pub fn answer_in(
     relations: &mut [i64],
     output: &mut [u8],
 ) -> AnswerResult
-    requires { ⌜ (now rows ≡ zeros 1280) × (now relations ≡ zeros 5136) ⌝ }
+    requires { ⌜ (now rows ≡ zeros largestRows) × (now relations ≡ zeros relationNeed) ⌝ }
     ensures { λ r. ⌜ callOf r (now (output .exit)) ≡ answerCall (now (bytes .entry)) (now (output .entry)) ⌝ }
     ensures { λ r. ⌜ (now (rows .exit) ≡ now (rows .entry)) × (now (relations .exit) ≡ now (relations .entry)) ⌝ }
 {
@@ -55,8 +62,8 @@ pub fn answer_in(
         order,
         &mut output[..lent],
     );
-    rows::stores::clear(rows, 0, sizes.m * 320);
-    rows::stores::clear(relations, 0, run.relations * 321);
+    rows::stores::clear(rows, 0, sizes.m * ROW);
+    rows::stores::clear(relations, 0, run.relations * RELATION);
     AnswerResult {
         refusal: written.refusal,
         length: written.length,

@@ -118,7 +118,7 @@ answer-keeps sheet store = go (answerSheet sheet)
     go (refusedWith n) = refl
 
 -- An answer is at most the line `0` and 65,536 bytes.
-answer-short : (a : Answer) → RightAnswer a → length (refusalLine (numberOf a)) ≤ batchLine → length (answerBytes a) ≤ 65538
+answer-short : (a : Answer) → RightAnswer a → length (refusalLine (numberOf a)) ≤ batchLine → length (answerBytes a) ≤ 2 + mostBytes
 unfolding numberOf refusalLine lines flatten
 answer-short a (right-accepted {bytes = sheet} few) h = rw (← refusal-accepted sheet, length-append) (omega arith)
 answer-short a (right-refused n low) h = rw (← refusal-refused (suc n)) (omega arith)
@@ -167,7 +167,7 @@ module _ (sheet store : List ℕ) (r : AnswerResult) (stored : List ℕ) (line :
       (le→leb (length (answerBytes answer)) (length output) (omega (arith, made-length))))
 
 -- The answer made in the output itself, behind the place of the line `0`.
-straight-put : (a : Answer) (output : List ℕ) → RightAnswer a → 65538 ≤ length output
+straight-put : (a : Answer) (output : List ℕ) → RightAnswer a → 2 + mostBytes ≤ length output
     → let c = answered a (take (length output - 2) (drop 2 output)) in
     overwrite (refusalLine (c .refusal)) (take 2 output ++ (c .store ++ drop (length output - 2) (drop 2 output)))
     ≡ overwrite (answerBytes a) output
@@ -193,7 +193,7 @@ straight-put a output right long =
     go a (right-refused n low) =
         ap₂ overwrite (refusal-refused (suc n)) (take-append-drop 2 output)
 
-module _ (sheet output : List ℕ) (r : AnswerResult) (stored : List ℕ) (line : TextLine) (long : 65538 ≤ length output)
+module _ (sheet output : List ℕ) (r : AnswerResult) (stored : List ℕ) (line : TextLine) (long : 2 + mostBytes ≤ length output)
     (e : callOf r stored ≡ answerCall sheet (take (length output - 2) (drop 2 output))) (f : line ≡ textOf (refusalLine (r .refusal)))
     (few : line .length ≤ batchLine) where
   behind : mostBytes ≤ length (take (length output - 2) (drop 2 output))

@@ -9,7 +9,7 @@
 --   end-room, end-fits       at the end there are at most 24 bytes to write
 --   gets-on           a call with that room takes a byte of a piece that has one
 --   pieces-exist      for every input there are calls that take all of it
-use Prim.Native.Nat.{ℕ, zero, suc, _-_, _≤_, _<_, zero-le}
+use Prim.Native.Nat.{ℕ, zero, suc, _+_, _-_, _≤_, _<_, zero-le}
 use native.Mathlib.Nat.{le-refl}
 use native.Mathlib.Decide.{decLt}
 use native.Mathlib.Omega.{arith}
@@ -21,7 +21,7 @@ use borrow.Author.Tests.{le-leb}
 use lib.IntN.{pos}
 use lib.ListN.{length, take, drop, replicate, length-append, length-drop}
 use Rattle.rules.specs.Numbers.{decimal, line, lines}
-use Rattle.rules.specs.Batch.{Answer, accepted, answerSheet, answerBytes, broken, closing, batchOutput}
+use Rattle.rules.specs.Batch.{mostBytes, Answer, accepted, answerSheet, answerBytes, broken, closing, batchOutput}
 use Rattle.sheets.specs.WrittenNumbers.{isNumber-decimal}
 use Rattle.answers.specs.Answers.{RightAnswer, right-accepted, right-refused, answer-right}
 use Rattle.frames.specs.declared.Batch.{Batch}
@@ -59,7 +59,7 @@ broken-room = line-room 3 (omega arith)
 
 -- The line `0` (SCOPE 5.11) and a sheet of at most 65,536 bytes (SCOPE 5.13).
 abbrev pub answerRoom : ℕ
-answerRoom = 65538
+answerRoom = 2 + mostBytes
 
 pub answer-room : (sheet : List ℕ) → length (answerBytes (answerSheet sheet)) ≤ answerRoom
 unfolding answerBytes

@@ -2,8 +2,9 @@
 ghost use mathlib.Core.Path.{_≡_};
 ghost use Prim.Native.Nat.{_+_, _≤_};
 ghost use lib.ListN.{length, take};
+ghost use Rattle.rules.specs.Stores.{largestRows, relationNeed};
 ghost use Rattle.rules.specs.Calls.{overwrite, zeros};
-ghost use Rattle.rules.specs.Batch.{answerSheet};
+ghost use Rattle.rules.specs.Batch.{mostBytes, answerSheet};
 ghost use Rattle.batches.specs.Answering.{putOf, answerPut};
 
 // `fits` says that there was room for the answer; only then is it written, and its refusal, or 0, told.
@@ -17,7 +18,10 @@ pub(crate) struct Put {
 const ACCEPTED: usize = 2;
 
 // The largest sheet that answers (SCOPE 5.13).
-const SHEET: usize = 65536;
+const SHEET: usize = answers::SHEET;
+
+// The longest answer: that line and that sheet.
+pub const ANSWER: usize = ACCEPTED + SHEET;
 
 // A line of text at the front of the output.
 pub(crate) fn put_line(output: &mut [u8], line: frames::TextLine)
@@ -31,7 +35,7 @@ pub(crate) fn put_line(output: &mut [u8], line: frames::TextLine)
 
 // There is room for any answer: the sheet goes to its place behind the line `0`, and then the line before it.
 fn put_straight(sheet: &[u8], output: &mut [u8], rows: &mut [i64], relations: &mut [i64]) -> Put
-    requires { ⌜ (65538 ≤ length (now output)) × (now rows ≡ zeros 1280) × (now relations ≡ zeros 5136) ⌝ }
+    requires { ⌜ (2 + mostBytes ≤ length (now output)) × (now rows ≡ zeros largestRows) × (now relations ≡ zeros relationNeed) ⌝ }
     ensures { λ r. ⌜ putOf r (now (output .exit)) ≡ answerPut (answerSheet (now (sheet .entry))) (now (output .entry)) ⌝ }
     ensures { λ _. ⌜ (now (rows .exit) ≡ now (rows .entry)) × (now (relations .exit) ≡ now (relations .entry)) ⌝ }
 {
@@ -48,7 +52,7 @@ fn put_straight(sheet: &[u8], output: &mut [u8], rows: &mut [i64], relations: &m
 
 // There may be too little room: the answer is worked out beside the output, and copied where it fits.
 fn put_beside(sheet: &[u8], output: &mut [u8], rows: &mut [i64], relations: &mut [i64]) -> Put
-    requires { ⌜ (now rows ≡ zeros 1280) × (now relations ≡ zeros 5136) ⌝ }
+    requires { ⌜ (now rows ≡ zeros largestRows) × (now relations ≡ zeros relationNeed) ⌝ }
     ensures { λ r. ⌜ putOf r (now (output .exit)) ≡ answerPut (answerSheet (now (sheet .entry))) (now (output .entry)) ⌝ }
     ensures { λ _. ⌜ (now (rows .exit) ≡ now (rows .entry)) × (now (relations .exit) ≡ now (relations .entry)) ⌝ }
 {
@@ -80,7 +84,7 @@ pub(crate) fn put_answer(
     rows: &mut [i64],
     relations: &mut [i64],
 ) -> Put
-    requires { ⌜ (now rows ≡ zeros 1280) × (now relations ≡ zeros 5136) ⌝ }
+    requires { ⌜ (now rows ≡ zeros largestRows) × (now relations ≡ zeros relationNeed) ⌝ }
     ensures { λ r. ⌜ putOf r (now (output .exit)) ≡ answerPut (answerSheet (now (sheet .entry))) (now (output .entry)) ⌝ }
     ensures { λ _. ⌜ (now (rows .exit) ≡ now (rows .entry)) × (now (relations .exit) ≡ now (relations .entry)) ⌝ }
 {

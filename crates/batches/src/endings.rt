@@ -3,6 +3,7 @@ use crate::OutputResult;
 use crate::Stage;
 ghost use mathlib.Core.Path.{_≡_};
 ghost use lib.ListN.{length, replicate};
+ghost use Rattle.rules.specs.Stores.{largestRows, relationNeed};
 ghost use Rattle.rules.specs.Calls.{zeros};
 ghost use Rattle.frames.specs.Pieces.{textOf};
 ghost use Rattle.batches.specs.PieceCalls.{outputOf, endText, putText, outputCall};
@@ -62,7 +63,7 @@ pub(crate) fn whole(
     rows: &mut [i64],
     relations: &mut [i64],
 ) -> OutputResult
-    requires { ⌜ (now rows ≡ zeros 1280) × (now relations ≡ zeros 5136) ⌝ }
+    requires { ⌜ (now rows ≡ zeros largestRows) × (now relations ≡ zeros relationNeed) ⌝ }
     ensures { λ r. ⌜ outputOf r (now (output .exit)) ≡ outputCall (now (input .entry)) (now (output .entry)) ⌝ }
 {
     let none = frames::Batch {

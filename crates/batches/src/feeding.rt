@@ -4,6 +4,7 @@ ghost use mathlib.Core.Path.{_≡_};
 ghost use mathlib.Core.Bool.{true, false};
 ghost use Prim.Native.Nat.{_≤_};
 ghost use lib.ListN.{length};
+ghost use Rattle.rules.specs.Stores.{largestRows, relationNeed};
 ghost use Rattle.rules.specs.Calls.{zeros};
 ghost use Rattle.frames.specs.Pieces.{Counted};
 ghost use Rattle.batches.specs.Feeds.{breakingAt, answerStep, step, feedSheets, feedCount, fedBy, feedCall};
@@ -74,7 +75,8 @@ fn sheet_turn(
     rows: &mut [i64],
     relations: &mut [i64],
 ) -> Turn
-    requires { ⌜ (from ≤ to) × (to ≤ length (now bytes)) × (now rows ≡ zeros 1280) × (now relations ≡ zeros 5136) ⌝ }
+    requires { ⌜
+        (from ≤ to) × (to ≤ length (now bytes)) × (now rows ≡ zeros largestRows) × (now relations ≡ zeros relationNeed) ⌝ }
     ensures { λ r. ⌜ turnOf r (now (output .exit))
         ≡ turnBy (answerStep (sheetIn (now (bytes .entry)) from to) batch (now (bytes .entry)) (length (now (output .entry))) to) (now (bytes .entry)) (now (output .entry)) ⌝ }
     ensures { λ _. ⌜ (now (rows .exit) ≡ now (rows .entry)) × (now (relations .exit) ≡ now (relations .entry)) ⌝ }
@@ -103,7 +105,7 @@ fn next_turn(
     rows: &mut [i64],
     relations: &mut [i64],
 ) -> Turn
-    requires { ⌜ (now rows ≡ zeros 1280) × (now relations ≡ zeros 5136) ⌝ }
+    requires { ⌜ (now rows ≡ zeros largestRows) × (now relations ≡ zeros relationNeed) ⌝ }
     ensures { λ r. ⌜ turnOf r (now (output .exit))
         ≡ turnBy (step batch (now (bytes .entry)) (length (now (output .entry)))) (now (bytes .entry)) (now (output .entry)) ⌝ }
     ensures { λ _. ⌜ (now (rows .exit) ≡ now (rows .entry)) × (now (relations .exit) ≡ now (relations .entry)) ⌝ }
@@ -137,7 +139,7 @@ pub(crate) fn sheets(
     rows: &mut [i64],
     relations: &mut [i64],
 ) -> Fed
-    requires { ⌜ Counted batch × (now rows ≡ zeros 1280) × (now relations ≡ zeros 5136) ⌝ }
+    requires { ⌜ Counted batch × (now rows ≡ zeros largestRows) × (now relations ≡ zeros relationNeed) ⌝ }
     ensures { λ r. ⌜ fedOf r (now (output .exit))
         ≡ fedBy (feedSheets batch (now (bytes .entry)) (length (now (output .entry)))) (now (bytes .entry)) (now (output .entry)) ⌝ }
     ensures { λ _. ⌜ (now (rows .exit) ≡ now (rows .entry)) × (now (relations .exit) ≡ now (relations .entry)) ⌝ }
@@ -172,7 +174,7 @@ fn counting(
     rows: &mut [i64],
     relations: &mut [i64],
 ) -> Fed
-    requires { ⌜ (now rows ≡ zeros 1280) × (now relations ≡ zeros 5136) ⌝ }
+    requires { ⌜ (now rows ≡ zeros largestRows) × (now relations ≡ zeros relationNeed) ⌝ }
     ensures { λ r. ⌜ fedOf r (now (output .exit))
         ≡ fedBy (feedCount batch (now (bytes .entry)) (length (now (output .entry)))) (now (bytes .entry)) (now (output .entry)) ⌝ }
     ensures { λ _. ⌜ (now (rows .exit) ≡ now (rows .entry)) × (now (relations .exit) ≡ now (relations .entry)) ⌝ }
@@ -207,7 +209,7 @@ pub(crate) fn feed(
     rows: &mut [i64],
     relations: &mut [i64],
 ) -> Fed
-    requires { ⌜ Counted batch × (now rows ≡ zeros 1280) × (now relations ≡ zeros 5136) ⌝ }
+    requires { ⌜ Counted batch × (now rows ≡ zeros largestRows) × (now relations ≡ zeros relationNeed) ⌝ }
     ensures { λ r. ⌜ fedOf r (now (output .exit)) ≡ feedCall stage batch (now (bytes .entry)) (now (output .entry)) ⌝ }
     ensures { λ _. ⌜ (now (rows .exit) ≡ now (rows .entry)) × (now (relations .exit) ≡ now (relations .entry)) ⌝ }
 {

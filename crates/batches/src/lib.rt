@@ -1,10 +1,14 @@
 // Batches: the answer to one sheet, a whole batch on one slice, and a batch that comes in pieces. Every `pub fn` of this file is an entry
 // point: no `requires`, and a contract that gives the result and every lent store by equations.
+use rows::lengths::RELATIONS;
+use rows::lengths::ROWS;
 ghost use mathlib.Core.Path.{_≡_};
 ghost use Rattle.answers.specs.Answers as Answers;
 ghost use Rattle.batches.specs.Feeds.{startOf};
 ghost use Rattle.batches.specs.PieceCalls.{callOf, pieceCall, outputOf, endCall, outputCall};
+pub use answering::ANSWER;
 pub use answers::AnswerResult;
+pub use pieces::HELD;
 
 mod answering;
 mod endings;
@@ -46,8 +50,8 @@ pub struct OutputResult {
 pub fn answer(bytes: &[u8], output: &mut [u8]) -> AnswerResult
     ensures { λ r. ⌜ Answers.callOf r (now (output .exit)) ≡ Answers.answerCall (now (bytes .entry)) (now (output .entry)) ⌝ }
 {
-    let mut rows = [0i64; 1280];
-    let mut relations = [0i64; 5136];
+    let mut rows = [0i64; ROWS];
+    let mut relations = [0i64; RELATIONS];
     answers::answer_in(bytes, &mut rows, &mut relations, output)
 }
 
@@ -77,8 +81,8 @@ pub fn piece(stream: Stream, held: &mut [u8], bytes: &[u8], output: &mut [u8]) -
     if refusal != 0 {
         return pieces::refused(refusal);
     }
-    let mut rows = [0i64; 1280];
-    let mut relations = [0i64; 5136];
+    let mut rows = [0i64; ROWS];
+    let mut relations = [0i64; RELATIONS];
     pieces::checked(stream, held, bytes, output, &mut rows, &mut relations)
 }
 
@@ -97,7 +101,7 @@ pub fn finish(stream: Stream, output: &mut [u8]) -> OutputResult
 pub fn output(input: &[u8], output: &mut [u8]) -> OutputResult
     ensures { λ r. ⌜ outputOf r (now (output .exit)) ≡ outputCall (now (input .entry)) (now (output .entry)) ⌝ }
 {
-    let mut rows = [0i64; 1280];
-    let mut relations = [0i64; 5136];
+    let mut rows = [0i64; ROWS];
+    let mut relations = [0i64; RELATIONS];
     endings::whole(input, output, &mut rows, &mut relations)
 }

@@ -5,6 +5,7 @@ use crate::Stream;
 ghost use mathlib.Core.Path.{_≡_};
 ghost use Prim.Native.Nat.{min, _-_, _≤_, _<_};
 ghost use lib.ListN.{length};
+ghost use Rattle.rules.specs.Stores.{largestRows, relationNeed};
 ghost use Rattle.rules.specs.Calls.{zeros};
 ghost use Rattle.frames.specs.Pieces.{Counted};
 ghost use Rattle.batches.specs.Feeds.{nextSheet};
@@ -12,7 +13,7 @@ ghost use Rattle.batches.specs.PieceCalls.{isWaiting, waitsWith, streamR
 ghost use Rattle.batches.specs.PieceSteps.{refusedOf, unheld, untakenOf, restOf};
 
 // The bytes that a line of at most 24 and a sheet of at most 32,768 can have (SCOPE 5.33).
-const HELD: usize = 32792;
+pub const HELD: usize = 32792;
 
 const SHEETS: usize = 1000;
 
@@ -104,7 +105,8 @@ fn unheld_piece(
     rows: &mut [i64],
     relations: &mut [i64],
 ) -> PieceResult
-    requires { ⌜ Counted batch × (heldNeed ≤ length (now held)) × (now rows ≡ zeros 1280) × (now relations ≡ zeros 5136) ⌝ }
+    requires { ⌜
+        Counted batch × (heldNeed ≤ length (now held)) × (now rows ≡ zeros largestRows) × (now relations ≡ zeros relationNeed) ⌝ }
     ensures { λ r. ⌜ callOf r (now (held .exit)) (now (output .exit))
         ≡ unheld stage batch (now (held .entry)) (now (input .entry)) (now (output .entry)) ⌝ }
 {
@@ -182,7 +184,9 @@ fn rest_piece(
     rows: &mut [i64],
     relations: &mut [i64],
 ) -> PieceResult
-    requires { ⌜ Counted (fed .batch) × (heldNeed ≤ length (now held)) × (now rows ≡ zeros 1280) × (now relations ≡ zeros 5136) ⌝ }
+    requires { ⌜
+        Counted (fed .batch) × (heldNeed ≤ length (now held)) × (now rows ≡ zeros largestRows)
+        × (now relations ≡ zeros relationNeed) ⌝ }
     requires { ⌜ (from ≤ length (now input)) × (fed .written ≤ length (now output)) ⌝ }
     ensures { λ r. ⌜ callOf r (now (held .exit)) (now (output .exit))
         ≡ restOf fed from (now (held .entry)) (now (input .entry)) (now (output .entry)) ⌝ }
@@ -230,7 +234,8 @@ fn held_piece(
     rows: &mut [i64],
     relations: &mut [i64],
 ) -> PieceResult
-    requires { ⌜ (streamCheck s (now held) ≡ 0) × (0 < s .held) × (now rows ≡ zeros 1280) × (now relations ≡ zeros 5136) ⌝ }
+    requires { ⌜
+        (streamCheck s (now held) ≡ 0) × (0 < s .held) × (now rows ≡ zeros largestRows) × (now relations ≡ zeros relationNeed) ⌝ }
     ensures { λ r. ⌜ callOf r (now (held .exit)) (now (output .exit))
         ≡ pieceCall s (now (held .entry)) (now (input .entry)) (now (output .entry)) ⌝ }
 {
@@ -264,7 +269,7 @@ pub(crate) fn checked(
     rows: &mut [i64],
     relations: &mut [i64],
 ) -> PieceResult
-    requires { ⌜ (streamCheck s (now held) ≡ 0) × (now rows ≡ zeros 1280) × (now relations ≡ zeros 5136) ⌝ }
+    requires { ⌜ (streamCheck s (now held) ≡ 0) × (now rows ≡ zeros largestRows) × (now relations ≡ zeros relationNeed) ⌝ }
     ensures { λ r. ⌜ callOf r (now (held .exit)) (now (output .exit))
         ≡ pieceCall s (now (held .entry)) (now (input .entry)) (now (output .entry)) ⌝ }
 {

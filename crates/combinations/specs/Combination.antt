@@ -36,7 +36,7 @@ use Rattle.algebra.specs.Coefficients.{coeff-add, coeff-mul, coeff-take, coeff-
 use Rattle.algebra.specs.Coefficients.{degree-lt-length, mul-within}
 use Rattle.polynomials.specs.Content.{Below}
 use Rattle.polynomials.specs.Product.{product-size}
-use Rattle.rules.specs.Limits.{small}
+use Rattle.rules.specs.Limits.{rowLength, small}
 use Rattle.rules.specs.Rows.{Row, All, every, mapRow, coefficientsOf, combine, primitive, lowDegrees, cut}
 use Rattle.rules.specs.Lists.{getD-map, length-flatten, every-flatten}
 use Rattle.rules.specs.Stores.{parts, rowOf, StoreRow}
@@ -290,7 +290,7 @@ module _ (g h : Polynomial) (t u : List ℤ) where
   numbers-low : coefficientsOf (mapRow lowPart combination) ≡ flatten (map lowPart (combinations g h t u))
   numbers-low = numbers-mapRow lowPart combination ∙ ap (λ ps. flatten (map lowPart ps)) polynomials-combination
 
-  pub length-low : length (coefficientsOf (mapRow lowPart combination)) ≡ 320
+  pub length-low : length (coefficientsOf (mapRow lowPart combination)) ≡ rowLength
   length-low =
       ap length numbers-low ∙ length-flatten 16 (map lowPart (combinations g h t u)) (low-width (combinations g h t u))
       ∙ ap (λ n. n * 16) (length-map (combinations g h t u) lowPart ∙ length-combinations)
@@ -333,7 +333,7 @@ module _ (g h : Polynomial) (t u : List ℤ) where
 
   -- ---- the whole row
 
-  module _ (some : 0 < length g) (long : length t ≡ 320) where
+  module _ (some : 0 < length g) (long : length t ≡ rowLength) where
     long-combinations : All (λ p. 16 ≤ length p) (combinations g h t u)
     unfolding combinations
     long-combinations = long-sums g h some (parts 16 20 t) (parts 16 20 u) (parts-width 16 20 t (omega arith))

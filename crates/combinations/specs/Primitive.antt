@@ -26,6 +26,7 @@ use Rattle.algebra.specs.Polynomials.{Polynomial, isZero, T-&&}
 use Rattle.polynomials.specs.Content.{Below}
 use Rattle.rules.specs.Rows.{Row, every, mapRow, coefficientsOf, primitive, lowDegrees, cut}
 use Rattle.rules.specs.Lists.{every-flatten, map-take, map-drop}
+use Rattle.rules.specs.Limits.{rowLength}
 use Rattle.rules.specs.Elimination.{within, beyond, limitCoefficients, limitDegrees}
 use Rattle.rows.specs.Flat.{polynomialsOf, flatten-map, numbers-mapRow}
 use Rattle.working.specs.Worked.{Shown, refusalOf, numbersOf}
@@ -161,7 +162,7 @@ cut-primitive r low =
 
 -- ---- the answer
 
-pub limit-past : (r : Row) → lowDegrees r ≡ false → Shown 7 (replicate 320 (pos 0)) (limitDegrees (primitive r))
+pub limit-past : (r : Row) → lowDegrees r ≡ false → Shown 7 (replicate rowLength (pos 0)) (limitDegrees (primitive r))
 unfolding limitDegrees refusalOf numbersOf
 limit-past r e = rw (degree-kept r, e) (refl, refl)
 

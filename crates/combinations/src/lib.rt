@@ -1,11 +1,12 @@
 // Rule 4: a combination of two rows, its division by the content and its limits.
+use rows::lengths::ROW;
 ghost use mathlib.Core.Path.{_≡_};
 ghost use mathlib.Core.Bool.{not, _&&_};
 ghost use Prim.Native.Nat.{_+_, _^_, _≤_, _<_, max};
 ghost use lib.Dec.{T};
 ghost use lib.ListN.{length, drop};
 ghost use Rattle.algebra.specs.Polynomials.{isZero, degree, add, mul};
-ghost use Rattle.rules.specs.Limits.{small};
+ghost use Rattle.rules.specs.Limits.{rowLength, small};
 ghost use Rattle.rules.specs.Rows.{every, lowDegrees, combine, primitive, mapRow, coefficientsOf};
 ghost use Rattle.rules.specs.Stores.{rowOf};
 ghost use Rattle.rules.specs.Elimination.{limitDegrees};
@@ -73,7 +74,9 @@ fn put_combined(place: &mut [i64], g: &[i64], p: &[i64], h: &[i64], q: &[i64])
 // Has a polynomial of the combination a degree past 15?
 fn past_degree(g: &[i64], h: &[i64], target: &[i64], pivot: &[i64]) -> bool
     requires { ⌜ (length (now g) ≡ 16) × T (every small (now g)) × (length (now h) ≡ 16) × T (every small (now h)) ⌝ }
-    requires { ⌜ (length (now target) ≡ 320) × T (every small (now target)) × (length (now pivot) ≡ 320) × T (every small (now pivot)) ⌝ }
+    requires { ⌜
+        (length (now target) ≡ rowLength) × T (every small (now target)) × (length (now pivot) ≡ rowLength)
+        × T (every small (now pivot)) ⌝ }
     ensures { λ r. ⌜ r ≡ not (lowDegrees (combine (now (g .entry)) (now (h .entry)) (rowOf (now (target .entry))) (rowOf (now (pivot .entry))))) ⌝ }
 {
     let a = trimmed(g);
@@ -91,14 +94,16 @@ fn past_degree(g: &[i64], h: &[i64], target: &[i64], pivot: &[i64]) -> bool
 }
 
 // The low coefficients of the combination; nothing is done for polynomials that are zero in both rows.
-fn low_combination(g: &[i64], h: &[i64], target: &[i64], pivot: &[i64]) -> [i64; 320]
+fn low_combination(g: &[i64], h: &[i64], target: &[i64], pivot: &[i64]) -> [i64; ROW]
     requires { ⌜ (length (now g) ≡ 16) × T (every small (now g)) × (length (now h) ≡ 16) × T (every small (now h)) ⌝ }
-    requires { ⌜ (length (now target) ≡ 320) × T (every small (now target)) × (length (now pivot) ≡ 320) × T (every small (now pivot)) ⌝ }
+    requires { ⌜
+        (length (now target) ≡ rowLength) × T (every small (now target)) × (length (now pivot) ≡ rowLength)
+        × T (every small (now pivot)) ⌝ }
     ensures { λ r. ⌜ r ≡ coefficientsOf (mapRow lowPart (combine (now (g .entry)) (now (h .entry)) (rowOf (now (target .entry))) (rowOf (now (pivot .entry))))) ⌝ }
 {
     let a = trimmed(g);
     let b = trimmed(h);
-    let mut row = [0i64; 320];
+    let mut row = [0i64; ROW];
     let mut e = 0;
     while e < 20 {
         let from = e * 16;
@@ -114,7 +119,7 @@ fn low_combination(g: &[i64], h: &[i64], target: &[i64], pivot: &[i64]) -> [i64;
 }
 
 // Divided by the largest number that divides all coefficients; a zero row stays (SCOPE 2.42).
-fn primitive_part(row: [i64; 320]) -> [i64; 320]
+fn primitive_part(row: [i64; ROW]) -> [i64; ROW]
     requires { ⌜ Below (2 ^ 63) row ⌝ }
     ensures { λ r. ⌜ r ≡ primitiveNumbers row ⌝ }
 {
@@ -132,8 +137,8 @@ fn primitive_part(row: [i64; 320]) -> [i64; 320]
 pub fn combined(
     g: &[i64],
     h: &[i64],
-    target: [i64; 320],
-    pivot: [i64; 320],
+    target: [i64; ROW],
+    pivot: [i64; ROW],
 ) -> working::limits::Worked
     requires { ⌜ (length (now g) ≡ 16) × T (every small (now g)) × (length (now h) ≡ 16) × T (every small (now h)) ⌝ }
     requires { ⌜ T (every small target) × T (every small pivot) ⌝ }
@@ -143,7 +148,7 @@ pub fn combined(
     if past_degree(g, h, &target[..], &pivot[..]) {
         return working::limits::Worked {
             refusal: 7,
-            row: [0; 320],
+            row: [0; ROW],
         };
     }
     working::limits::limited(primitive_part(low_combination(g, h, &target[..], &pivot[..])))

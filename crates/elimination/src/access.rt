@@ -1,4 +1,5 @@
 // Where one polynomial of a row store stands; rows and columns are counted from 1 (SCOPE 3.2, 3.23).
+use rows::lengths::ROW;
 ghost use mathlib.Core.Path.{_≡_};
 ghost use mathlib.Core.Bool.{_&&_};
 ghost use lib.Dec.{T};
@@ -39,5 +40,5 @@ pub(crate) fn place_of(sizes: rows::validity::Sizes, row: usize, block: i64, col
 {
     let l = sizes.l;
     let down = (l - block) as usize;
-    (row - 1) * 320 + down * 64 + (column - 1) * 16
+    (row - 1) * ROW + down * 64 + (column - 1) * 16
 }

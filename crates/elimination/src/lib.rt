@@ -1,5 +1,6 @@
 // The public runs on lent stores, `run_leading` and `run_trailing`, and the access to one polynomial of a row store: no
 // `requires`, and contracts that give the result and each lent store by equations with `rules` (SCOPE 9.1, 9.2).
+use rows::lengths::ROW;
 ghost use mathlib.Core.Path.{_≡_};
 ghost use Rattle.rules.specs.Elimination.{leading, trailing};
 ghost use Rattle.rules.specs.Calls.{callRun, polynomialCheck, polynomialPart};
@@ -51,7 +52,7 @@ pub fn check_polynomial(
     if !access::place_right(sizes, row, block, column) {
         return 2;
     }
-    if rows.len() < sizes.m * 320 {
+    if rows.len() < sizes.m * ROW {
         return 1;
     }
     0

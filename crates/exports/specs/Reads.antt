@@ -20,7 +20,7 @@ use borrow.Author.Tests.{le-leb, lt-leb}
 use lib.Dec.{T, leb}
 use lib.IntN.{ℤ, pos}
 use lib.ListN.{length}
-use Rattle.rules.specs.Limits.{columnCount}
+use Rattle.rules.specs.Limits.{columnCount, rowLength}
 use Rattle.rules.specs.Rows.{All}
 use Rattle.rules.specs.Lists.{all-mono}
 use Rattle.rules.specs.Stores.{lengthsRight, rowNeed}
@@ -77,7 +77,7 @@ module _ (bytes : List ℕ) (rowStore relationStore resultStore : List ℤ) wher
       sym (read-short h)
       ∙ ap (λ r. kept (afterRead r [] [] .result .refusal) rowStore relationStore resultStore) e
       ∙ ap (λ b. kept (cond b (filled x [] []) (unread 1 [] []) .result .refusal) rowStore relationStore resultStore)
-      (and-false (leb (x .sizes .m * 320) 0))
+      (and-false (leb (x .sizes .m * rowLength) 0))
 
   pub short-fault : (n : ℕ) → readSheet bytes ≡ fault n → length resultStore < resultNeed
       → exportRead bytes rowStore relationStore resultStore ≡ kept n rowStore relationStore resultStore

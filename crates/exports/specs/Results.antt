@@ -29,6 +29,7 @@ use lib.Seq.{take-all}
 use mir.Syntax.{w64}
 use mir.Val.{SFits, toZ, ofZ, boolByte}
 use mir.Facts.{toZ-ofZ, toZ-pos}
+use Rattle.rules.specs.Limits.{rowLength}
 use Rattle.integers.specs.Ranges.{sfits-size}
 use Rattle.rules.specs.Rows.{All}
 use Rattle.rules.specs.Stores.{Sizes, sizesRight, countRight, lengthsRight, numbersRight, rowNeed, checkStores}
@@ -77,7 +78,8 @@ none-before (x ∷ l) store e = absurd (suc-ne-zero (length l) e)
 pub none-checked : (z : Sizes) (count : ℕ) → checkStores z count [] [] ≡ cond (sizesRight z && countRight count) 1 2
 unfolding checkStores lengthsRight rowNeed
 none-checked z count =
-    ap (λ b. cond (sizesRight z && countRight count) (cond b (cond (numbersRight z count [] []) 0 5) 1) 2) (and-false (leb (z .m * 320) 0))
+    ap (λ b. cond (sizesRight z && countRight count) (cond b (cond (numbersRight z count [] []) 0 5) 1) 2)
+    (and-false (leb (z .m * rowLength) 0))
 
 pub all-padTo : {A : Type 0} (P : A → Type 0) (n : ℕ) (v : A) (l : List A) → P v → All P l → All P (padTo n v l)
 unfolding padTo All

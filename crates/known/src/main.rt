@@ -6,6 +6,8 @@ use elimination::RunResult;
 use printing::print;
 use printing::print_signed;
 use printing::print_size;
+use rows::lengths::RELATIONS;
+use rows::lengths::ROWS;
 use rows::validity::Sizes;
 ghost use mathlib.Core.Path.{_≡_};
 ghost use mathlib.Core.Bool.{true, false};
@@ -132,8 +134,8 @@ fn refused(refusal: u8) -> RunResult {
 }
 
 fn run_sheet(sheet: &[u8], trailing: bool) {
-    let mut rows = [0i64; 1280];
-    let mut relations = [0i64; 5136];
+    let mut rows = [0i64; ROWS];
+    let mut relations = [0i64; RELATIONS];
     let read = sheets::read_sheet(sheet, &mut rows, &mut relations);
     if read.refusal != 0 {
         print_result(refused(read.refusal), trailing);

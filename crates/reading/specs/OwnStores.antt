@@ -13,7 +13,7 @@ use lib.ListN.{length, take, drop, take-append-drop, drop-of-length-le}
 use lib.Seq.{take-all}
 use lib.IntN.{ℤ}
 use Rattle.rules.specs.Limits.{rowLength, relationLength, mostRelations}
-use Rattle.rules.specs.Stores.{rowsOf, relationsOf, rowNeed, relationNeed, rowStoreOf, relationStoreOf, lengthsRight}
+use Rattle.rules.specs.Stores.{rowsOf, relationsOf, rowNeed, largestRows, relationNeed, rowStoreOf, relationStoreOf, lengthsRight}
 use Rattle.rules.specs.Layout.{length-relationsOf, length-relationStoreOf, StoreRelation-relationsOf}
 use Rattle.rules.specs.Calls.{overwrite, zeros}
 use Rattle.rules.specs.SheetCalls.{ReadResult, ReadCall, readCall}
@@ -22,17 +22,18 @@ use Rattle.reading.specs.Zeros.{length-zeros, drop-zeros}
 use Rattle.reading.specs.ReadCalls.{rows-filled, relationStore-again, call-fills}
 
 module _ (bytes : List ℕ) (r : ReadResult) (rows relations : List ℤ) (read : SheetRead bytes r rows relations) (none : r .refusal ≡ 0)
-    (rows-long : length rows ≡ 1280) (rows-rest : drop (r .sizes .m * rowLength) rows ≡ drop (r .sizes .m * rowLength) (zeros 1280))
+    (rows-long : length rows ≡ largestRows)
+    (rows-rest : drop (r .sizes .m * rowLength) rows ≡ drop (r .sizes .m * rowLength) (zeros largestRows))
     (relations-long : length relations ≡ r .relations * relationLength) where
   abbrev used : ℕ
   used = r .relations * relationLength
 
   pub call-holds : _≡_ {A = ReadCall} (record { result = r; rowStore = rows; relationStore = relations ++ drop used (zeros relationNeed) })
-      (readCall bytes (zeros 1280) (zeros relationNeed))
+      (readCall bytes (zeros largestRows) (zeros relationNeed))
   unfolding rowNeed lengthsRight overwrite zeros
   call-holds =
       sym
-      (call-fills bytes r rows relations read (zeros 1280) (zeros relationNeed) none long
+      (call-fills bytes r rows relations read (zeros largestRows) (zeros relationNeed) none long
       ∙ (λ i. record { result = r; rowStore = own i; relationStore = filled i }))
     where
       few : r .relations ≤ 16
@@ -41,16 +42,17 @@ module _ (bytes : List ℕ) (r : ReadResult) (rows relations : List ℤ) (read :
       unknowns : r .sizes .m ≤ 4
       unknowns = read .unknowns none
 
-      long : lengthsRight (r .sizes .m) (zeros 1280) (zeros relationNeed) ≡ true
+      long : lengthsRight (r .sizes .m) (zeros largestRows) (zeros relationNeed) ≡ true
       long =
-          ap₂ _&&_ (le-leb (rowNeed (r .sizes .m)) (length (zeros 1280)) (omega (arith, unknowns, length-zeros 1280)))
+          ap₂ _&&_ (le-leb (rowNeed (r .sizes .m)) (length (zeros largestRows))
+          (omega (arith, unknowns, length-zeros largestRows)))
           (le-leb relationNeed (length (zeros relationNeed)) (omega (arith, length-zeros relationNeed)))
 
-      own : overwrite (rowStoreOf (rowsOf (r .sizes .m) rows)) (zeros 1280) ≡ rows
+      own : overwrite (rowStoreOf (rowsOf (r .sizes .m) rows)) (zeros largestRows) ≡ rows
       own =
-          sym (rows-filled (r .sizes .m) rows (zeros 1280) (omega (arith, unknowns)))
+          sym (rows-filled (r .sizes .m) rows (zeros largestRows) (omega (arith, unknowns)))
           ∙ ap (λ l. take (r .sizes .m * rowLength) rows ++ l)
-          (ap (λ k. drop k (zeros 1280)) (zero-add (r .sizes .m * rowLength)) ∙ sym rows-rest)
+          (ap (λ k. drop k (zeros largestRows)) (zero-add (r .sizes .m * rowLength)) ∙ sym rows-rest)
           ∙ take-append-drop (r .sizes .m * rowLength) rows
 
       part : List ℤ

@@ -187,7 +187,7 @@ relationOf-is l = refl
 -- n0 and a row read behind it are a relation.
 pub relationOf-back : (l row : List ℤ) (n0 : ℤ) → length l ≡ relationLength
     → relationOf (putMid 1 (length (set l 0 n0) - 1) (set l 0 n0) row) ≡ record { index = n0; row = rowOf row }
-relationOf-back [] row n0 h = absurd (suc-ne-zero 320 (sym h))
+relationOf-back [] row n0 h = absurd (suc-ne-zero rowLength (sym h))
 relationOf-back (x ∷ l) row n0 h =
     relationOf-is (n0 ∷ (row ++ drop (suc (length l) - 1) l))
     ∙ ap (λ r. record { index = n0; row = rowOf r }) (ap (λ r. row ++ r) (drop-of-length-le l {i = suc (length l) - 1} (omega arith)) ∙ append-nil row)

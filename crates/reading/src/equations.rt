@@ -6,6 +6,7 @@ ghost use lib.Seq.{paste};
 ghost use lib.Dec.{T};
 ghost use lib.IntN.{pos, natAbs, _-ℤ_};
 ghost use lib.Signed.{_≤ℤ_};
+ghost use Rattle.rules.specs.Limits.{rowLength};
 ghost use Rattle.rules.specs.Stores.{span, rowOf, sizesRight};
 ghost use Rattle.rules.specs.Calls.{zeros};
 ghost use Rattle.rules.specs.Sheets.{blankRow, readEquation};
@@ -56,7 +57,7 @@ fn terms_at(
     row: &mut [i64],
 ) -> PartRead
     requires { ⌜ (at ≤ length (now bytes)) × T (sizesRight (sizesOf z)) ⌝ }
-    requires { ⌜ now row ≡ zeros 320 ⌝ }
+    requires { ⌜ now row ≡ zeros rowLength ⌝ }
     ensures { λ r. ⌜ Answers (now (bytes .entry)) (r .refusal) (rowOf (now (row .exit))) (r .at) (termsInto (sizesOf z) count (z .l) 0 blankRow (drop at (now (bytes .entry)))) ⌝ }
 {
     let mut next = at;
@@ -102,7 +103,7 @@ pub(crate) fn equation_at(
     row: &mut [i64],
 ) -> PartRead
     requires { ⌜ (at ≤ length (now bytes)) × T (sizesRight (sizesOf z)) ⌝ }
-    requires { ⌜ now row ≡ zeros 320 ⌝ }
+    requires { ⌜ now row ≡ zeros rowLength ⌝ }
     ensures { λ r. ⌜ Answers (now (bytes .entry)) (r .refusal) (rowOf (now (row .exit))) (r .at) (readEquation (sizesOf z) (drop at (now (bytes .entry)))) ⌝ }
 {
     let k = crate::counts::count_at(bytes, at, most_terms(z));

@@ -1,5 +1,8 @@
 // A sheet read into lent stores, in one pass over its bytes: no `requires`, and a contract that gives the result and both stores by
 // an equation with `rules`.
+use rows::lengths::RELATION;
+use rows::lengths::RELATIONS;
+use rows::lengths::ROWS;
 ghost use mathlib.Core.Path.{_≡_};
 ghost use Rattle.rules.specs.SheetCalls.{readCall};
 ghost use Rattle.reading.specs.ReadCalls.{callOf};
@@ -19,17 +22,17 @@ pub fn read_sheet(bytes: &[u8], rows: &mut [i64], relations: &mut [i64]) -> shee
     ensures { λ r. ⌜ callOf r (now (rows .exit)) (now (relations .exit))
         ≡ readCall (now (bytes .entry)) (now (rows .entry)) (now (relations .entry)) ⌝ }
 {
-    let mut row_numbers = [0i64; 1280];
+    let mut row_numbers = [0i64; ROWS];
     let h = sheet::head_at(bytes, &mut row_numbers);
     if h.refusal != 0 {
         return sheet::refused(h.refusal);
     }
-    let used = h.relations * 321;
+    let used = h.relations * RELATION;
     if used == 0 {
         let mut none = [0i64; 1];
         return sheet::fill(bytes, h, &row_numbers, &mut none[..used], rows, relations);
     }
-    let mut relation_numbers = [0i64; 5136];
+    let mut relation_numbers = [0i64; RELATIONS];
     sheet::fill(
         bytes,
         h,

@@ -1,9 +1,12 @@
 // The sections of a sheet in their order, each after its count (SCOPE 4.11), each read into a store of its size that is
 // zero.
+use rows::lengths::RELATION;
+use rows::lengths::ROW;
 ghost use mathlib.Core.Path.{_≡_};
 ghost use Prim.Native.Nat.{_*_, _≤_};
 ghost use lib.ListN.{length, drop};
 ghost use lib.Dec.{T};
+ghost use Rattle.rules.specs.Limits.{rowLength, relationLength};
 ghost use Rattle.rules.specs.Stores.{rowsOf, relationOf, relationsOf, sizesRight};
 ghost use Rattle.rules.specs.Calls.{zeros};
 ghost use Rattle.rules.specs.Sheets.{readEquations, readRelation, readRelations};
@@ -19,14 +22,14 @@ fn equations_at(
     rows: &mut [i64],
 ) -> crate::equations::PartRead
     requires { ⌜ (at ≤ length (now bytes)) × T (sizesRight (sizesOf z)) ⌝ }
-    requires { ⌜ now rows ≡ zeros (z .m * 320) ⌝ }
+    requires { ⌜ now rows ≡ zeros (z .m * rowLength) ⌝ }
     ensures { λ r. ⌜ Answers (now (bytes .entry)) (r .refusal) (rowsOf (z .m) (now (rows .exit))) (r .at) (readEquations (sizesOf z) (z .m) (drop at (now (bytes .entry)))) ⌝ }
 {
     let mut next = at;
     let mut i = 0;
     while i < z.m {
-        let from = i * 320;
-        let to = from + 320;
+        let from = i * ROW;
+        let to = from + ROW;
         let e = crate::equations::equation_at(bytes, next, z, &mut rows[from..to]);
         if e.refusal != 0 {
             return crate::equations::no_part(e.refusal);
@@ -48,7 +51,7 @@ fn relation_at(
     relation: &mut [i64],
 ) -> crate::equations::PartRead
     requires { ⌜ (at ≤ length (now bytes)) × T (sizesRight (sizesOf z)) ⌝ }
-    requires { ⌜ now relation ≡ zeros 321 ⌝ }
+    requires { ⌜ now relation ≡ zeros relationLength ⌝ }
     ensures { λ r. ⌜ Answers (now (bytes .entry)) (r .refusal) (relationOf (now (relation .exit))) (r .at) (readRelation (sizesOf z) (drop at (now (bytes .entry)))) ⌝ }
 {
     let n = tokens::small_at(bytes, at);
@@ -69,14 +72,14 @@ pub(crate) fn relations_at(
     relations: &mut [i64],
 ) -> crate::equations::PartRead
     requires { ⌜ (at ≤ length (now bytes)) × T (sizesRight (sizesOf z)) ⌝ }
-    requires { ⌜ (count ≤ 16) × (now relations ≡ zeros (count * 321)) ⌝ }
+    requires { ⌜ (count ≤ 16) × (now relations ≡ zeros (count * relationLength)) ⌝ }
     ensures { λ r. ⌜ Answers (now (bytes .entry)) (r .refusal) (relationsOf count (now (relations .exit))) (r .at) (readRelations (sizesOf z) count (drop at (now (bytes .entry)))) ⌝ }
 {
     let mut next = at;
     let mut i = 0;
     while i < count {
-        let from = i * 321;
-        let to = from + 321;
+        let from = i * RELATION;
+        let to = from + RELATION;
         let e = relation_at(bytes, next, z, &mut relations[from..to]);
         if e.refusal != 0 {
             return crate::equations::no_part(e.refusal);
@@ -98,7 +101,7 @@ pub(crate) fn equation_section(
     rows: &mut [i64],
 ) -> crate::equations::PartRead
     requires { ⌜ (at ≤ length (now bytes)) × T (sizesRight (sizesOf z)) ⌝ }
-    requires { ⌜ now rows ≡ zeros (z .m * 320) ⌝ }
+    requires { ⌜ now rows ≡ zeros (z .m * rowLength) ⌝ }
     ensures { λ r. ⌜ Answers (now (bytes .entry)) (r .refusal) (rowsOf (z .m) (now (rows .exit))) (r .at) (equationSection (sizesOf z) (drop at (now (bytes .entry)))) ⌝ }
 {
     let m = z.m as i64;

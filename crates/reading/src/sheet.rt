@@ -1,11 +1,15 @@
 // A whole sheet.
+use rows::lengths::RELATION;
+use rows::lengths::RELATIONS;
+use rows::lengths::ROW;
 ghost use mathlib.Core.Path.{_≡_};
 ghost use Prim.Native.Nat.{_*_, _≤_};
 ghost use mathlib.Core.List.{List};
 ghost use lib.ListN.{length, drop};
 ghost use lib.IntN.{ℤ};
 ghost use lib.Dec.{T};
-ghost use Rattle.rules.specs.Stores.{sizesRight, rowsOf, relationsOf, rowStoreOf, relationStoreOf};
+ghost use Rattle.rules.specs.Limits.{rowLength, relationLength};
+ghost use Rattle.rules.specs.Stores.{rowsOf, relationsOf, largestRows, relationNeed, rowStoreOf, relationStoreOf, sizesRight};
 ghost use Rattle.rules.specs.Calls.{overwrite, zeros};
 ghost use Rattle.rules.specs.SheetCalls.{readRefusal, readCall};
 ghost use Rattle.rows.specs.Validity.{sizesOf};
@@ -54,16 +58,18 @@ fn no_head(refusal: u8, m: usize) -> SheetHead
 // The sizes, the equations, read into the first m × 320 numbers of `rows`, and the number of relations. With a refusal, m says how
 // much may have been written.
 pub(crate) fn head_at(bytes: &[u8], rows: &mut [i64]) -> SheetHead
-    requires { ⌜ now rows ≡ zeros 1280 ⌝ }
+    requires { ⌜ now rows ≡ zeros largestRows ⌝ }
     ensures { λ r. ⌜ HeadRead (now (bytes .entry)) (r .refusal) (sizesOf (r .sizes)) (r .relations) (r .at) (now (rows .exit)) ⌝ }
-    ensures { λ r. ⌜ (r .sizes .m ≤ 4) × (drop (r .sizes .m * 320) (now (rows .exit)) ≡ drop (r .sizes .m * 320) (now (rows .entry))) ⌝ }
+    ensures { λ r. ⌜
+        (r .sizes .m ≤ 4) × (drop (r .sizes .m * rowLength) (now (rows .exit))
+        ≡ drop (r .sizes .m * rowLength) (now (rows .entry))) ⌝ }
 {
     let z = crate::sizes::sizes_at(bytes, 0);
     if z.refusal != 0 {
         return no_head(z.refusal, 0);
     }
     let sizes = z.sizes;
-    let used = sizes.m * 320;
+    let used = sizes.m * ROW;
     let e = crate::sections::equation_section(bytes, z.at, sizes, &mut rows[..used]);
     if e.refusal != 0 {
         return no_head(e.refusal, sizes.m);
@@ -83,7 +89,7 @@ pub(crate) fn head_at(bytes: &[u8], rows: &mut [i64]) -> SheetHead
 // The relations, read into `relations`, the column order, and the end: bytes behind that are 4 (SCOPE 4.37).
 pub(crate) fn rest_at(bytes: &[u8], h: SheetHead, relations: &mut [i64]) -> SheetResult
     requires { ⌜ (h .at ≤ length (now bytes)) × T (sizesRight (sizesOf (h .sizes))) ⌝ }
-    requires { ⌜ (h .relations ≤ 16) × (now relations ≡ zeros (h .relations * 321)) ⌝ }
+    requires { ⌜ (h .relations ≤ 16) × (now relations ≡ zeros (h .relations * relationLength)) ⌝ }
     ensures { λ r. ⌜ ((rows : List ℤ) → HeadTo (now (bytes .entry)) (sizesOf (h .sizes)) (h .relations) (h .at) rows → SheetRead (now (bytes .entry)) (resultOf r) rows (now (relations .exit))) ⌝ }
     ensures { λ r. ⌜ (r .refusal ≡ 0 → (r .sizes .m ≡ h .sizes .m) × (r .relations ≡ h .relations)) ⌝ }
 {
@@ -110,20 +116,20 @@ pub(crate) fn rest_at(bytes: &[u8], h: SheetHead, relations: &mut [i64]) -> Shee
 
 // The numbers of m rows, put into a store that is long enough; what lies behind them stays (SCOPE 3.12).
 pub(crate) fn fill_rows(store: &mut [i64], numbers: &[i64], m: usize)
-    requires { ⌜ (m ≤ 4) × (m * 320 ≤ length (now store)) × (m * 320 ≤ length (now numbers)) ⌝ }
+    requires { ⌜ (m ≤ 4) × (m * rowLength ≤ length (now store)) × (m * rowLength ≤ length (now numbers)) ⌝ }
     ensures { λ _. ⌜ now (store .exit) ≡ overwrite (rowStoreOf (rowsOf m (now (numbers .entry)))) (now (store .entry)) ⌝ }
 {
-    crate::equations::copy(store, 0, numbers, m * 320);
+    crate::equations::copy(store, 0, numbers, m * ROW);
 }
 
 // The numbers of the relations, put into a store that is long enough, and 0 at the places behind them (SCOPE 3.13).
 pub(crate) fn fill_relations(store: &mut [i64], numbers: &[i64], count: usize)
-    requires { ⌜ (count ≤ 16) × (5136 ≤ length (now store)) × (count * 321 ≤ length (now numbers)) ⌝ }
+    requires { ⌜ (count ≤ 16) × (relationNeed ≤ length (now store)) × (count * relationLength ≤ length (now numbers)) ⌝ }
     ensures { λ _. ⌜ now (store .exit) ≡ overwrite (relationStoreOf (relationsOf count (now (numbers .entry)))) (now (store .entry)) ⌝ }
 {
-    let used = count * 321;
+    let used = count * RELATION;
     crate::equations::copy(store, 0, numbers, used);
-    rows::stores::clear(store, used, 5136 - used);
+    rows::stores::clear(store, used, RELATIONS - used);
 }
 
 // The rest of a sheet whose equations have been read, its relations read into `scratch`, and the lent stores filled
@@ -138,7 +144,7 @@ pub(crate) fn fill(
     relations: &mut [i64],
 ) -> SheetResult
     requires { ⌜ HeadTo (now bytes) (sizesOf (h .sizes)) (h .relations) (h .at) (now equations) ⌝ }
-    requires { ⌜ (1280 ≤ length (now equations)) × (now scratch ≡ zeros (h .relations * 321)) ⌝ }
+    requires { ⌜ (largestRows ≤ length (now equations)) × (now scratch ≡ zeros (h .relations * relationLength)) ⌝ }
     ensures { λ r. ⌜ callOf r (now (rows .exit)) (now (relations .exit))
         ≡ readCall (now (bytes .entry)) (now (rows .entry)) (now (relations .entry)) ⌝ }
 {

@@ -21,7 +21,7 @@ use lib.Dec.{T, ltb}
 use lib.IntN.{ℤ}
 use lib.ListN.{length, take, drop, getD, set, length-drop}
 use lib.Seq.{paste, length-take-le, getD-set-same, getD-set-other}
-use Rattle.rules.specs.Limits.{small}
+use Rattle.rules.specs.Limits.{rowLength, small}
 use Rattle.rules.specs.Rows.{noRow, every, width, entry}
 use Rattle.rules.specs.Stores.{rowOf, rowsOf, relationsOf, rowNeed}
 use Rattle.rules.specs.Elimination.{State, rowAt, putRow, exchange, narrowFirst}
@@ -35,15 +35,17 @@ use Rattle.sides.specs.StoreStates.{part-small, within-paste, kept-paste, kept-
 use Rattle.reduction.specs.NewRows.{row-room}
 
 abbrev pub numbersAt : List ℤ → ℕ → List ℤ
-numbersAt store i = take 320 (drop (i * 320) store)
+numbersAt store i = take rowLength (drop (i * rowLength) store)
 
 unfoldable pub narrowed : List ℤ → ℕ → ℕ → List ℤ
 narrowed store i j =
-    let exchanged = paste (paste store (j * 320) (numbersAt store i) 320) (i * 320) (numbersAt store j) 320 in
+    let exchanged = paste (paste store (j * rowLength) (numbersAt store i) rowLength) (i * rowLength)
+    (numbersAt store j) rowLength in
     cond (ltb (width (rowOf (numbersAt store i))) (width (rowOf (numbersAt store j)))) exchanged store
 
 pub narrowed-exchanged : (store : List ℤ) (i j : ℕ) → width (rowOf (numbersAt store i)) < width (rowOf (numbersAt store j))
-    → narrowed store i j ≡ paste (paste store (j * 320) (numbersAt store i) 320) (i * 320) (numbersAt store j) 320
+    → narrowed store i j ≡ paste (paste store (j * rowLength) (numbersAt store i) rowLength) (i * rowLength)
+    (numbersAt store j) rowLength
 unfolding narrowed
 narrowed-exchanged store i j h = rw (lt-ltb _ _ h)
 
@@ -54,7 +56,7 @@ narrowed-same store i j h = rw (le-ltb _ _ h)
 
 -- ---- the entries of a row
 
-pub length-entry : (l : List ℤ) (c : ℕ) → length l ≡ 320 → c < 4 → length (entry (rowOf l) c) ≡ 16
+pub length-entry : (l : List ℤ) (c : ℕ) → length l ≡ rowLength → c < 4 → length (entry (rowOf l) c) ≡ 16
 length-entry l c e h = ap length (entry-at l c h) ∙ length-take-le 16 (drop (c * 16) l) (rw length-drop (omega arith))
 
 pub small-entry : (l : List ℤ) (c : ℕ) → T (every small l) → c < 4 → T (every small (entry (rowOf l) c))
@@ -63,12 +65,13 @@ small-entry l c s h = rw (entry-at l c h) (every-part small (c * 16) 16 l s)
 -- ---- the rows of a state
 
 module _ (m : ℕ) (rows : List ℤ) (w : Within (rowNeed m) rows) (i : ℕ) (inside : i < m) where
-  pub length-numbersAt : length (numbersAt rows i) ≡ 320
-  length-numbersAt = length-take-le 320 (drop (i * 320) rows) (rw length-drop (omega (arith, row-room m i rows w inside, w .long)))
+  pub length-numbersAt : length (numbersAt rows i) ≡ rowLength
+  length-numbersAt =
+      length-take-le rowLength (drop (i * rowLength) rows) (rw length-drop (omega (arith, row-room m i rows w inside, w .long)))
 
   pub small-numbersAt : T (every small (numbersAt rows i))
   unfolding rowNeed
-  small-numbersAt = part-small 320 m i rows inside w
+  small-numbersAt = part-small rowLength m i rows inside w
 
 pub row-of : (m : ℕ) (rows relations : List ℤ) (p : Progress) (i : ℕ) → i < m
     → rowAt (stateOf m rows relations p) i ≡ rowOf (numbersAt rows i)
@@ -79,34 +82,37 @@ row-of m rows relations p i inside = row-at m rows i inside
 
 module _ (m : ℕ) (rows : List ℤ) (w : Within (rowNeed m) rows) (i j : ℕ) (inside : i < m) (other : j < m) where
   abbrev exchanged : List ℤ
-  exchanged = paste (paste rows (j * 320) (numbersAt rows i) 320) (i * 320) (numbersAt rows j) 320
+  exchanged = paste (paste rows (j * rowLength) (numbersAt rows i) rowLength) (i * rowLength) (numbersAt rows j) rowLength
 
-  long-i : 320 ≤ length (numbersAt rows i)
+  long-i : rowLength ≤ length (numbersAt rows i)
   long-i = le-of-eq (sym (length-numbersAt m rows w i inside))
 
-  long-j : 320 ≤ length (numbersAt rows j)
+  long-j : rowLength ≤ length (numbersAt rows j)
   long-j = le-of-eq (sym (length-numbersAt m rows w j other))
 
-  within-first : Within (rowNeed m) (paste rows (j * 320) (numbersAt rows i) 320)
+  within-first : Within (rowNeed m) (paste rows (j * rowLength) (numbersAt rows i) rowLength)
   within-first =
-      within-paste (rowNeed m) rows w (j * 320) (numbersAt rows i) 320 long-i (row-room m j rows w other)
+      within-paste (rowNeed m) rows w (j * rowLength) (numbersAt rows i) rowLength long-i (row-room m j rows w other)
       (small-numbersAt m rows w i inside)
 
   within-exchanged : Within (rowNeed m) exchanged
   within-exchanged =
-      within-paste (rowNeed m) (paste rows (j * 320) (numbersAt rows i) 320) within-first (i * 320) (numbersAt rows j) 320 long-j
+      within-paste (rowNeed m) (paste rows (j * rowLength) (numbersAt rows i) rowLength) within-first (i * rowLength)
+      (numbersAt rows j) rowLength long-j
       (row-room m i rows w inside) (small-numbersAt m rows w j other)
 
   kept-exchanged : Kept (rowNeed m) rows exchanged
   kept-exchanged =
-      kept-then (kept-paste (rowNeed m) rows w (j * 320) (numbersAt rows i) 320 long-i (row-room m j rows w other))
-      (kept-paste (rowNeed m) (paste rows (j * 320) (numbersAt rows i) 320) within-first (i * 320) (numbersAt rows j) 320 long-j
+      kept-then (kept-paste (rowNeed m) rows w (j * rowLength) (numbersAt rows i) rowLength long-i (row-room m j rows w other))
+      (kept-paste (rowNeed m) (paste rows (j * rowLength) (numbersAt rows i) rowLength) within-first (i * rowLength)
+      (numbersAt rows j) rowLength long-j
       (row-room m i rows w inside))
 
   rows-exchanged : rowsOf m exchanged ≡ set (set (rowsOf m rows) j (rowOf (numbersAt rows i))) i (rowOf (numbersAt rows j))
   unfolding rowNeed
   rows-exchanged =
-      rowsOf-paste m (paste rows (j * 320) (numbersAt rows i) 320) (numbersAt rows j) i (length-numbersAt m rows w j other)
+      rowsOf-paste m (paste rows (j * rowLength) (numbersAt rows i) rowLength) (numbersAt rows j) i
+      (length-numbersAt m rows w j other)
       (within-first .long) inside
       ∙ ap (λ l. set l i (rowOf (numbersAt rows j)))
       (rowsOf-paste m rows (numbersAt rows i) j (length-numbersAt m rows w i inside) (w .long) other)

@@ -20,6 +20,7 @@ use lib.IntN.{ℤ}
 use lib.ListN.{length, take, set}
 use lib.Seq.{paste}
 use Rattle.algebra.specs.Polynomials.{Polynomial}
+use Rattle.rules.specs.Limits.{rowLength}
 use Rattle.rules.specs.Rows.{Row, coefficientsOf, combine, primitive, cut, shiftUp, smallRow, lowDegrees}
 use Rattle.rules.specs.Elimination.{Limited, within, beyond, limitCoefficients, limitDegrees, going, putRow, putLimited}
 use Rattle.rules.specs.Stores.{rowOf, rowsOf, relationsOf, rowNeed}
@@ -56,17 +57,17 @@ degrees-storable q h = cases (lowDegrees q) h
     cases true h = coefficients-storable (cut q) h
     cases false h = lit< tt
 
-pub shifted-storable : (l : List ℤ) → length l ≡ 320 → Storable (limitCoefficients (shiftUp (rowOf l)))
+pub shifted-storable : (l : List ℤ) → length l ≡ rowLength → Storable (limitCoefficients (shiftUp (rowOf l)))
 shifted-storable l e = coefficients-storable (shiftUp (rowOf l)) (shifted-held l e)
 
-pub combined-storable : (g h : Polynomial) (l m : List ℤ) → 0 < length g → length l ≡ 320
+pub combined-storable : (g h : Polynomial) (l m : List ℤ) → 0 < length g → length l ≡ rowLength
     → Storable (limitDegrees (primitive (combine g h (rowOf l) (rowOf m))))
 combined-storable g h l m some e = degrees-storable (primitive (combine g h (rowOf l) (rowOf m))) (combined-held g h l m some e)
 
 -- ---- the store afterwards
 
 unfoldable pub saved : List ℤ → ℕ → ℕ → List ℤ → List ℤ
-saved store i zero numbers = paste store (i * 320) numbers 320
+saved store i zero numbers = paste store (i * rowLength) numbers rowLength
 saved store i (suc n) numbers = store
 
 pub saved-none : (store : List ℤ) (i n : ℕ) (numbers : List ℤ) → (n ≡ 0 → ⊥) → saved store i n numbers ≡ store
@@ -76,9 +77,9 @@ saved-none store i (suc n) numbers h = refl
 
 -- Row i of m rows in a store within ±C, in whose place a new row is put.
 module _ (m i : ℕ) (store : List ℤ) (w : Within (rowNeed m) store) (inside : i < m) where
-  pub row-room : i * 320 + 320 ≤ rowNeed m
+  pub row-room : i * rowLength + rowLength ≤ rowNeed m
   unfolding rowNeed
-  row-room = omega (arith, mul-le-mul-right 320 inside, suc-mul i 320)
+  row-room = omega (arith, mul-le-mul-right rowLength inside, suc-mul i rowLength)
 
   abbrev after : Limited → List ℤ
   after x = saved store i (refusalOf x) (numbersOf x)
@@ -86,13 +87,15 @@ module _ (m i : ℕ) (store : List ℤ) (w : Within (rowNeed m) store) (inside :
   pub saved-within : (x : Limited) → Storable x → Within (rowNeed m) (after x)
   unfolding Storable saved refusalOf numbersOf
   saved-within (within r) h =
-      within-paste (rowNeed m) store w (i * 320) (coefficientsOf r) 320 (le-of-eq (sym (h .long))) row-room (h .within-bound)
+      within-paste (rowNeed m) store w (i * rowLength) (coefficientsOf r) rowLength (le-of-eq (sym (h .long))) row-room
+      (h .within-bound)
   saved-within (beyond zero) h = absurd (not-suc-le-zero h)
   saved-within (beyond (suc n)) h = w
 
   pub saved-kept : (x : Limited) → Storable x → Kept (rowNeed m) store (after x)
   unfolding Storable saved refusalOf numbersOf
-  saved-kept (within r) h = kept-paste (rowNeed m) store w (i * 320) (coefficientsOf r) 320 (le-of-eq (sym (h .long))) row-room
+  saved-kept (within r) h =
+      kept-paste (rowNeed m) store w (i * rowLength) (coefficientsOf r) rowLength (le-of-eq (sym (h .long))) row-room
   saved-kept (beyond zero) h = absurd (not-suc-le-zero h)
   saved-kept (beyond (suc n)) h = kept-same (rowNeed m) store
 

@@ -4,6 +4,7 @@
 --   stateOf m rows relations p   the state: rows, relations, the columns of the settled rows, shifts
 --   outcomeOf refusal done s     going on, done or refused
 --   outcomeAt m rows relations o   the outcome that an answer of the code gives with the stores
+--   mostSteps                    the most steps of a run
 --   startProgress, settledProgress, listedProgress, shiftedProgress   the progress at the start, and after each rule
 --   Ready m rows relations p     what a step asks of the stores and of the progress
 --   Reached m .. most o x        what steps give: their outcome is x, the rest of the stores is kept, at most `most` shifts are made,
@@ -12,14 +13,14 @@
 -- Main statements
 --   padTo-more                   a member more before the padding
 --   ready-with                   a step may be made with other stores and counts
-use Prim.Native.Nat.{ℕ, zero, suc, _+_, _≤_, _<_}
+use Prim.Native.Nat.{ℕ, zero, suc, _+_, _*_, _≤_, _<_}
 use native.Mathlib.Nat.{not-suc-le-zero, le-of-suc-le-suc}
 use mathlib.Core.Path.{_≡_, refl, ap}
 use mathlib.Core.Bool.{Bool, true, false}
 use mathlib.Core.List.{List, [], _∷_, _++_}
 use lib.IntN.{ℤ}
 use lib.ListN.{length, take, set}
-use Rattle.rules.specs.Limits.{columnCount}
+use Rattle.rules.specs.Limits.{columnCount, blockCount}
 use Rattle.rules.specs.Rows.{Row, Relation}
 use Rattle.rules.specs.Elimination.{State, Outcome, going, done, refused}
 use Rattle.rules.specs.Stores.{rowsOf, relationsOf, rowNeed, relationNeed}
@@ -49,6 +50,10 @@ abbrev pub outcomeAt : ℕ → List ℤ → List ℤ → Answer.Outcome → Outc
 outcomeAt m rows relations o = outcomeOf (o .refusal) (o .done) (stateOf m rows relations (o .progress))
 
 -- ---- how far a run has come
+
+-- The steps that are enough with four rows of five blocks, and so the most shifts.
+abbrev pub mostSteps : ℕ
+mostSteps = (columnCount + 1) * (columnCount + columnCount * blockCount) + 1
 
 abbrev pub startProgress : ℕ → Progress
 startProgress count = record { settled = 0; order = 0 ∷ 0 ∷ 0 ∷ 0 ∷ []; count = count; shifts = 0 }

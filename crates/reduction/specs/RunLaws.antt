@@ -17,6 +17,7 @@ use mathlib.Core.List.{List}
 use lib.Dec.{lit<}
 use lib.IntN.{ℤ}
 use lib.ListN.{take}
+use Rattle.rules.specs.Limits.{rowLength}
 use Rattle.rules.specs.Rows.{All}
 use Rattle.rules.specs.Stores.{rowsOf, relationsOf, relationNeed, rowNeed}
 use Rattle.rules.specs.Elimination.{Side, State, Outcome, going, done, refused, step, andThen, run, enough, start}
@@ -26,7 +27,7 @@ use Rattle.rows.specs.Flat.{length-blocks}
 use Rattle.working.specs.Found.{Columns}
 use Rattle.reduction.specs.declared.step.Outcome as Answer
 use Rattle.sides.specs.Lent.{Within, Listing}
-use Rattle.reduction.specs.Progress.{Ready, Reached, stateOf, outcomeOf, outcomeAt, answerOf, startProgress}
+use Rattle.reduction.specs.Progress.{Ready, Reached, stateOf, outcomeOf, outcomeAt, answerOf, mostSteps, startProgress}
 use Rattle.sides.specs.StoreStates.{kept-same, kept-then}
 
 -- ---- how many steps are enough
@@ -35,12 +36,12 @@ pub enough-rows : (m : ℕ) (store : List ℤ) → enough (rowsOf m store) ≡ (
 unfolding enough rowsOf
 enough-rows zero store = refl
 enough-rows (suc m) store =
-    ap₂ (λ k b. suc (suc k * (k + k * b))) (length-rowsOf (suc m) store) (length-blocks (take 320 store)) ∙ plain (suc m)
+    ap₂ (λ k b. suc (suc k * (k + k * b))) (length-rowsOf (suc m) store) (length-blocks (take rowLength store)) ∙ plain (suc m)
   where
     plain : (k : ℕ) → suc (suc k * (k + k * 5)) ≡ (k + 1) * (k + k * 5) + 1
     plain k = simp add-one
 
-pub enough-few : (m : ℕ) → m ≤ 4 → (m + 1) * (m + m * 5) + 1 ≤ 121
+pub enough-few : (m : ℕ) → m ≤ 4 → (m + 1) * (m + m * 5) + 1 ≤ mostSteps
 enough-few m h = omega (arith, mul-le-mul (count m h) (width m h))
   where
     count : (m : ℕ) → m ≤ 4 → m + 1 ≤ 5
@@ -95,8 +96,8 @@ step-then side (suc k) s h = ap (λ n. andThen (step side s) (run side n)) (befo
 -- The loop: o is reached, and at most `left` steps more give x.
 pub record Running (side : Side) (m : ℕ) (rows relations rows' relations' : List ℤ) (o : Answer.Outcome) (left : ℕ) (x : Outcome)
     : Type 0 where
-  pub few : left ≤ 121
-  pub reached : Reached m rows relations rows' relations' (121 - left) o (outcomeAt m rows' relations' o)
+  pub few : left ≤ mostSteps
+  pub reached : Reached m rows relations rows' relations' (mostSteps - left) o (outcomeAt m rows' relations' o)
   pub whole : andThen (outcomeAt m rows' relations' o) (run side left) ≡ x
 
 pub run-starts : (side : Side) (m count left : ℕ) (rows relations : List ℤ) → m ≤ 4 → Within (rowNeed m) rows → Listing count relations
@@ -122,7 +123,7 @@ module _ {side : Side} {m : ℕ} {rows relations rows' relations' : List ℤ} {o
     (r : Running side m rows relations rows' relations' o left x) where
   -- The run has come to its end with the outcome that is reached.
   ended : andThen (outcomeAt m rows' relations' o) (run side left) ≡ outcomeAt m rows' relations' o
-      → Reached m rows relations rows' relations' 121 o x
+      → Reached m rows relations rows' relations' mostSteps o x
   ended e =
       record {
         outcome = sym e ∙ r .whole;
@@ -132,13 +133,13 @@ module _ {side : Side} {m : ℕ} {rows relations rows' relations' : List ℤ} {o
         ready = r .reached .ready;
       }
 
-  pub run-refused : (o .refusal ≡ 0 → ⊥) → Reached m rows relations rows' relations' 121 o x
+  pub run-refused : (o .refusal ≡ 0 → ⊥) → Reached m rows relations rows' relations' mostSteps o x
   run-refused h = ended (refused-then (o .refusal) (o .done) (stateOf m rows' relations' (o .progress)) (run side left) h)
 
-  pub run-done : o .done ≡ true → Reached m rows relations rows' relations' 121 o x
+  pub run-done : o .done ≡ true → Reached m rows relations rows' relations' mostSteps o x
   run-done h = ended (done-then (o .refusal) (o .done) (stateOf m rows' relations' (o .progress)) (run side left) h)
 
-  pub run-ends : left ≡ 0 → Reached m rows relations rows' relations' 121 o x
+  pub run-ends : left ≡ 0 → Reached m rows relations rows' relations' mostSteps o x
   run-ends h =
       ended (ap (λ n. andThen (outcomeAt m rows' relations' o) (run side n)) h ∙ nothing-then side (outcomeAt m rows' relations' o))
 

@@ -1,11 +1,13 @@
 // The whole run over checked stores: at most `enough` steps, and what is left of a run that is refused.
 use crate::step::Outcome;
 use crate::step::Progress;
+use rows::lengths::RELATION;
+use rows::lengths::ROW;
 ghost use mathlib.Core.Path.{_≡_};
 ghost use Prim.Native.Nat.{_+_, _*_, _≤_};
 ghost use Rattle.rules.specs.Stores.{rowNeed};
 ghost use Rattle.sides.specs.Lent.{Within, Listing, sideOf};
-ghost use Rattle.reduction.specs.Progress.{Reached, startProgress};
+ghost use Rattle.reduction.specs.Progress.{mostSteps, Reached, startProgress};
 ghost use Rattle.reduction.specs.Ran.{runOf, answerFor, rowsAfter, relationsAfter};
 
 // A bound on the steps that no run reaches (SCOPE 3.24): m settlings, five shifts a row, every settled row before each
@@ -32,7 +34,7 @@ fn start(count: usize) -> Progress
 // Step after step, up to a refusal or the end.
 fn steps(rows: &mut [i64], relations: &mut [i64], m: usize, trailing: bool, count: usize) -> Outcome
     requires { ⌜ (m ≤ 4) × Within (rowNeed m) (now rows) × Listing count (now relations) ⌝ }
-    ensures { λ r. ⌜ Reached m (now (rows .entry)) (now (relations .entry)) (now (rows .exit)) (now (relations .exit)) 121 r
+    ensures { λ r. ⌜ Reached m (now (rows .entry)) (now (relations .entry)) (now (rows .exit)) (now (relations .exit)) mostSteps r
         (runOf (sideOf trailing) m count (now (rows .entry)) (now (relations .entry))) ⌝ }
 {
     let mut o = crate::step::answer(0, start(count));
@@ -67,7 +69,7 @@ pub fn run(
         ≡ rowsAfter m (runOf (sideOf trailing) m count (now (rows .entry)) (now (relations .entry))) (now (rows .entry)) ⌝ }
     ensures { λ _. ⌜ now (relations .exit)
         ≡ relationsAfter (runOf (sideOf trailing) m count (now (rows .entry)) (now (relations .entry))) (now (relations .entry)) ⌝ }
-    ensures { λ r. ⌜ Reached m (now (rows .entry)) (now (relations .entry)) (now (rows .exit)) (now (relations .exit)) 121 r
+    ensures { λ r. ⌜ Reached m (now (rows .entry)) (now (relations .entry)) (now (rows .exit)) (now (relations .exit)) mostSteps r
         (runOf (sideOf trailing) m count (now (rows .entry)) (now (relations .entry))) ⌝ }
 {
     let o = steps(rows, relations, m, trailing, count);
@@ -77,7 +79,7 @@ pub fn run(
     }
     let p = o.progress;
     let listed = p.count;
-    rows::stores::clear(rows, 0, m * 320);
-    rows::stores::clear(relations, 0, listed * 321);
+    rows::stores::clear(rows, 0, m * ROW);
+    rows::stores::clear(relations, 0, listed * RELATION);
     crate::step::answer(refusal, start(0))
 }

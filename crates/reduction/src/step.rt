@@ -1,4 +1,5 @@
 // One step of the elimination over the lent stores: what `step` of `rules` says of the state that the stores hold.
+use rows::lengths::ROW;
 ghost use mathlib.Core.Path.{_≡_};
 ghost use mathlib.Core.Bool.{not};
 ghost use mathlib.Core.List.{_++_};
@@ -6,7 +7,7 @@ ghost use Prim.Native.Nat.{_+_, _*_, _^_, _≤_, _<_};
 ghost use lib.Dec.{T};
 ghost use lib.ListN.{length};
 ghost use Rattle.algebra.specs.Polynomials.{isZero};
-ghost use Rattle.rules.specs.Limits.{small};
+ghost use Rattle.rules.specs.Limits.{rowLength, small};
 ghost use Rattle.rules.specs.Rows.{every, entry};
 ghost use Rattle.rules.specs.Elimination as Elimination;
 ghost use Rattle.rules.specs.Stores.{rowOf};
@@ -50,7 +51,7 @@ fn put_limited(
     worked: working::limits::Worked,
     next: Progress,
 ) -> Outcome
-    requires { ⌜ i * 320 + 320 ≤ length (now rows) ⌝ }
+    requires { ⌜ i * rowLength + rowLength ≤ length (now rows) ⌝ }
     ensures { λ _. ⌜ now (rows .exit) ≡ saved (now (rows .entry)) i (worked .refusal) (worked .row) ⌝ }
     ensures { λ r. ⌜ r ≡ answerOf (worked .refusal) next ⌝ }
 {
@@ -59,27 +60,27 @@ fn put_limited(
         return answer(refusal, next);
     }
     let row = worked.row;
-    rows::stores::save(rows, i * 320, row);
+    rows::stores::save(rows, i * ROW, row);
     answer(0, next)
 }
 
 // If settled row j is wider than row i, the two change places (SCOPE 2.22).
 fn narrow_first(rows: &mut [i64], i: usize, j: usize)
-    requires { ⌜ (i * 320 + 320 ≤ length (now rows)) × (j * 320 + 320 ≤ length (now rows)) ⌝ }
+    requires { ⌜ (i * rowLength + rowLength ≤ length (now rows)) × (j * rowLength + rowLength ≤ length (now rows)) ⌝ }
     ensures { λ _. ⌜ now (rows .exit) ≡ narrowed (now (rows .entry)) i j ⌝ }
 {
-    let a = rows::stores::load(rows, i * 320);
-    let b = rows::stores::load(rows, j * 320);
+    let a = rows::stores::load(rows, i * ROW);
+    let b = rows::stores::load(rows, j * ROW);
     if working::entries::width(a) < working::entries::width(b) {
-        rows::stores::save(rows, j * 320, a);
-        rows::stores::save(rows, i * 320, b);
+        rows::stores::save(rows, j * ROW, a);
+        rows::stores::save(rows, i * ROW, b);
     }
 }
 
 // The multipliers of rule 2, from the entries of both rows in column c (SCOPE 2.23, 2.24, 2.25).
 fn multipliers_at(
-    target: [i64; 320],
-    pivot: [i64; 320],
+    target: [i64; ROW],
+    pivot: [i64; ROW],
     c: usize,
 ) -> polynomials::content::Multipliers
     requires { ⌜ (c < 4) × T (every small target) × T (every small pivot) ⌝ }
@@ -111,8 +112,8 @@ fn settled(c: usize, p: Progress) -> Progress
 }
 
 // Rule 6: the blocks move up by one, with n + 1 for n, and the shift is counted (SCOPE 2.61, 2.63, 2.65).
-fn shift_step(rows: &mut [i64], row: [i64; 320], p: Progress) -> Outcome
-    requires { ⌜ (p .settled * 320 + 320 ≤ length (now rows)) × T (every small row) × (p .shifts < 2 ^ 32) ⌝ }
+fn shift_step(rows: &mut [i64], row: [i64; ROW], p: Progress) -> Outcome
+    requires { ⌜ (p .settled * rowLength + rowLength ≤ length (now rows)) × T (every small row) × (p .shifts < 2 ^ 32) ⌝ }
     ensures { λ _. ⌜ now (rows .exit) ≡ saved (now (rows .entry)) (p .settled) (refusalOf (shiftedRow row)) (numbersOf (shiftedRow row)) ⌝ }
     ensures { λ r. ⌜ r ≡ answerOf (refusalOf (shiftedRow row)) (shiftedProgress p) ⌝ }
 {
@@ -144,8 +145,8 @@ fn combine_step(
         (Elimination.multipliersAt (stateOf m (now (rows .entry)) (now (relations .entry)) p) (p .settled) j)) ⌝ }
 {
     let i = p.settled;
-    let target = rows::stores::load(rows, i * 320);
-    let pivot = rows::stores::load(rows, j * 320);
+    let target = rows::stores::load(rows, i * ROW);
+    let pivot = rows::stores::load(rows, j * ROW);
     let order = p.order;
     let x = multipliers_at(target, pivot, order[j]);
     let g = x.g;
@@ -190,7 +191,7 @@ pub(crate) fn step(
             progress: p,
         };
     }
-    let row = rows::stores::load(rows, i * 320);
+    let row = rows::stores::load(rows, i * ROW);
     if working::entries::is_zero_row(row) {
         return answer(6, p);
     }

@@ -1,27 +1,29 @@
 // The batch program (SCOPE 5.41): each piece of standard input is handed to `batches::piece`, and what comes out is
 // written before more is read. What is written for which input is proved of the calls of `batches`; that these loops
 // hand over every byte that was read, in order, and write every byte that came out, is for the reader's eye.
+use batches::ANSWER;
+use batches::HELD;
 use libc::STDERR_FILENO;
 use libc::STDIN_FILENO;
 use libc::STDOUT_FILENO;
 ghost use mathlib.Core.Path.{_≡_};
-ghost use Prim.Native.Nat.{_≤_};
+ghost use Prim.Native.Nat.{_*_, _≤_};
 ghost use lib.ListN.{length};
 ghost use Rattle.batches.specs.PieceCalls.{heldNeed, streamCheck};
 ghost use Rattle.batches.specs.Rooms.{answerRoom};
 
 // The store for bytes that begin a line or a sheet (SCOPE 5.33).
-fn store() -> [u8; 32792]
-    ensures { λ r. ⌜ 32792 ≡ length r ⌝ }
+fn store() -> [u8; HELD]
+    ensures { λ r. ⌜ heldNeed ≡ length r ⌝ }
 {
-    [0; 32792]
+    [0; HELD]
 }
 
 // Room for at least two answers.
-fn room() -> [u8; 131076]
-    ensures { λ r. ⌜ 131076 ≡ length r ⌝ }
+fn room() -> [u8; 2 * ANSWER]
+    ensures { λ r. ⌜ 2 * answerRoom ≡ length r ⌝ }
 {
-    [0; 131076]
+    [0; 2 * ANSWER]
 }
 
 // Output, written at once. Where that fails, standard error says so.

@@ -28,11 +28,11 @@ use mir.Syntax.{w64}
 use mir.Val.{SFits}
 use Rattle.algebra.specs.Order.{≤ℤ-trans, +ℤ-≤ℤ-left, +ℤ-≤ℤ-right, ≤ℤ-difference, negℤ-≤ℤ, natAbs-≤-iff}
 use Rattle.integers.specs.Ranges.{sfits-size}
-use Rattle.rules.specs.Limits.{small}
+use Rattle.rules.specs.Limits.{rowLength, relationLength, small}
 use Rattle.rules.specs.Rows.{Row, Relation, smallRow}
 use Rattle.rules.specs.Lists.{drop-take}
 use Rattle.rules.specs.Stores as Stores
-use Rattle.rules.specs.Stores.{span, parts, rowOf, relationOf, relationsOf, unusedZero, rowRight, relationRight}
+use Rattle.rules.specs.Stores.{span, parts, rowOf, relationOf, relationsOf, relationNeed, unusedZero, rowRight, relationRight}
 use Rattle.rules.specs.Layout.{getD-parts}
 use Rattle.rows.specs.declared.validity.Sizes.{Sizes}
 
@@ -60,29 +60,34 @@ relationRight-test z = refl
 -- ---- relations by their places
 
 pub relation-at : (count : ℕ) (l : List ℤ) (k : ℕ) → k < count
-    → getD (relationsOf count l) k (relationOf []) ≡ relationOf (take 321 (drop (k * 321) l))
+    → getD (relationsOf count l) k (relationOf []) ≡ relationOf (take relationLength (drop (k * relationLength) l))
 unfolding relationsOf
-relation-at count l k h = List·getD-map relationOf (parts 321 count l) k [] ∙ ap relationOf (getD-parts 321 count l k h)
+relation-at count l k h =
+    List·getD-map relationOf (parts relationLength count l) k [] ∙ ap relationOf (getD-parts relationLength count l k h)
 
-pub index-at : (l : List ℤ) (at : ℕ) → relationOf (take 321 (drop at l)) .index ≡ getD l at (pos 0)
+pub index-at : (l : List ℤ) (at : ℕ) → relationOf (take relationLength (drop at l)) .index ≡ getD l at (pos 0)
 unfolding relationOf
-index-at l at = getD-take 321 (drop at l) 0 (pos 0) (lit< tt) ∙ getD-drop at l 0 (pos 0) ∙ ap (λ n. getD l n (pos 0)) (add-zero at)
+index-at l at =
+    getD-take relationLength (drop at l) 0 (pos 0) (lit< tt) ∙ getD-drop at l 0 (pos 0) ∙ ap (λ n. getD l n (pos 0)) (add-zero at)
 
 -- A row begins one place after its n0.
-pub row-after : (l : List ℤ) (at : ℕ) → relationOf (take 321 (drop at l)) .row ≡ rowOf (take 320 (drop (at + 1) l))
+pub row-after : (l : List ℤ) (at : ℕ)
+    → relationOf (take relationLength (drop at l)) .row ≡ rowOf (take rowLength (drop (at + 1) l))
 unfolding relationOf
-row-after l at = ap rowOf (rest (drop at l) ∙ ap (take 320) (drop-drop 1 at l))
+row-after l at = ap rowOf (rest (drop at l) ∙ ap (take rowLength) (drop-drop 1 at l))
   where
-    rest : (p : List ℤ) → drop 1 (take 321 p) ≡ take 320 (drop 1 p)
+    rest : (p : List ℤ) → drop 1 (take relationLength p) ≡ take rowLength (drop 1 p)
     rest [] = refl
     rest (a ∷ p) = refl
 
 -- The places past the count, as the part of the store that is tested.
 pub unused-part : (count : ℕ) (l : List ℤ) → count ≤ 16
-    → take (5136 - count * 321) (drop (count * 321) l) ≡ drop (count * 321) (take 5136 l)
+    → take (relationNeed - count * relationLength) (drop (count * relationLength) l)
+    ≡ drop (count * relationLength) (take relationNeed l)
 unused-part count l h =
-    let whole : count * 321 + (5136 - count * 321) ≡ 5136 = omega arith in
-    sym (drop-take (count * 321) (5136 - count * 321) l) ∙ ap (λ n. drop (count * 321) (take n l)) whole
+    let whole : count * relationLength + (relationNeed - count * relationLength) ≡ relationNeed = omega arith in
+    sym (drop-take (count * relationLength) (relationNeed - count * relationLength) l)
+    ∙ ap (λ n. drop (count * relationLength) (take n l)) whole
 
 -- ---- two tests, the second made where the first passed
 

@@ -4,7 +4,7 @@ ghost use mathlib.Core.Bool.{_&&_};
 ghost use Prim.Native.Nat.{_+_, _*_, _≤_};
 ghost use lib.ListN.{length};
 ghost use Rattle.algebra.specs.Polynomials.{isZero};
-ghost use Rattle.rules.specs.Limits.{small};
+ghost use Rattle.rules.specs.Limits.{rowLength, small};
 ghost use Rattle.rules.specs.Rows.{every, smallRow};
 ghost use Rattle.rules.specs.Stores.{rowOf, unusedZero};
 ghost use Rattle.rows.specs.Checks.{placeRight};
@@ -55,7 +55,7 @@ fn place_right(numbers: &[i64], place: usize, m: usize, span: usize) -> bool
 
 // No coefficient is past ±C, and unused positions hold 0 (SCOPE 3.3, 3.34).
 pub fn row_right(row: &[i64], m: usize, span: usize) -> bool
-    requires { ⌜ length (now row) ≡ 320 ⌝ }
+    requires { ⌜ length (now row) ≡ rowLength ⌝ }
     ensures { λ r. ⌜ r ≡ (smallRow (rowOf (now (row .entry))) && unusedZero m span (rowOf (now (row .entry)))) ⌝ }
 {
     let mut place = 0;

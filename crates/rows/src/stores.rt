@@ -1,33 +1,30 @@
 // A row loaded from a store and saved into it.
+use crate::lengths::ROW;
 ghost use mathlib.Core.Path.{_≡_};
 ghost use Prim.Native.Nat.{_+_, _≤_};
 ghost use lib.IntN.{pos};
 ghost use lib.ListN.{length, take, drop, replicate};
 ghost use lib.Seq.{paste};
-
-// The numbers of a row, and of a relation: n0 and then a row (SCOPE 3.2, 3.4).
-pub const ROW: usize = 320;
-
-pub const RELATION: usize = 321;
+ghost use Rattle.rules.specs.Limits.{rowLength};
 
 // The 320 numbers of a store from a place on, where they stand.
 pub fn row_at(store: &[i64], at: usize) -> &[i64]
-    requires { ⌜ at + 320 ≤ length (now store) ⌝ }
-    ensures { λ r. ⌜ now r ≡ take 320 (drop at (now (store .entry))) ⌝ }
-    ensures { λ r. ⌜ length (now r) ≡ 320 ⌝ }
+    requires { ⌜ at + rowLength ≤ length (now store) ⌝ }
+    ensures { λ r. ⌜ now r ≡ take rowLength (drop at (now (store .entry))) ⌝ }
+    ensures { λ r. ⌜ length (now r) ≡ rowLength ⌝ }
 {
-    let end = at + 320;
+    let end = at + ROW;
     &store[at..end]
 }
 
 // The same, as an array of their own.
-pub fn load(store: &[i64], at: usize) -> [i64; 320]
-    requires { ⌜ at + 320 ≤ length (now store) ⌝ }
-    ensures { λ r. ⌜ r ≡ take 320 (drop at (now (store .entry))) ⌝ }
+pub fn load(store: &[i64], at: usize) -> [i64; ROW]
+    requires { ⌜ at + rowLength ≤ length (now store) ⌝ }
+    ensures { λ r. ⌜ r ≡ take rowLength (drop at (now (store .entry))) ⌝ }
 {
-    let mut row = [0i64; 320];
+    let mut row = [0i64; ROW];
     let mut i = 0;
-    while i < 320 {
+    while i < ROW {
         row[i] = store[at + i];
         i += 1;
     }
@@ -35,12 +32,12 @@ pub fn load(store: &[i64], at: usize) -> [i64; 320]
 }
 
 // The store with the row's numbers from a place on; all others stay.
-pub fn save(store: &mut [i64], at: usize, row: [i64; 320])
-    requires { ⌜ at + 320 ≤ length (now store) ⌝ }
-    ensures { λ _. ⌜ now (store .exit) ≡ paste (now (store .entry)) at row 320 ⌝ }
+pub fn save(store: &mut [i64], at: usize, row: [i64; ROW])
+    requires { ⌜ at + rowLength ≤ length (now store) ⌝ }
+    ensures { λ _. ⌜ now (store .exit) ≡ paste (now (store .entry)) at row rowLength ⌝ }
 {
     let mut i = 0;
-    while i < 320 {
+    while i < ROW {
         store[at + i] = row[i];
         i += 1;
     }

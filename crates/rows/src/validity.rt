@@ -1,4 +1,7 @@
 // Sizes, and the checks of a call on stores: sizes (2), then lengths (1), then numbers (5) (SCOPE 3.31).
+use crate::lengths::RELATION;
+use crate::lengths::RELATIONS;
+use crate::lengths::ROW;
 ghost use mathlib.Core.Path.{_≡_};
 ghost use Prim.Native.Nat.{_+_, _≤_};
 ghost use mathlib.Core.Bool.{_&&_};
@@ -6,6 +9,7 @@ ghost use lib.Dec.{T, leb};
 ghost use lib.IntN.{pos, negℤ, _-ℤ_};
 ghost use lib.Signed.{leZ};
 ghost use lib.ListN.{length, take, drop};
+ghost use Rattle.rules.specs.Limits.{relationLength};
 ghost use Rattle.rules.specs.Rows.{every};
 ghost use Rattle.rules.specs.Stores as Stores;
 ghost use Rattle.rows.specs.Validity.{sizesOf, relationTest};
@@ -57,7 +61,7 @@ pub fn rows_right(store: &[i64], sizes: Sizes) -> bool
     let d = span(sizes);
     let mut i = 0;
     while i < m {
-        if !crate::checks::row_right(crate::stores::row_at(store, i * 320), m, d) {
+        if !crate::checks::row_right(crate::stores::row_at(store, i * ROW), m, d) {
             return false;
         }
         i += 1;
@@ -67,8 +71,8 @@ pub fn rows_right(store: &[i64], sizes: Sizes) -> bool
 
 // The relation from a place on: its n0 within ±C, and its row.
 fn relation_right(store: &[i64], at: usize, m: usize, span: usize) -> bool
-    requires { ⌜ at + 321 ≤ length (now store) ⌝ }
-    ensures { λ r. ⌜ r ≡ relationTest m span (Stores.relationOf (take 321 (drop at (now (store .entry))))) ⌝ }
+    requires { ⌜ at + relationLength ≤ length (now store) ⌝ }
+    ensures { λ r. ⌜ r ≡ relationTest m span (Stores.relationOf (take relationLength (drop at (now (store .entry))))) ⌝ }
 {
     if !integers::within_bound(store[at]) {
         return false;
@@ -85,7 +89,7 @@ pub fn relations_right(store: &[i64], sizes: Sizes, count: usize) -> bool
     let d = span(sizes);
     let mut k = 0;
     while k < count {
-        if !relation_right(store, k * 321, m, d) {
+        if !relation_right(store, k * RELATION, m, d) {
             return false;
         }
         k += 1;
@@ -98,7 +102,7 @@ pub fn lengths_right(rows: &[i64], relations: &[i64], m: usize) -> bool
     requires { ⌜ m ≤ 4 ⌝ }
     ensures { λ r. ⌜ r ≡ Stores.lengthsRight m (now (rows .entry)) (now (relations .entry)) ⌝ }
 {
-    m * 320 <= rows.len() && 5136 <= relations.len()
+    m * ROW <= rows.len() && RELATIONS <= relations.len()
 }
 
 // The rows, the relations in use, and zeros in the places behind those (SCOPE 3.13, 3.34).
@@ -113,8 +117,8 @@ fn numbers_right(rows: &[i64], relations: &[i64], sizes: Sizes, count: usize) ->
     if !relations_right(relations, sizes, count) {
         return false;
     }
-    let from = count * 321;
-    crate::checks::unused_zero(&relations[from..5136])
+    let from = count * RELATION;
+    crate::checks::unused_zero(&relations[from..RELATIONS])
 }
 
 // The number of the first check that fails, or 0 (SCOPE 3.31).

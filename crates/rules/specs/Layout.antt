@@ -222,7 +222,7 @@ relationOf-relationNumbers e h = λ i. record { index = e .index; row = rowOf-co
 
 pub relationNumbers-relationOf : (l : List ℤ) → length l ≡ relationLength → relationNumbers (relationOf l) ≡ l
 unfolding relationOf relationNumbers
-relationNumbers-relationOf [] h = absurd (suc-ne-zero 320 (sym h))
+relationNumbers-relationOf [] h = absurd (suc-ne-zero rowLength (sym h))
 relationNumbers-relationOf (a ∷ l) h = ap (λ r. a ∷ r) (coefficientsOf-rowOf-all l (suc-inj h))
 
 pub length-relationNumbers : (e : Relation) → StoreRelation e → length (relationNumbers e) ≡ relationLength

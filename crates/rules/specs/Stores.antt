@@ -4,6 +4,7 @@
 --   Sizes, span              m, l and t; D = l - t
 --   rowOf, rowsOf            the row held by 320 numbers, the rows held by a row store
 --   relationOf, relationsOf  the relation held by 321 numbers, the relations held by a relation store
+--   rowNeed, largestRows, relationNeed   the numbers of a row store, of the largest one, and of a relation store
 --   rowStoreOf, relationStoreOf   the numbers that hold rows; those that hold relations, unused places 0
 --   sizesRight, lengthsRight, numbersRight   the checks for refusals 2, 1 and 5
 --   checkStores              their order
@@ -61,6 +62,10 @@ relationNumbers e = e .index ∷ coefficientsOf (e .row)
 -- The needed part of a row store, and of a relation store whatever its count is (SCOPE 3.11).
 unfoldable pub rowNeed : ℕ → ℕ
 rowNeed m = m * rowLength
+
+-- the largest row store
+abbrev pub largestRows : ℕ
+largestRows = columnCount * rowLength
 
 abbrev pub relationNeed : ℕ
 relationNeed = mostRelations * relationLength

@@ -28,7 +28,7 @@ use lib.Signed.{≤ℤ-refl}
 use lib.ListN.{length, take, getD, set, replicate, length-map}
 use lib.Seq.{take-suc, length-take-le}
 use Rattle.algebra.specs.Polynomials.{T-&&}
-use Rattle.rules.specs.Limits.{small}
+use Rattle.rules.specs.Limits.{relationLength, small}
 use Rattle.rules.specs.Rows.{Row, Relation, every, coefficientsOf, smallRow}
 use Rattle.rules.specs.Elimination.{Side, State, Outcome, going, done, refused, wholeRun, report}
 use Rattle.rules.specs.Lists.{every-append}
@@ -166,8 +166,9 @@ relations-small : (z : Sizes) (relations : List Relation) → T (every (relation
 unfolding relationStoreOf relationRight rowRight smallRow relationNumbers every zeros
 relations-small z relations h =
     rw every-append
-    (T-&& (every small (flatten (map relationNumbers relations))) (every small (replicate ((16 - length relations) * 321) (pos 0))) .1
-    (every-number (relationRight z) relationNumbers numbers relations h, zeros-small ((16 - length relations) * 321)))
+    (T-&& (every small (flatten (map relationNumbers relations)))
+    (every small (replicate ((16 - length relations) * relationLength) (pos 0))) .1
+    (every-number (relationRight z) relationNumbers numbers relations h, zeros-small ((16 - length relations) * relationLength)))
   where
     numbers : (e : Relation) → T (relationRight z e) → T (every small (relationNumbers e))
     numbers e t =

@@ -22,7 +22,7 @@ use lib.ListN.{length, take, drop, getD, set, length-drop}
 use lib.Seq.{paste, length-take-le, take-add, take-take, drop-drop}
 use Rattle.algebra.specs.Integers.{natAbs-negℤ}
 use Rattle.algebra.specs.Polynomials.{T-&&, isZero}
-use Rattle.rules.specs.Limits.{bound, small}
+use Rattle.rules.specs.Limits.{bound, rowLength, relationLength, small}
 use Rattle.rules.specs.Rows.{All, every, coefficientsOf, smallRow, mirrorRow, mirrorRelation}
 use Rattle.rules.specs.Lists.{drop-take, every-append}
 use Rattle.rules.specs.Stores.{parts, rowOf, rowsOf, relationOf, relationsOf, relationNumbers, rowNeed, relationNeed}
@@ -147,7 +147,7 @@ decode-changed k decode g f e (p ∷ ps) h = ap₂ (λ x l. x ∷ l) (e p (h .0)
 abbrev pub mirrorNumbers : ℕ → List ℤ → List ℤ
 mirrorNumbers D p = coefficientsOf (mirrorRow D (rowOf p))
 
-pub mirror-stays : (D : ℕ) → D ≤ 4 → Stays 320 (mirrorNumbers D)
+pub mirror-stays : (D : ℕ) → D ≤ 4 → Stays rowLength (mirrorNumbers D)
 unfolding smallRow
 mirror-stays D few p e s = (length-mirrorRow D p few e, small-mirrorRow D p few e s)
 
@@ -157,14 +157,15 @@ pub record RowsMirrored (m D : ℕ) (before after : List ℤ) : Type 0 where
   pub kept : Kept (rowNeed m) before after
 
 pub rows-mirrored : (m D i : ℕ) (before after : List ℤ) → D ≤ 4 → Within (rowNeed m) before → m ≤ i
-    → Changed 320 m i (mirrorNumbers D) before after → RowsMirrored m D before after
+    → Changed rowLength m i (mirrorNumbers D) before after → RowsMirrored m D before after
 unfolding rowsOf rowNeed
 rows-mirrored m D i before after few w h c =
     record {
       rows =
-          ap (map rowOf) (changed-parts 320 m (mirrorNumbers D) (mirror-stays D few) before after i h c)
-          ∙ decode-changed 320 rowOf (mirrorNumbers D) (mirrorRow D) (λ p. rowOf-mirrorRow D p few) (parts 320 m before)
-          (parts-width 320 m before (w .long));
+          ap (map rowOf) (changed-parts rowLength m (mirrorNumbers D) (mirror-stays D few) before after i h c)
+          ∙ decode-changed rowLength rowOf (mirrorNumbers D) (mirrorRow D) (λ p. rowOf-mirrorRow D p few)
+          (parts rowLength m before)
+          (parts-width rowLength m before (w .long));
       within = c .within;
       kept = c .kept;
     }
@@ -175,39 +176,40 @@ abbrev pub mirrorRelationNumbers : ℕ → List ℤ → List ℤ
 mirrorRelationNumbers D p = relationNumbers (mirrorRelation D (relationOf p))
 
 -- The places in use.
-pub used-within : (count : ℕ) (store : List ℤ) → Listing count store → Within (count * 321) store
+pub used-within : (count : ℕ) (store : List ℤ) → Listing count store → Within (count * relationLength) store
 used-within count store l =
     record {
       long = omega (arith, l .few, l .within .long);
       numbers =
-          subst (λ p. T (every small p)) (take-take (count * 321) relationNeed store (omega (arith, l .few)))
-          (every-part small 0 (count * 321) (take relationNeed store) (l .within .numbers));
+          subst (λ p. T (every small p)) (take-take (count * relationLength) relationNeed store (omega (arith, l .few)))
+          (every-part small 0 (count * relationLength) (take relationNeed store) (l .within .numbers));
     }
 
 -- A relation as it is read from the store: n0 and then a row.
 module _ (store : List ℤ) (at : ℕ) where
   abbrev relation : List ℤ
-  relation = take 321 (drop at store)
+  relation = take relationLength (drop at store)
 
   pub index-small : T (every small relation) → natAbs (getD store at (pos 0)) ≤ bound
   unfolding relationOf
   index-small s = rw (index-at store at) at (small-at relation s 0)
 
-  pub row-small : T (every small relation) → T (every small (take 320 (drop (at + 1) store)))
+  pub row-small : T (every small relation) → T (every small (take rowLength (drop (at + 1) store)))
   row-small s =
-      let row = ap (take 320) (drop-take 1 320 (drop at store)) ∙ take-take 320 320 (drop 1 (drop at store)) (le-refl 320) in
-      subst (λ l. T (every small l)) (row ∙ ap (take 320) (drop-drop 1 at store)) (every-part small 1 320 relation s)
+      let row = ap (take rowLength) (drop-take 1 rowLength (drop at store))
+      ∙ take-take rowLength rowLength (drop 1 (drop at store)) (le-refl rowLength) in
+      subst (λ l. T (every small l)) (row ∙ ap (take rowLength) (drop-drop 1 at store)) (every-part small 1 rowLength relation s)
 
   -- n0 negated and then the row's mirror.
   pub mirror-relation : (D : ℕ)
-      → negℤ (getD store at (pos 0)) ∷ mirrorNumbers D (take 320 (drop (at + 1) store)) ≡ mirrorRelationNumbers D relation
+      → negℤ (getD store at (pos 0)) ∷ mirrorNumbers D (take rowLength (drop (at + 1) store)) ≡ mirrorRelationNumbers D relation
   unfolding relationNumbers mirrorRelation
   mirror-relation D =
       ap₂ (λ n0 r. negℤ n0 ∷ coefficientsOf (mirrorRow D r)) (sym (index-at store at)) (sym (row-after store at))
 
-pub relation-stays : (D : ℕ) → D ≤ 4 → Stays 321 (mirrorRelationNumbers D)
+pub relation-stays : (D : ℕ) → D ≤ 4 → Stays relationLength (mirrorRelationNumbers D)
 unfolding smallRow every small relationNumbers mirrorRelation relationOf
-relation-stays D few [] e s = absurd (suc-ne-zero 320 (sym e))
+relation-stays D few [] e s = absurd (suc-ne-zero rowLength (sym e))
 relation-stays D few (n0 ∷ row) e s =
     let both = T-&& (small n0) (every small row) .0 s in
     let long = suc-inj e in (
@@ -215,7 +217,7 @@ relation-stays D few (n0 ∷ row) e s =
       T-&& (small (negℤ n0)) (every small (mirrorNumbers D row)) .1 (rw natAbs-negℤ (both .0), small-mirrorRow D row few long (both .1)),
     )
 
-relationOf-mirrorRelation : (D : ℕ) → D ≤ 4 → (p : List ℤ) → length p ≡ 321
+relationOf-mirrorRelation : (D : ℕ) → D ≤ 4 → (p : List ℤ) → length p ≡ relationLength
     → relationOf (mirrorRelationNumbers D p) ≡ mirrorRelation D (relationOf p)
 unfolding relationOf relationNumbers mirrorRelation
 relationOf-mirrorRelation D few p e =
@@ -227,24 +229,27 @@ pub record RelationsMirrored (count D : ℕ) (before after : List ℤ) : Type 0 
   pub kept : Kept relationNeed before after
 
 pub relations-mirrored : (count D i : ℕ) (before after : List ℤ) → D ≤ 4 → Listing count before → count ≤ i
-    → Changed 321 count i (mirrorRelationNumbers D) before after → RelationsMirrored count D before after
+    → Changed relationLength count i (mirrorRelationNumbers D) before after → RelationsMirrored count D before after
 unfolding relationsOf
 relations-mirrored count D i before after few l h c =
     record {
       relations =
-          ap (map relationOf) (changed-parts 321 count (mirrorRelationNumbers D) (relation-stays D few) before after i h c)
-          ∙ decode-changed 321 relationOf (mirrorRelationNumbers D) (mirrorRelation D) (relationOf-mirrorRelation D few) (parts 321 count before)
-          (parts-width 321 count before (omega (arith, l .within .long)));
+          ap (map relationOf) (changed-parts relationLength count (mirrorRelationNumbers D)
+          (relation-stays D few) before after i h c)
+          ∙ decode-changed relationLength relationOf (mirrorRelationNumbers D) (mirrorRelation D)
+          (relationOf-mirrorRelation D few) (parts relationLength count before)
+          (parts-width relationLength count before (omega (arith, l .within .long)));
       listing =
           record {
             few = l .few;
-            within = within-longer (count * 321) relationNeed used before after (l .within) (c .within) (c .kept);
+            within = within-longer (count * relationLength) relationNeed used before after (l .within) (c .within) (c .kept);
             unused =
-                subst (λ r. T (isZero r)) (sym (rest-kept (count * 321) relationNeed used before after (l .within) (c .within) (c .kept)))
+                subst (λ r. T (isZero r)) (sym (rest-kept (count * relationLength) relationNeed used before after
+                (l .within) (c .within) (c .kept)))
                 (l .unused);
           };
-      kept = kept-longer (count * 321) relationNeed used before after (l .within) (c .within) (c .kept);
+      kept = kept-longer (count * relationLength) relationNeed used before after (l .within) (c .within) (c .kept);
     }
   where
-    used : count * 321 ≤ relationNeed
+    used : count * relationLength ≤ relationNeed
     used = omega (arith, l .few)

@@ -21,7 +21,7 @@ use lib.IntN.{ℤ, pos, natAbs}
 use lib.ListN.{length, take, getD, length-append, length-reverse, List·getD-append}
 use lib.Seq.{paste, take-suc, getD-at, getD-take, length-take-le}
 use Rattle.algebra.specs.Polynomials.{T-&&}
-use Rattle.rules.specs.Limits.{bound, small}
+use Rattle.rules.specs.Limits.{bound, rowLength, relationLength, small}
 use Rattle.rules.specs.Rows.{Row, Relation, every}
 use Rattle.rules.specs.Elimination.{Side, leading, trailing, listing}
 use Rattle.rules.specs.Lists.{every-append}
@@ -98,8 +98,8 @@ relisted-none count row store h =
 
 -- A relation more, with the index n0.
 relisted-snoc : (count : ℕ) (row l before store : List ℤ) (n0 : ℤ) → Relisted count row l before store
-    → count + length l < 16 → length row ≡ 320 → T (every small (n0 ∷ row))
-    → Relisted count row (l ++ (n0 ∷ [])) before (paste store ((count + length l) * 321) (n0 ∷ row) 321)
+    → count + length l < 16 → length row ≡ rowLength → T (every small (n0 ∷ row))
+    → Relisted count row (l ++ (n0 ∷ [])) before (paste store ((count + length l) * relationLength) (n0 ∷ row) relationLength)
 unfolding relationOf
 relisted-snoc count row l before store n0 h b e s =
     let place = count + length l in
@@ -107,7 +107,7 @@ relisted-snoc count row l before store n0 h b e s =
     let relation : Relation = record { index = n0; row = rowOf row } in
     record {
       relations =
-          ap (λ n. relationsOf n (paste store (place * 321) numbers 321)) size
+          ap (λ n. relationsOf n (paste store (place * relationLength) numbers relationLength)) size
           ∙ relationsOf-paste place store numbers (ap suc e) (room place b (h .listing .within .long))
           ∙ ap (λ r. r ++ (relation ∷ [])) (h .relations)
           ∙ append-assoc (relationsOf count before) (relationsAt (rowOf row) l) (relation ∷ [])
@@ -115,21 +115,23 @@ relisted-snoc count row l before store n0 h b e s =
       listing = rw size (listing-paste place store numbers (h .listing) (ap suc e) s b);
       kept =
           kept-then (h .kept)
-          (kept-paste relationNeed store (h .listing .within) (place * 321) numbers 321 (le-of-eq (sym (ap suc e))) (below place b));
+          (kept-paste relationNeed store (h .listing .within) (place * relationLength) numbers relationLength
+          (le-of-eq (sym (ap suc e))) (below place b));
     }
   where
     size : count + length (l ++ (n0 ∷ [])) ≡ suc (count + length l)
     size = simp length-append (omega arith)
 
-    below : (k : ℕ) → k < 16 → k * 321 + 321 ≤ 5136
+    below : (k : ℕ) → k < 16 → k * relationLength + relationLength ≤ relationNeed
     below k h = omega arith
 
-    room : (k : ℕ) → k < 16 → relationNeed ≤ length store → k * 321 + 321 ≤ length store
+    room : (k : ℕ) → k < 16 → relationNeed ≤ length store → k * relationLength + relationLength ≤ length store
     room k h g = omega arith
 
 pub relisted-more : (count k : ℕ) (row l before store : List ℤ) → Relisted count row (take k l) before store
-    → k < length l → count + k < 16 → length row ≡ 320 → T (every small row) → T (every small l)
-    → Relisted count row (take (k + 1) l) before (paste store ((count + k) * 321) (getD l k (pos 0) ∷ row) 321)
+    → k < length l → count + k < 16 → length row ≡ rowLength → T (every small row) → T (every small l)
+    → Relisted count row (take (k + 1) l) before
+    (paste store ((count + k) * relationLength) (getD l k (pos 0) ∷ row) relationLength)
 unfolding every small
 relisted-more count k row l before store h g b e s t =
     let size : length (take k l) ≡ k = length-take-le k l (omega arith) in

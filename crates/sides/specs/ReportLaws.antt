@@ -28,7 +28,7 @@ use Rattle.algebra.specs.Polynomials.{Polynomial, same-test}
 use Rattle.algebra.specs.Roots.{roots}
 use Rattle.algebra.specs.Order.{≤ℤ-trans, ≤ℤ-total}
 use Rattle.rules.specs.Elimination.{Side, leading, trailing, State, diagonal, diagonalPlace, further, furthest, report}
-use Rattle.rules.specs.Limits.{small}
+use Rattle.rules.specs.Limits.{rowLength, small}
 use Rattle.rules.specs.Rows.{Row, noRow, every}
 use Rattle.rules.specs.Stores.{rowsOf, rowNeed}
 use Rattle.rules.specs.Layout.{length-rowsOf, polynomial-at}
@@ -200,7 +200,7 @@ report-settled side D m store order s e f =
 -- Where the sixteen numbers of diagonal polynomial j begin.
 unfoldable pub diagonalAt : Side → ℕ → List ℕ → ℕ → ℕ
 unfolding diagonalPlace
-diagonalAt side D order j = j * 320 + diagonalPlace side D * 64 + getD order j 0 * 16
+diagonalAt side D order j = j * rowLength + diagonalPlace side D * 64 + getD order j 0 * 16
 
 pub place-below : (side : Side) (D : ℕ) → D ≤ 4 → diagonalPlace side D < 5
 unfolding diagonalPlace
@@ -261,8 +261,8 @@ module _ (side : Side) (D m : ℕ) (store : List ℤ) (order : List ℕ) (enough
     diagonal-small w =
         let b = diagonalPlace side D in
         let c = getD order j 0 in
-        let place : (j * 20 + b * 4 + c) * 16 ≡ j * 320 + b * 64 + c * 16 = omega arith in
-        let all : m * 320 ≡ m * 20 * 16 = omega arith in
+        let place : (j * 20 + b * 4 + c) * 16 ≡ j * rowLength + b * 64 + c * 16 = omega arith in
+        let all : m * rowLength ≡ m * 20 * 16 = omega arith in
         let inside : j * 20 + b * 4 + c < m * 20 = omega (arith, place-below side D few, Columns-at order columns j) in
         subst (λ n. T (every small (take 16 (drop n store)))) place
         (part-small 16 (m * 20) (j * 20 + b * 4 + c) store inside (subst (λ n. Within n store) all w))

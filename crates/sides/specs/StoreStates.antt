@@ -22,7 +22,7 @@ use lib.ListN.{length, take, drop, getD, set, length-drop}
 use lib.Seq.{paste, drop-paste, take-at, drop-at, take-all, take-add, length-take-le, drop-drop, take-suc-set, drop-set-lt, append-snoc}
 use lib.Seq.{take-take, take-append-add, length-paste, length-paste-head}
 use Rattle.algebra.specs.Polynomials.{isZero, isZeroℤ, T-&&}
-use Rattle.rules.specs.Limits.{small}
+use Rattle.rules.specs.Limits.{rowLength, relationLength, small}
 use Rattle.rules.specs.Rows.{every}
 use Rattle.rules.specs.Lists.{every-append, suc-width, map-set}
 use Rattle.rules.specs.Stores.{parts, rowOf, rowsOf, relationOf, relationsOf, relationNeed}
@@ -68,11 +68,11 @@ module _ {A : Type 0} where
       fits : (k ≤ length d) × (n * k ≤ length (drop k d))
       fits = simp length-drop (omega (arith, suc-width n k))
 
-pub rowsOf-paste : (m : ℕ) (store row : List ℤ) (i : ℕ) → length row ≡ 320 → m * 320 ≤ length store → i < m
-    → rowsOf m (paste store (i * 320) row 320) ≡ set (rowsOf m store) i (rowOf row)
+pub rowsOf-paste : (m : ℕ) (store row : List ℤ) (i : ℕ) → length row ≡ rowLength → m * rowLength ≤ length store → i < m
+    → rowsOf m (paste store (i * rowLength) row rowLength) ≡ set (rowsOf m store) i (rowOf row)
 unfolding rowsOf
 rowsOf-paste m store row i e h b =
-    ap (map rowOf) (parts-paste 320 m store row i e h b) ∙ map-set rowOf (parts 320 m store) i row
+    ap (map rowOf) (parts-paste rowLength m store row i e h b) ∙ map-set rowOf (parts rowLength m store) i row
 
 -- ---- relations: one more part at the end
 
@@ -108,11 +108,14 @@ module _ {A : Type 0} where
           ap (λ i. take k (drop at (paste d i s k))) (sym (add-zero at)) ∙ ap (take k) (drop-paste-later d at 0 s k b)
           ∙ ap (take k) (paste-first (drop at d) s k e) ∙ take-at s (drop k (drop at d)) k e
 
-pub relationsOf-paste : (count : ℕ) (store numbers : List ℤ) → length numbers ≡ 321 → count * 321 + 321 ≤ length store
-    → relationsOf (suc count) (paste store (count * 321) numbers 321) ≡ relationsOf count store ++ (relationOf numbers ∷ [])
+pub relationsOf-paste : (count : ℕ) (store numbers : List ℤ) → length numbers ≡ relationLength
+    → count * relationLength + relationLength ≤ length store
+    → relationsOf (suc count) (paste store (count * relationLength) numbers relationLength)
+    ≡ relationsOf count store ++ (relationOf numbers ∷ [])
 unfolding relationsOf
 relationsOf-paste count store numbers e h =
-    ap (map relationOf) (parts-paste-end 321 count store numbers e h) ∙ map-append relationOf (parts 321 count store) (numbers ∷ [])
+    ap (map relationOf) (parts-paste-end relationLength count store numbers e h)
+    ∙ map-append relationOf (parts relationLength count store) (numbers ∷ [])
 
 -- ---- what stays
 
@@ -213,16 +216,21 @@ unused-paste need store at s n g b h z = subst (λ l. T (isZero l)) (sym same) (
         ∙ drop-paste (take need store) at s n (rw (length-take-le need store h) (omega arith)) g ∙ sym (drop-drop n at (take need store))
 
 -- A relation more.
-pub listing-paste : (count : ℕ) (store numbers : List ℤ) → Listing count store → length numbers ≡ 321 → T (every small numbers)
-    → count < 16 → Listing (suc count) (paste store (count * 321) numbers 321)
+pub listing-paste : (count : ℕ) (store numbers : List ℤ) → Listing count store → length numbers ≡ relationLength
+    → T (every small numbers)
+    → count < 16 → Listing (suc count) (paste store (count * relationLength) numbers relationLength)
 listing-paste count store numbers l e h b =
     record {
       few = b;
-      within = within-paste relationNeed store (l .within) (count * 321) numbers 321 (le-of-eq (sym e)) (fits count b) h;
+      within =
+          within-paste relationNeed store (l .within) (count * relationLength) numbers relationLength (le-of-eq (sym e))
+          (fits count b) h;
       unused =
-          subst (λ j. T (isZero (drop j (take relationNeed (paste store (count * 321) numbers 321))))) (sym (suc-mul count 321))
-          (unused-paste relationNeed store (count * 321) numbers 321 (le-of-eq (sym e)) (fits count b) (l .within .long) (l .unused));
+          subst (λ j. T (isZero (drop j (take relationNeed
+          (paste store (count * relationLength) numbers relationLength))))) (sym (suc-mul count relationLength))
+          (unused-paste relationNeed store (count * relationLength) numbers relationLength (le-of-eq (sym e))
+          (fits count b) (l .within .long) (l .unused));
     }
   where
-    fits : (k : ℕ) → k < 16 → k * 321 + 321 ≤ 5136
+    fits : (k : ℕ) → k < 16 → k * relationLength + relationLength ≤ relationNeed
     fits k h = omega arith

@@ -1,4 +1,6 @@
 // Rule 3: relations listed in the relation store.
+use rows::lengths::RELATION;
+use rows::lengths::ROW;
 ghost use mathlib.Core.Path.{_≡_};
 ghost use mathlib.Core.List.{_∷_};
 ghost use Prim.Native.Nat.{_+_, _*_, _≤_, _<_};
@@ -6,7 +8,7 @@ ghost use lib.Dec.{T};
 ghost use lib.IntN.{pos};
 ghost use lib.ListN.{length, getD};
 ghost use lib.Seq.{paste};
-ghost use Rattle.rules.specs.Limits.{small};
+ghost use Rattle.rules.specs.Limits.{relationLength, small};
 ghost use Rattle.rules.specs.Rows.{every};
 ghost use Rattle.rules.specs.Elimination.{listing};
 ghost use Rattle.roots.specs.RootSearch.{held};
@@ -14,11 +16,11 @@ ghost use Rattle.sides.specs.Lent.{sideOf, Listing};
 ghost use Rattle.sides.specs.Relations.{Relisted};
 
 // The relation of the row at n0, at place k of the store.
-pub fn save_relation(relations: &mut [i64], k: usize, n0: i64, row: [i64; 320])
-    requires { ⌜ k * 321 + 321 ≤ length (now relations) ⌝ }
-    ensures { λ _. ⌜ now (relations .exit) ≡ paste (now (relations .entry)) (k * 321) (n0 ∷ row) 321 ⌝ }
+pub fn save_relation(relations: &mut [i64], k: usize, n0: i64, row: [i64; ROW])
+    requires { ⌜ k * relationLength + relationLength ≤ length (now relations) ⌝ }
+    ensures { λ _. ⌜ now (relations .exit) ≡ paste (now (relations .entry)) (k * relationLength) (n0 ∷ row) relationLength ⌝ }
 {
-    let at = k * 321;
+    let at = k * RELATION;
     relations[at] = n0;
     rows::stores::save(relations, at + 1, row);
 }
@@ -43,7 +45,7 @@ pub fn list_roots(
     count: usize,
     found: roots::RootList,
     trailing: bool,
-    row: [i64; 320],
+    row: [i64; ROW],
 )
     requires { ⌜ Listing count (now relations) × (count + found .count ≤ 16) × (length (found .values) ≡ 16) ⌝ }
     requires { ⌜ T (every small (held found)) × T (every small row) ⌝ }

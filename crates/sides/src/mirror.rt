@@ -1,4 +1,6 @@
 // The mirror of what the stores hold, before a run on the trailing side and after it.
+use rows::lengths::RELATION;
+use rows::lengths::ROW;
 ghost use Prim.Native.Nat.{_≤_};
 ghost use Rattle.rules.specs.Stores.{rowNeed};
 ghost use Rattle.sides.specs.Lent.{Within, Listing};
@@ -11,7 +13,7 @@ pub fn mirror_rows(store: &mut [i64], m: usize, span: usize)
 {
     let mut i = 0;
     while i < m {
-        let at = i * 320;
+        let at = i * ROW;
         let row = rows::stores::load(store, at);
         rows::stores::save(store, at, working::mirroring::mirrored(row, span));
         i += 1;
@@ -25,7 +27,7 @@ pub fn mirror_relations(store: &mut [i64], count: usize, span: usize)
 {
     let mut k = 0;
     while k < count {
-        let at = k * 321;
+        let at = k * RELATION;
         let n0 = store[at];
         let row = rows::stores::load(store, at + 1);
         super::listing::save_relation(

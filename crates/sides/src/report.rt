@@ -1,4 +1,5 @@
 // The root report over the rows of a store.
+use rows::lengths::ROW;
 ghost use mathlib.Core.Path.{_≡_};
 ghost use Prim.Native.Nat.{_≤_};
 ghost use lib.Dec.{T};
@@ -67,7 +68,7 @@ pub fn report(
     };
     let mut j = 0;
     while j < m {
-        let from = j * 320 + block * 64 + order[j] * 16;
+        let from = j * ROW + block * 64 + order[j] * 16;
         let to = from + 16;
         answer = further(answer, furthest_root(&store[from..to], trailing), trailing);
         j += 1;

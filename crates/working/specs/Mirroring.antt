@@ -26,7 +26,7 @@ use lib.Seq.{length-take-le, getD-take, getD-drop, getD-at, getD-append-add}
 use Rattle.algebra.specs.Integers.{natAbs-negℤ}
 use Rattle.algebra.specs.Polynomials.{coeff, mirror, length-mirror}
 use Rattle.algebra.specs.Coefficients.{alternate, coeff-mirror}
-use Rattle.rules.specs.Limits.{small}
+use Rattle.rules.specs.Limits.{rowLength, small}
 use Rattle.rules.specs.Rows.{Block, Row, All, every, coefficientsOf, mapRow, smallRow, mirrorRow}
 use Rattle.rules.specs.Lists.{all-getD, getD-all, map-keeps}
 use Rattle.rules.specs.Stores.{rowOf, Shaped, StoreRow}
@@ -139,11 +139,11 @@ number-at l b c k hb hc hk =
     ap (λ p. getD p k (pos 0)) (polynomial-at-row l b c hb hc)
     ∙ getD-take 16 (drop (b * 64 + c * 16) l) k (pos 0) hk ∙ getD-drop (b * 64 + c * 16) l k (pos 0)
 
-pub mirrorPlace-below : (D i : ℕ) → D ≤ 4 → i < 320 → mirrorPlace D i < 320
+pub mirrorPlace-below : (D i : ℕ) → D ≤ 4 → i < rowLength → mirrorPlace D i < rowLength
 unfolding mirrorPlace
 mirrorPlace-below D i few h = omega (arith, mirrorBlock-below D (i / 64) few (omega arith))
 
-module _ (D : ℕ) (l : List ℤ) (few : D ≤ 4) (long : length l ≡ 320) where
+module _ (D : ℕ) (l : List ℤ) (few : D ≤ 4) (long : length l ≡ rowLength) where
   abbrev mirrored : Row
   mirrored = mirrorRow D (rowOf l)
 
@@ -177,13 +177,13 @@ module _ (D : ℕ) (l : List ℤ) (few : D ≤ 4) (long : length l ≡ 320) wher
 
   -- ---- its numbers
 
-  pub length-mirrorRow : length (coefficientsOf mirrored) ≡ 320
+  pub length-mirrorRow : length (coefficientsOf mirrored) ≡ rowLength
   length-mirrorRow = length-coefficientsOf mirrored StoreRow-mirrorRow
 
   pub rowOf-mirrorRow : rowOf (coefficientsOf mirrored) ≡ mirrored
   rowOf-mirrorRow = rowOf-coefficientsOf mirrored StoreRow-mirrorRow
 
-  pub number-mirrorRow : (i : ℕ) → i < 320
+  pub number-mirrorRow : (i : ℕ) → i < rowLength
       → getD (coefficientsOf mirrored) i (pos 0) ≡ alternate (i % 16) (getD l (mirrorPlace D i) (pos 0))
   unfolding mirrorPlace
   number-mirrorRow i h =
@@ -217,7 +217,7 @@ module _ (D : ℕ) (l : List ℤ) (few : D ≤ 4) (long : length l ≡ 320) wher
   unfolding smallRow small
   small-mirrorRow h = every-from-all small (coefficientsOf mirrored) (pos 0) 0 (λ i _ b. each i (rw length-mirrorRow at b))
     where
-      each : (i : ℕ) → i < 320 → T (small (getD (coefficientsOf mirrored) i (pos 0)))
+      each : (i : ℕ) → i < rowLength → T (small (getD (coefficientsOf mirrored) i (pos 0)))
       each i b =
           let source : mirrorPlace D i < length l = rw long (mirrorPlace-below D i few b) in
           rw (number-mirrorRow i b, natAbs-alternate) (every-from-at small l (pos 0) 0 h (mirrorPlace D i) zero-le source)

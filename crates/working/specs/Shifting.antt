@@ -17,6 +17,7 @@ use lib.Seq.{drop-at, drop-drop}
 use Rattle.algebra.specs.Polynomials.{Polynomial, isZero, shift, shiftBy, length-shift, isZero-append, isZero-shift, T-&&}
 use Rattle.rules.specs.Rows.{Block, Row, All, mapRow, coefficientsOf, blank, leadingBlock, shiftUp}
 use Rattle.rules.specs.Lists.{append-all, map-keeps, flatten-append, length-flatten}
+use Rattle.rules.specs.Limits.{rowLength}
 use Rattle.rules.specs.Stores.{parts, rowOf, StoreRow}
 use Rattle.rules.specs.Elimination.{within, limitCoefficients}
 use Rattle.rules.specs.Layout.{parts-length, parts-width, getD-parts, length-coefficientsOf}
@@ -63,7 +64,7 @@ blank-zero (p ∷ ps) = step (shift (map (λ _. pos 0) p)) _ (rw (isZero-shift (
     step : (q r : Polynomial) → T (isZero q) → T (isZero r) → T (isZero (q ++ r))
     step q r y z = rw (isZero-append q r) (T-&& (isZero q) (isZero r) .1 (y, z))
 
-module _ (l : List ℤ) (long : length l ≡ 320) where
+module _ (l : List ℤ) (long : length l ≡ rowLength) where
   below-width : All (λ p. length p ≡ 16) (map shift (below l))
   unfolding below
   below-width = map-width shift length-shift 16 (parts 16 16 (drop 64 l)) (parts-width 16 16 (drop 64 l) (rw length-drop (omega arith)))
@@ -91,7 +92,7 @@ module _ (l : List ℤ) (long : length l ≡ 320) where
       length-flatten 16 (map shift (below l)) below-width
       ∙ ap (λ n. n * 16) (length-map (below l) shift ∙ parts-length 16 16 (drop 64 l))
 
-  pub length-shiftUp : length (coefficientsOf (shiftUp (rowOf l))) ≡ 320
+  pub length-shiftUp : length (coefficientsOf (shiftUp (rowOf l))) ≡ rowLength
   length-shiftUp = length-coefficientsOf (shiftUp (rowOf l)) StoreRow-shiftUp
 
   pub shiftUp-rest : T (isZero (drop 256 (coefficientsOf (shiftUp (rowOf l)))))

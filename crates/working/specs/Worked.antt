@@ -19,7 +19,7 @@ use native.Mathlib.Omega.{arith}
 use lib.Dec.{T}
 use lib.IntN.{ℤ, pos}
 use lib.ListN.{length, replicate}
-use Rattle.rules.specs.Limits.{small}
+use Rattle.rules.specs.Limits.{rowLength, small}
 use Rattle.rules.specs.Rows.{Block, Row, All, every, coefficientsOf, smallRow}
 use Rattle.rules.specs.Stores.{rowOf, Shaped, StoreRow}
 use Rattle.rules.specs.Layout.{rowOf-coefficientsOf, length-coefficientsOf}
@@ -33,7 +33,7 @@ refusalOf (beyond n) = n
 unfoldable pub numbersOf : Limited → List ℤ
 unfolding coefficientsOf
 numbersOf (within r) = coefficientsOf r
-numbersOf (beyond n) = replicate 320 (pos 0)
+numbersOf (beyond n) = replicate rowLength (pos 0)
 
 abbrev pub Shown : ℕ → List ℤ → Limited → Type 0
 Shown refusal numbers x = (refusal ≡ refusalOf x) × (numbers ≡ numbersOf x)
@@ -49,11 +49,11 @@ refusal-limit r = go (every small (coefficientsOf r))
     go false = refl
 
 numbers-limit : (r : Row)
-    → numbersOf (limitCoefficients r) ≡ cond (every small (coefficientsOf r)) (coefficientsOf r) (replicate 320 (pos 0))
+    → numbersOf (limitCoefficients r) ≡ cond (every small (coefficientsOf r)) (coefficientsOf r) (replicate rowLength (pos 0))
 unfolding numbersOf limitCoefficients smallRow
 numbers-limit r = go (every small (coefficientsOf r))
   where
-    go : (t : Bool) → numbersOf (cond t (within r) (beyond 8)) ≡ cond t (coefficientsOf r) (replicate 320 (pos 0))
+    go : (t : Bool) → numbersOf (cond t (within r) (beyond 8)) ≡ cond t (coefficientsOf r) (replicate rowLength (pos 0))
     go true = refl
     go false = refl
 
@@ -62,21 +62,21 @@ module _ (r : Row) (l : List ℤ) (held : coefficientsOf r ≡ l) where
   limit-refusal : refusalOf (limitCoefficients r) ≡ cond (every small l) 0 8
   limit-refusal = refusal-limit r ∙ ap (λ m. cond (every small m) 0 8) held
 
-  limit-numbers : numbersOf (limitCoefficients r) ≡ cond (every small l) l (replicate 320 (pos 0))
-  limit-numbers = numbers-limit r ∙ ap (λ m. cond (every small m) m (replicate 320 (pos 0))) held
+  limit-numbers : numbersOf (limitCoefficients r) ≡ cond (every small l) l (replicate rowLength (pos 0))
+  limit-numbers = numbers-limit r ∙ ap (λ m. cond (every small m) m (replicate rowLength (pos 0))) held
 
   pub limit-same : (q : Row) → coefficientsOf q ≡ l → (n : ℕ) (m : List ℤ)
       → Shown n m (limitCoefficients q) → Shown n m (limitCoefficients r)
   limit-same q same n m h = (
     h .0 ∙ refusal-limit q ∙ ap (λ k. cond (every small k) 0 8) same ∙ sym limit-refusal,
-    h .1 ∙ numbers-limit q ∙ ap (λ k. cond (every small k) k (replicate 320 (pos 0))) same ∙ sym limit-numbers,
+    h .1 ∙ numbers-limit q ∙ ap (λ k. cond (every small k) k (replicate rowLength (pos 0))) same ∙ sym limit-numbers,
   )
 
 pub limit-within : (r : Row) (l : List ℤ) → coefficientsOf r ≡ l → every small l ≡ true → Shown 0 l (limitCoefficients r)
 limit-within r l held e = rw (limit-refusal r l held, limit-numbers r l held, e) (refl, refl)
 
 pub limit-beyond : (r : Row) (l : List ℤ) → coefficientsOf r ≡ l → every small l ≡ false
-    → Shown 8 (replicate 320 (pos 0)) (limitCoefficients r)
+    → Shown 8 (replicate rowLength (pos 0)) (limitCoefficients r)
 limit-beyond r l held e = rw (limit-refusal r l held, limit-numbers r l held, e) (refl, refl)
 
 -- ---- rows within the limits
@@ -84,7 +84,7 @@ limit-beyond r l held e = rw (limit-refusal r l held, limit-numbers r l held, e)
 -- The numbers of r hold it, and they are within ±C.
 pub record Held (r : Row) : Type 0 where
   pub numbers : rowOf (coefficientsOf r) ≡ r
-  pub long : length (coefficientsOf r) ≡ 320
+  pub long : length (coefficientsOf r) ≡ rowLength
   pub within-bound : T (every small (coefficientsOf r))
 
 limit-cases : (t : Bool) (q r : Row) → cond t (within q) (beyond 8) ≡ within r → (q ≡ r) × (t ≡ true)

@@ -1,4 +1,5 @@
 // Zero test, width, leading entries and their first nonzero column.
+use rows::lengths::ROW;
 ghost use mathlib.Core.Path.{_≡_};
 ghost use mathlib.Core.List.{map};
 ghost use Prim.Native.Nat.{_≤_};
@@ -7,14 +8,14 @@ ghost use Rattle.rules.specs.Rows as Rows;
 ghost use Rattle.rules.specs.Stores.{rowOf};
 ghost use Rattle.working.specs.Found.{foundOr, Columns};
 
-pub fn is_zero_row(row: [i64; 320]) -> bool
+pub fn is_zero_row(row: [i64; ROW]) -> bool
     ensures { λ r. ⌜ r ≡ Rows.zeroRow (rowOf row) ⌝ }
 {
     polynomials::content::is_zero(&row[..])
 }
 
 // The blocks from l down to the lowest nonzero one are counted; there is none in a zero row (SCOPE 2.1).
-pub fn width(row: [i64; 320]) -> usize
+pub fn width(row: [i64; ROW]) -> usize
     ensures { λ r. ⌜ r ≡ Rows.width (rowOf row) ⌝ }
 {
     let numbers = &row[..];
@@ -32,7 +33,7 @@ pub fn width(row: [i64; 320]) -> usize
 
 // The lowest column with a nonzero leading entry (SCOPE 2.51) comes out of the loop by break (SCOPE 8.8); 4 if the
 // leading block is zero.
-pub fn first_column(row: [i64; 320]) -> usize
+pub fn first_column(row: [i64; ROW]) -> usize
     ensures { λ r. ⌜ r ≡ foundOr 4 (Rows.firstNonzero (Rows.leadingBlock (rowOf row))) ⌝ }
 {
     let mut i = 0;
@@ -49,7 +50,7 @@ pub fn first_column(row: [i64; 320]) -> usize
 }
 
 // The first settled row whose column meets a nonzero leading entry of the row, or `settled` (SCOPE 2.21, 2.26).
-pub fn first_met(row: [i64; 320], order: [usize; 4], settled: usize) -> usize
+pub fn first_met(row: [i64; ROW], order: [usize; 4], settled: usize) -> usize
     requires { ⌜ (settled ≤ 4) × Columns order ⌝ }
     ensures { λ r. ⌜ r ≡ foundOr settled (Rows.firstNonzero (map (Rows.entry (rowOf row)) (take settled order))) ⌝ }
 {

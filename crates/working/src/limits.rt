@@ -1,4 +1,5 @@
 // The limit of the coefficients, on the numbers of a row.
+use rows::lengths::ROW;
 ghost use mathlib.Core.Path.{_≡_};
 ghost use Rattle.rules.specs.Stores.{rowOf};
 ghost use Rattle.rules.specs.Elimination.{limitCoefficients};
@@ -7,11 +8,11 @@ ghost use Rattle.working.specs.Worked.{refusalOf, numbersOf};
 // A new row, or the number of the limit that it breaks and zeros.
 pub struct Worked {
     pub refusal: u8,
-    pub row: [i64; 320],
+    pub row: [i64; ROW],
 }
 
 // A coefficient past ±C is refused with 8 (SCOPE 2.44, 2.63).
-pub fn limited(row: [i64; 320]) -> Worked
+pub fn limited(row: [i64; ROW]) -> Worked
     ensures { λ r. ⌜ r .refusal ≡ refusalOf (limitCoefficients (rowOf row)) ⌝ }
     ensures { λ r. ⌜ r .row ≡ numbersOf (limitCoefficients (rowOf row)) ⌝ }
 {
@@ -20,7 +21,7 @@ pub fn limited(row: [i64; 320]) -> Worked
     } else {
         Worked {
             refusal: 8,
-            row: [0; 320],
+            row: [0; ROW],
         }
     }
 }

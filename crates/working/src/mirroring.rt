@@ -1,4 +1,5 @@
 // The mirror: block -s for s and -n for n.
+use rows::lengths::ROW;
 ghost use mathlib.Core.Path.{_≡_};
 ghost use Prim.Native.Nat.{_^_, _≤_, _<_};
 ghost use lib.Dec.{T};
@@ -29,13 +30,13 @@ fn alternated(a: i64, power: usize) -> i64
 }
 
 // The row with block -s for s and -n for n (SCOPE 2.91).
-pub fn mirrored(row: [i64; 320], span: usize) -> [i64; 320]
+pub fn mirrored(row: [i64; ROW], span: usize) -> [i64; ROW]
     requires { ⌜ (span ≤ 4) × T (every small row) ⌝ }
     ensures { λ r. ⌜ r ≡ coefficientsOf (mirrorRow span (rowOf row)) ⌝ }
 {
-    let mut result = [0i64; 320];
+    let mut result = [0i64; ROW];
     let mut i = 0;
-    while i < 320 {
+    while i < ROW {
         let from = mirrored_block(i / 64, span) * 64 + i % 64;
         result[i] = alternated(row[from], i % 16);
         i += 1;

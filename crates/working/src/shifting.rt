@@ -1,10 +1,11 @@
 // Rule 6: a row shifted up by one block, and its limit.
+use rows::lengths::ROW;
 ghost use mathlib.Core.Path.{_≡_};
 ghost use Prim.Native.Nat.{_+_};
 ghost use lib.Dec.{T};
 ghost use lib.ListN.{length};
 ghost use Rattle.algebra.specs.Polynomials.{shift};
-ghost use Rattle.rules.specs.Limits.{small};
+ghost use Rattle.rules.specs.Limits.{rowLength, small};
 ghost use Rattle.rules.specs.Rows.{every, shiftUp, coefficientsOf};
 ghost use Rattle.rules.specs.Stores.{rowOf};
 ghost use Rattle.rules.specs.Elimination.{limitCoefficients};
@@ -25,11 +26,11 @@ fn put_shifted(place: &mut [i64], table: &[[i64; 16]; 16], p: &[i64])
 
 // Block b of the new row is block b + 1 of the old one with n + 1 for n; the last block is zero. Nothing is done for
 // polynomials that are zero.
-fn moved_up(table: &[[i64; 16]; 16], row: &[i64]) -> [i64; 320]
-    requires { ⌜ T (followsRule (now table)) × (length (now row) ≡ 320) × T (every small (now row)) ⌝ }
+fn moved_up(table: &[[i64; 16]; 16], row: &[i64]) -> [i64; ROW]
+    requires { ⌜ T (followsRule (now table)) × (length (now row) ≡ rowLength) × T (every small (now row)) ⌝ }
     ensures { λ r. ⌜ r ≡ coefficientsOf (shiftUp (rowOf (now (row .entry)))) ⌝ }
 {
-    let mut moved = [0i64; 320];
+    let mut moved = [0i64; ROW];
     let mut e = 0;
     while e < 16 {
         let at = e * 16;
@@ -46,7 +47,7 @@ fn moved_up(table: &[[i64; 16]; 16], row: &[i64]) -> [i64; 320]
 }
 
 // The row one block further up, with n + 1 for n; a coefficient past ±C is refused with 8 (SCOPE 2.61, 2.63).
-pub fn shifted(row: [i64; 320]) -> crate::limits::Worked
+pub fn shifted(row: [i64; ROW]) -> crate::limits::Worked
     requires { ⌜ T (every small row) ⌝ }
     ensures { λ r. ⌜ r .refusal ≡ refusalOf (limitCoefficients (shiftUp (rowOf row))) ⌝ }
     ensures { λ r. ⌜ r .row ≡ numbersOf (limitCoefficients (shiftUp (rowOf row))) ⌝ }

@@ -24,7 +24,7 @@ use lib.ListN.{length, take, drop, getD, length-take, length-drop}
 use lib.Seq.{sets, sets-eq, drop-cons}
 use Rattle.algebra.specs.Order.{≤ℤ-trans, natAbs-≤-iff}
 use Rattle.algebra.specs.Polynomials.{T-&&}
-use Rattle.rules.specs.Limits.{small}
+use Rattle.rules.specs.Limits.{rowLength, relationLength, small}
 use Rattle.rules.specs.Rows.{every, smallRow}
 use Rattle.rules.specs.Stores.{Sizes, span, parts, rowOf, rowsOf, relationOf, relationsOf, relationNeed, rowNeed}
 use Rattle.rules.specs.Stores.{sizesRight, countRight, unusedZero, rowRight, relationRight, checkStores}
@@ -52,13 +52,13 @@ chosen-zero false n = (λ e. absurd (suc-ne-zero 1 e), λ h. absurd (h .0))
 -- What the checks tell the writer.
 pub record Checked (z : Sizes) (count : ℕ) (rowStore relationStore : List ℤ) : Type 0 where
   pub columns : z .m ≤ 4
-  pub rows : z .m * 320 ≤ length rowStore
+  pub rows : z .m * rowLength ≤ length rowStore
   pub blocks : natAbs (z .l) ≤ 64
   pub few : count ≤ 16
-  pub relations : count * 321 ≤ length relationStore
+  pub relations : count * relationLength ≤ length relationStore
   pub low : natAbs (z .t) ≤ 64
-  pub row-numbers : SmallParts 320 (z .m) rowStore
-  pub relation-numbers : SmallParts 321 count relationStore
+  pub row-numbers : SmallParts rowLength (z .m) rowStore
+  pub relation-numbers : SmallParts relationLength count relationStore
 
 -- What all parts of a store pass, part i passes.
 held-every : {B : Type 0} (t : B → Bool) (f : List ℤ → B) (k n : ℕ) (l : List ℤ) → T (every t (map f (parts k n l)))
@@ -69,12 +69,13 @@ held-every t f k n l h i g =
     (rw (held-next f k n l i g) at (every-drop t i (map f (parts k n l)) h))
     .0
 
-row-small : (z : Sizes) (part : List ℤ) → length part ≡ 320 → T (rowRight z (rowOf part)) → T (every small part)
+row-small : (z : Sizes) (part : List ℤ) → length part ≡ rowLength → T (rowRight z (rowOf part)) → T (every small part)
 unfolding rowRight smallRow
 row-small z part h right =
     rw (coefficientsOf-rowOf-all part h) at (T-&& (smallRow (rowOf part)) (unusedZero (z .m) (span z) (rowOf part)) .0 right .0)
 
-relation-small : (z : Sizes) (part : List ℤ) → length part ≡ 321 → T (relationRight z (relationOf part)) → T (every small part)
+relation-small : (z : Sizes) (part : List ℤ) → length part ≡ relationLength → T (relationRight z (relationOf part))
+    → T (every small part)
 unfolding relationRight relationOf every
 relation-small z part h right =
     let both = T-&& (small (getD part 0 (pos 0))) (rowRight z (rowOf (drop 1 part))) .0 right in
@@ -120,11 +121,13 @@ module _ (z : Sizes) (count : ℕ) (order : List ℕ) (rowStore relationStore : 
         relations = places;
         low = natAbs-≤-iff (z .t) .1 (sizes .low, ≤ℤ-trans (sizes .ordered) (sizes .high));
         row-numbers = λ i h.
-            row-small z (take 320 (drop (i * 320) rowStore)) (simp (length-take, length-drop) (omega (arith, long .0)))
-            (held-every (rowRight z) rowOf 320 (z .m) rowStore (numbers .rows-right) i h);
+            row-small z (take rowLength (drop (i * rowLength) rowStore))
+            (simp (length-take, length-drop) (omega (arith, long .0)))
+            (held-every (rowRight z) rowOf rowLength (z .m) rowStore (numbers .rows-right) i h);
         relation-numbers = λ i h.
-            relation-small z (take 321 (drop (i * 321) relationStore)) (simp (length-take, length-drop) (omega (arith, places)))
-            (held-every (relationRight z) relationOf 321 count relationStore (numbers .relations-right) i h);
+            relation-small z (take relationLength (drop (i * relationLength) relationStore))
+            (simp (length-take, length-drop) (omega (arith, places)))
+            (held-every (relationRight z) relationOf relationLength count relationStore (numbers .relations-right) i h);
       }
     where
       right : StoresRight z count rowStore relationStore
@@ -139,7 +142,7 @@ module _ (z : Sizes) (count : ℕ) (order : List ℕ) (rowStore relationStore : 
       long : (rowNeed (z .m) ≤ length rowStore) × (relationNeed ≤ length relationStore)
       long = lengthsRight-iff (z .m) rowStore relationStore .0 (right .lengths)
 
-      places : count * 321 ≤ length relationStore
+      places : count * relationLength ≤ length relationStore
       places = omega (arith, long .1, countRight-iff count .0 (right .few))
 
 -- ---- the call

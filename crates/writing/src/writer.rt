@@ -1,5 +1,8 @@
 // Writing a sheet. Each writing function stores its bytes from a place on, as far as the store goes, counts them all and gives
 // the next place: called on an empty part of the store it only counts, so that nothing is written before it is known to fit.
+use rows::lengths::RELATION;
+use rows::lengths::ROW;
+
 mod checks;
 
 ghost use mathlib.Core.Path.{_≡_};
@@ -10,14 +13,27 @@ ghost use lib.IntN.{pos, natAbs};
 ghost use lib.Dec.{T};
 ghost use lib.ListN.{length};
 ghost use lib.Seq.{sets};
-ghost use Rattle.rules.specs.Limits.{small};
+ghost use Rattle.rules.specs.Limits.{columnCount, rowLength, relationLength, mostRelations, small};
 ghost use Rattle.rules.specs.Rows.{every};
 ghost use Rattle.rules.specs.Sheets.{trim, blockTerms, termsFrom, equationNumbers, relationLine, orderLine, writeSheet};
 ghost use Rattle.rules.specs.Stores.{parts, rowOf, rowsOf, relationOf, relationsOf};
+ghost use Rattle.writing.specs.Bounds.{numberBytes, countBytes, termBytes, blockBytes, termsBytes, equationBytes, relationBytes};
+ghost use Rattle.writing.specs.Bounds.{sizesBytes, orderBytes, sheetBytes, numberRoom, termRoom, blockRoom, termsRoom};
+ghost use Rattle.writing.specs.Bounds.{equationRoom, relationRoom, sizesRoom};
 ghost use Rattle.writing.specs.Writer.{Put, digitsOf, spaced, SmallParts, Lengths, termAt, numbersOf, nonzeroCount, sheetGiven};
 ghost use Rattle.writing.specs.WriterChecks.{Checked, callOf};
 ghost use Rattle.rules.specs.SheetCalls.{checkWrite, writeCall};
 ghost use Rattle.rows.specs.Validity.{sizesOf};
+
+// The bytes of the longest term, of the longest line of an equation and of a relation, and of the other lines of a sheet together,
+// as in `specs/Bounds.antt`: a space and a number take at most 11 bytes, a space and a count 21.
+const TERM_BYTES: usize = 11 + 2 * 21 + 16 * 11;
+
+const EQUATION_BYTES: usize = 21 + 20 * TERM_BYTES;
+
+const RELATION_BYTES: usize = 11 + EQUATION_BYTES;
+
+const LINES_BYTES: usize = 45 + 2 * 21 + 105;
 
 pub fn put_byte(bytes: &mut [u8], at: usize, b: u8) -> usize
     requires { ⌜ at + 1 < 2 ^ 64 ⌝ }
@@ -87,25 +103,26 @@ fn put_number(bytes: &mut [u8], at: usize, a: i64) -> usize
 
 // A number of a line past the first.
 fn put_next(bytes: &mut [u8], at: usize, a: i64) -> usize
-    requires { ⌜ T (small a) × (at + 22 < 2 ^ 64) ⌝ }
-    ensures { λ r. ⌜ Put (now (bytes .entry)) at (spaced (a ∷ [])) 11 (now (bytes .exit)) r ⌝ }
+    requires { ⌜ T (small a) × (at + numberRoom < 2 ^ 64) ⌝ }
+    ensures { λ r. ⌜ Put (now (bytes .entry)) at (spaced (a ∷ [])) numberBytes (now (bytes .exit)) r ⌝ }
 {
     let next = put_byte(bytes, at, 32);
     put_number(bytes, next, a)
 }
 
 fn put_next_count(bytes: &mut [u8], at: usize, n: usize) -> usize
-    requires { ⌜ at + 21 < 2 ^ 64 ⌝ }
-    ensures { λ r. ⌜ Put (now (bytes .entry)) at (spaced (pos n ∷ [])) 21 (now (bytes .exit)) r ⌝ }
+    requires { ⌜ at + countBytes < 2 ^ 64 ⌝ }
+    ensures { λ r. ⌜ Put (now (bytes .entry)) at (spaced (pos n ∷ [])) countBytes (now (bytes .exit)) r ⌝ }
 {
     let next = put_byte(bytes, at, 32);
     put_digits(bytes, next, n as u64)
 }
 
 fn put_numbers(bytes: &mut [u8], at: usize, numbers: &[i64]) -> usize
-    requires { ⌜ T (every small (now numbers)) × (at + 22 * length (now numbers) < 2 ^ 64) ⌝ }
+    requires { ⌜ T (every small (now numbers)) × (at + numberRoom * length (now numbers) < 2 ^ 64) ⌝ }
     ensures { λ r. ⌜
-        Put (now (bytes .entry)) at (spaced (now (numbers .entry))) (11 * length (now (numbers .entry))) (now (bytes .exit)) r ⌝ }
+        Put (now (bytes .entry)) at (spaced (now (numbers .entry))) (numberBytes * length (now (numbers .entry)))
+        (now (bytes .exit)) r ⌝ }
 {
     let mut next = at;
     let mut i = 0;
@@ -136,8 +153,9 @@ fn trimmed(p: &[i64]) -> usize
 // One term; nothing for a zero polynomial (SCOPE 4.22, 4.52).
 fn put_term(bytes: &mut [u8], at: usize, p: &[i64], n: usize, block: i64, column: usize) -> usize
     requires { ⌜
-        (length (now p) ≡ 16) × (n ≡ length (trim (now p))) × (at + 416 < 2 ^ 64) × T (every small (now p)) × T (small block) ⌝ }
-    ensures { λ r. ⌜ Put (now (bytes .entry)) at (spaced (termAt block column (now (p .entry)))) 229 (now (bytes .exit)) r ⌝ }
+        (length (now p) ≡ 16) × (n ≡ length (trim (now p))) × (at + termRoom < 2 ^ 64) × T (every small (now p))
+        × T (small block) ⌝ }
+    ensures { λ r. ⌜ Put (now (bytes .entry)) at (spaced (termAt block column (now (p .entry)))) termBytes (now (bytes .exit)) r ⌝ }
 {
     if n == 0 {
         return at;
@@ -151,10 +169,10 @@ fn put_term(bytes: &mut [u8], at: usize, p: &[i64], n: usize, block: i64, column
 // The terms of one block, by rising column (SCOPE 4.23).
 fn put_block(bytes: &mut [u8], at: usize, numbers: &[i64], lengths: &[usize], block: i64) -> usize
     requires { ⌜
-        (length (now numbers) ≡ 64) × (length (now lengths) ≡ 4) × Lengths 4 (now numbers) (now lengths) × (at + 1664 < 2 ^ 64)
+        (length (now numbers) ≡ 64) × (length (now lengths) ≡ 4) × Lengths 4 (now numbers) (now lengths) × (at + blockRoom < 2 ^ 64)
         × T (every small (now numbers)) × T (small block) ⌝ }
     ensures { λ r. ⌜
-        Put (now (bytes .entry)) at (spaced (numbersOf (blockTerms block 1 (parts 16 4 (now (numbers .entry)))))) 916
+        Put (now (bytes .entry)) at (spaced (numbersOf (blockTerms block 1 (parts 16 4 (now (numbers .entry)))))) blockBytes
         (now (bytes .exit)) r ⌝ }
 {
     let mut next = at;
@@ -171,10 +189,11 @@ fn put_block(bytes: &mut [u8], at: usize, numbers: &[i64], lengths: &[usize], bl
 // The terms of a row, from block l downward, in each block by rising column (SCOPE 4.23).
 fn put_terms(bytes: &mut [u8], at: usize, row: &[i64], lengths: &[usize], l: i64) -> usize
     requires { ⌜
-        (length (now row) ≡ 320) × (length (now lengths) ≡ 20) × Lengths 20 (now row) (now lengths) × (natAbs l ≤ 64)
-        × (at + 8320 < 2 ^ 64) × T (every small (now row)) ⌝ }
+        (length (now row) ≡ rowLength) × (length (now lengths) ≡ 20) × Lengths 20 (now row) (now lengths) × (natAbs l ≤ 64)
+        × (at + termsRoom < 2 ^ 64) × T (every small (now row)) ⌝ }
     ensures { λ r. ⌜
-        Put (now (bytes .entry)) at (spaced (numbersOf (termsFrom l (rowOf (now (row .entry)) .blocks)))) 4580 (now (bytes .exit)) r ⌝ }
+        Put (now (bytes .entry)) at (spaced (numbersOf (termsFrom l (rowOf (now (row .entry)) .blocks)))) termsBytes
+        (now (bytes .exit)) r ⌝ }
 {
     let mut next = at;
     let mut b = 0;
@@ -198,7 +217,7 @@ fn put_terms(bytes: &mut [u8], at: usize, row: &[i64], lengths: &[usize], l: i64
 // The number of terms of a row, of its polynomials that are not zero (SCOPE 4.52), and the number of coefficients of
 // each.
 fn term_lengths(lengths: &mut [usize], row: &[i64]) -> usize
-    requires { ⌜ (length (now lengths) ≡ 20) × (length (now row) ≡ 320) ⌝ }
+    requires { ⌜ (length (now lengths) ≡ 20) × (length (now row) ≡ rowLength) ⌝ }
     ensures { λ r. ⌜ (r ≡ nonzeroCount (parts 16 20 (now (row .entry)))) × Lengths 20 (now (row .entry)) (now (lengths .exit)) ⌝ }
 {
     let mut terms = 0;
@@ -217,8 +236,9 @@ fn term_lengths(lengths: &mut [usize], row: &[i64]) -> usize
 }
 
 fn put_equation(bytes: &mut [u8], at: usize, row: &[i64], l: i64) -> usize
-    requires { ⌜ (length (now row) ≡ 320) × (natAbs l ≤ 64) × (at + 8341 < 2 ^ 64) × T (every small (now row)) ⌝ }
-    ensures { λ r. ⌜ Put (now (bytes .entry)) at (line (equationNumbers l (rowOf (now (row .entry))))) 4601 (now (bytes .exit)) r ⌝ }
+    requires { ⌜ (length (now row) ≡ rowLength) × (natAbs l ≤ 64) × (at + equationRoom < 2 ^ 64) × T (every small (now row)) ⌝ }
+    ensures { λ r. ⌜
+        Put (now (bytes .entry)) at (line (equationNumbers l (rowOf (now (row .entry))))) equationBytes (now (bytes .exit)) r ⌝ }
 {
     let mut lengths = [0usize; 20];
     let terms = term_lengths(&mut lengths, row);
@@ -229,8 +249,11 @@ fn put_equation(bytes: &mut [u8], at: usize, row: &[i64], l: i64) -> usize
 
 // A line with n0 and an equation (SCOPE 4.14).
 fn put_relation(bytes: &mut [u8], at: usize, numbers: &[i64], l: i64) -> usize
-    requires { ⌜ (length (now numbers) ≡ 321) × (natAbs l ≤ 64) × (at + 8363 < 2 ^ 64) × T (every small (now numbers)) ⌝ }
-    ensures { λ r. ⌜ Put (now (bytes .entry)) at (line (relationLine l (relationOf (now (numbers .entry))))) 4612 (now (bytes .exit)) r ⌝ }
+    requires { ⌜
+        (length (now numbers) ≡ relationLength) × (natAbs l ≤ 64) × (at + relationRoom < 2 ^ 64) × T (every small (now numbers)) ⌝ }
+    ensures { λ r. ⌜
+        Put (now (bytes .entry)) at (line (relationLine l (relationOf (now (numbers .entry))))) relationBytes
+        (now (bytes .exit)) r ⌝ }
 {
     let row = &numbers[1..];
     let mut lengths = [0usize; 20];
@@ -242,16 +265,17 @@ fn put_relation(bytes: &mut [u8], at: usize, numbers: &[i64], l: i64) -> usize
 }
 
 fn put_equations(bytes: &mut [u8], at: usize, rows: &[i64], m: usize, l: i64) -> usize
-    requires { ⌜ (m ≤ 4) × (m * 320 ≤ length (now rows)) × (natAbs l ≤ 64) × (at + 33364 < 2 ^ 64)
-        × SmallParts 320 m (now rows) ⌝ }
+    requires { ⌜ (m ≤ 4) × (m * rowLength ≤ length (now rows)) × (natAbs l ≤ 64) × (at + columnCount * equationRoom < 2 ^ 64)
+        × SmallParts rowLength m (now rows) ⌝ }
     ensures { λ r. ⌜
-        Put (now (bytes .entry)) at (lines (map (equationNumbers l) (rowsOf m (now (rows .entry))))) (m * 4601) (now (bytes .exit)) r ⌝ }
+        Put (now (bytes .entry)) at (lines (map (equationNumbers l) (rowsOf m (now (rows .entry))))) (m * equationBytes)
+        (now (bytes .exit)) r ⌝ }
 {
     let mut next = at;
     let mut i = 0;
     while i < m {
-        let from = i * 320;
-        let to = from + 320;
+        let from = i * ROW;
+        let to = from + ROW;
         next = put_equation(bytes, next, &rows[from..to], l);
         i += 1;
     }
@@ -259,17 +283,17 @@ fn put_equations(bytes: &mut [u8], at: usize, rows: &[i64], m: usize, l: i64) ->
 }
 
 fn put_relations(bytes: &mut [u8], at: usize, relations: &[i64], count: usize, l: i64) -> usize
-    requires { ⌜ (count ≤ 16) × (count * 321 ≤ length (now relations)) × (natAbs l ≤ 64) × (at + 133808 < 2 ^ 64)
-        × SmallParts 321 count (now relations) ⌝ }
+    requires { ⌜ (count ≤ 16) × (count * relationLength ≤ length (now relations)) × (natAbs l ≤ 64)
+        × (at + mostRelations * relationRoom < 2 ^ 64) × SmallParts relationLength count (now relations) ⌝ }
     ensures { λ r. ⌜
-        Put (now (bytes .entry)) at (lines (map (relationLine l) (relationsOf count (now (relations .entry))))) (count * 4612)
+        Put (now (bytes .entry)) at (lines (map (relationLine l) (relationsOf count (now (relations .entry))))) (count * relationBytes)
         (now (bytes .exit)) r ⌝ }
 {
     let mut next = at;
     let mut i = 0;
     while i < count {
-        let from = i * 321;
-        let to = from + 321;
+        let from = i * RELATION;
+        let to = from + RELATION;
         next = put_relation(bytes, next, &relations[from..to], l);
         i += 1;
     }
@@ -278,17 +302,18 @@ fn put_relations(bytes: &mut [u8], at: usize, relations: &[i64], count: usize, l
 
 // A line with one number.
 pub fn put_count(bytes: &mut [u8], at: usize, n: usize) -> usize
-    requires { ⌜ at + 21 < 2 ^ 64 ⌝ }
-    ensures { λ r. ⌜ Put (now (bytes .entry)) at (line (pos n ∷ [])) 21 (now (bytes .exit)) r ⌝ }
+    requires { ⌜ at + countBytes < 2 ^ 64 ⌝ }
+    ensures { λ r. ⌜ Put (now (bytes .entry)) at (line (pos n ∷ [])) countBytes (now (bytes .exit)) r ⌝ }
 {
     let written = put_digits(bytes, at, n as u64);
     put_byte(bytes, written, 10)
 }
 
 fn put_columns(bytes: &mut [u8], at: usize, columns: &[usize]) -> usize
-    requires { ⌜ at + 21 * length (now columns) < 2 ^ 64 ⌝ }
+    requires { ⌜ at + countBytes * length (now columns) < 2 ^ 64 ⌝ }
     ensures { λ r. ⌜
-        Put (now (bytes .entry)) at (spaced (map pos (now (columns .entry)))) (21 * length (now (columns .entry))) (now (bytes .exit)) r ⌝ }
+        Put (now (bytes .entry)) at (spaced (map pos (now (columns .entry)))) (countBytes * length (now (columns .entry)))
+        (now (bytes .exit)) r ⌝ }
 {
     let mut next = at;
     let mut i = 0;
@@ -300,8 +325,8 @@ fn put_columns(bytes: &mut [u8], at: usize, columns: &[usize]) -> usize
 }
 
 fn put_order(bytes: &mut [u8], at: usize, order: &[usize]) -> usize
-    requires { ⌜ (length (now order) ≤ 4) × (at + 105 < 2 ^ 64) ⌝ }
-    ensures { λ r. ⌜ Put (now (bytes .entry)) at (line (orderLine (now (order .entry)))) 105 (now (bytes .exit)) r ⌝ }
+    requires { ⌜ (length (now order) ≤ 4) × (at + orderBytes < 2 ^ 64) ⌝ }
+    ensures { λ r. ⌜ Put (now (bytes .entry)) at (line (orderLine (now (order .entry)))) orderBytes (now (bytes .exit)) r ⌝ }
 {
     let counted = put_digits(bytes, at, order.len() as u64);
     let written = put_columns(bytes, counted, order);
@@ -309,8 +334,8 @@ fn put_order(bytes: &mut [u8], at: usize, order: &[usize]) -> usize
 }
 
 fn put_sizes(bytes: &mut [u8], at: usize, m: usize, l: i64, t: i64) -> usize
-    requires { ⌜ (at + 67 < 2 ^ 64) × T (small l) × T (small t) ⌝ }
-    ensures { λ r. ⌜ Put (now (bytes .entry)) at (line (pos 3 ∷ pos m ∷ l ∷ t ∷ [])) 45 (now (bytes .exit)) r ⌝ }
+    requires { ⌜ (at + sizesRoom < 2 ^ 64) × T (small l) × T (small t) ⌝ }
+    ensures { λ r. ⌜ Put (now (bytes .entry)) at (line (pos 3 ∷ pos m ∷ l ∷ t ∷ [])) sizesBytes (now (bytes .exit)) r ⌝ }
 {
     let after_form = put_byte(bytes, at, 51);
     let after_m = put_next_count(bytes, after_form, m);
@@ -332,7 +357,7 @@ fn put_sheet(
     ensures { λ r. ⌜
         Put (now (bytes .entry)) 0
         (writeSheet (sheetGiven (sizesOf sizes) count (now (columns .entry)) (now (rows .entry)) (now (relations .entry))))
-        (192 + sizes .m * 4601 + count * 4612)
+        (sheetBytes (sizes .m) count)
         (now (bytes .exit)) r ⌝ }
 {
     let m = sizes.m;
@@ -370,7 +395,7 @@ pub fn write_checked(
     let m = sizes.m;
     let n = checks::order_length(order, m);
     let all = &order[..];
-    let longest = 192 + m * 4601 + count * 4612;
+    let longest = LINES_BYTES + m * EQUATION_BYTES + count * RELATION_BYTES;
     if longest <= bytes.len() {
         let length = put_sheet(bytes, rows, relations, sizes, count, &all[..n]);
         return WriteResult { refusal: 0, length };

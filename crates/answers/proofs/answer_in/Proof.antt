@@ -10,7 +10,7 @@ use denote.Ref.{now}
 use lib.IntN.{ℤ}
 use lib.ListN.{length, drop}
 use lib.Seq.{length-take-le}
-use Rattle.rules.specs.Stores.{checkStores}
+use Rattle.rules.specs.Stores.{largestRows, relationNeed, checkStores}
 use Rattle.rules.specs.Calls.{Call, zeros}
 use Rattle.rules.specs.SheetCalls.{ReadCall, WriteCall}
 use Rattle.rows.specs.Validity.{sizesOf}
@@ -22,6 +22,7 @@ use Rattle.writing.specs.WriterChecks as WriterChecks
 use Rattle.answers.specs.Answers.{callOf, unanswered, call-unread, call-refused, call-written, call-checked-read, call-checked-run}
 use Rattle.answers.specs.WorkStores.{Used, unread-same, read-rest, refused-zero, accepted-used}
 use borrow.Author.Needs.{needs}
+use Rattle.rules.specs.Limits.{rowLength, relationLength}
 use Rattle.answers.proofs.answer_in.Statement.{statement}
 use Rattle.answers.proofs.answer_in.Tie as tie
 
@@ -39,11 +40,11 @@ module _ (c : tie.Start) where
   abbrev relations₀ : List ℤ
   relations₀ = now (c .args .relations)
 
-  rows-long : 1280 ≤ length rows₀
-  rows-long = omega (arith, ap length (c .pre .0), length-zeros 1280)
+  rows-long : largestRows ≤ length rows₀
+  rows-long = omega (arith, ap length (c .pre .0), length-zeros largestRows)
 
-  relations-long : 5136 ≤ length relations₀
-  relations-long = omega (arith, ap length (c .pre .1), length-zeros 5136)
+  relations-long : relationNeed ≤ length relations₀
+  relations-long = omega (arith, ap length (c .pre .1), length-zeros relationNeed)
 
 -- The sheet has been read, or refused.
 module _ (c : tie.After-read-own) where
@@ -115,20 +116,21 @@ module _ (c : tie.After-leading-run) where
   abbrev m : ℕ
   m = r e .read-own .result .sizes .m
 
-  rest : drop (m * 320) (rows (r e)) ≡ drop (m * 320) (zeros 1280)
+  rest : drop (m * rowLength) (rows (r e)) ≡ drop (m * rowLength) (zeros largestRows)
   unfolding ReadCalls.callOf resultOf sizesOf
-  rest = read-rest (bytes s) (rows₀ s) (relations₀ s) (readBy (r e)) (r e .read-own .ensures) ∙ ap (drop (m * 320)) (s .pre .0)
+  rest =
+      read-rest (bytes s) (rows₀ s) (relations₀ s) (readBy (r e)) (r e .read-own .ensures) ∙ ap (drop (m * rowLength)) (s .pre .0)
 
-  long : length (relations (r e)) ≡ 5136
-  long = r e .read-own .kept .1 .1 .0 ∙ ap length (s .pre .1) ∙ length-zeros 5136
+  long : length (relations (r e)) ≡ relationNeed
+  long = r e .read-own .kept .1 .1 .0 ∙ ap length (s .pre .1) ∙ length-zeros relationNeed
 
-  rows-after : length (c .leading-run .last .0) ≡ 1280
-  rows-after = c .leading-run .kept .0 ∙ r e .read-own .kept .1 .0 ∙ ap length (s .pre .0) ∙ length-zeros 1280
+  rows-after : length (c .leading-run .last .0) ≡ largestRows
+  rows-after = c .leading-run .kept .0 ∙ r e .read-own .kept .1 .0 ∙ ap length (s .pre .0) ∙ length-zeros largestRows
 
-  relations-after : length (c .leading-run .last .1 .0) ≡ 5136
+  relations-after : length (c .leading-run .last .1 .0) ≡ relationNeed
   relations-after = c .leading-run .kept .1 .0 ∙ long
 
-  zero : ranBy c .result .refusal ≢ 0 → (ranBy c .rowStore ≡ zeros 1280) × (ranBy c .relationStore ≡ zeros 5136)
+  zero : ranBy c .result .refusal ≢ 0 → (ranBy c .rowStore ≡ zeros largestRows) × (ranBy c .relationStore ≡ zeros relationNeed)
   unfolding sizesOf
   zero = refused-zero _ _ _ _ (checked e) rest long (ranBy c) (c .leading-run .ensures)
 
@@ -217,14 +219,15 @@ module _ (c : tie.After-relations3) where
   unfolding sizesOf CallLaws.callOf CallLaws.resultOf
   rows-back =
       c .before .before .before .before .before .clear .ensures
-      ∙ zero-again (m (d w) * 320) 1280 _ (omega (arith, left w .unknowns)) (left w .rows-rest)
+      ∙ zero-again (m (d w) * rowLength) largestRows _ (omega (arith, left w .unknowns)) (left w .rows-rest)
       ∙ sym (s (d w) .pre .0)
 
   relations-back : c .before .clear2 .last .0 ≡ relations₀ (s (d w))
   unfolding sizesOf CallLaws.callOf CallLaws.resultOf
   relations-back =
       c .before .clear2 .ensures
-      ∙ zero-again (d w .leading-run .result .relations * 321) 5136 _ (omega (arith, left w .few)) (left w .relations-rest)
+      ∙ zero-again (d w .leading-run .result .relations * relationLength) relationNeed _ (omega (arith, left w .few))
+      (left w .relations-rest)
       ∙ sym (s (d w) .pre .1)
 
 same-length-5 : tie.Need-same-length-5

@@ -9,6 +9,7 @@ use borrow.Author.Tests.{not-true, not-false}
 use denote.Ref.{now}
 use lib.Dec.{T}
 use lib.ListN.{length}
+use Rattle.rules.specs.Limits.{rowLength}
 use Rattle.rules.specs.Rows.{Row, combine, primitive, cut, lowDegrees, coefficientsOf}
 use Rattle.rules.specs.Stores.{rowOf}
 use Rattle.rules.specs.Layout.{coefficientsOf-rowOf-all}
@@ -64,7 +65,7 @@ returns-2 c =
     let r = combination start in
     let low : lowDegrees r ≡ true = not-false _ (sym (tested .before .past-degree .ensures) ∙ tested .if1 .left) in
     let numbers = c .before .primitive-part .result in
-    let long : length numbers ≡ 320 = search needs in
+    let long : length numbers ≡ rowLength = search needs in
     let held : coefficientsOf (cut (primitive r)) ≡ numbers = cut-primitive r (subst T (sym low) tt)
     ∙ ap primitiveNumbers (cut-low (now (start .args .g)) (now (start .args .h)) (start .args .t3) (start .args .t4)
     (omega arith) (omega arith)

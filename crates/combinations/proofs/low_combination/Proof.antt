@@ -13,6 +13,7 @@ use denote.Ref.{now}
 use lib.IntN.{ℤ, pos}
 use lib.ListN.{length, replicate}
 use Rattle.algebra.specs.Polynomials.{Polynomial, add, mul}
+use Rattle.rules.specs.Limits.{rowLength}
 use Rattle.rules.specs.Rows.{combine, mapRow, coefficientsOf}
 use Rattle.rules.specs.Stores.{rowOf}
 use Rattle.rows.specs.Written.{front, length-front, front-none, front-whole, front-put, front-skip}
@@ -24,7 +25,8 @@ abbrev numbers : Polynomial → Polynomial → List ℤ → List ℤ → List �
 numbers g h target pivot = coefficientsOf (mapRow lowPart (combine g h (rowOf target) (rowOf pivot)))
 
 abbrev Inv-loop : tie.InvT-loop
-Inv-loop g h target pivot a b row₀ e₀ row e = (e ≤ 20) × (length row ≡ 320) × (row ≡ front (numbers g h target pivot) (e * 16))
+Inv-loop g h target pivot a b row₀ e₀ row e =
+    (e ≤ 20) × (length row ≡ rowLength) × (row ≡ front (numbers g h target pivot) (e * 16))
 
 abbrev μ-loop : tie.MeasureT-loop
 μ-loop g h target pivot a b row₀ e₀ row e = 20 - e
@@ -52,7 +54,7 @@ module _ (c : tie.After-both-zero Inv-loop μ-loop) where
   abbrev q : Polynomial
   q = now (c .before .trimmed4 .result)
 
-  full-long : length full ≡ 320
+  full-long : length full ≡ rowLength
   full-long = length-low (now (start .args .g)) (now (start .args .h)) (now (start .args .target)) (now (start .args .pivot))
 
   skipped : not (c .both-zero .result) ≡ false → front full (e * 16) ≡ front full ((e + 1) * 16)

@@ -6,6 +6,8 @@ use native.Mathlib.Omega.{arith}
 use borrow.Author.Needs.{needs}
 use denote.Ref.{now}
 use lib.ListN.{length}
+use Rattle.rules.specs.Limits.{relationLength}
+use Rattle.rules.specs.Stores.{relationNeed}
 use Rattle.rules.specs.Calls.{zeros}
 use Rattle.rows.specs.Validity.{sizesOf}
 use Rattle.reading.specs.Zeros.{length-zeros, take-zeros}
@@ -38,7 +40,7 @@ head c = c .before .before .before .head-at .ensures .0 .read (c .if1 .left)
 
 -- As many numbers as the relations need.
 abbrev used : tie.Else1 → ℕ
-used c = c .before .before .before .head-at .result .relations * 321
+used c = c .before .before .before .head-at .result .relations * relationLength
 
 mul-used : tie.Need-mul-used
 mul-used c = omega (arith, head (c .before) .few)
@@ -77,13 +79,19 @@ slice-aggregate-fill-4 : tie.Need-slice-aggregate-fill-4
 unfolding zeros
 slice-aggregate-fill-4 c =
     let e = c .before .before .before .before in
-    sym (ap length (take-zeros (used e) 5136 (omega (arith, head e .few))) ∙ length-zeros (used e))
+    sym (ap length (take-zeros (used e) relationNeed (omega (arith, head e .few))) ∙ length-zeros (used e))
 
 fill-requires-2 : tie.Need-fill-requires-2
 unfolding zeros
 fill-requires-2 c κs =
-    let e = c .before .before .before .before .before .before in
-    (head e, (omega (arith, e .before .before .before .head-at .kept .1 .0), take-zeros (used e) 5136 (omega (arith, head e .few))))
+    let e = c .before .before .before .before .before .before in (
+      head e,
+      (
+        omega (arith, e .before .before .before .head-at .kept .1 .0),
+        take-zeros (used e) relationNeed
+            (omega (arith, head e .few)),
+      ),
+    )
 
 same-length-3 : tie.Need-same-length-3
 same-length-3 c = search needs

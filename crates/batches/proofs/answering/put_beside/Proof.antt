@@ -10,6 +10,7 @@ use denote.Ref.{now}
 use lib.ListN.{length, take, drop, replicate, length-replicate, length-drop}
 use lib.Seq.{length-take-le, take-length}
 use Rattle.rules.specs.Calls.{overwrite}
+use Rattle.rules.specs.Batch.{mostBytes}
 use Rattle.frames.specs.Bounds.{text-fits}
 use Rattle.frames.specs.Pieces.{refusalLine}
 use Rattle.batches.specs.Answering.{made-within, beside-call, beside-unput}
@@ -18,10 +19,10 @@ use Rattle.batches.proofs.answering.put_beside.Statement.{statement}
 use Rattle.batches.proofs.answering.put_beside.Tie as tie
 
 abbrev beside : List ℕ
-beside = replicate 65536 0
+beside = replicate mostBytes 0
 
-long : 65536 ≤ length beside
-long = omega (arith, length-replicate {A = ℕ} 65536 0)
+long : mostBytes ≤ length beside
+long = omega (arith, length-replicate {A = ℕ} mostBytes 0)
 
 -- The answer has been made, and its line.
 module _ (c : tie.After-refusal-line) where
@@ -55,7 +56,7 @@ refusal-line-requires : tie.Need-refusal-line-requires
 refusal-line-requires c κs = search needs
 
 add-written : tie.Need-add-written
-add-written c = omega (arith, line-few c, within c, length-replicate {A = ℕ} 65536 0)
+add-written c = omega (arith, line-few c, within c, length-replicate {A = ℕ} mostBytes 0)
 
 same-length : tie.Need-same-length
 same-length c = search needs

@@ -9,6 +9,7 @@ use mathlib.Core.List.{List}
 use borrow.Rule.Slice.PartMut.{same-len-mid}
 use denote.Ref.{now}
 use lib.ListN.{length}
+use Rattle.rules.specs.Stores.{largestRows, relationNeed}
 use Rattle.rules.specs.Calls.{zeros}
 use Rattle.batches.specs.Turns.{Sofar, sofar-none, sofar-length, sofar-bounds, sofar-stops, sofar-goes}
 use Rattle.batches.proofs.feeding.sheets.Statement.{statement}
@@ -16,7 +17,7 @@ use Rattle.batches.proofs.feeding.sheets.Tie as tie
 
 abbrev Inv-loop : tie.InvT-loop
 Inv-loop bytes output₀ rows₀ relations₀ b₀ at₀ out₀ output rows relations b at out =
-    Sofar b₀ bytes output₀ b at out output × (rows ≡ zeros 1280) × (relations ≡ zeros 5136)
+    Sofar b₀ bytes output₀ b at out output × (rows ≡ zeros largestRows) × (relations ≡ zeros relationNeed)
 
 abbrev μ-loop : tie.MeasureT-loop
 μ-loop bytes output₀ rows₀ relations₀ b₀ at₀ out₀ output rows relations b at out = b .left
@@ -40,10 +41,10 @@ module _ (c : tie.After-next-turn Inv-loop μ-loop) where
       × (place .loop .out + c .next-turn .result .fed .written ≤ length (now (start .args .output)))
   bounds = sofar-bounds sofar (c .next-turn .result) after (c .next-turn .ensures .0)
 
-  rows-zero : c .next-turn .last .1 .1 .1 .0 ≡ zeros 1280
+  rows-zero : c .next-turn .last .1 .1 .1 .0 ≡ zeros largestRows
   rows-zero = c .next-turn .ensures .1 .0 ∙ place .loop .inv .1
 
-  relations-zero : c .next-turn .last .1 .1 .1 .1 .0 ≡ zeros 5136
+  relations-zero : c .next-turn .last .1 .1 .1 .1 .0 ≡ zeros relationNeed
   relations-zero = c .next-turn .ensures .1 .1 ∙ place .loop .inv .2
 
 loop-holds : tie.Need-loop-holds Inv-loop μ-loop

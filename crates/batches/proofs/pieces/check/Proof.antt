@@ -7,7 +7,7 @@ use borrow.Author.Tests.{le-leb, lt-leb}
 use denote.Ref.{now}
 use lib.ListN.{length}
 use lib.Seq.{length-take-le}
-use Rattle.batches.specs.PieceCalls.{streamRight, streamCheck}
+use Rattle.batches.specs.PieceCalls.{heldNeed, streamRight, streamCheck}
 use Rattle.batches.specs.PieceSteps.{right-few, not-false, not-true}
 use borrow.Author.Needs.{needs}
 use Rattle.batches.proofs.pieces.check.Statement.{statement}
@@ -28,7 +28,7 @@ returns-2 : tie.Need-returns-2
 unfolding streamCheck
 returns-2 c =
     let args = c .before .before .before .before .args in
-    rw (right (c .before), lt-leb 32792 (length (now (args .held))) (c .if2 .taken))
+    rw (right (c .before), lt-leb heldNeed (length (now (args .held))) (c .if2 .taken))
 
 slice-aggregate-waits-with : tie.Need-slice-aggregate-waits-with
 slice-aggregate-waits-with c =
@@ -45,7 +45,7 @@ returns-3 c =
     let args = c .before .before .before .before .before .before .before .before .args in
     rw (
       right (c .before .before .before .before .before),
-      le-leb 32792 (length (now (args .held)))
+      le-leb heldNeed (length (now (args .held)))
           (c .before .before .before .before .if2 .left),
       sym (c .before .waits-with .ensures) ∙ c .if3 .taken,
     )
@@ -56,7 +56,7 @@ returns-4 c =
     let args = c .before .before .before .before .before .before .before .before .args in
     rw (
       right (c .before .before .before .before .before),
-      le-leb 32792 (length (now (args .held)))
+      le-leb heldNeed (length (now (args .held)))
           (c .before .before .before .before .if2 .left),
       sym (c .before .waits-with .ensures) ∙ c .if3 .left,
     )

@@ -10,7 +10,7 @@ use lib.ListN.{length, take, drop, length-drop}
 use lib.Seq.{take-length, length-take-le}
 use Rattle.rules.specs.Calls.{overwrite}
 use Rattle.batches.specs.Feeds.{feedCall}
-use Rattle.batches.specs.PieceCalls.{callOf}
+use Rattle.batches.specs.PieceCalls.{heldNeed, callOf}
 use Rattle.batches.specs.PieceLaws.{Right, check-right}
 use Rattle.batches.specs.PieceSteps.{untakenOf, restOf}
 use Rattle.batches.specs.Turns.{fedOf}
@@ -66,7 +66,7 @@ module _ (c : tie.After-feed) where
   told : fedOf (c .feed .result) after
       ≡ feedCall (from-start .args .s .stage) (from-start .args .s .batch)
       (take (from-start .args .s .held) (store copied) ++ take
-      (min (length (now (from-start .args .input))) (32792 - from-start .args .s .held)) (now (from-start .args .input)))
+      (min (length (now (from-start .args .input))) (heldNeed - from-start .args .s .held)) (now (from-start .args .input)))
       (now (from-start .args .output))
   told =
       c .feed .ensures .0
@@ -150,7 +150,7 @@ rest-piece-requires c κs =
     let from = held-from (from-start fed .args .s) (store (copied fed)) (now (from-start fed .args .input))
     (now (from-start fed .args .output)) (from-start fed .pre .0) (from-start fed .pre .1) (fed .feed .result)
     (after fed) (told fed) (c .before .before .before .before .before .if1 .left) in
-    let long : 32792 ≤ length (stored (copied fed)) = omega (arith, laid (copied fed) .same, right (from-start fed) .long) in (
+    let long : heldNeed ≤ length (stored (copied fed)) = omega (arith, laid (copied fed) .same, right (from-start fed) .long) in (
       (from .3, long, fed .feed .ensures .1 .0 ∙ from-start fed .pre .2, fed .feed .ensures .1 .1 ∙ from-start fed .pre .3),
       (from .1, from .2),
     )

@@ -13,6 +13,7 @@ use lib.ListN.{length, drop}
 use mir.Syntax.{w64}
 use mir.Val.{SFits, toZ}
 use mir.Facts.{toZ-ofZ}
+use Rattle.rules.specs.Limits.{rowLength}
 use Rattle.rules.specs.Numbers.{got}
 use Rattle.rules.specs.Stores.{rowOf}
 use Rattle.rules.specs.Sheets.{parting}
@@ -34,8 +35,8 @@ abbrev μ-loop : tie.MeasureT-loop
 μ-loop bytes at z count row₀ next₀ block₀ column₀ left₀ row next block column left = left
 
 -- The row that was lent has 320 numbers.
-row-long : (c : tie.Start Inv-loop μ-loop) → length (now (c .args .row)) ≡ 320
-row-long c = ap length (c .pre .1) ∙ length-zeros 320
+row-long : (c : tie.Start Inv-loop μ-loop) → length (now (c .args .row)) ≡ rowLength
+row-long c = ap length (c .pre .1) ∙ length-zeros rowLength
 
 loop-holds : tie.Need-loop-holds Inv-loop μ-loop
 unfolding sizesOf
@@ -103,7 +104,7 @@ module _ (c : tie.After-place-in-row Inv-loop μ-loop) where
   from-is : from ≡ placeInRow (s (c .before) .args .z .l) (q (c .before) .block) (q (c .before) .column)
   from-is = c .place-in-row .ensures ∙ ap₂ (λ l b. placeInRow l b (q (c .before) .column)) (toZ-ofZ (l-fits (c .before))) (toZ-ofZ (block-fits (c .before)))
 
-  room : from + 16 ≤ 320
+  room : from + 16 ≤ rowLength
   unfolding sizesOf
   room = rw from-is (place-fits _ _ _ _ (s (c .before) .pre .0 .1) (right (c .before)))
 

@@ -9,6 +9,8 @@ use denote.Ref.{now}
 use lib.IntN.{ℤ, pos}
 use lib.ListN.{length, take, drop, replicate, length-append}
 use lib.Seq.{paste, drop-at}
+use Rattle.rules.specs.Limits.{rowLength, relationLength}
+use Rattle.rules.specs.Stores.{largestRows, relationNeed}
 use Rattle.rules.specs.Calls.{zeros}
 use Rattle.rules.specs.SheetCalls.{readCall}
 use Rattle.rows.specs.Validity.{sizesOf}
@@ -33,14 +35,16 @@ module _ (c : tie.After-head-at) where
   abbrev m : ℕ
   m = c .head-at .result .sizes .m
 
-  rows-long : length rows ≡ 1280
-  rows-long = c .head-at .kept .1 .0 ∙ ap length (start .pre .0) ∙ length-zeros 1280
+  rows-long : length rows ≡ largestRows
+  rows-long = c .head-at .kept .1 .0 ∙ ap length (start .pre .0) ∙ length-zeros largestRows
 
-  rows-rest : (k : ℕ) → k ≡ m → drop (k * 320) rows ≡ drop (k * 320) (zeros 1280)
-  rows-rest k e = rw e (c .head-at .ensures .1 .1 ∙ ap (drop (m * 320)) (start .pre .0))
+  rows-rest : (k : ℕ) → k ≡ m → drop (k * rowLength) rows ≡ drop (k * rowLength) (zeros largestRows)
+  rows-rest k e = rw e (c .head-at .ensures .1 .1 ∙ ap (drop (m * rowLength)) (start .pre .0))
 
-  rows-cleared : paste rows 0 (replicate (m * 320) (pos 0)) (m * 320) ≡ now (start .args .rows)
-  rows-cleared = zero-again (m * 320) 1280 rows (omega (arith, c .head-at .ensures .1 .0)) (rows-rest m refl) ∙ sym (start .pre .0)
+  rows-cleared : paste rows 0 (replicate (m * rowLength) (pos 0)) (m * rowLength) ≡ now (start .args .rows)
+  rows-cleared =
+      zero-again (m * rowLength) largestRows rows (omega (arith, c .head-at .ensures .1 .0)) (rows-rest m refl)
+      ∙ sym (start .pre .0)
 
 mul-clear : tie.Need-mul-clear
 mul-clear c = omega (arith, c .before .before .before .before .before .head-at .ensures .1 .0)
@@ -70,21 +74,21 @@ module _ (c : tie.Else1) where
   from = c .before .before .before
 
   abbrev used : ℕ
-  used = from .head-at .result .relations * 321
+  used = from .head-at .result .relations * relationLength
 
   head : HeadTo (now (start from .args .bytes)) (sizesOf (from .head-at .result .sizes)) (from .head-at .result .relations)
       (from .head-at .result .at) (rows from)
   head = from .head-at .ensures .0 .read (c .if1 .left)
 
   lent : take used (now (start from .args .relations)) ≡ zeros used
-  lent = ap (take used) (start from .pre .1) ∙ take-zeros used 5136 (omega (arith, head .few))
+  lent = ap (take used) (start from .pre .1) ∙ take-zeros used relationNeed (omega (arith, head .few))
 
 mul-used : tie.Need-mul-used
 mul-used c = omega (arith, head (c .before) .few)
 
 slice-relend-prefix-rest-at : tie.Need-slice-relend-prefix-rest-at
 slice-relend-prefix-rest-at c =
-    omega (arith, head (c .before) .few, ap length (start (from (c .before)) .pre .1), length-zeros 5136)
+    omega (arith, head (c .before) .few, ap length (start (from (c .before)) .pre .1), length-zeros relationNeed)
 
 slice-aggregate-rest-at : tie.Need-slice-aggregate-rest-at
 slice-aggregate-rest-at c = sym (ap length (lent (c .before .before)) ∙ length-zeros _)
@@ -111,11 +115,12 @@ module _ (c : tie.After-rest-at) where
   read : SheetRead (now (start (from e) .args .bytes)) (resultOf (c .rest-at .result)) (rows (from e)) part
   read = c .rest-at .ensures .0 _ (head e)
 
-  relations-rest : drop (used e) relations ≡ drop (used e) (zeros 5136)
+  relations-rest : drop (used e) relations ≡ drop (used e) (zeros relationNeed)
   relations-rest = drop-at part _ (used e) part-long ∙ ap (drop (used e)) (start (from e) .pre .1)
 
   relations-cleared : paste relations 0 (replicate (used e) (pos 0)) (used e) ≡ now (start (from e) .args .relations)
-  relations-cleared = zero-again (used e) 5136 relations (omega (arith, head e .few)) relations-rest ∙ sym (start (from e) .pre .1)
+  relations-cleared =
+      zero-again (used e) relationNeed relations (omega (arith, head e .few)) relations-rest ∙ sym (start (from e) .pre .1)
 
 mul-clear-2 : tie.Need-mul-clear-2
 mul-clear-2 c = omega (arith, from (e (c .before .before .before .before .before)) .head-at .ensures .1 .0)
@@ -161,9 +166,10 @@ returns-3 c =
     let r = c .before .before .before in
     let s = start (from (e r)) in
     let same = r .rest-at .ensures .1 (c .if2 .left) in
-    ap₂ (λ k l. callOf (r .rest-at .result) (rows (from (e r))) (part r ++ drop (k * 321) l)) (sym (same .1)) (s .pre .1)
+    ap₂ (λ k l. callOf (r .rest-at .result) (rows (from (e r))) (part r ++ drop (k * relationLength) l)) (sym (same .1))
+    (s .pre .1)
     ∙ call-holds _ _ _ _ (read r) (c .if2 .left) (rows-long (from (e r))) (rows-rest (from (e r)) _ (same .0))
-    (part-long r ∙ ap (λ k. k * 321) (sym (same .1)))
+    (part-long r ∙ ap (λ k. k * relationLength) (sym (same .1)))
     ∙ ap₂ (readCall (now (s .args .bytes))) (sym (s .pre .0)) (sym (s .pre .1))
 
 pub read-own-spec : {M : Type 1} → statement M

@@ -8,6 +8,7 @@ use native.Mathlib.Omega.{arith}
 use borrow.Rule.Slice.PartMut.{midOf, same-len-mid}
 use denote.Ref.{now}
 use lib.ListN.{length}
+use Rattle.rules.specs.Limits.{rowLength}
 use Rattle.rules.specs.Stores.{rowOf}
 use Rattle.rules.specs.Calls.{zeros}
 use Rattle.rules.specs.Sheets.{readEquation}
@@ -20,7 +21,8 @@ use Rattle.reading.proofs.sections.equations_at.Statement.{statement}
 use Rattle.reading.proofs.sections.equations_at.Tie as tie
 
 abbrev Inv-loop : tie.InvT-loop
-Inv-loop bytes at z rows₀ next₀ i₀ rows next i = StoredTo 320 rowOf (readEquation (sizesOf z)) (z .m) bytes at rows₀ rows i next
+Inv-loop bytes at z rows₀ next₀ i₀ rows next i =
+    StoredTo rowLength rowOf (readEquation (sizesOf z)) (z .m) bytes at rows₀ rows i next
 
 abbrev μ-loop : tie.MeasureT-loop
 μ-loop bytes at z rows₀ next₀ i₀ rows next i = z .m - i
@@ -30,14 +32,16 @@ loop-holds c = stored-begins _ _ _ _ _ _ _ (c .before .pre .1) (c .before .pre .
 
 -- There is room for the equation of a turn.
 module _ (c : tie.Then1 Inv-loop μ-loop) where
-  room : c .before .before .loop .i * 320 + 320 ≤ length (now (c .before .before .before .before .args .rows))
+  room : c .before .before .loop .i * rowLength + rowLength ≤ length (now (c .before .before .before .before .args .rows))
   room = rw (c .before .before .before .before .pre .1, length-zeros) (omega (arith, c .if1 .taken))
 
   few : c .before .before .before .before .args .z .m ≤ 4
   unfolding sizesOf
   few = size-bounds _ (c .before .before .before .before .pre .0 .1) .few
 
-  part : midOf (c .before .before .loop .i * 320) (c .before .before .loop .i * 320 + 320 - c .before .before .loop .i * 320) (c .before .before .loop .rows) ≡ zeros 320
+  part :
+      let from = c .before .before .loop .i * rowLength in
+      midOf from (from + rowLength - from) (c .before .before .loop .rows) ≡ zeros rowLength
   part = stored-part _ _ _ _ _ _ _ _ _ _ (c .before .before .loop .inv) (c .if1 .taken)
 
 mul-from : tie.Need-mul-from Inv-loop μ-loop
@@ -53,7 +57,7 @@ sub-equation-at : tie.Need-sub-equation-at Inv-loop μ-loop
 sub-equation-at c = omega arith
 
 part-equation-at-start : tie.Need-part-equation-at-start Inv-loop μ-loop
-part-equation-at-start c = le-add-right _ 320
+part-equation-at-start c = le-add-right _ rowLength
 
 part-equation-at-end : tie.Need-part-equation-at-end Inv-loop μ-loop
 part-equation-at-end c = rw (c .before .before .loop .inv .long) (room c)
@@ -67,7 +71,9 @@ no-part-requires c κs = tt
 same-length : tie.Need-same-length Inv-loop μ-loop
 same-length c =
     let l = c .before .before .before .before .before .before .before .before .loop in
-    same-len-mid (l .i * 320) (l .i * 320 + 320 - l .i * 320) (l .rows) (c .before .before .before .before .equation-at .last .1 .1 .1 .0) (c .before .before .before .before .equation-at .kept .1 .1 .1 .0) ∙ l .inv .long
+    same-len-mid (l .i * rowLength) (l .i * rowLength + rowLength - l .i * rowLength) (l .rows)
+    (c .before .before .before .before .equation-at .last .1 .1 .1 .0)
+    (c .before .before .before .before .equation-at .kept .1 .1 .1 .0) ∙ l .inv .long
 
 returns : tie.Need-returns Inv-loop μ-loop
 returns c =
@@ -84,7 +90,11 @@ loop-less c = omega (arith, c .before .before .before .before .before .if1 .take
 
 loop-again : tie.Need-loop-again Inv-loop μ-loop
 loop-again c =
-    stored-goes-on _ _ _ _ _ _ _ _ _ _ (c .before .before .before .before .before .before .before .loop .inv) (c .before .before .before .before .before .if1 .taken) _ _ (c .before .before .before .equation-at .kept .1 .1 .1 .0 ∙ ap length (part (c .before .before .before .before .before)) ∙ length-zeros 320) (room (c .before .before .before .before .before))
+    stored-goes-on _ _ _ _ _ _ _ _ _ _ (c .before .before .before .before .before .before .before .loop .inv)
+    (c .before .before .before .before .before .if1 .taken) _ _
+    (c .before .before .before .equation-at .kept .1 .1 .1 .0
+    ∙ ap length (part (c .before .before .before .before .before)) ∙ length-zeros rowLength)
+    (room (c .before .before .before .before .before))
     (answer-got (c .if2 .left) (c .before .before .before .equation-at .ensures)) (c .before .before .before .equation-at .ensures .within)
 
 same-length-2 : tie.Need-same-length-2 Inv-loop μ-loop

@@ -14,6 +14,7 @@ use lib.ListN.{length, set, length-set}
 use mir.Syntax.{w64}
 use mir.Val.{SFits, toZ, ofZ}
 use mir.Facts.{toZ-ofZ}
+use Rattle.rules.specs.Limits.{relationLength}
 use Rattle.tokens.specs.Fields.{answer-fault, answer-got, refuses, answers-as, answers-made, then-got, then-fault}
 use Rattle.reading.specs.Zeros.{length-zeros}
 use Rattle.reading.specs.Sections.{relationOf-back, relation-behind, relationThen, relation-is}
@@ -31,8 +32,8 @@ returns c =
     refuses (c .before .if1 .taken) (relation-is _ _ ∙ then-fault _ (answer-fault (c .before .if1 .taken) (c .before .before .before .small-at .ensures .0))) (c .no-part .ensures)
 
 -- The relation that was lent has 321 numbers.
-whole : (c : tie.Start) → length (now (c .args .relation)) ≡ 321
-whole c = ap length (c .pre .1) ∙ length-zeros 321
+whole : (c : tie.Start) → length (now (c .args .relation)) ≡ relationLength
+whole c = ap length (c .pre .1) ∙ length-zeros relationLength
 
 slice-set-from-index : tie.Need-slice-set-from-index
 slice-set-from-index c = omega (arith, whole (c .before .before .before .before .before))
@@ -45,7 +46,7 @@ module _ (c : tie.After-struct-told) where
   abbrev numbers : List ℤ
   numbers = set (now (c .before .before .before .before .before .args .relation)) 0 (toZ w64 (ofZ w64 value))
 
-  long : length numbers ≡ 321
+  long : length numbers ≡ relationLength
   long = length-set (now (c .before .before .before .before .before .args .relation)) 0 _ ∙ whole (c .before .before .before .before .before)
 
 sub-equation-at : tie.Need-sub-equation-at

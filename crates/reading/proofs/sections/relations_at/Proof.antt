@@ -8,6 +8,7 @@ use native.Mathlib.Omega.{arith}
 use borrow.Rule.Slice.PartMut.{midOf, same-len-mid}
 use denote.Ref.{now}
 use lib.ListN.{length}
+use Rattle.rules.specs.Limits.{relationLength}
 use Rattle.rules.specs.Stores.{relationOf}
 use Rattle.rules.specs.Calls.{zeros}
 use Rattle.rules.specs.Sheets.{readRelation}
@@ -20,7 +21,7 @@ use Rattle.reading.proofs.sections.relations_at.Tie as tie
 
 abbrev Inv-loop : tie.InvT-loop
 Inv-loop bytes at z count relations₀ next₀ i₀ relations next i =
-    StoredTo 321 relationOf (readRelation (sizesOf z)) count bytes at relations₀ relations i next
+    StoredTo relationLength relationOf (readRelation (sizesOf z)) count bytes at relations₀ relations i next
 
 abbrev μ-loop : tie.MeasureT-loop
 μ-loop bytes at z count relations₀ next₀ i₀ relations next i = count - i
@@ -30,10 +31,12 @@ loop-holds c = stored-begins _ _ _ _ _ _ _ (c .before .pre .1 .1) (c .before .pr
 
 -- There is room for the relation of a turn.
 module _ (c : tie.In-loop Inv-loop μ-loop) where
-  room : c .before .loop .i * 321 + 321 ≤ length (now (c .before .before .before .args .relations))
+  room : c .before .loop .i * relationLength + relationLength ≤ length (now (c .before .before .before .args .relations))
   room = rw (c .before .before .before .pre .1 .1, length-zeros) (omega (arith, c .loop-test .taken))
 
-  part : midOf (c .before .loop .i * 321) (c .before .loop .i * 321 + 321 - c .before .loop .i * 321) (c .before .loop .relations) ≡ zeros 321
+  part :
+      let from = c .before .loop .i * relationLength in
+      midOf from (from + relationLength - from) (c .before .loop .relations) ≡ zeros relationLength
   part = stored-part _ _ _ _ _ _ _ _ _ _ (c .before .loop .inv) (c .loop-test .taken)
 
 mul-from : tie.Need-mul-from Inv-loop μ-loop
@@ -49,7 +52,7 @@ sub-relation-at : tie.Need-sub-relation-at Inv-loop μ-loop
 sub-relation-at c = omega arith
 
 part-relation-at-start : tie.Need-part-relation-at-start Inv-loop μ-loop
-part-relation-at-start c = le-add-right _ 321
+part-relation-at-start c = le-add-right _ relationLength
 
 part-relation-at-end : tie.Need-part-relation-at-end Inv-loop μ-loop
 part-relation-at-end c = rw (c .before .loop .inv .long) (room c)
@@ -63,7 +66,9 @@ no-part-requires c κs = tt
 same-length : tie.Need-same-length Inv-loop μ-loop
 same-length c =
     let l = c .before .before .before .before .before .before .before .loop in
-    same-len-mid (l .i * 321) (l .i * 321 + 321 - l .i * 321) (l .relations) (c .before .before .before .before .relation-at .last .1 .1 .1 .0) (c .before .before .before .before .relation-at .kept .1 .1 .1 .0) ∙ l .inv .long
+    same-len-mid (l .i * relationLength) (l .i * relationLength + relationLength - l .i * relationLength) (l .relations)
+    (c .before .before .before .before .relation-at .last .1 .1 .1 .0)
+    (c .before .before .before .before .relation-at .kept .1 .1 .1 .0) ∙ l .inv .long
 
 returns : tie.Need-returns Inv-loop μ-loop
 returns c =
@@ -80,7 +85,11 @@ loop-less c = omega (arith, c .before .before .before .before .before .loop-test
 
 loop-again : tie.Need-loop-again Inv-loop μ-loop
 loop-again c =
-    stored-goes-on _ _ _ _ _ _ _ _ _ _ (c .before .before .before .before .before .before .loop .inv) (c .before .before .before .before .before .loop-test .taken) _ _ (c .before .before .before .relation-at .kept .1 .1 .1 .0 ∙ ap length (part (c .before .before .before .before .before)) ∙ length-zeros 321) (room (c .before .before .before .before .before))
+    stored-goes-on _ _ _ _ _ _ _ _ _ _ (c .before .before .before .before .before .before .loop .inv)
+    (c .before .before .before .before .before .loop-test .taken) _ _
+    (c .before .before .before .relation-at .kept .1 .1 .1 .0
+    ∙ ap length (part (c .before .before .before .before .before)) ∙ length-zeros relationLength)
+    (room (c .before .before .before .before .before))
     (answer-got (c .if1 .left) (c .before .before .before .relation-at .ensures)) (c .before .before .before .relation-at .ensures .within)
 
 same-length-2 : tie.Need-same-length-2 Inv-loop μ-loop

@@ -8,6 +8,7 @@ use borrow.Author.Needs.{needs}
 use borrow.Author.Tests.{not-true, not-false}
 use denote.Ref.{now}
 use lib.ListN.{length}
+use Rattle.rules.specs.Limits.{relationLength}
 use Rattle.rules.specs.Layout.{lengthsRight-iff}
 use Rattle.rules.specs.Stores.{rowNeed}
 use Rattle.rows.specs.Validity.{sizesOf, true-T}
@@ -75,7 +76,8 @@ fill-relations-requires c κs =
     let start = c .before .before .before .before .before .before .before .before .before .before .before .before .before .before .before in (
       read (c .before .before .before .before .before .before .before .before .before .before .before .before) .few none,
       long .1,
-      le-of-eq (ap (λ k. k * 321) (rest .ensures .1 none .1) ∙ sym (rest .kept .1 .1 .0 ∙ ap length (start .pre .1 .1) ∙ length-zeros _)),
+      le-of-eq (ap (λ k. k * relationLength) (rest .ensures .1 none .1)
+          ∙ sym (rest .kept .1 .1 .0 ∙ ap length (start .pre .1 .1) ∙ length-zeros _)),
     )
 
 same-length-5 : tie.Need-same-length-5

@@ -8,6 +8,8 @@ use lib.ListN.{replicate}
 use lib.Seq.{paste}
 use borrow.Author.Needs.{needs}
 use denote.Ref.{now}
+use Rattle.rules.specs.Limits.{relationLength}
+use Rattle.rules.specs.Stores.{relationNeed}
 use Rattle.reading.specs.ReadCalls.{relations-filled}
 use Rattle.reading.proofs.sheet.fill_relations.Statement.{statement}
 use Rattle.reading.proofs.sheet.fill_relations.Tie as tie
@@ -32,9 +34,10 @@ same-length c = search needs
 returns : tie.Need-returns
 returns c =
     let s = c .before .before .before .before .before .before in
-    let used = s .args .count * 321 in
+    let used = s .args .count * relationLength in
     c .before .clear .ensures
-    ∙ ap (λ l. paste l used (replicate (5136 - used) (pos 0)) (5136 - used)) (c .before .before .before .before .copy .ensures)
+    ∙ ap (λ l. paste l used (replicate (relationNeed - used) (pos 0)) (relationNeed - used))
+    (c .before .before .before .before .copy .ensures)
     ∙ relations-filled (s .args .count) (now (s .args .numbers)) (now (s .args .store)) (s .pre .0) (s .pre .2)
 
 pub fill-relations-spec : {M : Type 1} → statement M

@@ -14,8 +14,9 @@ use lib.Signed.{nonNeg}
 use mir.Syntax.{w64}
 use mir.Val.{SFits}
 use mir.Facts.{toZ-ofZ, fits-natAbs}
+use Rattle.rules.specs.Limits.{rowLength}
 use Rattle.rules.specs.Numbers.{got, field, between}
-use Rattle.rules.specs.Stores.{sizesRight, rowsOf, rowNeed}
+use Rattle.rules.specs.Stores.{rowsOf, rowNeed, largestRows, sizesRight}
 use Rattle.rules.specs.Layout.{size-bounds}
 use Rattle.rules.specs.Calls.{zeros}
 use Rattle.rules.specs.Sheets.{always, readSizes}
@@ -34,7 +35,7 @@ no-head-requires : tie.Need-no-head-requires
 no-head-requires c κs = tt
 
 -- A head with no rows has changed nothing.
-none : (rows : List ℤ) (m : ℕ) → m ≡ 0 → (m ≤ 4) × (drop (m * 320) rows ≡ drop (m * 320) rows)
+none : (rows : List ℤ) (m : ℕ) → m ≡ 0 → (m ≤ 4) × (drop (m * rowLength) rows ≡ drop (m * rowLength) rows)
 none rows m e = (omega arith, refl)
 
 returns : tie.Need-returns
@@ -67,14 +68,15 @@ module _ (c : tie.After-sizes) where
   few = size-bounds _ right .few
 
   -- The part of the store that is lent.
-  lent : take (m * 320) rows ≡ zeros (m * 320)
-  lent = ap (take (m * 320)) (start .pre) ∙ take-zeros (m * 320) 1280 (omega (arith, few))
+  lent : take (m * rowLength) rows ≡ zeros (m * rowLength)
+  lent = ap (take (m * rowLength)) (start .pre) ∙ take-zeros (m * rowLength) largestRows (omega (arith, few))
 
 mul-used : tie.Need-mul-used
 mul-used c = omega (arith, few (c .before))
 
 slice-relend-prefix-equation-section : tie.Need-slice-relend-prefix-equation-section
-slice-relend-prefix-equation-section c = omega (arith, few (c .before), ap length (start (c .before) .pre), length-zeros 1280)
+slice-relend-prefix-equation-section c =
+    omega (arith, few (c .before), ap length (start (c .before) .pre), length-zeros largestRows)
 
 slice-aggregate-equation-section : tie.Need-slice-aggregate-equation-section
 slice-aggregate-equation-section c = sym (ap length (lent (c .before .before)) ∙ length-zeros _)
@@ -92,14 +94,14 @@ module _ (c : tie.After-equation-section) where
   part = c .equation-section .last .1 .1 .1 .0
 
   abbrev after : List ℤ
-  after = part ++ drop (m d * 320) (rows d)
+  after = part ++ drop (m d * rowLength) (rows d)
 
-  part-long : length part ≡ m d * 320
+  part-long : length part ≡ m d * rowLength
   part-long = c .equation-section .kept .1 .1 .1 .0 ∙ ap length (lent d) ∙ length-zeros _
 
   -- What lies past the rows is as it was.
-  past : (k : ℕ) → k ≡ m d → (k ≤ 4) × (drop (k * 320) after ≡ drop (k * 320) (rows d))
-  past k e = rw e (few d, drop-at part (drop (m d * 320) (rows d)) (m d * 320) part-long)
+  past : (k : ℕ) → k ≡ m d → (k ≤ 4) × (drop (k * rowLength) after ≡ drop (k * rowLength) (rows d))
+  past k e = rw e (few d, drop-at part (drop (m d * rowLength) (rows d)) (m d * rowLength) part-long)
 
   rows-read : c .equation-section .result .refusal ≡ 0
       → equationSection (sizesOf (d .before .before .before .sizes-at .result .sizes))
@@ -109,7 +111,7 @@ module _ (c : tie.After-equation-section) where
   rows-read h =
       answer-got h (c .equation-section .ensures)
       ∙ ap (λ r. got r (drop (c .equation-section .result .at) (now (start d .args .bytes))))
-      (sym (rowsOf-front (m d) part (drop (m d * 320) (rows d)) part-long))
+      (sym (rowsOf-front (m d) part (drop (m d * rowLength) (rows d)) part-long))
 
 no-head-requires-2 : tie.Need-no-head-requires-2
 no-head-requires-2 c κs = tt

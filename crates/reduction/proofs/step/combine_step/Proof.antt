@@ -13,7 +13,7 @@ use lib.IntN.{ℤ}
 use lib.ListN.{length, getD, length-append, length-replicate}
 use Rattle.algebra.specs.Polynomials.{isZero}
 use Rattle.algebra.specs.Roots.{roots}
-use Rattle.rules.specs.Limits.{small}
+use Rattle.rules.specs.Limits.{rowLength, small}
 use Rattle.rules.specs.Rows.{every, entry, combine, primitive}
 use Rattle.rules.specs.Stores.{rowOf}
 use Rattle.rules.specs.Elimination.{Side, Limited, limitDegrees, Multipliers, multipliers, multipliersAt, listing, combineStep}
@@ -79,7 +79,7 @@ module _ (c : tie.Start) where
   other : j < m
   other = omega (arith, inside, settled)
 
-  room : (k : ℕ) → k < m → k * 320 + 320 ≤ length rows
+  room : (k : ℕ) → k < m → k * rowLength + rowLength ≤ length rows
   room k h = omega (arith, row-room m k rows (ready .rows-within) h, ready .rows-within .long)
 
   -- the two rows and their entries
@@ -101,10 +101,10 @@ module _ (c : tie.Start) where
   pivot-small : Small pivot
   pivot-small = small-numbersAt m rows (ready .rows-within) j other
 
-  target-long : length target ≡ 320
+  target-long : length target ≡ rowLength
   target-long = length-numbersAt m rows (ready .rows-within) i inside
 
-  entry-fits : (l : List ℤ) → length l ≡ 320 → Small l → Sixteen (entry (rowOf l) column)
+  entry-fits : (l : List ℤ) → length l ≡ rowLength → Small l → Sixteen (entry (rowOf l) column)
   entry-fits l e h = (length-entry l column e below, small-entry l column h below)
 
   -- the multipliers and their roots

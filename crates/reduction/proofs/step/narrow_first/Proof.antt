@@ -8,6 +8,7 @@ use borrow.Author.Needs.{needs}
 use denote.Ref.{now}
 use lib.IntN.{ℤ}
 use lib.Seq.{paste}
+use Rattle.rules.specs.Limits.{rowLength}
 use Rattle.rules.specs.Rows.{width}
 use Rattle.rules.specs.Stores.{rowOf}
 use Rattle.reduction.specs.Exchange.{numbersAt, narrowed-exchanged, narrowed-same}
@@ -73,8 +74,9 @@ returns c =
     let e = saved .before .before .before in
     let wider : width (rowOf (numbersAt (store e) (i e))) < width (rowOf (numbersAt (store e) (j e))) =
     omega (arith, width-i e, width-j e, saved .before .before .if1 .taken) in
-    let first = saved .save .ensures ∙ ap (λ l. paste (store e) (j e * 320) l 320) (e .before .before .before .before .load .ensures) in
-    c .before .save2 .ensures ∙ ap₂ (λ s l. paste s (i e * 320) l 320) first (e .before .before .load2 .ensures)
+    let first = saved .save .ensures ∙ ap (λ l. paste (store e) (j e * rowLength) l rowLength)
+    (e .before .before .before .before .load .ensures) in
+    c .before .save2 .ensures ∙ ap₂ (λ s l. paste s (i e * rowLength) l rowLength) first (e .before .before .load2 .ensures)
     ∙ sym (narrowed-exchanged (store e) (i e) (j e) wider)
 
 same-length-2 : tie.Need-same-length-2

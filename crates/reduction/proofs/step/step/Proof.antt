@@ -11,7 +11,7 @@ use lib.Dec.{T}
 use lib.IntN.{ℤ}
 use lib.ListN.{length}
 use Rattle.algebra.specs.Polynomials.{isZero}
-use Rattle.rules.specs.Limits.{small}
+use Rattle.rules.specs.Limits.{rowLength, small}
 use Rattle.rules.specs.Rows.{Row, every, zeroRow, leadingBlock, firstNonzero}
 use Rattle.rules.specs.Stores.{rowOf}
 use Rattle.rules.specs.Elimination.{Side, multipliersAt, combineStep}
@@ -60,7 +60,7 @@ module _ (c : tie.Start) where
   ready : Ready m rows relations p
   ready = c .pre .0
 
-  room : (k : ℕ) → k < m → k * 320 + 320 ≤ length rows
+  room : (k : ℕ) → k < m → k * rowLength + rowLength ≤ length rows
   room k h = omega (arith, row-room m k rows (ready .rows-within) h, ready .rows-within .long)
 
 -- the row that is worked on, and its zero test

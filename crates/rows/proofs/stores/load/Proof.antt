@@ -12,14 +12,15 @@ use lib.Seq.{take-all, take-suc, take-suc-set, getD-drop}
 use mir.Syntax.{w64}
 use mir.Val.{SFits}
 use mir.Facts.{toZ-ofZ}
+use Rattle.rules.specs.Limits.{rowLength}
 use Rattle.rows.proofs.stores.load.Statement.{statement}
 use Rattle.rows.proofs.stores.load.Tie as tie
 
 abbrev Inv-loop : tie.InvT-loop
-Inv-loop store at row₀ i₀ row i = (i ≤ 320) × ((length row ≡ 320) × (take i row ≡ take i (drop at store)))
+Inv-loop store at row₀ i₀ row i = (i ≤ rowLength) × ((length row ≡ rowLength) × (take i row ≡ take i (drop at store)))
 
 abbrev μ-loop : tie.MeasureT-loop
-μ-loop store at row₀ i₀ row i = 320 - i
+μ-loop store at row₀ i₀ row i = rowLength - i
 
 loop-holds : tie.Need-loop-holds Inv-loop μ-loop
 loop-holds c = search needs
@@ -61,8 +62,8 @@ loop-again c =
 
 returns : tie.Need-returns Inv-loop μ-loop
 returns c =
-    let all : c .before .loop .i ≡ 320 = omega arith in
-    sym (take-all 320 (c .before .loop .row) (omega arith)) ∙ rw all at (c .before .loop .inv .1 .1)
+    let all : c .before .loop .i ≡ rowLength = omega arith in
+    sym (take-all rowLength (c .before .loop .row) (omega arith)) ∙ rw all at (c .before .loop .inv .1 .1)
 
 pub load-spec : {M : Type 1} → statement M
 load-spec =

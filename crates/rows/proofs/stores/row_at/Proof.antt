@@ -6,6 +6,7 @@ use native.Mathlib.Omega.{arith}
 use borrow.Author.Needs.{needs}
 use denote.Ref.{now}
 use lib.ListN.{take, drop}
+use Rattle.rules.specs.Limits.{rowLength}
 use Rattle.rows.proofs.stores.row_at.Statement.{statement}
 use Rattle.rows.proofs.stores.row_at.Tie as tie
 
@@ -27,7 +28,7 @@ part-result-end c = search needs
 returns : tie.Need-returns
 returns c =
     let args = c .before .args in
-    let size : args .at + 320 - args .at ≡ 320 = omega arith in
+    let size : args .at + rowLength - args .at ≡ rowLength = omega arith in
     (ap (λ n. take n (drop (args .at) (now (args .store)))) size, search needs)
 
 pub row-at-spec : {M : Type 1} → statement M

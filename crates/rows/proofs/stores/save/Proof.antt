@@ -12,14 +12,15 @@ use mir.Syntax.{w64}
 use mir.Val.{SFits}
 use mir.Facts.{toZ-ofZ}
 use lib.Seq.{paste, paste-zero, paste-suc}
+use Rattle.rules.specs.Limits.{rowLength}
 use Rattle.rows.proofs.stores.save.Statement.{statement}
 use Rattle.rows.proofs.stores.save.Tie as tie
 
 abbrev Inv-loop : tie.InvT-loop
-Inv-loop store₀ at row i₀ store i = (i ≤ 320) × ((length store ≡ length store₀) × (store ≡ paste store₀ at row i))
+Inv-loop store₀ at row i₀ store i = (i ≤ rowLength) × ((length store ≡ length store₀) × (store ≡ paste store₀ at row i))
 
 abbrev μ-loop : tie.MeasureT-loop
-μ-loop store₀ at row i₀ store i = 320 - i
+μ-loop store₀ at row i₀ store i = rowLength - i
 
 loop-holds : tie.Need-loop-holds Inv-loop μ-loop
 loop-holds c = (omega arith, (refl, paste-zero (now (c .args .store)) (c .args .at) (c .args .t3)))
@@ -62,7 +63,7 @@ same-length : tie.Need-same-length Inv-loop μ-loop
 same-length c = search needs
 
 returns : tie.Need-returns Inv-loop μ-loop
-returns c = let all : c .before .loop .i ≡ 320 = omega arith in rw all at (c .before .loop .inv .1 .1)
+returns c = let all : c .before .loop .i ≡ rowLength = omega arith in rw all at (c .before .loop .inv .1 .1)
 
 pub save-spec : {M : Type 1} → statement M
 save-spec =

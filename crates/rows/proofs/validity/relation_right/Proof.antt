@@ -9,7 +9,7 @@ use lib.ListN.{take, drop, getD}
 use mir.Syntax.{w64}
 use mir.Val.{SFits}
 use mir.Facts.{toZ-ofZ}
-use Rattle.rules.specs.Limits.{small}
+use Rattle.rules.specs.Limits.{relationLength, small}
 use Rattle.rules.specs.Stores.{rowOf, relationOf}
 use Rattle.rows.specs.Validity.{rowTest, relationTest, index-at, row-after, and-first, and-second}
 use Rattle.rows.proofs.validity.relation_right.Statement.{statement}
@@ -18,7 +18,7 @@ use Rattle.rows.proofs.validity.relation_right.Tie as tie
 -- the test of n0
 tested : (c : tie.After-within-bound)
     → let args = c .before .before .args in
-    c .within-bound .result ≡ small (relationOf (take 321 (drop (args .at) (now (args .store)))) .index)
+    c .within-bound .result ≡ small (relationOf (take relationLength (drop (args .at) (now (args .store)))) .index)
 tested c =
     let args = c .before .before .args in
     let read : SFits w64 (getD (now (args .store)) (args .at) (pos 0)) = sfits-of (c .before .within-bound-arg .given) in

@@ -8,7 +8,7 @@ use denote.Ref.{now}
 use lib.IntN.{ℤ}
 use lib.ListN.{take, length}
 use lib.Seq.{paste, take-all, length-take-le}
-use Rattle.rules.specs.Limits.{small}
+use Rattle.rules.specs.Limits.{relationLength, small}
 use Rattle.rules.specs.Elimination.{listing}
 use Rattle.polynomials.specs.Content.{read-back}
 use Rattle.roots.specs.RootSearch.{held}
@@ -62,7 +62,8 @@ loop-again c =
     let root = c .before .before .root-at in
     let value = read-back (root .result) (root .ok) ∙ root .ensures in
     let stored =
-    c .before .save-relation .ensures ∙ ap (λ z. paste (at .loop .relations) ((args .count + k) * 321) (z ∷ args .row) 321) value in
+    c .before .save-relation .ensures
+    ∙ ap (λ z. paste (at .loop .relations) ((args .count + k) * relationLength) (z ∷ args .row) relationLength) value in
     let small-listed = every-listing (sideOf (args .trailing)) small (held (args .found)) (at .before .pre .1 .0) in
     let more = relisted-more (args .count) k (args .row) (listed at) (now (args .relations)) (at .loop .relations) (at .loop .inv .1 .1)
     (rw (size at) (omega arith)) (omega arith) (omega arith) (at .before .pre .1 .1) small-listed in

@@ -8,6 +8,7 @@ use denote.Ref.{now}
 use lib.ListN.{length-set, set}
 use lib.Seq.{paste}
 use mir.Facts.{toZ-ofZ}
+use Rattle.rules.specs.Limits.{rowLength, relationLength}
 use Rattle.sides.specs.StoreStates.{paste-cons}
 use Rattle.sides.proofs.listing.save_relation.Statement.{statement}
 use Rattle.sides.proofs.listing.save_relation.Tie as tie
@@ -33,10 +34,11 @@ same-length c = c .before .save .kept .0 ∙ simp length-set
 returns : tie.Need-returns
 returns c =
     let args = c .before .before .before .args in
-    let at = args .k * 321 in
+    let at = args .k * relationLength in
     c .before .save .ensures
-    ∙ ap (λ z. paste (set (now (args .relations)) at z) (at + 1) (args .row) 320) (toZ-ofZ (c .before .before .before .fits .n0))
-    ∙ paste-cons (now (args .relations)) at (args .n0) (args .row) 320 (omega arith)
+    ∙ ap (λ z. paste (set (now (args .relations)) at z) (at + 1) (args .row) rowLength)
+    (toZ-ofZ (c .before .before .before .fits .n0))
+    ∙ paste-cons (now (args .relations)) at (args .n0) (args .row) rowLength (omega arith)
 
 pub save-relation-spec : {M : Type 1} → statement M
 save-relation-spec =

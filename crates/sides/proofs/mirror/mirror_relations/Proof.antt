@@ -13,7 +13,7 @@ use lib.Seq.{paste}
 use mir.Syntax.{w64}
 use mir.Val.{SFits}
 use mir.Facts.{toZ-ofZ}
-use Rattle.rules.specs.Limits.{small}
+use Rattle.rules.specs.Limits.{relationLength, small}
 use Rattle.rules.specs.Rows.{every}
 use Rattle.polynomials.specs.Content.{read-back}
 use Rattle.sides.specs.MirrorLaws.{Changed, mirrorNumbers, mirrorRelationNumbers, changed-none, changed-next}
@@ -24,7 +24,7 @@ use Rattle.sides.proofs.mirror.mirror_relations.Statement.{statement}
 use Rattle.sides.proofs.mirror.mirror_relations.Tie as tie
 
 abbrev Inv-loop : tie.InvT-loop
-Inv-loop store₀ count span k₀ store k = (k ≤ count) × Changed 321 count k (mirrorRelationNumbers span) store₀ store
+Inv-loop store₀ count span k₀ store k = (k ≤ count) × Changed relationLength count k (mirrorRelationNumbers span) store₀ store
 
 abbrev μ-loop : tie.MeasureT-loop
 μ-loop store₀ count span k₀ store k = count - k
@@ -37,17 +37,18 @@ module _ (c : tie.In-loop Inv-loop μ-loop) where
   abbrev store : List ℤ
   store = c .before .loop .store
 
-  long : k * 321 + 321 ≤ length store
+  long : k * relationLength + relationLength ≤ length store
   long = omega (arith, c .before .loop .inv .1 .within .long)
 
-  numbers : T (every small (take 321 (drop (k * 321) store)))
-  numbers = part-small 321 (c .before .before .args .count) k store (c .loop-test .taken) (c .before .loop .inv .1 .within)
+  numbers : T (every small (take relationLength (drop (k * relationLength) store)))
+  numbers =
+      part-small relationLength (c .before .before .args .count) k store (c .loop-test .taken) (c .before .loop .inv .1 .within)
 
 loop-holds : tie.Need-loop-holds Inv-loop μ-loop
 loop-holds c =
     let a = c .args in
     let used = used-within (a .count) (now (a .store)) (c .pre .1) in
-    (omega arith, changed-none 321 (a .count) (mirrorRelationNumbers (a .span)) (now (a .store)) used)
+    (omega arith, changed-none relationLength (a .count) (mirrorRelationNumbers (a .span)) (now (a .store)) used)
 
 mul-at : tie.Need-mul-at Inv-loop μ-loop
 mul-at c = omega (arith, long c)
@@ -67,13 +68,16 @@ load-requires c κs = omega (arith, long (c .before .before))
 negated-requires : tie.Need-negated-requires Inv-loop μ-loop
 negated-requires c κs =
     let at = c .before .before .before .before in
-    let read : SFits w64 (getD (store at) (k at * 321) (pos 0)) = sfits-of (c .before .before .before .n0 .given) in
-    rw (toZ-ofZ read) (omega (arith, index-small (store at) (k at * 321) (numbers at)))
+    let read : SFits w64 (getD (store at) (k at * relationLength) (pos 0)) = sfits-of (c .before .before .before .n0 .given) in
+    rw (toZ-ofZ read) (omega (arith, index-small (store at) (k at * relationLength) (numbers at)))
 
 mirrored-requires : tie.Need-mirrored-requires Inv-loop μ-loop
 mirrored-requires c κs =
-    let at = c .before .before .before .before .before in
-    (at .before .before .pre .0, rw (c .before .before .load .ensures) (row-small (store at) (k at * 321) (numbers at)))
+    let at = c .before .before .before .before .before in (
+      at .before .before .pre .0,
+      rw (c .before .before .load .ensures)
+          (row-small (store at) (k at * relationLength) (numbers at)),
+    )
 
 save-relation-requires : tie.Need-save-relation-requires Inv-loop μ-loop
 save-relation-requires c κs = long (c .before .before .before .before .before .before)
@@ -90,14 +94,15 @@ loop-again c =
     let loaded = mirrored .before .before .before in
     let at = loaded .before .before .before in
     let s = at .before .before in
-    let read : SFits w64 (getD (store at) (k at * 321) (pos 0)) = sfits-of (loaded .before .before .n0 .given) in
+    let read : SFits w64 (getD (store at) (k at * relationLength) (pos 0)) = sfits-of (loaded .before .before .n0 .given) in
     let negated = mirrored .before .negated in
     let index = read-back (negated .result) (negated .ok) ∙ negated .ensures ∙ ap negℤ (toZ-ofZ read) in
     let row = mirrored .mirrored .ensures ∙ ap (mirrorNumbers (s .args .span)) (loaded .load .ensures) in
-    let next = changed-next 321 (s .args .count) (mirrorRelationNumbers (s .args .span)) (relation-stays (s .args .span) (s .pre .0))
+    let next = changed-next relationLength (s .args .count) (mirrorRelationNumbers (s .args .span))
+    (relation-stays (s .args .span) (s .pre .0))
     (now (s .args .store)) (store at) (k at) (at .loop-test .taken) (at .before .loop .inv .1) in
-    let stored = c .before .save-relation .ensures ∙ ap (λ p. paste (store at) (k at * 321) p 321)
-    (ap₂ _∷_ index row ∙ mirror-relation (store at) (k at * 321) (s .args .span)) in
+    let stored = c .before .save-relation .ensures ∙ ap (λ p. paste (store at) (k at * relationLength) p relationLength)
+    (ap₂ _∷_ index row ∙ mirror-relation (store at) (k at * relationLength) (s .args .span)) in
     (omega arith, rw stored next)
 
 same-length : tie.Need-same-length Inv-loop μ-loop

@@ -6,6 +6,7 @@ use mathlib.Core.List.{List}
 use denote.Ref.{now}
 use lib.IntN.{ℤ}
 use lib.ListN.{length}
+use Rattle.rules.specs.Limits.{rowLength}
 use Rattle.rules.specs.Stores.{rowNeed}
 use Rattle.sides.specs.StoreStates.{part-small}
 use Rattle.sides.specs.MirrorLaws.{Changed, mirrorNumbers, mirror-stays, changed-none, changed-next, rows-mirrored}
@@ -13,7 +14,7 @@ use Rattle.sides.proofs.mirror.mirror_rows.Statement.{statement}
 use Rattle.sides.proofs.mirror.mirror_rows.Tie as tie
 
 abbrev Inv-loop : tie.InvT-loop
-Inv-loop store₀ m span i₀ store i = (i ≤ m) × Changed 320 m i (mirrorNumbers span) store₀ store
+Inv-loop store₀ m span i₀ store i = (i ≤ m) × Changed rowLength m i (mirrorNumbers span) store₀ store
 
 abbrev μ-loop : tie.MeasureT-loop
 μ-loop store₀ m span i₀ store i = m - i
@@ -26,12 +27,13 @@ module _ (c : tie.In-loop Inv-loop μ-loop) where
   abbrev store : List ℤ
   store = c .before .loop .store
 
-  long : i * 320 + 320 ≤ length store
+  long : i * rowLength + rowLength ≤ length store
   long = omega (arith, c .before .loop .inv .1 .within .long)
 
 loop-holds : tie.Need-loop-holds Inv-loop μ-loop
 unfolding rowNeed
-loop-holds c = (omega arith, changed-none 320 (c .args .m) (mirrorNumbers (c .args .span)) (now (c .args .store)) (c .pre .1))
+loop-holds c =
+    (omega arith, changed-none rowLength (c .args .m) (mirrorNumbers (c .args .span)) (now (c .args .store)) (c .pre .1))
 
 mul-at : tie.Need-mul-at Inv-loop μ-loop
 mul-at c = omega (arith, long c)
@@ -43,7 +45,7 @@ mirrored-requires : tie.Need-mirrored-requires Inv-loop μ-loop
 mirrored-requires c κs =
     let at = c .before .before .before in
     let s = at .before .before in
-    let numbers = part-small 320 (s .args .m) (i at) (store at) (at .loop-test .taken) (at .before .loop .inv .1 .within) in
+    let numbers = part-small rowLength (s .args .m) (i at) (store at) (at .loop-test .taken) (at .before .loop .inv .1 .within) in
     (s .pre .0, rw (c .before .load .ensures) numbers)
 
 save-requires : tie.Need-save-requires Inv-loop μ-loop
@@ -59,7 +61,7 @@ loop-again : tie.Need-loop-again Inv-loop μ-loop
 loop-again c =
     let at = c .before .before .before .before .before .before in
     let s = at .before .before in
-    let next = changed-next 320 (s .args .m) (mirrorNumbers (s .args .span)) (mirror-stays (s .args .span) (s .pre .0))
+    let next = changed-next rowLength (s .args .m) (mirrorNumbers (s .args .span)) (mirror-stays (s .args .span) (s .pre .0))
     (now (s .args .store)) (store at) (i at) (at .loop-test .taken) (at .before .loop .inv .1) in
     (omega arith, rw (c .before .save .ensures, c .before .before .mirrored .ensures, c .before .before .before .before .load .ensures) next)
 

@@ -12,7 +12,7 @@ use lib.Dec.{T}
 use lib.IntN.{ℤ}
 use lib.ListN.{length, take, drop, getD, length-take}
 use Rattle.algebra.specs.Roots.{roots}
-use Rattle.rules.specs.Limits.{small}
+use Rattle.rules.specs.Limits.{rowLength, small}
 use Rattle.rules.specs.Rows.{every}
 use Rattle.rules.specs.Elimination.{Side, diagonalPlace, furthest}
 use Rattle.rules.specs.Calls.{rootFound, rootValue}
@@ -55,14 +55,14 @@ module _ (c : tie.In-loop Inv-loop μ-loop) where
   j = c .before .loop .j
 
   abbrev from : ℕ
-  from = j * 320 + c .before .before .if1 .block * 64 + getD order j 0 * 16
+  from = j * rowLength + c .before .before .if1 .block * 64 + getD order j 0 * 16
 
   enough : m ≤ length order
   enough = c .before .loop .inv .1 .0
 
   place : from ≡ diagonalAt side span order j
   unfolding diagonalAt
-  place = ap (λ b. j * 320 + b * 64 + getD order j 0 * 16) (c .before .loop .inv .0)
+  place = ap (λ b. j * rowLength + b * 64 + getD order j 0 * 16) (c .before .loop .inv .0)
 
   long : from + 16 ≤ length store
   long =

@@ -11,6 +11,7 @@ use lib.IntN.{ℤ}
 use lib.ListN.{length, take, drop, getD}
 use lib.Seq.{take-all}
 use Rattle.algebra.specs.Polynomials.{Polynomial, isZero}
+use Rattle.rules.specs.Limits.{rowLength}
 use Rattle.rules.specs.Rows.{every}
 use Rattle.rules.specs.Stores.{rowOf}
 use Rattle.rows.specs.Flat.{entry-at, every-longer}
@@ -20,7 +21,7 @@ use Rattle.working.proofs.entries.first_met.Tie as tie
 
 abbrev Inv-loop : tie.InvT-loop
 Inv-loop settled order numbers j₀ j =
-    (length numbers ≡ 320)
+    (length numbers ≡ rowLength)
     × ((length order ≡ 4) × ((j ≤ settled) × (every isZero (take j (entriesAt (rowOf numbers) order settled)) ≡ true)))
 
 abbrev μ-loop : tie.MeasureT-loop

@@ -11,6 +11,7 @@ use lib.IntN.{ℤ}
 use lib.ListN.{length, take, drop, getD}
 use lib.Seq.{take-all}
 use Rattle.algebra.specs.Polynomials.{isZero}
+use Rattle.rules.specs.Limits.{rowLength}
 use Rattle.rules.specs.Rows.{zeroBlock, width, widthOf}
 use Rattle.rules.specs.Stores.{rowOf}
 use Rattle.rows.specs.Flat.{zeroBlock-at, length-blocks}
@@ -20,7 +21,7 @@ use Rattle.working.proofs.entries.width.Tie as tie
 
 abbrev Inv-loop : tie.InvT-loop
 Inv-loop numbers blocks₀ blocks =
-    (length numbers ≡ 320) × ((blocks ≤ 5) × (width (rowOf numbers) ≡ widthOf (take blocks (rowOf numbers .blocks))))
+    (length numbers ≡ rowLength) × ((blocks ≤ 5) × (width (rowOf numbers) ≡ widthOf (take blocks (rowOf numbers .blocks))))
 
 abbrev μ-loop : tie.MeasureT-loop
 μ-loop numbers blocks₀ blocks = blocks

@@ -3,6 +3,7 @@
 use mathlib.Core.Path.{_≡_, sym, _∙_}
 use borrow.Author.Needs.{needs}
 use lib.ListN.{length}
+use Rattle.rules.specs.Limits.{rowLength}
 use Rattle.rules.specs.Stores.{rowOf}
 use Rattle.rules.specs.Layout.{coefficientsOf-rowOf-all}
 use Rattle.working.specs.Worked.{limit-within, limit-beyond}
@@ -18,13 +19,13 @@ all-small-requires c κs = search needs
 returns : tie.Need-returns
 returns c =
     let row = c .before .before .before .args .t1 in
-    let long : length row ≡ 320 = search needs in
+    let long : length row ≡ rowLength = search needs in
     limit-within (rowOf row) row (coefficientsOf-rowOf-all row long) (sym (c .before .all-small .ensures) ∙ c .if1 .taken)
 
 returns-2 : tie.Need-returns-2
 returns-2 c =
     let row = c .before .before .before .args .t1 in
-    let long : length row ≡ 320 = search needs in
+    let long : length row ≡ rowLength = search needs in
     limit-beyond (rowOf row) row (coefficientsOf-rowOf-all row long) (sym (c .before .all-small .ensures) ∙ c .if1 .left)
 
 pub limited-spec : {M : Type 1} → statement M

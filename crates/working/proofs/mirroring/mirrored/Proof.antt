@@ -15,7 +15,7 @@ use mir.Syntax.{w64}
 use mir.Val.{SFits, toZ, ofZ}
 use mir.Facts.{toZ-ofZ}
 use Rattle.algebra.specs.Coefficients.{alternate}
-use Rattle.rules.specs.Limits.{small}
+use Rattle.rules.specs.Limits.{rowLength, small}
 use Rattle.rules.specs.Rows.{coefficientsOf, mirrorRow}
 use Rattle.rules.specs.Stores.{rowOf}
 use Rattle.rows.specs.Flat.{every-from-at}
@@ -25,10 +25,10 @@ use Rattle.working.proofs.mirroring.mirrored.Tie as tie
 
 abbrev Inv-loop : tie.InvT-loop
 Inv-loop span row result₀ i₀ result i =
-    (i ≤ 320) × ((length result ≡ 320) × (take i result ≡ take i (coefficientsOf (mirrorRow span (rowOf row)))))
+    (i ≤ rowLength) × ((length result ≡ rowLength) × (take i result ≡ take i (coefficientsOf (mirrorRow span (rowOf row)))))
 
 abbrev μ-loop : tie.MeasureT-loop
-μ-loop span row result₀ i₀ result i = 320 - i
+μ-loop span row result₀ i₀ result i = rowLength - i
 
 -- the place that number i of the mirror comes from
 module _ (c : tie.After-mirrored-block Inv-loop μ-loop) where
@@ -41,7 +41,7 @@ module _ (c : tie.After-mirrored-block Inv-loop μ-loop) where
   few : span ≤ 4
   few = c .before .before .before .pre .0
 
-  long : length row ≡ 320
+  long : length row ≡ rowLength
   long = omega arith
 
   abbrev mirror : List ℤ
@@ -124,10 +124,10 @@ loop-again c =
 returns : tie.Need-returns Inv-loop μ-loop
 returns c =
     let s = c .before .before in
-    let long : length (s .args .t1) ≡ 320 = omega arith in
-    let all : c .before .loop .i ≡ 320 = omega arith in
-    sym (take-all 320 (c .before .loop .result) (omega arith)) ∙ rw all at (c .before .loop .inv .1 .1)
-    ∙ take-all 320 _ (le-of-eq (length-mirrorRow (s .args .span) (s .args .t1) (s .pre .0) long))
+    let long : length (s .args .t1) ≡ rowLength = omega arith in
+    let all : c .before .loop .i ≡ rowLength = omega arith in
+    sym (take-all rowLength (c .before .loop .result) (omega arith)) ∙ rw all at (c .before .loop .inv .1 .1)
+    ∙ take-all rowLength _ (le-of-eq (length-mirrorRow (s .args .span) (s .args .t1) (s .pre .0) long))
 
 pub mirrored-spec : {M : Type 1} → statement M
 mirrored-spec =

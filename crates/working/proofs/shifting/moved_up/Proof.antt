@@ -14,7 +14,7 @@ use lib.Dec.{T}
 use lib.IntN.{ℤ, pos}
 use lib.ListN.{length, take, drop, replicate}
 use Rattle.algebra.specs.Polynomials.{isZero, shift, isZero-shift}
-use Rattle.rules.specs.Limits.{small}
+use Rattle.rules.specs.Limits.{rowLength, small}
 use Rattle.rules.specs.Rows.{shiftUp, coefficientsOf}
 use Rattle.rules.specs.Stores.{rowOf}
 use Rattle.rows.specs.Written.{every-part, front, length-front, front-none, front-all, front-put, front-skip}
@@ -24,7 +24,7 @@ use Rattle.working.proofs.shifting.moved_up.Tie as tie
 
 abbrev Inv-loop : tie.InvT-loop
 Inv-loop table row moved₀ e₀ moved e =
-    (e ≤ 16) × (length moved ≡ 320) × (moved ≡ front (coefficientsOf (shiftUp (rowOf row))) (e * 16))
+    (e ≤ 16) × (length moved ≡ rowLength) × (moved ≡ front (coefficientsOf (shiftUp (rowOf row))) (e * 16))
 
 abbrev μ-loop : tie.MeasureT-loop
 μ-loop table row moved₀ e₀ moved e = 16 - e
@@ -43,7 +43,7 @@ module _ (c : tie.After-is-zero Inv-loop μ-loop) where
   abbrev p : List ℤ
   p = take (e * 16 + 64 + 16 - (e * 16 + 64)) (drop (e * 16 + 64) row)
 
-  full-long : length full ≡ 320
+  full-long : length full ≡ rowLength
   full-long = length-shiftUp row (c .before .before .before .before .pre .1)
 
   p-shifted : take 16 (drop (e * 16) full) ≡ shift p

@@ -7,6 +7,7 @@ use Rattle.rules.specs.Stores.{rowOf}
 use Rattle.rules.specs.Layout.{coefficientsOf-rowOf-all}
 use Rattle.working.specs.Worked.{limit-same}
 use borrow.Author.Needs.{needs}
+use Rattle.rules.specs.Limits.{rowLength}
 use Rattle.working.proofs.shifting.shifted.Statement.{statement}
 use Rattle.working.proofs.shifting.shifted.Tie as tie
 
@@ -26,7 +27,7 @@ returns : tie.Need-returns
 returns c =
     let row = c .before .before .before .before .before .args .t1 in
     let moved = c .before .moved-up .result in
-    let long : length moved ≡ 320 = search needs in
+    let long : length moved ≡ rowLength = search needs in
     limit-same (shiftUp (rowOf row)) moved (sym (c .before .moved-up .ensures)) (rowOf moved) (coefficientsOf-rowOf-all moved long) _ _
     (c .limited .ensures)
 

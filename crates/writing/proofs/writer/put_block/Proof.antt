@@ -12,6 +12,7 @@ use Rattle.rules.specs.Sheets.{trim, blockTerms}
 use Rattle.rules.specs.Stores.{parts}
 use Rattle.rules.specs.Limits.{small}
 use Rattle.rows.specs.Written.{every-part}
+use Rattle.writing.specs.Bounds.{termBytes}
 use Rattle.writing.specs.Writer.{Going, going-first, going-next, going-last, put-same}
 use Rattle.writing.specs.Writer.{spaced, termAt, numbersOf, block-next, block-end}
 use borrow.Author.Needs.{needs}
@@ -22,7 +23,7 @@ abbrev Inv-loop : tie.InvT-loop
 Inv-loop bytes₀ at numbers lengths block next₀ c₀ bytes next c =
     (c ≤ 4)
     × Going bytes₀ at (spaced (numbersOf (blockTerms (toZ w64 block) 1 (parts 16 4 numbers)))) bytes next
-    (spaced (numbersOf (blockTerms (toZ w64 block) (c + 1) (drop c (parts 16 4 numbers))))) (229 * c)
+    (spaced (numbersOf (blockTerms (toZ w64 block) (c + 1) (drop c (parts 16 4 numbers))))) (termBytes * c)
 
 abbrev μ-loop : tie.MeasureT-loop
 μ-loop bytes₀ at numbers lengths block next₀ c₀ bytes next c = 4 - c

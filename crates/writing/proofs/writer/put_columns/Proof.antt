@@ -7,6 +7,7 @@ use native.Mathlib.Omega.{arith}
 use denote.Ref.{now}
 use lib.IntN.{pos}
 use lib.ListN.{length, drop, drop-of-length-le}
+use Rattle.writing.specs.Bounds.{countBytes}
 use Rattle.writing.specs.Writer.{Going, going-first, going-next, going-last, spaced, columns-next}
 use borrow.Author.Needs.{needs}
 use Rattle.writing.proofs.writer.put_columns.Statement.{statement}
@@ -14,7 +15,7 @@ use Rattle.writing.proofs.writer.put_columns.Tie as tie
 
 abbrev Inv-loop : tie.InvT-loop
 Inv-loop bytes₀ at columns next₀ i₀ bytes next i =
-    (i ≤ length columns) × Going bytes₀ at (spaced (map pos columns)) bytes next (spaced (map pos (drop i columns))) (21 * i)
+    (i ≤ length columns) × Going bytes₀ at (spaced (map pos columns)) bytes next (spaced (map pos (drop i columns))) (countBytes * i)
 
 abbrev μ-loop : tie.MeasureT-loop
 μ-loop bytes₀ at columns next₀ i₀ bytes next i = length columns - i

@@ -10,11 +10,12 @@ use lib.ListN.{take, drop}
 use mir.Syntax.{w64}
 use mir.Val.{toZ, ofZ}
 use mir.Facts.{toZ-ofZ}
-use Rattle.rules.specs.Limits.{small}
+use Rattle.rules.specs.Limits.{rowLength, small}
 use Rattle.rules.specs.Rows.{every}
 use Rattle.rules.specs.Numbers.{line, lines}
 use Rattle.rules.specs.Sheets.{equationNumbers}
 use Rattle.rules.specs.Stores.{rowOf, rowsOf}
+use Rattle.writing.specs.Bounds.{equationBytes}
 use Rattle.writing.specs.Writer.{Going, going-first, going-next, going-last, put-same, lines-next, lines-end}
 use borrow.Author.Needs.{needs}
 use Rattle.writing.proofs.writer.put_equations.Statement.{statement}
@@ -24,7 +25,7 @@ abbrev Inv-loop : tie.InvT-loop
 Inv-loop bytes₀ at rows m l next₀ i₀ bytes next i =
     (i ≤ m)
     × Going bytes₀ at (lines (map (equationNumbers (toZ w64 l)) (rowsOf m rows))) bytes next
-    (lines (map (equationNumbers (toZ w64 l)) (drop i (rowsOf m rows)))) (i * 4601)
+    (lines (map (equationNumbers (toZ w64 l)) (drop i (rowsOf m rows)))) (i * equationBytes)
 
 abbrev μ-loop : tie.MeasureT-loop
 μ-loop bytes₀ at rows m l next₀ i₀ bytes next i = m - i
@@ -54,11 +55,11 @@ put-equation-requires : tie.Need-put-equation-requires Inv-loop μ-loop
 put-equation-requires c κs =
     let start = c .before .before .before .before .before in
     let i = c .before .before .before .loop .i in
-    let width : 320 ≡ i * 320 + 320 - i * 320 = omega arith in (
+    let width : rowLength ≡ i * rowLength + rowLength - i * rowLength = omega arith in (
       search needs,
       rw (toZ-ofZ (start .fits .l)) (start .pre .2),
       search needs,
-      subst (λ n. T (every small (take n (drop (i * 320) (now (start .args .rows)))))) width
+      subst (λ n. T (every small (take n (drop (i * rowLength) (now (start .args .rows)))))) width
           (start .pre .4 i (c .before .before .loop-test .taken)),
     )
 
@@ -76,10 +77,11 @@ loop-again c =
     let store = now (args .rows) in
     let i = turn .before .loop .i in
     let l = toZ w64 (ofZ w64 (args .l)) in
-    let width : i * 320 + 320 - i * 320 ≡ 320 = omega arith in
-    let part = ap (λ n. line (equationNumbers l (rowOf (take n (drop (i * 320) store))))) width in (
+    let width : i * rowLength + rowLength - i * rowLength ≡ rowLength = omega arith in
+    let part = ap (λ n. line (equationNumbers l (rowOf (take n (drop (i * rowLength) store))))) width in (
       omega arith,
-      going-next (turn .before .loop .inv .1) (lines-next (equationNumbers l) rowOf 320 (args .m) store i (turn .loop-test .taken))
+      going-next (turn .before .loop .inv .1)
+          (lines-next (equationNumbers l) rowOf rowLength (args .m) store i (turn .loop-test .taken))
           (put-same (c .before .before .put-equation .ensures) part) (omega arith),
     )
 
@@ -92,7 +94,7 @@ returns c =
     let args = c .before .before .before .args in
     let store = now (args .rows) in
     let written = equationNumbers (toZ w64 (ofZ w64 (args .l))) in
-    let none = lines-end written rowOf 320 (args .m) store (c .before .loop .i) (c .loop-test .left) in
+    let none = lines-end written rowOf rowLength (args .m) store (c .before .loop .i) (c .loop-test .left) in
     put-same (going-last (c .before .loop .inv .1) none (omega arith))
     (ap (λ l. lines (map (equationNumbers l) (rowsOf (args .m) store))) (toZ-ofZ (c .before .before .before .fits .l)))
 

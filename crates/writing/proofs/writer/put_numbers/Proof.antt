@@ -13,13 +13,14 @@ use mir.Val.{SFits}
 use mir.Facts.{toZ-ofZ}
 use Rattle.rules.specs.Limits.{small}
 use Rattle.polynomials.specs.Shift.{every-getD}
+use Rattle.writing.specs.Bounds.{numberBytes}
 use Rattle.writing.specs.Writer.{Going, going-first, going-next, going-last, put-same, spaced, spaced-next}
 use Rattle.writing.proofs.writer.put_numbers.Statement.{statement}
 use Rattle.writing.proofs.writer.put_numbers.Tie as tie
 
 abbrev Inv-loop : tie.InvT-loop
 Inv-loop bytes₀ at numbers next₀ i₀ bytes next i =
-    (i ≤ length numbers) × Going bytes₀ at (spaced numbers) bytes next (spaced (drop i numbers)) (11 * i)
+    (i ≤ length numbers) × Going bytes₀ at (spaced numbers) bytes next (spaced (drop i numbers)) (numberBytes * i)
 
 abbrev μ-loop : tie.MeasureT-loop
 μ-loop bytes₀ at numbers next₀ i₀ bytes next i = length numbers - i

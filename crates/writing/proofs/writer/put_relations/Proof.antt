@@ -10,11 +10,12 @@ use lib.ListN.{take, drop}
 use mir.Syntax.{w64}
 use mir.Val.{toZ, ofZ}
 use mir.Facts.{toZ-ofZ}
-use Rattle.rules.specs.Limits.{small}
+use Rattle.rules.specs.Limits.{relationLength, small}
 use Rattle.rules.specs.Rows.{every}
 use Rattle.rules.specs.Numbers.{line, lines}
 use Rattle.rules.specs.Sheets.{relationLine}
 use Rattle.rules.specs.Stores.{relationOf, relationsOf}
+use Rattle.writing.specs.Bounds.{relationBytes}
 use Rattle.writing.specs.Writer.{Going, going-first, going-next, going-last, put-same, lines-next, lines-end}
 use borrow.Author.Needs.{needs}
 use Rattle.writing.proofs.writer.put_relations.Statement.{statement}
@@ -24,7 +25,7 @@ abbrev Inv-loop : tie.InvT-loop
 Inv-loop bytes₀ at relations count l next₀ i₀ bytes next i =
     (i ≤ count)
     × Going bytes₀ at (lines (map (relationLine (toZ w64 l)) (relationsOf count relations))) bytes next
-    (lines (map (relationLine (toZ w64 l)) (drop i (relationsOf count relations)))) (i * 4612)
+    (lines (map (relationLine (toZ w64 l)) (drop i (relationsOf count relations)))) (i * relationBytes)
 
 abbrev μ-loop : tie.MeasureT-loop
 μ-loop bytes₀ at relations count l next₀ i₀ bytes next i = count - i
@@ -54,11 +55,11 @@ put-relation-requires : tie.Need-put-relation-requires Inv-loop μ-loop
 put-relation-requires c κs =
     let start = c .before .before .before .before .before in
     let i = c .before .before .before .loop .i in
-    let width : 321 ≡ i * 321 + 321 - i * 321 = omega arith in (
+    let width : relationLength ≡ i * relationLength + relationLength - i * relationLength = omega arith in (
       search needs,
       rw (toZ-ofZ (start .fits .l)) (start .pre .2),
       search needs,
-      subst (λ n. T (every small (take n (drop (i * 321) (now (start .args .relations)))))) width
+      subst (λ n. T (every small (take n (drop (i * relationLength) (now (start .args .relations)))))) width
           (start .pre .4 i (c .before .before .loop-test .taken)),
     )
 
@@ -76,10 +77,11 @@ loop-again c =
     let store = now (args .relations) in
     let i = turn .before .loop .i in
     let l = toZ w64 (ofZ w64 (args .l)) in
-    let width : i * 321 + 321 - i * 321 ≡ 321 = omega arith in
-    let part = ap (λ n. line (relationLine l (relationOf (take n (drop (i * 321) store))))) width in (
+    let width : i * relationLength + relationLength - i * relationLength ≡ relationLength = omega arith in
+    let part = ap (λ n. line (relationLine l (relationOf (take n (drop (i * relationLength) store))))) width in (
       omega arith,
-      going-next (turn .before .loop .inv .1) (lines-next (relationLine l) relationOf 321 (args .count) store i (turn .loop-test .taken))
+      going-next (turn .before .loop .inv .1)
+          (lines-next (relationLine l) relationOf relationLength (args .count) store i (turn .loop-test .taken))
           (put-same (c .before .before .put-relation .ensures) part) (omega arith),
     )
 
@@ -92,7 +94,7 @@ returns c =
     let args = c .before .before .before .args in
     let store = now (args .relations) in
     let written = relationLine (toZ w64 (ofZ w64 (args .l))) in
-    let none = lines-end written relationOf 321 (args .count) store (c .before .loop .i) (c .loop-test .left) in
+    let none = lines-end written relationOf relationLength (args .count) store (c .before .loop .i) (c .loop-test .left) in
     put-same (going-last (c .before .loop .inv .1) none (omega arith))
     (ap (λ l. lines (map (relationLine l) (relationsOf (args .count) store))) (toZ-ofZ (c .before .before .before .fits .l)))
 

@@ -11,6 +11,7 @@ use lib.Seq.{length-take-le}
 use mir.Facts.{toZ-ofZ}
 use Rattle.rules.specs.Limits.{small}
 use Rattle.rows.specs.Written.{every-take}
+use Rattle.writing.specs.Bounds.{numberBytes, countBytes, termBytes}
 use Rattle.writing.specs.Writer.{trim-le, term-none, term-some, spaced, spaced-then, put-none, put-same, put-wide}
 use borrow.Author.Needs.{needs}
 use Rattle.writing.proofs.writer.put_term.Statement.{statement}
@@ -69,7 +70,7 @@ returns-2 c =
     let args = t .args in
     let column = args .column in
     let coefficients = take (n t) (p t) in
-    let bound : 11 + (21 + (21 + 11 * length coefficients)) ≤ 229 = omega (arith, size t, few t) in
+    let bound : numberBytes + (countBytes + (countBytes + numberBytes * length coefficients)) ≤ termBytes = omega (arith, size t, few t) in
     put-wide
     (put-same
     (spaced-then (_ ∷ []) (pos column ∷ pos (n t) ∷ coefficients) (blocked .put-next .ensures)

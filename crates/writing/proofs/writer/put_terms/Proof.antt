@@ -16,6 +16,7 @@ use Rattle.rules.specs.Limits as Limits
 use Rattle.rows.specs.Written.{every-part}
 use Rattle.rules.specs.Sheets.{trim, blockTerms, termsFrom}
 use Rattle.rules.specs.Stores.{parts, rowOf}
+use Rattle.writing.specs.Bounds.{blockBytes}
 use Rattle.writing.specs.Writer.{Going, going-first, going-next, going-last, put-same}
 use Rattle.writing.specs.Writer.{spaced, numbersOf, block-size, small-block, lengths-part, terms-next, terms-end}
 use borrow.Author.Needs.{needs}
@@ -26,7 +27,7 @@ abbrev Inv-loop : tie.InvT-loop
 Inv-loop bytes₀ at row lengths l next₀ b₀ bytes next b =
     (b ≤ 5)
     × Going bytes₀ at (spaced (numbersOf (termsFrom (toZ w64 l) (rowOf row .blocks)))) bytes next
-    (spaced (numbersOf (termsFrom (toZ w64 l -ℤ pos b) (drop b (rowOf row .blocks))))) (916 * b)
+    (spaced (numbersOf (termsFrom (toZ w64 l -ℤ pos b) (drop b (rowOf row .blocks))))) (blockBytes * b)
 
 abbrev μ-loop : tie.MeasureT-loop
 μ-loop bytes₀ at row lengths l next₀ b₀ bytes next b = 5 - b

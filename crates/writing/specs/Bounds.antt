@@ -1,0 +1,72 @@
+-- How many bytes each part of a sheet takes at most, and how far below 2 ^ 64 the place has to be at which it is written: a
+-- function that writes digits takes room for 20 of them, however few there are.
+--
+-- Main definitions
+--   numberBytes, countBytes   a space and a number within ±C; a space and a count
+--   termBytes, blockBytes, termsBytes   one term, the terms of a block, and those of a row, with a space before each number
+--   equationBytes, relationBytes        the line of an equation, and that of a relation
+--   sizesBytes, orderBytes              the line of the sizes, and that of the order
+--   sheetBytes m count        a sheet of m equations and count relations
+--   numberRoom, sizesRoom, termRoom, blockRoom, termsRoom, equationRoom, relationRoom   the same parts, with that room
+use Prim.Native.Nat.{ℕ, _+_, _*_}
+use Rattle.rules.specs.Limits.{coefficientCount, columnCount, blockCount}
+
+-- a space, a minus and nine digits
+abbrev pub numberBytes : ℕ
+numberBytes = 11
+
+-- a space, or the newline past it, and twenty digits
+abbrev pub countBytes : ℕ
+countBytes = 21
+
+-- the block, the column, the number of coefficients, and these
+abbrev pub termBytes : ℕ
+termBytes = numberBytes + countBytes + countBytes + numberBytes * coefficientCount
+
+abbrev pub blockBytes : ℕ
+blockBytes = columnCount * termBytes
+
+abbrev pub termsBytes : ℕ
+termsBytes = blockCount * blockBytes
+
+-- the number of terms, the terms and a newline
+abbrev pub equationBytes : ℕ
+equationBytes = countBytes + termsBytes
+
+-- n0, a space and an equation
+abbrev pub relationBytes : ℕ
+relationBytes = numberBytes + equationBytes
+
+-- the form's digit, m, l, t and a newline
+abbrev pub sizesBytes : ℕ
+sizesBytes = 1 + countBytes + numberBytes + numberBytes + 1
+
+-- the number of columns, at most four columns and a newline
+abbrev pub orderBytes : ℕ
+orderBytes = countBytes + countBytes * columnCount
+
+-- the sizes, the number of equations and the equations, the number of relations and the relations, and the order
+abbrev pub sheetBytes : ℕ → ℕ → ℕ
+sheetBytes m count = sizesBytes + countBytes + countBytes + orderBytes + m * equationBytes + count * relationBytes
+
+-- a space, a minus and twenty digits
+abbrev pub numberRoom : ℕ
+numberRoom = 22
+
+abbrev pub sizesRoom : ℕ
+sizesRoom = 1 + countBytes + numberRoom + numberRoom + 1
+
+abbrev pub termRoom : ℕ
+termRoom = numberRoom + countBytes + countBytes + numberRoom * coefficientCount
+
+abbrev pub blockRoom : ℕ
+blockRoom = columnCount * termRoom
+
+abbrev pub termsRoom : ℕ
+termsRoom = blockCount * blockRoom
+
+abbrev pub equationRoom : ℕ
+equationRoom = countBytes + termsRoom
+
+abbrev pub relationRoom : ℕ
+relationRoom = numberRoom + equationRoom
