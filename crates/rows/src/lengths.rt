@@ -1,14 +1,14 @@
-// The lengths of rows, relations and their stores: rowLength and relationLength of `rules`, the largest row store and the relation
-// store.
+// The lengths of rows, relations and their stores: `rowLength` and `relationLength` of `rules`, the largest row store and the
+// relation store (SCOPE 3.2, 3.4, 3.11).
 
-// "each row held as 320 numbers"
+// The numbers of a row.
 pub const ROW: usize = 320;
 
-// "A relation is n0 and then a row."
+// n0 and then a row.
 pub const RELATION: usize = 1 + ROW;
 
-// Four rows: "The row store needs m × 320 numbers".
+// The largest row store: four rows.
 pub const ROWS: usize = 4 * ROW;
 
-// Sixteen relations: "the relation store 16 × 321".
+// The relation store: sixteen relations.
 pub const RELATIONS: usize = 16 * RELATION;
