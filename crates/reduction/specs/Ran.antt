@@ -70,7 +70,7 @@ pub record Ran (m : ℕ) (rows relations rows' relations' : List ℤ) (o : Answe
   pub answer : o ≡ answerFor x
   pub rows-after : rows' ≡ rowsAfter m x rows
   pub relations-after : relations' ≡ relationsAfter x relations
-  pub reached : Reached m rows relations rows' relations' 121 o x
+  pub reached : Reached m rows relations rows' relations' 120 o x
 
 -- ---- a run without a refusal
 
@@ -109,7 +109,7 @@ module _ (s : State) where
   held-relations true store = refl
 
 pub ran-held : {m : ℕ} {rows relations rows' relations' : List ℤ} {o : Answer.Outcome} {x : Outcome}
-    → Reached m rows relations rows' relations' 121 o x → o .refusal ≡ 0 → Ran m rows relations rows' relations' o x
+    → Reached m rows relations rows' relations' 120 o x → o .refusal ≡ 0 → Ran m rows relations rows' relations' o x
 unfolding stateOf
 ran-held {m} {rows} {relations} {rows'} {relations'} {o} {x} r e =
     record {
@@ -226,7 +226,7 @@ refused-is zero d s h = absurd (h refl)
 refused-is (suc n) d s h = refl
 
 refused-outcome : {m : ℕ} {rows relations rows' relations' : List ℤ} {o : Answer.Outcome} {x : Outcome}
-    → Reached m rows relations rows' relations' 121 o x → o .refusal ≢ 0 → refused (o .refusal) ≡ x
+    → Reached m rows relations rows' relations' 120 o x → o .refusal ≢ 0 → refused (o .refusal) ≡ x
 refused-outcome {m} {rows} {relations} {rows'} {relations'} {o} r n =
     refused-is (o .refusal) (o .done) (stateOf m rows' relations' (o .progress)) n ∙ r .outcome
 
@@ -259,7 +259,7 @@ ran-zeros m n rows relations h few rows-long relations-long =
 
 -- The rows and the relations that are listed when the run is refused are cleared.
 pub ran-cleared : {m : ℕ} {rows relations rows₁ relations₁ rows₂ relations₂ : List ℤ} {o o' : Answer.Outcome} {x : Outcome}
-    → Reached m rows relations rows₁ relations₁ 121 o x → o .refusal ≢ 0
+    → Reached m rows relations rows₁ relations₁ 120 o x → o .refusal ≢ 0
     → rows₂ ≡ paste rows₁ 0 (replicate (rowNeed m) (pos 0)) (rowNeed m)
     → let used = o .progress .count * 321 in relations₂ ≡ paste relations₁ 0 (replicate used (pos 0)) used
     → o' ≡ answerOf (o .refusal) (startProgress 0) → Ran m rows relations rows₂ relations₂ o' x
@@ -313,5 +313,5 @@ ran-kept {m} {rows} {relations} {rows₁} {relations₁} {rows₂} {relations₂
           };
     }
   where
-    reached : Reached m rows₁ relations₁ rows₂ relations₂ 121 o x
+    reached : Reached m rows₁ relations₁ rows₂ relations₂ 120 o x
     reached = r .reached
