@@ -21,7 +21,7 @@ use Rattle.rules.specs.Rows.{Row, Relation, zeroRow, width, entry, firstNonzero
 use Rattle.rules.specs.Rows.{mirrorRow, mirrorRelation}
 use Rattle.rules.specs.Elimination.{Side, leading, trailing, Multipliers, State, Outcome, going, done, refused, Limited}
 use Rattle.rules.specs.Elimination.{within, beyond}
-use Rattle.rules.specs.Elimination.{start, enough, step, workOn, meet, settleOrShift, shiftStep, eliminateStep}
+use Rattle.rules.specs.Elimination.{start, enough, finished, step, workOn, meet, settleOrShift, shiftStep, eliminateStep}
 use Rattle.rules.specs.Elimination.{narrowFirst, combineStep}
 use Rattle.rules.specs.Elimination.{multipliersAt, rowAt, putRow, listRelations, settle, countShift, exchange, putLimited}
 use Rattle.rules.specs.Elimination.{listing}
@@ -129,9 +129,7 @@ eliminate-alike s l p i j =
 step-alike : (s : State) (l : List Relation) → List·Permᴰ l (s .relations) → Alike (step trailing (relist s l)) (step leading s)
 unfolding step workOn rowAt meet
 step-alike s l p =
-    cond-alike (ltb i (length (s .rows)))
-    (cond-alike (zeroRow (rowAt s i)) (both-refused 6) (met (firstNonzero (map (entry (rowAt s i)) (s .order)))))
-    (both-done s l p)
+    cond-alike (zeroRow (rowAt s i)) (both-refused 6) (met (firstNonzero (map (entry (rowAt s i)) (s .order))))
   where
     i : ℕ
     i = length (s .order)
@@ -142,9 +140,9 @@ step-alike s l p =
 
 run-alike : (k : ℕ) (s : State) (l : List Relation) → List·Permᴰ l (s .relations)
     → Alike (run trailing k (relist s l)) (run leading k s)
-unfolding run andThen
-run-alike zero s l p = both-going s l p
-run-alike (suc k) s l p = go (step-alike s l p) (run-alike k)
+unfolding run finished andThen
+run-alike zero s l p = cond-alike (finished s) (both-done s l p) (both-going s l p)
+run-alike (suc k) s l p = cond-alike (finished s) (both-done s l p) (go (step-alike s l p) (run-alike k))
   where
     go : {o u : Outcome} → Alike o u
         → ((t : State) (m : List Relation) → List·Permᴰ m (t .relations) → Alike (run trailing k (relist t m)) (run leading k t))
@@ -157,7 +155,7 @@ mirror-enough : (D : ℕ) (rows : List Row) → enough (map (mirrorRow D) rows) 
 unfolding enough
 mirror-enough D [] = refl
 mirror-enough D (r ∷ rows) =
-    ap₂ (λ m b. suc (suc m * (m + m * b))) (length-map (r ∷ rows) (mirrorRow D)) (mirrorRow-length D r)
+    ap₂ (λ m b. suc m * (m + m * b)) (length-map (r ∷ rows) (mirrorRow D)) (mirrorRow-length D r)
 
 pub trailing-mirrors : (D : ℕ) (rows : List Row) (relations : List Relation)
     → (o : Outcome) × (wholeRun trailing D rows relations ≡ mirrorOutcome D o)

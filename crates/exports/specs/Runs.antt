@@ -26,7 +26,7 @@ use lib.Signed.{≤ℤ-refl}
 use lib.ListN.{length}
 use Rattle.rules.specs.Limits.{columnCount}
 use Rattle.rules.specs.Rows.{All}
-use Rattle.rules.specs.Elimination.{Side, State, Outcome, going, done, refused, wholeRun}
+use Rattle.rules.specs.Elimination.{Side, State, Outcome, going, done, refused, wholeRun, neverNumber}
 use Rattle.rules.specs.Stores.{Sizes, Valid, span, rowsOf, relationsOf, sizesRight, countRight, lengthsRight, numbersRight, checkStores}
 use Rattle.rules.specs.Lists.{all-map, getD-all}
 use Rattle.rules.specs.Layout.{SizeBounds, size-bounds, checkStores-order, stores-valid, countRight-iff, block-place, length-padTo}
@@ -189,7 +189,7 @@ module _ (side : Side) (z : Sizes) (count : ℕ) (rowStore relationStore : List 
     where
       by-run : checkStores z count rowStore relationStore ≡ 0 → (o : Outcome) → outcome ≡ o
           → SmallResult (afterRun side z o rowStore relationStore .result)
-      by-run e (going s) f = run-zeros 6
+      by-run e (going s) f = run-zeros neverNumber
       by-run e (done s) f = accepted-small e s f
       by-run e (refused n) f = run-zeros n
 

@@ -53,7 +53,7 @@ outcomeAt m rows relations o = outcomeOf (o .refusal) (o .done) (stateOf m rows 
 
 -- The steps that are enough with four rows of five blocks, and so the most shifts.
 abbrev pub mostSteps : ℕ
-mostSteps = (columnCount + 1) * (columnCount + columnCount * blockCount) + 1
+mostSteps = (columnCount + 1) * (columnCount + columnCount * blockCount)
 
 abbrev pub startProgress : ℕ → Progress
 startProgress count = record { settled = 0; order = 0 ∷ 0 ∷ 0 ∷ 0 ∷ []; count = count; shifts = 0 }

@@ -1,47 +1,52 @@
 -- The run as a loop of steps.
 --
 -- Main definitions
---   Running side m .. o left x   the loop's invariant: at most `left` steps more from the answer o give x
+--   Running side m .. n p left x   the loop's invariant: at most `left` steps more from the progress p give x, unless n is a refusal
+--   Stopped m n p left           the loop's end: no step is left, or n is a refusal, or every row is settled
 --
 -- Main statements
 --   enough-rows            the number of steps that are enough for m rows in a store
 --   start-ready            stores that a run asks for are ready for its first step
---   run-starts, run-goes, run-ends, run-refused, run-done   the turns of the loop
+--   run-starts, run-goes, run-stops   the turns of the loop
 use Prim.Native.Nat.{ℕ, zero, suc, _+_, _*_, _-_, _≤_, _<_, zero-le}
 use native.Mathlib.Nat.{mul-le-mul, not-suc-le-zero}
 use native.Mathlib.Numerals.{add-one}
 use native.Mathlib.Omega.{arith}
 use mathlib.Core.Path.{_≡_, refl, sym, _∙_, ap, ap₂}
-use mathlib.Core.Bool.{Bool, true, false, false≢true}
+use mathlib.Core.Logic.{_≢_, _⊎_, inl, inr}
+use mathlib.Core.Bool.{Bool, true, false, cond}
 use mathlib.Core.List.{List}
-use lib.Dec.{lit<}
+use borrow.Author.Tests.{le-leb, lt-leb}
+use lib.Dec.{leb, lit<}
 use lib.IntN.{ℤ}
 use lib.ListN.{take}
 use Rattle.rules.specs.Limits.{rowLength}
 use Rattle.rules.specs.Rows.{All}
 use Rattle.rules.specs.Stores.{rowsOf, relationsOf, relationNeed, rowNeed}
-use Rattle.rules.specs.Elimination.{Side, State, Outcome, going, done, refused, step, andThen, run, enough, start}
+use Rattle.rules.specs.Elimination.{Side, State, Outcome, going, done, finished, step, andThen, run, enough, start}
 use Rattle.rules.specs.Layout.{length-rowsOf}
 use Rattle.rules.specs.Calls.{padTo}
 use Rattle.rows.specs.Flat.{length-blocks}
 use Rattle.working.specs.Found.{Columns}
+use Rattle.reduction.specs.declared.step.Progress.{Progress}
 use Rattle.reduction.specs.declared.step.Outcome as Answer
 use Rattle.sides.specs.Lent.{Within, Listing}
 use Rattle.reduction.specs.Progress.{Ready, Reached, stateOf, outcomeOf, outcomeAt, answerOf, mostSteps, startProgress}
+use Rattle.reduction.specs.StepCases.{finished-at}
 use Rattle.sides.specs.StoreStates.{kept-same, kept-then}
 
 -- ---- how many steps are enough
 
-pub enough-rows : (m : ℕ) (store : List ℤ) → enough (rowsOf m store) ≡ (m + 1) * (m + m * 5) + 1
+pub enough-rows : (m : ℕ) (store : List ℤ) → enough (rowsOf m store) ≡ (m + 1) * (m + m * 5)
 unfolding enough rowsOf
 enough-rows zero store = refl
 enough-rows (suc m) store =
-    ap₂ (λ k b. suc (suc k * (k + k * b))) (length-rowsOf (suc m) store) (length-blocks (take rowLength store)) ∙ plain (suc m)
+    ap₂ (λ k b. suc k * (k + k * b)) (length-rowsOf (suc m) store) (length-blocks (take rowLength store)) ∙ plain (suc m)
   where
-    plain : (k : ℕ) → suc (suc k * (k + k * 5)) ≡ (k + 1) * (k + k * 5) + 1
+    plain : (k : ℕ) → suc k * (k + k * 5) ≡ (k + 1) * (k + k * 5)
     plain k = simp add-one
 
-pub enough-few : (m : ℕ) → m ≤ 4 → (m + 1) * (m + m * 5) + 1 ≤ mostSteps
+pub enough-few : (m : ℕ) → m ≤ 4 → (m + 1) * (m + m * 5) ≤ mostSteps
 enough-few m h = omega (arith, mul-le-mul (count m h) (width m h))
   where
     count : (m : ℕ) → m ≤ 4 → m + 1 ≤ 5
@@ -67,42 +72,41 @@ start-ready m count rows relations h w l =
       padded = refl;
     }
 
--- Nothing comes after a refusal, after the end, or after the last step.
-refused-then : (n : ℕ) (d : Bool) (s : State) (f : State → Outcome) → (n ≡ 0 → ⊥) → andThen (outcomeOf n d s) f ≡ outcomeOf n d s
-unfolding andThen outcomeOf
-refused-then zero d s f h = absurd (h refl)
-refused-then (suc n) d s f h = refl
+-- The turns of a run.
+module _ (side : Side) (s : State) where
+  run-finished : (k : ℕ) → finished s ≡ true → run side k s ≡ done s
+  unfolding run
+  run-finished zero e = ap (λ t. cond t (done s) (going s)) e
+  run-finished (suc k) e = ap (λ t. cond t (done s) (andThen (step side s) (run side k))) e
 
-done-then : (n : ℕ) (d : Bool) (s : State) (f : State → Outcome) → d ≡ true → andThen (outcomeOf n d s) f ≡ outcomeOf n d s
-unfolding andThen outcomeOf
-done-then zero true s f h = refl
-done-then zero false s f h = absurd (false≢true h)
-done-then (suc n) d s f h = refl
+  run-steps : (k : ℕ) → finished s ≡ false → 0 < k → run side k s ≡ andThen (step side s) (run side (k - 1))
+  unfolding run
+  run-steps zero e h = absurd (not-suc-le-zero h)
+  run-steps (suc k) e h =
+      ap (λ t. cond t (done s) (andThen (step side s) (run side k))) e ∙ ap (λ n. andThen (step side s) (run side n)) (before k)
+    where
+      before : (k : ℕ) → k ≡ suc k - 1
+      before k = omega arith
 
-nothing-then : (side : Side) (o : Outcome) → andThen o (run side 0) ≡ o
-unfolding andThen run
-nothing-then side (going s) = refl
-nothing-then side (done s) = refl
-nothing-then side (refused n) = refl
+  run-no-further : (t : Bool) → finished s ≡ t → run side 0 s ≡ outcomeOf 0 t s
+  unfolding run outcomeOf
+  run-no-further true e = ap (λ t. cond t (done s) (going s)) e
+  run-no-further false e = ap (λ t. cond t (done s) (going s)) e
 
-step-then : (side : Side) (left : ℕ) (s : State) → 0 < left → run side left s ≡ andThen (step side s) (run side (left - 1))
-unfolding run
-step-then side zero s h = absurd (not-suc-le-zero h)
-step-then side (suc k) s h = ap (λ n. andThen (step side s) (run side n)) (before k)
-  where
-    before : (k : ℕ) → k ≡ suc k - 1
-    before k = omega arith
-
--- The loop: o is reached, and at most `left` steps more give x.
-pub record Running (side : Side) (m : ℕ) (rows relations rows' relations' : List ℤ) (o : Answer.Outcome) (left : ℕ) (x : Outcome)
+-- The loop: at most `left` steps more from the progress p give x, unless n is a refusal.
+pub record Running (side : Side) (m : ℕ) (rows relations rows' relations' : List ℤ) (n : ℕ) (p : Progress) (left : ℕ) (x : Outcome)
     : Type 0 where
   pub few : left ≤ mostSteps
-  pub reached : Reached m rows relations rows' relations' (mostSteps - left) o (outcomeAt m rows' relations' o)
-  pub whole : andThen (outcomeAt m rows' relations' o) (run side left) ≡ x
+  pub reached : Reached m rows relations rows' relations' (mostSteps - left) (answerOf n p) (outcomeAt m rows' relations' (answerOf n p))
+  pub whole : andThen (outcomeAt m rows' relations' (answerOf n p)) (run side left) ≡ x
+
+-- What ends it: no step is left, a refusal, or no row.
+abbrev pub Stopped : ℕ → ℕ → Progress → ℕ → Type 0
+Stopped m n p left = (left ≡ 0) ⊎ (n ≢ 0) ⊎ (m ≤ p .settled)
 
 pub run-starts : (side : Side) (m count left : ℕ) (rows relations : List ℤ) → m ≤ 4 → Within (rowNeed m) rows → Listing count relations
-    → left ≡ (m + 1) * (m + m * 5) + 1
-    → Running side m rows relations rows relations (answerOf 0 (startProgress count)) left
+    → left ≡ (m + 1) * (m + m * 5)
+    → Running side m rows relations rows relations 0 (startProgress count) left
     (run side (enough (rowsOf m rows)) (start (rowsOf m rows) (relationsOf count relations)))
 unfolding outcomeOf stateOf start andThen
 run-starts side m count left rows relations h w l e =
@@ -119,35 +123,40 @@ run-starts side m count left rows relations h w l e =
       whole = ap (λ n. run side n (start (rowsOf m rows) (relationsOf count relations))) (e ∙ sym (enough-rows m rows));
     }
 
-module _ {side : Side} {m : ℕ} {rows relations rows' relations' : List ℤ} {o : Answer.Outcome} {left : ℕ} {x : Outcome}
-    (r : Running side m rows relations rows' relations' o left x) where
-  -- The run has come to its end with the outcome that is reached.
-  ended : andThen (outcomeAt m rows' relations' o) (run side left) ≡ outcomeAt m rows' relations' o
-      → Reached m rows relations rows' relations' mostSteps o x
-  ended e =
+module _ {side : Side} {m : ℕ} {rows relations rows' relations' : List ℤ} {n : ℕ} {p : Progress} {left : ℕ} {x : Outcome}
+    (r : Running side m rows relations rows' relations' n p left x) where
+  abbrev s : State
+  s = stateOf m rows' relations' p
+
+  finished-here : finished s ≡ leb m (p .settled)
+  finished-here = finished-at side (r .reached .ready)
+
+  -- A refused run stays so, and one with no step or no row left is done exactly if no row is left.
+  stopped-whole : (k : ℕ) → andThen (outcomeOf k false s) (run side left) ≡ x → Stopped m k p left → outcomeOf k (leb m (p .settled)) s ≡ x
+  unfolding andThen outcomeOf
+  stopped-whole (suc k) e h = e
+  stopped-whole zero e (inl none) = sym (ap (λ k. run side k s) none ∙ run-no-further side s (leb m (p .settled)) finished-here) ∙ e
+  stopped-whole zero e (inr (inl h)) = absurd (h refl)
+  stopped-whole zero e (inr (inr h)) =
+      let all = le-leb m (p .settled) h in
+      ap (λ t. outcomeOf 0 t s) all ∙ sym (run-finished side s left (finished-here ∙ all)) ∙ e
+
+  pub run-stops : Stopped m n p left
+      → Reached m rows relations rows' relations' mostSteps (record { refusal = n; done = leb m (p .settled); progress = p }) x
+  run-stops h =
       record {
-        outcome = sym e ∙ r .whole;
+        outcome = stopped-whole n (r .whole) h;
         rows-kept = r .reached .rows-kept;
         relations-kept = r .reached .relations-kept;
         few-shifts = omega (arith, r .reached .few-shifts);
         ready = r .reached .ready;
       }
 
-  pub run-refused : (o .refusal ≡ 0 → ⊥) → Reached m rows relations rows' relations' mostSteps o x
-  run-refused h = ended (refused-then (o .refusal) (o .done) (stateOf m rows' relations' (o .progress)) (run side left) h)
-
-  pub run-done : o .done ≡ true → Reached m rows relations rows' relations' mostSteps o x
-  run-done h = ended (done-then (o .refusal) (o .done) (stateOf m rows' relations' (o .progress)) (run side left) h)
-
-  pub run-ends : left ≡ 0 → Reached m rows relations rows' relations' mostSteps o x
-  run-ends h =
-      ended (ap (λ n. andThen (outcomeAt m rows' relations' o) (run side n)) h ∙ nothing-then side (outcomeAt m rows' relations' o))
-
-  pub run-goes : {rows'' relations'' : List ℤ} {o' : Answer.Outcome} → 0 < left → o .refusal ≡ 0 → o .done ≡ false
-      → Reached m rows' relations' rows'' relations'' (o .progress .shifts + 1) o' (step side (stateOf m rows' relations' (o .progress)))
-      → Running side m rows relations rows'' relations'' o' (left - 1) x
+  pub run-goes : {rows'' relations'' : List ℤ} {o : Answer.Outcome} → 0 < left → n ≡ 0 → p .settled < m
+      → Reached m rows' relations' rows'' relations'' (p .shifts + 1) o (step side s) → o .done ≡ false
+      → Running side m rows relations rows'' relations'' (o .refusal) (o .progress) (left - 1) x
   unfolding andThen outcomeOf
-  run-goes b e f h =
+  run-goes {rows''} {relations''} {o} b e f h g =
       record {
         few = omega (arith, r .few);
         reached =
@@ -159,6 +168,8 @@ module _ {side : Side} {m : ℕ} {rows relations rows' relations' : List ℤ} {o
               ready = h .ready;
             };
         whole =
-            ap (λ y. andThen y (run side (left - 1))) (h .outcome) ∙ sym (step-then side left (stateOf m rows' relations' (o .progress)) b)
-            ∙ sym (ap₂ (λ n d. andThen (outcomeOf n d (stateOf m rows' relations' (o .progress))) (run side left)) e f) ∙ r .whole;
+            ap (λ y. andThen y (run side (left - 1)))
+            (ap (λ d. outcomeOf (o .refusal) d (stateOf m rows'' relations'' (o .progress))) (sym g) ∙ h .outcome)
+            ∙ sym (run-steps side s left (finished-here ∙ lt-leb m (p .settled) f) b)
+            ∙ sym (ap (λ k. andThen (outcomeOf k false s) (run side left)) e) ∙ r .whole;
       }

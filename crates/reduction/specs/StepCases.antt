@@ -1,7 +1,7 @@
 -- The cases of a step: which rule comes next for the row that is worked on.
 --
 -- Main statements
---   step-done, done-reached   no row is left
+--   finished-at               the state is finished if the settled rows are all m rows
 --   step-zero                 rule 1: a zero row
 --   step-met, met-nonzero     rule 2: settled row j meets a nonzero entry, and the entries are not both zero after the exchange
 --   narrowed-ready            after which a step may be made as before it
@@ -16,16 +16,16 @@ use mathlib.Core.Logic.{_⊎_, inl, inr, ⊎-elim}
 use mathlib.Core.Bool.{Bool, true, false, not, _&&_, and-false, cond}
 use mathlib.Core.List.{List, [], _∷_, _++_, map}
 use mathlib.Core.Option.{Option, none, some, Option·map}
-use borrow.Author.Tests.{lt-ltb, le-ltb}
-use lib.Dec.{T, lit<}
+use borrow.Author.Tests.{le-leb, lt-leb}
+use lib.Dec.{T, leb, ltb, ltb→lt, nltb→le, lit<}
 use lib.IntN.{ℤ}
 use lib.ListN.{length, take, drop, getD, set, length-set}
 use lib.Seq.{length-take-le, take-suc-set}
 use Rattle.algebra.specs.Polynomials.{Polynomial, isZero, isZero-append}
 use Rattle.rules.specs.Rows.{Row, All, zeroRow, entry, leadingBlock, firstNonzero}
 use Rattle.rules.specs.Stores.{rowOf, rowsOf, relationsOf, relationNeed, rowNeed}
-use Rattle.rules.specs.Elimination.{Side, State, going, done, refused, settle, multipliersAt}
-use Rattle.rules.specs.Elimination.{combineStep, eliminateStep, shiftStep, settleOrShift, meet, workOn, step}
+use Rattle.rules.specs.Elimination.{Side, State, going, refused, settle, multipliersAt}
+use Rattle.rules.specs.Elimination.{combineStep, eliminateStep, shiftStep, settleOrShift, meet, workOn, finished, step}
 use Rattle.rules.specs.Layout.{length-rowsOf, parts-length}
 use Rattle.rules.specs.Calls.{padTo}
 use Rattle.rows.specs.Flat.{block-at}
@@ -101,21 +101,13 @@ module _ (side : Side) {m : ℕ} {rows relations : List ℤ} {p : Progress} (rea
   unfolding stateOf
   rows-length = length-rowsOf m rows
 
-  pub step-done : m ≤ w → step side s ≡ done s
-  unfolding step
-  step-done h = rw (order-length, rows-length, le-ltb w m h)
-
-  pub done-reached : m ≤ w
-      → Reached m rows relations rows relations (p .shifts + 1) (record { refusal = 0; done = true; progress = p }) (step side s)
-  unfolding outcomeOf
-  done-reached h =
-      record {
-        outcome = sym (step-done h);
-        rows-kept = kept-same (rowNeed m) rows;
-        relations-kept = kept-same relationNeed relations;
-        few-shifts = omega arith;
-        ready = ready;
-      }
+  pub finished-at : finished s ≡ leb m w
+  unfolding finished
+  finished-at = rw (order-length, rows-length) (go (ltb w m) (ltb→lt w m) (nltb→le w m))
+    where
+      go : (t : Bool) → (T t → w < m) → (T (not t) → m ≤ w) → not t ≡ leb m w
+      go true f g = sym (lt-leb m w (f tt))
+      go false f g = sym (le-leb m w (g tt))
 
   module _ (inside : w < m) where
     pub narrowed-ready : (j : ℕ) → j < w → Ready m (narrowed rows w j) relations p
@@ -124,7 +116,7 @@ module _ (side : Side) {m : ℕ} {rows relations : List ℤ} {p : Progress} (rea
     step-is : step side s ≡ cond (zeroRow row) (refused 6) (meet side s w (firstNonzero entries))
     unfolding step workOn stateOf
     step-is =
-        rw (order-length, rows-length, lt-ltb w m inside)
+        rw order-length
         (ap (λ r. cond (zeroRow r) (refused 6) (meet side s w (firstNonzero (map (entry r) (take w (p .order))))))
         (row-of m rows relations p w inside))
 

@@ -10,13 +10,13 @@ ghost use Rattle.sides.specs.Lent.{Within, Listing, sideOf};
 ghost use Rattle.reduction.specs.Progress.{mostSteps, Reached, startProgress};
 ghost use Rattle.reduction.specs.Ran.{runOf, answerFor, rowsAfter, relationsAfter};
 
-// A bound on the steps that no run reaches (SCOPE 3.24): m settlings, five shifts a row, every settled row before each
-// of those, and the step that finds no row left.
+// A bound on the steps that no run reaches (SCOPE 3.24): m settlings, five shifts a row, and every settled row before each
+// of those.
 fn enough(m: usize) -> usize
     requires { ⌜ m ≤ 4 ⌝ }
-    ensures { λ r. ⌜ r ≡ (m + 1) * (m + m * 5) + 1 ⌝ }
+    ensures { λ r. ⌜ r ≡ (m + 1) * (m + m * 5) ⌝ }
 {
-    (m + 1) * (m + m * 5) + 1
+    (m + 1) * (m + m * 5)
 }
 
 // No row is settled at the start (SCOPE 2.2).
@@ -31,28 +31,26 @@ fn start(count: usize) -> Progress
     }
 }
 
-// Step after step, up to a refusal or the end.
+// Step after step, up to a refusal, or as long as a row is left; the run is done if none is.
 fn steps(rows: &mut [i64], relations: &mut [i64], m: usize, trailing: bool, count: usize) -> Outcome
     requires { ⌜ (m ≤ 4) × Within (rowNeed m) (now rows) × Listing count (now relations) ⌝ }
     ensures { λ r. ⌜ Reached m (now (rows .entry)) (now (relations .entry)) (now (rows .exit)) (now (relations .exit)) mostSteps r
         (runOf (sideOf trailing) m count (now (rows .entry)) (now (relations .entry))) ⌝ }
 {
-    let mut o = crate::step::answer(0, start(count));
+    let mut p = start(count);
+    let mut refusal: u8 = 0;
     let mut left = enough(m);
-    while 0 < left {
-        let refusal = o.refusal;
-        if refusal != 0 {
-            return o;
-        }
-        let done = o.done;
-        if done {
-            return o;
-        }
-        let p = o.progress;
-        o = crate::step::step(rows, relations, m, trailing, p);
+    while 0 < left && refusal == 0 && p.settled < m {
+        let o = crate::step::step(rows, relations, m, trailing, p);
+        refusal = o.refusal;
+        p = o.progress;
         left -= 1;
     }
-    o
+    Outcome {
+        refusal,
+        done: m <= p.settled,
+        progress: p,
+    }
 }
 
 // A refused run leaves zeros (SCOPE 6.33). The relation places past those that are listed hold 0 already.

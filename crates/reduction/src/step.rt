@@ -1,7 +1,7 @@
 // One step of the elimination over the lent stores: what `step` of `rules` says of the state that the stores hold.
 use rows::lengths::ROW;
 ghost use mathlib.Core.Path.{_≡_};
-ghost use mathlib.Core.Bool.{not};
+ghost use mathlib.Core.Bool.{false, not};
 ghost use mathlib.Core.List.{_++_};
 ghost use Prim.Native.Nat.{_+_, _*_, _^_, _≤_, _<_};
 ghost use lib.Dec.{T};
@@ -26,7 +26,7 @@ pub struct Progress {
     pub shifts: usize,
 }
 
-// What a step comes to: a refusal, or the end, or the progress with which the run goes on.
+// What a step or a run comes to: a refusal, or the end, or the progress with which the run goes on.
 pub struct Outcome {
     pub refusal: u8,
     pub done: bool,
@@ -143,6 +143,7 @@ fn combine_step(
     ensures { λ r. ⌜ Reached m (now (rows .entry)) (now (relations .entry)) (now (rows .exit)) (now (relations .exit)) (p .shifts + 1) r
         (Elimination.combineStep (sideOf trailing) (stateOf m (now (rows .entry)) (now (relations .entry)) p) (p .settled) j
         (Elimination.multipliersAt (stateOf m (now (rows .entry)) (now (relations .entry)) p) (p .settled) j)) ⌝ }
+    ensures { λ r. ⌜ r .done ≡ false ⌝ }
 {
     let i = p.settled;
     let target = rows::stores::load(rows, i * ROW);
@@ -171,7 +172,8 @@ fn combine_step(
     )
 }
 
-// One exchange with its combination, one combination, one settling, one shift, or the end (SCOPE 2.2, 2.11, 2.26).
+// One exchange with its combination, one combination, one settling or one shift (SCOPE 2.2, 2.11, 2.26). A step is taken only
+// where a row is left.
 pub(crate) fn step(
     rows: &mut [i64],
     relations: &mut [i64],
@@ -179,18 +181,12 @@ pub(crate) fn step(
     trailing: bool,
     p: Progress,
 ) -> Outcome
-    requires { ⌜ Ready m (now rows) (now relations) p × (p .shifts < 2 ^ 32) ⌝ }
+    requires { ⌜ Ready m (now rows) (now relations) p × (p .settled < m) × (p .shifts < 2 ^ 32) ⌝ }
     ensures { λ r. ⌜ Reached m (now (rows .entry)) (now (relations .entry)) (now (rows .exit)) (now (relations .exit)) (p .shifts + 1) r
         (Elimination.step (sideOf trailing) (stateOf m (now (rows .entry)) (now (relations .entry)) p)) ⌝ }
+    ensures { λ r. ⌜ r .done ≡ false ⌝ }
 {
     let i = p.settled;
-    if m <= i {
-        return Outcome {
-            refusal: 0,
-            done: true,
-            progress: p,
-        };
-    }
     let row = rows::stores::load(rows, i * ROW);
     if working::entries::is_zero_row(row) {
         return answer(6, p);

@@ -9,7 +9,7 @@ use mathlib.Core.List.{List, [], _∷_, _++_, map}
 use lib.Dec.{leb}
 use lib.ListN.{length, take, drop}
 use lib.IntN.{ℤ, pos, natAbs}
-use Rattle.rules.specs.Elimination.{State, Outcome, going, done, refused, leadingRun}
+use Rattle.rules.specs.Elimination.{State, Outcome, going, done, refused, leadingRun, neverNumber}
 use Rattle.rules.specs.Numbers.{space, newline, Read, got, fault, field, between, lines}
 use Rattle.rules.specs.Sheets.{Sheet, always, readSheet, writeSheet}
 
@@ -32,7 +32,7 @@ answerRun sheet (done s) =
     sized (writeSheet (record { sizes = sheet .sizes; rows = s .rows; relations = s .relations; order = map suc (s .order) }))
 answerRun sheet (refused n) = refusedWith n
 -- A run always ends (crate theory), so this case never comes (SCOPE 3.24).
-answerRun sheet (going s) = refusedWith 6
+answerRun sheet (going s) = refusedWith neverNumber
 
 -- The run makes no use of the order that the sheet carries (SCOPE 4.44).
 unfoldable pub answerRead : Read Sheet → Answer

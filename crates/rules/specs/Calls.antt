@@ -13,7 +13,7 @@ use lib.ListN.{length, take, drop, replicate}
 use lib.IntN.{ℤ, pos, natAbs, _-ℤ_}
 use lib.Signed.{leZ}
 use Rattle.rules.specs.Limits.{coefficientCount, columnCount, rowLength}
-use Rattle.rules.specs.Elimination.{Side, State, Outcome, going, done, refused, wholeRun, report}
+use Rattle.rules.specs.Elimination.{Side, State, Outcome, going, done, refused, wholeRun, report, neverNumber}
 use Rattle.rules.specs.Stores.{Sizes, span, rowsOf, relationsOf, rowNeed, relationNeed, rowStoreOf, relationStoreOf, sizesRight, checkStores}
 
 -- What a run returns (SCOPE 3.22).
@@ -84,7 +84,7 @@ afterRun side z (done s) rowStore relationStore =
     record { result = acceptance side (span z) s; rowStore = overwrite (rowStoreOf (s .rows)) rowStore; relationStore = overwrite (relationStoreOf (s .relations)) relationStore }
 afterRun side z (refused n) rowStore relationStore = cleared n (z .m) rowStore relationStore
 -- A run always ends (crate theory), so this case never comes (SCOPE 3.24).
-afterRun side z (going s) rowStore relationStore = cleared 6 (z .m) rowStore relationStore
+afterRun side z (going s) rowStore relationStore = cleared neverNumber (z .m) rowStore relationStore
 
 unfoldable pub afterCheck : Side → Sizes → ℕ → List ℤ → List ℤ → ℕ → Call
 unfolding afterRun wholeRun rowsOf relationsOf unchanged span

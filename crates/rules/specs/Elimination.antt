@@ -3,12 +3,14 @@
 -- Main definitions
 --   multipliers a b    rule 2's g and h
 --   State, Outcome     rows, relations, the columns of the settled rows, shifts; going on, done or refused
+--   finished s         every row is settled
 --   step side s        one exchange with its combination, one combination, one shift or one settling
---   run side k s       at most k steps
+--   run side k s       at most k steps, up to a finished state
+--   neverNumber        the number in the place of a run that does not end, which never comes
 --   leadingRun, trailingRun   the whole runs
 --   report side D s    the root report
 use Prim.Native.Nat.{ℕ, zero, suc, _+_, _*_}
-use mathlib.Core.Bool.{Bool, cond}
+use mathlib.Core.Bool.{Bool, not, cond}
 use mathlib.Core.List.{List, [], _∷_, _++_, map, reverse, flatten, zipWith}
 use mathlib.Core.Option.{Option, none, some}
 use lib.Dec.{ltb, leb}
@@ -171,13 +173,14 @@ workOn side s i =
     let rest = meet side s i (firstNonzero (map (entry (rowAt s i)) (s .order))) in
     cond (zeroRow (rowAt s i)) (refused 6) rest
 
--- The row in turn is row w + 1, at place w counted from 0; with no row left the run is done (SCOPE 2.2).
+-- The settled rows are all the rows (SCOPE 2.2).
+unfoldable pub finished : State → Bool
+finished s = not (ltb (length (s .order)) (length (s .rows)))
+
+-- The row in turn is row w + 1, at place w counted from 0 (SCOPE 2.2). A step is only ever taken of a state that is not finished.
 unfoldable pub step : Side → State → Outcome
 unfolding workOn
-step side s =
-    let i = length (s .order) in
-    let rest = workOn side s i in
-    cond (ltb i (length (s .rows))) rest (done s)
+step side s = workOn side s (length (s .order))
 
 -- ---- the run
 
@@ -186,19 +189,28 @@ andThen (going s) f = f s
 andThen (done s) f = done s
 andThen (refused n) f = refused n
 
--- At most k steps. A run that is still going at its end is neither accepted nor refused.
+-- At most k steps; no step is taken of a finished state. A run that is still going at its end is neither accepted nor
+-- refused.
 unfoldable pub run : Side → ℕ → State → Outcome
-unfolding step andThen
-run side zero s = going s
-run side (suc k) s = andThen (step side s) (run side k)
+unfolding finished step andThen
+run side zero s = cond (finished s) (done s) (going s)
+run side (suc k) s =
+    let rest = andThen (step side s) (run side k) in
+    cond (finished s) (done s) rest
 
--- Enough steps for any rows: a settling for each row, a shift for each block, combinations with every settled row
--- before each of those, and the step that finds no row left (SCOPE 3.24).
+-- Enough steps for any rows: a settling for each row, a shift for each block, and combinations with every settled row
+-- before each of those (SCOPE 3.24).
 unfoldable pub enough : List Row → ℕ
 enough rows =
     let m = length rows in
     let b = length (getD rows 0 noRow .blocks) in
-    suc (suc m * (m + m * b))
+    suc m * (m + m * b)
+
+-- A run with enough steps always ends (`run-ends` of crate theory), so no call ever answers with this number. It stands
+-- where a definition has to say something of a run that is still going, and is one of a run's own limits, so that what
+-- is said of all numbers of a call needs no exception.
+abbrev pub neverNumber : ℕ
+neverNumber = 8
 
 unfoldable pub leadingRun : List Row → List Relation → Outcome
 unfolding run enough start

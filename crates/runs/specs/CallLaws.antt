@@ -30,7 +30,7 @@ use lib.Seq.{take-suc, length-take-le}
 use Rattle.algebra.specs.Polynomials.{T-&&}
 use Rattle.rules.specs.Limits.{relationLength, small}
 use Rattle.rules.specs.Rows.{Row, Relation, every, coefficientsOf, smallRow}
-use Rattle.rules.specs.Elimination.{Side, State, Outcome, going, done, refused, wholeRun, report}
+use Rattle.rules.specs.Elimination.{Side, State, Outcome, going, done, refused, wholeRun, report, neverNumber}
 use Rattle.rules.specs.Lists.{every-append}
 use Rattle.rules.specs.Stores.{Sizes, Valid, span, sizesRight, checkStores, rowsOf, relationsOf, rowNeed, relationNeed}
 use Rattle.rules.specs.Stores.{rowStoreOf, relationStoreOf, relationNumbers, unusedZero, rowRight, relationRight}
@@ -118,7 +118,7 @@ unfolding acceptance refusal
 resultAfter side D (done s) = acceptance side D s
 resultAfter side D (refused n) = refusal n
 -- A run always ends (crate theory), so this case never comes (SCOPE 3.24).
-resultAfter side D (going s) = refusal 6
+resultAfter side D (going s) = refusal neverNumber
 
 -- What the row store and the answer hold when the run has ended.
 pub record Final (m : ℕ) (rows : List ℤ) (o : Answer.Outcome) : Type 0 where

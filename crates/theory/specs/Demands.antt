@@ -10,12 +10,12 @@
 --   3 agreement-leading,      6 run-ends,               9 next-row-later, zero-row-refused
 --     agreement-trailing        shifts-bounded
 use Prim.Native.Nat.{ℕ, suc, _*_, _≤_, _<_}
-use mathlib.Core.Path.{_≡_, refl, sym, _∙_, subst}
+use mathlib.Core.Path.{_≡_, refl, sym, subst}
 use mathlib.Core.Logic.{_↔_, inl, inr}
 use mathlib.Core.Bool.{not}
 use mathlib.Core.List.{List, map}
 use mathlib.Core.Option.{none, some}
-use lib.Dec.{T, ltb, lt→ltb}
+use lib.Dec.{T}
 use lib.ListN.{length}
 use lib.IntN.{ℤ, _+ℤ_}
 use lib.Signed.{_≤ℤ_, _<ℤ_}
@@ -163,8 +163,8 @@ pub data Ended : Outcome → Type 0 where
 -- The number of a refused run is that of its refused step.
 refused-number : (side : Side) (k : ℕ) (s : State) (n : ℕ) → run side k s ≡ refused n → Ended (refused n)
 refused-number side k s n e =
-    let (j, u, c, f) = run-refused side k s n e in
-    number u (step-refused side u n f .1)
+    let (j, u, c, more, f) = run-refused side k s n e in
+    number u (step-refused side u n more f)
   where
     number : (u : State) → Refusal u n → Ended (refused n)
     number u (inl h) = subst (λ k. Ended (refused k)) (sym (h .0)) six
@@ -201,6 +201,5 @@ next-row-later {side} rows relations {s = s} c j below more clear meets =
 pub zero-row-refused : (side : Side) (s : State) → current s < length (s .rows) → T (zeroRow (rowAt s (current s))) → step side s ≡ refused 6
 unfolding step workOn
 zero-row-refused side s below zeros =
-    cond-passed (ltb (current s) (length (s .rows))) (workOn side s (current s)) (done s) (lt→ltb (current s) (length (s .rows)) below)
-    ∙ cond-passed (zeroRow (rowAt s (current s))) (refused 6)
+    cond-passed (zeroRow (rowAt s (current s))) (refused 6)
     (meet side s (current s) (firstNonzero (map (entry (rowAt s (current s))) (s .order)))) zeros

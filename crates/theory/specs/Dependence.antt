@@ -92,9 +92,8 @@ module _ (l : ℤ) where
     -- A system that is refused with 6 is dependent (SCOPE 2.119).
     pub refused-dependent : run side k s ≡ refused 6 → Dependent l (s .rows)
     refused-dependent e =
-        let (j, u, c, f) = run-refused side k s 6 e in
-        let (below, zeros) = step-refused-6 side u f in
-        chain-dependent shaped t c .1 (zero-current-dependent u below zeros)
+        let (j, u, c, below, f) = run-refused side k s 6 e in
+        chain-dependent shaped t c .1 (zero-current-dependent u below (step-refused-6 side u below f))
 
     -- An accepted system is not dependent (SCOPE 2.118).
     pub done-independent : (s' : State) → run side k s ≡ done s' → Dependent l (s .rows) → ⊥

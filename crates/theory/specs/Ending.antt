@@ -176,12 +176,20 @@ measure-start b rows relations narrow = omega (arith, mul-le-mul-left (suc (leng
     fewer : length rows - 0 + totalWidth rows ≤ length rows + length rows * b
     fewer = omega (arith, totalWidth-bound b rows narrow)
 
+-- A row that is left is still to be settled.
+measure-left : (s : State) (z : ℕ) → current s < length (s .rows) → 0 < measure s z
+unfolding measure
+measure-left s z more = omega (arith, mul-le-mul-left (suc (length (s .rows))) to-do)
+  where
+    to-do : 1 ≤ length (s .rows) - current s + totalWidth (s .rows)
+    to-do = omega arith
+
 pub run-ends : (side : Side) (b k : ℕ) (rows : List Row) (relations : List Relation) (s : State) → All (λ r. width r ≤ b) rows
-    → suc (length rows) * (length rows + length rows * b) < k → run side k (start rows relations) ≢ going s
+    → suc (length rows) * (length rows + length rows * b) ≤ k → run side k (start rows relations) ≢ going s
 run-ends side b k rows relations s narrow fuel e =
-    let chain = run-going side k (start rows relations) s e in
+    let (chain, more) = run-going side k (start rows relations) s e in
     let (z, clear, bound) = chain-measure chain (triangular-start rows relations) 0 (nothing-met (start rows relations)) in
-    absurd (omega (arith, measure-start b rows relations narrow))
+    absurd (omega (arith, measure-start b rows relations narrow, measure-left s z more))
 
 -- No row is wider than its number of blocks, which is the same for every row.
 widths-within : (b : ℕ) (rows others : List Row) → length others ≡ length rows → All (λ r. length (r .blocks) ≡ b) rows
@@ -201,7 +209,7 @@ pub enough-ends : (side : Side) (b : ℕ) (rows others : List Row) (relations : 
 unfolding enough
 enough-ends side b rows others relations s size h k =
     run-ends side (length (getD rows 0 noRow .blocks)) (enough rows) others relations s (widths-within b rows others size h k)
-    (subst (λ m. suc m * (m + m * length (getD rows 0 noRow .blocks)) < enough rows) (sym size) (le-refl (enough rows)))
+    (subst (λ m. suc m * (m + m * length (getD rows 0 noRow .blocks)) ≤ enough rows) (sym size) (le-refl (enough rows)))
 
 store-blocks : (rows : List Row) → All StoreRow rows → All (λ r. length (r .blocks) ≡ blockCount) rows
 unfolding Shaped

@@ -5,16 +5,19 @@
 --   Chain side s k s'      k steps lead from s to s'
 --   Narrowed s i j e       e is the state after the exchange of rule 2, if there is one
 --   FirstNonzero ps c      the polynomial at place c is the first of ps that is not zero
+--   Left s t               whether s is finished: no row is left, or one is
 --   StepView side s o      o is the outcome of a step from s
+--   RunView side s k o     o is the outcome of a run of at most k steps from s
 --
 -- Main statements
 --   rowAt-putRow-same, rowAt-exchange-left, ..   the rows of a changed state
 --   narrowFirst-both, narrowFirst-width, narrowFirst-all   what the exchange of rule 2 leaves
 --   firstNonzero-some, firstNonzero-none         the laws of firstNonzero
 --   stepped-length, stepped-relations            a step keeps the number of rows and the listed relations
---   step-view, step-going, step-done, step-refused, step-refused-6   what a step's outcome says
+--   left                                         `finished` tells whether a row is left
+--   step-view, step-refused, step-refused-6      what a step's outcome says where a row is left
 --   chain-induction                              what every step keeps, a chain keeps
---   run-going, run-done, run-refused             a run is a chain of steps
+--   run-view, run-going, run-done, run-refused   a run is a chain of steps
 use Prim.Native.Nat.{ℕ, zero, suc, _≤_, _<_}
 use mathlib.Core.Path.{_≡_, refl, sym, _∙_, ap, subst}
 use mathlib.Core.Logic.{_↔_, _⊎_, inl, inr}
@@ -35,7 +38,7 @@ use Rattle.rules.specs.Lists.{all-swap, getD-map, getD-swap-left, getD-swap-rig
 use Rattle.rules.specs.Elimination.{Side, Multipliers, State, Outcome, going, done, refused, Limited, within, beyond, limitCoefficients}
 use Rattle.rules.specs.Elimination.{limitDegrees, rowAt, putRow, putLimited, listRelations, settle, countShift, exchange, rootRelations}
 use Rattle.rules.specs.Elimination.{multipliersAt, narrowFirst, combineStep, eliminateStep, shiftStep, settleOrShift, meet, workOn, step}
-use Rattle.rules.specs.Elimination.{andThen, run}
+use Rattle.rules.specs.Elimination.{finished, andThen, run}
 
 -- The row that a step works on, row i = w + 1 (SCOPE 2.2), counted from 0.
 abbrev pub current : State → ℕ
@@ -261,9 +264,21 @@ chain-relations {s} (next c t) =
 
 -- ---- what a step gives
 
+-- A finished state has no row left.
+pub data Left (s : State) : Bool → Type 0 where
+  none-left : length (s .rows) ≤ current s → Left s true
+  row-left : current s < length (s .rows) → Left s false
+
+pub left : (s : State) → Left s (finished s)
+unfolding finished
+left s = go (ltb (current s) (length (s .rows))) (ltb→lt (current s) (length (s .rows))) (nltb→le (current s) (length (s .rows)))
+  where
+    go : (t : Bool) → (T t → current s < length (s .rows)) → (T (not t) → length (s .rows) ≤ current s) → Left s (not t)
+    go true more rest = row-left (more tt)
+    go false more rest = none-left (rest tt)
+
 -- The outcome of one step from s.
 pub data StepView (side : Side) (s : State) : Outcome → Type 0 where
-  ended : length (s .rows) ≤ current s → StepView side s (done s)
   zero-row : current s < length (s .rows) → T (zeroRow (rowAt s (current s))) → StepView side s (refused 6)
   over-limit : (n : ℕ) → current s < length (s .rows) → T (not (zeroRow (rowAt s (current s))))
       → (n ≡ 7) ⊎ (n ≡ 8) ⊎ (n ≡ 9) → StepView side s (refused n)
@@ -365,19 +380,14 @@ module _ (side : Side) (s : State) (more : current s < length (s .rows)) (nonzer
       clear k h = rw (getD-map (entry (rowAt s (current s))) (s .order) k 0 [] h) at
           (firstNonzero-none (map (entry (rowAt s (current s))) (s .order)) e k)
 
-pub step-view : (side : Side) (s : State) → StepView side s (step side s)
+pub step-view : (side : Side) (s : State) → current s < length (s .rows) → StepView side s (step side s)
 unfolding step workOn
-step-view side s = go (ltb (current s) (length (s .rows))) (ltb→lt (current s) (length (s .rows))) (nltb→le (current s) (length (s .rows)))
+step-view side s more = go (zeroRow (rowAt s (current s))) refl
   where
-    zero-or : current s < length (s .rows) → (z : Bool) → zeroRow (rowAt s (current s)) ≡ z
+    go : (z : Bool) → zeroRow (rowAt s (current s)) ≡ z
         → StepView side s (cond z (refused 6) (meet side s (current s) (firstNonzero (map (entry (rowAt s (current s))) (s .order)))))
-    zero-or more true z = zero-row more (rw z tt)
-    zero-or more false z = meet-view side s more (rw z tt) (firstNonzero (map (entry (rowAt s (current s))) (s .order))) refl
-
-    go : (t : Bool) → (T t → current s < length (s .rows)) → (T (not t) → length (s .rows) ≤ current s)
-        → StepView side s (cond t (workOn side s (current s)) (done s))
-    go true more rest = zero-or (more tt) (zeroRow (rowAt s (current s))) refl
-    go false more rest = ended (rest tt)
+    go true z = zero-row more (rw z tt)
+    go false z = meet-view side s more (rw z tt) (firstNonzero (map (entry (rowAt s (current s))) (s .order))) refl
 
 -- ---- the same by the outcome
 
@@ -399,40 +409,21 @@ going≢refused e = let z : _≡_ {A = ℕ} 0 1 = cc in omega arith
 pub done≢refused : {s : State} {n : ℕ} → done s ≡ refused n → ⊥
 done≢refused e = let z : _≡_ {A = ℕ} 0 1 = cc in omega arith
 
-view-going : {side : Side} {s s' : State} {o : Outcome} → StepView side s o → o ≡ going s' → Stepped side s s'
-view-going (ended h) e = absurd (going≢done (sym e))
-view-going (zero-row h z) e = absurd (going≢refused (sym e))
-view-going (over-limit n h z k) e = absurd (going≢refused (sym e))
-view-going {side} {s} (goes-on p) e = subst (Stepped side s) (going-injective e) p
-
-view-done : {side : Side} {s s' : State} {o : Outcome} → StepView side s o → o ≡ done s' → (s' ≡ s) × (length (s .rows) ≤ current s)
-view-done (ended h) e = (sym (done-injective e), h)
-view-done (zero-row h z) e = absurd (done≢refused (sym e))
-view-done (over-limit n h z k) e = absurd (done≢refused (sym e))
-view-done (goes-on p) e = absurd (going≢done e)
-
 -- The refusals of a run (SCOPE 6.6 to 6.9).
 abbrev pub Refusal : State → ℕ → Type 0
 Refusal s n = ((n ≡ 6) × T (zeroRow (rowAt s (current s)))) ⊎ ((n ≡ 7) ⊎ (n ≡ 8) ⊎ (n ≡ 9))
 
-view-refused : {side : Side} {s : State} {o : Outcome} {n : ℕ} → StepView side s o → o ≡ refused n
-    → (current s < length (s .rows)) × Refusal s n
-view-refused (ended h) e = absurd (done≢refused e)
-view-refused (zero-row h z) e = (h, inl (sym (refused-injective e), z))
-view-refused {n} (over-limit k h z c) e = (h, inr (rw (refused-injective e) at c))
+view-refused : {side : Side} {s : State} {o : Outcome} {n : ℕ} → StepView side s o → o ≡ refused n → Refusal s n
+view-refused (zero-row h z) e = inl (sym (refused-injective e), z)
+view-refused {n} (over-limit k h z c) e = inr (rw (refused-injective e) at c)
 view-refused (goes-on p) e = absurd (going≢refused e)
 
-pub step-going : (side : Side) (s s' : State) → step side s ≡ going s' → Stepped side s s'
-step-going side s s' = view-going (step-view side s)
+pub step-refused : (side : Side) (s : State) (n : ℕ) → current s < length (s .rows) → step side s ≡ refused n → Refusal s n
+step-refused side s n more = view-refused (step-view side s more)
 
-pub step-done : (side : Side) (s s' : State) → step side s ≡ done s' → (s' ≡ s) × (length (s .rows) ≤ current s)
-step-done side s s' = view-done (step-view side s)
-
-pub step-refused : (side : Side) (s : State) (n : ℕ) → step side s ≡ refused n → (current s < length (s .rows)) × Refusal s n
-step-refused side s n = view-refused (step-view side s)
-
-pub step-refused-6 : (side : Side) (s : State) → step side s ≡ refused 6 → (current s < length (s .rows)) × T (zeroRow (rowAt s (current s)))
-step-refused-6 side s e = let (more, why) = step-refused side s 6 e in (more, the-zero why)
+pub step-refused-6 : (side : Side) (s : State) → current s < length (s .rows) → step side s ≡ refused 6
+    → T (zeroRow (rowAt s (current s)))
+step-refused-6 side s more e = the-zero (step-refused side s 6 more e)
   where
     the-zero : Refusal s 6 → T (zeroRow (rowAt s (current s)))
     the-zero (inl h) = h .1
@@ -452,42 +443,62 @@ pub chain-before : {side : Side} {s u v : State} {k : ℕ} → Stepped side s u 
 chain-before t here = next here t
 chain-before t (next c t') = next (chain-before t c) t'
 
-pub run-going : (side : Side) (k : ℕ) (s s' : State) → run side k s ≡ going s' → Chain side s k s'
+-- What a run of at most k steps from s comes to: a state with a row left after k steps, a finished state, or a refused step.
+pub data RunView (side : Side) (s : State) (k : ℕ) : Outcome → Type 0 where
+  all-taken : {v : State} → Chain side s k v → current v < length (v .rows) → RunView side s k (going v)
+  came-to-end : {j : ℕ} {v : State} → Chain side s j v → length (v .rows) ≤ current v → RunView side s k (done v)
+  step-stopped : {j n : ℕ} {u : State} → Chain side s j u → current u < length (u .rows) → step side u ≡ refused n
+      → RunView side s k (refused n)
+
+view-before : {side : Side} {s u : State} {k : ℕ} {o : Outcome} → Stepped side s u → RunView side u k o → RunView side s (suc k) o
+view-before t (all-taken c h) = all-taken (chain-before t c) h
+view-before t (came-to-end c h) = came-to-end (chain-before t c) h
+view-before t (step-stopped c h e) = step-stopped (chain-before t c) h e
+
+pub run-view : (side : Side) (k : ℕ) (s : State) → RunView side s k (run side k s)
 unfolding run
-run-going side zero s s' e = subst (Chain side s zero) (going-injective e) here
-run-going side (suc k) s s' e = go (step-view side s) (run-going side k) e
+run-view side zero s = go (left s)
   where
-    go : {o : Outcome} → StepView side s o → ((u v : State) → run side k u ≡ going v → Chain side u k v)
-        → andThen o (run side k) ≡ going s' → Chain side s (suc k) s'
-    go (ended h) rec e = absurd (going≢done (sym e))
-    go (zero-row h z) rec e = absurd (going≢refused (sym e))
-    go (over-limit n h z c) rec e = absurd (going≢refused (sym e))
-    go (goes-on {s' = u} p) rec e = chain-before p (rec u s' e)
+    go : {t : Bool} → Left s t → RunView side s zero (cond t (done s) (going s))
+    go (none-left h) = came-to-end here h
+    go (row-left h) = all-taken here h
+run-view side (suc k) s = go (left s) (run-view side k)
+  where
+    stepped : (o : Outcome) → step side s ≡ o → current s < length (s .rows) → StepView side s o
+        → ((u : State) → RunView side u k (run side k u)) → RunView side s (suc k) (andThen o (run side k))
+    stepped o e h (zero-row i z) rec = step-stopped here h e
+    stepped o e h (over-limit n i z c) rec = step-stopped here h e
+    stepped o e h (goes-on {s' = u} p) rec = view-before p (rec u)
+
+    go : {t : Bool} → Left s t → ((u : State) → RunView side u k (run side k u))
+        → RunView side s (suc k) (cond t (done s) (andThen (step side s) (run side k)))
+    go (none-left h) rec = came-to-end here h
+    go (row-left h) rec = stepped (step side s) refl h (step-view side s h) rec
+
+pub run-going : (side : Side) (k : ℕ) (s s' : State) → run side k s ≡ going s' → Chain side s k s' × (current s' < length (s' .rows))
+run-going side k s s' = go (run-view side k s)
+  where
+    go : {o : Outcome} → RunView side s k o → o ≡ going s' → Chain side s k s' × (current s' < length (s' .rows))
+    go (all-taken c h) e = subst (λ v. Chain side s k v × (current v < length (v .rows))) (going-injective e) (c, h)
+    go (came-to-end c h) e = absurd (going≢done (sym e))
+    go (step-stopped c h f) e = absurd (going≢refused (sym e))
 
 pub run-done : (side : Side) (k : ℕ) (s s' : State) → run side k s ≡ done s'
     → (j : ℕ) × Chain side s j s' × (length (s' .rows) ≤ current s')
-unfolding run
-run-done side zero s s' e = absurd (going≢done e)
-run-done side (suc k) s s' e = go (step-view side s) (run-done side k) e
+run-done side k s s' = go (run-view side k s)
   where
-    go : {o : Outcome} → StepView side s o
-        → ((u v : State) → run side k u ≡ done v → (j : ℕ) × Chain side u j v × (length (v .rows) ≤ current v))
-        → andThen o (run side k) ≡ done s' → (j : ℕ) × Chain side s j s' × (length (s' .rows) ≤ current s')
-    go (ended h) rec e =
-        subst (λ v. (j : ℕ) × Chain side s j v × (length (v .rows) ≤ current v)) (done-injective e) (0, here, h)
-    go (zero-row h z) rec e = absurd (done≢refused (sym e))
-    go (over-limit n h z c) rec e = absurd (done≢refused (sym e))
-    go (goes-on {s' = u} p) rec e = let (j, c, h) = rec u s' e in (suc j, chain-before p c, h)
+    go : {o : Outcome} → RunView side s k o → o ≡ done s' → (j : ℕ) × Chain side s j s' × (length (s' .rows) ≤ current s')
+    go (all-taken c h) e = absurd (going≢done e)
+    go (came-to-end {j} c h) e =
+        subst (λ v. (j : ℕ) × Chain side s j v × (length (v .rows) ≤ current v)) (done-injective e) (j, c, h)
+    go (step-stopped c h f) e = absurd (done≢refused (sym e))
 
 pub run-refused : (side : Side) (k : ℕ) (s : State) (n : ℕ) → run side k s ≡ refused n
-    → (j : ℕ) × (u : State) × Chain side s j u × (step side u ≡ refused n)
-unfolding run
-run-refused side zero s n e = absurd (going≢refused e)
-run-refused side (suc k) s n e = go (step side s) refl (step-view side s) (run-refused side k) e
+    → (j : ℕ) × (u : State) × Chain side s j u × (current u < length (u .rows)) × (step side u ≡ refused n)
+run-refused side k s n = go (run-view side k s)
   where
-    go : (o : Outcome) → step side s ≡ o → StepView side s o
-        → ((v : State) (n : ℕ) → run side k v ≡ refused n → (j : ℕ) × (u : State) × Chain side v j u × (step side u ≡ refused n))
-        → andThen o (run side k) ≡ refused n → (j : ℕ) × (u : State) × Chain side s j u × (step side u ≡ refused n)
-    go (done v) f h rec e = absurd (done≢refused e)
-    go (refused k) f h rec e = (0, s, here, f ∙ e)
-    go (going v) f h rec e = let (j, u, c, g) = rec v n e in (suc j, u, chain-before (view-going h refl) c, g)
+    go : {o : Outcome} → RunView side s k o → o ≡ refused n
+        → (j : ℕ) × (u : State) × Chain side s j u × (current u < length (u .rows)) × (step side u ≡ refused n)
+    go (all-taken c h) e = absurd (going≢refused e)
+    go (came-to-end c h) e = absurd (done≢refused e)
+    go (step-stopped {j} {u = u} c h f) e = (j, u, c, h, f ∙ e)

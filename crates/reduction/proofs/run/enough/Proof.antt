@@ -18,12 +18,9 @@ add-result-2 c = search needs
 mul-result-2 : tie.Need-mul-result-2
 mul-result-2 c = omega (arith, enough-few (c .args .m) (c .pre))
 
-add-result-3 : tie.Need-add-result-3
-add-result-3 c = omega (arith, enough-few (c .args .m) (c .pre))
-
 returns : tie.Need-returns
 returns c = search needs
 
 pub enough-spec : {M : Type 1} → statement M
 enough-spec =
-    tie.close (tie.spec add-result mul-result add-result-2 mul-result-2 add-result-3 returns)
+    tie.close (tie.spec add-result mul-result add-result-2 mul-result-2 returns)

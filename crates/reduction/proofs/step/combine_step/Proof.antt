@@ -252,10 +252,12 @@ returns : tie.Need-returns
 returns c =
     let e = c .before .before .before .before in
     let b = base e in
-    let many : 16 < p b .count + length (roots (x b .g)) = omega (arith, count-is e, c .before .if1 .taken) in
-    reached-same refl (c .answer .ensures)
-    (combine-is b ∙ combine-refused (side b) (ready b) (j b) (inside b) (settled b) (x b) many)
-    (refused-reached (ready b) 8)
+    let many : 16 < p b .count + length (roots (x b .g)) = omega (arith, count-is e, c .before .if1 .taken) in (
+      reached-same refl (c .answer .ensures)
+          (combine-is b ∙ combine-refused (side b) (ready b) (j b) (inside b) (settled b) (x b) many)
+          (refused-reached (ready b) 8),
+      ap (λ o. o .done) (c .answer .ensures),
+    )
 
 list-roots-requires : tie.Need-list-roots-requires
 list-roots-requires c κs =
@@ -300,11 +302,13 @@ returns-2 c =
     let b = origin d in
     let put = c .before .put-limited .ensures in
     let passed = listing-call d .before .before .if1 .left in
-    let room : p b .count + length (roots (x b .g)) ≤ 16 = omega (arith, count-is (rooted d), passed) in
-    reached-same (put .0 ∙ ap₂ (saved (rows b) (i b)) (refusal-is d) (numbers-are d))
-    (put .1 ∙ ap₂ (λ n k. answerOf n (listedProgress (p b) k)) (refusal-is d) (count-is (rooted d)))
-    (combine-is b)
-    (combine-reached (side b) (ready b) (j b) (inside b) (settled b) (x b) (relisted d) room (storable b))
+    let room : p b .count + length (roots (x b .g)) ≤ 16 = omega (arith, count-is (rooted d), passed) in (
+      reached-same (put .0 ∙ ap₂ (saved (rows b) (i b)) (refusal-is d) (numbers-are d))
+          (put .1 ∙ ap₂ (λ n k. answerOf n (listedProgress (p b) k)) (refusal-is d) (count-is (rooted d)))
+          (combine-is b)
+          (combine-reached (side b) (ready b) (j b) (inside b) (settled b) (x b) (relisted d) room (storable b)),
+      ap (λ o. o .done) (put .1),
+    )
 
 pub combine-step-spec : {M : Type 1} → statement M
 combine-step-spec =

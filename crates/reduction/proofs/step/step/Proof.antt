@@ -23,7 +23,7 @@ use Rattle.reduction.specs.Progress.{Ready, Reached, stateOf, answerOf, 
 use Rattle.reduction.specs.NewRows.{saved, row-room}
 use Rattle.reduction.specs.Exchange.{numbersAt, narrowed, small-numbersAt, narrowed-kept}
 use Rattle.reduction.specs.StepLaws.{metEntries, shiftedRow, reached-same, reached-after, refused-reached, shift-reached}
-use Rattle.reduction.specs.StepCases.{done-reached, step-zero, step-met, met-nonzero, narrowed-ready, settled-reached, step-shift}
+use Rattle.reduction.specs.StepCases.{step-zero, step-met, met-nonzero, narrowed-ready, settled-reached, step-shift}
 use Rattle.reduction.proofs.step.step.Statement.{statement}
 use Rattle.reduction.proofs.step.step.Tie as tie
 
@@ -66,10 +66,10 @@ module _ (c : tie.Start) where
 -- the row that is worked on, and its zero test
 module _ (c : tie.After-is-zero-row) where
   abbrev start : tie.Start
-  start = c .before .before .before .before
+  start = c .before .before .before
 
   inside : i start < m start
-  inside = c .before .before .before .if1 .left
+  inside = start .pre .1
 
   row-is : c .before .load .result ≡ numbersAt (rows start) (i start)
   row-is = c .before .load .ensures
@@ -83,7 +83,7 @@ module _ (c : tie.After-first-met) where
   tested = c .before .before .before
 
   nonzero : zeroRow (row (start tested)) ≡ false
-  nonzero = sym (zero-is tested) ∙ c .before .before .if2 .left
+  nonzero = sym (zero-is tested) ∙ c .before .before .if1 .left
 
   met-is : met (start tested) ≡ c .first-met .result
   met-is =
@@ -102,7 +102,7 @@ module _ (c : tie.After-narrow-first) where
   j = meeting .first-met .result
 
   settled-j : j < i base
-  settled-j = c .before .before .if3 .taken
+  settled-j = c .before .before .if2 .taken
 
   rows-are : c .narrow-first .last .0 ≡ narrowed (rows base) (i base) j
   rows-are = c .narrow-first .ensures
@@ -116,21 +116,16 @@ module _ (c : tie.After-first-column) where
   origin = start (tested unmet)
 
   none-met : i origin ≤ met origin
-  none-met = omega (arith, met-is unmet, c .before .if3 .left)
+  none-met = omega (arith, met-is unmet, c .before .if2 .left)
 
   column-is : foundOr 4 (firstNonzero (leadingBlock (row origin))) ≡ c .first-column .result
   column-is = sym (c .first-column .ensures ∙ ap (λ l. foundOr 4 (firstNonzero (leadingBlock (rowOf l)))) (row-is (tested unmet)))
-
-returns : tie.Need-returns
-returns c =
-    let b = c .before in
-    done-reached (side b) (ready b) (c .if1 .taken)
 
 mul-load : tie.Need-mul-load
 mul-load c = search needs
 
 load-requires : tie.Need-load-requires
-load-requires c κs = let b = c .before .before in room b (i b) (c .before .if1 .left)
+load-requires c κs = let b = c .before in room b (i b) (b .pre .1)
 
 is-zero-row-requires : tie.Need-is-zero-row-requires
 is-zero-row-requires c κs = search needs
@@ -141,13 +136,15 @@ answer-requires c κs = search needs
 same-length : tie.Need-same-length
 same-length c = search needs
 
-returns-2 : tie.Need-returns-2
-returns-2 c =
+returns : tie.Need-returns
+returns c =
     let d = c .before .before in
-    let b = start d in
-    reached-same refl (c .answer .ensures)
-    (step-zero (side b) (ready b) (inside d) (sym (zero-is d) ∙ c .before .if2 .taken))
-    (refused-reached (ready b) 5)
+    let b = start d in (
+      reached-same refl (c .answer .ensures)
+          (step-zero (side b) (ready b) (inside d) (sym (zero-is d) ∙ c .before .if1 .taken))
+          (refused-reached (ready b) 5),
+      ap (λ o. o .done) (c .answer .ensures),
+    )
 
 first-met-requires : tie.Need-first-met-requires
 first-met-requires c κs = search needs
@@ -156,7 +153,7 @@ narrow-first-requires : tie.Need-narrow-first-requires
 narrow-first-requires c κs =
     let d = c .before .before in
     let b = start (tested d) in
-    (room b (i b) (inside (tested d)), room b (d .first-met .result) (omega (arith, inside (tested d), c .before .if3 .taken)))
+    (room b (i b) (inside (tested d)), room b (d .first-met .result) (omega (arith, inside (tested d), c .before .if2 .taken)))
 
 combine-step-requires : tie.Need-combine-step-requires
 combine-step-requires c κs =
@@ -174,17 +171,19 @@ same-length-2 c = search needs
 same-length-3 : tie.Need-same-length-3
 same-length-3 c = search needs
 
-returns-3 : tie.Need-returns-3
-returns-3 c =
+returns-2 : tie.Need-returns-2
+returns-2 c =
     let d = c .before .before .before .before .before .before in
     let b = base d in
     let e = tested (meeting d) in
-    let combine = c .before .before .combine-step in
-    reached-after (narrowed-kept (m b) (rows b) (ready b .rows-within) (i b) (j d) (inside e) (omega (arith, inside e, settled-j d)))
-    (reached-same refl refl (step-met (side b) (ready b) (inside e) (nonzero (meeting d)) (j d) (met-is (meeting d)) (settled-j d))
-    (subst (λ r. let s = stateOf (m b) r (relations b) (p b) in
-    Reached (m b) r (relations b) (combine .last .0) (combine .last .1 .0) (p b .shifts + 1) (combine .result)
-    (combineStep (side b) s (i b) (j d) (multipliersAt s (i b) (j d)))) (rows-are d) (combine .ensures)))
+    let combine = c .before .before .combine-step in (
+      reached-after (narrowed-kept (m b) (rows b) (ready b .rows-within) (i b) (j d) (inside e) (omega (arith, inside e, settled-j d)))
+          (reached-same refl refl (step-met (side b) (ready b) (inside e) (nonzero (meeting d)) (j d) (met-is (meeting d)) (settled-j d))
+          (subst (λ r. let s = stateOf (m b) r (relations b) (p b) in
+          Reached (m b) r (relations b) (combine .last .0) (combine .last .1 .0) (p b .shifts + 1) (combine .result)
+          (combineStep (side b) s (i b) (j d) (multipliersAt s (i b) (j d)))) (rows-are d) (combine .ensures .0))),
+      combine .ensures .1,
+    )
 
 first-column-requires : tie.Need-first-column-requires
 first-column-requires c κs = search needs
@@ -201,57 +200,60 @@ shift-step-requires c κs =
     let b = origin d in
     let e = tested (unmet d) in
     let numbers = small-numbersAt (m b) (rows b) (ready b .rows-within) (i b) (inside e) in
-    (room b (i b) (inside e), subst (λ l. T (every small l)) (sym (row-is e)) numbers, b .pre .1)
+    (room b (i b) (inside e), subst (λ l. T (every small l)) (sym (row-is e)) numbers, b .pre .2)
 
 same-length-4 : tie.Need-same-length-4
 same-length-4 c = search needs
 
-returns-4 : tie.Need-returns-4
-returns-4 c =
+returns-3 : tie.Need-returns-3
+returns-3 c =
     let d = c .before .before .before in
     let b = origin d in
-    let column = d .first-column .result in
-    reached-same refl (c .answer2 .ensures ∙ ap (answerOf 0) (c .before .settled .ensures)) refl
-    (settled-reached (side b) (ready b) (inside (tested (unmet d))) (nonzero (unmet d)) (none-met d) column
-    (column-is d) (omega (arith, c .before .before .if4 .taken)))
+    let column = d .first-column .result in (
+      reached-same refl (c .answer2 .ensures ∙ ap (answerOf 0) (c .before .settled .ensures)) refl
+          (settled-reached (side b) (ready b) (inside (tested (unmet d))) (nonzero (unmet d)) (none-met d) column
+          (column-is d) (omega (arith, c .before .before .if3 .taken))),
+      ap (λ o. o .done) (c .answer2 .ensures),
+    )
 
 same-length-5 : tie.Need-same-length-5
 same-length-5 c = search needs
 
-returns-5 : tie.Need-returns-5
-returns-5 c =
+returns-4 : tie.Need-returns-4
+returns-4 c =
     let d = c .before .before .before .before in
     let b = origin d in
     let shift = c .before .shift-step .ensures in
-    let e = row-is (tested (unmet d)) in
-    reached-same (shift .0 ∙ ap (λ l. saved (rows b) (i b) (refusalOf (shiftedRow l)) (numbersOf (shiftedRow l))) e)
-    (shift .1 ∙ ap (λ l. answerOf (refusalOf (shiftedRow l)) (shiftedProgress (p b))) e)
-    (step-shift (side b) (ready b) (inside (tested (unmet d))) (nonzero (unmet d)) (none-met d)
-    (omega (arith, column-is d, c .before .before .before .if4 .left)))
-    (shift-reached (ready b) (inside (tested (unmet d))))
+    let e = row-is (tested (unmet d)) in (
+      reached-same (shift .0 ∙ ap (λ l. saved (rows b) (i b) (refusalOf (shiftedRow l)) (numbersOf (shiftedRow l))) e)
+          (shift .1 ∙ ap (λ l. answerOf (refusalOf (shiftedRow l)) (shiftedProgress (p b))) e)
+          (step-shift (side b) (ready b) (inside (tested (unmet d))) (nonzero (unmet d)) (none-met d)
+          (omega (arith, column-is d, c .before .before .before .if3 .left)))
+          (shift-reached (ready b) (inside (tested (unmet d)))),
+      ap (λ o. o .done) (shift .1),
+    )
 
 pub step-spec : {M : Type 1} → statement M
 step-spec =
     tie.close
     (tie.spec
-    returns
     mul-load
     load-requires
     is-zero-row-requires
     answer-requires
     same-length
-    returns-2
+    returns
     first-met-requires
     narrow-first-requires
     combine-step-requires
     same-length-2
     same-length-3
-    returns-3
+    returns-2
     first-column-requires
     settled-requires
     answer-requires-2
     shift-step-requires
     same-length-4
-    returns-4
+    returns-3
     same-length-5
-    returns-5)
+    returns-4)
