@@ -8,8 +8,8 @@
 --   rest-full, rest-goes, rest-bounds   what follows the first answers
 --   joins, laid-on                   bytes laid behind those that are held
 --   held-untaken, held-from, held-taken   some bytes held: nothing is taken, or they are taken and more
-use Prim.Native.Nat.{ℕ, suc, min, _+_, _-_, _≤_, _<_, zero-le}
-use native.Mathlib.Nat.{le-refl, zero-add}
+use Prim.Native.Nat.{ℕ, min, _+_, _-_, _≤_, _<_}
+use native.Mathlib.Nat.{le-refl}
 use native.Mathlib.Omega.{arith}
 use mathlib.Core.Path.{_≡_, refl, sym, _∙_, ap, ap₂, subst}
 use mathlib.Core.Logic.{_≢_, _⊎_, inl, inr}
@@ -19,7 +19,7 @@ use borrow.Author.Tests.{ne-eqb}
 use borrow.Rule.Slice.PartMut.{putMid}
 use lib.Dec.{T, leb, leb→le, nleb→lt}
 use lib.ListN.{length, take, drop, length-append, length-drop, take-append-drop}
-use lib.Seq.{take-at, drop-at, drop-drop, length-take-le, take-append-add, drop-append-le, drop-append-add, take-all}
+use lib.Seq.{take-at, drop-at, length-take-le, take-append-add, drop-append-le, drop-append-add, take-all}
 use Rattle.rules.specs.Calls.{overwrite}
 use Rattle.frames.specs.declared.Batch.{Batch}
 use Rattle.frames.specs.Pieces.{Counted}
@@ -30,10 +30,10 @@ use Rattle.batches.specs.declared.feeding.Fed.{Fed}
 use Rattle.batches.specs.Feeds.{Feed, feed, prefixed, fedBy, feedCall}
 use Rattle.batches.specs.PieceCalls.{heldNeed, streamCheck, PieceCall, callOf, keptOf, laid, pieceBy, pieceCall}
 use Rattle.batches.specs.Moves.{CountedIn, counted-in}
-use Rattle.batches.specs.FeedLaws.{Untaken, staysBefore, goesOn, feed-few, feed-room, feed-rest, feed-end}
+use Rattle.batches.specs.FeedLaws.{Untaken, staysBefore, feed-few, feed-room, feed-rest, feed-end}
 use Rattle.batches.specs.FeedLaws.{feed-short, append-full, append-fits, feed-held}
 use Rattle.batches.specs.PieceLaws.{Right, check-right, call-is}
-use Rattle.batches.specs.Answering.{whole-part, length-overwrite}
+use Rattle.batches.specs.Answering.{whole-part, put-behind, length-overwrite}
 use Rattle.batches.specs.Turns.{fedOf}
 use Rattle.batches.specs.PieceSteps.{streamAt, unheld, untakenOf, behind, restOf}
 
@@ -211,15 +211,12 @@ overwrite-again l store = ap (λ r. l ++ r) (drop-at l (drop (length l) store) (
 -- The bytes l, put behind the first n of a store.
 pub joins : (store l copied : List ℕ) (n : ℕ) → n ≤ length store → copied ≡ overwrite l (take (length store - n) (drop n store))
     → putMid n (length store - n) store copied ≡ overwrite (take n store ++ l) store
-unfolding overwrite
 joins store l copied n h e =
     let (all, none) = whole-part store n h in
     ap₂ (λ c r. take n store ++ (c ++ r)) (e ∙ ap (overwrite l) all) none
     ∙ ap (λ r. take n store ++ r) (append-nil (overwrite l (drop n store)))
-    ∙ ap (λ r. take n store ++ (l ++ r)) (drop-drop (length l) n store)
-    ∙ sym (append-assoc (take n store) l _)
-    ∙ ap (λ k. (take n store ++ l) ++ drop k store)
-    (sym (length-append (take n store) l ∙ ap (λ k. k + length l) (length-take-le n store h)))
+    ∙ ap (λ k. take n store ++ overwrite l (drop k store)) (sym (length-take-le n store h))
+    ∙ put-behind (take n store) l store
 
 -- Places counted from the front of the bytes held, of the bytes laid on and of the piece.
 from-held : (t h c x : ℕ) → t ≡ h + c - x → x ≤ c → t - h ≡ c - x
@@ -569,12 +566,7 @@ module _ (s : Stream) (store piece output : List ℕ) (right : streamCheck s sto
         written-all = ap (λ n. n + length (next .text)) written-by ∙ sym (length-append (first .text) (next .text))
 
         output-all : take (r .written) after ++ overwrite (next .text) free ≡ overwrite (first .text ++ next .text) output
-        unfolding overwrite
-        output-all =
-            ap (λ l. l ++ (next .text ++ drop (length (next .text)) free)) (parts .0)
-            ∙ ap (λ l. first .text ++ (next .text ++ l)) (drop-drop (length (next .text)) (length (first .text)) output)
-            ∙ sym (append-assoc (first .text) (next .text) _)
-            ∙ ap (λ n. (first .text ++ next .text) ++ drop n output) (sym (length-append (first .text) (next .text)))
+        output-all = ap (λ l. l ++ overwrite (next .text) free) (parts .0) ∙ put-behind (first .text) (next .text) output
 
         goes-on : restOf r from store' piece after ≡ pieceCall s store piece output
         unfolding behind

@@ -6,21 +6,20 @@
 --   untakenOf, restOf    what a piece comes to where the bytes held and those laid behind them give no answer, and where they give some
 --
 -- Main statements
---   not-true, not-false, right-few    what the tests of a stream tell
+--   right-few                         a right stream holds fewer bytes than a line and a sheet can have
 --   piece-refused                     a stream that is refused
 --   none-waits, size-waits            do the held bytes wait, with no sheet to come, and by the size of a sheet?
 use Prim.Native.Nat.{ℕ, zero, suc, _+_, _-_, _≤_, _<_}
 use native.Mathlib.Omega.{arith}
 use mathlib.Core.Path.{_≡_, refl, sym, _∙_, ap, subst}
 use mathlib.Core.Logic.{_≢_}
-use mathlib.Core.Bool.{Bool, true, false, _&&_, not, cond}
-use mathlib.Core.List.{List, [], _++_}
+use mathlib.Core.Bool.{Bool, true, false, _&&_, cond}
+use mathlib.Core.List.{List, _++_}
 use borrow.Author.Tests.{eq-eqb, ltb-true, ltb-false}
 use lib.Dec.{leb, ltb, eqb, ltb→lt}
 use lib.ListN.{length, take, drop}
 use Rattle.algebra.specs.Polynomials.{T-&&}
 use Rattle.rows.specs.Validity.{true-T}
-use Rattle.rules.specs.Calls.{overwrite}
 use Rattle.frames.specs.declared.Batch.{Batch}
 use Rattle.frames.specs.declared.SheetLine.{SheetLine}
 use Rattle.frames.specs.Pieces.{lineOf, line-inside}
@@ -28,7 +27,7 @@ use Rattle.batches.specs.declared.Stage.{Stage}
 use Rattle.batches.specs.declared.Stream.{Stream}
 use Rattle.batches.specs.declared.PieceResult.{PieceResult}
 use Rattle.batches.specs.declared.feeding.Fed.{Fed}
-use Rattle.batches.specs.Feeds.{waits, breaks, nextSheet, Feed, feed, startOf}
+use Rattle.batches.specs.Feeds.{waits, breaks, nextSheet, feed, startOf}
 use Rattle.batches.specs.PieceCalls.{heldNeed, isWaiting, streamRight, streamCheck, PieceCall, callOf, pieceBy}
 use Rattle.batches.specs.PieceCalls.{pieceRefused, afterStreamCheck, pieceCall}
 use Rattle.batches.specs.Moves.{look-is, sheet-waits, sheet-whole}
@@ -70,14 +69,6 @@ restOf f from store piece output =
     (behind f from (unheld (f .stage) (f .batch) store (drop from piece) (drop (f .written) output)) output)
 
 -- ---- the checks
-
-pub not-true : (t : Bool) → not t ≡ true → t ≡ false
-not-true true e = sym e
-not-true false e = refl
-
-pub not-false : (t : Bool) → not t ≡ false → t ≡ true
-not-false true e = refl
-not-false false e = sym e
 
 pub right-few : (s : Stream) → streamRight s ≡ true → s .held < heldNeed
 unfolding streamRight

@@ -13,8 +13,8 @@
 --   turn-waits, turn-breaks, turn-sheet   the next turn, by what the bytes begin with
 --   count-waits, count-breaks, count-sheets   the line with the sheet count
 --   sofar-none, sofar-length, sofar-bounds, sofar-goes, sofar-stops   from turn to turn
-use Prim.Native.Nat.{ℕ, zero, suc, pred, _+_, _-_, _≤_, _<_, zero-le}
-use native.Mathlib.Nat.{sub-self, zero-add, sub-zero}
+use Prim.Native.Nat.{ℕ, _+_, _-_, _≤_, _<_, zero-le}
+use native.Mathlib.Nat.{sub-self, sub-zero}
 use native.Mathlib.Omega.{arith}
 use mathlib.Core.Path.{_≡_, refl, sym, _∙_, ap, ap₂, subst}
 use mathlib.Core.Logic.{_≢_}
@@ -43,7 +43,7 @@ use Rattle.batches.specs.Feeds.{Step, stopped, answered, numberOf, answe
 use Rattle.batches.specs.Feeds.{afterStep, steps, feedSheets, feedCount, feed, FeedCall, fedBy}
 use Rattle.batches.specs.Moves.{Look, look, look-some, Move, answering, move-inside, move-few}
 use Rattle.batches.specs.FeedLaws.{feed-move, feed-room, feed-rest}
-use Rattle.batches.specs.Answering.{putOf, answerPut, put, unput, whole-part, length-overwrite}
+use Rattle.batches.specs.Answering.{putOf, answerPut, put, unput, whole-part, put-behind, length-overwrite}
 
 abbrev callWith : Stage → Batch → ℕ → ℕ → Bool → List ℕ → FeedCall
 callWith stage b taken written full output =
@@ -305,13 +305,10 @@ module _ {b₀ b : Batch} {bytes output₀ output : List ℕ} {at out : ℕ} (s 
 
   -- What the turn writes stands behind what was written before.
   behind : (l : List ℕ) → after ≡ overwrite l free → output' ≡ overwrite (s .text ++ l) output₀
-  unfolding overwrite
   behind l same =
       ap₂ (λ p q. p ++ (after ++ q)) (parted .0) (whole-part output out (omega (arith, sofar-length s, s .fits)) .1)
-      ∙ ap (λ q. s .text ++ q) (append-nil after ∙ same)
-      ∙ ap (λ q. s .text ++ (l ++ q)) (drop-drop (length l) out output₀)
-      ∙ sym (append-assoc (s .text) l (drop (out + length l) output₀))
-      ∙ ap (λ n. (s .text ++ l) ++ drop n output₀) (ap (λ n. n + length l) (sym (s .written)) ∙ sym (length-append (s .text) l))
+      ∙ ap (λ q. s .text ++ q) (append-nil after ∙ same ∙ ap (λ n. overwrite l (drop n output₀)) (sym (s .written)))
+      ∙ put-behind (s .text) l output₀
 
   -- The work stops.
   module _ (g : Feed) (f : step b left room ≡ stopped g) where

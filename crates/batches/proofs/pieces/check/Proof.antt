@@ -3,12 +3,12 @@
 use native.Mathlib.Omega.{arith}
 use mathlib.Core.Path.{_≡_, sym, _∙_}
 use mathlib.Core.Bool.{true}
-use borrow.Author.Tests.{le-leb, lt-leb}
+use borrow.Author.Tests.{le-leb, lt-leb, not-true, not-false}
 use denote.Ref.{now}
 use lib.ListN.{length}
 use lib.Seq.{length-take-le}
 use Rattle.batches.specs.PieceCalls.{heldNeed, streamRight, streamCheck}
-use Rattle.batches.specs.PieceSteps.{right-few, not-false, not-true}
+use Rattle.batches.specs.PieceSteps.{right-few}
 use borrow.Author.Needs.{needs}
 use Rattle.batches.proofs.pieces.check.Statement.{statement}
 use Rattle.batches.proofs.pieces.check.Tie as tie
