@@ -9,7 +9,7 @@ ghost use lib.Dec.{T, leb};
 ghost use lib.IntN.{pos, negℤ, _-ℤ_};
 ghost use lib.Signed.{leZ};
 ghost use lib.ListN.{length, take, drop};
-ghost use Rattle.rules.specs.Limits.{relationLength};
+ghost use Rattle.rules.specs.Limits.{mostEquations, relationLength};
 ghost use Rattle.rules.specs.Rows.{every};
 ghost use Rattle.rules.specs.Stores as Stores;
 ghost use Rattle.rows.specs.Validity.{sizesOf, relationTest};
@@ -53,14 +53,14 @@ pub fn span(sizes: Sizes) -> usize
 }
 
 // Every row of the store passes its number check.
-pub fn rows_right(store: &[i64], sizes: Sizes) -> bool
-    requires { ⌜ T (Stores.sizesRight (sizesOf sizes)) × (Stores.rowNeed (sizes .m) ≤ length (now store)) ⌝ }
-    ensures { λ r. ⌜ r ≡ every (Stores.rowRight (sizesOf sizes)) (Stores.rowsOf (sizes .m) (now (store .entry))) ⌝ }
+pub fn rows_right(store: &[i64], sizes: Sizes, equations: usize) -> bool
+    requires { ⌜ T (Stores.sizesRight (sizesOf sizes)) × (Stores.rowNeed equations ≤ length (now store)) ⌝ }
+    ensures { λ r. ⌜ r ≡ every (Stores.rowRight (sizesOf sizes)) (Stores.rowsOf equations (now (store .entry))) ⌝ }
 {
     let m = sizes.m;
     let d = span(sizes);
     let mut i = 0;
-    while i < m {
+    while i < equations {
         if !crate::checks::row_right(crate::stores::row_at(store, i * ROW), m, d) {
             return false;
         }
@@ -98,20 +98,20 @@ pub fn relations_right(store: &[i64], sizes: Sizes, count: usize) -> bool
 }
 
 // Both stores have their needed parts (SCOPE 3.11, 3.33).
-pub fn lengths_right(rows: &[i64], relations: &[i64], m: usize) -> bool
-    requires { ⌜ m ≤ 4 ⌝ }
-    ensures { λ r. ⌜ r ≡ Stores.lengthsRight m (now (rows .entry)) (now (relations .entry)) ⌝ }
+pub fn lengths_right(rows: &[i64], relations: &[i64], equations: usize) -> bool
+    requires { ⌜ equations ≤ mostEquations ⌝ }
+    ensures { λ r. ⌜ r ≡ Stores.lengthsRight equations (now (rows .entry)) (now (relations .entry)) ⌝ }
 {
-    m * ROW <= rows.len() && RELATIONS <= relations.len()
+    equations * ROW <= rows.len() && RELATIONS <= relations.len()
 }
 
 // The rows, the relations in use, and zeros in the places behind those (SCOPE 3.13, 3.34).
 fn numbers_right(rows: &[i64], relations: &[i64], sizes: Sizes, count: usize) -> bool
-    requires { ⌜ T (Stores.sizesRight (sizesOf sizes)) × (Stores.rowNeed (sizes .m) ≤ length (now rows)) ⌝ }
+    requires { ⌜ T (Stores.sizesRight (sizesOf sizes)) × (Stores.rowNeed (Stores.equations (sizesOf sizes)) ≤ length (now rows)) ⌝ }
     requires { ⌜ (count ≤ 16) × (Stores.relationNeed ≤ length (now relations)) ⌝ }
     ensures { λ r. ⌜ r ≡ Stores.numbersRight (sizesOf sizes) count (now (rows .entry)) (now (relations .entry)) ⌝ }
 {
-    if !rows_right(rows, sizes) {
+    if !rows_right(rows, sizes, sizes.m) {
         return false;
     }
     if !relations_right(relations, sizes, count) {

@@ -14,7 +14,7 @@ use lib.IntN.{ℤ, pos, natAbs, _-ℤ_}
 use lib.Signed.{leZ}
 use Rattle.rules.specs.Limits.{coefficientCount, columnCount, rowLength}
 use Rattle.rules.specs.Elimination.{Side, State, Outcome, going, done, refused, wholeRun, report, neverNumber}
-use Rattle.rules.specs.Stores.{Sizes, span, rowsOf, relationsOf, rowNeed, relationNeed, rowStoreOf, relationStoreOf, sizesRight, checkStores}
+use Rattle.rules.specs.Stores.{Sizes, equations, span, rowsOf, relationsOf, rowNeed, relationNeed, rowStoreOf, relationStoreOf, sizesRight, checkStores}
 
 -- What a run returns (SCOPE 3.22).
 pub record Result : Type 0 where
@@ -75,21 +75,21 @@ unchanged n rowStore relationStore = record { result = refusal n; rowStore = row
 -- Refusals 6 to 9, found during the work, make the needed parts zero; the rest stays (SCOPE 6.33).
 unfoldable pub cleared : ℕ → ℕ → List ℤ → List ℤ → Call
 unfolding refusal overwrite zeros rowNeed
-cleared n m rowStore relationStore =
-    record { result = refusal n; rowStore = overwrite (zeros (rowNeed m)) rowStore; relationStore = overwrite (zeros relationNeed) relationStore }
+cleared n equations rowStore relationStore =
+    record { result = refusal n; rowStore = overwrite (zeros (rowNeed equations)) rowStore; relationStore = overwrite (zeros relationNeed) relationStore }
 
 unfoldable pub afterRun : Side → Sizes → Outcome → List ℤ → List ℤ → Call
 unfolding acceptance overwrite rowStoreOf relationStoreOf cleared span
 afterRun side z (done s) rowStore relationStore =
     record { result = acceptance side (span z) s; rowStore = overwrite (rowStoreOf (s .rows)) rowStore; relationStore = overwrite (relationStoreOf (s .relations)) relationStore }
-afterRun side z (refused n) rowStore relationStore = cleared n (z .m) rowStore relationStore
+afterRun side z (refused n) rowStore relationStore = cleared n (equations z) rowStore relationStore
 -- A run always ends (crate theory), so this case never comes (SCOPE 3.24).
-afterRun side z (going s) rowStore relationStore = cleared neverNumber (z .m) rowStore relationStore
+afterRun side z (going s) rowStore relationStore = cleared neverNumber (equations z) rowStore relationStore
 
 unfoldable pub afterCheck : Side → Sizes → ℕ → List ℤ → List ℤ → ℕ → Call
 unfolding afterRun wholeRun rowsOf relationsOf unchanged span
 afterCheck side z count rowStore relationStore zero =
-    afterRun side z (wholeRun side (span z) (rowsOf (z .m) rowStore) (relationsOf count relationStore)) rowStore relationStore
+    afterRun side z (wholeRun side (span z) (rowsOf (equations z) rowStore) (relationsOf count relationStore)) rowStore relationStore
 afterCheck side z count rowStore relationStore (suc n) = unchanged (suc n) rowStore relationStore
 
 -- A run on lent stores, which hold its input and, if it accepts, its output afterwards (SCOPE 3.21).
@@ -100,16 +100,16 @@ callRun side z count rowStore relationStore =
 
 -- ---- one polynomial of the row store
 
--- Row and column are from 1 to m, the block from t to l (SCOPE 3.42).
+-- The row is that of an equation, the column from 1 to m, the block from t to l (SCOPE 3.42).
 unfoldable pub placeRight : Sizes → ℕ → ℤ → ℕ → Bool
 placeRight z row block column =
-    (leb 1 row && leb row (z .m)) && (leZ (z .t) block && leZ block (z .l)) && (leb 1 column && leb column (z .m))
+    (leb 1 row && leb row (equations z)) && (leZ (z .t) block && leZ block (z .l)) && (leb 1 column && leb column (z .m))
 
--- 2 outside the sizes, otherwise 1 where the store is too short for the m rows, otherwise 0 (SCOPE 3.42, 3.43).
+-- 2 outside the sizes, otherwise 1 where the store is too short for the rows, otherwise 0 (SCOPE 3.42, 3.43).
 unfoldable pub polynomialCheck : List ℤ → Sizes → ℕ → ℤ → ℕ → ℕ
 unfolding sizesRight placeRight rowNeed
 polynomialCheck rowStore z row block column =
-    cond (sizesRight z && placeRight z row block column) (cond (leb (rowNeed (z .m)) (length rowStore)) 0 1) 2
+    cond (sizesRight z && placeRight z row block column) (cond (leb (rowNeed (equations z)) (length rowStore)) 0 1) 2
 
 -- Where its sixteen numbers begin (SCOPE 3.2).
 unfoldable pub polynomialPlace : Sizes → ℕ → ℤ → ℕ → ℕ

@@ -17,6 +17,7 @@
 --   stores-valid, valid-stores    stores without a refusal hold a valid system, and each valid system is held by such stores
 --   coefficient-at, polynomial-at
 --                                 the place of each coefficient, and of each polynomial, in a row store
+--   equations-few                 right sizes have few equations
 --   polynomialPart-at             the part that a caller gets back is the polynomial of the row, block and column
 use Prim.Native.Nat.{ℕ, zero, suc, pred, _+_, _*_, _-_, _≤_, _<_, suc-le-suc}
 use native.Mathlib.Nat.{not-suc-le-zero, le-of-suc-le-suc, le-of-eq, suc-inj, suc-ne-zero, zero-mul, add-assoc}
@@ -32,11 +33,11 @@ use lib.IntN.{ℤ, pos, negℤ, natAbs, _-ℤ_}
 use lib.Signed.{leZ-yes, _≤ℤ_}
 use Rattle.algebra.specs.Order.{≤ℤ-trans, ≤ℤ-difference, negℤ-≤ℤ, +ℤ-≤ℤ-left, natAbs-≤-iff}
 use Rattle.algebra.specs.Polynomials.{T-&&, isZero, isZero-replicate, zero-list}
-use Rattle.rules.specs.Limits.{coefficientCount, columnCount, blockCount, rowLength, relationLength, mostRelations, blockBound}
+use Rattle.rules.specs.Limits.{coefficientCount, columnCount, blockCount, mostEquations, rowLength, relationLength, mostRelations, blockBound}
 use Rattle.rules.specs.Rows.{Block, Row, Relation, noRow, All, every, coefficientsOf}
 use Rattle.rules.specs.Lists.{all-mono, map-keeps, map-back, flatten-flatten, length-flatten, suc-width, drop-take, getD-map}
 use Rattle.rules.specs.Lists.{cond-passed}
-use Rattle.rules.specs.Stores.{Sizes, parts, rowOf, rowsOf, relationOf, relationsOf, relationNumbers, rowStoreOf, relationStoreOf}
+use Rattle.rules.specs.Stores.{Sizes, equations, parts, rowOf, rowsOf, relationOf, relationsOf, relationNumbers, rowStoreOf, relationStoreOf}
 use Rattle.rules.specs.Stores.{rowNeed, relationNeed, sizesRight, countRight, lengthsRight, rowRight, relationRight, numbersRight}
 use Rattle.rules.specs.Stores.{checkStores, Shaped, StoreRow, Valid}
 use Rattle.rules.specs.Calls.{padTo, placeRight, polynomialCheck, polynomialPlace, partAt, polynomialPart}
@@ -304,7 +305,7 @@ cond-zero false a b e = absurd (suc-ne-zero b e)
 pub checkStores-order : (z : Sizes) (count : ℕ) (rowStore relationStore : List ℤ)
     → checkStores z count rowStore relationStore
     ≡ cond (sizesRight z && countRight count)
-    (cond (lengthsRight (z .m) rowStore relationStore) (cond (numbersRight z count rowStore relationStore) 0 5) 1) 2
+    (cond (lengthsRight (equations z) rowStore relationStore) (cond (numbersRight z count rowStore relationStore) 0 5) 1) 2
 unfolding checkStores
 checkStores-order z count rowStore relationStore = refl
 
@@ -312,7 +313,7 @@ checkStores-order z count rowStore relationStore = refl
 pub record StoresRight (z : Sizes) (count : ℕ) (rowStore relationStore : List ℤ) : Type 0 where
   pub sizes : T (sizesRight z)
   pub few : T (countRight count)
-  pub lengths : T (lengthsRight (z .m) rowStore relationStore)
+  pub lengths : T (lengthsRight (equations z) rowStore relationStore)
   pub numbers : T (numbersRight z count rowStore relationStore)
 
 pub checkStores-zero : (z : Sizes) (count : ℕ) (rowStore relationStore : List ℤ)
@@ -322,7 +323,7 @@ checkStores-zero z count rowStore relationStore = (forth, back)
     forth : checkStores z count rowStore relationStore ≡ 0 → StoresRight z count rowStore relationStore
     forth e =
         let first = cond-zero (sizesRight z && countRight count) _ 1 (sym (checkStores-order z count rowStore relationStore) ∙ e) in
-        let second = cond-zero (lengthsRight (z .m) rowStore relationStore) _ 0 (first .1) in
+        let second = cond-zero (lengthsRight (equations z) rowStore relationStore) _ 0 (first .1) in
         let third = cond-zero (numbersRight z count rowStore relationStore) 0 4 (second .1) in
         let start = T-&& (sizesRight z) (countRight count) .0 (first .0) in
         record { sizes = start .0; few = start .1; lengths = second .0; numbers = third .0 }
@@ -331,7 +332,7 @@ checkStores-zero z count rowStore relationStore = (forth, back)
     back h =
         checkStores-order z count rowStore relationStore
         ∙ cond-passed (sizesRight z && countRight count) _ 2 (T-&& (sizesRight z) (countRight count) .1 (h .sizes, h .few))
-        ∙ cond-passed (lengthsRight (z .m) rowStore relationStore) _ 1 (h .lengths)
+        ∙ cond-passed (lengthsRight (equations z) rowStore relationStore) _ 1 (h .lengths)
         ∙ cond-passed (numbersRight z count rowStore relationStore) 0 5 (h .numbers)
 
 pub lengthsRight-iff : (m : ℕ) (rowStore relationStore : List ℤ)
@@ -348,7 +349,7 @@ countRight-iff count = (leb→le count mostRelations, le→leb count mostRelatio
 
 -- Numbers that the checks let through.
 pub record NumbersRight (z : Sizes) (count : ℕ) (rowStore relationStore : List ℤ) : Type 0 where
-  pub rows-right : T (every (rowRight z) (rowsOf (z .m) rowStore))
+  pub rows-right : T (every (rowRight z) (rowsOf (equations z) rowStore))
   pub relations-right : T (every (relationRight z) (relationsOf count relationStore))
   pub unused-zero : T (isZero (drop (count * relationLength) (take relationNeed relationStore)))
 
@@ -361,12 +362,12 @@ numbersRight-iff z count rowStore relationStore = (
 )
 
 pub stores-valid : (z : Sizes) (count : ℕ) (rowStore relationStore : List ℤ)
-    → checkStores z count rowStore relationStore ≡ 0 → Valid z (rowsOf (z .m) rowStore) (relationsOf count relationStore)
+    → checkStores z count rowStore relationStore ≡ 0 → Valid z (rowsOf (equations z) rowStore) (relationsOf count relationStore)
 stores-valid z count rowStore relationStore e =
     record {
       sizes = h .sizes;
-      row-count = length-rowsOf (z .m) rowStore;
-      row-shapes = StoreRow-rowsOf (z .m) rowStore (long .0);
+      row-count = length-rowsOf (equations z) rowStore;
+      row-shapes = StoreRow-rowsOf (equations z) rowStore (long .0);
       rows-right = n .rows-right;
       relation-count = rw length-relationsOf (h .few);
       relation-shapes = StoreRelation-relationsOf count relationStore fits;
@@ -376,8 +377,8 @@ stores-valid z count rowStore relationStore e =
     h : StoresRight z count rowStore relationStore
     h = checkStores-zero z count rowStore relationStore .0 e
 
-    long : (rowNeed (z .m) ≤ length rowStore) × (relationNeed ≤ length relationStore)
-    long = lengthsRight-iff (z .m) rowStore relationStore .0 (h .lengths)
+    long : (rowNeed (equations z) ≤ length rowStore) × (relationNeed ≤ length relationStore)
+    long = lengthsRight-iff (equations z) rowStore relationStore .0 (h .lengths)
 
     n : NumbersRight z count rowStore relationStore
     n = numbersRight-iff z count rowStore relationStore .0 (h .numbers)
@@ -400,14 +401,14 @@ valid-stores z rows relations rest others v =
     (record {
       sizes = v .sizes;
       few = v .relation-count;
-      lengths = lengthsRight-iff (z .m) (rowStoreOf rows ++ rest) (relationStoreOf relations ++ others) .1 long;
+      lengths = lengthsRight-iff (equations z) (rowStoreOf rows ++ rest) (relationStoreOf relations ++ others) .1 long;
       numbers = numbersRight-iff z (length relations) (rowStoreOf rows ++ rest) (relationStoreOf relations ++ others) .1 right;
     })
   where
     few : length relations ≤ mostRelations
     few = countRight-iff (length relations) .0 (v .relation-count)
 
-    long : (rowNeed (z .m) ≤ length (rowStoreOf rows ++ rest)) × (relationNeed ≤ length (relationStoreOf relations ++ others))
+    long : (rowNeed (equations z) ≤ length (rowStoreOf rows ++ rest)) × (relationNeed ≤ length (relationStoreOf relations ++ others))
     long =
         simp length-append
         (rw (length-rowStoreOf rows (v .row-shapes), length-relationStoreOf relations few (v .relation-shapes), v .row-count) (omega arith))
@@ -415,7 +416,7 @@ valid-stores z rows relations rest others v =
     right : NumbersRight z (length relations) (rowStoreOf rows ++ rest) (relationStoreOf relations ++ others)
     right =
         record {
-          rows-right = rw (rowsOf-rowStoreOf (z .m) rows rest (v .row-count) (v .row-shapes)) (v .rows-right);
+          rows-right = rw (rowsOf-rowStoreOf (equations z) rows rest (v .row-count) (v .row-shapes)) (v .rows-right);
           relations-right = rw (relationsOf-relationStoreOf relations others (v .relation-shapes)) (v .relations-right);
           unused-zero = unused-relationStoreOf relations others few (v .relation-shapes);
         }
@@ -495,6 +496,11 @@ size-bounds z h =
       narrow = leZ-yes (e .1 .1);
     }
 
+-- The equations are few, since the unknowns are.
+pub equations-few : (z : Sizes) → SizeBounds z → equations z ≤ mostEquations
+unfolding equations
+equations-few z b = b .few
+
 pub bounds-right : (z : Sizes) → SizeBounds z → T (sizesRight z)
 unfolding sizesRight
 bounds-right z b = simp T-&& ((le→leb _ _ (b .some), le→leb _ _ (b .few)), (((b .low .le, b .ordered .le), b .high .le), b .narrow .le))
@@ -502,7 +508,7 @@ bounds-right z b = simp T-&& ((le→leb _ _ (b .some), le→leb _ _ (b .few)), (
 -- A place inside a system, as facts.
 pub record PlaceBounds (z : Sizes) (row : ℕ) (block : ℤ) (column : ℕ) : Type 0 where
   pub row-low : 1 ≤ row
-  pub row-high : row ≤ z .m
+  pub row-high : row ≤ equations z
   pub block-low : z .t ≤ℤ block
   pub block-high : block ≤ℤ z .l
   pub column-low : 1 ≤ column
@@ -530,34 +536,34 @@ block-place z block s low high =
 
 pub polynomialCheck-zero : (rowStore : List ℤ) (z : Sizes) (row : ℕ) (block : ℤ) (column : ℕ)
     → (polynomialCheck rowStore z row block column ≡ 0)
-    ↔ (T (sizesRight z) × T (placeRight z row block column) × (rowNeed (z .m) ≤ length rowStore))
+    ↔ (T (sizesRight z) × T (placeRight z row block column) × (rowNeed (equations z) ≤ length rowStore))
 unfolding polynomialCheck
 polynomialCheck-zero rowStore z row block column = (forth, back)
   where
     forth : polynomialCheck rowStore z row block column ≡ 0
-        → T (sizesRight z) × T (placeRight z row block column) × (rowNeed (z .m) ≤ length rowStore)
+        → T (sizesRight z) × T (placeRight z row block column) × (rowNeed (equations z) ≤ length rowStore)
     forth e =
         let first = cond-zero (sizesRight z && placeRight z row block column) _ 1 e in
-        let second = cond-zero (leb (rowNeed (z .m)) (length rowStore)) 0 0 (first .1) in
+        let second = cond-zero (leb (rowNeed (equations z)) (length rowStore)) 0 0 (first .1) in
         let start = T-&& (sizesRight z) (placeRight z row block column) .0 (first .0) in
         (start .0, start .1, leb→le _ _ (second .0))
 
-    back : T (sizesRight z) × T (placeRight z row block column) × (rowNeed (z .m) ≤ length rowStore)
+    back : T (sizesRight z) × T (placeRight z row block column) × (rowNeed (equations z) ≤ length rowStore)
         → polynomialCheck rowStore z row block column ≡ 0
     back h =
         cond-passed (sizesRight z && placeRight z row block column) _ 2
         (T-&& (sizesRight z) (placeRight z row block column) .1 (h .0, h .1))
-        ∙ cond-passed (leb (rowNeed (z .m)) (length rowStore)) 0 1 (le→leb _ _ (h .2))
+        ∙ cond-passed (leb (rowNeed (equations z)) (length rowStore)) 0 1 (le→leb _ _ (h .2))
 
 pub polynomialPart-at : (rowStore : List ℤ) (z : Sizes) (row : ℕ) (block : ℤ) (column : ℕ)
     → polynomialCheck rowStore z row block column ≡ 0
     → polynomialPart rowStore z row block column
-    ≡ getD (getD (getD (rowsOf (z .m) rowStore) (pred row) noRow .blocks) (natAbs (z .l -ℤ block)) []) (pred column) []
+    ≡ getD (getD (getD (rowsOf (equations z) rowStore) (pred row) noRow .blocks) (natAbs (z .l -ℤ block)) []) (pred column) []
 unfolding polynomialPart
 polynomialPart-at rowStore z row block column e =
     let passed = polynomialCheck-zero rowStore z row block column .0 e in
     let sizes = size-bounds z (passed .0) in
     let place = place-bounds z row block column (passed .1) in
     ap (partAt rowStore (polynomialPlace z row block column)) e
-    ∙ sym (polynomial-at (z .m) rowStore (pred row) (natAbs (z .l -ℤ block)) (pred column) (omega arith)
+    ∙ sym (polynomial-at (equations z) rowStore (pred row) (natAbs (z .l -ℤ block)) (pred column) (omega arith)
     (block-place z block sizes (place .block-low) (place .block-high)) (omega arith))

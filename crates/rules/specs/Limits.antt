@@ -4,6 +4,7 @@
 --   bound                      C = 268,435,455, which no coefficient and no n0 passes in size (SCOPE 1.4, 1.22)
 --   coefficientCount           16 coefficients a polynomial, for degrees up to 15 (SCOPE 1.4)
 --   columnCount, blockCount    four columns a block, five blocks a row, for the largest m and D (SCOPE 1.1, 1.2)
+--   mostEquations              a system has four equations or fewer (SCOPE 1.1)
 --   rowLength, relationLength  the numbers of a row, and of a relation (SCOPE 3.2, 3.4)
 --   mostRelations              the relations of a system are 16 or fewer (SCOPE 1.23)
 --   blockBound                 the largest block in size (SCOPE 1.2)
@@ -24,6 +25,10 @@ columnCount = 4
 
 abbrev pub blockCount : ℕ
 blockCount = 5
+
+-- As many as the unknowns, of which there are four at most (SCOPE 1.1).
+abbrev pub mostEquations : ℕ
+mostEquations = 4
 
 -- A row takes 320 numbers, and a relation its n0 and a row (SCOPE 3.2, 3.4).
 abbrev pub rowLength : ℕ

@@ -11,7 +11,7 @@ use lib.ListN.{length, take, drop, replicate}
 use lib.IntN.{ℤ, pos}
 use Rattle.rules.specs.Limits.{columnCount}
 use Rattle.rules.specs.Rows.{every}
-use Rattle.rules.specs.Stores.{Sizes, rowsOf, relationsOf, rowStoreOf, relationStoreOf, sizesRight, countRight, lengthsRight, numbersRight}
+use Rattle.rules.specs.Stores.{Sizes, equations, rowsOf, relationsOf, rowStoreOf, relationStoreOf, sizesRight, countRight, lengthsRight, numbersRight}
 use Rattle.rules.specs.Calls.{padTo, overwrite}
 use Rattle.rules.specs.Numbers.{Read, got, fault}
 use Rattle.rules.specs.Sheets.{Sheet, contains, readSheet, writeSheet}
@@ -52,7 +52,7 @@ unfoldable pub afterRead : Read Sheet → List ℤ → List ℤ → ReadCall
 unfolding filled unread lengthsRight
 afterRead (got sheet rest) rowStore relationStore =
     let whole = filled sheet rowStore relationStore in
-    cond (lengthsRight (sheet .sizes .m) rowStore relationStore) whole (unread 1 rowStore relationStore)
+    cond (lengthsRight (equations (sheet .sizes)) rowStore relationStore) whole (unread 1 rowStore relationStore)
 afterRead (fault n) rowStore relationStore = unread n rowStore relationStore
 
 unfoldable pub readCall : List ℕ → List ℤ → List ℤ → ReadCall
@@ -88,13 +88,13 @@ unfoldable pub checkWrite : Sizes → ℕ → List ℕ → List ℤ → List ℤ
 unfolding sizesRight countRight orderRight lengthsRight numbersRight
 checkWrite z count order rowStore relationStore =
     let numbers : ℕ = cond (numbersRight z count rowStore relationStore) 0 5 in
-    let lengths : ℕ = cond (lengthsRight (z .m) rowStore relationStore) numbers 1 in
+    let lengths : ℕ = cond (lengthsRight (equations z) rowStore relationStore) numbers 1 in
     cond (sizesRight z && countRight count && orderRight (z .m) order) lengths 2
 
 unfoldable pub sheetOf : Sizes → ℕ → List ℕ → List ℤ → List ℤ → Sheet
 unfolding rowsOf relationsOf orderGiven
 sheetOf z count order rowStore relationStore =
-    record { sizes = z; rows = rowsOf (z .m) rowStore; relations = relationsOf count relationStore; order = orderGiven (z .m) order }
+    record { sizes = z; rows = rowsOf (equations z) rowStore; relations = relationsOf count relationStore; order = orderGiven (z .m) order }
 
 -- On a refusal no byte is written and the length is 0 (SCOPE 4.54).
 unfoldable pub unwritten : ℕ → List ℕ → WriteCall

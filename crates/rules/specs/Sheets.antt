@@ -14,7 +14,7 @@ use lib.Signed.{leZ, ltZ}
 use Rattle.algebra.specs.Polynomials.{Polynomial, isZero, isZeroℤ}
 use Rattle.rules.specs.Limits.{coefficientCount, columnCount, blockCount, mostRelations, blockBound, small}
 use Rattle.rules.specs.Rows.{Block, Row, Relation}
-use Rattle.rules.specs.Stores.{Sizes, span}
+use Rattle.rules.specs.Stores.{Sizes, equations, span}
 use Rattle.rules.specs.Calls.{padTo}
 use Rattle.rules.specs.Numbers.{space, newline, Read, got, fault, thenRead, field, between, judgeSmall, lines}
 
@@ -185,8 +185,8 @@ unfoldable pub readSheet : List ℕ → Read Sheet
 unfolding thenRead readSizes field between always readEquations readRelations readOrder readEnd
 readSheet bytes =
     thenRead (readSizes bytes) λ z bytes₁.
-    thenRead (field (between (pos (z .m)) (pos (z .m))) (always newline) bytes₁) λ _ bytes₂.
-    thenRead (readEquations z (z .m) bytes₂) λ rows bytes₃.
+    thenRead (field (between (pos (equations z)) (pos (equations z))) (always newline) bytes₁) λ _ bytes₂.
+    thenRead (readEquations z (equations z) bytes₂) λ rows bytes₃.
     thenRead (field (between (pos 0) (pos mostRelations)) (always newline) bytes₃) λ count bytes₄.
     thenRead (readRelations z (natAbs count) bytes₄) λ relations bytes₅.
     thenRead (readOrder (z .m) bytes₅) λ order bytes₆.

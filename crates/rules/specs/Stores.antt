@@ -2,6 +2,7 @@
 --
 -- Main definitions
 --   Sizes, span              m, l and t; D = l - t
+--   equations                the number of equations
 --   rowOf, rowsOf            the row held by 320 numbers, the rows held by a row store
 --   relationOf, relationsOf  the relation held by 321 numbers, the relations held by a relation store
 --   rowNeed, largestRows, relationNeed   the numbers of a row store, of the largest one, and of a relation store
@@ -18,14 +19,19 @@ use lib.ListN.{length, take, drop, getD, replicate}
 use lib.IntN.{ℤ, pos, negℤ, natAbs, _-ℤ_}
 use lib.Signed.{leZ}
 use Rattle.algebra.specs.Polynomials.{isZero}
-use Rattle.rules.specs.Limits.{bound, coefficientCount, columnCount, blockCount, rowLength, relationLength, mostRelations, blockBound, small}
+use Rattle.rules.specs.Limits.{bound, coefficientCount, columnCount, blockCount, mostEquations, rowLength, relationLength, mostRelations, blockBound, small}
 use Rattle.rules.specs.Rows.{Row, Relation, All, every, zeroBlock, coefficientsOf, smallRow}
 
--- m unknowns and as many equations, blocks from t to l (SCOPE 1.1, 1.2).
+-- m unknowns, blocks from t to l (SCOPE 1.1, 1.2).
 pub record Sizes : Type 0 where
   pub m : ℕ
   pub l : ℤ
   pub t : ℤ
+
+-- A system has as many equations as unknowns (SCOPE 1.1). What counts rows says this name, what counts columns says m, and
+-- only what needs the two to be the same opens it.
+unfoldable pub equations : Sizes → ℕ
+equations z = z .m
 
 -- D = l - t (SCOPE 1.2).
 unfoldable pub span : Sizes → ℕ
@@ -44,7 +50,7 @@ rowOf l = record { blocks = map (parts coefficientCount columnCount) (parts (col
 
 unfoldable pub rowsOf : ℕ → List ℤ → List Row
 unfolding parts rowOf
-rowsOf m l = map rowOf (parts rowLength m l)
+rowsOf n l = map rowOf (parts rowLength n l)
 
 -- n0 stands before the row (SCOPE 3.4).
 unfoldable pub relationOf : List ℤ → Relation
@@ -61,11 +67,11 @@ relationNumbers e = e .index ∷ coefficientsOf (e .row)
 
 -- The needed part of a row store, and of a relation store whatever its count is (SCOPE 3.11).
 unfoldable pub rowNeed : ℕ → ℕ
-rowNeed m = m * rowLength
+rowNeed n = n * rowLength
 
 -- the largest row store
 abbrev pub largestRows : ℕ
-largestRows = columnCount * rowLength
+largestRows = mostEquations * rowLength
 
 abbrev pub relationNeed : ℕ
 relationNeed = mostRelations * relationLength
@@ -95,8 +101,8 @@ countRight count = leb count mostRelations
 -- Both stores have their needed parts (SCOPE 3.33).
 unfoldable pub lengthsRight : ℕ → List ℤ → List ℤ → Bool
 unfolding rowNeed
-lengthsRight m rowStore relationStore =
-    leb (rowNeed m) (length rowStore) && leb relationNeed (length relationStore)
+lengthsRight n rowStore relationStore =
+    leb (rowNeed n) (length rowStore) && leb relationNeed (length relationStore)
 
 -- Blocks below t and columns above m are unused and zero (SCOPE 3.3).
 unfoldable pub unusedZero : ℕ → ℕ → Row → Bool
@@ -114,11 +120,11 @@ unfoldable pub relationRight : Sizes → Relation → Bool
 unfolding small rowRight
 relationRight z e = small (e .index) && rowRight z (e .row)
 
--- The m rows and the relations in use; the places behind those hold 0 (SCOPE 3.13, 3.34).
+-- The rows of the equations and the relations in use; the places behind those hold 0 (SCOPE 3.13, 3.34).
 unfoldable pub numbersRight : Sizes → ℕ → List ℤ → List ℤ → Bool
 unfolding every rowRight rowsOf relationRight relationsOf isZero
 numbersRight z count rowStore relationStore =
-    every (rowRight z) (rowsOf (z .m) rowStore)
+    every (rowRight z) (rowsOf (equations z) rowStore)
     && every (relationRight z) (relationsOf count relationStore)
     && isZero (drop (count * relationLength) (take relationNeed relationStore))
 
@@ -127,7 +133,7 @@ unfoldable pub checkStores : Sizes → ℕ → List ℤ → List ℤ → ℕ
 unfolding sizesRight countRight lengthsRight numbersRight
 checkStores z count rowStore relationStore =
     let numbers : ℕ = cond (numbersRight z count rowStore relationStore) 0 5 in
-    let lengths : ℕ = cond (lengthsRight (z .m) rowStore relationStore) numbers 1 in
+    let lengths : ℕ = cond (lengthsRight (equations z) rowStore relationStore) numbers 1 in
     cond (sizesRight z && countRight count) lengths 2
 
 -- ---- valid systems
@@ -145,7 +151,7 @@ StoreRow = Shaped blockCount columnCount coefficientCount
 -- What the checks of a call let through, as rows and relations (SCOPE 3.32, 3.34).
 pub record Valid (z : Sizes) (rows : List Row) (relations : List Relation) : Type 0 where
   pub sizes : T (sizesRight z)
-  pub row-count : length rows ≡ z .m
+  pub row-count : length rows ≡ equations z
   pub row-shapes : All StoreRow rows
   pub rows-right : T (every (rowRight z) rows)
   pub relation-count : T (countRight (length relations))

@@ -11,14 +11,14 @@ use mathlib.Core.Bool.{not}
 use mathlib.Core.Option.{Option, none, some}
 use mathlib.Core.List.{[], map, List·Memᴰ, Memᴰ·map, Memᴰ·of-map}
 use lib.Dec.{T}
-use lib.ListN.{length}
+use lib.ListN.{length, getD}
 use lib.IntN.{ℤ, pos, negℤ, _+ℤ_, negℤ-negℤ, negℤ-+ℤ}
 use lib.Signed.{_≤ℤ_, _<ℤ_, <ℤ-≤ℤ-trans}
 use Rattle.algebra.specs.Order.{≤ℤ-<ℤ-trans, negℤ-≤ℤ, negℤ-<ℤ}
 use Rattle.algebra.specs.Polynomials.{Polynomial, eval, isZero, mirror, isZero-mirror, eval-mirror}
 use Rattle.rules.specs.Rows.{Row, noRow, All, entry, leadingBlock}
 use Rattle.rules.specs.Elimination.{leading, trailing, State, rowAt, mirrorState, diagonalPlace, diagonal, report}
-use Rattle.rules.specs.Stores.{Sizes, span, unusedZero, rowRight, Valid}
+use Rattle.rules.specs.Stores.{Sizes, equations, span, unusedZero, rowRight, Valid}
 use Rattle.rules.specs.Sequences.{Sequence, SatisfiesEquation, Satisfies, Same}
 use Rattle.rules.specs.Lists.{all-mono, all-getD, every-all}
 use Rattle.theory.specs.Steps.{current}
@@ -36,7 +36,7 @@ use Rattle.theory.specs.Mirror.{Reaches, Spans, reflect, mirror-diagonal
 unused-columns : (m D : ℕ) (r : Row) → T (unusedZero m D r) → ColumnsBelow m r
 unused-columns m D r u c h = subst (λ p. T (isZero p)) (sym (entry-cell r c)) (unused-cells m D r .0 u 0 c (inl h))
 
-module _ (z : Sizes) (s : State) (valid : Valid z (s .rows) (s .relations)) (triangular : Triangular s) (settled : current s ≡ z .m) where
+module _ (z : Sizes) (s : State) (valid : Valid z (s .rows) (s .relations)) (triangular : Triangular s) (settled : current s ≡ equations z) where
   unused-rows : All (λ r. T (unusedZero (z .m) (span z) r)) (s .rows)
   unused-rows =
       all-mono (λ r. T (rowRight z r)) (λ r. T (unusedZero (z .m) (span z) r))
@@ -45,22 +45,31 @@ module _ (z : Sizes) (s : State) (valid : Valid z (s .rows) (s .relations)) (tri
   narrow : All (ColumnsBelow (z .m)) (s .rows)
   narrow = all-mono (λ r. T (unusedZero (z .m) (span z) r)) (ColumnsBelow (z .m)) (unused-columns (z .m) (span z)) (s .rows) unused-rows
 
-  pub triangular-rows : TriangularRows (z .m) (span z) (s .rows) (s .order)
+  -- The column of a settled row is one of the m columns.
+  pub settled-column : (j : ℕ) → j < equations z → getD (s .order) j 0 < z .m
+  settled-column j h =
+      column-below (z .m) (s .order) (s .rows) (triangular .fits) (triangular .pivots) narrow j (subst (λ n. j < n) (sym settled) h)
+
+  -- With as many rows as columns every column is that of a row.
+  pub every-column : equations z ≡ z .m → (c : ℕ) → c < z .m → (j : ℕ) × (j < z .m) × (getD (s .order) j 0 ≡ c)
+  every-column square = order-complete (z .m) (s .order) (s .rows) (triangular .fits) (triangular .pivots) narrow (settled ∙ square)
+
+  pub triangular-rows : equations z ≡ z .m → TriangularRows (z .m) (span z) (s .rows) (s .order)
   unfolding rowAt
-  triangular-rows =
+  triangular-rows square =
       record {
-        row-count = valid .row-count;
-        column-below = λ j h. column-below (z .m) (s .order) (s .rows) (triangular .fits) (triangular .pivots) narrow j (below j h);
-        column-of = order-complete (z .m) (s .order) (s .rows) (triangular .fits) (triangular .pivots) narrow settled;
+        row-count = valid .row-count ∙ square;
+        column-below = λ j h. settled-column j (subst (λ n. j < n) (sym square) h);
+        column-of = every-column square;
         zero-before = λ j k h b. triangular .pivots j (below j b) .zeros k h;
         unused = λ j h. all-getD (λ r. T (unusedZero (z .m) (span z) r)) (s .rows) noRow j (within j h) unused-rows;
       }
     where
       within : (j : ℕ) → j < z .m → j < length (s .rows)
-      within j h = subst (λ n. j < n) (sym (valid .row-count)) h
+      within j h = subst (λ n. j < n) (sym (valid .row-count ∙ square)) h
 
       below : (j : ℕ) → j < z .m → j < current s
-      below j h = subst (λ n. j < n) (sym settled) h
+      below j h = subst (λ n. j < n) (sym (settled ∙ square)) h
 
   pub diagonal-nonzero : NonzeroDiagonal leading (span z) s
   unfolding rowAt entry leadingBlock diagonalPlace

@@ -10,7 +10,7 @@
 --   3 agreement-leading,      6 run-ends,               9 next-row-later, zero-row-refused
 --     agreement-trailing        shifts-bounded
 use Prim.Native.Nat.{ℕ, suc, _*_, _≤_, _<_}
-use mathlib.Core.Path.{_≡_, refl, sym, subst}
+use mathlib.Core.Path.{_≡_, refl, sym, _∙_, subst}
 use mathlib.Core.Logic.{_↔_, inl, inr}
 use mathlib.Core.Bool.{not}
 use mathlib.Core.List.{List, map}
@@ -23,7 +23,7 @@ use Rattle.algebra.specs.Polynomials.{isZero}
 use Rattle.rules.specs.Rows.{Row, Relation, All, zeroRow, width, entry, firstNonzero}
 use Rattle.rules.specs.Elimination.{Side, leading, trailing, State, Outcome, going, done, refused, start, enough, step, workOn, meet, run}
 use Rattle.rules.specs.Elimination.{wholeRun, leadingRun, trailingRun, mirrorState, diagonal, report, rowAt, putRow, limitDegrees, within}
-use Rattle.rules.specs.Stores.{Sizes, span, rowRight, Valid}
+use Rattle.rules.specs.Stores.{Sizes, equations, span, rowRight, Valid}
 use Rattle.rules.specs.Sequences.{Sequence, Satisfies, Same, Dependent}
 use Rattle.rules.specs.Lists.{all-mono, every-all, cond-passed}
 use Rattle.theory.specs.Steps.{current, met, MetZeroBelow, combination, listed, Chain, Refusal, run-refused, step-refused}
@@ -38,7 +38,7 @@ use Rattle.theory.specs.Mirror.{span-sum}
 use Rattle.theory.specs.Agreement.{leading-agreement}
 use Rattle.theory.specs.Trailing.{valid-shapes, mirrored-sequences, diagonal-back, valid-back, independent-back, agrees-back}
 use Rattle.theory.specs.Trailing.{trailing-dependent}
-use Rattle.theory.specs.Settled.{settled-triangular, settled-rows, Diagonal, settled-leading, settled-trailing, settled-diagonal}
+use Rattle.theory.specs.Settled.{as-many, settled-triangular, settled-rows, Diagonal, settled-leading, settled-trailing, settled-diagonal}
 use Rattle.theory.specs.Settled.{settled-valid, nonzero-of-diagonal}
 
 -- The run returns no refusal (SCOPE 2.111). Valid is exactly what the checks of a call let through.
@@ -58,11 +58,11 @@ sequences trailing {z} {rows} {relations} v e y =
     subst (λ x. Satisfies (z .l) rows relations y ↔ Satisfies (z .l) (x .rows) (x .relations) y) (m .back) (mirrored-sequences v (m .settled) y)
 
 triangular : (side : Side) {z : Sizes} {rows : List Row} {relations : List Relation} {s : State} → Valid z rows relations
-    → wholeRun side (span z) rows relations ≡ done s → Diagonal side (z .m) (span z) s
+    → wholeRun side (span z) rows relations ≡ done s → Diagonal side (equations z) (z .m) (span z) s
 triangular leading v e = settled-diagonal (settled-leading v e)
 triangular trailing {z} v e =
     let m = settled-trailing v e in
-    subst (Diagonal trailing (z .m) (span z)) (m .back) (diagonal-back v (m .settled))
+    subst (Diagonal trailing (equations z) (z .m) (span z)) (m .back) (diagonal-back v (m .settled))
 
 independent : (side : Side) {z : Sizes} {rows : List Row} {relations : List Relation} {s : State} → Valid z rows relations
     → wholeRun side (span z) rows relations ≡ done s → Dependent (z .l) rows → ⊥
@@ -93,15 +93,15 @@ module _ {side : Side} {z : Sizes} {rows : List Row} {relations : List Relation}
   same-sequences y = sequences side (a .valid) (a .accepts) y
 
   -- 2. The output is triangular, and no diagonal polynomial is zero (SCOPE 2.71, 2.73, 2.115).
-  pub diagonal-nonzero : Diagonal side (z .m) (span z) s
+  pub diagonal-nonzero : Diagonal side (equations z) (z .m) (span z) s
   diagonal-nonzero = triangular side (a .valid) (a .accepts)
 
   -- 4. An accepted system is not dependent (SCOPE 2.118).
   pub accepted-independent : Dependent (z .l) rows → ⊥
   accepted-independent d = independent side (a .valid) (a .accepts) d
 
-  -- 6. An accepted run has made no more than m × D shifts (SCOPE 2.65).
-  pub shifts-bounded : s .shifts ≤ z .m * span z
+  -- 6. An accepted run has made no more than D shifts for each equation (SCOPE 2.65).
+  pub shifts-bounded : s .shifts ≤ equations z * span z
   shifts-bounded =
       subst (λ n. s .shifts ≤ n * span z) (a .valid .row-count)
       (wholeRun-shifts side (span z) rows relations s (valid-widths (a .valid)) (a .accepts))
@@ -109,10 +109,10 @@ module _ {side : Side} {z : Sizes} {rows : List Row} {relations : List Relation}
   -- 7. The report is "no" exactly if no diagonal polynomial of the output vanishes at an integer; a reported root is
   -- the greatest of all, on the trailing side the least (SCOPE 2.81, 2.93).
   pub report-no : (report side (span z) s ≡ none) ↔ Rootless (diagonal side (span z) s)
-  report-no = report-none side (span z) s (nonzero-of-diagonal side (z .m) (span z) s diagonal-nonzero)
+  report-no = report-none side (span z) s (nonzero-of-diagonal side (equations z) (z .m) (span z) s diagonal-nonzero)
 
   pub report-root : {r : ℤ} → report side (span z) s ≡ some r → FurthestRoot side (diagonal side (span z) s) r
-  report-root e = report-some side (span z) s (nonzero-of-diagonal side (z .m) (span z) s diagonal-nonzero) e
+  report-root e = report-some side (span z) s (nonzero-of-diagonal side (equations z) (z .m) (span z) s diagonal-nonzero) e
 
   -- 8. Every coefficient and every n0 of the output lies within ±C, every degree is at most 15, unused positions stay
   -- zero (SCOPE 9.27).
@@ -129,8 +129,8 @@ pub agreement-leading : {z : Sizes} {rows : List Row} {relations : List Relation
 unfolding Satisfies
 agreement-leading {z} {s = s} a y w hy hw =
     let b = settled-leading (a .valid) (a .accepts) in
-    leading-agreement (z .m) (span z) s (settled-rows b) (settled-diagonal b .order-count)
-    (nonzero-of-diagonal leading (z .m) (span z) s (settled-diagonal b))
+    leading-agreement (z .m) (span z) s (settled-rows b (as-many z)) (settled-diagonal b .order-count ∙ as-many z)
+    (nonzero-of-diagonal leading (equations z) (z .m) (span z) s (settled-diagonal b))
     (z .l) (z .t) (span-sum z (a .valid .sizes)) y w (same-sequences a y .0 hy .0) (same-sequences a w .0 hw .0)
 
 -- Trailing side: where n lies below the reported root, or anywhere with "no", such sequences that are equal at the D

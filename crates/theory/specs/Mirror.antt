@@ -13,7 +13,7 @@
 --   mirror-diagonal        the diagonal polynomials of the trailing side are mirrors of those of the leading side
 --   mirror-value           the value of the mirrored row at n, on the reflected sequence, is the value at -n
 --   mirror-equation, mirror-relation, mirror-satisfies   so a sequence satisfies a system exactly if the reflected one does the mirror
---   span-sum, span-bound, mirror-span, mirror-sizes   sizes, and those of the mirror
+--   span-sum, span-bound, mirror-equations, mirror-span, mirror-sizes   sizes, and those of the mirror
 --   mirror-valid           the mirror of a valid system is valid
 --   mirror-dependent       a system is dependent exactly if its mirror is
 use Prim.Native.Nat.{ℕ, suc, _+_, _-_, _≤_, _<_}
@@ -36,7 +36,7 @@ use Rattle.rules.specs.Limits.{bound, coefficientCount, columnCount, blockCount
 use Rattle.rules.specs.Rows.{Block, Row, Relation, noRow, All, every, mapRow, smallRow, zeroBlock, leadingBlock, entry, mirrorRow}
 use Rattle.rules.specs.Rows.{mirrorRelation}
 use Rattle.rules.specs.Elimination.{leading, trailing, State, mirrorState, diagonalPlace, diagonal}
-use Rattle.rules.specs.Stores.{Sizes, span, sizesRight, countRight, unusedZero, rowRight, relationRight, Shaped, StoreRow, Valid}
+use Rattle.rules.specs.Stores.{Sizes, equations, span, sizesRight, countRight, unusedZero, rowRight, relationRight, Shaped, StoreRow, Valid}
 use Rattle.rules.specs.Layout.{SizeBounds, size-bounds, bounds-right}
 use Rattle.rules.specs.Sequences.{Sequence, blockValue, blocksValue, valueOf, SatisfiesEquation, SatisfiesRelation, Satisfies, shiftsWithin}
 use Rattle.rules.specs.Sequences.{Dependent}
@@ -340,6 +340,10 @@ mirrorSizes z = record { m = z .m; l = negℤ (z .t); t = negℤ (z .l) }
 mirror-difference : (l t : ℤ) → negℤ t -ℤ negℤ l ≡ l -ℤ t
 mirror-difference l t = ap (λ x. negℤ t +ℤ x) (negℤ-negℤ l) ∙ +ℤ-comm (negℤ t) l
 
+pub mirror-equations : (z : Sizes) → equations (mirrorSizes z) ≡ equations z
+unfolding equations
+mirror-equations z = refl
+
 pub mirror-span : (z : Sizes) → span (mirrorSizes z) ≡ span z
 unfolding span
 mirror-span z = ap natAbs (mirror-difference (z .l) (z .t))
@@ -489,7 +493,7 @@ module _ (z : Sizes) (rows : List Row) (relations : List Relation) (valid : Vali
   mirror-valid =
       record {
         sizes = mirror-sizes z (valid .sizes);
-        row-count = length-map rows (mirrorRow (span z)) ∙ valid .row-count;
+        row-count = length-map rows (mirrorRow (span z)) ∙ valid .row-count ∙ sym (mirror-equations z);
         row-shapes = map-keeps StoreRow StoreRow (mirrorRow (span z)) shape rows (valid .row-shapes);
         rows-right =
             every-all (rowRight (mirrorSizes z)) (map (mirrorRow (span z)) rows) .1

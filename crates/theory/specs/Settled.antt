@@ -1,14 +1,15 @@
 -- What a run has when all rows of a valid system are settled, on the leading side and mirrored back.
 --
 -- Main definitions
---   Diagonal side m D s    triangular in the column order, which holds every column once
+--   Diagonal side e m D s    e rows, triangular in the column order; with m rows it holds every column
 --   Settled side z rows relations u   a run from the valid system rows, relations leads to u, all of whose rows are settled
 -- Main statements
+--   as-many                as many equations as unknowns
 --   settled-leading        an accepted leading run leads to its final state
 --   settled-trailing       an accepted trailing run leads to the mirror of its final state, from the mirrored system
 --   settled-diagonal, mirrored-diagonal     the diagonal of u, and of its mirror
 use Prim.Native.Nat.{ℕ, _≤_, _<_}
-use mathlib.Core.Path.{_≡_, sym, _∙_, ap, subst}
+use mathlib.Core.Path.{_≡_, refl, sym, _∙_, ap, subst}
 use mathlib.Core.Bool.{not}
 use mathlib.Core.List.{List, [], map}
 use native.Mathlib.Nat.{le-antisymm}
@@ -19,7 +20,7 @@ use Rattle.algebra.specs.Polynomials.{Polynomial, isZero, isZero-mirror}
 use Rattle.rules.specs.Rows.{Row, Relation, noRow, All, entry, leadingBlock, mapRow, mirrorRow, mirrorRelation}
 use Rattle.rules.specs.Elimination.{Side, leading, trailing, State, start, done, run, enough, wholeRun, leadingRun, trailingRun}
 use Rattle.rules.specs.Elimination.{mirrorState, diagonalPlace, rowAt}
-use Rattle.rules.specs.Stores.{Sizes, span, Valid}
+use Rattle.rules.specs.Stores.{Sizes, equations, span, Valid}
 use Rattle.rules.specs.Lists.{all-getD}
 use Rattle.theory.specs.Steps.{current, Chain, run-done}
 use Rattle.theory.specs.Triangular.{Triangular, triangular-start, triangular-chain}
@@ -27,24 +28,29 @@ use Rattle.theory.specs.Pivots.{order-distinct}
 use Rattle.theory.specs.Limits.{valid-kept}
 use Rattle.theory.specs.Ending.{mirrorOutcome-done}
 use Rattle.theory.specs.BackSubstitution.{TriangularRows}
-use Rattle.theory.specs.Agreement.{triangular-rows}
+use Rattle.theory.specs.Agreement.{settled-column, every-column, triangular-rows}
 use Rattle.theory.specs.Report.{NonzeroDiagonal, nonzero-diagonal}
 use Rattle.theory.specs.Mirror.{mirrorSizes, Reaches, mirror-valid, mirror-lastEntry}
+
+-- A system has as many equations as unknowns (SCOPE 1.1): where it matters, it is said here.
+pub as-many : (z : Sizes) → equations z ≡ z .m
+unfolding equations
+as-many z = refl
 
 -- The polynomial of row j at column c of the block that is made triangular: block l, or block t.
 abbrev pub pivotEntry : Side → ℕ → State → ℕ → ℕ → Polynomial
 pivotEntry side D s j c = getD (getD (getD (s .rows) j noRow .blocks) (diagonalPlace side D) []) c []
 
--- In the block of the side, row j is zero in columns c(1) to c(j - 1) and not zero in c(j); the order is a permutation
--- of the columns (SCOPE 2.71, 2.73, 2.115).
-pub record Diagonal (side : Side) (m D : ℕ) (s : State) : Type 0 where
-  pub row-count : length (s .rows) ≡ m
-  pub order-count : length (s .order) ≡ m
-  pub zero-before : (j k : ℕ) → k < j → j < m → T (isZero (pivotEntry side D s j (getD (s .order) k 0)))
-  pub nonzero : (j : ℕ) → j < m → T (not (isZero (pivotEntry side D s j (getD (s .order) j 0))))
-  pub column-below : (j : ℕ) → j < m → getD (s .order) j 0 < m
+-- In the block of the side, row j is zero in columns c(1) to c(j - 1) and not zero in c(j); the columns of the
+-- order are different, and with as many rows as columns they are all the columns (SCOPE 2.71, 2.73, 2.115).
+pub record Diagonal (side : Side) (e m D : ℕ) (s : State) : Type 0 where
+  pub row-count : length (s .rows) ≡ e
+  pub order-count : length (s .order) ≡ e
+  pub zero-before : (j k : ℕ) → k < j → j < e → T (isZero (pivotEntry side D s j (getD (s .order) k 0)))
+  pub nonzero : (j : ℕ) → j < e → T (not (isZero (pivotEntry side D s j (getD (s .order) j 0))))
+  pub column-below : (j : ℕ) → j < e → getD (s .order) j 0 < m
   pub columns-different : Distinct (s .order)
-  pub every-column : (c : ℕ) → c < m → (j : ℕ) × (j < m) × (getD (s .order) j 0 ≡ c)
+  pub every-column : e ≡ m → (c : ℕ) → c < m → (j : ℕ) × (j < m) × (getD (s .order) j 0 ≡ c)
 
 pub record Settled (side : Side) (z : Sizes) (rows : List Row) (relations : List Relation) (u : State) : Type 0 where
   pub valid : Valid z rows relations
@@ -61,34 +67,35 @@ module _ {side : Side} {z : Sizes} {rows : List Row} {relations : List Relation}
   pub settled-triangular : Triangular u
   settled-triangular = triangular-chain (a .chain) (triangular-start rows relations)
 
-  settled-count : current u ≡ z .m
+  settled-count : current u ≡ equations z
   settled-count = le-antisymm (settled-triangular .fits) (a .all) ∙ settled-valid .row-count
 
-  pub settled-rows : TriangularRows (z .m) (span z) (u .rows) (u .order)
+  pub settled-rows : equations z ≡ z .m → TriangularRows (z .m) (span z) (u .rows) (u .order)
   settled-rows = triangular-rows z u settled-valid settled-triangular settled-count
 
-  pub settled-diagonal : Diagonal leading (z .m) (span z) u
+  pub settled-diagonal : Diagonal leading (equations z) (z .m) (span z) u
   unfolding diagonalPlace rowAt entry leadingBlock
   settled-diagonal =
       record {
-        row-count = settled-rows .row-count;
+        row-count = settled-valid .row-count;
         order-count = settled-count;
-        zero-before = λ j k b h. settled-rows .zero-before j k b h;
+        zero-before = λ j k b h. settled-triangular .pivots j (subst (λ n. j < n) (sym settled-count) h) .zeros k b;
         nonzero = λ j h. settled-triangular .pivots j (subst (λ n. j < n) (sym settled-count) h) .diagonal;
-        column-below = settled-rows .column-below;
+        column-below = settled-column z u settled-valid settled-triangular settled-count;
         columns-different = order-distinct (u .order) (u .rows) (settled-triangular .pivots);
-        every-column = settled-rows .column-of;
+        every-column = every-column z u settled-valid settled-triangular settled-count;
       }
 
 -- Each diagonal polynomial is nonzero.
-pub nonzero-of-diagonal : (side : Side) (m D : ℕ) (s : State) → Diagonal side m D s → NonzeroDiagonal side D s
-nonzero-of-diagonal side m D s d = nonzero-diagonal side D s (λ j h k. d .nonzero j (subst (λ n. j < n) (d .row-count) h))
+pub nonzero-of-diagonal : (side : Side) (e m D : ℕ) (s : State) → Diagonal side e m D s → NonzeroDiagonal side D s
+nonzero-of-diagonal side e m D s d = nonzero-diagonal side D s (λ j h k. d .nonzero j (subst (λ n. j < n) (d .row-count) h))
 
 -- ---- mirrored back
 
-pub mirrored-diagonal : (m D : ℕ) (u : State) → All (Reaches D) (u .rows) → Diagonal leading m D u → Diagonal trailing m D (mirrorState D u)
+pub mirrored-diagonal : (e m D : ℕ) (u : State) → All (Reaches D) (u .rows)
+    → Diagonal leading e m D u → Diagonal trailing e m D (mirrorState D u)
 unfolding diagonalPlace entry leadingBlock mirrorState mirrorRow mapRow
-mirrored-diagonal m D u r d =
+mirrored-diagonal e m D u r d =
     record {
       row-count = length-map (u .rows) (mirrorRow D) ∙ d .row-count;
       order-count = d .order-count;
@@ -102,10 +109,10 @@ mirrored-diagonal m D u r d =
     row-at : (j : ℕ) → getD (map (mirrorRow D) (u .rows)) j noRow ≡ mirrorRow D (getD (u .rows) j noRow)
     row-at j = List·getD-map (mirrorRow D) (u .rows) j noRow
 
-    reach : (j : ℕ) → j < m → Reaches D (getD (u .rows) j noRow)
+    reach : (j : ℕ) → j < e → Reaches D (getD (u .rows) j noRow)
     reach j h = all-getD (Reaches D) (u .rows) noRow j (subst (λ n. j < n) (sym (d .row-count)) h) r
 
-    same : (j c : ℕ) → j < m → isZero (pivotEntry trailing D (mirrorState D u) j c) ≡ isZero (pivotEntry leading D u j c)
+    same : (j c : ℕ) → j < e → isZero (pivotEntry trailing D (mirrorState D u) j c) ≡ isZero (pivotEntry leading D u j c)
     same j c h =
         ap (λ q. isZero (getD (getD (q .blocks) D []) c [])) (row-at j) ∙ ap isZero (mirror-lastEntry D (getD (u .rows) j noRow) c (reach j h))
         ∙ isZero-mirror (entry (getD (u .rows) j noRow) c)

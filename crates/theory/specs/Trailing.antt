@@ -8,14 +8,14 @@
 --   agrees-back             solutions that agree on D vectors below the report agree at all lower indices
 -- and of any valid system:
 --   trailing-dependent      a system that the trailing run refuses with 6 is dependent
-use mathlib.Core.Path.{_≡_, subst}
+use mathlib.Core.Path.{_≡_, _∙_, subst}
 use mathlib.Core.Logic.{_↔_, Iff·trans, Iff·symm}
 use mathlib.Core.List.{List, map}
 use lib.IntN.{ℤ, pos, negℤ, _+ℤ_, negℤ-negℤ}
 use lib.Signed.{_≤ℤ_, _<ℤ_}
 use Rattle.rules.specs.Rows.{Row, Relation, All, mirrorRow, mirrorRelation}
 use Rattle.rules.specs.Elimination.{leading, trailing, State, start, refused, run, enough, wholeRun, trailingRun, mirrorState, report}
-use Rattle.rules.specs.Stores.{Sizes, span, Valid}
+use Rattle.rules.specs.Stores.{Sizes, equations, span, Valid}
 use Rattle.rules.specs.Sequences.{Sequence, Satisfies, Same, Dependent}
 use Rattle.rules.specs.Lists.{all-mono}
 use Rattle.theory.specs.Triangular.{triangular-start}
@@ -24,11 +24,11 @@ use Rattle.theory.specs.Solutions.{run-solutions}
 use Rattle.theory.specs.Dependence.{chain-dependent, settled-independent, refused-dependent}
 use Rattle.theory.specs.Ending.{mirrorOutcome-refused}
 use Rattle.theory.specs.Report.{Past}
-use Rattle.theory.specs.Mirror.{mirrorSizes, Reaches, Spans, reflect, span-sum, mirror-span, mirror-valid, mirror-satisfies}
+use Rattle.theory.specs.Mirror.{mirrorSizes, Reaches, Spans, reflect, span-sum, mirror-equations, mirror-span, mirror-valid, mirror-satisfies}
 use Rattle.theory.specs.Mirror.{mirror-satisfies-back, mirror-dependent, valid-rows-span, valid-relations-span}
 use Rattle.theory.specs.BackSubstitution.{TriangularRows}
 use Rattle.theory.specs.Agreement.{trailing-agreement}
-use Rattle.theory.specs.Settled.{Diagonal, Settled, settled-valid, settled-triangular, settled-rows, settled-diagonal}
+use Rattle.theory.specs.Settled.{as-many, Diagonal, Settled, settled-valid, settled-triangular, settled-rows, settled-diagonal}
 use Rattle.theory.specs.Settled.{nonzero-of-diagonal, mirrored-diagonal}
 
 pub valid-shapes : {z : Sizes} {rows : List Row} {relations : List Relation} → Valid z rows relations → StateShaped (start rows relations)
@@ -76,12 +76,14 @@ module _ {z : Sizes} {rows : List Row} {relations : List Relation} (v : Valid z 
         (m .relation-shapes) (a .chain))
         (Iff·symm (mirror-satisfies-back (span z) (z .l) (z .t) sum y (u .rows) (u .relations) spans relations-span)))
 
-    leading-diagonal : Diagonal leading (z .m) (span z) u
-    leading-diagonal = subst (λ d. Diagonal leading (z .m) d u) (mirror-span z) (settled-diagonal a)
+    leading-diagonal : Diagonal leading (equations z) (z .m) (span z) u
+    leading-diagonal =
+        subst (λ e. Diagonal leading e (z .m) (span z) u) (mirror-equations z)
+        (subst (λ d. Diagonal leading (equations (mirrorSizes z)) (z .m) d u) (mirror-span z) (settled-diagonal a))
 
-    pub diagonal-back : Diagonal trailing (z .m) (span z) (mirrorState (span z) u)
+    pub diagonal-back : Diagonal trailing (equations z) (z .m) (span z) (mirrorState (span z) u)
     diagonal-back =
-        mirrored-diagonal (z .m) (span z) u (all-mono (Spans (span z)) (Reaches (span z)) (λ r h. h .reaches) (u .rows) spans) leading-diagonal
+        mirrored-diagonal (equations z) (z .m) (span z) u (all-mono (Spans (span z)) (Reaches (span z)) (λ r h. h .reaches) (u .rows) spans) leading-diagonal
 
     pub valid-back : Valid z (mirrorState (span z) u .rows) (mirrorState (span z) u .relations)
     unfolding mirrorState
@@ -104,7 +106,7 @@ module _ {z : Sizes} {rows : List Row} {relations : List Relation} (v : Valid z 
         → (i : ℤ) → i ≤ℤ (n +ℤ z .l) → Same (z .m) y w i
     unfolding Satisfies
     agrees-back y w hy hw =
-        trailing-agreement (z .m) (span z) u (subst (λ d. TriangularRows (z .m) d (u .rows) (u .order)) (mirror-span z) (settled-rows a))
-        (leading-diagonal .order-count)
-        (nonzero-of-diagonal leading (z .m) (span z) u leading-diagonal) spans (z .l) (z .t) sum y w (mirrored-sequences y .0 hy .0)
+        trailing-agreement (z .m) (span z) u (subst (λ d. TriangularRows (z .m) d (u .rows) (u .order)) (mirror-span z) (settled-rows a (as-many (mirrorSizes z))))
+        (leading-diagonal .order-count ∙ as-many z)
+        (nonzero-of-diagonal leading (equations z) (z .m) (span z) u leading-diagonal) spans (z .l) (z .t) sum y w (mirrored-sequences y .0 hy .0)
         (mirrored-sequences w .0 hw .0)

@@ -10,8 +10,8 @@ use denote.Ref.{now}
 use lib.Dec.{T, leb}
 use lib.IntN.{ℤ}
 use Rattle.algebra.specs.Polynomials.{T-&&}
-use Rattle.rules.specs.Stores.{Sizes, sizesRight, countRight, lengthsRight, numbersRight, checkStores}
-use Rattle.rules.specs.Layout.{checkStores-order, size-bounds, countRight-iff, lengthsRight-iff}
+use Rattle.rules.specs.Stores.{Sizes, equations, sizesRight, countRight, lengthsRight, numbersRight, checkStores}
+use Rattle.rules.specs.Layout.{checkStores-order, size-bounds, equations-few, countRight-iff, lengthsRight-iff}
 use Rattle.rows.specs.Validity.{sizesOf, and-joined, true-T}
 use Rattle.rows.proofs.validity.check_stores.Statement.{statement}
 use Rattle.rows.proofs.validity.check_stores.Tie as tie
@@ -22,7 +22,7 @@ module _ (z : Sizes) (count : ℕ) (rows relations : List ℤ) where
   sizes = sizesRight z && countRight count
 
   abbrev lengths : Bool
-  lengths = lengthsRight (z .m) rows relations
+  lengths = lengthsRight (equations z) rows relations
 
   abbrev numbers : Bool
   numbers = numbersRight z count rows relations
@@ -57,7 +57,8 @@ sizes-hold c = sym (tested (c .before)) ∙ not-false _ (c .if2 .left)
 
 lengths-hold : (c : tie.Else3)
     → let args = c .before .before .before .before .before .args in
-    lengthsRight (args .sizes .m) (now (args .rows)) (now (args .relations)) ≡ true
+    lengthsRight (equations (sizesOf (args .sizes))) (now (args .rows)) (now (args .relations)) ≡ true
+unfolding equations sizesOf
 lengths-hold c = sym (c .before .lengths-right .ensures) ∙ not-false _ (c .if3 .left)
 
 right : (c : tie.Else2)
@@ -74,11 +75,11 @@ returns c =
     (sym (tested (c .before)) ∙ not-true _ (c .if2 .taken))
 
 lengths-right-requires : tie.Need-lengths-right-requires
-unfolding sizesOf
-lengths-right-requires c κs = size-bounds _ (right c .0) .few
+unfolding equations sizesOf
+lengths-right-requires c κs = equations-few _ (size-bounds _ (right c .0))
 
 returns-2 : tie.Need-returns-2
-unfolding sizesOf
+unfolding equations sizesOf
 returns-2 c =
     let args = c .before .before .before .before .before .args in
     lengths-failed (sizesOf (args .sizes)) (args .count) (now (args .rows)) (now (args .relations)) (sizes-hold (c .before .before))
@@ -87,7 +88,7 @@ returns-2 c =
 numbers-right-requires : tie.Need-numbers-right-requires
 numbers-right-requires c κs =
     let args = c .before .before .before .before .before .args in
-    let long = lengthsRight-iff (args .sizes .m) (now (args .rows)) (now (args .relations)) .0 (true-T _ (lengths-hold c)) in
+    let long = lengthsRight-iff (equations (sizesOf (args .sizes))) (now (args .rows)) (now (args .relations)) .0 (true-T _ (lengths-hold c)) in
     ((right (c .before .before) .0, long .0), (countRight-iff (args .count) .0 (right (c .before .before) .1), long .1))
 
 returns-3 : tie.Need-returns-3

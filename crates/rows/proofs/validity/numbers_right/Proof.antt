@@ -5,16 +5,17 @@ use borrow.Author.Needs.{needs}
 use borrow.Author.Tests.{not-true, not-false}
 use denote.Ref.{now}
 use Rattle.algebra.specs.Polynomials.{isZero}
-use Rattle.rules.specs.Stores.{numbersRight}
+use Rattle.rules.specs.Stores.{equations, numbersRight}
 use Rattle.rows.specs.Validity.{sizesOf, unused-part, first-failed, second-failed, both-passed}
 use Rattle.rows.proofs.validity.numbers_right.Statement.{statement}
 use Rattle.rows.proofs.validity.numbers_right.Tie as tie
 
 rows-right-requires : tie.Need-rows-right-requires
+unfolding equations sizesOf
 rows-right-requires c κs = search needs
 
 returns : tie.Need-returns
-unfolding numbersRight sizesOf
+unfolding numbersRight equations sizesOf
 returns c =
     let failed = sym (c .before .rows-right .ensures) ∙ not-true _ (c .if1 .taken) in
     first-failed _ _ _ failed
@@ -23,7 +24,7 @@ relations-right-requires : tie.Need-relations-right-requires
 relations-right-requires c κs = search needs
 
 returns-2 : tie.Need-returns-2
-unfolding numbersRight sizesOf
+unfolding numbersRight equations sizesOf
 returns-2 c =
     let rows-passed = sym (c .before .before .before .rows-right .ensures) ∙ not-false _ (c .before .before .if1 .left) in
     let failed = sym (c .before .relations-right .ensures) ∙ not-true _ (c .if2 .taken) in
@@ -48,7 +49,7 @@ unused-zero-requires : tie.Need-unused-zero-requires
 unused-zero-requires c κs = search needs
 
 returns-3 : tie.Need-returns-3
-unfolding numbersRight sizesOf
+unfolding numbersRight equations sizesOf
 returns-3 c =
     let tested = c .before .before .before in
     let args = tested .before .before .before .args in

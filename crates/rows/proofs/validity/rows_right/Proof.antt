@@ -20,10 +20,10 @@ use Rattle.rows.proofs.validity.rows_right.Statement.{statement}
 use Rattle.rows.proofs.validity.rows_right.Tie as tie
 
 abbrev Inv-loop : tie.InvT-loop
-Inv-loop store m d i₀ i = (i ≤ m) × (every (rowTest m d) (take i (rowsOf m store)) ≡ true)
+Inv-loop store equations m d i₀ i = (i ≤ equations) × (every (rowTest m d) (take i (rowsOf equations store)) ≡ true)
 
 abbrev μ-loop : tie.MeasureT-loop
-μ-loop store m d i₀ i = m - i
+μ-loop store equations m d i₀ i = equations - i
 
 -- the check of a row, by m and D
 right : (c : tie.After-span Inv-loop μ-loop)
@@ -42,7 +42,7 @@ module _ (c : tie.After-row-right Inv-loop μ-loop) where
   test = rowTest (at .before .before .args .sizes .m) (at .before .span .result)
 
   abbrev rows : List Row
-  rows = rowsOf (at .before .before .args .sizes .m) (now (at .before .before .args .store))
+  rows = rowsOf (at .before .before .args .equations) (now (at .before .before .args .store))
 
   inside : at .loop .i < length rows
   inside = rw length-rowsOf (c .before .before .loop-test .taken)
@@ -52,7 +52,7 @@ module _ (c : tie.After-row-right Inv-loop μ-loop) where
   tested =
       let args = at .before .before .args in
       c .row-right .ensures ∙ ap (λ l. test (rowOf l)) (c .before .row-at .ensures .0)
-      ∙ ap test (sym (row-at (args .sizes .m) (now (args .store)) (at .loop .i) (c .before .before .loop-test .taken)))
+      ∙ ap test (sym (row-at (args .equations) (now (args .store)) (at .loop .i) (c .before .before .loop-test .taken)))
 
 span-requires : tie.Need-span-requires Inv-loop μ-loop
 span-requires c κs = search needs
@@ -91,7 +91,7 @@ loop-again c =
 returns-2 : tie.Need-returns-2 Inv-loop μ-loop
 returns-2 c =
     let args = c .before .before .before .args in
-    let rows = rowsOf (args .sizes .m) (now (args .store)) in
+    let rows = rowsOf (args .equations) (now (args .store)) in
     let all : take (c .before .loop .i) rows ≡ rows = take-all (c .before .loop .i) rows (rw length-rowsOf (c .loop-test .left)) in
     sym (ap (λ t. every t rows) (right (c .before .before)) ∙ ap (every _) (sym all) ∙ c .before .loop .inv .1)
 
