@@ -1,7 +1,7 @@
 -- A sheet read straight into stores of the largest sizes that are zero: they then are what the call that reads it leaves.
 --
 -- Main statements
---   call-holds           the m rows and the relations that were read, and zeros past them
+--   call-holds           the rows and the relations that were read, and zeros past them
 use Prim.Native.Nat.{ℕ, _*_, _-_, _≤_}
 use native.Mathlib.Nat.{zero-add, le-of-eq}
 use native.Mathlib.Omega.{arith}
@@ -12,8 +12,8 @@ use borrow.Author.Tests.{le-leb}
 use lib.ListN.{length, take, drop, take-append-drop, drop-of-length-le}
 use lib.Seq.{take-all}
 use lib.IntN.{ℤ}
-use Rattle.rules.specs.Limits.{rowLength, relationLength, mostRelations}
-use Rattle.rules.specs.Stores.{rowsOf, relationsOf, rowNeed, largestRows, relationNeed, rowStoreOf, relationStoreOf, lengthsRight}
+use Rattle.rules.specs.Limits.{mostEquations, rowLength, relationLength, mostRelations}
+use Rattle.rules.specs.Stores.{equations, rowsOf, relationsOf, rowNeed, largestRows, relationNeed, rowStoreOf, relationStoreOf, lengthsRight}
 use Rattle.rules.specs.Layout.{length-relationsOf, length-relationStoreOf, StoreRelation-relationsOf}
 use Rattle.rules.specs.Calls.{overwrite, zeros}
 use Rattle.rules.specs.SheetCalls.{ReadResult, ReadCall, readCall}
@@ -23,7 +23,7 @@ use Rattle.reading.specs.ReadCalls.{rows-filled, relationStore-again, ca
 
 module _ (bytes : List ℕ) (r : ReadResult) (rows relations : List ℤ) (read : SheetRead bytes r rows relations) (none : r .refusal ≡ 0)
     (rows-long : length rows ≡ largestRows)
-    (rows-rest : drop (r .sizes .m * rowLength) rows ≡ drop (r .sizes .m * rowLength) (zeros largestRows))
+    (rows-rest : drop (equations (r .sizes) * rowLength) rows ≡ drop (equations (r .sizes) * rowLength) (zeros largestRows))
     (relations-long : length relations ≡ r .relations * relationLength) where
   abbrev used : ℕ
   used = r .relations * relationLength
@@ -39,21 +39,21 @@ module _ (bytes : List ℕ) (r : ReadResult) (rows relations : List ℤ) (read :
       few : r .relations ≤ 16
       few = read .few none
 
-      unknowns : r .sizes .m ≤ 4
-      unknowns = read .unknowns none
+      few-rows : equations (r .sizes) ≤ mostEquations
+      few-rows = read .few-rows none
 
-      long : lengthsRight (r .sizes .m) (zeros largestRows) (zeros relationNeed) ≡ true
+      long : lengthsRight (equations (r .sizes)) (zeros largestRows) (zeros relationNeed) ≡ true
       long =
-          ap₂ _&&_ (le-leb (rowNeed (r .sizes .m)) (length (zeros largestRows))
-          (omega (arith, unknowns, length-zeros largestRows)))
+          ap₂ _&&_ (le-leb (rowNeed (equations (r .sizes))) (length (zeros largestRows))
+          (omega (arith, few-rows, length-zeros largestRows)))
           (le-leb relationNeed (length (zeros relationNeed)) (omega (arith, length-zeros relationNeed)))
 
-      own : overwrite (rowStoreOf (rowsOf (r .sizes .m) rows)) (zeros largestRows) ≡ rows
+      own : overwrite (rowStoreOf (rowsOf (equations (r .sizes)) rows)) (zeros largestRows) ≡ rows
       own =
-          sym (rows-filled (r .sizes .m) rows (zeros largestRows) (omega (arith, unknowns)))
-          ∙ ap (λ l. take (r .sizes .m * rowLength) rows ++ l)
-          (ap (λ k. drop k (zeros largestRows)) (zero-add (r .sizes .m * rowLength)) ∙ sym rows-rest)
-          ∙ take-append-drop (r .sizes .m * rowLength) rows
+          sym (rows-filled (equations (r .sizes)) rows (zeros largestRows) (omega (arith, few-rows)))
+          ∙ ap (λ l. take (equations (r .sizes) * rowLength) rows ++ l)
+          (ap (λ k. drop k (zeros largestRows)) (zero-add (equations (r .sizes) * rowLength)) ∙ sym rows-rest)
+          ∙ take-append-drop (equations (r .sizes) * rowLength) rows
 
       part : List ℤ
       part = relationStoreOf (relationsOf (r .relations) relations)

@@ -18,7 +18,7 @@ use lib.ListN.{length, take, drop, replicate, length-replicate}
 use lib.Seq.{paste, length-take-le, take-all, take-paste, drop-paste, drop-drop}
 use lib.IntN.{ℤ, pos}
 use Rattle.rules.specs.Limits.{relationLength, mostRelations}
-use Rattle.rules.specs.Stores.{parts, rowsOf, relationOf, relationsOf, relationNumbers, rowNeed, relationNeed, rowStoreOf, relationStoreOf, lengthsRight}
+use Rattle.rules.specs.Stores.{equations, parts, rowsOf, relationOf, relationsOf, relationNumbers, rowNeed, relationNeed, rowStoreOf, relationStoreOf, lengthsRight}
 use Rattle.rules.specs.Layout.{flatten-parts, parts-width, rowStoreOf-rowsOf, relationNumbers-relationOf, length-relationsOf, length-relationStoreOf, StoreRelation-relationsOf}
 use Rattle.rules.specs.Lists.{map-back, all-mono}
 use Rattle.rules.specs.Calls.{overwrite}
@@ -129,7 +129,7 @@ module _ (bytes : List ℕ) (r : ReadResult) (rows relations : List ℤ) (read :
 
   module _ (none : r .refusal ≡ 0) where
     abbrev held : Sheet
-    held = sheet (r .sizes) (rowsOf (r .sizes .m) rows) (relationsOf (r .relations) relations) (r .order)
+    held = sheet (r .sizes) (rowsOf (equations (r .sizes)) rows) (relationsOf (r .relations) relations) (r .order)
 
     -- A call that gives a sheet back: the refusal and the number of relations beside it.
     callWith : ℕ → ℕ → Sheet → ReadCall
@@ -145,24 +145,24 @@ module _ (bytes : List ℕ) (r : ReadResult) (rows relations : List ℤ) (read :
     filledCall =
         record {
           result = r;
-          rowStore = overwrite (rowStoreOf (rowsOf (r .sizes .m) rows)) rowStore;
+          rowStore = overwrite (rowStoreOf (rowsOf (equations (r .sizes)) rows)) rowStore;
           relationStore = overwrite (relationStoreOf (relationsOf (r .relations) relations)) relationStore;
         }
 
     call-read : readCall bytes rowStore relationStore
-        ≡ cond (lengthsRight (r .sizes .m) rowStore relationStore) filledCall (unread 1 rowStore relationStore)
+        ≡ cond (lengthsRight (equations (r .sizes)) rowStore relationStore) filledCall (unread 1 rowStore relationStore)
     unfolding readOf padSheet readCall afterRead filled callWith
     call-read =
         let parts = then-parts (readSheet bytes) padSheet (sym (read .answer) ∙ ap (λ n. readOf bytes n held (length bytes)) none) in
         ap (λ q. afterRead q rowStore relationStore) (parts .2)
-        ∙ ap (λ p. cond (lengthsRight (p .sizes .m) rowStore relationStore) (callWith 0 (length (p .relations)) p) (unread 1 rowStore relationStore))
+        ∙ ap (λ p. cond (lengthsRight (equations (p .sizes)) rowStore relationStore) (callWith 0 (length (p .relations)) p) (unread 1 rowStore relationStore))
         (got-value (parts .3))
-        ∙ ap₂ (λ n k. cond (lengthsRight (r .sizes .m) rowStore relationStore) (callWith n k held) (unread 1 rowStore relationStore)) (sym none)
+        ∙ ap₂ (λ n k. cond (lengthsRight (equations (r .sizes)) rowStore relationStore) (callWith n k held) (unread 1 rowStore relationStore)) (sym none)
         (length-relationsOf (r .relations) relations)
 
     -- A store too short is 1, after all faults of the sheet (SCOPE 4.42).
-    pub call-short : lengthsRight (r .sizes .m) rowStore relationStore ≡ false → readCall bytes rowStore relationStore ≡ unread 1 rowStore relationStore
+    pub call-short : lengthsRight (equations (r .sizes)) rowStore relationStore ≡ false → readCall bytes rowStore relationStore ≡ unread 1 rowStore relationStore
     call-short e = call-read ∙ ap (λ t. cond t filledCall (unread 1 rowStore relationStore)) e
 
-    pub call-fills : lengthsRight (r .sizes .m) rowStore relationStore ≡ true → readCall bytes rowStore relationStore ≡ filledCall
+    pub call-fills : lengthsRight (equations (r .sizes)) rowStore relationStore ≡ true → readCall bytes rowStore relationStore ≡ filledCall
     call-fills e = call-read ∙ ap (λ t. cond t filledCall (unread 1 rowStore relationStore)) e

@@ -20,8 +20,8 @@ use lib.ListN.{length, drop, drop-of-length-le}
 use lib.Seq.{drop-length, drop-cons}
 use lib.IntN.{ℤ, pos, negℤ, natAbs, _-ℤ_}
 use lib.Signed.{leZ, nonNeg}
-use Rattle.rules.specs.Limits.{columnCount, mostRelations}
-use Rattle.rules.specs.Stores.{Sizes, sizesRight, rowsOf, relationsOf}
+use Rattle.rules.specs.Limits.{columnCount, mostEquations, mostRelations}
+use Rattle.rules.specs.Stores.{Sizes, equations, sizesRight, rowsOf, relationsOf}
 use Rattle.rules.specs.Numbers.{space, newline, Read, got, fault, thenRead, field, between}
 use Rattle.rules.specs.Rows.{Row, Relation}
 use Rattle.rules.specs.Sheets.{always, judgeLowest, Sheet, readSizes, readEquations, readRelations, readOrder, readEnd, readSheet}
@@ -130,8 +130,9 @@ sizes-right bytes z rest e =
 
 -- ---- sections
 
-unfoldable pub equationSection : Sizes → List ℕ → Read (List Row)
-equationSection z bytes = thenRead (field (between (pos (z .m)) (pos (z .m))) (always newline) bytes) λ _ rest. readEquations z (z .m) rest
+-- The count, which has to be n, and n equations.
+unfoldable pub equationSection : Sizes → ℕ → List ℕ → Read (List Row)
+equationSection z n bytes = thenRead (field (between (pos n) (pos n)) (always newline) bytes) λ _ rest. readEquations z n rest
 
 unfoldable pub relationSection : Sizes → List ℕ → Read (List Relation)
 relationSection z bytes = thenRead (field (between (pos 0) (pos 16)) (always newline) bytes) λ count rest. readRelations z (natAbs count) rest
@@ -147,7 +148,7 @@ unfoldable pub relationsThen : Sizes → List Row → List ℕ → Read Sheet
 relationsThen z rows bytes = thenRead (relationSection z bytes) (orderSection z rows)
 
 unfoldable pub readSections : Sizes → List ℕ → Read Sheet
-readSections z bytes = thenRead (equationSection z bytes) (relationsThen z)
+readSections z bytes = thenRead (equationSection z (equations z) bytes) (relationsThen z)
 
 -- ---- the whole sheet
 
@@ -167,10 +168,10 @@ module _ (z : Sizes) where
   fromRelationCount rows bytes = thenRead (field (between (pos 0) (pos 16)) (always newline) bytes) (fromRelations rows)
 
   fromEquations : ℤ → List ℕ → Read Sheet
-  fromEquations _ bytes = thenRead (readEquations z (z .m) bytes) fromRelationCount
+  fromEquations _ bytes = thenRead (readEquations z (equations z) bytes) fromRelationCount
 
   fromEquationCount : List ℕ → Read Sheet
-  fromEquationCount bytes = thenRead (field (between (pos (z .m)) (pos (z .m))) (always newline) bytes) fromEquations
+  fromEquationCount bytes = thenRead (field (between (pos (equations z)) (pos (equations z))) (always newline) bytes) fromEquations
 
   order-padded : (rows : List Row) (relations : List Relation) (bytes : List ℕ)
       → thenRead (fromOrder rows relations bytes) padSheet ≡ thenRead (orderSection z rows relations bytes) readEnd
@@ -211,12 +212,12 @@ module _ (z : Sizes) where
   equations-padded bytes =
       then-then count fromEquations padSheet
       ∙ then-cong count
-      (λ _ rest. then-then (readEquations z (z .m) rest) fromRelationCount padSheet ∙ then-cong (readEquations z (z .m) rest) relations-padded)
-      ∙ sym (then-then count (λ _ rest. readEquations z (z .m) rest) relationsEnd)
-      ∙ sym (then-then (equationSection z bytes) (relationsThen z) readEnd)
+      (λ _ rest. then-then (readEquations z (equations z) rest) fromRelationCount padSheet ∙ then-cong (readEquations z (equations z) rest) relations-padded)
+      ∙ sym (then-then count (λ _ rest. readEquations z (equations z) rest) relationsEnd)
+      ∙ sym (then-then (equationSection z (equations z) bytes) (relationsThen z) readEnd)
     where
       count : Read ℤ
-      count = field (between (pos (z .m)) (pos (z .m))) (always newline) bytes
+      count = field (between (pos (equations z)) (pos (equations z))) (always newline) bytes
 
 sheet-parts : (bytes : List ℕ) → readSheet bytes ≡ thenRead (readSizes bytes) fromEquationCount
 unfolding readSheet fromEquationCount fromEquations fromRelationCount fromRelations fromOrder
@@ -241,9 +242,9 @@ resultOf r = record { refusal = r .refusal; sizes = sizesOf (r .sizes); relation
 
 -- A sheet that was read into stores: the result and the stores hold it, or the result is the refusal.
 pub record SheetRead (bytes : List ℕ) (r : ReadResult) (rows relations : List ℤ) : Type 0 where
-  pub answer : readOf bytes (r .refusal) (sheet (r .sizes) (rowsOf (r .sizes .m) rows) (relationsOf (r .relations) relations) (r .order)) (length bytes)
+  pub answer : readOf bytes (r .refusal) (sheet (r .sizes) (rowsOf (equations (r .sizes)) rows) (relationsOf (r .relations) relations) (r .order)) (length bytes)
       ≡ thenRead (readSheet bytes) padSheet
-  pub unknowns : r .refusal ≡ 0 → r .sizes .m ≤ columnCount
+  pub few-rows : r .refusal ≡ 0 → equations (r .sizes) ≤ mostEquations
   pub few : r .refusal ≡ 0 → r .relations ≤ mostRelations
 
 -- A sheet whose sizes, rows and number of relations have been read, and the relations come at the place `at`.
@@ -252,7 +253,7 @@ pub record HeadTo (bytes : List ℕ) (z : Sizes) (count at : ℕ) (rows : List �
   pub right : T (sizesRight z)
   pub few : count ≤ mostRelations
   pub rest : thenRead (readSheet bytes) padSheet
-      ≡ thenRead (thenRead (readRelations z count (drop at bytes)) (orderSection z (rowsOf (z .m) rows))) readEnd
+      ≡ thenRead (thenRead (readRelations z count (drop at bytes)) (orderSection z (rowsOf (equations z) rows))) readEnd
 
 -- So much of a sheet was read, or it is refused.
 pub record HeadRead (bytes : List ℕ) (refusal : ℕ) (z : Sizes) (count at : ℕ) (rows : List ℤ) : Type 0 where
@@ -265,11 +266,11 @@ module _ {bytes : List ℕ} {refusal : ℕ} {z : Sizes} {count at : ℕ} {rows :
 
 module _ (bytes : List ℕ) (z : Sizes) (first : List ℕ) (sizes-read : readSizes bytes ≡ got z first) where
   -- The equations, and then the relations.
-  pub equations-fault : {n : ℕ} → equationSection z first ≡ fault n → thenRead (readSheet bytes) padSheet ≡ fault n
+  pub equations-fault : {n : ℕ} → equationSection z (equations z) first ≡ fault n → thenRead (readSheet bytes) padSheet ≡ fault n
   unfolding sectionsEnd readSections
   equations-fault e = sheet-is bytes ∙ then-got sectionsEnd sizes-read ∙ then-fault readEnd (then-fault (relationsThen z) e)
 
-  module _ (rows : List Row) (second : List ℕ) (rows-read : equationSection z first ≡ got rows second) where
+  module _ (rows : List Row) (second : List ℕ) (rows-read : equationSection z (equations z) first ≡ got rows second) where
     to-relations : thenRead (readSheet bytes) padSheet ≡ thenRead (thenRead (relationSection z second) (orderSection z rows)) readEnd
     unfolding sectionsEnd readSections relationsThen
     to-relations = sheet-is bytes ∙ then-got sectionsEnd sizes-read ∙ ap (λ r. thenRead r readEnd) (then-got (relationsThen z) rows-read)
@@ -286,17 +287,17 @@ module _ (bytes : List ℕ) (z : Sizes) (first : List ℕ) (sizes-read : readSiz
 module _ {bytes : List ℕ} {z : Sizes} {count at : ℕ} {rows : List ℤ} (head : HeadTo bytes z count at rows) where
   -- The relations, and then the order.
   pub relations-fault : {n : ℕ} → readRelations z count (drop at bytes) ≡ fault n → thenRead (readSheet bytes) padSheet ≡ fault n
-  relations-fault e = head .rest ∙ then-fault readEnd (then-fault (orderSection z (rowsOf (z .m) rows)) e)
+  relations-fault e = head .rest ∙ then-fault readEnd (then-fault (orderSection z (rowsOf (equations z) rows)) e)
 
   module _ (relations : List Relation) (more : List ℕ) (e : readRelations z count (drop at bytes) ≡ got relations more) where
     pub order-fault : {n : ℕ} → padded 4 0 (readOrder (z .m) more) ≡ fault n → thenRead (readSheet bytes) padSheet ≡ fault n
     unfolding orderSection
-    order-fault f = head .rest ∙ then-fault readEnd (then-got (orderSection z (rowsOf (z .m) rows)) e ∙ then-fault _ f)
+    order-fault f = head .rest ∙ then-fault readEnd (then-got (orderSection z (rowsOf (equations z) rows)) e ∙ then-fault _ f)
 
     pub order-got : (order rest : List ℕ) → padded 4 0 (readOrder (z .m) more) ≡ got order rest
-        → thenRead (readSheet bytes) padSheet ≡ readEnd (sheet z (rowsOf (z .m) rows) relations order) rest
+        → thenRead (readSheet bytes) padSheet ≡ readEnd (sheet z (rowsOf (equations z) rows) relations order) rest
     unfolding orderSection
-    order-got order rest f = head .rest ∙ then-got readEnd (then-got (orderSection z (rowsOf (z .m) rows)) e ∙ then-got _ f)
+    order-got order rest f = head .rest ∙ then-got readEnd (then-got (orderSection z (rowsOf (equations z) rows)) e ∙ then-got _ f)
 
 -- A result that is a refusal.
 pub refused-nonzero : (r : SheetResult) (n : ℕ) → resultOf r ≡ readRefusal n → (n ≡ 0 → ⊥) → r .refusal ≡ 0 → ⊥
@@ -305,7 +306,7 @@ refused-nonzero r n e h z = h (sym (ap (λ q. q .refusal) e) ∙ z)
 
 module _ (bytes : List ℕ) (r : ReadResult) (rows relations : List ℤ) where
   held : Sheet
-  held = sheet (r .sizes) (rowsOf (r .sizes .m) rows) (relationsOf (r .relations) relations) (r .order)
+  held = sheet (r .sizes) (rowsOf (equations (r .sizes)) rows) (relationsOf (r .relations) relations) (r .order)
 
   -- A sheet that is refused.
   pub sheet-refuses : (n : ℕ) → r ≡ readRefusal n → (n ≡ 0 → ⊥) → thenRead (readSheet bytes) padSheet ≡ fault n → SheetRead bytes r rows relations
@@ -313,22 +314,22 @@ module _ (bytes : List ℕ) (r : ReadResult) (rows relations : List ℤ) where
   sheet-refuses n e h f =
       record {
         answer = ap (λ k. readOf bytes k held (length bytes)) (ap (λ q. q .refusal) e) ∙ fault-of bytes n held (length bytes) h ∙ sym f;
-        unknowns = λ z. absurd (h (sym (ap (λ q. q .refusal) e) ∙ z));
+        few-rows = λ z. absurd (h (sym (ap (λ q. q .refusal) e) ∙ z));
         few = λ z. absurd (h (sym (ap (λ q. q .refusal) e) ∙ z));
       }
 
   -- A sheet that is read to its end.
-  pub sheet-gives : (s : Sheet) (at : ℕ) → r .refusal ≡ 0 → sheet (r .sizes) (rowsOf (r .sizes .m) rows) (relationsOf (r .relations) relations) (r .order) ≡ s
-      → thenRead (readSheet bytes) padSheet ≡ readEnd s (drop at bytes) → length bytes ≤ at → r .sizes .m ≤ columnCount → r .relations ≤ mostRelations
+  pub sheet-gives : (s : Sheet) (at : ℕ) → r .refusal ≡ 0 → sheet (r .sizes) (rowsOf (equations (r .sizes)) rows) (relationsOf (r .relations) relations) (r .order) ≡ s
+      → thenRead (readSheet bytes) padSheet ≡ readEnd s (drop at bytes) → length bytes ≤ at → equations (r .sizes) ≤ mostEquations → r .relations ≤ mostRelations
       → SheetRead bytes r rows relations
   unfolding readOf readEnd
-  sheet-gives s at z same e end m count =
+  sheet-gives s at z same e end rows-few count =
       record {
         answer =
             ap₂ (λ n s. readOf bytes n s (length bytes)) z same
             ∙ ap (got s) (drop-length bytes)
             ∙ sym (e ∙ ap (readEnd s) (drop-of-length-le bytes end));
-        unknowns = λ _. m;
+        few-rows = λ _. rows-few;
         few = λ _. count;
       }
 

@@ -6,7 +6,7 @@ ghost use mathlib.Core.Path.{_≡_};
 ghost use Prim.Native.Nat.{_*_, _≤_};
 ghost use lib.ListN.{length, drop};
 ghost use lib.Dec.{T};
-ghost use Rattle.rules.specs.Limits.{rowLength, relationLength};
+ghost use Rattle.rules.specs.Limits.{mostEquations, rowLength, relationLength};
 ghost use Rattle.rules.specs.Stores.{rowsOf, relationOf, relationsOf, sizesRight};
 ghost use Rattle.rules.specs.Calls.{zeros};
 ghost use Rattle.rules.specs.Sheets.{readEquations, readRelation, readRelations};
@@ -14,20 +14,22 @@ ghost use Rattle.tokens.specs.Fields.{Answers};
 ghost use Rattle.rows.specs.Validity.{sizesOf};
 ghost use Rattle.reading.specs.WholeSheet.{equationSection};
 
-// The m equations, read into the m × 320 numbers of `rows` (SCOPE 4.13).
+// So many equations, read into the rows of `rows` (SCOPE 4.13).
 fn equations_at(
     bytes: &[u8],
     at: usize,
     z: rows::validity::Sizes,
+    equations: usize,
     rows: &mut [i64],
 ) -> crate::equations::PartRead
     requires { ⌜ (at ≤ length (now bytes)) × T (sizesRight (sizesOf z)) ⌝ }
-    requires { ⌜ now rows ≡ zeros (z .m * rowLength) ⌝ }
-    ensures { λ r. ⌜ Answers (now (bytes .entry)) (r .refusal) (rowsOf (z .m) (now (rows .exit))) (r .at) (readEquations (sizesOf z) (z .m) (drop at (now (bytes .entry)))) ⌝ }
+    requires { ⌜ (equations ≤ mostEquations) × (now rows ≡ zeros (equations * rowLength)) ⌝ }
+    ensures { λ r. ⌜ Answers (now (bytes .entry)) (r .refusal) (rowsOf equations (now (rows .exit))) (r .at)
+        (readEquations (sizesOf z) equations (drop at (now (bytes .entry)))) ⌝ }
 {
     let mut next = at;
     let mut i = 0;
-    while i < z.m {
+    while i < equations {
         let from = i * ROW;
         let to = from + ROW;
         let e = crate::equations::equation_at(bytes, next, z, &mut rows[from..to]);
@@ -93,21 +95,23 @@ pub(crate) fn relations_at(
     }
 }
 
-// The equation count, anything but m being 2 (SCOPE 4.34), and the equations (SCOPE 4.13).
+// The equation count, any other number being 2 (SCOPE 4.34), and the equations (SCOPE 4.13).
 pub(crate) fn equation_section(
     bytes: &[u8],
     at: usize,
     z: rows::validity::Sizes,
+    equations: usize,
     rows: &mut [i64],
 ) -> crate::equations::PartRead
     requires { ⌜ (at ≤ length (now bytes)) × T (sizesRight (sizesOf z)) ⌝ }
-    requires { ⌜ now rows ≡ zeros (z .m * rowLength) ⌝ }
-    ensures { λ r. ⌜ Answers (now (bytes .entry)) (r .refusal) (rowsOf (z .m) (now (rows .exit))) (r .at) (equationSection (sizesOf z) (drop at (now (bytes .entry)))) ⌝ }
+    requires { ⌜ (equations ≤ mostEquations) × (now rows ≡ zeros (equations * rowLength)) ⌝ }
+    ensures { λ r. ⌜ Answers (now (bytes .entry)) (r .refusal) (rowsOf equations (now (rows .exit))) (r .at)
+        (equationSection (sizesOf z) equations (drop at (now (bytes .entry)))) ⌝ }
 {
-    let m = z.m as i64;
-    let k = tokens::number_between(bytes, at, m, m, 10);
+    let n = equations as i64;
+    let k = tokens::number_between(bytes, at, n, n, 10);
     if k.refusal != 0 {
         return crate::equations::no_part(k.refusal);
     }
-    equations_at(bytes, k.at, z, rows)
+    equations_at(bytes, k.at, z, equations, rows)
 }

@@ -8,8 +8,8 @@ ghost use mathlib.Core.List.{List};
 ghost use lib.ListN.{length, drop};
 ghost use lib.IntN.{ℤ};
 ghost use lib.Dec.{T};
-ghost use Rattle.rules.specs.Limits.{rowLength, relationLength};
-ghost use Rattle.rules.specs.Stores.{rowsOf, relationsOf, largestRows, relationNeed, rowStoreOf, relationStoreOf, sizesRight};
+ghost use Rattle.rules.specs.Limits.{mostEquations, rowLength, relationLength};
+ghost use Rattle.rules.specs.Stores.{equations, rowsOf, relationsOf, largestRows, relationNeed, rowStoreOf, relationStoreOf, sizesRight};
 ghost use Rattle.rules.specs.Calls.{overwrite, zeros};
 ghost use Rattle.rules.specs.SheetCalls.{readRefusal, readCall};
 ghost use Rattle.rows.specs.Validity.{sizesOf};
@@ -55,14 +55,14 @@ fn no_head(refusal: u8, m: usize) -> SheetHead
     }
 }
 
-// The sizes, the equations, read into the first m × 320 numbers of `rows`, and the number of relations. With a refusal, m says how
-// much may have been written.
+// The sizes, the equations, read into the first rows of `rows`, and the number of relations. With a refusal, the sizes say
+// how many rows may have been written.
 pub(crate) fn head_at(bytes: &[u8], rows: &mut [i64]) -> SheetHead
     requires { ⌜ now rows ≡ zeros largestRows ⌝ }
     ensures { λ r. ⌜ HeadRead (now (bytes .entry)) (r .refusal) (sizesOf (r .sizes)) (r .relations) (r .at) (now (rows .exit)) ⌝ }
     ensures { λ r. ⌜
-        (r .sizes .m ≤ 4) × (drop (r .sizes .m * rowLength) (now (rows .exit))
-        ≡ drop (r .sizes .m * rowLength) (now (rows .entry))) ⌝ }
+        (equations (sizesOf (r .sizes)) ≤ mostEquations) × (drop (equations (sizesOf (r .sizes)) * rowLength) (now (rows .exit))
+        ≡ drop (equations (sizesOf (r .sizes)) * rowLength) (now (rows .entry))) ⌝ }
 {
     let z = crate::sizes::sizes_at(bytes, 0);
     if z.refusal != 0 {
@@ -70,7 +70,7 @@ pub(crate) fn head_at(bytes: &[u8], rows: &mut [i64]) -> SheetHead
     }
     let sizes = z.sizes;
     let used = sizes.m * ROW;
-    let e = crate::sections::equation_section(bytes, z.at, sizes, &mut rows[..used]);
+    let e = crate::sections::equation_section(bytes, z.at, sizes, sizes.m, &mut rows[..used]);
     if e.refusal != 0 {
         return no_head(e.refusal, sizes.m);
     }
@@ -91,7 +91,7 @@ pub(crate) fn rest_at(bytes: &[u8], h: SheetHead, relations: &mut [i64]) -> Shee
     requires { ⌜ (h .at ≤ length (now bytes)) × T (sizesRight (sizesOf (h .sizes))) ⌝ }
     requires { ⌜ (h .relations ≤ 16) × (now relations ≡ zeros (h .relations * relationLength)) ⌝ }
     ensures { λ r. ⌜ ((rows : List ℤ) → HeadTo (now (bytes .entry)) (sizesOf (h .sizes)) (h .relations) (h .at) rows → SheetRead (now (bytes .entry)) (resultOf r) rows (now (relations .exit))) ⌝ }
-    ensures { λ r. ⌜ (r .refusal ≡ 0 → (r .sizes .m ≡ h .sizes .m) × (r .relations ≡ h .relations)) ⌝ }
+    ensures { λ r. ⌜ (r .refusal ≡ 0 → (equations (sizesOf (r .sizes)) ≡ equations (sizesOf (h .sizes))) × (r .relations ≡ h .relations)) ⌝ }
 {
     let sizes = h.sizes;
     let s = crate::sections::relations_at(bytes, h.at, sizes, h.relations, relations);
@@ -114,12 +114,12 @@ pub(crate) fn rest_at(bytes: &[u8], h: SheetHead, relations: &mut [i64]) -> Shee
     }
 }
 
-// The numbers of m rows, put into a store that is long enough; what lies behind them stays (SCOPE 3.12).
-pub(crate) fn fill_rows(store: &mut [i64], numbers: &[i64], m: usize)
-    requires { ⌜ (m ≤ 4) × (m * rowLength ≤ length (now store)) × (m * rowLength ≤ length (now numbers)) ⌝ }
-    ensures { λ _. ⌜ now (store .exit) ≡ overwrite (rowStoreOf (rowsOf m (now (numbers .entry)))) (now (store .entry)) ⌝ }
+// The numbers of some rows, put into a store that is long enough; what lies behind them stays (SCOPE 3.12).
+pub(crate) fn fill_rows(store: &mut [i64], numbers: &[i64], equations: usize)
+    requires { ⌜ (equations ≤ mostEquations) × (equations * rowLength ≤ length (now store)) × (equations * rowLength ≤ length (now numbers)) ⌝ }
+    ensures { λ _. ⌜ now (store .exit) ≡ overwrite (rowStoreOf (rowsOf equations (now (numbers .entry)))) (now (store .entry)) ⌝ }
 {
-    crate::equations::copy(store, 0, numbers, m * ROW);
+    crate::equations::copy(store, 0, numbers, equations * ROW);
 }
 
 // The numbers of the relations, put into a store that is long enough, and 0 at the places behind them (SCOPE 3.13).

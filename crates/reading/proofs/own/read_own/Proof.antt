@@ -10,7 +10,7 @@ use lib.IntN.{ℤ, pos}
 use lib.ListN.{length, take, drop, replicate, length-append}
 use lib.Seq.{paste, drop-at}
 use Rattle.rules.specs.Limits.{rowLength, relationLength}
-use Rattle.rules.specs.Stores.{largestRows, relationNeed}
+use Rattle.rules.specs.Stores.{equations, largestRows, relationNeed}
 use Rattle.rules.specs.Calls.{zeros}
 use Rattle.rules.specs.SheetCalls.{readCall}
 use Rattle.rows.specs.Validity.{sizesOf}
@@ -32,24 +32,29 @@ module _ (c : tie.After-head-at) where
   abbrev rows : List ℤ
   rows = c .head-at .last .1 .0
 
-  abbrev m : ℕ
-  m = c .head-at .result .sizes .m
+  -- the number of equations
+  abbrev n : ℕ
+  n = c .head-at .result .sizes .m
 
   rows-long : length rows ≡ largestRows
   rows-long = c .head-at .kept .1 .0 ∙ ap length (start .pre .0) ∙ length-zeros largestRows
 
-  rows-rest : (k : ℕ) → k ≡ m → drop (k * rowLength) rows ≡ drop (k * rowLength) (zeros largestRows)
-  rows-rest k e = rw e (c .head-at .ensures .1 .1 ∙ ap (drop (m * rowLength)) (start .pre .0))
+  rows-rest : (k : ℕ) → k ≡ n → drop (k * rowLength) rows ≡ drop (k * rowLength) (zeros largestRows)
+  unfolding equations sizesOf
+  rows-rest k e = rw e (c .head-at .ensures .1 .1 ∙ ap (drop (n * rowLength)) (start .pre .0))
 
-  rows-cleared : paste rows 0 (replicate (m * rowLength) (pos 0)) (m * rowLength) ≡ now (start .args .rows)
+  rows-cleared : paste rows 0 (replicate (n * rowLength) (pos 0)) (n * rowLength) ≡ now (start .args .rows)
+  unfolding equations sizesOf
   rows-cleared =
-      zero-again (m * rowLength) largestRows rows (omega (arith, c .head-at .ensures .1 .0)) (rows-rest m refl)
+      zero-again (n * rowLength) largestRows rows (omega (arith, c .head-at .ensures .1 .0)) (rows-rest n refl)
       ∙ sym (start .pre .0)
 
 mul-clear : tie.Need-mul-clear
+unfolding equations sizesOf
 mul-clear c = omega (arith, c .before .before .before .before .before .head-at .ensures .1 .0)
 
 clear-requires : tie.Need-clear-requires
+unfolding equations sizesOf
 clear-requires c κs =
     let h = c .before .before .before .before .before in
     omega (arith, h .head-at .ensures .1 .0, rows-long h)
@@ -123,9 +128,11 @@ module _ (c : tie.After-rest-at) where
       zero-again (used e) relationNeed relations (omega (arith, head e .few)) relations-rest ∙ sym (start (from e) .pre .1)
 
 mul-clear-2 : tie.Need-mul-clear-2
+unfolding equations sizesOf
 mul-clear-2 c = omega (arith, from (e (c .before .before .before .before .before)) .head-at .ensures .1 .0)
 
 clear-requires-2 : tie.Need-clear-requires-2
+unfolding equations sizesOf
 clear-requires-2 c κs =
     let h = from (e (c .before .before .before .before .before)) in
     omega (arith, h .head-at .ensures .1 .0, rows-long h)
@@ -161,7 +168,7 @@ same-length-5 : tie.Need-same-length-5
 same-length-5 c = search needs
 
 returns-3 : tie.Need-returns-3
-unfolding callOf resultOf sizesOf
+unfolding callOf equations resultOf sizesOf
 returns-3 c =
     let r = c .before .before .before in
     let s = start (from (e r)) in

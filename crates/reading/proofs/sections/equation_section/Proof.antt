@@ -12,7 +12,7 @@ use mir.Val.{toZ}
 use mir.Facts.{toZ-pos}
 use Rattle.rules.specs.Numbers.{field, between}
 use Rattle.rules.specs.Sheets.{always}
-use Rattle.rules.specs.Layout.{size-bounds}
+use Rattle.rules.specs.Limits.{mostEquations}
 use Rattle.tokens.specs.Fields.{Answers, answer-fault, answer-got, refuses, answers-as, then-got, then-fault}
 use Rattle.reading.specs.WholeSheet.{equationSection}
 use Rattle.rows.specs.Validity.{sizesOf}
@@ -20,33 +20,32 @@ use Rattle.reading.proofs.sections.equation_section.Statement.{statemen
 use Rattle.reading.proofs.sections.equation_section.Tie as tie
 
 module _ (c : tie.Start) where
-  few : c .args .z .m ≤ 4
-  unfolding sizesOf
-  few = size-bounds _ (c .pre .0 .1) .few
+  few : c .args .equations ≤ mostEquations
+  few = c .pre .1 .0
 
-cast-m : tie.Need-cast-m
-cast-m c = omega (arith, few (c .before .before))
+cast-n : tie.Need-cast-n
+cast-n c = omega (arith, few (c .before))
 
 number-between-requires : tie.Need-number-between-requires
-number-between-requires c κs = c .before .before .pre .0 .0
+number-between-requires c κs = c .before .pre .0 .0
 
 no-part-requires : tie.Need-no-part-requires
 no-part-requires c κs = tt
 
 -- The number of equations, as it was read.
 module _ (c : tie.After-number-between) where
-  count-answer : Answers (now (c .before .before .before .args .bytes)) (c .number-between .result .refusal) (c .number-between .result .value) (c .number-between .result .at)
-      (field (between (pos (c .before .before .before .args .z .m)) (pos (c .before .before .before .args .z .m))) (always 10) (drop (c .before .before .before .args .at) (now (c .before .before .before .args .bytes))))
+  count-answer : Answers (now (c .before .before .args .bytes)) (c .number-between .result .refusal) (c .number-between .result .value) (c .number-between .result .at)
+      (field (between (pos (c .before .before .args .equations)) (pos (c .before .before .args .equations))) (always 10) (drop (c .before .before .args .at) (now (c .before .before .args .bytes))))
   count-answer =
-      let m : toZ w64 (c .before .before .before .args .z .m) ≡ pos (c .before .before .before .args .z .m) = toZ-pos w64 (omega (arith, few (c .before .before .before))) in
-      rw m at (c .number-between .ensures .0)
+      let n : toZ w64 (c .before .before .args .equations) ≡ pos (c .before .before .args .equations) = toZ-pos w64 (omega (arith, few (c .before .before))) in
+      rw n at (c .number-between .ensures .0)
 
 returns : tie.Need-returns
 unfolding equationSection sizesOf
 returns c = refuses (c .before .if1 .taken) (then-fault _ (answer-fault (c .before .if1 .taken) (count-answer (c .before .before .before)))) (c .no-part .ensures)
 
 equations-at-requires : tie.Need-equations-at-requires
-equations-at-requires c κs = ((c .before .before .before .number-between .ensures .0 .within, c .before .before .before .before .before .before .pre .0 .1), c .before .before .before .before .before .before .pre .1)
+equations-at-requires c κs = ((c .before .before .before .number-between .ensures .0 .within, c .before .before .before .before .before .pre .0 .1), c .before .before .before .before .before .pre .1)
 
 same-length : tie.Need-same-length
 same-length c = search needs
@@ -59,7 +58,7 @@ pub equation-section-spec : {M : Type 1} → statement M
 equation-section-spec =
     tie.close
     (tie.spec
-    cast-m
+    cast-n
     number-between-requires
     no-part-requires
     returns

@@ -10,7 +10,7 @@ use denote.Ref.{now}
 use lib.ListN.{length}
 use Rattle.rules.specs.Limits.{relationLength}
 use Rattle.rules.specs.Layout.{lengthsRight-iff}
-use Rattle.rules.specs.Stores.{rowNeed}
+use Rattle.rules.specs.Stores.{equations, rowNeed}
 use Rattle.rows.specs.Validity.{sizesOf, true-T}
 use Rattle.reading.specs.Zeros.{length-zeros}
 use Rattle.reading.specs.WholeSheet.{resultOf, SheetRead}
@@ -39,8 +39,8 @@ unfolding resultOf
 returns c = call-unread _ _ _ _ (c .refused .ensures) ∙ sym (call-refuses _ _ _ _ (read (c .before .before .before .before)) _ _ (c .before .if1 .taken))
 
 lengths-right-requires : tie.Need-lengths-right-requires
-unfolding resultOf sizesOf
-lengths-right-requires c κs = read (c .before .before .before .before .before) .unknowns (c .before .before .if1 .left)
+unfolding equations resultOf sizesOf
+lengths-right-requires c κs = read (c .before .before .before .before .before) .few-rows (c .before .before .if1 .left)
 
 refused-requires-2 : tie.Need-refused-requires-2
 refused-requires-2 c κs = tt
@@ -55,20 +55,20 @@ same-length-4 : tie.Need-same-length-4
 same-length-4 c = search needs
 
 returns-2 : tie.Need-returns-2
-unfolding resultOf sizesOf
+unfolding equations resultOf sizesOf
 returns-2 c =
     call-unread _ _ _ _ (c .refused2 .ensures)
     ∙ sym (call-short _ _ _ _ (read (c .before .before .before .before .before .before .before .before)) _ _ (c .before .before .before .before .before .if1 .left) (sym (c .before .before .lengths-right .ensures) ∙ not-true _ (c .before .if2 .taken)))
 
 fill-rows-requires : tie.Need-fill-rows-requires
-unfolding rowNeed resultOf sizesOf
+unfolding rowNeed equations resultOf sizesOf
 fill-rows-requires c κs =
-    let few = read (c .before .before .before .before .before .before .before .before) .unknowns (c .before .before .before .before .before .if1 .left) in
+    let few = read (c .before .before .before .before .before .before .before .before) .few-rows (c .before .before .before .before .before .if1 .left) in
     let long = lengthsRight-iff _ _ _ .0 (true-T _ (sym (c .before .before .lengths-right .ensures) ∙ not-false _ (c .before .if2 .left))) in
     (few, long .0, omega (arith, few, c .before .before .before .before .before .before .before .before .before .before .before .pre .1 .0))
 
 fill-relations-requires : tie.Need-fill-relations-requires
-unfolding resultOf sizesOf
+unfolding equations resultOf sizesOf
 fill-relations-requires c κs =
     let none = c .before .before .before .before .before .before .before .before .before .if1 .left in
     let rest = c .before .before .before .before .before .before .before .before .before .before .before .before .rest-at in
@@ -90,7 +90,7 @@ same-length-7 : tie.Need-same-length-7
 same-length-7 c = search needs
 
 returns-3 : tie.Need-returns-3
-unfolding callOf resultOf sizesOf
+unfolding callOf equations resultOf sizesOf
 returns-3 c =
     ap₂ (λ rows relations. callOf (c .before .before .before .before .before .before .before .before .before .before .before .before .before .before .rest-at .result) rows relations) (c .before .before .before .before .before .fill-rows .ensures) (c .before .fill-relations .ensures)
     ∙ sym (call-fills _ _ _ _ (read (c .before .before .before .before .before .before .before .before .before .before .before .before .before .before)) _ _ (c .before .before .before .before .before .before .before .before .before .before .before .if1 .left) (sym (c .before .before .before .before .before .before .before .before .lengths-right .ensures) ∙ not-false _ (c .before .before .before .before .before .before .before .if2 .left)))

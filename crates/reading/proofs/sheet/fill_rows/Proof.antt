@@ -22,7 +22,7 @@ returns : tie.Need-returns
 unfolding rowNeed
 returns c =
     let s = c .before .before .before in
-    c .before .copy .ensures ∙ rows-filled (s .args .m) (now (s .args .numbers)) (now (s .args .store)) (s .pre .2)
+    c .before .copy .ensures ∙ rows-filled (s .args .equations) (now (s .args .numbers)) (now (s .args .store)) (s .pre .2)
 
 pub fill-rows-spec : {M : Type 1} → statement M
 fill-rows-spec = tie.close (tie.spec mul-copy copy-requires same-length returns)

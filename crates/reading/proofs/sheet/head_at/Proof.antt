@@ -14,10 +14,10 @@ use lib.Signed.{nonNeg}
 use mir.Syntax.{w64}
 use mir.Val.{SFits}
 use mir.Facts.{toZ-ofZ, fits-natAbs}
-use Rattle.rules.specs.Limits.{rowLength}
+use Rattle.rules.specs.Limits.{mostEquations, rowLength}
 use Rattle.rules.specs.Numbers.{got, field, between}
-use Rattle.rules.specs.Stores.{rowsOf, rowNeed, largestRows, sizesRight}
-use Rattle.rules.specs.Layout.{size-bounds}
+use Rattle.rules.specs.Stores.{equations, rowsOf, rowNeed, largestRows, sizesRight}
+use Rattle.rules.specs.Layout.{size-bounds, equations-few}
 use Rattle.rules.specs.Calls.{zeros}
 use Rattle.rules.specs.Sheets.{always, readSizes}
 use Rattle.tokens.specs.Fields.{answer-fault, answer-got, then-fault, field-judged, between-zero}
@@ -35,10 +35,11 @@ no-head-requires : tie.Need-no-head-requires
 no-head-requires c κs = tt
 
 -- A head with no rows has changed nothing.
-none : (rows : List ℤ) (m : ℕ) → m ≡ 0 → (m ≤ 4) × (drop (m * rowLength) rows ≡ drop (m * rowLength) rows)
-none rows m e = (omega arith, refl)
+none : (rows : List ℤ) (n : ℕ) → n ≡ 0 → (n ≤ mostEquations) × (drop (n * rowLength) rows ≡ drop (n * rowLength) rows)
+none rows n e = (omega arith, refl)
 
 returns : tie.Need-returns
+unfolding equations sizesOf
 returns c =
     let h = c .before .if1 .taken in (
       head-refuses h (sheet-is _ ∙ then-fault _ (answer-fault h (c .before .before .before .sizes-at .ensures))) (c .no-head .ensures .0),
@@ -53,8 +54,9 @@ module _ (c : tie.After-sizes) where
   abbrev rows : List ℤ
   rows = now (start .args .rows)
 
-  abbrev m : ℕ
-  m = c .before .before .before .sizes-at .result .sizes .m
+  -- the number of equations
+  abbrev n : ℕ
+  n = c .before .before .before .sizes-at .result .sizes .m
 
   sizes-read : readSizes (now (start .args .bytes))
       ≡ got (sizesOf (c .before .before .before .sizes-at .result .sizes)) (drop (c .before .before .before .sizes-at .result .at) (now (start .args .bytes)))
@@ -63,13 +65,13 @@ module _ (c : tie.After-sizes) where
   right : T (sizesRight (sizesOf (c .before .before .before .sizes-at .result .sizes)))
   right = sizes-right _ _ _ sizes-read
 
-  few : m ≤ 4
-  unfolding sizesOf
-  few = size-bounds _ right .few
+  few : n ≤ mostEquations
+  unfolding equations sizesOf
+  few = equations-few _ (size-bounds _ right)
 
   -- The part of the store that is lent.
-  lent : take (m * rowLength) rows ≡ zeros (m * rowLength)
-  lent = ap (take (m * rowLength)) (start .pre) ∙ take-zeros (m * rowLength) largestRows (omega (arith, few))
+  lent : take (n * rowLength) rows ≡ zeros (n * rowLength)
+  lent = ap (take (n * rowLength)) (start .pre) ∙ take-zeros (n * rowLength) largestRows (omega (arith, few))
 
 mul-used : tie.Need-mul-used
 mul-used c = omega (arith, few (c .before))
@@ -83,7 +85,7 @@ slice-aggregate-equation-section c = sym (ap length (lent (c .before .before)) �
 
 equation-section-requires : tie.Need-equation-section-requires
 equation-section-requires c κs =
-    ((c .before .before .before .before .before .sizes-at .ensures .within, right (c .before .before)), lent (c .before .before))
+    ((c .before .before .before .before .before .sizes-at .ensures .within, right (c .before .before)), (few (c .before .before), lent (c .before .before)))
 
 -- The rows, as they were read into the part that was lent.
 module _ (c : tie.After-equation-section) where
@@ -91,27 +93,27 @@ module _ (c : tie.After-equation-section) where
   d = c .before .before .before
 
   abbrev part : List ℤ
-  part = c .equation-section .last .1 .1 .1 .0
+  part = c .equation-section .last .1 .1 .1 .1 .0
 
   abbrev after : List ℤ
-  after = part ++ drop (m d * rowLength) (rows d)
+  after = part ++ drop (n d * rowLength) (rows d)
 
-  part-long : length part ≡ m d * rowLength
-  part-long = c .equation-section .kept .1 .1 .1 .0 ∙ ap length (lent d) ∙ length-zeros _
+  part-long : length part ≡ n d * rowLength
+  part-long = c .equation-section .kept .1 .1 .1 .1 .0 ∙ ap length (lent d) ∙ length-zeros _
 
   -- What lies past the rows is as it was.
-  past : (k : ℕ) → k ≡ m d → (k ≤ 4) × (drop (k * rowLength) after ≡ drop (k * rowLength) (rows d))
-  past k e = rw e (few d, drop-at part (drop (m d * rowLength) (rows d)) (m d * rowLength) part-long)
+  past : (k : ℕ) → k ≡ n d → (k ≤ mostEquations) × (drop (k * rowLength) after ≡ drop (k * rowLength) (rows d))
+  past k e = rw e (few d, drop-at part (drop (n d * rowLength) (rows d)) (n d * rowLength) part-long)
 
   rows-read : c .equation-section .result .refusal ≡ 0
-      → equationSection (sizesOf (d .before .before .before .sizes-at .result .sizes))
+      → equationSection (sizesOf (d .before .before .before .sizes-at .result .sizes)) (n d)
       (drop (d .before .before .before .sizes-at .result .at) (now (start d .args .bytes)))
-      ≡ got (rowsOf (m d) after) (drop (c .equation-section .result .at) (now (start d .args .bytes)))
+      ≡ got (rowsOf (n d) after) (drop (c .equation-section .result .at) (now (start d .args .bytes)))
   unfolding rowNeed
   rows-read h =
       answer-got h (c .equation-section .ensures)
       ∙ ap (λ r. got r (drop (c .equation-section .result .at) (now (start d .args .bytes))))
-      (sym (rowsOf-front (m d) part (drop (m d * rowLength) (rows d)) part-long))
+      (sym (rowsOf-front (n d) part (drop (n d * rowLength) (rows d)) part-long))
 
 no-head-requires-2 : tie.Need-no-head-requires-2
 no-head-requires-2 c κs = tt
@@ -120,6 +122,7 @@ same-length : tie.Need-same-length
 same-length c = search needs
 
 returns-2 : tie.Need-returns-2
+unfolding equations sizesOf
 returns-2 c =
     let h = c .before .if2 .taken in
     let e = c .before .before .before .before in (
@@ -137,6 +140,7 @@ same-length-2 : tie.Need-same-length-2
 same-length-2 c = search needs
 
 returns-3 : tie.Need-returns-3
+unfolding equations sizesOf
 returns-3 c =
     let h = c .before .if3 .taken in
     let e = c .before .before .before .before .before .before .before in (
@@ -172,7 +176,7 @@ same-length-3 : tie.Need-same-length-3
 same-length-3 c = search needs
 
 returns-4 : tie.Need-returns-4
-unfolding sizesOf
+unfolding equations sizesOf
 returns-4 c =
     rw (toZ-ofZ (count-fits c)) (
       record {

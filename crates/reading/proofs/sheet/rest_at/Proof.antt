@@ -2,7 +2,8 @@
 -- Assumes nothing.
 use mathlib.Core.Path.{refl, _∙_}
 use native.Mathlib.Omega.{arith}
-use Rattle.rules.specs.Layout.{size-bounds}
+use Rattle.rules.specs.Stores.{equations}
+use Rattle.rules.specs.Layout.{size-bounds, equations-few}
 use Rattle.tokens.specs.Fields.{answer-fault, answer-got}
 use Rattle.reading.specs.WholeSheet.{resultOf, relations-fault, order-fault, order-got, refused-nonzero, sheet-refuses, sheet-gives, end-early}
 use Rattle.rows.specs.Validity.{sizesOf}
@@ -65,12 +66,12 @@ same-length-4 : tie.Need-same-length-4
 same-length-4 c = c .before .before .before .before .before .before .before .before .before .relations-at .kept .1 .1 .1 .1 .0
 
 returns-4 : tie.Need-returns-4
-unfolding resultOf sizesOf
+unfolding equations resultOf sizesOf
 returns-4 c = (
   λ rows head.
       sheet-gives _ _ _ _ _ _ refl refl
       (order-got head _ _ (answer-got (c .before .before .before .before .before .before .if1 .left) (c .before .before .before .before .before .before .before .before .before .relations-at .ensures)) _ _ (answer-got (c .before .before .before .if2 .left) (c .before .before .before .before .before .order-at .ensures)))
-      (c .before .if3 .left) (size-bounds _ (head .right) .few) (head .few),
+      (c .before .if3 .left) (equations-few _ (size-bounds _ (head .right))) (head .few),
   λ _. (refl, refl),
 )
 
