@@ -6,7 +6,7 @@
 --   termBytes, blockBytes, termsBytes   one term, the terms of a block, and those of a row, with a space before each number
 --   equationBytes, relationBytes        the line of an equation, and that of a relation
 --   sizesBytes, orderBytes              the line of the sizes, and that of the order
---   sheetBytes m count        a sheet of m equations and count relations
+--   sheetBytes equations count   a sheet of so many equations and relations
 --   numberRoom, sizesRoom, termRoom, blockRoom, termsRoom, equationRoom, relationRoom   the same parts, with that room
 use Prim.Native.Nat.{ℕ, _+_, _*_}
 use Rattle.rules.specs.Limits.{coefficientCount, columnCount, blockCount}
@@ -47,7 +47,7 @@ orderBytes = countBytes + countBytes * columnCount
 
 -- the sizes, the number of equations and the equations, the number of relations and the relations, and the order
 abbrev pub sheetBytes : ℕ → ℕ → ℕ
-sheetBytes m count = sizesBytes + countBytes + countBytes + orderBytes + m * equationBytes + count * relationBytes
+sheetBytes equations count = sizesBytes + countBytes + countBytes + orderBytes + equations * equationBytes + count * relationBytes
 
 -- a space, a minus and twenty digits
 abbrev pub numberRoom : ℕ

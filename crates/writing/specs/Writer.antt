@@ -41,7 +41,7 @@ use Rattle.algebra.specs.Polynomials.{Polynomial, coeff, isZero, isZero-cons, i
 use Rattle.rules.specs.Lists.{drop-take}
 use Rattle.rules.specs.Limits.{bound, coefficientCount, small}
 use Rattle.rules.specs.Rows.{Block, every}
-use Rattle.rules.specs.Stores.{Sizes, parts, rowOf, rowsOf, relationOf, relationsOf}
+use Rattle.rules.specs.Stores.{Sizes, equations, parts, rowOf, rowsOf, relationOf, relationsOf}
 use Rattle.rules.specs.Layout.{length-rowsOf, length-relationsOf, parts-length, getD-parts}
 use Rattle.rules.specs.Sheets.{Sheet, Term, trim, blockTerms, termsFrom, termNumbers}
 use Rattle.rules.specs.Sheets.{equationNumbers, relationLine, orderLine, sheetLines, writeSheet}
@@ -603,18 +603,18 @@ lines-join a b c e l m =
 unfoldable pub sheetGiven : Sizes → ℕ → List ℕ → List ℤ → List ℤ → Sheet
 unfolding rowsOf relationsOf
 sheetGiven z count columns rowStore relationStore =
-    record { sizes = z; rows = rowsOf (z .m) rowStore; relations = relationsOf count relationStore; order = columns }
+    record { sizes = z; rows = rowsOf (equations z) rowStore; relations = relationsOf count relationStore; order = columns }
 
 pub sheet-bytes : (z : Sizes) (count : ℕ) (columns : List ℕ) (rowStore relationStore : List ℤ)
     → line (pos 3 ∷ pos (z .m) ∷ z .l ∷ z .t ∷ [])
-    ++ (line (pos (z .m) ∷ []) ++ (lines (map (equationNumbers (z .l)) (rowsOf (z .m) rowStore))
+    ++ (line (pos (equations z) ∷ []) ++ (lines (map (equationNumbers (z .l)) (rowsOf (equations z) rowStore))
     ++ (line (pos count ∷ []) ++ (lines (map (relationLine (z .l)) (relationsOf count relationStore)) ++ line (orderLine columns)))))
     ≡ writeSheet (sheetGiven z count columns rowStore relationStore)
 unfolding writeSheet sheetLines sheetGiven
 sheet-bytes z count columns rowStore relationStore =
-    let equations = map (equationNumbers (z .l)) (rowsOf (z .m) rowStore) in
+    let rows = map (equationNumbers (z .l)) (rowsOf (equations z) rowStore) in
     let relations = map (relationLine (z .l)) (relationsOf count relationStore) in
     let sizes = pos 3 ∷ pos (z .m) ∷ z .l ∷ z .t ∷ [] in
-    lines-join sizes (pos (z .m) ∷ []) (pos count ∷ []) (orderLine columns) equations relations
-    ∙ ap₂ (λ m n. lines ((sizes ∷ (pos m ∷ []) ∷ equations) ++ ((pos n ∷ []) ∷ relations) ++ (orderLine columns ∷ [])))
-    (sym (length-rowsOf (z .m) rowStore)) (sym (length-relationsOf count relationStore))
+    lines-join sizes (pos (equations z) ∷ []) (pos count ∷ []) (orderLine columns) rows relations
+    ∙ ap₂ (λ m n. lines ((sizes ∷ (pos m ∷ []) ∷ rows) ++ ((pos n ∷ []) ∷ relations) ++ (orderLine columns ∷ [])))
+    (sym (length-rowsOf (equations z) rowStore)) (sym (length-relationsOf count relationStore))

@@ -24,11 +24,11 @@ use lib.ListN.{length, take, drop, getD, length-take, length-drop}
 use lib.Seq.{sets, sets-eq, drop-cons}
 use Rattle.algebra.specs.Order.{≤ℤ-trans, natAbs-≤-iff}
 use Rattle.algebra.specs.Polynomials.{T-&&}
-use Rattle.rules.specs.Limits.{rowLength, relationLength, small}
+use Rattle.rules.specs.Limits.{columnCount, mostEquations, rowLength, relationLength, small}
 use Rattle.rules.specs.Rows.{every, smallRow}
-use Rattle.rules.specs.Stores.{Sizes, span, parts, rowOf, rowsOf, relationOf, relationsOf, relationNeed, rowNeed}
+use Rattle.rules.specs.Stores.{Sizes, equations, span, parts, rowOf, rowsOf, relationOf, relationsOf, relationNeed, rowNeed}
 use Rattle.rules.specs.Stores.{sizesRight, countRight, unusedZero, rowRight, relationRight, checkStores}
-use Rattle.rules.specs.Layout.{StoresRight, NumbersRight, SizeBounds, checkStores-zero, numbersRight-iff, size-bounds}
+use Rattle.rules.specs.Layout.{StoresRight, NumbersRight, SizeBounds, checkStores-zero, numbersRight-iff, size-bounds, equations-few}
 use Rattle.rules.specs.Layout.{countRight-iff, lengthsRight-iff, coefficientsOf-rowOf-all}
 use Rattle.rows.specs.Written.{every-drop}
 use Rattle.rules.specs.Calls.{overwrite}
@@ -51,13 +51,14 @@ chosen-zero false n = (λ e. absurd (suc-ne-zero 1 e), λ h. absurd (h .0))
 
 -- What the checks tell the writer.
 pub record Checked (z : Sizes) (count : ℕ) (rowStore relationStore : List ℤ) : Type 0 where
-  pub columns : z .m ≤ 4
-  pub rows : z .m * rowLength ≤ length rowStore
+  pub columns : z .m ≤ columnCount
+  pub few-rows : equations z ≤ mostEquations
+  pub rows : equations z * rowLength ≤ length rowStore
   pub blocks : natAbs (z .l) ≤ 64
   pub few : count ≤ 16
   pub relations : count * relationLength ≤ length relationStore
   pub low : natAbs (z .t) ≤ 64
-  pub row-numbers : SmallParts rowLength (z .m) rowStore
+  pub row-numbers : SmallParts rowLength (equations z) rowStore
   pub relation-numbers : SmallParts relationLength count relationStore
 
 -- What all parts of a store pass, part i passes.
@@ -115,6 +116,7 @@ module _ (z : Sizes) (count : ℕ) (order : List ℕ) (rowStore relationStore : 
   checked e =
       record {
         columns = sizes .few;
+        few-rows = equations-few z sizes;
         rows = long .0;
         blocks = natAbs-≤-iff (z .l) .1 (≤ℤ-trans (sizes .low) (sizes .ordered), sizes .high);
         few = countRight-iff count .0 (right .few);
@@ -123,7 +125,7 @@ module _ (z : Sizes) (count : ℕ) (order : List ℕ) (rowStore relationStore : 
         row-numbers = λ i h.
             row-small z (take rowLength (drop (i * rowLength) rowStore))
             (simp (length-take, length-drop) (omega (arith, long .0)))
-            (held-every (rowRight z) rowOf rowLength (z .m) rowStore (numbers .rows-right) i h);
+            (held-every (rowRight z) rowOf rowLength (equations z) rowStore (numbers .rows-right) i h);
         relation-numbers = λ i h.
             relation-small z (take relationLength (drop (i * relationLength) relationStore))
             (simp (length-take, length-drop) (omega (arith, places)))
@@ -139,8 +141,8 @@ module _ (z : Sizes) (count : ℕ) (order : List ℕ) (rowStore relationStore : 
       sizes : SizeBounds z
       sizes = size-bounds z (right .sizes)
 
-      long : (rowNeed (z .m) ≤ length rowStore) × (relationNeed ≤ length relationStore)
-      long = lengthsRight-iff (z .m) rowStore relationStore .0 (right .lengths)
+      long : (rowNeed (equations z) ≤ length rowStore) × (relationNeed ≤ length relationStore)
+      long = lengthsRight-iff (equations z) rowStore relationStore .0 (right .lengths)
 
       places : count * relationLength ≤ length relationStore
       places = omega (arith, long .1, countRight-iff count .0 (right .few))

@@ -13,10 +13,10 @@ ghost use lib.IntN.{pos, natAbs};
 ghost use lib.Dec.{T};
 ghost use lib.ListN.{length};
 ghost use lib.Seq.{sets};
-ghost use Rattle.rules.specs.Limits.{columnCount, rowLength, relationLength, mostRelations, small};
+ghost use Rattle.rules.specs.Limits.{mostEquations, rowLength, relationLength, mostRelations, small};
 ghost use Rattle.rules.specs.Rows.{every};
 ghost use Rattle.rules.specs.Sheets.{trim, blockTerms, termsFrom, equationNumbers, relationLine, orderLine, writeSheet};
-ghost use Rattle.rules.specs.Stores.{parts, rowOf, rowsOf, relationOf, relationsOf};
+ghost use Rattle.rules.specs.Stores.{equations, parts, rowOf, rowsOf, relationOf, relationsOf};
 ghost use Rattle.writing.specs.Bounds.{numberBytes, countBytes, termBytes, blockBytes, termsBytes, equationBytes, relationBytes};
 ghost use Rattle.writing.specs.Bounds.{sizesBytes, orderBytes, sheetBytes, numberRoom, termRoom, blockRoom, termsRoom};
 ghost use Rattle.writing.specs.Bounds.{equationRoom, relationRoom, sizesRoom};
@@ -264,16 +264,16 @@ fn put_relation(bytes: &mut [u8], at: usize, numbers: &[i64], l: i64) -> usize
     put_byte(bytes, written, 10)
 }
 
-fn put_equations(bytes: &mut [u8], at: usize, rows: &[i64], m: usize, l: i64) -> usize
-    requires { ⌜ (m ≤ 4) × (m * rowLength ≤ length (now rows)) × (natAbs l ≤ 64) × (at + columnCount * equationRoom < 2 ^ 64)
-        × SmallParts rowLength m (now rows) ⌝ }
+fn put_equations(bytes: &mut [u8], at: usize, rows: &[i64], equations: usize, l: i64) -> usize
+    requires { ⌜ (equations ≤ mostEquations) × (equations * rowLength ≤ length (now rows)) × (natAbs l ≤ 64)
+        × (at + mostEquations * equationRoom < 2 ^ 64) × SmallParts rowLength equations (now rows) ⌝ }
     ensures { λ r. ⌜
-        Put (now (bytes .entry)) at (lines (map (equationNumbers l) (rowsOf m (now (rows .entry))))) (m * equationBytes)
+        Put (now (bytes .entry)) at (lines (map (equationNumbers l) (rowsOf equations (now (rows .entry))))) (equations * equationBytes)
         (now (bytes .exit)) r ⌝ }
 {
     let mut next = at;
     let mut i = 0;
-    while i < m {
+    while i < equations {
         let from = i * ROW;
         let to = from + ROW;
         next = put_equation(bytes, next, &rows[from..to], l);
@@ -357,7 +357,7 @@ fn put_sheet(
     ensures { λ r. ⌜
         Put (now (bytes .entry)) 0
         (writeSheet (sheetGiven (sizesOf sizes) count (now (columns .entry)) (now (rows .entry)) (now (relations .entry))))
-        (sheetBytes (sizes .m) count)
+        (sheetBytes (equations (sizesOf sizes)) count)
         (now (bytes .exit)) r ⌝ }
 {
     let m = sizes.m;

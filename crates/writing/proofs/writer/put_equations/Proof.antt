@@ -22,13 +22,13 @@ use Rattle.writing.proofs.writer.put_equations.Statement.{statement}
 use Rattle.writing.proofs.writer.put_equations.Tie as tie
 
 abbrev Inv-loop : tie.InvT-loop
-Inv-loop bytes₀ at rows m l next₀ i₀ bytes next i =
-    (i ≤ m)
-    × Going bytes₀ at (lines (map (equationNumbers (toZ w64 l)) (rowsOf m rows))) bytes next
-    (lines (map (equationNumbers (toZ w64 l)) (drop i (rowsOf m rows)))) (i * equationBytes)
+Inv-loop bytes₀ at rows equations l next₀ i₀ bytes next i =
+    (i ≤ equations)
+    × Going bytes₀ at (lines (map (equationNumbers (toZ w64 l)) (rowsOf equations rows))) bytes next
+    (lines (map (equationNumbers (toZ w64 l)) (drop i (rowsOf equations rows)))) (i * equationBytes)
 
 abbrev μ-loop : tie.MeasureT-loop
-μ-loop bytes₀ at rows m l next₀ i₀ bytes next i = m - i
+μ-loop bytes₀ at rows equations l next₀ i₀ bytes next i = equations - i
 
 loop-holds : tie.Need-loop-holds Inv-loop μ-loop
 loop-holds c = (omega arith, going-first refl)
@@ -81,7 +81,7 @@ loop-again c =
     let part = ap (λ n. line (equationNumbers l (rowOf (take n (drop (i * rowLength) store))))) width in (
       omega arith,
       going-next (turn .before .loop .inv .1)
-          (lines-next (equationNumbers l) rowOf rowLength (args .m) store i (turn .loop-test .taken))
+          (lines-next (equationNumbers l) rowOf rowLength (args .equations) store i (turn .loop-test .taken))
           (put-same (c .before .before .put-equation .ensures) part) (omega arith),
     )
 
@@ -94,9 +94,9 @@ returns c =
     let args = c .before .before .before .args in
     let store = now (args .rows) in
     let written = equationNumbers (toZ w64 (ofZ w64 (args .l))) in
-    let none = lines-end written rowOf rowLength (args .m) store (c .before .loop .i) (c .loop-test .left) in
+    let none = lines-end written rowOf rowLength (args .equations) store (c .before .loop .i) (c .loop-test .left) in
     put-same (going-last (c .before .loop .inv .1) none (omega arith))
-    (ap (λ l. lines (map (equationNumbers l) (rowsOf (args .m) store))) (toZ-ofZ (c .before .before .before .fits .l)))
+    (ap (λ l. lines (map (equationNumbers l) (rowsOf (args .equations) store))) (toZ-ofZ (c .before .before .before .fits .l)))
 
 pub put-equations-spec : {M : Type 1} → statement M
 put-equations-spec =

@@ -12,7 +12,7 @@ use mir.Val.{toZ, ofZ}
 use mir.Facts.{toZ-ofZ}
 use Rattle.rules.specs.Numbers.{line, lines}
 use Rattle.rules.specs.Sheets.{equationNumbers, relationLine, orderLine}
-use Rattle.rules.specs.Stores.{rowsOf, relationsOf}
+use Rattle.rules.specs.Stores.{equations, rowsOf, relationsOf}
 use Rattle.rows.specs.Validity.{sizesOf}
 use Rattle.writing.specs.Writer.{put-same, put-then, put-wide, small-block, sheet-bytes}
 use Rattle.writing.proofs.writer.put_sheet.Statement.{statement}
@@ -50,20 +50,20 @@ put-count-requires : tie.Need-put-count-requires
 put-count-requires c κs = search needs
 
 put-equations-requires : tie.Need-put-equations-requires
-unfolding sizesOf
+unfolding equations sizesOf
 put-equations-requires c κs =
     let told = c .before .before .before .before .before .before .before .before .before .before in
     let ready = told .before .before .before .pre .0 in
-    (ready .columns, ready .rows, small told, search needs, ready .row-numbers)
+    (ready .few-rows, ready .rows, small told, search needs, ready .row-numbers)
 
 put-count-requires-2 : tie.Need-put-count-requires-2
-unfolding sizesOf
+unfolding equations sizesOf
 put-count-requires-2 c κs =
     let told = c .before .before .before .before .before .before .before .before .before .before .before .before .before .before in
-    omega (arith, told .before .before .before .pre .0 .columns)
+    omega (arith, told .before .before .before .pre .0 .few-rows)
 
 put-relations-requires : tie.Need-put-relations-requires
-unfolding sizesOf
+unfolding equations sizesOf
 put-relations-requires c κs =
     let after-rows = c .before .before .before .before .before .before .before .before in
     let told = after-rows .before .before .before .before .before .before .before .before .before .before in
@@ -71,7 +71,7 @@ put-relations-requires c κs =
     (ready .few, ready .relations, small told, search needs, ready .relation-numbers)
 
 put-order-requires : tie.Need-put-order-requires
-unfolding sizesOf
+unfolding equations sizesOf
 put-order-requires c κs =
     let after-relations = c .before .before .before in
     let after-count = after-relations .before .before .before .before in
@@ -84,13 +84,13 @@ put-order-requires c κs =
     (put-then (after-m .put-count .ensures)
     (put-then (after-rows .put-equations .ensures)
     (put-then (after-count .put-count2 .ensures) (after-relations .put-relations .ensures)))) in
-    (ready .1, omega (arith, written .passed, written .few, ready .0 .columns, ready .0 .few))
+    (ready .1, omega (arith, written .passed, written .few, ready .0 .few-rows, ready .0 .few))
 
 same-length : tie.Need-same-length
 same-length c = search needs
 
 returns : tie.Need-returns
-unfolding sizesOf
+unfolding equations sizesOf
 returns c =
     let after-relations = c .before .before .before .before .before .before in
     let after-count = after-relations .before .before .before .before in

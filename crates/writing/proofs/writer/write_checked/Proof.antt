@@ -14,7 +14,7 @@ use lib.Seq.{sets, length-take-le}
 use Rattle.rules.specs.Rows.{every}
 use Rattle.rules.specs.Sheets.{writeSheet}
 use Rattle.rules.specs.SheetCalls.{WriteCall, sheetOf, unwritten, writeCall}
-use Rattle.rules.specs.Stores.{Sizes}
+use Rattle.rules.specs.Stores.{Sizes, equations}
 use Rattle.rows.specs.Validity.{sizesOf}
 use Rattle.writing.specs.Writer.{Put, sheetGiven, sets-out}
 use Rattle.writing.specs.WriterChecks.{Checked, checked, sheet-given, given-few}
@@ -105,19 +105,19 @@ slice-aggregate-all : tie.Need-slice-aggregate-all
 slice-aggregate-all c = search needs
 
 mul-longest : tie.Need-mul-longest
-unfolding sizesOf
-mul-longest c = omega (arith, facts (c .before) .columns)
+unfolding equations sizesOf
+mul-longest c = omega (arith, facts (c .before) .few-rows)
 
 add-longest : tie.Need-add-longest
-unfolding sizesOf
-add-longest c = omega (arith, facts (c .before) .columns)
+unfolding equations sizesOf
+add-longest c = omega (arith, facts (c .before) .few-rows)
 
 mul-longest-2 : tie.Need-mul-longest-2
 mul-longest-2 c = omega (arith, facts (c .before) .few)
 
 add-longest-2 : tie.Need-add-longest-2
-unfolding sizesOf
-add-longest-2 c = omega (arith, facts (c .before) .columns, facts (c .before) .few)
+unfolding equations sizesOf
+add-longest-2 c = omega (arith, facts (c .before) .few-rows, facts (c .before) .few)
 
 slice-aggregate-put-sheet : tie.Need-slice-aggregate-put-sheet
 slice-aggregate-put-sheet c = sym (size (c .before .before .before .before))
@@ -131,7 +131,7 @@ same-length : tie.Need-same-length
 same-length c = search needs
 
 returns : tie.Need-returns
-unfolding sizesOf
+unfolding equations sizesOf
 returns c =
     let put = c .before .before .put-sheet .ensures in
     let o = c .before .before .before .before .before .before .before in
