@@ -19,7 +19,7 @@ use lib.IntN.{ℤ}
 use Rattle.algebra.specs.Polynomials.{T-&&}
 use Rattle.rules.specs.Limits.{columnCount}
 use Rattle.rules.specs.Rows.{every}
-use Rattle.rules.specs.Stores.{Sizes, rowsOf, relationsOf, rowStoreOf}
+use Rattle.rules.specs.Stores.{Sizes, equations, rowsOf, relationsOf, rowStoreOf}
 use Rattle.rules.specs.Stores.{relationStoreOf}
 use Rattle.rules.specs.Layout.{SizeBounds, checkStores-zero, size-bounds, stores-valid, valid-stores, rowsOf-rowStoreOf}
 use Rattle.rules.specs.Layout.{relationsOf-relationStoreOf}
@@ -122,8 +122,8 @@ module _ (bytes : List ℕ) (x : Sheet) (rest : List ℕ) (rowStore relationStor
   unfolding sheetOf overwrite
   read-call-given = λ i. record { sizes = x .sizes; rows = rows i; relations = relations i; order = order i }
     where
-      rows : rowsOf (x .sizes .m) (overwrite (rowStoreOf (x .rows)) rowStore) ≡ x .rows
-      rows = rowsOf-rowStoreOf (x .sizes .m) (x .rows) _ (right .valid .row-count) (right .valid .row-shapes)
+      rows : rowsOf (equations (x .sizes)) (overwrite (rowStoreOf (x .rows)) rowStore) ≡ x .rows
+      rows = rowsOf-rowStoreOf (equations (x .sizes)) (x .rows) _ (right .valid .row-count) (right .valid .row-shapes)
 
       relations : relationsOf (length (x .relations)) (overwrite (relationStoreOf (x .relations)) relationStore) ≡ x .relations
       relations = relationsOf-relationStoreOf (x .relations) _ (right .valid .relation-shapes)

@@ -19,8 +19,8 @@ use lib.Signed.{leZ-yes, _≤ℤ_, ≤ℤ-refl}
 use Rattle.algebra.specs.Order.{≤ℤ-trans, pos-natAbs-nonneg, pos-nonneg, pos-≤ℤ}
 use Rattle.rules.specs.Limits.{mostRelations}
 use Rattle.rules.specs.Rows.{Row, Relation, All}
-use Rattle.rules.specs.Stores.{Sizes, sizesRight, rowRight, relationRight, StoreRow, Valid}
-use Rattle.rules.specs.Layout.{SizeBounds, size-bounds, countRight-iff}
+use Rattle.rules.specs.Stores.{Sizes, equations, sizesRight, rowRight, relationRight, StoreRow, Valid}
+use Rattle.rules.specs.Layout.{SizeBounds, size-bounds, equations-few, countRight-iff}
 use Rattle.rules.specs.Numbers.{newline, decimal, line, lines, Read, got, fault, thenRead, field, between}
 use Rattle.rules.specs.Sheets.{Sheet, always, readSizes, readEquations, readRelations, readOrder, readEnd, readSheet, equationNumbers}
 use Rattle.rules.specs.Sheets.{relationLine, orderLine, writeSheet}
@@ -41,8 +41,8 @@ pub record SheetRight (sheet : Sheet) : Type 0 where
 readSections : List ℕ → Read Sheet
 readSections bytes =
     thenRead (readSizes bytes) λ z bytes₁.
-    thenRead (field (between (pos (z .m)) (pos (z .m))) (always newline) bytes₁) λ _ bytes₂.
-    thenRead (readEquations z (z .m) bytes₂) λ rows bytes₃.
+    thenRead (field (between (pos (equations z)) (pos (equations z))) (always newline) bytes₁) λ _ bytes₂.
+    thenRead (readEquations z (equations z) bytes₂) λ rows bytes₃.
     thenRead (field (between (pos 0) (pos mostRelations)) (always newline) bytes₃) λ count bytes₄.
     thenRead (readRelations z (natAbs count) bytes₄) λ relations bytes₅.
     thenRead (readOrder (z .m) bytes₅) λ order bytes₆.
@@ -103,8 +103,8 @@ line-ended : (a : ℤ) → line (a ∷ []) ≡ ended a
 unfolding line always
 line-ended a = refl
 
-few : (z : Sizes) → SizeBounds z → pos (z .m) ≤ℤ pos most
-few z b = ≤ℤ-trans (pos-≤ℤ .1 (b .few)) (leZ-yes tt)
+few : (z : Sizes) → SizeBounds z → pos (equations z) ≤ℤ pos most
+few z b = ≤ℤ-trans (pos-≤ℤ .1 (equations-few z b)) (leZ-yes tt)
 
 sections-exact : Exact readSections SheetRight writeSheet
 unfolding readSections
@@ -112,11 +112,11 @@ sections-exact =
     same-exact readSections SheetRight writeSheet
     (then-exact (λ x. x .sizes) sizes-exact
     (λ z x _ e. ap (λ y. y .sizes) (sym (e .1 .1 .1 .1 .1))) λ z hz.
-    then-exact (λ x. pos (x .sizes .m))
-    (between-exact (pos (z .m)) (pos (z .m)) (always newline) (≤ℤ-trans (leZ-yes tt) (pos-nonneg (z .m))) (few z (size-bounds z hz))
+    then-exact (λ x. pos (equations (x .sizes)))
+    (between-exact (pos (equations z)) (pos (equations z)) (always newline) (≤ℤ-trans (leZ-yes tt) (pos-nonneg (equations z))) (few z (size-bounds z hz))
     always-newline)
-    (λ k x hk e. just (z .m) k hk ∙ ap (λ y. pos (y .sizes .m)) (sym (e .1 .1 .1 .1))) λ k hk.
-    then-exact (λ x. x .rows) (equations-exact z (size-bounds z hz) (z .m))
+    (λ k x hk e. just (equations z) k hk ∙ ap (λ y. pos (equations (y .sizes))) (sym (e .1 .1 .1 .1))) λ k hk.
+    then-exact (λ x. x .rows) (equations-exact z (size-bounds z hz) (equations z))
     (λ rows x _ e. ap (λ y. y .rows) (sym (e .1 .1 .1))) λ rows hr.
     then-exact (λ x. pos (length (x .relations)))
     (between-exact (pos 0) (pos mostRelations) (always newline) (leZ-yes tt) (leZ-yes tt) always-newline)
@@ -131,8 +131,8 @@ sections-exact =
     Whole : Sheet → Type 0
     Whole x =
         T (sizesRight (x .sizes))
-        × ((between (pos (x .sizes .m)) (pos (x .sizes .m)) (pos (x .sizes .m)) ≡ 0)
-        × (((length (x .rows) ≡ x .sizes .m) × All (EquationRight (x .sizes)) (x .rows))
+        × ((between (pos (equations (x .sizes))) (pos (equations (x .sizes))) (pos (equations (x .sizes))) ≡ 0)
+        × (((length (x .rows) ≡ equations (x .sizes)) × All (EquationRight (x .sizes)) (x .rows))
         × ((between (pos 0) (pos mostRelations) (pos (length (x .relations))) ≡ 0)
         × (((length (x .relations) ≡ length (x .relations)) × All (RelationGood (x .sizes)) (x .relations))
         × (OrderRight (x .sizes .m) (x .order) × (x ≡ x))))))
@@ -143,7 +143,7 @@ sections-exact =
         let z = x .sizes in (
           v .sizes,
           (
-            between-iff (pos (z .m)) (pos (z .m)) (pos (z .m)) .1 (≤ℤ-refl (pos (z .m)), ≤ℤ-refl (pos (z .m))),
+            between-iff (pos (equations z)) (pos (equations z)) (pos (equations z)) .1 (≤ℤ-refl (pos (equations z)), ≤ℤ-refl (pos (equations z))),
             (
               (
                 v .row-count,
@@ -188,7 +188,7 @@ sections-exact =
 
     bytes : (x : Sheet) → Whole x → writeSheet x
         ≡ line (pos 3 ∷ pos (x .sizes .m) ∷ x .sizes .l ∷ x .sizes .t ∷ [])
-        ++ (ended (pos (x .sizes .m))
+        ++ (ended (pos (equations (x .sizes)))
         ++ (flatten (map (λ r. line (equationNumbers (x .sizes .l) r)) (x .rows))
         ++ (ended (pos (length (x .relations)))
         ++ (flatten (map (λ e. line (relationLine (x .sizes .l) e)) (x .relations)) ++ (line (orderLine (x .order)) ++ [])))))
@@ -198,7 +198,7 @@ sections-exact =
         ++ (b
         ++ (flatten (map (λ r. line (equationNumbers (x .sizes .l) r)) (x .rows))
         ++ (d ++ (flatten (map (λ e. line (relationLine (x .sizes .l) e)) (x .relations)) ++ (line (orderLine (x .order)) ++ []))))))
-        (ap (λ n. line (pos n ∷ [])) (h .1 .1 .0 .0) ∙ line-ended (pos (x .sizes .m))) (line-ended (pos (length (x .relations))))
+        (ap (λ n. line (pos n ∷ [])) (h .1 .1 .0 .0) ∙ line-ended (pos (equations (x .sizes)))) (line-ended (pos (length (x .relations))))
 
 -- ---- the whole sheet
 
@@ -213,8 +213,8 @@ readSheet-sections : (bytes : List ℕ) → readSheet bytes ≡ thenRead (readSe
 unfolding readSheet readSections
 readSheet-sections bytes =
     then-assoc (readSizes bytes) _ readEnd _ λ z bytes₁.
-    then-assoc (field (between (pos (z .m)) (pos (z .m))) (always newline) bytes₁) _ readEnd _ λ _ bytes₂.
-    then-assoc (readEquations z (z .m) bytes₂) _ readEnd _ λ rows bytes₃.
+    then-assoc (field (between (pos (equations z)) (pos (equations z))) (always newline) bytes₁) _ readEnd _ λ _ bytes₂.
+    then-assoc (readEquations z (equations z) bytes₂) _ readEnd _ λ rows bytes₃.
     then-assoc (field (between (pos 0) (pos mostRelations)) (always newline) bytes₃) _ readEnd _ λ count bytes₄.
     then-assoc (readRelations z (natAbs count) bytes₄) _ readEnd _ λ relations bytes₅.
     then-assoc (readOrder (z .m) bytes₅) _ readEnd _ λ order bytes₆. refl
