@@ -1,16 +1,17 @@
 -- The combination g·p + h·q of polynomials and of rows as the code makes it.
 --
 -- Main definitions
+--   Trimmed            the trimmed multipliers and the trimmed parts of two rows at one place
 --   trim p             the coefficients of p up to the highest nonzero one
 --   lowPart p          the first 16 coefficients
 --
 -- Main statements
 --   combined-trim      trimmed polynomials have a combination with the same coefficients
---   trim-fits, trim-part-fits   a trimmed polynomial, and a trimmed part of a row, within the limits
 --   lowPart-at, lowPart-take    coefficient k of the low part; the low part is the front where there are 16 coefficients
 --   high-free, high-found       the test of the coefficients past power 15
---   low-degrees, length-polynomials, trimmed-high   the twenty polynomials of a combination of rows, and which have a degree past 15
---   length-low, trimmed-low, trimmed-zero   the 320 numbers of the low parts: each part, and those that are zero
+--   low-degrees, length-polynomials, trimmed-high   the polynomials of a combination of rows, and which have a degree past 15
+--   length-low, trimmed-low, trimmed-zero   the numbers of the low parts: each part, and those that are zero
+--   trimmed-fit        what is trimmed stays within the limits
 --   cut-low            the low parts are the cut of the combination
 --   combined-held      a combination within the limits is held by its numbers
 --   numbers-below      the numbers of the low parts are in the range of an i64
@@ -92,13 +93,9 @@ combined-trim g p h q =
     (mul-same (trim g) g (trim p) p (coeff-trim g) (coeff-trim p)) (mul-same (trim h) h (trim q) q (coeff-trim h) (coeff-trim q))
 
 -- A trimmed polynomial r stays within the limits.
-pub trim-fits : (p r : Polynomial) → r ≡ trim p → length p ≤ 16 → T (every small p) → (length r ≤ 16) × T (every small r)
+trim-fits : (p r : Polynomial) → r ≡ trim p → length p ≤ 16 → T (every small p) → (length r ≤ 16) × T (every small r)
 unfolding trim
 trim-fits p r e h s = rw e (rw length-take (omega arith), every-take small (degree p + 1) p s)
-
-pub trim-part-fits : (t : List ℤ) (m n : ℕ) (r : Polynomial) → r ≡ trim (take n (drop m t)) → n ≡ 16 → T (every small t)
-    → (length r ≤ 16) × T (every small r)
-trim-part-fits t m n r e w s = trim-fits (take n (drop m t)) r e (rw length-take (omega arith)) (every-part small m n t s)
 
 -- ---- the coefficients up to power 15 and those past it
 
@@ -306,31 +303,6 @@ module _ (g h : Polynomial) (t u : List ℤ) where
   pub length-polynomials : length (polynomialsOf combination) ≡ 20
   length-polynomials = ap length polynomials-combination ∙ length-combinations
 
-  -- The polynomial at place e, made of trimmed parts; n is 16 as the code computes it.
-  module _ (e : ℕ) (below : e < 20) (n : ℕ) (width : n ≡ 16) (a p b q : Polynomial) (at-g : a ≡ trim g) (at-h : b ≡ trim h)
-      (at-t : p ≡ trim (take n (drop (e * 16) t))) (at-u : q ≡ trim (take n (drop (e * 16) u))) where
-    trimmed-same : Same (add (mul a p) (mul b q)) (entryAt e)
-    trimmed-same k =
-        ap₂ (λ x y. coeff (add x y) k) (ap₂ mul at-g at-t) (ap₂ mul at-h at-u)
-        ∙ combined-trim g (take n (drop (e * 16) t)) h (take n (drop (e * 16) u)) k
-        ∙ ap (λ m. coeff (add (mul g (take m (drop (e * 16) t))) (mul h (take m (drop (e * 16) u)))) k) width
-
-    pub trimmed-high : isZero (drop 16 (add (mul a p) (mul b q))) ≡ isZero (drop 16 (getD (polynomialsOf combination) e []))
-    trimmed-high =
-        high-same (add (mul a p) (mul b q)) (entryAt e) trimmed-same
-        ∙ ap (λ r. isZero (drop 16 r)) (sym (combination-at e below))
-
-    pub trimmed-low : lowPart (add (mul a p) (mul b q)) ≡ take 16 (drop (e * 16) (coefficientsOf (mapRow lowPart combination)))
-    trimmed-low = lowPart-same (add (mul a p) (mul b q)) (entryAt e) trimmed-same ∙ sym (low-part e below)
-
-    -- Where both parts are zero, so is the polynomial.
-    pub trimmed-zero : (isZero p && isZero q) ≡ true → T (isZero (take 16 (drop (e * 16) (coefficientsOf (mapRow lowPart combination)))))
-    trimmed-zero z =
-        let both = T-&& (isZero p) (isZero q) .0 (subst T (sym z) tt) in
-        subst (λ l. T (isZero l)) trimmed-low
-        (lowPart-zero (add (mul a p) (mul b q))
-        (isZero-add (mul a p) (mul b q) (isZero-mul-right a p (both .0)) (isZero-mul-right b q (both .1))))
-
   -- ---- the whole row
 
   module _ (some : 0 < length g) (long : length t ≡ rowLength) where
@@ -374,3 +346,49 @@ module _ (g h : Polynomial) (t u : List ℤ) where
   numbers-below s =
       subst (Below (2 ^ 63)) (sym numbers-low)
       (low-below g h (s .0) (s .1) (s .2) (s .3) (parts 16 20 t) (parts 16 20 u) (small-parts 20 t (s .4)) (small-parts 20 u (s .5)))
+
+-- ---- the polynomial at place e, made of trimmed parts
+
+-- Multipliers g and h, and the parts of rows t and u at place e, all trimmed; n is the width of a part as the code computes it.
+pub record Trimmed (g h : Polynomial) (t u : List ℤ) (e n : ℕ) (a p b q : Polynomial) : Type 0 where
+  pub below : e < 20
+  pub width : n ≡ 16
+  pub at-g : a ≡ trim g
+  pub at-h : b ≡ trim h
+  pub at-t : p ≡ trim (take n (drop (e * 16) t))
+  pub at-u : q ≡ trim (take n (drop (e * 16) u))
+
+module _ {g h : Polynomial} {t u : List ℤ} {e n : ℕ} {a p b q : Polynomial} (made : Trimmed g h t u e n a p b q) where
+  trimmed-same : Same (add (mul a p) (mul b q)) (entryAt g h t u e)
+  trimmed-same k =
+      ap₂ (λ x y. coeff (add x y) k) (ap₂ mul (made .at-g) (made .at-t)) (ap₂ mul (made .at-h) (made .at-u))
+      ∙ combined-trim g (take n (drop (e * 16) t)) h (take n (drop (e * 16) u)) k
+      ∙ ap (λ m. coeff (add (mul g (take m (drop (e * 16) t))) (mul h (take m (drop (e * 16) u)))) k) (made .width)
+
+  pub trimmed-high : isZero (drop 16 (add (mul a p) (mul b q))) ≡ isZero (drop 16 (getD (polynomialsOf (combination g h t u)) e []))
+  trimmed-high =
+      high-same (add (mul a p) (mul b q)) (entryAt g h t u e) trimmed-same
+      ∙ ap (λ r. isZero (drop 16 r)) (sym (combination-at g h t u e (made .below)))
+
+  pub trimmed-low : lowPart (add (mul a p) (mul b q)) ≡ take 16 (drop (e * 16) (coefficientsOf (mapRow lowPart (combination g h t u))))
+  trimmed-low = lowPart-same (add (mul a p) (mul b q)) (entryAt g h t u e) trimmed-same ∙ sym (low-part g h t u e (made .below))
+
+  -- Where both parts are zero, so is the polynomial.
+  pub trimmed-zero : (isZero p && isZero q) ≡ true
+      → T (isZero (take 16 (drop (e * 16) (coefficientsOf (mapRow lowPart (combination g h t u))))))
+  trimmed-zero z =
+      let both = T-&& (isZero p) (isZero q) .0 (subst T (sym z) tt) in
+      subst (λ l. T (isZero l)) trimmed-low
+      (lowPart-zero (add (mul a p) (mul b q))
+      (isZero-add (mul a p) (mul b q) (isZero-mul-right a p (both .0)) (isZero-mul-right b q (both .1))))
+
+  pub trimmed-fit : (length g ≡ 16) × T (every small g) × (length h ≡ 16) × T (every small h)
+      → (length t ≡ rowLength) × T (every small t) × (length u ≡ rowLength) × T (every small u)
+      → ((length a ≤ 16) × T (every small a) × (length p ≤ 16) × T (every small p))
+      × ((length b ≤ 16) × T (every small b) × (length q ≤ 16) × T (every small q))
+  trimmed-fit m r =
+      let fit-a = trim-fits g a (made .at-g) (omega arith) (m .1) in
+      let fit-p = trim-fits _ p (made .at-t) (rw length-take (omega arith)) (every-part small (e * 16) n t (r .1)) in
+      let fit-b = trim-fits h b (made .at-h) (omega arith) (m .3) in
+      let fit-q = trim-fits _ q (made .at-u) (rw length-take (omega arith)) (every-part small (e * 16) n u (r .3)) in
+      ((fit-a .0, fit-a .1, fit-p .0, fit-p .1), (fit-b .0, fit-b .1, fit-q .0, fit-q .1))

@@ -3,6 +3,7 @@
 --
 -- Main definitions
 --   Below n p              every coefficient of p has a size below n
+--   Overwritten n t q i    the first i of the n places of q hold what t has there
 --
 -- Main statements
 --   read-back, zero-bits, nonzero-bits   an i64 and its bits
@@ -11,8 +12,8 @@
 --   or-zero, join-next     joined bits are 0 exactly if both are; one coefficient more is joined
 --   within-down, degree-bottom   one zero coefficient less from the top; none left past power 0: the degree is 0
 --   content-next, one-gcd  a coefficient joins the greatest common divisor of those passed; 1 stays 1
---   prefix-next, prefix-all, suffix-next, suffix-first   a list that is overwritten from the front
---   quotient-at            the quotient by a positive i64 is a coefficient of `divideBy`
+--   overwritten-next, overwritten-all, suffix-next, suffix-first   a list that is overwritten from the front
+--   quotient-stored        the quotient by a positive i64, stored, is a coefficient of `divideBy`
 --   small-at, below-of-small, below-divideBy, below-negate   sizes of coefficients, of quotients and of negatives
 --   content-bounds         the content of two polynomials within ±C that are not both zero is positive and at most C
 --   signs-turned, signs-kept   the two cases of rule 2's signs
@@ -27,7 +28,7 @@ use native.Mathlib.Omega.{arith}
 use lib.Bits.{bitOr, and-le-r, or-add-and}
 use lib.Dec.{T, eqb, ltb→lt, leb→le, eqb·suc-zero}
 use lib.IntN.{ℤ, pos, negsuc, natAbs}
-use lib.ListN.{length, getD, take, drop, set}
+use lib.ListN.{length, getD, take, drop, set, length-set}
 use lib.Seq.{take-suc, take-all, take-suc-set, drop-cons, drop-drop, drop-set-lt, getD-drop}
 use lib.Signed.{mag, ltZ, quotZ}
 use mir.Syntax.{w64}
@@ -125,16 +126,25 @@ within-down p n h w e k l = ⊎-elim at-top (w k) (eq-or-lt-of-le (omega arith))
 pub degree-bottom : (p : Polynomial) (n : ℕ) → n ≤ 1 → Within p (n - 1) → degree p ≡ 0
 degree-bottom p n h w = omega (arith, degree-le p 0 (λ k l. w k (omega arith)))
 
--- ---- a list q that is overwritten from the front with what t has; l is what it had
+-- ---- a list q of n places that is overwritten from the front with what t has; l is what it had
 
--- One place more.
-pub prefix-next : {A : Type 0} (q t : List A) (i : ℕ) (a z : A) → i < length q → i < length t → take i q ≡ take i t → a ≡ getD t i z
-    → take (i + 1) (set q i a) ≡ take (i + 1) t
-prefix-next q t i a z h g e f =
-    rw add-one (take-suc-set q i a h ∙ ap₂ (λ r b. r ++ (b ∷ [])) e f ∙ sym (take-suc t i z g))
+pub record Overwritten {A : Type 0} (n : ℕ) (t q : List A) (i : ℕ) : Type 0 where
+  pub within : i ≤ n
+  pub long : length q ≡ n
+  pub front : take i q ≡ take i t
 
-pub prefix-all : {A : Type 0} (q t : List A) (i : ℕ) → length q ≤ i → length t ≤ i → take i q ≡ take i t → q ≡ t
-prefix-all q t i h g e = sym (take-all i q h) ∙ e ∙ take-all i t g
+module _ {A : Type 0} {n i : ℕ} {t q : List A} (w : Overwritten n t q i) (long : length t ≡ n) where
+  -- One place more.
+  pub overwritten-next : {a : A} (z : A) → i < n → a ≡ getD t i z → Overwritten n t (set q i a) (i + 1)
+  overwritten-next {a} z h e =
+      record {
+        within = omega arith;
+        long = length-set q i a ∙ w .long;
+        front = rw add-one (take-suc-set q i a (omega arith) ∙ ap₂ (λ r b. r ++ (b ∷ [])) (w .front) e ∙ sym (take-suc t i z (omega arith)));
+      }
+
+  pub overwritten-all : n ≤ i → q ≡ t
+  overwritten-all h = sym (take-all i q (omega arith)) ∙ w .front ∙ take-all i t (omega arith)
 
 -- The places from i on are as they were.
 pub suffix-next : {A : Type 0} (q l : List A) (i : ℕ) (a : A) → drop i q ≡ drop i l → drop (i + 1) (set q i a) ≡ drop (i + 1) l
@@ -149,10 +159,11 @@ pub positive : (d : ℤ) → T (ltZ (pos 0) d) → (pos (natAbs d) ≡ d) × (0 
 positive (pos n) h = (refl, ltb→lt 0 n h)
 positive (negsuc n) h = absurd h
 
--- The quotient by a positive d is a place of the divided polynomial.
-pub quotient-at : (d : ℤ) → T (ltZ (pos 0) d) → (p : Polynomial) (i : ℕ)
-    → quotZ (getD p i (pos 0)) d ≡ getD (divideBy (natAbs d) p) i (pos 0)
-quotient-at d h p i = ap (quotZ (getD p i (pos 0))) (sym (positive d h .0)) ∙ sym (divideBy-getD (natAbs d) p i)
+-- The quotient b of coefficient a by a positive d, stored as an i64, is a place of the divided polynomial.
+pub quotient-stored : (d : ℤ) → T (ltZ (pos 0) d) → (p : Polynomial) (i : ℕ) {a b : ℤ} → mag b < 2 ^ 63 → b ≡ quotZ a d
+    → a ≡ getD p i (pos 0) → toZ w64 (ofZ w64 b) ≡ getD (divideBy (natAbs d) p) i (pos 0)
+quotient-stored d h p i {b = b} fits e at =
+    read-back b fits ∙ e ∙ ap₂ quotZ at (sym (positive d h .0)) ∙ sym (divideBy-getD (natAbs d) p i)
 
 every-at : {A : Type 0} (t : A → Bool) (z : A) → T (t z) → (l : List A) → T (every t l) → (k : ℕ) → T (t (getD l k z))
 unfolding every

@@ -26,7 +26,7 @@ use Rattle.algebra.specs.Sums.{countFrom, sumBelow, getD-countFrom, sumBelow-la
 use Rattle.algebra.specs.Polynomials.{Polynomial, coeff, shift, isZeroℤ, isZeroℤ-iff, T-&&}
 use Rattle.algebra.specs.Coefficients.{coeff-past-length}
 use Rattle.algebra.specs.Binomials.{binomial, binomial-above, binomial-le, coeff-shift, coeff-shift-size}
-use Rattle.rules.specs.Limits.{bound, small}
+use Rattle.rules.specs.Limits.{bound, coefficientCount, small}
 use Rattle.rules.specs.Rows.{every}
 
 pub every-getD : {A : Type 0} (t : A → Bool) (l : List A) (d : A) → T (t d) → T (every t l) → (i : ℕ) → T (t (getD l i d))
@@ -63,17 +63,17 @@ ruledAt table j k = isZeroℤ (entry table j k -ℤ ruled table j k)
 -- Do all entries of the 16 rows of 16 numbers follow the rule?
 unfoldable pub followsRule : List (List ℤ) → Bool
 unfolding every countFrom ruledAt ruled isZeroℤ
-followsRule table = every (λ j. every (ruledAt table j) (countFrom 0 16)) (countFrom 0 16)
+followsRule table = every (λ j. every (ruledAt table j) (countFrom 0 coefficientCount)) (countFrom 0 coefficientCount)
 
 module _ (table : List (List ℤ)) (rule : T (followsRule table)) where
-  by-rule : (j k : ℕ) → j < 16 → k < 16 → entry table j k ≡ ruled table j k
+  by-rule : (j k : ℕ) → j < coefficientCount → k < coefficientCount → entry table j k ≡ ruled table j k
   unfolding followsRule ruledAt
   by-rule j k h l =
-      let row = every-countFrom (λ i. every (ruledAt table i) (countFrom 0 16)) 16 rule j h in
+      let row = every-countFrom (λ i. every (ruledAt table i) (countFrom 0 coefficientCount)) coefficientCount rule j h in
       -ℤ-zero (entry table j k) (ruled table j k)
-      (isZeroℤ-iff (entry table j k -ℤ ruled table j k) .0 (every-countFrom (ruledAt table j) 16 row k l))
+      (isZeroℤ-iff (entry table j k -ℤ ruled table j k) .0 (every-countFrom (ruledAt table j) coefficientCount row k l))
 
-  pub pascal-entry : (j k : ℕ) → j < 16 → k < 16 → getD (getD table j []) k (pos 0) ≡ pos (binomial j k)
+  pub pascal-entry : (j k : ℕ) → j < coefficientCount → k < coefficientCount → getD (getD table j []) k (pos 0) ≡ pos (binomial j k)
   unfolding ruled binomial
   pascal-entry j zero h l = by-rule j 0 h l
   pascal-entry zero (suc k) h l = by-rule 0 (suc k) h l
@@ -103,17 +103,17 @@ expansion-all p k n h =
     ∙ sym (coeff-shift p k)
 
 -- The numbers of the rows up to 15 are at most 2 ^ 15.
-binomial-size : (j k : ℕ) → j < 16 → binomial j k ≤ 2 ^ 15
+binomial-size : (j k : ℕ) → j < coefficientCount → binomial j k ≤ 2 ^ 15
 binomial-size j k h = le-trans (binomial-le j k) (pow-le-pow-right (omega arith) (le-of-suc-le-suc h))
 
-pub term-size : (p : Polynomial) → T (every small p) → (k j : ℕ) → j < 16 → natAbs (pos (binomial j k) *ℤ coeff p j) ≤ 2 ^ 15 * bound
+pub term-size : (p : Polynomial) → T (every small p) → (k j : ℕ) → j < coefficientCount → natAbs (pos (binomial j k) *ℤ coeff p j) ≤ 2 ^ 15 * bound
 term-size p s k j h = rw (natAbs-*ℤ (pos (binomial j k)) (coeff p j)) (mul-le-mul (binomial-size j k h) (small-coeff p s j))
 
-pub expansion-size : (p : Polynomial) → T (every small p) → (k n : ℕ) → n ≤ 16 → natAbs (expansion p k n) ≤ 2 ^ 19 * bound
+pub expansion-size : (p : Polynomial) → T (every small p) → (k n : ℕ) → n ≤ coefficientCount → natAbs (expansion p k n) ≤ 2 ^ 19 * bound
 unfolding expansion
 expansion-size p s k n h =
     omega (arith, natAbs-sumBelow n (2 ^ 15 * bound) (λ j. pos (binomial j k) *ℤ coeff p j) (λ j l. term-size p s k j (omega arith)))
 
-pub shift-size : (p : Polynomial) → T (every small p) → length p ≤ 16 → (k : ℕ) → natAbs (coeff (shift p) k) ≤ 2 ^ 16 * bound
+pub shift-size : (p : Polynomial) → T (every small p) → length p ≤ coefficientCount → (k : ℕ) → natAbs (coeff (shift p) k) ≤ 2 ^ coefficientCount * bound
 shift-size p s h k =
     le-trans (coeff-shift-size p bound (small-coeff p s) k) (mul-le-mul-right bound (pow-le-pow-right (omega arith) h))

@@ -1,4 +1,5 @@
 // Zero test, degree, lowest and highest coefficient, content, division by it, and the multipliers of rule 2.
+use crate::lengths::COEFFICIENTS;
 ghost use mathlib.Core.Path.{_≡_};
 ghost use mathlib.Core.Bool.{not};
 ghost use mathlib.Core.List.{_++_};
@@ -10,7 +11,7 @@ ghost use lib.ListN.{length};
 ghost use Rattle.algebra.specs.Polynomials as Polynomials;
 ghost use Rattle.algebra.specs.Gcd as Gcd;
 ghost use Rattle.polynomials.specs.Content.{Below};
-ghost use Rattle.rules.specs.Limits.{small};
+ghost use Rattle.rules.specs.Limits.{coefficientCount, small};
 ghost use Rattle.rules.specs.Rows.{every};
 ghost use Rattle.rules.specs.Elimination as Elimination;
 
@@ -101,13 +102,13 @@ pub fn content_of_both(a: &[i64], b: &[i64]) -> u64
 }
 
 // Every coefficient divided by d, toward zero: exact where d divides them all.
-pub fn divided(p: &[i64], d: i64) -> [i64; 16]
-    requires { ⌜ (length (now p) ≡ 16) × Below (2 ^ 63) (now p) × T (ltZ (pos 0) d) ⌝ }
+pub fn divided(p: &[i64], d: i64) -> [i64; COEFFICIENTS]
+    requires { ⌜ (length (now p) ≡ coefficientCount) × Below (2 ^ 63) (now p) × T (ltZ (pos 0) d) ⌝ }
     ensures { λ r. ⌜ r ≡ Gcd.divideBy (natAbs d) (now (p .entry)) ⌝ }
 {
-    let mut q = [0; 16];
+    let mut q = [0; COEFFICIENTS];
     let mut i = 0;
-    while i < 16 {
+    while i < COEFFICIENTS {
         q[i] = integers::quotient(p[i], d);
         i += 1;
     }
@@ -126,13 +127,13 @@ pub fn divide_in_place(p: &mut [i64], d: i64)
     }
 }
 
-pub fn negated(p: &[i64]) -> [i64; 16]
-    requires { ⌜ (length (now p) ≡ 16) × Below (2 ^ 63) (now p) ⌝ }
+pub fn negated(p: &[i64]) -> [i64; COEFFICIENTS]
+    requires { ⌜ (length (now p) ≡ coefficientCount) × Below (2 ^ 63) (now p) ⌝ }
     ensures { λ r. ⌜ r ≡ Polynomials.negate (now (p .entry)) ⌝ }
 {
-    let mut q = [0; 16];
+    let mut q = [0; COEFFICIENTS];
     let mut i = 0;
-    while i < 16 {
+    while i < COEFFICIENTS {
         q[i] = integers::negated(p[i]);
         i += 1;
     }
@@ -140,15 +141,15 @@ pub fn negated(p: &[i64]) -> [i64; 16]
 }
 
 pub struct Multipliers {
-    pub g: [i64; 16],
-    pub h: [i64; 16],
+    pub g: [i64; COEFFICIENTS],
+    pub h: [i64; COEFFICIENTS],
 }
 
 // Rule 2: g = a/d and h = -b/d, both with the other sign if g's highest coefficient is negative (SCOPE 2.23 to 2.25).
 // The content d is at most C, since a and b are not both zero.
 pub fn multipliers_of(a: &[i64], b: &[i64]) -> Multipliers
-    requires { ⌜ (length (now a) ≡ 16) × T (every small (now a)) × T (not (Polynomials.isZero (now a ++ now b))) ⌝ }
-    requires { ⌜ (length (now b) ≡ 16) × T (every small (now b)) ⌝ }
+    requires { ⌜ (length (now a) ≡ coefficientCount) × T (every small (now a)) × T (not (Polynomials.isZero (now a ++ now b))) ⌝ }
+    requires { ⌜ (length (now b) ≡ coefficientCount) × T (every small (now b)) ⌝ }
     ensures { λ r. ⌜ r .g ≡ Elimination.multipliers (now (a .entry)) (now (b .entry)) .g ⌝ }
     ensures { λ r. ⌜ r .h ≡ Elimination.multipliers (now (a .entry)) (now (b .entry)) .h ⌝ }
 {

@@ -1,4 +1,5 @@
 // Pascal's numbers and p(n + 1).
+use crate::lengths::COEFFICIENTS;
 ghost use mathlib.Core.Path.{_≡_};
 ghost use Prim.Native.Nat.{_*_, _^_, _≤_, _<_};
 ghost use lib.Dec.{T};
@@ -6,12 +7,12 @@ ghost use lib.IntN.{pos, natAbs};
 ghost use lib.ListN.{length};
 ghost use Rattle.algebra.specs.Binomials as Binomials;
 ghost use Rattle.algebra.specs.Polynomials.{coeff, shift};
-ghost use Rattle.rules.specs.Limits.{bound, small};
+ghost use Rattle.rules.specs.Limits.{bound, coefficientCount, small};
 ghost use Rattle.rules.specs.Rows.{every};
 ghost use Rattle.polynomials.specs.Shift.{followsRule};
 
 // Pascal's triangle to row 15, a constant table (SCOPE 2.62, 8.7): row j, number k.
-const PASCAL: [[i64; 16]; 16] = [
+const PASCAL: [[i64; COEFFICIENTS]; COEFFICIENTS] = [
     [1, 0, 0, 0, 0, 0, 0, 0, 0, 0, 0, 0, 0, 0, 0, 0],
     [1, 1, 0, 0, 0, 0, 0, 0, 0, 0, 0, 0, 0, 0, 0, 0],
     [1, 2, 1, 0, 0, 0, 0, 0, 0, 0, 0, 0, 0, 0, 0, 0],
@@ -116,24 +117,24 @@ const PASCAL: [[i64; 16]; 16] = [
 ];
 
 // The addition rule: each number is the sum of the two above it. The table is made once for a row, and lent.
-pub fn pascal() -> [[i64; 16]; 16]
+pub fn pascal() -> [[i64; COEFFICIENTS]; COEFFICIENTS]
     ensures { λ r. ⌜ T (followsRule r) ⌝ }
 {
     PASCAL
 }
 
-fn binomial(table: &[[i64; 16]; 16], j: usize, k: usize) -> i64
-    requires { ⌜ T (followsRule (now table)) × (j < 16) × (k < 16) ⌝ }
+fn binomial(table: &[[i64; COEFFICIENTS]; COEFFICIENTS], j: usize, k: usize) -> i64
+    requires { ⌜ T (followsRule (now table)) × (j < coefficientCount) × (k < coefficientCount) ⌝ }
     ensures { λ r. ⌜ r ≡ pos (Binomials.binomial j k) ⌝ }
 {
     table[j][k]
 }
 
 // The coefficient of n^k in p(n + 1) (SCOPE 2.62).
-pub fn shifted_coefficient(table: &[[i64; 16]; 16], p: &[i64], k: usize) -> i64
-    requires { ⌜ T (followsRule (now table)) × (length (now p) ≤ 16) × T (every small (now p)) × (k < 16) ⌝ }
+pub fn shifted_coefficient(table: &[[i64; COEFFICIENTS]; COEFFICIENTS], p: &[i64], k: usize) -> i64
+    requires { ⌜ T (followsRule (now table)) × (length (now p) ≤ coefficientCount) × T (every small (now p)) × (k < coefficientCount) ⌝ }
     ensures value { λ r. ⌜ r ≡ coeff (shift (now (p .entry))) k ⌝ }
-    ensures size { λ r. ⌜ natAbs r ≤ 2 ^ 16 * bound ⌝ }
+    ensures size { λ r. ⌜ natAbs r ≤ 2 ^ coefficientCount * bound ⌝ }
 {
     let mut sum: i64 = 0;
     let mut j = k;

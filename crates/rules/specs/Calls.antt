@@ -12,7 +12,7 @@ use lib.Dec.{leb}
 use lib.ListN.{length, take, drop, replicate}
 use lib.IntN.{ℤ, pos, natAbs, _-ℤ_}
 use lib.Signed.{leZ}
-use Rattle.rules.specs.Limits.{coefficientCount, columnCount, rowLength}
+use Rattle.rules.specs.Limits.{coefficientCount, columnCount, blockLength, rowLength}
 use Rattle.rules.specs.Elimination.{Side, State, Outcome, going, done, refused, wholeRun, report, neverNumber}
 use Rattle.rules.specs.Stores.{Sizes, equations, span, rowsOf, relationsOf, rowNeed, relationNeed, rowStoreOf, relationStoreOf, sizesRight, checkStores}
 
@@ -114,7 +114,7 @@ polynomialCheck rowStore z row block column =
 -- Where its sixteen numbers begin (SCOPE 3.2).
 unfoldable pub polynomialPlace : Sizes → ℕ → ℤ → ℕ → ℕ
 polynomialPlace z row block column =
-    pred row * rowLength + natAbs (z .l -ℤ block) * (columnCount * coefficientCount) + pred column * coefficientCount
+    pred row * rowLength + natAbs (z .l -ℤ block) * blockLength + pred column * coefficientCount
 
 unfoldable pub partAt : List ℤ → ℕ → ℕ → List ℤ
 partAt rowStore place zero = take coefficientCount (drop place rowStore)

@@ -33,7 +33,8 @@ use lib.IntN.{ℤ, pos, negℤ, natAbs, _-ℤ_}
 use lib.Signed.{leZ-yes, _≤ℤ_}
 use Rattle.algebra.specs.Order.{≤ℤ-trans, ≤ℤ-difference, negℤ-≤ℤ, +ℤ-≤ℤ-left, natAbs-≤-iff}
 use Rattle.algebra.specs.Polynomials.{T-&&, isZero, isZero-replicate, zero-list}
-use Rattle.rules.specs.Limits.{coefficientCount, columnCount, blockCount, mostEquations, rowLength, relationLength, mostRelations, blockBound}
+use Rattle.rules.specs.Limits.{coefficientCount, columnCount, mostSpan, blockCount, blockLength, mostEquations, rowLength, relationLength}
+use Rattle.rules.specs.Limits.{mostRelations, blockBound}
 use Rattle.rules.specs.Rows.{Block, Row, Relation, noRow, All, every, coefficientsOf}
 use Rattle.rules.specs.Lists.{all-mono, map-keeps, map-back, flatten-flatten, length-flatten, suc-width, drop-take, getD-map}
 use Rattle.rules.specs.Lists.{cond-passed}
@@ -133,9 +134,6 @@ module _ {A B : Type 0} (k : ℕ) (decode : List A → B) (encode : B → List A
       ap flatten (map-back decode encode (parts k n l) (all-mono P (λ l. encode (decode l) ≡ l) back (parts k n l) h)) ∙ flatten-parts k n l
 
 -- ---- rows
-
-abbrev blockLength : ℕ
-blockLength = columnCount * coefficientCount
 
 abbrev blockOf : List ℤ → Block
 blockOf = parts coefficientCount columnCount
@@ -444,7 +442,7 @@ row-at m l i h =
     getD-map rowOf (parts rowLength m l) i [] noRow (rw parts-length h) ∙ ap rowOf (getD-parts rowLength m l i h)
 
 pub polynomial-at-row : (l : List ℤ) (b c : ℕ) → b < blockCount → c < columnCount
-    → getD (getD (rowOf l .blocks) b []) c [] ≡ take coefficientCount (drop (b * (columnCount * coefficientCount) + c * coefficientCount) l)
+    → getD (getD (rowOf l .blocks) b []) c [] ≡ take coefficientCount (drop (b * blockLength + c * coefficientCount) l)
 unfolding rowOf
 polynomial-at-row l b c hb hc =
     ap (λ block. getD block c [])
@@ -454,7 +452,7 @@ polynomial-at-row l b c hb hc =
 
 pub polynomial-at : (m : ℕ) (l : List ℤ) (i b c : ℕ) → i < m → b < blockCount → c < columnCount
     → getD (getD (getD (rowsOf m l) i noRow .blocks) b []) c []
-    ≡ take coefficientCount (drop (i * rowLength + b * (columnCount * coefficientCount) + c * coefficientCount) l)
+    ≡ take coefficientCount (drop (i * rowLength + b * blockLength + c * coefficientCount) l)
 polynomial-at m l i b c hi hb hc =
     ap (λ r. getD (getD (r .blocks) b []) c []) (row-at m l i hi)
     ∙ polynomial-at-row (take rowLength (drop (i * rowLength) l)) b c hb hc
@@ -463,7 +461,7 @@ polynomial-at m l i b c hi hb hc =
 
 pub coefficient-at : (m : ℕ) (l : List ℤ) (i b c k : ℕ) → i < m → b < blockCount → c < columnCount → k < coefficientCount
     → getD (getD (getD (getD (rowsOf m l) i noRow .blocks) b []) c []) k (pos 0)
-    ≡ getD l (i * rowLength + b * (columnCount * coefficientCount) + c * coefficientCount + k) (pos 0)
+    ≡ getD l (i * rowLength + b * blockLength + c * coefficientCount + k) (pos 0)
 coefficient-at m l i b c k hi hb hc hk =
     ap (λ p. getD p k (pos 0)) (polynomial-at m l i b c hi hb hc)
     ∙ getD-take coefficientCount (drop place l) k (pos 0) hk
@@ -481,7 +479,7 @@ pub record SizeBounds (z : Sizes) : Type 0 where
   pub low : negℤ (pos blockBound) ≤ℤ z .t
   pub ordered : z .t ≤ℤ z .l
   pub high : z .l ≤ℤ pos blockBound
-  pub narrow : (z .l -ℤ z .t) ≤ℤ pos 4
+  pub narrow : (z .l -ℤ z .t) ≤ℤ pos mostSpan
 
 pub size-bounds : (z : Sizes) → T (sizesRight z) → SizeBounds z
 unfolding sizesRight

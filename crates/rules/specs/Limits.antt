@@ -3,13 +3,16 @@
 -- Main definitions
 --   bound                      C = 268,435,455, which no coefficient and no n0 passes in size (SCOPE 1.4, 1.22)
 --   coefficientCount           16 coefficients a polynomial, for degrees up to 15 (SCOPE 1.4)
---   columnCount, blockCount    four columns a block, five blocks a row, for the largest m and D (SCOPE 1.1, 1.2)
+--   columnCount                four columns a block, for the largest m (SCOPE 1.1)
+--   mostSpan, blockCount       D = l - t is at most four, so that five blocks a row are enough (SCOPE 1.2)
 --   mostEquations              a system has four equations or fewer (SCOPE 1.1)
---   rowLength, relationLength  the numbers of a row, and of a relation (SCOPE 3.2, 3.4)
+--   polynomialCount            the polynomials of a row
+--   blockLength, rowLength, relationLength
+--                              the numbers of a block, of a row, and of a relation (SCOPE 3.2, 3.4)
 --   mostRelations              the relations of a system are 16 or fewer (SCOPE 1.23)
 --   blockBound                 the largest block in size (SCOPE 1.2)
 --   small a                    is |a| ≤ C? (SCOPE 1.4)
-use Prim.Native.Nat.{ℕ, _*_}
+use Prim.Native.Nat.{ℕ, suc, _*_}
 use mathlib.Core.Bool.{Bool}
 use lib.Dec.{leb}
 use lib.IntN.{ℤ, natAbs}
@@ -23,19 +26,28 @@ coefficientCount = 16
 abbrev pub columnCount : ℕ
 columnCount = 4
 
-abbrev pub blockCount : ℕ
-blockCount = 5
-
 -- As many as the unknowns, of which there are four at most (SCOPE 1.1).
 abbrev pub mostEquations : ℕ
 mostEquations = 4
 
--- A row takes 320 numbers, and a relation its n0 and a row (SCOPE 3.2, 3.4).
+abbrev pub mostSpan : ℕ
+mostSpan = 4
+
+abbrev pub blockCount : ℕ
+blockCount = suc mostSpan
+
+abbrev pub polynomialCount : ℕ
+polynomialCount = blockCount * columnCount
+
+-- A row takes 5 × 4 × 16 = 320 numbers, and a relation its n0 and a row (SCOPE 3.2, 3.4).
+abbrev pub blockLength : ℕ
+blockLength = columnCount * coefficientCount
+
 abbrev pub rowLength : ℕ
-rowLength = 320
+rowLength = blockCount * blockLength
 
 abbrev pub relationLength : ℕ
-relationLength = 321
+relationLength = suc rowLength
 
 abbrev pub mostRelations : ℕ
 mostRelations = 16

@@ -12,7 +12,7 @@ use lib.ListN.{length, getD, set, replicate}
 use lib.IntN.{ℤ, pos, negℤ, natAbs, predℤ, _-ℤ_}
 use lib.Signed.{leZ, ltZ}
 use Rattle.algebra.specs.Polynomials.{Polynomial, isZero, isZeroℤ}
-use Rattle.rules.specs.Limits.{coefficientCount, columnCount, blockCount, mostRelations, blockBound, small}
+use Rattle.rules.specs.Limits.{coefficientCount, columnCount, mostSpan, blockCount, mostRelations, blockBound, small}
 use Rattle.rules.specs.Rows.{Block, Row, Relation}
 use Rattle.rules.specs.Stores.{Sizes, equations, span}
 use Rattle.rules.specs.Calls.{padTo}
@@ -50,7 +50,7 @@ parting last (suc k) = space
 -- t is not below -64 and not above l, and D is at most 4 (SCOPE 1.2, 4.34).
 unfoldable pub judgeLowest : ℤ → ℤ → ℕ
 judgeLowest l t =
-    cond (leZ (negℤ (pos blockBound)) t && leZ t l && leZ (l -ℤ t) (pos 4)) 0 2
+    cond (leZ (negℤ (pos blockBound)) t && leZ t l && leZ (l -ℤ t) (pos mostSpan)) 0 2
 
 -- The line `3 m l t` (SCOPE 4.12).
 unfoldable pub readSizes : List ℕ → Read Sizes

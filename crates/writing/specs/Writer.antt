@@ -24,7 +24,7 @@ use mathlib.Core.Bool.{Bool, true, false, and-true, cond}
 use mathlib.Core.Logic.{_≢_}
 use mathlib.Core.List.{List, [], _∷_, _++_, map, flatten, append-assoc, append-nil}
 use Prim.Native.Nat.{ℕ, zero, suc, _+_, _-_, _*_, _/_, _%_, _^_, _≤_, _<_}
-use native.Mathlib.Nat.{zero-add, add-zero, suc-add, add-suc, pow-suc, div-lt-self, div-lt-iff-lt-mul}
+use native.Mathlib.Nat.{zero-add, add-zero, suc-add, add-suc, add-mul, pow-suc, div-lt-self, div-lt-iff-lt-mul}
 use native.Mathlib.Nat.{lt-trans, le-trans, lt-of-le-of-lt, le-of-suc-le-suc, not-suc-le-zero}
 use native.Mathlib.Numerals.{add-one}
 use native.Mathlib.Omega.{arith}
@@ -564,17 +564,22 @@ pub count-line : (n : ℕ) → digitsOf n ++ (newline ∷ []) ≡ line (pos n �
 unfolding line
 count-line n = ap (λ d. d ++ (newline ∷ [])) (sym (decimal-count n))
 
--- The lines of what the parts of a store hold, one line more.
-pub lines-next : {B : Type 0} (f : B → List ℤ) (g : List ℤ → B) (k n : ℕ) (l : List ℤ) (i : ℕ) → i < n
-    → lines (map f (drop i (map g (parts k n l))))
-    ≡ line (f (g (take k (drop (i * k) l)))) ++ lines (map f (drop (i + 1) (map g (parts k n l))))
-unfolding lines flatten
-lines-next f g k n l i h = ap (λ r. lines (map f r)) (held-next g k n l i h)
+-- The lines of what the n parts of a store hold, k numbers a part: those from i on are still to be stored.
+module _ {B : Type 0} (f : B → List ℤ) (g : List ℤ → B) (k n : ℕ) (l : List ℤ) (i : ℕ) where
+  -- One line more; the part's length is k as the code computes it.
+  pub lines-next : {d all e e′ : List ℕ} {at next last b : ℕ} → Going d at all e next (lines (map f (drop i (map g (parts k n l))))) (i * b)
+      → i < n → Put e next (line (f (g (take (i * k + k - i * k) (drop (i * k) l))))) b e′ last
+      → Going d at all e′ last (lines (map f (drop (i + 1) (map g (parts k n l))))) ((i + 1) * b)
+  unfolding lines flatten
+  lines-next {b = b} go h p =
+      let width : i * k + k - i * k ≡ k = omega arith in
+      going-next go (ap (λ r. lines (map f r)) (held-next g k n l i h))
+      (put-same p (ap (λ m. line (f (g (take m (drop (i * k) l))))) width)) (omega (arith, add-mul i 1 b))
 
-pub lines-end : {B : Type 0} (f : B → List ℤ) (g : List ℤ → B) (k n : ℕ) (l : List ℤ) (i : ℕ) → n ≤ i
-    → lines (map f (drop i (map g (parts k n l)))) ≡ []
-unfolding lines flatten
-lines-end f g k n l i h = ap (λ r. lines (map f r)) (held-end g k n l i h)
+  pub lines-last : {d all e : List ℕ} {at next j m : ℕ} → Going d at all e next (lines (map f (drop i (map g (parts k n l))))) j
+      → n ≤ i → j ≤ m → Put d at all m e next
+  unfolding lines flatten
+  lines-last go h few = going-last go (ap (λ r. lines (map f r)) (held-end g k n l i h)) few
 
 pub sizes-line : (m : ℕ) (l t : ℤ)
     → ((51 ∷ []) ++ spaced (pos m ∷ l ∷ t ∷ [])) ++ (newline ∷ []) ≡ line (pos 3 ∷ pos m ∷ l ∷ t ∷ [])

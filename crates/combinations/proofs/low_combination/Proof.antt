@@ -17,7 +17,7 @@ use Rattle.rules.specs.Limits.{rowLength}
 use Rattle.rules.specs.Rows.{combine, mapRow, coefficientsOf}
 use Rattle.rules.specs.Stores.{rowOf}
 use Rattle.rows.specs.Written.{front, length-front, front-none, front-whole, front-put, front-skip}
-use Rattle.combinations.specs.Combination.{lowPart, trim-fits, trim-part-fits, length-low, trimmed-low, trimmed-zero}
+use Rattle.combinations.specs.Combination.{Trimmed, lowPart, length-low, trimmed-low, trimmed-zero, trimmed-fit}
 use Rattle.combinations.proofs.low_combination.Statement.{statement}
 use Rattle.combinations.proofs.low_combination.Tie as tie
 
@@ -31,7 +31,7 @@ Inv-loop g h target pivot a b row₀ e₀ row e =
 abbrev μ-loop : tie.MeasureT-loop
 μ-loop g h target pivot a b row₀ e₀ row e = 20 - e
 
--- the polynomial at place e
+-- the polynomials that are combined at place e
 module _ (c : tie.After-both-zero Inv-loop μ-loop) where
   abbrev at : tie.At-loop Inv-loop μ-loop
   at = c .before .before .before .before .before .before
@@ -57,22 +57,18 @@ module _ (c : tie.After-both-zero Inv-loop μ-loop) where
   full-long : length full ≡ rowLength
   full-long = length-low (now (start .args .g)) (now (start .args .h)) (now (start .args .target)) (now (start .args .pivot))
 
+  made : Trimmed (now (start .args .g)) (now (start .args .h)) (now (start .args .target)) (now (start .args .pivot)) e width
+      (now (at .before .before .trimmed .result)) p (now (at .before .trimmed2 .result)) q
+  made = search needs
+
   skipped : not (c .both-zero .result) ≡ false → front full (e * 16) ≡ front full ((e + 1) * 16)
   skipped z =
-      front-skip full e (omega (arith, full-long))
-      (trimmed-zero (now (start .args .g)) (now (start .args .h)) (now (start .args .target)) (now (start .args .pivot)) e
-      (c .before .before .before .before .before .loop-test .taken) width (omega arith) _ p _ q
-      (at .before .before .trimmed .ensures) (at .before .trimmed2 .ensures) (c .before .before .before .trimmed3 .ensures)
-      (c .before .trimmed4 .ensures) (sym (c .both-zero .ensures) ∙ not-false _ z))
+      front-skip full e (omega (arith, full-long)) (trimmed-zero made (sym (c .both-zero .ensures) ∙ not-false _ z))
 
   put : (r : List ℤ) → r ≡ lowPart (add (mul (now (at .before .before .trimmed .result)) p) (mul (now (at .before .trimmed2 .result)) q))
       → putMid (e * 16) width (at .loop .row) r ≡ front full ((e + 1) * 16)
   put r w =
-      ap₂ (putMid (e * 16) width) (at .loop .inv .2)
-      (w ∙ trimmed-low (now (start .args .g)) (now (start .args .h)) (now (start .args .target)) (now (start .args .pivot)) e
-      (c .before .before .before .before .before .loop-test .taken) width (omega arith) _ p _ q
-      (at .before .before .trimmed .ensures) (at .before .trimmed2 .ensures) (c .before .before .before .trimmed3 .ensures)
-      (c .before .trimmed4 .ensures))
+      ap₂ (putMid (e * 16) width) (at .loop .inv .2) (w ∙ trimmed-low made)
       ∙ front-put full e (omega (arith, full-long)) width (omega arith)
 
 trimmed-requires : tie.Need-trimmed-requires Inv-loop μ-loop
@@ -142,15 +138,8 @@ part-row-end c = search needs
 put-combined-requires : tie.Need-put-combined-requires Inv-loop μ-loop
 put-combined-requires c κs =
     let here = c .before .before in
-    let pre = start here .pre in
-    let args = start here .args in
-    let a = trim-fits (now (args .g)) _ (at here .before .before .trimmed .ensures) (omega arith) (pre .0 .1) in
-    let b = trim-fits (now (args .h)) _ (at here .before .trimmed2 .ensures) (omega arith) (pre .0 .3) in
-    let from = e here * 16 in
-    let sixteen : width here ≡ 16 = omega arith in
-    let p = trim-part-fits (now (args .target)) from (width here) _ (here .before .before .before .trimmed3 .ensures) sixteen (pre .1 .1) in
-    let q = trim-part-fits (now (args .pivot)) from (width here) _ (here .before .trimmed4 .ensures) sixteen (pre .1 .3) in
-    (search needs, ((a .0, a .1, p .1), (b .0, b .1, q .1)))
+    let fit = trimmed-fit (made here) (start here .pre .0) (start here .pre .1) in
+    (search needs, ((fit .0 .0, fit .0 .1, fit .0 .3), (fit .1 .0, fit .1 .1, fit .1 .3)))
 
 add-e : tie.Need-add-e Inv-loop μ-loop
 add-e c = search needs

@@ -16,7 +16,7 @@ use Rattle.rules.specs.Rows.{every, combine}
 use Rattle.rules.specs.Stores.{rowOf}
 use Rattle.rows.specs.Flat.{polynomialsOf, every-longer}
 use Rattle.rows.specs.Checks.{every-false}
-use Rattle.combinations.specs.Combination.{trim-fits, trim-part-fits, low-degrees, length-polynomials, trimmed-high}
+use Rattle.combinations.specs.Combination.{Trimmed, low-degrees, length-polynomials, trimmed-high, trimmed-fit}
 use Rattle.combinations.proofs.past_degree.Statement.{statement}
 use Rattle.combinations.proofs.past_degree.Tie as tie
 
@@ -33,10 +33,10 @@ Inv-loop g h target pivot a b e₀ e =
 abbrev μ-loop : tie.MeasureT-loop
 μ-loop g h target pivot a b e₀ e = 20 - e
 
--- the test of the polynomial at place e
-module _ (c : tie.After-passes Inv-loop μ-loop) where
+-- the polynomials that are combined at place e
+module _ (c : tie.After-trimmed4 Inv-loop μ-loop) where
   abbrev at : tie.At-loop Inv-loop μ-loop
-  at = c .before .before .before .before .before .before
+  at = c .before .before .before .before .before
 
   abbrev start : tie.Start Inv-loop μ-loop
   start = at .before .before .before
@@ -47,17 +47,16 @@ module _ (c : tie.After-passes Inv-loop μ-loop) where
   abbrev ps : List Polynomial
   ps = polynomials (now (start .args .g)) (now (start .args .h)) (now (start .args .target)) (now (start .args .pivot))
 
-  tested : c .passes .result ≡ not (isLow (getD ps e []))
-  tested =
-      let width : e * 16 + 16 - e * 16 ≡ 16 = omega arith in
-      let p = c .before .before .before .trimmed3 in
-      c .passes .ensures
-      ∙ ap not (trimmed-high (now (start .args .g)) (now (start .args .h)) (now (start .args .target)) (now (start .args .pivot)) e
-      (c .before .before .before .before .before .loop-test .taken) (e * 16 + 16 - e * 16) width _ _ _ _
-      (at .before .before .trimmed .ensures) (at .before .trimmed2 .ensures) (p .ensures) (c .before .trimmed4 .ensures))
+  made : Trimmed (now (start .args .g)) (now (start .args .h)) (now (start .args .target)) (now (start .args .pivot)) e
+      (e * 16 + 16 - e * 16) (now (at .before .before .trimmed .result)) (now (c .before .before .trimmed3 .result))
+      (now (at .before .trimmed2 .result)) (now (c .trimmed4 .result))
+  made = search needs
 
   some-left : e < length ps
-  some-left = rw length-polynomials (c .before .before .before .before .before .loop-test .taken)
+  some-left = rw length-polynomials (made .below)
+
+tested : (c : tie.After-passes Inv-loop μ-loop) → c .passes .result ≡ not (isLow (getD (ps (c .before)) (e (c .before)) []))
+tested c = c .passes .ensures ∙ ap not (trimmed-high (made (c .before)))
 
 trimmed-requires : tie.Need-trimmed-requires Inv-loop μ-loop
 trimmed-requires c κs = search needs
@@ -106,23 +105,13 @@ trimmed-requires-4 : tie.Need-trimmed-requires-4 Inv-loop μ-loop
 trimmed-requires-4 c κs = search needs
 
 passes-requires : tie.Need-passes-requires Inv-loop μ-loop
-passes-requires c κs =
-    let at = c .before .before .before .before .before in
-    let start = at .before .before .before in
-    let e = at .loop .e in
-    let width : e * 16 + 16 - e * 16 ≡ 16 = omega arith in
-    let a = trim-fits (now (start .args .g)) _ (at .before .before .trimmed .ensures) (omega arith) (start .pre .0 .1) in
-    let b = trim-fits (now (start .args .h)) _ (at .before .trimmed2 .ensures) (omega arith) (start .pre .0 .3) in
-    let from = e * 16 in
-    let p = trim-part-fits (now (start .args .target)) from (from + 16 - from) _ (c .before .before .trimmed3 .ensures) width (start .pre .1 .1) in
-    let q = trim-part-fits (now (start .args .pivot)) from (from + 16 - from) _ (c .trimmed4 .ensures) width (start .pre .1 .3) in
-    ((a .0, a .1, p .0, p .1), (b .0, b .1, q .0, q .1))
+passes-requires c κs = trimmed-fit (made c) (start c .pre .0) (start c .pre .1)
 
 returns : tie.Need-returns Inv-loop μ-loop
 returns c =
-    let here = c .before in
+    let here = c .before .before in
     let args = start here .args in
-    let failed = not-true _ (sym (tested here) ∙ c .if1 .taken) in
+    let failed = not-true _ (sym (tested (c .before)) ∙ c .if1 .taken) in
     ap not (sym (low-degrees (now (args .g)) (now (args .h)) (now (args .target)) (now (args .pivot))
     ∙ every-false isLow (ps here) (e here) [] (some-left here) failed))
 
@@ -134,8 +123,8 @@ loop-less c = search needs
 
 loop-again : tie.Need-loop-again Inv-loop μ-loop
 loop-again c =
-    let here = c .before in
-    let passed = not-false _ (sym (tested here) ∙ c .if1 .left) in
+    let here = c .before .before in
+    let passed = not-false _ (sym (tested (c .before)) ∙ c .if1 .left) in
     (omega arith, every-longer isLow (ps here) (e here) [] (some-left here) (at here .loop .inv .1) passed)
 
 returns-2 : tie.Need-returns-2 Inv-loop μ-loop

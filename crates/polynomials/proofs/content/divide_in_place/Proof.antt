@@ -1,27 +1,28 @@
 -- `polynomials::content::divide_in_place` meets its contract. The loop's invariant: the first i coefficients are divided by d and the
 -- others are as they were.
 -- Assumes nothing.
-use mathlib.Core.Path.{_≡_, _∙_, ap}
+use mathlib.Core.Path.{_≡_, _∙_}
 use mathlib.Core.List.{List}
-use Prim.Native.Nat.{ℕ, _≤_, _-_}
+use Prim.Native.Nat.{ℕ, _-_}
 use native.Mathlib.Omega.{arith}
 use borrow.Author.Needs.{needs}
 use denote.Ref.{now}
 use lib.Dec.{T}
 use lib.IntN.{ℤ, pos, natAbs}
-use lib.ListN.{length, getD, take, drop, length-set}
-use lib.Signed.{ltZ, quotZ}
+use lib.ListN.{length, getD, drop}
+use lib.Signed.{ltZ}
 use mir.Syntax.{w64}
 use mir.Val.{ofZ, toZ}
 use mir.Facts.{toZ-ofZ}
 use Rattle.algebra.specs.Gcd.{divideBy, length-divideBy}
-use Rattle.polynomials.specs.Content.{read-back, positive, quotient-at, prefix-next, prefix-all, suffix-next, suffix-first}
+use Rattle.polynomials.specs.Content.{Overwritten, read-back, positive, quotient-stored, overwritten-next, overwritten-all}
+use Rattle.polynomials.specs.Content.{suffix-next, suffix-first}
 use Rattle.polynomials.proofs.content.divide_in_place.Statement.{statement}
 use Rattle.polynomials.proofs.content.divide_in_place.Tie as tie
 
 abbrev Inv-loop : tie.InvT-loop
 Inv-loop p₀ d i₀ p i =
-    (i ≤ length p₀) × (length p ≡ length p₀) × (take i p ≡ take i (divideBy (natAbs (toZ w64 d)) p₀)) × (drop i p ≡ drop i p₀)
+    Overwritten (length p₀) (divideBy (natAbs (toZ w64 d)) p₀) p i × (drop i p ≡ drop i p₀)
 
 abbrev μ-loop : tie.MeasureT-loop
 μ-loop p₀ d i₀ p i = length p₀ - i
@@ -43,14 +44,7 @@ module _ (c : tie.After-quotient-arg Inv-loop μ-loop) where
   back : toZ w64 (ofZ w64 (getD (c .before .before .loop .p) i (pos 0))) ≡ getD p i (pos 0)
   back =
       let now-p = c .before .before .loop .p in
-      read-back (getD now-p i (pos 0)) (c .quotient-arg .given) ∙ suffix-first now-p p i (pos 0) (c .before .before .loop .inv .3)
-
-stored : (c : tie.After-quotient Inv-loop μ-loop)
-    → toZ w64 (ofZ w64 (c .quotient .result)) ≡ getD (divideBy (natAbs (d (c .before))) (p (c .before))) (i (c .before)) (pos 0)
-stored c =
-    let e = c .before in
-    read-back (c .quotient .result) (c .quotient .ok) ∙ c .quotient .ensures ∙ ap (λ a. quotZ a (d e)) (back e)
-    ∙ quotient-at (d e) (positive-d e) (p e) (i e)
+      read-back (getD now-p i (pos 0)) (c .quotient-arg .given) ∙ suffix-first now-p p i (pos 0) (c .before .before .loop .inv .1)
 
 loop-holds : tie.Need-loop-holds Inv-loop μ-loop
 loop-holds c = search needs
@@ -79,12 +73,10 @@ loop-less c = search needs
 loop-again : tie.Need-loop-again Inv-loop μ-loop
 loop-again c =
     let e = c .before in
-    let loop = e .before .before .loop in
-    let long = length-divideBy (natAbs (d e)) (p e) in (
-      omega arith,
-      length-set (loop .p) (i e) _ ∙ loop .inv .1,
-      prefix-next (loop .p) (divideBy (natAbs (d e)) (p e)) (i e) _ (pos 0) (omega arith) (omega arith) (loop .inv .2) (stored c),
-      suffix-next (loop .p) (p e) (i e) _ (loop .inv .3),
+    let loop = e .before .before .loop in (
+      overwritten-next (loop .inv .0) (length-divideBy (natAbs (d e)) (p e)) (pos 0) (omega arith)
+          (quotient-stored (d e) (positive-d e) (p e) (i e) (c .quotient .ok) (c .quotient .ensures) (back e)),
+      suffix-next (loop .p) (p e) (i e) _ (loop .inv .1),
     )
 
 same-length : tie.Need-same-length Inv-loop μ-loop
@@ -93,10 +85,8 @@ same-length c = search needs
 returns : tie.Need-returns Inv-loop μ-loop
 returns c =
     let start = c .before .before in
-    let loop = c .before .loop in
-    let t = divideBy (natAbs (start .args .d)) (now (start .args .p)) in
-    let long = length-divideBy (natAbs (start .args .d)) (now (start .args .p)) in
-    prefix-all (loop .p) t (loop .i) (omega arith) (omega arith) (rw (toZ-ofZ (start .fits .d)) at (loop .inv .2))
+    overwritten-all (rw (toZ-ofZ (start .fits .d)) at (c .before .loop .inv .0))
+    (length-divideBy (natAbs (start .args .d)) (now (start .args .p))) (omega arith)
 
 pub divide-in-place-spec : {M : Type 1} → statement M
 divide-in-place-spec =

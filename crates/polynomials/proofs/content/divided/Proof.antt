@@ -1,28 +1,29 @@
 -- `polynomials::content::divided` meets its contract. The loop's invariant: the first i coefficients of q are those of p divided by d.
 -- Assumes nothing.
-use mathlib.Core.Path.{_≡_, _∙_, ap}
+use mathlib.Core.Path.{_≡_}
 use mathlib.Core.List.{List}
-use Prim.Native.Nat.{ℕ, _≤_, _-_}
+use Prim.Native.Nat.{ℕ, _-_}
 use native.Mathlib.Omega.{arith}
 use borrow.Author.Needs.{needs}
 use denote.Ref.{now}
 use lib.Dec.{T}
 use lib.IntN.{ℤ, pos, natAbs}
-use lib.ListN.{length, getD, take, length-set}
-use lib.Signed.{ltZ, quotZ}
+use lib.ListN.{getD}
+use lib.Signed.{ltZ}
 use mir.Syntax.{w64}
 use mir.Val.{ofZ, toZ}
 use mir.Facts.{toZ-ofZ}
 use Rattle.algebra.specs.Gcd.{divideBy, length-divideBy}
-use Rattle.polynomials.specs.Content.{read-back, positive, quotient-at, prefix-next, prefix-all}
+use Rattle.rules.specs.Limits.{coefficientCount}
+use Rattle.polynomials.specs.Content.{Overwritten, read-back, positive, quotient-stored, overwritten-next, overwritten-all}
 use Rattle.polynomials.proofs.content.divided.Statement.{statement}
 use Rattle.polynomials.proofs.content.divided.Tie as tie
 
 abbrev Inv-loop : tie.InvT-loop
-Inv-loop p d q₀ i₀ q i = (i ≤ 16) × (length q ≡ 16) × (take i q ≡ take i (divideBy (natAbs (toZ w64 d)) p))
+Inv-loop p d q₀ i₀ q i = Overwritten coefficientCount (divideBy (natAbs (toZ w64 d)) p) q i
 
 abbrev μ-loop : tie.MeasureT-loop
-μ-loop p d q₀ i₀ q i = 16 - i
+μ-loop p d q₀ i₀ q i = coefficientCount - i
 
 -- coefficient i and the divisor, as the call reads them
 module _ (c : tie.After-quotient-arg Inv-loop μ-loop) where
@@ -40,13 +41,6 @@ module _ (c : tie.After-quotient-arg Inv-loop μ-loop) where
 
   back : toZ w64 (ofZ w64 (getD p i (pos 0))) ≡ getD p i (pos 0)
   back = read-back (getD p i (pos 0)) (c .quotient-arg .given)
-
-stored : (c : tie.After-quotient Inv-loop μ-loop)
-    → toZ w64 (ofZ w64 (c .quotient .result)) ≡ getD (divideBy (natAbs (d (c .before))) (p (c .before))) (i (c .before)) (pos 0)
-stored c =
-    let e = c .before in
-    read-back (c .quotient .result) (c .quotient .ok) ∙ c .quotient .ensures ∙ ap (λ a. quotZ a (d e)) (back e)
-    ∙ quotient-at (d e) (positive-d e) (p e) (i e)
 
 loop-holds : tie.Need-loop-holds Inv-loop μ-loop
 loop-holds c = search needs
@@ -75,20 +69,15 @@ loop-less c = search needs
 loop-again : tie.Need-loop-again Inv-loop μ-loop
 loop-again c =
     let e = c .before in
-    let loop = e .before .before .loop in
-    let long = length-divideBy (natAbs (d e)) (p e) in (
-      omega arith,
-      length-set (loop .q) (i e) _ ∙ loop .inv .1,
-      prefix-next (loop .q) (divideBy (natAbs (d e)) (p e)) (i e) _ (pos 0) (omega arith) (omega arith) (loop .inv .2) (stored c),
-    )
+    overwritten-next (e .before .before .loop .inv) (omega (arith, length-divideBy (natAbs (d e)) (p e))) (pos 0)
+    (e .before .loop-test .taken)
+    (quotient-stored (d e) (positive-d e) (p e) (i e) (c .quotient .ok) (c .quotient .ensures) (back e))
 
 returns : tie.Need-returns Inv-loop μ-loop
 returns c =
     let start = c .before .before in
-    let loop = c .before .loop in
-    let t = divideBy (natAbs (start .args .d)) (now (start .args .p)) in
-    let long = length-divideBy (natAbs (start .args .d)) (now (start .args .p)) in
-    prefix-all (loop .q) t (loop .i) (omega arith) (omega arith) (rw (toZ-ofZ (start .fits .d)) at (loop .inv .2))
+    overwritten-all (rw (toZ-ofZ (start .fits .d)) at (c .before .loop .inv))
+    (omega (arith, length-divideBy (natAbs (start .args .d)) (now (start .args .p)))) (omega arith)
 
 pub divided-spec : {M : Type 1} → statement M
 divided-spec =

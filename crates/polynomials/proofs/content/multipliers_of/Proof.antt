@@ -16,7 +16,7 @@ use mir.Val.{SFits, ofZ, toZ}
 use mir.Facts.{toZ-ofZ}
 use Rattle.algebra.specs.Polynomials.{negate, lead, length-negate}
 use Rattle.algebra.specs.Gcd.{content, divideBy, length-divideBy}
-use Rattle.rules.specs.Limits.{bound, small}
+use Rattle.rules.specs.Limits.{bound, coefficientCount, small}
 use Rattle.rules.specs.Rows.{every}
 use Rattle.rules.specs.Elimination.{multipliers}
 use Rattle.integers.specs.Ranges.{sfits-size}
@@ -61,9 +61,9 @@ h-is c = c .negated .ensures ∙ ap negate (quotient-is (c .before .before))
 
 -- what `negated` asks of its argument
 abbrev Negatable : List ℤ → Type 0
-Negatable p = (length p ≡ 16) × Below (2 ^ 63) p
+Negatable p = (length p ≡ coefficientCount) × Below (2 ^ 63) p
 
-quotients-negatable : (n : ℕ) (p : List ℤ) → length p ≡ 16 → T (every small p) → Negatable (divideBy n p)
+quotients-negatable : (n : ℕ) (p : List ℤ) → length p ≡ coefficientCount → T (every small p) → Negatable (divideBy n p)
 quotients-negatable n p l h = (length-divideBy n p ∙ l, below-divideBy n p (below-of-small p h))
 
 quotient-negatable : (c : tie.After-divided2) → Negatable (c .divided2 .result)

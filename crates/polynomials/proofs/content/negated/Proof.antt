@@ -2,25 +2,26 @@
 -- Assumes nothing.
 use mathlib.Core.Path.{_≡_, sym, _∙_, ap}
 use mathlib.Core.List.{List}
-use Prim.Native.Nat.{ℕ, _≤_, _-_}
+use Prim.Native.Nat.{ℕ, _-_}
 use native.Mathlib.Omega.{arith}
 use borrow.Author.Needs.{needs}
 use denote.Ref.{now}
 use lib.IntN.{ℤ, pos, negℤ}
-use lib.ListN.{length, getD, take, length-set}
+use lib.ListN.{getD}
 use mir.Syntax.{w64}
 use mir.Val.{ofZ, toZ}
 use Rattle.algebra.specs.Polynomials.{coeff, negate, length-negate}
 use Rattle.algebra.specs.Coefficients.{coeff-negate}
-use Rattle.polynomials.specs.Content.{read-back, prefix-next, prefix-all}
+use Rattle.rules.specs.Limits.{coefficientCount}
+use Rattle.polynomials.specs.Content.{Overwritten, read-back, overwritten-next, overwritten-all}
 use Rattle.polynomials.proofs.content.negated.Statement.{statement}
 use Rattle.polynomials.proofs.content.negated.Tie as tie
 
 abbrev Inv-loop : tie.InvT-loop
-Inv-loop p q₀ i₀ q i = (i ≤ 16) × (length q ≡ 16) × (take i q ≡ take i (negate p))
+Inv-loop p q₀ i₀ q i = Overwritten coefficientCount (negate p) q i
 
 abbrev μ-loop : tie.MeasureT-loop
-μ-loop p q₀ i₀ q i = 16 - i
+μ-loop p q₀ i₀ q i = coefficientCount - i
 
 -- coefficient i, as the call reads it
 module _ (c : tie.After-negated-arg Inv-loop μ-loop) where
@@ -67,19 +68,11 @@ loop-less c = search needs
 loop-again : tie.Need-loop-again Inv-loop μ-loop
 loop-again c =
     let e = c .before in
-    let loop = e .before .before .loop in
-    let long = length-negate (p e) in (
-      omega arith,
-      length-set (loop .q) (i e) _ ∙ loop .inv .1,
-      prefix-next (loop .q) (negate (p e)) (i e) _ (pos 0) (omega arith) (omega arith) (loop .inv .2) (stored c),
-    )
+    overwritten-next (e .before .before .loop .inv) (omega (arith, length-negate (p e))) (pos 0) (e .before .loop-test .taken) (stored c)
 
 returns : tie.Need-returns Inv-loop μ-loop
 returns c =
-    let loop = c .before .loop in
-    let p = now (c .before .before .args .p) in
-    let long = length-negate p in
-    prefix-all (loop .q) (negate p) (loop .i) (omega arith) (omega arith) (loop .inv .2)
+    overwritten-all (c .before .loop .inv) (omega (arith, length-negate (now (c .before .before .args .p)))) (omega arith)
 
 pub negated-spec : {M : Type 1} → statement M
 negated-spec =

@@ -18,6 +18,7 @@ use mir.Facts.{toZ-ofZ}
 use Rattle.algebra.specs.Sums.{sumBelow, sumBelow-last}
 use Rattle.algebra.specs.Polynomials.{coeff}
 use Rattle.integers.specs.Ranges.{sfits-size}
+use Rattle.rules.specs.Limits.{coefficientCount}
 use Rattle.polynomials.specs.Content.{read-back}
 use Rattle.polynomials.specs.Product.{term, sum-none, sum-all, term-size, sum-size, product-size}
 use Rattle.polynomials.proofs.product.product_coefficient.Statement.{statement}
@@ -64,7 +65,7 @@ module _ (c : tie.After-sum2 Inv-loop μ-loop) where
 
   next-fits : SFits w64 (sumBelow (i + 1) (term g p k))
   next-fits =
-      sfits-size (sumBelow (i + 1) (term g p k)) (sum-size g p (start .pre .1) (start .pre .2) k 16 (i + 1) (start .pre .0)) (lit< tt)
+      sfits-size (sumBelow (i + 1) (term g p k)) (sum-size g p (start .pre .1) (start .pre .2) k coefficientCount (i + 1) (start .pre .0)) (lit< tt)
 
 add-end : tie.Need-add-end Inv-loop μ-loop
 add-end c = search needs
@@ -125,7 +126,7 @@ returns c =
     let g = now (start .args .g) in
     let p = now (start .args .p) in
     let is = loop .inv .3 ∙ sum-all g p (start .args .k) (loop .i) (omega arith) (loop .inv .0) in
-    (is, rw is (product-size g p (start .pre .1) (start .pre .2) (start .args .k) 16 (start .pre .0)))
+    (is, rw is (product-size g p (start .pre .1) (start .pre .2) (start .args .k) coefficientCount (start .pre .0)))
 
 pub product-coefficient-spec : {M : Type 1} → statement M
 product-coefficient-spec =

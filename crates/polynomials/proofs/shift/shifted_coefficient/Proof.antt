@@ -15,20 +15,20 @@ use mir.Val.{SFits, ofZ, toZ}
 use mir.Facts.{toZ-ofZ}
 use Rattle.algebra.specs.Binomials as Binomials
 use Rattle.algebra.specs.Polynomials.{coeff, shift}
-use Rattle.rules.specs.Limits.{bound}
+use Rattle.rules.specs.Limits.{bound, coefficientCount}
 use Rattle.integers.specs.Ranges.{sfits-size}
 use Rattle.polynomials.specs.Shift.{expansion, expansion-first, expansion-next, expansion-all, expansion-size, shift-size, term-size}
 use Rattle.polynomials.proofs.shift.shifted_coefficient.Statement.{statement}
 use Rattle.polynomials.proofs.shift.shifted_coefficient.Tie as tie
 
 abbrev Inv-loop : tie.InvT-loop
-Inv-loop table p k sum₀ j₀ sum j = (j ≤ 16) × (sum ≡ ofZ w64 (expansion p k j))
+Inv-loop table p k sum₀ j₀ sum j = (j ≤ coefficientCount) × (sum ≡ ofZ w64 (expansion p k j))
 
 abbrev μ-loop : tie.MeasureT-loop
 μ-loop table p k sum₀ j₀ sum j = length p - j
 
 -- the sum of n terms is in the range of an i64
-module _ (s : tie.Start Inv-loop μ-loop) (n : ℕ) (h : n ≤ 16) where
+module _ (s : tie.Start Inv-loop μ-loop) (n : ℕ) (h : n ≤ coefficientCount) where
   abbrev terms : ℤ
   terms = expansion (now (s .args .p)) (s .args .k) n
 
@@ -110,7 +110,7 @@ returns c =
     let j = c .before .loop .j in
     let last = toZ-ofZ (sum-fits s j (omega arith)) ∙ expansion-all p k j (omega arith) in
     let value : toZ w64 (c .before .loop .sum) ≡ coeff (shift p) k = ap (toZ w64) (c .before .loop .inv .1) ∙ last in
-    (value, subst (λ r. natAbs r ≤ 2 ^ 16 * bound) (sym value) (shift-size p (s .pre .2) (s .pre .1) k))
+    (value, subst (λ r. natAbs r ≤ 2 ^ coefficientCount * bound) (sym value) (shift-size p (s .pre .2) (s .pre .1) k))
 
 pub shifted-coefficient-spec : {M : Type 1} → statement M
 shifted-coefficient-spec =

@@ -1,25 +1,22 @@
 -- `working::shifting::put_shifted` meets its contract. The loop's invariant: the first k numbers are those of p(n + 1).
 -- Assumes nothing.
-use mathlib.Core.Path.{_≡_, _∙_}
-use Prim.Native.Nat.{_≤_, _-_}
+use mathlib.Core.Path.{_∙_}
+use Prim.Native.Nat.{_-_}
 use native.Mathlib.Omega.{arith}
-use borrow.Author.Needs.{needs, sfits-of}
+use borrow.Author.Needs.{needs}
 use denote.Ref.{now}
 use lib.IntN.{pos}
-use lib.ListN.{length, take, length-set}
-use mir.Syntax.{w64}
-use mir.Val.{SFits}
-use mir.Facts.{toZ-ofZ}
 use Rattle.algebra.specs.Polynomials.{shift, coeff, length-shift}
-use Rattle.polynomials.specs.Content.{prefix-next, prefix-all}
+use Rattle.rules.specs.Limits.{coefficientCount}
+use Rattle.polynomials.specs.Content.{Overwritten, read-back, overwritten-next, overwritten-all}
 use Rattle.working.proofs.shifting.put_shifted.Statement.{statement}
 use Rattle.working.proofs.shifting.put_shifted.Tie as tie
 
 abbrev Inv-loop : tie.InvT-loop
-Inv-loop place₀ table p k₀ place k = (k ≤ 16) × (length place ≡ 16) × (take k place ≡ take k (shift p))
+Inv-loop place₀ table p k₀ place k = Overwritten coefficientCount (shift p) place k
 
 abbrev μ-loop : tie.MeasureT-loop
-μ-loop place₀ table p k₀ place k = 16 - k
+μ-loop place₀ table p k₀ place k = coefficientCount - k
 
 loop-holds : tie.Need-loop-holds Inv-loop μ-loop
 loop-holds c = search needs
@@ -44,21 +41,15 @@ unfolding coeff
 loop-again c =
     let at = c .before .before in
     let p = now (at .before .args .p) in
-    let result : SFits w64 (c .shifted-coefficient .result) = sfits-of (c .shifted-coefficient .ok) in (
-      omega arith,
-      simp length-set (at .loop .inv .1),
-      prefix-next (at .loop .place) (shift p) (at .loop .k) _ (pos 0) (omega arith) (rw length-shift (omega arith)) (at .loop .inv .2)
-          (toZ-ofZ result ∙ c .shifted-coefficient .ensures .0),
-    )
+    overwritten-next (at .loop .inv) (length-shift p ∙ at .before .pre .2) (pos 0) (c .before .loop-test .taken)
+    (read-back _ (c .shifted-coefficient .ok) ∙ c .shifted-coefficient .ensures .0)
 
 same-length : tie.Need-same-length Inv-loop μ-loop
 same-length c = search needs
 
 returns : tie.Need-returns Inv-loop μ-loop
 returns c =
-    let p = now (c .before .before .args .p) in
-    prefix-all (c .before .loop .place) (shift p) (c .before .loop .k) (omega arith) (rw length-shift (omega arith))
-    (c .before .loop .inv .2)
+    overwritten-all (c .before .loop .inv) (omega (arith, length-shift (now (c .before .before .args .p)))) (omega arith)
 
 pub put-shifted-spec : {M : Type 1} → statement M
 put-shifted-spec =
