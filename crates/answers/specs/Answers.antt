@@ -29,7 +29,7 @@ use lib.IntN.{ℤ}
 use Rattle.algebra.specs.Pigeonhole.{Distinct}
 use Rattle.rules.specs.Lists.{cond-passed}
 use Rattle.rules.specs.Elimination.{leading, State, Outcome, done, refused, wholeRun, leadingRun}
-use Rattle.rules.specs.Stores.{Sizes, span, rowStoreOf, relationStoreOf, lengthsRight, checkStores, Valid}
+use Rattle.rules.specs.Stores.{Sizes, equations, span, rowStoreOf, relationStoreOf, lengthsRight, checkStores, Valid}
 use Rattle.rules.specs.Stores.{rowNeed, largestRows, relationNeed}
 use Rattle.rules.specs.Layout.{valid-stores, size-bounds, lengthsRight-iff, rowsOf-rowStoreOf, relationsOf-relationStoreOf}
 use Rattle.rules.specs.Calls.{Call, overwrite, callRun, afterCheck, afterRun, acceptance, reportedOrder, cleared, refusal}
@@ -40,7 +40,7 @@ use Rattle.rules.specs.SheetCalls.{checkWrite, writeCall}
 use Rattle.rules.specs.Batch.{mostBytes, Answer, accepted, refusedWith, sized, answerRun, answerRead, answerSheet}
 use Rattle.theory.specs.Demands.{Accepted, Ended, run-ends, six, seven, eight, nine, output-valid, diagonal-nonzero}
 use Rattle.theory.specs.Demands as Demands
-use Rattle.theory.specs.Settled.{Diagonal}
+use Rattle.theory.specs.Settled.{as-many, Diagonal}
 use Rattle.sheets.specs.WrittenOrder.{OrderRight, different-cons, T-or}
 use Rattle.sheets.specs.ReadBack.{SheetRight, read-valid, sheet-read-written}
 use Rattle.sheets.specs.CallsReadBack.{read-call-write, read-write-call}
@@ -170,11 +170,11 @@ different-columns m (c ∷ l) d below =
       different-columns m l (d .1) (λ k h. below (suc k) (suc-le-suc h)),
     )
 
-pub order-after : (m D : ℕ) (s : State) → Diagonal leading m D s → OrderRight m (map suc (s .order))
+pub order-after : (e m D : ℕ) (s : State) → e ≡ m → Diagonal leading e m D s → OrderRight m (map suc (s .order))
 unfolding OrderRight
-order-after m D s d =
+order-after e m D s square d =
     inr (
-      length-map (s .order) suc ∙ d .order-count,
+      length-map (s .order) suc ∙ d .order-count ∙ square,
       different-columns m (s .order) (d .columns-different) (λ k h. d .column-below k (subst (λ n. k < n) (d .order-count) h)),
     )
 
@@ -207,7 +207,7 @@ module _ (bytes : List ℕ) (x : Sheet) (rest : List ℕ) (e : readSheet bytes �
       ap (afterCheck leading (x .sizes) (length (x .relations)) rowsRead relationsRead)
       (valid-stores (x .sizes) (x .rows) (x .relations) _ _ valid)
       ∙ ap₂ (λ r l. afterRun leading (x .sizes) (leadingRun r l) rowsRead relationsRead)
-      (rowsOf-rowStoreOf (x .sizes .m) (x .rows) _ (valid .row-count) (valid .row-shapes))
+      (rowsOf-rowStoreOf (equations (x .sizes)) (x .rows) _ (valid .row-count) (valid .row-shapes))
       (relationsOf-relationStoreOf (x .relations) _ (valid .relation-shapes))
 
   ran-by : (o : Outcome) → leadingRun (x .rows) (x .relations) ≡ o → ran ≡ afterRun leading (x .sizes) o rowsRead relationsRead
@@ -244,7 +244,7 @@ module _ (bytes : List ℕ) (x : Sheet) (rest : List ℕ) (e : readSheet bytes �
       right =
           record {
             valid = output-valid accepts;
-            order-right = order-after (x .sizes .m) (span (x .sizes)) s (diagonal-nonzero accepts);
+            order-right = order-after (equations (x .sizes)) (x .sizes .m) (span (x .sizes)) s (as-many (x .sizes)) (diagonal-nonzero accepts);
           }
 
 -- ---- the three calls on stores
@@ -267,8 +267,8 @@ module _ (bytes : List ℕ) (rows relations : List ℤ) (rows-long : largestRows
   unfolding afterRead rowNeed
   read-got x rest e =
       read-by (got x rest) e
-      ∙ cond-passed (lengthsRight (x .sizes .m) rows relations) _ (unread 1 rows relations)
-      (lengthsRight-iff (x .sizes .m) rows relations .1 (
+      ∙ cond-passed (lengthsRight (equations (x .sizes)) rows relations) _ (unread 1 rows relations)
+      (lengthsRight-iff (equations (x .sizes)) rows relations .1 (
         omega (arith, size-bounds (x .sizes) (read-valid bytes x rest e .sizes) .few),
         relations-long,
       ))

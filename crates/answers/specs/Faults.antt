@@ -18,7 +18,7 @@ use lib.IntN.{ℤ, pos, negℤ, natAbs, _-ℤ_}
 use lib.Signed.{leZ, ltZ}
 use Rattle.algebra.specs.Polynomials.{isZeroℤ}
 use Rattle.rules.specs.Limits.{coefficientCount, columnCount, mostRelations, blockBound, small}
-use Rattle.rules.specs.Stores.{Sizes, span}
+use Rattle.rules.specs.Stores.{Sizes, equations, span}
 use Rattle.rules.specs.Numbers.{newline, word, afterWord, beginsNumber, isNumber, numberOf, Read, got, fault, thenRead, judged, readWord, readSeparator, field}
 use Rattle.rules.specs.Numbers.{between, judgeSmall}
 use Rattle.rules.specs.Sheets.{contains, judgeLowest, judgeLast, judgeBlock, judgeColumn, judgeOrder, judgeOrderCount}
@@ -209,8 +209,8 @@ pub sheet-numbered : (bytes : List ℕ) → Numbered (readSheet bytes)
 unfolding readSheet
 sheet-numbered bytes =
     then-numbered _ _ (sizes-numbered bytes) λ z bytes₁.
-    then-numbered _ _ (field-numbered _ _ (between-judging (pos (z .m)) (pos (z .m))) bytes₁) λ _ bytes₂.
-    then-numbered _ _ (equations-numbered z (z .m) bytes₂) λ rows bytes₃.
+    then-numbered _ _ (field-numbered _ _ (between-judging (pos (equations z)) (pos (equations z))) bytes₁) λ _ bytes₂.
+    then-numbered _ _ (equations-numbered z (equations z) bytes₂) λ rows bytes₃.
     then-numbered _ _ (field-numbered _ _ (between-judging (pos 0) (pos mostRelations)) bytes₃) λ count bytes₄.
     then-numbered _ _ (relations-numbered z (natAbs count) bytes₄) λ relations bytes₅.
     then-numbered _ _ (order-numbered (z .m) bytes₅) λ order bytes₆.

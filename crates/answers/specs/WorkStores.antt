@@ -18,13 +18,13 @@ use mathlib.Core.List.{List, _++_, map, flatten, append-nil}
 use lib.ListN.{length, drop, replicate, length-append, length-replicate, drop-of-length-le}
 use lib.Seq.{drop-at}
 use lib.IntN.{ℤ, pos}
-use Rattle.rules.specs.Limits.{rowLength, relationLength, mostRelations}
+use Rattle.rules.specs.Limits.{mostEquations, rowLength, relationLength, mostRelations}
 use Rattle.rules.specs.Rows.{Row, Relation, All}
 use Rattle.rules.specs.Elimination.{leading, State, Outcome, done, refused, wholeRun}
-use Rattle.rules.specs.Stores.{Sizes, span, rowsOf, relationsOf, relationNumbers, rowStoreOf, checkStores, Valid}
+use Rattle.rules.specs.Stores.{Sizes, equations, span, rowsOf, relationsOf, relationNumbers, rowStoreOf, checkStores, Valid}
 use Rattle.rules.specs.Stores.{rowNeed, largestRows, relationNeed}
 use Rattle.rules.specs.Stores.{relationStoreOf, lengthsRight}
-use Rattle.rules.specs.Layout.{StoreRelation, stores-valid, size-bounds, countRight-iff, length-rowStoreOf, length-relationStoreOf}
+use Rattle.rules.specs.Layout.{StoreRelation, stores-valid, size-bounds, equations-few, countRight-iff, length-rowStoreOf, length-relationStoreOf}
 use Rattle.rules.specs.Calls.{Call, overwrite, zeros, callRun, afterCheck, afterRun, acceptance, cleared, refusal}
 use Rattle.rules.specs.Numbers.{Read, got, fault}
 use Rattle.rules.specs.Sheets.{Sheet, readSheet}
@@ -43,10 +43,10 @@ unfolding overwrite
 past-overwrite part store n e = drop-at part (drop (length part) store) n e ∙ ap (λ k. drop k store) e
 
 past-rows : {z : Sizes} {rows : List Row} {relations : List Relation} (store : List ℤ) → Valid z rows relations
-    → drop (z .m * rowLength) (overwrite (rowStoreOf rows) store) ≡ drop (z .m * rowLength) store
+    → drop (equations z * rowLength) (overwrite (rowStoreOf rows) store) ≡ drop (equations z * rowLength) store
 unfolding rowNeed
 past-rows {z} {rows} store v =
-    past-overwrite (rowStoreOf rows) store (z .m * rowLength)
+    past-overwrite (rowStoreOf rows) store (equations z * rowLength)
     (length-rowStoreOf rows (v .row-shapes) ∙ ap (λ m. m * rowLength) (v .row-count))
 
 -- A store whose used part is overwritten by zeros.
@@ -91,7 +91,7 @@ module _ (bytes : List ℕ) (rows relations : List ℤ) (c : ReadCall) (e : c �
   unfolding readCall
   read-by r f = e ∙ ap (λ r. afterRead r rows relations) f
 
-  by-length : (x : Sheet) (rest : List ℕ) → readSheet bytes ≡ got x rest → (t : Bool) → lengthsRight (x .sizes .m) rows relations ≡ t
+  by-length : (x : Sheet) (rest : List ℕ) → readSheet bytes ≡ got x rest → (t : Bool) → lengthsRight (equations (x .sizes)) rows relations ≡ t
       → c ≡ cond t (filled x rows relations) (unread 1 rows relations)
   unfolding afterRead
   by-length x rest f t g = read-by (got x rest) f ∙ ap (λ t. cond t (filled x rows relations) (unread 1 rows relations)) g
@@ -105,47 +105,47 @@ module _ (bytes : List ℕ) (rows relations : List ℤ) (c : ReadCall) (e : c �
 
       go : (r : Read Sheet) → readSheet bytes ≡ r → (c .rowStore ≡ rows) × (c .relationStore ≡ relations)
       go (fault n) f = same n (read-by (fault n) f)
-      go (got x rest) f = test (lengthsRight (x .sizes .m) rows relations) refl
+      go (got x rest) f = test (lengthsRight (equations (x .sizes)) rows relations) refl
         where
-          test : (t : Bool) → lengthsRight (x .sizes .m) rows relations ≡ t → (c .rowStore ≡ rows) × (c .relationStore ≡ relations)
+          test : (t : Bool) → lengthsRight (equations (x .sizes)) rows relations ≡ t → (c .rowStore ≡ rows) × (c .relationStore ≡ relations)
           test true g = absurd (h (ap (λ c. c .result .refusal) (by-length x rest f true g)))
           test false g = same 1 (by-length x rest f false g)
 
-  pub read-rest : drop (c .result .sizes .m * rowLength) (c .rowStore) ≡ drop (c .result .sizes .m * rowLength) rows
+  pub read-rest : drop (equations (c .result .sizes) * rowLength) (c .rowStore) ≡ drop (equations (c .result .sizes) * rowLength) rows
   unfolding afterRead filled unread readRefusal
   read-rest = go (readSheet bytes) refl
     where
       Rest : ReadCall → Type 0
-      Rest c = drop (c .result .sizes .m * rowLength) (c .rowStore) ≡ drop (c .result .sizes .m * rowLength) rows
+      Rest c = drop (equations (c .result .sizes) * rowLength) (c .rowStore) ≡ drop (equations (c .result .sizes) * rowLength) rows
 
       go : (r : Read Sheet) → readSheet bytes ≡ r → Rest c
       go (fault n) f = subst Rest (sym (read-by (fault n) f)) refl
-      go (got x rest) f = test (lengthsRight (x .sizes .m) rows relations) refl
+      go (got x rest) f = test (lengthsRight (equations (x .sizes)) rows relations) refl
         where
-          test : (t : Bool) → lengthsRight (x .sizes .m) rows relations ≡ t → Rest c
+          test : (t : Bool) → lengthsRight (equations (x .sizes)) rows relations ≡ t → Rest c
           test true g = subst Rest (sym (by-length x rest f true g)) (past-rows rows (read-valid bytes x rest f))
           test false g = subst Rest (sym (by-length x rest f false g)) refl
 
 -- ---- a run that accepted, or was refused
 
 pub record Used (z : Sizes) (d : Call) : Type 0 where
-  pub unknowns : z .m ≤ 4
+  pub few-rows : equations z ≤ mostEquations
   pub few : d .result .relations ≤ mostRelations
-  pub rows-rest : drop (z .m * rowLength) (d .rowStore) ≡ drop (z .m * rowLength) (zeros largestRows)
+  pub rows-rest : drop (equations z * rowLength) (d .rowStore) ≡ drop (equations z * rowLength) (zeros largestRows)
   pub relations-rest : drop (d .result .relations * relationLength) (d .relationStore)
       ≡ drop (d .result .relations * relationLength) (zeros relationNeed)
 
 module _ (z : Sizes) (count : ℕ) (rows relations : List ℤ) (checked : checkStores z count rows relations ≡ 0)
-    (rest : drop (z .m * rowLength) rows ≡ drop (z .m * rowLength) (zeros largestRows)) (long : length relations ≡ relationNeed)
+    (rest : drop (equations z * rowLength) rows ≡ drop (equations z * rowLength) (zeros largestRows)) (long : length relations ≡ relationNeed)
     (d : Call) (e : d ≡ callRun leading z count rows relations) where
   abbrev outcome : Outcome
-  outcome = wholeRun leading (span z) (rowsOf (z .m) rows) (relationsOf count relations)
+  outcome = wholeRun leading (span z) (rowsOf (equations z) rows) (relationsOf count relations)
 
-  valid : Valid z (rowsOf (z .m) rows) (relationsOf count relations)
+  valid : Valid z (rowsOf (equations z) rows) (relationsOf count relations)
   valid = stores-valid z count rows relations checked
 
-  unknowns : z .m ≤ 4
-  unknowns = size-bounds z (valid .sizes) .few
+  few-rows : equations z ≤ mostEquations
+  few-rows = equations-few z (size-bounds z (valid .sizes))
 
   ran-by : (o : Outcome) → outcome ≡ o → d ≡ afterRun leading z o rows relations
   unfolding callRun afterCheck
@@ -157,8 +157,8 @@ module _ (z : Sizes) (count : ℕ) (rows relations : List ℤ) (checked : checkS
     where
       zero : (n : ℕ) → outcome ≡ refused n → (d .rowStore ≡ zeros largestRows) × (d .relationStore ≡ zeros relationNeed)
       zero n f = (
-        ap (λ d. d .rowStore) (ran-by (refused n) f) ∙ zero-overwritten (z .m * rowLength) largestRows rows
-            (omega (arith, unknowns)) rest,
+        ap (λ d. d .rowStore) (ran-by (refused n) f) ∙ zero-overwritten (equations z * rowLength) largestRows rows
+            (omega (arith, few-rows)) rest,
         ap (λ d. d .relationStore) (ran-by (refused n) f)
             ∙ zero-overwritten relationNeed relationNeed relations (le-refl relationNeed) none,
       )
@@ -187,7 +187,7 @@ module _ (z : Sizes) (count : ℕ) (rows relations : List ℤ) (checked : checkS
           let v = output-valid (record { valid = valid; accepts = f }) in
           let few = countRight-iff (length (s .relations)) .0 (v .relation-count) in
           record {
-            unknowns = unknowns;
+            few-rows = few-rows;
             few = few;
             rows-rest = past-rows rows v ∙ rest;
             relations-rest = past-relations (s .relations) relations few (v .relation-shapes) long;

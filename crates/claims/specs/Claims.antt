@@ -55,7 +55,7 @@ use Rattle.algebra.specs.Roots.{roots, roots-sound, roots-complete, roots-disti
 use Rattle.rules.specs.Limits.{coefficientCount}
 use Rattle.rules.specs.Rows.{Row, Relation, noRow, mirrorRow, mirrorRelation}
 use Rattle.rules.specs.Elimination.{Side, leading, trailing, State, Outcome, done, refused, mirrorOutcome, wholeRun}
-use Rattle.rules.specs.Stores.{Sizes, span, rowsOf, relationsOf, rowNeed, relationNeed}
+use Rattle.rules.specs.Stores.{Sizes, equations, span, rowsOf, relationsOf, rowNeed, relationNeed}
 use Rattle.rules.specs.Sequences.{Sequence, Satisfies, Dependent, polynomialAt}
 use Rattle.rules.specs.Layout.{SizeBounds, NumbersRight}
 use Rattle.rules.specs.Calls.{Call, refusal, polynomialCheck, polynomialPart}
@@ -117,11 +117,11 @@ module _ {side : Side} {z : Sizes} {count : ℕ} {rows relations : List ℤ} {c 
 
   -- A refusal found during the work leaves the needed part of both stores zero, and the rest as it was (SCOPE 6.33).
   pub run-refused-during : FoundDuring (c .result .refusal)
-      → Cleared (rowNeed (z .m)) rows (c .rowStore) × Cleared relationNeed relations (c .relationStore)
+      → Cleared (rowNeed (equations z)) rows (c .rowStore) × Cleared relationNeed relations (c .relationStore)
   run-refused-during = Runs.stores-cleared ran
 
   -- Whatever the result, the numbers past the needed part stay, and so do the lengths (SCOPE 3.12).
-  pub run-rest-kept : Kept (rowNeed (z .m)) rows (c .rowStore) × Kept relationNeed relations (c .relationStore)
+  pub run-rest-kept : Kept (rowNeed (equations z)) rows (c .rowStore) × Kept relationNeed relations (c .relationStore)
   run-rest-kept = Runs.rest-kept ran
 
   -- ---- demand 2
@@ -167,12 +167,12 @@ module _ {side : Side} {z : Sizes} {count : ℕ} {rows relations : List ℤ} {c 
   -- ---- demand 3
 
   -- Refusal 6: a nonzero combination of shifted equations of the lent system vanishes (SCOPE 2.119).
-  pub six-dependent : c .result .refusal ≡ 6 → Dependent (z .l) (rowsOf (z .m) rows)
+  pub six-dependent : c .result .refusal ≡ 6 → Dependent (z .l) (rowsOf (equations z) rows)
   six-dependent = Runs.dependent-six ran
 
   -- A dependent system that passes the checks is refused during the work: as dependent, or because it meets a limit
   -- first (SCOPE 2.103).
-  pub dependent-refused : Passed z count rows relations → Dependent (z .l) (rowsOf (z .m) rows) → FoundDuring (c .result .refusal)
+  pub dependent-refused : Passed z count rows relations → Dependent (z .l) (rowsOf (equations z) rows) → FoundDuring (c .result .refusal)
   dependent-refused = Runs.dependent-refused ran
 
   module _ (accepted : c .result .refusal ≡ 0) where
@@ -200,11 +200,11 @@ module _ {side : Side} {z : Sizes} {count : ℕ} {rows relations : List ℤ} {c 
     last-root = Runs.root-yes ran accepted
 
     -- An accepted system is not dependent (SCOPE 2.118).
-    pub accepted-independent : ¬ Dependent (z .l) (rowsOf (z .m) rows)
+    pub accepted-independent : ¬ Dependent (z .l) (rowsOf (equations z) rows)
     accepted-independent = Runs.independent ran accepted
 
     -- There are at most m × D shifts (SCOPE 2.65).
-    pub shifts-bounded : c .result .shifts ≤ z .m * span z
+    pub shifts-bounded : c .result .shifts ≤ equations z * span z
     shifts-bounded = Runs.shifts-few ran accepted
 
     -- What was given back passes the checks of the next call: every number within ±C, every degree at most 15, unused
@@ -259,18 +259,18 @@ module _ (rows : List ℤ) (z : Sizes) (row : ℕ) (block : ℤ) (column : ℕ) 
 
   -- 1 exactly if it is not and the store is too short (SCOPE 3.43),
   pub polynomial-length : (polynomialCheck rows z row block column ≡ 1)
-      ↔ ((SizeBounds z × PlaceInside z row block column) × (¬ (rowNeed (z .m) ≤ length rows)))
+      ↔ ((SizeBounds z × PlaceInside z row block column) × (¬ (rowNeed (equations z) ≤ length rows)))
   polynomial-length = Sheets.place-one rows z row block column
 
   -- 0 otherwise.
   pub polynomial-accepts : (polynomialCheck rows z row block column ≡ 0)
-      ↔ ((SizeBounds z × PlaceInside z row block column) × (rowNeed (z .m) ≤ length rows))
+      ↔ ((SizeBounds z × PlaceInside z row block column) × (rowNeed (equations z) ≤ length rows))
   polynomial-accepts = Sheets.place-zero rows z row block column
 
   -- Then the part is the polynomial of that row, block and column, sixteen coefficients (SCOPE 3.41).
   pub polynomial-part : polynomialCheck rows z row block column ≡ 0
       → polynomialPart rows z row block column
-      ≡ polynomialAt (z .l) (getD (rowsOf (z .m) rows) (pred row) noRow) block (pred column)
+      ≡ polynomialAt (z .l) (getD (rowsOf (equations z) rows) (pred row) noRow) block (pred column)
   polynomial-part = Sheets.part-polynomial rows z row block column
 
   pub polynomial-sixteen : polynomialCheck rows z row block column ≡ 0
@@ -554,7 +554,7 @@ module _ {side : Side} {z : Sizes} {count : ℕ} {rows relations result : List �
 
   -- one found during the work leaves the needed part of all three zero, and the rest as it was (SCOPE 3.54, 6.33).
   pub export-refused-during : FoundDuring (e .refusal)
-      → Cleared (rowNeed (z .m)) rows (e .rowStore) × Cleared relationNeed relations (e .relationStore)
+      → Cleared (rowNeed (equations z)) rows (e .rowStore) × Cleared relationNeed relations (e .relationStore)
       × Cleared resultNeed result (e .resultStore)
   export-refused-during = Exports.export-cleared exported
 

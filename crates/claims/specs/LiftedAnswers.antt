@@ -14,7 +14,8 @@ use mathlib.Core.List.{List}
 use lib.Dec.{T, leb, leb→le, le→leb}
 use lib.ListN.{length}
 use Rattle.rules.specs.Elimination.{leading, State, Outcome, done, refused, wholeRun}
-use Rattle.rules.specs.Stores.{span}
+use Rattle.rules.specs.Stores.{equations, span}
+use Rattle.theory.specs.Settled.{as-many}
 use Rattle.rules.specs.Numbers.{Read, got, fault}
 use Rattle.rules.specs.Sheets.{Sheet, readSheet, writeSheet}
 use Rattle.rules.specs.Batch.{mostBytes, sized, answerRun, answerRead, answerSheet}
@@ -96,7 +97,7 @@ answer-course {bytes} {store} call =
 
 after-right : (x : Sheet) (s : State) → SheetAccepted x s → SheetRight (sheetAfter x s)
 after-right x s a =
-    record { valid = output-valid a; order-right = order-after (x .sizes .m) (span (x .sizes)) s (diagonal-nonzero a) }
+    record { valid = output-valid a; order-right = order-after (equations (x .sizes)) (x .sizes .m) (span (x .sizes)) s (as-many (x .sizes)) (diagonal-nonzero a) }
 
 -- The run of a sheet ends in one way.
 sheet-end : {x y : Sheet} {bytes : List ℕ} {o u : Outcome} → IsSheetOf x bytes → IsSheetOf y bytes → sheetRun x ≡ o

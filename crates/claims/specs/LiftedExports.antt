@@ -23,7 +23,7 @@ use lib.IntN.{ℤ, pos}
 use Rattle.algebra.specs.Polynomials.{T-&&}
 use Rattle.rules.specs.Limits.{columnCount}
 use Rattle.rules.specs.Elimination.{Side}
-use Rattle.rules.specs.Stores.{Sizes, rowNeed, relationNeed, sizesRight, countRight, lengthsRight, numbersRight}
+use Rattle.rules.specs.Stores.{Sizes, equations, rowNeed, relationNeed, sizesRight, countRight, lengthsRight, numbersRight}
 use Rattle.rules.specs.Layout.{NumbersRight, lengthsRight-iff, numbersRight-iff}
 use Rattle.rules.specs.Calls.{Result, Call, callRun, refusal, overwrite, zeros}
 use Rattle.exports.specs.Results.{Exported, kept, resultNeed, onAcceptance-none, onAcceptance-some}
@@ -49,11 +49,11 @@ use Rattle.claims.specs.LiftedSheets.{write-refused, write-range, write-
 -- ---- runs
 
 long-iff : (z : Sizes) (rows relations result : List ℤ)
-    → T (lengthsRight (z .m) rows relations && leb resultNeed (length result)) ↔ ExportLong z rows relations result
+    → T (lengthsRight (equations z) rows relations && leb resultNeed (length result)) ↔ ExportLong z rows relations result
 long-iff z rows relations result = (
-  λ h. let e = T-&& (lengthsRight (z .m) rows relations) _ .0 h in
-      (lengthsRight-iff (z .m) rows relations .0 (e .0), leb→le _ _ (e .1)),
-  λ h. T-&& (lengthsRight (z .m) rows relations) _ .1 (lengthsRight-iff (z .m) rows relations .1 (h .0), le→leb _ _ (h .1)),
+  λ h. let e = T-&& (lengthsRight (equations z) rows relations) _ .0 h in
+      (lengthsRight-iff (equations z) rows relations .0 (e .0), leb→le _ _ (e .1)),
+  λ h. T-&& (lengthsRight (equations z) rows relations) _ .1 (lengthsRight-iff (equations z) rows relations .1 (h .0), le→leb _ _ (h .1)),
 )
 
 eight : (r : Result) → length (r .order) ≡ columnCount → length (runNumbers r) ≡ resultNeed
@@ -67,7 +67,7 @@ module _ {side : Side} {z : Sizes} {count : ℕ} {rows relations result : List �
   export-course x =
       subst (ExportCourse side z count rows relations result) (sym (x .called))
       (by
-      (verdict (sizesRight z && countRight count) (lengthsRight (z .m) rows relations && leb resultNeed (length result))
+      (verdict (sizesRight z && countRight count) (lengthsRight (equations z) rows relations && leb resultNeed (length result))
       (numbersRight z count rows relations) (range-iff z count) (long-iff z rows relations result)
       (numbersRight-iff z count rows relations)))
     where
@@ -96,7 +96,7 @@ module _ {side : Side} {z : Sizes} {count : ℕ} {rows relations result : List �
   refused-export (as-run p l c r) h = absurd (⊎-elim (λ e. omega arith) (λ e. omega arith) (begun r p))
 
   cleared-export : {e : Exported} → ExportCourse side z count rows relations result e → FoundDuring (e .refusal)
-      → Cleared (rowNeed (z .m)) rows (e .rowStore) × Cleared relationNeed relations (e .relationStore)
+      → Cleared (rowNeed (equations z)) rows (e .rowStore) × Cleared relationNeed relations (e .relationStore)
       × Cleared resultNeed result (e .resultStore)
   unfolding kept ran zeros
   cleared-export (run-range-wrong r) h = absurd (omega arith)
@@ -187,7 +187,7 @@ module _ {side : Side} {z : Sizes} {count : ℕ} {rows relations result : List �
   export-refused = refused-export (export-course x)
 
   pub export-cleared : FoundDuring (e .refusal)
-      → Cleared (rowNeed (z .m)) rows (e .rowStore) × Cleared relationNeed relations (e .relationStore)
+      → Cleared (rowNeed (equations z)) rows (e .rowStore) × Cleared relationNeed relations (e .relationStore)
       × Cleared resultNeed result (e .resultStore)
   export-cleared = cleared-export (export-course x)
 
@@ -338,7 +338,7 @@ module _ {z : Sizes} {count : ℕ} {order rows relations : List ℤ} {bytes : Li
       subst (ExportWriteCourse z count order rows relations bytes result) (sym (x .called))
       (by
       (verdict (sizesRight z && countRight count && orderStoreRight (z .m) order)
-      (lengthsRight (z .m) rows relations && leb columnCount (length order) && leb 1 (length result))
+      (lengthsRight (equations z) rows relations && leb columnCount (length order) && leb 1 (length result))
       (numbersRight z count rows relations)
       range long (numbersRight-iff z count rows relations)))
     where
@@ -348,17 +348,17 @@ module _ {z : Sizes} {count : ℕ} {order rows relations : List ℤ} {bytes : Li
         λ h. T-&& (sizesRight z && countRight count) _ .1 (range-iff z count .1 (h .0), h .1),
       )
 
-      long : T (lengthsRight (z .m) rows relations && leb columnCount (length order) && leb 1 (length result))
+      long : T (lengthsRight (equations z) rows relations && leb columnCount (length order) && leb 1 (length result))
           ↔ OrderLong z order rows relations result
       long = (
         λ h.
-            let e = T-&& (lengthsRight (z .m) rows relations && leb columnCount (length order)) _ .0 h in
-            let f = T-&& (lengthsRight (z .m) rows relations) _ .0 (e .0) in
-            (lengthsRight-iff (z .m) rows relations .0 (f .0), leb→le _ _ (f .1), leb→le _ _ (e .1)),
+            let e = T-&& (lengthsRight (equations z) rows relations && leb columnCount (length order)) _ .0 h in
+            let f = T-&& (lengthsRight (equations z) rows relations) _ .0 (e .0) in
+            (lengthsRight-iff (equations z) rows relations .0 (f .0), leb→le _ _ (f .1), leb→le _ _ (e .1)),
         λ h.
-            T-&& (lengthsRight (z .m) rows relations && leb columnCount (length order)) _ .1 (
-              T-&& (lengthsRight (z .m) rows relations) _ .1
-                  (lengthsRight-iff (z .m) rows relations .1 (h .0), le→leb _ _ (h .1)),
+            T-&& (lengthsRight (equations z) rows relations && leb columnCount (length order)) _ .1 (
+              T-&& (lengthsRight (equations z) rows relations) _ .1
+                  (lengthsRight-iff (equations z) rows relations .1 (h .0), le→leb _ _ (h .1)),
               le→leb _ _ (h .2),
             ),
       )

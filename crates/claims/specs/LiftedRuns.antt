@@ -37,10 +37,10 @@ use Rattle.rules.specs.Rows.{Row, Relation, noRow, All, mirrorRelation}
 use Rattle.rules.specs.Lists.{getD-map, all-mono}
 use Rattle.rules.specs.Elimination.{start, wholeRun, mirrorState}
 use Rattle.rules.specs.Elimination.{Side, leading, trailing, State, Outcome, done, refused, report, diagonal, diagonalPlace}
-use Rattle.rules.specs.Stores.{Sizes, span, rowsOf, relationsOf, rowNeed, relationNeed, rowStoreOf, relationStoreOf, checkStores}
+use Rattle.rules.specs.Stores.{Sizes, equations, span, rowsOf, relationsOf, rowNeed, relationNeed, rowStoreOf, relationStoreOf, checkStores}
 use Rattle.rules.specs.Stores.{sizesRight, countRight, lengthsRight, numbersRight, Valid}
 use Rattle.rules.specs.Sequences.{Sequence, Satisfies, Dependent}
-use Rattle.rules.specs.Layout.{SizeBounds, NumbersRight, size-bounds, bounds-right, countRight-iff, lengthsRight-iff}
+use Rattle.rules.specs.Layout.{SizeBounds, NumbersRight, size-bounds, equations-few, bounds-right, countRight-iff, lengthsRight-iff}
 use Rattle.rules.specs.Layout.{numbersRight-iff}
 use Rattle.rules.specs.Layout.{checkStores-order, checkStores-zero, stores-valid, valid-stores, length-rowStoreOf}
 use Rattle.rules.specs.Layout.{length-relationStoreOf}
@@ -50,7 +50,7 @@ use Rattle.rules.specs.Calls.{overwrite, zeros}
 use Rattle.rules.specs.Calls.{padTo, placeRight, reportedOrder, rootFound, rootValue}
 use Rattle.theory.specs.Steps.{chain-relations}
 use Rattle.theory.specs.Mirror.{Reaches, Spans, mirrorRelations-twice, valid-relations-span}
-use Rattle.theory.specs.Settled.{Diagonal, pivotEntry, settled-leading, settled-trailing}
+use Rattle.theory.specs.Settled.{as-many, Diagonal, pivotEntry, settled-leading, settled-trailing}
 use Rattle.theory.specs.Demands.{Accepted, Ended, six, seven, eight, nine, run-ends, output-valid, diagonal-nonzero}
 use Rattle.theory.specs.Demands.{report-no, report-root}
 use Rattle.theory.specs.Demands.{same-sequences, accepted-independent, shifts-bounded, refused-dependent}
@@ -59,7 +59,7 @@ use Rattle.theory.specs.Report.{Past, Rootless, FurthestRoot, diagonalEntry, di
 use Rattle.theory.specs.Demands as Demands
 use Rattle.claims.specs.RunWords.{Ran, RunNumber, FoundBefore, FoundDuring, Rewritten, Cleared, InRange, LongEnough}
 use Rattle.claims.specs.RunWords.{Passed, ruled, GivesBack, Course, Kept}
-use Rattle.claims.specs.RunWords.{Solves, Inside, edge, columnOf, entryOf, diagonalOf, Triangular, NoRoot, LastRoot}
+use Rattle.claims.specs.RunWords.{Solves, IsRow, IsColumn, edge, columnOf, entryOf, diagonalOf, Triangular, NoRoot, LastRoot}
 use Rattle.claims.specs.RunWords.{PastRoot}
 use Rattle.claims.specs.RunWords.{AgreeBetween, AgreeFrom, AgreeDown, AgreeUpTo}
 use Rattle.claims.specs.RunWords.{out-of-range, too-short, wrong-number, run-refused, run-accepted}
@@ -115,7 +115,7 @@ module _ {z : Sizes} {count : ℕ} {rows relations : List ℤ} where
       checkStores-zero z count rows relations .1 (record {
         sizes = bounds-right z (p .range .0);
         few = countRight-iff count .1 (p .range .1);
-        lengths = lengthsRight-iff (z .m) rows relations .1 (p .lengths);
+        lengths = lengthsRight-iff (equations z) rows relations .1 (p .lengths);
         numbers = numbersRight-iff z count rows relations .1 (p .numbers);
       })
 
@@ -124,11 +124,11 @@ module _ {z : Sizes} {count : ℕ} {rows relations : List ℤ} where
       let h = checkStores-zero z count rows relations .0 e in
       record {
         range = (size-bounds z (h .sizes), countRight-iff count .0 (h .few));
-        lengths = lengthsRight-iff (z .m) rows relations .0 (h .lengths);
+        lengths = lengthsRight-iff (equations z) rows relations .0 (h .lengths);
         numbers = numbersRight-iff z count rows relations .0 (h .numbers);
       }
 
-  pub passed-valid : Passed z count rows relations → Valid z (rowsOf (z .m) rows) (relationsOf count relations)
+  pub passed-valid : Passed z count rows relations → Valid z (rowsOf (equations z) rows) (relationsOf count relations)
   passed-valid p = stores-valid z count rows relations (passed-zero p)
 
 pub stores-verdict : (z : Sizes) (count : ℕ) (rows relations : List ℤ)
@@ -137,8 +137,8 @@ pub stores-verdict : (z : Sizes) (count : ℕ) (rows relations : List ℤ)
 stores-verdict z count rows relations =
     subst (Verdict (InRange z count) (LongEnough z rows relations) (NumbersRight z count rows relations))
     (sym (checkStores-order z count rows relations))
-    (verdict (sizesRight z && countRight count) (lengthsRight (z .m) rows relations) (numbersRight z count rows relations)
-    (range-iff z count) (lengthsRight-iff (z .m) rows relations) (numbersRight-iff z count rows relations))
+    (verdict (sizesRight z && countRight count) (lengthsRight (equations z) rows relations) (numbersRight z count rows relations)
+    (range-iff z count) (lengthsRight-iff (equations z) rows relations) (numbersRight-iff z count rows relations))
 
 -- ---- the courses
 
@@ -192,8 +192,8 @@ module _ {side : Side} {z : Sizes} {count : ℕ} {rows relations : List ℤ} whe
       v : Valid z (s .rows) (s .relations)
       v = output-valid (record { valid = passed-valid p; accepts = e })
 
-      rows-held : rowsOf (z .m) (overwrite (rowStoreOf (s .rows)) rows) ≡ s .rows
-      rows-held = rowsOf-rowStoreOf (z .m) (s .rows) _ (v .row-count) (v .row-shapes)
+      rows-held : rowsOf (equations z) (overwrite (rowStoreOf (s .rows)) rows) ≡ s .rows
+      rows-held = rowsOf-rowStoreOf (equations z) (s .rows) _ (v .row-count) (v .row-shapes)
 
       relations-held : relationsOf (length (s .relations)) (overwrite (relationStoreOf (s .relations)) relations) ≡ s .relations
       relations-held = relationsOf-relationStoreOf (s .relations) _ (v .relation-shapes)
@@ -232,23 +232,23 @@ module _ {side : Side} {z : Sizes} {count : ℕ} {rows relations : List ℤ} whe
   kept-course (run-accepted p s e) h = absurd (omega arith)
 
   cleared-course : {c : Call} → Course side z count rows relations c → FoundDuring (Number c)
-      → Cleared (rowNeed (z .m)) rows (c .rowStore) × Cleared relationNeed relations (c .relationStore)
+      → Cleared (rowNeed (equations z)) rows (c .rowStore) × Cleared relationNeed relations (c .relationStore)
   unfolding unchanged cleared refusal afterRun acceptance
   cleared-course (out-of-range r) h = absurd (omega arith)
   cleared-course (too-short r l) h = absurd (omega arith)
   cleared-course (wrong-number r l w) h = absurd (omega arith)
   cleared-course (run-refused p n f e) h =
-      (zeros-written (rowNeed (z .m)) rows (p .lengths .0), zeros-written relationNeed relations (p .lengths .1))
+      (zeros-written (rowNeed (equations z)) rows (p .lengths .0), zeros-written relationNeed relations (p .lengths .1))
   cleared-course (run-accepted p s e) h = absurd (omega arith)
 
   rest-course : {c : Call} → Course side z count rows relations c
-      → Kept (rowNeed (z .m)) rows (c .rowStore) × Kept relationNeed relations (c .relationStore)
+      → Kept (rowNeed (equations z)) rows (c .rowStore) × Kept relationNeed relations (c .relationStore)
   unfolding unchanged cleared
   rest-course (out-of-range r) = ((refl, refl), (refl, refl))
   rest-course (too-short r l) = ((refl, refl), (refl, refl))
   rest-course (wrong-number r l w) = ((refl, refl), (refl, refl))
   rest-course (run-refused p n f e) = (
-    rest-of (zeros-written (rowNeed (z .m)) rows (p .lengths .0)),
+    rest-of (zeros-written (rowNeed (equations z)) rows (p .lengths .0)),
     rest-of (zeros-written relationNeed relations (p .lengths .1)),
   )
   rest-course (run-accepted p s e) = let g = gives-back p s e in (rest-of (g .row-store), rest-of (g .relation-store))
@@ -354,7 +354,7 @@ edge-inside : (side : Side) (z : Sizes) → SizeBounds z → (z .t ≤ℤ edge s
 edge-inside leading z b = (b .ordered, ≤ℤ-refl (z .l))
 edge-inside trailing z b = (≤ℤ-refl (z .t), b .ordered)
 
-pub place-right : (z : Sizes) (row : ℕ) (block : ℤ) (column : ℕ) → Inside z row → z .t ≤ℤ block → block ≤ℤ z .l → Inside z column
+pub place-right : (z : Sizes) (row : ℕ) (block : ℤ) (column : ℕ) → IsRow z row → z .t ≤ℤ block → block ≤ℤ z .l → IsColumn z column
     → T (placeRight z row block column)
 unfolding placeRight
 place-right z row block column h low high k =
@@ -382,45 +382,45 @@ found-some (some r) e = refl
 
 module _ {side : Side} {z : Sizes} {count : ℕ} {rows relations : List ℤ} {c : Call} {s : State}
     (a : AcceptedAs side z count rows relations c s) where
-  pub state-accepted : Accepted side z (rowsOf (z .m) rows) (relationsOf count relations) s
+  pub state-accepted : Accepted side z (rowsOf (equations z) rows) (relationsOf count relations) s
   state-accepted = record { valid = passed-valid (a .passed); accepts = a .accepts }
 
-  diagonals : Diagonal side (z .m) (span z) s
+  diagonals : Diagonal side (equations z) (z .m) (span z) s
   diagonals = diagonal-nonzero state-accepted
 
-  entry-is : (row column : ℕ) → Inside z row → Inside z column
+  entry-is : (row column : ℕ) → IsRow z row → IsColumn z column
       → entryOf side z c row column ≡ pivotEntry side (span z) s (pred row) (pred column)
   entry-is row column h k =
       polynomialPart-at (c .rowStore) z row (edge side z) column
       (polynomialCheck-zero (c .rowStore) z row (edge side z) column .1 (
         bounds-right z bounds,
         place-right z row (edge side z) column h (edge-inside side z bounds .0) (edge-inside side z bounds .1) k,
-        subst (λ n. rowNeed (z .m) ≤ n) (sym (a .given .row-store .same-length)) (a .passed .lengths .0),
+        subst (λ n. rowNeed (equations z) ≤ n) (sym (a .given .row-store .same-length)) (a .passed .lengths .0),
       ))
       ∙ ap₂ (λ r d. getD (getD (getD r (pred row) noRow .blocks) d []) (pred column) []) (a .given .rows-held) (edge-place side z)
     where
       bounds : SizeBounds z
       bounds = a .passed .range .0
 
-  column-is : (row : ℕ) → Inside z row → columnOf c row ≡ suc (getD (s .order) (pred row) 0)
+  column-is : (row : ℕ) → IsRow z row → columnOf c row ≡ suc (getD (s .order) (pred row) 0)
   unfolding reportedOrder
   column-is row h =
       ap (λ l. getD l (pred row) 0) (a .given .column-order)
       ∙ getD-padTo columnCount 0 0 (map suc (s .order)) (pred row) (rw length-map within)
-      (le-trans below (a .passed .range .0 .few))
+      (le-trans below (equations-few z (a .passed .range .0)))
       ∙ getD-map suc (s .order) (pred row) 0 0 within
     where
-      below : pred row < z .m
+      below : pred row < equations z
       below = omega arith
 
       within : pred row < length (s .order)
       within = subst (λ n. pred row < n) (sym (diagonals .order-count)) below
 
-  column-inside : (row : ℕ) → Inside z row → Inside z (columnOf c row)
+  column-inside : (row : ℕ) → IsRow z row → IsColumn z (columnOf c row)
   column-inside row h =
-      subst (Inside z) (sym (column-is row h)) (omega arith, diagonals .column-below (pred row) (omega arith))
+      subst (IsColumn z) (sym (column-is row h)) (omega arith, diagonals .column-below (pred row) (omega arith))
 
-  diagonal-is : (row : ℕ) → Inside z row → diagonalOf side z c row ≡ diagonalEntry side (span z) s (pred row)
+  diagonal-is : (row : ℕ) → IsRow z row → diagonalOf side z c row ≡ diagonalEntry side (span z) s (pred row)
   diagonal-is row h =
       entry-is row (columnOf c row) h (column-inside row h)
       ∙ ap (λ n. pivotEntry side (span z) s (pred row) (pred n)) (column-is row h)
@@ -431,14 +431,15 @@ module _ {side : Side} {z : Sizes} {count : ℕ} {rows relations : List ℤ} {c 
         column-inside = column-inside;
         column-once = once;
         every-column = λ column h.
-            let (j, below, e) = diagonals .every-column (pred column) (omega arith) in
-            (suc j, (omega arith, below), column-is (suc j) (omega arith, below) ∙ ap suc e ∙ omega arith);
+            let (j, inside, e) = diagonals .every-column (as-many z) (pred column) (omega arith) in
+            let row = (omega arith, subst (λ n. j < n) (sym (as-many z)) inside) in
+            (suc j, row, column-is (suc j) row ∙ ap suc e ∙ omega arith);
         zero-before = before;
         diagonal-nonzero = λ row h. subst (λ p. T (not (isZero p))) (sym (diagonal-is row h))
             (diagonals .nonzero (pred row) (omega arith));
       }
     where
-      before : (row other : ℕ) → Inside z row → Inside z other → other < row
+      before : (row other : ℕ) → IsRow z row → IsRow z other → other < row
           → T (isZero (entryOf side z c row (columnOf c other)))
       before row other h k less =
           subst (λ p. T (isZero p))
@@ -448,32 +449,32 @@ module _ {side : Side} {z : Sizes} {count : ℕ} {rows relations : List ℤ} {c 
           (diagonals .zero-before (pred row) (pred other) (omega arith) (omega arith))
 
       -- An entry is not zero and nonzero at once.
-      apart : (row other : ℕ) → Inside z row → Inside z other → columnOf c row ≡ columnOf c other → ¬ (other < row)
+      apart : (row other : ℕ) → IsRow z row → IsRow z other → columnOf c row ≡ columnOf c other → ¬ (other < row)
       apart row other h k e less =
           T-not (isZero (diagonalOf side z c row))
           (subst (λ p. T (not (isZero p))) (sym (diagonal-is row h)) (diagonals .nonzero (pred row) (omega arith)))
           (subst (λ n. T (isZero (entryOf side z c row n))) (sym e) (before row other h k less))
 
-      once : (row other : ℕ) → Inside z row → Inside z other → columnOf c row ≡ columnOf c other → row ≡ other
+      once : (row other : ℕ) → IsRow z row → IsRow z other → columnOf c row ≡ columnOf c other → row ≡ other
       once row other h k e = ≮-antisym (apart other row k h (sym e)) (apart row other h k e)
 
   -- ---- the root report by result and store
 
-  rows-inside : {j : ℕ} → j < length (s .rows) → Inside z (suc j)
+  rows-inside : {j : ℕ} → j < length (s .rows) → IsRow z (suc j)
   rows-inside {j} h = (omega arith, subst (λ n. j < n) (diagonals .row-count) h)
 
-  inside-rows : {row : ℕ} → Inside z row → pred row < length (s .rows)
+  inside-rows : {row : ℕ} → IsRow z row → pred row < length (s .rows)
   inside-rows {row} h = subst (λ n. pred row < n) (sym (diagonals .row-count)) (omega arith)
 
-  inside-order : {row : ℕ} → Inside z row → pred row < length (s .order)
+  inside-order : {row : ℕ} → IsRow z row → pred row < length (s .order)
   inside-order {row} h = subst (λ n. pred row < n) (sym (diagonals .order-count)) (omega arith)
 
-  among : (row : ℕ) → Inside z row → List·Memᴰ (diagonalOf side z c row) (diagonal side (span z) s)
+  among : (row : ℕ) → IsRow z row → List·Memᴰ (diagonalOf side z c row) (diagonal side (span z) s)
   among row h =
       subst (λ p. List·Memᴰ p (diagonal side (span z) s)) (sym (diagonal-is row h))
       (diagonal-member side (span z) s (pred row) (inside-rows h) (inside-order h))
 
-  row-of : {p : Polynomial} → List·Memᴰ p (diagonal side (span z) s) → (row : ℕ) × Inside z row × (p ≡ diagonalOf side z c row)
+  row-of : {p : Polynomial} → List·Memᴰ p (diagonal side (span z) s) → (row : ℕ) × IsRow z row × (p ≡ diagonalOf side z c row)
   row-of m =
       let (j, k, o, e) = diagonal-index side (span z) s m in
       (suc j, rows-inside k, e ∙ sym (diagonal-is (suc j) (rows-inside k)))
@@ -550,10 +551,10 @@ module _ {side : Side} {z : Sizes} {count : ℕ} {rows relations : List ℤ} {c 
   stores-kept = kept-course (course ran)
 
   pub stores-cleared : FoundDuring (Number c)
-      → Cleared (rowNeed (z .m)) rows (c .rowStore) × Cleared relationNeed relations (c .relationStore)
+      → Cleared (rowNeed (equations z)) rows (c .rowStore) × Cleared relationNeed relations (c .relationStore)
   stores-cleared = cleared-course (course ran)
 
-  pub rest-kept : Kept (rowNeed (z .m)) rows (c .rowStore) × Kept relationNeed relations (c .relationStore)
+  pub rest-kept : Kept (rowNeed (equations z)) rows (c .rowStore) × Kept relationNeed relations (c .relationStore)
   rest-kept = rest-course (course ran)
 
   pub two-exactly : (Number c ≡ 2) ↔ (¬ InRange z count)
@@ -573,7 +574,7 @@ module _ {side : Side} {z : Sizes} {count : ℕ} {rows relations : List ℤ} {c 
       ↔ (Passed z count rows relations × ((s : State) × (ruled side z count rows relations ≡ done s)))
   accepted-exactly = accepted-course (course ran)
 
-  pub dependent-six : Number c ≡ 6 → Dependent (z .l) (rowsOf (z .m) rows)
+  pub dependent-six : Number c ≡ 6 → Dependent (z .l) (rowsOf (equations z) rows)
   dependent-six e =
       let h = during-exactly 6 (omega arith, omega arith) .0 e in
       refused-dependent side (passed-valid (h .0)) (h .1)
@@ -598,13 +599,13 @@ module _ {side : Side} {z : Sizes} {count : ℕ} {rows relations : List ℤ} {c 
     pub triangular : Triangular side z c
     triangular = let (s, a) = accepted in state-triangular a
 
-    pub independent : ¬ Dependent (z .l) (rowsOf (z .m) rows)
+    pub independent : ¬ Dependent (z .l) (rowsOf (equations z) rows)
     independent = let (s, a) = accepted in accepted-independent (state-accepted a)
 
-    pub shifts-few : c .result .shifts ≤ z .m * span z
+    pub shifts-few : c .result .shifts ≤ equations z * span z
     shifts-few =
         let (s, a) = accepted in
-        subst (λ n. n ≤ z .m * span z) (sym (a .given .shift-count)) (shifts-bounded (state-accepted a))
+        subst (λ n. n ≤ equations z * span z) (sym (a .given .shift-count)) (shifts-bounded (state-accepted a))
 
     pub relations-first : (more : List Relation)
         × (relationsOf (c .result .relations) (c .relationStore) ≡ relationsOf count relations ++ more)
@@ -635,7 +636,7 @@ module _ {side : Side} {z : Sizes} {count : ℕ} {rows relations : List ℤ} {c 
 -- A dependent system is refused during the work, if the checks pass (SCOPE 2.103).
 pub dependent-refused : {side : Side} {z : Sizes} {count : ℕ} {rows relations : List ℤ} {c : Call}
     → Ran side z count rows relations c
-    → Passed z count rows relations → Dependent (z .l) (rowsOf (z .m) rows) → FoundDuring (Number c)
+    → Passed z count rows relations → Dependent (z .l) (rowsOf (equations z) rows) → FoundDuring (Number c)
 dependent-refused r p d = ⊎-elim (λ e. absurd (independent r e d)) (λ h. h) (begun r p)
 
 -- Solutions that agree on D successive vectors past the reported root agree ever after (SCOPE 2.116, 2.117).

@@ -24,7 +24,7 @@ use Rattle.rules.specs.Limits.{columnCount, coefficientCount}
 use Rattle.rules.specs.Rows.{Block, Row, noRow, All, every}
 use Rattle.rules.specs.Lists.{all-getD, cond-passed}
 use Rattle.rules.specs.Sequences.{blockFrom, polynomialAt}
-use Rattle.rules.specs.Stores.{Sizes, Valid, rowsOf, rowNeed, relationNeed, rowStoreOf, relationStoreOf, lengthsRight}
+use Rattle.rules.specs.Stores.{Sizes, equations, Valid, rowsOf, rowNeed, relationNeed, rowStoreOf, relationStoreOf, lengthsRight}
 use Rattle.rules.specs.Stores.{sizesRight, Shaped, StoreRow}
 use Rattle.rules.specs.Layout.{NumbersRight, lengthsRight-iff, countRight-iff, rowsOf-rowStoreOf, relationsOf-relationStoreOf}
 use Rattle.rules.specs.Layout.{length-rowStoreOf, length-relationStoreOf, rowStoreOf-rowsOf, relationStoreOf-relationsOf}
@@ -42,7 +42,7 @@ use Rattle.sheets.specs.Exact.{got-inj, fault-got}
 use Rattle.sheets.specs.ReadBack.{SheetRight, read-right, read-exactly}
 use Rattle.sheets.specs.CallsReadBack.{order-given, read-write-call}
 use Rattle.answers.specs.Faults.{Numbered, read, numbered, sheet-numbered}
-use Rattle.claims.specs.RunWords.{FoundBefore, Rewritten, InRange, LongEnough, Inside}
+use Rattle.claims.specs.RunWords.{FoundBefore, Rewritten, InRange, LongEnough, IsRow, IsColumn}
 use Rattle.claims.specs.SheetWords.{WriteNumber, SheetWasRead, IsSheetOf, HoldsSheet, ReadCourse, SheetWasWritten}
 use Rattle.claims.specs.SheetWords.{WriteRange, sheetBytes, WriteCourse, WriteReady, WriteShort, ReadsBack}
 use Rattle.claims.specs.SheetWords.{PlaceInside}
@@ -76,7 +76,7 @@ module _ {bytes : List ℕ} {rows relations : List ℤ} where
       by : (r : Read Sheet) → readSheet bytes ≡ r → Numbered r → ReadCourse bytes rows relations (afterRead r rows relations)
       by r e (read x rest) =
           let h = read-right bytes x rest e in
-          long x (h .0, h .1) (lengthsRight (x .sizes .m) rows relations) (lengthsRight-iff (x .sizes .m) rows relations)
+          long x (h .0, h .1) (lengthsRight (equations (x .sizes)) rows relations) (lengthsRight-iff (equations (x .sizes)) rows relations)
       by r e (numbered n low high) = no-sheet (suc n) (omega arith, omega arith) e
 
   number-course : {c : ReadCall} → ReadCourse bytes rows relations c → (c .result .refusal ≡ 0) ⊎ FoundBefore (c .result .refusal)
@@ -130,7 +130,7 @@ module _ {bytes : List ℕ} {rows relations : List ℤ} where
         sizes = refl;
         relation-count = refl;
         column-order = refl;
-        rows-held = rowsOf-rowStoreOf (x .sizes .m) (x .rows) _ (v .row-count) (v .row-shapes);
+        rows-held = rowsOf-rowStoreOf (equations (x .sizes)) (x .rows) _ (v .row-count) (v .row-shapes);
         relations-held = relationsOf-relationStoreOf (x .relations) _ (v .relation-shapes);
         row-store = overwrite-rewritten (rowStoreOf (x .rows)) rows
             (length-rowStoreOf (x .rows) (v .row-shapes) ∙ ap rowNeed (v .row-count)) (l .0);
@@ -357,7 +357,7 @@ module _ {z : Sizes} {count : ℕ} {order : List ℕ} {rows relations : List ℤ
           sizes = h .sizes;
           relation-count = h .relation-count ∙ length-relationsOf count relations;
           column-order = h .column-order ∙ given-padded (z .m) order (call .four) (ready .1);
-          row-store = subst (λ l. Rewritten (rowNeed (z .m)) l rows' (c .rowStore)) (rowStoreOf-rowsOf (z .m) rows)
+          row-store = subst (λ l. Rewritten (rowNeed (equations z)) l rows' (c .rowStore)) (rowStoreOf-rowsOf (equations z) rows)
               (h .row-store);
           relation-store = subst (λ l. Rewritten relationNeed l relations' (c .relationStore))
               (relationStoreOf-relationsOf count relations (ready .0 .range .1) (ready .0 .lengths .1)
@@ -452,7 +452,7 @@ StoreBlock b = (length b ≡ columnCount) × All (λ p. length p ≡ coefficient
 
 module _ (rows : List ℤ) (z : Sizes) (row : ℕ) (block : ℤ) (column : ℕ) where
   abbrev Fits : Type 0
-  Fits = rowNeed (z .m) ≤ length rows
+  Fits = rowNeed (equations z) ≤ length rows
 
   abbrev Placed : Type 0
   Placed = SizeBounds z × PlaceInside z row block column
@@ -462,7 +462,7 @@ module _ (rows : List ℤ) (z : Sizes) (row : ℕ) (block : ℤ) (column : ℕ) 
       × ((polynomialCheck rows z row block column ≡ 2) ↔ (¬ Placed))
   unfolding polynomialCheck
   place-checks =
-      place-number (sizesRight z && placeRight z row block column) (leb (rowNeed (z .m)) (length rows))
+      place-number (sizesRight z && placeRight z row block column) (leb (rowNeed (equations z)) (length rows))
       (place-iff z row block column)
       (leb→le _ _, le→leb _ _)
 
@@ -488,12 +488,12 @@ module _ (rows : List ℤ) (z : Sizes) (row : ℕ) (block : ℤ) (column : ℕ) 
     inside = place-zero .0 e .0 .1
 
     pub part-polynomial : polynomialPart rows z row block column
-        ≡ polynomialAt (z .l) (getD (rowsOf (z .m) rows) (pred row) noRow) block (pred column)
+        ≡ polynomialAt (z .l) (getD (rowsOf (equations z) rows) (pred row) noRow) block (pred column)
     unfolding polynomialAt
     part-polynomial =
         polynomialPart-at rows z row block column e
         ∙ ap (λ b. getD b (pred column) [])
-        (sym (block-below (getD (rowsOf (z .m) rows) (pred row) noRow .blocks) (z .l -ℤ block)
+        (sym (block-below (getD (rowsOf (equations z) rows) (pred row) noRow .blocks) (z .l -ℤ block)
         (≤ℤ-difference .0 (inside .block-high))))
 
     pub part-sixteen : length (polynomialPart rows z row block column) ≡ coefficientCount
@@ -501,11 +501,11 @@ module _ (rows : List ℤ) (z : Sizes) (row : ℕ) (block : ℤ) (column : ℕ) 
     part-sixteen =
         let b = place-zero .0 e in
         ap length (polynomialPart-at rows z row block column e)
-        ∙ sixteen (b .0 .0) (getD (rowsOf (z .m) rows) (pred row) noRow)
-        (all-getD StoreRow (rowsOf (z .m) rows) noRow (pred row) (rw length-rowsOf (below (inside .row-inside)))
-        (StoreRow-rowsOf (z .m) rows (b .1)))
+        ∙ sixteen (b .0 .0) (getD (rowsOf (equations z) rows) (pred row) noRow)
+        (all-getD StoreRow (rowsOf (equations z) rows) noRow (pred row) (rw length-rowsOf (omega (arith, inside .row-inside .0, inside .row-inside .1)))
+        (StoreRow-rowsOf (equations z) rows (b .1)))
       where
-        below : {i : ℕ} → Inside z i → pred i < z .m
+        below : IsColumn z column → pred column < z .m
         below h = omega arith
 
         sixteen : SizeBounds z → (r : Row) → StoreRow r

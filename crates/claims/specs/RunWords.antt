@@ -16,7 +16,7 @@
 --   AgreeBetween, AgreeFrom, AgreeDown, AgreeUpTo   two sequences have the same vectors at a to b - 1; from a on; at a + 1
 --                                to b;
 --                                        up to b
---   Inside z i                           i is a row, or a column, of the system, counted from 1
+--   IsRow z i, IsColumn z c              i is a row of the system, c a column, counted from 1
 --   edge, columnOf, entryOf, diagonalOf  block l or t; c(row) of a result; an entry of that block, and the diagonal
 --                                polynomial of
 --                                        a row, as `polynomial` gives them
@@ -34,7 +34,7 @@ use lib.Signed.{_≤ℤ_, _<ℤ_}
 use Rattle.algebra.specs.Polynomials.{Polynomial, eval, isZero}
 use Rattle.rules.specs.Limits.{mostRelations}
 use Rattle.rules.specs.Elimination.{Side, leading, trailing, State, Outcome, done, refused, wholeRun, report}
-use Rattle.rules.specs.Stores.{Sizes, span, rowsOf, relationsOf, rowNeed, relationNeed, rowStoreOf, relationStoreOf}
+use Rattle.rules.specs.Stores.{Sizes, equations, span, rowsOf, relationsOf, rowNeed, relationNeed, rowStoreOf, relationStoreOf}
 use Rattle.rules.specs.Sequences.{Sequence, Satisfies, Same}
 use Rattle.rules.specs.Layout.{SizeBounds, NumbersRight}
 use Rattle.rules.specs.Calls.{Result, Call, callRun, polynomialPart, reportedOrder, rootFound, rootValue, zeros}
@@ -78,7 +78,7 @@ InRange z count = SizeBounds z × (count ≤ mostRelations)
 
 -- m × 320 numbers for the rows, 16 × 321 for the relations (SCOPE 3.11).
 abbrev pub LongEnough : Sizes → List ℤ → List ℤ → Type 0
-LongEnough z rows relations = (rowNeed (z .m) ≤ length rows) × (relationNeed ≤ length relations)
+LongEnough z rows relations = (rowNeed (equations z) ≤ length rows) × (relationNeed ≤ length relations)
 
 pub record Passed (z : Sizes) (count : ℕ) (rows relations : List ℤ) : Type 0 where
   pub range : InRange z count
@@ -88,12 +88,12 @@ pub record Passed (z : Sizes) (count : ℕ) (rows relations : List ℤ) : Type 0
 -- ---- the rules
 
 abbrev pub ruled : Side → Sizes → ℕ → List ℤ → List ℤ → Outcome
-ruled side z count rows relations = wholeRun side (span z) (rowsOf (z .m) rows) (relationsOf count relations)
+ruled side z count rows relations = wholeRun side (span z) (rowsOf (equations z) rows) (relationsOf count relations)
 
 pub record GivesBack (side : Side) (z : Sizes) (s : State) (rows relations : List ℤ) (c : Call) : Type 0 where
-  pub row-store : Rewritten (rowNeed (z .m)) (rowStoreOf (s .rows)) rows (c .rowStore)
+  pub row-store : Rewritten (rowNeed (equations z)) (rowStoreOf (s .rows)) rows (c .rowStore)
   pub relation-store : Rewritten relationNeed (relationStoreOf (s .relations)) relations (c .relationStore)
-  pub rows-held : rowsOf (z .m) (c .rowStore) ≡ s .rows
+  pub rows-held : rowsOf (equations z) (c .rowStore) ≡ s .rows
   pub relations-held : relationsOf (c .result .relations) (c .relationStore) ≡ s .relations
   pub relation-count : c .result .relations ≡ length (s .relations)
   pub shift-count : c .result .shifts ≡ s .shifts
@@ -108,14 +108,14 @@ pub data Course (side : Side) (z : Sizes) (count : ℕ) (rows relations : List �
   wrong-number : InRange z count → LongEnough z rows relations → ¬ NumbersRight z count rows relations
       → Course side z count rows relations (unchanged 5 rows relations)
   run-refused : Passed z count rows relations → (n : ℕ) → FoundDuring n → ruled side z count rows relations ≡ refused n
-      → Course side z count rows relations (cleared n (z .m) rows relations)
+      → Course side z count rows relations (cleared n (equations z) rows relations)
   run-accepted : Passed z count rows relations → (s : State) → ruled side z count rows relations ≡ done s
       → Course side z count rows relations (afterRun side z (done s) rows relations)
 
 -- ---- solutions
 
 abbrev pub Solves : Sizes → ℕ → List ℤ → List ℤ → Sequence → Type 0
-Solves z count rows relations y = Satisfies (z .l) (rowsOf (z .m) rows) (relationsOf count relations) y
+Solves z count rows relations y = Satisfies (z .l) (rowsOf (equations z) rows) (relationsOf count relations) y
 
 abbrev pub AgreeBetween : Sizes → Sequence → Sequence → ℤ → ℤ → Type 0
 AgreeBetween z y w a b = (i : ℤ) → a ≤ℤ i → i <ℤ b → Same (z .m) y w i
@@ -131,8 +131,11 @@ AgreeUpTo z y w b = (i : ℤ) → i ≤ℤ b → Same (z .m) y w i
 
 -- ---- the diagonal, as `elimination::polynomial` gives it of the store that a run left
 
-abbrev pub Inside : Sizes → ℕ → Type 0
-Inside z i = (1 ≤ i) × (i ≤ z .m)
+abbrev pub IsRow : Sizes → ℕ → Type 0
+IsRow z i = (1 ≤ i) × (i ≤ equations z)
+
+abbrev pub IsColumn : Sizes → ℕ → Type 0
+IsColumn z c = (1 ≤ c) × (c ≤ z .m)
 
 -- The block that is made triangular.
 abbrev pub edge : Side → Sizes → ℤ
@@ -151,21 +154,21 @@ diagonalOf side z c row = entryOf side z c row (columnOf c row)
 -- c(1) to c(m) are the columns 1 to m in some order, and row j is zero at c(1) to c(j - 1) and nonzero at c(j)
 -- (SCOPE 2.71, 2.73).
 pub record Triangular (side : Side) (z : Sizes) (c : Call) : Type 0 where
-  pub column-inside : (row : ℕ) → Inside z row → Inside z (columnOf c row)
-  pub column-once : (row other : ℕ) → Inside z row → Inside z other → columnOf c row ≡ columnOf c other → row ≡ other
-  pub every-column : (column : ℕ) → Inside z column → (row : ℕ) × Inside z row × (columnOf c row ≡ column)
-  pub zero-before : (row other : ℕ) → Inside z row → Inside z other → other < row
+  pub column-inside : (row : ℕ) → IsRow z row → IsColumn z (columnOf c row)
+  pub column-once : (row other : ℕ) → IsRow z row → IsRow z other → columnOf c row ≡ columnOf c other → row ≡ other
+  pub every-column : (column : ℕ) → IsColumn z column → (row : ℕ) × IsRow z row × (columnOf c row ≡ column)
+  pub zero-before : (row other : ℕ) → IsRow z row → IsRow z other → other < row
       → T (isZero (entryOf side z c row (columnOf c other)))
-  pub diagonal-nonzero : (row : ℕ) → Inside z row → T (not (isZero (diagonalOf side z c row)))
+  pub diagonal-nonzero : (row : ℕ) → IsRow z row → T (not (isZero (diagonalOf side z c row)))
 
 abbrev pub NoRoot : Side → Sizes → Call → Type 0
-NoRoot side z c = (row : ℕ) → Inside z row → (n : ℤ) → eval (diagonalOf side z c row) n ≢ pos 0
+NoRoot side z c = (row : ℕ) → IsRow z row → (n : ℤ) → eval (diagonalOf side z c row) n ≢ pos 0
 
 -- r is a root of some diagonal polynomial, and none has an integer root above it, or, on the trailing side, below it
 -- (SCOPE 2.81, 2.93).
 pub record LastRoot (side : Side) (z : Sizes) (c : Call) (r : ℤ) : Type 0 where
-  pub attained : (row : ℕ) × Inside z row × (eval (diagonalOf side z c row) r ≡ pos 0)
-  pub furthest : (row : ℕ) → Inside z row → (n : ℤ) → eval (diagonalOf side z c row) n ≡ pos 0 → NoFurther side n r
+  pub attained : (row : ℕ) × IsRow z row × (eval (diagonalOf side z c row) r ≡ pos 0)
+  pub furthest : (row : ℕ) → IsRow z row → (n : ℤ) → eval (diagonalOf side z c row) n ≡ pos 0 → NoFurther side n r
 
 abbrev pub PastRoot : Side → Result → ℤ → Type 0
 PastRoot leading r n = r .hasRoot ≡ true → r .root <ℤ n

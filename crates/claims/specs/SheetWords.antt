@@ -20,14 +20,14 @@ use lib.ListN.{length, take}
 use lib.IntN.{ℤ}
 use lib.Signed.{_≤ℤ_}
 use Rattle.rules.specs.Limits.{columnCount}
-use Rattle.rules.specs.Stores.{Sizes, rowsOf, relationsOf, rowNeed, relationNeed, rowStoreOf, relationStoreOf}
+use Rattle.rules.specs.Stores.{Sizes, equations, rowsOf, relationsOf, rowNeed, relationNeed, rowStoreOf, relationStoreOf}
 use Rattle.rules.specs.Layout.{NumbersRight}
 use Rattle.rules.specs.Calls.{padTo, overwrite}
 use Rattle.rules.specs.Numbers.{fault}
 use Rattle.rules.specs.Sheets.{Sheet, readSheet, writeSheet}
 use Rattle.rules.specs.SheetCalls.{ReadCall, readCall, unread, filled, WriteCall, writeCall, unwritten, sheetOf, orderRight}
 use Rattle.sheets.specs.ReadBack.{SheetRight}
-use Rattle.claims.specs.RunWords.{Rewritten, InRange, LongEnough, Passed, Inside}
+use Rattle.claims.specs.RunWords.{Rewritten, InRange, LongEnough, Passed, IsRow, IsColumn}
 
 -- ---- reading
 
@@ -42,9 +42,9 @@ pub record HoldsSheet (x : Sheet) (rows relations : List ℤ) (c : ReadCall) : T
   pub sizes : c .result .sizes ≡ x .sizes
   pub relation-count : c .result .relations ≡ length (x .relations)
   pub column-order : c .result .order ≡ padTo columnCount 0 (x .order)
-  pub rows-held : rowsOf (x .sizes .m) (c .rowStore) ≡ x .rows
+  pub rows-held : rowsOf (equations (x .sizes)) (c .rowStore) ≡ x .rows
   pub relations-held : relationsOf (c .result .relations) (c .relationStore) ≡ x .relations
-  pub row-store : Rewritten (rowNeed (x .sizes .m)) (rowStoreOf (x .rows)) rows (c .rowStore)
+  pub row-store : Rewritten (rowNeed (equations (x .sizes))) (rowStoreOf (x .rows)) rows (c .rowStore)
   pub relation-store : Rewritten relationNeed (relationStoreOf (x .relations)) relations (c .relationStore)
 
 pub data ReadCourse (bytes : List ℕ) (rows relations : List ℤ) : ReadCall → Type 0 where
@@ -107,13 +107,13 @@ pub record ReadsBack (z : Sizes) (count : ℕ) (order : List ℕ) (rows relation
   pub sizes : c .result .sizes ≡ z
   pub relation-count : c .result .relations ≡ count
   pub column-order : c .result .order ≡ order
-  pub row-store : Rewritten (rowNeed (z .m)) (take (rowNeed (z .m)) rows) rows' (c .rowStore)
+  pub row-store : Rewritten (rowNeed (equations z)) (take (rowNeed (equations z)) rows) rows' (c .rowStore)
   pub relation-store : Rewritten relationNeed (take relationNeed relations) relations' (c .relationStore)
 
 -- ---- one polynomial
 
 pub record PlaceInside (z : Sizes) (row : ℕ) (block : ℤ) (column : ℕ) : Type 0 where
-  pub row-inside : Inside z row
+  pub row-inside : IsRow z row
   pub block-low : z .t ≤ℤ block
   pub block-high : block ≤ℤ z .l
-  pub column-inside : Inside z column
+  pub column-inside : IsColumn z column

@@ -23,7 +23,7 @@ use lib.ListN.{length}
 use Rattle.rules.specs.Limits.{columnCount, rowLength}
 use Rattle.rules.specs.Rows.{All}
 use Rattle.rules.specs.Lists.{all-mono}
-use Rattle.rules.specs.Stores.{lengthsRight, rowNeed}
+use Rattle.rules.specs.Stores.{equations, lengthsRight, rowNeed}
 use Rattle.rules.specs.Layout.{size-bounds, countRight-iff, length-padTo}
 use Rattle.rules.specs.Numbers.{Read, got, fault}
 use Rattle.rules.specs.Sheets.{Sheet, readSheet}
@@ -77,7 +77,7 @@ module _ (bytes : List ℕ) (rowStore relationStore resultStore : List ℤ) wher
       sym (read-short h)
       ∙ ap (λ r. kept (afterRead r [] [] .result .refusal) rowStore relationStore resultStore) e
       ∙ ap (λ b. kept (cond b (filled x [] []) (unread 1 [] []) .result .refusal) rowStore relationStore resultStore)
-      (and-false (leb (x .sizes .m * rowLength) 0))
+      (and-false (leb (equations (x .sizes) * rowLength) 0))
 
   pub short-fault : (n : ℕ) → readSheet bytes ≡ fault n → length resultStore < resultNeed
       → exportRead bytes rowStore relationStore resultStore ≡ kept n rowStore relationStore resultStore
@@ -138,5 +138,5 @@ read-small bytes rowStore relationStore same = subst (λ c. SmallRead (c .result
     by-lengths x rest false e = read-zeros 1
 
     by-sheet : (r : Read Sheet) → readSheet bytes ≡ r → SmallRead (afterRead r rowStore relationStore .result)
-    by-sheet (got x rest) e = by-lengths x rest (lengthsRight (x .sizes .m) rowStore relationStore) e
+    by-sheet (got x rest) e = by-lengths x rest (lengthsRight (equations (x .sizes)) rowStore relationStore) e
     by-sheet (fault n) e = read-zeros n

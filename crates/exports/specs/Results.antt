@@ -32,7 +32,7 @@ use mir.Facts.{toZ-ofZ, toZ-pos}
 use Rattle.rules.specs.Limits.{rowLength}
 use Rattle.integers.specs.Ranges.{sfits-size}
 use Rattle.rules.specs.Rows.{All}
-use Rattle.rules.specs.Stores.{Sizes, sizesRight, countRight, lengthsRight, numbersRight, rowNeed, checkStores}
+use Rattle.rules.specs.Stores.{Sizes, equations, sizesRight, countRight, lengthsRight, numbersRight, rowNeed, checkStores}
 use Rattle.rules.specs.Calls.{overwrite, padTo}
 
 pub record Exported : Type 0 where
@@ -79,7 +79,7 @@ pub none-checked : (z : Sizes) (count : ℕ) → checkStores z count [] [] ≡ c
 unfolding checkStores lengthsRight rowNeed
 none-checked z count =
     ap (λ b. cond (sizesRight z && countRight count) (cond b (cond (numbersRight z count [] []) 0 5) 1) 2)
-    (and-false (leb (z .m * rowLength) 0))
+    (and-false (leb (equations z * rowLength) 0))
 
 pub all-padTo : {A : Type 0} (P : A → Type 0) (n : ℕ) (v : A) (l : List A) → P v → All P l → All P (padTo n v l)
 unfolding padTo All

@@ -27,7 +27,7 @@ use lib.ListN.{length}
 use Rattle.rules.specs.Limits.{columnCount}
 use Rattle.rules.specs.Rows.{All}
 use Rattle.rules.specs.Elimination.{Side, State, Outcome, going, done, refused, wholeRun, neverNumber}
-use Rattle.rules.specs.Stores.{Sizes, Valid, span, rowsOf, relationsOf, sizesRight, countRight, lengthsRight, numbersRight, checkStores}
+use Rattle.rules.specs.Stores.{Sizes, equations, Valid, span, rowsOf, relationsOf, sizesRight, countRight, lengthsRight, numbersRight, checkStores}
 use Rattle.rules.specs.Lists.{all-map, getD-all}
 use Rattle.rules.specs.Layout.{SizeBounds, size-bounds, checkStores-order, stores-valid, countRight-iff, block-place, length-padTo}
 use Rattle.theory.specs.Demands.{Accepted, Ended, accepted, six, seven, eight, nine, run-ends, shifts-bounded, output-valid, diagonal-nonzero}
@@ -45,7 +45,7 @@ unfoldable pub checkRun : Sizes → ℕ → List ℤ → List ℤ → List ℤ �
 unfolding sizesRight countRight lengthsRight numbersRight
 checkRun z count rowStore relationStore resultStore =
     let numbers : ℕ = cond (numbersRight z count rowStore relationStore) 0 5 in
-    let lengths : ℕ = cond (lengthsRight (z .m) rowStore relationStore && leb resultNeed (length resultStore)) numbers 1 in
+    let lengths : ℕ = cond (lengthsRight (equations z) rowStore relationStore && leb resultNeed (length resultStore)) numbers 1 in
     cond (sizesRight z && countRight count) lengths 2
 
 -- An acceptance, or a refusal 6 to 9, which makes the eight numbers of the result zero (SCOPE 3.54, 6.31).
@@ -132,7 +132,7 @@ run-zeros n = record { few-relations = zero-le; few-shifts = zero-le; four = ref
 
 module _ (side : Side) (z : Sizes) (count : ℕ) (rowStore relationStore : List ℤ) where
   abbrev outcome : Outcome
-  outcome = wholeRun side (span z) (rowsOf (z .m) rowStore) (relationsOf count relationStore)
+  outcome = wholeRun side (span z) (rowsOf (equations z) rowStore) (relationsOf count relationStore)
 
   unchecked : (n : ℕ) → checkStores z count rowStore relationStore ≡ suc n
       → callRun side z count rowStore relationStore ≡ unchanged (suc n) rowStore relationStore
@@ -146,7 +146,7 @@ module _ (side : Side) (z : Sizes) (count : ℕ) (rowStore relationStore : List 
 
   -- The checks passed.
   module _ (e : checkStores z count rowStore relationStore ≡ 0) where
-    valid : Valid z (rowsOf (z .m) rowStore) (relationsOf count relationStore)
+    valid : Valid z (rowsOf (equations z) rowStore) (relationsOf count relationStore)
     valid = stores-valid z count rowStore relationStore e
 
     bounds : SizeBounds z
@@ -162,7 +162,7 @@ module _ (side : Side) (z : Sizes) (count : ℕ) (rowStore relationStore : List 
           columns = all-padTo (λ c. c ≤ 4) 4 0 (map suc (s .order)) zero-le (all-map (λ c. c ≤ 4) suc (s .order) .1 below);
         }
       where
-        a : Accepted side z (rowsOf (z .m) rowStore) (relationsOf count relationStore) s
+        a : Accepted side z (rowsOf (equations z) rowStore) (relationsOf count relationStore) s
         a = record { valid = valid; accepts = f }
 
         few-blocks : span z ≤ 4
@@ -207,9 +207,9 @@ module _ (side : Side) (z : Sizes) (count : ℕ) (rowStore relationStore : List 
         ap (λ n. kept n rowStore relationStore resultStore) (none-checked z count) ∙ refused-short (sizesRight z && countRight count)
         ∙ ap (afterRunCheck side z count rowStore relationStore resultStore)
         (sym
-        (ap (λ b. cond (sizesRight z && countRight count) (cond (lengthsRight (z .m) rowStore relationStore && b) (cond (numbersRight z count rowStore relationStore) 0 5) 1) 2)
+        (ap (λ b. cond (sizesRight z && countRight count) (cond (lengthsRight (equations z) rowStore relationStore && b) (cond (numbersRight z count rowStore relationStore) 0 5) 1) 2)
         (lt-leb resultNeed (length resultStore) h)
-        ∙ short-check (sizesRight z && countRight count) (lengthsRight (z .m) rowStore relationStore) (numbersRight z count rowStore relationStore)))
+        ∙ short-check (sizesRight z && countRight count) (lengthsRight (equations z) rowStore relationStore) (numbersRight z count rowStore relationStore)))
       where
         refused-short : (s : Bool) → kept (cond s 1 2) rowStore relationStore resultStore
             ≡ afterRunCheck side z count rowStore relationStore resultStore (cond s 1 2)
@@ -220,9 +220,9 @@ module _ (side : Side) (z : Sizes) (count : ℕ) (rowStore relationStore : List 
         → checkRun z count rowStore relationStore resultStore ≡ checkStores z count rowStore relationStore
     unfolding checkRun checkStores
     long-checked h =
-        ap (λ b. cond (sizesRight z && countRight count) (cond (lengthsRight (z .m) rowStore relationStore && b) (cond (numbersRight z count rowStore relationStore) 0 5) 1) 2)
+        ap (λ b. cond (sizesRight z && countRight count) (cond (lengthsRight (equations z) rowStore relationStore && b) (cond (numbersRight z count rowStore relationStore) 0 5) 1) 2)
         (le-leb resultNeed (length resultStore) h)
-        ∙ long-check (sizesRight z && countRight count) (lengthsRight (z .m) rowStore relationStore) (numbersRight z count rowStore relationStore)
+        ∙ long-check (sizesRight z && countRight count) (lengthsRight (equations z) rowStore relationStore) (numbersRight z count rowStore relationStore)
 
     run-long : resultNeed ≤ length resultStore
         → runAfter (callRun side z count rowStore relationStore) resultStore ≡ exportRun side z count rowStore relationStore resultStore
@@ -237,7 +237,7 @@ module _ (side : Side) (z : Sizes) (count : ℕ) (rowStore relationStore : List 
         few : (n : ℕ) → checkStores z count rowStore relationStore ≡ n → n ≤ 5
         few n e =
             subst (λ k. k ≤ 5) (sym (checkStores-order z count rowStore relationStore) ∙ e)
-            (few-checks (sizesRight z && countRight count) (lengthsRight (z .m) rowStore relationStore) (numbersRight z count rowStore relationStore))
+            (few-checks (sizesRight z && countRight count) (lengthsRight (equations z) rowStore relationStore) (numbersRight z count rowStore relationStore))
 
         by-check : (n : ℕ) → checkStores z count rowStore relationStore ≡ n
             → runAfter (callRun side z count rowStore relationStore) resultStore

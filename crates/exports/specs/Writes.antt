@@ -24,7 +24,7 @@ use lib.Signed.{nonNeg, ltZ}
 use lib.ListN.{length, take}
 use Rattle.rules.specs.Limits.{columnCount}
 use Rattle.rules.specs.Rows.{every}
-use Rattle.rules.specs.Stores.{Sizes, sizesRight, countRight, lengthsRight, numbersRight, checkStores}
+use Rattle.rules.specs.Stores.{Sizes, equations, sizesRight, countRight, lengthsRight, numbersRight, checkStores}
 use Rattle.rules.specs.Calls.{overwrite}
 use Rattle.rules.specs.Sheets.{writeSheet}
 use Rattle.rules.specs.SheetCalls.{WriteCall, orderRight, checkWrite, sheetOf, unwritten, written, afterWriteCheck, writeCall}
@@ -59,7 +59,7 @@ unfoldable pub checkOrdered : Sizes → ℕ → List ℤ → List ℤ → List �
 unfolding sizesRight countRight orderStoreRight lengthsRight numbersRight
 checkOrdered z count orderStore rowStore relationStore resultStore =
     let lengths : Bool =
-    lengthsRight (z .m) rowStore relationStore && leb columnCount (length orderStore) && leb 1 (length resultStore) in
+    lengthsRight (equations z) rowStore relationStore && leb columnCount (length orderStore) && leb 1 (length resultStore) in
     cond (sizesRight z && countRight count && orderStoreRight (z .m) orderStore)
     (cond lengths (cond (numbersRight z count rowStore relationStore) 0 5) 1) 2
 
@@ -136,7 +136,7 @@ module _ (z : Sizes) (count : ℕ) (orderStore rowStore relationStore : List ℤ
   sizes = sizesRight z && countRight count
 
   abbrev lengths : Bool
-  lengths = lengthsRight (z .m) rowStore relationStore
+  lengths = lengthsRight (equations z) rowStore relationStore
 
   abbrev numbers : Bool
   numbers = numbersRight z count rowStore relationStore

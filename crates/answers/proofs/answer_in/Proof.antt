@@ -10,7 +10,7 @@ use denote.Ref.{now}
 use lib.IntN.{ℤ}
 use lib.ListN.{length, drop}
 use lib.Seq.{length-take-le}
-use Rattle.rules.specs.Stores.{largestRows, relationNeed, checkStores}
+use Rattle.rules.specs.Stores.{equations, largestRows, relationNeed, checkStores}
 use Rattle.rules.specs.Calls.{Call, zeros}
 use Rattle.rules.specs.SheetCalls.{ReadCall, WriteCall}
 use Rattle.rows.specs.Validity.{sizesOf}
@@ -113,13 +113,14 @@ module _ (c : tie.After-leading-run) where
   abbrev s : tie.Start
   s = start (r e)
 
-  abbrev m : ℕ
-  m = r e .read-own .result .sizes .m
+  -- the number of equations
+  abbrev n : ℕ
+  n = r e .read-own .result .sizes .m
 
-  rest : drop (m * rowLength) (rows (r e)) ≡ drop (m * rowLength) (zeros largestRows)
-  unfolding ReadCalls.callOf resultOf sizesOf
+  rest : drop (n * rowLength) (rows (r e)) ≡ drop (n * rowLength) (zeros largestRows)
+  unfolding equations ReadCalls.callOf resultOf sizesOf
   rest =
-      read-rest (bytes s) (rows₀ s) (relations₀ s) (readBy (r e)) (r e .read-own .ensures) ∙ ap (drop (m * rowLength)) (s .pre .0)
+      read-rest (bytes s) (rows₀ s) (relations₀ s) (readBy (r e)) (r e .read-own .ensures) ∙ ap (drop (n * rowLength)) (s .pre .0)
 
   long : length (relations (r e)) ≡ relationNeed
   long = r e .read-own .kept .1 .1 .0 ∙ ap length (s .pre .1) ∙ length-zeros relationNeed
@@ -193,12 +194,12 @@ module _ (c : tie.After-write-checked) where
   left = used d (f .if2 .left)
 
 mul-clear : tie.Need-mul-clear
-unfolding sizesOf
-mul-clear c = omega (arith, left (c .before .before .before .before) .unknowns)
+unfolding equations sizesOf
+mul-clear c = omega (arith, left (c .before .before .before .before) .few-rows)
 
 clear-requires : tie.Need-clear-requires
-unfolding sizesOf
-clear-requires c κs = let w = c .before .before .before .before in omega (arith, left w .unknowns, rows-after (d w))
+unfolding equations sizesOf
+clear-requires c κs = let w = c .before .before .before .before in omega (arith, left w .few-rows, rows-after (d w))
 
 mul-clear-2 : tie.Need-mul-clear-2
 unfolding CallLaws.callOf CallLaws.resultOf
@@ -216,10 +217,10 @@ module _ (c : tie.After-relations3) where
   w = c .before .before .before .before .before .before .before .before .before .before
 
   rows-back : c .before .before .before .before .before .clear .last .0 ≡ rows₀ (s (d w))
-  unfolding sizesOf CallLaws.callOf CallLaws.resultOf
+  unfolding equations sizesOf CallLaws.callOf CallLaws.resultOf
   rows-back =
       c .before .before .before .before .before .clear .ensures
-      ∙ zero-again (m (d w) * rowLength) largestRows _ (omega (arith, left w .unknowns)) (left w .rows-rest)
+      ∙ zero-again (n (d w) * rowLength) largestRows _ (omega (arith, left w .few-rows)) (left w .rows-rest)
       ∙ sym (s (d w) .pre .0)
 
   relations-back : c .before .clear2 .last .0 ≡ relations₀ (s (d w))

@@ -13,7 +13,7 @@ use lib.ListN.{length}
 use borrow.Author.Needs.{needs}
 use borrow.Author.Tests.{not-true, not-false, le-leb, lt-leb}
 use Rattle.rules.specs.Calls.{placeRight, polynomialCheck}
-use Rattle.rules.specs.Stores.{Sizes, rowNeed, sizesRight}
+use Rattle.rules.specs.Stores.{Sizes, equations, rowNeed, sizesRight}
 use Rattle.rules.specs.Layout.{size-bounds}
 use Rattle.rows.specs.Validity.{sizesOf, true-T}
 use Rattle.elimination.proofs.check_polynomial.Statement.{statement}
@@ -22,7 +22,7 @@ use Rattle.elimination.proofs.check_polynomial.Tie as tie
 -- what the call gives, by its three tests
 module _ (l : List ℤ) (z : Sizes) (row : ℕ) (block : ℤ) (column : ℕ) where
   abbrev long : ℕ
-  long = cond (leb (rowNeed (z .m)) (length l)) 0 1
+  long = cond (leb (rowNeed (equations z)) (length l)) 0 1
 
   sizes-failed : sizesRight z ≡ false → 2 ≡ polynomialCheck l z row block column
   unfolding polynomialCheck
@@ -55,7 +55,7 @@ tested : (c : tie.Else2)
     → let args = c .before .before .before .before .args in
     cond (leb (rowNeed (args .sizes .m)) (length (now (args .rows)))) 0 1
     ≡ polynomialCheck (now (args .rows)) (sizesOf (args .sizes)) (args .row) (args .block) (args .column)
-unfolding sizesOf
+unfolding equations sizesOf
 tested c =
     let args = c .before .before .before .before .args in
     both-passed (now (args .rows)) (sizesOf (args .sizes)) (args .row) (args .block) (args .column)

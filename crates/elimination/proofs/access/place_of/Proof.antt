@@ -10,7 +10,7 @@ use mir.Val.{SFits, ofZ, toZ}
 use mir.Facts.{toZ-ofZ, fits-natAbs}
 use borrow.Author.Needs.{sfits-of}
 use Rattle.integers.specs.Ranges.{sfits-size}
-use Rattle.rules.specs.Layout.{SizeBounds, size-bounds, PlaceBounds, place-bounds, block-place}
+use Rattle.rules.specs.Layout.{SizeBounds, size-bounds, equations-few, PlaceBounds, place-bounds, block-place}
 use Rattle.rules.specs.Calls.{polynomialPlace}
 use Rattle.rows.specs.Validity.{sizesOf, difference-nonneg}
 use Rattle.elimination.proofs.access.place_of.Statement.{statement}
@@ -35,7 +35,7 @@ module _ (c : tie.After-struct-told) where
 
   few : (c .before .args .row ≤ 4) × (c .before .args .column ≤ 4)
   unfolding sizesOf
-  few = omega (arith, bounds .few, place .row-high, place .column-high)
+  few = omega (arith, bounds .few, equations-few _ bounds, place .row-high, place .column-high)
 
   fits : SFits w64 above
   fits = let small : natAbs above ≤ 4 = omega (arith, near) in sfits-size above small (lit< tt)

@@ -8,6 +8,7 @@ use lib.Dec.{leb}
 use lib.Signed.{leZ}
 use mir.Syntax.{w64}
 use mir.Facts.{toZ-ofZ}
+use Rattle.rules.specs.Stores.{equations}
 use Rattle.rules.specs.Calls.{placeRight}
 use Rattle.rows.specs.declared.validity.Sizes.{Sizes}
 use Rattle.rows.specs.Validity.{sizesOf, first-failed, second-failed, both-passed}
@@ -38,21 +39,21 @@ module _ (c : tie.After-between) where
       at (c .between .ensures)
 
 returns : tie.Need-returns
-unfolding placeRight sizesOf
+unfolding placeRight equations sizesOf
 returns c = first-failed _ _ _ (sym (c .before .counted .ensures) ∙ not-true _ (c .if1 .taken))
 
 between-requires : tie.Need-between-requires
 between-requires c κs = search needs
 
 returns-2 : tie.Need-returns-2
-unfolding placeRight sizesOf
+unfolding placeRight equations sizesOf
 returns-2 c = second-failed _ _ _ (row-passed (c .before)) (sym (tested (c .before)) ∙ not-true _ (c .if2 .taken))
 
 counted-requires-2 : tie.Need-counted-requires-2
 counted-requires-2 c κs = search needs
 
 returns-3 : tie.Need-returns-3
-unfolding placeRight sizesOf
+unfolding placeRight equations sizesOf
 returns-3 c =
     let block-passed = sym (tested (c .before .before)) ∙ not-false _ (c .before .if2 .left) in
     c .counted2 .ensures ∙ both-passed _ _ _ (row-passed (c .before .before)) block-passed
