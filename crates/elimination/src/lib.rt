@@ -1,6 +1,7 @@
 // The public runs on lent stores, `run_leading` and `run_trailing`, and the access to one polynomial of a row store: no
 // `requires`, and contracts that give the result and each lent store by equations with `rules` (SCOPE 9.1, 9.2).
 use rows::lengths::ROW;
+use sides::Side;
 ghost use mathlib.Core.Path.{_≡_};
 ghost use Rattle.rules.specs.Elimination.{leading, trailing};
 ghost use Rattle.rules.specs.Calls.{callRun, polynomialCheck, polynomialPart};
@@ -20,7 +21,7 @@ pub fn run_leading(
     ensures { λ r. ⌜ callOf r (now (rows .exit)) (now (relations .exit))
         ≡ callRun leading (sizesOf sizes) count (now (rows .entry)) (now (relations .entry)) ⌝ }
 {
-    runs::called(rows, relations, sizes, count, false)
+    runs::called(rows, relations, sizes, count, Side::Leading)
 }
 
 pub fn run_trailing(
@@ -32,7 +33,7 @@ pub fn run_trailing(
     ensures { λ r. ⌜ callOf r (now (rows .exit)) (now (relations .exit))
         ≡ callRun trailing (sizesOf sizes) count (now (rows .entry)) (now (relations .entry)) ⌝ }
 {
-    runs::called(rows, relations, sizes, count, true)
+    runs::called(rows, relations, sizes, count, Side::Trailing)
 }
 
 // 2 where a size or the place is out of its range, otherwise 1 where the store is too short for m rows, otherwise 0

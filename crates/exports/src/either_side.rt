@@ -1,4 +1,5 @@
 // The result of a run as numbers of a lent store.
+use sides::Side;
 ghost use mathlib.Core.Path.{_≡_};
 ghost use Prim.Native.Nat.{_≤_};
 ghost use lib.ListN.{length};
@@ -41,15 +42,15 @@ fn run(
     relations: &mut [i64],
     sizes: rows::validity::Sizes,
     count: usize,
-    trailing: bool,
+    side: Side,
 ) -> elimination::RunResult
     ensures { λ r. ⌜ callOf r (now (rows .exit)) (now (relations .exit))
-        ≡ callRun (sideOf trailing) (sizesOf sizes) count (now (rows .entry)) (now (relations .entry)) ⌝ }
+        ≡ callRun (sideOf side) (sizesOf sizes) count (now (rows .entry)) (now (relations .entry)) ⌝ }
 {
-    if trailing {
-        return elimination::run_trailing(rows, relations, sizes, count);
+    match side {
+        Side::Leading => elimination::run_leading(rows, relations, sizes, count),
+        Side::Trailing => elimination::run_trailing(rows, relations, sizes, count),
     }
-    elimination::run_leading(rows, relations, sizes, count)
 }
 
 // The exported run of a side. A result store that is too short is refused with the other lengths, so as stores that
@@ -60,16 +61,16 @@ pub(crate) fn exported(
     sizes: rows::validity::Sizes,
     count: usize,
     result: &mut [i64],
-    trailing: bool,
+    side: Side,
 ) -> u8
     ensures { λ r. ⌜
         record { refusal = r; rowStore = now (rows .exit); relationStore = now (relations .exit); resultStore = now (result .exit) }
-        ≡ exportRun (sideOf trailing) (sizesOf sizes) count (now (rows .entry)) (now (relations .entry)) (now (result .entry)) ⌝ }
+        ≡ exportRun (sideOf side) (sizesOf sizes) count (now (rows .entry)) (now (relations .entry)) (now (result .entry)) ⌝ }
 {
     if result.len() < 8 {
         return rows::validity::check_stores(&rows[..0], &relations[..0], sizes, count);
     }
-    let answer = run(rows, relations, sizes, count, trailing);
+    let answer = run(rows, relations, sizes, count, side);
     put_run(result, answer);
     answer.refusal
 }

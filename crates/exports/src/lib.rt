@@ -1,6 +1,7 @@
 // The entry points for programs in C and other languages, by plain names: the public calls of `elimination` and
 // `sheets`, and the whole batch of `batches`, the fields of whose results are numbers of a lent store. No `requires`,
 // and contracts that give the refusal and every lent store by equations (SCOPE 3.51, 9.1, 9.2).
+use sides::Side;
 ghost use mathlib.Core.Path.{_≡_};
 ghost use Rattle.rules.specs.Elimination.{leading, trailing};
 ghost use Rattle.exports.specs.Runs.{exportRun};
@@ -35,7 +36,7 @@ pub extern "C" fn wurgalm_run_leading(
         rows::validity::Sizes { m, l, t },
         count,
         result,
-        false,
+        Side::Leading,
     )
 }
 
@@ -60,7 +61,7 @@ pub extern "C" fn wurgalm_run_trailing(
         rows::validity::Sizes { m, l, t },
         count,
         result,
-        true,
+        Side::Trailing,
     )
 }
 

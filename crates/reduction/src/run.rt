@@ -3,6 +3,7 @@ use crate::step::Outcome;
 use crate::step::Progress;
 use rows::lengths::RELATION;
 use rows::lengths::ROW;
+use sides::Side;
 ghost use mathlib.Core.Path.{_≡_};
 ghost use Prim.Native.Nat.{_+_, _*_, _≤_};
 ghost use Rattle.rules.specs.Stores.{rowNeed};
@@ -32,16 +33,16 @@ fn start(count: usize) -> Progress
 }
 
 // Step after step, up to a refusal, or as long as a row is left; the run is done if none is.
-fn steps(rows: &mut [i64], relations: &mut [i64], m: usize, trailing: bool, count: usize) -> Outcome
+fn steps(rows: &mut [i64], relations: &mut [i64], m: usize, side: Side, count: usize) -> Outcome
     requires { ⌜ (m ≤ 4) × Within (rowNeed m) (now rows) × Listing count (now relations) ⌝ }
     ensures { λ r. ⌜ Reached m (now (rows .entry)) (now (relations .entry)) (now (rows .exit)) (now (relations .exit)) mostSteps r
-        (runOf (sideOf trailing) m count (now (rows .entry)) (now (relations .entry))) ⌝ }
+        (runOf (sideOf side) m count (now (rows .entry)) (now (relations .entry))) ⌝ }
 {
     let mut p = start(count);
     let mut refusal: u8 = 0;
     let mut left = enough(m);
     while 0 < left && refusal == 0 && p.settled < m {
-        let o = crate::step::step(rows, relations, m, trailing, p);
+        let o = crate::step::step(rows, relations, m, side, p);
         refusal = o.refusal;
         p = o.progress;
         left -= 1;
@@ -54,23 +55,17 @@ fn steps(rows: &mut [i64], relations: &mut [i64], m: usize, trailing: bool, coun
 }
 
 // A refused run leaves zeros (SCOPE 6.33). The relation places past those that are listed hold 0 already.
-pub fn run(
-    rows: &mut [i64],
-    relations: &mut [i64],
-    m: usize,
-    trailing: bool,
-    count: usize,
-) -> Outcome
+pub fn run(rows: &mut [i64], relations: &mut [i64], m: usize, side: Side, count: usize) -> Outcome
     requires { ⌜ (m ≤ 4) × Within (rowNeed m) (now rows) × Listing count (now relations) ⌝ }
-    ensures { λ r. ⌜ r ≡ answerFor (runOf (sideOf trailing) m count (now (rows .entry)) (now (relations .entry))) ⌝ }
+    ensures { λ r. ⌜ r ≡ answerFor (runOf (sideOf side) m count (now (rows .entry)) (now (relations .entry))) ⌝ }
     ensures { λ _. ⌜ now (rows .exit)
-        ≡ rowsAfter m (runOf (sideOf trailing) m count (now (rows .entry)) (now (relations .entry))) (now (rows .entry)) ⌝ }
+        ≡ rowsAfter m (runOf (sideOf side) m count (now (rows .entry)) (now (relations .entry))) (now (rows .entry)) ⌝ }
     ensures { λ _. ⌜ now (relations .exit)
-        ≡ relationsAfter (runOf (sideOf trailing) m count (now (rows .entry)) (now (relations .entry))) (now (relations .entry)) ⌝ }
+        ≡ relationsAfter (runOf (sideOf side) m count (now (rows .entry)) (now (relations .entry))) (now (relations .entry)) ⌝ }
     ensures { λ r. ⌜ Reached m (now (rows .entry)) (now (relations .entry)) (now (rows .exit)) (now (relations .exit)) mostSteps r
-        (runOf (sideOf trailing) m count (now (rows .entry)) (now (relations .entry))) ⌝ }
+        (runOf (sideOf side) m count (now (rows .entry)) (now (relations .entry))) ⌝ }
 {
-    let o = steps(rows, relations, m, trailing, count);
+    let o = steps(rows, relations, m, side, count);
     let refusal = o.refusal;
     if refusal == 0 {
         return o;

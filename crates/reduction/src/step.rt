@@ -1,5 +1,6 @@
 // One step of the elimination over the lent stores: what `step` of `rules` says of the state that the stores hold.
 use rows::lengths::ROW;
+use sides::Side;
 ghost use mathlib.Core.Path.{_≡_};
 ghost use mathlib.Core.Bool.{false, not};
 ghost use mathlib.Core.List.{_++_};
@@ -134,14 +135,14 @@ fn combine_step(
     rows: &mut [i64],
     relations: &mut [i64],
     m: usize,
-    trailing: bool,
+    side: Side,
     j: usize,
     p: Progress,
 ) -> Outcome
     requires { ⌜ Ready m (now rows) (now relations) p × (p .settled < m) × (j < p .settled) ⌝ }
     requires { ⌜ T (not (isZero (metEntries (now rows) p j))) ⌝ }
     ensures { λ r. ⌜ Reached m (now (rows .entry)) (now (relations .entry)) (now (rows .exit)) (now (relations .exit)) (p .shifts + 1) r
-        (Elimination.combineStep (sideOf trailing) (stateOf m (now (rows .entry)) (now (relations .entry)) p) (p .settled) j
+        (Elimination.combineStep (sideOf side) (stateOf m (now (rows .entry)) (now (relations .entry)) p) (p .settled) j
         (Elimination.multipliersAt (stateOf m (now (rows .entry)) (now (relations .entry)) p) (p .settled) j)) ⌝ }
     ensures { λ r. ⌜ r .done ≡ false ⌝ }
 {
@@ -157,7 +158,7 @@ fn combine_step(
     if 16 < count {
         return answer(9, p);
     }
-    sides::listing::list_roots(relations, p.count, found, trailing, target);
+    sides::listing::list_roots(relations, p.count, found, side, target);
     let next = Progress {
         settled: i,
         order,
@@ -178,12 +179,12 @@ pub(crate) fn step(
     rows: &mut [i64],
     relations: &mut [i64],
     m: usize,
-    trailing: bool,
+    side: Side,
     p: Progress,
 ) -> Outcome
     requires { ⌜ Ready m (now rows) (now relations) p × (p .settled < m) × (p .shifts < 2 ^ 32) ⌝ }
     ensures { λ r. ⌜ Reached m (now (rows .entry)) (now (relations .entry)) (now (rows .exit)) (now (relations .exit)) (p .shifts + 1) r
-        (Elimination.step (sideOf trailing) (stateOf m (now (rows .entry)) (now (relations .entry)) p)) ⌝ }
+        (Elimination.step (sideOf side) (stateOf m (now (rows .entry)) (now (relations .entry)) p)) ⌝ }
     ensures { λ r. ⌜ r .done ≡ false ⌝ }
 {
     let i = p.settled;
@@ -195,7 +196,7 @@ pub(crate) fn step(
     let j = working::entries::first_met(row, order, i);
     if j < i {
         narrow_first(rows, i, j);
-        return combine_step(rows, relations, m, trailing, j, p);
+        return combine_step(rows, relations, m, side, j, p);
     }
     let c = working::entries::first_column(row);
     if c < 4 {

@@ -1,5 +1,6 @@
 // A run on stores: their checks, the run on the side asked for, and what it leaves in them and gives back. `elimination` has the public
 // entry points.
+use sides::Side;
 ghost use mathlib.Core.Path.{_≡_};
 ghost use mathlib.Core.List.{List};
 ghost use Prim.Native.Nat.{_≤_};
@@ -61,15 +62,15 @@ fn accepted(
     rows: &[i64],
     m: usize,
     span: usize,
-    trailing: bool,
+    side: Side,
     p: reduction::step::Progress,
 ) -> RunResult
     requires { ⌜ (m ≤ 4) × (span ≤ 4) × Within (rowNeed m) (now rows) × (p .settled ≡ m) × Columns (p .order) ⌝ }
     ensures { λ r. ⌜ ((relations : List ℤ)
-        → resultOf r ≡ Calls.acceptance (sideOf trailing) span (stateOf m (now (rows .entry)) relations p)) ⌝ }
+        → resultOf r ≡ Calls.acceptance (sideOf side) span (stateOf m (now (rows .entry)) relations p)) ⌝ }
 {
     let order = p.order;
-    let answer = sides::report::report(rows, m, order, trailing, span);
+    let answer = sides::report::report(rows, m, order, side, span);
     RunResult {
         refusal: 0,
         relations: p.count,
@@ -94,7 +95,7 @@ fn trailing_run(
 {
     sides::mirror::mirror_rows(rows, m, span);
     sides::mirror::mirror_relations(relations, count, span);
-    let o = reduction::run::run(rows, relations, m, true, count);
+    let o = reduction::run::run(rows, relations, m, Side::Trailing, count);
     let refusal = o.refusal;
     if refusal != 0 {
         return o;
@@ -110,17 +111,16 @@ fn whole_run(
     relations: &mut [i64],
     m: usize,
     span: usize,
-    trailing: bool,
+    side: Side,
     count: usize,
 ) -> reduction::step::Outcome
     requires { ⌜ (m ≤ 4) × (span ≤ 4) × Within (rowNeed m) (now rows) × Listing count (now relations) ⌝ }
     ensures { λ r. ⌜ Ran m (now (rows .entry)) (now (relations .entry)) (now (rows .exit)) (now (relations .exit)) r
-        (Elimination.wholeRun (sideOf trailing) span (rowsOf m (now (rows .entry))) (relationsOf count (now (relations .entry)))) ⌝ }
+        (Elimination.wholeRun (sideOf side) span (rowsOf m (now (rows .entry))) (relationsOf count (now (relations .entry)))) ⌝ }
 {
-    if trailing {
-        trailing_run(rows, relations, m, span, count)
-    } else {
-        reduction::run::run(rows, relations, m, false, count)
+    match side {
+        Side::Leading => reduction::run::run(rows, relations, m, Side::Leading, count),
+        Side::Trailing => trailing_run(rows, relations, m, span, count),
     }
 }
 
@@ -129,12 +129,12 @@ fn whole_run(
 fn ended(
     rows: &[i64],
     sizes: rows::validity::Sizes,
-    trailing: bool,
+    side: Side,
     o: reduction::step::Outcome,
 ) -> RunResult
     requires { ⌜ T (sizesRight (sizesOf sizes)) × Final (sizes .m) (now rows) o ⌝ }
     ensures { λ r. ⌜ ((relations : List ℤ)
-        → resultOf r ≡ resultAfter (sideOf trailing) (span (sizesOf sizes)) (outcomeAt (sizes .m) (now (rows .entry)) relations o)) ⌝ }
+        → resultOf r ≡ resultAfter (sideOf side) (span (sizesOf sizes)) (outcomeAt (sizes .m) (now (rows .entry)) relations o)) ⌝ }
 {
     let refusal = o.refusal;
     if refusal != 0 {
@@ -142,7 +142,7 @@ fn ended(
     }
     let m = sizes.m;
     let p = o.progress;
-    accepted(rows, m, rows::validity::span(sizes), trailing, p)
+    accepted(rows, m, rows::validity::span(sizes), side, p)
 }
 
 // A run on stores that pass the checks, and what it leaves.
@@ -151,16 +151,16 @@ fn checked_run(
     relations: &mut [i64],
     sizes: rows::validity::Sizes,
     count: usize,
-    trailing: bool,
+    side: Side,
 ) -> RunResult
     requires { ⌜ checkStores (sizesOf sizes) count (now rows) (now relations) ≡ 0 ⌝ }
     ensures { λ r. ⌜ callOf r (now (rows .exit)) (now (relations .exit))
-        ≡ Calls.callRun (sideOf trailing) (sizesOf sizes) count (now (rows .entry)) (now (relations .entry)) ⌝ }
+        ≡ Calls.callRun (sideOf side) (sizesOf sizes) count (now (rows .entry)) (now (relations .entry)) ⌝ }
 {
     let m = sizes.m;
     let span = rows::validity::span(sizes);
-    let o = whole_run(rows, relations, m, span, trailing, count);
-    ended(rows, sizes, trailing, o)
+    let o = whole_run(rows, relations, m, span, side, count);
+    ended(rows, sizes, side, o)
 }
 
 // The same on the leading side.
@@ -174,7 +174,7 @@ pub fn leading_run(
     ensures { λ r. ⌜ callOf r (now (rows .exit)) (now (relations .exit))
         ≡ Calls.callRun Elimination.leading (sizesOf sizes) count (now (rows .entry)) (now (relations .entry)) ⌝ }
 {
-    checked_run(rows, relations, sizes, count, false)
+    checked_run(rows, relations, sizes, count, Side::Leading)
 }
 
 // A run on lent stores: the checks, and the run (SCOPE 3.21, 3.31).
@@ -183,14 +183,14 @@ pub fn called(
     relations: &mut [i64],
     sizes: rows::validity::Sizes,
     count: usize,
-    trailing: bool,
+    side: Side,
 ) -> RunResult
     ensures { λ r. ⌜ callOf r (now (rows .exit)) (now (relations .exit))
-        ≡ Calls.callRun (sideOf trailing) (sizesOf sizes) count (now (rows .entry)) (now (relations .entry)) ⌝ }
+        ≡ Calls.callRun (sideOf side) (sizesOf sizes) count (now (rows .entry)) (now (relations .entry)) ⌝ }
 {
     let refusal = rows::validity::check_stores(rows, relations, sizes, count);
     if refusal != 0 {
         return refused(refusal);
     }
-    checked_run(rows, relations, sizes, count, trailing)
+    checked_run(rows, relations, sizes, count, side)
 }

@@ -1,13 +1,12 @@
 -- The side of a run, and what is asked of the lent stores.
 --
 -- Main definitions
---   sideOf trailing              the side of a run
+--   sideOf side                  the side of a run, as the rules name it
 --   Within need store            the store is long enough, and its needed part is within ±C
 --   Listing count relations      a relation store in which `count` places are used and the others hold 0
 --   Kept need store store'       the length and the numbers past the needed part are the same
 use Prim.Native.Nat.{ℕ, _*_, _≤_}
 use mathlib.Core.Path.{_≡_}
-use mathlib.Core.Bool.{Bool, true, false}
 use mathlib.Core.List.{List}
 use lib.Dec.{T}
 use lib.IntN.{ℤ}
@@ -17,10 +16,12 @@ use Rattle.rules.specs.Limits.{small, relationLength, mostRelations}
 use Rattle.rules.specs.Rows.{every}
 use Rattle.rules.specs.Elimination.{Side, leading, trailing}
 use Rattle.rules.specs.Stores.{relationNeed}
+use Rattle.sides.specs.declared.Side as declared
+use Rattle.sides.specs.declared.Side.the-variants.{Leading, Trailing}
 
-unfoldable pub sideOf : Bool → Side
-sideOf false = leading
-sideOf true = trailing
+abbrev pub sideOf : declared.Side → Side
+sideOf Leading = leading
+sideOf Trailing = trailing
 
 pub record Within (need : ℕ) (store : List ℤ) : Type 0 where
   pub long : need ≤ length store

@@ -1,4 +1,5 @@
 // Rule 3: relations listed in the relation store.
+use crate::Side;
 use rows::lengths::RELATION;
 use rows::lengths::ROW;
 ghost use mathlib.Core.Path.{_≡_};
@@ -26,16 +27,15 @@ pub fn save_relation(relations: &mut [i64], k: usize, n0: i64, row: [i64; ROW])
 }
 
 // On the trailing side from the largest root down, so that n0 as given back ascends (SCOPE 2.33).
-fn root_at(found: roots::RootList, trailing: bool, k: usize) -> i64
+fn root_at(found: roots::RootList, side: Side, k: usize) -> i64
     requires { ⌜ (k < found .count) × (found .count ≤ 16) × (length (found .values) ≡ 16) ⌝ }
-    ensures { λ r. ⌜ r ≡ getD (listing (sideOf trailing) (held found)) k (pos 0) ⌝ }
+    ensures { λ r. ⌜ r ≡ getD (listing (sideOf side) (held found)) k (pos 0) ⌝ }
 {
     let values = found.values;
     let n = found.count;
-    if trailing {
-        values[n - 1 - k]
-    } else {
-        values[k]
+    match side {
+        Side::Leading => values[k],
+        Side::Trailing => values[n - 1 - k],
     }
 }
 
@@ -44,17 +44,17 @@ pub fn list_roots(
     relations: &mut [i64],
     count: usize,
     found: roots::RootList,
-    trailing: bool,
+    side: Side,
     row: [i64; ROW],
 )
     requires { ⌜ Listing count (now relations) × (count + found .count ≤ 16) × (length (found .values) ≡ 16) ⌝ }
     requires { ⌜ T (every small (held found)) × T (every small row) ⌝ }
-    ensures { λ _. ⌜ Relisted count row (listing (sideOf trailing) (held found)) (now (relations .entry)) (now (relations .exit)) ⌝ }
+    ensures { λ _. ⌜ Relisted count row (listing (sideOf side) (held found)) (now (relations .entry)) (now (relations .exit)) ⌝ }
 {
     let n = found.count;
     let mut k = 0;
     while k < n {
-        save_relation(relations, count + k, root_at(found, trailing, k), row);
+        save_relation(relations, count + k, root_at(found, side, k), row);
         k += 1;
     }
 }

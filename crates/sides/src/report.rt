@@ -1,4 +1,5 @@
 // The root report over the rows of a store.
+use crate::Side;
 use rows::lengths::ROW;
 ghost use mathlib.Core.Path.{_≡_};
 ghost use Prim.Native.Nat.{_≤_};
@@ -15,22 +16,25 @@ ghost use Rattle.sides.specs.Lent.{sideOf, Within};
 ghost use Rattle.sides.specs.ReportLaws.{isBeyond, furtherOf, optionOf, settledState};
 
 // Of two roots, is b the one to be taken: the larger or, on the trailing side, the smaller?
-fn is_beyond(a: i64, b: i64, trailing: bool) -> bool
-    ensures { λ r. ⌜ r ≡ isBeyond (sideOf trailing) a b ⌝ }
+fn is_beyond(a: i64, b: i64, side: Side) -> bool
+    ensures { λ r. ⌜ r ≡ isBeyond (sideOf side) a b ⌝ }
 {
-    if trailing { !(a <= b) } else { a <= b }
+    match side {
+        Side::Leading => a <= b,
+        Side::Trailing => !(a <= b),
+    }
 }
 
 // The further of two answers.
-fn further(a: roots::RootAnswer, b: roots::RootAnswer, trailing: bool) -> roots::RootAnswer
+fn further(a: roots::RootAnswer, b: roots::RootAnswer, side: Side) -> roots::RootAnswer
     requires { ⌜ (a ≡ answered (optionOf a)) × (b ≡ answered (optionOf b)) ⌝ }
-    ensures { λ r. ⌜ r ≡ answered (furtherOf (sideOf trailing) (optionOf a) (optionOf b)) ⌝ }
+    ensures { λ r. ⌜ r ≡ answered (furtherOf (sideOf side) (optionOf a) (optionOf b)) ⌝ }
 {
     if !a.found {
         b
     } else if !b.found {
         a
-    } else if is_beyond(a.root, b.root, trailing) {
+    } else if is_beyond(a.root, b.root, side) {
         b
     } else {
         a
@@ -38,14 +42,13 @@ fn further(a: roots::RootAnswer, b: roots::RootAnswer, trailing: bool) -> roots:
 }
 
 // The largest root of a polynomial, on the trailing side the smallest.
-fn furthest_root(p: &[i64], trailing: bool) -> roots::RootAnswer
+fn furthest_root(p: &[i64], side: Side) -> roots::RootAnswer
     requires { ⌜ (length (now p) ≤ 16) × T (every small (now p)) ⌝ }
-    ensures { λ r. ⌜ r ≡ answered (Elimination.furthest (sideOf trailing) (roots (now (p .entry)))) ⌝ }
+    ensures { λ r. ⌜ r ≡ answered (Elimination.furthest (sideOf side) (roots (now (p .entry)))) ⌝ }
 {
-    if trailing {
-        roots::smallest_root(p)
-    } else {
-        roots::largest_root(p)
+    match side {
+        Side::Leading => roots::largest_root(p),
+        Side::Trailing => roots::smallest_root(p),
     }
 }
 
@@ -55,13 +58,16 @@ pub fn report(
     store: &[i64],
     m: usize,
     order: [usize; 4],
-    trailing: bool,
+    side: Side,
     span: usize,
 ) -> roots::RootAnswer
     requires { ⌜ (m ≤ 4) × (span ≤ 4) × Columns order × Within (rowNeed m) (now store) ⌝ }
-    ensures { λ r. ⌜ r ≡ answered (Elimination.report (sideOf trailing) span (settledState m (now (store .entry)) order)) ⌝ }
+    ensures { λ r. ⌜ r ≡ answered (Elimination.report (sideOf side) span (settledState m (now (store .entry)) order)) ⌝ }
 {
-    let block = if trailing { span } else { 0 };
+    let block = match side {
+        Side::Leading => 0,
+        Side::Trailing => span,
+    };
     let mut answer = roots::RootAnswer {
         found: false,
         root: 0,
@@ -70,7 +76,7 @@ pub fn report(
     while j < m {
         let from = j * ROW + block * 64 + order[j] * 16;
         let to = from + 16;
-        answer = further(answer, furthest_root(&store[from..to], trailing), trailing);
+        answer = further(answer, furthest_root(&store[from..to], side), side);
         j += 1;
     }
     answer

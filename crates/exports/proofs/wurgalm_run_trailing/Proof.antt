@@ -5,7 +5,6 @@ use borrow.Author.Needs.{needs}
 use denote.Ref.{now}
 use Rattle.rules.specs.Elimination.{trailing}
 use Rattle.rows.specs.Validity.{sizesOf}
-use Rattle.sides.specs.Lent.{sideOf}
 use Rattle.exports.specs.Results.{sizes-told}
 use Rattle.exports.specs.Runs.{exportRun}
 use Rattle.exports.proofs.wurgalm_run_trailing.Statement.{statement}
@@ -24,7 +23,7 @@ same-length-3 : tie.Need-same-length-3
 same-length-3 c = search needs
 
 returns : tie.Need-returns
-unfolding sideOf sizesOf
+unfolding sizesOf
 returns c =
     let start = c .before .before .before .before .before .before .before in
     let args = start .args in

@@ -24,7 +24,7 @@ same-length-2 c = search needs
 returns : tie.Need-returns
 returns c =
     let s = c .before .before .before .before .before in
-    call-refused (sideOf (s .args .trailing)) (sizesOf (s .args .sizes)) (s .args .count) (now (s .args .rows)) (now (s .args .relations))
+    call-refused (sideOf (s .args .side)) (sizesOf (s .args .sizes)) (s .args .count) (now (s .args .rows)) (now (s .args .relations))
     (c .refused .result) (c .before .before .check-stores .result) (c .before .if1 .taken) (c .before .before .check-stores .ensures)
     (c .refused .ensures)
 

@@ -17,7 +17,7 @@ use Rattle.runs.proofs.checked_run.Tie as tie
 -- the stores before the run
 module _ (c : tie.Start) where
   abbrev side : Side
-  side = sideOf (c .args .trailing)
+  side = sideOf (c .args .side)
 
   abbrev z : Sizes
   z = sizesOf (c .args .sizes)

@@ -21,7 +21,7 @@ returns c =
     let o = s .args .o in
     λ relations.
     let state = stateOf (s .args .sizes .m) (now (s .args .rows)) relations (o .progress) in
-    ended-refused (sideOf (s .args .trailing)) (span (sizesOf (s .args .sizes))) (c .refused .result) state (o .refusal) (o .done)
+    ended-refused (sideOf (s .args .side)) (span (sizesOf (s .args .sizes))) (c .refused .result) state (o .refusal) (o .done)
     (c .before .if1 .taken) (c .refused .ensures)
 
 span-requires : tie.Need-span-requires
@@ -40,7 +40,7 @@ returns-2 : tie.Need-returns-2
 returns-2 c =
     let s = c .before .before .before .before in
     let o = s .args .o in
-    let side = sideOf (s .args .trailing) in
+    let side = sideOf (s .args .side) in
     let none = c .before .before .before .if1 .left in
     λ relations.
     let state = stateOf (s .args .sizes .m) (now (s .args .rows)) relations (o .progress) in

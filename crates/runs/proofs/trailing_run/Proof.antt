@@ -5,7 +5,6 @@ use mathlib.Core.List.{List}
 use denote.Ref.{now}
 use lib.IntN.{ℤ}
 use Rattle.rules.specs.Elimination.{trailing}
-use Rattle.sides.specs.Lent.{sideOf}
 use Rattle.reduction.specs.Ran.{Ran, runOf}
 use Rattle.runs.specs.TrailingLaws.{trailing-refused, trailing-held}
 use Rattle.runs.proofs.trailing_run.Statement.{statement}
@@ -27,7 +26,6 @@ module _ (c : tie.After-run) where
 
   ran : Ran (start .args .m) rows relations (c .run .last .0) (c .run .last .1 .0) (c .run .result)
       (runOf trailing (start .args .m) (start .args .count) rows relations)
-  unfolding sideOf
   ran =
       let ensured = c .run .ensures in
       record { answer = ensured .0; rows-after = ensured .1 .0; relations-after = ensured .1 .1 .0; reached = ensured .1 .1 .1 }

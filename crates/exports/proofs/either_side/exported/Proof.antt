@@ -19,7 +19,7 @@ use Rattle.exports.proofs.either_side.exported.Tie as tie
 -- the call
 module _ (c : tie.Start) where
   abbrev side : Side
-  side = sideOf (c .args .trailing)
+  side = sideOf (c .args .side)
 
   abbrev z : Sizes
   z = sizesOf (c .args .sizes)

@@ -1,18 +1,17 @@
 -- `exports::either_side::run` meets its contract: the run of either side.
 -- Assumes nothing.
-use mathlib.Core.Path.{sym, _∙_, ap}
-use mathlib.Core.Bool.{Bool}
 use borrow.Author.Needs.{needs}
-use denote.Ref.{now}
-use Rattle.rules.specs.Calls.{Call, callRun}
-use Rattle.rows.specs.Validity.{sizesOf}
-use Rattle.sides.specs.Lent.{sideOf}
 use Rattle.exports.proofs.either_side.run.Statement.{statement}
 use Rattle.exports.proofs.either_side.run.Tie as tie
 
--- what the run of the side of b is to give
-abbrev call : tie.Start → Bool → Call
-call c b = callRun (sideOf b) (sizesOf (c .args .sizes)) (c .args .count) (now (c .args .rows)) (now (c .args .relations))
+enum-told : tie.Need-enum-told
+enum-told c = search needs
+
+run-leading-requires : tie.Need-run-leading-requires
+run-leading-requires c κs = search needs
+
+enum-told-2 : tie.Need-enum-told-2
+enum-told-2 c = search needs
 
 run-trailing-requires : tie.Need-run-trailing-requires
 run-trailing-requires c κs = search needs
@@ -24,13 +23,7 @@ same-length-2 : tie.Need-same-length-2
 same-length-2 c = search needs
 
 returns : tie.Need-returns
-unfolding sideOf
-returns c =
-    let tested = c .before .before .before .before .before in
-    c .before .before .run-trailing .ensures ∙ ap (call (tested .before)) (sym (tested .if1 .taken))
-
-run-leading-requires : tie.Need-run-leading-requires
-run-leading-requires c κs = search needs
+returns c = let at = c .before .before in rw (at .before .before .before .enum-told .given .1) (at .run-leading .ensures)
 
 same-length-3 : tie.Need-same-length-3
 same-length-3 c = search needs
@@ -39,20 +32,19 @@ same-length-4 : tie.Need-same-length-4
 same-length-4 c = search needs
 
 returns-2 : tie.Need-returns-2
-unfolding sideOf
-returns-2 c =
-    let tested = c .before .before .before .before .before in
-    c .before .before .run-leading .ensures ∙ ap (call (tested .before)) (sym (tested .if1 .left))
+returns-2 c = let at = c .before .before in rw (at .before .before .before .enum-told2 .given .1) (at .run-trailing .ensures)
 
 pub run-spec : {M : Type 1} → statement M
 run-spec =
     tie.close
     (tie.spec
+    enum-told
+    run-leading-requires
+    enum-told-2
     run-trailing-requires
     same-length
     same-length-2
     returns
-    run-leading-requires
     same-length-3
     same-length-4
     returns-2)

@@ -15,13 +15,13 @@ use Rattle.reduction.proofs.run.steps.Statement.{statement}
 use Rattle.reduction.proofs.run.steps.Tie as tie
 
 abbrev Inv-loop : tie.InvT-loop
-Inv-loop rows₀ relations₀ m trailing count p₀ refusal₀ left₀ rows relations p refusal left =
-    Running (sideOf trailing) m rows₀ relations₀ rows relations refusal p left
-    (Elimination.run (sideOf trailing) (Elimination.enough (rowsOf m rows₀))
+Inv-loop rows₀ relations₀ m side count p₀ refusal₀ left₀ rows relations p refusal left =
+    Running (sideOf side) m rows₀ relations₀ rows relations refusal p left
+    (Elimination.run (sideOf side) (Elimination.enough (rowsOf m rows₀))
     (Elimination.start (rowsOf m rows₀) (relationsOf count relations₀)))
 
 abbrev μ-loop : tie.MeasureT-loop
-μ-loop rows₀ relations₀ m trailing count p₀ refusal₀ left₀ rows relations p refusal left = left
+μ-loop rows₀ relations₀ m side count p₀ refusal₀ left₀ rows relations p refusal left = left
 
 start-requires : tie.Need-start-requires Inv-loop μ-loop
 start-requires c κs = search needs
@@ -34,7 +34,7 @@ loop-holds c =
     let start = c .before .before in
     let args = start .args in
     rw (c .before .start .ensures)
-    (run-starts (sideOf (args .trailing)) (args .m) (args .count) (c .enough .result) (now (args .rows)) (now (args .relations))
+    (run-starts (sideOf (args .side)) (args .m) (args .count) (c .enough .result) (now (args .rows)) (now (args .relations))
     (start .pre .0) (start .pre .1) (start .pre .2) (c .enough .ensures))
 
 -- what the tests of a turn say

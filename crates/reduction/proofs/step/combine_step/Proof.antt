@@ -65,7 +65,7 @@ module _ (c : tie.Start) where
   m = c .args .m
 
   abbrev side : Side
-  side = sideOf (c .args .trailing)
+  side = sideOf (c .args .side)
 
   ready : Ready m rows relations p
   ready = c .pre .0 .0

@@ -49,7 +49,7 @@ module _ (c : tie.Start) where
   m = c .args .m
 
   abbrev side : Side
-  side = sideOf (c .args .trailing)
+  side = sideOf (c .args .side)
 
   abbrev row : Row
   row = rowOf (numbersAt rows i)

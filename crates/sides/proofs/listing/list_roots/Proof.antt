@@ -18,21 +18,21 @@ use Rattle.sides.proofs.listing.list_roots.Statement.{statement}
 use Rattle.sides.proofs.listing.list_roots.Tie as tie
 
 abbrev Inv-loop : tie.InvT-loop
-Inv-loop relations₀ count found trailing row n k₀ relations k =
-    (k ≤ n) × ((n ≡ found .count) × Relisted count row (take k (listing (sideOf trailing) (held found))) relations₀ relations)
+Inv-loop relations₀ count found side row n k₀ relations k =
+    (k ≤ n) × ((n ≡ found .count) × Relisted count row (take k (listing (sideOf side) (held found))) relations₀ relations)
 
 abbrev μ-loop : tie.MeasureT-loop
-μ-loop relations₀ count found trailing row n k₀ relations k = n - k
+μ-loop relations₀ count found side row n k₀ relations k = n - k
 
 -- the roots in the order of the side
 module _ (c : tie.At-loop Inv-loop μ-loop) where
   abbrev listed : List ℤ
-  listed = listing (sideOf (c .before .args .trailing)) (held (c .before .args .found))
+  listed = listing (sideOf (c .before .args .side)) (held (c .before .args .found))
 
   size : length listed ≡ c .before .args .found .count
   size =
       let found = c .before .args .found in
-      length-listing (sideOf (c .before .args .trailing)) (held found) ∙ length-take-le (found .count) (found .values) (omega arith)
+      length-listing (sideOf (c .before .args .side)) (held found) ∙ length-take-le (found .count) (found .values) (omega arith)
 
 loop-holds : tie.Need-loop-holds Inv-loop μ-loop
 loop-holds c = (omega arith, (refl, relisted-none (c .args .count) (c .args .row) (now (c .args .relations)) (c .pre .0 .0)))
@@ -64,7 +64,7 @@ loop-again c =
     let stored =
     c .before .save-relation .ensures
     ∙ ap (λ z. paste (at .loop .relations) ((args .count + k) * relationLength) (z ∷ args .row) relationLength) value in
-    let small-listed = every-listing (sideOf (args .trailing)) small (held (args .found)) (at .before .pre .1 .0) in
+    let small-listed = every-listing (sideOf (args .side)) small (held (args .found)) (at .before .pre .1 .0) in
     let more = relisted-more (args .count) k (args .row) (listed at) (now (args .relations)) (at .loop .relations) (at .loop .inv .1 .1)
     (rw (size at) (omega arith)) (omega arith) (omega arith) (at .before .pre .1 .1) small-listed in
     (omega arith, (refl, rw stored more))

@@ -26,7 +26,7 @@ module _ (c : tie.After-is-beyond) where
   b = start .args .b
 
   abbrev side : Side
-  side = sideOf (start .args .trailing)
+  side = sideOf (start .args .side)
 
   first : a .found ≡ true
   first = not-false _ (c .before .before .before .before .before .if1 .left)
@@ -46,13 +46,13 @@ is-beyond-requires c κs = search needs
 returns : tie.Need-returns
 returns c =
     let s = c .before .before in
-    first-missing (sideOf (s .args .trailing)) (s .args .a) (s .args .b) (not-true _ (c .if1 .taken)) (s .pre .1)
+    first-missing (sideOf (s .args .side)) (s .args .a) (s .args .b) (not-true _ (c .if1 .taken)) (s .pre .1)
 
 returns-2 : tie.Need-returns-2
 returns-2 c =
     let s = c .before .before .before .before in
     let found = not-false _ (c .before .before .if1 .left) in
-    second-missing (sideOf (s .args .trailing)) (s .args .a) (s .args .b) found (not-true _ (c .if2 .taken)) (s .pre .0)
+    second-missing (sideOf (s .args .side)) (s .args .a) (s .args .b) found (not-true _ (c .if2 .taken)) (s .pre .0)
 
 returns-3 : tie.Need-returns-3
 returns-3 c =

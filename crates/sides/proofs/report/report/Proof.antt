@@ -2,11 +2,11 @@
 -- diagonal polynomials.
 -- Assumes nothing.
 use mathlib.Core.Path.{_≡_, sym, _∙_, ap, ap₂}
-use mathlib.Core.Bool.{Bool}
 use mathlib.Core.List.{List}
 use mathlib.Core.Logic.{⊎-elim}
 use Prim.Native.Nat.{ℕ, _+_, _*_, _-_, _≤_}
 use native.Mathlib.Omega.{arith}
+use borrow.Author.Needs.{needs}
 use denote.Ref.{now}
 use lib.Dec.{T}
 use lib.IntN.{ℤ}
@@ -24,12 +24,12 @@ use Rattle.sides.proofs.report.report.Statement.{statement}
 use Rattle.sides.proofs.report.report.Tie as tie
 
 abbrev Inv-loop : tie.InvT-loop
-Inv-loop store m trailing span order block answer₀ j₀ answer j =
-    (block ≡ diagonalPlace (sideOf trailing) span)
-    × ((m ≤ length order) × ((j ≤ m) × (answer ≡ answered (reported (sideOf trailing) span m store order j))))
+Inv-loop store m side span order block answer₀ j₀ answer j =
+    (block ≡ diagonalPlace (sideOf side) span)
+    × ((m ≤ length order) × ((j ≤ m) × (answer ≡ answered (reported (sideOf side) span m store order j))))
 
 abbrev μ-loop : tie.MeasureT-loop
-μ-loop store m trailing span order block answer₀ j₀ answer j = m - j
+μ-loop store m side span order block answer₀ j₀ answer j = m - j
 
 -- diagonal polynomial j
 module _ (c : tie.In-loop Inv-loop μ-loop) where
@@ -37,7 +37,7 @@ module _ (c : tie.In-loop Inv-loop μ-loop) where
   start = c .before .before .before
 
   abbrev side : Side
-  side = sideOf (start .args .trailing)
+  side = sideOf (start .args .side)
 
   abbrev span : ℕ
   span = start .args .span
@@ -55,7 +55,7 @@ module _ (c : tie.In-loop Inv-loop μ-loop) where
   j = c .before .loop .j
 
   abbrev from : ℕ
-  from = j * rowLength + c .before .before .if1 .block * 64 + getD order j 0 * 16
+  from = j * rowLength + c .before .before .match .block * 64 + getD order j 0 * 16
 
   enough : m ≤ length order
   enough = c .before .loop .inv .1 .0
@@ -89,17 +89,22 @@ root c =
     ∙ ap (λ p. answered (furthest (side at) (roots p))) (part at ∙ ap (λ n. take 16 (drop n (store at))) (place at))
 
 -- the block of the diagonal
-block : (c : tie.Joined1 Inv-loop μ-loop) → c .if1 .block ≡ diagonalPlace (sideOf (c .before .args .trailing)) (c .before .args .span)
-unfolding diagonalPlace sideOf
-block c =
-    let at : Bool → ℕ = λ t. diagonalPlace (sideOf t) (c .before .args .span) in
-    ⊎-elim (λ w. w .1 ∙ ap at (sym (w .0 .taken))) (λ w. w .1 ∙ ap at (sym (w .0 .left))) (c .if1 .came)
+block : (c : tie.At-match-came Inv-loop μ-loop)
+    → c .match .block ≡ diagonalPlace (sideOf (c .before .args .side)) (c .before .args .span)
+unfolding diagonalPlace
+block c = ⊎-elim (λ w. rw (w .1 .given .1) (w .2)) (λ w. rw (w .1 .given .1) (w .2)) (c .match .came)
+
+enum-told : tie.Need-enum-told Inv-loop μ-loop
+enum-told c = search needs
+
+enum-told-2 : tie.Need-enum-told-2 Inv-loop μ-loop
+enum-told-2 c = search needs
 
 loop-holds : tie.Need-loop-holds Inv-loop μ-loop
 unfolding rootFound rootValue
 loop-holds c =
     let args = c .before .args in
-    let none = report-none (sideOf (args .trailing)) (args .span) (args .m) (now (args .store)) (args .t3) in
+    let none = report-none (sideOf (args .side)) (args .span) (args .m) (now (args .store)) (args .t3) in
     (block c, (omega arith, (omega arith, ap answered (sym none))))
 
 mul-from : tie.Need-mul-from Inv-loop μ-loop
@@ -165,7 +170,7 @@ returns : tie.Need-returns Inv-loop μ-loop
 returns c =
     let s = c .before .before .before in
     let inv = c .before .loop .inv in
-    let all = report-all (sideOf (s .args .trailing)) (s .args .span) (s .args .m) (now (s .args .store)) (s .args .t3) (inv .1 .0)
+    let all = report-all (sideOf (s .args .side)) (s .args .span) (s .args .m) (now (s .args .store)) (s .args .t3) (inv .1 .0)
     (c .before .loop .j) (c .loop-test .left) in
     inv .1 .1 .1 ∙ ap answered all
 
@@ -175,6 +180,8 @@ report-spec =
     (tie.spec
     Inv-loop
     μ-loop
+    enum-told
+    enum-told-2
     loop-holds
     mul-from
     mul-from-2
