@@ -24,7 +24,7 @@ use lib.ListN.{length, take, drop, getD, length-take, length-drop}
 use lib.Seq.{sets, sets-eq, drop-cons}
 use Rattle.algebra.specs.Order.{≤ℤ-trans, natAbs-≤-iff}
 use Rattle.algebra.specs.Polynomials.{T-&&}
-use Rattle.rules.specs.Limits.{rowLength, relationLength, small}
+use Rattle.rules.specs.Limits.{rowLength, relationLength, mostRelations, blockBound, small}
 use Rattle.rules.specs.Rows.{every, smallRow}
 use Rattle.rules.specs.Stores.{Sizes, span, parts, rowOf, rowsOf, relationOf, relationsOf, relationNeed, rowNeed}
 use Rattle.rules.specs.Stores.{sizesRight, countRight, unusedZero, rowRight, relationRight, checkStores}
@@ -53,10 +53,10 @@ chosen-zero false n = (λ e. absurd (suc-ne-zero 1 e), λ h. absurd (h .0))
 pub record Checked (z : Sizes) (count : ℕ) (rowStore relationStore : List ℤ) : Type 0 where
   pub columns : z .m ≤ 4
   pub rows : z .m * rowLength ≤ length rowStore
-  pub blocks : natAbs (z .l) ≤ 64
-  pub few : count ≤ 16
+  pub blocks : natAbs (z .l) ≤ blockBound
+  pub few : count ≤ mostRelations
   pub relations : count * relationLength ≤ length relationStore
-  pub low : natAbs (z .t) ≤ 64
+  pub low : natAbs (z .t) ≤ blockBound
   pub row-numbers : SmallParts rowLength (z .m) rowStore
   pub relation-numbers : SmallParts relationLength count relationStore
 
