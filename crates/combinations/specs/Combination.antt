@@ -37,12 +37,12 @@ use Rattle.algebra.specs.Coefficients.{coeff-add, coeff-mul, coeff-take, coeff-
 use Rattle.algebra.specs.Coefficients.{degree-lt-length, mul-within}
 use Rattle.polynomials.specs.Content.{Below}
 use Rattle.polynomials.specs.Product.{product-size}
-use Rattle.rules.specs.Limits.{rowLength, small}
+use Rattle.rules.specs.Limits.{coefficientCount, columnCount, polynomialCount, rowLength, small}
 use Rattle.rules.specs.Rows.{Row, All, every, mapRow, coefficientsOf, combine, primitive, lowDegrees, cut}
 use Rattle.rules.specs.Lists.{getD-map, length-flatten, every-flatten}
 use Rattle.rules.specs.Stores.{parts, rowOf, StoreRow}
 use Rattle.rules.specs.Elimination.{within, limitDegrees}
-use Rattle.rules.specs.Layout.{parts-length, parts-width, getD-parts}
+use Rattle.rules.specs.Layout.{coefficientsAt, polynomialsIn, parts-length, parts-width, getD-parts}
 use Rattle.rows.specs.Flat.{polynomialsOf, polynomials-rowOf, polynomials-combine, numbers-mapRow}
 use Rattle.combinations.specs.Primitive.{polynomials-mapRow, degrees-within}
 use Rattle.working.specs.Worked.{Held, held, store-row}
@@ -93,34 +93,37 @@ combined-trim g p h q =
     (mul-same (trim g) g (trim p) p (coeff-trim g) (coeff-trim p)) (mul-same (trim h) h (trim q) q (coeff-trim h) (coeff-trim q))
 
 -- A trimmed polynomial r stays within the limits.
-trim-fits : (p r : Polynomial) → r ≡ trim p → length p ≤ 16 → T (every small p) → (length r ≤ 16) × T (every small r)
+trim-fits : (p r : Polynomial) → r ≡ trim p → length p ≤ coefficientCount → T (every small p)
+    → (length r ≤ coefficientCount) × T (every small r)
 unfolding trim
 trim-fits p r e h s = rw e (rw length-take (omega arith), every-take small (degree p + 1) p s)
 
 -- ---- the coefficients up to power 15 and those past it
 
 unfoldable pub lowPart : Polynomial → List ℤ
-lowPart p = map (coeff p) (countFrom 0 16)
+lowPart p = map (coeff p) (countFrom 0 coefficientCount)
 
-pub length-lowPart : (p : Polynomial) → length (lowPart p) ≡ 16
+pub length-lowPart : (p : Polynomial) → length (lowPart p) ≡ coefficientCount
 unfolding lowPart
-length-lowPart p = length-map (countFrom 0 16) (coeff p) ∙ length-countFrom 0 16
+length-lowPart p = length-map (countFrom 0 coefficientCount) (coeff p) ∙ length-countFrom 0 coefficientCount
 
-pub lowPart-at : (p : Polynomial) (k : ℕ) → k < 16 → getD (lowPart p) k (pos 0) ≡ coeff p k
+pub lowPart-at : (p : Polynomial) (k : ℕ) → k < coefficientCount → getD (lowPart p) k (pos 0) ≡ coeff p k
 unfolding lowPart
 lowPart-at p k h =
-    getD-map (coeff p) (countFrom 0 16) k 0 (pos 0) (rw length-countFrom h) ∙ ap (coeff p) (getD-countFrom 0 16 k 0 h ∙ zero-add k)
+    getD-map (coeff p) (countFrom 0 coefficientCount) k 0 (pos 0) (rw length-countFrom h)
+    ∙ ap (coeff p) (getD-countFrom 0 coefficientCount k 0 h ∙ zero-add k)
 
 pub lowPart-same : (p q : Polynomial) → Same p q → lowPart p ≡ lowPart q
 unfolding lowPart
-lowPart-same p q s = ap (λ f. map f (countFrom 0 16)) (fun-ext s)
+lowPart-same p q s = ap (λ f. map f (countFrom 0 coefficientCount)) (fun-ext s)
 
 -- Where there are 16 coefficients, they are these.
-pub lowPart-take : (p : Polynomial) → 16 ≤ length p → lowPart p ≡ take 16 p
+pub lowPart-take : (p : Polynomial) → coefficientCount ≤ length p → lowPart p ≡ take coefficientCount p
 unfolding coeff
 lowPart-take p h =
-    ext-getD (pos 0) (lowPart p) (take 16 p) (length-lowPart p ∙ sym (length-take-le 16 p h))
-    (λ i l. let below : i < 16 = omega (arith, length-lowPart p) in lowPart-at p i below ∙ sym (getD-take 16 p i (pos 0) below))
+    ext-getD (pos 0) (lowPart p) (take coefficientCount p) (length-lowPart p ∙ sym (length-take-le coefficientCount p h))
+    (λ i l. let below : i < coefficientCount = omega (arith, length-lowPart p) in lowPart-at p i below
+    ∙ sym (getD-take coefficientCount p i (pos 0) below))
 
 map-zero : {A : Type 0} (f : A → ℤ) → ((x : A) → f x ≡ pos 0) → (l : List A) → T (isZero (map f l))
 unfolding isZero
@@ -129,22 +132,23 @@ map-zero f h (x ∷ l) = isZero-cons (f x) (map f l) .1 (h x, map-zero f h l)
 
 pub lowPart-zero : (p : Polynomial) → T (isZero p) → T (isZero (lowPart p))
 unfolding lowPart
-lowPart-zero p z = map-zero (coeff p) (isZero-coeff p z) (countFrom 0 16)
+lowPart-zero p z = map-zero (coeff p) (isZero-coeff p z) (countFrom 0 coefficientCount)
 
 -- No coefficient past power 15 is left.
-pub high-zero : (p : Polynomial) → T (isZero (drop 16 p)) ↔ ((k : ℕ) → 16 ≤ k → coeff p k ≡ pos 0)
+pub high-zero : (p : Polynomial) → T (isZero (drop coefficientCount p)) ↔ ((k : ℕ) → coefficientCount ≤ k → coeff p k ≡ pos 0)
 high-zero p = (forth, back)
   where
-    forth : T (isZero (drop 16 p)) → (k : ℕ) → 16 ≤ k → coeff p k ≡ pos 0
+    forth : T (isZero (drop coefficientCount p)) → (k : ℕ) → coefficientCount ≤ k → coeff p k ≡ pos 0
     forth z k h =
-        let place : 16 + (k - 16) ≡ k = omega arith in
-        ap (coeff p) (sym place) ∙ sym (coeff-drop 16 p (k - 16)) ∙ isZero-coeff (drop 16 p) z (k - 16)
+        let place : coefficientCount + (k - coefficientCount) ≡ k = omega arith in
+        ap (coeff p) (sym place) ∙ sym (coeff-drop coefficientCount p (k - coefficientCount))
+        ∙ isZero-coeff (drop coefficientCount p) z (k - coefficientCount)
 
-    back : ((k : ℕ) → 16 ≤ k → coeff p k ≡ pos 0) → T (isZero (drop 16 p))
-    back h = coeff-isZero (drop 16 p) (λ k. coeff-drop 16 p k ∙ h (16 + k) (omega arith))
+    back : ((k : ℕ) → coefficientCount ≤ k → coeff p k ≡ pos 0) → T (isZero (drop coefficientCount p))
+    back h = coeff-isZero (drop coefficientCount p) (λ k. coeff-drop coefficientCount p k ∙ h (coefficientCount + k) (omega arith))
 
-pub high-same : (p q : Polynomial) → Same p q → isZero (drop 16 p) ≡ isZero (drop 16 q)
-high-same p q s = same-test (isZero (drop 16 p)) (isZero (drop 16 q))
+pub high-same : (p q : Polynomial) → Same p q → isZero (drop coefficientCount p) ≡ isZero (drop coefficientCount q)
+high-same p q s = same-test (isZero (drop coefficientCount p)) (isZero (drop coefficientCount q))
     (λ z. high-zero q .1 (λ k h. sym (s k) ∙ high-zero p .0 z k h))
     (λ z. high-zero p .1 (λ k h. s k ∙ high-zero q .0 z k h))
 
@@ -159,15 +163,16 @@ module _ (g p h q : Polynomial) where
       ∙ ap₂ _+ℤ_ (mul-within g p (degree g) (degree p) (coeff-past-degree g) (coeff-past-degree p) k (omega arith))
       (mul-within h q (degree h) (degree q) (coeff-past-degree h) (coeff-past-degree q) k (omega arith))
 
-  pub high-free : (k : ℕ) → max (degree g + degree p) (degree h + degree q) < k → ((j : ℕ) → j < k → 16 ≤ j → coeff sum j ≡ pos 0)
-      → isZero (drop 16 sum) ≡ true
+  pub high-free : (k : ℕ) → max (degree g + degree p) (degree h + degree q) < k
+      → ((j : ℕ) → j < k → coefficientCount ≤ j → coeff sum j ≡ pos 0)
+      → isZero (drop coefficientCount sum) ≡ true
   high-free k l e = true-of _ (high-zero sum .1 (λ j h. cases j h (decLt j k)))
     where
-      cases : (j : ℕ) → 16 ≤ j → Dec (j < k) → coeff sum j ≡ pos 0
+      cases : (j : ℕ) → coefficientCount ≤ j → Dec (j < k) → coeff sum j ≡ pos 0
       cases j h (yes m) = e j m h
       cases j h (no m) = past-degrees j (omega arith)
 
-  pub high-found : (k : ℕ) → 16 ≤ k → coeff sum k ≢ pos 0 → isZero (drop 16 sum) ≡ false
+  pub high-found : (k : ℕ) → coefficientCount ≤ k → coeff sum k ≢ pos 0 → isZero (drop coefficientCount sum) ≡ false
   high-found k l n = false-of _ (λ z. n (high-zero sum .0 z k l))
 
 -- ---- lengths and sizes
@@ -179,27 +184,27 @@ length-mul-right [] p h = absurd (not-suc-le-zero h)
 length-mul-right (a ∷ g) p h = rw (length-add, length-scale) (omega arith)
 
 -- Polynomials of 16 coefficients have combinations of at least as many.
-long-sums : (g h : Polynomial) → 0 < length g → (ps qs : List Polynomial) → All (λ p. length p ≡ 16) ps
-    → All (λ p. 16 ≤ length p) (zipWith (λ p q. add (mul g p) (mul h q)) ps qs)
+long-sums : (g h : Polynomial) → 0 < length g → (ps qs : List Polynomial) → All (λ p. length p ≡ coefficientCount) ps
+    → All (λ p. coefficientCount ≤ length p) (zipWith (λ p q. add (mul g p) (mul h q)) ps qs)
 unfolding zipWith All
 long-sums g h some [] qs w = tt
 long-sums g h some (p ∷ ps) [] w = tt
 long-sums g h some (p ∷ ps) (q ∷ qs) w = (long (w .0), long-sums g h some ps qs (w .1))
   where
-    long : length p ≡ 16 → 16 ≤ length (add (mul g p) (mul h q))
+    long : length p ≡ coefficientCount → coefficientCount ≤ length (add (mul g p) (mul h q))
     long e = rw length-add (omega (arith, length-mul-right g p some))
 
-low-front : (ps : List Polynomial) → All (λ p. 16 ≤ length p) ps → map lowPart ps ≡ map (take 16) ps
+low-front : (ps : List Polynomial) → All (λ p. coefficientCount ≤ length p) ps → map lowPart ps ≡ map (take coefficientCount) ps
 unfolding All
 low-front [] w = refl
 low-front (p ∷ ps) w = ap₂ _∷_ (lowPart-take p (w .0)) (low-front ps (w .1))
 
 -- A map that keeps lengths, and then the front.
 front-width : (f : Polynomial → Polynomial) → ((p : Polynomial) → length (f p) ≡ length p) → (ps : List Polynomial)
-    → All (λ p. 16 ≤ length p) ps → All (λ p. length p ≡ 16) (map (take 16) (map f ps))
+    → All (λ p. coefficientCount ≤ length p) ps → All (λ p. length p ≡ coefficientCount) (map (take coefficientCount) (map f ps))
 unfolding All
 front-width f e [] w = tt
-front-width f e (p ∷ ps) w = (length-take-le 16 (f p) (rw e (w .0)), front-width f e ps (w .1))
+front-width f e (p ∷ ps) w = (length-take-le coefficientCount (f p) (rw e (w .0)), front-width f e ps (w .1))
 
 below-append : (n : ℕ) (l m : List ℤ) → Below n l → Below n m → Below n (l ++ m)
 below-append n [] m h k i = k i
@@ -211,12 +216,13 @@ below-map n some f h [] k = some
 below-map n some f h (x ∷ l) zero = h x
 below-map n some f h (x ∷ l) (suc k) = below-map n some f h l k
 
-small-parts : (n : ℕ) (l : List ℤ) → T (every small l) → All (λ p. T (every small p)) (parts 16 n l)
+small-parts : (n : ℕ) (l : List ℤ) → T (every small l) → All (λ p. T (every small p)) (parts coefficientCount n l)
 unfolding parts All
 small-parts zero l s = tt
-small-parts (suc n) l s = (every-take small 16 l s, small-parts n (drop 16 l) (every-drop small 16 l s))
+small-parts (suc n) l s =
+    (every-take small coefficientCount l s, small-parts n (drop coefficientCount l) (every-drop small coefficientCount l s))
 
-module _ (g h : Polynomial) (short-g : length g ≤ 16) (short-h : length h ≤ 16) (small-g : T (every small g))
+module _ (g h : Polynomial) (short-g : length g ≤ coefficientCount) (short-h : length h ≤ coefficientCount) (small-g : T (every small g))
     (small-h : T (every small h)) where
   -- |coefficient| ≤ 32·C² < 2^63
   coefficient-below : (p q : Polynomial) → T (every small p) → T (every small q) → (k : ℕ)
@@ -226,8 +232,8 @@ module _ (g h : Polynomial) (short-g : length g ≤ 16) (short-h : length h ≤ 
       (omega (
         arith,
         natAbs-+ℤ (coeff (mul g p) k) (coeff (mul h q) k),
-        product-size g p small-g s k 16 short-g,
-        product-size h q small-h t k 16 short-h,
+        product-size g p small-g s k coefficientCount short-g,
+        product-size h q small-h t k coefficientCount short-h,
       ))
 
   low-below : (ps qs : List Polynomial) → All (λ p. T (every small p)) ps → All (λ p. T (every small p)) qs
@@ -237,21 +243,21 @@ module _ (g h : Polynomial) (short-g : length g ≤ 16) (short-h : length h ≤ 
   low-below (p ∷ ps) [] s t k = lit< tt
   low-below (p ∷ ps) (q ∷ qs) s t k =
       below-append (2 ^ 63) (lowPart (add (mul g p) (mul h q))) (flatten (map lowPart (zipWith (λ p q. add (mul g p) (mul h q)) ps qs)))
-      (below-map (2 ^ 63) (lit< tt) (coeff (add (mul g p) (mul h q))) (coefficient-below p q (s .0) (t .0)) (countFrom 0 16))
+      (below-map (2 ^ 63) (lit< tt) (coeff (add (mul g p) (mul h q))) (coefficient-below p q (s .0) (t .0)) (countFrom 0 coefficientCount))
       (low-below ps qs (s .1) (t .1)) k
 
 -- ---- combinations of rows
 
 -- The polynomials of a combination of two rows that are held by numbers.
 combinations : Polynomial → Polynomial → List ℤ → List ℤ → List Polynomial
-combinations g h t u = zipWith (λ p q. add (mul g p) (mul h q)) (parts 16 20 t) (parts 16 20 u)
+combinations g h t u = zipWith (λ p q. add (mul g p) (mul h q)) (polynomialsIn t) (polynomialsIn u)
 
-low-width : (ps : List Polynomial) → All (λ p. length p ≡ 16) (map lowPart ps)
+low-width : (ps : List Polynomial) → All (λ p. length p ≡ coefficientCount) (map lowPart ps)
 unfolding All
 low-width [] = tt
 low-width (p ∷ ps) = (length-lowPart p, low-width ps)
 
-columns : (l : List ℤ) → All (λ b. length b ≡ 4) (rowOf l .blocks)
+columns : (l : List ℤ) → All (λ b. length b ≡ columnCount) (rowOf l .blocks)
 unfolding rowOf All
 columns l = (refl, (refl, (refl, (refl, (refl, tt)))))
 
@@ -261,60 +267,63 @@ module _ (g h : Polynomial) (t u : List ℤ) where
 
   -- The polynomial at place e.
   abbrev entryAt : ℕ → Polynomial
-  entryAt e = add (mul g (take 16 (drop (e * 16) t))) (mul h (take 16 (drop (e * 16) u)))
+  entryAt e = add (mul g (coefficientsAt t e)) (mul h (coefficientsAt u e))
 
   polynomials-combination : polynomialsOf combination ≡ combinations g h t u
   unfolding combinations
   polynomials-combination =
-      polynomials-combine g h 4 (rowOf t) (rowOf u) (columns t) (columns u)
+      polynomials-combine g h columnCount (rowOf t) (rowOf u) (columns t) (columns u)
       ∙ ap₂ (zipWith (λ p q. add (mul g p) (mul h q))) (polynomials-rowOf t) (polynomials-rowOf u)
 
-  length-combinations : length (combinations g h t u) ≡ 20
+  length-combinations : length (combinations g h t u) ≡ polynomialCount
   unfolding combinations zipWith parts
   length-combinations = refl
 
-  pub combination-at : (e : ℕ) → e < 20 → getD (polynomialsOf combination) e [] ≡ entryAt e
+  pub combination-at : (e : ℕ) → e < polynomialCount → getD (polynomialsOf combination) e [] ≡ entryAt e
   unfolding combinations
   combination-at e l =
       ap (λ ps. getD ps e []) polynomials-combination
-      ∙ getD-zipWith (λ p q. add (mul g p) (mul h q)) (parts 16 20 t) (parts 16 20 u) e [] [] [] (rw parts-length l) (rw parts-length l)
-      ∙ ap₂ (λ p q. add (mul g p) (mul h q)) (getD-parts 16 20 t e l) (getD-parts 16 20 u e l)
+      ∙ getD-zipWith (λ p q. add (mul g p) (mul h q)) (polynomialsIn t) (polynomialsIn u) e [] [] [] (rw parts-length l) (rw parts-length l)
+      ∙ ap₂ (λ p q. add (mul g p) (mul h q)) (getD-parts coefficientCount polynomialCount t e l)
+      (getD-parts coefficientCount polynomialCount u e l)
 
-  pub low-degrees : lowDegrees combination ≡ every (λ p. isZero (drop 16 p)) (polynomialsOf combination)
+  pub low-degrees : lowDegrees combination ≡ every (λ p. isZero (drop coefficientCount p)) (polynomialsOf combination)
   unfolding lowDegrees
-  low-degrees = sym (every-flatten (λ p. isZero (drop 16 p)) (combination .blocks))
+  low-degrees = sym (every-flatten (λ p. isZero (drop coefficientCount p)) (combination .blocks))
 
   numbers-low : coefficientsOf (mapRow lowPart combination) ≡ flatten (map lowPart (combinations g h t u))
   numbers-low = numbers-mapRow lowPart combination ∙ ap (λ ps. flatten (map lowPart ps)) polynomials-combination
 
   pub length-low : length (coefficientsOf (mapRow lowPart combination)) ≡ rowLength
   length-low =
-      ap length numbers-low ∙ length-flatten 16 (map lowPart (combinations g h t u)) (low-width (combinations g h t u))
-      ∙ ap (λ n. n * 16) (length-map (combinations g h t u) lowPart ∙ length-combinations)
+      ap length numbers-low ∙ length-flatten coefficientCount (map lowPart (combinations g h t u)) (low-width (combinations g h t u))
+      ∙ ap (λ n. n * coefficientCount) (length-map (combinations g h t u) lowPart ∙ length-combinations)
 
-  pub low-part : (e : ℕ) → e < 20 → take 16 (drop (e * 16) (coefficientsOf (mapRow lowPart combination))) ≡ lowPart (entryAt e)
+  pub low-part : (e : ℕ) → e < polynomialCount → coefficientsAt (coefficientsOf (mapRow lowPart combination)) e ≡ lowPart (entryAt e)
   low-part e l =
-      ap (λ r. take 16 (drop (e * 16) r)) (numbers-low ∙ sym (append-nil (flatten (map lowPart (combinations g h t u)))))
-      ∙ part-flatten 16 20 (map lowPart (combinations g h t u)) [] (length-map (combinations g h t u) lowPart ∙ length-combinations)
+      ap (λ r. coefficientsAt r e) (numbers-low ∙ sym (append-nil (flatten (map lowPart (combinations g h t u)))))
+      ∙ part-flatten coefficientCount polynomialCount (map lowPart (combinations g h t u)) []
+      (length-map (combinations g h t u) lowPart ∙ length-combinations)
       (low-width (combinations g h t u)) e l
       ∙ getD-map lowPart (combinations g h t u) e [] [] (rw length-combinations l)
       ∙ ap lowPart (ap (λ ps. getD ps e []) (sym polynomials-combination) ∙ combination-at e l)
 
-  pub length-polynomials : length (polynomialsOf combination) ≡ 20
+  pub length-polynomials : length (polynomialsOf combination) ≡ polynomialCount
   length-polynomials = ap length polynomials-combination ∙ length-combinations
 
   -- ---- the whole row
 
   module _ (some : 0 < length g) (long : length t ≡ rowLength) where
-    long-combinations : All (λ p. 16 ≤ length p) (combinations g h t u)
+    long-combinations : All (λ p. coefficientCount ≤ length p) (combinations g h t u)
     unfolding combinations
-    long-combinations = long-sums g h some (parts 16 20 t) (parts 16 20 u) (parts-width 16 20 t (omega arith))
+    long-combinations =
+        long-sums g h some (polynomialsIn t) (polynomialsIn u) (parts-width coefficientCount polynomialCount t (omega arith))
 
     pub cut-low : coefficientsOf (cut combination) ≡ coefficientsOf (mapRow lowPart combination)
     unfolding cut
     cut-low =
-        numbers-mapRow (take 16) combination
-        ∙ ap (λ ps. flatten (map (take 16) ps)) polynomials-combination
+        numbers-mapRow (take coefficientCount) combination
+        ∙ ap (λ ps. flatten (map (take coefficientCount) ps)) polynomials-combination
         ∙ ap flatten (sym (low-front (combinations g h t u) long-combinations))
         ∙ sym numbers-low
 
@@ -323,9 +332,9 @@ module _ (g h : Polynomial) (t u : List ℤ) where
     unfolding cut mapRow combine rowOf zipWith All
     StoreRow-cut f e =
         store-row (cut (mapRow f combination)) refl (refl, (refl, (refl, (refl, (refl, tt)))))
-        (subst (All (λ p. length p ≡ 16))
-        (sym (polynomials-mapRow (take 16) (mapRow f combination)
-        ∙ ap (map (take 16)) (polynomials-mapRow f combination ∙ ap (map f) polynomials-combination)))
+        (subst (All (λ p. length p ≡ coefficientCount))
+        (sym (polynomials-mapRow (take coefficientCount) (mapRow f combination)
+        ∙ ap (map (take coefficientCount)) (polynomials-mapRow f combination ∙ ap (map f) polynomials-combination)))
         (front-width f e (combinations g h t u) long-combinations))
 
     StoreRow-primitive : StoreRow (cut (primitive combination))
@@ -340,55 +349,59 @@ module _ (g h : Polynomial) (t u : List ℤ) where
     pub combined-held : (r : Row) → limitDegrees (primitive combination) ≡ within r → Held r
     combined-held r e = held (cut (primitive combination)) r StoreRow-primitive (degrees-within (primitive combination) r e)
 
-  pub numbers-below : (length g ≤ 16) × (length h ≤ 16) × T (every small g) × T (every small h) × T (every small t) × T (every small u)
+  pub numbers-below : (length g ≤ coefficientCount) × (length h ≤ coefficientCount) × T (every small g) × T (every small h)
+      × T (every small t) × T (every small u)
       → Below (2 ^ 63) (coefficientsOf (mapRow lowPart combination))
   unfolding combinations
   numbers-below s =
       subst (Below (2 ^ 63)) (sym numbers-low)
-      (low-below g h (s .0) (s .1) (s .2) (s .3) (parts 16 20 t) (parts 16 20 u) (small-parts 20 t (s .4)) (small-parts 20 u (s .5)))
+      (low-below g h (s .0) (s .1) (s .2) (s .3) (polynomialsIn t) (polynomialsIn u) (small-parts polynomialCount t (s .4))
+      (small-parts polynomialCount u (s .5)))
 
 -- ---- the polynomial at place e, made of trimmed parts
 
 -- Multipliers g and h, and the parts of rows t and u at place e, all trimmed; n is the width of a part as the code computes it.
 pub record Trimmed (g h : Polynomial) (t u : List ℤ) (e n : ℕ) (a p b q : Polynomial) : Type 0 where
-  pub below : e < 20
-  pub width : n ≡ 16
+  pub below : e < polynomialCount
+  pub width : n ≡ coefficientCount
   pub at-g : a ≡ trim g
   pub at-h : b ≡ trim h
-  pub at-t : p ≡ trim (take n (drop (e * 16) t))
-  pub at-u : q ≡ trim (take n (drop (e * 16) u))
+  pub at-t : p ≡ trim (take n (drop (e * coefficientCount) t))
+  pub at-u : q ≡ trim (take n (drop (e * coefficientCount) u))
 
 module _ {g h : Polynomial} {t u : List ℤ} {e n : ℕ} {a p b q : Polynomial} (made : Trimmed g h t u e n a p b q) where
   trimmed-same : Same (add (mul a p) (mul b q)) (entryAt g h t u e)
   trimmed-same k =
       ap₂ (λ x y. coeff (add x y) k) (ap₂ mul (made .at-g) (made .at-t)) (ap₂ mul (made .at-h) (made .at-u))
-      ∙ combined-trim g (take n (drop (e * 16) t)) h (take n (drop (e * 16) u)) k
-      ∙ ap (λ m. coeff (add (mul g (take m (drop (e * 16) t))) (mul h (take m (drop (e * 16) u)))) k) (made .width)
+      ∙ combined-trim g (take n (drop (e * coefficientCount) t)) h (take n (drop (e * coefficientCount) u)) k
+      ∙ ap (λ m. coeff (add (mul g (take m (drop (e * coefficientCount) t))) (mul h (take m (drop (e * coefficientCount) u)))) k)
+      (made .width)
 
-  pub trimmed-high : isZero (drop 16 (add (mul a p) (mul b q))) ≡ isZero (drop 16 (getD (polynomialsOf (combination g h t u)) e []))
+  pub trimmed-high : isZero (drop coefficientCount (add (mul a p) (mul b q)))
+      ≡ isZero (drop coefficientCount (getD (polynomialsOf (combination g h t u)) e []))
   trimmed-high =
       high-same (add (mul a p) (mul b q)) (entryAt g h t u e) trimmed-same
-      ∙ ap (λ r. isZero (drop 16 r)) (sym (combination-at g h t u e (made .below)))
+      ∙ ap (λ r. isZero (drop coefficientCount r)) (sym (combination-at g h t u e (made .below)))
 
-  pub trimmed-low : lowPart (add (mul a p) (mul b q)) ≡ take 16 (drop (e * 16) (coefficientsOf (mapRow lowPart (combination g h t u))))
+  pub trimmed-low : lowPart (add (mul a p) (mul b q)) ≡ coefficientsAt (coefficientsOf (mapRow lowPart (combination g h t u))) e
   trimmed-low = lowPart-same (add (mul a p) (mul b q)) (entryAt g h t u e) trimmed-same ∙ sym (low-part g h t u e (made .below))
 
   -- Where both parts are zero, so is the polynomial.
   pub trimmed-zero : (isZero p && isZero q) ≡ true
-      → T (isZero (take 16 (drop (e * 16) (coefficientsOf (mapRow lowPart (combination g h t u))))))
+      → T (isZero (coefficientsAt (coefficientsOf (mapRow lowPart (combination g h t u))) e))
   trimmed-zero z =
       let both = T-&& (isZero p) (isZero q) .0 (subst T (sym z) tt) in
       subst (λ l. T (isZero l)) trimmed-low
       (lowPart-zero (add (mul a p) (mul b q))
       (isZero-add (mul a p) (mul b q) (isZero-mul-right a p (both .0)) (isZero-mul-right b q (both .1))))
 
-  pub trimmed-fit : (length g ≡ 16) × T (every small g) × (length h ≡ 16) × T (every small h)
+  pub trimmed-fit : (length g ≡ coefficientCount) × T (every small g) × (length h ≡ coefficientCount) × T (every small h)
       → (length t ≡ rowLength) × T (every small t) × (length u ≡ rowLength) × T (every small u)
-      → ((length a ≤ 16) × T (every small a) × (length p ≤ 16) × T (every small p))
-      × ((length b ≤ 16) × T (every small b) × (length q ≤ 16) × T (every small q))
+      → ((length a ≤ coefficientCount) × T (every small a) × (length p ≤ coefficientCount) × T (every small p))
+      × ((length b ≤ coefficientCount) × T (every small b) × (length q ≤ coefficientCount) × T (every small q))
   trimmed-fit m r =
       let fit-a = trim-fits g a (made .at-g) (omega arith) (m .1) in
-      let fit-p = trim-fits _ p (made .at-t) (rw length-take (omega arith)) (every-part small (e * 16) n t (r .1)) in
+      let fit-p = trim-fits _ p (made .at-t) (rw length-take (omega arith)) (every-part small (e * coefficientCount) n t (r .1)) in
       let fit-b = trim-fits h b (made .at-h) (omega arith) (m .3) in
-      let fit-q = trim-fits _ q (made .at-u) (rw length-take (omega arith)) (every-part small (e * 16) n u (r .3)) in
+      let fit-q = trim-fits _ q (made .at-u) (rw length-take (omega arith)) (every-part small (e * coefficientCount) n u (r .3)) in
       ((fit-a .0, fit-a .1, fit-p .0, fit-p .1), (fit-b .0, fit-b .1, fit-q .0, fit-q .1))

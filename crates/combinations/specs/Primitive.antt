@@ -26,7 +26,7 @@ use Rattle.algebra.specs.Polynomials.{Polynomial, isZero, T-&&}
 use Rattle.polynomials.specs.Content.{Below}
 use Rattle.rules.specs.Rows.{Row, every, mapRow, coefficientsOf, primitive, lowDegrees, cut}
 use Rattle.rules.specs.Lists.{every-flatten, map-take, map-drop}
-use Rattle.rules.specs.Limits.{rowLength}
+use Rattle.rules.specs.Limits.{coefficientCount, rowLength}
 use Rattle.rules.specs.Elimination.{within, beyond, limitCoefficients, limitDegrees}
 use Rattle.rows.specs.Flat.{polynomialsOf, flatten-map, numbers-mapRow}
 use Rattle.working.specs.Worked.{Shown, refusalOf, numbersOf}
@@ -84,7 +84,7 @@ content-take n p z =
 -- ---- the degrees
 
 abbrev isLow : Polynomial → Bool
-isLow p = isZero (drop 16 p)
+isLow p = isZero (drop coefficientCount p)
 
 lowDegrees-every : (r : Row) → lowDegrees r ≡ every isLow (polynomialsOf r)
 unfolding lowDegrees
@@ -98,10 +98,11 @@ module _ (d : ℕ) (positive : 0 < d) where
   divided-low : (p : Polynomial) → d ∣ content p → isLow (divideBy d p) ≡ isLow p
   unfolding divideBy
   divided-low p h =
-      ap isZero (map-drop (λ a. quotZ a (pos d)) 16 p)
-      ∙ isZero-divideBy d (drop 16 p) positive
-      (dividesAll-of-content d (drop 16 p)
-      (divides-append d (take 16 p) (drop 16 p) (subst (λ q. d ∣ content q) (sym (take-append-drop 16 p)) h) .1))
+      ap isZero (map-drop (λ a. quotZ a (pos d)) coefficientCount p)
+      ∙ isZero-divideBy d (drop coefficientCount p) positive
+      (dividesAll-of-content d (drop coefficientCount p)
+      (divides-append d (take coefficientCount p) (drop coefficientCount p)
+      (subst (λ q. d ∣ content q) (sym (take-append-drop coefficientCount p)) h) .1))
 
   divided-every : (ps : List Polynomial) → d ∣ content (flatten ps) → every isLow (map (divideBy d) ps) ≡ every isLow ps
   unfolding flatten every
@@ -123,29 +124,30 @@ degree-kept r = go (content (coefficientsOf r)) (dvd-refl (content (coefficients
 -- ---- the numbers after the division
 
 -- Where all degrees are at most 15, the first 16 coefficients have the content of all.
-content-low : (ps : List Polynomial) → T (every isLow ps) → content (flatten (map (take 16) ps)) ≡ content (flatten ps)
+content-low : (ps : List Polynomial) → T (every isLow ps) → content (flatten (map (take coefficientCount) ps)) ≡ content (flatten ps)
 unfolding flatten every
 content-low [] z = refl
 content-low (p ∷ ps) z =
     let both = T-&& (isLow p) (every isLow ps) .0 z in
-    content-append (take 16 p) (flatten (map (take 16) ps))
-    ∙ ap₂ gcd (content-take 16 p (both .0)) (content-low ps (both .1)) ∙ sym (content-append p (flatten ps))
+    content-append (take coefficientCount p) (flatten (map (take coefficientCount) ps))
+    ∙ ap₂ gcd (content-take coefficientCount p (both .0)) (content-low ps (both .1)) ∙ sym (content-append p (flatten ps))
 
-map-divide-take : (d : ℕ) (ps : List Polynomial) → map (take 16) (map (divideBy d) ps) ≡ map (divideBy d) (map (take 16) ps)
+map-divide-take : (d : ℕ) (ps : List Polynomial)
+    → map (take coefficientCount) (map (divideBy d) ps) ≡ map (divideBy d) (map (take coefficientCount) ps)
 unfolding divideBy
 map-divide-take d [] = refl
-map-divide-take d (p ∷ ps) = ap₂ _∷_ (map-take (λ a. quotZ a (pos d)) 16 p) (map-divide-take d ps)
+map-divide-take d (p ∷ ps) = ap₂ _∷_ (map-take (λ a. quotZ a (pos d)) coefficientCount p) (map-divide-take d ps)
 
-numbers-cut : (r : Row) → coefficientsOf (cut r) ≡ flatten (map (take 16) (polynomialsOf r))
+numbers-cut : (r : Row) → coefficientsOf (cut r) ≡ flatten (map (take coefficientCount) (polynomialsOf r))
 unfolding cut
-numbers-cut r = numbers-mapRow (take 16) r
+numbers-cut r = numbers-mapRow (take coefficientCount) r
 
 cut-divided : (d : ℕ) (r : Row) → coefficientsOf (cut (mapRow (divideBy d) r)) ≡ divideBy d (coefficientsOf (cut r))
 unfolding divideBy
 cut-divided d r =
     numbers-cut (mapRow (divideBy d) r)
-    ∙ ap flatten (ap (map (take 16)) (polynomials-mapRow (divideBy d) r) ∙ map-divide-take d (polynomialsOf r))
-    ∙ flatten-map (λ a. quotZ a (pos d)) (map (take 16) (polynomialsOf r)) ∙ ap (divideBy d) (sym (numbers-cut r))
+    ∙ ap flatten (ap (map (take coefficientCount)) (polynomials-mapRow (divideBy d) r) ∙ map-divide-take d (polynomialsOf r))
+    ∙ flatten-map (λ a. quotZ a (pos d)) (map (take coefficientCount) (polynomialsOf r)) ∙ ap (divideBy d) (sym (numbers-cut r))
 
 pub cut-primitive : (r : Row) → T (lowDegrees r) → coefficientsOf (cut (primitive r)) ≡ primitiveNumbers (coefficientsOf (cut r))
 unfolding primitive primitiveNumbers coefficientsOf

@@ -1,4 +1,6 @@
 // Rule 4: a combination of two rows, its division by the content and its limits.
+use polynomials::lengths::COEFFICIENTS;
+use rows::lengths::POLYNOMIALS;
 use rows::lengths::ROW;
 ghost use mathlib.Core.Path.{_≡_};
 ghost use mathlib.Core.Bool.{not, _&&_};
@@ -6,7 +8,7 @@ ghost use Prim.Native.Nat.{_+_, _^_, _≤_, _<_, max};
 ghost use lib.Dec.{T};
 ghost use lib.ListN.{length, drop};
 ghost use Rattle.algebra.specs.Polynomials.{isZero, degree, add, mul};
-ghost use Rattle.rules.specs.Limits.{rowLength, small};
+ghost use Rattle.rules.specs.Limits.{coefficientCount, rowLength, small};
 ghost use Rattle.rules.specs.Rows.{every, lowDegrees, combine, primitive, mapRow, coefficientsOf};
 ghost use Rattle.rules.specs.Stores.{rowOf};
 ghost use Rattle.rules.specs.Elimination.{limitDegrees};
@@ -26,7 +28,9 @@ fn trimmed(p: &[i64]) -> &[i64]
 
 // No coefficient of g·p + h·q past this power is left.
 fn top(g: &[i64], p: &[i64], h: &[i64], q: &[i64]) -> usize
-    requires { ⌜ (length (now g) ≤ 16) × (length (now p) ≤ 16) × (length (now h) ≤ 16) × (length (now q) ≤ 16) ⌝ }
+    requires { ⌜
+        (length (now g) ≤ coefficientCount) × (length (now p) ≤ coefficientCount) × (length (now h) ≤ coefficientCount)
+        × (length (now q) ≤ coefficientCount) ⌝ }
     ensures { λ r. ⌜ r ≡ max (degree (now (g .entry)) + degree (now (p .entry))) (degree (now (h .entry)) + degree (now (q .entry))) ⌝ }
 {
     let first = polynomials::content::degree(g) + polynomials::content::degree(p);
@@ -36,12 +40,15 @@ fn top(g: &[i64], p: &[i64], h: &[i64], q: &[i64]) -> usize
 
 // Has g·p + h·q a degree past 15?
 fn passes(g: &[i64], p: &[i64], h: &[i64], q: &[i64]) -> bool
-    requires { ⌜ (length (now g) ≤ 16) × T (every small (now g)) × (length (now p) ≤ 16) × T (every small (now p)) ⌝ }
-    requires { ⌜ (length (now h) ≤ 16) × T (every small (now h)) × (length (now q) ≤ 16) × T (every small (now q)) ⌝ }
-    ensures { λ r. ⌜ r ≡ not (isZero (drop 16 (add (mul (now (g .entry)) (now (p .entry))) (mul (now (h .entry)) (now (q .entry)))))) ⌝ }
+    requires { ⌜
+        (length (now g) ≤ coefficientCount) × T (every small (now g)) × (length (now p) ≤ coefficientCount) × T (every small (now p)) ⌝ }
+    requires { ⌜
+        (length (now h) ≤ coefficientCount) × T (every small (now h)) × (length (now q) ≤ coefficientCount) × T (every small (now q)) ⌝ }
+    ensures { λ r. ⌜
+        r ≡ not (isZero (drop coefficientCount (add (mul (now (g .entry)) (now (p .entry))) (mul (now (h .entry)) (now (q .entry)))))) ⌝ }
 {
     let most = top(g, p, h, q);
-    let mut k = 16;
+    let mut k = COEFFICIENTS;
     while k <= most {
         if polynomials::product::combined_coefficient(g, p, h, q, k) != 0 {
             return true;
@@ -57,15 +64,15 @@ fn both_zero(p: &[i64], q: &[i64]) -> bool
     polynomials::content::is_zero(p) && polynomials::content::is_zero(q)
 }
 
-// The 16 low coefficients of g·p + h·q.
+// The low coefficients of g·p + h·q.
 fn put_combined(place: &mut [i64], g: &[i64], p: &[i64], h: &[i64], q: &[i64])
-    requires { ⌜ length (now place) ≡ 16 ⌝ }
-    requires { ⌜ (length (now g) ≤ 16) × T (every small (now g)) × T (every small (now p)) ⌝ }
-    requires { ⌜ (length (now h) ≤ 16) × T (every small (now h)) × T (every small (now q)) ⌝ }
+    requires { ⌜ length (now place) ≡ coefficientCount ⌝ }
+    requires { ⌜ (length (now g) ≤ coefficientCount) × T (every small (now g)) × T (every small (now p)) ⌝ }
+    requires { ⌜ (length (now h) ≤ coefficientCount) × T (every small (now h)) × T (every small (now q)) ⌝ }
     ensures { λ _. ⌜ now (place .exit) ≡ lowPart (add (mul (now (g .entry)) (now (p .entry))) (mul (now (h .entry)) (now (q .entry)))) ⌝ }
 {
     let mut k = 0;
-    while k < 16 {
+    while k < COEFFICIENTS {
         place[k] = polynomials::product::combined_coefficient(g, p, h, q, k);
         k += 1;
     }
@@ -73,7 +80,8 @@ fn put_combined(place: &mut [i64], g: &[i64], p: &[i64], h: &[i64], q: &[i64])
 
 // Has a polynomial of the combination a degree past 15?
 fn past_degree(g: &[i64], h: &[i64], target: &[i64], pivot: &[i64]) -> bool
-    requires { ⌜ (length (now g) ≡ 16) × T (every small (now g)) × (length (now h) ≡ 16) × T (every small (now h)) ⌝ }
+    requires { ⌜
+        (length (now g) ≡ coefficientCount) × T (every small (now g)) × (length (now h) ≡ coefficientCount) × T (every small (now h)) ⌝ }
     requires { ⌜
         (length (now target) ≡ rowLength) × T (every small (now target)) × (length (now pivot) ≡ rowLength)
         × T (every small (now pivot)) ⌝ }
@@ -82,9 +90,9 @@ fn past_degree(g: &[i64], h: &[i64], target: &[i64], pivot: &[i64]) -> bool
     let a = trimmed(g);
     let b = trimmed(h);
     let mut e = 0;
-    while e < 20 {
-        let from = e * 16;
-        let to = from + 16;
+    while e < POLYNOMIALS {
+        let from = e * COEFFICIENTS;
+        let to = from + COEFFICIENTS;
         if passes(a, trimmed(&target[from..to]), b, trimmed(&pivot[from..to])) {
             return true;
         }
@@ -95,7 +103,8 @@ fn past_degree(g: &[i64], h: &[i64], target: &[i64], pivot: &[i64]) -> bool
 
 // The low coefficients of the combination; nothing is done for polynomials that are zero in both rows.
 fn low_combination(g: &[i64], h: &[i64], target: &[i64], pivot: &[i64]) -> [i64; ROW]
-    requires { ⌜ (length (now g) ≡ 16) × T (every small (now g)) × (length (now h) ≡ 16) × T (every small (now h)) ⌝ }
+    requires { ⌜
+        (length (now g) ≡ coefficientCount) × T (every small (now g)) × (length (now h) ≡ coefficientCount) × T (every small (now h)) ⌝ }
     requires { ⌜
         (length (now target) ≡ rowLength) × T (every small (now target)) × (length (now pivot) ≡ rowLength)
         × T (every small (now pivot)) ⌝ }
@@ -105,9 +114,9 @@ fn low_combination(g: &[i64], h: &[i64], target: &[i64], pivot: &[i64]) -> [i64;
     let b = trimmed(h);
     let mut row = [0i64; ROW];
     let mut e = 0;
-    while e < 20 {
-        let from = e * 16;
-        let to = from + 16;
+    while e < POLYNOMIALS {
+        let from = e * COEFFICIENTS;
+        let to = from + COEFFICIENTS;
         let p = trimmed(&target[from..to]);
         let q = trimmed(&pivot[from..to]);
         if !both_zero(p, q) {
@@ -140,7 +149,8 @@ pub fn combined(
     target: [i64; ROW],
     pivot: [i64; ROW],
 ) -> working::limits::Worked
-    requires { ⌜ (length (now g) ≡ 16) × T (every small (now g)) × (length (now h) ≡ 16) × T (every small (now h)) ⌝ }
+    requires { ⌜
+        (length (now g) ≡ coefficientCount) × T (every small (now g)) × (length (now h) ≡ coefficientCount) × T (every small (now h)) ⌝ }
     requires { ⌜ T (every small target) × T (every small pivot) ⌝ }
     ensures { λ r. ⌜ r .refusal ≡ refusalOf (limitDegrees (primitive (combine (now (g .entry)) (now (h .entry)) (rowOf target) (rowOf pivot)))) ⌝ }
     ensures { λ r. ⌜ r .row ≡ numbersOf (limitDegrees (primitive (combine (now (g .entry)) (now (h .entry)) (rowOf target) (rowOf pivot)))) ⌝ }

@@ -24,11 +24,11 @@ use borrow.Rule.Slice.PartMut.{midOf, putMid, mid-len, post-is}
 use lib.Dec.{T, ltb}
 use lib.IntN.{ℤ, pos, natAbs, _-ℤ_}
 use lib.Signed.{ltZ, ltZ-yes, ≤ℤ-refl, clashℤ, pos-natAbs, _≤ℤ_, _<ℤ_}
-use Rattle.rules.specs.Limits.{coefficientCount, columnCount, blockCount, rowLength}
+use Rattle.rules.specs.Limits.{coefficientCount, columnCount, mostSpan, blockCount, blockLength, rowLength}
 use Rattle.rules.specs.Rows.{Row, Block, All}
 use Rattle.rules.specs.Stores.{Sizes, span, parts, rowOf, sizesRight}
 use Rattle.rules.specs.Lists.{drop-take, getD-map, map-set}
-use Rattle.rules.specs.Layout.{parts-length, getD-parts, size-bounds, block-place, length-padTo}
+use Rattle.rules.specs.Layout.{blockOf, parts-length, getD-parts, size-bounds, block-place, length-padTo}
 use Rattle.rules.specs.Calls.{padTo, zeros}
 use Rattle.rules.specs.Numbers.{Read, got, fault, thenRead, field, between, space, newline}
 use Rattle.rules.specs.Sheets.{Term, putTerm, rowOfTerms, blankRow, readTerm, readTerms, readEquation, parting, afterCount, always, judgeBlock, judgeColumn, readCoefficients}
@@ -153,16 +153,16 @@ module _ {A : Type 0} (K k n m : ℕ) (l p : List A) (b c : ℕ) (hb : b < n) (h
       fits : c * k + k ≤ K
       fits = omega (arith, mul-le-mul-right {m = suc c} {n = m} k hc, suc-mul c k)
 
-rowOf-is : (l : List ℤ) → rowOf l ≡ record { blocks = map (parts coefficientCount columnCount) (parts (columnCount * coefficientCount) blockCount l) }
+rowOf-is : (l : List ℤ) → rowOf l ≡ record { blocks = map blockOf (parts blockLength blockCount l) }
 unfolding rowOf
 rowOf-is l = refl
 
 pub rowOf-paste : (l p : List ℤ) (b c : ℕ) → length l ≡ rowLength → length p ≡ coefficientCount → b < blockCount → c < columnCount
-    → rowOf (paste l (b * (columnCount * coefficientCount) + c * coefficientCount) p coefficientCount)
+    → rowOf (paste l (b * blockLength + c * coefficientCount) p coefficientCount)
     ≡ record { blocks = set (rowOf l .blocks) b (set (getD (rowOf l .blocks) b []) c p) }
 rowOf-paste l p b c el ep hb hc =
-    rowOf-is (paste l (b * (columnCount * coefficientCount) + c * coefficientCount) p coefficientCount)
-    ∙ ap (λ bs. record { blocks = bs }) (blocks-paste (columnCount * coefficientCount) coefficientCount blockCount columnCount l p b c hb hc refl (omega arith) ep)
+    rowOf-is (paste l (b * blockLength + c * coefficientCount) p coefficientCount)
+    ∙ ap (λ bs. record { blocks = bs }) (blocks-paste blockLength coefficientCount blockCount columnCount l p b c hb hc refl (omega arith) ep)
     ∙ ap (λ r. record { blocks = set (r .blocks) b (set (getD (r .blocks) b []) c p) }) (sym (rowOf-is l))
 
 -- ---- terms at different places may change their order
@@ -275,7 +275,7 @@ unfolding withPlace readPolynomial padded
 padded-right z s₀ c₀ last bytes e rest h =
     let place = then-parts (readPlace z s₀ c₀ bytes) (withPlace z s₀ c₀ last) (sym (readPadded-is z s₀ c₀ last bytes) ∙ h) in
     let polynomial = then-parts (readPolynomial last (place .1)) _ (place .3) in
-    let count = then-parts (field (between (pos 1) (pos 16)) (always space) (place .1)) _ (polynomial .2) in
+    let count = then-parts (field (between (pos 1) (pos coefficientCount)) (always space) (place .1)) _ (polynomial .2) in
     let coefficients = then-parts (readCoefficients last (natAbs (count .0)) (count .1)) _ (count .3) in
     subst (λ e. TermRight z s₀ c₀ e × (length (e .polynomial) ≡ coefficientCount)) (got-value (polynomial .3)) (
       place-right z s₀ c₀ bytes (place .0) (place .1) (polynomial .0) (place .2),
@@ -451,7 +451,7 @@ equation-is z few bytes =
 
 -- What a term that was read asks of its place in the row.
 pub term-place : (z : Sizes) (s₀ : ℤ) (c₀ : ℕ) (e : Term) → T (sizesRight z) → TermRight z s₀ c₀ e
-    → (natAbs (z .l -ℤ e .block) ≤ 4) × (e .block ≤ℤ z .l) × (1 ≤ e .column) × (e .column ≤ columnCount)
+    → (natAbs (z .l -ℤ e .block) ≤ mostSpan) × (e .block ≤ℤ z .l) × (1 ≤ e .column) × (e .column ≤ columnCount)
 term-place z s₀ c₀ e sizes right =
     let bounds = size-bounds z sizes in (
       le-of-suc-le-suc (block-place z (e .block) bounds (right .block-right .low) (right .block-right .high)),

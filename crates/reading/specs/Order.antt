@@ -22,6 +22,7 @@ use Rattle.algebra.specs.Integers.{natAbs-zero, -ℤ-zero}
 use Rattle.algebra.specs.Polynomials.{isZeroℤ, isZeroℤ-iff, both-true}
 use lib.IntN.{ℤ, pos, natAbs, _-ℤ_, +ℤ-invr}
 use lib.Signed.{leZ, nonNeg}
+use Rattle.rules.specs.Limits.{columnCount}
 use Rattle.rules.specs.Numbers.{Read, got, thenRead, field, newline}
 use Rattle.rules.specs.Calls.{padTo}
 use Rattle.rules.specs.Sheets.{contains, always, afterCount, parting, judgeOrder, judgeOrderCount, readColumns, readOrder}
@@ -106,18 +107,20 @@ columns-left m k order i c bytes h = ap (λ taken. readColumns m k taken bytes) 
 
 -- The definition of an order line, with all the columns of its answer.
 unfoldable pub orderThen : ℕ → ℤ → List ℕ → Read (List ℕ)
-orderThen m k bytes = padded 4 0 (readColumns m (natAbs k) [] bytes)
+orderThen m k bytes = padded columnCount 0 (readColumns m (natAbs k) [] bytes)
 
 order-parts : (m : ℕ) (bytes : List ℕ)
     → readOrder m bytes ≡ thenRead (field (judgeOrderCount m) afterCount bytes) (λ k rest. readColumns m (natAbs k) [] rest)
 unfolding readOrder
 order-parts m bytes = refl
 
-pub order-is : (m : ℕ) (bytes : List ℕ) → padded 4 0 (readOrder m bytes) ≡ thenRead (field (judgeOrderCount m) afterCount bytes) (orderThen m)
+pub order-is : (m : ℕ) (bytes : List ℕ)
+    → padded columnCount 0 (readOrder m bytes) ≡ thenRead (field (judgeOrderCount m) afterCount bytes) (orderThen m)
 unfolding padded orderThen
 order-is m bytes =
-    ap (padded 4 0) (order-parts m bytes)
-    ∙ then-then (field (judgeOrderCount m) afterCount bytes) (λ k rest. readColumns m (natAbs k) [] rest) (λ l more. got (padTo 4 0 l) more)
+    ap (padded columnCount 0) (order-parts m bytes)
+    ∙ then-then (field (judgeOrderCount m) afterCount bytes) (λ k rest. readColumns m (natAbs k) [] rest)
+    (λ l more. got (padTo columnCount 0 l) more)
 
 -- The number of columns is 0 or m.
 pub order-count-zero : (m : ℕ) (k : ℤ) → judgeOrderCount m k ≡ 0 → T (nonNeg k) × (natAbs k ≤ m)

@@ -22,7 +22,7 @@ use lib.Dec.{T}
 use Rattle.algebra.specs.Polynomials.{Polynomial, both-true}
 use lib.IntN.{ℤ, pos, natAbs, _-ℤ_}
 use lib.Signed.{leZ, ltZ, nonNeg, _≤ℤ_}
-use Rattle.rules.specs.Limits.{coefficientCount, columnCount}
+use Rattle.rules.specs.Limits.{coefficientCount, blockLength}
 use Rattle.rules.specs.Numbers.{Read, got, fault, thenRead, field, between, judgeSmall, space}
 use Rattle.rules.specs.Calls.{padTo}
 use Rattle.rules.specs.Stores.{Sizes}
@@ -187,7 +187,8 @@ readPlace z s₀ c₀ bytes =
 
 unfoldable pub readPolynomial : ℕ → List ℕ → Read Polynomial
 readPolynomial last bytes =
-    thenRead (field (between (pos 1) (pos 16)) (always space) bytes) λ k rest. padded 16 (pos 0) (readCoefficients last (natAbs k) rest)
+    thenRead (field (between (pos 1) (pos coefficientCount)) (always space) bytes) λ k rest.
+    padded coefficientCount (pos 0) (readCoefficients last (natAbs k) rest)
 
 module _ (z : Sizes) (s₀ : ℤ) (c₀ last : ℕ) where
   -- The definition of a term, with its parts named.
@@ -195,7 +196,7 @@ module _ (z : Sizes) (s₀ : ℤ) (c₀ last : ℕ) where
   coefficientsThen s c k bytes = thenRead (readCoefficients last (natAbs k) bytes) λ p rest. got (termOf s (natAbs c) p) rest
 
   countThen : ℤ → ℤ → List ℕ → Read Term
-  countThen s c bytes = thenRead (field (between (pos 1) (pos 16)) (always space) bytes) (coefficientsThen s c)
+  countThen s c bytes = thenRead (field (between (pos 1) (pos coefficientCount)) (always space) bytes) (coefficientsThen s c)
 
   columnThen : ℤ → List ℕ → Read Term
   columnThen s bytes = thenRead (field (judgeColumn z s₀ c₀ s) (always space) bytes) (countThen s)
@@ -213,7 +214,7 @@ module _ (z : Sizes) (s₀ : ℤ) (c₀ last : ℕ) where
 
   pad-coefficients : (s c : ℤ) (r : Read Polynomial)
       → thenRead (thenRead r (λ p rest. got (termOf s (natAbs c) p) rest)) pad
-      ≡ thenRead (padded 16 (pos 0) r) (λ p rest. got (termOf s (natAbs c) p) rest)
+      ≡ thenRead (padded coefficientCount (pos 0) r) (λ p rest. got (termOf s (natAbs c) p) rest)
   unfolding thenRead padded pad padTerm
   pad-coefficients s c (got p rest) = refl
   pad-coefficients s c (fault n) = refl
@@ -223,10 +224,11 @@ module _ (z : Sizes) (s₀ : ℤ) (c₀ last : ℕ) where
   pad-count s c bytes =
       then-then count (coefficientsThen s c) pad
       ∙ then-cong count (λ k rest. pad-coefficients s c (readCoefficients last (natAbs k) rest))
-      ∙ sym (then-then count (λ k rest. padded 16 (pos 0) (readCoefficients last (natAbs k) rest)) (λ p rest. got (termOf s (natAbs c) p) rest))
+      ∙ sym (then-then count (λ k rest. padded coefficientCount (pos 0) (readCoefficients last (natAbs k) rest))
+      (λ p rest. got (termOf s (natAbs c) p) rest))
     where
       count : Read ℤ
-      count = field (between (pos 1) (pos 16)) (always space) bytes
+      count = field (between (pos 1) (pos coefficientCount)) (always space) bytes
 
   pub readPadded-is : (bytes : List ℕ) → readPadded z s₀ c₀ last bytes ≡ thenRead (readPlace z s₀ c₀ bytes) withPlace
   unfolding readPadded readPlace pad columnThen
@@ -255,4 +257,4 @@ module _ (z : Sizes) (s₀ : ℤ) (c₀ last : ℕ) where
 -- in each, 16 coefficients in each of those (SCOPE 3.2).
 unfoldable pub placeInRow : ℤ → ℤ → ℕ → ℕ
 placeInRow l block column =
-    natAbs (l -ℤ block) * (columnCount * coefficientCount) + pred column * coefficientCount
+    natAbs (l -ℤ block) * blockLength + pred column * coefficientCount

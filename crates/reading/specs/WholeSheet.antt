@@ -20,7 +20,7 @@ use lib.ListN.{length, drop, drop-of-length-le}
 use lib.Seq.{drop-length, drop-cons}
 use lib.IntN.{ℤ, pos, negℤ, natAbs, _-ℤ_}
 use lib.Signed.{leZ, nonNeg}
-use Rattle.rules.specs.Limits.{columnCount, mostEquations, mostRelations}
+use Rattle.rules.specs.Limits.{columnCount, mostSpan, mostEquations, mostRelations}
 use Rattle.rules.specs.Stores.{Sizes, equations, sizesRight, rowsOf, relationsOf}
 use Rattle.rules.specs.Numbers.{space, newline, Read, got, fault, thenRead, field, between}
 use Rattle.rules.specs.Rows.{Row, Relation}
@@ -99,15 +99,15 @@ highest-passed l e = passed (leZ (negℤ (pos 64)) l && leZ l (pos 64)) 0 1 e .0
 pub highest-small : (l : ℤ) → between (negℤ (pos 64)) (pos 64) l ≡ 0 → natAbs l ≤ 64
 highest-small l e = size-between (pos 64) l 64 (le-refl 64) (highest-passed l e)
 
-lowest-passed : (l t : ℤ) → judgeLowest l t ≡ 0 → (leZ (negℤ (pos 64)) t && leZ t l && leZ (l -ℤ t) (pos 4)) ≡ true
+lowest-passed : (l t : ℤ) → judgeLowest l t ≡ 0 → (leZ (negℤ (pos 64)) t && leZ t l && leZ (l -ℤ t) (pos mostSpan)) ≡ true
 unfolding judgeLowest
-lowest-passed l t e = passed (leZ (negℤ (pos 64)) t && leZ t l && leZ (l -ℤ t) (pos 4)) 0 1 e .0
+lowest-passed l t e = passed (leZ (negℤ (pos 64)) t && leZ t l && leZ (l -ℤ t) (pos mostSpan)) 0 1 e .0
 
 sizes-passed : (m : ℕ) (l t : ℤ) → 1 ≤ m → m ≤ 4 → (leZ (negℤ (pos 64)) l && leZ l (pos 64)) ≡ true
-    → (leZ (negℤ (pos 64)) t && leZ t l && leZ (l -ℤ t) (pos 4)) ≡ true → T (sizesRight (sizes m l t))
+    → (leZ (negℤ (pos 64)) t && leZ t l && leZ (l -ℤ t) (pos mostSpan)) ≡ true → T (sizesRight (sizes m l t))
 unfolding sizesRight
 sizes-passed m l t low high hl ht =
-    let lowest = both-true (leZ (negℤ (pos 64)) t && leZ t l) (leZ (l -ℤ t) (pos 4)) ht in
+    let lowest = both-true (leZ (negℤ (pos 64)) t && leZ t l) (leZ (l -ℤ t) (pos mostSpan)) ht in
     let highest = both-true (leZ (negℤ (pos 64)) l) (leZ l (pos 64)) hl in
     subst T
     (sym
@@ -142,7 +142,8 @@ sheet z rows relations order = record { sizes = z; rows = rows; relations = rela
 
 -- The three sections after the sizes; the order has zeros past its end.
 unfoldable pub orderSection : Sizes → List Row → List Relation → List ℕ → Read Sheet
-orderSection z rows relations bytes = thenRead (padded 4 0 (readOrder (z .m) bytes)) λ order rest. got (sheet z rows relations order) rest
+orderSection z rows relations bytes =
+    thenRead (padded columnCount 0 (readOrder (z .m) bytes)) λ order rest. got (sheet z rows relations order) rest
 
 unfoldable pub relationsThen : Sizes → List Row → List ℕ → Read Sheet
 relationsThen z rows bytes = thenRead (relationSection z bytes) (orderSection z rows)
@@ -179,13 +180,14 @@ module _ (z : Sizes) where
   order-padded rows relations bytes = by (readOrder (z .m) bytes)
     where
       end : (order : List ℕ) (rest : List ℕ)
-          → thenRead (readEnd (sheet z rows relations order) rest) padSheet ≡ readEnd (sheet z rows relations (padTo 4 0 order)) rest
+          → thenRead (readEnd (sheet z rows relations order) rest) padSheet
+          ≡ readEnd (sheet z rows relations (padTo columnCount 0 order)) rest
       end order [] = refl
       end order (b ∷ rest) = refl
 
       by : (r : Read (List ℕ))
           → thenRead (thenRead r λ order rest. readEnd (sheet z rows relations order) rest) padSheet
-          ≡ thenRead (thenRead (padded 4 0 r) λ order rest. got (sheet z rows relations order) rest) readEnd
+          ≡ thenRead (thenRead (padded columnCount 0 r) λ order rest. got (sheet z rows relations order) rest) readEnd
       by (got order rest) = end order rest
       by (fault n) = refl
 
@@ -290,11 +292,11 @@ module _ {bytes : List ℕ} {z : Sizes} {count at : ℕ} {rows : List ℤ} (head
   relations-fault e = head .rest ∙ then-fault readEnd (then-fault (orderSection z (rowsOf (equations z) rows)) e)
 
   module _ (relations : List Relation) (more : List ℕ) (e : readRelations z count (drop at bytes) ≡ got relations more) where
-    pub order-fault : {n : ℕ} → padded 4 0 (readOrder (z .m) more) ≡ fault n → thenRead (readSheet bytes) padSheet ≡ fault n
+    pub order-fault : {n : ℕ} → padded columnCount 0 (readOrder (z .m) more) ≡ fault n → thenRead (readSheet bytes) padSheet ≡ fault n
     unfolding orderSection
     order-fault f = head .rest ∙ then-fault readEnd (then-got (orderSection z (rowsOf (equations z) rows)) e ∙ then-fault _ f)
 
-    pub order-got : (order rest : List ℕ) → padded 4 0 (readOrder (z .m) more) ≡ got order rest
+    pub order-got : (order rest : List ℕ) → padded columnCount 0 (readOrder (z .m) more) ≡ got order rest
         → thenRead (readSheet bytes) padSheet ≡ readEnd (sheet z (rowsOf (equations z) rows) relations order) rest
     unfolding orderSection
     order-got order rest f = head .rest ∙ then-got readEnd (then-got (orderSection z (rowsOf (equations z) rows)) e ∙ then-got _ f)

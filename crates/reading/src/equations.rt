@@ -1,4 +1,6 @@
 // Equations, read into working rows: the number of terms and then the terms (SCOPE 4.21).
+use polynomials::lengths::COEFFICIENTS;
+use rows::lengths::BLOCK;
 ghost use mathlib.Core.Path.{_≡_};
 ghost use Prim.Native.Nat.{suc, _+_, _*_, _≤_};
 ghost use lib.ListN.{length, drop};
@@ -6,7 +8,7 @@ ghost use lib.Seq.{paste};
 ghost use lib.Dec.{T};
 ghost use lib.IntN.{pos, natAbs, _-ℤ_};
 ghost use lib.Signed.{_≤ℤ_};
-ghost use Rattle.rules.specs.Limits.{rowLength};
+ghost use Rattle.rules.specs.Limits.{columnCount, mostSpan, rowLength};
 ghost use Rattle.rules.specs.Stores.{span, rowOf, sizesRight};
 ghost use Rattle.rules.specs.Calls.{zeros};
 ghost use Rattle.rules.specs.Sheets.{blankRow, readEquation};
@@ -29,11 +31,11 @@ pub(crate) fn copy(to: &mut [i64], at: usize, from: &[i64], n: usize)
 
 // Where the polynomial of a block and a column begins in a row (SCOPE 3.2).
 fn place_in_row(l: i64, block: i64, column: usize) -> usize
-    requires { ⌜ (natAbs (l -ℤ block) ≤ 4) × (block ≤ℤ l) ⌝ }
-    requires { ⌜ (1 ≤ column) × (column ≤ 4) ⌝ }
+    requires { ⌜ (natAbs (l -ℤ block) ≤ mostSpan) × (block ≤ℤ l) ⌝ }
+    requires { ⌜ (1 ≤ column) × (column ≤ columnCount) ⌝ }
     ensures { λ r. ⌜ r ≡ placeInRow l block column ⌝ }
 {
-    (l - block) as usize * 64 + (column - 1) * 16
+    (l - block) as usize * BLOCK + (column - 1) * COEFFICIENTS
 }
 
 // The place after what was read into a store, or a refusal.
@@ -48,7 +50,7 @@ pub(crate) fn no_part(refusal: u8) -> PartRead
     PartRead { refusal, at: 0 }
 }
 
-// `count` terms, each read into its place in the 320 numbers of a row that is zero (SCOPE 4.23).
+// `count` terms, each read into its place in the numbers of a row that is zero (SCOPE 4.23).
 fn terms_at(
     bytes: &[u8],
     at: usize,
@@ -71,7 +73,7 @@ fn terms_at(
             return no_part(q.refusal);
         }
         let from = place_in_row(z.l, q.block, q.column);
-        let to = from + 16;
+        let to = from + COEFFICIENTS;
         let separator = crate::counts::parting(left);
         let p = crate::terms::polynomial_at(bytes, q.at, separator, &mut row[from..to]);
         if p.refusal != 0 {
@@ -95,7 +97,7 @@ fn most_terms(z: rows::validity::Sizes) -> i64
     (z.m * ((z.l - z.t) as usize + 1)) as i64
 }
 
-// The number of terms and then the terms, read into the 320 numbers of a row that is zero (SCOPE 4.21).
+// The number of terms and then the terms, read into the numbers of a row that is zero (SCOPE 4.21).
 pub(crate) fn equation_at(
     bytes: &[u8],
     at: usize,

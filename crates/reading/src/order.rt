@@ -1,8 +1,10 @@
 // The order line: 0 alone for no order, otherwise m and the columns 1 to m in some order (SCOPE 4.15).
+use rows::lengths::COLUMNS;
 ghost use mathlib.Core.Path.{_≡_};
 ghost use mathlib.Core.List.{[]};
 ghost use Prim.Native.Nat.{_≤_};
 ghost use lib.ListN.{length, drop};
+ghost use Rattle.rules.specs.Limits.{columnCount};
 ghost use Rattle.rules.specs.Numbers.{field};
 ghost use Rattle.rules.specs.Sheets.{readColumns, readOrder, judgeOrderCount, afterCount, always, contains, judgeOrder};
 ghost use Rattle.tokens.specs.Fields.{Answers};
@@ -81,7 +83,7 @@ fn order_column_at(
 pub(crate) struct OrderRead {
     pub refusal: u8,
     pub at: usize,
-    pub order: [usize; 4],
+    pub order: [usize; COLUMNS],
 }
 
 fn no_order(refusal: u8) -> OrderRead
@@ -90,15 +92,17 @@ fn no_order(refusal: u8) -> OrderRead
     OrderRead {
         refusal,
         at: 0,
-        order: [0; 4],
+        order: [0; COLUMNS],
     }
 }
 
 fn columns_at(bytes: &[u8], at: usize, m: usize, count: usize) -> OrderRead
     requires { ⌜ (at ≤ length (now bytes)) × ((m ≤ 4) × (count ≤ 4)) ⌝ }
-    ensures { λ r. ⌜ Answers (now (bytes .entry)) (r .refusal) (r .order) (r .at) (padded 4 0 (readColumns m count [] (drop at (now (bytes .entry))))) ⌝ }
+    ensures { λ r. ⌜
+        Answers (now (bytes .entry)) (r .refusal) (r .order) (r .at)
+        (padded columnCount 0 (readColumns m count [] (drop at (now (bytes .entry))))) ⌝ }
 {
-    let mut order: [usize; 4] = [0; 4];
+    let mut order: [usize; COLUMNS] = [0; COLUMNS];
     let mut next = at;
     let mut i = 0;
     while i < count {
@@ -121,7 +125,9 @@ fn columns_at(bytes: &[u8], at: usize, m: usize, count: usize) -> OrderRead
 // The count, 0 or m, and so many columns (SCOPE 4.15).
 pub(crate) fn order_at(bytes: &[u8], at: usize, m: usize) -> OrderRead
     requires { ⌜ (at ≤ length (now bytes)) × (m ≤ 4) ⌝ }
-    ensures { λ r. ⌜ Answers (now (bytes .entry)) (r .refusal) (r .order) (r .at) (padded 4 0 (readOrder m (drop at (now (bytes .entry))))) ⌝ }
+    ensures { λ r. ⌜
+        Answers (now (bytes .entry)) (r .refusal) (r .order) (r .at)
+        (padded columnCount 0 (readOrder m (drop at (now (bytes .entry))))) ⌝ }
 {
     let k = order_count_at(bytes, at, m);
     if k.refusal != 0 {

@@ -1,4 +1,5 @@
 // A whole sheet.
+use rows::lengths::COLUMNS;
 use rows::lengths::RELATION;
 use rows::lengths::RELATIONS;
 use rows::lengths::ROW;
@@ -22,7 +23,7 @@ pub struct SheetResult {
     pub refusal: u8,
     pub sizes: rows::validity::Sizes,
     pub relations: usize,
-    pub order: [usize; 4],
+    pub order: [usize; COLUMNS],
 }
 
 pub(crate) fn refused(refusal: u8) -> SheetResult
@@ -32,7 +33,7 @@ pub(crate) fn refused(refusal: u8) -> SheetResult
         refusal,
         sizes: rows::validity::Sizes { m: 0, l: 0, t: 0 },
         relations: 0,
-        order: [0; 4],
+        order: [0; COLUMNS],
     }
 }
 

@@ -1,13 +1,18 @@
 // Terms: block, column, the number of coefficients, and those from power 0 on (SCOPE 4.22).
+use polynomials::lengths::COEFFICIENTS;
 ghost use mathlib.Core.Path.{_≡_};
 ghost use Prim.Native.Nat.{_≤_};
 ghost use lib.ListN.{length, drop};
 ghost use lib.IntN.{pos};
+ghost use Rattle.rules.specs.Limits.{coefficientCount};
 ghost use Rattle.rules.specs.Numbers.{field};
 ghost use Rattle.rules.specs.Sheets.{judgeLast, judgeBlock, judgeColumn, always, readCoefficients};
 ghost use Rattle.tokens.specs.Fields.{Answers};
 ghost use Rattle.rows.specs.Validity.{sizesOf};
 ghost use Rattle.reading.specs.Terms.{readCoefficient, padded, readPlace, readPolynomial};
+
+// The most coefficients of a term.
+const MOST: i64 = COEFFICIENTS as i64;
 
 // A last coefficient past ±C is 5 (SCOPE 4.34), one that is 0 is 3 (SCOPE 4.24, 4.35).
 fn judge_last(value: i64) -> u8
@@ -97,7 +102,7 @@ fn coefficient_at(bytes: &[u8], at: usize, left: usize, last: u8) -> tokens::Num
     tokens::small_at(bytes, at)
 }
 
-// The coefficients of a term, read into sixteen numbers, zeros past them.
+// The coefficients of a term, read into the numbers of a polynomial, zeros past them.
 fn coefficients_at(
     bytes: &[u8],
     at: usize,
@@ -105,11 +110,13 @@ fn coefficients_at(
     last: u8,
     p: &mut [i64],
 ) -> crate::equations::PartRead
-    requires { ⌜ (at ≤ length (now bytes)) × (count ≤ 16) ⌝ }
-    requires { ⌜ length (now p) ≡ 16 ⌝ }
-    ensures { λ r. ⌜ Answers (now (bytes .entry)) (r .refusal) (now (p .exit)) (r .at) (padded 16 (pos 0) (readCoefficients last count (drop at (now (bytes .entry))))) ⌝ }
+    requires { ⌜ (at ≤ length (now bytes)) × (count ≤ coefficientCount) ⌝ }
+    requires { ⌜ length (now p) ≡ coefficientCount ⌝ }
+    ensures { λ r. ⌜
+        Answers (now (bytes .entry)) (r .refusal) (now (p .exit)) (r .at)
+        (padded coefficientCount (pos 0) (readCoefficients last count (drop at (now (bytes .entry))))) ⌝ }
 {
-    rows::stores::clear(p, 0, 16);
+    rows::stores::clear(p, 0, COEFFICIENTS);
     let mut next = at;
     let mut i = 0;
     while i < count {
@@ -128,7 +135,7 @@ fn coefficients_at(
     }
 }
 
-// The number of coefficients (1 to 16) and the coefficients (SCOPE 4.22).
+// The number of coefficients (1 to MOST) and the coefficients (SCOPE 4.22).
 pub(crate) fn polynomial_at(
     bytes: &[u8],
     at: usize,
@@ -136,10 +143,10 @@ pub(crate) fn polynomial_at(
     p: &mut [i64],
 ) -> crate::equations::PartRead
     requires { ⌜ at ≤ length (now bytes) ⌝ }
-    requires { ⌜ length (now p) ≡ 16 ⌝ }
+    requires { ⌜ length (now p) ≡ coefficientCount ⌝ }
     ensures { λ r. ⌜ Answers (now (bytes .entry)) (r .refusal) (now (p .exit)) (r .at) (readPolynomial separator (drop at (now (bytes .entry)))) ⌝ }
 {
-    let k = tokens::number_between(bytes, at, 1, 16, 32);
+    let k = tokens::number_between(bytes, at, 1, MOST, 32);
     if k.refusal != 0 {
         return crate::equations::no_part(k.refusal);
     }

@@ -18,19 +18,19 @@ use lib.Dec.{T, ltb, leb, ltb→lt, lt→ltb, leb→le, le→leb}
 use lib.IntN.{ℤ}
 use lib.ListN.{length, take, drop, getD}
 use Rattle.algebra.specs.Polynomials.{isZero, isZero-cons, T-&&}
-use Rattle.rules.specs.Limits.{small}
+use Rattle.rules.specs.Limits.{coefficientCount, columnCount, blockCount, polynomialCount, blockLength, small}
 use Rattle.rules.specs.Rows.{Block, every, zeroBlock, smallRow}
-use Rattle.rules.specs.Stores.{parts, rowOf, unusedZero}
-use Rattle.rules.specs.Layout.{parts-length, getD-parts, polynomial-at-row}
+use Rattle.rules.specs.Stores.{rowOf, unusedZero}
+use Rattle.rules.specs.Layout.{coefficientsAt, blockAt, polynomialsIn, parts-length, getD-parts, polynomial-at-row}
 use Rattle.rows.specs.Flat.{smallRow-rowOf, every-from-at, every-from-all, length-blocks, block-at}
 
--- Polynomial q lies in block q / 4, counted from block l down, and in column q % 4.
+-- Polynomial q lies in block q / columnCount, counted from block l down, and in column q % columnCount.
 unfoldable pub outside : ℕ → ℕ → ℕ → Bool
-outside m D q = ltb D (q / 4) || leb m (q % 4)
+outside m D q = ltb D (q / columnCount) || leb m (q % columnCount)
 
 unfoldable pub placeRight : ℕ → ℕ → List ℤ → ℕ → Bool
 unfolding outside isZero every small
-placeRight m D l q = cond (outside m D q) (isZero (take 16 (drop (q * 16) l))) (every small (take 16 (drop (q * 16) l)))
+placeRight m D l q = cond (outside m D q) (isZero (coefficientsAt l q)) (every small (coefficientsAt l q))
 
 -- ---- tests of all members
 
@@ -50,11 +50,11 @@ false-of false h = refl
 
 -- ---- the polynomials of a row, by their places
 
-outside-iff : (m D q : ℕ) → T (outside m D q) ↔ ((D < q / 4) ⊎ (m ≤ q % 4))
+outside-iff : (m D q : ℕ) → T (outside m D q) ↔ ((D < q / columnCount) ⊎ (m ≤ q % columnCount))
 unfolding outside
 outside-iff m D q = (
-  forth (ltb D (q / 4)) (leb m (q % 4)) (ltb→lt D (q / 4)) (leb→le m (q % 4)),
-  back (ltb D (q / 4)) (leb m (q % 4)) (lt→ltb D (q / 4)) (le→leb m (q % 4)),
+  forth (ltb D (q / columnCount)) (leb m (q % columnCount)) (ltb→lt D (q / columnCount)) (leb→le m (q % columnCount)),
+  back (ltb D (q / columnCount)) (leb m (q % columnCount)) (lt→ltb D (q / columnCount)) (le→leb m (q % columnCount)),
 )
   where
     forth : {P Q : Type 0} (s t : Bool) → (T s → P) → (T t → Q) → T (s || t) → P ⊎ Q
@@ -84,10 +84,10 @@ module _ (m D : ℕ) (l : List ℤ) where
 
   -- Every polynomial outside the system's blocks and columns is zero.
   abbrev ZeroOutside : Type 0
-  ZeroOutside = (b c : ℕ) → b < 5 → c < 4 → (D < b) ⊎ (m ≤ c) → T (isZero (getD (getD blocks b []) c []))
+  ZeroOutside = (b c : ℕ) → b < blockCount → c < columnCount → (D < b) ⊎ (m ≤ c) → T (isZero (getD (getD blocks b []) c []))
 
-  length-block : (b : ℕ) → b < 5 → length (getD blocks b []) ≡ 4
-  length-block b h = ap length (block-at l b h) ∙ parts-length 16 4 (take 64 (drop (b * 64) l))
+  length-block : (b : ℕ) → b < blockCount → length (getD blocks b []) ≡ columnCount
+  length-block b h = ap length (block-at l b h) ∙ parts-length coefficientCount columnCount (blockAt l b)
 
   unused-places : T (unusedZero m D (rowOf l)) → ZeroOutside
   unfolding unusedZero zeroBlock
@@ -115,10 +115,10 @@ module _ (m D : ℕ) (l : List ℤ) where
   unfolding unusedZero zeroBlock
   places-unused h = T-&& (every (λ block. zeroBlock (drop m block)) blocks) (every zeroBlock (drop (suc D) blocks)) .1 (beside, below)
     where
-      inside : (b : ℕ) → b < length blocks → b < 5
+      inside : (b : ℕ) → b < length blocks → b < blockCount
       inside b e = omega (arith, length-blocks l)
 
-      column : (b c : ℕ) → b < 5 → c < length (getD blocks b []) → c < 4
+      column : (b c : ℕ) → b < blockCount → c < length (getD blocks b []) → c < columnCount
       column b c e f = omega (arith, length-block b e)
 
       beside : T (every (λ block. zeroBlock (drop m block)) blocks)
@@ -134,40 +134,46 @@ module _ (m D : ℕ) (l : List ℤ) where
           (λ c _ hc. h b c (inside b hb) (column b c (inside b hb) hc) (inl low)))
 
   abbrev part : ℕ → List ℤ
-  part q = take 16 (drop (q * 16) l)
+  part q = coefficientsAt l q
 
-  part-at : (b c : ℕ) → b < 5 → c < 4 → getD (getD blocks b []) c [] ≡ part (b * 4 + c)
+  part-at : (b c : ℕ) → b < blockCount → c < columnCount → getD (getD blocks b []) c [] ≡ part (b * columnCount + c)
   part-at b c hb hc =
-      let place : b * 64 + c * 16 ≡ (b * 4 + c) * 16 = omega arith in
-      polynomial-at-row l b c hb hc ∙ ap (λ n. take 16 (drop n l)) place
+      let place : b * blockLength + c * coefficientCount ≡ (b * columnCount + c) * coefficientCount = omega arith in
+      polynomial-at-row l b c hb hc ∙ ap (λ n. take coefficientCount (drop n l)) place
 
-  unused-iff : T (unusedZero m D (rowOf l)) ↔ ((q : ℕ) → q < 20 → (D < q / 4) ⊎ (m ≤ q % 4) → T (isZero (part q)))
+  unused-iff : T (unusedZero m D (rowOf l))
+      ↔ ((q : ℕ) → q < polynomialCount → (D < q / columnCount) ⊎ (m ≤ q % columnCount) → T (isZero (part q)))
   unused-iff = (forth, λ h. places-unused (back h))
     where
-      forth : T (unusedZero m D (rowOf l)) → (q : ℕ) → q < 20 → (D < q / 4) ⊎ (m ≤ q % 4) → T (isZero (part q))
+      forth : T (unusedZero m D (rowOf l)) → (q : ℕ) → q < polynomialCount → (D < q / columnCount) ⊎ (m ≤ q % columnCount)
+          → T (isZero (part q))
       forth z q h out =
-          let place : q / 4 * 4 + q % 4 ≡ q = omega arith in
-          let block : q / 4 < 5 = omega arith in
-          let column : q % 4 < 4 = omega arith in
-          rw (part-at (q / 4) (q % 4) block column, place) at (unused-places z (q / 4) (q % 4) block column out)
+          let place : q / columnCount * columnCount + q % columnCount ≡ q = omega arith in
+          let block : q / columnCount < blockCount = omega arith in
+          let column : q % columnCount < columnCount = omega arith in
+          rw (part-at (q / columnCount) (q % columnCount) block column, place)
+          at (unused-places z (q / columnCount) (q % columnCount) block column out)
 
-      back : ((q : ℕ) → q < 20 → (D < q / 4) ⊎ (m ≤ q % 4) → T (isZero (part q))) → ZeroOutside
+      back : ((q : ℕ) → q < polynomialCount → (D < q / columnCount) ⊎ (m ≤ q % columnCount) → T (isZero (part q))) → ZeroOutside
       back h b c hb hc out =
-          let block : (b * 4 + c) / 4 ≡ b = omega arith in
-          let column : (b * 4 + c) % 4 ≡ c = omega arith in
-          rw (part-at b c hb hc) (h (b * 4 + c) (omega arith) (rw (block, column) out))
+          let block : (b * columnCount + c) / columnCount ≡ b = omega arith in
+          let column : (b * columnCount + c) % columnCount ≡ c = omega arith in
+          rw (part-at b c hb hc) (h (b * columnCount + c) (omega arith) (rw (block, column) out))
 
-  small-iff : T (smallRow (rowOf l)) ↔ ((q : ℕ) → q < 20 → T (every small (part q)))
+  small-iff : T (smallRow (rowOf l)) ↔ ((q : ℕ) → q < polynomialCount → T (every small (part q)))
   small-iff = (
-    λ h q below. rw (getD-parts 16 20 l q below) at (every-from-at (every small) (parts 16 20 l) [] 0 (rw smallRow-rowOf at h) q zero-le (rw parts-length below)),
-    λ h. rw smallRow-rowOf (every-from-all (every small) (parts 16 20 l) [] 0 (λ q _ below. at h q (rw parts-length at below))),
+    λ h q below. rw (getD-parts coefficientCount polynomialCount l q below)
+        at (every-from-at (every small) (polynomialsIn l) [] 0 (rw smallRow-rowOf at h) q zero-le (rw parts-length below)),
+    λ h. rw smallRow-rowOf (every-from-all (every small) (polynomialsIn l) [] 0 (λ q _ below. at h q (rw parts-length at below))),
   )
     where
-      at : ((q : ℕ) → q < 20 → T (every small (part q))) → (q : ℕ) → q < 20 → T (every small (getD (parts 16 20 l) q []))
-      at h q below = rw (getD-parts 16 20 l q below) (h q below)
+      at : ((q : ℕ) → q < polynomialCount → T (every small (part q))) → (q : ℕ) → q < polynomialCount
+          → T (every small (getD (polynomialsIn l) q []))
+      at h q below = rw (getD-parts coefficientCount polynomialCount l q below) (h q below)
 
   -- The test of one polynomial, as statements.
-  place-iff : (q : ℕ) → T (placeRight m D l q) ↔ (((D < q / 4) ⊎ (m ≤ q % 4) → T (isZero (part q))) × T (every small (part q)))
+  place-iff : (q : ℕ) → T (placeRight m D l q)
+      ↔ (((D < q / columnCount) ⊎ (m ≤ q % columnCount) → T (isZero (part q))) × T (every small (part q)))
   unfolding placeRight
   place-iff q =
       let e = chosen (outside m D q) (isZero (part q)) (every small (part q)) (zero-small (part q)) in (
@@ -178,15 +184,15 @@ module _ (m D : ℕ) (l : List ℤ) where
   abbrev right : Bool
   right = smallRow (rowOf l) && unusedZero m D (rowOf l)
 
-  right-iff : T right ↔ ((q : ℕ) → q < 20 → T (placeRight m D l q))
+  right-iff : T right ↔ ((q : ℕ) → q < polynomialCount → T (placeRight m D l q))
   right-iff =
       let e = T-&& (smallRow (rowOf l)) (unusedZero m D (rowOf l)) in (
         λ h q below. place-iff q .1 (unused-iff .0 (e .0 h .1) q below, small-iff .0 (e .0 h .0) q below),
         λ h. e .1 (small-iff .1 (λ q below. place-iff q .0 (h q below) .1), unused-iff .1 (λ q below. place-iff q .0 (h q below) .0)),
       )
 
-  pub row-true : ((q : ℕ) → q < 20 → placeRight m D l q ≡ true) → right ≡ true
+  pub row-true : ((q : ℕ) → q < polynomialCount → placeRight m D l q ≡ true) → right ≡ true
   row-true h = true-of right (right-iff .1 (λ q below. subst T (sym (h q below)) tt))
 
-  pub row-false : (q : ℕ) → q < 20 → placeRight m D l q ≡ false → right ≡ false
+  pub row-false : (q : ℕ) → q < polynomialCount → placeRight m D l q ≡ false → right ≡ false
   row-false q below e = false-of right (λ h. subst T e (right-iff .0 h q below))

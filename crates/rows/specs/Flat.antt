@@ -23,11 +23,11 @@ use lib.Seq.{take-take, take-suc, drop-drop, getD-drop, getD-append-add}
 use lib.Dec.{T, lit<}
 use lib.IntN.{ℤ}
 use Rattle.algebra.specs.Polynomials.{Polynomial, isZero, isZeroℤ, isZero-append, add, mul}
-use Rattle.rules.specs.Limits.{small}
+use Rattle.rules.specs.Limits.{coefficientCount, columnCount, blockCount, blockLength, small}
 use Rattle.rules.specs.Rows.{Row, All, every, zeroBlock, zeroRow, leadingBlock, entry, mapRow, combine, smallRow, coefficientsOf}
 use Rattle.rules.specs.Lists.{suc-width, all-getD, getD-all, all-of-every, every-of-all, every-append, every-flatten, drop-take, getD-map}
 use Rattle.rules.specs.Stores.{parts, rowOf}
-use Rattle.rules.specs.Layout.{parts-length, flatten-parts, getD-parts, polynomial-at-row}
+use Rattle.rules.specs.Layout.{blockOf, coefficientsAt, blockAt, polynomialsIn, parts-length, flatten-parts, getD-parts, polynomial-at-row}
 
 abbrev pub polynomialsOf : Row → List Polynomial
 polynomialsOf r = flatten (r .blocks)
@@ -59,9 +59,9 @@ module _ {A : Type 0} where
       ap₂ _++_ (parts-take k n (n * k) l (le-refl (n * k))) (parts-parts k n m (drop (n * k) l)) ∙ sym (parts-append k n (m * n) l)
       ∙ ap (λ j. parts k j l) (sym (suc-width m n))
 
-pub polynomials-rowOf : (l : List ℤ) → polynomialsOf (rowOf l) ≡ parts 16 20 l
+pub polynomials-rowOf : (l : List ℤ) → polynomialsOf (rowOf l) ≡ polynomialsIn l
 unfolding rowOf
-polynomials-rowOf l = parts-parts 16 4 5 l
+polynomials-rowOf l = parts-parts coefficientCount columnCount blockCount l
 
 -- ---- tests of all members
 
@@ -105,7 +105,7 @@ pub zeroRow-numbers : (r : Row) → zeroRow r ≡ isZero (coefficientsOf r)
 unfolding zeroRow zeroBlock coefficientsOf
 zeroRow-numbers r = sym (isZero-flatten (polynomialsOf r) ∙ every-flatten isZero (r .blocks))
 
-pub smallRow-rowOf : (l : List ℤ) → smallRow (rowOf l) ≡ every (every small) (parts 16 20 l)
+pub smallRow-rowOf : (l : List ℤ) → smallRow (rowOf l) ≡ every (every small) (polynomialsIn l)
 unfolding smallRow coefficientsOf
 smallRow-rowOf l = every-flatten small (polynomialsOf (rowOf l)) ∙ ap (every (every small)) (polynomials-rowOf l)
 
@@ -114,23 +114,25 @@ smallRow-rowOf l = every-flatten small (polynomialsOf (rowOf l)) ∙ ap (every (
 pub every-parts : (k n : ℕ) (l : List ℤ) → every isZero (parts k n l) ≡ isZero (take (n * k) l)
 every-parts k n l = sym (isZero-flatten (parts k n l)) ∙ ap isZero (flatten-parts k n l)
 
-pub length-blocks : (l : List ℤ) → length (rowOf l .blocks) ≡ 5
+pub length-blocks : (l : List ℤ) → length (rowOf l .blocks) ≡ blockCount
 unfolding rowOf
-length-blocks l = length-map (parts 64 5 l) (parts 16 4) ∙ parts-length 64 5 l
+length-blocks l = length-map (parts blockLength blockCount l) blockOf ∙ parts-length blockLength blockCount l
 
-pub block-at : (l : List ℤ) (b : ℕ) → b < 5 → getD (rowOf l .blocks) b [] ≡ parts 16 4 (take 64 (drop (b * 64) l))
+pub block-at : (l : List ℤ) (b : ℕ) → b < blockCount → getD (rowOf l .blocks) b [] ≡ blockOf (blockAt l b)
 unfolding rowOf
-block-at l b h = getD-map (parts 16 4) (parts 64 5 l) b [] [] (rw parts-length h) ∙ ap (parts 16 4) (getD-parts 64 5 l b h)
+block-at l b h =
+    getD-map blockOf (parts blockLength blockCount l) b [] [] (rw parts-length h) ∙ ap blockOf (getD-parts blockLength blockCount l b h)
 
-pub zeroBlock-at : (l : List ℤ) (b : ℕ) → b < 5 → zeroBlock (getD (rowOf l .blocks) b []) ≡ isZero (take 64 (drop (b * 64) l))
+pub zeroBlock-at : (l : List ℤ) (b : ℕ) → b < blockCount → zeroBlock (getD (rowOf l .blocks) b []) ≡ isZero (blockAt l b)
 unfolding zeroBlock
 zeroBlock-at l b h =
-    let p = take 64 (drop (b * 64) l) in
-    ap (every isZero) (block-at l b h) ∙ every-parts 16 4 p ∙ ap isZero (take-take 64 64 (drop (b * 64) l) (le-refl 64))
+    let p = blockAt l b in
+    ap (every isZero) (block-at l b h) ∙ every-parts coefficientCount columnCount p
+    ∙ ap isZero (take-take blockLength blockLength (drop (b * blockLength) l) (le-refl blockLength))
 
-pub entry-at : (l : List ℤ) (c : ℕ) → c < 4 → entry (rowOf l) c ≡ take 16 (drop (c * 16) l)
+pub entry-at : (l : List ℤ) (c : ℕ) → c < columnCount → entry (rowOf l) c ≡ coefficientsAt l c
 unfolding entry leadingBlock
-entry-at l c h = polynomial-at-row l 0 c (lit< tt) h ∙ ap (λ n. take 16 (drop n l)) (zero-add (c * 16))
+entry-at l c h = polynomial-at-row l 0 c (lit< tt) h ∙ ap (λ n. take coefficientCount (drop n l)) (zero-add (c * coefficientCount))
 
 -- ---- changes of every polynomial
 

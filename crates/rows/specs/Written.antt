@@ -18,6 +18,7 @@ use lib.IntN.{ℤ, pos}
 use lib.ListN.{length, take, drop, getD, replicate, length-append, length-drop, length-replicate, replicate-append-replicate, take-append-drop}
 use lib.Seq.{drop-length, take-add, take-at, drop-at, length-take-le}
 use Rattle.algebra.specs.Polynomials.{isZero, zero-list, T-&&}
+use Rattle.rules.specs.Limits.{coefficientCount}
 use Rattle.rules.specs.Rows.{All, every}
 use Rattle.rules.specs.Layout.{parts-flatten, getD-parts}
 
@@ -64,46 +65,48 @@ unfolding isZero
 front-whole l = front-all l (length l) (rw drop-length tt)
 
 -- The polynomials of a row stand in parts of 16 numbers.
-module _ (l : List ℤ) (e : ℕ) (h : e * 16 + 16 ≤ length l) where
+module _ (l : List ℤ) (e : ℕ) (h : e * coefficientCount + coefficientCount ≤ length l) where
   abbrev n : ℕ
-  n = e * 16
+  n = e * coefficientCount
 
   abbrev next : ℕ
-  next = (e + 1) * 16
+  next = (e + 1) * coefficientCount
 
-  rest-zeros : replicate (length l - n) (pos 0) ≡ replicate 16 (pos 0) ++ replicate (length l - next) (pos 0)
+  rest-zeros : replicate (length l - n) (pos 0) ≡ replicate coefficientCount (pos 0) ++ replicate (length l - next) (pos 0)
   rest-zeros =
-      let count : length l - n ≡ 16 + (length l - next) = omega arith in
-      rw (replicate-append-replicate 16 (length l - next) (pos 0), count)
+      let count : length l - n ≡ coefficientCount + (length l - next) = omega arith in
+      rw (replicate-append-replicate coefficientCount (length l - next) (pos 0), count)
 
-  front-split : front l next ≡ take n l ++ (take 16 (drop n l) ++ replicate (length l - next) (pos 0))
+  front-split : front l next ≡ take n l ++ (take coefficientCount (drop n l) ++ replicate (length l - next) (pos 0))
   unfolding front
   front-split =
       let zeros = replicate (length l - next) (pos 0) in
-      let sum : next ≡ n + 16 = omega arith in
-      ap (λ m. take m l ++ zeros) sum ∙ ap (λ r. r ++ zeros) (take-add n 16 l) ∙ append-assoc (take n l) (take 16 (drop n l)) zeros
+      let sum : next ≡ n + coefficientCount = omega arith in
+      ap (λ m. take m l ++ zeros) sum ∙ ap (λ r. r ++ zeros) (take-add n coefficientCount l)
+      ∙ append-assoc (take n l) (take coefficientCount (drop n l)) zeros
 
   -- The next part in its place.
-  pub front-put : (k : ℕ) → k ≡ 16 → take n (front l n) ++ (take 16 (drop n l) ++ drop k (drop n (front l n))) ≡ front l next
+  pub front-put : (k : ℕ) → k ≡ coefficientCount
+      → take n (front l n) ++ (take coefficientCount (drop n l) ++ drop k (drop n (front l n))) ≡ front l next
   unfolding front
   front-put k w =
       let zeros = replicate (length l - n) (pos 0) in
       let long = length-take-le n l (omega arith) in
-      ap₂ (λ a b. a ++ (take 16 (drop n l) ++ drop k b)) (take-at (take n l) zeros n long) (drop-at (take n l) zeros n long)
-      ∙ ap (λ b. take n l ++ (take 16 (drop n l) ++ b))
-      (ap₂ drop w rest-zeros ∙ drop-at (replicate 16 (pos 0)) _ 16 (length-replicate 16 (pos 0)))
+      ap₂ (λ a b. a ++ (take coefficientCount (drop n l) ++ drop k b)) (take-at (take n l) zeros n long) (drop-at (take n l) zeros n long)
+      ∙ ap (λ b. take n l ++ (take coefficientCount (drop n l) ++ b))
+      (ap₂ drop w rest-zeros ∙ drop-at (replicate coefficientCount (pos 0)) _ coefficientCount (length-replicate coefficientCount (pos 0)))
       ∙ sym front-split
 
   -- A part of zeros is there already.
-  pub front-skip : T (isZero (take 16 (drop n l))) → front l n ≡ front l next
+  pub front-skip : T (isZero (take coefficientCount (drop n l))) → front l n ≡ front l next
   unfolding front
   front-skip z =
       ap (λ r. take n l ++ r) (rest-zeros ∙ ap (λ r. r ++ replicate (length l - next) (pos 0)) (sym part-zeros)) ∙ sym front-split
     where
-      part-zeros : take 16 (drop n l) ≡ replicate 16 (pos 0)
+      part-zeros : take coefficientCount (drop n l) ≡ replicate coefficientCount (pos 0)
       part-zeros =
-          zero-list (take 16 (drop n l)) z
-          ∙ ap (λ m. replicate m (pos 0)) (length-take-le 16 (drop n l) (rw length-drop (omega arith)))
+          zero-list (take coefficientCount (drop n l)) z
+          ∙ ap (λ m. replicate m (pos 0)) (length-take-le coefficientCount (drop n l) (rw length-drop (omega arith)))
 
 -- ---- lists of one width, joined
 

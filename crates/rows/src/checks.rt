@@ -1,10 +1,13 @@
 // The number checks of a row: coefficients within ±C, unused positions 0.
+use crate::lengths::COLUMNS;
+use crate::lengths::POLYNOMIALS;
+use polynomials::lengths::COEFFICIENTS;
 ghost use mathlib.Core.Path.{_≡_};
 ghost use mathlib.Core.Bool.{_&&_};
 ghost use Prim.Native.Nat.{_+_, _*_, _≤_};
 ghost use lib.ListN.{length};
 ghost use Rattle.algebra.specs.Polynomials.{isZero};
-ghost use Rattle.rules.specs.Limits.{rowLength, small};
+ghost use Rattle.rules.specs.Limits.{coefficientCount, rowLength, small};
 ghost use Rattle.rules.specs.Rows.{every, smallRow};
 ghost use Rattle.rules.specs.Stores.{rowOf, unusedZero};
 ghost use Rattle.rows.specs.Checks.{placeRight};
@@ -37,16 +40,16 @@ pub fn unused_zero(numbers: &[i64]) -> bool
     polynomials::content::all_zero(&numbers[i..])
 }
 
-// The polynomial at a place of the row, block place / 4 and column place % 4: outside the system's blocks and columns it is zero,
-// inside its coefficients are within ±C.
+// The polynomial at a place of the row, block place / COLUMNS and column place % COLUMNS: outside the system's blocks and columns it
+// is zero, inside its coefficients are within ±C.
 fn place_right(numbers: &[i64], place: usize, m: usize, span: usize) -> bool
-    requires { ⌜ place * 16 + 16 ≤ length (now numbers) ⌝ }
+    requires { ⌜ place * coefficientCount + coefficientCount ≤ length (now numbers) ⌝ }
     ensures { λ r. ⌜ r ≡ placeRight m span (now (numbers .entry)) place ⌝ }
 {
-    let from = place * 16;
-    let to = from + 16;
+    let from = place * COEFFICIENTS;
+    let to = from + COEFFICIENTS;
     let p = &numbers[from..to];
-    if span < place / 4 || m <= place % 4 {
+    if span < place / COLUMNS || m <= place % COLUMNS {
         polynomials::content::all_zero(p)
     } else {
         all_small(p)
@@ -59,7 +62,7 @@ pub fn row_right(row: &[i64], m: usize, span: usize) -> bool
     ensures { λ r. ⌜ r ≡ (smallRow (rowOf (now (row .entry))) && unusedZero m span (rowOf (now (row .entry)))) ⌝ }
 {
     let mut place = 0;
-    while place < 20 {
+    while place < POLYNOMIALS {
         if !place_right(row, place, m, span) {
             return false;
         }

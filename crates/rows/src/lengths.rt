@@ -1,14 +1,27 @@
-// The lengths of rows, relations and their stores: `rowLength` and `relationLength` of `rules`, the largest row store and the
-// relation store (SCOPE 3.2, 3.4, 3.11).
+// The lengths of rows, relations and their stores: `columnCount`, `blockCount`, `polynomialCount`, `blockLength`, `rowLength` and
+// `relationLength` of `rules`, the largest row store and the relation store (SCOPE 3.2, 3.4, 3.11).
+use polynomials::lengths::COEFFICIENTS;
+
+// The columns of a block, for the largest number of unknowns (SCOPE 1.1).
+pub const COLUMNS: usize = 4;
+
+// The blocks of a row, for the largest D (SCOPE 1.2).
+pub const BLOCKS: usize = 5;
+
+// The polynomials of a row.
+pub const POLYNOMIALS: usize = BLOCKS * COLUMNS;
+
+// The numbers of a block.
+pub const BLOCK: usize = COLUMNS * COEFFICIENTS;
 
 // The numbers of a row.
-pub const ROW: usize = 320;
+pub const ROW: usize = BLOCKS * BLOCK;
 
 // n0 and then a row.
 pub const RELATION: usize = 1 + ROW;
 
-// The largest row store: four rows.
-pub const ROWS: usize = 4 * ROW;
+// The largest row store: as many rows as there are columns.
+pub const ROWS: usize = COLUMNS * ROW;
 
 // The relation store: sixteen relations.
 pub const RELATIONS: usize = 16 * RELATION;

@@ -1,6 +1,8 @@
 -- The layout of the stores: what rows and relations are read from them, and what numbers they are written as.
 --
 -- Main definitions
+--   blockOf, polynomialsIn        the polynomials of a block, and of a row, by their numbers
+--   coefficientsAt, blockAt       the numbers of one polynomial, and of one block, of a row
 --   StoreRelation                 a relation as a store holds it
 --   StoresRight, NumbersRight     the facts behind a check of stores that gives no refusal, and behind its check of numbers
 --   SizeBounds, PlaceBounds       the facts behind right sizes, and behind a right place in the row store
@@ -33,8 +35,8 @@ use lib.IntN.{ℤ, pos, negℤ, natAbs, _-ℤ_}
 use lib.Signed.{leZ-yes, _≤ℤ_}
 use Rattle.algebra.specs.Order.{≤ℤ-trans, ≤ℤ-difference, negℤ-≤ℤ, +ℤ-≤ℤ-left, natAbs-≤-iff}
 use Rattle.algebra.specs.Polynomials.{T-&&, isZero, isZero-replicate, zero-list}
-use Rattle.rules.specs.Limits.{coefficientCount, columnCount, mostSpan, blockCount, blockLength, mostEquations, rowLength, relationLength}
-use Rattle.rules.specs.Limits.{mostRelations, blockBound}
+use Rattle.rules.specs.Limits.{coefficientCount, columnCount, mostSpan, blockCount, polynomialCount, blockLength, mostEquations, rowLength}
+use Rattle.rules.specs.Limits.{relationLength, mostRelations, blockBound}
 use Rattle.rules.specs.Rows.{Block, Row, Relation, noRow, All, every, coefficientsOf}
 use Rattle.rules.specs.Lists.{all-mono, map-keeps, map-back, flatten-flatten, length-flatten, suc-width, drop-take, getD-map}
 use Rattle.rules.specs.Lists.{cond-passed}
@@ -135,8 +137,19 @@ module _ {A B : Type 0} (k : ℕ) (decode : List A → B) (encode : B → List A
 
 -- ---- rows
 
-abbrev blockOf : List ℤ → Block
+-- The polynomials of a block, and of a row, that are written end to end.
+abbrev pub blockOf : List ℤ → Block
 blockOf = parts coefficientCount columnCount
+
+abbrev pub polynomialsIn : List ℤ → List (List ℤ)
+polynomialsIn = parts coefficientCount polynomialCount
+
+-- The numbers of polynomial e, and those of block b.
+abbrev pub coefficientsAt : List ℤ → ℕ → List ℤ
+coefficientsAt l e = take coefficientCount (drop (e * coefficientCount) l)
+
+abbrev pub blockAt : List ℤ → ℕ → List ℤ
+blockAt l b = take blockLength (drop (b * blockLength) l)
 
 abbrev StoreBlock : Block → Type 0
 StoreBlock b = (length b ≡ columnCount) × All (λ p. length p ≡ coefficientCount) b

@@ -6,7 +6,7 @@
 --   closing               what is done with it: its judgement, and the separator that has to follow
 --
 -- Main statements
---   field-of              a number, its judgement and its separator are a field
+--   answers-field         a number, its judgement and its separator are a field
 --   field-judged          a number that was read as a field has passed its judgement
 --   then-cong, then-then, then-parts   one thing read after another
 --   between-zero          what a range lets through
@@ -23,6 +23,9 @@ use lib.Dec.{T, eqb, leb, ltb}
 use borrow.Author.Tests.{eq-eqb, ne-eqb, leb-true}
 use lib.IntN.{ℤ, pos, negℤ, negsuc, natAbs}
 use lib.Signed.{leZ, nonNeg, leZ-yes, _≤ℤ_}
+use mir.Syntax.{w64}
+use mir.Val.{SFits, ofZ, toZ}
+use mir.Facts.{toZ-ofZ}
 use Rattle.algebra.specs.Order.{≤ℤ-trans, natAbs-≤-iff}
 use Rattle.algebra.specs.Polynomials.{both-true}
 use Rattle.rules.specs.Numbers.{isSeparator, word, afterWord, digits, startsRight, beginsNumber, isNumber, numberOf, Read, got, fault, thenRead, judged, readWord, readSeparator, field, between}
@@ -216,16 +219,18 @@ module _ (judge follow : ℤ → ℕ) where
   closing-of bytes zero v at = refl
   closing-of bytes (suc n) v at = refl
 
-  -- What `separated` gives, where it is told the number's own judgement and separator.
-  pub field-of : {bytes : List ℕ} {at n : ℕ} {v : ℤ} {next judgement separator : ℕ} → NumberAt bytes at n v next
-      → judgement ≡ judge v → separator ≡ follow v
-      → thenRead (readOf bytes n v next) (closing judgement separator) ≡ field judge follow (drop at bytes)
+  -- What `separated` answers is a field, where it is told the judgement and the separator of the number as an i64.
+  pub answers-field : {bytes : List ℕ} {at n : ℕ} {v : ℤ} {next judgement separator refusal : ℕ} {value : ℤ} {after : ℕ}
+      → NumberAt bytes at n v next → SFits w64 v → judgement ≡ judge (toZ w64 (ofZ w64 v)) → separator ≡ follow (toZ w64 (ofZ w64 v))
+      → Answers bytes refusal value after (thenRead (readOf bytes n v next) (closing judgement separator))
+      → Answers bytes refusal value after (field judge follow (drop at bytes))
   unfolding field readNumber
-  field-of {bytes} {at} {n} {v} {next} read j s =
-      ap₂ (λ j s. thenRead (readOf bytes n v next) (closing j s)) j s
+  answers-field {bytes} {at} {n} {v} {next} read fits j s a =
+      answers-as a
+      (ap₂ (λ j s. thenRead (readOf bytes n v next) (closing j s)) (j ∙ ap judge (toZ-ofZ fits)) (s ∙ ap follow (toZ-ofZ fits))
       ∙ closing-of bytes n v next
       ∙ ap (λ r. thenRead r (λ u more. closing (judge u) (follow u) u more)) (read .answer)
-      ∙ field-split (word (drop at bytes)) (afterWord (drop at bytes))
+      ∙ field-split (word (drop at bytes)) (afterWord (drop at bytes)))
 
 -- ---- laws of reading one thing after another
 

@@ -25,10 +25,11 @@ use lib.ListN.{length, take, drop, getD, length-map, List·getD-map}
 use lib.Seq.{take-add, length-take-le, getD-take, getD-drop}
 use Rattle.algebra.specs.Polynomials.{Polynomial, isZeroℤ, isZero, isZero-append, both-true}
 use Rattle.polynomials.specs.Content.{isZero-false}
+use Rattle.rules.specs.Limits.{coefficientCount, columnCount, blockLength}
 use Rattle.rules.specs.Rows.{Block, Row, All, every, zeroBlock, widthOf, leadingBlock, entry, firstNonzero}
 use Rattle.rules.specs.Lists.{getD-default}
 use Rattle.rules.specs.Stores.{parts, rowOf}
-use Rattle.rules.specs.Layout.{parts-length, getD-parts}
+use Rattle.rules.specs.Layout.{blockOf, coefficientsAt, parts-length, getD-parts}
 use Rattle.rows.specs.Flat.{every-longer, isZero-every, every-parts, parts-take, block-at}
 
 unfoldable pub foundOr : ℕ → Option ℕ → ℕ
@@ -37,7 +38,7 @@ foundOr n (some k) = k
 
 unfoldable pub Columns : List ℕ → Type 0
 unfolding All
-Columns order = All (λ c. c < 4) order
+Columns order = All (λ c. c < columnCount) order
 
 -- ---- the first nonzero polynomial of a list
 
@@ -64,7 +65,7 @@ firstNonzero-some (p ∷ ps) (suc j) h z n =
 
 -- ---- the first settled column that is met
 
-pub Columns-at : (order : List ℕ) → Columns order → (j : ℕ) → getD order j 0 < 4
+pub Columns-at : (order : List ℕ) → Columns order → (j : ℕ) → getD order j 0 < columnCount
 unfolding Columns All
 Columns-at [] h j = lit< tt
 Columns-at (c ∷ order) h zero = h .0
@@ -106,32 +107,36 @@ take-parts k n zero l h = refl
 take-parts k zero (suc j) l h = absurd (not-suc-le-zero h)
 take-parts k (suc n) (suc j) l h = ap (λ r. take k l ∷ r) (take-parts k n j (drop k l) (le-of-suc-le-suc h))
 
-leadingBlock-parts : (l : List ℤ) → leadingBlock (rowOf l) ≡ parts 16 4 l
+leadingBlock-parts : (l : List ℤ) → leadingBlock (rowOf l) ≡ blockOf l
 unfolding leadingBlock
-leadingBlock-parts l = block-at l 0 (lit< tt) ∙ parts-take 16 4 64 l (lit≤ tt)
+leadingBlock-parts l = block-at l 0 (lit< tt) ∙ parts-take coefficientCount columnCount blockLength l (lit≤ tt)
 
-pub column-none : (l : List ℤ) → isZero (take 64 l) ≡ true → firstNonzero (leadingBlock (rowOf l)) ≡ none
-column-none l z = ap firstNonzero (leadingBlock-parts l) ∙ firstNonzero-none (parts 16 4 l) (every-parts 16 4 l ∙ z)
+pub column-none : (l : List ℤ) → isZero (take blockLength l) ≡ true → firstNonzero (leadingBlock (rowOf l)) ≡ none
+column-none l z = ap firstNonzero (leadingBlock-parts l) ∙ firstNonzero-none (blockOf l) (every-parts coefficientCount columnCount l ∙ z)
 
 -- The column of the first nonzero number of the leading block.
-pub column-some : (l : List ℤ) (i : ℕ) → i < 64 → isZero (take i l) ≡ true → getD l i (pos 0) ≢ pos 0
-    → firstNonzero (leadingBlock (rowOf l)) ≡ some (i / 16)
+pub column-some : (l : List ℤ) (i : ℕ) → i < blockLength → isZero (take i l) ≡ true → getD l i (pos 0) ≢ pos 0
+    → firstNonzero (leadingBlock (rowOf l)) ≡ some (i / coefficientCount)
 column-some l i h z n =
     ap firstNonzero (leadingBlock-parts l)
-    ∙ firstNonzero-some (parts 16 4 l) (i / 16) (rw parts-length (omega arith)) zeros nonzero
+    ∙ firstNonzero-some (blockOf l) (i / coefficientCount) (rw parts-length (omega arith)) zeros nonzero
   where
-    zeros : every isZero (take (i / 16) (parts 16 4 l)) ≡ true
+    zeros : every isZero (take (i / coefficientCount) (blockOf l)) ≡ true
     zeros =
-        ap (every isZero) (take-parts 16 4 (i / 16) l (omega arith)) ∙ every-parts 16 (i / 16) l
-        ∙ isZero-front l (i / 16 * 16) i (omega arith) z
+        ap (every isZero) (take-parts coefficientCount columnCount (i / coefficientCount) l (omega arith))
+        ∙ every-parts coefficientCount (i / coefficientCount) l
+        ∙ isZero-front l (i / coefficientCount * coefficientCount) i (omega arith) z
 
-    place : getD (take 16 (drop (i / 16 * 16) l)) (i % 16) (pos 0) ≡ getD l i (pos 0)
+    place : getD (coefficientsAt l (i / coefficientCount)) (i % coefficientCount) (pos 0) ≡ getD l i (pos 0)
     place =
-        getD-take 16 (drop (i / 16 * 16) l) (i % 16) (pos 0) (omega arith) ∙ getD-drop (i / 16 * 16) l (i % 16) (pos 0)
+        getD-take coefficientCount (drop (i / coefficientCount * coefficientCount) l) (i % coefficientCount) (pos 0) (omega arith)
+        ∙ getD-drop (i / coefficientCount * coefficientCount) l (i % coefficientCount) (pos 0)
         ∙ ap (λ j. getD l j (pos 0)) (omega arith)
 
-    nonzero : isZero (getD (parts 16 4 l) (i / 16) []) ≡ false
-    nonzero = rw (getD-parts 16 4 l (i / 16) (omega arith)) (isZero-false _ (i % 16) (λ e. n (sym place ∙ e)))
+    nonzero : isZero (getD (blockOf l) (i / coefficientCount) []) ≡ false
+    nonzero =
+        rw (getD-parts coefficientCount columnCount l (i / coefficientCount) (omega arith))
+        (isZero-false _ (i % coefficientCount) (λ e. n (sym place ∙ e)))
 
 -- ---- the width of a row, from the lowest block up
 

@@ -26,7 +26,7 @@ use lib.Seq.{length-take-le, getD-take, getD-drop, getD-at, getD-append-add}
 use Rattle.algebra.specs.Integers.{natAbs-negℤ}
 use Rattle.algebra.specs.Polynomials.{coeff, mirror, length-mirror}
 use Rattle.algebra.specs.Coefficients.{alternate, coeff-mirror}
-use Rattle.rules.specs.Limits.{rowLength, small}
+use Rattle.rules.specs.Limits.{coefficientCount, columnCount, mostSpan, blockCount, blockLength, rowLength, small}
 use Rattle.rules.specs.Rows.{Block, Row, All, every, coefficientsOf, mapRow, smallRow, mirrorRow}
 use Rattle.rules.specs.Lists.{all-getD, getD-all, map-keeps}
 use Rattle.rules.specs.Stores.{rowOf, Shaped, StoreRow}
@@ -39,7 +39,7 @@ mirrorBlock D i = cond (leb i D) (D - i) i
 
 unfoldable pub mirrorPlace : ℕ → ℕ → ℕ
 unfolding mirrorBlock
-mirrorPlace D i = mirrorBlock D (i / 64) * 64 + i % 64
+mirrorPlace D i = mirrorBlock D (i / blockLength) * blockLength + i % blockLength
 
 -- ---- members that change places
 
@@ -115,35 +115,36 @@ natAbs-alternate (suc k) a = natAbs-negℤ (alternate k a) ∙ natAbs-alternate 
 -- ---- the shape of the mirror
 
 abbrev StoreBlock : Block → Type 0
-StoreBlock block = (length block ≡ 4) × All (λ p. length p ≡ 16) block
+StoreBlock block = (length block ≡ columnCount) × All (λ p. length p ≡ coefficientCount) block
 
 StoreBlock-mirror : (block : Block) → StoreBlock block → StoreBlock (map mirror block)
 StoreBlock-mirror block h = (
   length-map block mirror ∙ h .0,
-  map-keeps (λ p. length p ≡ 16) (λ p. length p ≡ 16) mirror (λ p w. length-mirror p ∙ w) block (h .1),
+  map-keeps (λ p. length p ≡ coefficientCount) (λ p. length p ≡ coefficientCount) mirror (λ p w. length-mirror p ∙ w) block (h .1),
 )
 
-pub mirrorBlock-below : (D b : ℕ) → D ≤ 4 → b < 5 → mirrorBlock D b < 5
+pub mirrorBlock-below : (D b : ℕ) → D ≤ mostSpan → b < blockCount → mirrorBlock D b < blockCount
 unfolding mirrorBlock
 mirrorBlock-below D b hD hb = cases (leb b D)
   where
-    cases : (t : Bool) → cond t (D - b) b < 5
+    cases : (t : Bool) → cond t (D - b) b < blockCount
     cases true = omega arith
     cases false = omega arith
 
 -- A coefficient of a row by its place.
-number-at : (l : List ℤ) (b c k : ℕ) → b < 5 → c < 4 → k < 16
-    → coeff (getD (getD (rowOf l .blocks) b []) c []) k ≡ getD l (b * 64 + c * 16 + k) (pos 0)
+number-at : (l : List ℤ) (b c k : ℕ) → b < blockCount → c < columnCount → k < coefficientCount
+    → coeff (getD (getD (rowOf l .blocks) b []) c []) k ≡ getD l (b * blockLength + c * coefficientCount + k) (pos 0)
 unfolding coeff
 number-at l b c k hb hc hk =
     ap (λ p. getD p k (pos 0)) (polynomial-at-row l b c hb hc)
-    ∙ getD-take 16 (drop (b * 64 + c * 16) l) k (pos 0) hk ∙ getD-drop (b * 64 + c * 16) l k (pos 0)
+    ∙ getD-take coefficientCount (drop (b * blockLength + c * coefficientCount) l) k (pos 0) hk
+    ∙ getD-drop (b * blockLength + c * coefficientCount) l k (pos 0)
 
-pub mirrorPlace-below : (D i : ℕ) → D ≤ 4 → i < rowLength → mirrorPlace D i < rowLength
+pub mirrorPlace-below : (D i : ℕ) → D ≤ mostSpan → i < rowLength → mirrorPlace D i < rowLength
 unfolding mirrorPlace
-mirrorPlace-below D i few h = omega (arith, mirrorBlock-below D (i / 64) few (omega arith))
+mirrorPlace-below D i few h = omega (arith, mirrorBlock-below D (i / blockLength) few (omega arith))
 
-module _ (D : ℕ) (l : List ℤ) (few : D ≤ 4) (long : length l ≡ rowLength) where
+module _ (D : ℕ) (l : List ℤ) (few : D ≤ mostSpan) (long : length l ≡ rowLength) where
   abbrev mirrored : Row
   mirrored = mirrorRow D (rowOf l)
 
@@ -164,7 +165,7 @@ module _ (D : ℕ) (l : List ℤ) (few : D ≤ 4) (long : length l ≡ rowLength
   unfolding Shaped mirrorRow mapRow
   StoreRow-mirrorRow = (count, getD-all StoreBlock (mirrored .blocks) [] block)
     where
-      count : length (mirrored .blocks) ≡ 5
+      count : length (mirrored .blocks) ≡ blockCount
       count = simp (length-map, length-append, length-reverse, length-take, length-drop, length-blocks) (omega arith)
 
       source : (b : ℕ) → b < length (mirrored .blocks) → StoreBlock (getD (rowOf l .blocks) (mirrorBlock D b) [])
@@ -184,33 +185,37 @@ module _ (D : ℕ) (l : List ℤ) (few : D ≤ 4) (long : length l ≡ rowLength
   rowOf-mirrorRow = rowOf-coefficientsOf mirrored StoreRow-mirrorRow
 
   pub number-mirrorRow : (i : ℕ) → i < rowLength
-      → getD (coefficientsOf mirrored) i (pos 0) ≡ alternate (i % 16) (getD l (mirrorPlace D i) (pos 0))
+      → getD (coefficientsOf mirrored) i (pos 0) ≡ alternate (i % coefficientCount) (getD l (mirrorPlace D i) (pos 0))
   unfolding mirrorPlace
   number-mirrorRow i h =
       ap (λ n. getD (coefficientsOf mirrored) n (pos 0)) place
-      ∙ sym (number-at (coefficientsOf mirrored) (i / 64) (i % 64 / 16) (i % 16) inside column power)
-      ∙ ap (λ r. coeff (getD (getD (r .blocks) (i / 64) []) (i % 64 / 16) []) (i % 16)) rowOf-mirrorRow
-      ∙ ap (λ p. coeff p (i % 16)) (polynomial-mirrorRow (i / 64) (i % 64 / 16))
-      ∙ coeff-mirror (getD (getD (rowOf l .blocks) source []) (i % 64 / 16) []) (i % 16)
-      ∙ ap (alternate (i % 16))
-      (number-at l source (i % 64 / 16) (i % 16) (mirrorBlock-below D (i / 64) few inside) column power ∙ ap (λ n. getD l n (pos 0)) moved)
+      ∙ sym (number-at (coefficientsOf mirrored) (i / blockLength) (i % blockLength / coefficientCount)
+      (i % coefficientCount) inside column power)
+      ∙ ap (λ r. coeff (getD (getD (r .blocks) (i / blockLength) []) (i % blockLength / coefficientCount) [])
+      (i % coefficientCount)) rowOf-mirrorRow
+      ∙ ap (λ p. coeff p (i % coefficientCount)) (polynomial-mirrorRow (i / blockLength) (i % blockLength / coefficientCount))
+      ∙ coeff-mirror (getD (getD (rowOf l .blocks) source []) (i % blockLength / coefficientCount) []) (i % coefficientCount)
+      ∙ ap (alternate (i % coefficientCount))
+      (number-at l source (i % blockLength / coefficientCount) (i % coefficientCount)
+      (mirrorBlock-below D (i / blockLength) few inside) column power ∙ ap (λ n. getD l n (pos 0)) moved)
     where
       source : ℕ
-      source = mirrorBlock D (i / 64)
+      source = mirrorBlock D (i / blockLength)
 
-      inside : i / 64 < 5
+      inside : i / blockLength < blockCount
       inside = omega arith
 
-      column : i % 64 / 16 < 4
+      column : i % blockLength / coefficientCount < columnCount
       column = omega arith
 
-      power : i % 16 < 16
+      power : i % coefficientCount < coefficientCount
       power = omega arith
 
-      place : i ≡ i / 64 * 64 + i % 64 / 16 * 16 + i % 16
+      place : i ≡ i / blockLength * blockLength + i % blockLength / coefficientCount * coefficientCount + i % coefficientCount
       place = omega arith
 
-      moved : source * 64 + i % 64 / 16 * 16 + i % 16 ≡ source * 64 + i % 64
+      moved : source * blockLength + i % blockLength / coefficientCount * coefficientCount + i % coefficientCount
+          ≡ source * blockLength + i % blockLength
       moved = omega arith
 
   pub small-mirrorRow : T (every small l) → T (smallRow mirrored)

@@ -1,7 +1,10 @@
 -- The numbers of a row shifted up by one block.
 --
+-- Main definitions
+--   movedCount        the number of polynomials that move
+--
 -- Main statements
---   length-shiftUp    they are 320
+--   length-shiftUp    they are as many as a row has
 --   shiftUp-part      polynomial e is p(n + 1) for the polynomial p one block further down
 --   shiftUp-rest      the last block is zero
 --   shifted-held      a shifted row within the limit is held by its numbers
@@ -17,28 +20,32 @@ use lib.Seq.{drop-at, drop-drop}
 use Rattle.algebra.specs.Polynomials.{Polynomial, isZero, shift, shiftBy, length-shift, isZero-append, isZero-shift, T-&&}
 use Rattle.rules.specs.Rows.{Block, Row, All, mapRow, coefficientsOf, blank, leadingBlock, shiftUp}
 use Rattle.rules.specs.Lists.{append-all, map-keeps, flatten-append, length-flatten}
-use Rattle.rules.specs.Limits.{rowLength}
+use Rattle.rules.specs.Limits.{coefficientCount, columnCount, mostSpan, blockLength, rowLength}
 use Rattle.rules.specs.Stores.{parts, rowOf, StoreRow}
 use Rattle.rules.specs.Elimination.{within, limitCoefficients}
-use Rattle.rules.specs.Layout.{parts-length, parts-width, getD-parts, length-coefficientsOf}
+use Rattle.rules.specs.Layout.{blockOf, coefficientsAt, parts-length, parts-width, getD-parts, length-coefficientsOf}
 use Rattle.rows.specs.Written.{part-flatten}
 use Rattle.rows.specs.Flat.{polynomialsOf, flatten-map, parts-parts}
 use Rattle.working.specs.Worked.{Held, held, store-row}
 
--- The polynomials of blocks 2 to 5, and those of a blank block.
+-- The polynomials of all blocks but the first move up.
+abbrev pub movedCount : ℕ
+movedCount = mostSpan * columnCount
+
+-- These polynomials, and those of a blank block.
 below : List ℤ → List Polynomial
-below l = parts 16 16 (drop 64 l)
+below l = parts coefficientCount movedCount (drop blockLength l)
 
 last : List ℤ → Block
-last l = blank (parts 16 4 (take 64 l))
+last l = blank (blockOf (take blockLength l))
 
 polynomials-shiftUp : (l : List ℤ) → polynomialsOf (shiftUp (rowOf l)) ≡ map shift (below l) ++ map shift (last l)
 unfolding shiftUp mapRow rowOf leadingBlock flatten below last
 polynomials-shiftUp l =
-    flatten-map shift (map (parts 16 4) (parts 64 4 (drop 64 l)) ++ (last l ∷ []))
+    flatten-map shift (map blockOf (parts blockLength mostSpan (drop blockLength l)) ++ (last l ∷ []))
     ∙ ap (map shift)
-    (flatten-append (map (parts 16 4) (parts 64 4 (drop 64 l))) (last l ∷ [])
-    ∙ ap₂ _++_ (parts-parts 16 4 4 (drop 64 l)) (append-nil (last l)))
+    (flatten-append (map blockOf (parts blockLength mostSpan (drop blockLength l))) (last l ∷ [])
+    ∙ ap₂ _++_ (parts-parts coefficientCount columnCount mostSpan (drop blockLength l)) (append-nil (last l)))
     ∙ map-append shift (below l) (last l)
 
 numbers-shiftUp : (l : List ℤ) → coefficientsOf (shiftUp (rowOf l)) ≡ flatten (map shift (below l)) ++ flatten (map shift (last l))
@@ -65,47 +72,57 @@ blank-zero (p ∷ ps) = step (shift (map (λ _. pos 0) p)) _ (rw (isZero-shift (
     step q r y z = rw (isZero-append q r) (T-&& (isZero q) (isZero r) .1 (y, z))
 
 module _ (l : List ℤ) (long : length l ≡ rowLength) where
-  below-width : All (λ p. length p ≡ 16) (map shift (below l))
+  below-width : All (λ p. length p ≡ coefficientCount) (map shift (below l))
   unfolding below
-  below-width = map-width shift length-shift 16 (parts 16 16 (drop 64 l)) (parts-width 16 16 (drop 64 l) (rw length-drop (omega arith)))
+  below-width =
+      map-width shift length-shift coefficientCount (parts coefficientCount movedCount (drop blockLength l))
+      (parts-width coefficientCount movedCount (drop blockLength l) (rw length-drop (omega arith)))
 
-  last-width : All (λ p. length p ≡ 16) (map shift (last l))
+  last-width : All (λ p. length p ≡ coefficientCount) (map shift (last l))
   unfolding last blank
   last-width =
-      map-width shift length-shift 16 (last l)
-      (map-width (map (λ _. pos 0)) (λ p. length-map p (λ _. pos 0)) 16 (parts 16 4 (take 64 l))
-      (parts-width 16 4 (take 64 l) (rw length-take (omega arith))))
+      map-width shift length-shift coefficientCount (last l)
+      (map-width (map (λ _. pos 0)) (λ p. length-map p (λ _. pos 0)) coefficientCount (blockOf (take blockLength l))
+      (parts-width coefficientCount columnCount (take blockLength l) (rw length-take (omega arith))))
 
   StoreRow-shiftUp : StoreRow (shiftUp (rowOf l))
   unfolding shiftUp mapRow rowOf leadingBlock blank All
   StoreRow-shiftUp =
       store-row (shiftUp (rowOf l)) refl (refl, (refl, (refl, (refl, (refl, tt)))))
-      (subst (All (λ p. length p ≡ 16)) (sym (polynomials-shiftUp l)) (append-all (λ p. length p ≡ 16) (map shift (below l)) (map shift (last l)) below-width last-width))
+      (subst (All (λ p. length p ≡ coefficientCount)) (sym (polynomials-shiftUp l))
+      (append-all (λ p. length p ≡ coefficientCount) (map shift (below l)) (map shift (last l)) below-width last-width))
 
   -- A shifted row within the limit is held by its numbers.
   pub shifted-held : (r : Row) → limitCoefficients (shiftUp (rowOf l)) ≡ within r → Held r
   shifted-held r e = held (shiftUp (rowOf l)) r StoreRow-shiftUp e
 
-  below-length : length (flatten (map shift (below l))) ≡ 256
+  below-length : length (flatten (map shift (below l))) ≡ movedCount * coefficientCount
   unfolding below
   below-length =
-      length-flatten 16 (map shift (below l)) below-width
-      ∙ ap (λ n. n * 16) (length-map (below l) shift ∙ parts-length 16 16 (drop 64 l))
+      length-flatten coefficientCount (map shift (below l)) below-width
+      ∙ ap (λ n. n * coefficientCount) (length-map (below l) shift ∙ parts-length coefficientCount movedCount (drop blockLength l))
 
   pub length-shiftUp : length (coefficientsOf (shiftUp (rowOf l))) ≡ rowLength
   length-shiftUp = length-coefficientsOf (shiftUp (rowOf l)) StoreRow-shiftUp
 
-  pub shiftUp-rest : T (isZero (drop 256 (coefficientsOf (shiftUp (rowOf l)))))
+  pub shiftUp-rest : T (isZero (drop (movedCount * coefficientCount) (coefficientsOf (shiftUp (rowOf l)))))
   unfolding last
   shiftUp-rest =
-      rw (numbers-shiftUp l, drop-at (flatten (map shift (below l))) (flatten (map shift (last l))) 256 below-length)
-      (blank-zero (parts 16 4 (take 64 l)))
+      rw (
+        numbers-shiftUp l,
+        drop-at (flatten (map shift (below l))) (flatten (map shift (last l)))
+            (movedCount * coefficientCount) below-length,
+      )
+      (blank-zero (blockOf (take blockLength l)))
 
-  pub shiftUp-part : (e : ℕ) → e < 16 → take 16 (drop (e * 16) (coefficientsOf (shiftUp (rowOf l)))) ≡ shift (take 16 (drop (e * 16 + 64) l))
+  pub shiftUp-part : (e : ℕ) → e < movedCount
+      → coefficientsAt (coefficientsOf (shiftUp (rowOf l))) e
+      ≡ shift (take coefficientCount (drop (e * coefficientCount + blockLength) l))
   unfolding below shift shiftBy
   shiftUp-part e h =
-      ap (λ r. take 16 (drop (e * 16) r)) (numbers-shiftUp l)
-      ∙ part-flatten 16 16 (map shift (below l)) (flatten (map shift (last l)))
-      (length-map (below l) shift ∙ parts-length 16 16 (drop 64 l)) below-width e h
-      ∙ List·getD-map shift (below l) e [] ∙ ap shift (getD-parts 16 16 (drop 64 l) e h)
-      ∙ ap (λ r. shift (take 16 r)) (drop-drop (e * 16) 64 l ∙ ap (λ n. drop n l) (add-comm 64 (e * 16)))
+      ap (λ r. coefficientsAt r e) (numbers-shiftUp l)
+      ∙ part-flatten coefficientCount movedCount (map shift (below l)) (flatten (map shift (last l)))
+      (length-map (below l) shift ∙ parts-length coefficientCount movedCount (drop blockLength l)) below-width e h
+      ∙ List·getD-map shift (below l) e [] ∙ ap shift (getD-parts coefficientCount movedCount (drop blockLength l) e h)
+      ∙ ap (λ r. shift (take coefficientCount r))
+      (drop-drop (e * coefficientCount) blockLength l ∙ ap (λ n. drop n l) (add-comm blockLength (e * coefficientCount)))

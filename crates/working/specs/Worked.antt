@@ -19,7 +19,7 @@ use native.Mathlib.Omega.{arith}
 use lib.Dec.{T}
 use lib.IntN.{ℤ, pos}
 use lib.ListN.{length, replicate}
-use Rattle.rules.specs.Limits.{rowLength, small}
+use Rattle.rules.specs.Limits.{coefficientCount, columnCount, blockCount, rowLength, small}
 use Rattle.rules.specs.Rows.{Block, Row, All, every, coefficientsOf, smallRow}
 use Rattle.rules.specs.Stores.{rowOf, Shaped, StoreRow}
 use Rattle.rules.specs.Layout.{rowOf-coefficientsOf, length-coefficientsOf}
@@ -104,15 +104,17 @@ held q r shape e =
     })
 
 -- The shape, by the twenty polynomials.
-pub store-row : (r : Row) → length (r .blocks) ≡ 5 → All (λ b. length b ≡ 4) (r .blocks) → All (λ p. length p ≡ 16) (polynomialsOf r) → StoreRow r
+pub store-row : (r : Row) → length (r .blocks) ≡ blockCount → All (λ b. length b ≡ columnCount) (r .blocks)
+    → All (λ p. length p ≡ coefficientCount) (polynomialsOf r) → StoreRow r
 unfolding Shaped All flatten
 store-row r count columns widths = (count, shapes (r .blocks) columns widths)
   where
-    front-all : (l m : Block) → All (λ p. length p ≡ 16) (l ++ m) → All (λ p. length p ≡ 16) l × All (λ p. length p ≡ 16) m
+    front-all : (l m : Block) → All (λ p. length p ≡ coefficientCount) (l ++ m)
+        → All (λ p. length p ≡ coefficientCount) l × All (λ p. length p ≡ coefficientCount) m
     front-all [] m h = (tt, h)
     front-all (p ∷ l) m h = let rest = front-all l m (h .1) in ((h .0, rest .0), rest .1)
 
-    shapes : (bs : List Block) → All (λ b. length b ≡ 4) bs → All (λ p. length p ≡ 16) (flatten bs)
-        → All (λ b. (length b ≡ 4) × All (λ p. length p ≡ 16) b) bs
+    shapes : (bs : List Block) → All (λ b. length b ≡ columnCount) bs → All (λ p. length p ≡ coefficientCount) (flatten bs)
+        → All (λ b. (length b ≡ columnCount) × All (λ p. length p ≡ coefficientCount) b) bs
     shapes [] c w = tt
     shapes (b ∷ bs) c w = let both = front-all b (flatten bs) w in ((c .0, both .0), shapes bs (c .1) (both .1))

@@ -1,9 +1,14 @@
 // Zero test, width, leading entries and their first nonzero column.
+use polynomials::lengths::COEFFICIENTS;
+use rows::lengths::BLOCK;
+use rows::lengths::BLOCKS;
+use rows::lengths::COLUMNS;
 use rows::lengths::ROW;
 ghost use mathlib.Core.Path.{_≡_};
 ghost use mathlib.Core.List.{map};
 ghost use Prim.Native.Nat.{_≤_};
 ghost use lib.ListN.{take};
+ghost use Rattle.rules.specs.Limits.{columnCount};
 ghost use Rattle.rules.specs.Rows as Rows;
 ghost use Rattle.rules.specs.Stores.{rowOf};
 ghost use Rattle.working.specs.Found.{foundOr, Columns};
@@ -19,10 +24,10 @@ pub fn width(row: [i64; ROW]) -> usize
     ensures { λ r. ⌜ r ≡ Rows.width (rowOf row) ⌝ }
 {
     let numbers = &row[..];
-    let mut blocks = 5;
+    let mut blocks = BLOCKS;
     while 0 < blocks {
-        let from = (blocks - 1) * 64;
-        let to = blocks * 64;
+        let from = (blocks - 1) * BLOCK;
+        let to = blocks * BLOCK;
         if !polynomials::content::is_zero(&numbers[from..to]) {
             return blocks;
         }
@@ -31,18 +36,18 @@ pub fn width(row: [i64; ROW]) -> usize
     0
 }
 
-// The lowest column with a nonzero leading entry (SCOPE 2.51) comes out of the loop by break (SCOPE 8.8); 4 if the
+// The lowest column with a nonzero leading entry (SCOPE 2.51) comes out of the loop by break (SCOPE 8.8); COLUMNS if the
 // leading block is zero.
 pub fn first_column(row: [i64; ROW]) -> usize
-    ensures { λ r. ⌜ r ≡ foundOr 4 (Rows.firstNonzero (Rows.leadingBlock (rowOf row))) ⌝ }
+    ensures { λ r. ⌜ r ≡ foundOr columnCount (Rows.firstNonzero (Rows.leadingBlock (rowOf row))) ⌝ }
 {
     let mut i = 0;
     let column = loop {
-        if i == 64 {
-            break 4;
+        if i == BLOCK {
+            break COLUMNS;
         }
         if row[i] != 0 {
-            break i / 16;
+            break i / COEFFICIENTS;
         }
         i += 1;
     };
@@ -50,15 +55,15 @@ pub fn first_column(row: [i64; ROW]) -> usize
 }
 
 // The first settled row whose column meets a nonzero leading entry of the row, or `settled` (SCOPE 2.21, 2.26).
-pub fn first_met(row: [i64; ROW], order: [usize; 4], settled: usize) -> usize
-    requires { ⌜ (settled ≤ 4) × Columns order ⌝ }
+pub fn first_met(row: [i64; ROW], order: [usize; COLUMNS], settled: usize) -> usize
+    requires { ⌜ (settled ≤ columnCount) × Columns order ⌝ }
     ensures { λ r. ⌜ r ≡ foundOr settled (Rows.firstNonzero (map (Rows.entry (rowOf row)) (take settled order))) ⌝ }
 {
     let numbers = &row[..];
     let mut j = 0;
     while j < settled {
-        let from = order[j] * 16;
-        let to = from + 16;
+        let from = order[j] * COEFFICIENTS;
+        let to = from + COEFFICIENTS;
         if !polynomials::content::is_zero(&numbers[from..to]) {
             return j;
         }

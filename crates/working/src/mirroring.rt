@@ -1,11 +1,13 @@
 // The mirror: block -s for s and -n for n.
+use polynomials::lengths::COEFFICIENTS;
+use rows::lengths::BLOCK;
 use rows::lengths::ROW;
 ghost use mathlib.Core.Path.{_≡_};
 ghost use Prim.Native.Nat.{_^_, _≤_, _<_};
 ghost use lib.Dec.{T};
 ghost use lib.IntN.{natAbs};
 ghost use Rattle.algebra.specs.Coefficients.{alternate};
-ghost use Rattle.rules.specs.Limits.{small};
+ghost use Rattle.rules.specs.Limits.{mostSpan, small};
 ghost use Rattle.rules.specs.Rows.{every, coefficientsOf, mirrorRow};
 ghost use Rattle.rules.specs.Stores.{rowOf};
 ghost use Rattle.working.specs.Mirroring.{mirrorBlock};
@@ -31,14 +33,14 @@ fn alternated(a: i64, power: usize) -> i64
 
 // The row with block -s for s and -n for n (SCOPE 2.91).
 pub fn mirrored(row: [i64; ROW], span: usize) -> [i64; ROW]
-    requires { ⌜ (span ≤ 4) × T (every small row) ⌝ }
+    requires { ⌜ (span ≤ mostSpan) × T (every small row) ⌝ }
     ensures { λ r. ⌜ r ≡ coefficientsOf (mirrorRow span (rowOf row)) ⌝ }
 {
     let mut result = [0i64; ROW];
     let mut i = 0;
     while i < ROW {
-        let from = mirrored_block(i / 64, span) * 64 + i % 64;
-        result[i] = alternated(row[from], i % 16);
+        let from = mirrored_block(i / BLOCK, span) * BLOCK + i % BLOCK;
+        result[i] = alternated(row[from], i % COEFFICIENTS);
         i += 1;
     }
     result

@@ -39,10 +39,10 @@ use lib.Seq.{getD-take, getD-drop, getD-set-same, getD-set-other}
 use Rattle.algebra.specs.Integers.{natAbs-+ℤ, natAbs-negℤ}
 use Rattle.algebra.specs.Polynomials.{Polynomial, coeff, isZero, isZero-cons, isZero-coeff, isZero-append}
 use Rattle.rules.specs.Lists.{drop-take}
-use Rattle.rules.specs.Limits.{bound, coefficientCount, small}
+use Rattle.rules.specs.Limits.{bound, coefficientCount, columnCount, mostSpan, blockCount, polynomialCount, blockLength, blockBound, small}
 use Rattle.rules.specs.Rows.{Block, every}
 use Rattle.rules.specs.Stores.{Sizes, equations, parts, rowOf, rowsOf, relationOf, relationsOf}
-use Rattle.rules.specs.Layout.{length-rowsOf, length-relationsOf, parts-length, getD-parts}
+use Rattle.rules.specs.Layout.{blockOf, coefficientsAt, blockAt, polynomialsIn, length-rowsOf, length-relationsOf, parts-length, getD-parts}
 use Rattle.rules.specs.Sheets.{Sheet, Term, trim, blockTerms, termsFrom, termNumbers}
 use Rattle.rules.specs.Sheets.{equationNumbers, relationLine, orderLine, sheetLines, writeSheet}
 use Rattle.rows.specs.Flat.{polynomials-rowOf}
@@ -415,7 +415,7 @@ length-termsFrom s (b ∷ bs) =
     ∙ ap₂ _+_ (length-blockTerms s 1 b) (length-termsFrom (predℤ s) bs)
     ∙ sym (nonzeroCount-append b (flatten bs))
 
-pub term-count : (s : ℤ) (l : List ℤ) → length (termsFrom s (rowOf l .blocks)) ≡ nonzeroCount (parts coefficientCount 20 l)
+pub term-count : (s : ℤ) (l : List ℤ) → length (termsFrom s (rowOf l .blocks)) ≡ nonzeroCount (polynomialsIn l)
 term-count s l = length-termsFrom s (rowOf l .blocks) ∙ ap nonzeroCount (polynomials-rowOf l)
 
 -- ---- parts of one width, one after the other
@@ -445,113 +445,116 @@ pub held-end : {A B : Type 0} (f : List A → B) (k n : ℕ) (l : List A) (i : �
 held-end f k n l i h = drop-map f i (parts k n l) ∙ ap (map f) (parts-end k n l i h)
 
 -- One polynomial more is counted, unless it is zero.
-pub count-none : (l : List ℤ) (i n : ℕ) → i < 20 → n ≡ length (trim (take 16 (drop (i * 16) l))) → n ≡ 0
-    → nonzeroCount (drop i (parts 16 20 l)) ≡ nonzeroCount (drop (i + 1) (parts 16 20 l))
+pub count-none : (l : List ℤ) (i n : ℕ) → i < polynomialCount → n ≡ length (trim (coefficientsAt l i)) → n ≡ 0
+    → nonzeroCount (drop i (polynomialsIn l)) ≡ nonzeroCount (drop (i + 1) (polynomialsIn l))
 unfolding nonzeroCount
 count-none l i n h e none =
-    rw (parts-next 16 20 l i h, isZero-trim (take 16 (drop (i * 16) l)), sym e ∙ none)
+    rw (parts-next coefficientCount polynomialCount l i h, isZero-trim (coefficientsAt l i), sym e ∙ none)
 
-pub count-some : (l : List ℤ) (i n : ℕ) → i < 20 → n ≡ length (trim (take 16 (drop (i * 16) l))) → n ≢ 0
-    → nonzeroCount (drop i (parts 16 20 l)) ≡ suc (nonzeroCount (drop (i + 1) (parts 16 20 l)))
+pub count-some : (l : List ℤ) (i n : ℕ) → i < polynomialCount → n ≡ length (trim (coefficientsAt l i)) → n ≢ 0
+    → nonzeroCount (drop i (polynomialsIn l)) ≡ suc (nonzeroCount (drop (i + 1) (polynomialsIn l)))
 unfolding nonzeroCount
 count-some l i n h e some =
-    let part = take 16 (drop (i * 16) l) in
-    rw (parts-next 16 20 l i h, isZero-trim part, ne-eqb (length (trim part)) 0 (λ z. some (e ∙ z)))
+    let part = coefficientsAt l i in
+    rw (parts-next coefficientCount polynomialCount l i h, isZero-trim part, ne-eqb (length (trim part)) 0 (λ z. some (e ∙ z)))
 
 -- The number of coefficients of each of the first n polynomials that l holds.
 abbrev pub Lengths : ℕ → List ℤ → List ℕ → Type 0
-Lengths n l lengths = (i : ℕ) → i < n → getD lengths i 0 ≡ length (trim (take 16 (drop (i * 16) l)))
+Lengths n l lengths = (i : ℕ) → i < n → getD lengths i 0 ≡ length (trim (coefficientsAt l i))
 
 -- Those of one block.
-pub lengths-part : (row : List ℤ) (lengths : List ℕ) (b : ℕ) → b < 5 → Lengths 20 row lengths
-    → Lengths 4 (take 64 (drop (b * 64) row)) (take 4 (drop (b * 4) lengths))
+pub lengths-part : (row : List ℤ) (lengths : List ℕ) (b : ℕ) → b < blockCount → Lengths polynomialCount row lengths
+    → Lengths columnCount (blockAt row b) (take columnCount (drop (b * columnCount) lengths))
 lengths-part row lengths b h all c g =
-    getD-take 4 (drop (b * 4) lengths) c 0 g ∙ getD-drop (b * 4) lengths c 0 ∙ all (b * 4 + c) (omega arith)
+    getD-take columnCount (drop (b * columnCount) lengths) c 0 g ∙ getD-drop (b * columnCount) lengths c 0
+    ∙ all (b * columnCount + c) (omega arith)
     ∙ ap (λ p. length (trim p)) (sym polynomial)
   where
-    whole : 64 ≡ c * 16 + (64 - c * 16)
+    whole : blockLength ≡ c * coefficientCount + (blockLength - c * coefficientCount)
     whole = omega arith
 
-    place : b * 64 + c * 16 ≡ (b * 4 + c) * 16
+    place : b * blockLength + c * coefficientCount ≡ (b * columnCount + c) * coefficientCount
     place = omega arith
 
-    polynomial : take 16 (drop (c * 16) (take 64 (drop (b * 64) row))) ≡ take 16 (drop ((b * 4 + c) * 16) row)
+    polynomial : coefficientsAt (blockAt row b) c ≡ coefficientsAt row (b * columnCount + c)
     polynomial =
-        ap (λ n. take 16 (drop (c * 16) (take n (drop (b * 64) row)))) whole
-        ∙ ap (take 16) (drop-take (c * 16) (64 - c * 16) (drop (b * 64) row))
-        ∙ take-take 16 (64 - c * 16) (drop (c * 16) (drop (b * 64) row)) (omega arith)
-        ∙ ap (take 16) (drop-drop (c * 16) (b * 64) row)
-        ∙ ap (λ n. take 16 (drop n row)) place
+        ap (λ n. coefficientsAt (take n (drop (b * blockLength) row)) c) whole
+        ∙ ap (take coefficientCount) (drop-take (c * coefficientCount) (blockLength - c * coefficientCount) (drop (b * blockLength) row))
+        ∙ take-take coefficientCount (blockLength - c * coefficientCount) (drop (c * coefficientCount) (drop (b * blockLength) row))
+        (omega arith)
+        ∙ ap (take coefficientCount) (drop-drop (c * coefficientCount) (b * blockLength) row)
+        ∙ ap (λ n. take coefficientCount (drop n row)) place
 
 -- One length more.
 pub lengths-next : (l : List ℤ) (lengths : List ℕ) (i n : ℕ) → Lengths i l lengths → i < length lengths
-    → n ≡ length (trim (take 16 (drop (i * 16) l))) → Lengths (i + 1) l (set lengths i n)
+    → n ≡ length (trim (coefficientsAt l i)) → Lengths (i + 1) l (set lengths i n)
 lengths-next l lengths i n all h e =
-    below-more (λ k. getD (set lengths i n) k 0 ≡ length (trim (take 16 (drop (k * 16) l)))) i
+    below-more (λ k. getD (set lengths i n) k 0 ≡ length (trim (coefficientsAt l k))) i
     (λ k lt. getD-set-other lengths i k n 0 (λ same. omega arith) ∙ all k lt) (getD-set-same lengths i n 0 h ∙ e)
 
 -- ---- one term, and one block, more
 
-pub block-next : (s : ℤ) (l : List ℤ) (c : ℕ) → c < 4
-    → spaced (numbersOf (blockTerms s (c + 1) (drop c (parts 16 4 l))))
-    ≡ spaced (termAt s (c + 1) (take 16 (drop (c * 16) l))) ++ spaced (numbersOf (blockTerms s (c + 1 + 1) (drop (c + 1) (parts 16 4 l))))
+pub block-next : (s : ℤ) (l : List ℤ) (c : ℕ) → c < columnCount
+    → spaced (numbersOf (blockTerms s (c + 1) (drop c (blockOf l))))
+    ≡ spaced (termAt s (c + 1) (coefficientsAt l c)) ++ spaced (numbersOf (blockTerms s (c + 1 + 1) (drop (c + 1) (blockOf l))))
 block-next s l c h =
-    let part = take 16 (drop (c * 16) l) in
-    let more = drop (c + 1) (parts 16 4 l) in
+    let part = coefficientsAt l c in
+    let more = drop (c + 1) (blockOf l) in
     ap spaced
-    (ap (λ b. numbersOf (blockTerms s (c + 1) b)) (parts-next 16 4 l c h) ∙ block-cons s (c + 1) part more
+    (ap (λ b. numbersOf (blockTerms s (c + 1) b)) (parts-next coefficientCount columnCount l c h) ∙ block-cons s (c + 1) part more
     ∙ ap (λ j. termAt s (c + 1) part ++ numbersOf (blockTerms s j more)) (sym (add-one (c + 1))))
     ∙ sym (spaced-append (termAt s (c + 1) part) (numbersOf (blockTerms s (c + 1 + 1) more)))
 
-pub block-end : (s : ℤ) (l : List ℤ) (c : ℕ) → 4 ≤ c → spaced (numbersOf (blockTerms s (c + 1) (drop c (parts 16 4 l)))) ≡ []
+pub block-end : (s : ℤ) (l : List ℤ) (c : ℕ) → columnCount ≤ c → spaced (numbersOf (blockTerms s (c + 1) (drop c (blockOf l)))) ≡ []
 unfolding spaced numbersOf blockTerms flatten
-block-end s l c h = ap (λ b. spaced (numbersOf (blockTerms s (c + 1) b))) (parts-end 16 4 l c h)
+block-end s l c h = ap (λ b. spaced (numbersOf (blockTerms s (c + 1) b))) (parts-end coefficientCount columnCount l c h)
 
 -- Block l - b.
 pred-block : (l : ℤ) (b : ℕ) → predℤ (l -ℤ pos b) ≡ l -ℤ pos (b + 1)
 pred-block l b = sym (ap (λ n. l -ℤ pos n) (add-one b) ∙ ap (λ k. l +ℤ k) (negℤ-sucℤ (pos b)) ∙ +ℤ-predℤ l (negℤ (pos b)))
 
-pub block-size : (l : ℤ) (b : ℕ) → natAbs l ≤ 64 → b < 5 → natAbs (l -ℤ pos b) ≤ 68
+pub block-size : (l : ℤ) (b : ℕ) → natAbs l ≤ blockBound → b < blockCount → natAbs (l -ℤ pos b) ≤ blockBound + mostSpan
 block-size l b h g = omega (arith, natAbs-+ℤ l (negℤ (pos b)), natAbs-negℤ (pos b))
 
-pub terms-next : (l : ℤ) (row : List ℤ) (b : ℕ) → b < 5
+pub terms-next : (l : ℤ) (row : List ℤ) (b : ℕ) → b < blockCount
     → spaced (numbersOf (termsFrom (l -ℤ pos b) (drop b (rowOf row .blocks))))
-    ≡ spaced (numbersOf (blockTerms (l -ℤ pos b) 1 (parts 16 4 (take 64 (drop (b * 64) row)))))
+    ≡ spaced (numbersOf (blockTerms (l -ℤ pos b) 1 (blockOf (blockAt row b))))
     ++ spaced (numbersOf (termsFrom (l -ℤ pos (b + 1)) (drop (b + 1) (rowOf row .blocks))))
 unfolding rowOf
 terms-next l row b h =
-    let block = parts 16 4 (take 64 (drop (b * 64) row)) in
+    let block = blockOf (blockAt row b) in
     let more = drop (b + 1) (rowOf row .blocks) in
     ap spaced
-    (ap (λ bs. numbersOf (termsFrom (l -ℤ pos b) bs)) (held-next (parts 16 4) 64 5 row b h) ∙ terms-cons (l -ℤ pos b) block more
+    (ap (λ bs. numbersOf (termsFrom (l -ℤ pos b) bs)) (held-next blockOf blockLength blockCount row b h)
+    ∙ terms-cons (l -ℤ pos b) block more
     ∙ ap (λ s. numbersOf (blockTerms (l -ℤ pos b) 1 block) ++ numbersOf (termsFrom s more)) (pred-block l b))
     ∙ sym (spaced-append (numbersOf (blockTerms (l -ℤ pos b) 1 block)) (numbersOf (termsFrom (l -ℤ pos (b + 1)) more)))
 
-pub terms-end : (s : ℤ) (row : List ℤ) (b : ℕ) → 5 ≤ b → spaced (numbersOf (termsFrom s (drop b (rowOf row .blocks)))) ≡ []
+pub terms-end : (s : ℤ) (row : List ℤ) (b : ℕ) → blockCount ≤ b → spaced (numbersOf (termsFrom s (drop b (rowOf row .blocks)))) ≡ []
 unfolding rowOf spaced numbersOf termsFrom flatten
-terms-end s row b h = ap (λ bs. spaced (numbersOf (termsFrom s bs))) (held-end (parts 16 4) 64 5 row b h)
+terms-end s row b h = ap (λ bs. spaced (numbersOf (termsFrom s bs))) (held-end blockOf blockLength blockCount row b h)
 
 -- ---- lines
 
 pub equation-line : (l : ℤ) (row : List ℤ)
-    → (digitsOf (nonzeroCount (parts 16 20 row)) ++ spaced (numbersOf (termsFrom l (rowOf row .blocks)))) ++ (newline ∷ [])
+    → (digitsOf (nonzeroCount (polynomialsIn row)) ++ spaced (numbersOf (termsFrom l (rowOf row .blocks)))) ++ (newline ∷ [])
     ≡ line (equationNumbers l (rowOf row))
 unfolding equationNumbers numbersOf
 equation-line l row =
     let numbers = numbersOf (termsFrom l (rowOf row .blocks)) in
-    ap (λ n. (n ++ spaced numbers) ++ (newline ∷ [])) (sym (decimal-count (nonzeroCount (parts 16 20 row))))
-    ∙ sym (line-is (pos (nonzeroCount (parts 16 20 row))) numbers)
+    ap (λ n. (n ++ spaced numbers) ++ (newline ∷ [])) (sym (decimal-count (nonzeroCount (polynomialsIn row))))
+    ∙ sym (line-is (pos (nonzeroCount (polynomialsIn row))) numbers)
     ∙ ap (λ n. line (pos n ∷ numbers)) (sym (term-count l row))
 
 pub relation-line : (l : ℤ) (part : List ℤ)
     → (decimal (getD part 0 (pos 0))
-    ++ spaced (pos (nonzeroCount (parts 16 20 (drop 1 part))) ∷ numbersOf (termsFrom l (rowOf (drop 1 part) .blocks))))
+    ++ spaced (pos (nonzeroCount (polynomialsIn (drop 1 part))) ∷ numbersOf (termsFrom l (rowOf (drop 1 part) .blocks))))
     ++ (newline ∷ [])
     ≡ line (relationLine l (relationOf part))
 unfolding relationLine relationOf equationNumbers numbersOf
 relation-line l part =
     let numbers = numbersOf (termsFrom l (rowOf (drop 1 part) .blocks)) in
-    sym (line-is (getD part 0 (pos 0)) (pos (nonzeroCount (parts 16 20 (drop 1 part))) ∷ numbers))
+    sym (line-is (getD part 0 (pos 0)) (pos (nonzeroCount (polynomialsIn (drop 1 part))) ∷ numbers))
     ∙ ap (λ n. line (getD part 0 (pos 0) ∷ pos n ∷ numbers)) (sym (term-count l (drop 1 part)))
 
 pub order-line : (order : List ℕ) → (digitsOf (length order) ++ spaced (map pos order)) ++ (newline ∷ []) ≡ line (orderLine order)

@@ -24,7 +24,7 @@ use lib.ListN.{length, take, drop, getD, length-take, length-drop}
 use lib.Seq.{sets, sets-eq, drop-cons}
 use Rattle.algebra.specs.Order.{≤ℤ-trans, natAbs-≤-iff}
 use Rattle.algebra.specs.Polynomials.{T-&&}
-use Rattle.rules.specs.Limits.{columnCount, mostEquations, rowLength, relationLength, small}
+use Rattle.rules.specs.Limits.{columnCount, mostEquations, rowLength, relationLength, mostRelations, blockBound, small}
 use Rattle.rules.specs.Rows.{every, smallRow}
 use Rattle.rules.specs.Stores.{Sizes, equations, span, parts, rowOf, rowsOf, relationOf, relationsOf, relationNeed, rowNeed}
 use Rattle.rules.specs.Stores.{sizesRight, countRight, unusedZero, rowRight, relationRight, checkStores}
@@ -54,10 +54,10 @@ pub record Checked (z : Sizes) (count : ℕ) (rowStore relationStore : List ℤ)
   pub columns : z .m ≤ columnCount
   pub few-rows : equations z ≤ mostEquations
   pub rows : equations z * rowLength ≤ length rowStore
-  pub blocks : natAbs (z .l) ≤ 64
-  pub few : count ≤ 16
+  pub blocks : natAbs (z .l) ≤ blockBound
+  pub few : count ≤ mostRelations
   pub relations : count * relationLength ≤ length relationStore
-  pub low : natAbs (z .t) ≤ 64
+  pub low : natAbs (z .t) ≤ blockBound
   pub row-numbers : SmallParts rowLength (equations z) rowStore
   pub relation-numbers : SmallParts relationLength count relationStore
 

@@ -1,5 +1,10 @@
 // Writing a sheet. Each writing function stores its bytes from a place on, as far as the store goes, counts them all and gives
 // the next place: called on an empty part of the store it only counts, so that nothing is written before it is known to fit.
+use polynomials::lengths::COEFFICIENTS;
+use rows::lengths::BLOCK;
+use rows::lengths::BLOCKS;
+use rows::lengths::COLUMNS;
+use rows::lengths::POLYNOMIALS;
 use rows::lengths::RELATION;
 use rows::lengths::ROW;
 
@@ -13,23 +18,25 @@ ghost use lib.IntN.{pos, natAbs};
 ghost use lib.Dec.{T};
 ghost use lib.ListN.{length};
 ghost use lib.Seq.{sets};
-ghost use Rattle.rules.specs.Limits.{mostEquations, rowLength, relationLength, mostRelations, small};
+ghost use Rattle.rules.specs.Limits.{coefficientCount, columnCount, mostEquations, polynomialCount, blockLength, rowLength, relationLength};
+ghost use Rattle.rules.specs.Limits.{mostRelations, blockBound, small};
 ghost use Rattle.rules.specs.Rows.{every};
 ghost use Rattle.rules.specs.Sheets.{trim, blockTerms, termsFrom, equationNumbers, relationLine, orderLine, writeSheet};
-ghost use Rattle.rules.specs.Stores.{equations, parts, rowOf, rowsOf, relationOf, relationsOf};
+ghost use Rattle.rules.specs.Stores.{equations, rowOf, rowsOf, relationOf, relationsOf};
 ghost use Rattle.writing.specs.Bounds.{numberBytes, countBytes, termBytes, blockBytes, termsBytes, equationBytes, relationBytes};
 ghost use Rattle.writing.specs.Bounds.{sizesBytes, orderBytes, sheetBytes, numberRoom, termRoom, blockRoom, termsRoom};
 ghost use Rattle.writing.specs.Bounds.{equationRoom, relationRoom, sizesRoom};
 ghost use Rattle.writing.specs.Writer.{Put, digitsOf, spaced, SmallParts, Lengths, termAt, numbersOf, nonzeroCount, sheetGiven};
 ghost use Rattle.writing.specs.WriterChecks.{Checked, callOf};
 ghost use Rattle.rules.specs.SheetCalls.{checkWrite, writeCall};
+ghost use Rattle.rules.specs.Layout.{blockOf, polynomialsIn};
 ghost use Rattle.rows.specs.Validity.{sizesOf};
 
 // The bytes of the longest term, of the longest line of an equation and of a relation, and of the other lines of a sheet together,
 // as in `specs/Bounds.antt`: a space and a number take at most 11 bytes, a space and a count 21.
-const TERM_BYTES: usize = 11 + 2 * 21 + 16 * 11;
+const TERM_BYTES: usize = 11 + 2 * 21 + COEFFICIENTS * 11;
 
-const EQUATION_BYTES: usize = 21 + 20 * TERM_BYTES;
+const EQUATION_BYTES: usize = 21 + POLYNOMIALS * TERM_BYTES;
 
 const RELATION_BYTES: usize = 11 + EQUATION_BYTES;
 
@@ -136,12 +143,12 @@ fn put_numbers(bytes: &mut [u8], at: usize, numbers: &[i64]) -> usize
 // The number of coefficients up to the last nonzero one (SCOPE 4.24). All are looked at: a way out of the loop would
 // cost more than it spares.
 fn trimmed(p: &[i64]) -> usize
-    requires { ⌜ length (now p) ≡ 16 ⌝ }
+    requires { ⌜ length (now p) ≡ coefficientCount ⌝ }
     ensures { λ r. ⌜ r ≡ length (trim (now (p .entry))) ⌝ }
 {
     let mut n = 0;
     let mut i = 0;
-    while i < 16 {
+    while i < COEFFICIENTS {
         if p[i] != 0 {
             n = i + 1;
         }
@@ -153,7 +160,7 @@ fn trimmed(p: &[i64]) -> usize
 // One term; nothing for a zero polynomial (SCOPE 4.22, 4.52).
 fn put_term(bytes: &mut [u8], at: usize, p: &[i64], n: usize, block: i64, column: usize) -> usize
     requires { ⌜
-        (length (now p) ≡ 16) × (n ≡ length (trim (now p))) × (at + termRoom < 2 ^ 64) × T (every small (now p))
+        (length (now p) ≡ coefficientCount) × (n ≡ length (trim (now p))) × (at + termRoom < 2 ^ 64) × T (every small (now p))
         × T (small block) ⌝ }
     ensures { λ r. ⌜ Put (now (bytes .entry)) at (spaced (termAt block column (now (p .entry)))) termBytes (now (bytes .exit)) r ⌝ }
 {
@@ -169,17 +176,17 @@ fn put_term(bytes: &mut [u8], at: usize, p: &[i64], n: usize, block: i64, column
 // The terms of one block, by rising column (SCOPE 4.23).
 fn put_block(bytes: &mut [u8], at: usize, numbers: &[i64], lengths: &[usize], block: i64) -> usize
     requires { ⌜
-        (length (now numbers) ≡ 64) × (length (now lengths) ≡ 4) × Lengths 4 (now numbers) (now lengths) × (at + blockRoom < 2 ^ 64)
-        × T (every small (now numbers)) × T (small block) ⌝ }
+        (length (now numbers) ≡ blockLength) × (length (now lengths) ≡ columnCount) × Lengths columnCount (now numbers) (now lengths)
+        × (at + blockRoom < 2 ^ 64) × T (every small (now numbers)) × T (small block) ⌝ }
     ensures { λ r. ⌜
-        Put (now (bytes .entry)) at (spaced (numbersOf (blockTerms block 1 (parts 16 4 (now (numbers .entry)))))) blockBytes
+        Put (now (bytes .entry)) at (spaced (numbersOf (blockTerms block 1 (blockOf (now (numbers .entry)))))) blockBytes
         (now (bytes .exit)) r ⌝ }
 {
     let mut next = at;
     let mut c = 0;
-    while c < 4 {
-        let from = c * 16;
-        let to = from + 16;
+    while c < COLUMNS {
+        let from = c * COEFFICIENTS;
+        let to = from + COEFFICIENTS;
         next = put_term(bytes, next, &numbers[from..to], lengths[c], block, c + 1);
         c += 1;
     }
@@ -189,19 +196,19 @@ fn put_block(bytes: &mut [u8], at: usize, numbers: &[i64], lengths: &[usize], bl
 // The terms of a row, from block l downward, in each block by rising column (SCOPE 4.23).
 fn put_terms(bytes: &mut [u8], at: usize, row: &[i64], lengths: &[usize], l: i64) -> usize
     requires { ⌜
-        (length (now row) ≡ rowLength) × (length (now lengths) ≡ 20) × Lengths 20 (now row) (now lengths) × (natAbs l ≤ 64)
-        × (at + termsRoom < 2 ^ 64) × T (every small (now row)) ⌝ }
+        (length (now row) ≡ rowLength) × (length (now lengths) ≡ polynomialCount) × Lengths polynomialCount (now row) (now lengths)
+        × (natAbs l ≤ blockBound) × (at + termsRoom < 2 ^ 64) × T (every small (now row)) ⌝ }
     ensures { λ r. ⌜
         Put (now (bytes .entry)) at (spaced (numbersOf (termsFrom l (rowOf (now (row .entry)) .blocks)))) termsBytes
         (now (bytes .exit)) r ⌝ }
 {
     let mut next = at;
     let mut b = 0;
-    while b < 5 {
-        let from = b * 64;
-        let to = from + 64;
-        let first = b * 4;
-        let last = first + 4;
+    while b < BLOCKS {
+        let from = b * BLOCK;
+        let to = from + BLOCK;
+        let first = b * COLUMNS;
+        let last = first + COLUMNS;
         next = put_block(
             bytes,
             next,
@@ -217,14 +224,15 @@ fn put_terms(bytes: &mut [u8], at: usize, row: &[i64], lengths: &[usize], l: i64
 // The number of terms of a row, of its polynomials that are not zero (SCOPE 4.52), and the number of coefficients of
 // each.
 fn term_lengths(lengths: &mut [usize], row: &[i64]) -> usize
-    requires { ⌜ (length (now lengths) ≡ 20) × (length (now row) ≡ rowLength) ⌝ }
-    ensures { λ r. ⌜ (r ≡ nonzeroCount (parts 16 20 (now (row .entry)))) × Lengths 20 (now (row .entry)) (now (lengths .exit)) ⌝ }
+    requires { ⌜ (length (now lengths) ≡ polynomialCount) × (length (now row) ≡ rowLength) ⌝ }
+    ensures { λ r. ⌜
+        (r ≡ nonzeroCount (polynomialsIn (now (row .entry)))) × Lengths polynomialCount (now (row .entry)) (now (lengths .exit)) ⌝ }
 {
     let mut terms = 0;
     let mut i = 0;
-    while i < 20 {
-        let from = i * 16;
-        let to = from + 16;
+    while i < POLYNOMIALS {
+        let from = i * COEFFICIENTS;
+        let to = from + COEFFICIENTS;
         let n = trimmed(&row[from..to]);
         lengths[i] = n;
         if n != 0 {
@@ -236,11 +244,11 @@ fn term_lengths(lengths: &mut [usize], row: &[i64]) -> usize
 }
 
 fn put_equation(bytes: &mut [u8], at: usize, row: &[i64], l: i64) -> usize
-    requires { ⌜ (length (now row) ≡ rowLength) × (natAbs l ≤ 64) × (at + equationRoom < 2 ^ 64) × T (every small (now row)) ⌝ }
+    requires { ⌜ (length (now row) ≡ rowLength) × (natAbs l ≤ blockBound) × (at + equationRoom < 2 ^ 64) × T (every small (now row)) ⌝ }
     ensures { λ r. ⌜
         Put (now (bytes .entry)) at (line (equationNumbers l (rowOf (now (row .entry))))) equationBytes (now (bytes .exit)) r ⌝ }
 {
-    let mut lengths = [0usize; 20];
+    let mut lengths = [0usize; POLYNOMIALS];
     let terms = term_lengths(&mut lengths, row);
     let counted = put_digits(bytes, at, terms as u64);
     let written = put_terms(bytes, counted, row, &lengths, l);
@@ -250,13 +258,13 @@ fn put_equation(bytes: &mut [u8], at: usize, row: &[i64], l: i64) -> usize
 // A line with n0 and an equation (SCOPE 4.14).
 fn put_relation(bytes: &mut [u8], at: usize, numbers: &[i64], l: i64) -> usize
     requires { ⌜
-        (length (now numbers) ≡ relationLength) × (natAbs l ≤ 64) × (at + relationRoom < 2 ^ 64) × T (every small (now numbers)) ⌝ }
+        (length (now numbers) ≡ relationLength) × (natAbs l ≤ blockBound) × (at + relationRoom < 2 ^ 64) × T (every small (now numbers)) ⌝ }
     ensures { λ r. ⌜
         Put (now (bytes .entry)) at (line (relationLine l (relationOf (now (numbers .entry))))) relationBytes
         (now (bytes .exit)) r ⌝ }
 {
     let row = &numbers[1..];
-    let mut lengths = [0usize; 20];
+    let mut lengths = [0usize; POLYNOMIALS];
     let terms = term_lengths(&mut lengths, row);
     let indexed = put_number(bytes, at, numbers[0]);
     let counted = put_next_count(bytes, indexed, terms);
@@ -265,7 +273,7 @@ fn put_relation(bytes: &mut [u8], at: usize, numbers: &[i64], l: i64) -> usize
 }
 
 fn put_equations(bytes: &mut [u8], at: usize, rows: &[i64], equations: usize, l: i64) -> usize
-    requires { ⌜ (equations ≤ mostEquations) × (equations * rowLength ≤ length (now rows)) × (natAbs l ≤ 64)
+    requires { ⌜ (equations ≤ mostEquations) × (equations * rowLength ≤ length (now rows)) × (natAbs l ≤ blockBound)
         × (at + mostEquations * equationRoom < 2 ^ 64) × SmallParts rowLength equations (now rows) ⌝ }
     ensures { λ r. ⌜
         Put (now (bytes .entry)) at (lines (map (equationNumbers l) (rowsOf equations (now (rows .entry))))) (equations * equationBytes)
@@ -283,7 +291,7 @@ fn put_equations(bytes: &mut [u8], at: usize, rows: &[i64], equations: usize, l:
 }
 
 fn put_relations(bytes: &mut [u8], at: usize, relations: &[i64], count: usize, l: i64) -> usize
-    requires { ⌜ (count ≤ 16) × (count * relationLength ≤ length (now relations)) × (natAbs l ≤ 64)
+    requires { ⌜ (count ≤ mostRelations) × (count * relationLength ≤ length (now relations)) × (natAbs l ≤ blockBound)
         × (at + mostRelations * relationRoom < 2 ^ 64) × SmallParts relationLength count (now relations) ⌝ }
     ensures { λ r. ⌜
         Put (now (bytes .entry)) at (lines (map (relationLine l) (relationsOf count (now (relations .entry))))) (count * relationBytes)
@@ -325,7 +333,7 @@ fn put_columns(bytes: &mut [u8], at: usize, columns: &[usize]) -> usize
 }
 
 fn put_order(bytes: &mut [u8], at: usize, order: &[usize]) -> usize
-    requires { ⌜ (length (now order) ≤ 4) × (at + orderBytes < 2 ^ 64) ⌝ }
+    requires { ⌜ (length (now order) ≤ columnCount) × (at + orderBytes < 2 ^ 64) ⌝ }
     ensures { λ r. ⌜ Put (now (bytes .entry)) at (line (orderLine (now (order .entry)))) orderBytes (now (bytes .exit)) r ⌝ }
 {
     let counted = put_digits(bytes, at, order.len() as u64);
@@ -353,7 +361,7 @@ fn put_sheet(
     count: usize,
     columns: &[usize],
 ) -> usize
-    requires { ⌜ Checked (sizesOf sizes) count (now rows) (now relations) × (length (now columns) ≤ 4) ⌝ }
+    requires { ⌜ Checked (sizesOf sizes) count (now rows) (now relations) × (length (now columns) ≤ columnCount) ⌝ }
     ensures { λ r. ⌜
         Put (now (bytes .entry)) 0
         (writeSheet (sheetGiven (sizesOf sizes) count (now (columns .entry)) (now (rows .entry)) (now (relations .entry))))
@@ -384,7 +392,7 @@ pub fn write_checked(
     relations: &[i64],
     sizes: rows::validity::Sizes,
     count: usize,
-    order: [usize; 4],
+    order: [usize; COLUMNS],
     bytes: &mut [u8],
 ) -> WriteResult
     requires { ⌜ checkWrite (sizesOf sizes) count order (now rows) (now relations) ≡ 0 ⌝ }
@@ -419,7 +427,7 @@ pub fn write_sheet(
     relations: &[i64],
     sizes: rows::validity::Sizes,
     count: usize,
-    order: [usize; 4],
+    order: [usize; COLUMNS],
     bytes: &mut [u8],
 ) -> WriteResult
     ensures { λ r. ⌜

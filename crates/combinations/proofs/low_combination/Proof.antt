@@ -13,7 +13,7 @@ use denote.Ref.{now}
 use lib.IntN.{ℤ, pos}
 use lib.ListN.{length, replicate}
 use Rattle.algebra.specs.Polynomials.{Polynomial, add, mul}
-use Rattle.rules.specs.Limits.{rowLength}
+use Rattle.rules.specs.Limits.{coefficientCount, polynomialCount, rowLength}
 use Rattle.rules.specs.Rows.{combine, mapRow, coefficientsOf}
 use Rattle.rules.specs.Stores.{rowOf}
 use Rattle.rows.specs.Written.{front, length-front, front-none, front-whole, front-put, front-skip}
@@ -26,10 +26,10 @@ numbers g h target pivot = coefficientsOf (mapRow lowPart (combine g h (rowOf ta
 
 abbrev Inv-loop : tie.InvT-loop
 Inv-loop g h target pivot a b row₀ e₀ row e =
-    (e ≤ 20) × (length row ≡ rowLength) × (row ≡ front (numbers g h target pivot) (e * 16))
+    (e ≤ polynomialCount) × (length row ≡ rowLength) × (row ≡ front (numbers g h target pivot) (e * coefficientCount))
 
 abbrev μ-loop : tie.MeasureT-loop
-μ-loop g h target pivot a b row₀ e₀ row e = 20 - e
+μ-loop g h target pivot a b row₀ e₀ row e = polynomialCount - e
 
 -- the polynomials that are combined at place e
 module _ (c : tie.After-both-zero Inv-loop μ-loop) where
@@ -43,7 +43,7 @@ module _ (c : tie.After-both-zero Inv-loop μ-loop) where
   e = at .loop .e
 
   abbrev width : ℕ
-  width = e * 16 + 16 - e * 16
+  width = e * coefficientCount + coefficientCount - e * coefficientCount
 
   abbrev full : List ℤ
   full = numbers (now (start .args .g)) (now (start .args .h)) (now (start .args .target)) (now (start .args .pivot))
@@ -61,14 +61,14 @@ module _ (c : tie.After-both-zero Inv-loop μ-loop) where
       (now (at .before .before .trimmed .result)) p (now (at .before .trimmed2 .result)) q
   made = search needs
 
-  skipped : not (c .both-zero .result) ≡ false → front full (e * 16) ≡ front full ((e + 1) * 16)
+  skipped : not (c .both-zero .result) ≡ false → front full (e * coefficientCount) ≡ front full ((e + 1) * coefficientCount)
   skipped z =
       front-skip full e (omega (arith, full-long)) (trimmed-zero made (sym (c .both-zero .ensures) ∙ not-false _ z))
 
   put : (r : List ℤ) → r ≡ lowPart (add (mul (now (at .before .before .trimmed .result)) p) (mul (now (at .before .trimmed2 .result)) q))
-      → putMid (e * 16) width (at .loop .row) r ≡ front full ((e + 1) * 16)
+      → putMid (e * coefficientCount) width (at .loop .row) r ≡ front full ((e + 1) * coefficientCount)
   put r w =
-      ap₂ (putMid (e * 16) width) (at .loop .inv .2) (w ∙ trimmed-low made)
+      ap₂ (putMid (e * coefficientCount) width) (at .loop .inv .2) (w ∙ trimmed-low made)
       ∙ front-put full e (omega (arith, full-long)) width (omega arith)
 
 trimmed-requires : tie.Need-trimmed-requires Inv-loop μ-loop
@@ -150,19 +150,23 @@ loop-less c = search needs
 loop-again : tie.Need-loop-again Inv-loop μ-loop
 loop-again c =
     let here = c .before in
-    let written : c .if1 .row ≡ front (full here) ((e here + 1) * 16) = ⊎-elim
+    let written : c .if1 .row ≡ front (full here) ((e here + 1) * coefficientCount) = ⊎-elim
     (λ w. w .4 ∙ put here (w .2 .last .0) (w .2 .ensures))
     (λ w. w .1 ∙ at here .loop .inv .2 ∙ skipped here (w .0 .left))
     (c .if1 .came)
-    in
-    (omega arith, ap length written ∙ length-front (full here) ((e here + 1) * 16) (omega (arith, full-long here)) ∙ full-long here, written)
+    in (
+      omega arith,
+      ap length written ∙ length-front (full here) ((e here + 1) * coefficientCount) (omega (arith, full-long here))
+          ∙ full-long here,
+      written,
+    )
 
 returns : tie.Need-returns Inv-loop μ-loop
 returns c =
     let args = c .before .before .before .before .args in
     let full = numbers (now (args .g)) (now (args .h)) (now (args .target)) (now (args .pivot)) in
     let long = length-low (now (args .g)) (now (args .h)) (now (args .target)) (now (args .pivot)) in
-    let all : c .before .loop .e * 16 ≡ length full = omega (arith, long) in
+    let all : c .before .loop .e * coefficientCount ≡ length full = omega (arith, long) in
     c .before .loop .inv .2 ∙ ap (front full) all ∙ front-whole full
 
 pub low-combination-spec : {M : Type 1} → statement M

@@ -9,6 +9,7 @@ use borrow.Author.Needs.{needs, sfits-of}
 use denote.Ref.{now}
 use lib.IntN.{pos}
 use Rattle.algebra.specs.Polynomials.{coeff, add, mul}
+use Rattle.rules.specs.Limits.{coefficientCount}
 use Rattle.polynomials.specs.Content.{zero-bits, nonzero-bits}
 use Rattle.combinations.specs.Combination.{degree-below, high-free, high-found}
 use Rattle.combinations.proofs.passes.Statement.{statement}
@@ -16,7 +17,7 @@ use Rattle.combinations.proofs.passes.Tie as tie
 
 abbrev Inv-loop : tie.InvT-loop
 Inv-loop g p h q most k₀ k =
-    (most ≤ 30) × (16 ≤ k) × ((j : ℕ) → j < k → 16 ≤ j → coeff (add (mul g p) (mul h q)) j ≡ pos 0)
+    (most ≤ 30) × (coefficientCount ≤ k) × ((j : ℕ) → j < k → coefficientCount ≤ j → coeff (add (mul g p) (mul h q)) j ≡ pos 0)
 
 abbrev μ-loop : tie.MeasureT-loop
 μ-loop g p h q most k₀ k = most + 1 - k
@@ -31,10 +32,10 @@ loop-holds c =
       omega (
         arith,
         c .top .ensures,
-        degree-below (now (args .g)) 16 (pre .0 .0) (omega arith),
-        degree-below (now (args .p)) 16 (pre .0 .2) (omega arith),
-        degree-below (now (args .h)) 16 (pre .1 .0) (omega arith),
-        degree-below (now (args .q)) 16 (pre .1 .2) (omega arith),
+        degree-below (now (args .g)) coefficientCount (pre .0 .0) (omega arith),
+        degree-below (now (args .p)) coefficientCount (pre .0 .2) (omega arith),
+        degree-below (now (args .h)) coefficientCount (pre .1 .0) (omega arith),
+        degree-below (now (args .q)) coefficientCount (pre .1 .2) (omega arith),
       ),
       omega arith,
       λ j below above. absurd (omega arith),

@@ -12,6 +12,7 @@ use denote.Ref.{now}
 use lib.IntN.{ℤ}
 use lib.ListN.{length, take, drop, getD}
 use Rattle.algebra.specs.Polynomials.{Polynomial, isZero}
+use Rattle.rules.specs.Limits.{coefficientCount, polynomialCount}
 use Rattle.rules.specs.Rows.{every, combine}
 use Rattle.rules.specs.Stores.{rowOf}
 use Rattle.rows.specs.Flat.{polynomialsOf, every-longer}
@@ -21,17 +22,17 @@ use Rattle.combinations.proofs.past_degree.Statement.{statement}
 use Rattle.combinations.proofs.past_degree.Tie as tie
 
 abbrev isLow : Polynomial → Bool
-isLow p = isZero (drop 16 p)
+isLow p = isZero (drop coefficientCount p)
 
 abbrev polynomials : Polynomial → Polynomial → List ℤ → List ℤ → List Polynomial
 polynomials g h target pivot = polynomialsOf (combine g h (rowOf target) (rowOf pivot))
 
 abbrev Inv-loop : tie.InvT-loop
 Inv-loop g h target pivot a b e₀ e =
-    (e ≤ 20) × (every isLow (take e (polynomials g h target pivot)) ≡ true)
+    (e ≤ polynomialCount) × (every isLow (take e (polynomials g h target pivot)) ≡ true)
 
 abbrev μ-loop : tie.MeasureT-loop
-μ-loop g h target pivot a b e₀ e = 20 - e
+μ-loop g h target pivot a b e₀ e = polynomialCount - e
 
 -- the polynomials that are combined at place e
 module _ (c : tie.After-trimmed4 Inv-loop μ-loop) where
@@ -48,7 +49,8 @@ module _ (c : tie.After-trimmed4 Inv-loop μ-loop) where
   ps = polynomials (now (start .args .g)) (now (start .args .h)) (now (start .args .target)) (now (start .args .pivot))
 
   made : Trimmed (now (start .args .g)) (now (start .args .h)) (now (start .args .target)) (now (start .args .pivot)) e
-      (e * 16 + 16 - e * 16) (now (at .before .before .trimmed .result)) (now (c .before .before .trimmed3 .result))
+      (e * coefficientCount + coefficientCount - e * coefficientCount) (now (at .before .before .trimmed .result))
+      (now (c .before .before .trimmed3 .result))
       (now (at .before .trimmed2 .result)) (now (c .trimmed4 .result))
   made = search needs
 

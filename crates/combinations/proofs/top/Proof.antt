@@ -3,6 +3,7 @@
 use native.Mathlib.Omega.{arith}
 use borrow.Author.Needs.{needs}
 use denote.Ref.{now}
+use Rattle.rules.specs.Limits.{coefficientCount}
 use Rattle.combinations.specs.Combination.{degree-below}
 use Rattle.combinations.proofs.top.Statement.{statement}
 use Rattle.combinations.proofs.top.Tie as tie
@@ -20,8 +21,8 @@ add-first c =
       arith,
       c .before .degree .ensures,
       c .degree2 .ensures,
-      degree-below (now (at .args .g)) 16 (at .pre .0) (omega arith),
-      degree-below (now (at .args .p)) 16 (at .pre .1) (omega arith),
+      degree-below (now (at .args .g)) coefficientCount (at .pre .0) (omega arith),
+      degree-below (now (at .args .p)) coefficientCount (at .pre .1) (omega arith),
     )
 
 degree-requires-3 : tie.Need-degree-requires-3
@@ -37,8 +38,8 @@ add-second c =
       arith,
       c .before .degree3 .ensures,
       c .degree4 .ensures,
-      degree-below (now (at .args .h)) 16 (at .pre .2) (omega arith),
-      degree-below (now (at .args .q)) 16 (at .pre .3) (omega arith),
+      degree-below (now (at .args .h)) coefficientCount (at .pre .2) (omega arith),
+      degree-below (now (at .args .q)) coefficientCount (at .pre .3) (omega arith),
     )
 
 returns : tie.Need-returns

@@ -2,12 +2,10 @@
 -- Assumes nothing.
 use mathlib.Core.Path.{refl}
 use borrow.Author.Needs.{needs}
-use mir.Syntax.{w64}
-use mir.Val.{SFits}
 use mir.Facts.{toZ-ofZ}
 use Rattle.rules.specs.Numbers.{between}
 use Rattle.rules.specs.Sheets.{always}
-use Rattle.tokens.specs.Fields.{answers-as, field-of}
+use Rattle.tokens.specs.Fields.{answers-field}
 use Rattle.tokens.proofs.number_between.Statement.{statement}
 use Rattle.tokens.proofs.number_between.Tie as tie
 
@@ -24,11 +22,9 @@ returns : tie.Need-returns
 unfolding always
 returns c =
     let s = c .before .before .before .before .before in
-    let n = c .before .before .before .number-at in
-    let fn : SFits w64 (n .result .value) = search needs in (
-      answers-as (c .separated .ensures .0)
-          (field-of (between (s .args .low) (s .args .high)) (always (s .args .separator)) (n .ensures)
-          (simp (toZ-ofZ (s .fits .low), toZ-ofZ (s .fits .high), toZ-ofZ fn) at (c .before .judge-between .ensures)) refl),
+    let n = c .before .before .before .number-at in (
+      answers-field (between (s .args .low) (s .args .high)) (always (s .args .separator)) (n .ensures) (search needs)
+          (simp (toZ-ofZ (s .fits .low), toZ-ofZ (s .fits .high)) at (c .before .judge-between .ensures)) refl (c .separated .ensures .0),
       c .separated .ensures .1,
     )
 

@@ -2,12 +2,9 @@
 -- Assumes nothing.
 use mathlib.Core.Path.{refl}
 use borrow.Author.Needs.{needs}
-use mir.Syntax.{w64}
-use mir.Val.{SFits}
-use mir.Facts.{toZ-ofZ}
 use Rattle.rules.specs.Numbers.{judgeSmall}
 use Rattle.rules.specs.Sheets.{always}
-use Rattle.tokens.specs.Fields.{answers-as, field-of}
+use Rattle.tokens.specs.Fields.{answers-field}
 use Rattle.tokens.proofs.small_at.Statement.{statement}
 use Rattle.tokens.proofs.small_at.Tie as tie
 
@@ -23,12 +20,9 @@ separated-requires c κs = c .before .before .number-at .ensures .separator
 returns : tie.Need-returns
 unfolding always
 returns c =
-    let s = c .before .before .before .before .before in
-    let n = c .before .before .before .number-at in
-    let fn : SFits w64 (n .result .value) = search needs in (
-      answers-as (c .separated .ensures .0)
-          (field-of judgeSmall (always 32) (n .ensures)
-          (simp (toZ-ofZ fn) at (c .before .judge-small .ensures)) refl),
+    let n = c .before .before .before .number-at in (
+      answers-field judgeSmall (always 32) (n .ensures) (search needs)
+          (c .before .judge-small .ensures) refl (c .separated .ensures .0),
       c .separated .ensures .1,
     )
 

@@ -2,12 +2,10 @@
 -- Assumes nothing.
 use borrow.Author.Needs.{needs}
 use lib.IntN.{pos}
-use mir.Syntax.{w64}
-use mir.Val.{SFits}
 use mir.Facts.{toZ-ofZ}
 use Rattle.rules.specs.Numbers.{between}
 use Rattle.rules.specs.Sheets.{afterCount}
-use Rattle.tokens.specs.Fields.{answers-as, field-of}
+use Rattle.tokens.specs.Fields.{answers-field}
 use Rattle.reading.proofs.counts.count_at.Statement.{statement}
 use Rattle.reading.proofs.counts.count_at.Tie as tie
 
@@ -27,10 +25,8 @@ returns : tie.Need-returns
 returns c =
     let s = c .before .before .before .before .before .before .before in
     let n = c .before .before .before .before .before .number-at in
-    let fn : SFits w64 (n .result .value) = search needs in
-    answers-as (c .separated .ensures .0)
-    (field-of (between (pos 0) (s .args .most)) afterCount (n .ensures)
-    (simp (toZ-ofZ (s .fits .most), toZ-ofZ fn) at (c .before .before .before .judge-between .ensures)) (rw (toZ-ofZ fn) at (c .before .after-count .ensures)))
+    answers-field (between (pos 0) (s .args .most)) afterCount (n .ensures) (search needs)
+    (rw (toZ-ofZ (s .fits .most)) at (c .before .before .before .judge-between .ensures)) (c .before .after-count .ensures) (c .separated .ensures .0)
 
 pub count-at-spec : {M : Type 1} → statement M
 count-at-spec =

@@ -14,6 +14,7 @@ use mir.Val.{SFits, toZ, ofZ}
 use mir.Facts.{toZ-ofZ, toZ-pos, fits-natAbs}
 use Rattle.algebra.specs.Order.{≤ℤ-difference}
 use Rattle.integers.specs.Ranges.{sfits-size}
+use Rattle.rules.specs.Limits.{mostSpan, blockCount, polynomialCount}
 use Rattle.rules.specs.Stores.{span}
 use Rattle.rules.specs.Layout.{SizeBounds, size-bounds, block-place}
 use Rattle.rows.specs.Validity.{sizesOf}
@@ -30,7 +31,7 @@ module _ (c : tie.After-struct-told) where
   bounds : SizeBounds (sizesOf (c .before .before .args .z))
   bounds = size-bounds _ (c .before .before .pre)
 
-  narrow : natAbs (l -ℤ t) ≤ 4
+  narrow : natAbs (l -ℤ t) ≤ mostSpan
   unfolding sizesOf
   narrow = le-of-suc-le-suc (block-place _ t bounds (≤ℤ-refl t) (bounds .ordered))
 
@@ -48,9 +49,9 @@ module _ (c : tie.After-struct-told) where
       let ft : SFits w64 t = sfits-of (c .struct-told .given .1 .1 .0 .1) in
       simp (toZ-ofZ fl, toZ-ofZ ft, toZ-ofZ fits)
 
-  most : c .before .before .args .z .m * (natAbs (l -ℤ t) + 1) ≤ 20
+  most : c .before .before .args .z .m * (natAbs (l -ℤ t) + 1) ≤ polynomialCount
   most =
-      let wide : natAbs (l -ℤ t) + 1 ≤ 5 = omega (arith, narrow) in
+      let wide : natAbs (l -ℤ t) + 1 ≤ blockCount = omega (arith, narrow) in
       mul-le-mul few wide
 
 sub-result : tie.Need-sub-result

@@ -13,7 +13,7 @@ use lib.ListN.{length, drop}
 use mir.Syntax.{w64}
 use mir.Val.{SFits, toZ}
 use mir.Facts.{toZ-ofZ}
-use Rattle.rules.specs.Limits.{rowLength}
+use Rattle.rules.specs.Limits.{coefficientCount, rowLength}
 use Rattle.rules.specs.Numbers.{got}
 use Rattle.rules.specs.Stores.{rowOf}
 use Rattle.rules.specs.Sheets.{parting}
@@ -104,7 +104,7 @@ module _ (c : tie.After-place-in-row Inv-loop μ-loop) where
   from-is : from ≡ placeInRow (s (c .before) .args .z .l) (q (c .before) .block) (q (c .before) .column)
   from-is = c .place-in-row .ensures ∙ ap₂ (λ l b. placeInRow l b (q (c .before) .column)) (toZ-ofZ (l-fits (c .before))) (toZ-ofZ (block-fits (c .before)))
 
-  room : from + 16 ≤ rowLength
+  room : from + coefficientCount ≤ rowLength
   unfolding sizesOf
   room = rw from-is (place-fits _ _ _ _ (s (c .before) .pre .0 .1) (right (c .before)))
 
@@ -118,18 +118,20 @@ mul-polynomial-at : tie.Need-mul-polynomial-at Inv-loop μ-loop
 mul-polynomial-at c = omega (arith, room (c .before))
 
 sub-polynomial-at : tie.Need-sub-polynomial-at Inv-loop μ-loop
-sub-polynomial-at c = le-add-right _ 16
+sub-polynomial-at c = le-add-right _ coefficientCount
 
 part-polynomial-at-start : tie.Need-part-polynomial-at-start Inv-loop μ-loop
-part-polynomial-at-start c = le-add-right _ 16
+part-polynomial-at-start c = le-add-right _ coefficientCount
 
 part-polynomial-at-end : tie.Need-part-polynomial-at-end Inv-loop μ-loop
 part-polynomial-at-end c = rw (c .before .before .before .before .before .before .before .before .loop .inv .long) (room (c .before))
 
 polynomial-at-requires : tie.Need-polynomial-at-requires Inv-loop μ-loop
 polynomial-at-requires c κs =
-    let l = c .before .before .before .before .before .before .before .before .before .loop in
-    (c .before .before .before .before .before .before .before .place-at .ensures .within, lent-long (l .row) (from (c .before .before)) 16 (rw (l .inv .long) (room (c .before .before))))
+    let l = c .before .before .before .before .before .before .before .before .before .loop in (
+      c .before .before .before .before .before .before .before .place-at .ensures .within,
+      lent-long (l .row) (from (c .before .before)) coefficientCount (rw (l .inv .long) (room (c .before .before))),
+    )
 
 no-part-requires-2 : tie.Need-no-part-requires-2 Inv-loop μ-loop
 no-part-requires-2 c κs = tt
@@ -137,7 +139,10 @@ no-part-requires-2 c κs = tt
 same-length-2 : tie.Need-same-length-2 Inv-loop μ-loop
 same-length-2 c =
     let at = from (c .before .before .before .before .before .before .before) in
-    same-len-mid at (at + 16 - at) (c .before .before .before .before .before .before .before .before .before .before .before .before .before .before .loop .row) (c .before .before .before .before .polynomial-at .last .1 .1 .1 .0) (c .before .before .before .before .polynomial-at .kept .1 .1 .1 .0)
+    same-len-mid at (at + coefficientCount - at)
+    (c .before .before .before .before .before .before .before .before .before .before .before .before .before .before .loop .row)
+    (c .before .before .before .before .polynomial-at .last .1 .1 .1 .0)
+    (c .before .before .before .before .polynomial-at .kept .1 .1 .1 .0)
     ∙ c .before .before .before .before .before .before .before .before .before .before .before .before .before .before .loop .inv .long
     ∙ sym (row-long (c .before .before .before .before .before .before .before .before .before .before .before .before .before .before .before .before .before))
 

@@ -13,6 +13,7 @@ use lib.ListN.{drop, set}
 use mir.Syntax.{w64}
 use mir.Val.{SFits}
 use mir.Facts.{toZ-ofZ, fits-natAbs}
+use Rattle.rules.specs.Limits.{columnCount}
 use Rattle.rules.specs.Calls.{padTo}
 use Rattle.rules.specs.Numbers.{Read, got, field}
 use Rattle.rules.specs.Sheets.{always, parting, judgeOrder, readColumns}
@@ -25,14 +26,15 @@ use Rattle.reading.proofs.order.columns_at.Tie as tie
 abbrev Inv-loop : tie.InvT-loop
 Inv-loop bytes at m count order₀ next₀ i₀ order next i =
     (i ≤ count)
-    × FilledTo 4 0 (readColumns m count [] (drop at bytes)) bytes order i next (readColumns m (count - i) (takenOf order i) (drop next bytes))
+    × FilledTo columnCount 0 (readColumns m count [] (drop at bytes)) bytes order i next
+    (readColumns m (count - i) (takenOf order i) (drop next bytes))
 
 abbrev μ-loop : tie.MeasureT-loop
 μ-loop bytes at m count order₀ next₀ i₀ order next i = count - i
 
 loop-holds : tie.Need-loop-holds Inv-loop μ-loop
 unfolding padTo takenOf
-loop-holds c = (zero-le, rw (sub-zero (c .before .args .count)) (filled-begins 4 0 _ _ _ _ (c .before .pre .0) refl refl))
+loop-holds c = (zero-le, rw (sub-zero (c .before .args .count)) (filled-begins columnCount 0 _ _ _ _ (c .before .pre .0) refl refl))
 
 add-parting : tie.Need-add-parting Inv-loop μ-loop
 add-parting c = omega arith
@@ -106,7 +108,8 @@ loop-again c =
     let at = c .before .before .before .before .order-column-at .result .at in (
       omega arith,
       rw (toZ-ofZ (column-fits c))
-          (subst (FilledTo 4 0 (readColumns (a .m) (a .count) [] (drop (a .at) (now (a .bytes)))) (now (a .bytes)) (set (l .order) (l .i) (natAbs (column (c .before .before .before .before)))) (l .i + 1) at)
+          (subst (FilledTo columnCount 0 (readColumns (a .m) (a .count) [] (drop (a .at) (now (a .bytes)))) (now (a .bytes))
+          (set (l .order) (l .i) (natAbs (column (c .before .before .before .before)))) (l .i + 1) at)
           (columns-left (a .m) (a .count - (l .i + 1)) (l .order) (l .i) (column (c .before .before .before .before)) (drop at (now (a .bytes))) (omega (arith, l .inv .1 .long)))
           (filled-goes-on _ _ _ _ _ _ _ _ (l .inv .1) _ natAbs (columnsThen (a .m) (a .count - (l .i + 1)) (takenOf (l .order) (l .i)))
           (columns-next (a .m) (a .count) (l .i) (takenOf (l .order) (l .i)) (drop (l .next) (now (a .bytes))) (c .before .before .before .before .before .before .before .loop-test .taken)) _ _ (omega arith)

@@ -13,6 +13,7 @@ use lib.Signed.{nonNeg}
 use mir.Syntax.{w64}
 use mir.Val.{SFits}
 use mir.Facts.{toZ-ofZ, fits-natAbs}
+use Rattle.rules.specs.Limits.{columnCount}
 use Rattle.rules.specs.Numbers.{got, field}
 use Rattle.rules.specs.Sheets.{afterCount, judgeOrderCount, readColumns}
 use Rattle.tokens.specs.Fields.{answer-fault, answer-got, refuses, answers-as, then-got, then-fault, field-judged}
@@ -58,7 +59,9 @@ unfolding orderThen
 returns-2 c =
     let a = c .before .before .before .before .before .before .before .args in
     answers-as (c .columns-at .ensures)
-    (ap (λ k. padded 4 0 (readColumns (a .m) (natAbs k) [] (drop (c .before .before .before .before .before .order-count-at .result .at) (now (a .bytes))))) (toZ-ofZ (count-fits (c .before)))
+    (ap (λ k. padded columnCount 0
+    (readColumns (a .m) (natAbs k) [] (drop (c .before .before .before .before .before .order-count-at .result .at) (now (a .bytes)))))
+    (toZ-ofZ (count-fits (c .before)))
     ∙ sym (order-is _ _ ∙ then-got _ (count-read (c .before))))
 
 pub order-at-spec : {M : Type 1} → statement M

@@ -3,11 +3,8 @@
 use mathlib.Core.Path.{refl}
 use borrow.Author.Needs.{needs}
 use denote.Ref.{now}
-use mir.Syntax.{w64}
-use mir.Val.{SFits}
-use mir.Facts.{toZ-ofZ}
 use Rattle.rules.specs.Sheets.{judgeOrder, always}
-use Rattle.tokens.specs.Fields.{answers-as, field-of}
+use Rattle.tokens.specs.Fields.{answers-field}
 use Rattle.reading.specs.Order.{takenOf}
 use Rattle.reading.proofs.order.order_column_at.Statement.{statement}
 use Rattle.reading.proofs.order.order_column_at.Tie as tie
@@ -26,10 +23,8 @@ unfolding always
 returns c =
     let a = c .before .before .before .before .before .before .args in
     let n = c .before .before .before .number-at in
-    let fn : SFits w64 (n .result .value) = search needs in
-    answers-as (c .separated .ensures .0)
-    (field-of (judgeOrder (a .m) (takenOf (now (a .order)) (a .taken))) (always (a .separator)) (n .ensures)
-    (rw (toZ-ofZ fn) at (c .before .judge-order .ensures)) refl)
+    answers-field (judgeOrder (a .m) (takenOf (now (a .order)) (a .taken))) (always (a .separator)) (n .ensures) (search needs)
+    (c .before .judge-order .ensures) refl (c .separated .ensures .0)
 
 pub order-column-at-spec : {M : Type 1} → statement M
 order-column-at-spec =

@@ -1,11 +1,8 @@
 -- `reading::order::order_count_at` meets its contract: a field is a number, its judgement and its separator.
 -- Assumes nothing.
 use borrow.Author.Needs.{needs}
-use mir.Syntax.{w64}
-use mir.Val.{SFits}
-use mir.Facts.{toZ-ofZ}
 use Rattle.rules.specs.Sheets.{judgeOrderCount, afterCount}
-use Rattle.tokens.specs.Fields.{answers-as, field-of}
+use Rattle.tokens.specs.Fields.{answers-field}
 use Rattle.reading.proofs.order.order_count_at.Statement.{statement}
 use Rattle.reading.proofs.order.order_count_at.Tie as tie
 
@@ -25,10 +22,8 @@ returns : tie.Need-returns
 returns c =
     let s = c .before .before .before .before .before .before .before in
     let n = c .before .before .before .before .before .number-at in
-    let fn : SFits w64 (n .result .value) = search needs in
-    answers-as (c .separated .ensures .0)
-    (field-of (judgeOrderCount (s .args .m)) afterCount (n .ensures)
-    (simp (toZ-ofZ fn) at (c .before .before .before .judge-order-count .ensures)) (rw (toZ-ofZ fn) at (c .before .after-count .ensures)))
+    answers-field (judgeOrderCount (s .args .m)) afterCount (n .ensures) (search needs)
+    (c .before .before .before .judge-order-count .ensures) (c .before .after-count .ensures) (c .separated .ensures .0)
 
 pub order-count-at-spec : {M : Type 1} → statement M
 order-count-at-spec =

@@ -12,6 +12,7 @@ use mir.Val.{SFits, toZ, ofZ}
 use mir.Facts.{toZ-ofZ}
 use Rattle.algebra.specs.Integers.{natAbs-+ℤ, natAbs-negℤ}
 use Rattle.integers.specs.Ranges.{sfits-size}
+use Rattle.rules.specs.Limits.{mostSpan}
 use Rattle.rules.specs.Sheets.{judgeLowest}
 use Rattle.tokens.specs.Fields.{size-between}
 use Rattle.reading.proofs.sizes.judge_lowest.Statement.{statement}
@@ -44,17 +45,21 @@ sub-if2 c = simp (toZ-ofZ (c .before .before .fits .l), toZ-ofZ (c .before .befo
 
 returns : tie.Need-returns
 unfolding judgeLowest
-returns c = sym (ap₂ (λ t u. cond (t && u) 0 2) (between (c .before)) (sym (ap (λ d. leZ d (pos 4)) (difference (c .before))) ∙ c .if2 .taken))
+returns c =
+    sym (ap₂ (λ t u. cond (t && u) 0 2) (between (c .before))
+    (sym (ap (λ d. leZ d (pos mostSpan)) (difference (c .before))) ∙ c .if2 .taken))
 
 returns-2 : tie.Need-returns-2
 unfolding judgeLowest
-returns-2 c = sym (ap₂ (λ t u. cond (t && u) 0 2) (between (c .before)) (sym (ap (λ d. leZ d (pos 4)) (difference (c .before))) ∙ c .if2 .left))
+returns-2 c =
+    sym (ap₂ (λ t u. cond (t && u) 0 2) (between (c .before))
+    (sym (ap (λ d. leZ d (pos mostSpan)) (difference (c .before))) ∙ c .if2 .left))
 
 returns-3 : tie.Need-returns-3
 unfolding judgeLowest
 returns-3 c =
     let a = c .before .before .args in
-    sym (ap (λ t. cond (t && leZ (a .l -ℤ a .t) (pos 4)) 0 2) (sym (test (c .before)) ∙ c .if1 .left))
+    sym (ap (λ t. cond (t && leZ (a .l -ℤ a .t) (pos mostSpan)) 0 2) (sym (test (c .before)) ∙ c .if1 .left))
 
 pub judge-lowest-spec : {M : Type 1} → statement M
 judge-lowest-spec =

@@ -2,11 +2,9 @@
 -- Assumes nothing.
 use mathlib.Core.Path.{refl}
 use borrow.Author.Needs.{needs}
-use mir.Syntax.{w64}
-use mir.Val.{SFits}
 use mir.Facts.{toZ-ofZ}
 use Rattle.rules.specs.Sheets.{judgeLowest, always}
-use Rattle.tokens.specs.Fields.{answers-as, field-of}
+use Rattle.tokens.specs.Fields.{answers-field}
 use Rattle.reading.proofs.sizes.lowest_at.Statement.{statement}
 use Rattle.reading.proofs.sizes.lowest_at.Tie as tie
 
@@ -24,10 +22,8 @@ unfolding always
 returns c =
     let s = c .before .before .before .before .before in
     let n = c .before .before .before .number-at in
-    let fn : SFits w64 (n .result .value) = search needs in
-    answers-as (c .separated .ensures .0)
-    (field-of (judgeLowest (s .args .l)) (always 10) (n .ensures)
-    (simp (toZ-ofZ (s .fits .l), toZ-ofZ fn) at (c .before .judge-lowest .ensures)) refl)
+    answers-field (judgeLowest (s .args .l)) (always 10) (n .ensures) (search needs)
+    (rw (toZ-ofZ (s .fits .l)) at (c .before .judge-lowest .ensures)) refl (c .separated .ensures .0)
 
 pub lowest-at-spec : {M : Type 1} → statement M
 lowest-at-spec =

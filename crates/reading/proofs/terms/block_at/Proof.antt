@@ -2,11 +2,9 @@
 -- Assumes nothing.
 use mathlib.Core.Path.{refl}
 use borrow.Author.Needs.{needs}
-use mir.Syntax.{w64}
-use mir.Val.{SFits}
 use mir.Facts.{toZ-ofZ}
 use Rattle.rules.specs.Sheets.{judgeBlock, always}
-use Rattle.tokens.specs.Fields.{answers-as, field-of}
+use Rattle.tokens.specs.Fields.{answers-field}
 use Rattle.rows.specs.Validity.{sizesOf}
 use Rattle.reading.proofs.terms.block_at.Statement.{statement}
 use Rattle.reading.proofs.terms.block_at.Tie as tie
@@ -25,10 +23,8 @@ unfolding always
 returns c =
     let s = c .before .before .before .before .before in
     let n = c .before .before .before .number-at in
-    let fn : SFits w64 (n .result .value) = search needs in
-    answers-as (c .separated .ensures .0)
-    (field-of (judgeBlock (sizesOf (s .args .z)) (s .args .before)) (always 32) (n .ensures)
-    (simp (toZ-ofZ (s .fits .before), toZ-ofZ fn) at (c .before .judge-block .ensures)) refl)
+    answers-field (judgeBlock (sizesOf (s .args .z)) (s .args .before)) (always 32) (n .ensures) (search needs)
+    (rw (toZ-ofZ (s .fits .before)) at (c .before .judge-block .ensures)) refl (c .separated .ensures .0)
 
 pub block-at-spec : {M : Type 1} → statement M
 block-at-spec =

@@ -12,6 +12,7 @@ use lib.ListN.{drop, replicate}
 use mir.Syntax.{w64}
 use mir.Val.{SFits}
 use mir.Facts.{toZ-ofZ}
+use Rattle.rules.specs.Limits.{coefficientCount}
 use Rattle.rules.specs.Calls.{padTo}
 use Rattle.rules.specs.Sheets.{readCoefficients}
 use Rattle.tokens.specs.Fields.{answer-fault, answer-got, refuses, gives}
@@ -23,7 +24,8 @@ use Rattle.reading.proofs.terms.coefficients_at.Tie as tie
 abbrev Inv-loop : tie.InvT-loop
 Inv-loop bytes at count last p₀ next₀ i₀ p next i =
     (i ≤ count)
-    × FilledTo 16 (pos 0) (readCoefficients last count (drop at bytes)) bytes p i next (readCoefficients last (count - i) (drop next bytes))
+    × FilledTo coefficientCount (pos 0) (readCoefficients last count (drop at bytes)) bytes p i next
+    (readCoefficients last (count - i) (drop next bytes))
 
 abbrev μ-loop : tie.MeasureT-loop
 μ-loop bytes at count last p₀ next₀ i₀ p next i = count - i
@@ -35,7 +37,9 @@ loop-holds : tie.Need-loop-holds Inv-loop μ-loop
 unfolding padTo
 loop-holds c =
     let s = c .before .before .before .before in
-    (zero-le, rw (c .before .clear .ensures, paste-whole (now (s .args .p)) (replicate 16 (pos 0)) 16 (le-of-eq (s .pre .1)) refl, sub-zero (s .args .count)) (filled-begins 16 (pos 0) _ _ _ _ (s .pre .0 .0) refl refl))
+    let zeros = replicate coefficientCount (pos 0) in
+    let cleared = c .before .clear .ensures ∙ paste-whole (now (s .args .p)) zeros coefficientCount (le-of-eq (s .pre .1)) refl in
+    (zero-le, rw (cleared, sub-zero (s .args .count)) (filled-begins coefficientCount (pos 0) _ _ _ _ (s .pre .0 .0) refl refl))
 
 add-coefficient-at : tie.Need-add-coefficient-at Inv-loop μ-loop
 add-coefficient-at c = omega arith

@@ -2,11 +2,9 @@
 -- Assumes nothing.
 use mathlib.Core.Path.{refl}
 use borrow.Author.Needs.{needs}
-use mir.Syntax.{w64}
-use mir.Val.{SFits}
 use mir.Facts.{toZ-ofZ}
 use Rattle.rules.specs.Sheets.{judgeColumn, always}
-use Rattle.tokens.specs.Fields.{answers-as, field-of}
+use Rattle.tokens.specs.Fields.{answers-field}
 use Rattle.rows.specs.Validity.{sizesOf}
 use Rattle.reading.proofs.terms.column_at.Statement.{statement}
 use Rattle.reading.proofs.terms.column_at.Tie as tie
@@ -25,10 +23,8 @@ unfolding always
 returns c =
     let s = c .before .before .before .before .before in
     let n = c .before .before .before .number-at in
-    let fn : SFits w64 (n .result .value) = search needs in
-    answers-as (c .separated .ensures .0)
-    (field-of (judgeColumn (sizesOf (s .args .z)) (s .args .before) (s .args .last) (s .args .s)) (always 32) (n .ensures)
-    (simp (toZ-ofZ (s .fits .before), toZ-ofZ (s .fits .s), toZ-ofZ fn) at (c .before .judge-column .ensures)) refl)
+    answers-field (judgeColumn (sizesOf (s .args .z)) (s .args .before) (s .args .last) (s .args .s)) (always 32) (n .ensures) (search needs)
+    (simp (toZ-ofZ (s .fits .before), toZ-ofZ (s .fits .s)) at (c .before .judge-column .ensures)) refl (c .separated .ensures .0)
 
 pub column-at-spec : {M : Type 1} → statement M
 column-at-spec =

@@ -2,11 +2,8 @@
 -- Assumes nothing.
 use mathlib.Core.Path.{refl}
 use borrow.Author.Needs.{needs}
-use mir.Syntax.{w64}
-use mir.Val.{SFits}
-use mir.Facts.{toZ-ofZ}
 use Rattle.rules.specs.Sheets.{judgeLast, always}
-use Rattle.tokens.specs.Fields.{answers-as, field-of}
+use Rattle.tokens.specs.Fields.{answers-field}
 use Rattle.reading.proofs.terms.last_at.Statement.{statement}
 use Rattle.reading.proofs.terms.last_at.Tie as tie
 
@@ -24,10 +21,8 @@ unfolding always
 returns c =
     let s = c .before .before .before .before .before in
     let n = c .before .before .before .number-at in
-    let fn : SFits w64 (n .result .value) = search needs in
-    answers-as (c .separated .ensures .0)
-    (field-of judgeLast (always (s .args .separator)) (n .ensures)
-    (simp (toZ-ofZ fn) at (c .before .judge-last .ensures)) refl)
+    answers-field judgeLast (always (s .args .separator)) (n .ensures) (search needs)
+    (c .before .judge-last .ensures) refl (c .separated .ensures .0)
 
 pub last-at-spec : {M : Type 1} → statement M
 last-at-spec =

@@ -11,6 +11,7 @@ use lib.Signed.{nonNeg}
 use mir.Syntax.{w64}
 use mir.Val.{SFits}
 use mir.Facts.{toZ-ofZ, fits-natAbs}
+use Rattle.rules.specs.Limits.{coefficientCount}
 use Rattle.rules.specs.Numbers.{between, got, field}
 use Rattle.rules.specs.Sheets.{always, readCoefficients}
 use Rattle.tokens.specs.Fields.{answer-fault, answer-got, refuses, answers-as, then-got, then-fault, field-judged, between-zero}
@@ -36,12 +37,14 @@ module _ (c : tie.After-struct-told) where
   fits : SFits w64 k
   fits = sfits-of (c .struct-told .given .1 .0 .1)
 
-  read : field (between (pos 1) (pos 16)) (always 32) (drop (c .before .before .before .before .before .before .args .at) (now (c .before .before .before .before .before .before .args .bytes)))
+  read : field (between (pos 1) (pos coefficientCount)) (always 32)
+      (drop (c .before .before .before .before .before .before .args .at)
+      (now (c .before .before .before .before .before .before .args .bytes)))
       ≡ got k (drop (c .before .before .before .before .number-between .result .at) (now (c .before .before .before .before .before .before .args .bytes)))
   read = answer-got (c .before .before .if1 .left) (c .before .before .before .before .number-between .ensures .0)
 
-  bounds : T (nonNeg k) × (1 ≤ natAbs k) × (natAbs k ≤ 16)
-  bounds = between-zero 1 16 k (field-judged (between (pos 1) (pos 16)) (always 32) _ read)
+  bounds : T (nonNeg k) × (1 ≤ natAbs k) × (natAbs k ≤ coefficientCount)
+  bounds = between-zero 1 coefficientCount k (field-judged (between (pos 1) (pos coefficientCount)) (always 32) _ read)
 
 cast-coefficients-at : tie.Need-cast-coefficients-at
 cast-coefficients-at c = rw (toZ-ofZ (fits c)) (bounds c .0, fits-natAbs tt (fits c))
@@ -57,7 +60,10 @@ unfolding readPolynomial
 returns-2 c =
     let a = c .before .before .before .before .before .before .before .before .before .args in
     answers-as (c .before .coefficients-at .ensures)
-    (ap (λ z. padded 16 (pos 0) (readCoefficients (a .separator) (natAbs z) (drop (c .before .before .before .before .before .before .before .number-between .result .at) (now (a .bytes))))) (toZ-ofZ (fits (c .before .before .before)))
+    (ap (λ z. padded coefficientCount (pos 0)
+    (readCoefficients (a .separator) (natAbs z)
+    (drop (c .before .before .before .before .before .before .before .number-between .result .at) (now (a .bytes)))))
+    (toZ-ofZ (fits (c .before .before .before)))
     ∙ sym (then-got _ (read (c .before .before .before))))
 
 pub polynomial-at-spec : {M : Type 1} → statement M

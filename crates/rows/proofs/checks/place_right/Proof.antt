@@ -14,7 +14,7 @@ use lib.Dec.{ltb, leb}
 use lib.IntN.{ℤ}
 use lib.ListN.{take, drop}
 use Rattle.algebra.specs.Polynomials.{isZero}
-use Rattle.rules.specs.Limits.{small}
+use Rattle.rules.specs.Limits.{coefficientCount, columnCount, small}
 use Rattle.rules.specs.Rows.{every}
 use Rattle.rows.specs.Checks.{outside, placeRight}
 use Rattle.rows.proofs.checks.place_right.Statement.{statement}
@@ -37,24 +37,27 @@ module _ (c : tie.Joined1) where
   place = c .before .before .args .place
 
   abbrev part : ℕ → List ℤ
-  part n = take n (drop (place * 16) (now (c .before .before .args .numbers)))
+  part n = take n (drop (place * coefficientCount) (now (c .before .before .args .numbers)))
 
   -- the two tests, of the block and of the column
   tested : c .if1 .if2 ≡ outside m span place
   unfolding outside
   tested =
-      let block = ltb span (place / 4) in
-      let column = leb m (place % 4) in
-      ⊎-elim (λ w. w .1 ∙ first-of block column (lt-ltb span (place / 4) (w .0 .taken)))
-      (λ w. w .1 ∙ second-of block column (le-ltb span (place / 4) (w .0 .left))) (c .if1 .came)
+      let block = ltb span (place / columnCount) in
+      let column = leb m (place % columnCount) in
+      ⊎-elim (λ w. w .1 ∙ first-of block column (lt-ltb span (place / columnCount) (w .0 .taken)))
+      (λ w. w .1 ∙ second-of block column (le-ltb span (place / columnCount) (w .0 .left))) (c .if1 .came)
 
   chosen : (t : Bool) → c .if1 .if2 ≡ t
-      → cond t (isZero (part 16)) (every small (part 16)) ≡ placeRight m span (now (c .before .before .args .numbers)) place
+      → cond t (isZero (part coefficientCount)) (every small (part coefficientCount))
+      ≡ placeRight m span (now (c .before .before .args .numbers)) place
   unfolding placeRight
-  chosen t e = ap (λ o. cond o (isZero (part 16)) (every small (part 16))) (sym e ∙ tested)
+  chosen t e = ap (λ o. cond o (isZero (part coefficientCount)) (every small (part coefficientCount))) (sym e ∙ tested)
 
-  size : part (place * 16 + 16 - place * 16) ≡ part 16
-  size = let sixteen : place * 16 + 16 - place * 16 ≡ 16 = omega arith in ap part sixteen
+  size : part (place * coefficientCount + coefficientCount - place * coefficientCount) ≡ part coefficientCount
+  size =
+      let width : place * coefficientCount + coefficientCount - place * coefficientCount ≡ coefficientCount = omega arith in
+      ap part width
 
 mul-from : tie.Need-mul-from
 mul-from c = search needs

@@ -8,15 +8,16 @@ use borrow.Author.Needs.{needs}
 use borrow.Author.Tests.{not-true, not-false}
 use borrow.Author.Count.{below-none, below-more}
 use denote.Ref.{now}
+use Rattle.rules.specs.Limits.{polynomialCount}
 use Rattle.rows.specs.Checks.{placeRight, row-true, row-false}
 use Rattle.rows.proofs.checks.row_right.Statement.{statement}
 use Rattle.rows.proofs.checks.row_right.Tie as tie
 
 abbrev Inv-loop : tie.InvT-loop
-Inv-loop row m span place₀ place = (place ≤ 20) × ((q : ℕ) → q < place → placeRight m span row q ≡ true)
+Inv-loop row m span place₀ place = (place ≤ polynomialCount) × ((q : ℕ) → q < place → placeRight m span row q ≡ true)
 
 abbrev μ-loop : tie.MeasureT-loop
-μ-loop row m span place₀ place = 20 - place
+μ-loop row m span place₀ place = polynomialCount - place
 
 loop-holds : tie.Need-loop-holds Inv-loop μ-loop
 loop-holds c = (omega arith, below-none _)

@@ -8,16 +8,17 @@ use borrow.Author.Needs.{needs, sfits-of}
 use lib.IntN.{pos}
 use lib.ListN.{length, getD, take}
 use Rattle.algebra.specs.Polynomials.{isZero}
+use Rattle.rules.specs.Limits.{columnCount, blockLength}
 use Rattle.polynomials.specs.Content.{zero-bits, nonzero-bits}
 use Rattle.working.specs.Found.{foundOr, isZero-longer, column-none, column-some}
 use Rattle.working.proofs.entries.first_column.Statement.{statement}
 use Rattle.working.proofs.entries.first_column.Tie as tie
 
 abbrev Inv-loop : tie.InvT-loop
-Inv-loop row i₀ i = (i ≤ 64) × (isZero (take i row) ≡ true)
+Inv-loop row i₀ i = (i ≤ blockLength) × (isZero (take i row) ≡ true)
 
 abbrev μ-loop : tie.MeasureT-loop
-μ-loop row i₀ i = 64 - i
+μ-loop row i₀ i = blockLength - i
 
 loop-holds : tie.Need-loop-holds Inv-loop μ-loop
 unfolding isZero
@@ -45,14 +46,15 @@ loop-again c =
 
 returns : tie.Need-returns Inv-loop μ-loop
 unfolding foundOr
-returns c = sym (ap (foundOr 4) (column-none (c .before .before .args .t1) (rw (c .if1 .taken) at (c .before .loop .inv .1))))
+returns c = sym (ap (foundOr columnCount) (column-none (c .before .before .args .t1) (rw (c .if1 .taken) at (c .before .loop .inv .1))))
 
 returns-2 : tie.Need-returns-2 Inv-loop μ-loop
 unfolding foundOr
 returns-2 c =
     let row = c .before .before .before .before .args .t1 in
     let i = c .before .before .before .loop .i in
-    sym (ap (foundOr 4) (column-some row i (omega arith) (c .before .before .before .loop .inv .1) (nonzero-bits (c .if2 .taken))))
+    sym (ap (foundOr columnCount)
+    (column-some row i (omega arith) (c .before .before .before .loop .inv .1) (nonzero-bits (c .if2 .taken))))
 
 pub first-column-spec : {M : Type 1} → statement M
 first-column-spec =

@@ -11,7 +11,7 @@ use lib.IntN.{ℤ}
 use lib.ListN.{length, take, drop, getD}
 use lib.Seq.{take-all}
 use Rattle.algebra.specs.Polynomials.{Polynomial, isZero}
-use Rattle.rules.specs.Limits.{rowLength}
+use Rattle.rules.specs.Limits.{coefficientCount, columnCount, rowLength}
 use Rattle.rules.specs.Rows.{every}
 use Rattle.rules.specs.Stores.{rowOf}
 use Rattle.rows.specs.Flat.{entry-at, every-longer}
@@ -22,7 +22,7 @@ use Rattle.working.proofs.entries.first_met.Tie as tie
 abbrev Inv-loop : tie.InvT-loop
 Inv-loop settled order numbers j₀ j =
     (length numbers ≡ rowLength)
-    × ((length order ≡ 4) × ((j ≤ settled) × (every isZero (take j (entriesAt (rowOf numbers) order settled)) ≡ true)))
+    × ((length order ≡ columnCount) × ((j ≤ settled) × (every isZero (take j (entriesAt (rowOf numbers) order settled)) ≡ true)))
 
 abbrev μ-loop : tie.MeasureT-loop
 μ-loop settled order numbers j₀ j = settled - j
@@ -35,7 +35,7 @@ module _ (c : tie.In-loop Inv-loop μ-loop) where
   abbrev column : ℕ
   column = getD (c .before .before .before .args .t2) (c .before .loop .j) 0
 
-  below : column < 4
+  below : column < columnCount
   below = Columns-at (c .before .before .before .args .t2) (c .before .before .before .pre .1) (c .before .loop .j)
 
 -- the test of the leading entry there
@@ -65,8 +65,8 @@ module _ (c : tie.After-is-zero Inv-loop μ-loop) where
   tested =
       let here = column (c .before .before) in
       let entry-here = getD-entriesAt (rowOf numbers) order settled j enough (c .before .before .loop-test .taken) in
-      let size : here * 16 + 16 - here * 16 ≡ 16 = omega arith in
-      c .is-zero .ensures ∙ ap (λ n. isZero (take n (drop (here * 16) numbers))) size
+      let size : here * coefficientCount + coefficientCount - here * coefficientCount ≡ coefficientCount = omega arith in
+      c .is-zero .ensures ∙ ap (λ n. isZero (take n (drop (here * coefficientCount) numbers))) size
       ∙ sym (ap isZero (entry-here ∙ entry-at numbers here (below (c .before .before))))
 
 loop-holds : tie.Need-loop-holds Inv-loop μ-loop

@@ -11,7 +11,7 @@ use lib.IntN.{ℤ}
 use lib.ListN.{length, take, drop, getD}
 use lib.Seq.{take-all}
 use Rattle.algebra.specs.Polynomials.{isZero}
-use Rattle.rules.specs.Limits.{rowLength}
+use Rattle.rules.specs.Limits.{blockCount, blockLength, rowLength}
 use Rattle.rules.specs.Rows.{zeroBlock, width, widthOf}
 use Rattle.rules.specs.Stores.{rowOf}
 use Rattle.rows.specs.Flat.{zeroBlock-at, length-blocks}
@@ -21,7 +21,7 @@ use Rattle.working.proofs.entries.width.Tie as tie
 
 abbrev Inv-loop : tie.InvT-loop
 Inv-loop numbers blocks₀ blocks =
-    (length numbers ≡ rowLength) × ((blocks ≤ 5) × (width (rowOf numbers) ≡ widthOf (take blocks (rowOf numbers .blocks))))
+    (length numbers ≡ rowLength) × ((blocks ≤ blockCount) × (width (rowOf numbers) ≡ widthOf (take blocks (rowOf numbers .blocks))))
 
 abbrev μ-loop : tie.MeasureT-loop
 μ-loop numbers blocks₀ blocks = blocks
@@ -42,8 +42,9 @@ module _ (c : tie.After-is-zero Inv-loop μ-loop) where
 
   tested : c .is-zero .result ≡ zeroBlock (getD (rowOf numbers .blocks) left [])
   tested =
-      let size : suc left * 64 - left * 64 ≡ 64 = omega arith in
-      c .is-zero .ensures ∙ ap (λ n. isZero (take n (drop (left * 64) numbers))) (ap (λ b. b * 64 - left * 64) some-left ∙ size)
+      let size : suc left * blockLength - left * blockLength ≡ blockLength = omega arith in
+      c .is-zero .ensures
+      ∙ ap (λ n. isZero (take n (drop (left * blockLength) numbers))) (ap (λ b. b * blockLength - left * blockLength) some-left ∙ size)
       ∙ sym (zeroBlock-at numbers left (omega arith))
 
   down : width (rowOf numbers) ≡ widthOf (take (suc left) (rowOf numbers .blocks))
@@ -53,7 +54,7 @@ loop-holds : tie.Need-loop-holds Inv-loop μ-loop
 unfolding width
 loop-holds c =
     let row = c .before .args .t1 in
-    (omega arith, (omega arith, ap widthOf (sym (take-all 5 (rowOf row .blocks) (le-of-eq (length-blocks row))))))
+    (omega arith, (omega arith, ap widthOf (sym (take-all blockCount (rowOf row .blocks) (le-of-eq (length-blocks row))))))
 
 sub-from : tie.Need-sub-from Inv-loop μ-loop
 sub-from c = search needs

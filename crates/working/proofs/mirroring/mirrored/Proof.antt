@@ -15,7 +15,7 @@ use mir.Syntax.{w64}
 use mir.Val.{SFits, toZ, ofZ}
 use mir.Facts.{toZ-ofZ}
 use Rattle.algebra.specs.Coefficients.{alternate}
-use Rattle.rules.specs.Limits.{rowLength, small}
+use Rattle.rules.specs.Limits.{coefficientCount, mostSpan, blockCount, blockLength, rowLength, small}
 use Rattle.rules.specs.Rows.{coefficientsOf, mirrorRow}
 use Rattle.rules.specs.Stores.{rowOf}
 use Rattle.rows.specs.Flat.{every-from-at}
@@ -38,7 +38,7 @@ module _ (c : tie.After-mirrored-block Inv-loop μ-loop) where
   abbrev span : ℕ
   span = c .before .before .before .args .span
 
-  few : span ≤ 4
+  few : span ≤ mostSpan
   few = c .before .before .before .pre .0
 
   long : length row ≡ rowLength
@@ -51,10 +51,10 @@ module _ (c : tie.After-mirrored-block Inv-loop μ-loop) where
   i = c .before .before .loop .i
 
   abbrev from : ℕ
-  from = c .mirrored-block .result * 64 + i % 64
+  from = c .mirrored-block .result * blockLength + i % blockLength
 
-  below : c .mirrored-block .result < 5
-  below = rw (c .mirrored-block .ensures) (mirrorBlock-below span (i / 64) few (omega arith))
+  below : c .mirrored-block .result < blockCount
+  below = rw (c .mirrored-block .ensures) (mirrorBlock-below span (i / blockLength) few (omega arith))
 
   size : natAbs (getD row from (pos 0)) ≤ 268435455
   unfolding small
@@ -62,7 +62,7 @@ module _ (c : tie.After-mirrored-block Inv-loop μ-loop) where
 
   source : from ≡ mirrorPlace span i
   unfolding mirrorPlace
-  source = ap (λ b. b * 64 + i % 64) (c .mirrored-block .ensures)
+  source = ap (λ b. b * blockLength + i % blockLength) (c .mirrored-block .ensures)
 
 -- the number that is stored
 value : (c : tie.After-alternated Inv-loop μ-loop)
@@ -71,7 +71,7 @@ value c =
     let at = c .before .before in
     let read : SFits w64 (getD (row at) (from at) (pos 0)) = sfits-of (c .before .alternated-arg .given) in
     toZ-ofZ (sfits-of (c .alternated .ok)) ∙ c .alternated .ensures
-    ∙ ap (alternate (i at % 16)) (toZ-ofZ read ∙ ap (λ n. getD (row at) n (pos 0)) (source at))
+    ∙ ap (alternate (i at % coefficientCount)) (toZ-ofZ read ∙ ap (λ n. getD (row at) n (pos 0)) (source at))
     ∙ sym (number-mirrorRow (span at) (row at) (few at) (long at) (i at) (omega arith))
 
 loop-holds : tie.Need-loop-holds Inv-loop μ-loop

@@ -14,20 +14,21 @@ use lib.Dec.{T}
 use lib.IntN.{ℤ, pos}
 use lib.ListN.{length, take, drop, replicate}
 use Rattle.algebra.specs.Polynomials.{isZero, shift, isZero-shift}
-use Rattle.rules.specs.Limits.{rowLength, small}
+use Rattle.rules.specs.Limits.{coefficientCount, blockLength, rowLength, small}
 use Rattle.rules.specs.Rows.{shiftUp, coefficientsOf}
 use Rattle.rules.specs.Stores.{rowOf}
+use Rattle.rules.specs.Layout.{coefficientsAt}
 use Rattle.rows.specs.Written.{every-part, front, length-front, front-none, front-all, front-put, front-skip}
-use Rattle.working.specs.Shifting.{length-shiftUp, shiftUp-part, shiftUp-rest}
+use Rattle.working.specs.Shifting.{movedCount, length-shiftUp, shiftUp-part, shiftUp-rest}
 use Rattle.working.proofs.shifting.moved_up.Statement.{statement}
 use Rattle.working.proofs.shifting.moved_up.Tie as tie
 
 abbrev Inv-loop : tie.InvT-loop
 Inv-loop table row moved₀ e₀ moved e =
-    (e ≤ 16) × (length moved ≡ rowLength) × (moved ≡ front (coefficientsOf (shiftUp (rowOf row))) (e * 16))
+    (e ≤ movedCount) × (length moved ≡ rowLength) × (moved ≡ front (coefficientsOf (shiftUp (rowOf row))) (e * coefficientCount))
 
 abbrev μ-loop : tie.MeasureT-loop
-μ-loop table row moved₀ e₀ moved e = 16 - e
+μ-loop table row moved₀ e₀ moved e = movedCount - e
 
 -- polynomial e of the row, one block further down
 module _ (c : tie.After-is-zero Inv-loop μ-loop) where
@@ -40,28 +41,34 @@ module _ (c : tie.After-is-zero Inv-loop μ-loop) where
   abbrev e : ℕ
   e = c .before .before .before .loop .e
 
+  abbrev from : ℕ
+  from = e * coefficientCount + blockLength
+
   abbrev p : List ℤ
-  p = take (e * 16 + 64 + 16 - (e * 16 + 64)) (drop (e * 16 + 64) row)
+  p = take (from + coefficientCount - from) (drop from row)
+
+  abbrev width : ℕ
+  width = e * coefficientCount + coefficientCount - e * coefficientCount
 
   full-long : length full ≡ rowLength
   full-long = length-shiftUp row (c .before .before .before .before .pre .1)
 
-  p-shifted : take 16 (drop (e * 16) full) ≡ shift p
+  p-shifted : coefficientsAt full e ≡ shift p
   p-shifted =
-      let width : e * 16 + 64 + 16 - (e * 16 + 64) ≡ 16 = omega arith in
+      let whole : from + coefficientCount - from ≡ coefficientCount = omega arith in
       shiftUp-part row (c .before .before .before .before .pre .1) e (c .before .before .loop-test .taken)
-      ∙ ap (λ k. shift (take k (drop (e * 16 + 64) row))) (sym width)
+      ∙ ap (λ k. shift (take k (drop from row))) (sym whole)
 
-  p-skipped : not (c .is-zero .result) ≡ false → front full (e * 16) ≡ front full ((e + 1) * 16)
+  p-skipped : not (c .is-zero .result) ≡ false → front full (e * coefficientCount) ≡ front full ((e + 1) * coefficientCount)
   p-skipped z =
       front-skip full e (omega (arith, full-long))
       (subst T (sym (ap isZero p-shifted ∙ isZero-shift p ∙ sym (c .is-zero .ensures) ∙ not-false _ z)) tt)
 
   p-put : (q : List ℤ) → q ≡ shift p
-      → putMid (e * 16) (e * 16 + 16 - e * 16) (c .before .before .before .loop .moved) q ≡ front full ((e + 1) * 16)
+      → putMid (e * coefficientCount) width (c .before .before .before .loop .moved) q ≡ front full ((e + 1) * coefficientCount)
   p-put q w =
-      ap₂ (λ m x. putMid (e * 16) (e * 16 + 16 - e * 16) m x) (c .before .before .before .loop .inv .2) (w ∙ sym p-shifted)
-      ∙ front-put full e (omega (arith, full-long)) (e * 16 + 16 - e * 16) (omega arith)
+      ap₂ (putMid (e * coefficientCount) width) (c .before .before .before .loop .inv .2) (w ∙ sym p-shifted)
+      ∙ front-put full e (omega (arith, full-long)) width (omega arith)
 
 loop-holds : tie.Need-loop-holds Inv-loop μ-loop
 loop-holds c =
@@ -113,8 +120,8 @@ part-moved-end c = search needs
 put-shifted-requires : tie.Need-put-shifted-requires Inv-loop μ-loop
 put-shifted-requires c κs =
     let at = c .before .before in
-    let from = e at * 16 + 64 in
-    (search needs, search needs, search needs, every-part small from (from + 16 - from) (row at) (at .before .before .before .before .pre .2))
+    let start = at .before .before .before .before in
+    (search needs, search needs, search needs, every-part small (from at) (from at + coefficientCount - from at) (row at) (start .pre .2))
 
 add-e : tie.Need-add-e Inv-loop μ-loop
 add-e c = search needs
@@ -125,18 +132,22 @@ loop-less c = search needs
 loop-again : tie.Need-loop-again Inv-loop μ-loop
 loop-again c =
     let at = c .before in
-    let written : c .if1 .moved ≡ front (full at) ((e at + 1) * 16) = ⊎-elim
+    let written : c .if1 .moved ≡ front (full at) ((e at + 1) * coefficientCount) = ⊎-elim
     (λ w. w .4 ∙ p-put at (w .2 .last .0) (w .2 .ensures))
     (λ w. w .1 ∙ at .before .before .before .loop .inv .2 ∙ p-skipped at (w .0 .left))
     (c .if1 .came)
-    in
-    (omega arith, ap length written ∙ length-front (full at) ((e at + 1) * 16) (omega (arith, full-long at)) ∙ full-long at, written)
+    in (
+      omega arith,
+      ap length written ∙ length-front (full at) ((e at + 1) * coefficientCount) (omega (arith, full-long at))
+          ∙ full-long at,
+      written,
+    )
 
 returns : tie.Need-returns Inv-loop μ-loop
 returns c =
     let row = now (c .before .before .args .row) in
-    let all : c .before .loop .e ≡ 16 = omega arith in
-    c .before .loop .inv .2 ∙ ap (λ e. front (coefficientsOf (shiftUp (rowOf row))) (e * 16)) all
+    let all : c .before .loop .e ≡ movedCount = omega arith in
+    c .before .loop .inv .2 ∙ ap (λ e. front (coefficientsOf (shiftUp (rowOf row))) (e * coefficientCount)) all
     ∙ front-all (coefficientsOf (shiftUp (rowOf row))) 256 (shiftUp-rest row (c .before .before .pre .1))
 
 pub moved-up-spec : {M : Type 1} → statement M

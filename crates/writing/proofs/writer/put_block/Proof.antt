@@ -9,8 +9,8 @@ use mir.Syntax.{w64}
 use mir.Val.{toZ, ofZ}
 use mir.Facts.{toZ-ofZ}
 use Rattle.rules.specs.Sheets.{trim, blockTerms}
-use Rattle.rules.specs.Stores.{parts}
-use Rattle.rules.specs.Limits.{small}
+use Rattle.rules.specs.Limits.{coefficientCount, columnCount, small}
+use Rattle.rules.specs.Layout.{blockOf}
 use Rattle.rows.specs.Written.{every-part}
 use Rattle.writing.specs.Bounds.{termBytes}
 use Rattle.writing.specs.Writer.{Going, going-first, going-next, going-last, put-same}
@@ -21,12 +21,12 @@ use Rattle.writing.proofs.writer.put_block.Tie as tie
 
 abbrev Inv-loop : tie.InvT-loop
 Inv-loop bytes₀ at numbers lengths block next₀ c₀ bytes next c =
-    (c ≤ 4)
-    × Going bytes₀ at (spaced (numbersOf (blockTerms (toZ w64 block) 1 (parts 16 4 numbers)))) bytes next
-    (spaced (numbersOf (blockTerms (toZ w64 block) (c + 1) (drop c (parts 16 4 numbers))))) (termBytes * c)
+    (c ≤ columnCount)
+    × Going bytes₀ at (spaced (numbersOf (blockTerms (toZ w64 block) 1 (blockOf numbers)))) bytes next
+    (spaced (numbersOf (blockTerms (toZ w64 block) (c + 1) (drop c (blockOf numbers))))) (termBytes * c)
 
 abbrev μ-loop : tie.MeasureT-loop
-μ-loop bytes₀ at numbers lengths block next₀ c₀ bytes next c = 4 - c
+μ-loop bytes₀ at numbers lengths block next₀ c₀ bytes next c = columnCount - c
 
 loop-holds : tie.Need-loop-holds Inv-loop μ-loop
 loop-holds c = (omega arith, going-first refl)
@@ -63,12 +63,13 @@ put-term-requires c κs =
     let turn = c .before .before .before in
     let start = turn .before .before .before .before in
     let k = turn .before .loop .c in
-    let width : 16 ≡ k * 16 + 16 - k * 16 = omega arith in
-    let size = ap (λ n. length (trim (take n (drop (k * 16) (now (start .args .numbers)))))) width in (
+    let width : coefficientCount ≡ k * coefficientCount + coefficientCount - k * coefficientCount = omega arith in
+    let size = ap (λ n. length (trim (take n (drop (k * coefficientCount) (now (start .args .numbers)))))) width in (
       search needs,
       start .pre .2 k (turn .loop-test .taken) ∙ size,
       search needs,
-      every-part small (k * 16) (k * 16 + 16 - k * 16) (now (start .args .numbers)) (start .pre .4),
+      every-part small (k * coefficientCount) (k * coefficientCount + coefficientCount - k * coefficientCount)
+          (now (start .args .numbers)) (start .pre .4),
       rw (toZ-ofZ (start .fits .block)) (start .pre .5),
     )
 
@@ -84,10 +85,11 @@ loop-again c =
     let numbers = now (turn .before .before .before .before .args .numbers) in
     let k = turn .before .loop .c in
     let s = toZ w64 (ofZ w64 (turn .before .before .before .before .args .block)) in
-    let width : k * 16 + 16 - k * 16 ≡ 16 = omega arith in (
+    let width : k * coefficientCount + coefficientCount - k * coefficientCount ≡ coefficientCount = omega arith in (
       omega arith,
       going-next (turn .before .loop .inv .1) (block-next s numbers k (turn .loop-test .taken))
-          (put-same (c .before .before .put-term .ensures) (ap (λ n. spaced (termAt s (k + 1) (take n (drop (k * 16) numbers)))) width))
+          (put-same (c .before .before .put-term .ensures)
+          (ap (λ n. spaced (termAt s (k + 1) (take n (drop (k * coefficientCount) numbers)))) width))
           (omega arith),
     )
 
@@ -100,7 +102,8 @@ returns c =
     let block = toZ w64 (ofZ w64 (args .block)) in
     let none = block-end block (now (args .numbers)) (c .before .loop .c) (c .loop-test .left) in
     put-same (going-last (c .before .loop .inv .1) none (omega arith))
-    (ap (λ s. spaced (numbersOf (blockTerms s 1 (parts 16 4 (now (args .numbers)))))) (toZ-ofZ (c .before .before .before .before .fits .block)))
+    (ap (λ s. spaced (numbersOf (blockTerms s 1 (blockOf (now (args .numbers))))))
+    (toZ-ofZ (c .before .before .before .before .fits .block)))
 
 pub put-block-spec : {M : Type 1} → statement M
 put-block-spec =

@@ -16,7 +16,8 @@ use Rattle.polynomials.specs.Shift.{every-getD}
 use Rattle.rows.specs.Written.{every-part}
 use Rattle.rules.specs.Numbers.{newline, decimal}
 use Rattle.rules.specs.Sheets.{termsFrom}
-use Rattle.rules.specs.Stores.{parts, rowOf}
+use Rattle.rules.specs.Stores.{rowOf}
+use Rattle.rules.specs.Layout.{polynomialsIn}
 use Rattle.writing.specs.Writer.{put-same, put-then, spaced-then, spaced, numbersOf, nonzeroCount, relation-line}
 use borrow.Author.Needs.{needs, sfits-of}
 use Rattle.writing.proofs.writer.put_relation.Statement.{statement}
@@ -92,7 +93,7 @@ returns c =
     (spaced-then (_ ∷ []) (terms part read-l) (counted .put-next-count .ensures) (written .put-terms .ensures)))
     (c .before .before .put-byte .ensures))
     (ap₂ (λ a n. bytes a n part read-l) (toZ-ofZ read) (measured .term-lengths .ensures .0)
-    ∙ ap₂ (λ row l. bytes (getD numbers 0 (pos 0)) (nonzeroCount (parts 16 20 row)) row l) rest (toZ-ofZ (start .fits .l))
+    ∙ ap₂ (λ row l. bytes (getD numbers 0 (pos 0)) (nonzeroCount (polynomialsIn row)) row l) rest (toZ-ofZ (start .fits .l))
     ∙ relation-line (start .args .l) numbers)
 
 pub put-relation-spec : {M : Type 1} → statement M

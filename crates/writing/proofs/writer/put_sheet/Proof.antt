@@ -10,6 +10,7 @@ use lib.IntN.{ℤ, pos, natAbs}
 use mir.Syntax.{w64}
 use mir.Val.{toZ, ofZ}
 use mir.Facts.{toZ-ofZ}
+use Rattle.rules.specs.Limits.{blockBound}
 use Rattle.rules.specs.Numbers.{line, lines}
 use Rattle.rules.specs.Sheets.{equationNumbers, relationLine, orderLine}
 use Rattle.rules.specs.Stores.{equations, rowsOf, relationsOf}
@@ -32,7 +33,7 @@ module _ (c : tie.After-struct-told) where
   back-t : toZ w64 (ofZ w64 t) ≡ t
   back-t = toZ-ofZ {w = w64} {z = t} (sfits-of (c .struct-told .given .1 .1 .0 .1))
 
-  small : natAbs (toZ w64 (ofZ w64 l)) ≤ 64
+  small : natAbs (toZ w64 (ofZ w64 l)) ≤ blockBound
   unfolding sizesOf
   small = rw back-l (c .before .before .before .pre .0 .blocks)
 

@@ -12,10 +12,12 @@ use mir.Syntax.{w64}
 use mir.Val.{SFits, toZ, ofZ}
 use mir.Facts.{toZ-ofZ}
 use Rattle.integers.specs.Ranges.{sfits-size}
+use Rattle.rules.specs.Limits.{columnCount, blockCount, blockLength, blockBound}
 use Rattle.rules.specs.Limits as Limits
 use Rattle.rows.specs.Written.{every-part}
 use Rattle.rules.specs.Sheets.{trim, blockTerms, termsFrom}
-use Rattle.rules.specs.Stores.{parts, rowOf}
+use Rattle.rules.specs.Stores.{rowOf}
+use Rattle.rules.specs.Layout.{blockOf, coefficientsAt}
 use Rattle.writing.specs.Bounds.{blockBytes}
 use Rattle.writing.specs.Writer.{Going, going-first, going-next, going-last, put-same}
 use Rattle.writing.specs.Writer.{spaced, numbersOf, block-size, small-block, lengths-part, terms-next, terms-end}
@@ -25,12 +27,12 @@ use Rattle.writing.proofs.writer.put_terms.Tie as tie
 
 abbrev Inv-loop : tie.InvT-loop
 Inv-loop bytes₀ at row lengths l next₀ b₀ bytes next b =
-    (b ≤ 5)
+    (b ≤ blockCount)
     × Going bytes₀ at (spaced (numbersOf (termsFrom (toZ w64 l) (rowOf row .blocks)))) bytes next
     (spaced (numbersOf (termsFrom (toZ w64 l -ℤ pos b) (drop b (rowOf row .blocks))))) (blockBytes * b)
 
 abbrev μ-loop : tie.MeasureT-loop
-μ-loop bytes₀ at row lengths l next₀ b₀ bytes next b = 5 - b
+μ-loop bytes₀ at row lengths l next₀ b₀ bytes next b = blockCount - b
 
 -- the block that is written
 module _ (c : tie.After-put-block-arg3 Inv-loop μ-loop) where
@@ -44,15 +46,15 @@ module _ (c : tie.After-put-block-arg3 Inv-loop μ-loop) where
   l = toZ w64 (ofZ w64 (start .args .l))
 
   count : toZ w64 b ≡ pos b
-  count = toZ-ofZ {z = pos b} (sfits-size (pos b) {k = 5} (omega arith) (lit< tt))
+  count = toZ-ofZ {z = pos b} (sfits-size (pos b) {k = blockCount} (omega arith) (lit< tt))
 
-  small : natAbs l ≤ 64
+  small : natAbs l ≤ blockBound
   small = rw (toZ-ofZ (start .fits .l)) (start .pre .3)
 
-  row-width : b * 64 + 64 - b * 64 ≡ 64
+  row-width : b * blockLength + blockLength - b * blockLength ≡ blockLength
   row-width = omega arith
 
-  lengths-width : b * 4 + 4 - b * 4 ≡ 4
+  lengths-width : b * columnCount + columnCount - b * columnCount ≡ columnCount
   lengths-width = omega arith
 
   fits : SFits w64 (l -ℤ pos b)
@@ -115,11 +117,11 @@ put-block-requires c κs =
       search needs,
       search needs,
       λ i lt.
-          ap (λ n. getD (take n (drop (b c * 4) lengths)) i 0) (lengths-width c)
+          ap (λ n. getD (take n (drop (b c * columnCount) lengths)) i 0) (lengths-width c)
           ∙ lengths-part row lengths (b c) (c .before .before .before .loop-test .taken) (start c .pre .2) i lt
-          ∙ ap (λ n. length (trim (take 16 (drop (i * 16) (take n (drop (b c * 64) row)))))) (sym (row-width c)),
+          ∙ ap (λ n. length (trim (coefficientsAt (take n (drop (b c * blockLength) row)) i))) (sym (row-width c)),
       search needs,
-      every-part Limits.small (b c * 64) (b c * 64 + 64 - b c * 64) row (start c .pre .5),
+      every-part Limits.small (b c * blockLength) (b c * blockLength + blockLength - b c * blockLength) row (start c .pre .5),
       subst (λ s. T (Limits.small s)) (sym (read c)) (small-block _ (block-size (l c) (b c) (small c) (omega arith))),
     )
 
@@ -134,7 +136,7 @@ loop-again c =
     let arg = c .before .before .before in
     let turn = arg .before .before .before in
     let row = now (start arg .args .row) in
-    let written : ℤ → ℕ → List ℕ = λ s n. spaced (numbersOf (blockTerms s 1 (parts 16 4 (take n (drop (b arg * 64) row))))) in (
+    let written : ℤ → ℕ → List ℕ = λ s n. spaced (numbersOf (blockTerms s 1 (blockOf (take n (drop (b arg * blockLength) row))))) in (
       omega arith,
       going-next (turn .before .loop .inv .1) (terms-next (l arg) row (b arg) (turn .loop-test .taken))
           (put-same (c .before .before .put-block .ensures)

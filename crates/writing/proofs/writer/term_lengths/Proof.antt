@@ -10,8 +10,9 @@ use native.Mathlib.Omega.{arith}
 use denote.Ref.{now}
 use lib.IntN.{ℤ}
 use lib.ListN.{length, take, drop, length-set}
+use Rattle.rules.specs.Limits.{coefficientCount, polynomialCount}
 use Rattle.rules.specs.Sheets.{trim}
-use Rattle.rules.specs.Stores.{parts}
+use Rattle.rules.specs.Layout.{coefficientsAt, polynomialsIn}
 use Rattle.writing.specs.Writer.{nonzeroCount, Lengths, lengths-next, parts-end, count-none, count-some}
 use borrow.Author.Needs.{needs}
 use Rattle.writing.proofs.writer.term_lengths.Statement.{statement}
@@ -19,14 +20,14 @@ use Rattle.writing.proofs.writer.term_lengths.Tie as tie
 
 abbrev Inv-loop : tie.InvT-loop
 Inv-loop lengths₀ row terms₀ i₀ lengths terms i =
-    (i ≤ 20)
+    (i ≤ polynomialCount)
     × (terms ≤ i)
-    × (terms + nonzeroCount (drop i (parts 16 20 row)) ≡ nonzeroCount (parts 16 20 row))
-    × (length lengths ≡ 20)
+    × (terms + nonzeroCount (drop i (polynomialsIn row)) ≡ nonzeroCount (polynomialsIn row))
+    × (length lengths ≡ polynomialCount)
     × Lengths i row lengths
 
 abbrev μ-loop : tie.MeasureT-loop
-μ-loop lengths₀ row terms₀ i₀ lengths terms i = 20 - i
+μ-loop lengths₀ row terms₀ i₀ lengths terms i = polynomialCount - i
 
 -- what `trimmed` says of polynomial i
 module _ (c : tie.After-trimmed Inv-loop μ-loop) where
@@ -36,10 +37,10 @@ module _ (c : tie.After-trimmed Inv-loop μ-loop) where
   abbrev i : ℕ
   i = c .before .before .before .loop .i
 
-  size : c .trimmed .result ≡ length (trim (take 16 (drop (i * 16) row)))
+  size : c .trimmed .result ≡ length (trim (coefficientsAt row i))
   size =
-      let width : i * 16 + 16 - i * 16 ≡ 16 = omega arith in
-      c .trimmed .ensures ∙ ap (λ n. length (trim (take n (drop (i * 16) row)))) width
+      let width : i * coefficientCount + coefficientCount - i * coefficientCount ≡ coefficientCount = omega arith in
+      c .trimmed .ensures ∙ ap (λ n. length (trim (take n (drop (i * coefficientCount) row)))) width
 
 loop-holds : tie.Need-loop-holds Inv-loop μ-loop
 loop-holds c = (omega arith, omega arith, omega arith, omega arith, λ k lt. absurd (not-suc-le-zero lt))
@@ -103,7 +104,8 @@ returns : tie.Need-returns Inv-loop μ-loop
 unfolding nonzeroCount
 returns c =
     let loop = c .before .loop in
-    let none = ap nonzeroCount (parts-end 16 20 (now (c .before .before .before .args .row)) (loop .i) (c .loop-test .left)) in
+    let none = ap nonzeroCount
+    (parts-end coefficientCount polynomialCount (now (c .before .before .before .args .row)) (loop .i) (c .loop-test .left)) in
     (omega (arith, none), λ k lt. loop .inv .4 k (omega arith))
 
 pub term-lengths-spec : {M : Type 1} → statement M

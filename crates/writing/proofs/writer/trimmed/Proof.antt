@@ -10,16 +10,17 @@ use denote.Ref.{now}
 use lib.ListN.{length, take}
 use lib.Seq.{take-all}
 use Rattle.polynomials.specs.Content.{zero-bits, nonzero-bits}
+use Rattle.rules.specs.Limits.{coefficientCount}
 use Rattle.rules.specs.Sheets.{trim}
 use Rattle.writing.specs.Writer.{trim-nonzero, trim-more}
 use Rattle.writing.proofs.writer.trimmed.Statement.{statement}
 use Rattle.writing.proofs.writer.trimmed.Tie as tie
 
 abbrev Inv-loop : tie.InvT-loop
-Inv-loop p n₀ i₀ n i = (i ≤ 16) × (n ≡ length (trim (take i p)))
+Inv-loop p n₀ i₀ n i = (i ≤ coefficientCount) × (n ≡ length (trim (take i p)))
 
 abbrev μ-loop : tie.MeasureT-loop
-μ-loop p n₀ i₀ n i = 16 - i
+μ-loop p n₀ i₀ n i = coefficientCount - i
 
 loop-holds : tie.Need-loop-holds Inv-loop μ-loop
 unfolding trim

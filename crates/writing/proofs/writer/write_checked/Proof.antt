@@ -11,6 +11,7 @@ use lib.Dec.{eqb}
 use lib.IntN.{ℤ}
 use lib.ListN.{length, take}
 use lib.Seq.{sets, length-take-le}
+use Rattle.rules.specs.Limits.{columnCount}
 use Rattle.rules.specs.Rows.{every}
 use Rattle.rules.specs.Sheets.{writeSheet}
 use Rattle.rules.specs.SheetCalls.{WriteCall, sheetOf, unwritten, writeCall}
@@ -57,9 +58,9 @@ module _ (c : tie.After-order-length) where
   abbrev columns : List ℕ
   columns = take (c .order-length .result) (order start)
 
-  few : c .order-length .result ≤ 4
+  few : c .order-length .result ≤ columnCount
   unfolding sizesOf
-  few = subst (λ n. n ≤ 4) (sym (c .order-length .ensures)) (given-few (every (eqb 0) (order start)) (facts .columns))
+  few = subst (λ n. n ≤ columnCount) (sym (c .order-length .ensures)) (given-few (every (eqb 0) (order start)) (facts .columns))
 
   size : length columns ≡ c .order-length .result
   size = length-take-le (c .order-length .result) (order start) (omega (arith, few))
