@@ -15,7 +15,7 @@ use Rattle.algebra.specs.Polynomials.{Polynomial, isZero, isZeroℤ}
 use Rattle.rules.specs.Limits.{coefficientCount, columnCount, blockCount, mostRelations, blockBound, small}
 use Rattle.rules.specs.Rows.{Block, Row, Relation}
 use Rattle.rules.specs.Stores.{Sizes, span}
-use Rattle.rules.specs.Calls.{padTo}
+use Rattle.lists.specs.Padded.{padTo}
 use Rattle.rules.specs.Numbers.{space, newline, Read, got, fault, thenRead, field, between, judgeSmall, lines}
 
 -- The column order holds columns counted from 1, as in the sheet; it is empty if there is none.

@@ -24,7 +24,7 @@ use borrow.Author.Tests.{eq-eqb, ne-eqb, leb-true}
 use lib.IntN.{ℤ, pos, negℤ, negsuc, natAbs}
 use lib.Signed.{leZ, nonNeg, leZ-yes, _≤ℤ_}
 use Rattle.algebra.specs.Order.{≤ℤ-trans, natAbs-≤-iff}
-use Rattle.algebra.specs.Polynomials.{both-true}
+use Rattle.lists.specs.Tests.{both-true}
 use Rattle.rules.specs.Numbers.{isSeparator, word, afterWord, digits, startsRight, beginsNumber, isNumber, numberOf, Read, got, fault, thenRead, judged, readWord, readSeparator, field, between}
 use Rattle.tokens.specs.Tokens.{DigitsStart, DigitsTo, Stopped, token-cut, token-stops, digits-followed, begins-is, number-is, number-of, unjudged}
 

@@ -20,7 +20,9 @@ use lib.Dec.{T}
 use lib.IntN.{ℤ, pos}
 use lib.ListN.{length, replicate}
 use Rattle.rules.specs.Limits.{rowLength, small}
-use Rattle.rules.specs.Rows.{Block, Row, All, every, coefficientsOf, smallRow}
+use Rattle.rules.specs.Rows.{Block, Row, coefficientsOf, smallRow}
+use Rattle.lists.specs.Everywhere.{All}
+use Rattle.lists.specs.Tested.{every}
 use Rattle.rules.specs.Stores.{rowOf, Shaped, StoreRow}
 use Rattle.rules.specs.Layout.{rowOf-coefficientsOf, length-coefficientsOf}
 use Rattle.rows.specs.Flat.{polynomialsOf}

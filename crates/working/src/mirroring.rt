@@ -6,7 +6,8 @@ ghost use lib.Dec.{T};
 ghost use lib.IntN.{natAbs};
 ghost use Rattle.algebra.specs.Coefficients.{alternate};
 ghost use Rattle.rules.specs.Limits.{small};
-ghost use Rattle.rules.specs.Rows.{every, coefficientsOf, mirrorRow};
+ghost use Rattle.rules.specs.Rows.{coefficientsOf, mirrorRow};
+ghost use Rattle.lists.specs.Tested.{every};
 ghost use Rattle.rules.specs.Stores.{rowOf};
 ghost use Rattle.working.specs.Mirroring.{mirrorBlock};
 

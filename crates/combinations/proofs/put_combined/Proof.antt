@@ -11,7 +11,7 @@ use mir.Syntax.{w64}
 use mir.Val.{SFits}
 use mir.Facts.{toZ-ofZ}
 use Rattle.algebra.specs.Polynomials.{add, mul}
-use Rattle.polynomials.specs.Content.{prefix-next, prefix-all}
+use Rattle.lists.specs.Taken.{prefix-next, prefix-all}
 use Rattle.combinations.specs.Combination.{lowPart, length-lowPart, lowPart-at}
 use Rattle.combinations.proofs.put_combined.Statement.{statement}
 use Rattle.combinations.proofs.put_combined.Tie as tie

@@ -14,7 +14,8 @@ use mir.Syntax.{w64}
 use mir.Val.{ofZ, toZ}
 use mir.Facts.{toZ-ofZ}
 use Rattle.algebra.specs.Gcd.{divideBy, length-divideBy}
-use Rattle.polynomials.specs.Content.{read-back, positive, quotient-at, prefix-next, prefix-all}
+use Rattle.polynomials.specs.Content.{read-back, positive, quotient-at}
+use Rattle.lists.specs.Taken.{prefix-next, prefix-all}
 use Rattle.polynomials.proofs.content.divided.Statement.{statement}
 use Rattle.polynomials.proofs.content.divided.Tie as tie
 

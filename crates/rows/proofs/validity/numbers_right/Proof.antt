@@ -6,7 +6,8 @@ use borrow.Author.Tests.{not-true, not-false}
 use denote.Ref.{now}
 use Rattle.algebra.specs.Polynomials.{isZero}
 use Rattle.rules.specs.Stores.{numbersRight}
-use Rattle.rows.specs.Validity.{sizesOf, unused-part, first-failed, second-failed, both-passed}
+use Rattle.rows.specs.Validity.{sizesOf, unused-part}
+use Rattle.lists.specs.Tests.{first-failed, second-failed, both-passed}
 use Rattle.rows.proofs.validity.numbers_right.Statement.{statement}
 use Rattle.rows.proofs.validity.numbers_right.Tie as tie
 

@@ -11,7 +11,7 @@ use mir.Syntax.{w64}
 use mir.Val.{SFits}
 use mir.Facts.{toZ-ofZ}
 use Rattle.algebra.specs.Polynomials.{shift, coeff, length-shift}
-use Rattle.polynomials.specs.Content.{prefix-next, prefix-all}
+use Rattle.lists.specs.Taken.{prefix-next, prefix-all}
 use Rattle.working.proofs.shifting.put_shifted.Statement.{statement}
 use Rattle.working.proofs.shifting.put_shifted.Tie as tie
 

@@ -11,8 +11,8 @@ use denote.Ref.{now}
 use lib.IntN.{ℤ}
 use lib.ListN.{length, take, drop, length-set}
 use Rattle.rules.specs.Sheets.{trim}
-use Rattle.rules.specs.Stores.{parts}
-use Rattle.writing.specs.Writer.{nonzeroCount, Lengths, lengths-next, parts-end, count-none, count-some}
+use Rattle.lists.specs.Parts.{parts, parts-end}
+use Rattle.writing.specs.Writer.{nonzeroCount, Lengths, lengths-next, count-none, count-some}
 use borrow.Author.Needs.{needs}
 use Rattle.writing.proofs.writer.term_lengths.Statement.{statement}
 use Rattle.writing.proofs.writer.term_lengths.Tie as tie
