@@ -26,7 +26,7 @@ use lib.ListN.{length, take, drop, List·getD-map, List·getD-eq-default}
 use lib.Seq.{getD-take, getD-drop, ext-getD}
 use lib.IntN.{ℤ, pos, negℤ, _+ℤ_, _*ℤ_, +ℤ-idl, +ℤ-idr, *ℤ-zero, zero-*ℤ}
 use Rattle.algebra.specs.Integers.{ringℤ, *ℤ-nonzero}
-use Rattle.algebra.specs.Order.{dec-T}
+use Rattle.lists.specs.Tests.{dec-T}
 use Rattle.algebra.specs.Sums.{sumBelow, sumBelow-front, sumBelow-zeros}
 use Rattle.algebra.specs.Polynomials.{Polynomial, coeff, add, scale, negate, mirror, mul, shiftBy}
 use Rattle.algebra.specs.Polynomials.{isZeroℤ, isZero, degree, lead, lowest}

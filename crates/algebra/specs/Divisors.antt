@@ -1,24 +1,22 @@
 -- The divisors of a whole number, found in pairs up to the square root.
 --
 -- Main definitions
---   keep t l       the members of l that pass the test t
 --   sqrt n         the square root, rounded down
 --   divisors a     the divisors of a > 0, ascending
 --
 -- Main statements (`Pairwise R l` of the kit: each member is related by R to every later one)
---   mem-keep, keep-pairwise          the members of keep t l are those of l that pass t, in their order
 --   sqrt-le, lt-sqrt                 s * s ≤ n < (s + 1) * (s + 1) with s the square root of n
 --   mem-divisors                     d is a member of divisors a exactly when d divides a, for a > 0
 --   divisors-positive, divisors-ascending   the members are positive, and ascend
 use Prim.Native.Nat.{ℕ, zero, suc, _+_, _*_, _/_, _%_, _≤_, _<_, _∣_}
-use mathlib.Core.Path.{_≡_, refl, sym, ap}
-use mathlib.Core.Logic.{_↔_, ite, ∥∥₁-elim, Or·elim, by-cases}
+use mathlib.Core.Path.{_≡_, refl, sym}
+use mathlib.Core.Logic.{_↔_, ∥∥₁-elim, Or·elim, by-cases}
 use mathlib.Core.Bool.{Bool, true, false, cond, not}
 use mathlib.Core.HLevel.{×-prop}
-use mathlib.Core.List.{List, [], _∷_, map, _++_, reverse, filter}
-use mathlib.Core.List.{List·Mem, mem-cast, mem-filter, mem-append, mem-append-left, mem-append-right}
+use mathlib.Core.List.{List, map, _++_, reverse}
+use mathlib.Core.List.{List·Mem, mem-cast, mem-append, mem-append-left, mem-append-right}
 use mathlib.Core.List.{mem-reverse, mem-map-of-mem, exists-of-mem-map}
-use mathlib.Core.List.{Pairwise, Pairwise·nil, Pairwise·cons, Pairwise·filter, Pairwise·imp-of-mem}
+use mathlib.Core.List.{Pairwise, Pairwise·nil, Pairwise·cons, Pairwise·imp-of-mem}
 use mathlib.Core.List.{pairwise-append, pairwise-map, pairwise-reverse}
 use lib.Dec.{T, ltb→lt, lt→ltb, eqb, leb, ltb, leb→le, nleb→lt, eqb→eq}
 use native.Mathlib.Omega.{arith}
@@ -27,13 +25,8 @@ use native.Mathlib.Decide.{decLe}
 use native.Mathlib.Nat.{le-refl, lt-of-not-le, mul-le-mul, mul-le-mul-left, mul-lt-mul-of-pos-right}
 use native.Mathlib.Nat.{∣-prop, dvd-of-mod-eq-zero, mod-eq-zero-of-dvd, pos-of-dvd-of-pos}
 use native.Mathlib.Nat.{mul-div-cancel', div-mul-cancel, div-eq-of-eq-mul-left}
-use Rattle.algebra.specs.Order.{dec-T}
+use Rattle.lists.specs.Sifted.{keep, mem-keep, keep-pairwise}
 use Rattle.algebra.specs.Sums.{countFrom, countFrom-bounds, countFrom-member}
-
--- The members of a list that pass a test, in their order.
-unfoldable pub keep : {A : Type 0} → (A → Bool) → List A → List A
-keep t [] = []
-keep t (x ∷ l) = cond (t x) (x ∷ keep t l) (keep t l)
 
 -- The square root, rounded down: of n from that of n / 4. The first argument bounds the number of calls.
 unfoldable pub sqrtWithin : ℕ → ℕ → ℕ
@@ -54,25 +47,6 @@ unfolding keep sqrt divides countFrom
 divisors a =
     let low = keep (λ d. divides d a) (countFrom 1 (sqrt a)) in
     low ++ map (λ d. a / d) (reverse (keep (λ d. ltb d (a / d)) low))
-
--- ---- keep: the kit's `filter` by a test
-
-keep-filter : {A : Type 0} (t : A → Bool) (l : List A) → keep t l ≡ filter (λ x. dec-T (t x)) l
-unfolding keep
-keep-filter t [] = refl
-keep-filter {A} t (x ∷ l) = step (t x) (dec-T (t x)) (keep-filter t l)
-  where
-    step : (b : Bool) (d : Dec (T b)) {k f : List A} → k ≡ f → cond b (x ∷ k) k ≡ ite d (x ∷ f) f
-    step true (yes y) h = ap (λ m. x ∷ m) h
-    step true (no n) h = absurd (n tt)
-    step false (yes y) h = absurd y
-    step false (no n) h = h
-
-pub mem-keep : {A : Type 0} (t : A → Bool) (l : List A) {x : A} → List·Mem x (keep t l) ↔ (List·Mem x l × T (t x))
-mem-keep t l = rw (keep-filter t l) (mem-filter (λ x. dec-T (t x)))
-
-pub keep-pairwise : {A : Type 0} {R : A → A → Type 0} (t : A → Bool) {l : List A} → Pairwise R l → Pairwise R (keep t l)
-keep-pairwise t {l} h = rw (keep-filter t l) (Pairwise·filter (λ x. dec-T (t x)) h)
 
 -- ---- the square root
 

@@ -3,7 +3,7 @@
 -- Main statements
 --   ≤ℤ-witness, ≤ℤ-intro                   a ≤ b exactly if a + k = b for a natural number k
 --   ≤ℤ-trans, ≤ℤ-antisym, ≤ℤ-total, ..     both orders are transitive, and ≤ is a decidable total order
---   dec-T, dec-≤ℤ, dec-<ℤ, <ℤ-prop         a test passes or not, so both orders are decided; two proofs of a < b are equal
+--   dec-≤ℤ, dec-<ℤ, <ℤ-prop                both orders are decided; two proofs of a < b are equal
 --   ≤ℤ-or->, ℤ-trichotomy                  a ≤ b or b < a; a < b or a = b or b < a
 --   <ℤ-sucℤ, <ℤ-+1                         a < b exactly if a + 1 ≤ b
 --   +ℤ-≤ℤ-right, ≤ℤ-cancel-right, ..       a summand is added to both sides, and cancelled; inequalities are added
@@ -23,6 +23,7 @@ use lib.Dec.{T, T-prop, ltb, leb→le, le→leb, ltb→lt, lt→ltb, not-T}
 use lib.IntN.{ℤ, pos, negsuc, negℤ, natAbs, sucℤ, _+ℤ_, _-ℤ_, _*ℤ_, +ℤ-assoc, +ℤ-comm, +ℤ-idl, +ℤ-idr, +ℤ-invl, +ℤ-invr}
 use lib.IntN.{+ℤ-one, +ℤ-negℤ-cancel, -ℤ-+ℤ-cancel, negℤ-+ℤ, negℤ-negℤ, *ℤ-comm, *ℤ-zero}
 use lib.Signed.{_≤ℤ_, _<ℤ_, leZ, ltZ, leZ-yes, ltZ-yes, ltZ-no, ≤ℤ-refl, <ℤ-≤ℤ-trans, clashℤ, yes-nonNeg, pos-natAbs}
+use Rattle.lists.specs.Tests.{dec-T}
 use Rattle.algebra.specs.Integers.{*ℤ-+ℤ, *ℤ-cancel-left}
 
 -- a ≤ b as a natural number to add to a.
@@ -133,10 +134,6 @@ pub <ℤ-trans : {a b c : ℤ} → a <ℤ b → b <ℤ c → a <ℤ c
 <ℤ-trans h k = <ℤ-≤ℤ-trans h (<ℤ-to-≤ℤ k)
 
 -- ---- decisions
-
-pub dec-T : (t : Bool) → Dec (T t)
-dec-T true = yes tt
-dec-T false = no (λ t. t)
 
 pub dec-≤ℤ : (a b : ℤ) → Dec (a ≤ℤ b)
 dec-≤ℤ a b = map-dec leZ-yes (λ h. h .le) (dec-T (leZ a b))

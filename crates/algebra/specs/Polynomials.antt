@@ -16,7 +16,6 @@
 --   eval-take        high coefficients that are zero can be cut off without a change of value
 --   isZeroℤ-iff, isZero-cons, isZero-iff   isZeroℤ tests for the integer 0, isZero that every coefficient is zero;
 --                    isZero-negate, isZero-shiftBy, .. carry the test through the operations
---   T-&&, both-true, same-test   a conjunction of tests passes if both do; tests that pass alike are equal
 --   length-add, length-mul, ..   how many coefficients each operation's result has
 --   Polynomial·add-comm, Polynomial·add-assoc, scale-add, ..   laws of sums and multiples as equations of lists
 --   mirror-mirror, negate-negate   mirror and negate undo themselves
@@ -26,11 +25,12 @@ use mathlib.Core.Logic.{_≢_, _↔_, ⊎-elim}
 use Prim.Native.Nat.{ℕ, zero, suc, _+_, _≤_, max}
 use native.Mathlib.Nat.{not-suc-le-zero, le-of-suc-le-suc, zero-max, max-zero, suc-max-suc}
 use native.Mathlib.Omega.{arith}
-use mathlib.Core.Bool.{Bool, true, false, _&&_, not, cond, and-assoc, false≢true}
+use mathlib.Core.Bool.{Bool, true, _&&_, not, cond, and-assoc}
 use mathlib.Core.List.{List, [], _∷_, _++_, map}
 use lib.Dec.{T, eqb, eqb→eq, T-not, not-T}
 use lib.ListN.{getD, length, take, drop, replicate, length-map, take-append-drop}
 use lib.IntN.{ℤ, pos, negℤ, natAbs, _+ℤ_, _*ℤ_, +ℤ-idl, +ℤ-idr, +ℤ-comm, +ℤ-assoc, +ℤ-invl, *ℤ-zero, zero-*ℤ, *ℤ-comm, negℤ-negℤ}
+use Rattle.lists.specs.Tests.{same-test, T-&&}
 use Rattle.algebra.specs.Integers.{ringℤ, *ℤ-assoc, *ℤ-+ℤ, +ℤ-*ℤ, one-*ℤ, natAbs-zero, natAbs-negℤ, no-zero-divisors}
 
 abbrev pub Polynomial : Type 0
@@ -162,21 +162,6 @@ unfolding shift
 eval-shift p x = eval-shiftBy (pos 1) p x
 
 -- ---- the test for zero
-
--- Two tests that pass alike are equal.
-pub same-test : (s t : Bool) → (T s → T t) → (T t → T s) → s ≡ t
-same-test true true f g = refl
-same-test true false f g = absurd (f tt)
-same-test false true f g = absurd (g tt)
-same-test false false f g = refl
-
-pub T-&& : (s t : Bool) → T (s && t) ↔ (T s × T t)
-T-&& true t = (λ h. (tt, h), λ h. h .1)
-T-&& false t = (λ h. absurd h, λ h. h .0)
-
-pub both-true : (s t : Bool) → (s && t) ≡ true → (s ≡ true) × (t ≡ true)
-both-true true t e = (refl, e)
-both-true false t e = absurd (false≢true e)
 
 pub isZeroℤ-iff : (a : ℤ) → T (isZeroℤ a) ↔ (a ≡ pos 0)
 unfolding isZeroℤ

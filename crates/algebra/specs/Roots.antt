@@ -30,7 +30,8 @@ use Rattle.algebra.specs.Order.{pos-<ℤ, negℤ-<ℤ, pos-nonneg, <ℤ-
 use Rattle.algebra.specs.Sums.{countFrom}
 use Rattle.algebra.specs.Polynomials.{Polynomial, eval, isZero, isZeroℤ, lowest, isZeroℤ-iff}
 use Rattle.algebra.specs.Vanishing.{constant-root, lowest-positive, root-divides-lowest}
-use Rattle.algebra.specs.Divisors.{keep, divisors, mem-keep, keep-pairwise, mem-divisors, divisors-positive, divisors-ascending}
+use Rattle.algebra.specs.Divisors.{divisors, mem-divisors, divisors-positive, divisors-ascending}
+use Rattle.lists.specs.Sifted.{keep, mem-keep, keep-pairwise}
 
 unfoldable pub candidates : Polynomial → List ℤ
 unfolding divisors lowest

@@ -21,9 +21,9 @@ use native.Mathlib.Nat.{dvd-mul-right, le-of-dvd, pos-of-ne-zero}
 use native.Mathlib.Omega.{arith}
 use lib.IntN.{ℤ, pos, natAbs, _+ℤ_, _-ℤ_, _*ℤ_, +ℤ-idl, +ℤ-idr, -ℤ-+ℤ-cancel}
 use Rattle.algebra.specs.Integers.{ringℤ, negℤ-unique, natAbs-negℤ, natAbs-*ℤ, natAbs-zero, no-zero-divisors, -ℤ-zero}
-use Rattle.algebra.specs.Order.{dec-T}
+use Rattle.lists.specs.Tests.{dec-T, same-test}
 use Rattle.algebra.specs.Polynomials.{Polynomial, isZeroℤ, coeff, eval, isZero, degree, lowest, quotient}
-use Rattle.algebra.specs.Polynomials.{same-test, isZeroℤ-iff, isZero-cons, eval-isZero}
+use Rattle.algebra.specs.Polynomials.{isZeroℤ-iff, isZero-cons, eval-isZero}
 use Rattle.algebra.specs.Coefficients.{isZero-lowest}
 
 -- ---- tests for zero

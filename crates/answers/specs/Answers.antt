@@ -27,12 +27,13 @@ use lib.ListN.{length, take, drop, getD, length-map, take-append-drop}
 use lib.Seq.{take-at, length-take-le, drop-append-le}
 use lib.IntN.{ℤ}
 use Rattle.algebra.specs.Pigeonhole.{Distinct}
-use Rattle.rules.specs.Lists.{cond-passed}
+use Rattle.lists.specs.Tests.{cond-passed, T-or}
 use Rattle.rules.specs.Elimination.{leading, State, Outcome, done, refused, wholeRun, leadingRun}
 use Rattle.rules.specs.Stores.{Sizes, equations, span, rowStoreOf, relationStoreOf, lengthsRight, checkStores, Valid}
 use Rattle.rules.specs.Stores.{rowNeed, largestRows, relationNeed}
 use Rattle.rules.specs.Layout.{valid-stores, size-bounds, lengthsRight-iff, rowsOf-rowStoreOf, relationsOf-relationStoreOf}
-use Rattle.rules.specs.Calls.{Call, overwrite, callRun, afterCheck, afterRun, acceptance, reportedOrder, cleared, refusal}
+use Rattle.rules.specs.Calls.{Call, callRun, afterCheck, afterRun, acceptance, reportedOrder, cleared, refusal}
+use Rattle.lists.specs.Overwritten.{overwrite}
 use Rattle.rules.specs.Numbers.{Read, got, fault}
 use Rattle.rules.specs.Sheets.{Sheet, contains, readSheet, writeSheet}
 use Rattle.rules.specs.SheetCalls.{ReadCall, readCall, afterRead, filled, unread, readRefusal, differentColumns, WriteCall, written, unwritten}
@@ -40,8 +41,8 @@ use Rattle.rules.specs.SheetCalls.{checkWrite, writeCall}
 use Rattle.rules.specs.Batch.{mostBytes, Answer, accepted, refusedWith, sized, answerRun, answerRead, answerSheet}
 use Rattle.theory.specs.Demands.{Accepted, Ended, run-ends, six, seven, eight, nine, output-valid, diagonal-nonzero}
 use Rattle.theory.specs.Demands as Demands
-use Rattle.theory.specs.Settled.{as-many, Diagonal}
-use Rattle.sheets.specs.WrittenOrder.{OrderRight, different-cons, T-or}
+use Rattle.theory.specs.Settled.{Diagonal, as-many}
+use Rattle.sheets.specs.WrittenOrder.{OrderRight, different-cons}
 use Rattle.sheets.specs.ReadBack.{SheetRight, read-valid, sheet-read-written}
 use Rattle.sheets.specs.CallsReadBack.{read-call-write, read-write-call}
 use Rattle.answers.specs.declared.AnswerResult as declared

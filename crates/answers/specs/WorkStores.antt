@@ -18,36 +18,32 @@ use mathlib.Core.List.{List, _++_, map, flatten, append-nil}
 use lib.ListN.{length, drop, replicate, length-append, length-replicate, drop-of-length-le}
 use lib.Seq.{drop-at}
 use lib.IntN.{ℤ, pos}
-use Rattle.rules.specs.Limits.{mostEquations, rowLength, relationLength, mostRelations}
-use Rattle.rules.specs.Rows.{Row, Relation, All}
+use Rattle.rules.specs.Limits.{rowLength, relationLength, mostRelations, mostEquations}
+use Rattle.rules.specs.Rows.{Row, Relation}
+use Rattle.lists.specs.Everywhere.{All}
 use Rattle.rules.specs.Elimination.{leading, State, Outcome, done, refused, wholeRun}
 use Rattle.rules.specs.Stores.{Sizes, equations, span, rowsOf, relationsOf, relationNumbers, rowStoreOf, checkStores, Valid}
 use Rattle.rules.specs.Stores.{rowNeed, largestRows, relationNeed}
 use Rattle.rules.specs.Stores.{relationStoreOf, lengthsRight}
-use Rattle.rules.specs.Layout.{StoreRelation, stores-valid, size-bounds, equations-few, countRight-iff, length-rowStoreOf, length-relationStoreOf}
-use Rattle.rules.specs.Calls.{Call, overwrite, zeros, callRun, afterCheck, afterRun, acceptance, cleared, refusal}
+use Rattle.rules.specs.Layout.{StoreRelation, stores-valid, size-bounds, countRight-iff, length-rowStoreOf, length-relationStoreOf, equations-few}
+use Rattle.rules.specs.Calls.{Call, zeros, callRun, afterCheck, afterRun, acceptance, cleared, refusal}
+use Rattle.lists.specs.Overwritten.{overwrite, overwrite-paste, drop-overwrite}
 use Rattle.rules.specs.Numbers.{Read, got, fault}
 use Rattle.rules.specs.Sheets.{Sheet, readSheet}
 use Rattle.rules.specs.SheetCalls.{ReadCall, readCall, afterRead, filled, unread, readRefusal}
 use Rattle.theory.specs.Demands.{Ended, run-ends, six, seven, eight, nine, output-valid}
 use Rattle.theory.specs.Demands as Demands
 use Rattle.reading.specs.Zeros.{length-zeros, take-zeros, drop-zeros, zero-again}
-use Rattle.reading.specs.ReadCalls.{overwrite-paste}
 use Rattle.sheets.specs.ReadBack.{read-valid}
 
 -- ---- parts of a store
-
--- What lies past the part that was overwritten.
-past-overwrite : (part store : List ℤ) (n : ℕ) → length part ≡ n → drop n (overwrite part store) ≡ drop n store
-unfolding overwrite
-past-overwrite part store n e = drop-at part (drop (length part) store) n e ∙ ap (λ k. drop k store) e
 
 past-rows : {z : Sizes} {rows : List Row} {relations : List Relation} (store : List ℤ) → Valid z rows relations
     → drop (equations z * rowLength) (overwrite (rowStoreOf rows) store) ≡ drop (equations z * rowLength) store
 unfolding rowNeed
 past-rows {z} {rows} store v =
-    past-overwrite (rowStoreOf rows) store (equations z * rowLength)
-    (length-rowStoreOf rows (v .row-shapes) ∙ ap (λ m. m * rowLength) (v .row-count))
+    drop-overwrite (equations z * rowLength) (rowStoreOf rows) store
+    (le-of-eq (length-rowStoreOf rows (v .row-shapes) ∙ ap (λ m. m * rowLength) (v .row-count)))
 
 -- A store whose used part is overwritten by zeros.
 zero-overwritten : (n k : ℕ) (store : List ℤ) → n ≤ k → drop n store ≡ drop n (zeros k) → overwrite (zeros n) store ≡ zeros k

@@ -4,10 +4,6 @@
 --   PutCall, answerPut a output   what is told, and the output afterwards
 --
 -- Main statements
---   length-overwrite     a store keeps its length
---   whole-part           the end of a store from a place on
---   put-behind           a text put behind another one
---   put-two              a line put before a text that stands behind its place
 --   straight-fits, straight-call  the answer made in the output itself
 --   made-within, beside-call, beside-unput   the answer made beside the output, copied where it fits
 use Prim.Native.Nat.{ℕ, zero, suc, _+_, _-_, _≤_, _<_}
@@ -16,14 +12,14 @@ use native.Mathlib.Omega.{arith}
 use mathlib.Core.Path.{_≡_, refl, sym, _∙_, ap, ap₂, subst}
 use mathlib.Core.Logic.{_≢_}
 use mathlib.Core.Bool.{Bool, true, false, cond}
-use mathlib.Core.List.{List, [], _++_, flatten, append-nil, append-assoc}
+use mathlib.Core.List.{List, [], _++_, flatten, append-nil}
 use borrow.Author.Tests.{lt-leb}
 use borrow.Rule.Slice.PartMut.{putMid}
 use lib.Dec.{T, leb, leb→le, le→leb}
-use lib.ListN.{length, take, drop, length-append, length-drop, take-append-drop, drop-of-length-le}
-use lib.Seq.{drop-at, drop-drop, take-all, length-take-le}
-use Rattle.rules.specs.Calls.{overwrite}
-use Rattle.rules.specs.Lists.{cond-passed}
+use lib.ListN.{length, take, drop, length-append, length-drop, take-append-drop}
+use lib.Seq.{length-take-le}
+use Rattle.lists.specs.Overwritten.{overwrite, length-overwrite, put-two}
+use Rattle.lists.specs.Tests.{cond-passed}
 use Rattle.rules.specs.Numbers.{lines}
 use Rattle.rules.specs.Batch.{mostBytes, Answer, accepted, refusedWith, answerSheet, answerBytes}
 use Rattle.answers.specs.declared.AnswerResult.{AnswerResult}
@@ -33,6 +29,7 @@ use Rattle.frames.specs.declared.TextLine.{TextLine}
 use Rattle.frames.specs.Windows.{batchLine}
 use Rattle.frames.specs.Bounds.{answer-fits}
 use Rattle.frames.specs.Pieces.{textOf, shown, shown-text, refusalLine, refusal-refused, refusal-accepted}
+use Rattle.lists.specs.Taken.{whole-part}
 use Rattle.batches.specs.declared.answering.Put.{Put}
 use Rattle.batches.specs.Feeds.{numberOf}
 
@@ -59,29 +56,6 @@ answerPut a output = cond (leb (length (answerBytes a)) (length output)) (put a 
 
 -- ---- what is put
 
--- The end of a store from a place on, as the part that is lent and as what comes after it.
-pub whole-part : (store : List ℕ) (n : ℕ) → n ≤ length store
-    → (take (length store - n) (drop n store) ≡ drop n store) × (drop (length store - n) (drop n store) ≡ [])
-whole-part store n h =
-    let few : length (drop n store) ≤ length store - n = omega (arith, length-drop n store) in
-    (take-all (length store - n) (drop n store) few, drop-of-length-le (drop n store) few)
-
--- A text put behind another one.
-pub put-behind : (text more output : List ℕ) → text ++ overwrite more (drop (length text) output) ≡ overwrite (text ++ more) output
-unfolding overwrite
-put-behind text more output =
-    ap (λ l. text ++ (more ++ l)) (drop-drop (length more) (length text) output)
-    ∙ sym (append-assoc text more (drop (length text + length more) output))
-    ∙ ap (λ n. (text ++ more) ++ drop n output) (sym (length-append text more))
-
--- A line put before a text that stands behind its place.
-pub put-two : (line text output : List ℕ) → length line ≤ length output
-    → overwrite line (take (length line) output ++ overwrite text (drop (length line) output)) ≡ overwrite (line ++ text) output
-unfolding overwrite
-put-two line text output h =
-    ap (λ l. line ++ l) (drop-at (take (length line) output) _ (length line) (length-take-le (length line) output h))
-    ∙ put-behind line text output
-
 -- The line of an answer, and the sheet behind it.
 shown-answer : (a : Answer) (c : AnswerCall) → answerBy (c .refusal) (c .length) (c .store) ≡ a → (c .refusal ≢ 0 → c .length ≡ 0)
     → (numberOf a ≡ c .refusal) × (refusalLine (c .refusal) ++ take (c .length) (c .store) ≡ answerBytes a)
@@ -96,11 +70,6 @@ shown-answer a c e none = (sym (ap numberOf e) ∙ number (c .refusal), go (c .r
     go zero z = refusal-accepted (take (c .length) (c .store))
     go (suc n) z =
         ap (λ j. refusalLine (suc n) ++ take j (c .store)) (z (suc-ne-zero n)) ∙ append-nil (refusalLine (suc n)) ∙ refusal-refused (suc n)
-
--- The call keeps the length of its store.
-pub length-overwrite : (part store : List ℕ) → length part ≤ length store → length (overwrite part store) ≡ length store
-unfolding overwrite
-length-overwrite part store h = length-append part (drop (length part) store) ∙ omega (arith, length-drop (length part) store)
 
 answer-keeps : (sheet store : List ℕ) → length (answerCall sheet store .store) ≡ length store
 unfolding answerCall answered unanswered

@@ -1,7 +1,6 @@
 -- The end of a batch, and a whole batch, by what the functions give.
 --
 -- Main statements
---   paste-whole              a store pasted over whole
 --   text-short, text-fits    a text that does not fit, and one that stands at the front of the output
 --   fed-places               the feed of a whole input takes no more than there is, and writes no more than fits
 --   whole-short, whole-less  the output is too short for the answers, or for what the end of the input adds
@@ -16,9 +15,9 @@ use mathlib.Core.List.{List, [], _++_, append-nil}
 use borrow.Author.Tests.{le-leb, lt-leb, leb-true, leb-false}
 use borrow.Rule.Slice.PartMut.{putMid}
 use lib.Dec.{leb}
-use lib.ListN.{length, take, drop, replicate, length-append, length-drop, drop-of-length-le}
-use lib.Seq.{paste, take-at, drop-at, take-all}
-use Rattle.rules.specs.Calls.{overwrite}
+use lib.ListN.{length, take, drop, replicate, length-append, length-drop}
+use lib.Seq.{take-at, drop-at}
+use Rattle.lists.specs.Overwritten.{overwrite, put-behind, length-overwrite}
 use Rattle.rules.specs.Batch.{batchOutput}
 use Rattle.frames.specs.declared.Batch.{Batch}
 use Rattle.frames.specs.declared.TextLine.{TextLine}
@@ -30,14 +29,8 @@ use Rattle.batches.specs.Feeds.{Feed, feed, fedBy, feedCall}
 use Rattle.batches.specs.PieceCalls.{OutputCall, outputOf, endText, putText, outputCall}
 use Rattle.batches.specs.FeedLaws.{feed-room, feed-rest}
 use Rattle.batches.specs.OutputLaws.{whole-long, whole-feed}
-use Rattle.batches.specs.Answering.{whole-part, put-behind, length-overwrite}
+use Rattle.lists.specs.Taken.{whole-part}
 use Rattle.batches.specs.Turns.{fedOf}
-
--- ---- a store made zero
-
-pub paste-whole : (store new : List ℕ) → length new ≡ length store → paste store 0 new (length store) ≡ new
-paste-whole store new same =
-    ap₂ _++_ (take-all (length store) new (omega arith)) (drop-of-length-le store {i = 0 + length store} (omega arith)) ∙ append-nil new
 
 -- ---- a text put at the front of the output
 

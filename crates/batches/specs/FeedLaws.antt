@@ -23,7 +23,7 @@ use native.Mathlib.Omega.{arith}
 use mathlib.Core.Path.{_≡_, refl, sym, _∙_, ap, subst}
 use mathlib.Core.Logic.{_≢_, _⊎_, inl, inr}
 use mathlib.Core.Bool.{Bool, true, false, cond}
-use mathlib.Core.List.{List, [], _∷_, _++_, append-nil, append-assoc}
+use mathlib.Core.List.{List, [], _++_, append-nil, append-assoc}
 use borrow.Author.Tests.{le-leb, lt-leb, leb-true, leb-false, eqb-true, ne-eqb}
 use lib.Dec.{leb, eqb}
 use lib.ListN.{length, take, drop, length-append, length-drop}
@@ -33,6 +33,7 @@ use Rattle.frames.specs.declared.Batch.{Batch}
 use Rattle.frames.specs.Pieces.{begunOf, begun-inside, countedOf, Counted, counted-left, counted-few}
 use Rattle.frames.specs.Bounds.{begun-counted}
 use Rattle.frames.specs.Longer.{line-longer}
+use Rattle.lists.specs.Taken.{length-none}
 use Rattle.batches.specs.declared.Stage.{Stage}
 use Rattle.batches.specs.declared.Stage.the-variants.{Count, Sheets, Over}
 use Rattle.batches.specs.Feeds.{Next, waits, breaks, sheet, nextSheet, numberOf, Feed, waitingAt, fullAt, overAt}
@@ -46,10 +47,6 @@ use Rattle.batches.specs.Moves.{sheets-break, answering, Ready, waiting,
 use Rattle.batches.specs.Moves.{move-counted, move-longer, move-means, move-few, move-alive, waits-none, waits-short}
 
 -- ---- the first move
-
-length-none : (l : List ℕ) → length l ≡ 0 → l ≡ []
-length-none [] h = refl
-length-none (c ∷ l) h = absurd (omega arith)
 
 breaking-fits : (stage : Stage) (b : Batch) (bytes : List ℕ) (room : ℕ) → length broken ≤ room
     → breakingAt stage b bytes room ≡ overAt b broken

@@ -30,7 +30,7 @@ use borrow.Author.Tests.{le-leb, lt-leb, leb-true, leb-false, eqb-true, eqb-fals
 use lib.Dec.{leb, eqb}
 use lib.IntN.{ℤ, natAbs}
 use lib.ListN.{length, take, drop, length-append, length-drop}
-use lib.Seq.{take-append-le, drop-append-le, drop-drop}
+use lib.Seq.{drop-drop}
 use Rattle.rules.specs.Numbers.{Read, got, fault}
 use Rattle.rules.specs.Batch.{SheetLine as ReadLine, Answer, Tally, countAnswer, answerSheet, answerBytes, broken, closing}
 use Rattle.rules.specs.Batch.{readSheetLine, answers, answersAfter, batchOutput}
@@ -44,6 +44,7 @@ use Rattle.frames.specs.Pieces.{begun-inside, line-inside, begun-got, line-got,
 use Rattle.frames.specs.Pieces.{counted-left, counted-tally, counted-few, closeLine, close-closing, close-broken}
 use Rattle.frames.specs.Longer.{begun-longer, line-longer, begun-early, line-early}
 use Rattle.frames.specs.Bounds.{line-small, begun-counted}
+use Rattle.lists.specs.Taken.{part-longer}
 use Rattle.batches.specs.declared.Stage.{Stage}
 use Rattle.batches.specs.declared.Stage.the-variants.{Count, Sheets, Over}
 use Rattle.batches.specs.Feeds.{Next, waits, breaks, sheet, bySize, byLine, nextSheet, numberOf}
@@ -233,13 +234,6 @@ move-few few (count-breaks h i) = few
 move-few few (sheets-break l) = few
 move-few few (answering l e) = move-counted few (answering l e)
 
--- The bytes of a sheet that is there.
-sheet-longer : (from to : ℕ) (bytes x : List ℕ) → from ≤ to → to ≤ length bytes
-    → take (to - from) (drop from (bytes ++ x)) ≡ take (to - from) (drop from bytes)
-sheet-longer from to bytes x h i =
-    ap (take (to - from)) (drop-append-le from bytes x (omega arith))
-    ∙ take-append-le (to - from) (drop from bytes) x (omega (arith, length-drop from bytes))
-
 pub move-longer : {stage : Stage} {b : Batch} {bytes : List ℕ} {m : Moved} (x : List ℕ) → Move stage b bytes m
     → Move stage b (bytes ++ x) m
 move-longer {b = b} {bytes = bytes} x (begins z) =
@@ -250,7 +244,7 @@ move-longer {bytes = bytes} x (count-breaks h i) =
     count-breaks (λ e. h (sym same ∙ e)) (λ e. i (sym same ∙ e))
 move-longer x (sheets-break l) = sheets-break (look-longer x tt l)
 move-longer {bytes = bytes} x (answering {from = from} {to = to} l e) =
-    answering (look-longer x tt l) (ap answerSheet (sheet-longer from to bytes x (look-inside l .0) (look-inside l .1)) ∙ e)
+    answering (look-longer x tt l) (ap answerSheet (part-longer from to bytes x (look-inside l .0) (look-inside l .1)) ∙ e)
 
 -- ---- the answers of `rules`, step by step
 

@@ -11,7 +11,7 @@ use mathlib.Core.Bool.{Bool, true, false, _&&_, cond}
 use mathlib.Core.List.{List, [], _++_}
 use lib.Dec.{leb, ltb, eqb}
 use lib.ListN.{length, take, replicate}
-use Rattle.rules.specs.Calls.{overwrite}
+use Rattle.lists.specs.Overwritten.{overwrite}
 use Rattle.rules.specs.Batch.{broken, batchOutput}
 use Rattle.frames.specs.declared.Batch.{Batch}
 use Rattle.frames.specs.Pieces.{begunOf, closeLine}

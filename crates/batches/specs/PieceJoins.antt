@@ -9,18 +9,16 @@
 --   joins, laid-on                   bytes laid behind those that are held
 --   held-untaken, held-from, held-taken   some bytes held: nothing is taken, or they are taken and more
 use Prim.Native.Nat.{ℕ, min, _+_, _-_, _≤_, _<_}
-use native.Mathlib.Nat.{le-refl}
 use native.Mathlib.Omega.{arith}
 use mathlib.Core.Path.{_≡_, refl, sym, _∙_, ap, ap₂, subst}
 use mathlib.Core.Logic.{_≢_, _⊎_, inl, inr}
-use mathlib.Core.Bool.{Bool, true, false, not, cond}
+use mathlib.Core.Bool.{Bool, true, false, cond}
 use mathlib.Core.List.{List, [], _++_, append-nil, append-assoc}
 use borrow.Author.Tests.{ne-eqb}
 use borrow.Rule.Slice.PartMut.{putMid}
-use lib.Dec.{T, leb, leb→le, nleb→lt}
 use lib.ListN.{length, take, drop, length-append, length-drop, take-append-drop}
 use lib.Seq.{take-at, drop-at, length-take-le, take-append-add, drop-append-le, drop-append-add, take-all}
-use Rattle.rules.specs.Calls.{overwrite}
+use Rattle.lists.specs.Overwritten.{overwrite, overwrite-twice, overwrite-again, put-behind, length-overwrite}
 use Rattle.frames.specs.declared.Batch.{Batch}
 use Rattle.frames.specs.Pieces.{Counted}
 use Rattle.batches.specs.declared.Stage.{Stage}
@@ -33,7 +31,7 @@ use Rattle.batches.specs.Moves.{CountedIn, counted-in}
 use Rattle.batches.specs.FeedLaws.{Untaken, staysBefore, feed-few, feed-room, feed-rest, feed-end}
 use Rattle.batches.specs.FeedLaws.{feed-short, append-full, append-fits, feed-held}
 use Rattle.batches.specs.PieceLaws.{Right, check-right, call-is}
-use Rattle.batches.specs.Answering.{whole-part, put-behind, length-overwrite}
+use Rattle.lists.specs.Taken.{whole-part, take-least}
 use Rattle.batches.specs.Turns.{fedOf}
 use Rattle.batches.specs.PieceSteps.{streamAt, unheld, untakenOf, behind, restOf}
 
@@ -198,16 +196,6 @@ module _ (f : Fed) (from : ℕ) (store piece output : List ℕ) where
 
 -- ---- bytes laid behind those that are held
 
-overwrite-twice : (l more store : List ℕ) → overwrite l (overwrite (l ++ more) store) ≡ overwrite (l ++ more) store
-unfolding overwrite
-overwrite-twice l more store =
-    ap (λ r. l ++ drop (length l) r) (append-assoc l more _) ∙ ap (λ r. l ++ r) (drop-at l (more ++ _) (length l) refl)
-    ∙ sym (append-assoc l more _)
-
-overwrite-again : (l store : List ℕ) → overwrite l (overwrite l store) ≡ overwrite l store
-unfolding overwrite
-overwrite-again l store = ap (λ r. l ++ r) (drop-at l (drop (length l) store) (length l) refl)
-
 -- The bytes l, put behind the first n of a store.
 pub joins : (store l copied : List ℕ) (n : ℕ) → n ≤ length store → copied ≡ overwrite l (take (length store - n) (drop n store))
     → putMid n (length store - n) store copied ≡ overwrite (take n store ++ l) store
@@ -242,15 +230,6 @@ less-one x c h = omega arith
 
 least-left : (a b : ℕ) → min a b ≤ a
 least-left a b = omega arith
-
-take-least : (l : List ℕ) (k : ℕ) → take k l ≡ take (min (length l) k) l
-take-least l k = go (leb (length l) k) (leb→le (length l) k) (nleb→lt (length l) k)
-  where
-    go : (t : Bool) → (T t → length l ≤ k) → (T (not t) → k < length l) → take k l ≡ take (min (length l) k) l
-    go true h i =
-        let least : min (length l) k ≡ length l = omega (arith, h tt) in
-        take-all k l (h tt) ∙ sym (ap (λ n. take n l) least ∙ take-all (length l) l (le-refl (length l)))
-    go false h i = let least : k ≡ min (length l) k = omega (arith, i tt) in ap (λ n. take n l) least
 
 module _ (s : Stream) (store piece output : List ℕ) (right : streamCheck s store ≡ 0) (some : 0 < s .held) where
   abbrev held : List ℕ

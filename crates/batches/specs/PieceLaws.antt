@@ -25,11 +25,10 @@ use mathlib.Core.Bool.{Bool, true, false, _&&_, cond}
 use mathlib.Core.List.{List, [], _++_, append-nil, append-assoc}
 use borrow.Author.Tests.{le-leb, lt-ltb, leb-true}
 use lib.Dec.{leb, ltb, leb→le, ltb→lt}
-use lib.ListN.{length, take, drop, length-append, length-drop}
+use lib.ListN.{length, take, drop, length-append}
 use lib.Seq.{take-at, length-take-le, drop-append-le, drop-append-add, drop-length}
-use Rattle.algebra.specs.Polynomials.{T-&&}
-use Rattle.rows.specs.Validity.{true-T}
-use Rattle.rules.specs.Calls.{overwrite}
+use Rattle.lists.specs.Tests.{T-&&, true-T}
+use Rattle.lists.specs.Overwritten.{overwrite, overwrite-length, overwrite-front}
 use Rattle.rules.specs.Batch.{batchOutput}
 use Rattle.frames.specs.declared.Batch.{Batch}
 use Rattle.frames.specs.Pieces.{Counted}
@@ -148,14 +147,6 @@ module _ (stage : Stage) (b : Batch) (held piece : List ℕ) (room : ℕ) (few :
           }
 
 -- ---- one call
-
-overwrite-length : (l store : List ℕ) → length store ≤ length (overwrite l store)
-unfolding overwrite
-overwrite-length l store = rw (length-append, length-drop) (omega arith)
-
-overwrite-front : (l store : List ℕ) → take (length l) (overwrite l store) ≡ l
-unfolding overwrite
-overwrite-front l store = take-at l (drop (length l) store) (length l) refl
 
 module _ (s : Stream) (store piece output : List ℕ) (right : streamCheck s store ≡ 0) where
   abbrev held : List ℕ

@@ -18,8 +18,7 @@ use mathlib.Core.List.{List, _++_}
 use borrow.Author.Tests.{eq-eqb, ltb-true, ltb-false}
 use lib.Dec.{leb, ltb, eqb, ltb→lt}
 use lib.ListN.{length, take, drop}
-use Rattle.algebra.specs.Polynomials.{T-&&}
-use Rattle.rows.specs.Validity.{true-T}
+use Rattle.lists.specs.Tests.{T-&&, true-T}
 use Rattle.frames.specs.declared.Batch.{Batch}
 use Rattle.frames.specs.declared.SheetLine.{SheetLine}
 use Rattle.frames.specs.Pieces.{lineOf, line-inside}

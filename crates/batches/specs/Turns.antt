@@ -25,7 +25,7 @@ use lib.Dec.{T, leb, leb→le, eqb}
 use borrow.Rule.Slice.PartMut.{putMid}
 use lib.ListN.{length, take, drop, length-append, length-drop}
 use lib.Seq.{take-at, drop-at, drop-drop}
-use Rattle.rules.specs.Calls.{overwrite}
+use Rattle.lists.specs.Overwritten.{overwrite, put-behind, length-overwrite}
 use Rattle.rules.specs.Batch.{Answer, answerSheet, answerBytes, broken}
 use Rattle.frames.specs.declared.Batch.{Batch}
 use Rattle.frames.specs.declared.Begun.{Begun}
@@ -43,7 +43,8 @@ use Rattle.batches.specs.Feeds.{Step, stopped, answered, numberOf, answe
 use Rattle.batches.specs.Feeds.{afterStep, steps, feedSheets, feedCount, feed, FeedCall, fedBy}
 use Rattle.batches.specs.Moves.{Look, look, look-some, Move, answering, move-inside, move-few}
 use Rattle.batches.specs.FeedLaws.{feed-move, feed-room, feed-rest}
-use Rattle.batches.specs.Answering.{putOf, answerPut, put, unput, whole-part, put-behind, length-overwrite}
+use Rattle.batches.specs.Answering.{putOf, answerPut, put, unput}
+use Rattle.lists.specs.Taken.{whole-part}
 
 abbrev callWith : Stage → Batch → ℕ → ℕ → Bool → List ℕ → FeedCall
 callWith stage b taken written full output =

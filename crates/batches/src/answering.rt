@@ -3,7 +3,8 @@ ghost use mathlib.Core.Path.{_≡_};
 ghost use Prim.Native.Nat.{_+_, _≤_};
 ghost use lib.ListN.{length, take};
 ghost use Rattle.rules.specs.Stores.{largestRows, relationNeed};
-ghost use Rattle.rules.specs.Calls.{overwrite, zeros};
+ghost use Rattle.rules.specs.Calls.{zeros};
+ghost use Rattle.lists.specs.Overwritten.{overwrite};
 ghost use Rattle.rules.specs.Batch.{mostBytes, answerSheet};
 ghost use Rattle.batches.specs.Answering.{putOf, answerPut};
 

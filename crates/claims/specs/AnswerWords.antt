@@ -13,7 +13,7 @@ use mathlib.Core.List.{List}
 use lib.ListN.{length, take}
 use Rattle.rules.specs.Elimination.{leading, State, Outcome, refused, wholeRun}
 use Rattle.rules.specs.Stores.{span}
-use Rattle.rules.specs.Calls.{overwrite}
+use Rattle.lists.specs.Overwritten.{overwrite}
 use Rattle.rules.specs.Numbers.{fault}
 use Rattle.rules.specs.Sheets.{Sheet, readSheet, writeSheet}
 use Rattle.rules.specs.Batch.{mostBytes}

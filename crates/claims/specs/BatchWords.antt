@@ -16,7 +16,7 @@ use mathlib.Core.Logic.{_⊎_}
 use mathlib.Core.Bool.{true}
 use mathlib.Core.List.{List, _++_}
 use lib.ListN.{length, take, drop}
-use Rattle.rules.specs.Calls.{overwrite}
+use Rattle.lists.specs.Overwritten.{overwrite}
 use Rattle.frames.specs.Pieces.{Counted}
 use Rattle.batches.specs.declared.Stream.{Stream}
 use Rattle.batches.specs.Feeds.{feed}

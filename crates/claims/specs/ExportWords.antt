@@ -18,7 +18,8 @@ use Rattle.rules.specs.Limits.{columnCount}
 use Rattle.rules.specs.Elimination.{Side}
 use Rattle.rules.specs.Stores.{Sizes}
 use Rattle.rules.specs.Layout.{NumbersRight}
-use Rattle.rules.specs.Calls.{Call, overwrite}
+use Rattle.rules.specs.Calls.{Call}
+use Rattle.lists.specs.Overwritten.{overwrite}
 use Rattle.rules.specs.SheetCalls.{ReadCall, WriteCall}
 use Rattle.exports.specs.Results.{Exported, kept, resultNeed}
 use Rattle.exports.specs.Runs.{exportRun, ran, runNumbers}

@@ -13,7 +13,7 @@
 --   export-batch-course               every exported call on a whole batch takes one of the courses
 --   export-batch-number, export-batch-none, export-batch-cleared, export-batch-one, export-batch-front   what it gives
 --                                     back and leaves, and when
-use Prim.Native.Nat.{ℕ, _+_, _-_, _≤_, _<_, zero-le}
+use Prim.Native.Nat.{ℕ, _+_, _≤_, _<_, zero-le}
 use native.Mathlib.Nat.{min-le-left}
 use native.Mathlib.Omega.{arith}
 use mathlib.Core.Path.{_≡_, refl, sym, _∙_, ap, subst}
@@ -23,18 +23,16 @@ use mathlib.Core.List.{List, [], _∷_, _++_}
 use borrow.Author.Tests.{leb-true, leb-false}
 use lib.Dec.{T, leb, ltb, eqb, leb→le, le→leb, ltb→lt, lt→ltb}
 use lib.IntN.{ℤ, pos}
-use lib.ListN.{length, take, drop, replicate, length-take}
-use lib.Seq.{drop-append-add, drop-drop}
-use Rattle.algebra.specs.Polynomials.{T-&&}
-use Rattle.rows.specs.Validity.{true-T}
-use Rattle.rules.specs.Calls.{overwrite, zeros}
+use lib.ListN.{length, take, replicate, length-take}
+use Rattle.lists.specs.Tests.{T-&&, T-is}
+use Rattle.rules.specs.Calls.{zeros}
+use Rattle.lists.specs.Overwritten.{overwrite, drop-overwrite, length-overwrite}
 use Rattle.rules.specs.Batch.{batchOutput}
 use Rattle.frames.specs.Windows.{batchLine}
 use Rattle.batches.specs.declared.Stream.{Stream}
 use Rattle.batches.specs.Feeds.{Feed}
 use Rattle.batches.specs.PieceCalls.{heldNeed, waitsWith, streamRight, streamCheck, PieceCall, keptOf, laid, pieceBy}
 use Rattle.batches.specs.PieceCalls.{pieceRefused, afterStreamCheck, pieceCall, OutputCall, putText, endCall, outputCall}
-use Rattle.batches.specs.Answering.{length-overwrite}
 use Rattle.batches.specs.Moves.{Move, counted-in}
 use Rattle.batches.specs.FeedLaws.{feed-room}
 use Rattle.batches.specs.PieceLaws.{check-right, right-check, fedBy, call-is, piece-right, piece-rest, greedy}
@@ -51,10 +49,6 @@ use Rattle.claims.specs.ExportWords.{ExportedBatch, ExportBatchCourse, n
 use Rattle.claims.specs.LiftedRuns.{overwrite-rewritten, Verdict, verdict, two, one, five, none-found}
 
 -- ---- the checks
-
-T-is : (t : Bool) → T t ↔ (t ≡ true)
-T-is true = (λ h. refl, λ e. tt)
-T-is false = (λ h. absurd h, λ e. true-T false e)
 
 range-iff : (s : Stream) → T (streamRight s) ↔ StreamInRange s
 unfolding streamRight
@@ -107,14 +101,6 @@ piece-course {s} {store} {piece} {output} call =
     by n (one r l) = store-short r l
     by n (five r l w) = held-wrong r l w
     by n (none-found r l w) = piece-worked (record { counted = r .0; few = r .1; long = l; waiting = w })
-
--- What a call without a fault has left in its stores.
-drop-overwrite : (n : ℕ) (l store : List ℕ) → length l ≤ n → drop n (overwrite l store) ≡ drop n store
-unfolding overwrite
-drop-overwrite n l store h =
-    let e : length l + (n - length l) ≡ n = omega arith in
-    ap (λ k. drop k (l ++ drop (length l) store)) (sym e) ∙ drop-append-add l (drop (length l) store) (n - length l)
-    ∙ drop-drop (n - length l) (length l) store ∙ ap (λ k. drop k store) e
 
 laid-short : (held : ℕ) (bytes : List ℕ) → length (laid held bytes) ≤ heldNeed
 unfolding laid

@@ -20,12 +20,13 @@ use lib.Dec.{T, leb, leb→le, le→leb, nleb→lt}
 use lib.ListN.{length, length-append, length-map}
 use lib.Seq.{length-take-le}
 use lib.IntN.{ℤ, pos}
-use Rattle.algebra.specs.Polynomials.{T-&&}
+use Rattle.lists.specs.Tests.{T-&&}
 use Rattle.rules.specs.Limits.{columnCount}
 use Rattle.rules.specs.Elimination.{Side}
 use Rattle.rules.specs.Stores.{Sizes, equations, rowNeed, relationNeed, sizesRight, countRight, lengthsRight, numbersRight}
 use Rattle.rules.specs.Layout.{NumbersRight, lengthsRight-iff, numbersRight-iff}
-use Rattle.rules.specs.Calls.{Result, Call, callRun, refusal, overwrite, zeros}
+use Rattle.rules.specs.Calls.{Result, Call, callRun, refusal, zeros}
+use Rattle.lists.specs.Overwritten.{overwrite}
 use Rattle.exports.specs.Results.{Exported, kept, resultNeed, onAcceptance-none, onAcceptance-some}
 use Rattle.rules.specs.SheetCalls.{ReadResult, ReadCall, readCall, unread, WriteCall, writeCall, unwritten, orderRight}
 use Rattle.exports.specs.Reads.{exportRead, readNumbers, readAfter, read-small}

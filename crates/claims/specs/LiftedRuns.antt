@@ -18,23 +18,25 @@
 --   dependent-six, dependent-refused   refusal 6, and dependent systems
 --   state-accepted, state-triangular, state-report-no, state-report-value, state-report-yes, state-past   the same, from
 --                                the state
-use Prim.Native.Nat.{ℕ, zero, suc, pred, _+_, _*_, _≤_, _<_}
-use native.Mathlib.Nat.{le-trans, le-of-suc-le-suc}
+use Prim.Native.Nat.{ℕ, suc, pred, _+_, _*_, _≤_, _<_}
+use native.Mathlib.Nat.{le-trans}
 use native.Mathlib.Omega.{arith}
 use mathlib.Core.Path.{_≡_, refl, sym, _∙_, ap, ap₂, subst, subst₂}
 use mathlib.Core.Logic.{_↔_, _≢_, _⊎_, inl, inr, ⊎-elim}
 use mathlib.Core.Bool.{Bool, true, false, _&&_, not, cond}
 use mathlib.Core.Option.{Option, none, some}
-use mathlib.Core.List.{List, [], _∷_, _++_, map, map-append, List·Memᴰ}
+use mathlib.Core.List.{List, [], _++_, map, map-append, List·Memᴰ}
 use lib.Dec.{T, le→leb, T-not}
 use lib.ListN.{length, drop, getD, length-append, length-drop, length-replicate, length-map, take-append-drop}
 use lib.Seq.{take-at, drop-at}
 use lib.IntN.{ℤ, pos, natAbs, _+ℤ_, _-ℤ_, +ℤ-invr}
 use lib.Signed.{_≤ℤ_, _<ℤ_, ≤ℤ-refl}
-use Rattle.algebra.specs.Polynomials.{Polynomial, T-&&, eval, isZero}
+use Rattle.algebra.specs.Polynomials.{Polynomial, eval, isZero}
+use Rattle.lists.specs.Tests.{T-&&}
 use Rattle.rules.specs.Limits.{columnCount}
-use Rattle.rules.specs.Rows.{Row, Relation, noRow, All, mirrorRelation}
-use Rattle.rules.specs.Lists.{getD-map, all-mono}
+use Rattle.rules.specs.Rows.{Row, Relation, noRow, mirrorRelation}
+use Rattle.lists.specs.Everywhere.{All, all-mono}
+use Rattle.lists.specs.Images.{getD-map}
 use Rattle.rules.specs.Elimination.{start, wholeRun, mirrorState}
 use Rattle.rules.specs.Elimination.{Side, leading, trailing, State, Outcome, done, refused, report, diagonal, diagonalPlace}
 use Rattle.rules.specs.Stores.{Sizes, equations, span, rowsOf, relationsOf, rowNeed, relationNeed, rowStoreOf, relationStoreOf, checkStores}
@@ -46,8 +48,9 @@ use Rattle.rules.specs.Layout.{checkStores-order, checkStores-zero, stores-vali
 use Rattle.rules.specs.Layout.{length-relationStoreOf}
 use Rattle.rules.specs.Layout.{rowsOf-rowStoreOf, relationsOf-relationStoreOf, polynomialCheck-zero, polynomialPart-at}
 use Rattle.rules.specs.Calls.{Result, Call, callRun, afterCheck, afterRun, acceptance, unchanged, cleared, refusal}
-use Rattle.rules.specs.Calls.{overwrite, zeros}
-use Rattle.rules.specs.Calls.{padTo, placeRight, reportedOrder, rootFound, rootValue}
+use Rattle.rules.specs.Calls.{zeros}
+use Rattle.lists.specs.Overwritten.{overwrite}
+use Rattle.rules.specs.Calls.{placeRight, reportedOrder, rootFound, rootValue}
 use Rattle.theory.specs.Steps.{chain-relations}
 use Rattle.theory.specs.Mirror.{Reaches, Spans, mirrorRelations-twice, valid-relations-span}
 use Rattle.theory.specs.Settled.{as-many, Diagonal, pivotEntry, settled-leading, settled-trailing}
@@ -57,6 +60,7 @@ use Rattle.theory.specs.Demands.{same-sequences, accepted-independent, shifts-b
 use Rattle.theory.specs.Demands.{agreement-leading, agreement-trailing}
 use Rattle.theory.specs.Report.{Past, Rootless, FurthestRoot, diagonalEntry, diagonal-member, diagonal-index}
 use Rattle.theory.specs.Demands as Demands
+use Rattle.lists.specs.Padded.{getD-padTo}
 use Rattle.claims.specs.RunWords.{Ran, RunNumber, FoundBefore, FoundDuring, Rewritten, Cleared, InRange, LongEnough}
 use Rattle.claims.specs.RunWords.{Passed, ruled, GivesBack, Course, Kept}
 use Rattle.claims.specs.RunWords.{Solves, IsRow, IsColumn, edge, columnOf, entryOf, diagonalOf, Triangular, NoRoot, LastRoot}
@@ -337,13 +341,6 @@ module _ {side : Side} {z : Sizes} {count : ℕ} {rows relations : List ℤ} whe
   accepted-as (run-accepted p s e) h = (s, record { passed = p; accepts = e; given = gives-back p s e })
 
 -- ---- the diagonal by result and store
-
-getD-padTo : {A : Type 0} (n : ℕ) (v d : A) (l : List A) (i : ℕ) → i < length l → i < n → getD (padTo n v l) i d ≡ getD l i d
-unfolding padTo
-getD-padTo zero v d l i h k = absurd (omega arith)
-getD-padTo (suc n) v d [] i h k = absurd (omega arith)
-getD-padTo (suc n) v d (x ∷ l) zero h k = refl
-getD-padTo (suc n) v d (x ∷ l) (suc i) h k = getD-padTo n v d l i (le-of-suc-le-suc h) (le-of-suc-le-suc k)
 
 edge-place : (side : Side) (z : Sizes) → natAbs (z .l -ℤ edge side z) ≡ diagonalPlace side (span z)
 unfolding diagonalPlace span

@@ -10,19 +10,20 @@
 use Prim.Native.Nat.{ℕ, zero, suc, pred, _≤_, _<_}
 use native.Mathlib.Nat.{le-trans}
 use native.Mathlib.Omega.{arith}
-use mathlib.Core.Path.{_≡_, refl, sym, _∙_, ap, ap₂, subst}
+use mathlib.Core.Path.{_≡_, refl, sym, _∙_, ap, subst}
 use mathlib.Core.Logic.{_↔_, _≢_, _⊎_, inl, inr}
 use mathlib.Core.Bool.{Bool, true, false, _&&_, _||_, not, cond}
-use mathlib.Core.List.{List, [], _∷_}
-use lib.Dec.{T, leb, leb→le, le→leb, nleb→lt, eqb, eqb→eq}
+use mathlib.Core.List.{List, []}
+use lib.Dec.{T, leb, leb→le, le→leb, nleb→lt, eqb}
 use lib.ListN.{length, take, drop, getD}
 use lib.IntN.{ℤ, pos, negsuc, natAbs, _-ℤ_}
 use lib.Signed.{_≤ℤ_}
 use Rattle.algebra.specs.Order.{≤ℤ-difference}
-use Rattle.algebra.specs.Polynomials.{T-&&}
+use Rattle.lists.specs.Tests.{T-&&, cond-passed}
 use Rattle.rules.specs.Limits.{columnCount, coefficientCount}
-use Rattle.rules.specs.Rows.{Block, Row, noRow, All, every}
-use Rattle.rules.specs.Lists.{all-getD, cond-passed}
+use Rattle.rules.specs.Rows.{Block, Row, noRow}
+use Rattle.lists.specs.Everywhere.{All, all-getD}
+use Rattle.lists.specs.Tested.{every}
 use Rattle.rules.specs.Sequences.{blockFrom, polynomialAt}
 use Rattle.rules.specs.Stores.{Sizes, equations, Valid, rowsOf, rowNeed, relationNeed, rowStoreOf, relationStoreOf, lengthsRight}
 use Rattle.rules.specs.Stores.{sizesRight, Shaped, StoreRow}
@@ -31,7 +32,9 @@ use Rattle.rules.specs.Layout.{length-rowStoreOf, length-relationStoreOf, rowSt
 use Rattle.rules.specs.Layout.{length-relationsOf}
 use Rattle.rules.specs.Layout.{SizeBounds, size-bounds, bounds-right, place-bounds, polynomialPart-at, block-place}
 use Rattle.rules.specs.Layout.{length-rowsOf, StoreRow-rowsOf}
-use Rattle.rules.specs.Calls.{padTo, overwrite, placeRight, polynomialCheck, polynomialPart, polynomialPlace, partAt}
+use Rattle.rules.specs.Calls.{placeRight, polynomialCheck, polynomialPart, polynomialPlace, partAt}
+use Rattle.lists.specs.Padded.{padTo, pad-zeros, pad-taken}
+use Rattle.lists.specs.Overwritten.{overwrite}
 use Rattle.rules.specs.Numbers.{Read, got, fault}
 use Rattle.rules.specs.Sheets.{Sheet, readSheet}
 use Rattle.rules.specs.SheetCalls.{ReadCall, readCall, afterRead, unread, filled, readRefusal, WriteCall, writeCall}
@@ -277,17 +280,6 @@ module _ {z : Sizes} {count : ℕ} {order : List ℕ} {rows relations : List ℤ
   bytes-write (sheet-written p f) e = (refl, overwrite-rewritten (sheetBytes z count order rows relations) bytes refl f)
 
 -- ---- the order argument
-
-pad-zeros : (l : List ℕ) → T (every (eqb 0) l) → padTo (length l) 0 [] ≡ l
-unfolding padTo every
-pad-zeros [] h = refl
-pad-zeros (x ∷ l) h = let e = T-&& (eqb 0 x) _ .0 h in ap₂ _∷_ (eqb→eq 0 x (e .0)) (pad-zeros l (e .1))
-
-pad-taken : (m : ℕ) (l : List ℕ) → T (every (eqb 0) (drop m l)) → padTo (length l) 0 (take m l) ≡ l
-unfolding padTo
-pad-taken zero l h = pad-zeros l h
-pad-taken (suc m) [] h = refl
-pad-taken (suc m) (x ∷ l) h = ap (λ r. x ∷ r) (pad-taken m l h)
 
 -- The order that is written for an argument of four numbers, with zeros up to four, is the argument.
 given-padded : (m : ℕ) (order : List ℕ) → length order ≡ columnCount → T (orderRight m order)

@@ -22,7 +22,8 @@ use lib.Signed.{_≤ℤ_}
 use Rattle.rules.specs.Limits.{columnCount}
 use Rattle.rules.specs.Stores.{Sizes, equations, rowsOf, relationsOf, rowNeed, relationNeed, rowStoreOf, relationStoreOf}
 use Rattle.rules.specs.Layout.{NumbersRight}
-use Rattle.rules.specs.Calls.{padTo, overwrite}
+use Rattle.lists.specs.Padded.{padTo}
+use Rattle.lists.specs.Overwritten.{overwrite}
 use Rattle.rules.specs.Numbers.{fault}
 use Rattle.rules.specs.Sheets.{Sheet, readSheet, writeSheet}
 use Rattle.rules.specs.SheetCalls.{ReadCall, readCall, unread, filled, WriteCall, writeCall, unwritten, sheetOf, orderRight}

@@ -20,7 +20,7 @@ use mathlib.Core.Logic.{_↔_, _≢_}
 use mathlib.Core.Bool.{true, false, _&&_}
 use mathlib.Core.List.{List, [], _∷_, _++_, map, flatten, zipWith, append-nil}
 use Prim.Native.Nat.{ℕ, zero, suc, _+_, _*_, _-_, _^_, _≤_, _<_, max}
-use native.Mathlib.Nat.{not-suc-le-zero, le-of-suc-le-suc, le-trans, zero-add}
+use native.Mathlib.Nat.{not-suc-le-zero, le-trans, zero-add}
 use native.Mathlib.Omega.{arith}
 use native.Mathlib.Decide.{decLe, decLt}
 use lib.Dec.{T, lit<}
@@ -30,34 +30,27 @@ use lib.Seq.{ext-getD, getD-take, length-take-le}
 use Rattle.algebra.specs.Integers.{natAbs-+ℤ}
 use Rattle.algebra.specs.Gcd.{content, divideBy, length-divideBy}
 use Rattle.algebra.specs.Sums.{countFrom, sumBelow, length-countFrom, getD-countFrom}
-use Rattle.algebra.specs.Polynomials.{Polynomial, coeff, isZero, degree, add, mul, same-test, T-&&, isZero-cons, isZero-coeff}
+use Rattle.algebra.specs.Polynomials.{Polynomial, coeff, isZero, degree, add, mul, isZero-cons, isZero-coeff}
+use Rattle.lists.specs.Tests.{same-test, T-&&, true-of, false-of}
 use Rattle.algebra.specs.Polynomials.{coeff-isZero}
 use Rattle.algebra.specs.Polynomials.{isZero-add, isZero-mul-right, length-add, length-scale}
 use Rattle.algebra.specs.Coefficients.{coeff-add, coeff-mul, coeff-take, coeff-drop, coeff-past-length, coeff-past-degree}
 use Rattle.algebra.specs.Coefficients.{degree-lt-length, mul-within}
 use Rattle.polynomials.specs.Content.{Below}
 use Rattle.polynomials.specs.Product.{product-size}
-use Rattle.rules.specs.Limits.{coefficientCount, columnCount, polynomialCount, rowLength, small}
-use Rattle.rules.specs.Rows.{Row, All, every, mapRow, coefficientsOf, combine, primitive, lowDegrees, cut}
-use Rattle.rules.specs.Lists.{getD-map, length-flatten, every-flatten}
-use Rattle.rules.specs.Stores.{parts, rowOf, StoreRow}
+use Rattle.rules.specs.Limits.{rowLength, small, coefficientCount, columnCount, polynomialCount}
+use Rattle.rules.specs.Rows.{Row, mapRow, coefficientsOf, combine, primitive, lowDegrees, cut}
+use Rattle.lists.specs.Everywhere.{All}
+use Rattle.lists.specs.Tested.{every, every-flatten, every-take, every-drop, every-part}
+use Rattle.lists.specs.Images.{getD-map, getD-zipWith}
+use Rattle.lists.specs.Joined.{length-flatten}
+use Rattle.rules.specs.Stores.{rowOf, StoreRow}
+use Rattle.lists.specs.Parts.{parts, parts-length, parts-width, getD-parts, part-flatten}
 use Rattle.rules.specs.Elimination.{within, limitDegrees}
-use Rattle.rules.specs.Layout.{coefficientsAt, polynomialsIn, parts-length, parts-width, getD-parts}
+use Rattle.rules.specs.Layout.{coefficientsAt, polynomialsIn}
 use Rattle.rows.specs.Flat.{polynomialsOf, polynomials-rowOf, polynomials-combine, numbers-mapRow}
 use Rattle.combinations.specs.Primitive.{polynomials-mapRow, degrees-within}
 use Rattle.working.specs.Worked.{Held, held, store-row}
-use Rattle.rows.specs.Written.{every-take, every-drop, every-part, part-flatten}
-use Rattle.rows.specs.Checks.{true-of, false-of}
-
--- ---- members of lists
-
-getD-zipWith : {A B C : Type 0} (f : A → B → C) (l : List A) (m : List B) (i : ℕ) (a : A) (b : B) (c : C) → i < length l → i < length m
-    → getD (zipWith f l m) i c ≡ f (getD l i a) (getD m i b)
-unfolding zipWith
-getD-zipWith f [] m i a b c h k = absurd (not-suc-le-zero h)
-getD-zipWith f (x ∷ l) [] i a b c h k = absurd (not-suc-le-zero k)
-getD-zipWith f (x ∷ l) (y ∷ m) zero a b c h k = refl
-getD-zipWith f (x ∷ l) (y ∷ m) (suc i) a b c h k = getD-zipWith f l m i a b c (le-of-suc-le-suc h) (le-of-suc-le-suc k)
 
 -- ---- polynomials with the same coefficients
 

@@ -22,13 +22,16 @@ use lib.ListN.{take, drop, replicate, take-append-drop}
 use lib.Signed.{quotZ}
 use Rattle.algebra.specs.Gcd.{gcd, content, divideBy, gcd-zero, gcd-divides-left, gcd-divides-right, gcd-le-right, content-append, content-zero}
 use Rattle.algebra.specs.Gcd.{dividesAll-of-content, isZero-divideBy, divideBy-one}
-use Rattle.algebra.specs.Polynomials.{Polynomial, isZero, T-&&}
+use Rattle.algebra.specs.Polynomials.{Polynomial, isZero}
+use Rattle.lists.specs.Tests.{T-&&}
 use Rattle.polynomials.specs.Content.{Below}
-use Rattle.rules.specs.Rows.{Row, every, mapRow, coefficientsOf, primitive, lowDegrees, cut}
-use Rattle.rules.specs.Lists.{every-flatten, map-take, map-drop}
-use Rattle.rules.specs.Limits.{coefficientCount, rowLength}
+use Rattle.rules.specs.Rows.{Row, mapRow, coefficientsOf, primitive, lowDegrees, cut}
+use Rattle.lists.specs.Tested.{every, every-flatten}
+use Rattle.lists.specs.Images.{map-take, map-drop}
+use Rattle.rules.specs.Limits.{rowLength, coefficientCount}
 use Rattle.rules.specs.Elimination.{within, beyond, limitCoefficients, limitDegrees}
-use Rattle.rows.specs.Flat.{polynomialsOf, flatten-map, numbers-mapRow}
+use Rattle.rows.specs.Flat.{polynomialsOf, numbers-mapRow}
+use Rattle.lists.specs.Joined.{flatten-map}
 use Rattle.working.specs.Worked.{Shown, refusalOf, numbersOf}
 
 -- The numbers divided by d, or as they are if d is 0.

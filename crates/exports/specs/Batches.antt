@@ -15,7 +15,7 @@ use borrow.Author.Tests.{le-leb, lt-leb}
 use lib.Dec.{T, leb, leb→le}
 use lib.IntN.{ℤ, pos}
 use lib.ListN.{length, replicate}
-use Rattle.rules.specs.Calls.{overwrite}
+use Rattle.lists.specs.Overwritten.{overwrite}
 use Rattle.rules.specs.Batch.{batchOutput}
 use Rattle.batches.specs.PieceCalls.{OutputCall, putText, outputCall}
 use Rattle.exports.specs.Writes.{Written, notWritten}

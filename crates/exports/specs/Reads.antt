@@ -21,16 +21,16 @@ use lib.Dec.{T, leb}
 use lib.IntN.{ℤ, pos}
 use lib.ListN.{length}
 use Rattle.rules.specs.Limits.{columnCount, rowLength}
-use Rattle.rules.specs.Rows.{All}
-use Rattle.rules.specs.Lists.{all-mono}
-use Rattle.rules.specs.Stores.{equations, lengthsRight, rowNeed}
-use Rattle.rules.specs.Layout.{size-bounds, countRight-iff, length-padTo}
+use Rattle.lists.specs.Everywhere.{All, all-mono}
+use Rattle.rules.specs.Stores.{lengthsRight, rowNeed, equations}
+use Rattle.rules.specs.Layout.{size-bounds, countRight-iff}
+use Rattle.lists.specs.Padded.{length-padTo, all-padTo}
 use Rattle.rules.specs.Numbers.{Read, got, fault}
 use Rattle.rules.specs.Sheets.{Sheet, readSheet}
 use Rattle.rules.specs.SheetCalls.{ReadResult, ReadCall, differentColumns, readRefusal, unread, filled, afterRead, readCall}
 use Rattle.sheets.specs.WrittenOrder.{OrderRight, different-cons}
 use Rattle.sheets.specs.ReadBack.{SheetRight, read-right}
-use Rattle.exports.specs.Results.{Exported, kept, resultNeed, onAcceptance, all-padTo}
+use Rattle.exports.specs.Results.{Exported, kept, resultNeed, onAcceptance}
 
 -- m, l, t, the number of relations, c(1) to c(4) (SCOPE 3.52).
 unfoldable pub readNumbers : ReadResult → List ℤ

@@ -7,33 +7,28 @@
 --
 -- Main statements
 --   onAcceptance-none, onAcceptance-some   such a store, by the refusal
---   set-overwrite              one number written at the start of a store
---   none-before                an empty part of a store, put back
 --   none-checked               stores that hold nothing are too short
---   all-padTo                  a property of all numbers of an order with zeros past its end
 --   small-fits, small-value    a small count is in the range of an i64, and is the number that it is cast to
 --   answer-value               so is 1 or 0 for yes or no
 --   four-members, four-columns   four members of a list, and the numbers of an order of four columns, one by one
 --   sizes-told                 sizes as they are handed on
 use Prim.Native.Nat.{ℕ, zero, suc, _*_, _≤_}
-use native.Mathlib.Nat.{not-suc-le-zero, suc-ne-zero}
 use native.Mathlib.Omega.{arith}
 use mathlib.Core.Path.{_≡_, refl, sym, _∙_, ap}
 use mathlib.Core.Logic.{_≢_}
 use mathlib.Core.Bool.{Bool, true, false, _&&_, cond, and-false}
-use mathlib.Core.List.{List, [], _∷_, _++_, map}
+use mathlib.Core.List.{List, [], _∷_, map}
 use lib.Dec.{lit<, leb}
 use lib.IntN.{ℤ, pos}
-use lib.ListN.{length, take, getD, set}
+use lib.ListN.{length, take, getD}
 use lib.Seq.{take-all}
 use mir.Syntax.{w64}
 use mir.Val.{SFits, toZ, ofZ, boolByte}
 use mir.Facts.{toZ-ofZ, toZ-pos}
 use Rattle.rules.specs.Limits.{rowLength}
 use Rattle.integers.specs.Ranges.{sfits-size}
-use Rattle.rules.specs.Rows.{All}
-use Rattle.rules.specs.Stores.{Sizes, equations, sizesRight, countRight, lengthsRight, numbersRight, rowNeed, checkStores}
-use Rattle.rules.specs.Calls.{overwrite, padTo}
+use Rattle.rules.specs.Stores.{Sizes, sizesRight, countRight, lengthsRight, numbersRight, rowNeed, checkStores, equations}
+use Rattle.lists.specs.Overwritten.{overwrite}
 
 pub record Exported : Type 0 where
   pub refusal : ℕ
@@ -64,28 +59,12 @@ pub onAcceptance-some : (n : ℕ) (numbers resultStore : List ℤ) → n ≡ 0 �
 unfolding onAcceptance
 onAcceptance-some n numbers resultStore e = ap (λ k. onAcceptance k numbers resultStore) (sym e)
 
-pub set-overwrite : (store : List ℤ) (a : ℤ) → 1 ≤ length store → set store 0 a ≡ overwrite (a ∷ []) store
-unfolding overwrite
-set-overwrite [] a h = absurd (not-suc-le-zero h)
-set-overwrite (b ∷ store) a h = refl
-
--- A part of a store that holds nothing, put back in front of the rest.
-pub none-before : {A : Type 0} (l store : List A) → length l ≡ 0 → l ++ store ≡ store
-none-before [] store e = refl
-none-before (x ∷ l) store e = absurd (suc-ne-zero (length l) e)
-
 -- Stores that hold nothing are too short.
 pub none-checked : (z : Sizes) (count : ℕ) → checkStores z count [] [] ≡ cond (sizesRight z && countRight count) 1 2
 unfolding checkStores lengthsRight rowNeed
 none-checked z count =
     ap (λ b. cond (sizesRight z && countRight count) (cond b (cond (numbersRight z count [] []) 0 5) 1) 2)
     (and-false (leb (equations z * rowLength) 0))
-
-pub all-padTo : {A : Type 0} (P : A → Type 0) (n : ℕ) (v : A) (l : List A) → P v → All P l → All P (padTo n v l)
-unfolding padTo All
-all-padTo P zero v l h a = tt
-all-padTo P (suc n) v [] h a = (h, all-padTo P n v [] h tt)
-all-padTo P (suc n) v (x ∷ l) h a = (a .0, all-padTo P n v l h (a .1))
 
 pub small-fits : (n : ℕ) → n ≤ 16 → SFits w64 (pos n)
 small-fits n h = sfits-size (pos n) h (lit< tt)

@@ -25,15 +25,16 @@ use lib.IntN.{ℤ, pos}
 use lib.Signed.{≤ℤ-refl}
 use lib.ListN.{length}
 use Rattle.rules.specs.Limits.{columnCount}
-use Rattle.rules.specs.Rows.{All}
+use Rattle.lists.specs.Everywhere.{All, all-map, getD-all}
 use Rattle.rules.specs.Elimination.{Side, State, Outcome, going, done, refused, wholeRun, neverNumber}
-use Rattle.rules.specs.Stores.{Sizes, equations, Valid, span, rowsOf, relationsOf, sizesRight, countRight, lengthsRight, numbersRight, checkStores}
-use Rattle.rules.specs.Lists.{all-map, getD-all}
-use Rattle.rules.specs.Layout.{SizeBounds, size-bounds, checkStores-order, stores-valid, countRight-iff, block-place, length-padTo}
+use Rattle.rules.specs.Stores.{Sizes, Valid, span, rowsOf, relationsOf, sizesRight, countRight, lengthsRight, numbersRight, checkStores, equations}
+use Rattle.rules.specs.Layout.{SizeBounds, size-bounds, checkStores-order, stores-valid, countRight-iff, block-place}
+use Rattle.lists.specs.Padded.{length-padTo, all-padTo}
 use Rattle.theory.specs.Demands.{Accepted, Ended, accepted, six, seven, eight, nine, run-ends, shifts-bounded, output-valid, diagonal-nonzero}
 use Rattle.rules.specs.Calls.{reportedOrder}
-use Rattle.rules.specs.Calls.{Result, Call, callRun, overwrite, zeros, refusal, unchanged, cleared, acceptance, afterRun, afterCheck}
-use Rattle.exports.specs.Results.{Exported, kept, resultNeed, none-checked, all-padTo}
+use Rattle.rules.specs.Calls.{Result, Call, callRun, zeros, refusal, unchanged, cleared, acceptance, afterRun, afterCheck}
+use Rattle.lists.specs.Overwritten.{overwrite}
+use Rattle.exports.specs.Results.{Exported, kept, resultNeed, none-checked}
 
 -- The number of relations, the shifts, c(1) to c(4), 1 or 0 for a root, the root (SCOPE 3.52).
 unfoldable pub runNumbers : Result → List ℤ

@@ -23,9 +23,9 @@ use lib.IntN.{ℤ, pos, negsuc, natAbs}
 use lib.Signed.{nonNeg, ltZ}
 use lib.ListN.{length, take}
 use Rattle.rules.specs.Limits.{columnCount}
-use Rattle.rules.specs.Rows.{every}
-use Rattle.rules.specs.Stores.{Sizes, equations, sizesRight, countRight, lengthsRight, numbersRight, checkStores}
-use Rattle.rules.specs.Calls.{overwrite}
+use Rattle.lists.specs.Tested.{every}
+use Rattle.rules.specs.Stores.{Sizes, sizesRight, countRight, lengthsRight, numbersRight, checkStores, equations}
+use Rattle.lists.specs.Overwritten.{overwrite}
 use Rattle.rules.specs.Sheets.{writeSheet}
 use Rattle.rules.specs.SheetCalls.{WriteCall, orderRight, checkWrite, sheetOf, unwritten, written, afterWriteCheck, writeCall}
 use Rattle.writing.specs.WriterChecks.{checkWrite-order}

@@ -2,7 +2,7 @@
 ghost use mathlib.Core.Path.{_≡_};
 ghost use Prim.Native.Nat.{_≤_};
 ghost use lib.ListN.{length};
-ghost use Rattle.rules.specs.Calls.{overwrite};
+ghost use Rattle.lists.specs.Overwritten.{overwrite};
 
 pub(crate) fn put(result: &mut [i64], numbers: [i64; 8])
     requires { ⌜ 8 ≤ length (now result) ⌝ }

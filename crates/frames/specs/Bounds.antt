@@ -13,7 +13,7 @@ use mathlib.Core.List.{List}
 use lib.Dec.{T, leb, leb→le}
 use lib.IntN.{ℤ, natAbs}
 use lib.ListN.{length, drop, replicate, length-append, length-drop, length-replicate}
-use Rattle.rules.specs.Calls.{overwrite}
+use Rattle.lists.specs.Overwritten.{overwrite}
 use Rattle.rules.specs.Numbers.{newline, Read, got, fault}
 use Rattle.rules.specs.Batch.{Answer, accepted, refusedWith, answerSheet, readAfterClient, readSize}
 use Rattle.frames.specs.declared.TextLine.{TextLine}

@@ -24,12 +24,12 @@ use lib.IntN.{ℤ, pos, natAbs}
 use lib.Signed.{nonNeg}
 use Rattle.rules.specs.Numbers.{space, line, lines, decimal, got, fault, field, between}
 use Rattle.rules.specs.Sheets.{always}
-use Rattle.rules.specs.Calls.{overwrite}
+use Rattle.lists.specs.Overwritten.{overwrite}
 use Rattle.rules.specs.Batch.{countAnswer, closing, broken, readSize, readAfterClient, readSheetLine}
 use Rattle.tokens.specs.Fields.{field-judged, between-zero}
 use Rattle.sheets.specs.WrittenNumbers.{isNumber-decimal}
 use Rattle.writing.specs.Writer.{Put, put-then, put-same, digitsOf}
-use Rattle.rows.specs.Validity.{first-failed, second-failed, both-passed}
+use Rattle.lists.specs.Tests.{first-failed, second-failed, both-passed}
 use Rattle.frames.specs.declared.Batch.{Batch}
 use Rattle.frames.specs.declared.SheetLine.{SheetLine}
 use Rattle.frames.specs.Windows.{numberLine, batchLine, followed, Window, field-window, sheetLine-window}

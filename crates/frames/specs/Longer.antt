@@ -17,9 +17,8 @@ use lib.Dec.{T, leb, leb→le, le→leb, eqb, eqb→eq}
 use lib.ListN.{length, drop, length-append}
 use lib.IntN.{ℤ, pos, natAbs}
 use lib.Signed.{leZ}
-use Rattle.algebra.specs.Polynomials.{T-&&}
-use Rattle.rules.specs.Rows.{every}
-use Rattle.rules.specs.Lists.{every-append}
+use Rattle.lists.specs.Tests.{T-&&}
+use Rattle.lists.specs.Tested.{every, every-append}
 use Rattle.rules.specs.Numbers.{minus, word, afterWord, isDigit, signed, digits, startsRight, beginsNumber, isNumber, numberOf}
 use Rattle.rules.specs.Numbers.{Read, got, fault, thenRead, judged, readWord, readSeparator, field, between}
 use Rattle.rules.specs.Batch.{SheetLine as ReadLine, readSize, readAfterClient, readSheetLine}

@@ -27,14 +27,14 @@ use lib.Dec.{leb, ltb, eqb}
 use lib.ListN.{length, take, drop, replicate}
 use lib.Seq.{take-at}
 use lib.IntN.{ℤ, pos, natAbs}
-use Rattle.rules.specs.Calls.{overwrite}
+use Rattle.lists.specs.Overwritten.{overwrite}
 use Rattle.rules.specs.Numbers.{newline, lines, Read, got, fault, field, between}
 use Rattle.rules.specs.Sheets.{always}
 use Rattle.rules.specs.Batch.{SheetLine as ReadLine, Answer as SheetAnswer, Tally, accepted, refusedWith}
 use Rattle.rules.specs.Batch.{countAnswer, broken, closing, answerBytes}
 use Rattle.rules.specs.Batch.{readSize, readAfterClient, readSheetLine}
 use Rattle.answers.specs.Faults.{Numbered, read, numbered as numbered-fault, field-numbered, between-judging}
-use Rattle.rows.specs.Validity.{first-failed, both-passed}
+use Rattle.lists.specs.Tests.{first-failed, both-passed}
 use Rattle.frames.specs.declared.Batch.{Batch}
 use Rattle.frames.specs.declared.Begun.{Begun}
 use Rattle.frames.specs.declared.SheetLine.{SheetLine}

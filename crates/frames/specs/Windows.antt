@@ -23,8 +23,8 @@ use lib.Dec.{T, leb, leb→le, eqb}
 use lib.ListN.{length, drop, length-append, length-drop}
 use lib.Seq.{drop-at}
 use lib.IntN.{ℤ, pos}
-use Rattle.algebra.specs.Polynomials.{T-&&}
-use Rattle.rules.specs.Rows.{every}
+use Rattle.lists.specs.Tests.{T-&&}
+use Rattle.lists.specs.Tested.{every}
 use Rattle.rules.specs.Numbers.{space, newline, isSeparator, word, afterWord, isDigit, signed, digits, startsRight, beginsNumber, isNumber}
 use Rattle.rules.specs.Numbers.{numberOf, Read, got, fault, thenRead, judged, readWord, readSeparator, field, between}
 use Rattle.rules.specs.Sheets.{always}

@@ -3,33 +3,29 @@
 --
 -- Main definitions
 --   Below n p              every coefficient of p has a size below n
---   Overwritten n t q i    the first i of the n places of q hold what t has there
 --
 -- Main statements
 --   read-back, zero-bits, nonzero-bits   an i64 and its bits
---   drop-next, skip-zero   one coefficient more from the front, and one that is zero and changes nothing
+--   skip-zero              one coefficient more from the front that is zero and changes nothing
 --   isZero-false, lowest-first   a nonzero coefficient makes p nonzero; at the front it is the lowest
 --   or-zero, join-next     joined bits are 0 exactly if both are; one coefficient more is joined
 --   within-down, degree-bottom   one zero coefficient less from the top; none left past power 0: the degree is 0
 --   content-next, one-gcd  a coefficient joins the greatest common divisor of those passed; 1 stays 1
---   overwritten-next, overwritten-all, suffix-next, suffix-first   a list that is overwritten from the front
 --   quotient-stored        the quotient by a positive i64, stored, is a coefficient of `divideBy`
 --   small-at, below-of-small, below-divideBy, below-negate   sizes of coefficients, of quotients and of negatives
 --   content-bounds         the content of two polynomials within ±C that are not both zero is positive and at most C
 --   signs-turned, signs-kept   the two cases of rule 2's signs
-use mathlib.Core.Path.{_≡_, refl, sym, _∙_, ap, ap₂, subst}
+use mathlib.Core.Path.{_≡_, refl, sym, _∙_, ap, subst}
 use mathlib.Core.Logic.{_≢_, ⊎-elim}
 use mathlib.Core.Bool.{Bool, true, false, not, cond, _&&_, and-assoc}
-use mathlib.Core.List.{List, [], _∷_, _++_}
+use mathlib.Core.List.{_∷_, _++_}
 use Prim.Native.Nat.{ℕ, zero, suc, _+_, _-_, _^_, _≤_, _<_}
-use native.Mathlib.Nat.{pos-of-ne-zero, le-trans, le-of-dvd, add-zero, dvd-one, eq-or-lt-of-le}
-use native.Mathlib.Numerals.{add-one}
+use native.Mathlib.Nat.{pos-of-ne-zero, le-trans, le-of-dvd, dvd-one, eq-or-lt-of-le}
 use native.Mathlib.Omega.{arith}
 use lib.Bits.{bitOr, and-le-r, or-add-and}
 use lib.Dec.{T, eqb, ltb→lt, leb→le, eqb·suc-zero}
 use lib.IntN.{ℤ, pos, negsuc, natAbs}
-use lib.ListN.{length, getD, take, drop, set, length-set}
-use lib.Seq.{take-suc, take-all, take-suc-set, drop-cons, drop-drop, drop-set-lt, getD-drop}
+use lib.ListN.{length, getD, drop, length-set}
 use lib.Signed.{mag, ltZ, quotZ}
 use mir.Syntax.{w64}
 use mir.Val.{SFits, ofZ, toZ}
@@ -37,12 +33,13 @@ use mir.Facts.{sfits-lit, toZ-ofZ}
 use borrow.Author.Needs.{sfits-of}
 use borrow.Author.Tests.{ne-eqb}
 use Rattle.algebra.specs.Integers.{natAbs-negℤ, natAbs-zero}
-use Rattle.algebra.specs.Polynomials.{Polynomial, coeff, negate, isZeroℤ, isZero, lead, lowest, degree, isZeroℤ-not-iff, isZero-coeff, T-&&}
+use Rattle.algebra.specs.Polynomials.{Polynomial, coeff, negate, isZeroℤ, isZero, lead, lowest, degree, isZeroℤ-not-iff, isZero-coeff}
 use Rattle.algebra.specs.Coefficients.{Within, coeff-negate, coeff-degree, lead-nonzero, degree-le}
 use Rattle.algebra.specs.Gcd.{gcd, content, divideBy, gcd-comm, gcd-assoc, gcd-divides-left}
 use Rattle.algebra.specs.Gcd.{content-divides, content-pos, divideBy-getD, divideBy-le}
 use Rattle.rules.specs.Limits.{bound, small}
-use Rattle.rules.specs.Rows.{every}
+use Rattle.lists.specs.Tested.{every, every-getD, every-join}
+use Rattle.lists.specs.Taken.{drop-next}
 use Rattle.rules.specs.Elimination.{turnSigns}
 use Rattle.integers.specs.Ranges.{ofZ-inj, ofZ-zero}
 
@@ -64,12 +61,9 @@ nonzero-bits h e = h (ap (ofZ w64) e)
 
 -- ---- from the front
 
-pub drop-next : (p : Polynomial) (i : ℕ) → i < length p → drop i p ≡ getD p i (pos 0) ∷ drop (i + 1) p
-drop-next p i h = rw (add-one, drop-cons p i (pos 0))
-
 pub skip-zero : {A : Type 0} (f : Polynomial → A) → ((q : Polynomial) → f (pos 0 ∷ q) ≡ f q)
     → (p : Polynomial) (i : ℕ) → i < length p → getD p i (pos 0) ≡ pos 0 → f (drop i p) ≡ f (drop (i + 1) p)
-skip-zero f h p i l e = ap f (drop-next p i l ∙ ap (λ a. a ∷ drop (i + 1) p) e) ∙ h (drop (i + 1) p)
+skip-zero f h p i l e = ap f (drop-next p i (pos 0) l ∙ ap (λ a. a ∷ drop (i + 1) p) e) ∙ h (drop (i + 1) p)
 
 pub isZero-false : (p : Polynomial) (k : ℕ) → getD p k (pos 0) ≢ pos 0 → isZero p ≡ false
 unfolding coeff
@@ -100,7 +94,7 @@ unfolding isZero isZeroℤ
 join-next joined p i h f =
     let a = getD p i (pos 0) in
     let rest = isZero (drop (i + 1) p) in
-    ap (λ q. eqb joined 0 && isZero q) (drop-next p i h) ∙ ap (λ t. eqb joined 0 && (t && rest)) (sym (ofZ-zero a f))
+    ap (λ q. eqb joined 0 && isZero q) (drop-next p i (pos 0) h) ∙ ap (λ t. eqb joined 0 && (t && rest)) (sym (ofZ-zero a f))
     ∙ sym (and-assoc (eqb joined 0) (eqb (ofZ w64 a) 0) rest) ∙ ap (λ t. t && rest) (sym (or-zero joined (ofZ w64 a)))
 
 -- Coefficient i is joined to the greatest common divisor d of those before it.
@@ -110,7 +104,7 @@ unfolding content
 content-next d p i h =
     let a = natAbs (getD p i (pos 0)) in
     let rest = content (drop (i + 1) p) in
-    ap (λ q. gcd d (content q)) (drop-next p i h) ∙ sym (gcd-assoc d a rest) ∙ ap (λ e. gcd e rest) (gcd-comm d a)
+    ap (λ q. gcd d (content q)) (drop-next p i (pos 0) h) ∙ sym (gcd-assoc d a rest) ∙ ap (λ e. gcd e rest) (gcd-comm d a)
 
 pub one-gcd : (n : ℕ) → gcd 1 n ≡ 1
 one-gcd n = dvd-one .0 (gcd-divides-left 1 n)
@@ -126,33 +120,6 @@ within-down p n h w e k l = ⊎-elim at-top (w k) (eq-or-lt-of-le (omega arith))
 pub degree-bottom : (p : Polynomial) (n : ℕ) → n ≤ 1 → Within p (n - 1) → degree p ≡ 0
 degree-bottom p n h w = omega (arith, degree-le p 0 (λ k l. w k (omega arith)))
 
--- ---- a list q of n places that is overwritten from the front with what t has; l is what it had
-
-pub record Overwritten {A : Type 0} (n : ℕ) (t q : List A) (i : ℕ) : Type 0 where
-  pub within : i ≤ n
-  pub long : length q ≡ n
-  pub front : take i q ≡ take i t
-
-module _ {A : Type 0} {n i : ℕ} {t q : List A} (w : Overwritten n t q i) (long : length t ≡ n) where
-  -- One place more.
-  pub overwritten-next : {a : A} (z : A) → i < n → a ≡ getD t i z → Overwritten n t (set q i a) (i + 1)
-  overwritten-next {a} z h e =
-      record {
-        within = omega arith;
-        long = length-set q i a ∙ w .long;
-        front = rw add-one (take-suc-set q i a (omega arith) ∙ ap₂ (λ r b. r ++ (b ∷ [])) (w .front) e ∙ sym (take-suc t i z (omega arith)));
-      }
-
-  pub overwritten-all : n ≤ i → q ≡ t
-  overwritten-all h = sym (take-all i q (omega arith)) ∙ w .front ∙ take-all i t (omega arith)
-
--- The places from i on are as they were.
-pub suffix-next : {A : Type 0} (q l : List A) (i : ℕ) (a : A) → drop i q ≡ drop i l → drop (i + 1) (set q i a) ≡ drop (i + 1) l
-suffix-next q l i a e = drop-set-lt (i + 1) q i a (omega arith) ∙ sym (drop-drop 1 i q) ∙ ap (drop 1) e ∙ drop-drop 1 i l
-
-pub suffix-first : {A : Type 0} (q l : List A) (i : ℕ) (z : A) → drop i q ≡ drop i l → getD q i z ≡ getD l i z
-suffix-first q l i z e = simp add-zero at (sym (getD-drop i q 0 z) ∙ ap (λ r. getD r 0 z) e ∙ getD-drop i l 0 z)
-
 -- ---- division, and sizes
 
 pub positive : (d : ℤ) → T (ltZ (pos 0) d) → (pos (natAbs d) ≡ d) × (0 < natAbs d)
@@ -165,15 +132,9 @@ pub quotient-stored : (d : ℤ) → T (ltZ (pos 0) d) → (p : Polynomial) (i : 
 quotient-stored d h p i {b = b} fits e at =
     read-back b fits ∙ e ∙ ap₂ quotZ at (sym (positive d h .0)) ∙ sym (divideBy-getD (natAbs d) p i)
 
-every-at : {A : Type 0} (t : A → Bool) (z : A) → T (t z) → (l : List A) → T (every t l) → (k : ℕ) → T (t (getD l k z))
-unfolding every
-every-at t z d [] h k = d
-every-at t z d (x ∷ l) h zero = T-&& (t x) (every t l) .0 h .0
-every-at t z d (x ∷ l) h (suc k) = every-at t z d l (T-&& (t x) (every t l) .0 h .1) k
-
 pub small-at : (p : Polynomial) → T (every small p) → (k : ℕ) → natAbs (getD p k (pos 0)) ≤ bound
 unfolding small
-small-at p h k = leb→le (natAbs (getD p k (pos 0))) bound (every-at small (pos 0) tt p h k)
+small-at p h k = leb→le (natAbs (getD p k (pos 0))) bound (every-getD small p (pos 0) tt h k)
 
 pub below-of-small : (p : Polynomial) → T (every small p) → Below (2 ^ 63) p
 below-of-small p h k = omega (arith, small-at p h k)
@@ -193,16 +154,10 @@ content-le p h n =
     let nonzero = pos-of-ne-zero (λ e. lead-nonzero p .0 n (sym (coeff-degree p) ∙ natAbs-zero e)) in
     le-trans (le-of-dvd nonzero (content-divides p (degree p))) (small-at p h (degree p))
 
-every-append : {A : Type 0} (t : A → Bool) (l m : List A) → T (every t l) → T (every t m) → T (every t (l ++ m))
-unfolding every
-every-append t [] m h g = g
-every-append t (x ∷ l) m h g =
-    let both = T-&& (t x) (every t l) .0 h in T-&& (t x) (every t (l ++ m)) .1 (both .0, every-append t l m (both .1) g)
-
 -- The common content of two polynomials within the bound, not both zero, is positive and within the bound.
 pub content-bounds : (a b : Polynomial) → T (every small a) → T (every small b) → T (not (isZero (a ++ b)))
     → (0 < content (a ++ b)) × (content (a ++ b) ≤ bound)
-content-bounds a b h g n = (content-pos (a ++ b) n, content-le (a ++ b) (every-append small a b h g) n)
+content-bounds a b h g n = (content-pos (a ++ b) n, content-le (a ++ b) (every-join small a b h g) n)
 
 pub signs-turned : (g h : Polynomial) → ltZ (lead g) (pos 0) ≡ true → turnSigns g h ≡ record { g = negate g; h = negate h }
 unfolding turnSigns

@@ -5,7 +5,6 @@
 --   expansion p k n      the sum over j < n of the terms binomial j k * coeff p j
 --
 -- Main statements
---   every-getD           what every member and the default pass, each entry passes
 --   small-coeff          the coefficients of a list within ±C are within ±C
 --   pascal-entry         a table that follows the rule holds the binomial coefficients
 --   expansion-first      the terms below k are zero
@@ -14,7 +13,7 @@
 --   expansion-size, shift-size   the sizes of the terms' sums and of the coefficients of p(n + 1), for p of degree at most 15 within ±C
 use mathlib.Core.Path.{_≡_, sym, _∙_, ap, ap₂, subst}
 use mathlib.Core.Bool.{Bool}
-use mathlib.Core.List.{List, [], _∷_}
+use mathlib.Core.List.{List, []}
 use Prim.Native.Nat.{ℕ, zero, suc, _*_, _^_, _≤_, _<_}
 use native.Mathlib.Nat.{zero-add, not-suc-le-zero, le-of-suc-le-suc, le-trans, mul-le-mul, mul-le-mul-right, pow-le-pow-right}
 use native.Mathlib.Omega.{arith}
@@ -23,17 +22,12 @@ use lib.IntN.{ℤ, pos, natAbs, _+ℤ_, _-ℤ_, _*ℤ_, zero-*ℤ, *ℤ-zero}
 use lib.ListN.{length, getD}
 use Rattle.algebra.specs.Integers.{natAbs-*ℤ, -ℤ-zero}
 use Rattle.algebra.specs.Sums.{countFrom, sumBelow, getD-countFrom, sumBelow-last, sumBelow-zeros, sumBelow-extend, natAbs-sumBelow}
-use Rattle.algebra.specs.Polynomials.{Polynomial, coeff, shift, isZeroℤ, isZeroℤ-iff, T-&&}
+use Rattle.algebra.specs.Polynomials.{Polynomial, coeff, shift, isZeroℤ, isZeroℤ-iff}
+use Rattle.lists.specs.Tests.{T-&&}
 use Rattle.algebra.specs.Coefficients.{coeff-past-length}
 use Rattle.algebra.specs.Binomials.{binomial, binomial-above, binomial-le, coeff-shift, coeff-shift-size}
 use Rattle.rules.specs.Limits.{bound, coefficientCount, small}
-use Rattle.rules.specs.Rows.{every}
-
-pub every-getD : {A : Type 0} (t : A → Bool) (l : List A) (d : A) → T (t d) → T (every t l) → (i : ℕ) → T (t (getD l i d))
-unfolding every
-every-getD t [] d h e i = h
-every-getD t (x ∷ l) d h e zero = T-&& (t x) (every t l) .0 e .0
-every-getD t (x ∷ l) d h e (suc i) = every-getD t l d h (T-&& (t x) (every t l) .0 e .1) i
+use Rattle.lists.specs.Tested.{every, every-getD}
 
 pub small-coeff : (p : Polynomial) → T (every small p) → (i : ℕ) → natAbs (coeff p i) ≤ bound
 unfolding small coeff

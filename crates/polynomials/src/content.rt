@@ -11,8 +11,8 @@ ghost use lib.ListN.{length};
 ghost use Rattle.algebra.specs.Polynomials as Polynomials;
 ghost use Rattle.algebra.specs.Gcd as Gcd;
 ghost use Rattle.polynomials.specs.Content.{Below};
-ghost use Rattle.rules.specs.Limits.{coefficientCount, small};
-ghost use Rattle.rules.specs.Rows.{every};
+ghost use Rattle.rules.specs.Limits.{small, coefficientCount};
+ghost use Rattle.lists.specs.Tested.{every};
 ghost use Rattle.rules.specs.Elimination as Elimination;
 
 // Stops at the first nonzero coefficient.

@@ -10,26 +10,30 @@
 --   rowOf-paste          sixteen numbers stored at the place of a block and a column are a term put into the row
 --   equation-is          an equation is its count and then its terms, put into the blank row as they are read
 use Prim.Native.Nat.{ℕ, zero, suc, pred, _+_, _*_, _-_, _≤_, _<_, zero-le, suc-le-suc}
-use native.Mathlib.Nat.{suc-inj, suc-ne-zero, le-trans, le-of-eq, add-zero, le-of-suc-le-suc, add-assoc, zero-add, suc-mul, zero-mul, mul-le-mul-right}
+use native.Mathlib.Nat.{le-trans, le-of-eq, le-of-suc-le-suc, suc-mul, mul-le-mul-right}
 use native.Mathlib.Decide.{ℕ-discrete}
 use native.Mathlib.Omega.{arith}
 use mathlib.Core.Path.{_≡_, refl, sym, ap, ap₂, _∙_, subst}
 use mathlib.Core.Logic.{_⊎_, inl, inr}
 use borrow.Author.Tests.{ltb-true}
 use mathlib.Core.Bool.{Bool, true, false, _||_}
-use mathlib.Core.List.{List, [], _∷_, _++_, map, append-nil, append-assoc}
-use lib.ListN.{length, getD, take, drop, set, length-take, length-drop, drop-of-length-le}
-use lib.Seq.{paste, length-paste, take-all, take-take, take-append-le, take-append-add, drop-append-le, drop-drop, drop-paste, length-paste-head, length-take-le, set-comm, getD-set-other}
+use mathlib.Core.List.{List, [], _∷_, _++_, map, append-assoc}
+use lib.ListN.{length, getD, take, drop, set, length-drop}
+use lib.Seq.{paste, length-paste, take-all, length-take-le, set-comm, getD-set-other}
 use borrow.Rule.Slice.PartMut.{midOf, putMid, mid-len, post-is}
 use lib.Dec.{T, ltb}
 use lib.IntN.{ℤ, pos, natAbs, _-ℤ_}
 use lib.Signed.{ltZ, ltZ-yes, ≤ℤ-refl, clashℤ, pos-natAbs, _≤ℤ_, _<ℤ_}
-use Rattle.rules.specs.Limits.{coefficientCount, columnCount, mostSpan, blockCount, blockLength, rowLength}
-use Rattle.rules.specs.Rows.{Row, Block, All}
-use Rattle.rules.specs.Stores.{Sizes, span, parts, rowOf, sizesRight}
-use Rattle.rules.specs.Lists.{drop-take, getD-map, map-set}
-use Rattle.rules.specs.Layout.{blockOf, parts-length, getD-parts, size-bounds, block-place, length-padTo}
-use Rattle.rules.specs.Calls.{padTo, zeros}
+use Rattle.rules.specs.Limits.{coefficientCount, columnCount, blockCount, rowLength, mostSpan, blockLength}
+use Rattle.rules.specs.Rows.{Row, Block}
+use Rattle.lists.specs.Everywhere.{All}
+use Rattle.rules.specs.Stores.{Sizes, span, rowOf, sizesRight}
+use Rattle.lists.specs.Parts.{parts, parts-length, getD-parts}
+use Rattle.lists.specs.Images.{getD-map, map-set}
+use Rattle.rules.specs.Layout.{size-bounds, block-place, blockOf}
+use Rattle.lists.specs.Padded.{length-padTo, padTo-all, padTo}
+use Rattle.lists.specs.Pasted.{parts-paste, parts-paste-in}
+use Rattle.rules.specs.Calls.{zeros}
 use Rattle.rules.specs.Numbers.{Read, got, fault, thenRead, field, between, space, newline}
 use Rattle.rules.specs.Sheets.{Term, putTerm, rowOfTerms, blankRow, readTerm, readTerms, readEquation, parting, afterCount, always, judgeBlock, judgeColumn, readCoefficients}
 use Rattle.algebra.specs.Order.{≤ℤ-trans, ≤ℤ-cases, ≤ℤ-of-≡, ≤ℤ-difference, <ℤ-to-≤ℤ, +ℤ-<ℤ-left, negℤ-<ℤ, pos-<ℤ, pos-natAbs-nonneg}
@@ -40,38 +44,6 @@ use Rattle.reading.specs.Terms.{padded, BlockRight, block-zero, column-z
 -- ---- a part of a list replaced
 
 module _ {A : Type 0} where
-  module _ (l : List A) (at : ℕ) (p : List A) (w : ℕ) (long : w ≤ length p) where
-    pub take-before-paste : (k : ℕ) → k ≤ at → at ≤ length l → take k (paste l at p w) ≡ take k l
-    take-before-paste k h inside =
-        take-append-le k (take at l ++ take w p) (drop (at + w) l) (rw (length-paste-head l at p w inside long) (omega arith))
-        ∙ take-append-le k (take at l) (take w p) (rw (length-take-le at l inside) h)
-        ∙ take-take k at l h
-
-    drop-after-paste : (k : ℕ) → at + w ≤ k → at ≤ length l → drop k (paste l at p w) ≡ drop k l
-    drop-after-paste k h inside =
-        let e : k ≡ at + w + (k - (at + w)) = omega arith in
-        ap (λ j. drop j (paste l at p w)) e
-        ∙ sym (drop-drop (k - (at + w)) (at + w) (paste l at p w))
-        ∙ ap (drop (k - (at + w))) (drop-paste l at p w inside long)
-        ∙ drop-drop (k - (at + w)) (at + w) l
-        ∙ ap (λ j. drop j l) (sym e)
-
-    take-round-paste : (k : ℕ) → at + w ≤ k → k ≤ length l → take k (paste l at p w) ≡ paste (take k l) at p w
-    take-round-paste k h inside =
-        let e : k ≡ at + w + (k - (at + w)) = omega arith in
-        let d = k - (at + w) in
-        ap (λ j. take j (paste l at p w)) (e ∙ ap (λ j. j + d) (sym (length-paste-head l at p w (omega arith) long)))
-        ∙ take-append-add (take at l ++ take w p) (drop (at + w) l) d
-        ∙ ap₂ (λ t r. t ++ take w p ++ r) (sym (take-take at k l (omega arith)))
-        (sym (ap (λ j. drop (at + w) (take j l)) e ∙ drop-take (at + w) d l))
-
-  pub drop-into-paste : (l : List A) (k q : ℕ) (p : List A) (w : ℕ) → k + q ≤ length l → drop k (paste l (k + q) p w) ≡ paste (drop k l) q p w
-  drop-into-paste l k q p w inside =
-      ap (drop k) (append-assoc (take (k + q) l) (take w p) (drop (k + q + w) l))
-      ∙ drop-append-le k (take (k + q) l) (take w p ++ drop (k + q + w) l) (rw (length-take-le (k + q) l inside) (omega arith))
-      ∙ ap₂ (λ t r. t ++ (take w p ++ r)) (drop-take k q l) (ap (λ j. drop j l) (add-assoc k q w) ∙ sym (drop-drop (q + w) k l))
-      ∙ sym (append-assoc (take q (drop k l)) (take w p) (drop (q + w) (drop k l)))
-
   -- A part that was lent, and is back.
   pub lent-long : (l : List A) (at w : ℕ) → at + w ≤ length l → length (midOf at (at + w - at) l) ≡ w
   lent-long l at w h = mid-len at (at + w) l h ∙ omega arith
@@ -80,39 +52,6 @@ module _ {A : Type 0} where
   lent-back l at w p long =
       ap₂ (λ t r. take at l ++ (t ++ r)) (sym (take-all w p (le-of-eq long))) (post-is at (at + w) l (omega arith))
       ∙ sym (append-assoc (take at l) (take w p) (drop (at + w) l))
-
-  -- A list that is replaced whole.
-  pub paste-whole : (l p : List A) (k : ℕ) → length l ≤ k → length p ≡ k → paste l 0 p k ≡ p
-  paste-whole l p k short long =
-      ap₂ (λ s r. s ++ r) (take-all k p (le-of-eq long)) (ap (λ j. drop j l) (zero-add k) ∙ drop-of-length-le l short) ∙ append-nil p
-
-  -- A part replaced within the i-th of the parts of width k.
-  parts-paste : (k n i j : ℕ) (l p : List A) (w : ℕ) → i < n → j + w ≤ k → n * k ≤ length l → w ≤ length p
-      → parts k n (paste l (i * k + j) p w) ≡ set (parts k n l) i (paste (getD (parts k n l) i []) j p w)
-  unfolding parts
-  parts-paste k zero i j l p w h inside enough long = absurd (omega arith)
-  parts-paste k (suc n) zero j l p w h inside enough long =
-      ap (λ at. parts k (suc n) (paste l at p w)) e
-      ∙ ap₂ (λ t r. t ∷ parts k n r) (take-round-paste l j p w long k inside fits) (drop-after-paste l j p w long k inside (omega arith))
-    where
-      e : 0 * k + j ≡ j
-      e = ap (λ z. z + j) (zero-mul k) ∙ zero-add j
-
-      fits : k ≤ length l
-      fits = omega (arith, suc-mul n k)
-  parts-paste k (suc n) (suc i) j l p w h inside enough long =
-      ap (λ at. parts k (suc n) (paste l at p w)) e
-      ∙ ap₂ (λ t r. t ∷ parts k n r) (take-before-paste l (k + (i * k + j)) p w long k (omega arith) within) (drop-into-paste l k (i * k + j) p w within)
-      ∙ ap (λ r. take k l ∷ r) (parts-paste k n i j (drop k l) p w (omega arith) inside rest long)
-    where
-      e : suc i * k + j ≡ k + (i * k + j)
-      e = omega (arith, suc-mul i k)
-
-      within : k + (i * k + j) ≤ length l
-      within = omega (arith, suc-mul i k, suc-mul n k, mul-le-mul-right {m = suc i} {n = n} k (omega arith))
-
-      rest : n * k ≤ length (drop k l)
-      rest = rw (length-drop k l) (omega (arith, suc-mul n k))
 
 -- ---- sixteen numbers put into a row
 
@@ -133,19 +72,13 @@ module _ {A : Type 0} (K k n m : ℕ) (l p : List A) (b c : ℕ) (hb : b < n) (h
       (rw (length-drop (b * K) l) (omega (arith, mul-le-mul-right {m = suc b} {n = n} K hb, suc-mul b K)))
 
   inner : parts k m (paste part (c * k) p k) ≡ set (parts k m part) c p
-  inner =
-      ap (λ at. parts k m (paste part at p k)) (sym (add-zero (c * k)))
-      ∙ parts-paste k m c 0 part p k hc (omega arith) (omega (arith, part-long)) (omega arith)
-      ∙ ap (set (parts k m part) c) (paste-whole (getD (parts k m part) c []) p k short long)
-    where
-      short : length (getD (parts k m part) c []) ≤ k
-      short = rw (getD-parts k m part c hc, length-take) (omega arith)
+  inner = parts-paste k m part p c long (omega (arith, part-long)) hc
 
   blocks-paste : map (parts k m) (parts K n (paste l (b * K + c * k) p k))
       ≡ set (map (parts k m) (parts K n l)) b (set (getD (map (parts k m) (parts K n l)) b []) c p)
   unfolding part
   blocks-paste =
-      ap (map (parts k m)) (parts-paste K n b (c * k) l p k hb fits enough (le-of-eq (sym long)))
+      ap (map (parts k m)) (parts-paste-in K n b (c * k) l p k hb fits enough (le-of-eq (sym long)))
       ∙ map-set (parts k m) (parts K n l) b (paste part (c * k) p k)
       ∙ ap (set (map (parts k m) (parts K n l)) b)
       (inner ∙ ap (λ block. set block c p) (sym (getD-map (parts k m) (parts K n l) b [] [] (rw (parts-length K n l) hb))))
@@ -369,13 +302,6 @@ unfoldable pub termsInto : Sizes → ℕ → ℤ → ℕ → Row → List ℕ �
 termsInto z zero s₀ c₀ r bytes = got r bytes
 termsInto z (suc k) s₀ c₀ r bytes =
     thenRead (readPadded z s₀ c₀ (parting newline k) bytes) λ e rest. termsInto z k (e .block) (e .column) (putTerm (z .l) e r) rest
-
-padTo-all : {A : Type 0} (n : ℕ) (v : A) (l : List A) → length l ≡ n → padTo n v l ≡ l
-unfolding padTo
-padTo-all zero v [] h = refl
-padTo-all (suc n) v [] h = absurd (suc-ne-zero n (sym h))
-padTo-all zero v (x ∷ l) h = absurd (suc-ne-zero (length l) h)
-padTo-all (suc n) v (x ∷ l) h = ap (λ r. x ∷ r) (padTo-all n v l (suc-inj h))
 
 putTerm-padTerm : (l : ℤ) (e : Term) (r : Row) → putTerm l (padTerm e) r ≡ putTerm l e r
 unfolding padTerm putColumn

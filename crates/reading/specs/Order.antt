@@ -19,12 +19,13 @@ use lib.Seq.{getD-set-same, getD-set-other}
 use lib.Dec.{T, eqb}
 use borrow.Author.Tests.{eq-eqb, ne-eqb}
 use Rattle.algebra.specs.Integers.{natAbs-zero, -ℤ-zero}
-use Rattle.algebra.specs.Polynomials.{isZeroℤ, isZeroℤ-iff, both-true}
+use Rattle.algebra.specs.Polynomials.{isZeroℤ, isZeroℤ-iff}
+use Rattle.lists.specs.Tests.{both-true}
 use lib.IntN.{ℤ, pos, natAbs, _-ℤ_, +ℤ-invr}
 use lib.Signed.{leZ, nonNeg}
 use Rattle.rules.specs.Limits.{columnCount}
 use Rattle.rules.specs.Numbers.{Read, got, thenRead, field, newline}
-use Rattle.rules.specs.Calls.{padTo}
+use Rattle.lists.specs.Padded.{padTo}
 use Rattle.rules.specs.Sheets.{contains, always, afterCount, parting, judgeOrder, judgeOrderCount, readColumns, readOrder}
 use Rattle.tokens.specs.Fields.{then-then, between-size, passed}
 use Rattle.reading.specs.Terms.{padded}

@@ -15,7 +15,8 @@ use lib.IntN.{ℤ}
 use Rattle.rules.specs.Limits.{mostEquations, rowLength, relationLength, mostRelations}
 use Rattle.rules.specs.Stores.{equations, rowsOf, relationsOf, rowNeed, largestRows, relationNeed, rowStoreOf, relationStoreOf, lengthsRight}
 use Rattle.rules.specs.Layout.{length-relationsOf, length-relationStoreOf, StoreRelation-relationsOf}
-use Rattle.rules.specs.Calls.{overwrite, zeros}
+use Rattle.rules.specs.Calls.{zeros}
+use Rattle.lists.specs.Overwritten.{overwrite}
 use Rattle.rules.specs.SheetCalls.{ReadResult, ReadCall, readCall}
 use Rattle.reading.specs.WholeSheet.{SheetRead}
 use Rattle.reading.specs.Zeros.{length-zeros, drop-zeros}

@@ -4,28 +4,30 @@
 --   callOf r ..          the call of `rules` that a result and the stores after it give
 --
 -- Main statements
---   overwrite-paste      numbers put at the front of a store
 --   relationStore-again  the relations of a store, as a store of their own
 --   rows-filled, relations-filled   numbers put into a lent store are what `rules` writes into it
 --   call-faults, call-refuses, call-short, call-fills   the call where the sheet is refused, where a store is too short, and where it is read
-use Prim.Native.Nat.{ℕ, _+_, _*_, _-_, _≤_, zero-le}
-use native.Mathlib.Nat.{le-of-eq, zero-add}
+use Prim.Native.Nat.{ℕ, _+_, _*_, _-_, _≤_}
+use native.Mathlib.Nat.{le-of-eq}
 use native.Mathlib.Omega.{arith}
 use mathlib.Core.Path.{_≡_, sym, ap, ap₂, _∙_}
 use mathlib.Core.Bool.{true, false, cond}
 use mathlib.Core.List.{List, _++_, map, flatten}
 use lib.ListN.{length, take, drop, replicate, length-replicate}
-use lib.Seq.{paste, length-take-le, take-all, take-paste, drop-paste, drop-drop}
+use lib.Seq.{paste, take-all}
 use lib.IntN.{ℤ, pos}
 use Rattle.rules.specs.Limits.{relationLength, mostRelations}
-use Rattle.rules.specs.Stores.{equations, parts, rowsOf, relationOf, relationsOf, relationNumbers, rowNeed, relationNeed, rowStoreOf, relationStoreOf, lengthsRight}
-use Rattle.rules.specs.Layout.{flatten-parts, parts-width, rowStoreOf-rowsOf, relationNumbers-relationOf, length-relationsOf, length-relationStoreOf, StoreRelation-relationsOf}
-use Rattle.rules.specs.Lists.{map-back, all-mono}
-use Rattle.rules.specs.Calls.{overwrite}
+use Rattle.rules.specs.Stores.{rowsOf, relationOf, relationsOf, relationNumbers, rowNeed, relationNeed, rowStoreOf, relationStoreOf, lengthsRight, equations}
+use Rattle.lists.specs.Parts.{parts, flatten-parts, parts-width}
+use Rattle.rules.specs.Layout.{rowStoreOf-rowsOf, relationNumbers-relationOf, length-relationsOf, length-relationStoreOf, StoreRelation-relationsOf}
+use Rattle.lists.specs.Images.{map-back}
+use Rattle.lists.specs.Everywhere.{all-mono}
+use Rattle.lists.specs.Overwritten.{overwrite, overwrite-paste}
 use Rattle.rules.specs.Numbers.{Read, got, fault, thenRead}
 use Rattle.rules.specs.Sheets.{Sheet, readSheet}
 use Rattle.rules.specs.SheetCalls.{ReadResult, ReadCall, readRefusal, unread, filled, afterRead, readCall}
 use Rattle.tokens.specs.Fields.{readOf, fault-of, then-parts, got-not-fault}
+use Rattle.lists.specs.Pasted.{paste-twice}
 use Rattle.reading.specs.Equations.{got-value}
 use Rattle.reading.specs.WholeSheet.{resultOf, sheet, padSheet, SheetRead}
 use Rattle.reading.specs.declared.sheet.SheetResult.{SheetResult}
@@ -35,12 +37,6 @@ unfolding resultOf
 callOf r rowStore relationStore = record { result = resultOf r; rowStore = rowStore; relationStore = relationStore }
 
 -- ---- stores that are filled
-
--- Numbers put at the front of a store take the place of its needed part.
-pub overwrite-paste : (store numbers : List ℤ) (n : ℕ) → n ≤ length numbers → paste store 0 numbers n ≡ overwrite (take n numbers) store
-unfolding overwrite
-overwrite-paste store numbers n h =
-    ap (λ k. take n numbers ++ drop k store) (zero-add n ∙ sym (length-take-le n numbers h))
 
 pub rows-filled : (m : ℕ) (numbers store : List ℤ) → rowNeed m ≤ length numbers
     → paste store 0 numbers (rowNeed m) ≡ overwrite (rowStoreOf (rowsOf m numbers)) store
@@ -62,22 +58,6 @@ pub relationStore-again : (count : ℕ) (l : List ℤ) → count * relationLengt
 unfolding relationStoreOf
 relationStore-again count l h =
     ap₂ (λ used n. used ++ replicate ((mostRelations - n) * relationLength) (pos 0)) (used-again count l h) (length-relationsOf count l)
-
--- A second part behind a first one.
-paste-twice : (store p q : List ℤ) (n k : ℕ) → n ≤ length p → paste (paste store 0 p n) n q k ≡ take n p ++ take k q ++ drop (n + k) store
-paste-twice store p q n k h = ap₂ (λ s r. s ++ take k q ++ r) front behind
-  where
-    first : List ℤ
-    first = paste store 0 p n
-
-    front : take n first ≡ take n p
-    front = ap (λ i. take i first) (sym (zero-add n)) ∙ take-paste store 0 p n zero-le h
-
-    behind : drop (n + k) first ≡ drop (n + k) store
-    behind =
-        sym (drop-drop k n first)
-        ∙ ap (drop k) (ap (λ i. drop i first) (sym (zero-add n)) ∙ drop-paste store 0 p n zero-le h ∙ ap (λ i. drop i store) (zero-add n))
-        ∙ drop-drop k n store
 
 -- The relations at the front, and zeros at the places past the count (SCOPE 3.13).
 pub relations-filled : (count : ℕ) (numbers store : List ℤ) → count ≤ mostRelations → count * relationLength ≤ length numbers

@@ -10,25 +10,27 @@
 --   relation-behind, relationOf-back   behind n0 a relation is zero, and with a row read there it is a relation
 --   rowsOf-front         the rows of a store are those of its needed part
 use Prim.Native.Nat.{ℕ, zero, suc, _+_, _*_, _-_, _≤_, _<_, zero-le}
-use native.Mathlib.Nat.{suc-ne-zero, le-of-eq, sub-zero, add-comm, zero-mul, suc-mul}
+use native.Mathlib.Nat.{suc-ne-zero, le-of-eq, sub-zero, zero-mul, suc-mul}
 use native.Mathlib.Numerals.{add-one}
 use native.Mathlib.Omega.{arith}
 use mathlib.Core.Path.{_≡_, refl, sym, ap, ap₂, _∙_}
 use mathlib.Core.List.{List, [], _∷_, _++_, map, map-append, append-nil}
-use lib.ListN.{length, getD, take, drop, set, length-drop, drop-of-length-le}
-use lib.Seq.{paste, length-paste, drop-paste, drop-drop, take-all, take-at, length-take-le, append-snoc}
+use lib.ListN.{length, getD, take, drop, set, drop-of-length-le}
+use lib.Seq.{paste, length-paste, drop-paste, drop-drop, take-all, append-snoc}
 use borrow.Rule.Slice.PartMut.{midOf, putMid}
 use lib.IntN.{ℤ, pos}
 use Rattle.rules.specs.Limits.{rowLength, relationLength}
 use Rattle.rules.specs.Rows.{Relation}
-use Rattle.rules.specs.Stores.{Sizes, parts, rowOf, rowsOf, relationOf, relationsOf, rowNeed}
+use Rattle.rules.specs.Stores.{Sizes, rowOf, rowsOf, relationOf, relationsOf, rowNeed}
+use Rattle.lists.specs.Parts.{parts}
 use Rattle.rules.specs.Layout.{rowStoreOf-rowsOf, rowsOf-rowStoreOf, length-rowsOf, StoreRow-rowsOf}
 use Rattle.rules.specs.Calls.{zeros}
 use Rattle.rules.specs.Numbers.{space, Read, got, fault, thenRead, field, judgeSmall}
 use Rattle.rules.specs.Sheets.{always, readEquation, readEquations, readRelation, readRelations}
 use Rattle.tokens.specs.Fields.{then-got, then-fault, then-cong, then-then}
 use Rattle.reading.specs.Zeros.{take-zeros, drop-zeros}
-use Rattle.reading.specs.Equations.{take-before-paste, drop-into-paste, lent-back}
+use Rattle.reading.specs.Equations.{lent-back}
+use Rattle.lists.specs.Pasted.{parts-paste-end}
 
 -- ---- things of one kind
 
@@ -53,27 +55,6 @@ equations-each z k bytes = each-is (readEquation z) (readEquations z) (λ bytes.
 pub relations-each : (z : Sizes) (k : ℕ) (bytes : List ℕ) → readRelations z k bytes ≡ readEach (readRelation z) k bytes
 unfolding readRelations
 relations-each z k bytes = each-is (readRelation z) (readRelations z) (λ bytes. refl) (λ k bytes. refl) k bytes
-
--- ---- one more part of a list
-
-module _ {A : Type 0} (k : ℕ) (p : List A) (long : length p ≡ k) where
-  parts-one-more : (i : ℕ) (l : List A) → i * k + k ≤ length l → parts k (suc i) (paste l (i * k) p k) ≡ parts k i l ++ (p ∷ [])
-  unfolding parts
-  parts-one-more zero l h = ap (λ t. t ∷ []) (ap (λ at. take k (paste l at p k)) (zero-mul k) ∙ first)
-    where
-      first : take k (take k p ++ drop (0 + k) l) ≡ p
-      first = take-at (take k p) (drop (0 + k) l) k (length-take-le k p (le-of-eq (sym long))) ∙ take-all k p (le-of-eq long)
-  parts-one-more (suc i) l h =
-      ap (λ at. parts k (suc (suc i)) (paste l at p k)) e
-      ∙ ap₂ (λ t r. t ∷ parts k (suc i) r) (take-before-paste l (k + i * k) p k (le-of-eq (sym long)) k (omega arith) (fits .0))
-      (drop-into-paste l k (i * k) p k (fits .0))
-      ∙ ap (λ r. take k l ∷ r) (parts-one-more i (drop k l) (rw (length-drop k l) (fits .1)))
-    where
-      e : suc i * k ≡ k + i * k
-      e = suc-mul i k ∙ add-comm (i * k) k
-
-      fits : (k + i * k ≤ length l) × (i * k + k ≤ length l - k)
-      fits = omega (arith, suc-mul i k)
 
 -- ---- a store filled part by part
 
@@ -174,7 +155,7 @@ module _ {B : Type 0} (width : ℕ) (decode : List ℤ → B) (one : List ℕ �
           moved : (l : List B) → map decode (parts width (i + 1) (paste store (i * width) item width)) ++ l ≡ map decode (parts width i store) ++ (decode item ∷ l)
           moved l =
               ap (λ ps. map decode ps ++ l)
-              (ap (λ k. parts width k (paste store (i * width) item width)) (add-one i) ∙ parts-one-more width item whole i store fits)
+              (ap (λ k. parts width k (paste store (i * width) item width)) (add-one i) ∙ parts-paste-end width i store item whole fits)
               ∙ ap (λ ms. ms ++ l) (map-append decode (parts width i store) (item ∷ []))
               ∙ append-snoc (map decode (parts width i store)) (decode item) l
 

@@ -10,21 +10,21 @@
 --   block-zero, column-zero   what is known of a block and of a column that were let through
 --   readPadded-is         a term is its two halves
 use Prim.Native.Nat.{ℕ, zero, suc, pred, _+_, _-_, _*_, _≤_, _<_}
-use native.Mathlib.Nat.{suc-inj, suc-ne-zero}
 use native.Mathlib.Numerals.{add-one}
 use native.Mathlib.Omega.{arith}
 use mathlib.Core.Path.{_≡_, refl, sym, ap, _∙_}
 use mathlib.Core.Bool.{true, _&&_, _||_, cond}
-use mathlib.Core.List.{List, [], _∷_, _++_, append-nil, tail}
+use mathlib.Core.List.{List, [], _∷_, _++_, append-nil}
 use lib.ListN.{length, take, drop, set, length-set}
 use lib.Seq.{append-snoc, take-suc-set}
 use lib.Dec.{T}
-use Rattle.algebra.specs.Polynomials.{Polynomial, both-true}
+use Rattle.algebra.specs.Polynomials.{Polynomial}
+use Rattle.lists.specs.Tests.{both-true}
 use lib.IntN.{ℤ, pos, natAbs, _-ℤ_}
 use lib.Signed.{leZ, ltZ, nonNeg, _≤ℤ_}
 use Rattle.rules.specs.Limits.{coefficientCount, blockLength}
 use Rattle.rules.specs.Numbers.{Read, got, fault, thenRead, field, between, judgeSmall, space}
-use Rattle.rules.specs.Calls.{padTo}
+use Rattle.lists.specs.Padded.{padTo, padTo-set}
 use Rattle.rules.specs.Stores.{Sizes}
 use Rattle.rules.specs.Sheets.{Term, judgeLast, judgeBlock, judgeColumn, always, readCoefficients, readTerm}
 use Rattle.tokens.specs.Fields.{then-got, then-fault, then-cong, then-then, leZ-true, between-size, passed}
@@ -41,15 +41,6 @@ module _ {A : Type 0} (n : ℕ) (v : A) where
   unfoldable pub prefixed : List A → ℕ → Read (List A) → Read (List A)
   unfolding thenRead padTo
   prefixed p i r = thenRead r λ l more. got (padTo n v (take i p ++ l)) more
-
-  padTo-set : (k : ℕ) (a : A) (i : ℕ) (p : List A) → length p ≡ k → p ≡ padTo k v (take i p)
-      → set p i a ≡ padTo k v (take (suc i) (set p i a))
-  unfolding padTo
-  padTo-set zero a i [] e h = refl
-  padTo-set (suc k) a i [] e h = absurd (suc-ne-zero k (sym e))
-  padTo-set zero a i (x ∷ p) e h = absurd (suc-ne-zero (length p) e)
-  padTo-set (suc k) a zero (x ∷ p) e h = ap (λ l. a ∷ l) (ap tail h)
-  padTo-set (suc k) a (suc i) (x ∷ p) e h = ap (λ l. x ∷ l) (padTo-set k a i p (suc-inj e) (ap tail h))
 
   one-more : (p : List A) (i : ℕ) (a : A) → i < length p → (r : Read (List A))
       → prefixed p i (thenRead r (λ l more. got (a ∷ l) more)) ≡ prefixed (set p i a) (i + 1) r
@@ -94,7 +85,7 @@ module _ {A : Type 0} (n : ℕ) (v : A) where
             record {
               within = inside;
               long = length-set p i (g x) ∙ so-far .long;
-              blank = rw (add-one i) (padTo-set n (g x) i p (so-far .long) (so-far .blank));
+              blank = rw (add-one i) (padTo-set v n (g x) i p (so-far .long) (so-far .blank));
               left =
                   so-far .left
                   ∙ ap (prefixed p i) (e ∙ then-got (λ x r. thenRead (others x r) (λ l more. got (g x ∷ l) more)) f)

@@ -25,9 +25,9 @@ use Rattle.rules.specs.Stores.{Sizes, equations, sizesRight, rowsOf, relationsO
 use Rattle.rules.specs.Numbers.{space, newline, Read, got, fault, thenRead, field, between}
 use Rattle.rules.specs.Rows.{Row, Relation}
 use Rattle.rules.specs.Sheets.{always, judgeLowest, Sheet, readSizes, readEquations, readRelations, readOrder, readEnd, readSheet}
-use Rattle.rules.specs.Calls.{padTo}
+use Rattle.lists.specs.Padded.{padTo}
 use Rattle.rules.specs.SheetCalls.{ReadResult, readRefusal}
-use Rattle.algebra.specs.Polynomials.{both-true}
+use Rattle.lists.specs.Tests.{both-true}
 use Rattle.tokens.specs.Fields.{readOf, fault-of, then-got, then-fault, then-cong, then-then, then-parts, field-judged, size-between, passed, between-zero}
 use Rattle.reading.specs.Terms.{padded}
 use Rattle.reading.specs.Equations.{got-value}

@@ -12,18 +12,19 @@ use native.Mathlib.Decide.{decLe}
 use mathlib.Core.Path.{_≡_, sym, _∙_, subst}
 use mathlib.Core.Logic.{by-cases}
 use mathlib.Core.Bool.{Bool, true, false, not, cond}
-use mathlib.Core.List.{List, [], _∷_, _++_, List·Mem, mem-cons-self, mem-cons-of-mem}
+use mathlib.Core.List.{[], _∷_, _++_, List·Mem}
 use lib.Dec.{T, le→leb}
 use lib.IntN.{ℤ, pos, natAbs}
 use lib.ListN.{length}
 use lib.Signed.{ltZ}
 use Rattle.algebra.specs.Gcd.{content, divideBy, length-divideBy}
-use Rattle.algebra.specs.Polynomials.{Polynomial, isZero, lowest, degree, lead, negate, T-&&, length-negate}
+use Rattle.algebra.specs.Polynomials.{Polynomial, isZero, lowest, degree, lead, negate, length-negate}
+use Rattle.lists.specs.Tests.{T-&&}
 use Rattle.algebra.specs.Coefficients.{degree-isZero}
 use Rattle.algebra.specs.Vanishing.{nonzero-past-lowest}
 use Rattle.algebra.specs.Roots.{roots, roots-sound}
 use Rattle.rules.specs.Limits.{bound, small}
-use Rattle.rules.specs.Rows.{every}
+use Rattle.lists.specs.Tested.{every, every-member}
 use Rattle.rules.specs.Elimination.{Multipliers, turnSigns, multipliers}
 use Rattle.polynomials.specs.Content.{Below, small-at, below-divideBy, below-negate}
 use Rattle.roots.specs.RootSearch.{roots-constant, lowest-small}
@@ -67,11 +68,6 @@ multipliers-fit a b s t = cases (ltZ (lead (divideBy d a)) (pos 0))
     cases false = (divided-fits d a s, negated-fits (divideBy d b) (divided-fits d b t))
 
 -- ---- the roots
-
-every-member : {A : Type 0} (t : A → Bool) (l : List A) → ((x : A) → List·Mem x l → T (t x)) → T (every t l)
-unfolding every
-every-member t [] h = tt
-every-member t (x ∷ l) h = T-&& (t x) (every t l) .1 (h x mem-cons-self, every-member t l (λ y m. h y (mem-cons-of-mem x m)))
 
 -- A root is not larger than the lowest nonzero coefficient.
 pub roots-small : (p : Polynomial) → T (every small p) → T (every small (roots p))

@@ -22,12 +22,12 @@ use lib.IntN.{ℤ}
 use lib.ListN.{length, take, drop, getD, set, length-drop}
 use lib.Seq.{paste, length-take-le, getD-set-same, getD-set-other}
 use Rattle.rules.specs.Limits.{rowLength, small}
-use Rattle.rules.specs.Rows.{noRow, every, width, entry}
+use Rattle.rules.specs.Rows.{noRow, width, entry}
+use Rattle.lists.specs.Tested.{every, every-part}
 use Rattle.rules.specs.Stores.{rowOf, rowsOf, relationsOf, rowNeed}
 use Rattle.rules.specs.Elimination.{State, rowAt, putRow, exchange, narrowFirst}
 use Rattle.rules.specs.Layout.{row-at, length-rowsOf}
 use Rattle.rows.specs.Flat.{entry-at}
-use Rattle.rows.specs.Written.{every-part}
 use Rattle.reduction.specs.declared.step.Progress.{Progress}
 use Rattle.sides.specs.Lent.{Within, Kept}
 use Rattle.reduction.specs.Progress.{state, stateOf}

@@ -11,20 +11,18 @@
 --                                and the stores are ready for a step
 --
 -- Main statements
---   padTo-more                   a member more before the padding
 --   ready-with                   a step may be made with other stores and counts
-use Prim.Native.Nat.{ℕ, zero, suc, _+_, _*_, _≤_, _<_}
-use native.Mathlib.Nat.{not-suc-le-zero, le-of-suc-le-suc}
-use mathlib.Core.Path.{_≡_, refl, ap}
+use Prim.Native.Nat.{ℕ, zero, suc, _+_, _*_, _≤_}
+use mathlib.Core.Path.{_≡_}
 use mathlib.Core.Bool.{Bool, true, false}
-use mathlib.Core.List.{List, [], _∷_, _++_}
+use mathlib.Core.List.{List, [], _∷_}
 use lib.IntN.{ℤ}
 use lib.ListN.{length, take, set}
 use Rattle.rules.specs.Limits.{columnCount, blockCount}
 use Rattle.rules.specs.Rows.{Row, Relation}
 use Rattle.rules.specs.Elimination.{State, Outcome, going, done, refused}
 use Rattle.rules.specs.Stores.{rowsOf, relationsOf, rowNeed, relationNeed}
-use Rattle.rules.specs.Calls.{padTo}
+use Rattle.lists.specs.Padded.{padTo}
 use Rattle.working.specs.Found.{Columns}
 use Rattle.sides.specs.Lent.{Within, Listing, Kept}
 use Rattle.reduction.specs.declared.step.Progress.{Progress}
@@ -81,13 +79,6 @@ pub record Ready (m : ℕ) (rows relations : List ℤ) (p : Progress) : Type 0 w
   pub four : length (p .order) ≡ columnCount
   pub columns : Columns (p .order)
   pub padded : p .order ≡ padTo columnCount 0 (take (p .settled) (p .order))
-
-pub padTo-more : {A : Type 0} (n : ℕ) (v : A) (l : List A) (x : A) → length l < n
-    → set (padTo n v l) (length l) x ≡ padTo n v (l ++ x ∷ [])
-unfolding padTo
-padTo-more zero v l x h = absurd (not-suc-le-zero h)
-padTo-more (suc n) v [] x h = refl
-padTo-more (suc n) v (y ∷ l) x h = ap (λ r. y ∷ r) (padTo-more n v l x (le-of-suc-le-suc h))
 
 -- A step may be made with other stores and counts.
 pub ready-with : {m count shifts : ℕ} {rows relations rows' relations' : List ℤ} {p : Progress} → Ready m rows relations p

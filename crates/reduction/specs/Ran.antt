@@ -25,12 +25,14 @@ use lib.ListN.{length, take, drop, replicate, length-append, length-drop, length
 use lib.Seq.{paste, take-all, take-at, drop-at, drop-drop, length-take-le}
 use Rattle.algebra.specs.Polynomials.{isZero, isZero-replicate, zero-list}
 use Rattle.rules.specs.Limits.{columnCount, relationLength, small}
-use Rattle.rules.specs.Rows.{every}
-use Rattle.rules.specs.Lists.{drop-take}
+use Rattle.lists.specs.Tested.{every}
+use Rattle.lists.specs.Taken.{drop-take}
 use Rattle.rules.specs.Stores.{rowsOf, relationsOf, rowNeed, relationNeed, rowStoreOf, relationStoreOf}
 use Rattle.rules.specs.Elimination.{Side, State, Outcome, going, done, refused, run, enough, start}
 use Rattle.rules.specs.Layout.{rowStoreOf-rowsOf, relationStoreOf-relationsOf, length-relationsOf}
-use Rattle.rules.specs.Calls.{padTo, overwrite, zeros}
+use Rattle.rules.specs.Calls.{zeros}
+use Rattle.lists.specs.Padded.{padTo}
+use Rattle.lists.specs.Overwritten.{overwrite}
 use Rattle.sides.specs.Lent.{Within, Listing, Kept}
 use Rattle.sides.specs.StoreStates.{kept-then}
 use Rattle.reduction.specs.declared.step.Progress.{Progress}

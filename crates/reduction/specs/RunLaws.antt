@@ -21,11 +21,11 @@ use lib.Dec.{leb, lit<}
 use lib.IntN.{ℤ}
 use lib.ListN.{take}
 use Rattle.rules.specs.Limits.{rowLength}
-use Rattle.rules.specs.Rows.{All}
+use Rattle.lists.specs.Everywhere.{All}
 use Rattle.rules.specs.Stores.{rowsOf, relationsOf, relationNeed, rowNeed}
 use Rattle.rules.specs.Elimination.{Side, State, Outcome, going, done, finished, step, andThen, run, enough, start}
 use Rattle.rules.specs.Layout.{length-rowsOf}
-use Rattle.rules.specs.Calls.{padTo}
+use Rattle.lists.specs.Padded.{padTo}
 use Rattle.rows.specs.Flat.{length-blocks}
 use Rattle.working.specs.Found.{Columns}
 use Rattle.reduction.specs.declared.step.Progress.{Progress}

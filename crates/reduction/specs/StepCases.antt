@@ -22,16 +22,18 @@ use lib.IntN.{ℤ}
 use lib.ListN.{length, take, drop, getD, set, length-set}
 use lib.Seq.{length-take-le, take-suc-set}
 use Rattle.algebra.specs.Polynomials.{Polynomial, isZero, isZero-append}
-use Rattle.rules.specs.Rows.{Row, All, zeroRow, entry, leadingBlock, firstNonzero}
+use Rattle.rules.specs.Rows.{Row, zeroRow, entry, leadingBlock, firstNonzero}
+use Rattle.lists.specs.Everywhere.{All}
 use Rattle.rules.specs.Stores.{rowOf, rowsOf, relationsOf, relationNeed, rowNeed}
 use Rattle.rules.specs.Elimination.{Side, State, going, refused, settle, multipliersAt}
 use Rattle.rules.specs.Elimination.{combineStep, eliminateStep, shiftStep, settleOrShift, meet, workOn, finished, step}
-use Rattle.rules.specs.Layout.{length-rowsOf, parts-length}
-use Rattle.rules.specs.Calls.{padTo}
+use Rattle.rules.specs.Layout.{length-rowsOf}
+use Rattle.lists.specs.Parts.{parts-length}
+use Rattle.lists.specs.Padded.{padTo, padTo-more}
 use Rattle.rows.specs.Flat.{block-at}
 use Rattle.working.specs.Found.{foundOr, Columns, entriesAt, length-entriesAt, getD-entriesAt}
 use Rattle.reduction.specs.declared.step.Progress.{Progress}
-use Rattle.reduction.specs.Progress.{Ready, Reached, state, stateOf, outcomeOf, answerOf, settledProgress, padTo-more, ready-with}
+use Rattle.reduction.specs.Progress.{Ready, Reached, state, stateOf, outcomeOf, answerOf, settledProgress, ready-with}
 use Rattle.sides.specs.StoreStates.{kept-same}
 use Rattle.reduction.specs.StepLaws.{metEntries}
 use Rattle.reduction.specs.Exchange.{numbersAt, narrowed, row-of, narrowed-within, narrowed-state, narrowed-one}

@@ -13,11 +13,10 @@ use mathlib.Core.List.{List, _++_}
 use lib.Dec.{T, leb, leb→le}
 use lib.ListN.{length, take}
 use Rattle.batches.specs.declared.Stream.{Stream}
-use Rattle.rules.specs.Calls.{overwrite}
+use Rattle.lists.specs.Overwritten.{overwrite, length-overwrite}
 use Rattle.batches.specs.declared.PieceResult.{PieceResult}
 use Rattle.batches.specs.declared.OutputResult.{OutputResult}
 use Rattle.batches.specs.PieceCalls.{streamCheck, callOf, pieceBy, pieceCall, OutputCall, outputOf, endText, putText, endCall}
-use Rattle.batches.specs.Answering.{length-overwrite}
 use Rattle.batches.specs.Moves.{counted-in}
 use Rattle.batches.specs.FeedLaws.{feed-room}
 use Rattle.batches.specs.PieceLaws.{check-right, call-is, piece-right, piece-taken}

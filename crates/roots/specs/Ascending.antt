@@ -24,7 +24,7 @@ use lib.ListN.{length}
 use lib.IntN.{ℤ}
 use lib.Signed.{_<ℤ_, _≤ℤ_, ltZ, ltZ-yes, clashℤ, <ℤ-irrefl}
 use Rattle.algebra.specs.Order.{<ℤ-trans, <ℤ-to-≤ℤ, ≤ℤ-of-≡, ℤ-trichotomy}
-use Rattle.algebra.specs.Polynomials.{same-test}
+use Rattle.lists.specs.Tests.{same-test}
 use Rattle.algebra.specs.Roots.{place}
 
 abbrev pub Ascending : List ℤ → Type 0

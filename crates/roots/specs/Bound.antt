@@ -25,7 +25,7 @@ use Rattle.algebra.specs.Integers.{natAbs-+ℤ, natAbs-*ℤ, natAbs-negℤ, nat
 use Rattle.algebra.specs.Polynomials.{Polynomial, coeff, eval, isZero, lead, degree}
 use Rattle.algebra.specs.Vanishing.{eval-constant}
 use Rattle.algebra.specs.Coefficients.{coeff-degree, degree-lt-length, lead-nonzero}
-use Rattle.polynomials.specs.Content.{drop-next}
+use Rattle.lists.specs.Taken.{drop-next}
 
 abbrev pub RootsBelow : Polynomial → ℕ → Type 0
 RootsBelow p n = (z : ℤ) → eval p z ≡ pos 0 → natAbs z < n
@@ -66,7 +66,7 @@ value-and-rest a b = omega (arith, ap natAbs split, natAbs-+ℤ (a +ℤ b) (neg�
 
 pub past-next : (p : Polynomial) (n i e : ℕ) → i < length p → Past p n (i + 1) e → Past p n i (e * n - natAbs (getD p i (pos 0)))
 unfolding eval
-past-next p n i e k past z h = rw (drop-next p i k) (omega (arith, value-and-rest (getD p i (pos 0)) (z *ℤ rest), product))
+past-next p n i e k past z h = rw (drop-next p i (pos 0) k) (omega (arith, value-and-rest (getD p i (pos 0)) (z *ℤ rest), product))
   where
     rest : ℤ
     rest = eval (drop (i + 1) p) z

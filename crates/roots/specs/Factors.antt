@@ -26,11 +26,9 @@ use native.Mathlib.Nat.{two-pow-succ, pow-le-pow-right}
 use native.Mathlib.Nat.{mul-one, one-mul, mul-assoc, mul-comm, mul-zero, mul-pos, mul-le-mul, mul-le-mul-left, le-mul-of-pos-right}
 use native.Mathlib.Nat.{dvd-refl, dvd-zero, dvd-trans, dvd-mul-left, le-of-dvd, pos-of-dvd-of-pos, mul-div-cancel'}
 use native.Mathlib.Nat.{dvd-of-mod-eq-zero, div-mul-cancel, le-div-iff-mul-le}
-use native.Mathlib.Numerals.{add-one}
 use native.Mathlib.Decide.{decLe}
 use native.Mathlib.Omega.{arith}
-use lib.ListN.{length, getD, drop}
-use lib.Seq.{drop-cons}
+use lib.ListN.{length}
 use Rattle.algebra.specs.Gcd.{gcd, gcd-divides-left, gcd-divides-right, gcd-le-left, divides-gcd, gcd-mul}
 use Rattle.rules.specs.Limits.{bound}
 
@@ -276,6 +274,3 @@ pub remaining-without : {n d q : ℕ} {l m : List ℕ} → Remaining n d l → R
 remaining-without {d} {l} r run =
     let fewer = le-of-dvd (product-positive l (r .simple)) (run-product run) in
     record { positive = r .positive; simple = run-simple run (r .simple); small = le-trans (mul-le-mul-left d fewer) (r .small) }
-
-pub first-factor : (l : List ℕ) (i : ℕ) → i < length l → drop i l ≡ getD l i 0 ∷ drop (i + 1) l
-first-factor l i h = rw (add-one i) (drop-cons l i 0 h)

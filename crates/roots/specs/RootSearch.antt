@@ -21,7 +21,7 @@
 --   linear-tried       a polynomial of degree 1 has one candidate
 --   roots-few          a polynomial of 16 coefficients has at most 15 roots
 --   answered-first, answered-last   the first root is the smallest and the last the largest
-use Prim.Native.Nat.{ℕ, zero, suc, _+_, _*_, _-_, _/_, _≤_, _<_, _∣_, zero-le}
+use Prim.Native.Nat.{ℕ, suc, _+_, _*_, _-_, _/_, _≤_, _<_, _∣_, zero-le}
 use mathlib.Core.Path.{_≡_, refl, sym, _∙_, ap, subst, subst₂, subst⁻¹}
 use mathlib.Core.Logic.{_≢_, _⊎_, inl, inr, ⊎-elim, by-cases}
 use mathlib.Core.Bool.{Bool, true, false, cond, not}
@@ -44,16 +44,19 @@ use Rattle.integers.specs.Ranges.{sfits-size}
 use Rattle.algebra.specs.Integers.{ringℤ, natAbs-+ℤ, natAbs-*ℤ, negℤ-unique, negℤ-*ℤ, natAbs-zero, no-zero-divisors}
 use Rattle.algebra.specs.Division.{natAbs-quotZ, quotZ-le, quotZ-exact, remZ-multiple, quotZ-multiple}
 use Rattle.algebra.specs.Order.{<ℤ-to-≤ℤ}
-use Rattle.algebra.specs.Polynomials.{Polynomial, coeff, eval, isZero, lowest, degree, isZeroℤ, same-test}
+use Rattle.algebra.specs.Polynomials.{Polynomial, coeff, eval, isZero, lowest, degree, isZeroℤ}
+use Rattle.lists.specs.Tests.{same-test}
 use Rattle.algebra.specs.Vanishing.{isZeroℤ-sound, isZeroℤ-complete, roots-at-most-degree, root-divides-lowest}
 use Rattle.algebra.specs.Vanishing.{nonzero-past-lowest}
 use Rattle.algebra.specs.Coefficients.{degree-isZero, coeff-degree, lowest-place}
 use Rattle.algebra.specs.Roots.{place, roots, ascending-distinct, roots-sound, roots-complete, roots-ascending}
 use Rattle.rules.specs.Limits.{bound, small}
-use Rattle.rules.specs.Rows.{every}
+use Rattle.lists.specs.Tested.{every}
 use Rattle.rules.specs.Elimination.{Side, leading, trailing, further, furthest}
 use Rattle.rules.specs.Calls.{rootFound, rootValue}
-use Rattle.polynomials.specs.Content.{small-at, drop-next}
+use Rattle.polynomials.specs.Content.{small-at}
+use Rattle.lists.specs.Taken.{drop-next}
+use Rattle.lists.specs.Places.{getD-member}
 use Rattle.roots.specs.Ascending.{Ascending, insert, insert-nil, first-below, ascending-unique, insert-longer}
 use Rattle.roots.specs.Ascending.{insert-new}
 use Rattle.roots.specs.Ascending.{insert-old, insert-only, insert-ascending}
@@ -168,7 +171,7 @@ module _ {p : Polynomial} {r : ℤ} {i : ℕ} {b : ℤ} (c : Chain p r i b) wher
       sizes = omega (arith, natAbs-+ℤ (quotZ b r) (getD p i (pos 0)), quotZ-le b r, small-at p t i, c .size)
 
       rest : quotZ b r +ℤ eval (drop i p) r ≡ quotZ b r +ℤ getD p i (pos 0) +ℤ r *ℤ eval (drop (i + 1) p) r
-      rest = rw (drop-next p i h) (sym (+ℤ-assoc (quotZ b r) (getD p i (pos 0)) (r *ℤ eval (drop (i + 1) p) r)))
+      rest = rw (drop-next p i (pos 0) h) (sym (+ℤ-assoc (quotZ b r) (getD p i (pos 0)) (r *ℤ eval (drop (i + 1) p) r)))
 
   pub chain-ends : length p ≤ i → isZeroℤ (eval p r) ≡ isZeroℤ b
   unfolding eval
@@ -414,7 +417,7 @@ module _ (p : Polynomial) (linear : degree p ≡ 1) where
       value = subst (λ n. eval (drop n p) z ≡ getD p n (pos 0)) linear (eval-top p z ∙ sym (coeff-degree p))
 
       split : getD p 0 (pos 0) +ℤ z *ℤ b ≡ pos 0
-      split = ap (λ v. getD p 0 (pos 0) +ℤ z *ℤ v) (sym value) ∙ ap (λ q. eval q z) (sym (drop-next p 0 (omega (arith, linear-length)))) ∙ root
+      split = ap (λ v. getD p 0 (pos 0) +ℤ z *ℤ v) (sym value) ∙ ap (λ q. eval q z) (sym (drop-next p 0 (pos 0) (omega (arith, linear-length)))) ∙ root
 
       quotient : quotZ (getD p 0 (pos 0)) b ≡ negℤ z
       quotient =
@@ -459,11 +462,6 @@ roots-few p h = roots-cases p (λ l. length l ≤ 15) zero-le few
 below-leZ : {x y : ℤ} → x <ℤ y → leZ x y ≡ true
 below-leZ {x} {y} h = same-test (leZ x y) true (λ _. tt) (λ _. <ℤ-to-≤ℤ h .le)
 
-getD-member : (l : List ℤ) (i : ℕ) → i < length l → List·Memᴰ (getD l i (pos 0)) l
-getD-member [] i h = absurd (omega arith)
-getD-member (a ∷ l) zero h = List·Memᴰ·head refl
-getD-member (a ∷ l) (suc i) h = List·Memᴰ·tail (getD-member l i (omega arith))
-
 furthest-first : (a : ℤ) (l : List ℤ) → Ascending (a ∷ l) → furthest trailing (a ∷ l) ≡ some a
 unfolding furthest
 furthest-first a [] h = refl
@@ -476,7 +474,7 @@ unfolding furthest
 furthest-last a [] h = refl
 furthest-last a (b ∷ l) h =
     ap (λ o. some (further leading a o)) (furthest-last b l (Pairwise·of-cons h))
-    ∙ ap (λ t. some (cond t last a)) (below-leZ (first-below h (getD-member (b ∷ l) (length l) (omega arith))))
+    ∙ ap (λ t. some (cond t last a)) (below-leZ (first-below h (getD-member (b ∷ l) (length l) (pos 0) (omega arith))))
   where
     last : ℤ
     last = getD (b ∷ l) (length l) (pos 0)

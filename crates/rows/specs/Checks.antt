@@ -5,24 +5,25 @@
 --   placeRight m D l q   is it zero if so, and otherwise within ±C?
 --
 -- Main statements
---   every-false          a member that fails a test fails it for all
 --   row-true, row-false  a row passes its check exactly if every polynomial passes
-use Prim.Native.Nat.{ℕ, zero, suc, _+_, _*_, _/_, _%_, _≤_, _<_, zero-le}
-use native.Mathlib.Nat.{not-suc-le-zero, le-of-suc-le-suc}
+use Prim.Native.Nat.{ℕ, suc, _+_, _*_, _/_, _%_, _≤_, _<_, zero-le}
 use native.Mathlib.Omega.{arith}
-use mathlib.Core.Path.{_≡_, refl, sym, _∙_, ap, subst}
+use mathlib.Core.Path.{_≡_, sym, _∙_, ap, subst}
 use mathlib.Core.Logic.{_↔_, _⊎_, inl, inr, ⊎-elim}
-use mathlib.Core.Bool.{Bool, true, false, _&&_, _||_, cond, and-false}
+use mathlib.Core.Bool.{Bool, true, false, _&&_, _||_, cond}
 use mathlib.Core.List.{List, [], _∷_}
 use lib.Dec.{T, ltb, leb, ltb→lt, lt→ltb, leb→le, le→leb}
 use lib.IntN.{ℤ}
 use lib.ListN.{length, take, drop, getD}
-use Rattle.algebra.specs.Polynomials.{isZero, isZero-cons, T-&&}
-use Rattle.rules.specs.Limits.{coefficientCount, columnCount, blockCount, polynomialCount, blockLength, small}
-use Rattle.rules.specs.Rows.{Block, every, zeroBlock, smallRow}
+use Rattle.algebra.specs.Polynomials.{isZero, isZero-cons}
+use Rattle.lists.specs.Tests.{T-&&, true-of, false-of}
+use Rattle.rules.specs.Limits.{small, coefficientCount, columnCount, blockCount, polynomialCount, blockLength}
+use Rattle.rules.specs.Rows.{Block, zeroBlock, smallRow}
+use Rattle.lists.specs.Tested.{every, every-from-at, every-from-all}
 use Rattle.rules.specs.Stores.{rowOf, unusedZero}
-use Rattle.rules.specs.Layout.{coefficientsAt, blockAt, polynomialsIn, parts-length, getD-parts, polynomial-at-row}
-use Rattle.rows.specs.Flat.{smallRow-rowOf, every-from-at, every-from-all, length-blocks, block-at}
+use Rattle.lists.specs.Parts.{parts, parts-length, getD-parts}
+use Rattle.rules.specs.Layout.{polynomial-at-row, coefficientsAt, blockAt, polynomialsIn}
+use Rattle.rows.specs.Flat.{smallRow-rowOf, length-blocks, block-at}
 
 -- Polynomial q lies in block q / columnCount, counted from block l down, and in column q % columnCount.
 unfoldable pub outside : ℕ → ℕ → ℕ → Bool
@@ -31,22 +32,6 @@ outside m D q = ltb D (q / columnCount) || leb m (q % columnCount)
 unfoldable pub placeRight : ℕ → ℕ → List ℤ → ℕ → Bool
 unfolding outside isZero every small
 placeRight m D l q = cond (outside m D q) (isZero (coefficientsAt l q)) (every small (coefficientsAt l q))
-
--- ---- tests of all members
-
-pub every-false : {A : Type 0} (t : A → Bool) (l : List A) (i : ℕ) (d : A) → i < length l → t (getD l i d) ≡ false → every t l ≡ false
-unfolding every
-every-false t [] i d h e = absurd (not-suc-le-zero h)
-every-false t (x ∷ l) zero d h e = ap (λ b. b && every t l) e
-every-false t (x ∷ l) (suc i) d h e = ap (λ b. t x && b) (every-false t l i d (le-of-suc-le-suc h) e) ∙ and-false (t x)
-
-pub true-of : (t : Bool) → T t → t ≡ true
-true-of true h = refl
-true-of false h = absurd h
-
-pub false-of : (t : Bool) → (T t → ⊥) → t ≡ false
-false-of true h = absurd (h tt)
-false-of false h = refl
 
 -- ---- the polynomials of a row, by their places
 

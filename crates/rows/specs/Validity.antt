@@ -8,16 +8,13 @@
 --   rowRight-test, relationRight-test   they are the checks of `rules`
 --   relation-at, index-at, row-after    the place of a relation in a store, of its n0 and of its row
 --   unused-part             the places past the count, as a part of the store
---   and-second, and-first, and-joined   what `s && t` is where s passed, where s failed, and where the two cases meet
---   first-failed, second-failed, both-passed   what `s && t && u` is where s failed, where t failed, and where both passed
 --   difference-fits         l - t is in the range of an i64 where -64 ≤ t ≤ l ≤ 64
 --   difference-nonneg       l - t is not negative where t ≤ l
 use Prim.Native.Nat.{ℕ, _+_, _*_, _-_, _≤_, _<_}
 use native.Mathlib.Nat.{add-zero}
 use native.Mathlib.Omega.{arith}
-use mathlib.Core.Path.{_≡_, refl, sym, _∙_, ap, ap₂, subst}
-use mathlib.Core.Logic.{_⊎_, ⊎-elim}
-use mathlib.Core.Bool.{Bool, true, false, _&&_}
+use mathlib.Core.Path.{_≡_, refl, sym, _∙_, ap}
+use mathlib.Core.Bool.{Bool, _&&_}
 use mathlib.Core.List.{List, [], _∷_}
 use lib.Dec.{T, lit<}
 use lib.ListN.{take, drop, getD, List·getD-map}
@@ -30,10 +27,10 @@ use Rattle.algebra.specs.Order.{≤ℤ-trans, +ℤ-≤ℤ-left, +ℤ-≤ℤ-rig
 use Rattle.integers.specs.Ranges.{sfits-size}
 use Rattle.rules.specs.Limits.{rowLength, relationLength, small}
 use Rattle.rules.specs.Rows.{Row, Relation, smallRow}
-use Rattle.rules.specs.Lists.{drop-take}
+use Rattle.lists.specs.Taken.{drop-take}
 use Rattle.rules.specs.Stores as Stores
-use Rattle.rules.specs.Stores.{span, parts, rowOf, relationOf, relationsOf, relationNeed, unusedZero, rowRight, relationRight}
-use Rattle.rules.specs.Layout.{getD-parts}
+use Rattle.rules.specs.Stores.{span, rowOf, relationOf, relationsOf, relationNeed, unusedZero, rowRight, relationRight}
+use Rattle.lists.specs.Parts.{parts, getD-parts}
 use Rattle.rows.specs.declared.validity.Sizes.{Sizes}
 
 unfoldable pub sizesOf : Sizes → Stores.Sizes
@@ -88,32 +85,6 @@ unused-part count l h =
     let whole : count * relationLength + (relationNeed - count * relationLength) ≡ relationNeed = omega arith in
     sym (drop-take (count * relationLength) (relationNeed - count * relationLength) l)
     ∙ ap (λ n. drop (count * relationLength) (take n l)) whole
-
--- ---- two tests, the second made where the first passed
-
-pub and-second : (s t : Bool) → s ≡ true → t ≡ (s && t)
-and-second s t e = ap (λ b. b && t) (sym e)
-
-pub and-first : (s t : Bool) → s ≡ false → s ≡ (s && t)
-and-first s t e = e ∙ ap (λ b. b && t) (sym e)
-
-pub and-joined : {P Q : Type 0} (r s t : Bool) → (P → s ≡ true) → (Q → s ≡ false) → (P × (r ≡ t)) ⊎ (Q × (r ≡ s)) → r ≡ (s && t)
-and-joined r s t taken left came =
-    ⊎-elim (λ w. w .1 ∙ and-second s t (taken (w .0))) (λ w. w .1 ∙ and-first s t (left (w .0))) came
-
-pub true-T : (t : Bool) → t ≡ true → T t
-true-T t e = subst T (sym e) tt
-
--- ---- three tests in order
-
-pub first-failed : (s t u : Bool) → s ≡ false → false ≡ (s && t && u)
-first-failed s t u e = sym (ap (λ b. b && t && u) e)
-
-pub second-failed : (s t u : Bool) → s ≡ true → t ≡ false → false ≡ (s && t && u)
-second-failed s t u e f = sym (ap₂ (λ a b. a && b && u) e f)
-
-pub both-passed : (s t u : Bool) → s ≡ true → t ≡ true → u ≡ (s && t && u)
-both-passed s t u e f = sym (ap₂ (λ a b. a && b && u) e f)
 
 -- ---- D = l - t
 

@@ -4,42 +4,18 @@
 --   front l n      the first n members of l, and zeros in place of the others
 --
 -- Main statements
---   every-take, every-drop, every-part   what all members pass, all members of a part pass
 --   front-none, front-put, front-skip, front-all, front-whole   none written, one part of 16 more, one that is zero, all
---   part-flatten   part i of lists of one width, joined
 use mathlib.Core.Path.{_≡_, sym, _∙_, ap, ap₂}
-use mathlib.Core.Bool.{Bool}
-use mathlib.Core.List.{List, [], _∷_, _++_, flatten, append-assoc}
-use Prim.Native.Nat.{ℕ, zero, suc, _+_, _*_, _-_, _≤_, _<_}
+use mathlib.Core.List.{List, _++_, append-assoc}
+use Prim.Native.Nat.{ℕ, _+_, _*_, _-_, _≤_}
 use native.Mathlib.Nat.{sub-zero}
 use native.Mathlib.Omega.{arith}
 use lib.Dec.{T}
 use lib.IntN.{ℤ, pos}
-use lib.ListN.{length, take, drop, getD, replicate, length-append, length-drop, length-replicate, replicate-append-replicate, take-append-drop}
+use lib.ListN.{length, take, drop, replicate, length-append, length-drop, length-replicate, replicate-append-replicate, take-append-drop}
 use lib.Seq.{drop-length, take-add, take-at, drop-at, length-take-le}
-use Rattle.algebra.specs.Polynomials.{isZero, zero-list, T-&&}
+use Rattle.algebra.specs.Polynomials.{isZero, zero-list}
 use Rattle.rules.specs.Limits.{coefficientCount}
-use Rattle.rules.specs.Rows.{All, every}
-use Rattle.rules.specs.Layout.{parts-flatten, getD-parts}
-
--- ---- a part of a list
-
-module _ {A : Type 0} (t : A → Bool) where
-  pub every-take : (n : ℕ) (l : List A) → T (every t l) → T (every t (take n l))
-  unfolding every
-  every-take zero l h = tt
-  every-take (suc n) [] h = tt
-  every-take (suc n) (x ∷ l) h = let e = T-&& (t x) (every t l) .0 h in T-&& (t x) (every t (take n l)) .1 (e .0, every-take n l (e .1))
-
-  pub every-drop : (n : ℕ) (l : List A) → T (every t l) → T (every t (drop n l))
-  unfolding every
-  every-drop zero l h = h
-  every-drop (suc n) [] h = tt
-  every-drop (suc n) (x ∷ l) h = every-drop n l (T-&& (t x) (every t l) .0 h .1)
-
-  -- What every member passes, every member of a part passes.
-  pub every-part : (n m : ℕ) (l : List A) → T (every t l) → T (every t (take m (drop n l)))
-  every-part n m l h = every-take m (drop n l) (every-drop n l h)
 
 -- ---- a list written part by part over zeros
 
@@ -107,11 +83,3 @@ module _ (l : List ℤ) (e : ℕ) (h : e * coefficientCount + coefficientCount �
       part-zeros =
           zero-list (take coefficientCount (drop n l)) z
           ∙ ap (λ m. replicate m (pos 0)) (length-take-le coefficientCount (drop n l) (rw length-drop (omega arith)))
-
--- ---- lists of one width, joined
-
-module _ {A : Type 0} (k : ℕ) where
-  pub part-flatten : (n : ℕ) (ls : List (List A)) (rest : List A) → length ls ≡ n → All (λ p. length p ≡ k) ls → (i : ℕ) → i < n
-      → take k (drop (i * k) (flatten ls ++ rest)) ≡ getD ls i []
-  part-flatten n ls rest e h i below =
-      sym (getD-parts k n (flatten ls ++ rest) i below) ∙ ap (λ ps. getD ps i []) (parts-flatten k n ls rest e h)

@@ -7,8 +7,9 @@ ghost use mathlib.Core.Bool.{_&&_};
 ghost use Prim.Native.Nat.{_+_, _*_, _≤_};
 ghost use lib.ListN.{length};
 ghost use Rattle.algebra.specs.Polynomials.{isZero};
-ghost use Rattle.rules.specs.Limits.{coefficientCount, rowLength, small};
-ghost use Rattle.rules.specs.Rows.{every, smallRow};
+ghost use Rattle.rules.specs.Limits.{rowLength, small, coefficientCount};
+ghost use Rattle.rules.specs.Rows.{smallRow};
+ghost use Rattle.lists.specs.Tested.{every};
 ghost use Rattle.rules.specs.Stores.{rowOf, unusedZero};
 ghost use Rattle.rows.specs.Checks.{placeRight};
 

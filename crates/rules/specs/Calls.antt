@@ -6,13 +6,15 @@
 --   polynomialCheck, polynomialPart   the part of the row store that holds one polynomial, and the check on the same values
 use Prim.Native.Nat.{ℕ, zero, suc, _+_, _*_, pred}
 use mathlib.Core.Bool.{Bool, true, false, _&&_, cond}
-use mathlib.Core.List.{List, [], _∷_, _++_, map}
+use mathlib.Core.List.{List, [], map}
 use mathlib.Core.Option.{Option, none, some}
 use lib.Dec.{leb}
 use lib.ListN.{length, take, drop, replicate}
 use lib.IntN.{ℤ, pos, natAbs, _-ℤ_}
 use lib.Signed.{leZ}
-use Rattle.rules.specs.Limits.{coefficientCount, columnCount, blockLength, rowLength}
+use Rattle.lists.specs.Padded.{padTo}
+use Rattle.lists.specs.Overwritten.{overwrite}
+use Rattle.rules.specs.Limits.{coefficientCount, columnCount, rowLength, blockLength}
 use Rattle.rules.specs.Elimination.{Side, State, Outcome, going, done, refused, wholeRun, report, neverNumber}
 use Rattle.rules.specs.Stores.{Sizes, equations, span, rowsOf, relationsOf, rowNeed, relationNeed, rowStoreOf, relationStoreOf, sizesRight, checkStores}
 
@@ -29,12 +31,6 @@ pub record Call : Type 0 where
   pub result : Result
   pub rowStore : List ℤ
   pub relationStore : List ℤ
-
--- The first n members of l, and v for those that l lacks.
-unfoldable pub padTo : {A : Type 0} → ℕ → A → List A → List A
-padTo zero v l = []
-padTo (suc n) v [] = v ∷ padTo n v []
-padTo (suc n) v (x ∷ l) = x ∷ padTo n v l
 
 -- A refusal returns its number, and 0 in all other fields (SCOPE 6.31).
 unfoldable pub refusal : ℕ → Result
@@ -59,10 +55,6 @@ unfolding reportedOrder rootFound rootValue report
 acceptance side D s =
     let root = report side D s in
     record { refusal = 0; relations = length (s .relations); shifts = s .shifts; order = reportedOrder (s .order); hasRoot = rootFound root; root = rootValue root }
-
--- The store with its needed part replaced; what lies behind it does not change (SCOPE 3.12).
-unfoldable pub overwrite : {A : Type 0} → List A → List A → List A
-overwrite part store = part ++ drop (length part) store
 
 unfoldable pub zeros : ℕ → List ℤ
 zeros n = replicate n (pos 0)

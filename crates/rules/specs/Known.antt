@@ -13,7 +13,8 @@ use lib.ListN.{replicate}
 use lib.IntN.{ℤ, pos, negsuc, _+ℤ_, _*ℤ_, zero-*ℤ, +ℤ-idl, +ℤ-idr}
 use Rattle.algebra.specs.Integers.{*ℤ-+ℤ, *ℤ-assoc}
 use Rattle.algebra.specs.Polynomials.{Polynomial}
-use Rattle.rules.specs.Rows.{Row, Relation, All}
+use Rattle.rules.specs.Rows.{Row, Relation}
+use Rattle.lists.specs.Everywhere.{All}
 use Rattle.rules.specs.Stores.{Sizes, span}
 use Rattle.rules.specs.Sequences.{Sequence, valueOf}
 use Rattle.rules.specs.Elimination.{Side, leading, trailing, State, done, refused, wholeRun, report}

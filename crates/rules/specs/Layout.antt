@@ -8,10 +8,6 @@
 --   SizeBounds, PlaceBounds       the facts behind right sizes, and behind a right place in the row store
 --
 -- Main statements
---   length-padTo                  a list with a value up to a length has that length
---   parts-length, parts-width     `parts k n l` has n members, each of length k where l is long enough
---   flatten-parts, parts-flatten  the parts joined are the front of l; lists of one width, joined, are parted again
---   getD-parts                    part i begins at i * k
 --   rowOf-coefficientsOf, coefficientsOf-rowOf, rowsOf-rowStoreOf, rowStoreOf-rowsOf
 --                                 rows are read as they were written, and written as they were read
 --   relationOf-relationNumbers, relationNumbers-relationOf, relationsOf-relationStoreOf, relationStoreOf-relationsOf
@@ -21,119 +17,34 @@
 --                                 the place of each coefficient, and of each polynomial, in a row store
 --   equations-few                 right sizes have few equations
 --   polynomialPart-at             the part that a caller gets back is the polynomial of the row, block and column
-use Prim.Native.Nat.{ℕ, zero, suc, pred, _+_, _*_, _-_, _≤_, _<_, suc-le-suc}
-use native.Mathlib.Nat.{not-suc-le-zero, le-of-suc-le-suc, le-of-eq, suc-inj, suc-ne-zero, zero-mul, add-assoc}
+use Prim.Native.Nat.{ℕ, suc, pred, _+_, _*_, _-_, _≤_, _<_, suc-le-suc}
+use native.Mathlib.Nat.{le-of-eq, suc-inj, suc-ne-zero, add-assoc}
 use native.Mathlib.Omega.{arith}
 use mathlib.Core.Path.{_≡_, refl, sym, _∙_, ap, ap₂}
 use mathlib.Core.Logic.{_↔_}
-use mathlib.Core.Bool.{Bool, true, false, _&&_, cond}
+use mathlib.Core.Bool.{_&&_, cond}
 use mathlib.Core.List.{List, [], _∷_, _++_, map, flatten, append-assoc, append-nil}
 use lib.Dec.{T, leb, leb→le, le→leb}
-use lib.ListN.{length, take, drop, getD, replicate, length-append, length-take, length-drop, length-map, length-replicate, take-append-drop}
-use lib.Seq.{take-add, take-take, take-at, take-all, drop-at, drop-drop, getD-take, getD-drop, length-take-le}
+use lib.ListN.{length, take, drop, getD, replicate, length-append, length-take, length-drop, length-replicate, take-append-drop}
+use lib.Seq.{take-take, take-at, take-all, drop-at, getD-take, getD-drop}
 use lib.IntN.{ℤ, pos, negℤ, natAbs, _-ℤ_}
 use lib.Signed.{leZ-yes, _≤ℤ_}
 use Rattle.algebra.specs.Order.{≤ℤ-trans, ≤ℤ-difference, negℤ-≤ℤ, +ℤ-≤ℤ-left, natAbs-≤-iff}
-use Rattle.algebra.specs.Polynomials.{T-&&, isZero, isZero-replicate, zero-list}
-use Rattle.rules.specs.Limits.{coefficientCount, columnCount, mostSpan, blockCount, polynomialCount, blockLength, mostEquations, rowLength}
-use Rattle.rules.specs.Limits.{relationLength, mostRelations, blockBound}
-use Rattle.rules.specs.Rows.{Block, Row, Relation, noRow, All, every, coefficientsOf}
-use Rattle.rules.specs.Lists.{all-mono, map-keeps, map-back, flatten-flatten, length-flatten, suc-width, drop-take, getD-map}
-use Rattle.rules.specs.Lists.{cond-passed}
-use Rattle.rules.specs.Stores.{Sizes, equations, parts, rowOf, rowsOf, relationOf, relationsOf, relationNumbers, rowStoreOf, relationStoreOf}
+use Rattle.algebra.specs.Polynomials.{isZero, isZero-replicate, zero-list}
+use Rattle.lists.specs.Tests.{T-&&, cond-zero, cond-passed}
+use Rattle.lists.specs.Taken.{part-of-part}
+use Rattle.lists.specs.Parts.{parts-length, flatten-parts, parts-width, parts-short, parts-flatten, getD-parts, parts}
+use Rattle.lists.specs.Parts.{read-written, length-written, length-read, all-read, write-read}
+use Rattle.rules.specs.Limits.{coefficientCount, columnCount, blockCount, rowLength, relationLength, mostRelations, blockBound, mostSpan, polynomialCount, blockLength, mostEquations}
+use Rattle.rules.specs.Rows.{Block, Row, Relation, noRow, coefficientsOf}
+use Rattle.lists.specs.Everywhere.{All}
+use Rattle.lists.specs.Tested.{every}
+use Rattle.lists.specs.Images.{getD-map}
+use Rattle.lists.specs.Joined.{flatten-flatten, length-flatten}
+use Rattle.rules.specs.Stores.{Sizes, rowOf, rowsOf, relationOf, relationsOf, relationNumbers, rowStoreOf, relationStoreOf, equations}
 use Rattle.rules.specs.Stores.{rowNeed, relationNeed, sizesRight, countRight, lengthsRight, rowRight, relationRight, numbersRight}
 use Rattle.rules.specs.Stores.{checkStores, Shaped, StoreRow, Valid}
-use Rattle.rules.specs.Calls.{padTo, placeRight, polynomialCheck, polynomialPlace, partAt, polynomialPart}
-
--- ---- lists of one length
-
-pub length-padTo : {A : Type 0} (n : ℕ) (v : A) (l : List A) → length (padTo n v l) ≡ n
-unfolding padTo
-length-padTo zero v l = refl
-length-padTo (suc n) v [] = ap suc (length-padTo n v [])
-length-padTo (suc n) v (x ∷ l) = ap suc (length-padTo n v l)
-
--- ---- parts of one width
-
-module _ {A : Type 0} where
-  pub parts-length : (k n : ℕ) (l : List A) → length (parts k n l) ≡ n
-  unfolding parts
-  parts-length k zero l = refl
-  parts-length k (suc n) l = ap suc (parts-length k n (drop k l))
-
-  pub flatten-parts : (k n : ℕ) (l : List A) → flatten (parts k n l) ≡ take (n * k) l
-  unfolding parts flatten
-  flatten-parts k zero l = ap (λ j. take j l) (sym (zero-mul k))
-  flatten-parts k (suc n) l =
-      ap (λ r. take k l ++ r) (flatten-parts k n (drop k l)) ∙ sym (take-add k (n * k) l) ∙ ap (λ j. take j l) (sym (suc-width n k))
-
-  pub parts-width : (k n : ℕ) (l : List A) → n * k ≤ length l → All (λ p. length p ≡ k) (parts k n l)
-  unfolding parts All
-  parts-width k zero l h = tt
-  parts-width k (suc n) l h = (length-take-le k l (fits .0), parts-width k n (drop k l) (fits .1))
-    where
-      fits : (k ≤ length l) × (n * k ≤ length (drop k l))
-      fits = simp length-drop (omega (arith, suc-width n k))
-
-  -- Where l is not long enough, the parts are shorter.
-  parts-short : (k n : ℕ) (l : List A) → All (λ p. length p ≤ k) (parts k n l)
-  unfolding parts All
-  parts-short k zero l = tt
-  parts-short k (suc n) l = (rw length-take (omega arith), parts-short k n (drop k l))
-
-  -- Lists of width k that were joined are parted again, whatever follows.
-  pub parts-flatten : (k n : ℕ) (ls : List (List A)) (rest : List A) → length ls ≡ n → All (λ p. length p ≡ k) ls
-      → parts k n (flatten ls ++ rest) ≡ ls
-  unfolding parts flatten All
-  parts-flatten k zero [] rest e h = refl
-  parts-flatten k (suc n) [] rest e h = absurd (suc-ne-zero n (sym e))
-  parts-flatten k zero (l ∷ ls) rest e h = absurd (suc-ne-zero (length ls) e)
-  parts-flatten k (suc n) (l ∷ ls) rest e h =
-      ap (λ s. take k s ∷ parts k n (drop k s)) (append-assoc l (flatten ls) rest)
-      ∙ ap₂ (λ p s. p ∷ parts k n s) (take-at l (flatten ls ++ rest) k (h .0)) (drop-at l (flatten ls ++ rest) k (h .0))
-      ∙ ap (λ r. l ∷ r) (parts-flatten k n ls rest (suc-inj e) (h .1))
-
-  pub getD-parts : (k n : ℕ) (l : List A) (i : ℕ) → i < n → getD (parts k n l) i [] ≡ take k (drop (i * k) l)
-  unfolding parts
-  getD-parts k zero l i h = absurd (not-suc-le-zero h)
-  getD-parts k (suc n) l zero h = ap (λ j. take k (drop j l)) (sym (zero-mul k))
-  getD-parts k (suc n) l (suc i) h =
-      getD-parts k n (drop k l) i (le-of-suc-le-suc h)
-      ∙ ap (take k) (drop-drop (i * k) k l ∙ ap (λ j. drop j l) (sym (suc-width i k)))
-
--- ---- things of one width, written end to end
-
--- B's members are written by `encode`, k numbers each, and read by `decode`: the polynomials of a block, the blocks of a row,
--- and the rows and relations of a store.
-module _ {A B : Type 0} (k : ℕ) (decode : List A → B) (encode : B → List A) where
-  widths : (P : B → Type 0) → ((x : B) → P x → length (encode x) ≡ k) → (xs : List B) → All P xs
-      → All (λ p. length p ≡ k) (map encode xs)
-  widths P width xs h = map-keeps P (λ p. length p ≡ k) encode width xs h
-
-  -- What is written is read back, whatever follows it.
-  read-written : (P : B → Type 0) → ((x : B) → P x → decode (encode x) ≡ x) → ((x : B) → P x → length (encode x) ≡ k)
-      → (n : ℕ) (xs : List B) (rest : List A) → length xs ≡ n → All P xs → map decode (parts k n (flatten (map encode xs) ++ rest)) ≡ xs
-  read-written P back width n xs rest e h =
-      ap (map decode) (parts-flatten k n (map encode xs) rest (length-map xs encode ∙ e) (widths P width xs h))
-      ∙ map-back encode decode xs (all-mono P (λ x. decode (encode x) ≡ x) back xs h)
-
-  length-written : (P : B → Type 0) → ((x : B) → P x → length (encode x) ≡ k)
-      → (xs : List B) → All P xs → length (flatten (map encode xs)) ≡ length xs * k
-  length-written P width xs h =
-      length-flatten k (map encode xs) (widths P width xs h) ∙ ap (λ n. n * k) (length-map xs encode)
-
-  length-read : (n : ℕ) (l : List A) → length (map decode (parts k n l)) ≡ n
-  length-read n l = length-map (parts k n l) decode ∙ parts-length k n l
-
-  all-read : (P : B → Type 0) → ((p : List A) → length p ≡ k → P (decode p))
-      → (n : ℕ) (l : List A) → n * k ≤ length l → All P (map decode (parts k n l))
-  all-read P each n l h = map-keeps (λ p. length p ≡ k) P decode each (parts k n l) (parts-width k n l h)
-
-  -- What is read is written again as it was.
-  write-read : (P : List A → Type 0) → ((l : List A) → P l → encode (decode l) ≡ l)
-      → (n : ℕ) (l : List A) → All P (parts k n l) → flatten (map encode (map decode (parts k n l))) ≡ take (n * k) l
-  write-read P back n l h =
-      ap flatten (map-back decode encode (parts k n l) (all-mono P (λ l. encode (decode l) ≡ l) back (parts k n l) h)) ∙ flatten-parts k n l
+use Rattle.rules.specs.Calls.{placeRight, polynomialCheck, polynomialPlace, partAt, polynomialPart}
 
 -- ---- rows
 
@@ -307,11 +218,6 @@ relationStoreOf-relationsOf count l few long zeros =
 
 -- ---- the checks
 
--- A check that gives no refusal has passed, and so have those after it.
-cond-zero : (t : Bool) (a b : ℕ) → cond t a (suc b) ≡ 0 → T t × (a ≡ 0)
-cond-zero true a b e = (tt, e)
-cond-zero false a b e = absurd (suc-ne-zero b e)
-
 -- Sizes and count first, then lengths, then numbers.
 pub checkStores-order : (z : Sizes) (count : ℕ) (rowStore relationStore : List ℤ)
     → checkStores z count rowStore relationStore
@@ -439,15 +345,6 @@ valid-stores-exact z rows relations v =
     ∙ valid-stores z rows relations [] [] v
 
 -- ---- one polynomial
-
--- A part of a part is a part.
-part-of-part : {A : Type 0} (i j k n : ℕ) (l : List A) → j + k ≤ n → take k (drop j (take n (drop i l))) ≡ take k (drop (i + j) l)
-part-of-part i j k n l h =
-    ap (λ m. take k (drop j (take m (drop i l)))) whole ∙ ap (take k) (drop-take j (n - j) (drop i l))
-    ∙ take-take k (n - j) (drop j (drop i l)) (omega arith) ∙ ap (take k) (drop-drop j i l)
-  where
-    whole : n ≡ j + (n - j)
-    whole = omega arith
 
 pub row-at : (m : ℕ) (l : List ℤ) (i : ℕ) → i < m → getD (rowsOf m l) i noRow ≡ rowOf (take rowLength (drop (i * rowLength) l))
 unfolding rowsOf

@@ -1,6 +1,5 @@
 pub mod Limits
 pub mod Rows
-pub mod Lists
 pub mod Elimination
 pub mod Stores
 pub mod Sequences

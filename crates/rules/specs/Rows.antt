@@ -11,7 +11,7 @@
 --   shiftUp r             every block moved up by one and n + 1 for n
 --   mirrorRow D r         block -s for s and -n for n, D + 1 blocks being in use
 use Prim.Native.Nat.{ℕ, zero, suc}
-use mathlib.Core.Bool.{Bool, true, false, _&&_, not, cond}
+use mathlib.Core.Bool.{Bool, false, _&&_, not, cond}
 use mathlib.Core.List.{List, [], _∷_, _++_, map, reverse, tail, flatten, zipWith}
 use mathlib.Core.Option.{Option, none, some, Option·map}
 use lib.Dec.{eqb}
@@ -19,6 +19,7 @@ use lib.ListN.{take, drop, getD}
 use lib.IntN.{ℤ, pos, negℤ}
 use Rattle.algebra.specs.Gcd.{content, divideBy}
 use Rattle.algebra.specs.Polynomials.{Polynomial, isZero, add, mul, shift, mirror}
+use Rattle.lists.specs.Tested.{every}
 use Rattle.rules.specs.Limits.{coefficientCount, small}
 
 abbrev pub Block : Type 0
@@ -34,16 +35,6 @@ pub record Relation : Type 0 where
 
 abbrev pub noRow : Row
 noRow = record { blocks = [] }
-
--- Does every member pass the test?
-unfoldable pub every : {A : Type 0} → (A → Bool) → List A → Bool
-every t [] = true
-every t (x ∷ l) = t x && every t l
-
--- Every member of a list has the property.
-unfoldable pub All : {A : Type 0} → (A → Type 0) → List A → Type 0
-All P [] = Unit {0}
-All P (x ∷ l) = P x × All P l
 
 -- The row with f applied to each of its polynomials.
 unfoldable pub mapRow : (Polynomial → Polynomial) → Row → Row

@@ -15,7 +15,8 @@ use lib.ListN.{getD, length}
 use lib.IntN.{ℤ, pos, negsuc, natAbs, predℤ, _+ℤ_, _-ℤ_, _*ℤ_}
 use Rattle.algebra.specs.Sums.{countFrom}
 use Rattle.algebra.specs.Polynomials.{Polynomial, eval, isZero, add, mul, shiftBy}
-use Rattle.rules.specs.Rows.{Block, Row, Relation, noRow, All}
+use Rattle.rules.specs.Rows.{Block, Row, Relation, noRow}
+use Rattle.lists.specs.Everywhere.{All}
 
 -- Two-sided: any integer is an index (SCOPE 1.11, 1.13). Columns are counted from 0 here.
 abbrev pub Sequence : Type 0

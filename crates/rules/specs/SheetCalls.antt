@@ -10,9 +10,10 @@ use lib.Dec.{leb, eqb}
 use lib.ListN.{length, take, drop, replicate}
 use lib.IntN.{ℤ, pos}
 use Rattle.rules.specs.Limits.{columnCount}
-use Rattle.rules.specs.Rows.{every}
-use Rattle.rules.specs.Stores.{Sizes, equations, rowsOf, relationsOf, rowStoreOf, relationStoreOf, sizesRight, countRight, lengthsRight, numbersRight}
-use Rattle.rules.specs.Calls.{padTo, overwrite}
+use Rattle.lists.specs.Tested.{every}
+use Rattle.rules.specs.Stores.{Sizes, rowsOf, relationsOf, rowStoreOf, relationStoreOf, sizesRight, countRight, lengthsRight, numbersRight, equations}
+use Rattle.lists.specs.Padded.{padTo}
+use Rattle.lists.specs.Overwritten.{overwrite}
 use Rattle.rules.specs.Numbers.{Read, got, fault}
 use Rattle.rules.specs.Sheets.{Sheet, contains, readSheet, writeSheet}
 

@@ -14,8 +14,8 @@ use lib.Signed.{leZ, ltZ}
 use Rattle.algebra.specs.Polynomials.{Polynomial, isZero, isZeroℤ}
 use Rattle.rules.specs.Limits.{coefficientCount, columnCount, mostSpan, blockCount, mostRelations, blockBound, small}
 use Rattle.rules.specs.Rows.{Block, Row, Relation}
-use Rattle.rules.specs.Stores.{Sizes, equations, span}
-use Rattle.rules.specs.Calls.{padTo}
+use Rattle.rules.specs.Stores.{Sizes, span, equations}
+use Rattle.lists.specs.Padded.{padTo}
 use Rattle.rules.specs.Numbers.{space, newline, Read, got, fault, thenRead, field, between, judgeSmall, lines}
 
 -- The column order holds columns counted from 1, as in the sheet; it is empty if there is none.

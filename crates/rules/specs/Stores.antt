@@ -10,17 +10,20 @@
 --   sizesRight, lengthsRight, numbersRight   the checks for refusals 2, 1 and 5
 --   checkStores              their order
 --   Shaped, Valid            rows as a store holds them; the systems that the checks let through
-use Prim.Native.Nat.{ℕ, zero, suc, _+_, _*_, _-_}
+use Prim.Native.Nat.{ℕ, suc, _+_, _*_, _-_}
 use mathlib.Core.Path.{_≡_}
 use mathlib.Core.Bool.{Bool, _&&_, cond}
-use mathlib.Core.List.{List, [], _∷_, _++_, map, flatten}
+use mathlib.Core.List.{List, _∷_, _++_, map, flatten}
 use lib.Dec.{T, leb}
 use lib.ListN.{length, take, drop, getD, replicate}
 use lib.IntN.{ℤ, pos, negℤ, natAbs, _-ℤ_}
 use lib.Signed.{leZ}
 use Rattle.algebra.specs.Polynomials.{isZero}
-use Rattle.rules.specs.Limits.{bound, coefficientCount, columnCount, blockCount, mostEquations, rowLength, relationLength, mostRelations, blockBound, small}
-use Rattle.rules.specs.Rows.{Row, Relation, All, every, zeroBlock, coefficientsOf, smallRow}
+use Rattle.lists.specs.Parts.{parts}
+use Rattle.rules.specs.Limits.{bound, coefficientCount, columnCount, blockCount, rowLength, relationLength, mostRelations, blockBound, small, mostEquations}
+use Rattle.rules.specs.Rows.{Row, Relation, zeroBlock, coefficientsOf, smallRow}
+use Rattle.lists.specs.Everywhere.{All}
+use Rattle.lists.specs.Tested.{every}
 
 -- m unknowns, blocks from t to l (SCOPE 1.1, 1.2).
 pub record Sizes : Type 0 where
@@ -38,11 +41,6 @@ unfoldable pub span : Sizes → ℕ
 span z = natAbs (z .l -ℤ z .t)
 
 -- ---- the layout: from block l down, four columns a block, 16 coefficients a column from power 0 up (SCOPE 3.2)
-
--- The first n parts of k members each.
-unfoldable pub parts : {A : Type 0} → ℕ → ℕ → List A → List (List A)
-parts k zero l = []
-parts k (suc n) l = take k l ∷ parts k n (drop k l)
 
 unfoldable pub rowOf : List ℤ → Row
 unfolding parts

@@ -27,17 +27,18 @@ use lib.IntN.{ℤ, pos}
 use lib.Signed.{≤ℤ-refl}
 use lib.ListN.{length, take, getD, set, replicate, length-map}
 use lib.Seq.{take-suc, length-take-le}
-use Rattle.algebra.specs.Polynomials.{T-&&}
+use Rattle.lists.specs.Tests.{T-&&}
 use Rattle.rules.specs.Limits.{relationLength, small}
-use Rattle.rules.specs.Rows.{Row, Relation, every, coefficientsOf, smallRow}
+use Rattle.rules.specs.Rows.{Row, Relation, coefficientsOf, smallRow}
+use Rattle.lists.specs.Tested.{every, every-append}
 use Rattle.rules.specs.Elimination.{Side, State, Outcome, going, done, refused, wholeRun, report, neverNumber}
-use Rattle.rules.specs.Lists.{every-append}
 use Rattle.rules.specs.Stores.{Sizes, Valid, span, sizesRight, checkStores, rowsOf, relationsOf, rowNeed, relationNeed}
 use Rattle.rules.specs.Stores.{rowStoreOf, relationStoreOf, relationNumbers, unusedZero, rowRight, relationRight}
 use Rattle.rules.specs.Layout.{rowStoreOf-rowsOf, relationStoreOf-relationsOf, length-relationsOf, size-bounds, block-place}
 use Rattle.rules.specs.Layout.{StoresRight, checkStores-zero, stores-valid, NumbersRight, numbersRight-iff}
 use Rattle.rules.specs.Layout.{lengthsRight-iff, countRight-iff}
-use Rattle.rules.specs.Calls.{Result, Call, padTo, reportedOrder, refusal, acceptance, zeros}
+use Rattle.rules.specs.Calls.{Result, Call, reportedOrder, refusal, acceptance, zeros}
+use Rattle.lists.specs.Padded.{padTo, padTo-more}
 use Rattle.rules.specs.Calls.{cleared, unchanged, afterRun, afterCheck, callRun}
 use Rattle.roots.specs.declared.RootAnswer.{RootAnswer}
 use Rattle.roots.specs.RootSearch.{answered}
@@ -45,7 +46,7 @@ use Rattle.theory.specs.Ending.{wholeRun-ends}
 use Rattle.theory.specs.Demands.{diagonal-nonzero}
 use Rattle.working.specs.Found.{Columns}
 use Rattle.sides.specs.Lent.{Within, Listing}
-use Rattle.reduction.specs.Progress.{stateOf, outcomeOf, outcomeAt, Ready, padTo-more}
+use Rattle.reduction.specs.Progress.{stateOf, outcomeOf, outcomeAt, Ready}
 use Rattle.reduction.specs.Ran.{Ran, rowsAfter, relationsAfter, zeros-small}
 use Rattle.sides.specs.ReportLaws.{settledState, report-settled}
 use Rattle.reduction.specs.declared.step.Progress.{Progress}

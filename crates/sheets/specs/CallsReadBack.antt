@@ -5,8 +5,8 @@
 --   written-call-read                    what a call writes is read back as what the stores hold
 --   read-call-given                      stores that were filled with a sheet hold that sheet
 --   read-call-write, read-write-call     the call that writes them refuses nothing, and writes the bytes that were read
-use Prim.Native.Nat.{ℕ, zero, suc, _≤_}
-use native.Mathlib.Nat.{not-suc-le-zero, le-of-suc-le-suc}
+use Prim.Native.Nat.{ℕ, _≤_}
+use native.Mathlib.Nat.{not-suc-le-zero}
 use native.Mathlib.Omega.{arith}
 use mathlib.Core.Path.{_≡_, refl, _∙_, ap, subst}
 use mathlib.Core.Logic.{inl, inr}
@@ -16,21 +16,20 @@ use lib.Dec.{T, eqb, eqb→eq, not-T}
 use lib.ListN.{length, take, drop}
 use lib.Seq.{length-take-le}
 use lib.IntN.{ℤ}
-use Rattle.algebra.specs.Polynomials.{T-&&}
+use Rattle.lists.specs.Tests.{T-&&, cond-passed, cond-not, T-or}
 use Rattle.rules.specs.Limits.{columnCount}
-use Rattle.rules.specs.Rows.{every}
-use Rattle.rules.specs.Stores.{Sizes, equations, rowsOf, relationsOf, rowStoreOf}
+use Rattle.lists.specs.Tested.{every}
+use Rattle.rules.specs.Stores.{Sizes, rowsOf, relationsOf, rowStoreOf, equations}
 use Rattle.rules.specs.Stores.{relationStoreOf}
 use Rattle.rules.specs.Layout.{SizeBounds, checkStores-zero, size-bounds, stores-valid, valid-stores, rowsOf-rowStoreOf}
 use Rattle.rules.specs.Layout.{relationsOf-relationStoreOf}
-use Rattle.rules.specs.Calls.{padTo, overwrite}
+use Rattle.lists.specs.Padded.{padTo, take-padTo, every-padTo, drop-padTo}
+use Rattle.lists.specs.Overwritten.{overwrite}
 use Rattle.rules.specs.Numbers.{got}
 use Rattle.rules.specs.Sheets.{Sheet, readSheet, writeSheet}
 use Rattle.rules.specs.SheetCalls.{differentColumns, orderRight, orderGiven, checkWrite, sheetOf, written, afterWriteCheck, writeCall}
-use Rattle.rules.specs.Lists.{cond-passed}
 use Rattle.writing.specs.WriterChecks.{checkWrite-iff}
-use Rattle.sheets.specs.WrittenNumbers.{cond-not}
-use Rattle.sheets.specs.WrittenOrder.{OrderRight, different-cons, T-or}
+use Rattle.sheets.specs.WrittenOrder.{OrderRight, different-cons}
 use Rattle.sheets.specs.ReadBack.{SheetRight, read-written, read-right}
 
 -- ---- the order argument
@@ -42,23 +41,6 @@ order-given m order h i = go (every (eqb 0) order) i
     go : (t : Bool) → T (t || (differentColumns m (take m order) && every (eqb 0) (drop m order))) → OrderRight m (cond t [] (take m order))
     go true i = inl refl
     go false i = inr (length-take-le m order h, T-&& (differentColumns m (take m order)) _ .0 i .0)
-
-take-padTo : {A : Type 0} (n : ℕ) (v : A) (l : List A) → length l ≤ n → take (length l) (padTo n v l) ≡ l
-unfolding padTo
-take-padTo n v [] h = refl
-take-padTo zero v (x ∷ l) h = absurd (not-suc-le-zero h)
-take-padTo (suc n) v (x ∷ l) h = ap (λ r. x ∷ r) (take-padTo n v l (le-of-suc-le-suc h))
-
-every-padTo : {A : Type 0} (t : A → Bool) (n : ℕ) (v : A) → T (t v) → T (every t (padTo n v []))
-unfolding padTo every
-every-padTo t zero v h = tt
-every-padTo t (suc n) v h = T-&& (t v) _ .1 (h, every-padTo t n v h)
-
-drop-padTo : {A : Type 0} (t : A → Bool) (n : ℕ) (v : A) (l : List A) → T (t v) → T (every t (drop (length l) (padTo n v l)))
-unfolding padTo every
-drop-padTo t n v [] h = every-padTo t n v h
-drop-padTo t zero v (x ∷ l) h = tt
-drop-padTo t (suc n) v (x ∷ l) h = drop-padTo t n v l h
 
 -- Columns are not 0.
 not-all-zero : (m : ℕ) (order : List ℕ) → 1 ≤ length order → T (differentColumns m order)

@@ -18,10 +18,10 @@ use mathlib.Core.List.{List, [], _∷_, _++_, tail, map, flatten, append-nil, ap
 use lib.Dec.{T, eqb, eqb→eq, eqb-refl}
 use lib.ListN.{length}
 use lib.IntN.{ℤ, natAbs}
-use Rattle.rules.specs.Rows.{All}
+use Rattle.lists.specs.Everywhere.{All}
 use Rattle.rules.specs.Numbers.{isSeparator, word, afterWord, isNumber, numberOf, decimal, Read, got, fault, thenRead, judged, readWord}
 use Rattle.rules.specs.Numbers.{readSeparator, field}
-use Rattle.rules.specs.Lists.{cond-passed}
+use Rattle.lists.specs.Tests.{cond-passed}
 use Rattle.sheets.specs.WrittenNumbers.{isNumber-decimal, numberOf-decimal, decimal-numberOf, word-decimal}
 use Rattle.sheets.specs.WrittenNumbers.{afterWord-decimal, word-afterWord}
 

@@ -7,7 +7,7 @@ use Prim.Native.Nat.{ℕ, zero, suc, _*_, _-_, _≤_, _<_, zero-le, suc-le-suc}
 use native.Mathlib.Nat.{le-refl, le-trans, le-of-eq, mul-suc}
 use native.Mathlib.Omega.{arith}
 use mathlib.Core.Path.{_≡_, sym, _∙_, ap, subst}
-use mathlib.Core.Bool.{Bool, true, false, _||_, not}
+use mathlib.Core.Bool.{_||_, not}
 use mathlib.Core.List.{List, [], _∷_, _++_}
 use lib.Dec.{T, T-not, ltb, ltb→lt, lt→ltb}
 use lib.ListN.{length, getD, drop, length-append}
@@ -15,12 +15,14 @@ use lib.IntN.{ℤ, pos, sucℤ, predℤ, _+ℤ_, _-ℤ_, suc-pred, pred-suc, +�
 use lib.Signed.{ltZ, _≤ℤ_, _<ℤ_, ≤ℤ-refl}
 use Rattle.algebra.specs.Order.{≤ℤ-trans, ≤ℤ-intro, pos-≤ℤ, <ℤ-sucℤ, <ℤ-to-≤ℤ, ≤ℤ-difference, pos-natAbs-nonneg}
 use Rattle.algebra.specs.Polynomials.{Polynomial, isZero}
-use Rattle.rules.specs.Rows.{Block, All, every, zeroBlock}
+use Rattle.rules.specs.Rows.{Block, zeroBlock}
+use Rattle.lists.specs.Everywhere.{All}
+use Rattle.lists.specs.Tested.{every, every-getD, every-cons}
 use Rattle.rules.specs.Stores.{Sizes, span}
 use Rattle.rules.specs.Layout.{SizeBounds}
 use Rattle.rules.specs.Sheets.{Term, trim, blockTerms, termsFrom}
 use Rattle.writing.specs.Writer.{trim-le}
-use Rattle.sheets.specs.WrittenNumbers.{T-or-left, every-cons}
+use Rattle.lists.specs.Tests.{T-or-left, or-right, or-imply}
 use Rattle.sheets.specs.WrittenTerms.{TermRight, Ordered, judgeBlock-iff, judgeColumn-iff}
 use Rattle.sheets.specs.Trimmed.{zero-or-not, trim-some, Sound-trim}
 use Rattle.sheets.specs.RowBlocks.{StorePolynomial, BlockRight, RowRight}
@@ -28,28 +30,15 @@ use Rattle.sheets.specs.RowTerms.{blockTerms-zero, blockTerms-nonzero, B
 
 -- ---- zero blocks have no terms
 
-every-getD : {A : Type 0} (t : A → Bool) (l : List A) (d : A) (j : ℕ) → T (every t l) → T (t d) → T (t (getD l j d))
-every-getD t [] d j h i = i
-every-getD t (x ∷ l) d zero h i = every-cons t x l .0 h .0
-every-getD t (x ∷ l) d (suc j) h i = every-getD t l d j (every-cons t x l .0 h .1) i
-
 zero-blocks : (bs : List Block) → T (every zeroBlock bs) → Blank bs
 unfolding Blank zeroBlock isZero every
-zero-blocks bs h i j = every-getD isZero (getD bs i []) [] j (every-getD zeroBlock bs [] i h tt) tt
+zero-blocks bs h i j = every-getD isZero (getD bs i []) [] tt (every-getD zeroBlock bs [] tt h i) j
 
 -- ---- one block
 
 -- Column c of block s may stand after column c₀ of block s₀.
 After : ℤ → ℕ → ℤ → ℕ → Type 0
 After s₀ c₀ s c = (s ≤ℤ s₀) × T (ltZ s s₀ || ltZ (pos c₀) (pos c))
-
-or-imply : (s t u : Bool) → (T t → T u) → T (s || t) → T (s || u)
-or-imply true t u f h = tt
-or-imply false t u f h = f h
-
-or-right : (s t : Bool) → T t → T (s || t)
-or-right true t h = tt
-or-right false t h = h
 
 After-next : (s₀ : ℤ) (c₀ : ℕ) (s : ℤ) (c : ℕ) → After s₀ c₀ s c → After s₀ c₀ s (suc c)
 unfolding After

@@ -18,15 +18,16 @@ use lib.IntN.{ℤ, pos, natAbs}
 use lib.Signed.{leZ-yes, _≤ℤ_, ≤ℤ-refl}
 use Rattle.algebra.specs.Order.{≤ℤ-trans, pos-natAbs-nonneg, pos-nonneg, pos-≤ℤ}
 use Rattle.rules.specs.Limits.{mostRelations}
-use Rattle.rules.specs.Rows.{Row, Relation, All}
-use Rattle.rules.specs.Stores.{Sizes, equations, sizesRight, rowRight, relationRight, StoreRow, Valid}
-use Rattle.rules.specs.Layout.{SizeBounds, size-bounds, equations-few, countRight-iff}
+use Rattle.rules.specs.Rows.{Row, Relation}
+use Rattle.lists.specs.Everywhere.{All, all-mono, all-both}
+use Rattle.rules.specs.Stores.{Sizes, sizesRight, rowRight, relationRight, StoreRow, Valid, equations}
+use Rattle.rules.specs.Layout.{SizeBounds, size-bounds, countRight-iff, equations-few}
 use Rattle.rules.specs.Numbers.{newline, decimal, line, lines, Read, got, fault, thenRead, field, between}
 use Rattle.rules.specs.Sheets.{Sheet, always, readSizes, readEquations, readRelations, readOrder, readEnd, readSheet, equationNumbers}
 use Rattle.rules.specs.Sheets.{relationLine, orderLine, writeSheet}
 use Rattle.sheets.specs.Exact.{Exact, got-inj, fault-got, then-got, nothing-exact, then-exact, same-exact}
 use Rattle.sheets.specs.WrittenTerms.{between-iff, between-exact, most, always-newline}
-use Rattle.rules.specs.Lists.{every-all, all-mono, all-both}
+use Rattle.lists.specs.Tested.{every-all}
 use Rattle.sheets.specs.WrittenSections.{just, sizes-exact, EquationRight, equations-exact, RelationGood, relations-exact}
 use Rattle.sheets.specs.WrittenOrder.{OrderRight, order-exact}
 

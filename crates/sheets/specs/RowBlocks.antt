@@ -5,26 +5,20 @@
 --
 -- Main statements
 --   rowRight-blocks, blocks-rowRight     that is what the shape and the check of a row ask together
---   all-replicate                        a property of all members of a list of one value
-use Prim.Native.Nat.{ℕ, zero, suc}
+use Prim.Native.Nat.{ℕ, suc}
 use mathlib.Core.Path.{_≡_, _∙_}
 use mathlib.Core.Logic.{_↔_}
 use mathlib.Core.Bool.{_&&_}
 use mathlib.Core.List.{List, flatten}
 use lib.Dec.{T}
-use lib.ListN.{length, drop, replicate}
-use Rattle.algebra.specs.Polynomials.{Polynomial, T-&&}
+use lib.ListN.{length, drop}
+use Rattle.algebra.specs.Polynomials.{Polynomial}
+use Rattle.lists.specs.Tests.{T-&&}
 use Rattle.rules.specs.Limits.{coefficientCount, columnCount, blockCount, small}
-use Rattle.rules.specs.Rows.{Block, Row, All, every, zeroBlock, coefficientsOf, smallRow}
-use Rattle.rules.specs.Lists.{all-mono, all-both, every-all, every-flatten}
+use Rattle.rules.specs.Rows.{Block, Row, zeroBlock, coefficientsOf, smallRow}
+use Rattle.lists.specs.Everywhere.{All, all-mono, all-both}
+use Rattle.lists.specs.Tested.{every, every-all, every-flatten}
 use Rattle.rules.specs.Stores.{Sizes, span, unusedZero, rowRight, Shaped, StoreRow}
-
--- ---- lists
-
-pub all-replicate : {A : Type 0} (P : A → Type 0) (n : ℕ) (x : A) → P x → All P (replicate n x)
-unfolding All
-all-replicate P zero x h = tt
-all-replicate P (suc n) x h = (h, all-replicate P n x h)
 
 -- ---- the rows of a system, block by block
 

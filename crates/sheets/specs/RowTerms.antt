@@ -18,7 +18,7 @@ use mathlib.Core.Logic.{_⊎_, inl, inr, ⊎-elim}
 use mathlib.Core.Bool.{Bool, true, false, _||_, not}
 use mathlib.Core.List.{List, [], _∷_, _++_, append-nil, append-assoc}
 use lib.Dec.{T, lit<}
-use lib.ListN.{length, getD, set, drop, replicate, length-set, length-replicate, length-append}
+use lib.ListN.{length, getD, set, replicate, length-set, length-replicate, length-append}
 use lib.Seq.{drop-set-lt, getD-at, set-at, getD-set-same, getD-set-other}
 use lib.IntN.{ℤ, pos, negℤ, natAbs, predℤ, _+ℤ_, _-ℤ_, negℤ-+ℤ, negℤ-negℤ, +ℤ-assoc, +ℤ-invr, +ℤ-idl, +ℤ-idr, -ℤ-one, predℤ-+ℤ}
 use lib.Signed.{ltZ, ltZ-yes, _≤ℤ_, _<ℤ_}
@@ -26,15 +26,17 @@ use Rattle.algebra.specs.Order.{≤ℤ-trans, <ℤ-to-≤ℤ, pos-natAbs-nonneg
 use Rattle.algebra.specs.Order.{pos-<ℤ}
 use Rattle.algebra.specs.Polynomials.{Polynomial, isZero}
 use Rattle.rules.specs.Limits.{coefficientCount, columnCount, blockCount, small}
-use Rattle.rules.specs.Rows.{Block, Row, All, every, zeroBlock}
-use Rattle.rules.specs.Lists.{all-set, all-getD, cond-passed}
+use Rattle.rules.specs.Rows.{Block, Row, zeroBlock}
+use Rattle.lists.specs.Everywhere.{All, all-set, all-getD}
+use Rattle.lists.specs.Tested.{every, every-drop}
+use Rattle.lists.specs.Tests.{cond-passed, cond-not}
 use Rattle.rules.specs.Stores.{Sizes, span, Shaped, StoreRow}
-use Rattle.rules.specs.Layout.{SizeBounds, block-place, length-padTo}
-use Rattle.rules.specs.Calls.{padTo}
+use Rattle.rules.specs.Layout.{SizeBounds, block-place}
+use Rattle.lists.specs.Padded.{length-padTo, padTo}
 use Rattle.rules.specs.Sheets.{Term, trim, blankRow, rowOfTerms, blockTerms, termsFrom}
 use Rattle.writing.specs.Writer.{trim-none}
-use Rattle.sheets.specs.WrittenNumbers.{cond-not, every-cons}
-use Rattle.sheets.specs.RowBlocks.{all-replicate, StorePolynomial, BlockRight, StoreBlock, RowRight}
+use Rattle.sheets.specs.RowBlocks.{StorePolynomial, BlockRight, StoreBlock, RowRight}
+use Rattle.lists.specs.Repeated.{all-replicate, getD-replicate-each, replicate-snoc}
 use Rattle.sheets.specs.WrittenTerms.{TermRight, Ordered, judgeBlock-iff, judgeColumn-iff}
 use Rattle.sheets.specs.Trimmed.{zero-or-not, padTo-trim, trim-padTo, padTo-nonzero, small-padTo}
 
@@ -191,11 +193,6 @@ termsFrom-put s (suc k) c p (b ∷ bs) h i n z =
 unfoldable pub Blank : List Block → Type 0
 Blank bs = (i j : ℕ) → T (isZero (polynomialAt bs i j))
 
-getD-replicate-each : {A : Type 0} (P : A → Type 0) (n : ℕ) (x d : A) (i : ℕ) → P x → P d → P (getD (replicate n x) i d)
-getD-replicate-each P zero x d i h k = k
-getD-replicate-each P (suc n) x d zero h k = h
-getD-replicate-each P (suc n) x d (suc i) h k = getD-replicate-each P n x d i h k
-
 Blank-blank : Blank (blankRow .blocks)
 unfolding Blank blankRow isZero
 Blank-blank i =
@@ -207,12 +204,6 @@ pub termsFrom-none : (s : ℤ) (bs : List Block) → Blank bs → termsFrom s bs
 unfolding termsFrom Blank
 termsFrom-none s [] h = refl
 termsFrom-none s (b ∷ bs) h = ap₂ (λ l r. l ++ r) (blockTerms-none s 1 b (h 0)) (termsFrom-none (predℤ s) bs (λ i. h (suc i)))
-
-every-drop : {A : Type 0} (t : A → Bool) (n : ℕ) (l : List A) → T (every t l) → T (every t (drop n l))
-unfolding every
-every-drop t zero l h = h
-every-drop t (suc n) [] h = tt
-every-drop t (suc n) (x ∷ l) h = every-drop t n l (every-cons t x l .0 h .1)
 
 RowRight-blank : (z : Sizes) → RowRight z (blankRow .blocks)
 unfolding blankRow every small zeroBlock
@@ -410,10 +401,6 @@ module _ (l s : ℤ) (F B : List Block) (place : length F ≡ depth l s) where
           → putTerms l (blockTerms s (suc (suc (length G))) b) (F ++ ((G ++ (zeros ∷ replicate (length b) zeros)) ∷ B))
           ≡ F ++ ((G ++ (zeros ∷ b)) ∷ B)
       shift e = rw (append-assoc G (zeros ∷ []) (replicate (length b) zeros), append-assoc G (zeros ∷ []) b, length-append, add-one) at e
-
-replicate-snoc : {A : Type 0} (n : ℕ) (x : A) (l : List A) → replicate (suc n) x ++ l ≡ replicate n x ++ (x ∷ l)
-replicate-snoc zero x l = refl
-replicate-snoc (suc n) x l = ap (λ r. x ∷ r) (replicate-snoc n x l)
 
 depth-below : (l : ℤ) (k : ℕ) → depth l (l -ℤ pos k) ≡ k
 depth-below l k = ap natAbs (sub-sub l (pos k))

@@ -16,22 +16,10 @@ use mathlib.Core.List.{List, [], _∷_, _++_, append-nil, nil≢cons, head-eq-of
 use lib.Dec.{T, lit<, leb, ltb, eqb, leb→le, le→leb, ltb→lt, lt→ltb, nltb→le, eqb→eq, eqb-refl, not-T, T-not}
 use lib.ListN.{length}
 use lib.IntN.{ℤ, pos, negsuc, negℤ, natAbs}
-use Rattle.algebra.specs.Polynomials.{T-&&}
-use Rattle.rules.specs.Rows.{every}
-use Rattle.rules.specs.Lists.{cond-passed}
+use Rattle.lists.specs.Tests.{T-&&, T-or-left, cond-not, cond-passed}
+use Rattle.lists.specs.Tested.{every, every-cons}
 use Rattle.rules.specs.Numbers.{space, newline, minus, isSeparator, word, afterWord, isDigit, signed, digits, startsRight, isNumber}
 use Rattle.rules.specs.Numbers.{valueFrom, numberOf, decimalWithin, decimal}
-
--- ---- tests
-
-pub cond-not : {A : Type 0} (t : Bool) (a b : A) → T (not t) → cond t a b ≡ b
-cond-not true a b h = absurd h
-cond-not false a b h = refl
-
--- Two values that agree where the test fails.
-cond-else : {A : Type 0} (t : Bool) (a b c : A) → (T (not t) → b ≡ c) → cond t a b ≡ cond t a c
-cond-else true a b c e = refl
-cond-else false a b c e = e tt
 
 -- ---- the digits of a natural number
 
@@ -188,10 +176,6 @@ digit-bounds : (b : ℕ) → T (isDigit b) → (48 ≤ b) × (b ≤ 57)
 unfolding isDigit
 digit-bounds b h = let e = T-&& (leb 48 b) (leb b 57) .0 h in (leb→le 48 b (e .0), leb→le b 57 (e .1))
 
-pub every-cons : {A : Type 0} (t : A → Bool) (x : A) (l : List A) → T (every t (x ∷ l)) ↔ (T (t x) × T (every t l))
-unfolding every
-every-cons t x l = T-&& (t x) (every t l)
-
 -- The sign and the digits of digits with a sign.
 parts-withSign : (sign : Bool) (ds : List ℕ) → T (every isDigit ds) → (signed (withSign sign ds) ≡ sign) × (digits (withSign sign ds) ≡ ds)
 unfolding signed digits withSign
@@ -227,10 +211,6 @@ rightDigits-iff sign ds = (
   λ h. let e = simp T-&& at h in (leb→le _ _ (e .0), e .1 .0 .0, leb→le _ _ (e .1 .0 .1), e .1 .1),
   λ h. simp T-&& (le→leb _ _ (h .0), ((h .1, le→leb _ _ (h .2)), h .3)),
 )
-
-pub T-or-left : (s t : Bool) → T s → T (s || t)
-T-or-left true t h = tt
-T-or-left false t h = absurd h
 
 leading-right : (sign : Bool) (ds : List ℕ) → T (leading ds) → (1 ≤ length ds) × T (startsRight sign ds)
 unfolding leading startsRight

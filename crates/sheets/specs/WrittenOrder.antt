@@ -11,7 +11,7 @@ use native.Mathlib.Nat.{suc-ne-zero}
 use native.Mathlib.Omega.{arith}
 use mathlib.Core.Path.{_≡_, refl, sym, _∙_, ap, subst}
 use mathlib.Core.Logic.{_↔_, _⊎_, inl, inr, ⊎-elim}
-use mathlib.Core.Bool.{Bool, true, false, _||_, not}
+use mathlib.Core.Bool.{not}
 use mathlib.Core.List.{List, [], _∷_, _++_, map}
 use lib.Dec.{T, lit<, eqb, leb→le, le→leb, eqb→eq, eqb-refl, T-not, not-T}
 use lib.ListN.{length, length-map}
@@ -19,14 +19,15 @@ use lib.IntN.{ℤ, pos, natAbs, _-ℤ_, +ℤ-invr}
 use lib.Signed.{leZ-yes, _≤ℤ_}
 use Rattle.algebra.specs.Order.{≤ℤ-trans, pos-≤ℤ}
 use Rattle.algebra.specs.Integers.{ -ℤ-zero}
-use Rattle.algebra.specs.Polynomials.{T-&&, isZeroℤ, isZeroℤ-iff}
+use Rattle.algebra.specs.Polynomials.{isZeroℤ, isZeroℤ-iff}
+use Rattle.lists.specs.Tests.{T-&&, T-or, T-not-or, cond-zero-iff}
 use Rattle.rules.specs.Limits.{columnCount}
-use Rattle.rules.specs.Rows.{All}
+use Rattle.lists.specs.Everywhere.{All}
 use Rattle.rules.specs.Numbers.{newline, line, got, thenRead, field}
 use Rattle.rules.specs.Sheets.{always, parting, afterCount, contains, judgeOrder, readColumns, judgeOrderCount, readOrder, orderLine}
 use Rattle.rules.specs.SheetCalls.{differentColumns}
 use Rattle.sheets.specs.Exact.{Exact, field-exact, then-exact, same-exact, Chain, chain-exact}
-use Rattle.sheets.specs.WrittenTerms.{judge-zero, range-digits, positive-pos, newline-separator, parting-separator, parted}
+use Rattle.sheets.specs.WrittenTerms.{range-digits, positive-pos, newline-separator, parting-separator, parted}
 use Rattle.sheets.specs.WrittenTerms.{line-parted, chainBytes-parted}
 use Rattle.sheets.specs.WrittenSections.{counted, count-parted, afterCount-separator}
 
@@ -40,8 +41,8 @@ judgeOrder-iff : (m : ℕ) (taken : List ℕ) (v : ℤ)
     → (judgeOrder m taken v ≡ 0) ↔ ((pos 1 ≤ℤ v) × (v ≤ℤ pos m) × T (not (contains (natAbs v) taken)))
 unfolding judgeOrder
 judgeOrder-iff m taken v = (
-  λ e. let h = simp (judge-zero, T-&&) at e in (leZ-yes (h .0 .0 .0), leZ-yes (h .0 .0 .1), h .0 .1),
-  λ h. simp (judge-zero, T-&&) (((h .0 .le, h .1 .le), h .2), refl),
+  λ e. let h = simp (cond-zero-iff, T-&&) at e in (leZ-yes (h .0 .0 .0), leZ-yes (h .0 .0 .1), h .0 .1),
+  λ h. simp (cond-zero-iff, T-&&) (((h .0 .le, h .1 .le), h .2), refl),
 )
 
 -- Columns of which none is taken, and no two are the same.
@@ -50,10 +51,6 @@ Columns m = Chain (λ taken c. natAbs c ∷ taken) pos (λ taken _ c. judgeOrder
 
 abbrev Fresh : List ℕ → List ℕ → Type 0
 Fresh taken = All (λ c. T (not (contains c taken)))
-
-T-not-or : (s t : Bool) → T (not (s || t)) ↔ (T (not s) × T (not t))
-T-not-or true t = (λ h. absurd h, λ h. h .0)
-T-not-or false t = (λ h. (tt, h), λ h. h .1)
 
 not-eqb-comm : (c d : ℕ) → T (not (eqb c d)) → T (not (eqb d c))
 not-eqb-comm c d h = not-T (eqb d c) (λ e. T-not (eqb c d) h (subst (λ n. T (eqb c n)) (sym (eqb→eq d c e)) (eqb-refl c)))
@@ -136,17 +133,13 @@ columns-exact m k b =
         let f = judgeOrder-iff m taken c .0 e in
         range-digits (pos 1) (pos m) c (leZ-yes tt) (≤ℤ-trans (pos-≤ℤ .1 b) (leZ-yes tt)) (f .0) (f .1)
 
-pub T-or : (s t : Bool) → T (s || t) ↔ (T s ⊎ T t)
-T-or true t = (λ h. inl tt, λ h. tt)
-T-or false t = (λ h. inr h, λ h. ⊎-elim (λ i. absurd i) (λ i. i) h)
-
 judgeOrderCount-iff : (m : ℕ) (v : ℤ) → (judgeOrderCount m v ≡ 0) ↔ ((v ≡ pos 0) ⊎ (v ≡ pos m))
 unfolding judgeOrderCount
 judgeOrderCount-iff m v = (
   λ e.
       ⊎-elim (λ h. inl (isZeroℤ-iff v .0 h)) (λ h. inr (-ℤ-zero v (pos m) (isZeroℤ-iff (v -ℤ pos m) .0 h)))
-      (T-or (isZeroℤ v) (isZeroℤ (v -ℤ pos m)) .0 ((simp judge-zero at e) .0)),
-  λ h. simp judge-zero (
+      (T-or (isZeroℤ v) (isZeroℤ (v -ℤ pos m)) .0 ((simp cond-zero-iff at e) .0)),
+  λ h. simp cond-zero-iff (
     T-or (isZeroℤ v) (isZeroℤ (v -ℤ pos m)) .1 (⊎-elim
         (λ e. inl (isZeroℤ-iff v .1 e))
         (λ e. inr (isZeroℤ-iff (v -ℤ pos m) .1 (ap (λ x. x -ℤ pos m) e ∙ +ℤ-invr (pos m)))) h),

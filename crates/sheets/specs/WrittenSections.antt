@@ -19,16 +19,18 @@ use lib.ListN.{length}
 use lib.IntN.{ℤ, pos, negℤ, natAbs, _-ℤ_}
 use lib.Signed.{leZ-yes, _≤ℤ_, ≤ℤ-refl}
 use Rattle.algebra.specs.Order.{≤ℤ-trans, ≤ℤ-antisym, ≤ℤ-difference, natAbs-≤-iff, pos-natAbs-nonneg, pos-nonneg, pos-≤ℤ}
-use Rattle.algebra.specs.Polynomials.{T-&&, isZeroℤ}
+use Rattle.algebra.specs.Polynomials.{isZeroℤ}
+use Rattle.lists.specs.Tests.{T-&&, cond-zero-iff}
 use Rattle.rules.specs.Limits.{columnCount, blockCount, blockBound, small}
-use Rattle.rules.specs.Rows.{Row, Relation, noRow, All}
+use Rattle.rules.specs.Rows.{Row, Relation, noRow}
+use Rattle.lists.specs.Everywhere.{All}
 use Rattle.rules.specs.Stores.{Sizes, span, sizesRight, rowRight, relationRight, StoreRow}
 use Rattle.rules.specs.Layout.{SizeBounds, size-bounds}
 use Rattle.rules.specs.Numbers.{space, newline, isSeparator, decimal, line, between, judgeSmall}
 use Rattle.rules.specs.Sheets.{Term, always, afterCount, parting, rowOfTerms, readEquation, readEquations, readRelation, readRelations}
 use Rattle.rules.specs.Sheets.{judgeLowest, readSizes, termsFrom, termNumbers, equationNumbers, relationLine}
 use Rattle.sheets.specs.Exact.{Exact, field-exact, nothing-exact, then-exact, same-exact, many-exact}
-use Rattle.sheets.specs.WrittenTerms.{judge-zero, between-iff, judgeSmall-iff, small-digits, range-digits, between-exact}
+use Rattle.sheets.specs.WrittenTerms.{between-iff, judgeSmall-iff, small-digits, range-digits, between-exact}
 use Rattle.sheets.specs.WrittenTerms.{positive-pos, always-space, always-newline, parted, line-parted, spaced, Ordered}
 use Rattle.sheets.specs.WrittenTerms.{parting-terms, terms-exact}
 use Rattle.sheets.specs.RowBlocks.{RowRight, rowRight-blocks, blocks-rowRight}
@@ -161,8 +163,8 @@ just n v e = let f = between-iff (pos n) (pos n) v .0 e in ≤ℤ-antisym (f .1)
 judgeLowest-iff : (l t : ℤ) → (judgeLowest l t ≡ 0) ↔ ((negℤ (pos blockBound) ≤ℤ t) × (t ≤ℤ l) × ((l -ℤ t) ≤ℤ pos 4))
 unfolding judgeLowest
 judgeLowest-iff l t = (
-  λ e. let h = simp (judge-zero, T-&&) at e in (leZ-yes (h .0 .0 .0), leZ-yes (h .0 .0 .1), leZ-yes (h .0 .1)),
-  λ h. simp (judge-zero, T-&&) (((h .0 .le, h .1 .le), h .2 .le), refl),
+  λ e. let h = simp (cond-zero-iff, T-&&) at e in (leZ-yes (h .0 .0 .0), leZ-yes (h .0 .0 .1), leZ-yes (h .0 .1)),
+  λ h. simp (cond-zero-iff, T-&&) (((h .0 .le, h .1 .le), h .2 .le), refl),
 )
 
 sizesRight-bounds : (z : Sizes) → SizeBounds z → T (sizesRight z)

@@ -14,14 +14,15 @@ use native.Mathlib.Nat.{not-suc-le-zero, suc-ne-zero}
 use native.Mathlib.Omega.{arith}
 use mathlib.Core.Path.{_≡_, refl, sym, _∙_, ap, ap₂}
 use mathlib.Core.Logic.{_↔_}
-use mathlib.Core.Bool.{Bool, true, false, _||_, not, cond, true≢false}
-use mathlib.Core.List.{List, [], _∷_, _++_, map, flatten, append-nil, append-assoc}
-use lib.Dec.{T, eqb, leb→le}
+use mathlib.Core.Bool.{Bool, true, false, _||_, not, cond}
+use mathlib.Core.List.{List, [], _∷_, _++_, map, flatten, append-nil, append-assoc, map-id}
+use lib.Dec.{T, leb→le}
 use lib.ListN.{length, length-map}
 use lib.IntN.{ℤ, pos, negℤ, natAbs}
 use lib.Signed.{ltZ, leZ-yes, _≤ℤ_}
 use Rattle.algebra.specs.Order.{≤ℤ-trans, natAbs-≤-iff, pos-natAbs-nonneg, pos-≤ℤ}
-use Rattle.algebra.specs.Polynomials.{Polynomial, T-&&, isZeroℤ}
+use Rattle.algebra.specs.Polynomials.{Polynomial, isZeroℤ}
+use Rattle.lists.specs.Tests.{T-&&, cond-zero-iff}
 use Rattle.rules.specs.Limits.{bound, coefficientCount, small}
 use Rattle.rules.specs.Stores.{Sizes}
 use Rattle.rules.specs.Layout.{SizeBounds}
@@ -32,27 +33,22 @@ use Rattle.sheets.specs.Exact.{Exact, field-exact, nothing-exact, then-e
 
 -- ---- judgements
 
--- A judgement that is 0 has passed its test.
-pub judge-zero : (t : Bool) (a n : ℕ) → eqb n 0 ≡ false → (cond t a n ≡ 0) ↔ (T t × (a ≡ 0))
-judge-zero true a n h = (λ e. (tt, e), λ i. i .1)
-judge-zero false a n h = (λ e. absurd (true≢false (sym (ap (λ k. eqb k 0) e) ∙ h)), λ i. absurd (i .0))
-
 pub between-iff : (low high v : ℤ) → (between low high v ≡ 0) ↔ ((low ≤ℤ v) × (v ≤ℤ high))
 unfolding between
 between-iff low high v = (
-  λ e. let h = simp (judge-zero, T-&&) at e in (leZ-yes (h .0 .0), leZ-yes (h .0 .1)),
-  λ h. simp (judge-zero, T-&&) ((h .0 .le, h .1 .le), refl),
+  λ e. let h = simp (cond-zero-iff, T-&&) at e in (leZ-yes (h .0 .0), leZ-yes (h .0 .1)),
+  λ h. simp (cond-zero-iff, T-&&) ((h .0 .le, h .1 .le), refl),
 )
 
 pub judgeSmall-iff : (v : ℤ) → (judgeSmall v ≡ 0) ↔ T (small v)
 unfolding judgeSmall
-judgeSmall-iff v = (λ e. (simp judge-zero at e) .0, λ h. simp judge-zero (h, refl))
+judgeSmall-iff v = (λ e. (simp cond-zero-iff at e) .0, λ h. simp cond-zero-iff (h, refl))
 
 pub judgeLast-iff : (v : ℤ) → (judgeLast v ≡ 0) ↔ (T (small v) × T (not (isZeroℤ v)))
 unfolding judgeLast
 judgeLast-iff v = (
-  λ e. let h = judge-zero (small v) _ 5 refl .0 e in (h .0, nonzero (isZeroℤ v) .0 (h .1)),
-  λ h. judge-zero (small v) _ 5 refl .1 (h .0, nonzero (isZeroℤ v) .1 (h .1)),
+  λ e. let h = cond-zero-iff (small v) _ 5 refl .0 e in (h .0, nonzero (isZeroℤ v) .0 (h .1)),
+  λ h. cond-zero-iff (small v) _ 5 refl .1 (h .0, nonzero (isZeroℤ v) .1 (h .1)),
 )
   where
     nonzero : (t : Bool) → (cond {A = ℕ} t 3 0 ≡ 0) ↔ T (not t)
@@ -162,10 +158,6 @@ chainBytes-parted g last (a ∷ l) =
     append-assoc (decimal (g a)) (parting last (length l) ∷ []) _
     ∙ ap₂ (λ k r. decimal (g a) ++ (parting last k ∷ r)) (sym (length-map l g)) (chainBytes-parted g last l)
 
-map-same : {A : Type 0} (l : List A) → map (λ a. a) l ≡ l
-map-same [] = refl
-map-same (a ∷ l) = ap (λ r. a ∷ r) (map-same l)
-
 readCoefficients-none : (last : ℕ) (bytes : List ℕ) → readCoefficients last 0 bytes ≡ got [] bytes
 unfolding readCoefficients
 readCoefficients-none last bytes = refl
@@ -187,7 +179,7 @@ coefficients-exact last k h =
     (λ _. readCoefficients-none last) (λ _. readCoefficients-some last)
     (λ _ k. field-exact (coefficientJudge k) (always (parting last k)) (coefficient-digits k) (λ _. parting-separator last k h))
     (λ _ _ _ _. refl) (λ _. refl) k tt)
-    (λ _. refl) (λ _ h. h) (λ _ h. h) (λ p _. sym (chainBytes-parted (λ a. a) last p ∙ ap (parted last) (map-same p)))
+    (λ _. refl) (λ _ h. h) (λ _ h. h) (λ p _. sym (chainBytes-parted (λ a. a) last p ∙ ap (parted last) (map-id p)))
 
 -- ---- terms
 
@@ -202,16 +194,16 @@ pub record TermRight (z : Sizes) (s₀ : ℤ) (c₀ : ℕ) (e : Term) : Type 0 w
 pub judgeBlock-iff : (z : Sizes) (s₀ s : ℤ) → (judgeBlock z s₀ s ≡ 0) ↔ ((z .t ≤ℤ s) × (s ≤ℤ z .l) × (s ≤ℤ s₀))
 unfolding judgeBlock
 judgeBlock-iff z s₀ s = (
-  λ e. let h = simp (judge-zero, T-&&) at e in (leZ-yes (h .0 .0), leZ-yes (h .0 .1), leZ-yes (h .1 .0)),
-  λ h. simp (judge-zero, T-&&) ((h .0 .le, h .1 .le), (h .2 .le, refl)),
+  λ e. let h = simp (cond-zero-iff, T-&&) at e in (leZ-yes (h .0 .0), leZ-yes (h .0 .1), leZ-yes (h .1 .0)),
+  λ h. simp (cond-zero-iff, T-&&) ((h .0 .le, h .1 .le), (h .2 .le, refl)),
 )
 
 pub judgeColumn-iff : (z : Sizes) (s₀ : ℤ) (c₀ : ℕ) (s c : ℤ)
     → (judgeColumn z s₀ c₀ s c ≡ 0) ↔ ((pos 1 ≤ℤ c) × (c ≤ℤ pos (z .m)) × T (ltZ s s₀ || ltZ (pos c₀) c))
 unfolding judgeColumn
 judgeColumn-iff z s₀ c₀ s c = (
-  λ e. let h = simp (judge-zero, T-&&) at e in (leZ-yes (h .0 .0), leZ-yes (h .0 .1), h .1 .0),
-  λ h. simp (judge-zero, T-&&) ((h .0 .le, h .1 .le), (h .2, refl)),
+  λ e. let h = simp (cond-zero-iff, T-&&) at e in (leZ-yes (h .0 .0), leZ-yes (h .0 .1), h .1 .0),
+  λ h. simp (cond-zero-iff, T-&&) ((h .0 .le, h .1 .le), (h .2, refl)),
 )
 
 pub term-exact : (z : Sizes) (s₀ : ℤ) (c₀ last : ℕ) → SizeBounds z → T (isSeparator last)

@@ -11,7 +11,7 @@
 --   rows-mirrored, relations-mirrored           all parts mirrored
 use Prim.Native.Nat.{ℕ, zero, suc, _+_, _*_, _-_, _≤_, _<_}
 use native.Mathlib.Nat.{not-suc-le-zero, le-of-suc-le-suc, le-of-eq, le-refl, suc-ne-zero, suc-inj}
-use native.Mathlib.Nat.{suc-mul, mul-le-mul-right, add-sub-of-le}
+use native.Mathlib.Nat.{suc-mul, mul-le-mul-right}
 use native.Mathlib.Numerals.{add-one}
 use native.Mathlib.Omega.{arith}
 use mathlib.Core.Path.{_≡_, refl, sym, _∙_, ap, ap₂, subst}
@@ -19,20 +19,23 @@ use mathlib.Core.List.{List, [], _∷_, _++_, map}
 use lib.Dec.{T}
 use lib.IntN.{ℤ, pos, negℤ, natAbs}
 use lib.ListN.{length, take, drop, getD, set, length-drop}
-use lib.Seq.{paste, length-take-le, take-add, take-take, drop-drop}
+use lib.Seq.{paste, length-take-le, take-take, drop-drop}
 use Rattle.algebra.specs.Integers.{natAbs-negℤ}
-use Rattle.algebra.specs.Polynomials.{T-&&, isZero}
+use Rattle.algebra.specs.Polynomials.{isZero}
+use Rattle.lists.specs.Tests.{T-&&}
 use Rattle.rules.specs.Limits.{bound, rowLength, relationLength, small}
-use Rattle.rules.specs.Rows.{All, every, coefficientsOf, smallRow, mirrorRow, mirrorRelation}
-use Rattle.rules.specs.Lists.{drop-take, every-append}
-use Rattle.rules.specs.Stores.{parts, rowOf, rowsOf, relationOf, relationsOf, relationNumbers, rowNeed, relationNeed}
-use Rattle.rules.specs.Layout.{parts-length, parts-width, getD-parts}
+use Rattle.rules.specs.Rows.{coefficientsOf, smallRow, mirrorRow, mirrorRelation}
+use Rattle.lists.specs.Everywhere.{All}
+use Rattle.lists.specs.Tested.{every, every-append, every-part}
+use Rattle.lists.specs.Taken.{drop-take, first-and-rest, rest-of, rest-past}
+use Rattle.rules.specs.Stores.{rowOf, rowsOf, relationOf, relationsOf, relationNumbers, rowNeed, relationNeed}
+use Rattle.lists.specs.Parts.{parts, parts-length, parts-width, getD-parts}
 use Rattle.polynomials.specs.Content.{small-at}
 use Rattle.rows.specs.Validity.{index-at, row-after}
 use Rattle.working.specs.Mirroring.{length-mirrorRow, rowOf-mirrorRow, small-mirrorRow}
 use Rattle.sides.specs.Lent.{Within, Listing, Kept}
-use Rattle.rows.specs.Written.{every-part}
-use Rattle.sides.specs.StoreStates.{parts-paste, part-small, within-paste, kept-paste, kept-same, kept-then}
+use Rattle.sides.specs.StoreStates.{part-small, within-paste, kept-paste, kept-same, kept-then}
+use Rattle.lists.specs.Pasted.{parts-paste}
 
 -- ---- parts of one width, changed one after the other
 
@@ -102,28 +105,22 @@ module _ (k n : ℕ) (g : List ℤ → List ℤ) (stays : Stays k g) (before sto
 
 -- A longer part of a store.
 module _ (n need : ℕ) (inside : n ≤ need) where
-  first-and-rest : (l : List ℤ) → take need l ≡ take n l ++ take (need - n) (drop n l)
-  first-and-rest l = ap (λ j. take j l) (sym (add-sub-of-le inside)) ∙ take-add n (need - n) l
-
-  rest-of : (l : List ℤ) → drop n (take need l) ≡ take (need - n) (drop n l)
-  rest-of l = ap (λ j. drop n (take j l)) (sym (add-sub-of-le inside)) ∙ drop-take n (need - n) l
-
-  past : (l : List ℤ) → drop need l ≡ drop (need - n) (drop n l)
-  past l = ap (λ j. drop j l) (sym (add-sub-of-le inside)) ∙ sym (drop-drop (need - n) n l)
-
   -- Within ±C, and only the first n numbers have changed.
   module _ (before after : List ℤ) (w : Within need before) (c : Within n after) (kept : Kept n before after) where
     rest-kept : drop n (take need after) ≡ drop n (take need before)
-    rest-kept = rest-of after ∙ ap (take (need - n)) (kept .same-rest) ∙ sym (rest-of before)
+    rest-kept = rest-of n need inside after ∙ ap (take (need - n)) (kept .same-rest) ∙ sym (rest-of n need inside before)
 
     within-longer : Within need after
     within-longer =
-        record { long = rw (kept .same-length) (w .long); numbers = subst (λ l. T (every small l)) (sym (first-and-rest after)) both }
+        record {
+          long = rw (kept .same-length) (w .long);
+          numbers = subst (λ l. T (every small l)) (sym (first-and-rest n need inside after)) both;
+        }
       where
         rest : T (every small (take (need - n) (drop n after)))
         rest =
             subst (λ l. T (every small l))
-            (ap (take (need - n)) (rest-of before) ∙ take-take (need - n) (need - n) (drop n before) (le-refl (need - n))
+            (ap (take (need - n)) (rest-of n need inside before) ∙ take-take (need - n) (need - n) (drop n before) (le-refl (need - n))
             ∙ ap (take (need - n)) (sym (kept .same-rest)))
             (every-part small n (need - n) (take need before) (w .numbers))
 
@@ -132,7 +129,10 @@ module _ (n need : ℕ) (inside : n ≤ need) where
 
     kept-longer : Kept need before after
     kept-longer =
-        record { same-length = kept .same-length; same-rest = past after ∙ ap (drop (need - n)) (kept .same-rest) ∙ sym (past before) }
+        record {
+          same-length = kept .same-length;
+          same-rest = rest-past n need inside after ∙ ap (drop (need - n)) (kept .same-rest) ∙ sym (rest-past n need inside before);
+        }
 
 -- What the changed parts hold, each read by `decode`.
 decode-changed : {B : Type 0} (k : ℕ) (decode : List ℤ → B) (g : List ℤ → List ℤ) (f : B → B)

@@ -9,45 +9,28 @@
 --   relisted-none, relisted-more   no root, and one root more
 --   every-listing              what all roots pass, they pass in the order of a side
 use Prim.Native.Nat.{ℕ, suc, _+_, _*_, _-_, _≤_, _<_}
-use native.Mathlib.Nat.{not-suc-le-zero, le-of-suc-le-suc, eq-or-lt-of-le, add-zero, le-of-eq}
+use native.Mathlib.Nat.{add-zero, le-of-eq}
 use native.Mathlib.Numerals.{add-one}
 use native.Mathlib.Omega.{arith}
-use mathlib.Core.Path.{_≡_, refl, sym, _∙_, ap, subst}
-use mathlib.Core.Logic.{⊎-elim}
-use mathlib.Core.Bool.{Bool, true, _&&_}
-use mathlib.Core.List.{List, [], _∷_, _++_, map, reverse, reverse-cons, append-assoc, append-nil, map-append}
+use mathlib.Core.Path.{_≡_, refl, sym, _∙_, ap}
+use mathlib.Core.Bool.{Bool}
+use mathlib.Core.List.{List, [], _∷_, _++_, map, append-assoc, append-nil, map-append}
 use lib.Dec.{T, le→leb}
 use lib.IntN.{ℤ, pos, natAbs}
-use lib.ListN.{length, take, getD, length-append, length-reverse, List·getD-append}
-use lib.Seq.{paste, take-suc, getD-at, getD-take, length-take-le}
-use Rattle.algebra.specs.Polynomials.{T-&&}
+use lib.ListN.{length, take, getD, length-append, length-reverse}
+use lib.Seq.{paste, take-suc, getD-take, length-take-le}
+use Rattle.lists.specs.Tests.{T-&&}
 use Rattle.rules.specs.Limits.{bound, rowLength, relationLength, small}
-use Rattle.rules.specs.Rows.{Row, Relation, every}
+use Rattle.rules.specs.Rows.{Row, Relation}
+use Rattle.lists.specs.Tested.{every, every-reverse}
+use Rattle.lists.specs.Images.{getD-reverse}
 use Rattle.rules.specs.Elimination.{Side, leading, trailing, listing}
-use Rattle.rules.specs.Lists.{every-append}
 use Rattle.rules.specs.Stores.{rowOf, relationOf, relationsOf, relationNeed}
 use Rattle.polynomials.specs.Content.{small-at}
 use Rattle.sides.specs.Lent.{Listing, Kept}
 use Rattle.sides.specs.StoreStates.{relationsOf-paste, kept-same, kept-then, kept-paste, listing-paste}
 
 -- ---- the roots in the order of a side
-
-getD-reverse : {A : Type 0} (l : List A) (k : ℕ) (d : A) → k < length l → getD (reverse l) k d ≡ getD l (length l - 1 - k) d
-getD-reverse [] k d h = absurd (not-suc-le-zero h)
-getD-reverse (x ∷ l) k d h =
-    ap (λ r. getD r k d) (reverse-cons x l)
-    ∙ ⊎-elim last (λ b. inside b (getD-reverse l k d b)) (eq-or-lt-of-le (le-of-suc-le-suc h))
-  where
-    last : k ≡ length l → getD (reverse l ++ (x ∷ [])) k d ≡ getD (x ∷ l) (length (x ∷ l) - 1 - k) d
-    last e =
-        let first : length (x ∷ l) - 1 - k ≡ 0 = omega arith in
-        getD-at (reverse l) x [] d k (length-reverse l ∙ sym e) ∙ ap (λ j. getD (x ∷ l) j d) (sym first)
-
-    inside : k < length l → getD (reverse l) k d ≡ getD l (length l - 1 - k) d
-        → getD (reverse l ++ (x ∷ [])) k d ≡ getD (x ∷ l) (length (x ∷ l) - 1 - k) d
-    inside b e =
-        let next : length (x ∷ l) - 1 - k ≡ suc (length l - 1 - k) = omega arith in
-        List·getD-append (reverse l) (x ∷ []) d k (rw length-reverse b) ∙ e ∙ ap (λ j. getD (x ∷ l) j d) (sym next)
 
 pub listed-first : (l : List ℤ) (n k : ℕ) → k < n → getD (listing leading (take n l)) k (pos 0) ≡ getD l k (pos 0)
 unfolding listing
@@ -57,21 +40,14 @@ pub listed-last : (l : List ℤ) (n k : ℕ) → n ≤ length l → k < n → ge
 unfolding listing
 listed-last l n k g h =
     let size : length (take n l) ≡ n = length-take-le n l g in
-    getD-reverse (take n l) k (pos 0) (rw size h) ∙ ap (λ j. getD (take n l) (j - 1 - k) (pos 0)) size
-    ∙ getD-take n l (n - 1 - k) (pos 0) (omega arith)
+    let place : n - suc k ≡ n - 1 - k = omega arith in
+    getD-reverse (pos 0) (take n l) k (rw size h) ∙ ap (λ j. getD (take n l) (j - suc k) (pos 0)) size
+    ∙ getD-take n l (n - suc k) (pos 0) (omega arith) ∙ ap (λ j. getD l j (pos 0)) place
 
 pub length-listing : (side : Side) (l : List ℤ) → length (listing side l) ≡ length l
 unfolding listing
 length-listing leading l = refl
 length-listing trailing l = length-reverse l
-
-every-reverse : {A : Type 0} (t : A → Bool) (l : List A) → T (every t l) → T (every t (reverse l))
-unfolding every
-every-reverse t [] h = tt
-every-reverse t (x ∷ l) h =
-    let both = T-&& (t x) (every t l) .0 h in
-    subst T (sym (ap (every t) (reverse-cons x l) ∙ every-append t (reverse l) (x ∷ [])))
-    (T-&& (every t (reverse l)) (t x && true) .1 (every-reverse t l (both .1), T-&& (t x) true .1 (both .0, tt)))
 
 pub every-listing : (side : Side) (t : ℤ → Bool) (l : List ℤ) → T (every t l) → T (every t (listing side l))
 unfolding listing

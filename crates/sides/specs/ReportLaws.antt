@@ -10,8 +10,7 @@
 --   option-of, answered-option   an answer for a root, as an option again
 --   report-settled         the report depends on the rows and on their columns alone
 --   report-none, report-next, report-all   the report over no rows, one row more, all rows
-use Prim.Native.Nat.{ℕ, zero, suc, _+_, _*_, _≤_, _<_, suc-le-suc}
-use native.Mathlib.Nat.{not-suc-le-zero, le-of-suc-le-suc, suc-ne-zero, suc-inj}
+use Prim.Native.Nat.{ℕ, _+_, _*_, _≤_, _<_, suc-le-suc}
 use native.Mathlib.Numerals.{add-one}
 use native.Mathlib.Omega.{arith}
 use mathlib.Core.Path.{_≡_, refl, sym, _∙_, ap, ap₂, subst}
@@ -24,13 +23,16 @@ use lib.IntN.{ℤ}
 use lib.ListN.{length, take, drop, getD}
 use lib.Seq.{take-suc, take-all, length-take-le, getD-take}
 use lib.Signed.{_≤ℤ_, leZ, leZ-yes}
-use Rattle.algebra.specs.Polynomials.{Polynomial, same-test}
+use Rattle.algebra.specs.Polynomials.{Polynomial}
+use Rattle.lists.specs.Tests.{same-test}
 use Rattle.algebra.specs.Roots.{roots}
 use Rattle.algebra.specs.Order.{≤ℤ-trans, ≤ℤ-total}
 use Rattle.rules.specs.Elimination.{Side, leading, trailing, State, diagonal, diagonalPlace, further, furthest, report}
 use Rattle.rules.specs.Limits.{rowLength, small}
-use Rattle.rules.specs.Rows.{Row, noRow, every}
+use Rattle.rules.specs.Rows.{Row, noRow}
+use Rattle.lists.specs.Tested.{every}
 use Rattle.rules.specs.Stores.{rowsOf, rowNeed}
+use Rattle.lists.specs.Images.{length-zipWith, getD-zipWith}
 use Rattle.rules.specs.Layout.{length-rowsOf, polynomial-at}
 use Rattle.rules.specs.Calls.{rootFound, rootValue}
 use Rattle.roots.specs.declared.RootAnswer.{RootAnswer}
@@ -172,21 +174,6 @@ module _ (side : Side) (a b : RootAnswer) where
 
 -- ---- the diagonal polynomials in the store
 
-module _ {A B C : Type 0} (f : A → B → C) where
-  length-zipWith : (l : List A) (m : List B) → length l ≡ length m → length (zipWith f l m) ≡ length l
-  unfolding zipWith
-  length-zipWith [] m e = refl
-  length-zipWith (x ∷ l) [] e = absurd (suc-ne-zero (length l) e)
-  length-zipWith (x ∷ l) (y ∷ m) e = ap suc (length-zipWith l m (suc-inj e))
-
-  getD-zipWith : (l : List A) (m : List B) (j : ℕ) (a : A) (b : B) (d : C) → length l ≡ length m → j < length l
-      → getD (zipWith f l m) j d ≡ f (getD l j a) (getD m j b)
-  unfolding zipWith
-  getD-zipWith [] m j a b d e h = absurd (not-suc-le-zero h)
-  getD-zipWith (x ∷ l) [] j a b d e h = absurd (suc-ne-zero (length l) e)
-  getD-zipWith (x ∷ l) (y ∷ m) zero a b d e h = refl
-  getD-zipWith (x ∷ l) (y ∷ m) (suc j) a b d e h = getD-zipWith l m j a b d (suc-inj e) (le-of-suc-le-suc h)
-
 abbrev pub settledState : ℕ → List ℤ → List ℕ → State
 settledState m store order = record { rows = rowsOf m store; relations = []; order = take m order; shifts = 0 }
 
@@ -238,7 +225,8 @@ module _ (side : Side) (D m : ℕ) (store : List ℤ) (order : List ℕ) (enough
     diagonal-at : getD ps j [] ≡ take 16 (drop (diagonalAt side D order j) store)
     unfolding diagonal diagonalAt
     diagonal-at =
-        getD-zipWith _ (rowsOf m store) (take m order) j noRow 0 [] same-count (rw length-rowsOf h)
+        getD-zipWith _ (rowsOf m store) (take m order) j noRow 0 [] (rw length-rowsOf h)
+        (subst (λ n. j < n) same-count (rw length-rowsOf h))
         ∙ ap (λ c. getD (getD (getD (rowsOf m store) j noRow .blocks) (diagonalPlace side D) []) c []) (getD-take m order j 0 h)
         ∙ polynomial-at m store j (diagonalPlace side D) (getD order j 0) h (place-below side D few) (Columns-at order columns j)
 

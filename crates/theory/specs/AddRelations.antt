@@ -12,8 +12,8 @@ use mathlib.Core.List.{List, _++_, List·Mem}
 use lib.IntN.{ℤ, pos}
 use Rattle.algebra.specs.Polynomials.{Polynomial}
 use Rattle.algebra.specs.Roots.{roots}
-use Rattle.rules.specs.Rows.{Row, Relation, All}
-use Rattle.rules.specs.Lists.{all-always, all-append, all-map, all-reverse, member-all}
+use Rattle.rules.specs.Rows.{Row, Relation}
+use Rattle.lists.specs.Everywhere.{All, all-always, all-append, all-map, all-reverse, member-all}
 use Rattle.rules.specs.Elimination.{Side, leading, trailing, listing, rootRelations}
 use Rattle.rules.specs.Sequences.{Sequence, valueOf, SatisfiesEquation, SatisfiesRelation, Satisfies}
 

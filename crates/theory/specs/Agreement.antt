@@ -16,11 +16,12 @@ use lib.IntN.{ℤ, pos, negℤ, _+ℤ_, negℤ-negℤ, negℤ-+ℤ}
 use lib.Signed.{_≤ℤ_, _<ℤ_, <ℤ-≤ℤ-trans}
 use Rattle.algebra.specs.Order.{≤ℤ-<ℤ-trans, negℤ-≤ℤ, negℤ-<ℤ}
 use Rattle.algebra.specs.Polynomials.{Polynomial, eval, isZero, mirror, isZero-mirror, eval-mirror}
-use Rattle.rules.specs.Rows.{Row, noRow, All, entry, leadingBlock}
+use Rattle.rules.specs.Rows.{Row, noRow, entry, leadingBlock}
+use Rattle.lists.specs.Everywhere.{All, all-mono, all-getD}
 use Rattle.rules.specs.Elimination.{leading, trailing, State, rowAt, mirrorState, diagonalPlace, diagonal, report}
 use Rattle.rules.specs.Stores.{Sizes, equations, span, unusedZero, rowRight, Valid}
 use Rattle.rules.specs.Sequences.{Sequence, SatisfiesEquation, Satisfies, Same}
-use Rattle.rules.specs.Lists.{all-mono, all-getD, every-all}
+use Rattle.lists.specs.Tested.{every-all}
 use Rattle.theory.specs.Steps.{current}
 use Rattle.theory.specs.Triangular.{Triangular}
 use Rattle.theory.specs.Pivots.{ColumnsBelow, column-below, order-complete}

@@ -27,10 +27,10 @@ use Rattle.algebra.specs.Sums.{sumBelow, sumBelow-zeros, sumBelow-single}
 use Rattle.algebra.specs.Polynomials.{Polynomial, eval, isZero, eval-isZero}
 use Rattle.algebra.specs.Order.{≤ℤ-intro, ≤ℤ-of-≡, ≤ℤ-trans, ≤ℤ-antisym, ≤ℤ-or->, <ℤ-+1, ≤ℤ-+ℤ-pos, +ℤ-≤ℤ-right, ≤ℤ-cancel-right}
 use Rattle.algebra.specs.Order.{ℤ-induction-up}
-use Rattle.rules.specs.Rows.{Block, Row, noRow, All, zeroBlock, leadingBlock, entry}
+use Rattle.rules.specs.Rows.{Block, Row, noRow, zeroBlock, leadingBlock, entry}
+use Rattle.lists.specs.Everywhere.{All, all-getD}
 use Rattle.rules.specs.Stores.{unusedZero}
 use Rattle.rules.specs.Sequences.{Sequence, blockValue, blocksValue, valueOf, SatisfiesEquation, Same}
-use Rattle.rules.specs.Lists.{all-getD}
 use Rattle.theory.specs.Values.{blockValue-sum, block-zero, index-below, value-difference}
 use Rattle.theory.specs.Cells.{unusedZero-iff, zeroBlock-past}
 

@@ -23,7 +23,7 @@ use Rattle.algebra.specs.Sums.{sumBelow, sumBelow-congr, sumBelow-append, sumBe
 use Rattle.algebra.specs.Polynomials.{Polynomial, eval, isZero, mul, shiftBy, eval-add, eval-mul, eval-shiftBy, eval-isZero}
 use Rattle.algebra.specs.Vanishing.{zero-everywhere}
 use Rattle.rules.specs.Rows.{Block, Row, noRow}
-use Rattle.rules.specs.Lists.{length-getD-flatten}
+use Rattle.lists.specs.Joined.{length-getD-flatten}
 use Rattle.rules.specs.Sequences.{Sequence, blockValue, blocksValue, valueOf, blockFrom, polynomialAt, addAll, shiftsWithin, combinationAt}
 use Rattle.rules.specs.Sequences.{Dependent}
 use Rattle.theory.specs.Values.{delta, value-delta, blockValue-sum, blocksValue-sum}

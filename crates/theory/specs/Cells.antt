@@ -31,9 +31,12 @@ use lib.Ieee.Fits.{and-i, and-l, and-r}
 use lib.IntN.{pos}
 use lib.ListN.{length, getD, set, take, drop, length-reverse, List·getD-map, List·getD-eq-default}
 use lib.Seq.{getD-drop, getD-append-add, length-take-le, length-front}
-use Rattle.algebra.specs.Polynomials.{Polynomial, isZero, mirror, isZero-mirror, isZero-cons, T-&&}
-use Rattle.rules.specs.Rows.{Block, Row, noRow, All, every, mapRow, zeroBlock, zeroRow, widthOf, width, entry, blank, mirrorRow}
-use Rattle.rules.specs.Lists.{all-mono, map-same, all-getD-default, getD-all, all-of-every, every-of-all}
+use Rattle.algebra.specs.Polynomials.{Polynomial, isZero, mirror, isZero-mirror, isZero-cons}
+use Rattle.lists.specs.Tests.{T-&&, true-of}
+use Rattle.rules.specs.Rows.{Block, Row, noRow, mapRow, zeroBlock, zeroRow, widthOf, width, entry, blank, mirrorRow}
+use Rattle.lists.specs.Everywhere.{All, all-mono, all-getD-default, getD-all}
+use Rattle.lists.specs.Tested.{every, all-of-every, every-of-all}
+use Rattle.lists.specs.Images.{map-same}
 use Rattle.rules.specs.Stores.{unusedZero}
 
 -- ---- zero blocks
@@ -105,13 +108,10 @@ pub mapRow-zero : (f : Polynomial → Polynomial) → f [] ≡ [] → ((p : Poly
     → (r : Row) → ZeroWhere r (mapRow f r)
 mapRow-zero f e keep r i c h = rw (cell-mapRow f e r i c) (keep (cell r i c) h)
 
-passed : (b : Bool) → T b → b ≡ true
-passed true h = refl
-
 -- A zero block behind the others changes no cell from zero to nonzero or back.
 pub append-zero : (bs : List Block) (z : Block) → T (zeroBlock z) → (i c : ℕ) → isZero (cellOf (bs ++ (z ∷ [])) i c) ≡ isZero (cellOf bs i c)
 unfolding isZero
-append-zero [] z h zero c = passed (isZero (getD z c [])) (zeroBlock-at z h c)
+append-zero [] z h zero c = true-of (isZero (getD z c [])) (zeroBlock-at z h c)
 append-zero [] z h (suc i) c = refl
 append-zero (b ∷ bs) z h zero c = refl
 append-zero (b ∷ bs) z h (suc i) c = append-zero bs z h i c

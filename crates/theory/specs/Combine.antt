@@ -17,9 +17,9 @@
 --   combine-unused          unused places stay zero
 --   combine-shaped, combinedRow-shaped   the shape
 -- The triangular form of the rows before it stays: `replace-pivots`.
-use mathlib.Core.Path.{_≡_, refl, sym, _∙_, ap, ap₂, subst}
+use mathlib.Core.Path.{_≡_, sym, _∙_, ap, ap₂, subst}
 use mathlib.Core.Logic.{_≢_, _↔_, _⊎_, inl, inr, ⊎-elim}
-use Prim.Native.Nat.{ℕ, zero, suc, _+_, _≤_, _<_, max}
+use Prim.Native.Nat.{ℕ, suc, _+_, _≤_, _<_, max}
 use native.Mathlib.Nat.{suc-inj, ne-of-gt, le-refl}
 use native.Mathlib.Decide.{ℕ-discrete}
 use native.Mathlib.Omega.{arith}
@@ -36,8 +36,9 @@ use Rattle.algebra.specs.Polynomials.{length-mul}
 use Rattle.algebra.specs.Roots.{roots, roots-complete, place}
 use Rattle.algebra.specs.Vanishing.{zero-everywhere}
 use Rattle.rules.specs.Limits.{coefficientCount}
-use Rattle.rules.specs.Rows.{Block, Row, Relation, noRow, All, mapRow, coefficientsOf, width, entry, combine, primitive, lowDegrees, cut}
-use Rattle.rules.specs.Lists.{all-getD, all-set, all-of-set, all-member, all-zipWith, length-zipWith}
+use Rattle.rules.specs.Rows.{Block, Row, Relation, noRow, mapRow, coefficientsOf, width, entry, combine, primitive, lowDegrees, cut}
+use Rattle.lists.specs.Everywhere.{All, all-getD, all-set, all-of-set, all-member, all-zipWith}
+use Rattle.lists.specs.Images.{length-zipWith, zipWith-place}
 use Rattle.rules.specs.Elimination.{Side, rootRelations}
 use Rattle.rules.specs.Stores.{Shaped, unusedZero}
 use Rattle.rules.specs.Sequences.{Sequence, blockValue, blocksValue, valueOf, SatisfiesEquation, SatisfiesRelation, Satisfies, Dependent}
@@ -231,15 +232,6 @@ combine-dependent l rows d g h i j r′ i-below j-below apart positive nonzero v
     d positive g h nonzero (λ z n. ap (λ v. pos d *ℤ v) (replaced-value l rows i r′ i-below z n) ∙ value l z n))
 
 -- ---- zero cells and the triangular form
-
--- A list made from two has at a place what f makes there, or ends before it.
-zipWith-place : {A B C : Type 0} (f : A → B → C) (l : List A) (m : List B) (i : ℕ) (a : A) (b : B) (c : C)
-    → (getD (zipWith f l m) i c ≡ f (getD l i a) (getD m i b)) ⊎ (getD (zipWith f l m) i c ≡ c)
-unfolding zipWith
-zipWith-place f [] m i a b c = inr refl
-zipWith-place f (x ∷ l) [] i a b c = inr refl
-zipWith-place f (x ∷ l) (y ∷ m) zero a b c = inl refl
-zipWith-place f (x ∷ l) (y ∷ m) (suc i) a b c = zipWith-place f l m i a b c
 
 cell-combine : (g h : Polynomial) (r q : Row) (i c : ℕ)
     → (cell (combine g h r q) i c ≡ add (mul g (cell r i c)) (mul h (cell q i c))) ⊎ (cell (combine g h r q) i c ≡ [])

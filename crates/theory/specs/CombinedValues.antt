@@ -12,7 +12,7 @@ use native.Mathlib.Omega.{arith}
 use lib.Dec.{T, T-not, not-T}
 use lib.IntN.{ℤ, pos, negℤ, natAbs, _+ℤ_, _-ℤ_, _*ℤ_, ℤ-discrete, +ℤ-idr, *ℤ-zero, *ℤ-comm, +ℤ-negℤ-cancel}
 use Rattle.algebra.specs.Integers.{ringℤ, *ℤ-assoc}
-use Rattle.algebra.specs.Order.{dec-T}
+use Rattle.lists.specs.Tests.{dec-T}
 use Rattle.algebra.specs.Sums.{countFrom-member, sumBelow-*ℤ}
 use Rattle.algebra.specs.Polynomials.{Polynomial, coeff, eval, isZero, add, mul, negate, shiftBy, eval-add, eval-mul, eval-negate}
 use Rattle.algebra.specs.Polynomials.{eval-shiftBy, isZero-coeff, coeff-isZero, isZero-mul-left, isZero-shiftBy}

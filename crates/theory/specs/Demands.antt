@@ -20,12 +20,14 @@ use lib.ListN.{length}
 use lib.IntN.{ℤ, _+ℤ_}
 use lib.Signed.{_≤ℤ_, _<ℤ_}
 use Rattle.algebra.specs.Polynomials.{isZero}
-use Rattle.rules.specs.Rows.{Row, Relation, All, zeroRow, width, entry, firstNonzero}
+use Rattle.rules.specs.Rows.{Row, Relation, zeroRow, width, entry, firstNonzero}
+use Rattle.lists.specs.Everywhere.{All, all-mono}
 use Rattle.rules.specs.Elimination.{Side, leading, trailing, State, Outcome, going, done, refused, start, enough, step, workOn, meet, run}
 use Rattle.rules.specs.Elimination.{wholeRun, leadingRun, trailingRun, mirrorState, diagonal, report, rowAt, putRow, limitDegrees, within}
 use Rattle.rules.specs.Stores.{Sizes, equations, span, rowRight, Valid}
 use Rattle.rules.specs.Sequences.{Sequence, Satisfies, Same, Dependent}
-use Rattle.rules.specs.Lists.{all-mono, every-all, cond-passed}
+use Rattle.lists.specs.Tested.{every-all}
+use Rattle.lists.specs.Tests.{cond-passed}
 use Rattle.theory.specs.Steps.{current, met, MetZeroBelow, combination, listed, Chain, Refusal, run-refused, step-refused}
 use Rattle.theory.specs.Cells.{width-unused}
 use Rattle.theory.specs.Ending.{wholeRun-ends, wholeRun-shifts, mirrorOutcome-refused}

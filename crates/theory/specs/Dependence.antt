@@ -14,7 +14,8 @@ use lib.Dec.{T}
 use lib.ListN.{length, set}
 use lib.IntN.{ℤ}
 use Rattle.algebra.specs.Polynomials.{isZero}
-use Rattle.rules.specs.Rows.{Row, All, zeroRow, leadingBlock, firstNonzero, shiftUp}
+use Rattle.rules.specs.Rows.{Row, zeroRow, leadingBlock, firstNonzero, shiftUp}
+use Rattle.lists.specs.Everywhere.{All}
 use Rattle.rules.specs.Elimination.{Side, State, done, refused, within, limitDegrees, limitCoefficients, rowAt, putRow, listRelations}
 use Rattle.rules.specs.Elimination.{settle, countShift, exchange, narrowFirst, run}
 use Rattle.rules.specs.Stores.{StoreRow}

@@ -25,7 +25,7 @@ use Rattle.algebra.specs.Integers.{+ℤ-left-comm}
 use Rattle.algebra.specs.Sums.{sumBelow, sumBelow-congr, sumBelow-append, sumBelow-front, sumBelow-zeros}
 use Rattle.algebra.specs.Polynomials.{eval, isZero}
 use Rattle.rules.specs.Rows.{Row, Relation, noRow, zeroRow, width}
-use Rattle.rules.specs.Lists.{without, length-without, getD-without-before, getD-without-after, all-without, all-of-without}
+use Rattle.lists.specs.Places.{without, length-without, getD-without-before, getD-without-after, all-without, all-of-without}
 use Rattle.rules.specs.Sequences.{Sequence, valueOf, SatisfiesEquation, Satisfies, Dependent}
 use Rattle.theory.specs.Cells.{zeroRow-width, totalWidth}
 use Rattle.theory.specs.Values.{value-zero}

@@ -20,12 +20,12 @@ use lib.Dec.{T, T-not}
 use lib.ListN.{length, getD, set, length-append, length-set, length-map}
 use Rattle.algebra.specs.Polynomials.{isZero}
 use Rattle.rules.specs.Limits.{blockCount, columnCount, coefficientCount}
-use Rattle.rules.specs.Rows.{Row, Relation, noRow, All, zeroRow, width, shiftUp, mirrorRow, mirrorRelation}
+use Rattle.rules.specs.Rows.{Row, Relation, noRow, zeroRow, width, shiftUp, mirrorRow, mirrorRelation}
+use Rattle.lists.specs.Everywhere.{All, all-mono, map-all, getD-all}
 use Rattle.rules.specs.Elimination.{Side, leading, trailing, State, start, Outcome, going, done, refused, within, limitDegrees}
 use Rattle.rules.specs.Elimination.{limitCoefficients, rowAt, putRow, listRelations, settle, countShift, exchange, narrowFirst, run, enough}
 use Rattle.rules.specs.Elimination.{leadingRun, mirrorState, mirrorOutcome, trailingRun, wholeRun}
 use Rattle.rules.specs.Stores.{Shaped, StoreRow}
-use Rattle.rules.specs.Lists.{all-mono, map-all, getD-all}
 use Rattle.theory.specs.Shapes.{mirrorRow-shaped}
 use Rattle.theory.specs.Steps.{current, met, MetZeroBelow, exchanged, listed, combination, multipliersFor, Stepped, combined, settled}
 use Rattle.theory.specs.Steps.{shifted, Chain, here, next, Narrowed, narrowed, kept, swapped, narrowFirst-width, length-narrowFirst}

@@ -23,7 +23,7 @@ use lib.IntN.{ℤ, _+ℤ_, _*ℤ_, +ℤ-comm}
 use Rattle.algebra.specs.Sums.{sumBelow, sumBelow-congr}
 use Rattle.algebra.specs.Polynomials.{eval, isZero}
 use Rattle.rules.specs.Rows.{Row, Relation, noRow, width}
-use Rattle.rules.specs.Lists.{swap, swap-same, length-swap, getD-swap-left, getD-swap-right, getD-swap-other, all-swap}
+use Rattle.lists.specs.Places.{swap, swap-same, length-swap, getD-swap-left, getD-swap-right, getD-swap-other, all-swap}
 use Rattle.rules.specs.Sequences.{Sequence, valueOf, SatisfiesEquation, Satisfies, Dependent}
 use Rattle.theory.specs.Cells.{totalWidth, totalWidth-set}
 use Rattle.theory.specs.Pivots.{PivotRow, PivotRows}

@@ -24,7 +24,7 @@ use Rattle.theory.specs.Values.{delta, value-delta}
 use Rattle.theory.specs.Combinations.{sumWithin-below, place-of, Multiplier, copies, combinationValue}
 use Rattle.theory.specs.ByValues.{rowValues, combination-zero}
 use Rattle.theory.specs.Pivots.{PivotRows}
-use Rattle.algebra.specs.Order.{dec-T}
+use Rattle.lists.specs.Tests.{dec-T}
 
 -- What a row makes at n of the sequence that is 1 at index n + l, the last that the row reaches: its leading entry.
 leading-value : (l : ℤ) (r : Row) (c : ℕ) (n : ℤ) → valueOf l r (delta (n +ℤ l) c) n ≡ eval (entry r c) n

@@ -23,17 +23,18 @@ use mathlib.Core.List.{List, [], _∷_, flatten, List·Mem, not-mem-nil}
 use lib.Dec.{T, leb→le, le→leb}
 use lib.ListN.{length, getD, set}
 use lib.IntN.{ℤ, pos, natAbs, ℤ-discrete}
-use Rattle.algebra.specs.Polynomials.{Polynomial, coeff, isZero, lowest, T-&&, isZero-cons}
+use Rattle.algebra.specs.Polynomials.{Polynomial, coeff, isZero, lowest, isZero-cons}
+use Rattle.lists.specs.Tests.{T-&&, cond-passed}
 use Rattle.algebra.specs.Coefficients.{lowest-place}
 use Rattle.algebra.specs.Vanishing.{root-divides-lowest, lowest-positive}
 use Rattle.algebra.specs.Roots.{roots, isConstant, roots-sound}
 use Rattle.rules.specs.Limits.{bound, coefficientCount, mostRelations, small, columnCount, blockCount}
-use Rattle.rules.specs.Rows.{Row, Relation, noRow, All, every, coefficientsOf, leadingBlock, entry, smallRow, shiftUp}
+use Rattle.rules.specs.Rows.{Row, Relation, noRow, coefficientsOf, leadingBlock, entry, smallRow, shiftUp}
+use Rattle.lists.specs.Everywhere.{All, all-getD-default, all-getD, all-set, append-all, all-flatten}
+use Rattle.lists.specs.Tested.{every, all-of-every, every-of-all, every-all}
 use Rattle.rules.specs.Elimination.{Side, State, start, within, limitDegrees, limitCoefficients, rowAt, putRow, listRelations, settle}
 use Rattle.rules.specs.Elimination.{countShift, rootRelations, multipliersAt}
 use Rattle.rules.specs.Stores.{Sizes, span, countRight, unusedZero, rowRight, relationRight, Valid, StoreRow}
-use Rattle.rules.specs.Lists.{all-getD-default, all-of-every, every-of-all, all-getD, all-set, append-all, all-flatten, every-all}
-use Rattle.rules.specs.Lists.{cond-passed}
 use Rattle.theory.specs.Steps.{Stepped, combined, settled, shifted, Chain, chain-induction, current, exchanged, multipliersFor}
 use Rattle.theory.specs.Steps.{combination, stepped-length, limitDegrees-within, limitCoefficients-within, relations-narrowFirst}
 use Rattle.theory.specs.Steps.{length-narrowFirst, met, order-narrowFirst, narrowFirst-all}

@@ -33,15 +33,17 @@ use Rattle.algebra.specs.Order.{≤ℤ-difference, negℤ-≤ℤ, pos-≤ℤ, p
 use Rattle.algebra.specs.Sums.{sumOver-congr, sumBelow-congr, sumBelow-reverse}
 use Rattle.algebra.specs.Polynomials.{Polynomial, eval, isZero, negate, mirror, mirror-mirror, isZero-mirror, eval-mirror}
 use Rattle.rules.specs.Limits.{bound, coefficientCount, columnCount, blockCount, small}
-use Rattle.rules.specs.Rows.{Block, Row, Relation, noRow, All, every, mapRow, smallRow, zeroBlock, leadingBlock, entry, mirrorRow}
+use Rattle.rules.specs.Rows.{Block, Row, Relation, noRow, mapRow, smallRow, zeroBlock, leadingBlock, entry, mirrorRow}
+use Rattle.lists.specs.Everywhere.{All, all-always, all-mono, all-both, all-take, all-drop, append-all, reverse-all, all-getD, map-keeps}
+use Rattle.lists.specs.Tested.{every, every-all}
 use Rattle.rules.specs.Rows.{mirrorRelation}
 use Rattle.rules.specs.Elimination.{leading, trailing, State, mirrorState, diagonalPlace, diagonal}
 use Rattle.rules.specs.Stores.{Sizes, equations, span, sizesRight, countRight, unusedZero, rowRight, relationRight, Shaped, StoreRow, Valid}
 use Rattle.rules.specs.Layout.{SizeBounds, size-bounds, bounds-right}
 use Rattle.rules.specs.Sequences.{Sequence, blockValue, blocksValue, valueOf, SatisfiesEquation, SatisfiesRelation, Satisfies, shiftsWithin}
 use Rattle.rules.specs.Sequences.{Dependent}
-use Rattle.rules.specs.Lists.{all-always, all-mono, all-both, all-take, all-drop, append-all, reverse-all, all-getD, every-all, map-keeps}
-use Rattle.rules.specs.Lists.{all-images, map-back, map-take, map-drop, map-reverse}
+use Rattle.lists.specs.Everywhere.{all-images}
+use Rattle.lists.specs.Images.{map-back, map-take, map-drop, map-reverse}
 use Rattle.theory.specs.Shapes.{mirrorRow-shaped}
 use Rattle.theory.specs.Values.{blocks-always, blocks-append-zero, index-below}
 use Rattle.theory.specs.Cells.{mapRow-zero, unusedZero-iff, unused-kept}

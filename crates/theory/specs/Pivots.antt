@@ -24,8 +24,9 @@ use lib.Dec.{T, T-not, not-T}
 use lib.ListN.{length, getD, List·getD-append}
 use Rattle.algebra.specs.Polynomials.{isZero}
 use Rattle.algebra.specs.Pigeonhole.{Distinct, pigeonhole}
-use Rattle.rules.specs.Rows.{Row, noRow, All, zeroBlock, zeroRow, width, leadingBlock, entry}
-use Rattle.rules.specs.Lists.{all-getD, member-place}
+use Rattle.rules.specs.Rows.{Row, noRow, zeroBlock, zeroRow, width, leadingBlock, entry}
+use Rattle.lists.specs.Everywhere.{All, all-getD}
+use Rattle.lists.specs.Places.{member-place}
 use Rattle.theory.specs.Cells.{zeroBlock-at, entry-cell, cell-within, zeroRow-width}
 
 pub record PivotRow (order : List ℕ) (j : ℕ) (r : Row) : Type 0 where

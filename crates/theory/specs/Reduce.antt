@@ -21,8 +21,10 @@ use Rattle.algebra.specs.Division.{DividesZ}
 use Rattle.algebra.specs.Gcd.{content, divideBy, DividesAll, content-divides, length-divideBy, divideBy-one, divideBy-getD, eval-divideBy}
 use Rattle.algebra.specs.Polynomials.{Polynomial, coeff, eval, isZero, isZero-append, isZero-coeff, coeff-isZero, eval-take}
 use Rattle.rules.specs.Limits.{coefficientCount}
-use Rattle.rules.specs.Rows.{Block, Row, All, every, mapRow, coefficientsOf, primitive, lowDegrees, cut}
-use Rattle.rules.specs.Lists.{all-mono, all-all-mono, all-always, all-getD-default, getD-all, all-of-flatten, all-of-every, map-same}
+use Rattle.rules.specs.Rows.{Block, Row, mapRow, coefficientsOf, primitive, lowDegrees, cut}
+use Rattle.lists.specs.Everywhere.{All, all-mono, all-all-mono, all-always, all-getD-default, getD-all, all-of-flatten}
+use Rattle.lists.specs.Tested.{every, all-of-every}
+use Rattle.lists.specs.Images.{map-same}
 use Rattle.rules.specs.Stores.{Shaped}
 use Rattle.rules.specs.Sequences.{Sequence, valueOf}
 use Rattle.theory.specs.Cells.{ZeroWhere, mapRow-zero}

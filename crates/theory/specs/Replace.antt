@@ -13,8 +13,8 @@ use native.Mathlib.Omega.{arith}
 use lib.ListN.{length, getD, set, length-set}
 use lib.Seq.{getD-set-same, getD-set-other, lt-length-set}
 use lib.IntN.{ℤ, pos, _+ℤ_, _-ℤ_, -ℤ-+ℤ-cancel}
-use Rattle.rules.specs.Rows.{Row, Relation, noRow, All}
-use Rattle.rules.specs.Lists.{all-getD, all-set, all-of-set}
+use Rattle.rules.specs.Rows.{Row, Relation, noRow}
+use Rattle.lists.specs.Everywhere.{All, all-getD, all-set, all-of-set}
 use Rattle.rules.specs.Sequences.{Sequence, valueOf, SatisfiesEquation, SatisfiesRelation, Satisfies, Dependent}
 use Rattle.theory.specs.Pivots.{PivotRow, PivotRows}
 use Rattle.theory.specs.Combinations.{moved-iff}

@@ -12,15 +12,13 @@
 --   diagonal-member, diagonal-index   the members of the diagonal are its entries by row
 --   report-none, report-some   "no" exactly if no diagonal polynomial has an integer root; otherwise the furthest root of all
 --   past-report            past the report no diagonal polynomial is zero
-use Prim.Native.Nat.{ℕ, zero, suc, _<_, suc-le-suc}
-use native.Mathlib.Nat.{le-of-suc-le-suc, not-suc-le-zero}
-use native.Mathlib.Omega.{arith}
+use Prim.Native.Nat.{ℕ, _<_}
 use mathlib.Core.Path.{_≡_, refl, sym, _∙_, ap, subst}
 use mathlib.Core.Logic.{_↔_, _≢_, _⊎_, inl, inr, ⊎-elim}
 use mathlib.Core.Bool.{Bool, true, false, not, cond}
 use mathlib.Core.Option.{Option, none, some}
-use mathlib.Core.List.{List, [], _∷_, map, flatten, zipWith, List·Memᴰ, List·Memᴰ·head, List·Memᴰ·tail, List·Memᴰ·cases-cons}
-use mathlib.Core.List.{List·Memᴰ·not-nil, List·Memᴰ·append-cases, Memᴰ·append-left, Memᴰ·append-right, Memᴰ·cast}
+use mathlib.Core.List.{List, [], _∷_, map, flatten, List·Memᴰ, List·Memᴰ·head, List·Memᴰ·tail, List·Memᴰ·cases-cons}
+use mathlib.Core.List.{List·Memᴰ·not-nil, Memᴰ·cast}
 use lib.Dec.{T, T-not}
 use lib.ListN.{length, getD}
 use lib.IntN.{ℤ, pos}
@@ -30,6 +28,8 @@ use Rattle.algebra.specs.Polynomials.{Polynomial, eval, isZero}
 use Rattle.algebra.specs.Roots.{roots, roots-sound, roots-complete, place}
 use Rattle.rules.specs.Rows.{noRow}
 use Rattle.rules.specs.Elimination.{Side, leading, trailing, State, diagonalPlace, diagonal, further, furthest, report}
+use Rattle.lists.specs.Images.{zip-member, zip-index}
+use Rattle.lists.specs.Joined.{flat-member, flat-origin}
 
 abbrev pub NoFurther : Side → ℤ → ℤ → Type 0
 NoFurther leading a r = a ≤ℤ r
@@ -135,32 +135,6 @@ past-clash trailing n r h k = clashℤ h k
 abbrev pub diagonalEntry : Side → ℕ → State → ℕ → Polynomial
 diagonalEntry side D s j = getD (getD (getD (s .rows) j noRow .blocks) (diagonalPlace side D) []) (getD (s .order) j 0) []
 
-zip-member : {A B C : Type 0} (f : A → B → C) (l : List A) (m : List B) (a : A) (b : B) (j : ℕ) → j < length l → j < length m
-    → List·Memᴰ (f (getD l j a) (getD m j b)) (zipWith f l m)
-unfolding zipWith
-zip-member f [] m a b j h k = absurd (not-suc-le-zero h)
-zip-member f (x ∷ l) [] a b j h k = absurd (not-suc-le-zero k)
-zip-member f (x ∷ l) (y ∷ m) a b zero h k = List·Memᴰ·head refl
-zip-member f (x ∷ l) (y ∷ m) a b (suc j) h k =
-    List·Memᴰ·tail (zip-member f l m a b j (le-of-suc-le-suc h) (le-of-suc-le-suc k))
-
--- c is made from the members of both lists at one place.
-abbrev Zipped : {A B C : Type 0} → (A → B → C) → List A → List B → A → B → C → Type 0
-Zipped f l m a b c = (j : ℕ) × (j < length l) × (j < length m) × (c ≡ f (getD l j a) (getD m j b))
-
-zip-index : {A B C : Type 0} (f : A → B → C) (l : List A) (m : List B) (a : A) (b : B) {c : C}
-    → List·Memᴰ c (zipWith f l m) → Zipped f l m a b c
-unfolding zipWith
-zip-index f [] m a b p = absurd (List·Memᴰ·not-nil p)
-zip-index f (x ∷ l) [] a b p = absurd (List·Memᴰ·not-nil p)
-zip-index f (x ∷ l) (y ∷ m) a b {c} p = ⊎-elim here (λ q. there (zip-index f l m a b q)) (List·Memᴰ·cases-cons p)
-  where
-    here : c ≡ f x y → Zipped f (x ∷ l) (y ∷ m) a b c
-    here e = (0, omega arith, omega arith, e)
-
-    there : Zipped f l m a b c → Zipped f (x ∷ l) (y ∷ m) a b c
-    there z = (suc (z .0), suc-le-suc (z .1), suc-le-suc (z .2), z .3)
-
 pub diagonal-member : (side : Side) (D : ℕ) (s : State) (j : ℕ) → j < length (s .rows) → j < length (s .order)
     → List·Memᴰ (diagonalEntry side D s j) (diagonal side D s)
 unfolding diagonal
@@ -179,23 +153,6 @@ pub nonzero-diagonal : (side : Side) (D : ℕ) (s : State)
 nonzero-diagonal side D s h p m = let (j, k, o, e) = diagonal-index side D s m in rw e (h j k o)
 
 -- ---- the report
-
-flat-member : {A B : Type 0} (f : A → List B) {p : A} {r : B} (l : List A)
-    → List·Memᴰ p l → List·Memᴰ r (f p) → List·Memᴰ r (flatten (map f l))
-unfolding flatten
-flat-member f [] m k = absurd (List·Memᴰ·not-nil m)
-flat-member f {p} {r} (x ∷ l) m k =
-    ⊎-elim (λ e. Memᴰ·append-left _ (rw e at k)) (λ q. Memᴰ·append-right (f x) (flat-member f l q k)) (List·Memᴰ·cases-cons m)
-
-flat-origin : {A B : Type 0} (f : A → List B) {r : B} (l : List A)
-    → List·Memᴰ r (flatten (map f l)) → (p : A) × List·Memᴰ p l × List·Memᴰ r (f p)
-unfolding flatten
-flat-origin f [] m = absurd (List·Memᴰ·not-nil m)
-flat-origin {A = A} f {r} (x ∷ l) m =
-    ⊎-elim (λ k. (x, List·Memᴰ·head refl, k)) (λ k. later (flat-origin f l k)) (List·Memᴰ·append-cases (f x) m)
-  where
-    later : (p : A) × List·Memᴰ p l × List·Memᴰ r (f p) → (p : A) × List·Memᴰ p (x ∷ l) × List·Memᴰ r (f p)
-    later o = (o .0, List·Memᴰ·tail (o .1), o .2)
 
 -- The integer roots of the diagonal polynomials, all in one list.
 abbrev rootsOf : List Polynomial → List ℤ

@@ -17,11 +17,11 @@ use lib.Dec.{T}
 use lib.ListN.{length, getD, length-map, List·getD-map}
 use Rattle.algebra.specs.Pigeonhole.{Distinct}
 use Rattle.algebra.specs.Polynomials.{Polynomial, isZero, isZero-mirror}
-use Rattle.rules.specs.Rows.{Row, Relation, noRow, All, entry, leadingBlock, mapRow, mirrorRow, mirrorRelation}
+use Rattle.rules.specs.Rows.{Row, Relation, noRow, entry, leadingBlock, mapRow, mirrorRow, mirrorRelation}
+use Rattle.lists.specs.Everywhere.{All, all-getD}
 use Rattle.rules.specs.Elimination.{Side, leading, trailing, State, start, done, run, enough, wholeRun, leadingRun, trailingRun}
 use Rattle.rules.specs.Elimination.{mirrorState, diagonalPlace, rowAt}
-use Rattle.rules.specs.Stores.{Sizes, equations, span, Valid}
-use Rattle.rules.specs.Lists.{all-getD}
+use Rattle.rules.specs.Stores.{Sizes, span, Valid, equations}
 use Rattle.theory.specs.Steps.{current, Chain, run-done}
 use Rattle.theory.specs.Triangular.{Triangular, triangular-start, triangular-chain}
 use Rattle.theory.specs.Pivots.{order-distinct}

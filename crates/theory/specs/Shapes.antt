@@ -17,9 +17,9 @@ use lib.ListN.{replicate, length, take, drop, getD, length-map, length-reverse}
 use lib.Seq.{length-front}
 use lib.IntN.{pos}
 use Rattle.algebra.specs.Polynomials.{Polynomial, isZero, mirror, length-mirror}
-use Rattle.rules.specs.Rows.{Block, Row, All, mapRow, leadingBlock, entry, blank, mirrorRow}
+use Rattle.rules.specs.Rows.{Block, Row, mapRow, leadingBlock, entry, blank, mirrorRow}
+use Rattle.lists.specs.Everywhere.{All, all-getD, append-all, all-take, all-drop, reverse-all, map-keeps}
 use Rattle.rules.specs.Stores.{Shaped}
-use Rattle.rules.specs.Lists.{all-getD, append-all, all-take, all-drop, reverse-all, map-keeps}
 
 -- ---- shapes
 

@@ -21,17 +21,20 @@ use native.Mathlib.Decide.{ℕ-discrete}
 use native.Mathlib.Numerals.{add-one}
 use mathlib.Core.Bool.{Bool, true}
 use mathlib.Core.List.{List, [], _∷_, _++_, map, map-append, dropLast, getLastD}
-use native.Mathlib.Nat.{not-suc-le-zero, suc-le-suc-iff, zero-lt-suc, suc-inj, suc-ne-zero, lt-of-lt-of-le}
+use native.Mathlib.Nat.{not-suc-le-zero, suc-le-suc-iff, zero-lt-suc, lt-of-lt-of-le}
 use native.Mathlib.Omega.{arith}
 use lib.Dec.{T}
 use lib.ListN.{length, getD, set, length-set, length-append}
 use lib.IntN.{ℤ, pos, negsuc, predℤ, _+ℤ_, _-ℤ_, +ℤ-idl, predℤ-+ℤ, +ℤ-negℤ-cancel, -ℤ-one}
 use Rattle.algebra.specs.Polynomials.{Polynomial, isZero, shift, shiftBy, eval-shiftBy, isZero-shiftBy, length-shiftBy, shiftBy-inverse}
-use Rattle.algebra.specs.Polynomials.{T-&&}
-use Rattle.rules.specs.Rows.{Block, Row, Relation, noRow, All, every, mapRow, zeroBlock, width, leadingBlock, entry, blank, shiftUp}
-use Rattle.rules.specs.Lists.{all-always, map-back, map-keeps, all-of-every, every-of-all, all-front, all-back}
+use Rattle.lists.specs.Tests.{T-&&}
+use Rattle.rules.specs.Rows.{Block, Row, Relation, noRow, mapRow, zeroBlock, width, leadingBlock, entry, blank, shiftUp}
+use Rattle.lists.specs.Everywhere.{All, all-always, map-keeps, all-front, all-back}
+use Rattle.lists.specs.Tested.{every, all-of-every, every-of-all}
+use Rattle.lists.specs.Images.{map-back}
 use Rattle.rules.specs.Stores.{Shaped, unusedZero}
 use Rattle.rules.specs.Sequences.{Sequence, blocksValue, valueOf, Satisfies, Dependent}
+use Rattle.lists.specs.Taken.{front-last, dropLast-behind, getLastD-behind, getLastD-place}
 use Rattle.theory.specs.Cells.{zeroBlock-all, zeroBlock-at, width-moved, width-moved-le, blank-zero, blank-same, cell, entry-cell}
 use Rattle.theory.specs.Cells.{cell-mapRow, append-zero, totalWidth, totalWidth-set, unused-cells}
 use Rattle.theory.specs.Shapes.{BlockShaped, mapRow-shaped, blank-shaped}
@@ -51,33 +54,6 @@ moved r = record { blocks = blank (lastBlock r) ∷ dropLast (r .blocks) }
 
 unfoldable pub shiftDown : Row → Row
 shiftDown r = mapRow (shiftBy (negsuc 0)) (moved r)
-
--- A list that is not empty is all but the last member, and the last.
-module _ {A : Type 0} where
-  front-last : (l : List A) (d : A) → 0 < length l → dropLast l ++ (getLastD l d ∷ []) ≡ l
-  unfolding getLastD
-  front-last [] d h = absurd (not-suc-le-zero h)
-  front-last (x ∷ []) d h = refl
-  front-last (x ∷ y ∷ l) d h = ap (λ k. x ∷ k) (front-last (y ∷ l) d (zero-lt-suc (length l)))
-
-  dropLast-behind : (l : List A) (x : A) → dropLast (l ++ (x ∷ [])) ≡ l
-  dropLast-behind [] x = refl
-  dropLast-behind (y ∷ []) x = refl
-  dropLast-behind (y ∷ z ∷ l) x = ap (λ k. y ∷ k) (dropLast-behind (z ∷ l) x)
-
-  getLastD-behind : (l : List A) (x d : A) → getLastD (l ++ (x ∷ [])) d ≡ x
-  unfolding getLastD
-  getLastD-behind [] x d = refl
-  getLastD-behind (y ∷ []) x d = refl
-  getLastD-behind (y ∷ z ∷ l) x d = getLastD-behind (z ∷ l) x d
-
-  getLastD-place : (l : List A) (d : A) (n : ℕ) → length l ≡ suc n → getLastD l d ≡ getD l n d
-  unfolding getLastD
-  getLastD-place [] d n e = absurd (suc-ne-zero n (sym e))
-  getLastD-place (x ∷ []) d zero e = refl
-  getLastD-place (x ∷ []) d (suc n) e = absurd (suc-ne-zero n (sym (suc-inj e)))
-  getLastD-place (x ∷ y ∷ l) d zero e = absurd (suc-ne-zero (length l) (suc-inj e))
-  getLastD-place (x ∷ y ∷ l) d (suc n) e = getLastD-place (y ∷ l) d n (suc-inj e)
 
 -- The blocks are all but the last and the last, where there is one.
 front-lastBlock : (r : Row) → 0 < length (r .blocks) → dropLast (r .blocks) ++ (lastBlock r ∷ []) ≡ r .blocks

@@ -17,7 +17,8 @@ use lib.IntN.{ℤ}
 use Rattle.algebra.specs.Polynomials.{isZero}
 use Rattle.rules.specs.Limits.{coefficientCount, columnCount, blockCount}
 use Rattle.rules.specs.Stores.{StoreRow}
-use Rattle.rules.specs.Rows.{Row, Relation, All, zeroBlock, leadingBlock, firstNonzero, shiftUp}
+use Rattle.rules.specs.Rows.{Row, Relation, zeroBlock, leadingBlock, firstNonzero, shiftUp}
+use Rattle.lists.specs.Everywhere.{All}
 use Rattle.rules.specs.Elimination.{Side, State, start, within, limitDegrees, limitCoefficients, rowAt, putRow, listRelations, settle}
 use Rattle.rules.specs.Elimination.{countShift, exchange}
 use Rattle.rules.specs.Sequences.{Sequence, Satisfies}

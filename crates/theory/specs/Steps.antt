@@ -32,9 +32,11 @@ use lib.ListN.{length, getD, set, length-set, length-map}
 use lib.Seq.{getD-set-same}
 use Rattle.algebra.specs.Polynomials.{Polynomial, isZero}
 use Rattle.rules.specs.Limits.{mostRelations}
-use Rattle.rules.specs.Rows.{All, Row, Relation, noRow, zeroRow, width, entry, leadingBlock, firstNonzero, combine, primitive, lowDegrees}
+use Rattle.rules.specs.Rows.{Row, Relation, noRow, zeroRow, width, entry, leadingBlock, firstNonzero, combine, primitive, lowDegrees}
+use Rattle.lists.specs.Everywhere.{All}
 use Rattle.rules.specs.Rows.{cut, smallRow, shiftUp}
-use Rattle.rules.specs.Lists.{all-swap, getD-map, getD-swap-left, getD-swap-right, length-swap}
+use Rattle.lists.specs.Places.{all-swap, getD-swap-left, getD-swap-right, length-swap}
+use Rattle.lists.specs.Images.{getD-map}
 use Rattle.rules.specs.Elimination.{Side, Multipliers, State, Outcome, going, done, refused, Limited, within, beyond, limitCoefficients}
 use Rattle.rules.specs.Elimination.{limitDegrees, rowAt, putRow, putLimited, listRelations, settle, countShift, exchange, rootRelations}
 use Rattle.rules.specs.Elimination.{multipliersAt, narrowFirst, combineStep, eliminateStep, shiftStep, settleOrShift, meet, workOn, step}

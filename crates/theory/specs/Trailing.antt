@@ -13,11 +13,11 @@ use mathlib.Core.Logic.{_↔_, Iff·trans, Iff·symm}
 use mathlib.Core.List.{List, map}
 use lib.IntN.{ℤ, pos, negℤ, _+ℤ_, negℤ-negℤ}
 use lib.Signed.{_≤ℤ_, _<ℤ_}
-use Rattle.rules.specs.Rows.{Row, Relation, All, mirrorRow, mirrorRelation}
+use Rattle.rules.specs.Rows.{Row, Relation, mirrorRow, mirrorRelation}
+use Rattle.lists.specs.Everywhere.{All, all-mono}
 use Rattle.rules.specs.Elimination.{leading, trailing, State, start, refused, run, enough, wholeRun, trailingRun, mirrorState, report}
 use Rattle.rules.specs.Stores.{Sizes, equations, span, Valid}
 use Rattle.rules.specs.Sequences.{Sequence, Satisfies, Same, Dependent}
-use Rattle.rules.specs.Lists.{all-mono}
 use Rattle.theory.specs.Triangular.{triangular-start}
 use Rattle.theory.specs.Limits.{StateShaped}
 use Rattle.theory.specs.Solutions.{run-solutions}

@@ -21,12 +21,14 @@ use lib.ListN.{length, drop, getD}
 use lib.IntN.{ℤ, pos, negsuc, negℤ, natAbs, predℤ, _+ℤ_, _-ℤ_, _*ℤ_, +ℤ-idl, +ℤ-idr, +ℤ-invr, predℤ-+ℤ, +ℤ-predℤ, negℤ-sucℤ, *ℤ-zero}
 use lib.IntN.{zero-*ℤ}
 use Rattle.algebra.specs.Integers.{ringℤ, one-*ℤ, *ℤ-+ℤ, -ℤ-zero}
-use Rattle.algebra.specs.Polynomials.{Polynomial, eval, isZero, isZeroℤ, eval-isZero, isZeroℤ-iff, T-&&}
+use Rattle.algebra.specs.Polynomials.{Polynomial, eval, isZero, isZeroℤ, eval-isZero, isZeroℤ-iff}
+use Rattle.lists.specs.Tests.{T-&&, cond-passed, cond-failed}
 use Rattle.algebra.specs.Sums.{sumOver, countFrom, sumBelow, sumBelow-front, sumBelow-congr, sumBelow-zeros}
-use Rattle.rules.specs.Rows.{Block, Row, All, every, mapRow, zeroBlock, zeroRow}
+use Rattle.rules.specs.Rows.{Block, Row, mapRow, zeroBlock, zeroRow}
+use Rattle.lists.specs.Everywhere.{All, all-all-mono, all-always}
+use Rattle.lists.specs.Tested.{every, all-of-every}
 use Rattle.rules.specs.Stores.{unusedZero}
 use Rattle.rules.specs.Sequences.{Sequence, blockValue, blocksValue, valueOf, Same, blockFrom, polynomialAt}
-use Rattle.rules.specs.Lists.{all-all-mono, all-always, all-of-every, cond-passed, cond-failed}
 use Rattle.theory.specs.Cells.{zeroBlock-all}
 
 -- ---- a function of the polynomials that multiplies the values

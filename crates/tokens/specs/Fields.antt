@@ -27,7 +27,7 @@ use mir.Syntax.{w64}
 use mir.Val.{SFits, ofZ, toZ}
 use mir.Facts.{toZ-ofZ}
 use Rattle.algebra.specs.Order.{≤ℤ-trans, natAbs-≤-iff}
-use Rattle.algebra.specs.Polynomials.{both-true}
+use Rattle.lists.specs.Tests.{both-true}
 use Rattle.rules.specs.Numbers.{isSeparator, word, afterWord, digits, startsRight, beginsNumber, isNumber, numberOf, Read, got, fault, thenRead, judged, readWord, readSeparator, field, between}
 use Rattle.tokens.specs.Tokens.{DigitsStart, DigitsTo, Stopped, token-cut, token-stops, digits-followed, begins-is, number-is, number-of, unjudged}
 

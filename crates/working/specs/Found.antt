@@ -23,14 +23,18 @@ use lib.Dec.{eqb, eqb·suc-zero, lit<, lit≤}
 use lib.IntN.{ℤ, pos}
 use lib.ListN.{length, take, drop, getD, length-map, List·getD-map}
 use lib.Seq.{take-add, length-take-le, getD-take, getD-drop}
-use Rattle.algebra.specs.Polynomials.{Polynomial, isZeroℤ, isZero, isZero-append, both-true}
+use Rattle.algebra.specs.Polynomials.{Polynomial, isZeroℤ, isZero, isZero-append}
+use Rattle.lists.specs.Tests.{both-true}
 use Rattle.polynomials.specs.Content.{isZero-false}
+use Rattle.rules.specs.Rows.{Block, Row, zeroBlock, widthOf, leadingBlock, entry, firstNonzero}
+use Rattle.lists.specs.Everywhere.{All}
+use Rattle.lists.specs.Tested.{every, every-longer}
+use Rattle.lists.specs.Places.{getD-default}
+use Rattle.rules.specs.Stores.{rowOf}
+use Rattle.lists.specs.Parts.{parts, take-parts, parts-length, getD-parts, parts-take}
+use Rattle.rows.specs.Flat.{isZero-every, every-parts, block-at}
 use Rattle.rules.specs.Limits.{coefficientCount, columnCount, blockLength}
-use Rattle.rules.specs.Rows.{Block, Row, All, every, zeroBlock, widthOf, leadingBlock, entry, firstNonzero}
-use Rattle.rules.specs.Lists.{getD-default}
-use Rattle.rules.specs.Stores.{parts, rowOf}
-use Rattle.rules.specs.Layout.{blockOf, coefficientsAt, parts-length, getD-parts}
-use Rattle.rows.specs.Flat.{every-longer, isZero-every, every-parts, parts-take, block-at}
+use Rattle.rules.specs.Layout.{blockOf, coefficientsAt}
 
 unfoldable pub foundOr : ℕ → Option ℕ → ℕ
 foundOr n none = n
@@ -100,12 +104,6 @@ unfolding isZeroℤ
 isZero-longer l i h z e =
     isZero-every (take (i + 1) l)
     ∙ every-longer isZeroℤ l i (pos 0) h (sym (isZero-every (take i l)) ∙ z) (ap isZeroℤ e)
-
-take-parts : {A : Type 0} (k n j : ℕ) (l : List A) → j ≤ n → take j (parts k n l) ≡ parts k j l
-unfolding parts
-take-parts k n zero l h = refl
-take-parts k zero (suc j) l h = absurd (not-suc-le-zero h)
-take-parts k (suc n) (suc j) l h = ap (λ r. take k l ∷ r) (take-parts k n j (drop k l) (le-of-suc-le-suc h))
 
 leadingBlock-parts : (l : List ℤ) → leadingBlock (rowOf l) ≡ blockOf l
 unfolding leadingBlock

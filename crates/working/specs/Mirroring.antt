@@ -11,27 +11,28 @@
 --   number-mirrorRow    each number of the mirror
 --   small-mirrorRow     the mirror of a row with coefficients within ±C has such coefficients
 use Prim.Native.Nat.{ℕ, zero, suc, _+_, _*_, _-_, _/_, _%_, _≤_, _<_, zero-le}
-use native.Mathlib.Nat.{not-suc-le-zero, le-of-suc-le-suc, eq-or-lt-of-le, le-of-eq, suc-ne-zero}
+use native.Mathlib.Nat.{le-of-eq, suc-ne-zero}
 use native.Mathlib.Omega.{arith}
 use mathlib.Core.Path.{_≡_, refl, sym, _∙_, ap}
-use mathlib.Core.Logic.{⊎-elim}
 use mathlib.Core.Bool.{Bool, true, false, cond}
-use mathlib.Core.List.{List, [], _∷_, _++_, map, reverse, reverse-cons}
+use mathlib.Core.List.{List, [], _++_, map, reverse}
 use borrow.Author.Tests.{leb-true, leb-false}
 use lib.Dec.{T, leb}
 use lib.IntN.{ℤ, pos, negℤ, natAbs, negℤ-negℤ}
 use lib.ListN.{length, take, drop, getD, length-map, length-append, length-take, length-drop, length-reverse}
 use lib.ListN.{List·getD-append, List·getD-map}
-use lib.Seq.{length-take-le, getD-take, getD-drop, getD-at, getD-append-add}
+use lib.Seq.{length-take-le, getD-take, getD-drop, getD-append-add}
 use Rattle.algebra.specs.Integers.{natAbs-negℤ}
 use Rattle.algebra.specs.Polynomials.{coeff, mirror, length-mirror}
 use Rattle.algebra.specs.Coefficients.{alternate, coeff-mirror}
-use Rattle.rules.specs.Limits.{coefficientCount, columnCount, mostSpan, blockCount, blockLength, rowLength, small}
-use Rattle.rules.specs.Rows.{Block, Row, All, every, coefficientsOf, mapRow, smallRow, mirrorRow}
-use Rattle.rules.specs.Lists.{all-getD, getD-all, map-keeps}
+use Rattle.rules.specs.Limits.{rowLength, small, coefficientCount, columnCount, mostSpan, blockCount, blockLength}
+use Rattle.rules.specs.Rows.{Block, Row, coefficientsOf, mapRow, smallRow, mirrorRow}
+use Rattle.lists.specs.Everywhere.{All, all-getD, getD-all, map-keeps}
+use Rattle.lists.specs.Tested.{every, every-from-at, every-from-all}
 use Rattle.rules.specs.Stores.{rowOf, Shaped, StoreRow}
 use Rattle.rules.specs.Layout.{StoreRow-rowOf, polynomial-at-row, rowOf-coefficientsOf, length-coefficientsOf}
-use Rattle.rows.specs.Flat.{every-from-at, every-from-all, length-blocks}
+use Rattle.rows.specs.Flat.{length-blocks}
+use Rattle.lists.specs.Images.{getD-reverse}
 
 -- Block i of the mirror comes from block D - i; blocks past the D + 1 in use stay.
 unfoldable pub mirrorBlock : ℕ → ℕ → ℕ
@@ -44,23 +45,6 @@ mirrorPlace D i = mirrorBlock D (i / blockLength) * blockLength + i % blockLengt
 -- ---- members that change places
 
 module _ {A : Type 0} (d : A) where
-  getD-reverse : (l : List A) (i : ℕ) → i < length l → getD (reverse l) i d ≡ getD l (length l - suc i) d
-  getD-reverse [] i h = absurd (not-suc-le-zero h)
-  getD-reverse (x ∷ l) i h =
-      ap (λ r. getD r i d) (reverse-cons x l)
-      ∙ ⊎-elim last (λ e. earlier e (getD-reverse l i e)) (eq-or-lt-of-le (le-of-suc-le-suc h))
-    where
-      last : i ≡ length l → getD (reverse l ++ x ∷ []) i d ≡ getD (x ∷ l) (suc (length l) - suc i) d
-      last e =
-          let place : 0 ≡ suc (length l) - suc i = omega arith in
-          getD-at (reverse l) x [] d i (length-reverse l ∙ sym e) ∙ ap (λ n. getD (x ∷ l) n d) place
-
-      earlier : i < length l → getD (reverse l) i d ≡ getD l (length l - suc i) d
-          → getD (reverse l ++ x ∷ []) i d ≡ getD (x ∷ l) (suc (length l) - suc i) d
-      earlier e same =
-          let place : suc (length l - suc i) ≡ suc (length l) - suc i = omega arith in
-          List·getD-append (reverse l) (x ∷ []) d i (rw length-reverse e) ∙ same ∙ ap (λ n. getD (x ∷ l) n d) place
-
   -- The first D + 1 members change places, first with last.
   getD-exchanged : (l : List A) (D i : ℕ) → D < length l
       → getD (reverse (take (suc D) l) ++ drop (suc D) l) i d ≡ getD l (mirrorBlock D i) d
@@ -77,7 +61,7 @@ module _ {A : Type 0} (d : A) where
       inside e =
           let place : length (take (suc D) l) - suc i ≡ D - i = omega (arith, size) in
           List·getD-append (reverse (take (suc D) l)) (drop (suc D) l) d i (omega (arith, back))
-          ∙ getD-reverse (take (suc D) l) i (omega (arith, size)) ∙ ap (λ n. getD (take (suc D) l) n d) place
+          ∙ getD-reverse d (take (suc D) l) i (omega (arith, size)) ∙ ap (λ n. getD (take (suc D) l) n d) place
           ∙ getD-take (suc D) l (D - i) d (omega arith)
 
       past : D < i → getD (reverse (take (suc D) l) ++ drop (suc D) l) i d ≡ getD l i d

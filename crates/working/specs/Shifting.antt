@@ -17,15 +17,17 @@ use lib.Dec.{T}
 use lib.IntN.{ℤ, pos}
 use lib.ListN.{length, take, drop, length-take, length-drop, length-map, List·getD-map}
 use lib.Seq.{drop-at, drop-drop}
-use Rattle.algebra.specs.Polynomials.{Polynomial, isZero, shift, shiftBy, length-shift, isZero-append, isZero-shift, T-&&}
-use Rattle.rules.specs.Rows.{Block, Row, All, mapRow, coefficientsOf, blank, leadingBlock, shiftUp}
-use Rattle.rules.specs.Lists.{append-all, map-keeps, flatten-append, length-flatten}
-use Rattle.rules.specs.Limits.{coefficientCount, columnCount, mostSpan, blockLength, rowLength}
-use Rattle.rules.specs.Stores.{parts, rowOf, StoreRow}
+use Rattle.algebra.specs.Polynomials.{Polynomial, isZero, shift, shiftBy, length-shift, isZero-append, isZero-shift}
+use Rattle.lists.specs.Tests.{T-&&}
+use Rattle.rules.specs.Rows.{Block, Row, mapRow, coefficientsOf, blank, leadingBlock, shiftUp}
+use Rattle.lists.specs.Everywhere.{All, append-all, map-keeps}
+use Rattle.lists.specs.Joined.{flatten-append, length-flatten, flatten-map}
+use Rattle.rules.specs.Limits.{rowLength, coefficientCount, columnCount, mostSpan, blockLength}
+use Rattle.rules.specs.Stores.{rowOf, StoreRow}
+use Rattle.lists.specs.Parts.{parts, parts-length, parts-width, getD-parts, part-flatten, parts-parts}
 use Rattle.rules.specs.Elimination.{within, limitCoefficients}
-use Rattle.rules.specs.Layout.{blockOf, coefficientsAt, parts-length, parts-width, getD-parts, length-coefficientsOf}
-use Rattle.rows.specs.Written.{part-flatten}
-use Rattle.rows.specs.Flat.{polynomialsOf, flatten-map, parts-parts}
+use Rattle.rules.specs.Layout.{length-coefficientsOf, blockOf, coefficientsAt}
+use Rattle.rows.specs.Flat.{polynomialsOf}
 use Rattle.working.specs.Worked.{Held, held, store-row}
 
 -- The polynomials of all blocks but the first move up.

@@ -19,8 +19,10 @@ use native.Mathlib.Omega.{arith}
 use lib.Dec.{T}
 use lib.IntN.{ℤ, pos}
 use lib.ListN.{length, replicate}
-use Rattle.rules.specs.Limits.{coefficientCount, columnCount, blockCount, rowLength, small}
-use Rattle.rules.specs.Rows.{Block, Row, All, every, coefficientsOf, smallRow}
+use Rattle.rules.specs.Limits.{rowLength, small, coefficientCount, columnCount, blockCount}
+use Rattle.rules.specs.Rows.{Block, Row, coefficientsOf, smallRow}
+use Rattle.lists.specs.Everywhere.{All}
+use Rattle.lists.specs.Tested.{every}
 use Rattle.rules.specs.Stores.{rowOf, Shaped, StoreRow}
 use Rattle.rules.specs.Layout.{rowOf-coefficientsOf, length-coefficientsOf}
 use Rattle.rows.specs.Flat.{polynomialsOf}

@@ -7,8 +7,9 @@ ghost use Prim.Native.Nat.{_^_, _≤_, _<_};
 ghost use lib.Dec.{T};
 ghost use lib.IntN.{natAbs};
 ghost use Rattle.algebra.specs.Coefficients.{alternate};
-ghost use Rattle.rules.specs.Limits.{mostSpan, small};
-ghost use Rattle.rules.specs.Rows.{every, coefficientsOf, mirrorRow};
+ghost use Rattle.rules.specs.Limits.{small, mostSpan};
+ghost use Rattle.rules.specs.Rows.{coefficientsOf, mirrorRow};
+ghost use Rattle.lists.specs.Tested.{every};
 ghost use Rattle.rules.specs.Stores.{rowOf};
 ghost use Rattle.working.specs.Mirroring.{mirrorBlock};
 

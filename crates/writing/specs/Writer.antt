@@ -24,7 +24,7 @@ use mathlib.Core.Bool.{Bool, true, false, and-true, cond}
 use mathlib.Core.Logic.{_≢_}
 use mathlib.Core.List.{List, [], _∷_, _++_, map, flatten, append-assoc, append-nil}
 use Prim.Native.Nat.{ℕ, zero, suc, _+_, _-_, _*_, _/_, _%_, _^_, _≤_, _<_}
-use native.Mathlib.Nat.{zero-add, add-zero, suc-add, add-suc, add-mul, pow-suc, div-lt-self, div-lt-iff-lt-mul}
+use native.Mathlib.Nat.{zero-add, suc-add, pow-suc, div-lt-self, div-lt-iff-lt-mul, add-mul}
 use native.Mathlib.Nat.{lt-trans, le-trans, lt-of-le-of-lt, le-of-suc-le-suc, not-suc-le-zero}
 use native.Mathlib.Numerals.{add-one}
 use native.Mathlib.Omega.{arith}
@@ -34,19 +34,22 @@ use lib.Dec.{T, ltb, eqb, eqb·suc-zero, leb→le, le→leb, lit<, lit≤}
 use lib.IntN.{ℤ, pos, negsuc, natAbs, negℤ, predℤ, _+ℤ_, _-ℤ_, negℤ-sucℤ, +ℤ-predℤ}
 use lib.Signed.{ltZ}
 use lib.ListN.{length, take, drop, getD, set, length-append, length-take, drop-of-length-le}
-use lib.Seq.{sets, set-comm, set-out, length-sets, drop-cons, take-suc, length-take-le, take-take, drop-drop}
+use lib.Seq.{sets, length-sets, take-suc, length-take-le, take-take, drop-drop}
 use lib.Seq.{getD-take, getD-drop, getD-set-same, getD-set-other}
 use Rattle.algebra.specs.Integers.{natAbs-+ℤ, natAbs-negℤ}
 use Rattle.algebra.specs.Polynomials.{Polynomial, coeff, isZero, isZero-cons, isZero-coeff, isZero-append}
-use Rattle.rules.specs.Lists.{drop-take}
-use Rattle.rules.specs.Limits.{bound, coefficientCount, columnCount, mostSpan, blockCount, polynomialCount, blockLength, blockBound, small}
-use Rattle.rules.specs.Rows.{Block, every}
-use Rattle.rules.specs.Stores.{Sizes, equations, parts, rowOf, rowsOf, relationOf, relationsOf}
-use Rattle.rules.specs.Layout.{blockOf, coefficientsAt, blockAt, polynomialsIn, length-rowsOf, length-relationsOf, parts-length, getD-parts}
+use Rattle.lists.specs.Taken.{drop-take, drop-next}
+use Rattle.rules.specs.Limits.{bound, coefficientCount, small, columnCount, mostSpan, blockCount, polynomialCount, blockLength, blockBound}
+use Rattle.rules.specs.Rows.{Block}
+use Rattle.lists.specs.Tested.{every}
+use Rattle.rules.specs.Stores.{Sizes, rowOf, rowsOf, relationOf, relationsOf, equations}
+use Rattle.lists.specs.Parts.{parts, parts-next, parts-end, held-next, held-end}
+use Rattle.rules.specs.Layout.{length-rowsOf, length-relationsOf, blockOf, coefficientsAt, blockAt, polynomialsIn}
 use Rattle.rules.specs.Sheets.{Sheet, Term, trim, blockTerms, termsFrom, termNumbers}
 use Rattle.rules.specs.Sheets.{equationNumbers, relationLine, orderLine, sheetLines, writeSheet}
 use Rattle.rows.specs.Flat.{polynomials-rowOf}
 use Rattle.rules.specs.Numbers.{space, newline, minus, decimalWithin, decimal, line, lines}
+use Rattle.lists.specs.Pasted.{sets-append, sets-later}
 
 -- ---- runs of bytes
 
@@ -55,22 +58,6 @@ pub record Put (d : List ℕ) (at : ℕ) (xs : List ℕ) (k : ℕ) (e : List ℕ
   pub stored : e ≡ sets d at xs
   pub passed : next ≡ at + length xs
   pub few : length xs ≤ k
-
-sets-append : (d : List ℕ) (at : ℕ) (xs ys : List ℕ) → sets (sets d at xs) (at + length xs) ys ≡ sets d at (xs ++ ys)
-sets-append d at [] ys = ap (λ n. sets d n ys) (add-zero at)
-sets-append d at (x ∷ xs) ys =
-    ap (λ n. sets (sets d at (x ∷ xs)) n ys) (add-suc at (length xs) ∙ sym (suc-add at (length xs))) ∙ sets-append _ (suc at) xs ys
-
--- Nothing is stored past the end.
-pub sets-out : (d : List ℕ) (at : ℕ) (xs : List ℕ) → length d ≤ at → sets d at xs ≡ d
-sets-out d at [] h = refl
-sets-out d at (x ∷ xs) h = ap (λ l. sets l (suc at) xs) (set-out d at x h) ∙ sets-out d (suc at) xs (omega arith)
-
--- A store past a run may come before it.
-sets-later : (d : List ℕ) (at : ℕ) (xs : List ℕ) (i b : ℕ) → at + length xs ≤ i → set (sets d at xs) i b ≡ sets (set d i b) at xs
-sets-later d at [] i b h = refl
-sets-later d at (x ∷ xs) i b h =
-    sets-later (set d at x) (suc at) xs i b (omega arith) ∙ ap (λ l. sets l (suc at) xs) (set-comm d at i x b (λ e. omega arith))
 
 pub put-then : {d e f : List ℕ} {at j k next last : ℕ} {xs ys : List ℕ} → Put d at xs j e next → Put e next ys k f last
     → Put d at (xs ++ ys) (j + k) f last
@@ -253,10 +240,6 @@ pub spaced-then : {d e f : List ℕ} {at j k next last : ℕ} (l m : List ℤ) �
     → Put d at (spaced (l ++ m)) (j + k) f last
 spaced-then l m p q = put-same (put-then p q) (spaced-append l m)
 
--- The members from i on are member i and those from i + 1 on.
-pub drop-next : {A : Type 0} (l : List A) (i : ℕ) (d : A) → i < length l → drop i l ≡ getD l i d ∷ drop (i + 1) l
-drop-next l i d h = drop-cons l i d h ∙ ap (λ j. getD l i d ∷ drop j l) (sym (add-one i))
-
 pub spaced-next : (l : List ℤ) (i : ℕ) → i < length l → spaced (drop i l) ≡ spaced (getD l i (pos 0) ∷ []) ++ spaced (drop (i + 1) l)
 spaced-next l i h = ap spaced (drop-next l i (pos 0) h) ∙ sym (spaced-append (getD l i (pos 0) ∷ []) (drop (i + 1) l))
 
@@ -419,30 +402,6 @@ pub term-count : (s : ℤ) (l : List ℤ) → length (termsFrom s (rowOf l .bloc
 term-count s l = length-termsFrom s (rowOf l .blocks) ∙ ap nonzeroCount (polynomials-rowOf l)
 
 -- ---- parts of one width, one after the other
-
--- The parts from i on are part i and those from i + 1 on.
-pub parts-next : {A : Type 0} (k n : ℕ) (l : List A) (i : ℕ) → i < n
-    → drop i (parts k n l) ≡ take k (drop (i * k) l) ∷ drop (i + 1) (parts k n l)
-parts-next k n l i h =
-    drop-next (parts k n l) i [] (rw parts-length h) ∙ ap (λ p. p ∷ drop (i + 1) (parts k n l)) (getD-parts k n l i h)
-
-pub parts-end : {A : Type 0} (k n : ℕ) (l : List A) (i : ℕ) → n ≤ i → drop i (parts k n l) ≡ []
-parts-end k n l i h = drop-of-length-le (parts k n l) {i = i} (rw parts-length h)
-
-drop-map : {A B : Type 0} (f : A → B) (i : ℕ) (l : List A) → drop i (map f l) ≡ map f (drop i l)
-drop-map f zero l = refl
-drop-map f (suc i) [] = refl
-drop-map f (suc i) (x ∷ l) = drop-map f i l
-
--- The same of what the parts hold.
-pub held-next : {A B : Type 0} (f : List A → B) (k n : ℕ) (l : List A) (i : ℕ) → i < n
-    → drop i (map f (parts k n l)) ≡ f (take k (drop (i * k) l)) ∷ drop (i + 1) (map f (parts k n l))
-held-next f k n l i h =
-    drop-map f i (parts k n l) ∙ ap (map f) (parts-next k n l i h)
-    ∙ ap (λ r. f (take k (drop (i * k) l)) ∷ r) (sym (drop-map f (i + 1) (parts k n l)))
-
-pub held-end : {A B : Type 0} (f : List A → B) (k n : ℕ) (l : List A) (i : ℕ) → n ≤ i → drop i (map f (parts k n l)) ≡ []
-held-end f k n l i h = drop-map f i (parts k n l) ∙ ap (map f) (parts-end k n l i h)
 
 -- One polynomial more is counted, unless it is zero.
 pub count-none : (l : List ℤ) (i n : ℕ) → i < polynomialCount → n ≡ length (trim (coefficientsAt l i)) → n ≡ 0

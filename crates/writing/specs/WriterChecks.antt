@@ -13,9 +13,9 @@
 use mathlib.Core.Path.{_≡_, refl, sym, _∙_, ap}
 use mathlib.Core.Bool.{Bool, true, false, _&&_, cond}
 use mathlib.Core.Logic.{_↔_, _≢_}
-use mathlib.Core.List.{List, [], _++_, map}
-use Prim.Native.Nat.{ℕ, zero, suc, _+_, _*_, _≤_, _<_}
-use native.Mathlib.Nat.{zero-add, suc-ne-zero}
+use mathlib.Core.List.{List, [], _++_}
+use Prim.Native.Nat.{ℕ, zero, suc, _*_, _≤_, _<_}
+use native.Mathlib.Nat.{zero-add}
 use native.Mathlib.Omega.{arith}
 use borrow.Author.Tests.{le-leb, lt-leb}
 use lib.Dec.{T, eqb}
@@ -23,17 +23,18 @@ use lib.IntN.{ℤ, pos, natAbs}
 use lib.ListN.{length, take, drop, getD, length-take, length-drop}
 use lib.Seq.{sets, sets-eq, drop-cons}
 use Rattle.algebra.specs.Order.{≤ℤ-trans, natAbs-≤-iff}
-use Rattle.algebra.specs.Polynomials.{T-&&}
-use Rattle.rules.specs.Limits.{columnCount, mostEquations, rowLength, relationLength, mostRelations, blockBound, small}
-use Rattle.rules.specs.Rows.{every, smallRow}
-use Rattle.rules.specs.Stores.{Sizes, equations, span, parts, rowOf, rowsOf, relationOf, relationsOf, relationNeed, rowNeed}
+use Rattle.lists.specs.Tests.{T-&&, cond-zero-iff}
+use Rattle.rules.specs.Limits.{rowLength, relationLength, small, columnCount, mostEquations, mostRelations, blockBound}
+use Rattle.rules.specs.Rows.{smallRow}
+use Rattle.lists.specs.Tested.{every}
+use Rattle.rules.specs.Stores.{Sizes, span, rowOf, rowsOf, relationOf, relationsOf, relationNeed, rowNeed, equations}
 use Rattle.rules.specs.Stores.{sizesRight, countRight, unusedZero, rowRight, relationRight, checkStores}
 use Rattle.rules.specs.Layout.{StoresRight, NumbersRight, SizeBounds, checkStores-zero, numbersRight-iff, size-bounds, equations-few}
 use Rattle.rules.specs.Layout.{countRight-iff, lengthsRight-iff, coefficientsOf-rowOf-all}
-use Rattle.rows.specs.Written.{every-drop}
-use Rattle.rules.specs.Calls.{overwrite}
+use Rattle.lists.specs.Overwritten.{overwrite}
 use Rattle.rules.specs.Sheets.{writeSheet}
-use Rattle.writing.specs.Writer.{SmallParts, held-next, sheetGiven}
+use Rattle.lists.specs.Parts.{held-every}
+use Rattle.writing.specs.Writer.{SmallParts, sheetGiven}
 use Rattle.writing.specs.declared.writer.WriteResult as declared
 use Rattle.rules.specs.SheetCalls.{WriteCall, orderRight, orderGiven, checkWrite, sheetOf, unwritten, written, afterWriteCheck, writeCall}
 
@@ -44,10 +45,6 @@ order-first true true n = refl
 order-first true false n = refl
 order-first false true n = refl
 order-first false false n = refl
-
-chosen-zero : (t : Bool) (n : ℕ) → (cond t n 2 ≡ 0) ↔ (T t × (n ≡ 0))
-chosen-zero true n = (λ e. (tt, e), λ h. h .1)
-chosen-zero false n = (λ e. absurd (suc-ne-zero 1 e), λ h. absurd (h .0))
 
 -- What the checks tell the writer.
 pub record Checked (z : Sizes) (count : ℕ) (rowStore relationStore : List ℤ) : Type 0 where
@@ -60,15 +57,6 @@ pub record Checked (z : Sizes) (count : ℕ) (rowStore relationStore : List ℤ)
   pub low : natAbs (z .t) ≤ blockBound
   pub row-numbers : SmallParts rowLength (equations z) rowStore
   pub relation-numbers : SmallParts relationLength count relationStore
-
--- What all parts of a store pass, part i passes.
-held-every : {B : Type 0} (t : B → Bool) (f : List ℤ → B) (k n : ℕ) (l : List ℤ) → T (every t (map f (parts k n l)))
-    → (i : ℕ) → i < n → T (t (f (take k (drop (i * k) l))))
-unfolding every
-held-every t f k n l h i g =
-    T-&& (t (f (take k (drop (i * k) l)))) (every t (drop (i + 1) (map f (parts k n l)))) .0
-    (rw (held-next f k n l i g) at (every-drop t i (map f (parts k n l)) h))
-    .0
 
 row-small : (z : Sizes) (part : List ℤ) → length part ≡ rowLength → T (rowRight z (rowOf part)) → T (every small part)
 unfolding rowRight smallRow
@@ -109,7 +97,7 @@ module _ (z : Sizes) (count : ℕ) (order : List ℕ) (rowStore relationStore : 
     where
       chosen : (cond (orderRight (z .m) order) (checkStores z count rowStore relationStore) 2 ≡ 0)
           ↔ (T (orderRight (z .m) order) × (checkStores z count rowStore relationStore ≡ 0))
-      chosen = chosen-zero (orderRight (z .m) order) (checkStores z count rowStore relationStore)
+      chosen = cond-zero-iff (orderRight (z .m) order) (checkStores z count rowStore relationStore) 2 refl
 
   pub checked : checkWrite z count order rowStore relationStore ≡ 0 → Checked z count rowStore relationStore
   unfolding rowNeed rowsOf relationsOf

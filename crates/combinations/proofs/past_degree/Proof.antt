@@ -12,12 +12,12 @@ use denote.Ref.{now}
 use lib.IntN.{ℤ}
 use lib.ListN.{length, take, drop, getD}
 use Rattle.algebra.specs.Polynomials.{Polynomial, isZero}
+use Rattle.rules.specs.Rows.{combine}
+use Rattle.lists.specs.Tested.{every, every-longer, every-false}
 use Rattle.rules.specs.Limits.{coefficientCount, polynomialCount}
-use Rattle.rules.specs.Rows.{every, combine}
 use Rattle.rules.specs.Stores.{rowOf}
-use Rattle.rows.specs.Flat.{polynomialsOf, every-longer}
-use Rattle.rows.specs.Checks.{every-false}
-use Rattle.combinations.specs.Combination.{Trimmed, low-degrees, length-polynomials, trimmed-high, trimmed-fit}
+use Rattle.rows.specs.Flat.{polynomialsOf}
+use Rattle.combinations.specs.Combination.{low-degrees, length-polynomials, trimmed-high, Trimmed, trimmed-fit}
 use Rattle.combinations.proofs.past_degree.Statement.{statement}
 use Rattle.combinations.proofs.past_degree.Tie as tie
 

@@ -7,8 +7,9 @@ use borrow.Author.Needs.{needs}
 use denote.Ref.{now}
 use lib.IntN.{pos}
 use Rattle.algebra.specs.Polynomials.{add, mul}
+use Rattle.lists.specs.Taken.{Overwritten, overwritten-next, overwritten-all}
 use Rattle.rules.specs.Limits.{coefficientCount}
-use Rattle.polynomials.specs.Content.{Overwritten, read-back, overwritten-next, overwritten-all}
+use Rattle.polynomials.specs.Content.{read-back}
 use Rattle.combinations.specs.Combination.{lowPart, length-lowPart, lowPart-at}
 use Rattle.combinations.proofs.put_combined.Statement.{statement}
 use Rattle.combinations.proofs.put_combined.Tie as tie

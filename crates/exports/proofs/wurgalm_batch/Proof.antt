@@ -13,7 +13,7 @@ use mir.Syntax.{w64}
 use mir.Facts.{toZ-pos}
 use Rattle.integers.specs.Ranges.{sfits-size}
 use Rattle.batches.specs.PieceCalls.{outputOf}
-use Rattle.exports.specs.Results.{set-overwrite}
+use Rattle.lists.specs.Overwritten.{set-overwrite}
 use Rattle.exports.specs.Writes.{notWritten}
 use Rattle.exports.specs.Batches.{batch-missing, batch-worked, output-length}
 use Rattle.exports.proofs.wurgalm_batch.Statement.{statement}

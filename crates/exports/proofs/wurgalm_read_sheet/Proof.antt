@@ -7,10 +7,11 @@ use native.Mathlib.Omega.{arith}
 use borrow.Author.Needs.{needs}
 use denote.Ref.{now}
 use lib.IntN.{ℤ}
-use Rattle.rules.specs.Calls.{overwrite}
+use Rattle.lists.specs.Overwritten.{overwrite}
 use Rattle.reading.specs.WholeSheet.{resultOf}
 use Rattle.reading.specs.ReadCalls.{callOf}
-use Rattle.exports.specs.Results.{kept, none-before, onAcceptance-none, onAcceptance-some}
+use Rattle.exports.specs.Results.{kept, onAcceptance-none, onAcceptance-some}
+use Rattle.lists.specs.Taken.{none-before}
 use Rattle.exports.specs.Reads.{readNumbers, read-short, read-done, read-small}
 use Rattle.exports.proofs.wurgalm_read_sheet.Statement.{statement}
 use Rattle.exports.proofs.wurgalm_read_sheet.Tie as tie

@@ -9,7 +9,8 @@ use mathlib.Core.Path.{sym, subst}
 use mathlib.Core.List.{List, _∷_}
 use native.Mathlib.Nat.{le-of-eq}
 use Rattle.roots.specs.declared.RootList.{RootList}
-use Rattle.roots.specs.Factors.{Run, Remaining, remaining-with, remaining-without, next-small, first-factor}
+use Rattle.roots.specs.Factors.{Run, Remaining, remaining-with, remaining-without, next-small}
+use Rattle.lists.specs.Taken.{drop-next}
 use Rattle.roots.specs.RootSearch.{Tried, tried-none, tried-with, tried-without, both-found, tried-only, found-length}
 use Prim.Native.Nat.{ℕ, _+_, _-_, _*_, _≤_, _<_}
 use borrow.Fn.Kinds.{In}
@@ -28,21 +29,21 @@ module _ {n d : ℕ} (l : List ℕ) (i : ℕ) (inside : i < length l) (left : Re
   q = getD l i 0
 
   first : Remaining n d (q ∷ drop (i + 1) l)
-  first = subst (Remaining n d) (first-factor l i inside) left
+  first = subst (Remaining n d) (drop-next l i 0 inside) left
 
   module _ (next : ℕ) (run : Run q (drop i l) (drop next l)) where
     first-run : Run q (q ∷ drop (i + 1) l) (drop next l)
-    first-run = subst (λ k. Run q k (drop next l)) (first-factor l i inside) run
+    first-run = subst (λ k. Run q k (drop next l)) (drop-next l i 0 inside) run
 
     both : {p : List ℤ} {f g k : RootList} → Tried p n (d * q) (drop (i + 1) l) f g → Tried p n d (drop next l) g k
         → Tried p n d (drop i l) f k
     both {p} {f} {k} with-q without-q =
-        subst (λ m. Tried p n d m f k) (sym (first-factor l i inside))
+        subst (λ m. Tried p n d m f k) (sym (drop-next l i 0 inside))
         (tried-with (first .positive) (first .simple) first-run with-q without-q)
 
     without : {p : List ℤ} {f g : RootList} → n ≤ d * q → Tried p n d (drop next l) f g → Tried p n d (drop i l) f g
     without {p} {f} {g} past without-q =
-        subst (λ m. Tried p n d m f g) (sym (first-factor l i inside))
+        subst (λ m. Tried p n d m f g) (sym (drop-next l i 0 inside))
         (tried-without (first .positive) (first .simple) first-run past without-q)
 
 abbrev μ-tried-products : Measures 2 tried-products-kinds.ps ℕ

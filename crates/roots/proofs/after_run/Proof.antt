@@ -7,7 +7,8 @@ use Prim.Native.Nat.{ℕ, _+_, _-_, _≤_, _<_}
 use native.Mathlib.Omega.{arith}
 use borrow.Author.Needs.{needs}
 use lib.ListN.{length, getD, drop}
-use Rattle.roots.specs.Factors.{Run, stop, run-next, first-factor}
+use Rattle.roots.specs.Factors.{Run, stop, run-next}
+use Rattle.lists.specs.Taken.{drop-next}
 use Rattle.roots.proofs.after_run.Statement.{statement}
 use Rattle.roots.proofs.after_run.Tie as tie
 
@@ -19,7 +20,7 @@ abbrev μ-loop : tie.MeasureT-loop
 
 -- A factor equal to the first is passed.
 passed : {q : ℕ} (l m : List ℕ) (k : ℕ) → k < length m → getD m k 0 ≡ q → Run q l (drop k m) → Run q l (drop (k + 1) m)
-passed {q} l m k h e r = run-next (subst (Run q l) (first-factor m k h ∙ ap (λ f. f ∷ drop (k + 1) m) e) r)
+passed {q} l m k h e r = run-next (subst (Run q l) (drop-next m k 0 h ∙ ap (λ f. f ∷ drop (k + 1) m) e) r)
 
 mul-q : tie.Need-mul-q Inv-loop μ-loop
 mul-q c = search needs

@@ -9,7 +9,7 @@ use borrow.Rule.Slice.PartMut.{same-len-mid}
 use denote.Ref.{now}
 use lib.ListN.{length, take, drop, replicate, length-replicate, length-drop}
 use lib.Seq.{length-take-le, take-length}
-use Rattle.rules.specs.Calls.{overwrite}
+use Rattle.lists.specs.Overwritten.{overwrite}
 use Rattle.rules.specs.Batch.{mostBytes}
 use Rattle.frames.specs.Bounds.{text-fits}
 use Rattle.frames.specs.Pieces.{refusalLine}

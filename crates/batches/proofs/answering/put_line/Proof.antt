@@ -7,7 +7,7 @@ use denote.Ref.{now}
 use mathlib.Core.List.{_++_}
 use lib.ListN.{length, take, drop}
 use lib.Seq.{length-take-le, take-length}
-use Rattle.rules.specs.Calls.{overwrite}
+use Rattle.lists.specs.Overwritten.{overwrite}
 use borrow.Author.Needs.{needs}
 use Rattle.batches.proofs.answering.put_line.Statement.{statement}
 use Rattle.batches.proofs.answering.put_line.Tie as tie

@@ -2,7 +2,7 @@
 -- Assumes nothing.
 use mathlib.Core.Path.{sym, _∙_, ap}
 use borrow.Author.Needs.{needs}
-use Rattle.rules.specs.Calls.{overwrite}
+use Rattle.lists.specs.Overwritten.{overwrite}
 use Rattle.frames.specs.Pieces.{textOf, refusal-broken}
 use Rattle.batches.specs.PieceCalls.{endText}
 use Rattle.batches.proofs.endings.end_line.Statement.{statement}

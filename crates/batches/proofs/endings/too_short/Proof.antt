@@ -3,14 +3,14 @@
 use mathlib.Core.Path.{_≡_, refl, sym, _∙_, ap}
 use mathlib.Core.List.{List}
 use Prim.Native.Nat.{ℕ, _≤_, _-_}
-use native.Mathlib.Nat.{zero-add}
+use native.Mathlib.Nat.{zero-add, le-refl}
 use native.Mathlib.Numerals.{add-one}
 use native.Mathlib.Omega.{arith}
 use borrow.Author.Needs.{needs}
 use denote.Ref.{now}
 use lib.ListN.{length, set, replicate, length-set, length-replicate, getD-replicate}
 use lib.Seq.{paste, paste-zero, paste-suc}
-use Rattle.batches.specs.Endings.{paste-whole}
+use Rattle.lists.specs.Pasted.{paste-whole}
 use Rattle.batches.proofs.endings.too_short.Statement.{statement}
 use Rattle.batches.proofs.endings.too_short.Tie as tie
 
@@ -55,8 +55,11 @@ returns : tie.Need-returns Inv-loop μ-loop
 returns c =
     let output = now (c .before .before .args .output) in
     let zeros : List ℕ = replicate (length output) 0 in
-    let all : c .before .loop .i ≡ length output = omega arith in
-    (refl, c .before .loop .inv .1 .1 ∙ ap (paste output 0 zeros) all ∙ paste-whole output zeros (length-replicate (length output) 0))
+    let all : c .before .loop .i ≡ length output = omega arith in (
+      refl,
+      c .before .loop .inv .1 .1 ∙ ap (paste output 0 zeros) all
+          ∙ paste-whole output zeros (length output) (le-refl (length output)) (length-replicate (length output) 0),
+    )
 
 pub too-short-spec : {M : Type 1} → statement M
 too-short-spec =

@@ -5,7 +5,7 @@ use native.Mathlib.Nat.{sub-zero}
 use mathlib.Core.Bool.{false}
 use denote.Ref.{now}
 use lib.ListN.{length}
-use Rattle.rules.specs.Calls.{overwrite}
+use Rattle.lists.specs.Overwritten.{overwrite}
 use Rattle.batches.specs.declared.Stage.the-variants.{Over}
 use Rattle.batches.specs.Feeds.{feed, feedCall, fedBy}
 use borrow.Author.Needs.{needs}

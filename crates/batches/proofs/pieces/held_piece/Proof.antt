@@ -8,7 +8,7 @@ use borrow.Rule.Slice.PartMut.{putMid}
 use denote.Ref.{now}
 use lib.ListN.{length, take, drop, length-drop}
 use lib.Seq.{take-length, length-take-le}
-use Rattle.rules.specs.Calls.{overwrite}
+use Rattle.lists.specs.Overwritten.{overwrite}
 use Rattle.batches.specs.Feeds.{feedCall}
 use Rattle.batches.specs.PieceCalls.{heldNeed, callOf}
 use Rattle.batches.specs.PieceLaws.{Right, check-right}

@@ -7,7 +7,7 @@ use mathlib.Core.List.{_++_}
 use denote.Ref.{now}
 use lib.ListN.{length, take, drop}
 use lib.Seq.{take-length}
-use Rattle.rules.specs.Calls.{overwrite}
+use Rattle.lists.specs.Overwritten.{overwrite}
 use Rattle.batches.specs.PieceJoins.{unheld-taken, unheld-left, unheld-full, unheld-rest}
 use borrow.Author.Needs.{needs}
 use Rattle.batches.proofs.pieces.unheld_piece.Statement.{statement}

@@ -2,7 +2,7 @@
 -- Assumes nothing.
 use mathlib.Core.Path.{sym, _∙_}
 use mir.Facts.{toZ-ofZ}
-use Rattle.rows.specs.Validity.{and-second, and-first}
+use Rattle.lists.specs.Tests.{and-second, and-first}
 use Rattle.elimination.proofs.access.between.Statement.{statement}
 use Rattle.elimination.proofs.access.between.Tie as tie
 

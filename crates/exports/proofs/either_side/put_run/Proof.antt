@@ -3,7 +3,7 @@
 use mathlib.Core.Path.{_≡_, sym, _∙_, ap}
 use borrow.Author.Needs.{needs}
 use denote.Ref.{now}
-use Rattle.rules.specs.Calls.{overwrite}
+use Rattle.lists.specs.Overwritten.{overwrite}
 use Rattle.runs.specs.CallLaws.{resultOf}
 use Rattle.exports.specs.Runs.{early, runNumbers, kept-early, kept-late}
 use Rattle.exports.proofs.either_side.put_run.Statement.{statement}

@@ -13,8 +13,7 @@ use lib.Seq.{paste, paste-zero, paste-suc, take-all}
 use mir.Syntax.{w64}
 use mir.Val.{SFits}
 use mir.Facts.{toZ-ofZ}
-use Rattle.rules.specs.Calls.{overwrite}
-use Rattle.reading.specs.ReadCalls.{overwrite-paste}
+use Rattle.lists.specs.Overwritten.{overwrite, overwrite-paste}
 use Rattle.exports.proofs.numbers.put.Statement.{statement}
 use Rattle.exports.proofs.numbers.put.Tie as tie
 

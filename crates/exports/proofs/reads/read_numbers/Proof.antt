@@ -9,7 +9,7 @@ use lib.IntN.{ℤ, pos}
 use lib.ListN.{getD}
 use mir.Syntax.{w64}
 use mir.Facts.{toZ-ofZ}
-use Rattle.rules.specs.Lists.{all-getD-default}
+use Rattle.lists.specs.Everywhere.{all-getD-default}
 use Rattle.rows.specs.Validity.{sizesOf}
 use Rattle.reading.specs.WholeSheet.{resultOf}
 use Rattle.exports.specs.Results.{small-fits, small-value, four-columns}

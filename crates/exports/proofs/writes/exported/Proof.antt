@@ -19,7 +19,9 @@ use Rattle.rules.specs.Stores.{Sizes}
 use Rattle.rules.specs.SheetCalls.{writeCall}
 use Rattle.rows.specs.Validity.{sizesOf}
 use Rattle.writing.specs.WriterChecks.{callOf}
-use Rattle.exports.specs.Results.{set-overwrite, none-before, onAcceptance-none, onAcceptance-some}
+use Rattle.exports.specs.Results.{onAcceptance-none, onAcceptance-some}
+use Rattle.lists.specs.Overwritten.{set-overwrite}
+use Rattle.lists.specs.Taken.{none-before}
 use Rattle.exports.specs.Writes.{orderOf, noNegative, notWritten, written-length}
 use Rattle.exports.specs.Writes.{write-unordered, write-negative, write-short, write-done}
 use Rattle.exports.proofs.writes.exported.Statement.{statement}

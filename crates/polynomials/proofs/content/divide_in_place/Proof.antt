@@ -15,8 +15,8 @@ use mir.Syntax.{w64}
 use mir.Val.{ofZ, toZ}
 use mir.Facts.{toZ-ofZ}
 use Rattle.algebra.specs.Gcd.{divideBy, length-divideBy}
-use Rattle.polynomials.specs.Content.{Overwritten, read-back, positive, quotient-stored, overwritten-next, overwritten-all}
-use Rattle.polynomials.specs.Content.{suffix-next, suffix-first}
+use Rattle.polynomials.specs.Content.{read-back, positive, quotient-stored}
+use Rattle.lists.specs.Taken.{Overwritten, overwritten-next, overwritten-all, suffix-next, suffix-first}
 use Rattle.polynomials.proofs.content.divide_in_place.Statement.{statement}
 use Rattle.polynomials.proofs.content.divide_in_place.Tie as tie
 

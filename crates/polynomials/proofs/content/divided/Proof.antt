@@ -14,8 +14,9 @@ use mir.Syntax.{w64}
 use mir.Val.{ofZ, toZ}
 use mir.Facts.{toZ-ofZ}
 use Rattle.algebra.specs.Gcd.{divideBy, length-divideBy}
+use Rattle.polynomials.specs.Content.{read-back, positive, quotient-stored}
+use Rattle.lists.specs.Taken.{Overwritten, overwritten-next, overwritten-all}
 use Rattle.rules.specs.Limits.{coefficientCount}
-use Rattle.polynomials.specs.Content.{Overwritten, read-back, positive, quotient-stored, overwritten-next, overwritten-all}
 use Rattle.polynomials.proofs.content.divided.Statement.{statement}
 use Rattle.polynomials.proofs.content.divided.Tie as tie
 

@@ -8,7 +8,8 @@ use denote.Ref.{now}
 use lib.IntN.{pos}
 use lib.ListN.{length, getD, drop, drop-of-length-le}
 use Rattle.algebra.specs.Polynomials.{lowest}
-use Rattle.polynomials.specs.Content.{read-back, zero-bits, nonzero-bits, drop-next, skip-zero, lowest-first}
+use Rattle.polynomials.specs.Content.{read-back, zero-bits, nonzero-bits, skip-zero, lowest-first}
+use Rattle.lists.specs.Taken.{drop-next}
 use Rattle.polynomials.proofs.content.lowest.Statement.{statement}
 use Rattle.polynomials.proofs.content.lowest.Tie as tie
 
@@ -38,7 +39,7 @@ returns c =
     let p = now (c .before .before .before .before .before .args .p) in
     let i = c .before .before .before .before .loop .i in
     read-back (getD p i (pos 0)) (c .result .given)
-    ∙ sym (c .before .before .before .before .loop .inv .1 ∙ ap lowest (drop-next p i (c .before .before .before .loop-test .taken))
+    ∙ sym (c .before .before .before .before .loop .inv .1 ∙ ap lowest (drop-next p i (pos 0) (c .before .before .before .loop-test .taken))
     ∙ lowest-first _ (drop (i + 1) p) (nonzero-bits (c .before .if1 .taken)))
 
 add-i : tie.Need-add-i Inv-loop μ-loop

@@ -12,8 +12,9 @@ use mir.Syntax.{w64}
 use mir.Val.{ofZ, toZ}
 use Rattle.algebra.specs.Polynomials.{coeff, negate, length-negate}
 use Rattle.algebra.specs.Coefficients.{coeff-negate}
+use Rattle.polynomials.specs.Content.{read-back}
+use Rattle.lists.specs.Taken.{Overwritten, overwritten-next, overwritten-all}
 use Rattle.rules.specs.Limits.{coefficientCount}
-use Rattle.polynomials.specs.Content.{Overwritten, read-back, overwritten-next, overwritten-all}
 use Rattle.polynomials.proofs.content.negated.Statement.{statement}
 use Rattle.polynomials.proofs.content.negated.Tie as tie
 

@@ -13,8 +13,8 @@ use lib.ListN.{drop, set}
 use mir.Syntax.{w64}
 use mir.Val.{SFits}
 use mir.Facts.{toZ-ofZ, fits-natAbs}
+use Rattle.lists.specs.Padded.{padTo}
 use Rattle.rules.specs.Limits.{columnCount}
-use Rattle.rules.specs.Calls.{padTo}
 use Rattle.rules.specs.Numbers.{Read, got, field}
 use Rattle.rules.specs.Sheets.{always, parting, judgeOrder, readColumns}
 use Rattle.tokens.specs.Fields.{Answers, answer-fault, answer-got, refuses, gives, field-judged}

@@ -10,8 +10,9 @@ use denote.Ref.{now}
 use lib.ListN.{length}
 use Rattle.rules.specs.Limits.{relationLength}
 use Rattle.rules.specs.Layout.{lengthsRight-iff}
-use Rattle.rules.specs.Stores.{equations, rowNeed}
-use Rattle.rows.specs.Validity.{sizesOf, true-T}
+use Rattle.rules.specs.Stores.{rowNeed, equations}
+use Rattle.rows.specs.Validity.{sizesOf}
+use Rattle.lists.specs.Tests.{true-T}
 use Rattle.reading.specs.Zeros.{length-zeros}
 use Rattle.reading.specs.WholeSheet.{resultOf, SheetRead}
 use Rattle.reading.specs.ReadCalls.{callOf, call-unread, call-refuses, call-short, call-fills}

@@ -12,12 +12,12 @@ use lib.ListN.{drop, replicate}
 use mir.Syntax.{w64}
 use mir.Val.{SFits}
 use mir.Facts.{toZ-ofZ}
+use Rattle.lists.specs.Padded.{padTo}
 use Rattle.rules.specs.Limits.{coefficientCount}
-use Rattle.rules.specs.Calls.{padTo}
 use Rattle.rules.specs.Sheets.{readCoefficients}
 use Rattle.tokens.specs.Fields.{answer-fault, answer-got, refuses, gives}
 use Rattle.reading.specs.Terms.{FilledTo, filled-begins, filled-ends, filled-refused, filled-goes-on, coefficients-next, coefficients-none}
-use Rattle.reading.specs.Equations.{paste-whole}
+use Rattle.lists.specs.Pasted.{paste-whole}
 use Rattle.reading.proofs.terms.coefficients_at.Statement.{statement}
 use Rattle.reading.proofs.terms.coefficients_at.Tie as tie
 

@@ -14,7 +14,8 @@ use lib.ListN.{length, getD, length-append, length-replicate}
 use Rattle.algebra.specs.Polynomials.{isZero}
 use Rattle.algebra.specs.Roots.{roots}
 use Rattle.rules.specs.Limits.{rowLength, small}
-use Rattle.rules.specs.Rows.{every, entry, combine, primitive}
+use Rattle.rules.specs.Rows.{entry, combine, primitive}
+use Rattle.lists.specs.Tested.{every}
 use Rattle.rules.specs.Stores.{rowOf}
 use Rattle.rules.specs.Elimination.{Side, Limited, limitDegrees, Multipliers, multipliers, multipliersAt, listing, combineStep}
 use Rattle.roots.specs.RootSearch.{listed, held, held-of, roots-few}

@@ -12,7 +12,8 @@ use lib.IntN.{ℤ}
 use lib.ListN.{length}
 use Rattle.algebra.specs.Polynomials.{isZero}
 use Rattle.rules.specs.Limits.{rowLength, small}
-use Rattle.rules.specs.Rows.{Row, every, zeroRow, leadingBlock, firstNonzero}
+use Rattle.rules.specs.Rows.{Row, zeroRow, leadingBlock, firstNonzero}
+use Rattle.lists.specs.Tested.{every}
 use Rattle.rules.specs.Stores.{rowOf}
 use Rattle.rules.specs.Elimination.{Side, multipliersAt, combineStep}
 use Rattle.working.specs.Found.{foundOr, entriesAt}

@@ -7,8 +7,8 @@ use lib.Signed.{leZ, leZ-yes}
 use mir.Syntax.{w64}
 use mir.Val.{SFits}
 use mir.Facts.{toZ-ofZ}
-use Rattle.algebra.specs.Polynomials.{T-&&}
-use Rattle.rows.specs.Validity.{and-second, and-first, and-joined, true-T, difference-fits}
+use Rattle.lists.specs.Tests.{T-&&, and-second, and-first, and-joined, true-T}
+use Rattle.rows.specs.Validity.{difference-fits}
 use Rattle.rows.proofs.validity.blocks_right.Statement.{statement}
 use Rattle.rows.proofs.validity.blocks_right.Tie as tie
 

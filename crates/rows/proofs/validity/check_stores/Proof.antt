@@ -9,10 +9,10 @@ use borrow.Author.Tests.{not-true, not-false}
 use denote.Ref.{now}
 use lib.Dec.{T, leb}
 use lib.IntN.{ℤ}
-use Rattle.algebra.specs.Polynomials.{T-&&}
-use Rattle.rules.specs.Stores.{Sizes, equations, sizesRight, countRight, lengthsRight, numbersRight, checkStores}
-use Rattle.rules.specs.Layout.{checkStores-order, size-bounds, equations-few, countRight-iff, lengthsRight-iff}
-use Rattle.rows.specs.Validity.{sizesOf, and-joined, true-T}
+use Rattle.lists.specs.Tests.{T-&&, and-joined, true-T}
+use Rattle.rules.specs.Stores.{Sizes, sizesRight, countRight, lengthsRight, numbersRight, checkStores, equations}
+use Rattle.rules.specs.Layout.{checkStores-order, size-bounds, countRight-iff, lengthsRight-iff, equations-few}
+use Rattle.rows.specs.Validity.{sizesOf}
 use Rattle.rows.proofs.validity.check_stores.Statement.{statement}
 use Rattle.rows.proofs.validity.check_stores.Tie as tie
 

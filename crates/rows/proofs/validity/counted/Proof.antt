@@ -1,7 +1,7 @@
 -- `rows::validity::counted` meets its contract.
 -- Assumes nothing.
 use borrow.Author.Tests.{le-leb, lt-leb}
-use Rattle.rows.specs.Validity.{and-second, and-first}
+use Rattle.lists.specs.Tests.{and-second, and-first}
 use Rattle.rows.proofs.validity.counted.Statement.{statement}
 use Rattle.rows.proofs.validity.counted.Tie as tie
 

@@ -3,7 +3,7 @@
 use borrow.Author.Needs.{needs}
 use borrow.Author.Tests.{le-leb, lt-leb}
 use Rattle.rules.specs.Stores.{rowNeed, lengthsRight}
-use Rattle.rows.specs.Validity.{and-second, and-first}
+use Rattle.lists.specs.Tests.{and-second, and-first}
 use Rattle.rows.proofs.validity.lengths_right.Statement.{statement}
 use Rattle.rows.proofs.validity.lengths_right.Tie as tie
 

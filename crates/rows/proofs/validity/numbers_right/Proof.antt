@@ -5,8 +5,9 @@ use borrow.Author.Needs.{needs}
 use borrow.Author.Tests.{not-true, not-false}
 use denote.Ref.{now}
 use Rattle.algebra.specs.Polynomials.{isZero}
-use Rattle.rules.specs.Stores.{equations, numbersRight}
-use Rattle.rows.specs.Validity.{sizesOf, unused-part, first-failed, second-failed, both-passed}
+use Rattle.rules.specs.Stores.{numbersRight, equations}
+use Rattle.rows.specs.Validity.{sizesOf, unused-part}
+use Rattle.lists.specs.Tests.{first-failed, second-failed, both-passed}
 use Rattle.rows.proofs.validity.numbers_right.Statement.{statement}
 use Rattle.rows.proofs.validity.numbers_right.Tie as tie
 

@@ -11,7 +11,8 @@ use mir.Val.{SFits}
 use mir.Facts.{toZ-ofZ}
 use Rattle.rules.specs.Limits.{relationLength, small}
 use Rattle.rules.specs.Stores.{rowOf, relationOf}
-use Rattle.rows.specs.Validity.{rowTest, relationTest, index-at, row-after, and-first, and-second}
+use Rattle.rows.specs.Validity.{rowTest, relationTest, index-at, row-after}
+use Rattle.lists.specs.Tests.{and-first, and-second}
 use Rattle.rows.proofs.validity.relation_right.Statement.{statement}
 use Rattle.rows.proofs.validity.relation_right.Tie as tie
 

@@ -10,11 +10,10 @@ use borrow.Author.Tests.{not-true, not-false}
 use denote.Ref.{now}
 use lib.ListN.{length, take, getD}
 use lib.Seq.{take-all}
-use Rattle.rules.specs.Rows.{Relation, every}
+use Rattle.rules.specs.Rows.{Relation}
+use Rattle.lists.specs.Tested.{every, every-longer, every-false}
 use Rattle.rules.specs.Stores.{relationOf, relationsOf, relationRight}
 use Rattle.rules.specs.Layout.{length-relationsOf}
-use Rattle.rows.specs.Flat.{every-longer}
-use Rattle.rows.specs.Checks.{every-false}
 use Rattle.rows.specs.Validity.{sizesOf, relationTest, relationRight-test, relation-at}
 use Rattle.rows.proofs.validity.relations_right.Statement.{statement}
 use Rattle.rows.proofs.validity.relations_right.Tie as tie

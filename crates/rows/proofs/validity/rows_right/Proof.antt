@@ -10,11 +10,10 @@ use borrow.Author.Tests.{not-true, not-false}
 use denote.Ref.{now}
 use lib.ListN.{length, take, getD}
 use lib.Seq.{take-all}
-use Rattle.rules.specs.Rows.{Row, noRow, every}
+use Rattle.rules.specs.Rows.{Row, noRow}
+use Rattle.lists.specs.Tested.{every, every-longer, every-false}
 use Rattle.rules.specs.Stores.{rowOf, rowsOf, rowNeed, rowRight}
 use Rattle.rules.specs.Layout.{row-at, length-rowsOf}
-use Rattle.rows.specs.Flat.{every-longer}
-use Rattle.rows.specs.Checks.{every-false}
 use Rattle.rows.specs.Validity.{sizesOf, rowTest, rowRight-test}
 use Rattle.rows.proofs.validity.rows_right.Statement.{statement}
 use Rattle.rows.proofs.validity.rows_right.Tie as tie

@@ -7,7 +7,8 @@ use mir.Val.{ofZ, toZ}
 use mir.Facts.{toZ-ofZ}
 use Rattle.rules.specs.Stores.{sizesRight}
 use Rattle.rows.specs.declared.validity.Sizes.{Sizes}
-use Rattle.rows.specs.Validity.{sizesOf, and-second, and-first}
+use Rattle.rows.specs.Validity.{sizesOf}
+use Rattle.lists.specs.Tests.{and-second, and-first}
 use Rattle.rows.proofs.validity.sizes_right.Statement.{statement}
 use Rattle.rows.proofs.validity.sizes_right.Tie as tie
 

@@ -9,7 +9,7 @@ use lib.ListN.{length-set, set}
 use lib.Seq.{paste}
 use mir.Facts.{toZ-ofZ}
 use Rattle.rules.specs.Limits.{rowLength, relationLength}
-use Rattle.sides.specs.StoreStates.{paste-cons}
+use Rattle.lists.specs.Pasted.{paste-cons}
 use Rattle.sides.proofs.listing.save_relation.Statement.{statement}
 use Rattle.sides.proofs.listing.save_relation.Tie as tie
 

@@ -11,10 +11,10 @@ use lib.IntN.{ℤ}
 use lib.ListN.{length, take, drop, getD}
 use lib.Seq.{take-all}
 use Rattle.algebra.specs.Polynomials.{Polynomial, isZero}
-use Rattle.rules.specs.Limits.{coefficientCount, columnCount, rowLength}
-use Rattle.rules.specs.Rows.{every}
+use Rattle.rules.specs.Limits.{rowLength, coefficientCount, columnCount}
+use Rattle.lists.specs.Tested.{every, every-longer}
 use Rattle.rules.specs.Stores.{rowOf}
-use Rattle.rows.specs.Flat.{entry-at, every-longer}
+use Rattle.rows.specs.Flat.{entry-at}
 use Rattle.working.specs.Found.{foundOr, entriesAt, Columns-at, length-entriesAt, getD-entriesAt, firstNonzero-some, firstNonzero-none}
 use Rattle.working.proofs.entries.first_met.Statement.{statement}
 use Rattle.working.proofs.entries.first_met.Tie as tie

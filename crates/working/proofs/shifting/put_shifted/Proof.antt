@@ -7,8 +7,9 @@ use borrow.Author.Needs.{needs}
 use denote.Ref.{now}
 use lib.IntN.{pos}
 use Rattle.algebra.specs.Polynomials.{shift, coeff, length-shift}
+use Rattle.lists.specs.Taken.{Overwritten, overwritten-next, overwritten-all}
 use Rattle.rules.specs.Limits.{coefficientCount}
-use Rattle.polynomials.specs.Content.{Overwritten, read-back, overwritten-next, overwritten-all}
+use Rattle.polynomials.specs.Content.{read-back}
 use Rattle.working.proofs.shifting.put_shifted.Statement.{statement}
 use Rattle.working.proofs.shifting.put_shifted.Tie as tie
 

@@ -9,9 +9,10 @@ use mir.Syntax.{w64}
 use mir.Val.{toZ, ofZ}
 use mir.Facts.{toZ-ofZ}
 use Rattle.rules.specs.Sheets.{trim, blockTerms}
-use Rattle.rules.specs.Limits.{coefficientCount, columnCount, small}
+use Rattle.lists.specs.Parts.{parts}
+use Rattle.rules.specs.Limits.{small, coefficientCount, columnCount}
+use Rattle.lists.specs.Tested.{every-part}
 use Rattle.rules.specs.Layout.{blockOf}
-use Rattle.rows.specs.Written.{every-part}
 use Rattle.writing.specs.Bounds.{termBytes}
 use Rattle.writing.specs.Writer.{Going, going-first, going-next, going-last, put-same}
 use Rattle.writing.specs.Writer.{spaced, termAt, numbersOf, block-next, block-end}

@@ -4,7 +4,8 @@ use mathlib.Core.Path.{sym, ap}
 use Prim.Native.Nat.{_+_}
 use native.Mathlib.Omega.{arith}
 use denote.Ref.{now}
-use Rattle.writing.specs.Writer.{digitsOf, digits-one, digits-length, put-same, put-few, sets-out}
+use Rattle.writing.specs.Writer.{digitsOf, digits-one, digits-length, put-same, put-few}
+use Rattle.lists.specs.Pasted.{sets-out}
 use borrow.Author.Needs.{needs}
 use Rattle.writing.proofs.writer.put_digits.Statement.{statement}
 use Rattle.writing.proofs.writer.put_digits.Tie as tie

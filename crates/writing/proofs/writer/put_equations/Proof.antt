@@ -10,6 +10,7 @@ use mir.Syntax.{w64}
 use mir.Val.{toZ, ofZ}
 use mir.Facts.{toZ-ofZ}
 use Rattle.rules.specs.Limits.{rowLength}
+use Rattle.lists.specs.Tested.{every}
 use Rattle.rules.specs.Numbers.{lines}
 use Rattle.rules.specs.Sheets.{equationNumbers}
 use Rattle.rules.specs.Stores.{rowOf, rowsOf}

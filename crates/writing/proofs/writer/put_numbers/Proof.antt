@@ -12,7 +12,7 @@ use mir.Syntax.{w64}
 use mir.Val.{SFits}
 use mir.Facts.{toZ-ofZ}
 use Rattle.rules.specs.Limits.{small}
-use Rattle.polynomials.specs.Shift.{every-getD}
+use Rattle.lists.specs.Tested.{every-getD}
 use Rattle.writing.specs.Bounds.{numberBytes}
 use Rattle.writing.specs.Writer.{Going, going-first, going-next, going-last, put-same, spaced, spaced-next}
 use Rattle.writing.proofs.writer.put_numbers.Statement.{statement}

@@ -12,11 +12,11 @@ use mir.Syntax.{w64}
 use mir.Val.{SFits, toZ, ofZ}
 use mir.Facts.{toZ-ofZ}
 use Rattle.rules.specs.Limits.{small}
-use Rattle.polynomials.specs.Shift.{every-getD}
-use Rattle.rows.specs.Written.{every-part}
+use Rattle.lists.specs.Tested.{every-getD, every-part}
 use Rattle.rules.specs.Numbers.{newline, decimal}
 use Rattle.rules.specs.Sheets.{termsFrom}
 use Rattle.rules.specs.Stores.{rowOf}
+use Rattle.lists.specs.Parts.{parts}
 use Rattle.rules.specs.Layout.{polynomialsIn}
 use Rattle.writing.specs.Writer.{put-same, put-then, spaced-then, spaced, numbersOf, nonzeroCount, relation-line}
 use borrow.Author.Needs.{needs, sfits-of}

@@ -10,7 +10,7 @@ use lib.ListN.{length, take}
 use lib.Seq.{length-take-le}
 use mir.Facts.{toZ-ofZ}
 use Rattle.rules.specs.Limits.{small}
-use Rattle.rows.specs.Written.{every-take}
+use Rattle.lists.specs.Tested.{every-take}
 use Rattle.writing.specs.Bounds.{numberBytes, countBytes, termBytes}
 use Rattle.writing.specs.Writer.{trim-le, term-none, term-some, spaced, spaced-then, put-none, put-same, put-wide}
 use borrow.Author.Needs.{needs}

@@ -12,8 +12,9 @@ use lib.IntN.{ℤ}
 use lib.ListN.{length, take, drop, length-set}
 use Rattle.rules.specs.Limits.{coefficientCount, polynomialCount}
 use Rattle.rules.specs.Sheets.{trim}
+use Rattle.lists.specs.Parts.{parts, parts-end}
+use Rattle.writing.specs.Writer.{nonzeroCount, Lengths, lengths-next, count-none, count-some}
 use Rattle.rules.specs.Layout.{coefficientsAt, polynomialsIn}
-use Rattle.writing.specs.Writer.{nonzeroCount, Lengths, lengths-next, parts-end, count-none, count-some}
 use borrow.Author.Needs.{needs}
 use Rattle.writing.proofs.writer.term_lengths.Statement.{statement}
 use Rattle.writing.proofs.writer.term_lengths.Tie as tie

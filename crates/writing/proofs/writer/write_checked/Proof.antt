@@ -11,13 +11,14 @@ use lib.Dec.{eqb}
 use lib.IntN.{ℤ}
 use lib.ListN.{length, take}
 use lib.Seq.{sets, length-take-le}
+use Rattle.lists.specs.Tested.{every}
 use Rattle.rules.specs.Limits.{columnCount}
-use Rattle.rules.specs.Rows.{every}
 use Rattle.rules.specs.Sheets.{writeSheet}
 use Rattle.rules.specs.SheetCalls.{WriteCall, sheetOf, unwritten, writeCall}
 use Rattle.rules.specs.Stores.{Sizes, equations}
 use Rattle.rows.specs.Validity.{sizesOf}
-use Rattle.writing.specs.Writer.{Put, sheetGiven, sets-out}
+use Rattle.writing.specs.Writer.{Put, sheetGiven}
+use Rattle.lists.specs.Pasted.{sets-out}
 use Rattle.writing.specs.WriterChecks.{Checked, checked, sheet-given, given-few}
 use Rattle.writing.specs.WriterChecks.{call-checked, written-short, written-whole}
 use borrow.Author.Needs.{needs}

@@ -8,7 +8,7 @@ use borrow.Author.Tests.{eq-eqb, ne-eqb}
 use denote.Ref.{now}
 use lib.ListN.{length, drop, drop-of-length-le}
 use Rattle.rules.specs.Sheets.{contains}
-use Rattle.writing.specs.Writer.{drop-next}
+use Rattle.lists.specs.Taken.{drop-next}
 use borrow.Author.Needs.{needs}
 use Rattle.writing.proofs.writer.checks.contains.Statement.{statement}
 use Rattle.writing.proofs.writer.checks.contains.Tie as tie

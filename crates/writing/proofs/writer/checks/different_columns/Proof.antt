@@ -13,7 +13,7 @@ use lib.ListN.{length, drop, getD, length-drop, drop-of-length-le}
 use lib.Seq.{take-all}
 use Rattle.rules.specs.Sheets.{contains}
 use Rattle.rules.specs.SheetCalls.{differentColumns}
-use Rattle.writing.specs.Writer.{drop-next}
+use Rattle.lists.specs.Taken.{drop-next}
 use borrow.Author.Needs.{needs}
 use Rattle.writing.proofs.writer.checks.different_columns.Statement.{statement}
 use Rattle.writing.proofs.writer.checks.different_columns.Tie as tie

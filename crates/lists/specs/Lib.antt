@@ -1,0 +1,13 @@
+pub mod Tests
+pub mod Everywhere
+pub mod Tested
+pub mod Places
+pub mod Taken
+pub mod Images
+pub mod Joined
+pub mod Parts
+pub mod Pasted
+pub mod Padded
+pub mod Overwritten
+pub mod Repeated
+pub mod Sifted
