@@ -15,7 +15,7 @@
 --   small-at, below-of-small, below-divideBy, below-negate   sizes of coefficients, of quotients and of negatives
 --   content-bounds         the content of two polynomials within ±C that are not both zero is positive and at most C
 --   signs-turned, signs-kept   the two cases of rule 2's signs
-use mathlib.Core.Path.{_≡_, refl, sym, _∙_, ap, subst}
+use mathlib.Core.Path.{_≡_, refl, sym, _∙_, ap, subst, ap₂}
 use mathlib.Core.Logic.{_≢_, ⊎-elim}
 use mathlib.Core.Bool.{Bool, true, false, not, cond, _&&_, and-assoc}
 use mathlib.Core.List.{_∷_, _++_}

@@ -64,96 +64,96 @@ small-entry l c s h = rw (entry-at l c h) (every-part small (c * 16) 16 l s)
 
 -- ---- the rows of a state
 
-module _ (m : ℕ) (rows : List ℤ) (w : Within (rowNeed m) rows) (i : ℕ) (inside : i < m) where
+module _ (equations : ℕ) (rows : List ℤ) (w : Within (rowNeed equations) rows) (i : ℕ) (inside : i < equations) where
   pub length-numbersAt : length (numbersAt rows i) ≡ rowLength
   length-numbersAt =
-      length-take-le rowLength (drop (i * rowLength) rows) (rw length-drop (omega (arith, row-room m i rows w inside, w .long)))
+      length-take-le rowLength (drop (i * rowLength) rows) (rw length-drop (omega (arith, row-room equations i rows w inside, w .long)))
 
   pub small-numbersAt : T (every small (numbersAt rows i))
   unfolding rowNeed
-  small-numbersAt = part-small rowLength m i rows inside w
+  small-numbersAt = part-small rowLength equations i rows inside w
 
-pub row-of : (m : ℕ) (rows relations : List ℤ) (p : Progress) (i : ℕ) → i < m
-    → rowAt (stateOf m rows relations p) i ≡ rowOf (numbersAt rows i)
+pub row-of : (equations : ℕ) (rows relations : List ℤ) (p : Progress) (i : ℕ) → i < equations
+    → rowAt (stateOf equations rows relations p) i ≡ rowOf (numbersAt rows i)
 unfolding stateOf rowAt
-row-of m rows relations p i inside = row-at m rows i inside
+row-of equations rows relations p i inside = row-at equations rows i inside
 
 -- ---- the exchange
 
-module _ (m : ℕ) (rows : List ℤ) (w : Within (rowNeed m) rows) (i j : ℕ) (inside : i < m) (other : j < m) where
+module _ (equations : ℕ) (rows : List ℤ) (w : Within (rowNeed equations) rows) (i j : ℕ) (inside : i < equations) (other : j < equations) where
   abbrev exchanged : List ℤ
   exchanged = paste (paste rows (j * rowLength) (numbersAt rows i) rowLength) (i * rowLength) (numbersAt rows j) rowLength
 
   long-i : rowLength ≤ length (numbersAt rows i)
-  long-i = le-of-eq (sym (length-numbersAt m rows w i inside))
+  long-i = le-of-eq (sym (length-numbersAt equations rows w i inside))
 
   long-j : rowLength ≤ length (numbersAt rows j)
-  long-j = le-of-eq (sym (length-numbersAt m rows w j other))
+  long-j = le-of-eq (sym (length-numbersAt equations rows w j other))
 
-  within-first : Within (rowNeed m) (paste rows (j * rowLength) (numbersAt rows i) rowLength)
+  within-first : Within (rowNeed equations) (paste rows (j * rowLength) (numbersAt rows i) rowLength)
   within-first =
-      within-paste (rowNeed m) rows w (j * rowLength) (numbersAt rows i) rowLength long-i (row-room m j rows w other)
-      (small-numbersAt m rows w i inside)
+      within-paste (rowNeed equations) rows w (j * rowLength) (numbersAt rows i) rowLength long-i (row-room equations j rows w other)
+      (small-numbersAt equations rows w i inside)
 
-  within-exchanged : Within (rowNeed m) exchanged
+  within-exchanged : Within (rowNeed equations) exchanged
   within-exchanged =
-      within-paste (rowNeed m) (paste rows (j * rowLength) (numbersAt rows i) rowLength) within-first (i * rowLength)
+      within-paste (rowNeed equations) (paste rows (j * rowLength) (numbersAt rows i) rowLength) within-first (i * rowLength)
       (numbersAt rows j) rowLength long-j
-      (row-room m i rows w inside) (small-numbersAt m rows w j other)
+      (row-room equations i rows w inside) (small-numbersAt equations rows w j other)
 
-  kept-exchanged : Kept (rowNeed m) rows exchanged
+  kept-exchanged : Kept (rowNeed equations) rows exchanged
   kept-exchanged =
-      kept-then (kept-paste (rowNeed m) rows w (j * rowLength) (numbersAt rows i) rowLength long-i (row-room m j rows w other))
-      (kept-paste (rowNeed m) (paste rows (j * rowLength) (numbersAt rows i) rowLength) within-first (i * rowLength)
+      kept-then (kept-paste (rowNeed equations) rows w (j * rowLength) (numbersAt rows i) rowLength long-i (row-room equations j rows w other))
+      (kept-paste (rowNeed equations) (paste rows (j * rowLength) (numbersAt rows i) rowLength) within-first (i * rowLength)
       (numbersAt rows j) rowLength long-j
-      (row-room m i rows w inside))
+      (row-room equations i rows w inside))
 
-  rows-exchanged : rowsOf m exchanged ≡ set (set (rowsOf m rows) j (rowOf (numbersAt rows i))) i (rowOf (numbersAt rows j))
+  rows-exchanged : rowsOf equations exchanged ≡ set (set (rowsOf equations rows) j (rowOf (numbersAt rows i))) i (rowOf (numbersAt rows j))
   unfolding rowNeed
   rows-exchanged =
-      rowsOf-paste m (paste rows (j * rowLength) (numbersAt rows i) rowLength) (numbersAt rows j) i
-      (length-numbersAt m rows w j other)
+      rowsOf-paste equations (paste rows (j * rowLength) (numbersAt rows i) rowLength) (numbersAt rows j) i
+      (length-numbersAt equations rows w j other)
       (within-first .long) inside
       ∙ ap (λ l. set l i (rowOf (numbersAt rows j)))
-      (rowsOf-paste m rows (numbersAt rows i) j (length-numbersAt m rows w i inside) (w .long) other)
+      (rowsOf-paste equations rows (numbersAt rows i) j (length-numbersAt equations rows w i inside) (w .long) other)
 
   -- Which rows the store holds afterwards, and what stays.
-  pub narrowed-within : Within (rowNeed m) (narrowed rows i j)
+  pub narrowed-within : Within (rowNeed equations) (narrowed rows i j)
   unfolding narrowed
   narrowed-within = cases (ltb (width (rowOf (numbersAt rows i))) (width (rowOf (numbersAt rows j))))
     where
-      cases : (t : Bool) → Within (rowNeed m) (cond t exchanged rows)
+      cases : (t : Bool) → Within (rowNeed equations) (cond t exchanged rows)
       cases true = within-exchanged
       cases false = w
 
-  pub narrowed-kept : Kept (rowNeed m) rows (narrowed rows i j)
+  pub narrowed-kept : Kept (rowNeed equations) rows (narrowed rows i j)
   unfolding narrowed
   narrowed-kept = cases (ltb (width (rowOf (numbersAt rows i))) (width (rowOf (numbersAt rows j))))
     where
-      cases : (t : Bool) → Kept (rowNeed m) rows (cond t exchanged rows)
+      cases : (t : Bool) → Kept (rowNeed equations) rows (cond t exchanged rows)
       cases true = kept-exchanged
-      cases false = kept-same (rowNeed m) rows
+      cases false = kept-same (rowNeed equations) rows
 
   pub narrowed-state : (relations : List ℤ) (p : Progress)
-      → narrowFirst (stateOf m rows relations p) i j ≡ stateOf m (narrowed rows i j) relations p
+      → narrowFirst (stateOf equations rows relations p) i j ≡ stateOf equations (narrowed rows i j) relations p
   unfolding narrowFirst narrowed exchange putRow stateOf
   narrowed-state relations p =
       ap₂ (λ a b. cond (ltb (width a) (width b)) (exchange s i j) s) first second
       ∙ cases (ltb (width (rowOf (numbersAt rows i))) (width (rowOf (numbersAt rows j))))
     where
       s : State
-      s = stateOf m rows relations p
+      s = stateOf equations rows relations p
 
       first : rowAt s i ≡ rowOf (numbersAt rows i)
-      first = row-of m rows relations p i inside
+      first = row-of equations rows relations p i inside
 
       second : rowAt s j ≡ rowOf (numbersAt rows j)
-      second = row-of m rows relations p j other
+      second = row-of equations rows relations p j other
 
-      cases : (t : Bool) → cond t (exchange s i j) s ≡ stateOf m (cond t exchanged rows) relations p
+      cases : (t : Bool) → cond t (exchange s i j) s ≡ stateOf equations (cond t exchanged rows) relations p
       cases true =
           ap (λ l. state l (relationsOf (p .count) relations) (take (p .settled) (p .order)) (p .shifts))
-          (ap₂ (λ a b. set (set (rowsOf m rows) j a) i b) first second ∙ sym rows-exchanged)
+          (ap₂ (λ a b. set (set (rowsOf equations rows) j a) i b) first second ∙ sym rows-exchanged)
       cases false = refl
 
   -- Row i stands in one of the two places afterwards.
@@ -165,10 +165,10 @@ module _ (m : ℕ) (rows : List ℤ) (w : Within (rowNeed m) rows) (i j : ℕ) (
     where
       moved : rowOf (numbersAt exchanged j) ≡ rowOf (numbersAt rows i)
       moved =
-          let first = set (rowsOf m rows) j (rowOf (numbersAt rows i)) in
-          sym (row-at m exchanged j other) ∙ ap (λ l. getD l j noRow) rows-exchanged
+          let first = set (rowsOf equations rows) j (rowOf (numbersAt rows i)) in
+          sym (row-at equations exchanged j other) ∙ ap (λ l. getD l j noRow) rows-exchanged
           ∙ getD-set-other first i j (rowOf (numbersAt rows j)) noRow n
-          ∙ getD-set-same (rowsOf m rows) j (rowOf (numbersAt rows i)) noRow (rw length-rowsOf other)
+          ∙ getD-set-same (rowsOf equations rows) j (rowOf (numbersAt rows i)) noRow (rw length-rowsOf other)
 
       cases : (t : Bool) → let after = cond t exchanged rows in
           (rowOf (numbersAt after j) ≡ rowOf (numbersAt rows i)) ⊎ (rowOf (numbersAt after i) ≡ rowOf (numbersAt rows i))

@@ -6,7 +6,7 @@
 --
 -- Main statements
 --   combined-storable, shifted-storable   the new rows of rules 4 and 6
---   row-room                row i of m rows has room in a store for m rows
+--   row-room                row i of equations rows has room in a store for equations rows
 --   saved-none              a refusal stores nothing
 --   saved-outcome, saved-within, saved-kept   what storing the new row does
 use Prim.Native.Nat.{ℕ, zero, suc, _+_, _*_, _≤_, _<_}
@@ -75,35 +75,35 @@ unfolding saved
 saved-none store i zero numbers h = absurd (h refl)
 saved-none store i (suc n) numbers h = refl
 
--- Row i of m rows in a store within ±C, in whose place a new row is put.
-module _ (m i : ℕ) (store : List ℤ) (w : Within (rowNeed m) store) (inside : i < m) where
-  pub row-room : i * rowLength + rowLength ≤ rowNeed m
+-- Row i of equations rows in a store within ±C, in whose place a new row is put.
+module _ (equations i : ℕ) (store : List ℤ) (w : Within (rowNeed equations) store) (inside : i < equations) where
+  pub row-room : i * rowLength + rowLength ≤ rowNeed equations
   unfolding rowNeed
   row-room = omega (arith, mul-le-mul-right rowLength inside, suc-mul i rowLength)
 
   abbrev after : Limited → List ℤ
   after x = saved store i (refusalOf x) (numbersOf x)
 
-  pub saved-within : (x : Limited) → Storable x → Within (rowNeed m) (after x)
+  pub saved-within : (x : Limited) → Storable x → Within (rowNeed equations) (after x)
   unfolding Storable saved refusalOf numbersOf
   saved-within (within r) h =
-      within-paste (rowNeed m) store w (i * rowLength) (coefficientsOf r) rowLength (le-of-eq (sym (h .long))) row-room
+      within-paste (rowNeed equations) store w (i * rowLength) (coefficientsOf r) rowLength (le-of-eq (sym (h .long))) row-room
       (h .within-bound)
   saved-within (beyond zero) h = absurd (not-suc-le-zero h)
   saved-within (beyond (suc n)) h = w
 
-  pub saved-kept : (x : Limited) → Storable x → Kept (rowNeed m) store (after x)
+  pub saved-kept : (x : Limited) → Storable x → Kept (rowNeed equations) store (after x)
   unfolding Storable saved refusalOf numbersOf
   saved-kept (within r) h =
-      kept-paste (rowNeed m) store w (i * rowLength) (coefficientsOf r) rowLength (le-of-eq (sym (h .long))) row-room
+      kept-paste (rowNeed equations) store w (i * rowLength) (coefficientsOf r) rowLength (le-of-eq (sym (h .long))) row-room
   saved-kept (beyond zero) h = absurd (not-suc-le-zero h)
-  saved-kept (beyond (suc n)) h = kept-same (rowNeed m) store
+  saved-kept (beyond (suc n)) h = kept-same (rowNeed equations) store
 
   pub saved-outcome : (x : Limited) → Storable x → (relations : List ℤ) (p : Progress)
-      → outcomeOf (refusalOf x) false (stateOf m (after x) relations p) ≡ putLimited (stateOf m store relations p) i x
+      → outcomeOf (refusalOf x) false (stateOf equations (after x) relations p) ≡ putLimited (stateOf equations store relations p) i x
   unfolding Storable saved refusalOf numbersOf outcomeOf putLimited putRow stateOf rowNeed
   saved-outcome (within r) h relations p =
       ap (λ rows. going (state rows (relationsOf (p .count) relations) (take (p .settled) (p .order)) (p .shifts)))
-      (rowsOf-paste m store (coefficientsOf r) i (h .long) (w .long) inside ∙ ap (set (rowsOf m store) i) (h .numbers))
+      (rowsOf-paste equations store (coefficientsOf r) i (h .long) (w .long) inside ∙ ap (set (rowsOf equations store) i) (h .numbers))
   saved-outcome (beyond zero) h relations p = absurd (not-suc-le-zero h)
   saved-outcome (beyond (suc n)) h relations p = refl

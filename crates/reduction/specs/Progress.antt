@@ -1,13 +1,13 @@
 -- The state that the lent stores hold with a run's progress, and what a step asks and gives.
 --
 -- Main definitions
---   stateOf m rows relations p   the state: rows, relations, the columns of the settled rows, shifts
+--   stateOf equations rows relations p   the state: rows, relations, the columns of the settled rows, shifts
 --   outcomeOf refusal done s     going on, done or refused
---   outcomeAt m rows relations o   the outcome that an answer of the code gives with the stores
+--   outcomeAt equations rows relations o   the outcome that an answer of the code gives with the stores
 --   mostSteps                    the most steps of a run
 --   startProgress, settledProgress, listedProgress, shiftedProgress   the progress at the start, and after each rule
---   Ready m rows relations p     what a step asks of the stores and of the progress
---   Reached m .. most o x        what steps give: their outcome is x, the rest of the stores is kept, at most `most` shifts are made,
+--   Ready equations rows relations p     what a step asks of the stores and of the progress
+--   Reached equations .. most o x        what steps give: their outcome is x, the rest of the stores is kept, at most `most` shifts are made,
 --                                and the stores are ready for a step
 --
 -- Main statements
@@ -18,7 +18,7 @@ use mathlib.Core.Bool.{Bool, true, false}
 use mathlib.Core.List.{List, [], _∷_}
 use lib.IntN.{ℤ}
 use lib.ListN.{length, take, set}
-use Rattle.rules.specs.Limits.{columnCount, blockCount}
+use Rattle.rules.specs.Limits.{mostEquations, columnCount, blockCount}
 use Rattle.rules.specs.Rows.{Row, Relation}
 use Rattle.rules.specs.Elimination.{State, Outcome, going, done, refused}
 use Rattle.rules.specs.Stores.{rowsOf, relationsOf, rowNeed, relationNeed}
@@ -33,7 +33,7 @@ state rows relations order shifts = record { rows = rows; relations = relations;
 
 unfoldable pub stateOf : ℕ → List ℤ → List ℤ → Progress → State
 unfolding rowsOf relationsOf
-stateOf m rows relations p = state (rowsOf m rows) (relationsOf (p .count) relations) (take (p .settled) (p .order)) (p .shifts)
+stateOf equations rows relations p = state (rowsOf equations rows) (relationsOf (p .count) relations) (take (p .settled) (p .order)) (p .shifts)
 
 unfoldable pub outcomeOf : ℕ → Bool → State → Outcome
 outcomeOf zero false s = going s
@@ -45,7 +45,7 @@ abbrev pub answerOf : ℕ → Progress → Answer.Outcome
 answerOf refusal p = record { refusal = refusal; done = false; progress = p }
 
 abbrev pub outcomeAt : ℕ → List ℤ → List ℤ → Answer.Outcome → Outcome
-outcomeAt m rows relations o = outcomeOf (o .refusal) (o .done) (stateOf m rows relations (o .progress))
+outcomeAt equations rows relations o = outcomeOf (o .refusal) (o .done) (stateOf equations rows relations (o .progress))
 
 -- ---- how far a run has come
 
@@ -71,22 +71,22 @@ shiftedProgress p = record { settled = p .settled; order = p .order; count = p .
 -- ---- what a step asks and gives
 
 -- The columns past those of the settled rows are 0.
-pub record Ready (m : ℕ) (rows relations : List ℤ) (p : Progress) : Type 0 where
-  pub unknowns : m ≤ columnCount
-  pub rows-within : Within (rowNeed m) rows
+pub record Ready (equations : ℕ) (rows relations : List ℤ) (p : Progress) : Type 0 where
+  pub few-rows : equations ≤ mostEquations
+  pub rows-within : Within (rowNeed equations) rows
   pub listing : Listing (p .count) relations
-  pub settled : p .settled ≤ m
+  pub settled : p .settled ≤ equations
   pub four : length (p .order) ≡ columnCount
   pub columns : Columns (p .order)
   pub padded : p .order ≡ padTo columnCount 0 (take (p .settled) (p .order))
 
 -- A step may be made with other stores and counts.
-pub ready-with : {m count shifts : ℕ} {rows relations rows' relations' : List ℤ} {p : Progress} → Ready m rows relations p
-    → Within (rowNeed m) rows' → Listing count relations'
-    → Ready m rows' relations' (record { settled = p .settled; order = p .order; count = count; shifts = shifts })
+pub ready-with : {equations count shifts : ℕ} {rows relations rows' relations' : List ℤ} {p : Progress} → Ready equations rows relations p
+    → Within (rowNeed equations) rows' → Listing count relations'
+    → Ready equations rows' relations' (record { settled = p .settled; order = p .order; count = count; shifts = shifts })
 ready-with r w l =
     record {
-      unknowns = r .unknowns;
+      few-rows = r .few-rows;
       rows-within = w;
       listing = l;
       settled = r .settled;
@@ -95,9 +95,9 @@ ready-with r w l =
       padded = r .padded;
     }
 
-pub record Reached (m : ℕ) (rows relations rows' relations' : List ℤ) (most : ℕ) (o : Answer.Outcome) (x : Outcome) : Type 0 where
-  pub outcome : outcomeAt m rows' relations' o ≡ x
-  pub rows-kept : Kept (rowNeed m) rows rows'
+pub record Reached (equations : ℕ) (rows relations rows' relations' : List ℤ) (most : ℕ) (o : Answer.Outcome) (x : Outcome) : Type 0 where
+  pub outcome : outcomeAt equations rows' relations' o ≡ x
+  pub rows-kept : Kept (rowNeed equations) rows rows'
   pub relations-kept : Kept relationNeed relations relations'
   pub few-shifts : o .progress .shifts ≤ most
-  pub ready : Ready m rows' relations' (o .progress)
+  pub ready : Ready equations rows' relations' (o .progress)

@@ -1,11 +1,11 @@
 -- What a whole run gives back and leaves in both stores, by its outcome.
 --
 -- Main definitions
---   runOf side m count rows relations   the run of the state that the stores hold
+--   runOf side equations count rows relations   the run of the state that the stores hold
 --   progressOf s                   how far a run has come with the state s
 --   answerFor x                    the answer of a run with the outcome x
---   rowsAfter m x store, relationsAfter x store   the stores after it: the state of x, or zeros after a refusal
---   Ran m .. o x                   the answer o and both stores are those of x, and the stores are ready for a step
+--   rowsAfter equations x store, relationsAfter x store   the stores after it: the state of x, or zeros after a refusal
+--   Ran equations .. o x                   the answer o and both stores are those of x, and the stores are ready for a step
 --
 -- Main statements
 --   zeros-small                    zeros are within ±C
@@ -41,7 +41,7 @@ use Rattle.reduction.specs.Progress.{Ready, Reached, stateOf, outcomeOf,
 use Rattle.reduction.specs.RunLaws.{start-ready}
 
 abbrev pub runOf : Side → ℕ → ℕ → List ℤ → List ℤ → Outcome
-runOf side m count rows relations = run side (enough (rowsOf m rows)) (start (rowsOf m rows) (relationsOf count relations))
+runOf side equations count rows relations = run side (enough (rowsOf equations rows)) (start (rowsOf equations rows) (relationsOf count relations))
 
 -- Zeros past the columns of the settled rows.
 unfoldable pub progressOf : State → Progress
@@ -58,9 +58,9 @@ answerFor (refused n) = answerOf n (startProgress 0)
 -- A refusal during the work leaves the needed part zero, and the rest as it was (SCOPE 6.33).
 unfoldable pub rowsAfter : ℕ → Outcome → List ℤ → List ℤ
 unfolding overwrite zeros rowNeed rowStoreOf
-rowsAfter m (going s) store = overwrite (rowStoreOf (s .rows)) store
-rowsAfter m (done s) store = overwrite (rowStoreOf (s .rows)) store
-rowsAfter m (refused n) store = overwrite (zeros (rowNeed m)) store
+rowsAfter equations (going s) store = overwrite (rowStoreOf (s .rows)) store
+rowsAfter equations (done s) store = overwrite (rowStoreOf (s .rows)) store
+rowsAfter equations (refused n) store = overwrite (zeros (rowNeed equations)) store
 
 unfoldable pub relationsAfter : Outcome → List ℤ → List ℤ
 unfolding overwrite zeros relationStoreOf
@@ -68,11 +68,11 @@ relationsAfter (going s) store = overwrite (relationStoreOf (s .relations)) stor
 relationsAfter (done s) store = overwrite (relationStoreOf (s .relations)) store
 relationsAfter (refused n) store = overwrite (zeros relationNeed) store
 
-pub record Ran (m : ℕ) (rows relations rows' relations' : List ℤ) (o : Answer.Outcome) (x : Outcome) : Type 0 where
+pub record Ran (equations : ℕ) (rows relations rows' relations' : List ℤ) (o : Answer.Outcome) (x : Outcome) : Type 0 where
   pub answer : o ≡ answerFor x
-  pub rows-after : rows' ≡ rowsAfter m x rows
+  pub rows-after : rows' ≡ rowsAfter equations x rows
   pub relations-after : relations' ≡ relationsAfter x relations
-  pub reached : Reached m rows relations rows' relations' mostSteps o x
+  pub reached : Reached equations rows relations rows' relations' mostSteps o x
 
 -- ---- a run without a refusal
 
@@ -86,10 +86,10 @@ overwrite-kept need part store after long kept e =
     ∙ ap (λ l. take need after ++ l) (sym (kept .same-rest)) ∙ take-append-drop need after)
 
 -- The progress is that of the state that the stores hold with it.
-held-progress : {m : ℕ} {rows relations : List ℤ} {p : Progress} → Ready m rows relations p → p ≡ progressOf (stateOf m rows relations p)
+held-progress : {equations : ℕ} {rows relations : List ℤ} {p : Progress} → Ready equations rows relations p → p ≡ progressOf (stateOf equations rows relations p)
 unfolding progressOf stateOf
-held-progress {m} {rows} {relations} {p} r =
-    let settled = sym (length-take-le (p .settled) (p .order) (omega (arith, r .settled, r .unknowns, r .four))) in
+held-progress {equations} {rows} {relations} {p} r =
+    let settled = sym (length-take-le (p .settled) (p .order) (omega (arith, r .settled, r .few-rows, r .four))) in
     let count = sym (length-relationsOf (p .count) relations) in
     λ i. record { settled = settled i; order = r .padded i; count = count i; shifts = p .shifts }
 
@@ -100,25 +100,25 @@ module _ (s : State) where
   held-answer false = refl
   held-answer true = refl
 
-  held-rows : (m : ℕ) (d : Bool) (store : List ℤ) → overwrite (rowStoreOf (s .rows)) store ≡ rowsAfter m (outcomeOf 0 d s) store
+  held-rows : (equations : ℕ) (d : Bool) (store : List ℤ) → overwrite (rowStoreOf (s .rows)) store ≡ rowsAfter equations (outcomeOf 0 d s) store
   unfolding rowsAfter outcomeOf
-  held-rows m false store = refl
-  held-rows m true store = refl
+  held-rows equations false store = refl
+  held-rows equations true store = refl
 
   held-relations : (d : Bool) (store : List ℤ) → overwrite (relationStoreOf (s .relations)) store ≡ relationsAfter (outcomeOf 0 d s) store
   unfolding relationsAfter outcomeOf
   held-relations false store = refl
   held-relations true store = refl
 
-pub ran-held : {m : ℕ} {rows relations rows' relations' : List ℤ} {o : Answer.Outcome} {x : Outcome}
-    → Reached m rows relations rows' relations' mostSteps o x → o .refusal ≡ 0 → Ran m rows relations rows' relations' o x
+pub ran-held : {equations : ℕ} {rows relations rows' relations' : List ℤ} {o : Answer.Outcome} {x : Outcome}
+    → Reached equations rows relations rows' relations' mostSteps o x → o .refusal ≡ 0 → Ran equations rows relations rows' relations' o x
 unfolding stateOf
-ran-held {m} {rows} {relations} {rows'} {relations'} {o} {x} r e =
+ran-held {equations} {rows} {relations} {rows'} {relations'} {o} {x} r e =
     record {
       answer = whole ∙ held-answer s (o .done) ∙ ap answerFor same;
       rows-after =
-          overwrite-kept (rowNeed m) (rowStoreOf (s .rows)) rows rows' (ready .rows-within .long) (r .rows-kept) (rowStoreOf-rowsOf m rows')
-          ∙ held-rows s m (o .done) rows ∙ ap (λ y. rowsAfter m y rows) same;
+          overwrite-kept (rowNeed equations) (rowStoreOf (s .rows)) rows rows' (ready .rows-within .long) (r .rows-kept) (rowStoreOf-rowsOf equations rows')
+          ∙ held-rows s equations (o .done) rows ∙ ap (λ y. rowsAfter equations y rows) same;
       relations-after =
           overwrite-kept relationNeed (relationStoreOf (s .relations)) relations relations' (listing .within .long) (r .relations-kept)
           (relationStoreOf-relationsOf (o .progress .count) relations' (listing .few) (listing .within .long) (listing .unused))
@@ -126,14 +126,14 @@ ran-held {m} {rows} {relations} {rows'} {relations'} {o} {x} r e =
       reached = r;
     }
   where
-    ready : Ready m rows' relations' (o .progress)
+    ready : Ready equations rows' relations' (o .progress)
     ready = r .ready
 
     listing : Listing (o .progress .count) relations'
     listing = ready .listing
 
     s : State
-    s = stateOf m rows' relations' (o .progress)
+    s = stateOf equations rows' relations' (o .progress)
 
     same : outcomeOf 0 (o .done) s ≡ x
     same = ap (λ n. outcomeOf n (o .done) s) (sym e) ∙ r .outcome
@@ -227,56 +227,56 @@ unfolding outcomeOf
 refused-is zero d s h = absurd (h refl)
 refused-is (suc n) d s h = refl
 
-refused-outcome : {m : ℕ} {rows relations rows' relations' : List ℤ} {o : Answer.Outcome} {x : Outcome}
-    → Reached m rows relations rows' relations' mostSteps o x → o .refusal ≢ 0 → refused (o .refusal) ≡ x
-refused-outcome {m} {rows} {relations} {rows'} {relations'} {o} r n =
-    refused-is (o .refusal) (o .done) (stateOf m rows' relations' (o .progress)) n ∙ r .outcome
+refused-outcome : {equations : ℕ} {rows relations rows' relations' : List ℤ} {o : Answer.Outcome} {x : Outcome}
+    → Reached equations rows relations rows' relations' mostSteps o x → o .refusal ≢ 0 → refused (o .refusal) ≡ x
+refused-outcome {equations} {rows} {relations} {rows'} {relations'} {o} r n =
+    refused-is (o .refusal) (o .done) (stateOf equations rows' relations' (o .progress)) n ∙ r .outcome
 
 -- Both stores hold zeros, and the progress is that of a run that has not begun.
-ran-zeros : (m n : ℕ) (rows relations : List ℤ) → n ≢ 0 → m ≤ columnCount → rowNeed m ≤ length rows → relationNeed ≤ length relations
-    → Ran m rows relations (overwrite (zeros (rowNeed m)) rows) (overwrite (zeros relationNeed) relations) (answerOf n (startProgress 0))
+ran-zeros : (equations n : ℕ) (rows relations : List ℤ) → n ≢ 0 → equations ≤ columnCount → rowNeed equations ≤ length rows → relationNeed ≤ length relations
+    → Ran equations rows relations (overwrite (zeros (rowNeed equations)) rows) (overwrite (zeros relationNeed) relations) (answerOf n (startProgress 0))
     (refused n)
 unfolding answerFor rowsAfter relationsAfter
-ran-zeros m n rows relations h few rows-long relations-long =
+ran-zeros equations n rows relations h few rows-long relations-long =
     record {
       answer = refl;
       rows-after = refl;
       relations-after = refl;
       reached =
           record {
-            outcome = sym (refused-is n false (stateOf m rows' relations' (startProgress 0)) h);
-            rows-kept = zeros-kept (rowNeed m) rows rows-long;
+            outcome = sym (refused-is n false (stateOf equations rows' relations' (startProgress 0)) h);
+            rows-kept = zeros-kept (rowNeed equations) rows rows-long;
             relations-kept = zeros-kept relationNeed relations relations-long;
             few-shifts = zero-le;
             ready =
-                start-ready m 0 rows' relations' few (zeros-within (rowNeed m) rows rows-long) (zeros-listing relations relations-long);
+                start-ready equations 0 rows' relations' few (zeros-within (rowNeed equations) rows rows-long) (zeros-listing relations relations-long);
           };
     }
   where
     rows' : List ℤ
-    rows' = overwrite (zeros (rowNeed m)) rows
+    rows' = overwrite (zeros (rowNeed equations)) rows
 
     relations' : List ℤ
     relations' = overwrite (zeros relationNeed) relations
 
 -- The rows and the relations that are listed when the run is refused are cleared.
-pub ran-cleared : {m : ℕ} {rows relations rows₁ relations₁ rows₂ relations₂ : List ℤ} {o o' : Answer.Outcome} {x : Outcome}
-    → Reached m rows relations rows₁ relations₁ mostSteps o x → o .refusal ≢ 0
-    → rows₂ ≡ paste rows₁ 0 (replicate (rowNeed m) (pos 0)) (rowNeed m)
+pub ran-cleared : {equations : ℕ} {rows relations rows₁ relations₁ rows₂ relations₂ : List ℤ} {o o' : Answer.Outcome} {x : Outcome}
+    → Reached equations rows relations rows₁ relations₁ mostSteps o x → o .refusal ≢ 0
+    → rows₂ ≡ paste rows₁ 0 (replicate (rowNeed equations) (pos 0)) (rowNeed equations)
     → let used = o .progress .count * relationLength in relations₂ ≡ paste relations₁ 0 (replicate used (pos 0)) used
-    → o' ≡ answerOf (o .refusal) (startProgress 0) → Ran m rows relations rows₂ relations₂ o' x
-ran-cleared {m} {rows} {relations} {rows₁} {relations₁} {rows₂} {relations₂} {o} {o'} {x} r n e f g =
-    subst₂ (λ a b. Ran m rows relations a b o' x) (sym rows-zero) (sym relations-zero)
-    (subst₂ (Ran m rows relations (overwrite (zeros (rowNeed m)) rows) (overwrite (zeros relationNeed) relations)) (sym g)
+    → o' ≡ answerOf (o .refusal) (startProgress 0) → Ran equations rows relations rows₂ relations₂ o' x
+ran-cleared {equations} {rows} {relations} {rows₁} {relations₁} {rows₂} {relations₂} {o} {o'} {x} r n e f g =
+    subst₂ (λ a b. Ran equations rows relations a b o' x) (sym rows-zero) (sym relations-zero)
+    (subst₂ (Ran equations rows relations (overwrite (zeros (rowNeed equations)) rows) (overwrite (zeros relationNeed) relations)) (sym g)
     (refused-outcome r n)
-    (ran-zeros m (o .refusal) rows relations n (r .ready .unknowns) (long (r .rows-kept) (r .ready .rows-within .long))
+    (ran-zeros equations (o .refusal) rows relations n (r .ready .few-rows) (long (r .rows-kept) (r .ready .rows-within .long))
     (long (r .relations-kept) (listing .within .long))))
   where
     long : {need : ℕ} {store after : List ℤ} → Kept need store after → need ≤ length after → need ≤ length store
     long {need} kept h = subst (λ n. need ≤ n) (kept .same-length) h
 
-    rows-zero : rows₂ ≡ overwrite (zeros (rowNeed m)) rows
-    rows-zero = e ∙ cleared-zeros (rowNeed m) rows₁ ∙ zeros-over (rowNeed m) rows (r .rows-kept)
+    rows-zero : rows₂ ≡ overwrite (zeros (rowNeed equations)) rows
+    rows-zero = e ∙ cleared-zeros (rowNeed equations) rows₁ ∙ zeros-over (rowNeed equations) rows (r .rows-kept)
 
     listing : Listing (o .progress .count) relations₁
     listing = r .ready .listing
@@ -291,16 +291,16 @@ ran-cleared {m} {rows} {relations} {rows₁} {relations₁} {rows₂} {relations
         ∙ zeros-over relationNeed relations (r .relations-kept)
 
 -- The stores were changed before the run.
-pub ran-kept : {m : ℕ} {rows relations rows₁ relations₁ rows₂ relations₂ : List ℤ} {o : Answer.Outcome} {x : Outcome}
-    → Kept (rowNeed m) rows rows₁ → Kept relationNeed relations relations₁ → o .refusal ≢ 0
-    → Ran m rows₁ relations₁ rows₂ relations₂ o x → Ran m rows relations rows₂ relations₂ o x
+pub ran-kept : {equations : ℕ} {rows relations rows₁ relations₁ rows₂ relations₂ : List ℤ} {o : Answer.Outcome} {x : Outcome}
+    → Kept (rowNeed equations) rows rows₁ → Kept relationNeed relations relations₁ → o .refusal ≢ 0
+    → Ran equations rows₁ relations₁ rows₂ relations₂ o x → Ran equations rows relations rows₂ relations₂ o x
 unfolding rowsAfter relationsAfter
-ran-kept {m} {rows} {relations} {rows₁} {relations₁} {rows₂} {relations₂} {o} {x} h g n r =
+ran-kept {equations} {rows} {relations} {rows₁} {relations₁} {rows₂} {relations₂} {o} {x} h g n r =
     record {
       answer = r .answer;
       rows-after =
           r .rows-after
-          ∙ subst (λ y. rowsAfter m y rows₁ ≡ rowsAfter m y rows) (refused-outcome reached n) (zeros-over (rowNeed m) rows h);
+          ∙ subst (λ y. rowsAfter equations y rows₁ ≡ rowsAfter equations y rows) (refused-outcome reached n) (zeros-over (rowNeed equations) rows h);
       relations-after =
           r .relations-after
           ∙ subst (λ y. relationsAfter y relations₁ ≡ relationsAfter y relations) (refused-outcome reached n)
@@ -315,5 +315,5 @@ ran-kept {m} {rows} {relations} {rows₁} {relations₁} {rows₂} {relations₂
           };
     }
   where
-    reached : Reached m rows₁ relations₁ rows₂ relations₂ mostSteps o x
+    reached : Reached equations rows₁ relations₁ rows₂ relations₂ mostSteps o x
     reached = r .reached

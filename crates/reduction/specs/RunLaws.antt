@@ -1,11 +1,11 @@
 -- The run as a loop of steps.
 --
 -- Main definitions
---   Running side m .. n p left x   the loop's invariant: at most `left` steps more from the progress p give x, unless n is a refusal
---   Stopped m n p left           the loop's end: no step is left, or n is a refusal, or every row is settled
+--   Running side equations .. n p left x   the loop's invariant: at most `left` steps more from the progress p give x, unless n is a refusal
+--   Stopped equations n p left           the loop's end: no step is left, or n is a refusal, or every row is settled
 --
 -- Main statements
---   enough-rows            the number of steps that are enough for m rows in a store
+--   enough-rows            the number of steps that are enough for equations rows in a store
 --   start-ready            stores that a run asks for are ready for its first step
 --   run-starts, run-goes, run-stops   the turns of the loop
 use Prim.Native.Nat.{ℕ, zero, suc, _+_, _*_, _-_, _≤_, _<_, zero-le}
@@ -20,7 +20,7 @@ use borrow.Author.Tests.{le-leb, lt-leb}
 use lib.Dec.{leb, lit<}
 use lib.IntN.{ℤ}
 use lib.ListN.{take}
-use Rattle.rules.specs.Limits.{rowLength}
+use Rattle.rules.specs.Limits.{mostEquations, rowLength}
 use Rattle.lists.specs.Everywhere.{All}
 use Rattle.rules.specs.Stores.{rowsOf, relationsOf, relationNeed, rowNeed}
 use Rattle.rules.specs.Elimination.{Side, State, Outcome, going, done, finished, step, andThen, run, enough, start}
@@ -37,33 +37,33 @@ use Rattle.sides.specs.StoreStates.{kept-same, kept-then}
 
 -- ---- how many steps are enough
 
-pub enough-rows : (m : ℕ) (store : List ℤ) → enough (rowsOf m store) ≡ (m + 1) * (m + m * 5)
+pub enough-rows : (equations : ℕ) (store : List ℤ) → enough (rowsOf equations store) ≡ (equations + 1) * (equations + equations * 5)
 unfolding enough rowsOf
 enough-rows zero store = refl
-enough-rows (suc m) store =
-    ap₂ (λ k b. suc k * (k + k * b)) (length-rowsOf (suc m) store) (length-blocks (take rowLength store)) ∙ plain (suc m)
+enough-rows (suc equations) store =
+    ap₂ (λ k b. suc k * (k + k * b)) (length-rowsOf (suc equations) store) (length-blocks (take rowLength store)) ∙ plain (suc equations)
   where
     plain : (k : ℕ) → suc k * (k + k * 5) ≡ (k + 1) * (k + k * 5)
     plain k = simp add-one
 
-pub enough-few : (m : ℕ) → m ≤ 4 → (m + 1) * (m + m * 5) ≤ mostSteps
-enough-few m h = omega (arith, mul-le-mul (count m h) (width m h))
+pub enough-few : (equations : ℕ) → equations ≤ mostEquations → (equations + 1) * (equations + equations * 5) ≤ mostSteps
+enough-few equations h = omega (arith, mul-le-mul (count equations h) (width equations h))
   where
-    count : (m : ℕ) → m ≤ 4 → m + 1 ≤ 5
-    count m h = omega arith
+    count : (equations : ℕ) → equations ≤ mostEquations → equations + 1 ≤ 5
+    count equations h = omega arith
 
-    width : (m : ℕ) → m ≤ 4 → m + m * 5 ≤ 24
-    width m h = omega arith
+    width : (equations : ℕ) → equations ≤ mostEquations → equations + equations * 5 ≤ 24
+    width equations h = omega arith
 
 -- ---- the loop
 
 -- What a run asks is what its first step asks.
-pub start-ready : (m count : ℕ) (rows relations : List ℤ) → m ≤ 4 → Within (rowNeed m) rows → Listing count relations
-    → Ready m rows relations (startProgress count)
+pub start-ready : (equations count : ℕ) (rows relations : List ℤ) → equations ≤ mostEquations → Within (rowNeed equations) rows → Listing count relations
+    → Ready equations rows relations (startProgress count)
 unfolding Columns All padTo
-start-ready m count rows relations h w l =
+start-ready equations count rows relations h w l =
     record {
-      unknowns = h;
+      few-rows = h;
       rows-within = w;
       listing = l;
       settled = zero-le;
@@ -94,55 +94,55 @@ module _ (side : Side) (s : State) where
   run-no-further false e = ap (λ t. cond t (done s) (going s)) e
 
 -- The loop: at most `left` steps more from the progress p give x, unless n is a refusal.
-pub record Running (side : Side) (m : ℕ) (rows relations rows' relations' : List ℤ) (n : ℕ) (p : Progress) (left : ℕ) (x : Outcome)
+pub record Running (side : Side) (equations : ℕ) (rows relations rows' relations' : List ℤ) (n : ℕ) (p : Progress) (left : ℕ) (x : Outcome)
     : Type 0 where
   pub few : left ≤ mostSteps
-  pub reached : Reached m rows relations rows' relations' (mostSteps - left) (answerOf n p) (outcomeAt m rows' relations' (answerOf n p))
-  pub whole : andThen (outcomeAt m rows' relations' (answerOf n p)) (run side left) ≡ x
+  pub reached : Reached equations rows relations rows' relations' (mostSteps - left) (answerOf n p) (outcomeAt equations rows' relations' (answerOf n p))
+  pub whole : andThen (outcomeAt equations rows' relations' (answerOf n p)) (run side left) ≡ x
 
 -- What ends it: no step is left, a refusal, or no row.
 abbrev pub Stopped : ℕ → ℕ → Progress → ℕ → Type 0
-Stopped m n p left = (left ≡ 0) ⊎ (n ≢ 0) ⊎ (m ≤ p .settled)
+Stopped equations n p left = (left ≡ 0) ⊎ (n ≢ 0) ⊎ (equations ≤ p .settled)
 
-pub run-starts : (side : Side) (m count left : ℕ) (rows relations : List ℤ) → m ≤ 4 → Within (rowNeed m) rows → Listing count relations
-    → left ≡ (m + 1) * (m + m * 5)
-    → Running side m rows relations rows relations 0 (startProgress count) left
-    (run side (enough (rowsOf m rows)) (start (rowsOf m rows) (relationsOf count relations)))
+pub run-starts : (side : Side) (equations count left : ℕ) (rows relations : List ℤ) → equations ≤ mostEquations → Within (rowNeed equations) rows → Listing count relations
+    → left ≡ (equations + 1) * (equations + equations * 5)
+    → Running side equations rows relations rows relations 0 (startProgress count) left
+    (run side (enough (rowsOf equations rows)) (start (rowsOf equations rows) (relationsOf count relations)))
 unfolding outcomeOf stateOf start andThen
-run-starts side m count left rows relations h w l e =
+run-starts side equations count left rows relations h w l e =
     record {
-      few = omega (arith, enough-few m h);
+      few = omega (arith, enough-few equations h);
       reached =
           record {
             outcome = refl;
-            rows-kept = kept-same (rowNeed m) rows;
+            rows-kept = kept-same (rowNeed equations) rows;
             relations-kept = kept-same relationNeed relations;
             few-shifts = zero-le;
-            ready = start-ready m count rows relations h w l;
+            ready = start-ready equations count rows relations h w l;
           };
-      whole = ap (λ n. run side n (start (rowsOf m rows) (relationsOf count relations))) (e ∙ sym (enough-rows m rows));
+      whole = ap (λ n. run side n (start (rowsOf equations rows) (relationsOf count relations))) (e ∙ sym (enough-rows equations rows));
     }
 
-module _ {side : Side} {m : ℕ} {rows relations rows' relations' : List ℤ} {n : ℕ} {p : Progress} {left : ℕ} {x : Outcome}
-    (r : Running side m rows relations rows' relations' n p left x) where
+module _ {side : Side} {equations : ℕ} {rows relations rows' relations' : List ℤ} {n : ℕ} {p : Progress} {left : ℕ} {x : Outcome}
+    (r : Running side equations rows relations rows' relations' n p left x) where
   abbrev s : State
-  s = stateOf m rows' relations' p
+  s = stateOf equations rows' relations' p
 
-  finished-here : finished s ≡ leb m (p .settled)
+  finished-here : finished s ≡ leb equations (p .settled)
   finished-here = finished-at side (r .reached .ready)
 
   -- A refused run stays so, and one with no step or no row left is done exactly if no row is left.
-  stopped-whole : (k : ℕ) → andThen (outcomeOf k false s) (run side left) ≡ x → Stopped m k p left → outcomeOf k (leb m (p .settled)) s ≡ x
+  stopped-whole : (k : ℕ) → andThen (outcomeOf k false s) (run side left) ≡ x → Stopped equations k p left → outcomeOf k (leb equations (p .settled)) s ≡ x
   unfolding andThen outcomeOf
   stopped-whole (suc k) e h = e
-  stopped-whole zero e (inl none) = sym (ap (λ k. run side k s) none ∙ run-no-further side s (leb m (p .settled)) finished-here) ∙ e
+  stopped-whole zero e (inl none) = sym (ap (λ k. run side k s) none ∙ run-no-further side s (leb equations (p .settled)) finished-here) ∙ e
   stopped-whole zero e (inr (inl h)) = absurd (h refl)
   stopped-whole zero e (inr (inr h)) =
-      let all = le-leb m (p .settled) h in
+      let all = le-leb equations (p .settled) h in
       ap (λ t. outcomeOf 0 t s) all ∙ sym (run-finished side s left (finished-here ∙ all)) ∙ e
 
-  pub run-stops : Stopped m n p left
-      → Reached m rows relations rows' relations' mostSteps (record { refusal = n; done = leb m (p .settled); progress = p }) x
+  pub run-stops : Stopped equations n p left
+      → Reached equations rows relations rows' relations' mostSteps (record { refusal = n; done = leb equations (p .settled); progress = p }) x
   run-stops h =
       record {
         outcome = stopped-whole n (r .whole) h;
@@ -152,9 +152,9 @@ module _ {side : Side} {m : ℕ} {rows relations rows' relations' : List ℤ} {n
         ready = r .reached .ready;
       }
 
-  pub run-goes : {rows'' relations'' : List ℤ} {o : Answer.Outcome} → 0 < left → n ≡ 0 → p .settled < m
-      → Reached m rows' relations' rows'' relations'' (p .shifts + 1) o (step side s) → o .done ≡ false
-      → Running side m rows relations rows'' relations'' (o .refusal) (o .progress) (left - 1) x
+  pub run-goes : {rows'' relations'' : List ℤ} {o : Answer.Outcome} → 0 < left → n ≡ 0 → p .settled < equations
+      → Reached equations rows' relations' rows'' relations'' (p .shifts + 1) o (step side s) → o .done ≡ false
+      → Running side equations rows relations rows'' relations'' (o .refusal) (o .progress) (left - 1) x
   unfolding andThen outcomeOf
   run-goes {rows''} {relations''} {o} b e f h g =
       record {
@@ -169,7 +169,7 @@ module _ {side : Side} {m : ℕ} {rows relations rows' relations' : List ℤ} {n
             };
         whole =
             ap (λ y. andThen y (run side (left - 1)))
-            (ap (λ d. outcomeOf (o .refusal) d (stateOf m rows'' relations'' (o .progress))) (sym g) ∙ h .outcome)
-            ∙ sym (run-steps side s left (finished-here ∙ lt-leb m (p .settled) f) b)
+            (ap (λ d. outcomeOf (o .refusal) d (stateOf equations rows'' relations'' (o .progress))) (sym g) ∙ h .outcome)
+            ∙ sym (run-steps side s left (finished-here ∙ lt-leb equations (p .settled) f) b)
             ∙ sym (ap (λ k. andThen (outcomeOf k false s) (run side left)) e) ∙ r .whole;
       }

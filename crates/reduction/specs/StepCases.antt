@@ -1,7 +1,7 @@
 -- The cases of a step: which rule comes next for the row that is worked on.
 --
 -- Main statements
---   finished-at               the state is finished if the settled rows are all m rows
+--   finished-at               the state is finished if the settled rows are all equations rows
 --   step-zero                 rule 1: a zero row
 --   step-met, met-nonzero     rule 2: settled row j meets a nonzero entry, and the entries are not both zero after the exchange
 --   narrowed-ready            after which a step may be made as before it
@@ -79,9 +79,9 @@ not-both-zero a b (inr z) = subst (λ t. T (not t)) (sym (isZero-append a b ∙ 
 
 -- ---- the cases
 
-module _ (side : Side) {m : ℕ} {rows relations : List ℤ} {p : Progress} (ready : Ready m rows relations p) where
+module _ (side : Side) {equations : ℕ} {rows relations : List ℤ} {p : Progress} (ready : Ready equations rows relations p) where
   abbrev s : State
-  s = stateOf m rows relations p
+  s = stateOf equations rows relations p
 
   abbrev w : ℕ
   w = p .settled
@@ -99,28 +99,28 @@ module _ (side : Side) {m : ℕ} {rows relations : List ℤ} {p : Progress} (rea
   unfolding stateOf
   order-length = length-take-le w (p .order) enough
 
-  rows-length : length (s .rows) ≡ m
+  rows-length : length (s .rows) ≡ equations
   unfolding stateOf
-  rows-length = length-rowsOf m rows
+  rows-length = length-rowsOf equations rows
 
-  pub finished-at : finished s ≡ leb m w
+  pub finished-at : finished s ≡ leb equations w
   unfolding finished
-  finished-at = rw (order-length, rows-length) (go (ltb w m) (ltb→lt w m) (nltb→le w m))
+  finished-at = rw (order-length, rows-length) (go (ltb w equations) (ltb→lt w equations) (nltb→le w equations))
     where
-      go : (t : Bool) → (T t → w < m) → (T (not t) → m ≤ w) → not t ≡ leb m w
-      go true f g = sym (lt-leb m w (f tt))
-      go false f g = sym (le-leb m w (g tt))
+      go : (t : Bool) → (T t → w < equations) → (T (not t) → equations ≤ w) → not t ≡ leb equations w
+      go true f g = sym (lt-leb equations w (f tt))
+      go false f g = sym (le-leb equations w (g tt))
 
-  module _ (inside : w < m) where
-    pub narrowed-ready : (j : ℕ) → j < w → Ready m (narrowed rows w j) relations p
-    narrowed-ready j h = ready-with ready (narrowed-within m rows (ready .rows-within) w j inside (omega arith)) (ready .listing)
+  module _ (inside : w < equations) where
+    pub narrowed-ready : (j : ℕ) → j < w → Ready equations (narrowed rows w j) relations p
+    narrowed-ready j h = ready-with ready (narrowed-within equations rows (ready .rows-within) w j inside (omega arith)) (ready .listing)
 
     step-is : step side s ≡ cond (zeroRow row) (refused 6) (meet side s w (firstNonzero entries))
     unfolding step workOn stateOf
     step-is =
         rw order-length
         (ap (λ r. cond (zeroRow r) (refused 6) (meet side s w (firstNonzero (map (entry r) (take w (p .order))))))
-        (row-of m rows relations p w inside))
+        (row-of equations rows relations p w inside))
 
     pub step-zero : zeroRow row ≡ true → step side s ≡ refused 6
     step-zero z = step-is ∙ ap (λ t. cond t (refused 6) (meet side s w (firstNonzero entries))) z
@@ -130,12 +130,12 @@ module _ (side : Side) {m : ℕ} {rows relations : List ℤ} {p : Progress} (rea
       step-meet = step-is ∙ ap (λ t. cond t (refused 6) (meet side s w (firstNonzero entries))) nonzero
 
       pub step-met : (j : ℕ) → foundOr w (firstNonzero entries) ≡ j → j < w
-          → let e = stateOf m (narrowed rows w j) relations p in step side s ≡ combineStep side e w j (multipliersAt e w j)
+          → let e = stateOf equations (narrowed rows w j) relations p in step side s ≡ combineStep side e w j (multipliersAt e w j)
       unfolding meet eliminateStep
       step-met j e h =
           step-meet ∙ ap (meet side s w) (found-some w j (firstNonzero entries) e h)
           ∙ ap (λ e. combineStep side e w j (multipliersAt e w j))
-          (narrowed-state m rows (ready .rows-within) w j inside (omega arith) relations p)
+          (narrowed-state equations rows (ready .rows-within) w j inside (omega arith) relations p)
 
       -- The entry of the row that is worked on stands in one of the two rows after the exchange.
       pub met-nonzero : (j : ℕ) → foundOr w (firstNonzero entries) ≡ j → j < w → T (not (isZero (metEntries (narrowed rows w j) p j)))
@@ -143,7 +143,7 @@ module _ (side : Side) {m : ℕ} {rows relations : List ℤ} {p : Progress} (rea
       met-nonzero j e h =
           not-both-zero (entry (rowOf (numbersAt (narrowed rows w j) j)) column) (entry (rowOf (numbersAt (narrowed rows w j) w)) column)
           (⊎-elim (λ f. inl (same f)) (λ f. inr (same f))
-          (narrowed-one m rows (ready .rows-within) w j inside (omega arith) (λ f. omega arith)))
+          (narrowed-one equations rows (ready .rows-within) w j inside (omega arith) (λ f. omega arith)))
         where
           column : ℕ
           column = getD (p .order) j 0
@@ -162,7 +162,7 @@ module _ (side : Side) {m : ℕ} {rows relations : List ℤ} {p : Progress} (rea
         step-none =
             step-meet
             ∙ ap (meet side s w) (found-none w entries (le-of-eq (length-entriesAt row (p .order) w enough)) none-met)
-            ∙ ap (λ r. settleOrShift s w (firstNonzero (leadingBlock r))) (row-of m rows relations p w inside)
+            ∙ ap (λ r. settleOrShift s w (firstNonzero (leadingBlock r))) (row-of equations rows relations p w inside)
 
         step-settle : (c : ℕ) → foundOr 4 (firstNonzero (leadingBlock row)) ≡ c → c < 4 → step side s ≡ going (settle s c)
         unfolding settleOrShift
@@ -176,18 +176,18 @@ module _ (side : Side) {m : ℕ} {rows relations : List ℤ} {p : Progress} (rea
             columns-four = let l = numbersAt rows w in ap length (block-at l 0 (lit< tt)) ∙ parts-length 16 4 (take 64 (drop 0 l))
 
         pub settled-reached : (c : ℕ) → foundOr 4 (firstNonzero (leadingBlock row)) ≡ c → c < 4
-            → Reached m rows relations rows relations (p .shifts + 1) (answerOf 0 (settledProgress p c)) (step side s)
+            → Reached equations rows relations rows relations (p .shifts + 1) (answerOf 0 (settledProgress p c)) (step side s)
         unfolding outcomeOf settle stateOf
         settled-reached c e h =
             record {
               outcome =
-                  ap (λ o. going (state (rowsOf m rows) (relationsOf (p .count) relations) o (p .shifts))) order ∙ sym (step-settle c e h);
-              rows-kept = kept-same (rowNeed m) rows;
+                  ap (λ o. going (state (rowsOf equations rows) (relationsOf (p .count) relations) o (p .shifts))) order ∙ sym (step-settle c e h);
+              rows-kept = kept-same (rowNeed equations) rows;
               relations-kept = kept-same relationNeed relations;
               few-shifts = omega arith;
               ready =
                   record {
-                    unknowns = ready .unknowns;
+                    few-rows = ready .few-rows;
                     rows-within = ready .rows-within;
                     listing = ready .listing;
                     settled = omega arith;

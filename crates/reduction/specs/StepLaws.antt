@@ -43,16 +43,16 @@ use Rattle.reduction.specs.Exchange.{numbersAt, length-numbersAt, row-of
 -- ---- what a step gives
 
 -- Equal stores, answers and outcomes.
-pub reached-same : {m n : ℕ} {rows relations rows' rows'' relations' : List ℤ} {o o' : Answer.Outcome} {x x' : Outcome}
-    → rows' ≡ rows'' → o ≡ o' → x ≡ x' → Reached m rows relations rows'' relations' n o' x'
-    → Reached m rows relations rows' relations' n o x
-reached-same {m} {n} {rows} {relations} {rows'} {rows''} {relations'} {o} {o'} {x} {x'} e f g h =
-    subst (λ r. Reached m rows relations r relations' n o x) (sym e)
-    (subst₂ (λ a b. Reached m rows relations rows'' relations' n a b) (sym f) (sym g) h)
+pub reached-same : {equations n : ℕ} {rows relations rows' rows'' relations' : List ℤ} {o o' : Answer.Outcome} {x x' : Outcome}
+    → rows' ≡ rows'' → o ≡ o' → x ≡ x' → Reached equations rows relations rows'' relations' n o' x'
+    → Reached equations rows relations rows' relations' n o x
+reached-same {equations} {n} {rows} {relations} {rows'} {rows''} {relations'} {o} {o'} {x} {x'} e f g h =
+    subst (λ r. Reached equations rows relations r relations' n o x) (sym e)
+    (subst₂ (λ a b. Reached equations rows relations rows'' relations' n a b) (sym f) (sym g) h)
 
 -- A step after the exchange.
-pub reached-after : {m n : ℕ} {first rows relations rows' relations' : List ℤ} {o : Answer.Outcome} {x : Outcome}
-    → Kept (rowNeed m) first rows → Reached m rows relations rows' relations' n o x → Reached m first relations rows' relations' n o x
+pub reached-after : {equations n : ℕ} {first rows relations rows' relations' : List ℤ} {o : Answer.Outcome} {x : Outcome}
+    → Kept (rowNeed equations) first rows → Reached equations rows relations rows' relations' n o x → Reached equations first relations rows' relations' n o x
 reached-after k h =
     record {
       outcome = h .outcome;
@@ -62,31 +62,31 @@ reached-after k h =
       ready = h .ready;
     }
 
-pub refused-reached : {m : ℕ} {rows relations : List ℤ} {p : Progress} → Ready m rows relations p → (n : ℕ)
-    → Reached m rows relations rows relations (p .shifts + 1) (answerOf (suc n) p) (refused (suc n))
+pub refused-reached : {equations : ℕ} {rows relations : List ℤ} {p : Progress} → Ready equations rows relations p → (n : ℕ)
+    → Reached equations rows relations rows relations (p .shifts + 1) (answerOf (suc n) p) (refused (suc n))
 unfolding outcomeOf
-refused-reached {m} {rows} {relations} r n =
+refused-reached {equations} {rows} {relations} r n =
     record {
       outcome = refl;
-      rows-kept = kept-same (rowNeed m) rows;
+      rows-kept = kept-same (rowNeed equations) rows;
       relations-kept = kept-same relationNeed relations;
       few-shifts = omega arith;
       ready = r;
     }
 
 -- The new row in the place of the row that is worked on, or the refusal, after relations have been listed.
-put-reached : {m : ℕ} {rows relations relations' : List ℤ} (p next : Progress) (x : Limited) → p .settled < m → Storable x
-    → Kept relationNeed relations relations' → Ready m rows relations' next → next .shifts ≤ p .shifts + 1
-    → Reached m rows relations (saved rows (p .settled) (refusalOf x) (numbersOf x)) relations' (p .shifts + 1)
-    (answerOf (refusalOf x) next) (putLimited (stateOf m rows relations' next) (p .settled) x)
-put-reached {m} {rows} {relations} {relations'} p next x b h k r s =
+put-reached : {equations : ℕ} {rows relations relations' : List ℤ} (p next : Progress) (x : Limited) → p .settled < equations → Storable x
+    → Kept relationNeed relations relations' → Ready equations rows relations' next → next .shifts ≤ p .shifts + 1
+    → Reached equations rows relations (saved rows (p .settled) (refusalOf x) (numbersOf x)) relations' (p .shifts + 1)
+    (answerOf (refusalOf x) next) (putLimited (stateOf equations rows relations' next) (p .settled) x)
+put-reached {equations} {rows} {relations} {relations'} p next x b h k r s =
     let w = r .rows-within in
     record {
-      outcome = saved-outcome m (p .settled) rows w b x h relations' next;
-      rows-kept = saved-kept m (p .settled) rows w b x h;
+      outcome = saved-outcome equations (p .settled) rows w b x h relations' next;
+      rows-kept = saved-kept equations (p .settled) rows w b x h;
       relations-kept = k;
       few-shifts = s;
-      ready = ready-with r (saved-within m (p .settled) rows w b x h) (r .listing);
+      ready = ready-with r (saved-within equations (p .settled) rows w b x h) (r .listing);
     }
 
 -- ---- rules 2 to 4
@@ -102,19 +102,19 @@ multipliersIn rows p j =
 abbrev pub newRow : Multipliers → List ℤ → List ℤ → Limited
 newRow x target pivot = limitDegrees (primitive (combine (x .g) (x .h) (rowOf target) (rowOf pivot)))
 
-module _ (side : Side) {m : ℕ} {rows relations : List ℤ} {p : Progress} (ready : Ready m rows relations p) (j : ℕ)
-    (inside : p .settled < m) (settled : j < p .settled) where
+module _ (side : Side) {equations : ℕ} {rows relations : List ℤ} {p : Progress} (ready : Ready equations rows relations p) (j : ℕ)
+    (inside : p .settled < equations) (settled : j < p .settled) where
   abbrev i : ℕ
   i = p .settled
 
   abbrev before : State
-  before = stateOf m rows relations p
+  before = stateOf equations rows relations p
 
   i-row : rowAt before i ≡ rowOf (numbersAt rows i)
-  i-row = row-of m rows relations p i inside
+  i-row = row-of equations rows relations p i inside
 
   j-row : rowAt before j ≡ rowOf (numbersAt rows j)
-  j-row = row-of m rows relations p j (omega arith)
+  j-row = row-of equations rows relations p j (omega arith)
 
   pub multipliers-in : multipliersAt before i j ≡ multipliersIn rows p j
   unfolding multipliersAt stateOf
@@ -144,9 +144,9 @@ module _ (side : Side) {m : ℕ} {rows relations : List ℤ} {p : Progress} (rea
     combine-refused h = rw (listed-count, lt-leb (p .count + more) 16 h)
 
     module _ {relations' : List ℤ} (l : Relisted (p .count) (numbersAt rows i) (listing side (roots (x .g))) relations relations') where
-      listed-state : listed ≡ stateOf m rows relations' (listedProgress p more)
+      listed-state : listed ≡ stateOf equations rows relations' (listedProgress p more)
       unfolding stateOf listRelations rootRelations
-      listed-state = ap (λ r. state (rowsOf m rows) r (take i (p .order)) (p .shifts)) same
+      listed-state = ap (λ r. state (rowsOf equations rows) r (take i (p .order)) (p .shifts)) same
         where
           same : relationsOf (p .count) relations ++ rootRelations side (x .g) (rowAt before i) ≡ relationsOf (p .count + more) relations'
           same =
@@ -154,7 +154,7 @@ module _ (side : Side) {m : ℕ} {rows relations : List ℤ} {p : Progress} (rea
               ∙ ap (λ n. relationsOf (p .count + n) relations') (length-listing side (roots (x .g)))
 
       combine-listed : p .count + more ≤ 16
-          → combineStep side before i j x ≡ putLimited (stateOf m rows relations' (listedProgress p more)) i new
+          → combineStep side before i j x ≡ putLimited (stateOf equations rows relations' (listedProgress p more)) i new
       unfolding combineStep
       combine-listed h =
           rw (listed-count, le-leb (p .count + more) 16 h)
@@ -162,7 +162,7 @@ module _ (side : Side) {m : ℕ} {rows relations : List ℤ} {p : Progress} (rea
           (ap₂ (λ a b. limitDegrees (primitive (combine (x .g) (x .h) a b))) i-row j-row))
 
       pub combine-reached : p .count + more ≤ 16 → Storable new
-          → Reached m rows relations (saved rows i (refusalOf new) (numbersOf new)) relations' (p .shifts + 1)
+          → Reached equations rows relations (saved rows i (refusalOf new) (numbersOf new)) relations' (p .shifts + 1)
           (answerOf (refusalOf new) (listedProgress p more)) (combineStep side before i j x)
       combine-reached few h =
           let next = ready-with ready (ready .rows-within) (rw (length-listing side (roots (x .g))) at (l .listing)) in
@@ -173,12 +173,12 @@ module _ (side : Side) {m : ℕ} {rows relations : List ℤ} {p : Progress} (rea
 abbrev pub shiftedRow : List ℤ → Limited
 shiftedRow l = limitCoefficients (shiftUp (rowOf l))
 
-pub shift-reached : {m : ℕ} {rows relations : List ℤ} {p : Progress} → Ready m rows relations p → p .settled < m
+pub shift-reached : {equations : ℕ} {rows relations : List ℤ} {p : Progress} → Ready equations rows relations p → p .settled < equations
     → let new = shiftedRow (numbersAt rows (p .settled)) in
-    Reached m rows relations (saved rows (p .settled) (refusalOf new) (numbersOf new)) relations (p .shifts + 1)
-    (answerOf (refusalOf new) (shiftedProgress p)) (shiftStep (stateOf m rows relations p) (p .settled))
+    Reached equations rows relations (saved rows (p .settled) (refusalOf new) (numbersOf new)) relations (p .shifts + 1)
+    (answerOf (refusalOf new) (shiftedProgress p)) (shiftStep (stateOf equations rows relations p) (p .settled))
 unfolding shiftStep countShift stateOf
-shift-reached {m} {rows} {relations} {p} r inside =
+shift-reached {equations} {rows} {relations} {p} r inside =
     reached-same refl refl same
     (put-reached p (shiftedProgress p) (shiftedRow (numbersAt rows i)) inside storable (kept-same relationNeed relations)
     (ready-with r (r .rows-within) (r .listing)) (omega arith))
@@ -187,13 +187,13 @@ shift-reached {m} {rows} {relations} {p} r inside =
     i = p .settled
 
     storable : Storable (shiftedRow (numbersAt rows i))
-    storable = shifted-storable (numbersAt rows i) (length-numbersAt m rows (r .rows-within) i inside)
+    storable = shifted-storable (numbersAt rows i) (length-numbersAt equations rows (r .rows-within) i inside)
 
     withShifts : ℕ → State
-    withShifts n = state (rowsOf m rows) (relationsOf (p .count) relations) (take i (p .order)) n
+    withShifts n = state (rowsOf equations rows) (relationsOf (p .count) relations) (take i (p .order)) n
 
-    same : shiftStep (stateOf m rows relations p) i
-        ≡ putLimited (stateOf m rows relations (shiftedProgress p)) i (shiftedRow (numbersAt rows i))
+    same : shiftStep (stateOf equations rows relations p) i
+        ≡ putLimited (stateOf equations rows relations (shiftedProgress p)) i (shiftedRow (numbersAt rows i))
     same =
         ap₂ (λ n q. putLimited (withShifts n) i (limitCoefficients (shiftUp q))) (sym (add-one (p .shifts)))
-        (row-of m rows relations p i inside)
+        (row-of equations rows relations p i inside)

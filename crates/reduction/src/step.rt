@@ -135,16 +135,16 @@ fn shift_step(rows: &mut [i64], row: [i64; ROW], p: Progress) -> Outcome
 fn combine_step(
     rows: &mut [i64],
     relations: &mut [i64],
-    m: usize,
+    equations: usize,
     side: Side,
     j: usize,
     p: Progress,
 ) -> Outcome
-    requires { ⌜ Ready m (now rows) (now relations) p × (p .settled < m) × (j < p .settled) ⌝ }
+    requires { ⌜ Ready equations (now rows) (now relations) p × (p .settled < equations) × (j < p .settled) ⌝ }
     requires { ⌜ T (not (isZero (metEntries (now rows) p j))) ⌝ }
-    ensures { λ r. ⌜ Reached m (now (rows .entry)) (now (relations .entry)) (now (rows .exit)) (now (relations .exit)) (p .shifts + 1) r
-        (Elimination.combineStep (sideOf side) (stateOf m (now (rows .entry)) (now (relations .entry)) p) (p .settled) j
-        (Elimination.multipliersAt (stateOf m (now (rows .entry)) (now (relations .entry)) p) (p .settled) j)) ⌝ }
+    ensures { λ r. ⌜ Reached equations (now (rows .entry)) (now (relations .entry)) (now (rows .exit)) (now (relations .exit)) (p .shifts + 1) r
+        (Elimination.combineStep (sideOf side) (stateOf equations (now (rows .entry)) (now (relations .entry)) p) (p .settled) j
+        (Elimination.multipliersAt (stateOf equations (now (rows .entry)) (now (relations .entry)) p) (p .settled) j)) ⌝ }
     ensures { λ r. ⌜ r .done ≡ false ⌝ }
 {
     let i = p.settled;
@@ -179,13 +179,13 @@ fn combine_step(
 pub(crate) fn step(
     rows: &mut [i64],
     relations: &mut [i64],
-    m: usize,
+    equations: usize,
     side: Side,
     p: Progress,
 ) -> Outcome
-    requires { ⌜ Ready m (now rows) (now relations) p × (p .settled < m) × (p .shifts < 2 ^ 32) ⌝ }
-    ensures { λ r. ⌜ Reached m (now (rows .entry)) (now (relations .entry)) (now (rows .exit)) (now (relations .exit)) (p .shifts + 1) r
-        (Elimination.step (sideOf side) (stateOf m (now (rows .entry)) (now (relations .entry)) p)) ⌝ }
+    requires { ⌜ Ready equations (now rows) (now relations) p × (p .settled < equations) × (p .shifts < 2 ^ 32) ⌝ }
+    ensures { λ r. ⌜ Reached equations (now (rows .entry)) (now (relations .entry)) (now (rows .exit)) (now (relations .exit)) (p .shifts + 1) r
+        (Elimination.step (sideOf side) (stateOf equations (now (rows .entry)) (now (relations .entry)) p)) ⌝ }
     ensures { λ r. ⌜ r .done ≡ false ⌝ }
 {
     let i = p.settled;
@@ -197,7 +197,7 @@ pub(crate) fn step(
     let j = working::entries::first_met(row, order, i);
     if j < i {
         narrow_first(rows, i, j);
-        return combine_step(rows, relations, m, side, j, p);
+        return combine_step(rows, relations, equations, side, j, p);
     }
     let c = working::entries::first_column(row);
     if c < 4 {

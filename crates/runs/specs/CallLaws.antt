@@ -3,12 +3,12 @@
 -- Main definitions
 --   resultOf r, callOf r rows relations   the result, and the whole call, as `rules` has them
 --   resultAfter side D x          the result of a call whose run has the outcome x
---   Final m rows o                what the row store holds when the run has ended with the answer o
+--   Final equations rows o                what the row store holds when the run has ended with the answer o
 --   Checked z count rows relations   what the stores hold when the checks have passed
 --
 -- Main statements
 --   counted-none, counted-next    the columns of an order, counted from 1, one after the other
---   few-unknowns, few-blocks      m and D of right sizes are at most 4
+--   few-equations, few-blocks     the equations and D of right sizes are at most 4
 --   accepted-result               the result of a run that accepts
 --   ended-refused, ended-accepted the result after the run, from the answer and the stores
 --   checked                       what the checks let through
@@ -28,13 +28,13 @@ use lib.Signed.{≤ℤ-refl}
 use lib.ListN.{length, take, getD, set, replicate, length-map}
 use lib.Seq.{take-suc, length-take-le}
 use Rattle.lists.specs.Tests.{T-&&}
-use Rattle.rules.specs.Limits.{relationLength, small}
+use Rattle.rules.specs.Limits.{mostEquations, relationLength, small}
 use Rattle.rules.specs.Rows.{Row, Relation, coefficientsOf, smallRow}
 use Rattle.lists.specs.Tested.{every, every-append}
 use Rattle.rules.specs.Elimination.{Side, State, Outcome, going, done, refused, wholeRun, report, neverNumber}
-use Rattle.rules.specs.Stores.{Sizes, Valid, span, sizesRight, checkStores, rowsOf, relationsOf, rowNeed, relationNeed}
+use Rattle.rules.specs.Stores.{Sizes, equations, Valid, span, sizesRight, checkStores, rowsOf, relationsOf, rowNeed, relationNeed}
 use Rattle.rules.specs.Stores.{rowStoreOf, relationStoreOf, relationNumbers, unusedZero, rowRight, relationRight}
-use Rattle.rules.specs.Layout.{rowStoreOf-rowsOf, relationStoreOf-relationsOf, length-relationsOf, size-bounds, block-place}
+use Rattle.rules.specs.Layout.{rowStoreOf-rowsOf, relationStoreOf-relationsOf, length-relationsOf, size-bounds, equations-few, block-place}
 use Rattle.rules.specs.Layout.{StoresRight, checkStores-zero, stores-valid, NumbersRight, numbersRight-iff}
 use Rattle.rules.specs.Layout.{lengthsRight-iff, countRight-iff}
 use Rattle.rules.specs.Calls.{Result, Call, reportedOrder, refusal, acceptance, zeros}
@@ -85,8 +85,8 @@ counted-next order j h g =
 
 -- ---- the sizes of a call
 
-pub few-unknowns : (z : Sizes) → T (sizesRight z) → z .m ≤ 4
-few-unknowns z h = size-bounds z h .few
+pub few-equations : (z : Sizes) → T (sizesRight z) → equations z ≤ mostEquations
+few-equations z h = equations-few z (size-bounds z h)
 
 pub few-blocks : (z : Sizes) → T (sizesRight z) → span z ≤ 4
 unfolding span
@@ -100,15 +100,15 @@ abbrev acceptedWith : ℕ → ℕ → List ℕ → RootAnswer → Result
 acceptedWith count shifts order a =
     record { refusal = 0; relations = count; shifts = shifts; order = order; hasRoot = a .found; root = a .root }
 
-pub accepted-result : (side : Side) (D m : ℕ) (rows relations : List ℤ) (p : Progress) (order : List ℕ) (a : RootAnswer) → p .settled ≡ m
-    → order ≡ reportedOrder (take m (p .order)) → a ≡ answered (report side D (settledState m rows (p .order)))
-    → acceptedWith (p .count) (p .shifts) order a ≡ acceptance side D (stateOf m rows relations p)
+pub accepted-result : (side : Side) (D equations : ℕ) (rows relations : List ℤ) (p : Progress) (order : List ℕ) (a : RootAnswer) → p .settled ≡ equations
+    → order ≡ reportedOrder (take equations (p .order)) → a ≡ answered (report side D (settledState equations rows (p .order)))
+    → acceptedWith (p .count) (p .shifts) order a ≡ acceptance side D (stateOf equations rows relations p)
 unfolding acceptance stateOf
-accepted-result side D m rows relations p order a e f g =
-    let s = stateOf m rows relations p in
+accepted-result side D equations rows relations p order a e f g =
+    let s = stateOf equations rows relations p in
     let columns = ap (λ n. take n (p .order)) e in
     ap₂ (acceptedWith (p .count) (p .shifts)) (f ∙ ap reportedOrder (sym columns))
-    (g ∙ ap answered (sym (report-settled side D m rows (p .order) s refl columns)))
+    (g ∙ ap answered (sym (report-settled side D equations rows (p .order) s refl columns)))
     ∙ ap (λ n. acceptedWith n (p .shifts) (reportedOrder (take (p .settled) (p .order))) (answered (report side D s)))
     (sym (length-relationsOf (p .count) relations))
 
@@ -122,10 +122,10 @@ resultAfter side D (refused n) = refusal n
 resultAfter side D (going s) = refusal neverNumber
 
 -- What the row store and the answer hold when the run has ended.
-pub record Final (m : ℕ) (rows : List ℤ) (o : Answer.Outcome) : Type 0 where
-  pub rows-within : Within (rowNeed m) rows
+pub record Final (equations : ℕ) (rows : List ℤ) (o : Answer.Outcome) : Type 0 where
+  pub rows-within : Within (rowNeed equations) rows
   pub columns : Columns (o .progress .order)
-  pub all-settled : o .refusal ≡ 0 → (o .done ≡ true) × (o .progress .settled ≡ m)
+  pub all-settled : o .refusal ≡ 0 → (o .done ≡ true) × (o .progress .settled ≡ equations)
 
 module _ (side : Side) (D : ℕ) (r : RunResult) (s : State) where
   pub ended-refused : (n : ℕ) (d : Bool) → n ≢ 0 → resultOf r ≡ refusal n → resultOf r ≡ resultAfter side D (outcomeOf n d s)
@@ -143,8 +143,8 @@ module _ (side : Side) (D : ℕ) (r : RunResult) (s : State) where
 -- What a call that passes its checks may ask of the stores.
 pub record Checked (z : Sizes) (count : ℕ) (rows relations : List ℤ) : Type 0 where
   pub sizes : T (sizesRight z)
-  pub valid : Valid z (rowsOf (z .m) rows) (relationsOf count relations)
-  pub rows-within : Within (rowNeed (z .m)) rows
+  pub valid : Valid z (rowsOf (equations z) rows) (relationsOf count relations)
+  pub rows-within : Within (rowNeed (equations z)) rows
   pub listing : Listing count relations
 
 -- The numbers of things that pass a test, end to end.
@@ -192,14 +192,14 @@ checked z count rows relations e =
     few : count ≤ 16
     few = countRight-iff count .0 (passed .few)
 
-    long : (rowNeed (z .m) ≤ length rows) × (relationNeed ≤ length relations)
-    long = lengthsRight-iff (z .m) rows relations .0 (passed .lengths)
+    long : (rowNeed (equations z) ≤ length rows) × (relationNeed ≤ length relations)
+    long = lengthsRight-iff (equations z) rows relations .0 (passed .lengths)
 
     right : NumbersRight z count rows relations
     right = numbersRight-iff z count rows relations .0 (passed .numbers)
 
-    row-numbers : T (every small (take (rowNeed (z .m)) rows))
-    row-numbers = subst (λ l. T (every small l)) (rowStoreOf-rowsOf (z .m) rows) (rows-small z (rowsOf (z .m) rows) (right .rows-right))
+    row-numbers : T (every small (take (rowNeed (equations z)) rows))
+    row-numbers = subst (λ l. T (every small l)) (rowStoreOf-rowsOf (equations z) rows) (rows-small z (rowsOf (equations z) rows) (right .rows-right))
 
     relation-numbers : T (every small (take relationNeed relations))
     relation-numbers =
@@ -209,17 +209,17 @@ checked z count rows relations e =
 -- A run that is enough ends, and one that accepts has settled every row.
 module _ (side : Side) (z : Sizes) (count : ℕ) (rows relations rows' relations' : List ℤ) (o : Answer.Outcome)
     (c : Checked z count rows relations)
-    (r : Ran (z .m) rows relations rows' relations' o (wholeRun side (span z) (rowsOf (z .m) rows) (relationsOf count relations))) where
+    (r : Ran (equations z) rows relations rows' relations' o (wholeRun side (span z) (rowsOf (equations z) rows) (relationsOf count relations))) where
   abbrev whole : Outcome
-  whole = wholeRun side (span z) (rowsOf (z .m) rows) (relationsOf count relations)
+  whole = wholeRun side (span z) (rowsOf (equations z) rows) (relationsOf count relations)
 
   abbrev s : State
-  s = stateOf (z .m) rows' relations' (o .progress)
+  s = stateOf (equations z) rows' relations' (o .progress)
 
   ends : (s : State) → whole ≢ going s
-  ends s = wholeRun-ends side (span z) (rowsOf (z .m) rows) (relationsOf count relations) s (c .valid .row-shapes)
+  ends s = wholeRun-ends side (span z) (rowsOf (equations z) rows) (relationsOf count relations) s (c .valid .row-shapes)
 
-  pub final-run : Final (z .m) rows' o
+  pub final-run : Final (equations z) rows' o
   unfolding outcomeOf stateOf
   final-run =
       record {
@@ -228,19 +228,19 @@ module _ (side : Side) (z : Sizes) (count : ℕ) (rows relations rows' relations
         all-settled = λ e. cases e (o .done) refl;
       }
     where
-      ready : Ready (z .m) rows' relations' (o .progress)
+      ready : Ready (equations z) rows' relations' (o .progress)
       ready = r .reached .ready
 
       came : (d : Bool) → o .refusal ≡ 0 → o .done ≡ d → whole ≡ outcomeOf 0 d s
       came d e f = sym (r .reached .outcome) ∙ ap₂ (λ n x. outcomeOf n x s) e f
 
-      settled : o .refusal ≡ 0 → o .done ≡ true → o .progress .settled ≡ z .m
+      settled : o .refusal ≡ 0 → o .done ≡ true → o .progress .settled ≡ equations z
       settled e f =
           let order = diagonal-nonzero (record { valid = c .valid; accepts = came true e f }) .order-count in
-          let inside : o .progress .settled ≤ length (o .progress .order) = omega (arith, ready .settled, ready .unknowns, ready .four) in
+          let inside : o .progress .settled ≤ length (o .progress .order) = omega (arith, ready .settled, ready .few-rows, ready .four) in
           sym (length-take-le (o .progress .settled) (o .progress .order) inside) ∙ order
 
-      cases : o .refusal ≡ 0 → (d : Bool) → o .done ≡ d → (o .done ≡ true) × (o .progress .settled ≡ z .m)
+      cases : o .refusal ≡ 0 → (d : Bool) → o .done ≡ d → (o .done ≡ true) × (o .progress .settled ≡ equations z)
       cases e true f = (f, settled e f)
       cases e false f = absurd (ends s (came false e f))
 
@@ -252,22 +252,22 @@ call-of c r rows relations e f g = λ i. record { result = e i; rowStore = f i; 
 
 -- What a run that ends leaves is what its call leaves.
 call-after : (side : Side) (z : Sizes) (x : Outcome) (r : RunResult) (rows relations rows' relations' : List ℤ)
-    → ((s : State) → x ≢ going s) → resultOf r ≡ resultAfter side (span z) x → rows' ≡ rowsAfter (z .m) x rows → relations' ≡ relationsAfter x relations
+    → ((s : State) → x ≢ going s) → resultOf r ≡ resultAfter side (span z) x → rows' ≡ rowsAfter (equations z) x rows → relations' ≡ relationsAfter x relations
     → callOf r rows' relations' ≡ afterRun side z x rows relations
 unfolding afterRun resultAfter rowsAfter relationsAfter cleared
 call-after side z (going s) r rows relations rows' relations' n e f g = absurd (n s refl)
 call-after side z (done s) r rows relations rows' relations' n e f g =
     call-of (afterRun side z (done s) rows relations) r rows' relations' e f g
-call-after side z (refused k) r rows relations rows' relations' n e f g = call-of (cleared k (z .m) rows relations) r rows' relations' e f g
+call-after side z (refused k) r rows relations rows' relations' n e f g = call-of (cleared k (equations z) rows relations) r rows' relations' e f g
 
 pub call-run : (side : Side) (z : Sizes) (count : ℕ) (rows relations rows' relations' : List ℤ) (o : Answer.Outcome) (r : RunResult)
     → checkStores z count rows relations ≡ 0
-    → Ran (z .m) rows relations rows' relations' o (wholeRun side (span z) (rowsOf (z .m) rows) (relationsOf count relations))
-    → resultOf r ≡ resultAfter side (span z) (outcomeAt (z .m) rows' relations' o)
+    → Ran (equations z) rows relations rows' relations' o (wholeRun side (span z) (rowsOf (equations z) rows) (relationsOf count relations))
+    → resultOf r ≡ resultAfter side (span z) (outcomeAt (equations z) rows' relations' o)
     → callOf r rows' relations' ≡ callRun side z count rows relations
 unfolding callRun afterCheck
 call-run side z count rows relations rows' relations' o r e ran f =
-    let x = wholeRun side (span z) (rowsOf (z .m) rows) (relationsOf count relations) in
+    let x = wholeRun side (span z) (rowsOf (equations z) rows) (relationsOf count relations) in
     let never-going = ends side z count rows relations rows' relations' o (checked z count rows relations e) ran in
     call-after side z x r rows relations rows' relations' never-going
     (f ∙ ap (resultAfter side (span z)) (ran .reached .outcome)) (ran .rows-after) (ran .relations-after)

@@ -20,10 +20,10 @@ use Rattle.reduction.specs.RunLaws.{enough-rows}
 use Rattle.sides.specs.StoreStates.{kept-then}
 use Rattle.sides.specs.MirrorLaws.{RowsMirrored, RelationsMirrored}
 
-pub mirrored-state : (m D : ℕ) (rows relations rows' relations' : List ℤ) (p : Progress) → RowsMirrored m D rows rows'
-    → RelationsMirrored (p .count) D relations relations' → stateOf m rows' relations' p ≡ mirrorState D (stateOf m rows relations p)
+pub mirrored-state : (equations D : ℕ) (rows relations rows' relations' : List ℤ) (p : Progress) → RowsMirrored equations D rows rows'
+    → RelationsMirrored (p .count) D relations relations' → stateOf equations rows' relations' p ≡ mirrorState D (stateOf equations rows relations p)
 unfolding stateOf mirrorState
-mirrored-state m D rows relations rows' relations' p h g =
+mirrored-state equations D rows relations rows' relations' p h g =
     ap₂ (λ r e. state r e (take (p .settled) (p .order)) (p .shifts)) (h .rows) (g .relations)
 
 outcome-mirrored : (D n : ℕ) (d : Bool) (s s' : State) → (n ≡ 0 → s' ≡ mirrorState D s)
@@ -34,36 +34,36 @@ outcome-mirrored D zero true s s' h = ap done (h refl)
 outcome-mirrored D (suc n) d s s' h = refl
 
 -- The stores before the mirror, after it, and after the run.
-module _ (m D count : ℕ) (rows relations rows₁ relations₁ rows₂ relations₂ : List ℤ) (h : RowsMirrored m D rows rows₁)
+module _ (equations D count : ℕ) (rows relations rows₁ relations₁ rows₂ relations₂ : List ℤ) (h : RowsMirrored equations D rows rows₁)
     (g : RelationsMirrored count D relations relations₁) (o : Answer.Outcome)
-    (r : Ran m rows₁ relations₁ rows₂ relations₂ o (runOf trailing m count rows₁ relations₁)) where
-  mirrored-start : start (rowsOf m rows₁) (relationsOf count relations₁) ≡ mirrorState D (start (rowsOf m rows) (relationsOf count relations))
+    (r : Ran equations rows₁ relations₁ rows₂ relations₂ o (runOf trailing equations count rows₁ relations₁)) where
+  mirrored-start : start (rowsOf equations rows₁) (relationsOf count relations₁) ≡ mirrorState D (start (rowsOf equations rows) (relationsOf count relations))
   unfolding start mirrorState
   mirrored-start = ap₂ (λ r e. state r e [] 0) (h .rows) (g .relations)
 
-  reached-mirrored : outcomeAt m rows₂ relations₂ o
-      ≡ run trailing (enough (rowsOf m rows)) (mirrorState D (start (rowsOf m rows) (relationsOf count relations)))
-  reached-mirrored = r .reached .outcome ∙ ap₂ (run trailing) (enough-rows m rows₁ ∙ sym (enough-rows m rows)) mirrored-start
+  reached-mirrored : outcomeAt equations rows₂ relations₂ o
+      ≡ run trailing (enough (rowsOf equations rows)) (mirrorState D (start (rowsOf equations rows) (relationsOf count relations)))
+  reached-mirrored = r .reached .outcome ∙ ap₂ (run trailing) (enough-rows equations rows₁ ∙ sym (enough-rows equations rows)) mirrored-start
 
   -- A refusal, and the stores as they are.
   pub trailing-refused : o .refusal ≢ 0
-      → Ran m rows relations rows₂ relations₂ o (trailingRun D (rowsOf m rows) (relationsOf count relations))
+      → Ran equations rows relations rows₂ relations₂ o (trailingRun D (rowsOf equations rows) (relationsOf count relations))
   unfolding trailingRun
   trailing-refused n =
-      let s = stateOf m rows₂ relations₂ (o .progress) in
+      let s = stateOf equations rows₂ relations₂ (o .progress) in
       let same = outcome-mirrored D (o .refusal) (o .done) s s (λ e. absurd (n e)) in
-      subst (Ran m rows relations rows₂ relations₂ o) (sym (r .reached .outcome) ∙ same ∙ ap (mirrorOutcome D) reached-mirrored)
+      subst (Ran equations rows relations rows₂ relations₂ o) (sym (r .reached .outcome) ∙ same ∙ ap (mirrorOutcome D) reached-mirrored)
       (ran-kept (h .kept) (g .kept) n r)
 
   -- No refusal, and the stores after the mirror back.
-  pub trailing-held : (rows₃ relations₃ : List ℤ) → o .refusal ≡ 0 → RowsMirrored m D rows₂ rows₃
+  pub trailing-held : (rows₃ relations₃ : List ℤ) → o .refusal ≡ 0 → RowsMirrored equations D rows₂ rows₃
       → RelationsMirrored (o .progress .count) D relations₂ relations₃
-      → Ran m rows relations rows₃ relations₃ o (trailingRun D (rowsOf m rows) (relationsOf count relations))
+      → Ran equations rows relations rows₃ relations₃ o (trailingRun D (rowsOf equations rows) (relationsOf count relations))
   unfolding trailingRun
   trailing-held rows₃ relations₃ e h′ g′ =
-      let s = stateOf m rows₂ relations₂ (o .progress) in
-      let s′ = stateOf m rows₃ relations₃ (o .progress) in
-      let same = mirrored-state m D rows₂ relations₂ rows₃ relations₃ (o .progress) h′ g′ in
+      let s = stateOf equations rows₂ relations₂ (o .progress) in
+      let s′ = stateOf equations rows₃ relations₃ (o .progress) in
+      let same = mirrored-state equations D rows₂ relations₂ rows₃ relations₃ (o .progress) h′ g′ in
       ran-held (record {
         outcome = outcome-mirrored D (o .refusal) (o .done) s s′ (λ _. same) ∙ ap (mirrorOutcome D) reached-mirrored;
         rows-kept = kept-then (h .kept) (kept-then (r .reached .rows-kept) (h′ .kept));

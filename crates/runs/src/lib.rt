@@ -7,8 +7,9 @@ ghost use Prim.Native.Nat.{_≤_};
 ghost use lib.Dec.{T};
 ghost use lib.IntN.{ℤ};
 ghost use lib.ListN.{take};
+ghost use Rattle.rules.specs.Limits.{mostEquations};
 ghost use Rattle.rules.specs.Elimination as Elimination;
-ghost use Rattle.rules.specs.Stores.{rowsOf, relationsOf, rowNeed, sizesRight, span, checkStores};
+ghost use Rattle.rules.specs.Stores.{equations, rowsOf, relationsOf, rowNeed, sizesRight, span, checkStores};
 ghost use Rattle.rules.specs.Calls as Calls;
 ghost use Rattle.working.specs.Found.{Columns};
 ghost use Rattle.rows.specs.Validity.{sizesOf};
@@ -44,13 +45,13 @@ fn refused(refusal: u8) -> RunResult
 }
 
 // Columns counted from 1, zeros past the last (SCOPE 3.23).
-fn counted(order: [usize; 4], m: usize) -> [usize; 4]
-    requires { ⌜ (m ≤ 4) × Columns order ⌝ }
-    ensures { λ r. ⌜ r ≡ Calls.reportedOrder (take m order) ⌝ }
+fn counted(order: [usize; 4], equations: usize) -> [usize; 4]
+    requires { ⌜ (equations ≤ mostEquations) × Columns order ⌝ }
+    ensures { λ r. ⌜ r ≡ Calls.reportedOrder (take equations order) ⌝ }
 {
     let mut result = [0usize; 4];
     let mut j = 0;
-    while j < m {
+    while j < equations {
         result[j] = order[j] + 1;
         j += 1;
     }
@@ -60,22 +61,22 @@ fn counted(order: [usize; 4], m: usize) -> [usize; 4]
 // The result of a run that accepts (SCOPE 2.81, 3.22).
 fn accepted(
     rows: &[i64],
-    m: usize,
+    equations: usize,
     span: usize,
     side: Side,
     p: reduction::step::Progress,
 ) -> RunResult
-    requires { ⌜ (m ≤ 4) × (span ≤ 4) × Within (rowNeed m) (now rows) × (p .settled ≡ m) × Columns (p .order) ⌝ }
+    requires { ⌜ (equations ≤ mostEquations) × (span ≤ 4) × Within (rowNeed equations) (now rows) × (p .settled ≡ equations) × Columns (p .order) ⌝ }
     ensures { λ r. ⌜ ((relations : List ℤ)
-        → resultOf r ≡ Calls.acceptance (sideOf side) span (stateOf m (now (rows .entry)) relations p)) ⌝ }
+        → resultOf r ≡ Calls.acceptance (sideOf side) span (stateOf equations (now (rows .entry)) relations p)) ⌝ }
 {
     let order = p.order;
-    let answer = sides::report::report(rows, m, order, side, span);
+    let answer = sides::report::report(rows, equations, order, side, span);
     RunResult {
         refusal: 0,
         relations: p.count,
         shifts: p.shifts,
-        order: counted(order, m),
+        order: counted(order, equations),
         has_root: answer.found,
         root: answer.root,
     }
@@ -85,23 +86,23 @@ fn accepted(
 fn trailing_run(
     rows: &mut [i64],
     relations: &mut [i64],
-    m: usize,
+    equations: usize,
     span: usize,
     count: usize,
 ) -> reduction::step::Outcome
-    requires { ⌜ (m ≤ 4) × (span ≤ 4) × Within (rowNeed m) (now rows) × Listing count (now relations) ⌝ }
-    ensures { λ r. ⌜ Ran m (now (rows .entry)) (now (relations .entry)) (now (rows .exit)) (now (relations .exit)) r
-        (Elimination.trailingRun span (rowsOf m (now (rows .entry))) (relationsOf count (now (relations .entry)))) ⌝ }
+    requires { ⌜ (equations ≤ mostEquations) × (span ≤ 4) × Within (rowNeed equations) (now rows) × Listing count (now relations) ⌝ }
+    ensures { λ r. ⌜ Ran equations (now (rows .entry)) (now (relations .entry)) (now (rows .exit)) (now (relations .exit)) r
+        (Elimination.trailingRun span (rowsOf equations (now (rows .entry))) (relationsOf count (now (relations .entry)))) ⌝ }
 {
-    sides::mirror::mirror_rows(rows, m, span);
+    sides::mirror::mirror_rows(rows, equations, span);
     sides::mirror::mirror_relations(relations, count, span);
-    let o = reduction::run::run(rows, relations, m, Side::Trailing, count);
+    let o = reduction::run::run(rows, relations, equations, Side::Trailing, count);
     let refusal = o.refusal;
     if refusal != 0 {
         return o;
     }
     let p = o.progress;
-    sides::mirror::mirror_rows(rows, m, span);
+    sides::mirror::mirror_rows(rows, equations, span);
     sides::mirror::mirror_relations(relations, p.count, span);
     o
 }
@@ -109,18 +110,18 @@ fn trailing_run(
 fn whole_run(
     rows: &mut [i64],
     relations: &mut [i64],
-    m: usize,
+    equations: usize,
     span: usize,
     side: Side,
     count: usize,
 ) -> reduction::step::Outcome
-    requires { ⌜ (m ≤ 4) × (span ≤ 4) × Within (rowNeed m) (now rows) × Listing count (now relations) ⌝ }
-    ensures { λ r. ⌜ Ran m (now (rows .entry)) (now (relations .entry)) (now (rows .exit)) (now (relations .exit)) r
-        (Elimination.wholeRun (sideOf side) span (rowsOf m (now (rows .entry))) (relationsOf count (now (relations .entry)))) ⌝ }
+    requires { ⌜ (equations ≤ mostEquations) × (span ≤ 4) × Within (rowNeed equations) (now rows) × Listing count (now relations) ⌝ }
+    ensures { λ r. ⌜ Ran equations (now (rows .entry)) (now (relations .entry)) (now (rows .exit)) (now (relations .exit)) r
+        (Elimination.wholeRun (sideOf side) span (rowsOf equations (now (rows .entry))) (relationsOf count (now (relations .entry)))) ⌝ }
 {
     match side {
-        Side::Leading => reduction::run::run(rows, relations, m, Side::Leading, count),
-        Side::Trailing => trailing_run(rows, relations, m, span, count),
+        Side::Leading => reduction::run::run(rows, relations, equations, Side::Leading, count),
+        Side::Trailing => trailing_run(rows, relations, equations, span, count),
     }
 }
 
@@ -132,17 +133,17 @@ fn ended(
     side: Side,
     o: reduction::step::Outcome,
 ) -> RunResult
-    requires { ⌜ T (sizesRight (sizesOf sizes)) × Final (sizes .m) (now rows) o ⌝ }
+    requires { ⌜ T (sizesRight (sizesOf sizes)) × Final (equations (sizesOf sizes)) (now rows) o ⌝ }
     ensures { λ r. ⌜ ((relations : List ℤ)
-        → resultOf r ≡ resultAfter (sideOf side) (span (sizesOf sizes)) (outcomeAt (sizes .m) (now (rows .entry)) relations o)) ⌝ }
+        → resultOf r ≡ resultAfter (sideOf side) (span (sizesOf sizes)) (outcomeAt (equations (sizesOf sizes)) (now (rows .entry)) relations o)) ⌝ }
 {
     let refusal = o.refusal;
     if refusal != 0 {
         return refused(refusal);
     }
-    let m = sizes.m;
+    let equations = sizes.m;
     let p = o.progress;
-    accepted(rows, m, rows::validity::span(sizes), side, p)
+    accepted(rows, equations, rows::validity::span(sizes), side, p)
 }
 
 // A run on stores that pass the checks, and what it leaves.
@@ -157,9 +158,9 @@ fn checked_run(
     ensures { λ r. ⌜ callOf r (now (rows .exit)) (now (relations .exit))
         ≡ Calls.callRun (sideOf side) (sizesOf sizes) count (now (rows .entry)) (now (relations .entry)) ⌝ }
 {
-    let m = sizes.m;
+    let equations = sizes.m;
     let span = rows::validity::span(sizes);
-    let o = whole_run(rows, relations, m, span, side, count);
+    let o = whole_run(rows, relations, equations, span, side, count);
     ended(rows, sizes, side, o)
 }
 

@@ -151,21 +151,21 @@ pub mirror-stays : (D : ℕ) → D ≤ 4 → Stays rowLength (mirrorNumbers D)
 unfolding smallRow
 mirror-stays D few p e s = (length-mirrorRow D p few e, small-mirrorRow D p few e s)
 
-pub record RowsMirrored (m D : ℕ) (before after : List ℤ) : Type 0 where
-  pub rows : rowsOf m after ≡ map (mirrorRow D) (rowsOf m before)
-  pub within : Within (rowNeed m) after
-  pub kept : Kept (rowNeed m) before after
+pub record RowsMirrored (equations D : ℕ) (before after : List ℤ) : Type 0 where
+  pub rows : rowsOf equations after ≡ map (mirrorRow D) (rowsOf equations before)
+  pub within : Within (rowNeed equations) after
+  pub kept : Kept (rowNeed equations) before after
 
-pub rows-mirrored : (m D i : ℕ) (before after : List ℤ) → D ≤ 4 → Within (rowNeed m) before → m ≤ i
-    → Changed rowLength m i (mirrorNumbers D) before after → RowsMirrored m D before after
+pub rows-mirrored : (equations D i : ℕ) (before after : List ℤ) → D ≤ 4 → Within (rowNeed equations) before → equations ≤ i
+    → Changed rowLength equations i (mirrorNumbers D) before after → RowsMirrored equations D before after
 unfolding rowsOf rowNeed
-rows-mirrored m D i before after few w h c =
+rows-mirrored equations D i before after few w h c =
     record {
       rows =
-          ap (map rowOf) (changed-parts rowLength m (mirrorNumbers D) (mirror-stays D few) before after i h c)
+          ap (map rowOf) (changed-parts rowLength equations (mirrorNumbers D) (mirror-stays D few) before after i h c)
           ∙ decode-changed rowLength rowOf (mirrorNumbers D) (mirrorRow D) (λ p. rowOf-mirrorRow D p few)
-          (parts rowLength m before)
-          (parts-width rowLength m before (w .long));
+          (parts rowLength equations before)
+          (parts-width rowLength equations before (w .long));
       within = c .within;
       kept = c .kept;
     }

@@ -3,7 +3,7 @@
 -- Main definitions
 --   furtherOf side x y     the further of two roots, each of which may be missing
 --   optionOf r             the root that an answer gives, if any
---   settledState m l cs    a state of the m rows of the store l, settled at the columns cs
+--   settledState equations l cs    a state of the equations rows of the store l, settled at the columns cs
 --
 -- Main statements
 --   furthest-append        the furthest of two lists is the further of their furthest
@@ -175,12 +175,12 @@ module _ (side : Side) (a b : RootAnswer) where
 -- ---- the diagonal polynomials in the store
 
 abbrev pub settledState : ℕ → List ℤ → List ℕ → State
-settledState m store order = record { rows = rowsOf m store; relations = []; order = take m order; shifts = 0 }
+settledState equations store order = record { rows = rowsOf equations store; relations = []; order = take equations order; shifts = 0 }
 
-pub report-settled : (side : Side) (D m : ℕ) (store : List ℤ) (order : List ℕ) (s : State)
-    → s .rows ≡ rowsOf m store → s .order ≡ take m order → report side D s ≡ report side D (settledState m store order)
+pub report-settled : (side : Side) (D equations : ℕ) (store : List ℤ) (order : List ℕ) (s : State)
+    → s .rows ≡ rowsOf equations store → s .order ≡ take equations order → report side D s ≡ report side D (settledState equations store order)
 unfolding report diagonal
-report-settled side D m store order s e f =
+report-settled side D equations store order s e f =
     let entry : Row → ℕ → Polynomial = λ r c. getD (getD (r .blocks) (diagonalPlace side D) []) c [] in
     ap₂ (λ rows cs. furthest side (flatten (map roots (zipWith entry rows cs)))) e f
 
@@ -194,9 +194,9 @@ unfolding diagonalPlace
 place-below leading D few = lit< tt
 place-below trailing D few = suc-le-suc few
 
-module _ (side : Side) (D m : ℕ) (store : List ℤ) (order : List ℕ) where
+module _ (side : Side) (D equations : ℕ) (store : List ℤ) (order : List ℕ) where
   abbrev diagonals : List Polynomial
-  diagonals = diagonal side D (settledState m store order)
+  diagonals = diagonal side D (settledState equations store order)
 
   -- The furthest root of the first j diagonal polynomials.
   unfoldable pub reported : ℕ → Option ℤ
@@ -206,51 +206,51 @@ module _ (side : Side) (D m : ℕ) (store : List ℤ) (order : List ℕ) where
   unfolding reported furthest flatten
   report-none = refl
 
-module _ (side : Side) (D m : ℕ) (store : List ℤ) (order : List ℕ) (enough : m ≤ length order) where
+module _ (side : Side) (D equations : ℕ) (store : List ℤ) (order : List ℕ) (enough : equations ≤ length order) where
   abbrev ps : List Polynomial
-  ps = diagonals side D m store order
+  ps = diagonals side D equations store order
 
-  same-count : length (rowsOf m store) ≡ length (take m order)
-  same-count = length-rowsOf m store ∙ sym (length-take-le m order enough)
+  same-count : length (rowsOf equations store) ≡ length (take equations order)
+  same-count = length-rowsOf equations store ∙ sym (length-take-le equations order enough)
 
-  length-diagonals : length ps ≡ m
+  length-diagonals : length ps ≡ equations
   unfolding diagonal
-  length-diagonals = length-zipWith _ (rowsOf m store) (take m order) same-count ∙ length-rowsOf m store
+  length-diagonals = length-zipWith _ (rowsOf equations store) (take equations order) same-count ∙ length-rowsOf equations store
 
-  pub report-all : (j : ℕ) → m ≤ j → reported side D m store order j ≡ report side D (settledState m store order)
+  pub report-all : (j : ℕ) → equations ≤ j → reported side D equations store order j ≡ report side D (settledState equations store order)
   unfolding reported report
   report-all j h = ap (λ l. furthest side (flatten (map roots l))) (take-all j ps (rw length-diagonals h))
 
-  module _ (few : D ≤ 4) (columns : Columns order) (j : ℕ) (h : j < m) where
+  module _ (few : D ≤ 4) (columns : Columns order) (j : ℕ) (h : j < equations) where
     diagonal-at : getD ps j [] ≡ take 16 (drop (diagonalAt side D order j) store)
     unfolding diagonal diagonalAt
     diagonal-at =
-        getD-zipWith _ (rowsOf m store) (take m order) j noRow 0 [] (rw length-rowsOf h)
+        getD-zipWith _ (rowsOf equations store) (take equations order) j noRow 0 [] (rw length-rowsOf h)
         (subst (λ n. j < n) same-count (rw length-rowsOf h))
-        ∙ ap (λ c. getD (getD (getD (rowsOf m store) j noRow .blocks) (diagonalPlace side D) []) c []) (getD-take m order j 0 h)
-        ∙ polynomial-at m store j (diagonalPlace side D) (getD order j 0) h (place-below side D few) (Columns-at order columns j)
+        ∙ ap (λ c. getD (getD (getD (rowsOf equations store) j noRow .blocks) (diagonalPlace side D) []) c []) (getD-take equations order j 0 h)
+        ∙ polynomial-at equations store j (diagonalPlace side D) (getD order j 0) h (place-below side D few) (Columns-at order columns j)
 
-    pub report-next : furtherOf side (reported side D m store order j) (furthest side (roots (take 16 (drop (diagonalAt side D order j) store))))
-        ≡ reported side D m store order (j + 1)
+    pub report-next : furtherOf side (reported side D equations store order j) (furthest side (roots (take 16 (drop (diagonalAt side D order j) store))))
+        ≡ reported side D equations store order (j + 1)
     unfolding reported
     report-next =
-        ap (λ p. furtherOf side (reported side D m store order j) (furthest side (roots p))) (sym diagonal-at)
+        ap (λ p. furtherOf side (reported side D equations store order j) (furthest side (roots p))) (sym diagonal-at)
         ∙ sym (furthest-more side roots (take j ps) (getD ps j []))
         ∙ ap (λ l. furthest side (flatten (map roots l))) (sym (take-suc ps j [] (rw length-diagonals h)))
-        ∙ ap (reported side D m store order) (sym (add-one j))
+        ∙ ap (reported side D equations store order) (sym (add-one j))
 
     -- Its numbers.
-    pub diagonal-long : rowNeed m ≤ length store → diagonalAt side D order j + 16 ≤ length store
+    pub diagonal-long : rowNeed equations ≤ length store → diagonalAt side D order j + 16 ≤ length store
     unfolding diagonalAt rowNeed
     diagonal-long long = omega (arith, place-below side D few, Columns-at order columns j)
 
-    pub diagonal-small : Within (rowNeed m) store → T (every small (take 16 (drop (diagonalAt side D order j) store)))
+    pub diagonal-small : Within (rowNeed equations) store → T (every small (take 16 (drop (diagonalAt side D order j) store)))
     unfolding diagonalAt rowNeed
     diagonal-small w =
         let b = diagonalPlace side D in
         let c = getD order j 0 in
         let place : (j * 20 + b * 4 + c) * 16 ≡ j * rowLength + b * 64 + c * 16 = omega arith in
-        let all : m * rowLength ≡ m * 20 * 16 = omega arith in
-        let inside : j * 20 + b * 4 + c < m * 20 = omega (arith, place-below side D few, Columns-at order columns j) in
+        let all : equations * rowLength ≡ equations * 20 * 16 = omega arith in
+        let inside : j * 20 + b * 4 + c < equations * 20 = omega (arith, place-below side D few, Columns-at order columns j) in
         subst (λ n. T (every small (take 16 (drop n store)))) place
-        (part-small 16 (m * 20) (j * 20 + b * 4 + c) store inside (subst (λ n. Within n store) all w))
+        (part-small 16 (equations * 20) (j * 20 + b * 4 + c) store inside (subst (λ n. Within n store) all w))

@@ -29,11 +29,11 @@ use Rattle.sides.specs.Lent.{Within, Listing, Kept}
 
 -- ---- parts of a list into which one part has been pasted
 
-pub rowsOf-paste : (m : ℕ) (store row : List ℤ) (i : ℕ) → length row ≡ rowLength → m * rowLength ≤ length store → i < m
-    → rowsOf m (paste store (i * rowLength) row rowLength) ≡ set (rowsOf m store) i (rowOf row)
+pub rowsOf-paste : (equations : ℕ) (store row : List ℤ) (i : ℕ) → length row ≡ rowLength → equations * rowLength ≤ length store → i < equations
+    → rowsOf equations (paste store (i * rowLength) row rowLength) ≡ set (rowsOf equations store) i (rowOf row)
 unfolding rowsOf
-rowsOf-paste m store row i e h b =
-    ap (map rowOf) (parts-paste rowLength m store row i e h b) ∙ map-set rowOf (parts rowLength m store) i row
+rowsOf-paste equations store row i e h b =
+    ap (map rowOf) (parts-paste rowLength equations store row i e h b) ∙ map-set rowOf (parts rowLength equations store) i row
 
 -- ---- relations: one more part at the end
 

@@ -7,12 +7,12 @@ ghost use Rattle.sides.specs.Lent.{Within, Listing};
 ghost use Rattle.sides.specs.MirrorLaws.{RowsMirrored, RelationsMirrored};
 
 // Block -s for s and -n for n in every row (SCOPE 2.91).
-pub fn mirror_rows(store: &mut [i64], m: usize, span: usize)
-    requires { ⌜ (span ≤ 4) × Within (rowNeed m) (now store) ⌝ }
-    ensures { λ _. ⌜ RowsMirrored m span (now (store .entry)) (now (store .exit)) ⌝ }
+pub fn mirror_rows(store: &mut [i64], equations: usize, span: usize)
+    requires { ⌜ (span ≤ 4) × Within (rowNeed equations) (now store) ⌝ }
+    ensures { λ _. ⌜ RowsMirrored equations span (now (store .entry)) (now (store .exit)) ⌝ }
 {
     let mut i = 0;
-    while i < m {
+    while i < equations {
         let at = i * ROW;
         let row = rows::stores::load(store, at);
         rows::stores::save(store, at, working::mirroring::mirrored(row, span));

@@ -6,7 +6,7 @@ ghost use Prim.Native.Nat.{_≤_};
 ghost use lib.Dec.{T};
 ghost use lib.ListN.{length};
 ghost use Rattle.algebra.specs.Roots.{roots};
-ghost use Rattle.rules.specs.Limits.{small};
+ghost use Rattle.rules.specs.Limits.{mostEquations, small};
 ghost use Rattle.lists.specs.Tested.{every};
 ghost use Rattle.rules.specs.Stores.{rowNeed};
 ghost use Rattle.rules.specs.Elimination as Elimination;
@@ -56,13 +56,13 @@ fn furthest_root(p: &[i64], side: Side) -> roots::RootAnswer
 // trailing side the least (SCOPE 2.93).
 pub fn report(
     store: &[i64],
-    m: usize,
+    equations: usize,
     order: [usize; 4],
     side: Side,
     span: usize,
 ) -> roots::RootAnswer
-    requires { ⌜ (m ≤ 4) × (span ≤ 4) × Columns order × Within (rowNeed m) (now store) ⌝ }
-    ensures { λ r. ⌜ r ≡ answered (Elimination.report (sideOf side) span (settledState m (now (store .entry)) order)) ⌝ }
+    requires { ⌜ (equations ≤ mostEquations) × (span ≤ 4) × Columns order × Within (rowNeed equations) (now store) ⌝ }
+    ensures { λ r. ⌜ r ≡ answered (Elimination.report (sideOf side) span (settledState equations (now (store .entry)) order)) ⌝ }
 {
     let block = match side {
         Side::Leading => 0,
@@ -73,7 +73,7 @@ pub fn report(
         root: 0,
     };
     let mut j = 0;
-    while j < m {
+    while j < equations {
         let from = j * ROW + block * 64 + order[j] * 16;
         let to = from + 16;
         answer = further(answer, furthest_root(&store[from..to], side), side);

@@ -24,7 +24,7 @@ returns c =
     let read : SFits w64 (answer .result .root) = record { sfits = c .struct-told .given .1 .0 .1 } in
     λ relations.
     rw (toZ-ofZ read)
-    (accepted-result (sideOf (s .args .side)) (s .args .span) (s .args .m) (now (s .args .rows)) relations (s .args .p)
+    (accepted-result (sideOf (s .args .side)) (s .args .span) (s .args .equations) (now (s .args .rows)) relations (s .args .p)
     (c .before .counted .result) (answer .result) (s .pre .3) (c .before .counted .ensures) (answer .ensures))
 
 pub accepted-spec : {M : Type 1} → statement M

@@ -6,11 +6,11 @@ use borrow.Author.Needs.{needs}
 use denote.Ref.{now}
 use lib.IntN.{ℤ}
 use Rattle.rules.specs.Elimination.{Side, wholeRun}
-use Rattle.rules.specs.Stores.{Sizes, span, rowsOf, relationsOf}
+use Rattle.rules.specs.Stores.{Sizes, equations, span, rowsOf, relationsOf}
 use Rattle.rows.specs.Validity.{sizesOf}
 use Rattle.sides.specs.Lent.{sideOf}
 use Rattle.reduction.specs.Ran.{Ran}
-use Rattle.runs.specs.CallLaws.{few-unknowns, few-blocks, Checked, checked, final-run, call-run}
+use Rattle.runs.specs.CallLaws.{few-equations, few-blocks, Checked, checked, final-run, call-run}
 use Rattle.runs.proofs.checked_run.Statement.{statement}
 use Rattle.runs.proofs.checked_run.Tie as tie
 
@@ -39,23 +39,23 @@ module _ (c : tie.After-whole-run) where
   abbrev start : tie.Start
   start = c .before .before .before .before
 
-  ran : Ran (z start .m) (rows start) (relations start) (c .whole-run .last .0) (c .whole-run .last .1 .0) (c .whole-run .result)
-      (wholeRun (side start) (span (z start)) (rowsOf (z start .m) (rows start)) (relationsOf (count start) (relations start)))
-  unfolding sizesOf
+  ran : Ran (equations (z start)) (rows start) (relations start) (c .whole-run .last .0) (c .whole-run .last .1 .0) (c .whole-run .result)
+      (wholeRun (side start) (span (z start)) (rowsOf (equations (z start)) (rows start)) (relationsOf (count start) (relations start)))
+  unfolding equations sizesOf
   ran = rw (c .before .before .before .span .ensures) at (c .whole-run .ensures)
 
 span-requires : tie.Need-span-requires
 span-requires c κs = stores c .sizes
 
 whole-run-requires : tie.Need-whole-run-requires
-unfolding sizesOf
+unfolding equations sizesOf
 whole-run-requires c κs =
     let s = c .before .before .before in
     let ok = stores s in
-    (few-unknowns (z s) (ok .sizes), rw (c .before .before .span .ensures) (few-blocks (z s) (ok .sizes)), ok .rows-within, ok .listing)
+    (few-equations (z s) (ok .sizes), rw (c .before .before .span .ensures) (few-blocks (z s) (ok .sizes)), ok .rows-within, ok .listing)
 
 ended-requires : tie.Need-ended-requires
-unfolding sizesOf
+unfolding equations sizesOf
 ended-requires c κs =
     let run = c .before .before .before in
     let s = start run in
@@ -68,7 +68,7 @@ same-length-2 : tie.Need-same-length-2
 same-length-2 c = search needs
 
 returns : tie.Need-returns
-unfolding sizesOf
+unfolding equations sizesOf
 returns c =
     let run = c .before .before .before .before in
     let s = start run in

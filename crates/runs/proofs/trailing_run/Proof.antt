@@ -24,8 +24,8 @@ module _ (c : tie.After-run) where
   abbrev relations : List ℤ
   relations = mirrored .mirror-relations .last .0
 
-  ran : Ran (start .args .m) rows relations (c .run .last .0) (c .run .last .1 .0) (c .run .result)
-      (runOf trailing (start .args .m) (start .args .count) rows relations)
+  ran : Ran (start .args .equations) rows relations (c .run .last .0) (c .run .last .1 .0) (c .run .result)
+      (runOf trailing (start .args .equations) (start .args .count) rows relations)
   ran =
       let ensured = c .run .ensures in
       record { answer = ensured .0; rows-after = ensured .1 .0; relations-after = ensured .1 .1 .0; reached = ensured .1 .1 .1 }
@@ -49,7 +49,7 @@ returns : tie.Need-returns
 returns c =
     let at = c .before .before .before in
     let s = start at in
-    trailing-refused (s .args .m) (s .args .span) (s .args .count) (now (s .args .rows)) (now (s .args .relations)) _ _ _ _
+    trailing-refused (s .args .equations) (s .args .span) (s .args .count) (now (s .args .rows)) (now (s .args .relations)) _ _ _ _
     (mirrored at .before .before .before .mirror-rows .ensures) (mirrored at .mirror-relations .ensures) (at .run .result) (ran at)
     (c .if1 .taken)
 
@@ -74,7 +74,7 @@ returns-2 c =
     let back = c .before in
     let at = back .before .before .before .before .before .before .before .before .before in
     let s = start at in
-    trailing-held (s .args .m) (s .args .span) (s .args .count) (now (s .args .rows)) (now (s .args .relations)) _ _ _ _
+    trailing-held (s .args .equations) (s .args .span) (s .args .count) (now (s .args .rows)) (now (s .args .relations)) _ _ _ _
     (mirrored at .before .before .before .mirror-rows .ensures) (mirrored at .mirror-relations .ensures) (at .run .result) (ran at)
     _ _ (back .before .before .before .before .before .before .if1 .left) (back .before .before .before .mirror-rows2 .ensures)
     (back .mirror-relations2 .ensures)

@@ -16,7 +16,7 @@ add-result-2 : tie.Need-add-result-2
 add-result-2 c = search needs
 
 mul-result-2 : tie.Need-mul-result-2
-mul-result-2 c = omega (arith, enough-few (c .args .m) (c .pre))
+mul-result-2 c = omega (arith, enough-few (c .args .equations) (c .pre))
 
 returns : tie.Need-returns
 returns c = search needs

@@ -15,13 +15,13 @@ use Rattle.reduction.proofs.run.steps.Statement.{statement}
 use Rattle.reduction.proofs.run.steps.Tie as tie
 
 abbrev Inv-loop : tie.InvT-loop
-Inv-loop rows₀ relations₀ m side count p₀ refusal₀ left₀ rows relations p refusal left =
-    Running (sideOf side) m rows₀ relations₀ rows relations refusal p left
-    (Elimination.run (sideOf side) (Elimination.enough (rowsOf m rows₀))
-    (Elimination.start (rowsOf m rows₀) (relationsOf count relations₀)))
+Inv-loop rows₀ relations₀ equations side count p₀ refusal₀ left₀ rows relations p refusal left =
+    Running (sideOf side) equations rows₀ relations₀ rows relations refusal p left
+    (Elimination.run (sideOf side) (Elimination.enough (rowsOf equations rows₀))
+    (Elimination.start (rowsOf equations rows₀) (relationsOf count relations₀)))
 
 abbrev μ-loop : tie.MeasureT-loop
-μ-loop rows₀ relations₀ m side count p₀ refusal₀ left₀ rows relations p refusal left = left
+μ-loop rows₀ relations₀ equations side count p₀ refusal₀ left₀ rows relations p refusal left = left
 
 start-requires : tie.Need-start-requires Inv-loop μ-loop
 start-requires c κs = search needs
@@ -34,7 +34,7 @@ loop-holds c =
     let start = c .before .before in
     let args = start .args in
     rw (c .before .start .ensures)
-    (run-starts (sideOf (args .side)) (args .m) (args .count) (c .enough .result) (now (args .rows)) (now (args .relations))
+    (run-starts (sideOf (args .side)) (args .equations) (args .count) (c .enough .result) (now (args .rows)) (now (args .relations))
     (start .pre .0) (start .pre .1) (start .pre .2) (c .enough .ensures))
 
 -- what the tests of a turn say
@@ -42,7 +42,7 @@ module _ (c : tie.Then2 Inv-loop μ-loop) where
   abbrev head : tie.At-loop Inv-loop μ-loop
   head = c .before .before .before .before
 
-  one-left : head .loop .p .settled < head .before .before .before .args .m
+  one-left : head .loop .p .settled < head .before .before .before .args .equations
   one-left = ltb-true _ _ (c .if2 .taken)
 
 step-requires : tie.Need-step-requires Inv-loop μ-loop
@@ -67,7 +67,7 @@ loop-again c =
 
 -- what the loop's end says
 stopped : (c : tie.Left-loop Inv-loop μ-loop)
-    → Stopped (c .before .before .before .before .args .m) (c .before .loop .refusal) (c .before .loop .p) (c .before .loop .left)
+    → Stopped (c .before .before .before .before .args .equations) (c .before .loop .refusal) (c .before .loop .p) (c .before .loop .left)
 stopped c = elim (c .loop-test .came) [
   | inl w ↦ inr (inr (ltb-false _ _ (w .3 .left)))
   | inr (inl w) ↦ inr (inl (eqb-false _ _ (w .1 .left)))

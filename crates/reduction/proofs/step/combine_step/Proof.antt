@@ -62,26 +62,26 @@ module _ (c : tie.Start) where
   abbrev j : ℕ
   j = c .args .j
 
-  abbrev m : ℕ
-  m = c .args .m
+  abbrev equations : ℕ
+  equations = c .args .equations
 
   abbrev side : Side
   side = sideOf (c .args .side)
 
-  ready : Ready m rows relations p
+  ready : Ready equations rows relations p
   ready = c .pre .0 .0
 
-  inside : i < m
+  inside : i < equations
   inside = c .pre .0 .1
 
   settled : j < i
   settled = c .pre .0 .2
 
-  other : j < m
+  other : j < equations
   other = omega (arith, inside, settled)
 
-  room : (k : ℕ) → k < m → k * rowLength + rowLength ≤ length rows
-  room k h = omega (arith, row-room m k rows (ready .rows-within) h, ready .rows-within .long)
+  room : (k : ℕ) → k < equations → k * rowLength + rowLength ≤ length rows
+  room k h = omega (arith, row-room equations k rows (ready .rows-within) h, ready .rows-within .long)
 
   -- the two rows and their entries
   abbrev target : List ℤ
@@ -97,13 +97,13 @@ module _ (c : tie.Start) where
   below = Columns-at (p .order) (ready .columns) j
 
   target-small : Small target
-  target-small = small-numbersAt m rows (ready .rows-within) i inside
+  target-small = small-numbersAt equations rows (ready .rows-within) i inside
 
   pivot-small : Small pivot
-  pivot-small = small-numbersAt m rows (ready .rows-within) j other
+  pivot-small = small-numbersAt equations rows (ready .rows-within) j other
 
   target-long : length target ≡ rowLength
-  target-long = length-numbersAt m rows (ready .rows-within) i inside
+  target-long = length-numbersAt equations rows (ready .rows-within) i inside
 
   entry-fits : (l : List ℤ) → length l ≡ rowLength → Small l → Sixteen (entry (rowOf l) column)
   entry-fits l e h = (length-entry l column e below, small-entry l column h below)
@@ -115,14 +115,14 @@ module _ (c : tie.Start) where
   fits : Sixteen (x .g) × Sixteen (x .h)
   fits =
       multipliers-fit (entry (rowOf pivot) column) (entry (rowOf target) column)
-      (entry-fits pivot (length-numbersAt m rows (ready .rows-within) j other) pivot-small) (entry-fits target target-long target-small)
+      (entry-fits pivot (length-numbersAt equations rows (ready .rows-within) j other) pivot-small) (entry-fits target target-long target-small)
 
   few : length (roots (x .g)) ≤ 15
   few = roots-few (x .g) (le-of-eq (fits .0 .0))
 
-  combine-is : combineStep side (stateOf m rows relations p) i j (multipliersAt (stateOf m rows relations p) i j)
-      ≡ combineStep side (stateOf m rows relations p) i j x
-  combine-is = ap (combineStep side (stateOf m rows relations p) i j) (multipliers-in side ready j inside settled)
+  combine-is : combineStep side (stateOf equations rows relations p) i j (multipliersAt (stateOf equations rows relations p) i j)
+      ≡ combineStep side (stateOf equations rows relations p) i j x
+  combine-is = ap (combineStep side (stateOf equations rows relations p) i j) (multipliers-in side ready j inside settled)
 
   -- the new row
   abbrev new : Limited

@@ -30,7 +30,7 @@ use Rattle.reduction.proofs.step.step.Tie as tie
 
 -- what a combination asks
 abbrev Asked : ℕ → List ℤ → Progress → ℕ → List ℤ → Type 0
-Asked m relations p j rows = (Ready m rows relations p × (p .settled < m) × (j < p .settled)) × T (not (isZero (metEntries rows p j)))
+Asked equations relations p j rows = (Ready equations rows relations p × (p .settled < equations) × (j < p .settled)) × T (not (isZero (metEntries rows p j)))
 
 -- the arguments
 module _ (c : tie.Start) where
@@ -46,8 +46,8 @@ module _ (c : tie.Start) where
   abbrev i : ℕ
   i = p .settled
 
-  abbrev m : ℕ
-  m = c .args .m
+  abbrev equations : ℕ
+  equations = c .args .equations
 
   abbrev side : Side
   side = sideOf (c .args .side)
@@ -58,18 +58,18 @@ module _ (c : tie.Start) where
   abbrev met : ℕ
   met = foundOr i (firstNonzero (entriesAt row (p .order) i))
 
-  ready : Ready m rows relations p
+  ready : Ready equations rows relations p
   ready = c .pre .0
 
-  room : (k : ℕ) → k < m → k * rowLength + rowLength ≤ length rows
-  room k h = omega (arith, row-room m k rows (ready .rows-within) h, ready .rows-within .long)
+  room : (k : ℕ) → k < equations → k * rowLength + rowLength ≤ length rows
+  room k h = omega (arith, row-room equations k rows (ready .rows-within) h, ready .rows-within .long)
 
 -- the row that is worked on, and its zero test
 module _ (c : tie.After-is-zero-row) where
   abbrev start : tie.Start
   start = c .before .before .before
 
-  inside : i start < m start
+  inside : i start < equations start
   inside = start .pre .1
 
   row-is : c .before .load .result ≡ numbersAt (rows start) (i start)
@@ -161,7 +161,7 @@ combine-step-requires c κs =
     let d = c .before .before .before in
     let b = base d in
     let e = tested (meeting d) in
-    subst (Asked (m b) (relations b) (p b) (j d)) (sym (rows-are d)) (
+    subst (Asked (equations b) (relations b) (p b) (j d)) (sym (rows-are d)) (
       (narrowed-ready (side b) (ready b) (inside e) (j d) (settled-j d), inside e, settled-j d),
       met-nonzero (side b) (ready b) (inside e) (nonzero (meeting d)) (j d) (met-is (meeting d)) (settled-j d),
     )
@@ -178,10 +178,10 @@ returns-2 c =
     let b = base d in
     let e = tested (meeting d) in
     let combine = c .before .before .combine-step in (
-      reached-after (narrowed-kept (m b) (rows b) (ready b .rows-within) (i b) (j d) (inside e) (omega (arith, inside e, settled-j d)))
+      reached-after (narrowed-kept (equations b) (rows b) (ready b .rows-within) (i b) (j d) (inside e) (omega (arith, inside e, settled-j d)))
           (reached-same refl refl (step-met (side b) (ready b) (inside e) (nonzero (meeting d)) (j d) (met-is (meeting d)) (settled-j d))
-          (subst (λ r. let s = stateOf (m b) r (relations b) (p b) in
-          Reached (m b) r (relations b) (combine .last .0) (combine .last .1 .0) (p b .shifts + 1) (combine .result)
+          (subst (λ r. let s = stateOf (equations b) r (relations b) (p b) in
+          Reached (equations b) r (relations b) (combine .last .0) (combine .last .1 .0) (p b .shifts + 1) (combine .result)
           (combineStep (side b) s (i b) (j d) (multipliersAt s (i b) (j d)))) (rows-are d) (combine .ensures .0))),
       combine .ensures .1,
     )
@@ -200,7 +200,7 @@ shift-step-requires c κs =
     let d = c .before .before in
     let b = origin d in
     let e = tested (unmet d) in
-    let numbers = small-numbersAt (m b) (rows b) (ready b .rows-within) (i b) (inside e) in
+    let numbers = small-numbersAt (equations b) (rows b) (ready b .rows-within) (i b) (inside e) in
     (room b (i b) (inside e), subst (λ l. T (every small l)) (sym (row-is e)) numbers, b .pre .2)
 
 same-length-4 : tie.Need-same-length-4

@@ -14,10 +14,10 @@ use Rattle.sides.proofs.mirror.mirror_rows.Statement.{statement}
 use Rattle.sides.proofs.mirror.mirror_rows.Tie as tie
 
 abbrev Inv-loop : tie.InvT-loop
-Inv-loop store₀ m span i₀ store i = (i ≤ m) × Changed rowLength m i (mirrorNumbers span) store₀ store
+Inv-loop store₀ equations span i₀ store i = (i ≤ equations) × Changed rowLength equations i (mirrorNumbers span) store₀ store
 
 abbrev μ-loop : tie.MeasureT-loop
-μ-loop store₀ m span i₀ store i = m - i
+μ-loop store₀ equations span i₀ store i = equations - i
 
 -- row i of the store
 module _ (c : tie.In-loop Inv-loop μ-loop) where
@@ -33,7 +33,7 @@ module _ (c : tie.In-loop Inv-loop μ-loop) where
 loop-holds : tie.Need-loop-holds Inv-loop μ-loop
 unfolding rowNeed
 loop-holds c =
-    (omega arith, changed-none rowLength (c .args .m) (mirrorNumbers (c .args .span)) (now (c .args .store)) (c .pre .1))
+    (omega arith, changed-none rowLength (c .args .equations) (mirrorNumbers (c .args .span)) (now (c .args .store)) (c .pre .1))
 
 mul-at : tie.Need-mul-at Inv-loop μ-loop
 mul-at c = omega (arith, long c)
@@ -45,7 +45,7 @@ mirrored-requires : tie.Need-mirrored-requires Inv-loop μ-loop
 mirrored-requires c κs =
     let at = c .before .before .before in
     let s = at .before .before in
-    let numbers = part-small rowLength (s .args .m) (i at) (store at) (at .loop-test .taken) (at .before .loop .inv .1 .within) in
+    let numbers = part-small rowLength (s .args .equations) (i at) (store at) (at .loop-test .taken) (at .before .loop .inv .1 .within) in
     (s .pre .0, rw (c .before .load .ensures) numbers)
 
 save-requires : tie.Need-save-requires Inv-loop μ-loop
@@ -61,7 +61,7 @@ loop-again : tie.Need-loop-again Inv-loop μ-loop
 loop-again c =
     let at = c .before .before .before .before .before .before in
     let s = at .before .before in
-    let next = changed-next rowLength (s .args .m) (mirrorNumbers (s .args .span)) (mirror-stays (s .args .span) (s .pre .0))
+    let next = changed-next rowLength (s .args .equations) (mirrorNumbers (s .args .span)) (mirror-stays (s .args .span) (s .pre .0))
     (now (s .args .store)) (store at) (i at) (at .loop-test .taken) (at .before .loop .inv .1) in
     (omega arith, rw (c .before .save .ensures, c .before .before .mirrored .ensures, c .before .before .before .before .load .ensures) next)
 
@@ -71,7 +71,7 @@ same-length c = c .before .loop .inv .1 .kept .same-length
 returns : tie.Need-returns Inv-loop μ-loop
 returns c =
     let s = c .before .before in
-    rows-mirrored (s .args .m) (s .args .span) (c .before .loop .i) (now (s .args .store)) (c .before .loop .store) (s .pre .0)
+    rows-mirrored (s .args .equations) (s .args .span) (c .before .loop .i) (now (s .args .store)) (c .before .loop .store) (s .pre .0)
     (s .pre .1) (c .loop-test .left) (c .before .loop .inv .1)
 
 pub mirror-rows-spec : {M : Type 1} → statement M
