@@ -31,7 +31,7 @@ use Rattle.lists.specs.Tests.{cond-passed, T-or}
 use Rattle.rules.specs.Elimination.{leading, State, Outcome, done, refused, wholeRun, leadingRun}
 use Rattle.rules.specs.Stores.{Sizes, equations, span, rowStoreOf, relationStoreOf, lengthsRight, checkStores, Valid}
 use Rattle.rules.specs.Stores.{rowNeed, largestRows, relationNeed}
-use Rattle.rules.specs.Layout.{valid-stores, size-bounds, lengthsRight-iff, rowsOf-rowStoreOf, relationsOf-relationStoreOf}
+use Rattle.rules.specs.Layout.{valid-stores, size-bounds, equations-few, lengthsRight-iff, rowsOf-rowStoreOf, relationsOf-relationStoreOf}
 use Rattle.rules.specs.Calls.{Call, callRun, afterCheck, afterRun, acceptance, reportedOrder, cleared, refusal}
 use Rattle.lists.specs.Overwritten.{overwrite}
 use Rattle.rules.specs.Numbers.{Read, got, fault}
@@ -270,7 +270,7 @@ module _ (bytes : List ℕ) (rows relations : List ℤ) (rows-long : largestRows
       read-by (got x rest) e
       ∙ cond-passed (lengthsRight (equations (x .sizes)) rows relations) _ (unread 1 rows relations)
       (lengthsRight-iff (equations (x .sizes)) rows relations .1 (
-        omega (arith, size-bounds (x .sizes) (read-valid bytes x rest e .sizes) .few),
+        omega (arith, equations-few (x .sizes) (size-bounds (x .sizes) (read-valid bytes x rest e .sizes))),
         relations-long,
       ))
 
