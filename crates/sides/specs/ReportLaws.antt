@@ -28,7 +28,7 @@ use Rattle.algebra.specs.Polynomials.{Polynomial, same-test}
 use Rattle.algebra.specs.Roots.{roots}
 use Rattle.algebra.specs.Order.{≤ℤ-trans, ≤ℤ-total}
 use Rattle.rules.specs.Elimination.{Side, leading, trailing, State, diagonal, diagonalPlace, further, furthest, report}
-use Rattle.rules.specs.Limits.{rowLength, small}
+use Rattle.rules.specs.Limits.{coefficientCount, columnCount, mostSpan, blockCount, polynomialCount, blockLength, rowLength, small}
 use Rattle.rules.specs.Rows.{Row, noRow, every}
 use Rattle.rules.specs.Stores.{rowsOf, rowNeed}
 use Rattle.rules.specs.Layout.{length-rowsOf, polynomial-at}
@@ -200,9 +200,9 @@ report-settled side D m store order s e f =
 -- Where the sixteen numbers of diagonal polynomial j begin.
 unfoldable pub diagonalAt : Side → ℕ → List ℕ → ℕ → ℕ
 unfolding diagonalPlace
-diagonalAt side D order j = j * rowLength + diagonalPlace side D * 64 + getD order j 0 * 16
+diagonalAt side D order j = j * rowLength + diagonalPlace side D * blockLength + getD order j 0 * coefficientCount
 
-pub place-below : (side : Side) (D : ℕ) → D ≤ 4 → diagonalPlace side D < 5
+pub place-below : (side : Side) (D : ℕ) → D ≤ mostSpan → diagonalPlace side D < blockCount
 unfolding diagonalPlace
 place-below leading D few = lit< tt
 place-below trailing D few = suc-le-suc few
@@ -234,15 +234,16 @@ module _ (side : Side) (D m : ℕ) (store : List ℤ) (order : List ℕ) (enough
   unfolding reported report
   report-all j h = ap (λ l. furthest side (flatten (map roots l))) (take-all j ps (rw length-diagonals h))
 
-  module _ (few : D ≤ 4) (columns : Columns order) (j : ℕ) (h : j < m) where
-    diagonal-at : getD ps j [] ≡ take 16 (drop (diagonalAt side D order j) store)
+  module _ (few : D ≤ mostSpan) (columns : Columns order) (j : ℕ) (h : j < m) where
+    diagonal-at : getD ps j [] ≡ take coefficientCount (drop (diagonalAt side D order j) store)
     unfolding diagonal diagonalAt
     diagonal-at =
         getD-zipWith _ (rowsOf m store) (take m order) j noRow 0 [] same-count (rw length-rowsOf h)
         ∙ ap (λ c. getD (getD (getD (rowsOf m store) j noRow .blocks) (diagonalPlace side D) []) c []) (getD-take m order j 0 h)
         ∙ polynomial-at m store j (diagonalPlace side D) (getD order j 0) h (place-below side D few) (Columns-at order columns j)
 
-    pub report-next : furtherOf side (reported side D m store order j) (furthest side (roots (take 16 (drop (diagonalAt side D order j) store))))
+    pub report-next : furtherOf side (reported side D m store order j)
+        (furthest side (roots (take coefficientCount (drop (diagonalAt side D order j) store))))
         ≡ reported side D m store order (j + 1)
     unfolding reported
     report-next =
@@ -252,17 +253,18 @@ module _ (side : Side) (D m : ℕ) (store : List ℤ) (order : List ℕ) (enough
         ∙ ap (reported side D m store order) (sym (add-one j))
 
     -- Its numbers.
-    pub diagonal-long : rowNeed m ≤ length store → diagonalAt side D order j + 16 ≤ length store
+    pub diagonal-long : rowNeed m ≤ length store → diagonalAt side D order j + coefficientCount ≤ length store
     unfolding diagonalAt rowNeed
     diagonal-long long = omega (arith, place-below side D few, Columns-at order columns j)
 
-    pub diagonal-small : Within (rowNeed m) store → T (every small (take 16 (drop (diagonalAt side D order j) store)))
+    pub diagonal-small : Within (rowNeed m) store → T (every small (take coefficientCount (drop (diagonalAt side D order j) store)))
     unfolding diagonalAt rowNeed
     diagonal-small w =
         let b = diagonalPlace side D in
         let c = getD order j 0 in
-        let place : (j * 20 + b * 4 + c) * 16 ≡ j * rowLength + b * 64 + c * 16 = omega arith in
-        let all : m * rowLength ≡ m * 20 * 16 = omega arith in
-        let inside : j * 20 + b * 4 + c < m * 20 = omega (arith, place-below side D few, Columns-at order columns j) in
-        subst (λ n. T (every small (take 16 (drop n store)))) place
-        (part-small 16 (m * 20) (j * 20 + b * 4 + c) store inside (subst (λ n. Within n store) all w))
+        let e = j * polynomialCount + b * columnCount + c in
+        let place : e * coefficientCount ≡ j * rowLength + b * blockLength + c * coefficientCount = omega arith in
+        let all : m * rowLength ≡ m * polynomialCount * coefficientCount = omega arith in
+        let inside : e < m * polynomialCount = omega (arith, place-below side D few, Columns-at order columns j) in
+        subst (λ n. T (every small (take coefficientCount (drop n store)))) place
+        (part-small coefficientCount (m * polynomialCount) e store inside (subst (λ n. Within n store) all w))

@@ -1,11 +1,14 @@
 // The root report over the rows of a store.
+use polynomials::lengths::COEFFICIENTS;
+use rows::lengths::BLOCK;
+use rows::lengths::COLUMNS;
 use rows::lengths::ROW;
 ghost use mathlib.Core.Path.{_≡_};
 ghost use Prim.Native.Nat.{_≤_};
 ghost use lib.Dec.{T};
 ghost use lib.ListN.{length};
 ghost use Rattle.algebra.specs.Roots.{roots};
-ghost use Rattle.rules.specs.Limits.{small};
+ghost use Rattle.rules.specs.Limits.{coefficientCount, small};
 ghost use Rattle.rules.specs.Rows.{every};
 ghost use Rattle.rules.specs.Stores.{rowNeed};
 ghost use Rattle.rules.specs.Elimination as Elimination;
@@ -39,7 +42,7 @@ fn further(a: roots::RootAnswer, b: roots::RootAnswer, trailing: bool) -> roots:
 
 // The largest root of a polynomial, on the trailing side the smallest.
 fn furthest_root(p: &[i64], trailing: bool) -> roots::RootAnswer
-    requires { ⌜ (length (now p) ≤ 16) × T (every small (now p)) ⌝ }
+    requires { ⌜ (length (now p) ≤ coefficientCount) × T (every small (now p)) ⌝ }
     ensures { λ r. ⌜ r ≡ answered (Elimination.furthest (sideOf trailing) (roots (now (p .entry)))) ⌝ }
 {
     if trailing {
@@ -54,7 +57,7 @@ fn furthest_root(p: &[i64], trailing: bool) -> roots::RootAnswer
 pub fn report(
     store: &[i64],
     m: usize,
-    order: [usize; 4],
+    order: [usize; COLUMNS],
     trailing: bool,
     span: usize,
 ) -> roots::RootAnswer
@@ -68,8 +71,8 @@ pub fn report(
     };
     let mut j = 0;
     while j < m {
-        let from = j * ROW + block * 64 + order[j] * 16;
-        let to = from + 16;
+        let from = j * ROW + block * BLOCK + order[j] * COEFFICIENTS;
+        let to = from + COEFFICIENTS;
         answer = further(answer, furthest_root(&store[from..to], trailing), trailing);
         j += 1;
     }
