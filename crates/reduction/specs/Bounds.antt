@@ -23,14 +23,14 @@ use Rattle.lists.specs.Tests.{T-&&}
 use Rattle.algebra.specs.Coefficients.{degree-isZero}
 use Rattle.algebra.specs.Vanishing.{nonzero-past-lowest}
 use Rattle.algebra.specs.Roots.{roots, roots-sound}
-use Rattle.rules.specs.Limits.{bound, small}
+use Rattle.rules.specs.Limits.{bound, coefficientCount, small}
 use Rattle.lists.specs.Tested.{every, every-member}
 use Rattle.rules.specs.Elimination.{Multipliers, turnSigns, multipliers}
 use Rattle.polynomials.specs.Content.{Below, small-at, below-divideBy, below-negate}
 use Rattle.roots.specs.RootSearch.{roots-constant, lowest-small}
 
 abbrev pub Sixteen : Polynomial → Type 0
-Sixteen p = (length p ≡ 16) × T (every small p)
+Sixteen p = (length p ≡ coefficientCount) × T (every small p)
 
 -- ---- the multipliers
 

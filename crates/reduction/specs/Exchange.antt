@@ -21,7 +21,7 @@ use lib.Dec.{T, ltb}
 use lib.IntN.{ℤ}
 use lib.ListN.{length, take, drop, getD, set, length-drop}
 use lib.Seq.{paste, length-take-le, getD-set-same, getD-set-other}
-use Rattle.rules.specs.Limits.{rowLength, small}
+use Rattle.rules.specs.Limits.{coefficientCount, columnCount, rowLength, small}
 use Rattle.rules.specs.Rows.{noRow, width, entry}
 use Rattle.lists.specs.Tested.{every, every-part}
 use Rattle.rules.specs.Stores.{rowOf, rowsOf, relationsOf, rowNeed}
@@ -56,11 +56,12 @@ narrowed-same store i j h = rw (le-ltb _ _ h)
 
 -- ---- the entries of a row
 
-pub length-entry : (l : List ℤ) (c : ℕ) → length l ≡ rowLength → c < 4 → length (entry (rowOf l) c) ≡ 16
-length-entry l c e h = ap length (entry-at l c h) ∙ length-take-le 16 (drop (c * 16) l) (rw length-drop (omega arith))
+pub length-entry : (l : List ℤ) (c : ℕ) → length l ≡ rowLength → c < columnCount → length (entry (rowOf l) c) ≡ coefficientCount
+length-entry l c e h =
+    ap length (entry-at l c h) ∙ length-take-le coefficientCount (drop (c * coefficientCount) l) (rw length-drop (omega arith))
 
-pub small-entry : (l : List ℤ) (c : ℕ) → T (every small l) → c < 4 → T (every small (entry (rowOf l) c))
-small-entry l c s h = rw (entry-at l c h) (every-part small (c * 16) 16 l s)
+pub small-entry : (l : List ℤ) (c : ℕ) → T (every small l) → c < columnCount → T (every small (entry (rowOf l) c))
+small-entry l c s h = rw (entry-at l c h) (every-part small (c * coefficientCount) coefficientCount l s)
 
 -- ---- the rows of a state
 

@@ -22,12 +22,13 @@ use lib.IntN.{ℤ}
 use lib.ListN.{length, take, drop, getD, set, length-set}
 use lib.Seq.{length-take-le, take-suc-set}
 use Rattle.algebra.specs.Polynomials.{Polynomial, isZero, isZero-append}
+use Rattle.rules.specs.Limits.{coefficientCount, columnCount}
 use Rattle.rules.specs.Rows.{Row, zeroRow, entry, leadingBlock, firstNonzero}
 use Rattle.lists.specs.Everywhere.{All}
 use Rattle.rules.specs.Stores.{rowOf, rowsOf, relationsOf, relationNeed, rowNeed}
 use Rattle.rules.specs.Elimination.{Side, State, going, refused, settle, multipliersAt}
 use Rattle.rules.specs.Elimination.{combineStep, eliminateStep, shiftStep, settleOrShift, meet, workOn, finished, step}
-use Rattle.rules.specs.Layout.{length-rowsOf}
+use Rattle.rules.specs.Layout.{blockAt, length-rowsOf}
 use Rattle.lists.specs.Parts.{parts-length}
 use Rattle.lists.specs.Padded.{padTo, padTo-more}
 use Rattle.rows.specs.Flat.{block-at}
@@ -67,7 +68,7 @@ found-none n ps h g = cases (firstNonzero ps) (first-found ps) g
     cases none f g = refl
     cases (some k) f g = absurd (omega (arith, f .0))
 
-columns-set : (order : List ℕ) (i c : ℕ) → Columns order → c < 4 → Columns (set order i c)
+columns-set : (order : List ℕ) (i c : ℕ) → Columns order → c < columnCount → Columns (set order i c)
 unfolding Columns All
 columns-set [] i c a h = tt
 columns-set (x ∷ order) zero c a h = (h, a .1)
@@ -164,18 +165,21 @@ module _ (side : Side) {equations : ℕ} {rows relations : List ℤ} {p : Progre
             ∙ ap (meet side s w) (found-none w entries (le-of-eq (length-entriesAt row (p .order) w enough)) none-met)
             ∙ ap (λ r. settleOrShift s w (firstNonzero (leadingBlock r))) (row-of equations rows relations p w inside)
 
-        step-settle : (c : ℕ) → foundOr 4 (firstNonzero (leadingBlock row)) ≡ c → c < 4 → step side s ≡ going (settle s c)
+        step-settle : (c : ℕ) → foundOr columnCount (firstNonzero (leadingBlock row)) ≡ c → c < columnCount
+            → step side s ≡ going (settle s c)
         unfolding settleOrShift
-        step-settle c e h = step-none ∙ ap (settleOrShift s w) (found-some 4 c (firstNonzero (leadingBlock row)) e h)
+        step-settle c e h = step-none ∙ ap (settleOrShift s w) (found-some columnCount c (firstNonzero (leadingBlock row)) e h)
 
-        pub step-shift : 4 ≤ foundOr 4 (firstNonzero (leadingBlock row)) → step side s ≡ shiftStep s w
+        pub step-shift : columnCount ≤ foundOr columnCount (firstNonzero (leadingBlock row)) → step side s ≡ shiftStep s w
         unfolding settleOrShift leadingBlock
-        step-shift h = step-none ∙ ap (settleOrShift s w) (found-none 4 (leadingBlock row) (le-of-eq columns-four) h)
+        step-shift h = step-none ∙ ap (settleOrShift s w) (found-none columnCount (leadingBlock row) (le-of-eq columns-four) h)
           where
-            columns-four : length (leadingBlock row) ≡ 4
-            columns-four = let l = numbersAt rows w in ap length (block-at l 0 (lit< tt)) ∙ parts-length 16 4 (take 64 (drop 0 l))
+            columns-four : length (leadingBlock row) ≡ columnCount
+            columns-four =
+                let l = numbersAt rows w in
+                ap length (block-at l 0 (lit< tt)) ∙ parts-length coefficientCount columnCount (blockAt l 0)
 
-        pub settled-reached : (c : ℕ) → foundOr 4 (firstNonzero (leadingBlock row)) ≡ c → c < 4
+        pub settled-reached : (c : ℕ) → foundOr columnCount (firstNonzero (leadingBlock row)) ≡ c → c < columnCount
             → Reached equations rows relations rows relations (p .shifts + 1) (answerOf 0 (settledProgress p c)) (step side s)
         unfolding outcomeOf settle stateOf
         settled-reached c e h =
@@ -193,7 +197,7 @@ module _ (side : Side) {equations : ℕ} {rows relations : List ℤ} {p : Progre
                     settled = omega arith;
                     four = length-set (p .order) w c ∙ ready .four;
                     columns = columns-set (p .order) w c (ready .columns) h;
-                    padded = padded ∙ ap (padTo 4 0) (sym order);
+                    padded = padded ∙ ap (padTo columnCount 0) (sym order);
                   };
             }
           where
@@ -203,6 +207,6 @@ module _ (side : Side) {equations : ℕ} {rows relations : List ℤ} {p : Progre
             size : length (take w (p .order)) ≡ w
             size = length-take-le w (p .order) enough
 
-            padded : set (p .order) w c ≡ padTo 4 0 (take w (p .order) ++ (c ∷ []))
+            padded : set (p .order) w c ≡ padTo columnCount 0 (take w (p .order) ++ (c ∷ []))
             padded =
-                ap₂ (λ l k. set l k c) (ready .padded) (sym size) ∙ padTo-more 4 0 (take w (p .order)) c (rw size (omega arith))
+                ap₂ (λ l k. set l k c) (ready .padded) (sym size) ∙ padTo-more columnCount 0 (take w (p .order)) c (rw size (omega arith))

@@ -1,6 +1,7 @@
 // The whole run over checked stores: at most `enough` steps, and what is left of a run that is refused.
 use crate::step::Outcome;
 use crate::step::Progress;
+use rows::lengths::COLUMNS;
 use rows::lengths::RELATION;
 use rows::lengths::ROW;
 use sides::Side;
@@ -27,7 +28,7 @@ fn start(count: usize) -> Progress
 {
     Progress {
         settled: 0,
-        order: [0; 4],
+        order: [0; COLUMNS],
         count,
         shifts: 0,
     }

@@ -1,4 +1,6 @@
 // One step of the elimination over the lent stores: what `step` of `rules` says of the state that the stores hold.
+use polynomials::lengths::COEFFICIENTS;
+use rows::lengths::COLUMNS;
 use rows::lengths::ROW;
 use sides::Side;
 ghost use mathlib.Core.Path.{_≡_};
@@ -8,7 +10,7 @@ ghost use Prim.Native.Nat.{_+_, _*_, _^_, _≤_, _<_};
 ghost use lib.Dec.{T};
 ghost use lib.ListN.{length};
 ghost use Rattle.algebra.specs.Polynomials.{isZero};
-ghost use Rattle.rules.specs.Limits.{rowLength, small};
+ghost use Rattle.rules.specs.Limits.{columnCount, rowLength, small};
 ghost use Rattle.rules.specs.Rows.{entry};
 ghost use Rattle.lists.specs.Tested.{every};
 ghost use Rattle.rules.specs.Elimination as Elimination;
@@ -23,7 +25,7 @@ ghost use Rattle.reduction.specs.StepLaws.{metEntries, shiftedRow};
 // How far a run has come: the settled rows with their columns, counted from 0, the relations listed and the shifts made.
 pub struct Progress {
     pub settled: usize,
-    pub order: [usize; 4],
+    pub order: [usize; COLUMNS],
     pub count: usize,
     pub shifts: usize,
 }
@@ -85,21 +87,21 @@ fn multipliers_at(
     pivot: [i64; ROW],
     c: usize,
 ) -> polynomials::content::Multipliers
-    requires { ⌜ (c < 4) × T (every small target) × T (every small pivot) ⌝ }
+    requires { ⌜ (c < columnCount) × T (every small target) × T (every small pivot) ⌝ }
     requires { ⌜ T (not (isZero (entry (rowOf pivot) c ++ entry (rowOf target) c))) ⌝ }
     ensures { λ r. ⌜ r .g ≡ Elimination.multipliers (entry (rowOf pivot) c) (entry (rowOf target) c) .g ⌝ }
     ensures { λ r. ⌜ r .h ≡ Elimination.multipliers (entry (rowOf pivot) c) (entry (rowOf target) c) .h ⌝ }
 {
     let t = &target[..];
     let p = &pivot[..];
-    let from = c * 16;
-    let to = from + 16;
+    let from = c * COEFFICIENTS;
+    let to = from + COEFFICIENTS;
     polynomials::content::multipliers_of(&p[from..to], &t[from..to])
 }
 
 // Rule 5: the row in turn is settled at c, the lowest column with a nonzero leading entry (SCOPE 2.51).
 fn settled(c: usize, p: Progress) -> Progress
-    requires { ⌜ (p .settled < 4) × (length (p .order) ≡ 4) ⌝ }
+    requires { ⌜ (p .settled < columnCount) × (length (p .order) ≡ columnCount) ⌝ }
     ensures { λ r. ⌜ r ≡ settledProgress p c ⌝ }
 {
     let mut order = p.order;
@@ -200,7 +202,7 @@ pub(crate) fn step(
         return combine_step(rows, relations, equations, side, j, p);
     }
     let c = working::entries::first_column(row);
-    if c < 4 {
+    if c < COLUMNS {
         answer(0, settled(c, p))
     } else {
         shift_step(rows, row, p)

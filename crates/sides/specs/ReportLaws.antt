@@ -28,7 +28,7 @@ use Rattle.lists.specs.Tests.{same-test}
 use Rattle.algebra.specs.Roots.{roots}
 use Rattle.algebra.specs.Order.{≤ℤ-trans, ≤ℤ-total}
 use Rattle.rules.specs.Elimination.{Side, leading, trailing, State, diagonal, diagonalPlace, further, furthest, report}
-use Rattle.rules.specs.Limits.{rowLength, small}
+use Rattle.rules.specs.Limits.{coefficientCount, columnCount, mostSpan, blockCount, polynomialCount, blockLength, rowLength, small}
 use Rattle.rules.specs.Rows.{Row, noRow}
 use Rattle.lists.specs.Tested.{every}
 use Rattle.rules.specs.Stores.{rowsOf, rowNeed}
@@ -187,9 +187,9 @@ report-settled side D equations store order s e f =
 -- Where the sixteen numbers of diagonal polynomial j begin.
 unfoldable pub diagonalAt : Side → ℕ → List ℕ → ℕ → ℕ
 unfolding diagonalPlace
-diagonalAt side D order j = j * rowLength + diagonalPlace side D * 64 + getD order j 0 * 16
+diagonalAt side D order j = j * rowLength + diagonalPlace side D * blockLength + getD order j 0 * coefficientCount
 
-pub place-below : (side : Side) (D : ℕ) → D ≤ 4 → diagonalPlace side D < 5
+pub place-below : (side : Side) (D : ℕ) → D ≤ mostSpan → diagonalPlace side D < blockCount
 unfolding diagonalPlace
 place-below leading D few = lit< tt
 place-below trailing D few = suc-le-suc few
@@ -221,8 +221,8 @@ module _ (side : Side) (D equations : ℕ) (store : List ℤ) (order : List ℕ)
   unfolding reported report
   report-all j h = ap (λ l. furthest side (flatten (map roots l))) (take-all j ps (rw length-diagonals h))
 
-  module _ (few : D ≤ 4) (columns : Columns order) (j : ℕ) (h : j < equations) where
-    diagonal-at : getD ps j [] ≡ take 16 (drop (diagonalAt side D order j) store)
+  module _ (few : D ≤ mostSpan) (columns : Columns order) (j : ℕ) (h : j < equations) where
+    diagonal-at : getD ps j [] ≡ take coefficientCount (drop (diagonalAt side D order j) store)
     unfolding diagonal diagonalAt
     diagonal-at =
         getD-zipWith _ (rowsOf equations store) (take equations order) j noRow 0 [] (rw length-rowsOf h)
@@ -230,7 +230,8 @@ module _ (side : Side) (D equations : ℕ) (store : List ℤ) (order : List ℕ)
         ∙ ap (λ c. getD (getD (getD (rowsOf equations store) j noRow .blocks) (diagonalPlace side D) []) c []) (getD-take equations order j 0 h)
         ∙ polynomial-at equations store j (diagonalPlace side D) (getD order j 0) h (place-below side D few) (Columns-at order columns j)
 
-    pub report-next : furtherOf side (reported side D equations store order j) (furthest side (roots (take 16 (drop (diagonalAt side D order j) store))))
+    pub report-next : furtherOf side (reported side D equations store order j)
+        (furthest side (roots (take coefficientCount (drop (diagonalAt side D order j) store))))
         ≡ reported side D equations store order (j + 1)
     unfolding reported
     report-next =
@@ -240,17 +241,18 @@ module _ (side : Side) (D equations : ℕ) (store : List ℤ) (order : List ℕ)
         ∙ ap (reported side D equations store order) (sym (add-one j))
 
     -- Its numbers.
-    pub diagonal-long : rowNeed equations ≤ length store → diagonalAt side D order j + 16 ≤ length store
+    pub diagonal-long : rowNeed equations ≤ length store → diagonalAt side D order j + coefficientCount ≤ length store
     unfolding diagonalAt rowNeed
     diagonal-long long = omega (arith, place-below side D few, Columns-at order columns j)
 
-    pub diagonal-small : Within (rowNeed equations) store → T (every small (take 16 (drop (diagonalAt side D order j) store)))
+    pub diagonal-small : Within (rowNeed equations) store → T (every small (take coefficientCount (drop (diagonalAt side D order j) store)))
     unfolding diagonalAt rowNeed
     diagonal-small w =
         let b = diagonalPlace side D in
         let c = getD order j 0 in
-        let place : (j * 20 + b * 4 + c) * 16 ≡ j * rowLength + b * 64 + c * 16 = omega arith in
-        let all : equations * rowLength ≡ equations * 20 * 16 = omega arith in
-        let inside : j * 20 + b * 4 + c < equations * 20 = omega (arith, place-below side D few, Columns-at order columns j) in
-        subst (λ n. T (every small (take 16 (drop n store)))) place
-        (part-small 16 (equations * 20) (j * 20 + b * 4 + c) store inside (subst (λ n. Within n store) all w))
+        let e = j * polynomialCount + b * columnCount + c in
+        let place : e * coefficientCount ≡ j * rowLength + b * blockLength + c * coefficientCount = omega arith in
+        let all : equations * rowLength ≡ equations * polynomialCount * coefficientCount = omega arith in
+        let inside : e < equations * polynomialCount = omega (arith, place-below side D few, Columns-at order columns j) in
+        subst (λ n. T (every small (take coefficientCount (drop n store)))) place
+        (part-small coefficientCount (equations * polynomialCount) e store inside (subst (λ n. Within n store) all w))

@@ -1,4 +1,7 @@
 // The root report over the rows of a store.
+use polynomials::lengths::COEFFICIENTS;
+use rows::lengths::BLOCK;
+use rows::lengths::COLUMNS;
 use crate::Side;
 use rows::lengths::ROW;
 ghost use mathlib.Core.Path.{_≡_};
@@ -6,7 +9,7 @@ ghost use Prim.Native.Nat.{_≤_};
 ghost use lib.Dec.{T};
 ghost use lib.ListN.{length};
 ghost use Rattle.algebra.specs.Roots.{roots};
-ghost use Rattle.rules.specs.Limits.{mostEquations, small};
+ghost use Rattle.rules.specs.Limits.{coefficientCount, small, mostEquations};
 ghost use Rattle.lists.specs.Tested.{every};
 ghost use Rattle.rules.specs.Stores.{rowNeed};
 ghost use Rattle.rules.specs.Elimination as Elimination;
@@ -43,7 +46,7 @@ fn further(a: roots::RootAnswer, b: roots::RootAnswer, side: Side) -> roots::Roo
 
 // The largest root of a polynomial, on the trailing side the smallest.
 fn furthest_root(p: &[i64], side: Side) -> roots::RootAnswer
-    requires { ⌜ (length (now p) ≤ 16) × T (every small (now p)) ⌝ }
+    requires { ⌜ (length (now p) ≤ coefficientCount) × T (every small (now p)) ⌝ }
     ensures { λ r. ⌜ r ≡ answered (Elimination.furthest (sideOf side) (roots (now (p .entry)))) ⌝ }
 {
     match side {
@@ -57,7 +60,7 @@ fn furthest_root(p: &[i64], side: Side) -> roots::RootAnswer
 pub fn report(
     store: &[i64],
     equations: usize,
-    order: [usize; 4],
+    order: [usize; COLUMNS],
     side: Side,
     span: usize,
 ) -> roots::RootAnswer
@@ -74,8 +77,8 @@ pub fn report(
     };
     let mut j = 0;
     while j < equations {
-        let from = j * ROW + block * 64 + order[j] * 16;
-        let to = from + 16;
+        let from = j * ROW + block * BLOCK + order[j] * COEFFICIENTS;
+        let to = from + COEFFICIENTS;
         answer = further(answer, furthest_root(&store[from..to], side), side);
         j += 1;
     }

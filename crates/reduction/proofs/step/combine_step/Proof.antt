@@ -13,7 +13,7 @@ use lib.IntN.{ℤ}
 use lib.ListN.{length, getD, length-append, length-replicate}
 use Rattle.algebra.specs.Polynomials.{isZero}
 use Rattle.algebra.specs.Roots.{roots}
-use Rattle.rules.specs.Limits.{rowLength, small}
+use Rattle.rules.specs.Limits.{columnCount, rowLength, small}
 use Rattle.rules.specs.Rows.{entry, combine, primitive}
 use Rattle.lists.specs.Tested.{every}
 use Rattle.rules.specs.Stores.{rowOf}
@@ -93,7 +93,7 @@ module _ (c : tie.Start) where
   abbrev column : ℕ
   column = getD (p .order) j 0
 
-  below : column < 4
+  below : column < columnCount
   below = Columns-at (p .order) (ready .columns) j
 
   target-small : Small target

@@ -7,6 +7,7 @@ use native.Mathlib.Omega.{arith}
 use borrow.Author.Needs.{needs}
 use lib.IntN.{ℤ}
 use lib.ListN.{take, drop}
+use Rattle.rules.specs.Limits.{coefficientCount}
 use Rattle.rules.specs.Rows.{entry}
 use Rattle.rules.specs.Elimination.{multipliers}
 use Rattle.rules.specs.Stores.{rowOf}
@@ -17,11 +18,13 @@ use Rattle.reduction.proofs.step.multipliers_at.Tie as tie
 
 -- what the parts of the arguments are
 module _ (c : tie.Start) where
-  size : c .args .c * 16 + 16 - c .args .c * 16 ≡ 16
+  size : c .args .c * coefficientCount + coefficientCount - c .args .c * coefficientCount ≡ coefficientCount
   size = omega arith
 
-  entry-of : (l : List ℤ) → take (c .args .c * 16 + 16 - c .args .c * 16) (drop (c .args .c * 16) l) ≡ entry (rowOf l) (c .args .c)
-  entry-of l = ap (λ n. take n (drop (c .args .c * 16) l)) size ∙ sym (entry-at l (c .args .c) (c .pre .0 .0))
+  entry-of : (l : List ℤ)
+      → take (c .args .c * coefficientCount + coefficientCount - c .args .c * coefficientCount) (drop (c .args .c * coefficientCount) l)
+      ≡ entry (rowOf l) (c .args .c)
+  entry-of l = ap (λ n. take n (drop (c .args .c * coefficientCount) l)) size ∙ sym (entry-at l (c .args .c) (c .pre .0 .0))
 
 slice-aggregate-t : tie.Need-slice-aggregate-t
 slice-aggregate-t c = search needs

@@ -11,7 +11,7 @@ use lib.Dec.{T}
 use lib.IntN.{ℤ}
 use lib.ListN.{length}
 use Rattle.algebra.specs.Polynomials.{isZero}
-use Rattle.rules.specs.Limits.{rowLength, small}
+use Rattle.rules.specs.Limits.{columnCount, rowLength, small}
 use Rattle.rules.specs.Rows.{Row, zeroRow, leadingBlock, firstNonzero}
 use Rattle.lists.specs.Tested.{every}
 use Rattle.rules.specs.Stores.{rowOf}
@@ -119,8 +119,8 @@ module _ (c : tie.After-first-column) where
   none-met : i origin ≤ met origin
   none-met = omega (arith, met-is unmet, c .before .if2 .left)
 
-  column-is : foundOr 4 (firstNonzero (leadingBlock (row origin))) ≡ c .first-column .result
-  column-is = sym (c .first-column .ensures ∙ ap (λ l. foundOr 4 (firstNonzero (leadingBlock (rowOf l)))) (row-is (tested unmet)))
+  column-is : foundOr columnCount (firstNonzero (leadingBlock (row origin))) ≡ c .first-column .result
+  column-is = sym (c .first-column .ensures ∙ ap (λ l. foundOr columnCount (firstNonzero (leadingBlock (rowOf l)))) (row-is (tested unmet)))
 
 mul-load : tie.Need-mul-load
 mul-load c = search needs

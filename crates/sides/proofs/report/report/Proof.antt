@@ -12,7 +12,7 @@ use lib.Dec.{T}
 use lib.IntN.{ℤ}
 use lib.ListN.{length, take, drop, getD, length-take}
 use Rattle.algebra.specs.Roots.{roots}
-use Rattle.rules.specs.Limits.{rowLength, small}
+use Rattle.rules.specs.Limits.{coefficientCount, blockLength, rowLength, small}
 use Rattle.lists.specs.Tested.{every}
 use Rattle.rules.specs.Elimination.{Side, diagonalPlace, furthest}
 use Rattle.rules.specs.Calls.{rootFound, rootValue}
@@ -55,38 +55,38 @@ module _ (c : tie.In-loop Inv-loop μ-loop) where
   j = c .before .loop .j
 
   abbrev from : ℕ
-  from = j * rowLength + c .before .before .match .block * 64 + getD order j 0 * 16
+  from = j * rowLength + c .before .before .match .block * blockLength + getD order j 0 * coefficientCount
 
   enough : equations ≤ length order
   enough = c .before .loop .inv .1 .0
 
   place : from ≡ diagonalAt side span order j
   unfolding diagonalAt
-  place = ap (λ b. j * rowLength + b * 64 + getD order j 0 * 16) (c .before .loop .inv .0)
+  place = ap (λ b. j * rowLength + b * blockLength + getD order j 0 * coefficientCount) (c .before .loop .inv .0)
 
-  long : from + 16 ≤ length store
+  long : from + coefficientCount ≤ length store
   long =
       rw place
       (diagonal-long side span equations store order enough (start .pre .1) (start .pre .2) j (c .loop-test .taken) (start .pre .3 .long))
 
-  numbers : T (every small (take 16 (drop from store)))
+  numbers : T (every small (take coefficientCount (drop from store)))
   numbers =
       rw place
       (diagonal-small side span equations store order enough (start .pre .1) (start .pre .2) j (c .loop-test .taken) (start .pre .3))
 
   -- it is the part that is lent
-  part : take (from + 16 - from) (drop from store) ≡ take 16 (drop from store)
-  part = let size : from + 16 - from ≡ 16 = omega arith in ap (λ n. take n (drop from store)) size
+  part : take (from + coefficientCount - from) (drop from store) ≡ take coefficientCount (drop from store)
+  part = let size : from + coefficientCount - from ≡ coefficientCount = omega arith in ap (λ n. take n (drop from store)) size
 
 -- its furthest root
 root : (c : tie.After-furthest-root Inv-loop μ-loop)
     → let at = c .before .before .before in
     c .furthest-root .result
-    ≡ answered (furthest (side at) (roots (take 16 (drop (diagonalAt (side at) (span at) (order at) (j at)) (store at)))))
+    ≡ answered (furthest (side at) (roots (take coefficientCount (drop (diagonalAt (side at) (span at) (order at) (j at)) (store at)))))
 root c =
     let at = c .before .before .before in
     c .furthest-root .ensures
-    ∙ ap (λ p. answered (furthest (side at) (roots p))) (part at ∙ ap (λ n. take 16 (drop n (store at))) (place at))
+    ∙ ap (λ p. answered (furthest (side at) (roots p))) (part at ∙ ap (λ n. take coefficientCount (drop n (store at))) (place at))
 
 -- the block of the diagonal
 block : (c : tie.At-match-came Inv-loop μ-loop)
