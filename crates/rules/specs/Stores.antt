@@ -22,7 +22,7 @@ use Rattle.lists.specs.Parts.{parts}
 use Rattle.rules.specs.Limits.{bound, coefficientCount, columnCount, blockCount, rowLength, relationLength, mostRelations, blockBound, small}
 use Rattle.rules.specs.Rows.{Row, Relation, zeroBlock, coefficientsOf, smallRow}
 use Rattle.lists.specs.Everywhere.{All}
-use Rattle.lists.specs.Tested.{every}
+use Rattle.lists.specs.Tests.{every}
 
 -- m unknowns and as many equations, blocks from t to l (SCOPE 1.1, 1.2).
 pub record Sizes : Type 0 where

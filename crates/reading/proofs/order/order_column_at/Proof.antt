@@ -8,7 +8,7 @@ use mir.Val.{SFits}
 use mir.Facts.{toZ-ofZ}
 use Rattle.rules.specs.Sheets.{judgeOrder, always}
 use Rattle.tokens.specs.Fields.{answers-as, field-of}
-use Rattle.reading.specs.Order.{takenOf}
+use Rattle.reading.specs.OrderLine.{takenOf}
 use Rattle.reading.proofs.order.order_column_at.Statement.{statement}
 use Rattle.reading.proofs.order.order_column_at.Tie as tie
 

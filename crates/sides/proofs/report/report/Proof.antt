@@ -13,7 +13,7 @@ use lib.IntN.{ℤ}
 use lib.ListN.{length, take, drop, getD, length-take}
 use Rattle.algebra.specs.Roots.{roots}
 use Rattle.rules.specs.Limits.{rowLength, small}
-use Rattle.lists.specs.Tested.{every}
+use Rattle.lists.specs.Tests.{every}
 use Rattle.rules.specs.Elimination.{Side, diagonalPlace, furthest}
 use Rattle.rules.specs.Calls.{rootFound, rootValue}
 use Rattle.roots.specs.RootSearch.{answered}

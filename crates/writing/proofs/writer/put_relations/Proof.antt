@@ -11,11 +11,11 @@ use mir.Syntax.{w64}
 use mir.Val.{toZ, ofZ}
 use mir.Facts.{toZ-ofZ}
 use Rattle.rules.specs.Limits.{relationLength, small}
-use Rattle.lists.specs.Tested.{every}
+use Rattle.lists.specs.Tests.{every}
 use Rattle.rules.specs.Numbers.{line, lines}
 use Rattle.rules.specs.Sheets.{relationLine}
 use Rattle.rules.specs.Stores.{relationOf, relationsOf}
-use Rattle.writing.specs.Bounds.{relationBytes}
+use Rattle.writing.specs.SheetBytes.{relationBytes}
 use Rattle.writing.specs.Writer.{Going, going-first, going-next, going-last, put-same, lines-next, lines-end}
 use borrow.Author.Needs.{needs}
 use Rattle.writing.proofs.writer.put_relations.Statement.{statement}
