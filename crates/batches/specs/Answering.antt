@@ -27,7 +27,7 @@ use Rattle.answers.specs.Answers.{AnswerCall, callOf, answerCall, answered, una
 use Rattle.answers.specs.Answers.{right-refused, answer-right, answerBy, answerCall-answer, answerCall-none}
 use Rattle.frames.specs.declared.TextLine.{TextLine}
 use Rattle.frames.specs.Windows.{batchLine}
-use Rattle.frames.specs.Bounds.{answer-fits}
+use Rattle.frames.specs.PieceSizes.{answer-fits}
 use Rattle.frames.specs.Pieces.{textOf, shown, shown-text, refusalLine, refusal-refused, refusal-accepted}
 use Rattle.lists.specs.Taken.{whole-part}
 use Rattle.batches.specs.declared.answering.Put.{Put}

@@ -31,7 +31,7 @@ use lib.Seq.{drop-append-le, drop-drop, drop-length}
 use Rattle.rules.specs.Batch.{Answer, answerSheet, answerBytes, broken}
 use Rattle.frames.specs.declared.Batch.{Batch}
 use Rattle.frames.specs.Pieces.{begunOf, begun-inside, countedOf, Counted, counted-left, counted-few}
-use Rattle.frames.specs.Bounds.{begun-counted}
+use Rattle.frames.specs.PieceSizes.{begun-counted}
 use Rattle.frames.specs.Longer.{line-longer}
 use Rattle.lists.specs.Taken.{length-none}
 use Rattle.batches.specs.declared.Stage.{Stage}

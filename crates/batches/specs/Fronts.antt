@@ -21,7 +21,7 @@ use Rattle.rules.specs.Numbers.{space, newline, isSeparator, decimal, Read, got
 use Rattle.rules.specs.Sheets.{always}
 use Rattle.rules.specs.Batch.{readSize, readAfterClient, readSheetLine}
 use Rattle.tokens.specs.Fields.{between-zero}
-use Rattle.sheets.specs.Exact.{got-inj, fault-got, field-exact}
+use Rattle.tokens.specs.Exact.{got-inj, fault-got, field-exact}
 use Rattle.frames.specs.Windows.{countOf, clientOf, sheetLine-is}
 use Rattle.frames.specs.Pieces.{readCount, begunOf, begunBy, lineOf, lineBy, begun-got, line-got, begun-fault, line-fault}
 

@@ -43,7 +43,7 @@ use Rattle.frames.specs.Pieces.{readCount, noTally, begunOf, lineOf, lineBy, co
 use Rattle.frames.specs.Pieces.{begun-inside, line-inside, begun-got, line-got, begun-fault, line-fault}
 use Rattle.frames.specs.Pieces.{counted-left, counted-tally, counted-few, closeLine, close-closing, close-broken}
 use Rattle.frames.specs.Longer.{begun-longer, line-longer, begun-early, line-early}
-use Rattle.frames.specs.Bounds.{line-small, begun-counted}
+use Rattle.frames.specs.PieceSizes.{line-small, begun-counted}
 use Rattle.lists.specs.Taken.{part-longer}
 use Rattle.batches.specs.declared.Stage.{Stage}
 use Rattle.batches.specs.declared.Stage.the-variants.{Count, Sheets, Over}

@@ -22,7 +22,7 @@ use lib.IntN.{pos}
 use lib.ListN.{length, take, drop, replicate, length-append, length-drop}
 use Rattle.rules.specs.Numbers.{decimal, line, lines}
 use Rattle.rules.specs.Batch.{mostBytes, Answer, accepted, answerSheet, answerBytes, broken, closing, batchOutput}
-use Rattle.sheets.specs.WrittenNumbers.{isNumber-decimal}
+use Rattle.tokens.specs.WrittenNumbers.{isNumber-decimal}
 use Rattle.answers.specs.Answers.{RightAnswer, right-accepted, right-refused, answer-right}
 use Rattle.frames.specs.declared.Batch.{Batch}
 use Rattle.frames.specs.Windows.{numberLine, batchLine, number-short}

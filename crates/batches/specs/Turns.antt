@@ -30,7 +30,7 @@ use Rattle.rules.specs.Batch.{Answer, answerSheet, answerBytes, broken}
 use Rattle.frames.specs.declared.Batch.{Batch}
 use Rattle.frames.specs.declared.Begun.{Begun}
 use Rattle.frames.specs.declared.TextLine.{TextLine}
-use Rattle.frames.specs.Bounds.{begun-counted}
+use Rattle.frames.specs.PieceSizes.{begun-counted}
 use Rattle.frames.specs.Pieces.{textOf, shown, shown-text, refusalLine, refusal-broken, begunOf, begun-inside}
 use Rattle.frames.specs.Pieces.{countedOf, Counted, counted-left}
 use Rattle.batches.specs.declared.Stage.{Stage}

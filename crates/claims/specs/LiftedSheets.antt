@@ -19,11 +19,10 @@ use lib.ListN.{length, take, drop, getD}
 use lib.IntN.{ℤ, pos, negsuc, natAbs, _-ℤ_}
 use lib.Signed.{_≤ℤ_}
 use Rattle.algebra.specs.Order.{≤ℤ-difference}
-use Rattle.lists.specs.Tests.{T-&&, cond-passed}
+use Rattle.lists.specs.Tests.{T-&&, cond-passed, every}
 use Rattle.rules.specs.Limits.{columnCount, coefficientCount}
 use Rattle.rules.specs.Rows.{Block, Row, noRow}
 use Rattle.lists.specs.Everywhere.{All, all-getD}
-use Rattle.lists.specs.Tested.{every}
 use Rattle.rules.specs.Sequences.{blockFrom, polynomialAt}
 use Rattle.rules.specs.Stores.{Sizes, equations, Valid, rowsOf, rowNeed, relationNeed, rowStoreOf, relationStoreOf, lengthsRight}
 use Rattle.rules.specs.Stores.{sizesRight, Shaped, StoreRow}
@@ -41,7 +40,7 @@ use Rattle.rules.specs.SheetCalls.{ReadCall, readCall, afterRead, unread, fille
 use Rattle.rules.specs.SheetCalls.{afterWriteCheck}
 use Rattle.rules.specs.SheetCalls.{written, unwritten, sheetOf, orderRight, orderGiven, differentColumns}
 use Rattle.writing.specs.WriterChecks.{checkWrite-order}
-use Rattle.sheets.specs.Exact.{got-inj, fault-got}
+use Rattle.tokens.specs.Exact.{got-inj, fault-got}
 use Rattle.sheets.specs.ReadBack.{SheetRight, read-right, read-exactly}
 use Rattle.sheets.specs.CallsReadBack.{order-given, read-write-call}
 use Rattle.answers.specs.Faults.{Numbered, read, numbered, sheet-numbered}

@@ -31,7 +31,7 @@ use Rattle.algebra.specs.Integers.{natAbs-+ℤ}
 use Rattle.algebra.specs.Gcd.{content, divideBy, length-divideBy}
 use Rattle.algebra.specs.Sums.{countFrom, sumBelow, length-countFrom, getD-countFrom}
 use Rattle.algebra.specs.Polynomials.{Polynomial, coeff, isZero, degree, add, mul, isZero-cons, isZero-coeff}
-use Rattle.lists.specs.Tests.{same-test, T-&&, true-of, false-of}
+use Rattle.lists.specs.Tests.{same-test, T-&&, true-of, false-of, every, every-flatten, every-take, every-drop, every-part}
 use Rattle.algebra.specs.Polynomials.{coeff-isZero}
 use Rattle.algebra.specs.Polynomials.{isZero-add, isZero-mul-right, length-add, length-scale}
 use Rattle.algebra.specs.Coefficients.{coeff-add, coeff-mul, coeff-take, coeff-drop, coeff-past-length, coeff-past-degree}
@@ -41,7 +41,6 @@ use Rattle.polynomials.specs.Product.{product-size}
 use Rattle.rules.specs.Limits.{rowLength, small, coefficientCount, columnCount, polynomialCount}
 use Rattle.rules.specs.Rows.{Row, mapRow, coefficientsOf, combine, primitive, lowDegrees, cut}
 use Rattle.lists.specs.Everywhere.{All}
-use Rattle.lists.specs.Tested.{every, every-flatten, every-take, every-drop, every-part}
 use Rattle.lists.specs.Images.{getD-map, getD-zipWith}
 use Rattle.lists.specs.Joined.{length-flatten}
 use Rattle.rules.specs.Stores.{rowOf, StoreRow}

@@ -23,10 +23,9 @@ use lib.Signed.{quotZ}
 use Rattle.algebra.specs.Gcd.{gcd, content, divideBy, gcd-zero, gcd-divides-left, gcd-divides-right, gcd-le-right, content-append, content-zero}
 use Rattle.algebra.specs.Gcd.{dividesAll-of-content, isZero-divideBy, divideBy-one}
 use Rattle.algebra.specs.Polynomials.{Polynomial, isZero}
-use Rattle.lists.specs.Tests.{T-&&}
+use Rattle.lists.specs.Tests.{T-&&, every, every-flatten}
 use Rattle.polynomials.specs.Content.{Below}
 use Rattle.rules.specs.Rows.{Row, mapRow, coefficientsOf, primitive, lowDegrees, cut}
-use Rattle.lists.specs.Tested.{every, every-flatten}
 use Rattle.lists.specs.Images.{map-take, map-drop}
 use Rattle.rules.specs.Limits.{rowLength, coefficientCount}
 use Rattle.rules.specs.Elimination.{within, beyond, limitCoefficients, limitDegrees}

@@ -10,7 +10,7 @@ ghost use lib.ListN.{length, drop};
 ghost use Rattle.algebra.specs.Polynomials.{isZero, degree, add, mul};
 ghost use Rattle.rules.specs.Limits.{rowLength, small, coefficientCount};
 ghost use Rattle.rules.specs.Rows.{lowDegrees, combine, primitive, mapRow, coefficientsOf};
-ghost use Rattle.lists.specs.Tested.{every};
+ghost use Rattle.lists.specs.Tests.{every};
 ghost use Rattle.rules.specs.Stores.{rowOf};
 ghost use Rattle.rules.specs.Elimination.{limitDegrees};
 ghost use Rattle.working.specs.Worked.{refusalOf, numbersOf};

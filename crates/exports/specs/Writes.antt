@@ -23,7 +23,7 @@ use lib.IntN.{ℤ, pos, negsuc, natAbs}
 use lib.Signed.{nonNeg, ltZ}
 use lib.ListN.{length, take}
 use Rattle.rules.specs.Limits.{columnCount}
-use Rattle.lists.specs.Tested.{every}
+use Rattle.lists.specs.Tests.{every}
 use Rattle.rules.specs.Stores.{Sizes, sizesRight, countRight, lengthsRight, numbersRight, checkStores, equations}
 use Rattle.lists.specs.Overwritten.{overwrite}
 use Rattle.rules.specs.Sheets.{writeSheet}

@@ -2,4 +2,4 @@ pub mod Windows
 pub mod Pieces
 pub mod Longer
 pub mod Lines
-pub mod Bounds
+pub mod PieceSizes

@@ -27,7 +27,7 @@ use Rattle.rules.specs.Sheets.{always}
 use Rattle.lists.specs.Overwritten.{overwrite}
 use Rattle.rules.specs.Batch.{countAnswer, closing, broken, readSize, readAfterClient, readSheetLine}
 use Rattle.tokens.specs.Fields.{field-judged, between-zero}
-use Rattle.sheets.specs.WrittenNumbers.{isNumber-decimal}
+use Rattle.tokens.specs.WrittenNumbers.{isNumber-decimal}
 use Rattle.writing.specs.Writer.{Put, put-then, put-same, digitsOf}
 use Rattle.lists.specs.Tests.{first-failed, second-failed, both-passed}
 use Rattle.frames.specs.declared.Batch.{Batch}

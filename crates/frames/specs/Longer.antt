@@ -17,12 +17,11 @@ use lib.Dec.{T, leb, leb→le, le→leb, eqb, eqb→eq}
 use lib.ListN.{length, drop, length-append}
 use lib.IntN.{ℤ, pos, natAbs}
 use lib.Signed.{leZ}
-use Rattle.lists.specs.Tests.{T-&&}
-use Rattle.lists.specs.Tested.{every, every-append}
+use Rattle.lists.specs.Tests.{T-&&, every, every-append}
 use Rattle.rules.specs.Numbers.{minus, word, afterWord, isDigit, signed, digits, startsRight, beginsNumber, isNumber, numberOf}
 use Rattle.rules.specs.Numbers.{Read, got, fault, thenRead, judged, readWord, readSeparator, field, between}
 use Rattle.rules.specs.Batch.{SheetLine as ReadLine, readSize, readAfterClient, readSheetLine}
-use Rattle.sheets.specs.Exact.{fault-got}
+use Rattle.tokens.specs.Exact.{fault-got}
 use Rattle.frames.specs.Windows.{followed, numberLine, batchLine, Taken, word-unended, word-whole, begins-short, separated, field-is}
 use Rattle.frames.specs.Windows.{field-unbegun, field-ended, field-got-longer, field-taken, countOf, clientOf, sheetLine-is}
 use Rattle.frames.specs.Windows.{sheetLine-got-longer}

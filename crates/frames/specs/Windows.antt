@@ -23,13 +23,12 @@ use lib.Dec.{T, leb, leb→le, eqb}
 use lib.ListN.{length, drop, length-append, length-drop}
 use lib.Seq.{drop-at}
 use lib.IntN.{ℤ, pos}
-use Rattle.lists.specs.Tests.{T-&&}
-use Rattle.lists.specs.Tested.{every}
+use Rattle.lists.specs.Tests.{T-&&, every}
 use Rattle.rules.specs.Numbers.{space, newline, isSeparator, word, afterWord, isDigit, signed, digits, startsRight, beginsNumber, isNumber}
 use Rattle.rules.specs.Numbers.{numberOf, Read, got, fault, thenRead, judged, readWord, readSeparator, field, between}
 use Rattle.rules.specs.Sheets.{always}
-use Rattle.sheets.specs.Exact.{got-inj, fault-got}
-use Rattle.sheets.specs.WrittenNumbers.{word-afterWord}
+use Rattle.tokens.specs.Exact.{got-inj, fault-got}
+use Rattle.tokens.specs.WrittenNumbers.{word-afterWord}
 use Rattle.rules.specs.Batch.{SheetLine, readClient, readSize, readAfterClient, readSheetLine}
 
 -- ---- more bytes after those that are read

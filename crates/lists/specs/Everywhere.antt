@@ -9,14 +9,14 @@
 --   all-member, member-all                 All by membership
 --   all-set, all-of-set                    one member put in, and taken back
 --   all-append, all-map, all-flatten       All of ++, of map, of flatten, both ways; map-keeps, all-images: of images
---   all-take, all-drop, all-reverse, all-zipWith   All of parts, of the reverse, of a list made from two
+--   all-take, all-drop, all-reverse, all-zipWith, all-replicate   All of parts, of the reverse, of a list made from two, of one value
 use mathlib.Core.Path.{refl, sym, subst}
 use mathlib.Core.Logic.{_↔_, ⊎-elim}
 use mathlib.Core.List.{List, [], _∷_, _++_, map, reverse, reverseAux, flatten, zipWith, List·Memᴰ, List·Memᴰ·head, List·Memᴰ·tail}
 use mathlib.Core.List.{List·Memᴰ·not-nil, List·Memᴰ·cases-cons, reverse-reverse}
 use Prim.Native.Nat.{ℕ, zero, suc, _<_}
 use native.Mathlib.Nat.{le-of-suc-le-suc, not-suc-le-zero, suc-le-suc-iff, zero-lt-suc}
-use lib.ListN.{length, getD, take, drop, set}
+use lib.ListN.{length, getD, take, drop, set, replicate}
 
 -- Every member of a list has the property.
 unfoldable pub All : {A : Type 0} → (A → Type 0) → List A → Type 0
@@ -172,3 +172,8 @@ unfolding All zipWith
 all-zipWith P Q R f h [] m a b = tt
 all-zipWith P Q R f h (x ∷ l) [] a b = tt
 all-zipWith P Q R f h (x ∷ l) (y ∷ m) a b = (h x y (a .0) (b .0), all-zipWith P Q R f h l m (a .1) (b .1))
+
+pub all-replicate : {A : Type 0} (P : A → Type 0) (n : ℕ) (x : A) → P x → All P (replicate n x)
+unfolding All
+all-replicate P zero x h = tt
+all-replicate P (suc n) x h = (h, all-replicate P n x h)

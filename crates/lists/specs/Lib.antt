@@ -1,6 +1,5 @@
 pub mod Tests
 pub mod Everywhere
-pub mod Tested
 pub mod Places
 pub mod Taken
 pub mod Images
@@ -9,5 +8,4 @@ pub mod Parts
 pub mod Pasted
 pub mod Padded
 pub mod Overwritten
-pub mod Repeated
 pub mod Sifted

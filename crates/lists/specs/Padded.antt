@@ -1,4 +1,4 @@
--- Lists with a value up to a length.
+-- Lists with a value up to a length, and lists of one value.
 --
 -- Main definitions
 --   padTo n v l                            the first n members of l, and v for those that l lacks
@@ -8,6 +8,7 @@
 --   padTo-set, padTo-more                  a member more before the padding
 --   take-padTo, every-padTo, drop-padTo    the members before the padding, and the padding
 --   pad-zeros, pad-taken                   a list that ends in zeros
+--   getD-replicate-each, replicate-snoc    lists of one value: a member, and one more
 use mathlib.Core.Path.{_≡_, refl, sym, ap, ap₂}
 use mathlib.Core.Bool.{Bool}
 use mathlib.Core.List.{List, [], _∷_, _++_, tail}
@@ -15,10 +16,9 @@ use Prim.Native.Nat.{ℕ, zero, suc, _≤_, _<_}
 use native.Mathlib.Nat.{suc-ne-zero, suc-inj, le-of-suc-le-suc, not-suc-le-zero}
 use native.Mathlib.Omega.{arith}
 use lib.Dec.{T, eqb, eqb→eq}
-use lib.ListN.{length, getD, take, drop, set}
+use lib.ListN.{length, getD, take, drop, set, replicate}
 use Rattle.lists.specs.Everywhere.{All}
-use Rattle.lists.specs.Tests.{T-&&}
-use Rattle.lists.specs.Tested.{every}
+use Rattle.lists.specs.Tests.{T-&&, every}
 
 -- The first n members of l, and v for those that l lacks.
 unfoldable pub padTo : {A : Type 0} → ℕ → A → List A → List A
@@ -96,3 +96,14 @@ unfolding padTo
 pad-taken zero l h = pad-zeros l h
 pad-taken (suc m) [] h = refl
 pad-taken (suc m) (x ∷ l) h = ap (λ r. x ∷ r) (pad-taken m l h)
+
+-- ---- lists of one value
+
+pub getD-replicate-each : {A : Type 0} (P : A → Type 0) (n : ℕ) (x d : A) (i : ℕ) → P x → P d → P (getD (replicate n x) i d)
+getD-replicate-each P zero x d i h k = k
+getD-replicate-each P (suc n) x d zero h k = h
+getD-replicate-each P (suc n) x d (suc i) h k = getD-replicate-each P n x d i h k
+
+pub replicate-snoc : {A : Type 0} (n : ℕ) (x : A) (l : List A) → replicate (suc n) x ++ l ≡ replicate n x ++ (x ∷ l)
+replicate-snoc zero x l = refl
+replicate-snoc (suc n) x l = ap (λ r. x ∷ r) (replicate-snoc n x l)

@@ -24,8 +24,7 @@ use Rattle.lists.specs.Joined.{suc-width, length-flatten}
 use Rattle.lists.specs.Everywhere.{All, all-mono, map-keeps}
 use Rattle.lists.specs.Taken.{drop-take, drop-next}
 use Rattle.lists.specs.Images.{map-back, map-drop}
-use Rattle.lists.specs.Tests.{T-&&}
-use Rattle.lists.specs.Tested.{every, every-drop}
+use Rattle.lists.specs.Tests.{T-&&, every, every-drop}
 
 -- The first n parts of k members each.
 unfoldable pub parts : {A : Type 0} → ℕ → ℕ → List A → List (List A)

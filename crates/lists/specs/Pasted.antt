@@ -19,7 +19,7 @@ use lib.Dec.{T}
 use lib.ListN.{length, getD, take, drop, set, length-take, length-drop, drop-of-length-le}
 use lib.Seq.{length-take-le, take-all, append-snoc, take-append-add, paste, set-out, set-comm, drop-set-lt, take-suc-set, take-take}
 use lib.Seq.{drop-drop, take-add, take-at, drop-at, sets, length-paste-head, take-paste, drop-paste}
-use Rattle.lists.specs.Tested.{every, every-join, every-take, every-drop}
+use Rattle.lists.specs.Tests.{every, every-join, every-take, every-drop}
 use Rattle.lists.specs.Parts.{parts, getD-parts, parts-more}
 use Rattle.lists.specs.Joined.{suc-width}
 

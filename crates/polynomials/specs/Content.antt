@@ -38,7 +38,7 @@ use Rattle.algebra.specs.Coefficients.{Within, coeff-negate, coeff-degree, lead
 use Rattle.algebra.specs.Gcd.{gcd, content, divideBy, gcd-comm, gcd-assoc, gcd-divides-left}
 use Rattle.algebra.specs.Gcd.{content-divides, content-pos, divideBy-getD, divideBy-le}
 use Rattle.rules.specs.Limits.{bound, small}
-use Rattle.lists.specs.Tested.{every, every-getD, every-join}
+use Rattle.lists.specs.Tests.{every, every-getD, every-join}
 use Rattle.lists.specs.Taken.{drop-next}
 use Rattle.rules.specs.Elimination.{turnSigns}
 use Rattle.integers.specs.Ranges.{ofZ-inj, ofZ-zero}

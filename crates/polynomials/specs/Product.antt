@@ -21,7 +21,7 @@ use Rattle.algebra.specs.Sums.{sumBelow, sumBelow-zeros, sumBelow-extend, natAb
 use Rattle.algebra.specs.Polynomials.{Polynomial, coeff, mul, isZero, isZero-coeff}
 use Rattle.algebra.specs.Coefficients.{coeff-mul, coeff-past-length}
 use Rattle.rules.specs.Limits.{bound, small}
-use Rattle.lists.specs.Tested.{every}
+use Rattle.lists.specs.Tests.{every}
 use Rattle.polynomials.specs.Content.{small-at}
 
 abbrev pub term : Polynomial → Polynomial → ℕ → ℕ → ℤ

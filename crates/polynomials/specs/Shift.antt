@@ -23,11 +23,10 @@ use lib.ListN.{length, getD}
 use Rattle.algebra.specs.Integers.{natAbs-*ℤ, -ℤ-zero}
 use Rattle.algebra.specs.Sums.{countFrom, sumBelow, getD-countFrom, sumBelow-last, sumBelow-zeros, sumBelow-extend, natAbs-sumBelow}
 use Rattle.algebra.specs.Polynomials.{Polynomial, coeff, shift, isZeroℤ, isZeroℤ-iff}
-use Rattle.lists.specs.Tests.{T-&&}
+use Rattle.lists.specs.Tests.{T-&&, every, every-getD}
 use Rattle.algebra.specs.Coefficients.{coeff-past-length}
 use Rattle.algebra.specs.Binomials.{binomial, binomial-above, binomial-le, coeff-shift, coeff-shift-size}
-use Rattle.rules.specs.Limits.{bound, coefficientCount, small}
-use Rattle.lists.specs.Tested.{every, every-getD}
+use Rattle.rules.specs.Limits.{bound, small, coefficientCount}
 
 pub small-coeff : (p : Polynomial) → T (every small p) → (i : ℕ) → natAbs (coeff p i) ≤ bound
 unfolding small coeff

@@ -12,7 +12,7 @@ ghost use Rattle.algebra.specs.Polynomials as Polynomials;
 ghost use Rattle.algebra.specs.Gcd as Gcd;
 ghost use Rattle.polynomials.specs.Content.{Below};
 ghost use Rattle.rules.specs.Limits.{small, coefficientCount};
-ghost use Rattle.lists.specs.Tested.{every};
+ghost use Rattle.lists.specs.Tests.{every};
 ghost use Rattle.rules.specs.Elimination as Elimination;
 
 // Stops at the first nonzero coefficient.

@@ -8,7 +8,7 @@ ghost use lib.ListN.{length};
 ghost use Rattle.algebra.specs.Binomials as Binomials;
 ghost use Rattle.algebra.specs.Polynomials.{coeff, shift};
 ghost use Rattle.rules.specs.Limits.{bound, small, coefficientCount};
-ghost use Rattle.lists.specs.Tested.{every};
+ghost use Rattle.lists.specs.Tests.{every};
 ghost use Rattle.polynomials.specs.Shift.{followsRule};
 
 // Pascal's triangle to row 15, a constant table (SCOPE 2.62, 8.7): row j, number k.

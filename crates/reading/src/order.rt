@@ -8,7 +8,7 @@ ghost use Rattle.rules.specs.Limits.{columnCount};
 ghost use Rattle.rules.specs.Numbers.{field};
 ghost use Rattle.rules.specs.Sheets.{readColumns, readOrder, judgeOrderCount, afterCount, always, contains, judgeOrder};
 ghost use Rattle.tokens.specs.Fields.{Answers};
-ghost use Rattle.reading.specs.Order.{takenOf};
+ghost use Rattle.reading.specs.OrderLine.{takenOf};
 ghost use Rattle.reading.specs.Terms.{padded};
 
 fn judge_order_count(m: usize, value: i64) -> u8

@@ -1,7 +1,7 @@
 pub mod Progress
-pub mod Bounds
+pub mod MultiplierSizes
 pub mod NewRows
-pub mod Exchange
+pub mod StoreExchange
 pub mod StepLaws
 pub mod StepCases
 pub mod RunLaws

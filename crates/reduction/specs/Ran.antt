@@ -25,7 +25,7 @@ use lib.ListN.{length, take, drop, replicate, length-append, length-drop, length
 use lib.Seq.{paste, take-all, take-at, drop-at, drop-drop, length-take-le}
 use Rattle.algebra.specs.Polynomials.{isZero, isZero-replicate, zero-list}
 use Rattle.rules.specs.Limits.{columnCount, relationLength, small}
-use Rattle.lists.specs.Tested.{every}
+use Rattle.lists.specs.Tests.{every}
 use Rattle.lists.specs.Taken.{drop-take}
 use Rattle.rules.specs.Stores.{rowsOf, relationsOf, rowNeed, relationNeed, rowStoreOf, relationStoreOf}
 use Rattle.rules.specs.Elimination.{Side, State, Outcome, going, done, refused, run, enough, start}

@@ -37,7 +37,7 @@ use Rattle.reduction.specs.declared.step.Progress.{Progress}
 use Rattle.reduction.specs.Progress.{Ready, Reached, state, stateOf, outcomeOf, answerOf, settledProgress, ready-with}
 use Rattle.sides.specs.StoreStates.{kept-same}
 use Rattle.reduction.specs.StepLaws.{metEntries}
-use Rattle.reduction.specs.Exchange.{numbersAt, narrowed, row-of, narrowed-within, narrowed-state, narrowed-one}
+use Rattle.reduction.specs.StoreExchange.{numbersAt, narrowed, row-of, narrowed-within, narrowed-state, narrowed-one}
 
 -- ---- what the searches in a row find
 

@@ -38,7 +38,7 @@ use Rattle.reduction.specs.Progress.{listedProgress, shiftedProgress, re
 use Rattle.sides.specs.StoreStates.{kept-same, kept-then}
 use Rattle.sides.specs.Relations.{Relisted, length-listing}
 use Rattle.reduction.specs.NewRows.{Storable, saved, saved-within, saved-kept, saved-outcome, shifted-storable}
-use Rattle.reduction.specs.Exchange.{numbersAt, length-numbersAt, row-of}
+use Rattle.reduction.specs.StoreExchange.{numbersAt, length-numbersAt, row-of}
 
 -- ---- what a step gives
 

@@ -12,14 +12,14 @@ ghost use lib.ListN.{length};
 ghost use Rattle.algebra.specs.Polynomials.{isZero};
 ghost use Rattle.rules.specs.Limits.{columnCount, rowLength, small};
 ghost use Rattle.rules.specs.Rows.{entry};
-ghost use Rattle.lists.specs.Tested.{every};
+ghost use Rattle.lists.specs.Tests.{every};
 ghost use Rattle.rules.specs.Elimination as Elimination;
 ghost use Rattle.rules.specs.Stores.{rowOf};
 ghost use Rattle.working.specs.Worked.{refusalOf, numbersOf};
 ghost use Rattle.sides.specs.Lent.{sideOf};
 ghost use Rattle.reduction.specs.Progress.{Ready, Reached, stateOf, answerOf, settledProgress, shiftedProgress};
 ghost use Rattle.reduction.specs.NewRows.{saved};
-ghost use Rattle.reduction.specs.Exchange.{narrowed};
+ghost use Rattle.reduction.specs.StoreExchange.{narrowed};
 ghost use Rattle.reduction.specs.StepLaws.{metEntries, shiftedRow};
 
 // How far a run has come: the settled rows with their columns, counted from 0, the relations listed and the shifts made.

@@ -45,13 +45,12 @@ use Rattle.algebra.specs.Integers.{ringℤ, natAbs-+ℤ, natAbs-*ℤ, negℤ-un
 use Rattle.algebra.specs.Division.{natAbs-quotZ, quotZ-le, quotZ-exact, remZ-multiple, quotZ-multiple}
 use Rattle.algebra.specs.Order.{<ℤ-to-≤ℤ}
 use Rattle.algebra.specs.Polynomials.{Polynomial, coeff, eval, isZero, lowest, degree, isZeroℤ}
-use Rattle.lists.specs.Tests.{same-test}
+use Rattle.lists.specs.Tests.{same-test, every}
 use Rattle.algebra.specs.Vanishing.{isZeroℤ-sound, isZeroℤ-complete, roots-at-most-degree, root-divides-lowest}
 use Rattle.algebra.specs.Vanishing.{nonzero-past-lowest}
 use Rattle.algebra.specs.Coefficients.{degree-isZero, coeff-degree, lowest-place}
 use Rattle.algebra.specs.Roots.{place, roots, ascending-distinct, roots-sound, roots-complete, roots-ascending}
 use Rattle.rules.specs.Limits.{bound, small}
-use Rattle.lists.specs.Tested.{every}
 use Rattle.rules.specs.Elimination.{Side, leading, trailing, further, furthest}
 use Rattle.rules.specs.Calls.{rootFound, rootValue}
 use Rattle.polynomials.specs.Content.{small-at}

@@ -9,7 +9,7 @@ ghost use lib.ListN.{length, getD, drop};
 ghost use Rattle.algebra.specs.Polynomials as Polynomials;
 ghost use Rattle.algebra.specs.Roots as Roots;
 ghost use Rattle.rules.specs.Limits.{bound, small};
-ghost use Rattle.lists.specs.Tested.{every};
+ghost use Rattle.lists.specs.Tests.{every};
 ghost use Rattle.rules.specs.Elimination.{leading, trailing, furthest};
 ghost use Rattle.roots.specs.Ascending.{insert};
 ghost use Rattle.roots.specs.Bound.{RootsBelow};

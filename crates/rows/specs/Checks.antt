@@ -16,10 +16,9 @@ use lib.Dec.{T, ltb, leb, ltb→lt, lt→ltb, leb→le, le→leb}
 use lib.IntN.{ℤ}
 use lib.ListN.{length, take, drop, getD}
 use Rattle.algebra.specs.Polynomials.{isZero, isZero-cons}
-use Rattle.lists.specs.Tests.{T-&&, true-of, false-of}
+use Rattle.lists.specs.Tests.{T-&&, true-of, false-of, every, every-from-at, every-from-all}
 use Rattle.rules.specs.Limits.{small, coefficientCount, columnCount, blockCount, polynomialCount, blockLength}
 use Rattle.rules.specs.Rows.{Block, zeroBlock, smallRow}
-use Rattle.lists.specs.Tested.{every, every-from-at, every-from-all}
 use Rattle.rules.specs.Stores.{rowOf, unusedZero}
 use Rattle.lists.specs.Parts.{parts, parts-length, getD-parts}
 use Rattle.rules.specs.Layout.{polynomial-at-row, coefficientsAt, blockAt, polynomialsIn}

@@ -21,7 +21,7 @@ use Rattle.algebra.specs.Polynomials.{Polynomial, isZero, isZeroℤ, isZero-app
 use Rattle.rules.specs.Limits.{small, coefficientCount, columnCount, blockCount, blockLength}
 use Rattle.rules.specs.Rows.{Row, zeroBlock, zeroRow, leadingBlock, entry, mapRow, combine, smallRow, coefficientsOf}
 use Rattle.lists.specs.Everywhere.{All}
-use Rattle.lists.specs.Tested.{every, every-flatten}
+use Rattle.lists.specs.Tests.{every, every-flatten}
 use Rattle.lists.specs.Images.{getD-map}
 use Rattle.rules.specs.Stores.{rowOf}
 use Rattle.lists.specs.Parts.{parts, parts-parts, parts-length, flatten-parts, getD-parts}

@@ -1,4 +1,4 @@
 pub mod Checks
 pub mod Flat
-pub mod Written
+pub mod OverZeros
 pub mod Validity

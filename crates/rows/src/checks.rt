@@ -9,7 +9,7 @@ ghost use lib.ListN.{length};
 ghost use Rattle.algebra.specs.Polynomials.{isZero};
 ghost use Rattle.rules.specs.Limits.{rowLength, small, coefficientCount};
 ghost use Rattle.rules.specs.Rows.{smallRow};
-ghost use Rattle.lists.specs.Tested.{every};
+ghost use Rattle.lists.specs.Tests.{every};
 ghost use Rattle.rules.specs.Stores.{rowOf, unusedZero};
 ghost use Rattle.rows.specs.Checks.{placeRight};
 

@@ -10,7 +10,7 @@ ghost use lib.IntN.{pos, negℤ, _-ℤ_};
 ghost use lib.Signed.{leZ};
 ghost use lib.ListN.{length, take, drop};
 ghost use Rattle.rules.specs.Limits.{relationLength, mostEquations};
-ghost use Rattle.lists.specs.Tested.{every};
+ghost use Rattle.lists.specs.Tests.{every};
 ghost use Rattle.rules.specs.Stores as Stores;
 ghost use Rattle.rows.specs.Validity.{sizesOf, relationTest};
 

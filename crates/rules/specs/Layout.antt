@@ -31,14 +31,13 @@ use lib.IntN.{ℤ, pos, negℤ, natAbs, _-ℤ_}
 use lib.Signed.{leZ-yes, _≤ℤ_}
 use Rattle.algebra.specs.Order.{≤ℤ-trans, ≤ℤ-difference, negℤ-≤ℤ, +ℤ-≤ℤ-left, natAbs-≤-iff}
 use Rattle.algebra.specs.Polynomials.{isZero, isZero-replicate, zero-list}
-use Rattle.lists.specs.Tests.{T-&&, cond-zero, cond-passed}
+use Rattle.lists.specs.Tests.{T-&&, cond-zero, cond-passed, every}
 use Rattle.lists.specs.Taken.{part-of-part}
 use Rattle.lists.specs.Parts.{parts-length, flatten-parts, parts-width, parts-short, parts-flatten, getD-parts, parts}
 use Rattle.lists.specs.Parts.{read-written, length-written, length-read, all-read, write-read}
 use Rattle.rules.specs.Limits.{coefficientCount, columnCount, blockCount, rowLength, relationLength, mostRelations, blockBound, mostSpan, polynomialCount, blockLength, mostEquations}
 use Rattle.rules.specs.Rows.{Block, Row, Relation, noRow, coefficientsOf}
 use Rattle.lists.specs.Everywhere.{All}
-use Rattle.lists.specs.Tested.{every}
 use Rattle.lists.specs.Images.{getD-map}
 use Rattle.lists.specs.Joined.{flatten-flatten, length-flatten}
 use Rattle.rules.specs.Stores.{Sizes, rowOf, rowsOf, relationOf, relationsOf, relationNumbers, rowStoreOf, relationStoreOf, equations}

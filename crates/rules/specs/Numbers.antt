@@ -15,7 +15,7 @@ use lib.ListN.{length, drop}
 use lib.IntN.{ℤ, pos, negsuc, negℤ}
 use lib.Signed.{leZ}
 use Rattle.rules.specs.Limits.{small}
-use Rattle.lists.specs.Tested.{every}
+use Rattle.lists.specs.Tests.{every}
 
 abbrev pub space : ℕ
 space = 32

@@ -19,7 +19,7 @@ use lib.ListN.{take, drop, getD}
 use lib.IntN.{ℤ, pos, negℤ}
 use Rattle.algebra.specs.Gcd.{content, divideBy}
 use Rattle.algebra.specs.Polynomials.{Polynomial, isZero, add, mul, shift, mirror}
-use Rattle.lists.specs.Tested.{every}
+use Rattle.lists.specs.Tests.{every}
 use Rattle.rules.specs.Limits.{coefficientCount, small}
 
 abbrev pub Block : Type 0

@@ -10,7 +10,7 @@ use lib.Dec.{leb, eqb}
 use lib.ListN.{length, take, drop, replicate}
 use lib.IntN.{ℤ, pos}
 use Rattle.rules.specs.Limits.{columnCount}
-use Rattle.lists.specs.Tested.{every}
+use Rattle.lists.specs.Tests.{every}
 use Rattle.rules.specs.Stores.{Sizes, rowsOf, relationsOf, rowStoreOf, relationStoreOf, sizesRight, countRight, lengthsRight, numbersRight, equations}
 use Rattle.lists.specs.Padded.{padTo}
 use Rattle.lists.specs.Overwritten.{overwrite}

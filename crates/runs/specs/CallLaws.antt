@@ -27,10 +27,9 @@ use lib.IntN.{ℤ, pos}
 use lib.Signed.{≤ℤ-refl}
 use lib.ListN.{length, take, getD, set, replicate, length-map}
 use lib.Seq.{take-suc, length-take-le}
-use Rattle.lists.specs.Tests.{T-&&}
-use Rattle.rules.specs.Limits.{mostEquations, relationLength, small}
+use Rattle.lists.specs.Tests.{T-&&, every, every-append}
+use Rattle.rules.specs.Limits.{relationLength, small, mostEquations}
 use Rattle.rules.specs.Rows.{Row, Relation, coefficientsOf, smallRow}
-use Rattle.lists.specs.Tested.{every, every-append}
 use Rattle.rules.specs.Elimination.{Side, State, Outcome, going, done, refused, wholeRun, report, neverNumber}
 use Rattle.rules.specs.Stores.{Sizes, equations, Valid, span, sizesRight, checkStores, rowsOf, relationsOf, rowNeed, relationNeed}
 use Rattle.rules.specs.Stores.{rowStoreOf, relationStoreOf, relationNumbers, unusedZero, rowRight, relationRight}

@@ -16,9 +16,8 @@ use lib.Dec.{T, eqb, eqb→eq, not-T}
 use lib.ListN.{length, take, drop}
 use lib.Seq.{length-take-le}
 use lib.IntN.{ℤ}
-use Rattle.lists.specs.Tests.{T-&&, cond-passed, cond-not, T-or}
+use Rattle.lists.specs.Tests.{T-&&, cond-passed, cond-not, T-or, every}
 use Rattle.rules.specs.Limits.{columnCount}
-use Rattle.lists.specs.Tested.{every}
 use Rattle.rules.specs.Stores.{Sizes, rowsOf, relationsOf, rowStoreOf, equations}
 use Rattle.rules.specs.Stores.{relationStoreOf}
 use Rattle.rules.specs.Layout.{SizeBounds, checkStores-zero, size-bounds, stores-valid, valid-stores, rowsOf-rowStoreOf}

@@ -1,5 +1,3 @@
-pub mod WrittenNumbers
-pub mod Exact
 pub mod WrittenTerms
 pub mod Trimmed
 pub mod RowBlocks

@@ -17,12 +17,11 @@ use Rattle.algebra.specs.Order.{≤ℤ-trans, ≤ℤ-intro, pos-≤ℤ, <ℤ-su
 use Rattle.algebra.specs.Polynomials.{Polynomial, isZero}
 use Rattle.rules.specs.Rows.{Block, zeroBlock}
 use Rattle.lists.specs.Everywhere.{All}
-use Rattle.lists.specs.Tested.{every, every-getD, every-cons}
+use Rattle.lists.specs.Tests.{every, every-getD, every-cons, T-or-left, or-right, or-imply}
 use Rattle.rules.specs.Stores.{Sizes, span}
 use Rattle.rules.specs.Layout.{SizeBounds}
 use Rattle.rules.specs.Sheets.{Term, trim, blockTerms, termsFrom}
 use Rattle.writing.specs.Writer.{trim-le}
-use Rattle.lists.specs.Tests.{T-or-left, or-right, or-imply}
 use Rattle.sheets.specs.WrittenTerms.{TermRight, Ordered, judgeBlock-iff, judgeColumn-iff}
 use Rattle.sheets.specs.Trimmed.{zero-or-not, trim-some, Sound-trim}
 use Rattle.sheets.specs.RowBlocks.{StorePolynomial, BlockRight, RowRight}

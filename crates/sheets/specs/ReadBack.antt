@@ -25,9 +25,9 @@ use Rattle.rules.specs.Layout.{SizeBounds, size-bounds, countRight-iff, equatio
 use Rattle.rules.specs.Numbers.{newline, decimal, line, lines, Read, got, fault, thenRead, field, between}
 use Rattle.rules.specs.Sheets.{Sheet, always, readSizes, readEquations, readRelations, readOrder, readEnd, readSheet, equationNumbers}
 use Rattle.rules.specs.Sheets.{relationLine, orderLine, writeSheet}
-use Rattle.sheets.specs.Exact.{Exact, got-inj, fault-got, then-got, nothing-exact, then-exact, same-exact}
+use Rattle.tokens.specs.Exact.{Exact, got-inj, fault-got, got-in-two, nothing-exact, then-exact, same-exact}
 use Rattle.sheets.specs.WrittenTerms.{between-iff, between-exact, most, always-newline}
-use Rattle.lists.specs.Tested.{every-all}
+use Rattle.lists.specs.Tests.{every-all}
 use Rattle.sheets.specs.WrittenSections.{just, sizes-exact, EquationRight, equations-exact, RelationGood, relations-exact}
 use Rattle.sheets.specs.WrittenOrder.{OrderRight, order-exact}
 
@@ -243,7 +243,7 @@ read-written z rows relations order v h =
 pub read-right : (bytes : List ℕ) (x : Sheet) (rest : List ℕ) → readSheet bytes ≡ got x rest
     → SheetRight x × (writeSheet x ≡ bytes) × (rest ≡ [])
 read-right bytes x rest e =
-    let (y, more, d, f) = then-got (readSections bytes) readEnd x rest (sym (readSheet-sections bytes) ∙ e) in
+    let (y, more, d, f) = got-in-two (readSections bytes) readEnd x rest (sym (readSheet-sections bytes) ∙ e) in
     let g = readEnd-got y x more rest f in
     let h = sections-exact .written-read bytes y more d in (
       subst SheetRight (g .0) (h .0),

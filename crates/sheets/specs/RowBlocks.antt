@@ -13,11 +13,10 @@ use mathlib.Core.List.{List, flatten}
 use lib.Dec.{T}
 use lib.ListN.{length, drop}
 use Rattle.algebra.specs.Polynomials.{Polynomial}
-use Rattle.lists.specs.Tests.{T-&&}
+use Rattle.lists.specs.Tests.{T-&&, every, every-all, every-flatten}
 use Rattle.rules.specs.Limits.{coefficientCount, columnCount, blockCount, small}
 use Rattle.rules.specs.Rows.{Block, Row, zeroBlock, coefficientsOf, smallRow}
 use Rattle.lists.specs.Everywhere.{All, all-mono, all-both}
-use Rattle.lists.specs.Tested.{every, every-all, every-flatten}
 use Rattle.rules.specs.Stores.{Sizes, span, unusedZero, rowRight, Shaped, StoreRow}
 
 -- ---- the rows of a system, block by block

@@ -27,16 +27,14 @@ use Rattle.algebra.specs.Order.{pos-<ℤ}
 use Rattle.algebra.specs.Polynomials.{Polynomial, isZero}
 use Rattle.rules.specs.Limits.{coefficientCount, columnCount, blockCount, small}
 use Rattle.rules.specs.Rows.{Block, Row, zeroBlock}
-use Rattle.lists.specs.Everywhere.{All, all-set, all-getD}
-use Rattle.lists.specs.Tested.{every, every-drop}
-use Rattle.lists.specs.Tests.{cond-passed, cond-not}
+use Rattle.lists.specs.Everywhere.{All, all-set, all-getD, all-replicate}
+use Rattle.lists.specs.Tests.{every, every-drop, cond-passed, cond-not}
 use Rattle.rules.specs.Stores.{Sizes, span, Shaped, StoreRow}
 use Rattle.rules.specs.Layout.{SizeBounds, block-place}
-use Rattle.lists.specs.Padded.{length-padTo, padTo}
+use Rattle.lists.specs.Padded.{length-padTo, padTo, getD-replicate-each, replicate-snoc}
 use Rattle.rules.specs.Sheets.{Term, trim, blankRow, rowOfTerms, blockTerms, termsFrom}
 use Rattle.writing.specs.Writer.{trim-none}
 use Rattle.sheets.specs.RowBlocks.{StorePolynomial, BlockRight, StoreBlock, RowRight}
-use Rattle.lists.specs.Repeated.{all-replicate, getD-replicate-each, replicate-snoc}
 use Rattle.sheets.specs.WrittenTerms.{TermRight, Ordered, judgeBlock-iff, judgeColumn-iff}
 use Rattle.sheets.specs.Trimmed.{zero-or-not, padTo-trim, trim-padTo, padTo-nonzero, small-padTo}
 

@@ -14,11 +14,10 @@ use lib.ListN.{length}
 use lib.IntN.{ℤ, pos}
 use Rattle.algebra.specs.Polynomials.{Polynomial, isZero, isZeroℤ, isZero-cons, isZeroℤ-not-iff}
 use Rattle.rules.specs.Limits.{small}
-use Rattle.lists.specs.Tested.{every, every-cons}
+use Rattle.lists.specs.Tests.{every, every-cons, cond-not}
 use Rattle.lists.specs.Padded.{padTo}
 use Rattle.rules.specs.Sheets.{trim}
 use Rattle.writing.specs.Writer.{trim-none}
-use Rattle.lists.specs.Tests.{cond-not}
 use Rattle.sheets.specs.WrittenTerms.{Sound, coefficientJudge, judgeLast-iff, judgeSmall-iff}
 
 trim-nonzero : (a : ℤ) (p : Polynomial) → T (not (isZero (a ∷ p))) → trim (a ∷ p) ≡ a ∷ trim p

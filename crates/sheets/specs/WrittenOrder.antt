@@ -26,7 +26,7 @@ use Rattle.lists.specs.Everywhere.{All}
 use Rattle.rules.specs.Numbers.{newline, line, got, thenRead, field}
 use Rattle.rules.specs.Sheets.{always, parting, afterCount, contains, judgeOrder, readColumns, judgeOrderCount, readOrder, orderLine}
 use Rattle.rules.specs.SheetCalls.{differentColumns}
-use Rattle.sheets.specs.Exact.{Exact, field-exact, then-exact, same-exact, Chain, chain-exact}
+use Rattle.tokens.specs.Exact.{Exact, field-exact, then-exact, same-exact, Chain, chain-exact}
 use Rattle.sheets.specs.WrittenTerms.{range-digits, positive-pos, newline-separator, parting-separator, parted}
 use Rattle.sheets.specs.WrittenTerms.{line-parted, chainBytes-parted}
 use Rattle.sheets.specs.WrittenSections.{counted, count-parted, afterCount-separator}

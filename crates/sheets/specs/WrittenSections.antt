@@ -29,7 +29,7 @@ use Rattle.rules.specs.Layout.{SizeBounds, size-bounds}
 use Rattle.rules.specs.Numbers.{space, newline, isSeparator, decimal, line, between, judgeSmall}
 use Rattle.rules.specs.Sheets.{Term, always, afterCount, parting, rowOfTerms, readEquation, readEquations, readRelation, readRelations}
 use Rattle.rules.specs.Sheets.{judgeLowest, readSizes, termsFrom, termNumbers, equationNumbers, relationLine}
-use Rattle.sheets.specs.Exact.{Exact, field-exact, nothing-exact, then-exact, same-exact, many-exact}
+use Rattle.tokens.specs.Exact.{Exact, field-exact, nothing-exact, then-exact, same-exact, many-exact}
 use Rattle.sheets.specs.WrittenTerms.{between-iff, judgeSmall-iff, small-digits, range-digits, between-exact}
 use Rattle.sheets.specs.WrittenTerms.{positive-pos, always-space, always-newline, parted, line-parted, spaced, Ordered}
 use Rattle.sheets.specs.WrittenTerms.{parting-terms, terms-exact}

@@ -29,7 +29,7 @@ use Rattle.rules.specs.Layout.{SizeBounds}
 use Rattle.rules.specs.Numbers.{space, newline, isSeparator, decimal, line, got, thenRead, field, between, judgeSmall}
 use Rattle.rules.specs.Sheets.{Term, always, parting, judgeLast, readCoefficients, judgeBlock, judgeColumn, readTerm, readTerms}
 use Rattle.rules.specs.Sheets.{termNumbers}
-use Rattle.sheets.specs.Exact.{Exact, field-exact, nothing-exact, then-exact, same-exact, Chain, chainBytes, chain-exact}
+use Rattle.tokens.specs.Exact.{Exact, field-exact, nothing-exact, then-exact, same-exact, Chain, chainBytes, chain-exact}
 
 -- ---- judgements
 

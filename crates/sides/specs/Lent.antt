@@ -13,7 +13,7 @@ use lib.IntN.{ℤ}
 use lib.ListN.{length, take, drop}
 use Rattle.algebra.specs.Polynomials.{isZero}
 use Rattle.rules.specs.Limits.{small, relationLength, mostRelations}
-use Rattle.lists.specs.Tested.{every}
+use Rattle.lists.specs.Tests.{every}
 use Rattle.rules.specs.Elimination.{Side, leading, trailing}
 use Rattle.rules.specs.Stores.{relationNeed}
 use Rattle.sides.specs.declared.Side as declared

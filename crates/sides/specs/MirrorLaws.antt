@@ -22,11 +22,10 @@ use lib.ListN.{length, take, drop, getD, set, length-drop}
 use lib.Seq.{paste, length-take-le, take-take, drop-drop}
 use Rattle.algebra.specs.Integers.{natAbs-negℤ}
 use Rattle.algebra.specs.Polynomials.{isZero}
-use Rattle.lists.specs.Tests.{T-&&}
+use Rattle.lists.specs.Tests.{T-&&, every, every-append, every-part}
 use Rattle.rules.specs.Limits.{bound, rowLength, relationLength, small}
 use Rattle.rules.specs.Rows.{coefficientsOf, smallRow, mirrorRow, mirrorRelation}
 use Rattle.lists.specs.Everywhere.{All}
-use Rattle.lists.specs.Tested.{every, every-append, every-part}
 use Rattle.lists.specs.Taken.{drop-take, first-and-rest, rest-of, rest-past}
 use Rattle.rules.specs.Stores.{rowOf, rowsOf, relationOf, relationsOf, relationNumbers, rowNeed, relationNeed}
 use Rattle.lists.specs.Parts.{parts, parts-length, parts-width, getD-parts}

@@ -19,10 +19,9 @@ use lib.Dec.{T, le→leb}
 use lib.IntN.{ℤ, pos, natAbs}
 use lib.ListN.{length, take, getD, length-append, length-reverse}
 use lib.Seq.{paste, take-suc, getD-take, length-take-le}
-use Rattle.lists.specs.Tests.{T-&&}
+use Rattle.lists.specs.Tests.{T-&&, every, every-reverse}
 use Rattle.rules.specs.Limits.{bound, rowLength, relationLength, small}
 use Rattle.rules.specs.Rows.{Row, Relation}
-use Rattle.lists.specs.Tested.{every, every-reverse}
 use Rattle.lists.specs.Images.{getD-reverse}
 use Rattle.rules.specs.Elimination.{Side, leading, trailing, listing}
 use Rattle.rules.specs.Stores.{rowOf, relationOf, relationsOf, relationNeed}

@@ -24,13 +24,12 @@ use lib.ListN.{length, take, drop, getD}
 use lib.Seq.{take-suc, take-all, length-take-le, getD-take}
 use lib.Signed.{_≤ℤ_, leZ, leZ-yes}
 use Rattle.algebra.specs.Polynomials.{Polynomial}
-use Rattle.lists.specs.Tests.{same-test}
+use Rattle.lists.specs.Tests.{same-test, every}
 use Rattle.algebra.specs.Roots.{roots}
 use Rattle.algebra.specs.Order.{≤ℤ-trans, ≤ℤ-total}
 use Rattle.rules.specs.Elimination.{Side, leading, trailing, State, diagonal, diagonalPlace, further, furthest, report}
 use Rattle.rules.specs.Limits.{coefficientCount, columnCount, mostSpan, blockCount, polynomialCount, blockLength, rowLength, small}
 use Rattle.rules.specs.Rows.{Row, noRow}
-use Rattle.lists.specs.Tested.{every}
 use Rattle.rules.specs.Stores.{rowsOf, rowNeed}
 use Rattle.lists.specs.Images.{length-zipWith, getD-zipWith}
 use Rattle.rules.specs.Layout.{length-rowsOf, polynomial-at}

@@ -19,7 +19,7 @@ use lib.Seq.{paste, drop-paste, length-take-le, drop-drop}
 use lib.Seq.{length-paste}
 use Rattle.algebra.specs.Polynomials.{isZero, isZeroℤ}
 use Rattle.rules.specs.Limits.{rowLength, relationLength, small}
-use Rattle.lists.specs.Tested.{every, every-drop, every-part}
+use Rattle.lists.specs.Tests.{every, every-drop, every-part}
 use Rattle.lists.specs.Images.{map-set}
 use Rattle.rules.specs.Stores.{rowOf, rowsOf, relationOf, relationsOf, relationNeed}
 use Rattle.lists.specs.Parts.{parts, getD-parts, parts-take}

@@ -10,7 +10,7 @@ ghost use lib.IntN.{pos};
 ghost use lib.ListN.{length, getD};
 ghost use lib.Seq.{paste};
 ghost use Rattle.rules.specs.Limits.{relationLength, small};
-ghost use Rattle.lists.specs.Tested.{every};
+ghost use Rattle.lists.specs.Tests.{every};
 ghost use Rattle.rules.specs.Elimination.{listing};
 ghost use Rattle.roots.specs.RootSearch.{held};
 ghost use Rattle.sides.specs.Lent.{sideOf, Listing};

@@ -21,13 +21,13 @@ use Rattle.lists.specs.Everywhere.{All, all-mono, all-getD}
 use Rattle.rules.specs.Elimination.{leading, trailing, State, rowAt, mirrorState, diagonalPlace, diagonal, report}
 use Rattle.rules.specs.Stores.{Sizes, equations, span, unusedZero, rowRight, Valid}
 use Rattle.rules.specs.Sequences.{Sequence, SatisfiesEquation, Satisfies, Same}
-use Rattle.lists.specs.Tested.{every-all}
+use Rattle.lists.specs.Tests.{every-all}
 use Rattle.theory.specs.Steps.{current}
 use Rattle.theory.specs.Triangular.{Triangular}
 use Rattle.theory.specs.Pivots.{ColumnsBelow, column-below, order-complete}
 use Rattle.theory.specs.Cells.{entry-cell, unused-cells}
 use mathlib.Core.Logic.{inl}
-use Rattle.theory.specs.Limits.{rowRight-iff}
+use Rattle.theory.specs.LimitsKept.{rowRight-iff}
 use Rattle.theory.specs.BackSubstitution.{TriangularRows, NonzeroAt, SameBetween, agreement}
 use Rattle.theory.specs.Report.{Past, NonzeroDiagonal, diagonalEntry, diagonal-member, nonzero-diagonal, past-report}
 use Rattle.theory.specs.Mirror.{Reaches, Spans, reflect, mirror-diagonal, mirror-span-sum, mirror-satisfies-back}

@@ -32,10 +32,9 @@ use lib.IntN.{pos}
 use lib.ListN.{length, getD, set, take, drop, length-reverse, List·getD-map, List·getD-eq-default}
 use lib.Seq.{getD-drop, getD-append-add, length-take-le, length-front}
 use Rattle.algebra.specs.Polynomials.{Polynomial, isZero, mirror, isZero-mirror, isZero-cons}
-use Rattle.lists.specs.Tests.{T-&&, true-of}
+use Rattle.lists.specs.Tests.{T-&&, true-of, every, all-of-every, every-of-all}
 use Rattle.rules.specs.Rows.{Block, Row, noRow, mapRow, zeroBlock, zeroRow, widthOf, width, entry, blank, mirrorRow}
 use Rattle.lists.specs.Everywhere.{All, all-mono, all-getD-default, getD-all}
-use Rattle.lists.specs.Tested.{every, all-of-every, every-of-all}
 use Rattle.lists.specs.Images.{map-same}
 use Rattle.rules.specs.Stores.{unusedZero}
 

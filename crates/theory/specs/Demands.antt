@@ -26,8 +26,7 @@ use Rattle.rules.specs.Elimination.{Side, leading, trailing, State, Outcome, go
 use Rattle.rules.specs.Elimination.{wholeRun, leadingRun, trailingRun, mirrorState, diagonal, report, rowAt, putRow, limitDegrees, within}
 use Rattle.rules.specs.Stores.{Sizes, equations, span, rowRight, Valid}
 use Rattle.rules.specs.Sequences.{Sequence, Satisfies, Same, Dependent}
-use Rattle.lists.specs.Tested.{every-all}
-use Rattle.lists.specs.Tests.{cond-passed}
+use Rattle.lists.specs.Tests.{every-all, cond-passed}
 use Rattle.theory.specs.Steps.{current, met, MetZeroBelow, combination, listed, Chain, Refusal, run-refused, step-refused}
 use Rattle.theory.specs.Cells.{width-unused}
 use Rattle.theory.specs.Ending.{wholeRun-ends, wholeRun-shifts, mirrorOutcome-refused}
@@ -35,7 +34,7 @@ use Rattle.theory.specs.Report.{Past, Rootless, FurthestRoot, report-non
 use Rattle.theory.specs.Solutions.{run-solutions}
 use Rattle.theory.specs.Triangular.{triangular-start, triangular-chain, combined-advances}
 use Rattle.theory.specs.Dependence.{chain-dependent, settled-independent, refused-dependent as run-dependent}
-use Rattle.theory.specs.Limits.{rowRight-iff}
+use Rattle.theory.specs.LimitsKept.{rowRight-iff}
 use Rattle.theory.specs.Mirror.{span-sum}
 use Rattle.theory.specs.Agreement.{leading-agreement}
 use Rattle.theory.specs.Trailing.{valid-shapes, mirrored-sequences, diagonal-back, valid-back, independent-back, agrees-back}

@@ -24,7 +24,7 @@ use Rattle.theory.specs.Steps.{current, exchanged, multipliersFor, liste
 use Rattle.theory.specs.Steps.{here, next, Narrowed, kept, swapped, narrowed, length-narrowFirst, limitCoefficients-within}
 use Rattle.theory.specs.Steps.{step-refused-6, run-refused, run-done}
 use Rattle.theory.specs.Triangular.{Triangular, triangular-chain, multipliersFor-nonzero}
-use Rattle.theory.specs.Limits.{StateShaped, chain-shapes}
+use Rattle.theory.specs.LimitsKept.{StateShaped, chain-shapes}
 use Rattle.theory.specs.Solutions.{combined-value, shifted-zeros}
 use Rattle.theory.specs.Independence.{triangular-independent}
 use Rattle.theory.specs.Exchange.{exchange-dependent}

@@ -17,7 +17,7 @@ pub mod DropZero
 pub mod Multipliers
 pub mod Steps
 pub mod Triangular
-pub mod Limits
+pub mod LimitsKept
 pub mod Ending
 pub mod Solutions
 pub mod Dependence

@@ -35,7 +35,7 @@ use Rattle.algebra.specs.Polynomials.{Polynomial, eval, isZero, negate, mirror,
 use Rattle.rules.specs.Limits.{bound, coefficientCount, columnCount, blockCount, small}
 use Rattle.rules.specs.Rows.{Block, Row, Relation, noRow, mapRow, smallRow, zeroBlock, leadingBlock, entry, mirrorRow}
 use Rattle.lists.specs.Everywhere.{All, all-always, all-mono, all-both, all-take, all-drop, append-all, reverse-all, all-getD, map-keeps}
-use Rattle.lists.specs.Tested.{every, every-all}
+use Rattle.lists.specs.Tests.{every, every-all}
 use Rattle.rules.specs.Rows.{mirrorRelation}
 use Rattle.rules.specs.Elimination.{leading, trailing, State, mirrorState, diagonalPlace, diagonal}
 use Rattle.rules.specs.Stores.{Sizes, equations, span, sizesRight, countRight, unusedZero, rowRight, relationRight, Shaped, StoreRow, Valid}
@@ -47,7 +47,7 @@ use Rattle.lists.specs.Images.{map-back, map-take, map-drop, map-reverse}
 use Rattle.theory.specs.Shapes.{mirrorRow-shaped}
 use Rattle.theory.specs.Values.{blocks-always, blocks-append-zero, index-below}
 use Rattle.theory.specs.Cells.{mapRow-zero, unusedZero-iff, unused-kept}
-use Rattle.theory.specs.Limits.{Small, smallRow-iff, rowRight-iff, relationRight-iff}
+use Rattle.theory.specs.LimitsKept.{Small, smallRow-iff, rowRight-iff, relationRight-iff}
 use Rattle.theory.specs.BackSubstitution.{move-right}
 use Rattle.theory.specs.Combinations.{sumWithin, sumWithin-below, cancel-common, Values, copies, combinationValue, DependentValues}
 use Rattle.theory.specs.ByValues.{rowValues, dependent-values}

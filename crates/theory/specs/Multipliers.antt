@@ -28,7 +28,7 @@ use Rattle.algebra.specs.Gcd.{dividesAll-of-content, length-divideBy, eval-divi
 use Rattle.algebra.specs.Polynomials.{Polynomial, isZero, negate, lead, eval, eval-negate, isZero-negate, isZero-append, length-negate}
 use Rattle.algebra.specs.Coefficients.{lead-nonzero}
 use Rattle.rules.specs.Limits.{small, bound}
-use Rattle.lists.specs.Tested.{every}
+use Rattle.lists.specs.Tests.{every}
 use Rattle.rules.specs.Elimination.{Multipliers, turnSigns, multipliers}
 
 -- ---- the signs

@@ -23,7 +23,7 @@ use Rattle.algebra.specs.Polynomials.{Polynomial, coeff, eval, isZero, isZero-a
 use Rattle.rules.specs.Limits.{coefficientCount}
 use Rattle.rules.specs.Rows.{Block, Row, mapRow, coefficientsOf, primitive, lowDegrees, cut}
 use Rattle.lists.specs.Everywhere.{All, all-mono, all-all-mono, all-always, all-getD-default, getD-all, all-of-flatten}
-use Rattle.lists.specs.Tested.{every, all-of-every}
+use Rattle.lists.specs.Tests.{every, all-of-every}
 use Rattle.lists.specs.Images.{map-same}
 use Rattle.rules.specs.Stores.{Shaped}
 use Rattle.rules.specs.Sequences.{Sequence, valueOf}

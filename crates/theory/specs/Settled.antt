@@ -25,7 +25,7 @@ use Rattle.rules.specs.Stores.{Sizes, span, Valid, equations}
 use Rattle.theory.specs.Steps.{current, Chain, run-done}
 use Rattle.theory.specs.Triangular.{Triangular, triangular-start, triangular-chain}
 use Rattle.theory.specs.Pivots.{order-distinct}
-use Rattle.theory.specs.Limits.{valid-kept}
+use Rattle.theory.specs.LimitsKept.{valid-kept}
 use Rattle.theory.specs.Ending.{mirrorOutcome-done}
 use Rattle.theory.specs.BackSubstitution.{TriangularRows}
 use Rattle.theory.specs.Agreement.{settled-column, every-column, triangular-rows}

@@ -27,10 +27,9 @@ use lib.Dec.{T}
 use lib.ListN.{length, getD, set, length-set, length-append}
 use lib.IntN.{ℤ, pos, negsuc, predℤ, _+ℤ_, _-ℤ_, +ℤ-idl, predℤ-+ℤ, +ℤ-negℤ-cancel, -ℤ-one}
 use Rattle.algebra.specs.Polynomials.{Polynomial, isZero, shift, shiftBy, eval-shiftBy, isZero-shiftBy, length-shiftBy, shiftBy-inverse}
-use Rattle.lists.specs.Tests.{T-&&}
+use Rattle.lists.specs.Tests.{T-&&, every, all-of-every, every-of-all}
 use Rattle.rules.specs.Rows.{Block, Row, Relation, noRow, mapRow, zeroBlock, width, leadingBlock, entry, blank, shiftUp}
 use Rattle.lists.specs.Everywhere.{All, all-always, map-keeps, all-front, all-back}
-use Rattle.lists.specs.Tested.{every, all-of-every, every-of-all}
 use Rattle.lists.specs.Images.{map-back}
 use Rattle.rules.specs.Stores.{Shaped, unusedZero}
 use Rattle.rules.specs.Sequences.{Sequence, blocksValue, valueOf, Satisfies, Dependent}

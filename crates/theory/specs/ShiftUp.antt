@@ -18,10 +18,9 @@ use lib.Dec.{T}
 use lib.ListN.{length, getD, set, length-append}
 use lib.IntN.{ℤ, pos, predℤ, _+ℤ_, +ℤ-idl, +ℤ-one, sucℤ-+ℤ, pred-suc}
 use Rattle.algebra.specs.Polynomials.{isZero, shift, eval-shift, isZero-shift, length-shift}
-use Rattle.lists.specs.Tests.{T-&&}
+use Rattle.lists.specs.Tests.{T-&&, every}
 use Rattle.rules.specs.Rows.{Block, Row, Relation, noRow, zeroBlock, width, leadingBlock, entry, blank, shiftUp}
 use Rattle.lists.specs.Everywhere.{All, append-all}
-use Rattle.lists.specs.Tested.{every}
 use Rattle.rules.specs.Stores.{Shaped, unusedZero}
 use Rattle.rules.specs.Sequences.{Sequence, blocksValue, valueOf, Satisfies, Dependent}
 use Rattle.theory.specs.Cells.{blank-zero, cell, entry-cell, cell-mapRow, append-zero, width-moved, totalWidth, totalWidth-set}

@@ -30,7 +30,7 @@ use Rattle.theory.specs.Exchange.{exchange-satisfied}
 use Rattle.theory.specs.Combine.{shaped-same, Combines, combinedRow-values, combine-satisfied}
 use Rattle.theory.specs.ShiftUp.{shiftUp-satisfied}
 use Rattle.theory.specs.Triangular.{Triangular, triangular-start, triangular-chain, multipliersFor-nonzero}
-use Rattle.theory.specs.Limits.{StateShaped, chain-shapes, current-shaped, pivot-shaped}
+use Rattle.theory.specs.LimitsKept.{StateShaped, chain-shapes, current-shaped, pivot-shaped}
 
 -- ---- one step
 

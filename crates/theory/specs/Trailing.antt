@@ -19,7 +19,7 @@ use Rattle.rules.specs.Elimination.{leading, trailing, State, start, refused, r
 use Rattle.rules.specs.Stores.{Sizes, equations, span, Valid}
 use Rattle.rules.specs.Sequences.{Sequence, Satisfies, Same, Dependent}
 use Rattle.theory.specs.Triangular.{triangular-start}
-use Rattle.theory.specs.Limits.{StateShaped}
+use Rattle.theory.specs.LimitsKept.{StateShaped}
 use Rattle.theory.specs.Solutions.{run-solutions}
 use Rattle.theory.specs.Dependence.{chain-dependent, settled-independent, refused-dependent}
 use Rattle.theory.specs.Ending.{mirrorOutcome-refused}

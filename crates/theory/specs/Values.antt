@@ -22,11 +22,10 @@ use lib.IntN.{ℤ, pos, negsuc, negℤ, natAbs, predℤ, _+ℤ_, _-ℤ_, _*ℤ_,
 use lib.IntN.{zero-*ℤ}
 use Rattle.algebra.specs.Integers.{ringℤ, one-*ℤ, *ℤ-+ℤ, -ℤ-zero}
 use Rattle.algebra.specs.Polynomials.{Polynomial, eval, isZero, isZeroℤ, eval-isZero, isZeroℤ-iff}
-use Rattle.lists.specs.Tests.{T-&&, cond-passed, cond-failed}
+use Rattle.lists.specs.Tests.{T-&&, cond-passed, cond-failed, every, all-of-every}
 use Rattle.algebra.specs.Sums.{sumOver, countFrom, sumBelow, sumBelow-front, sumBelow-congr, sumBelow-zeros}
 use Rattle.rules.specs.Rows.{Block, Row, mapRow, zeroBlock, zeroRow}
 use Rattle.lists.specs.Everywhere.{All, all-all-mono, all-always}
-use Rattle.lists.specs.Tested.{every, all-of-every}
 use Rattle.rules.specs.Stores.{unusedZero}
 use Rattle.rules.specs.Sequences.{Sequence, blockValue, blocksValue, valueOf, Same, blockFrom, polynomialAt}
 use Rattle.theory.specs.Cells.{zeroBlock-all}

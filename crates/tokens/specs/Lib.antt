@@ -1,2 +1,4 @@
 pub mod Tokens
 pub mod Fields
+pub mod WrittenNumbers
+pub mod Exact

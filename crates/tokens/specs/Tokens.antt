@@ -25,9 +25,8 @@ use lib.Seq.{slice, slice-empty, slice-cons, length-slice, drop-cons, drop-lengt
 use lib.Dec.{T, eqb, leb, ltb, leb→le, lit<}
 use borrow.Author.Tests.{lt-ltb, le-ltb, eq-eqb, ne-eqb, lt-leb, le-leb}
 use native.Mathlib.Decide.{ℕ-discrete}
-use Rattle.lists.specs.Tests.{T-&&}
+use Rattle.lists.specs.Tests.{T-&&, every, every-append}
 use lib.IntN.{ℤ, pos, negℤ}
-use Rattle.lists.specs.Tested.{every, every-append}
 use Rattle.rules.specs.Numbers.{minus, isSeparator, word, afterWord, isDigit, signed, digits, startsRight, beginsNumber, isNumber, valueFrom, numberOf, Read, got, fault}
 use Rattle.tokens.specs.declared.Token.{Token}
 use Rattle.tokens.specs.declared.Token.the-variants.{Number, NoNumber}

@@ -24,11 +24,10 @@ use lib.IntN.{ℤ, pos}
 use lib.ListN.{length, take, drop, getD, length-map, List·getD-map}
 use lib.Seq.{take-add, length-take-le, getD-take, getD-drop}
 use Rattle.algebra.specs.Polynomials.{Polynomial, isZeroℤ, isZero, isZero-append}
-use Rattle.lists.specs.Tests.{both-true}
+use Rattle.lists.specs.Tests.{both-true, every, every-longer}
 use Rattle.polynomials.specs.Content.{isZero-false}
 use Rattle.rules.specs.Rows.{Block, Row, zeroBlock, widthOf, leadingBlock, entry, firstNonzero}
 use Rattle.lists.specs.Everywhere.{All}
-use Rattle.lists.specs.Tested.{every, every-longer}
 use Rattle.lists.specs.Places.{getD-default}
 use Rattle.rules.specs.Stores.{rowOf}
 use Rattle.lists.specs.Parts.{parts, take-parts, parts-length, getD-parts, parts-take}

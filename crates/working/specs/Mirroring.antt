@@ -28,7 +28,7 @@ use Rattle.algebra.specs.Coefficients.{alternate, coeff-mirror}
 use Rattle.rules.specs.Limits.{rowLength, small, coefficientCount, columnCount, mostSpan, blockCount, blockLength}
 use Rattle.rules.specs.Rows.{Block, Row, coefficientsOf, mapRow, smallRow, mirrorRow}
 use Rattle.lists.specs.Everywhere.{All, all-getD, getD-all, map-keeps}
-use Rattle.lists.specs.Tested.{every, every-from-at, every-from-all}
+use Rattle.lists.specs.Tests.{every, every-from-at, every-from-all}
 use Rattle.rules.specs.Stores.{rowOf, Shaped, StoreRow}
 use Rattle.rules.specs.Layout.{StoreRow-rowOf, polynomial-at-row, rowOf-coefficientsOf, length-coefficientsOf}
 use Rattle.rows.specs.Flat.{length-blocks}

@@ -22,7 +22,7 @@ use lib.ListN.{length, replicate}
 use Rattle.rules.specs.Limits.{rowLength, small, coefficientCount, columnCount, blockCount}
 use Rattle.rules.specs.Rows.{Block, Row, coefficientsOf, smallRow}
 use Rattle.lists.specs.Everywhere.{All}
-use Rattle.lists.specs.Tested.{every}
+use Rattle.lists.specs.Tests.{every}
 use Rattle.rules.specs.Stores.{rowOf, Shaped, StoreRow}
 use Rattle.rules.specs.Layout.{rowOf-coefficientsOf, length-coefficientsOf}
 use Rattle.rows.specs.Flat.{polynomialsOf}

@@ -9,7 +9,7 @@ ghost use lib.IntN.{natAbs};
 ghost use Rattle.algebra.specs.Coefficients.{alternate};
 ghost use Rattle.rules.specs.Limits.{small, mostSpan};
 ghost use Rattle.rules.specs.Rows.{coefficientsOf, mirrorRow};
-ghost use Rattle.lists.specs.Tested.{every};
+ghost use Rattle.lists.specs.Tests.{every};
 ghost use Rattle.rules.specs.Stores.{rowOf};
 ghost use Rattle.working.specs.Mirroring.{mirrorBlock};
 

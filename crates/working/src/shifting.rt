@@ -11,7 +11,7 @@ ghost use lib.ListN.{length};
 ghost use Rattle.algebra.specs.Polynomials.{shift};
 ghost use Rattle.rules.specs.Limits.{rowLength, small, coefficientCount};
 ghost use Rattle.rules.specs.Rows.{shiftUp, coefficientsOf};
-ghost use Rattle.lists.specs.Tested.{every};
+ghost use Rattle.lists.specs.Tests.{every};
 ghost use Rattle.rules.specs.Stores.{rowOf};
 ghost use Rattle.rules.specs.Elimination.{limitCoefficients};
 ghost use Rattle.polynomials.specs.Shift.{followsRule};

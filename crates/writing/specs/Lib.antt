@@ -1,3 +1,3 @@
-pub mod Bounds
+pub mod SheetBytes
 pub mod Writer
 pub mod WriterChecks

@@ -24,12 +24,12 @@ use mathlib.Core.Bool.{Bool, true, false, and-true, cond}
 use mathlib.Core.Logic.{_≢_}
 use mathlib.Core.List.{List, [], _∷_, _++_, map, flatten, append-assoc, append-nil}
 use Prim.Native.Nat.{ℕ, zero, suc, _+_, _-_, _*_, _/_, _%_, _^_, _≤_, _<_}
-use native.Mathlib.Nat.{zero-add, suc-add, pow-suc, div-lt-self, div-lt-iff-lt-mul, add-mul}
+use native.Mathlib.Nat.{zero-add, suc-add, div-lt-self, add-mul}
 use native.Mathlib.Nat.{lt-trans, le-trans, lt-of-le-of-lt, le-of-suc-le-suc, not-suc-le-zero}
 use native.Mathlib.Numerals.{add-one}
 use native.Mathlib.Omega.{arith}
 use borrow.Author.Count.{below-more}
-use borrow.Author.Tests.{ltb-true, ltb-false, lt-ltb, le-ltb, ne-eqb}
+use borrow.Author.Tests.{ltb-true, lt-ltb, le-ltb, ne-eqb}
 use lib.Dec.{T, ltb, eqb, eqb·suc-zero, leb→le, le→leb, lit<, lit≤}
 use lib.IntN.{ℤ, pos, negsuc, natAbs, negℤ, predℤ, _+ℤ_, _-ℤ_, negℤ-sucℤ, +ℤ-predℤ}
 use lib.Signed.{ltZ}
@@ -41,7 +41,7 @@ use Rattle.algebra.specs.Polynomials.{Polynomial, coeff, isZero, isZero-cons, i
 use Rattle.lists.specs.Taken.{drop-take, drop-next}
 use Rattle.rules.specs.Limits.{bound, coefficientCount, small, columnCount, mostSpan, blockCount, polynomialCount, blockLength, blockBound}
 use Rattle.rules.specs.Rows.{Block}
-use Rattle.lists.specs.Tested.{every}
+use Rattle.lists.specs.Tests.{every}
 use Rattle.rules.specs.Stores.{Sizes, rowOf, rowsOf, relationOf, relationsOf, equations}
 use Rattle.lists.specs.Parts.{parts, parts-next, parts-end, held-next, held-end}
 use Rattle.rules.specs.Layout.{length-rowsOf, length-relationsOf, blockOf, coefficientsAt, blockAt, polynomialsIn}
@@ -49,6 +49,7 @@ use Rattle.rules.specs.Sheets.{Sheet, Term, trim, blockTerms, termsFrom, termNu
 use Rattle.rules.specs.Sheets.{equationNumbers, relationLine, orderLine, sheetLines, writeSheet}
 use Rattle.rows.specs.Flat.{polynomials-rowOf}
 use Rattle.rules.specs.Numbers.{space, newline, minus, decimalWithin, decimal, line, lines}
+use Rattle.tokens.specs.WrittenNumbers.{decimalWithin-bound, length-decimalWithin}
 use Rattle.lists.specs.Pasted.{sets-append, sets-later}
 
 -- ---- runs of bytes
@@ -136,21 +137,6 @@ within-append (suc k) n w v = step (ltb n 10) _ (within-append k (n / 10) ((48 +
     step true b e = refl
     step false b e = e
 
--- The number of calls allowed does not matter, if it is above n.
-within-calls : (j k n : ℕ) (w : List ℕ) → n < j → n < k → decimalWithin j n w ≡ decimalWithin k n w
-unfolding decimalWithin
-within-calls zero k n w h g = absurd (not-suc-le-zero h)
-within-calls (suc j) zero n w h g = absurd (not-suc-le-zero g)
-within-calls (suc j) (suc k) n w h g =
-    step (ltb n 10) refl (λ big. within-calls j k (n / 10) ((48 + n % 10) ∷ w) (smaller big j h) (smaller big k g))
-  where
-    smaller : 10 ≤ n → (i : ℕ) → n < suc i → n / 10 < i
-    smaller big i l = omega (arith, div-lt-self {n = n} {k = 10} (omega arith) (omega arith))
-
-    step : (t : Bool) {a b : List ℕ} → ltb n 10 ≡ t → (10 ≤ n → a ≡ b) → cond t ((48 + n) ∷ w) a ≡ cond t ((48 + n) ∷ w) b
-    step true e f = refl
-    step false e f = f (ltb-false n 10 e)
-
 pub digits-one : (n : ℕ) → n < 10 → digitsOf n ≡ (48 + n) ∷ []
 unfolding digitsOf decimalWithin
 digits-one n h = rw (lt-ltb n 10 h)
@@ -159,7 +145,8 @@ pub digits-last : (n : ℕ) → 10 ≤ n → digitsOf n ≡ digitsOf (n / 10) ++
 unfolding digitsOf decimalWithin
 digits-last n h =
     rw (le-ltb n 10 h)
-    (within-calls n (suc (n / 10)) (n / 10) ((48 + n % 10) ∷ []) (div-lt-self {n = n} {k = 10} (omega arith) (omega arith)) (omega arith)
+    (decimalWithin-bound (suc (n / 10)) n (n / 10) ((48 + n % 10) ∷ []) (omega arith)
+    (div-lt-self {n = n} {k = 10} (omega arith) (omega arith))
     ∙ within-append (suc (n / 10)) (n / 10) [] ((48 + n % 10) ∷ []))
 
 pub digits-more : (n : ℕ) → 10 ≤ n → length (digitsOf n) ≡ length (digitsOf (n / 10)) + 1
@@ -172,27 +159,15 @@ digits-back d at n h =
     sym (sets-later d at (digitsOf (n / 10)) _ _ (omega arith)) ∙ sets-append d at (digitsOf (n / 10)) _
     ∙ ap (sets d at) (sym (digits-last n h))
 
--- A number below 10^(k + 1) has at most k + 1 digits.
-within-length : (i k n : ℕ) (w : List ℕ) → n < 10 ^ suc k → length (decimalWithin i n w) ≤ suc k + length w
-unfolding decimalWithin
-within-length zero k n w h = omega arith
-within-length (suc i) zero n w h = rw (lt-ltb n 10 h) (omega arith)
-within-length (suc i) (suc k) n w h =
-    step (ltb n 10) _ (within-length i k (n / 10) ((48 + n % 10) ∷ w) (div-lt-iff-lt-mul {k = 10} (lit< tt) .1 (rw pow-suc at h)))
-  where
-    step : (t : Bool) (a : List ℕ) → length a ≤ suc k + suc (length w) → length (cond t ((48 + n) ∷ w) a) ≤ suc (suc k) + length w
-    step true a l = omega arith
-    step false a l = omega arith
-
 pub digits-length : (n : ℕ) → n < 2 ^ 64 → length (digitsOf n) ≤ 20
 unfolding digitsOf
-digits-length n h = within-length (suc n) 19 n [] (lt-trans h (lit< tt))
+digits-length n h = length-decimalWithin (suc n) n [] (omega arith) 19 (lt-trans h (lit< tt))
 
 -- ---- numbers
 
 nine-digits : (n : ℕ) → n ≤ bound → length (digitsOf n) ≤ 9
 unfolding digitsOf
-nine-digits n h = within-length (suc n) 8 n [] (lt-of-le-of-lt h (lit< tt))
+nine-digits n h = length-decimalWithin (suc n) n [] (omega arith) 8 (lt-of-le-of-lt h (lit< tt))
 
 -- A number within ±C has at most nine digits.
 pub decimal-length : (a : ℤ) → T (small a) → length (decimal a) ≤ 10

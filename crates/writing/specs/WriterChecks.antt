@@ -23,10 +23,9 @@ use lib.IntN.{ℤ, pos, natAbs}
 use lib.ListN.{length, take, drop, getD, length-take, length-drop}
 use lib.Seq.{sets, sets-eq, drop-cons}
 use Rattle.algebra.specs.Order.{≤ℤ-trans, natAbs-≤-iff}
-use Rattle.lists.specs.Tests.{T-&&, cond-zero-iff}
+use Rattle.lists.specs.Tests.{T-&&, cond-zero-iff, every}
 use Rattle.rules.specs.Limits.{rowLength, relationLength, small, columnCount, mostEquations, mostRelations, blockBound}
 use Rattle.rules.specs.Rows.{smallRow}
-use Rattle.lists.specs.Tested.{every}
 use Rattle.rules.specs.Stores.{Sizes, span, rowOf, rowsOf, relationOf, relationsOf, relationNeed, rowNeed, equations}
 use Rattle.rules.specs.Stores.{sizesRight, countRight, unusedZero, rowRight, relationRight, checkStores}
 use Rattle.rules.specs.Layout.{StoresRight, NumbersRight, SizeBounds, checkStores-zero, numbersRight-iff, size-bounds, equations-few}

@@ -19,13 +19,13 @@ ghost use lib.Dec.{T};
 ghost use lib.ListN.{length};
 ghost use lib.Seq.{sets};
 ghost use Rattle.rules.specs.Limits.{columnCount, rowLength, relationLength, mostRelations, small, coefficientCount, mostEquations, polynomialCount, blockLength, blockBound};
-ghost use Rattle.lists.specs.Tested.{every};
+ghost use Rattle.lists.specs.Tests.{every};
 ghost use Rattle.rules.specs.Sheets.{trim, blockTerms, termsFrom, equationNumbers, relationLine, orderLine, writeSheet};
 ghost use Rattle.rules.specs.Stores.{rowOf, rowsOf, relationOf, relationsOf, equations};
 ghost use Rattle.lists.specs.Parts.{parts};
-ghost use Rattle.writing.specs.Bounds.{numberBytes, countBytes, termBytes, blockBytes, termsBytes, equationBytes, relationBytes};
-ghost use Rattle.writing.specs.Bounds.{sizesBytes, orderBytes, sheetBytes, numberRoom, termRoom, blockRoom, termsRoom};
-ghost use Rattle.writing.specs.Bounds.{equationRoom, relationRoom, sizesRoom};
+ghost use Rattle.writing.specs.SheetBytes.{numberBytes, countBytes, termBytes, blockBytes, termsBytes, equationBytes, relationBytes};
+ghost use Rattle.writing.specs.SheetBytes.{sizesBytes, orderBytes, sheetBytes, numberRoom, termRoom, blockRoom, termsRoom};
+ghost use Rattle.writing.specs.SheetBytes.{equationRoom, relationRoom, sizesRoom};
 ghost use Rattle.writing.specs.Writer.{Put, digitsOf, spaced, SmallParts, Lengths, termAt, numbersOf, nonzeroCount, sheetGiven};
 ghost use Rattle.writing.specs.WriterChecks.{Checked, callOf};
 ghost use Rattle.rules.specs.SheetCalls.{checkWrite, writeCall};
@@ -33,7 +33,7 @@ ghost use Rattle.rules.specs.Layout.{blockOf, polynomialsIn};
 ghost use Rattle.rows.specs.Validity.{sizesOf};
 
 // The bytes of the longest term, of the longest line of an equation and of a relation, and of the other lines of a sheet together,
-// as in `specs/Bounds.antt`: a space and a number take at most 11 bytes, a space and a count 21.
+// as in `specs/SheetBytes.antt`: a space and a number take at most 11 bytes, a space and a count 21.
 const TERM_BYTES: usize = 11 + 2 * 21 + COEFFICIENTS * 11;
 
 const EQUATION_BYTES: usize = 21 + POLYNOMIALS * TERM_BYTES;

@@ -13,7 +13,7 @@ use lib.IntN.{ℤ}
 use lib.ListN.{length, take, drop, getD}
 use Rattle.algebra.specs.Polynomials.{Polynomial, isZero}
 use Rattle.rules.specs.Rows.{combine}
-use Rattle.lists.specs.Tested.{every, every-longer, every-false}
+use Rattle.lists.specs.Tests.{every, every-longer, every-false}
 use Rattle.rules.specs.Limits.{coefficientCount, polynomialCount}
 use Rattle.rules.specs.Stores.{rowOf}
 use Rattle.rows.specs.Flat.{polynomialsOf}

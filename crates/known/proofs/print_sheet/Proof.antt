@@ -6,7 +6,7 @@ use mathlib.Core.Path.{sym, ap}
 use lib.ListN.{length}
 use lib.Seq.{length-take-le}
 use Rattle.rows.specs.Validity.{sizesOf}
-use Rattle.known.specs.Written.{write-fits}
+use Rattle.known.specs.SheetFits.{write-fits}
 use borrow.Author.Needs.{needs}
 use Rattle.known.proofs.print_sheet.Statement.{statement}
 use Rattle.known.proofs.print_sheet.Tie as tie

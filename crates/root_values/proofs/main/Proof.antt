@@ -2,7 +2,7 @@
 -- Assumes nothing.
 use lib.Dec.{lit≤}
 use Rattle.rules.specs.Limits.{small}
-use Rattle.lists.specs.Tested.{every}
+use Rattle.lists.specs.Tests.{every}
 use borrow.Author.Needs.{needs}
 use Rattle.root_values.proofs.main.Statement.{statement}
 use Rattle.root_values.proofs.main.Tie as tie

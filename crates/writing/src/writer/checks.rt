@@ -3,7 +3,7 @@ ghost use mathlib.Core.Path.{_≡_};
 ghost use mathlib.Core.Bool.{cond};
 ghost use Prim.Native.Nat.{_≤_};
 ghost use lib.Dec.{eqb};
-ghost use Rattle.lists.specs.Tested.{every};
+ghost use Rattle.lists.specs.Tests.{every};
 ghost use Rattle.rules.specs.Sheets as Sheets;
 ghost use Rattle.rules.specs.SheetCalls.{differentColumns, orderRight, checkWrite};
 ghost use Rattle.rows.specs.Validity.{sizesOf};

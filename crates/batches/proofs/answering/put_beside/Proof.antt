@@ -11,7 +11,7 @@ use lib.ListN.{length, take, drop, replicate, length-replicate, length-drop}
 use lib.Seq.{length-take-le, take-length}
 use Rattle.lists.specs.Overwritten.{overwrite}
 use Rattle.rules.specs.Batch.{mostBytes}
-use Rattle.frames.specs.Bounds.{text-fits}
+use Rattle.frames.specs.PieceSizes.{text-fits}
 use Rattle.frames.specs.Pieces.{refusalLine}
 use Rattle.batches.specs.Answering.{made-within, beside-call, beside-unput}
 use borrow.Author.Needs.{needs}

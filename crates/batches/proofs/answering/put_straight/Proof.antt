@@ -7,7 +7,7 @@ use borrow.Author.Needs.{needs}
 use borrow.Rule.Slice.PartMut.{same-len-mid}
 use denote.Ref.{now}
 use lib.ListN.{length}
-use Rattle.frames.specs.Bounds.{text-fits}
+use Rattle.frames.specs.PieceSizes.{text-fits}
 use Rattle.frames.specs.Pieces.{refusalLine}
 use Rattle.batches.specs.Answering.{straight-fits, straight-call}
 use Rattle.batches.proofs.answering.put_straight.Statement.{statement}

@@ -3,7 +3,7 @@
 use mathlib.Core.Path.{_≡_}
 use denote.Ref.{now}
 use lib.ListN.{length}
-use Rattle.frames.specs.Bounds.{text-fits as line-small}
+use Rattle.frames.specs.PieceSizes.{text-fits as line-small}
 use Rattle.batches.specs.PieceCalls.{endText}
 use Rattle.batches.specs.Endings.{text-short, text-fits}
 use borrow.Author.Needs.{needs}

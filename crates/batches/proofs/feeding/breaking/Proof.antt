@@ -5,7 +5,7 @@ use native.Mathlib.Omega.{arith}
 use mathlib.Core.Path.{_≡_, _∙_, ap}
 use denote.Ref.{now}
 use lib.ListN.{length}
-use Rattle.frames.specs.Bounds.{text-fits}
+use Rattle.frames.specs.PieceSizes.{text-fits}
 use Rattle.frames.specs.Pieces.{refusalLine}
 use Rattle.batches.specs.Turns.{fedOf, breaks-full, breaks-over}
 use borrow.Author.Needs.{needs}

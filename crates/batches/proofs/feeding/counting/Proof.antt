@@ -6,7 +6,7 @@ use mathlib.Core.Path.{_≡_, refl, sym, _∙_, ap, subst}
 use mathlib.Core.List.{List}
 use denote.Ref.{now}
 use lib.ListN.{length}
-use Rattle.frames.specs.Bounds.{begun-counted}
+use Rattle.frames.specs.PieceSizes.{begun-counted}
 use Rattle.frames.specs.Pieces.{begunOf, begun-inside, Counted}
 use Rattle.batches.specs.Turns.{fedOf, count-waits, count-breaks, count-sheets}
 use borrow.Author.Needs.{needs}

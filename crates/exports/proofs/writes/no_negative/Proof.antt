@@ -13,7 +13,7 @@ use lib.Seq.{take-all}
 use mir.Syntax.{w64}
 use mir.Val.{toZ, ofZ}
 use mir.Facts.{toZ-ofZ}
-use Rattle.lists.specs.Tested.{every, every-longer, every-false}
+use Rattle.lists.specs.Tests.{every, every-longer, every-false}
 use Rattle.exports.specs.Writes.{not-negative}
 use Rattle.exports.proofs.writes.no_negative.Statement.{statement}
 use Rattle.exports.proofs.writes.no_negative.Tie as tie

@@ -17,7 +17,7 @@ use mir.Facts.{toZ-ofZ}
 use Rattle.algebra.specs.Polynomials.{negate, lead, length-negate}
 use Rattle.algebra.specs.Gcd.{content, divideBy, length-divideBy}
 use Rattle.rules.specs.Limits.{bound, small, coefficientCount}
-use Rattle.lists.specs.Tested.{every}
+use Rattle.lists.specs.Tests.{every}
 use Rattle.rules.specs.Elimination.{multipliers}
 use Rattle.integers.specs.Ranges.{sfits-size}
 use Rattle.polynomials.specs.Content.{Below, read-back, below-of-small, below-divideBy, below-negate}

@@ -19,7 +19,7 @@ use Rattle.rules.specs.Numbers.{Read, got, field}
 use Rattle.rules.specs.Sheets.{always, parting, judgeOrder, readColumns}
 use Rattle.tokens.specs.Fields.{Answers, answer-fault, answer-got, refuses, gives, field-judged}
 use Rattle.reading.specs.Terms.{FilledTo, filled-begins, filled-ends, filled-refused, filled-goes-on}
-use Rattle.reading.specs.Order.{takenOf, columnsThen, columns-next, columns-none, columns-left, order-zero}
+use Rattle.reading.specs.OrderLine.{takenOf, columnsThen, columns-next, columns-none, columns-left, order-zero}
 use Rattle.reading.proofs.order.columns_at.Statement.{statement}
 use Rattle.reading.proofs.order.columns_at.Tie as tie
 

@@ -7,7 +7,7 @@ use native.Mathlib.Nat.{le-refl}
 use native.Mathlib.Omega.{arith}
 use denote.Ref.{now}
 use Rattle.rules.specs.Sheets.{contains}
-use Rattle.reading.specs.Order.{takenOf, taken-here, taken-before}
+use Rattle.reading.specs.OrderLine.{takenOf, taken-here, taken-before}
 use Rattle.reading.proofs.order.is_taken.Statement.{statement}
 use Rattle.reading.proofs.order.is_taken.Tie as tie
 

@@ -12,7 +12,7 @@ use mir.Val.{toZ}
 use mir.Facts.{toZ-ofZ, toZ-pos, fits-natAbs}
 use Rattle.rules.specs.Sheets.{contains, judgeOrder}
 use Rattle.tokens.specs.Fields.{between-size}
-use Rattle.reading.specs.Order.{takenOf}
+use Rattle.reading.specs.OrderLine.{takenOf}
 use Rattle.reading.proofs.order.judge_order.Statement.{statement}
 use Rattle.reading.proofs.order.judge_order.Tie as tie
 

@@ -10,7 +10,7 @@ use borrow.Author.Tests.{eq-eqb, ne-eqb}
 use Rattle.algebra.specs.Polynomials.{isZeroℤ}
 use Rattle.integers.specs.Ranges.{ofZ-zero, ofZ-inj}
 use Rattle.rules.specs.Sheets.{judgeOrderCount}
-use Rattle.reading.specs.Order.{difference-zero, difference-nonzero}
+use Rattle.reading.specs.OrderLine.{difference-zero, difference-nonzero}
 use Rattle.reading.proofs.order.judge_order_count.Statement.{statement}
 use Rattle.reading.proofs.order.judge_order_count.Tie as tie
 

@@ -18,7 +18,7 @@ use Rattle.rules.specs.Numbers.{got, field}
 use Rattle.rules.specs.Sheets.{afterCount, judgeOrderCount, readColumns}
 use Rattle.tokens.specs.Fields.{answer-fault, answer-got, refuses, answers-as, then-got, then-fault, field-judged}
 use Rattle.reading.specs.Terms.{padded}
-use Rattle.reading.specs.Order.{orderThen, order-is, order-count-zero}
+use Rattle.reading.specs.OrderLine.{orderThen, order-is, order-count-zero}
 use Rattle.reading.proofs.order.order_at.Statement.{statement}
 use Rattle.reading.proofs.order.order_at.Tie as tie
 

@@ -5,7 +5,7 @@ use borrow.Author.Needs.{needs}
 use denote.Ref.{now}
 use Rattle.rules.specs.Sheets.{judgeOrder, always}
 use Rattle.tokens.specs.Fields.{answers-field}
-use Rattle.reading.specs.Order.{takenOf}
+use Rattle.reading.specs.OrderLine.{takenOf}
 use Rattle.reading.proofs.order.order_column_at.Statement.{statement}
 use Rattle.reading.proofs.order.order_column_at.Tie as tie
 

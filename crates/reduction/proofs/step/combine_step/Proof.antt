@@ -15,7 +15,7 @@ use Rattle.algebra.specs.Polynomials.{isZero}
 use Rattle.algebra.specs.Roots.{roots}
 use Rattle.rules.specs.Limits.{columnCount, rowLength, small}
 use Rattle.rules.specs.Rows.{entry, combine, primitive}
-use Rattle.lists.specs.Tested.{every}
+use Rattle.lists.specs.Tests.{every}
 use Rattle.rules.specs.Stores.{rowOf}
 use Rattle.rules.specs.Elimination.{Side, Limited, limitDegrees, Multipliers, multipliers, multipliersAt, listing, combineStep}
 use Rattle.roots.specs.RootSearch.{listed, held, held-of, roots-few}
@@ -25,9 +25,9 @@ use Rattle.reduction.specs.declared.step.Progress.{Progress}
 use Rattle.sides.specs.Lent.{sideOf}
 use Rattle.reduction.specs.Progress.{Ready, stateOf, answerOf, listedProgress}
 use Rattle.sides.specs.Relations.{Relisted}
-use Rattle.reduction.specs.Bounds.{Sixteen, multipliers-fit, roots-small}
+use Rattle.reduction.specs.MultiplierSizes.{Sixteen, multipliers-fit, roots-small}
 use Rattle.reduction.specs.NewRows.{Storable, saved, row-room, combined-storable}
-use Rattle.reduction.specs.Exchange.{numbersAt, length-numbersAt, small-numbersAt, length-entry, small-entry}
+use Rattle.reduction.specs.StoreExchange.{numbersAt, length-numbersAt, small-numbersAt, length-entry, small-entry}
 use Rattle.reduction.specs.StepLaws.{multipliersIn, newRow, multipliers-in, combine-refused, combine-reached}
 use Rattle.reduction.specs.StepLaws.{refused-reached, reached-same}
 use Rattle.reduction.proofs.step.combine_step.Statement.{statement}

@@ -11,7 +11,7 @@ use lib.Seq.{paste}
 use Rattle.rules.specs.Limits.{rowLength}
 use Rattle.rules.specs.Rows.{width}
 use Rattle.rules.specs.Stores.{rowOf}
-use Rattle.reduction.specs.Exchange.{numbersAt, narrowed-exchanged, narrowed-same}
+use Rattle.reduction.specs.StoreExchange.{numbersAt, narrowed-exchanged, narrowed-same}
 use Rattle.reduction.proofs.step.narrow_first.Statement.{statement}
 use Rattle.reduction.proofs.step.narrow_first.Tie as tie
 

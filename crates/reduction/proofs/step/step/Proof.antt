@@ -13,7 +13,7 @@ use lib.ListN.{length}
 use Rattle.algebra.specs.Polynomials.{isZero}
 use Rattle.rules.specs.Limits.{columnCount, rowLength, small}
 use Rattle.rules.specs.Rows.{Row, zeroRow, leadingBlock, firstNonzero}
-use Rattle.lists.specs.Tested.{every}
+use Rattle.lists.specs.Tests.{every}
 use Rattle.rules.specs.Stores.{rowOf}
 use Rattle.rules.specs.Elimination.{Side, multipliersAt, combineStep}
 use Rattle.working.specs.Found.{foundOr, entriesAt}
@@ -22,7 +22,7 @@ use Rattle.reduction.specs.declared.step.Progress.{Progress}
 use Rattle.sides.specs.Lent.{sideOf}
 use Rattle.reduction.specs.Progress.{Ready, Reached, stateOf, answerOf, shiftedProgress}
 use Rattle.reduction.specs.NewRows.{saved, row-room}
-use Rattle.reduction.specs.Exchange.{numbersAt, narrowed, small-numbersAt, narrowed-kept}
+use Rattle.reduction.specs.StoreExchange.{numbersAt, narrowed, small-numbersAt, narrowed-kept}
 use Rattle.reduction.specs.StepLaws.{metEntries, shiftedRow, reached-same, reached-after, refused-reached, shift-reached}
 use Rattle.reduction.specs.StepCases.{step-zero, step-met, met-nonzero, narrowed-ready, settled-reached, step-shift}
 use Rattle.reduction.proofs.step.step.Statement.{statement}

@@ -15,7 +15,7 @@ use lib.IntN.{ℤ}
 use lib.ListN.{take, drop}
 use Rattle.algebra.specs.Polynomials.{isZero}
 use Rattle.rules.specs.Limits.{small, coefficientCount, columnCount}
-use Rattle.lists.specs.Tested.{every}
+use Rattle.lists.specs.Tests.{every}
 use Rattle.rows.specs.Checks.{outside, placeRight}
 use Rattle.rows.proofs.checks.place_right.Statement.{statement}
 use Rattle.rows.proofs.checks.place_right.Tie as tie

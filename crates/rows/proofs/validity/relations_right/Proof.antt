@@ -11,7 +11,7 @@ use denote.Ref.{now}
 use lib.ListN.{length, take, getD}
 use lib.Seq.{take-all}
 use Rattle.rules.specs.Rows.{Relation}
-use Rattle.lists.specs.Tested.{every, every-longer, every-false}
+use Rattle.lists.specs.Tests.{every, every-longer, every-false}
 use Rattle.rules.specs.Stores.{relationOf, relationsOf, relationRight}
 use Rattle.rules.specs.Layout.{length-relationsOf}
 use Rattle.rows.specs.Validity.{sizesOf, relationTest, relationRight-test, relation-at}

@@ -11,7 +11,7 @@ use denote.Ref.{now}
 use lib.ListN.{length, take, getD}
 use lib.Seq.{take-all}
 use Rattle.rules.specs.Rows.{Row, noRow}
-use Rattle.lists.specs.Tested.{every, every-longer, every-false}
+use Rattle.lists.specs.Tests.{every, every-longer, every-false}
 use Rattle.rules.specs.Stores.{rowOf, rowsOf, rowNeed, rowRight}
 use Rattle.rules.specs.Layout.{row-at, length-rowsOf}
 use Rattle.rows.specs.Validity.{sizesOf, rowTest, rowRight-test}

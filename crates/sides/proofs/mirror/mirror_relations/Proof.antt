@@ -14,7 +14,7 @@ use mir.Syntax.{w64}
 use mir.Val.{SFits}
 use mir.Facts.{toZ-ofZ}
 use Rattle.rules.specs.Limits.{relationLength, small}
-use Rattle.lists.specs.Tested.{every}
+use Rattle.lists.specs.Tests.{every}
 use Rattle.polynomials.specs.Content.{read-back}
 use Rattle.sides.specs.MirrorLaws.{Changed, mirrorNumbers, mirrorRelationNumbers, changed-none, changed-next}
 use Rattle.sides.specs.StoreStates.{part-small}

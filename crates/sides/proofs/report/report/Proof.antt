@@ -12,8 +12,8 @@ use lib.Dec.{T}
 use lib.IntN.{ℤ}
 use lib.ListN.{length, take, drop, getD, length-take}
 use Rattle.algebra.specs.Roots.{roots}
-use Rattle.rules.specs.Limits.{coefficientCount, blockLength, rowLength, small}
-use Rattle.lists.specs.Tested.{every}
+use Rattle.rules.specs.Limits.{rowLength, small, coefficientCount, blockLength}
+use Rattle.lists.specs.Tests.{every}
 use Rattle.rules.specs.Elimination.{Side, diagonalPlace, furthest}
 use Rattle.rules.specs.Calls.{rootFound, rootValue}
 use Rattle.roots.specs.RootSearch.{answered}

@@ -12,7 +12,7 @@ use lib.ListN.{length, take, drop, getD}
 use lib.Seq.{take-all}
 use Rattle.algebra.specs.Polynomials.{Polynomial, isZero}
 use Rattle.rules.specs.Limits.{rowLength, coefficientCount, columnCount}
-use Rattle.lists.specs.Tested.{every, every-longer}
+use Rattle.lists.specs.Tests.{every, every-longer}
 use Rattle.rules.specs.Stores.{rowOf}
 use Rattle.rows.specs.Flat.{entry-at}
 use Rattle.working.specs.Found.{foundOr, entriesAt, Columns-at, length-entriesAt, getD-entriesAt, firstNonzero-some, firstNonzero-none}

@@ -18,7 +18,7 @@ use Rattle.algebra.specs.Coefficients.{alternate}
 use Rattle.rules.specs.Limits.{coefficientCount, mostSpan, blockCount, blockLength, rowLength, small}
 use Rattle.rules.specs.Rows.{coefficientsOf, mirrorRow}
 use Rattle.rules.specs.Stores.{rowOf}
-use Rattle.lists.specs.Tested.{every-from-at}
+use Rattle.lists.specs.Tests.{every-from-at}
 use Rattle.working.specs.Mirroring.{mirrorPlace, mirrorBlock-below, length-mirrorRow, number-mirrorRow}
 use Rattle.working.proofs.mirroring.mirrored.Statement.{statement}
 use Rattle.working.proofs.mirroring.mirrored.Tie as tie

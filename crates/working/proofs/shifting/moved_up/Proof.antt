@@ -17,8 +17,8 @@ use Rattle.algebra.specs.Polynomials.{isZero, shift, isZero-shift}
 use Rattle.rules.specs.Limits.{coefficientCount, blockLength, rowLength, small}
 use Rattle.rules.specs.Rows.{shiftUp, coefficientsOf}
 use Rattle.rules.specs.Stores.{rowOf}
-use Rattle.rows.specs.Written.{front, length-front, front-none, front-all, front-put, front-skip}
-use Rattle.lists.specs.Tested.{every-part}
+use Rattle.rows.specs.OverZeros.{front, length-front, front-none, front-all, front-put, front-skip}
+use Rattle.lists.specs.Tests.{every-part}
 use Rattle.working.specs.Shifting.{length-shiftUp, shiftUp-part, shiftUp-rest, movedCount}
 use Rattle.rules.specs.Layout.{coefficientsAt}
 use Rattle.working.proofs.shifting.moved_up.Statement.{statement}

@@ -11,9 +11,9 @@ use mir.Facts.{toZ-ofZ}
 use Rattle.rules.specs.Sheets.{trim, blockTerms}
 use Rattle.lists.specs.Parts.{parts}
 use Rattle.rules.specs.Limits.{small, coefficientCount, columnCount}
-use Rattle.lists.specs.Tested.{every-part}
+use Rattle.lists.specs.Tests.{every-part}
+use Rattle.writing.specs.SheetBytes.{termBytes}
 use Rattle.rules.specs.Layout.{blockOf}
-use Rattle.writing.specs.Bounds.{termBytes}
 use Rattle.writing.specs.Writer.{Going, going-first, going-next, going-last, put-same}
 use Rattle.writing.specs.Writer.{spaced, termAt, numbersOf, block-next, block-end}
 use borrow.Author.Needs.{needs}

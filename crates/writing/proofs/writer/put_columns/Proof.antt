@@ -7,7 +7,7 @@ use native.Mathlib.Omega.{arith}
 use denote.Ref.{now}
 use lib.IntN.{pos}
 use lib.ListN.{length, drop, drop-of-length-le}
-use Rattle.writing.specs.Bounds.{countBytes}
+use Rattle.writing.specs.SheetBytes.{countBytes}
 use Rattle.writing.specs.Writer.{Going, going-first, going-next, going-last, spaced, columns-next}
 use borrow.Author.Needs.{needs}
 use Rattle.writing.proofs.writer.put_columns.Statement.{statement}

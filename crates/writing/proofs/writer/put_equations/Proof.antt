@@ -10,11 +10,11 @@ use mir.Syntax.{w64}
 use mir.Val.{toZ, ofZ}
 use mir.Facts.{toZ-ofZ}
 use Rattle.rules.specs.Limits.{rowLength}
-use Rattle.lists.specs.Tested.{every}
+use Rattle.lists.specs.Tests.{every}
 use Rattle.rules.specs.Numbers.{lines}
 use Rattle.rules.specs.Sheets.{equationNumbers}
 use Rattle.rules.specs.Stores.{rowOf, rowsOf}
-use Rattle.writing.specs.Bounds.{equationBytes}
+use Rattle.writing.specs.SheetBytes.{equationBytes}
 use Rattle.writing.specs.Writer.{Going, going-first, put-same, lines-next, lines-last}
 use borrow.Author.Needs.{needs}
 use Rattle.writing.proofs.writer.put_equations.Statement.{statement}

@@ -12,8 +12,8 @@ use mir.Syntax.{w64}
 use mir.Val.{SFits}
 use mir.Facts.{toZ-ofZ}
 use Rattle.rules.specs.Limits.{small}
-use Rattle.lists.specs.Tested.{every-getD}
-use Rattle.writing.specs.Bounds.{numberBytes}
+use Rattle.lists.specs.Tests.{every-getD}
+use Rattle.writing.specs.SheetBytes.{numberBytes}
 use Rattle.writing.specs.Writer.{Going, going-first, going-next, going-last, put-same, spaced, spaced-next}
 use Rattle.writing.proofs.writer.put_numbers.Statement.{statement}
 use Rattle.writing.proofs.writer.put_numbers.Tie as tie

@@ -12,7 +12,7 @@ use mir.Syntax.{w64}
 use mir.Val.{SFits, toZ, ofZ}
 use mir.Facts.{toZ-ofZ}
 use Rattle.rules.specs.Limits.{small}
-use Rattle.lists.specs.Tested.{every-getD, every-part}
+use Rattle.lists.specs.Tests.{every-getD, every-part}
 use Rattle.rules.specs.Numbers.{newline, decimal}
 use Rattle.rules.specs.Sheets.{termsFrom}
 use Rattle.rules.specs.Stores.{rowOf}

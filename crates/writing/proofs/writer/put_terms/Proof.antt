@@ -14,12 +14,12 @@ use mir.Facts.{toZ-ofZ}
 use Rattle.integers.specs.Ranges.{sfits-size}
 use Rattle.rules.specs.Limits.{columnCount, blockCount, blockLength, blockBound}
 use Rattle.rules.specs.Limits as Limits
-use Rattle.lists.specs.Tested.{every-part}
+use Rattle.lists.specs.Tests.{every-part}
 use Rattle.rules.specs.Sheets.{trim, blockTerms, termsFrom}
 use Rattle.rules.specs.Stores.{rowOf}
 use Rattle.lists.specs.Parts.{parts}
+use Rattle.writing.specs.SheetBytes.{blockBytes}
 use Rattle.rules.specs.Layout.{blockOf, coefficientsAt}
-use Rattle.writing.specs.Bounds.{blockBytes}
 use Rattle.writing.specs.Writer.{Going, going-first, going-next, going-last, put-same}
 use Rattle.writing.specs.Writer.{spaced, numbersOf, block-size, small-block, lengths-part, terms-next, terms-end}
 use borrow.Author.Needs.{needs}

@@ -11,7 +11,7 @@ use lib.Dec.{eqb}
 use lib.IntN.{ℤ}
 use lib.ListN.{length, take}
 use lib.Seq.{sets, length-take-le}
-use Rattle.lists.specs.Tested.{every}
+use Rattle.lists.specs.Tests.{every}
 use Rattle.rules.specs.Limits.{columnCount}
 use Rattle.rules.specs.Sheets.{writeSheet}
 use Rattle.rules.specs.SheetCalls.{WriteCall, sheetOf, unwritten, writeCall}

@@ -9,7 +9,7 @@ use denote.Ref.{now}
 use lib.Dec.{eqb}
 use lib.ListN.{length, take}
 use lib.Seq.{take-all}
-use Rattle.lists.specs.Tested.{every, every-longer, every-false}
+use Rattle.lists.specs.Tests.{every, every-longer, every-false}
 use borrow.Author.Needs.{needs}
 use Rattle.writing.proofs.writer.checks.all_zero.Statement.{statement}
 use Rattle.writing.proofs.writer.checks.all_zero.Tie as tie

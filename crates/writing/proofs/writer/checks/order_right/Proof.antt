@@ -7,7 +7,7 @@ use native.Mathlib.Omega.{arith}
 use lib.Dec.{eqb}
 use lib.ListN.{length, drop, length-drop}
 use lib.Seq.{take-all, length-take-le}
-use Rattle.lists.specs.Tested.{every}
+use Rattle.lists.specs.Tests.{every}
 use Rattle.rules.specs.SheetCalls.{orderRight}
 use borrow.Author.Needs.{needs}
 use Rattle.writing.proofs.writer.checks.order_right.Statement.{statement}

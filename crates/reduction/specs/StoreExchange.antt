@@ -23,7 +23,7 @@ use lib.ListN.{length, take, drop, getD, set, length-drop}
 use lib.Seq.{paste, length-take-le, getD-set-same, getD-set-other}
 use Rattle.rules.specs.Limits.{coefficientCount, columnCount, rowLength, small}
 use Rattle.rules.specs.Rows.{noRow, width, entry}
-use Rattle.lists.specs.Tested.{every, every-part}
+use Rattle.lists.specs.Tests.{every, every-part}
 use Rattle.rules.specs.Stores.{rowOf, rowsOf, relationsOf, rowNeed}
 use Rattle.rules.specs.Elimination.{State, rowAt, putRow, exchange, narrowFirst}
 use Rattle.rules.specs.Layout.{row-at, length-rowsOf}

@@ -1,6 +1,8 @@
 -- Numbers and their bytes.
 --
 -- Main statements
+--   decimalWithin-bound                   the number of calls allowed does not matter, if it is above the number
+--   length-decimalWithin                  a number below 10^(d + 1) has at most d + 1 digits
 --   isNumber-decimal, numberOf-decimal    what is written of a number of at most ten digits is a number, namely that one
 --   decimal-numberOf                      a token that is a number is what is written of that number
 --   word-decimal, afterWord-decimal       a number that is written in front of a separator is the first token
@@ -16,8 +18,7 @@ use mathlib.Core.List.{List, [], _∷_, _++_, append-nil, nil≢cons, head-eq-of
 use lib.Dec.{T, lit<, leb, ltb, eqb, leb→le, le→leb, ltb→lt, lt→ltb, nltb→le, eqb→eq, eqb-refl, not-T, T-not}
 use lib.ListN.{length}
 use lib.IntN.{ℤ, pos, negsuc, negℤ, natAbs}
-use Rattle.lists.specs.Tests.{T-&&, T-or-left, cond-not, cond-passed}
-use Rattle.lists.specs.Tested.{every, every-cons}
+use Rattle.lists.specs.Tests.{T-&&, T-or-left, cond-not, cond-passed, every, every-cons}
 use Rattle.rules.specs.Numbers.{space, newline, minus, isSeparator, word, afterWord, isDigit, signed, digits, startsRight, isNumber}
 use Rattle.rules.specs.Numbers.{valueFrom, numberOf, decimalWithin, decimal}
 
@@ -56,7 +57,7 @@ module _ (P : ℕ → List ℕ → List ℕ → Type 0) (one : (n : ℕ) (writte
       go false low high rest = more n written _ (high tt) (rest (high tt))
 
 -- Any bound on the number of calls serves that is above the number.
-decimalWithin-bound : (k j n : ℕ) (written : List ℕ) → n < k → n < j → decimalWithin j n written ≡ decimalWithin k n written
+pub decimalWithin-bound : (k j n : ℕ) (written : List ℕ) → n < k → n < j → decimalWithin j n written ≡ decimalWithin k n written
 decimalWithin-bound k j n written h i =
     decimal-induction (λ m w bytes. (b : ℕ) → m < b → decimalWithin b m w ≡ bytes) one more k n written h j i
   where
@@ -109,7 +110,7 @@ digits-decimalWithin =
     (λ n written h i. T-&& (isDigit (48 + n)) (every isDigit written) .1 (digit-byte n h, i))
     (λ n written bytes h e i. e (T-&& (isDigit (48 + n % 10)) (every isDigit written) .1 (digit-byte (n % 10) (omega arith), i)))
 
-length-decimalWithin : (k n : ℕ) (written : List ℕ) → n < k → (d : ℕ) → n < 10 ^ suc d
+pub length-decimalWithin : (k n : ℕ) (written : List ℕ) → n < k → (d : ℕ) → n < 10 ^ suc d
     → length (decimalWithin k n written) ≤ suc d + length written
 length-decimalWithin =
     decimal-induction (λ n written bytes. (d : ℕ) → n < 10 ^ suc d → length bytes ≤ suc d + length written)

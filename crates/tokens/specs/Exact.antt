@@ -22,8 +22,8 @@ use Rattle.lists.specs.Everywhere.{All}
 use Rattle.rules.specs.Numbers.{isSeparator, word, afterWord, isNumber, numberOf, decimal, Read, got, fault, thenRead, judged, readWord}
 use Rattle.rules.specs.Numbers.{readSeparator, field}
 use Rattle.lists.specs.Tests.{cond-passed}
-use Rattle.sheets.specs.WrittenNumbers.{isNumber-decimal, numberOf-decimal, decimal-numberOf, word-decimal}
-use Rattle.sheets.specs.WrittenNumbers.{afterWord-decimal, word-afterWord}
+use Rattle.tokens.specs.WrittenNumbers.{isNumber-decimal, numberOf-decimal, decimal-numberOf, word-decimal}
+use Rattle.tokens.specs.WrittenNumbers.{afterWord-decimal, word-afterWord}
 
 -- The reader reads what is written of a good value, whatever follows; and where it reads a value, the value is good and the
 -- bytes are those written of it.
@@ -50,11 +50,11 @@ judged-got zero v a bytes rest e = let f = got-inj v a bytes rest e in (refl, f 
 judged-got (suc n) v a bytes rest e = absurd (fault-got (suc n) a rest e)
 
 -- What was read in two steps.
-pub then-got : {A B : Type 0} (r : Read A) (next : A → List ℕ → Read B) (b : B) (rest : List ℕ) → thenRead r next ≡ got b rest
+pub got-in-two : {A B : Type 0} (r : Read A) (next : A → List ℕ → Read B) (b : B) (rest : List ℕ) → thenRead r next ≡ got b rest
     → (a : A) × (more : List ℕ) × (r ≡ got a more) × (next a more ≡ got b rest)
 unfolding thenRead
-then-got (got a more) next b rest e = (a, more, refl, e)
-then-got (fault n) next b rest e = absurd (fault-got n b rest e)
+got-in-two (got a more) next b rest e = (a, more, refl, e)
+got-in-two (fault n) next b rest e = absurd (fault-got n b rest e)
 
 readWord-got : (judge : ℤ → ℕ) (w after : List ℕ) (a : ℤ) (rest : List ℕ) → readWord judge w after ≡ got a rest
     → (judge a ≡ 0) × (w ≡ decimal a) × (after ≡ rest)
@@ -105,7 +105,7 @@ module _ (judge follow : ℤ → ℕ) where
       → (judge a ≡ 0) × (bytes ≡ decimal a ++ (follow a ∷ rest))
   unfolding field
   field-read bytes a rest e =
-      let (v, more, d, f) = then-got (readWord judge (word bytes) (afterWord bytes)) (λ v more. readSeparator (follow v) v more) a rest e in
+      let (v, more, d, f) = got-in-two (readWord judge (word bytes) (afterWord bytes)) (λ v more. readSeparator (follow v) v more) a rest e in
       let g = readSeparator-got (follow v) v a more rest f in
       let h = readWord-got judge (word bytes) (afterWord bytes) v more d in (
         ap judge (sym (g .0)) ∙ h .0,
@@ -148,7 +148,7 @@ then-exact {read = read} {Good = Good} {write = write} {next = next} {Best = Bes
           ∙ ap (λ r. thenRead r next) (first .read-written (pick b) (add (pick b) b ++ rest) (h .0))
           ∙ second (pick b) (h .0) .read-written b rest (h .1);
       written-read = λ bytes b rest e.
-          let (a, more, d, f) = then-got (read bytes) next b rest e in
+          let (a, more, d, f) = got-in-two (read bytes) next b rest e in
           let g = first .written-read bytes a more d in
           let h = second a (g .0) .written-read more b rest f in
           subst (λ x. (Good x × Best x b) × (bytes ≡ (write x ++ add x b) ++ rest)) (same a b (g .0) (h .0))

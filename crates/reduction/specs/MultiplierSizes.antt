@@ -19,12 +19,11 @@ use lib.ListN.{length}
 use lib.Signed.{ltZ}
 use Rattle.algebra.specs.Gcd.{content, divideBy, length-divideBy}
 use Rattle.algebra.specs.Polynomials.{Polynomial, isZero, lowest, degree, lead, negate, length-negate}
-use Rattle.lists.specs.Tests.{T-&&}
+use Rattle.lists.specs.Tests.{T-&&, every, every-member}
 use Rattle.algebra.specs.Coefficients.{degree-isZero}
 use Rattle.algebra.specs.Vanishing.{nonzero-past-lowest}
 use Rattle.algebra.specs.Roots.{roots, roots-sound}
-use Rattle.rules.specs.Limits.{bound, coefficientCount, small}
-use Rattle.lists.specs.Tested.{every, every-member}
+use Rattle.rules.specs.Limits.{bound, small, coefficientCount}
 use Rattle.rules.specs.Elimination.{Multipliers, turnSigns, multipliers}
 use Rattle.polynomials.specs.Content.{Below, small-at, below-divideBy, below-negate}
 use Rattle.roots.specs.RootSearch.{roots-constant, lowest-small}

@@ -24,14 +24,13 @@ use lib.Dec.{T, leb→le, le→leb}
 use lib.ListN.{length, getD, set}
 use lib.IntN.{ℤ, pos, natAbs, ℤ-discrete}
 use Rattle.algebra.specs.Polynomials.{Polynomial, coeff, isZero, lowest, isZero-cons}
-use Rattle.lists.specs.Tests.{T-&&, cond-passed}
+use Rattle.lists.specs.Tests.{T-&&, cond-passed, every, all-of-every, every-of-all, every-all}
 use Rattle.algebra.specs.Coefficients.{lowest-place}
 use Rattle.algebra.specs.Vanishing.{root-divides-lowest, lowest-positive}
 use Rattle.algebra.specs.Roots.{roots, isConstant, roots-sound}
 use Rattle.rules.specs.Limits.{bound, coefficientCount, mostRelations, small, columnCount, blockCount}
 use Rattle.rules.specs.Rows.{Row, Relation, noRow, coefficientsOf, leadingBlock, entry, smallRow, shiftUp}
 use Rattle.lists.specs.Everywhere.{All, all-getD-default, all-getD, all-set, append-all, all-flatten}
-use Rattle.lists.specs.Tested.{every, all-of-every, every-of-all, every-all}
 use Rattle.rules.specs.Elimination.{Side, State, start, within, limitDegrees, limitCoefficients, rowAt, putRow, listRelations, settle}
 use Rattle.rules.specs.Elimination.{countShift, rootRelations, multipliersAt}
 use Rattle.rules.specs.Stores.{Sizes, span, countRight, unusedZero, rowRight, relationRight, Valid, StoreRow}
