@@ -4,15 +4,14 @@
 --   flatten-append, flatten-flatten, flatten-map   joined in two steps, and before or after map
 --   flat-member, flat-origin               the members of joined images
 --   length-flatten, length-getD-flatten    the length
---   flatten-zipWith, getD-flatten          lists of one width: made from two, and a member
+--   flatten-zipWith                        lists of one width, made from two
 use mathlib.Core.Path.{_≡_, refl, sym, _∙_, ap, ap₂}
 use mathlib.Core.List.{List, [], _∷_, _++_, map, flatten, zipWith, List·Memᴰ, List·Memᴰ·head, List·Memᴰ·tail, List·Memᴰ·not-nil}
 use mathlib.Core.List.{List·Memᴰ·cases-cons, Memᴰ·append-left, Memᴰ·append-right, List·Memᴰ·append-cases, append-assoc, map-append}
-use Prim.Native.Nat.{ℕ, zero, suc, _+_, _*_, _≤_, _<_, zero-le}
-use native.Mathlib.Nat.{add-comm, zero-mul, suc-mul, le-of-suc-le-suc, not-suc-le-zero}
+use Prim.Native.Nat.{ℕ, zero, suc, _+_, _*_, _≤_, zero-le}
+use native.Mathlib.Nat.{add-comm, zero-mul, suc-mul}
 use native.Mathlib.Omega.{arith}
-use lib.ListN.{length, getD, length-append, List·getD-append}
-use lib.Seq.{getD-append-add}
+use lib.ListN.{length, getD, length-append}
 use Rattle.lists.specs.Everywhere.{All}
 use Rattle.lists.specs.Images.{zipWith-nil, zipWith-append}
 use mathlib.Core.Logic.{⊎-elim}
@@ -80,22 +79,3 @@ module _ {A B C : Type 0} (f : A → B → C) where
   flatten-zipWith k (l ∷ ls) (m ∷ ms) h g =
       ap (λ r. zipWith f l m ++ r) (flatten-zipWith k ls ms (h .1) (g .1))
       ∙ sym (zipWith-append f l (flatten ls) m (flatten ms) (h .0 ∙ sym (g .0)))
-
-pub getD-flatten : {A : Type 0} (d : A) (k : ℕ) (ls : List (List A)) (i j : ℕ)
-    → All (λ l. length l ≡ k) ls → i < length ls → j < k → getD (flatten ls) (i * k + j) d ≡ getD (getD ls i []) j d
-unfolding flatten All
-getD-flatten d k [] i j h hi hj = absurd (not-suc-le-zero hi)
-getD-flatten d k (l ∷ ls) zero j h hi hj =
-    ap (λ n. getD (l ++ flatten ls) n d) (first k j) ∙ List·getD-append l (flatten ls) d j (below (h .0))
-  where
-    first : (k j : ℕ) → 0 * k + j ≡ j
-    first k j = omega arith
-
-    below : length l ≡ k → j < length l
-    below e = omega arith
-getD-flatten d k (l ∷ ls) (suc i) j h hi hj =
-    ap (λ n. getD (l ++ flatten ls) n d) (later (h .0)) ∙ getD-append-add l (flatten ls) (i * k + j) d
-    ∙ getD-flatten d k ls i j (h .1) (le-of-suc-le-suc hi) hj
-  where
-    later : length l ≡ k → suc i * k + j ≡ length l + (i * k + j)
-    later e = omega (arith, suc-width i k)

@@ -11,7 +11,7 @@
 --   and-second, and-first, and-joined      what `s && t` is where s passed, where s failed, and where the two cases meet
 --   first-failed, second-failed, both-passed   what `s && t && u` is where s failed, where t failed, and where both passed
 --   T-or, T-or-left, or-right, or-imply, T-not-or   one of two passes, or neither
---   cond-passed, cond-failed, cond-not     what a test chooses; cond-else: what it chooses where it fails
+--   cond-passed, cond-failed, cond-not     what a test chooses
 --   cond-zero, cond-zero-iff               a choice that is zero
 --   every-all                              the test `every` says that all pass
 --   every-cons                             the first member and the others
@@ -119,11 +119,6 @@ cond-failed false x y h = refl
 pub cond-not : {A : Type 0} (t : Bool) (a b : A) → T (not t) → cond t a b ≡ b
 cond-not true a b h = absurd h
 cond-not false a b h = refl
-
--- Two values that agree where the test fails.
-pub cond-else : {A : Type 0} (t : Bool) (a b c : A) → (T (not t) → b ≡ c) → cond t a b ≡ cond t a c
-cond-else true a b c e = refl
-cond-else false a b c e = e tt
 
 -- Where the choice is zero the test has passed, and so have those after it.
 pub cond-zero : (t : Bool) (a b : ℕ) → cond t a (suc b) ≡ 0 → T t × (a ≡ 0)
