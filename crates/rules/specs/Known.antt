@@ -69,7 +69,16 @@ k1-first = term (pos 0) 1 (negsuc 1 ∷ []) ∷ term (negsuc 0) 2 (negsuc 1 ∷ 
 
 abbrev pub k1 : Entry
 k1 =
-    record { side = leading; sizes = sizesOf 2 (pos 0) (negsuc 2); equations = (term (pos 0) 1 (negsuc 0 ∷ pos 1 ∷ []) ∷ term (negsuc 2) 2 (negsuc 0 ∷ []) ∷ []) ∷ k1-first ∷ []; expected = accepts (k1-first ∷ (term (pos 0) 2 (pos 0 ∷ negsuc 0 ∷ pos 1 ∷ []) ∷ term (negsuc 1) 2 (negsuc 1 ∷ []) ∷ []) ∷ []) [] (1 ∷ 2 ∷ []) 1 (some (pos 1)) }
+    record {
+      side = leading;
+      sizes = sizesOf 2 (pos 0) (negsuc 2);
+      equations = (term (pos 0) 1 (negsuc 0 ∷ pos 1 ∷ []) ∷ term (negsuc 2) 2 (negsuc 0 ∷ []) ∷ []) ∷ k1-first ∷ [];
+      expected =
+          accepts
+          (k1-first ∷ (term (pos 0) 2 (pos 0 ∷ negsuc 0 ∷ pos 1 ∷ []) ∷ term (negsuc 1) 2 (negsuc 1 ∷ []) ∷ []) ∷ [])
+          []
+          (1 ∷ 2 ∷ []) 1 (some (pos 1));
+    }
 
 -- K2: n x(n + 1) - y(n) and x(n + 1) - x(n) come out as the second sheet says, after one shift, with greatest root 0
 -- (SCOPE 7.2).
@@ -81,7 +90,17 @@ k2-second = term (pos 1) 1 (pos 1 ∷ []) ∷ term (pos 0) 1 (negsuc 0 ∷ []) �
 
 abbrev pub k2 : Entry
 k2 =
-    record { side = leading; sizes = sizesOf 2 (pos 1) (pos 0); equations = k2-first ∷ k2-second ∷ []; expected = accepts ((term (pos 1) 1 (negsuc 0 ∷ negsuc 0 ∷ []) ∷ term (pos 1) 2 (pos 1 ∷ []) ∷ []) ∷ (term (pos 1) 2 (pos 0 ∷ pos 1 ∷ []) ∷ term (pos 0) 2 (negsuc 0 ∷ negsuc 0 ∷ []) ∷ []) ∷ []) (record { index = pos 0; equation = k2-second } ∷ record { index = negsuc 0; equation = k2-first } ∷ []) (1 ∷ 2 ∷ []) 1 (some (pos 0)) }
+    record {
+      side = leading;
+      sizes = sizesOf 2 (pos 1) (pos 0);
+      equations = k2-first ∷ k2-second ∷ [];
+      expected =
+          accepts
+          ((term (pos 1) 1 (negsuc 0 ∷ negsuc 0 ∷ []) ∷ term (pos 1) 2 (pos 1 ∷ []) ∷ [])
+          ∷ (term (pos 1) 2 (pos 0 ∷ pos 1 ∷ []) ∷ term (pos 0) 2 (negsuc 0 ∷ negsuc 0 ∷ []) ∷ []) ∷ [])
+          (record { index = pos 0; equation = k2-second } ∷ record { index = negsuc 0; equation = k2-first } ∷ [])
+          (1 ∷ 2 ∷ []) 1 (some (pos 0));
+    }
 
 -- K3: m = 1, (n - 3) x(n + 1) - x(n) stays as it is, with greatest root 3 (SCOPE 7.3).
 abbrev k3-only : Equation
@@ -89,7 +108,12 @@ k3-only = term (pos 1) 1 (negsuc 2 ∷ pos 1 ∷ []) ∷ term (pos 0) 1 (negsuc 
 
 abbrev pub k3 : Entry
 k3 =
-    record { side = leading; sizes = sizesOf 1 (pos 1) (pos 0); equations = k3-only ∷ []; expected = accepts (k3-only ∷ []) [] (1 ∷ []) 0 (some (pos 3)) }
+    record {
+      side = leading;
+      sizes = sizesOf 1 (pos 1) (pos 0);
+      equations = k3-only ∷ [];
+      expected = accepts (k3-only ∷ []) [] (1 ∷ []) 0 (some (pos 3));
+    }
 
 -- K4: m = 1, the zero row is refused with 6 (SCOPE 7.4).
 abbrev pub k4 : Entry
@@ -106,7 +130,12 @@ k5 =
 -- K6: m = 1, l = 4, t = 0: x(n) alone comes out as x(n + 4) after four shifts (SCOPE 7.6).
 abbrev pub k6 : Entry
 k6 =
-    record { side = leading; sizes = sizesOf 1 (pos 4) (pos 0); equations = (term (pos 0) 1 (pos 1 ∷ []) ∷ []) ∷ []; expected = accepts ((term (pos 4) 1 (pos 1 ∷ []) ∷ []) ∷ []) [] (1 ∷ []) 4 none }
+    record {
+      side = leading;
+      sizes = sizesOf 1 (pos 4) (pos 0);
+      equations = (term (pos 0) 1 (pos 1 ∷ []) ∷ []) ∷ [];
+      expected = accepts ((term (pos 4) 1 (pos 1 ∷ []) ∷ []) ∷ []) [] (1 ∷ []) 4 none;
+    }
 
 -- K7: D = 0, n^14 x + y and n x + n y are accepted (SCOPE 7.7).
 abbrev power : ℕ → Polynomial
@@ -120,7 +149,16 @@ k7-second = term (pos 0) 1 (power 1) ∷ term (pos 0) 2 (power 1) ∷ []
 
 abbrev pub k7 : Entry
 k7 =
-    record { side = leading; sizes = sizesOf 2 (pos 0) (pos 0); equations = k7-first 14 ∷ k7-second ∷ []; expected = accepts (k7-first 14 ∷ (term (pos 0) 2 (pos 0 ∷ negsuc 0 ∷ power 13) ∷ []) ∷ []) (record { index = pos 0; equation = k7-second } ∷ []) (1 ∷ 2 ∷ []) 0 (some (pos 1)) }
+    record {
+      side = leading;
+      sizes = sizesOf 2 (pos 0) (pos 0);
+      equations = k7-first 14 ∷ k7-second ∷ [];
+      expected =
+          accepts
+          (k7-first 14 ∷ (term (pos 0) 2 (pos 0 ∷ negsuc 0 ∷ power 13) ∷ []) ∷ [])
+          (record { index = pos 0; equation = k7-second } ∷ [])
+          (1 ∷ 2 ∷ []) 0 (some (pos 1));
+    }
 
 -- K8: with n^15 for n^14 the system is refused with 7 (SCOPE 7.8).
 abbrev pub k8 : Entry
@@ -136,23 +174,43 @@ k9-second p = term (pos 0) 1 (pos 1 ∷ []) ∷ term (pos 0) 2 p ∷ []
 
 abbrev pub k9 : Entry
 k9 =
-    record { side = leading; sizes = sizesOf 2 (pos 0) (pos 0); equations = k9-first 10000 ∷ k9-second (pos 1 ∷ pos 20000 ∷ []) ∷ []; expected = accepts (k9-first 10000 ∷ (term (pos 0) 2 (pos 9999 ∷ pos 200000000 ∷ []) ∷ []) ∷ []) [] (1 ∷ 2 ∷ []) 0 none }
+    record {
+      side = leading;
+      sizes = sizesOf 2 (pos 0) (pos 0);
+      equations = k9-first 10000 ∷ k9-second (pos 1 ∷ pos 20000 ∷ []) ∷ [];
+      expected = accepts (k9-first 10000 ∷ (term (pos 0) 2 (pos 9999 ∷ pos 200000000 ∷ []) ∷ []) ∷ []) [] (1 ∷ 2 ∷ []) 0 none;
+    }
 
 -- K10: with 20,000 x for 10,000 x the system is refused with 8; 20,000 x + y and x + 20,000 y are accepted, and y is
 -- the second row (SCOPE 7.10).
 abbrev pub k10 : Entry
 k10 =
-    record { side = leading; sizes = sizesOf 2 (pos 0) (pos 0); equations = k9-first 20000 ∷ k9-second (pos 1 ∷ pos 20000 ∷ []) ∷ []; expected = refuses 8 }
+    record {
+      side = leading;
+      sizes = sizesOf 2 (pos 0) (pos 0);
+      equations = k9-first 20000 ∷ k9-second (pos 1 ∷ pos 20000 ∷ []) ∷ [];
+      expected = refuses 8;
+    }
 
 abbrev pub k10-divided : Entry
 k10-divided =
-    record { side = leading; sizes = sizesOf 2 (pos 0) (pos 0); equations = k9-first 20000 ∷ k9-second (pos 20000 ∷ []) ∷ []; expected = accepts (k9-first 20000 ∷ (term (pos 0) 2 (pos 1 ∷ []) ∷ []) ∷ []) [] (1 ∷ 2 ∷ []) 0 none }
+    record {
+      side = leading;
+      sizes = sizesOf 2 (pos 0) (pos 0);
+      equations = k9-first 20000 ∷ k9-second (pos 20000 ∷ []) ∷ [];
+      expected = accepts (k9-first 20000 ∷ (term (pos 0) 2 (pos 1 ∷ []) ∷ []) ∷ []) [] (1 ∷ 2 ∷ []) 0 none;
+    }
 
 -- K11: on the trailing side, with l = 1 and t = 0, n x(n + 1) comes out as (n - 1) x(n) after one shift, with least
 -- root 1 (SCOPE 7.11).
 abbrev pub k11 : Entry
 k11 =
-    record { side = trailing; sizes = sizesOf 1 (pos 1) (pos 0); equations = (term (pos 1) 1 (pos 0 ∷ pos 1 ∷ []) ∷ []) ∷ []; expected = accepts ((term (pos 0) 1 (negsuc 0 ∷ pos 1 ∷ []) ∷ []) ∷ []) [] (1 ∷ []) 1 (some (pos 1)) }
+    record {
+      side = trailing;
+      sizes = sizesOf 1 (pos 1) (pos 0);
+      equations = (term (pos 1) 1 (pos 0 ∷ pos 1 ∷ []) ∷ []) ∷ [];
+      expected = accepts ((term (pos 0) 1 (negsuc 0 ∷ pos 1 ∷ []) ∷ []) ∷ []) [] (1 ∷ []) 1 (some (pos 1));
+    }
 
 abbrev pub table : List Entry
 table = k1 ∷ k2 ∷ k3 ∷ k4 ∷ k5 ∷ k6 ∷ k7 ∷ k8 ∷ k9 ∷ k10 ∷ k10-divided ∷ k11 ∷ []
@@ -239,7 +297,9 @@ k2-printed = refl
 abbrev four : (ℕ → ℤ) → ℤ → ℤ → ℤ
 four v a b = a *ℤ v 0 +ℤ (b *ℤ v 1 +ℤ (pos 0 *ℤ v 2 +ℤ (pos 0 *ℤ v 3 +ℤ pos 0)))
 
-k1-value : (z : Sequence) → valueOf (pos 0) (rowOfTerms (pos 0) k1-first) z (pos 1) ≡ four (z (pos 1)) (negsuc 1) (pos 0) +ℤ (four (z (pos 0)) (pos 0) (negsuc 0) +ℤ (four (z (negsuc 0)) (pos 0) (pos 0) +ℤ (four (z (negsuc 1)) (pos 0) (pos 0) +ℤ (four (z (negsuc 2)) (pos 0) (pos 0) +ℤ pos 0))))
+k1-value : (z : Sequence) → valueOf (pos 0) (rowOfTerms (pos 0) k1-first) z (pos 1) 
+    ≡ four (z (pos 1)) (negsuc 1) (pos 0) +ℤ (four (z (pos 0)) (pos 0) (negsuc 0) +ℤ (four (z (negsuc 0)) (pos 0) (pos 0)
+    +ℤ (four (z (negsuc 1)) (pos 0) (pos 0) +ℤ (four (z (negsuc 2)) (pos 0) (pos 0) +ℤ pos 0))))
 unfolding opened
 k1-value z = refl
 
@@ -263,4 +323,9 @@ pub record Known : Type 0 where
 pub known : Known
 unfolding All
 known =
-    record { entries = (k1-holds, (k2-holds, (k3-holds, (k4-holds, (k5-holds, (k6-holds, (k7-holds, (k8-holds, (k9-holds, (k10-holds, (k10-divided-holds, (k11-holds, tt)))))))))))); printed = k2-printed; paper = k1-paper }
+    record {
+      entries =
+          (k1-holds, (k2-holds, (k3-holds, (k4-holds, (k5-holds, (k6-holds, (k7-holds, (k8-holds, (k9-holds, (k10-holds, (k10-divided-holds, (k11-holds, tt))))))))))));
+      printed = k2-printed;
+      paper = k1-paper;
+    }

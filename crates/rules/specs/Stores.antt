@@ -20,7 +20,8 @@ use lib.IntN.{ℤ, pos, negℤ, natAbs, _-ℤ_}
 use lib.Signed.{leZ}
 use Rattle.algebra.specs.Polynomials.{isZero}
 use Rattle.lists.specs.Parts.{parts}
-use Rattle.rules.specs.Limits.{bound, coefficientCount, columnCount, blockCount, rowLength, relationLength, mostRelations, blockBound, small, mostEquations}
+use Rattle.rules.specs.Limits.{coefficientCount, columnCount, mostEquations, mostSpan, blockCount, blockLength, rowLength, relationLength}
+use Rattle.rules.specs.Limits.{mostRelations, blockBound, small}
 use Rattle.rules.specs.Rows.{Row, Relation, zeroBlock, coefficientsOf, smallRow}
 use Rattle.lists.specs.Everywhere.{All}
 use Rattle.lists.specs.Tests.{every}
@@ -44,7 +45,7 @@ span z = natAbs (z .l -ℤ z .t)
 
 unfoldable pub rowOf : List ℤ → Row
 unfolding parts
-rowOf l = record { blocks = map (parts coefficientCount columnCount) (parts (columnCount * coefficientCount) blockCount l) }
+rowOf l = record { blocks = map (parts coefficientCount columnCount) (parts blockLength blockCount l) }
 
 unfoldable pub rowsOf : ℕ → List ℤ → List Row
 unfolding parts rowOf
@@ -90,7 +91,7 @@ relationStoreOf l =
 unfoldable pub sizesRight : Sizes → Bool
 sizesRight z =
     (leb 1 (z .m) && leb (z .m) columnCount)
-    && (leZ (negℤ (pos blockBound)) (z .t) && leZ (z .t) (z .l) && leZ (z .l) (pos blockBound) && leZ (z .l -ℤ z .t) (pos 4))
+    && (leZ (negℤ (pos blockBound)) (z .t) && leZ (z .t) (z .l) && leZ (z .l) (pos blockBound) && leZ (z .l -ℤ z .t) (pos mostSpan))
 
 -- A relation count above 16 is refused with the sizes (SCOPE 1.23, 3.32).
 unfoldable pub countRight : ℕ → Bool

@@ -132,11 +132,11 @@ module _ (c : tie.After-leading-run) where
   relations-after = c .leading-run .kept .1 .0 ∙ long
 
   zero : ranBy c .result .refusal ≢ 0 → (ranBy c .rowStore ≡ zeros largestRows) × (ranBy c .relationStore ≡ zeros relationNeed)
-  unfolding sizesOf
+  unfolding equations sizesOf
   zero = refused-zero _ _ _ _ (checked e) rest long (ranBy c) (c .leading-run .ensures)
 
   used : ranBy c .result .refusal ≡ 0 → Used (sizesOf (r e .read-own .result .sizes)) (ranBy c)
-  unfolding sizesOf
+  unfolding equations sizesOf
   used = accepted-used _ _ _ _ (checked e) rest long (ranBy c) (c .leading-run .ensures)
 
 no-answer-requires-2 : tie.Need-no-answer-requires-2
