@@ -138,7 +138,8 @@ eval-shiftBy c (a ∷ p) x = horner (shiftBy c p) ∙ ap (λ e. a +ℤ (x +ℤ c
     step e = simp ringℤ
 
     horner : (s : Polynomial) → eval (add (a ∷ []) (add (pos 0 ∷ s) (scale c s))) x ≡ a +ℤ (x +ℤ c) *ℤ eval s x
-    horner s = rw (eval-add (a ∷ []) (add (pos 0 ∷ s) (scale c s)) x, eval-add (pos 0 ∷ s) (scale c s) x, eval-scale c s x) (step (eval s x))
+    horner s = rw (eval-add (a ∷ []) (add (pos 0 ∷ s) (scale c s)) x, eval-add (pos 0 ∷ s) (scale c s) x, eval-scale c s x)
+        (step (eval s x))
 
 pub eval-negate : (p : Polynomial) (x : ℤ) → eval (negate p) x ≡ negℤ (eval p x)
 unfolding negate eval

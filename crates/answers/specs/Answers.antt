@@ -36,7 +36,8 @@ use Rattle.rules.specs.Calls.{Call, callRun, afterCheck, afterRun, acceptance, 
 use Rattle.lists.specs.Overwritten.{overwrite}
 use Rattle.rules.specs.Numbers.{Read, got, fault}
 use Rattle.rules.specs.Sheets.{Sheet, contains, readSheet, writeSheet}
-use Rattle.rules.specs.SheetCalls.{ReadCall, readCall, afterRead, filled, unread, readRefusal, differentColumns, WriteCall, written, unwritten}
+use Rattle.rules.specs.SheetCalls.{ReadCall, readCall, afterRead, filled, unread, readRefusal, differentColumns, WriteCall, written}
+use Rattle.rules.specs.SheetCalls.{unwritten}
 use Rattle.rules.specs.SheetCalls.{checkWrite, writeCall}
 use Rattle.rules.specs.Batch.{mostBytes, Answer, accepted, refusedWith, sized, answerRun, answerRead, answerSheet}
 use Rattle.theory.specs.Demands.{Accepted, Ended, run-ends, six, seven, eight, nine, output-valid, diagonal-nonzero}
@@ -232,10 +233,12 @@ module _ (bytes : List ℕ) (x : Sheet) (rest : List ℕ) (e : readSheet bytes �
     ap (λ c. c .result .refusal) (ran-by (done s) f),
     answer-by (done s) f,
     ap (checkOn (x .sizes)) (ran-by (done s) f)
-        ∙ read-call-write (writeSheet (sheetAfter x s)) (sheetAfter x s) [] rowsRead relationsRead (sheet-read-written (sheetAfter x s) right),
+        ∙ read-call-write (writeSheet (sheetAfter x s)) (sheetAfter x s) [] rowsRead relationsRead
+        (sheet-read-written (sheetAfter x s) right),
     λ store.
         ap (λ c. writeOn (x .sizes) c store) (ran-by (done s) f)
-        ∙ read-write-call (writeSheet (sheetAfter x s)) (sheetAfter x s) [] rowsRead relationsRead (sheet-read-written (sheetAfter x s) right) store,
+        ∙ read-write-call (writeSheet (sheetAfter x s)) (sheetAfter x s) [] rowsRead relationsRead
+        (sheet-read-written (sheetAfter x s) right) store,
   )
     where
       accepts : Accepted leading (x .sizes) (x .rows) (x .relations) s
@@ -245,7 +248,8 @@ module _ (bytes : List ℕ) (x : Sheet) (rest : List ℕ) (e : readSheet bytes �
       right =
           record {
             valid = output-valid accepts;
-            order-right = order-after (equations (x .sizes)) (x .sizes .m) (span (x .sizes)) s (as-many (x .sizes)) (diagonal-nonzero accepts);
+            order-right = order-after (equations (x .sizes)) (x .sizes .m) (span (x .sizes)) s (as-many (x .sizes))
+                (diagonal-nonzero accepts);
           }
 
 -- ---- the three calls on stores
@@ -336,7 +340,8 @@ module _ (bytes : List ℕ) (rows relations : List ℤ) (rows-long : largestRows
     unfolding filled
     run-written h = let (x, rest, e) = sheet-read in go x rest e _ refl (leading-ends bytes x rest e)
       where
-        clash : (x : Sheet) (rest : List ℕ) → readSheet bytes ≡ got x rest → (n : ℕ) → leadingRun (x .rows) (x .relations) ≡ refused (suc n) → ⊥
+        clash : (x : Sheet) (rest : List ℕ) → readSheet bytes ≡ got x rest → (n : ℕ) → leadingRun (x .rows) (x .relations)
+            ≡ refused (suc n) → ⊥
         clash x rest e n f =
             suc-ne-zero n
             (sym (ran-refused bytes x rest e rows relations (suc n) f .0) ∙ sym (ap (λ c. c .result .refusal) (ran-on x rest e)) ∙ h)
@@ -373,7 +378,9 @@ module _ (sheet store : List ℕ) (lent : ℕ) (inside : lent ≤ length store) 
   room : length sheet ≤ lent → after (written sheet (take lent store)) ≡ answered (sized sheet) store
   unfolding written answered sized overwrite
   room h =
-      ap (λ t. after (cond t (record { refusal = 0; length = length sheet; byteStore = overwrite sheet (take lent store) }) (unwritten 1 (take lent store))))
+      ap (λ t. after
+      (cond t (record { refusal = 0; length = length sheet; byteStore = overwrite sheet (take lent store) })
+      (unwritten 1 (take lent store))))
       (le-leb (length sheet) (length (take lent store)) (rw size h))
       ∙ (λ i. record { refusal = 0; length = length sheet; store = joined i })
       ∙ sym (ap (λ t. cond t whole (unanswered 1 store)) (le-leb (length sheet) (length store) (omega arith)))
@@ -393,7 +400,9 @@ module _ (sheet store : List ℕ) (lent : ℕ) (inside : lent ≤ length store) 
   no-room : lent < length sheet → after (written sheet (take lent store)) ≡ answered (sized sheet) store
   unfolding written unwritten answered sized unanswered
   no-room h =
-      ap (λ t. after (cond t (record { refusal = 0; length = length sheet; byteStore = overwrite sheet (take lent store) }) (unwritten 1 (take lent store))))
+      ap (λ t. after
+      (cond t (record { refusal = 0; length = length sheet; byteStore = overwrite sheet (take lent store) })
+      (unwritten 1 (take lent store))))
       (lt-leb (length sheet) (length (take lent store)) (rw size h))
       ∙ ap (unanswered 1) (take-append-drop lent store)
       ∙ sym (⊎-elim short large most)
@@ -414,7 +423,8 @@ module _ (sheet store : List ℕ) (lent : ℕ) (inside : lent ≤ length store) 
   pub answer-written : after (written sheet (take lent store)) ≡ answered (sized sheet) store
   answer-written = go (leb (length sheet) lent) (leb→le (length sheet) lent) (nleb→lt (length sheet) lent)
     where
-      go : (t : Bool) → (T t → length sheet ≤ lent) → (T (not t) → lent < length sheet) → after (written sheet (take lent store)) ≡ answered (sized sheet) store
+      go : (t : Bool) → (T t → length sheet ≤ lent) → (T (not t) → lent < length sheet) → after (written sheet (take lent store))
+          ≡ answered (sized sheet) store
       go true low high = room (low tt)
       go false low high = no-room (high tt)
 
@@ -433,7 +443,8 @@ module _ (bytes store : List ℕ) (rows relations : List ℤ) (rows-long : large
   fine-read : c .result .refusal ≡ 0 → readCall bytes rows relations .result .refusal ≡ 0
   fine-read = subst (λ c. c .result .refusal ≡ 0) e
 
-  pub call-checked-read : c .result .refusal ≡ 0 → checkStores (c .result .sizes) (c .result .relations) (c .rowStore) (c .relationStore) ≡ 0
+  pub call-checked-read : c .result .refusal ≡ 0 → checkStores (c .result .sizes) (c .result .relations) (c .rowStore) (c .relationStore)
+      ≡ 0
   call-checked-read fine =
       ap (λ c. checkStores (c .result .sizes) (c .result .relations) (c .rowStore) (c .relationStore)) e
       ∙ read-checked bytes rows relations rows-long relations-long (fine-read fine)
@@ -453,7 +464,8 @@ module _ (bytes store : List ℕ) (rows relations : List ℤ) (rows-long : large
         → (sheet : List ℕ) × (answerSheet bytes ≡ sized sheet) × (checkOn (c .result .sizes) d ≡ 0)
         × ((store : List ℕ) → writeOn (c .result .sizes) d store ≡ written sheet store)
     run-writes accepts =
-        let (sheet, answer, passed, wrote) = run-written bytes rows relations rows-long relations-long (fine-read fine) (subst (λ d. d .result .refusal ≡ 0) same-run accepts) in
+        let (sheet, answer, passed, wrote) = run-written bytes rows relations rows-long relations-long (fine-read fine)
+        (subst (λ d. d .result .refusal ≡ 0) same-run accepts) in
         let sizes = ap (λ c. c .result .sizes) e in
         (sheet, answer, ap₂ checkOn sizes same-run ∙ passed, λ store. ap₂ (λ z d. writeOn z d store) sizes same-run ∙ wrote store)
 

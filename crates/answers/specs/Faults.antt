@@ -19,7 +19,8 @@ use lib.Signed.{leZ, ltZ}
 use Rattle.algebra.specs.Polynomials.{isZeroℤ}
 use Rattle.rules.specs.Limits.{coefficientCount, columnCount, mostRelations, blockBound, small}
 use Rattle.rules.specs.Stores.{Sizes, equations, span}
-use Rattle.rules.specs.Numbers.{newline, word, afterWord, beginsNumber, isNumber, numberOf, Read, got, fault, thenRead, judged, readWord, readSeparator, field}
+use Rattle.rules.specs.Numbers.{newline, word, afterWord, beginsNumber, isNumber, numberOf, Read, got, fault, thenRead, judged, readWord}
+use Rattle.rules.specs.Numbers.{readSeparator, field}
 use Rattle.rules.specs.Numbers.{between, judgeSmall}
 use Rattle.rules.specs.Sheets.{contains, judgeLowest, judgeLast, judgeBlock, judgeColumn, judgeOrder, judgeOrderCount}
 use Rattle.rules.specs.Sheets.{Sheet, parting, readSizes, readCoefficients, readTerm, readTerms, readEquation, readEquations, readRelation}

@@ -25,7 +25,8 @@ use Rattle.rules.specs.Elimination.{leading, State, Outcome, done, refused, who
 use Rattle.rules.specs.Stores.{Sizes, equations, span, rowsOf, relationsOf, relationNumbers, rowStoreOf, checkStores, Valid}
 use Rattle.rules.specs.Stores.{rowNeed, largestRows, relationNeed}
 use Rattle.rules.specs.Stores.{relationStoreOf, lengthsRight}
-use Rattle.rules.specs.Layout.{StoreRelation, stores-valid, size-bounds, countRight-iff, length-rowStoreOf, length-relationStoreOf, equations-few}
+use Rattle.rules.specs.Layout.{StoreRelation, stores-valid, size-bounds, countRight-iff, length-rowStoreOf, length-relationStoreOf}
+use Rattle.rules.specs.Layout.{equations-few}
 use Rattle.rules.specs.Calls.{Call, zeros, callRun, afterCheck, afterRun, acceptance, cleared, refusal}
 use Rattle.lists.specs.Overwritten.{overwrite, overwrite-paste, drop-overwrite}
 use Rattle.rules.specs.Numbers.{Read, got, fault}
@@ -87,7 +88,8 @@ module _ (bytes : List ℕ) (rows relations : List ℤ) (c : ReadCall) (e : c �
   unfolding readCall
   read-by r f = e ∙ ap (λ r. afterRead r rows relations) f
 
-  by-length : (x : Sheet) (rest : List ℕ) → readSheet bytes ≡ got x rest → (t : Bool) → lengthsRight (equations (x .sizes)) rows relations ≡ t
+  by-length : (x : Sheet) (rest : List ℕ) → readSheet bytes ≡ got x rest → (t : Bool) → lengthsRight (equations (x .sizes)) rows relations
+      ≡ t
       → c ≡ cond t (filled x rows relations) (unread 1 rows relations)
   unfolding afterRead
   by-length x rest f t g = read-by (got x rest) f ∙ ap (λ t. cond t (filled x rows relations) (unread 1 rows relations)) g
@@ -132,7 +134,8 @@ pub record Used (z : Sizes) (d : Call) : Type 0 where
       ≡ drop (d .result .relations * relationLength) (zeros relationNeed)
 
 module _ (z : Sizes) (count : ℕ) (rows relations : List ℤ) (checked : checkStores z count rows relations ≡ 0)
-    (rest : drop (equations z * rowLength) rows ≡ drop (equations z * rowLength) (zeros largestRows)) (long : length relations ≡ relationNeed)
+    (rest : drop (equations z * rowLength) rows ≡ drop (equations z * rowLength) (zeros largestRows))
+    (long : length relations ≡ relationNeed)
     (d : Call) (e : d ≡ callRun leading z count rows relations) where
   abbrev outcome : Outcome
   outcome = wholeRun leading (span z) (rowsOf (equations z) rows) (relationsOf count relations)

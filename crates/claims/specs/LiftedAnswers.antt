@@ -97,7 +97,11 @@ answer-course {bytes} {store} call =
 
 after-right : (x : Sheet) (s : State) → SheetAccepted x s → SheetRight (sheetAfter x s)
 after-right x s a =
-    record { valid = output-valid a; order-right = order-after (equations (x .sizes)) (x .sizes .m) (span (x .sizes)) s (as-many (x .sizes)) (diagonal-nonzero a) }
+    record {
+      valid = output-valid a;
+      order-right = order-after (equations (x .sizes)) (x .sizes .m) (span (x .sizes)) s
+          (as-many (x .sizes)) (diagonal-nonzero a);
+    }
 
 -- The run of a sheet ends in one way.
 sheet-end : {x y : Sheet} {bytes : List ℕ} {o u : Outcome} → IsSheetOf x bytes → IsSheetOf y bytes → sheetRun x ≡ o

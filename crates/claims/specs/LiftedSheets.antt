@@ -493,7 +493,8 @@ module _ (rows : List ℤ) (z : Sizes) (row : ℕ) (block : ℤ) (column : ℕ) 
         let b = place-zero .0 e in
         ap length (polynomialPart-at rows z row block column e)
         ∙ sixteen (b .0 .0) (getD (rowsOf (equations z) rows) (pred row) noRow)
-        (all-getD StoreRow (rowsOf (equations z) rows) noRow (pred row) (rw length-rowsOf (omega (arith, inside .row-inside .0, inside .row-inside .1)))
+        (all-getD StoreRow (rowsOf (equations z) rows) noRow (pred row)
+        (rw length-rowsOf (omega (arith, inside .row-inside .0, inside .row-inside .1)))
         (StoreRow-rowsOf (equations z) rows (b .1)))
       where
         below : IsColumn z column → pred column < z .m

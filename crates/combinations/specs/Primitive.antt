@@ -20,7 +20,8 @@ use lib.Dec.{T}
 use lib.IntN.{ℤ, pos, natAbs}
 use lib.ListN.{take, drop, replicate, take-append-drop}
 use lib.Signed.{quotZ}
-use Rattle.algebra.specs.Gcd.{gcd, content, divideBy, gcd-zero, gcd-divides-left, gcd-divides-right, gcd-le-right, content-append, content-zero}
+use Rattle.algebra.specs.Gcd.{gcd, content, divideBy, gcd-zero, gcd-divides-left, gcd-divides-right, gcd-le-right, content-append}
+use Rattle.algebra.specs.Gcd.{content-zero}
 use Rattle.algebra.specs.Gcd.{dividesAll-of-content, isZero-divideBy, divideBy-one}
 use Rattle.algebra.specs.Polynomials.{Polynomial, isZero}
 use Rattle.lists.specs.Tests.{T-&&, every, every-flatten}

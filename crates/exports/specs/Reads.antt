@@ -40,7 +40,13 @@ readNumbers r = pos (r .sizes .m) ∷ r .sizes .l ∷ r .sizes .t ∷ pos (r .re
 unfoldable pub readAfter : ReadCall → List ℤ → Exported
 unfolding onAcceptance readNumbers
 readAfter c resultStore =
-    record { refusal = c .result .refusal; rowStore = c .rowStore; relationStore = c .relationStore; resultStore = onAcceptance (c .result .refusal) (readNumbers (c .result)) resultStore }
+    record {
+      refusal = c .result .refusal;
+      rowStore = c .rowStore;
+      relationStore = c .relationStore;
+      resultStore = onAcceptance
+          (c .result .refusal) (readNumbers (c .result)) resultStore;
+    }
 
 -- The result store is found too short last of all, with the other stores (SCOPE 3.53, 4.42): the sheet is then judged
 -- as with stores that hold nothing, and nothing is written.
@@ -55,7 +61,8 @@ chosen x y e = ap (λ k. cond k x y) (sym e)
 
 module _ (bytes : List ℕ) (rowStore relationStore resultStore : List ℤ) where
   pub read-short : length resultStore < resultNeed
-      → kept (readCall bytes [] [] .result .refusal) rowStore relationStore resultStore ≡ exportRead bytes rowStore relationStore resultStore
+      → kept (readCall bytes [] [] .result .refusal) rowStore relationStore resultStore
+      ≡ exportRead bytes rowStore relationStore resultStore
   unfolding exportRead
   read-short h = chosen _ _ (lt-leb resultNeed (length resultStore) h)
 

@@ -27,10 +27,12 @@ use lib.ListN.{length}
 use Rattle.rules.specs.Limits.{columnCount}
 use Rattle.lists.specs.Everywhere.{All, all-map, getD-all}
 use Rattle.rules.specs.Elimination.{Side, State, Outcome, going, done, refused, wholeRun, neverNumber}
-use Rattle.rules.specs.Stores.{Sizes, Valid, span, rowsOf, relationsOf, sizesRight, countRight, lengthsRight, numbersRight, checkStores, equations}
+use Rattle.rules.specs.Stores.{Sizes, Valid, span, rowsOf, relationsOf, sizesRight, countRight, lengthsRight, numbersRight, checkStores}
+use Rattle.rules.specs.Stores.{equations}
 use Rattle.rules.specs.Layout.{SizeBounds, size-bounds, checkStores-order, stores-valid, countRight-iff, block-place}
 use Rattle.lists.specs.Padded.{length-padTo, all-padTo}
-use Rattle.theory.specs.Demands.{Accepted, Ended, accepted, six, seven, eight, nine, run-ends, shifts-bounded, output-valid, diagonal-nonzero}
+use Rattle.theory.specs.Demands.{Accepted, Ended, accepted, six, seven, eight, nine, run-ends, shifts-bounded, output-valid}
+use Rattle.theory.specs.Demands.{diagonal-nonzero}
 use Rattle.rules.specs.Calls.{reportedOrder}
 use Rattle.rules.specs.Calls.{Result, Call, callRun, zeros, refusal, unchanged, cleared, acceptance, afterRun, afterCheck}
 use Rattle.lists.specs.Overwritten.{overwrite}
@@ -53,7 +55,13 @@ checkRun z count rowStore relationStore resultStore =
 unfoldable pub ran : Call → List ℤ → Exported
 unfolding overwrite runNumbers
 ran c resultStore =
-    record { refusal = c .result .refusal; rowStore = c .rowStore; relationStore = c .relationStore; resultStore = overwrite (runNumbers (c .result)) resultStore }
+    record {
+      refusal = c .result .refusal;
+      rowStore = c .rowStore;
+      relationStore = c .relationStore;
+      resultStore = overwrite
+          (runNumbers (c .result)) resultStore;
+    }
 
 unfoldable pub afterRunCheck : Side → Sizes → ℕ → List ℤ → List ℤ → List ℤ → ℕ → Exported
 unfolding ran callRun kept
@@ -97,7 +105,13 @@ kept-late n numbers resultStore e = sym (ap (λ b. cond b resultStore (overwrite
 unfoldable pub runAfter : Call → List ℤ → Exported
 unfolding keptOr runNumbers
 runAfter c resultStore =
-    record { refusal = c .result .refusal; rowStore = c .rowStore; relationStore = c .relationStore; resultStore = keptOr (c .result .refusal) (runNumbers (c .result)) resultStore }
+    record {
+      refusal = c .result .refusal;
+      rowStore = c .rowStore;
+      relationStore = c .relationStore;
+      resultStore = keptOr
+          (c .result .refusal) (runNumbers (c .result)) resultStore;
+    }
 
 after-late : (c : Call) (resultStore : List ℤ) → early (c .result .refusal) ≡ false → runAfter c resultStore ≡ ran c resultStore
 unfolding runAfter ran
@@ -129,7 +143,8 @@ few-checks false l n = omega arith
 
 run-zeros : (n : ℕ) → SmallResult (refusal n)
 unfolding refusal All
-run-zeros n = record { few-relations = zero-le; few-shifts = zero-le; four = refl; columns = (zero-le, (zero-le, (zero-le, (zero-le, tt)))) }
+run-zeros n = record
+    { few-relations = zero-le; few-shifts = zero-le; four = refl; columns = (zero-le, (zero-le, (zero-le, (zero-le, tt)))) }
 
 module _ (side : Side) (z : Sizes) (count : ℕ) (rowStore relationStore : List ℤ) where
   abbrev outcome : Outcome
@@ -194,7 +209,8 @@ module _ (side : Side) (z : Sizes) (count : ℕ) (rowStore relationStore : List 
       by-run e (done s) f = accepted-small e s f
       by-run e (refused n) f = run-zeros n
 
-      by-check : (n : ℕ) → checkStores z count rowStore relationStore ≡ n → SmallResult (callRun side z count rowStore relationStore .result)
+      by-check : (n : ℕ) → checkStores z count rowStore relationStore ≡ n
+          → SmallResult (callRun side z count rowStore relationStore .result)
       by-check zero e = subst (λ c. SmallResult (c .result)) (sym (worked e)) (by-run e _ refl)
       by-check (suc n) e = subst (λ c. SmallResult (c .result)) (sym (unchecked n e)) (run-zeros (suc n))
 
@@ -208,9 +224,11 @@ module _ (side : Side) (z : Sizes) (count : ℕ) (rowStore relationStore : List 
         ap (λ n. kept n rowStore relationStore resultStore) (none-checked z count) ∙ refused-short (sizesRight z && countRight count)
         ∙ ap (afterRunCheck side z count rowStore relationStore resultStore)
         (sym
-        (ap (λ b. cond (sizesRight z && countRight count) (cond (lengthsRight (equations z) rowStore relationStore && b) (cond (numbersRight z count rowStore relationStore) 0 5) 1) 2)
+        (ap (λ b. cond (sizesRight z && countRight count)
+        (cond (lengthsRight (equations z) rowStore relationStore && b) (cond (numbersRight z count rowStore relationStore) 0 5) 1) 2)
         (lt-leb resultNeed (length resultStore) h)
-        ∙ short-check (sizesRight z && countRight count) (lengthsRight (equations z) rowStore relationStore) (numbersRight z count rowStore relationStore)))
+        ∙ short-check (sizesRight z && countRight count) (lengthsRight (equations z) rowStore relationStore)
+        (numbersRight z count rowStore relationStore)))
       where
         refused-short : (s : Bool) → kept (cond s 1 2) rowStore relationStore resultStore
             ≡ afterRunCheck side z count rowStore relationStore resultStore (cond s 1 2)
@@ -221,9 +239,11 @@ module _ (side : Side) (z : Sizes) (count : ℕ) (rowStore relationStore : List 
         → checkRun z count rowStore relationStore resultStore ≡ checkStores z count rowStore relationStore
     unfolding checkRun checkStores
     long-checked h =
-        ap (λ b. cond (sizesRight z && countRight count) (cond (lengthsRight (equations z) rowStore relationStore && b) (cond (numbersRight z count rowStore relationStore) 0 5) 1) 2)
+        ap (λ b. cond (sizesRight z && countRight count)
+        (cond (lengthsRight (equations z) rowStore relationStore && b) (cond (numbersRight z count rowStore relationStore) 0 5) 1) 2)
         (le-leb resultNeed (length resultStore) h)
-        ∙ long-check (sizesRight z && countRight count) (lengthsRight (equations z) rowStore relationStore) (numbersRight z count rowStore relationStore)
+        ∙ long-check (sizesRight z && countRight count) (lengthsRight (equations z) rowStore relationStore)
+        (numbersRight z count rowStore relationStore)
 
     run-long : resultNeed ≤ length resultStore
         → runAfter (callRun side z count rowStore relationStore) resultStore ≡ exportRun side z count rowStore relationStore resultStore
@@ -232,13 +252,15 @@ module _ (side : Side) (z : Sizes) (count : ℕ) (rowStore relationStore : List 
         by-check (checkStores z count rowStore relationStore) refl
         ∙ ap (afterRunCheck side z count rowStore relationStore resultStore) (sym (long-checked h))
       where
-        begun : checkStores z count rowStore relationStore ≡ 0 → early (callRun side z count rowStore relationStore .result .refusal) ≡ false
+        begun : checkStores z count rowStore relationStore ≡ 0 → early (callRun side z count rowStore relationStore .result .refusal)
+            ≡ false
         begun e = ap (λ c. early (c .result .refusal)) (worked e) ∙ late e outcome (run-ends side (valid e))
 
         few : (n : ℕ) → checkStores z count rowStore relationStore ≡ n → n ≤ 5
         few n e =
             subst (λ k. k ≤ 5) (sym (checkStores-order z count rowStore relationStore) ∙ e)
-            (few-checks (sizesRight z && countRight count) (lengthsRight (equations z) rowStore relationStore) (numbersRight z count rowStore relationStore))
+            (few-checks (sizesRight z && countRight count) (lengthsRight (equations z) rowStore relationStore)
+            (numbersRight z count rowStore relationStore))
 
         by-check : (n : ℕ) → checkStores z count rowStore relationStore ≡ n
             → runAfter (callRun side z count rowStore relationStore) resultStore

@@ -211,7 +211,8 @@ module _ (z : Sizes) (count : ℕ) (orderStore rowStore relationStore : List ℤ
               ≡ after (checkWrite z count (orderOf orderStore) rowStore relationStore)
           by-check zero f = ap after (sym f)
           by-check (suc n) f =
-              ap (λ k. wrote (afterWriteCheck z count (orderOf orderStore) rowStore relationStore byteStore k) resultStore) f ∙ ap after (sym f)
+              ap (λ k. wrote (afterWriteCheck z count (orderOf orderStore) rowStore relationStore byteStore k) resultStore) f
+              ∙ ap after (sym f)
 
       -- The call, from the sheet that was written and the result store that was left.
       pub write-done : {x : WriteCall} {left : List ℤ} → x ≡ writeCall z count (orderOf orderStore) rowStore relationStore byteStore
@@ -220,7 +221,8 @@ module _ (z : Sizes) (count : ℕ) (orderStore rowStore relationStore : List ℤ
           ≡ exportWrite z count orderStore rowStore relationStore byteStore resultStore
       unfolding wrote
       write-done {x} same f g =
-          (λ i. record { refusal = x .refusal; byteStore = x .byteStore; resultStore = f i }) ∙ ap (λ y. wrote y resultStore) same ∙ write-long g
+          (λ i. record { refusal = x .refusal; byteStore = x .byteStore; resultStore = f i }) ∙ ap (λ y. wrote y resultStore) same
+          ∙ write-long g
 
 -- ---- the length of a sheet
 

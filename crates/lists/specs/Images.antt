@@ -97,7 +97,8 @@ module _ {A B C : Type 0} (f : A → B → C) where
   zipWith-nil [] = refl
   zipWith-nil (x ∷ l) = refl
 
-  pub zipWith-append : (l l′ : List A) (m m′ : List B) → length l ≡ length m → zipWith f (l ++ l′) (m ++ m′) ≡ zipWith f l m ++ zipWith f l′ m′
+  pub zipWith-append : (l l′ : List A) (m m′ : List B) → length l ≡ length m → zipWith f (l ++ l′) (m ++ m′) ≡ zipWith f l m
+      ++ zipWith f l′ m′
   unfolding zipWith
   zipWith-append [] l′ [] m′ e = refl
   zipWith-append [] l′ (y ∷ m) m′ e = absurd (suc-ne-zero (length m) (sym e))

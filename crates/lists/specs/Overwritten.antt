@@ -41,7 +41,8 @@ drop-overwrite n l store h =
     ∙ drop-drop (n - length l) (length l) store ∙ ap (λ k. drop k store) e
 
 -- A part put behind another one.
-pub put-behind : {A : Type 0} (text more output : List A) → text ++ overwrite more (drop (length text) output) ≡ overwrite (text ++ more) output
+pub put-behind : {A : Type 0} (text more output : List A) → text ++ overwrite more (drop (length text) output)
+    ≡ overwrite (text ++ more) output
 unfolding overwrite
 put-behind text more output =
     ap (λ l. text ++ (more ++ l)) (drop-drop (length more) (length text) output)
@@ -72,7 +73,8 @@ set-overwrite [] a h = absurd (not-suc-le-zero h)
 set-overwrite (b ∷ store) a h = refl
 
 -- A part pasted at the front takes the place of the front.
-pub overwrite-paste : {A : Type 0} (store numbers : List A) (n : ℕ) → n ≤ length numbers → paste store 0 numbers n ≡ overwrite (take n numbers) store
+pub overwrite-paste : {A : Type 0} (store numbers : List A) (n : ℕ) → n ≤ length numbers → paste store 0 numbers n
+    ≡ overwrite (take n numbers) store
 unfolding overwrite
 overwrite-paste store numbers n h =
     ap (λ k. take n numbers ++ drop k store) (zero-add n ∙ sym (length-take-le n numbers h))

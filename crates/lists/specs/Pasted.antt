@@ -118,7 +118,8 @@ sets-out d at [] h = refl
 sets-out d at (x ∷ xs) h = ap (λ l. sets l (suc at) xs) (set-out d at x h) ∙ sets-out d (suc at) xs (omega arith)
 
 -- A member set past them may be set before them.
-pub sets-later : {A : Type 0} (d : List A) (at : ℕ) (xs : List A) (i : ℕ) (b : A) → at + length xs ≤ i → set (sets d at xs) i b ≡ sets (set d i b) at xs
+pub sets-later : {A : Type 0} (d : List A) (at : ℕ) (xs : List A) (i : ℕ) (b : A) → at + length xs ≤ i → set (sets d at xs) i b
+    ≡ sets (set d i b) at xs
 sets-later d at [] i b h = refl
 sets-later d at (x ∷ xs) i b h =
     sets-later (set d at x) (suc at) xs i b (omega arith) ∙ ap (λ l. sets l (suc at) xs) (set-comm d at i x b (λ e. omega arith))

@@ -97,7 +97,8 @@ module _ {A : Type 0} {n i : ℕ} {t q : List A} (w : Overwritten n t q i) (long
       record {
         within = omega arith;
         long = length-set q i a ∙ w .long;
-        front = rw add-one (take-suc-set q i a (omega arith) ∙ ap₂ (λ r b. r ++ (b ∷ [])) (w .front) e ∙ sym (take-suc t i z (omega arith)));
+        front = rw add-one
+            (take-suc-set q i a (omega arith) ∙ ap₂ (λ r b. r ++ (b ∷ [])) (w .front) e ∙ sym (take-suc t i z (omega arith)));
       }
 
   pub overwritten-all : n ≤ i → q ≡ t

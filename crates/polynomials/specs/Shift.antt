@@ -99,7 +99,8 @@ expansion-all p k n h =
 binomial-size : (j k : ℕ) → j < coefficientCount → binomial j k ≤ 2 ^ 15
 binomial-size j k h = le-trans (binomial-le j k) (pow-le-pow-right (omega arith) (le-of-suc-le-suc h))
 
-pub term-size : (p : Polynomial) → T (every small p) → (k j : ℕ) → j < coefficientCount → natAbs (pos (binomial j k) *ℤ coeff p j) ≤ 2 ^ 15 * bound
+pub term-size : (p : Polynomial) → T (every small p) → (k j : ℕ) → j < coefficientCount
+    → natAbs (pos (binomial j k) *ℤ coeff p j) ≤ 2 ^ 15 * bound
 term-size p s k j h = rw (natAbs-*ℤ (pos (binomial j k)) (coeff p j)) (mul-le-mul (binomial-size j k h) (small-coeff p s j))
 
 pub expansion-size : (p : Polynomial) → T (every small p) → (k n : ℕ) → n ≤ coefficientCount → natAbs (expansion p k n) ≤ 2 ^ 19 * bound
@@ -107,6 +108,7 @@ unfolding expansion
 expansion-size p s k n h =
     omega (arith, natAbs-sumBelow n (2 ^ 15 * bound) (λ j. pos (binomial j k) *ℤ coeff p j) (λ j l. term-size p s k j (omega arith)))
 
-pub shift-size : (p : Polynomial) → T (every small p) → length p ≤ coefficientCount → (k : ℕ) → natAbs (coeff (shift p) k) ≤ 2 ^ coefficientCount * bound
+pub shift-size : (p : Polynomial) → T (every small p) → length p ≤ coefficientCount → (k : ℕ)
+    → natAbs (coeff (shift p) k) ≤ 2 ^ coefficientCount * bound
 shift-size p s h k =
     le-trans (coeff-shift-size p bound (small-coeff p s) k) (mul-le-mul-right bound (pow-le-pow-right (omega arith) h))

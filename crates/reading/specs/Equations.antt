@@ -35,11 +35,13 @@ use Rattle.lists.specs.Padded.{length-padTo, padTo-all, padTo}
 use Rattle.lists.specs.Pasted.{parts-paste, parts-paste-in}
 use Rattle.rules.specs.Calls.{zeros}
 use Rattle.rules.specs.Numbers.{Read, got, fault, thenRead, field, between, space, newline}
-use Rattle.rules.specs.Sheets.{Term, putTerm, rowOfTerms, blankRow, readTerm, readTerms, readEquation, parting, afterCount, always, judgeBlock, judgeColumn, readCoefficients}
+use Rattle.rules.specs.Sheets.{Term, putTerm, rowOfTerms, blankRow, readTerm, readTerms, readEquation, parting, afterCount, always}
+use Rattle.rules.specs.Sheets.{judgeBlock, judgeColumn, readCoefficients}
 use Rattle.algebra.specs.Order.{≤ℤ-trans, ≤ℤ-cases, ≤ℤ-of-≡, ≤ℤ-difference, <ℤ-to-≤ℤ, +ℤ-<ℤ-left, negℤ-<ℤ, pos-<ℤ, pos-natAbs-nonneg}
 use Rattle.algebra.specs.Polynomials.{Polynomial}
 use Rattle.tokens.specs.Fields.{then-got, then-fault, then-cong, then-cong-read, then-then, then-parts, field-judged}
-use Rattle.reading.specs.Terms.{padded, BlockRight, block-zero, column-zero, termOf, padTerm, readPadded, readPlace, readPolynomial, withPlace, readPadded-is, placeInRow}
+use Rattle.reading.specs.Terms.{padded, BlockRight, block-zero, column-zero, termOf, padTerm, readPadded, readPlace, readPolynomial}
+use Rattle.reading.specs.Terms.{withPlace, readPadded-is, placeInRow}
 
 -- ---- a part of a list replaced
 
@@ -95,7 +97,8 @@ pub rowOf-paste : (l p : List ℤ) (b c : ℕ) → length l ≡ rowLength → le
     ≡ record { blocks = set (rowOf l .blocks) b (set (getD (rowOf l .blocks) b []) c p) }
 rowOf-paste l p b c el ep hb hc =
     rowOf-is (paste l (b * blockLength + c * coefficientCount) p coefficientCount)
-    ∙ ap (λ bs. record { blocks = bs }) (blocks-paste blockLength coefficientCount blockCount columnCount l p b c hb hc refl (omega arith) ep)
+    ∙ ap (λ bs. record { blocks = bs })
+    (blocks-paste blockLength coefficientCount blockCount columnCount l p b c hb hc refl (omega arith) ep)
     ∙ ap (λ r. record { blocks = set (r .blocks) b (set (getD (r .blocks) b []) c p) }) (sym (rowOf-is l))
 
 -- ---- terms at different places may change their order
@@ -130,7 +133,8 @@ putTerm-is : (l : ℤ) (e : Term) (r : Row) → putTerm l e r ≡ record { block
 unfolding putTerm update putColumn
 putTerm-is l e r = refl
 
-putTerm-comm : (l : ℤ) (e f : Term) (r : Row) → (placeNumber l e ≡ placeNumber l f → ⊥) → putTerm l e (putTerm l f r) ≡ putTerm l f (putTerm l e r)
+putTerm-comm : (l : ℤ) (e f : Term) (r : Row) → (placeNumber l e ≡ placeNumber l f → ⊥) → putTerm l e (putTerm l f r)
+    ≡ putTerm l f (putTerm l e r)
 unfolding update putColumn placeNumber
 putTerm-comm l e f r h =
     twice e f
@@ -139,11 +143,16 @@ putTerm-comm l e f r h =
   where
     twice : (e f : Term)
         → putTerm l e (putTerm l f r)
-        ≡ record { blocks = update [] (update [] (r .blocks) (natAbs (l -ℤ f .block)) (putColumn f)) (natAbs (l -ℤ e .block)) (putColumn e) }
-    twice e f = putTerm-is l e (putTerm l f r) ∙ ap (λ q. record { blocks = update [] (q .blocks) (natAbs (l -ℤ e .block)) (putColumn e) }) (putTerm-is l f r)
+        ≡ record {
+          blocks = update [] (update [] (r .blocks) (natAbs (l -ℤ f .block)) (putColumn f)) (natAbs (l -ℤ e .block))
+              (putColumn e);
+        }
+    twice e f = putTerm-is l e (putTerm l f r)
+        ∙ ap (λ q. record { blocks = update [] (q .blocks) (natAbs (l -ℤ e .block)) (putColumn e) }) (putTerm-is l f r)
 
     same : (k : ℕ) → (pred (f .column) ≡ pred (e .column) → ⊥)
-        → update [] (update [] (r .blocks) k (putColumn f)) k (putColumn e) ≡ update [] (update [] (r .blocks) k (putColumn e)) k (putColumn f)
+        → update [] (update [] (r .blocks) k (putColumn f)) k (putColumn e)
+        ≡ update [] (update [] (r .blocks) k (putColumn e)) k (putColumn f)
     same k h =
         update-twice [] (r .blocks) k (putColumn f) (putColumn e)
         ∙ ap (set (r .blocks) k) (set-comm (getD (r .blocks) k []) (pred (f .column)) (pred (e .column)) _ _ h)
@@ -187,13 +196,15 @@ pub record TermRight (z : Sizes) (s₀ : ℤ) (c₀ : ℕ) (e : Term) : Type 0 w
 pub got-value : {A : Type 0} {a b : A} {r s : List ℕ} → got a r ≡ got b s → a ≡ b
 got-value e = cc
 
-pub place-right : (z : Sizes) (s₀ : ℤ) (c₀ : ℕ) (bytes : List ℕ) (q : ℤ × ℕ) (rest : List ℕ) (p : Polynomial) → readPlace z s₀ c₀ bytes ≡ got q rest
+pub place-right : (z : Sizes) (s₀ : ℤ) (c₀ : ℕ) (bytes : List ℕ) (q : ℤ × ℕ) (rest : List ℕ) (p : Polynomial) → readPlace z s₀ c₀ bytes
+    ≡ got q rest
     → TermRight z s₀ c₀ (termOf (q .0) (q .1) p)
 unfolding readPlace
 place-right z s₀ c₀ bytes q rest p e =
     let block = then-parts (field (judgeBlock z s₀) (always space) bytes) _ e in
     let column = then-parts (field (judgeColumn z s₀ c₀ (block .0)) (always space) (block .1)) _ (block .3) in
-    let right = column-zero z s₀ c₀ (block .0) (column .0) (field-judged (judgeColumn z s₀ c₀ (block .0)) (always space) (block .1) (column .2)) in
+    let right = column-zero z s₀ c₀ (block .0) (column .0)
+    (field-judged (judgeColumn z s₀ c₀ (block .0)) (always space) (block .1) (column .2)) in
     subst (λ q. TermRight z s₀ c₀ (termOf (q .0) (q .1) p)) (got-value (column .3))
     (record {
       block-right = block-zero z s₀ (block .0) (field-judged (judgeBlock z s₀) (always space) bytes (block .2));
@@ -202,7 +213,8 @@ place-right z s₀ c₀ bytes q rest p e =
       rising = ap (λ c. ltZ (block .0) s₀ || ltZ (pos c₀) c) (pos-natAbs (column .0) (right .counted)) ∙ right .rising;
     })
 
-pub padded-right : (z : Sizes) (s₀ : ℤ) (c₀ last : ℕ) (bytes : List ℕ) (e : Term) (rest : List ℕ) → readPadded z s₀ c₀ last bytes ≡ got e rest
+pub padded-right : (z : Sizes) (s₀ : ℤ) (c₀ last : ℕ) (bytes : List ℕ) (e : Term) (rest : List ℕ) → readPadded z s₀ c₀ last bytes
+    ≡ got e rest
     → TermRight z s₀ c₀ e × (length (e .polynomial) ≡ coefficientCount)
 unfolding withPlace readPolynomial padded
 padded-right z s₀ c₀ last bytes e rest h =
@@ -292,7 +304,8 @@ terms-after z few (suc k) s₀ c₀ bytes es rest hs hc h =
       term-after z s₀ c₀ hs hc e right,
       All-later (z .l) (reach (z .l) s₀ c₀) (reach (z .l) (e .block) (e .column)) (more .0)
           (omega (arith, term-after z s₀ c₀ hs hc e right, place-reach z s₀ c₀ hs hc e right))
-          (terms-after z few k (e .block) (e .column) (first .1) (more .0) (more .1) (right .block-right .high) (le-trans (right .high) few) (more .2)),
+          (terms-after z few k (e .block) (e .column) (first .1) (more .0) (more .1) (right .block-right .high)
+          (le-trans (right .high) few) (more .2)),
     )
 
 -- ---- terms put into a row as they are read
@@ -307,7 +320,8 @@ putTerm-padTerm : (l : ℤ) (e : Term) (r : Row) → putTerm l (padTerm e) r ≡
 unfolding padTerm putColumn
 putTerm-padTerm l e r =
     putTerm-is l (padTerm e) r
-    ∙ ap (λ p. record { blocks = update [] (r .blocks) (natAbs (l -ℤ e .block)) (λ b. set b (pred (e .column)) p) }) (padTo-all coefficientCount (pos 0) _ (length-padTo coefficientCount (pos 0) (e .polynomial)))
+    ∙ ap (λ p. record { blocks = update [] (r .blocks) (natAbs (l -ℤ e .block)) (λ b. set b (pred (e .column)) p) })
+    (padTo-all coefficientCount (pos 0) _ (length-padTo coefficientCount (pos 0) (e .polynomial)))
     ∙ sym (putTerm-is l e r)
 
 putAll : ℤ → Row → List Term → List ℕ → Read Row
@@ -316,20 +330,24 @@ putAll l r es rest = got (putTerms l r es) rest
 -- One more term: it is put first, whatever comes after it.
 module _ (z : Sizes) (few : z .m ≤ columnCount) (k : ℕ) (s₀ : ℤ) (c₀ : ℕ) (r : Row) (hs : s₀ ≤ℤ z .l) (hc : c₀ ≤ columnCount)
     (e : Term) (rest : List ℕ) (right : TermRight z s₀ c₀ e) where
-  term-first : thenRead (readTerms z k (e .block) (e .column) rest) (putAll (z .l) (putTerm (z .l) e r)) ≡ thenRead (termThen z k e rest) (putAll (z .l) r)
+  term-first : thenRead (readTerms z k (e .block) (e .column) rest) (putAll (z .l) (putTerm (z .l) e r))
+      ≡ thenRead (termThen z k e rest) (putAll (z .l) r)
   unfolding termThen putAll consTerm putTerms
   term-first =
-      then-cong-read (readTerms z k (e .block) (e .column) rest) (λ es more h. ap (λ q. got q more) (sym (putTerms-first (z .l) r e es (later es more h))))
+      then-cong-read (readTerms z k (e .block) (e .column) rest)
+      (λ es more h. ap (λ q. got q more) (sym (putTerms-first (z .l) r e es (later es more h))))
       ∙ then-cong (readTerms z k (e .block) (e .column) rest) (λ es more. sym (then-got (putAll (z .l) r) refl))
       ∙ sym (then-then (readTerms z k (e .block) (e .column) rest) (consTerm e) (putAll (z .l) r))
     where
       strict : (es : List Term) → All (λ f. reach (z .l) (e .block) (e .column) ≤ placeNumber (z .l) f) es
           → All (λ f. placeNumber (z .l) e < placeNumber (z .l) f) es
-      strict es a = All-later (z .l) (suc (placeNumber (z .l) e)) (reach (z .l) (e .block) (e .column)) es (le-of-eq (sym (place-reach z s₀ c₀ hs hc e right))) a
+      strict es a = All-later (z .l) (suc (placeNumber (z .l) e)) (reach (z .l) (e .block) (e .column)) es
+          (le-of-eq (sym (place-reach z s₀ c₀ hs hc e right))) a
 
       later : (es : List Term) (more : List ℕ) → readTerms z k (e .block) (e .column) rest ≡ got es more
           → All (λ f. placeNumber (z .l) e < placeNumber (z .l) f) es
-      later es more h = strict es (terms-after z few k (e .block) (e .column) rest es more (right .block-right .high) (le-trans (right .high) few) h)
+      later es more h = strict es
+          (terms-after z few k (e .block) (e .column) rest es more (right .block-right .high) (le-trans (right .high) few) h)
 
 intoRest : Sizes → ℕ → Row → Term → List ℕ → Read Row
 intoRest z k r e rest = termsInto z k (e .block) (e .column) (putTerm (z .l) e r) rest
@@ -339,7 +357,8 @@ termsInto-suc : (z : Sizes) (k : ℕ) (s₀ : ℤ) (c₀ : ℕ) (r : Row) (bytes
 unfolding termsInto intoRest readPadded padTerm
 termsInto-suc z k s₀ c₀ r bytes =
     then-then (readTerm z s₀ c₀ (parting newline k) bytes) (λ e rest. got (padTerm e) rest) (intoRest z k r)
-    ∙ then-cong (readTerm z s₀ c₀ (parting newline k) bytes) (λ e rest. then-got (intoRest z k r) refl ∙ ap (λ q. termsInto z k (e .block) (e .column) q rest) (putTerm-padTerm (z .l) e r))
+    ∙ then-cong (readTerm z s₀ c₀ (parting newline k) bytes)
+    (λ e rest. then-got (intoRest z k r) refl ∙ ap (λ q. termsInto z k (e .block) (e .column) q rest) (putTerm-padTerm (z .l) e r))
 
 terms-into : (z : Sizes) → z .m ≤ columnCount → (k : ℕ) (s₀ : ℤ) (c₀ : ℕ) (r : Row) (bytes : List ℕ) → s₀ ≤ℤ z .l → c₀ ≤ columnCount
     → termsInto z k s₀ c₀ r bytes ≡ thenRead (readTerms z k s₀ c₀ bytes) (putAll (z .l) r)
@@ -392,14 +411,19 @@ unfolding placeInRow
 place-fits z s₀ c₀ e sizes right = omega (arith, term-place z s₀ c₀ e sizes right)
 
 -- Sixteen numbers stored at a term's place.
-put-is : (z : Sizes) (s₀ : ℤ) (c₀ : ℕ) (e : Term) (row : List ℤ) → T (sizesRight z) → TermRight z s₀ c₀ e → length (e .polynomial) ≡ coefficientCount
-    → length row ≡ rowLength → rowOf (paste row (placeInRow (z .l) (e .block) (e .column)) (e .polynomial) coefficientCount) ≡ putTerm (z .l) e (rowOf row)
+put-is : (z : Sizes) (s₀ : ℤ) (c₀ : ℕ) (e : Term) (row : List ℤ) → T (sizesRight z) → TermRight z s₀ c₀ e → length (e .polynomial)
+    ≡ coefficientCount
+    → length row ≡ rowLength → rowOf (paste row (placeInRow (z .l) (e .block) (e .column)) (e .polynomial) coefficientCount)
+    ≡ putTerm (z .l) e (rowOf row)
 unfolding placeInRow putColumn update
 put-is z s₀ c₀ e row sizes right whole long =
     let place = term-place z s₀ c₀ e sizes right in
     let column : pred (e .column) < columnCount = omega (arith, place .2, place .3) in
     rowOf-paste row (e .polynomial) (natAbs (z .l -ℤ e .block)) (pred (e .column)) long whole (suc-le-suc (place .0)) column
-    ∙ ap (λ p. record { blocks = set (rowOf row .blocks) (natAbs (z .l -ℤ e .block)) (set (getD (rowOf row .blocks) (natAbs (z .l -ℤ e .block)) []) (pred (e .column)) p) })
+    ∙ ap (λ p. record {
+      blocks = set (rowOf row .blocks) (natAbs (z .l -ℤ e .block))
+          (set (getD (rowOf row .blocks) (natAbs (z .l -ℤ e .block)) []) (pred (e .column)) p);
+    })
     (sym (padTo-all coefficientCount (pos 0) (e .polynomial) whole))
     ∙ sym (putTerm-is (z .l) e (rowOf row))
 
@@ -440,9 +464,11 @@ module _ (z : Sizes) (sizes : T (sizesRight z)) (count : ℕ) (bytes : List ℕ)
       terms-refused n e = so-far .rest ∙ term-next ∙ then-fault (intoRest z (left - 1) (rowOf row)) e
 
       -- One more term, read into its place.
-      pub terms-go-on : (e : Term) (after from : ℕ) → readPadded z s c (parting newline (left - 1)) (drop next bytes) ≡ got e (drop after bytes)
+      pub terms-go-on : (e : Term) (after from : ℕ) → readPadded z s c (parting newline (left - 1)) (drop next bytes)
+          ≡ got e (drop after bytes)
           → after ≤ length bytes → from ≡ placeInRow (z .l) (e .block) (e .column)
-          → TermsTo z count bytes at (putMid from (from + coefficientCount - from) row (e .polynomial)) after (e .block) (e .column) (left - 1)
+          → TermsTo z count bytes at (putMid from (from + coefficientCount - from) row (e .polynomial)) after (e .block) (e .column)
+          (left - 1)
       unfolding intoRest
       terms-go-on e after from h inside same =
           let right = padded-right z s c (parting newline (left - 1)) (drop next bytes) e (drop after bytes) h in

@@ -13,7 +13,8 @@ use lib.ListN.{length, take, drop, take-append-drop, drop-of-length-le}
 use lib.Seq.{take-all}
 use lib.IntN.{ℤ}
 use Rattle.rules.specs.Limits.{mostEquations, rowLength, relationLength, mostRelations}
-use Rattle.rules.specs.Stores.{equations, rowsOf, relationsOf, rowNeed, largestRows, relationNeed, rowStoreOf, relationStoreOf, lengthsRight}
+use Rattle.rules.specs.Stores.{equations, rowsOf, relationsOf, rowNeed, largestRows, relationNeed, rowStoreOf, relationStoreOf}
+use Rattle.rules.specs.Stores.{lengthsRight}
 use Rattle.rules.specs.Layout.{length-relationsOf, length-relationStoreOf, StoreRelation-relationsOf}
 use Rattle.rules.specs.Calls.{zeros}
 use Rattle.lists.specs.Overwritten.{overwrite}

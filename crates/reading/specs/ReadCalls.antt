@@ -6,7 +6,8 @@
 -- Main statements
 --   relationStore-again  the relations of a store, as a store of their own
 --   rows-filled, relations-filled   numbers put into a lent store are what `rules` writes into it
---   call-faults, call-refuses, call-short, call-fills   the call where the sheet is refused, where a store is too short, and where it is read
+-- call-faults, call-refuses, call-short, call-fills   the call where the sheet is refused, where a store is too short, and where
+-- it is read
 use Prim.Native.Nat.{ℕ, _+_, _*_, _-_, _≤_}
 use native.Mathlib.Nat.{le-of-eq}
 use native.Mathlib.Omega.{arith}
@@ -17,9 +18,11 @@ use lib.ListN.{length, take, drop, replicate, length-replicate}
 use lib.Seq.{paste, take-all}
 use lib.IntN.{ℤ, pos}
 use Rattle.rules.specs.Limits.{relationLength, mostRelations}
-use Rattle.rules.specs.Stores.{rowsOf, relationOf, relationsOf, relationNumbers, rowNeed, relationNeed, rowStoreOf, relationStoreOf, lengthsRight, equations}
+use Rattle.rules.specs.Stores.{rowsOf, relationOf, relationsOf, relationNumbers, rowNeed, relationNeed, rowStoreOf, relationStoreOf}
+use Rattle.rules.specs.Stores.{lengthsRight, equations}
 use Rattle.lists.specs.Parts.{parts, flatten-parts, parts-width}
-use Rattle.rules.specs.Layout.{rowStoreOf-rowsOf, relationNumbers-relationOf, length-relationsOf, length-relationStoreOf, StoreRelation-relationsOf}
+use Rattle.rules.specs.Layout.{rowStoreOf-rowsOf, relationNumbers-relationOf, length-relationsOf, length-relationStoreOf}
+use Rattle.rules.specs.Layout.{StoreRelation-relationsOf}
 use Rattle.lists.specs.Images.{map-back}
 use Rattle.lists.specs.Everywhere.{all-mono}
 use Rattle.lists.specs.Overwritten.{overwrite, overwrite-paste}
@@ -50,23 +53,27 @@ unfolding relationsOf
 used-again count l h =
     ap flatten
     (map-back relationOf relationNumbers (parts relationLength count l)
-    (all-mono (λ p. length p ≡ relationLength) (λ p. relationNumbers (relationOf p) ≡ p) relationNumbers-relationOf (parts relationLength count l) (parts-width relationLength count l h)))
+    (all-mono (λ p. length p ≡ relationLength) (λ p. relationNumbers (relationOf p) ≡ p) relationNumbers-relationOf
+    (parts relationLength count l) (parts-width relationLength count l h)))
     ∙ flatten-parts relationLength count l
 
 pub relationStore-again : (count : ℕ) (l : List ℤ) → count * relationLength ≤ length l
-    → relationStoreOf (relationsOf count l) ≡ take (count * relationLength) l ++ replicate ((mostRelations - count) * relationLength) (pos 0)
+    → relationStoreOf (relationsOf count l) ≡ take (count * relationLength) l
+    ++ replicate ((mostRelations - count) * relationLength) (pos 0)
 unfolding relationStoreOf
 relationStore-again count l h =
     ap₂ (λ used n. used ++ replicate ((mostRelations - n) * relationLength) (pos 0)) (used-again count l h) (length-relationsOf count l)
 
 -- The relations at the front, and zeros at the places past the count (SCOPE 3.13).
 pub relations-filled : (count : ℕ) (numbers store : List ℤ) → count ≤ mostRelations → count * relationLength ≤ length numbers
-    → paste (paste store 0 numbers (count * relationLength)) (count * relationLength) (replicate (relationNeed - count * relationLength) (pos 0)) (relationNeed - count * relationLength)
+    → paste (paste store 0 numbers (count * relationLength)) (count * relationLength)
+    (replicate (relationNeed - count * relationLength) (pos 0)) (relationNeed - count * relationLength)
     ≡ overwrite (relationStoreOf (relationsOf count numbers)) store
 unfolding overwrite
 relations-filled count numbers store few enough =
     paste-twice store numbers (replicate left (pos 0)) (count * relationLength) left enough
-    ∙ ap₂ (λ part n. part ++ drop n store) (ap (λ r. take (count * relationLength) numbers ++ r) unused ∙ sym (relationStore-again count numbers enough)) whole
+    ∙ ap₂ (λ part n. part ++ drop n store)
+    (ap (λ r. take (count * relationLength) numbers ++ r) unused ∙ sym (relationStore-again count numbers enough)) whole
   where
     left : ℕ
     left = relationNeed - count * relationLength
@@ -81,7 +88,8 @@ relations-filled count numbers store few enough =
 
     whole : count * relationLength + left ≡ length (relationStoreOf (relationsOf count numbers))
     whole =
-        sym (length-relationStoreOf (relationsOf count numbers) (rw length-relationsOf few) (StoreRelation-relationsOf count numbers enough) ∙ omega arith)
+        sym (length-relationStoreOf (relationsOf count numbers) (rw length-relationsOf few)
+        (StoreRelation-relationsOf count numbers enough) ∙ omega arith)
 
 -- ---- the call
 
@@ -102,7 +110,8 @@ pub call-faults : (bytes : List ℕ) (n : ℕ) (rowStore relationStore : List �
 unfolding readCall afterRead
 call-faults bytes n rowStore relationStore e = ap (λ q. afterRead q rowStore relationStore) (pad-fault (readSheet bytes) n e)
 
-module _ (bytes : List ℕ) (r : ReadResult) (rows relations : List ℤ) (read : SheetRead bytes r rows relations) (rowStore relationStore : List ℤ) where
+module _ (bytes : List ℕ) (r : ReadResult) (rows relations : List ℤ) (read : SheetRead bytes r rows relations)
+    (rowStore relationStore : List ℤ) where
   pub call-refuses : (r .refusal ≡ 0 → ⊥) → readCall bytes rowStore relationStore ≡ unread (r .refusal) rowStore relationStore
   call-refuses h =
       call-faults bytes (r .refusal) rowStore relationStore (sym (read .answer) ∙ fault-of bytes (r .refusal) _ (length bytes) h)
@@ -135,13 +144,16 @@ module _ (bytes : List ℕ) (r : ReadResult) (rows relations : List ℤ) (read :
     call-read =
         let parts = then-parts (readSheet bytes) padSheet (sym (read .answer) ∙ ap (λ n. readOf bytes n held (length bytes)) none) in
         ap (λ q. afterRead q rowStore relationStore) (parts .2)
-        ∙ ap (λ p. cond (lengthsRight (equations (p .sizes)) rowStore relationStore) (callWith 0 (length (p .relations)) p) (unread 1 rowStore relationStore))
+        ∙ ap (λ p. cond (lengthsRight (equations (p .sizes)) rowStore relationStore) (callWith 0 (length (p .relations)) p)
+        (unread 1 rowStore relationStore))
         (got-value (parts .3))
-        ∙ ap₂ (λ n k. cond (lengthsRight (equations (r .sizes)) rowStore relationStore) (callWith n k held) (unread 1 rowStore relationStore)) (sym none)
+        ∙ ap₂ (λ n k. cond (lengthsRight (equations (r .sizes)) rowStore relationStore) (callWith n k held)
+        (unread 1 rowStore relationStore)) (sym none)
         (length-relationsOf (r .relations) relations)
 
     -- A store too short is 1, after all faults of the sheet (SCOPE 4.42).
-    pub call-short : lengthsRight (equations (r .sizes)) rowStore relationStore ≡ false → readCall bytes rowStore relationStore ≡ unread 1 rowStore relationStore
+    pub call-short : lengthsRight (equations (r .sizes)) rowStore relationStore ≡ false → readCall bytes rowStore relationStore
+        ≡ unread 1 rowStore relationStore
     call-short e = call-read ∙ ap (λ t. cond t filledCall (unread 1 rowStore relationStore)) e
 
     pub call-fills : lengthsRight (equations (r .sizes)) rowStore relationStore ≡ true → readCall bytes rowStore relationStore ≡ filledCall

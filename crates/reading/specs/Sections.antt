@@ -152,7 +152,8 @@ module _ {B : Type 0} (width : ℕ) (decode : List ℤ → B) (one : List ℕ �
           left : (n - i) * width ≡ (n - (i + 1)) * width + width
           left = let e : n - i ≡ suc (n - (i + 1)) = omega arith in ap (λ k. k * width) e ∙ suc-mul (n - (i + 1)) width
 
-          moved : (l : List B) → map decode (parts width (i + 1) (paste store (i * width) item width)) ++ l ≡ map decode (parts width i store) ++ (decode item ∷ l)
+          moved : (l : List B) → map decode (parts width (i + 1) (paste store (i * width) item width)) ++ l
+              ≡ map decode (parts width i store) ++ (decode item ∷ l)
           moved l =
               ap (λ ps. map decode ps ++ l)
               (ap (λ k. parts width k (paste store (i * width) item width)) (add-one i) ∙ parts-paste-end width i store item whole fits)
@@ -171,7 +172,8 @@ pub relationOf-back : (l row : List ℤ) (n0 : ℤ) → length l ≡ relationLen
 relationOf-back [] row n0 h = absurd (suc-ne-zero rowLength (sym h))
 relationOf-back (x ∷ l) row n0 h =
     relationOf-is (n0 ∷ (row ++ drop (suc (length l) - 1) l))
-    ∙ ap (λ r. record { index = n0; row = rowOf r }) (ap (λ r. row ++ r) (drop-of-length-le l {i = suc (length l) - 1} (omega arith)) ∙ append-nil row)
+    ∙ ap (λ r. record { index = n0; row = rowOf r })
+    (ap (λ r. row ++ r) (drop-of-length-le l {i = suc (length l) - 1} (omega arith)) ∙ append-nil row)
 
 -- What lies behind n0 is zero still.
 pub relation-behind : (l : List ℤ) (n0 : ℤ) → l ≡ zeros relationLength → midOf 1 (length (set l 0 n0) - 1) (set l 0 n0) ≡ zeros rowLength

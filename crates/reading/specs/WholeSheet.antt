@@ -28,7 +28,8 @@ use Rattle.rules.specs.Sheets.{always, judgeLowest, Sheet, readSizes, readEquat
 use Rattle.lists.specs.Padded.{padTo}
 use Rattle.rules.specs.SheetCalls.{ReadResult, readRefusal}
 use Rattle.lists.specs.Tests.{both-true}
-use Rattle.tokens.specs.Fields.{readOf, fault-of, then-got, then-fault, then-cong, then-then, then-parts, field-judged, size-between, passed, between-zero}
+use Rattle.tokens.specs.Fields.{readOf, fault-of, then-got, then-fault, then-cong, then-then, then-parts, field-judged, size-between}
+use Rattle.tokens.specs.Fields.{passed, between-zero}
 use Rattle.reading.specs.Terms.{padded}
 use Rattle.reading.specs.Equations.{got-value}
 use Rattle.rows.specs.Validity.{sizesOf}
@@ -68,7 +69,9 @@ sizes-parts bytes = refl
 highest-is : (m : ℤ) (bytes : List ℕ) → highestThen m bytes ≡ sizesThen m bytes
 unfolding highestThen lowestThen sizesThen readBlocks
 highest-is m bytes =
-    then-cong highest (λ l rest. then-cong (field (judgeLowest l) (always newline) rest) (λ t more. sym (then-got made refl)) ∙ sym (then-then (field (judgeLowest l) (always newline) rest) (λ t more. got (l, t) more) made))
+    then-cong highest
+    (λ l rest. then-cong (field (judgeLowest l) (always newline) rest) (λ t more. sym (then-got made refl))
+    ∙ sym (then-then (field (judgeLowest l) (always newline) rest) (λ t more. got (l, t) more) made))
     ∙ sym (then-then highest (λ l rest. thenRead (field (judgeLowest l) (always newline) rest) λ t more. got (l, t) more) made)
   where
     highest : Read ℤ
@@ -83,9 +86,11 @@ sizes-is bytes =
     sizes-parts bytes
     ∙ then-cong (field (between (pos 3) (pos 3)) (always space) bytes)
     (λ _ rest. then-cong (field (between (pos 1) (pos 4)) (always space) rest) highest-is)
-    ∙ sym (then-then (field (between (pos 3) (pos 3)) (always space) bytes) (λ _ rest. field (between (pos 1) (pos 4)) (always space) rest) sizesThen)
+    ∙ sym (then-then (field (between (pos 3) (pos 3)) (always space) bytes)
+    (λ _ rest. field (between (pos 1) (pos 4)) (always space) rest) sizesThen)
 
-pub unknowns-right : (bytes : List ℕ) (m : ℤ) (rest : List ℕ) → readUnknowns bytes ≡ got m rest → T (nonNeg m) × (1 ≤ natAbs m) × (natAbs m ≤ 4)
+pub unknowns-right : (bytes : List ℕ) (m : ℤ) (rest : List ℕ) → readUnknowns bytes ≡ got m rest → T (nonNeg m) × (1 ≤ natAbs m)
+    × (natAbs m ≤ 4)
 unfolding readUnknowns
 unknowns-right bytes m rest e =
     let first = then-parts (field (between (pos 3) (pos 3)) (always space) bytes) _ e in
@@ -135,7 +140,8 @@ unfoldable pub equationSection : Sizes → ℕ → List ℕ → Read (List Row)
 equationSection z n bytes = thenRead (field (between (pos n) (pos n)) (always newline) bytes) λ _ rest. readEquations z n rest
 
 unfoldable pub relationSection : Sizes → List ℕ → Read (List Relation)
-relationSection z bytes = thenRead (field (between (pos 0) (pos 16)) (always newline) bytes) λ count rest. readRelations z (natAbs count) rest
+relationSection z bytes = thenRead (field (between (pos 0) (pos 16)) (always newline) bytes) λ count rest. readRelations z
+    (natAbs count) rest
 
 abbrev pub sheet : Sizes → List Row → List Relation → List ℕ → Sheet
 sheet z rows relations order = record { sizes = z; rows = rows; relations = relations; order = order }
@@ -194,12 +200,14 @@ module _ (z : Sizes) where
   orderEnd : List Row → List Relation → List ℕ → Read Sheet
   orderEnd rows relations bytes = thenRead (orderSection z rows relations bytes) readEnd
 
-  relations-padded : (rows : List Row) (bytes : List ℕ) → thenRead (fromRelationCount rows bytes) padSheet ≡ thenRead (relationsThen z rows bytes) readEnd
+  relations-padded : (rows : List Row) (bytes : List ℕ) → thenRead (fromRelationCount rows bytes) padSheet
+      ≡ thenRead (relationsThen z rows bytes) readEnd
   unfolding fromRelationCount fromRelations relationsThen relationSection orderEnd
   relations-padded rows bytes =
       then-then count (fromRelations rows) padSheet
       ∙ then-cong count
-      (λ k rest. then-then (readRelations z (natAbs k) rest) (fromOrder rows) padSheet ∙ then-cong (readRelations z (natAbs k) rest) (order-padded rows))
+      (λ k rest. then-then (readRelations z (natAbs k) rest) (fromOrder rows) padSheet
+      ∙ then-cong (readRelations z (natAbs k) rest) (order-padded rows))
       ∙ sym (then-then count (λ k rest. readRelations z (natAbs k) rest) (orderEnd rows))
       ∙ sym (then-then (relationSection z bytes) (orderSection z rows) readEnd)
     where
@@ -214,7 +222,8 @@ module _ (z : Sizes) where
   equations-padded bytes =
       then-then count fromEquations padSheet
       ∙ then-cong count
-      (λ _ rest. then-then (readEquations z (equations z) rest) fromRelationCount padSheet ∙ then-cong (readEquations z (equations z) rest) relations-padded)
+      (λ _ rest. then-then (readEquations z (equations z) rest) fromRelationCount padSheet
+      ∙ then-cong (readEquations z (equations z) rest) relations-padded)
       ∙ sym (then-then count (λ _ rest. readEquations z (equations z) rest) relationsEnd)
       ∙ sym (then-then (equationSection z (equations z) bytes) (relationsThen z) readEnd)
     where
@@ -244,7 +253,8 @@ resultOf r = record { refusal = r .refusal; sizes = sizesOf (r .sizes); relation
 
 -- A sheet that was read into stores: the result and the stores hold it, or the result is the refusal.
 pub record SheetRead (bytes : List ℕ) (r : ReadResult) (rows relations : List ℤ) : Type 0 where
-  pub answer : readOf bytes (r .refusal) (sheet (r .sizes) (rowsOf (equations (r .sizes)) rows) (relationsOf (r .relations) relations) (r .order)) (length bytes)
+  pub answer : readOf bytes (r .refusal)
+      (sheet (r .sizes) (rowsOf (equations (r .sizes)) rows) (relationsOf (r .relations) relations) (r .order)) (length bytes)
       ≡ thenRead (readSheet bytes) padSheet
   pub few-rows : r .refusal ≡ 0 → equations (r .sizes) ≤ mostEquations
   pub few : r .refusal ≡ 0 → r .relations ≤ mostRelations
@@ -263,7 +273,8 @@ pub record HeadRead (bytes : List ℕ) (refusal : ℕ) (z : Sizes) (count at : �
   pub refused : (refusal ≡ 0 → ⊥) → thenRead (readSheet bytes) padSheet ≡ fault refusal
 
 module _ {bytes : List ℕ} {refusal : ℕ} {z : Sizes} {count at : ℕ} {rows : List ℤ} where
-  pub head-refuses : {n : ℕ} → (n ≡ 0 → ⊥) → thenRead (readSheet bytes) padSheet ≡ fault n → refusal ≡ n → HeadRead bytes refusal z count at rows
+  pub head-refuses : {n : ℕ} → (n ≡ 0 → ⊥) → thenRead (readSheet bytes) padSheet ≡ fault n → refusal ≡ n
+      → HeadRead bytes refusal z count at rows
   head-refuses h e r = record { read = λ z. absurd (h (sym r ∙ z)); refused = λ _. e ∙ ap fault (sym r) }
 
 module _ (bytes : List ℕ) (z : Sizes) (first : List ℕ) (sizes-read : readSizes bytes ≡ got z first) where
@@ -277,7 +288,8 @@ module _ (bytes : List ℕ) (z : Sizes) (first : List ℕ) (sizes-read : readSiz
     unfolding sectionsEnd readSections relationsThen
     to-relations = sheet-is bytes ∙ then-got sectionsEnd sizes-read ∙ ap (λ r. thenRead r readEnd) (then-got (relationsThen z) rows-read)
 
-    pub count-fault : {n : ℕ} → field (between (pos 0) (pos 16)) (always newline) second ≡ fault n → thenRead (readSheet bytes) padSheet ≡ fault n
+    pub count-fault : {n : ℕ} → field (between (pos 0) (pos 16)) (always newline) second ≡ fault n → thenRead (readSheet bytes) padSheet
+        ≡ fault n
     unfolding relationSection
     count-fault e = to-relations ∙ then-fault readEnd (then-fault (orderSection z rows) (then-fault _ e))
 
@@ -311,7 +323,8 @@ module _ (bytes : List ℕ) (r : ReadResult) (rows relations : List ℤ) where
   held = sheet (r .sizes) (rowsOf (equations (r .sizes)) rows) (relationsOf (r .relations) relations) (r .order)
 
   -- A sheet that is refused.
-  pub sheet-refuses : (n : ℕ) → r ≡ readRefusal n → (n ≡ 0 → ⊥) → thenRead (readSheet bytes) padSheet ≡ fault n → SheetRead bytes r rows relations
+  pub sheet-refuses : (n : ℕ) → r ≡ readRefusal n → (n ≡ 0 → ⊥) → thenRead (readSheet bytes) padSheet ≡ fault n
+      → SheetRead bytes r rows relations
   unfolding readRefusal held
   sheet-refuses n e h f =
       record {
@@ -321,8 +334,10 @@ module _ (bytes : List ℕ) (r : ReadResult) (rows relations : List ℤ) where
       }
 
   -- A sheet that is read to its end.
-  pub sheet-gives : (s : Sheet) (at : ℕ) → r .refusal ≡ 0 → sheet (r .sizes) (rowsOf (equations (r .sizes)) rows) (relationsOf (r .relations) relations) (r .order) ≡ s
-      → thenRead (readSheet bytes) padSheet ≡ readEnd s (drop at bytes) → length bytes ≤ at → equations (r .sizes) ≤ mostEquations → r .relations ≤ mostRelations
+  pub sheet-gives : (s : Sheet) (at : ℕ) → r .refusal ≡ 0
+      → sheet (r .sizes) (rowsOf (equations (r .sizes)) rows) (relationsOf (r .relations) relations) (r .order) ≡ s
+      → thenRead (readSheet bytes) padSheet ≡ readEnd s (drop at bytes) → length bytes ≤ at → equations (r .sizes) ≤ mostEquations
+      → r .relations ≤ mostRelations
       → SheetRead bytes r rows relations
   unfolding readOf readEnd
   sheet-gives s at z same e end rows-few count =

@@ -7,7 +7,8 @@
 --   mostSteps                    the most steps of a run
 --   startProgress, settledProgress, listedProgress, shiftedProgress   the progress at the start, and after each rule
 --   Ready equations rows relations p     what a step asks of the stores and of the progress
---   Reached equations .. most o x        what steps give: their outcome is x, the rest of the stores is kept, at most `most` shifts are made,
+-- Reached equations .. most o x        what steps give: their outcome is x, the rest of the stores is kept, at most `most` shifts
+-- are made,
 --                                and the stores are ready for a step
 --
 -- Main statements
@@ -33,7 +34,8 @@ state rows relations order shifts = record { rows = rows; relations = relations;
 
 unfoldable pub stateOf : ℕ → List ℤ → List ℤ → Progress → State
 unfolding rowsOf relationsOf
-stateOf equations rows relations p = state (rowsOf equations rows) (relationsOf (p .count) relations) (take (p .settled) (p .order)) (p .shifts)
+stateOf equations rows relations p = state (rowsOf equations rows) (relationsOf (p .count) relations) (take (p .settled) (p .order))
+    (p .shifts)
 
 unfoldable pub outcomeOf : ℕ → Bool → State → Outcome
 outcomeOf zero false s = going s

@@ -41,7 +41,8 @@ use Rattle.reduction.specs.Progress.{Ready, Reached, stateOf, outcomeOf,
 use Rattle.reduction.specs.RunLaws.{start-ready}
 
 abbrev pub runOf : Side → ℕ → ℕ → List ℤ → List ℤ → Outcome
-runOf side equations count rows relations = run side (enough (rowsOf equations rows)) (start (rowsOf equations rows) (relationsOf count relations))
+runOf side equations count rows relations = run side (enough (rowsOf equations rows))
+    (start (rowsOf equations rows) (relationsOf count relations))
 
 -- Zeros past the columns of the settled rows.
 unfoldable pub progressOf : State → Progress
@@ -86,7 +87,8 @@ overwrite-kept need part store after long kept e =
     ∙ ap (λ l. take need after ++ l) (sym (kept .same-rest)) ∙ take-append-drop need after)
 
 -- The progress is that of the state that the stores hold with it.
-held-progress : {equations : ℕ} {rows relations : List ℤ} {p : Progress} → Ready equations rows relations p → p ≡ progressOf (stateOf equations rows relations p)
+held-progress : {equations : ℕ} {rows relations : List ℤ} {p : Progress} → Ready equations rows relations p → p
+    ≡ progressOf (stateOf equations rows relations p)
 unfolding progressOf stateOf
 held-progress {equations} {rows} {relations} {p} r =
     let settled = sym (length-take-le (p .settled) (p .order) (omega (arith, r .settled, r .few-rows, r .four))) in
@@ -100,7 +102,8 @@ module _ (s : State) where
   held-answer false = refl
   held-answer true = refl
 
-  held-rows : (equations : ℕ) (d : Bool) (store : List ℤ) → overwrite (rowStoreOf (s .rows)) store ≡ rowsAfter equations (outcomeOf 0 d s) store
+  held-rows : (equations : ℕ) (d : Bool) (store : List ℤ) → overwrite (rowStoreOf (s .rows)) store
+      ≡ rowsAfter equations (outcomeOf 0 d s) store
   unfolding rowsAfter outcomeOf
   held-rows equations false store = refl
   held-rows equations true store = refl
@@ -117,7 +120,8 @@ ran-held {equations} {rows} {relations} {rows'} {relations'} {o} {x} r e =
     record {
       answer = whole ∙ held-answer s (o .done) ∙ ap answerFor same;
       rows-after =
-          overwrite-kept (rowNeed equations) (rowStoreOf (s .rows)) rows rows' (ready .rows-within .long) (r .rows-kept) (rowStoreOf-rowsOf equations rows')
+          overwrite-kept (rowNeed equations) (rowStoreOf (s .rows)) rows rows' (ready .rows-within .long) (r .rows-kept)
+          (rowStoreOf-rowsOf equations rows')
           ∙ held-rows s equations (o .done) rows ∙ ap (λ y. rowsAfter equations y rows) same;
       relations-after =
           overwrite-kept relationNeed (relationStoreOf (s .relations)) relations relations' (listing .within .long) (r .relations-kept)
@@ -233,8 +237,10 @@ refused-outcome {equations} {rows} {relations} {rows'} {relations'} {o} r n =
     refused-is (o .refusal) (o .done) (stateOf equations rows' relations' (o .progress)) n ∙ r .outcome
 
 -- Both stores hold zeros, and the progress is that of a run that has not begun.
-ran-zeros : (equations n : ℕ) (rows relations : List ℤ) → n ≢ 0 → equations ≤ columnCount → rowNeed equations ≤ length rows → relationNeed ≤ length relations
-    → Ran equations rows relations (overwrite (zeros (rowNeed equations)) rows) (overwrite (zeros relationNeed) relations) (answerOf n (startProgress 0))
+ran-zeros : (equations n : ℕ) (rows relations : List ℤ) → n ≢ 0 → equations ≤ columnCount → rowNeed equations ≤ length rows
+    → relationNeed ≤ length relations
+    → Ran equations rows relations (overwrite (zeros (rowNeed equations)) rows) (overwrite (zeros relationNeed) relations)
+    (answerOf n (startProgress 0))
     (refused n)
 unfolding answerFor rowsAfter relationsAfter
 ran-zeros equations n rows relations h few rows-long relations-long =
@@ -249,7 +255,8 @@ ran-zeros equations n rows relations h few rows-long relations-long =
             relations-kept = zeros-kept relationNeed relations relations-long;
             few-shifts = zero-le;
             ready =
-                start-ready equations 0 rows' relations' few (zeros-within (rowNeed equations) rows rows-long) (zeros-listing relations relations-long);
+                start-ready equations 0 rows' relations' few (zeros-within (rowNeed equations) rows rows-long)
+                (zeros-listing relations relations-long);
           };
     }
   where
@@ -300,7 +307,8 @@ ran-kept {equations} {rows} {relations} {rows₁} {relations₁} {rows₂} {rela
       answer = r .answer;
       rows-after =
           r .rows-after
-          ∙ subst (λ y. rowsAfter equations y rows₁ ≡ rowsAfter equations y rows) (refused-outcome reached n) (zeros-over (rowNeed equations) rows h);
+          ∙ subst (λ y. rowsAfter equations y rows₁ ≡ rowsAfter equations y rows) (refused-outcome reached n)
+          (zeros-over (rowNeed equations) rows h);
       relations-after =
           r .relations-after
           ∙ subst (λ y. relationsAfter y relations₁ ≡ relationsAfter y relations) (refused-outcome reached n)

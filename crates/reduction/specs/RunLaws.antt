@@ -1,7 +1,8 @@
 -- The run as a loop of steps.
 --
 -- Main definitions
---   Running side equations .. n p left x   the loop's invariant: at most `left` steps more from the progress p give x, unless n is a refusal
+-- Running side equations .. n p left x   the loop's invariant: at most `left` steps more from the progress p give x, unless n is
+-- a refusal
 --   Stopped equations n p left           the loop's end: no step is left, or n is a refusal, or every row is settled
 --
 -- Main statements
@@ -58,7 +59,8 @@ enough-few equations h = omega (arith, mul-le-mul (count equations h) (width equ
 -- ---- the loop
 
 -- What a run asks is what its first step asks.
-pub start-ready : (equations count : ℕ) (rows relations : List ℤ) → equations ≤ mostEquations → Within (rowNeed equations) rows → Listing count relations
+pub start-ready : (equations count : ℕ) (rows relations : List ℤ) → equations ≤ mostEquations → Within (rowNeed equations) rows
+    → Listing count relations
     → Ready equations rows relations (startProgress count)
 unfolding Columns All padTo
 start-ready equations count rows relations h w l =
@@ -97,14 +99,16 @@ module _ (side : Side) (s : State) where
 pub record Running (side : Side) (equations : ℕ) (rows relations rows' relations' : List ℤ) (n : ℕ) (p : Progress) (left : ℕ) (x : Outcome)
     : Type 0 where
   pub few : left ≤ mostSteps
-  pub reached : Reached equations rows relations rows' relations' (mostSteps - left) (answerOf n p) (outcomeAt equations rows' relations' (answerOf n p))
+  pub reached : Reached equations rows relations rows' relations' (mostSteps - left) (answerOf n p)
+      (outcomeAt equations rows' relations' (answerOf n p))
   pub whole : andThen (outcomeAt equations rows' relations' (answerOf n p)) (run side left) ≡ x
 
 -- What ends it: no step is left, a refusal, or no row.
 abbrev pub Stopped : ℕ → ℕ → Progress → ℕ → Type 0
 Stopped equations n p left = (left ≡ 0) ⊎ (n ≢ 0) ⊎ (equations ≤ p .settled)
 
-pub run-starts : (side : Side) (equations count left : ℕ) (rows relations : List ℤ) → equations ≤ mostEquations → Within (rowNeed equations) rows → Listing count relations
+pub run-starts : (side : Side) (equations count left : ℕ) (rows relations : List ℤ) → equations ≤ mostEquations
+    → Within (rowNeed equations) rows → Listing count relations
     → left ≡ (equations + 1) * (equations + equations * 5)
     → Running side equations rows relations rows relations 0 (startProgress count) left
     (run side (enough (rowsOf equations rows)) (start (rowsOf equations rows) (relationsOf count relations)))
@@ -132,7 +136,8 @@ module _ {side : Side} {equations : ℕ} {rows relations rows' relations' : List
   finished-here = finished-at side (r .reached .ready)
 
   -- A refused run stays so, and one with no step or no row left is done exactly if no row is left.
-  stopped-whole : (k : ℕ) → andThen (outcomeOf k false s) (run side left) ≡ x → Stopped equations k p left → outcomeOf k (leb equations (p .settled)) s ≡ x
+  stopped-whole : (k : ℕ) → andThen (outcomeOf k false s) (run side left) ≡ x → Stopped equations k p left
+      → outcomeOf k (leb equations (p .settled)) s ≡ x
   unfolding andThen outcomeOf
   stopped-whole (suc k) e h = e
   stopped-whole zero e (inl none) = sym (ap (λ k. run side k s) none ∙ run-no-further side s (leb equations (p .settled)) finished-here) ∙ e
@@ -142,7 +147,8 @@ module _ {side : Side} {equations : ℕ} {rows relations rows' relations' : List
       ap (λ t. outcomeOf 0 t s) all ∙ sym (run-finished side s left (finished-here ∙ all)) ∙ e
 
   pub run-stops : Stopped equations n p left
-      → Reached equations rows relations rows' relations' mostSteps (record { refusal = n; done = leb equations (p .settled); progress = p }) x
+      → Reached equations rows relations rows' relations' mostSteps
+      (record { refusal = n; done = leb equations (p .settled); progress = p }) x
   run-stops h =
       record {
         outcome = stopped-whole n (r .whole) h;

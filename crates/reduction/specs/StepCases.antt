@@ -185,7 +185,8 @@ module _ (side : Side) {equations : ℕ} {rows relations : List ℤ} {p : Progre
         settled-reached c e h =
             record {
               outcome =
-                  ap (λ o. going (state (rowsOf equations rows) (relationsOf (p .count) relations) o (p .shifts))) order ∙ sym (step-settle c e h);
+                  ap (λ o. going (state (rowsOf equations rows) (relationsOf (p .count) relations) o (p .shifts))) order
+                  ∙ sym (step-settle c e h);
               rows-kept = kept-same (rowNeed equations) rows;
               relations-kept = kept-same relationNeed relations;
               few-shifts = omega arith;

@@ -52,7 +52,8 @@ reached-same {equations} {n} {rows} {relations} {rows'} {rows''} {relations'} {o
 
 -- A step after the exchange.
 pub reached-after : {equations n : ℕ} {first rows relations rows' relations' : List ℤ} {o : Answer.Outcome} {x : Outcome}
-    → Kept (rowNeed equations) first rows → Reached equations rows relations rows' relations' n o x → Reached equations first relations rows' relations' n o x
+    → Kept (rowNeed equations) first rows → Reached equations rows relations rows' relations' n o x
+    → Reached equations first relations rows' relations' n o x
 reached-after k h =
     record {
       outcome = h .outcome;

@@ -81,7 +81,8 @@ row-of equations rows relations p i inside = row-at equations rows i inside
 
 -- ---- the exchange
 
-module _ (equations : ℕ) (rows : List ℤ) (w : Within (rowNeed equations) rows) (i j : ℕ) (inside : i < equations) (other : j < equations) where
+module _ (equations : ℕ) (rows : List ℤ) (w : Within (rowNeed equations) rows) (i j : ℕ) (inside : i < equations)
+    (other : j < equations) where
   abbrev exchanged : List ℤ
   exchanged = paste (paste rows (j * rowLength) (numbersAt rows i) rowLength) (i * rowLength) (numbersAt rows j) rowLength
 
@@ -104,7 +105,8 @@ module _ (equations : ℕ) (rows : List ℤ) (w : Within (rowNeed equations) row
 
   kept-exchanged : Kept (rowNeed equations) rows exchanged
   kept-exchanged =
-      kept-then (kept-paste (rowNeed equations) rows w (j * rowLength) (numbersAt rows i) rowLength long-i (row-room equations j rows w other))
+      kept-then
+      (kept-paste (rowNeed equations) rows w (j * rowLength) (numbersAt rows i) rowLength long-i (row-room equations j rows w other))
       (kept-paste (rowNeed equations) (paste rows (j * rowLength) (numbersAt rows i) rowLength) within-first (i * rowLength)
       (numbersAt rows j) rowLength long-j
       (row-room equations i rows w inside))

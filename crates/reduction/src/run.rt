@@ -35,7 +35,13 @@ fn start(count: usize) -> Progress
 }
 
 // Step after step, up to a refusal, or as long as a row is left; the run is done if none is.
-fn steps(rows: &mut [i64], relations: &mut [i64], equations: usize, side: Side, count: usize) -> Outcome
+fn steps(
+    rows: &mut [i64],
+    relations: &mut [i64],
+    equations: usize,
+    side: Side,
+    count: usize,
+) -> Outcome
     requires { ⌜ (equations ≤ mostEquations) × Within (rowNeed equations) (now rows) × Listing count (now relations) ⌝ }
     ensures { λ r. ⌜ Reached equations (now (rows .entry)) (now (relations .entry)) (now (rows .exit)) (now (relations .exit)) mostSteps r
         (runOf (sideOf side) equations count (now (rows .entry)) (now (relations .entry))) ⌝ }
@@ -57,7 +63,13 @@ fn steps(rows: &mut [i64], relations: &mut [i64], equations: usize, side: Side, 
 }
 
 // A refused run leaves zeros (SCOPE 6.33). The relation places past those that are listed hold 0 already.
-pub fn run(rows: &mut [i64], relations: &mut [i64], equations: usize, side: Side, count: usize) -> Outcome
+pub fn run(
+    rows: &mut [i64],
+    relations: &mut [i64],
+    equations: usize,
+    side: Side,
+    count: usize,
+) -> Outcome
     requires { ⌜ (equations ≤ mostEquations) × Within (rowNeed equations) (now rows) × Listing count (now relations) ⌝ }
     ensures { λ r. ⌜ r ≡ answerFor (runOf (sideOf side) equations count (now (rows .entry)) (now (relations .entry))) ⌝ }
     ensures { λ _. ⌜ now (rows .exit)

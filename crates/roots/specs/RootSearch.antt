@@ -60,7 +60,8 @@ use Rattle.roots.specs.Ascending.{Ascending, insert, insert-nil, first-b
 use Rattle.roots.specs.Ascending.{insert-new}
 use Rattle.roots.specs.Ascending.{insert-old, insert-only, insert-ascending}
 use Rattle.roots.specs.Bound.{RootsBelow, degree-inside, top-positive, eval-top}
-use Rattle.roots.specs.Factors.{product, product-cons, product-positive, Simple, AllSimple, Factored, Run, simple-coprime, run-divides}
+use Rattle.roots.specs.Factors.{product, product-cons, product-positive, Simple, AllSimple, Factored, Run, simple-coprime}
+use Rattle.roots.specs.Factors.{run-divides}
 use Rattle.roots.specs.declared.RootList.{RootList}
 use Rattle.roots.specs.declared.RootAnswer.{RootAnswer}
 use Rattle.roots.specs.declared.FactorList.{FactorList}
@@ -379,7 +380,8 @@ module _ {n d q : ℕ} {l m : List ℕ} (positive : 0 < d) (simple : AllSimple n
 -- A nonzero root divides the lowest coefficient, whose factors were found.
 pub all-tried : (p : Polynomial) → T (not (isZero p)) → {n : ℕ} {l : List ℕ} {f g : RootList} → RootsBelow p n
     → Factored n (natAbs (lowest p)) l → Holds p (λ z. (z ≡ pos 0) ⊎ ⊥) f → Tried p n 1 l f g → g ≡ listed (roots p)
-all-tried p nonzero {n} {l} {f} below factored first tried = tried .holds .exact ∙ ap listed (found-all p nonzero (tried .holds .found) candidate)
+all-tried p nonzero {n} {l} {f} below factored first tried = tried .holds .exact
+    ∙ ap listed (found-all p nonzero (tried .holds .found) candidate)
   where
     candidate : (z : ℤ) → eval p z ≡ pos 0 → Candidate n 1 l z ⊎ List·Memᴰ z (held f)
     candidate z e =
@@ -416,7 +418,8 @@ module _ (p : Polynomial) (linear : degree p ≡ 1) where
       value = subst (λ n. eval (drop n p) z ≡ getD p n (pos 0)) linear (eval-top p z ∙ sym (coeff-degree p))
 
       split : getD p 0 (pos 0) +ℤ z *ℤ b ≡ pos 0
-      split = ap (λ v. getD p 0 (pos 0) +ℤ z *ℤ v) (sym value) ∙ ap (λ q. eval q z) (sym (drop-next p 0 (pos 0) (omega (arith, linear-length)))) ∙ root
+      split = ap (λ v. getD p 0 (pos 0) +ℤ z *ℤ v) (sym value)
+          ∙ ap (λ q. eval q z) (sym (drop-next p 0 (pos 0) (omega (arith, linear-length)))) ∙ root
 
       quotient : quotZ (getD p 0 (pos 0)) b ≡ negℤ z
       quotient =

@@ -16,7 +16,8 @@ use Rattle.lists.specs.Padded.{padTo}
 use Rattle.lists.specs.Overwritten.{overwrite}
 use Rattle.rules.specs.Limits.{coefficientCount, columnCount, rowLength, blockLength}
 use Rattle.rules.specs.Elimination.{Side, State, Outcome, going, done, refused, wholeRun, report, neverNumber}
-use Rattle.rules.specs.Stores.{Sizes, equations, span, rowsOf, relationsOf, rowNeed, relationNeed, rowStoreOf, relationStoreOf, sizesRight, checkStores}
+use Rattle.rules.specs.Stores.{Sizes, equations, span, rowsOf, relationsOf, rowNeed, relationNeed, rowStoreOf, relationStoreOf}
+use Rattle.rules.specs.Stores.{sizesRight, checkStores}
 
 -- What a run returns (SCOPE 3.22).
 pub record Result : Type 0 where
@@ -54,7 +55,15 @@ unfoldable pub acceptance : Side → ℕ → State → Result
 unfolding reportedOrder rootFound rootValue report
 acceptance side D s =
     let root = report side D s in
-    record { refusal = 0; relations = length (s .relations); shifts = s .shifts; order = reportedOrder (s .order); hasRoot = rootFound root; root = rootValue root }
+    record {
+      refusal = 0;
+      relations = length (s .relations);
+      shifts = s .shifts;
+      order = reportedOrder
+          (s .order);
+      hasRoot = rootFound root;
+      root = rootValue root;
+    }
 
 unfoldable pub zeros : ℕ → List ℤ
 zeros n = replicate n (pos 0)
@@ -68,12 +77,22 @@ unchanged n rowStore relationStore = record { result = refusal n; rowStore = row
 unfoldable pub cleared : ℕ → ℕ → List ℤ → List ℤ → Call
 unfolding refusal overwrite zeros rowNeed
 cleared n equations rowStore relationStore =
-    record { result = refusal n; rowStore = overwrite (zeros (rowNeed equations)) rowStore; relationStore = overwrite (zeros relationNeed) relationStore }
+    record {
+      result = refusal n;
+      rowStore = overwrite (zeros (rowNeed equations)) rowStore;
+      relationStore = overwrite
+          (zeros relationNeed) relationStore;
+    }
 
 unfoldable pub afterRun : Side → Sizes → Outcome → List ℤ → List ℤ → Call
 unfolding acceptance overwrite rowStoreOf relationStoreOf cleared span
 afterRun side z (done s) rowStore relationStore =
-    record { result = acceptance side (span z) s; rowStore = overwrite (rowStoreOf (s .rows)) rowStore; relationStore = overwrite (relationStoreOf (s .relations)) relationStore }
+    record {
+      result = acceptance side (span z) s;
+      rowStore = overwrite (rowStoreOf (s .rows)) rowStore;
+      relationStore = overwrite
+          (relationStoreOf (s .relations)) relationStore;
+    }
 afterRun side z (refused n) rowStore relationStore = cleared n (equations z) rowStore relationStore
 -- A run always ends (crate theory), so this case never comes (SCOPE 3.24).
 afterRun side z (going s) rowStore relationStore = cleared neverNumber (equations z) rowStore relationStore

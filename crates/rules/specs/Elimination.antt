@@ -21,7 +21,8 @@ use Rattle.algebra.specs.Gcd.{content, divideBy}
 use Rattle.algebra.specs.Polynomials.{Polynomial, negate, lead}
 use Rattle.algebra.specs.Roots.{roots}
 use Rattle.rules.specs.Limits.{mostRelations}
-use Rattle.rules.specs.Rows.{Row, Relation, noRow, zeroRow, width, leadingBlock, entry, firstNonzero, combine, primitive, lowDegrees, cut, smallRow, shiftUp, mirrorRow, mirrorRelation}
+use Rattle.rules.specs.Rows.{Row, Relation, noRow, zeroRow, width, leadingBlock, entry, firstNonzero, combine, primitive, lowDegrees}
+use Rattle.rules.specs.Rows.{cut, smallRow, shiftUp, mirrorRow, mirrorRelation}
 
 -- The side that is made triangular: block l, or block t.
 pub data Side : Type 0 where

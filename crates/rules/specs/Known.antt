@@ -55,7 +55,8 @@ relationsOfListed l es = map (λ e. record { index = e .index; row = rowOfTerms 
 
 abbrev pub HoldsAs : Side → Sizes → List Equation → Expected → Type 0
 HoldsAs side z es (accepts rows relations order shifts root) =
-    let s : State = record { rows = rowsOfEquations (z .l) rows; relations = relationsOfListed (z .l) relations; order = map pred order; shifts = shifts } in
+    let s : State = record
+    { rows = rowsOfEquations (z .l) rows; relations = relationsOfListed (z .l) relations; order = map pred order; shifts = shifts } in
     (wholeRun side (span z) (rowsOfEquations (z .l) es) [] ≡ done s) × (report side (span z) s ≡ root)
 HoldsAs side z es (refuses n) = wholeRun side (span z) (rowsOfEquations (z .l) es) [] ≡ refused n
 
@@ -297,7 +298,7 @@ k2-printed = refl
 abbrev four : (ℕ → ℤ) → ℤ → ℤ → ℤ
 four v a b = a *ℤ v 0 +ℤ (b *ℤ v 1 +ℤ (pos 0 *ℤ v 2 +ℤ (pos 0 *ℤ v 3 +ℤ pos 0)))
 
-k1-value : (z : Sequence) → valueOf (pos 0) (rowOfTerms (pos 0) k1-first) z (pos 1) 
+k1-value : (z : Sequence) → valueOf (pos 0) (rowOfTerms (pos 0) k1-first) z (pos 1)
     ≡ four (z (pos 1)) (negsuc 1) (pos 0) +ℤ (four (z (pos 0)) (pos 0) (negsuc 0) +ℤ (four (z (negsuc 0)) (pos 0) (pos 0)
     +ℤ (four (z (negsuc 1)) (pos 0) (pos 0) +ℤ (four (z (negsuc 2)) (pos 0) (pos 0) +ℤ pos 0))))
 unfolding opened
@@ -324,8 +325,16 @@ pub known : Known
 unfolding All
 known =
     record {
-      entries =
-          (k1-holds, (k2-holds, (k3-holds, (k4-holds, (k5-holds, (k6-holds, (k7-holds, (k8-holds, (k9-holds, (k10-holds, (k10-divided-holds, (k11-holds, tt))))))))))));
+      entries = (
+        k1-holds,
+        (
+          k2-holds,
+          (
+            k3-holds,
+            (k4-holds, (k5-holds, (k6-holds, (k7-holds, (k8-holds, (k9-holds, (k10-holds, (k10-divided-holds, (k11-holds, tt))))))))),
+          ),
+        ),
+      );
       printed = k2-printed;
       paper = k1-paper;
     }

@@ -35,7 +35,8 @@ use Rattle.lists.specs.Tests.{T-&&, cond-zero, cond-passed, every}
 use Rattle.lists.specs.Taken.{part-of-part}
 use Rattle.lists.specs.Parts.{parts-length, flatten-parts, parts-width, parts-short, parts-flatten, getD-parts, parts}
 use Rattle.lists.specs.Parts.{read-written, length-written, length-read, all-read, write-read}
-use Rattle.rules.specs.Limits.{coefficientCount, columnCount, blockCount, rowLength, relationLength, mostRelations, blockBound, mostSpan, polynomialCount, blockLength, mostEquations}
+use Rattle.rules.specs.Limits.{coefficientCount, columnCount, blockCount, rowLength, relationLength, mostRelations, blockBound}
+use Rattle.rules.specs.Limits.{mostSpan, polynomialCount, blockLength, mostEquations}
 use Rattle.rules.specs.Rows.{Block, Row, Relation, noRow, coefficientsOf}
 use Rattle.lists.specs.Everywhere.{All}
 use Rattle.lists.specs.Images.{getD-map}

@@ -11,7 +11,8 @@ use lib.ListN.{length, take, drop, replicate}
 use lib.IntN.{ℤ, pos}
 use Rattle.rules.specs.Limits.{columnCount}
 use Rattle.lists.specs.Tests.{every}
-use Rattle.rules.specs.Stores.{Sizes, rowsOf, relationsOf, rowStoreOf, relationStoreOf, sizesRight, countRight, lengthsRight, numbersRight, equations}
+use Rattle.rules.specs.Stores.{Sizes, rowsOf, relationsOf, rowStoreOf, relationStoreOf, sizesRight, countRight, lengthsRight}
+use Rattle.rules.specs.Stores.{numbersRight, equations}
 use Rattle.lists.specs.Padded.{padTo}
 use Rattle.lists.specs.Overwritten.{overwrite}
 use Rattle.rules.specs.Numbers.{Read, got, fault}
@@ -46,7 +47,13 @@ unread n rowStore relationStore =
 unfoldable pub filled : Sheet → List ℤ → List ℤ → ReadCall
 unfolding padTo overwrite rowStoreOf relationStoreOf
 filled sheet rowStore relationStore =
-    record { result = record { refusal = 0; sizes = sheet .sizes; relations = length (sheet .relations); order = padTo columnCount 0 (sheet .order) }; rowStore = overwrite (rowStoreOf (sheet .rows)) rowStore; relationStore = overwrite (relationStoreOf (sheet .relations)) relationStore }
+    record {
+      result = record
+          { refusal = 0; sizes = sheet .sizes; relations = length (sheet .relations); order = padTo columnCount 0 (sheet .order) };
+      rowStore = overwrite (rowStoreOf (sheet .rows)) rowStore;
+      relationStore = overwrite
+          (relationStoreOf (sheet .relations)) relationStore;
+    }
 
 -- Stores too short are found (1) only where the sheet has no fault (SCOPE 4.42).
 unfoldable pub afterRead : Read Sheet → List ℤ → List ℤ → ReadCall

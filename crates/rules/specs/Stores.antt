@@ -20,7 +20,8 @@ use lib.IntN.{ℤ, pos, negℤ, natAbs, _-ℤ_}
 use lib.Signed.{leZ}
 use Rattle.algebra.specs.Polynomials.{isZero}
 use Rattle.lists.specs.Parts.{parts}
-use Rattle.rules.specs.Limits.{coefficientCount, columnCount, mostEquations, mostSpan, blockCount, blockLength, rowLength, relationLength}
+use Rattle.rules.specs.Limits.{coefficientCount, columnCount, mostEquations, mostSpan, blockCount, blockLength, rowLength}
+use Rattle.rules.specs.Limits.{relationLength}
 use Rattle.rules.specs.Limits.{mostRelations, blockBound, small}
 use Rattle.rules.specs.Rows.{Row, Relation, zeroBlock, coefficientsOf, smallRow}
 use Rattle.lists.specs.Everywhere.{All}

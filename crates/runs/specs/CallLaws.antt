@@ -99,7 +99,8 @@ abbrev acceptedWith : ℕ → ℕ → List ℕ → RootAnswer → Result
 acceptedWith count shifts order a =
     record { refusal = 0; relations = count; shifts = shifts; order = order; hasRoot = a .found; root = a .root }
 
-pub accepted-result : (side : Side) (D equations : ℕ) (rows relations : List ℤ) (p : Progress) (order : List ℕ) (a : RootAnswer) → p .settled ≡ equations
+pub accepted-result : (side : Side) (D equations : ℕ) (rows relations : List ℤ) (p : Progress) (order : List ℕ) (a : RootAnswer)
+    → p .settled ≡ equations
     → order ≡ reportedOrder (take equations (p .order)) → a ≡ answered (report side D (settledState equations rows (p .order)))
     → acceptedWith (p .count) (p .shifts) order a ≡ acceptance side D (stateOf equations rows relations p)
 unfolding acceptance stateOf
@@ -198,7 +199,8 @@ checked z count rows relations e =
     right = numbersRight-iff z count rows relations .0 (passed .numbers)
 
     row-numbers : T (every small (take (rowNeed (equations z)) rows))
-    row-numbers = subst (λ l. T (every small l)) (rowStoreOf-rowsOf (equations z) rows) (rows-small z (rowsOf (equations z) rows) (right .rows-right))
+    row-numbers = subst (λ l. T (every small l)) (rowStoreOf-rowsOf (equations z) rows)
+        (rows-small z (rowsOf (equations z) rows) (right .rows-right))
 
     relation-numbers : T (every small (take relationNeed relations))
     relation-numbers =
@@ -208,7 +210,8 @@ checked z count rows relations e =
 -- A run that is enough ends, and one that accepts has settled every row.
 module _ (side : Side) (z : Sizes) (count : ℕ) (rows relations rows' relations' : List ℤ) (o : Answer.Outcome)
     (c : Checked z count rows relations)
-    (r : Ran (equations z) rows relations rows' relations' o (wholeRun side (span z) (rowsOf (equations z) rows) (relationsOf count relations))) where
+    (r : Ran (equations z) rows relations rows' relations' o
+    (wholeRun side (span z) (rowsOf (equations z) rows) (relationsOf count relations))) where
   abbrev whole : Outcome
   whole = wholeRun side (span z) (rowsOf (equations z) rows) (relationsOf count relations)
 
@@ -251,13 +254,15 @@ call-of c r rows relations e f g = λ i. record { result = e i; rowStore = f i; 
 
 -- What a run that ends leaves is what its call leaves.
 call-after : (side : Side) (z : Sizes) (x : Outcome) (r : RunResult) (rows relations rows' relations' : List ℤ)
-    → ((s : State) → x ≢ going s) → resultOf r ≡ resultAfter side (span z) x → rows' ≡ rowsAfter (equations z) x rows → relations' ≡ relationsAfter x relations
+    → ((s : State) → x ≢ going s) → resultOf r ≡ resultAfter side (span z) x → rows' ≡ rowsAfter (equations z) x rows → relations'
+    ≡ relationsAfter x relations
     → callOf r rows' relations' ≡ afterRun side z x rows relations
 unfolding afterRun resultAfter rowsAfter relationsAfter cleared
 call-after side z (going s) r rows relations rows' relations' n e f g = absurd (n s refl)
 call-after side z (done s) r rows relations rows' relations' n e f g =
     call-of (afterRun side z (done s) rows relations) r rows' relations' e f g
-call-after side z (refused k) r rows relations rows' relations' n e f g = call-of (cleared k (equations z) rows relations) r rows' relations' e f g
+call-after side z (refused k) r rows relations rows' relations' n e f g = call-of
+    (cleared k (equations z) rows relations) r rows' relations' e f g
 
 pub call-run : (side : Side) (z : Sizes) (count : ℕ) (rows relations rows' relations' : List ℤ) (o : Answer.Outcome) (r : RunResult)
     → checkStores z count rows relations ≡ 0

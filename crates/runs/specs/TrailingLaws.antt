@@ -21,7 +21,8 @@ use Rattle.sides.specs.StoreStates.{kept-then}
 use Rattle.sides.specs.MirrorLaws.{RowsMirrored, RelationsMirrored}
 
 pub mirrored-state : (equations D : ℕ) (rows relations rows' relations' : List ℤ) (p : Progress) → RowsMirrored equations D rows rows'
-    → RelationsMirrored (p .count) D relations relations' → stateOf equations rows' relations' p ≡ mirrorState D (stateOf equations rows relations p)
+    → RelationsMirrored (p .count) D relations relations' → stateOf equations rows' relations' p
+    ≡ mirrorState D (stateOf equations rows relations p)
 unfolding stateOf mirrorState
 mirrored-state equations D rows relations rows' relations' p h g =
     ap₂ (λ r e. state r e (take (p .settled) (p .order)) (p .shifts)) (h .rows) (g .relations)
@@ -37,13 +38,15 @@ outcome-mirrored D (suc n) d s s' h = refl
 module _ (equations D count : ℕ) (rows relations rows₁ relations₁ rows₂ relations₂ : List ℤ) (h : RowsMirrored equations D rows rows₁)
     (g : RelationsMirrored count D relations relations₁) (o : Answer.Outcome)
     (r : Ran equations rows₁ relations₁ rows₂ relations₂ o (runOf trailing equations count rows₁ relations₁)) where
-  mirrored-start : start (rowsOf equations rows₁) (relationsOf count relations₁) ≡ mirrorState D (start (rowsOf equations rows) (relationsOf count relations))
+  mirrored-start : start (rowsOf equations rows₁) (relationsOf count relations₁)
+      ≡ mirrorState D (start (rowsOf equations rows) (relationsOf count relations))
   unfolding start mirrorState
   mirrored-start = ap₂ (λ r e. state r e [] 0) (h .rows) (g .relations)
 
   reached-mirrored : outcomeAt equations rows₂ relations₂ o
       ≡ run trailing (enough (rowsOf equations rows)) (mirrorState D (start (rowsOf equations rows) (relationsOf count relations)))
-  reached-mirrored = r .reached .outcome ∙ ap₂ (run trailing) (enough-rows equations rows₁ ∙ sym (enough-rows equations rows)) mirrored-start
+  reached-mirrored = r .reached .outcome
+      ∙ ap₂ (run trailing) (enough-rows equations rows₁ ∙ sym (enough-rows equations rows)) mirrored-start
 
   -- A refusal, and the stores as they are.
   pub trailing-refused : o .refusal ≢ 0

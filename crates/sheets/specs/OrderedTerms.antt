@@ -101,7 +101,8 @@ blocks-ordered z (b ∷ bs) zero s s₀ c₀ e high a h y = rw (termsFrom-none s
 blocks-ordered z (b ∷ bs) (suc n) s s₀ c₀ e high a h y =
     block-ordered z s (≤ℤ-intro n low) high (termsFrom (predℤ s) bs)
     (λ s₁ c₁ i.
-    blocks-ordered z bs n (predℤ s) s₁ c₁ (low ∙ sym (suc-pred s)) (≤ℤ-trans (<ℤ-to-≤ℤ (pred-below (≤ℤ-refl s))) high) (after s₁ c₁ i) (h .1) y)
+    blocks-ordered z bs n (predℤ s) s₁ c₁ (low ∙ sym (suc-pred s)) (≤ℤ-trans (<ℤ-to-≤ℤ (pred-below (≤ℤ-refl s))) high) (after s₁ c₁ i)
+    (h .1) y)
     b (z .m) 1 s₀ c₀ (omega arith) a (le-refl 1) (h .0 .1) (h .0 .2)
   where
     low : z .t +ℤ pos n ≡ s

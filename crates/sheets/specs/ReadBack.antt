@@ -114,7 +114,8 @@ sections-exact =
     (then-exact (λ x. x .sizes) sizes-exact
     (λ z x _ e. ap (λ y. y .sizes) (sym (e .1 .1 .1 .1 .1))) λ z hz.
     then-exact (λ x. pos (equations (x .sizes)))
-    (between-exact (pos (equations z)) (pos (equations z)) (always newline) (≤ℤ-trans (leZ-yes tt) (pos-nonneg (equations z))) (few z (size-bounds z hz))
+    (between-exact (pos (equations z)) (pos (equations z)) (always newline) (≤ℤ-trans (leZ-yes tt) (pos-nonneg (equations z)))
+    (few z (size-bounds z hz))
     always-newline)
     (λ k x hk e. just (equations z) k hk ∙ ap (λ y. pos (equations (y .sizes))) (sym (e .1 .1 .1 .1))) λ k hk.
     then-exact (λ x. x .rows) (equations-exact z (size-bounds z hz) (equations z))
@@ -144,7 +145,8 @@ sections-exact =
         let z = x .sizes in (
           v .sizes,
           (
-            between-iff (pos (equations z)) (pos (equations z)) (pos (equations z)) .1 (≤ℤ-refl (pos (equations z)), ≤ℤ-refl (pos (equations z))),
+            between-iff (pos (equations z)) (pos (equations z)) (pos (equations z)) .1
+                (≤ℤ-refl (pos (equations z)), ≤ℤ-refl (pos (equations z))),
             (
               (
                 v .row-count,

@@ -394,7 +394,8 @@ module _ (l s : ℤ) (F B : List Block) (place : length F ≡ depth l s) where
       block-step G b p (F ++ ((G ++ replicate (length (p ∷ b)) zeros) ∷ B)) (a .0)
       (shift (putTerms-block b (G ++ (zeros ∷ [])) (a .1)))
     where
-      shift : putTerms l (blockTerms s (suc (length (G ++ (zeros ∷ [])))) b) (F ++ (((G ++ (zeros ∷ [])) ++ replicate (length b) zeros) ∷ B))
+      shift : putTerms l (blockTerms s (suc (length (G ++ (zeros ∷ [])))) b)
+          (F ++ (((G ++ (zeros ∷ [])) ++ replicate (length b) zeros) ∷ B))
           ≡ F ++ (((G ++ (zeros ∷ [])) ++ b) ∷ B)
           → putTerms l (blockTerms s (suc (suc (length G))) b) (F ++ ((G ++ (zeros ∷ replicate (length b) zeros)) ∷ B))
           ≡ F ++ ((G ++ (zeros ∷ b)) ∷ B)

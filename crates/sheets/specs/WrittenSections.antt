@@ -101,7 +101,8 @@ equation-exact z b =
     good : (r : Row) → EquationRight z r → Whole r
     good r h =
         let right = rowRight-blocks z r (h .0) (h .1) in (
-          between-iff (pos 0) (pos most) (pos (length (terms r))) .1 (pos-nonneg (length (terms r)), pos-≤ℤ .1 (row-count z (r .blocks) right)),
+          between-iff (pos 0) (pos most) (pos (length (terms r))) .1
+              (pos-nonneg (length (terms r)), pos-≤ℤ .1 (row-count z (r .blocks) right)),
           ((refl, row-ordered z (r .blocks) b right), sym (row-of-terms (z .l) r (h .0))),
         )
 
@@ -170,7 +171,8 @@ judgeLowest-iff l t = (
 sizesRight-bounds : (z : Sizes) → SizeBounds z → T (sizesRight z)
 unfolding sizesRight
 sizesRight-bounds z b =
-    simp T-&& ((le→leb 1 (z .m) (b .some), le→leb (z .m) columnCount (b .few)), (((b .low .le, b .ordered .le), b .high .le), b .narrow .le))
+    simp T-&&
+    ((le→leb 1 (z .m) (b .some), le→leb (z .m) columnCount (b .few)), (((b .low .le, b .ordered .le), b .high .le), b .narrow .le))
 
 pub sizes-exact : Exact readSizes (λ z. T (sizesRight z)) (λ z. line (pos 3 ∷ pos (z .m) ∷ z .l ∷ z .t ∷ []))
 unfolding readSizes line

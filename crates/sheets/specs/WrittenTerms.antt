@@ -126,7 +126,8 @@ unfolding parted parting
 parted-append last [] more = refl
 parted-append last (a ∷ l) more =
     ap₂ (λ b r. decimal a ++ (b ∷ r)) (same l more) (parted-append last l more)
-    ∙ sym (append-assoc (decimal a) (parting (parting last (length more)) (length l) ∷ parted (parting last (length more)) l) (parted last more))
+    ∙ sym (append-assoc (decimal a) (parting (parting last (length more)) (length l) ∷ parted (parting last (length more)) l)
+    (parted last more))
   where
     same : (l more : List ℤ) → parting last (length (l ++ more)) ≡ parting (parting last (length more)) (length l)
     same [] more = refl
@@ -248,7 +249,10 @@ term-exact z s₀ c₀ last b h =
     good : (e : Term) → TermRight z s₀ c₀ e → Whole e
     good e r = (
       r .block-right,
-      (r .column-right, (between-iff _ _ (pos (length (e .polynomial))) .1 (pos-≤ℤ .1 (r .some), pos-≤ℤ .1 (r .few)), ((refl, r .sound), refl))),
+      (
+        r .column-right,
+        (between-iff _ _ (pos (length (e .polynomial))) .1 (pos-≤ℤ .1 (r .some), pos-≤ℤ .1 (r .few)), ((refl, r .sound), refl)),
+      ),
     )
 
     best : (e : Term) → Whole e → TermRight z s₀ c₀ e

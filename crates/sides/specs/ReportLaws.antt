@@ -177,7 +177,8 @@ abbrev pub settledState : ℕ → List ℤ → List ℕ → State
 settledState equations store order = record { rows = rowsOf equations store; relations = []; order = take equations order; shifts = 0 }
 
 pub report-settled : (side : Side) (D equations : ℕ) (store : List ℤ) (order : List ℕ) (s : State)
-    → s .rows ≡ rowsOf equations store → s .order ≡ take equations order → report side D s ≡ report side D (settledState equations store order)
+    → s .rows ≡ rowsOf equations store → s .order ≡ take equations order → report side D s
+    ≡ report side D (settledState equations store order)
 unfolding report diagonal
 report-settled side D equations store order s e f =
     let entry : Row → ℕ → Polynomial = λ r c. getD (getD (r .blocks) (diagonalPlace side D) []) c [] in
@@ -226,7 +227,8 @@ module _ (side : Side) (D equations : ℕ) (store : List ℤ) (order : List ℕ)
     diagonal-at =
         getD-zipWith _ (rowsOf equations store) (take equations order) j noRow 0 [] (rw length-rowsOf h)
         (subst (λ n. j < n) same-count (rw length-rowsOf h))
-        ∙ ap (λ c. getD (getD (getD (rowsOf equations store) j noRow .blocks) (diagonalPlace side D) []) c []) (getD-take equations order j 0 h)
+        ∙ ap (λ c. getD (getD (getD (rowsOf equations store) j noRow .blocks) (diagonalPlace side D) []) c [])
+        (getD-take equations order j 0 h)
         ∙ polynomial-at equations store j (diagonalPlace side D) (getD order j 0) h (place-below side D few) (Columns-at order columns j)
 
     pub report-next : furtherOf side (reported side D equations store order j)

@@ -29,7 +29,8 @@ use Rattle.sides.specs.Lent.{Within, Listing, Kept}
 
 -- ---- parts of a list into which one part has been pasted
 
-pub rowsOf-paste : (equations : ℕ) (store row : List ℤ) (i : ℕ) → length row ≡ rowLength → equations * rowLength ≤ length store → i < equations
+pub rowsOf-paste : (equations : ℕ) (store row : List ℤ) (i : ℕ) → length row ≡ rowLength → equations * rowLength ≤ length store
+    → i < equations
     → rowsOf equations (paste store (i * rowLength) row rowLength) ≡ set (rowsOf equations store) i (rowOf row)
 unfolding rowsOf
 rowsOf-paste equations store row i e h b =

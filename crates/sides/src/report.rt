@@ -1,8 +1,8 @@
 // The root report over the rows of a store.
+use crate::Side;
 use polynomials::lengths::COEFFICIENTS;
 use rows::lengths::BLOCK;
 use rows::lengths::COLUMNS;
-use crate::Side;
 use rows::lengths::ROW;
 ghost use mathlib.Core.Path.{_≡_};
 ghost use Prim.Native.Nat.{_≤_};

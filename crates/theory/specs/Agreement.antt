@@ -37,7 +37,8 @@ use Rattle.theory.specs.Mirror.{Reaches, Spans, reflect, mirror-diagonal
 unused-columns : (m D : ℕ) (r : Row) → T (unusedZero m D r) → ColumnsBelow m r
 unused-columns m D r u c h = subst (λ p. T (isZero p)) (sym (entry-cell r c)) (unused-cells m D r .0 u 0 c (inl h))
 
-module _ (z : Sizes) (s : State) (valid : Valid z (s .rows) (s .relations)) (triangular : Triangular s) (settled : current s ≡ equations z) where
+module _ (z : Sizes) (s : State) (valid : Valid z (s .rows) (s .relations)) (triangular : Triangular s)
+    (settled : current s ≡ equations z) where
   unused-rows : All (λ r. T (unusedZero (z .m) (span z) r)) (s .rows)
   unused-rows =
       all-mono (λ r. T (rowRight z r)) (λ r. T (unusedZero (z .m) (span z) r))

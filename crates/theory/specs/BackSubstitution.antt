@@ -174,7 +174,8 @@ one-add : (i : ℕ) → 1 + i ≡ suc i
 one-add i = omega arith
 
 minus-below : (x : ℤ) (i : ℕ) → (x -ℤ pos (suc i)) <ℤ x
-minus-below x i = <ℤ-+1 .1 (≤ℤ-intro i (+ℤ-assoc lower (pos 1) (pos i) ∙ ap (λ k. lower +ℤ pos k) (one-add i) ∙ -ℤ-+ℤ-cancel x (pos (suc i))))
+minus-below x i = <ℤ-+1 .1
+    (≤ℤ-intro i (+ℤ-assoc lower (pos 1) (pos i) ∙ ap (λ k. lower +ℤ pos k) (one-add i) ∙ -ℤ-+ℤ-cancel x (pos (suc i))))
   where
     lower : ℤ
     lower = x -ℤ pos (suc i)

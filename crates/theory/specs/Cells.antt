@@ -55,7 +55,8 @@ zeroBlock-at (p ∷ ps) h (suc k) = zeroBlock-at ps (and-r (isZero p) (every isZ
 -- A block that is zero from column m on.
 pub zeroBlock-past : (m : ℕ) (b : Block) → T (zeroBlock (drop m b)) ↔ ((c : ℕ) → m ≤ c → T (isZero (getD b c [])))
 zeroBlock-past m b = (
-  λ z c h. subst (λ p. T (isZero p)) (getD-drop m b (c - m) [] ∙ ap (λ i. getD b i []) (add-sub-of-le h)) (zeroBlock-at (drop m b) z (c - m)),
+  λ z c h. subst (λ p. T (isZero p)) (getD-drop m b (c - m) [] ∙ ap (λ i. getD b i []) (add-sub-of-le h))
+      (zeroBlock-at (drop m b) z (c - m)),
   λ z. zeroBlock-all (drop m b) (λ k. rw (getD-drop m b k []) (z (m + k) (omega arith))),
 )
 
@@ -72,7 +73,8 @@ blank-zero (p ∷ b) = T-&& (isZero (map (λ _. pos 0) p)) (every isZero (map (m
 -- A zero block is its own blank.
 pub blank-same : (b : Block) → T (zeroBlock b) → blank b ≡ b
 unfolding zeroBlock blank
-blank-same b z = map-same (map (λ _. pos 0)) b (all-mono (λ p. T (isZero p)) (λ p. map (λ _. pos 0) p ≡ p) zeros b (all-of-every isZero b z))
+blank-same b z = map-same (map (λ _. pos 0)) b
+    (all-mono (λ p. T (isZero p)) (λ p. map (λ _. pos 0) p ≡ p) zeros b (all-of-every isZero b z))
   where
     zeros : (p : Polynomial) → T (isZero p) → map (λ _. pos 0) p ≡ p
     zeros [] h = refl
@@ -108,7 +110,8 @@ pub mapRow-zero : (f : Polynomial → Polynomial) → f [] ≡ [] → ((p : Poly
 mapRow-zero f e keep r i c h = rw (cell-mapRow f e r i c) (keep (cell r i c) h)
 
 -- A zero block behind the others changes no cell from zero to nonzero or back.
-pub append-zero : (bs : List Block) (z : Block) → T (zeroBlock z) → (i c : ℕ) → isZero (cellOf (bs ++ (z ∷ [])) i c) ≡ isZero (cellOf bs i c)
+pub append-zero : (bs : List Block) (z : Block) → T (zeroBlock z) → (i c : ℕ) → isZero (cellOf (bs ++ (z ∷ [])) i c)
+    ≡ isZero (cellOf bs i c)
 unfolding isZero
 append-zero [] z h zero c = true-of (isZero (getD z c [])) (zeroBlock-at z h c)
 append-zero [] z h (suc i) c = refl

@@ -28,7 +28,8 @@ use lib.IntN.{negℤ-+ℤ, -ℤ-+ℤ-cancel}
 use Rattle.algebra.specs.Integers.{ringℤ, natAbs-negℤ, natAbs-+ℤ}
 use Rattle.algebra.specs.Order.{≤ℤ-witness, ≤ℤ-intro, natAbs-≤-iff}
 use Rattle.algebra.specs.Sums.{countFrom, sumOver, sumOver-map, sumOver-+ℤ, sumOver-*ℤ, sumOver-zero, sumOver-congr, sumOver-exchange}
-use Rattle.algebra.specs.Sums.{sumBelow, sumBelow-congr, sumBelow-+ℤ, sumBelow-*ℤ, sumBelow-exchange, sumBelow-front, sumBelow-last, sumBelow-single}
+use Rattle.algebra.specs.Sums.{sumBelow, sumBelow-congr, sumBelow-+ℤ, sumBelow-*ℤ, sumBelow-exchange, sumBelow-front, sumBelow-last}
+use Rattle.algebra.specs.Sums.{sumBelow-single}
 use Rattle.algebra.specs.Polynomials.{Polynomial, eval, isZero, isZero-cons}
 use Rattle.rules.specs.Sequences.{Sequence, shiftsWithin}
 

@@ -39,7 +39,8 @@ use Rattle.theory.specs.Mirror.{span-sum}
 use Rattle.theory.specs.Agreement.{leading-agreement}
 use Rattle.theory.specs.Trailing.{valid-shapes, mirrored-sequences, diagonal-back, valid-back, independent-back, agrees-back}
 use Rattle.theory.specs.Trailing.{trailing-dependent}
-use Rattle.theory.specs.Settled.{as-many, settled-triangular, settled-rows, Diagonal, settled-leading, settled-trailing, settled-diagonal}
+use Rattle.theory.specs.Settled.{as-many, settled-triangular, settled-rows, Diagonal, settled-leading, settled-trailing}
+use Rattle.theory.specs.Settled.{settled-diagonal}
 use Rattle.theory.specs.Settled.{settled-valid, nonzero-of-diagonal}
 
 -- The run returns no refusal (SCOPE 2.111). Valid is exactly what the checks of a call let through.
@@ -56,7 +57,8 @@ sequences leading {z} {rows} {relations} v e y =
     run-solutions (z .l) y rows relations (v .row-shapes) (v .relation-shapes) (settled-leading v e .chain)
 sequences trailing {z} {rows} {relations} v e y =
     let m = settled-trailing v e in
-    subst (λ x. Satisfies (z .l) rows relations y ↔ Satisfies (z .l) (x .rows) (x .relations) y) (m .back) (mirrored-sequences v (m .settled) y)
+    subst (λ x. Satisfies (z .l) rows relations y ↔ Satisfies (z .l) (x .rows) (x .relations) y) (m .back)
+    (mirrored-sequences v (m .settled) y)
 
 triangular : (side : Side) {z : Sizes} {rows : List Row} {relations : List Relation} {s : State} → Valid z rows relations
     → wholeRun side (span z) rows relations ≡ done s → Diagonal side (equations z) (z .m) (span z) s
@@ -199,7 +201,8 @@ next-row-later {side} rows relations {s = s} c j below more clear meets =
     combined-advances s j (triangular-chain c (triangular-start rows relations)) below more clear meets side
 
 -- The row that a combination has made zero is refused by the next step (SCOPE 2.45).
-pub zero-row-refused : (side : Side) (s : State) → current s < length (s .rows) → T (zeroRow (rowAt s (current s))) → step side s ≡ refused 6
+pub zero-row-refused : (side : Side) (s : State) → current s < length (s .rows) → T (zeroRow (rowAt s (current s))) → step side s
+    ≡ refused 6
 unfolding step workOn
 zero-row-refused side s below zeros =
     cond-passed (zeroRow (rowAt s (current s))) (refused 6)

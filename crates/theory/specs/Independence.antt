@@ -130,7 +130,8 @@ module _ (l : ℤ) (rows : List Row) (order : List ℕ) (pivots : PivotRows (len
 
       product-zero : T (isZero (mul (S i K) pivot))
       product-zero = zero-everywhere (mul (S i K) pivot) .1
-          (λ x. value x ∙ sym (sumBelow-single (length rows) i _ h (others x)) ∙ leading-sum l rows N S vanishes J below clear (getD order i 0) x)
+          (λ x. value x ∙ sym (sumBelow-single (length rows) i _ h (others x))
+          ∙ leading-sum l rows N S vanishes J below clear (getD order i 0) x)
 
       product-nonzero : ¬ T (isZero (S i K)) → T (not (isZero (mul (S i K) pivot)))
       product-nonzero n = mul-nonzero (S i K) pivot (not-T (isZero (S i K)) n)

@@ -131,7 +131,8 @@ module _ (a b : Polynomial) where
 
   -- (a/d) b - (b/d) a is zero, since a = d (a/d) and b = d (b/d).
   divided-cancel : (x : ℤ) → eval (divideBy common a) x *ℤ eval b x +ℤ eval (negate (divideBy common b)) x *ℤ eval a x ≡ pos 0
-  divided-cancel x = rw (← eval-divideBy common a x divides-left, ← eval-divideBy common b x divides-right, eval-negate (divideBy common b) x)
+  divided-cancel x = rw
+      (← eval-divideBy common a x divides-left, ← eval-divideBy common b x divides-right, eval-negate (divideBy common b) x)
       (crosswise (pos common) (eval (divideBy common a) x) (eval (divideBy common b) x))
     where
       crosswise : (d u v : ℤ) → u *ℤ (d *ℤ v) +ℤ negℤ v *ℤ (d *ℤ u) ≡ pos 0

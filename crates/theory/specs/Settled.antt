@@ -114,7 +114,8 @@ mirrored-diagonal e m D u r d =
 
     same : (j c : ℕ) → j < e → isZero (pivotEntry trailing D (mirrorState D u) j c) ≡ isZero (pivotEntry leading D u j c)
     same j c h =
-        ap (λ q. isZero (getD (getD (q .blocks) D []) c [])) (row-at j) ∙ ap isZero (mirror-lastEntry D (getD (u .rows) j noRow) c (reach j h))
+        ap (λ q. isZero (getD (getD (q .blocks) D []) c [])) (row-at j)
+        ∙ ap isZero (mirror-lastEntry D (getD (u .rows) j noRow) c (reach j h))
         ∙ isZero-mirror (entry (getD (u .rows) j noRow) c)
 
 -- ---- the whole runs

@@ -46,7 +46,8 @@ blank-shaped c k block h = map-blockShaped (map (λ _. pos 0)) k k (λ p e. leng
 
 pub mirrorRow-shaped : (b c k D : ℕ) (r : Row) → Shaped b c k r → Shaped b c k (mirrorRow D r)
 unfolding mirrorRow Shaped
-mirrorRow-shaped b c k D r h = mapRow-shaped mirror k k (λ p e. length-mirror p ∙ e) b c (record { blocks = first ++ rest }) (count, members)
+mirrorRow-shaped b c k D r h = mapRow-shaped mirror k k (λ p e. length-mirror p ∙ e) b c (record { blocks = first ++ rest })
+    (count, members)
   where
     first : List Block
     first = reverse (take (suc D) (r .blocks))

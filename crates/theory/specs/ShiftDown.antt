@@ -62,7 +62,8 @@ front-lastBlock r h = front-last (r .blocks) [] h
 last-or-none : (r : Row) → (dropLast (r .blocks) ≡ r .blocks) ⊎ (dropLast (r .blocks) ++ (lastBlock r ∷ []) ≡ r .blocks)
 last-or-none r = cases (r .blocks) refl
   where
-    cases : (bs : List Block) → r .blocks ≡ bs → (dropLast (r .blocks) ≡ r .blocks) ⊎ (dropLast (r .blocks) ++ (lastBlock r ∷ []) ≡ r .blocks)
+    cases : (bs : List Block) → r .blocks ≡ bs → (dropLast (r .blocks) ≡ r .blocks)
+        ⊎ (dropLast (r .blocks) ++ (lastBlock r ∷ []) ≡ r .blocks)
     cases [] e = inl (ap dropLast e ∙ sym e)
     cases (b ∷ bs) e = inr (front-lastBlock r (subst (λ l. 0 < length l) (sym e) (zero-lt-suc (length bs))))
 
@@ -180,12 +181,14 @@ cell-moved r i c = ap isZero (cell-mapRow (shiftBy (negsuc 0)) refl (moved r) i 
 -- A zero block comes in at the top.
 pub shiftDown-entry : (r : Row) (c : ℕ) → T (isZero (entry (shiftDown r) c))
 shiftDown-entry r c =
-    subst T (sym (ap isZero (entry-cell (shiftDown r) c) ∙ cell-moved r 0 c)) (zeroBlock-at (blank (lastBlock r)) (blank-zero (lastBlock r)) c)
+    subst T (sym (ap isZero (entry-cell (shiftDown r) c) ∙ cell-moved r 0 c))
+    (zeroBlock-at (blank (lastBlock r)) (blank-zero (lastBlock r)) c)
 
 -- The blocks move down by one.
 pub cell-shiftDown : (r : Row) (i c : ℕ) → T (zeroBlock (lastBlock r)) → isZero (cell (shiftDown r) (suc i) c) ≡ isZero (cell r i c)
 cell-shiftDown r i c zeros =
-    cell-moved r (suc i) c ∙ ⊎-elim (ap at) (λ e. sym (append-zero (dropLast (r .blocks)) (lastBlock r) zeros i c) ∙ ap at e) (last-or-none r)
+    cell-moved r (suc i) c
+    ∙ ⊎-elim (ap at) (λ e. sym (append-zero (dropLast (r .blocks)) (lastBlock r) zeros i c) ∙ ap at e) (last-or-none r)
   where
     at : List Block → Bool
     at bs = isZero (getD (getD bs i []) c [])
@@ -214,7 +217,8 @@ shiftDown-shaped b c k r some h = mapRow-shaped (shiftBy (negsuc 0)) k k (λ p e
     shaped =
         let split = front-lastBlock r (subst (λ n. 0 < n) (sym (h .0)) some) in
         let members = subst (All (BlockShaped c k)) (sym split) (h .1) in (
-          sym (add-one (length (dropLast (r .blocks)))) ∙ sym (length-append (dropLast (r .blocks)) (lastBlock r ∷ [])) ∙ ap length split ∙ h .0,
+          sym (add-one (length (dropLast (r .blocks)))) ∙ sym (length-append (dropLast (r .blocks)) (lastBlock r ∷ [])) ∙ ap length split
+              ∙ h .0,
           (
             blank-shaped c k (lastBlock r) (all-back (BlockShaped c k) (dropLast (r .blocks)) (lastBlock r ∷ []) members .0),
             all-front (BlockShaped c k) (dropLast (r .blocks)) (lastBlock r ∷ []) members,
@@ -225,7 +229,8 @@ shiftDown-shaped b c k r some h = mapRow-shaped (shiftBy (negsuc 0)) k k (λ p e
 module _ (m D : ℕ) (r : Row) (reaches : suc D ≤ length (r .blocks)) (unused : T (unusedZero m D r))
     (empty : T (zeroBlock (getD (r .blocks) D []))) where
   zero-from : (i c : ℕ) → D ≤ i → T (isZero (cell r i c))
-  zero-from i c h = by-cases (ℕ-discrete i D) (λ e. subst (λ n. T (isZero (cell r n c))) (sym e) (zeroBlock-at (getD (r .blocks) D []) empty c))
+  zero-from i c h = by-cases (ℕ-discrete i D)
+      (λ e. subst (λ n. T (isZero (cell r n c))) (sym e) (zeroBlock-at (getD (r .blocks) D []) empty c))
       (λ n. unused-cells m D r .0 unused i c (inr (omega arith)))
 
   pub lost-zero : T (zeroBlock (lastBlock r))

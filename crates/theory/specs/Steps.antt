@@ -74,7 +74,8 @@ combination s j =
 -- One step that goes on.
 pub data Stepped (side : Side) (s : State) : State → Type 0 where
   combined : (j : ℕ) → j < current s → current s < length (s .rows) → T (not (zeroRow (rowAt s (current s)))) → MetZeroBelow s j
-      → T (not (isZero (met s j))) → length (listed side s j .relations) ≤ mostRelations → (r : Row) → limitDegrees (combination s j) ≡ within r
+      → T (not (isZero (met s j))) → length (listed side s j .relations) ≤ mostRelations → (r : Row) → limitDegrees (combination s j)
+      ≡ within r
       → Stepped side s (putRow (listed side s j) (current s) r)
   settled : (c : ℕ) → current s < length (s .rows) → T (not (zeroRow (rowAt s (current s)))) → MetZeroBelow s (current s)
       → firstNonzero (leadingBlock (rowAt s (current s))) ≡ some c → Stepped side s (settle s c)

@@ -24,7 +24,8 @@ use Rattle.theory.specs.Solutions.{run-solutions}
 use Rattle.theory.specs.Dependence.{chain-dependent, settled-independent, refused-dependent}
 use Rattle.theory.specs.Ending.{mirrorOutcome-refused}
 use Rattle.theory.specs.Report.{Past}
-use Rattle.theory.specs.Mirror.{mirrorSizes, Reaches, Spans, reflect, span-sum, mirror-equations, mirror-span, mirror-valid, mirror-satisfies}
+use Rattle.theory.specs.Mirror.{mirrorSizes, Reaches, Spans, reflect, span-sum, mirror-equations, mirror-span, mirror-valid}
+use Rattle.theory.specs.Mirror.{mirror-satisfies}
 use Rattle.theory.specs.Mirror.{mirror-satisfies-back, mirror-dependent, valid-rows-span, valid-relations-span}
 use Rattle.theory.specs.BackSubstitution.{TriangularRows}
 use Rattle.theory.specs.Agreement.{trailing-agreement}
@@ -55,9 +56,11 @@ module _ {z : Sizes} {rows : List Row} {relations : List Relation} (v : Valid z 
       (mirrorOutcome-refused (span z) (run trailing (enough rows) (mirrorState (span z) (start rows relations))) 6 e))
 
   -- The run on the mirrored system has led to u.
-  module _ {u : State} (a : Settled trailing (mirrorSizes z) (map (mirrorRow (span z)) rows) (map (mirrorRelation (span z)) relations) u) where
+  module _ {u : State}
+      (a : Settled trailing (mirrorSizes z) (map (mirrorRow (span z)) rows) (map (mirrorRelation (span z)) relations) u) where
     spans : All (Spans (span z)) (u .rows)
-    spans = subst (λ d. All (Spans d) (u .rows)) (mirror-span z) (valid-rows-span (mirrorSizes z) (u .rows) (u .relations) (settled-valid a))
+    spans = subst (λ d. All (Spans d) (u .rows)) (mirror-span z)
+        (valid-rows-span (mirrorSizes z) (u .rows) (u .relations) (settled-valid a))
 
     relations-span : All (λ e. Spans (span z) (e .row)) (u .relations)
     relations-span =
@@ -83,7 +86,8 @@ module _ {z : Sizes} {rows : List Row} {relations : List Relation} (v : Valid z 
 
     pub diagonal-back : Diagonal trailing (equations z) (z .m) (span z) (mirrorState (span z) u)
     diagonal-back =
-        mirrored-diagonal (equations z) (z .m) (span z) u (all-mono (Spans (span z)) (Reaches (span z)) (λ r h. h .reaches) (u .rows) spans) leading-diagonal
+        mirrored-diagonal (equations z) (z .m) (span z) u
+        (all-mono (Spans (span z)) (Reaches (span z)) (λ r h. h .reaches) (u .rows) spans) leading-diagonal
 
     pub valid-back : Valid z (mirrorState (span z) u .rows) (mirrorState (span z) u .relations)
     unfolding mirrorState
@@ -98,7 +102,8 @@ module _ {z : Sizes} {rows : List Row} {relations : List Relation} (v : Valid z 
     independent-back d =
         settled-independent (negℤ (z .t)) u (settled-triangular a) (a .all)
         (chain-dependent (negℤ (z .t)) (valid-shapes (a .valid))
-        (triangular-start (map (mirrorRow (span z)) rows) (map (mirrorRelation (span z)) relations)) (a .chain) .0 (dependent-mirrored .0 d))
+        (triangular-start (map (mirrorRow (span z)) rows) (map (mirrorRelation (span z)) relations)) (a .chain) .0
+        (dependent-mirrored .0 d))
 
     pub agrees-back : (y w : Sequence) → Satisfies (z .l) rows relations y → Satisfies (z .l) rows relations w
         → (n : ℤ) → Past trailing (report trailing (span z) (mirrorState (span z) u)) n
@@ -106,7 +111,9 @@ module _ {z : Sizes} {rows : List Row} {relations : List Relation} (v : Valid z 
         → (i : ℤ) → i ≤ℤ (n +ℤ z .l) → Same (z .m) y w i
     unfolding Satisfies
     agrees-back y w hy hw =
-        trailing-agreement (z .m) (span z) u (subst (λ d. TriangularRows (z .m) d (u .rows) (u .order)) (mirror-span z) (settled-rows a (as-many (mirrorSizes z))))
+        trailing-agreement (z .m) (span z) u
+        (subst (λ d. TriangularRows (z .m) d (u .rows) (u .order)) (mirror-span z) (settled-rows a (as-many (mirrorSizes z))))
         (leading-diagonal .order-count ∙ as-many z)
-        (nonzero-of-diagonal leading (equations z) (z .m) (span z) u leading-diagonal) spans (z .l) (z .t) sum y w (mirrored-sequences y .0 hy .0)
+        (nonzero-of-diagonal leading (equations z) (z .m) (span z) u leading-diagonal) spans (z .l) (z .t) sum y w
+        (mirrored-sequences y .0 hy .0)
         (mirrored-sequences w .0 hw .0)

@@ -144,7 +144,8 @@ blocks-difference n z y k (b ∷ bs) =
     step : (a b s t : ℤ) → a -ℤ b +ℤ (s -ℤ t) ≡ a +ℤ s -ℤ (b +ℤ t)
     step a b s t = simp ringℤ
 
-pub value-difference : (l : ℤ) (r : Row) (z y : Sequence) (n : ℤ) → valueOf l r (λ i c. z i c -ℤ y i c) n ≡ valueOf l r z n -ℤ valueOf l r y n
+pub value-difference : (l : ℤ) (r : Row) (z y : Sequence) (n : ℤ) → valueOf l r (λ i c. z i c -ℤ y i c) n
+    ≡ valueOf l r z n -ℤ valueOf l r y n
 unfolding valueOf
 value-difference l r z y n = blocks-difference n z y (n +ℤ l) (r .blocks)
 
@@ -167,7 +168,8 @@ blocks-congruence n m zero z y k bs a h e = blocks-zero n z k bs h ∙ sym (bloc
 blocks-congruence n m (suc d) z y k [] a h e = refl
 blocks-congruence n m (suc d) z y k (b ∷ bs) a h e =
     ap₂ _+ℤ_ (block-congruence n m (z k) (y k) b (a .0) (subst (Same m z y) (+ℤ-idr k) (e 0 (zero-lt-suc d))))
-    (blocks-congruence n m d z y (predℤ k) bs (a .1) h (λ j i. subst (Same m z y) (sym (index-below k j)) (e (suc j) (suc-le-suc-iff .1 i))))
+    (blocks-congruence n m d z y (predℤ k) bs (a .1) h
+    (λ j i. subst (Same m z y) (sym (index-below k j)) (e (suc j) (suc-le-suc-iff .1 i))))
 
 -- The value depends on the indices n + l down to n + l - D and on the columns below m.
 pub value-congruence : (m D : ℕ) (l : ℤ) (r : Row) (z y : Sequence) (n : ℤ) → T (unusedZero m D r)
@@ -233,7 +235,8 @@ module _ (n i : ℤ) (c : ℕ) where
   blocks-delta k [] (negsuc m) e = refl
   blocks-delta k (b ∷ bs) (pos zero) e =
       ap₂ _+ℤ_
-      (block-single n (delta i c k) c b (subst (λ a. delta i c a c ≡ pos 1) (sym (-ℤ-zero k i e)) (delta-here i c)) (λ j. delta-column i c k j))
+      (block-single n (delta i c k) c b (subst (λ a. delta i c a c ≡ pos 1) (sym (-ℤ-zero k i e)) (delta-here i c))
+      (λ j. delta-column i c k j))
       (blocks-delta (predℤ k) bs (negsuc 0) (predℤ-+ℤ k (negℤ i) ∙ ap predℤ e))
       ∙ +ℤ-idr (eval (getD b c []) n)
   blocks-delta k (b ∷ bs) (pos (suc m)) e =

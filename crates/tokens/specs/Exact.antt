@@ -105,7 +105,8 @@ module _ (judge follow : ℤ → ℕ) where
       → (judge a ≡ 0) × (bytes ≡ decimal a ++ (follow a ∷ rest))
   unfolding field
   field-read bytes a rest e =
-      let (v, more, d, f) = got-in-two (readWord judge (word bytes) (afterWord bytes)) (λ v more. readSeparator (follow v) v more) a rest e in
+      let (v, more, d, f) = got-in-two (readWord judge (word bytes) (afterWord bytes))
+      (λ v more. readSeparator (follow v) v more) a rest e in
       let g = readSeparator-got (follow v) v a more rest f in
       let h = readWord-got judge (word bytes) (afterWord bytes) v more d in (
         ap judge (sym (g .0)) ∙ h .0,

@@ -28,8 +28,10 @@ use mir.Val.{SFits, ofZ, toZ}
 use mir.Facts.{toZ-ofZ}
 use Rattle.algebra.specs.Order.{≤ℤ-trans, natAbs-≤-iff}
 use Rattle.lists.specs.Tests.{both-true}
-use Rattle.rules.specs.Numbers.{isSeparator, word, afterWord, digits, startsRight, beginsNumber, isNumber, numberOf, Read, got, fault, thenRead, judged, readWord, readSeparator, field, between}
-use Rattle.tokens.specs.Tokens.{DigitsStart, DigitsTo, Stopped, token-cut, token-stops, digits-followed, begins-is, number-is, number-of, unjudged}
+use Rattle.rules.specs.Numbers.{isSeparator, word, afterWord, digits, startsRight, beginsNumber, isNumber, numberOf, Read, got, fault}
+use Rattle.rules.specs.Numbers.{thenRead, judged, readWord, readSeparator, field, between}
+use Rattle.tokens.specs.Tokens.{DigitsStart, DigitsTo, Stopped, token-cut, token-stops, digits-followed, begins-is, number-is}
+use Rattle.tokens.specs.Tokens.{number-of, unjudged}
 
 -- ---- what a function answers
 
@@ -70,7 +72,8 @@ module _ {A : Type 0} {bytes : List ℕ} {refusal : ℕ} {v : A} {at : ℕ} {exp
   answers-as a e = record { answer = a .answer ∙ e; within = a .within }
 
 -- A function that has read v.
-pub gives : {A : Type 0} {bytes : List ℕ} {v w : A} {at : ℕ} {expected : Read A} → w ≡ v → expected ≡ got v (drop at bytes) → at ≤ length bytes
+pub gives : {A : Type 0} {bytes : List ℕ} {v w : A} {at : ℕ} {expected : Read A} → w ≡ v → expected ≡ got v (drop at bytes)
+    → at ≤ length bytes
     → Answers bytes 0 w at expected
 unfolding readOf
 gives {bytes = bytes} {at = at} same e h = record { answer = ap (λ v. got v (drop at bytes)) same ∙ sym e; within = h }
@@ -123,7 +126,8 @@ module _ (bytes : List ℕ) (at from end v : ℕ) (start : DigitsStart bytes at 
   pub number-followed : end < length bytes → isSeparator (getD bytes end 0) ≡ false → Stopped bytes from end
       → readNumber (drop at bytes) ≡ fault 3
   unfolding readNumber
-  number-followed h e stopped = not-begun (word (drop at bytes)) (afterWord (drop at bytes)) (digits-followed bytes at from end v start read h e stopped)
+  number-followed h e stopped = not-begun (word (drop at bytes)) (afterWord (drop at bytes))
+      (digits-followed bytes at from end v start read h e stopped)
 
   -- Bytes that end before the separator are 4 where they could begin a number, 3 where not (SCOPE 4.32).
   pub number-cut : end ≡ length bytes → readNumber (drop at bytes) ≡ fault (cond (startsRight (ltb at from) (slice from end bytes)) 4 3)
@@ -135,7 +139,8 @@ module _ (bytes : List ℕ) (at from end v : ℕ) (start : DigitsStart bytes at 
 
   module _ (h : end < length bytes) (e : isSeparator (getD bytes end 0) ≡ true) where
     pub number-whole : readNumber (drop at bytes)
-        ≡ cond (leb 1 (end - from) && startsRight (ltb at from) (slice from end bytes)) (got (cond (ltb at from) (negℤ (pos v)) (pos v)) (drop end bytes)) (fault 3)
+        ≡ cond (leb 1 (end - from) && startsRight (ltb at from) (slice from end bytes))
+        (got (cond (ltb at from) (negℤ (pos v)) (pos v)) (drop end bytes)) (fault 3)
     unfolding readNumber readWord unjudged
     number-whole =
         let t = token-stops bytes from end (read .token) h e in
@@ -277,7 +282,8 @@ module _ (judge follow : ℤ → ℕ) where
           by true e = cc
           by false e = absurd (got-not-fault (sym e))
 
-      number : (u : ℤ) (j : ℕ) (l : List ℕ) → judge u ≡ j → thenRead (judged j u l) (λ v more. readSeparator (follow v) v more) ≡ got v rest → judge v ≡ 0
+      number : (u : ℤ) (j : ℕ) (l : List ℕ) → judge u ≡ j → thenRead (judged j u l) (λ v more. readSeparator (follow v) v more)
+          ≡ got v rest → judge v ≡ 0
       number u zero l h e = ap judge (sym (separator (follow u) u l e)) ∙ h
       number u (suc j) l h e = absurd (got-not-fault (sym e))
 

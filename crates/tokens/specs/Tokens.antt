@@ -27,7 +27,8 @@ use borrow.Author.Tests.{lt-ltb, le-ltb, eq-eqb, ne-eqb, lt-leb, le-leb}
 use native.Mathlib.Decide.{ℕ-discrete}
 use Rattle.lists.specs.Tests.{T-&&, every, every-append}
 use lib.IntN.{ℤ, pos, negℤ}
-use Rattle.rules.specs.Numbers.{minus, isSeparator, word, afterWord, isDigit, signed, digits, startsRight, beginsNumber, isNumber, valueFrom, numberOf, Read, got, fault}
+use Rattle.rules.specs.Numbers.{minus, isSeparator, word, afterWord, isDigit, signed, digits, startsRight, beginsNumber, isNumber}
+use Rattle.rules.specs.Numbers.{valueFrom, numberOf, Read, got, fault}
 use Rattle.tokens.specs.declared.Token.{Token}
 use Rattle.tokens.specs.declared.Token.the-variants.{Number, NoNumber}
 
@@ -115,7 +116,8 @@ module _ (bytes : List ℕ) (at : ℕ) where
   pub digits-signed : at < length bytes → getD bytes at 0 ≡ minus → DigitsStart bytes at (at + 1)
   unfolding word afterWord digits signed
   digits-signed h e =
-      let first : drop at bytes ≡ minus ∷ drop (at + 1) bytes = rw (add-one at) (drop-cons bytes at 0 h ∙ ap (λ b. b ∷ drop (suc at) bytes) e) in
+      let first : drop at bytes
+      ≡ minus ∷ drop (at + 1) bytes = rw (add-one at) (drop-cons bytes at 0 h ∙ ap (λ b. b ∷ drop (suc at) bytes) e) in
       record {
         begun = omega arith;
         within = omega arith;
@@ -228,8 +230,10 @@ module _ (bytes : List ℕ) (from end v : ℕ) (read : DigitsTo bytes from end v
       record {
         token = token-goes-on bytes from end (read .token) h (no-separator (getD bytes end 0) e);
         short = omega arith;
-        all-digits = ap (every isDigit) more ∙ every-append isDigit (slice from end bytes) (getD bytes end 0 ∷ []) ∙ rw (read .all-digits, e);
-        value = ap (valueFrom 0) more ∙ value-append 0 (slice from end bytes) (getD bytes end 0) ∙ ap (λ v. 10 * v + (getD bytes end 0 - 48)) (read .value);
+        all-digits = ap (every isDigit) more ∙ every-append isDigit (slice from end bytes) (getD bytes end 0 ∷ [])
+            ∙ rw (read .all-digits, e);
+        value = ap (valueFrom 0) more ∙ value-append 0 (slice from end bytes) (getD bytes end 0)
+            ∙ ap (λ v. 10 * v + (getD bytes end 0 - 48)) (read .value);
         size = rw power (omega (arith, digit-bounds (getD bytes end 0) e, read .size));
       }
     where
@@ -257,8 +261,11 @@ module _ (bytes : List ℕ) (at from end v : ℕ) (start : DigitsStart bytes at 
       by : (isDigit (getD bytes end 0) ≡ false) ⊎ (from + 10 ≤ end) → beginsNumber (word (drop at bytes)) ≡ false
       by (inl e′) = rw (part, every-append isDigit (slice from end bytes) (getD bytes end 0 ∷ more), read .all-digits, e′)
       by (inr ten) =
-          rw (lt-leb (length (digits (word (drop at bytes)))) 10 (rw (part, length-append (slice from end bytes) (getD bytes end 0 ∷ more), length-slice from end bytes (le-of-lt h)) (omega arith)))
-          (ap (λ t. t && startsRight (signed (word (drop at bytes))) (digits (word (drop at bytes)))) (and-false (every isDigit (digits (word (drop at bytes))))))
+          rw (lt-leb (length (digits (word (drop at bytes)))) 10
+          (rw (part, length-append (slice from end bytes) (getD bytes end 0 ∷ more), length-slice from end bytes (le-of-lt h))
+          (omega arith)))
+          (ap (λ t. t && startsRight (signed (word (drop at bytes))) (digits (word (drop at bytes))))
+          (and-false (every isDigit (digits (word (drop at bytes))))))
 
   module _ (ended : TokenEnd bytes from end) where
     part : digits (word (drop at bytes)) ≡ slice from end bytes
@@ -266,13 +273,21 @@ module _ (bytes : List ℕ) (at from end v : ℕ) (start : DigitsStart bytes at 
 
     pub begins-is : beginsNumber (word (drop at bytes)) ≡ startsRight (ltb at from) (slice from end bytes)
     unfolding beginsNumber
-    begins-is = rw (part, start .sign, read .all-digits, length-slice from end bytes (ended .within), le-leb (end - from) 10 (omega (arith, read .short)))
+    begins-is = rw (
+      part,
+      start .sign,
+      read .all-digits,
+      length-slice from end bytes (ended .within),
+      le-leb (end - from) 10
+          (omega (arith, read .short)),
+    )
 
     pub number-is : isNumber (word (drop at bytes)) ≡ (leb 1 (end - from) && startsRight (ltb at from) (slice from end bytes))
     unfolding isNumber
     number-is =
         ap (λ t. leb 1 (length (digits (word (drop at bytes)))) && t) begins-is
-        ∙ ap (λ n. leb 1 n && startsRight (ltb at from) (slice from end bytes)) (ap length part ∙ length-slice from end bytes (ended .within))
+        ∙ ap (λ n. leb 1 n && startsRight (ltb at from) (slice from end bytes))
+        (ap length part ∙ length-slice from end bytes (ended .within))
 
     pub number-of : numberOf (word (drop at bytes)) ≡ cond (ltb at from) (negℤ (pos v)) (pos v)
     unfolding numberOf

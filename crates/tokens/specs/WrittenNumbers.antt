@@ -430,7 +430,8 @@ unfolding afterWord
 afterWord-separator [] b rest e = absurd (nil≢cons e)
 afterWord-separator (c ∷ bytes) b rest e = go (isSeparator c) (λ h. h) (afterWord-separator bytes b rest) e
   where
-    go : (t : Bool) → (T t → T (isSeparator c)) → (afterWord bytes ≡ b ∷ rest → T (isSeparator b)) → cond t (c ∷ bytes) (afterWord bytes) ≡ b ∷ rest
+    go : (t : Bool) → (T t → T (isSeparator c)) → (afterWord bytes ≡ b ∷ rest → T (isSeparator b)) → cond t (c ∷ bytes) (afterWord bytes)
+        ≡ b ∷ rest
         → T (isSeparator b)
     go true f h e = subst (λ x. T (isSeparator x)) (head-eq-of-cons-eq e) (f tt)
     go false f h e = h e

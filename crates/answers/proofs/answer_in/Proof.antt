@@ -247,7 +247,8 @@ returns-3 c =
     let g = d (w c) in
     let a = s g in (
       call-written (bytes a) (output a) (rows₀ a) (relations₀ a) (rows-long a) (relations-long a) (readBy (r (e g)))
-          (r (e g) .read-own .ensures) (e g .if1 .left) (ranBy g) (g .leading-run .ensures) (f (w c) .if2 .left) (lent .result) (lent .ensures)
+          (r (e g) .read-own .ensures) (e g .if1 .left) (ranBy g) (g .leading-run .ensures) (f (w c) .if2 .left) (lent .result)
+          (lent .ensures)
           (wroteBy (w c)) (w c .write-checked .ensures),
       (rows-back c, relations-back c),
     )

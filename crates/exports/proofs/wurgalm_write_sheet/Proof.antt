@@ -24,7 +24,8 @@ returns c =
     let start = c .before .before .before .before .before .before .before in
     let args = start .args in
     c .before .before .before .exported .ensures
-    ∙ ap (λ z. exportWrite z (args .count) (now (args .order)) (now (args .rows)) (now (args .relations)) (now (args .bytes)) (now (args .result)))
+    ∙ ap (λ z. exportWrite z (args .count) (now (args .order)) (now (args .rows)) (now (args .relations)) (now (args .bytes))
+    (now (args .result)))
     (sizes-told (args .m) (start .fits .l) (start .fits .t))
 
 pub wurgalm-write-sheet-spec : {M : Type 1} → statement M

@@ -33,7 +33,8 @@ array-share-prefix-bytes c = fits (c .before)
 
 slice-aggregate-print : tie.Need-slice-aggregate-print
 slice-aggregate-print c =
-    sym (length-take-le (c .before .before .write-sheet .result .length) (c .before .before .write-sheet .last .1 .1 .1 .1 .1 .0) (fits (c .before .before)))
+    sym (length-take-le (c .before .before .write-sheet .result .length) (c .before .before .write-sheet .last .1 .1 .1 .1 .1 .0)
+    (fits (c .before .before)))
 
 print-requires : tie.Need-print-requires
 print-requires c κs = search needs

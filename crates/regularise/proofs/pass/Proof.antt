@@ -1,4 +1,5 @@
--- `regularise::pass` meets its contract, and ends: each call takes some bytes. The loop's invariant: the place lies in the piece, the stream
+-- `regularise::pass` meets its contract, and ends: each call takes some bytes. The loop's invariant: the place lies in the piece,
+-- the stream
 -- is right, and the stores keep their lengths. The measure is what is left of the piece.
 -- Assumes nothing.
 use Prim.Native.Nat.{ℕ, _-_, _≤_, zero-le}

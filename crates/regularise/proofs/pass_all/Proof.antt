@@ -111,13 +111,15 @@ returns-3 c = tt
 sub-turns : tie.Need-sub-turns Inv-loop μ-loop
 sub-turns c = omega (
   arith,
-  c .before .before .before .before .before .before .before .before .before .before .before .before .before .before .before .before .before .before .before .before .before .loop-test,
+  c .before .before .before .before .before .before .before .before .before .before .before .before .before .before .before .before .before
+      .before .before .before .before .loop-test,
 )
 
 loop-less : tie.Need-loop-less Inv-loop μ-loop
 loop-less c = omega (
   arith,
-  c .before .before .before .before .before .before .before .before .before .before .before .before .before .before .before .before .before .before .before .before .before .loop-test,
+  c .before .before .before .before .before .before .before .before .before .before .before .before .before .before .before .before .before
+      .before .before .before .before .loop-test,
 )
 
 loop-again : tie.Need-loop-again Inv-loop μ-loop

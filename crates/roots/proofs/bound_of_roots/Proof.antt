@@ -35,7 +35,8 @@ loop-again : tie.Need-loop-again Inv-loop μ-loop
 loop-again c = search needs
 
 returns-2 : tie.Need-returns-2 Inv-loop μ-loop
-returns-2 c z root = let start = c .before .before in omega (arith, roots-small (start .args .p .now) (start .pre .1) (start .pre .0) z root)
+returns-2 c z root = let start = c .before .before in omega
+    (arith, roots-small (start .args .p .now) (start .pre .1) (start .pre .0) z root)
 
 pub bound-of-roots-spec : {M : Type 1} → statement M
 bound-of-roots-spec =

@@ -61,7 +61,8 @@ loop-holds c =
     let at-degree = c .before .before in
     let q = p at-degree in
     let nonzero = at-degree .before .pre .1 in
-    let top = c .magnitude .ensures ∙ ap natAbs (read-back (getD q (at-degree .degree .result) (pos 0)) (c .before .magnitude-arg .given)) in
+    let top = c .magnitude .ensures
+    ∙ ap natAbs (read-back (getD q (at-degree .degree .result) (pos 0)) (c .before .magnitude-arg .given)) in
     let e = at-degree .degree .ensures in
     let size = top ∙ ap (λ i. natAbs (getD q i (pos 0))) e in (
       inside at-degree,

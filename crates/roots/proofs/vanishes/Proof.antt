@@ -98,7 +98,8 @@ shared-slice-copy-out-b-2 : tie.Need-shared-slice-copy-out-b-2 Inv-loop μ-loop
 shared-slice-copy-out-b-2 c = omega arith
 
 -- The turn's division is exact.
-exact : (c : tie.Else1 Inv-loop μ-loop) → quotZ (b (c .before .before)) (r (c .before .before)) *ℤ r (c .before .before) ≡ b (c .before .before)
+exact : (c : tie.Else1 Inv-loop μ-loop) → quotZ (b (c .before .before)) (r (c .before .before)) *ℤ r (c .before .before)
+    ≡ b (c .before .before)
 exact c =
     let head = c .before .before in
     sym (toZ-ofZ (product-fits head)) ∙ ap (toZ w64) (ap (ofZ w64) (sym (product-is head)) ∙ c .if1 .left)

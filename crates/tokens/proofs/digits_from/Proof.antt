@@ -46,8 +46,10 @@ module _ (c : tie.Else2 Inv-loop μ-loop) where
   bounds : (48 ≤ getD (now (s .args .bytes)) (l .loop .end) 0) × (getD (now (s .args .bytes)) (l .loop .end) 0 ≤ 57)
   bounds = digit-bounds _ digit
 
-  goes-on : DigitsTo (now (s .args .bytes)) (s .args .from) (l .loop .end + 1) (10 * l .loop .value + (getD (now (s .args .bytes)) (l .loop .end) 0 - 48))
-  goes-on = digits-go-on _ _ _ _ (l .loop .inv) (omega arith) (omega (arith, ltb-true (l .loop .end - s .args .from) 10 (c .before .before .before .if1 .taken))) digit
+  goes-on : DigitsTo (now (s .args .bytes)) (s .args .from) (l .loop .end + 1)
+      (10 * l .loop .value + (getD (now (s .args .bytes)) (l .loop .end) 0 - 48))
+  goes-on = digits-go-on _ _ _ _ (l .loop .inv) (omega arith)
+      (omega (arith, ltb-true (l .loop .end - s .args .from) 10 (c .before .before .before .if1 .taken))) digit
 
 mul-value : tie.Need-mul-value Inv-loop μ-loop
 mul-value c = omega (arith, digits-size _ _ _ _ (l c .loop .inv))
@@ -79,7 +81,8 @@ returns-2 : tie.Need-returns-2 Inv-loop μ-loop
 returns-2 c = (c .before .loop .inv, λ h. absurd (omega arith))
 
 returns-3 : tie.Need-returns-3 Inv-loop μ-loop
-returns-3 c = (c .before .before .before .before .before .loop .inv, λ h. inl (sym (c .before .is-digit .ensures) ∙ not-true _ (c .if2 .taken)))
+returns-3
+    c = (c .before .before .before .before .before .loop .inv, λ h. inl (sym (c .before .is-digit .ensures) ∙ not-true _ (c .if2 .taken)))
 
 pub digits-from-spec : {M : Type 1} → statement M
 digits-from-spec =

@@ -12,7 +12,8 @@ is-between-requires : tie.Need-is-between-requires
 is-between-requires c κs = tt
 
 module _ (c : tie.After-is-between) where
-  test : c .is-between .result ≡ (leZ (c .before .args .low) (c .before .args .value) && leZ (c .before .args .value) (c .before .args .high))
+  test : c .is-between .result
+      ≡ (leZ (c .before .args .low) (c .before .args .value) && leZ (c .before .args .value) (c .before .args .high))
   test =
       let f = c .before .fits in
       simp (toZ-ofZ (f .low), toZ-ofZ (f .high), toZ-ofZ (f .value)) at (c .is-between .ensures)

@@ -45,24 +45,29 @@ module _ (d : tie.After-starts-right) where
   right t e = sym (d .starts-right .ensures) ∙ e
 
   cut : (t : Bool) → end ≡ length bytes → d .starts-right .result ≡ t → readNumber (drop at bytes) ≡ fault (cond t 4 3)
-  cut t h e = number-cut _ _ _ _ _ (d .before .before .digits-start .ensures) (d .before .digits-from .ensures .0) h ∙ ap (λ t. fault (cond t 4 3)) (right t e)
+  cut t h e = number-cut _ _ _ _ _ (d .before .before .digits-start .ensures) (d .before .digits-from .ensures .0) h
+      ∙ ap (λ t. fault (cond t 4 3)) (right t e)
 
 no-number-requires : tie.Need-no-number-requires
 no-number-requires c κs = tt
 
 returns : tie.Need-returns
-returns c = number-refuses (λ z. omega arith) (cut (c .before .before .before) true (c .before .before .if1 .taken) (c .before .if2 .taken)) (c .no-number .ensures)
+returns c = number-refuses (λ z. omega arith)
+    (cut (c .before .before .before) true (c .before .before .if1 .taken) (c .before .if2 .taken)) (c .no-number .ensures)
 
 no-number-requires-2 : tie.Need-no-number-requires-2
 no-number-requires-2 c κs = tt
 
 returns-2 : tie.Need-returns-2
-returns-2 c = number-refuses (λ z. omega arith) (cut (c .before .before .before) false (c .before .before .if1 .taken) (c .before .if2 .left)) (c .no-number2 .ensures)
+returns-2 c = number-refuses (λ z. omega arith)
+    (cut (c .before .before .before) false (c .before .before .if1 .taken) (c .before .if2 .left)) (c .no-number2 .ensures)
 
 read-token-requires : tie.Need-read-token-requires
 read-token-requires c κs =
-    let a = c .before in
-    ((a .before .before .digits-start .ensures, a .before .digits-from .ensures .0, a .before .digits-from .ensures .1), (omega arith, a .starts-right .ensures))
+    let a = c .before in (
+      (a .before .before .digits-start .ensures, a .before .digits-from .ensures .0, a .before .digits-from .ensures .1),
+      (omega arith, a .starts-right .ensures),
+    )
 
 enum-known-value : tie.Need-enum-known-value
 enum-known-value c = search needs

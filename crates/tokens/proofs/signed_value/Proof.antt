@@ -35,7 +35,8 @@ sub-result c = negated-fits _ (c .before .pre)
 returns : tie.Need-returns
 returns c =
     let s = c .before in
-    toZ-ofZ (negated-fits _ (s .pre)) ∙ negated-is _ (s .pre) ∙ sym (ap (λ t. cond t (negℤ (pos (s .args .size))) (pos (s .args .size))) (c .if1 .taken))
+    toZ-ofZ (negated-fits _ (s .pre)) ∙ negated-is _ (s .pre)
+    ∙ sym (ap (λ t. cond t (negℤ (pos (s .args .size))) (pos (s .args .size))) (c .if1 .taken))
 
 returns-2 : tie.Need-returns-2
 returns-2 c =

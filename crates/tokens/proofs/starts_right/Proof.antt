@@ -27,7 +27,8 @@ returns-3 : tie.Need-returns-3
 returns-3 c =
     let s = c .before .before .before .before in
     sym
-    (starts-zero _ (s .args .from) (s .args .end) _ (omega arith) (s .pre .1) (c .before .if2 .left) ∙ ap (λ t. t && eqb (s .args .from + 1) (s .args .end)) (c .if3 .taken))
+    (starts-zero _ (s .args .from) (s .args .end) _ (omega arith) (s .pre .1) (c .before .if2 .left)
+    ∙ ap (λ t. t && eqb (s .args .from + 1) (s .args .end)) (c .if3 .taken))
 
 returns-4 : tie.Need-returns-4
 returns-4 c =

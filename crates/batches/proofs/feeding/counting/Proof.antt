@@ -75,7 +75,8 @@ sheets-requires c κs =
 
 add-t18 : tie.Need-add-t18
 add-t18 c =
-    let line = c .before .before .before .before .before .before .before .before .before .before .before .before .before .before .before .before in
+    let line = c .before .before .before .before .before .before .before .before .before .before .before .before .before .before .before
+    .before in
     let args = start line .args in
     let fed = c .before .before .before .before .before .before .sheets in
     let all =
@@ -96,7 +97,8 @@ same-length-4 c = search needs
 
 returns-3 : tie.Need-returns-3
 returns-3 c =
-    let line = c .before .before .before .before .before .before .before .before .before .before .before .before .before .before .before .before in
+    let line = c .before .before .before .before .before .before .before .before .before .before .before .before .before .before .before
+    .before in
     let args = start line .args in
     let fed = c .before .before .before .before .before .before .sheets in (
       count-sheets (args .batch) (bytes line) (now (args .output)) (line .begin .result) (seen line)

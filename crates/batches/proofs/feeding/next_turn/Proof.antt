@@ -156,7 +156,8 @@ returns-6 c =
           (line .line .result .taken + line .line .result .bytes)
           (look-is
           (sheet-whole (line .before .if1 .left)
-          (rw (← seen line) (c .before .before .before .before .before .before .before .before .before .before .before .if4 .left)) (ap (λ v. v .taken) (sym (seen line)))
+          (rw (← seen line) (c .before .before .before .before .before .before .before .before .before .before .before .if4 .left))
+          (ap (λ v. v .taken) (sym (seen line)))
           (ap (λ v. line .line .result .taken + v .bytes) (sym (seen line)))
           (omega (
             arith,

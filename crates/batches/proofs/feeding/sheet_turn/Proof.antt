@@ -38,7 +38,8 @@ same-length-3 c = search needs
 
 returns : tie.Need-returns
 returns c =
-    let args = c .before .before .before .before .before .before .before .before .before .before .before .before .before .before .before .args in
+    let args = c .before .before .before .before .before .before .before .before .before .before .before .before .before .before .before
+    .args in
     let put = c .before .before .before .before .before .before .before .before .put-answer in
     let bytes = now (args .bytes) in (
       ap (λ r. turnOf r (put .last .1 .0)) (c .stopped .ensures ∙ ap stoppedOf (c .before .nothing .ensures))

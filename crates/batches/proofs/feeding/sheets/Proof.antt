@@ -1,4 +1,5 @@
--- `batches::feeding::sheets` meets its contract. The loop's invariant: what was written so far, followed by the work on what is left, is the
+-- `batches::feeding::sheets` meets its contract. The loop's invariant: what was written so far, followed by the work on what is
+-- left, is the
 -- whole work, and the work stores are zero. The measure is the number of sheets to come.
 -- Assumes nothing.
 use Prim.Native.Nat.{_+_, _-_, _≤_}

@@ -32,7 +32,8 @@ same-length-4 c = search needs
 
 returns : tie.Need-returns
 returns c =
-    let start = c .before .before .before .before .before .before .before .before .before .before .before .before .before .before .before .before .before in
+    let start = c .before .before .before .before .before .before .before .before .before .before .before .before .before .before .before
+    .before .before in
     c .before .before .before .before .before .before .unheld-piece .ensures
     ∙ unheld-call (start .args .s) (now (start .args .held)) (now (start .args .input)) (now (start .args .output))
     (start .pre .0) (c .before .before .before .before .before .before .before .before .before .before .before .before .if1 .taken)

@@ -114,7 +114,8 @@ untaken-requires : tie.Need-untaken-requires
 untaken-requires c κs = search needs
 
 same-length : tie.Need-same-length
-same-length c = laid (c .before .before .before .before .before .before .before .before .before .before .before .before .before .before) .same
+same-length c = laid
+    (c .before .before .before .before .before .before .before .before .before .before .before .before .before .before) .same
 
 same-length-2 : tie.Need-same-length-2
 same-length-2 c = search needs
@@ -157,7 +158,8 @@ rest-piece-requires c κs =
 
 same-length-5 : tie.Need-same-length-5
 same-length-5 c = c .before .before .before .before .before .before .rest-piece .kept .1 .1 .0 ∙ laid
-    (copied (c .before .before .before .before .before .before .before .before .before .before .before .before .before .before .before .before .before .before)) .same
+    (copied (c .before .before .before .before .before .before .before .before .before .before .before .before .before .before .before
+    .before .before .before)) .same
 
 same-length-6 : tie.Need-same-length-6
 same-length-6 c = search needs
@@ -170,7 +172,8 @@ same-length-8 c = search needs
 
 returns-2 : tie.Need-returns-2
 returns-2 c =
-    let fed = c .before .before .before .before .before .before .before .before .before .before .before .before .before .before .before .before .before .before in
+    let fed = c .before .before .before .before .before .before .before .before .before .before .before .before .before .before .before
+    .before .before .before in
     c .before .before .before .before .before .before .rest-piece .ensures
     ∙ ap (λ l. restOf (fed .feed .result) (fed .feed .result .taken - from-start fed .args .s .held) l
     (now (from-start fed .args .input)) (after fed)) (laid (copied fed) .stored-is)

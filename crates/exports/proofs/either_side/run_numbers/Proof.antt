@@ -71,8 +71,10 @@ returns c =
     let answer = start .args .answer in
     let order = answer .order in
     let value : (j : ℕ) → _≡_ {A = ℤ} _ (pos (getD order j 0)) = λ j. small-value (getD order j 0) (column start j) in
-    (λ i. small-value (answer .relations) (relations start) i ∷ small-value (answer .shifts) (shifts start) i ∷ value 0 i ∷ value 1 i ∷ value 2 i ∷ value 3 i
-    ∷ answer-value (answer .«has_root») i ∷ toZ-ofZ {w = w64} {z = answer .root} (sfits-of (c .struct-told .given .1 .1 .1 .1 .1 .0 .1)) i ∷ [])
+    (λ i. small-value (answer .relations) (relations start) i ∷ small-value (answer .shifts)
+    (shifts start) i ∷ value 0 i ∷ value 1 i ∷ value 2 i ∷ value 3 i
+    ∷ answer-value (answer .«has_root») i ∷ toZ-ofZ {w = w64} {z = answer .root}
+    (sfits-of (c .struct-told .given .1 .1 .1 .1 .1 .0 .1)) i ∷ [])
     ∙ ap (λ l. pos (answer .relations) ∷ pos (answer .shifts) ∷ (l ++ (pos (cond (answer .«has_root») 1 0) ∷ answer .root ∷ [])))
     (four-columns order (start .pre .four))
 

@@ -68,9 +68,12 @@ returns c =
     let sheet = start .args .sheet in
     let order = sheet .order in
     let value : (j : ℕ) → _≡_ {A = ℤ} _ (pos (getD order j 0)) = λ j. small-value (getD order j 0) (column start j) in
-    (λ i. small-value (sheet .sizes .m) (unknowns start) i ∷ toZ-ofZ {w = w64} {z = sheet .sizes .l} (sfits-of (c .struct-told .given .1 .0 .1)) i
-    ∷ toZ-ofZ {w = w64} {z = sheet .sizes .t} (sfits-of (c .struct-told .given .1 .1 .0 .1)) i ∷ small-value (sheet .relations) (relations start) i ∷ value 0 i ∷ value 1 i ∷ value 2 i ∷ value 3 i ∷ [])
-    ∙ ap (λ l. pos (sheet .sizes .m) ∷ sheet .sizes .l ∷ sheet .sizes .t ∷ pos (sheet .relations) ∷ l) (four-columns order (start .pre .four))
+    (λ i. small-value (sheet .sizes .m) (unknowns start) i ∷ toZ-ofZ {w = w64} {z = sheet .sizes .l}
+    (sfits-of (c .struct-told .given .1 .0 .1)) i
+    ∷ toZ-ofZ {w = w64} {z = sheet .sizes .t} (sfits-of (c .struct-told .given .1 .1 .0 .1)) i ∷ small-value (sheet .relations)
+    (relations start) i ∷ value 0 i ∷ value 1 i ∷ value 2 i ∷ value 3 i ∷ [])
+    ∙ ap (λ l. pos (sheet .sizes .m) ∷ sheet .sizes .l ∷ sheet .sizes .t ∷ pos (sheet .relations) ∷ l)
+    (four-columns order (start .pre .four))
 
 pub read-numbers-spec : {M : Type 1} → statement M
 read-numbers-spec =

@@ -166,7 +166,8 @@ returns-4 c =
     let w = c .before .before .before .before in
     let s = place w in
     write-done (z s) (count s) (order s) (rows s) (relations s) (bytes s) (result s) (four (ordered w)) (passed (ordered w)) (made w)
-    (onAcceptance-none (w .write-sheet2 .result .refusal) (pos (w .write-sheet2 .result .length) ∷ []) (result s) (c .if4 .taken)) (omega arith)
+    (onAcceptance-none (w .write-sheet2 .result .refusal) (pos (w .write-sheet2 .result .length) ∷ []) (result s) (c .if4 .taken))
+    (omega arith)
 
 cast-result : tie.Need-cast-result
 cast-result c =

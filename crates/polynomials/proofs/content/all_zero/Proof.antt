@@ -37,8 +37,12 @@ loop-less c = search needs
 
 loop-again : tie.Need-loop-again Inv-loop μ-loop
 loop-again c =
-    let at = c .before .before in
-    (omega arith, at .loop .inv .1 ∙ join-next (at .loop .joined) (now (at .before .args .p)) (at .loop .i) (c .before .loop-test .taken) (sfits-of (c .joined .given)))
+    let at = c .before .before in (
+      omega arith,
+      at .loop .inv .1
+          ∙ join-next (at .loop .joined) (now (at .before .args .p)) (at .loop .i) (c .before .loop-test .taken)
+          (sfits-of (c .joined .given)),
+    )
 
 returns : tie.Need-returns Inv-loop μ-loop
 unfolding isZero

@@ -65,7 +65,8 @@ module _ (c : tie.After-sum2 Inv-loop μ-loop) where
 
   next-fits : SFits w64 (sumBelow (i + 1) (term g p k))
   next-fits =
-      sfits-size (sumBelow (i + 1) (term g p k)) (sum-size g p (start .pre .1) (start .pre .2) k coefficientCount (i + 1) (start .pre .0)) (lit< tt)
+      sfits-size (sumBelow (i + 1) (term g p k)) (sum-size g p (start .pre .1) (start .pre .2) k coefficientCount (i + 1) (start .pre .0))
+      (lit< tt)
 
 add-end : tie.Need-add-end Inv-loop μ-loop
 add-end c = search needs

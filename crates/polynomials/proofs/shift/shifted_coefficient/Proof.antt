@@ -68,7 +68,8 @@ module _ (c : tie.After-sum Inv-loop μ-loop) where
   product-read = toZ w64 (ofZ w64 (c .before .binomial .result)) *ℤ toZ w64 (ofZ w64 x)
 
   -- the machine's sum, each operand read back from its bits
-  next : toZ w64 (c .before .before .before .loop .sum) +ℤ toZ w64 (ofZ w64 product-read) ≡ expansion (now (s .args .p)) (s .args .k) (suc j)
+  next : toZ w64 (c .before .before .before .loop .sum) +ℤ toZ w64 (ofZ w64 product-read)
+      ≡ expansion (now (s .args .p)) (s .args .k) (suc j)
   unfolding coeff
   next =
       let fits-sum = sum-fits s j (omega arith) in

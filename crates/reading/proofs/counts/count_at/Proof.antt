@@ -26,7 +26,8 @@ returns c =
     let s = c .before .before .before .before .before .before .before in
     let n = c .before .before .before .before .before .number-at in
     answers-field (between (pos 0) (s .args .most)) afterCount (n .ensures) (search needs)
-    (rw (toZ-ofZ (s .fits .most)) at (c .before .before .before .judge-between .ensures)) (c .before .after-count .ensures) (c .separated .ensures .0)
+    (rw (toZ-ofZ (s .fits .most)) at (c .before .before .before .judge-between .ensures)) (c .before .after-count .ensures)
+    (c .separated .ensures .0)
 
 pub count-at-spec : {M : Type 1} → statement M
 count-at-spec =

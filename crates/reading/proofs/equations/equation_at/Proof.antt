@@ -38,7 +38,8 @@ module _ (c : tie.After-count-at) where
       let a = c .before .before .before .args in
       field (between (pos 0) (pos (a .z .m * suc (span (sizesOf (a .z)))))) afterCount (drop (a .at) (now (a .bytes)))
 
-  count-answer : Answers (now (c .before .before .before .args .bytes)) (c .count-at .result .refusal) count (c .count-at .result .at) count-field
+  count-answer : Answers (now (c .before .before .before .args .bytes)) (c .count-at .result .refusal) count
+      (c .count-at .result .at) count-field
   count-answer =
       let f : SFits w64 (c .before .most-terms .result) = sfits-of (c .before .most-terms .ok) in
       rw (toZ-ofZ f, c .before .most-terms .ensures) at (c .count-at .ensures)
@@ -47,14 +48,18 @@ returns : tie.Need-returns
 unfolding sizesOf
 returns c =
     refuses (c .before .if1 .taken)
-    (equation-is _ (size-bounds _ (c .before .before .before .before .before .before .pre .0 .1) .few) _ ∙ then-fault _ (answer-fault (c .before .if1 .taken) (count-answer (c .before .before .before))))
+    (equation-is _ (size-bounds _ (c .before .before .before .before .before .before .pre .0 .1) .few) _
+    ∙ then-fault _ (answer-fault (c .before .if1 .taken) (count-answer (c .before .before .before))))
     (c .no-part .ensures)
 
 module _ (c : tie.After-struct-told) where
   count-fits : SFits w64 (count (c .before .before .before .before))
   count-fits = sfits-of (c .struct-told .given .1 .0 .1)
 
-  count-read : count-field (c .before .before .before .before) ≡ got (count (c .before .before .before .before)) (drop (c .before .before .before .before .count-at .result .at) (now (c .before .before .before .before .before .before .before .args .bytes)))
+  count-read : count-field (c .before .before .before .before)
+      ≡ got (count (c .before .before .before .before))
+      (drop (c .before .before .before .before .count-at .result .at)
+      (now (c .before .before .before .before .before .before .before .args .bytes)))
   count-read = answer-got (c .before .before .if1 .left) (count-answer (c .before .before .before .before))
 
 cast-terms-at : tie.Need-cast-terms-at
@@ -62,7 +67,15 @@ cast-terms-at c =
     rw (toZ-ofZ (count-fits c)) (between-zero 0 _ _ (field-judged _ afterCount _ (count-read c)) .0, fits-natAbs tt (count-fits c))
 
 terms-at-requires : tie.Need-terms-at-requires
-terms-at-requires c κs = ((c .before .before .before .before .before .count-at .ensures .within, c .before .before .before .before .before .before .before .before .pre .0 .1), c .before .before .before .before .before .before .before .before .pre .1)
+terms-at-requires c
+    κs = (
+      (
+        c .before .before .before .before .before .count-at .ensures .within,
+        c .before .before .before .before .before .before .before
+            .before .pre .0 .1,
+      ),
+      c .before .before .before .before .before .before .before .before .pre .1,
+    )
 
 same-length : tie.Need-same-length
 same-length c = c .before .terms-at .kept .1 .1 .1 .1 .0
@@ -72,8 +85,12 @@ unfolding sizesOf termsOf
 returns-2 c =
     let a = c .before .before .before .before .before .before .before .before .before .before .args in
     answers-as (c .before .terms-at .ensures)
-    (ap (λ k. termsInto (sizesOf (a .z)) (natAbs k) (a .z .l) 0 blankRow (drop (c .before .before .before .before .before .before .before .count-at .result .at) (now (a .bytes)))) (toZ-ofZ (count-fits (c .before .before .before)))
-    ∙ sym (equation-is _ (size-bounds _ (c .before .before .before .before .before .before .before .before .before .before .pre .0 .1) .few) _ ∙ then-got _ (count-read (c .before .before .before))))
+    (ap (λ k. termsInto (sizesOf (a .z)) (natAbs k) (a .z .l) 0 blankRow
+    (drop (c .before .before .before .before .before .before .before .count-at .result .at) (now (a .bytes))))
+    (toZ-ofZ (count-fits (c .before .before .before)))
+    ∙ sym (equation-is _
+    (size-bounds _ (c .before .before .before .before .before .before .before .before .before .before .pre .0 .1) .few) _
+    ∙ then-got _ (count-read (c .before .before .before))))
 
 pub equation-at-spec : {M : Type 1} → statement M
 equation-at-spec =

@@ -75,7 +75,9 @@ cast-result-2 c = rw (difference (c .before)) (omega (arith, most (c .before)))
 
 returns : tie.Need-returns
 unfolding span sizesOf
-returns c = rw (difference (c .before)) (toZ-pos w64 (omega (arith, most (c .before))) ∙ ap (λ k. pos (c .before .before .before .args .z .m * k)) (add-one (natAbs (l (c .before) -ℤ t (c .before)))))
+returns c = rw (difference (c .before))
+    (toZ-pos w64 (omega (arith, most (c .before)))
+    ∙ ap (λ k. pos (c .before .before .before .args .z .m * k)) (add-one (natAbs (l (c .before) -ℤ t (c .before)))))
 
 pub most-terms-spec : {M : Type 1} → statement M
 most-terms-spec =

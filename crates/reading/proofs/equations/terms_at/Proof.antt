@@ -1,4 +1,5 @@
--- `reading::equations::terms_at` meets its contract. The loop's invariant: the row holds the terms before the place `next`, and `left` terms
+-- `reading::equations::terms_at` meets its contract. The loop's invariant: the row holds the terms before the place `next`, and
+-- `left` terms
 -- are to come. The measure is their number.
 -- Assumes nothing.
 use mathlib.Core.Path.{_≡_, refl, sym, ap, ap₂, _∙_}
@@ -21,7 +22,8 @@ use Rattle.rules.specs.Layout.{size-bounds}
 use Rattle.tokens.specs.Fields.{Answers, answer-fault, answer-got, refuses, gives, then-got, then-fault}
 use Rattle.reading.specs.Zeros.{length-zeros}
 use Rattle.reading.specs.Terms.{termOf, readPlace, readPolynomial, withPlace, readPadded-is, placeInRow}
-use Rattle.reading.specs.Equations.{lent-long, TermRight, place-right, term-place, place-fits, TermsTo, terms-begin, terms-end, terms-refused, terms-go-on, zeros-blank}
+use Rattle.reading.specs.Equations.{lent-long, TermRight, place-right, term-place, place-fits, TermsTo, terms-begin, terms-end}
+use Rattle.reading.specs.Equations.{terms-refused, terms-go-on, zeros-blank}
 use Rattle.rows.specs.Validity.{sizesOf}
 use Rattle.reading.specs.declared.terms.PlaceRead.{PlaceRead}
 use Rattle.reading.proofs.equations.terms_at.Statement.{statement}
@@ -50,20 +52,23 @@ sub-left c = omega arith
 
 place-at-requires : tie.Need-place-at-requires Inv-loop μ-loop
 unfolding sizesOf
-place-at-requires c κs = (c .before .loop .inv .within, (size-bounds _ (c .before .before .before .before .pre .0 .1) .few, c .before .loop .inv .few))
+place-at-requires c
+    κs = (c .before .loop .inv .within, (size-bounds _ (c .before .before .before .before .pre .0 .1) .few, c .before .loop .inv .few))
 
 no-part-requires : tie.Need-no-part-requires Inv-loop μ-loop
 no-part-requires c κs = tt
 
 same-length : tie.Need-same-length Inv-loop μ-loop
-same-length c = c .before .before .before .before .before .loop .inv .long ∙ sym (row-long (c .before .before .before .before .before .before .before .before))
+same-length c = c .before .before .before .before .before .loop .inv .long
+    ∙ sym (row-long (c .before .before .before .before .before .before .before .before))
 
 returns : tie.Need-returns Inv-loop μ-loop
 unfolding sizesOf
 returns c =
     let h = c .before .if1 .taken in
     refuses h
-    (terms-refused _ (c .before .before .before .before .before .before .before .before .pre .0 .1) _ _ _ _ _ _ _ _ (c .before .before .before .before .before .loop .inv) (c .before .before .before .before .loop-test .taken) _
+    (terms-refused _ (c .before .before .before .before .before .before .before .before .pre .0 .1) _ _ _ _ _ _ _ _
+    (c .before .before .before .before .before .loop .inv) (c .before .before .before .before .loop-test .taken) _
     (readPadded-is _ _ _ _ _ ∙ then-fault _ (answer-fault h (c .before .before .before .place-at .ensures))))
     (c .no-part .ensures)
 
@@ -84,7 +89,8 @@ module _ (d : tie.After-struct-told3 Inv-loop μ-loop) where
   block-fits : SFits w64 (q .block)
   block-fits = sfits-of (d .struct-told3 .given .1 .1 .0 .1)
 
-  place-read : readPlace (sizesOf (s .args .z)) (toZ w64 (l .loop .block)) (l .loop .column) (drop (l .loop .next) (now (s .args .bytes))) ≡ got (q .block, q .column) (drop (q .at) (now (s .args .bytes)))
+  place-read : readPlace (sizesOf (s .args .z)) (toZ w64 (l .loop .block)) (l .loop .column) (drop (l .loop .next) (now (s .args .bytes)))
+      ≡ got (q .block, q .column) (drop (q .at) (now (s .args .bytes)))
   place-read = answer-got (d .before .before .if1 .left) (d .before .before .before .before .place-at .ensures)
 
   right : TermRight (sizesOf (s .args .z)) (toZ w64 (l .loop .block)) (l .loop .column) (termOf (q .block) (q .column) [])
@@ -102,7 +108,8 @@ module _ (c : tie.After-place-in-row Inv-loop μ-loop) where
   from = c .place-in-row .result
 
   from-is : from ≡ placeInRow (s (c .before) .args .z .l) (q (c .before) .block) (q (c .before) .column)
-  from-is = c .place-in-row .ensures ∙ ap₂ (λ l b. placeInRow l b (q (c .before) .column)) (toZ-ofZ (l-fits (c .before))) (toZ-ofZ (block-fits (c .before)))
+  from-is = c .place-in-row .ensures
+      ∙ ap₂ (λ l b. placeInRow l b (q (c .before) .column)) (toZ-ofZ (l-fits (c .before))) (toZ-ofZ (block-fits (c .before)))
 
   room : from + coefficientCount ≤ rowLength
   unfolding sizesOf
@@ -144,14 +151,17 @@ same-length-2 c =
     (c .before .before .before .before .polynomial-at .last .1 .1 .1 .0)
     (c .before .before .before .before .polynomial-at .kept .1 .1 .1 .0)
     ∙ c .before .before .before .before .before .before .before .before .before .before .before .before .before .before .loop .inv .long
-    ∙ sym (row-long (c .before .before .before .before .before .before .before .before .before .before .before .before .before .before .before .before .before))
+    ∙ sym (row-long
+    (c .before .before .before .before .before .before .before .before .before .before .before .before .before .before .before .before
+    .before))
 
 -- The polynomial of a turn's term, as it was read.
 module _ (c : tie.After-polynomial-at Inv-loop μ-loop) where
   abbrev d : tie.After-struct-told3 Inv-loop μ-loop
   d = c .before .before .before .before
 
-  polynomial-answer : Answers (now (s d .args .bytes)) (c .polynomial-at .result .refusal) (c .polynomial-at .last .1 .1 .1 .0) (c .polynomial-at .result .at)
+  polynomial-answer : Answers (now (s d .args .bytes)) (c .polynomial-at .result .refusal) (c .polynomial-at .last .1 .1 .1 .0)
+      (c .polynomial-at .result .at)
       (readPolynomial (parting 10 (l d .loop .left - 1)) (drop (q d .at) (now (s d .args .bytes))))
   polynomial-answer = rw (c .before .before .parting .ensures) at (c .polynomial-at .ensures)
 
@@ -160,8 +170,13 @@ unfolding withPlace sizesOf
 returns-2 c =
     let h = c .before .if2 .taken in
     refuses h
-    (terms-refused _ (c .before .before .before .before .before .before .before .before .before .before .before .before .before .before .before .before .before .pre .0 .1) _ _ _ _ _ _ _ _ (c .before .before .before .before .before .before .before .before .before .before .before .before .before .before .loop .inv) (c .before .before .before .before .before .before .before .before .before .before .before .before .before .loop-test .taken) _
-    (readPadded-is _ _ _ _ _ ∙ then-got _ (place-read (c .before .before .before .before .before .before .before .before)) ∙ then-fault _ (answer-fault h (polynomial-answer (c .before .before .before .before)))))
+    (terms-refused _
+    (c .before .before .before .before .before .before .before .before .before .before .before .before .before .before .before .before
+    .before .pre .0 .1) _ _ _ _ _ _ _ _
+    (c .before .before .before .before .before .before .before .before .before .before .before .before .before .before .loop .inv)
+    (c .before .before .before .before .before .before .before .before .before .before .before .before .before .loop-test .taken) _
+    (readPadded-is _ _ _ _ _ ∙ then-got _ (place-read (c .before .before .before .before .before .before .before .before))
+    ∙ then-fault _ (answer-fault h (polynomial-answer (c .before .before .before .before)))))
     (c .no-part2 .ensures)
 
 loop-less : tie.Need-loop-less Inv-loop μ-loop
@@ -171,9 +186,15 @@ loop-again : tie.Need-loop-again Inv-loop μ-loop
 unfolding withPlace sizesOf
 loop-again c =
     rw (toZ-ofZ (block-fits (c .before .before .before .before .before .before .before .before)))
-    (terms-go-on _ (c .before .before .before .before .before .before .before .before .before .before .before .before .before .before .before .before .before .pre .0 .1) _ _ _ _ _ _ _ _ (c .before .before .before .before .before .before .before .before .before .before .before .before .before .before .loop .inv) (c .before .before .before .before .before .before .before .before .before .before .before .before .before .loop-test .taken) _ _ _
-    (readPadded-is _ _ _ _ _ ∙ then-got _ (place-read (c .before .before .before .before .before .before .before .before)) ∙ then-got _ (answer-got (c .before .if2 .left) (polynomial-answer (c .before .before .before .before))))
-    (c .before .before .before .before .polynomial-at .ensures .within) (from-is (c .before .before .before .before .before .before .before)))
+    (terms-go-on _
+    (c .before .before .before .before .before .before .before .before .before .before .before .before .before .before .before .before
+    .before .pre .0 .1) _ _ _ _ _ _ _ _
+    (c .before .before .before .before .before .before .before .before .before .before .before .before .before .before .loop .inv)
+    (c .before .before .before .before .before .before .before .before .before .before .before .before .before .loop-test .taken) _ _ _
+    (readPadded-is _ _ _ _ _ ∙ then-got _ (place-read (c .before .before .before .before .before .before .before .before))
+    ∙ then-got _ (answer-got (c .before .if2 .left) (polynomial-answer (c .before .before .before .before))))
+    (c .before .before .before .before .polynomial-at .ensures .within)
+    (from-is (c .before .before .before .before .before .before .before)))
 
 same-length-3 : tie.Need-same-length-3 Inv-loop μ-loop
 same-length-3 c = c .before .loop .inv .long ∙ sym (row-long (c .before .before .before .before))
@@ -181,7 +202,8 @@ same-length-3 c = c .before .loop .inv .long ∙ sym (row-long (c .before .befor
 returns-3 : tie.Need-returns-3 Inv-loop μ-loop
 unfolding sizesOf
 returns-3 c =
-    gives refl (terms-end _ (c .before .before .before .before .pre .0 .1) _ _ _ _ _ _ _ _ (c .before .loop .inv) (omega arith)) (c .before .loop .inv .within)
+    gives refl (terms-end _ (c .before .before .before .before .pre .0 .1) _ _ _ _ _ _ _ _ (c .before .loop .inv) (omega arith))
+    (c .before .loop .inv .within)
 
 pub terms-at-spec : {M : Type 1} → statement M
 terms-at-spec =

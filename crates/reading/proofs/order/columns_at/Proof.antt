@@ -49,7 +49,11 @@ slice-aggregate-order-column-at : tie.Need-slice-aggregate-order-column-at Inv-l
 slice-aggregate-order-column-at c = sym (c .before .before .before .loop .inv .1 .long)
 
 order-column-at-requires : tie.Need-order-column-at-requires Inv-loop μ-loop
-order-column-at-requires c κs = (c .before .before .before .loop .inv .1 .within, (c .before .before .before .before .before .pre .1 .0, omega (arith, c .before .before .before .loop .inv .1 .long)))
+order-column-at-requires c
+    κs = (
+      c .before .before .before .loop .inv .1 .within,
+      (c .before .before .before .before .before .pre .1 .0, omega (arith, c .before .before .before .loop .inv .1 .long)),
+    )
 
 no-order-requires : tie.Need-no-order-requires Inv-loop μ-loop
 no-order-requires c κs = tt
@@ -65,7 +69,8 @@ module _ (c : tie.After-order-column-at Inv-loop μ-loop) where
       let l = c .before .before .before .before .loop in
       field (judgeOrder (a .m) (takenOf (l .order) (l .i))) (always (parting 10 (a .count - (l .i + 1)))) (drop (l .next) (now (a .bytes)))
 
-  column-answer : Answers (now (c .before .before .before .before .before .before .args .bytes)) (c .order-column-at .result .refusal) column (c .order-column-at .result .at) column-field
+  column-answer : Answers (now (c .before .before .before .before .before .before .args .bytes))
+      (c .order-column-at .result .refusal) column (c .order-column-at .result .at) column-field
   column-answer = rw (c .before .before .parting .ensures) at (c .order-column-at .ensures)
 
 returns : tie.Need-returns Inv-loop μ-loop
@@ -74,7 +79,8 @@ returns c =
     let l = c .before .before .before .before .before .before .before .loop in
     refuses (c .before .if1 .taken)
     (filled-refused _ _ _ _ _ _ _ _ (l .inv .1) _ natAbs (columnsThen (a .m) (a .count - (l .i + 1)) (takenOf (l .order) (l .i)))
-    (columns-next (a .m) (a .count) (l .i) (takenOf (l .order) (l .i)) (drop (l .next) (now (a .bytes))) (c .before .before .before .before .before .before .loop-test .taken)) _
+    (columns-next (a .m) (a .count) (l .i) (takenOf (l .order) (l .i)) (drop (l .next) (now (a .bytes)))
+    (c .before .before .before .before .before .before .loop-test .taken)) _
     (answer-fault (c .before .if1 .taken) (column-answer (c .before .before .before))))
     (c .no-order .ensures)
 
@@ -82,7 +88,10 @@ module _ (c : tie.After-struct-told Inv-loop μ-loop) where
   column-fits : SFits w64 (column (c .before .before .before .before))
   column-fits = sfits-of (c .struct-told .given .1 .0 .1)
 
-  column-read : column-field (c .before .before .before .before) ≡ got (column (c .before .before .before .before)) (drop (c .before .before .before .before .order-column-at .result .at) (now (c .before .before .before .before .before .before .before .before .before .before .args .bytes)))
+  column-read : column-field (c .before .before .before .before)
+      ≡ got (column (c .before .before .before .before))
+      (drop (c .before .before .before .before .order-column-at .result .at)
+      (now (c .before .before .before .before .before .before .before .before .before .before .args .bytes)))
   column-read = answer-got (c .before .before .if1 .left) (column-answer (c .before .before .before .before))
 
 cast-order : tie.Need-cast-order Inv-loop μ-loop
@@ -110,9 +119,11 @@ loop-again c =
       rw (toZ-ofZ (column-fits c))
           (subst (FilledTo columnCount 0 (readColumns (a .m) (a .count) [] (drop (a .at) (now (a .bytes)))) (now (a .bytes))
           (set (l .order) (l .i) (natAbs (column (c .before .before .before .before)))) (l .i + 1) at)
-          (columns-left (a .m) (a .count - (l .i + 1)) (l .order) (l .i) (column (c .before .before .before .before)) (drop at (now (a .bytes))) (omega (arith, l .inv .1 .long)))
+          (columns-left (a .m) (a .count - (l .i + 1)) (l .order) (l .i) (column (c .before .before .before .before))
+          (drop at (now (a .bytes))) (omega (arith, l .inv .1 .long)))
           (filled-goes-on _ _ _ _ _ _ _ _ (l .inv .1) _ natAbs (columnsThen (a .m) (a .count - (l .i + 1)) (takenOf (l .order) (l .i)))
-          (columns-next (a .m) (a .count) (l .i) (takenOf (l .order) (l .i)) (drop (l .next) (now (a .bytes))) (c .before .before .before .before .before .before .before .loop-test .taken)) _ _ (omega arith)
+          (columns-next (a .m) (a .count) (l .i) (takenOf (l .order) (l .i)) (drop (l .next) (now (a .bytes)))
+          (c .before .before .before .before .before .before .before .loop-test .taken)) _ _ (omega arith)
           (column-read c) (c .before .before .before .before .order-column-at .ensures .within))),
     )
 

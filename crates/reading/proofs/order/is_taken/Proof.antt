@@ -36,7 +36,8 @@ loop-less : tie.Need-loop-less Inv-loop μ-loop
 loop-less c = omega arith
 
 loop-again : tie.Need-loop-again Inv-loop μ-loop
-loop-again c = (omega arith, c .before .before .before .loop .inv .1 ∙ taken-before _ _ _ (c .before .before .loop-test .taken) (c .if1 .left))
+loop-again
+    c = (omega arith, c .before .before .before .loop .inv .1 ∙ taken-before _ _ _ (c .before .before .loop-test .taken) (c .if1 .left))
 
 returns-2 : tie.Need-returns-2 Inv-loop μ-loop
 unfolding contains takenOf

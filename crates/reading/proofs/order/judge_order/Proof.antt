@@ -26,11 +26,15 @@ small-is : (n : ℕ) → n ≤ 4 → toZ w64 n ≡ pos n
 small-is n h = toZ-pos w64 (omega arith)
 
 module _ (c : tie.After-is-between) where
-  test : c .is-between .result ≡ (leZ (pos 1) (c .before .before .args .value) && leZ (c .before .before .args .value) (pos (c .before .before .args .m)))
-  test = simp (small-is (c .before .before .args .m) (c .before .before .pre .0), toZ-ofZ (c .before .before .fits .value)) at (c .is-between .ensures)
+  test : c .is-between .result
+      ≡ (leZ (pos 1) (c .before .before .args .value) && leZ (c .before .before .args .value) (pos (c .before .before .args .m)))
+  test = simp (small-is (c .before .before .args .m) (c .before .before .pre .0), toZ-ofZ (c .before .before .fits .value)) at
+      (c .is-between .ensures)
 
 module _ (c : tie.After-is-taken) where
-  found : c .is-taken .result ≡ contains (natAbs (c .before .before .before .before .args .value)) (takenOf (now (c .before .before .before .before .args .order)) (c .before .before .before .before .args .taken))
+  found : c .is-taken .result
+      ≡ contains (natAbs (c .before .before .before .before .args .value))
+      (takenOf (now (c .before .before .before .before .args .order)) (c .before .before .before .before .args .taken))
   found = rw (toZ-ofZ (c .before .before .before .before .fits .value)) at (c .is-taken .ensures)
 
 cast-is-taken : tie.Need-cast-is-taken
@@ -44,17 +48,22 @@ is-taken-requires c κs = c .before .before .before .pre .1
 
 returns : tie.Need-returns
 unfolding judgeOrder
-returns c = sym (ap₂ (λ t u. cond (t && not u) 0 2) (sym (test (c .before .before .before)) ∙ c .before .before .if1 .taken) (sym (found (c .before)) ∙ c .if2 .taken))
+returns c = sym
+    (ap₂ (λ t u. cond (t && not u) 0 2) (sym (test (c .before .before .before)) ∙ c .before .before .if1 .taken)
+    (sym (found (c .before)) ∙ c .if2 .taken))
 
 returns-2 : tie.Need-returns-2
 unfolding judgeOrder
-returns-2 c = sym (ap₂ (λ t u. cond (t && not u) 0 2) (sym (test (c .before .before .before)) ∙ c .before .before .if1 .taken) (sym (found (c .before)) ∙ c .if2 .left))
+returns-2 c = sym
+    (ap₂ (λ t u. cond (t && not u) 0 2) (sym (test (c .before .before .before)) ∙ c .before .before .if1 .taken)
+    (sym (found (c .before)) ∙ c .if2 .left))
 
 returns-3 : tie.Need-returns-3
 unfolding judgeOrder
 returns-3 c =
     let a = c .before .before .before .args in
-    sym (ap (λ t. cond (t && not (contains (natAbs (a .value)) (takenOf (now (a .order)) (a .taken)))) 0 2) (sym (test (c .before)) ∙ c .if1 .left))
+    sym (ap (λ t. cond (t && not (contains (natAbs (a .value)) (takenOf (now (a .order)) (a .taken)))) 0 2)
+    (sym (test (c .before)) ∙ c .if1 .left))
 
 pub judge-order-spec : {M : Type 1} → statement M
 judge-order-spec =

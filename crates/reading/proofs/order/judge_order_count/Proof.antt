@@ -18,7 +18,8 @@ returns : tie.Need-returns
 unfolding judgeOrderCount isZeroℤ
 returns c =
     let a = c .before .args in
-    sym (ap (λ t. cond (t || isZeroℤ (a .value -ℤ pos (a .m))) 0 2) (sym (ofZ-zero _ (c .before .fits .value)) ∙ eq-eqb _ 0 (c .if1 .taken)))
+    sym (ap (λ t. cond (t || isZeroℤ (a .value -ℤ pos (a .m))) 0 2)
+    (sym (ofZ-zero _ (c .before .fits .value)) ∙ eq-eqb _ 0 (c .if1 .taken)))
 
 cast-if2 : tie.Need-cast-if2
 cast-if2 c = omega arith

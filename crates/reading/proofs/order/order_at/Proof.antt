@@ -30,7 +30,9 @@ no-order-requires c κs = tt
 
 returns : tie.Need-returns
 returns c =
-    refuses (c .before .if1 .taken) (order-is _ _ ∙ then-fault _ (answer-fault (c .before .if1 .taken) (c .before .before .before .order-count-at .ensures))) (c .no-order .ensures)
+    refuses (c .before .if1 .taken)
+    (order-is _ _ ∙ then-fault _ (answer-fault (c .before .if1 .taken) (c .before .before .before .order-count-at .ensures)))
+    (c .no-order .ensures)
 
 -- The number of columns, as it was read.
 module _ (c : tie.After-struct-told) where
@@ -40,8 +42,12 @@ module _ (c : tie.After-struct-told) where
   count-fits : SFits w64 count
   count-fits = sfits-of (c .struct-told .given .1 .0 .1)
 
-  count-read : field (judgeOrderCount (c .before .before .before .before .before .before .args .m)) afterCount (drop (c .before .before .before .before .before .before .args .at) (now (c .before .before .before .before .before .before .args .bytes)))
-      ≡ got count (drop (c .before .before .before .before .order-count-at .result .at) (now (c .before .before .before .before .before .before .args .bytes)))
+  count-read : field (judgeOrderCount (c .before .before .before .before .before .before .args .m)) afterCount
+      (drop (c .before .before .before .before .before .before .args .at)
+      (now (c .before .before .before .before .before .before .args .bytes)))
+      ≡ got count
+      (drop (c .before .before .before .before .order-count-at .result .at)
+      (now (c .before .before .before .before .before .before .args .bytes)))
   count-read = answer-got (c .before .before .if1 .left) (c .before .before .before .before .order-count-at .ensures)
 
   bounds : T (nonNeg count) × (natAbs count ≤ c .before .before .before .before .before .before .args .m)
@@ -51,8 +57,14 @@ cast-columns-at : tie.Need-cast-columns-at
 cast-columns-at c = rw (toZ-ofZ (count-fits c)) (bounds c .0, fits-natAbs tt (count-fits c))
 
 columns-at-requires : tie.Need-columns-at-requires
-columns-at-requires c κs =
-    (c .before .before .before .before .order-count-at .ensures .within, (c .before .before .before .before .before .before .pre .1, rw (toZ-ofZ (count-fits c)) (le-trans (bounds c .1) (c .before .before .before .before .before .before .pre .1))))
+columns-at-requires c κs = (
+  c .before .before .before .before .order-count-at .ensures .within,
+  (
+    c .before .before .before .before .before .before .pre .1,
+    rw (toZ-ofZ (count-fits c))
+        (le-trans (bounds c .1) (c .before .before .before .before .before .before .pre .1)),
+  ),
+)
 
 returns-2 : tie.Need-returns-2
 unfolding orderThen

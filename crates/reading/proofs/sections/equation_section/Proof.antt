@@ -34,25 +34,35 @@ no-part-requires c κs = tt
 
 -- The number of equations, as it was read.
 module _ (c : tie.After-number-between) where
-  count-answer : Answers (now (c .before .before .args .bytes)) (c .number-between .result .refusal) (c .number-between .result .value) (c .number-between .result .at)
-      (field (between (pos (c .before .before .args .equations)) (pos (c .before .before .args .equations))) (always 10) (drop (c .before .before .args .at) (now (c .before .before .args .bytes))))
+  count-answer : Answers (now (c .before .before .args .bytes)) (c .number-between .result .refusal) (c .number-between .result .value)
+      (c .number-between .result .at)
+      (field (between (pos (c .before .before .args .equations)) (pos (c .before .before .args .equations))) (always 10)
+      (drop (c .before .before .args .at) (now (c .before .before .args .bytes))))
   count-answer =
-      let n : toZ w64 (c .before .before .args .equations) ≡ pos (c .before .before .args .equations) = toZ-pos w64 (omega (arith, few (c .before .before))) in
+      let n : toZ w64 (c .before .before .args .equations)
+      ≡ pos (c .before .before .args .equations) = toZ-pos w64 (omega (arith, few (c .before .before))) in
       rw n at (c .number-between .ensures .0)
 
 returns : tie.Need-returns
 unfolding equationSection sizesOf
-returns c = refuses (c .before .if1 .taken) (then-fault _ (answer-fault (c .before .if1 .taken) (count-answer (c .before .before .before)))) (c .no-part .ensures)
+returns c = refuses (c .before .if1 .taken)
+    (then-fault _ (answer-fault (c .before .if1 .taken) (count-answer (c .before .before .before)))) (c .no-part .ensures)
 
 equations-at-requires : tie.Need-equations-at-requires
-equations-at-requires c κs = ((c .before .before .before .number-between .ensures .0 .within, c .before .before .before .before .before .pre .0 .1), c .before .before .before .before .before .pre .1)
+equations-at-requires c
+    κs = (
+      (c .before .before .before .number-between .ensures .0 .within, c .before .before .before .before .before .pre .0 .1),
+      c .before
+          .before .before .before .before .pre .1,
+    )
 
 same-length : tie.Need-same-length
 same-length c = search needs
 
 returns-2 : tie.Need-returns-2
 unfolding equationSection sizesOf
-returns-2 c = answers-as (c .before .equations-at .ensures) (sym (then-got _ (answer-got (c .before .before .before .if1 .left) (count-answer (c .before .before .before .before .before)))))
+returns-2 c = answers-as (c .before .equations-at .ensures)
+    (sym (then-got _ (answer-got (c .before .before .before .if1 .left) (count-answer (c .before .before .before .before .before)))))
 
 pub equation-section-spec : {M : Type 1} → statement M
 equation-section-spec =

@@ -14,7 +14,8 @@ use Rattle.rules.specs.Calls.{zeros}
 use Rattle.rules.specs.Sheets.{readEquation}
 use Rattle.tokens.specs.Fields.{answer-fault, answer-got, refuses, gives}
 use Rattle.reading.specs.Zeros.{length-zeros}
-use Rattle.reading.specs.Sections.{equations-each, StoredTo, stored-begins, stored-ends, stored-refused, stored-part, stored-goes-on, rowsOf-parts}
+use Rattle.reading.specs.Sections.{equations-each, StoredTo, stored-begins, stored-ends, stored-refused, stored-part, stored-goes-on}
+use Rattle.reading.specs.Sections.{rowsOf-parts}
 use Rattle.rows.specs.Validity.{sizesOf}
 use Rattle.reading.proofs.sections.equations_at.Statement.{statement}
 use Rattle.reading.proofs.sections.equations_at.Tie as tie
@@ -74,11 +75,18 @@ returns : tie.Need-returns Inv-loop μ-loop
 returns c =
     refuses (c .before .if1 .taken)
     (equations-each _ _ _
-    ∙ stored-refused _ _ _ _ _ _ _ _ _ _ (c .before .before .before .before .before .before .before .loop .inv) (c .before .before .before .before .before .before .loop-test .taken) _ (answer-fault (c .before .if1 .taken) (c .before .before .before .before .equation-at .ensures)))
+    ∙ stored-refused _ _ _ _ _ _ _ _ _ _ (c .before .before .before .before .before .before .before .loop .inv)
+    (c .before .before .before .before .before .before .loop-test .taken) _
+    (answer-fault (c .before .if1 .taken) (c .before .before .before .before .equation-at .ensures)))
     (c .no-part .ensures)
 
 add-i : tie.Need-add-i Inv-loop μ-loop
-add-i c = omega (arith, c .before .before .before .before .before .before .before .before .pre .1 .0, c .before .before .before .before .before .loop-test .taken)
+add-i c = omega (
+  arith,
+  c .before .before .before .before .before .before .before .before .pre .1 .0,
+  c .before .before .before .before .before
+      .loop-test .taken,
+)
 
 loop-less : tie.Need-loop-less Inv-loop μ-loop
 loop-less c = omega (arith, c .before .before .before .before .before .loop-test .taken)

@@ -29,7 +29,9 @@ no-part-requires c κs = tt
 
 returns : tie.Need-returns
 returns c =
-    refuses (c .before .if1 .taken) (relation-is _ _ ∙ then-fault _ (answer-fault (c .before .if1 .taken) (c .before .before .before .small-at .ensures .0))) (c .no-part .ensures)
+    refuses (c .before .if1 .taken)
+    (relation-is _ _ ∙ then-fault _ (answer-fault (c .before .if1 .taken) (c .before .before .before .small-at .ensures .0)))
+    (c .no-part .ensures)
 
 -- The relation that was lent has 321 numbers.
 whole : (c : tie.Start) → length (now (c .args .relation)) ≡ relationLength
@@ -47,7 +49,8 @@ module _ (c : tie.After-struct-told) where
   numbers = set (now (c .before .before .before .before .before .args .relation)) 0 (toZ w64 (ofZ w64 value))
 
   long : length numbers ≡ relationLength
-  long = length-set (now (c .before .before .before .before .before .args .relation)) 0 _ ∙ whole (c .before .before .before .before .before)
+  long = length-set (now (c .before .before .before .before .before .args .relation)) 0 _
+      ∙ whole (c .before .before .before .before .before)
 
 sub-equation-at : tie.Need-sub-equation-at
 sub-equation-at c = rw (long c) (lit≤ tt)
@@ -60,13 +63,17 @@ part-equation-at-end c = le-refl _
 
 equation-at-requires : tie.Need-equation-at-requires
 equation-at-requires c κs =
-    let s = c .before .before .before .before .before .before in
-    ((c .before .before .before .before .small-at .ensures .0 .within, s .pre .0 .1), relation-behind (now (s .args .relation)) _ (s .pre .1))
+    let s = c .before .before .before .before .before .before in (
+      (c .before .before .before .before .small-at .ensures .0 .within, s .pre .0 .1),
+      relation-behind (now (s .args .relation)) _
+          (s .pre .1),
+    )
 
 same-length : tie.Need-same-length
 same-length c =
     let n = numbers (c .before .before .before) in
-    same-len-mid 1 (length n - 1) n (c .before .equation-at .last .1 .1 .1 .0) (c .before .equation-at .kept .1 .1 .1 .0) ∙ long (c .before .before .before) ∙ sym (whole (c .before .before .before .before .before .before .before .before))
+    same-len-mid 1 (length n - 1) n (c .before .equation-at .last .1 .1 .1 .0) (c .before .equation-at .kept .1 .1 .1 .0)
+    ∙ long (c .before .before .before) ∙ sym (whole (c .before .before .before .before .before .before .before .before))
 
 returns-2 : tie.Need-returns-2
 unfolding relationThen
@@ -74,9 +81,16 @@ returns-2 c =
     let v = value (c .before .before .before) in
     let f : SFits w64 v = sfits-of (c .before .before .before .struct-told .given .1 .0 .1) in
     let row = c .before .equation-at .last .1 .1 .1 .0 in
-    rw (relationOf-back (now (c .before .before .before .before .before .before .before .before .args .relation)) row (toZ w64 (ofZ w64 v)) (whole (c .before .before .before .before .before .before .before .before)), toZ-ofZ f)
+    rw (
+      relationOf-back (now (c .before .before .before .before .before .before .before .before .args .relation)) row (toZ w64 (ofZ w64 v))
+          (whole (c .before .before .before .before .before .before .before .before)),
+      toZ-ofZ f,
+    )
     (answers-as (answers-made (λ r. record { index = v; row = r }) (c .before .equation-at .ensures))
-    (sym (relation-is _ _ ∙ then-got _ (answer-got (c .before .before .before .before .if1 .left) (c .before .before .before .before .before .before .small-at .ensures .0)))))
+    (sym (relation-is _ _
+    ∙ then-got _
+    (answer-got (c .before .before .before .before .if1 .left)
+    (c .before .before .before .before .before .before .small-at .ensures .0)))))
 
 pub relation-at-spec : {M : Type 1} → statement M
 relation-at-spec =

@@ -14,7 +14,8 @@ use Rattle.rules.specs.Calls.{zeros}
 use Rattle.rules.specs.Sheets.{readRelation}
 use Rattle.tokens.specs.Fields.{answer-fault, answer-got, refuses, gives}
 use Rattle.reading.specs.Zeros.{length-zeros}
-use Rattle.reading.specs.Sections.{relations-each, StoredTo, stored-begins, stored-ends, stored-refused, stored-part, stored-goes-on, relationsOf-parts}
+use Rattle.reading.specs.Sections.{relations-each, StoredTo, stored-begins, stored-ends, stored-refused, stored-part, stored-goes-on}
+use Rattle.reading.specs.Sections.{relationsOf-parts}
 use Rattle.rows.specs.Validity.{sizesOf}
 use Rattle.reading.proofs.sections.relations_at.Statement.{statement}
 use Rattle.reading.proofs.sections.relations_at.Tie as tie
@@ -74,11 +75,18 @@ returns : tie.Need-returns Inv-loop μ-loop
 returns c =
     refuses (c .before .if1 .taken)
     (relations-each _ _ _
-    ∙ stored-refused _ _ _ _ _ _ _ _ _ _ (c .before .before .before .before .before .before .before .loop .inv) (c .before .before .before .before .before .before .loop-test .taken) _ (answer-fault (c .before .if1 .taken) (c .before .before .before .before .relation-at .ensures)))
+    ∙ stored-refused _ _ _ _ _ _ _ _ _ _ (c .before .before .before .before .before .before .before .loop .inv)
+    (c .before .before .before .before .before .before .loop-test .taken) _
+    (answer-fault (c .before .if1 .taken) (c .before .before .before .before .relation-at .ensures)))
     (c .no-part .ensures)
 
 add-i : tie.Need-add-i Inv-loop μ-loop
-add-i c = omega (arith, c .before .before .before .before .before .before .before .before .pre .1 .0, c .before .before .before .before .before .loop-test .taken)
+add-i c = omega (
+  arith,
+  c .before .before .before .before .before .before .before .before .pre .1 .0,
+  c .before .before .before .before .before
+      .loop-test .taken,
+)
 
 loop-less : tie.Need-loop-less Inv-loop μ-loop
 loop-less c = omega (arith, c .before .before .before .before .before .loop-test .taken)
@@ -98,7 +106,8 @@ same-length-2 c = c .before .loop .inv .long
 returns-2 : tie.Need-returns-2 Inv-loop μ-loop
 returns-2 c =
     let inv = c .before .loop .inv in
-    gives (relationsOf-parts _ _) (relations-each _ _ _ ∙ stored-ends _ _ _ _ _ _ _ _ _ _ inv (omega (arith, inv .counted, c .loop-test .left)))
+    gives (relationsOf-parts _ _)
+    (relations-each _ _ _ ∙ stored-ends _ _ _ _ _ _ _ _ _ _ inv (omega (arith, inv .counted, c .loop-test .left)))
     (inv .within)
 
 pub relations-at-spec : {M : Type 1} → statement M

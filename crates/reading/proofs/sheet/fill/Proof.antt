@@ -26,7 +26,8 @@ rest-at-requires c κs =
 
 -- The sheet, as it was read.
 module _ (d : tie.After-rest-at) where
-  read : SheetRead (now (d .before .before .before .args .bytes)) (resultOf (d .rest-at .result)) (now (d .before .before .before .args .equations)) (d .rest-at .last .1 .1 .0)
+  read : SheetRead (now (d .before .before .before .args .bytes)) (resultOf (d .rest-at .result))
+      (now (d .before .before .before .args .equations)) (d .rest-at .last .1 .1 .0)
   read = d .rest-at .ensures .0 _ (d .before .before .before .pre .0)
 
 refused-requires : tie.Need-refused-requires
@@ -37,7 +38,8 @@ same-length c = search needs
 
 returns : tie.Need-returns
 unfolding resultOf
-returns c = call-unread _ _ _ _ (c .refused .ensures) ∙ sym (call-refuses _ _ _ _ (read (c .before .before .before .before)) _ _ (c .before .if1 .taken))
+returns c = call-unread _ _ _ _ (c .refused .ensures)
+    ∙ sym (call-refuses _ _ _ _ (read (c .before .before .before .before)) _ _ (c .before .if1 .taken))
 
 lengths-right-requires : tie.Need-lengths-right-requires
 unfolding equations resultOf sizesOf
@@ -59,13 +61,17 @@ returns-2 : tie.Need-returns-2
 unfolding equations resultOf sizesOf
 returns-2 c =
     call-unread _ _ _ _ (c .refused2 .ensures)
-    ∙ sym (call-short _ _ _ _ (read (c .before .before .before .before .before .before .before .before)) _ _ (c .before .before .before .before .before .if1 .left) (sym (c .before .before .lengths-right .ensures) ∙ not-true _ (c .before .if2 .taken)))
+    ∙ sym (call-short _ _ _ _ (read (c .before .before .before .before .before .before .before .before)) _ _
+    (c .before .before .before .before .before .if1 .left)
+    (sym (c .before .before .lengths-right .ensures) ∙ not-true _ (c .before .if2 .taken)))
 
 fill-rows-requires : tie.Need-fill-rows-requires
 unfolding rowNeed equations resultOf sizesOf
 fill-rows-requires c κs =
-    let few = read (c .before .before .before .before .before .before .before .before) .few-rows (c .before .before .before .before .before .if1 .left) in
-    let long = lengthsRight-iff _ _ _ .0 (true-T _ (sym (c .before .before .lengths-right .ensures) ∙ not-false _ (c .before .if2 .left))) in
+    let few = read (c .before .before .before .before .before .before .before .before) .few-rows
+    (c .before .before .before .before .before .if1 .left) in
+    let long = lengthsRight-iff _ _ _ .0
+    (true-T _ (sym (c .before .before .lengths-right .ensures) ∙ not-false _ (c .before .if2 .left))) in
     (few, long .0, omega (arith, few, c .before .before .before .before .before .before .before .before .before .before .before .pre .1 .0))
 
 fill-relations-requires : tie.Need-fill-relations-requires
@@ -73,8 +79,12 @@ unfolding equations resultOf sizesOf
 fill-relations-requires c κs =
     let none = c .before .before .before .before .before .before .before .before .before .if1 .left in
     let rest = c .before .before .before .before .before .before .before .before .before .before .before .before .rest-at in
-    let long = lengthsRight-iff _ _ _ .0 (true-T _ (sym (c .before .before .before .before .before .before .lengths-right .ensures) ∙ not-false _ (c .before .before .before .before .before .if2 .left))) in
-    let start = c .before .before .before .before .before .before .before .before .before .before .before .before .before .before .before in (
+    let long = lengthsRight-iff _ _ _ .0
+    (true-T _
+    (sym (c .before .before .before .before .before .before .lengths-right .ensures)
+    ∙ not-false _ (c .before .before .before .before .before .if2 .left))) in
+    let start = c .before .before .before .before .before .before .before .before .before .before .before .before .before .before
+    .before in (
       read (c .before .before .before .before .before .before .before .before .before .before .before .before) .few none,
       long .1,
       le-of-eq (ap (λ k. k * relationLength) (rest .ensures .1 none .1)
@@ -93,8 +103,14 @@ same-length-7 c = search needs
 returns-3 : tie.Need-returns-3
 unfolding callOf equations resultOf sizesOf
 returns-3 c =
-    ap₂ (λ rows relations. callOf (c .before .before .before .before .before .before .before .before .before .before .before .before .before .before .rest-at .result) rows relations) (c .before .before .before .before .before .fill-rows .ensures) (c .before .fill-relations .ensures)
-    ∙ sym (call-fills _ _ _ _ (read (c .before .before .before .before .before .before .before .before .before .before .before .before .before .before)) _ _ (c .before .before .before .before .before .before .before .before .before .before .before .if1 .left) (sym (c .before .before .before .before .before .before .before .before .lengths-right .ensures) ∙ not-false _ (c .before .before .before .before .before .before .before .if2 .left)))
+    ap₂ (λ rows relations. callOf
+    (c .before .before .before .before .before .before .before .before .before .before .before .before .before .before .rest-at
+    .result) rows relations) (c .before .before .before .before .before .fill-rows .ensures) (c .before .fill-relations .ensures)
+    ∙ sym (call-fills _ _ _ _
+    (read (c .before .before .before .before .before .before .before .before .before .before .before .before .before .before)) _ _
+    (c .before .before .before .before .before .before .before .before .before .before .before .if1 .left)
+    (sym (c .before .before .before .before .before .before .before .before .lengths-right .ensures)
+    ∙ not-false _ (c .before .before .before .before .before .before .before .if2 .left)))
 
 pub fill-spec : {M : Type 1} → statement M
 fill-spec =

@@ -59,7 +59,8 @@ module _ (c : tie.After-sizes) where
   n = c .before .before .before .sizes-at .result .sizes .m
 
   sizes-read : readSizes (now (start .args .bytes))
-      ≡ got (sizesOf (c .before .before .before .sizes-at .result .sizes)) (drop (c .before .before .before .sizes-at .result .at) (now (start .args .bytes)))
+      ≡ got (sizesOf (c .before .before .before .sizes-at .result .sizes))
+      (drop (c .before .before .before .sizes-at .result .at) (now (start .args .bytes)))
   sizes-read = answer-got (c .before .if1 .left) (c .before .before .before .sizes-at .ensures)
 
   right : T (sizesRight (sizesOf (c .before .before .before .sizes-at .result .sizes)))
@@ -84,8 +85,10 @@ slice-aggregate-equation-section : tie.Need-slice-aggregate-equation-section
 slice-aggregate-equation-section c = sym (ap length (lent (c .before .before)) ∙ length-zeros _)
 
 equation-section-requires : tie.Need-equation-section-requires
-equation-section-requires c κs =
-    ((c .before .before .before .before .before .sizes-at .ensures .within, right (c .before .before)), (few (c .before .before), lent (c .before .before)))
+equation-section-requires c κs = (
+  (c .before .before .before .before .before .sizes-at .ensures .within, right (c .before .before)),
+  (few (c .before .before), lent (c .before .before)),
+)
 
 -- The rows, as they were read into the part that was lent.
 module _ (c : tie.After-equation-section) where
@@ -187,7 +190,8 @@ returns-4 c =
               right = right (d (e c));
               few = bounds c .2;
               rest =
-                  count-got _ _ _ (sizes-read (d (e c))) _ _ (rows-read (e c) (c .before .before .before .before .before .if2 .left)) _ _ (count-read c);
+                  count-got _ _ _ (sizes-read (d (e c))) _ _ (rows-read (e c) (c .before .before .before .before .before .if2 .left)) _ _
+                  (count-read c);
             };
         refused = λ h. absurd (h refl);
       },

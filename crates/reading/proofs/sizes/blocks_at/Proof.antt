@@ -23,7 +23,8 @@ no-blocks-requires c κs = tt
 
 returns : tie.Need-returns
 unfolding readBlocks
-returns c = refuses (c .before .if1 .taken) (then-fault _ (answer-fault (c .before .if1 .taken) (c .before .before .before .number-between .ensures .0))) (c .no-blocks .ensures)
+returns c = refuses (c .before .if1 .taken)
+    (then-fault _ (answer-fault (c .before .if1 .taken) (c .before .before .before .number-between .ensures .0))) (c .no-blocks .ensures)
 
 -- The highest block, as it was read.
 module _ (c : tie.After-struct-told) where
@@ -33,7 +34,8 @@ module _ (c : tie.After-struct-told) where
   l-fits : SFits w64 l
   l-fits = sfits-of (c .struct-told .given .1 .0 .1)
 
-  l-read : field (between (negℤ (pos 64)) (pos 64)) (always 32) (drop (c .before .before .before .before .before .args .at) (now (c .before .before .before .before .before .args .bytes)))
+  l-read : field (between (negℤ (pos 64)) (pos 64)) (always 32)
+      (drop (c .before .before .before .before .before .args .at) (now (c .before .before .before .before .before .args .bytes)))
       ≡ got l (drop (c .before .before .before .number-between .result .at) (now (c .before .before .before .before .before .args .bytes)))
   l-read = answer-got (c .before .if1 .left) (c .before .before .before .number-between .ensures .0)
 
@@ -51,21 +53,28 @@ module _ (c : tie.After-lowest-at) where
   abbrev t : ℤ
   t = c .lowest-at .result .value
 
-  t-answer : Answers (now (c .before .before .before .before .before .before .args .bytes)) (c .lowest-at .result .refusal) t (c .lowest-at .result .at)
-      (field (judgeLowest (l (c .before))) (always 10) (drop (c .before .before .before .before .number-between .result .at) (now (c .before .before .before .before .before .before .args .bytes))))
+  t-answer : Answers (now (c .before .before .before .before .before .before .args .bytes)) (c .lowest-at .result .refusal) t
+      (c .lowest-at .result .at)
+      (field (judgeLowest (l (c .before))) (always 10)
+      (drop (c .before .before .before .before .number-between .result .at)
+      (now (c .before .before .before .before .before .before .args .bytes))))
   t-answer = rw (toZ-ofZ (l-fits (c .before))) at (c .lowest-at .ensures)
 
 returns-2 : tie.Need-returns-2
 unfolding readBlocks
 returns-2 c =
-    refuses (c .before .if2 .taken) (then-got _ (l-read (c .before .before .before .before)) ∙ then-fault _ (answer-fault (c .before .if2 .taken) (t-answer (c .before .before .before)))) (c .no-blocks2 .ensures)
+    refuses (c .before .if2 .taken)
+    (then-got _ (l-read (c .before .before .before .before))
+    ∙ then-fault _ (answer-fault (c .before .if2 .taken) (t-answer (c .before .before .before)))) (c .no-blocks2 .ensures)
 
 returns-3 : tie.Need-returns-3
 unfolding readBlocks
 returns-3 c =
     let t-fits : SFits w64 (t (c .before .before .before .before)) = sfits-of (c .struct-told3 .given .1 .0 .1) in
     gives (ap₂ (λ l t. (l, t)) (toZ-ofZ (l-fits (c .before .before .before .before .before))) (toZ-ofZ t-fits))
-    (then-got _ (l-read (c .before .before .before .before .before)) ∙ then-got _ (answer-got (c .before .before .if2 .left) (t-answer (c .before .before .before .before)))) (c .before .before .before .before .lowest-at .ensures .within)
+    (then-got _ (l-read (c .before .before .before .before .before))
+    ∙ then-got _ (answer-got (c .before .before .if2 .left) (t-answer (c .before .before .before .before))))
+    (c .before .before .before .before .lowest-at .ensures .within)
 
 pub blocks-at-spec : {M : Type 1} → statement M
 blocks-at-spec =

@@ -37,7 +37,8 @@ module _ (c : tie.Then1) where
   fits = difference-fits (c .before .before .args .l) (c .before .before .args .t) (c .before .before .pre) between
 
   -- The difference as the machine reads its operands back.
-  difference : toZ w64 (ofZ w64 (toZ w64 (ofZ w64 (c .before .before .args .l)) -ℤ toZ w64 (ofZ w64 (c .before .before .args .t)))) ≡ c .before .before .args .l -ℤ c .before .before .args .t
+  difference : toZ w64 (ofZ w64 (toZ w64 (ofZ w64 (c .before .before .args .l)) -ℤ toZ w64 (ofZ w64 (c .before .before .args .t))))
+      ≡ c .before .before .args .l -ℤ c .before .before .args .t
   difference = simp (toZ-ofZ (c .before .before .fits .l), toZ-ofZ (c .before .before .fits .t), toZ-ofZ fits)
 
 sub-if2 : tie.Need-sub-if2

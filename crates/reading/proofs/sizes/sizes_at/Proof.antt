@@ -22,7 +22,9 @@ no-sizes-requires : tie.Need-no-sizes-requires
 no-sizes-requires c κs = tt
 
 returns : tie.Need-returns
-returns c = refuses (c .before .if1 .taken) (sizes-is _ ∙ then-fault _ (answer-fault (c .before .if1 .taken) (c .before .before .before .unknowns-at .ensures))) (c .no-sizes .ensures)
+returns c = refuses (c .before .if1 .taken)
+    (sizes-is _ ∙ then-fault _ (answer-fault (c .before .if1 .taken) (c .before .before .before .unknowns-at .ensures)))
+    (c .no-sizes .ensures)
 
 blocks-at-requires : tie.Need-blocks-at-requires
 blocks-at-requires c κs = c .before .before .unknowns-at .ensures .within
@@ -35,7 +37,9 @@ unfolding sizesThen
 returns-2 c =
     refuses (c .before .if2 .taken)
     (sizes-is _
-    ∙ then-got _ (answer-got (c .before .before .before .before .if1 .left) (c .before .before .before .before .before .before .unknowns-at .ensures))
+    ∙ then-got _
+    (answer-got (c .before .before .before .before .if1 .left)
+    (c .before .before .before .before .before .before .unknowns-at .ensures))
     ∙ then-fault _ (answer-fault (c .before .if2 .taken) (c .before .before .before .blocks-at .ensures)))
     (c .no-sizes2 .ensures)
 
@@ -47,8 +51,13 @@ module _ (c : tie.After-struct-told) where
   m-fits : SFits w64 m
   m-fits = sfits-of (c .struct-told .given .1 .0 .1)
 
-  m-read : readUnknowns (drop (c .before .before .before .before .before .before .before .before .before .args .at) (now (c .before .before .before .before .before .before .before .before .before .args .bytes))) ≡ got m (drop (c .before .before .before .before .before .before .before .unknowns-at .result .at) (now (c .before .before .before .before .before .before .before .before .before .args .bytes)))
-  m-read = answer-got (c .before .before .before .before .before .if1 .left) (c .before .before .before .before .before .before .before .unknowns-at .ensures)
+  m-read : readUnknowns
+      (drop (c .before .before .before .before .before .before .before .before .before .args .at)
+      (now (c .before .before .before .before .before .before .before .before .before .args .bytes)))
+      ≡ got m (drop (c .before .before .before .before .before .before .before .unknowns-at .result .at)
+      (now (c .before .before .before .before .before .before .before .before .before .args .bytes)))
+  m-read = answer-got (c .before .before .before .before .before .if1 .left)
+      (c .before .before .before .before .before .before .before .unknowns-at .ensures)
 
 cast-t6 : tie.Need-cast-t6
 cast-t6 c = rw (toZ-ofZ (m-fits c)) (unknowns-right _ _ _ (m-read c) .0, fits-natAbs tt (m-fits c))
@@ -60,7 +69,9 @@ returns-3 c =
     let l-fits : SFits w64 (b .l) = sfits-of (c .struct-told2 .given .1 .1 .0 .1) in
     let t-fits : SFits w64 (b .t) = sfits-of (c .struct-told2 .given .1 .1 .1 .0 .1) in
     gives (simp (toZ-ofZ (m-fits (c .before)), toZ-ofZ l-fits, toZ-ofZ t-fits))
-    (sizes-is _ ∙ then-got _ (m-read (c .before)) ∙ then-got _ (answer-got (c .before .before .before .if2 .left) (c .before .before .before .before .before .blocks-at .ensures))) (c .before .before .before .before .before .blocks-at .ensures .within)
+    (sizes-is _ ∙ then-got _ (m-read (c .before))
+    ∙ then-got _ (answer-got (c .before .before .before .if2 .left) (c .before .before .before .before .before .blocks-at .ensures)))
+    (c .before .before .before .before .before .blocks-at .ensures .within)
 
 pub sizes-at-spec : {M : Type 1} → statement M
 sizes-at-spec =

@@ -14,14 +14,17 @@ no-number-requires c κs = tt
 
 returns : tie.Need-returns
 unfolding readUnknowns
-returns c = refuses (c .before .if1 .taken) (then-fault _ (answer-fault (c .before .if1 .taken) (c .before .before .before .number-between .ensures .0))) (c .no-number .ensures .0, c .no-number .ensures .2)
+returns c = refuses (c .before .if1 .taken)
+    (then-fault _ (answer-fault (c .before .if1 .taken) (c .before .before .before .number-between .ensures .0)))
+    (c .no-number .ensures .0, c .no-number .ensures .2)
 
 number-between-requires-2 : tie.Need-number-between-requires-2
 number-between-requires-2 c κs = c .before .before .number-between .ensures .0 .within
 
 returns-2 : tie.Need-returns-2
 unfolding readUnknowns
-returns-2 c = answers-as (c .number-between2 .ensures .0) (sym (then-got _ (answer-got (c .before .if1 .left) (c .before .before .before .number-between .ensures .0))))
+returns-2 c = answers-as (c .number-between2 .ensures .0)
+    (sym (then-got _ (answer-got (c .before .if1 .left) (c .before .before .before .number-between .ensures .0))))
 
 pub unknowns-at-spec : {M : Type 1} → statement M
 unknowns-at-spec =

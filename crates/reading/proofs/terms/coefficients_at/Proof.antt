@@ -16,7 +16,8 @@ use Rattle.lists.specs.Padded.{padTo}
 use Rattle.rules.specs.Limits.{coefficientCount}
 use Rattle.rules.specs.Sheets.{readCoefficients}
 use Rattle.tokens.specs.Fields.{answer-fault, answer-got, refuses, gives}
-use Rattle.reading.specs.Terms.{FilledTo, filled-begins, filled-ends, filled-refused, filled-goes-on, coefficients-next, coefficients-none}
+use Rattle.reading.specs.Terms.{FilledTo, filled-begins, filled-ends, filled-refused, filled-goes-on, coefficients-next}
+use Rattle.reading.specs.Terms.{coefficients-none}
 use Rattle.lists.specs.Pasted.{paste-whole}
 use Rattle.reading.proofs.terms.coefficients_at.Statement.{statement}
 use Rattle.reading.proofs.terms.coefficients_at.Tie as tie
@@ -54,7 +55,8 @@ no-part-requires : tie.Need-no-part-requires Inv-loop μ-loop
 no-part-requires c κs = tt
 
 same-length : tie.Need-same-length Inv-loop μ-loop
-same-length c = c .before .before .before .before .before .loop .inv .1 .long ∙ sym (c .before .before .before .before .before .before .before .before .before .before .pre .1)
+same-length c = c .before .before .before .before .before .loop .inv .1 .long
+    ∙ sym (c .before .before .before .before .before .before .before .before .before .before .pre .1)
 
 returns : tie.Need-returns Inv-loop μ-loop
 returns c =
@@ -62,7 +64,8 @@ returns c =
     let l = c .before .before .before .before .before .loop in
     refuses (c .before .if1 .taken)
     (filled-refused _ _ _ _ _ _ _ _ (l .inv .1) _ (λ x. x) (λ _ r. readCoefficients (a .last) (a .count - (l .i + 1)) r)
-    (coefficients-next (a .last) (a .count) (l .i) (drop (l .next) (now (a .bytes))) (c .before .before .before .before .loop-test .taken)) _
+    (coefficients-next (a .last) (a .count) (l .i) (drop (l .next) (now (a .bytes))) (c .before .before .before .before .loop-test .taken))
+    _
     (answer-fault (c .before .if1 .taken) (c .before .before .before .coefficient-at .ensures)))
     (c .no-part .ensures)
 
@@ -87,7 +90,8 @@ loop-again c =
       omega arith,
       rw (toZ-ofZ fv)
           (filled-goes-on _ _ _ _ _ _ _ _ (l .inv .1) _ (λ x. x) (λ _ r. readCoefficients (a .last) (a .count - (l .i + 1)) r)
-          (coefficients-next (a .last) (a .count) (l .i) (drop (l .next) (now (a .bytes))) (c .before .before .before .before .loop-test .taken)) _ _ (omega arith)
+          (coefficients-next (a .last) (a .count) (l .i) (drop (l .next) (now (a .bytes)))
+          (c .before .before .before .before .loop-test .taken)) _ _ (omega arith)
           (answer-got (c .before .if1 .left) (v .ensures)) (v .ensures .within)),
     )
 

@@ -16,7 +16,9 @@ is-between-requires : tie.Need-is-between-requires
 is-between-requires c κs = tt
 
 module _ (c : tie.After-is-between) where
-  test : c .is-between .result ≡ (leZ (c .before .before .before .args .z .t) (c .before .before .before .args .s) && leZ (c .before .before .before .args .s) (c .before .before .before .args .z .l))
+  test : c .is-between .result
+      ≡ (leZ (c .before .before .before .args .z .t) (c .before .before .before .args .s)
+      && leZ (c .before .before .before .args .s) (c .before .before .before .args .z .l))
   test =
       let ft : SFits w64 (c .before .before .before .args .z .t) = search needs in
       let fl : SFits w64 (c .before .before .before .args .z .l) = search needs in
@@ -26,13 +28,15 @@ returns : tie.Need-returns
 unfolding judgeBlock sizesOf
 returns c =
     let f = c .before .before .before .before .before .fits in
-    sym (ap₂ (λ t u. cond t (cond u 0 3) 2) (sym (test (c .before .before)) ∙ c .before .if1 .taken) (simp (toZ-ofZ (f .s), toZ-ofZ (f .before)) at (c .if2 .taken)))
+    sym (ap₂ (λ t u. cond t (cond u 0 3) 2) (sym (test (c .before .before)) ∙ c .before .if1 .taken)
+    (simp (toZ-ofZ (f .s), toZ-ofZ (f .before)) at (c .if2 .taken)))
 
 returns-2 : tie.Need-returns-2
 unfolding judgeBlock sizesOf
 returns-2 c =
     let f = c .before .before .before .before .before .fits in
-    sym (ap₂ (λ t u. cond t (cond u 0 3) 2) (sym (test (c .before .before)) ∙ c .before .if1 .taken) (simp (toZ-ofZ (f .s), toZ-ofZ (f .before)) at (c .if2 .left)))
+    sym (ap₂ (λ t u. cond t (cond u 0 3) 2) (sym (test (c .before .before)) ∙ c .before .if1 .taken)
+    (simp (toZ-ofZ (f .s), toZ-ofZ (f .before)) at (c .if2 .left)))
 
 returns-3 : tie.Need-returns-3
 unfolding judgeBlock sizesOf

@@ -25,8 +25,10 @@ small-is : (n : ℕ) → n ≤ 4 → toZ w64 n ≡ pos n
 small-is n h = toZ-pos w64 (omega arith)
 
 module _ (c : tie.After-is-between) where
-  test : c .is-between .result ≡ (leZ (pos 1) (c .before .before .args .c) && leZ (c .before .before .args .c) (pos (c .before .before .args .z .m)))
-  test = simp (small-is (c .before .before .args .z .m) (c .before .before .pre .0), toZ-ofZ (c .before .before .fits .c)) at (c .is-between .ensures)
+  test : c .is-between .result
+      ≡ (leZ (pos 1) (c .before .before .args .c) && leZ (c .before .before .args .c) (pos (c .before .before .args .z .m)))
+  test = simp (small-is (c .before .before .args .z .m) (c .before .before .pre .0), toZ-ofZ (c .before .before .fits .c)) at
+      (c .is-between .ensures)
 
 returns : tie.Need-returns
 unfolding judgeColumn sizesOf
@@ -47,7 +49,11 @@ returns-2 c =
     sym
     (ap₂ (λ t u. cond t (cond u 0 3) 2) (sym (test (c .before .before .before)) ∙ c .before .before .if1 .taken)
     (ap₂ _||_ (simp (toZ-ofZ (f .s), toZ-ofZ (f .before)) at (c .before .if2 .left))
-    (simp (small-is (c .before .before .before .before .before .args .last) (c .before .before .before .before .before .pre .1), toZ-ofZ (f .c)) at (c .if3 .taken))))
+    (simp (
+      small-is (c .before .before .before .before .before .args .last) (c .before .before .before .before .before .pre .1),
+      toZ-ofZ
+          (f .c),
+    ) at (c .if3 .taken))))
 
 returns-3 : tie.Need-returns-3
 unfolding judgeColumn sizesOf
@@ -56,7 +62,11 @@ returns-3 c =
     sym
     (ap₂ (λ t u. cond t (cond u 0 3) 2) (sym (test (c .before .before .before)) ∙ c .before .before .if1 .taken)
     (ap₂ _||_ (simp (toZ-ofZ (f .s), toZ-ofZ (f .before)) at (c .before .if2 .left))
-    (simp (small-is (c .before .before .before .before .before .args .last) (c .before .before .before .before .before .pre .1), toZ-ofZ (f .c)) at (c .if3 .left))))
+    (simp (
+      small-is (c .before .before .before .before .before .args .last) (c .before .before .before .before .before .pre .1),
+      toZ-ofZ
+          (f .c),
+    ) at (c .if3 .left))))
 
 returns-4 : tie.Need-returns-4
 unfolding judgeColumn sizesOf

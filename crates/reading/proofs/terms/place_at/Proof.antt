@@ -28,14 +28,16 @@ module _ (c : tie.After-block-at) where
   block = c .block-at .result .value
 
   abbrev block-field : Read ℤ
-  block-field = field (judgeBlock (sizesOf (c .before .before .args .z)) (c .before .before .args .before)) (always 32) (drop (c .before .before .args .at) (now (c .before .before .args .bytes)))
+  block-field = field (judgeBlock (sizesOf (c .before .before .args .z)) (c .before .before .args .before)) (always 32)
+      (drop (c .before .before .args .at) (now (c .before .before .args .bytes)))
 
   block-answer : Answers (now (c .before .before .args .bytes)) (c .block-at .result .refusal) block (c .block-at .result .at) block-field
   block-answer = rw (toZ-ofZ (c .before .before .fits .before)) at (c .block-at .ensures)
 
 returns : tie.Need-returns
 unfolding readPlace
-returns c = refuses (c .before .if1 .taken) (then-fault _ (answer-fault (c .before .if1 .taken) (block-answer (c .before .before .before)))) (c .no-place .ensures)
+returns c = refuses (c .before .if1 .taken)
+    (then-fault _ (answer-fault (c .before .if1 .taken) (block-answer (c .before .before .before)))) (c .no-place .ensures)
 
 column-at-requires : tie.Need-column-at-requires
 column-at-requires c κs = (c .before .before .before .block-at .ensures .within, c .before .before .before .before .before .pre .1)
@@ -51,30 +53,44 @@ module _ (c : tie.After-column-at) where
   abbrev column-field : Read ℤ
   column-field =
       let a = c .before .before .before .before .before .before .args in
-      field (judgeColumn (sizesOf (a .z)) (a .before) (a .last) (block (c .before .before .before .before))) (always 32) (drop (c .before .before .before .before .block-at .result .at) (now (a .bytes)))
+      field (judgeColumn (sizesOf (a .z)) (a .before) (a .last) (block (c .before .before .before .before))) (always 32)
+      (drop (c .before .before .before .before .block-at .result .at) (now (a .bytes)))
 
   block-fits : SFits w64 (block (c .before .before .before .before))
   block-fits = sfits-of (c .before .struct-told .given .1 .0 .1)
 
-  column-answer : Answers (now (c .before .before .before .before .before .before .args .bytes)) (c .column-at .result .refusal) column (c .column-at .result .at) column-field
-  column-answer = simp (toZ-ofZ (c .before .before .before .before .before .before .fits .before), toZ-ofZ block-fits) at (c .column-at .ensures)
+  column-answer : Answers (now (c .before .before .before .before .before .before .args .bytes)) (c .column-at .result .refusal) column
+      (c .column-at .result .at) column-field
+  column-answer = simp (toZ-ofZ (c .before .before .before .before .before .before .fits .before), toZ-ofZ block-fits) at
+      (c .column-at .ensures)
 
-  block-read : block-field (c .before .before .before .before) ≡ got (block (c .before .before .before .before)) (drop (c .before .before .before .before .block-at .result .at) (now (c .before .before .before .before .before .before .args .bytes)))
+  block-read : block-field (c .before .before .before .before)
+      ≡ got (block (c .before .before .before .before))
+      (drop (c .before .before .before .before .block-at .result .at)
+      (now (c .before .before .before .before .before .before .args .bytes)))
   block-read = answer-got (c .before .before .if1 .left) (block-answer (c .before .before .before .before))
 
 returns-2 : tie.Need-returns-2
 unfolding readPlace
 returns-2 c =
-    refuses (c .before .if2 .taken) (then-got _ (block-read (c .before .before .before)) ∙ then-fault _ (answer-fault (c .before .if2 .taken) (column-answer (c .before .before .before)))) (c .no-place2 .ensures)
+    refuses (c .before .if2 .taken)
+    (then-got _ (block-read (c .before .before .before))
+    ∙ then-fault _ (answer-fault (c .before .if2 .taken) (column-answer (c .before .before .before)))) (c .no-place2 .ensures)
 
 module _ (c : tie.After-struct-told2) where
   column-fits : SFits w64 (column (c .before .before .before .before))
   column-fits = sfits-of (c .struct-told2 .given .1 .0 .1)
 
-  column-read : column-field (c .before .before .before .before) ≡ got (column (c .before .before .before .before)) (drop (c .before .before .before .before .column-at .result .at) (now (c .before .before .before .before .before .before .before .before .before .before .args .bytes)))
+  column-read : column-field (c .before .before .before .before)
+      ≡ got (column (c .before .before .before .before))
+      (drop (c .before .before .before .before .column-at .result .at)
+      (now (c .before .before .before .before .before .before .before .before .before .before .args .bytes)))
   column-read = answer-got (c .before .before .if2 .left) (column-answer (c .before .before .before .before))
 
-  right : ColumnRight (sizesOf (c .before .before .before .before .before .before .before .before .before .before .args .z)) (c .before .before .before .before .before .before .before .before .before .before .args .before) (c .before .before .before .before .before .before .before .before .before .before .args .last) (block (c .before .before .before .before .before .before .before .before)) (column (c .before .before .before .before))
+  right : ColumnRight (sizesOf (c .before .before .before .before .before .before .before .before .before .before .args .z))
+      (c .before .before .before .before .before .before .before .before .before .before .args .before)
+      (c .before .before .before .before .before .before .before .before .before .before .args .last)
+      (block (c .before .before .before .before .before .before .before .before)) (column (c .before .before .before .before))
   right = column-zero _ _ _ _ _ (field-judged _ (always 32) _ column-read)
 
 cast-t9 : tie.Need-cast-t9
@@ -83,8 +99,10 @@ cast-t9 c = rw (toZ-ofZ (column-fits c)) (right c .counted, fits-natAbs tt (colu
 returns-3 : tie.Need-returns-3
 unfolding readPlace
 returns-3 c =
-    gives (ap₂ (λ s k. (s, natAbs k)) (toZ-ofZ (block-fits (c .before .before .before .before .before))) (toZ-ofZ (column-fits (c .before))))
-    (then-got _ (block-read (c .before .before .before .before .before)) ∙ then-got _ (column-read (c .before))) (c .before .before .before .before .before .column-at .ensures .within)
+    gives (ap₂ (λ s k. (s, natAbs k)) (toZ-ofZ (block-fits (c .before .before .before .before .before)))
+    (toZ-ofZ (column-fits (c .before))))
+    (then-got _ (block-read (c .before .before .before .before .before)) ∙ then-got _ (column-read (c .before)))
+    (c .before .before .before .before .before .column-at .ensures .within)
 
 pub place-at-spec : {M : Type 1} → statement M
 place-at-spec =

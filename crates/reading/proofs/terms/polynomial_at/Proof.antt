@@ -27,7 +27,8 @@ no-part-requires c κs = tt
 
 returns : tie.Need-returns
 unfolding readPolynomial
-returns c = refuses (c .before .if1 .taken) (then-fault _ (answer-fault (c .before .if1 .taken) (c .before .before .before .number-between .ensures .0))) (c .no-part .ensures)
+returns c = refuses (c .before .if1 .taken)
+    (then-fault _ (answer-fault (c .before .if1 .taken) (c .before .before .before .number-between .ensures .0))) (c .no-part .ensures)
 
 -- The number of coefficients, as it was read.
 module _ (c : tie.After-struct-told) where
@@ -40,7 +41,8 @@ module _ (c : tie.After-struct-told) where
   read : field (between (pos 1) (pos coefficientCount)) (always 32)
       (drop (c .before .before .before .before .before .before .args .at)
       (now (c .before .before .before .before .before .before .args .bytes)))
-      ≡ got k (drop (c .before .before .before .before .number-between .result .at) (now (c .before .before .before .before .before .before .args .bytes)))
+      ≡ got k (drop (c .before .before .before .before .number-between .result .at)
+      (now (c .before .before .before .before .before .before .args .bytes)))
   read = answer-got (c .before .before .if1 .left) (c .before .before .before .before .number-between .ensures .0)
 
   bounds : T (nonNeg k) × (1 ≤ natAbs k) × (natAbs k ≤ coefficientCount)
@@ -50,7 +52,15 @@ cast-coefficients-at : tie.Need-cast-coefficients-at
 cast-coefficients-at c = rw (toZ-ofZ (fits c)) (bounds c .0, fits-natAbs tt (fits c))
 
 coefficients-at-requires : tie.Need-coefficients-at-requires
-coefficients-at-requires c κs = ((c .before .before .before .before .before .number-between .ensures .0 .within, rw (toZ-ofZ (fits (c .before))) (bounds (c .before) .2)), c .before .before .before .before .before .before .before .pre .1)
+coefficients-at-requires c
+    κs = (
+      (
+        c .before .before .before .before .before .number-between .ensures .0 .within,
+        rw (toZ-ofZ (fits (c .before)))
+            (bounds (c .before) .2),
+      ),
+      c .before .before .before .before .before .before .before .pre .1,
+    )
 
 same-length : tie.Need-same-length
 same-length c = c .before .coefficients-at .kept .1 .1 .1 .1 .0

@@ -115,7 +115,8 @@ module _ (c : tie.Start) where
   fits : Sixteen (x .g) × Sixteen (x .h)
   fits =
       multipliers-fit (entry (rowOf pivot) column) (entry (rowOf target) column)
-      (entry-fits pivot (length-numbersAt equations rows (ready .rows-within) j other) pivot-small) (entry-fits target target-long target-small)
+      (entry-fits pivot (length-numbersAt equations rows (ready .rows-within) j other) pivot-small)
+      (entry-fits target target-long target-small)
 
   few : length (roots (x .g)) ≤ 15
   few = roots-few (x .g) (le-of-eq (fits .0 .0))

@@ -30,7 +30,8 @@ use Rattle.reduction.proofs.step.step.Tie as tie
 
 -- what a combination asks
 abbrev Asked : ℕ → List ℤ → Progress → ℕ → List ℤ → Type 0
-Asked equations relations p j rows = (Ready equations rows relations p × (p .settled < equations) × (j < p .settled)) × T (not (isZero (metEntries rows p j)))
+Asked equations relations p j rows = (Ready equations rows relations p × (p .settled < equations) × (j < p .settled))
+    × T (not (isZero (metEntries rows p j)))
 
 -- the arguments
 module _ (c : tie.Start) where
@@ -178,7 +179,8 @@ returns-2 c =
     let b = base d in
     let e = tested (meeting d) in
     let combine = c .before .before .combine-step in (
-      reached-after (narrowed-kept (equations b) (rows b) (ready b .rows-within) (i b) (j d) (inside e) (omega (arith, inside e, settled-j d)))
+      reached-after
+          (narrowed-kept (equations b) (rows b) (ready b .rows-within) (i b) (j d) (inside e) (omega (arith, inside e, settled-j d)))
           (reached-same refl refl (step-met (side b) (ready b) (inside e) (nonzero (meeting d)) (j d) (met-is (meeting d)) (settled-j d))
           (subst (λ r. let s = stateOf (equations b) r (relations b) (p b) in
           Reached (equations b) r (relations b) (combine .last .0) (combine .last .1 .0) (p b .shifts + 1) (combine .result)

@@ -89,7 +89,8 @@ returns-2 : tie.Need-returns-2 Inv-loop μ-loop
 returns-2 c =
     let at = c .before .before .before in
     let rest = drop (at .loop .i) (now (at .before .args .numbers)) in
-    c .all-zero2 .ensures ∙ ap isZero (take-all _ rest (le-of-eq (length-drop (at .loop .i) (now (at .before .args .numbers))))) ∙ sym (at .loop .inv .1)
+    c .all-zero2 .ensures ∙ ap isZero (take-all _ rest (le-of-eq (length-drop (at .loop .i) (now (at .before .args .numbers)))))
+    ∙ sym (at .loop .inv .1)
 
 pub unused-zero-spec : {M : Type 1} → statement M
 unused-zero-spec =

@@ -88,7 +88,8 @@ returns-2 c =
 numbers-right-requires : tie.Need-numbers-right-requires
 numbers-right-requires c κs =
     let args = c .before .before .before .before .before .args in
-    let long = lengthsRight-iff (equations (sizesOf (args .sizes))) (now (args .rows)) (now (args .relations)) .0 (true-T _ (lengths-hold c)) in
+    let long = lengthsRight-iff (equations (sizesOf (args .sizes))) (now (args .rows)) (now (args .relations)) .0
+    (true-T _ (lengths-hold c)) in
     ((right (c .before .before) .0, long .0), (countRight-iff (args .count) .0 (right (c .before .before) .1), long .1))
 
 returns-3 : tie.Need-returns-3

@@ -62,8 +62,11 @@ loop-again c =
     let at = c .before .before .before .before .before .before in
     let s = at .before .before in
     let next = changed-next rowLength (s .args .equations) (mirrorNumbers (s .args .span)) (mirror-stays (s .args .span) (s .pre .0))
-    (now (s .args .store)) (store at) (i at) (at .loop-test .taken) (at .before .loop .inv .1) in
-    (omega arith, rw (c .before .save .ensures, c .before .before .mirrored .ensures, c .before .before .before .before .load .ensures) next)
+    (now (s .args .store)) (store at) (i at) (at .loop-test .taken) (at .before .loop .inv .1) in (
+      omega arith,
+      rw
+          (c .before .save .ensures, c .before .before .mirrored .ensures, c .before .before .before .before .load .ensures) next,
+    )
 
 same-length : tie.Need-same-length Inv-loop μ-loop
 same-length c = c .before .loop .inv .1 .kept .same-length

@@ -15,7 +15,8 @@ use Rattle.rules.specs.Limits.{rowLength, coefficientCount, columnCount}
 use Rattle.lists.specs.Tests.{every, every-longer}
 use Rattle.rules.specs.Stores.{rowOf}
 use Rattle.rows.specs.Flat.{entry-at}
-use Rattle.working.specs.Found.{foundOr, entriesAt, Columns-at, length-entriesAt, getD-entriesAt, firstNonzero-some, firstNonzero-none}
+use Rattle.working.specs.Found.{foundOr, entriesAt, Columns-at, length-entriesAt, getD-entriesAt, firstNonzero-some}
+use Rattle.working.specs.Found.{firstNonzero-none}
 use Rattle.working.proofs.entries.first_met.Statement.{statement}
 use Rattle.working.proofs.entries.first_met.Tie as tie
 

@@ -71,7 +71,8 @@ loop-again c =
     let args = turn .before .before .before .args in
     let l = toZ w64 (ofZ w64 (args .l)) in (
       omega arith,
-      lines-next (equationNumbers l) rowOf rowLength (args .equations) (now (args .rows)) (turn .before .loop .i) (turn .before .loop .inv .1)
+      lines-next (equationNumbers l) rowOf rowLength (args .equations) (now (args .rows)) (turn .before .loop .i)
+          (turn .before .loop .inv .1)
           (turn .loop-test .taken) (c .before .before .put-equation .ensures),
     )
 
@@ -85,7 +86,8 @@ returns c =
     let store = now (args .rows) in
     let written = equationNumbers (toZ w64 (ofZ w64 (args .l))) in
     put-same
-    (lines-last written rowOf rowLength (args .equations) store (c .before .loop .i) (c .before .loop .inv .1) (c .loop-test .left) (omega arith))
+    (lines-last written rowOf rowLength (args .equations) store (c .before .loop .i) (c .before .loop .inv .1) (c .loop-test .left)
+    (omega arith))
     (ap (λ l. lines (map (equationNumbers l) (rowsOf (args .equations) store))) (toZ-ofZ (c .before .before .before .fits .l)))
 
 pub put-equations-spec : {M : Type 1} → statement M

@@ -71,7 +71,8 @@ loop-again c =
     let args = turn .before .before .before .args in
     let l = toZ w64 (ofZ w64 (args .l)) in (
       omega arith,
-      lines-next (relationLine l) relationOf relationLength (args .count) (now (args .relations)) (turn .before .loop .i) (turn .before .loop .inv .1)
+      lines-next (relationLine l) relationOf relationLength (args .count) (now (args .relations)) (turn .before .loop .i)
+          (turn .before .loop .inv .1)
           (turn .loop-test .taken) (c .before .before .put-relation .ensures),
     )
 
@@ -85,7 +86,8 @@ returns c =
     let store = now (args .relations) in
     let written = relationLine (toZ w64 (ofZ w64 (args .l))) in
     put-same
-    (lines-last written relationOf relationLength (args .count) store (c .before .loop .i) (c .before .loop .inv .1) (c .loop-test .left) (omega arith))
+    (lines-last written relationOf relationLength (args .count) store (c .before .loop .i) (c .before .loop .inv .1) (c .loop-test .left)
+    (omega arith))
     (ap (λ l. lines (map (relationLine l) (relationsOf (args .count) store))) (toZ-ofZ (c .before .before .before .fits .l)))
 
 pub put-relations-spec : {M : Type 1} → statement M

@@ -55,7 +55,8 @@ slice-aggregate-put-numbers c =
 
 put-numbers-requires : tie.Need-put-numbers-requires
 put-numbers-requires c κs =
-    let t = c .before .before .before .before .before .before .before .before .before .before .before .before .before .before .before .before in
+    let t = c .before .before .before .before .before .before .before .before .before .before .before .before .before .before .before
+    .before in
     (every-take small (n t) (p t) (t .pre .3), omega (arith, size t, few t))
 
 same-length : tie.Need-same-length

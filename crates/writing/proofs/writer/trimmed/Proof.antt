@@ -57,7 +57,8 @@ loop-again c =
     )
 
 returns : tie.Need-returns Inv-loop μ-loop
-returns c = c .before .loop .inv .1 ∙ ap (λ q. length (trim q)) (take-all (c .before .loop .i) (now (c .before .before .args .p)) (omega arith))
+returns c = c .before .loop .inv .1
+    ∙ ap (λ q. length (trim q)) (take-all (c .before .loop .i) (now (c .before .before .args .p)) (omega arith))
 
 pub trimmed-spec : {M : Type 1} → statement M
 trimmed-spec =
