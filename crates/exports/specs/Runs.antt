@@ -29,7 +29,7 @@ use Rattle.lists.specs.Everywhere.{All, all-map, getD-all}
 use Rattle.rules.specs.Elimination.{Side, State, Outcome, going, done, refused, wholeRun, neverNumber}
 use Rattle.rules.specs.Stores.{Sizes, Valid, span, rowsOf, relationsOf, sizesRight, countRight, lengthsRight, numbersRight, checkStores}
 use Rattle.rules.specs.Stores.{equations}
-use Rattle.rules.specs.Layout.{SizeBounds, size-bounds, checkStores-order, stores-valid, countRight-iff, block-place}
+use Rattle.rules.specs.Layout.{SizeBounds, size-bounds, equations-few, checkStores-order, stores-valid, countRight-iff, block-place}
 use Rattle.lists.specs.Padded.{length-padTo, all-padTo}
 use Rattle.theory.specs.Demands.{Accepted, Ended, accepted, six, seven, eight, nine, run-ends, shifts-bounded, output-valid}
 use Rattle.theory.specs.Demands.{diagonal-nonzero}
@@ -173,7 +173,7 @@ module _ (side : Side) (z : Sizes) (count : ℕ) (rowStore relationStore : List 
     accepted-small s f =
         record {
           few-relations = countRight-iff (length (s .relations)) .0 (output-valid a .relation-count);
-          few-shifts = le-trans (shifts-bounded a) (mul-le-mul (bounds .few) few-blocks);
+          few-shifts = le-trans (shifts-bounded a) (mul-le-mul (equations-few z bounds) few-blocks);
           four = length-padTo 4 0 (map suc (s .order));
           columns = all-padTo (λ c. c ≤ 4) 4 0 (map suc (s .order)) zero-le (all-map (λ c. c ≤ 4) suc (s .order) .1 below);
         }
