@@ -429,7 +429,7 @@ module _ {side : Side} {z : Sizes} {count : ℕ} {rows relations : List ℤ} {c 
         column-once = once;
         every-column = λ column h.
             let (j, inside, e) = diagonals .every-column (as-many z) (pred column) (omega arith) in
-            let row = (omega arith, subst (λ n. j < n) (sym (as-many z)) inside) in
+            let row : IsRow z (suc j) = (omega arith, subst (λ n. j < n) (sym (as-many z)) inside) in
             (suc j, row, column-is (suc j) row ∙ ap suc e ∙ omega arith);
         zero-before = before;
         diagonal-nonzero = λ row h. subst (λ p. T (not (isZero p))) (sym (diagonal-is row h))
