@@ -1,7 +1,7 @@
 // The answer to one sheet: read, run on the leading side and written, in stores that the caller lends. `batches` has the public entry
 // point.
-use rows::lengths::RELATION;
-use rows::lengths::ROW;
+use stores::lengths::RELATION;
+use stores::lengths::ROW;
 ghost use mathlib.Core.Path.{_≡_};
 ghost use Prim.Native.Nat.{min};
 ghost use Rattle.rules.specs.Stores.{largestRows, relationNeed};
@@ -62,8 +62,8 @@ pub fn answer_in(
         order,
         &mut output[..lent],
     );
-    rows::stores::clear(rows, 0, sizes.m * ROW);
-    rows::stores::clear(relations, 0, run.relations * RELATION);
+    stores::rows::clear(rows, 0, sizes.m * ROW);
+    stores::rows::clear(relations, 0, run.relations * RELATION);
     AnswerResult {
         refusal: written.refusal,
         length: written.length,

@@ -47,9 +47,9 @@ use Rattle.rules.specs.Stores.{rowOf, StoreRow}
 use Rattle.lists.specs.Parts.{parts, parts-length, parts-width, getD-parts, part-flatten}
 use Rattle.rules.specs.Elimination.{within, limitDegrees}
 use Rattle.rules.specs.Layout.{coefficientsAt, polynomialsIn}
-use Rattle.rows.specs.Flat.{polynomialsOf, polynomials-rowOf, polynomials-combine, numbers-mapRow}
+use Rattle.stores.specs.Flat.{polynomialsOf, polynomials-rowOf, polynomials-combine, numbers-mapRow}
 use Rattle.combinations.specs.Primitive.{polynomials-mapRow, degrees-within}
-use Rattle.working.specs.Worked.{Held, held, store-row}
+use Rattle.working_rows.specs.Worked.{Held, held, store-row}
 
 -- ---- polynomials with the same coefficients
 

@@ -30,9 +30,9 @@ use Rattle.rules.specs.Rows.{Row, mapRow, coefficientsOf, primitive, lowDegrees
 use Rattle.lists.specs.Images.{map-take, map-drop}
 use Rattle.rules.specs.Limits.{rowLength, coefficientCount}
 use Rattle.rules.specs.Elimination.{within, beyond, limitCoefficients, limitDegrees}
-use Rattle.rows.specs.Flat.{polynomialsOf, numbers-mapRow}
+use Rattle.stores.specs.Flat.{polynomialsOf, numbers-mapRow}
 use Rattle.lists.specs.Joined.{flatten-map}
-use Rattle.working.specs.Worked.{Shown, refusalOf, numbersOf}
+use Rattle.working_rows.specs.Worked.{Shown, refusalOf, numbersOf}
 
 -- The numbers divided by d, or as they are if d is 0.
 abbrev pub divideUnlessZero : ℕ → List ℤ → List ℤ

@@ -1,7 +1,7 @@
 // Rule 4: a combination of two rows, its division by the content and its limits.
 use polynomials::lengths::COEFFICIENTS;
-use rows::lengths::POLYNOMIALS;
-use rows::lengths::ROW;
+use stores::lengths::POLYNOMIALS;
+use stores::lengths::ROW;
 ghost use mathlib.Core.Path.{_≡_};
 ghost use mathlib.Core.Bool.{not, _&&_};
 ghost use Prim.Native.Nat.{_+_, _^_, _≤_, _<_, max};
@@ -13,7 +13,7 @@ ghost use Rattle.rules.specs.Rows.{lowDegrees, combine, primitive, mapRow, coef
 ghost use Rattle.lists.specs.Tests.{every};
 ghost use Rattle.rules.specs.Stores.{rowOf};
 ghost use Rattle.rules.specs.Elimination.{limitDegrees};
-ghost use Rattle.working.specs.Worked.{refusalOf, numbersOf};
+ghost use Rattle.working_rows.specs.Worked.{refusalOf, numbersOf};
 ghost use Rattle.combinations.specs.Combination.{trim, lowPart};
 ghost use Rattle.combinations.specs.Primitive.{primitiveNumbers};
 ghost use Rattle.polynomials.specs.Content.{Below};
@@ -149,7 +149,7 @@ pub fn combined(
     h: &[i64],
     target: [i64; ROW],
     pivot: [i64; ROW],
-) -> working::limits::Worked
+) -> working_rows::limits::Worked
     requires { ⌜
         (length (now g) ≡ coefficientCount) × T (every small (now g)) × (length (now h) ≡ coefficientCount) × T (every small (now h)) ⌝ }
     requires { ⌜ T (every small target) × T (every small pivot) ⌝ }
@@ -157,10 +157,10 @@ pub fn combined(
     ensures { λ r. ⌜ r .row ≡ numbersOf (limitDegrees (primitive (combine (now (g .entry)) (now (h .entry)) (rowOf target) (rowOf pivot)))) ⌝ }
 {
     if past_degree(g, h, &target[..], &pivot[..]) {
-        return working::limits::Worked {
+        return working_rows::limits::Worked {
             refusal: 7,
             row: [0; ROW],
         };
     }
-    working::limits::limited(primitive_part(low_combination(g, h, &target[..], &pivot[..])))
+    working_rows::limits::limited(primitive_part(low_combination(g, h, &target[..], &pivot[..])))
 }

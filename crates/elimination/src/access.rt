@@ -1,12 +1,12 @@
 // Where one polynomial of a row store stands; rows and columns are counted from 1 (SCOPE 3.2, 3.23).
-use rows::lengths::ROW;
+use stores::lengths::ROW;
 ghost use mathlib.Core.Path.{_≡_};
 ghost use mathlib.Core.Bool.{_&&_};
 ghost use lib.Dec.{T};
 ghost use lib.Signed.{leZ};
 ghost use Rattle.rules.specs.Stores.{sizesRight};
 ghost use Rattle.rules.specs.Calls as Calls;
-ghost use Rattle.rows.specs.Validity.{sizesOf};
+ghost use Rattle.stores.specs.Validity.{sizesOf};
 
 // Blocks are numbered from t to l (SCOPE 1.2).
 fn between(block: i64, l: i64, t: i64) -> bool
@@ -17,24 +17,29 @@ fn between(block: i64, l: i64, t: i64) -> bool
 
 // Does the system have this row, block and column? (SCOPE 3.42)
 pub(crate) fn place_right(
-    sizes: rows::validity::Sizes,
+    sizes: stores::validity::Sizes,
     row: usize,
     block: i64,
     column: usize,
 ) -> bool
     ensures { λ r. ⌜ r ≡ Calls.placeRight (sizesOf sizes) row block column ⌝ }
 {
-    if !rows::validity::counted(row, sizes.m) {
+    if !stores::validity::counted(row, sizes.m) {
         return false;
     }
     if !between(block, sizes.l, sizes.t) {
         return false;
     }
-    rows::validity::counted(column, sizes.m)
+    stores::validity::counted(column, sizes.m)
 }
 
 // Where the sixteen numbers of the polynomial begin (SCOPE 3.2).
-pub(crate) fn place_of(sizes: rows::validity::Sizes, row: usize, block: i64, column: usize) -> usize
+pub(crate) fn place_of(
+    sizes: stores::validity::Sizes,
+    row: usize,
+    block: i64,
+    column: usize,
+) -> usize
     requires { ⌜ T (sizesRight (sizesOf sizes)) × T (Calls.placeRight (sizesOf sizes) row block column) ⌝ }
     ensures { λ r. ⌜ r ≡ Calls.polynomialPlace (sizesOf sizes) row block column ⌝ }
 {

@@ -1,11 +1,11 @@
 // The public runs on lent stores, `run_leading` and `run_trailing`, and the access to one polynomial of a row store: no
 // `requires`, and contracts that give the result and each lent store by equations with `rules` (SCOPE 9.1, 9.2).
-use rows::lengths::ROW;
 use sides::Side;
+use stores::lengths::ROW;
 ghost use mathlib.Core.Path.{_≡_};
 ghost use Rattle.rules.specs.Elimination.{leading, trailing};
 ghost use Rattle.rules.specs.Calls.{callRun, polynomialCheck, polynomialPart};
-ghost use Rattle.rows.specs.Validity.{sizesOf};
+ghost use Rattle.stores.specs.Validity.{sizesOf};
 ghost use Rattle.runs.specs.CallLaws.{callOf};
 
 mod access;
@@ -15,7 +15,7 @@ pub use runs::RunResult;
 pub fn run_leading(
     rows: &mut [i64],
     relations: &mut [i64],
-    sizes: rows::validity::Sizes,
+    sizes: stores::validity::Sizes,
     count: usize,
 ) -> runs::RunResult
     ensures { λ r. ⌜ callOf r (now (rows .exit)) (now (relations .exit))
@@ -27,7 +27,7 @@ pub fn run_leading(
 pub fn run_trailing(
     rows: &mut [i64],
     relations: &mut [i64],
-    sizes: rows::validity::Sizes,
+    sizes: stores::validity::Sizes,
     count: usize,
 ) -> runs::RunResult
     ensures { λ r. ⌜ callOf r (now (rows .exit)) (now (relations .exit))
@@ -40,14 +40,14 @@ pub fn run_trailing(
 // (SCOPE 3.42, 3.43).
 pub fn check_polynomial(
     rows: &[i64],
-    sizes: rows::validity::Sizes,
+    sizes: stores::validity::Sizes,
     row: usize,
     block: i64,
     column: usize,
 ) -> u8
     ensures { λ r. ⌜ r ≡ polynomialCheck (now (rows .entry)) (sizesOf sizes) row block column ⌝ }
 {
-    if !rows::validity::sizes_right(sizes) {
+    if !stores::validity::sizes_right(sizes) {
         return 2;
     }
     if !access::place_right(sizes, row, block, column) {
@@ -63,7 +63,7 @@ pub fn check_polynomial(
 // the check is not 0 (SCOPE 3.41, 3.44, 8.4).
 pub fn polynomial(
     rows: &[i64],
-    sizes: rows::validity::Sizes,
+    sizes: stores::validity::Sizes,
     row: usize,
     block: i64,
     column: usize,

@@ -4,7 +4,7 @@ ghost use mathlib.Core.Path.{_≡_};
 ghost use Prim.Native.Nat.{_≤_};
 ghost use lib.ListN.{length};
 ghost use Rattle.rules.specs.Calls.{callRun};
-ghost use Rattle.rows.specs.Validity.{sizesOf};
+ghost use Rattle.stores.specs.Validity.{sizesOf};
 ghost use Rattle.sides.specs.Lent.{sideOf};
 ghost use Rattle.runs.specs.CallLaws.{resultOf, callOf};
 ghost use Rattle.exports.specs.Runs.{runNumbers, SmallResult, keptOr, exportRun};
@@ -31,7 +31,7 @@ fn put_run(result: &mut [i64], answer: elimination::RunResult)
     requires { ⌜ (8 ≤ length (now result)) × SmallResult (resultOf answer) ⌝ }
     ensures { λ _. ⌜ now (result .exit) ≡ keptOr (answer .refusal) (runNumbers (resultOf answer)) (now (result .entry)) ⌝ }
 {
-    if rows::validity::counted(answer.refusal as usize, 5) {
+    if stores::validity::counted(answer.refusal as usize, 5) {
         return;
     }
     crate::numbers::put(result, run_numbers(answer));
@@ -40,7 +40,7 @@ fn put_run(result: &mut [i64], answer: elimination::RunResult)
 fn run(
     rows: &mut [i64],
     relations: &mut [i64],
-    sizes: rows::validity::Sizes,
+    sizes: stores::validity::Sizes,
     count: usize,
     side: Side,
 ) -> elimination::RunResult
@@ -58,7 +58,7 @@ fn run(
 pub(crate) fn exported(
     rows: &mut [i64],
     relations: &mut [i64],
-    sizes: rows::validity::Sizes,
+    sizes: stores::validity::Sizes,
     count: usize,
     result: &mut [i64],
     side: Side,
@@ -68,7 +68,7 @@ pub(crate) fn exported(
         ≡ exportRun (sideOf side) (sizesOf sizes) count (now (rows .entry)) (now (relations .entry)) (now (result .entry)) ⌝ }
 {
     if result.len() < 8 {
-        return rows::validity::check_stores(&rows[..0], &relations[..0], sizes, count);
+        return stores::validity::check_stores(&rows[..0], &relations[..0], sizes, count);
     }
     let answer = run(rows, relations, sizes, count, side);
     put_run(result, answer);

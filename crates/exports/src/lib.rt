@@ -33,7 +33,7 @@ pub extern "C" fn wurgalm_run_leading(
     either_side::exported(
         rows,
         relations,
-        rows::validity::Sizes { m, l, t },
+        stores::validity::Sizes { m, l, t },
         count,
         result,
         Side::Leading,
@@ -58,7 +58,7 @@ pub extern "C" fn wurgalm_run_trailing(
     either_side::exported(
         rows,
         relations,
-        rows::validity::Sizes { m, l, t },
+        stores::validity::Sizes { m, l, t },
         count,
         result,
         Side::Trailing,
@@ -111,7 +111,7 @@ pub extern "C" fn wurgalm_write_sheet(
     writes::exported(
         rows,
         relations,
-        rows::validity::Sizes { m, l, t },
+        stores::validity::Sizes { m, l, t },
         count,
         order,
         bytes,

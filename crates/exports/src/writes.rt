@@ -6,7 +6,7 @@ ghost use lib.IntN.{natAbs};
 ghost use lib.Signed.{nonNeg};
 ghost use lib.ListN.{length, take};
 ghost use Rattle.lists.specs.Tests.{every};
-ghost use Rattle.rows.specs.Validity.{sizesOf};
+ghost use Rattle.stores.specs.Validity.{sizesOf};
 ghost use Rattle.exports.specs.Writes.{exportWrite};
 
 fn no_negative(numbers: &[i64]) -> bool
@@ -38,7 +38,7 @@ fn columns(order: &[i64]) -> [usize; 4]
 pub(crate) fn exported(
     rows: &[i64],
     relations: &[i64],
-    sizes: rows::validity::Sizes,
+    sizes: stores::validity::Sizes,
     count: usize,
     order: &[i64],
     bytes: &mut [u8],
@@ -50,7 +50,7 @@ pub(crate) fn exported(
         (now (result .entry)) ⌝ }
 {
     if order.len() < 4 {
-        return rows::validity::check_stores(&rows[..0], &relations[..0], sizes, count);
+        return stores::validity::check_stores(&rows[..0], &relations[..0], sizes, count);
     }
     if !no_negative(&order[..4]) {
         return 2;

@@ -32,7 +32,7 @@ use Rattle.tokens.specs.Fields.{readOf, fault-of, then-got, then-fault, then-co
 use Rattle.tokens.specs.Fields.{passed, between-zero}
 use Rattle.reading.specs.Terms.{padded}
 use Rattle.reading.specs.Equations.{got-value}
-use Rattle.rows.specs.Validity.{sizesOf}
+use Rattle.stores.specs.Validity.{sizesOf}
 use Rattle.reading.specs.declared.sheet.SheetResult.{SheetResult}
 
 -- ---- sizes

@@ -1,6 +1,6 @@
 // Equations, read into working rows: the number of terms and then the terms (SCOPE 4.21).
 use polynomials::lengths::COEFFICIENTS;
-use rows::lengths::BLOCK;
+use stores::lengths::BLOCK;
 ghost use mathlib.Core.Path.{_≡_};
 ghost use Prim.Native.Nat.{suc, _+_, _*_, _≤_};
 ghost use lib.ListN.{length, drop};
@@ -13,7 +13,7 @@ ghost use Rattle.rules.specs.Stores.{span, rowOf, sizesRight};
 ghost use Rattle.rules.specs.Calls.{zeros};
 ghost use Rattle.rules.specs.Sheets.{blankRow, readEquation};
 ghost use Rattle.tokens.specs.Fields.{Answers};
-ghost use Rattle.rows.specs.Validity.{sizesOf};
+ghost use Rattle.stores.specs.Validity.{sizesOf};
 ghost use Rattle.reading.specs.Equations.{termsInto};
 ghost use Rattle.reading.specs.Terms.{placeInRow};
 
@@ -54,7 +54,7 @@ pub(crate) fn no_part(refusal: u8) -> PartRead
 fn terms_at(
     bytes: &[u8],
     at: usize,
-    z: rows::validity::Sizes,
+    z: stores::validity::Sizes,
     count: usize,
     row: &mut [i64],
 ) -> PartRead
@@ -90,7 +90,7 @@ fn terms_at(
 }
 
 // An equation has at most m × (D + 1) terms (SCOPE 4.21).
-fn most_terms(z: rows::validity::Sizes) -> i64
+fn most_terms(z: stores::validity::Sizes) -> i64
     requires { ⌜ T (sizesRight (sizesOf z)) ⌝ }
     ensures { λ r. ⌜ r ≡ pos (z .m * suc (span (sizesOf z))) ⌝ }
 {
@@ -101,7 +101,7 @@ fn most_terms(z: rows::validity::Sizes) -> i64
 pub(crate) fn equation_at(
     bytes: &[u8],
     at: usize,
-    z: rows::validity::Sizes,
+    z: stores::validity::Sizes,
     row: &mut [i64],
 ) -> PartRead
     requires { ⌜ (at ≤ length (now bytes)) × T (sizesRight (sizesOf z)) ⌝ }

@@ -1,8 +1,8 @@
 // A sheet read into lent stores, in one pass over its bytes: no `requires`, and a contract that gives the result and both stores by
 // an equation with `rules`.
-use rows::lengths::RELATION;
-use rows::lengths::RELATIONS;
-use rows::lengths::ROWS;
+use stores::lengths::RELATION;
+use stores::lengths::RELATIONS;
+use stores::lengths::ROWS;
 ghost use mathlib.Core.Path.{_≡_};
 ghost use Rattle.rules.specs.SheetCalls.{readCall};
 ghost use Rattle.reading.specs.ReadCalls.{callOf};

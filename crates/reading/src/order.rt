@@ -1,5 +1,5 @@
 // The order line: 0 alone for no order, otherwise m and the columns 1 to m in some order (SCOPE 4.15).
-use rows::lengths::COLUMNS;
+use stores::lengths::COLUMNS;
 ghost use mathlib.Core.Path.{_≡_};
 ghost use mathlib.Core.List.{[]};
 ghost use Prim.Native.Nat.{_≤_};

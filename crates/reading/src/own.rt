@@ -1,6 +1,6 @@
 // A sheet read straight into stores of the caller's own.
-use rows::lengths::RELATION;
-use rows::lengths::ROW;
+use stores::lengths::RELATION;
+use stores::lengths::ROW;
 ghost use mathlib.Core.Path.{_≡_};
 ghost use Rattle.rules.specs.Stores.{largestRows, relationNeed};
 ghost use Rattle.rules.specs.Calls.{zeros};
@@ -16,14 +16,14 @@ pub fn read_own(bytes: &[u8], rows: &mut [i64], relations: &mut [i64]) -> crate:
 {
     let h = crate::sheet::head_at(bytes, rows);
     if h.refusal != 0 {
-        rows::stores::clear(rows, 0, h.sizes.m * ROW);
+        stores::rows::clear(rows, 0, h.sizes.m * ROW);
         return crate::sheet::refused(h.refusal);
     }
     let used = h.relations * RELATION;
     let r = crate::sheet::rest_at(bytes, h, &mut relations[..used]);
     if r.refusal != 0 {
-        rows::stores::clear(rows, 0, h.sizes.m * ROW);
-        rows::stores::clear(relations, 0, used);
+        stores::rows::clear(rows, 0, h.sizes.m * ROW);
+        stores::rows::clear(relations, 0, used);
         return crate::sheet::refused(r.refusal);
     }
     r

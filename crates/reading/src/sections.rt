@@ -1,7 +1,7 @@
 // The sections of a sheet in their order, each after its count (SCOPE 4.11), each read into a store of its size that is
 // zero.
-use rows::lengths::RELATION;
-use rows::lengths::ROW;
+use stores::lengths::RELATION;
+use stores::lengths::ROW;
 ghost use mathlib.Core.Path.{_≡_};
 ghost use Prim.Native.Nat.{_*_, _≤_};
 ghost use lib.ListN.{length, drop};
@@ -11,14 +11,14 @@ ghost use Rattle.rules.specs.Stores.{rowsOf, relationOf, relationsOf, sizesRigh
 ghost use Rattle.rules.specs.Calls.{zeros};
 ghost use Rattle.rules.specs.Sheets.{readEquations, readRelation, readRelations};
 ghost use Rattle.tokens.specs.Fields.{Answers};
-ghost use Rattle.rows.specs.Validity.{sizesOf};
+ghost use Rattle.stores.specs.Validity.{sizesOf};
 ghost use Rattle.reading.specs.WholeSheet.{equationSection};
 
 // So many equations, read into the rows of `rows` (SCOPE 4.13).
 fn equations_at(
     bytes: &[u8],
     at: usize,
-    z: rows::validity::Sizes,
+    z: stores::validity::Sizes,
     equations: usize,
     rows: &mut [i64],
 ) -> crate::equations::PartRead
@@ -49,7 +49,7 @@ fn equations_at(
 fn relation_at(
     bytes: &[u8],
     at: usize,
-    z: rows::validity::Sizes,
+    z: stores::validity::Sizes,
     relation: &mut [i64],
 ) -> crate::equations::PartRead
     requires { ⌜ (at ≤ length (now bytes)) × T (sizesRight (sizesOf z)) ⌝ }
@@ -69,7 +69,7 @@ fn relation_at(
 pub(crate) fn relations_at(
     bytes: &[u8],
     at: usize,
-    z: rows::validity::Sizes,
+    z: stores::validity::Sizes,
     count: usize,
     relations: &mut [i64],
 ) -> crate::equations::PartRead
@@ -99,7 +99,7 @@ pub(crate) fn relations_at(
 pub(crate) fn equation_section(
     bytes: &[u8],
     at: usize,
-    z: rows::validity::Sizes,
+    z: stores::validity::Sizes,
     equations: usize,
     rows: &mut [i64],
 ) -> crate::equations::PartRead

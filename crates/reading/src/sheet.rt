@@ -1,8 +1,8 @@
 // A whole sheet.
-use rows::lengths::COLUMNS;
-use rows::lengths::RELATION;
-use rows::lengths::RELATIONS;
-use rows::lengths::ROW;
+use stores::lengths::COLUMNS;
+use stores::lengths::RELATION;
+use stores::lengths::RELATIONS;
+use stores::lengths::ROW;
 ghost use mathlib.Core.Path.{_≡_};
 ghost use Prim.Native.Nat.{_*_, _≤_};
 ghost use mathlib.Core.List.{List};
@@ -14,7 +14,7 @@ ghost use Rattle.rules.specs.Stores.{rowsOf, relationsOf, largestRows, relation
 ghost use Rattle.rules.specs.Calls.{zeros};
 ghost use Rattle.lists.specs.Overwritten.{overwrite};
 ghost use Rattle.rules.specs.SheetCalls.{readRefusal, readCall};
-ghost use Rattle.rows.specs.Validity.{sizesOf};
+ghost use Rattle.stores.specs.Validity.{sizesOf};
 ghost use Rattle.reading.specs.WholeSheet.{resultOf, HeadTo, HeadRead, SheetRead};
 ghost use Rattle.reading.specs.ReadCalls.{callOf};
 
@@ -22,7 +22,7 @@ ghost use Rattle.reading.specs.ReadCalls.{callOf};
 // counted from 1, zeros past its end (SCOPE 4.41).
 pub struct SheetResult {
     pub refusal: u8,
-    pub sizes: rows::validity::Sizes,
+    pub sizes: stores::validity::Sizes,
     pub relations: usize,
     pub order: [usize; COLUMNS],
 }
@@ -32,7 +32,7 @@ pub(crate) fn refused(refusal: u8) -> SheetResult
 {
     SheetResult {
         refusal,
-        sizes: rows::validity::Sizes { m: 0, l: 0, t: 0 },
+        sizes: stores::validity::Sizes { m: 0, l: 0, t: 0 },
         relations: 0,
         order: [0; COLUMNS],
     }
@@ -42,7 +42,7 @@ pub(crate) fn refused(refusal: u8) -> SheetResult
 pub(crate) struct SheetHead {
     pub refusal: u8,
     pub at: usize,
-    pub sizes: rows::validity::Sizes,
+    pub sizes: stores::validity::Sizes,
     pub relations: usize,
 }
 
@@ -52,7 +52,7 @@ fn no_head(refusal: u8, m: usize) -> SheetHead
     SheetHead {
         refusal,
         at: 0,
-        sizes: rows::validity::Sizes { m, l: 0, t: 0 },
+        sizes: stores::validity::Sizes { m, l: 0, t: 0 },
         relations: 0,
     }
 }
@@ -131,7 +131,7 @@ pub(crate) fn fill_relations(store: &mut [i64], numbers: &[i64], count: usize)
 {
     let used = count * RELATION;
     crate::equations::copy(store, 0, numbers, used);
-    rows::stores::clear(store, used, RELATIONS - used);
+    stores::rows::clear(store, used, RELATIONS - used);
 }
 
 // The rest of a sheet whose equations have been read, its relations read into `scratch`, and the lent stores filled
@@ -154,7 +154,7 @@ pub(crate) fn fill(
     if r.refusal != 0 {
         return refused(r.refusal);
     }
-    if !rows::validity::lengths_right(rows, relations, r.sizes.m) {
+    if !stores::validity::lengths_right(rows, relations, r.sizes.m) {
         return refused(1);
     }
     fill_rows(rows, equations, r.sizes.m);

@@ -6,7 +6,7 @@ ghost use lib.IntN.{natAbs};
 ghost use Rattle.rules.specs.Numbers.{field};
 ghost use Rattle.rules.specs.Sheets.{readSizes, judgeLowest, always};
 ghost use Rattle.tokens.specs.Fields.{Answers};
-ghost use Rattle.rows.specs.Validity.{sizesOf};
+ghost use Rattle.stores.specs.Validity.{sizesOf};
 ghost use Rattle.reading.specs.WholeSheet.{readUnknowns, readBlocks};
 
 // t lies between -64 and l, and D = l - t is at most 4 (SCOPE 1.2); otherwise it is 2 (SCOPE 4.34).
@@ -86,7 +86,7 @@ fn blocks_at(bytes: &[u8], at: usize) -> BlocksRead
 pub(crate) struct SizesRead {
     pub refusal: u8,
     pub at: usize,
-    pub sizes: rows::validity::Sizes,
+    pub sizes: stores::validity::Sizes,
 }
 
 fn no_sizes(refusal: u8) -> SizesRead
@@ -95,7 +95,7 @@ fn no_sizes(refusal: u8) -> SizesRead
     SizesRead {
         refusal,
         at: 0,
-        sizes: rows::validity::Sizes { m: 0, l: 0, t: 0 },
+        sizes: stores::validity::Sizes { m: 0, l: 0, t: 0 },
     }
 }
 
@@ -115,7 +115,7 @@ pub(crate) fn sizes_at(bytes: &[u8], at: usize) -> SizesRead
     SizesRead {
         refusal: 0,
         at: b.at,
-        sizes: rows::validity::Sizes {
+        sizes: stores::validity::Sizes {
             m: m.value as usize,
             l: b.l,
             t: b.t,

@@ -8,7 +8,7 @@ ghost use Rattle.rules.specs.Limits.{coefficientCount};
 ghost use Rattle.rules.specs.Numbers.{field};
 ghost use Rattle.rules.specs.Sheets.{judgeLast, judgeBlock, judgeColumn, always, readCoefficients};
 ghost use Rattle.tokens.specs.Fields.{Answers};
-ghost use Rattle.rows.specs.Validity.{sizesOf};
+ghost use Rattle.stores.specs.Validity.{sizesOf};
 ghost use Rattle.reading.specs.Terms.{readCoefficient, padded, readPlace, readPolynomial};
 
 // The most coefficients of a term.
@@ -29,7 +29,7 @@ fn judge_last(value: i64) -> u8
 
 // Out of range is 2 (SCOPE 4.34); then a block that rises, or a column that does not rise within its block, is 3
 // (SCOPE 4.23, 4.35). The term before stood at block `before` and column `last`.
-fn judge_block(z: rows::validity::Sizes, before: i64, s: i64) -> u8
+fn judge_block(z: stores::validity::Sizes, before: i64, s: i64) -> u8
     ensures { λ r. ⌜ r ≡ judgeBlock (sizesOf z) before s ⌝ }
 {
     if tokens::is_between(z.t, z.l, s) {
@@ -41,7 +41,7 @@ fn judge_block(z: rows::validity::Sizes, before: i64, s: i64) -> u8
     2
 }
 
-fn judge_column(z: rows::validity::Sizes, before: i64, last: usize, s: i64, c: i64) -> u8
+fn judge_column(z: stores::validity::Sizes, before: i64, last: usize, s: i64, c: i64) -> u8
     requires { ⌜ (z .m ≤ 4) × (last ≤ 4) ⌝ }
     ensures { λ r. ⌜ r ≡ judgeColumn (sizesOf z) before last s c ⌝ }
 {
@@ -66,7 +66,7 @@ fn last_at(bytes: &[u8], at: usize, separator: u8) -> tokens::NumberRead
     tokens::separated(bytes, n, judgement, separator)
 }
 
-fn block_at(bytes: &[u8], at: usize, z: rows::validity::Sizes, before: i64) -> tokens::NumberRead
+fn block_at(bytes: &[u8], at: usize, z: stores::validity::Sizes, before: i64) -> tokens::NumberRead
     requires { ⌜ at ≤ length (now bytes) ⌝ }
     ensures { λ r. ⌜ Answers (now (bytes .entry)) (r .refusal) (r .value) (r .at) (field (judgeBlock (sizesOf z) before) (always 32) (drop at (now (bytes .entry)))) ⌝ }
 {
@@ -78,7 +78,7 @@ fn block_at(bytes: &[u8], at: usize, z: rows::validity::Sizes, before: i64) -> t
 fn column_at(
     bytes: &[u8],
     at: usize,
-    z: rows::validity::Sizes,
+    z: stores::validity::Sizes,
     before: i64,
     last: usize,
     s: i64,
@@ -116,7 +116,7 @@ fn coefficients_at(
         Answers (now (bytes .entry)) (r .refusal) (now (p .exit)) (r .at)
         (padded coefficientCount (pos 0) (readCoefficients last count (drop at (now (bytes .entry))))) ⌝ }
 {
-    rows::stores::clear(p, 0, COEFFICIENTS);
+    stores::rows::clear(p, 0, COEFFICIENTS);
     let mut next = at;
     let mut i = 0;
     while i < count {
@@ -176,7 +176,7 @@ fn no_place(refusal: u8) -> PlaceRead
 pub(crate) fn place_at(
     bytes: &[u8],
     at: usize,
-    z: rows::validity::Sizes,
+    z: stores::validity::Sizes,
     before: i64,
     last: usize,
 ) -> PlaceRead

@@ -24,9 +24,9 @@ use Rattle.rules.specs.Limits.{rowLength}
 use Rattle.rules.specs.Rows.{Row, coefficientsOf, combine, primitive, cut, shiftUp, smallRow, lowDegrees}
 use Rattle.rules.specs.Elimination.{Limited, within, beyond, limitCoefficients, limitDegrees, going, putRow, putLimited}
 use Rattle.rules.specs.Stores.{rowOf, rowsOf, relationsOf, rowNeed}
-use Rattle.working.specs.Worked.{Held, refusalOf, numbersOf}
+use Rattle.working_rows.specs.Worked.{Held, refusalOf, numbersOf}
 use Rattle.combinations.specs.Combination.{combined-held}
-use Rattle.working.specs.Shifting.{shifted-held}
+use Rattle.working_rows.specs.Shifting.{shifted-held}
 use Rattle.reduction.specs.declared.step.Progress.{Progress}
 use Rattle.sides.specs.Lent.{Within, Kept}
 use Rattle.reduction.specs.Progress.{state, stateOf, outcomeOf}

@@ -24,7 +24,7 @@ use Rattle.rules.specs.Rows.{Row, Relation}
 use Rattle.rules.specs.Elimination.{State, Outcome, going, done, refused}
 use Rattle.rules.specs.Stores.{rowsOf, relationsOf, rowNeed, relationNeed}
 use Rattle.lists.specs.Padded.{padTo}
-use Rattle.working.specs.Found.{Columns}
+use Rattle.working_rows.specs.Found.{Columns}
 use Rattle.sides.specs.Lent.{Within, Listing, Kept}
 use Rattle.reduction.specs.declared.step.Progress.{Progress}
 use Rattle.reduction.specs.declared.step.Outcome as Answer

@@ -27,8 +27,8 @@ use Rattle.rules.specs.Stores.{rowsOf, relationsOf, relationNeed, rowNeed}
 use Rattle.rules.specs.Elimination.{Side, State, Outcome, going, done, finished, step, andThen, run, enough, start}
 use Rattle.rules.specs.Layout.{length-rowsOf}
 use Rattle.lists.specs.Padded.{padTo}
-use Rattle.rows.specs.Flat.{length-blocks}
-use Rattle.working.specs.Found.{Columns}
+use Rattle.stores.specs.Flat.{length-blocks}
+use Rattle.working_rows.specs.Found.{Columns}
 use Rattle.reduction.specs.declared.step.Progress.{Progress}
 use Rattle.reduction.specs.declared.step.Outcome as Answer
 use Rattle.sides.specs.Lent.{Within, Listing}

@@ -31,8 +31,8 @@ use Rattle.rules.specs.Elimination.{combineStep, eliminateStep, shiftStep, sett
 use Rattle.rules.specs.Layout.{blockAt, length-rowsOf}
 use Rattle.lists.specs.Parts.{parts-length}
 use Rattle.lists.specs.Padded.{padTo, padTo-more}
-use Rattle.rows.specs.Flat.{block-at}
-use Rattle.working.specs.Found.{foundOr, Columns, entriesAt, length-entriesAt, getD-entriesAt}
+use Rattle.stores.specs.Flat.{block-at}
+use Rattle.working_rows.specs.Found.{foundOr, Columns, entriesAt, length-entriesAt, getD-entriesAt}
 use Rattle.reduction.specs.declared.step.Progress.{Progress}
 use Rattle.reduction.specs.Progress.{Ready, Reached, state, stateOf, outcomeOf, answerOf, settledProgress, ready-with}
 use Rattle.sides.specs.StoreStates.{kept-same}

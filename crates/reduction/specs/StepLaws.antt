@@ -29,7 +29,7 @@ use Rattle.rules.specs.Elimination.{Side, State, Outcome, refused, Limited, lim
 use Rattle.rules.specs.Elimination.{Multipliers, multipliers, multipliersAt, listing, listRelations, rootRelations, combineStep}
 use Rattle.rules.specs.Elimination.{limitCoefficients, countShift, shiftStep}
 use Rattle.rules.specs.Layout.{length-relationsOf}
-use Rattle.working.specs.Worked.{refusalOf, numbersOf}
+use Rattle.working_rows.specs.Worked.{refusalOf, numbersOf}
 use Rattle.reduction.specs.declared.step.Progress.{Progress}
 use Rattle.reduction.specs.declared.step.Outcome as Answer
 use Rattle.sides.specs.Lent.{Kept}

@@ -27,7 +27,7 @@ use Rattle.lists.specs.Tests.{every, every-part}
 use Rattle.rules.specs.Stores.{rowOf, rowsOf, relationsOf, rowNeed}
 use Rattle.rules.specs.Elimination.{State, rowAt, putRow, exchange, narrowFirst}
 use Rattle.rules.specs.Layout.{row-at, length-rowsOf}
-use Rattle.rows.specs.Flat.{entry-at}
+use Rattle.stores.specs.Flat.{entry-at}
 use Rattle.reduction.specs.declared.step.Progress.{Progress}
 use Rattle.sides.specs.Lent.{Within, Kept}
 use Rattle.reduction.specs.Progress.{state, stateOf}

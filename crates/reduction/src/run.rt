@@ -1,10 +1,10 @@
 // The whole run over checked stores: at most `enough` steps, and what is left of a run that is refused.
 use crate::step::Outcome;
 use crate::step::Progress;
-use rows::lengths::COLUMNS;
-use rows::lengths::RELATION;
-use rows::lengths::ROW;
 use sides::Side;
+use stores::lengths::COLUMNS;
+use stores::lengths::RELATION;
+use stores::lengths::ROW;
 ghost use mathlib.Core.Path.{_≡_};
 ghost use Prim.Native.Nat.{_+_, _*_, _≤_};
 ghost use Rattle.rules.specs.Limits.{mostEquations};
@@ -86,7 +86,7 @@ pub fn run(
     }
     let p = o.progress;
     let listed = p.count;
-    rows::stores::clear(rows, 0, equations * ROW);
-    rows::stores::clear(relations, 0, listed * RELATION);
+    stores::rows::clear(rows, 0, equations * ROW);
+    stores::rows::clear(relations, 0, listed * RELATION);
     crate::step::answer(refusal, start(0))
 }

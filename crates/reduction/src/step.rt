@@ -1,8 +1,8 @@
 // One step of the elimination over the lent stores: what `step` of `rules` says of the state that the stores hold.
 use polynomials::lengths::COEFFICIENTS;
-use rows::lengths::COLUMNS;
-use rows::lengths::ROW;
 use sides::Side;
+use stores::lengths::COLUMNS;
+use stores::lengths::ROW;
 ghost use mathlib.Core.Path.{_≡_};
 ghost use mathlib.Core.Bool.{false, not};
 ghost use mathlib.Core.List.{_++_};
@@ -15,7 +15,7 @@ ghost use Rattle.rules.specs.Rows.{entry};
 ghost use Rattle.lists.specs.Tests.{every};
 ghost use Rattle.rules.specs.Elimination as Elimination;
 ghost use Rattle.rules.specs.Stores.{rowOf};
-ghost use Rattle.working.specs.Worked.{refusalOf, numbersOf};
+ghost use Rattle.working_rows.specs.Worked.{refusalOf, numbersOf};
 ghost use Rattle.sides.specs.Lent.{sideOf};
 ghost use Rattle.reduction.specs.Progress.{Ready, Reached, stateOf, answerOf, settledProgress, shiftedProgress};
 ghost use Rattle.reduction.specs.NewRows.{saved};
@@ -52,7 +52,7 @@ pub(crate) fn answer(refusal: u8, p: Progress) -> Outcome
 fn put_limited(
     rows: &mut [i64],
     i: usize,
-    worked: working::limits::Worked,
+    worked: working_rows::limits::Worked,
     next: Progress,
 ) -> Outcome
     requires { ⌜ i * rowLength + rowLength ≤ length (now rows) ⌝ }
@@ -64,7 +64,7 @@ fn put_limited(
         return answer(refusal, next);
     }
     let row = worked.row;
-    rows::stores::save(rows, i * ROW, row);
+    stores::rows::save(rows, i * ROW, row);
     answer(0, next)
 }
 
@@ -73,11 +73,11 @@ fn narrow_first(rows: &mut [i64], i: usize, j: usize)
     requires { ⌜ (i * rowLength + rowLength ≤ length (now rows)) × (j * rowLength + rowLength ≤ length (now rows)) ⌝ }
     ensures { λ _. ⌜ now (rows .exit) ≡ narrowed (now (rows .entry)) i j ⌝ }
 {
-    let a = rows::stores::load(rows, i * ROW);
-    let b = rows::stores::load(rows, j * ROW);
-    if working::entries::width(a) < working::entries::width(b) {
-        rows::stores::save(rows, j * ROW, a);
-        rows::stores::save(rows, i * ROW, b);
+    let a = stores::rows::load(rows, i * ROW);
+    let b = stores::rows::load(rows, j * ROW);
+    if working_rows::entries::width(a) < working_rows::entries::width(b) {
+        stores::rows::save(rows, j * ROW, a);
+        stores::rows::save(rows, i * ROW, b);
     }
 }
 
@@ -129,7 +129,7 @@ fn shift_step(rows: &mut [i64], row: [i64; ROW], p: Progress) -> Outcome
         count: p.count,
         shifts: p.shifts + 1,
     };
-    put_limited(rows, i, working::shifting::shifted(row), next)
+    put_limited(rows, i, working_rows::shifting::shifted(row), next)
 }
 
 // Rules 3 and 4 for the row that is worked on and settled row j (SCOPE 2.31, 2.34, 2.41, 2.42, 2.47). The number m of
@@ -150,8 +150,8 @@ fn combine_step(
     ensures { λ r. ⌜ r .done ≡ false ⌝ }
 {
     let i = p.settled;
-    let target = rows::stores::load(rows, i * ROW);
-    let pivot = rows::stores::load(rows, j * ROW);
+    let target = stores::rows::load(rows, i * ROW);
+    let pivot = stores::rows::load(rows, j * ROW);
     let order = p.order;
     let x = multipliers_at(target, pivot, order[j]);
     let g = x.g;
@@ -191,17 +191,17 @@ pub(crate) fn step(
     ensures { λ r. ⌜ r .done ≡ false ⌝ }
 {
     let i = p.settled;
-    let row = rows::stores::load(rows, i * ROW);
-    if working::entries::is_zero_row(row) {
+    let row = stores::rows::load(rows, i * ROW);
+    if working_rows::entries::is_zero_row(row) {
         return answer(6, p);
     }
     let order = p.order;
-    let j = working::entries::first_met(row, order, i);
+    let j = working_rows::entries::first_met(row, order, i);
     if j < i {
         narrow_first(rows, i, j);
         return combine_step(rows, relations, equations, side, j, p);
     }
-    let c = working::entries::first_column(row);
+    let c = working_rows::entries::first_column(row);
     if c < COLUMNS {
         answer(0, settled(c, p))
     } else {

@@ -43,7 +43,7 @@ use Rattle.roots.specs.declared.RootAnswer.{RootAnswer}
 use Rattle.roots.specs.RootSearch.{answered}
 use Rattle.theory.specs.Ending.{wholeRun-ends}
 use Rattle.theory.specs.Demands.{diagonal-nonzero}
-use Rattle.working.specs.Found.{Columns}
+use Rattle.working_rows.specs.Found.{Columns}
 use Rattle.sides.specs.Lent.{Within, Listing}
 use Rattle.reduction.specs.Progress.{stateOf, outcomeOf, outcomeAt, Ready}
 use Rattle.reduction.specs.Ran.{Ran, rowsAfter, relationsAfter, zeros-small}

@@ -11,8 +11,8 @@ ghost use Rattle.rules.specs.Limits.{mostEquations};
 ghost use Rattle.rules.specs.Elimination as Elimination;
 ghost use Rattle.rules.specs.Stores.{equations, rowsOf, relationsOf, rowNeed, sizesRight, span, checkStores};
 ghost use Rattle.rules.specs.Calls as Calls;
-ghost use Rattle.working.specs.Found.{Columns};
-ghost use Rattle.rows.specs.Validity.{sizesOf};
+ghost use Rattle.working_rows.specs.Found.{Columns};
+ghost use Rattle.stores.specs.Validity.{sizesOf};
 ghost use Rattle.sides.specs.Lent.{sideOf, Within, Listing};
 ghost use Rattle.reduction.specs.Progress.{stateOf, outcomeAt};
 ghost use Rattle.reduction.specs.Ran.{Ran};
@@ -129,7 +129,7 @@ fn whole_run(
 // refusal (SCOPE 3.21, 6.33).
 fn ended(
     rows: &[i64],
-    sizes: rows::validity::Sizes,
+    sizes: stores::validity::Sizes,
     side: Side,
     o: reduction::step::Outcome,
 ) -> RunResult
@@ -143,14 +143,14 @@ fn ended(
     }
     let equations = sizes.m;
     let p = o.progress;
-    accepted(rows, equations, rows::validity::span(sizes), side, p)
+    accepted(rows, equations, stores::validity::span(sizes), side, p)
 }
 
 // A run on stores that pass the checks, and what it leaves.
 fn checked_run(
     rows: &mut [i64],
     relations: &mut [i64],
-    sizes: rows::validity::Sizes,
+    sizes: stores::validity::Sizes,
     count: usize,
     side: Side,
 ) -> RunResult
@@ -159,7 +159,7 @@ fn checked_run(
         ≡ Calls.callRun (sideOf side) (sizesOf sizes) count (now (rows .entry)) (now (relations .entry)) ⌝ }
 {
     let equations = sizes.m;
-    let span = rows::validity::span(sizes);
+    let span = stores::validity::span(sizes);
     let o = whole_run(rows, relations, equations, span, side, count);
     ended(rows, sizes, side, o)
 }
@@ -168,7 +168,7 @@ fn checked_run(
 pub fn leading_run(
     rows: &mut [i64],
     relations: &mut [i64],
-    sizes: rows::validity::Sizes,
+    sizes: stores::validity::Sizes,
     count: usize,
 ) -> RunResult
     requires { ⌜ checkStores (sizesOf sizes) count (now rows) (now relations) ≡ 0 ⌝ }
@@ -182,14 +182,14 @@ pub fn leading_run(
 pub fn called(
     rows: &mut [i64],
     relations: &mut [i64],
-    sizes: rows::validity::Sizes,
+    sizes: stores::validity::Sizes,
     count: usize,
     side: Side,
 ) -> RunResult
     ensures { λ r. ⌜ callOf r (now (rows .exit)) (now (relations .exit))
         ≡ Calls.callRun (sideOf side) (sizesOf sizes) count (now (rows .entry)) (now (relations .entry)) ⌝ }
 {
-    let refusal = rows::validity::check_stores(rows, relations, sizes, count);
+    let refusal = stores::validity::check_stores(rows, relations, sizes, count);
     if refusal != 0 {
         return refused(refusal);
     }

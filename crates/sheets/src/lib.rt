@@ -2,7 +2,7 @@
 // `requires`, and a contract that gives the result and every lent store by equations with `rules`.
 ghost use mathlib.Core.Path.{_≡_};
 ghost use Rattle.rules.specs.SheetCalls.{readCall, writeCall};
-ghost use Rattle.rows.specs.Validity.{sizesOf};
+ghost use Rattle.stores.specs.Validity.{sizesOf};
 ghost use Rattle.reading.specs.ReadCalls as ReadCalls;
 ghost use Rattle.writing.specs.WriterChecks.{callOf};
 pub use reading::sheet::SheetResult;
@@ -24,7 +24,7 @@ pub fn read_sheet(bytes: &[u8], rows: &mut [i64], relations: &mut [i64]) -> Shee
 pub fn write_sheet(
     rows: &[i64],
     relations: &[i64],
-    sizes: rows::validity::Sizes,
+    sizes: stores::validity::Sizes,
     count: usize,
     order: [usize; 4],
     bytes: &mut [u8],

@@ -30,8 +30,8 @@ use Rattle.lists.specs.Taken.{drop-take, first-and-rest, rest-of, rest-past}
 use Rattle.rules.specs.Stores.{rowOf, rowsOf, relationOf, relationsOf, relationNumbers, rowNeed, relationNeed}
 use Rattle.lists.specs.Parts.{parts, parts-length, parts-width, getD-parts}
 use Rattle.polynomials.specs.Content.{small-at}
-use Rattle.rows.specs.Validity.{index-at, row-after}
-use Rattle.working.specs.Mirroring.{length-mirrorRow, rowOf-mirrorRow, small-mirrorRow}
+use Rattle.stores.specs.Validity.{index-at, row-after}
+use Rattle.working_rows.specs.Mirroring.{length-mirrorRow, rowOf-mirrorRow, small-mirrorRow}
 use Rattle.sides.specs.Lent.{Within, Listing, Kept}
 use Rattle.sides.specs.StoreStates.{part-small, within-paste, kept-paste, kept-same, kept-then}
 use Rattle.lists.specs.Pasted.{parts-paste}

@@ -36,7 +36,7 @@ use Rattle.rules.specs.Layout.{length-rowsOf, polynomial-at}
 use Rattle.rules.specs.Calls.{rootFound, rootValue}
 use Rattle.roots.specs.declared.RootAnswer.{RootAnswer}
 use Rattle.roots.specs.RootSearch.{answered}
-use Rattle.working.specs.Found.{Columns, Columns-at}
+use Rattle.working_rows.specs.Found.{Columns, Columns-at}
 use Rattle.sides.specs.Lent.{Within}
 use Rattle.sides.specs.StoreStates.{part-small}
 

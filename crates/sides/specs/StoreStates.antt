@@ -23,7 +23,7 @@ use Rattle.lists.specs.Tests.{every, every-drop, every-part}
 use Rattle.lists.specs.Images.{map-set}
 use Rattle.rules.specs.Stores.{rowOf, rowsOf, relationOf, relationsOf, relationNeed}
 use Rattle.lists.specs.Parts.{parts, getD-parts, parts-take}
-use Rattle.rows.specs.Flat.{isZero-every}
+use Rattle.stores.specs.Flat.{isZero-every}
 use Rattle.lists.specs.Pasted.{paste-rest, take-paste-within, every-paste, parts-paste, parts-paste-end}
 use Rattle.sides.specs.Lent.{Within, Listing, Kept}
 

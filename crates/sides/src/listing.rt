@@ -1,7 +1,7 @@
 // Rule 3: relations listed in the relation store.
 use crate::Side;
-use rows::lengths::RELATION;
-use rows::lengths::ROW;
+use stores::lengths::RELATION;
+use stores::lengths::ROW;
 ghost use mathlib.Core.Path.{_≡_};
 ghost use mathlib.Core.List.{_∷_};
 ghost use Prim.Native.Nat.{_+_, _*_, _≤_, _<_};
@@ -23,7 +23,7 @@ pub fn save_relation(relations: &mut [i64], k: usize, n0: i64, row: [i64; ROW])
 {
     let at = k * RELATION;
     relations[at] = n0;
-    rows::stores::save(relations, at + 1, row);
+    stores::rows::save(relations, at + 1, row);
 }
 
 // On the trailing side from the largest root down, so that n0 as given back ascends (SCOPE 2.33).

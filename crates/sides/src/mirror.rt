@@ -1,6 +1,6 @@
 // The mirror of what the stores hold, before a run on the trailing side and after it.
-use rows::lengths::RELATION;
-use rows::lengths::ROW;
+use stores::lengths::RELATION;
+use stores::lengths::ROW;
 ghost use Prim.Native.Nat.{_≤_};
 ghost use Rattle.rules.specs.Stores.{rowNeed};
 ghost use Rattle.sides.specs.Lent.{Within, Listing};
@@ -14,8 +14,8 @@ pub fn mirror_rows(store: &mut [i64], equations: usize, span: usize)
     let mut i = 0;
     while i < equations {
         let at = i * ROW;
-        let row = rows::stores::load(store, at);
-        rows::stores::save(store, at, working::mirroring::mirrored(row, span));
+        let row = stores::rows::load(store, at);
+        stores::rows::save(store, at, working_rows::mirroring::mirrored(row, span));
         i += 1;
     }
 }
@@ -29,12 +29,12 @@ pub fn mirror_relations(store: &mut [i64], count: usize, span: usize)
     while k < count {
         let at = k * RELATION;
         let n0 = store[at];
-        let row = rows::stores::load(store, at + 1);
+        let row = stores::rows::load(store, at + 1);
         super::listing::save_relation(
             store,
             k,
             integers::negated(n0),
-            working::mirroring::mirrored(row, span),
+            working_rows::mirroring::mirrored(row, span),
         );
         k += 1;
     }

@@ -1,9 +1,9 @@
 // The root report over the rows of a store.
 use crate::Side;
 use polynomials::lengths::COEFFICIENTS;
-use rows::lengths::BLOCK;
-use rows::lengths::COLUMNS;
-use rows::lengths::ROW;
+use stores::lengths::BLOCK;
+use stores::lengths::COLUMNS;
+use stores::lengths::ROW;
 ghost use mathlib.Core.Path.{_≡_};
 ghost use Prim.Native.Nat.{_≤_};
 ghost use lib.Dec.{T};
@@ -14,7 +14,7 @@ ghost use Rattle.lists.specs.Tests.{every};
 ghost use Rattle.rules.specs.Stores.{rowNeed};
 ghost use Rattle.rules.specs.Elimination as Elimination;
 ghost use Rattle.roots.specs.RootSearch.{answered};
-ghost use Rattle.working.specs.Found.{Columns};
+ghost use Rattle.working_rows.specs.Found.{Columns};
 ghost use Rattle.sides.specs.Lent.{sideOf, Within};
 ghost use Rattle.sides.specs.ReportLaws.{isBeyond, furtherOf, optionOf, settledState};
 

@@ -47,7 +47,7 @@ use Rattle.lists.specs.Parts.{parts, parts-next, parts-end, held-next, held-end
 use Rattle.rules.specs.Layout.{length-rowsOf, length-relationsOf, blockOf, coefficientsAt, blockAt, polynomialsIn}
 use Rattle.rules.specs.Sheets.{Sheet, Term, trim, blockTerms, termsFrom, termNumbers}
 use Rattle.rules.specs.Sheets.{equationNumbers, relationLine, orderLine, sheetLines, writeSheet}
-use Rattle.rows.specs.Flat.{polynomials-rowOf}
+use Rattle.stores.specs.Flat.{polynomials-rowOf}
 use Rattle.rules.specs.Numbers.{space, newline, minus, decimalWithin, decimal, line, lines}
 use Rattle.tokens.specs.WrittenNumbers.{decimalWithin-bound, length-decimalWithin}
 use Rattle.lists.specs.Pasted.{sets-append, sets-later}

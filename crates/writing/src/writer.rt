@@ -1,12 +1,12 @@
 // Writing a sheet. Each writing function stores its bytes from a place on, as far as the store goes, counts them all and gives
 // the next place: called on an empty part of the store it only counts, so that nothing is written before it is known to fit.
 use polynomials::lengths::COEFFICIENTS;
-use rows::lengths::BLOCK;
-use rows::lengths::BLOCKS;
-use rows::lengths::COLUMNS;
-use rows::lengths::POLYNOMIALS;
-use rows::lengths::RELATION;
-use rows::lengths::ROW;
+use stores::lengths::BLOCK;
+use stores::lengths::BLOCKS;
+use stores::lengths::COLUMNS;
+use stores::lengths::POLYNOMIALS;
+use stores::lengths::RELATION;
+use stores::lengths::ROW;
 
 mod checks;
 
@@ -30,7 +30,7 @@ ghost use Rattle.writing.specs.Writer.{Put, digitsOf, spaced, SmallParts
 ghost use Rattle.writing.specs.WriterChecks.{Checked, callOf};
 ghost use Rattle.rules.specs.SheetCalls.{checkWrite, writeCall};
 ghost use Rattle.rules.specs.Layout.{blockOf, polynomialsIn};
-ghost use Rattle.rows.specs.Validity.{sizesOf};
+ghost use Rattle.stores.specs.Validity.{sizesOf};
 
 // The bytes of the longest term, of the longest line of an equation and of a relation, and of the other lines of a sheet together,
 // as in `specs/SheetBytes.antt`: a space and a number take at most 11 bytes, a space and a count 21.
@@ -357,7 +357,7 @@ fn put_sheet(
     bytes: &mut [u8],
     rows: &[i64],
     relations: &[i64],
-    sizes: rows::validity::Sizes,
+    sizes: stores::validity::Sizes,
     count: usize,
     columns: &[usize],
 ) -> usize
@@ -390,7 +390,7 @@ pub struct WriteResult {
 pub fn write_checked(
     rows: &[i64],
     relations: &[i64],
-    sizes: rows::validity::Sizes,
+    sizes: stores::validity::Sizes,
     count: usize,
     order: [usize; COLUMNS],
     bytes: &mut [u8],
@@ -425,7 +425,7 @@ pub fn write_checked(
 pub fn write_sheet(
     rows: &[i64],
     relations: &[i64],
-    sizes: rows::validity::Sizes,
+    sizes: stores::validity::Sizes,
     count: usize,
     order: [usize; COLUMNS],
     bytes: &mut [u8],

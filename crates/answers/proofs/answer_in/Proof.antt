@@ -13,7 +13,7 @@ use lib.Seq.{length-take-le}
 use Rattle.rules.specs.Stores.{equations, largestRows, relationNeed, checkStores}
 use Rattle.rules.specs.Calls.{Call, zeros}
 use Rattle.rules.specs.SheetCalls.{ReadCall, WriteCall}
-use Rattle.rows.specs.Validity.{sizesOf}
+use Rattle.stores.specs.Validity.{sizesOf}
 use Rattle.reading.specs.Zeros.{length-zeros, zero-again}
 use Rattle.reading.specs.WholeSheet.{resultOf}
 use Rattle.reading.specs.ReadCalls as ReadCalls

@@ -14,7 +14,7 @@ use Rattle.rules.specs.Rows.{Row, combine, primitive, cut, lowDegrees, coeffici
 use Rattle.rules.specs.Stores.{rowOf}
 use Rattle.rules.specs.Layout.{coefficientsOf-rowOf-all}
 use Rattle.polynomials.specs.Content.{Below}
-use Rattle.working.specs.Worked.{Shown, limit-same}
+use Rattle.working_rows.specs.Worked.{Shown, limit-same}
 use Rattle.combinations.specs.Combination.{cut-low, numbers-below}
 use Rattle.combinations.specs.Primitive.{primitiveNumbers, limit-past, limit-low, cut-primitive}
 use Rattle.combinations.proofs.combined.Statement.{statement}

@@ -16,7 +16,7 @@ use Rattle.algebra.specs.Polynomials.{Polynomial, add, mul}
 use Rattle.rules.specs.Limits.{coefficientCount, polynomialCount, rowLength}
 use Rattle.rules.specs.Rows.{combine, mapRow, coefficientsOf}
 use Rattle.rules.specs.Stores.{rowOf}
-use Rattle.rows.specs.OverZeros.{front, length-front, front-none, front-whole, front-put, front-skip}
+use Rattle.stores.specs.OverZeros.{front, length-front, front-none, front-whole, front-put, front-skip}
 use Rattle.combinations.specs.Combination.{lowPart, length-low, trimmed-low, trimmed-zero, Trimmed, trimmed-fit}
 use Rattle.combinations.proofs.low_combination.Statement.{statement}
 use Rattle.combinations.proofs.low_combination.Tie as tie

@@ -16,7 +16,7 @@ use Rattle.rules.specs.Rows.{combine}
 use Rattle.lists.specs.Tests.{every, every-longer, every-false}
 use Rattle.rules.specs.Limits.{coefficientCount, polynomialCount}
 use Rattle.rules.specs.Stores.{rowOf}
-use Rattle.rows.specs.Flat.{polynomialsOf}
+use Rattle.stores.specs.Flat.{polynomialsOf}
 use Rattle.combinations.specs.Combination.{low-degrees, length-polynomials, trimmed-high, Trimmed, trimmed-fit}
 use Rattle.combinations.proofs.past_degree.Statement.{statement}
 use Rattle.combinations.proofs.past_degree.Tie as tie

@@ -15,7 +15,7 @@ use borrow.Author.Tests.{not-true, not-false, le-leb, lt-leb}
 use Rattle.rules.specs.Calls.{placeRight, polynomialCheck}
 use Rattle.rules.specs.Stores.{Sizes, equations, rowNeed, sizesRight}
 use Rattle.rules.specs.Layout.{size-bounds}
-use Rattle.rows.specs.Validity.{sizesOf}
+use Rattle.stores.specs.Validity.{sizesOf}
 use Rattle.lists.specs.Tests.{true-T}
 use Rattle.elimination.proofs.check_polynomial.Statement.{statement}
 use Rattle.elimination.proofs.check_polynomial.Tie as tie

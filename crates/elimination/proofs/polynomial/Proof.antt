@@ -12,7 +12,7 @@ use borrow.Author.Needs.{needs}
 use Rattle.rules.specs.Stores.{Sizes, rowNeed}
 use Rattle.rules.specs.Calls.{polynomialCheck, polynomialPlace, partAt, polynomialPart}
 use Rattle.rules.specs.Layout.{polynomialCheck-zero, size-bounds, place-bounds, block-place}
-use Rattle.rows.specs.Validity.{sizesOf}
+use Rattle.stores.specs.Validity.{sizesOf}
 use Rattle.elimination.proofs.polynomial.Statement.{statement}
 use Rattle.elimination.proofs.polynomial.Tie as tie
 

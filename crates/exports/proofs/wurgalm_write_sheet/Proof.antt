@@ -3,7 +3,7 @@
 use mathlib.Core.Path.{_∙_, ap}
 use borrow.Author.Needs.{needs}
 use denote.Ref.{now}
-use Rattle.rows.specs.Validity.{sizesOf}
+use Rattle.stores.specs.Validity.{sizesOf}
 use Rattle.exports.specs.Results.{sizes-told}
 use Rattle.exports.specs.Writes.{exportWrite}
 use Rattle.exports.proofs.wurgalm_write_sheet.Statement.{statement}

@@ -5,7 +5,7 @@ use native.Mathlib.Omega.{arith}
 use mathlib.Core.Path.{sym, ap}
 use lib.ListN.{length}
 use lib.Seq.{length-take-le}
-use Rattle.rows.specs.Validity.{sizesOf}
+use Rattle.stores.specs.Validity.{sizesOf}
 use Rattle.known.specs.SheetFits.{write-fits}
 use borrow.Author.Needs.{needs}
 use Rattle.known.proofs.print_sheet.Statement.{statement}

@@ -9,7 +9,7 @@ use lib.ListN.{length}
 use Rattle.rules.specs.Limits.{relationLength}
 use Rattle.rules.specs.Stores.{relationNeed}
 use Rattle.rules.specs.Calls.{zeros}
-use Rattle.rows.specs.Validity.{sizesOf}
+use Rattle.stores.specs.Validity.{sizesOf}
 use Rattle.reading.specs.Zeros.{length-zeros, take-zeros}
 use Rattle.reading.specs.WholeSheet.{HeadTo}
 use Rattle.reading.specs.ReadCalls.{call-unread, call-faults}

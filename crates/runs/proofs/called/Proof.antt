@@ -3,7 +3,7 @@
 use mathlib.Core.Path.{sym, _∙_}
 use borrow.Author.Needs.{needs}
 use denote.Ref.{now}
-use Rattle.rows.specs.Validity.{sizesOf}
+use Rattle.stores.specs.Validity.{sizesOf}
 use Rattle.sides.specs.Lent.{sideOf}
 use Rattle.runs.specs.CallLaws.{call-refused}
 use Rattle.runs.proofs.called.Statement.{statement}

@@ -7,7 +7,7 @@ use denote.Ref.{now}
 use lib.IntN.{ℤ}
 use Rattle.rules.specs.Elimination.{Side, wholeRun}
 use Rattle.rules.specs.Stores.{Sizes, equations, span, rowsOf, relationsOf}
-use Rattle.rows.specs.Validity.{sizesOf}
+use Rattle.stores.specs.Validity.{sizesOf}
 use Rattle.sides.specs.Lent.{sideOf}
 use Rattle.reduction.specs.Ran.{Ran}
 use Rattle.runs.specs.CallLaws.{few-equations, few-blocks, Checked, checked, final-run, call-run}

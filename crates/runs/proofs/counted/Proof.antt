@@ -5,7 +5,7 @@ use Prim.Native.Nat.{_-_, _≤_}
 use native.Mathlib.Omega.{arith}
 use lib.ListN.{length, take}
 use Rattle.rules.specs.Calls.{reportedOrder}
-use Rattle.working.specs.Found.{Columns-at}
+use Rattle.working_rows.specs.Found.{Columns-at}
 use Rattle.runs.specs.CallLaws.{counted-none, counted-next}
 use Rattle.runs.proofs.counted.Statement.{statement}
 use Rattle.runs.proofs.counted.Tie as tie

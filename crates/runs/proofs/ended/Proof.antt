@@ -4,7 +4,7 @@ use mathlib.Core.Path.{_∙_, ap}
 use denote.Ref.{now}
 use Rattle.rules.specs.Stores.{equations, span}
 use Rattle.rules.specs.Calls.{acceptance}
-use Rattle.rows.specs.Validity.{sizesOf}
+use Rattle.stores.specs.Validity.{sizesOf}
 use Rattle.sides.specs.Lent.{sideOf}
 use Rattle.reduction.specs.Progress.{stateOf}
 use Rattle.runs.specs.CallLaws.{few-equations, few-blocks, ended-refused, ended-accepted}

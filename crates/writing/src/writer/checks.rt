@@ -6,7 +6,7 @@ ghost use lib.Dec.{eqb};
 ghost use Rattle.lists.specs.Tests.{every};
 ghost use Rattle.rules.specs.Sheets as Sheets;
 ghost use Rattle.rules.specs.SheetCalls.{differentColumns, orderRight, checkWrite};
-ghost use Rattle.rows.specs.Validity.{sizesOf};
+ghost use Rattle.stores.specs.Validity.{sizesOf};
 
 fn all_zero(numbers: &[usize]) -> bool
     ensures { λ r. ⌜ r ≡ every (eqb 0) (now (numbers .entry)) ⌝ }
@@ -78,17 +78,17 @@ pub fn order_length(order: [usize; 4], m: usize) -> usize
 pub fn check_write(
     rows: &[i64],
     relations: &[i64],
-    sizes: rows::validity::Sizes,
+    sizes: stores::validity::Sizes,
     count: usize,
     order: [usize; 4],
 ) -> u8
     ensures { λ r. ⌜ r ≡ checkWrite (sizesOf sizes) count order (now (rows .entry)) (now (relations .entry)) ⌝ }
 {
-    if !rows::validity::sizes_right(sizes) {
+    if !stores::validity::sizes_right(sizes) {
         return 2;
     }
     if !order_right(order, sizes.m) {
         return 2;
     }
-    rows::validity::check_stores(rows, relations, sizes, count)
+    stores::validity::check_stores(rows, relations, sizes, count)
 }

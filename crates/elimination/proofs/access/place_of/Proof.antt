@@ -12,7 +12,7 @@ use borrow.Author.Needs.{sfits-of}
 use Rattle.integers.specs.Ranges.{sfits-size}
 use Rattle.rules.specs.Layout.{SizeBounds, size-bounds, equations-few, PlaceBounds, place-bounds, block-place}
 use Rattle.rules.specs.Calls.{polynomialPlace}
-use Rattle.rows.specs.Validity.{sizesOf, difference-nonneg}
+use Rattle.stores.specs.Validity.{sizesOf, difference-nonneg}
 use Rattle.elimination.proofs.access.place_of.Statement.{statement}
 use Rattle.elimination.proofs.access.place_of.Tie as tie
 

@@ -10,8 +10,8 @@ use mir.Syntax.{w64}
 use mir.Facts.{toZ-ofZ}
 use Rattle.rules.specs.Stores.{equations}
 use Rattle.rules.specs.Calls.{placeRight}
-use Rattle.rows.specs.declared.validity.Sizes.{Sizes}
-use Rattle.rows.specs.Validity.{sizesOf}
+use Rattle.stores.specs.declared.validity.Sizes.{Sizes}
+use Rattle.stores.specs.Validity.{sizesOf}
 use Rattle.lists.specs.Tests.{first-failed, second-failed, both-passed}
 use Rattle.elimination.proofs.access.place_right.Statement.{statement}
 use Rattle.elimination.proofs.access.place_right.Tie as tie

@@ -9,7 +9,7 @@ use lib.IntN.{ℤ}
 use Rattle.rules.specs.Elimination.{Side}
 use Rattle.rules.specs.Stores.{Sizes}
 use Rattle.sides.specs.Lent.{sideOf}
-use Rattle.rows.specs.Validity.{sizesOf}
+use Rattle.stores.specs.Validity.{sizesOf}
 use Rattle.runs.specs.CallLaws.{resultOf, callOf}
 use Rattle.exports.specs.Results.{kept}
 use Rattle.exports.specs.Runs.{run-short, run-small, run-done}

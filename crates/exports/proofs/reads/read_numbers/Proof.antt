@@ -10,7 +10,7 @@ use lib.ListN.{getD}
 use mir.Syntax.{w64}
 use mir.Facts.{toZ-ofZ}
 use Rattle.lists.specs.Everywhere.{all-getD-default}
-use Rattle.rows.specs.Validity.{sizesOf}
+use Rattle.stores.specs.Validity.{sizesOf}
 use Rattle.reading.specs.WholeSheet.{resultOf}
 use Rattle.exports.specs.Results.{small-fits, small-value, four-columns}
 use Rattle.exports.specs.Reads.{readNumbers}

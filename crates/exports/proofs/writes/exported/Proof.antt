@@ -17,7 +17,7 @@ use mir.Facts.{toZ-pos}
 use Rattle.integers.specs.Ranges.{sfits-size}
 use Rattle.rules.specs.Stores.{Sizes}
 use Rattle.rules.specs.SheetCalls.{writeCall}
-use Rattle.rows.specs.Validity.{sizesOf}
+use Rattle.stores.specs.Validity.{sizesOf}
 use Rattle.writing.specs.WriterChecks.{callOf}
 use Rattle.exports.specs.Results.{onAcceptance-none, onAcceptance-some}
 use Rattle.lists.specs.Overwritten.{set-overwrite}

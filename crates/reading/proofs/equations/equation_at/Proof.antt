@@ -15,7 +15,7 @@ use Rattle.rules.specs.Sheets.{afterCount, blankRow}
 use Rattle.rules.specs.Layout.{size-bounds}
 use Rattle.tokens.specs.Fields.{Answers, answer-fault, answer-got, refuses, answers-as, then-got, then-fault, field-judged, between-zero}
 use Rattle.reading.specs.Equations.{termsInto, termsOf, equation-is}
-use Rattle.rows.specs.Validity.{sizesOf}
+use Rattle.stores.specs.Validity.{sizesOf}
 use Rattle.reading.proofs.equations.equation_at.Statement.{statement}
 use Rattle.reading.proofs.equations.equation_at.Tie as tie
 

@@ -17,7 +17,7 @@ use Rattle.integers.specs.Ranges.{sfits-size}
 use Rattle.rules.specs.Limits.{mostSpan, blockCount, polynomialCount}
 use Rattle.rules.specs.Stores.{span}
 use Rattle.rules.specs.Layout.{SizeBounds, size-bounds, block-place}
-use Rattle.rows.specs.Validity.{sizesOf}
+use Rattle.stores.specs.Validity.{sizesOf}
 use Rattle.reading.proofs.equations.most_terms.Statement.{statement}
 use Rattle.reading.proofs.equations.most_terms.Tie as tie
 

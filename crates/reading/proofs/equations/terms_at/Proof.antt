@@ -24,7 +24,7 @@ use Rattle.reading.specs.Zeros.{length-zeros}
 use Rattle.reading.specs.Terms.{termOf, readPlace, readPolynomial, withPlace, readPadded-is, placeInRow}
 use Rattle.reading.specs.Equations.{lent-long, TermRight, place-right, term-place, place-fits, TermsTo, terms-begin, terms-end}
 use Rattle.reading.specs.Equations.{terms-refused, terms-go-on, zeros-blank}
-use Rattle.rows.specs.Validity.{sizesOf}
+use Rattle.stores.specs.Validity.{sizesOf}
 use Rattle.reading.specs.declared.terms.PlaceRead.{PlaceRead}
 use Rattle.reading.proofs.equations.terms_at.Statement.{statement}
 use Rattle.reading.proofs.equations.terms_at.Tie as tie

@@ -13,7 +13,7 @@ use Rattle.rules.specs.Limits.{rowLength, relationLength}
 use Rattle.rules.specs.Stores.{equations, largestRows, relationNeed}
 use Rattle.rules.specs.Calls.{zeros}
 use Rattle.rules.specs.SheetCalls.{readCall}
-use Rattle.rows.specs.Validity.{sizesOf}
+use Rattle.stores.specs.Validity.{sizesOf}
 use Rattle.reading.specs.Zeros.{length-zeros, take-zeros, zero-again}
 use Rattle.reading.specs.WholeSheet.{resultOf, HeadTo, SheetRead}
 use Rattle.reading.specs.ReadCalls.{callOf, call-unread, call-faults, call-refuses}

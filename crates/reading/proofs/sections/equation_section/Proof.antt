@@ -15,7 +15,7 @@ use Rattle.rules.specs.Sheets.{always}
 use Rattle.rules.specs.Limits.{mostEquations}
 use Rattle.tokens.specs.Fields.{Answers, answer-fault, answer-got, refuses, answers-as, then-got, then-fault}
 use Rattle.reading.specs.WholeSheet.{equationSection}
-use Rattle.rows.specs.Validity.{sizesOf}
+use Rattle.stores.specs.Validity.{sizesOf}
 use Rattle.reading.proofs.sections.equation_section.Statement.{statement}
 use Rattle.reading.proofs.sections.equation_section.Tie as tie
 

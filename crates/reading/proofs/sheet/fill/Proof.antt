@@ -11,7 +11,7 @@ use lib.ListN.{length}
 use Rattle.rules.specs.Limits.{relationLength}
 use Rattle.rules.specs.Layout.{lengthsRight-iff}
 use Rattle.rules.specs.Stores.{rowNeed, equations}
-use Rattle.rows.specs.Validity.{sizesOf}
+use Rattle.stores.specs.Validity.{sizesOf}
 use Rattle.lists.specs.Tests.{true-T}
 use Rattle.reading.specs.Zeros.{length-zeros}
 use Rattle.reading.specs.WholeSheet.{resultOf, SheetRead}

@@ -24,7 +24,7 @@ use Rattle.tokens.specs.Fields.{answer-fault, answer-got, then-fault, field-jud
 use Rattle.reading.specs.Zeros.{length-zeros, take-zeros}
 use Rattle.reading.specs.Sections.{rowsOf-front}
 use Rattle.reading.specs.WholeSheet.{equationSection, sizes-right, sheet-is, head-refuses, equations-fault, count-fault, count-got}
-use Rattle.rows.specs.Validity.{sizesOf}
+use Rattle.stores.specs.Validity.{sizesOf}
 use Rattle.reading.proofs.sheet.head_at.Statement.{statement}
 use Rattle.reading.proofs.sheet.head_at.Tie as tie
 

@@ -3,7 +3,7 @@
 use mathlib.Core.Path.{refl}
 use Rattle.rules.specs.SheetCalls.{readRefusal}
 use Rattle.reading.specs.WholeSheet.{resultOf}
-use Rattle.rows.specs.Validity.{sizesOf}
+use Rattle.stores.specs.Validity.{sizesOf}
 use Rattle.reading.proofs.sheet.refused.Statement.{statement}
 use Rattle.reading.proofs.sheet.refused.Tie as tie
 

@@ -7,7 +7,7 @@ use Rattle.rules.specs.Layout.{size-bounds, equations-few}
 use Rattle.tokens.specs.Fields.{answer-fault, answer-got}
 use Rattle.reading.specs.WholeSheet.{resultOf, relations-fault, order-fault, order-got, refused-nonzero, sheet-refuses, sheet-gives}
 use Rattle.reading.specs.WholeSheet.{end-early}
-use Rattle.rows.specs.Validity.{sizesOf}
+use Rattle.stores.specs.Validity.{sizesOf}
 use Rattle.reading.proofs.sheet.rest_at.Statement.{statement}
 use Rattle.reading.proofs.sheet.rest_at.Tie as tie
 

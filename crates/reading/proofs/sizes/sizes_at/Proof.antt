@@ -11,7 +11,7 @@ use mir.Facts.{toZ-ofZ, fits-natAbs}
 use Rattle.rules.specs.Numbers.{got}
 use Rattle.tokens.specs.Fields.{answer-fault, answer-got, refuses, gives, then-got, then-fault}
 use Rattle.reading.specs.WholeSheet.{readUnknowns, sizesThen, sizes-is, unknowns-right}
-use Rattle.rows.specs.Validity.{sizesOf}
+use Rattle.stores.specs.Validity.{sizesOf}
 use Rattle.reading.proofs.sizes.sizes_at.Statement.{statement}
 use Rattle.reading.proofs.sizes.sizes_at.Tie as tie
 

@@ -5,7 +5,7 @@ use borrow.Author.Needs.{needs}
 use mir.Facts.{toZ-ofZ}
 use Rattle.rules.specs.Sheets.{judgeColumn, always}
 use Rattle.tokens.specs.Fields.{answers-field}
-use Rattle.rows.specs.Validity.{sizesOf}
+use Rattle.stores.specs.Validity.{sizesOf}
 use Rattle.reading.proofs.terms.column_at.Statement.{statement}
 use Rattle.reading.proofs.terms.column_at.Tie as tie
 

@@ -11,7 +11,7 @@ use mir.Syntax.{w64}
 use mir.Val.{toZ}
 use mir.Facts.{toZ-ofZ, toZ-pos}
 use Rattle.rules.specs.Sheets.{judgeColumn}
-use Rattle.rows.specs.Validity.{sizesOf}
+use Rattle.stores.specs.Validity.{sizesOf}
 use Rattle.reading.proofs.terms.judge_column.Statement.{statement}
 use Rattle.reading.proofs.terms.judge_column.Tie as tie
 

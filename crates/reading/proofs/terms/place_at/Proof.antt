@@ -12,7 +12,7 @@ use Rattle.rules.specs.Numbers.{Read, got, field}
 use Rattle.rules.specs.Sheets.{always, judgeBlock, judgeColumn}
 use Rattle.tokens.specs.Fields.{Answers, answer-fault, answer-got, refuses, gives, then-got, then-fault, field-judged}
 use Rattle.reading.specs.Terms.{ColumnRight, column-zero, readPlace}
-use Rattle.rows.specs.Validity.{sizesOf}
+use Rattle.stores.specs.Validity.{sizesOf}
 use Rattle.reading.proofs.terms.place_at.Statement.{statement}
 use Rattle.reading.proofs.terms.place_at.Tie as tie
 

@@ -19,8 +19,8 @@ use Rattle.lists.specs.Tests.{every}
 use Rattle.rules.specs.Stores.{rowOf}
 use Rattle.rules.specs.Elimination.{Side, Limited, limitDegrees, Multipliers, multipliers, multipliersAt, listing, combineStep}
 use Rattle.roots.specs.RootSearch.{listed, held, held-of, roots-few}
-use Rattle.working.specs.Found.{Columns-at}
-use Rattle.working.specs.Worked.{refusalOf, numbersOf}
+use Rattle.working_rows.specs.Found.{Columns-at}
+use Rattle.working_rows.specs.Worked.{refusalOf, numbersOf}
 use Rattle.reduction.specs.declared.step.Progress.{Progress}
 use Rattle.sides.specs.Lent.{sideOf}
 use Rattle.reduction.specs.Progress.{Ready, stateOf, answerOf, listedProgress}

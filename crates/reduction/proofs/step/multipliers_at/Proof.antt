@@ -11,7 +11,7 @@ use Rattle.rules.specs.Limits.{coefficientCount}
 use Rattle.rules.specs.Rows.{entry}
 use Rattle.rules.specs.Elimination.{multipliers}
 use Rattle.rules.specs.Stores.{rowOf}
-use Rattle.rows.specs.Flat.{entry-at}
+use Rattle.stores.specs.Flat.{entry-at}
 use Rattle.reduction.specs.StoreExchange.{length-entry, small-entry}
 use Rattle.reduction.proofs.step.multipliers_at.Statement.{statement}
 use Rattle.reduction.proofs.step.multipliers_at.Tie as tie

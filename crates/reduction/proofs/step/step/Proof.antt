@@ -16,8 +16,8 @@ use Rattle.rules.specs.Rows.{Row, zeroRow, leadingBlock, firstNonzero}
 use Rattle.lists.specs.Tests.{every}
 use Rattle.rules.specs.Stores.{rowOf}
 use Rattle.rules.specs.Elimination.{Side, multipliersAt, combineStep}
-use Rattle.working.specs.Found.{foundOr, entriesAt}
-use Rattle.working.specs.Worked.{refusalOf, numbersOf}
+use Rattle.working_rows.specs.Found.{foundOr, entriesAt}
+use Rattle.working_rows.specs.Worked.{refusalOf, numbersOf}
 use Rattle.reduction.specs.declared.step.Progress.{Progress}
 use Rattle.sides.specs.Lent.{sideOf}
 use Rattle.reduction.specs.Progress.{Ready, Reached, stateOf, answerOf, shiftedProgress}

@@ -14,7 +14,7 @@ use Rattle.rules.specs.Limits.{blockBound}
 use Rattle.rules.specs.Numbers.{line, lines}
 use Rattle.rules.specs.Sheets.{equationNumbers, relationLine, orderLine}
 use Rattle.rules.specs.Stores.{equations, rowsOf, relationsOf}
-use Rattle.rows.specs.Validity.{sizesOf}
+use Rattle.stores.specs.Validity.{sizesOf}
 use Rattle.writing.specs.Writer.{put-same, put-then, put-wide, small-block, sheet-bytes}
 use Rattle.writing.proofs.writer.put_sheet.Statement.{statement}
 use Rattle.writing.proofs.writer.put_sheet.Tie as tie

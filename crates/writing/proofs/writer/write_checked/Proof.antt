@@ -16,7 +16,7 @@ use Rattle.rules.specs.Limits.{columnCount}
 use Rattle.rules.specs.Sheets.{writeSheet}
 use Rattle.rules.specs.SheetCalls.{WriteCall, sheetOf, unwritten, writeCall}
 use Rattle.rules.specs.Stores.{Sizes, equations}
-use Rattle.rows.specs.Validity.{sizesOf}
+use Rattle.stores.specs.Validity.{sizesOf}
 use Rattle.writing.specs.Writer.{Put, sheetGiven}
 use Rattle.lists.specs.Pasted.{sets-out}
 use Rattle.writing.specs.WriterChecks.{Checked, checked, sheet-given, given-few}

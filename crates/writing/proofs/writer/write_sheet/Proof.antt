@@ -3,7 +3,7 @@
 use mathlib.Core.Path.{sym, _∙_}
 use denote.Ref.{now}
 use Rattle.rules.specs.SheetCalls.{unwritten}
-use Rattle.rows.specs.Validity.{sizesOf}
+use Rattle.stores.specs.Validity.{sizesOf}
 use Rattle.writing.specs.WriterChecks.{call-refused}
 use borrow.Author.Needs.{needs}
 use Rattle.writing.proofs.writer.write_sheet.Statement.{statement}

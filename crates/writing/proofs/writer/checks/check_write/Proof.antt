@@ -9,7 +9,7 @@ use denote.Ref.{now}
 use Rattle.rules.specs.SheetCalls.{orderRight, checkWrite}
 use Rattle.rules.specs.Stores.{Sizes, checkStores}
 use Rattle.rules.specs.Layout.{size-bounds}
-use Rattle.rows.specs.Validity.{sizesOf}
+use Rattle.stores.specs.Validity.{sizesOf}
 use Rattle.lists.specs.Tests.{true-T}
 use Rattle.writing.specs.WriterChecks.{checkWrite-order, checkWrite-sizes}
 use Rattle.writing.proofs.writer.checks.check_write.Statement.{statement}

@@ -1,0 +1,128 @@
+-- `working_rows::entries::width` meets its contract. The loop's invariant: the first blocks that are left have the width of the row.
+-- Assumes nothing.
+use mathlib.Core.Path.{_≡_, sym, _∙_, ap}
+use mathlib.Core.List.{List, []}
+use Prim.Native.Nat.{ℕ, suc, _*_, _-_, _≤_, _<_}
+use native.Mathlib.Nat.{le-of-eq}
+use native.Mathlib.Omega.{arith}
+use borrow.Author.Needs.{needs}
+use borrow.Author.Tests.{not-true, not-false}
+use lib.IntN.{ℤ}
+use lib.ListN.{length, take, drop, getD}
+use lib.Seq.{take-all}
+use Rattle.algebra.specs.Polynomials.{isZero}
+use Rattle.rules.specs.Limits.{blockCount, blockLength, rowLength}
+use Rattle.rules.specs.Rows.{zeroBlock, width, widthOf}
+use Rattle.rules.specs.Stores.{rowOf}
+use Rattle.stores.specs.Flat.{zeroBlock-at, length-blocks}
+use Rattle.working_rows.specs.Found.{widthOf-zero, widthOf-nonzero}
+use Rattle.working_rows.proofs.entries.width.Statement.{statement}
+use Rattle.working_rows.proofs.entries.width.Tie as tie
+
+abbrev Inv-loop : tie.InvT-loop
+Inv-loop numbers blocks₀ blocks =
+    (length numbers ≡ rowLength) × ((blocks ≤ blockCount) × (width (rowOf numbers) ≡ widthOf (take blocks (rowOf numbers .blocks))))
+
+abbrev μ-loop : tie.MeasureT-loop
+μ-loop numbers blocks₀ blocks = blocks
+
+slice-aggregate-numbers : tie.Need-slice-aggregate-numbers Inv-loop μ-loop
+slice-aggregate-numbers c = search needs
+
+-- the test of the lowest block that is left
+module _ (c : tie.After-is-zero Inv-loop μ-loop) where
+  abbrev numbers : List ℤ
+  numbers = c .before .before .before .before .before .args .t1
+
+  abbrev left : ℕ
+  left = c .before .before .before .loop .blocks - 1
+
+  some-left : c .before .before .before .loop .blocks ≡ suc left
+  some-left = omega arith
+
+  tested : c .is-zero .result ≡ zeroBlock (getD (rowOf numbers .blocks) left [])
+  tested =
+      let size : suc left * blockLength - left * blockLength ≡ blockLength = omega arith in
+      c .is-zero .ensures
+      ∙ ap (λ n. isZero (take n (drop (left * blockLength) numbers))) (ap (λ b. b * blockLength - left * blockLength) some-left ∙ size)
+      ∙ sym (zeroBlock-at numbers left (omega arith))
+
+  down : width (rowOf numbers) ≡ widthOf (take (suc left) (rowOf numbers .blocks))
+  down = c .before .before .before .loop .inv .1 .1 ∙ ap (λ b. widthOf (take b (rowOf numbers .blocks))) some-left
+
+loop-holds : tie.Need-loop-holds Inv-loop μ-loop
+unfolding width
+loop-holds c =
+    let row = c .before .args .t1 in
+    (omega arith, (omega arith, ap widthOf (sym (take-all blockCount (rowOf row .blocks) (le-of-eq (length-blocks row))))))
+
+sub-from : tie.Need-sub-from Inv-loop μ-loop
+sub-from c = search needs
+
+mul-from : tie.Need-mul-from Inv-loop μ-loop
+mul-from c = search needs
+
+mul-to : tie.Need-mul-to Inv-loop μ-loop
+mul-to c = search needs
+
+mul-is-zero : tie.Need-mul-is-zero Inv-loop μ-loop
+mul-is-zero c = search needs
+
+sub-is-zero : tie.Need-sub-is-zero Inv-loop μ-loop
+sub-is-zero c = search needs
+
+part-is-zero-start : tie.Need-part-is-zero-start Inv-loop μ-loop
+part-is-zero-start c = search needs
+
+part-is-zero-end : tie.Need-part-is-zero-end Inv-loop μ-loop
+part-is-zero-end c = search needs
+
+is-zero-requires : tie.Need-is-zero-requires Inv-loop μ-loop
+is-zero-requires c κs = search needs
+
+returns : tie.Need-returns Inv-loop μ-loop
+returns c =
+    let blocks = rowOf (numbers (c .before)) .blocks in
+    let nonzero = sym (tested (c .before)) ∙ not-true _ (c .if1 .taken) in
+    let inside : left (c .before) < length blocks = rw length-blocks (omega arith) in
+    some-left (c .before) ∙ sym (down (c .before) ∙ widthOf-nonzero blocks (left (c .before)) inside nonzero)
+
+sub-blocks : tie.Need-sub-blocks Inv-loop μ-loop
+sub-blocks c = search needs
+
+loop-less : tie.Need-loop-less Inv-loop μ-loop
+loop-less c = search needs
+
+loop-again : tie.Need-loop-again Inv-loop μ-loop
+loop-again c =
+    let blocks = rowOf (numbers (c .before)) .blocks in
+    let zero = sym (tested (c .before)) ∙ not-false _ (c .if1 .left) in
+    (omega arith, (omega arith, down (c .before) ∙ widthOf-zero blocks (left (c .before)) zero))
+
+returns-2 : tie.Need-returns-2 Inv-loop μ-loop
+unfolding widthOf
+returns-2 c =
+    let none : c .before .loop .blocks ≡ 0 = omega arith in
+    sym (c .before .loop .inv .1 .1 ∙ ap (λ n. widthOf (take n (rowOf (c .before .before .before .args .t1) .blocks))) none)
+
+pub width-spec : {M : Type 1} → statement M
+width-spec =
+    tie.close
+    (tie.spec
+    Inv-loop
+    μ-loop
+    slice-aggregate-numbers
+    loop-holds
+    sub-from
+    mul-from
+    mul-to
+    mul-is-zero
+    sub-is-zero
+    part-is-zero-start
+    part-is-zero-end
+    is-zero-requires
+    returns
+    sub-blocks
+    loop-less
+    loop-again
+    returns-2)

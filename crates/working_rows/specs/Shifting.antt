@@ -1,0 +1,130 @@
+-- The numbers of a row shifted up by one block.
+--
+-- Main definitions
+--   movedCount        the number of polynomials that move
+--
+-- Main statements
+--   length-shiftUp    they are as many as a row has
+--   shiftUp-part      polynomial e is p(n + 1) for the polynomial p one block further down
+--   shiftUp-rest      the last block is zero
+--   shifted-held      a shifted row within the limit is held by its numbers
+use mathlib.Core.Path.{_≡_, refl, sym, _∙_, ap, ap₂, subst}
+use mathlib.Core.List.{List, [], _∷_, _++_, map, flatten, append-nil, map-append}
+use Prim.Native.Nat.{ℕ, _+_, _*_, _<_}
+use native.Mathlib.Nat.{add-comm}
+use native.Mathlib.Omega.{arith}
+use lib.Dec.{T}
+use lib.IntN.{ℤ, pos}
+use lib.ListN.{length, take, drop, length-take, length-drop, length-map, List·getD-map}
+use lib.Seq.{drop-at, drop-drop}
+use Rattle.algebra.specs.Polynomials.{Polynomial, isZero, shift, shiftBy, length-shift, isZero-append, isZero-shift}
+use Rattle.lists.specs.Tests.{T-&&}
+use Rattle.rules.specs.Rows.{Block, Row, mapRow, coefficientsOf, blank, leadingBlock, shiftUp}
+use Rattle.lists.specs.Everywhere.{All, append-all, map-keeps}
+use Rattle.lists.specs.Joined.{flatten-append, length-flatten, flatten-map}
+use Rattle.rules.specs.Limits.{rowLength, coefficientCount, columnCount, mostSpan, blockLength}
+use Rattle.rules.specs.Stores.{rowOf, StoreRow}
+use Rattle.lists.specs.Parts.{parts, parts-length, parts-width, getD-parts, part-flatten, parts-parts}
+use Rattle.rules.specs.Elimination.{within, limitCoefficients}
+use Rattle.rules.specs.Layout.{length-coefficientsOf, blockOf, coefficientsAt}
+use Rattle.stores.specs.Flat.{polynomialsOf}
+use Rattle.working_rows.specs.Worked.{Held, held, store-row}
+
+-- The polynomials of all blocks but the first move up.
+abbrev pub movedCount : ℕ
+movedCount = mostSpan * columnCount
+
+-- These polynomials, and those of a blank block.
+below : List ℤ → List Polynomial
+below l = parts coefficientCount movedCount (drop blockLength l)
+
+last : List ℤ → Block
+last l = blank (blockOf (take blockLength l))
+
+polynomials-shiftUp : (l : List ℤ) → polynomialsOf (shiftUp (rowOf l)) ≡ map shift (below l) ++ map shift (last l)
+unfolding shiftUp mapRow rowOf leadingBlock flatten below last
+polynomials-shiftUp l =
+    flatten-map shift (map blockOf (parts blockLength mostSpan (drop blockLength l)) ++ (last l ∷ []))
+    ∙ ap (map shift)
+    (flatten-append (map blockOf (parts blockLength mostSpan (drop blockLength l))) (last l ∷ [])
+    ∙ ap₂ _++_ (parts-parts coefficientCount columnCount mostSpan (drop blockLength l)) (append-nil (last l)))
+    ∙ map-append shift (below l) (last l)
+
+numbers-shiftUp : (l : List ℤ) → coefficientsOf (shiftUp (rowOf l)) ≡ flatten (map shift (below l)) ++ flatten (map shift (last l))
+unfolding coefficientsOf
+numbers-shiftUp l = ap flatten (polynomials-shiftUp l) ∙ flatten-append (map shift (below l)) (map shift (last l))
+
+-- ---- widths
+
+map-width : (f : Polynomial → Polynomial) → ((p : Polynomial) → length (f p) ≡ length p) → (k : ℕ) (ps : List Polynomial)
+    → All (λ p. length p ≡ k) ps → All (λ p. length p ≡ k) (map f ps)
+map-width f e k ps h = map-keeps (λ p. length p ≡ k) (λ p. length p ≡ k) f (λ p w. e p ∙ w) ps h
+
+zeros-zero : (p : Polynomial) → T (isZero (map (λ _. pos 0) p))
+unfolding isZero
+zeros-zero [] = tt
+zeros-zero (a ∷ p) = zeros-zero p
+
+blank-zero : (ps : List Polynomial) → T (isZero (flatten (map shift (blank ps))))
+unfolding blank flatten isZero
+blank-zero [] = tt
+blank-zero (p ∷ ps) = step (shift (map (λ _. pos 0) p)) _ (rw (isZero-shift (map (λ _. pos 0) p)) (zeros-zero p)) (blank-zero ps)
+  where
+    step : (q r : Polynomial) → T (isZero q) → T (isZero r) → T (isZero (q ++ r))
+    step q r y z = rw (isZero-append q r) (T-&& (isZero q) (isZero r) .1 (y, z))
+
+module _ (l : List ℤ) (long : length l ≡ rowLength) where
+  below-width : All (λ p. length p ≡ coefficientCount) (map shift (below l))
+  unfolding below
+  below-width =
+      map-width shift length-shift coefficientCount (parts coefficientCount movedCount (drop blockLength l))
+      (parts-width coefficientCount movedCount (drop blockLength l) (rw length-drop (omega arith)))
+
+  last-width : All (λ p. length p ≡ coefficientCount) (map shift (last l))
+  unfolding last blank
+  last-width =
+      map-width shift length-shift coefficientCount (last l)
+      (map-width (map (λ _. pos 0)) (λ p. length-map p (λ _. pos 0)) coefficientCount (blockOf (take blockLength l))
+      (parts-width coefficientCount columnCount (take blockLength l) (rw length-take (omega arith))))
+
+  StoreRow-shiftUp : StoreRow (shiftUp (rowOf l))
+  unfolding shiftUp mapRow rowOf leadingBlock blank All
+  StoreRow-shiftUp =
+      store-row (shiftUp (rowOf l)) refl (refl, (refl, (refl, (refl, (refl, tt)))))
+      (subst (All (λ p. length p ≡ coefficientCount)) (sym (polynomials-shiftUp l))
+      (append-all (λ p. length p ≡ coefficientCount) (map shift (below l)) (map shift (last l)) below-width last-width))
+
+  -- A shifted row within the limit is held by its numbers.
+  pub shifted-held : (r : Row) → limitCoefficients (shiftUp (rowOf l)) ≡ within r → Held r
+  shifted-held r e = held (shiftUp (rowOf l)) r StoreRow-shiftUp e
+
+  below-length : length (flatten (map shift (below l))) ≡ movedCount * coefficientCount
+  unfolding below
+  below-length =
+      length-flatten coefficientCount (map shift (below l)) below-width
+      ∙ ap (λ n. n * coefficientCount) (length-map (below l) shift ∙ parts-length coefficientCount movedCount (drop blockLength l))
+
+  pub length-shiftUp : length (coefficientsOf (shiftUp (rowOf l))) ≡ rowLength
+  length-shiftUp = length-coefficientsOf (shiftUp (rowOf l)) StoreRow-shiftUp
+
+  pub shiftUp-rest : T (isZero (drop (movedCount * coefficientCount) (coefficientsOf (shiftUp (rowOf l)))))
+  unfolding last
+  shiftUp-rest =
+      rw (
+        numbers-shiftUp l,
+        drop-at (flatten (map shift (below l))) (flatten (map shift (last l)))
+            (movedCount * coefficientCount) below-length,
+      )
+      (blank-zero (blockOf (take blockLength l)))
+
+  pub shiftUp-part : (e : ℕ) → e < movedCount
+      → coefficientsAt (coefficientsOf (shiftUp (rowOf l))) e
+      ≡ shift (take coefficientCount (drop (e * coefficientCount + blockLength) l))
+  unfolding below shift shiftBy
+  shiftUp-part e h =
+      ap (λ r. coefficientsAt r e) (numbers-shiftUp l)
+      ∙ part-flatten coefficientCount movedCount (map shift (below l)) (flatten (map shift (last l)))
+      (length-map (below l) shift ∙ parts-length coefficientCount movedCount (drop blockLength l)) below-width e h
+      ∙ List·getD-map shift (below l) e [] ∙ ap shift (getD-parts coefficientCount movedCount (drop blockLength l) e h)
+      ∙ ap (λ r. shift (take coefficientCount r))
+      (drop-drop (e * coefficientCount) blockLength l ∙ ap (λ n. drop n l) (add-comm blockLength (e * coefficientCount)))

@@ -1,0 +1,122 @@
+-- A new row, or the limit that it breaks, as the code gives it: a refusal number and 320 numbers.
+--
+-- Main definitions
+--   refusalOf x    0, or the number of the limit
+--   numbersOf x    the numbers of the new row, or zeros
+--   Shown n l x    the code's refusal number n and numbers l are those of x
+--   Held r         the numbers of r hold it, and they are within ±C
+--
+-- Main statements
+--   limit-within, limit-beyond   the answer for numbers that are all within ±C, and for others
+--   limit-same     the answer depends on the numbers of the row alone
+--   held           a row of a store's shape that is within the limit is held by its numbers
+--   store-row      that shape, by the twenty polynomials
+use mathlib.Core.Path.{_≡_, refl, sym, _∙_, ap, subst}
+use mathlib.Core.Bool.{Bool, true, false, cond}
+use mathlib.Core.List.{List, [], _∷_, _++_, flatten}
+use Prim.Native.Nat.{ℕ}
+use native.Mathlib.Omega.{arith}
+use lib.Dec.{T}
+use lib.IntN.{ℤ, pos}
+use lib.ListN.{length, replicate}
+use Rattle.rules.specs.Limits.{rowLength, small, coefficientCount, columnCount, blockCount}
+use Rattle.rules.specs.Rows.{Block, Row, coefficientsOf, smallRow}
+use Rattle.lists.specs.Everywhere.{All}
+use Rattle.lists.specs.Tests.{every}
+use Rattle.rules.specs.Stores.{rowOf, Shaped, StoreRow}
+use Rattle.rules.specs.Layout.{rowOf-coefficientsOf, length-coefficientsOf}
+use Rattle.stores.specs.Flat.{polynomialsOf}
+use Rattle.rules.specs.Elimination.{Limited, within, beyond, limitCoefficients}
+
+unfoldable pub refusalOf : Limited → ℕ
+refusalOf (within r) = 0
+refusalOf (beyond n) = n
+
+unfoldable pub numbersOf : Limited → List ℤ
+unfolding coefficientsOf
+numbersOf (within r) = coefficientsOf r
+numbersOf (beyond n) = replicate rowLength (pos 0)
+
+abbrev pub Shown : ℕ → List ℤ → Limited → Type 0
+Shown refusal numbers x = (refusal ≡ refusalOf x) × (numbers ≡ numbersOf x)
+
+-- ---- the limit of the coefficients
+
+refusal-limit : (r : Row) → refusalOf (limitCoefficients r) ≡ cond (every small (coefficientsOf r)) 0 8
+unfolding refusalOf limitCoefficients smallRow
+refusal-limit r = go (every small (coefficientsOf r))
+  where
+    go : (t : Bool) → refusalOf (cond t (within r) (beyond 8)) ≡ cond t 0 8
+    go true = refl
+    go false = refl
+
+numbers-limit : (r : Row)
+    → numbersOf (limitCoefficients r) ≡ cond (every small (coefficientsOf r)) (coefficientsOf r) (replicate rowLength (pos 0))
+unfolding numbersOf limitCoefficients smallRow
+numbers-limit r = go (every small (coefficientsOf r))
+  where
+    go : (t : Bool) → numbersOf (cond t (within r) (beyond 8)) ≡ cond t (coefficientsOf r) (replicate rowLength (pos 0))
+    go true = refl
+    go false = refl
+
+-- The answer depends on the numbers of the row alone.
+module _ (r : Row) (l : List ℤ) (held : coefficientsOf r ≡ l) where
+  limit-refusal : refusalOf (limitCoefficients r) ≡ cond (every small l) 0 8
+  limit-refusal = refusal-limit r ∙ ap (λ m. cond (every small m) 0 8) held
+
+  limit-numbers : numbersOf (limitCoefficients r) ≡ cond (every small l) l (replicate rowLength (pos 0))
+  limit-numbers = numbers-limit r ∙ ap (λ m. cond (every small m) m (replicate rowLength (pos 0))) held
+
+  pub limit-same : (q : Row) → coefficientsOf q ≡ l → (n : ℕ) (m : List ℤ)
+      → Shown n m (limitCoefficients q) → Shown n m (limitCoefficients r)
+  limit-same q same n m h = (
+    h .0 ∙ refusal-limit q ∙ ap (λ k. cond (every small k) 0 8) same ∙ sym limit-refusal,
+    h .1 ∙ numbers-limit q ∙ ap (λ k. cond (every small k) k (replicate rowLength (pos 0))) same ∙ sym limit-numbers,
+  )
+
+pub limit-within : (r : Row) (l : List ℤ) → coefficientsOf r ≡ l → every small l ≡ true → Shown 0 l (limitCoefficients r)
+limit-within r l held e = rw (limit-refusal r l held, limit-numbers r l held, e) (refl, refl)
+
+pub limit-beyond : (r : Row) (l : List ℤ) → coefficientsOf r ≡ l → every small l ≡ false
+    → Shown 8 (replicate rowLength (pos 0)) (limitCoefficients r)
+limit-beyond r l held e = rw (limit-refusal r l held, limit-numbers r l held, e) (refl, refl)
+
+-- ---- rows within the limits
+
+-- The numbers of r hold it, and they are within ±C.
+pub record Held (r : Row) : Type 0 where
+  pub numbers : rowOf (coefficientsOf r) ≡ r
+  pub long : length (coefficientsOf r) ≡ rowLength
+  pub within-bound : T (every small (coefficientsOf r))
+
+limit-cases : (t : Bool) (q r : Row) → cond t (within q) (beyond 8) ≡ within r → (q ≡ r) × (t ≡ true)
+limit-cases true q r e = (cc, refl)
+limit-cases false q r e = let impossible : _≡_ {A = ℕ} 0 1 = cc in absurd (omega arith)
+
+-- A row of the shape of a row in a store, if it is within the limit.
+pub held : (q r : Row) → StoreRow q → limitCoefficients q ≡ within r → Held r
+unfolding limitCoefficients smallRow
+held q r shape e =
+    let passed = limit-cases (every small (coefficientsOf q)) q r e in
+    subst Held (passed .0)
+    (record {
+      numbers = rowOf-coefficientsOf q shape;
+      long = length-coefficientsOf q shape;
+      within-bound = subst T (sym (passed .1)) tt;
+    })
+
+-- The shape, by the twenty polynomials.
+pub store-row : (r : Row) → length (r .blocks) ≡ blockCount → All (λ b. length b ≡ columnCount) (r .blocks)
+    → All (λ p. length p ≡ coefficientCount) (polynomialsOf r) → StoreRow r
+unfolding Shaped All flatten
+store-row r count columns widths = (count, shapes (r .blocks) columns widths)
+  where
+    front-all : (l m : Block) → All (λ p. length p ≡ coefficientCount) (l ++ m)
+        → All (λ p. length p ≡ coefficientCount) l × All (λ p. length p ≡ coefficientCount) m
+    front-all [] m h = (tt, h)
+    front-all (p ∷ l) m h = let rest = front-all l m (h .1) in ((h .0, rest .0), rest .1)
+
+    shapes : (bs : List Block) → All (λ b. length b ≡ columnCount) bs → All (λ p. length p ≡ coefficientCount) (flatten bs)
+        → All (λ b. (length b ≡ columnCount) × All (λ p. length p ≡ coefficientCount) b) bs
+    shapes [] c w = tt
+    shapes (b ∷ bs) c w = let both = front-all b (flatten bs) w in ((c .0, both .0), shapes bs (c .1) (both .1))
