@@ -21,7 +21,7 @@ use Rattle.algebra.specs.Gcd.{content, divideBy}
 use Rattle.algebra.specs.Polynomials.{Polynomial, negate, lead}
 use Rattle.algebra.specs.Roots.{roots}
 use Rattle.rules.specs.Limits.{mostRelations}
-use Rattle.rules.specs.Rows.{Row, Relation, noRow, zeroRow, width, leadingBlock, entry, firstNonzero, combine, primitive, lowDegrees}
+use Rattle.rules.specs.Rows.{Row, Relation, noRow, zeroRow, contradicts, width, leadingBlock, entry, firstNonzero, combine, primitive, lowDegrees}
 use Rattle.rules.specs.Rows.{cut, smallRow, shiftUp, mirrorRow, mirrorRelation}
 
 -- The side that is made triangular: block l, or block t.
@@ -78,6 +78,12 @@ unfoldable pub limitDegrees : Row → Limited
 unfolding lowDegrees cut limitCoefficients
 limitDegrees r = let rest = limitCoefficients (cut r) in cond (lowDegrees r) rest (beyond 7)
 
+-- A new row whose left part alone is zero is refused with 10, behind the limits (SCOPE 2.46).
+unfoldable pub consistent : Limited → Limited
+unfolding contradicts
+consistent (within r) = cond (contradicts r) (beyond 10) (within r)
+consistent (beyond n) = beyond n
+
 -- ---- what a step does to the state
 
 unfoldable pub rowAt : State → ℕ → Row
@@ -124,10 +130,10 @@ rootRelations side g r = map (λ n0. record { index = n0; row = r }) (listing si
 -- Rules 3 and 4 for row i and settled row j, with their multipliers. More than 16 relations are refused with 9
 -- (SCOPE 2.34, 2.47); otherwise the combination, divided by its content, takes the place of row i (SCOPE 2.41, 2.42).
 unfoldable pub combineStep : Side → State → ℕ → ℕ → Multipliers → Outcome
-unfolding listRelations rootRelations rowAt combine primitive limitDegrees putLimited
+unfolding listRelations rootRelations rowAt combine primitive limitDegrees consistent putLimited
 combineStep side s i j x =
     let listed = listRelations s (rootRelations side (x .g) (rowAt s i)) in
-    let rest = putLimited listed i (limitDegrees (primitive (combine (x .g) (x .h) (rowAt s i) (rowAt s j)))) in
+    let rest = putLimited listed i (consistent (limitDegrees (primitive (combine (x .g) (x .h) (rowAt s i) (rowAt s j))))) in
     cond (leb (length (listed .relations)) mostRelations) rest (refused 9)
 
 -- Rule 2 after the exchange: a is the leading entry of row j in column c(j), b that of row i (SCOPE 2.23).
@@ -167,12 +173,13 @@ unfolding eliminateStep firstNonzero leadingBlock rowAt settleOrShift
 meet side s i (some j) = eliminateStep side s i j
 meet side s i none = settleOrShift s i (firstNonzero (leadingBlock (rowAt s i)))
 
--- Rule 1: a zero row is refused with 6, also one that a combination has made zero (SCOPE 2.11, 2.45).
+-- Rule 1: a zero row is refused with 6, also one that a combination has made zero (SCOPE 2.11, 2.45), and one whose left part
+-- alone is zero with 10 (SCOPE 2.12).
 unfoldable pub workOn : Side → State → ℕ → Outcome
-unfolding zeroRow meet firstNonzero entry rowAt
+unfolding zeroRow contradicts meet firstNonzero entry rowAt
 workOn side s i =
     let rest = meet side s i (firstNonzero (map (entry (rowAt s i)) (s .order))) in
-    cond (zeroRow (rowAt s i)) (refused 6) rest
+    cond (zeroRow (rowAt s i)) (refused 6) (cond (contradicts (rowAt s i)) (refused 10) rest)
 
 -- The settled rows are all the rows (SCOPE 2.2).
 unfoldable pub finished : State → Bool

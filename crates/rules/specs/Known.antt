@@ -10,7 +10,7 @@ use mathlib.Core.Path.{_≡_, refl, sym, _∙_, ap}
 use mathlib.Core.List.{List, [], _∷_, _++_, map}
 use mathlib.Core.Option.{Option, none, some}
 use lib.ListN.{replicate}
-use lib.IntN.{ℤ, pos, negsuc, _+ℤ_, _*ℤ_, zero-*ℤ, +ℤ-idl, +ℤ-idr}
+use lib.IntN.{ℤ, pos, negsuc, _+ℤ_, _-ℤ_, _*ℤ_, zero-*ℤ, +ℤ-idl, +ℤ-idr}
 use Rattle.algebra.specs.Integers.{*ℤ-+ℤ, *ℤ-assoc}
 use Rattle.algebra.specs.Polynomials.{Polynomial}
 use Rattle.rules.specs.Rows.{Row, Relation}
@@ -299,8 +299,8 @@ abbrev four : (ℕ → ℤ) → ℤ → ℤ → ℤ
 four v a b = a *ℤ v 0 +ℤ (b *ℤ v 1 +ℤ (pos 0 *ℤ v 2 +ℤ (pos 0 *ℤ v 3 +ℤ pos 0)))
 
 k1-value : (z : Sequence) → valueOf (pos 0) (rowOfTerms (pos 0) k1-first) z (pos 1)
-    ≡ four (z (pos 1)) (negsuc 1) (pos 0) +ℤ (four (z (pos 0)) (pos 0) (negsuc 0) +ℤ (four (z (negsuc 0)) (pos 0) (pos 0)
-    +ℤ (four (z (negsuc 1)) (pos 0) (pos 0) +ℤ (four (z (negsuc 2)) (pos 0) (pos 0) +ℤ pos 0))))
+    ≡ (four (z (pos 1)) (negsuc 1) (pos 0) +ℤ (four (z (pos 0)) (pos 0) (negsuc 0) +ℤ (four (z (negsuc 0)) (pos 0) (pos 0)
+    +ℤ (four (z (negsuc 1)) (pos 0) (pos 0) +ℤ (four (z (negsuc 2)) (pos 0) (pos 0) +ℤ pos 0))))) -ℤ pos 0
 unfolding opened
 k1-value z = refl
 

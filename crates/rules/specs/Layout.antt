@@ -26,7 +26,7 @@ use mathlib.Core.Bool.{_&&_, cond}
 use mathlib.Core.List.{List, [], _∷_, _++_, map, flatten, append-assoc, append-nil}
 use lib.Dec.{T, leb, leb→le, le→leb}
 use lib.ListN.{length, take, drop, getD, replicate, length-append, length-take, length-drop, length-replicate, take-append-drop}
-use lib.Seq.{take-take, take-at, take-all, drop-at, getD-take, getD-drop}
+use lib.Seq.{take-take, take-at, take-all, drop-at, getD-take, getD-drop, length-take-le, take-add}
 use lib.IntN.{ℤ, pos, negℤ, natAbs, _-ℤ_}
 use lib.Signed.{leZ-yes, _≤ℤ_}
 use Rattle.algebra.specs.Order.{≤ℤ-trans, ≤ℤ-difference, negℤ-≤ℤ, +ℤ-≤ℤ-left, natAbs-≤-iff}
@@ -35,7 +35,7 @@ use Rattle.lists.specs.Tests.{T-&&, cond-zero, cond-passed, every}
 use Rattle.lists.specs.Taken.{part-of-part}
 use Rattle.lists.specs.Parts.{parts-length, flatten-parts, parts-width, parts-short, parts-flatten, getD-parts, parts}
 use Rattle.lists.specs.Parts.{read-written, length-written, length-read, all-read, write-read}
-use Rattle.rules.specs.Limits.{coefficientCount, columnCount, blockCount, rowLength, relationLength, mostRelations, blockBound}
+use Rattle.rules.specs.Limits.{coefficientCount, columnCount, blockCount, rowLength, relationLength, mostRelations, blockBound, entriesLength}
 use Rattle.rules.specs.Limits.{mostSpan, polynomialCount, blockLength, mostEquations}
 use Rattle.rules.specs.Rows.{Block, Row, Relation, noRow, coefficientsOf}
 use Rattle.lists.specs.Everywhere.{All}
@@ -72,39 +72,56 @@ blockOf-flatten : (b : Block) → StoreBlock b → blockOf (flatten b) ≡ b
 blockOf-flatten b h =
     ap blockOf (sym (append-nil (flatten b))) ∙ parts-flatten coefficientCount columnCount b [] (h .0) (h .1)
 
-pub coefficientsOf-rowOf : (l : List ℤ) → coefficientsOf (rowOf l) ≡ take rowLength l
-unfolding coefficientsOf rowOf
-coefficientsOf-rowOf l =
+-- The left part of the row that l holds, laid end to end.
+pub entries-rowOf : (l : List ℤ) → flatten (flatten (rowOf l .blocks)) ≡ take entriesLength l
+unfolding rowOf
+entries-rowOf l =
     flatten-flatten (map blockOf (parts blockLength blockCount l))
     ∙ write-read blockLength blockOf flatten (λ p. length p ≤ blockLength) whole blockCount l (parts-short blockLength blockCount l)
   where
     whole : (p : List ℤ) → length p ≤ blockLength → flatten (blockOf p) ≡ p
     whole p h = flatten-parts coefficientCount columnCount p ∙ take-all blockLength p h
 
+pub coefficientsOf-rowOf : (l : List ℤ) → coefficientsOf (rowOf l) ≡ take rowLength l
+unfolding coefficientsOf rowOf
+coefficientsOf-rowOf l =
+    ap (λ p. p ++ take coefficientCount (drop entriesLength l)) (entries-rowOf l) ∙ sym (take-add entriesLength coefficientCount l)
+
 pub coefficientsOf-rowOf-all : (l : List ℤ) → length l ≡ rowLength → coefficientsOf (rowOf l) ≡ l
 coefficientsOf-rowOf-all l h = coefficientsOf-rowOf l ∙ take-all rowLength l (le-of-eq h)
 
-pub length-coefficientsOf : (r : Row) → StoreRow r → length (coefficientsOf r) ≡ rowLength
-unfolding coefficientsOf Shaped
-length-coefficientsOf r h =
+pub length-entries : (r : Row) → StoreRow r → length (flatten (flatten (r .blocks))) ≡ entriesLength
+unfolding Shaped
+length-entries r h =
     ap length (flatten-flatten (r .blocks))
     ∙ length-written blockLength blockOf flatten StoreBlock StoreBlock-length (r .blocks) (h .1)
     ∙ ap (λ n. n * blockLength) (h .0)
 
+pub length-coefficientsOf : (r : Row) → StoreRow r → length (coefficientsOf r) ≡ rowLength
+unfolding coefficientsOf Shaped
+length-coefficientsOf r h = length-append (flatten (flatten (r .blocks))) (r .right) ∙ ap₂ _+_ (length-entries r h) (h .2)
+
 pub rowOf-coefficientsOf : (r : Row) → StoreRow r → rowOf (coefficientsOf r) ≡ r
 unfolding coefficientsOf rowOf Shaped
-rowOf-coefficientsOf r h = λ i. record { blocks = same i }
+rowOf-coefficientsOf r h = λ i. record { blocks = same i; right = side i }
   where
-    same : map blockOf (parts blockLength blockCount (flatten (flatten (r .blocks)))) ≡ r .blocks
+    same : map blockOf (parts blockLength blockCount (flatten (flatten (r .blocks)) ++ r .right)) ≡ r .blocks
     same =
-        ap (λ l. map blockOf (parts blockLength blockCount l))
-        (flatten-flatten (r .blocks) ∙ sym (append-nil (flatten (map flatten (r .blocks)))))
-        ∙ read-written blockLength blockOf flatten StoreBlock blockOf-flatten StoreBlock-length blockCount (r .blocks) [] (h .0) (h .1)
+        ap (λ l. map blockOf (parts blockLength blockCount (l ++ r .right))) (flatten-flatten (r .blocks))
+        ∙ read-written blockLength blockOf flatten StoreBlock blockOf-flatten StoreBlock-length blockCount (r .blocks) (r .right) (h .0) (h .1)
+
+    side : take coefficientCount (drop entriesLength (flatten (flatten (r .blocks)) ++ r .right)) ≡ r .right
+    side =
+        ap (take coefficientCount) (drop-at (flatten (flatten (r .blocks))) (r .right) entriesLength (length-entries r h))
+        ∙ take-all coefficientCount (r .right) (le-of-eq (h .2))
 
 pub StoreRow-rowOf : (l : List ℤ) → rowLength ≤ length l → StoreRow (rowOf l)
 unfolding rowOf Shaped
-StoreRow-rowOf l h =
-    (length-read blockLength blockOf flatten blockCount l, all-read blockLength blockOf flatten StoreBlock shape blockCount l h)
+StoreRow-rowOf l h = (
+  length-read blockLength blockOf flatten blockCount l,
+  all-read blockLength blockOf flatten StoreBlock shape blockCount l (omega arith),
+  length-take-le coefficientCount (drop entriesLength l) (rw length-drop (omega arith)),
+)
   where
     shape : (p : List ℤ) → length p ≡ blockLength → StoreBlock (blockOf p)
     shape p e = (parts-length coefficientCount columnCount p, parts-width coefficientCount columnCount p (le-of-eq (sym e)))

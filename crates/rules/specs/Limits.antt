@@ -6,13 +6,13 @@
 --   columnCount                four columns a block, for the largest m (SCOPE 1.1)
 --   mostSpan, blockCount       D = l - t is at most four, so that five blocks a row are enough (SCOPE 1.2)
 --   mostEquations              a system has four equations or fewer (SCOPE 1.1)
---   polynomialCount            the polynomials of a row
---   blockLength, rowLength, relationLength
---                              the numbers of a block, of a row, and of a relation (SCOPE 3.2, 3.4)
+--   polynomialCount            the polynomials of a row's left part
+--   blockLength, entriesLength, rowLength, relationLength
+--                              the numbers of a block, of a row's left part, of a row, and of a relation (SCOPE 3.2, 3.4)
 --   mostRelations              the relations of a system are 16 or fewer (SCOPE 1.23)
 --   blockBound                 the largest block in size (SCOPE 1.2)
 --   small a                    is |a| ≤ C? (SCOPE 1.4)
-use Prim.Native.Nat.{ℕ, suc, _*_}
+use Prim.Native.Nat.{ℕ, suc, _+_, _*_}
 use mathlib.Core.Bool.{Bool}
 use lib.Dec.{leb}
 use lib.IntN.{ℤ, natAbs}
@@ -39,12 +39,15 @@ blockCount = suc mostSpan
 abbrev pub polynomialCount : ℕ
 polynomialCount = blockCount * columnCount
 
--- A row takes 5 × 4 × 16 = 320 numbers, and a relation its n0 and a row (SCOPE 3.2, 3.4).
+-- A row takes 5 × 4 × 16 = 320 numbers and 16 for its right side, and a relation its n0 and a row (SCOPE 3.2, 3.4).
 abbrev pub blockLength : ℕ
 blockLength = columnCount * coefficientCount
 
+abbrev pub entriesLength : ℕ
+entriesLength = blockCount * blockLength
+
 abbrev pub rowLength : ℕ
-rowLength = blockCount * blockLength
+rowLength = entriesLength + coefficientCount
 
 abbrev pub relationLength : ℕ
 relationLength = suc rowLength

@@ -2,7 +2,7 @@
 --
 -- Main definitions
 --   Sequence                an integer for each index of either sign and each column
---   valueOf l r z n         the sum that an equation makes at n
+--   leftValue, valueOf l r z n   the sum that the left part of an equation makes at n; less its right side
 --   Satisfies l rows relations z   z satisfies every equation and every relation
 --   Same m z y n            z and y are equal at index n, at the columns of the system
 --   Dependent l rows        a nonzero combination of shifted equations vanishes
@@ -35,15 +35,20 @@ blocksValue n z k [] = pos 0
 blocksValue n z k (b ∷ bs) = blockValue n (z k) b +ℤ blocksValue n z (predℤ k) bs
 
 -- The products p(n) × z(n + s, c), added up over all blocks s and columns c (SCOPE 1.3).
-unfoldable pub valueOf : ℤ → Row → Sequence → ℤ → ℤ
+unfoldable pub leftValue : ℤ → Row → Sequence → ℤ → ℤ
 unfolding blocksValue
-valueOf l r z n = blocksValue n z (n +ℤ l) (r .blocks)
+leftValue l r z n = blocksValue n z (n +ℤ l) (r .blocks)
 
--- The sum vanishes at all n (SCOPE 1.12).
+-- By how much that sum passes the right side.
+unfoldable pub valueOf : ℤ → Row → Sequence → ℤ → ℤ
+unfolding leftValue eval
+valueOf l r z n = leftValue l r z n -ℤ eval (r .right) n
+
+-- The sum is the value of the right side at all n (SCOPE 1.12).
 unfoldable pub SatisfiesEquation : ℤ → Sequence → Row → Type 0
 SatisfiesEquation l z r = (n : ℤ) → valueOf l r z n ≡ pos 0
 
--- The sum vanishes at n0 (SCOPE 1.21).
+-- It is so at n0 (SCOPE 1.21).
 unfoldable pub SatisfiesRelation : ℤ → Sequence → Relation → Type 0
 SatisfiesRelation l z e = valueOf l (e .row) z (e .index) ≡ pos 0
 
@@ -89,8 +94,14 @@ unfolding addAll countFrom shiftsWithin mul copyAt
 combinationAt l rows N S s c =
     addAll (λ i. addAll (λ k. mul (S i k) (copyAt l (getD rows i noRow) k s c)) (shiftsWithin N)) (countFrom 0 (length rows))
 
+-- The combination's right side.
+unfoldable pub combinedRight : List Row → ℕ → (ℕ → ℤ → Polynomial) → Polynomial
+unfolding addAll countFrom shiftsWithin mul shiftBy
+combinedRight rows N S =
+    addAll (λ i. addAll (λ k. mul (S i k) (shiftBy k (getD rows i noRow .right))) (shiftsWithin N)) (countFrom 0 (length rows))
+
 -- Copies of the equations at the shifts within `reach`, each times a polynomial of whatever degree, add up to zero in
--- every block and column, and at least one multiplier is not zero (SCOPE 2.102).
+-- every block and column and on the right, and at least one multiplier is not zero (SCOPE 2.102).
 pub record Dependent (l : ℤ) (rows : List Row) : Type 0 where
   pub reach : ℕ
   pub multiplier : ℕ → ℤ → Polynomial
@@ -100,3 +111,4 @@ pub record Dependent (l : ℤ) (rows : List Row) : Type 0 where
   pub shift-within : natAbs shift ≤ reach
   pub nonzero : T (not (isZero (multiplier number shift)))
   pub vanishes : (s : ℤ) (c : ℕ) → T (isZero (combinationAt l rows reach multiplier s c))
+  pub right-vanishes : T (isZero (combinedRight rows reach multiplier))

@@ -104,13 +104,20 @@ readTerms z (suc k) s₀ c₀ bytes =
 
 -- The row of a store, all zero.
 unfoldable pub blankRow : Row
-blankRow = record { blocks = replicate blockCount (replicate columnCount (replicate coefficientCount (pos 0))) }
+blankRow =
+    record {
+      blocks = replicate blockCount (replicate columnCount (replicate coefficientCount (pos 0)));
+      right = replicate coefficientCount (pos 0);
+    }
 
 unfoldable pub putTerm : ℤ → Term → Row → Row
 unfolding padTo
 putTerm l e r =
     let k = natAbs (l -ℤ e .block) in
-    record { blocks = set (r .blocks) k (set (getD (r .blocks) k []) (pred (e .column)) (padTo coefficientCount (pos 0) (e .polynomial))) }
+    record {
+      blocks = set (r .blocks) k (set (getD (r .blocks) k []) (pred (e .column)) (padTo coefficientCount (pos 0) (e .polynomial)));
+      right = r .right;
+    }
 
 -- A place without a term holds zero (SCOPE 4.23).
 unfoldable pub rowOfTerms : ℤ → List Term → Row

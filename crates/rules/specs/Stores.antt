@@ -3,8 +3,8 @@
 -- Main definitions
 --   Sizes, span              m, l and t; D = l - t
 --   equations                the number of equations
---   rowOf, rowsOf            the row held by 320 numbers, the rows held by a row store
---   relationOf, relationsOf  the relation held by 321 numbers, the relations held by a relation store
+--   rowOf, rowsOf            the row held by 336 numbers, the rows held by a row store
+--   relationOf, relationsOf  the relation held by 337 numbers, the relations held by a relation store
 --   rowNeed, largestRows, relationNeed   the numbers of a row store, of the largest one, and of a relation store
 --   rowStoreOf, relationStoreOf   the numbers that hold rows; those that hold relations, unused places 0
 --   sizesRight, lengthsRight, numbersRight   the checks for refusals 2, 1 and 5
@@ -20,7 +20,7 @@ use lib.IntN.{ℤ, pos, negℤ, natAbs, _-ℤ_}
 use lib.Signed.{leZ}
 use Rattle.algebra.specs.Polynomials.{isZero}
 use Rattle.lists.specs.Parts.{parts}
-use Rattle.rules.specs.Limits.{coefficientCount, columnCount, mostEquations, mostSpan, blockCount, blockLength, rowLength}
+use Rattle.rules.specs.Limits.{coefficientCount, columnCount, mostEquations, mostSpan, blockCount, blockLength, entriesLength, rowLength}
 use Rattle.rules.specs.Limits.{relationLength}
 use Rattle.rules.specs.Limits.{mostRelations, blockBound, small}
 use Rattle.rules.specs.Rows.{Row, Relation, zeroBlock, coefficientsOf, smallRow}
@@ -42,11 +42,16 @@ equations z = z .m
 unfoldable pub span : Sizes → ℕ
 span z = natAbs (z .l -ℤ z .t)
 
--- ---- the layout: from block l down, four columns a block, 16 coefficients a column from power 0 up (SCOPE 3.2)
+-- ---- the layout: from block l down, four columns a block, 16 coefficients a column from power 0 up, and 16 of
+-- the right side behind them (SCOPE 3.2)
 
 unfoldable pub rowOf : List ℤ → Row
 unfolding parts
-rowOf l = record { blocks = map (parts coefficientCount columnCount) (parts blockLength blockCount l) }
+rowOf l =
+    record {
+      blocks = map (parts coefficientCount columnCount) (parts blockLength blockCount l);
+      right = take coefficientCount (drop entriesLength l);
+    }
 
 unfoldable pub rowsOf : ℕ → List ℤ → List Row
 unfolding parts rowOf
@@ -138,11 +143,11 @@ checkStores z count rowStore relationStore =
 
 -- ---- valid systems
 
--- A row of b blocks, each of c columns, each of k coefficients.
+-- A row of b blocks, each of c columns, each of k coefficients, and as many in the right side.
 unfoldable pub Shaped : ℕ → ℕ → ℕ → Row → Type 0
 unfolding All
 Shaped b c k r =
-    (length (r .blocks) ≡ b) × All (λ block. (length block ≡ c) × All (λ p. length p ≡ k) block) (r .blocks)
+    (length (r .blocks) ≡ b) × All (λ block. (length block ≡ c) × All (λ p. length p ≡ k) block) (r .blocks) × (length (r .right) ≡ k)
 
 -- A row as a store holds it.
 abbrev pub StoreRow : Row → Type 0
