@@ -45,11 +45,11 @@ use Rattle.lists.specs.Images.{getD-map, getD-zipWith}
 use Rattle.lists.specs.Joined.{length-flatten}
 use Rattle.rules.specs.Stores.{rowOf, StoreRow}
 use Rattle.lists.specs.Parts.{parts, parts-length, parts-width, getD-parts, part-flatten}
-use Rattle.rules.specs.Elimination.{within, limitDegrees, consistent}
+use Rattle.rules.specs.Elimination.{within, limitDegrees}
 use Rattle.rules.specs.Layout.{coefficientsAt}
 use Rattle.stores.specs.Flat.{partCount, partsIn, polynomialsOf, polynomials-rowOf, polynomials-mapRow, polynomials-combine, numbers-mapRow, length-blocks}
 use Rattle.combinations.specs.Primitive.{lowDegrees-every, degrees-within}
-use Rattle.working_rows.specs.Worked.{Held, held, store-row, consistent-within}
+use Rattle.working_rows.specs.Worked.{Held, held, store-row}
 
 -- ---- polynomials with the same coefficients
 
@@ -337,10 +337,8 @@ module _ (g h : Polynomial) (t u : List ℤ) where
         go (suc d) = StoreRow-cut (divideBy (suc d)) (length-divideBy (suc d))
 
     -- A combination within the limits is held by its numbers.
-    pub combined-held : (r : Row) → consistent (limitDegrees (primitive combination)) ≡ within r → Held r
-    combined-held r e =
-        held (cut (primitive combination)) r StoreRow-primitive
-        (degrees-within (primitive combination) r (consistent-within (limitDegrees (primitive combination)) r e))
+    pub combined-held : (r : Row) → limitDegrees (primitive combination) ≡ within r → Held r
+    combined-held r e = held (cut (primitive combination)) r StoreRow-primitive (degrees-within (primitive combination) r e)
 
   pub numbers-below : (length g ≤ coefficientCount) × (length h ≤ coefficientCount) × T (every small g) × T (every small h)
       × T (every small t) × T (every small u)

@@ -9,7 +9,7 @@
 -- Main statements
 --   limit-within, limit-beyond   the answer for numbers that are all within ±C, and for others
 --   limit-same     the answer depends on the numbers of the row alone
---   limit-zero, consistent-refused, consistent-passed, consistent-within   the answer of the test behind the limit
+--   limit-zero, consistent-refused, consistent-passed   the answer of the test behind the limit
 --   held           a row of a store's shape that is within the limit is held by its numbers
 --   store-row      that shape, by the polynomials of the row
 use mathlib.Core.Path.{_≡_, refl, sym, _∙_, ap, subst}
@@ -105,15 +105,6 @@ pub consistent-passed : (r : Row) → refusalOf (limitCoefficients r) ≡ 0
     → consistent (limitCoefficients r) ≡ cond (contradicts r) (beyond 10) (within r)
 unfolding consistent
 consistent-passed r e = ap consistent (limit-zero r e)
-
-pub consistent-within : (x : Limited) (r : Row) → consistent x ≡ within r → x ≡ within r
-unfolding consistent
-consistent-within (beyond n) r e = e
-consistent-within (within q) r e = go (contradicts q) e
-  where
-    go : (t : Bool) → cond t (beyond 10) (within q) ≡ within r → within q ≡ within r
-    go true h = let impossible : _≡_ {A = ℕ} 0 1 = cc in absurd (omega arith)
-    go false h = h
 
 -- ---- rows within the limits
 
