@@ -155,13 +155,14 @@ refused-dependent leading {z} {rows} {relations} v e =
     run-dependent (z .l) leading (enough rows) (start rows relations) (valid-shapes v) (triangular-start rows relations) e
 refused-dependent trailing v e = trailing-dependent v e
 
--- 6. Every run on a valid system ends in an acceptance or in one of the refusals 6 to 9 (SCOPE 9.26).
+-- 6. Every run on a valid system ends in an acceptance or in one of the refusals 6 to 10 (SCOPE 9.26).
 pub data Ended : Outcome → Type 0 where
   accepted : (s : State) → Ended (done s)
   six : Ended (refused 6)
   seven : Ended (refused 7)
   eight : Ended (refused 8)
   nine : Ended (refused 9)
+  ten : Ended (refused 10)
 
 -- The number of a refused run is that of its refused step.
 refused-number : (side : Side) (k : ℕ) (s : State) (n : ℕ) → run side k s ≡ refused n → Ended (refused n)
@@ -169,11 +170,12 @@ refused-number side k s n e =
     let (j, u, c, more, f) = run-refused side k s n e in
     number u (step-refused side u n more f)
   where
-    number : (u : State) → Refusal u n → Ended (refused n)
+    number : (u : State) → Refusal side u n → Ended (refused n)
     number u (inl h) = subst (λ k. Ended (refused k)) (sym (h .0)) six
-    number u (inr (inl h)) = subst (λ k. Ended (refused k)) (sym h) seven
-    number u (inr (inr (inl h))) = subst (λ k. Ended (refused k)) (sym h) eight
-    number u (inr (inr (inr h))) = subst (λ k. Ended (refused k)) (sym h) nine
+    number u (inr (inl h)) = subst (λ k. Ended (refused k)) (sym (h .0)) ten
+    number u (inr (inr (inl h))) = subst (λ k. Ended (refused k)) (sym h) seven
+    number u (inr (inr (inr (inl h)))) = subst (λ k. Ended (refused k)) (sym h) eight
+    number u (inr (inr (inr (inr h)))) = subst (λ k. Ended (refused k)) (sym h) nine
 
 whole-refused : (side : Side) (D : ℕ) (rows : List Row) (relations : List Relation) (n : ℕ) → wholeRun side D rows relations ≡ refused n
     → Ended (refused n)
@@ -205,5 +207,4 @@ pub zero-row-refused : (side : Side) (s : State) → current s < length (s .rows
     ≡ refused 6
 unfolding step workOn
 zero-row-refused side s below zeros =
-    cond-passed (zeroRow (rowAt s (current s))) (refused 6)
-    (meet side s (current s) (firstNonzero (map (entry (rowAt s (current s))) (s .order)))) zeros
+    cond-passed (zeroRow (rowAt s (current s))) (refused 6) _ zeros
