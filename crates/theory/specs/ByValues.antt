@@ -16,7 +16,7 @@ use native.Mathlib.Nat.{le-trans}
 use native.Mathlib.Omega.{arith}
 use lib.Dec.{T}
 use lib.ListN.{length, getD, List·getD-eq-default, List·getD-map}
-use lib.IntN.{ℤ, pos, negsuc, negℤ, natAbs, _+ℤ_, _-ℤ_, _*ℤ_, +ℤ-idl, +ℤ-assoc, +ℤ-comm, *ℤ-zero, *ℤ-comm, +ℤ-negℤ-cancel,  -ℤ-+ℤ-cancel , +ℤ-idr}
+use lib.IntN.{ℤ, pos, negsuc, negℤ, natAbs, _+ℤ_, _-ℤ_, _*ℤ_, +ℤ-idl, +ℤ-assoc, +ℤ-comm, *ℤ-zero, *ℤ-comm, +ℤ-negℤ-cancel, -ℤ-+ℤ-cancel, +ℤ-idr}
 use Rattle.algebra.specs.Integers.{ringℤ}
 use Rattle.algebra.specs.Sums.{countFrom, sumOver, sumOver-congr}
 use Rattle.algebra.specs.Sums.{sumBelow, sumBelow-congr, sumBelow-append, sumBelow-extend, sumBelow-zeros}
