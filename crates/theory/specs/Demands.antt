@@ -157,7 +157,7 @@ refused-dependent leading {z} {rows} {relations} v e =
     run-dependent (z .l) leading (enough rows) (start rows relations) (valid-shapes v) (triangular-start rows relations) e
 refused-dependent trailing v e = trailing-dependent v e
 
--- A system that is refused with 10 is satisfied by no sequence at all (SCOPE 2.120).
+-- A system that is refused with 10 is satisfied by no sequence at all (SCOPE 2.121).
 pub refused-inconsistent : (side : Side) {z : Sizes} {rows : List Row} {relations : List Relation} → Valid z rows relations
     → wholeRun side (span z) rows relations ≡ refused 10 → (y : Sequence) → Satisfies (z .l) rows relations y → ⊥
 unfolding wholeRun leadingRun start
