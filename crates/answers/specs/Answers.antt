@@ -3,7 +3,7 @@
 --
 -- Main definitions
 --   AnswerCall, answerCall bytes store    what the call returns and leaves in the lent store
---   RightAnswer          the answers that there are: a sheet of at most 65,536 bytes, or a refusal from 1 to 9
+--   RightAnswer          the answers that there are: a sheet of at most 65,536 bytes, or a refusal from 1 to 10
 --
 -- Main statements
 --   answer-right         every sheet's answer is one of those
@@ -40,7 +40,7 @@ use Rattle.rules.specs.SheetCalls.{ReadCall, readCall, afterRead, filled, unrea
 use Rattle.rules.specs.SheetCalls.{unwritten}
 use Rattle.rules.specs.SheetCalls.{checkWrite, writeCall}
 use Rattle.rules.specs.Batch.{mostBytes, Answer, accepted, refusedWith, sized, answerRun, answerRead, answerSheet}
-use Rattle.theory.specs.Demands.{Accepted, Ended, run-ends, six, seven, eight, nine, output-valid, diagonal-nonzero}
+use Rattle.theory.specs.Demands.{Accepted, Ended, run-ends, six, seven, eight, nine, ten, output-valid, diagonal-nonzero}
 use Rattle.theory.specs.Demands as Demands
 use Rattle.theory.specs.Settled.{Diagonal, as-many}
 use Rattle.sheets.specs.WrittenOrder.{OrderRight, different-cons}
@@ -81,7 +81,7 @@ answerCall bytes store = answered (answerSheet bytes) store
 
 pub data RightAnswer : Answer → Type 0 where
   right-accepted : {bytes : List ℕ} → length bytes ≤ mostBytes → RightAnswer (accepted bytes)
-  right-refused : (n : ℕ) → n ≤ 8 → RightAnswer (refusedWith (suc n))
+  right-refused : (n : ℕ) → n ≤ 9 → RightAnswer (refusedWith (suc n))
 
 sized-right : (bytes : List ℕ) → RightAnswer (sized bytes)
 unfolding sized
@@ -110,6 +110,7 @@ answer-right bytes = by-read (readSheet bytes) refl (sheet-numbered bytes)
     by-run x o seven = right-refused 6 (omega arith)
     by-run x o eight = right-refused 7 (omega arith)
     by-run x o nine = right-refused 8 (omega arith)
+    by-run x o ten = right-refused 9 (omega arith)
 
     by-read : (r : Read Sheet) → readSheet bytes ≡ r → Numbered r → RightAnswer (answerRead r)
     by-read r e (read x rest) = by-run x _ (leading-ends bytes x rest e)
@@ -332,6 +333,7 @@ module _ (bytes : List ℕ) (rows relations : List ℤ) (rows-long : largestRows
         go x rest e o f seven = refuses x rest e 7 f
         go x rest e o f eight = refuses x rest e 8 f
         go x rest e o f nine = refuses x rest e 9 f
+        go x rest e o f ten = refuses x rest e 10 f
 
     -- The run accepts: the writer then has the sheet that answers.
     pub run-written : runOn readIn .result .refusal ≡ 0
@@ -361,6 +363,7 @@ module _ (bytes : List ℕ) (rows relations : List ℤ) (rows-long : largestRows
         go x rest e o f seven = absurd (clash x rest e 6 f)
         go x rest e o f eight = absurd (clash x rest e 7 f)
         go x rest e o f nine = absurd (clash x rest e 8 f)
+        go x rest e o f ten = absurd (clash x rest e 9 f)
 
 -- ---- the limit on the output
 

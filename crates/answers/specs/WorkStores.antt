@@ -32,7 +32,7 @@ use Rattle.lists.specs.Overwritten.{overwrite, overwrite-paste, drop-overwrite}
 use Rattle.rules.specs.Numbers.{Read, got, fault}
 use Rattle.rules.specs.Sheets.{Sheet, readSheet}
 use Rattle.rules.specs.SheetCalls.{ReadCall, readCall, afterRead, filled, unread, readRefusal}
-use Rattle.theory.specs.Demands.{Ended, run-ends, six, seven, eight, nine, output-valid}
+use Rattle.theory.specs.Demands.{Ended, run-ends, six, seven, eight, nine, ten, output-valid}
 use Rattle.theory.specs.Demands as Demands
 use Rattle.reading.specs.Zeros.{length-zeros, take-zeros, drop-zeros, zero-again}
 use Rattle.sheets.specs.ReadBack.{read-valid}
@@ -173,6 +173,7 @@ module _ (z : Sizes) (count : ℕ) (rows relations : List ℤ) (checked : checkS
       go o f seven = zero 7 f
       go o f eight = zero 8 f
       go o f nine = zero 9 f
+      go o f ten = zero 10 f
 
   pub accepted-used : d .result .refusal ≡ 0 → Used z d
   unfolding afterRun acceptance cleared refusal
@@ -198,3 +199,4 @@ module _ (z : Sizes) (count : ℕ) (rows relations : List ℤ) (checked : checkS
       go o f seven = absurd (clash 6 f)
       go o f eight = absurd (clash 7 f)
       go o f nine = absurd (clash 8 f)
+      go o f ten = absurd (clash 9 f)

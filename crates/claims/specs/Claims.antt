@@ -40,7 +40,7 @@
 --                   export-write-course, export-write-range, export-write-lengths, export-write-numbers, export-write-accepts,
 --                   export-write-output, export-batch-course, export-batch-lengths, export-batch-output
 --   3 runs:         same-solutions, diagonal-nonzero, agreement-leading, agreement-trailing, no-root, no-root-zero, last-root,
---                   accepted-independent, six-dependent, dependent-refused, shifts-bounded, output-passes
+--                   accepted-independent, six-dependent, ten-unsatisfied, dependent-refused, shifts-bounded, output-passes
 --     answers:      answer-solutions
 use Prim.Native.Nat.{ℕ, pred, _*_, _≤_, _<_}
 use mathlib.Core.Path.{_≡_}
@@ -103,7 +103,7 @@ module _ {side : Side} {z : Sizes} {count : ℕ} {rows relations : List ℤ} {c 
     (ran : Ran side z count rows relations c) where
   -- ---- demand 1
 
-  -- A run returns 0, 1, 2, 5, or a number from 6 to 9.
+  -- A run returns 0, 1, 2, 5, or a number from 6 to 10.
   pub run-number : RunNumber (c .result .refusal)
   run-number = Runs.number-of ran
 
@@ -169,6 +169,10 @@ module _ {side : Side} {z : Sizes} {count : ℕ} {rows relations : List ℤ} {c 
   -- Refusal 6: a nonzero combination of shifted equations of the lent system vanishes (SCOPE 2.119).
   pub six-dependent : c .result .refusal ≡ 6 → Dependent (z .l) (rowsOf (equations z) rows)
   six-dependent = Runs.dependent-six ran
+
+  -- A system that is refused with 10 is satisfied by no sequence (SCOPE 2.121).
+  pub ten-unsatisfied : c .result .refusal ≡ 10 → (y : Sequence) → Solves z count rows relations y → ⊥
+  ten-unsatisfied = Runs.unsatisfied-ten ran
 
   -- A dependent system that passes the checks is refused during the work: as dependent, or because it meets a limit
   -- first (SCOPE 2.103).
@@ -362,8 +366,8 @@ module _ {z : Sizes} {count : ℕ} {order : List ℕ} {rows relations : List ℤ
 -- ==== the answer to one sheet: `batches::answer`
 
 module _ {bytes store : List ℕ} {a : AnswerCall} (was-answered : SheetWasAnswered bytes store a) where
-  -- An answer is 0 or a refusal from 1 to 9;
-  pub answer-number : (a .refusal ≡ 0) ⊎ ((1 ≤ a .refusal) × (a .refusal ≤ 9))
+  -- An answer is 0 or a refusal from 1 to 10;
+  pub answer-number : (a .refusal ≡ 0) ⊎ ((1 ≤ a .refusal) × (a .refusal ≤ 10))
   answer-number = Answers.answer-number was-answered
 
   -- with a refusal the length is 0, and the lent store is as it was: no byte of it was needed (SCOPE 5.31).

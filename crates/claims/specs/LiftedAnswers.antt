@@ -20,7 +20,7 @@ use Rattle.rules.specs.Numbers.{Read, got, fault}
 use Rattle.rules.specs.Sheets.{Sheet, readSheet, writeSheet}
 use Rattle.rules.specs.Batch.{mostBytes, sized, answerRun, answerRead, answerSheet}
 use Rattle.rules.specs.Batch as Batch
-use Rattle.theory.specs.Demands.{Ended, six, seven, eight, nine, run-ends, output-valid, diagonal-nonzero}
+use Rattle.theory.specs.Demands.{Ended, six, seven, eight, nine, ten, run-ends, output-valid, diagonal-nonzero}
 use Rattle.theory.specs.Demands as Demands
 use Rattle.sheets.specs.ReadBack.{SheetRight, read-right}
 use Rattle.answers.specs.Answers.{AnswerCall, answerCall, answered, unanswered, sheetAfter, order-after}
@@ -86,6 +86,7 @@ answer-course {bytes} {store} call =
     by-run x h o e seven = stopped x h 7 (omega arith, omega arith) e
     by-run x h o e eight = stopped x h 8 (omega arith, omega arith) e
     by-run x h o e nine = stopped x h 9 (omega arith, omega arith) e
+    by-run x h o e ten = stopped x h 10 (omega arith, omega arith) e
 
     by-read : (r : Read Sheet) → readSheet bytes ≡ r → Numbered r → AnswerCourse bytes store (answered (answerRead r) store)
     by-read r e (read x rest) =
@@ -121,7 +122,7 @@ same-answer {x} {y} {s} {u} h k a b =
     same-state e = cc
 
 module _ {bytes store : List ℕ} where
-  number-course : {a : AnswerCall} → AnswerCourse bytes store a → (a .refusal ≡ 0) ⊎ ((1 ≤ a .refusal) × (a .refusal ≤ 9))
+  number-course : {a : AnswerCall} → AnswerCourse bytes store a → (a .refusal ≡ 0) ⊎ ((1 ≤ a .refusal) × (a .refusal ≤ 10))
   unfolding unanswered
   number-course (sheet-fault n h e) = inr (omega arith, omega arith)
   number-course (work-refused x h n f e) = inr (omega arith, f .1)
@@ -186,7 +187,7 @@ module _ {bytes store : List ℕ} where
       ((λ i. g, λ i. refl), (λ i. absurd (omega arith), λ i. absurd (i g)))
 
 module _ {bytes store : List ℕ} {a : AnswerCall} (call : SheetWasAnswered bytes store a) where
-  pub answer-number : (a .refusal ≡ 0) ⊎ ((1 ≤ a .refusal) × (a .refusal ≤ 9))
+  pub answer-number : (a .refusal ≡ 0) ⊎ ((1 ≤ a .refusal) × (a .refusal ≤ 10))
   answer-number = number-course (answer-course call)
 
   pub answer-refused : a .refusal ≢ 0 → a ≡ unanswered (a .refusal) store

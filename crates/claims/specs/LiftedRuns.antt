@@ -15,7 +15,7 @@
 --   sequences, triangular, independent, shifts-few, relations-first, output-passes   what such a call has done
 --   root-no, root-none, root-yes   the root report, by result and store
 --   agrees-leading, agrees-trailing   agreement past the root of the result
---   dependent-six, dependent-refused   refusal 6, and dependent systems
+--   dependent-six, unsatisfied-ten, dependent-refused   refusals 6 and 10, and dependent systems
 --   state-accepted, state-triangular, state-report-no, state-report-value, state-report-yes, state-past   the same, from
 --                                the state
 use Prim.Native.Nat.{ℕ, suc, pred, _+_, _*_, _≤_, _<_}
@@ -54,9 +54,9 @@ use Rattle.rules.specs.Calls.{placeRight, reportedOrder, rootFound, rootValue}
 use Rattle.theory.specs.Steps.{chain-relations}
 use Rattle.theory.specs.Mirror.{Reaches, Spans, mirrorRelations-twice, valid-relations-span}
 use Rattle.theory.specs.Settled.{as-many, Diagonal, pivotEntry, settled-leading, settled-trailing}
-use Rattle.theory.specs.Demands.{Accepted, Ended, six, seven, eight, nine, run-ends, output-valid, diagonal-nonzero}
+use Rattle.theory.specs.Demands.{Accepted, Ended, six, seven, eight, nine, ten, run-ends, output-valid, diagonal-nonzero}
 use Rattle.theory.specs.Demands.{report-no, report-root}
-use Rattle.theory.specs.Demands.{same-sequences, accepted-independent, shifts-bounded, refused-dependent}
+use Rattle.theory.specs.Demands.{same-sequences, accepted-independent, shifts-bounded, refused-dependent, refused-inconsistent}
 use Rattle.theory.specs.Demands.{agreement-leading, agreement-trailing}
 use Rattle.theory.specs.Report.{Past, Rootless, FurthestRoot, diagonalEntry, diagonal-member, diagonal-index}
 use Rattle.theory.specs.Demands as Demands
@@ -160,6 +160,7 @@ course {side} {z} {count} {rows} {relations} ran =
     worked p o e seven = run-refused p 7 (omega arith, omega arith) e
     worked p o e eight = run-refused p 8 (omega arith, omega arith) e
     worked p o e nine = run-refused p 9 (omega arith, omega arith) e
+    worked p o e ten = run-refused p 10 (omega arith, omega arith) e
 
     by : (n : ℕ) → Verdict (InRange z count) (LongEnough z rows relations) (NumbersRight z count rows relations) n
         → Course side z count rows relations (afterCheck side z count rows relations n)
@@ -575,6 +576,11 @@ module _ {side : Side} {z : Sizes} {count : ℕ} {rows relations : List ℤ} {c 
   dependent-six e =
       let h = during-exactly 6 (omega arith, omega arith) .0 e in
       refused-dependent side (passed-valid (h .0)) (h .1)
+
+  pub unsatisfied-ten : Number c ≡ 10 → (y : Sequence) → Solves z count rows relations y → ⊥
+  unsatisfied-ten e =
+      let h = during-exactly 10 (omega arith, omega arith) .0 e in
+      refused-inconsistent side (passed-valid (h .0)) (h .1)
 
   -- Once the checks pass, a refusal is one that is found during the work.
   pub begun : Passed z count rows relations → (Number c ≡ 0) ⊎ FoundDuring (Number c)

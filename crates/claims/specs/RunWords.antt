@@ -53,7 +53,7 @@ abbrev pub FoundBefore : ℕ → Type 0
 FoundBefore n = (1 ≤ n) × (n ≤ 5)
 
 abbrev pub FoundDuring : ℕ → Type 0
-FoundDuring n = (6 ≤ n) × (n ≤ 9)
+FoundDuring n = (6 ≤ n) × (n ≤ 10)
 
 -- The numbers that a run returns: 0 for an acceptance, or a refusal.
 abbrev pub RunNumber : ℕ → Type 0

@@ -38,7 +38,7 @@ use Rattle.algebra.specs.Coefficients.{coeff-add, coeff-mul, coeff-take, coeff-
 use Rattle.algebra.specs.Coefficients.{degree-lt-length, mul-within}
 use Rattle.polynomials.specs.Content.{Below}
 use Rattle.polynomials.specs.Product.{product-size}
-use Rattle.rules.specs.Limits.{rowLength, small, coefficientCount, columnCount, polynomialCount}
+use Rattle.rules.specs.Limits.{rowLength, small, coefficientCount, columnCount}
 use Rattle.rules.specs.Rows.{Row, mapRow, coefficientsOf, combine, primitive, lowDegrees, cut}
 use Rattle.lists.specs.Everywhere.{All}
 use Rattle.lists.specs.Images.{getD-map, getD-zipWith}
@@ -46,9 +46,9 @@ use Rattle.lists.specs.Joined.{length-flatten}
 use Rattle.rules.specs.Stores.{rowOf, StoreRow}
 use Rattle.lists.specs.Parts.{parts, parts-length, parts-width, getD-parts, part-flatten}
 use Rattle.rules.specs.Elimination.{within, limitDegrees}
-use Rattle.rules.specs.Layout.{coefficientsAt, polynomialsIn}
-use Rattle.stores.specs.Flat.{polynomialsOf, polynomials-rowOf, polynomials-combine, numbers-mapRow}
-use Rattle.combinations.specs.Primitive.{polynomials-mapRow, degrees-within}
+use Rattle.rules.specs.Layout.{coefficientsAt}
+use Rattle.stores.specs.Flat.{partCount, partsIn, polynomialsOf, polynomials-rowOf, polynomials-mapRow, polynomials-combine, numbers-mapRow, length-blocks}
+use Rattle.combinations.specs.Primitive.{lowDegrees-every, degrees-within}
 use Rattle.working_rows.specs.Worked.{Held, held, store-row}
 
 -- ---- polynomials with the same coefficients
@@ -242,7 +242,7 @@ module _ (g h : Polynomial) (short-g : length g ≤ coefficientCount) (short-h :
 
 -- The polynomials of a combination of two rows that are held by numbers.
 combinations : Polynomial → Polynomial → List ℤ → List ℤ → List Polynomial
-combinations g h t u = zipWith (λ p q. add (mul g p) (mul h q)) (polynomialsIn t) (polynomialsIn u)
+combinations g h t u = zipWith (λ p q. add (mul g p) (mul h q)) (partsIn t) (partsIn u)
 
 low-width : (ps : List Polynomial) → All (λ p. length p ≡ coefficientCount) (map lowPart ps)
 unfolding All
@@ -264,24 +264,23 @@ module _ (g h : Polynomial) (t u : List ℤ) where
   polynomials-combination : polynomialsOf combination ≡ combinations g h t u
   unfolding combinations
   polynomials-combination =
-      polynomials-combine g h columnCount (rowOf t) (rowOf u) (columns t) (columns u)
+      polynomials-combine g h columnCount (rowOf t) (rowOf u) (length-blocks t ∙ sym (length-blocks u)) (columns t) (columns u)
       ∙ ap₂ (zipWith (λ p q. add (mul g p) (mul h q))) (polynomials-rowOf t) (polynomials-rowOf u)
 
-  length-combinations : length (combinations g h t u) ≡ polynomialCount
+  length-combinations : length (combinations g h t u) ≡ partCount
   unfolding combinations zipWith parts
   length-combinations = refl
 
-  pub combination-at : (e : ℕ) → e < polynomialCount → getD (polynomialsOf combination) e [] ≡ entryAt e
+  pub combination-at : (e : ℕ) → e < partCount → getD (polynomialsOf combination) e [] ≡ entryAt e
   unfolding combinations
   combination-at e l =
       ap (λ ps. getD ps e []) polynomials-combination
-      ∙ getD-zipWith (λ p q. add (mul g p) (mul h q)) (polynomialsIn t) (polynomialsIn u) e [] [] [] (rw parts-length l) (rw parts-length l)
-      ∙ ap₂ (λ p q. add (mul g p) (mul h q)) (getD-parts coefficientCount polynomialCount t e l)
-      (getD-parts coefficientCount polynomialCount u e l)
+      ∙ getD-zipWith (λ p q. add (mul g p) (mul h q)) (partsIn t) (partsIn u) e [] [] [] (rw parts-length l) (rw parts-length l)
+      ∙ ap₂ (λ p q. add (mul g p) (mul h q)) (getD-parts coefficientCount partCount t e l)
+      (getD-parts coefficientCount partCount u e l)
 
   pub low-degrees : lowDegrees combination ≡ every (λ p. isZero (drop coefficientCount p)) (polynomialsOf combination)
-  unfolding lowDegrees
-  low-degrees = sym (every-flatten (λ p. isZero (drop coefficientCount p)) (combination .blocks))
+  low-degrees = lowDegrees-every combination
 
   numbers-low : coefficientsOf (mapRow lowPart combination) ≡ flatten (map lowPart (combinations g h t u))
   numbers-low = numbers-mapRow lowPart combination ∙ ap (λ ps. flatten (map lowPart ps)) polynomials-combination
@@ -291,16 +290,16 @@ module _ (g h : Polynomial) (t u : List ℤ) where
       ap length numbers-low ∙ length-flatten coefficientCount (map lowPart (combinations g h t u)) (low-width (combinations g h t u))
       ∙ ap (λ n. n * coefficientCount) (length-map (combinations g h t u) lowPart ∙ length-combinations)
 
-  pub low-part : (e : ℕ) → e < polynomialCount → coefficientsAt (coefficientsOf (mapRow lowPart combination)) e ≡ lowPart (entryAt e)
+  pub low-part : (e : ℕ) → e < partCount → coefficientsAt (coefficientsOf (mapRow lowPart combination)) e ≡ lowPart (entryAt e)
   low-part e l =
       ap (λ r. coefficientsAt r e) (numbers-low ∙ sym (append-nil (flatten (map lowPart (combinations g h t u)))))
-      ∙ part-flatten coefficientCount polynomialCount (map lowPart (combinations g h t u)) []
+      ∙ part-flatten coefficientCount partCount (map lowPart (combinations g h t u)) []
       (length-map (combinations g h t u) lowPart ∙ length-combinations)
       (low-width (combinations g h t u)) e l
       ∙ getD-map lowPart (combinations g h t u) e [] [] (rw length-combinations l)
       ∙ ap lowPart (ap (λ ps. getD ps e []) (sym polynomials-combination) ∙ combination-at e l)
 
-  pub length-polynomials : length (polynomialsOf combination) ≡ polynomialCount
+  pub length-polynomials : length (polynomialsOf combination) ≡ partCount
   length-polynomials = ap length polynomials-combination ∙ length-combinations
 
   -- ---- the whole row
@@ -309,7 +308,7 @@ module _ (g h : Polynomial) (t u : List ℤ) where
     long-combinations : All (λ p. coefficientCount ≤ length p) (combinations g h t u)
     unfolding combinations
     long-combinations =
-        long-sums g h some (polynomialsIn t) (polynomialsIn u) (parts-width coefficientCount polynomialCount t (omega arith))
+        long-sums g h some (partsIn t) (partsIn u) (parts-width coefficientCount partCount t (omega arith))
 
     pub cut-low : coefficientsOf (cut combination) ≡ coefficientsOf (mapRow lowPart combination)
     unfolding cut
@@ -329,7 +328,7 @@ module _ (g h : Polynomial) (t u : List ℤ) where
         ∙ ap (map (take coefficientCount)) (polynomials-mapRow f combination ∙ ap (map f) polynomials-combination)))
         (front-width f e (combinations g h t u) long-combinations))
 
-    StoreRow-primitive : StoreRow (cut (primitive combination))
+    pub StoreRow-primitive : StoreRow (cut (primitive combination))
     unfolding primitive mapRow combine rowOf zipWith
     StoreRow-primitive = go (content (coefficientsOf combination))
       where
@@ -347,14 +346,14 @@ module _ (g h : Polynomial) (t u : List ℤ) where
   unfolding combinations
   numbers-below s =
       subst (Below (2 ^ 63)) (sym numbers-low)
-      (low-below g h (s .0) (s .1) (s .2) (s .3) (polynomialsIn t) (polynomialsIn u) (small-parts polynomialCount t (s .4))
-      (small-parts polynomialCount u (s .5)))
+      (low-below g h (s .0) (s .1) (s .2) (s .3) (partsIn t) (partsIn u) (small-parts partCount t (s .4))
+      (small-parts partCount u (s .5)))
 
 -- ---- the polynomial at place e, made of trimmed parts
 
 -- Multipliers g and h, and the parts of rows t and u at place e, all trimmed; n is the width of a part as the code computes it.
 pub record Trimmed (g h : Polynomial) (t u : List ℤ) (e n : ℕ) (a p b q : Polynomial) : Type 0 where
-  pub below : e < polynomialCount
+  pub below : e < partCount
   pub width : n ≡ coefficientCount
   pub at-g : a ≡ trim g
   pub at-h : b ≡ trim h

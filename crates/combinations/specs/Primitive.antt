@@ -24,13 +24,13 @@ use Rattle.algebra.specs.Gcd.{gcd, content, divideBy, gcd-zero, gcd-divides-lef
 use Rattle.algebra.specs.Gcd.{content-zero}
 use Rattle.algebra.specs.Gcd.{dividesAll-of-content, isZero-divideBy, divideBy-one}
 use Rattle.algebra.specs.Polynomials.{Polynomial, isZero}
-use Rattle.lists.specs.Tests.{T-&&, every, every-flatten}
+use Rattle.lists.specs.Tests.{T-&&, every, every-append, every-flatten}
 use Rattle.polynomials.specs.Content.{Below}
 use Rattle.rules.specs.Rows.{Row, mapRow, coefficientsOf, primitive, lowDegrees, cut}
 use Rattle.lists.specs.Images.{map-take, map-drop}
 use Rattle.rules.specs.Limits.{rowLength, coefficientCount}
-use Rattle.rules.specs.Elimination.{within, beyond, limitCoefficients, limitDegrees}
-use Rattle.stores.specs.Flat.{polynomialsOf, numbers-mapRow}
+use Rattle.rules.specs.Elimination.{within, beyond, limitCoefficients, limitDegrees, consistent}
+use Rattle.stores.specs.Flat.{polynomialsOf, polynomials-mapRow, numbers-polynomials, numbers-mapRow}
 use Rattle.lists.specs.Joined.{flatten-map}
 use Rattle.working_rows.specs.Worked.{Shown, refusalOf, numbersOf}
 
@@ -89,13 +89,16 @@ content-take n p z =
 abbrev isLow : Polynomial → Bool
 isLow p = isZero (drop coefficientCount p)
 
-lowDegrees-every : (r : Row) → lowDegrees r ≡ every isLow (polynomialsOf r)
-unfolding lowDegrees
-lowDegrees-every r = sym (every-flatten isLow (r .blocks))
-
-pub polynomials-mapRow : (f : Polynomial → Polynomial) (r : Row) → polynomialsOf (mapRow f r) ≡ map f (polynomialsOf r)
-unfolding mapRow
-polynomials-mapRow f r = flatten-map f (r .blocks)
+pub lowDegrees-every : (r : Row) → lowDegrees r ≡ every isLow (polynomialsOf r)
+unfolding lowDegrees every
+lowDegrees-every r =
+    sym
+    (every-append isLow (flatten (r .blocks)) (r .right ∷ [])
+    ∙ ap₂ _&&_ (every-flatten isLow (r .blocks)) (and-true (isLow (r .right))))
+  where
+    and-true : (t : Bool) → (t && true) ≡ t
+    and-true true = refl
+    and-true false = refl
 
 module _ (d : ℕ) (positive : 0 < d) where
   divided-low : (p : Polynomial) → d ∣ content p → isLow (divideBy d p) ≡ isLow p
@@ -116,9 +119,9 @@ module _ (d : ℕ) (positive : 0 < d) where
 
 pub degree-kept : (r : Row) → lowDegrees (primitive r) ≡ lowDegrees r
 unfolding primitive coefficientsOf
-degree-kept r = go (content (coefficientsOf r)) (dvd-refl (content (coefficientsOf r)))
+degree-kept r = go (content (coefficientsOf r)) (rw (sym (numbers-polynomials r)) (dvd-refl (content (coefficientsOf r))))
   where
-    go : (d : ℕ) → d ∣ content (coefficientsOf r) → lowDegrees (elim d [ zero ↦ r | suc e ↦ mapRow (divideBy (suc e)) r ]) ≡ lowDegrees r
+    go : (d : ℕ) → d ∣ content (flatten (polynomialsOf r)) → lowDegrees (elim d [ zero ↦ r | suc e ↦ mapRow (divideBy (suc e)) r ]) ≡ lowDegrees r
     go zero h = refl
     go (suc d) h =
         lowDegrees-every (mapRow (divideBy (suc d)) r) ∙ ap (every isLow) (polynomials-mapRow (divideBy (suc d)) r)
@@ -163,12 +166,14 @@ cut-primitive r low =
     go (suc d) = cut-divided (suc d) r
 
     same : content (coefficientsOf (cut r)) ≡ content (coefficientsOf r)
-    same = ap content (numbers-cut r) ∙ content-low (polynomialsOf r) (subst T (lowDegrees-every r) low)
+    same =
+        ap content (numbers-cut r) ∙ content-low (polynomialsOf r) (subst T (lowDegrees-every r) low)
+        ∙ ap content (sym (numbers-polynomials r))
 
 -- ---- the answer
 
-pub limit-past : (r : Row) → lowDegrees r ≡ false → Shown 7 (replicate rowLength (pos 0)) (limitDegrees (primitive r))
-unfolding limitDegrees refusalOf numbersOf
+pub limit-past : (r : Row) → lowDegrees r ≡ false → Shown 7 (replicate rowLength (pos 0)) (consistent (limitDegrees (primitive r)))
+unfolding limitDegrees consistent refusalOf numbersOf
 limit-past r e = rw (degree-kept r, e) (refl, refl)
 
 pub limit-low : (r : Row) → lowDegrees r ≡ true → limitDegrees (primitive r) ≡ limitCoefficients (cut (primitive r))

@@ -12,11 +12,14 @@ ghost use Rattle.rules.specs.Limits.{rowLength, small, coefficientCount};
 ghost use Rattle.rules.specs.Rows.{lowDegrees, combine, primitive, mapRow, coefficientsOf};
 ghost use Rattle.lists.specs.Tests.{every};
 ghost use Rattle.rules.specs.Stores.{rowOf};
-ghost use Rattle.rules.specs.Elimination.{limitDegrees};
+ghost use Rattle.rules.specs.Elimination.{limitDegrees, consistent};
 ghost use Rattle.working_rows.specs.Worked.{refusalOf, numbersOf};
 ghost use Rattle.combinations.specs.Combination.{trim, lowPart};
 ghost use Rattle.combinations.specs.Primitive.{primitiveNumbers};
 ghost use Rattle.polynomials.specs.Content.{Below};
+
+// The polynomials of a row, the right side last.
+const PARTS: usize = POLYNOMIALS + 1;
 
 // The coefficients up to the highest nonzero one.
 fn trimmed(p: &[i64]) -> &[i64]
@@ -91,7 +94,7 @@ fn past_degree(g: &[i64], h: &[i64], target: &[i64], pivot: &[i64]) -> bool
     let a = trimmed(g);
     let b = trimmed(h);
     let mut e = 0;
-    while e < POLYNOMIALS {
+    while e < PARTS {
         let from = e * COEFFICIENTS;
         let to = from + COEFFICIENTS;
         if passes(a, trimmed(&target[from..to]), b, trimmed(&pivot[from..to])) {
@@ -115,7 +118,7 @@ fn low_combination(g: &[i64], h: &[i64], target: &[i64], pivot: &[i64]) -> [i64;
     let b = trimmed(h);
     let mut row = [0i64; ROW];
     let mut e = 0;
-    while e < POLYNOMIALS {
+    while e < PARTS {
         let from = e * COEFFICIENTS;
         let to = from + COEFFICIENTS;
         let p = trimmed(&target[from..to]);
@@ -142,7 +145,7 @@ fn primitive_part(row: [i64; ROW]) -> [i64; ROW]
 }
 
 // g × target + h × pivot, divided by its content (SCOPE 2.41, 2.42). A degree past 15 is refused with 7; if there is
-// none, a coefficient past ±C with 8 (SCOPE 2.43, 2.44). The division does not change a degree, so the degrees are
+// none, a coefficient past ±C with 8; a row whose left part alone is zero with 10 (SCOPE 2.43, 2.44, 2.46). The division does not change a degree, so the degrees are
 // looked at first.
 pub fn combined(
     g: &[i64],
@@ -153,8 +156,8 @@ pub fn combined(
     requires { ⌜
         (length (now g) ≡ coefficientCount) × T (every small (now g)) × (length (now h) ≡ coefficientCount) × T (every small (now h)) ⌝ }
     requires { ⌜ T (every small target) × T (every small pivot) ⌝ }
-    ensures { λ r. ⌜ r .refusal ≡ refusalOf (limitDegrees (primitive (combine (now (g .entry)) (now (h .entry)) (rowOf target) (rowOf pivot)))) ⌝ }
-    ensures { λ r. ⌜ r .row ≡ numbersOf (limitDegrees (primitive (combine (now (g .entry)) (now (h .entry)) (rowOf target) (rowOf pivot)))) ⌝ }
+    ensures { λ r. ⌜ r .refusal ≡ refusalOf (consistent (limitDegrees (primitive (combine (now (g .entry)) (now (h .entry)) (rowOf target) (rowOf pivot))))) ⌝ }
+    ensures { λ r. ⌜ r .row ≡ numbersOf (consistent (limitDegrees (primitive (combine (now (g .entry)) (now (h .entry)) (rowOf target) (rowOf pivot))))) ⌝ }
 {
     if past_degree(g, h, &target[..], &pivot[..]) {
         return working_rows::limits::Worked {
@@ -162,5 +165,5 @@ pub fn combined(
             row: [0; ROW],
         };
     }
-    working_rows::limits::limited(primitive_part(low_combination(g, h, &target[..], &pivot[..])))
+    working_rows::limits::consistent(primitive_part(low_combination(g, h, &target[..], &pivot[..])))
 }

@@ -31,7 +31,7 @@ use Rattle.rules.specs.Stores.{Sizes, Valid, span, rowsOf, relationsOf, sizesRi
 use Rattle.rules.specs.Stores.{equations}
 use Rattle.rules.specs.Layout.{SizeBounds, size-bounds, equations-few, checkStores-order, stores-valid, countRight-iff, block-place}
 use Rattle.lists.specs.Padded.{length-padTo, all-padTo}
-use Rattle.theory.specs.Demands.{Accepted, Ended, accepted, six, seven, eight, nine, run-ends, shifts-bounded, output-valid}
+use Rattle.theory.specs.Demands.{Accepted, Ended, accepted, six, seven, eight, nine, ten, run-ends, shifts-bounded, output-valid}
 use Rattle.theory.specs.Demands.{diagonal-nonzero}
 use Rattle.rules.specs.Calls.{reportedOrder}
 use Rattle.rules.specs.Calls.{Result, Call, callRun, zeros, refusal, unchanged, cleared, acceptance, afterRun, afterCheck}
@@ -197,6 +197,7 @@ module _ (side : Side) (z : Sizes) (count : ℕ) (rowStore relationStore : List 
     late o seven = refl
     late o eight = refl
     late o nine = refl
+    late o ten = refl
 
   -- The result of a run is small.
   pub run-small : {x : Call} → x ≡ callRun side z count rowStore relationStore → SmallResult (x .result)

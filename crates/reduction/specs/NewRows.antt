@@ -21,8 +21,8 @@ use lib.ListN.{length, take, set}
 use lib.Seq.{paste}
 use Rattle.algebra.specs.Polynomials.{Polynomial}
 use Rattle.rules.specs.Limits.{rowLength}
-use Rattle.rules.specs.Rows.{Row, coefficientsOf, combine, primitive, cut, shiftUp, smallRow, lowDegrees}
-use Rattle.rules.specs.Elimination.{Limited, within, beyond, limitCoefficients, limitDegrees, going, putRow, putLimited}
+use Rattle.rules.specs.Rows.{Row, coefficientsOf, contradicts, combine, primitive, cut, shiftUp, smallRow, lowDegrees}
+use Rattle.rules.specs.Elimination.{Limited, within, beyond, limitCoefficients, limitDegrees, consistent, going, putRow, putLimited}
 use Rattle.rules.specs.Stores.{rowOf, rowsOf, relationsOf, rowNeed}
 use Rattle.working_rows.specs.Worked.{Held, refusalOf, numbersOf}
 use Rattle.combinations.specs.Combination.{combined-held}
@@ -60,9 +60,20 @@ degrees-storable q h = cases (lowDegrees q) h
 pub shifted-storable : (l : List ℤ) → length l ≡ rowLength → Storable (limitCoefficients (shiftUp (rowOf l)))
 shifted-storable l e = coefficients-storable (shiftUp (rowOf l)) (shifted-held l e)
 
+consistent-storable : (x : Limited) → Storable x → Storable (consistent x)
+unfolding Storable consistent
+consistent-storable (beyond n) h = h
+consistent-storable (within r) h = cases (contradicts r)
+  where
+    cases : (t : Bool) → Storable (cond t (beyond 10) (within r))
+    cases true = lit< tt
+    cases false = h
+
 pub combined-storable : (g h : Polynomial) (l m : List ℤ) → 0 < length g → length l ≡ rowLength
-    → Storable (limitDegrees (primitive (combine g h (rowOf l) (rowOf m))))
-combined-storable g h l m some e = degrees-storable (primitive (combine g h (rowOf l) (rowOf m))) (combined-held g h l m some e)
+    → Storable (consistent (limitDegrees (primitive (combine g h (rowOf l) (rowOf m)))))
+combined-storable g h l m some e =
+    let r = primitive (combine g h (rowOf l) (rowOf m)) in
+    consistent-storable (limitDegrees r) (degrees-storable r (combined-held g h l m some e))
 
 -- ---- the store afterwards
 

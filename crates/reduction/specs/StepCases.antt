@@ -2,7 +2,7 @@
 --
 -- Main statements
 --   finished-at               the state is finished if the settled rows are all equations rows
---   step-zero                 rule 1: a zero row
+--   step-zero, step-contradicts   rule 1: a zero row, and one whose left part alone is zero
 --   step-met, met-nonzero     rule 2: settled row j meets a nonzero entry, and the entries are not both zero after the exchange
 --   narrowed-ready            after which a step may be made as before it
 --   settled-reached           rule 5: what settling gives
@@ -23,10 +23,10 @@ use lib.ListN.{length, take, drop, getD, set, length-set}
 use lib.Seq.{length-take-le, take-suc-set}
 use Rattle.algebra.specs.Polynomials.{Polynomial, isZero, isZero-append}
 use Rattle.rules.specs.Limits.{coefficientCount, columnCount}
-use Rattle.rules.specs.Rows.{Row, zeroRow, entry, leadingBlock, firstNonzero}
+use Rattle.rules.specs.Rows.{Row, zeroRow, contradicts, entry, leadingBlock, firstNonzero}
 use Rattle.lists.specs.Everywhere.{All}
 use Rattle.rules.specs.Stores.{rowOf, rowsOf, relationsOf, relationNeed, rowNeed}
-use Rattle.rules.specs.Elimination.{Side, State, going, refused, settle, multipliersAt}
+use Rattle.rules.specs.Elimination.{Side, State, Outcome, going, refused, settle, multipliersAt}
 use Rattle.rules.specs.Elimination.{combineStep, eliminateStep, shiftStep, settleOrShift, meet, workOn, finished, step}
 use Rattle.rules.specs.Layout.{blockAt, length-rowsOf}
 use Rattle.lists.specs.Parts.{parts-length}
@@ -116,19 +116,30 @@ module _ (side : Side) {equations : ℕ} {rows relations : List ℤ} {p : Progre
     pub narrowed-ready : (j : ℕ) → j < w → Ready equations (narrowed rows w j) relations p
     narrowed-ready j h = ready-with ready (narrowed-within equations rows (ready .rows-within) w j inside (omega arith)) (ready .listing)
 
-    step-is : step side s ≡ cond (zeroRow row) (refused 6) (meet side s w (firstNonzero entries))
+    -- What comes where the row is not zero.
+    abbrev rest : Outcome
+    rest = meet side s w (firstNonzero entries)
+
+    step-is : step side s ≡ cond (zeroRow row) (refused 6) (cond (contradicts row) (refused 10) rest)
     unfolding step workOn stateOf
     step-is =
         rw order-length
-        (ap (λ r. cond (zeroRow r) (refused 6) (meet side s w (firstNonzero (map (entry r) (take w (p .order))))))
+        (ap (λ r. cond (zeroRow r) (refused 6)
+        (cond (contradicts r) (refused 10) (meet side s w (firstNonzero (map (entry r) (take w (p .order)))))))
         (row-of equations rows relations p w inside))
 
     pub step-zero : zeroRow row ≡ true → step side s ≡ refused 6
-    step-zero z = step-is ∙ ap (λ t. cond t (refused 6) (meet side s w (firstNonzero entries))) z
+    step-zero z = step-is ∙ ap (λ t. cond t (refused 6) (cond (contradicts row) (refused 10) rest)) z
 
-    module _ (nonzero : zeroRow row ≡ false) where
+    step-nonzero : zeroRow row ≡ false → step side s ≡ cond (contradicts row) (refused 10) rest
+    step-nonzero z = step-is ∙ ap (λ t. cond t (refused 6) (cond (contradicts row) (refused 10) rest)) z
+
+    pub step-contradicts : zeroRow row ≡ false → contradicts row ≡ true → step side s ≡ refused 10
+    step-contradicts z c = step-nonzero z ∙ ap (λ t. cond t (refused 10) rest) c
+
+    module _ (nonzero : zeroRow row ≡ false) (possible : contradicts row ≡ false) where
       step-meet : step side s ≡ meet side s w (firstNonzero entries)
-      step-meet = step-is ∙ ap (λ t. cond t (refused 6) (meet side s w (firstNonzero entries))) nonzero
+      step-meet = step-nonzero nonzero ∙ ap (λ t. cond t (refused 10) rest) possible
 
       pub step-met : (j : ℕ) → foundOr w (firstNonzero entries) ≡ j → j < w
           → let e = stateOf equations (narrowed rows w j) relations p in step side s ≡ combineStep side e w j (multipliersAt e w j)

@@ -25,7 +25,7 @@ use Rattle.algebra.specs.Polynomials.{Polynomial}
 use Rattle.algebra.specs.Roots.{roots}
 use Rattle.rules.specs.Rows.{entry, combine, primitive, shiftUp}
 use Rattle.rules.specs.Stores.{rowOf, rowsOf, relationsOf, relationNeed, rowNeed}
-use Rattle.rules.specs.Elimination.{Side, State, Outcome, refused, Limited, limitDegrees, rowAt, putLimited}
+use Rattle.rules.specs.Elimination.{Side, State, Outcome, refused, Limited, limitDegrees, consistent, rowAt, putLimited}
 use Rattle.rules.specs.Elimination.{Multipliers, multipliers, multipliersAt, listing, listRelations, rootRelations, combineStep}
 use Rattle.rules.specs.Elimination.{limitCoefficients, countShift, shiftStep}
 use Rattle.rules.specs.Layout.{length-relationsOf}
@@ -101,7 +101,7 @@ multipliersIn rows p j =
     let c = getD (p .order) j 0 in multipliers (entry (rowOf (numbersAt rows j)) c) (entry (rowOf (numbersAt rows (p .settled))) c)
 
 abbrev pub newRow : Multipliers → List ℤ → List ℤ → Limited
-newRow x target pivot = limitDegrees (primitive (combine (x .g) (x .h) (rowOf target) (rowOf pivot)))
+newRow x target pivot = consistent (limitDegrees (primitive (combine (x .g) (x .h) (rowOf target) (rowOf pivot))))
 
 module _ (side : Side) {equations : ℕ} {rows relations : List ℤ} {p : Progress} (ready : Ready equations rows relations p) (j : ℕ)
     (inside : p .settled < equations) (settled : j < p .settled) where
@@ -160,7 +160,7 @@ module _ (side : Side) {equations : ℕ} {rows relations : List ℤ} {p : Progre
       combine-listed h =
           rw (listed-count, le-leb (p .count + more) 16 h)
           (ap₂ (λ s r. putLimited s i r) listed-state
-          (ap₂ (λ a b. limitDegrees (primitive (combine (x .g) (x .h) a b))) i-row j-row))
+          (ap₂ (λ a b. consistent (limitDegrees (primitive (combine (x .g) (x .h) a b)))) i-row j-row))
 
       pub combine-reached : p .count + more ≤ 16 → Storable new
           → Reached equations rows relations (saved rows i (refusalOf new) (numbersOf new)) relations' (p .shifts + 1)

@@ -176,7 +176,7 @@ fn combine_step(
     )
 }
 
-// One exchange with its combination, one combination, one settling or one shift (SCOPE 2.2, 2.11, 2.26). A step is taken only
+// One exchange with its combination, one combination, one settling or one shift (SCOPE 2.2, 2.11, 2.12, 2.26). A step is taken only
 // where a row is left.
 pub(crate) fn step(
     rows: &mut [i64],
@@ -194,6 +194,9 @@ pub(crate) fn step(
     let row = stores::rows::load(rows, i * ROW);
     if working_rows::entries::is_zero_row(row) {
         return answer(6, p);
+    }
+    if working_rows::entries::contradicts(row) {
+        return answer(10, p);
     }
     let order = p.order;
     let j = working_rows::entries::first_met(row, order, i);

@@ -73,7 +73,7 @@ unfoldable pub unchanged : ℕ → List ℤ → List ℤ → Call
 unfolding refusal
 unchanged n rowStore relationStore = record { result = refusal n; rowStore = rowStore; relationStore = relationStore }
 
--- Refusals 6 to 9, found during the work, make the needed parts zero; the rest stays (SCOPE 6.33).
+-- Refusals 6 to 10, found during the work, make the needed parts zero; the rest stays (SCOPE 6.33).
 unfoldable pub cleared : ℕ → ℕ → List ℤ → List ℤ → Call
 unfolding refusal overwrite zeros rowNeed
 cleared n equations rowStore relationStore =

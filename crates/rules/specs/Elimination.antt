@@ -78,7 +78,7 @@ unfoldable pub limitDegrees : Row → Limited
 unfolding lowDegrees cut limitCoefficients
 limitDegrees r = let rest = limitCoefficients (cut r) in cond (lowDegrees r) rest (beyond 7)
 
--- A new row whose left part alone is zero is refused with 10, behind the limits (SCOPE 2.46).
+-- A new row whose left part alone is zero is refused with 10, behind the limits (SCOPE 2.48).
 unfoldable pub consistent : Limited → Limited
 unfolding contradicts
 consistent (within r) = cond (contradicts r) (beyond 10) (within r)

@@ -28,7 +28,7 @@ use Rattle.lists.specs.Tests.{same-test, every}
 use Rattle.algebra.specs.Roots.{roots}
 use Rattle.algebra.specs.Order.{≤ℤ-trans, ≤ℤ-total}
 use Rattle.rules.specs.Elimination.{Side, leading, trailing, State, diagonal, diagonalPlace, further, furthest, report}
-use Rattle.rules.specs.Limits.{coefficientCount, columnCount, mostSpan, blockCount, polynomialCount, blockLength, rowLength, small}
+use Rattle.rules.specs.Limits.{coefficientCount, columnCount, mostSpan, blockCount, blockLength, rowLength, small}
 use Rattle.rules.specs.Rows.{Row, noRow}
 use Rattle.rules.specs.Stores.{rowsOf, rowNeed}
 use Rattle.lists.specs.Images.{length-zipWith, getD-zipWith}
@@ -36,6 +36,7 @@ use Rattle.rules.specs.Layout.{length-rowsOf, polynomial-at}
 use Rattle.rules.specs.Calls.{rootFound, rootValue}
 use Rattle.roots.specs.declared.RootAnswer.{RootAnswer}
 use Rattle.roots.specs.RootSearch.{answered}
+use Rattle.stores.specs.Flat.{partCount}
 use Rattle.working_rows.specs.Found.{Columns, Columns-at}
 use Rattle.sides.specs.Lent.{Within}
 use Rattle.sides.specs.StoreStates.{part-small}
@@ -251,9 +252,9 @@ module _ (side : Side) (D equations : ℕ) (store : List ℤ) (order : List ℕ)
     diagonal-small w =
         let b = diagonalPlace side D in
         let c = getD order j 0 in
-        let e = j * polynomialCount + b * columnCount + c in
+        let e = j * partCount + b * columnCount + c in
         let place : e * coefficientCount ≡ j * rowLength + b * blockLength + c * coefficientCount = omega arith in
-        let all : equations * rowLength ≡ equations * polynomialCount * coefficientCount = omega arith in
-        let inside : e < equations * polynomialCount = omega (arith, place-below side D few, Columns-at order columns j) in
+        let all : equations * rowLength ≡ equations * partCount * coefficientCount = omega arith in
+        let inside : e < equations * partCount = omega (arith, place-below side D few, Columns-at order columns j) in
         subst (λ n. T (every small (take coefficientCount (drop n store)))) place
-        (part-small coefficientCount (equations * polynomialCount) e store inside (subst (λ n. Within n store) all w))
+        (part-small coefficientCount (equations * partCount) e store inside (subst (λ n. Within n store) all w))

@@ -5,24 +5,25 @@
 --   placeRight m D l q   is it zero if so, and otherwise within ±C?
 --
 -- Main statements
---   row-true, row-false  a row passes its check exactly if every polynomial passes
+--   row-true, row-false  a row passes its check exactly if every polynomial of its left part passes and its right side is within ±C
 use Prim.Native.Nat.{ℕ, suc, _+_, _*_, _/_, _%_, _≤_, _<_, zero-le}
+use native.Mathlib.Nat.{eq-or-lt-of-le, le-of-suc-le-suc}
 use native.Mathlib.Omega.{arith}
 use mathlib.Core.Path.{_≡_, sym, _∙_, ap, subst}
 use mathlib.Core.Logic.{_↔_, _⊎_, inl, inr, ⊎-elim}
 use mathlib.Core.Bool.{Bool, true, false, _&&_, _||_, cond}
 use mathlib.Core.List.{List, [], _∷_}
-use lib.Dec.{T, ltb, leb, ltb→lt, lt→ltb, leb→le, le→leb}
+use lib.Dec.{T, lit<, ltb, leb, ltb→lt, lt→ltb, leb→le, le→leb}
 use lib.IntN.{ℤ}
 use lib.ListN.{length, take, drop, getD}
 use Rattle.algebra.specs.Polynomials.{isZero, isZero-cons}
-use Rattle.lists.specs.Tests.{T-&&, true-of, false-of, every, every-from-at, every-from-all}
+use Rattle.lists.specs.Tests.{T-&&, same-test, false-of, every, every-from-at, every-from-all}
 use Rattle.rules.specs.Limits.{small, coefficientCount, columnCount, blockCount, polynomialCount, blockLength}
 use Rattle.rules.specs.Rows.{Block, zeroBlock, smallRow}
 use Rattle.rules.specs.Stores.{rowOf, unusedZero}
 use Rattle.lists.specs.Parts.{parts, parts-length, getD-parts}
-use Rattle.rules.specs.Layout.{polynomial-at-row, coefficientsAt, blockAt, polynomialsIn}
-use Rattle.stores.specs.Flat.{smallRow-rowOf, length-blocks, block-at}
+use Rattle.rules.specs.Layout.{polynomial-at-row, coefficientsAt, blockAt}
+use Rattle.stores.specs.Flat.{partCount, partsIn, smallRow-rowOf, length-blocks, block-at}
 
 -- Polynomial q lies in block q / columnCount, counted from block l down, and in column q % columnCount.
 unfoldable pub outside : ℕ → ℕ → ℕ → Bool
@@ -144,16 +145,28 @@ module _ (m D : ℕ) (l : List ℤ) where
           let column : (b * columnCount + c) % columnCount ≡ c = omega arith in
           rw (part-at b c hb hc) (h (b * columnCount + c) (omega arith) (rw (block, column) out))
 
-  small-iff : T (smallRow (rowOf l)) ↔ ((q : ℕ) → q < polynomialCount → T (every small (part q)))
+  -- The right side stands behind the polynomials of the left part.
+  abbrev sideSmall : Bool
+  sideSmall = every small (part polynomialCount)
+
+  small-iff : T (smallRow (rowOf l)) ↔ (((q : ℕ) → q < polynomialCount → T (every small (part q))) × T sideSmall)
   small-iff = (
-    λ h q below. rw (getD-parts coefficientCount polynomialCount l q below)
-        at (every-from-at (every small) (polynomialsIn l) [] 0 (rw smallRow-rowOf at h) q zero-le (rw parts-length below)),
-    λ h. rw smallRow-rowOf (every-from-all (every small) (polynomialsIn l) [] 0 (λ q _ below. at h q (rw parts-length at below))),
+    λ h. (λ q below. each h q (omega arith), each h polynomialCount (lit< tt)),
+    λ h. rw smallRow-rowOf (every-from-all (every small) (partsIn l) [] 0 (λ q _ below. at h q (rw parts-length at below))),
   )
     where
-      at : ((q : ℕ) → q < polynomialCount → T (every small (part q))) → (q : ℕ) → q < polynomialCount
-          → T (every small (getD (polynomialsIn l) q []))
-      at h q below = rw (getD-parts coefficientCount polynomialCount l q below) (h q below)
+      each : T (smallRow (rowOf l)) → (q : ℕ) → q < partCount → T (every small (part q))
+      each h q below =
+          rw (getD-parts coefficientCount partCount l q below)
+          at (every-from-at (every small) (partsIn l) [] 0 (rw smallRow-rowOf at h) q zero-le (rw parts-length below))
+
+      at : ((q : ℕ) → q < polynomialCount → T (every small (part q))) × T sideSmall → (q : ℕ) → q < partCount
+          → T (every small (getD (partsIn l) q []))
+      at h q below = rw (getD-parts coefficientCount partCount l q below) (cases (eq-or-lt-of-le (le-of-suc-le-suc below)))
+        where
+          cases : (q ≡ polynomialCount) ⊎ (q < polynomialCount) → T (every small (part q))
+          cases (inl e) = rw e (h .1)
+          cases (inr e) = h .0 q e
 
   -- The test of one polynomial, as statements.
   place-iff : (q : ℕ) → T (placeRight m D l q)
@@ -168,15 +181,23 @@ module _ (m D : ℕ) (l : List ℤ) where
   abbrev right : Bool
   right = smallRow (rowOf l) && unusedZero m D (rowOf l)
 
-  right-iff : T right ↔ ((q : ℕ) → q < polynomialCount → T (placeRight m D l q))
+  right-iff : T right ↔ (((q : ℕ) → q < polynomialCount → T (placeRight m D l q)) × T sideSmall)
   right-iff =
       let e = T-&& (smallRow (rowOf l)) (unusedZero m D (rowOf l)) in (
-        λ h q below. place-iff q .1 (unused-iff .0 (e .0 h .1) q below, small-iff .0 (e .0 h .0) q below),
-        λ h. e .1 (small-iff .1 (λ q below. place-iff q .0 (h q below) .1), unused-iff .1 (λ q below. place-iff q .0 (h q below) .0)),
+        λ h. (
+          λ q below. place-iff q .1 (unused-iff .0 (e .0 h .1) q below, small-iff .0 (e .0 h .0) .0 q below),
+          small-iff .0 (e .0 h .0) .1,
+        ),
+        λ h. e .1 (
+          small-iff .1 (λ q below. place-iff q .0 (h .0 q below) .1, h .1),
+          unused-iff .1 (λ q below. place-iff q .0 (h .0 q below) .0),
+        ),
       )
 
-  pub row-true : ((q : ℕ) → q < polynomialCount → placeRight m D l q ≡ true) → right ≡ true
-  row-true h = true-of right (right-iff .1 (λ q below. subst T (sym (h q below)) tt))
+  -- Where every polynomial of the left part passes, the right side decides.
+  pub row-true : ((q : ℕ) → q < polynomialCount → placeRight m D l q ≡ true) → sideSmall ≡ right
+  row-true h =
+      same-test sideSmall right (λ s. right-iff .1 (λ q below. subst T (sym (h q below)) tt, s)) (λ r. right-iff .0 r .1)
 
   pub row-false : (q : ℕ) → q < polynomialCount → placeRight m D l q ≡ false → right ≡ false
-  row-false q below e = false-of right (λ h. subst T e (right-iff .0 h q below))
+  row-false q below e = false-of right (λ h. subst T e (right-iff .0 h .0 q below))

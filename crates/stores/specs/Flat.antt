@@ -1,4 +1,8 @@
--- A row as the list of its twenty polynomials, and what the changes of a row do to that list and to its numbers.
+-- A row as the list of its polynomials, the right side last, and what the changes of a row do to that list and to its numbers.
+--
+-- Main definitions
+--   partCount             the polynomials of a row, the right side among them
+--   polynomialsOf, partsIn   those of a row, and those of the row held by a list of numbers
 --
 -- Main statements
 --   polynomials-rowOf     the polynomials of the row held by a list of numbers are its parts of 16
@@ -10,32 +14,46 @@
 --   polynomials-combine   the polynomials of a combination of two rows
 use mathlib.Core.Path.{_≡_, refl, sym, _∙_, ap, fun-ext}
 use mathlib.Core.Bool.{false, _&&_}
-use mathlib.Core.List.{List, [], _∷_, map, flatten, zipWith}
-use Prim.Native.Nat.{ℕ, _+_, _*_, _<_}
+use mathlib.Core.List.{List, [], _∷_, _++_, map, flatten, zipWith, append-nil, map-append}
+use Prim.Native.Nat.{ℕ, suc, _+_, _*_, _<_}
 use native.Mathlib.Nat.{zero-add, le-refl}
 use lib.ListN.{length, take, drop, getD, length-map, take-append-drop}
 use lib.Seq.{take-take, drop-drop}
 use lib.Dec.{lit<}
 use lib.IntN.{ℤ}
 use Rattle.algebra.specs.Polynomials.{Polynomial, isZero, isZeroℤ, isZero-append, add, mul}
-use Rattle.rules.specs.Limits.{small, coefficientCount, columnCount, blockCount, blockLength}
-use Rattle.rules.specs.Rows.{Row, zeroBlock, zeroRow, leadingBlock, entry, mapRow, combine, smallRow, coefficientsOf}
+use Rattle.rules.specs.Limits.{small, coefficientCount, columnCount, blockCount, polynomialCount, blockLength}
+use Rattle.rules.specs.Rows.{Row, zeroBlock, zeroLeft, zeroRow, leadingBlock, entry, mapRow, combine, smallRow, coefficientsOf}
 use Rattle.lists.specs.Everywhere.{All}
 use Rattle.lists.specs.Tests.{every, every-flatten}
-use Rattle.lists.specs.Images.{getD-map}
+use Rattle.lists.specs.Images.{getD-map, zipWith-append}
 use Rattle.rules.specs.Stores.{rowOf}
-use Rattle.lists.specs.Parts.{parts, parts-parts, parts-length, flatten-parts, getD-parts}
-use Rattle.rules.specs.Layout.{polynomial-at-row, blockOf, coefficientsAt, blockAt, polynomialsIn}
-use Rattle.lists.specs.Joined.{flatten-map, flatten-zipWith}
+use Rattle.lists.specs.Parts.{parts, parts-parts, parts-more, parts-length, flatten-parts, getD-parts}
+use Rattle.rules.specs.Layout.{polynomial-at-row, blockOf, coefficientsAt, blockAt}
+use Rattle.lists.specs.Joined.{flatten-append, flatten-map, flatten-zipWith, length-flatten}
+
+abbrev pub partCount : ℕ
+partCount = suc polynomialCount
 
 abbrev pub polynomialsOf : Row → List Polynomial
-polynomialsOf r = flatten (r .blocks)
+polynomialsOf r = flatten (r .blocks) ++ (r .right ∷ [])
+
+abbrev pub partsIn : List ℤ → List Polynomial
+partsIn l = parts coefficientCount partCount l
+
+-- The numbers of a row are those of its polynomials.
+pub numbers-polynomials : (r : Row) → coefficientsOf r ≡ flatten (polynomialsOf r)
+unfolding coefficientsOf flatten
+numbers-polynomials r =
+    sym (flatten-append (flatten (r .blocks)) (r .right ∷ []) ∙ ap (λ q. flatten (flatten (r .blocks)) ++ q) (append-nil (r .right)))
 
 -- ---- parts of parts
 
-pub polynomials-rowOf : (l : List ℤ) → polynomialsOf (rowOf l) ≡ polynomialsIn l
+pub polynomials-rowOf : (l : List ℤ) → polynomialsOf (rowOf l) ≡ partsIn l
 unfolding rowOf
-polynomials-rowOf l = parts-parts coefficientCount columnCount blockCount l
+polynomials-rowOf l =
+    ap (λ ps. ps ++ (coefficientsAt l polynomialCount ∷ [])) (parts-parts coefficientCount columnCount blockCount l)
+    ∙ sym (parts-more coefficientCount polynomialCount l)
 
 -- ---- tests of all members
 
@@ -54,13 +72,21 @@ isZero-split k i l =
     ap isZero (sym (take-append-drop k (drop i l))) ∙ isZero-append (take k (drop i l)) (drop k (drop i l))
     ∙ ap (λ q. isZero (take k (drop i l)) && isZero q) (drop-drop k i l)
 
-pub zeroRow-numbers : (r : Row) → zeroRow r ≡ isZero (coefficientsOf r)
-unfolding zeroRow zeroBlock coefficientsOf
-zeroRow-numbers r = sym (isZero-flatten (polynomialsOf r) ∙ every-flatten isZero (r .blocks))
+-- The left part alone.
+pub zeroLeft-numbers : (r : Row) → zeroLeft r ≡ isZero (flatten (flatten (r .blocks)))
+unfolding zeroLeft zeroBlock
+zeroLeft-numbers r = sym (isZero-flatten (flatten (r .blocks)) ∙ every-flatten isZero (r .blocks))
 
-pub smallRow-rowOf : (l : List ℤ) → smallRow (rowOf l) ≡ every (every small) (polynomialsIn l)
-unfolding smallRow coefficientsOf
-smallRow-rowOf l = every-flatten small (polynomialsOf (rowOf l)) ∙ ap (every (every small)) (polynomials-rowOf l)
+pub zeroRow-numbers : (r : Row) → zeroRow r ≡ isZero (coefficientsOf r)
+unfolding zeroRow coefficientsOf
+zeroRow-numbers r =
+    ap (λ b. b && isZero (r .right)) (zeroLeft-numbers r) ∙ sym (isZero-append (flatten (flatten (r .blocks))) (r .right))
+
+pub smallRow-rowOf : (l : List ℤ) → smallRow (rowOf l) ≡ every (every small) (partsIn l)
+unfolding smallRow
+smallRow-rowOf l =
+    ap (every small) (numbers-polynomials (rowOf l)) ∙ every-flatten small (polynomialsOf (rowOf l))
+    ∙ ap (every (every small)) (polynomials-rowOf l)
 
 -- ---- zero tests by places
 
@@ -89,16 +115,27 @@ entry-at l c h = polynomial-at-row l 0 c (lit< tt) h ∙ ap (λ n. take coeffici
 
 -- ---- changes of every polynomial
 
+pub polynomials-mapRow : (f : Polynomial → Polynomial) (r : Row) → polynomialsOf (mapRow f r) ≡ map f (polynomialsOf r)
+unfolding mapRow
+polynomials-mapRow f r =
+    ap (λ ps. ps ++ (f (r .right) ∷ [])) (flatten-map f (r .blocks)) ∙ sym (map-append f (flatten (r .blocks)) (r .right ∷ []))
+
 pub numbers-mapRow : (f : Polynomial → Polynomial) (r : Row) → coefficientsOf (mapRow f r) ≡ flatten (map f (polynomialsOf r))
-unfolding coefficientsOf mapRow
-numbers-mapRow f r = ap flatten (flatten-map f (r .blocks))
+numbers-mapRow f r = numbers-polynomials (mapRow f r) ∙ ap flatten (polynomials-mapRow f r)
 
 -- ---- changes of two rows, polynomial by polynomial
 
--- The polynomials of a combination of two rows of the same number of columns.
-pub polynomials-combine : (g h : Polynomial) (c : ℕ) (r q : Row)
+-- The polynomials of a combination of two rows of the same numbers of blocks and columns.
+pub polynomials-combine : (g h : Polynomial) (c : ℕ) (r q : Row) → length (r .blocks) ≡ length (q .blocks)
     → All (λ b. length b ≡ c) (r .blocks) → All (λ b. length b ≡ c) (q .blocks)
     → polynomialsOf (combine g h r q) ≡ zipWith (λ p e. add (mul g p) (mul h e)) (polynomialsOf r) (polynomialsOf q)
-unfolding combine
-polynomials-combine g h c r q hr hq =
-    flatten-zipWith (λ p e. add (mul g p) (mul h e)) c (r .blocks) (q .blocks) hr hq
+unfolding combine zipWith
+polynomials-combine g h c r q same hr hq =
+    ap (λ ps. ps ++ (sum (r .right) (q .right) ∷ [])) (flatten-zipWith sum c (r .blocks) (q .blocks) hr hq)
+    ∙ sym (zipWith-append sum (flatten (r .blocks)) (r .right ∷ []) (flatten (q .blocks)) (q .right ∷ []) long)
+  where
+    sum : Polynomial → Polynomial → Polynomial
+    sum p e = add (mul g p) (mul h e)
+
+    long : length (flatten (r .blocks)) ≡ length (flatten (q .blocks))
+    long = length-flatten c (r .blocks) hr ∙ ap (λ n. n * c) same ∙ sym (length-flatten c (q .blocks) hq)

@@ -1,5 +1,6 @@
 // The number checks of a row: coefficients within ±C, unused positions 0.
 use crate::lengths::COLUMNS;
+use crate::lengths::ENTRIES;
 use crate::lengths::POLYNOMIALS;
 use polynomials::lengths::COEFFICIENTS;
 ghost use mathlib.Core.Path.{_≡_};
@@ -57,7 +58,7 @@ fn place_right(numbers: &[i64], place: usize, m: usize, span: usize) -> bool
     }
 }
 
-// No coefficient is past ±C, and unused positions hold 0 (SCOPE 3.3, 3.34).
+// No coefficient is past ±C, on the right side neither, and unused positions hold 0 (SCOPE 3.3, 3.34).
 pub fn row_right(row: &[i64], m: usize, span: usize) -> bool
     requires { ⌜ length (now row) ≡ rowLength ⌝ }
     ensures { λ r. ⌜ r ≡ (smallRow (rowOf (now (row .entry))) && unusedZero m span (rowOf (now (row .entry)))) ⌝ }
@@ -69,5 +70,5 @@ pub fn row_right(row: &[i64], m: usize, span: usize) -> bool
         }
         place += 1;
     }
-    true
+    all_small(&row[ENTRIES..])
 }

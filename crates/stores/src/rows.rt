@@ -7,7 +7,7 @@ ghost use lib.ListN.{length, take, drop, replicate};
 ghost use lib.Seq.{paste};
 ghost use Rattle.rules.specs.Limits.{rowLength};
 
-// The 320 numbers of a store from a place on, where they stand.
+// The 336 numbers of a store from a place on, where they stand.
 pub fn row_at(store: &[i64], at: usize) -> &[i64]
     requires { ⌜ at + rowLength ≤ length (now store) ⌝ }
     ensures { λ r. ⌜ now r ≡ take rowLength (drop at (now (store .entry))) ⌝ }

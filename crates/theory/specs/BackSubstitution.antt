@@ -30,7 +30,7 @@ use Rattle.algebra.specs.Order.{ℤ-induction-up}
 use Rattle.rules.specs.Rows.{Block, Row, noRow, zeroBlock, leadingBlock, entry}
 use Rattle.lists.specs.Everywhere.{All, all-getD}
 use Rattle.rules.specs.Stores.{unusedZero}
-use Rattle.rules.specs.Sequences.{Sequence, blockValue, blocksValue, valueOf, SatisfiesEquation, Same}
+use Rattle.rules.specs.Sequences.{Sequence, blockValue, blocksValue, valueOf, SatisfiesEquation, Same, leftValue}
 use Rattle.theory.specs.Values.{blockValue-sum, block-zero, index-below, value-difference}
 use Rattle.theory.specs.Cells.{unusedZero-iff, zeroBlock-past}
 
@@ -88,8 +88,8 @@ module _ (m : ℕ) (n : ℤ) (w : Sequence) where
       ap₂ _+ℤ_ (block-columns m n (w k) b (u .0 .0)) (blocks-vanish D (predℤ k) bs (u .0 .1, u .1) z) ∙ +ℤ-idr (sumBelow m (term n (w k) b))
 
   leading-value : (D : ℕ) (l : ℤ) (r : Row) → T (unusedZero m D r) → ZeroDown m D w (predℤ (n +ℤ l))
-      → valueOf l r w n ≡ sumBelow m (λ c. eval (entry r c) n *ℤ w (n +ℤ l) c)
-  unfolding valueOf entry leadingBlock
+      → leftValue l r w n ≡ sumBelow m (λ c. eval (entry r c) n *ℤ w (n +ℤ l) c)
+  unfolding leftValue entry leadingBlock
   leading-value D l r h z = first-block D (n +ℤ l) (r .blocks) (unusedZero-iff m D r .0 h) z
 
 -- ---- back substitution
@@ -148,7 +148,7 @@ module _ {m D : ℕ} {rows : List Row} {order : List ℕ} (triangular : Triangul
       later k p = omega arith
 
   pub back-substitution : (l n : ℤ) (w : Sequence) → NonzeroAt m rows order n
-      → ((j : ℕ) → j < m → valueOf l (getD rows j noRow) w n ≡ pos 0)
+      → ((j : ℕ) → j < m → leftValue l (getD rows j noRow) w n ≡ pos 0)
       → ((i : ℕ) → i < D → (c : ℕ) → c < m → w (n +ℤ l -ℤ pos (suc i)) c ≡ pos 0) → (c : ℕ) → c < m → w (n +ℤ l) c ≡ pos 0
   back-substitution l n w d e z c h =
       let (j, b, x) = triangular .column-of c h in
@@ -203,7 +203,7 @@ only-between i n l h k = ≤ℤ-antisym (≤ℤ-cancel-right (pos 1) (subst (λ 
 
 module _ {m D : ℕ} {rows : List Row} {order : List ℕ} (triangular : TriangularRows m D rows order) (l t : ℤ) (span : l ≡ t +ℤ pos D)
     (z y : Sequence) (solves-z : All (SatisfiesEquation l z) rows) (solves-y : All (SatisfiesEquation l y) rows) where
-  solves : (n : ℤ) (j : ℕ) → j < m → valueOf l (getD rows j noRow) (difference z y) n ≡ pos 0
+  solves : (n : ℤ) (j : ℕ) → j < m → leftValue l (getD rows j noRow) (difference z y) n ≡ pos 0
   unfolding SatisfiesEquation
   solves n j h = value-difference l (getD rows j noRow) z y n ∙ ap₂ (λ a b. a -ℤ b) (at z solves-z) (at y solves-y)
     where

@@ -1,11 +1,11 @@
 -- Rows are dependent exactly if they are by their values.
 --
 -- Main definitions
---   rowValues l rows         the values of the rows of a list, as equations
+--   leftValues, rowValues    the values of the rows of a list, as equations: of the left parts, and less the right sides
 --
 -- Main statements
 --   eval-combination         the value of a combination's polynomial is the combination at a sequence with one nonzero value
---   combination-zero         a combination whose polynomials vanish vanishes at every sequence
+--   combination-zero         a combination whose polynomials on the left vanish vanishes at every sequence, on the left
 --   dependent-values         rows are dependent exactly if they are by their values
 --   by-values                a change that keeps the number of rows keeps dependence exactly if it does by the values
 use mathlib.Core.Path.{_≡_, refl, sym, _∙_, ap, ap₂, subst}
@@ -16,7 +16,7 @@ use native.Mathlib.Nat.{le-trans}
 use native.Mathlib.Omega.{arith}
 use lib.Dec.{T}
 use lib.ListN.{length, getD, List·getD-eq-default, List·getD-map}
-use lib.IntN.{ℤ, pos, negsuc, negℤ, natAbs, _+ℤ_, _-ℤ_, _*ℤ_, +ℤ-idl, +ℤ-assoc, +ℤ-comm, *ℤ-zero, *ℤ-comm, +ℤ-negℤ-cancel}
+use lib.IntN.{ℤ, pos, negsuc, negℤ, natAbs, _+ℤ_, _-ℤ_, _*ℤ_, +ℤ-idl, +ℤ-assoc, +ℤ-comm, *ℤ-zero, *ℤ-comm, +ℤ-negℤ-cancel, -ℤ-+ℤ-cancel, +ℤ-idr}
 use Rattle.algebra.specs.Integers.{ringℤ}
 use Rattle.algebra.specs.Sums.{countFrom, sumOver, sumOver-congr}
 use Rattle.algebra.specs.Sums.{sumBelow, sumBelow-congr, sumBelow-append, sumBelow-extend, sumBelow-zeros}
@@ -24,10 +24,10 @@ use Rattle.algebra.specs.Polynomials.{Polynomial, eval, isZero, mul, shiftBy, e
 use Rattle.algebra.specs.Vanishing.{zero-everywhere}
 use Rattle.rules.specs.Rows.{Block, Row, noRow}
 use Rattle.lists.specs.Joined.{length-getD-flatten}
-use Rattle.rules.specs.Sequences.{Sequence, blockValue, blocksValue, valueOf, blockFrom, polynomialAt, addAll, shiftsWithin, combinationAt}
+use Rattle.rules.specs.Sequences.{Sequence, blockValue, blocksValue, valueOf, blockFrom, polynomialAt, addAll, shiftsWithin, combinationAt, leftValue, combinedRight}
 use Rattle.rules.specs.Sequences.{Dependent}
-use Rattle.theory.specs.Values.{delta, value-delta, blockValue-sum, blocksValue-sum}
-use Rattle.theory.specs.Combinations.{cancel-common, eval-nil, sumWithin, place-rest, place-of, Values, Multiplier, copies}
+use Rattle.theory.specs.Values.{delta, left-delta, left-nothing, blockValue-sum, blocksValue-sum}
+use Rattle.theory.specs.Combinations.{cancel-common, eval-nil, sumWithin, place-rest, place-of, Values, Multiplier, copies, combination-+ℤ, combination-nothing}
 use Rattle.theory.specs.Combinations.{combinationValue, combination-congr, combination-sum, combination-scale, DependentValues}
 
 -- ---- the value of a row as a sum over a window of indices and columns
@@ -92,8 +92,8 @@ blockFrom-length C bs h (negsuc q) = zero-le
 -- The indices of a window from p places above the first block of the row at n down.
 row-expansion : (l : ℤ) (r : Row) (W C p : ℕ) (z : Sequence) (n top : ℤ) → p + length (r .blocks) ≤ W
     → ((q : ℕ) → length (getD (r .blocks) q []) ≤ C) → n +ℤ l +ℤ pos p ≡ top
-    → valueOf l r z n ≡ sumBelow W (λ q. sumBelow C (λ c. z (top -ℤ pos q) c *ℤ valueOf l r (delta (top -ℤ pos q) c) n))
-unfolding valueOf polynomialAt
+    → leftValue l r z n ≡ sumBelow W (λ q. sumBelow C (λ c. z (top -ℤ pos q) c *ℤ leftValue l r (delta (top -ℤ pos q) c) n))
+unfolding leftValue polynomialAt
 row-expansion l r W C p z n top wide columns e =
     blocks-window W p n z (n +ℤ l) (r .blocks) wide ∙ sumBelow-congr W _ _ (λ q _. at q)
   where
@@ -112,11 +112,11 @@ row-expansion l r W C p z n top wide columns e =
     place : (q : ℕ) → pos q -ℤ pos p ≡ l -ℤ (top -ℤ pos q -ℤ n)
     place q = cancel (pos p) (pos q) ∙ ap (λ t. l -ℤ (t -ℤ pos q -ℤ n)) e
 
-    value : (q c : ℕ) → eval (getD (block q) c []) n ≡ valueOf l r (delta (top -ℤ pos q) c) n
-    value q c = ap (λ s. eval (getD (blockFrom (r .blocks) s) c []) n) (place q) ∙ sym (value-delta l r (top -ℤ pos q) c n)
+    value : (q c : ℕ) → eval (getD (block q) c []) n ≡ leftValue l r (delta (top -ℤ pos q) c) n
+    value q c = ap (λ s. eval (getD (blockFrom (r .blocks) s) c []) n) (place q) ∙ sym (left-delta l r (top -ℤ pos q) c n)
 
     at : (q : ℕ) → blockValue n (z (n +ℤ l +ℤ pos p -ℤ pos q)) (block q)
-        ≡ sumBelow C (λ c. z (top -ℤ pos q) c *ℤ valueOf l r (delta (top -ℤ pos q) c) n)
+        ≡ sumBelow C (λ c. z (top -ℤ pos q) c *ℤ leftValue l r (delta (top -ℤ pos q) c) n)
     at q =
         ap (λ t. blockValue n (z (t -ℤ pos q)) (block q)) e
         ∙ block-window C n (z (top -ℤ pos q)) (block q) (blockFrom-length C (r .blocks) columns (pos q -ℤ pos p))
@@ -146,7 +146,13 @@ columns-bounded rows i q =
 
 -- ---- the combination by coefficients and by values
 
--- The values of the rows of a list, as equations.
+-- The values of the rows of a list, as equations: the left parts, the right sides, and the ones less the others.
+abbrev pub leftValues : ℤ → List Row → Values
+leftValues l rows z i n = leftValue l (getD rows i noRow) z n
+
+abbrev rightValues : List Row → Values
+rightValues rows z i n = eval (getD rows i noRow .right) n
+
 abbrev pub rowValues : ℤ → List Row → Values
 rowValues l rows z i n = valueOf l (getD rows i noRow) z n
 
@@ -165,12 +171,12 @@ unfolding combinationAt combinationTerm
 combinationAt-law l rows N S s c = refl
 
 eval-term : (l : ℤ) (rows : List Row) (S : Multiplier) (s : ℤ) (c : ℕ) (x : ℤ) (i : ℕ) (k : ℤ)
-    → eval (combinationTerm l rows S s c i k) x ≡ eval (S i k) x *ℤ valueOf l (getD rows i noRow) (delta (x +ℤ s) c) (x +ℤ k)
+    → eval (combinationTerm l rows S s c i k) x ≡ eval (S i k) x *ℤ leftValue l (getD rows i noRow) (delta (x +ℤ s) c) (x +ℤ k)
 unfolding combinationTerm
 eval-term l rows S s c x i k =
     eval-mul (S i k) (shiftBy k (polynomialAt l r (s -ℤ k) c)) x
     ∙ ap (λ e. eval (S i k) x *ℤ e) (eval-shiftBy k (polynomialAt l r (s -ℤ k) c) x
-    ∙ ap (λ b. eval (polynomialAt l r b c) (x +ℤ k)) block ∙ sym (value-delta l r (x +ℤ s) c (x +ℤ k)))
+    ∙ ap (λ b. eval (polynomialAt l r b c) (x +ℤ k)) block ∙ sym (left-delta l r (x +ℤ s) c (x +ℤ k)))
   where
     r : Row
     r = getD rows i noRow
@@ -181,7 +187,7 @@ eval-term l rows S s c x i k =
 -- The value of the combination's polynomial at block s and column c is the combination of values at the sequence that is
 -- 1 there and 0 elsewhere.
 pub eval-combination : (l : ℤ) (rows : List Row) (N : ℕ) (S : Multiplier) (s : ℤ) (c : ℕ) (x : ℤ)
-    → eval (combinationAt l rows N S s c) x ≡ combinationValue (length rows) (rowValues l rows) N S (delta (x +ℤ s) c) x
+    → eval (combinationAt l rows N S s c) x ≡ combinationValue (length rows) (leftValues l rows) N S (delta (x +ℤ s) c) x
 unfolding combinationValue copies sumBelow sumWithin
 eval-combination l rows N S s c x =
     ap (λ p. eval p x) (combinationAt-law l rows N S s c) ∙ eval-addAll _ (countFrom 0 (length rows)) x
@@ -191,10 +197,10 @@ eval-combination l rows N S s c x =
 module _ (l : ℤ) (rows : List Row) where
   -- Any sequence is a sum of such sequences, as far as finitely many shifted rows reach.
   pub combination-zero : (N : ℕ) (S : Multiplier) → ((s : ℤ) (c : ℕ) → T (isZero (combinationAt l rows N S s c)))
-      → (z : Sequence) (x : ℤ) → combinationValue (length rows) (rowValues l rows) N S z x ≡ pos 0
+      → (z : Sequence) (x : ℤ) → combinationValue (length rows) (leftValues l rows) N S z x ≡ pos 0
   unfolding combinationValue copies
   combination-zero N S vanish z x =
-      combination-congr (length rows) (rowValues l rows) (λ _ i n. sumBelow W (λ q. part q i n)) N S z x expand
+      combination-congr (length rows) (leftValues l rows) (λ _ i n. sumBelow W (λ q. part q i n)) N S z x expand
       ∙ combination-sum (length rows) N S z x W part
       ∙ sumBelow-zeros W _ (λ q _. combination-sum (length rows) N S z x C (piece q) ∙ sumBelow-zeros C _ (λ c _. zero-piece q c))
     where
@@ -208,12 +214,12 @@ module _ (l : ℤ) (rows : List Row) where
       index q = x +ℤ l +ℤ pos N -ℤ pos q
 
       piece : ℕ → ℕ → ℕ → ℤ → ℤ
-      piece q c i n = z (index q) c *ℤ valueOf l (getD rows i noRow) (delta (index q) c) n
+      piece q c i n = z (index q) c *ℤ leftValue l (getD rows i noRow) (delta (index q) c) n
 
       part : ℕ → ℕ → ℤ → ℤ
       part q i n = sumBelow C (λ c. piece q c i n)
 
-      expand : (i : ℕ) (k : ℤ) → natAbs k ≤ N → rowValues l rows z i (x +ℤ k) ≡ sumBelow W (λ q. part q i (x +ℤ k))
+      expand : (i : ℕ) (k : ℤ) → natAbs k ≤ N → leftValues l rows z i (x +ℤ k) ≡ sumBelow W (λ q. part q i (x +ℤ k))
       expand i k h =
           let (j, below, e) = place-of N k h in
           row-expansion l (getD rows i noRow) W C (N + N - j) z (x +ℤ k) (x +ℤ l +ℤ pos N)
@@ -223,9 +229,9 @@ module _ (l : ℤ) (rows : List Row) where
           regroup : (a b : ℤ) → x +ℤ a +ℤ l +ℤ b ≡ x +ℤ l +ℤ (a +ℤ b)
           regroup a b = simp ringℤ
 
-      zero-value : (q c : ℕ) → combinationValue (length rows) (rowValues l rows) N S (delta (index q) c) x ≡ pos 0
+      zero-value : (q c : ℕ) → combinationValue (length rows) (leftValues l rows) N S (delta (index q) c) x ≡ pos 0
       zero-value q c =
-          ap (λ y. combinationValue (length rows) (rowValues l rows) N S (delta y c) x) (regroup (pos N) (pos q))
+          ap (λ y. combinationValue (length rows) (leftValues l rows) N S (delta y c) x) (regroup (pos N) (pos q))
           ∙ sym (eval-combination l rows N S (l +ℤ pos N -ℤ pos q) c x)
           ∙ eval-isZero (combinationAt l rows N S (l +ℤ pos N -ℤ pos q) c) x (vanish (l +ℤ pos N -ℤ pos q) c)
         where
@@ -234,8 +240,57 @@ module _ (l : ℤ) (rows : List Row) where
 
       zero-piece : (q c : ℕ) → combinationValue (length rows) (λ _. piece q c) N S z x ≡ pos 0
       zero-piece q c =
-          combination-scale (length rows) N S z x (z (index q) c) (λ i n. valueOf l (getD rows i noRow) (delta (index q) c) n)
+          combination-scale (length rows) N S z x (z (index q) c) (λ i n. leftValue l (getD rows i noRow) (delta (index q) c) n)
           ∙ ap (λ e. z (index q) c *ℤ e) (zero-value q c) ∙ *ℤ-zero (z (index q) c)
+
+  -- ---- the right sides
+
+  eval-right : (N : ℕ) (S : Multiplier) (z : Sequence) (x : ℤ)
+      → eval (combinedRight rows N S) x ≡ combinationValue (length rows) (rightValues rows) N S z x
+  unfolding combinedRight combinationValue copies sumBelow sumWithin
+  eval-right N S z x =
+      eval-addAll (λ i. addAll (term i) (shiftsWithin N)) (countFrom 0 (length rows)) x
+      ∙ sumOver-congr (λ i. eval (addAll (term i) (shiftsWithin N)) x) (copies (rightValues rows) N S z x)
+      (λ i. eval-addAll (term i) (shiftsWithin N) x
+      ∙ sumOver-congr (λ k. eval (term i k) x) (λ k. eval (S i k) x *ℤ eval (getD rows i noRow .right) (x +ℤ k)) (at i) (shiftsWithin N))
+      (countFrom 0 (length rows))
+    where
+      term : ℕ → ℤ → Polynomial
+      term i k = mul (S i k) (shiftBy k (getD rows i noRow .right))
+
+      at : (i : ℕ) (k : ℤ) → eval (term i k) x
+          ≡ eval (S i k) x *ℤ eval (getD rows i noRow .right) (x +ℤ k)
+      at i k =
+          eval-mul (S i k) (shiftBy k (getD rows i noRow .right)) x
+          ∙ ap (λ e. eval (S i k) x *ℤ e) (eval-shiftBy k (getD rows i noRow .right) x)
+
+  -- The combination of the left parts is that of the rows and that of the right sides.
+  both-sides : (N : ℕ) (S : Multiplier) (z : Sequence) (x : ℤ) → combinationValue (length rows) (leftValues l rows) N S z x
+      ≡ combinationValue (length rows) (rowValues l rows) N S z x +ℤ combinationValue (length rows) (rightValues rows) N S z x
+  unfolding valueOf combinationValue copies
+  both-sides N S z x =
+      combination-congr (length rows) (leftValues l rows) (λ _ i n. valueOf l (getD rows i noRow) z n +ℤ eval (getD rows i noRow .right) n)
+      N S z x (λ i k h. sym (-ℤ-+ℤ-cancel (leftValue l (getD rows i noRow) z (x +ℤ k)) (eval (getD rows i noRow .right) (x +ℤ k))))
+      ∙ combination-+ℤ (length rows) N S z x (λ i n. valueOf l (getD rows i noRow) z n) (λ i n. eval (getD rows i noRow .right) n)
+
+  rows-zero : (N : ℕ) (S : Multiplier) → ((s : ℤ) (c : ℕ) → T (isZero (combinationAt l rows N S s c))) → T (isZero (combinedRight rows N S))
+      → (z : Sequence) (x : ℤ) → combinationValue (length rows) (rowValues l rows) N S z x ≡ pos 0
+  rows-zero N S vanish right z x =
+      sym (+ℤ-idr _)
+      ∙ ap (λ e. combinationValue (length rows) (rowValues l rows) N S z x +ℤ e) (sym (sym (eval-right N S z x) ∙ eval-isZero (combinedRight rows N S) x right))
+      ∙ sym (both-sides N S z x) ∙ combination-zero N S vanish z x
+
+  -- At the sequence of zeros only the right sides are left.
+  right-zero : (N : ℕ) (S : Multiplier) → ((z : Sequence) (x : ℤ) → combinationValue (length rows) (rowValues l rows) N S z x ≡ pos 0)
+      → T (isZero (combinedRight rows N S))
+  right-zero N S vanish = zero-everywhere (combinedRight rows N S) .1 (λ x.
+      eval-right N S nothing x ∙ sym (+ℤ-idl _) ∙ ap (λ e. e +ℤ combinationValue (length rows) (rightValues rows) N S nothing x) (sym (vanish nothing x))
+      ∙ sym (both-sides N S nothing x)
+      ∙ combination-congr (length rows) (leftValues l rows) (λ _ i n. pos 0) N S nothing x (λ i k h. left-nothing l (getD rows i noRow) (x +ℤ k))
+      ∙ combination-nothing (length rows) N S nothing x)
+    where
+      nothing : Sequence
+      nothing i c = pos 0
 
   pub values-of-dependent : Dependent l rows → DependentValues (length rows) (rowValues l rows)
   values-of-dependent D =
@@ -247,7 +302,7 @@ module _ (l : ℤ) (rows : List Row) where
         number-below = D .number-below;
         shift-within = D .shift-within;
         nonzero = D .nonzero;
-        vanishes = combination-zero (D .reach) (D .multiplier) (D .vanishes);
+        vanishes = rows-zero (D .reach) (D .multiplier) (D .vanishes) (D .right-vanishes);
       }
 
   pub dependent-of-values : DependentValues (length rows) (rowValues l rows) → Dependent l rows
@@ -261,8 +316,14 @@ module _ (l : ℤ) (rows : List Row) where
         shift-within = D .shift-within;
         nonzero = D .nonzero;
         vanishes = λ s c. zero-everywhere (combinationAt l rows (D .reach) (D .multiplier) s c) .1
-            (λ x. eval-combination l rows (D .reach) (D .multiplier) s c x ∙ D .vanishes (delta (x +ℤ s) c) x);
+            (λ x. eval-combination l rows (D .reach) (D .multiplier) s c x ∙ both-sides (D .reach) (D .multiplier) (delta (x +ℤ s) c) x
+            ∙ ap₂ _+ℤ_ (D .vanishes (delta (x +ℤ s) c) x)
+            (sym (eval-right (D .reach) (D .multiplier) (delta (x +ℤ s) c) x) ∙ eval-isZero (combinedRight rows (D .reach) (D .multiplier)) x right));
+        right-vanishes = right;
       }
+    where
+      right : T (isZero (combinedRight rows (D .reach) (D .multiplier)))
+      right = right-zero (D .reach) (D .multiplier) (D .vanishes)
 
   -- A combination that vanishes (SCOPE 2.102) does so by coefficients or by values.
   pub dependent-values : Dependent l rows ↔ DependentValues (length rows) (rowValues l rows)

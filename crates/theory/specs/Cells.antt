@@ -14,7 +14,7 @@
 --   width-le                   the width is at most n exactly if every cell from place n on is zero
 --   width-no-wider             a row that is zero wherever another is, is no wider
 --   width-moved                a row whose cells are those of another one block lower is one block wider
---   zeroRow-width, width-positive, cell-within   zero rows, nonzero rows and nonzero cells by the width
+--   zeroLeft-width, zeroRow-width, width-positive, cell-within   zero rows, nonzero rows and nonzero cells by the width
 --   totalWidth-set, totalWidth-bound, totalWidth-rows   the total width with one row replaced, and its bounds
 --   unusedZero-iff, unused-cells, unused-kept   positions outside the system's blocks and columns by place
 --   width-unused, width-mirrorRow   unused blocks are zero, also after the mirror
@@ -33,7 +33,7 @@ use lib.ListN.{length, getD, set, take, drop, length-reverse, List·getD-map, Li
 use lib.Seq.{getD-drop, getD-append-add, length-take-le, length-front}
 use Rattle.algebra.specs.Polynomials.{Polynomial, isZero, mirror, isZero-mirror, isZero-cons}
 use Rattle.lists.specs.Tests.{T-&&, true-of, every, all-of-every, every-of-all}
-use Rattle.rules.specs.Rows.{Block, Row, noRow, mapRow, zeroBlock, zeroRow, widthOf, width, entry, blank, mirrorRow}
+use Rattle.rules.specs.Rows.{Block, Row, noRow, mapRow, zeroBlock, zeroRow, widthOf, width, entry, blank, mirrorRow, zeroLeft}
 use Rattle.lists.specs.Everywhere.{All, all-mono, all-getD-default, getD-all}
 use Rattle.lists.specs.Images.{map-same}
 use Rattle.rules.specs.Stores.{unusedZero}
@@ -206,13 +206,18 @@ zero-blocks (b ∷ bs) = both (zero-blocks bs)
       λ h. let none = widthOf-none b bs .0 h in and-i (zeroBlock b) (every zeroBlock bs) (none .1) (rec .1 (none .0)),
     )
 
--- The zero rows are those of width 0 (SCOPE 2.1).
-pub zeroRow-width : (r : Row) → T (zeroRow r) ↔ (width r ≤ 0)
-unfolding zeroRow width
-zeroRow-width r = zero-blocks (r .blocks)
+-- The left part is zero exactly if the width is 0 (SCOPE 2.1).
+pub zeroLeft-width : (r : Row) → T (zeroLeft r) ↔ (width r ≤ 0)
+unfolding zeroLeft width
+zeroLeft-width r = zero-blocks (r .blocks)
 
-pub width-positive : (r : Row) → T (not (zeroRow r)) → 0 < width r
-width-positive r h = not-le (λ k. T-not (zeroRow r) h (zeroRow-width r .1 k))
+-- A zero row has width 0.
+pub zeroRow-width : (r : Row) → T (zeroRow r) → width r ≤ 0
+unfolding zeroRow
+zeroRow-width r h = zeroLeft-width r .0 (and-l (zeroLeft r) (isZero (r .right)) h)
+
+pub width-positive : (r : Row) → T (not (zeroLeft r)) → 0 < width r
+width-positive r h = not-le (λ k. T-not (zeroLeft r) h (zeroLeft-width r .1 k))
   where
     not-le : ¬ (width r ≤ 0) → 0 < width r
     not-le n = omega arith
@@ -336,7 +341,7 @@ unfolding mirrorRow mirror
 width-mirrorRow D r h = width-le (mirrorRow D r) (suc D) .1 kept
   where
     turned : Row
-    turned = record { blocks = reverse (take (suc D) (r .blocks)) ++ drop (suc D) (r .blocks) }
+    turned = record { blocks = reverse (take (suc D) (r .blocks)) ++ drop (suc D) (r .blocks); right = r .right }
 
     kept : ZeroFrom (suc D) (mapRow mirror turned)
     kept i c k = rw (cell-mapRow mirror refl turned i c, isZero-mirror (cell turned i c))

@@ -10,7 +10,7 @@
 -- Main statements
 --   sumBelow-apart, sumBelow-pair        sums below a bound with one or two terms apart
 --   sumWithin-below, place-of            the sum over the shifts by their places
---   combination-congr, combination-sum, combination-scale   a combination is linear in the equations
+--   combination-congr, combination-sum, combination-scale, combination-+ℤ   a combination is linear in the equations
 --   extended                             the reach of a dependence is extended by zero multipliers
 --   moved-iff                            dependence survives, both ways, that one equation is taken at n + 1 for n
 use mathlib.Core.Path.{_≡_, refl, sym, _∙_, ap, ap₂, subst}
@@ -25,7 +25,7 @@ use native.Mathlib.Omega.{arith}
 use lib.Dec.{T, not-T}
 use lib.IntN.{ℤ, pos, negsuc, negℤ, natAbs, _+ℤ_, _-ℤ_, _*ℤ_, +ℤ-idl, +ℤ-idr, +ℤ-assoc, +ℤ-comm, +ℤ-invr, zero-*ℤ, +ℤ-negℤ-cancel}
 use lib.IntN.{negℤ-+ℤ, -ℤ-+ℤ-cancel}
-use Rattle.algebra.specs.Integers.{ringℤ, natAbs-negℤ, natAbs-+ℤ}
+use Rattle.algebra.specs.Integers.{ringℤ, natAbs-negℤ, natAbs-+ℤ, *ℤ-+ℤ}
 use Rattle.algebra.specs.Order.{≤ℤ-witness, ≤ℤ-intro, natAbs-≤-iff}
 use Rattle.algebra.specs.Sums.{countFrom, sumOver, sumOver-map, sumOver-+ℤ, sumOver-*ℤ, sumOver-zero, sumOver-congr, sumOver-exchange}
 use Rattle.algebra.specs.Sums.{sumBelow, sumBelow-congr, sumBelow-+ℤ, sumBelow-*ℤ, sumBelow-exchange, sumBelow-front, sumBelow-last}
@@ -271,6 +271,21 @@ module _ (m N : ℕ) (S : Multiplier) (z : Sequence) (x : ℤ) where
       inside : (i : ℕ) → copies (λ _ i y. c *ℤ f i y) N S z x i ≡ c *ℤ copies (λ _. f) N S z x i
       inside i =
           sumWithin-congr N (λ k _. swap (eval (S i k) x) (f i (x +ℤ k))) ∙ sumWithin-*ℤ N c (λ k. eval (S i k) x *ℤ f i (x +ℤ k))
+
+  pub combination-+ℤ : (f g : ℕ → ℤ → ℤ)
+      → combinationValue m (λ _ i y. f i y +ℤ g i y) N S z x
+      ≡ combinationValue m (λ _. f) N S z x +ℤ combinationValue m (λ _. g) N S z x
+  unfolding combinationValue copies
+  combination-+ℤ f g =
+      sumBelow-congr m _ _ (λ i _. inside i) ∙ sumBelow-+ℤ m (copies (λ _. f) N S z x) (copies (λ _. g) N S z x)
+    where
+      inside : (i : ℕ) → copies (λ _ i y. f i y +ℤ g i y) N S z x i ≡ copies (λ _. f) N S z x i +ℤ copies (λ _. g) N S z x i
+      inside i =
+          sumWithin-congr N (λ k _. *ℤ-+ℤ (eval (S i k) x) (f i (x +ℤ k)) (g i (x +ℤ k)))
+          ∙ sumWithin-+ℤ N (λ k. eval (S i k) x *ℤ f i (x +ℤ k)) (λ k. eval (S i k) x *ℤ g i (x +ℤ k))
+
+  pub combination-nothing : combinationValue m (λ _ i y. pos 0) N S z x ≡ pos 0
+  combination-nothing = combination-scale (pos 0) (λ i y. pos 0) ∙ zero-*ℤ (combinationValue m (λ _ i y. pos 0) N S z x)
 
 -- ---- the reach
 

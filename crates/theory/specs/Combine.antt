@@ -28,7 +28,7 @@ use mathlib.Core.List.{List, [], _∷_, _++_, map, zipWith, head-eq-of-cons-eq, 
 use lib.Dec.{T}
 use lib.ListN.{length, getD, set, length-set}
 use lib.Seq.{getD-set-same, getD-set-other, lt-length-set}
-use lib.IntN.{ℤ, pos, natAbs, predℤ, _+ℤ_, _*ℤ_, *ℤ-zero, +ℤ-idr, ℤ-discrete}
+use lib.IntN.{ℤ, pos, natAbs, predℤ, _+ℤ_, _*ℤ_, *ℤ-zero, +ℤ-idr, ℤ-discrete, _-ℤ_}
 use Rattle.algebra.specs.Integers.{ringℤ, no-zero-divisors}
 use Rattle.algebra.specs.Gcd.{divideBy, DividesAll}
 use Rattle.algebra.specs.Polynomials.{Polynomial, eval, isZero, add, mul, eval-add, eval-mul, isZero-add, isZero-mul-right, length-add}
@@ -41,7 +41,7 @@ use Rattle.lists.specs.Everywhere.{All, all-getD, all-set, all-of-set, all-memb
 use Rattle.lists.specs.Images.{length-zipWith, zipWith-place}
 use Rattle.rules.specs.Elimination.{Side, rootRelations}
 use Rattle.rules.specs.Stores.{Shaped, unusedZero}
-use Rattle.rules.specs.Sequences.{Sequence, blockValue, blocksValue, valueOf, SatisfiesEquation, SatisfiesRelation, Satisfies, Dependent}
+use Rattle.rules.specs.Sequences.{Sequence, blockValue, blocksValue, valueOf, SatisfiesEquation, SatisfiesRelation, Satisfies, Dependent, leftValue}
 use Rattle.theory.specs.Cells.{cell, ZeroWhere, width-le, width-no-wider, totalWidth, totalWidth-set, unused-cells, unused-kept}
 use Rattle.theory.specs.Shapes.{BlockShaped, shaped-columns}
 use Rattle.theory.specs.Pivots.{PivotRow}
@@ -112,7 +112,12 @@ module _ (g h : Polynomial) (n : ℤ) where
 pub value-combine : (g h : Polynomial) (l : ℤ) (r q : Row) (z : Sequence) (n : ℤ) → SameColumns r q
     → valueOf l (combine g h r q) z n ≡ eval g n *ℤ valueOf l r z n +ℤ eval h n *ℤ valueOf l q z n
 unfolding valueOf combine
-value-combine g h l r q z n e = blocks-combine g h n z (n +ℤ l) (r .blocks) (q .blocks) e
+value-combine g h l r q z n e =
+    ap₂ _-ℤ_ (blocks-combine g h n z (n +ℤ l) (r .blocks) (q .blocks) e) (combined-polynomial g h n (r .right) (q .right))
+    ∙ gather (eval g n) (eval h n) (leftValue l r z n) (leftValue l q z n) (eval (r .right) n) (eval (q .right) n)
+  where
+    gather : (x y a b c d : ℤ) → x *ℤ a +ℤ y *ℤ b -ℤ (x *ℤ c +ℤ y *ℤ d) ≡ x *ℤ (a -ℤ c) +ℤ y *ℤ (b -ℤ d)
+    gather x y a b c d = simp ringℤ
 
 module _ (g h : Polynomial) (r q : Row) (same : SameColumns r q) where
   -- Division by any positive whole number that divides the result.
@@ -332,6 +337,7 @@ module _ (g h : Polynomial) (a : ℕ) (length-g : length g ≡ suc a) (length-h 
     length-zipWith (zipWith (combineEntry g h)) (r .blocks) (q .blocks) (x .0 ∙ sym (y .0)) ∙ x .0,
     all-zipWith (BlockShaped c (suc k)) (BlockShaped c (suc k)) (BlockShaped c (suc (a + k)))
         (zipWith (combineEntry g h)) (combine-blockShaped c k) (r .blocks) (q .blocks) (x .1) (y .1),
+    sum-length k (r .right) (q .right) (x .2) (y .2),
   )
 
   -- Cut to 16 coefficients, where there are as many.

@@ -6,7 +6,8 @@
 --   Ended o                            the outcomes of a run that has ended
 -- Main statements, by the numbers of their comments
 --   1 same-sequences          4 accepted-independent    7 report-no, report-root
---   2 diagonal-nonzero        5 refused-dependent       8 output-valid
+--   2 diagonal-nonzero        5 refused-dependent,      8 output-valid
+--                               refused-inconsistent
 --   3 agreement-leading,      6 run-ends,               9 next-row-later, zero-row-refused
 --     agreement-trailing        shifts-bounded
 use Prim.Native.Nat.{ℕ, suc, _*_, _≤_, _<_}
@@ -38,7 +39,8 @@ use Rattle.theory.specs.LimitsKept.{rowRight-iff}
 use Rattle.theory.specs.Mirror.{span-sum}
 use Rattle.theory.specs.Agreement.{leading-agreement}
 use Rattle.theory.specs.Trailing.{valid-shapes, mirrored-sequences, diagonal-back, valid-back, independent-back, agrees-back}
-use Rattle.theory.specs.Trailing.{trailing-dependent}
+use Rattle.theory.specs.Trailing.{trailing-dependent, trailing-inconsistent}
+use Rattle.theory.specs.Inconsistency.{refused-unsatisfied}
 use Rattle.theory.specs.Settled.{as-many, settled-triangular, settled-rows, Diagonal, settled-leading, settled-trailing}
 use Rattle.theory.specs.Settled.{settled-diagonal}
 use Rattle.theory.specs.Settled.{settled-valid, nonzero-of-diagonal}
@@ -155,13 +157,22 @@ refused-dependent leading {z} {rows} {relations} v e =
     run-dependent (z .l) leading (enough rows) (start rows relations) (valid-shapes v) (triangular-start rows relations) e
 refused-dependent trailing v e = trailing-dependent v e
 
--- 6. Every run on a valid system ends in an acceptance or in one of the refusals 6 to 9 (SCOPE 9.26).
+-- A system that is refused with 10 is satisfied by no sequence at all (SCOPE 2.121).
+pub refused-inconsistent : (side : Side) {z : Sizes} {rows : List Row} {relations : List Relation} → Valid z rows relations
+    → wholeRun side (span z) rows relations ≡ refused 10 → (y : Sequence) → Satisfies (z .l) rows relations y → ⊥
+unfolding wholeRun leadingRun start
+refused-inconsistent leading {z} {rows} {relations} v e y =
+    refused-unsatisfied (z .l) leading (enough rows) (start rows relations) (valid-shapes v) (triangular-start rows relations) y e
+refused-inconsistent trailing v e y = trailing-inconsistent v e y
+
+-- 6. Every run on a valid system ends in an acceptance or in one of the refusals 6 to 10 (SCOPE 9.26).
 pub data Ended : Outcome → Type 0 where
   accepted : (s : State) → Ended (done s)
   six : Ended (refused 6)
   seven : Ended (refused 7)
   eight : Ended (refused 8)
   nine : Ended (refused 9)
+  ten : Ended (refused 10)
 
 -- The number of a refused run is that of its refused step.
 refused-number : (side : Side) (k : ℕ) (s : State) (n : ℕ) → run side k s ≡ refused n → Ended (refused n)
@@ -169,11 +180,12 @@ refused-number side k s n e =
     let (j, u, c, more, f) = run-refused side k s n e in
     number u (step-refused side u n more f)
   where
-    number : (u : State) → Refusal u n → Ended (refused n)
+    number : (u : State) → Refusal side u n → Ended (refused n)
     number u (inl h) = subst (λ k. Ended (refused k)) (sym (h .0)) six
-    number u (inr (inl h)) = subst (λ k. Ended (refused k)) (sym h) seven
-    number u (inr (inr (inl h))) = subst (λ k. Ended (refused k)) (sym h) eight
-    number u (inr (inr (inr h))) = subst (λ k. Ended (refused k)) (sym h) nine
+    number u (inr (inl h)) = subst (λ k. Ended (refused k)) (sym (h .0)) ten
+    number u (inr (inr (inl h))) = subst (λ k. Ended (refused k)) (sym h) seven
+    number u (inr (inr (inr (inl h)))) = subst (λ k. Ended (refused k)) (sym h) eight
+    number u (inr (inr (inr (inr h)))) = subst (λ k. Ended (refused k)) (sym h) nine
 
 whole-refused : (side : Side) (D : ℕ) (rows : List Row) (relations : List Relation) (n : ℕ) → wholeRun side D rows relations ≡ refused n
     → Ended (refused n)
@@ -205,5 +217,4 @@ pub zero-row-refused : (side : Side) (s : State) → current s < length (s .rows
     ≡ refused 6
 unfolding step workOn
 zero-row-refused side s below zeros =
-    cond-passed (zeroRow (rowAt s (current s))) (refused 6)
-    (meet side s (current s) (firstNonzero (map (entry (rowAt s (current s))) (s .order)))) zeros
+    cond-passed (zeroRow (rowAt s (current s))) (refused 6) _ zeros

@@ -78,7 +78,7 @@ totalWidth-without (r ∷ rows) (suc i) = step (totalWidth-without rows i)
     step e = omega arith
 
 pub drop-width : (rows : List Row) (i : ℕ) → T (zeroRow (getD rows i noRow)) → totalWidth (without rows i) ≡ totalWidth rows
-drop-width rows i zeros = omega (arith, totalWidth-without rows i, zeroRow-width (getD rows i noRow) .0 zeros)
+drop-width rows i zeros = omega (arith, totalWidth-without rows i, zeroRow-width (getD rows i noRow) zeros)
 
 -- ---- dependence
 

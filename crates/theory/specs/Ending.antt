@@ -20,7 +20,7 @@ use lib.Dec.{T, T-not}
 use lib.ListN.{length, getD, set, length-append, length-set, length-map}
 use Rattle.algebra.specs.Polynomials.{isZero}
 use Rattle.rules.specs.Limits.{blockCount, columnCount, coefficientCount}
-use Rattle.rules.specs.Rows.{Row, Relation, noRow, zeroRow, width, shiftUp, mirrorRow, mirrorRelation}
+use Rattle.rules.specs.Rows.{Row, Relation, noRow, zeroRow, width, shiftUp, mirrorRow, mirrorRelation, zeroLeft}
 use Rattle.lists.specs.Everywhere.{All, all-mono, map-all, getD-all}
 use Rattle.rules.specs.Elimination.{Side, leading, trailing, State, start, Outcome, going, done, refused, within, limitDegrees}
 use Rattle.rules.specs.Elimination.{limitCoefficients, rowAt, putRow, listRelations, settle, countShift, exchange, narrowFirst, run, enough}
@@ -59,7 +59,7 @@ combined-total side s j r below more e =
     (le-of-eq (totalWidth-narrowFirst s (current s) j more (omega arith)))
 
 -- A shift makes its row one block narrower.
-shifted-total : (s : State) (r : Row) → current s < length (s .rows) → T (not (zeroRow (rowAt s (current s))))
+shifted-total : (s : State) (r : Row) → current s < length (s .rows) → T (not (zeroLeft (rowAt s (current s))))
     → limitCoefficients (shiftUp (rowAt s (current s))) ≡ within r
     → suc (totalWidth (putRow (countShift s) (current s) r .rows)) ≡ totalWidth (s .rows)
 unfolding putRow countShift rowAt

@@ -19,26 +19,26 @@ use Rattle.algebra.specs.Polynomials.{Polynomial, eval, isZero, mul, shiftBy, e
 use Rattle.algebra.specs.Coefficients.{mul-nonzero}
 use Rattle.algebra.specs.Vanishing.{zero-everywhere}
 use Rattle.rules.specs.Rows.{Row, noRow, leadingBlock, entry}
-use Rattle.rules.specs.Sequences.{Sequence, valueOf, blockFrom, polynomialAt, Dependent}
-use Rattle.theory.specs.Values.{delta, value-delta}
+use Rattle.rules.specs.Sequences.{Sequence, leftValue, blockFrom, polynomialAt, Dependent}
+use Rattle.theory.specs.Values.{delta, left-delta}
 use Rattle.theory.specs.Combinations.{sumWithin-below, place-of, Multiplier, copies, combinationValue}
-use Rattle.theory.specs.ByValues.{rowValues, combination-zero}
+use Rattle.theory.specs.ByValues.{leftValues, combination-zero}
 use Rattle.theory.specs.Pivots.{PivotRows}
 use Rattle.lists.specs.Tests.{dec-T}
 
 -- What a row makes at n of the sequence that is 1 at index n + l, the last that the row reaches: its leading entry.
-leading-value : (l : ℤ) (r : Row) (c : ℕ) (n : ℤ) → valueOf l r (delta (n +ℤ l) c) n ≡ eval (entry r c) n
+leading-value : (l : ℤ) (r : Row) (c : ℕ) (n : ℤ) → leftValue l r (delta (n +ℤ l) c) n ≡ eval (entry r c) n
 unfolding polynomialAt blockFrom entry leadingBlock
-leading-value l r c n = value-delta l r (n +ℤ l) c n ∙ ap (λ s. eval (getD (blockFrom (r .blocks) s) c []) n) place
+leading-value l r c n = left-delta l r (n +ℤ l) c n ∙ ap (λ s. eval (getD (blockFrom (r .blocks) s) c []) n) place
   where
     place : l -ℤ (n +ℤ l -ℤ n) ≡ pos 0
     place = ap (λ a. l -ℤ a) (ap (λ a. a -ℤ n) (+ℤ-comm n l) ∙ +ℤ-negℤ-cancel l n) ∙ +ℤ-invr l
 
 -- Of the sequence that is 1 at an index past n + l it makes nothing.
-past-value : (l : ℤ) (r : Row) (c : ℕ) (n : ℤ) (e : ℕ) → valueOf l r (delta (n +ℤ l +ℤ pos (suc e)) c) n ≡ pos 0
+past-value : (l : ℤ) (r : Row) (c : ℕ) (n : ℤ) (e : ℕ) → leftValue l r (delta (n +ℤ l +ℤ pos (suc e)) c) n ≡ pos 0
 unfolding polynomialAt blockFrom eval
 past-value l r c n e =
-    value-delta l r (n +ℤ l +ℤ pos (suc e)) c n ∙ ap (λ s. eval (getD (blockFrom (r .blocks) s) c []) n) (place (pos (suc e)))
+    left-delta l r (n +ℤ l +ℤ pos (suc e)) c n ∙ ap (λ s. eval (getD (blockFrom (r .blocks) s) c []) n) (place (pos (suc e)))
   where
     place : (a : ℤ) → l -ℤ (n +ℤ l +ℤ a -ℤ n) ≡ negℤ a
     place a = ap (λ b. l -ℤ b) (inner ∙ +ℤ-negℤ-cancel (l +ℤ a) n) ∙ outer ∙ +ℤ-negℤ-cancel (negℤ a) l
@@ -62,11 +62,11 @@ ClearAbove m N S J = (I : ℕ) → J < I → I < suc (N + N) → Clear m N S I
 
 -- A combination that vanishes, with zero multipliers at the shifts above place J.
 module _ (l : ℤ) (rows : List Row) (N : ℕ) (S : Multiplier)
-    (vanishes : (z : Sequence) (x : ℤ) → combinationValue (length rows) (rowValues l rows) N S z x ≡ pos 0)
+    (vanishes : (z : Sequence) (x : ℤ) → combinationValue (length rows) (leftValues l rows) N S z x ≡ pos 0)
     (J : ℕ) (below : J < suc (N + N)) (clear : ClearAbove (length rows) N S J) where
   -- At the sequence that is 1 at the last index that the copies at J reach, the other copies make nothing.
   leading-copies : (c : ℕ) (x : ℤ) (i : ℕ) → i < length rows
-      → copies (rowValues l rows) N S (delta (x +ℤ shiftAt N J +ℤ l) c) x i
+      → copies (leftValues l rows) N S (delta (x +ℤ shiftAt N J +ℤ l) c) x i
       ≡ eval (S i (shiftAt N J)) x *ℤ eval (entry (getD rows i noRow) c) (x +ℤ shiftAt N J)
   unfolding copies
   leading-copies c x i h =
@@ -74,11 +74,11 @@ module _ (l : ℤ) (rows : List Row) (N : ℕ) (S : Multiplier)
       ∙ ap (λ e. eval (S i (shiftAt N J)) x *ℤ e) (leading-value l (getD rows i noRow) c (x +ℤ shiftAt N J))
     where
       value : ℕ → ℤ
-      value I = valueOf l (getD rows i noRow) (delta (x +ℤ shiftAt N J +ℤ l) c) (x +ℤ shiftAt N I)
+      value I = leftValue l (getD rows i noRow) (delta (x +ℤ shiftAt N J +ℤ l) c) (x +ℤ shiftAt N I)
 
       lower : (I : ℕ) → I < J → value I ≡ pos 0
       lower I m =
-          ap (λ y. valueOf l (getD rows i noRow) (delta y c) (x +ℤ shiftAt N I)) index
+          ap (λ y. leftValue l (getD rows i noRow) (delta y c) (x +ℤ shiftAt N I)) index
           ∙ past-value l (getD rows i noRow) c (x +ℤ shiftAt N I) (J - suc I)
         where
           regroup : (a b e : ℤ) → x +ℤ (a +ℤ e -ℤ b) +ℤ l ≡ x +ℤ (a -ℤ b) +ℤ l +ℤ e
@@ -103,7 +103,7 @@ module _ (l : ℤ) (rows : List Row) (N : ℕ) (S : Multiplier)
       sumBelow-congr (length rows) _ _ (λ i h. sym (leading-copies c x i h)) ∙ vanishes (delta (x +ℤ shiftAt N J +ℤ l) c) x
 
 module _ (l : ℤ) (rows : List Row) (order : List ℕ) (pivots : PivotRows (length rows) order rows) (N : ℕ) (S : Multiplier)
-    (vanishes : (z : Sequence) (x : ℤ) → combinationValue (length rows) (rowValues l rows) N S z x ≡ pos 0) where
+    (vanishes : (z : Sequence) (x : ℤ) → combinationValue (length rows) (leftValues l rows) N S z x ≡ pos 0) where
   -- At the column of row i the later rows have no leading entry, and the earlier ones have multiplier zero.
   next-clear : (J : ℕ) → J < suc (N + N) → ClearAbove (length rows) N S J → (i : ℕ) → i < length rows → Clear i N S J
       → T (isZero (S i (shiftAt N J)))

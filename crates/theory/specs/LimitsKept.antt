@@ -19,7 +19,7 @@ use Prim.Native.Nat.{ℕ, _≤_, _<_, zero-le}
 use native.Mathlib.Nat.{le-of-dvd, le-trans}
 use native.Mathlib.Omega.{arith}
 use mathlib.Core.Bool.{Bool, true, false, not}
-use mathlib.Core.List.{List, [], _∷_, flatten, List·Mem, not-mem-nil}
+use mathlib.Core.List.{List, [], _∷_, flatten, List·Mem, not-mem-nil, _++_}
 use lib.Dec.{T, leb→le, le→leb}
 use lib.ListN.{length, getD, set}
 use lib.IntN.{ℤ, pos, natAbs, ℤ-discrete}
@@ -30,7 +30,7 @@ use Rattle.algebra.specs.Vanishing.{root-divides-lowest, lowest-positive}
 use Rattle.algebra.specs.Roots.{roots, isConstant, roots-sound}
 use Rattle.rules.specs.Limits.{bound, coefficientCount, mostRelations, small, columnCount, blockCount}
 use Rattle.rules.specs.Rows.{Row, Relation, noRow, coefficientsOf, leadingBlock, entry, smallRow, shiftUp}
-use Rattle.lists.specs.Everywhere.{All, all-getD-default, all-getD, all-set, append-all, all-flatten}
+use Rattle.lists.specs.Everywhere.{All, all-getD-default, all-getD, all-set, append-all, all-flatten, all-append}
 use Rattle.rules.specs.Elimination.{Side, State, start, within, limitDegrees, limitCoefficients, rowAt, putRow, listRelations, settle}
 use Rattle.rules.specs.Elimination.{countShift, rootRelations, multipliersAt}
 use Rattle.rules.specs.Stores.{Sizes, span, countRight, unusedZero, rowRight, relationRight, Valid, StoreRow}
@@ -50,12 +50,18 @@ use Rattle.theory.specs.ShiftUp.{shiftUp-shaped, shiftUp-unused}
 abbrev pub Small : ℤ → Type 0
 Small a = T (small a)
 
-pub smallRow-iff : (r : Row) → T (smallRow r) ↔ All (All (All Small)) (r .blocks)
+pub smallRow-iff : (r : Row) → T (smallRow r) ↔ (All (All (All Small)) (r .blocks) × All Small (r .right))
 unfolding smallRow coefficientsOf
-smallRow-iff r = (λ h. blocks .0 (coefficients .0 (tests .0 h)), λ a. tests .1 (coefficients .1 (blocks .1 a)))
+smallRow-iff r = (
+  λ h. let both = parts .0 (tests .0 h) in (blocks .0 (coefficients .0 (both .0)), both .1),
+  λ a. tests .1 (parts .1 (coefficients .1 (blocks .1 (a .0)), a .1)),
+)
   where
-    tests : T (every small (flatten (flatten (r .blocks)))) ↔ All Small (flatten (flatten (r .blocks)))
-    tests = every-all small (flatten (flatten (r .blocks)))
+    tests : T (every small (flatten (flatten (r .blocks)) ++ r .right)) ↔ All Small (flatten (flatten (r .blocks)) ++ r .right)
+    tests = every-all small (flatten (flatten (r .blocks)) ++ r .right)
+
+    parts : All Small (flatten (flatten (r .blocks)) ++ r .right) ↔ (All Small (flatten (flatten (r .blocks))) × All Small (r .right))
+    parts = all-append Small (flatten (flatten (r .blocks))) (r .right)
 
     coefficients : All Small (flatten (flatten (r .blocks))) ↔ All (All Small) (flatten (r .blocks))
     coefficients = all-flatten Small (flatten (r .blocks))
@@ -68,7 +74,7 @@ unfolding entry leadingBlock All
 entry-small r c h =
     every-of-all small (getD (getD (r .blocks) 0 []) c [])
     (all-getD-default (All (λ a. T (small a))) (getD (r .blocks) 0 []) [] c tt
-    (all-getD-default (All (All (λ a. T (small a)))) (r .blocks) [] 0 tt (smallRow-iff r .0 h)))
+    (all-getD-default (All (All (λ a. T (small a)))) (r .blocks) [] 0 tt (smallRow-iff r .0 h .0)))
 
 -- The zero polynomial has no roots in the list.
 roots-of-zero : (p : Polynomial) → T (isZero p) → roots p ≡ []

@@ -122,7 +122,8 @@ mirrorBlock-twice [] = refl
 mirrorBlock-twice (p ∷ b) = ap₂ _∷_ (mirror-mirror p) (mirrorBlock-twice b)
 
 pub mirrorRow-twice : (D : ℕ) (r : Row) → Reaches D r → mirrorRow D (mirrorRow D r) ≡ r
-mirrorRow-twice D r h = ap (λ bs. record { blocks = bs }) blocks
+unfolding mirrorRow mapRow
+mirrorRow-twice D r h = ap₂ (λ bs q. record { blocks = bs; right = q }) blocks (mirror-mirror (r .right))
   where
     blocks : mirrorRow D (mirrorRow D r) .blocks ≡ r .blocks
     blocks =
@@ -196,7 +197,7 @@ reflect z = λ n c. z (negℤ n) c
 
 blocks-mirror : (n : ℤ) (z : Sequence) (k : ℤ) (bs : List Block) → blocksValue n z k (map mirrorBlock bs) ≡ blocksValue (negℤ n) z k bs
 unfolding mapRow
-blocks-mirror n z k bs = blocks-always mirror (record { blocks = bs }) z n (negℤ n) k (λ p. eval-mirror p n)
+blocks-mirror n z k bs = blocks-always mirror (record { blocks = bs; right = [] }) z n (negℤ n) k (λ p. eval-mirror p n)
 
 blocks-append : (n : ℤ) (z : Sequence) (k : ℤ) (bs cs : List Block)
     → blocksValue n z k (bs ++ cs) ≡ blocksValue n z k bs +ℤ blocksValue n z (k -ℤ pos (length bs)) cs
@@ -262,14 +263,16 @@ mirror-indices D l t e n =
 -- The value of the mirror at n is the value at -n.
 pub mirror-value : (D : ℕ) (l t : ℤ) → l ≡ t +ℤ pos D → (r : Row) → Spans D r → (z : Sequence) (n : ℤ)
     → valueOf (negℤ t) (mirrorRow D r) (reflect z) n ≡ valueOf l r z (negℤ n)
-unfolding valueOf
+unfolding valueOf mirrorRow mapRow
 mirror-value D l t e r s z n =
-    ap (blocksValue n (reflect z) (n -ℤ t)) (mirrorRow-blocks D r) ∙ blocks-mirror n (reflect z) (n -ℤ t) (turn D (r .blocks))
+    ap₂ _-ℤ_
+    (ap (blocksValue n (reflect z) (n -ℤ t)) (mirrorRow-blocks D r) ∙ blocks-mirror n (reflect z) (n -ℤ t) (turn D (r .blocks))
     ∙ ap (blocksValue (negℤ n) (reflect z) (n -ℤ t)) (turn-parts D (r .blocks))
     ∙ blocks-append-zero (negℤ n) (reflect z) (n -ℤ t) (reverse first) rest (s .zero-after)
     ∙ blocks-reverse (negℤ n) z first (n -ℤ t) (negℤ n +ℤ l) (mirror-indices D l t e n ∙ ap pos (sym count))
     ∙ sym (blocks-append-zero (negℤ n) z (negℤ n +ℤ l) first rest (s .zero-after))
-    ∙ ap (blocksValue (negℤ n) z (negℤ n +ℤ l)) (take-append-drop (suc D) (r .blocks))
+    ∙ ap (blocksValue (negℤ n) z (negℤ n +ℤ l)) (take-append-drop (suc D) (r .blocks)))
+    (eval-mirror (r .right) n)
   where
     first : List Block
     first = take (suc D) (r .blocks)
@@ -393,15 +396,18 @@ small-mirror [] a = tt
 small-mirror (x ∷ p) a = (a .0, map-keeps Small Small negℤ small-negℤ (mirror p) (small-mirror p (a .1)))
 
 pub mirror-small : (D : ℕ) (r : Row) → T (smallRow r) → T (smallRow (mirrorRow D r))
+unfolding mirrorRow mapRow
 mirror-small D r h =
-    smallRow-iff (mirrorRow D r) .1
-    (subst (All Fits) (sym (mirrorRow-blocks D r)) (map-keeps Fits Fits mirrorBlock block (turn D (r .blocks)) turned))
+    smallRow-iff (mirrorRow D r) .1 (
+      subst (All Fits) (sym (mirrorRow-blocks D r)) (map-keeps Fits Fits mirrorBlock block (turn D (r .blocks)) turned),
+      small-mirror (r .right) (smallRow-iff r .0 h .1),
+    )
   where
     Fits : Block → Type 0
     Fits b = All (All Small) b
 
     turned : All Fits (turn D (r .blocks))
-    turned = all-turn Fits D (r .blocks) (smallRow-iff r .0 h)
+    turned = all-turn Fits D (r .blocks) (smallRow-iff r .0 h .0)
 
     block : (b : Block) → Fits b → Fits (mirrorBlock b)
     block b a = map-keeps (All Small) (All Small) mirror small-mirror b a
@@ -409,8 +415,8 @@ mirror-small D r h =
 isZero-kept : (p : Polynomial) → T (isZero p) → T (isZero (mirror p))
 isZero-kept p z = subst T (sym (isZero-mirror p)) z
 
-turned-unused : (m D : ℕ) (r : Row) → Reaches D r → T (unusedZero m D r) → T (unusedZero m D (record { blocks = turn D (r .blocks) }))
-turned-unused m D r h u = unusedZero-iff m D (record { blocks = turn D (r .blocks) }) .1 (
+turned-unused : (m D : ℕ) (r : Row) → Reaches D r → T (unusedZero m D r) → T (unusedZero m D (record { blocks = turn D (r .blocks); right = r .right }))
+turned-unused m D r h u = unusedZero-iff m D (record { blocks = turn D (r .blocks); right = r .right }) .1 (
   all-turn (λ b. T (zeroBlock (drop m b))) D (r .blocks) (unusedZero-iff m D r .0 u .0),
   subst (All (λ b. T (zeroBlock b))) (sym (drop-turn D (r .blocks) h)) (unusedZero-iff m D r .0 u .1),
 )
@@ -418,7 +424,7 @@ turned-unused m D r h u = unusedZero-iff m D (record { blocks = turn D (r .block
 pub mirror-unused : (m D : ℕ) (r : Row) → Reaches D r → T (unusedZero m D r) → T (unusedZero m D (mirrorRow D r))
 unfolding mirrorRow turn
 mirror-unused m D r h u =
-    let turned : Row = record { blocks = turn D (r .blocks) } in
+    let turned : Row = record { blocks = turn D (r .blocks); right = r .right } in
     unused-kept m D turned (mapRow mirror turned) (mapRow-zero mirror refl isZero-kept turned) (turned-unused m D r h u)
 
 -- Rows of D + 1 blocks that pass the check still pass it, for the mirrored sizes.

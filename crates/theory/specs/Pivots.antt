@@ -41,7 +41,7 @@ pivot-width order j r p =
     cell-within r 0 (getD order j 0) (subst (λ e. T (not (isZero e))) (entry-cell r (getD order j 0)) (p .diagonal))
 
 pub pivot-nonzero : (order : List ℕ) (j : ℕ) (r : Row) → PivotRow order j r → T (not (zeroRow r))
-pivot-nonzero order j r p = not-T (zeroRow r) (λ z. none (zeroRow-width r .0 z))
+pivot-nonzero order j r p = not-T (zeroRow r) (λ z. none (zeroRow-width r z))
   where
     none : ¬ (width r ≤ 0)
     none h = omega (arith, pivot-width order j r p)

@@ -38,6 +38,7 @@ module _ (f : Polynomial → Polynomial) (k k′ : ℕ) (keeps : (p : Polynomial
   mapRow-shaped b c r h = (
     length-map (r .blocks) (map f) ∙ h .0,
     map-keeps (BlockShaped c k) (BlockShaped c k′) (map f) (map-blockShaped c) (r .blocks) (h .1),
+    keeps (r .right) (h .2),
   )
 
 pub blank-shaped : (c k : ℕ) (block : Block) → BlockShaped c k block → BlockShaped c k (blank block)
@@ -46,8 +47,8 @@ blank-shaped c k block h = map-blockShaped (map (λ _. pos 0)) k k (λ p e. leng
 
 pub mirrorRow-shaped : (b c k D : ℕ) (r : Row) → Shaped b c k r → Shaped b c k (mirrorRow D r)
 unfolding mirrorRow Shaped
-mirrorRow-shaped b c k D r h = mapRow-shaped mirror k k (λ p e. length-mirror p ∙ e) b c (record { blocks = first ++ rest })
-    (count, members)
+mirrorRow-shaped b c k D r h = mapRow-shaped mirror k k (λ p e. length-mirror p ∙ e) b c (record { blocks = first ++ rest; right = r .right })
+    (count, members, h .2)
   where
     first : List Block
     first = reverse (take (suc D) (r .blocks))

@@ -49,7 +49,7 @@ lastBlock r = getLastD (r .blocks) []
 
 -- The blocks moved down, before n - 1 is put for n.
 abbrev moved : Row → Row
-moved r = record { blocks = blank (lastBlock r) ∷ dropLast (r .blocks) }
+moved r = record { blocks = blank (lastBlock r) ∷ dropLast (r .blocks); right = r .right }
 
 unfoldable pub shiftDown : Row → Row
 shiftDown r = mapRow (shiftBy (negsuc 0)) (moved r)
@@ -79,14 +79,15 @@ moved-down n z k r zeros = ⊎-elim (ap (blocksValue n z k))
 
 pub value-shiftDown : (l : ℤ) (r : Row) (z : Sequence) (n : ℤ) → T (zeroBlock (lastBlock r))
     → valueOf l (shiftDown r) z n ≡ valueOf l r z (n -ℤ pos 1)
-unfolding valueOf shiftDown blocksValue
+unfolding valueOf shiftDown mapRow blocksValue
 value-shiftDown l r z n zeros =
-    blocks-always (shiftBy (negsuc 0)) (moved r) z n m (n +ℤ l) (λ p. eval-shiftBy (negsuc 0) p n)
+    ap₂ _-ℤ_ (blocks-always (shiftBy (negsuc 0)) (moved r) z n m (n +ℤ l) (λ p. eval-shiftBy (negsuc 0) p n)
     ∙ ap (λ x. x +ℤ blocksValue m z (predℤ (n +ℤ l)) (dropLast (r .blocks)))
     (block-zero m (z (n +ℤ l)) (blank (lastBlock r)) (blank-zero (lastBlock r)))
     ∙ +ℤ-idl (blocksValue m z (predℤ (n +ℤ l)) (dropLast (r .blocks)))
     ∙ ap (λ k. blocksValue m z k (dropLast (r .blocks))) (sym (predℤ-+ℤ n l) ∙ ap (λ k. k +ℤ l) (sym (-ℤ-one n)))
-    ∙ moved-down m z (m +ℤ l) r zeros
+    ∙ moved-down m z (m +ℤ l) r zeros)
+    (eval-shiftBy (negsuc 0) (r .right) n)
   where
     m : ℤ
     m = n -ℤ pos 1
@@ -122,7 +123,8 @@ twice-blank f g undoes same b z =
 
 pub shiftDown-shiftUp : (r : Row) → 0 < length (r .blocks) → T (zeroBlock (leadingBlock r)) → shiftDown (shiftUp r) ≡ r
 unfolding shiftDown shiftUp mapRow lastBlock leadingBlock shift
-shiftDown-shiftUp r some zeros = ap (λ bs. record { blocks = bs }) (go (r .blocks) some zeros)
+shiftDown-shiftUp r some zeros =
+    ap₂ (λ bs q. record { blocks = bs; right = q }) (go (r .blocks) some zeros) (shiftBy-inverse (pos 1) (r .right))
   where
     up : Polynomial → Polynomial
     up = shiftBy (pos 1)
@@ -131,7 +133,7 @@ shiftDown-shiftUp r some zeros = ap (λ bs. record { blocks = bs }) (go (r .bloc
     down = shiftBy (negsuc 0)
 
     go : (bs : List Block) → 0 < length bs → T (zeroBlock (getD bs 0 []))
-        → shiftDown (shiftUp (record { blocks = bs })) .blocks ≡ bs
+        → shiftDown (shiftUp (record { blocks = bs; right = [] })) .blocks ≡ bs
     go [] h z = absurd (not-suc-le-zero h)
     go (b ∷ bs) h z =
         ap (λ l. map (map down) (blank (getLastD l []) ∷ dropLast l)) (map-append (map up) bs (blank b ∷ []))
@@ -142,11 +144,12 @@ shiftDown-shiftUp r some zeros = ap (λ bs. record { blocks = bs }) (go (r .bloc
 
 pub shiftUp-shiftDown : (r : Row) → 0 < length (r .blocks) → T (zeroBlock (lastBlock r)) → shiftUp (shiftDown r) ≡ r
 unfolding shiftDown shiftUp mapRow leadingBlock shift
-shiftUp-shiftDown r some zeros = ap (λ bs. record { blocks = bs })
+shiftUp-shiftDown r some zeros = ap₂ (λ bs q. record { blocks = bs; right = q })
     (map-append (map up) (map (map down) (dropLast (r .blocks))) (blank (map down (blank (lastBlock r))) ∷ [])
     ∙ ap₂ (λ l b. l ++ (b ∷ [])) (undone-blocks down up (shiftBy-inverse (negsuc 0)) (dropLast (r .blocks)))
     (twice-blank down up (shiftBy-inverse (negsuc 0)) (isZero-shiftBy (negsuc 0)) (lastBlock r) zeros)
     ∙ front-lastBlock r some)
+    (shiftBy-inverse (negsuc 0) (r .right))
   where
     up : Polynomial → Polynomial
     up = shiftBy (pos 1)
@@ -223,6 +226,7 @@ shiftDown-shaped b c k r some h = mapRow-shaped (shiftBy (negsuc 0)) k k (λ p e
             blank-shaped c k (lastBlock r) (all-back (BlockShaped c k) (dropLast (r .blocks)) (lastBlock r ∷ []) members .0),
             all-front (BlockShaped c k) (dropLast (r .blocks)) (lastBlock r ∷ []) members,
           ),
+          h .2,
         )
 
 -- A row whose D + 1 blocks in use stand in the first places loses a zero block if the last in use is zero.

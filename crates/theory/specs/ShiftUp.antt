@@ -9,15 +9,15 @@
 --   shiftUp-shaped, shiftUp-unused   the shape, and the unused places
 -- The triangular form of the rows before it stays: `replace-pivots`; it is none of them: `pivot-leading`.
 use Prim.Native.Nat.{ℕ, suc, _<_}
-use mathlib.Core.Path.{_≡_, refl, sym, _∙_, ap, subst}
+use mathlib.Core.Path.{_≡_, refl, sym, _∙_, ap, subst, ap₂}
 use mathlib.Core.Logic.{_↔_, inl, inr, ⊎-elim}
 use mathlib.Core.Bool.{true}
 use mathlib.Core.List.{List, [], _∷_, _++_, tail}
 use native.Mathlib.Omega.{arith}
 use lib.Dec.{T}
 use lib.ListN.{length, getD, set, length-append}
-use lib.IntN.{ℤ, pos, predℤ, _+ℤ_, +ℤ-idl, +ℤ-one, sucℤ-+ℤ, pred-suc}
-use Rattle.algebra.specs.Polynomials.{isZero, shift, eval-shift, isZero-shift, length-shift}
+use lib.IntN.{ℤ, pos, predℤ, _+ℤ_, +ℤ-idl, +ℤ-one, sucℤ-+ℤ, pred-suc, _-ℤ_}
+use Rattle.algebra.specs.Polynomials.{isZero, shift, eval-shift, isZero-shift, length-shift, Polynomial}
 use Rattle.lists.specs.Tests.{T-&&, every}
 use Rattle.rules.specs.Rows.{Block, Row, Relation, noRow, zeroBlock, width, leadingBlock, entry, blank, shiftUp}
 use Rattle.lists.specs.Everywhere.{All, append-all}
@@ -31,7 +31,7 @@ use Rattle.theory.specs.Replace.{moved-satisfied, moved-dependent}
 
 -- The blocks moved up, before n + 1 is put for n.
 abbrev moved : Row → Row
-moved r = record { blocks = tail (r .blocks) ++ (blank (getD (r .blocks) 0 []) ∷ []) }
+moved r = record { blocks = tail (r .blocks) ++ (blank (getD (r .blocks) 0 []) ∷ []); right = r .right }
 
 -- ---- values, pointwise in n
 
@@ -47,11 +47,12 @@ pub value-shiftUp : (l : ℤ) (r : Row) (z : Sequence) (n : ℤ) → T (zeroBloc
     → valueOf l (shiftUp r) z n ≡ valueOf l r z (n +ℤ pos 1)
 unfolding valueOf shiftUp leadingBlock every
 value-shiftUp l r z n h =
-    blocks-always shift (moved r) z n (n +ℤ pos 1) (n +ℤ l) (λ p. eval-shift p n)
+    ap₂ _-ℤ_ (blocks-always shift (moved r) z n (n +ℤ pos 1) (n +ℤ l) (λ p. eval-shift p n)
     ∙ blocks-append-zero (n +ℤ pos 1) z (n +ℤ l) (tail (r .blocks)) (blank (leadingBlock r) ∷ [])
     (T-&& (zeroBlock (blank (leadingBlock r))) true .1 (blank-zero (leadingBlock r), tt))
     ∙ ap (λ k. blocksValue (n +ℤ pos 1) z k (tail (r .blocks))) index
-    ∙ moved-up (n +ℤ pos 1) (n +ℤ pos 1 +ℤ l) z (r .blocks) h
+    ∙ moved-up (n +ℤ pos 1) (n +ℤ pos 1 +ℤ l) z (r .blocks) h)
+    (eval-shift (r .right) n)
   where
     index : n +ℤ l ≡ predℤ (n +ℤ pos 1 +ℤ l)
     index = sym (ap predℤ (ap (λ m. m +ℤ l) (+ℤ-one n) ∙ sucℤ-+ℤ n l) ∙ pred-suc (n +ℤ l))
@@ -77,7 +78,7 @@ pub cell-shiftUp : (r : Row) (i c : ℕ) → isZero (cell (shiftUp r) i c) ≡ i
 unfolding shiftUp leadingBlock
 cell-shiftUp r i c = ap isZero (cell-mapRow shift refl (moved r) i c) ∙ isZero-shift (cell (moved r) i c) ∙ go (r .blocks)
   where
-    go : (bs : List Block) → isZero (cell (moved (record { blocks = bs })) i c) ≡ isZero (getD (getD bs (suc i) []) c [])
+    go : (bs : List Block) → isZero (cell (moved (record { blocks = bs; right = [] })) i c) ≡ isZero (getD (getD bs (suc i) []) c [])
     go [] = append-zero [] (blank []) (blank-zero []) i c
     go (b ∷ bs) = append-zero bs (blank b) (blank-zero b) i c
 
@@ -97,17 +98,19 @@ shiftUp-width rows i below positive =
 
 -- ---- the shape, and the unused places
 
-moved-shaped : (b c k : ℕ) (bs : List Block) → 0 < b → Shaped b c k (record { blocks = bs }) → Shaped b c k (moved (record { blocks = bs }))
+moved-shaped : (b c k : ℕ) (bs : List Block) (q : Polynomial) → 0 < b → Shaped b c k (record { blocks = bs; right = q })
+    → Shaped b c k (moved (record { blocks = bs; right = q }))
 unfolding Shaped All
-moved-shaped b c k [] n h = absurd (omega (arith, h .0))
-moved-shaped b c k (x ∷ bs) n h = (
+moved-shaped b c k [] q n h = absurd (omega (arith, h .0))
+moved-shaped b c k (x ∷ bs) q n h = (
   length-append bs (blank x ∷ []) ∙ omega (arith, h .0),
   append-all (BlockShaped c k) bs (blank x ∷ []) (h .1 .1) (blank-shaped c k x (h .1 .0), tt),
+  h .2,
 )
 
 pub shiftUp-shaped : (b c k : ℕ) (r : Row) → 0 < b → Shaped b c k r → Shaped b c k (shiftUp r)
 unfolding shiftUp leadingBlock
-shiftUp-shaped b c k r n h = mapRow-shaped shift k k (λ p e. length-shift p ∙ e) b c (moved r) (moved-shaped b c k (r .blocks) n h)
+shiftUp-shaped b c k r n h = mapRow-shaped shift k k (λ p e. length-shift p ∙ e) b c (moved r) (moved-shaped b c k (r .blocks) (r .right) n h)
 
 pub shiftUp-unused : (m D : ℕ) (r : Row) → T (unusedZero m D r) → T (unusedZero m D (shiftUp r))
 shiftUp-unused m D r u = unused-cells m D (shiftUp r) .1

@@ -19,9 +19,9 @@
 --   chain-induction                              what every step keeps, a chain keeps
 --   run-view, run-going, run-done, run-refused   a run is a chain of steps
 use Prim.Native.Nat.{ℕ, zero, suc, _≤_, _<_}
-use mathlib.Core.Path.{_≡_, refl, sym, _∙_, ap, subst}
+use mathlib.Core.Path.{_≡_, refl, sym, _∙_, ap, subst, ap₂}
 use mathlib.Core.Logic.{_↔_, _⊎_, inl, inr}
-use mathlib.Core.Bool.{Bool, true, false, not, cond}
+use mathlib.Core.Bool.{Bool, true, false, _&&_, not, cond}
 use mathlib.Core.List.{List, [], _∷_, _++_, map, append-assoc, append-nil}
 use mathlib.Core.Option.{Option, none, some, Option·map, map-eq-some-iff, map-eq-none-iff, Option·some-injective, Option·none-ne-some}
 use mathlib.Core.Option.{Option·some-ne-none}
@@ -32,13 +32,13 @@ use lib.ListN.{length, getD, set, length-set, length-map}
 use lib.Seq.{getD-set-same}
 use Rattle.algebra.specs.Polynomials.{Polynomial, isZero}
 use Rattle.rules.specs.Limits.{mostRelations}
-use Rattle.rules.specs.Rows.{Row, Relation, noRow, zeroRow, width, entry, leadingBlock, firstNonzero, combine, primitive, lowDegrees}
+use Rattle.rules.specs.Rows.{Row, Relation, noRow, zeroLeft, zeroRow, contradicts, width, entry, leadingBlock, firstNonzero, combine, primitive, lowDegrees}
 use Rattle.lists.specs.Everywhere.{All}
 use Rattle.rules.specs.Rows.{cut, smallRow, shiftUp}
 use Rattle.lists.specs.Places.{all-swap, getD-swap-left, getD-swap-right, length-swap}
 use Rattle.lists.specs.Images.{getD-map}
 use Rattle.rules.specs.Elimination.{Side, Multipliers, State, Outcome, going, done, refused, Limited, within, beyond, limitCoefficients}
-use Rattle.rules.specs.Elimination.{limitDegrees, rowAt, putRow, putLimited, listRelations, settle, countShift, exchange, rootRelations}
+use Rattle.rules.specs.Elimination.{limitDegrees, consistent, rowAt, putRow, putLimited, listRelations, settle, countShift, exchange, rootRelations}
 use Rattle.rules.specs.Elimination.{multipliersAt, narrowFirst, combineStep, eliminateStep, shiftStep, settleOrShift, meet, workOn, step}
 use Rattle.rules.specs.Elimination.{finished, andThen, run}
 
@@ -73,13 +73,13 @@ combination s j =
 
 -- One step that goes on.
 pub data Stepped (side : Side) (s : State) : State → Type 0 where
-  combined : (j : ℕ) → j < current s → current s < length (s .rows) → T (not (zeroRow (rowAt s (current s)))) → MetZeroBelow s j
+  combined : (j : ℕ) → j < current s → current s < length (s .rows) → T (not (zeroLeft (rowAt s (current s)))) → MetZeroBelow s j
       → T (not (isZero (met s j))) → length (listed side s j .relations) ≤ mostRelations → (r : Row) → limitDegrees (combination s j)
       ≡ within r
       → Stepped side s (putRow (listed side s j) (current s) r)
-  settled : (c : ℕ) → current s < length (s .rows) → T (not (zeroRow (rowAt s (current s)))) → MetZeroBelow s (current s)
+  settled : (c : ℕ) → current s < length (s .rows) → T (not (zeroLeft (rowAt s (current s)))) → MetZeroBelow s (current s)
       → firstNonzero (leadingBlock (rowAt s (current s))) ≡ some c → Stepped side s (settle s c)
-  shifted : (r : Row) → current s < length (s .rows) → T (not (zeroRow (rowAt s (current s)))) → MetZeroBelow s (current s)
+  shifted : (r : Row) → current s < length (s .rows) → T (not (zeroLeft (rowAt s (current s)))) → MetZeroBelow s (current s)
       → firstNonzero (leadingBlock (rowAt s (current s))) ≡ none → limitCoefficients (shiftUp (rowAt s (current s))) ≡ within r
       → Stepped side s (putRow (countShift s) (current s) r)
 
@@ -280,11 +280,17 @@ left s = go (ltb (current s) (length (s .rows))) (ltb→lt (current s) (length (
     go true more rest = row-left (more tt)
     go false more rest = none-left (rest tt)
 
+-- The current row, or the row that a combination would put into its place, has a right side and no left part.
+pub data Inconsistent (side : Side) (s : State) : Type 0 where
+  at-once : T (contradicts (rowAt s (current s))) → Inconsistent side s
+  next-row : {s' : State} → Stepped side s s' → T (contradicts (rowAt s' (current s))) → Inconsistent side s
+
 -- The outcome of one step from s.
 pub data StepView (side : Side) (s : State) : Outcome → Type 0 where
   zero-row : current s < length (s .rows) → T (zeroRow (rowAt s (current s))) → StepView side s (refused 6)
-  over-limit : (n : ℕ) → current s < length (s .rows) → T (not (zeroRow (rowAt s (current s))))
+  over-limit : (n : ℕ) → current s < length (s .rows) → T (not (zeroLeft (rowAt s (current s))))
       → (n ≡ 7) ⊎ (n ≡ 8) ⊎ (n ≡ 9) → StepView side s (refused n)
+  inconsistent : current s < length (s .rows) → Inconsistent side s → StepView side s (refused 10)
   goes-on : {s' : State} → Stepped side s s' → StepView side s (going s')
 
 within≢beyond : {r : Row} {n : ℕ} → within r ≡ beyond n → ⊥
@@ -326,7 +332,7 @@ limitDegrees-within q r = go (lowDegrees q)
     go true e = let (small, same) = limitCoefficients-within (cut q) r e in (tt, small, same)
     go false e = absurd (within≢beyond (sym e))
 
-module _ (side : Side) (s : State) (more : current s < length (s .rows)) (nonzero : T (not (zeroRow (rowAt s (current s))))) where
+module _ (side : Side) (s : State) (more : current s < length (s .rows)) (nonzero : T (not (zeroLeft (rowAt s (current s))))) where
   shiftStep-view : MetZeroBelow s (current s) → firstNonzero (leadingBlock (rowAt s (current s))) ≡ none
       → StepView side s (shiftStep s (current s))
   unfolding shiftStep
@@ -344,14 +350,26 @@ module _ (side : Side) (s : State) (more : current s < length (s .rows)) (nonzer
 
   eliminateStep-view : (j : ℕ) → j < current s → MetZeroBelow s j → T (not (isZero (met s j)))
       → StepView side s (eliminateStep side s (current s) j)
-  unfolding eliminateStep combineStep
+  unfolding eliminateStep combineStep consistent
   eliminateStep-view j below clear meets =
       go (leb (length (listed side s j .relations)) mostRelations) (leb→le (length (listed side s j .relations)) mostRelations)
       (limitDegrees (combination s j)) refl
     where
       go : (t : Bool) → (T t → length (listed side s j .relations) ≤ mostRelations) → (l : Limited) → limitDegrees (combination s j) ≡ l
-          → StepView side s (cond t (putLimited (listed side s j) (current s) l) (refused 9))
-      go true few (within r) f = goes-on (combined j below more nonzero clear meets (few tt) r f)
+          → StepView side s (cond t (putLimited (listed side s j) (current s) (consistent l)) (refused 9))
+      go true few (within r) f = put (contradicts r) refl
+        where
+          new : Stepped side s (putRow (listed side s j) (current s) r)
+          new = combined j below more nonzero clear meets (few tt) r f
+
+          put : (t : Bool) → contradicts r ≡ t
+              → StepView side s (putLimited (listed side s j) (current s) (cond t (beyond 10) (within r)))
+          put true e =
+              inconsistent more
+              (next-row new
+              (subst (λ q. T (contradicts q)) (sym (rowAt-putRow-same (listed side s j) (current s) r (rw (listed-rows side s j) more)))
+              (rw e tt)))
+          put false e = goes-on new
       go true few (beyond n) f = over-limit n more nonzero
           (elim (limitDegrees-beyond (combination s j) n f) [ inl e ↦ inl e | inr e ↦ inr (inl e) ])
       go false few l f = over-limit 9 more nonzero (inr (inr refl))
@@ -383,14 +401,32 @@ module _ (side : Side) (s : State) (more : current s < length (s .rows)) (nonzer
       clear k h = rw (getD-map (entry (rowAt s (current s))) (s .order) k 0 [] h) at
           (firstNonzero-none (map (entry (rowAt s (current s))) (s .order)) e k)
 
+-- A row by its two parts.
+zero-parts : (r : Row) {z q : Bool} → zeroLeft r ≡ z → isZero (r .right) ≡ q → zeroRow r ≡ (z && q)
+unfolding zeroRow
+zero-parts r e f = ap₂ _&&_ e f
+
+contradict-parts : (r : Row) {z q : Bool} → zeroLeft r ≡ z → isZero (r .right) ≡ q → contradicts r ≡ (z && not q)
+unfolding contradicts
+contradict-parts r e f = ap₂ (λ a b. a && not b) e f
+
 pub step-view : (side : Side) (s : State) → current s < length (s .rows) → StepView side s (step side s)
 unfolding step workOn
-step-view side s more = go (zeroRow (rowAt s (current s))) refl
+step-view side s more = go (zeroLeft row) refl (isZero (row .right)) refl
   where
-    go : (z : Bool) → zeroRow (rowAt s (current s)) ≡ z
-        → StepView side s (cond z (refused 6) (meet side s (current s) (firstNonzero (map (entry (rowAt s (current s))) (s .order)))))
-    go true z = zero-row more (rw z tt)
-    go false z = meet-view side s more (rw z tt) (firstNonzero (map (entry (rowAt s (current s))) (s .order))) refl
+    row : Row
+    row = rowAt s (current s)
+
+    rest : Outcome
+    rest = meet side s (current s) (firstNonzero (map (entry row) (s .order)))
+
+    go : (z : Bool) → zeroLeft row ≡ z → (q : Bool) → isZero (row .right) ≡ q
+        → StepView side s (cond (zeroRow row) (refused 6) (cond (contradicts row) (refused 10) rest))
+    go true z true q = rw (zero-parts row z q) (zero-row more (rw (zero-parts row z q) tt))
+    go true z false q = rw (zero-parts row z q, contradict-parts row z q)
+        (inconsistent more (at-once (rw (contradict-parts row z q) tt)))
+    go false z q e = rw (zero-parts row z e, contradict-parts row z e)
+        (meet-view side s more (rw z tt) (firstNonzero (map (entry row) (s .order))) refl)
 
 -- ---- the same by the outcome
 
@@ -412,27 +448,40 @@ going≢refused e = let z : _≡_ {A = ℕ} 0 1 = cc in omega arith
 pub done≢refused : {s : State} {n : ℕ} → done s ≡ refused n → ⊥
 done≢refused e = let z : _≡_ {A = ℕ} 0 1 = cc in omega arith
 
--- The refusals of a run (SCOPE 6.6 to 6.9).
-abbrev pub Refusal : State → ℕ → Type 0
-Refusal s n = ((n ≡ 6) × T (zeroRow (rowAt s (current s)))) ⊎ ((n ≡ 7) ⊎ (n ≡ 8) ⊎ (n ≡ 9))
+-- The refusals of a run (SCOPE 6.6 to 6.9, 6.10).
+abbrev pub Refusal : Side → State → ℕ → Type 0
+Refusal side s n =
+    ((n ≡ 6) × T (zeroRow (rowAt s (current s)))) ⊎ ((n ≡ 10) × Inconsistent side s) ⊎ ((n ≡ 7) ⊎ (n ≡ 8) ⊎ (n ≡ 9))
 
-view-refused : {side : Side} {s : State} {o : Outcome} {n : ℕ} → StepView side s o → o ≡ refused n → Refusal s n
+view-refused : {side : Side} {s : State} {o : Outcome} {n : ℕ} → StepView side s o → o ≡ refused n → Refusal side s n
 view-refused (zero-row h z) e = inl (sym (refused-injective e), z)
-view-refused {n} (over-limit k h z c) e = inr (rw (refused-injective e) at c)
+view-refused (inconsistent h z) e = inr (inl (sym (refused-injective e), z))
+view-refused {n} (over-limit k h z c) e = inr (inr (rw (refused-injective e) at c))
 view-refused (goes-on p) e = absurd (going≢refused e)
 
-pub step-refused : (side : Side) (s : State) (n : ℕ) → current s < length (s .rows) → step side s ≡ refused n → Refusal s n
+pub step-refused : (side : Side) (s : State) (n : ℕ) → current s < length (s .rows) → step side s ≡ refused n → Refusal side s n
 step-refused side s n more = view-refused (step-view side s more)
 
 pub step-refused-6 : (side : Side) (s : State) → current s < length (s .rows) → step side s ≡ refused 6
     → T (zeroRow (rowAt s (current s)))
 step-refused-6 side s more e = the-zero (step-refused side s 6 more e)
   where
-    the-zero : Refusal s 6 → T (zeroRow (rowAt s (current s)))
+    the-zero : Refusal side s 6 → T (zeroRow (rowAt s (current s)))
     the-zero (inl h) = h .1
-    the-zero (inr (inl e)) = absurd (omega arith)
+    the-zero (inr (inl h)) = absurd (omega (arith, h .0))
     the-zero (inr (inr (inl e))) = absurd (omega arith)
-    the-zero (inr (inr (inr e))) = absurd (omega arith)
+    the-zero (inr (inr (inr (inl e)))) = absurd (omega arith)
+    the-zero (inr (inr (inr (inr e)))) = absurd (omega arith)
+
+pub step-refused-10 : (side : Side) (s : State) → current s < length (s .rows) → step side s ≡ refused 10 → Inconsistent side s
+step-refused-10 side s more e = the-row (step-refused side s 10 more e)
+  where
+    the-row : Refusal side s 10 → Inconsistent side s
+    the-row (inl h) = absurd (omega (arith, h .0))
+    the-row (inr (inl h)) = h .1
+    the-row (inr (inr (inl e))) = absurd (omega arith)
+    the-row (inr (inr (inr (inl e)))) = absurd (omega arith)
+    the-row (inr (inr (inr (inr e)))) = absurd (omega arith)
 
 -- ---- chains and runs
 
@@ -471,6 +520,7 @@ run-view side (suc k) s = go (left s) (run-view side k)
         → ((u : State) → RunView side u k (run side k u)) → RunView side s (suc k) (andThen o (run side k))
     stepped o e h (zero-row i z) rec = step-stopped here h e
     stepped o e h (over-limit n i z c) rec = step-stopped here h e
+    stepped o e h (inconsistent i z) rec = step-stopped here h e
     stepped o e h (goes-on {s' = u} p) rec = view-before p (rec u)
 
     go : {t : Bool} → Left s t → ((u : State) → RunView side u k (run side k u))

@@ -8,6 +8,7 @@
 --   agrees-back             solutions that agree on D vectors below the report agree at all lower indices
 -- and of any valid system:
 --   trailing-dependent      a system that the trailing run refuses with 6 is dependent
+--   trailing-inconsistent   one that it refuses with 10 is satisfied by no sequence
 use mathlib.Core.Path.{_≡_, _∙_, subst}
 use mathlib.Core.Logic.{_↔_, Iff·trans, Iff·symm}
 use mathlib.Core.List.{List, map}
@@ -21,6 +22,7 @@ use Rattle.rules.specs.Sequences.{Sequence, Satisfies, Same, Dependent}
 use Rattle.theory.specs.Triangular.{triangular-start}
 use Rattle.theory.specs.LimitsKept.{StateShaped}
 use Rattle.theory.specs.Solutions.{run-solutions}
+use Rattle.theory.specs.Inconsistency.{refused-unsatisfied}
 use Rattle.theory.specs.Dependence.{chain-dependent, settled-independent, refused-dependent}
 use Rattle.theory.specs.Ending.{mirrorOutcome-refused}
 use Rattle.theory.specs.Report.{Past}
@@ -54,6 +56,16 @@ module _ {z : Sizes} {rows : List Row} {relations : List Relation} (v : Valid z 
       (valid-shapes (mirror-valid z rows relations v))
       (triangular-start (map (mirrorRow (span z)) rows) (map (mirrorRelation (span z)) relations))
       (mirrorOutcome-refused (span z) (run trailing (enough rows) (mirrorState (span z) (start rows relations))) 6 e))
+
+  pub trailing-inconsistent : wholeRun trailing (span z) rows relations ≡ refused 10 → (y : Sequence) → Satisfies (z .l) rows relations y → ⊥
+  unfolding wholeRun trailingRun mirrorState start
+  trailing-inconsistent e y a =
+      refused-unsatisfied (negℤ (z .t)) trailing (enough rows) (mirrorState (span z) (start rows relations))
+      (valid-shapes (mirror-valid z rows relations v))
+      (triangular-start (map (mirrorRow (span z)) rows) (map (mirrorRelation (span z)) relations)) (reflect y)
+      (mirrorOutcome-refused (span z) (run trailing (enough rows) (mirrorState (span z) (start rows relations))) 10 e)
+      (mirror-satisfies (span z) (z .l) (z .t) sum y rows relations (valid-rows-span z rows relations v)
+      (valid-relations-span z rows relations v) .0 a)
 
   -- The run on the mirrored system has led to u.
   module _ {u : State}

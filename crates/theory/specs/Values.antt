@@ -7,9 +7,10 @@
 --   blocks-map, blocks-same, blocks-always   a function of the polynomials that multiplies their values, or keeps them
 --   value-zero           the value of a zero row is 0; blocks-append-zero: zero blocks below the others do not count
 --   blockValue-sum, blocksValue-sum   the values as sums below a bound
---   value-difference     the value is linear in the sequence
+--   value-difference     the difference of two values is the left value of the difference
 --   value-congruence     only the indices n + l down to n + l - D and the columns below m count
---   value-delta          a sequence that is 1 at one place picks one polynomial of the row
+--   left-nothing         of the sequence of zeros the left part makes nothing
+--   left-delta           a sequence that is 1 at one place picks one polynomial of the row
 use mathlib.Core.Path.{_≡_, refl, sym, _∙_, ap, ap₂, subst}
 use mathlib.Core.Logic.{_≢_}
 use Prim.Native.Nat.{ℕ, zero, suc, _≤_, _<_, zero-le}
@@ -24,10 +25,11 @@ use Rattle.algebra.specs.Integers.{ringℤ, one-*ℤ, *ℤ-+ℤ, -ℤ-zero}
 use Rattle.algebra.specs.Polynomials.{Polynomial, eval, isZero, isZeroℤ, eval-isZero, isZeroℤ-iff}
 use Rattle.lists.specs.Tests.{T-&&, cond-passed, cond-failed, every, all-of-every}
 use Rattle.algebra.specs.Sums.{sumOver, countFrom, sumBelow, sumBelow-front, sumBelow-congr, sumBelow-zeros}
-use Rattle.rules.specs.Rows.{Block, Row, mapRow, zeroBlock, zeroRow}
+use Rattle.rules.specs.Rows.{Block, Row, mapRow, zeroBlock, zeroRow, zeroLeft}
 use Rattle.lists.specs.Everywhere.{All, all-all-mono, all-always}
 use Rattle.rules.specs.Stores.{unusedZero}
-use Rattle.rules.specs.Sequences.{Sequence, blockValue, blocksValue, valueOf, Same, blockFrom, polynomialAt}
+use Rattle.theory.specs.Combinations.{cancel-common}
+use Rattle.rules.specs.Sequences.{Sequence, blockValue, blocksValue, valueOf, Same, blockFrom, polynomialAt, leftValue}
 use Rattle.theory.specs.Cells.{zeroBlock-all}
 
 -- ---- a function of the polynomials that multiplies the values
@@ -85,7 +87,9 @@ blocks-zero n z k (b ∷ bs) h = let both = T-&& (zeroBlock b) (every zeroBlock 
 
 pub value-zero : (l : ℤ) (r : Row) (z : Sequence) (n : ℤ) → T (zeroRow r) → valueOf l r z n ≡ pos 0
 unfolding valueOf zeroRow
-value-zero l r z n h = blocks-zero n z (n +ℤ l) (r .blocks) h
+value-zero l r z n h =
+    let both = T-&& (zeroLeft r) (isZero (r .right)) .0 h in
+    ap₂ _-ℤ_ (blocks-zero n z (n +ℤ l) (r .blocks) (both .0)) (eval-isZero (r .right) n (both .1))
 
 -- Zero blocks below the others do not count.
 pub blocks-append-zero : (n : ℤ) (z : Sequence) (k : ℤ) (bs cs : List Block) → T (every zeroBlock cs)
@@ -144,10 +148,13 @@ blocks-difference n z y k (b ∷ bs) =
     step : (a b s t : ℤ) → a -ℤ b +ℤ (s -ℤ t) ≡ a +ℤ s -ℤ (b +ℤ t)
     step a b s t = simp ringℤ
 
-pub value-difference : (l : ℤ) (r : Row) (z y : Sequence) (n : ℤ) → valueOf l r (λ i c. z i c -ℤ y i c) n
+-- The right side falls out of a difference.
+pub value-difference : (l : ℤ) (r : Row) (z y : Sequence) (n : ℤ) → leftValue l r (λ i c. z i c -ℤ y i c) n
     ≡ valueOf l r z n -ℤ valueOf l r y n
 unfolding valueOf
-value-difference l r z y n = blocks-difference n z y (n +ℤ l) (r .blocks)
+value-difference l r z y n =
+    blocks-difference n z y (n +ℤ l) (r .blocks)
+    ∙ sym (cancel-common (leftValue l r z n) (leftValue l r y n) (negℤ (eval (r .right) n)))
 
 -- ---- the indices and columns that count
 
@@ -177,8 +184,9 @@ pub value-congruence : (m D : ℕ) (l : ℤ) (r : Row) (z y : Sequence) (n : ℤ
 unfolding valueOf unusedZero
 value-congruence m D l r z y n h e =
     let both = T-&& (every (λ b. zeroBlock (drop m b)) (r .blocks)) (every zeroBlock (drop (suc D) (r .blocks))) .0 h in
-    blocks-congruence n m (suc D) z y (n +ℤ l) (r .blocks) (all-of-every (λ b. zeroBlock (drop m b)) (r .blocks) (both .0)) (both .1)
-    (λ j i. e j (suc-le-suc-iff .0 i))
+    ap (λ v. v -ℤ eval (r .right) n)
+    (blocks-congruence n m (suc D) z y (n +ℤ l) (r .blocks) (all-of-every (λ b. zeroBlock (drop m b)) (r .blocks) (both .0)) (both .1)
+    (λ j i. e j (suc-le-suc-iff .0 i)))
 
 -- ---- one index and one column
 
@@ -247,10 +255,19 @@ module _ (n i : ℤ) (c : ℕ) where
       ap₂ _+ℤ_ (block-nothing n (delta i c k) b (λ j. delta-index i c k j (λ f. suc-ne-zero m (ap natAbs (sym e ∙ f)))))
       (blocks-delta (predℤ k) bs (negsuc (suc m)) (predℤ-+ℤ k (negℤ i) ∙ ap predℤ e))
 
--- What a row makes of a sequence that is 1 at one index and one column is the polynomial there.
-pub value-delta : (l : ℤ) (r : Row) (i : ℤ) (c : ℕ) (n : ℤ) → valueOf l r (delta i c) n ≡ eval (polynomialAt l r (i -ℤ n) c) n
-unfolding valueOf polynomialAt
-value-delta l r i c n =
+-- Of the sequence of zeros the left part makes nothing.
+pub left-nothing : (l : ℤ) (r : Row) (n : ℤ) → leftValue l r (λ _ _. pos 0) n ≡ pos 0
+unfolding leftValue blocksValue
+left-nothing l r n = none (n +ℤ l) (r .blocks)
+  where
+    none : (k : ℤ) (bs : List Block) → blocksValue n (λ _ _. pos 0) k bs ≡ pos 0
+    none k [] = refl
+    none k (b ∷ bs) = ap₂ _+ℤ_ (block-nothing n (λ _. pos 0) b (λ j. refl)) (none (predℤ k) bs)
+
+-- What the left part of a row makes of a sequence that is 1 at one index and one column is the polynomial there.
+pub left-delta : (l : ℤ) (r : Row) (i : ℤ) (c : ℕ) (n : ℤ) → leftValue l r (delta i c) n ≡ eval (polynomialAt l r (i -ℤ n) c) n
+unfolding leftValue polynomialAt
+left-delta l r i c n =
     blocks-delta n i c (n +ℤ l) (r .blocks) (n +ℤ l -ℤ i) refl ∙ ap (λ x. eval (getD (blockFrom (r .blocks) x) c []) n) place
   where
     place : n +ℤ l -ℤ i ≡ l -ℤ (i -ℤ n)

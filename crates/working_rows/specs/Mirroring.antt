@@ -6,17 +6,18 @@
 --
 -- Main statements
 --   alternate-even, alternate-odd   the sign of a coefficient in the mirror, by the parity of its power
---   length-mirrorRow    the mirror has 320 numbers
+--   length-mirrorRow    the mirror has 336 numbers
 --   rowOf-mirrorRow     the mirror's numbers hold the mirror
 --   number-mirrorRow    each number of the mirror
 --   small-mirrorRow     the mirror of a row with coefficients within ±C has such coefficients
 use Prim.Native.Nat.{ℕ, zero, suc, _+_, _*_, _-_, _/_, _%_, _≤_, _<_, zero-le}
 use native.Mathlib.Nat.{le-of-eq, suc-ne-zero}
 use native.Mathlib.Omega.{arith}
-use mathlib.Core.Path.{_≡_, refl, sym, _∙_, ap}
+use native.Mathlib.Decide.{decLt}
+use mathlib.Core.Path.{_≡_, refl, sym, _∙_, ap, ap₂}
 use mathlib.Core.Bool.{Bool, true, false, cond}
-use mathlib.Core.List.{List, [], _++_, map, reverse}
-use borrow.Author.Tests.{leb-true, leb-false}
+use mathlib.Core.List.{List, [], _++_, map, flatten, reverse}
+use borrow.Author.Tests.{leb-true, leb-false, lt-leb}
 use lib.Dec.{T, leb}
 use lib.IntN.{ℤ, pos, negℤ, natAbs, negℤ-negℤ}
 use lib.ListN.{length, take, drop, getD, length-map, length-append, length-take, length-drop, length-reverse}
@@ -25,12 +26,12 @@ use lib.Seq.{length-take-le, getD-take, getD-drop, getD-append-add}
 use Rattle.algebra.specs.Integers.{natAbs-negℤ}
 use Rattle.algebra.specs.Polynomials.{coeff, mirror, length-mirror}
 use Rattle.algebra.specs.Coefficients.{alternate, coeff-mirror}
-use Rattle.rules.specs.Limits.{rowLength, small, coefficientCount, columnCount, mostSpan, blockCount, blockLength}
+use Rattle.rules.specs.Limits.{entriesLength, rowLength, small, coefficientCount, columnCount, mostSpan, blockCount, blockLength}
 use Rattle.rules.specs.Rows.{Block, Row, coefficientsOf, mapRow, smallRow, mirrorRow}
 use Rattle.lists.specs.Everywhere.{All, all-getD, getD-all, map-keeps}
 use Rattle.lists.specs.Tests.{every, every-from-at, every-from-all}
 use Rattle.rules.specs.Stores.{rowOf, Shaped, StoreRow}
-use Rattle.rules.specs.Layout.{StoreRow-rowOf, polynomial-at-row, rowOf-coefficientsOf, length-coefficientsOf}
+use Rattle.rules.specs.Layout.{StoreRow-rowOf, polynomial-at-row, rowOf-coefficientsOf, length-entries, length-coefficientsOf}
 use Rattle.stores.specs.Flat.{length-blocks}
 use Rattle.lists.specs.Images.{getD-reverse}
 
@@ -124,9 +125,24 @@ number-at l b c k hb hc hk =
     ∙ getD-take coefficientCount (drop (b * blockLength + c * coefficientCount) l) k (pos 0) hk
     ∙ getD-drop (b * blockLength + c * coefficientCount) l k (pos 0)
 
-pub mirrorPlace-below : (D i : ℕ) → D ≤ mostSpan → i < rowLength → mirrorPlace D i < rowLength
+-- The right side stays where it is.
+mirrorPlace-side : (D i : ℕ) → D ≤ mostSpan → entriesLength ≤ i → mirrorPlace D i ≡ i
+unfolding mirrorPlace mirrorBlock
+mirrorPlace-side D i few low =
+    let past : leb (i / blockLength) D ≡ false = lt-leb (i / blockLength) D (omega arith) in
+    let back : i / blockLength * blockLength + i % blockLength ≡ i = omega arith in
+    ap (λ t. cond t (D - i / blockLength) (i / blockLength) * blockLength + i % blockLength) past ∙ back
+
+mirrorPlace-entry : (D i : ℕ) → D ≤ mostSpan → i < entriesLength → mirrorPlace D i < rowLength
 unfolding mirrorPlace
-mirrorPlace-below D i few h = omega (arith, mirrorBlock-below D (i / blockLength) few (omega arith))
+mirrorPlace-entry D i few h = omega (arith, mirrorBlock-below D (i / blockLength) few (omega arith))
+
+pub mirrorPlace-below : (D i : ℕ) → D ≤ mostSpan → i < rowLength → mirrorPlace D i < rowLength
+mirrorPlace-below D i few h = cases (decLt i entriesLength)
+  where
+    cases : Dec (i < entriesLength) → mirrorPlace D i < rowLength
+    cases (yes e) = mirrorPlace-entry D i few e
+    cases (no e) = rw (mirrorPlace-side D i few (omega arith)) h
 
 module _ (D : ℕ) (l : List ℤ) (few : D ≤ mostSpan) (long : length l ≡ rowLength) where
   abbrev mirrored : Row
@@ -147,7 +163,8 @@ module _ (D : ℕ) (l : List ℤ) (few : D ≤ mostSpan) (long : length l ≡ ro
 
   StoreRow-mirrorRow : StoreRow mirrored
   unfolding Shaped mirrorRow mapRow
-  StoreRow-mirrorRow = (count, getD-all StoreBlock (mirrored .blocks) [] block)
+  StoreRow-mirrorRow =
+      (count, getD-all StoreBlock (mirrored .blocks) [] block, length-mirror (rowOf l .right) ∙ StoreRow-rowOf l (le-of-eq (sym long)) .2)
     where
       count : length (mirrored .blocks) ≡ blockCount
       count = simp (length-map, length-append, length-reverse, length-take, length-drop, length-blocks) (omega arith)
@@ -168,10 +185,35 @@ module _ (D : ℕ) (l : List ℤ) (few : D ≤ mostSpan) (long : length l ≡ ro
   pub rowOf-mirrorRow : rowOf (coefficientsOf mirrored) ≡ mirrored
   rowOf-mirrorRow = rowOf-coefficientsOf mirrored StoreRow-mirrorRow
 
-  pub number-mirrorRow : (i : ℕ) → i < rowLength
+  -- A number of the right side.
+  number-side : (i : ℕ) → entriesLength ≤ i → i < rowLength
+      → getD (coefficientsOf mirrored) i (pos 0) ≡ alternate (i % coefficientCount) (getD l (mirrorPlace D i) (pos 0))
+  unfolding coefficientsOf mirrorRow mapRow rowOf coeff
+  number-side i low h =
+      let entries = flatten (flatten (mirrored .blocks)) in
+      let long-entries = length-entries mirrored StoreRow-mirrorRow in
+      let place : i ≡ length entries + k = omega (arith, long-entries) in
+      ap (λ n. getD (coefficientsOf mirrored) n (pos 0)) place ∙ getD-append-add entries (mirror side) k (pos 0)
+      ∙ coeff-mirror side k
+      ∙ ap₂ alternate power (getD-take coefficientCount (drop entriesLength l) k (pos 0) (omega arith) ∙ getD-drop entriesLength l k (pos 0)
+      ∙ ap (λ n. getD l n (pos 0)) (back ∙ sym (mirrorPlace-side D i few low)))
+    where
+      k : ℕ
+      k = i - entriesLength
+
+      side : List ℤ
+      side = take coefficientCount (drop entriesLength l)
+
+      power : k ≡ i % coefficientCount
+      power = omega arith
+
+      back : entriesLength + k ≡ i
+      back = omega arith
+
+  number-entry : (i : ℕ) → i < entriesLength
       → getD (coefficientsOf mirrored) i (pos 0) ≡ alternate (i % coefficientCount) (getD l (mirrorPlace D i) (pos 0))
   unfolding mirrorPlace
-  number-mirrorRow i h =
+  number-entry i h =
       ap (λ n. getD (coefficientsOf mirrored) n (pos 0)) place
       ∙ sym (number-at (coefficientsOf mirrored) (i / blockLength) (i % blockLength / coefficientCount)
       (i % coefficientCount) inside column power)
@@ -201,6 +243,15 @@ module _ (D : ℕ) (l : List ℤ) (few : D ≤ mostSpan) (long : length l ≡ ro
       moved : source * blockLength + i % blockLength / coefficientCount * coefficientCount + i % coefficientCount
           ≡ source * blockLength + i % blockLength
       moved = omega arith
+
+  pub number-mirrorRow : (i : ℕ) → i < rowLength
+      → getD (coefficientsOf mirrored) i (pos 0) ≡ alternate (i % coefficientCount) (getD l (mirrorPlace D i) (pos 0))
+  number-mirrorRow i h = cases (decLt i entriesLength)
+    where
+      cases : Dec (i < entriesLength)
+          → getD (coefficientsOf mirrored) i (pos 0) ≡ alternate (i % coefficientCount) (getD l (mirrorPlace D i) (pos 0))
+      cases (yes e) = number-entry i e
+      cases (no e) = number-side i (omega arith) h
 
   pub small-mirrorRow : T (every small l) → T (smallRow mirrored)
   unfolding smallRow small

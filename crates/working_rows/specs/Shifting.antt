@@ -7,27 +7,27 @@
 --   length-shiftUp    they are as many as a row has
 --   shiftUp-part      polynomial e is p(n + 1) for the polynomial p one block further down
 --   shiftUp-rest      the last block is zero
+--   shiftUp-side      the right side has n + 1 for n
 --   shifted-held      a shifted row within the limit is held by its numbers
 use mathlib.Core.Path.{_≡_, refl, sym, _∙_, ap, ap₂, subst}
-use mathlib.Core.List.{List, [], _∷_, _++_, map, flatten, append-nil, map-append}
+use mathlib.Core.List.{List, [], _∷_, _++_, map, flatten, append-nil, append-assoc, map-append}
 use Prim.Native.Nat.{ℕ, _+_, _*_, _<_}
-use native.Mathlib.Nat.{add-comm}
+use native.Mathlib.Nat.{add-comm, le-of-eq}
 use native.Mathlib.Omega.{arith}
 use lib.Dec.{T}
 use lib.IntN.{ℤ, pos}
 use lib.ListN.{length, take, drop, length-take, length-drop, length-map, List·getD-map}
-use lib.Seq.{drop-at, drop-drop}
+use lib.Seq.{take-at, take-all, drop-at, drop-drop, length-take-le}
 use Rattle.algebra.specs.Polynomials.{Polynomial, isZero, shift, shiftBy, length-shift, isZero-append, isZero-shift}
 use Rattle.lists.specs.Tests.{T-&&}
 use Rattle.rules.specs.Rows.{Block, Row, mapRow, coefficientsOf, blank, leadingBlock, shiftUp}
 use Rattle.lists.specs.Everywhere.{All, append-all, map-keeps}
 use Rattle.lists.specs.Joined.{flatten-append, length-flatten, flatten-map}
-use Rattle.rules.specs.Limits.{rowLength, coefficientCount, columnCount, mostSpan, blockLength}
+use Rattle.rules.specs.Limits.{rowLength, coefficientCount, columnCount, mostSpan, polynomialCount, blockLength, entriesLength}
 use Rattle.rules.specs.Stores.{rowOf, StoreRow}
 use Rattle.lists.specs.Parts.{parts, parts-length, parts-width, getD-parts, part-flatten, parts-parts}
 use Rattle.rules.specs.Elimination.{within, limitCoefficients}
-use Rattle.rules.specs.Layout.{length-coefficientsOf, blockOf, coefficientsAt}
-use Rattle.stores.specs.Flat.{polynomialsOf}
+use Rattle.rules.specs.Layout.{length-coefficientsOf, length-entries, blockOf, coefficientsAt}
 use Rattle.working_rows.specs.Worked.{Held, held, store-row}
 
 -- The polynomials of all blocks but the first move up.
@@ -41,18 +41,28 @@ below l = parts coefficientCount movedCount (drop blockLength l)
 last : List ℤ → Block
 last l = blank (blockOf (take blockLength l))
 
-polynomials-shiftUp : (l : List ℤ) → polynomialsOf (shiftUp (rowOf l)) ≡ map shift (below l) ++ map shift (last l)
+-- The right side, which stays where it is.
+side : List ℤ → Polynomial
+side l = coefficientsAt l polynomialCount
+
+left-shiftUp : (l : List ℤ) → flatten (shiftUp (rowOf l) .blocks) ≡ map shift (below l) ++ map shift (last l)
 unfolding shiftUp mapRow rowOf leadingBlock flatten below last
-polynomials-shiftUp l =
+left-shiftUp l =
     flatten-map shift (map blockOf (parts blockLength mostSpan (drop blockLength l)) ++ (last l ∷ []))
     ∙ ap (map shift)
     (flatten-append (map blockOf (parts blockLength mostSpan (drop blockLength l))) (last l ∷ [])
     ∙ ap₂ _++_ (parts-parts coefficientCount columnCount mostSpan (drop blockLength l)) (append-nil (last l)))
     ∙ map-append shift (below l) (last l)
 
-numbers-shiftUp : (l : List ℤ) → coefficientsOf (shiftUp (rowOf l)) ≡ flatten (map shift (below l)) ++ flatten (map shift (last l))
-unfolding coefficientsOf
-numbers-shiftUp l = ap flatten (polynomials-shiftUp l) ∙ flatten-append (map shift (below l)) (map shift (last l))
+-- The zero block and the right side, behind what has moved.
+behind : List ℤ → List ℤ
+behind l = flatten (map shift (last l)) ++ shift (side l)
+
+numbers-shiftUp : (l : List ℤ) → coefficientsOf (shiftUp (rowOf l)) ≡ flatten (map shift (below l)) ++ behind l
+unfolding coefficientsOf shiftUp mapRow rowOf behind side
+numbers-shiftUp l =
+    ap (λ q. q ++ shift (side l)) (ap flatten (left-shiftUp l) ∙ flatten-append (map shift (below l)) (map shift (last l)))
+    ∙ append-assoc (flatten (map shift (below l))) (flatten (map shift (last l))) (shift (side l))
 
 -- ---- widths
 
@@ -87,12 +97,19 @@ module _ (l : List ℤ) (long : length l ≡ rowLength) where
       (map-width (map (λ _. pos 0)) (λ p. length-map p (λ _. pos 0)) coefficientCount (blockOf (take blockLength l))
       (parts-width coefficientCount columnCount (take blockLength l) (rw length-take (omega arith))))
 
+  side-width : length (shift (side l)) ≡ coefficientCount
+  unfolding side
+  side-width =
+      length-shift (side l) ∙ length-take-le coefficientCount (drop entriesLength l) (rw length-drop (omega arith))
+
   StoreRow-shiftUp : StoreRow (shiftUp (rowOf l))
-  unfolding shiftUp mapRow rowOf leadingBlock blank All
+  unfolding shiftUp mapRow rowOf leadingBlock blank All side
   StoreRow-shiftUp =
       store-row (shiftUp (rowOf l)) refl (refl, (refl, (refl, (refl, (refl, tt)))))
-      (subst (All (λ p. length p ≡ coefficientCount)) (sym (polynomials-shiftUp l))
+      (append-all (λ p. length p ≡ coefficientCount) (flatten (shiftUp (rowOf l) .blocks)) (shift (side l) ∷ [])
+      (subst (All (λ p. length p ≡ coefficientCount)) (sym (left-shiftUp l))
       (append-all (λ p. length p ≡ coefficientCount) (map shift (below l)) (map shift (last l)) below-width last-width))
+      (side-width, tt))
 
   -- A shifted row within the limit is held by its numbers.
   pub shifted-held : (r : Row) → limitCoefficients (shiftUp (rowOf l)) ≡ within r → Held r
@@ -107,15 +124,31 @@ module _ (l : List ℤ) (long : length l ≡ rowLength) where
   pub length-shiftUp : length (coefficientsOf (shiftUp (rowOf l))) ≡ rowLength
   length-shiftUp = length-coefficientsOf (shiftUp (rowOf l)) StoreRow-shiftUp
 
-  pub shiftUp-rest : T (isZero (drop (movedCount * coefficientCount) (coefficientsOf (shiftUp (rowOf l)))))
-  unfolding last
+  last-length : length (flatten (map shift (last l))) ≡ blockLength
+  unfolding last blank
+  last-length =
+      length-flatten coefficientCount (map shift (last l)) last-width
+      ∙ ap (λ n. n * coefficientCount)
+      (length-map (last l) shift ∙ length-map (blockOf (take blockLength l)) (map (λ _. pos 0))
+      ∙ parts-length coefficientCount columnCount (take blockLength l))
+
+  pub shiftUp-rest : T (isZero (take blockLength (drop (movedCount * coefficientCount) (coefficientsOf (shiftUp (rowOf l))))))
+  unfolding last behind
   shiftUp-rest =
       rw (
         numbers-shiftUp l,
-        drop-at (flatten (map shift (below l))) (flatten (map shift (last l)))
-            (movedCount * coefficientCount) below-length,
+        drop-at (flatten (map shift (below l))) (behind l) (movedCount * coefficientCount) below-length,
+        take-at (flatten (map shift (last l))) (shift (side l)) blockLength last-length,
       )
       (blank-zero (blockOf (take blockLength l)))
+
+  pub shiftUp-side : coefficientsAt (coefficientsOf (shiftUp (rowOf l))) polynomialCount
+      ≡ shift (take coefficientCount (drop entriesLength l))
+  unfolding coefficientsOf side shiftUp mapRow rowOf
+  shiftUp-side =
+      ap (take coefficientCount) (drop-at (flatten (flatten (shiftUp (rowOf l) .blocks))) (shift (side l)) entriesLength
+      (length-entries (shiftUp (rowOf l)) StoreRow-shiftUp))
+      ∙ take-all coefficientCount (shift (side l)) (le-of-eq side-width)
 
   pub shiftUp-part : (e : ℕ) → e < movedCount
       → coefficientsAt (coefficientsOf (shiftUp (rowOf l))) e
@@ -123,7 +156,7 @@ module _ (l : List ℤ) (long : length l ≡ rowLength) where
   unfolding below shift shiftBy
   shiftUp-part e h =
       ap (λ r. coefficientsAt r e) (numbers-shiftUp l)
-      ∙ part-flatten coefficientCount movedCount (map shift (below l)) (flatten (map shift (last l)))
+      ∙ part-flatten coefficientCount movedCount (map shift (below l)) (behind l)
       (length-map (below l) shift ∙ parts-length coefficientCount movedCount (drop blockLength l)) below-width e h
       ∙ List·getD-map shift (below l) e [] ∙ ap shift (getD-parts coefficientCount movedCount (drop blockLength l) e h)
       ∙ ap (λ r. shift (take coefficientCount r))

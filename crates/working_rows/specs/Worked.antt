@@ -1,4 +1,4 @@
--- A new row, or the limit that it breaks, as the code gives it: a refusal number and 320 numbers.
+-- A new row, or the limit that it breaks, as the code gives it: a refusal number and 336 numbers.
 --
 -- Main definitions
 --   refusalOf x    0, or the number of the limit
@@ -9,9 +9,11 @@
 -- Main statements
 --   limit-within, limit-beyond   the answer for numbers that are all within ±C, and for others
 --   limit-same     the answer depends on the numbers of the row alone
+--   limit-zero, consistent-refused, consistent-passed   the answer of the test behind the limit
 --   held           a row of a store's shape that is within the limit is held by its numbers
---   store-row      that shape, by the twenty polynomials
+--   store-row      that shape, by the polynomials of the row
 use mathlib.Core.Path.{_≡_, refl, sym, _∙_, ap, subst}
+use mathlib.Core.Logic.{_≢_}
 use mathlib.Core.Bool.{Bool, true, false, cond}
 use mathlib.Core.List.{List, [], _∷_, _++_, flatten}
 use Prim.Native.Nat.{ℕ}
@@ -20,13 +22,13 @@ use lib.Dec.{T}
 use lib.IntN.{ℤ, pos}
 use lib.ListN.{length, replicate}
 use Rattle.rules.specs.Limits.{rowLength, small, coefficientCount, columnCount, blockCount}
-use Rattle.rules.specs.Rows.{Block, Row, coefficientsOf, smallRow}
+use Rattle.rules.specs.Rows.{Block, Row, coefficientsOf, contradicts, smallRow}
 use Rattle.lists.specs.Everywhere.{All}
 use Rattle.lists.specs.Tests.{every}
 use Rattle.rules.specs.Stores.{rowOf, Shaped, StoreRow}
 use Rattle.rules.specs.Layout.{rowOf-coefficientsOf, length-coefficientsOf}
 use Rattle.stores.specs.Flat.{polynomialsOf}
-use Rattle.rules.specs.Elimination.{Limited, within, beyond, limitCoefficients}
+use Rattle.rules.specs.Elimination.{Limited, within, beyond, limitCoefficients, consistent}
 
 unfoldable pub refusalOf : Limited → ℕ
 refusalOf (within r) = 0
@@ -81,6 +83,29 @@ pub limit-beyond : (r : Row) (l : List ℤ) → coefficientsOf r ≡ l → every
     → Shown 8 (replicate rowLength (pos 0)) (limitCoefficients r)
 limit-beyond r l held e = rw (limit-refusal r l held, limit-numbers r l held, e) (refl, refl)
 
+-- ---- the test behind the limit
+
+-- A row within the limit is the row itself.
+pub limit-zero : (r : Row) → refusalOf (limitCoefficients r) ≡ 0 → limitCoefficients r ≡ within r
+unfolding refusalOf limitCoefficients
+limit-zero r e = go (smallRow r) e
+  where
+    go : (t : Bool) → refusalOf (cond t (within r) (beyond 8)) ≡ 0 → cond t (within r) (beyond 8) ≡ within r
+    go true h = refl
+    go false h = absurd (omega arith)
+
+-- What the limit refuses is refused with its number.
+pub consistent-refused : (x : Limited) → refusalOf x ≢ 0 → consistent x ≡ x
+unfolding refusalOf consistent
+consistent-refused (within r) n = absurd (n refl)
+consistent-refused (beyond k) n = refl
+
+-- What it lets through is tested.
+pub consistent-passed : (r : Row) → refusalOf (limitCoefficients r) ≡ 0
+    → consistent (limitCoefficients r) ≡ cond (contradicts r) (beyond 10) (within r)
+unfolding consistent
+consistent-passed r e = ap consistent (limit-zero r e)
+
 -- ---- rows within the limits
 
 -- The numbers of r hold it, and they are within ±C.
@@ -105,11 +130,12 @@ held q r shape e =
       within-bound = subst T (sym (passed .1)) tt;
     })
 
--- The shape, by the twenty polynomials.
+-- The shape, by the polynomials.
 pub store-row : (r : Row) → length (r .blocks) ≡ blockCount → All (λ b. length b ≡ columnCount) (r .blocks)
     → All (λ p. length p ≡ coefficientCount) (polynomialsOf r) → StoreRow r
 unfolding Shaped All flatten
-store-row r count columns widths = (count, shapes (r .blocks) columns widths)
+store-row r count columns widths =
+    let both = front-all (flatten (r .blocks)) (r .right ∷ []) widths in (count, shapes (r .blocks) columns (both .0), both .1 .0)
   where
     front-all : (l m : Block) → All (λ p. length p ≡ coefficientCount) (l ++ m)
         → All (λ p. length p ≡ coefficientCount) l × All (λ p. length p ≡ coefficientCount) m

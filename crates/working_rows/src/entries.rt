@@ -1,8 +1,9 @@
-// Zero test, width, leading entries and their first nonzero column.
+// Zero tests, width, leading entries and their first nonzero column.
 use polynomials::lengths::COEFFICIENTS;
 use stores::lengths::BLOCK;
 use stores::lengths::BLOCKS;
 use stores::lengths::COLUMNS;
+use stores::lengths::ENTRIES;
 use stores::lengths::ROW;
 ghost use mathlib.Core.Path.{_≡_};
 ghost use mathlib.Core.List.{map};
@@ -19,7 +20,19 @@ pub fn is_zero_row(row: [i64; ROW]) -> bool
     polynomials::content::is_zero(&row[..])
 }
 
-// The blocks from l down to the lowest nonzero one are counted; there is none in a zero row (SCOPE 2.1).
+// The left part is zero and the right side is not: no sequence satisfies the row (SCOPE 2.12).
+pub fn contradicts(row: [i64; ROW]) -> bool
+    ensures { λ r. ⌜ r ≡ Rows.contradicts (rowOf row) ⌝ }
+{
+    let numbers = &row[..];
+    if !polynomials::content::is_zero(&numbers[..ENTRIES]) {
+        return false;
+    }
+    !polynomials::content::is_zero(&numbers[ENTRIES..])
+}
+
+// The blocks from l down to the lowest nonzero one are counted; there is none where the left part is
+// zero, and the right side does not count (SCOPE 2.1).
 pub fn width(row: [i64; ROW]) -> usize
     ensures { λ r. ⌜ r ≡ Rows.width (rowOf row) ⌝ }
 {

@@ -2,6 +2,7 @@
 use polynomials::lengths::COEFFICIENTS;
 use stores::lengths::BLOCK;
 use stores::lengths::COLUMNS;
+use stores::lengths::ENTRIES;
 use stores::lengths::POLYNOMIALS;
 use stores::lengths::ROW;
 ghost use mathlib.Core.Path.{_≡_};
@@ -34,8 +35,8 @@ fn put_shifted(place: &mut [i64], table: &[[i64; COEFFICIENTS]; COEFFICIENTS], p
     }
 }
 
-// Block b of the new row is block b + 1 of the old one with n + 1 for n; the last block is zero. Nothing is done for
-// polynomials that are zero.
+// Block b of the new row is block b + 1 of the old one with n + 1 for n; the last block is zero, and the right side stays where
+// it is. Nothing is done for entries that are zero.
 fn moved_up(table: &[[i64; COEFFICIENTS]; COEFFICIENTS], row: &[i64]) -> [i64; ROW]
     requires { ⌜ T (followsRule (now table)) × (length (now row) ≡ rowLength) × T (every small (now row)) ⌝ }
     ensures { λ r. ⌜ r ≡ coefficientsOf (shiftUp (rowOf (now (row .entry)))) ⌝ }
@@ -53,6 +54,7 @@ fn moved_up(table: &[[i64; COEFFICIENTS]; COEFFICIENTS], row: &[i64]) -> [i64; R
         }
         e += 1;
     }
+    put_shifted(&mut moved[ENTRIES..ROW], table, &row[ENTRIES..ROW]);
     moved
 }
 

@@ -8,14 +8,13 @@ use borrow.Author.Needs.{needs}
 use borrow.Author.Tests.{not-true, not-false}
 use denote.Ref.{now}
 use lib.Dec.{T}
-use lib.ListN.{length}
-use Rattle.rules.specs.Limits.{rowLength}
 use Rattle.rules.specs.Rows.{Row, combine, primitive, cut, lowDegrees, coefficientsOf}
 use Rattle.rules.specs.Stores.{rowOf}
-use Rattle.rules.specs.Layout.{coefficientsOf-rowOf-all}
+use Rattle.rules.specs.Layout.{rowOf-coefficientsOf}
+use Rattle.rules.specs.Elimination.{limitCoefficients, consistent}
 use Rattle.polynomials.specs.Content.{Below}
-use Rattle.working_rows.specs.Worked.{Shown, limit-same}
-use Rattle.combinations.specs.Combination.{cut-low, numbers-below}
+use Rattle.working_rows.specs.Worked.{Shown}
+use Rattle.combinations.specs.Combination.{cut-low, numbers-below, StoreRow-primitive}
 use Rattle.combinations.specs.Primitive.{primitiveNumbers, limit-past, limit-low, cut-primitive}
 use Rattle.combinations.proofs.combined.Statement.{statement}
 use Rattle.combinations.proofs.combined.Tie as tie
@@ -54,8 +53,8 @@ primitive-part-requires c κs =
     (numbers-below (now (start .args .g)) (now (start .args .h)) (start .args .t3) (start .args .t4)
     (omega arith, omega arith, pre .0 .1, pre .0 .3, pre .1 .0, pre .1 .1))
 
-limited-requires : tie.Need-limited-requires
-limited-requires c κs = search needs
+consistent-requires : tie.Need-consistent-requires
+consistent-requires c κs = search needs
 
 returns-2 : tie.Need-returns-2
 returns-2 c =
@@ -65,15 +64,16 @@ returns-2 c =
     let r = combination start in
     let low : lowDegrees r ≡ true = not-false _ (sym (tested .before .past-degree .ensures) ∙ tested .if1 .left) in
     let numbers = c .before .primitive-part .result in
-    let long : length numbers ≡ rowLength = search needs in
     let held : coefficientsOf (cut (primitive r)) ≡ numbers = cut-primitive r (subst T (sym low) tt)
     ∙ ap primitiveNumbers (cut-low (now (start .args .g)) (now (start .args .h)) (start .args .t3) (start .args .t4)
     (omega arith) (omega arith)
     ∙ sym (here .low-combination .ensures))
     ∙ sym (c .before .primitive-part .ensures)
     in
-    subst (Shown (c .limited .result .refusal) (c .limited .result .row)) (sym (limit-low r low))
-    (limit-same (cut (primitive r)) numbers held (rowOf numbers) (coefficientsOf-rowOf-all numbers long) _ _ (c .limited .ensures))
+    let shape = StoreRow-primitive (now (start .args .g)) (now (start .args .h)) (start .args .t3) (start .args .t4) (omega arith) (omega arith) in
+    let row : rowOf numbers ≡ cut (primitive r) = ap rowOf (sym held) ∙ rowOf-coefficientsOf (cut (primitive r)) shape in
+    subst (Shown (c .consistent .result .refusal) (c .consistent .result .row))
+    (ap (λ q. consistent (limitCoefficients q)) row ∙ ap consistent (sym (limit-low r low))) (c .consistent .ensures)
 
 pub combined-spec : {M : Type 1} → statement M
 combined-spec =
@@ -87,5 +87,5 @@ combined-spec =
     slice-aggregate-low-combination-2
     low-combination-requires
     primitive-part-requires
-    limited-requires
+    consistent-requires
     returns-2)

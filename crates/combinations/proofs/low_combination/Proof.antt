@@ -13,9 +13,10 @@ use denote.Ref.{now}
 use lib.IntN.{ℤ, pos}
 use lib.ListN.{length, replicate}
 use Rattle.algebra.specs.Polynomials.{Polynomial, add, mul}
-use Rattle.rules.specs.Limits.{coefficientCount, polynomialCount, rowLength}
+use Rattle.rules.specs.Limits.{coefficientCount, rowLength}
 use Rattle.rules.specs.Rows.{combine, mapRow, coefficientsOf}
 use Rattle.rules.specs.Stores.{rowOf}
+use Rattle.stores.specs.Flat.{partCount}
 use Rattle.stores.specs.OverZeros.{front, length-front, front-none, front-whole, front-put, front-skip}
 use Rattle.combinations.specs.Combination.{lowPart, length-low, trimmed-low, trimmed-zero, Trimmed, trimmed-fit}
 use Rattle.combinations.proofs.low_combination.Statement.{statement}
@@ -26,10 +27,10 @@ numbers g h target pivot = coefficientsOf (mapRow lowPart (combine g h (rowOf ta
 
 abbrev Inv-loop : tie.InvT-loop
 Inv-loop g h target pivot a b row₀ e₀ row e =
-    (e ≤ polynomialCount) × (length row ≡ rowLength) × (row ≡ front (numbers g h target pivot) (e * coefficientCount))
+    (e ≤ partCount) × (length row ≡ rowLength) × (row ≡ front (numbers g h target pivot) (e * coefficientCount))
 
 abbrev μ-loop : tie.MeasureT-loop
-μ-loop g h target pivot a b row₀ e₀ row e = polynomialCount - e
+μ-loop g h target pivot a b row₀ e₀ row e = partCount - e
 
 -- the polynomials that are combined at place e
 module _ (c : tie.After-both-zero Inv-loop μ-loop) where

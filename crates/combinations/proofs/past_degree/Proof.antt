@@ -14,9 +14,9 @@ use lib.ListN.{length, take, drop, getD}
 use Rattle.algebra.specs.Polynomials.{Polynomial, isZero}
 use Rattle.rules.specs.Rows.{combine}
 use Rattle.lists.specs.Tests.{every, every-longer, every-false}
-use Rattle.rules.specs.Limits.{coefficientCount, polynomialCount}
+use Rattle.rules.specs.Limits.{coefficientCount}
 use Rattle.rules.specs.Stores.{rowOf}
-use Rattle.stores.specs.Flat.{polynomialsOf}
+use Rattle.stores.specs.Flat.{partCount, polynomialsOf}
 use Rattle.combinations.specs.Combination.{low-degrees, length-polynomials, trimmed-high, Trimmed, trimmed-fit}
 use Rattle.combinations.proofs.past_degree.Statement.{statement}
 use Rattle.combinations.proofs.past_degree.Tie as tie
@@ -29,10 +29,10 @@ polynomials g h target pivot = polynomialsOf (combine g h (rowOf target) (rowOf 
 
 abbrev Inv-loop : tie.InvT-loop
 Inv-loop g h target pivot a b e₀ e =
-    (e ≤ polynomialCount) × (every isLow (take e (polynomials g h target pivot)) ≡ true)
+    (e ≤ partCount) × (every isLow (take e (polynomials g h target pivot)) ≡ true)
 
 abbrev μ-loop : tie.MeasureT-loop
-μ-loop g h target pivot a b e₀ e = polynomialCount - e
+μ-loop g h target pivot a b e₀ e = partCount - e
 
 -- the polynomials that are combined at place e
 module _ (c : tie.After-trimmed4 Inv-loop μ-loop) where

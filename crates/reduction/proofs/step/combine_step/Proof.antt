@@ -17,7 +17,7 @@ use Rattle.rules.specs.Limits.{columnCount, rowLength, small}
 use Rattle.rules.specs.Rows.{entry, combine, primitive}
 use Rattle.lists.specs.Tests.{every}
 use Rattle.rules.specs.Stores.{rowOf}
-use Rattle.rules.specs.Elimination.{Side, Limited, limitDegrees, Multipliers, multipliers, multipliersAt, listing, combineStep}
+use Rattle.rules.specs.Elimination.{Side, Limited, limitDegrees, consistent, Multipliers, multipliers, multipliersAt, listing, combineStep}
 use Rattle.roots.specs.RootSearch.{listed, held, held-of, roots-few}
 use Rattle.working_rows.specs.Found.{Columns-at}
 use Rattle.working_rows.specs.Worked.{refusalOf, numbersOf}
@@ -198,14 +198,14 @@ module _ (c : tie.After-combined) where
   refusal-is : c .combined .result .refusal ≡ refusalOf (new origin)
   refusal-is =
       c .combined .ensures .0
-      ∙ (λ k. refusalOf (limitDegrees (primitive (combine (g-is (multiplied rooted) k) (h-is (multiplied rooted) k)
-      (rowOf (target-is (multiplied rooted .before) k)) (rowOf (pivot-is (multiplied rooted .before) k))))))
+      ∙ (λ k. refusalOf (consistent (limitDegrees (primitive (combine (g-is (multiplied rooted) k) (h-is (multiplied rooted) k)
+      (rowOf (target-is (multiplied rooted .before) k)) (rowOf (pivot-is (multiplied rooted .before) k)))))))
 
   numbers-are : c .combined .result .row ≡ numbersOf (new origin)
   numbers-are =
       c .combined .ensures .1
-      ∙ (λ k. numbersOf (limitDegrees (primitive (combine (g-is (multiplied rooted) k) (h-is (multiplied rooted) k)
-      (rowOf (target-is (multiplied rooted .before) k)) (rowOf (pivot-is (multiplied rooted .before) k))))))
+      ∙ (λ k. numbersOf (consistent (limitDegrees (primitive (combine (g-is (multiplied rooted) k) (h-is (multiplied rooted) k)
+      (rowOf (target-is (multiplied rooted .before) k)) (rowOf (pivot-is (multiplied rooted .before) k)))))))
 
 mul-load : tie.Need-mul-load
 mul-load c = search needs

@@ -12,7 +12,7 @@ use lib.IntN.{ℤ}
 use lib.ListN.{length}
 use Rattle.algebra.specs.Polynomials.{isZero}
 use Rattle.rules.specs.Limits.{columnCount, rowLength, small}
-use Rattle.rules.specs.Rows.{Row, zeroRow, leadingBlock, firstNonzero}
+use Rattle.rules.specs.Rows.{Row, zeroRow, contradicts, leadingBlock, firstNonzero}
 use Rattle.lists.specs.Tests.{every}
 use Rattle.rules.specs.Stores.{rowOf}
 use Rattle.rules.specs.Elimination.{Side, multipliersAt, combineStep}
@@ -24,7 +24,7 @@ use Rattle.reduction.specs.Progress.{Ready, Reached, stateOf, answerOf, 
 use Rattle.reduction.specs.NewRows.{saved, row-room}
 use Rattle.reduction.specs.StoreExchange.{numbersAt, narrowed, small-numbersAt, narrowed-kept}
 use Rattle.reduction.specs.StepLaws.{metEntries, shiftedRow, reached-same, reached-after, refused-reached, shift-reached}
-use Rattle.reduction.specs.StepCases.{step-zero, step-met, met-nonzero, narrowed-ready, settled-reached, step-shift}
+use Rattle.reduction.specs.StepCases.{step-zero, step-contradicts, step-met, met-nonzero, narrowed-ready, settled-reached, step-shift}
 use Rattle.reduction.proofs.step.step.Statement.{statement}
 use Rattle.reduction.proofs.step.step.Tie as tie
 
@@ -79,13 +79,30 @@ module _ (c : tie.After-is-zero-row) where
   zero-is : c .is-zero-row .result ≡ zeroRow (row start)
   zero-is = c .is-zero-row .ensures ∙ ap (λ l. zeroRow (rowOf l)) row-is
 
+-- the test of the right side, where the row is not zero
+module _ (c : tie.After-contradicts) where
+  abbrev zero-tested : tie.After-is-zero-row
+  zero-tested = c .before .before
+
+  not-zero : zeroRow (row (start zero-tested)) ≡ false
+  not-zero = sym (zero-is zero-tested) ∙ c .before .if1 .left
+
+  contradicts-is : c .contradicts .result ≡ contradicts (row (start zero-tested))
+  contradicts-is = c .contradicts .ensures ∙ ap (λ l. contradicts (rowOf l)) (row-is zero-tested)
+
 -- the settled row that is met
 module _ (c : tie.After-first-met) where
+  abbrev both-tested : tie.After-contradicts
+  both-tested = c .before .before .before
+
   abbrev tested : tie.After-is-zero-row
-  tested = c .before .before .before
+  tested = zero-tested both-tested
 
   nonzero : zeroRow (row (start tested)) ≡ false
-  nonzero = sym (zero-is tested) ∙ c .before .before .if1 .left
+  nonzero = not-zero both-tested
+
+  possible : contradicts (row (start tested)) ≡ false
+  possible = sym (contradicts-is both-tested) ∙ c .before .before .if2 .left
 
   met-is : met (start tested) ≡ c .first-met .result
   met-is =
@@ -104,7 +121,7 @@ module _ (c : tie.After-narrow-first) where
   j = meeting .first-met .result
 
   settled-j : j < i base
-  settled-j = c .before .before .if2 .taken
+  settled-j = c .before .before .if3 .taken
 
   rows-are : c .narrow-first .last .0 ≡ narrowed (rows base) (i base) j
   rows-are = c .narrow-first .ensures
@@ -118,7 +135,7 @@ module _ (c : tie.After-first-column) where
   origin = start (tested unmet)
 
   none-met : i origin ≤ met origin
-  none-met = omega (arith, met-is unmet, c .before .if2 .left)
+  none-met = omega (arith, met-is unmet, c .before .if3 .left)
 
   column-is : foundOr columnCount (firstNonzero (leadingBlock (row origin))) ≡ c .first-column .result
   column-is = sym (c .first-column .ensures ∙ ap (λ l. foundOr columnCount (firstNonzero (leadingBlock (rowOf l)))) (row-is (tested unmet)))
@@ -148,6 +165,25 @@ returns c =
       ap (λ o. o .done) (c .answer .ensures),
     )
 
+contradicts-requires : tie.Need-contradicts-requires
+contradicts-requires c κs = search needs
+
+answer-requires-2 : tie.Need-answer-requires-2
+answer-requires-2 c κs = search needs
+
+same-length-2 : tie.Need-same-length-2
+same-length-2 c = search needs
+
+returns-2 : tie.Need-returns-2
+returns-2 c =
+    let d = c .before .before in
+    let b = start (zero-tested d) in (
+      reached-same refl (c .answer2 .ensures)
+          (step-contradicts (side b) (ready b) (inside (zero-tested d)) (not-zero d) (sym (contradicts-is d) ∙ c .before .if2 .taken))
+          (refused-reached (ready b) 9),
+      ap (λ o. o .done) (c .answer2 .ensures),
+    )
+
 first-met-requires : tie.Need-first-met-requires
 first-met-requires c κs = search needs
 
@@ -155,7 +191,7 @@ narrow-first-requires : tie.Need-narrow-first-requires
 narrow-first-requires c κs =
     let d = c .before .before in
     let b = start (tested d) in
-    (room b (i b) (inside (tested d)), room b (d .first-met .result) (omega (arith, inside (tested d), c .before .if2 .taken)))
+    (room b (i b) (inside (tested d)), room b (d .first-met .result) (omega (arith, inside (tested d), c .before .if3 .taken)))
 
 combine-step-requires : tie.Need-combine-step-requires
 combine-step-requires c κs =
@@ -164,24 +200,24 @@ combine-step-requires c κs =
     let e = tested (meeting d) in
     subst (Asked (equations b) (relations b) (p b) (j d)) (sym (rows-are d)) (
       (narrowed-ready (side b) (ready b) (inside e) (j d) (settled-j d), inside e, settled-j d),
-      met-nonzero (side b) (ready b) (inside e) (nonzero (meeting d)) (j d) (met-is (meeting d)) (settled-j d),
+      met-nonzero (side b) (ready b) (inside e) (nonzero (meeting d)) (possible (meeting d)) (j d) (met-is (meeting d)) (settled-j d),
     )
-
-same-length-2 : tie.Need-same-length-2
-same-length-2 c = search needs
 
 same-length-3 : tie.Need-same-length-3
 same-length-3 c = search needs
 
-returns-2 : tie.Need-returns-2
-returns-2 c =
+same-length-4 : tie.Need-same-length-4
+same-length-4 c = search needs
+
+returns-3 : tie.Need-returns-3
+returns-3 c =
     let d = c .before .before .before .before .before .before in
     let b = base d in
     let e = tested (meeting d) in
     let combine = c .before .before .combine-step in (
       reached-after
           (narrowed-kept (equations b) (rows b) (ready b .rows-within) (i b) (j d) (inside e) (omega (arith, inside e, settled-j d)))
-          (reached-same refl refl (step-met (side b) (ready b) (inside e) (nonzero (meeting d)) (j d) (met-is (meeting d)) (settled-j d))
+          (reached-same refl refl (step-met (side b) (ready b) (inside e) (nonzero (meeting d)) (possible (meeting d)) (j d) (met-is (meeting d)) (settled-j d))
           (subst (λ r. let s = stateOf (equations b) r (relations b) (p b) in
           Reached (equations b) r (relations b) (combine .last .0) (combine .last .1 .0) (p b .shifts + 1) (combine .result)
           (combineStep (side b) s (i b) (j d) (multipliersAt s (i b) (j d)))) (rows-are d) (combine .ensures .0))),
@@ -194,8 +230,8 @@ first-column-requires c κs = search needs
 settled-requires : tie.Need-settled-requires
 settled-requires c κs = search needs
 
-answer-requires-2 : tie.Need-answer-requires-2
-answer-requires-2 c κs = search needs
+answer-requires-3 : tie.Need-answer-requires-3
+answer-requires-3 c κs = search needs
 
 shift-step-requires : tie.Need-shift-step-requires
 shift-step-requires c κs =
@@ -205,33 +241,33 @@ shift-step-requires c κs =
     let numbers = small-numbersAt (equations b) (rows b) (ready b .rows-within) (i b) (inside e) in
     (room b (i b) (inside e), subst (λ l. T (every small l)) (sym (row-is e)) numbers, b .pre .2)
 
-same-length-4 : tie.Need-same-length-4
-same-length-4 c = search needs
-
-returns-3 : tie.Need-returns-3
-returns-3 c =
-    let d = c .before .before .before in
-    let b = origin d in
-    let column = d .first-column .result in (
-      reached-same refl (c .answer2 .ensures ∙ ap (answerOf 0) (c .before .settled .ensures)) refl
-          (settled-reached (side b) (ready b) (inside (tested (unmet d))) (nonzero (unmet d)) (none-met d) column
-          (column-is d) (omega (arith, c .before .before .if3 .taken))),
-      ap (λ o. o .done) (c .answer2 .ensures),
-    )
-
 same-length-5 : tie.Need-same-length-5
 same-length-5 c = search needs
 
 returns-4 : tie.Need-returns-4
 returns-4 c =
+    let d = c .before .before .before in
+    let b = origin d in
+    let column = d .first-column .result in (
+      reached-same refl (c .answer3 .ensures ∙ ap (answerOf 0) (c .before .settled .ensures)) refl
+          (settled-reached (side b) (ready b) (inside (tested (unmet d))) (nonzero (unmet d)) (possible (unmet d)) (none-met d) column
+          (column-is d) (omega (arith, c .before .before .if4 .taken))),
+      ap (λ o. o .done) (c .answer3 .ensures),
+    )
+
+same-length-6 : tie.Need-same-length-6
+same-length-6 c = search needs
+
+returns-5 : tie.Need-returns-5
+returns-5 c =
     let d = c .before .before .before .before in
     let b = origin d in
     let shift = c .before .shift-step .ensures in
     let e = row-is (tested (unmet d)) in (
       reached-same (shift .0 ∙ ap (λ l. saved (rows b) (i b) (refusalOf (shiftedRow l)) (numbersOf (shiftedRow l))) e)
           (shift .1 ∙ ap (λ l. answerOf (refusalOf (shiftedRow l)) (shiftedProgress (p b))) e)
-          (step-shift (side b) (ready b) (inside (tested (unmet d))) (nonzero (unmet d)) (none-met d)
-          (omega (arith, column-is d, c .before .before .before .if3 .left)))
+          (step-shift (side b) (ready b) (inside (tested (unmet d))) (nonzero (unmet d)) (possible (unmet d)) (none-met d)
+          (omega (arith, column-is d, c .before .before .before .if4 .left)))
           (shift-reached (ready b) (inside (tested (unmet d)))),
       ap (λ o. o .done) (shift .1),
     )
@@ -246,17 +282,21 @@ step-spec =
     answer-requires
     same-length
     returns
+    contradicts-requires
+    answer-requires-2
+    same-length-2
+    returns-2
     first-met-requires
     narrow-first-requires
     combine-step-requires
-    same-length-2
     same-length-3
-    returns-2
-    first-column-requires
-    settled-requires
-    answer-requires-2
-    shift-step-requires
     same-length-4
     returns-3
+    first-column-requires
+    settled-requires
+    answer-requires-3
+    shift-step-requires
     same-length-5
-    returns-4)
+    returns-4
+    same-length-6
+    returns-5)

@@ -15,11 +15,11 @@ use mir.Syntax.{w64}
 use mir.Val.{SFits, toZ, ofZ}
 use mir.Facts.{toZ-ofZ}
 use Rattle.algebra.specs.Coefficients.{alternate}
-use Rattle.rules.specs.Limits.{coefficientCount, mostSpan, blockCount, blockLength, rowLength, small}
+use Rattle.rules.specs.Limits.{coefficientCount, mostSpan, blockLength, rowLength, small}
 use Rattle.rules.specs.Rows.{coefficientsOf, mirrorRow}
 use Rattle.rules.specs.Stores.{rowOf}
 use Rattle.lists.specs.Tests.{every-from-at}
-use Rattle.working_rows.specs.Mirroring.{mirrorPlace, mirrorBlock-below, length-mirrorRow, number-mirrorRow}
+use Rattle.working_rows.specs.Mirroring.{mirrorPlace, mirrorPlace-below, length-mirrorRow, number-mirrorRow}
 use Rattle.working_rows.proofs.mirroring.mirrored.Statement.{statement}
 use Rattle.working_rows.proofs.mirroring.mirrored.Tie as tie
 
@@ -53,16 +53,16 @@ module _ (c : tie.After-mirrored-block Inv-loop μ-loop) where
   abbrev from : ℕ
   from = c .mirrored-block .result * blockLength + i % blockLength
 
-  below : c .mirrored-block .result < blockCount
-  below = rw (c .mirrored-block .ensures) (mirrorBlock-below span (i / blockLength) few (omega arith))
+  source : from ≡ mirrorPlace span i
+  unfolding mirrorPlace
+  source = ap (λ b. b * blockLength + i % blockLength) (c .mirrored-block .ensures)
+
+  below : from < rowLength
+  below = rw source (mirrorPlace-below span i few (omega arith))
 
   size : natAbs (getD row from (pos 0)) ≤ 268435455
   unfolding small
   size = leb→le _ _ (every-from-at small row (pos 0) 0 (c .before .before .before .pre .1) from zero-le (omega (arith, below)))
-
-  source : from ≡ mirrorPlace span i
-  unfolding mirrorPlace
-  source = ap (λ b. b * blockLength + i % blockLength) (c .mirrored-block .ensures)
 
 -- the number that is stored
 value : (c : tie.After-alternated Inv-loop μ-loop)
