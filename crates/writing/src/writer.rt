@@ -36,8 +36,9 @@ ghost use Rattle.rules.specs.SheetCalls.{checkWrite, writeCall};
 ghost use Rattle.rules.specs.Layout.{blockOf, polynomialsIn};
 ghost use Rattle.stores.specs.Validity.{sizesOf};
 
-// The bytes of the longest term, of the longest line of a right side, of the two longest lines of an equation and of a relation, and of
-// the other lines of a sheet together, as in `specs/SheetBytes.antt`: a space and a number take at most 11 bytes, a space and a count 21.
+// The bytes of the longest term, of the longest line of a right side, of the longest line of an equation and of a relation, each with that
+// of its right side, and of the other lines of a sheet together, as in `specs/SheetBytes.antt`: a space and a number take at most 11 bytes,
+// a space and a count 21.
 const TERM_BYTES: usize = 11 + 2 * 21 + COEFFICIENTS * 11;
 
 const SIDE_BYTES: usize = 21 + COEFFICIENTS * 11;
