@@ -204,7 +204,7 @@ fn row_operation(random: &mut Random, system: &mut System) {
     if i == j {
         let row = &system.rows[i];
         if row.entries().all(|(block, _, _)| block > t) {
-            system.rows[i] = row.mapped(|s, p| (s - 1, p.mirrored().after_increment().mirrored()));
+            system.rows[i] = row.mirrored().shifted().mirrored();
         }
     } else if random.one_in(4) {
         system.rows.swap(i, j);
@@ -224,7 +224,7 @@ fn dependent(random: &mut Random) -> System {
     let which = random.below(sizes.m);
     let mut sum = Row::default();
     for (i, row) in system.rows.iter().enumerate().filter(|(i, _)| *i != which) {
-        let up = row.mapped(|s, p| (s + 1, p.after_increment()));
+        let up = row.shifted();
         let shifted = i % 2 == 0 && up.entries().all(|(block, _, _)| block <= sizes.l);
         let factor = polynomial(random, SMALL);
         sum = sum.combined(&Polynomial::new(vec![1]), if shifted { &up } else { row }, &factor);
