@@ -208,9 +208,6 @@ impl Work {
         if self.wrong(Fault::SideNotCombined) {
             combined.set_right(self.rows[i].right().times(&g));
         }
-        if self.wrong(Fault::InconsistentBeforeRelations) {
-            inconsistent(&combined)?;
-        }
         // Rule 3: row i, in the form that it has after the exchange, at each root of g (SCOPE 2.31).
         let searched = if self.wrong(Fault::RootsBeforeExchange) { g_before } else { g };
         let listed = if self.wrong(Fault::RowBeforeExchange) {
@@ -223,6 +220,9 @@ impl Work {
             self.rows[i].clone()
         };
         let relations = self.list(&searched, &listed);
+        if self.wrong(Fault::InconsistentBeforeRelations) && relations.is_err() {
+            inconsistent(&combined)?;
+        }
         if !self.wrong(Fault::RelationsTestedLast) {
             relations?;
         }
@@ -293,19 +293,19 @@ impl Work {
         let too_large = |row: &Row| self.limited(row, Fault::SideOutOfLimit).size() > C;
         let divided = self.divided(&row);
         let limited = if self.wrong(Fault::LimitBeforeDivision) { &row } else { &divided };
-        if self.wrong(Fault::InconsistentBeforeDegree) {
-            inconsistent(&divided)?;
-        }
         if self.wrong(Fault::CoefficientBeforeDegree) && too_large(limited) {
             return Err(Refusal::Coefficient);
         }
         if self.limited(&divided, Fault::SideOutOfDegree).degree() > DEGREE {
+            if self.wrong(Fault::InconsistentBeforeDegree) {
+                inconsistent(&divided)?;
+            }
             return Err(Refusal::Degree);
         }
-        if self.wrong(Fault::InconsistentBeforeCoefficient) {
-            inconsistent(&divided)?;
-        }
         if too_large(limited) {
+            if self.wrong(Fault::InconsistentBeforeCoefficient) {
+                inconsistent(&divided)?;
+            }
             return Err(Refusal::Coefficient);
         }
         Ok(divided)

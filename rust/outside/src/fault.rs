@@ -55,9 +55,9 @@ faults! {
     SideOutOfShiftLimit: "the coefficients of a right side are not limited in a shift",
     SideInWidth: "a right side makes its row as wide as can be",
     RelationWithoutSide: "a relation is listed without its right side",
-    InconsistentBeforeRelations: "refusal 10 is tested before 9",
-    InconsistentBeforeDegree: "refusal 10 is tested before 7",
-    InconsistentBeforeCoefficient: "refusal 10 is tested before 8",
+    InconsistentBeforeRelations: "where 9 is due, 10 comes before it",
+    InconsistentBeforeDegree: "where 7 is due, 10 comes before it",
+    InconsistentBeforeCoefficient: "where 8 is due, 10 comes before it",
     InconsistentIsDependent: "a row with a right side alone is 6",
     RelationsInconsistent: "a relation of the input with a right side alone is 10",
     // Calls on stores.
