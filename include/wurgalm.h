@@ -18,7 +18,7 @@
  *      or its fifth section has zeros only
  *   4  the bytes of a sheet end too early, or go on behind its last line
  *   5  a coefficient or n0 is past +-268,435,455, or an unused position of a store does not hold 0
- *   6  the system is dependent: a row has become zero on both sides
+ *   6  the system is dependent: a row is zero on both sides
  *   7  a degree has passed 15
  *   8  a coefficient has passed +-268,435,455 in the course of the run
  *   9  a seventeenth relation would have to be listed
@@ -71,7 +71,8 @@ uint8_t wurgalm_read_sheet(const uint8_t *bytes, size_t bytes_length, int64_t *r
 /* A system written as a sheet.
  * In: `rows`, `relations`, m, l, t and `count` as for a run; `order` (4 numbers): all 0 for no order, otherwise a
  * permutation of 1 to m and zeros past its end (SCOPE 3.55, 4.53).
- * Out: `bytes` begins with the sheet, which has a fifth section if a right side is not 0; `result` (1 number, SCOPE 3.52): the length of the sheet in bytes.
+ * Out: `bytes` begins with the sheet, which has a fifth section if a right side is not 0; `result` (1 number,
+ * SCOPE 3.52): the length of the sheet in bytes.
  * Returns 0, 1, 2 or 5; 1 for a byte store that is too short comes after all else (SCOPE 4.54). */
 uint8_t wurgalm_write_sheet(const int64_t *rows, size_t rows_length, const int64_t *relations, size_t relations_length, size_t m,
                             int64_t l, int64_t t, size_t count, const int64_t *order, size_t order_length, uint8_t *bytes,

@@ -94,6 +94,7 @@ faults! {
     LeftOver: "bytes left over are let through",
     MissingAnswered: "a sheet of which bytes are missing is answered",
     LargeOutput: "output sheets above 65,536 bytes are written",
+    LargeFifth: "the fifth section does not count among the 65,536 bytes of an output sheet",
     CountsAfterBreak: "the last line is written after a broken frame too",
     // Batches on stores.
     BatchStoresKept: "an output store too short for a batch stays as it is",
