@@ -292,6 +292,9 @@ static void runs_refused_during_the_work(Run *side) {
                    "3 2 0 0\n2\n2 0 1 2 0 1 0 2 1 1\n2 0 1 1 1 0 2 1 1\n16\n"
                    "0 0\n0 0\n0 0\n0 0\n0 0\n0 0\n0 0\n0 0\n0 0\n0 0\n0 0\n0 0\n0 0\n0 0\n0 0\n0 0\n0\n",
                    9, "n x + y and x + y with sixteen relations");
+    refused_during(side, "3 1 0 0\n1\n0\n0\n0\n1\n1 7\n", 10, "0 = 7");
+    refused_during(side, "3 2 1 0\n2\n2 1 1 1 1 0 2 1 1\n2 1 1 1 1 0 2 1 1\n0\n0\n2\n1 1\n1 2\n", 10,
+                   "the same left side with two right sides");
 }
 
 /* Sheets that are refused leave every store as it was. */
@@ -311,7 +314,8 @@ static void sheets_refused(void) {
     unread("3 1 1 0\n1\n1 1 1 x 1\n0\n0\n", call, 3, "a token that is no number");
     unread("3 1 1 0\n1\n1 1 1 1 0\n0\n0\n", call, 3, "a zero last coefficient");
     unread("3 1 1 0\n1\n1 1 1", call, 4, "the bytes end early");
-    unread("3 1 1 0\n1\n1 1 1 2 0 1\n0\n0\n\n", call, 4, "the bytes go on");
+    unread("3 1 1 0\n1\n1 1 1 2 0 1\n0\n0\n\n", call, 3, "an empty line where the right sides would stand");
+    unread("3 1 1 0\n1\n1 1 1 2 0 1\n0\n0\n1\n1 7\n\n", call, 4, "the bytes go on");
     unread("3 1 1 0\n1\n1 1 1 1 -268435456\n0\n0\n", call, 5, "a coefficient past the limit");
     call.rows = ROWS - 1;
     unread(k2, call, 1, "row store too short");

@@ -89,7 +89,7 @@ pub fn check_right_side(rows: &[i64], sizes: stores::validity::Sizes, row: usize
     if !stores::validity::counted(row, sizes.m) {
         return 2;
     }
-    if rows.len() < sizes.m * ROW {
+    if rows.len() < (sizes.m * ROW) {
         return 1;
     }
     0
