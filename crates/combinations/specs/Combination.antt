@@ -33,7 +33,7 @@ use Rattle.algebra.specs.Integers.{natAbs-+ℤ}
 use Rattle.algebra.specs.Gcd.{content, divideBy, length-divideBy}
 use Rattle.algebra.specs.Sums.{countFrom, sumBelow, length-countFrom, getD-countFrom}
 use Rattle.algebra.specs.Polynomials.{Polynomial, coeff, isZero, degree, add, mul, isZero-cons, isZero-coeff}
-use Rattle.lists.specs.Tests.{same-test, T-&&, true-of, false-of, every, every-flatten, every-take, every-drop, every-part}
+use Rattle.lists.specs.Tests.{same-test, T-&&, true-of, false-of, every, every-take, every-drop, every-part}
 use Rattle.algebra.specs.Polynomials.{coeff-isZero}
 use Rattle.algebra.specs.Polynomials.{isZero-add, isZero-mul-right, length-add, length-scale}
 use Rattle.algebra.specs.Coefficients.{coeff-add, coeff-mul, coeff-take, coeff-drop, coeff-past-length, coeff-past-degree}
@@ -49,7 +49,8 @@ use Rattle.rules.specs.Stores.{rowOf, StoreRow}
 use Rattle.lists.specs.Parts.{parts, parts-length, parts-width, parts-append, parts-take, getD-parts, part-flatten}
 use Rattle.rules.specs.Elimination.{within, limitDegrees}
 use Rattle.rules.specs.Layout.{coefficientsAt}
-use Rattle.stores.specs.Flat.{partCount, partsIn, polynomialsOf, polynomials-rowOf, polynomials-mapRow, polynomials-combine, numbers-mapRow, length-blocks}
+use Rattle.stores.specs.Flat.{partCount, partsIn, polynomialsOf, polynomials-rowOf, polynomials-mapRow, polynomials-combine}
+use Rattle.stores.specs.Flat.{numbers-mapRow, length-blocks}
 use Rattle.combinations.specs.Primitive.{isLow, lowDegrees-every, degrees-within}
 use Rattle.working_rows.specs.Worked.{Held, held, store-row}
 

@@ -141,7 +141,9 @@ fn primitive_part(
     ensures { λ r. ⌜ r .refusal ≡ refusalOf (consistent (limitCoefficients (rowOf (primitiveNumbers (entries ++ right))))) ⌝ }
     ensures { λ r. ⌜ r .row ≡ workedRow (consistent (limitCoefficients (rowOf (primitiveNumbers (entries ++ right))))) ⌝ }
 {
-    let d = polynomials::content::content_of_both(&entries[..], &right[..]);
+    let first = &entries[..];
+    let second = &right[..];
+    let d = polynomials::content::content_of_both(first, second);
     if d <= 1 {
         return working_rows::limits::consistent(entries, right);
     }

@@ -19,7 +19,7 @@ use mathlib.Core.Option.{Option, none, some, Option·map}
 use borrow.Author.Tests.{le-leb, lt-leb}
 use lib.Dec.{T, leb, ltb, ltb→lt, nltb→le, lit<}
 use lib.IntN.{ℤ}
-use lib.ListN.{length, take, drop, getD, set, length-set}
+use lib.ListN.{length, take, getD, set, length-set}
 use lib.Seq.{length-take-le, take-suc-set}
 use Rattle.algebra.specs.Polynomials.{Polynomial, isZero, isZero-append}
 use Rattle.rules.specs.Limits.{coefficientCount, columnCount}

@@ -101,7 +101,9 @@ fn settled(c: usize, p: Progress) -> Progress
 
 // Rule 6: the blocks move up by one, with n + 1 for n, and the shift is counted (SCOPE 2.61, 2.63, 2.65).
 fn shift_step(rows: &mut [i64], row: WorkingRow, p: Progress) -> Outcome
-    requires { ⌜ (p .settled * rowLength + rowLength ≤ length (now rows)) × Full row × T (every small (numbersHeld row)) × (p .shifts < 2 ^ 32) ⌝ }
+    requires { ⌜
+        (p .settled * rowLength + rowLength ≤ length (now rows)) × Full row × T (every small (numbersHeld row))
+        × (p .shifts < 2 ^ 32) ⌝ }
     ensures { λ _. ⌜ now (rows .exit)
         ≡ saved (now (rows .entry)) (p .settled) (refusalOf (shiftedRow (numbersHeld row))) (numbersOf (shiftedRow (numbersHeld row))) ⌝ }
     ensures { λ r. ⌜ r ≡ answerOf (refusalOf (shiftedRow (numbersHeld row))) (shiftedProgress p) ⌝ }
@@ -176,11 +178,15 @@ fn eliminate_step(
     row: WorkingRow,
     p: Progress,
 ) -> Outcome
-    requires { ⌜ Ready equations (now rows) (now relations) p × (p .settled < equations) × (j < p .settled) × Loaded (now rows) (p .settled) row ⌝ }
+    requires { ⌜
+        Ready equations (now rows) (now relations) p × (p .settled < equations) × (j < p .settled)
+        × Loaded (now rows) (p .settled) row ⌝ }
     requires { ⌜ T (not (isZero (metEntries (narrowed (now rows) (p .settled) j) p j))) ⌝ }
     ensures { λ r. ⌜ Reached equations (now (rows .entry)) (now (relations .entry)) (now (rows .exit)) (now (relations .exit)) (p .shifts + 1) r
-        (Elimination.combineStep (sideOf side) (stateOf equations (narrowed (now (rows .entry)) (p .settled) j) (now (relations .entry)) p) (p .settled) j
-        (Elimination.multipliersAt (stateOf equations (narrowed (now (rows .entry)) (p .settled) j) (now (relations .entry)) p) (p .settled) j)) ⌝ }
+        (Elimination.combineStep (sideOf side)
+        (stateOf equations (narrowed (now (rows .entry)) (p .settled) j) (now (relations .entry)) p) (p .settled) j
+        (Elimination.multipliersAt
+        (stateOf equations (narrowed (now (rows .entry)) (p .settled) j) (now (relations .entry)) p) (p .settled) j)) ⌝ }
     ensures { λ r. ⌜ r .done ≡ false ⌝ }
 {
     let i = p.settled;

@@ -13,7 +13,7 @@
 --   blocks-held, right-held, left-held, width-held, leading-held, entry-held   what its numbers hold
 --   width-zero           the width is 0 exactly if the left part is zero
 --   paste-joined         two lists put into a store one behind the other
-use Prim.Native.Nat.{ℕ, zero, suc, _+_, _≤_}
+use Prim.Native.Nat.{ℕ, suc, _+_, _≤_}
 use native.Mathlib.Nat.{le-of-eq, le-refl, add-assoc}
 use native.Mathlib.Omega.{arith}
 use mathlib.Core.Path.{_≡_, refl, sym, _∙_, ap, ap₂, subst}

@@ -58,7 +58,8 @@ fn moved_up(table: &[[i64; COEFFICIENTS]; COEFFICIENTS], entries: &[i64]) -> [i6
     moved
 }
 
-// The row one block further up, with n + 1 for n, on the right side too, which stays where it is; a coefficient past ±C is refused with 8 (SCOPE 2.61, 2.63).
+// The row one block further up, with n + 1 for n, on the right side too, which stays where it is; a coefficient past ±C is
+// refused with 8 (SCOPE 2.61, 2.63).
 pub fn shifted(row: WorkingRow) -> crate::limits::Worked
     requires { ⌜ Full row × T (every small (numbersHeld row)) ⌝ }
     ensures { λ r. ⌜ r .refusal ≡ refusalOf (limitCoefficients (shiftUp (rowOf (numbersHeld row)))) ⌝ }

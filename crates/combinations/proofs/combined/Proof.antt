@@ -1,6 +1,6 @@
 -- `combinations::combined` meets its contract. The left parts and the right sides are combined apart.
 -- Assumes nothing.
-use mathlib.Core.Path.{_≡_, refl, sym, _∙_, ap, ap₂, subst}
+use mathlib.Core.Path.{_≡_, sym, _∙_, ap, ap₂, subst}
 use mathlib.Core.Bool.{true, false, not, _&&_}
 use mathlib.Core.List.{List, _++_}
 use Prim.Native.Nat.{ℕ, _+_, _/_, _^_, _<_}
@@ -15,7 +15,7 @@ use lib.ListN.{length, replicate}
 use Rattle.algebra.specs.Polynomials.{Polynomial}
 use Rattle.lists.specs.Tests.{every, every-append}
 use Rattle.rules.specs.Limits.{coefficientCount, polynomialCount, rowLength, small}
-use Rattle.rules.specs.Rows.{Row, combine, primitive, cut, lowDegrees, coefficientsOf}
+use Rattle.rules.specs.Rows.{Row, combine, primitive, cut, lowDegrees}
 use Rattle.rules.specs.Stores.{rowOf}
 use Rattle.rules.specs.Layout.{rowOf-coefficientsOf}
 use Rattle.rules.specs.Elimination.{limitCoefficients, consistent}

@@ -48,11 +48,11 @@ module _ (c : tie.After-content-of-both) where
   positive h =
       let some : 0 < content row = omega (arith, h, c .content-of-both .ensures) in rw divisor (lt→ltb 0 (content row) some)
 
-slice-aggregate-content-of-both : tie.Need-slice-aggregate-content-of-both
-slice-aggregate-content-of-both c = search needs
+slice-aggregate-first : tie.Need-slice-aggregate-first
+slice-aggregate-first c = search needs
 
-slice-aggregate-content-of-both-2 : tie.Need-slice-aggregate-content-of-both-2
-slice-aggregate-content-of-both-2 c = search needs
+slice-aggregate-second : tie.Need-slice-aggregate-second
+slice-aggregate-second c = search needs
 
 content-of-both-requires : tie.Need-content-of-both-requires
 content-of-both-requires c κs = search needs
@@ -105,8 +105,8 @@ pub primitive-part-spec : {M : Type 1} → statement M
 primitive-part-spec =
     tie.close
     (tie.spec
-    slice-aggregate-content-of-both
-    slice-aggregate-content-of-both-2
+    slice-aggregate-first
+    slice-aggregate-second
     content-of-both-requires
     consistent-requires
     returns

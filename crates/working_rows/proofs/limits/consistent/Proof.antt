@@ -12,7 +12,7 @@ use Rattle.algebra.specs.Polynomials.{isZero}
 use Rattle.rules.specs.Limits.{coefficientCount, entriesLength}
 use Rattle.rules.specs.Rows.{Row, contradicts, zeroLeft, width}
 use Rattle.rules.specs.Stores.{rowOf}
-use Rattle.rules.specs.Elimination.{Limited, within, beyond, limitCoefficients, consistent}
+use Rattle.rules.specs.Elimination.{within, beyond, limitCoefficients, consistent}
 use Rattle.working_rows.specs.Working.{left-held, right-held, width-held, width-zero}
 use Rattle.working_rows.specs.Worked.{Shown, refusalOf, workedRow, limit-zero, consistent-refused, consistent-passed}
 use Rattle.working_rows.proofs.limits.consistent.Statement.{statement}

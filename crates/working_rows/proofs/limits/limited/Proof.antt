@@ -1,7 +1,7 @@
 -- `working_rows::limits::limited` meets its contract.
 -- Assumes nothing.
-use mathlib.Core.Path.{_≡_, refl, sym, _∙_, ap, ap₂, subst}
-use mathlib.Core.Bool.{Bool, true, false, _&&_}
+use mathlib.Core.Path.{_≡_, refl, sym, _∙_, ap₂, subst}
+use mathlib.Core.Bool.{false, _&&_}
 use mathlib.Core.List.{List, _++_}
 use native.Mathlib.Omega.{arith}
 use borrow.Author.Needs.{needs}
@@ -9,10 +9,10 @@ use borrow.Author.Tests.{not-true, not-false}
 use lib.IntN.{ℤ}
 use lib.ListN.{length, length-append}
 use Rattle.lists.specs.Tests.{every, every-append, and-first, and-second}
-use Rattle.rules.specs.Limits.{coefficientCount, entriesLength, rowLength, small}
+use Rattle.rules.specs.Limits.{coefficientCount, entriesLength, small}
 use Rattle.rules.specs.Rows.{coefficientsOf}
 use Rattle.rules.specs.Stores.{rowOf}
-use Rattle.rules.specs.Elimination.{Limited, beyond, within, limitCoefficients}
+use Rattle.rules.specs.Elimination.{Limited, beyond, limitCoefficients}
 use Rattle.rules.specs.Layout.{coefficientsOf-rowOf-all}
 use Rattle.working_rows.specs.Working.{workingOf, left-held, right-held}
 use Rattle.working_rows.specs.Worked.{Shown, refusalOf, workedRow, limit-within, limit-beyond}
