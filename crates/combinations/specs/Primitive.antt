@@ -126,7 +126,8 @@ pub degree-kept : (r : Row) → lowDegrees (primitive r) ≡ lowDegrees r
 unfolding primitive coefficientsOf
 degree-kept r = go (content (coefficientsOf r)) (rw (sym (numbers-polynomials r)) (dvd-refl (content (coefficientsOf r))))
   where
-    go : (d : ℕ) → d ∣ content (flatten (polynomialsOf r)) → lowDegrees (elim d [ zero ↦ r | suc e ↦ mapRow (divideBy (suc e)) r ]) ≡ lowDegrees r
+    go : (d : ℕ) → d ∣ content (flatten (polynomialsOf r))
+        → lowDegrees (elim d [ zero ↦ r | suc e ↦ mapRow (divideBy (suc e)) r ]) ≡ lowDegrees r
     go zero h = refl
     go (suc d) h =
         lowDegrees-every (mapRow (divideBy (suc d)) r) ∙ ap (every isLow) (polynomials-mapRow (divideBy (suc d)) r)

@@ -77,7 +77,8 @@ loaded-from store i w room e =
       full = subst Full (sym e) (full-loaded store (i * rowLength) room);
       width-is =
           ap (λ v. v .width) e
-          ∙ sym (width-held (take entriesLength (drop (i * rowLength) store)) (take coefficientCount (drop (i * rowLength + entriesLength) store))
+          ∙ sym (width-held (take entriesLength (drop (i * rowLength) store))
+          (take coefficientCount (drop (i * rowLength + entriesLength) store))
           (full-loaded store (i * rowLength) room .entries-long))
           ∙ ap (λ l. width (rowOf l)) (numbers-loaded store (i * rowLength));
     }

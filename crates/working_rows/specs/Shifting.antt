@@ -145,7 +145,8 @@ module _ (l : List ℤ) (long : length l ≡ rowLength) where
       store-row (shiftUp (rowOf l)) refl (refl, (refl, (refl, (refl, (refl, tt)))))
       (append-all (λ p. length p ≡ coefficientCount) (flatten (shiftUp (rowOf l) .blocks)) (shift (side l) ∷ [])
       (subst (All (λ p. length p ≡ coefficientCount)) (sym (left-shiftUp l))
-      (append-all (λ p. length p ≡ coefficientCount) (map shift (below l)) (map shift (last l)) (below-width l enough) (last-width l enough)))
+      (append-all (λ p. length p ≡ coefficientCount) (map shift (below l)) (map shift (last l)) (below-width l enough)
+      (last-width l enough)))
       (side-width, tt))
 
   -- A shifted row within the limit is held by its numbers.

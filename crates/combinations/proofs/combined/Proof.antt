@@ -23,8 +23,8 @@ use Rattle.polynomials.specs.Content.{Below}
 use Rattle.working_rows.specs.declared.WorkingRow.{WorkingRow}
 use Rattle.working_rows.specs.Working.{Full, numbersHeld, length-held, small-apart}
 use Rattle.working_rows.specs.Worked.{Shown, refusalOf}
-use Rattle.combinations.specs.Combination.{combinations, lowNumbers, low-degrees, combinations-apart, low-apart, cut-low, numbers-below}
-use Rattle.combinations.specs.Combination.{StoreRow-primitive}
+use Rattle.combinations.specs.Combination.{combinations, lowNumbers, low-degrees, combinations-apart, low-apart, cut-low}
+use Rattle.combinations.specs.Combination.{numbers-below, StoreRow-primitive}
 use Rattle.combinations.specs.Primitive.{isLow, primitiveNumbers, limit-past, limit-low, cut-primitive}
 use Rattle.combinations.proofs.combined.Statement.{statement}
 use Rattle.combinations.proofs.combined.Tie as tie
@@ -198,7 +198,8 @@ module _ (c : tie.After-low-combination) where
   abbrev origin : tie.Start
   origin = base tested
 
-  entries-are : c .low-combination .last .0 ≡ lowNumbers polynomialCount (g origin) (h origin) (target origin .entries) (pivot origin .entries)
+  entries-are : c .low-combination .last .0 ≡ lowNumbers polynomialCount (g origin) (h origin) (target origin .entries)
+      (pivot origin .entries)
   entries-are =
       c .low-combination .ensures
       ∙ ap (λ n. lowNumbers (n / coefficientCount) (g origin) (h origin) (target origin .entries) (pivot origin .entries))
@@ -233,7 +234,8 @@ primitive-part-requires : tie.Need-primitive-part-requires
 primitive-part-requires c κs =
     let d = c .before in
     let b = row d in (
-      subst (Below (2 ^ 63)) (sym (entries-are (left d))) (fits b (target b .entries) (pivot b .entries) (small-target b .0) (small-pivot b .0) polynomialCount),
+      subst (Below (2 ^ 63)) (sym (entries-are (left d))) (fits b (target b .entries) (pivot b .entries) (small-target b .0)
+          (small-pivot b .0) polynomialCount),
       subst (Below (2 ^ 63)) (sym (right-is d)) (fits b (target b .right) (pivot b .right) (small-target b .1) (small-pivot b .1) 1),
     )
 
@@ -254,7 +256,8 @@ returns-3 c =
     in
     let held = cut-primitive r (subst T (sym low) tt) ∙ ap primitiveNumbers numbers in
     let whole = ap rowOf (sym held) ∙ rowOf-coefficientsOf (cut (primitive r)) (StoreRow-primitive (g b) (h b) t u (some b) (long b)) in
-    subst (Shown _ _) (ap (λ q. consistent (limitCoefficients q)) whole ∙ ap consistent (sym (limit-low r low))) (c .primitive-part .ensures)
+    subst (Shown _ _) (ap (λ q. consistent (limitCoefficients q)) whole ∙ ap consistent (sym (limit-low r low)))
+    (c .primitive-part .ensures)
 
 pub combined-spec : {M : Type 1} → statement M
 combined-spec =

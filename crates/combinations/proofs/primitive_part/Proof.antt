@@ -84,7 +84,11 @@ cast-divide-in-place-2 c = fits (c .before .before .before .before .before)
 
 divide-in-place-requires-2 : tie.Need-divide-in-place-requires-2
 divide-in-place-requires-2 c κs =
-    let here = c .before .before .before .before .before in (start here .pre .1, positive here (c .before .before .before .before .if1 .left))
+    let here = c .before .before .before .before .before in (
+      start here .pre .1,
+      positive here
+          (c .before .before .before .before .if1 .left),
+    )
 
 consistent-requires-2 : tie.Need-consistent-requires-2
 consistent-requires-2 c κs = search needs

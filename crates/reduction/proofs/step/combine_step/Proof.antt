@@ -203,7 +203,8 @@ module _ (c : tie.After-combined) where
       (row-call .row-at .ensures .0) (held-is rooted) (listing-call .list-roots .ensures)
 
   -- the code's multipliers and rows are those of the definition
-  new-is : consistent (limitDegrees (primitive (combine (multiplied rooted .multipliers-at .result .g) (multiplied rooted .multipliers-at .result .h)
+  new-is : consistent (limitDegrees (primitive (combine (multiplied rooted .multipliers-at .result .g)
+      (multiplied rooted .multipliers-at .result .h)
       (rowOf (numbersHeld (origin .args .target))) (rowOf (numbersHeld (origin .args .pivot)))))) ≡ new origin
   new-is =
       λ k. consistent (limitDegrees (primitive (combine (g-is (multiplied rooted) k) (h-is (multiplied rooted) k)

@@ -183,8 +183,11 @@ returns : tie.Need-returns
 returns c =
     let call = c .before .before in
     let d = call .before .before .before .before in
-    let combine = call .combine-step in
-    (reached (b d) (d .save2 .last .0) (combine .last .0) (combine .last .1 .0) (combine .result) (narrowed-is d) (combine .ensures .0), combine .ensures .1)
+    let combine = call .combine-step in (
+      reached (b d) (d .save2 .last .0) (combine .last .0) (combine .last .1 .0) (combine .result) (narrowed-is d)
+          (combine .ensures .0),
+      combine .ensures .1,
+    )
 
 combine-step-requires-2 : tie.Need-combine-step-requires-2
 combine-step-requires-2 c κs =

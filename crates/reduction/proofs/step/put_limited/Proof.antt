@@ -13,8 +13,11 @@ answer-requires c κs = search needs
 
 returns : tie.Need-returns
 returns c =
-    let args = c .before .before .args in
-    (sym (saved-none (now (args .rows)) (args .i) (args .worked .refusal) (numbersHeld (args .worked .row)) (c .before .if1 .taken)), c .answer .ensures)
+    let args = c .before .before .args in (
+      sym (saved-none (now (args .rows)) (args .i) (args .worked .refusal) (numbersHeld (args .worked .row))
+          (c .before .if1 .taken)),
+      c .answer .ensures,
+    )
 
 mul-save : tie.Need-mul-save
 mul-save c = search needs

@@ -89,7 +89,8 @@ module _ (c : tie.After-load) where
   left-nonzero n = sym (width-zero (row start)) ∙ ne-eqb (width (row start)) 0 (λ e. n (loaded .width-is ∙ e))
 
   leading-is : leadingBlock (rowOf (held .entries)) ≡ leadingBlock (row start)
-  leading-is = sym (leading-held (held .entries) (held .right) (loaded .full .entries-long)) ∙ ap (λ l. leadingBlock (rowOf l)) (loaded .numbers)
+  leading-is = sym (leading-held (held .entries) (held .right) (loaded .full .entries-long)) ∙ ap (λ l. leadingBlock (rowOf l))
+      (loaded .numbers)
 
   entry-is : entry (rowOf (held .entries)) ≡ entry (row start)
   entry-is = sym (entry-held (held .entries) (held .right) (loaded .full .entries-long)) ∙ ap (λ l. entry (rowOf l)) (loaded .numbers)

@@ -65,7 +65,8 @@ loop-again c =
     c .before .save-relation .ensures
     ∙ ap (λ z. paste (at .loop .relations) ((args .count + k) * relationLength) (z ∷ now (args .row)) relationLength) value in
     let small-listed = every-listing (sideOf (args .side)) small (held (args .found)) (at .before .pre .1 .0) in
-    let more = relisted-more (args .count) k (now (args .row)) (listed at) (now (args .relations)) (at .loop .relations) (at .loop .inv .1 .1)
+    let more = relisted-more (args .count) k (now (args .row)) (listed at) (now (args .relations)) (at .loop .relations)
+    (at .loop .inv .1 .1)
     (rw (size at) (omega arith)) (omega arith) (at .before .pre .1 .2) (at .before .pre .1 .1) small-listed in
     (omega arith, (refl, rw stored more))
 

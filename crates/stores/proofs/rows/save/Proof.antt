@@ -62,7 +62,8 @@ same-length : tie.Need-same-length Inv-loop μ-loop
 same-length c = search needs
 
 returns : tie.Need-returns Inv-loop μ-loop
-returns c = let all : c .before .loop .i ≡ length (now (c .before .before .args .numbers)) = omega arith in rw all at (c .before .loop .inv .1 .1)
+returns c = let all : c .before .loop .i ≡ length (now (c .before .before .args .numbers)) = omega arith in rw all at
+    (c .before .loop .inv .1 .1)
 
 pub save-spec : {M : Type 1} → statement M
 save-spec =

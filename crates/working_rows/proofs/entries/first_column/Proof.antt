@@ -47,7 +47,8 @@ loop-again c =
 
 returns : tie.Need-returns Inv-loop μ-loop
 unfolding foundOr
-returns c = sym (ap (foundOr columnCount) (column-none (now (c .before .before .args .entries)) (rw (c .if1 .taken) at (c .before .loop .inv .1))))
+returns c = sym (ap (foundOr columnCount) (column-none (now (c .before .before .args .entries)) (rw (c .if1 .taken) at
+    (c .before .loop .inv .1))))
 
 returns-2 : tie.Need-returns-2 Inv-loop μ-loop
 unfolding foundOr

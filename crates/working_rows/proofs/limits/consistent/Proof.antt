@@ -51,7 +51,8 @@ module _ (c : tie.Else1) where
   tested : (t : Bool) → contradicts r ≡ t → consistent (limitCoefficients r) ≡ cond t (beyond 10) (within r)
   tested t e = consistent-passed r zero ∙ ap (λ t. cond t (beyond 10) (within r)) e
 
-  kept : contradicts r ≡ false → Shown (c .before .limited .result .refusal) (c .before .limited .result .row) (consistent (limitCoefficients r))
+  kept : contradicts r ≡ false → Shown (c .before .limited .result .refusal) (c .before .limited .result .row)
+      (consistent (limitCoefficients r))
   kept e = subst (Shown _ _) (limit-zero r zero ∙ sym (tested false e)) (c .before .limited .ensures)
 
 limited-requires : tie.Need-limited-requires
@@ -61,7 +62,8 @@ returns : tie.Need-returns
 returns c =
     let args = c .before .before .args in
     let shown = c .before .limited .ensures in
-    subst (Shown _ _) (sym (consistent-refused (limitCoefficients (rowOf (args .entries ++ args .t2))) (λ e. c .if1 .taken (shown .0 ∙ e)))) shown
+    subst (Shown _ _)
+    (sym (consistent-refused (limitCoefficients (rowOf (args .entries ++ args .t2))) (λ e. c .if1 .taken (shown .0 ∙ e)))) shown
 
 returns-2 : tie.Need-returns-2
 returns-2 c =

@@ -88,7 +88,8 @@ returns-3 c =
     let passed = sym (first .before .all-small .ensures) ∙ not-false _ (first .if1 .left) in
     let also = sym (second .all-small2 .ensures) ∙ not-false _ (c .before .if2 .left) in
     let whole = every-append small (entries b) (right b) ∙ sym (and-second _ _ passed) ∙ also in
-    let row = ap₂ workingOf (sym (left-held (entries b) (right b) (long b))) (sym (right-held (entries b) (right b) (long b) (right-long b))) in
+    let row = ap₂ workingOf (sym (left-held (entries b) (right b) (long b))) (sym (right-held (entries b) (right b) (long b)
+    (right-long b))) in
     subst (Shown _ _) (sym (limit-within (rowOf (entries b ++ right b)) (entries b ++ right b) (held b) whole))
     (refl, c .working .ensures ∙ row)
 

@@ -38,7 +38,8 @@ returns c =
     let row = start .args .row in
     let full = start .pre .1 in
     c .before .save2 .ensures
-    ∙ ap₂ (λ d n. paste d (at + entriesLength) (row .right) n) (first .save .ensures ∙ ap (paste store at (row .entries)) (full .entries-long))
+    ∙ ap₂ (λ d n. paste d (at + entriesLength) (row .right) n) (first .save .ensures ∙ ap (paste store at (row .entries))
+    (full .entries-long))
     (full .right-long)
     ∙ paste-joined store (row .entries) (row .right) at entriesLength coefficientCount (full .entries-long) (full .right-long) (omega arith)
 
