@@ -9,20 +9,22 @@
 --   field-numbered    a number with its separator
 --   between-judging   a range is judged so
 --   sheet-numbered    a whole sheet
-use Prim.Native.Nat.{ℕ, zero, suc, _*_, _≤_}
+use Prim.Native.Nat.{ℕ, zero, suc, _*_, _≤_, _+_}
 use native.Mathlib.Omega.{arith}
 use mathlib.Core.Bool.{Bool, true, false, _&&_, _||_, not, cond}
 use mathlib.Core.List.{List, [], _∷_}
+use lib.ListN.{length}
 use lib.Dec.{eqb}
 use lib.IntN.{ℤ, pos, negℤ, natAbs, _-ℤ_}
 use lib.Signed.{leZ, ltZ}
-use Rattle.algebra.specs.Polynomials.{isZeroℤ}
+use Rattle.algebra.specs.Polynomials.{isZeroℤ, isZero}
+use Rattle.lists.specs.Tests.{every}
 use Rattle.rules.specs.Limits.{coefficientCount, columnCount, mostRelations, blockBound, small}
 use Rattle.rules.specs.Stores.{Sizes, equations, span}
 use Rattle.rules.specs.Numbers.{newline, word, afterWord, beginsNumber, isNumber, numberOf, Read, got, fault, thenRead, judged, readWord}
 use Rattle.rules.specs.Numbers.{readSeparator, field}
 use Rattle.rules.specs.Numbers.{between, judgeSmall}
-use Rattle.rules.specs.Sheets.{contains, judgeLowest, judgeLast, judgeBlock, judgeColumn, judgeOrder, judgeOrderCount}
+use Rattle.rules.specs.Sheets.{contains, judgeLowest, judgeLast, judgeBlock, judgeColumn, judgeOrder, judgeOrderCount, judgeSide, readSide, readSides, readFifth, readRest}
 use Rattle.rules.specs.Sheets.{Sheet, parting, readSizes, readCoefficients, readTerm, readTerms, readEquation, readEquations, readRelation}
 use Rattle.rules.specs.Sheets.{readRelations, readColumns, readOrder, readEnd, readSheet}
 
@@ -129,6 +131,10 @@ orderCount-judging : (m : ℕ) → Judging (judgeOrderCount m)
 unfolding judgeOrderCount
 orderCount-judging m v = one-of (isZeroℤ v || isZeroℤ (v -ℤ pos m)) fine two
 
+side-judging : (needed : Bool) → Judging (judgeSide needed)
+unfolding judgeSide
+side-judging needed v = one-of (leZ (pos 0) v && leZ v (pos coefficientCount)) (one-of (needed && isZeroℤ v) three fine) two
+
 -- ---- the sections
 
 sizes-numbered : (bytes : List ℕ) → Numbered (readSizes bytes)
@@ -204,6 +210,32 @@ unfolding readEnd
 end-numbered sheet [] = read sheet []
 end-numbered sheet (b ∷ bytes) = numbered 3 (omega arith) (omega arith)
 
+side-numbered : (needed : Bool) (bytes : List ℕ) → Numbered (readSide needed bytes)
+unfolding readSide
+side-numbered needed bytes =
+    then-numbered _ _ (field-numbered _ _ (side-judging needed) bytes) λ k rest.
+    then-numbered _ _ (coefficients-numbered newline (natAbs k) rest) λ p more. read _ _
+
+sides-numbered : (k others : ℕ) (none : Bool) (bytes : List ℕ) → Numbered (readSides k others none bytes)
+unfolding readSides
+sides-numbered zero others none bytes = read [] bytes
+sides-numbered (suc k) others none bytes =
+    then-numbered _ _ (side-numbered (none && eqb (k + others) 0) bytes) λ p rest.
+    then-numbered _ _ (sides-numbered k others (none && isZero p) rest) λ ps more. read _ _
+
+fifth-numbered : (sheet : Sheet) (bytes : List ℕ) → Numbered (readFifth sheet bytes)
+unfolding readFifth
+fifth-numbered sheet bytes =
+    let n = length (sheet .rows) + length (sheet .relations) in
+    then-numbered _ _ (field-numbered _ _ (between-judging (pos n) (pos n)) bytes) λ _ bytes₁.
+    then-numbered _ _ (sides-numbered (length (sheet .rows)) (length (sheet .relations)) true bytes₁) λ ps bytes₂.
+    then-numbered _ _ (sides-numbered (length (sheet .relations)) 0 (every isZero ps) bytes₂) λ qs bytes₃. read _ _
+
+rest-numbered : (sheet : Sheet) (bytes : List ℕ) → Numbered (readRest sheet bytes)
+unfolding readRest
+rest-numbered sheet [] = read sheet []
+rest-numbered sheet (b ∷ bytes) = then-numbered _ _ (fifth-numbered sheet (b ∷ bytes)) λ x rest. end-numbered x rest
+
 -- ---- the whole sheet
 
 pub sheet-numbered : (bytes : List ℕ) → Numbered (readSheet bytes)
@@ -215,4 +247,4 @@ sheet-numbered bytes =
     then-numbered _ _ (field-numbered _ _ (between-judging (pos 0) (pos mostRelations)) bytes₃) λ count bytes₄.
     then-numbered _ _ (relations-numbered z (natAbs count) bytes₄) λ relations bytes₅.
     then-numbered _ _ (order-numbered (z .m) bytes₅) λ order bytes₆.
-    end-numbered _ bytes₆
+    rest-numbered _ bytes₆

@@ -17,9 +17,9 @@ use lib.ListN.{length, length-map}
 use Rattle.algebra.specs.Polynomials.{Polynomial}
 use Rattle.algebra.specs.Roots.{roots}
 use Rattle.rules.specs.Limits.{mostRelations}
-use Rattle.rules.specs.Rows.{Row, Relation, zeroRow, width, entry, firstNonzero, leadingBlock, combine, primitive, shiftUp}
+use Rattle.rules.specs.Rows.{Row, Relation, zeroRow, width, entry, firstNonzero, leadingBlock, combine, primitive, shiftUp, contradicts}
 use Rattle.rules.specs.Rows.{mirrorRow, mirrorRelation}
-use Rattle.rules.specs.Elimination.{Side, leading, trailing, Multipliers, State, Outcome, going, done, refused, Limited}
+use Rattle.rules.specs.Elimination.{Side, leading, trailing, Multipliers, State, Outcome, going, done, refused, Limited, consistent}
 use Rattle.rules.specs.Elimination.{within, beyond}
 use Rattle.rules.specs.Elimination.{start, enough, finished, step, workOn, meet, settleOrShift, shiftStep, eliminateStep}
 use Rattle.rules.specs.Elimination.{narrowFirst, combineStep}
@@ -89,7 +89,7 @@ combine-alike s l p i j x =
     listed = listRelations s (rootRelations leading (x .g) (rowAt s i))
 
     new : Limited
-    new = limitDegrees (primitive (combine (x .g) (x .h) (rowAt s i) (rowAt s j)))
+    new = consistent (limitDegrees (primitive (combine (x .g) (x .h) (rowAt s i) (rowAt s j))))
 
     rest : Side → List Relation → Outcome
     rest side m = putLimited (relist s (m ++ rootRelations side (x .g) (rowAt s i))) i new
@@ -129,7 +129,8 @@ eliminate-alike s l p i j =
 step-alike : (s : State) (l : List Relation) → List·Permᴰ l (s .relations) → Alike (step trailing (relist s l)) (step leading s)
 unfolding step workOn rowAt meet
 step-alike s l p =
-    cond-alike (zeroRow (rowAt s i)) (both-refused 6) (met (firstNonzero (map (entry (rowAt s i)) (s .order))))
+    cond-alike (zeroRow (rowAt s i)) (both-refused 6)
+    (cond-alike (contradicts (rowAt s i)) (both-refused 10) (met (firstNonzero (map (entry (rowAt s i)) (s .order)))))
   where
     i : ℕ
     i = length (s .order)

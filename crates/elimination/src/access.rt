@@ -1,9 +1,12 @@
-// Where one polynomial of a row store stands; rows and columns are counted from 1 (SCOPE 3.2, 3.23).
+// Where one polynomial or right side of a row store stands; rows and columns are counted from 1 (SCOPE 3.2, 3.23).
+use stores::lengths::ENTRIES;
 use stores::lengths::ROW;
 ghost use mathlib.Core.Path.{_≡_};
 ghost use mathlib.Core.Bool.{_&&_};
+ghost use Prim.Native.Nat.{pred, _+_, _*_, _≤_};
 ghost use lib.Dec.{T};
 ghost use lib.Signed.{leZ};
+ghost use Rattle.rules.specs.Limits.{mostEquations, entriesLength, rowLength};
 ghost use Rattle.rules.specs.Stores.{sizesRight};
 ghost use Rattle.rules.specs.Calls as Calls;
 ghost use Rattle.stores.specs.Validity.{sizesOf};
@@ -46,4 +49,12 @@ pub(crate) fn place_of(
     let l = sizes.l;
     let down = (l - block) as usize;
     (row - 1) * ROW + down * 64 + (column - 1) * 16
+}
+
+// Where the sixteen numbers of a right side begin: behind the entries of its row (SCOPE 3.2).
+pub(crate) fn side_of(row: usize) -> usize
+    requires { ⌜ (1 ≤ row) × (row ≤ mostEquations) ⌝ }
+    ensures { λ r. ⌜ r ≡ pred row * rowLength + entriesLength ⌝ }
+{
+    (row - 1) * ROW + ENTRIES
 }

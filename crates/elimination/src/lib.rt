@@ -1,10 +1,11 @@
-// The public runs on lent stores, `run_leading` and `run_trailing`, and the access to one polynomial of a row store: no
-// `requires`, and contracts that give the result and each lent store by equations with `rules` (SCOPE 9.1, 9.2).
+// The public runs on lent stores, `run_leading` and `run_trailing`, and the access to one polynomial or right side of a row
+// store: no `requires`, and contracts that give the result and each lent store by equations with `rules` (SCOPE 9.1, 9.2).
+use polynomials::lengths::COEFFICIENTS;
 use sides::Side;
 use stores::lengths::ROW;
 ghost use mathlib.Core.Path.{_≡_};
 ghost use Rattle.rules.specs.Elimination.{leading, trailing};
-ghost use Rattle.rules.specs.Calls.{callRun, polynomialCheck, polynomialPart};
+ghost use Rattle.rules.specs.Calls.{callRun, polynomialCheck, polynomialPart, rightSideCheck, rightSidePart};
 ghost use Rattle.stores.specs.Validity.{sizesOf};
 ghost use Rattle.runs.specs.CallLaws.{callOf};
 
@@ -75,4 +76,33 @@ pub fn polynomial(
     }
     let place = access::place_of(sizes, row, block, column);
     &rows[place..place + 16]
+}
+
+// 2 where a size is out of its range or there is no such row, otherwise 1 where the store is too short for the rows, otherwise 0
+// (SCOPE 3.45).
+pub fn check_right_side(rows: &[i64], sizes: stores::validity::Sizes, row: usize) -> u8
+    ensures { λ r. ⌜ r ≡ rightSideCheck (now (rows .entry)) (sizesOf sizes) row ⌝ }
+{
+    if !stores::validity::sizes_right(sizes) {
+        return 2;
+    }
+    if !stores::validity::counted(row, sizes.m) {
+        return 2;
+    }
+    if rows.len() < sizes.m * ROW {
+        return 1;
+    }
+    0
+}
+
+// The part of the row store that holds the right side of a row: sixteen coefficients, lowest power first; the empty part
+// where the check is not 0 (SCOPE 3.45).
+pub fn right_side(rows: &[i64], sizes: stores::validity::Sizes, row: usize) -> &[i64]
+    ensures { λ r. ⌜ now r ≡ rightSidePart (now (rows .entry)) (sizesOf sizes) row ⌝ }
+{
+    if check_right_side(rows, sizes, row) != 0 {
+        return &rows[0..0];
+    }
+    let place = access::side_of(row);
+    &rows[place..place + COEFFICIENTS]
 }

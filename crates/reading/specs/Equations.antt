@@ -24,7 +24,7 @@ use borrow.Rule.Slice.PartMut.{midOf, putMid, mid-len, post-is}
 use lib.Dec.{T, ltb}
 use lib.IntN.{ℤ, pos, natAbs, _-ℤ_}
 use lib.Signed.{ltZ, ltZ-yes, ≤ℤ-refl, clashℤ, pos-natAbs, _≤ℤ_, _<ℤ_}
-use Rattle.rules.specs.Limits.{coefficientCount, columnCount, blockCount, rowLength, mostSpan, blockLength}
+use Rattle.rules.specs.Limits.{coefficientCount, columnCount, blockCount, entriesLength, rowLength, mostSpan, blockLength}
 use Rattle.rules.specs.Rows.{Row, Block}
 use Rattle.lists.specs.Everywhere.{All}
 use Rattle.rules.specs.Stores.{Sizes, span, rowOf, sizesRight}
@@ -32,7 +32,7 @@ use Rattle.lists.specs.Parts.{parts, parts-length, getD-parts}
 use Rattle.lists.specs.Images.{getD-map, map-set}
 use Rattle.rules.specs.Layout.{size-bounds, block-place, blockOf}
 use Rattle.lists.specs.Padded.{length-padTo, padTo-all, padTo}
-use Rattle.lists.specs.Pasted.{parts-paste, parts-paste-in}
+use Rattle.lists.specs.Pasted.{parts-paste, parts-paste-in, paste-rest}
 use Rattle.rules.specs.Calls.{zeros}
 use Rattle.rules.specs.Numbers.{Read, got, fault, thenRead, field, between, space, newline}
 use Rattle.rules.specs.Sheets.{Term, putTerm, rowOfTerms, blankRow, readTerm, readTerms, readEquation, parting, afterCount, always}
@@ -88,18 +88,23 @@ module _ {A : Type 0} (K k n m : ℕ) (l p : List A) (b c : ℕ) (hb : b < n) (h
       fits : c * k + k ≤ K
       fits = omega (arith, mul-le-mul-right {m = suc c} {n = m} k hc, suc-mul c k)
 
-rowOf-is : (l : List ℤ) → rowOf l ≡ record { blocks = map blockOf (parts blockLength blockCount l) }
+pub rowOf-is : (l : List ℤ)
+    → rowOf l ≡ record { blocks = map blockOf (parts blockLength blockCount l); right = take coefficientCount (drop entriesLength l) }
 unfolding rowOf
 rowOf-is l = refl
 
 pub rowOf-paste : (l p : List ℤ) (b c : ℕ) → length l ≡ rowLength → length p ≡ coefficientCount → b < blockCount → c < columnCount
     → rowOf (paste l (b * blockLength + c * coefficientCount) p coefficientCount)
-    ≡ record { blocks = set (rowOf l .blocks) b (set (getD (rowOf l .blocks) b []) c p) }
+    ≡ record { blocks = set (rowOf l .blocks) b (set (getD (rowOf l .blocks) b []) c p); right = rowOf l .right }
 rowOf-paste l p b c el ep hb hc =
     rowOf-is (paste l (b * blockLength + c * coefficientCount) p coefficientCount)
-    ∙ ap (λ bs. record { blocks = bs })
+    ∙ ap₂ (λ bs side. record { blocks = bs; right = take coefficientCount side })
     (blocks-paste blockLength coefficientCount blockCount columnCount l p b c hb hc refl (omega arith) ep)
-    ∙ ap (λ r. record { blocks = set (r .blocks) b (set (getD (r .blocks) b []) c p) }) (sym (rowOf-is l))
+    (paste-rest l (b * blockLength + c * coefficientCount) p coefficientCount entriesLength (omega (arith, before)) (le-of-eq (sym ep)) before)
+    ∙ ap (λ r. record { blocks = set (r .blocks) b (set (getD (r .blocks) b []) c p); right = r .right }) (sym (rowOf-is l))
+  where
+    before : b * blockLength + c * coefficientCount + coefficientCount ≤ entriesLength
+    before = omega arith
 
 -- ---- terms at different places may change their order
 
@@ -129,7 +134,8 @@ placeNumber l e = natAbs (l -ℤ e .block) * columnCount + pred (e .column)
 putColumn : Term → Block → Block
 putColumn e b = set b (pred (e .column)) (padTo coefficientCount (pos 0) (e .polynomial))
 
-putTerm-is : (l : ℤ) (e : Term) (r : Row) → putTerm l e r ≡ record { blocks = update [] (r .blocks) (natAbs (l -ℤ e .block)) (putColumn e) }
+putTerm-is : (l : ℤ) (e : Term) (r : Row)
+    → putTerm l e r ≡ record { blocks = update [] (r .blocks) (natAbs (l -ℤ e .block)) (putColumn e); right = r .right }
 unfolding putTerm update putColumn
 putTerm-is l e r = refl
 
@@ -138,7 +144,7 @@ putTerm-comm : (l : ℤ) (e f : Term) (r : Row) → (placeNumber l e ≡ placeNu
 unfolding update putColumn placeNumber
 putTerm-comm l e f r h =
     twice e f
-    ∙ ap (λ bs. record { blocks = bs }) (blocks (ℕ-discrete (natAbs (l -ℤ f .block)) (natAbs (l -ℤ e .block))))
+    ∙ ap (λ bs. record { blocks = bs; right = r .right }) (blocks (ℕ-discrete (natAbs (l -ℤ f .block)) (natAbs (l -ℤ e .block))))
     ∙ sym (twice f e)
   where
     twice : (e f : Term)
@@ -146,9 +152,10 @@ putTerm-comm l e f r h =
         ≡ record {
           blocks = update [] (update [] (r .blocks) (natAbs (l -ℤ f .block)) (putColumn f)) (natAbs (l -ℤ e .block))
               (putColumn e);
+          right = r .right;
         }
     twice e f = putTerm-is l e (putTerm l f r)
-        ∙ ap (λ q. record { blocks = update [] (q .blocks) (natAbs (l -ℤ e .block)) (putColumn e) }) (putTerm-is l f r)
+        ∙ ap (λ q. record { blocks = update [] (q .blocks) (natAbs (l -ℤ e .block)) (putColumn e); right = q .right }) (putTerm-is l f r)
 
     same : (k : ℕ) → (pred (f .column) ≡ pred (e .column) → ⊥)
         → update [] (update [] (r .blocks) k (putColumn f)) k (putColumn e)
@@ -320,7 +327,7 @@ putTerm-padTerm : (l : ℤ) (e : Term) (r : Row) → putTerm l (padTerm e) r ≡
 unfolding padTerm putColumn
 putTerm-padTerm l e r =
     putTerm-is l (padTerm e) r
-    ∙ ap (λ p. record { blocks = update [] (r .blocks) (natAbs (l -ℤ e .block)) (λ b. set b (pred (e .column)) p) })
+    ∙ ap (λ p. record { blocks = update [] (r .blocks) (natAbs (l -ℤ e .block)) (λ b. set b (pred (e .column)) p); right = r .right })
     (padTo-all coefficientCount (pos 0) _ (length-padTo coefficientCount (pos 0) (e .polynomial)))
     ∙ sym (putTerm-is l e r)
 
@@ -423,6 +430,7 @@ put-is z s₀ c₀ e row sizes right whole long =
     ∙ ap (λ p. record {
       blocks = set (rowOf row .blocks) (natAbs (z .l -ℤ e .block))
           (set (getD (rowOf row .blocks) (natAbs (z .l -ℤ e .block)) []) (pred (e .column)) p);
+      right = rowOf row .right;
     })
     (sym (padTo-all coefficientCount (pos 0) (e .polynomial) whole))
     ∙ sym (putTerm-is (z .l) e (rowOf row))

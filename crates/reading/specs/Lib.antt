@@ -3,6 +3,7 @@ pub mod Terms
 pub mod Equations
 pub mod Sections
 pub mod OrderLine
+pub mod Sides
 pub mod WholeSheet
 pub mod ReadCalls
 pub mod OwnStores

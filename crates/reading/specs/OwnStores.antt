@@ -1,11 +1,12 @@
 -- A sheet read straight into stores of the largest sizes that are zero: they then are what the call that reads it leaves.
 --
 -- Main statements
+--   head-front, sheet-front   a sheet read into the needed part of the row store, and into the whole store
 --   call-holds           the rows and the relations that were read, and zeros past them
-use Prim.Native.Nat.{ℕ, _*_, _-_, _≤_}
+use Prim.Native.Nat.{ℕ, zero, suc, _*_, _-_, _≤_}
 use native.Mathlib.Nat.{zero-add, le-of-eq}
 use native.Mathlib.Omega.{arith}
-use mathlib.Core.Path.{_≡_, sym, ap, ap₂, _∙_}
+use mathlib.Core.Path.{_≡_, refl, sym, ap, ap₂, _∙_}
 use mathlib.Core.Bool.{true, _&&_}
 use mathlib.Core.List.{List, _++_, append-nil}
 use borrow.Author.Tests.{le-leb}
@@ -13,15 +14,48 @@ use lib.ListN.{length, take, drop, take-append-drop, drop-of-length-le}
 use lib.Seq.{take-all}
 use lib.IntN.{ℤ}
 use Rattle.rules.specs.Limits.{mostEquations, rowLength, relationLength, mostRelations}
-use Rattle.rules.specs.Stores.{equations, rowsOf, relationsOf, rowNeed, largestRows, relationNeed, rowStoreOf, relationStoreOf}
+use Rattle.rules.specs.Stores.{Sizes, equations, rowsOf, relationsOf, rowNeed, largestRows, relationNeed, rowStoreOf, relationStoreOf}
 use Rattle.rules.specs.Stores.{lengthsRight}
 use Rattle.rules.specs.Layout.{length-relationsOf, length-relationStoreOf, StoreRelation-relationsOf}
 use Rattle.rules.specs.Calls.{zeros}
 use Rattle.lists.specs.Overwritten.{overwrite}
+use Rattle.rules.specs.Numbers.{got, thenRead}
+use Rattle.rules.specs.Sheets.{Sheet, readRelations, readRest}
 use Rattle.rules.specs.SheetCalls.{ReadResult, ReadCall, readCall}
-use Rattle.reading.specs.WholeSheet.{SheetRead}
+use Rattle.tokens.specs.Fields.{readOf}
+use Rattle.reading.specs.WholeSheet.{sheet, orderSection, HeadTo, SheetRead}
+use Rattle.reading.specs.Sections.{rowsOf-front}
 use Rattle.reading.specs.Zeros.{length-zeros, drop-zeros}
 use Rattle.reading.specs.ReadCalls.{rows-filled, relationStore-again, call-fills}
+
+-- The rows stand in the needed part of their store.
+pub head-front : {bytes : List ℕ} {z : Sizes} {count at : ℕ} {rows : List ℤ} (part rest : List ℤ) → HeadTo bytes z count at rows
+    → rows ≡ part ++ rest → length part ≡ rowNeed (equations z) → HeadTo bytes z count at part
+head-front {bytes} {z} {count} {at} part rest head e long =
+    record {
+      within = head .within;
+      right = head .right;
+      few = head .few;
+      rest =
+          head .rest
+          ∙ ap (λ rows. thenRead (thenRead (readRelations z count (drop at bytes)) (orderSection z rows)) readRest)
+          (ap (rowsOf (equations z)) e ∙ rowsOf-front (equations z) part rest long);
+    }
+
+pub sheet-front : {bytes : List ℕ} {r : ReadResult} {part relations : List ℤ} (rest : List ℤ) → SheetRead bytes r part relations
+    → (r .refusal ≡ 0 → length part ≡ rowNeed (equations (r .sizes))) → SheetRead bytes r (part ++ rest) relations
+unfolding readOf
+sheet-front {bytes} {r} {part} {relations} rest read long =
+    record { answer = by (r .refusal) refl ∙ read .answer; few-rows = read .few-rows; few = read .few }
+  where
+    held : List ℤ → Sheet
+    held rows = sheet (r .sizes) (rowsOf (equations (r .sizes)) rows) (relationsOf (r .relations) relations) (r .order)
+
+    by : (n : ℕ) → r .refusal ≡ n → readOf bytes n (held (part ++ rest)) (length bytes) ≡ readOf bytes n (held part) (length bytes)
+    by zero e =
+        ap (λ rows. got (sheet (r .sizes) rows (relationsOf (r .relations) relations) (r .order)) (drop (length bytes) bytes))
+        (rowsOf-front (equations (r .sizes)) part rest (long e))
+    by (suc n) e = refl
 
 module _ (bytes : List ℕ) (r : ReadResult) (rows relations : List ℤ) (read : SheetRead bytes r rows relations) (none : r .refusal ≡ 0)
     (rows-long : length rows ≡ largestRows)

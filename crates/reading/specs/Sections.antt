@@ -162,7 +162,7 @@ module _ {B : Type 0} (width : ℕ) (decode : List ℤ → B) (one : List ℕ �
 
 -- ---- relations
 
-relationOf-is : (l : List ℤ) → relationOf l ≡ record { index = getD l 0 (pos 0); row = rowOf (drop 1 l) }
+pub relationOf-is : (l : List ℤ) → relationOf l ≡ record { index = getD l 0 (pos 0); row = rowOf (drop 1 l) }
 unfolding relationOf
 relationOf-is l = refl
 

@@ -9,29 +9,31 @@
 --   sizes-is      the first line is those two halves
 --   sizes-right   sizes that were read are right
 --   sheet-is      a sheet is its sizes, its sections and its end
-use Prim.Native.Nat.{ℕ, _≤_, _<_}
+use Prim.Native.Nat.{ℕ, _+_, _≤_}
 use native.Mathlib.Nat.{le-refl}
 use mathlib.Core.Path.{_≡_, refl, sym, ap, ap₂, _∙_, subst}
 use mathlib.Core.Bool.{true, _&&_}
-use mathlib.Core.List.{List, [], _∷_}
+use mathlib.Core.List.{List, [], _∷_, zipWith}
 use lib.Dec.{T}
 use borrow.Author.Tests.{le-leb}
-use lib.ListN.{length, drop, drop-of-length-le}
-use lib.Seq.{drop-length, drop-cons}
+use lib.ListN.{length, drop}
 use lib.IntN.{ℤ, pos, negℤ, natAbs, _-ℤ_}
 use lib.Signed.{leZ, nonNeg}
 use Rattle.rules.specs.Limits.{columnCount, mostSpan, mostEquations, mostRelations}
 use Rattle.rules.specs.Stores.{Sizes, equations, sizesRight, rowsOf, relationsOf}
 use Rattle.rules.specs.Numbers.{space, newline, Read, got, fault, thenRead, field, between}
 use Rattle.rules.specs.Rows.{Row, Relation}
-use Rattle.rules.specs.Sheets.{always, judgeLowest, Sheet, readSizes, readEquations, readRelations, readOrder, readEnd, readSheet}
+use Rattle.rules.specs.Sheets.{always, judgeLowest, Sheet, readSizes, readEquations, readRelations, readOrder, readSides, readFifth, readEnd}
+use Rattle.rules.specs.Sheets.{readRest, readSheet, putSide, putRelationSide}
+use Rattle.algebra.specs.Polynomials.{isZero}
 use Rattle.lists.specs.Padded.{padTo}
 use Rattle.rules.specs.SheetCalls.{ReadResult, readRefusal}
-use Rattle.lists.specs.Tests.{both-true}
+use Rattle.lists.specs.Tests.{both-true, every}
 use Rattle.tokens.specs.Fields.{readOf, fault-of, then-got, then-fault, then-cong, then-then, then-parts, field-judged, size-between}
 use Rattle.tokens.specs.Fields.{passed, between-zero}
 use Rattle.reading.specs.Terms.{padded}
 use Rattle.reading.specs.Equations.{got-value}
+use Rattle.reading.specs.Sides.{sideSection, allSides, relationSides, nothingMore, restSection}
 use Rattle.stores.specs.Validity.{sizesOf}
 use Rattle.reading.specs.declared.sheet.SheetResult.{SheetResult}
 
@@ -163,10 +165,64 @@ readSections z bytes = thenRead (equationSection z (equations z) bytes) (relatio
 unfoldable pub padSheet : Sheet → List ℕ → Read Sheet
 padSheet s rest = got (sheet (s .sizes) (s .rows) (s .relations) (padTo columnCount 0 (s .order))) rest
 
+-- What stands behind the fourth section, put into a sheet.
+unfoldable pub withRest : Sheet → List Row × List Relation → List ℕ → Read Sheet
+withRest s q rest = got (sheet (s .sizes) (q .0) (q .1) (s .order)) rest
+
+fifth-is : (s : Sheet) (bytes : List ℕ)
+    → readFifth s bytes ≡ thenRead (sideSection (length (s .rows)) (length (s .relations)) (s .rows) (s .relations) bytes) (withRest s)
+unfolding readFifth sideSection allSides relationSides withRest thenRead
+fifth-is s bytes =
+    then-cong count
+    (λ _ rest. then-cong (readSides e r true rest)
+    (λ ps more. sym (then-then (readSides r 0 (every isZero ps) more) (λ qs last. got (
+      zipWith putSide (s .rows) ps,
+      zipWith
+          putRelationSide (s .relations) qs,
+    ) last) (withRest s)))
+    ∙ sym (then-then (readSides e r true rest) (λ ps more. relationSides r (zipWith putSide (s .rows) ps) (s .relations) (every isZero ps)
+    more) (withRest s)))
+    ∙ sym (then-then count (λ _ rest. allSides e r (s .rows) (s .relations) rest) (withRest s))
+  where
+    e : ℕ
+    e = length (s .rows)
+
+    r : ℕ
+    r = length (s .relations)
+
+    count : Read ℤ
+    count = field (between (pos (e + r)) (pos (e + r))) (always newline) bytes
+
+pub rest-is : (s : Sheet) (bytes : List ℕ)
+    → readRest s bytes ≡ thenRead (restSection (length (s .rows)) (length (s .relations)) (s .rows) (s .relations) bytes) (withRest s)
+unfolding readRest restSection withRest nothingMore
+rest-is s [] = refl
+rest-is s (b ∷ bytes) =
+    ap (λ r. thenRead r readEnd) (fifth-is s (b ∷ bytes))
+    ∙ then-then section (withRest s) readEnd
+    ∙ then-cong section end
+    ∙ sym (then-then section nothingMore (withRest s))
+  where
+    section : Read (List Row × List Relation)
+    section = sideSection (length (s .rows)) (length (s .relations)) (s .rows) (s .relations) (b ∷ bytes)
+
+    end : (q : List Row × List Relation) (rest : List ℕ) → thenRead (withRest s q rest) readEnd ≡ thenRead (nothingMore q rest) (withRest s)
+    end q [] = refl
+    end q (b ∷ rest) = refl
+
+-- It does not depend on the order.
+rest-padded : (s : Sheet) (rest : List ℕ)
+    → thenRead (readRest s rest) padSheet ≡ readRest (sheet (s .sizes) (s .rows) (s .relations) (padTo columnCount 0 (s .order))) rest
+unfolding withRest padSheet thenRead
+rest-padded s rest =
+    ap (λ r. thenRead r padSheet) (rest-is s rest)
+    ∙ then-then (restSection (length (s .rows)) (length (s .relations)) (s .rows) (s .relations) rest) (withRest s) padSheet
+    ∙ sym (rest-is (sheet (s .sizes) (s .rows) (s .relations) (padTo columnCount 0 (s .order))) rest)
+
 -- The definition, with its parts named.
 module _ (z : Sizes) where
   fromOrder : List Row → List Relation → List ℕ → Read Sheet
-  fromOrder rows relations bytes = thenRead (readOrder (z .m) bytes) λ order rest. readEnd (sheet z rows relations order) rest
+  fromOrder rows relations bytes = thenRead (readOrder (z .m) bytes) λ order rest. readRest (sheet z rows relations order) rest
 
   fromRelations : List Row → ℤ → List ℕ → Read Sheet
   fromRelations rows count bytes = thenRead (readRelations z (natAbs count) bytes) (fromOrder rows)
@@ -181,27 +237,25 @@ module _ (z : Sizes) where
   fromEquationCount bytes = thenRead (field (between (pos (equations z)) (pos (equations z))) (always newline) bytes) fromEquations
 
   order-padded : (rows : List Row) (relations : List Relation) (bytes : List ℕ)
-      → thenRead (fromOrder rows relations bytes) padSheet ≡ thenRead (orderSection z rows relations bytes) readEnd
-  unfolding fromOrder orderSection thenRead padded padSheet readEnd
-  order-padded rows relations bytes = by (readOrder (z .m) bytes)
-    where
-      end : (order : List ℕ) (rest : List ℕ)
-          → thenRead (readEnd (sheet z rows relations order) rest) padSheet
-          ≡ readEnd (sheet z rows relations (padTo columnCount 0 order)) rest
-      end order [] = refl
-      end order (b ∷ rest) = refl
-
-      by : (r : Read (List ℕ))
-          → thenRead (thenRead r λ order rest. readEnd (sheet z rows relations order) rest) padSheet
-          ≡ thenRead (thenRead (padded columnCount 0 r) λ order rest. got (sheet z rows relations order) rest) readEnd
-      by (got order rest) = end order rest
-      by (fault n) = refl
+      → thenRead (fromOrder rows relations bytes) padSheet ≡ thenRead (orderSection z rows relations bytes) readRest
+  unfolding fromOrder orderSection padded
+  order-padded rows relations bytes =
+      then-then (readOrder (z .m) bytes) (λ order rest. readRest (sheet z rows relations order) rest) padSheet
+      ∙ then-cong (readOrder (z .m) bytes)
+      (λ order rest. rest-padded (sheet z rows relations order) rest
+      ∙ sym (then-got readRest (then-got (λ order rest. got (sheet z rows relations order) rest) refl)))
+      ∙ sym
+      (ap (λ r. thenRead r readRest)
+      (then-then (readOrder (z .m) bytes) (λ order rest. got (padTo columnCount 0 order) rest)
+      (λ order rest. got (sheet z rows relations order) rest))
+      ∙ then-then (readOrder (z .m) bytes)
+      (λ order rest. thenRead (got (padTo columnCount 0 order) rest) λ order rest. got (sheet z rows relations order) rest) readRest)
 
   orderEnd : List Row → List Relation → List ℕ → Read Sheet
-  orderEnd rows relations bytes = thenRead (orderSection z rows relations bytes) readEnd
+  orderEnd rows relations bytes = thenRead (orderSection z rows relations bytes) readRest
 
   relations-padded : (rows : List Row) (bytes : List ℕ) → thenRead (fromRelationCount rows bytes) padSheet
-      ≡ thenRead (relationsThen z rows bytes) readEnd
+      ≡ thenRead (relationsThen z rows bytes) readRest
   unfolding fromRelationCount fromRelations relationsThen relationSection orderEnd
   relations-padded rows bytes =
       then-then count (fromRelations rows) padSheet
@@ -209,15 +263,15 @@ module _ (z : Sizes) where
       (λ k rest. then-then (readRelations z (natAbs k) rest) (fromOrder rows) padSheet
       ∙ then-cong (readRelations z (natAbs k) rest) (order-padded rows))
       ∙ sym (then-then count (λ k rest. readRelations z (natAbs k) rest) (orderEnd rows))
-      ∙ sym (then-then (relationSection z bytes) (orderSection z rows) readEnd)
+      ∙ sym (then-then (relationSection z bytes) (orderSection z rows) readRest)
     where
       count : Read ℤ
       count = field (between (pos 0) (pos 16)) (always newline) bytes
 
   relationsEnd : List Row → List ℕ → Read Sheet
-  relationsEnd rows bytes = thenRead (relationsThen z rows bytes) readEnd
+  relationsEnd rows bytes = thenRead (relationsThen z rows bytes) readRest
 
-  equations-padded : (bytes : List ℕ) → thenRead (fromEquationCount bytes) padSheet ≡ thenRead (readSections z bytes) readEnd
+  equations-padded : (bytes : List ℕ) → thenRead (fromEquationCount bytes) padSheet ≡ thenRead (readSections z bytes) readRest
   unfolding fromEquationCount fromEquations readSections equationSection relationsEnd
   equations-padded bytes =
       then-then count fromEquations padSheet
@@ -225,7 +279,7 @@ module _ (z : Sizes) where
       (λ _ rest. then-then (readEquations z (equations z) rest) fromRelationCount padSheet
       ∙ then-cong (readEquations z (equations z) rest) relations-padded)
       ∙ sym (then-then count (λ _ rest. readEquations z (equations z) rest) relationsEnd)
-      ∙ sym (then-then (equationSection z (equations z) bytes) (relationsThen z) readEnd)
+      ∙ sym (then-then (equationSection z (equations z) bytes) (relationsThen z) readRest)
     where
       count : Read ℤ
       count = field (between (pos (equations z)) (pos (equations z))) (always newline) bytes
@@ -236,7 +290,7 @@ sheet-parts bytes = refl
 
 -- The sections of a sheet, and its end.
 unfoldable pub sectionsEnd : Sizes → List ℕ → Read Sheet
-sectionsEnd z bytes = thenRead (readSections z bytes) readEnd
+sectionsEnd z bytes = thenRead (readSections z bytes) readRest
 
 pub sheet-is : (bytes : List ℕ) → thenRead (readSheet bytes) padSheet ≡ thenRead (readSizes bytes) sectionsEnd
 unfolding sectionsEnd
@@ -265,7 +319,7 @@ pub record HeadTo (bytes : List ℕ) (z : Sizes) (count at : ℕ) (rows : List �
   pub right : T (sizesRight z)
   pub few : count ≤ mostRelations
   pub rest : thenRead (readSheet bytes) padSheet
-      ≡ thenRead (thenRead (readRelations z count (drop at bytes)) (orderSection z (rowsOf (equations z) rows))) readEnd
+      ≡ thenRead (thenRead (readRelations z count (drop at bytes)) (orderSection z (rowsOf (equations z) rows))) readRest
 
 -- So much of a sheet was read, or it is refused.
 pub record HeadRead (bytes : List ℕ) (refusal : ℕ) (z : Sizes) (count at : ℕ) (rows : List ℤ) : Type 0 where
@@ -281,37 +335,55 @@ module _ (bytes : List ℕ) (z : Sizes) (first : List ℕ) (sizes-read : readSiz
   -- The equations, and then the relations.
   pub equations-fault : {n : ℕ} → equationSection z (equations z) first ≡ fault n → thenRead (readSheet bytes) padSheet ≡ fault n
   unfolding sectionsEnd readSections
-  equations-fault e = sheet-is bytes ∙ then-got sectionsEnd sizes-read ∙ then-fault readEnd (then-fault (relationsThen z) e)
+  equations-fault e = sheet-is bytes ∙ then-got sectionsEnd sizes-read ∙ then-fault readRest (then-fault (relationsThen z) e)
 
   module _ (rows : List Row) (second : List ℕ) (rows-read : equationSection z (equations z) first ≡ got rows second) where
-    to-relations : thenRead (readSheet bytes) padSheet ≡ thenRead (thenRead (relationSection z second) (orderSection z rows)) readEnd
+    to-relations : thenRead (readSheet bytes) padSheet ≡ thenRead (thenRead (relationSection z second) (orderSection z rows)) readRest
     unfolding sectionsEnd readSections relationsThen
-    to-relations = sheet-is bytes ∙ then-got sectionsEnd sizes-read ∙ ap (λ r. thenRead r readEnd) (then-got (relationsThen z) rows-read)
+    to-relations = sheet-is bytes ∙ then-got sectionsEnd sizes-read ∙ ap (λ r. thenRead r readRest) (then-got (relationsThen z) rows-read)
 
     pub count-fault : {n : ℕ} → field (between (pos 0) (pos 16)) (always newline) second ≡ fault n → thenRead (readSheet bytes) padSheet
         ≡ fault n
     unfolding relationSection
-    count-fault e = to-relations ∙ then-fault readEnd (then-fault (orderSection z rows) (then-fault _ e))
+    count-fault e = to-relations ∙ then-fault readRest (then-fault (orderSection z rows) (then-fault _ e))
 
     pub count-got : (count : ℤ) (third : List ℕ) → field (between (pos 0) (pos 16)) (always newline) second ≡ got count third
-        → thenRead (readSheet bytes) padSheet ≡ thenRead (thenRead (readRelations z (natAbs count) third) (orderSection z rows)) readEnd
+        → thenRead (readSheet bytes) padSheet ≡ thenRead (thenRead (readRelations z (natAbs count) third) (orderSection z rows)) readRest
     unfolding relationSection
-    count-got count third e = to-relations ∙ ap (λ r. thenRead (thenRead r (orderSection z rows)) readEnd) (then-got _ e)
+    count-got count third e = to-relations ∙ ap (λ r. thenRead (thenRead r (orderSection z rows)) readRest) (then-got _ e)
 
 module _ {bytes : List ℕ} {z : Sizes} {count at : ℕ} {rows : List ℤ} (head : HeadTo bytes z count at rows) where
   -- The relations, and then the order.
   pub relations-fault : {n : ℕ} → readRelations z count (drop at bytes) ≡ fault n → thenRead (readSheet bytes) padSheet ≡ fault n
-  relations-fault e = head .rest ∙ then-fault readEnd (then-fault (orderSection z (rowsOf (equations z) rows)) e)
+  relations-fault e = head .rest ∙ then-fault readRest (then-fault (orderSection z (rowsOf (equations z) rows)) e)
 
   module _ (relations : List Relation) (more : List ℕ) (e : readRelations z count (drop at bytes) ≡ got relations more) where
     pub order-fault : {n : ℕ} → padded columnCount 0 (readOrder (z .m) more) ≡ fault n → thenRead (readSheet bytes) padSheet ≡ fault n
     unfolding orderSection
-    order-fault f = head .rest ∙ then-fault readEnd (then-got (orderSection z (rowsOf (equations z) rows)) e ∙ then-fault _ f)
+    order-fault f = head .rest ∙ then-fault readRest (then-got (orderSection z (rowsOf (equations z) rows)) e ∙ then-fault _ f)
 
     pub order-got : (order rest : List ℕ) → padded columnCount 0 (readOrder (z .m) more) ≡ got order rest
-        → thenRead (readSheet bytes) padSheet ≡ readEnd (sheet z (rowsOf (equations z) rows) relations order) rest
+        → thenRead (readSheet bytes) padSheet ≡ readRest (sheet z (rowsOf (equations z) rows) relations order) rest
     unfolding orderSection
-    order-got order rest f = head .rest ∙ then-got readEnd (then-got (orderSection z (rowsOf (equations z) rows)) e ∙ then-got _ f)
+    order-got order rest f = head .rest ∙ then-got readRest (then-got (orderSection z (rowsOf (equations z) rows)) e ∙ then-got _ f)
+
+module _ (z : Sizes) (rows : List Row) (relations : List Relation) (order : List ℕ) (e r : ℕ) (rows-many : length rows ≡ e)
+    (relations-many : length relations ≡ r) (bytes : List ℕ) where
+  rest-counted : readRest (sheet z rows relations order) bytes
+      ≡ thenRead (restSection e r rows relations bytes) (withRest (sheet z rows relations order))
+  rest-counted =
+      rest-is (sheet z rows relations order) bytes
+      ∙ ap₂ (λ e r. thenRead (restSection e r rows relations bytes) (withRest (sheet z rows relations order))) rows-many relations-many
+
+  -- What stands behind the order.
+  pub end-fault : {n : ℕ} → restSection e r rows relations bytes ≡ fault n → readRest (sheet z rows relations order) bytes ≡ fault n
+  end-fault f = rest-counted ∙ then-fault (withRest (sheet z rows relations order)) f
+
+  pub end-got : {rows' : List Row} {relations' : List Relation} {rest : List ℕ}
+      → restSection e r rows relations bytes ≡ got (rows', relations') rest
+      → readRest (sheet z rows relations order) bytes ≡ got (sheet z rows' relations' order) rest
+  unfolding withRest
+  end-got f = rest-counted ∙ then-got (withRest (sheet z rows relations order)) f
 
 -- A result that is a refusal.
 pub refused-nonzero : (r : SheetResult) (n : ℕ) → resultOf r ≡ readRefusal n → (n ≡ 0 → ⊥) → r .refusal ≡ 0 → ⊥
@@ -334,22 +406,11 @@ module _ (bytes : List ℕ) (r : ReadResult) (rows relations : List ℤ) where
       }
 
   -- A sheet that is read to its end.
-  pub sheet-gives : (s : Sheet) (at : ℕ) → r .refusal ≡ 0
-      → sheet (r .sizes) (rowsOf (equations (r .sizes)) rows) (relationsOf (r .relations) relations) (r .order) ≡ s
-      → thenRead (readSheet bytes) padSheet ≡ readEnd s (drop at bytes) → length bytes ≤ at → equations (r .sizes) ≤ mostEquations
-      → r .relations ≤ mostRelations
-      → SheetRead bytes r rows relations
-  unfolding readOf readEnd
-  sheet-gives s at z same e end rows-few count =
-      record {
-        answer =
-            ap₂ (λ n s. readOf bytes n s (length bytes)) z same
-            ∙ ap (got s) (drop-length bytes)
-            ∙ sym (e ∙ ap (readEnd s) (drop-of-length-le bytes end));
-        few-rows = λ _. rows-few;
-        few = λ _. count;
-      }
-
-pub end-early : (s : Sheet) (bytes : List ℕ) (at : ℕ) → at < length bytes → readEnd s (drop at bytes) ≡ fault 4
-unfolding readEnd
-end-early s bytes at h = ap (readEnd s) (drop-cons bytes at 0 h)
+  pub sheet-gives : r .refusal ≡ 0
+      → thenRead (readSheet bytes) padSheet
+      ≡ got (sheet (r .sizes) (rowsOf (equations (r .sizes)) rows) (relationsOf (r .relations) relations) (r .order))
+      (drop (length bytes) bytes)
+      → equations (r .sizes) ≤ mostEquations → r .relations ≤ mostRelations → SheetRead bytes r rows relations
+  unfolding readOf held
+  sheet-gives z e rows-few count =
+      record { answer = ap (λ n. readOf bytes n held (length bytes)) z ∙ sym e; few-rows = λ _. rows-few; few = λ _. count }

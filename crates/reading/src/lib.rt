@@ -13,6 +13,7 @@ mod order;
 pub mod own;
 mod sections;
 pub mod sheet;
+mod sides;
 mod sizes;
 mod terms;
 
@@ -30,13 +31,20 @@ pub fn read_sheet(bytes: &[u8], rows: &mut [i64], relations: &mut [i64]) -> shee
     let used = h.relations * RELATION;
     if used == 0 {
         let mut none = [0i64; 1];
-        return sheet::fill(bytes, h, &row_numbers, &mut none[..used], rows, relations);
+        return sheet::fill(
+            bytes,
+            h,
+            &mut row_numbers,
+            &mut none[..used],
+            rows,
+            relations,
+        );
     }
     let mut relation_numbers = [0i64; RELATIONS];
     sheet::fill(
         bytes,
         h,
-        &row_numbers,
+        &mut row_numbers,
         &mut relation_numbers[..used],
         rows,
         relations,

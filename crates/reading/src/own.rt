@@ -19,10 +19,11 @@ pub fn read_own(bytes: &[u8], rows: &mut [i64], relations: &mut [i64]) -> crate:
         stores::rows::clear(rows, 0, h.sizes.m * ROW);
         return crate::sheet::refused(h.refusal);
     }
+    let filled = h.sizes.m * ROW;
     let used = h.relations * RELATION;
-    let r = crate::sheet::rest_at(bytes, h, &mut relations[..used]);
+    let r = crate::sheet::rest_at(bytes, h, &mut rows[..filled], &mut relations[..used]);
     if r.refusal != 0 {
-        stores::rows::clear(rows, 0, h.sizes.m * ROW);
+        stores::rows::clear(rows, 0, filled);
         stores::rows::clear(relations, 0, used);
         return crate::sheet::refused(r.refusal);
     }

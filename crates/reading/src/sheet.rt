@@ -5,12 +5,9 @@ use stores::lengths::RELATIONS;
 use stores::lengths::ROW;
 ghost use mathlib.Core.Path.{_≡_};
 ghost use Prim.Native.Nat.{_*_, _≤_};
-ghost use mathlib.Core.List.{List};
 ghost use lib.ListN.{length, drop};
-ghost use lib.IntN.{ℤ};
-ghost use lib.Dec.{T};
 ghost use Rattle.rules.specs.Limits.{rowLength, relationLength, mostEquations};
-ghost use Rattle.rules.specs.Stores.{rowsOf, relationsOf, largestRows, relationNeed, rowStoreOf, relationStoreOf, sizesRight, equations};
+ghost use Rattle.rules.specs.Stores.{rowsOf, relationsOf, largestRows, relationNeed, rowStoreOf, relationStoreOf, equations};
 ghost use Rattle.rules.specs.Calls.{zeros};
 ghost use Rattle.lists.specs.Overwritten.{overwrite};
 ghost use Rattle.rules.specs.SheetCalls.{readRefusal, readCall};
@@ -88,11 +85,17 @@ pub(crate) fn head_at(bytes: &[u8], rows: &mut [i64]) -> SheetHead
     }
 }
 
-// The relations, read into `relations`, the column order, and the end: bytes behind that are 4 (SCOPE 4.37).
-pub(crate) fn rest_at(bytes: &[u8], h: SheetHead, relations: &mut [i64]) -> SheetResult
-    requires { ⌜ (h .at ≤ length (now bytes)) × T (sizesRight (sizesOf (h .sizes))) ⌝ }
-    requires { ⌜ (h .relations ≤ 16) × (now relations ≡ zeros (h .relations * relationLength)) ⌝ }
-    ensures { λ r. ⌜ ((rows : List ℤ) → HeadTo (now (bytes .entry)) (sizesOf (h .sizes)) (h .relations) (h .at) rows → SheetRead (now (bytes .entry)) (resultOf r) rows (now (relations .exit))) ⌝ }
+// The relations, read into `relations`, the column order, and the right sides of all, read into `rows` and `relations`, where the
+// sheet has them.
+pub(crate) fn rest_at(
+    bytes: &[u8],
+    h: SheetHead,
+    rows: &mut [i64],
+    relations: &mut [i64],
+) -> SheetResult
+    requires { ⌜ HeadTo (now bytes) (sizesOf (h .sizes)) (h .relations) (h .at) (now rows) ⌝ }
+    requires { ⌜ (equations (sizesOf (h .sizes)) * rowLength ≤ length (now rows)) × (now relations ≡ zeros (h .relations * relationLength)) ⌝ }
+    ensures { λ r. ⌜ SheetRead (now (bytes .entry)) (resultOf r) (now (rows .exit)) (now (relations .exit)) ⌝ }
     ensures { λ r. ⌜ (r .refusal ≡ 0 → (equations (sizesOf (r .sizes)) ≡ equations (sizesOf (h .sizes))) × (r .relations ≡ h .relations)) ⌝ }
 {
     let sizes = h.sizes;
@@ -104,8 +107,9 @@ pub(crate) fn rest_at(bytes: &[u8], h: SheetHead, relations: &mut [i64]) -> Shee
     if o.refusal != 0 {
         return refused(o.refusal);
     }
-    if o.at < bytes.len() {
-        return refused(4);
+    let e = crate::sides::end_at(bytes, o.at, sizes.m, h.relations, rows, relations);
+    if e != 0 {
+        return refused(e);
     }
     let order = o.order;
     SheetResult {
@@ -134,13 +138,13 @@ pub(crate) fn fill_relations(store: &mut [i64], numbers: &[i64], count: usize)
     stores::rows::clear(store, used, RELATIONS - used);
 }
 
-// The rest of a sheet whose equations have been read, its relations read into `scratch`, and the lent stores filled
-// with what was read: on a refusal they are unchanged (SCOPE 4.43), and 1 comes only when the bytes are a sheet without
+// The rest of a sheet whose equations have been read into `equations`, its relations read into `scratch`, and the lent stores
+// filled with what was read: on a refusal they are unchanged (SCOPE 4.43), and 1 comes only when the bytes are a sheet without
 // a fault (SCOPE 4.42).
 pub(crate) fn fill(
     bytes: &[u8],
     h: SheetHead,
-    equations: &[i64],
+    equations: &mut [i64],
     scratch: &mut [i64],
     rows: &mut [i64],
     relations: &mut [i64],
@@ -150,7 +154,7 @@ pub(crate) fn fill(
     ensures { λ r. ⌜ callOf r (now (rows .exit)) (now (relations .exit))
         ≡ readCall (now (bytes .entry)) (now (rows .entry)) (now (relations .entry)) ⌝ }
 {
-    let r = rest_at(bytes, h, scratch);
+    let r = rest_at(bytes, h, equations, scratch);
     if r.refusal != 0 {
         return refused(r.refusal);
     }

@@ -11,8 +11,8 @@ ghost use Rattle.tokens.specs.Fields.{Answers};
 ghost use Rattle.stores.specs.Validity.{sizesOf};
 ghost use Rattle.reading.specs.Terms.{readCoefficient, padded, readPlace, readPolynomial};
 
-// The most coefficients of a term.
-const MOST: i64 = COEFFICIENTS as i64;
+// The most coefficients of a term or a side.
+pub(crate) const MOST: i64 = COEFFICIENTS as i64;
 
 // A last coefficient past ±C is 5 (SCOPE 4.34), one that is 0 is 3 (SCOPE 4.24, 4.35).
 fn judge_last(value: i64) -> u8
@@ -103,7 +103,7 @@ fn coefficient_at(bytes: &[u8], at: usize, left: usize, last: u8) -> tokens::Num
 }
 
 // The coefficients of a term, read into the numbers of a polynomial, zeros past them.
-fn coefficients_at(
+pub(crate) fn coefficients_at(
     bytes: &[u8],
     at: usize,
     count: usize,

@@ -4,6 +4,7 @@
 --   Result, Call        the fields that a run returns; the result with both stores as the run leaves them
 --   callRun side        a whole run on lent stores
 --   polynomialCheck, polynomialPart   the part of the row store that holds one polynomial, and the check on the same values
+--   rightSideCheck, rightSidePart     the same of the right side of a row
 use Prim.Native.Nat.{ℕ, zero, suc, _+_, _*_, pred}
 use mathlib.Core.Bool.{Bool, true, false, _&&_, cond}
 use mathlib.Core.List.{List, [], map}
@@ -14,7 +15,7 @@ use lib.IntN.{ℤ, pos, natAbs, _-ℤ_}
 use lib.Signed.{leZ}
 use Rattle.lists.specs.Padded.{padTo}
 use Rattle.lists.specs.Overwritten.{overwrite}
-use Rattle.rules.specs.Limits.{coefficientCount, columnCount, rowLength, blockLength}
+use Rattle.rules.specs.Limits.{coefficientCount, columnCount, rowLength, blockLength, entriesLength}
 use Rattle.rules.specs.Elimination.{Side, State, Outcome, going, done, refused, wholeRun, report, neverNumber}
 use Rattle.rules.specs.Stores.{Sizes, equations, span, rowsOf, relationsOf, rowNeed, relationNeed, rowStoreOf, relationStoreOf}
 use Rattle.rules.specs.Stores.{sizesRight, checkStores}
@@ -136,3 +137,16 @@ unfoldable pub polynomialPart : List ℤ → Sizes → ℕ → ℤ → ℕ → L
 unfolding partAt polynomialPlace polynomialCheck
 polynomialPart rowStore z row block column =
     partAt rowStore (polynomialPlace z row block column) (polynomialCheck rowStore z row block column)
+
+-- ---- the right side of one row of the store
+
+-- 2 outside the sizes or the rows, otherwise 1 where the store is too short for the rows, otherwise 0 (SCOPE 3.45).
+unfoldable pub rightSideCheck : List ℤ → Sizes → ℕ → ℕ
+unfolding sizesRight rowNeed
+rightSideCheck rowStore z row =
+    cond (sizesRight z && (leb 1 row && leb row (equations z))) (cond (leb (rowNeed (equations z)) (length rowStore)) 0 1) 2
+
+-- The sixteen numbers behind the row's entries; none where the check is not 0 (SCOPE 3.2, 3.45).
+unfoldable pub rightSidePart : List ℤ → Sizes → ℕ → List ℤ
+unfolding partAt rightSideCheck
+rightSidePart rowStore z row = partAt rowStore (pred row * rowLength + entriesLength) (rightSideCheck rowStore z row)

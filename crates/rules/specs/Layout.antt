@@ -16,6 +16,7 @@
 --   coefficient-at, polynomial-at
 --                                 the place of each coefficient, and of each polynomial, in a row store
 --   equations-few                 right sizes have few equations
+--   rightSidePart-at              the same of the right side of a row
 --   polynomialPart-at             the part that a caller gets back is the polynomial of the row, block and column
 use Prim.Native.Nat.{ℕ, suc, pred, _+_, _*_, _-_, _≤_, _<_, suc-le-suc}
 use native.Mathlib.Nat.{le-of-eq, suc-inj, suc-ne-zero, add-assoc}
@@ -44,7 +45,7 @@ use Rattle.lists.specs.Joined.{flatten-flatten, length-flatten}
 use Rattle.rules.specs.Stores.{Sizes, rowOf, rowsOf, relationOf, relationsOf, relationNumbers, rowStoreOf, relationStoreOf, equations}
 use Rattle.rules.specs.Stores.{rowNeed, relationNeed, sizesRight, countRight, lengthsRight, rowRight, relationRight, numbersRight}
 use Rattle.rules.specs.Stores.{checkStores, Shaped, StoreRow, Valid}
-use Rattle.rules.specs.Calls.{placeRight, polynomialCheck, polynomialPlace, partAt, polynomialPart}
+use Rattle.rules.specs.Calls.{placeRight, polynomialCheck, polynomialPlace, partAt, polynomialPart, rightSideCheck, rightSidePart}
 
 -- ---- rows
 
@@ -492,3 +493,36 @@ polynomialPart-at rowStore z row block column e =
     ap (partAt rowStore (polynomialPlace z row block column)) e
     ∙ sym (polynomial-at (equations z) rowStore (pred row) (natAbs (z .l -ℤ block)) (pred column) (omega arith)
     (block-place z block sizes (place .block-low) (place .block-high)) (omega arith))
+
+-- ---- the part of a row store that holds one right side
+
+pub rightSideCheck-zero : (rowStore : List ℤ) (z : Sizes) (row : ℕ)
+    → (rightSideCheck rowStore z row ≡ 0) ↔ (T (sizesRight z) × ((1 ≤ row) × (row ≤ equations z)) × (rowNeed (equations z) ≤ length rowStore))
+unfolding rightSideCheck
+rightSideCheck-zero rowStore z row = (forth, back)
+  where
+    forth : rightSideCheck rowStore z row ≡ 0
+        → T (sizesRight z) × ((1 ≤ row) × (row ≤ equations z)) × (rowNeed (equations z) ≤ length rowStore)
+    forth e =
+        let first = cond-zero (sizesRight z && (leb 1 row && leb row (equations z))) _ 1 e in
+        let second = cond-zero (leb (rowNeed (equations z)) (length rowStore)) 0 0 (first .1) in
+        let start = T-&& (sizesRight z) (leb 1 row && leb row (equations z)) .0 (first .0) in
+        let inside = T-&& (leb 1 row) (leb row (equations z)) .0 (start .1) in
+        (start .0, (leb→le _ _ (inside .0), leb→le _ _ (inside .1)), leb→le _ _ (second .0))
+
+    back : T (sizesRight z) × ((1 ≤ row) × (row ≤ equations z)) × (rowNeed (equations z) ≤ length rowStore)
+        → rightSideCheck rowStore z row ≡ 0
+    back h =
+        cond-passed (sizesRight z && (leb 1 row && leb row (equations z))) _ 2
+        (T-&& (sizesRight z) (leb 1 row && leb row (equations z)) .1
+        (h .0, T-&& (leb 1 row) (leb row (equations z)) .1 (le→leb _ _ (h .1 .0), le→leb _ _ (h .1 .1))))
+        ∙ cond-passed (leb (rowNeed (equations z)) (length rowStore)) 0 1 (le→leb _ _ (h .2))
+
+pub rightSidePart-at : (rowStore : List ℤ) (z : Sizes) (row : ℕ) → rightSideCheck rowStore z row ≡ 0
+    → rightSidePart rowStore z row ≡ getD (rowsOf (equations z) rowStore) (pred row) noRow .right
+unfolding rightSidePart partAt rowOf
+rightSidePart-at rowStore z row e =
+    let passed = rightSideCheck-zero rowStore z row .0 e in
+    ap (partAt rowStore (pred row * rowLength + entriesLength)) e
+    ∙ sym (ap (λ r. r .right) (row-at (equations z) rowStore (pred row) (omega (arith, passed .1 .0, passed .1 .1)))
+    ∙ part-of-part (pred row * rowLength) entriesLength coefficientCount rowLength rowStore (omega arith))

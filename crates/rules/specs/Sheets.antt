@@ -2,11 +2,12 @@
 --
 -- Main definitions
 --   Sheet              what a sheet holds
+--   sidesOf sheet      its right sides, those of the equations first
 --   readSheet bytes    the sheet, or the number of its first fault in byte order (SCOPE 4.37)
 --   writeSheet sheet   its bytes (SCOPE 4.52)
 use Prim.Native.Nat.{ℕ, zero, suc, _+_, _*_, pred}
 use mathlib.Core.Bool.{Bool, true, false, _&&_, _||_, not, cond}
-use mathlib.Core.List.{List, [], _∷_, _++_, map, flatten}
+use mathlib.Core.List.{List, [], _∷_, _++_, map, flatten, zipWith}
 use lib.Dec.{leb, ltb, eqb}
 use lib.ListN.{length, getD, set, replicate}
 use lib.IntN.{ℤ, pos, negℤ, natAbs, predℤ, _-ℤ_}
@@ -16,6 +17,7 @@ use Rattle.rules.specs.Limits.{coefficientCount, columnCount, mostSpan, 
 use Rattle.rules.specs.Rows.{Block, Row, Relation}
 use Rattle.rules.specs.Stores.{Sizes, span, equations}
 use Rattle.lists.specs.Padded.{padTo}
+use Rattle.lists.specs.Tests.{every}
 use Rattle.rules.specs.Numbers.{space, newline, Read, got, fault, thenRead, field, between, judgeSmall, lines}
 
 -- The column order holds columns counted from 1, as in the sheet; it is empty if there is none.
@@ -181,15 +183,70 @@ unfolding thenRead field judgeOrderCount afterCount readColumns
 readOrder m bytes =
     thenRead (field (judgeOrderCount m) afterCount bytes) λ k rest. readColumns m (natAbs k) [] rest
 
--- Bytes behind the fourth section are 4 (SCOPE 4.16, 4.37).
+-- ---- the fifth section
+
+-- The number of a side's coefficients is from 0 to 16, else 2 (SCOPE 4.34). Where the side is needed it is not 0: that is 3, as a
+-- last coefficient that is 0 (SCOPE 4.35).
+unfoldable pub judgeSide : Bool → ℤ → ℕ
+unfolding isZeroℤ
+judgeSide needed v = cond (leZ (pos 0) v && leZ v (pos coefficientCount)) (cond (needed && isZeroℤ v) 3 0) 2
+
+-- The number of a side's coefficients, and those from power 0 on (SCOPE 4.25).
+unfoldable pub readSide : Bool → List ℕ → Read Polynomial
+unfolding thenRead field judgeSide afterCount readCoefficients padTo
+readSide needed bytes =
+    thenRead (field (judgeSide needed) afterCount bytes) λ k rest.
+    thenRead (readCoefficients newline (natAbs k) rest) λ p more. got (padTo coefficientCount (pos 0) p) more
+
+-- So many sides, with others to come after them; `none` says that all before them are zero. A fifth section of zeros only is 3 at
+-- its last line, which is needed there (SCOPE 4.35).
+unfoldable pub readSides : ℕ → ℕ → Bool → List ℕ → Read (List Polynomial)
+unfolding thenRead readSide isZero
+readSides zero others none bytes = got [] bytes
+readSides (suc k) others none bytes =
+    thenRead (readSide (none && eqb (k + others) 0) bytes) λ p rest.
+    thenRead (readSides k others (none && isZero p) rest) λ ps more. got (p ∷ ps) more
+
+unfoldable pub putSide : Row → Polynomial → Row
+putSide r p = record { blocks = r .blocks; right = p }
+
+unfoldable pub putRelationSide : Relation → Polynomial → Relation
+unfolding putSide
+putRelationSide e p = record { index = e .index; row = putSide (e .row) p }
+
+-- The number of the equations and relations, any other being 2 (SCOPE 4.34), and a side for each (SCOPE 4.16).
+unfoldable pub readFifth : Sheet → List ℕ → Read Sheet
+unfolding thenRead field between always readSides every isZero zipWith putSide putRelationSide
+readFifth sheet bytes =
+    let e = length (sheet .rows) in
+    let r = length (sheet .relations) in
+    thenRead (field (between (pos (e + r)) (pos (e + r))) (always newline) bytes) λ _ bytes₁.
+    thenRead (readSides e r true bytes₁) λ ps bytes₂.
+    thenRead (readSides r 0 (every isZero ps) bytes₂) λ qs bytes₃.
+    got
+    (record {
+      sizes = sheet .sizes;
+      rows = zipWith putSide (sheet .rows) ps;
+      relations = zipWith putRelationSide (sheet .relations) qs;
+      order = sheet .order;
+    })
+    bytes₃
+
+-- Bytes behind the fifth section are 4 (SCOPE 4.17, 4.37).
 unfoldable pub readEnd : Sheet → List ℕ → Read Sheet
 readEnd sheet [] = got sheet []
 readEnd sheet (b ∷ bytes) = fault 4
 
--- The four sections in their order, each behind its count (SCOPE 4.11 to 4.16); an equation count other than m is 2
+-- Without a fifth section all sides are zero; any byte behind the fourth begins the fifth (SCOPE 4.16).
+unfoldable pub readRest : Sheet → List ℕ → Read Sheet
+unfolding thenRead readFifth readEnd
+readRest sheet [] = got sheet []
+readRest sheet (b ∷ bytes) = thenRead (readFifth sheet (b ∷ bytes)) readEnd
+
+-- The sections in their order, each behind its count (SCOPE 4.11 to 4.17); an equation count other than m is 2
 -- (SCOPE 4.34).
 unfoldable pub readSheet : List ℕ → Read Sheet
-unfolding thenRead readSizes field between always readEquations readRelations readOrder readEnd
+unfolding thenRead readSizes field between always readEquations readRelations readOrder readRest
 readSheet bytes =
     thenRead (readSizes bytes) λ z bytes₁.
     thenRead (field (between (pos (equations z)) (pos (equations z))) (always newline) bytes₁) λ _ bytes₂.
@@ -197,7 +254,7 @@ readSheet bytes =
     thenRead (field (between (pos 0) (pos mostRelations)) (always newline) bytes₃) λ count bytes₄.
     thenRead (readRelations z (natAbs count) bytes₄) λ relations bytes₅.
     thenRead (readOrder (z .m) bytes₅) λ order bytes₆.
-    readEnd (record { sizes = z; rows = rows; relations = relations; order = order }) bytes₆
+    readRest (record { sizes = z; rows = rows; relations = relations; order = order }) bytes₆
 
 -- ---- writing
 
@@ -237,13 +294,27 @@ relationLine l e = e .index ∷ equationNumbers l (e .row)
 unfoldable pub orderLine : List ℕ → List ℤ
 orderLine order = pos (length order) ∷ map pos order
 
+unfoldable pub sidesOf : Sheet → List Polynomial
+sidesOf sheet = map (λ r. r .right) (sheet .rows) ++ map (λ e. e .row .right) (sheet .relations)
+
+-- A zero side is the number 0 alone (SCOPE 4.25).
+unfoldable pub sideLine : Polynomial → List ℤ
+unfolding trim
+sideLine p = pos (length (trim p)) ∷ trim p
+
+-- The fifth section stands exactly if some side is not zero (SCOPE 4.16).
+unfoldable pub sideLines : List Polynomial → List (List ℤ)
+unfolding sideLine every isZero
+sideLines ps = let section = (pos (length ps) ∷ []) ∷ map sideLine ps in cond (every isZero ps) [] section
+
 unfoldable pub sheetLines : Sheet → List (List ℤ)
-unfolding equationNumbers relationLine orderLine
+unfolding equationNumbers relationLine orderLine sidesOf sideLines
 sheetLines sheet =
     let z = sheet .sizes in
     ((pos 3 ∷ pos (z .m) ∷ z .l ∷ z .t ∷ []) ∷ (pos (length (sheet .rows)) ∷ []) ∷ map (equationNumbers (z .l)) (sheet .rows))
     ++ ((pos (length (sheet .relations)) ∷ []) ∷ map (relationLine (z .l)) (sheet .relations))
     ++ (orderLine (sheet .order) ∷ [])
+    ++ sideLines (sidesOf sheet)
 
 unfoldable pub writeSheet : Sheet → List ℕ
 unfolding lines sheetLines

@@ -5,5 +5,6 @@ pub mod RowTerms
 pub mod OrderedTerms
 pub mod WrittenSections
 pub mod WrittenOrder
+pub mod WrittenSides
 pub mod ReadBack
 pub mod CallsReadBack

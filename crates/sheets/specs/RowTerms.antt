@@ -32,7 +32,7 @@ use Rattle.lists.specs.Tests.{every, every-drop, cond-passed, cond-not}
 use Rattle.rules.specs.Stores.{Sizes, span, Shaped, StoreRow}
 use Rattle.rules.specs.Layout.{SizeBounds, block-place}
 use Rattle.lists.specs.Padded.{length-padTo, padTo, getD-replicate-each, replicate-snoc}
-use Rattle.rules.specs.Sheets.{Term, trim, blankRow, rowOfTerms, blockTerms, termsFrom}
+use Rattle.rules.specs.Sheets.{Term, trim, blankRow, rowOfTerms, blockTerms, termsFrom, putTerm}
 use Rattle.writing.specs.Writer.{trim-none}
 use Rattle.sheets.specs.RowBlocks.{StorePolynomial, BlockRight, StoreBlock, RowRight}
 use Rattle.sheets.specs.WrittenTerms.{TermRight, Ordered, judgeBlock-iff, judgeColumn-iff}
@@ -429,9 +429,18 @@ row-of-blocks l s k (b ∷ bs) e h a =
         ≡ replicate k (replicate columnCount zeros) ++ (replicate (length b) zeros ∷ bs)
     wide = ap (λ n. replicate k (replicate columnCount zeros) ++ (replicate n zeros ∷ bs)) (sym (a .0 .0))
 
-pub row-of-terms : (l : ℤ) (r : Row) → StoreRow r → rowOfTerms l (termsFrom l (r .blocks)) ≡ r
-unfolding Shaped
-row-of-terms l r h = λ i. record { blocks = same i }
+-- A row of terms has a zero right side.
+unfoldable pub ZeroSide : Row → Type 0
+ZeroSide r = r .right ≡ replicate coefficientCount (pos 0)
+
+pub terms-side : (l : ℤ) (es : List Term) → ZeroSide (rowOfTerms l es)
+unfolding ZeroSide rowOfTerms blankRow putTerm
+terms-side l [] = refl
+terms-side l (e ∷ es) = terms-side l es
+
+pub row-of-terms : (l : ℤ) (r : Row) → StoreRow r → ZeroSide r → rowOfTerms l (termsFrom l (r .blocks)) ≡ r
+unfolding Shaped ZeroSide
+row-of-terms l r h side = λ i. record { blocks = same i; right = (terms-side l (termsFrom l (r .blocks)) ∙ sym side) i }
   where
     same : rowOfTerms l (termsFrom l (r .blocks)) .blocks ≡ r .blocks
     same = row-of-blocks l l 0 (r .blocks) (sym (+ℤ-idr l)) (zero-add (length (r .blocks)) ∙ h .0) (h .1)

@@ -20,7 +20,7 @@ use lib.IntN.{ℤ, pos, negℤ, natAbs, _-ℤ_}
 use lib.Signed.{leZ-yes, _≤ℤ_, ≤ℤ-refl}
 use Rattle.algebra.specs.Order.{≤ℤ-trans, ≤ℤ-antisym, ≤ℤ-difference, natAbs-≤-iff, pos-natAbs-nonneg, pos-nonneg, pos-≤ℤ}
 use Rattle.algebra.specs.Polynomials.{isZeroℤ}
-use Rattle.lists.specs.Tests.{T-&&, cond-zero-iff}
+use Rattle.lists.specs.Tests.{T-&&, cond-zero-iff, every}
 use Rattle.rules.specs.Limits.{columnCount, blockCount, blockBound, small}
 use Rattle.rules.specs.Rows.{Row, Relation, noRow}
 use Rattle.lists.specs.Everywhere.{All}
@@ -33,8 +33,8 @@ use Rattle.tokens.specs.Exact.{Exact, field-exact, nothing-exact, then-exact, s
 use Rattle.sheets.specs.WrittenTerms.{between-iff, judgeSmall-iff, small-digits, range-digits, between-exact}
 use Rattle.sheets.specs.WrittenTerms.{positive-pos, always-space, always-newline, parted, line-parted, spaced, Ordered}
 use Rattle.sheets.specs.WrittenTerms.{parting-terms, terms-exact}
-use Rattle.sheets.specs.RowBlocks.{RowRight, rowRight-blocks, blocks-rowRight}
-use Rattle.sheets.specs.RowTerms.{terms-held, row-of-terms}
+use Rattle.sheets.specs.RowBlocks.{StorePolynomial, RowRight, rowRight-blocks, blocks-rowRight}
+use Rattle.sheets.specs.RowTerms.{terms-held, ZeroSide, terms-side, row-of-terms}
 use Rattle.sheets.specs.OrderedTerms.{row-ordered, row-count}
 
 -- ---- counts
@@ -71,9 +71,14 @@ most-terms z b =
     mul-le-mul (b .few)
     (suc-le-suc (natAbs-≤-iff (z .l -ℤ z .t) .1 (≤ℤ-trans (leZ-yes tt) (≤ℤ-difference .0 (b .ordered)), b .narrow)))
 
--- A row that an equation of a sheet can give.
+-- A row that an equation of a sheet can give: its right side comes later.
 abbrev pub EquationRight : Sizes → Row → Type 0
-EquationRight z r = StoreRow r × T (rowRight z r)
+EquationRight z r = StoreRow r × T (rowRight z r) × ZeroSide r
+
+-- Zeros are what a store can hold.
+zero-side : (r : Row) → ZeroSide r → StorePolynomial (r .right)
+unfolding ZeroSide every small
+zero-side r e = rw e (refl, tt)
 
 pub equation-exact : (z : Sizes) → SizeBounds z → Exact (readEquation z) (EquationRight z) (λ r. line (equationNumbers (z .l) r))
 unfolding readEquation equationNumbers
@@ -103,13 +108,16 @@ equation-exact z b =
         let right = rowRight-blocks z r (h .0) (h .1) in (
           between-iff (pos 0) (pos most) (pos (length (terms r))) .1
               (pos-nonneg (length (terms r)), pos-≤ℤ .1 (row-count z (r .blocks) right)),
-          ((refl, row-ordered z (r .blocks) b right), sym (row-of-terms (z .l) r (h .0))),
+          ((refl, row-ordered z (r .blocks) b right), sym (row-of-terms (z .l) r (h .0) (h .2))),
         )
 
     best : (r : Row) → Whole r → EquationRight z r
     best r h =
-        blocks-rowRight z r
+        let side = subst ZeroSide (sym (h .1 .1)) (terms-side (z .l) (terms r)) in
+        let right = blocks-rowRight z r
         (subst (λ q. RowRight z (q .blocks)) (sym (h .1 .1)) (terms-held z (z .l) 0 (terms r) b (≤ℤ-refl (z .l)) (h .1 .0 .1) .right))
+        (zero-side r side) in
+        (right .0, right .1, side)
 
     bytes : (r : Row) → Whole r → line (equationNumbers (z .l) r)
         ≡ counted (length (terms r)) ++ (parted newline (flatten (map termNumbers (terms r))) ++ [])
@@ -132,7 +140,7 @@ unfolding line always
 line-space a b l = sym (append-assoc (decimal a) (space ∷ []) (line (b ∷ l)))
 
 abbrev pub RelationGood : Sizes → Relation → Type 0
-RelationGood z e = StoreRow (e .row) × T (relationRight z e)
+RelationGood z e = StoreRow (e .row) × T (relationRight z e) × ZeroSide (e .row)
 
 pub relation-exact : (z : Sizes) → SizeBounds z → Exact (readRelation z) (RelationGood z) (λ e. line (relationLine (z .l) e))
 unfolding readRelation relationLine equationNumbers relationRight
@@ -143,8 +151,8 @@ relation-exact z b =
     then-exact (λ e. e .row) (equation-exact z b) (λ r e _ f. ap (λ x. x .row) (sym f)) λ r _.
     nothing-exact (record { index = n0; row = r }))
     (λ _. refl)
-    (λ e h. let f = T-&& (small (e .index)) (rowRight z (e .row)) .0 (h .1) in (judgeSmall-iff (e .index) .1 (f .0), ((h .0, f .1), refl)))
-    (λ e h. (h .1 .0 .0, T-&& (small (e .index)) (rowRight z (e .row)) .1 (judgeSmall-iff (e .index) .0 (h .0), h .1 .0 .1)))
+    (λ e h. let f = T-&& (small (e .index)) (rowRight z (e .row)) .0 (h .1) in (judgeSmall-iff (e .index) .1 (f .0), ((h .0, f .1, h .2), refl)))
+    (λ e h. (h .1 .0 .0, T-&& (small (e .index)) (rowRight z (e .row)) .1 (judgeSmall-iff (e .index) .0 (h .0), h .1 .0 .1), h .1 .0 .2))
     (λ e _.
     line-space (e .index) (pos (length (termsFrom (z .l) (e .row .blocks)))) _ ∙ ap (λ l. spaced (e .index) ++ l) (sym (append-nil _)))
 

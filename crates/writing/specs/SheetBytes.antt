@@ -5,9 +5,10 @@
 --   numberBytes, countBytes   a space and a number within ±C; a space and a count
 --   termBytes, blockBytes, termsBytes   one term, the terms of a block, and those of a row, with a space before each number
 --   equationBytes, relationBytes        the line of an equation, and that of a relation
---   sizesBytes, orderBytes              the line of the sizes, and that of the order
+--   sizesBytes, orderBytes, sideBytes   the line of the sizes, that of the order, and that of a right side
+--   sidesBytes equations count   the fifth section, for so many equations and relations
 --   sheetBytes equations count   a sheet of so many equations and relations
---   numberRoom, sizesRoom, termRoom, blockRoom, termsRoom, equationRoom, relationRoom   the same parts, with that room
+--   numberRoom, sizesRoom, termRoom, blockRoom, termsRoom, equationRoom, relationRoom, sideRoom   the same parts, with that room
 use Prim.Native.Nat.{ℕ, _+_, _*_}
 use Rattle.rules.specs.Limits.{coefficientCount, columnCount, blockCount}
 
@@ -45,9 +46,18 @@ sizesBytes = 1 + countBytes + numberBytes + numberBytes + 1
 abbrev pub orderBytes : ℕ
 orderBytes = countBytes + countBytes * columnCount
 
--- the sizes, the number of equations and the equations, the number of relations and the relations, and the order
+-- the number of coefficients, at most 16 of them and a newline
+abbrev pub sideBytes : ℕ
+sideBytes = countBytes + numberBytes * coefficientCount
+
+-- the number of the right sides, and those of the equations and of the relations
+abbrev pub sidesBytes : ℕ → ℕ → ℕ
+sidesBytes equations count = countBytes + (equations * sideBytes + count * sideBytes)
+
+-- the sizes, the number of equations and the equations, the number of relations and the relations, the order, and the right sides
 abbrev pub sheetBytes : ℕ → ℕ → ℕ
-sheetBytes equations count = sizesBytes + countBytes + countBytes + orderBytes + equations * equationBytes + count * relationBytes
+sheetBytes equations count =
+    sizesBytes + countBytes + countBytes + orderBytes + equations * equationBytes + count * relationBytes + sidesBytes equations count
 
 -- a space, a minus and twenty digits
 abbrev pub numberRoom : ℕ
@@ -70,3 +80,6 @@ equationRoom = countBytes + termsRoom
 
 abbrev pub relationRoom : ℕ
 relationRoom = numberRoom + equationRoom
+
+abbrev pub sideRoom : ℕ
+sideRoom = countBytes + numberRoom * coefficientCount

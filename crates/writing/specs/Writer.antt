@@ -7,6 +7,7 @@
 --   termAt, numbersOf, nonzeroCount, Lengths   the numbers of one term, of several, how many there are, and their lengths
 --   SmallParts        the parts of a store hold numbers within ±C
 --   sheetGiven        the sheet of a system in stores, with the columns that are written
+--   sideIn, sidesIn, sidesGiven   the right side of a record, those of a store's records, and those of a system in stores
 --
 -- Main statements
 --   put-then          two runs of bytes stored one after the other are one run
@@ -17,15 +18,17 @@
 --   trim-nonzero, trim-more, trim-take   how many coefficients a term has, and which
 --   block-next, terms-next, lines-next   one term, one block, one line more
 --   term-count        the number of terms of a row is that of its nonzero polynomials
---   equation-line, relation-line, order-line, count-line, sizes-line   the lines of a sheet, as they are written
+--   equation-line, relation-line, order-line, side-line, count-line, sizes-line   the lines of a sheet, as they are written
+--   side-place, side-early, side-at, side-get   where a record's right side stands
+--   sides-none, sides-some   the fifth section, as it is written
 --   sheet-bytes       the bytes of a sheet, section by section
-use mathlib.Core.Path.{_≡_, refl, sym, _∙_, ap, ap₂, subst}
+use mathlib.Core.Path.{_≡_, refl, sym, _∙_, ap, ap₂, subst, fun-ext}
 use mathlib.Core.Bool.{Bool, true, false, and-true, cond}
 use mathlib.Core.Logic.{_≢_}
-use mathlib.Core.List.{List, [], _∷_, _++_, map, flatten, append-assoc, append-nil}
+use mathlib.Core.List.{List, [], _∷_, _++_, map, flatten, append-assoc, append-nil, map-append, map-map}
 use Prim.Native.Nat.{ℕ, zero, suc, _+_, _-_, _*_, _/_, _%_, _^_, _≤_, _<_}
 use native.Mathlib.Nat.{zero-add, suc-add, div-lt-self, add-mul}
-use native.Mathlib.Nat.{lt-trans, le-trans, lt-of-le-of-lt, le-of-suc-le-suc, not-suc-le-zero}
+use native.Mathlib.Nat.{suc-mul, mul-le-mul, mul-le-mul-right, lt-trans, le-trans, lt-of-le-of-lt, le-of-suc-le-suc, not-suc-le-zero}
 use native.Mathlib.Numerals.{add-one}
 use native.Mathlib.Omega.{arith}
 use borrow.Author.Count.{below-more}
@@ -33,21 +36,22 @@ use borrow.Author.Tests.{ltb-true, lt-ltb, le-ltb, ne-eqb}
 use lib.Dec.{T, ltb, eqb, eqb·suc-zero, leb→le, le→leb, lit<, lit≤}
 use lib.IntN.{ℤ, pos, negsuc, natAbs, negℤ, predℤ, _+ℤ_, _-ℤ_, negℤ-sucℤ, +ℤ-predℤ}
 use lib.Signed.{ltZ}
-use lib.ListN.{length, take, drop, getD, set, length-append, length-take, drop-of-length-le}
+use lib.ListN.{length, take, drop, getD, set, length-append, length-take, length-map, drop-of-length-le}
 use lib.Seq.{sets, length-sets, take-suc, length-take-le, take-take, drop-drop}
 use lib.Seq.{getD-take, getD-drop, getD-set-same, getD-set-other}
 use Rattle.algebra.specs.Integers.{natAbs-+ℤ, natAbs-negℤ}
 use Rattle.algebra.specs.Polynomials.{Polynomial, coeff, isZero, isZero-cons, isZero-coeff, isZero-append}
-use Rattle.lists.specs.Taken.{drop-take, drop-next}
+use Rattle.lists.specs.Images.{getD-map}
+use Rattle.lists.specs.Taken.{drop-take, drop-next, part-of-part}
 use Rattle.rules.specs.Limits.{bound, coefficientCount, small, columnCount, mostSpan, blockCount, polynomialCount, blockLength, blockBound}
+use Rattle.rules.specs.Limits.{entriesLength, rowLength, relationLength, mostRelations}
 use Rattle.rules.specs.Rows.{Block}
 use Rattle.lists.specs.Tests.{every}
 use Rattle.rules.specs.Stores.{Sizes, rowOf, rowsOf, relationOf, relationsOf, equations}
-use Rattle.lists.specs.Parts.{parts, parts-next, parts-end, held-next, held-end}
+use Rattle.lists.specs.Parts.{parts, parts-length, getD-parts, parts-next, parts-end, parts-parts, held-next, held-end}
 use Rattle.rules.specs.Layout.{length-rowsOf, length-relationsOf, blockOf, coefficientsAt, blockAt, polynomialsIn}
 use Rattle.rules.specs.Sheets.{Sheet, Term, trim, blockTerms, termsFrom, termNumbers}
-use Rattle.rules.specs.Sheets.{equationNumbers, relationLine, orderLine, sheetLines, writeSheet}
-use Rattle.stores.specs.Flat.{polynomials-rowOf}
+use Rattle.rules.specs.Sheets.{equationNumbers, relationLine, orderLine, sidesOf, sideLine, sideLines, sheetLines, writeSheet}
 use Rattle.rules.specs.Numbers.{space, newline, minus, decimalWithin, decimal, line, lines}
 use Rattle.tokens.specs.WrittenNumbers.{decimalWithin-bound, length-decimalWithin}
 use Rattle.lists.specs.Pasted.{sets-append, sets-later}
@@ -374,7 +378,9 @@ length-termsFrom s (b ∷ bs) =
     ∙ sym (nonzeroCount-append b (flatten bs))
 
 pub term-count : (s : ℤ) (l : List ℤ) → length (termsFrom s (rowOf l .blocks)) ≡ nonzeroCount (polynomialsIn l)
-term-count s l = length-termsFrom s (rowOf l .blocks) ∙ ap nonzeroCount (polynomials-rowOf l)
+unfolding rowOf
+term-count s l =
+    length-termsFrom s (rowOf l .blocks) ∙ ap nonzeroCount (parts-parts coefficientCount columnCount blockCount l)
 
 -- ---- parts of one width, one after the other
 
@@ -497,6 +503,15 @@ order-line order =
     ap (λ n. (n ++ spaced (map pos order)) ++ (newline ∷ [])) (sym (decimal-count (length order)))
     ∙ sym (line-is (pos (length order)) (map pos order))
 
+-- A right side is written as its trimmed coefficients behind their number (SCOPE 4.25).
+pub side-line : (p : Polynomial) (n : ℕ) → n ≡ length (trim p)
+    → (digitsOf n ++ spaced (take n p)) ++ (newline ∷ []) ≡ line (sideLine p)
+unfolding sideLine
+side-line p n e =
+    ap (λ k. (digitsOf k ++ spaced (take k p)) ++ (newline ∷ [])) e
+    ∙ ap₂ (λ d q. (d ++ spaced q) ++ (newline ∷ [])) (sym (decimal-count (length (trim p)))) (trim-take p)
+    ∙ sym (line-is (pos (length (trim p))) (trim p))
+
 pub count-line : (n : ℕ) → digitsOf n ++ (newline ∷ []) ≡ line (pos n ∷ [])
 unfolding line
 count-line n = ap (λ d. d ++ (newline ∷ [])) (sym (decimal-count n))
@@ -547,16 +562,100 @@ unfolding rowsOf relationsOf
 sheetGiven z count columns rowStore relationStore =
     record { sizes = z; rows = rowsOf (equations z) rowStore; relations = relationsOf count relationStore; order = columns }
 
+-- ---- the fifth section
+
+-- The right side of a record stands behind its first `skip` numbers.
+abbrev pub sideIn : ℕ → List ℤ → Polynomial
+sideIn skip l = take coefficientCount (drop skip l)
+
+-- The right sides of the first n records of a store.
+unfoldable pub sidesIn : ℕ → ℕ → List ℤ → List Polynomial
+unfolding parts
+sidesIn skip n l = map (sideIn skip) (parts (skip + coefficientCount) n l)
+
+-- Those of the equations, and those of the relations.
+abbrev pub sidesGiven : ℕ → ℕ → List ℤ → List ℤ → List Polynomial
+sidesGiven m count rowStore relationStore = sidesIn entriesLength m rowStore ++ sidesIn (1 + entriesLength) count relationStore
+
+pub length-sidesIn : (skip n : ℕ) (l : List ℤ) → length (sidesIn skip n l) ≡ n
+unfolding sidesIn
+length-sidesIn skip n l =
+    length-map (parts (skip + coefficientCount) n l) (sideIn skip) ∙ parts-length (skip + coefficientCount) n l
+
+-- Where record i and its side stand in the store.
+pub side-place : (skip n : ℕ) (l : List ℤ) (i : ℕ) → i < n → n * (skip + coefficientCount) ≤ length l
+    → i * (skip + coefficientCount) + skip + coefficientCount ≤ length l
+side-place skip n l i h fits =
+    omega (arith, fits, mul-le-mul-right {m = suc i} {n = n} (skip + coefficientCount) h, suc-mul i (skip + coefficientCount))
+
+pub side-early : (skip n i : ℕ) → i < n → n ≤ mostRelations → skip ≤ rowLength
+    → i * (skip + coefficientCount) ≤ mostRelations * (rowLength + coefficientCount)
+side-early skip n i h few low =
+    mul-le-mul {n₁ = i} {m₁ = skip + coefficientCount} {n₂ = mostRelations} {m₂ = rowLength + coefficientCount} (omega arith) (omega arith)
+
+pub side-at : (skip : ℕ) (l : List ℤ) (i : ℕ)
+    → take (i * (skip + coefficientCount) + skip + coefficientCount - (i * (skip + coefficientCount) + skip))
+    (drop (i * (skip + coefficientCount) + skip) l)
+    ≡ sideIn skip (take (skip + coefficientCount) (drop (i * (skip + coefficientCount)) l))
+side-at skip l i =
+    let place = i * (skip + coefficientCount) + skip in
+    let width : place + coefficientCount - place ≡ coefficientCount = omega arith in
+    ap (λ n. take n (drop place l)) width
+    ∙ sym (part-of-part (i * (skip + coefficientCount)) skip coefficientCount (skip + coefficientCount) l (omega arith))
+
+pub side-get : (skip n : ℕ) (l : List ℤ) (i : ℕ) → i < n
+    → getD (sidesIn skip n l) i [] ≡ sideIn skip (take (skip + coefficientCount) (drop (i * (skip + coefficientCount)) l))
+unfolding sidesIn
+side-get skip n l i h =
+    getD-map (sideIn skip) (parts (skip + coefficientCount) n l) i [] [] (rw parts-length h)
+    ∙ ap (sideIn skip) (getD-parts (skip + coefficientCount) n l i h)
+
+-- No side is nonzero, and nothing is written (SCOPE 4.16).
+pub sides-none : (ps : List Polynomial) → every isZero ps ≡ true → lines (sideLines ps) ≡ []
+unfolding sideLines lines flatten
+sides-none ps e = rw e refl
+
+pub sides-some : (m count : ℕ) (rowStore relationStore : List ℤ) → every isZero (sidesGiven m count rowStore relationStore) ≡ false
+    → line (pos (m + count) ∷ [])
+    ++ (lines (map sideLine (sidesIn entriesLength m rowStore)) ++ lines (map sideLine (sidesIn (1 + entriesLength) count relationStore)))
+    ≡ lines (sideLines (sidesGiven m count rowStore relationStore))
+unfolding sideLines lines flatten
+sides-some m count rowStore relationStore e =
+    let A = sidesIn entriesLength m rowStore in
+    let B = sidesIn (1 + entriesLength) count relationStore in
+    let size : m + count ≡ length (A ++ B) =
+    sym (length-append A B ∙ ap₂ _+_ (length-sidesIn entriesLength m rowStore) (length-sidesIn (1 + entriesLength) count relationStore)) in
+    rw e
+    (ap₂ (λ n r. line (pos n ∷ []) ++ r) size
+    (sym (lines-append (map sideLine A) (map sideLine B)) ∙ ap lines (sym (map-append sideLine A B))))
+
+-- They are the sides of the sheet.
+sides-given : (z : Sizes) (count : ℕ) (columns : List ℕ) (rowStore relationStore : List ℤ)
+    → sidesGiven (equations z) count rowStore relationStore ≡ sidesOf (sheetGiven z count columns rowStore relationStore)
+unfolding sidesOf sheetGiven sidesIn rowsOf relationsOf rowOf relationOf
+sides-given z count columns rowStore relationStore =
+    sym
+    (ap₂ _++_ (map-map (λ r. r .right) rowOf (parts rowLength (equations z) rowStore))
+    (map-map (λ e. e .row .right) relationOf (parts relationLength count relationStore)
+    ∙ ap (λ f. map f (parts relationLength count relationStore))
+    (fun-ext (λ l. ap (take coefficientCount) (drop-drop entriesLength 1 l)))))
+
 pub sheet-bytes : (z : Sizes) (count : ℕ) (columns : List ℕ) (rowStore relationStore : List ℤ)
     → line (pos 3 ∷ pos (z .m) ∷ z .l ∷ z .t ∷ [])
     ++ (line (pos (equations z) ∷ []) ++ (lines (map (equationNumbers (z .l)) (rowsOf (equations z) rowStore))
     ++ (line (pos count ∷ []) ++ (lines (map (relationLine (z .l)) (relationsOf count relationStore)) ++ line (orderLine columns)))))
+    ++ lines (sideLines (sidesGiven (equations z) count rowStore relationStore))
     ≡ writeSheet (sheetGiven z count columns rowStore relationStore)
 unfolding writeSheet sheetLines sheetGiven
 sheet-bytes z count columns rowStore relationStore =
     let rows = map (equationNumbers (z .l)) (rowsOf (equations z) rowStore) in
     let relations = map (relationLine (z .l)) (relationsOf count relationStore) in
     let sizes = pos 3 ∷ pos (z .m) ∷ z .l ∷ z .t ∷ [] in
-    lines-join sizes (pos (equations z) ∷ []) (pos count ∷ []) (orderLine columns) rows relations
-    ∙ ap₂ (λ m n. lines ((sizes ∷ (pos m ∷ []) ∷ rows) ++ ((pos n ∷ []) ∷ relations) ++ (orderLine columns ∷ [])))
+    let four : ℕ → ℕ → List (List ℤ) = λ m n. (sizes ∷ (pos m ∷ []) ∷ rows) ++ ((pos n ∷ []) ∷ relations) ++ (orderLine columns ∷ []) in
+    ap (λ r. r ++ lines (sideLines (sidesGiven (equations z) count rowStore relationStore)))
+    (lines-join sizes (pos (equations z) ∷ []) (pos count ∷ []) (orderLine columns) rows relations)
+    ∙ sym (lines-append (four (equations z) count) (sideLines (sidesGiven (equations z) count rowStore relationStore)))
+    ∙ ap₂ (λ m n. lines (four m n ++ sideLines (sidesGiven (equations z) count rowStore relationStore)))
     (sym (length-rowsOf (equations z) rowStore)) (sym (length-relationsOf count relationStore))
+    ∙ ap (λ ps. lines (four (length (rowsOf (equations z) rowStore)) (length (relationsOf count relationStore)) ++ sideLines ps))
+    (sides-given z count columns rowStore relationStore)

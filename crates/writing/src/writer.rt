@@ -4,6 +4,7 @@ use polynomials::lengths::COEFFICIENTS;
 use stores::lengths::BLOCK;
 use stores::lengths::BLOCKS;
 use stores::lengths::COLUMNS;
+use stores::lengths::ENTRIES;
 use stores::lengths::POLYNOMIALS;
 use stores::lengths::RELATION;
 use stores::lengths::ROW;
@@ -20,27 +21,33 @@ ghost use lib.ListN.{length};
 ghost use lib.Seq.{sets};
 ghost use Rattle.rules.specs.Limits.{columnCount, rowLength, relationLength, mostRelations, small, coefficientCount, mostEquations, polynomialCount, blockLength, blockBound};
 ghost use Rattle.lists.specs.Tests.{every};
-ghost use Rattle.rules.specs.Sheets.{trim, blockTerms, termsFrom, equationNumbers, relationLine, orderLine, writeSheet};
+ghost use Rattle.algebra.specs.Polynomials.{isZero};
+ghost use Rattle.rules.specs.Sheets.{trim, blockTerms, termsFrom, equationNumbers, relationLine, orderLine};
+ghost use Rattle.rules.specs.Sheets.{sideLine, sideLines, writeSheet};
 ghost use Rattle.rules.specs.Stores.{rowOf, rowsOf, relationOf, relationsOf, equations};
 ghost use Rattle.lists.specs.Parts.{parts};
 ghost use Rattle.writing.specs.SheetBytes.{numberBytes, countBytes, termBytes, blockBytes, termsBytes, equationBytes, relationBytes};
 ghost use Rattle.writing.specs.SheetBytes.{sizesBytes, orderBytes, sheetBytes, numberRoom, termRoom, blockRoom, termsRoom};
-ghost use Rattle.writing.specs.SheetBytes.{equationRoom, relationRoom, sizesRoom};
-ghost use Rattle.writing.specs.Writer.{Put, digitsOf, spaced, SmallParts, Lengths, termAt, numbersOf, nonzeroCount, sheetGiven};
+ghost use Rattle.writing.specs.SheetBytes.{equationRoom, relationRoom, sizesRoom, sideBytes, sidesBytes, sideRoom};
+ghost use Rattle.writing.specs.Writer.{Put, digitsOf, spaced, SmallParts, Lengths, termAt, numbersOf, nonzeroCount};
+ghost use Rattle.writing.specs.Writer.{sheetGiven, sidesIn, sidesGiven};
 ghost use Rattle.writing.specs.WriterChecks.{Checked, callOf};
 ghost use Rattle.rules.specs.SheetCalls.{checkWrite, writeCall};
 ghost use Rattle.rules.specs.Layout.{blockOf, polynomialsIn};
 ghost use Rattle.stores.specs.Validity.{sizesOf};
 
-// The bytes of the longest term, of the longest line of an equation and of a relation, and of the other lines of a sheet together,
-// as in `specs/SheetBytes.antt`: a space and a number take at most 11 bytes, a space and a count 21.
+// The bytes of the longest term, of the longest line of a right side, of the longest line of an equation and of a relation, each with that
+// of its right side, and of the other lines of a sheet together, as in `specs/SheetBytes.antt`: a space and a number take at most 11 bytes,
+// a space and a count 21.
 const TERM_BYTES: usize = 11 + 2 * 21 + COEFFICIENTS * 11;
 
-const EQUATION_BYTES: usize = 21 + POLYNOMIALS * TERM_BYTES;
+const SIDE_BYTES: usize = 21 + COEFFICIENTS * 11;
+
+const EQUATION_BYTES: usize = 21 + POLYNOMIALS * TERM_BYTES + SIDE_BYTES;
 
 const RELATION_BYTES: usize = 11 + EQUATION_BYTES;
 
-const LINES_BYTES: usize = 45 + 2 * 21 + 105;
+const LINES_BYTES: usize = 45 + 3 * 21 + 105;
 
 pub fn put_byte(bytes: &mut [u8], at: usize, b: u8) -> usize
     requires { ⌜ at + 1 < 2 ^ 64 ⌝ }
@@ -352,7 +359,89 @@ fn put_sizes(bytes: &mut [u8], at: usize, m: usize, l: i64, t: i64) -> usize
     put_byte(bytes, after_t, 10)
 }
 
-// The four sections from the start of the store on (SCOPE 4.11).
+// The number of coefficients of a right side, and these (SCOPE 4.25).
+fn put_side(bytes: &mut [u8], at: usize, p: &[i64]) -> usize
+    requires { ⌜ (length (now p) ≡ coefficientCount) × (at + sideRoom < 2 ^ 64) × T (every small (now p)) ⌝ }
+    ensures { λ r. ⌜ Put (now (bytes .entry)) at (line (sideLine (now (p .entry)))) sideBytes (now (bytes .exit)) r ⌝ }
+{
+    let n = trimmed(p);
+    let counted = put_digits(bytes, at, n as u64);
+    let written = put_numbers(bytes, counted, &p[..n]);
+    put_byte(bytes, written, 10)
+}
+
+// Are the right sides of the first records of a store zero, each behind so many numbers of its record?
+fn sides_zero(store: &[i64], skip: usize, records: usize) -> bool
+    requires { ⌜ (skip ≤ rowLength) × (records ≤ mostRelations) × (records * (skip + coefficientCount) ≤ length (now store)) ⌝ }
+    ensures { λ r. ⌜ r ≡ every isZero (sidesIn skip records (now (store .entry))) ⌝ }
+{
+    let mut i = 0;
+    while i < records {
+        let from = i * (skip + COEFFICIENTS) + skip;
+        let to = from + COEFFICIENTS;
+        if !polynomials::content::is_zero(&store[from..to]) {
+            return false;
+        }
+        i += 1;
+    }
+    true
+}
+
+// Are all right sides of the system zero?
+fn no_sides(rows: &[i64], equations: usize, relations: &[i64], count: usize) -> bool
+    requires { ⌜ (equations ≤ mostEquations) × (equations * rowLength ≤ length (now rows)) ⌝ }
+    requires { ⌜ (count ≤ mostRelations) × (count * relationLength ≤ length (now relations)) ⌝ }
+    ensures { λ r. ⌜ r ≡ every isZero (sidesGiven equations count (now (rows .entry)) (now (relations .entry))) ⌝ }
+{
+    sides_zero(rows, ENTRIES, equations) && sides_zero(relations, 1 + ENTRIES, count)
+}
+
+// A line for each of those right sides, zero or not.
+fn put_sides(bytes: &mut [u8], at: usize, store: &[i64], skip: usize, records: usize) -> usize
+    requires { ⌜ (skip ≤ rowLength) × (records ≤ mostRelations) × (records * (skip + coefficientCount) ≤ length (now store))
+        × (at + mostRelations * sideRoom < 2 ^ 64) × SmallParts (skip + coefficientCount) records (now store) ⌝ }
+    ensures { λ r. ⌜
+        Put (now (bytes .entry)) at (lines (map sideLine (sidesIn skip records (now (store .entry))))) (records * sideBytes)
+        (now (bytes .exit)) r ⌝ }
+{
+    let mut next = at;
+    let mut i = 0;
+    while i < records {
+        let from = i * (skip + COEFFICIENTS) + skip;
+        let to = from + COEFFICIENTS;
+        next = put_side(bytes, next, &store[from..to]);
+        i += 1;
+    }
+    next
+}
+
+// The fifth section, which stands exactly if some right side is not zero: the number of equations and relations, and the right sides of
+// both (SCOPE 4.16).
+fn put_fifth(
+    bytes: &mut [u8],
+    at: usize,
+    rows: &[i64],
+    equations: usize,
+    relations: &[i64],
+    count: usize,
+) -> usize
+    requires { ⌜ (equations ≤ mostEquations) × (equations * rowLength ≤ length (now rows)) × SmallParts rowLength equations (now rows) ⌝ }
+    requires { ⌜ (count ≤ mostRelations) × (count * relationLength ≤ length (now relations))
+        × SmallParts relationLength count (now relations) ⌝ }
+    requires { ⌜ at + (countBytes + (mostEquations + mostRelations) * sideRoom) < 2 ^ 64 ⌝ }
+    ensures { λ r. ⌜
+        Put (now (bytes .entry)) at (lines (sideLines (sidesGiven equations count (now (rows .entry)) (now (relations .entry)))))
+        (sidesBytes equations count) (now (bytes .exit)) r ⌝ }
+{
+    if no_sides(rows, equations, relations, count) {
+        return at;
+    }
+    let after_count = put_count(bytes, at, equations + count);
+    let after_rows = put_sides(bytes, after_count, rows, ENTRIES, equations);
+    put_sides(bytes, after_rows, relations, 1 + ENTRIES, count)
+}
+
+// The five sections from the start of the store on (SCOPE 4.11).
 fn put_sheet(
     bytes: &mut [u8],
     rows: &[i64],
@@ -375,7 +464,8 @@ fn put_sheet(
     let after_rows = put_equations(bytes, after_m, rows, m, l);
     let after_count = put_count(bytes, after_rows, count);
     let after_relations = put_relations(bytes, after_count, relations, count, l);
-    put_order(bytes, after_relations, columns)
+    let after_order = put_order(bytes, after_relations, columns);
+    put_fifth(bytes, after_order, rows, m, relations, count)
 }
 
 // The refusal and the length of the sheet, 0 on a refusal (SCOPE 4.51, 6.31).

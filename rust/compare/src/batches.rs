@@ -122,7 +122,7 @@ fn wrong_line(random: &mut Random, length: usize) -> String {
 ///
 /// Row 1 is a·u + r and each other row b·u + r, with an a of five roots and r of low degree: each combination lists a full row of
 /// degree 15 five times and leaves a shorter row, and those are triangular. The one input relation stays as it is, so its numbers
-/// set the length.
+/// set the length. Half of these sheets have right sides.
 pub fn sheet_with_answer_of(random: &mut Random, length: usize) -> Vec<u8> {
     loop {
         let mut system = long_answer(random);
@@ -157,7 +157,11 @@ fn long_answer(random: &mut Random) -> System {
     }
     let mut row = Row::default();
     places().for_each(|(block, column)| row.set(block, column, Polynomial::new(vec![-C; 16])));
-    System { sizes, rows, relations: vec![Relation { n0: -C, row }] }
+    let mut system = System { sizes, rows, relations: vec![Relation { n0: -C, row }] };
+    if random.one_in(2) {
+        system.all_rows_mut().for_each(|row| row.set_right(Polynomial::new(vec![random.between(0, 99)])));
+    }
+    system
 }
 
 /// Degree 10, coefficients of seven digits.
@@ -179,6 +183,7 @@ fn increasing(random: &mut Random) -> Polynomial {
 fn shorten(relation: &mut Relation, mut bytes: usize) -> bool {
     relation.row = {
         let mut row = Row::default();
+        row.set_right(relation.row.right().clone());
         for (block, column, p) in relation.row.entries() {
             let mut coefficients = p.coefficients().to_vec();
             for a in &mut coefficients {
@@ -200,11 +205,14 @@ mod tests {
     #[test]
     fn answers_of_a_wished_length() {
         let mut random = Random::new(5);
-        for length in OUTPUT - 1..OUTPUT + 2 {
+        let mut with_sides = 0;
+        for length in [OUTPUT - 1, OUTPUT, OUTPUT + 1].repeat(4) {
             let sheet = sheet_with_answer_of(&mut random, length);
             assert!(sheet.len() <= SHEET_BYTES as usize);
             assert_eq!(answer(&sheet, Some(Fault::LargeOutput)).unwrap().len(), length);
             assert_eq!(answer(&sheet, None).is_ok(), length <= OUTPUT);
+            with_sides += (length > OUTPUT && answer(&sheet, Some(Fault::LargeFifth)).is_ok()) as usize;
         }
+        assert!(with_sides > 0);
     }
 }

@@ -6,7 +6,7 @@ use crate::sheets::sheet;
 use crate::subject::Subject;
 use crate::systems::system;
 use outside::elimination::Side;
-use outside::stores::{row_store, store, Asked, COEFFICIENTS, RELATION, RELATION_STORE, RESULT, ROW};
+use outside::stores::{row_store, store, Asked, COEFFICIENTS, ENTRIES, RELATION, RELATION_STORE, RESULT, ROW};
 use outside::system::System;
 use outside::C;
 
@@ -152,7 +152,7 @@ fn lent(random: &mut Random, system: &System, result: usize) -> Stores {
 
 fn lengthen(random: &mut Random, stores: &mut Stores) {
     for store in [&mut stores.rows, &mut stores.relations, &mut stores.result] {
-        let more = random.pick(&[0, 0, 1, 5, 330]);
+        let more = random.pick(&[0, 0, 1, 5, ROW + 10]);
         store.extend((0..more).map(|_| random.junk()));
     }
 }
@@ -197,13 +197,16 @@ fn damage_sizes(random: &mut Random, asked: &mut Asked) {
 /// A number at some position of the needed parts, used or not.
 fn damage_number(random: &mut Random, stores: &mut Stores, asked: Asked) {
     let number = random.pick(&[C as i64 + 1, -C as i64 - 1, C as i64, -C as i64, 1, -1, i64::MIN, i64::MAX, 0]);
-    let store = if random.one_in(2) { &mut stores.rows } else { &mut stores.relations };
+    let in_rows = random.one_in(2);
+    let (store, record) = if in_rows { (&mut stores.rows, ROW) } else { (&mut stores.relations, RELATION) };
     if store.is_empty() {
         return;
     }
-    let place = match random.below(4) {
+    let place = match random.below(5) {
         0 => asked.count.min(15) * RELATION,
         1 => random.below(40) * COEFFICIENTS,
+        // In a right side.
+        2 => record * random.below(4) + (record - ROW) + ENTRIES + random.below(COEFFICIENTS),
         _ => random.below(store.len()),
     };
     let last = store.len() - 1;

@@ -7,6 +7,7 @@ pub mod fast;
 pub mod judge;
 pub mod pieces;
 pub mod random;
+pub mod runs;
 pub mod sheets;
 pub mod subject;
 pub mod systems;

@@ -26,12 +26,13 @@ pub fn whole_sheet(random: &mut Random) -> Vec<u8> {
 }
 
 fn damaged(random: &mut Random, bytes: Vec<u8>) -> Vec<u8> {
-    match random.below(8) {
+    match random.below(10) {
         0 => damaged_byte(random, bytes),
         1 => cut(random, bytes),
         2 | 3 => damaged_terms(random, Draft::of(&bytes)).bytes(),
         4 => damaged_line(random, Draft::of(&bytes)).bytes(),
         5 => damaged_order(random, Draft::of(&bytes)).bytes(),
+        6 | 7 => damaged_sides(random, Draft::of(&bytes)).bytes(),
         _ => damaged_token(random, Draft::of(&bytes)).bytes(),
     }
 }
@@ -77,6 +78,18 @@ impl Draft {
         let text: String = bytes.iter().map(|&b| b as char).collect();
         let lines = text.strip_suffix('\n').unwrap_or(&text).split('\n');
         Draft(lines.map(|line| line.split(' ').map(String::from).collect()).collect())
+    }
+
+    /// The number that a line begins with.
+    fn count(&self, line: usize) -> Option<usize> {
+        self.0.get(line)?.first()?.parse().ok()
+    }
+
+    /// Which line has the column order, where the counts before it still tell.
+    fn order_line(&self) -> Option<usize> {
+        let relations = self.count(1)?.min(4) + 2;
+        let order = relations + self.count(relations)?.min(16) + 1;
+        (order < self.0.len()).then_some(order)
     }
 
     fn bytes(&self) -> Vec<u8> {
@@ -140,7 +153,8 @@ fn terms(tokens: &[String], from: usize) -> Option<Vec<(usize, usize)>> {
 
 /// Two terms exchanged, a term repeated or left out, a last coefficient made zero, a coefficient more.
 fn damaged_terms(random: &mut Random, mut draft: Draft) -> Draft {
-    let with_terms: Vec<usize> = (2..draft.0.len()).filter(|&line| draft.0[line].len() > 4).collect();
+    let end = draft.order_line().unwrap_or(draft.0.len());
+    let with_terms: Vec<usize> = (2..end).filter(|&line| draft.0[line].len() > 4).collect();
     if with_terms.is_empty() {
         return draft;
     }
@@ -182,8 +196,56 @@ fn damaged_order(random: &mut Random, mut draft: Draft) -> Draft {
     }
     let count = random.pick(&[m, m, m, m, order.len(), i]);
     let line = std::iter::once(count).chain(order).map(|n| n.to_string()).collect();
-    *draft.0.last_mut().expect("a draft has a line") = line;
+    let at = draft.order_line().unwrap_or(draft.0.len() - 1);
+    draft.0[at] = line;
     draft
+}
+
+/// The fifth section made new, or wrong: its count, zeros only, a line that is missing or too many, a list that is too long or too
+/// short, a last coefficient that is zero, a coefficient past ±C, something behind it.
+fn damaged_sides(random: &mut Random, mut draft: Draft) -> Draft {
+    let Some(order) = draft.order_line() else { return draft };
+    let mut lines = draft.0.split_off(order + 1);
+    if lines.len() < 2 || random.one_in(3) {
+        lines = new_sides(random, order - 3);
+    }
+    let at = 1 + random.below(lines.len() - 1);
+    match random.below(10) {
+        0 => lines[0] = vec![other_count(random, order - 3)],
+        1 => lines[1..].fill(vec!["0".into()]),
+        2 => {
+            lines[1..].fill(vec!["0".into()]);
+            lines.push(vec![random.pick(&["", "0", "x", "1 5", "-"]).into()]);
+        }
+        3 => lines.push(vec![random.pick(&["", "0", "x", "1 5", "1"]).into()]),
+        4 => lines[at] = side_line(random.pick(&[16, 17, 18]), vec!["1".into(); random.pick(&[16, 17])]),
+        5 => lines[at] = side_line(random.pick(&[1, 2, 2, 3]), vec![random.pick(&["1", "0"]).into(), "0".into()]),
+        6 => lines[at] = side_line(2, vec![random.pick(&[C + 1, -C - 1, C, -C]).to_string(), "1".into()]),
+        7 => drop(lines.remove(at)),
+        8 => lines.insert(at, lines[at].clone()),
+        _ => {}
+    }
+    draft.0.extend(lines);
+    draft
+}
+
+/// A count of the fifth section that is mostly not the one it needs.
+fn other_count(random: &mut Random, needed: usize) -> String {
+    let needed = needed as i128;
+    random.pick(&[needed + 1, needed - 1, -needed, needed, 0, 1, 4, 16, 20, 21]).to_string()
+}
+
+fn side_line(count: usize, coefficients: Vec<String>) -> Vec<String> {
+    std::iter::once(count.to_string()).chain(coefficients).collect()
+}
+
+/// A fifth section of so many lines, half of them zero.
+fn new_sides(random: &mut Random, count: usize) -> Vec<Vec<String>> {
+    let mut side = |_| {
+        let length = random.pick(&[0, 0, 0, 1, 2, 16]);
+        side_line(length, (0..length).map(|_| random.pick(&["1", "-2", "7"]).into()).collect())
+    };
+    std::iter::once(vec![count.to_string()]).chain((0..count).map(&mut side)).collect()
 }
 
 /// A line left out, repeated, exchanged with another or broken.

@@ -1,4 +1,5 @@
-//! Random systems, of kinds that together reach every rule of the elimination and every refusal of a run (SCOPE 2, 6).
+//! Random systems, of kinds that together reach every rule of the elimination and every refusal of a run (SCOPE 2, 6). Most have
+//! no right side, a third has some.
 
 use crate::random::Random;
 use outside::polynomial::Polynomial;
@@ -19,7 +20,7 @@ const SMALL: Shape = Shape { degree: 2, size: 4, density: 50 };
 
 /// A system of some kind, within all limits of an input.
 pub fn system(random: &mut Random) -> System {
-    let system = match random.below(12) {
+    let mut system = match random.below(12) {
         0 => plain(random, SMALL),
         1 => plain(random, Shape { degree: 3, size: 6, density: 80 }),
         2 => plain(random, Shape { degree: 1, size: 2, density: 30 }),
@@ -32,6 +33,9 @@ pub fn system(random: &mut Random) -> System {
         10 => near_limit(random),
         _ => one_unknown(random),
     };
+    if random.one_in(3) {
+        add_sides(random, &mut system);
+    }
     debug_assert!(within_limits(&system));
     system
 }
@@ -47,9 +51,7 @@ pub fn large_system(random: &mut Random) -> System {
 }
 
 fn within_limits(system: &System) -> bool {
-    let relations = &system.relations;
-    let mut rows = system.rows.iter().chain(relations.iter().map(|r| &r.row));
-    rows.all(fits) && relations.len() <= RELATIONS
+    system.all_rows().all(fits) && system.relations.len() <= RELATIONS
 }
 
 fn fits(row: &Row) -> bool {
@@ -151,6 +153,45 @@ fn system_of(random: &mut Random, sizes: Sizes, rows: Vec<Row>) -> System {
     System { sizes, rows, relations }
 }
 
+// ---- right sides ----
+
+/// Right sides for some of the equations and relations, in place of those that they have. Now and then an equation keeps nothing else.
+fn add_sides(random: &mut Random, system: &mut System) {
+    let side = random.pick(&[small_side, small_side, large_side, high_side]);
+    let density = random.pick(&[20, 50, 100]);
+    for row in system.all_rows_mut() {
+        if random.below(100) < density {
+            row.set_right(side(random));
+        }
+    }
+    if random.one_in(20) {
+        let mut row = Row::default();
+        row.set_right(side(random));
+        let i = random.below(system.rows.len());
+        system.rows[i] = row;
+    }
+}
+
+fn small_side(random: &mut Random) -> Polynomial {
+    polynomial(random, SMALL).times_number(random.pick(&[1, 1, 1, 2, 6]))
+}
+
+/// Coefficients such that a combination or a shift is just within ±C or past it, by the right side alone.
+fn large_side(random: &mut Random) -> Polynomial {
+    let size = random.pick(&[C, C / 2, C / 3, 16_400]);
+    let below: Vec<i128> = (0..random.below(4)).map(|_| random.pick(&[0, 1, -1, size, -size, size - 1])).collect();
+    let last = random.pick(&[size, -size, size - 1, 1, -1]);
+    Polynomial::new(below.into_iter().chain([last]).collect())
+}
+
+/// A degree such that a combination is just within 15 or past it, by the right side alone.
+fn high_side(random: &mut Random) -> Polynomial {
+    let mut coefficients = vec![0; 11 + random.below(DEGREE - 10)];
+    coefficients[0] = random.between(-2, 2);
+    coefficients.push(nonzero(random, 3));
+    Polynomial::new(coefficients)
+}
+
 // ---- kinds ----
 
 /// Entries anywhere.
@@ -204,7 +245,7 @@ fn row_operation(random: &mut Random, system: &mut System) {
     if i == j {
         let row = &system.rows[i];
         if row.entries().all(|(block, _, _)| block > t) {
-            system.rows[i] = row.mapped(|s, p| (s - 1, p.mirrored().after_increment().mirrored()));
+            system.rows[i] = row.mirrored().shifted().mirrored();
         }
     } else if random.one_in(4) {
         system.rows.swap(i, j);
@@ -217,20 +258,28 @@ fn row_operation(random: &mut Random, system: &mut System) {
     }
 }
 
-/// A system of which one row is a combination of the others, one of them shifted where that is possible.
+/// A system of which one row is a combination of the others, one of them shifted where that is possible. Of half of them the right
+/// sides are combined too; then in half of those they are changed, so that there is no solution.
 fn dependent(random: &mut Random) -> System {
     let sizes = sizes_with(random, 2, 4);
     let mut system = triangle(random, sizes, Shape { degree: 1, size: 2, density: 30 });
+    let with_sides = random.one_in(2);
+    if with_sides {
+        add_sides(random, &mut system);
+    }
     let which = random.below(sizes.m);
     let mut sum = Row::default();
     for (i, row) in system.rows.iter().enumerate().filter(|(i, _)| *i != which) {
-        let up = row.mapped(|s, p| (s + 1, p.after_increment()));
+        let up = row.shifted();
         let shifted = i % 2 == 0 && up.entries().all(|(block, _, _)| block <= sizes.l);
         let factor = polynomial(random, SMALL);
         sum = sum.combined(&Polynomial::new(vec![1]), if shifted { &up } else { row }, &factor);
     }
     if fits(&sum) {
         system.rows[which] = sum;
+    }
+    if with_sides && random.one_in(2) {
+        add_sides(random, &mut system);
     }
     system
 }

@@ -3,6 +3,9 @@
 use crate::cases::{Answer, Kind};
 use std::collections::BTreeMap;
 
+/// The tables have a column for each number up to this one.
+const COLUMNS: u8 = 9;
+
 /// Counts for the cases of one kind.
 #[derive(Default)]
 pub struct Tally {
@@ -28,16 +31,12 @@ impl Tally {
         }
     }
 
-    /// Each answer of a batch: a refusal's line, or `0` and the lines of a sheet. The last line has two numbers or is the 3 of a
-    /// broken frame, which is counted as one more answer.
+    /// The answers of a batch; the 3 of a broken frame is counted as one more.
     fn count_batch(&mut self, output: &[u8]) {
         let text = String::from_utf8_lossy(output);
-        let mut lines = text.lines();
-        while let Some(Ok(number)) = lines.next().map(str::parse) {
+        let lines: Vec<&str> = text.lines().collect();
+        for number in numbers(&lines, Vec::new()).unwrap_or_default() {
             *self.refusals.entry(number).or_default() += 1;
-            if number == 0 {
-                skip_sheet(&mut lines);
-            }
         }
     }
 
@@ -55,24 +54,95 @@ impl Tally {
     }
 }
 
-/// Goes past the lines of a sheet: sizes, m and its equations, r and its relations, the order.
-fn skip_sheet<'a>(lines: &mut impl Iterator<Item = &'a str>) {
-    lines.next();
-    for _ in 0..2 {
-        let count = lines.next().and_then(|line| line.parse().ok()).unwrap_or(0);
-        for _ in 0..count {
-            lines.next();
-        }
+/// The answers of a batch whose first ones are known, from the lines behind those: a refusal's line, or `0` and the lines of a sheet.
+/// The last line is the 3 of a broken frame, or says how many were accepted and refused. Only what follows tells whether a
+/// sheet has a fifth section: it is taken to have one, and if then the rest makes no sense, to have none.
+fn numbers(lines: &[&str], mut answers: Vec<u8>) -> Option<Vec<u8>> {
+    let (first, rest) = lines.split_first()?;
+    let number = first.parse();
+    if rest.is_empty() {
+        let accepted = answers.iter().filter(|&&number| number == 0).count();
+        answers.extend(&number);
+        let whole = *first == format!("{accepted} {}", answers.len() - accepted);
+        return (whole || number == Ok(3)).then_some(answers);
     }
-    lines.next();
+    answers.push(number.ok()?);
+    if answers.last() != Some(&0) {
+        return numbers(rest, answers);
+    }
+    let (after_order, sides) = sheet_end(rest)?;
+    let after_sides = after_order.get(..=sides).filter(|section| is_fifth(section)).map(|_| &after_order[sides + 1..]);
+    let with_sides = after_sides.and_then(|after| numbers(after, answers.clone()));
+    with_sides.or_else(|| numbers(after_order, answers))
+}
+
+/// What follows the order line of a sheet, which comes after sizes, m and its equations, r and its relations; and m + r.
+fn sheet_end<'a>(lines: &'a [&'a str]) -> Option<(&'a [&'a str], usize)> {
+    let count = |line: usize| lines.get(line)?.parse::<usize>().ok();
+    let equations = count(1)?;
+    let relations = count(2 + equations)?;
+    Some((lines.get(4 + equations + relations..)?, equations + relations))
+}
+
+/// Whether lines have the form of a fifth section: their count, and each with as many numbers as it says, not all of them none.
+fn is_fifth(section: &[&str]) -> bool {
+    let (count, sides) = (section[0], &section[1..]);
+    let right = |side: &&str| side.split(' ').next() == Some(&side.matches(' ').count().to_string());
+    count == sides.len().to_string() && sides.iter().all(right) && sides.iter().any(|side| *side != "0")
 }
 
 /// A line for each kind and side, a column for each refusal.
 pub fn print_refusals(lines: &[(String, &Tally)]) {
-    println!("| answers | {} |", (0..=9).map(|n| n.to_string()).collect::<Vec<_>>().join(" | "));
-    println!("|---|{}", "---:|".repeat(10));
+    println!("| answers | {} |", (0..=COLUMNS).map(|n| n.to_string()).collect::<Vec<_>>().join(" | "));
+    println!("|---|{}", "---:|".repeat(COLUMNS as usize + 1));
     for (name, tally) in lines {
-        let cells: Vec<String> = (0..=9).map(|n| tally.refused(n).to_string()).collect();
+        let cells: Vec<String> = (0..=COLUMNS).map(|n| tally.refused(n).to_string()).collect();
         println!("| {name} | {} |", cells.join(" | "));
+    }
+}
+
+#[cfg(test)]
+mod tests {
+    use super::*;
+    use crate::cases::Case;
+    use crate::subject::Outside;
+
+    fn counted(kind: Kind, cases: usize) -> Tally {
+        let mut tally = Tally::default();
+        (0..cases).for_each(|k| tally.count(kind, &kind.case(k).answered(&Outside(None))));
+        tally
+    }
+
+    /// Every number that a call can answer comes up, and comes up often.
+    #[test]
+    fn every_refusal_comes_up() {
+        for kind in [Kind::Leading, Kind::Trailing] {
+            let tally = counted(kind, 4_000);
+            for number in [0, 1, 2, 5, 6, 7, 8, 9, 10] {
+                assert!(tally.refused(number) >= 20, "{kind:?}: {number} comes up {} times", tally.refused(number));
+            }
+        }
+        let (read, batch) = (counted(Kind::Read, 4_000), counted(Kind::Batch, 400));
+        assert!((0..=5).all(|number| read.refused(number) >= 20));
+        assert!((0..=10).all(|number| batch.refused(number) >= 10));
+    }
+
+    /// As many answers are counted as the last line of a batch says, with their kinds.
+    #[test]
+    fn answers_of_batches() {
+        for k in 0..400 {
+            let Case::Batch { input } = Kind::Batch.case(k) else { unreachable!() };
+            let output = outside::batch::output(&input, None);
+            let mut tally = Tally::default();
+            tally.count_batch(&output);
+            let all: usize = tally.refusals.values().sum();
+            let text = String::from_utf8(output).unwrap();
+            let last: Vec<usize> = text.lines().last().unwrap().split(' ').map(|n| n.parse().unwrap()).collect();
+            if let [accepted, refused] = last[..] {
+                assert_eq!((tally.refused(0), all), (accepted, accepted + refused), "batch {k}");
+            } else {
+                assert!(tally.refused(3) > 0, "batch {k}");
+            }
+        }
     }
 }

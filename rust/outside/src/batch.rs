@@ -16,8 +16,14 @@ pub const SHEET_BYTES: i128 = 32_768;
 pub fn answer(bytes: &[u8], fault: Option<Fault>) -> Result<Vec<u8>, Refusal> {
     let sheet = read(bytes, fault)?;
     let run = run(&sheet.system, Side::Leading, fault)?;
-    let text = write(&Sheet { system: run.system, order: run.order });
-    if text.len() > OUTPUT && !is(fault, Fault::LargeOutput) {
+    let mut sheet = Sheet { system: run.system, order: run.order };
+    let text = write(&sheet);
+    let mut length = text.len();
+    if is(fault, Fault::LargeFifth) {
+        sheet.system.all_rows_mut().for_each(|row| *row = row.left());
+        length = write(&sheet).len();
+    }
+    if length > OUTPUT && !is(fault, Fault::LargeOutput) {
         return Err(Refusal::Short);
     }
     Ok(text)

@@ -39,8 +39,8 @@ pub fn run(system: &System, side: Side, fault: Option<Fault>) -> Result<Run, Ref
 /// given back ascends (SCOPE 2.33).
 fn run_trailing(system: &System, fault: Option<Fault>) -> Result<Run, Refusal> {
     let order = if is(fault, Fault::TrailingDescending) { Order::Ascending } else { Order::Descending };
-    let mut run = run_leading(&system.mirrored(), order, fault)?;
-    run.system = run.system.mirrored();
+    let mut run = run_leading(&mirrored(system, fault), order, fault)?;
+    run.system = mirrored(&run.system, fault);
     if is(fault, Fault::RelationsNotMirrored) {
         run.system.relations.iter_mut().for_each(|r| r.n0 = -r.n0);
     }
@@ -49,7 +49,21 @@ fn run_trailing(system: &System, fault: Option<Fault>) -> Result<Run, Refusal> {
     Ok(run)
 }
 
+fn mirrored(system: &System, fault: Option<Fault>) -> System {
+    let mut mirrored = system.mirrored();
+    if is(fault, Fault::SideNotMirrored) {
+        for (row, before) in mirrored.all_rows_mut().zip(system.all_rows()) {
+            row.set_right(before.right().clone());
+        }
+    }
+    mirrored
+}
+
 fn run_leading(system: &System, order: Order, fault: Option<Fault>) -> Result<Run, Refusal> {
+    // A relation is no row whose turn comes: one that says 0 = q is not refused.
+    if is(fault, Fault::RelationsInconsistent) {
+        system.relations.iter().try_for_each(|r| inconsistent(&r.row))?;
+    }
     let mut work = Work::new(system, order, fault);
     while work.columns.len() < system.sizes.m {
         work.settle_next()?;
@@ -67,6 +81,15 @@ fn diagonal_roots(run: &Run, block: i64, fault: Option<Fault>) -> impl Iterator<
     let looked_at = if is(fault, Fault::FirstDiagonalOnly) { 1 } else { run.order.len() };
     let diagonal = run.system.rows.iter().zip(&run.order).take(looked_at);
     diagonal.flat_map(move |(row, &column)| integer_roots(&row.entry(block, column)))
+}
+
+/// 10 for a row whose left part is zero and whose right side is not (02, U1).
+fn inconsistent(row: &Row) -> Result<(), Refusal> {
+    if row.is_left_zero() && !row.is_zero() {
+        Err(Refusal::Inconsistent)
+    } else {
+        Ok(())
+    }
 }
 
 /// The order in which the roots of one g are listed.
@@ -128,9 +151,7 @@ impl Work {
     fn settle_next(&mut self) -> Result<(), Refusal> {
         let i = self.columns.len();
         // Rule 1 (SCOPE 2.11).
-        if self.rows[i].is_zero() {
-            return Err(Refusal::Dependent);
-        }
+        self.row_left(i)?;
         loop {
             // Rule 2: the row meets the settled rows one after the other (SCOPE 2.21).
             for j in 0..i {
@@ -143,6 +164,19 @@ impl Work {
             }
             // Rule 6: otherwise it is shifted, and starts anew with rule 2 (SCOPE 2.61, 2.64).
             self.shift(i)?;
+        }
+    }
+
+    /// A row that is zero on both sides is 6 (SCOPE 2.11, 2.45), one that is zero on the left alone 10 (02, U1).
+    fn row_left(&self, i: usize) -> Result<(), Refusal> {
+        if self.rows[i].is_zero() {
+            return Err(Refusal::Dependent);
+        }
+        let refused = inconsistent(&self.rows[i]);
+        if self.wrong(Fault::InconsistentIsDependent) {
+            refused.map_err(|_| Refusal::Dependent)
+        } else {
+            refused
         }
     }
 
@@ -170,28 +204,32 @@ impl Work {
         }
         let (g, h) = self.multipliers(i, j);
         // Rule 4: the combination (SCOPE 2.41).
-        let combined = self.rows[i].combined(&g, &self.rows[j], &h);
+        let mut combined = self.rows[i].combined(&g, &self.rows[j], &h);
+        if self.wrong(Fault::SideNotCombined) {
+            combined.set_right(self.rows[i].right().times(&g));
+        }
         // Rule 3: row i, in the form that it has after the exchange, at each root of g (SCOPE 2.31).
         let searched = if self.wrong(Fault::RootsBeforeExchange) { g_before } else { g };
         let listed = if self.wrong(Fault::RowBeforeExchange) {
             before
         } else if self.wrong(Fault::RowAfterCombination) {
             combined.clone()
+        } else if self.wrong(Fault::RelationWithoutSide) {
+            self.rows[i].left()
         } else {
             self.rows[i].clone()
         };
         let relations = self.list(&searched, &listed);
+        if self.wrong(Fault::InconsistentBeforeRelations) && relations.is_err() {
+            inconsistent(&combined)?;
+        }
         if !self.wrong(Fault::RelationsTestedLast) {
             relations?;
         }
         self.rows[i] = self.judged(combined)?;
         relations?;
-        // A zero row is refused; otherwise the next settled row follows (SCOPE 2.45, 2.46).
-        if self.rows[i].is_zero() {
-            Err(Refusal::Dependent)
-        } else {
-            Ok(())
-        }
+        // A row without a left part is refused; otherwise the next settled row follows (SCOPE 2.45, 2.46).
+        self.row_left(i)
     }
 
     /// The entry of row i in block l at the column of the settled row j.
@@ -200,7 +238,10 @@ impl Work {
     }
 
     fn exchange_due(&self, i: usize, j: usize) -> bool {
-        let width = |k: usize| self.rows[k].width(self.sizes.l);
+        let width = |k: usize| match self.rows[k].right().is_zero() {
+            false if self.wrong(Fault::SideInWidth) => self.sizes.d() + 1,
+            _ => self.rows[k].width(self.sizes.l),
+        };
         match self.fault {
             Some(Fault::WiderRow) => false,
             Some(Fault::EqualWidthsExchanged) => width(j) >= width(i),
@@ -245,22 +286,38 @@ impl Work {
         roots
     }
 
-    /// The row divided by the largest integer that divides all of its coefficients, if it is not zero (SCOPE 2.42);
-    /// then refusal 7 for the degree (SCOPE 2.43), and 8 for the coefficients (SCOPE 2.44).
+    /// The row divided by the largest integer that divides all of its coefficients, those of the right side too, if it is
+    /// not zero (SCOPE 2.42); then refusal 7 for the degree (SCOPE 2.43), and 8 for the coefficients (SCOPE 2.44), of
+    /// either side.
     fn judged(&self, row: Row) -> Result<Row, Refusal> {
-        let too_large = |row: &Row| row.size() > C;
+        let too_large = |row: &Row| self.limited(row, Fault::SideOutOfLimit).size() > C;
         let divided = self.divided(&row);
         let limited = if self.wrong(Fault::LimitBeforeDivision) { &row } else { &divided };
         if self.wrong(Fault::CoefficientBeforeDegree) && too_large(limited) {
             return Err(Refusal::Coefficient);
         }
-        if divided.degree() > DEGREE {
+        if self.limited(&divided, Fault::SideOutOfDegree).degree() > DEGREE {
+            if self.wrong(Fault::InconsistentBeforeDegree) {
+                inconsistent(&divided)?;
+            }
             return Err(Refusal::Degree);
         }
         if too_large(limited) {
+            if self.wrong(Fault::InconsistentBeforeCoefficient) {
+                inconsistent(&divided)?;
+            }
             return Err(Refusal::Coefficient);
         }
         Ok(divided)
+    }
+
+    /// What a limit is put on: both sides of the row, the left one alone with the fault.
+    fn limited(&self, row: &Row, fault: Fault) -> Row {
+        if self.wrong(fault) {
+            row.left()
+        } else {
+            row.clone()
+        }
     }
 
     fn divided(&self, row: &Row) -> Row {
@@ -268,17 +325,30 @@ impl Work {
         if row.is_zero() || self.wrong(Fault::ContentKept) {
             return row;
         }
-        let d = row.content();
-        row.mapped(|s, p| (s, p.over(d)))
+        match self.fault {
+            Some(Fault::SideOutOfContent) => divided_by_left(&row),
+            Some(Fault::SideNotDivided) => {
+                let mut divided = row.mapped(|s| s, |p| p.over(row.content()));
+                divided.set_right(row.right().clone());
+                divided
+            }
+            _ => row.mapped(|s| s, |p| p.over(row.content())),
+        }
     }
 
-    /// Each block moves up by one, and n + 1 is put for n (SCOPE 2.61); 8 for a coefficient past ±C (SCOPE 2.63).
+    /// Each block moves up by one, and n + 1 is put for n (SCOPE 2.61), in the right side too, which has no block; 8 for a
+    /// coefficient past ±C (SCOPE 2.63).
     fn shift(&mut self, i: usize) -> Result<(), Refusal> {
-        let moved =
-            |p: &Polynomial| if self.wrong(Fault::ShiftWithoutIncrement) { p.clone() } else { p.after_increment() };
-        let row = self.rows[i].mapped(|s, p| (s + 1, moved(p)));
+        let before = &self.rows[i];
+        let mut row = match self.fault {
+            Some(Fault::ShiftWithoutIncrement) => before.mapped(|s| s + 1, Polynomial::clone),
+            _ => before.shifted(),
+        };
+        if self.wrong(Fault::SideNotShifted) {
+            row.set_right(before.right().clone());
+        }
         let limit = if self.wrong(Fault::LooseShift) { 4 * C } else { C };
-        if row.size() > limit {
+        if self.limited(&row, Fault::SideOutOfShiftLimit).size() > limit {
             return Err(Refusal::Coefficient);
         }
         self.rows[i] = row;
@@ -309,12 +379,18 @@ fn repeated(g: &Polynomial, roots: &[i128]) -> Vec<i128> {
     all
 }
 
-/// The row divided by n - r for each r that is a root of all its entries: for a wrong version.
+/// The row divided by n - r for an r that is a root of its entries and its right side: for a wrong version.
 fn without_common_factors(row: &Row) -> Row {
     let Some((_, _, first)) = row.entries().next() else { return row.clone() };
-    let common = |r: &i128| row.entries().all(|(_, _, p)| integer_roots(p).contains(r));
+    let common = |r: &i128| row.polynomials().all(|p| p.is_zero() || integer_roots(p).contains(r));
     match integer_roots(first).into_iter().find(common) {
-        Some(r) => row.mapped(|s, p| (s, p.over_root(r))),
+        Some(r) => row.mapped(|s| s, |p| p.over_root(r)),
         None => row.clone(),
     }
+}
+
+/// The row divided by what divides its left part, its right side rounded toward zero: for a wrong version.
+fn divided_by_left(row: &Row) -> Row {
+    let d = row.left().content().max(1);
+    row.mapped(|s| s, |p| Polynomial::new(p.coefficients().iter().map(|a| a / d).collect()))
 }

@@ -22,6 +22,8 @@ pub enum Refusal {
     Coefficient = 8,
     /// There is no place for a relation (SCOPE 6.9).
     Relations = 9,
+    /// A row's left part is zero and its right side is not (02, U1).
+    Inconsistent = 10,
 }
 
 impl Refusal {

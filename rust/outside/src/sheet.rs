@@ -120,19 +120,24 @@ fn within_limit(value: i128, fault: Option<Fault>) -> Judgement {
 
 // ---- reading ----
 
-/// The sheet that the bytes hold: four sections in their order, each with its count, and nothing behind
-/// (SCOPE 4.11, 4.16).
+/// The sheet that the bytes hold: four sections in their order, each with its count, a fifth for the right sides if one
+/// of them is not zero, and nothing behind (SCOPE 4.11, 4.16; 02, U1).
 pub fn read(bytes: &[u8], fault: Option<Fault>) -> Result<Sheet, Refusal> {
     let mut reader = Reader { bytes, fault };
     let sizes = reader.sizes()?;
     let rows = reader.equations(sizes)?;
     let relations = reader.relations(sizes)?;
     let order = reader.order(sizes)?;
-    // Bytes behind the fourth section are 4 (SCOPE 4.37).
+    let mut system = System { sizes, rows, relations };
+    // Any byte behind the fourth section begins the fifth (02, U1).
+    if !reader.bytes.is_empty() {
+        reader.sides(&mut system)?;
+    }
+    // Bytes behind the fifth section are 4 (SCOPE 4.37; 02, U1).
     if !reader.bytes.is_empty() && !is(fault, Fault::BytesAfter) {
         return Err(Refusal::End);
     }
-    Ok(Sheet { system: System { sizes, rows, relations }, order })
+    Ok(Sheet { system, order })
 }
 
 impl Reader<'_> {
@@ -210,15 +215,20 @@ impl Reader<'_> {
     /// The number of coefficients, 1 to 16, and those from power 0 on (SCOPE 4.22), the last of them not 0
     /// (SCOPE 4.24).
     fn coefficients(&mut self, line: Separator) -> Result<Polynomial, Refusal> {
+        let count = self.within(Separator::Space, |count| (1..=DEGREE as i128 + 1).contains(&count))?;
+        self.listed(count as usize, line, Fault::ZeroLast)
+    }
+
+    /// So many coefficients, the last of them not 0 unless the fault is planted.
+    fn listed(&mut self, count: usize, line: Separator, zero_last: Fault) -> Result<Polynomial, Refusal> {
         let fault = self.fault;
-        let count = self.within(Separator::Space, |count| (1..=DEGREE as i128 + 1).contains(&count))? as usize;
         let mut coefficients = Vec::new();
         for place in 1..=count {
             let last = place == count;
             let separator = if last { line } else { Separator::Space };
             let judge = |a| {
                 within_limit(a, fault)?;
-                refused_if(last && a == 0 && !is(fault, Fault::ZeroLast), Refusal::Form)
+                refused_if(last && a == 0 && !is(fault, zero_last), Refusal::Form)
             };
             coefficients.push(self.number(|_| separator, judge)?);
         }
@@ -239,11 +249,48 @@ impl Reader<'_> {
         }
         Ok(order)
     }
+
+    /// The fifth section: the count of equations plus relations, another number is 2, and a line for each right side
+    /// (02, U1).
+    fn sides(&mut self, system: &mut System) -> Result<(), Refusal> {
+        let fault = self.fault;
+        if is(fault, Fault::StrayByteIsEnd) && !matches!(self.bytes[0], b'-' | b'0'..=b'9') {
+            return Err(Refusal::End);
+        }
+        let equations_alone = is(fault, Fault::SideOfEquations);
+        let count = if equations_alone { system.rows.len() } else { system.all_rows().count() };
+        let refusal = if is(fault, Fault::SideCountForm) { Refusal::Form } else { Refusal::Range };
+        self.number(|_| Separator::LineEnd, |found| refused_if(found != count as i128, refusal))?;
+        let mut any = is(fault, Fault::ZeroSides) || is(fault, Fault::ZeroSidesLast);
+        for (place, row) in system.all_rows_mut().take(count).enumerate() {
+            let side = self.side(!any && place + 1 == count)?;
+            any |= !side.is_zero();
+            row.set_right(side);
+        }
+        if is(fault, Fault::ZeroSidesLast) && self.bytes.is_empty() {
+            let zeros = system.all_rows().all(|row| row.right().is_zero());
+            return refused_if(zeros, Refusal::Form);
+        }
+        Ok(())
+    }
+
+    /// The number of coefficients, 0 to 16, and those from power 0 on, the last of them not 0. Where only zeros stand
+    /// before the last line, its count is not 0 either (3; 02, U1).
+    fn side(&mut self, nonzero: bool) -> Result<Polynomial, Refusal> {
+        let most = DEGREE as i128 + 1 + is(self.fault, Fault::SideSeventeen) as i128;
+        let separator = |count| if count == 0 { Separator::LineEnd } else { Separator::Space };
+        let judge = |count| {
+            refused_if(!(0..=most).contains(&count), Refusal::Range)?;
+            refused_if(nonzero && count == 0, Refusal::Form)
+        };
+        let count = self.number(separator, judge)?;
+        self.listed(count as usize, Separator::LineEnd, Fault::SideZeroLast)
+    }
 }
 
 // ---- writing ----
 
-/// The bytes of a sheet.
+/// The bytes of a sheet, with the fifth section exactly if some right side is not zero (02, U1).
 pub fn write(sheet: &Sheet) -> Vec<u8> {
     let Sizes { m, l, t } = sheet.system.sizes;
     let mut lines = vec![format!("3 {m} {l} {t}"), m.to_string()];
@@ -251,6 +298,11 @@ pub fn write(sheet: &Sheet) -> Vec<u8> {
     lines.push(sheet.system.relations.len().to_string());
     lines.extend(sheet.system.relations.iter().map(|r| format!("{} {}", r.n0, equation_text(&r.row))));
     lines.push(order_text(&sheet.order));
+    let sides: Vec<&Polynomial> = sheet.system.all_rows().map(Row::right).collect();
+    if sides.iter().any(|side| !side.is_zero()) {
+        lines.push(sides.len().to_string());
+        lines.extend(sides.into_iter().map(side_text));
+    }
     (lines.join("\n") + "\n").into_bytes()
 }
 
@@ -263,6 +315,11 @@ fn equation_text(row: &Row) -> String {
         numbers.extend(p.coefficients());
     }
     joined(numbers)
+}
+
+fn side_text(side: &Polynomial) -> String {
+    let coefficients = side.coefficients();
+    joined(std::iter::once(coefficients.len() as i128).chain(coefficients.iter().copied()))
 }
 
 fn order_text(order: &[usize]) -> String {

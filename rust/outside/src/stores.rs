@@ -17,11 +17,13 @@ use crate::{C, RELATIONS};
 pub const COEFFICIENTS: usize = 16;
 /// Columns of a block (SCOPE 3.2).
 pub const COLUMNS: usize = 4;
-/// Numbers of a row: five blocks, from block l downward (SCOPE 3.2).
-pub const ROW: usize = 5 * COLUMNS * COEFFICIENTS;
+/// Numbers of a row's entries: five blocks, from block l downward (SCOPE 3.2).
+pub const ENTRIES: usize = 5 * COLUMNS * COEFFICIENTS;
+/// Numbers of a row: its entries, and its right side behind them (02, U1).
+pub const ROW: usize = ENTRIES + COEFFICIENTS;
 /// Numbers of a relation: n0, and a row behind it (SCOPE 3.4).
 pub const RELATION: usize = 1 + ROW;
-/// The relation store needs 16 × 321 numbers (SCOPE 3.11).
+/// The relation store needs 16 × 337 numbers (SCOPE 3.11; 02, U1).
 pub const RELATION_STORE: usize = RELATIONS * RELATION;
 /// Numbers that the answer of a run or a reader takes (SCOPE 3.52).
 pub const RESULT: usize = 8;
@@ -63,12 +65,32 @@ fn entry_position(sizes: Sizes, block: i64, column: usize) -> usize {
     ((sizes.l - block) as usize * COLUMNS + column - 1) * COEFFICIENTS
 }
 
-/// The row in 320 numbers of a store, whose unused positions hold 0 (SCOPE 3.3, 3.34).
+/// The entries and the right side of a row in a store. With the fault their places are the other way round.
+fn parts(numbers: &[i64], fault: Option<Fault>) -> (&[i64], &[i64]) {
+    if is(fault, Fault::SideFirst) {
+        let (side, entries) = numbers.split_at(COEFFICIENTS);
+        (entries, side)
+    } else {
+        numbers.split_at(ENTRIES)
+    }
+}
+
+fn load_polynomial(numbers: &[i64]) -> Polynomial {
+    Polynomial::new(numbers.iter().map(|&a| a as i128).collect())
+}
+
+/// The row in 336 numbers of a store, whose unused positions hold 0 (SCOPE 3.3, 3.34). A right side has none of those.
 fn load_row(numbers: &[i64], sizes: Sizes, fault: Option<Fault>) -> Result<Row, Refusal> {
     let mut row = Row::default();
-    for (position, held) in numbers.chunks(COEFFICIENTS).enumerate() {
+    let (entries, side) = parts(numbers, fault);
+    let side = load_polynomial(side);
+    if !is(fault, Fault::SideNotLookedAt) {
+        within_limit(&side, fault)?;
+    }
+    row.set_right(side);
+    for (position, held) in entries.chunks(COEFFICIENTS).enumerate() {
         let (block, column, _) = place(sizes, position * COEFFICIENTS);
-        let p = Polynomial::new(held.iter().map(|&a| a as i128).collect());
+        let p = load_polynomial(held);
         if p.is_zero() {
             continue;
         }
@@ -115,10 +137,14 @@ fn load(rows: &[i64], relations: &[i64], sizes: Sizes, count: usize, fault: Opti
 fn store_row(row: &Row, sizes: Sizes, numbers: &mut [i64]) {
     numbers.fill(0);
     for (block, column, p) in row.entries() {
-        let at = entry_position(sizes, block, column);
-        for (place, &a) in numbers[at..at + COEFFICIENTS].iter_mut().zip(p.coefficients()) {
-            *place = a as i64;
-        }
+        store_polynomial(p, &mut numbers[entry_position(sizes, block, column)..]);
+    }
+    store_polynomial(row.right(), &mut numbers[ENTRIES..]);
+}
+
+fn store_polynomial(p: &Polynomial, numbers: &mut [i64]) {
+    for (place, &a) in numbers[..COEFFICIENTS].iter_mut().zip(p.coefficients()) {
+        *place = a as i64;
     }
 }
 
@@ -374,4 +400,26 @@ fn polynomial_place(
     }
     long_enough(&[(rows.len(), row_store(m))])?;
     Ok((row - 1) * ROW + entry_position(sizes, block, column))
+}
+
+/// The part of the row store that holds the right side of a row, empty where the check is not 0 (02, U1).
+pub fn right_side(rows: &[i64], m: usize, l: i64, t: i64, row: usize) -> &[i64] {
+    match right_side_place(rows, m, l, t, row) {
+        Ok(at) => &rows[at..at + COEFFICIENTS],
+        Err(_) => &[],
+    }
+}
+
+/// As [`check_polynomial`].
+pub fn check_right_side(rows: &[i64], m: usize, l: i64, t: i64, row: usize) -> u8 {
+    number_of(right_side_place(rows, m, l, t, row).map(drop))
+}
+
+fn right_side_place(rows: &[i64], m: usize, l: i64, t: i64, row: usize) -> Result<usize, Refusal> {
+    Sizes::checked(m, l, t)?;
+    if !(1..=m).contains(&row) {
+        return Err(Refusal::Range);
+    }
+    long_enough(&[(rows.len(), row_store(m))])?;
+    Ok((row - 1) * ROW + ENTRIES)
 }

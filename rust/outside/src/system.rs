@@ -63,6 +63,15 @@ pub struct System {
 }
 
 impl System {
+    /// The equations, and behind them those of the relations.
+    pub fn all_rows(&self) -> impl Iterator<Item = &Row> {
+        self.rows.iter().chain(self.relations.iter().map(|r| &r.row))
+    }
+
+    pub fn all_rows_mut(&mut self) -> impl Iterator<Item = &mut Row> {
+        self.rows.iter_mut().chain(self.relations.iter_mut().map(|r| &mut r.row))
+    }
+
     /// The mirror: -n for n, block -s for block s, -n0 for n0 (SCOPE 2.91).
     pub fn mirrored(&self) -> System {
         let relation = |r: &Relation| Relation { n0: -r.n0, row: r.row.mirrored() };

@@ -53,6 +53,43 @@ fn refused_before_the_work() {
     assert_eq!(refusal(K3, |rows, _, _| rows[0] = 268_435_456), 5);
     assert_eq!(refusal(K3, |rows, _, _| rows[16] = 1), 5);
     assert_eq!(refusal(K3, |_, relations, _| relations[RELATION_STORE - 1] = 1), 5);
+    assert_eq!(refusal(K3, |rows, _, _| rows[ROW - 1] = -268_435_456), 5);
+    assert_eq!(refusal(K3, |rows, _, _| rows.truncate(ROW - 1)), 1);
+}
+
+/// (n-3)x(n+1) - x(n) = 5 - n^15, which a leading run leaves as it is.
+#[test]
+fn accepted_with_a_side() {
+    let (mut rows, mut relations, mut result) = k3_stores();
+    (rows[ENTRIES], rows[ROW - 1]) = (5, -1);
+    let before = (rows.clone(), relations.clone());
+    assert_eq!(run_on_stores(Side::Leading, &mut rows, &mut relations, K3, &mut result, None), 0);
+    assert_eq!((&rows, &relations), (&before.0, &before.1));
+    assert_eq!(right_side(&rows, 1, 1, 0, 1), [5, 0, 0, 0, 0, 0, 0, 0, 0, 0, 0, 0, 0, 0, 0, -1]);
+    assert_eq!(check_right_side(&rows, 1, 1, 0, 1), 0);
+    assert_eq!(right_side(&rows, 1, 1, 0, 2), []);
+    assert_eq!(check_right_side(&rows, 1, 1, 0, 0), 2);
+    assert_eq!(check_right_side(&rows, 1, 0, 1, 1), 2);
+    assert_eq!(check_right_side(&rows[..ROW - 1], 1, 1, 0, 1), 1);
+    assert_eq!(right_side(&rows[..ROW - 1], 1, 1, 0, 1), []);
+}
+
+#[test]
+fn refused_as_inconsistent() {
+    let (mut rows, mut relations, mut result) = k3_stores();
+    rows[..ROW].fill(0);
+    rows[ROW - 1] = 1;
+    for side in [Side::Leading, Side::Trailing] {
+        let (mut rows, mut relations, mut result) = (rows.clone(), relations.clone(), result.clone());
+        assert_eq!(run_on_stores(side, &mut rows, &mut relations, K3, &mut result, None), 10);
+        assert!(rows[..ROW].iter().chain(&relations[..RELATION_STORE]).chain(&result[..RESULT]).all(|&a| a == 0));
+        assert_eq!((rows[ROW], relations[RELATION_STORE], result[RESULT]), (9, 9, 9));
+    }
+    // A relation is not refused so.
+    (rows[0], rows[ROW - 1], relations[RELATION - 1]) = (1, 0, 1);
+    let asked = Asked { count: 1, ..K3 };
+    assert_eq!(run_on_stores(Side::Leading, &mut rows, &mut relations, asked, &mut result, None), 0);
+    assert_eq!((relations[RELATION - 1], result[0]), (1, 1));
 }
 
 #[test]
@@ -62,8 +99,8 @@ fn one_polynomial() {
     assert_eq!(check_polynomial(&rows, 1, 1, 0, 1, 0, 1), 0);
     assert_eq!(polynomial(&rows, 1, 1, 0, 2, 0, 1), []);
     assert_eq!(check_polynomial(&rows, 1, 1, 0, 2, 0, 1), 2);
-    assert_eq!(check_polynomial(&rows[..319], 1, 1, 0, 1, 0, 1), 1);
-    assert_eq!(check_polynomial(&rows[..319], 1, 1, -4, 1, 0, 1), 2);
+    assert_eq!(check_polynomial(&rows[..ROW - 1], 1, 1, 0, 1, 0, 1), 1);
+    assert_eq!(check_polynomial(&rows[..ROW - 1], 1, 1, -4, 1, 0, 1), 2);
 }
 
 #[test]

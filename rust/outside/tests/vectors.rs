@@ -27,24 +27,24 @@ fn batches() {
     assert!(count > 0);
 }
 
-/// What `trailing.txt` says of one sheet: the line, and the sheet where the refusal is 0.
-fn trailing_text(bytes: &[u8]) -> Vec<u8> {
-    let outcome = read(bytes, None).and_then(|sheet| run(&sheet.system, Side::Trailing, None));
+/// What a file of runs says of one sheet and side: the line, and the sheet where the refusal is 0.
+fn run_text(bytes: &[u8], side: Side) -> Vec<u8> {
+    let name = if side == Side::Leading { "leading" } else { "trailing" };
+    let outcome = read(bytes, None).and_then(|sheet| run(&sheet.system, side, None));
     match outcome {
-        Err(refusal) => format!("trailing {} shifts 0 root none\n", refusal.number()).into_bytes(),
+        Err(refusal) => format!("{name} {} shifts 0 root none\n", refusal.number()).into_bytes(),
         Ok(run) => {
             let root = run.root.map_or("none".to_string(), |r| r.to_string());
-            let mut text = format!("trailing 0 shifts {} root {root}\n", run.shifts).into_bytes();
+            let mut text = format!("{name} 0 shifts {} root {root}\n", run.shifts).into_bytes();
             text.extend(write(&Sheet { system: run.system, order: run.order }));
             text
         }
     }
 }
 
-#[test]
-#[ignore = "needs a folder of vectors"]
-fn trailing() {
-    let all = fs::read(folder().join("trailing.txt")).unwrap();
+/// Every sheet of a file, with what follows it for the sides; whether there is such a file.
+fn compared(file: &str, sides: &[Side]) -> bool {
+    let Ok(all) = fs::read(folder().join(file)) else { return false };
     let mut rest = &all[..];
     let mut count = 0;
     while !rest.is_empty() {
@@ -52,11 +52,21 @@ fn trailing() {
         let line = std::str::from_utf8(&rest[..end]).unwrap();
         let length: usize = line.strip_prefix("sheet ").unwrap().parse().unwrap();
         let (bytes, after) = rest[end + 1..].split_at(length);
-        let expected = trailing_text(bytes);
+        let expected: Vec<u8> = sides.iter().flat_map(|&side| run_text(bytes, side)).collect();
         assert!(after.starts_with(&expected), "{}", String::from_utf8_lossy(bytes));
         rest = &after[expected.len()..];
         count += 1;
     }
-    println!("{count} trailing cases");
+    println!("{file}: {count} cases");
     assert!(count > 0);
+    true
+}
+
+/// `run.txt` has both sides of each sheet, `trailing.txt` the trailing one.
+#[test]
+#[ignore = "needs a folder of vectors"]
+fn runs() {
+    let both = compared("run.txt", &[Side::Leading, Side::Trailing]);
+    let trailing = compared("trailing.txt", &[Side::Trailing]);
+    assert!(both || trailing, "the folder has no file of runs");
 }

@@ -4,7 +4,8 @@
 //! are the same calls with their answers taken apart. The exported functions have no precondition, so nothing here is
 //! tested before a call; `docs/SCOPE.md` says what each call does with every argument.
 //!
-//! Rows lie in stores of 64-bit numbers, 320 a row; see [`row_store`] and [`RELATION_STORE`].
+//! Rows lie in stores of 64-bit numbers, 336 a row: 320 for its entries, five blocks from block l downward, four columns a block, 16
+//! coefficients a column, and 16 for its right side; see [`row_store`], [`RELATION_STORE`] and [`right_side`].
 
 mod foreign;
 pub mod stores;
@@ -12,10 +13,14 @@ pub mod stores;
 /// Whether the static library was there when this crate was built. Without it every call panics.
 pub const LINKED: bool = cfg!(archive);
 
-/// Numbers that hold one row.
-pub const ROW: usize = 320;
+/// Numbers that hold one polynomial, from power 0 upward.
+pub const COEFFICIENTS: usize = 16;
+/// Numbers that hold the entries of one row; its right side begins behind them.
+pub const ENTRIES: usize = 5 * 4 * COEFFICIENTS;
+/// Numbers that hold one row: its entries and its right side.
+pub const ROW: usize = ENTRIES + COEFFICIENTS;
 /// Numbers that hold one relation: n0 and a row.
-pub const RELATION: usize = 321;
+pub const RELATION: usize = 1 + ROW;
 /// Numbers that the relation store needs.
 pub const RELATION_STORE: usize = 16 * RELATION;
 
@@ -32,7 +37,7 @@ pub struct Sizes {
     pub t: i64,
 }
 
-/// A refusal under its number, 1 to 9.
+/// A refusal under its number, 1 to 10.
 #[derive(Clone, Copy, Debug, PartialEq, Eq)]
 pub struct Refusal(pub u8);
 
@@ -54,6 +59,32 @@ pub struct Heading {
     pub relations: usize,
     /// Zeros if the sheet has no column order.
     pub order: [i64; 4],
+}
+
+impl Sizes {
+    fn in_range(&self) -> bool {
+        let block = |s: i64| (-64..=64).contains(&s);
+        (1..=4).contains(&self.m) && block(self.l) && block(self.t) && (0..=4).contains(&(self.l - self.t))
+    }
+}
+
+/// The part of the row store that holds the right side of a row, counted from 1: sixteen coefficients from power 0 upward. It is empty
+/// where a size or the row is out of its range, or the store is too short.
+///
+/// ```
+/// let mut rows = vec![0; wurgalm::row_store(1)]; // x(n) = 3 + 5 n
+/// rows[0] = 1;
+/// (rows[wurgalm::ENTRIES], rows[wurgalm::ENTRIES + 1]) = (3, 5);
+/// let sizes = wurgalm::Sizes { m: 1, l: 0, t: 0 };
+/// assert_eq!(wurgalm::right_side(&rows, sizes, 1)[..3], [3, 5, 0]);
+/// assert_eq!(wurgalm::right_side(&rows, sizes, 2), []);
+/// ```
+pub fn right_side(rows: &[i64], sizes: Sizes, row: usize) -> &[i64] {
+    if sizes.in_range() && (1..=sizes.m).contains(&row) && rows.len() >= row_store(sizes.m) {
+        &rows[row * ROW - COEFFICIENTS..row * ROW]
+    } else {
+        &[]
+    }
 }
 
 fn accepted<T>(number: u8, answer: T) -> Result<T, Refusal> {

@@ -1,7 +1,7 @@
 //! K2 and K11 (SCOPE 7.2, 7.11) through the library. Where it is not built a call panics, so every test here fails.
 
-use wurgalm::{batch, batch_output, read_sheet, row_store, run_leading, run_trailing, write_sheet};
-use wurgalm::{Heading, Refusal, Report, Sizes, RELATION_STORE};
+use wurgalm::{batch, batch_output, read_sheet, right_side, row_store, run_leading, run_trailing, write_sheet};
+use wurgalm::{Heading, Refusal, Report, Sizes, RELATION, RELATION_STORE, ROW};
 
 const K2: &[u8] = b"3 2 1 0\n2\n2 1 1 2 0 1 0 2 1 -1\n2 1 1 1 1 0 1 1 -1\n0\n0\n";
 const K2_ANSWER: &[u8] =
@@ -33,6 +33,34 @@ fn k11() {
     let report = run_trailing(&mut rows, &mut relations, heading.sizes, 0).unwrap();
     assert_eq!(report, Report { relations: 0, shifts: 1, order: [1, 0, 0, 0], root: Some(1) });
     assert_eq!(rows[64..66], [-1, 1]);
+}
+
+/// x(n) = n^2 with the relation x(7) = 5, read, shifted to x(n + 1) = n^2 + 2 n + 1, and written.
+#[test]
+fn right_sides() {
+    let (mut rows, mut relations) = stores();
+    let sheet = b"3 1 1 0\n1\n1 0 1 1 1\n1\n7 1 0 1 1 1\n0\n2\n3 0 0 1\n1 5\n";
+    let heading = read_sheet(sheet, &mut rows, &mut relations).unwrap();
+    let sizes = Sizes { m: 1, l: 1, t: 0 };
+    assert_eq!(heading, Heading { sizes, relations: 1, order: [0; 4] });
+    assert_eq!(right_side(&rows, sizes, 1)[..4], [0, 0, 1, 0]);
+    assert_eq!((relations[0], relations[RELATION - 16], relations[RELATION]), (7, 5, 0));
+    let report = run_leading(&mut rows, &mut relations, sizes, 1).unwrap();
+    assert_eq!(report, Report { relations: 1, shifts: 1, order: [1, 0, 0, 0], root: None });
+    assert_eq!(right_side(&rows, sizes, 1)[..4], [1, 2, 1, 0]);
+    let mut bytes = [0; 100];
+    let length = write_sheet(&rows, &relations, &Heading { order: report.order, ..heading }, &mut bytes).unwrap();
+    assert_eq!(&bytes[..length], b"3 1 1 0\n1\n1 1 1 1 1\n1\n7 1 0 1 1 1\n1 1\n2\n3 1 2 1\n1 5\n");
+    assert_eq!(read_sheet(&[&sheet[..], b"\n"].concat(), &mut rows, &mut relations), Err(Refusal(4)));
+}
+
+/// 0 = 1 is refused with 10, and the stores are zero then.
+#[test]
+fn inconsistent() {
+    let (mut rows, mut relations) = stores();
+    rows[ROW - 16] = 1;
+    assert_eq!(run_trailing(&mut rows, &mut relations, Sizes { m: 1, l: 0, t: 0 }, 0), Err(Refusal(10)));
+    assert!(rows.iter().all(|&a| a == 0));
 }
 
 #[test]

@@ -38,6 +38,14 @@ impl<T: Copy + PartialEq> Guarded<T> {
     }
 }
 
+/// The numbers that are answered: 0 to 10, and one place for any other.
+const NUMBERS: usize = 12;
+/// How many of them are printed.
+const PRINTED: usize = 10;
+
+/// A sheet of two equations and a relation, without its fifth section.
+const FOUR_SECTIONS: &[u8] = b"3 2 1 0\n2\n0\n0\n1\n0 0\n0\n";
+
 const MARK: i64 = 0x5a5a_5a5a_5a5a_5a5a;
 
 /// A call on one of the exported functions, all arguments as they are handed in.
@@ -72,14 +80,14 @@ struct Fuzz {
     calls: usize,
     differences: usize,
     /// How often each number was answered.
-    answers: [usize; 10],
+    answers: [usize; NUMBERS],
 }
 
 impl Fuzz {
     fn call(&mut self, what: &str, call: &Call, stores: &Stores) {
         let (expected, found) = (answer(&self.right, call, stores), answer(&self.library, call, stores));
         self.calls += 1;
-        self.answers[found.number.min(9) as usize] += 1;
+        self.answers[(found.number as usize).min(NUMBERS - 1)] += 1;
         if expected != found {
             self.differences += 1;
             if self.differences <= 10 {
@@ -132,6 +140,35 @@ impl Fuzz {
         }
     }
 
+    /// A fifth section that is right and ones that are wrong in each way, cut at every place, with and without bytes behind them.
+    fn every_fifth_section(&mut self, stores: &Stores) {
+        let long = |count: usize, given: usize| format!("3\n0\n{count}{}\n0\n", " 1".repeat(given));
+        let counts = [0, 1, 2, 4, 20, 21].map(|count| format!("{count}\n2 0 1\n0\n1 5\n"));
+        let lists = [(16, 16), (17, 17), (16, 17), (17, 16), (16, 15), (1, 2)].map(|(count, given)| long(count, given));
+        let sides = [
+            ["2 0 1", "0", "1 5"],
+            ["0", "0", "1 -268435455"],
+            ["0", "0", "0"],
+            ["0", "0", "1 0"],
+            ["0", "3 0 1 0", "0"],
+            ["1", "0", "0"],
+            ["0", "-1", "0"],
+            ["0", "1 268435456", "0"],
+            ["0", "2 -268435456 0", "0"],
+            ["0 0", "0", "0"],
+            ["", "0", "0"],
+        ];
+        let sides = sides.map(|lines| format!("3\n{}\n", lines.join("\n")));
+        for section in counts.iter().chain(&lists).chain(&sides) {
+            for end in 0..=section.len() {
+                for behind in ["", "\n", " ", "0", "1\n", "x"] {
+                    let sheet = [FOUR_SECTIONS, &section.as_bytes()[..end], behind.as_bytes()].concat();
+                    self.call("read, fifth section", &Call::Read(sheet), stores);
+                }
+            }
+        }
+    }
+
     /// Sizes from a list that has the ends of every range, one past them, and the ends of the types.
     fn every_size(&mut self, make: impl Fn(Asked) -> Call, whole: &Stores) {
         let blocks = [i64::MIN, i64::MIN + 1, -65, -64, -63, -5, -1, 0, 1, 4, 60, 63, 64, 65, i64::MAX - 1, i64::MAX];
@@ -175,7 +212,7 @@ fn answered(random: &mut Random, number: u8) -> Vec<u8> {
 
 fn main() {
     let mut fuzz =
-        Fuzz { right: Outside(None), library: Library::needed(), calls: 0, differences: 0, answers: [0; 10] };
+        Fuzz { right: Outside(None), library: Library::needed(), calls: 0, differences: 0, answers: [0; NUMBERS] };
     let mut random = Random::new(77);
     let small = Stores { rows: vec![7; row_store(4)], relations: vec![7; 9], result: vec![7; RESULT] };
     for round in 0..4 {
@@ -197,7 +234,7 @@ fn main() {
             fuzz.call("write, order", &Call::Write(asked, order, vec![b'#'; sheet.len()]), &stores);
         }
     }
-    for number in 6..=9 {
+    for number in 6..=10 {
         let (stores, asked, _) = stores_of(&answered(&mut random, number));
         fuzz.every_length(&format!("leading, {number}"), &Call::Run(Side::Leading, asked), &stores, 17);
         fuzz.every_length(&format!("trailing of a leading {number}"), &Call::Run(Side::Trailing, asked), &stores, 17);
@@ -210,6 +247,18 @@ fn main() {
     for _ in 0..20_000 {
         let noise = (0..random.below(60)).map(|_| random.pick(b"0011223 \n\n -9x")).collect();
         fuzz.call("read, noise", &Call::Read(noise), &small);
+    }
+    let sheet = b"3 2 1 0\n2\n2 1 1 2 0 1 0 2 1 -1\n2 1 1 1 1 0 1 1 -1\n1\n0 0\n0\n3\n2 0 1\n0\n1 5\n";
+    let (stores, asked, order) = stores_of(sheet);
+    fuzz.every_position("leading, sides", &Call::Run(Side::Leading, asked), &stores);
+    fuzz.every_position("trailing, sides", &Call::Run(Side::Trailing, asked), &stores);
+    fuzz.every_position("write, sides", &Call::Write(asked, order, vec![b'#'; 120]), &stores);
+    fuzz.every_fifth_section(&stores);
+    for _ in 0..20_000 {
+        let noise: Vec<u8> = (0..random.below(20)).map(|_| random.pick(b"0022331 \n\n\n -9x")).collect();
+        let sides = random.pick(&["", "3", "3\n", "3\n0\n0\n", "3\n1 2\n0\n", "3\n1 2\n0\n0\n"]);
+        let sheet = [FOUR_SECTIONS, sides.as_bytes(), &noise].concat();
+        fuzz.call("read, sides", &Call::Read(sheet), &stores);
     }
     for _ in 0..4 {
         fuzz.every_batch_store(&batch_of(&whole_sheet(&mut random)));
@@ -226,6 +275,7 @@ fn main() {
         fuzz.every_size(|asked| Call::Run(Side::Trailing, asked), &stores);
         fuzz.every_size(|asked| Call::Write(asked, vec![0; 4], vec![b'#'; 400]), &stores);
     }
-    println!("{} calls, {} differences, answers 0 to 9: {:?}", fuzz.calls, fuzz.differences, fuzz.answers);
+    let answers = &fuzz.answers[..PRINTED];
+    println!("{} calls, {} differences, answers 0 to {}: {answers:?}", fuzz.calls, fuzz.differences, PRINTED - 1);
     std::process::exit((fuzz.differences > 0) as i32);
 }

@@ -15,9 +15,7 @@ pub fn run(system: &mut System) -> Result<Report, u8> {
     let mut shifts = 0;
     system.order = [0; 4];
     for i in 0..system.m {
-        if system.width(i) == 0 {
-            return Err(6);
-        }
+        system.row_left(i)?;
         loop {
             for j in 0..i {
                 let entry = system.order[j] - 1;
@@ -45,6 +43,15 @@ impl System {
     fn width(&self, i: usize) -> usize {
         let row = &self.rows[i].0;
         (0..self.entries()).rev().find(|&e| row[e].length != 0).map_or(0, |e| e / 4 + 1)
+    }
+
+    /// 6 for a zero row, 10 for one that has a right side alone.
+    fn row_left(&self, i: usize) -> Result<(), u8> {
+        match (self.width(i), self.rows[i].1.length) {
+            (0, 0) => Err(6),
+            (0, _) => Err(10),
+            _ => Ok(()),
+        }
     }
 
     fn largest_root(&self) -> Option<i64> {
@@ -75,13 +82,22 @@ impl System {
                 content = with_divisor(content, p.coefficients());
             }
         }
-        match content {
-            0 => Err(6),
-            1 => within_limit(row, entries),
-            _ => {
-                divide(row, entries, content as i64);
-                within_limit(row, entries)
-            }
+        let left_zero = content == 0;
+        if row.1.length | pivot.1.length != 0 {
+            row.1 = combined(&row.1, g, &pivot.1, h)?;
+            content = with_divisor(content, row.1.coefficients());
+        }
+        if content == 0 {
+            return Err(6);
+        }
+        if content != 1 {
+            divide(row, entries, content as i64);
+        }
+        within_limit(row, entries)?;
+        if left_zero {
+            Err(10)
+        } else {
+            Ok(())
         }
     }
 
@@ -90,7 +106,7 @@ impl System {
         let row = &mut self.rows[i];
         row.0.copy_within(4..ENTRIES, 0);
         row.0[entries - 4..].iter_mut().for_each(|p| p.length = 0);
-        for p in &mut row.0[..entries - 4] {
+        for p in row.0[..entries - 4].iter_mut().chain([&mut row.1]) {
             increment(&mut p.numbers[..p.length]);
         }
         within_limit(row, entries)
@@ -108,7 +124,7 @@ fn increment(p: &mut [i64]) {
 
 fn within_limit(row: &Row, entries: usize) -> Result<(), u8> {
     let too_large = |p: &Polynomial| p.coefficients().iter().any(|a| a.abs() > C);
-    if row.0[..entries].iter().any(too_large) {
+    if row.0[..entries].iter().any(too_large) || too_large(&row.1) {
         Err(8)
     } else {
         Ok(())
@@ -116,7 +132,7 @@ fn within_limit(row: &Row, entries: usize) -> Result<(), u8> {
 }
 
 fn divide(row: &mut Row, entries: usize, d: i64) {
-    for p in &mut row.0[..entries] {
+    for p in row.0[..entries].iter_mut().chain([&mut row.1]) {
         p.numbers[..p.length].iter_mut().for_each(|a| *a /= d);
     }
 }

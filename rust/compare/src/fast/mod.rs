@@ -32,15 +32,16 @@ impl Polynomial {
     }
 }
 
-/// Block l first, four columns a block.
+/// The entries, block l first, four columns a block, and the right side.
 #[derive(Clone, Copy)]
-pub struct Row(pub [Polynomial; ENTRIES]);
+pub struct Row(pub [Polynomial; ENTRIES], pub Polynomial);
 
 impl Row {
-    pub const ZERO: Row = Row([Polynomial::ZERO; ENTRIES]);
+    pub const ZERO: Row = Row([Polynomial::ZERO; ENTRIES], Polynomial::ZERO);
 
     fn clear(&mut self) {
         self.0.iter_mut().for_each(|p| p.length = 0);
+        self.1.length = 0;
     }
 }
 
@@ -104,7 +105,7 @@ fn frames(input: &[u8], system: &mut System, output: &mut Vec<u8>) -> Result<(us
         match answer(system, bytes, output) {
             Ok(()) => accepted += 1,
             Err(number) => {
-                output.extend([b'0' + number, b'\n']);
+                output.extend(format!("{number}\n").bytes());
                 refused += 1;
             }
         }

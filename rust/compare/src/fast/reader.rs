@@ -104,6 +104,9 @@ pub fn read(bytes: &[u8], system: &mut System) -> Result<(), u8> {
         equation(&mut cursor, system.m, system.l, system.blocks, &mut relation.row)?;
     }
     order(&mut cursor, system)?;
+    if cursor.ended().is_err() {
+        sides(&mut cursor, system)?;
+    }
     cursor.ended()
 }
 
@@ -138,6 +141,11 @@ fn equation(cursor: &mut Cursor, m: usize, l: i64, blocks: usize, row: &mut Row)
 
 fn coefficients(cursor: &mut Cursor, line: u8, p: &mut Polynomial) -> Result<(), u8> {
     let count = cursor.within(1, 16, b' ')? as usize;
+    listed(cursor, count, line, p)
+}
+
+/// So many coefficients, the last of them nonzero.
+fn listed(cursor: &mut Cursor, count: usize, line: u8, p: &mut Polynomial) -> Result<(), u8> {
     for k in 1..=count {
         let (a, separator) = cursor.number()?;
         judged(a.abs() <= C, 5)?;
@@ -160,6 +168,25 @@ fn order(cursor: &mut Cursor, system: &mut System) -> Result<(), u8> {
         judged((1..=m).contains(&c) && !system.order[..place].contains(&(c as usize)), 2)?;
         judged(separator == separator_if(place as i64 + 1 == m), 3)?;
         system.order[place] = c as usize;
+    }
+    Ok(())
+}
+
+/// The fifth section.
+fn sides(cursor: &mut Cursor, system: &mut System) -> Result<(), u8> {
+    let all = (system.m + system.count) as i64;
+    cursor.within(all, all, b'\n')?;
+    let relations = system.relations[..system.count].iter_mut().map(|relation| &mut relation.row);
+    let mut left = all;
+    let mut zeros = true;
+    for row in system.rows[..system.m].iter_mut().chain(relations) {
+        left -= 1;
+        let (count, separator) = cursor.number()?;
+        judged((0..=16).contains(&count), 2)?;
+        zeros &= count == 0;
+        judged(left > 0 || !zeros, 3)?;
+        judged(separator == separator_if(count == 0), 3)?;
+        listed(cursor, count as usize, b'\n', &mut row.1)?;
     }
     Ok(())
 }

@@ -16,10 +16,19 @@ pub fn write(system: &System, output: &mut Vec<u8>) {
         equation(output, system, &relation.row);
     }
     if system.order[0] == 0 {
-        return line(output, &[0]);
+        line(output, &[0]);
+    } else {
+        number(output, m as i64, b' ');
+        line(output, &system.order.map(|c| c as i64)[..m]);
     }
-    number(output, m as i64, b' ');
-    line(output, &system.order.map(|c| c as i64)[..m]);
+    let all = || system.rows[..m].iter().chain(system.relations[..system.count].iter().map(|relation| &relation.row));
+    if all().any(|row| row.1.length != 0) {
+        line(output, &[(m + system.count) as i64]);
+        for row in all() {
+            number(output, row.1.length as i64, b' ');
+            line(output, row.1.coefficients());
+        }
+    }
 }
 
 fn line(output: &mut Vec<u8>, numbers: &[i64]) {

@@ -1,4 +1,4 @@
--- `writing::writer::put_sheet` meets its contract: the six parts of a sheet, one after the other.
+-- `writing::writer::put_sheet` meets its contract: the seven parts of a sheet, one after the other.
 -- Assumes nothing.
 use mathlib.Core.Path.{_≡_, _∙_, ap₂}
 use mathlib.Core.List.{List, [], _∷_, _++_, map}
@@ -12,10 +12,10 @@ use mir.Val.{toZ, ofZ}
 use mir.Facts.{toZ-ofZ}
 use Rattle.rules.specs.Limits.{blockBound}
 use Rattle.rules.specs.Numbers.{line, lines}
-use Rattle.rules.specs.Sheets.{equationNumbers, relationLine, orderLine}
+use Rattle.rules.specs.Sheets.{equationNumbers, relationLine, orderLine, sideLines}
 use Rattle.rules.specs.Stores.{equations, rowsOf, relationsOf}
 use Rattle.stores.specs.Validity.{sizesOf}
-use Rattle.writing.specs.Writer.{put-same, put-then, put-wide, small-block, sheet-bytes}
+use Rattle.writing.specs.Writer.{put-same, put-then, put-wide, small-block, sidesGiven, sheet-bytes}
 use Rattle.writing.proofs.writer.put_sheet.Statement.{statement}
 use Rattle.writing.proofs.writer.put_sheet.Tie as tie
 
@@ -87,13 +87,37 @@ put-order-requires c κs =
     (put-then (after-count .put-count2 .ensures) (after-relations .put-relations .ensures)))) in
     (ready .1, omega (arith, written .passed, written .few, ready .0 .few-rows, ready .0 .few))
 
+put-fifth-requires : tie.Need-put-fifth-requires
+unfolding equations sizesOf
+put-fifth-requires c κs =
+    let after-order = c .before .before .before in
+    let after-relations = after-order .before .before .before .before in
+    let after-count = after-relations .before .before .before .before in
+    let after-rows = after-count .before .before .before .before in
+    let after-m = after-rows .before .before .before .before in
+    let after-sizes = after-m .before .before .before .before in
+    let ready = after-sizes .before .before .before .before .before .before .pre .0 in
+    let written =
+    put-then (after-sizes .put-sizes .ensures)
+    (put-then (after-m .put-count .ensures)
+    (put-then (after-rows .put-equations .ensures)
+    (put-then (after-count .put-count2 .ensures)
+    (put-then (after-relations .put-relations .ensures) (after-order .put-order .ensures))))) in (
+      (ready .few-rows, ready .rows, ready .row-numbers),
+      (
+        (ready .few, ready .relations, ready .relation-numbers),
+        omega (arith, written .passed, written .few, ready .few-rows, ready .few),
+      ),
+    )
+
 same-length : tie.Need-same-length
 same-length c = search needs
 
 returns : tie.Need-returns
 unfolding equations sizesOf
 returns c =
-    let after-relations = c .before .before .before .before .before .before in
+    let after-order = c .before .before .before .before .before .before in
+    let after-relations = after-order .before .before .before .before in
     let after-count = after-relations .before .before .before .before in
     let after-rows = after-count .before .before .before .before in
     let after-m = after-rows .before .before .before .before in
@@ -106,14 +130,17 @@ returns c =
     ++ (line (pos m ∷ []) ++ (lines (map (equationNumbers l) (rowsOf m (now (args .rows))))
     ++ (line (pos (args .count) ∷ []) ++ (lines (map (relationLine l) (relationsOf (args .count) (now (args .relations))))
     ++ line (orderLine (now (args .columns))))))) in
+    let sides = lines (sideLines (sidesGiven m (args .count) (now (args .rows)) (now (args .relations)))) in
     put-wide
     (put-same
+    (put-then
     (put-then (after-sizes .put-sizes .ensures)
     (put-then (after-m .put-count .ensures)
     (put-then (after-rows .put-equations .ensures)
     (put-then (after-count .put-count2 .ensures)
-    (put-then (after-relations .put-relations .ensures) (c .before .before .put-order .ensures))))))
-    (ap₂ bytes (back-l told) (back-t told)
+    (put-then (after-relations .put-relations .ensures) (after-order .put-order .ensures))))))
+    (c .before .before .put-fifth .ensures))
+    (ap₂ (λ l t. bytes l t ++ sides) (back-l told) (back-t told)
     ∙ sheet-bytes (sizesOf (args .sizes)) (args .count) (now (args .columns)) (now (args .rows)) (now (args .relations))))
     (omega arith)
 
@@ -127,5 +154,6 @@ put-sheet-spec =
     put-count-requires-2
     put-relations-requires
     put-order-requires
+    put-fifth-requires
     same-length
     returns)

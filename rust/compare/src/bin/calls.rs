@@ -1,0 +1,65 @@
+//! Files of cases that were made elsewhere, compared through the exported functions: `calls [outside] FILE ..`. A `run.txt` has sheets
+//! with what their runs leave, a `NAME.in` is a batch, whose output is in `NAME.out` beside it. Every store is judged before and after:
+//! of the needed length, longer and too short. With `outside` the outside implementation is judged in place of the library.
+//! The exit code is 1 if there is a difference, 2 if there is nothing to compare.
+
+use compare::runs::{runs_of, Judge, Judgement};
+use compare::subject::{Library, Outside, Subject};
+use std::path::{Path, PathBuf};
+use std::{env, fs, process};
+
+/// Differences of a file that are printed whole.
+const SHOWN: usize = 3;
+
+/// A message, and the end of the program.
+fn nothing(message: String) -> ! {
+    eprintln!("{message}");
+    process::exit(2)
+}
+
+fn contents(path: &Path) -> Vec<u8> {
+    fs::read(path).unwrap_or_else(|error| nothing(format!("{}: {error}", path.display())))
+}
+
+/// Whether each case of a file is as it says.
+fn judged(path: &Path, judge: &mut Judge, subject: &dyn Subject) -> Vec<Judgement> {
+    if path.extension().is_some_and(|extension| extension == "in") {
+        return vec![judge.batch(&contents(path), &contents(&path.with_extension("out")), subject)];
+    }
+    match runs_of(&contents(path)) {
+        Ok(cases) if !cases.is_empty() => cases.iter().map(|case| judge.runs(case, subject)).collect(),
+        Ok(_) => nothing(format!("{}: no cases", path.display())),
+        Err(message) => nothing(format!("{}: {message}", path.display())),
+    }
+}
+
+fn main() {
+    let mut arguments: Vec<PathBuf> = env::args_os().skip(1).map(PathBuf::from).collect();
+    let with_outside = arguments.first().is_some_and(|first| first.as_os_str() == "outside");
+    if with_outside {
+        arguments.remove(0);
+    }
+    if arguments.is_empty() {
+        nothing("calls [outside] FILE ..".into());
+    }
+    let subject: Box<dyn Subject> = if with_outside { Box::new(Outside(None)) } else { Box::new(Library::needed()) };
+    let mut all = 0;
+    for path in arguments {
+        let mut judge = Judge::default();
+        let results = judged(&path, &mut judge, subject.as_ref());
+        let differences: Vec<&String> = results.iter().filter_map(|result| result.as_ref().err()).collect();
+        differences
+            .iter()
+            .take(SHOWN)
+            .for_each(|difference| println!("DIFFERENCE in {}: {difference}", path.display()));
+        let (cases, calls) = (results.len(), judge.calls);
+        println!(
+            "{}, {}: {cases} cases, {calls} calls, {} differences",
+            path.display(),
+            subject.name(),
+            differences.len()
+        );
+        all += differences.len();
+    }
+    process::exit((all > 0) as i32);
+}

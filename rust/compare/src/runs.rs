@@ -1,0 +1,408 @@
+//! Cases that were made elsewhere, from a file of runs or a batch with its output. A subject is called with stores of several lengths,
+//! and every number of every store is judged, before and after. What is expected comes from the file alone: its sheets are taken apart
+//! here into the numbers that the stores have to hold.
+
+use crate::cases::text;
+use crate::subject::Subject;
+use outside::elimination::Side;
+use outside::stores::Asked;
+use std::str;
+use wurgalm::{row_store, COEFFICIENTS, ENTRIES, RELATION, RELATION_STORE, ROW};
+
+/// Numbers of the result of a run or of the reader.
+const RESULT: usize = 8;
+
+/// What a run of a sheet leaves.
+#[derive(Debug, PartialEq, Eq)]
+pub struct Left {
+    pub refusal: u8,
+    pub shifts: i64,
+    pub root: Option<i64>,
+    /// Empty on a refusal.
+    pub sheet: Vec<u8>,
+}
+
+/// A sheet, and what its runs leave.
+#[derive(Debug, PartialEq, Eq)]
+pub struct Runs {
+    pub sheet: Vec<u8>,
+    pub leading: Left,
+    pub trailing: Left,
+}
+
+// ---- the file ----
+
+/// The cases of a `run.txt`: a line `sheet BYTES` and so many bytes, a line `leading REFUSAL shifts S root R` with the sheet that is
+/// left where the refusal is 0, and the same for the trailing side.
+pub fn runs_of(mut file: &[u8]) -> Result<Vec<Runs>, String> {
+    let mut cases = Vec::new();
+    while !file.is_empty() {
+        let line = next_line(&mut file)?;
+        let length = line.strip_prefix("sheet ").and_then(|length| length.parse().ok());
+        let Some((sheet, rest)) = length.and_then(|length| file.split_at_checked(length)) else {
+            return Err(format!("no sheet at {line:?}"));
+        };
+        file = rest;
+        let (leading, trailing) = (left(&mut file, "leading")?, left(&mut file, "trailing")?);
+        cases.push(Runs { sheet: sheet.to_vec(), leading, trailing });
+    }
+    Ok(cases)
+}
+
+fn next_line<'a>(file: &mut &'a [u8]) -> Result<&'a str, String> {
+    let end = file.iter().position(|&b| b == b'\n').ok_or("the file ends in the middle of a line")?;
+    let line = str::from_utf8(&file[..end]).map_err(|_| "a line is no text")?;
+    *file = &file[end + 1..];
+    Ok(line)
+}
+
+fn left(file: &mut &[u8], side: &str) -> Result<Left, String> {
+    let line = next_line(file)?;
+    let words: Vec<&str> = line.split(' ').collect();
+    let wrong = || format!("no {side} run at {line:?}");
+    let [name, refusal, "shifts", shifts, "root", root] = words[..] else { return Err(wrong()) };
+    let root = if root == "none" { None } else { Some(root.parse().map_err(|_| wrong())?) };
+    let (refusal, shifts) = (refusal.parse().map_err(|_| wrong())?, shifts.parse().map_err(|_| wrong())?);
+    if name != side {
+        return Err(wrong());
+    }
+    // Lines of a sheet have numbers alone, and all other lines begin with a letter.
+    let mut sheet = Vec::new();
+    while file.first().is_some_and(|first| !first.is_ascii_alphabetic()) {
+        sheet.extend(next_line(file)?.bytes().chain([b'\n']));
+    }
+    Ok(Left { refusal, shifts, root, sheet })
+}
+
+// ---- a sheet as numbers of stores ----
+
+/// What the needed parts of the stores hold for a sheet, and its column order.
+#[derive(Clone)]
+struct Held {
+    asked: Asked,
+    rows: Vec<i64>,
+    relations: Vec<i64>,
+    order: [i64; 4],
+}
+
+/// The numbers of a sheet one after the other. Its lines play no part: every count is among the numbers.
+struct Numbers<'a>(str::SplitAsciiWhitespace<'a>);
+
+impl Numbers<'_> {
+    fn more(&mut self) -> Option<i64> {
+        self.0.next().map(|token| token.parse().expect("a number"))
+    }
+
+    fn next(&mut self) -> i64 {
+        self.more().expect("a whole sheet")
+    }
+
+    fn count(&mut self) -> usize {
+        self.next() as usize
+    }
+
+    /// The number of coefficients, and those.
+    fn polynomial(&mut self, place: &mut [i64]) {
+        let count = self.count();
+        place[..count].fill_with(|| self.next());
+    }
+
+    /// The terms of an equation.
+    fn equation(&mut self, l: i64, row: &mut [i64]) {
+        for _ in 0..self.count() {
+            let (s, c) = (self.next(), self.next());
+            let at = ((l - s) * 4 + c - 1) as usize * COEFFICIENTS;
+            self.polynomial(&mut row[at..at + COEFFICIENTS]);
+        }
+    }
+}
+
+/// The numbers that a sheet without a fault puts into stores.
+fn held(sheet: &[u8]) -> Held {
+    let mut numbers = Numbers(str::from_utf8(sheet).expect("a whole sheet").split_ascii_whitespace());
+    let (_, m, l, t) = (numbers.next(), numbers.count(), numbers.next(), numbers.next());
+    let (mut rows, mut relations) = (vec![0; row_store(m)], vec![0; RELATION_STORE]);
+    let equations = numbers.count();
+    rows.chunks_mut(ROW).take(equations).for_each(|row| numbers.equation(l, row));
+    let count = numbers.count();
+    for relation in relations.chunks_mut(RELATION).take(count) {
+        relation[0] = numbers.next();
+        numbers.equation(l, &mut relation[1..]);
+    }
+    let mut order = [0; 4];
+    numbers.polynomial(&mut order);
+    if numbers.more().is_some() {
+        rows.chunks_mut(ROW).take(equations).for_each(|row| numbers.polynomial(&mut row[ENTRIES..]));
+        relations.chunks_mut(RELATION).take(count).for_each(|row| numbers.polynomial(&mut row[1 + ENTRIES..]));
+    }
+    assert!(numbers.more().is_none(), "a whole sheet");
+    Held { asked: Asked { m, l, t, count }, rows, relations, order }
+}
+
+// ---- lent stores ----
+
+/// What a lent store holds where nothing is said about it.
+fn unsaid<T: Member>(length: usize) -> Vec<T> {
+    (0..length).map(T::unsaid).collect()
+}
+
+/// A member of a store.
+trait Member: Copy + PartialEq + Default {
+    fn unsaid(at: usize) -> Self;
+}
+
+impl Member for i64 {
+    fn unsaid(at: usize) -> i64 {
+        0x5a5a_5a5a_5a5a_5a5a ^ at as i64
+    }
+}
+
+impl Member for u8 {
+    fn unsaid(at: usize) -> u8 {
+        b'#' ^ (at % 7) as u8
+    }
+}
+
+/// The numbers, and behind them so many that the call has nothing to do with; or one number less.
+fn lent<T: Member>(needed: &[T], more: isize) -> Vec<T> {
+    let length = needed.len().saturating_add_signed(more);
+    let mut store = unsaid(length);
+    let both = length.min(needed.len());
+    store[..both].copy_from_slice(&needed[..both]);
+    store
+}
+
+/// The stores of a call: how long each is beside its need, and what a call does with one that is too short.
+const LENGTHS: [[isize; 3]; 6] = [[0, 0, 0], [3, 0, 0], [0, ROW as isize, 1], [-1, 0, 0], [0, -1, 5], [7, 0, -1]];
+
+fn is_short(more: &[isize]) -> bool {
+    more.iter().any(|&more| more < 0)
+}
+
+// ---- judging ----
+
+/// What was different, for a reader.
+pub type Judgement = Result<(), String>;
+
+/// Counts calls.
+#[derive(Default)]
+pub struct Judge {
+    pub calls: usize,
+}
+
+fn same<T: PartialEq + std::fmt::Debug>(what: &str, found: &[T], expected: &[T]) -> Judgement {
+    if found.len() != expected.len() {
+        return Err(format!("{what}: {} members and not {}", found.len(), expected.len()));
+    }
+    match found.iter().zip(expected).position(|(a, b)| a != b) {
+        None => Ok(()),
+        Some(at) => Err(format!("{what} at {at}: {:?} and not {:?}", found[at], expected[at])),
+    }
+}
+
+fn numbered(what: &str, found: u8, expected: u8) -> Judgement {
+    if found == expected {
+        Ok(())
+    } else {
+        Err(format!("{what} answers {found} and not {expected}"))
+    }
+}
+
+impl Judge {
+    /// Every call on one case.
+    pub fn runs(&mut self, case: &Runs, subject: &dyn Subject) -> Judgement {
+        let judged = match case.leading.refusal {
+            // What is refused before the work of a run is refused by the reader.
+            number @ 1..=5 => self.unread(&case.sheet, number, subject),
+            _ => {
+                let input = held(&case.sheet);
+                self.read(&case.sheet, &input, subject)
+                    .and_then(|()| self.written(&case.sheet, &input, subject))
+                    .and_then(|()| self.run(Side::Leading, &input, &case.leading, subject))
+                    .and_then(|()| self.run(Side::Trailing, &input, &case.trailing, subject))
+            }
+        };
+        judged.map_err(|difference| format!("{difference}\n{}", text(&case.sheet)))
+    }
+
+    /// The reader refuses the sheet, and leaves all stores as they are.
+    fn unread(&mut self, sheet: &[u8], number: u8, subject: &dyn Subject) -> Judgement {
+        let before = (unsaid::<i64>(row_store(4)), unsaid::<i64>(RELATION_STORE), unsaid::<i64>(RESULT));
+        let mut after = before.clone();
+        self.calls += 1;
+        numbered("reading", subject.read(sheet, &mut after.0, &mut after.1, &mut after.2), number)?;
+        same("row store", &after.0, &before.0)?;
+        same("relation store", &after.1, &before.1)?;
+        same("result", &after.2, &before.2)
+    }
+
+    /// The reader fills the stores, whatever they held, and writes nothing past their needed parts.
+    fn read(&mut self, sheet: &[u8], input: &Held, subject: &dyn Subject) -> Judgement {
+        let Asked { m, l, t, count } = input.asked;
+        let [a, b, c, d] = input.order;
+        let heading = [m as i64, l, t, count as i64, a, b, c, d];
+        for more in LENGTHS {
+            let before: [Vec<i64>; 3] = [row_store(m), RELATION_STORE, RESULT].map(unsaid);
+            let before = [0, 1, 2].map(|k| lent(&before[k], more[k]));
+            let [mut rows, mut relations, mut result] = before.clone();
+            let found = subject.read(sheet, &mut rows, &mut relations, &mut result);
+            let parts: [&[i64]; 3] = [&input.rows, &input.relations, &heading];
+            let expected = if is_short(&more) { before } else { [0, 1, 2].map(|k| lent(parts[k], more[k])) };
+            self.calls += 1;
+            numbered("reading", found, is_short(&more) as u8)?;
+            same("row store that was read", &rows, &expected[0])?;
+            same("relation store that was read", &relations, &expected[1])?;
+            same("result of reading", &result, &expected[2])?;
+        }
+        Ok(())
+    }
+
+    /// The writer writes the sheet, and nothing past its end.
+    fn written(&mut self, sheet: &[u8], held: &Held, subject: &dyn Subject) -> Judgement {
+        for (more, past, result) in [(0, 0, 0), (5, 2, 3), (-1, 0, 0), (0, -1, 0), (9, 0, -1)] {
+            let refused = is_short(&[more, past, result]);
+            let (rows, relations) = (lent(&held.rows, past), lent(&held.relations, past.max(0)));
+            let before = (lent(&unsaid(sheet.len()), more), lent(&unsaid(1), result));
+            let mut after = before.clone();
+            let found = subject.write(&rows, &relations, held.asked, &held.order, &mut after.0, &mut after.1);
+            let accepted = || (lent(sheet, more), lent(&[sheet.len() as i64], result));
+            let expected = if refused { before } else { accepted() };
+            self.calls += 1;
+            numbered("writing", found, refused as u8)?;
+            same("bytes that were written", &after.0, &expected.0)?;
+            same("result of writing", &after.1, &expected.1)?;
+        }
+        Ok(())
+    }
+
+    /// A run leaves what the file says, zeros on a refusal, and everything as it is in stores that are too short.
+    fn run(&mut self, side: Side, input: &Held, left: &Left, subject: &dyn Subject) -> Judgement {
+        let after = if left.refusal == 0 {
+            let output = held(&left.sheet);
+            let [a, b, c, d] = output.order;
+            let root = [left.root.is_some() as i64, left.root.unwrap_or(0)];
+            let result = [output.asked.count as i64, left.shifts, a, b, c, d, root[0], root[1]];
+            self.written(&left.sheet, &output, subject)?;
+            [output.rows, output.relations, result.to_vec()]
+        } else {
+            [vec![0; row_store(input.asked.m)], vec![0; RELATION_STORE], vec![0; RESULT]]
+        };
+        for more in LENGTHS {
+            let before = [input.rows.clone(), input.relations.clone(), unsaid(RESULT)];
+            let before = [0, 1, 2].map(|k| lent(&before[k], more[k]));
+            let [mut rows, mut relations, mut result] = before.clone();
+            let found = subject.run(side, &mut rows, &mut relations, input.asked, &mut result);
+            let short = is_short(&more);
+            let expected = if short { before } else { [0, 1, 2].map(|k| lent(&after[k], more[k])) };
+            self.calls += 1;
+            numbered(&format!("{side:?} run"), found, if short { 1 } else { left.refusal })?;
+            same(&format!("{side:?} row store"), &rows, &expected[0])?;
+            same(&format!("{side:?} relation store"), &relations, &expected[1])?;
+            same(&format!("{side:?} result"), &result, &expected[2])?;
+        }
+        Ok(())
+    }
+
+    /// A batch is worked into a byte store. In one that is too short it leaves zeros; without a result store nothing changes.
+    pub fn batch(&mut self, input: &[u8], output: &[u8], subject: &dyn Subject) -> Judgement {
+        for (more, result) in [(0, 0), (4, 2), (-1, 0), (-1, 1), (0, -1)] {
+            let before = (lent(&unsaid(output.len()), more), lent(&unsaid(1), result));
+            let mut after = before.clone();
+            let found = subject.batch_call(input, &mut after.0, &mut after.1);
+            let expected = match (more, result) {
+                (_, -1) => before,
+                (-1, _) => (vec![0; output.len() - 1], lent(&[0], result)),
+                _ => (lent(output, more), lent(&[output.len() as i64], result)),
+            };
+            self.calls += 1;
+            numbered("a batch", found, is_short(&[more, result]) as u8)?;
+            same("output of a batch", &after.0, &expected.0)?;
+            same("result of a batch", &after.1, &expected.1)?;
+        }
+        Ok(())
+    }
+}
+
+#[cfg(test)]
+mod tests {
+    use super::*;
+    use crate::random::Random;
+    use crate::sheets::whole_sheet;
+    use crate::subject::Outside;
+    use outside::elimination::run;
+    use outside::fault::Fault;
+    use outside::sheet::{read, write, Sheet};
+
+    /// The lines that a file of runs has for a sheet.
+    fn lines(sheet: &[u8], side: Side) -> Vec<u8> {
+        let name = if side == Side::Leading { "leading" } else { "trailing" };
+        match read(sheet, None).and_then(|sheet| run(&sheet.system, side, None)) {
+            Err(refusal) => format!("{name} {} shifts 0 root none\n", refusal.number()).into_bytes(),
+            Ok(run) => {
+                let root = run.root.map_or("none".into(), |root| root.to_string());
+                let line = format!("{name} 0 shifts {} root {root}\n", run.shifts);
+                [line.into_bytes(), write(&Sheet { system: run.system, order: run.order })].concat()
+            }
+        }
+    }
+
+    fn file(sheets: &[Vec<u8>]) -> Vec<u8> {
+        let case = |sheet: &Vec<u8>| {
+            let line = format!("sheet {}\n", sheet.len()).into_bytes();
+            [line, sheet.clone(), lines(sheet, Side::Leading), lines(sheet, Side::Trailing)].concat()
+        };
+        sheets.iter().flat_map(case).collect()
+    }
+
+    fn some_sheets() -> Vec<Vec<u8>> {
+        let mut random = Random::new(11);
+        let mut sheets: Vec<Vec<u8>> = (0..400).map(|_| whole_sheet(&mut random)).collect();
+        sheets.extend([b"3 1 0 0\n1\n0\n0\n0\n1\n0\n".to_vec(), b"3 5 0 0\n".to_vec(), Vec::new()]);
+        sheets
+    }
+
+    #[test]
+    fn right() {
+        let cases = runs_of(&file(&some_sheets())).unwrap();
+        assert_eq!(cases.len(), 403);
+        let mut judge = Judge::default();
+        for case in &cases {
+            judge.runs(case, &Outside(None)).unwrap();
+        }
+        assert!(judge.calls > 10_000);
+    }
+
+    /// Faults of every kind of call are noticed.
+    #[test]
+    fn wrong() {
+        use Fault::*;
+        let cases = runs_of(&file(&some_sheets())).unwrap();
+        let faults = [
+            [SideNotCombined, SideOutOfContent, SideNotDivided, SideNotShifted, SideNotMirrored, SideOutOfDegree],
+            [SideOutOfLimit, SideOutOfShiftLimit, SideInWidth, RelationWithoutSide, InconsistentIsDependent, SideFirst],
+            [StoresKept, ZeroedPastNeed, ZeroSides, SideOfEquations, SmallestRootReported, TrailingDescending],
+        ];
+        for fault in faults.concat() {
+            let noticed = |case: &Runs| Judge::default().runs(case, &Outside(Some(fault))).is_err();
+            assert!(cases.iter().any(noticed), "{fault:?}");
+        }
+    }
+
+    #[test]
+    fn batches() {
+        let sheet = b"3 1 0 0\n1\n1 0 1 1 1\n0\n0\n1\n1 5\n";
+        let input = [format!("2\n1 {}\n", sheet.len()).as_bytes(), sheet, b"8 0\n"].concat();
+        let output = b"0\n3 1 0 0\n1\n1 0 1 1 1\n0\n1 1\n1\n1 5\n4\n1 1\n";
+        Judge::default().batch(&input, output, &Outside(None)).unwrap();
+        for fault in [Fault::BatchStoresKept, Fault::BatchCut, Fault::BatchTailZeroed, Fault::BatchResultLast] {
+            assert!(Judge::default().batch(&input, output, &Outside(Some(fault))).is_err(), "{fault:?}");
+        }
+    }
+
+    #[test]
+    fn broken_files() {
+        for file in ["sheet", "sheet 9\n", "sheet 1\n3leading 4", "sheet 0\nleading 4 shifts 0 root none\n", "x 1\n3"] {
+            assert!(runs_of(file.as_bytes()).is_err(), "{file:?}");
+        }
+    }
+}
