@@ -1,7 +1,8 @@
 -- The combination g·p + h·q of polynomials and of rows as the code makes it.
 --
 -- Main definitions
---   Trimmed            the trimmed multipliers and the trimmed parts of two rows at one place
+--   combinations, lowNumbers   the combinations of the polynomials of two lists of numbers, and the numbers of their low parts
+--   Trimmed            the trimmed multipliers and the trimmed parts of two lists at one place
 --   trim p             the coefficients of p up to the highest nonzero one
 --   lowPart p          the first 16 coefficients
 --
@@ -9,8 +10,9 @@
 --   combined-trim      trimmed polynomials have a combination with the same coefficients
 --   lowPart-at, lowPart-take    coefficient k of the low part; the low part is the front where there are 16 coefficients
 --   high-free, high-found       the test of the coefficients past power 15
---   low-degrees, length-polynomials, trimmed-high   the polynomials of a combination of rows, and which have a degree past 15
+--   low-degrees, length-combinations, trimmed-high   the polynomials of a combination of rows, and which have a degree past 15
 --   length-low, trimmed-low, trimmed-zero   the numbers of the low parts: each part, and those that are zero
+--   combinations-apart, low-apart   the left parts and the right sides are combined apart
 --   trimmed-fit        what is trimmed stays within the limits
 --   cut-low            the low parts are the cut of the combination
 --   combined-held      a combination within the limits is held by its numbers
@@ -18,20 +20,20 @@
 use mathlib.Core.Path.{_≡_, refl, sym, _∙_, ap, ap₂, subst, fun-ext}
 use mathlib.Core.Logic.{_↔_, _≢_}
 use mathlib.Core.Bool.{true, false, _&&_}
-use mathlib.Core.List.{List, [], _∷_, _++_, map, flatten, zipWith, append-nil}
+use mathlib.Core.List.{List, [], _∷_, _++_, map, flatten, zipWith, append-nil, map-append}
 use Prim.Native.Nat.{ℕ, zero, suc, _+_, _*_, _-_, _^_, _≤_, _<_, max}
-use native.Mathlib.Nat.{not-suc-le-zero, le-trans, zero-add}
+use native.Mathlib.Nat.{not-suc-le-zero, le-trans, le-refl, zero-add}
 use native.Mathlib.Omega.{arith}
 use native.Mathlib.Decide.{decLe, decLt}
 use lib.Dec.{T, lit<}
 use lib.IntN.{ℤ, pos, natAbs, _+ℤ_, _*ℤ_}
 use lib.ListN.{length, take, drop, getD, length-take, length-map}
-use lib.Seq.{ext-getD, getD-take, length-take-le}
+use lib.Seq.{ext-getD, getD-take, length-take-le, take-at, drop-at}
 use Rattle.algebra.specs.Integers.{natAbs-+ℤ}
 use Rattle.algebra.specs.Gcd.{content, divideBy, length-divideBy}
 use Rattle.algebra.specs.Sums.{countFrom, sumBelow, length-countFrom, getD-countFrom}
 use Rattle.algebra.specs.Polynomials.{Polynomial, coeff, isZero, degree, add, mul, isZero-cons, isZero-coeff}
-use Rattle.lists.specs.Tests.{same-test, T-&&, true-of, false-of, every, every-flatten, every-take, every-drop, every-part}
+use Rattle.lists.specs.Tests.{same-test, T-&&, true-of, false-of, every, every-take, every-drop, every-part}
 use Rattle.algebra.specs.Polynomials.{coeff-isZero}
 use Rattle.algebra.specs.Polynomials.{isZero-add, isZero-mul-right, length-add, length-scale}
 use Rattle.algebra.specs.Coefficients.{coeff-add, coeff-mul, coeff-take, coeff-drop, coeff-past-length, coeff-past-degree}
@@ -41,14 +43,15 @@ use Rattle.polynomials.specs.Product.{product-size}
 use Rattle.rules.specs.Limits.{rowLength, small, coefficientCount, columnCount}
 use Rattle.rules.specs.Rows.{Row, mapRow, coefficientsOf, combine, primitive, lowDegrees, cut}
 use Rattle.lists.specs.Everywhere.{All}
-use Rattle.lists.specs.Images.{getD-map, getD-zipWith}
-use Rattle.lists.specs.Joined.{length-flatten}
+use Rattle.lists.specs.Images.{getD-map, length-zipWith, getD-zipWith, zipWith-append}
+use Rattle.lists.specs.Joined.{length-flatten, flatten-append}
 use Rattle.rules.specs.Stores.{rowOf, StoreRow}
-use Rattle.lists.specs.Parts.{parts, parts-length, parts-width, getD-parts, part-flatten}
+use Rattle.lists.specs.Parts.{parts, parts-length, parts-width, parts-append, parts-take, getD-parts, part-flatten}
 use Rattle.rules.specs.Elimination.{within, limitDegrees}
 use Rattle.rules.specs.Layout.{coefficientsAt}
-use Rattle.stores.specs.Flat.{partCount, partsIn, polynomialsOf, polynomials-rowOf, polynomials-mapRow, polynomials-combine, numbers-mapRow, length-blocks}
-use Rattle.combinations.specs.Primitive.{lowDegrees-every, degrees-within}
+use Rattle.stores.specs.Flat.{partCount, partsIn, polynomialsOf, polynomials-rowOf, polynomials-mapRow, polynomials-combine}
+use Rattle.stores.specs.Flat.{numbers-mapRow, length-blocks}
+use Rattle.combinations.specs.Primitive.{isLow, lowDegrees-every, degrees-within}
 use Rattle.working_rows.specs.Worked.{Held, held, store-row}
 
 -- ---- polynomials with the same coefficients
@@ -198,7 +201,7 @@ unfolding All
 front-width f e [] w = tt
 front-width f e (p ∷ ps) w = (length-take-le coefficientCount (f p) (rw e (w .0)), front-width f e ps (w .1))
 
-below-append : (n : ℕ) (l m : List ℤ) → Below n l → Below n m → Below n (l ++ m)
+pub below-append : (n : ℕ) (l m : List ℤ) → Below n l → Below n m → Below n (l ++ m)
 below-append n [] m h k i = k i
 below-append n (a ∷ l) m h k zero = h 0
 below-append n (a ∷ l) m h k (suc i) = below-append n l m (λ j. h (suc j)) k i
@@ -238,16 +241,82 @@ module _ (g h : Polynomial) (short-g : length g ≤ coefficientCount) (short-h :
       (below-map (2 ^ 63) (lit< tt) (coeff (add (mul g p) (mul h q))) (coefficient-below p q (s .0) (t .0)) (countFrom 0 coefficientCount))
       (low-below ps qs (s .1) (t .1)) k
 
--- ---- combinations of rows
+-- ---- combinations of the polynomials that numbers hold
 
--- The polynomials of a combination of two rows that are held by numbers.
-combinations : Polynomial → Polynomial → List ℤ → List ℤ → List Polynomial
-combinations g h t u = zipWith (λ p q. add (mul g p) (mul h q)) (partsIn t) (partsIn u)
+-- The combinations of the first k polynomials of two lists of numbers.
+unfoldable pub combinations : ℕ → Polynomial → Polynomial → List ℤ → List ℤ → List Polynomial
+unfolding zipWith parts
+combinations k g h t u = zipWith (λ p q. add (mul g p) (mul h q)) (parts coefficientCount k t) (parts coefficientCount k u)
 
 low-width : (ps : List Polynomial) → All (λ p. length p ≡ coefficientCount) (map lowPart ps)
 unfolding All
 low-width [] = tt
 low-width (p ∷ ps) = (length-lowPart p, low-width ps)
+
+-- The low parts of these combinations, end to end.
+abbrev pub lowNumbers : ℕ → Polynomial → Polynomial → List ℤ → List ℤ → List ℤ
+lowNumbers k g h t u = flatten (map lowPart (combinations k g h t u))
+
+module _ (k : ℕ) (g h : Polynomial) (t u : List ℤ) where
+  -- The polynomial at place e.
+  abbrev entryAt : ℕ → Polynomial
+  entryAt e = add (mul g (coefficientsAt t e)) (mul h (coefficientsAt u e))
+
+  pub length-combinations : length (combinations k g h t u) ≡ k
+  unfolding combinations
+  length-combinations =
+      length-zipWith (λ p q. add (mul g p) (mul h q)) (parts coefficientCount k t) (parts coefficientCount k u)
+      (parts-length coefficientCount k t ∙ sym (parts-length coefficientCount k u))
+      ∙ parts-length coefficientCount k t
+
+  combination-at : (e : ℕ) → e < k → getD (combinations k g h t u) e [] ≡ entryAt e
+  unfolding combinations
+  combination-at e l =
+      getD-zipWith (λ p q. add (mul g p) (mul h q)) (parts coefficientCount k t) (parts coefficientCount k u) e [] [] []
+      (rw parts-length l) (rw parts-length l)
+      ∙ ap₂ (λ p q. add (mul g p) (mul h q)) (getD-parts coefficientCount k t e l) (getD-parts coefficientCount k u e l)
+
+  pub length-low : length (lowNumbers k g h t u) ≡ k * coefficientCount
+  length-low =
+      length-flatten coefficientCount (map lowPart (combinations k g h t u)) (low-width (combinations k g h t u))
+      ∙ ap (λ n. n * coefficientCount) (length-map (combinations k g h t u) lowPart ∙ length-combinations)
+
+  low-part : (e : ℕ) → e < k → coefficientsAt (lowNumbers k g h t u) e ≡ lowPart (entryAt e)
+  low-part e l =
+      ap (λ r. coefficientsAt r e) (sym (append-nil (lowNumbers k g h t u)))
+      ∙ part-flatten coefficientCount k (map lowPart (combinations k g h t u)) []
+      (length-map (combinations k g h t u) lowPart ∙ length-combinations)
+      (low-width (combinations k g h t u)) e l
+      ∙ getD-map lowPart (combinations k g h t u) e [] [] (rw length-combinations l)
+      ∙ ap lowPart (combination-at e l)
+
+-- Numbers joined behind a whole number k of polynomials.
+module _ (k m : ℕ) (g h : Polynomial) (t s u v : List ℤ) (long-t : length t ≡ k * coefficientCount)
+    (long-u : length u ≡ k * coefficientCount) where
+  parts-joined : (l r : List ℤ) → length l ≡ k * coefficientCount
+      → parts coefficientCount (k + m) (l ++ r) ≡ parts coefficientCount k l ++ parts coefficientCount m r
+  parts-joined l r e =
+      parts-append coefficientCount k m (l ++ r)
+      ∙ ap₂ _++_
+      (sym (parts-take coefficientCount k (k * coefficientCount) (l ++ r) (le-refl (k * coefficientCount)))
+      ∙ ap (parts coefficientCount k) (take-at l r (k * coefficientCount) e))
+      (ap (parts coefficientCount m) (drop-at l r (k * coefficientCount) e))
+
+  pub combinations-apart : combinations (k + m) g h (t ++ s) (u ++ v) ≡ combinations k g h t u ++ combinations m g h s v
+  unfolding combinations
+  combinations-apart =
+      ap₂ (zipWith (λ p q. add (mul g p) (mul h q))) (parts-joined t s long-t) (parts-joined u v long-u)
+      ∙ zipWith-append (λ p q. add (mul g p) (mul h q)) (parts coefficientCount k t) (parts coefficientCount m s)
+      (parts coefficientCount k u) (parts coefficientCount m v)
+      (parts-length coefficientCount k t ∙ sym (parts-length coefficientCount k u))
+
+  pub low-apart : lowNumbers (k + m) g h (t ++ s) (u ++ v) ≡ lowNumbers k g h t u ++ lowNumbers m g h s v
+  low-apart =
+      ap (λ ps. flatten (map lowPart ps)) combinations-apart
+      ∙ ap flatten (map-append lowPart (combinations k g h t u) (combinations m g h s v))
+      ∙ flatten-append (map lowPart (combinations k g h t u)) (map lowPart (combinations m g h s v))
+
+-- ---- combinations of rows
 
 columns : (l : List ℤ) → All (λ b. length b ≡ columnCount) (rowOf l .blocks)
 unfolding rowOf All
@@ -257,66 +326,32 @@ module _ (g h : Polynomial) (t u : List ℤ) where
   abbrev combination : Row
   combination = combine g h (rowOf t) (rowOf u)
 
-  -- The polynomial at place e.
-  abbrev entryAt : ℕ → Polynomial
-  entryAt e = add (mul g (coefficientsAt t e)) (mul h (coefficientsAt u e))
-
-  polynomials-combination : polynomialsOf combination ≡ combinations g h t u
+  polynomials-combination : polynomialsOf combination ≡ combinations partCount g h t u
   unfolding combinations
   polynomials-combination =
       polynomials-combine g h columnCount (rowOf t) (rowOf u) (length-blocks t ∙ sym (length-blocks u)) (columns t) (columns u)
       ∙ ap₂ (zipWith (λ p q. add (mul g p) (mul h q))) (polynomials-rowOf t) (polynomials-rowOf u)
 
-  length-combinations : length (combinations g h t u) ≡ partCount
-  unfolding combinations zipWith parts
-  length-combinations = refl
+  pub low-degrees : lowDegrees combination ≡ every isLow (combinations partCount g h t u)
+  low-degrees = lowDegrees-every combination ∙ ap (every isLow) polynomials-combination
 
-  pub combination-at : (e : ℕ) → e < partCount → getD (polynomialsOf combination) e [] ≡ entryAt e
-  unfolding combinations
-  combination-at e l =
-      ap (λ ps. getD ps e []) polynomials-combination
-      ∙ getD-zipWith (λ p q. add (mul g p) (mul h q)) (partsIn t) (partsIn u) e [] [] [] (rw parts-length l) (rw parts-length l)
-      ∙ ap₂ (λ p q. add (mul g p) (mul h q)) (getD-parts coefficientCount partCount t e l)
-      (getD-parts coefficientCount partCount u e l)
-
-  pub low-degrees : lowDegrees combination ≡ every (λ p. isZero (drop coefficientCount p)) (polynomialsOf combination)
-  low-degrees = lowDegrees-every combination
-
-  numbers-low : coefficientsOf (mapRow lowPart combination) ≡ flatten (map lowPart (combinations g h t u))
+  numbers-low : coefficientsOf (mapRow lowPart combination) ≡ lowNumbers partCount g h t u
   numbers-low = numbers-mapRow lowPart combination ∙ ap (λ ps. flatten (map lowPart ps)) polynomials-combination
-
-  pub length-low : length (coefficientsOf (mapRow lowPart combination)) ≡ rowLength
-  length-low =
-      ap length numbers-low ∙ length-flatten coefficientCount (map lowPart (combinations g h t u)) (low-width (combinations g h t u))
-      ∙ ap (λ n. n * coefficientCount) (length-map (combinations g h t u) lowPart ∙ length-combinations)
-
-  pub low-part : (e : ℕ) → e < partCount → coefficientsAt (coefficientsOf (mapRow lowPart combination)) e ≡ lowPart (entryAt e)
-  low-part e l =
-      ap (λ r. coefficientsAt r e) (numbers-low ∙ sym (append-nil (flatten (map lowPart (combinations g h t u)))))
-      ∙ part-flatten coefficientCount partCount (map lowPart (combinations g h t u)) []
-      (length-map (combinations g h t u) lowPart ∙ length-combinations)
-      (low-width (combinations g h t u)) e l
-      ∙ getD-map lowPart (combinations g h t u) e [] [] (rw length-combinations l)
-      ∙ ap lowPart (ap (λ ps. getD ps e []) (sym polynomials-combination) ∙ combination-at e l)
-
-  pub length-polynomials : length (polynomialsOf combination) ≡ partCount
-  length-polynomials = ap length polynomials-combination ∙ length-combinations
 
   -- ---- the whole row
 
   module _ (some : 0 < length g) (long : length t ≡ rowLength) where
-    long-combinations : All (λ p. coefficientCount ≤ length p) (combinations g h t u)
+    long-combinations : All (λ p. coefficientCount ≤ length p) (combinations partCount g h t u)
     unfolding combinations
     long-combinations =
         long-sums g h some (partsIn t) (partsIn u) (parts-width coefficientCount partCount t (omega arith))
 
-    pub cut-low : coefficientsOf (cut combination) ≡ coefficientsOf (mapRow lowPart combination)
+    pub cut-low : coefficientsOf (cut combination) ≡ lowNumbers partCount g h t u
     unfolding cut
     cut-low =
         numbers-mapRow (take coefficientCount) combination
         ∙ ap (λ ps. flatten (map (take coefficientCount) ps)) polynomials-combination
-        ∙ ap flatten (sym (low-front (combinations g h t u) long-combinations))
-        ∙ sym numbers-low
+        ∙ ap flatten (sym (low-front (combinations partCount g h t u) long-combinations))
 
     -- The row divided by d, cut to 16 coefficients.
     StoreRow-cut : (f : Polynomial → Polynomial) → ((p : Polynomial) → length (f p) ≡ length p) → StoreRow (cut (mapRow f combination))
@@ -326,7 +361,7 @@ module _ (g h : Polynomial) (t u : List ℤ) where
         (subst (All (λ p. length p ≡ coefficientCount))
         (sym (polynomials-mapRow (take coefficientCount) (mapRow f combination)
         ∙ ap (map (take coefficientCount)) (polynomials-mapRow f combination ∙ ap (map f) polynomials-combination)))
-        (front-width f e (combinations g h t u) long-combinations))
+        (front-width f e (combinations partCount g h t u) long-combinations))
 
     pub StoreRow-primitive : StoreRow (cut (primitive combination))
     unfolding primitive mapRow combine rowOf zipWith
@@ -340,46 +375,44 @@ module _ (g h : Polynomial) (t u : List ℤ) where
     pub combined-held : (r : Row) → limitDegrees (primitive combination) ≡ within r → Held r
     combined-held r e = held (cut (primitive combination)) r StoreRow-primitive (degrees-within (primitive combination) r e)
 
-  pub numbers-below : (length g ≤ coefficientCount) × (length h ≤ coefficientCount) × T (every small g) × T (every small h)
+  pub numbers-below : (k : ℕ) → (length g ≤ coefficientCount) × (length h ≤ coefficientCount) × T (every small g) × T (every small h)
       × T (every small t) × T (every small u)
-      → Below (2 ^ 63) (coefficientsOf (mapRow lowPart combination))
+      → Below (2 ^ 63) (lowNumbers k g h t u)
   unfolding combinations
-  numbers-below s =
-      subst (Below (2 ^ 63)) (sym numbers-low)
-      (low-below g h (s .0) (s .1) (s .2) (s .3) (partsIn t) (partsIn u) (small-parts partCount t (s .4))
-      (small-parts partCount u (s .5)))
+  numbers-below k s =
+      low-below g h (s .0) (s .1) (s .2) (s .3) (parts coefficientCount k t) (parts coefficientCount k u) (small-parts k t (s .4))
+      (small-parts k u (s .5))
 
 -- ---- the polynomial at place e, made of trimmed parts
 
--- Multipliers g and h, and the parts of rows t and u at place e, all trimmed; n is the width of a part as the code computes it.
-pub record Trimmed (g h : Polynomial) (t u : List ℤ) (e n : ℕ) (a p b q : Polynomial) : Type 0 where
-  pub below : e < partCount
+-- Multipliers g and h, and the parts of t and u at place e of k, all trimmed; n is the width of a part as the code computes it.
+pub record Trimmed (k : ℕ) (g h : Polynomial) (t u : List ℤ) (e n : ℕ) (a p b q : Polynomial) : Type 0 where
+  pub below : e < k
   pub width : n ≡ coefficientCount
   pub at-g : a ≡ trim g
   pub at-h : b ≡ trim h
   pub at-t : p ≡ trim (take n (drop (e * coefficientCount) t))
   pub at-u : q ≡ trim (take n (drop (e * coefficientCount) u))
 
-module _ {g h : Polynomial} {t u : List ℤ} {e n : ℕ} {a p b q : Polynomial} (made : Trimmed g h t u e n a p b q) where
-  trimmed-same : Same (add (mul a p) (mul b q)) (entryAt g h t u e)
-  trimmed-same k =
-      ap₂ (λ x y. coeff (add x y) k) (ap₂ mul (made .at-g) (made .at-t)) (ap₂ mul (made .at-h) (made .at-u))
-      ∙ combined-trim g (take n (drop (e * coefficientCount) t)) h (take n (drop (e * coefficientCount) u)) k
-      ∙ ap (λ m. coeff (add (mul g (take m (drop (e * coefficientCount) t))) (mul h (take m (drop (e * coefficientCount) u)))) k)
+module _ {k : ℕ} {g h : Polynomial} {t u : List ℤ} {e n : ℕ} {a p b q : Polynomial} (made : Trimmed k g h t u e n a p b q) where
+  trimmed-same : Same (add (mul a p) (mul b q)) (entryAt k g h t u e)
+  trimmed-same i =
+      ap₂ (λ x y. coeff (add x y) i) (ap₂ mul (made .at-g) (made .at-t)) (ap₂ mul (made .at-h) (made .at-u))
+      ∙ combined-trim g (take n (drop (e * coefficientCount) t)) h (take n (drop (e * coefficientCount) u)) i
+      ∙ ap (λ m. coeff (add (mul g (take m (drop (e * coefficientCount) t))) (mul h (take m (drop (e * coefficientCount) u)))) i)
       (made .width)
 
   pub trimmed-high : isZero (drop coefficientCount (add (mul a p) (mul b q)))
-      ≡ isZero (drop coefficientCount (getD (polynomialsOf (combination g h t u)) e []))
+      ≡ isZero (drop coefficientCount (getD (combinations k g h t u) e []))
   trimmed-high =
-      high-same (add (mul a p) (mul b q)) (entryAt g h t u e) trimmed-same
-      ∙ ap (λ r. isZero (drop coefficientCount r)) (sym (combination-at g h t u e (made .below)))
+      high-same (add (mul a p) (mul b q)) (entryAt k g h t u e) trimmed-same
+      ∙ ap (λ r. isZero (drop coefficientCount r)) (sym (combination-at k g h t u e (made .below)))
 
-  pub trimmed-low : lowPart (add (mul a p) (mul b q)) ≡ coefficientsAt (coefficientsOf (mapRow lowPart (combination g h t u))) e
-  trimmed-low = lowPart-same (add (mul a p) (mul b q)) (entryAt g h t u e) trimmed-same ∙ sym (low-part g h t u e (made .below))
+  pub trimmed-low : lowPart (add (mul a p) (mul b q)) ≡ coefficientsAt (lowNumbers k g h t u) e
+  trimmed-low = lowPart-same (add (mul a p) (mul b q)) (entryAt k g h t u e) trimmed-same ∙ sym (low-part k g h t u e (made .below))
 
   -- Where both parts are zero, so is the polynomial.
-  pub trimmed-zero : (isZero p && isZero q) ≡ true
-      → T (isZero (coefficientsAt (coefficientsOf (mapRow lowPart (combination g h t u))) e))
+  pub trimmed-zero : (isZero p && isZero q) ≡ true → T (isZero (coefficientsAt (lowNumbers k g h t u) e))
   trimmed-zero z =
       let both = T-&& (isZero p) (isZero q) .0 (subst T (sym z) tt) in
       subst (λ l. T (isZero l)) trimmed-low
@@ -387,12 +420,12 @@ module _ {g h : Polynomial} {t u : List ℤ} {e n : ℕ} {a p b q : Polynomial} 
       (isZero-add (mul a p) (mul b q) (isZero-mul-right a p (both .0)) (isZero-mul-right b q (both .1))))
 
   pub trimmed-fit : (length g ≡ coefficientCount) × T (every small g) × (length h ≡ coefficientCount) × T (every small h)
-      → (length t ≡ rowLength) × T (every small t) × (length u ≡ rowLength) × T (every small u)
+      → T (every small t) × T (every small u)
       → ((length a ≤ coefficientCount) × T (every small a) × (length p ≤ coefficientCount) × T (every small p))
       × ((length b ≤ coefficientCount) × T (every small b) × (length q ≤ coefficientCount) × T (every small q))
   trimmed-fit m r =
       let fit-a = trim-fits g a (made .at-g) (omega arith) (m .1) in
-      let fit-p = trim-fits _ p (made .at-t) (rw length-take (omega arith)) (every-part small (e * coefficientCount) n t (r .1)) in
+      let fit-p = trim-fits _ p (made .at-t) (rw length-take (omega arith)) (every-part small (e * coefficientCount) n t (r .0)) in
       let fit-b = trim-fits h b (made .at-h) (omega arith) (m .3) in
-      let fit-q = trim-fits _ q (made .at-u) (rw length-take (omega arith)) (every-part small (e * coefficientCount) n u (r .3)) in
+      let fit-q = trim-fits _ q (made .at-u) (rw length-take (omega arith)) (every-part small (e * coefficientCount) n u (r .1)) in
       ((fit-a .0, fit-a .1, fit-p .0, fit-p .1), (fit-b .0, fit-b .1, fit-q .0, fit-q .1))

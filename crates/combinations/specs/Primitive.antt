@@ -5,6 +5,7 @@
 --
 -- Main statements
 --   primitive-divided, primitive-kept   what the numbers become, by their content
+--   divided-apart         two lists of numbers, divided one by one
 --   content-below         the content is at most as large as the numbers
 --   degree-kept           the division does not change which polynomials have degrees up to 15
 --   cut-primitive         where all have, the row may be cut to 16 coefficients before the division
@@ -12,13 +13,13 @@
 --   degrees-within        a row within both limits is within that of the coefficients
 use mathlib.Core.Path.{_≡_, refl, sym, _∙_, ap, ap₂, subst}
 use mathlib.Core.Bool.{Bool, true, false, _&&_, cond}
-use mathlib.Core.List.{List, [], _∷_, _++_, map, flatten}
+use mathlib.Core.List.{List, [], _∷_, _++_, map, flatten, map-append}
 use Prim.Native.Nat.{ℕ, zero, suc, _≤_, _<_, _∣_}
 use native.Mathlib.Nat.{zero-lt-suc, dvd-refl, dvd-trans}
 use native.Mathlib.Omega.{arith}
 use lib.Dec.{T}
 use lib.IntN.{ℤ, pos, natAbs}
-use lib.ListN.{take, drop, replicate, take-append-drop}
+use lib.ListN.{take, drop, take-append-drop}
 use lib.Signed.{quotZ}
 use Rattle.algebra.specs.Gcd.{gcd, content, divideBy, gcd-zero, gcd-divides-left, gcd-divides-right, gcd-le-right, content-append}
 use Rattle.algebra.specs.Gcd.{content-zero}
@@ -28,11 +29,10 @@ use Rattle.lists.specs.Tests.{T-&&, every, every-append, every-flatten}
 use Rattle.polynomials.specs.Content.{Below}
 use Rattle.rules.specs.Rows.{Row, mapRow, coefficientsOf, primitive, lowDegrees, cut}
 use Rattle.lists.specs.Images.{map-take, map-drop}
-use Rattle.rules.specs.Limits.{rowLength, coefficientCount}
+use Rattle.rules.specs.Limits.{coefficientCount}
 use Rattle.rules.specs.Elimination.{within, beyond, limitCoefficients, limitDegrees, consistent}
 use Rattle.stores.specs.Flat.{polynomialsOf, polynomials-mapRow, numbers-polynomials, numbers-mapRow}
 use Rattle.lists.specs.Joined.{flatten-map}
-use Rattle.working_rows.specs.Worked.{Shown, refusalOf, numbersOf}
 
 -- The numbers divided by d, or as they are if d is 0.
 abbrev pub divideUnlessZero : ℕ → List ℤ → List ℤ
@@ -60,6 +60,11 @@ primitive-kept l h = go (content l) h
     go (suc zero) h = divideBy-one l
     go (suc (suc d)) h = absurd (omega arith)
 
+-- The two parts of a row are divided apart.
+pub divided-apart : (d : ℕ) (l m : List ℤ) → divideBy d l ++ divideBy d m ≡ divideBy d (l ++ m)
+unfolding divideBy
+divided-apart d l m = sym (map-append (λ a. quotZ a (pos d)) l m)
+
 -- ---- the size of the content
 
 gcd-below : (n a b : ℕ) → a < n → b < n → gcd a b < n
@@ -86,7 +91,7 @@ content-take n p z =
 
 -- ---- the degrees
 
-abbrev isLow : Polynomial → Bool
+abbrev pub isLow : Polynomial → Bool
 isLow p = isZero (drop coefficientCount p)
 
 pub lowDegrees-every : (r : Row) → lowDegrees r ≡ every isLow (polynomialsOf r)
@@ -121,7 +126,8 @@ pub degree-kept : (r : Row) → lowDegrees (primitive r) ≡ lowDegrees r
 unfolding primitive coefficientsOf
 degree-kept r = go (content (coefficientsOf r)) (rw (sym (numbers-polynomials r)) (dvd-refl (content (coefficientsOf r))))
   where
-    go : (d : ℕ) → d ∣ content (flatten (polynomialsOf r)) → lowDegrees (elim d [ zero ↦ r | suc e ↦ mapRow (divideBy (suc e)) r ]) ≡ lowDegrees r
+    go : (d : ℕ) → d ∣ content (flatten (polynomialsOf r))
+        → lowDegrees (elim d [ zero ↦ r | suc e ↦ mapRow (divideBy (suc e)) r ]) ≡ lowDegrees r
     go zero h = refl
     go (suc d) h =
         lowDegrees-every (mapRow (divideBy (suc d)) r) ∙ ap (every isLow) (polynomials-mapRow (divideBy (suc d)) r)
@@ -172,9 +178,9 @@ cut-primitive r low =
 
 -- ---- the answer
 
-pub limit-past : (r : Row) → lowDegrees r ≡ false → Shown 7 (replicate rowLength (pos 0)) (consistent (limitDegrees (primitive r)))
-unfolding limitDegrees consistent refusalOf numbersOf
-limit-past r e = rw (degree-kept r, e) (refl, refl)
+pub limit-past : (r : Row) → lowDegrees r ≡ false → consistent (limitDegrees (primitive r)) ≡ beyond 7
+unfolding limitDegrees consistent
+limit-past r e = rw (degree-kept r, e) refl
 
 pub limit-low : (r : Row) → lowDegrees r ≡ true → limitDegrees (primitive r) ≡ limitCoefficients (cut (primitive r))
 unfolding limitDegrees

@@ -1,25 +1,25 @@
 // Rule 4: a combination of two rows, its division by the content and its limits.
 use polynomials::lengths::COEFFICIENTS;
-use stores::lengths::POLYNOMIALS;
-use stores::lengths::ROW;
+use stores::lengths::ENTRIES;
+use working_rows::WorkingRow;
 ghost use mathlib.Core.Path.{_≡_};
 ghost use mathlib.Core.Bool.{not, _&&_};
-ghost use Prim.Native.Nat.{_+_, _^_, _≤_, _<_, max};
+ghost use mathlib.Core.List.{_++_};
+ghost use Prim.Native.Nat.{_+_, _*_, _/_, _^_, _≤_, _<_, max};
 ghost use lib.Dec.{T};
-ghost use lib.ListN.{length, drop};
+ghost use lib.IntN.{pos};
+ghost use lib.ListN.{length, drop, replicate};
 ghost use Rattle.algebra.specs.Polynomials.{isZero, degree, add, mul};
-ghost use Rattle.rules.specs.Limits.{rowLength, small, coefficientCount};
-ghost use Rattle.rules.specs.Rows.{lowDegrees, combine, primitive, mapRow, coefficientsOf};
+ghost use Rattle.rules.specs.Limits.{small, coefficientCount};
+ghost use Rattle.rules.specs.Rows.{combine, primitive};
 ghost use Rattle.lists.specs.Tests.{every};
 ghost use Rattle.rules.specs.Stores.{rowOf};
-ghost use Rattle.rules.specs.Elimination.{limitDegrees, consistent};
-ghost use Rattle.working_rows.specs.Worked.{refusalOf, numbersOf};
-ghost use Rattle.combinations.specs.Combination.{trim, lowPart};
-ghost use Rattle.combinations.specs.Primitive.{primitiveNumbers};
+ghost use Rattle.rules.specs.Elimination.{limitCoefficients, limitDegrees, consistent};
+ghost use Rattle.working_rows.specs.Working.{numbersHeld, Full};
+ghost use Rattle.working_rows.specs.Worked.{refusalOf, workedRow};
+ghost use Rattle.combinations.specs.Combination.{trim, lowPart, combinations, lowNumbers};
+ghost use Rattle.combinations.specs.Primitive.{isLow, primitiveNumbers};
 ghost use Rattle.polynomials.specs.Content.{Below};
-
-// The polynomials of a row, the right side last.
-const PARTS: usize = POLYNOMIALS + 1;
 
 // The coefficients up to the highest nonzero one.
 fn trimmed(p: &[i64]) -> &[i64]
@@ -82,19 +82,19 @@ fn put_combined(place: &mut [i64], g: &[i64], p: &[i64], h: &[i64], q: &[i64])
     }
 }
 
-// Has a polynomial of the combination a degree past 15?
+// Has a combination of the polynomials of two lists of numbers a degree past 15?
 fn past_degree(g: &[i64], h: &[i64], target: &[i64], pivot: &[i64]) -> bool
     requires { ⌜
         (length (now g) ≡ coefficientCount) × T (every small (now g)) × (length (now h) ≡ coefficientCount) × T (every small (now h)) ⌝ }
-    requires { ⌜
-        (length (now target) ≡ rowLength) × T (every small (now target)) × (length (now pivot) ≡ rowLength)
-        × T (every small (now pivot)) ⌝ }
-    ensures { λ r. ⌜ r ≡ not (lowDegrees (combine (now (g .entry)) (now (h .entry)) (rowOf (now (target .entry))) (rowOf (now (pivot .entry))))) ⌝ }
+    requires { ⌜ (length (now target) ≡ length (now pivot)) × T (every small (now target)) × T (every small (now pivot)) ⌝ }
+    ensures { λ r. ⌜ r ≡ not (every isLow (combinations (length (now (target .entry)) / coefficientCount)
+        (now (g .entry)) (now (h .entry)) (now (target .entry)) (now (pivot .entry)))) ⌝ }
 {
     let a = trimmed(g);
     let b = trimmed(h);
+    let count = target.len() / COEFFICIENTS;
     let mut e = 0;
-    while e < PARTS {
+    while e < count {
         let from = e * COEFFICIENTS;
         let to = from + COEFFICIENTS;
         if passes(a, trimmed(&target[from..to]), b, trimmed(&pivot[from..to])) {
@@ -105,65 +105,85 @@ fn past_degree(g: &[i64], h: &[i64], target: &[i64], pivot: &[i64]) -> bool
     false
 }
 
-// The low coefficients of the combination; nothing is done for polynomials that are zero in both rows.
-fn low_combination(g: &[i64], h: &[i64], target: &[i64], pivot: &[i64]) -> [i64; ROW]
+// The low coefficients of the combinations, over zeros; nothing is done for polynomials that are zero in both.
+fn low_combination(place: &mut [i64], g: &[i64], h: &[i64], target: &[i64], pivot: &[i64])
     requires { ⌜
         (length (now g) ≡ coefficientCount) × T (every small (now g)) × (length (now h) ≡ coefficientCount) × T (every small (now h)) ⌝ }
     requires { ⌜
-        (length (now target) ≡ rowLength) × T (every small (now target)) × (length (now pivot) ≡ rowLength)
-        × T (every small (now pivot)) ⌝ }
-    ensures { λ r. ⌜ r ≡ coefficientsOf (mapRow lowPart (combine (now (g .entry)) (now (h .entry)) (rowOf (now (target .entry))) (rowOf (now (pivot .entry))))) ⌝ }
+        (length (now target) ≡ length (now target) / coefficientCount * coefficientCount) × (length (now target) ≡ length (now pivot))
+        × T (every small (now target)) × T (every small (now pivot)) × (now place ≡ replicate (length (now target)) (pos 0)) ⌝ }
+    ensures { λ _. ⌜ now (place .exit) ≡ lowNumbers (length (now (target .entry)) / coefficientCount)
+        (now (g .entry)) (now (h .entry)) (now (target .entry)) (now (pivot .entry)) ⌝ }
 {
     let a = trimmed(g);
     let b = trimmed(h);
-    let mut row = [0i64; ROW];
+    let count = target.len() / COEFFICIENTS;
     let mut e = 0;
-    while e < PARTS {
+    while e < count {
         let from = e * COEFFICIENTS;
         let to = from + COEFFICIENTS;
         let p = trimmed(&target[from..to]);
         let q = trimmed(&pivot[from..to]);
         if !both_zero(p, q) {
-            put_combined(&mut row[from..to], a, p, b, q);
+            put_combined(&mut place[from..to], a, p, b, q);
         }
         e += 1;
     }
-    row
 }
 
-// Divided by the largest number that divides all coefficients; a zero row stays (SCOPE 2.42).
-fn primitive_part(row: [i64; ROW]) -> [i64; ROW]
-    requires { ⌜ Below (2 ^ 63) row ⌝ }
-    ensures { λ r. ⌜ r ≡ primitiveNumbers row ⌝ }
+// Divided by the largest number that divides all coefficients, those of the right side too; a zero row stays (SCOPE 2.42). The limits
+// come behind the division.
+fn primitive_part(
+    entries: [i64; ENTRIES],
+    right: [i64; COEFFICIENTS],
+) -> working_rows::limits::Worked
+    requires { ⌜ Below (2 ^ 63) entries × Below (2 ^ 63) right ⌝ }
+    ensures { λ r. ⌜ r .refusal ≡ refusalOf (consistent (limitCoefficients (rowOf (primitiveNumbers (entries ++ right))))) ⌝ }
+    ensures { λ r. ⌜ r .row ≡ workedRow (consistent (limitCoefficients (rowOf (primitiveNumbers (entries ++ right))))) ⌝ }
 {
-    let mut numbers = row;
-    let d = polynomials::content::content(&numbers);
-    if 1 < d {
-        polynomials::content::divide_in_place(&mut numbers, d as i64);
+    let first = &entries[..];
+    let second = &right[..];
+    let d = polynomials::content::content_of_both(first, second);
+    if d <= 1 {
+        return working_rows::limits::consistent(entries, right);
     }
-    numbers
+    let mut left = entries;
+    polynomials::content::divide_in_place(&mut left, d as i64);
+    let mut side = right;
+    polynomials::content::divide_in_place(&mut side, d as i64);
+    working_rows::limits::consistent(left, side)
 }
 
 // g × target + h × pivot, divided by its content (SCOPE 2.41, 2.42). A degree past 15 is refused with 7; if there is
-// none, a coefficient past ±C with 8; a row whose left part alone is zero with 10 (SCOPE 2.43, 2.44, 2.46). The division does not change a degree, so the degrees are
-// looked at first.
+// none, a coefficient past ±C with 8; a row whose left part alone is zero with 10 (SCOPE 2.43, 2.44, 2.46). The division does not
+// change a degree, so the degrees are looked at first.
 pub fn combined(
     g: &[i64],
     h: &[i64],
-    target: [i64; ROW],
-    pivot: [i64; ROW],
+    target: WorkingRow,
+    pivot: WorkingRow,
 ) -> working_rows::limits::Worked
     requires { ⌜
         (length (now g) ≡ coefficientCount) × T (every small (now g)) × (length (now h) ≡ coefficientCount) × T (every small (now h)) ⌝ }
-    requires { ⌜ T (every small target) × T (every small pivot) ⌝ }
-    ensures { λ r. ⌜ r .refusal ≡ refusalOf (consistent (limitDegrees (primitive (combine (now (g .entry)) (now (h .entry)) (rowOf target) (rowOf pivot))))) ⌝ }
-    ensures { λ r. ⌜ r .row ≡ numbersOf (consistent (limitDegrees (primitive (combine (now (g .entry)) (now (h .entry)) (rowOf target) (rowOf pivot))))) ⌝ }
+    requires { ⌜ Full target × Full pivot × T (every small (numbersHeld target)) × T (every small (numbersHeld pivot)) ⌝ }
+    ensures { λ r. ⌜ r .refusal ≡ refusalOf (consistent (limitDegrees (primitive
+        (combine (now (g .entry)) (now (h .entry)) (rowOf (numbersHeld target)) (rowOf (numbersHeld pivot)))))) ⌝ }
+    ensures { λ r. ⌜ r .row ≡ workedRow (consistent (limitDegrees (primitive
+        (combine (now (g .entry)) (now (h .entry)) (rowOf (numbersHeld target)) (rowOf (numbersHeld pivot)))))) ⌝ }
 {
-    if past_degree(g, h, &target[..], &pivot[..]) {
-        return working_rows::limits::Worked {
-            refusal: 7,
-            row: [0; ROW],
-        };
+    let a = target.entries;
+    let b = pivot.entries;
+    if past_degree(g, h, &a[..], &b[..]) {
+        return working_rows::limits::broken(7);
     }
-    working_rows::limits::consistent(primitive_part(low_combination(g, h, &target[..], &pivot[..])))
+    let s = target.right;
+    let t = pivot.right;
+    if past_degree(g, h, &s[..], &t[..]) {
+        return working_rows::limits::broken(7);
+    }
+    let mut entries = [0i64; ENTRIES];
+    low_combination(&mut entries, g, h, &a[..], &b[..]);
+    let mut right = [0i64; COEFFICIENTS];
+    low_combination(&mut right, g, h, &s[..], &t[..]);
+    primitive_part(entries, right)
 }

@@ -6,6 +6,7 @@
 --
 -- Main statements
 --   combined-storable, shifted-storable   the new rows of rules 4 and 6
+--   full-worked             the working row of a new row is full
 --   row-room                row i of equations rows has room in a store for equations rows
 --   saved-none              a refusal stores nothing
 --   saved-outcome, saved-within, saved-kept   what storing the new row does
@@ -16,15 +17,17 @@ use mathlib.Core.Path.{_≡_, refl, sym, _∙_, ap}
 use mathlib.Core.Bool.{Bool, true, false, cond}
 use mathlib.Core.List.{List}
 use lib.Dec.{lit<}
-use lib.IntN.{ℤ}
-use lib.ListN.{length, take, set}
-use lib.Seq.{paste}
+use lib.IntN.{ℤ, pos}
+use lib.ListN.{length, take, set, length-replicate}
+use lib.Seq.{paste, length-take-le}
 use Rattle.algebra.specs.Polynomials.{Polynomial}
-use Rattle.rules.specs.Limits.{rowLength}
+use Rattle.rules.specs.Limits.{coefficientCount, entriesLength, rowLength}
 use Rattle.rules.specs.Rows.{Row, coefficientsOf, contradicts, combine, primitive, cut, shiftUp, smallRow, lowDegrees}
 use Rattle.rules.specs.Elimination.{Limited, within, beyond, limitCoefficients, limitDegrees, consistent, going, putRow, putLimited}
-use Rattle.rules.specs.Stores.{rowOf, rowsOf, relationsOf, rowNeed}
-use Rattle.working_rows.specs.Worked.{Held, refusalOf, numbersOf}
+use Rattle.rules.specs.Stores.{rowOf, rowsOf, relationsOf, rowNeed, Shaped}
+use Rattle.rules.specs.Layout.{entries-rowOf, StoreRow-rowOf}
+use Rattle.working_rows.specs.Working.{leftPart, Full}
+use Rattle.working_rows.specs.Worked.{Held, refusalOf, numbersOf, workedRow}
 use Rattle.combinations.specs.Combination.{combined-held}
 use Rattle.working_rows.specs.Shifting.{shifted-held}
 use Rattle.reduction.specs.declared.step.Progress.{Progress}
@@ -74,6 +77,26 @@ pub combined-storable : (g h : Polynomial) (l m : List ℤ) → 0 < length g →
 combined-storable g h l m some e =
     let r = primitive (combine g h (rowOf l) (rowOf m)) in
     consistent-storable (limitDegrees r) (degrees-storable r (combined-held g h l m some e))
+
+-- The working row of a new row has full arrays.
+pub full-worked : (x : Limited) → Storable x → Full (workedRow x)
+unfolding Storable workedRow Shaped
+full-worked (beyond n) h =
+    record {
+      entries-long = length-replicate entriesLength (pos 0);
+      right-long = length-replicate coefficientCount (pos 0);
+    }
+full-worked (within r) h =
+    let l = coefficientsOf r in
+    record {
+      entries-long =
+          ap (λ q. length (leftPart q)) (sym (h .numbers)) ∙ ap length (entries-rowOf l)
+          ∙ length-take-le entriesLength l (omega (arith, h .long));
+      right-long = ap (λ q. length (q .right)) (sym (h .numbers)) ∙ side l (h .long);
+    }
+  where
+    side : (l : List ℤ) → length l ≡ rowLength → length (rowOf l .right) ≡ coefficientCount
+    side l e = StoreRow-rowOf l (le-of-eq (sym e)) .2
 
 -- ---- the store afterwards
 

@@ -19,11 +19,11 @@ use mathlib.Core.Option.{Option, none, some, Option·map}
 use borrow.Author.Tests.{le-leb, lt-leb}
 use lib.Dec.{T, leb, ltb, ltb→lt, nltb→le, lit<}
 use lib.IntN.{ℤ}
-use lib.ListN.{length, take, drop, getD, set, length-set}
+use lib.ListN.{length, take, getD, set, length-set}
 use lib.Seq.{length-take-le, take-suc-set}
 use Rattle.algebra.specs.Polynomials.{Polynomial, isZero, isZero-append}
 use Rattle.rules.specs.Limits.{coefficientCount, columnCount}
-use Rattle.rules.specs.Rows.{Row, zeroRow, contradicts, entry, leadingBlock, firstNonzero}
+use Rattle.rules.specs.Rows.{Row, zeroLeft, zeroRow, contradicts, entry, leadingBlock, firstNonzero}
 use Rattle.lists.specs.Everywhere.{All}
 use Rattle.rules.specs.Stores.{rowOf, rowsOf, relationsOf, relationNeed, rowNeed}
 use Rattle.rules.specs.Elimination.{Side, State, Outcome, going, refused, settle, multipliersAt}
@@ -128,18 +128,22 @@ module _ (side : Side) {equations : ℕ} {rows relations : List ℤ} {p : Progre
         (cond (contradicts r) (refused 10) (meet side s w (firstNonzero (map (entry r) (take w (p .order)))))))
         (row-of equations rows relations p w inside))
 
-    pub step-zero : zeroRow row ≡ true → step side s ≡ refused 6
-    step-zero z = step-is ∙ ap (λ t. cond t (refused 6) (cond (contradicts row) (refused 10) rest)) z
+    -- By the two parts of the row.
+    step-parts : (left right : Bool) → zeroLeft row ≡ left → isZero (row .right) ≡ right
+        → step side s ≡ cond (left && right) (refused 6) (cond (left && not right) (refused 10) rest)
+    unfolding zeroRow contradicts
+    step-parts left right e f =
+        step-is ∙ ap₂ (λ t u. cond (t && u) (refused 6) (cond (t && not u) (refused 10) rest)) e f
 
-    step-nonzero : zeroRow row ≡ false → step side s ≡ cond (contradicts row) (refused 10) rest
-    step-nonzero z = step-is ∙ ap (λ t. cond t (refused 6) (cond (contradicts row) (refused 10) rest)) z
+    pub step-zero : zeroLeft row ≡ true → isZero (row .right) ≡ true → step side s ≡ refused 6
+    step-zero e f = step-parts true true e f
 
-    pub step-contradicts : zeroRow row ≡ false → contradicts row ≡ true → step side s ≡ refused 10
-    step-contradicts z c = step-nonzero z ∙ ap (λ t. cond t (refused 10) rest) c
+    pub step-contradicts : zeroLeft row ≡ true → isZero (row .right) ≡ false → step side s ≡ refused 10
+    step-contradicts e f = step-parts true false e f
 
-    module _ (nonzero : zeroRow row ≡ false) (possible : contradicts row ≡ false) where
+    module _ (nonzero : zeroLeft row ≡ false) where
       step-meet : step side s ≡ meet side s w (firstNonzero entries)
-      step-meet = step-nonzero nonzero ∙ ap (λ t. cond t (refused 10) rest) possible
+      step-meet = step-parts false (isZero (row .right)) nonzero refl
 
       pub step-met : (j : ℕ) → foundOr w (firstNonzero entries) ≡ j → j < w
           → let e = stateOf equations (narrowed rows w j) relations p in step side s ≡ combineStep side e w j (multipliersAt e w j)

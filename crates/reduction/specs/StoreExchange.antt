@@ -2,32 +2,38 @@
 --
 -- Main definitions
 --   numbersAt store i       the numbers of row i
+--   Loaded store i w        w is the working row that row i is loaded as
 --   narrowed store i j      the store after the exchange of rows i and j, if row j is the wider (SCOPE 2.22)
 --
 -- Main statements
 --   narrowed-exchanged, narrowed-same     the two cases
+--   loaded-from, exchanged-loaded         a working row as it is loaded; two of them after the exchange
 --   length-entry, small-entry             the entries of a row within ±C
 --   length-numbersAt, small-numbersAt, row-of   the numbers of a row of the state
 --   narrowed-within, narrowed-kept, narrowed-state, narrowed-one   what the exchange does to the store and to the state
-use Prim.Native.Nat.{ℕ, _*_, _≤_, _<_}
+use Prim.Native.Nat.{ℕ, _+_, _*_, _≤_, _<_}
 use native.Mathlib.Nat.{le-of-eq}
 use native.Mathlib.Omega.{arith}
-use mathlib.Core.Path.{_≡_, refl, sym, _∙_, ap, ap₂}
+use mathlib.Core.Path.{_≡_, refl, sym, _∙_, ap, ap₂, subst}
 use mathlib.Core.Logic.{_≢_, _⊎_, inl, inr}
 use mathlib.Core.Bool.{Bool, true, false, cond}
-use mathlib.Core.List.{List}
+use mathlib.Core.List.{List, []}
 use borrow.Author.Tests.{lt-ltb, le-ltb}
 use lib.Dec.{T, ltb}
 use lib.IntN.{ℤ}
-use lib.ListN.{length, take, drop, getD, set, length-drop}
+use lib.ListN.{length, take, drop, getD, set, length-drop, length-set}
 use lib.Seq.{paste, length-take-le, getD-set-same, getD-set-other}
-use Rattle.rules.specs.Limits.{coefficientCount, columnCount, rowLength, small}
+use Rattle.rules.specs.Limits.{coefficientCount, columnCount, entriesLength, rowLength, small}
 use Rattle.rules.specs.Rows.{noRow, width, entry}
 use Rattle.lists.specs.Tests.{every, every-part}
 use Rattle.rules.specs.Stores.{rowOf, rowsOf, relationsOf, rowNeed}
 use Rattle.rules.specs.Elimination.{State, rowAt, putRow, exchange, narrowFirst}
 use Rattle.rules.specs.Layout.{row-at, length-rowsOf}
+use Rattle.lists.specs.Parts.{parts, parts-length, getD-parts}
+use Rattle.lists.specs.Pasted.{parts-paste}
 use Rattle.stores.specs.Flat.{entry-at}
+use Rattle.working_rows.specs.declared.WorkingRow.{WorkingRow}
+use Rattle.working_rows.specs.Working.{workingOf, numbersHeld, Full, full-loaded, numbers-loaded, width-held}
 use Rattle.reduction.specs.declared.step.Progress.{Progress}
 use Rattle.sides.specs.Lent.{Within, Kept}
 use Rattle.reduction.specs.Progress.{state, stateOf}
@@ -54,9 +60,32 @@ pub narrowed-same : (store : List ℤ) (i j : ℕ) → width (rowOf (numbersAt s
 unfolding narrowed
 narrowed-same store i j h = rw (le-ltb _ _ h)
 
+-- ---- working rows
+
+-- The working row that row i of the store is loaded as.
+pub record Loaded (store : List ℤ) (i : ℕ) (w : WorkingRow) : Type 0 where
+  pub numbers : numbersHeld w ≡ numbersAt store i
+  pub full : Full w
+  pub width-is : w .width ≡ width (rowOf (numbersAt store i))
+
+pub loaded-from : (store : List ℤ) (i : ℕ) (w : WorkingRow) → i * rowLength + rowLength ≤ length store
+    → w ≡ workingOf (take entriesLength (drop (i * rowLength) store)) (take coefficientCount (drop (i * rowLength + entriesLength) store))
+    → Loaded store i w
+loaded-from store i w room e =
+    record {
+      numbers = ap numbersHeld e ∙ numbers-loaded store (i * rowLength);
+      full = subst Full (sym e) (full-loaded store (i * rowLength) room);
+      width-is =
+          ap (λ v. v .width) e
+          ∙ sym (width-held (take entriesLength (drop (i * rowLength) store))
+          (take coefficientCount (drop (i * rowLength + entriesLength) store))
+          (full-loaded store (i * rowLength) room .entries-long))
+          ∙ ap (λ l. width (rowOf l)) (numbers-loaded store (i * rowLength));
+    }
+
 -- ---- the entries of a row
 
-pub length-entry : (l : List ℤ) (c : ℕ) → length l ≡ rowLength → c < columnCount → length (entry (rowOf l) c) ≡ coefficientCount
+pub length-entry : (l : List ℤ) (c : ℕ) → entriesLength ≤ length l → c < columnCount → length (entry (rowOf l) c) ≡ coefficientCount
 length-entry l c e h =
     ap length (entry-at l c h) ∙ length-take-le coefficientCount (drop (c * coefficientCount) l) (rw length-drop (omega arith))
 
@@ -83,7 +112,7 @@ row-of equations rows relations p i inside = row-at equations rows i inside
 
 module _ (equations : ℕ) (rows : List ℤ) (w : Within (rowNeed equations) rows) (i j : ℕ) (inside : i < equations)
     (other : j < equations) where
-  abbrev exchanged : List ℤ
+  abbrev pub exchanged : List ℤ
   exchanged = paste (paste rows (j * rowLength) (numbersAt rows i) rowLength) (i * rowLength) (numbersAt rows j) rowLength
 
   long-i : rowLength ≤ length (numbersAt rows i)
@@ -119,6 +148,43 @@ module _ (equations : ℕ) (rows : List ℤ) (w : Within (rowNeed equations) row
       (within-first .long) inside
       ∙ ap (λ l. set l i (rowOf (numbersAt rows j)))
       (rowsOf-paste equations rows (numbersAt rows i) j (length-numbersAt equations rows w i inside) (w .long) other)
+
+  -- The numbers of both rows afterwards.
+  parts-exchanged : parts rowLength equations exchanged
+      ≡ set (set (parts rowLength equations rows) j (numbersAt rows i)) i (numbersAt rows j)
+  unfolding rowNeed
+  parts-exchanged =
+      parts-paste rowLength equations (paste rows (j * rowLength) (numbersAt rows i) rowLength) (numbersAt rows j) i
+      (length-numbersAt equations rows w j other) (within-first .long) inside
+      ∙ ap (λ l. set l i (numbersAt rows j))
+      (parts-paste rowLength equations rows (numbersAt rows i) j (length-numbersAt equations rows w i inside) (w .long) other)
+
+  exchanged-first : numbersAt exchanged i ≡ numbersAt rows j
+  exchanged-first =
+      sym (getD-parts rowLength equations exchanged i inside) ∙ ap (λ l. getD l i []) parts-exchanged
+      ∙ getD-set-same (set (parts rowLength equations rows) j (numbersAt rows i)) i (numbersAt rows j) []
+      (simp (length-set, parts-length) inside)
+
+  exchanged-second : j ≢ i → numbersAt exchanged j ≡ numbersAt rows i
+  exchanged-second n =
+      sym (getD-parts rowLength equations exchanged j other) ∙ ap (λ l. getD l j []) parts-exchanged
+      ∙ getD-set-other (set (parts rowLength equations rows) j (numbersAt rows i)) i j (numbersAt rows j) [] n
+      ∙ getD-set-same (parts rowLength equations rows) j (numbersAt rows i) [] (rw parts-length other)
+
+  -- The working rows change places with the rows.
+  pub exchanged-loaded : j ≢ i → (v o : WorkingRow) → Loaded rows i v → Loaded rows j o → Loaded exchanged i o × Loaded exchanged j v
+  exchanged-loaded n v o lv lo = (
+    record {
+      numbers = lo .numbers ∙ sym exchanged-first;
+      full = lo .full;
+      width-is = lo .width-is ∙ ap (λ l. width (rowOf l)) (sym exchanged-first);
+    },
+    record {
+      numbers = lv .numbers ∙ sym (exchanged-second n);
+      full = lv .full;
+      width-is = lv .width-is ∙ ap (λ l. width (rowOf l)) (sym (exchanged-second n));
+    },
+  )
 
   -- Which rows the store holds afterwards, and what stays.
   pub narrowed-within : Within (rowNeed equations) (narrowed rows i j)

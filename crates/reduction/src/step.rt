@@ -3,6 +3,7 @@ use polynomials::lengths::COEFFICIENTS;
 use sides::Side;
 use stores::lengths::COLUMNS;
 use stores::lengths::ROW;
+use working_rows::WorkingRow;
 ghost use mathlib.Core.Path.{_≡_};
 ghost use mathlib.Core.Bool.{false, not};
 ghost use mathlib.Core.List.{_++_};
@@ -10,16 +11,17 @@ ghost use Prim.Native.Nat.{_+_, _*_, _^_, _≤_, _<_};
 ghost use lib.Dec.{T};
 ghost use lib.ListN.{length};
 ghost use Rattle.algebra.specs.Polynomials.{isZero};
-ghost use Rattle.rules.specs.Limits.{columnCount, rowLength, small};
+ghost use Rattle.rules.specs.Limits.{columnCount, entriesLength, rowLength, small};
 ghost use Rattle.rules.specs.Rows.{entry};
 ghost use Rattle.lists.specs.Tests.{every};
 ghost use Rattle.rules.specs.Elimination as Elimination;
 ghost use Rattle.rules.specs.Stores.{rowOf};
+ghost use Rattle.working_rows.specs.Working.{numbersHeld, Full};
 ghost use Rattle.working_rows.specs.Worked.{refusalOf, numbersOf};
 ghost use Rattle.sides.specs.Lent.{sideOf};
 ghost use Rattle.reduction.specs.Progress.{Ready, Reached, stateOf, answerOf, settledProgress, shiftedProgress};
 ghost use Rattle.reduction.specs.NewRows.{saved};
-ghost use Rattle.reduction.specs.StoreExchange.{narrowed};
+ghost use Rattle.reduction.specs.StoreExchange.{narrowed, Loaded};
 ghost use Rattle.reduction.specs.StepLaws.{metEntries, shiftedRow};
 
 // How far a run has come: the settled rows with their columns, counted from 0, the relations listed and the shifts made.
@@ -55,8 +57,8 @@ fn put_limited(
     worked: working_rows::limits::Worked,
     next: Progress,
 ) -> Outcome
-    requires { ⌜ i * rowLength + rowLength ≤ length (now rows) ⌝ }
-    ensures { λ _. ⌜ now (rows .exit) ≡ saved (now (rows .entry)) i (worked .refusal) (worked .row) ⌝ }
+    requires { ⌜ (i * rowLength + rowLength ≤ length (now rows)) × Full (worked .row) ⌝ }
+    ensures { λ _. ⌜ now (rows .exit) ≡ saved (now (rows .entry)) i (worked .refusal) (numbersHeld (worked .row)) ⌝ }
     ensures { λ r. ⌜ r ≡ answerOf (worked .refusal) next ⌝ }
 {
     let refusal = worked.refusal;
@@ -64,39 +66,21 @@ fn put_limited(
         return answer(refusal, next);
     }
     let row = worked.row;
-    stores::rows::save(rows, i * ROW, row);
+    working_rows::stored::save(rows, i * ROW, row);
     answer(0, next)
 }
 
-// If settled row j is wider than row i, the two change places (SCOPE 2.22).
-fn narrow_first(rows: &mut [i64], i: usize, j: usize)
-    requires { ⌜ (i * rowLength + rowLength ≤ length (now rows)) × (j * rowLength + rowLength ≤ length (now rows)) ⌝ }
-    ensures { λ _. ⌜ now (rows .exit) ≡ narrowed (now (rows .entry)) i j ⌝ }
-{
-    let a = stores::rows::load(rows, i * ROW);
-    let b = stores::rows::load(rows, j * ROW);
-    if working_rows::entries::width(a) < working_rows::entries::width(b) {
-        stores::rows::save(rows, j * ROW, a);
-        stores::rows::save(rows, i * ROW, b);
-    }
-}
-
 // The multipliers of rule 2, from the entries of both rows in column c (SCOPE 2.23, 2.24, 2.25).
-fn multipliers_at(
-    target: [i64; ROW],
-    pivot: [i64; ROW],
-    c: usize,
-) -> polynomials::content::Multipliers
-    requires { ⌜ (c < columnCount) × T (every small target) × T (every small pivot) ⌝ }
-    requires { ⌜ T (not (isZero (entry (rowOf pivot) c ++ entry (rowOf target) c))) ⌝ }
-    ensures { λ r. ⌜ r .g ≡ Elimination.multipliers (entry (rowOf pivot) c) (entry (rowOf target) c) .g ⌝ }
-    ensures { λ r. ⌜ r .h ≡ Elimination.multipliers (entry (rowOf pivot) c) (entry (rowOf target) c) .h ⌝ }
+fn multipliers_at(target: &[i64], pivot: &[i64], c: usize) -> polynomials::content::Multipliers
+    requires { ⌜ (c < columnCount) × (length (now target) ≡ entriesLength) × (length (now pivot) ≡ entriesLength) ⌝ }
+    requires { ⌜ T (every small (now target)) × T (every small (now pivot)) ⌝ }
+    requires { ⌜ T (not (isZero (entry (rowOf (now pivot)) c ++ entry (rowOf (now target)) c))) ⌝ }
+    ensures { λ r. ⌜ r .g ≡ Elimination.multipliers (entry (rowOf (now (pivot .entry))) c) (entry (rowOf (now (target .entry))) c) .g ⌝ }
+    ensures { λ r. ⌜ r .h ≡ Elimination.multipliers (entry (rowOf (now (pivot .entry))) c) (entry (rowOf (now (target .entry))) c) .h ⌝ }
 {
-    let t = &target[..];
-    let p = &pivot[..];
     let from = c * COEFFICIENTS;
     let to = from + COEFFICIENTS;
-    polynomials::content::multipliers_of(&p[from..to], &t[from..to])
+    polynomials::content::multipliers_of(&pivot[from..to], &target[from..to])
 }
 
 // Rule 5: the row in turn is settled at c, the lowest column with a nonzero leading entry (SCOPE 2.51).
@@ -116,10 +100,13 @@ fn settled(c: usize, p: Progress) -> Progress
 }
 
 // Rule 6: the blocks move up by one, with n + 1 for n, and the shift is counted (SCOPE 2.61, 2.63, 2.65).
-fn shift_step(rows: &mut [i64], row: [i64; ROW], p: Progress) -> Outcome
-    requires { ⌜ (p .settled * rowLength + rowLength ≤ length (now rows)) × T (every small row) × (p .shifts < 2 ^ 32) ⌝ }
-    ensures { λ _. ⌜ now (rows .exit) ≡ saved (now (rows .entry)) (p .settled) (refusalOf (shiftedRow row)) (numbersOf (shiftedRow row)) ⌝ }
-    ensures { λ r. ⌜ r ≡ answerOf (refusalOf (shiftedRow row)) (shiftedProgress p) ⌝ }
+fn shift_step(rows: &mut [i64], row: WorkingRow, p: Progress) -> Outcome
+    requires { ⌜
+        (p .settled * rowLength + rowLength ≤ length (now rows)) × Full row × T (every small (numbersHeld row))
+        × (p .shifts < 2 ^ 32) ⌝ }
+    ensures { λ _. ⌜ now (rows .exit)
+        ≡ saved (now (rows .entry)) (p .settled) (refusalOf (shiftedRow (numbersHeld row))) (numbersOf (shiftedRow (numbersHeld row))) ⌝ }
+    ensures { λ r. ⌜ r ≡ answerOf (refusalOf (shiftedRow (numbersHeld row))) (shiftedProgress p) ⌝ }
 {
     let i = p.settled;
     let order = p.order;
@@ -132,17 +119,20 @@ fn shift_step(rows: &mut [i64], row: [i64; ROW], p: Progress) -> Outcome
     put_limited(rows, i, working_rows::shifting::shifted(row), next)
 }
 
-// Rules 3 and 4 for the row that is worked on and settled row j (SCOPE 2.31, 2.34, 2.41, 2.42, 2.47). The number m of
-// rows stands in the contract only.
+// Rules 3 and 4 for the row that is worked on and settled row j (SCOPE 2.31, 2.34, 2.41, 2.42, 2.47). The number of rows stands in the
+// contract only.
 fn combine_step(
     rows: &mut [i64],
     relations: &mut [i64],
     equations: usize,
     side: Side,
     j: usize,
+    target: WorkingRow,
+    pivot: WorkingRow,
     p: Progress,
 ) -> Outcome
     requires { ⌜ Ready equations (now rows) (now relations) p × (p .settled < equations) × (j < p .settled) ⌝ }
+    requires { ⌜ Loaded (now rows) (p .settled) target × Loaded (now rows) j pivot ⌝ }
     requires { ⌜ T (not (isZero (metEntries (now rows) p j))) ⌝ }
     ensures { λ r. ⌜ Reached equations (now (rows .entry)) (now (relations .entry)) (now (rows .exit)) (now (relations .exit)) (p .shifts + 1) r
         (Elimination.combineStep (sideOf side) (stateOf equations (now (rows .entry)) (now (relations .entry)) p) (p .settled) j
@@ -150,10 +140,11 @@ fn combine_step(
     ensures { λ r. ⌜ r .done ≡ false ⌝ }
 {
     let i = p.settled;
-    let target = stores::rows::load(rows, i * ROW);
-    let pivot = stores::rows::load(rows, j * ROW);
     let order = p.order;
-    let x = multipliers_at(target, pivot, order[j]);
+    let c = order[j];
+    let a = target.entries;
+    let b = pivot.entries;
+    let x = multipliers_at(&a[..], &b[..], c);
     let g = x.g;
     let h = x.h;
     let found = roots::roots(&g[..]);
@@ -161,7 +152,8 @@ fn combine_step(
     if 16 < count {
         return answer(9, p);
     }
-    sides::listing::list_roots(relations, p.count, found, side, target);
+    let row = stores::rows::row_at(rows, i * ROW);
+    sides::listing::list_roots(relations, p.count, found, side, row);
     let next = Progress {
         settled: i,
         order,
@@ -174,6 +166,37 @@ fn combine_step(
         combinations::combined(&g[..], &h[..], target, pivot),
         next,
     )
+}
+
+// Rule 2 for the row that is worked on and settled row j: if the settled row is the wider, the two change places first (SCOPE 2.22).
+fn eliminate_step(
+    rows: &mut [i64],
+    relations: &mut [i64],
+    equations: usize,
+    side: Side,
+    j: usize,
+    row: WorkingRow,
+    p: Progress,
+) -> Outcome
+    requires { ⌜
+        Ready equations (now rows) (now relations) p × (p .settled < equations) × (j < p .settled)
+        × Loaded (now rows) (p .settled) row ⌝ }
+    requires { ⌜ T (not (isZero (metEntries (narrowed (now rows) (p .settled) j) p j))) ⌝ }
+    ensures { λ r. ⌜ Reached equations (now (rows .entry)) (now (relations .entry)) (now (rows .exit)) (now (relations .exit)) (p .shifts + 1) r
+        (Elimination.combineStep (sideOf side)
+        (stateOf equations (narrowed (now (rows .entry)) (p .settled) j) (now (relations .entry)) p) (p .settled) j
+        (Elimination.multipliersAt
+        (stateOf equations (narrowed (now (rows .entry)) (p .settled) j) (now (relations .entry)) p) (p .settled) j)) ⌝ }
+    ensures { λ r. ⌜ r .done ≡ false ⌝ }
+{
+    let i = p.settled;
+    let other = working_rows::stored::load(rows, j * ROW);
+    if row.width < other.width {
+        working_rows::stored::save(rows, j * ROW, row);
+        working_rows::stored::save(rows, i * ROW, other);
+        return combine_step(rows, relations, equations, side, j, other, row, p);
+    }
+    combine_step(rows, relations, equations, side, j, row, other, p)
 }
 
 // One exchange with its combination, one combination, one settling or one shift (SCOPE 2.2, 2.11, 2.12, 2.26). A step is taken only
@@ -191,20 +214,21 @@ pub(crate) fn step(
     ensures { λ r. ⌜ r .done ≡ false ⌝ }
 {
     let i = p.settled;
-    let row = stores::rows::load(rows, i * ROW);
-    if working_rows::entries::is_zero_row(row) {
-        return answer(6, p);
-    }
-    if working_rows::entries::contradicts(row) {
+    let row = working_rows::stored::load(rows, i * ROW);
+    let right = row.right;
+    if row.width == 0 {
+        if polynomials::content::is_zero(&right[..]) {
+            return answer(6, p);
+        }
         return answer(10, p);
     }
+    let entries = row.entries;
     let order = p.order;
-    let j = working_rows::entries::first_met(row, order, i);
+    let j = working_rows::entries::first_met(&entries[..], order, i);
     if j < i {
-        narrow_first(rows, i, j);
-        return combine_step(rows, relations, equations, side, j, p);
+        return eliminate_step(rows, relations, equations, side, j, row, p);
     }
-    let c = working_rows::entries::first_column(row);
+    let c = working_rows::entries::first_column(&entries[..]);
     if c < COLUMNS {
         answer(0, settled(c, p))
     } else {

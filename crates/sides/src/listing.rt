@@ -1,7 +1,6 @@
 // Rule 3: relations listed in the relation store.
 use crate::Side;
 use stores::lengths::RELATION;
-use stores::lengths::ROW;
 ghost use mathlib.Core.Path.{_≡_};
 ghost use mathlib.Core.List.{_∷_};
 ghost use Prim.Native.Nat.{_+_, _*_, _≤_, _<_};
@@ -9,7 +8,7 @@ ghost use lib.Dec.{T};
 ghost use lib.IntN.{pos};
 ghost use lib.ListN.{length, getD};
 ghost use lib.Seq.{paste};
-ghost use Rattle.rules.specs.Limits.{relationLength, small};
+ghost use Rattle.rules.specs.Limits.{rowLength, relationLength, small};
 ghost use Rattle.lists.specs.Tests.{every};
 ghost use Rattle.rules.specs.Elimination.{listing};
 ghost use Rattle.roots.specs.RootSearch.{held};
@@ -17,9 +16,9 @@ ghost use Rattle.sides.specs.Lent.{sideOf, Listing};
 ghost use Rattle.sides.specs.Relations.{Relisted};
 
 // The relation of the row at n0, at place k of the store.
-pub fn save_relation(relations: &mut [i64], k: usize, n0: i64, row: [i64; ROW])
-    requires { ⌜ k * relationLength + relationLength ≤ length (now relations) ⌝ }
-    ensures { λ _. ⌜ now (relations .exit) ≡ paste (now (relations .entry)) (k * relationLength) (n0 ∷ row) relationLength ⌝ }
+pub fn save_relation(relations: &mut [i64], k: usize, n0: i64, row: &[i64])
+    requires { ⌜ (k * relationLength + relationLength ≤ length (now relations)) × (length (now row) ≡ rowLength) ⌝ }
+    ensures { λ _. ⌜ now (relations .exit) ≡ paste (now (relations .entry)) (k * relationLength) (n0 ∷ now (row .entry)) relationLength ⌝ }
 {
     let at = k * RELATION;
     relations[at] = n0;
@@ -45,11 +44,11 @@ pub fn list_roots(
     count: usize,
     found: roots::RootList,
     side: Side,
-    row: [i64; ROW],
+    row: &[i64],
 )
     requires { ⌜ Listing count (now relations) × (count + found .count ≤ 16) × (length (found .values) ≡ 16) ⌝ }
-    requires { ⌜ T (every small (held found)) × T (every small row) ⌝ }
-    ensures { λ _. ⌜ Relisted count row (listing (sideOf side) (held found)) (now (relations .entry)) (now (relations .exit)) ⌝ }
+    requires { ⌜ T (every small (held found)) × T (every small (now row)) × (length (now row) ≡ rowLength) ⌝ }
+    ensures { λ _. ⌜ Relisted count (now (row .entry)) (listing (sideOf side) (held found)) (now (relations .entry)) (now (relations .exit)) ⌝ }
 {
     let n = found.count;
     let mut k = 0;

@@ -15,7 +15,8 @@ pub fn mirror_rows(store: &mut [i64], equations: usize, span: usize)
     while i < equations {
         let at = i * ROW;
         let row = stores::rows::load(store, at);
-        stores::rows::save(store, at, working_rows::mirroring::mirrored(row, span));
+        let mirror = working_rows::mirroring::mirrored(row, span);
+        stores::rows::save(store, at, &mirror[..]);
         i += 1;
     }
 }
@@ -30,12 +31,8 @@ pub fn mirror_relations(store: &mut [i64], count: usize, span: usize)
         let at = k * RELATION;
         let n0 = store[at];
         let row = stores::rows::load(store, at + 1);
-        super::listing::save_relation(
-            store,
-            k,
-            integers::negated(n0),
-            working_rows::mirroring::mirrored(row, span),
-        );
+        let mirrored = working_rows::mirroring::mirrored(row, span);
+        super::listing::save_relation(store, k, integers::negated(n0), &mirrored[..]);
         k += 1;
     }
 }

@@ -13,7 +13,7 @@
 --   numbers-mapRow        the numbers of a row with f applied to each polynomial
 --   polynomials-combine   the polynomials of a combination of two rows
 use mathlib.Core.Path.{_≡_, refl, sym, _∙_, ap, fun-ext}
-use mathlib.Core.Bool.{false, _&&_}
+use mathlib.Core.Bool.{_&&_}
 use mathlib.Core.List.{List, [], _∷_, _++_, map, flatten, zipWith, append-nil, map-append}
 use Prim.Native.Nat.{ℕ, suc, _+_, _*_, _<_}
 use native.Mathlib.Nat.{zero-add, le-refl}

@@ -40,26 +40,6 @@ pub front-whole : (l : List ℤ) → front l (length l) ≡ l
 unfolding isZero
 front-whole l = front-all l (length l) (rw drop-length tt)
 
--- Zeros are there already.
-pub front-past : (l : List ℤ) (n k : ℕ) → n + k ≤ length l → T (isZero (take k (drop n l))) → front l n ≡ front l (n + k)
-unfolding front
-front-past l n k h z =
-    ap (λ r. take n l ++ r) (rest ∙ ap (λ r. r ++ zeros) (sym part)) ∙ sym (append-assoc (take n l) (take k (drop n l)) zeros)
-    ∙ ap (λ r. r ++ zeros) (sym (take-add n k l))
-  where
-    zeros : List ℤ
-    zeros = replicate (length l - (n + k)) (pos 0)
-
-    rest : replicate (length l - n) (pos 0) ≡ replicate k (pos 0) ++ zeros
-    rest =
-        let count : length l - n ≡ k + (length l - (n + k)) = omega arith in
-        rw (replicate-append-replicate k (length l - (n + k)) (pos 0), count)
-
-    part : take k (drop n l) ≡ replicate k (pos 0)
-    part =
-        zero-list (take k (drop n l)) z
-        ∙ ap (λ m. replicate m (pos 0)) (length-take-le k (drop n l) (rw length-drop (omega arith)))
-
 -- The polynomials of a row stand in parts of 16 numbers.
 module _ (l : List ℤ) (e : ℕ) (h : e * coefficientCount + coefficientCount ≤ length l) where
   abbrev n : ℕ

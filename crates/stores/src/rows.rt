@@ -1,4 +1,4 @@
-// A row loaded from a store and saved into it.
+// Numbers loaded from a store and saved into it.
 use crate::lengths::ROW;
 ghost use mathlib.Core.Path.{_≡_};
 ghost use Prim.Native.Nat.{_+_, _≤_};
@@ -31,14 +31,14 @@ pub fn load(store: &[i64], at: usize) -> [i64; ROW]
     row
 }
 
-// The store with the row's numbers from a place on; all others stay.
-pub fn save(store: &mut [i64], at: usize, row: [i64; ROW])
-    requires { ⌜ at + rowLength ≤ length (now store) ⌝ }
-    ensures { λ _. ⌜ now (store .exit) ≡ paste (now (store .entry)) at row rowLength ⌝ }
+// The store with numbers from a place on; all others stay.
+pub fn save(store: &mut [i64], at: usize, numbers: &[i64])
+    requires { ⌜ at + length (now numbers) ≤ length (now store) ⌝ }
+    ensures { λ _. ⌜ now (store .exit) ≡ paste (now (store .entry)) at (now (numbers .entry)) (length (now (numbers .entry))) ⌝ }
 {
     let mut i = 0;
-    while i < ROW {
-        store[at + i] = row[i];
+    while i < numbers.len() {
+        store[at + i] = numbers[i];
         i += 1;
     }
 }

@@ -1,4 +1,5 @@
 pub mod Found
+pub mod Working
 pub mod Worked
 pub mod Shifting
 pub mod Mirroring

@@ -4,20 +4,20 @@
 --   movedCount        the number of polynomials that move
 --
 -- Main statements
---   length-shiftUp    they are as many as a row has
+--   length-shiftUp    those of the left part are as many as a left part has
 --   shiftUp-part      polynomial e is p(n + 1) for the polynomial p one block further down
 --   shiftUp-rest      the last block is zero
---   shiftUp-side      the right side has n + 1 for n
+--   shifted-apart     the left part and the right side are shifted apart
 --   shifted-held      a shifted row within the limit is held by its numbers
 use mathlib.Core.Path.{_≡_, refl, sym, _∙_, ap, ap₂, subst}
-use mathlib.Core.List.{List, [], _∷_, _++_, map, flatten, append-nil, append-assoc, map-append}
-use Prim.Native.Nat.{ℕ, _+_, _*_, _<_}
-use native.Mathlib.Nat.{add-comm, le-of-eq}
+use mathlib.Core.List.{List, [], _∷_, _++_, map, flatten, append-nil, map-append}
+use Prim.Native.Nat.{ℕ, _+_, _*_, _≤_, _<_}
+use native.Mathlib.Nat.{add-comm}
 use native.Mathlib.Omega.{arith}
 use lib.Dec.{T}
 use lib.IntN.{ℤ, pos}
-use lib.ListN.{length, take, drop, length-take, length-drop, length-map, List·getD-map}
-use lib.Seq.{take-at, take-all, drop-at, drop-drop, length-take-le}
+use lib.ListN.{length, take, drop, length-append, length-take, length-drop, length-map, List·getD-map}
+use lib.Seq.{drop-at, drop-drop, length-take-le}
 use Rattle.algebra.specs.Polynomials.{Polynomial, isZero, shift, shiftBy, length-shift, isZero-append, isZero-shift}
 use Rattle.lists.specs.Tests.{T-&&}
 use Rattle.rules.specs.Rows.{Block, Row, mapRow, coefficientsOf, blank, leadingBlock, shiftUp}
@@ -27,7 +27,8 @@ use Rattle.rules.specs.Limits.{rowLength, coefficientCount, columnCount, mostSp
 use Rattle.rules.specs.Stores.{rowOf, StoreRow}
 use Rattle.lists.specs.Parts.{parts, parts-length, parts-width, getD-parts, part-flatten, parts-parts}
 use Rattle.rules.specs.Elimination.{within, limitCoefficients}
-use Rattle.rules.specs.Layout.{length-coefficientsOf, length-entries, blockOf, coefficientsAt}
+use Rattle.rules.specs.Layout.{rowOf-coefficientsOf, blockOf, coefficientsAt}
+use Rattle.working_rows.specs.Working.{leftPart, blocks-held, right-held}
 use Rattle.working_rows.specs.Worked.{Held, held, store-row}
 
 -- The polynomials of all blocks but the first move up.
@@ -54,15 +55,8 @@ left-shiftUp l =
     ∙ ap₂ _++_ (parts-parts coefficientCount columnCount mostSpan (drop blockLength l)) (append-nil (last l)))
     ∙ map-append shift (below l) (last l)
 
--- The zero block and the right side, behind what has moved.
-behind : List ℤ → List ℤ
-behind l = flatten (map shift (last l)) ++ shift (side l)
-
-numbers-shiftUp : (l : List ℤ) → coefficientsOf (shiftUp (rowOf l)) ≡ flatten (map shift (below l)) ++ behind l
-unfolding coefficientsOf shiftUp mapRow rowOf behind side
-numbers-shiftUp l =
-    ap (λ q. q ++ shift (side l)) (ap flatten (left-shiftUp l) ∙ flatten-append (map shift (below l)) (map shift (last l)))
-    ∙ append-assoc (flatten (map shift (below l))) (flatten (map shift (last l))) (shift (side l))
+left-numbers : (l : List ℤ) → leftPart (shiftUp (rowOf l)) ≡ flatten (map shift (below l)) ++ flatten (map shift (last l))
+left-numbers l = ap flatten (left-shiftUp l) ∙ flatten-append (map shift (below l)) (map shift (last l))
 
 -- ---- widths
 
@@ -83,7 +77,8 @@ blank-zero (p ∷ ps) = step (shift (map (λ _. pos 0) p)) _ (rw (isZero-shift (
     step : (q r : Polynomial) → T (isZero q) → T (isZero r) → T (isZero (q ++ r))
     step q r y z = rw (isZero-append q r) (T-&& (isZero q) (isZero r) .1 (y, z))
 
-module _ (l : List ℤ) (long : length l ≡ rowLength) where
+-- The left part, of the numbers that hold it.
+module _ (l : List ℤ) (long : entriesLength ≤ length l) where
   below-width : All (λ p. length p ≡ coefficientCount) (map shift (below l))
   unfolding below
   below-width =
@@ -97,32 +92,11 @@ module _ (l : List ℤ) (long : length l ≡ rowLength) where
       (map-width (map (λ _. pos 0)) (λ p. length-map p (λ _. pos 0)) coefficientCount (blockOf (take blockLength l))
       (parts-width coefficientCount columnCount (take blockLength l) (rw length-take (omega arith))))
 
-  side-width : length (shift (side l)) ≡ coefficientCount
-  unfolding side
-  side-width =
-      length-shift (side l) ∙ length-take-le coefficientCount (drop entriesLength l) (rw length-drop (omega arith))
-
-  StoreRow-shiftUp : StoreRow (shiftUp (rowOf l))
-  unfolding shiftUp mapRow rowOf leadingBlock blank All side
-  StoreRow-shiftUp =
-      store-row (shiftUp (rowOf l)) refl (refl, (refl, (refl, (refl, (refl, tt)))))
-      (append-all (λ p. length p ≡ coefficientCount) (flatten (shiftUp (rowOf l) .blocks)) (shift (side l) ∷ [])
-      (subst (All (λ p. length p ≡ coefficientCount)) (sym (left-shiftUp l))
-      (append-all (λ p. length p ≡ coefficientCount) (map shift (below l)) (map shift (last l)) below-width last-width))
-      (side-width, tt))
-
-  -- A shifted row within the limit is held by its numbers.
-  pub shifted-held : (r : Row) → limitCoefficients (shiftUp (rowOf l)) ≡ within r → Held r
-  shifted-held r e = held (shiftUp (rowOf l)) r StoreRow-shiftUp e
-
   below-length : length (flatten (map shift (below l))) ≡ movedCount * coefficientCount
   unfolding below
   below-length =
       length-flatten coefficientCount (map shift (below l)) below-width
       ∙ ap (λ n. n * coefficientCount) (length-map (below l) shift ∙ parts-length coefficientCount movedCount (drop blockLength l))
-
-  pub length-shiftUp : length (coefficientsOf (shiftUp (rowOf l))) ≡ rowLength
-  length-shiftUp = length-coefficientsOf (shiftUp (rowOf l)) StoreRow-shiftUp
 
   last-length : length (flatten (map shift (last l))) ≡ blockLength
   unfolding last blank
@@ -132,32 +106,61 @@ module _ (l : List ℤ) (long : length l ≡ rowLength) where
       (length-map (last l) shift ∙ length-map (blockOf (take blockLength l)) (map (λ _. pos 0))
       ∙ parts-length coefficientCount columnCount (take blockLength l))
 
-  pub shiftUp-rest : T (isZero (take blockLength (drop (movedCount * coefficientCount) (coefficientsOf (shiftUp (rowOf l))))))
-  unfolding last behind
+  pub length-shiftUp : length (leftPart (shiftUp (rowOf l))) ≡ entriesLength
+  length-shiftUp =
+      ap length (left-numbers l) ∙ length-append (flatten (map shift (below l))) (flatten (map shift (last l)))
+      ∙ ap₂ _+_ below-length last-length
+
+  pub shiftUp-rest : T (isZero (drop (movedCount * coefficientCount) (leftPart (shiftUp (rowOf l)))))
+  unfolding last
   shiftUp-rest =
       rw (
-        numbers-shiftUp l,
-        drop-at (flatten (map shift (below l))) (behind l) (movedCount * coefficientCount) below-length,
-        take-at (flatten (map shift (last l))) (shift (side l)) blockLength last-length,
+        left-numbers l,
+        drop-at (flatten (map shift (below l))) (flatten (map shift (last l))) (movedCount * coefficientCount) below-length,
       )
       (blank-zero (blockOf (take blockLength l)))
 
-  pub shiftUp-side : coefficientsAt (coefficientsOf (shiftUp (rowOf l))) polynomialCount
-      ≡ shift (take coefficientCount (drop entriesLength l))
-  unfolding coefficientsOf side shiftUp mapRow rowOf
-  shiftUp-side =
-      ap (take coefficientCount) (drop-at (flatten (flatten (shiftUp (rowOf l) .blocks))) (shift (side l)) entriesLength
-      (length-entries (shiftUp (rowOf l)) StoreRow-shiftUp))
-      ∙ take-all coefficientCount (shift (side l)) (le-of-eq side-width)
-
   pub shiftUp-part : (e : ℕ) → e < movedCount
-      → coefficientsAt (coefficientsOf (shiftUp (rowOf l))) e
-      ≡ shift (take coefficientCount (drop (e * coefficientCount + blockLength) l))
+      → coefficientsAt (leftPart (shiftUp (rowOf l))) e ≡ shift (take coefficientCount (drop (e * coefficientCount + blockLength) l))
   unfolding below shift shiftBy
   shiftUp-part e h =
-      ap (λ r. coefficientsAt r e) (numbers-shiftUp l)
-      ∙ part-flatten coefficientCount movedCount (map shift (below l)) (behind l)
+      ap (λ r. coefficientsAt r e) (left-numbers l)
+      ∙ part-flatten coefficientCount movedCount (map shift (below l)) (flatten (map shift (last l)))
       (length-map (below l) shift ∙ parts-length coefficientCount movedCount (drop blockLength l)) below-width e h
       ∙ List·getD-map shift (below l) e [] ∙ ap shift (getD-parts coefficientCount movedCount (drop blockLength l) e h)
       ∙ ap (λ r. shift (take coefficientCount r))
       (drop-drop (e * coefficientCount) blockLength l ∙ ap (λ n. drop n l) (add-comm blockLength (e * coefficientCount)))
+
+-- The whole row.
+module _ (l : List ℤ) (long : length l ≡ rowLength) where
+  side-width : length (shift (side l)) ≡ coefficientCount
+  unfolding side
+  side-width =
+      length-shift (side l) ∙ length-take-le coefficientCount (drop entriesLength l) (rw length-drop (omega arith))
+
+  StoreRow-shiftUp : StoreRow (shiftUp (rowOf l))
+  unfolding shiftUp mapRow rowOf leadingBlock blank All side
+  StoreRow-shiftUp =
+      let enough : entriesLength ≤ length l = omega arith in
+      store-row (shiftUp (rowOf l)) refl (refl, (refl, (refl, (refl, (refl, tt)))))
+      (append-all (λ p. length p ≡ coefficientCount) (flatten (shiftUp (rowOf l) .blocks)) (shift (side l) ∷ [])
+      (subst (All (λ p. length p ≡ coefficientCount)) (sym (left-shiftUp l))
+      (append-all (λ p. length p ≡ coefficientCount) (map shift (below l)) (map shift (last l)) (below-width l enough)
+      (last-width l enough)))
+      (side-width, tt))
+
+  -- A shifted row within the limit is held by its numbers.
+  pub shifted-held : (r : Row) → limitCoefficients (shiftUp (rowOf l)) ≡ within r → Held r
+  shifted-held r e = held (shiftUp (rowOf l)) r StoreRow-shiftUp e
+
+-- The entries and the right side are shifted apart.
+pub shifted-apart : (e s : List ℤ) → length e ≡ entriesLength → length s ≡ coefficientCount
+    → rowOf (leftPart (shiftUp (rowOf e)) ++ shift s) ≡ shiftUp (rowOf (e ++ s))
+unfolding shiftUp mapRow leadingBlock coefficientsOf
+shifted-apart e s h k =
+    ap rowOf (ap₂ (λ a b. a ++ shift b) (sym left) (sym (right-held e s h k)))
+    ∙ rowOf-coefficientsOf (shiftUp (rowOf (e ++ s)))
+    (StoreRow-shiftUp (e ++ s) (length-append e s ∙ ap₂ _+_ h k))
+  where
+    left : leftPart (shiftUp (rowOf (e ++ s))) ≡ leftPart (shiftUp (rowOf e))
+    left = ap (λ bs. leftPart (shiftUp (record { blocks = bs; right = [] }))) (blocks-held e s h)

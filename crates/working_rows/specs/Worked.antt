@@ -1,14 +1,15 @@
--- A new row, or the limit that it breaks, as the code gives it: a refusal number and 336 numbers.
+-- A new row, or the limit that it breaks, as the code gives it: a refusal number and a working row.
 --
 -- Main definitions
 --   refusalOf x    0, or the number of the limit
 --   numbersOf x    the numbers of the new row, or zeros
---   Shown n l x    the code's refusal number n and numbers l are those of x
+--   workedRow x    the working row of the new row, or zeros
+--   Shown n w x    the code's refusal number n and working row w are those of x
 --   Held r         the numbers of r hold it, and they are within ±C
 --
 -- Main statements
+--   numbers-worked the numbers of that working row
 --   limit-within, limit-beyond   the answer for numbers that are all within ±C, and for others
---   limit-same     the answer depends on the numbers of the row alone
 --   limit-zero, consistent-refused, consistent-passed   the answer of the test behind the limit
 --   held           a row of a store's shape that is within the limit is held by its numbers
 --   store-row      that shape, by the polynomials of the row
@@ -20,14 +21,16 @@ use Prim.Native.Nat.{ℕ}
 use native.Mathlib.Omega.{arith}
 use lib.Dec.{T}
 use lib.IntN.{ℤ, pos}
-use lib.ListN.{length, replicate}
-use Rattle.rules.specs.Limits.{rowLength, small, coefficientCount, columnCount, blockCount}
+use lib.ListN.{length, replicate, replicate-append-replicate}
+use Rattle.rules.specs.Limits.{entriesLength, rowLength, small, coefficientCount, columnCount, blockCount}
 use Rattle.rules.specs.Rows.{Block, Row, coefficientsOf, contradicts, smallRow}
 use Rattle.lists.specs.Everywhere.{All}
 use Rattle.lists.specs.Tests.{every}
 use Rattle.rules.specs.Stores.{rowOf, Shaped, StoreRow}
 use Rattle.rules.specs.Layout.{rowOf-coefficientsOf, length-coefficientsOf}
 use Rattle.stores.specs.Flat.{polynomialsOf}
+use Rattle.working_rows.specs.declared.WorkingRow.{WorkingRow}
+use Rattle.working_rows.specs.Working.{leftPart, workingOf, numbersHeld}
 use Rattle.rules.specs.Elimination.{Limited, within, beyond, limitCoefficients, consistent}
 
 unfoldable pub refusalOf : Limited → ℕ
@@ -39,49 +42,34 @@ unfolding coefficientsOf
 numbersOf (within r) = coefficientsOf r
 numbersOf (beyond n) = replicate rowLength (pos 0)
 
-abbrev pub Shown : ℕ → List ℤ → Limited → Type 0
-Shown refusal numbers x = (refusal ≡ refusalOf x) × (numbers ≡ numbersOf x)
+-- The working row of the new row, or zeros.
+unfoldable pub workedRow : Limited → WorkingRow
+workedRow (within r) = workingOf (leftPart r) (r .right)
+workedRow (beyond n) =
+    record { entries = replicate entriesLength (pos 0); right = replicate coefficientCount (pos 0); width = 0 }
+
+pub numbers-worked : (x : Limited) → numbersHeld (workedRow x) ≡ numbersOf x
+unfolding workedRow numbersOf coefficientsOf
+numbers-worked (within r) = refl
+numbers-worked (beyond n) = replicate-append-replicate entriesLength coefficientCount (pos 0)
+
+-- The code's refusal number and row are those of x.
+abbrev pub Shown : ℕ → WorkingRow → Limited → Type 0
+Shown refusal row x = (refusal ≡ refusalOf x) × (row ≡ workedRow x)
 
 -- ---- the limit of the coefficients
 
-refusal-limit : (r : Row) → refusalOf (limitCoefficients r) ≡ cond (every small (coefficientsOf r)) 0 8
-unfolding refusalOf limitCoefficients smallRow
-refusal-limit r = go (every small (coefficientsOf r))
-  where
-    go : (t : Bool) → refusalOf (cond t (within r) (beyond 8)) ≡ cond t 0 8
-    go true = refl
-    go false = refl
-
-numbers-limit : (r : Row)
-    → numbersOf (limitCoefficients r) ≡ cond (every small (coefficientsOf r)) (coefficientsOf r) (replicate rowLength (pos 0))
-unfolding numbersOf limitCoefficients smallRow
-numbers-limit r = go (every small (coefficientsOf r))
-  where
-    go : (t : Bool) → numbersOf (cond t (within r) (beyond 8)) ≡ cond t (coefficientsOf r) (replicate rowLength (pos 0))
-    go true = refl
-    go false = refl
-
 -- The answer depends on the numbers of the row alone.
 module _ (r : Row) (l : List ℤ) (held : coefficientsOf r ≡ l) where
-  limit-refusal : refusalOf (limitCoefficients r) ≡ cond (every small l) 0 8
-  limit-refusal = refusal-limit r ∙ ap (λ m. cond (every small m) 0 8) held
+  limit-is : limitCoefficients r ≡ cond (every small l) (within r) (beyond 8)
+  unfolding limitCoefficients smallRow
+  limit-is = ap (λ m. cond (every small m) (within r) (beyond 8)) held
 
-  limit-numbers : numbersOf (limitCoefficients r) ≡ cond (every small l) l (replicate rowLength (pos 0))
-  limit-numbers = numbers-limit r ∙ ap (λ m. cond (every small m) m (replicate rowLength (pos 0))) held
+  pub limit-within : every small l ≡ true → limitCoefficients r ≡ within r
+  limit-within e = limit-is ∙ ap (λ t. cond t (within r) (beyond 8)) e
 
-  pub limit-same : (q : Row) → coefficientsOf q ≡ l → (n : ℕ) (m : List ℤ)
-      → Shown n m (limitCoefficients q) → Shown n m (limitCoefficients r)
-  limit-same q same n m h = (
-    h .0 ∙ refusal-limit q ∙ ap (λ k. cond (every small k) 0 8) same ∙ sym limit-refusal,
-    h .1 ∙ numbers-limit q ∙ ap (λ k. cond (every small k) k (replicate rowLength (pos 0))) same ∙ sym limit-numbers,
-  )
-
-pub limit-within : (r : Row) (l : List ℤ) → coefficientsOf r ≡ l → every small l ≡ true → Shown 0 l (limitCoefficients r)
-limit-within r l held e = rw (limit-refusal r l held, limit-numbers r l held, e) (refl, refl)
-
-pub limit-beyond : (r : Row) (l : List ℤ) → coefficientsOf r ≡ l → every small l ≡ false
-    → Shown 8 (replicate rowLength (pos 0)) (limitCoefficients r)
-limit-beyond r l held e = rw (limit-refusal r l held, limit-numbers r l held, e) (refl, refl)
+  pub limit-beyond : every small l ≡ false → limitCoefficients r ≡ beyond 8
+  limit-beyond e = limit-is ∙ ap (λ t. cond t (within r) (beyond 8)) e
 
 -- ---- the test behind the limit
 

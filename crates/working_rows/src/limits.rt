@@ -1,46 +1,62 @@
-// The limit of the coefficients, on the numbers of a row, and the test behind it of a row that a combination has made.
-use stores::lengths::ROW;
+// The limit of the coefficients of a new row, and the test behind it of a row that a combination has made.
+use crate::WorkingRow;
+use polynomials::lengths::COEFFICIENTS;
+use stores::lengths::ENTRIES;
 ghost use mathlib.Core.Path.{_≡_};
+ghost use mathlib.Core.List.{_++_};
 ghost use Rattle.rules.specs.Stores.{rowOf};
-ghost use Rattle.rules.specs.Elimination.{limitCoefficients, consistent};
-ghost use Rattle.working_rows.specs.Worked.{refusalOf, numbersOf};
+ghost use Rattle.rules.specs.Elimination.{limitCoefficients, consistent, beyond};
+ghost use Rattle.working_rows.specs.Worked.{refusalOf, workedRow};
 
 // A new row, or the number of the limit that it breaks and zeros.
 pub struct Worked {
     pub refusal: u8,
-    pub row: [i64; ROW],
+    pub row: WorkingRow,
 }
 
-// A coefficient past ±C is refused with 8 (SCOPE 2.44, 2.63).
-pub fn limited(row: [i64; ROW]) -> Worked
-    ensures { λ r. ⌜ r .refusal ≡ refusalOf (limitCoefficients (rowOf row)) ⌝ }
-    ensures { λ r. ⌜ r .row ≡ numbersOf (limitCoefficients (rowOf row)) ⌝ }
+// The number of a limit that a new row breaks.
+pub fn broken(refusal: u8) -> Worked
+    ensures { λ r. ⌜ (r .refusal ≡ refusal) × (r .row ≡ workedRow (beyond refusal)) ⌝ }
 {
-    if stores::checks::all_small(&row[..]) {
-        Worked { refusal: 0, row }
-    } else {
-        Worked {
-            refusal: 8,
-            row: [0; ROW],
-        }
+    let row = WorkingRow {
+        entries: [0; ENTRIES],
+        right: [0; COEFFICIENTS],
+        width: 0,
+    };
+    Worked { refusal, row }
+}
+
+// A coefficient past ±C, on the right side too, is refused with 8 (SCOPE 2.44, 2.63).
+pub fn limited(entries: [i64; ENTRIES], right: [i64; COEFFICIENTS]) -> Worked
+    ensures { λ r. ⌜ r .refusal ≡ refusalOf (limitCoefficients (rowOf (entries ++ right))) ⌝ }
+    ensures { λ r. ⌜ r .row ≡ workedRow (limitCoefficients (rowOf (entries ++ right))) ⌝ }
+{
+    if !stores::checks::all_small(&entries[..]) {
+        return broken(8);
     }
+    if !stores::checks::all_small(&right[..]) {
+        return broken(8);
+    }
+    let row = crate::stored::working(entries, right);
+    Worked { refusal: 0, row }
 }
 
 // Behind that limit, a row whose left part alone is zero is refused with 10 (SCOPE 2.46).
-pub fn consistent(row: [i64; ROW]) -> Worked
-    ensures { λ r. ⌜ r .refusal ≡ refusalOf (consistent (limitCoefficients (rowOf row))) ⌝ }
-    ensures { λ r. ⌜ r .row ≡ numbersOf (consistent (limitCoefficients (rowOf row))) ⌝ }
+pub fn consistent(entries: [i64; ENTRIES], right: [i64; COEFFICIENTS]) -> Worked
+    ensures { λ r. ⌜ r .refusal ≡ refusalOf (consistent (limitCoefficients (rowOf (entries ++ right)))) ⌝ }
+    ensures { λ r. ⌜ r .row ≡ workedRow (consistent (limitCoefficients (rowOf (entries ++ right)))) ⌝ }
 {
-    let worked = limited(row);
+    let worked = limited(entries, right);
     let refusal = worked.refusal;
     if refusal != 0 {
         return worked;
     }
-    if crate::entries::contradicts(row) {
-        return Worked {
-            refusal: 10,
-            row: [0; ROW],
-        };
+    let row = worked.row;
+    if 0 < row.width {
+        return worked;
     }
-    worked
+    if polynomials::content::is_zero(&right[..]) {
+        return worked;
+    }
+    broken(10)
 }

@@ -1,36 +1,34 @@
 -- `combinations::low_combination` meets its contract. The loop's invariant: the first e polynomials are written, and the others are zero.
 -- Assumes nothing.
-use mathlib.Core.Path.{_≡_, sym, _∙_, ap, ap₂}
+use mathlib.Core.Path.{_≡_, refl, sym, _∙_, ap, ap₂}
 use mathlib.Core.Logic.{⊎-elim}
 use mathlib.Core.Bool.{false, not}
 use mathlib.Core.List.{List}
-use Prim.Native.Nat.{ℕ, _+_, _*_, _≤_, _-_}
+use Prim.Native.Nat.{ℕ, _+_, _*_, _/_, _≤_, _-_}
 use native.Mathlib.Omega.{arith}
 use borrow.Author.Needs.{needs}
 use borrow.Author.Tests.{not-false}
 use borrow.Rule.Slice.PartMut.{putMid}
 use denote.Ref.{now}
 use lib.IntN.{ℤ, pos}
-use lib.ListN.{length, replicate}
+use lib.ListN.{length, replicate, length-replicate}
 use Rattle.algebra.specs.Polynomials.{Polynomial, add, mul}
-use Rattle.rules.specs.Limits.{coefficientCount, rowLength}
-use Rattle.rules.specs.Rows.{combine, mapRow, coefficientsOf}
-use Rattle.rules.specs.Stores.{rowOf}
-use Rattle.stores.specs.Flat.{partCount}
+use Rattle.rules.specs.Limits.{coefficientCount}
 use Rattle.stores.specs.OverZeros.{front, length-front, front-none, front-whole, front-put, front-skip}
-use Rattle.combinations.specs.Combination.{lowPart, length-low, trimmed-low, trimmed-zero, Trimmed, trimmed-fit}
+use Rattle.combinations.specs.Combination.{lowPart, lowNumbers, length-low, trimmed-low, trimmed-zero, Trimmed, trimmed-fit}
 use Rattle.combinations.proofs.low_combination.Statement.{statement}
 use Rattle.combinations.proofs.low_combination.Tie as tie
 
 abbrev numbers : Polynomial → Polynomial → List ℤ → List ℤ → List ℤ
-numbers g h target pivot = coefficientsOf (mapRow lowPart (combine g h (rowOf target) (rowOf pivot)))
+numbers g h target pivot = lowNumbers (length target / coefficientCount) g h target pivot
 
 abbrev Inv-loop : tie.InvT-loop
-Inv-loop g h target pivot a b row₀ e₀ row e =
-    (e ≤ partCount) × (length row ≡ rowLength) × (row ≡ front (numbers g h target pivot) (e * coefficientCount))
+Inv-loop place₀ g h target pivot a b count e₀ place e =
+    (count ≡ length target / coefficientCount) × (e ≤ count) × (length place ≡ length target)
+    × (place ≡ front (numbers g h target pivot) (e * coefficientCount))
 
 abbrev μ-loop : tie.MeasureT-loop
-μ-loop g h target pivot a b row₀ e₀ row e = partCount - e
+μ-loop place₀ g h target pivot a b count e₀ place e = count - e
 
 -- the polynomials that are combined at place e
 module _ (c : tie.After-both-zero Inv-loop μ-loop) where
@@ -55,10 +53,15 @@ module _ (c : tie.After-both-zero Inv-loop μ-loop) where
   abbrev q : Polynomial
   q = now (c .before .trimmed4 .result)
 
-  full-long : length full ≡ rowLength
-  full-long = length-low (now (start .args .g)) (now (start .args .h)) (now (start .args .target)) (now (start .args .pivot))
+  abbrev target : List ℤ
+  target = now (start .args .target)
 
-  made : Trimmed (now (start .args .g)) (now (start .args .h)) (now (start .args .target)) (now (start .args .pivot)) e width
+  full-long : length full ≡ length target
+  full-long =
+      length-low (length target / coefficientCount) (now (start .args .g)) (now (start .args .h)) target (now (start .args .pivot))
+      ∙ sym (start .pre .1 .0)
+
+  made : Trimmed (length target / coefficientCount) (now (start .args .g)) (now (start .args .h)) target (now (start .args .pivot)) e width
       (now (at .before .before .trimmed .result)) p (now (at .before .trimmed2 .result)) q
   made = search needs
 
@@ -67,9 +70,9 @@ module _ (c : tie.After-both-zero Inv-loop μ-loop) where
       front-skip full e (omega (arith, full-long)) (trimmed-zero made (sym (c .both-zero .ensures) ∙ not-false _ z))
 
   put : (r : List ℤ) → r ≡ lowPart (add (mul (now (at .before .before .trimmed .result)) p) (mul (now (at .before .trimmed2 .result)) q))
-      → putMid (e * coefficientCount) width (at .loop .row) r ≡ front full ((e + 1) * coefficientCount)
+      → putMid (e * coefficientCount) width (at .loop .place) r ≡ front full ((e + 1) * coefficientCount)
   put r w =
-      ap₂ (putMid (e * coefficientCount) width) (at .loop .inv .2) (w ∙ trimmed-low made)
+      ap₂ (putMid (e * coefficientCount) width) (at .loop .inv .3) (w ∙ trimmed-low made)
       ∙ front-put full e (omega (arith, full-long)) width (omega arith)
 
 trimmed-requires : tie.Need-trimmed-requires Inv-loop μ-loop
@@ -82,8 +85,15 @@ loop-holds : tie.Need-loop-holds Inv-loop μ-loop
 loop-holds c =
     let args = c .before .before .args in
     let full = numbers (now (args .g)) (now (args .h)) (now (args .target)) (now (args .pivot)) in
-    let long = length-low (now (args .g)) (now (args .h)) (now (args .target)) (now (args .pivot)) in
-    (omega arith, search needs, sym (front-none full ∙ ap (λ n. replicate n (pos 0)) long))
+    let target = now (args .target) in
+    let pre = c .before .before .pre in
+    let long = length-low (length target / coefficientCount) (now (args .g)) (now (args .h)) target (now (args .pivot)) ∙ sym (pre .1 .0) in
+    let zeros = pre .1 .4 in (
+      refl,
+      omega arith,
+      ap length zeros ∙ length-replicate (length target) (pos 0),
+      zeros ∙ sym (front-none full ∙ ap (λ n. replicate n (pos 0)) long),
+    )
 
 mul-from : tie.Need-mul-from Inv-loop μ-loop
 mul-from c = search needs
@@ -124,22 +134,22 @@ trimmed-requires-4 c κs = search needs
 both-zero-requires : tie.Need-both-zero-requires Inv-loop μ-loop
 both-zero-requires c κs = search needs
 
-mul-row : tie.Need-mul-row Inv-loop μ-loop
-mul-row c = search needs
+mul-put-combined : tie.Need-mul-put-combined Inv-loop μ-loop
+mul-put-combined c = search needs
 
 sub-put-combined : tie.Need-sub-put-combined Inv-loop μ-loop
 sub-put-combined c = search needs
 
-part-row-start : tie.Need-part-row-start Inv-loop μ-loop
-part-row-start c = search needs
+part-put-combined-start : tie.Need-part-put-combined-start Inv-loop μ-loop
+part-put-combined-start c = search needs
 
-part-row-end : tie.Need-part-row-end Inv-loop μ-loop
-part-row-end c = search needs
+part-put-combined-end : tie.Need-part-put-combined-end Inv-loop μ-loop
+part-put-combined-end c = search needs
 
 put-combined-requires : tie.Need-put-combined-requires Inv-loop μ-loop
 put-combined-requires c κs =
     let here = c .before .before in
-    let fit = trimmed-fit (made here) (start here .pre .0) (start here .pre .1) in
+    let fit = trimmed-fit (made here) (start here .pre .0) (start here .pre .1 .2, start here .pre .1 .3) in
     (search needs, ((fit .0 .0, fit .0 .1, fit .0 .3), (fit .1 .0, fit .1 .1, fit .1 .3)))
 
 add-e : tie.Need-add-e Inv-loop μ-loop
@@ -151,24 +161,33 @@ loop-less c = search needs
 loop-again : tie.Need-loop-again Inv-loop μ-loop
 loop-again c =
     let here = c .before in
-    let written : c .if1 .row ≡ front (full here) ((e here + 1) * coefficientCount) = ⊎-elim
+    let written : c .if1 .place ≡ front (full here) ((e here + 1) * coefficientCount) = ⊎-elim
     (λ w. w .4 ∙ put here (w .2 .last .0) (w .2 .ensures))
-    (λ w. w .1 ∙ at here .loop .inv .2 ∙ skipped here (w .0 .left))
+    (λ w. w .1 ∙ at here .loop .inv .3 ∙ skipped here (w .0 .left))
     (c .if1 .came)
     in (
+      at here .loop .inv .0,
       omega arith,
       ap length written ∙ length-front (full here) ((e here + 1) * coefficientCount) (omega (arith, full-long here))
           ∙ full-long here,
       written,
     )
 
+same-length : tie.Need-same-length Inv-loop μ-loop
+same-length c =
+    let start = c .before .before .before .before in
+    c .before .loop .inv .2
+    ∙ sym (ap length (start .pre .1 .4) ∙ length-replicate (length (now (start .args .target))) (pos 0))
+
 returns : tie.Need-returns Inv-loop μ-loop
 returns c =
-    let args = c .before .before .before .before .args in
-    let full = numbers (now (args .g)) (now (args .h)) (now (args .target)) (now (args .pivot)) in
-    let long = length-low (now (args .g)) (now (args .h)) (now (args .target)) (now (args .pivot)) in
+    let start = c .before .before .before .before in
+    let args = start .args in
+    let target = now (args .target) in
+    let full = numbers (now (args .g)) (now (args .h)) target (now (args .pivot)) in
+    let long = length-low (length target / coefficientCount) (now (args .g)) (now (args .h)) target (now (args .pivot)) in
     let all : c .before .loop .e * coefficientCount ≡ length full = omega (arith, long) in
-    c .before .loop .inv .2 ∙ ap (front full) all ∙ front-whole full
+    c .before .loop .inv .3 ∙ ap (front full) all ∙ front-whole full
 
 pub low-combination-spec : {M : Type 1} → statement M
 low-combination-spec =
@@ -192,12 +211,13 @@ low-combination-spec =
     part-trimmed-end-2
     trimmed-requires-4
     both-zero-requires
-    mul-row
+    mul-put-combined
     sub-put-combined
-    part-row-start
-    part-row-end
+    part-put-combined-start
+    part-put-combined-end
     put-combined-requires
     add-e
     loop-less
     loop-again
+    same-length
     returns)

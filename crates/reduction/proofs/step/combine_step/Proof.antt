@@ -20,14 +20,16 @@ use Rattle.rules.specs.Stores.{rowOf}
 use Rattle.rules.specs.Elimination.{Side, Limited, limitDegrees, consistent, Multipliers, multipliers, multipliersAt, listing, combineStep}
 use Rattle.roots.specs.RootSearch.{listed, held, held-of, roots-few}
 use Rattle.working_rows.specs.Found.{Columns-at}
-use Rattle.working_rows.specs.Worked.{refusalOf, numbersOf}
+use Rattle.working_rows.specs.declared.WorkingRow.{WorkingRow}
+use Rattle.working_rows.specs.Working.{numbersHeld, Full, small-apart, entry-held}
+use Rattle.working_rows.specs.Worked.{refusalOf, numbersOf, workedRow, numbers-worked}
 use Rattle.reduction.specs.declared.step.Progress.{Progress}
 use Rattle.sides.specs.Lent.{sideOf}
 use Rattle.reduction.specs.Progress.{Ready, stateOf, answerOf, listedProgress}
 use Rattle.sides.specs.Relations.{Relisted}
 use Rattle.reduction.specs.MultiplierSizes.{Sixteen, multipliers-fit, roots-small}
-use Rattle.reduction.specs.NewRows.{Storable, saved, row-room, combined-storable}
-use Rattle.reduction.specs.StoreExchange.{numbersAt, length-numbersAt, small-numbersAt, length-entry, small-entry}
+use Rattle.reduction.specs.NewRows.{Storable, saved, row-room, combined-storable, full-worked}
+use Rattle.reduction.specs.StoreExchange.{numbersAt, Loaded, length-numbersAt, small-numbersAt, length-entry, small-entry}
 use Rattle.reduction.specs.StepLaws.{multipliersIn, newRow, multipliers-in, combine-refused, combine-reached}
 use Rattle.reduction.specs.StepLaws.{refused-reached, reached-same}
 use Rattle.reduction.proofs.step.combine_step.Statement.{statement}
@@ -106,7 +108,20 @@ module _ (c : tie.Start) where
   target-long = length-numbersAt equations rows (ready .rows-within) i inside
 
   entry-fits : (l : List ℤ) → length l ≡ rowLength → Small l → Sixteen (entry (rowOf l) column)
-  entry-fits l e h = (length-entry l column e below, small-entry l column h below)
+  entry-fits l e h = (length-entry l column (omega (arith, e)) below, small-entry l column h below)
+
+  -- the working rows
+  target-row : Loaded rows i (c .args .target)
+  target-row = c .pre .1 .0 .0
+
+  pivot-row : Loaded rows j (c .args .pivot)
+  pivot-row = c .pre .1 .0 .1
+
+  held-small : (k : ℕ) (w : WorkingRow) → Loaded rows k w → Small (numbersAt rows k) → Small (numbersHeld w)
+  held-small k w l h = subst Small (sym (l .numbers)) h
+
+  entry-is : (k : ℕ) (w : WorkingRow) → Loaded rows k w → entry (rowOf (w .entries)) ≡ entry (rowOf (numbersAt rows k))
+  entry-is k w l = sym (entry-held (w .entries) (w .right) (l .full .entries-long)) ∙ ap (λ n. entry (rowOf n)) (l .numbers)
 
   -- the multipliers and their roots
   abbrev x : Multipliers
@@ -132,25 +147,15 @@ module _ (c : tie.Start) where
   storable : Storable new
   storable = combined-storable (x .g) (x .h) target pivot (omega (arith, fits .0 .0)) target-long
 
--- the two rows, loaded
-module _ (c : tie.After-order) where
-  abbrev loaded : tie.Start
-  loaded = c .before .before .before .before .before
-
-  target-is : c .before .before .before .load .result ≡ target loaded
-  target-is = c .before .before .before .load .ensures
-
-  pivot-is : c .before .load2 .result ≡ pivot loaded
-  pivot-is = c .before .load2 .ensures
-
 -- the multipliers
 module _ (c : tie.After-multipliers-at) where
   abbrev start : tie.Start
-  start = loaded (c .before)
+  start = c .before .before .before .before .before .before
 
-  multipliers-are : multipliersOf (column start) (c .before .before .before .before .load .result) (c .before .before .load2 .result)
-      ≡ x start
-  multipliers-are = ap₂ (multipliersOf (column start)) (target-is (c .before)) (pivot-is (c .before))
+  multipliers-are : multipliersOf (column start) (start .args .target .entries) (start .args .pivot .entries) ≡ x start
+  multipliers-are =
+      ap₂ (λ p q. multipliers (p (column start)) (q (column start))) (entry-is start (j start) (start .args .pivot) (pivot-row start))
+      (entry-is start (i start) (start .args .target) (target-row start))
 
   g-is : c .multipliers-at .result .g ≡ x start .g
   g-is = c .multipliers-at .ensures .0 ∙ ap (λ y. y .g) multipliers-are
@@ -177,14 +182,17 @@ module _ (c : tie.After-roots) where
 
 -- the relations, and the new row
 module _ (c : tie.After-combined) where
+  abbrev listing-call : tie.After-list-roots
+  listing-call = c .before .before .before .before .before
+
+  abbrev row-call : tie.After-row-at
+  row-call = listing-call .before .before
+
   abbrev rooted : tie.After-roots
-  rooted = c .before .before .before .before .before .before .before .before .before .before
+  rooted = row-call .before .before .before .before .before
 
   abbrev origin : tie.Start
   origin = base rooted
-
-  abbrev listing-call : tie.After-list-roots
-  listing-call = c .before .before .before .before .before
 
   abbrev after : List ℤ
   after = listing-call .list-roots .last .0
@@ -192,44 +200,51 @@ module _ (c : tie.After-combined) where
   relisted : Relisted (p origin .count) (target origin) (listing (side origin) (roots (x origin .g))) (relations origin) after
   relisted =
       subst₂ (λ t l. Relisted (p origin .count) t (listing (side origin) l) (relations origin) after)
-      (target-is (multiplied rooted .before)) (held-is rooted) (listing-call .list-roots .ensures)
+      (row-call .row-at .ensures .0) (held-is rooted) (listing-call .list-roots .ensures)
 
   -- the code's multipliers and rows are those of the definition
+  new-is : consistent (limitDegrees (primitive (combine (multiplied rooted .multipliers-at .result .g)
+      (multiplied rooted .multipliers-at .result .h)
+      (rowOf (numbersHeld (origin .args .target))) (rowOf (numbersHeld (origin .args .pivot)))))) ≡ new origin
+  new-is =
+      λ k. consistent (limitDegrees (primitive (combine (g-is (multiplied rooted) k) (h-is (multiplied rooted) k)
+      (rowOf (target-row origin .numbers k)) (rowOf (pivot-row origin .numbers k)))))
+
   refusal-is : c .combined .result .refusal ≡ refusalOf (new origin)
-  refusal-is =
-      c .combined .ensures .0
-      ∙ (λ k. refusalOf (consistent (limitDegrees (primitive (combine (g-is (multiplied rooted) k) (h-is (multiplied rooted) k)
-      (rowOf (target-is (multiplied rooted .before) k)) (rowOf (pivot-is (multiplied rooted .before) k)))))))
+  refusal-is = c .combined .ensures .0 ∙ ap refusalOf new-is
 
-  numbers-are : c .combined .result .row ≡ numbersOf (new origin)
-  numbers-are =
-      c .combined .ensures .1
-      ∙ (λ k. numbersOf (consistent (limitDegrees (primitive (combine (g-is (multiplied rooted) k) (h-is (multiplied rooted) k)
-      (rowOf (target-is (multiplied rooted .before) k)) (rowOf (pivot-is (multiplied rooted .before) k)))))))
+  row-is : c .combined .result .row ≡ workedRow (new origin)
+  row-is = c .combined .ensures .1 ∙ ap workedRow new-is
 
-mul-load : tie.Need-mul-load
-mul-load c = search needs
+  numbers-are : numbersHeld (c .combined .result .row) ≡ numbersOf (new origin)
+  numbers-are = ap numbersHeld row-is ∙ numbers-worked (new origin)
 
-load-requires : tie.Need-load-requires
-load-requires c κs = room (c .before) (i (c .before)) (inside (c .before))
+mul-c : tie.Need-mul-c
+mul-c c = search needs
 
-mul-load-2 : tie.Need-mul-load-2
-mul-load-2 c = search needs
+array-read-c : tie.Need-array-read-c
+array-read-c c = search needs
 
-load-requires-2 : tie.Need-load-requires-2
-load-requires-2 c κs = let b = c .before .before .before in room b (j b) (other b)
+slice-aggregate-multipliers-at : tie.Need-slice-aggregate-multipliers-at
+slice-aggregate-multipliers-at c = search needs
 
-mul-multipliers-at : tie.Need-mul-multipliers-at
-mul-multipliers-at c = search needs
-
-array-read-multipliers-at : tie.Need-array-read-multipliers-at
-array-read-multipliers-at c = search needs
+slice-aggregate-multipliers-at-2 : tie.Need-slice-aggregate-multipliers-at-2
+slice-aggregate-multipliers-at-2 c = search needs
 
 multipliers-at-requires : tie.Need-multipliers-at-requires
 multipliers-at-requires c κs =
-    let b = loaded c in (
-      (below b, subst Small (sym (target-is c)) (target-small b), subst Small (sym (pivot-is c)) (pivot-small b)),
-      subst₂ (NotBoth (column b)) (sym (target-is c)) (sym (pivot-is c)) (b .pre .1),
+    let b = c .before .before .before .before .before in
+    let t = b .args .target in
+    let q = b .args .pivot in (
+      (below b, target-row b .full .entries-long, pivot-row b .full .entries-long),
+      (
+        (
+          small-apart t (held-small b (i b) t (target-row b) (target-small b)) .0,
+          small-apart q (held-small b (j b) q (pivot-row b) (pivot-small b)) .0,
+        ),
+        subst₂ (λ u v. T (not (isZero (u (column b) ++ v (column b))))) (sym (entry-is b (j b) q (pivot-row b)))
+            (sym (entry-is b (i b) t (target-row b))) (b .pre .1 .1),
+      ),
     )
 
 slice-aggregate-roots : tie.Need-slice-aggregate-roots
@@ -247,9 +262,6 @@ add-count c = let e = c .before .before in omega (arith, few (base e), count-is 
 answer-requires : tie.Need-answer-requires
 answer-requires c κs = search needs
 
-same-length : tie.Need-same-length
-same-length c = search needs
-
 returns : tie.Need-returns
 returns c =
     let e = c .before .before .before .before in
@@ -261,14 +273,22 @@ returns c =
       ap (λ o. o .done) (c .answer .ensures),
     )
 
+mul-row-at : tie.Need-mul-row-at
+mul-row-at c = search needs
+
+row-at-requires : tie.Need-row-at-requires
+row-at-requires c κs = let b = base (c .before .before .before .before) in room b (i b) (inside b)
+
 list-roots-requires : tie.Need-list-roots-requires
 list-roots-requires c κs =
-    let e = c .before .before .before .before in
+    let row-call = c .before in
+    let passed = row-call .before .before in
+    let e = passed .before .before .before in
     let b = base e in
-    let row = subst Small (sym (target-is (multiplied e .before))) (target-small b) in
+    let row = subst Small (sym (row-call .row-at .ensures .0)) (target-small b) in
     let values = ap (λ f. length (f .values)) (found-is e) ∙ listed-length (roots (x b .g)) (omega (arith, few b)) in (
-      (ready b .listing, omega (arith, c .before .if1 .left), values),
-      (subst Small (sym (held-is e)) (roots-small (x b .g) (fits b .0 .1)), row),
+      (ready b .listing, omega (arith, passed .if1 .left), values),
+      (subst Small (sym (held-is e)) (roots-small (x b .g) (fits b .0 .1)), row, row-call .row-at .ensures .1),
     )
 
 slice-aggregate-combined : tie.Need-slice-aggregate-combined
@@ -276,34 +296,42 @@ slice-aggregate-combined c = search needs
 
 slice-aggregate-combined-2 : tie.Need-slice-aggregate-combined-2
 slice-aggregate-combined-2 c =
-    let e = c .before .before .before .before .before .before .before .before .before .before .before .before .before in
+    let e = multiplied (c .before .before .before .before .before .before .before .before .before .before .before) in
     sym (ap length (h-is e) ∙ fits (start e) .1 .0)
 
 combined-requires : tie.Need-combined-requires
 combined-requires c κs =
-    let e = c .before .before .before .before .before .before .before .before .before .before .before .before .before in
+    let e = multiplied (c .before .before .before .before .before .before .before .before .before .before .before) in
     let b = start e in
+    let t = b .args .target in
+    let q = b .args .pivot in
     let g-fits = subst Sixteen (sym (g-is e)) (fits b .0) in
     let h-fits = subst Sixteen (sym (h-is e)) (fits b .1) in (
       (g-fits .0, g-fits .1, h-fits .0, h-fits .1),
-      (subst Small (sym (target-is (e .before))) (target-small b), subst Small (sym (pivot-is (e .before))) (pivot-small b)),
+      (
+        target-row b .full,
+        pivot-row b .full,
+        held-small b (i b) t (target-row b) (target-small b),
+        held-small b (j b) q (pivot-row b) (pivot-small b),
+      ),
     )
 
 put-limited-requires : tie.Need-put-limited-requires
-put-limited-requires c κs = let b = origin c in room b (i b) (inside b)
+put-limited-requires c κs =
+    let b = origin c in (room b (i b) (inside b), subst Full (sym (row-is c)) (full-worked (new b) (storable b)))
+
+same-length : tie.Need-same-length
+same-length c = search needs
 
 same-length-2 : tie.Need-same-length-2
 same-length-2 c = search needs
-
-same-length-3 : tie.Need-same-length-3
-same-length-3 c = search needs
 
 returns-2 : tie.Need-returns-2
 returns-2 c =
     let d = c .before .before in
     let b = origin d in
     let put = c .before .put-limited .ensures in
-    let passed = listing-call d .before .before .if1 .left in
+    let passed = row-call d .before .before .if1 .left in
     let room : p b .count + length (roots (x b .g)) ≤ 16 = omega (arith, count-is (rooted d), passed) in (
       reached-same (put .0 ∙ ap₂ (saved (rows b) (i b)) (refusal-is d) (numbers-are d))
           (put .1 ∙ ap₂ (λ n k. answerOf n (listedProgress (p b) k)) (refusal-is d) (count-is (rooted d)))
@@ -316,24 +344,23 @@ pub combine-step-spec : {M : Type 1} → statement M
 combine-step-spec =
     tie.close
     (tie.spec
-    mul-load
-    load-requires
-    mul-load-2
-    load-requires-2
-    mul-multipliers-at
-    array-read-multipliers-at
+    mul-c
+    array-read-c
+    slice-aggregate-multipliers-at
+    slice-aggregate-multipliers-at-2
     multipliers-at-requires
     slice-aggregate-roots
     roots-requires
     add-count
     answer-requires
-    same-length
     returns
+    mul-row-at
+    row-at-requires
     list-roots-requires
     slice-aggregate-combined
     slice-aggregate-combined-2
     combined-requires
     put-limited-requires
+    same-length
     same-length-2
-    same-length-3
     returns-2)

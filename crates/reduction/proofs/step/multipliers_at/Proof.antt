@@ -3,8 +3,10 @@
 use mathlib.Core.Path.{_≡_, sym, _∙_, ap, ap₂}
 use mathlib.Core.List.{List}
 use Prim.Native.Nat.{_+_, _*_, _-_}
+use native.Mathlib.Nat.{le-of-eq}
 use native.Mathlib.Omega.{arith}
 use borrow.Author.Needs.{needs}
+use denote.Ref.{now}
 use lib.IntN.{ℤ}
 use lib.ListN.{take, drop}
 use Rattle.rules.specs.Limits.{coefficientCount}
@@ -25,12 +27,6 @@ module _ (c : tie.Start) where
       → take (c .args .c * coefficientCount + coefficientCount - c .args .c * coefficientCount) (drop (c .args .c * coefficientCount) l)
       ≡ entry (rowOf l) (c .args .c)
   entry-of l = ap (λ n. take n (drop (c .args .c * coefficientCount) l)) size ∙ sym (entry-at l (c .args .c) (c .pre .0 .0))
-
-slice-aggregate-t : tie.Need-slice-aggregate-t
-slice-aggregate-t c = search needs
-
-slice-aggregate-p : tie.Need-slice-aggregate-p
-slice-aggregate-p c = search needs
 
 mul-from : tie.Need-mul-from
 mul-from c = search needs
@@ -64,28 +60,30 @@ part-multipliers-of-end-2 c = search needs
 
 multipliers-of-requires : tie.Need-multipliers-of-requires
 multipliers-of-requires c κs =
-    let start = c .before .before .before .before in
-    let args = start .args in
+    let start = c .before .before in
+    let target = now (start .args .target) in
+    let pivot = now (start .args .pivot) in
+    let column = start .args .c in
+    let below = start .pre .0 .0 in
     let fits = start .pre in
-    rw (entry-of start (args .t1), entry-of start (args .t2)) (
-      (length-entry (args .t2) (args .c) (omega arith) (fits .0 .0), small-entry (args .t2) (args .c) (fits .0 .2) (fits .0 .0), fits .1),
-      (length-entry (args .t1) (args .c) (omega arith) (fits .0 .0), small-entry (args .t1) (args .c) (fits .0 .1) (fits .0 .0)),
+    rw (entry-of start target, entry-of start pivot) (
+      (length-entry pivot column (le-of-eq (sym (fits .0 .2))) below, small-entry pivot column (fits .1 .0 .1) below, fits .1 .1),
+      (length-entry target column (le-of-eq (sym (fits .0 .1))) below, small-entry target column (fits .1 .0 .0) below),
     )
 
 returns : tie.Need-returns
 returns c =
-    let start = c .before .before .before .before .before in
-    let args = start .args in (
-      c .multipliers-of .ensures .0 ∙ ap₂ (λ a b. multipliers a b .g) (entry-of start (args .t2)) (entry-of start (args .t1)),
-      c .multipliers-of .ensures .1 ∙ ap₂ (λ a b. multipliers a b .h) (entry-of start (args .t2)) (entry-of start (args .t1)),
+    let start = c .before .before .before in
+    let target = now (start .args .target) in
+    let pivot = now (start .args .pivot) in (
+      c .multipliers-of .ensures .0 ∙ ap₂ (λ a b. multipliers a b .g) (entry-of start pivot) (entry-of start target),
+      c .multipliers-of .ensures .1 ∙ ap₂ (λ a b. multipliers a b .h) (entry-of start pivot) (entry-of start target),
     )
 
 pub multipliers-at-spec : {M : Type 1} → statement M
 multipliers-at-spec =
     tie.close
     (tie.spec
-    slice-aggregate-t
-    slice-aggregate-p
     mul-from
     add-to
     mul-multipliers-of

@@ -3,6 +3,7 @@
 use mathlib.Core.Path.{sym}
 use borrow.Author.Needs.{needs}
 use denote.Ref.{now}
+use Rattle.working_rows.specs.Working.{numbersHeld}
 use Rattle.reduction.specs.NewRows.{saved, saved-none}
 use Rattle.reduction.proofs.step.put_limited.Statement.{statement}
 use Rattle.reduction.proofs.step.put_limited.Tie as tie
@@ -12,8 +13,11 @@ answer-requires c κs = search needs
 
 returns : tie.Need-returns
 returns c =
-    let args = c .before .before .args in
-    (sym (saved-none (now (args .rows)) (args .i) (args .worked .refusal) (args .worked .row) (c .before .if1 .taken)), c .answer .ensures)
+    let args = c .before .before .args in (
+      sym (saved-none (now (args .rows)) (args .i) (args .worked .refusal) (numbersHeld (args .worked .row))
+          (c .before .if1 .taken)),
+      c .answer .ensures,
+    )
 
 mul-save : tie.Need-mul-save
 mul-save c = search needs

@@ -1,37 +1,35 @@
 -- `reduction::step::step` meets its contract: each way of the code is one case of the step.
 -- Assumes nothing.
 use mathlib.Core.Path.{_≡_, refl, sym, _∙_, ap, subst}
-use mathlib.Core.Bool.{false, not}
-use mathlib.Core.List.{List}
+use mathlib.Core.Bool.{true, false}
+use mathlib.Core.List.{List, map}
 use Prim.Native.Nat.{ℕ, _+_, _*_, _≤_, _<_}
 use native.Mathlib.Omega.{arith}
 use borrow.Author.Needs.{needs}
+use borrow.Author.Tests.{eq-eqb, ne-eqb}
 use denote.Ref.{now}
 use lib.Dec.{T}
 use lib.IntN.{ℤ}
-use lib.ListN.{length}
+use lib.ListN.{length, take}
 use Rattle.algebra.specs.Polynomials.{isZero}
 use Rattle.rules.specs.Limits.{columnCount, rowLength, small}
-use Rattle.rules.specs.Rows.{Row, zeroRow, contradicts, leadingBlock, firstNonzero}
+use Rattle.rules.specs.Rows.{Row, zeroLeft, width, entry, leadingBlock, firstNonzero}
 use Rattle.lists.specs.Tests.{every}
 use Rattle.rules.specs.Stores.{rowOf}
-use Rattle.rules.specs.Elimination.{Side, multipliersAt, combineStep}
+use Rattle.rules.specs.Elimination.{Side}
 use Rattle.working_rows.specs.Found.{foundOr, entriesAt}
+use Rattle.working_rows.specs.declared.WorkingRow.{WorkingRow}
+use Rattle.working_rows.specs.Working.{right-held, leading-held, entry-held, width-zero}
 use Rattle.working_rows.specs.Worked.{refusalOf, numbersOf}
 use Rattle.reduction.specs.declared.step.Progress.{Progress}
 use Rattle.sides.specs.Lent.{sideOf}
-use Rattle.reduction.specs.Progress.{Ready, Reached, stateOf, answerOf, shiftedProgress}
+use Rattle.reduction.specs.Progress.{Ready, answerOf, shiftedProgress}
 use Rattle.reduction.specs.NewRows.{saved, row-room}
-use Rattle.reduction.specs.StoreExchange.{numbersAt, narrowed, small-numbersAt, narrowed-kept}
-use Rattle.reduction.specs.StepLaws.{metEntries, shiftedRow, reached-same, reached-after, refused-reached, shift-reached}
-use Rattle.reduction.specs.StepCases.{step-zero, step-contradicts, step-met, met-nonzero, narrowed-ready, settled-reached, step-shift}
+use Rattle.reduction.specs.StoreExchange.{numbersAt, Loaded, loaded-from, small-numbersAt}
+use Rattle.reduction.specs.StepLaws.{shiftedRow, reached-same, refused-reached, shift-reached}
+use Rattle.reduction.specs.StepCases.{step-zero, step-contradicts, step-met, met-nonzero, settled-reached, step-shift}
 use Rattle.reduction.proofs.step.step.Statement.{statement}
 use Rattle.reduction.proofs.step.step.Tie as tie
-
--- what a combination asks
-abbrev Asked : ℕ → List ℤ → Progress → ℕ → List ℤ → Type 0
-Asked equations relations p j rows = (Ready equations rows relations p × (p .settled < equations) × (j < p .settled))
-    × T (not (isZero (metEntries rows p j)))
 
 -- the arguments
 module _ (c : tie.Start) where
@@ -65,80 +63,68 @@ module _ (c : tie.Start) where
   room : (k : ℕ) → k < equations → k * rowLength + rowLength ≤ length rows
   room k h = omega (arith, row-room equations k rows (ready .rows-within) h, ready .rows-within .long)
 
--- the row that is worked on, and its zero test
-module _ (c : tie.After-is-zero-row) where
+-- the row that is worked on
+module _ (c : tie.After-load) where
   abbrev start : tie.Start
-  start = c .before .before .before
+  start = c .before .before
+
+  abbrev held : WorkingRow
+  held = c .load .result
 
   inside : i start < equations start
   inside = start .pre .1
 
-  row-is : c .before .load .result ≡ numbersAt (rows start) (i start)
-  row-is = c .before .load .ensures
+  loaded : Loaded (rows start) (i start) held
+  loaded = loaded-from (rows start) (i start) held (room start (i start) inside) (c .load .ensures)
 
-  zero-is : c .is-zero-row .result ≡ zeroRow (row start)
-  zero-is = c .is-zero-row .ensures ∙ ap (λ l. zeroRow (rowOf l)) row-is
+  right-is : row start .right ≡ held .right
+  right-is =
+      ap (λ l. rowOf l .right) (sym (loaded .numbers))
+      ∙ right-held (held .entries) (held .right) (loaded .full .entries-long) (loaded .full .right-long)
 
--- the test of the right side, where the row is not zero
-module _ (c : tie.After-contradicts) where
-  abbrev zero-tested : tie.After-is-zero-row
-  zero-tested = c .before .before
+  left-zero : held .width ≡ 0 → zeroLeft (row start) ≡ true
+  left-zero e = sym (width-zero (row start)) ∙ eq-eqb (width (row start)) 0 (sym (loaded .width-is) ∙ e)
 
-  not-zero : zeroRow (row (start zero-tested)) ≡ false
-  not-zero = sym (zero-is zero-tested) ∙ c .before .if1 .left
+  left-nonzero : (held .width ≡ 0 → ⊥) → zeroLeft (row start) ≡ false
+  left-nonzero n = sym (width-zero (row start)) ∙ ne-eqb (width (row start)) 0 (λ e. n (loaded .width-is ∙ e))
 
-  contradicts-is : c .contradicts .result ≡ contradicts (row (start zero-tested))
-  contradicts-is = c .contradicts .ensures ∙ ap (λ l. contradicts (rowOf l)) (row-is zero-tested)
+  leading-is : leadingBlock (rowOf (held .entries)) ≡ leadingBlock (row start)
+  leading-is = sym (leading-held (held .entries) (held .right) (loaded .full .entries-long)) ∙ ap (λ l. leadingBlock (rowOf l))
+      (loaded .numbers)
+
+  entry-is : entry (rowOf (held .entries)) ≡ entry (row start)
+  entry-is = sym (entry-held (held .entries) (held .right) (loaded .full .entries-long)) ∙ ap (λ l. entry (rowOf l)) (loaded .numbers)
 
 -- the settled row that is met
 module _ (c : tie.After-first-met) where
-  abbrev both-tested : tie.After-contradicts
-  both-tested = c .before .before .before
+  abbrev tested : tie.Else1
+  tested = c .before .before .before .before
 
-  abbrev tested : tie.After-is-zero-row
-  tested = zero-tested both-tested
-
-  nonzero : zeroRow (row (start tested)) ≡ false
-  nonzero = not-zero both-tested
-
-  possible : contradicts (row (start tested)) ≡ false
-  possible = sym (contradicts-is both-tested) ∙ c .before .before .if2 .left
-
-  met-is : met (start tested) ≡ c .first-met .result
-  met-is =
-      let b = start tested in
-      sym (c .first-met .ensures ∙ ap (λ l. foundOr (i b) (firstNonzero (entriesAt (rowOf l) (p b .order) (i b)))) (row-is tested))
-
--- the exchange
-module _ (c : tie.After-narrow-first) where
-  abbrev meeting : tie.After-first-met
-  meeting = c .before .before .before
+  abbrev read : tie.After-load
+  read = tested .before .before .before
 
   abbrev base : tie.Start
-  base = start (tested meeting)
+  base = start read
 
-  abbrev j : ℕ
-  j = meeting .first-met .result
+  nonzero : zeroLeft (row base) ≡ false
+  nonzero = left-nonzero read (tested .if1 .left)
 
-  settled-j : j < i base
-  settled-j = c .before .before .if3 .taken
-
-  rows-are : c .narrow-first .last .0 ≡ narrowed (rows base) (i base) j
-  rows-are = c .narrow-first .ensures
+  met-is : met base ≡ c .first-met .result
+  met-is = sym (c .first-met .ensures ∙ ap (λ f. foundOr (i base) (firstNonzero (map f (take (i base) (p base .order))))) (entry-is read))
 
 -- the column, where no settled row is met
 module _ (c : tie.After-first-column) where
   abbrev unmet : tie.After-first-met
-  unmet = c .before .before
+  unmet = c .before .before .before
 
   abbrev origin : tie.Start
-  origin = start (tested unmet)
+  origin = base unmet
 
   none-met : i origin ≤ met origin
-  none-met = omega (arith, met-is unmet, c .before .if3 .left)
+  none-met = omega (arith, met-is unmet, c .before .before .if3 .left)
 
   column-is : foundOr columnCount (firstNonzero (leadingBlock (row origin))) ≡ c .first-column .result
-  column-is = sym (c .first-column .ensures ∙ ap (λ l. foundOr columnCount (firstNonzero (leadingBlock (rowOf l)))) (row-is (tested unmet)))
+  column-is = sym (c .first-column .ensures ∙ ap (λ b. foundOr columnCount (firstNonzero b)) (leading-is (read unmet)))
 
 mul-load : tie.Need-mul-load
 mul-load c = search needs
@@ -146,8 +132,11 @@ mul-load c = search needs
 load-requires : tie.Need-load-requires
 load-requires c κs = let b = c .before in room b (i b) (b .pre .1)
 
-is-zero-row-requires : tie.Need-is-zero-row-requires
-is-zero-row-requires c κs = search needs
+slice-aggregate-is-zero : tie.Need-slice-aggregate-is-zero
+slice-aggregate-is-zero c = sym (loaded (c .before .before .before .before) .full .right-long)
+
+is-zero-requires : tie.Need-is-zero-requires
+is-zero-requires c κs = search needs
 
 answer-requires : tie.Need-answer-requires
 answer-requires c κs = search needs
@@ -157,16 +146,15 @@ same-length c = search needs
 
 returns : tie.Need-returns
 returns c =
-    let d = c .before .before in
-    let b = start d in (
-      reached-same refl (c .answer .ensures)
-          (step-zero (side b) (ready b) (inside d) (sym (zero-is d) ∙ c .before .if1 .taken))
+    let zero-test = c .before .before in
+    let narrow = zero-test .before .before in
+    let l = narrow .before .before .before in
+    let b = start l in
+    let none = ap isZero (right-is l) ∙ sym (zero-test .is-zero .ensures) ∙ c .before .if2 .taken in (
+      reached-same refl (c .answer .ensures) (step-zero (side b) (ready b) (inside l) (left-zero l (narrow .if1 .taken)) none)
           (refused-reached (ready b) 5),
       ap (λ o. o .done) (c .answer .ensures),
     )
-
-contradicts-requires : tie.Need-contradicts-requires
-contradicts-requires c κs = search needs
 
 answer-requires-2 : tie.Need-answer-requires-2
 answer-requires-2 c κs = search needs
@@ -176,31 +164,32 @@ same-length-2 c = search needs
 
 returns-2 : tie.Need-returns-2
 returns-2 c =
-    let d = c .before .before in
-    let b = start (zero-tested d) in (
-      reached-same refl (c .answer2 .ensures)
-          (step-contradicts (side b) (ready b) (inside (zero-tested d)) (not-zero d) (sym (contradicts-is d) ∙ c .before .if2 .taken))
+    let zero-test = c .before .before in
+    let narrow = zero-test .before .before in
+    let l = narrow .before .before .before in
+    let b = start l in
+    let some = ap isZero (right-is l) ∙ sym (zero-test .is-zero .ensures) ∙ c .before .if2 .left in (
+      reached-same refl (c .answer2 .ensures) (step-contradicts (side b) (ready b) (inside l) (left-zero l (narrow .if1 .taken)) some)
           (refused-reached (ready b) 9),
       ap (λ o. o .done) (c .answer2 .ensures),
     )
 
+slice-aggregate-first-met : tie.Need-slice-aggregate-first-met
+slice-aggregate-first-met c = sym (loaded (c .before .before .before .before .before .before) .full .entries-long)
+
 first-met-requires : tie.Need-first-met-requires
-first-met-requires c κs = search needs
+first-met-requires c κs =
+    let l = c .before .before .before .before .before .before in
+    (loaded l .full .entries-long, search needs, search needs)
 
-narrow-first-requires : tie.Need-narrow-first-requires
-narrow-first-requires c κs =
-    let d = c .before .before in
-    let b = start (tested d) in
-    (room b (i b) (inside (tested d)), room b (d .first-met .result) (omega (arith, inside (tested d), c .before .if3 .taken)))
-
-combine-step-requires : tie.Need-combine-step-requires
-combine-step-requires c κs =
-    let d = c .before .before .before in
+eliminate-step-requires : tie.Need-eliminate-step-requires
+eliminate-step-requires c κs =
+    let passed = c .before .before in
+    let d = passed .before in
     let b = base d in
-    let e = tested (meeting d) in
-    subst (Asked (equations b) (relations b) (p b) (j d)) (sym (rows-are d)) (
-      (narrowed-ready (side b) (ready b) (inside e) (j d) (settled-j d), inside e, settled-j d),
-      met-nonzero (side b) (ready b) (inside e) (nonzero (meeting d)) (possible (meeting d)) (j d) (met-is (meeting d)) (settled-j d),
+    let met-j = passed .if3 .taken in (
+      (ready b, inside (read d), met-j, loaded (read d)),
+      met-nonzero (side b) (ready b) (inside (read d)) (nonzero d) (d .first-met .result) (met-is d) met-j,
     )
 
 same-length-3 : tie.Need-same-length-3
@@ -211,21 +200,21 @@ same-length-4 c = search needs
 
 returns-3 : tie.Need-returns-3
 returns-3 c =
-    let d = c .before .before .before .before .before .before in
-    let b = base d in
-    let e = tested (meeting d) in
-    let combine = c .before .before .combine-step in (
-      reached-after
-          (narrowed-kept (equations b) (rows b) (ready b .rows-within) (i b) (j d) (inside e) (omega (arith, inside e, settled-j d)))
-          (reached-same refl refl (step-met (side b) (ready b) (inside e) (nonzero (meeting d)) (possible (meeting d)) (j d) (met-is (meeting d)) (settled-j d))
-          (subst (λ r. let s = stateOf (equations b) r (relations b) (p b) in
-          Reached (equations b) r (relations b) (combine .last .0) (combine .last .1 .0) (p b .shifts + 1) (combine .result)
-          (combineStep (side b) s (i b) (j d) (multipliersAt s (i b) (j d)))) (rows-are d) (combine .ensures .0))),
-      combine .ensures .1,
+    let call = c .before .before in
+    let passed = call .before .before .before in
+    let d = passed .before in
+    let b = base d in (
+      reached-same refl refl
+          (step-met (side b) (ready b) (inside (read d)) (nonzero d) (d .first-met .result) (met-is d) (passed .if3 .taken))
+          (call .eliminate-step .ensures .0),
+      call .eliminate-step .ensures .1,
     )
 
+slice-aggregate-first-column : tie.Need-slice-aggregate-first-column
+slice-aggregate-first-column c = sym (loaded (read (c .before .before)) .full .entries-long)
+
 first-column-requires : tie.Need-first-column-requires
-first-column-requires c κs = search needs
+first-column-requires c κs = loaded (read (c .before .before)) .full .entries-long
 
 settled-requires : tie.Need-settled-requires
 settled-requires c κs = search needs
@@ -237,9 +226,9 @@ shift-step-requires : tie.Need-shift-step-requires
 shift-step-requires c κs =
     let d = c .before .before in
     let b = origin d in
-    let e = tested (unmet d) in
-    let numbers = small-numbersAt (equations b) (rows b) (ready b .rows-within) (i b) (inside e) in
-    (room b (i b) (inside e), subst (λ l. T (every small l)) (sym (row-is e)) numbers, b .pre .2)
+    let l = read (unmet d) in
+    let numbers = small-numbersAt (equations b) (rows b) (ready b .rows-within) (i b) (inside l) in
+    (room b (i b) (inside l), loaded l .full, subst (λ n. T (every small n)) (sym (loaded l .numbers)) numbers, b .pre .2)
 
 same-length-5 : tie.Need-same-length-5
 same-length-5 c = search needs
@@ -250,7 +239,7 @@ returns-4 c =
     let b = origin d in
     let column = d .first-column .result in (
       reached-same refl (c .answer3 .ensures ∙ ap (answerOf 0) (c .before .settled .ensures)) refl
-          (settled-reached (side b) (ready b) (inside (tested (unmet d))) (nonzero (unmet d)) (possible (unmet d)) (none-met d) column
+          (settled-reached (side b) (ready b) (inside (read (unmet d))) (nonzero (unmet d)) (none-met d) column
           (column-is d) (omega (arith, c .before .before .if4 .taken))),
       ap (λ o. o .done) (c .answer3 .ensures),
     )
@@ -263,12 +252,12 @@ returns-5 c =
     let d = c .before .before .before .before in
     let b = origin d in
     let shift = c .before .shift-step .ensures in
-    let e = row-is (tested (unmet d)) in (
+    let e = loaded (read (unmet d)) .numbers in (
       reached-same (shift .0 ∙ ap (λ l. saved (rows b) (i b) (refusalOf (shiftedRow l)) (numbersOf (shiftedRow l))) e)
           (shift .1 ∙ ap (λ l. answerOf (refusalOf (shiftedRow l)) (shiftedProgress (p b))) e)
-          (step-shift (side b) (ready b) (inside (tested (unmet d))) (nonzero (unmet d)) (possible (unmet d)) (none-met d)
+          (step-shift (side b) (ready b) (inside (read (unmet d))) (nonzero (unmet d)) (none-met d)
           (omega (arith, column-is d, c .before .before .before .if4 .left)))
-          (shift-reached (ready b) (inside (tested (unmet d)))),
+          (shift-reached (ready b) (inside (read (unmet d)))),
       ap (λ o. o .done) (shift .1),
     )
 
@@ -278,20 +267,21 @@ step-spec =
     (tie.spec
     mul-load
     load-requires
-    is-zero-row-requires
+    slice-aggregate-is-zero
+    is-zero-requires
     answer-requires
     same-length
     returns
-    contradicts-requires
     answer-requires-2
     same-length-2
     returns-2
+    slice-aggregate-first-met
     first-met-requires
-    narrow-first-requires
-    combine-step-requires
+    eliminate-step-requires
     same-length-3
     same-length-4
     returns-3
+    slice-aggregate-first-column
     first-column-requires
     settled-requires
     answer-requires-3

@@ -35,7 +35,7 @@ module _ (c : tie.At-loop Inv-loop μ-loop) where
       length-listing (sideOf (c .before .args .side)) (held found) ∙ length-take-le (found .count) (found .values) (omega arith)
 
 loop-holds : tie.Need-loop-holds Inv-loop μ-loop
-loop-holds c = (omega arith, (refl, relisted-none (c .args .count) (c .args .row) (now (c .args .relations)) (c .pre .0 .0)))
+loop-holds c = (omega arith, (refl, relisted-none (c .args .count) (now (c .args .row)) (now (c .args .relations)) (c .pre .0 .0)))
 
 add-save-relation : tie.Need-add-save-relation Inv-loop μ-loop
 add-save-relation c = omega arith
@@ -45,8 +45,8 @@ root-at-requires c κs = omega arith
 
 save-relation-requires : tie.Need-save-relation-requires Inv-loop μ-loop
 save-relation-requires c κs =
-    let store = c .before .before .before .loop .inv .1 .1 in
-    omega (arith, store .listing .within .long)
+    let at = c .before .before .before in
+    (omega (arith, at .loop .inv .1 .1 .listing .within .long), at .before .pre .1 .2)
 
 add-k : tie.Need-add-k Inv-loop μ-loop
 add-k c = omega arith
@@ -63,10 +63,11 @@ loop-again c =
     let value = read-back (root .result) (root .ok) ∙ root .ensures in
     let stored =
     c .before .save-relation .ensures
-    ∙ ap (λ z. paste (at .loop .relations) ((args .count + k) * relationLength) (z ∷ args .row) relationLength) value in
+    ∙ ap (λ z. paste (at .loop .relations) ((args .count + k) * relationLength) (z ∷ now (args .row)) relationLength) value in
     let small-listed = every-listing (sideOf (args .side)) small (held (args .found)) (at .before .pre .1 .0) in
-    let more = relisted-more (args .count) k (args .row) (listed at) (now (args .relations)) (at .loop .relations) (at .loop .inv .1 .1)
-    (rw (size at) (omega arith)) (omega arith) (omega arith) (at .before .pre .1 .1) small-listed in
+    let more = relisted-more (args .count) k (now (args .row)) (listed at) (now (args .relations)) (at .loop .relations)
+    (at .loop .inv .1 .1)
+    (rw (size at) (omega arith)) (omega arith) (at .before .pre .1 .2) (at .before .pre .1 .1) small-listed in
     (omega arith, (refl, rw stored more))
 
 same-length : tie.Need-same-length Inv-loop μ-loop

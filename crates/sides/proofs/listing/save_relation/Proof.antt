@@ -1,6 +1,6 @@
 -- `sides::listing::save_relation` meets its contract: n0 and then the row are n0 followed by the row's numbers.
 -- Assumes nothing.
-use mathlib.Core.Path.{_∙_, ap}
+use mathlib.Core.Path.{_∙_, ap₂}
 use Prim.Native.Nat.{_*_, _+_}
 use native.Mathlib.Omega.{arith}
 use borrow.Author.Needs.{needs}
@@ -33,12 +33,13 @@ same-length c = c .before .save .kept .0 ∙ simp length-set
 
 returns : tie.Need-returns
 returns c =
-    let args = c .before .before .before .args in
+    let start = c .before .before .before in
+    let args = start .args in
     let at = args .k * relationLength in
+    let row = now (args .row) in
     c .before .save .ensures
-    ∙ ap (λ z. paste (set (now (args .relations)) at z) (at + 1) (args .row) rowLength)
-    (toZ-ofZ (c .before .before .before .fits .n0))
-    ∙ paste-cons (now (args .relations)) at (args .n0) (args .row) rowLength (omega arith)
+    ∙ ap₂ (λ z n. paste (set (now (args .relations)) at z) (at + 1) row n) (toZ-ofZ (start .fits .n0)) (start .pre .1)
+    ∙ paste-cons (now (args .relations)) at (args .n0) row rowLength (omega arith)
 
 pub save-relation-spec : {M : Type 1} → statement M
 save-relation-spec =

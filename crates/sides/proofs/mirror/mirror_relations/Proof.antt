@@ -4,7 +4,7 @@ use Prim.Native.Nat.{ℕ, _+_, _*_, _-_, _≤_}
 use native.Mathlib.Omega.{arith}
 use mathlib.Core.Path.{_∙_, ap, ap₂}
 use mathlib.Core.List.{List, _∷_}
-use borrow.Author.Needs.{sfits-of}
+use borrow.Author.Needs.{needs, sfits-of}
 use denote.Ref.{now}
 use lib.Dec.{T}
 use lib.IntN.{ℤ, pos, negℤ}
@@ -65,22 +65,25 @@ add-load c = omega (arith, long (c .before .before))
 load-requires : tie.Need-load-requires Inv-loop μ-loop
 load-requires c κs = omega (arith, long (c .before .before))
 
-negated-requires : tie.Need-negated-requires Inv-loop μ-loop
-negated-requires c κs =
-    let at = c .before .before .before .before in
-    let read : SFits w64 (getD (store at) (k at * relationLength) (pos 0)) = sfits-of (c .before .before .before .n0 .given) in
-    rw (toZ-ofZ read) (omega (arith, index-small (store at) (k at * relationLength) (numbers at)))
-
 mirrored-requires : tie.Need-mirrored-requires Inv-loop μ-loop
 mirrored-requires c κs =
-    let at = c .before .before .before .before .before in (
+    let at = c .before .before .before in (
       at .before .before .pre .0,
-      rw (c .before .before .load .ensures)
-          (row-small (store at) (k at * relationLength) (numbers at)),
+      rw (c .load .ensures) (row-small (store at) (k at * relationLength) (numbers at)),
     )
 
+negated-requires : tie.Need-negated-requires Inv-loop μ-loop
+negated-requires c κs =
+    let read-n0 = c .before .before .before .before in
+    let at = read-n0 .before in
+    let read : SFits w64 (getD (store at) (k at * relationLength) (pos 0)) = sfits-of (read-n0 .n0 .given) in
+    rw (toZ-ofZ read) (omega (arith, index-small (store at) (k at * relationLength) (numbers at)))
+
+slice-aggregate-save-relation : tie.Need-slice-aggregate-save-relation Inv-loop μ-loop
+slice-aggregate-save-relation c = search needs
+
 save-relation-requires : tie.Need-save-relation-requires Inv-loop μ-loop
-save-relation-requires c κs = long (c .before .before .before .before .before .before)
+save-relation-requires c κs = (long (c .before .before .before .before .before .before .before), search needs)
 
 add-k : tie.Need-add-k Inv-loop μ-loop
 add-k c = omega arith
@@ -90,12 +93,13 @@ loop-less c = omega arith
 
 loop-again : tie.Need-loop-again Inv-loop μ-loop
 loop-again c =
-    let mirrored = c .before .before in
-    let loaded = mirrored .before .before .before in
+    let negating = c .before .before .before in
+    let mirrored = negating .before .before in
+    let loaded = mirrored .before in
     let at = loaded .before .before .before in
     let s = at .before .before in
     let read : SFits w64 (getD (store at) (k at * relationLength) (pos 0)) = sfits-of (loaded .before .before .n0 .given) in
-    let negated = mirrored .before .negated in
+    let negated = negating .negated in
     let index = read-back (negated .result) (negated .ok) ∙ negated .ensures ∙ ap negℤ (toZ-ofZ read) in
     let row = mirrored .mirrored .ensures ∙ ap (mirrorNumbers (s .args .span)) (loaded .load .ensures) in
     let next = changed-next relationLength (s .args .count) (mirrorRelationNumbers (s .args .span))
@@ -126,8 +130,9 @@ mirror-relations-spec =
     slice-copy-out-n0
     add-load
     load-requires
-    negated-requires
     mirrored-requires
+    negated-requires
+    slice-aggregate-save-relation
     save-relation-requires
     add-k
     loop-less

@@ -2,10 +2,13 @@
 -- Assumes nothing.
 use Prim.Native.Nat.{ℕ, _+_, _*_, _-_, _≤_}
 use native.Mathlib.Omega.{arith}
+use mathlib.Core.Path.{_≡_, _∙_, ap, ap₂}
 use mathlib.Core.List.{List}
+use borrow.Author.Needs.{needs}
 use denote.Ref.{now}
 use lib.IntN.{ℤ}
 use lib.ListN.{length}
+use lib.Seq.{paste}
 use Rattle.rules.specs.Limits.{rowLength}
 use Rattle.rules.specs.Stores.{rowNeed}
 use Rattle.sides.specs.StoreStates.{part-small}
@@ -43,13 +46,16 @@ load-requires c κs = long (c .before)
 
 mirrored-requires : tie.Need-mirrored-requires Inv-loop μ-loop
 mirrored-requires c κs =
-    let at = c .before .before .before in
+    let at = c .before .before in
     let s = at .before .before in
     let numbers = part-small rowLength (s .args .equations) (i at) (store at) (at .loop-test .taken) (at .before .loop .inv .1 .within) in
-    (s .pre .0, rw (c .before .load .ensures) numbers)
+    (s .pre .0, rw (c .load .ensures) numbers)
+
+slice-aggregate-save : tie.Need-slice-aggregate-save Inv-loop μ-loop
+slice-aggregate-save c = search needs
 
 save-requires : tie.Need-save-requires Inv-loop μ-loop
-save-requires c κs = long (c .before .before .before .before)
+save-requires c κs = omega (arith, long (c .before .before .before .before .before))
 
 add-i : tie.Need-add-i Inv-loop μ-loop
 add-i c = omega arith
@@ -59,14 +65,16 @@ loop-less c = omega arith
 
 loop-again : tie.Need-loop-again Inv-loop μ-loop
 loop-again c =
-    let at = c .before .before .before .before .before .before in
+    let mirrored = c .before .before .before .before in
+    let loaded = mirrored .before in
+    let at = loaded .before .before in
     let s = at .before .before in
     let next = changed-next rowLength (s .args .equations) (mirrorNumbers (s .args .span)) (mirror-stays (s .args .span) (s .pre .0))
-    (now (s .args .store)) (store at) (i at) (at .loop-test .taken) (at .before .loop .inv .1) in (
-      omega arith,
-      rw
-          (c .before .save .ensures, c .before .before .mirrored .ensures, c .before .before .before .before .load .ensures) next,
-    )
+    (now (s .args .store)) (store at) (i at) (at .loop-test .taken) (at .before .loop .inv .1) in
+    let long : length (mirrored .mirrored .result) ≡ rowLength = omega arith in
+    let row = mirrored .mirrored .ensures ∙ ap (mirrorNumbers (s .args .span)) (loaded .load .ensures) in
+    let stored = c .before .save .ensures ∙ ap₂ (λ l n. paste (store at) (i at * rowLength) l n) row long in
+    (omega arith, rw stored next)
 
 same-length : tie.Need-same-length Inv-loop μ-loop
 same-length c = c .before .loop .inv .1 .kept .same-length
@@ -87,6 +95,7 @@ mirror-rows-spec =
     mul-at
     load-requires
     mirrored-requires
+    slice-aggregate-save
     save-requires
     add-i
     loop-less

@@ -5,6 +5,7 @@ use mathlib.Core.Bool.{true}
 use Prim.Native.Nat.{_-_, _≤_, _<_}
 use native.Mathlib.Omega.{arith}
 use borrow.Author.Needs.{needs, sfits-of}
+use denote.Ref.{now}
 use lib.IntN.{pos}
 use lib.ListN.{length, getD, take}
 use Rattle.algebra.specs.Polynomials.{isZero}
@@ -27,8 +28,8 @@ loop-holds c = search needs
 mul-if2 : tie.Need-mul-if2 Inv-loop μ-loop
 mul-if2 c = search needs
 
-array-copy-out-if2 : tie.Need-array-copy-out-if2 Inv-loop μ-loop
-array-copy-out-if2 c = search needs
+shared-slice-copy-out-if2 : tie.Need-shared-slice-copy-out-if2 Inv-loop μ-loop
+shared-slice-copy-out-if2 c = search needs
 
 add-i : tie.Need-add-i Inv-loop μ-loop
 add-i c = search needs
@@ -38,7 +39,7 @@ loop-less c = search needs
 
 loop-again : tie.Need-loop-again Inv-loop μ-loop
 loop-again c =
-    let row = c .before .before .before .before .args .t1 in
+    let row = now (c .before .before .before .before .args .entries) in
     let i = c .before .before .before .loop .i in
     let zero : getD row i (pos 0) ≡ pos 0 = zero-bits (sfits-of (c .before .if22 .given)) (c .if2 .left) in
     let inside : i < length row = omega arith in
@@ -46,12 +47,13 @@ loop-again c =
 
 returns : tie.Need-returns Inv-loop μ-loop
 unfolding foundOr
-returns c = sym (ap (foundOr columnCount) (column-none (c .before .before .args .t1) (rw (c .if1 .taken) at (c .before .loop .inv .1))))
+returns c = sym (ap (foundOr columnCount) (column-none (now (c .before .before .args .entries)) (rw (c .if1 .taken) at
+    (c .before .loop .inv .1))))
 
 returns-2 : tie.Need-returns-2 Inv-loop μ-loop
 unfolding foundOr
 returns-2 c =
-    let row = c .before .before .before .before .args .t1 in
+    let row = now (c .before .before .before .before .args .entries) in
     let i = c .before .before .before .loop .i in
     sym (ap (foundOr columnCount)
     (column-some row i (omega arith) (c .before .before .before .loop .inv .1) (nonzero-bits (c .if2 .taken))))
@@ -64,7 +66,7 @@ first-column-spec =
     μ-loop
     loop-holds
     mul-if2
-    array-copy-out-if2
+    shared-slice-copy-out-if2
     add-i
     loop-less
     loop-again

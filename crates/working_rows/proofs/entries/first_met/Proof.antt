@@ -7,11 +7,12 @@ use Prim.Native.Nat.{ℕ, _+_, _*_, _-_, _≤_, _<_}
 use native.Mathlib.Omega.{arith}
 use borrow.Author.Needs.{needs}
 use borrow.Author.Tests.{not-true, not-false}
+use denote.Ref.{now}
 use lib.IntN.{ℤ}
 use lib.ListN.{length, take, drop, getD}
 use lib.Seq.{take-all}
 use Rattle.algebra.specs.Polynomials.{Polynomial, isZero}
-use Rattle.rules.specs.Limits.{rowLength, coefficientCount, columnCount}
+use Rattle.rules.specs.Limits.{entriesLength, coefficientCount, columnCount}
 use Rattle.lists.specs.Tests.{every, every-longer}
 use Rattle.rules.specs.Stores.{rowOf}
 use Rattle.stores.specs.Flat.{entry-at}
@@ -21,34 +22,31 @@ use Rattle.working_rows.proofs.entries.first_met.Statement.{statement}
 use Rattle.working_rows.proofs.entries.first_met.Tie as tie
 
 abbrev Inv-loop : tie.InvT-loop
-Inv-loop settled order numbers j₀ j =
-    (length numbers ≡ rowLength)
+Inv-loop numbers settled order j₀ j =
+    (length numbers ≡ entriesLength)
     × ((length order ≡ columnCount) × ((j ≤ settled) × (every isZero (take j (entriesAt (rowOf numbers) order settled)) ≡ true)))
 
 abbrev μ-loop : tie.MeasureT-loop
-μ-loop settled order numbers j₀ j = settled - j
-
-slice-aggregate-numbers : tie.Need-slice-aggregate-numbers Inv-loop μ-loop
-slice-aggregate-numbers c = search needs
+μ-loop numbers settled order j₀ j = settled - j
 
 -- column j of the order
 module _ (c : tie.In-loop Inv-loop μ-loop) where
   abbrev column : ℕ
-  column = getD (c .before .before .before .args .t2) (c .before .loop .j) 0
+  column = getD (c .before .before .args .t2) (c .before .loop .j) 0
 
   below : column < columnCount
-  below = Columns-at (c .before .before .before .args .t2) (c .before .before .before .pre .1) (c .before .loop .j)
+  below = Columns-at (c .before .before .args .t2) (c .before .before .pre .2) (c .before .loop .j)
 
 -- the test of the leading entry there
 module _ (c : tie.After-is-zero Inv-loop μ-loop) where
   abbrev numbers : List ℤ
-  numbers = c .before .before .before .before .before .args .t1
+  numbers = now (c .before .before .before .before .args .entries)
 
   abbrev order : List ℕ
-  order = c .before .before .before .before .before .args .t2
+  order = c .before .before .before .before .args .t2
 
   abbrev settled : ℕ
-  settled = c .before .before .before .before .before .args .settled
+  settled = c .before .before .before .before .args .settled
 
   abbrev entries : List Polynomial
   entries = entriesAt (rowOf numbers) order settled
@@ -104,7 +102,7 @@ is-zero-requires c κs = search needs
 returns : tie.Need-returns Inv-loop μ-loop
 unfolding foundOr
 returns c =
-    let args = c .before .before .before .before .before .before .args in
+    let args = c .before .before .before .before .before .args in
     let nonzero = sym (tested (c .before)) ∙ not-true _ (c .if1 .taken) in
     let passed = c .before .before .before .before .loop .inv .1 .1 .1 in
     sym (ap (foundOr (args .settled)) (firstNonzero-some (entries (c .before)) (j (c .before)) (inside (c .before)) passed nonzero))
@@ -132,9 +130,9 @@ loop-again c =
 returns-2 : tie.Need-returns-2 Inv-loop μ-loop
 unfolding foundOr
 returns-2 c =
-    let args = c .before .before .before .args in
-    let entries = entriesAt (rowOf (args .t1)) (args .t2) (args .settled) in
-    let size : length entries ≡ args .settled = length-entriesAt (rowOf (args .t1)) (args .t2) (args .settled) (omega arith) in
+    let args = c .before .before .args in
+    let entries = entriesAt (rowOf (now (args .entries))) (args .t2) (args .settled) in
+    let size : length entries ≡ args .settled = length-entriesAt (rowOf (now (args .entries))) (args .t2) (args .settled) (omega arith) in
     let passed = ap (every isZero) (sym (take-all (c .before .loop .j) entries (omega arith))) ∙ c .before .loop .inv .1 .1 .1 in
     sym (ap (foundOr (args .settled)) (firstNonzero-none entries passed))
 
@@ -144,7 +142,6 @@ first-met-spec =
     (tie.spec
     Inv-loop
     μ-loop
-    slice-aggregate-numbers
     loop-holds
     mul-from
     array-read-from

@@ -7,11 +7,12 @@ use native.Mathlib.Nat.{le-of-eq}
 use native.Mathlib.Omega.{arith}
 use borrow.Author.Needs.{needs}
 use borrow.Author.Tests.{not-true, not-false}
+use denote.Ref.{now}
 use lib.IntN.{ℤ}
 use lib.ListN.{length, take, drop, getD}
 use lib.Seq.{take-all}
 use Rattle.algebra.specs.Polynomials.{isZero}
-use Rattle.rules.specs.Limits.{blockCount, blockLength, rowLength}
+use Rattle.rules.specs.Limits.{blockCount, blockLength, entriesLength}
 use Rattle.rules.specs.Rows.{zeroBlock, width, widthOf}
 use Rattle.rules.specs.Stores.{rowOf}
 use Rattle.stores.specs.Flat.{zeroBlock-at, length-blocks}
@@ -21,18 +22,15 @@ use Rattle.working_rows.proofs.entries.width.Tie as tie
 
 abbrev Inv-loop : tie.InvT-loop
 Inv-loop numbers blocks₀ blocks =
-    (length numbers ≡ rowLength) × ((blocks ≤ blockCount) × (width (rowOf numbers) ≡ widthOf (take blocks (rowOf numbers .blocks))))
+    (length numbers ≡ entriesLength) × ((blocks ≤ blockCount) × (width (rowOf numbers) ≡ widthOf (take blocks (rowOf numbers .blocks))))
 
 abbrev μ-loop : tie.MeasureT-loop
 μ-loop numbers blocks₀ blocks = blocks
 
-slice-aggregate-numbers : tie.Need-slice-aggregate-numbers Inv-loop μ-loop
-slice-aggregate-numbers c = search needs
-
 -- the test of the lowest block that is left
 module _ (c : tie.After-is-zero Inv-loop μ-loop) where
   abbrev numbers : List ℤ
-  numbers = c .before .before .before .before .before .args .t1
+  numbers = now (c .before .before .before .before .args .entries)
 
   abbrev left : ℕ
   left = c .before .before .before .loop .blocks - 1
@@ -53,7 +51,7 @@ module _ (c : tie.After-is-zero Inv-loop μ-loop) where
 loop-holds : tie.Need-loop-holds Inv-loop μ-loop
 unfolding width
 loop-holds c =
-    let row = c .before .args .t1 in
+    let row = now (c .args .entries) in
     (omega arith, (omega arith, ap widthOf (sym (take-all blockCount (rowOf row .blocks) (le-of-eq (length-blocks row))))))
 
 sub-from : tie.Need-sub-from Inv-loop μ-loop
@@ -103,7 +101,7 @@ returns-2 : tie.Need-returns-2 Inv-loop μ-loop
 unfolding widthOf
 returns-2 c =
     let none : c .before .loop .blocks ≡ 0 = omega arith in
-    sym (c .before .loop .inv .1 .1 ∙ ap (λ n. widthOf (take n (rowOf (c .before .before .before .args .t1) .blocks))) none)
+    sym (c .before .loop .inv .1 .1 ∙ ap (λ n. widthOf (take n (rowOf (now (c .before .before .args .entries)) .blocks))) none)
 
 pub width-spec : {M : Type 1} → statement M
 width-spec =
@@ -111,7 +109,6 @@ width-spec =
     (tie.spec
     Inv-loop
     μ-loop
-    slice-aggregate-numbers
     loop-holds
     sub-from
     mul-from

@@ -1,10 +1,11 @@
 -- `working_rows::shifting::moved_up` meets its contract. The loop's invariant: the first e polynomials are written, and the others are zero.
 -- Assumes nothing.
-use mathlib.Core.Path.{_≡_, refl, sym, _∙_, ap, ap₂, subst}
+use mathlib.Core.Path.{_≡_, sym, _∙_, ap, ap₂, subst}
 use mathlib.Core.Logic.{⊎-elim}
 use mathlib.Core.Bool.{false, not}
 use mathlib.Core.List.{List}
 use Prim.Native.Nat.{ℕ, _+_, _*_, _≤_, _-_}
+use native.Mathlib.Nat.{le-of-eq}
 use native.Mathlib.Omega.{arith}
 use borrow.Author.Needs.{needs}
 use borrow.Author.Tests.{not-false}
@@ -14,19 +15,20 @@ use lib.Dec.{T}
 use lib.IntN.{ℤ, pos}
 use lib.ListN.{length, take, drop, replicate}
 use Rattle.algebra.specs.Polynomials.{isZero, shift, isZero-shift}
-use Rattle.rules.specs.Limits.{coefficientCount, polynomialCount, blockLength, entriesLength, rowLength, small}
-use Rattle.rules.specs.Rows.{shiftUp, coefficientsOf}
+use Rattle.rules.specs.Limits.{coefficientCount, blockLength, entriesLength, small}
+use Rattle.rules.specs.Rows.{shiftUp}
 use Rattle.rules.specs.Stores.{rowOf}
-use Rattle.stores.specs.OverZeros.{front, length-front, front-none, front-past, front-whole, front-put, front-skip}
+use Rattle.stores.specs.OverZeros.{front, length-front, front-none, front-all, front-put, front-skip}
 use Rattle.lists.specs.Tests.{every-part}
-use Rattle.working_rows.specs.Shifting.{length-shiftUp, shiftUp-part, shiftUp-rest, shiftUp-side, movedCount}
+use Rattle.working_rows.specs.Working.{leftPart}
+use Rattle.working_rows.specs.Shifting.{length-shiftUp, shiftUp-part, shiftUp-rest, movedCount}
 use Rattle.rules.specs.Layout.{coefficientsAt}
 use Rattle.working_rows.proofs.shifting.moved_up.Statement.{statement}
 use Rattle.working_rows.proofs.shifting.moved_up.Tie as tie
 
 abbrev Inv-loop : tie.InvT-loop
 Inv-loop table row moved₀ e₀ moved e =
-    (e ≤ movedCount) × (length moved ≡ rowLength) × (moved ≡ front (coefficientsOf (shiftUp (rowOf row))) (e * coefficientCount))
+    (e ≤ movedCount) × (length moved ≡ entriesLength) × (moved ≡ front (leftPart (shiftUp (rowOf row))) (e * coefficientCount))
 
 abbrev μ-loop : tie.MeasureT-loop
 μ-loop table row moved₀ e₀ moved e = movedCount - e
@@ -34,10 +36,10 @@ abbrev μ-loop : tie.MeasureT-loop
 -- polynomial e of the row, one block further down
 module _ (c : tie.After-is-zero Inv-loop μ-loop) where
   abbrev row : List ℤ
-  row = now (c .before .before .before .before .args .row)
+  row = now (c .before .before .before .before .args .entries)
 
   abbrev full : List ℤ
-  full = coefficientsOf (shiftUp (rowOf row))
+  full = leftPart (shiftUp (rowOf row))
 
   abbrev e : ℕ
   e = c .before .before .before .loop .e
@@ -51,13 +53,13 @@ module _ (c : tie.After-is-zero Inv-loop μ-loop) where
   abbrev width : ℕ
   width = e * coefficientCount + coefficientCount - e * coefficientCount
 
-  full-long : length full ≡ rowLength
-  full-long = length-shiftUp row (c .before .before .before .before .pre .1)
+  full-long : length full ≡ entriesLength
+  full-long = length-shiftUp row (le-of-eq (sym (c .before .before .before .before .pre .1)))
 
   p-shifted : coefficientsAt full e ≡ shift p
   p-shifted =
       let whole : from + coefficientCount - from ≡ coefficientCount = omega arith in
-      shiftUp-part row (c .before .before .before .before .pre .1) e (c .before .before .loop-test .taken)
+      shiftUp-part row (le-of-eq (sym (c .before .before .before .before .pre .1))) e (c .before .before .loop-test .taken)
       ∙ ap (λ k. shift (take k (drop from row))) (sym whole)
 
   p-skipped : not (c .is-zero .result) ≡ false → front full (e * coefficientCount) ≡ front full ((e + 1) * coefficientCount)
@@ -73,10 +75,10 @@ module _ (c : tie.After-is-zero Inv-loop μ-loop) where
 
 loop-holds : tie.Need-loop-holds Inv-loop μ-loop
 loop-holds c =
-    let row = now (c .args .row) in (
+    let row = now (c .args .entries) in (
       omega arith,
       search needs,
-      sym (front-none (coefficientsOf (shiftUp (rowOf row))) ∙ ap (λ n. replicate n (pos 0)) (length-shiftUp row (c .pre .1))),
+      sym (front-none (leftPart (shiftUp (rowOf row))) ∙ ap (λ n. replicate n (pos 0)) (length-shiftUp row (le-of-eq (sym (c .pre .1))))),
     )
 
 mul-at : tie.Need-mul-at Inv-loop μ-loop
@@ -144,42 +146,12 @@ loop-again c =
       written,
     )
 
-sub-put-shifted-2 : tie.Need-sub-put-shifted-2 Inv-loop μ-loop
-sub-put-shifted-2 c = search needs
-
-part-moved-start-2 : tie.Need-part-moved-start-2 Inv-loop μ-loop
-part-moved-start-2 c = search needs
-
-part-moved-end-2 : tie.Need-part-moved-end-2 Inv-loop μ-loop
-part-moved-end-2 c = search needs
-
-sub-put-shifted-3 : tie.Need-sub-put-shifted-3 Inv-loop μ-loop
-sub-put-shifted-3 c = search needs
-
-part-put-shifted-start : tie.Need-part-put-shifted-start Inv-loop μ-loop
-part-put-shifted-start c = search needs
-
-part-put-shifted-end : tie.Need-part-put-shifted-end Inv-loop μ-loop
-part-put-shifted-end c = search needs
-
-put-shifted-requires-2 : tie.Need-put-shifted-requires-2 Inv-loop μ-loop
-put-shifted-requires-2 c κs =
-    let start = c .before .before .before .before in
-    let row = now (start .args .row) in
-    (search needs, search needs, search needs, every-part small entriesLength coefficientCount row (start .pre .2))
-
 returns : tie.Need-returns Inv-loop μ-loop
 returns c =
-    let at = c .before .before .before .before .before in
-    let row = now (at .before .args .row) in
-    let full = coefficientsOf (shiftUp (rowOf row)) in
-    let long = length-shiftUp row (at .before .pre .1) in
-    let all : at .loop .e ≡ movedCount = omega arith in
-    let written : at .loop .moved ≡ front full entriesLength = at .loop .inv .2 ∙ ap (λ e. front full (e * coefficientCount)) all
-    ∙ front-past full (movedCount * coefficientCount) blockLength (omega (arith, long)) (shiftUp-rest row (at .before .pre .1))
-    in
-    ap₂ (putMid entriesLength coefficientCount) written (c .before .put-shifted2 .ensures ∙ sym (shiftUp-side row (at .before .pre .1)))
-    ∙ front-put full polynomialCount (omega (arith, long)) coefficientCount refl ∙ ap (front full) (sym long) ∙ front-whole full
+    let row = now (c .before .before .args .entries) in
+    let all : c .before .loop .e ≡ movedCount = omega arith in
+    c .before .loop .inv .2 ∙ ap (λ e. front (leftPart (shiftUp (rowOf row))) (e * coefficientCount)) all
+    ∙ front-all (leftPart (shiftUp (rowOf row))) 256 (shiftUp-rest row (le-of-eq (sym (c .before .before .pre .1))))
 
 pub moved-up-spec : {M : Type 1} → statement M
 moved-up-spec =
@@ -205,11 +177,4 @@ moved-up-spec =
     add-e
     loop-less
     loop-again
-    sub-put-shifted-2
-    part-moved-start-2
-    part-moved-end-2
-    sub-put-shifted-3
-    part-put-shifted-start
-    part-put-shifted-end
-    put-shifted-requires-2
     returns)
