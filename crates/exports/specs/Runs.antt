@@ -51,7 +51,7 @@ checkRun z count rowStore relationStore resultStore =
     let lengths : ℕ = cond (lengthsRight (equations z) rowStore relationStore && leb resultNeed (length resultStore)) numbers 1 in
     cond (sizesRight z && countRight count) lengths 2
 
--- An acceptance, or a refusal 6 to 9, which makes the eight numbers of the result zero (SCOPE 3.54, 6.31).
+-- An acceptance, or a refusal 6 to 10, which makes the eight numbers of the result zero (SCOPE 3.54, 6.31).
 unfoldable pub ran : Call → List ℤ → Exported
 unfolding overwrite runNumbers
 ran c resultStore =
