@@ -4,7 +4,7 @@ use crate::cases::{Answer, Kind};
 use std::collections::BTreeMap;
 
 /// The tables have a column for each number up to this one.
-const COLUMNS: u8 = 9;
+const COLUMNS: u8 = 10;
 
 /// Counts for the cases of one kind.
 #[derive(Default)]

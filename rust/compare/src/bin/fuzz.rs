@@ -41,7 +41,7 @@ impl<T: Copy + PartialEq> Guarded<T> {
 /// The numbers that are answered: 0 to 10, and one place for any other.
 const NUMBERS: usize = 12;
 /// How many of them are printed.
-const PRINTED: usize = 10;
+const PRINTED: usize = 11;
 
 /// A sheet of two equations and a relation, without its fifth section.
 const FOUR_SECTIONS: &[u8] = b"3 2 1 0\n2\n0\n0\n1\n0 0\n0\n";
