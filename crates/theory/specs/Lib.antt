@@ -20,6 +20,7 @@ pub mod Triangular
 pub mod LimitsKept
 pub mod Ending
 pub mod Solutions
+pub mod ListedOrder
 pub mod Dependence
 pub mod BackSubstitution
 pub mod Mirror
