@@ -64,6 +64,7 @@ use Rattle.rules.specs.Sheets.{Sheet, readSheet, writeSheet}
 use Rattle.rules.specs.SheetCalls.{ReadCall, WriteCall, unread, unwritten}
 use Rattle.rules.specs.Batch.{batchOutput}
 use Rattle.theory.specs.Demands.{same-sequences}
+use Rattle.theory.specs.ListedOrder.{Listed}
 use Rattle.answers.specs.Answers.{AnswerCall, unanswered, sheetAfter}
 use Rattle.frames.specs.Windows.{batchLine}
 use Rattle.batches.specs.declared.Stream.{Stream}
@@ -159,9 +160,11 @@ module _ {side : Side} {z : Sizes} {count : ℕ} {rows relations : List ℤ} {c 
       → (s : State) × (ruled side z count rows relations ≡ done s) × GivesBack side z s rows relations c
   run-output e = let (s, a) = Runs.accepted ran e in (s, a .accepts, a .given)
 
-  -- The lent relations stay first, in their order (SCOPE 2.3).
+  -- The lent relations stay first, in their order (SCOPE 2.3). Behind them the relations that one multiplier adds stand
+  -- together, by strictly ascending n0, on either side as given back (SCOPE 2.33).
   pub run-relations-first : c .result .refusal ≡ 0
-      → (more : List Relation) × (relationsOf (c .result .relations) (c .relationStore) ≡ relationsOf count relations ++ more)
+      → (more : List Relation)
+      × (relationsOf (c .result .relations) (c .relationStore) ≡ relationsOf count relations ++ more) × Listed more
   run-relations-first = Runs.relations-first ran
 
   -- ---- demand 3

@@ -51,11 +51,10 @@ use Rattle.rules.specs.Calls.{Result, Call, callRun, afterCheck, afterRun, acce
 use Rattle.rules.specs.Calls.{zeros}
 use Rattle.lists.specs.Overwritten.{overwrite}
 use Rattle.rules.specs.Calls.{placeRight, reportedOrder, rootFound, rootValue}
-use Rattle.theory.specs.Steps.{chain-relations}
-use Rattle.theory.specs.Mirror.{Reaches, Spans, mirrorRelations-twice, valid-relations-span}
 use Rattle.theory.specs.Settled.{as-many, Diagonal, pivotEntry, settled-leading, settled-trailing}
 use Rattle.theory.specs.Demands.{Accepted, Ended, six, seven, eight, nine, ten, run-ends, output-valid, diagonal-nonzero}
-use Rattle.theory.specs.Demands.{report-no, report-root}
+use Rattle.theory.specs.Demands.{report-no, report-root, relations-listed}
+use Rattle.theory.specs.ListedOrder.{Listed}
 use Rattle.theory.specs.Demands.{same-sequences, accepted-independent, shifts-bounded, refused-dependent, refused-inconsistent}
 use Rattle.theory.specs.Demands.{agreement-leading, agreement-trailing}
 use Rattle.theory.specs.Report.{Past, Rootless, FurthestRoot, diagonalEntry, diagonal-member, diagonal-index}
@@ -514,27 +513,6 @@ module _ {side : Side} {z : Sizes} {count : ℕ} {rows relations : List ℤ} {c 
       by leading r (some x) e f h = subst (λ y. y <ℤ n) f (h e)
       by trailing r (some x) e f h = subst (λ y. n <ℤ y) f (h e)
 
--- The input's relations keep their places at the front (SCOPE 2.3).
-relations-before : (side : Side) {z : Sizes} {rows : List Row} {relations : List Relation} {s : State} → Valid z rows relations
-    → wholeRun side (span z) rows relations ≡ done s → (more : List Relation) × (s .relations ≡ relations ++ more)
-unfolding start mirrorState
-relations-before leading v e = chain-relations (settled-leading v e .chain)
-relations-before trailing {z} {rows} {relations} {s} v e =
-    let m = settled-trailing v e in
-    let (more, same) = chain-relations (m .settled .chain) in
-    (map (mirrorRelation (span z)) more, sym (ap (λ x. x .relations) (m .back)) ∙ turned (m .final) more same)
-  where
-    reach : All (λ x. Reaches (span z) (x .row)) relations
-    reach =
-        all-mono (λ x. Spans (span z) (x .row)) (λ x. Reaches (span z) (x .row)) (λ x h. h .reaches) relations
-        (valid-relations-span z rows relations v)
-
-    turned : (u : State) (more : List Relation) → u .relations ≡ map (mirrorRelation (span z)) relations ++ more
-        → mirrorState (span z) u .relations ≡ relations ++ map (mirrorRelation (span z)) more
-    turned u more same =
-        ap (map (mirrorRelation (span z))) same ∙ map-append (mirrorRelation (span z)) (map (mirrorRelation (span z)) relations) more
-        ∙ ap (λ l. l ++ map (mirrorRelation (span z)) more) (mirrorRelations-twice (span z) relations reach)
-
 -- ---- the calls as they are called
 
 module _ {side : Side} {z : Sizes} {count : ℕ} {rows relations : List ℤ} {c : Call}
@@ -611,11 +589,11 @@ module _ {side : Side} {z : Sizes} {count : ℕ} {rows relations : List ℤ} {c 
         subst (λ n. n ≤ equations z * span z) (sym (a .given .shift-count)) (shifts-bounded (state-accepted a))
 
     pub relations-first : (more : List Relation)
-        × (relationsOf (c .result .relations) (c .relationStore) ≡ relationsOf count relations ++ more)
+        × (relationsOf (c .result .relations) (c .relationStore) ≡ relationsOf count relations ++ more) × Listed more
     relations-first =
         let (s, a) = accepted in
-        let (more, same) = relations-before side (passed-valid (a .passed)) (a .accepts) in
-        (more, a .given .relations-held ∙ same)
+        let (more, same, groups) = relations-listed (state-accepted a) in
+        (more, a .given .relations-held ∙ same, groups)
 
     pub root-no : (c .result .hasRoot ≡ false) ↔ NoRoot side z c
     root-no = let (s, a) = accepted in state-report-no a

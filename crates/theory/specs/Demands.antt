@@ -6,22 +6,22 @@
 --   Ended o                            the outcomes of a run that has ended
 -- Main statements, by the numbers of their comments
 --   1 same-sequences          4 accepted-independent    7 report-no, report-root
---   2 diagonal-nonzero        5 refused-dependent,      8 output-valid
+--   2 diagonal-nonzero        5 refused-dependent,      8 output-valid, relations-listed
 --                               refused-inconsistent
 --   3 agreement-leading,      6 run-ends,               9 next-row-later, zero-row-refused
 --     agreement-trailing        shifts-bounded
 use Prim.Native.Nat.{ℕ, suc, _*_, _≤_, _<_}
-use mathlib.Core.Path.{_≡_, refl, sym, _∙_, subst}
+use mathlib.Core.Path.{_≡_, refl, sym, _∙_, subst, ap}
 use mathlib.Core.Logic.{_↔_, inl, inr}
 use mathlib.Core.Bool.{not}
-use mathlib.Core.List.{List, map}
+use mathlib.Core.List.{List, map, _++_, map-append}
 use mathlib.Core.Option.{none, some}
 use lib.Dec.{T}
 use lib.ListN.{length}
 use lib.IntN.{ℤ, _+ℤ_}
 use lib.Signed.{_≤ℤ_, _<ℤ_}
 use Rattle.algebra.specs.Polynomials.{isZero}
-use Rattle.rules.specs.Rows.{Row, Relation, zeroRow, width, entry, firstNonzero}
+use Rattle.rules.specs.Rows.{Row, Relation, zeroRow, width, entry, firstNonzero, mirrorRelation, mirrorRow}
 use Rattle.lists.specs.Everywhere.{All, all-mono}
 use Rattle.rules.specs.Elimination.{Side, leading, trailing, State, Outcome, going, done, refused, start, enough, step, workOn, meet, run}
 use Rattle.rules.specs.Elimination.{wholeRun, leadingRun, trailingRun, mirrorState, diagonal, report, rowAt, putRow, limitDegrees, within}
@@ -33,10 +33,11 @@ use Rattle.theory.specs.Cells.{width-unused}
 use Rattle.theory.specs.Ending.{wholeRun-ends, wholeRun-shifts, mirrorOutcome-refused}
 use Rattle.theory.specs.Report.{Past, Rootless, FurthestRoot, report-none, report-some}
 use Rattle.theory.specs.Solutions.{run-solutions}
+use Rattle.theory.specs.ListedOrder.{Listed, leading-listed, trailing-listed}
 use Rattle.theory.specs.Triangular.{triangular-start, triangular-chain, combined-advances}
 use Rattle.theory.specs.Dependence.{chain-dependent, settled-independent, refused-dependent as run-dependent}
 use Rattle.theory.specs.LimitsKept.{rowRight-iff}
-use Rattle.theory.specs.Mirror.{span-sum}
+use Rattle.theory.specs.Mirror.{span-sum, Reaches, Spans, valid-relations-span, mirrorRelations-twice}
 use Rattle.theory.specs.Agreement.{leading-agreement}
 use Rattle.theory.specs.Trailing.{valid-shapes, mirrored-sequences, diagonal-back, valid-back, independent-back, agrees-back}
 use Rattle.theory.specs.Trailing.{trailing-dependent, trailing-inconsistent}
@@ -85,6 +86,28 @@ valid-output trailing {z} v e =
     let m = settled-trailing v e in
     subst (λ x. Valid z (x .rows) (x .relations)) (m .back) (valid-back v (m .settled))
 
+-- The input's relations stay first, and what the run lists is behind them, mirrored back on the trailing side.
+listed-behind : (side : Side) {z : Sizes} {rows : List Row} {relations : List Relation} {s : State} → Valid z rows relations
+    → wholeRun side (span z) rows relations ≡ done s → (more : List Relation) × (s .relations ≡ relations ++ more) × Listed more
+unfolding start mirrorState
+listed-behind leading {rows = rows} {relations} v e = leading-listed (triangular-start rows relations) (settled-leading v e .chain)
+listed-behind trailing {z} {rows} {relations} {s} v e =
+    let m = settled-trailing v e in
+    let (more, same, groups) = trailing-listed (span z)
+    (triangular-start (map (mirrorRow (span z)) rows) (map (mirrorRelation (span z)) relations)) (m .settled .chain) in
+    (map (mirrorRelation (span z)) more, sym (ap (λ x. x .relations) (m .back)) ∙ turned (m .final) more same, groups)
+  where
+    reach : All (λ x. Reaches (span z) (x .row)) relations
+    reach =
+        all-mono (λ x. Spans (span z) (x .row)) (λ x. Reaches (span z) (x .row)) (λ x h. h .reaches) relations
+        (valid-relations-span z rows relations v)
+
+    turned : (u : State) (more : List Relation) → u .relations ≡ map (mirrorRelation (span z)) relations ++ more
+        → mirrorState (span z) u .relations ≡ relations ++ map (mirrorRelation (span z)) more
+    turned u more same =
+        ap (map (mirrorRelation (span z))) same ∙ map-append (mirrorRelation (span z)) (map (mirrorRelation (span z)) relations) more
+        ∙ ap (λ l. l ++ map (mirrorRelation (span z)) more) (mirrorRelations-twice (span z) relations reach)
+
 -- The rows of a valid system have no block below t.
 valid-widths : {z : Sizes} {rows : List Row} {relations : List Relation} → Valid z rows relations → All (λ r. width r ≤ suc (span z)) rows
 valid-widths {z} {rows} v =
@@ -123,6 +146,11 @@ module _ {side : Side} {z : Sizes} {rows : List Row} {relations : List Relation}
   -- zero (SCOPE 9.27).
   pub output-valid : Valid z (s .rows) (s .relations)
   output-valid = valid-output side (a .valid) (a .accepts)
+
+  -- The input's relations stay first (SCOPE 2.3). Behind them the relations that one multiplier adds stand together, by strictly
+  -- ascending n0 as given back (SCOPE 2.33).
+  pub relations-listed : (more : List Relation) × (s .relations ≡ relations ++ more) × Listed more
+  relations-listed = listed-behind side (a .valid) (a .accepts)
 
 -- 3. Leading side: where n lies above the reported root, or anywhere if the report is "no", sequences that satisfy the
 -- system and are equal at the D indices from n + t to n + l - 1 are equal from n + t upward (SCOPE 2.116).

@@ -21,6 +21,7 @@ pub mod LimitsKept
 pub mod Ending
 pub mod Solutions
 pub mod Inconsistency
+pub mod ListedOrder
 pub mod Dependence
 pub mod BackSubstitution
 pub mod Mirror
