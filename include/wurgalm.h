@@ -11,7 +11,7 @@
  * (SCOPE 3.2, 3.11). The relation store needs 16 x 337: `count` relations, each n0 and then a row, and zeros at the
  * places past them (SCOPE 3.4, 3.13). Positions of blocks below t and of columns above m hold 0 (SCOPE 3.3).
  *
- * Every function returns the number of a refusal, or 0 (SCOPE 6.1 to 6.9):
+ * Every function returns the number of a refusal, or 0 (SCOPE 6.1 to 6.10):
  *   1  a store has too few members
  *   2  a size, block, column, count or order is out of its range
  *   3  something in a sheet is not a number; or a separator, the order of the terms or a zero last coefficient is wrong,
@@ -25,7 +25,10 @@
  *  10  the system has no solution: the left part of a row is zero and its right side is not
  * On 1 to 5 no store is changed (SCOPE 6.32; but see `wurgalm_batch`). On 6 to 10 the needed part of each store that the
  * function may write is zero (SCOPE 6.33). Sizes, count and order are checked first (2), then the lengths of the stores
- * (1), then their numbers (5) (SCOPE 3.31). */
+ * (1), then their numbers (5) (SCOPE 3.31).
+ *
+ * Equal arguments give equal numbers and bytes in every store, on every installation. The relations that one multiplier
+ * adds stand together, by strictly ascending n0, on the leading and on the trailing side (SCOPE 2.33). */
 #ifndef WURGALM_H
 #define WURGALM_H
 

@@ -56,6 +56,20 @@ fn fed_in_pieces(start: &dyn Fn() -> Command) -> Vec<Result<(), String>> {
     pieces::all().into_iter().map(compared).collect()
 }
 
+/// Equal inputs give equal bytes (SCOPE 2.33): the program twice on an input that comes whole, and once on it in pieces.
+fn same_bytes(start: &dyn Fn() -> Command) -> Vec<Result<(), String>> {
+    let compared = |fed: pieces::Fed| {
+        let whole = pieces::Fed { pieces: vec![fed.input()], between: pieces::Between::Taken };
+        let (once, again, cut) = (whole.output(start()), whole.output(start()), fed.output(start()));
+        if once == again && once == cut {
+            Ok(())
+        } else {
+            Err(format!("{}once\n{}again\n{}in pieces\n{}", text(&fed.input()), text(&once), text(&again), text(&cut)))
+        }
+    };
+    pieces::all().into_iter().filter(|fed| !fed.input().is_empty()).map(compared).collect()
+}
+
 /// Prints how many cases of a name there are, and the differences among them, which are then counted.
 fn reported(name: &str, check: impl FnOnce() -> Vec<Result<(), String>>) -> usize {
     let start = Instant::now();
@@ -71,6 +85,7 @@ fn reported(name: &str, check: impl FnOnce() -> Vec<Result<(), String>>) -> usiz
 /// output that it could not write.
 fn streams(start: &dyn Fn() -> Command) -> usize {
     reported("Pieces", || fed_in_pieces(start))
+        + reported("Same bytes", || same_bytes(start))
         + reported("Waiting clients", || waiting(start))
         + reported("Unwritten output", || unwritten(start))
 }
