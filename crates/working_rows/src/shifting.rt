@@ -58,6 +58,18 @@ fn moved_up(table: &[[i64; COEFFICIENTS]; COEFFICIENTS], entries: &[i64]) -> [i6
     moved
 }
 
+// The right side with n + 1 for n; it stays where it is. Nothing is done for a zero one.
+fn moved_side(table: &[[i64; COEFFICIENTS]; COEFFICIENTS], right: &[i64]) -> [i64; COEFFICIENTS]
+    requires { ⌜ T (followsRule (now table)) × (length (now right) ≡ coefficientCount) × T (every small (now right)) ⌝ }
+    ensures { λ r. ⌜ r ≡ shift (now (right .entry)) ⌝ }
+{
+    let mut side = [0i64; COEFFICIENTS];
+    if !polynomials::content::is_zero(right) {
+        put_shifted(&mut side, table, right);
+    }
+    side
+}
+
 // The row one block further up, with n + 1 for n, on the right side too, which stays where it is; a coefficient past ±C is
 // refused with 8 (SCOPE 2.61, 2.63).
 pub fn shifted(row: WorkingRow) -> crate::limits::Worked
@@ -68,7 +80,6 @@ pub fn shifted(row: WorkingRow) -> crate::limits::Worked
     let table = polynomials::shift::pascal();
     let entries = row.entries;
     let right = row.right;
-    let mut side = [0i64; COEFFICIENTS];
-    put_shifted(&mut side, &table, &right[..]);
+    let side = moved_side(&table, &right[..]);
     crate::limits::limited(moved_up(&table, &entries[..]), side)
 }

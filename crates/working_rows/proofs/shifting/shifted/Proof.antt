@@ -14,23 +14,20 @@ use Rattle.working_rows.proofs.shifting.shifted.Tie as tie
 pascal-requires : tie.Need-pascal-requires
 pascal-requires c κs = search needs
 
-slice-aggregate-put-shifted : tie.Need-slice-aggregate-put-shifted
-slice-aggregate-put-shifted c = search needs
+slice-aggregate-moved-side : tie.Need-slice-aggregate-moved-side
+slice-aggregate-moved-side c = search needs
 
-slice-aggregate-put-shifted-2 : tie.Need-slice-aggregate-put-shifted-2
-slice-aggregate-put-shifted-2 c = search needs
-
-put-shifted-requires : tie.Need-put-shifted-requires
-put-shifted-requires c κs =
-    let start = c .before .before .before .before .before .before in
-    (search needs, search needs, start .pre .0 .right-long, small-apart (start .args .row) (start .pre .1) .1)
+moved-side-requires : tie.Need-moved-side-requires
+moved-side-requires c κs =
+    let start = c .before .before .before .before .before in
+    (search needs, start .pre .0 .right-long, small-apart (start .args .row) (start .pre .1) .1)
 
 slice-aggregate-moved-up : tie.Need-slice-aggregate-moved-up
 slice-aggregate-moved-up c = search needs
 
 moved-up-requires : tie.Need-moved-up-requires
 moved-up-requires c κs =
-    let start = c .before .before .before .before .before .before .before .before .before .before in
+    let start = c .before .before .before .before .before .before .before .before in
     (search needs, start .pre .0 .entries-long, small-apart (start .args .row) (start .pre .1) .0)
 
 limited-requires : tie.Need-limited-requires
@@ -38,11 +35,11 @@ limited-requires c κs = search needs
 
 returns : tie.Need-returns
 returns c =
-    let shifted-side = c .before .before .before .before .before in
-    let start = shifted-side .before .before .before .before .before .before .before in
+    let shifted-side = c .before .before .before .before in
+    let start = shifted-side .before .before .before .before .before .before in
     let row = start .args .row in
     let full = start .pre .0 in
-    let new = ap₂ (λ a b. rowOf (a ++ b)) (c .before .moved-up .ensures) (shifted-side .put-shifted .ensures)
+    let new = ap₂ (λ a b. rowOf (a ++ b)) (c .before .moved-up .ensures) (shifted-side .moved-side .ensures)
     ∙ shifted-apart (row .entries) (row .right) (full .entries-long) (full .right-long)
     in
     subst (Shown _ _) (ap limitCoefficients new) (c .limited .ensures)
@@ -52,9 +49,8 @@ shifted-spec =
     tie.close
     (tie.spec
     pascal-requires
-    slice-aggregate-put-shifted
-    slice-aggregate-put-shifted-2
-    put-shifted-requires
+    slice-aggregate-moved-side
+    moved-side-requires
     slice-aggregate-moved-up
     moved-up-requires
     limited-requires
