@@ -10,7 +10,7 @@
 -- Main statements
 --   numbers-worked the numbers of that working row
 --   limit-within, limit-beyond   the answer for numbers that are all within ±C, and for others
---   limit-zero, consistent-refused, consistent-passed   the answer of the test behind the limit
+--   limit-zero, consistent-refused, consistent-passed, consistent-kept   the answer of the test behind the limit
 --   held           a row of a store's shape that is within the limit is held by its numbers
 --   store-row      that shape, by the polynomials of the row
 use mathlib.Core.Path.{_≡_, refl, sym, _∙_, ap, subst}
@@ -93,6 +93,15 @@ pub consistent-passed : (r : Row) → refusalOf (limitCoefficients r) ≡ 0
     → consistent (limitCoefficients r) ≡ cond (contradicts r) (beyond 10) (within r)
 unfolding consistent
 consistent-passed r e = ap consistent (limit-zero r e)
+
+-- A row that contradicts nothing passes as it is.
+pub consistent-kept : (r : Row) → contradicts r ≡ false → consistent (limitCoefficients r) ≡ limitCoefficients r
+unfolding consistent limitCoefficients
+consistent-kept r e = go (smallRow r)
+  where
+    go : (t : Bool) → consistent (cond t (within r) (beyond 8)) ≡ cond t (within r) (beyond 8)
+    go true = ap (λ t. cond t (beyond 10) (within r)) e
+    go false = refl
 
 -- ---- rows within the limits
 

@@ -41,11 +41,14 @@ pub fn limited(entries: [i64; ENTRIES], right: [i64; COEFFICIENTS]) -> Worked
     Worked { refusal: 0, row }
 }
 
-// Behind that limit, a row whose left part alone is zero is refused with 10 (SCOPE 2.46).
+// Behind that limit, a row whose left part alone is zero is refused with 10 (SCOPE 2.46). Without a right side there is none.
 pub fn consistent(entries: [i64; ENTRIES], right: [i64; COEFFICIENTS]) -> Worked
     ensures { λ r. ⌜ r .refusal ≡ refusalOf (consistent (limitCoefficients (rowOf (entries ++ right)))) ⌝ }
     ensures { λ r. ⌜ r .row ≡ workedRow (consistent (limitCoefficients (rowOf (entries ++ right)))) ⌝ }
 {
+    if polynomials::content::is_zero(&right[..]) {
+        return limited(entries, right);
+    }
     let worked = limited(entries, right);
     let refusal = worked.refusal;
     if refusal != 0 {
@@ -53,9 +56,6 @@ pub fn consistent(entries: [i64; ENTRIES], right: [i64; COEFFICIENTS]) -> Worked
     }
     let row = worked.row;
     if 0 < row.width {
-        return worked;
-    }
-    if polynomials::content::is_zero(&right[..]) {
         return worked;
     }
     broken(10)

@@ -1,7 +1,7 @@
 -- `working_rows::limits::consistent` meets its contract. The left part is zero exactly if its width is 0.
 -- Assumes nothing.
 use mathlib.Core.Path.{_≡_, sym, _∙_, ap, ap₂, subst}
-use mathlib.Core.Bool.{Bool, true, false, not, _&&_, and-false, cond}
+use mathlib.Core.Bool.{Bool, true, false, not, _&&_, and-false, and-true, cond}
 use mathlib.Core.List.{List, _++_}
 use native.Mathlib.Omega.{arith}
 use borrow.Author.Needs.{needs}
@@ -14,12 +14,12 @@ use Rattle.rules.specs.Rows.{Row, contradicts, zeroLeft, width}
 use Rattle.rules.specs.Stores.{rowOf}
 use Rattle.rules.specs.Elimination.{within, beyond, limitCoefficients, consistent}
 use Rattle.working_rows.specs.Working.{left-held, right-held, width-held, width-zero}
-use Rattle.working_rows.specs.Worked.{Shown, refusalOf, workedRow, limit-zero, consistent-refused, consistent-passed}
+use Rattle.working_rows.specs.Worked.{Shown, refusalOf, workedRow, limit-zero, consistent-refused, consistent-passed, consistent-kept}
 use Rattle.working_rows.proofs.limits.consistent.Statement.{statement}
 use Rattle.working_rows.proofs.limits.consistent.Tie as tie
 
--- a row within the limit
-module _ (c : tie.Else1) where
+-- the row that is tested
+module _ (c : tie.After-is-zero) where
   abbrev entries : List ℤ
   entries = c .before .before .args .entries
 
@@ -35,41 +35,33 @@ module _ (c : tie.Else1) where
   abbrev r : Row
   r = rowOf (entries ++ right)
 
-  zero : refusalOf (limitCoefficients r) ≡ 0
-  zero = sym (c .before .limited .ensures .0) ∙ c .if1 .left
-
-  width-is : c .before .limited .result .row .width ≡ width r
-  unfolding workedRow
-  width-is =
-      ap (λ w. w .width) (c .before .limited .ensures .1 ∙ ap workedRow (limit-zero r zero))
-      ∙ ap (λ l. width (rowOf l)) (left-held entries right long) ∙ sym (width-held entries right long)
-
   contradicts-is : contradicts r ≡ (zeroLeft r && not (isZero right))
   unfolding contradicts
   contradicts-is = ap (λ q. zeroLeft r && not (isZero q)) (right-held entries right long right-long)
 
-  tested : (t : Bool) → contradicts r ≡ t → consistent (limitCoefficients r) ≡ cond t (beyond 10) (within r)
-  tested t e = consistent-passed r zero ∙ ap (λ t. cond t (beyond 10) (within r)) e
+-- a row within the limit
+module _ (c : tie.Else2) where
+  abbrev given : tie.After-is-zero
+  given = c .before .before .before
 
-  kept : contradicts r ≡ false → Shown (c .before .limited .result .refusal) (c .before .limited .result .row)
-      (consistent (limitCoefficients r))
-  kept e = subst (Shown _ _) (limit-zero r zero ∙ sym (tested false e)) (c .before .limited .ensures)
+  zero : refusalOf (limitCoefficients (r given)) ≡ 0
+  zero = sym (c .before .limited2 .ensures .0) ∙ c .if2 .left
 
-limited-requires : tie.Need-limited-requires
-limited-requires c κs = search needs
+  width-is : c .before .limited2 .result .row .width ≡ width (r given)
+  unfolding workedRow
+  width-is =
+      ap (λ w. w .width) (c .before .limited2 .ensures .1 ∙ ap workedRow (limit-zero (r given) zero))
+      ∙ ap (λ l. width (rowOf l)) (left-held (entries given) (right given) (long given))
+      ∙ sym (width-held (entries given) (right given) (long given))
 
-returns : tie.Need-returns
-returns c =
-    let args = c .before .before .args in
-    let shown = c .before .limited .ensures in
-    subst (Shown _ _)
-    (sym (consistent-refused (limitCoefficients (rowOf (args .entries ++ args .t2))) (λ e. c .if1 .taken (shown .0 ∙ e)))) shown
+  some : isZero (right given) ≡ false
+  some = sym (given .is-zero .ensures) ∙ c .before .before .if1 .left
 
-returns-2 : tie.Need-returns-2
-returns-2 c =
-    let d = c .before .before .before in
-    let some = sym (width-zero (r d)) ∙ ne-eqb (width (r d)) 0 (λ e. omega (arith, width-is d, e, c .if2 .taken)) in
-    kept d (contradicts-is d ∙ ap (λ t. t && not (isZero (right d))) some)
+  tested : (t : Bool) → zeroLeft (r given) ≡ t → consistent (limitCoefficients (r given)) ≡ cond t (beyond 10) (within (r given))
+  tested t e =
+      consistent-passed (r given) zero
+      ∙ ap (λ t. cond t (beyond 10) (within (r given)))
+      (contradicts-is given ∙ ap (λ u. zeroLeft (r given) && not u) some ∙ and-true (zeroLeft (r given)) ∙ e)
 
 slice-aggregate-is-zero : tie.Need-slice-aggregate-is-zero
 slice-aggregate-is-zero c = search needs
@@ -77,11 +69,31 @@ slice-aggregate-is-zero c = search needs
 is-zero-requires : tie.Need-is-zero-requires
 is-zero-requires c κs = search needs
 
+limited-requires : tie.Need-limited-requires
+limited-requires c κs = search needs
+
+returns : tie.Need-returns
+returns c =
+    let d = c .before .before in
+    let none = sym (d .is-zero .ensures) ∙ c .before .if1 .taken in
+    subst (Shown _ _)
+    (sym (consistent-kept (r d) (contradicts-is d ∙ ap (λ t. zeroLeft (r d) && not t) none ∙ and-false (zeroLeft (r d)))))
+    (c .limited .ensures)
+
+limited-requires-2 : tie.Need-limited-requires-2
+limited-requires-2 c κs = search needs
+
+returns-2 : tie.Need-returns-2
+returns-2 c =
+    let shown = c .before .limited2 .ensures in
+    subst (Shown _ _) (sym (consistent-refused (limitCoefficients (r (c .before .before .before))) (λ e. c .if2 .taken (shown .0 ∙ e)))) shown
+
 returns-3 : tie.Need-returns-3
 returns-3 c =
-    let d = c .before .before .before .before .before .before in
-    let none = sym (c .before .is-zero .ensures) ∙ c .if3 .taken in
-    kept d (contradicts-is d ∙ ap (λ t. zeroLeft (r d) && not t) none ∙ and-false (zeroLeft (r d)))
+    let d = c .before .before .before in
+    let row = r (given d) in
+    let wide = sym (width-zero row) ∙ ne-eqb (width row) 0 (λ e. omega (arith, width-is d, e, c .if3 .taken)) in
+    subst (Shown _ _) (limit-zero row (zero d) ∙ sym (tested d false wide)) (d .before .limited2 .ensures)
 
 broken-requires : tie.Need-broken-requires
 broken-requires c κs = search needs
@@ -89,23 +101,22 @@ broken-requires c κs = search needs
 returns-4 : tie.Need-returns-4
 unfolding refusalOf
 returns-4 c =
-    let zero-tested = c .before .before in
-    let narrow = zero-tested .before .before in
+    let narrow = c .before in
     let d = narrow .before .before .before in
-    let none : width (r d) ≡ 0 = omega (arith, width-is d, narrow .if2 .left) in
-    let left = sym (width-zero (r d)) ∙ eq-eqb (width (r d)) 0 none in
-    let some = sym (zero-tested .is-zero .ensures) ∙ c .before .if3 .left in
-    subst (Shown _ _) (sym (tested d true (contradicts-is d ∙ ap₂ (λ t u. t && not u) left some))) (c .broken .ensures)
+    let none : width (r (given d)) ≡ 0 = omega (arith, width-is d, narrow .if3 .left) in
+    let left = sym (width-zero (r (given d))) ∙ eq-eqb (width (r (given d))) 0 none in
+    subst (Shown _ _) (sym (tested d true left)) (c .broken .ensures)
 
 pub consistent-spec : {M : Type 1} → statement M
 consistent-spec =
     tie.close
     (tie.spec
-    limited-requires
-    returns
-    returns-2
     slice-aggregate-is-zero
     is-zero-requires
+    limited-requires
+    returns
+    limited-requires-2
+    returns-2
     returns-3
     broken-requires
     returns-4)
