@@ -99,12 +99,15 @@ stepped-added : {side : Side} {s v : State} → Triangular s → Stepped side s 
 unfolding putRow settle countShift All flatten
 stepped-added {side} {s} t (combined j before below nonzero clear meets few r e) =
     let g = multipliersFor s j .g in
-    let row = rowAt (exchanged s j) (current s) in
-    (rootRelations side g row, listed-relations side s j, record {
-      groups = rootRelations side g row ∷ [];
-      together = sym (append-nil (rootRelations side g row));
-      each = ((g, multipliersFor-nonzero s j t before below clear meets, row, refl), tt);
-    })
+    let row = rowAt (exchanged s j) (current s) in (
+      rootRelations side g row,
+      listed-relations side s j,
+      record {
+        groups = rootRelations side g row ∷ [];
+        together = sym (append-nil (rootRelations side g row));
+        each = ((g, multipliersFor-nonzero s j t before below clear meets, row, refl), tt);
+      },
+    )
 stepped-added {s} t (settled c below nonzero clear e) =
     ([], sym (append-nil (s .relations)), record { groups = []; together = refl; each = tt })
 stepped-added {s} t (shifted r below nonzero clear f e) =
@@ -116,32 +119,41 @@ unfolding All flatten
 chain-added {s} t here = ([], sym (append-nil (s .relations)), record { groups = []; together = refl; each = tt })
 chain-added {side} {s} t (next {u} c step) =
     let (first, e, a) = chain-added t c in
-    let (second, f, b) = stepped-added (triangular-chain c t) step in
-    (first ++ second, f ∙ ap (λ l. l ++ second) e ∙ append-assoc (s .relations) first second, record {
-      groups = a .groups ++ b .groups;
-      together = ap₂ _++_ (a .together) (b .together) ∙ sym (flatten-append (a .groups) (b .groups));
-      each = append-all _ (a .groups) (b .groups) (a .each) (b .each);
-    })
+    let (second, f, b) = stepped-added (triangular-chain c t) step in (
+      first ++ second,
+      f ∙ ap (λ l. l ++ second) e ∙ append-assoc (s .relations) first second,
+      record {
+        groups = a .groups ++ b .groups;
+        together = ap₂ _++_ (a .together) (b .together) ∙ sym (flatten-append (a .groups) (b .groups));
+        each = append-all _ (a .groups) (b .groups) (a .each) (b .each);
+      },
+    )
 
 pub leading-listed : {s v : State} {k : ℕ} → Triangular s → Chain leading s k v
     → (more : List Relation) × (v .relations ≡ s .relations ++ more) × Listed more
 leading-listed t c =
-    let (more, e, a) = chain-added t c in
-    (more, e, record {
-      groups = a .groups;
-      together = a .together;
-      each = all-mono _ OneMultiplier (λ l h. subst OneMultiplier (sym (h .3)) (leading-group (h .0) (h .1) (h .2))) (a .groups) (a .each);
-    })
+    let (more, e, a) = chain-added t c in (
+      more,
+      e,
+      record {
+        groups = a .groups;
+        together = a .together;
+        each = all-mono _ OneMultiplier (λ l h. subst OneMultiplier (sym (h .3)) (leading-group (h .0) (h .1) (h .2))) (a .groups) (a .each);
+      },
+    )
 
 -- The relations that the mirrored run adds, mirrored back.
 pub trailing-listed : (D : ℕ) {s v : State} {k : ℕ} → Triangular s → Chain trailing s k v
     → (more : List Relation) × (v .relations ≡ s .relations ++ more) × Listed (map (mirrorRelation D) more)
 trailing-listed D t c =
-    let (more, e, a) = chain-added t c in
-    (more, e, record {
-      groups = map (map (mirrorRelation D)) (a .groups);
-      together = ap (map (mirrorRelation D)) (a .together) ∙ sym (flatten-map (mirrorRelation D) (a .groups));
-      each = map-keeps _ OneMultiplier (map (mirrorRelation D))
-          (λ l h. subst (λ x. OneMultiplier (map (mirrorRelation D) x)) (sym (h .3)) (trailing-group (h .0) (h .1) (h .2) D))
-          (a .groups) (a .each);
-    })
+    let (more, e, a) = chain-added t c in (
+      more,
+      e,
+      record {
+        groups = map (map (mirrorRelation D)) (a .groups);
+        together = ap (map (mirrorRelation D)) (a .together) ∙ sym (flatten-map (mirrorRelation D) (a .groups));
+        each = map-keeps _ OneMultiplier (map (mirrorRelation D))
+            (λ l h. subst (λ x. OneMultiplier (map (mirrorRelation D) x)) (sym (h .3)) (trailing-group (h .0) (h .1) (h .2) D))
+            (a .groups) (a .each);
+      },
+    )

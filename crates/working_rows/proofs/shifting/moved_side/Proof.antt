@@ -27,7 +27,7 @@ returns-2 : tie.Need-returns-2
 returns-2 c =
     let right = now (c .before .before .args .right) in
     let zero : T (isZero (shift right)) =
-        subst T (sym (isZero-shift right ∙ sym (c .before .is-zero .ensures) ∙ not-false _ (c .if1 .left))) tt in
+    subst T (sym (isZero-shift right ∙ sym (c .before .is-zero .ensures) ∙ not-false _ (c .if1 .left))) tt in
     sym (zero-list (shift right) zero ∙ ap (λ n. replicate n (pos 0)) (length-shift right ∙ c .before .before .pre .1))
 
 pub moved-side-spec : {M : Type 1} → statement M
