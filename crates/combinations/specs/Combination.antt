@@ -12,6 +12,7 @@
 --   high-free, high-found       the test of the coefficients past power 15
 --   low-degrees, length-combinations, trimmed-high   the polynomials of a combination of rows, and which have a degree past 15
 --   length-low, trimmed-low, trimmed-zero   the numbers of the low parts: each part, and those that are zero
+--   trimmed-zero-low   where both parts are zero, the degree is not past 15
 --   combinations-apart, low-apart   the left parts and the right sides are combined apart
 --   trimmed-fit        what is trimmed stays within the limits
 --   cut-low            the low parts are the cut of the combination
@@ -412,12 +413,18 @@ module _ {k : ℕ} {g h : Polynomial} {t u : List ℤ} {e n : ℕ} {a p b q : Po
   trimmed-low = lowPart-same (add (mul a p) (mul b q)) (entryAt k g h t u e) trimmed-same ∙ sym (low-part k g h t u e (made .below))
 
   -- Where both parts are zero, so is the polynomial.
-  pub trimmed-zero : (isZero p && isZero q) ≡ true → T (isZero (coefficientsAt (lowNumbers k g h t u) e))
-  trimmed-zero z =
+  sum-zero : (isZero p && isZero q) ≡ true → T (isZero (add (mul a p) (mul b q)))
+  sum-zero z =
       let both = T-&& (isZero p) (isZero q) .0 (subst T (sym z) tt) in
-      subst (λ l. T (isZero l)) trimmed-low
-      (lowPart-zero (add (mul a p) (mul b q))
-      (isZero-add (mul a p) (mul b q) (isZero-mul-right a p (both .0)) (isZero-mul-right b q (both .1))))
+      isZero-add (mul a p) (mul b q) (isZero-mul-right a p (both .0)) (isZero-mul-right b q (both .1))
+
+  pub trimmed-zero : (isZero p && isZero q) ≡ true → T (isZero (coefficientsAt (lowNumbers k g h t u) e))
+  trimmed-zero z = subst (λ l. T (isZero l)) trimmed-low (lowPart-zero (add (mul a p) (mul b q)) (sum-zero z))
+
+  pub trimmed-zero-low : (isZero p && isZero q) ≡ true → isLow (getD (combinations k g h t u) e []) ≡ true
+  trimmed-zero-low z =
+      sym trimmed-high
+      ∙ true-of _ (high-zero (add (mul a p) (mul b q)) .1 (λ i h. isZero-coeff (add (mul a p) (mul b q)) (sum-zero z) i))
 
   pub trimmed-fit : (length g ≡ coefficientCount) × T (every small g) × (length h ≡ coefficientCount) × T (every small h)
       → T (every small t) × T (every small u)

@@ -3,7 +3,7 @@ use polynomials::lengths::COEFFICIENTS;
 use stores::lengths::ENTRIES;
 use working_rows::WorkingRow;
 ghost use mathlib.Core.Path.{_≡_};
-ghost use mathlib.Core.Bool.{not, _&&_};
+ghost use mathlib.Core.Bool.{false, not, _&&_};
 ghost use mathlib.Core.List.{_++_};
 ghost use Prim.Native.Nat.{_+_, _*_, _/_, _^_, _≤_, _<_, max};
 ghost use lib.Dec.{T};
@@ -82,38 +82,18 @@ fn put_combined(place: &mut [i64], g: &[i64], p: &[i64], h: &[i64], q: &[i64])
     }
 }
 
-// Has a combination of the polynomials of two lists of numbers a degree past 15?
-fn past_degree(g: &[i64], h: &[i64], target: &[i64], pivot: &[i64]) -> bool
-    requires { ⌜
-        (length (now g) ≡ coefficientCount) × T (every small (now g)) × (length (now h) ≡ coefficientCount) × T (every small (now h)) ⌝ }
-    requires { ⌜ (length (now target) ≡ length (now pivot)) × T (every small (now target)) × T (every small (now pivot)) ⌝ }
-    ensures { λ r. ⌜ r ≡ not (every isLow (combinations (length (now (target .entry)) / coefficientCount)
-        (now (g .entry)) (now (h .entry)) (now (target .entry)) (now (pivot .entry)))) ⌝ }
-{
-    let a = trimmed(g);
-    let b = trimmed(h);
-    let count = target.len() / COEFFICIENTS;
-    let mut e = 0;
-    while e < count {
-        let from = e * COEFFICIENTS;
-        let to = from + COEFFICIENTS;
-        if passes(a, trimmed(&target[from..to]), b, trimmed(&pivot[from..to])) {
-            return true;
-        }
-        e += 1;
-    }
-    false
-}
-
-// The low coefficients of the combinations, over zeros; nothing is done for polynomials that are zero in both.
-fn low_combination(place: &mut [i64], g: &[i64], h: &[i64], target: &[i64], pivot: &[i64])
+// The low coefficients of the combinations of the polynomials of two lists of numbers, over zeros, up to the first whose degree is past 15:
+// is there one? Nothing is done for polynomials that are zero in both.
+fn low_combination(place: &mut [i64], g: &[i64], h: &[i64], target: &[i64], pivot: &[i64]) -> bool
     requires { ⌜
         (length (now g) ≡ coefficientCount) × T (every small (now g)) × (length (now h) ≡ coefficientCount) × T (every small (now h)) ⌝ }
     requires { ⌜
         (length (now target) ≡ length (now target) / coefficientCount * coefficientCount) × (length (now target) ≡ length (now pivot))
         × T (every small (now target)) × T (every small (now pivot)) × (now place ≡ replicate (length (now target)) (pos 0)) ⌝ }
-    ensures { λ _. ⌜ now (place .exit) ≡ lowNumbers (length (now (target .entry)) / coefficientCount)
-        (now (g .entry)) (now (h .entry)) (now (target .entry)) (now (pivot .entry)) ⌝ }
+    ensures { λ r. ⌜ r ≡ not (every isLow (combinations (length (now (target .entry)) / coefficientCount)
+        (now (g .entry)) (now (h .entry)) (now (target .entry)) (now (pivot .entry)))) ⌝ }
+    ensures { λ r. ⌜ (r ≡ false → now (place .exit) ≡ lowNumbers (length (now (target .entry)) / coefficientCount)
+        (now (g .entry)) (now (h .entry)) (now (target .entry)) (now (pivot .entry))) ⌝ }
 {
     let a = trimmed(g);
     let b = trimmed(h);
@@ -125,10 +105,14 @@ fn low_combination(place: &mut [i64], g: &[i64], h: &[i64], target: &[i64], pivo
         let p = trimmed(&target[from..to]);
         let q = trimmed(&pivot[from..to]);
         if !both_zero(p, q) {
+            if passes(a, p, b, q) {
+                return true;
+            }
             put_combined(&mut place[from..to], a, p, b, q);
         }
         e += 1;
     }
+    false
 }
 
 // Divided by the largest number that divides all coefficients, those of the right side too; a zero row stays (SCOPE 2.42). The limits
@@ -173,17 +157,15 @@ pub fn combined(
 {
     let a = target.entries;
     let b = pivot.entries;
-    if past_degree(g, h, &a[..], &b[..]) {
+    let mut entries = [0i64; ENTRIES];
+    if low_combination(&mut entries, g, h, &a[..], &b[..]) {
         return working_rows::limits::broken(7);
     }
     let s = target.right;
     let t = pivot.right;
-    if past_degree(g, h, &s[..], &t[..]) {
+    let mut right = [0i64; COEFFICIENTS];
+    if low_combination(&mut right, g, h, &s[..], &t[..]) {
         return working_rows::limits::broken(7);
     }
-    let mut entries = [0i64; ENTRIES];
-    low_combination(&mut entries, g, h, &a[..], &b[..]);
-    let mut right = [0i64; COEFFICIENTS];
-    low_combination(&mut right, g, h, &s[..], &t[..]);
     primitive_part(entries, right)
 }

@@ -80,84 +80,50 @@ module _ (c : tie.Start) where
   fits t u s v k =
       numbers-below g h t u k (le-of-eq (c .pre .0 .0), le-of-eq (c .pre .0 .2), c .pre .0 .1, c .pre .0 .3, s, v)
 
--- the tests of the degrees
-module _ (c : tie.After-past-degree) where
+-- the left parts: their degrees, and their low parts where no degree is past 15
+module _ (c : tie.After-low-combination) where
   abbrev start : tie.Start
-  start = c .before .before .before .before .before
+  start = c .before .before .before .before .before .before
 
-  entries-tested : c .past-degree .result
+  entries-tested : c .low-combination .result
       ≡ not (every isLow (combinations polynomialCount (g start) (h start) (target start .entries) (pivot start .entries)))
   entries-tested =
-      c .past-degree .ensures
+      c .low-combination .ensures .0
       ∙ ap (λ n. not (every isLow (combinations (n / coefficientCount) (g start) (h start) (target start .entries) (pivot start .entries))))
       (full-target start .entries-long)
 
-module _ (c : tie.After-past-degree2) where
-  abbrev first : tie.After-past-degree
-  first = c .before .before .before .before .before .before
+  entries-are : c .low-combination .result ≡ false
+      → c .low-combination .last .0 ≡ lowNumbers polynomialCount (g start) (h start) (target start .entries) (pivot start .entries)
+  entries-are low =
+      c .low-combination .ensures .1 low
+      ∙ ap (λ n. lowNumbers (n / coefficientCount) (g start) (h start) (target start .entries) (pivot start .entries))
+      (full-target start .entries-long)
 
-  abbrev base : tie.Start
-  base = start first
+-- the right sides
+module _ (c : tie.After-low-combination2) where
+  abbrev left : tie.After-low-combination
+  left = c .before .before .before .before .before .before .before .before
 
-  right-tested : c .past-degree2 .result
-      ≡ not (every isLow (combinations 1 (g base) (h base) (target base .right) (pivot base .right)))
+  abbrev row : tie.Start
+  row = start left
+
+  passed : left .low-combination .result ≡ false
+  passed = c .before .before .before .before .before .before .if1 .left
+
+  entries-low : every isLow (combinations polynomialCount (g row) (h row) (target row .entries) (pivot row .entries)) ≡ true
+  entries-low = not-false _ (sym (entries-tested left) ∙ passed)
+
+  right-tested : c .low-combination2 .result ≡ not (every isLow (combinations 1 (g row) (h row) (target row .right) (pivot row .right)))
   right-tested =
-      c .past-degree2 .ensures
-      ∙ ap (λ n. not (every isLow (combinations (n / coefficientCount) (g base) (h base) (target base .right) (pivot base .right))))
-      (full-target base .right-long)
+      c .low-combination2 .ensures .0
+      ∙ ap (λ n. not (every isLow (combinations (n / coefficientCount) (g row) (h row) (target row .right) (pivot row .right))))
+      (full-target row .right-long)
 
-  entries-low : every isLow (combinations polynomialCount (g base) (h base) (target base .entries) (pivot base .entries)) ≡ true
-  entries-low = not-false _ (sym (entries-tested first) ∙ c .before .before .before .before .before .if1 .left)
-
-slice-aggregate-past-degree : tie.Need-slice-aggregate-past-degree
-slice-aggregate-past-degree c = search needs
-
-slice-aggregate-past-degree-2 : tie.Need-slice-aggregate-past-degree-2
-slice-aggregate-past-degree-2 c = search needs
-
-past-degree-requires : tie.Need-past-degree-requires
-past-degree-requires c κs =
-    let b = c .before .before .before .before in (
-      b .pre .0,
-      (full-target b .entries-long ∙ sym (full-pivot b .entries-long), small-target b .0, small-pivot b .0),
-    )
-
-broken-requires : tie.Need-broken-requires
-broken-requires c κs = search needs
-
-returns : tie.Need-returns
-unfolding refusalOf
-returns c =
-    let d = c .before .before in
-    let b = start d in
-    let failed : every isLow (combinations polynomialCount (g b) (h b) (target b .entries) (pivot b .entries)) ≡ false =
-    not-true _ (sym (entries-tested d) ∙ c .before .if1 .taken) in
-    let past = degrees b ∙ ap (λ t. t && every isLow (combinations 1 (g b) (h b) (target b .right) (pivot b .right))) failed in
-    subst (Shown _ _) (sym (limit-past (combination b) past)) (c .broken .ensures)
-
-slice-aggregate-past-degree-3 : tie.Need-slice-aggregate-past-degree-3
-slice-aggregate-past-degree-3 c = search needs
-
-slice-aggregate-past-degree-4 : tie.Need-slice-aggregate-past-degree-4
-slice-aggregate-past-degree-4 c = search needs
-
-past-degree-requires-2 : tie.Need-past-degree-requires-2
-past-degree-requires-2 c κs =
-    let b = start (c .before .before .before .before .before) in (
-      b .pre .0,
-      (full-target b .right-long ∙ sym (full-pivot b .right-long), small-target b .1, small-pivot b .1),
-    )
-
-broken-requires-2 : tie.Need-broken-requires-2
-broken-requires-2 c κs = search needs
-
-returns-2 : tie.Need-returns-2
-unfolding refusalOf
-returns-2 c =
-    let d = c .before .before in
-    let b = base d in
-    let failed = not-true _ (sym (right-tested d) ∙ c .before .if2 .taken) in
-    subst (Shown _ _) (sym (limit-past (combination b) (degrees b ∙ ap₂ _&&_ (entries-low d) failed))) (c .broken2 .ensures)
+  right-is : c .low-combination2 .result ≡ false
+      → c .low-combination2 .last .0 ≡ lowNumbers 1 (g row) (h row) (target row .right) (pivot row .right)
+  right-is low =
+      c .low-combination2 .ensures .1 low
+      ∙ ap (λ n. lowNumbers (n / coefficientCount) (g row) (h row) (target row .right) (pivot row .right)) (full-target row .right-long)
 
 slice-aggregate-low-combination : tie.Need-slice-aggregate-low-combination
 slice-aggregate-low-combination c = search needs
@@ -170,7 +136,7 @@ slice-aggregate-low-combination-3 c = search needs
 
 low-combination-requires : tie.Need-low-combination-requires
 low-combination-requires c κs =
-    let b = base (c .before .before .before .before) in (
+    let b = c .before .before .before .before .before in (
       b .pre .0,
       (
         omega (arith, full-target b .entries-long),
@@ -181,6 +147,19 @@ low-combination-requires c κs =
       ),
     )
 
+broken-requires : tie.Need-broken-requires
+broken-requires c κs = search needs
+
+returns : tie.Need-returns
+unfolding refusalOf
+returns c =
+    let d = c .before .before .before in
+    let b = start d in
+    let failed : every isLow (combinations polynomialCount (g b) (h b) (target b .entries) (pivot b .entries)) ≡ false =
+    not-true _ (sym (entries-tested d) ∙ c .before .if1 .taken) in
+    let past = degrees b ∙ ap (λ t. t && every isLow (combinations 1 (g b) (h b) (target b .right) (pivot b .right))) failed in
+    subst (Shown _ _) (sym (limit-past (combination b) past)) (c .broken .ensures)
+
 slice-aggregate-low-combination-4 : tie.Need-slice-aggregate-low-combination-4
 slice-aggregate-low-combination-4 c = search needs
 
@@ -190,36 +169,9 @@ slice-aggregate-low-combination-5 c = search needs
 slice-aggregate-low-combination-6 : tie.Need-slice-aggregate-low-combination-6
 slice-aggregate-low-combination-6 c = search needs
 
--- the low parts
-module _ (c : tie.After-low-combination) where
-  abbrev tested : tie.After-past-degree2
-  tested = c .before .before .before .before .before
-
-  abbrev origin : tie.Start
-  origin = base tested
-
-  entries-are : c .low-combination .last .0 ≡ lowNumbers polynomialCount (g origin) (h origin) (target origin .entries)
-      (pivot origin .entries)
-  entries-are =
-      c .low-combination .ensures
-      ∙ ap (λ n. lowNumbers (n / coefficientCount) (g origin) (h origin) (target origin .entries) (pivot origin .entries))
-      (full-target origin .entries-long)
-
-module _ (c : tie.After-low-combination2) where
-  abbrev left : tie.After-low-combination
-  left = c .before .before .before .before .before
-
-  abbrev row : tie.Start
-  row = origin left
-
-  right-is : c .low-combination2 .last .0 ≡ lowNumbers 1 (g row) (h row) (target row .right) (pivot row .right)
-  right-is =
-      c .low-combination2 .ensures
-      ∙ ap (λ n. lowNumbers (n / coefficientCount) (g row) (h row) (target row .right) (pivot row .right)) (full-target row .right-long)
-
 low-combination-requires-2 : tie.Need-low-combination-requires-2
 low-combination-requires-2 c κs =
-    let b = origin (c .before .before .before .before) in (
+    let b = start (c .before .before .before .before .before .before .before) in (
       b .pre .0,
       (
         omega (arith, full-target b .right-long),
@@ -230,29 +182,41 @@ low-combination-requires-2 c κs =
       ),
     )
 
+broken-requires-2 : tie.Need-broken-requires-2
+broken-requires-2 c κs = search needs
+
+returns-2 : tie.Need-returns-2
+unfolding refusalOf
+returns-2 c =
+    let d = c .before .before .before in
+    let b = row d in
+    let failed = not-true _ (sym (right-tested d) ∙ c .before .if2 .taken) in
+    subst (Shown _ _) (sym (limit-past (combination b) (degrees b ∙ ap₂ _&&_ (entries-low d) failed))) (c .broken2 .ensures)
+
 primitive-part-requires : tie.Need-primitive-part-requires
 primitive-part-requires c κs =
-    let d = c .before in
+    let d = c .before .before in
     let b = row d in (
-      subst (Below (2 ^ 63)) (sym (entries-are (left d))) (fits b (target b .entries) (pivot b .entries) (small-target b .0)
+      subst (Below (2 ^ 63)) (sym (entries-are (left d) (passed d))) (fits b (target b .entries) (pivot b .entries) (small-target b .0)
           (small-pivot b .0) polynomialCount),
-      subst (Below (2 ^ 63)) (sym (right-is d)) (fits b (target b .right) (pivot b .right) (small-target b .1) (small-pivot b .1) 1),
+      subst (Below (2 ^ 63)) (sym (right-is d (c .if2 .left))) (fits b (target b .right) (pivot b .right) (small-target b .1)
+          (small-pivot b .1) 1),
     )
 
 returns-3 : tie.Need-returns-3
 returns-3 c =
-    let d = c .before .before in
+    let d = c .before .before .before in
     let b = row d in
     let t = numbersHeld (target b) in
     let u = numbersHeld (pivot b) in
     let r = combination b in
-    let right-tests = tested (left d) in
-    let passed = not-false _ (sym (right-tested right-tests) ∙ left d .before .before .before .before .if2 .left) in
-    let low : lowDegrees r ≡ true = degrees b ∙ ap₂ _&&_ (entries-low right-tests) passed in
+    let right-passed = c .before .if2 .left in
+    let right-low = not-false _ (sym (right-tested d) ∙ right-passed) in
+    let low : lowDegrees r ≡ true = degrees b ∙ ap₂ _&&_ (entries-low d) right-low in
     let numbers = cut-low (g b) (h b) t u (some b) (long b)
     ∙ low-apart polynomialCount 1 (g b) (h b) (target b .entries) (target b .right) (pivot b .entries) (pivot b .right)
     (full-target b .entries-long) (full-pivot b .entries-long)
-    ∙ ap₂ _++_ (sym (entries-are (left d))) (sym (right-is d))
+    ∙ ap₂ _++_ (sym (entries-are (left d) (passed d))) (sym (right-is d right-passed))
     in
     let held = cut-primitive r (subst T (sym low) tt) ∙ ap primitiveNumbers numbers in
     let whole = ap rowOf (sym held) ∙ rowOf-coefficientsOf (cut (primitive r)) (StoreRow-primitive (g b) (h b) t u (some b) (long b)) in
@@ -263,23 +227,17 @@ pub combined-spec : {M : Type 1} → statement M
 combined-spec =
     tie.close
     (tie.spec
-    slice-aggregate-past-degree
-    slice-aggregate-past-degree-2
-    past-degree-requires
-    broken-requires
-    returns
-    slice-aggregate-past-degree-3
-    slice-aggregate-past-degree-4
-    past-degree-requires-2
-    broken-requires-2
-    returns-2
     slice-aggregate-low-combination
     slice-aggregate-low-combination-2
     slice-aggregate-low-combination-3
     low-combination-requires
+    broken-requires
+    returns
     slice-aggregate-low-combination-4
     slice-aggregate-low-combination-5
     slice-aggregate-low-combination-6
     low-combination-requires-2
+    broken-requires-2
+    returns-2
     primitive-part-requires
     returns-3)
