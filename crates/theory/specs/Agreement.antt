@@ -19,7 +19,7 @@ use Rattle.algebra.specs.Polynomials.{Polynomial, eval, isZero, mirror, isZero-
 use Rattle.rules.specs.Rows.{Row, noRow, entry, leadingBlock}
 use Rattle.lists.specs.Everywhere.{All, all-mono, all-getD}
 use Rattle.rules.specs.Elimination.{leading, trailing, State, rowAt, mirrorState, diagonalPlace, diagonal, report}
-use Rattle.rules.specs.Stores.{Sizes, equations, span, unusedZero, rowRight, Valid}
+use Rattle.rules.specs.Stores.{Sizes, span, unusedZero, rowRight}
 use Rattle.rules.specs.Sequences.{Sequence, SatisfiesEquation, Satisfies, Same}
 use Rattle.lists.specs.Tests.{every-all}
 use Rattle.theory.specs.Steps.{current}
@@ -27,7 +27,7 @@ use Rattle.theory.specs.Triangular.{Triangular}
 use Rattle.theory.specs.Pivots.{ColumnsBelow, column-below, order-complete}
 use Rattle.theory.specs.Cells.{entry-cell, unused-cells}
 use mathlib.Core.Logic.{inl}
-use Rattle.theory.specs.LimitsKept.{rowRight-iff}
+use Rattle.theory.specs.LimitsKept.{rowRight-iff, ValidRows}
 use Rattle.theory.specs.BackSubstitution.{TriangularRows, NonzeroAt, SameBetween, agreement}
 use Rattle.theory.specs.Report.{Past, NonzeroDiagonal, diagonalEntry, diagonal-member, nonzero-diagonal, past-report}
 use Rattle.theory.specs.Mirror.{Reaches, Spans, reflect, mirror-diagonal, mirror-span-sum, mirror-satisfies-back}
@@ -37,8 +37,8 @@ use Rattle.theory.specs.Mirror.{Reaches, Spans, reflect, mirror-diagonal
 unused-columns : (m D : ℕ) (r : Row) → T (unusedZero m D r) → ColumnsBelow m r
 unused-columns m D r u c h = subst (λ p. T (isZero p)) (sym (entry-cell r c)) (unused-cells m D r .0 u 0 c (inl h))
 
-module _ (z : Sizes) (s : State) (valid : Valid z (s .rows) (s .relations)) (triangular : Triangular s)
-    (settled : current s ≡ equations z) where
+module _ (z : Sizes) (s : State) (valid : ValidRows z (s .rows) (s .relations)) (triangular : Triangular s)
+    (settled : current s ≡ length (s .rows)) where
   unused-rows : All (λ r. T (unusedZero (z .m) (span z) r)) (s .rows)
   unused-rows =
       all-mono (λ r. T (rowRight z r)) (λ r. T (unusedZero (z .m) (span z) r))
@@ -48,19 +48,19 @@ module _ (z : Sizes) (s : State) (valid : Valid z (s .rows) (s .relations)) (tri
   narrow = all-mono (λ r. T (unusedZero (z .m) (span z) r)) (ColumnsBelow (z .m)) (unused-columns (z .m) (span z)) (s .rows) unused-rows
 
   -- The column of a settled row is one of the m columns.
-  pub settled-column : (j : ℕ) → j < equations z → getD (s .order) j 0 < z .m
+  pub settled-column : (j : ℕ) → j < length (s .rows) → getD (s .order) j 0 < z .m
   settled-column j h =
       column-below (z .m) (s .order) (s .rows) (triangular .fits) (triangular .pivots) narrow j (subst (λ n. j < n) (sym settled) h)
 
   -- With as many rows as columns every column is that of a row.
-  pub every-column : equations z ≡ z .m → (c : ℕ) → c < z .m → (j : ℕ) × (j < z .m) × (getD (s .order) j 0 ≡ c)
+  pub every-column : length (s .rows) ≡ z .m → (c : ℕ) → c < z .m → (j : ℕ) × (j < z .m) × (getD (s .order) j 0 ≡ c)
   every-column square = order-complete (z .m) (s .order) (s .rows) (triangular .fits) (triangular .pivots) narrow (settled ∙ square)
 
-  pub triangular-rows : equations z ≡ z .m → TriangularRows (z .m) (span z) (s .rows) (s .order)
+  pub triangular-rows : length (s .rows) ≡ z .m → TriangularRows (z .m) (span z) (s .rows) (s .order)
   unfolding rowAt
   triangular-rows square =
       record {
-        row-count = valid .row-count ∙ square;
+        row-count = square;
         column-below = λ j h. settled-column j (subst (λ n. j < n) (sym square) h);
         column-of = every-column square;
         zero-before = λ j k h b. triangular .pivots j (below j b) .zeros k h;
@@ -68,7 +68,7 @@ module _ (z : Sizes) (s : State) (valid : Valid z (s .rows) (s .relations)) (tri
       }
     where
       within : (j : ℕ) → j < z .m → j < length (s .rows)
-      within j h = subst (λ n. j < n) (sym (valid .row-count ∙ square)) h
+      within j h = subst (λ n. j < n) (sym square) h
 
       below : (j : ℕ) → j < z .m → j < current s
       below j h = subst (λ n. j < n) (sym (settled ∙ square)) h

@@ -4,7 +4,8 @@
 --   cell r i c                 the polynomial at block l - i and column c
 --   ZeroFrom n r               every cell of r from place n on is zero
 --   ZeroWhere r q              every cell that is zero in r is zero in q
---   totalWidth rows            the sum of the widths
+--   totalOf f rows             the sum of f over the rows
+--   totalWidth rows, shiftsOf r   the sum of the widths; the shifts that a row has before it
 --
 -- Main statements
 --   zeroBlock-all, zeroBlock-at, zeroBlock-past   a block is zero exactly if its polynomials are
@@ -15,7 +16,7 @@
 --   width-no-wider             a row that is zero wherever another is, is no wider
 --   width-moved                a row whose cells are those of another one block lower is one block wider
 --   zeroLeft-width, zeroRow-width, width-positive, cell-within   zero rows, nonzero rows and nonzero cells by the width
---   totalWidth-set, totalWidth-bound, totalWidth-rows   the total width with one row replaced, and its bounds
+--   totalOf-set, totalOf-bound   such a sum with one row replaced, and its bound
 --   unusedZero-iff, unused-cells, unused-kept   positions outside the system's blocks and columns by place
 --   width-unused, width-mirrorRow   unused blocks are zero, also after the mirror
 use Prim.Native.Nat.{ℕ, zero, suc, _+_, _*_, _-_, _≤_, _<_, zero-le}
@@ -229,40 +230,38 @@ cell-within r i c h = not-le (λ k. T-not (isZero (cell r i c)) h (width-le r i 
     not-le : ¬ (width r ≤ i) → i < width r
     not-le n = omega arith
 
--- ---- the total width of a list of rows
+-- ---- a number of each row, added up over a list of rows
 
-unfoldable pub totalWidth : List Row → ℕ
-totalWidth [] = 0
-totalWidth (r ∷ l) = width r + totalWidth l
+unfoldable pub totalOf : (Row → ℕ) → List Row → ℕ
+totalOf f [] = 0
+totalOf f (r ∷ l) = f r + totalOf f l
 
--- One row put in the place of another.
-pub totalWidth-set : (l : List Row) (i : ℕ) (r : Row) → i < length l
-    → totalWidth (set l i r) + width (getD l i noRow) ≡ totalWidth l + width r
-unfolding totalWidth
-totalWidth-set [] i r h = absurd (not-suc-le-zero h)
-totalWidth-set (q ∷ l) zero r h = omega arith
-totalWidth-set (q ∷ l) (suc i) r h = step (totalWidth-set l i r (suc-le-suc-iff .0 h))
-  where
-    step : totalWidth (set l i r) + width (getD l i noRow) ≡ totalWidth l + width r
-        → width q + totalWidth (set l i r) + width (getD l i noRow) ≡ width q + totalWidth l + width r
-    step e = omega arith
+abbrev pub totalWidth : List Row → ℕ
+totalWidth l = totalOf width l
 
-pub totalWidth-bound : (b : ℕ) (l : List Row) → All (λ r. width r ≤ b) l → totalWidth l ≤ length l * b
-unfolding totalWidth All
-totalWidth-bound b [] h = zero-le
-totalWidth-bound b (r ∷ l) h = step (width r) (h .0) (totalWidth-bound b l (h .1))
-  where
-    step : (w : ℕ) {t : ℕ} → w ≤ b → t ≤ length l * b → w + t ≤ suc (length l) * b
-    step w u v = rw (suc-mul (length l) b) (omega arith)
+-- A row of width w can be shifted up w - 1 times before a nonzero block stands first (SCOPE 2.65).
+abbrev pub shiftsOf : Row → ℕ
+shiftsOf r = width r - 1
 
--- Rows that are not zero have a block each.
-pub totalWidth-rows : (l : List Row) → All (λ r. 0 < width r) l → length l ≤ totalWidth l
-unfolding totalWidth All
-totalWidth-rows [] h = zero-le
-totalWidth-rows (r ∷ l) h = step (width r) (h .0) (totalWidth-rows l (h .1))
-  where
-    step : (w : ℕ) {n t : ℕ} → 0 < w → n ≤ t → suc n ≤ w + t
-    step w u v = omega arith
+module _ (f : Row → ℕ) where
+  -- One row put in the place of another.
+  pub totalOf-set : (l : List Row) (i : ℕ) (r : Row) → i < length l → totalOf f (set l i r) + f (getD l i noRow) ≡ totalOf f l + f r
+  unfolding totalOf
+  totalOf-set [] i r h = absurd (not-suc-le-zero h)
+  totalOf-set (q ∷ l) zero r h = omega arith
+  totalOf-set (q ∷ l) (suc i) r h = step (totalOf-set l i r (suc-le-suc-iff .0 h))
+    where
+      step : totalOf f (set l i r) + f (getD l i noRow) ≡ totalOf f l + f r
+          → f q + totalOf f (set l i r) + f (getD l i noRow) ≡ f q + totalOf f l + f r
+      step e = omega arith
+
+  pub totalOf-bound : (b : ℕ) (l : List Row) → All (λ r. f r ≤ b) l → totalOf f l ≤ length l * b
+  unfolding totalOf All
+  totalOf-bound b [] h = zero-le
+  totalOf-bound b (r ∷ l) h = step (f r) (h .0) (totalOf-bound b l (h .1))
+    where
+      step : (w : ℕ) {t : ℕ} → w ≤ b → t ≤ length l * b → w + t ≤ suc (length l) * b
+      step w u v = rw (suc-mul (length l) b) (omega arith)
 
 -- ---- the blocks and columns in use
 

@@ -13,14 +13,14 @@
 --   combine-dependent       the list is dependent exactly if it was
 --   combinedRow-zero        the row of rule 4 is zero where g × r + h × q is, which the next three ask of a new row
 --   combine-clears          two rows that are zero at c(1) to c(j - 1) make one that is zero at c(1) to c(j), where g b + h a = 0
---   combine-width           the total width does not rise where the other row is no wider
+--   combine-total           a sum over the rows that goes by their widths does not rise where the other row is no wider
 --   combine-unused          unused places stay zero
 --   combine-shaped, combinedRow-shaped   the shape
 -- The triangular form of the rows before it stays: `replace-pivots`.
 use mathlib.Core.Path.{_≡_, sym, _∙_, ap, ap₂, subst}
 use mathlib.Core.Logic.{_≢_, _↔_, _⊎_, inl, inr, ⊎-elim}
 use Prim.Native.Nat.{ℕ, suc, _+_, _≤_, _<_, max}
-use native.Mathlib.Nat.{suc-inj, ne-of-gt, le-refl}
+use native.Mathlib.Nat.{suc-inj, ne-of-gt, le-refl, le-trans}
 use native.Mathlib.Decide.{ℕ-discrete}
 use native.Mathlib.Omega.{arith}
 use mathlib.Core.Bool.{not}
@@ -42,7 +42,7 @@ use Rattle.lists.specs.Images.{length-zipWith, zipWith-place}
 use Rattle.rules.specs.Elimination.{Side, rootRelations}
 use Rattle.rules.specs.Stores.{Shaped, unusedZero}
 use Rattle.rules.specs.Sequences.{Sequence, blockValue, blocksValue, valueOf, SatisfiesEquation, SatisfiesRelation, Satisfies, Dependent, leftValue}
-use Rattle.theory.specs.Cells.{cell, ZeroWhere, width-le, width-no-wider, totalWidth, totalWidth-set, unused-cells, unused-kept}
+use Rattle.theory.specs.Cells.{cell, ZeroWhere, width-le, width-no-wider, totalOf, totalOf-set, unused-cells, unused-kept}
 use Rattle.theory.specs.Shapes.{BlockShaped, shaped-columns}
 use Rattle.theory.specs.Pivots.{PivotRow}
 use Rattle.theory.specs.CombinedValues.{combined-iff}
@@ -298,15 +298,18 @@ pub width-combine : (g h : Polynomial) (r q : Row) → width q ≤ width r → w
 width-combine g h r q narrow = width-le (combine g h r q) (width r) .1
     (λ i c k. combine-zero g h r q i c (width-le r (width r) .0 (le-refl (width r)) i c k) (width-le q (width r) .0 narrow i c k))
 
-pub combine-width : (rows : List Row) (g h : Polynomial) (i j : ℕ) (r′ : Row) → i < length rows
+-- So is the row that is zero wherever the combination is; and what is added up over the rows, and does not fall where a row
+-- gets wider, does not rise.
+pub combine-total : (f : Row → ℕ) → ((r q : Row) → width r ≤ width q → f r ≤ f q)
+    → (rows : List Row) (g h : Polynomial) (i j : ℕ) (r′ : Row) → i < length rows
     → ZeroWhere (combine g h (getD rows i noRow) (getD rows j noRow)) r′ → width (getD rows j noRow) ≤ width (getD rows i noRow)
-    → totalWidth (set rows i r′) ≤ totalWidth rows
-combine-width rows g h i j r′ below kept narrow =
+    → totalOf f (set rows i r′) ≤ totalOf f rows
+combine-total f rising rows g h i j r′ below kept narrow =
     omega (
       arith,
-      totalWidth-set rows i r′ below,
-      width-no-wider r′ (combine g h (getD rows i noRow) (getD rows j noRow)) kept,
-      width-combine g h (getD rows i noRow) (getD rows j noRow) narrow,
+      totalOf-set f rows i r′ below,
+      rising r′ (getD rows i noRow) (le-trans (width-no-wider r′ (combine g h (getD rows i noRow) (getD rows j noRow)) kept)
+          (width-combine g h (getD rows i noRow) (getD rows j noRow) narrow)),
     )
 
 -- ---- the shape, and the unused places

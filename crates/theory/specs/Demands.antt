@@ -16,35 +16,36 @@ use mathlib.Core.Logic.{_↔_, inl, inr}
 use mathlib.Core.Bool.{not}
 use mathlib.Core.List.{List, map, _++_, map-append}
 use mathlib.Core.Option.{none, some}
+use native.Mathlib.Omega.{arith}
 use lib.Dec.{T}
 use lib.ListN.{length}
 use lib.IntN.{ℤ, _+ℤ_}
 use lib.Signed.{_≤ℤ_, _<ℤ_}
 use Rattle.algebra.specs.Polynomials.{isZero}
-use Rattle.rules.specs.Rows.{Row, Relation, zeroRow, width, entry, firstNonzero, mirrorRelation, mirrorRow}
+use Rattle.rules.specs.Rows.{Row, Relation, zeroRow, width, mirrorRelation, mirrorRow}
 use Rattle.lists.specs.Everywhere.{All, all-mono}
-use Rattle.rules.specs.Elimination.{Side, leading, trailing, State, Outcome, going, done, refused, start, enough, step, workOn, meet, run}
+use Rattle.rules.specs.Elimination.{Side, leading, trailing, State, Outcome, going, done, refused, start, enough, step, run}
 use Rattle.rules.specs.Elimination.{wholeRun, leadingRun, trailingRun, mirrorState, diagonal, report, rowAt, putRow, limitDegrees, within}
 use Rattle.rules.specs.Stores.{Sizes, equations, span, rowRight, Valid}
 use Rattle.rules.specs.Sequences.{Sequence, Satisfies, Same, Dependent}
-use Rattle.lists.specs.Tests.{every-all, cond-passed}
+use Rattle.lists.specs.Tests.{every-all}
 use Rattle.theory.specs.Steps.{current, met, MetZeroBelow, combination, listed, Chain, Refusal, run-refused, step-refused}
+use Rattle.theory.specs.Steps.{zero-refused}
 use Rattle.theory.specs.Cells.{width-unused}
 use Rattle.theory.specs.Ending.{wholeRun-ends, wholeRun-shifts, mirrorOutcome-refused}
 use Rattle.theory.specs.Report.{Past, Rootless, FurthestRoot, report-none, report-some}
 use Rattle.theory.specs.Solutions.{run-solutions}
 use Rattle.theory.specs.ListedOrder.{Listed, leading-listed, trailing-listed}
 use Rattle.theory.specs.Triangular.{triangular-start, triangular-chain, combined-advances}
-use Rattle.theory.specs.Dependence.{chain-dependent, settled-independent, refused-dependent as run-dependent}
-use Rattle.theory.specs.LimitsKept.{rowRight-iff}
+use Rattle.theory.specs.Dependence.{settled-dropped, refused-dependent as run-dependent}
+use Rattle.theory.specs.LimitsKept.{rowRight-iff, ValidRows, valid-rows, counted-valid}
 use Rattle.theory.specs.Mirror.{span-sum, Reaches, Spans, valid-relations-span, mirrorRelations-twice}
 use Rattle.theory.specs.Agreement.{leading-agreement}
-use Rattle.theory.specs.Trailing.{valid-shapes, mirrored-sequences, diagonal-back, valid-back, independent-back, agrees-back}
+use Rattle.theory.specs.Trailing.{valid-shapes, mirrored-sequences, diagonal-back, valid-back, dropped-back, agrees-back}
 use Rattle.theory.specs.Trailing.{trailing-dependent, trailing-inconsistent}
 use Rattle.theory.specs.Inconsistency.{refused-unsatisfied}
-use Rattle.theory.specs.Settled.{as-many, settled-triangular, settled-rows, Diagonal, settled-leading, settled-trailing}
-use Rattle.theory.specs.Settled.{settled-diagonal}
-use Rattle.theory.specs.Settled.{settled-valid, nonzero-of-diagonal}
+use Rattle.theory.specs.Settled.{as-many, settled-count, settled-rows, Diagonal, settled-leading, settled-trailing}
+use Rattle.theory.specs.Settled.{settled-diagonal, settled-valid, nonzero-of-diagonal, accepted-rank}
 
 -- The run returns no refusal (SCOPE 2.111). Valid is exactly what the checks of a call let through.
 pub record Accepted (side : Side) (z : Sizes) (rows : List Row) (relations : List Relation) (s : State) : Type 0 where
@@ -61,30 +62,34 @@ sequences leading {z} {rows} {relations} v e y =
 sequences trailing {z} {rows} {relations} v e y =
     let m = settled-trailing v e in
     subst (λ x. Satisfies (z .l) rows relations y ↔ Satisfies (z .l) (x .rows) (x .relations) y) (m .back)
-    (mirrored-sequences v (m .settled) y)
+    (mirrored-sequences (valid-rows v) (m .settled) y)
 
 triangular : (side : Side) {z : Sizes} {rows : List Row} {relations : List Relation} {s : State} → Valid z rows relations
-    → wholeRun side (span z) rows relations ≡ done s → Diagonal side (equations z) (z .m) (span z) s
+    → wholeRun side (span z) rows relations ≡ done s → Diagonal side (current s) (z .m) (span z) s
+unfolding mirrorState
 triangular leading v e = settled-diagonal (settled-leading v e)
 triangular trailing {z} v e =
     let m = settled-trailing v e in
-    subst (Diagonal trailing (equations z) (z .m) (span z)) (m .back) (diagonal-back v (m .settled))
+    subst (λ x. Diagonal trailing (current x) (z .m) (span z) x) (m .back) (diagonal-back (valid-rows v) (m .settled))
 
-independent : (side : Side) {z : Sizes} {rows : List Row} {relations : List Relation} {s : State} → Valid z rows relations
-    → wholeRun side (span z) rows relations ≡ done s → Dependent (z .l) rows → ⊥
-unfolding start
-independent leading {z} {rows} {relations} v e d =
+-- Fewer rows are settled than there were exactly if those were dependent.
+fewer-rows : (side : Side) {z : Sizes} {rows : List Row} {relations : List Relation} {s : State} → Valid z rows relations
+    → wholeRun side (span z) rows relations ≡ done s → (current s < length rows) ↔ Dependent (z .l) rows
+unfolding start mirrorState
+fewer-rows leading {z} {rows} {relations} v e =
     let a = settled-leading v e in
-    settled-independent (z .l) _ (settled-triangular a) (a .all)
-    (chain-dependent (z .l) (valid-shapes v) (triangular-start rows relations) (a .chain) .0 d)
-independent trailing v e d = independent-back v (settled-trailing v e .settled) d
+    subst (λ n. (n < length rows) ↔ Dependent (z .l) rows) (sym (settled-count a))
+    (settled-dropped (z .l) (valid-shapes (valid-rows v)) (triangular-start rows relations) (a .chain) (a .all))
+fewer-rows trailing {z} {rows} v e =
+    let m = settled-trailing v e in
+    subst (λ x. (current x < length rows) ↔ Dependent (z .l) rows) (m .back) (dropped-back (valid-rows v) (m .settled))
 
 valid-output : (side : Side) {z : Sizes} {rows : List Row} {relations : List Relation} {s : State} → Valid z rows relations
-    → wholeRun side (span z) rows relations ≡ done s → Valid z (s .rows) (s .relations)
+    → wholeRun side (span z) rows relations ≡ done s → ValidRows z (s .rows) (s .relations)
 valid-output leading v e = settled-valid (settled-leading v e)
 valid-output trailing {z} v e =
     let m = settled-trailing v e in
-    subst (λ x. Valid z (x .rows) (x .relations)) (m .back) (valid-back v (m .settled))
+    subst (λ x. ValidRows z (x .rows) (x .relations)) (m .back) (valid-back (valid-rows v) (m .settled))
 
 -- The input's relations stay first, and what the run lists is behind them, mirrored back on the trailing side.
 listed-behind : (side : Side) {z : Sizes} {rows : List Row} {relations : List Relation} {s : State} → Valid z rows relations
@@ -100,7 +105,7 @@ listed-behind trailing {z} {rows} {relations} {s} v e =
     reach : All (λ x. Reaches (span z) (x .row)) relations
     reach =
         all-mono (λ x. Spans (span z) (x .row)) (λ x. Reaches (span z) (x .row)) (λ x h. h .reaches) relations
-        (valid-relations-span z rows relations v)
+        (valid-relations-span z rows relations (valid-rows v))
 
     turned : (u : State) (more : List Relation) → u .relations ≡ map (mirrorRelation (span z)) relations ++ more
         → mirrorState (span z) u .relations ≡ relations ++ map (mirrorRelation (span z)) more
@@ -122,11 +127,13 @@ module _ {side : Side} {z : Sizes} {rows : List Row} {relations : List Relation}
 
   -- 2. The output is triangular, and no diagonal polynomial is zero (SCOPE 2.71, 2.73, 2.115).
   pub diagonal-nonzero : Diagonal side (equations z) (z .m) (span z) s
-  diagonal-nonzero = triangular side (a .valid) (a .accepts)
+  diagonal-nonzero =
+      subst (λ e. Diagonal side e (z .m) (span z) s) (accepted-rank side (a .valid) (a .accepts)) (triangular side (a .valid) (a .accepts))
 
   -- 4. An accepted system is not dependent (SCOPE 2.118).
   pub accepted-independent : Dependent (z .l) rows → ⊥
-  accepted-independent d = independent side (a .valid) (a .accepts) d
+  accepted-independent d =
+      absurd (omega (arith, fewer-rows side (a .valid) (a .accepts) .1 d, accepted-rank side (a .valid) (a .accepts), a .valid .row-count))
 
   -- 6. An accepted run has made no more than D shifts for each equation (SCOPE 2.65).
   pub shifts-bounded : s .shifts ≤ equations z * span z
@@ -145,7 +152,7 @@ module _ {side : Side} {z : Sizes} {rows : List Row} {relations : List Relation}
   -- 8. Every coefficient and every n0 of the output lies within ±C, every degree is at most 15, unused positions stay
   -- zero (SCOPE 9.27).
   pub output-valid : Valid z (s .rows) (s .relations)
-  output-valid = valid-output side (a .valid) (a .accepts)
+  output-valid = counted-valid (valid-output side (a .valid) (a .accepts)) (diagonal-nonzero .row-count)
 
   -- The input's relations stay first (SCOPE 2.3). Behind them the relations that one multiplier adds stand together, by strictly
   -- ascending n0 as given back (SCOPE 2.33).
@@ -162,8 +169,9 @@ pub agreement-leading : {z : Sizes} {rows : List Row} {relations : List Relation
 unfolding Satisfies
 agreement-leading {z} {s = s} a y w hy hw =
     let b = settled-leading (a .valid) (a .accepts) in
-    leading-agreement (z .m) (span z) s (settled-rows b (as-many z)) (settled-diagonal b .order-count ∙ as-many z)
-    (nonzero-of-diagonal leading (equations z) (z .m) (span z) s (settled-diagonal b))
+    let square : current s ≡ z .m = accepted-rank leading (a .valid) (a .accepts) ∙ as-many z in
+    leading-agreement (z .m) (span z) s (settled-rows b square) square
+    (nonzero-of-diagonal leading (current s) (z .m) (span z) s (settled-diagonal b))
     (z .l) (z .t) (span-sum z (a .valid .sizes)) y w (same-sequences a y .0 hy .0) (same-sequences a w .0 hw .0)
 
 -- Trailing side: where n lies below the reported root, or anywhere with "no", such sequences that are equal at the D
@@ -173,25 +181,29 @@ pub agreement-trailing : {z : Sizes} {rows : List Row} {relations : List Relatio
     → (n : ℤ) → Past trailing (report trailing (span z) s) n
     → ((i : ℤ) → (n +ℤ z .t) <ℤ i → i ≤ℤ (n +ℤ z .l) → Same (z .m) y w i)
     → (i : ℤ) → i ≤ℤ (n +ℤ z .l) → Same (z .m) y w i
+unfolding mirrorState
 agreement-trailing {z} a y w hy hw n past =
     let m = settled-trailing (a .valid) (a .accepts) in
-    agrees-back (a .valid) (m .settled) y w hy hw n (subst (λ x. Past trailing (report trailing (span z) x) n) (sym (m .back)) past)
+    agrees-back (valid-rows (a .valid)) (m .settled)
+    (ap (λ x. current x) (m .back) ∙ accepted-rank trailing (a .valid) (a .accepts) ∙ as-many z) y w hy hw n
+    (subst (λ x. Past trailing (report trailing (span z) x) n) (sym (m .back)) past)
 
 -- 5. A system that is refused with 6 is dependent (SCOPE 2.119).
 pub refused-dependent : (side : Side) {z : Sizes} {rows : List Row} {relations : List Relation} → Valid z rows relations
     → wholeRun side (span z) rows relations ≡ refused 6 → Dependent (z .l) rows
 unfolding wholeRun leadingRun start
 refused-dependent leading {z} {rows} {relations} v e =
-    run-dependent (z .l) leading (enough rows) (start rows relations) (valid-shapes v) (triangular-start rows relations) e
-refused-dependent trailing v e = trailing-dependent v e
+    run-dependent (z .l) leading (enough rows) (start rows relations) (valid-shapes (valid-rows v)) (triangular-start rows relations) e
+refused-dependent trailing v e = trailing-dependent (valid-rows v) e
 
 -- A system that is refused with 10 is satisfied by no sequence at all (SCOPE 2.121).
 pub refused-inconsistent : (side : Side) {z : Sizes} {rows : List Row} {relations : List Relation} → Valid z rows relations
     → wholeRun side (span z) rows relations ≡ refused 10 → (y : Sequence) → Satisfies (z .l) rows relations y → ⊥
 unfolding wholeRun leadingRun start
 refused-inconsistent leading {z} {rows} {relations} v e y =
-    refused-unsatisfied (z .l) leading (enough rows) (start rows relations) (valid-shapes v) (triangular-start rows relations) y e
-refused-inconsistent trailing v e y = trailing-inconsistent v e y
+    refused-unsatisfied (z .l) leading (enough rows) (start rows relations) (valid-shapes (valid-rows v))
+    (triangular-start rows relations) y e
+refused-inconsistent trailing v e y = trailing-inconsistent (valid-rows v) e y
 
 -- 6. Every run on a valid system ends in an acceptance or in one of the refusals 6 to 10 (SCOPE 9.26).
 pub data Ended : Outcome → Type 0 where
@@ -243,6 +255,4 @@ next-row-later {side} rows relations {s = s} c j below more clear meets =
 -- The row that a combination has made zero is refused by the next step (SCOPE 2.45).
 pub zero-row-refused : (side : Side) (s : State) → current s < length (s .rows) → T (zeroRow (rowAt s (current s))) → step side s
     ≡ refused 6
-unfolding step workOn
-zero-row-refused side s below zeros =
-    cond-passed (zeroRow (rowAt s (current s))) (refused 6) _ zeros
+zero-row-refused = zero-refused

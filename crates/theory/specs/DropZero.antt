@@ -9,14 +9,16 @@
 --   zero-row-dependent      a list with a zero row is dependent
 --   kept-dependent          if the rows kept are dependent, so was the list, whatever row is dropped
 --   drop-pivots             the triangular form of the rows before it stays; a zero row is none of them (`pivot-nonzero`)
---   totalWidth-without, drop-width   the total width without a row, and without a zero row
+--   totalOf-without          a sum over the rows without one row
+--   drop-width, drop-shifts  the total width, and the shifts before the rows, without a zero row
 -- The converse of kept-dependent does not hold: a list with a zero row is dependent, and the rows kept may be independent.
 use Prim.Native.Nat.{ℕ, zero, suc, _+_, _-_, _≤_, _<_}
-use mathlib.Core.Path.{_≡_, refl, sym, _∙_, ap, ap₂, subst}
+use mathlib.Core.Path.{_≡_, sym, _∙_, ap, ap₂, subst}
 use mathlib.Core.Logic.{_≢_, _↔_, ite, if-pos, if-neg, by-cases}
 use mathlib.Core.Bool.{not}
 use mathlib.Core.List.{List, [], _∷_}
 use native.Mathlib.Decide.{ℕ-discrete, decLt}
+use native.Mathlib.Nat.{not-suc-le-zero, le-of-suc-le-suc}
 use native.Mathlib.Omega.{arith}
 use lib.Dec.{T}
 use lib.ListN.{length, getD}
@@ -27,7 +29,7 @@ use Rattle.algebra.specs.Polynomials.{eval, isZero}
 use Rattle.rules.specs.Rows.{Row, Relation, noRow, zeroRow, width}
 use Rattle.lists.specs.Places.{without, length-without, getD-without-before, getD-without-after, all-without, all-of-without}
 use Rattle.rules.specs.Sequences.{Sequence, valueOf, SatisfiesEquation, Satisfies, Dependent}
-use Rattle.theory.specs.Cells.{zeroRow-width, totalWidth}
+use Rattle.theory.specs.Cells.{zeroRow-width, totalOf, totalWidth, shiftsOf}
 use Rattle.theory.specs.Values.{value-zero}
 use Rattle.theory.specs.Pivots.{PivotRow, PivotRows}
 use Rattle.theory.specs.Combinations.{put, put-same, put-other, eval-nil, number-nonzero, sumWithin-congr, sumWithin-zeros, Values}
@@ -67,18 +69,24 @@ drop-satisfied l z rows relations i zeros = (
 
 -- ---- the widths
 
-pub totalWidth-without : (rows : List Row) (i : ℕ) → totalWidth (without rows i) + width (getD rows i noRow) ≡ totalWidth rows
-unfolding totalWidth without width
-totalWidth-without [] i = refl
-totalWidth-without (r ∷ rows) zero = omega arith
-totalWidth-without (r ∷ rows) (suc i) = step (totalWidth-without rows i)
+pub totalOf-without : (f : Row → ℕ) (rows : List Row) (i : ℕ) → i < length rows
+    → totalOf f (without rows i) + f (getD rows i noRow) ≡ totalOf f rows
+unfolding totalOf without
+totalOf-without f [] i h = absurd (not-suc-le-zero h)
+totalOf-without f (r ∷ rows) zero h = omega arith
+totalOf-without f (r ∷ rows) (suc i) h = step (totalOf-without f rows i (le-of-suc-le-suc h))
   where
-    step : totalWidth (without rows i) + width (getD rows i noRow) ≡ totalWidth rows
-        → width r + totalWidth (without rows i) + width (getD rows i noRow) ≡ width r + totalWidth rows
+    step : totalOf f (without rows i) + f (getD rows i noRow) ≡ totalOf f rows
+        → f r + totalOf f (without rows i) + f (getD rows i noRow) ≡ f r + totalOf f rows
     step e = omega arith
 
-pub drop-width : (rows : List Row) (i : ℕ) → T (zeroRow (getD rows i noRow)) → totalWidth (without rows i) ≡ totalWidth rows
-drop-width rows i zeros = omega (arith, totalWidth-without rows i, zeroRow-width (getD rows i noRow) zeros)
+pub drop-width : (rows : List Row) (i : ℕ) → i < length rows → T (zeroRow (getD rows i noRow))
+    → totalWidth (without rows i) ≡ totalWidth rows
+drop-width rows i below zeros = omega (arith, totalOf-without width rows i below, zeroRow-width (getD rows i noRow) zeros)
+
+pub drop-shifts : (rows : List Row) (i : ℕ) → i < length rows → T (zeroRow (getD rows i noRow))
+    → totalOf shiftsOf (without rows i) ≡ totalOf shiftsOf rows
+drop-shifts rows i below zeros = omega (arith, totalOf-without shiftsOf rows i below, zeroRow-width (getD rows i noRow) zeros)
 
 -- ---- dependence
 

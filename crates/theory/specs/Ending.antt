@@ -1,62 +1,70 @@
--- Every run ends: the fuel suffices, and an accepted run makes at most m × D shifts (SCOPE 9.26).
+-- Every run ends: the fuel suffices, and a run makes at most D shifts for each row (SCOPE 9.26).
 --
 -- Main definitions
 --   measure s z           falls at each step, z being a number of settled rows that the current row is known not to meet
 --
 -- Main statements
---   stepped-width         the shifts made and the total width together never rise
+--   stepped-shifts, chain-shifts     the shifts made and those that the rows have before them together never rise
 --   stepped-measure, chain-measure   the measure falls at each step, so it bounds the number of steps
 --   run-ends, enough-ends, wholeRun-ends   a run with enough fuel is not still going at its end
---   shift-bound, wholeRun-shifts           an accepted run has made no more than m × D shifts (SCOPE 2.65)
+--   shift-bound, wholeRun-shifts     a run has made no more than D shifts for each row that it began with (SCOPE 2.65)
 use Prim.Native.Nat.{ℕ, suc, _+_, _*_, _-_, _≤_, _<_}
 use mathlib.Core.Path.{_≡_, refl, sym, _∙_, ap, ap₂, subst}
 use mathlib.Core.Logic.{_≢_}
 use mathlib.Core.Bool.{not}
 use mathlib.Core.List.{List, [], _∷_, _++_, map}
-use native.Mathlib.Nat.{not-suc-le-zero, zero-add, le-of-eq, le-refl, le-trans, mul-suc, mul-le-mul-left}
+use mathlib.Core.Option.{none}
+use native.Mathlib.Nat.{not-suc-le-zero, zero-add, le-of-eq, le-refl, le-trans, mul-suc, suc-mul, mul-le-mul-left}
 use native.Mathlib.Numerals.{add-one}
 use native.Mathlib.Omega.{arith}
 use lib.Dec.{T, T-not}
 use lib.ListN.{length, getD, set, length-append, length-set, length-map}
 use Rattle.algebra.specs.Polynomials.{isZero}
 use Rattle.rules.specs.Limits.{blockCount, columnCount, coefficientCount}
-use Rattle.rules.specs.Rows.{Row, Relation, noRow, zeroRow, width, shiftUp, mirrorRow, mirrorRelation, zeroLeft}
-use Rattle.lists.specs.Everywhere.{All, all-mono, map-all, getD-all}
+use Rattle.rules.specs.Rows.{Row, Relation, noRow, zeroRow, width, leadingBlock, firstNonzero, shiftUp, mirrorRow, mirrorRelation, zeroLeft}
+use Rattle.lists.specs.Everywhere.{All, all-mono, map-all}
 use Rattle.rules.specs.Elimination.{Side, leading, trailing, State, start, Outcome, going, done, refused, within, limitDegrees}
 use Rattle.rules.specs.Elimination.{limitCoefficients, rowAt, putRow, listRelations, settle, countShift, exchange, narrowFirst, run, enough}
 use Rattle.rules.specs.Elimination.{leadingRun, mirrorState, mirrorOutcome, trailingRun, wholeRun}
 use Rattle.rules.specs.Stores.{Shaped, StoreRow}
 use Rattle.theory.specs.Shapes.{mirrorRow-shaped}
 use Rattle.theory.specs.Steps.{current, met, MetZeroBelow, exchanged, listed, combination, multipliersFor, Stepped, combined, settled}
+use Rattle.theory.specs.Steps.{dropped, dropRow, length-dropRow, combined-length, firstNonzero-none}
 use Rattle.theory.specs.Steps.{shifted, Chain, here, next, Narrowed, narrowed, kept, swapped, narrowFirst-width, length-narrowFirst}
-use Rattle.theory.specs.Steps.{shifts-narrowFirst, listed-order, stepped-length, run-going, run-done, going≢done, going≢refused}
-use Rattle.theory.specs.Steps.{done≢refused, done-injective, chain-length, limitCoefficients-within}
-use Rattle.theory.specs.Cells.{totalWidth, totalWidth-bound, totalWidth-rows, width-positive, width-le-length, width-mirrorRow}
-use Rattle.theory.specs.Pivots.{pivot-width}
-use Rattle.theory.specs.Exchange.{exchange-width}
-use Rattle.theory.specs.Combine.{combine-width}
-use Rattle.theory.specs.ShiftUp.{shiftUp-width}
+use Rattle.theory.specs.Steps.{shifts-narrowFirst, listed-order, run-going, run-done, going≢done, going≢refused}
+use Rattle.theory.specs.Steps.{done≢refused, done-injective, limitCoefficients-within}
+use Rattle.theory.specs.Cells.{totalOf, totalOf-bound, totalWidth, shiftsOf, zeroBlock-all, width-positive, width-le-length}
+use Rattle.theory.specs.Cells.{width-mirrorRow}
+use Rattle.theory.specs.Exchange.{exchange-total}
+use Rattle.theory.specs.Combine.{combine-total}
+use Rattle.theory.specs.ShiftUp.{shiftUp-width, shiftUp-shifts}
+use Rattle.theory.specs.DropZero.{drop-width, drop-shifts}
 use Rattle.theory.specs.Triangular.{combined-zero, Triangular, triangular-start, triangular-chain, combined-advances}
 
--- ---- the total width after a step
+-- ---- the total width after a step, and the shifts that the rows have before them
 
-totalWidth-narrowFirst : (s : State) (i j : ℕ) → i < length (s .rows) → j < length (s .rows)
-    → totalWidth (narrowFirst s i j .rows) ≡ totalWidth (s .rows)
+totalOf-narrowFirst : (f : Row → ℕ) (s : State) (i j : ℕ) → i < length (s .rows) → j < length (s .rows)
+    → totalOf f (narrowFirst s i j .rows) ≡ totalOf f (s .rows)
 unfolding exchange putRow rowAt
-totalWidth-narrowFirst s i j below-i below-j = go (narrowed s i j)
+totalOf-narrowFirst f s i j below-i below-j = go (narrowed s i j)
   where
-    go : {e : State} → Narrowed s i j e → totalWidth (e .rows) ≡ totalWidth (s .rows)
+    go : {e : State} → Narrowed s i j e → totalOf f (e .rows) ≡ totalOf f (s .rows)
     go (kept w) = refl
-    go (swapped w) = exchange-width (s .rows) i j below-i below-j
+    go (swapped w) = exchange-total (s .rows) i j f below-i below-j
 
 -- A combination makes no row wider.
-combined-total : (side : Side) (s : State) (j : ℕ) (r : Row) → j < current s → current s < length (s .rows)
-    → limitDegrees (combination s j) ≡ within r → totalWidth (putRow (listed side s j) (current s) r .rows) ≤ totalWidth (s .rows)
+combined-total : (f : Row → ℕ) → ((r q : Row) → width r ≤ width q → f r ≤ f q) → (side : Side) (s : State) (j : ℕ) (r : Row)
+    → j < current s → current s < length (s .rows) → limitDegrees (combination s j) ≡ within r
+    → totalOf f (putRow (listed side s j) (current s) r .rows) ≤ totalOf f (s .rows)
 unfolding putRow listRelations rowAt
-combined-total side s j r below more e =
-    le-trans (combine-width (exchanged s j .rows) (multipliersFor s j .g) (multipliersFor s j .h) (current s) j r
+combined-total f rising side s j r below more e =
+    le-trans (combine-total f rising (exchanged s j .rows) (multipliersFor s j .g) (multipliersFor s j .h) (current s) j r
     (omega (arith, length-narrowFirst s (current s) j)) (combined-zero s j r e) (narrowFirst-width s (current s) j more (omega arith)))
-    (le-of-eq (totalWidth-narrowFirst s (current s) j more (omega arith)))
+    (le-of-eq (totalOf-narrowFirst f s (current s) j more (omega arith)))
+
+combined-width : (side : Side) (s : State) (j : ℕ) (r : Row) → j < current s → current s < length (s .rows)
+    → limitDegrees (combination s j) ≡ within r → totalWidth (putRow (listed side s j) (current s) r .rows) ≤ totalWidth (s .rows)
+combined-width = combined-total width (λ r q h. h)
 
 -- A shift makes its row one block narrower.
 shifted-total : (s : State) (r : Row) → current s < length (s .rows) → T (not (zeroLeft (rowAt s (current s))))
@@ -66,6 +74,35 @@ unfolding putRow countShift rowAt
 shifted-total s r more nonzero e =
     sym (shiftUp-width (s .rows) (current s) more (width-positive (rowAt s (current s)) nonzero)
     ∙ ap (λ q. suc (totalWidth (set (s .rows) (current s) q))) (sym (limitCoefficients-within (shiftUp (rowAt s (current s))) r e .1)))
+
+-- And has one shift fewer before it, since its leading block is zero.
+shifted-left : (s : State) (r : Row) → current s < length (s .rows) → T (not (zeroLeft (rowAt s (current s))))
+    → firstNonzero (leadingBlock (rowAt s (current s))) ≡ none → limitCoefficients (shiftUp (rowAt s (current s))) ≡ within r
+    → suc (totalOf shiftsOf (putRow (countShift s) (current s) r .rows)) ≡ totalOf shiftsOf (s .rows)
+unfolding putRow countShift rowAt
+shifted-left s r more nonzero f e =
+    sym (shiftUp-shifts (s .rows) (current s) more (width-positive (rowAt s (current s)) nonzero)
+    (zeroBlock-all (leadingBlock (rowAt s (current s))) (firstNonzero-none (leadingBlock (rowAt s (current s))) f))
+    ∙ ap (λ q. suc (totalOf shiftsOf (set (s .rows) (current s) q)))
+    (sym (limitCoefficients-within (shiftUp (rowAt s (current s))) r e .1)))
+
+dropped-width : (s : State) → current s < length (s .rows) → T (zeroRow (rowAt s (current s)))
+    → totalWidth (dropRow s (current s) .rows) ≡ totalWidth (s .rows)
+unfolding dropRow rowAt
+dropped-width s more zeros = drop-width (s .rows) (current s) more zeros
+
+dropped-left : (s : State) → current s < length (s .rows) → T (zeroRow (rowAt s (current s)))
+    → totalOf shiftsOf (dropRow s (current s) .rows) ≡ totalOf shiftsOf (s .rows)
+unfolding dropRow rowAt
+dropped-left s more zeros = drop-shifts (s .rows) (current s) more zeros
+
+dropped-current : (s : State) → current (dropRow s (current s)) ≡ current s
+unfolding dropRow
+dropped-current s = refl
+
+dropped-shifts : (s : State) → dropRow s (current s) .shifts ≡ s .shifts
+unfolding dropRow
+dropped-shifts s = refl
 
 combined-shifts : (side : Side) (s : State) (j : ℕ) (r : Row) → putRow (listed side s j) (current s) r .shifts ≡ s .shifts
 unfolding putRow listRelations
@@ -79,17 +116,20 @@ shifted-shifts : (s : State) (r : Row) → putRow (countShift s) (current s) r .
 unfolding putRow countShift
 shifted-shifts s r = refl
 
-pub stepped-width : {side : Side} {s s' : State} → Stepped side s s' → s' .shifts + totalWidth (s' .rows) ≤ s .shifts + totalWidth (s .rows)
+-- The shifts made and those before the rows together never rise.
+pub stepped-shifts : {side : Side} {s s' : State} → Stepped side s s'
+    → s' .shifts + totalOf shiftsOf (s' .rows) ≤ s .shifts + totalOf shiftsOf (s .rows)
 unfolding settle
-stepped-width {side} {s} (combined j below more nonzero clear meets few r e) =
-    omega (arith, combined-shifts side s j r, combined-total side s j r below more e)
-stepped-width {s} (settled c more nonzero clear e) = le-refl (s .shifts + totalWidth (s .rows))
-stepped-width {s} (shifted r more nonzero clear f e) = omega (arith, shifted-shifts s r, shifted-total s r more nonzero e)
+stepped-shifts {side} {s} (combined j below more nonzero clear meets few r e) =
+    omega (arith, combined-shifts side s j r, combined-total shiftsOf (λ r q h. omega arith) side s j r below more e)
+stepped-shifts {s} (settled c more nonzero clear e) = le-refl (s .shifts + totalOf shiftsOf (s .rows))
+stepped-shifts {s} (shifted r more nonzero clear f e) = omega (arith, shifted-shifts s r, shifted-left s r more nonzero f e)
+stepped-shifts {s} (dropped more zeros) = omega (arith, dropped-shifts s, dropped-left s more zeros)
 
-pub chain-width : {side : Side} {s s' : State} {k : ℕ} → Chain side s k s'
-    → s' .shifts + totalWidth (s' .rows) ≤ s .shifts + totalWidth (s .rows)
-chain-width {s} here = le-refl (s .shifts + totalWidth (s .rows))
-chain-width (next c t) = le-trans (stepped-width t) (chain-width c)
+pub chain-shifts : {side : Side} {s s' : State} {k : ℕ} → Chain side s k s'
+    → s' .shifts + totalOf shiftsOf (s' .rows) ≤ s .shifts + totalOf shiftsOf (s .rows)
+chain-shifts {s} here = le-refl (s .shifts + totalOf shiftsOf (s .rows))
+chain-shifts (next c t) = le-trans (stepped-shifts t) (chain-shifts c)
 
 -- ---- the measure
 
@@ -121,6 +161,24 @@ fewer-falls s u z size fits one-less =
       mul-suc (suc (length (s .rows))) (length (s .rows) - current u + totalWidth (u .rows)),
     ))
 
+-- One row fewer pays for it too where it is dropped, though there are fewer rows to pay with.
+dropped-falls : (s u : State) (z : ℕ) → suc (length (u .rows)) ≡ length (s .rows) → current u ≡ current s
+    → current s < length (s .rows) → totalWidth (u .rows) ≡ totalWidth (s .rows) → measure u 0 < measure s z
+unfolding measure
+dropped-falls s u z size same more width =
+    counted (length (u .rows)) (length (s .rows)) (current u) (current s) (totalWidth (u .rows)) (totalWidth (s .rows)) size same
+    (omega arith) width
+  where
+    counted : (n e v w x y : ℕ) → suc n ≡ e → v ≡ w → w ≤ n → x ≡ y → suc n * (n - v + x) + (v - 0) < suc e * (e - w + y) + (w - z)
+    counted n e v w x y p q h r =
+        let one-more : suc n - w + y ≡ suc (n - w + y) = omega arith in
+        rw (← p, q, r) (omega (
+          arith,
+          ap (λ k. suc (suc n) * k) one-more,
+          mul-suc (suc (suc n)) (n - w + y),
+          suc-mul (suc n) (n - w + y),
+        ))
+
 nothing-met : (s : State) → MetZeroBelow s 0
 nothing-met s k h = absurd (not-suc-le-zero h)
 
@@ -144,8 +202,7 @@ stepped-measure {side} {s} (combined j below more nonzero clear meets few r e) t
   suc j,
   combined-advances s j t below more clear meets side r e,
   further-falls s (putRow (listed side s j) (current s) r) z j
-      (stepped-length {side = side} (combined j below more nonzero clear meets few r e))
-      (ap length (combined-order side s j r)) (combined-total side s j r below more e)
+      (combined-length side s j r) (ap length (combined-order side s j r)) (combined-width side s j r below more e)
       (first (λ b. T-not (isZero (met s j)) meets (known j b))) below,
 )
   where
@@ -154,6 +211,11 @@ stepped-measure {side} {s} (combined j below more nonzero clear meets few r e) t
 stepped-measure {s} (settled c more nonzero clear e) t z known = (0, nothing-met (settle s c), settled-falls s c z more)
 stepped-measure {s} (shifted r more nonzero clear f e) t z known =
     (0, nothing-met (putRow (countShift s) (current s) r), shifted-falls s r z more (shifted-total s r more nonzero e))
+stepped-measure {s} (dropped more zeros) t z known = (
+  0,
+  nothing-met (dropRow s (current s)),
+  dropped-falls s (dropRow s (current s)) z (length-dropRow s (current s) more) (dropped-current s) more (dropped-width s more zeros),
+)
 
 -- So the measure bounds the number of steps.
 pub chain-measure : {side : Side} {s s' : State} {k : ℕ} → Chain side s k s' → Triangular s → (z : ℕ) → MetZeroBelow s z
@@ -174,7 +236,7 @@ unfolding measure start
 measure-start b rows relations narrow = omega (arith, mul-le-mul-left (suc (length rows)) fewer)
   where
     fewer : length rows - 0 + totalWidth rows ≤ length rows + length rows * b
-    fewer = omega (arith, totalWidth-bound b rows narrow)
+    fewer = omega (arith, totalOf-bound width b rows narrow)
 
 -- A row that is left is still to be settled.
 measure-left : (s : State) (z : ℕ) → current s < length (s .rows) → 0 < measure s z
@@ -246,26 +308,14 @@ wholeRun-ends trailing D rows relations s h = trailingRun-ends D rows relations 
 
 -- ---- the number of shifts
 
--- The rows of an accepted run are settled, so none is zero.
-settled-widths : (s : State) → Triangular s → length (s .rows) ≤ current s → All (λ r. 0 < width r) (s .rows)
-settled-widths s t all = getD-all (λ r. 0 < width r) (s .rows) noRow
-    (λ j h. pivot-width (s .order) j (getD (s .rows) j noRow) (t .pivots j (omega arith)))
-
--- Each shift lowers the total width, which begins at m × (D + 1) or less and ends at m or more.
-pub shift-bound : (side : Side) (D k : ℕ) (rows : List Row) (relations : List Relation) (s : State) → All (λ r. width r ≤ suc D) rows
-    → run side k (start rows relations) ≡ done s → s .shifts ≤ length rows * D
+-- A row of width D + 1 or less has at most D shifts before it, and no step adds to them.
+pub shift-bound : {side : Side} {k : ℕ} (D : ℕ) (rows : List Row) (relations : List Relation) (s : State) → All (λ r. width r ≤ suc D) rows
+    → Chain side (start rows relations) k s → s .shifts ≤ length rows * D
 unfolding start
-shift-bound side D k rows relations s narrow e =
-    let (j, chain, all) = run-done side k (start rows relations) s e in
-    let t : Triangular s = triangular-chain chain (triangular-start rows relations) in
-    omega (
-      arith,
-      chain-width chain,
-      chain-length chain,
-      totalWidth-bound (suc D) rows narrow,
-      totalWidth-rows (s .rows) (settled-widths s t all),
-      mul-suc (length rows) D,
-    )
+shift-bound D rows relations s narrow chain = omega (arith, chain-shifts chain, totalOf-bound shiftsOf D rows few)
+  where
+    few : All (λ r. shiftsOf r ≤ D) rows
+    few = all-mono (λ r. width r ≤ suc D) (λ r. shiftsOf r ≤ D) (λ r h. omega arith) rows narrow
 
 pub mirrorOutcome-refused : (D : ℕ) (o : Outcome) (n : ℕ) → mirrorOutcome D o ≡ refused n → o ≡ refused n
 unfolding mirrorOutcome
@@ -282,12 +332,14 @@ mirrorOutcome-done D (refused n) s e = absurd (done≢refused (sym e))
 pub wholeRun-shifts : (side : Side) (D : ℕ) (rows : List Row) (relations : List Relation) (s : State) → All (λ r. width r ≤ suc D) rows
     → wholeRun side D rows relations ≡ done s → s .shifts ≤ length rows * D
 unfolding wholeRun leadingRun trailingRun mirrorState start
-wholeRun-shifts leading D rows relations s narrow e = shift-bound leading D (enough rows) rows relations s narrow e
+wholeRun-shifts leading D rows relations s narrow e =
+    shift-bound D rows relations s narrow (run-done leading (enough rows) (start rows relations) s e .1)
 wholeRun-shifts trailing D rows relations s narrow e =
     let (u, f, same) = mirrorOutcome-done D (run trailing (enough rows) (mirrorState D (start rows relations))) s e in
     subst (λ x. x .shifts ≤ length rows * D) same
     (subst (λ n. u .shifts ≤ n * D) (length-map rows (mirrorRow D))
-    (shift-bound trailing D (enough rows) (map (mirrorRow D) rows) (map (mirrorRelation D) relations) u mirrored f))
+    (shift-bound D (map (mirrorRow D) rows) (map (mirrorRelation D) relations) u mirrored
+    (run-done trailing (enough rows) (mirrorState D (start rows relations)) u f .1)))
   where
     mirrored : All (λ r. width r ≤ suc D) (map (mirrorRow D) rows)
     mirrored = map-all (λ r. width r ≤ suc D) (mirrorRow D) rows

@@ -8,7 +8,7 @@
 --   exchange-satisfied       the same sequences satisfy the list
 --   exchange-dependent       the list is dependent exactly if it was
 --   exchange-pivots          the triangular form stays where the row that comes in is zero and nonzero as the one that goes
---   exchange-width           the total width stays
+--   exchange-total           a sum over the rows, as the total width, stays
 use Prim.Native.Nat.{ℕ, _≤_, _<_}
 use mathlib.Core.Path.{_≡_, sym, _∙_, ap, ap₂, subst}
 use mathlib.Core.Logic.{_≢_, _↔_, Iff·rfl, by-cases}
@@ -22,10 +22,10 @@ use lib.Seq.{getD-set-other}
 use lib.IntN.{ℤ, _+ℤ_, _*ℤ_, +ℤ-comm}
 use Rattle.algebra.specs.Sums.{sumBelow, sumBelow-congr}
 use Rattle.algebra.specs.Polynomials.{eval, isZero}
-use Rattle.rules.specs.Rows.{Row, Relation, noRow, width}
+use Rattle.rules.specs.Rows.{Row, Relation, noRow}
 use Rattle.lists.specs.Places.{swap, swap-same, length-swap, getD-swap-left, getD-swap-right, getD-swap-other, all-swap}
 use Rattle.rules.specs.Sequences.{Sequence, valueOf, SatisfiesEquation, Satisfies, Dependent}
-use Rattle.theory.specs.Cells.{totalWidth, totalWidth-set}
+use Rattle.theory.specs.Cells.{totalOf, totalOf-set}
 use Rattle.theory.specs.Pivots.{PivotRow, PivotRows}
 use Rattle.theory.specs.Combinations.{put, put-same, put-other, sumBelow-pair, sumWithin-congr, Values, Multiplier, copies}
 use Rattle.theory.specs.Combinations.{combinationValue, DependentValues}
@@ -61,19 +61,20 @@ module _ (rows : List Row) (i j : ℕ) where
       here e = subst (λ a. PivotRow order a (getD (exchangeRows rows i j) a noRow)) (sym e)
           (subst (PivotRow order j) (sym (exchange-right (omega arith))) p)
 
-  pub exchange-width : i < length rows → j < length rows → totalWidth (exchangeRows rows i j) ≡ totalWidth rows
-  exchange-width below-i below-j = by-cases (ℕ-discrete i j) (λ e. ap totalWidth (swap-same rows noRow i j e)) apart
+  -- What is added up over the rows is as it was.
+  pub exchange-total : (f : Row → ℕ) → i < length rows → j < length rows → totalOf f (exchangeRows rows i j) ≡ totalOf f rows
+  exchange-total f below-i below-j = by-cases (ℕ-discrete i j) (λ e. ap (totalOf f) (swap-same rows noRow i j e)) apart
     where
       once : List Row
       once = set rows j (getD rows i noRow)
 
-      apart : i ≢ j → totalWidth (exchangeRows rows i j) ≡ totalWidth rows
+      apart : i ≢ j → totalOf f (exchangeRows rows i j) ≡ totalOf f rows
       apart n =
           omega (
             arith,
-            totalWidth-set rows j (getD rows i noRow) below-j,
-            totalWidth-set once i (getD rows j noRow) (subst (λ m. i < m) (sym (length-set rows j (getD rows i noRow))) below-i),
-            ap width (getD-set-other rows j i (getD rows i noRow) noRow n),
+            totalOf-set f rows j (getD rows i noRow) below-j,
+            totalOf-set f once i (getD rows j noRow) (subst (λ m. i < m) (sym (length-set rows j (getD rows i noRow))) below-i),
+            ap f (getD-set-other rows j i (getD rows i noRow) noRow n),
           )
 
 -- ---- dependence

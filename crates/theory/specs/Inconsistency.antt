@@ -3,21 +3,20 @@
 -- Main statements
 --   contradiction           a row with a right side and no left part is satisfied by no sequence
 --   refused-unsatisfied     nor is a state from which a run is refused with 10
-use mathlib.Core.Path.{_≡_, sym, _∙_, ap, ap₂, subst}
+use mathlib.Core.Path.{_≡_, sym, _∙_, ap}
 use mathlib.Core.Bool.{not}
-use mathlib.Core.List.{List}
 use Prim.Native.Nat.{ℕ, _<_}
 use lib.Dec.{T, T-not}
 use lib.ListN.{length}
 use lib.IntN.{ℤ, pos, negℤ, _-ℤ_, +ℤ-idl, negℤ-negℤ}
 use Rattle.algebra.specs.Polynomials.{isZero, eval}
 use Rattle.algebra.specs.Vanishing.{zero-everywhere}
-use Rattle.rules.specs.Rows.{Row, Relation, noRow, zeroLeft, contradicts}
+use Rattle.rules.specs.Rows.{Row, noRow, zeroLeft, contradicts}
 use Rattle.rules.specs.Elimination.{Side, State, refused, run, rowAt}
 use Rattle.rules.specs.Sequences.{Sequence, leftValue, valueOf, SatisfiesEquation, Satisfies}
-use Rattle.lists.specs.Everywhere.{All, all-getD}
+use Rattle.lists.specs.Everywhere.{all-getD}
 use Rattle.lists.specs.Tests.{T-&&}
-use Rattle.theory.specs.Steps.{current, Stepped, Inconsistent, at-once, next-row, stepped-length, run-refused, step-refused-10}
+use Rattle.theory.specs.Steps.{current, Inconsistent, at-once, next-row, run-refused, step-refused-10}
 use Rattle.theory.specs.Values.{blocks-zero}
 use Rattle.theory.specs.Triangular.{Triangular, triangular-chain}
 use Rattle.theory.specs.LimitsKept.{StateShaped, chain-shapes}
@@ -50,6 +49,5 @@ module _ (l : ℤ) (side : Side) (k : ℕ) (s : State) (shaped : StateShaped s) 
       stuck : (u : State) → current u < length (u .rows) → StateShaped u → Triangular u → Inconsistent side u
           → Satisfies l (u .rows) (u .relations) z → ⊥
       stuck u below shape tri (at-once h) b = row-contradiction l u (current u) z below h b
-      stuck u below shape tri (next-row {s' = v} step h) b =
-          row-contradiction l v (current u) z (subst (λ n. current u < n) (sym (stepped-length step)) below) h
-          (stepped-solutions l z shape tri step .0 b)
+      stuck u below shape tri (next-row {s' = v} step there h) b =
+          row-contradiction l v (current u) z there h (stepped-solutions l z shape tri step .0 b)

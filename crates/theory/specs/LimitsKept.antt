@@ -4,6 +4,7 @@
 --   StateShaped s       every row and every relation of s has the shape of a row in a store
 --   Small a             a is within ±C
 --   StateRight z s      every row and every relation of s passes the check of the numbers (SCOPE 3.34)
+--   ValidRows z rows relations   a valid system but for the number of its rows
 --
 -- Main statements
 --   smallRow-iff                  a row is within ±C exactly if its coefficients are
@@ -12,7 +13,8 @@
 --   stepped-shapes, chain-shapes  steps keep the shapes
 --   rowRight-iff, relationRight-iff   what the checks of a row and of a relation test
 --   stepped-right                 a step keeps the numbers right
---   stepped-valid, valid-kept     the output of a run is a valid system, as its input was
+--   valid-rows, counted-valid     a system is valid exactly if its rows are and their number is right
+--   stepped-valid, valid-kept     the output of a run is valid, as its input was
 use mathlib.Core.Path.{_≡_, refl, sym, _∙_, subst}
 use mathlib.Core.Logic.{_↔_}
 use Prim.Native.Nat.{ℕ, _≤_, _<_, zero-le}
@@ -33,9 +35,10 @@ use Rattle.rules.specs.Rows.{Row, Relation, noRow, coefficientsOf, leadingBlock
 use Rattle.lists.specs.Everywhere.{All, all-getD-default, all-getD, all-set, append-all, all-flatten, all-append}
 use Rattle.rules.specs.Elimination.{Side, State, start, within, limitDegrees, limitCoefficients, rowAt, putRow, listRelations, settle}
 use Rattle.rules.specs.Elimination.{countShift, rootRelations, multipliersAt}
-use Rattle.rules.specs.Stores.{Sizes, span, countRight, unusedZero, rowRight, relationRight, Valid, StoreRow}
-use Rattle.theory.specs.Steps.{Stepped, combined, settled, shifted, Chain, chain-induction, current, exchanged, multipliersFor}
-use Rattle.theory.specs.Steps.{combination, stepped-length, limitDegrees-within, limitCoefficients-within, relations-narrowFirst}
+use Rattle.rules.specs.Stores.{Sizes, equations, span, sizesRight, countRight, unusedZero, rowRight, relationRight, Valid, StoreRow}
+use Rattle.lists.specs.Places.{without, all-without}
+use Rattle.theory.specs.Steps.{Stepped, combined, settled, shifted, dropped, dropRow, Chain, chain-induction, current, exchanged}
+use Rattle.theory.specs.Steps.{combination, multipliersFor, limitDegrees-within, limitCoefficients-within, relations-narrowFirst}
 use Rattle.theory.specs.Steps.{length-narrowFirst, met, order-narrowFirst, narrowFirst-all}
 use Rattle.theory.specs.Multipliers.{multipliers-small, length-multipliers-g, length-multipliers-h}
 use Rattle.theory.specs.Shapes.{entry-column, entry-length}
@@ -157,7 +160,7 @@ shifted-shaped s below shapes r e =
 
 -- A step keeps the shapes.
 pub stepped-shapes : {side : Side} {s s′ : State} → Stepped side s s′ → StateShaped s → StateShaped s′
-unfolding putRow listRelations settle countShift
+unfolding putRow listRelations settle countShift dropRow
 stepped-shapes {side} {s} (combined j before below nonzero clear meets few r e) h =
     record {
       row-shapes = all-set StoreRow (exchanged s j .rows) (current s) r (combined-shaped s j before below (h .row-shapes) meets r e)
@@ -174,6 +177,8 @@ stepped-shapes {s} (shifted r below nonzero clear f e) h =
       row-shapes = all-set StoreRow (s .rows) (current s) r (shifted-shaped s below (h .row-shapes) r e) (h .row-shapes);
       relation-shapes = h .relation-shapes;
     }
+stepped-shapes {s} (dropped below zeros) h =
+    record { row-shapes = all-without StoreRow (s .rows) (current s) (h .row-shapes); relation-shapes = h .relation-shapes }
 
 pub chain-shapes : {side : Side} {s s′ : State} {k : ℕ} → Chain side s k s′ → StateShaped s → StateShaped s′
 chain-shapes {side} c h = chain-induction side StateShaped (λ u v. stepped-shapes) c h
@@ -245,7 +250,7 @@ shifted-right z s r below right e =
     ))
 
 pub stepped-right : {side : Side} {s s′ : State} {z : Sizes} → Stepped side s s′ → StateRight z s → StateRight z s′
-unfolding putRow listRelations settle countShift
+unfolding putRow listRelations settle countShift dropRow
 stepped-right {side} {s} {z} (combined j before below nonzero clear meets few r e) h =
     let right = all-of-every (rowRight z) (s .rows) (h .rows-right) in
     record {
@@ -266,21 +271,60 @@ stepped-right {s} {z} (shifted r below nonzero clear f e) h =
           (all-set (λ q. T (rowRight z q)) (s .rows) (current s) r (shifted-right z s r below right e) right);
       relations-right = h .relations-right;
     }
+stepped-right {s} {z} (dropped below zeros) h =
+    record {
+      rows-right = every-of-all (rowRight z) (without (s .rows) (current s))
+          (all-without (λ q. T (rowRight z q)) (s .rows) (current s) (all-of-every (rowRight z) (s .rows) (h .rows-right)));
+      relations-right = h .relations-right;
+    }
 
 stepped-count : {side : Side} {s s′ : State} → Stepped side s s′
     → length (s .relations) ≤ mostRelations → length (s′ .relations) ≤ mostRelations
-unfolding putRow settle countShift
+unfolding putRow settle countShift dropRow
 stepped-count (combined j before below nonzero clear meets few r e) h = few
 stepped-count (settled c below nonzero clear e) h = h
 stepped-count (shifted r below nonzero clear f e) h = h
+stepped-count (dropped below zeros) h = h
+
+-- All that Valid says but the number of rows, which a drop changes.
+pub record ValidRows (z : Sizes) (rows : List Row) (relations : List Relation) : Type 0 where
+  pub sizes : T (sizesRight z)
+  pub row-shapes : All StoreRow rows
+  pub rows-right : T (every (rowRight z) rows)
+  pub relation-count : T (countRight (length relations))
+  pub relation-shapes : All (λ e. StoreRow (e .row)) relations
+  pub relations-right : T (every (relationRight z) relations)
+
+pub valid-rows : {z : Sizes} {rows : List Row} {relations : List Relation} → Valid z rows relations → ValidRows z rows relations
+valid-rows v =
+    record {
+      sizes = v .sizes;
+      row-shapes = v .row-shapes;
+      rows-right = v .rows-right;
+      relation-count = v .relation-count;
+      relation-shapes = v .relation-shapes;
+      relations-right = v .relations-right;
+    }
+
+pub counted-valid : {z : Sizes} {rows : List Row} {relations : List Relation} → ValidRows z rows relations → length rows ≡ equations z
+    → Valid z rows relations
+counted-valid v e =
+    record {
+      sizes = v .sizes;
+      row-count = e;
+      row-shapes = v .row-shapes;
+      rows-right = v .rows-right;
+      relation-count = v .relation-count;
+      relation-shapes = v .relation-shapes;
+      relations-right = v .relations-right;
+    }
 
 pub stepped-valid : {side : Side} {s s′ : State} {z : Sizes} → Stepped side s s′
-    → Valid z (s .rows) (s .relations) → Valid z (s′ .rows) (s′ .relations)
+    → ValidRows z (s .rows) (s .relations) → ValidRows z (s′ .rows) (s′ .relations)
 unfolding countRight
 stepped-valid {side} {s} {s′} {z} t v =
     record {
       sizes = v .sizes;
-      row-count = stepped-length t ∙ v .row-count;
       row-shapes = shaped .row-shapes;
       rows-right = right .rows-right;
       relation-count = le→leb (length (s′ .relations)) mostRelations
@@ -295,8 +339,8 @@ stepped-valid {side} {s} {s′} {z} t v =
     right : StateRight z s′
     right = stepped-right t (record { rows-right = v .rows-right; relations-right = v .relations-right })
 
--- Every state of a run from a valid system is a valid system.
+-- Every state of a run from a valid system is a valid system, of as many rows as are left.
 pub valid-kept : {side : Side} {k : ℕ} {s : State} {z : Sizes} {rows : List Row} {relations : List Relation}
-    → Valid z rows relations → Chain side (start rows relations) k s → Valid z (s .rows) (s .relations)
+    → ValidRows z rows relations → Chain side (start rows relations) k s → ValidRows z (s .rows) (s .relations)
 unfolding start
-valid-kept {side} {z} v c = chain-induction side (λ u. Valid z (u .rows) (u .relations)) (λ u w. stepped-valid) c v
+valid-kept {side} {z} v c = chain-induction side (λ u. ValidRows z (u .rows) (u .relations)) (λ u w. stepped-valid) c v

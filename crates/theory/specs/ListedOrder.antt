@@ -20,11 +20,11 @@ use Rattle.algebra.specs.Order.{negℤ-<ℤ, <ℤ-prop}
 use Rattle.algebra.specs.Polynomials.{Polynomial, eval, isZero, mirror, eval-mirror}
 use Rattle.algebra.specs.Roots.{roots, roots-sound, roots-complete, roots-ascending}
 use Rattle.rules.specs.Rows.{Row, Relation, mirrorRow, mirrorRelation}
-use Rattle.rules.specs.Elimination.{Side, leading, trailing, State, listing, rootRelations, rowAt, putRow, listRelations, settle, countShift}
+use Rattle.rules.specs.Elimination.{Side, leading, trailing, State, listing, rootRelations, rowAt, putRow, settle, countShift}
 use Rattle.lists.specs.Joined.{flatten-append, flatten-map}
 use Rattle.lists.specs.Everywhere.{All, append-all, map-keeps, all-mono}
-use Rattle.theory.specs.Steps.{Stepped, combined, settled, shifted, Chain, here, next, current, exchanged, multipliersFor}
-use Rattle.theory.specs.Steps.{listed-relations}
+use Rattle.theory.specs.Steps.{Stepped, combined, settled, shifted, dropped, dropRow, Chain, here, next, current, exchanged}
+use Rattle.theory.specs.Steps.{multipliersFor, listed-relations}
 use Rattle.theory.specs.Triangular.{Triangular, triangular-chain, multipliersFor-nonzero}
 
 -- One row, once at each integer root of one polynomial, by strictly ascending n0; none where it has no root.
@@ -96,7 +96,7 @@ record Added (side : Side) (more : List Relation) : Type 0 where
 
 stepped-added : {side : Side} {s v : State} → Triangular s → Stepped side s v → (more : List Relation)
     × (v .relations ≡ s .relations ++ more) × Added side more
-unfolding putRow settle countShift All flatten
+unfolding putRow settle countShift dropRow All flatten
 stepped-added {side} {s} t (combined j before below nonzero clear meets few r e) =
     let g = multipliersFor s j .g in
     let row = rowAt (exchanged s j) (current s) in (
@@ -111,6 +111,8 @@ stepped-added {side} {s} t (combined j before below nonzero clear meets few r e)
 stepped-added {s} t (settled c below nonzero clear e) =
     ([], sym (append-nil (s .relations)), record { groups = []; together = refl; each = tt })
 stepped-added {s} t (shifted r below nonzero clear f e) =
+    ([], sym (append-nil (s .relations)), record { groups = []; together = refl; each = tt })
+stepped-added {s} t (dropped below zeros) =
     ([], sym (append-nil (s .relations)), record { groups = []; together = refl; each = tt })
 
 chain-added : {side : Side} {s v : State} {k : ℕ} → Triangular s → Chain side s k v → (more : List Relation)

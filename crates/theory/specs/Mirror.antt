@@ -13,7 +13,7 @@
 --   mirror-diagonal        the diagonal polynomials of the trailing side are mirrors of those of the leading side
 --   mirror-value           the value of the mirrored row at n, on the reflected sequence, is the value at -n
 --   mirror-equation, mirror-relation, mirror-satisfies   so a sequence satisfies a system exactly if the reflected one does the mirror
---   span-sum, span-bound, mirror-equations, mirror-span, mirror-sizes   sizes, and those of the mirror
+--   span-sum, span-bound, mirror-span, mirror-sizes   sizes, and those of the mirror
 --   mirror-valid           the mirror of a valid system is valid
 --   mirror-dependent       a system is dependent exactly if its mirror is
 use Prim.Native.Nat.{ℕ, suc, _+_, _-_, _≤_, _<_}
@@ -38,7 +38,7 @@ use Rattle.lists.specs.Everywhere.{All, all-always, all-mono, all-both, all-tak
 use Rattle.lists.specs.Tests.{every, every-all}
 use Rattle.rules.specs.Rows.{mirrorRelation}
 use Rattle.rules.specs.Elimination.{leading, trailing, State, mirrorState, diagonalPlace, diagonal}
-use Rattle.rules.specs.Stores.{Sizes, equations, span, sizesRight, countRight, unusedZero, rowRight, relationRight, Shaped, StoreRow, Valid}
+use Rattle.rules.specs.Stores.{Sizes, span, sizesRight, countRight, unusedZero, rowRight, relationRight, Shaped, StoreRow}
 use Rattle.rules.specs.Layout.{SizeBounds, size-bounds, bounds-right}
 use Rattle.rules.specs.Sequences.{Sequence, blockValue, blocksValue, valueOf, SatisfiesEquation, SatisfiesRelation, Satisfies, shiftsWithin}
 use Rattle.rules.specs.Sequences.{Dependent}
@@ -47,7 +47,7 @@ use Rattle.lists.specs.Images.{map-back, map-take, map-drop, map-reverse}
 use Rattle.theory.specs.Shapes.{mirrorRow-shaped}
 use Rattle.theory.specs.Values.{blocks-always, blocks-append-zero, index-below}
 use Rattle.theory.specs.Cells.{mapRow-zero, unusedZero-iff, unused-kept}
-use Rattle.theory.specs.LimitsKept.{Small, smallRow-iff, rowRight-iff, relationRight-iff}
+use Rattle.theory.specs.LimitsKept.{Small, smallRow-iff, rowRight-iff, relationRight-iff, ValidRows}
 use Rattle.theory.specs.BackSubstitution.{move-right}
 use Rattle.theory.specs.Combinations.{sumWithin, sumWithin-below, cancel-common, Values, copies, combinationValue, DependentValues}
 use Rattle.theory.specs.ByValues.{rowValues, dependent-values}
@@ -345,10 +345,6 @@ mirrorSizes z = record { m = z .m; l = negℤ (z .t); t = negℤ (z .l) }
 mirror-difference : (l t : ℤ) → negℤ t -ℤ negℤ l ≡ l -ℤ t
 mirror-difference l t = ap (λ x. negℤ t +ℤ x) (negℤ-negℤ l) ∙ +ℤ-comm (negℤ t) l
 
-pub mirror-equations : (z : Sizes) → equations (mirrorSizes z) ≡ equations z
-unfolding equations
-mirror-equations z = refl
-
 pub mirror-span : (z : Sizes) → span (mirrorSizes z) ≡ span z
 unfolding span
 mirror-span z = ap natAbs (mirror-difference (z .l) (z .t))
@@ -453,7 +449,7 @@ storeRow-reaches z h r s = omega (arith, span-bound z h, s .0)
 pub valid-row-spans : (z : Sizes) → T (sizesRight z) → (r : Row) → StoreRow r → T (rowRight z r) → Spans (span z) r
 valid-row-spans z h r s t = spans (z .m) (span z) r (storeRow-reaches z h r s) (rowRight-iff z r .0 t .1)
 
-module _ (z : Sizes) (rows : List Row) (relations : List Relation) (valid : Valid z rows relations) where
+module _ (z : Sizes) (rows : List Row) (relations : List Relation) (valid : ValidRows z rows relations) where
   RowFacts : Row → Type 0
   RowFacts r = StoreRow r × T (rowRight z r)
 
@@ -496,12 +492,11 @@ module _ (z : Sizes) (rows : List Row) (relations : List Relation) (valid : Vali
   unfolding RelationFacts
   relation-right e f = mirror-relationRight z e (storeRow-reaches z (valid .sizes) (e .row) (f .0)) (f .1)
 
-  -- The mirror, on which the trailing side runs, is a valid system again (SCOPE 2.91, 2.92).
-  pub mirror-valid : Valid (mirrorSizes z) (map (mirrorRow (span z)) rows) (map (mirrorRelation (span z)) relations)
+  -- The mirror, on which the trailing side runs, is a valid system again, of as many rows (SCOPE 2.91, 2.92).
+  pub mirror-valid : ValidRows (mirrorSizes z) (map (mirrorRow (span z)) rows) (map (mirrorRelation (span z)) relations)
   mirror-valid =
       record {
         sizes = mirror-sizes z (valid .sizes);
-        row-count = length-map rows (mirrorRow (span z)) ∙ valid .row-count ∙ sym (mirror-equations z);
         row-shapes = map-keeps StoreRow StoreRow (mirrorRow (span z)) shape rows (valid .row-shapes);
         rows-right =
             every-all (rowRight (mirrorSizes z)) (map (mirrorRow (span z)) rows) .1

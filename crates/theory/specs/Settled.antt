@@ -5,9 +5,11 @@
 --   Settled side z rows relations u   a run from the valid system rows, relations leads to u, all of whose rows are settled
 -- Main statements
 --   as-many                as many equations as unknowns
+--   settled-count          all rows of u are settled
 --   settled-leading        an accepted leading run leads to its final state
 --   settled-trailing       an accepted trailing run leads to the mirror of its final state, from the mirrored system
 --   settled-diagonal, mirrored-diagonal     the diagonal of u, and of its mirror
+--   accepted-rank          an accepted run has settled as many rows as there were equations
 use Prim.Native.Nat.{ℕ, _≤_, _<_}
 use mathlib.Core.Path.{_≡_, refl, sym, _∙_, ap, subst}
 use mathlib.Core.Bool.{not}
@@ -22,10 +24,10 @@ use Rattle.lists.specs.Everywhere.{All, all-getD}
 use Rattle.rules.specs.Elimination.{Side, leading, trailing, State, start, done, run, enough, wholeRun, leadingRun, trailingRun}
 use Rattle.rules.specs.Elimination.{mirrorState, diagonalPlace, rowAt}
 use Rattle.rules.specs.Stores.{Sizes, span, Valid, equations}
-use Rattle.theory.specs.Steps.{current, Chain, run-done}
+use Rattle.theory.specs.Steps.{current, Chain, run-done, run-rows}
 use Rattle.theory.specs.Triangular.{Triangular, triangular-start, triangular-chain}
 use Rattle.theory.specs.Pivots.{order-distinct}
-use Rattle.theory.specs.LimitsKept.{valid-kept}
+use Rattle.theory.specs.LimitsKept.{ValidRows, valid-rows, valid-kept}
 use Rattle.theory.specs.Ending.{mirrorOutcome-done}
 use Rattle.theory.specs.BackSubstitution.{TriangularRows}
 use Rattle.theory.specs.Agreement.{settled-column, every-column, triangular-rows}
@@ -53,7 +55,7 @@ pub record Diagonal (side : Side) (e m D : ℕ) (s : State) : Type 0 where
   pub every-column : e ≡ m → (c : ℕ) → c < m → (j : ℕ) × (j < m) × (getD (s .order) j 0 ≡ c)
 
 pub record Settled (side : Side) (z : Sizes) (rows : List Row) (relations : List Relation) (u : State) : Type 0 where
-  pub valid : Valid z rows relations
+  pub valid : ValidRows z rows relations
   pub steps : ℕ
   pub chain : Chain side (start rows relations) steps u
   pub all : length (u .rows) ≤ current u
@@ -61,29 +63,29 @@ pub record Settled (side : Side) (z : Sizes) (rows : List Row) (relations : List
 -- ---- a settled state
 
 module _ {side : Side} {z : Sizes} {rows : List Row} {relations : List Relation} {u : State} (a : Settled side z rows relations u) where
-  pub settled-valid : Valid z (u .rows) (u .relations)
+  pub settled-valid : ValidRows z (u .rows) (u .relations)
   settled-valid = valid-kept (a .valid) (a .chain)
 
   pub settled-triangular : Triangular u
   settled-triangular = triangular-chain (a .chain) (triangular-start rows relations)
 
-  settled-count : current u ≡ equations z
-  settled-count = le-antisymm (settled-triangular .fits) (a .all) ∙ settled-valid .row-count
+  pub settled-count : current u ≡ length (u .rows)
+  settled-count = le-antisymm (settled-triangular .fits) (a .all)
 
-  pub settled-rows : equations z ≡ z .m → TriangularRows (z .m) (span z) (u .rows) (u .order)
-  settled-rows = triangular-rows z u settled-valid settled-triangular settled-count
+  pub settled-rows : current u ≡ z .m → TriangularRows (z .m) (span z) (u .rows) (u .order)
+  settled-rows square = triangular-rows z u settled-valid settled-triangular settled-count (sym settled-count ∙ square)
 
-  pub settled-diagonal : Diagonal leading (equations z) (z .m) (span z) u
+  pub settled-diagonal : Diagonal leading (current u) (z .m) (span z) u
   unfolding diagonalPlace rowAt entry leadingBlock
   settled-diagonal =
       record {
-        row-count = settled-valid .row-count;
-        order-count = settled-count;
-        zero-before = λ j k b h. settled-triangular .pivots j (subst (λ n. j < n) (sym settled-count) h) .zeros k b;
-        nonzero = λ j h. settled-triangular .pivots j (subst (λ n. j < n) (sym settled-count) h) .diagonal;
-        column-below = settled-column z u settled-valid settled-triangular settled-count;
+        row-count = sym settled-count;
+        order-count = refl;
+        zero-before = λ j k b h. settled-triangular .pivots j h .zeros k b;
+        nonzero = λ j h. settled-triangular .pivots j h .diagonal;
+        column-below = λ j h. settled-column z u settled-valid settled-triangular settled-count j (subst (λ n. j < n) settled-count h);
         columns-different = order-distinct (u .order) (u .rows) (settled-triangular .pivots);
-        every-column = every-column z u settled-valid settled-triangular settled-count;
+        every-column = λ square. every-column z u settled-valid settled-triangular settled-count (sym settled-count ∙ square);
       }
 
 -- Each diagonal polynomial is nonzero.
@@ -125,7 +127,7 @@ pub settled-leading : {z : Sizes} {rows : List Row} {relations : List Relation} 
 unfolding wholeRun leadingRun
 settled-leading {rows = rows} {relations} {s} v e =
     let (k, chain, all) = run-done leading (enough rows) (start rows relations) s e in
-    record { valid = v; steps = k; chain = chain; all = all }
+    record { valid = valid-rows v; steps = k; chain = chain; all = all }
 
 -- The run that a trailing run makes, on the mirrored system, and its final state.
 pub record MirroredRun (z : Sizes) (rows : List Row) (relations : List Relation) (s : State) : Type 0 where
@@ -139,4 +141,26 @@ unfolding wholeRun trailingRun mirrorState start
 settled-trailing {z} {rows} {relations} {s} v e =
     let (u, f, same) = mirrorOutcome-done (span z) (run trailing (enough rows) (mirrorState (span z) (start rows relations))) s e in
     let (k, chain, all) = run-done trailing (enough rows) (mirrorState (span z) (start rows relations)) u f in
-    record { final = u; settled = record { valid = mirror-valid z rows relations v; steps = k; chain = chain; all = all }; back = same }
+    record {
+      final = u;
+      settled = record { valid = mirror-valid z rows relations (valid-rows v); steps = k; chain = chain; all = all };
+      back = same;
+    }
+
+-- A run refuses a zero row with 6 and drops none (SCOPE 2.11), so an accepted one has settled all of its rows.
+settled-all : (side : Side) (k : ℕ) (rows : List Row) (relations : List Relation) (u : State) → run side k (start rows relations) ≡ done u
+    → length (u .order) ≡ length rows
+unfolding start
+settled-all side k rows relations u e =
+    let (j, chain, all) = run-done side k (start rows relations) u e in
+    le-antisymm (triangular-chain chain (triangular-start rows relations) .fits) all ∙ run-rows side k (start rows relations) u e
+
+pub accepted-rank : (side : Side) {z : Sizes} {rows : List Row} {relations : List Relation} {s : State} → Valid z rows relations
+    → wholeRun side (span z) rows relations ≡ done s → length (s .order) ≡ equations z
+unfolding wholeRun leadingRun trailingRun mirrorState start
+accepted-rank leading {rows = rows} {relations} {s} v e = settled-all leading (enough rows) rows relations s e ∙ v .row-count
+accepted-rank trailing {z} {rows} {relations} {s} v e =
+    let (u, f, same) = mirrorOutcome-done (span z) (run trailing (enough rows) (mirrorState (span z) (start rows relations))) s e in
+    ap (λ x. length (x .order)) (sym same)
+    ∙ settled-all trailing (enough rows) (map (mirrorRow (span z)) rows) (map (mirrorRelation (span z)) relations) u f
+    ∙ length-map rows (mirrorRow (span z)) ∙ v .row-count

@@ -35,7 +35,7 @@ use Rattle.rules.specs.Stores.{Shaped, unusedZero}
 use Rattle.rules.specs.Sequences.{Sequence, blocksValue, valueOf, Satisfies, Dependent}
 use Rattle.lists.specs.Taken.{front-last, dropLast-behind, getLastD-behind, getLastD-place}
 use Rattle.theory.specs.Cells.{zeroBlock-all, zeroBlock-at, width-moved, width-moved-le, blank-zero, blank-same, cell, entry-cell}
-use Rattle.theory.specs.Cells.{cell-mapRow, append-zero, totalWidth, totalWidth-set, unused-cells}
+use Rattle.theory.specs.Cells.{cell-mapRow, append-zero, totalWidth, totalOf-set, unused-cells}
 use Rattle.theory.specs.Shapes.{BlockShaped, mapRow-shaped, blank-shaped}
 use Rattle.theory.specs.Values.{blocks-always, block-zero, blocks-append-zero}
 use Rattle.theory.specs.Combinations.{moved-iff}
@@ -208,7 +208,7 @@ width-shiftDown r zeros positive =
 pub shiftDown-width : (rows : List Row) (i : ℕ) → i < length rows → T (zeroBlock (lastBlock (getD rows i noRow)))
     → 0 < width (getD rows i noRow) → totalWidth (set rows i (shiftDown (getD rows i noRow))) ≡ suc (totalWidth rows)
 shiftDown-width rows i below zeros positive =
-    omega (arith, totalWidth-set rows i (shiftDown (getD rows i noRow)) below, width-shiftDown (getD rows i noRow) zeros positive)
+    omega (arith, totalOf-set width rows i (shiftDown (getD rows i noRow)) below, width-shiftDown (getD rows i noRow) zeros positive)
 
 -- ---- the shape, and the unused places
 

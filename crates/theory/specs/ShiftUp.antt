@@ -6,13 +6,15 @@
 --   shiftUp-dependent            the list is dependent exactly if it was
 --   cell-shiftUp, shiftUp-entry  the zero cells move up by one block: the leading entries are those of the block below
 --   width-shiftUp, shiftUp-width the row is one block narrower, and so is the list
+--   shiftUp-shifts               and the list has one shift fewer before it
 --   shiftUp-shaped, shiftUp-unused   the shape, and the unused places
 -- The triangular form of the rows before it stays: `replace-pivots`; it is none of them: `pivot-leading`.
-use Prim.Native.Nat.{ℕ, suc, _<_}
+use Prim.Native.Nat.{ℕ, zero, suc, _≤_, _<_, zero-le}
 use mathlib.Core.Path.{_≡_, refl, sym, _∙_, ap, subst, ap₂}
 use mathlib.Core.Logic.{_↔_, inl, inr, ⊎-elim}
 use mathlib.Core.Bool.{true}
 use mathlib.Core.List.{List, [], _∷_, _++_, tail}
+use native.Mathlib.Nat.{suc-le-suc-iff}
 use native.Mathlib.Omega.{arith}
 use lib.Dec.{T}
 use lib.ListN.{length, getD, set, length-append}
@@ -23,8 +25,8 @@ use Rattle.rules.specs.Rows.{Block, Row, Relation, noRow, zeroBlock, width, lea
 use Rattle.lists.specs.Everywhere.{All, append-all}
 use Rattle.rules.specs.Stores.{Shaped, unusedZero}
 use Rattle.rules.specs.Sequences.{Sequence, blocksValue, valueOf, Satisfies, Dependent}
-use Rattle.theory.specs.Cells.{blank-zero, cell, entry-cell, cell-mapRow, append-zero, width-moved, totalWidth, totalWidth-set}
-use Rattle.theory.specs.Cells.{unused-cells}
+use Rattle.theory.specs.Cells.{blank-zero, cell, ZeroFrom, entry-cell, cell-mapRow, append-zero, width-le, width-moved, zeroBlock-at}
+use Rattle.theory.specs.Cells.{unused-cells, totalOf, totalOf-set, totalWidth, shiftsOf}
 use Rattle.theory.specs.Shapes.{BlockShaped, mapRow-shaped, blank-shaped}
 use Rattle.theory.specs.Values.{blocks-always, block-zero, blocks-append-zero}
 use Rattle.theory.specs.Replace.{moved-satisfied, moved-dependent}
@@ -94,7 +96,34 @@ width-shiftUp r = width-moved r (shiftUp r) (λ i c. sym (cell-shiftUp r i c))
 pub shiftUp-width : (rows : List Row) (i : ℕ) → i < length rows → 0 < width (getD rows i noRow)
     → totalWidth rows ≡ suc (totalWidth (set rows i (shiftUp (getD rows i noRow))))
 shiftUp-width rows i below positive =
-    omega (arith, totalWidth-set rows i (shiftUp (getD rows i noRow)) below, width-shiftUp (getD rows i noRow) positive)
+    omega (arith, totalOf-set width rows i (shiftUp (getD rows i noRow)) below, width-shiftUp (getD rows i noRow) positive)
+
+-- A row with a left part and a zero leading block is wider than one block.
+shiftUp-wide : (r : Row) → 0 < width r → T (zeroBlock (leadingBlock r)) → 1 < width r
+unfolding leadingBlock
+shiftUp-wide r positive zeros = not-le (λ h. none (width-le r 0 .1 (all-zero h)))
+  where
+    all-zero : width r ≤ 1 → ZeroFrom 0 r
+    all-zero h zero c k = zeroBlock-at (leadingBlock r) zeros c
+    all-zero h (suc i) c k = width-le r 1 .0 h (suc i) c (suc-le-suc-iff .1 zero-le)
+
+    none : ¬ (width r ≤ 0)
+    none h = omega arith
+
+    not-le : ¬ (width r ≤ 1) → 1 < width r
+    not-le n = omega arith
+
+-- So it has one shift fewer before it (SCOPE 2.65).
+pub shiftUp-shifts : (rows : List Row) (i : ℕ) → i < length rows → 0 < width (getD rows i noRow)
+    → T (zeroBlock (leadingBlock (getD rows i noRow)))
+    → totalOf shiftsOf rows ≡ suc (totalOf shiftsOf (set rows i (shiftUp (getD rows i noRow))))
+shiftUp-shifts rows i below positive zeros =
+    omega (
+      arith,
+      totalOf-set shiftsOf rows i (shiftUp (getD rows i noRow)) below,
+      width-shiftUp (getD rows i noRow) positive,
+      shiftUp-wide (getD rows i noRow) positive zeros,
+    )
 
 -- ---- the shape, and the unused places
 

@@ -22,13 +22,14 @@ use Rattle.lists.specs.Everywhere.{All}
 use Rattle.rules.specs.Elimination.{Side, State, start, within, limitDegrees, limitCoefficients, rowAt, putRow, listRelations, settle}
 use Rattle.rules.specs.Elimination.{countShift, exchange}
 use Rattle.rules.specs.Sequences.{Sequence, Satisfies}
-use Rattle.theory.specs.Steps.{Stepped, combined, settled, shifted, Chain, here, next, current, exchanged, multipliersFor}
-use Rattle.theory.specs.Steps.{combination, listed, length-narrowFirst, limitCoefficients-within, firstNonzero-none}
+use Rattle.theory.specs.Steps.{Stepped, combined, settled, shifted, dropped, dropRow, Chain, here, next, current, exchanged}
+use Rattle.theory.specs.Steps.{multipliersFor, combination, listed, length-narrowFirst, limitCoefficients-within, firstNonzero-none}
 use Rattle.theory.specs.Steps.{limitDegrees-within, Narrowed, narrowed, kept, swapped}
 use Rattle.theory.specs.Cells.{zeroBlock-all}
 use Rattle.theory.specs.Exchange.{exchange-satisfied}
 use Rattle.theory.specs.Combine.{shaped-same, Combines, combinedRow-values, combine-satisfied}
 use Rattle.theory.specs.ShiftUp.{shiftUp-satisfied}
+use Rattle.theory.specs.DropZero.{drop-satisfied}
 use Rattle.theory.specs.Triangular.{Triangular, triangular-start, triangular-chain, multipliersFor-nonzero}
 use Rattle.theory.specs.LimitsKept.{StateShaped, chain-shapes, current-shaped, pivot-shaped}
 
@@ -87,12 +88,13 @@ module _ (l : ℤ) (z : Sequence) where
   -- A step keeps the sequences that satisfy the rows and the relations.
   pub stepped-solutions : {side : Side} {s s′ : State} → StateShaped s → Triangular s → Stepped side s s′
       → Satisfies l (s .rows) (s .relations) z ↔ Satisfies l (s′ .rows) (s′ .relations) z
-  unfolding putRow settle countShift
+  unfolding putRow settle countShift rowAt dropRow
   stepped-solutions {side} {s} shaped t (combined j before below nonzero clear meets few r e) =
       Iff·trans (exchanged-satisfied s j before below)
       (combined-satisfied side s j r (shaped .row-shapes) (multipliersFor-nonzero s j t before below clear meets) before below e)
   stepped-solutions shaped t (settled c below nonzero clear e) = Iff·rfl
   stepped-solutions {s} shaped t (shifted r below nonzero clear f e) = shifted-satisfied s r below f e
+  stepped-solutions {s} shaped t (dropped below zeros) = drop-satisfied l z (s .rows) (s .relations) (current s) zeros
 
   pub chain-solutions : {side : Side} {s s′ : State} {k : ℕ} → StateShaped s → Triangular s → Chain side s k s′
       → Satisfies l (s .rows) (s .relations) z ↔ Satisfies l (s′ .rows) (s′ .relations) z

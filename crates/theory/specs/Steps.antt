@@ -1,7 +1,8 @@
 -- What one step of the elimination does, and chains of steps.
 --
 -- Main definitions
---   Stepped side s s'      s' is the state after one step from s: a combination, a settling or a shift
+--   dropRow s i            s without its row i
+--   Stepped side s s'      s' is the state after one step from s: a combination, a settling, a shift, the drop of a zero row
 --   Chain side s k s'      k steps lead from s to s'
 --   Narrowed s i j e       e is the state after the exchange of rule 2, if there is one
 --   FirstNonzero ps c      the polynomial at place c is the first of ps that is not zero
@@ -13,11 +14,13 @@
 --   rowAt-putRow-same, rowAt-exchange-left, ..   the rows of a changed state
 --   narrowFirst-both, narrowFirst-width, narrowFirst-all   what the exchange of rule 2 leaves
 --   firstNonzero-some, firstNonzero-none         the laws of firstNonzero
---   stepped-length, stepped-relations            a step keeps the number of rows and the listed relations
+--   stepped-rows, stepped-length, stepped-relations   a step keeps the number of rows, or drops a zero row; it keeps the
+--                                                listed relations
 --   left                                         `finished` tells whether a row is left
 --   step-view, step-refused, step-refused-6      what a step's outcome says where a row is left
 --   chain-induction                              what every step keeps, a chain keeps
 --   run-view, run-going, run-done, run-refused   a run is a chain of steps
+--   zero-refused, run-rows                   a step of a run drops no row: a zero row is refused with 6
 use Prim.Native.Nat.{ℕ, zero, suc, _≤_, _<_}
 use mathlib.Core.Path.{_≡_, refl, sym, _∙_, ap, subst, ap₂}
 use mathlib.Core.Logic.{_↔_, _⊎_, inl, inr}
@@ -25,7 +28,7 @@ use mathlib.Core.Bool.{Bool, true, false, _&&_, not, cond}
 use mathlib.Core.List.{List, [], _∷_, _++_, map, append-assoc, append-nil}
 use mathlib.Core.Option.{Option, none, some, Option·map, map-eq-some-iff, map-eq-none-iff, Option·some-injective, Option·none-ne-some}
 use mathlib.Core.Option.{Option·some-ne-none}
-use native.Mathlib.Nat.{zero-lt-suc, not-suc-le-zero, suc-le-suc-iff}
+use native.Mathlib.Nat.{zero-lt-suc, not-suc-le-zero, suc-le-suc-iff, le-refl, le-trans, le-of-eq}
 use native.Mathlib.Omega.{arith}
 use lib.Dec.{T, leb, ltb, leb→le, ltb→lt, nltb→le}
 use lib.ListN.{length, getD, set, length-set, length-map}
@@ -35,7 +38,8 @@ use Rattle.rules.specs.Limits.{mostRelations}
 use Rattle.rules.specs.Rows.{Row, Relation, noRow, zeroLeft, zeroRow, contradicts, width, entry, leadingBlock, firstNonzero, combine, primitive, lowDegrees}
 use Rattle.lists.specs.Everywhere.{All}
 use Rattle.rules.specs.Rows.{cut, smallRow, shiftUp}
-use Rattle.lists.specs.Places.{all-swap, getD-swap-left, getD-swap-right, length-swap}
+use Rattle.lists.specs.Places.{all-swap, getD-swap-left, getD-swap-right, length-swap, without, length-without}
+use Rattle.lists.specs.Tests.{cond-passed}
 use Rattle.lists.specs.Images.{getD-map}
 use Rattle.rules.specs.Elimination.{Side, Multipliers, State, Outcome, going, done, refused, Limited, within, beyond, limitCoefficients}
 use Rattle.rules.specs.Elimination.{limitDegrees, consistent, rowAt, putRow, putLimited, listRelations, settle, countShift, exchange, rootRelations}
@@ -71,7 +75,12 @@ abbrev pub combination : State → ℕ → Row
 combination s j =
     primitive (combine (multipliersFor s j .g) (multipliersFor s j .h) (rowAt (exchanged s j) (current s)) (rowAt (exchanged s j) j))
 
--- One step that goes on.
+-- The row at place i is left out and the later rows move up; all else stays.
+unfoldable pub dropRow : State → ℕ → State
+unfolding without
+dropRow s i = record { rows = without (s .rows) i; relations = s .relations; order = s .order; shifts = s .shifts }
+
+-- One step that goes on. A run takes no step of the last kind, since it refuses a zero row: `run-rows`.
 pub data Stepped (side : Side) (s : State) : State → Type 0 where
   combined : (j : ℕ) → j < current s → current s < length (s .rows) → T (not (zeroLeft (rowAt s (current s)))) → MetZeroBelow s j
       → T (not (isZero (met s j))) → length (listed side s j .relations) ≤ mostRelations → (r : Row) → limitDegrees (combination s j)
@@ -82,6 +91,7 @@ pub data Stepped (side : Side) (s : State) : State → Type 0 where
   shifted : (r : Row) → current s < length (s .rows) → T (not (zeroLeft (rowAt s (current s)))) → MetZeroBelow s (current s)
       → firstNonzero (leadingBlock (rowAt s (current s))) ≡ none → limitCoefficients (shiftUp (rowAt s (current s))) ≡ within r
       → Stepped side s (putRow (countShift s) (current s) r)
+  dropped : current s < length (s .rows) → T (zeroRow (rowAt s (current s))) → Stepped side s (dropRow s (current s))
 
 -- k steps, one after another.
 pub data Chain (side : Side) (s : State) : ℕ → State → Type 0 where
@@ -241,22 +251,38 @@ unfolding listRelations
 listed-relations side s j =
     ap (λ l. l ++ rootRelations side (multipliersFor s j .g) (rowAt (exchanged s j) (current s))) (relations-narrowFirst s (current s) j)
 
-pub stepped-length : {side : Side} {s s' : State} → Stepped side s s' → length (s' .rows) ≡ length (s .rows)
+pub combined-length : (side : Side) (s : State) (j : ℕ) (r : Row)
+    → length (putRow (listed side s j) (current s) r .rows) ≡ length (s .rows)
+combined-length side s j r = length-putRow (listed side s j) (current s) r ∙ listed-rows side s j
+
+pub length-dropRow : (s : State) (i : ℕ) → i < length (s .rows) → suc (length (dropRow s i .rows)) ≡ length (s .rows)
+unfolding dropRow
+length-dropRow s i h = length-without (s .rows) i h
+
+-- There are as many rows as before, or the current row was zero and there is one row fewer.
+pub stepped-rows : {side : Side} {s s' : State} → Stepped side s s' → (length (s' .rows) ≡ length (s .rows))
+    ⊎ ((current s < length (s .rows)) × T (zeroRow (rowAt s (current s))) × (suc (length (s' .rows)) ≡ length (s .rows)))
 unfolding settle countShift
-stepped-length {side} {s} (combined j a b c d e f r g) = length-putRow (listed side s j) (current s) r ∙ listed-rows side s j
-stepped-length (settled c a b d e) = refl
-stepped-length {s} (shifted r a b c d e) = length-putRow (countShift s) (current s) r
+stepped-rows {side} {s} (combined j a b c d e f r g) = inl (combined-length side s j r)
+stepped-rows (settled c a b d e) = inl refl
+stepped-rows {s} (shifted r a b c d e) = inl (length-putRow (countShift s) (current s) r)
+stepped-rows {s} (dropped a b) = inr (a, b, length-dropRow s (current s) a)
+
+-- No step adds a row.
+pub stepped-length : {side : Side} {s s' : State} → Stepped side s s' → length (s' .rows) ≤ length (s .rows)
+stepped-length t = elim (stepped-rows t) [ inl e ↦ le-of-eq e | inr h ↦ omega (arith, h .2) ]
 
 pub stepped-relations : {side : Side} {s s' : State} → Stepped side s s' → (l : List Relation) × (s' .relations ≡ s .relations ++ l)
-unfolding putRow settle countShift
+unfolding putRow settle countShift dropRow
 stepped-relations {side} {s} (combined j a b c d e f r g) =
     (rootRelations side (multipliersFor s j .g) (rowAt (exchanged s j) (current s)), listed-relations side s j)
 stepped-relations {s} (settled c a b d e) = ([], sym (append-nil (s .relations)))
 stepped-relations {s} (shifted r a b c d e) = ([], sym (append-nil (s .relations)))
+stepped-relations {s} (dropped a b) = ([], sym (append-nil (s .relations)))
 
-pub chain-length : {side : Side} {s s' : State} {k : ℕ} → Chain side s k s' → length (s' .rows) ≡ length (s .rows)
-chain-length here = refl
-chain-length (next c t) = stepped-length t ∙ chain-length c
+pub chain-length : {side : Side} {s s' : State} {k : ℕ} → Chain side s k s' → length (s' .rows) ≤ length (s .rows)
+chain-length {s} here = le-refl (length (s .rows))
+chain-length (next c t) = le-trans (stepped-length t) (chain-length c)
 
 pub chain-relations : {side : Side} {s s' : State} {k : ℕ} → Chain side s k s' → (l : List Relation) × (s' .relations ≡ s .relations ++ l)
 chain-relations {s} here = ([], sym (append-nil (s .relations)))
@@ -283,7 +309,8 @@ left s = go (ltb (current s) (length (s .rows))) (ltb→lt (current s) (length (
 -- The current row, or the row that a combination would put into its place, has a right side and no left part.
 pub data Inconsistent (side : Side) (s : State) : Type 0 where
   at-once : T (contradicts (rowAt s (current s))) → Inconsistent side s
-  next-row : {s' : State} → Stepped side s s' → T (contradicts (rowAt s' (current s))) → Inconsistent side s
+  next-row : {s' : State} → Stepped side s s' → current s < length (s' .rows) → T (contradicts (rowAt s' (current s)))
+      → Inconsistent side s
 
 -- The outcome of one step from s.
 pub data StepView (side : Side) (s : State) : Outcome → Type 0 where
@@ -366,7 +393,7 @@ module _ (side : Side) (s : State) (more : current s < length (s .rows)) (nonzer
               → StepView side s (putLimited (listed side s j) (current s) (cond t (beyond 10) (within r)))
           put true e =
               inconsistent more
-              (next-row new
+              (next-row new (subst (λ n. current s < n) (sym (combined-length side s j r)) more)
               (subst (λ q. T (contradicts q)) (sym (rowAt-putRow-same (listed side s j) (current s) r (rw (listed-rows side s j) more)))
               (rw e tt)))
           put false e = goes-on new
@@ -555,3 +582,39 @@ run-refused side k s n = go (run-view side k s)
     go (all-taken c h) e = absurd (going≢refused e)
     go (came-to-end c h) e = absurd (done≢refused e)
     go (step-stopped {j} {u = u} c h f) e = (j, u, c, h, f ∙ e)
+
+-- ---- no row is dropped by a run
+
+-- The row that a combination has made zero is refused by the next step (SCOPE 2.45).
+pub zero-refused : (side : Side) (s : State) → current s < length (s .rows) → T (zeroRow (rowAt s (current s))) → step side s
+    ≡ refused 6
+unfolding step workOn
+zero-refused side s below zeros =
+    cond-passed (zeroRow (rowAt s (current s))) (refused 6) _ zeros
+
+step-rows : {side : Side} {s s' : State} → step side s ≡ going s' → Stepped side s s' → length (s' .rows) ≡ length (s .rows)
+step-rows {side} {s} e t = elim (stepped-rows t)
+    [ inl same ↦ same | inr h ↦ absurd (going≢refused (sym e ∙ zero-refused side s (h .0) (h .1))) ]
+
+-- A run that is done has as many rows as it began with (SCOPE 2.11).
+pub run-rows : (side : Side) (k : ℕ) (s s' : State) → run side k s ≡ done s' → length (s' .rows) ≡ length (s .rows)
+unfolding run
+run-rows side zero s s' = go (left s)
+  where
+    go : {t : Bool} → Left s t → cond t (done s) (going s) ≡ done s' → length (s' .rows) ≡ length (s .rows)
+    go (none-left h) e = ap (λ u. length (u .rows)) (sym (done-injective e))
+    go (row-left h) e = absurd (going≢done e)
+run-rows side (suc k) s s' = go (left s) (run-rows side k)
+  where
+    stepped : (o : Outcome) → step side s ≡ o → StepView side s o
+        → ((u u' : State) → run side k u ≡ done u' → length (u' .rows) ≡ length (u .rows))
+        → andThen o (run side k) ≡ done s' → length (s' .rows) ≡ length (s .rows)
+    stepped o e (zero-row i z) rec f = absurd (done≢refused (sym f))
+    stepped o e (over-limit n i z c) rec f = absurd (done≢refused (sym f))
+    stepped o e (inconsistent i z) rec f = absurd (done≢refused (sym f))
+    stepped o e (goes-on {s' = u} p) rec f = rec u s' f ∙ step-rows e p
+
+    go : {t : Bool} → Left s t → ((u u' : State) → run side k u ≡ done u' → length (u' .rows) ≡ length (u .rows))
+        → cond t (done s) (andThen (step side s) (run side k)) ≡ done s' → length (s' .rows) ≡ length (s .rows)
+    go (none-left h) rec e = ap (λ u. length (u .rows)) (sym (done-injective e))
+    go (row-left h) rec e = stepped (step side s) refl (step-view side s h) rec e

@@ -4,44 +4,48 @@
 --   mirrored-sequences      a sequence satisfies the input exactly if it satisfies the mirror of u
 --   diagonal-back           block t of the mirror of u is triangular
 --   valid-back              the mirror of u is a valid system
---   independent-back        the input is not dependent
---   agrees-back             solutions that agree on D vectors below the report agree at all lower indices
+--   dropped-back            the input is dependent exactly if u has fewer rows
+--   agrees-back             with m rows, solutions that agree on D vectors below the report agree at all lower indices
 -- and of any valid system:
 --   trailing-dependent      a system that the trailing run refuses with 6 is dependent
 --   trailing-inconsistent   one that it refuses with 10 is satisfied by no sequence
-use mathlib.Core.Path.{_≡_, _∙_, subst}
-use mathlib.Core.Logic.{_↔_, Iff·trans, Iff·symm}
+use mathlib.Core.Path.{_≡_, sym, subst}
+use Prim.Native.Nat.{_<_}
+use mathlib.Core.Logic.{_↔_, Iff·rfl, Iff·trans, Iff·symm}
 use mathlib.Core.List.{List, map}
+use lib.ListN.{length, length-map}
 use lib.IntN.{ℤ, pos, negℤ, _+ℤ_, negℤ-negℤ}
 use lib.Signed.{_≤ℤ_, _<ℤ_}
 use Rattle.rules.specs.Rows.{Row, Relation, mirrorRow, mirrorRelation}
 use Rattle.lists.specs.Everywhere.{All, all-mono}
 use Rattle.rules.specs.Elimination.{leading, trailing, State, start, refused, run, enough, wholeRun, trailingRun, mirrorState, report}
-use Rattle.rules.specs.Stores.{Sizes, equations, span, Valid}
+use Rattle.rules.specs.Stores.{Sizes, span}
 use Rattle.rules.specs.Sequences.{Sequence, Satisfies, Same, Dependent}
+use Rattle.theory.specs.Steps.{current}
 use Rattle.theory.specs.Triangular.{triangular-start}
-use Rattle.theory.specs.LimitsKept.{StateShaped}
+use Rattle.theory.specs.LimitsKept.{StateShaped, ValidRows}
 use Rattle.theory.specs.Solutions.{run-solutions}
 use Rattle.theory.specs.Inconsistency.{refused-unsatisfied}
-use Rattle.theory.specs.Dependence.{chain-dependent, settled-independent, refused-dependent}
+use Rattle.theory.specs.Dependence.{settled-dropped, refused-dependent}
 use Rattle.theory.specs.Ending.{mirrorOutcome-refused}
 use Rattle.theory.specs.Report.{Past}
-use Rattle.theory.specs.Mirror.{mirrorSizes, Reaches, Spans, reflect, span-sum, mirror-equations, mirror-span, mirror-valid}
+use Rattle.theory.specs.Mirror.{mirrorSizes, Reaches, Spans, reflect, span-sum, mirror-span, mirror-valid}
 use Rattle.theory.specs.Mirror.{mirror-satisfies}
 use Rattle.theory.specs.Mirror.{mirror-satisfies-back, mirror-dependent, valid-rows-span, valid-relations-span}
 use Rattle.theory.specs.BackSubstitution.{TriangularRows}
 use Rattle.theory.specs.Agreement.{trailing-agreement}
-use Rattle.theory.specs.Settled.{as-many, Diagonal, Settled, settled-valid, settled-triangular, settled-rows, settled-diagonal}
+use Rattle.theory.specs.Settled.{Diagonal, Settled, settled-valid, settled-count, settled-rows, settled-diagonal}
 use Rattle.theory.specs.Settled.{nonzero-of-diagonal, mirrored-diagonal}
 
-pub valid-shapes : {z : Sizes} {rows : List Row} {relations : List Relation} → Valid z rows relations → StateShaped (start rows relations)
+pub valid-shapes : {z : Sizes} {rows : List Row} {relations : List Relation} → ValidRows z rows relations
+    → StateShaped (start rows relations)
 unfolding start
 valid-shapes v = record { row-shapes = v .row-shapes; relation-shapes = v .relation-shapes }
 
 mirrorSizes-twice : (z : Sizes) → mirrorSizes (mirrorSizes z) ≡ z
 mirrorSizes-twice z = λ i. record { m = z .m; l = negℤ-negℤ (z .l) i; t = negℤ-negℤ (z .t) i }
 
-module _ {z : Sizes} {rows : List Row} {relations : List Relation} (v : Valid z rows relations) where
+module _ {z : Sizes} {rows : List Row} {relations : List Relation} (v : ValidRows z rows relations) where
   sum : z .l ≡ z .t +ℤ pos (span z)
   sum = span-sum z (v .sizes)
 
@@ -91,41 +95,39 @@ module _ {z : Sizes} {rows : List Row} {relations : List Relation} (v : Valid z 
         (m .relation-shapes) (a .chain))
         (Iff·symm (mirror-satisfies-back (span z) (z .l) (z .t) sum y (u .rows) (u .relations) spans relations-span)))
 
-    leading-diagonal : Diagonal leading (equations z) (z .m) (span z) u
-    leading-diagonal =
-        subst (λ e. Diagonal leading e (z .m) (span z) u) (mirror-equations z)
-        (subst (λ d. Diagonal leading (equations (mirrorSizes z)) (z .m) d u) (mirror-span z) (settled-diagonal a))
+    leading-diagonal : Diagonal leading (current u) (z .m) (span z) u
+    leading-diagonal = subst (λ d. Diagonal leading (current u) (z .m) d u) (mirror-span z) (settled-diagonal a)
 
-    pub diagonal-back : Diagonal trailing (equations z) (z .m) (span z) (mirrorState (span z) u)
+    pub diagonal-back : Diagonal trailing (current u) (z .m) (span z) (mirrorState (span z) u)
     diagonal-back =
-        mirrored-diagonal (equations z) (z .m) (span z) u
+        mirrored-diagonal (current u) (z .m) (span z) u
         (all-mono (Spans (span z)) (Reaches (span z)) (λ r h. h .reaches) (u .rows) spans) leading-diagonal
 
-    pub valid-back : Valid z (mirrorState (span z) u .rows) (mirrorState (span z) u .relations)
+    pub valid-back : ValidRows z (mirrorState (span z) u .rows) (mirrorState (span z) u .relations)
     unfolding mirrorState
     valid-back =
-        subst (λ d. Valid z (map (mirrorRow d) (u .rows)) (map (mirrorRelation d) (u .relations))) (mirror-span z)
-        (subst (λ y. Valid y (map (mirrorRow (span (mirrorSizes z))) (u .rows))
+        subst (λ d. ValidRows z (map (mirrorRow d) (u .rows)) (map (mirrorRelation d) (u .relations))) (mirror-span z)
+        (subst (λ y. ValidRows y (map (mirrorRow (span (mirrorSizes z))) (u .rows))
         (map (mirrorRelation (span (mirrorSizes z))) (u .relations))) (mirrorSizes-twice z)
         (mirror-valid (mirrorSizes z) (u .rows) (u .relations) (settled-valid a)))
 
-    pub independent-back : Dependent (z .l) rows → ⊥
+    pub dropped-back : (current u < length rows) ↔ Dependent (z .l) rows
     unfolding start
-    independent-back d =
-        settled-independent (negℤ (z .t)) u (settled-triangular a) (a .all)
-        (chain-dependent (negℤ (z .t)) (valid-shapes (a .valid))
-        (triangular-start (map (mirrorRow (span z)) rows) (map (mirrorRelation (span z)) relations)) (a .chain) .0
-        (dependent-mirrored .0 d))
+    dropped-back =
+        Iff·trans (subst (λ n. (current u < length rows) ↔ (n < length (map (mirrorRow (span z)) rows))) (settled-count a)
+        (subst (λ n. (current u < length rows) ↔ (current u < n)) (sym (length-map rows (mirrorRow (span z)))) Iff·rfl))
+        (Iff·trans (settled-dropped (negℤ (z .t)) (valid-shapes (a .valid))
+        (triangular-start (map (mirrorRow (span z)) rows) (map (mirrorRelation (span z)) relations)) (a .chain) (a .all))
+        (Iff·symm dependent-mirrored))
 
-    pub agrees-back : (y w : Sequence) → Satisfies (z .l) rows relations y → Satisfies (z .l) rows relations w
+    pub agrees-back : current u ≡ z .m → (y w : Sequence) → Satisfies (z .l) rows relations y → Satisfies (z .l) rows relations w
         → (n : ℤ) → Past trailing (report trailing (span z) (mirrorState (span z) u)) n
         → ((i : ℤ) → (n +ℤ z .t) <ℤ i → i ≤ℤ (n +ℤ z .l) → Same (z .m) y w i)
         → (i : ℤ) → i ≤ℤ (n +ℤ z .l) → Same (z .m) y w i
     unfolding Satisfies
-    agrees-back y w hy hw =
+    agrees-back square y w hy hw =
         trailing-agreement (z .m) (span z) u
-        (subst (λ d. TriangularRows (z .m) d (u .rows) (u .order)) (mirror-span z) (settled-rows a (as-many (mirrorSizes z))))
-        (leading-diagonal .order-count ∙ as-many z)
-        (nonzero-of-diagonal leading (equations z) (z .m) (span z) u leading-diagonal) spans (z .l) (z .t) sum y w
+        (subst (λ d. TriangularRows (z .m) d (u .rows) (u .order)) (mirror-span z) (settled-rows a square)) square
+        (nonzero-of-diagonal leading (current u) (z .m) (span z) u leading-diagonal) spans (z .l) (z .t) sum y w
         (mirrored-sequences y .0 hy .0)
         (mirrored-sequences w .0 hw .0)

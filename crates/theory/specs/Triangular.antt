@@ -14,7 +14,7 @@ use mathlib.Core.Path.{_≡_, refl, sym, _∙_, ap, subst}
 use mathlib.Core.Bool.{not}
 use mathlib.Core.List.{List, [], _∷_, _++_}
 use mathlib.Core.Option.{some}
-use native.Mathlib.Nat.{not-suc-le-zero, le-refl}
+use native.Mathlib.Nat.{not-suc-le-zero, le-refl, le-trans, le-of-eq}
 use native.Mathlib.Numerals.{add-one}
 use native.Mathlib.Omega.{arith}
 use lib.Dec.{T}
@@ -29,10 +29,12 @@ use Rattle.theory.specs.Pivots.{PivotRow, PivotRows, settle-pivots}
 use Rattle.theory.specs.Replace.{replace-pivots}
 use Rattle.theory.specs.Exchange.{exchange-pivots}
 use Rattle.theory.specs.Combine.{combinedRow-zero, combine-clears}
+use Rattle.theory.specs.DropZero.{drop-pivots}
 use Rattle.theory.specs.Cells.{ZeroWhere}
 use Rattle.theory.specs.Steps.{Narrowed, narrowed, kept, swapped, current, met, MetZeroBelow, exchanged, listed, combination}
-use Rattle.theory.specs.Steps.{multipliersFor, Stepped, combined, settled, shifted, Chain, chain-induction, rowAt-putRow-same}
-use Rattle.theory.specs.Steps.{order-narrowFirst, limitDegrees-within, stepped-length, listed-order, listed-rows, length-putRow}
+use Rattle.theory.specs.Steps.{multipliersFor, Stepped, combined, settled, shifted, dropped, dropRow, Chain, chain-induction}
+use Rattle.theory.specs.Steps.{order-narrowFirst, limitDegrees-within, combined-length, listed-order, listed-rows, length-putRow}
+use Rattle.theory.specs.Steps.{length-dropRow, rowAt-putRow-same}
 use Rattle.theory.specs.Steps.{narrowFirst-both, firstNonzero-some}
 
 abbrev pub column : State → ℕ → ℕ
@@ -80,25 +82,29 @@ settled-triangular s c more clear found t =
     size = length-append (s .order) (c ∷ []) ∙ add-one (current s)
 
 -- A state with the same order, whose rows before the current one are pivot rows.
-same-order : (s u : State) → u .order ≡ s .order → length (u .rows) ≡ length (s .rows) → current s ≤ length (s .rows)
-    → PivotRows (current s) (s .order) (u .rows) → Triangular u
-same-order s u same size fits pivots =
+same-order : (s u : State) → u .order ≡ s .order → current s ≤ length (u .rows) → PivotRows (current s) (s .order) (u .rows)
+    → Triangular u
+same-order s u same fits pivots =
     record {
       fits = omega (arith, ap length same);
       pivots = subst (λ l. PivotRows (length l) l (u .rows)) (sym same) pivots;
     }
 
 pub triangular-stepped : {side : Side} {s s' : State} → Stepped side s s' → Triangular s → Triangular s'
-unfolding putRow listRelations countShift
+unfolding putRow listRelations countShift dropRow
 triangular-stepped {side} {s} (combined j below more nonzero clear meets few r f) t =
     same-order s (putRow (listed side s j) (current s) r) (listed-order side s j)
-    (stepped-length (combined j below more nonzero clear meets few r f)) (t .fits)
+    (le-trans (t .fits) (le-of-eq (sym (combined-length side s j r))))
     (replace-pivots (current s) (s .order) (exchanged s j .rows) (current s) r (le-refl (current s))
     (exchanged-pivots s j t below more clear meets))
 triangular-stepped {side} {s} (settled c more nonzero clear f) t = settled-triangular s c more clear f t
 triangular-stepped {side} {s} (shifted r more nonzero clear f g) t =
-    same-order s (putRow (countShift s) (current s) r) refl (length-putRow (countShift s) (current s) r) (t .fits)
+    same-order s (putRow (countShift s) (current s) r) refl
+    (le-trans (t .fits) (le-of-eq (sym (length-putRow (countShift s) (current s) r))))
     (replace-pivots (current s) (s .order) (s .rows) (current s) r (le-refl (current s)) (t .pivots))
+triangular-stepped {side} {s} (dropped more zeros) t =
+    same-order s (dropRow s (current s)) refl (omega (arith, length-dropRow s (current s) more))
+    (drop-pivots (current s) (s .order) (s .rows) (current s) (le-refl (current s)) (t .pivots))
 
 pub triangular-chain : {side : Side} {s s' : State} {k : ℕ} → Chain side s k s' → Triangular s → Triangular s'
 triangular-chain {side} = chain-induction side Triangular (λ u v. triangular-stepped)
