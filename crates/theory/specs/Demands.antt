@@ -9,7 +9,7 @@
 --   2 diagonal-nonzero        5 refused-dependent,      8 output-valid, relations-listed
 --                               refused-inconsistent
 --   3 agreement-leading,      6 run-ends,               9 next-row-later, zero-row-refused
---     agreement-trailing        shifts-bounded
+--     agreement-trailing        shifts-bounded          10 first-index, forward-from, backward-from
 use Prim.Native.Nat.{ℕ, suc, _*_, _≤_, _<_}
 use mathlib.Core.Path.{_≡_, refl, sym, _∙_, subst, ap}
 use mathlib.Core.Logic.{_↔_, inl, inr}
@@ -17,16 +17,17 @@ use mathlib.Core.Bool.{not}
 use mathlib.Core.List.{List, map, _++_, map-append}
 use mathlib.Core.Option.{none, some}
 use native.Mathlib.Omega.{arith}
+use native.Mathlib.Nat.{zero-add}
 use lib.Dec.{T}
 use lib.ListN.{length}
-use lib.IntN.{ℤ, _+ℤ_}
+use lib.IntN.{ℤ, pos, _+ℤ_, +ℤ-idr}
 use lib.Signed.{_≤ℤ_, _<ℤ_}
 use Rattle.algebra.specs.Polynomials.{isZero}
 use Rattle.rules.specs.Rows.{Row, Relation, zeroRow, width, mirrorRelation, mirrorRow}
 use Rattle.lists.specs.Everywhere.{All, all-mono}
 use Rattle.rules.specs.Elimination.{Side, leading, trailing, State, Outcome, going, done, refused, start, enough, step, run}
 use Rattle.rules.specs.Elimination.{wholeRun, leadingRun, trailingRun, mirrorState, diagonal, report, rowAt, putRow, limitDegrees, within}
-use Rattle.rules.specs.Stores.{Sizes, equations, span, rowRight, Valid}
+use Rattle.rules.specs.Stores.{Sizes, equations, span, rowRight, relationRight, unusedZero, Valid}
 use Rattle.rules.specs.Sequences.{Sequence, Satisfies, Same, Dependent}
 use Rattle.lists.specs.Tests.{every-all}
 use Rattle.theory.specs.Steps.{current, met, MetZeroBelow, combination, listed, Chain, Refusal, run-refused, step-refused}
@@ -35,10 +36,11 @@ use Rattle.theory.specs.Cells.{width-unused}
 use Rattle.theory.specs.Ending.{wholeRun-ends, wholeRun-shifts, mirrorOutcome-refused}
 use Rattle.theory.specs.Report.{Past, Rootless, FurthestRoot, report-none, report-some}
 use Rattle.theory.specs.Solutions.{run-solutions}
+use Rattle.theory.specs.FirstIndex.{SatisfiesFrom, from-same, chain-from, chain-from-back}
 use Rattle.theory.specs.ListedOrder.{Listed, leading-listed, trailing-listed}
 use Rattle.theory.specs.Triangular.{triangular-start, triangular-chain, combined-advances}
 use Rattle.theory.specs.Dependence.{settled-dropped, refused-dependent as run-dependent}
-use Rattle.theory.specs.LimitsKept.{rowRight-iff, ValidRows, valid-rows, counted-valid}
+use Rattle.theory.specs.LimitsKept.{rowRight-iff, relationRight-iff, ValidRows, valid-rows, counted-valid}
 use Rattle.theory.specs.Mirror.{span-sum, Reaches, Spans, valid-relations-span, mirrorRelations-twice}
 use Rattle.theory.specs.Agreement.{leading-agreement}
 use Rattle.theory.specs.Trailing.{valid-shapes, mirrored-sequences, diagonal-back, valid-back, dropped-back, agrees-back}
@@ -256,3 +258,44 @@ next-row-later {side} rows relations {s = s} c j below more clear meets =
 pub zero-row-refused : (side : Side) (s : State) → current s < length (s .rows) → T (zeroRow (rowAt s (current s))) → step side s
     ≡ refused 6
 zero-row-refused = zero-refused
+
+-- ---- sequences with a first index, on the leading side
+
+-- The rows of a valid system have no block below t and no column past m, and so have those of its relations.
+valid-unused : {z : Sizes} {rows : List Row} {relations : List Relation} → Valid z rows relations
+    → All (λ r. T (unusedZero (z .m) (span z) r)) rows × All (λ e. T (unusedZero (z .m) (span z) (e .row))) relations
+valid-unused {z} {rows} {relations} v = (
+  all-mono (λ r. T (rowRight z r)) (λ r. T (unusedZero (z .m) (span z) r)) (λ r t. rowRight-iff z r .0 t .1) rows
+      (every-all (rowRight z) rows .0 (v .rows-right)),
+  all-mono (λ e. T (relationRight z e)) (λ e. T (unusedZero (z .m) (span z) (e .row)))
+      (λ e t. rowRight-iff z (e .row) .0 (relationRight-iff z e .0 t .1) .1) relations
+      (every-all (relationRight z) relations .0 (v .relations-right)),
+)
+
+-- 10. Of a sequence that satisfies the equations at every n ≥ k and the relations with n0 ≥ k, nothing below the index k + t is used,
+-- so that a two-sided sequence serves for a series that begins there.
+pub first-index : {z : Sizes} {rows : List Row} {relations : List Relation} → Valid z rows relations → (k : ℤ) (y w : Sequence)
+    → ((i : ℤ) → (k +ℤ z .t) ≤ℤ i → Same (z .m) y w i)
+    → SatisfiesFrom (z .l) k k rows relations y → SatisfiesFrom (z .l) k k rows relations w
+first-index {z} {rows} {relations} v k y w same =
+    let unused = valid-unused v in
+    from-same (z .m) (span z) (z .l) (z .t) k (span-sum z (v .sizes)) y w same rows relations (unused .0) (unused .1)
+
+-- What satisfies the input's equations at every n ≥ k and its relations with n0 ≥ k does so with those of the output.
+pub forward-from : {z : Sizes} {rows : List Row} {relations : List Relation} {s : State} → Accepted leading z rows relations s
+    → (k : ℤ) (y : Sequence) → SatisfiesFrom (z .l) k k rows relations y → SatisfiesFrom (z .l) k k (s .rows) (s .relations) y
+unfolding start
+forward-from {z} a k y =
+    chain-from (z .l) y k (valid-shapes (valid-rows (a .valid))) (settled-leading (a .valid) (a .accepts) .chain)
+
+-- What satisfies those of the output satisfies the input's equations at every n ≥ k + S, with S shifts, and its relations with
+-- n0 ≥ k.
+pub backward-from : {z : Sizes} {rows : List Row} {relations : List Relation} {s : State} → Accepted leading z rows relations s
+    → (k : ℤ) (y : Sequence) → SatisfiesFrom (z .l) k k (s .rows) (s .relations) y
+    → SatisfiesFrom (z .l) (k +ℤ pos (s .shifts)) k rows relations y
+unfolding start
+backward-from {z} {rows} {relations} {s} a k y f =
+    subst (λ n. SatisfiesFrom (z .l) (k +ℤ pos n) k rows relations y) (zero-add (s .shifts))
+    (chain-from-back (z .l) y k (valid-shapes (valid-rows (a .valid))) (triangular-start rows relations) refl
+    (settled-leading (a .valid) (a .accepts) .chain) 0
+    (subst (λ j. SatisfiesFrom (z .l) j k (s .rows) (s .relations) y) (sym (+ℤ-idr k)) f))

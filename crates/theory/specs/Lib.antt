@@ -20,6 +20,7 @@ pub mod Triangular
 pub mod LimitsKept
 pub mod Ending
 pub mod Solutions
+pub mod FirstIndex
 pub mod Inconsistency
 pub mod ListedOrder
 pub mod Dependence
