@@ -1,5 +1,6 @@
 pub mod Limits
 pub mod Rows
+pub mod CommonRoots
 pub mod Elimination
 pub mod Stores
 pub mod Sequences

@@ -15,6 +15,7 @@ pub mod ShiftUp
 pub mod ShiftDown
 pub mod DropZero
 pub mod Multipliers
+pub mod Reduced
 pub mod Steps
 pub mod Triangular
 pub mod LimitsKept
