@@ -10,3 +10,4 @@ pub mod Gcd
 pub mod Vanishing
 pub mod Divisors
 pub mod Roots
+pub mod Multiplicity

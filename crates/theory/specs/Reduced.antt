@@ -10,37 +10,28 @@
 --   reduced-nonzero    the pivot's entry stays nonzero
 --   reduced-small, length-reduced   both stay within ±C and keep their lengths
 --   reduced-left       where both still vanish at r, the limit has left a division by n - r out
+--   reduced-listed     a relation at a common root is listed only there, or where the root occurs more often in the pivot's entry
 use Prim.Native.Nat.{ℕ, zero, suc, _≤_, _<_}
 use mathlib.Core.Path.{_≡_, refl, sym, _∙_, ap, subst}
-use mathlib.Core.Logic.{_↔_, ⊎-elim}
+use mathlib.Core.Logic.{_↔_, _⊎_, inl, inr, ⊎-elim}
 use mathlib.Core.Bool.{Bool, true, false, _&&_, not, cond}
 use mathlib.Core.List.{List, [], _∷_, List·Memᴰ, List·Memᴰ·not-nil, List·Memᴰ·cases-cons}
 use native.Mathlib.Nat.{not-suc-le-zero, le-refl}
 use native.Mathlib.Omega.{arith}
 use lib.Dec.{T, T-not, not-T}
 use lib.ListN.{length}
-use lib.IntN.{ℤ, pos, negℤ, _+ℤ_, _-ℤ_, _*ℤ_, *ℤ-zero, zero-*ℤ, +ℤ-idr, +ℤ-invr}
+use lib.IntN.{ℤ, pos, negℤ, _+ℤ_, _-ℤ_, _*ℤ_, *ℤ-zero, zero-*ℤ, +ℤ-invr, ℤ-discrete}
 use Rattle.algebra.specs.Integers.{ringℤ, *ℤ-assoc}
 use Rattle.algebra.specs.Polynomials.{Polynomial, eval, isZero, isZeroℤ, degree, mul, quotient, eval-mul, eval-isZero, isZeroℤ-iff, isZero-cons}
 use Rattle.algebra.specs.Coefficients.{degree-lt-length, mul-nonzero}
 use Rattle.algebra.specs.Vanishing.{factor, factor-root, quotient-length, quotient-nonzero, degree-quotient, zero-everywhere}
 use Rattle.algebra.specs.Roots.{roots, roots-complete, place}
+use Rattle.algebra.specs.Multiplicity.{linear, linear-nonzero, eval-linear, multiplicity, multiplicity-occurs, occurs-none, occurs-same}
+use Rattle.algebra.specs.Multiplicity.{occurs-mul, occurs-unique, multiplicity-root}
 use Rattle.lists.specs.Sifted.{keep, mem-keep}
 use Rattle.lists.specs.Tests.{every, T-&&}
 use Rattle.rules.specs.Limits.{small}
 use Rattle.rules.specs.CommonRoots.{Entries, bothVanish, bothSmall, quotients, divisible, divideAt, divideEach, commonRoots, reduced}
-
--- n - r
-abbrev linear : ℤ → Polynomial
-linear r = negℤ r ∷ pos 1 ∷ []
-
-linear-nonzero : (r : ℤ) → T (not (isZero (linear r)))
-unfolding isZero isZeroℤ every
-linear-nonzero r = not-T (isZero (linear r)) (λ z. isZero-cons (negℤ r) (pos 1 ∷ []) .0 z .1)
-
-eval-linear : (r x : ℤ) → eval (linear r) x ≡ x -ℤ r
-unfolding eval
-eval-linear r x = simp ringℤ
 
 -- p is n - r times the quotient exactly if p vanishes at r.
 pub root-factor : (p : Polynomial) (r : ℤ)
@@ -253,3 +244,26 @@ reduced-left e r n v =
     let among = mem-keep (λ q. isZeroℤ (eval (e .target) q)) (roots (e .pivot)) .1
     (roots-complete (e .pivot) r n (zeros .0), isZeroℤ-iff (eval (e .target) r) .1 (zeros .1)) in
     left-among (length (e .pivot)) (commonRoots e) r e (place (commonRoots e) among) n (le-refl (length (e .pivot))) v
+
+-- A relation is listed at a common root r of both entries only where the limit has left a division by n - r out, or where r
+-- occurs more often in row j's entry than in row i's.
+pub reduced-listed : (e : Entries) (r : ℤ) → T (not (isZero (e .pivot))) → T (not (isZero (e .target)))
+    → eval (reduced e .pivot) r ≡ pos 0 → LeftOut r e ⊎ (multiplicity (e .target) r < multiplicity (e .pivot) r)
+reduced-listed e r n m root = cases (ℤ-discrete (eval (reduced e .target) r) (pos 0))
+  where
+    cases : Dec (eval (reduced e .target) r ≡ pos 0) → LeftOut r e ⊎ (multiplicity (e .target) r < multiplicity (e .pivot) r)
+    cases (yes also) = inl (reduced-left e r n (vanish r (reduced e) .1 (root, also)))
+    cases (no other) =
+        let f = reduced-divides e in
+        let left = reduced-nonzero e n in
+        let shared = multiplicity-occurs (f .factor) r (f .nonzero) in
+        let more = occurs-same (λ x. f .pivots x ∙ sym (eval-mul (f .factor) (reduced e .pivot) x))
+        (occurs-mul shared (multiplicity-occurs (reduced e .pivot) r left)) in
+        let same = occurs-same (λ x. f .targets x ∙ sym (eval-mul (f .factor) (reduced e .target) x))
+        (occurs-mul shared (occurs-none (reduced e .target) r other)) in
+        inr (omega (
+          arith,
+          occurs-unique (multiplicity-occurs (e .pivot) r n) more,
+          occurs-unique (multiplicity-occurs (e .target) r m) same,
+          multiplicity-root (reduced e .pivot) r left .0 root,
+        ))
