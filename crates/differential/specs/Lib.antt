@@ -1,0 +1,3 @@
+pub mod Differential
+pub mod Recurrence
+pub mod Meaning

@@ -1,0 +1,1 @@
+// Differential sheets: definitions and laws are in specs/.
