@@ -3,3 +3,9 @@ pub mod Recurrence
 pub mod Meaning
 pub mod Grammar
 pub mod Calls
+pub mod Read
+pub mod Extents
+pub mod Added
+pub mod Rows
+pub mod Sections
+pub mod WholeSheet

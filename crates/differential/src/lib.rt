@@ -1,1 +1,6 @@
 // Differential sheets: definitions and laws are in specs/.
+mod equations;
+mod extent;
+mod rows;
+mod sheet;
+mod terms;
