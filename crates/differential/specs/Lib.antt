@@ -1,3 +1,5 @@
 pub mod Differential
 pub mod Recurrence
 pub mod Meaning
+pub mod Terms
+pub mod SameSolutions
