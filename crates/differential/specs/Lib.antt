@@ -3,3 +3,4 @@ pub mod Recurrence
 pub mod Meaning
 pub mod Terms
 pub mod SameSolutions
+pub mod ValidRecurrence

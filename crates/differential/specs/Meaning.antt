@@ -5,6 +5,7 @@
 --   timesVariable, derivative   what the variable and a derivative do to them
 --   termMeaning z t         the coefficients of a × variable^j × (k-th derivative of unknown c)
 --   equationMeaning z ts    those of the sum of the terms
+--   Vanishes f              f is the zero series
 --   SatisfiesDifferential d z   every equation's sum is the zero series
 --   Series z                z has finitely many negative powers: it is zero below some index
 use Prim.Native.Nat.{ℕ, zero, suc, pred}
@@ -42,9 +43,13 @@ unfolding termMeaning
 equationMeaning z [] n = pos 0
 equationMeaning z (t ∷ ts) n = termMeaning z t n +ℤ equationMeaning z ts n
 
+-- The zero series.
+abbrev pub Vanishes : Coefficients → Type 0
+Vanishes f = (n : ℤ) → f n ≡ pos 0
+
 unfoldable pub SatisfiesDifferential : DifferentialSheet → Sequence → Type 0
 unfolding All equationMeaning
-SatisfiesDifferential d z = All (λ ts. (n : ℤ) → equationMeaning z ts n ≡ pos 0) (d .equations)
+SatisfiesDifferential d z = All (λ ts. Vanishes (equationMeaning z ts)) (d .equations)
 
 pub record Series (z : Sequence) : Type 0 where
   pub first : ℤ

@@ -22,8 +22,8 @@ unfolding mul
 rising b zero = pos 1 ∷ []
 rising b (suc k) = mul ((b +ℤ pos 1) ∷ pos 1 ∷ []) (rising (b +ℤ pos 1) k)
 
--- The variable is one index down, a derivative n + 1 times one index up: of variable^j times the k-th derivative the coefficient at
--- n is that of the unknown at n - j + k, times one factor for each derivative.
+-- The variable is one index down, a derivative n + 1 times one index up: of variable^j times the k-th derivative the
+-- coefficient at n is that of the unknown at n - j + k, times one factor for each derivative.
 unfoldable pub termPolynomial : DifferentialTerm → Polynomial
 unfolding padTo scale rising
 termPolynomial t = padTo coefficientCount (pos 0) (scale (t .factor) (rising (negℤ (pos (t .power))) (t .derivative)))

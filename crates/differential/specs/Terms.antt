@@ -2,20 +2,23 @@
 --
 -- Main statements
 --   times-variable, times-derivative   the variable taken j times and the derivative taken k times, at one index
---   term-value       the coefficient of a term at n is its polynomial's value times the unknown's coefficient at n - j + k
+--   term-value       the coefficient of a term at n is its polynomial's value times the unknown's coefficient at
+--                    n - j + k
 --   addTerm-shaped   adding a term keeps the shape of a row in a store
 --   addTerm-value    adding a term adds what the term means; addTerms-value: and so adding several
 --   row-value        the value of an equation's row at n is the coefficient of the equation's sum
 use Prim.Native.Nat.{ℕ, zero, suc, _+_, _-_, _≤_, _<_, pred, max, zero-le}
-use native.Mathlib.Nat.{not-suc-le-zero, le-of-suc-le-suc, sub-add-cancel}
+use native.Mathlib.Nat.{not-suc-le-zero, le-of-suc-le-suc}
 use native.Mathlib.Omega.{arith}
 use mathlib.Core.Path.{_≡_, refl, sym, _∙_, ap, ap₂, subst}
 use mathlib.Core.List.{List, [], _∷_}
 use lib.Dec.{T}
 use lib.ListN.{length, getD, set, replicate, length-set}
-use lib.IntN.{ℤ, pos, negℤ, predℤ, _+ℤ_, _-ℤ_, _*ℤ_, +ℤ-idl, +ℤ-idr, +ℤ-assoc, +ℤ-comm, -ℤ-one, +ℤ-negℤ-cancel, -ℤ-+ℤ-cancel}
+use lib.IntN.{ℤ, pos, negℤ, predℤ, _+ℤ_, _-ℤ_, _*ℤ_, +ℤ-idl, +ℤ-idr, +ℤ-assoc, -ℤ-one}
+use lib.IntN.{+ℤ-negℤ-cancel, -ℤ-+ℤ-cancel}
 use Rattle.algebra.specs.Integers.{ringℤ, *ℤ-assoc}
-use Rattle.algebra.specs.Polynomials.{Polynomial, eval, add, scale, mul, eval-add, eval-scale, eval-mul, length-mul-le, length-scale, length-add}
+use Rattle.algebra.specs.Polynomials.{Polynomial, eval, add, scale, eval-add, eval-scale, eval-mul}
+use Rattle.algebra.specs.Polynomials.{length-mul-le, length-scale, length-add}
 use Rattle.lists.specs.Everywhere.{All, all-set, all-getD, all-replicate}
 use Rattle.lists.specs.Padded.{padTo, length-padTo}
 use Rattle.rules.specs.Limits.{coefficientCount, columnCount, blockCount}
@@ -36,7 +39,8 @@ times-variable zero f n = ap f (sym (+ℤ-idr n))
 times-variable (suc j) f n = times-variable j f (n -ℤ pos 1) ∙ ap f (ap (λ x. x -ℤ pos j) (-ℤ-one n) ∙ index-below n j)
 
 -- At n + b, so that the factors are those of `rising`.
-pub times-derivative : (k : ℕ) (f : Coefficients) (n b : ℤ) → times k derivative f (n +ℤ b) ≡ eval (rising b k) n *ℤ f (n +ℤ b +ℤ pos k)
+pub times-derivative : (k : ℕ) (f : Coefficients) (n b : ℤ)
+    → times k derivative f (n +ℤ b) ≡ eval (rising b k) n *ℤ f (n +ℤ b +ℤ pos k)
 unfolding times derivative rising eval
 times-derivative zero f n b = ap f (sym (+ℤ-idr (n +ℤ b))) ∙ start (f (n +ℤ b +ℤ pos 0))
   where
@@ -53,7 +57,10 @@ times-derivative (suc k) f n b =
     one-more = omega arith
 
     next : n +ℤ (b +ℤ pos 1) +ℤ pos k ≡ n +ℤ b +ℤ pos (suc k)
-    next = ap (λ x. x +ℤ pos k) (sym (+ℤ-assoc n b (pos 1))) ∙ +ℤ-assoc (n +ℤ b) (pos 1) (pos k) ∙ ap (λ m. n +ℤ b +ℤ pos m) one-more
+    next =
+        ap (λ x. x +ℤ pos k) (sym (+ℤ-assoc n b (pos 1)))
+        ∙ +ℤ-assoc (n +ℤ b) (pos 1) (pos k)
+        ∙ ap (λ m. n +ℤ b +ℤ pos m) one-more
 
     factor : (x y : ℤ) → (n +ℤ b +ℤ pos 1) *ℤ (x *ℤ y) ≡ (b +ℤ pos 1 +ℤ n *ℤ (pos 1 +ℤ n *ℤ pos 0)) *ℤ x *ℤ y
     factor x y = simp ringℤ
@@ -63,7 +70,8 @@ times-derivative (suc k) f n b =
 pub length-rising : (b : ℤ) (k : ℕ) → length (rising b k) ≤ suc (k + k)
 unfolding rising
 length-rising b zero = omega arith
-length-rising b (suc k) = omega (arith, length-mul-le ((b +ℤ pos 1) ∷ pos 1 ∷ []) (rising (b +ℤ pos 1) k), length-rising (b +ℤ pos 1) k)
+length-rising b (suc k) =
+    omega (arith, length-mul-le ((b +ℤ pos 1) ∷ pos 1 ∷ []) (rising (b +ℤ pos 1) k), length-rising (b +ℤ pos 1) k)
 
 eval-padTo : (n : ℕ) (p : Polynomial) (x : ℤ) → length p ≤ n → eval (padTo n (pos 0) p) x ≡ eval p x
 unfolding padTo eval
@@ -77,14 +85,16 @@ eval-padTo (suc n) (a ∷ p) x h = ap (λ e. a +ℤ x *ℤ e) (eval-padTo n p x 
 
 pub length-termPolynomial : (t : DifferentialTerm) → length (termPolynomial t) ≡ coefficientCount
 unfolding termPolynomial
-length-termPolynomial t = length-padTo coefficientCount (pos 0) (scale (t .factor) (rising (negℤ (pos (t .power))) (t .derivative)))
+length-termPolynomial t =
+    length-padTo coefficientCount (pos 0) (scale (t .factor) (rising (negℤ (pos (t .power))) (t .derivative)))
 
 pub term-value : (z : Sequence) (t : DifferentialTerm) (n : ℤ) → t .derivative ≤ mostDerivative
     → termMeaning z t n ≡ eval (termPolynomial t) n *ℤ z (n -ℤ pos (t .power) +ℤ pos (t .derivative)) (pred (t .column))
 unfolding termMeaning termPolynomial
 term-value z t n h =
     ap (λ x. t .factor *ℤ x)
-    (times-variable (t .power) (times (t .derivative) derivative column) n ∙ times-derivative (t .derivative) column n (negℤ (pos (t .power))))
+    (times-variable (t .power) (times (t .derivative) derivative column) n
+    ∙ times-derivative (t .derivative) column n (negℤ (pos (t .power))))
     ∙ sym (*ℤ-assoc (t .factor) (eval factors n) (column (n -ℤ pos (t .power) +ℤ pos (t .derivative))))
     ∙ ap (λ e. e *ℤ column (n -ℤ pos (t .power) +ℤ pos (t .derivative)))
     (sym (eval-padTo coefficientCount (scale (t .factor) factors) n fits ∙ eval-scale (t .factor) factors n))
@@ -145,7 +155,8 @@ pub blank-shaped : StoreRow blankRow
 unfolding Shaped blankRow
 blank-shaped = (
   refl,
-  all-replicate FullBlock blockCount (replicate columnCount zeros) (refl, all-replicate FullPolynomial columnCount zeros refl),
+  all-replicate FullBlock blockCount (replicate columnCount zeros)
+      (refl, all-replicate FullPolynomial columnCount zeros refl),
   refl,
 )
   where
@@ -158,8 +169,8 @@ blank-zero = tt
 
 -- ---- a term added to a row
 
-module _ {m K J : ℕ} {t : DifferentialTerm} (columns : m ≤ columnCount) (orders : K ≤ mostDerivative) (powers : J ≤ mostPower)
-    (valid : ValidTerm m K J t) where
+module _ {m K J : ℕ} {t : DifferentialTerm} (columns : m ≤ columnCount) (orders : K ≤ mostDerivative)
+    (powers : J ≤ mostPower) (valid : ValidTerm m K J t) where
   pub place-used : placeOf K t ≤ K + J
   unfolding placeOf
   place-used = omega (arith, valid .power-most)
@@ -176,7 +187,8 @@ module _ {m K J : ℕ} {t : DifferentialTerm} (columns : m ≤ columnCount) (ord
   -- Block k - j, which stands at the place of the term, meets the sequence at n - j + k.
   place-index : (n : ℤ) → n +ℤ pos K -ℤ pos (placeOf K t) ≡ n -ℤ pos (t .power) +ℤ pos (t .derivative)
   unfolding placeOf
-  place-index n = ap (λ x. x -ℤ pos (placeOf K t)) up ∙ +ℤ-negℤ-cancel (n -ℤ pos (t .power) +ℤ pos (t .derivative)) (pos (placeOf K t))
+  place-index n =
+      ap (λ x. x -ℤ pos (placeOf K t)) up ∙ +ℤ-negℤ-cancel (n -ℤ pos (t .power) +ℤ pos (t .derivative)) (pos (placeOf K t))
     where
       together : t .power + K ≡ t .derivative + placeOf K t
       together = omega (arith, valid .derivative-most)
@@ -207,7 +219,7 @@ module _ {m K J : ℕ} {t : DifferentialTerm} (columns : m ≤ columnCount) (ord
       shape .2,
     )
       where
-        sum-length : length (add (getD (getD (r .blocks) (placeOf K t) []) (pred (t .column)) []) (termPolynomial t)) ≡ coefficientCount
+        sum-length : FullPolynomial (add (getD (getD (r .blocks) (placeOf K t) []) (pred (t .column)) []) (termPolynomial t))
         sum-length =
             length-add (getD (getD (r .blocks) (placeOf K t) []) (pred (t .column)) []) (termPolynomial t)
             ∙ ap₂ max
@@ -215,7 +227,8 @@ module _ {m K J : ℕ} {t : DifferentialTerm} (columns : m ≤ columnCount) (ord
             (rw (old-shape .0) column-inside) (old-shape .1))
             (length-termPolynomial t)
 
-    pub addTerm-value : (z : Sequence) (n : ℤ) → valueOf (pos K) (addTerm K t r) z n ≡ valueOf (pos K) r z n +ℤ termMeaning z t n
+    pub addTerm-value : (z : Sequence) (n : ℤ)
+        → valueOf (pos K) (addTerm K t r) z n ≡ valueOf (pos K) r z n +ℤ termMeaning z t n
     unfolding valueOf leftValue addTerm Shaped
     addTerm-value z n =
         ap (λ s. s -ℤ eval (r .right) n)
@@ -242,8 +255,8 @@ module _ {m K J : ℕ} {t : DifferentialTerm} (columns : m ≤ columnCount) (ord
 -- ---- the terms of an equation
 
 module _ (m K J : ℕ) (columns : m ≤ columnCount) (orders : K ≤ mostDerivative) (powers : J ≤ mostPower) where
-  pub addTerms-value : (ts : List DifferentialTerm) → All (ValidTerm m K J) ts → (r : Row) → StoreRow r → (z : Sequence) (n : ℤ)
-      → valueOf (pos K) (addTerms K r ts) z n ≡ valueOf (pos K) r z n +ℤ equationMeaning z ts n
+  pub addTerms-value : (ts : List DifferentialTerm) → All (ValidTerm m K J) ts → (r : Row) → StoreRow r
+      → (z : Sequence) (n : ℤ) → valueOf (pos K) (addTerms K r ts) z n ≡ valueOf (pos K) r z n +ℤ equationMeaning z ts n
   unfolding addTerms equationMeaning All
   addTerms-value [] a r shape z n = sym (+ℤ-idr (valueOf (pos K) r z n))
   addTerms-value (t ∷ ts) a r shape z n =
