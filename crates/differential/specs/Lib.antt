@@ -6,3 +6,5 @@ pub mod Calls
 pub mod Terms
 pub mod SameSolutions
 pub mod ValidRecurrence
+pub mod Deciding
+pub mod Longer

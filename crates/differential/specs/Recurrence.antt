@@ -5,7 +5,8 @@
 --   termPolynomial t       a × (n - j + 1)(n - j + 2)..(n - j + k), as a row of a store holds a polynomial
 --   addTerm K t r          that polynomial added at block k - j and column c of a row whose first block is K
 --   addTerms, recurrenceRow   the terms of an equation, each added to what the ones before it left; from a row of zeros
---   recurrenceOf d         the sheet with l = K and t = -J, a row for each equation, no relations and no order
+--   recurrenceSizes m K J  its sizes, l = K and t = -J
+--   recurrenceOf d         the sheet with those sizes, a row for each equation, no relations and no order
 use Prim.Native.Nat.{ℕ, zero, suc, _+_, _-_, pred}
 use mathlib.Core.List.{List, [], _∷_, map}
 use lib.ListN.{getD, set}
@@ -14,6 +15,7 @@ use Rattle.algebra.specs.Polynomials.{Polynomial, add, scale, mul}
 use Rattle.lists.specs.Padded.{padTo}
 use Rattle.rules.specs.Limits.{coefficientCount}
 use Rattle.rules.specs.Rows.{Row}
+use Rattle.rules.specs.Stores.{Sizes}
 use Rattle.rules.specs.Sheets.{Sheet, blankRow}
 use Rattle.differential.specs.Differential.{DifferentialTerm, DifferentialSheet}
 
@@ -53,12 +55,16 @@ unfoldable pub recurrenceRow : ℕ → List DifferentialTerm → Row
 unfolding addTerms blankRow
 recurrenceRow K ts = addTerms K blankRow ts
 
+-- The sizes of the recurrence: l = K and t = -J.
+abbrev pub recurrenceSizes : ℕ → ℕ → ℕ → Sizes
+recurrenceSizes m K J = record { m = m; l = pos K; t = negℤ (pos J) }
+
 -- Right sides are zero.
 unfoldable pub recurrenceOf : DifferentialSheet → Sheet
 unfolding recurrenceRow
 recurrenceOf d =
     record {
-      sizes = record { m = d .unknowns; l = pos (d .order); t = negℤ (pos (d .degree)) };
+      sizes = recurrenceSizes (d .unknowns) (d .order) (d .degree);
       rows = map (recurrenceRow (d .order)) (d .equations);
       relations = [];
       order = [];

@@ -35,7 +35,7 @@ use Rattle.theory.specs.LimitsKept.{Small, smallRow-iff, rowRight-iff}
 use Rattle.differential.specs.Differential.{DifferentialTerm, DifferentialSheet, ValidTerm, ValidDifferential}
 use Rattle.differential.specs.Differential.{mostDerivative, mostPower, mostTerms, factorBound}
 use Rattle.differential.specs.Recurrence.{rising, termPolynomial, placeOf, addTerm, addTerms, recurrenceRow}
-use Rattle.differential.specs.Recurrence.{recurrenceOf}
+use Rattle.differential.specs.Recurrence.{recurrenceSizes, recurrenceOf}
 use Rattle.differential.specs.Terms.{FullPolynomial, FullBlock, length-termPolynomial, place-used, place-inside}
 use Rattle.differential.specs.Terms.{column-used, column-inside}
 
@@ -198,10 +198,6 @@ module _ (z : Sizes) (B : ℕ) (fits : B ≤ bound) (r : Row) (held : Held (z .m
   held-right : StoreRow r × T (rowRight z r)
   held-right = (held-shaped, rowRight-iff z r .1 (held-small, held-unused))
 
--- The sizes of the recurrence.
-abbrev pub recurrenceSizes : ℕ → ℕ → ℕ → Sizes
-recurrenceSizes m K J = record { m = m; l = pos K; t = negℤ (pos J) }
-
 pub recurrence-span : (m K J : ℕ) → span (recurrenceSizes m K J) ≡ K + J
 unfolding span
 recurrence-span m K J = ap (λ x. natAbs (pos K +ℤ x)) (negℤ-negℤ (pos J))
@@ -266,7 +262,7 @@ module _ (m K J : ℕ) (columns : m ≤ columnCount) (orders : K ≤ mostDerivat
       (terms-held ts a 0 blankRow (blank-held m (K + J))))
       (addTerms-right ts blankRow)
 
-  sizes-right : 1 ≤ m → T (sizesRight (recurrenceSizes m K J))
+  pub sizes-right : 1 ≤ m → T (sizesRight (recurrenceSizes m K J))
   unfolding sizesRight
   sizes-right some = T-&& (leb 1 m && leb m columnCount) _ .1 (
     T-&& (leb 1 m) (leb m columnCount) .1 (le→leb 1 m some, le→leb m columnCount columns),
