@@ -8,3 +8,4 @@ pub mod SameSolutions
 pub mod ValidRecurrence
 pub mod Deciding
 pub mod Longer
+pub mod Accepted
