@@ -63,8 +63,9 @@ pub weaken-decides : {A : Type 0} {Good Best : A → Type 0} {read : List ℕ �
     → Decides k Good read → Decides k Best read
 weaken-decides f d = record { longer = d .longer; few = d .few; good = λ bytes a rest e. f a (d .good bytes a rest e) }
 
-pub then-decides : {A B : Type 0} {Good : A → Type 0} {Best : B → Type 0} {read : List ℕ → Read A} {next : A → List ℕ → Read B}
-    {j k : ℕ} → Decides j Good read → ((a : A) → Good a → Decides k Best (next a))
+pub then-decides : {A B : Type 0} {Good : A → Type 0} {Best : B → Type 0}
+    {read : List ℕ → Read A} {next : A → List ℕ → Read B} {j k : ℕ}
+    → Decides j Good read → ((a : A) → Good a → Decides k Best (next a))
     → Decides (j + k) Best (λ bytes. thenRead (read bytes) next)
 unfolding thenRead followed
 then-decides {A} {read = read} {next = next} {j = j} {k = k} first second =
@@ -91,8 +92,9 @@ pub record Closes {A : Type 0} (most : ℕ) (Good : A → Type 0) (read : List �
   pub few : (bytes : List ℕ) (a : A) (rest : List ℕ) → read bytes ≡ got a rest → length bytes ≤ most
   pub good : (bytes : List ℕ) (a : A) (rest : List ℕ) → read bytes ≡ got a rest → Good a
 
-pub then-closes : {A B : Type 0} {Good : A → Type 0} {Best : B → Type 0} {read : List ℕ → Read A} {next : A → List ℕ → Read B}
-    {j k : ℕ} → Decides j Good read → ((a : A) → Good a → Closes k Best (next a))
+pub then-closes : {A B : Type 0} {Good : A → Type 0} {Best : B → Type 0}
+    {read : List ℕ → Read A} {next : A → List ℕ → Read B} {j k : ℕ}
+    → Decides j Good read → ((a : A) → Good a → Closes k Best (next a))
     → Closes (j + k) Best (λ bytes. thenRead (read bytes) next)
 unfolding thenRead followed
 then-closes {A} {read = read} {next = next} {j = j} {k = k} first second =

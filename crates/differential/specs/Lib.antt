@@ -9,3 +9,4 @@ pub mod ValidRecurrence
 pub mod Deciding
 pub mod Longer
 pub mod Accepted
+pub mod WrittenLength

@@ -34,13 +34,14 @@ use Rattle.frames.specs.Windows.{numberLine}
 use Rattle.differential.specs.Differential.{DifferentialTerm, DifferentialSheet, ValidTerm, ValidDifferential}
 use Rattle.differential.specs.Differential.{mostDerivative, mostPower, mostTerms, factorBound}
 use Rattle.differential.specs.Recurrence.{recurrenceOf}
-use Rattle.differential.specs.Grammar.{Extent, sizesFor, readExtent, judgeOrdered, judgeFactor, firstPower, firstColumn}
+use Rattle.differential.specs.Grammar.{Extent, sizesFor, readExtent, judgeOrdered, judgeFactor}
+use Rattle.differential.specs.Grammar.{firstPower, firstColumn}
 use Rattle.differential.specs.Grammar.{noTerm, readTerm, readTerms, mostOf, readEquation, readEquations, readEnd}
 use Rattle.differential.specs.Grammar.{sheetOf, readDifferential}
 use Rattle.differential.specs.Calls.{readRecurrence, readDifferentialCall, writeRead, writeRecurrenceCall}
 use Rattle.differential.specs.ValidRecurrence.{sizes-right}
-use Rattle.differential.specs.Deciding.{Decides, field-decides, nothing-decides, more-decides, weaken-decides, then-decides}
-use Rattle.differential.specs.Deciding.{Closes, then-closes}
+use Rattle.differential.specs.Deciding.{Decides, field-decides, nothing-decides, more-decides, weaken-decides}
+use Rattle.differential.specs.Deciding.{then-decides, Closes, then-closes}
 use Rattle.differential.specs.Deciding.{closes-window, closes-refused}
 
 -- ---- the bytes of a sheet

@@ -32,7 +32,8 @@ same-solutions d valid z = (λ h. (rows .0 h, tt), λ h. rows .1 (h .0))
     Right : List DifferentialTerm → Type 0
     Right = All (ValidTerm (d .unknowns) K (d .degree))
 
-    value : (ts : List DifferentialTerm) → Right ts → (n : ℤ) → valueOf (pos K) (recurrenceRow K ts) z n ≡ equationMeaning z ts n
+    value : (ts : List DifferentialTerm) → Right ts → (n : ℤ)
+        → valueOf (pos K) (recurrenceRow K ts) z n ≡ equationMeaning z ts n
     value ts right n =
         row-value (d .unknowns) K (d .degree) (valid .unknowns-most) (valid .order-most) (valid .degree-most) ts right z n
 

@@ -6,6 +6,7 @@
 --                    n - j + k
 --   addTerm-shaped   adding a term keeps the shape of a row in a store
 --   addTerm-value    adding a term adds what the term means; addTerms-value: and so adding several
+--   addTerms-right   the right side of the row stays
 --   row-value        the value of an equation's row at n is the coefficient of the equation's sum
 use Prim.Native.Nat.{ℕ, zero, suc, _+_, _-_, _≤_, _<_, pred, max, zero-le}
 use native.Mathlib.Nat.{not-suc-le-zero, le-of-suc-le-suc}
@@ -253,6 +254,12 @@ module _ {m K J : ℕ} {t : DifferentialTerm} (columns : m ≤ columnCount) (ord
         step x y u = simp ringℤ
 
 -- ---- the terms of an equation
+
+-- The right side stays as it was.
+pub addTerms-right : (K : ℕ) (ts : List DifferentialTerm) (r : Row) → addTerms K r ts .right ≡ r .right
+unfolding addTerms addTerm
+addTerms-right K [] r = refl
+addTerms-right K (t ∷ ts) r = addTerms-right K ts (addTerm K t r)
 
 module _ (m K J : ℕ) (columns : m ≤ columnCount) (orders : K ≤ mostDerivative) (powers : J ≤ mostPower) where
   pub addTerms-value : (ts : List DifferentialTerm) → All (ValidTerm m K J) ts → (r : Row) → StoreRow r

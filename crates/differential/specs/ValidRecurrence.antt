@@ -37,7 +37,7 @@ use Rattle.differential.specs.Differential.{mostDerivative, mostPower, m
 use Rattle.differential.specs.Recurrence.{rising, termPolynomial, placeOf, addTerm, addTerms, recurrenceRow}
 use Rattle.differential.specs.Recurrence.{recurrenceSizes, recurrenceOf}
 use Rattle.differential.specs.Terms.{FullPolynomial, FullBlock, length-termPolynomial, place-used, place-inside}
-use Rattle.differential.specs.Terms.{column-used, column-inside}
+use Rattle.differential.specs.Terms.{column-used, column-inside, addTerms-right}
 
 -- ---- numbers up to 2, one by one
 
@@ -152,7 +152,8 @@ blank-held m D =
       count = refl;
       each = all-replicate (BoundedBlock m 0) blockCount block (
         refl,
-        all-replicate (BoundedPolynomial 0) columnCount zeros (refl, all-replicate (Within 0) coefficientCount (pos 0) zero-le),
+        all-replicate (BoundedPolynomial 0) columnCount zeros
+            (refl, all-replicate (Within 0) coefficientCount (pos 0) zero-le),
         every-drop isZero m block tt,
       );
       below = every-drop zeroBlock (suc D) (replicate blockCount block) tt;
@@ -225,7 +226,8 @@ module _ (m K J : ℕ) (columns : m ≤ columnCount) (orders : K ≤ mostDerivat
       (length-termPolynomial t, bounded) held
     where
       bounded : All (Within termBound) (termPolynomial t)
-      bounded = term-bounded t (omega (arith, valid .derivative-most)) (omega (arith, valid .power-most)) (valid .factor-most)
+      bounded =
+          term-bounded t (omega (arith, valid .derivative-most)) (omega (arith, valid .power-most)) (valid .factor-most)
 
   pub terms-held : (ts : List DifferentialTerm) → All (ValidTerm m K J) ts → (B : ℕ) (r : Row)
       → Held m (K + J) B (r .blocks) → Held m (K + J) (B + length ts * termBound) (addTerms K r ts .blocks)
@@ -248,11 +250,6 @@ module _ (m K J : ℕ) (columns : m ≤ columnCount) (orders : K ≤ mostDerivat
       most : k ≤ mostTerms columnCount mostDerivative mostPower
       most = le-trans h (mul-le-mul (mul-le-mul columns (suc-le-suc orders)) (suc-le-suc powers))
 
-  addTerms-right : (ts : List DifferentialTerm) (r : Row) → addTerms K r ts .right ≡ r .right
-  unfolding addTerms addTerm
-  addTerms-right [] r = refl
-  addTerms-right (t ∷ ts) r = addTerms-right ts (addTerm K t r)
-
   pub row-valid : (ts : List DifferentialTerm) → All (ValidTerm m K J) ts → length ts ≤ mostTerms m K J
       → StoreRow (recurrenceRow K ts) × T (rowRight (recurrenceSizes m K J) (recurrenceRow K ts))
   unfolding recurrenceRow
@@ -260,7 +257,7 @@ module _ (m K J : ℕ) (columns : m ≤ columnCount) (orders : K ≤ mostDerivat
       held-right (recurrenceSizes m K J) (0 + length ts * termBound) (few-terms (length ts) h) (addTerms K blankRow ts)
       (subst (λ D. Held m D (0 + length ts * termBound) (addTerms K blankRow ts .blocks)) (sym (recurrence-span m K J))
       (terms-held ts a 0 blankRow (blank-held m (K + J))))
-      (addTerms-right ts blankRow)
+      (addTerms-right K ts blankRow)
 
   pub sizes-right : 1 ≤ m → T (sizesRight (recurrenceSizes m K J))
   unfolding sizesRight
@@ -301,7 +298,8 @@ recurrence-valid d valid as-many =
 
     right : All EquationRight (d .equations)
     right =
-        all-both (All (ValidTerm m K J)) (λ ts. length ts ≤ mostTerms m K J) (d .equations) (valid .terms) (valid .term-counts)
+        all-both (All (ValidTerm m K J)) (λ ts. length ts ≤ mostTerms m K J) (d .equations)
+        (valid .terms) (valid .term-counts)
 
     row : (ts : List DifferentialTerm) → EquationRight ts
         → StoreRow (recurrenceRow K ts) × T (rowRight (recurrenceSizes m K J) (recurrenceRow K ts))
