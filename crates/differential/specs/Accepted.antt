@@ -30,11 +30,14 @@ module _ (bytes : List ℕ) (d : DifferentialSheet) (rest : List ℕ) (read : re
   accepted : Accepted d
   accepted = differential-accepted bytes d rest read
 
+  -- (SCOPE 10.24)
   pub accepted-valid : Valid (recurrenceOf d .sizes) (recurrenceOf d .rows) (recurrenceOf d .relations)
   accepted-valid = recurrence-valid d (accepted .valid) (accepted .as-many)
 
+  -- (SCOPE 10.33)
   pub accepted-solutions : (z : Sequence) → Series z → SatisfiesDifferential d z ↔ SatisfiesRecurrence d z
   accepted-solutions = series-solutions d (accepted .valid)
 
+  -- (SCOPE 10.42, 4.56)
   pub accepted-read-back : readSheet (writeSheet (recurrenceOf d)) ≡ got (recurrenceOf d) []
   accepted-read-back = sheet-read-written (recurrenceOf d) (record { valid = accepted-valid; order-right = no-order d })

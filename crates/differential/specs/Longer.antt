@@ -54,11 +54,11 @@ termBytes = 4 * numberLine
 abbrev pub equationBytes : ℕ
 equationBytes = numberLine + mostTerms columnCount mostDerivative mostPower * termBytes
 
--- Four numbers in the first line, the count of the equations, and the equations.
+-- Four numbers in the first line, the count of the equations, and the equations (SCOPE 10.2 to 10.4).
 abbrev pub sheetBytes : ℕ
 sheetBytes = 4 * numberLine + (numberLine + mostEquations * equationBytes)
 
--- One byte more is a fault.
+-- One byte more is a fault (SCOPE 10.14, 10.52).
 abbrev pub mostSheetBytes : ℕ
 mostSheetBytes = suc sheetBytes
 
@@ -225,6 +225,7 @@ pub differential-accepted : (bytes : List ℕ) (d : DifferentialSheet) (rest : L
     → readDifferential bytes ≡ got d rest → Accepted d
 differential-accepted bytes d rest e = differential-closes .good bytes d rest e
 
+-- The first bytes decide (SCOPE 10.52).
 pub differential-window : (bytes : List ℕ) → readDifferential (take mostSheetBytes bytes) ≡ readDifferential bytes
 differential-window bytes = closes-window differential-closes bytes
 
@@ -248,7 +249,7 @@ same-write : (w bytes byteStore : List ℕ) → readRecurrence w ≡ readRecurre
 unfolding writeRecurrenceCall
 same-write w bytes byteStore e = ap (λ r. writeRead r byteStore) e
 
--- A call that is lent the first bytes of a longer sheet does what it would do with all of them.
+-- A call that is lent the first bytes of a longer sheet does what it would do with all of them (SCOPE 10.52).
 pub read-window : (bytes : List ℕ) (rowStore relationStore : List ℤ)
     → readDifferentialCall (take mostSheetBytes bytes) rowStore relationStore
     ≡ readDifferentialCall bytes rowStore relationStore

@@ -25,16 +25,16 @@ rising b zero = pos 1 ∷ []
 rising b (suc k) = mul ((b +ℤ pos 1) ∷ pos 1 ∷ []) (rising (b +ℤ pos 1) k)
 
 -- The variable is one index down, a derivative n + 1 times one index up: of variable^j times the k-th derivative the
--- coefficient at n is that of the unknown at n - j + k, times one factor for each derivative.
+-- coefficient at n is that of the unknown at n - j + k, times one factor for each derivative (SCOPE 10.22).
 unfoldable pub termPolynomial : DifferentialTerm → Polynomial
 unfolding padTo scale rising
 termPolynomial t = padTo coefficientCount (pos 0) (scale (t .factor) (rising (negℤ (pos (t .power))) (t .derivative)))
 
--- Block k - j stands K + j - k places behind the first, which is block K.
+-- Block k - j stands K + j - k places behind the first, which is block K (SCOPE 10.22).
 unfoldable pub placeOf : ℕ → DifferentialTerm → ℕ
 placeOf K t = K + t .power - t .derivative
 
--- Terms with one block and column add up.
+-- Terms with one block and column add up (SCOPE 10.23).
 unfoldable pub addTerm : ℕ → DifferentialTerm → Row → Row
 unfolding add termPolynomial placeOf
 addTerm K t r =
@@ -51,15 +51,16 @@ unfolding addTerm
 addTerms K r [] = r
 addTerms K r (t ∷ ts) = addTerms K (addTerm K t r) ts
 
+-- A place without a term holds zero (SCOPE 10.23).
 unfoldable pub recurrenceRow : ℕ → List DifferentialTerm → Row
 unfolding addTerms blankRow
 recurrenceRow K ts = addTerms K blankRow ts
 
--- The sizes of the recurrence: l = K and t = -J.
+-- The sizes of the recurrence: l = K and t = -J (SCOPE 10.21).
 abbrev pub recurrenceSizes : ℕ → ℕ → ℕ → Sizes
 recurrenceSizes m K J = record { m = m; l = pos K; t = negℤ (pos J) }
 
--- Right sides are zero.
+-- No relations and no column order; right sides are zero (SCOPE 10.21).
 unfoldable pub recurrenceOf : DifferentialSheet → Sheet
 unfolding recurrenceRow
 recurrenceOf d =

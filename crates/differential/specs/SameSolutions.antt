@@ -21,6 +21,7 @@ SatisfiesRecurrence d z =
     let s = recurrenceOf d in
     Satisfies (s .sizes .l) (s .rows) (s .relations) z
 
+-- Of every two-sided sequence (SCOPE 10.33).
 pub same-solutions : (d : DifferentialSheet) → ValidDifferential d → (z : Sequence)
     → SatisfiesDifferential d z ↔ SatisfiesRecurrence d z
 unfolding SatisfiesDifferential Satisfies recurrenceOf
@@ -47,6 +48,7 @@ same-solutions d valid z = (λ h. (rows .0 h, tt), λ h. rows .1 (h .0))
         all-images Right (λ ts. Vanishes (equationMeaning z ts)) (SatisfiesEquation (pos K) z) (recurrenceRow K) equation
         (d .equations) (valid .terms)
 
+-- Of series (SCOPE 10.33).
 pub series-solutions : (d : DifferentialSheet) → ValidDifferential d → (z : Sequence) → Series z
     → SatisfiesDifferential d z ↔ SatisfiesRecurrence d z
 series-solutions d valid z series = same-solutions d valid z

@@ -266,7 +266,7 @@ module _ (m K J : ℕ) (columns : m ≤ columnCount) (orders : K ≤ mostDerivat
     blocks-right K orders J powers,
   )
 
--- If it has as many equations as its sizes say, no check of a call refuses the recurrence.
+-- If it has as many equations as its sizes say, no check of a call refuses the recurrence (SCOPE 10.24).
 pub recurrence-valid : (d : DifferentialSheet) → ValidDifferential d
     → length (d .equations) ≡ equations (recurrenceOf d .sizes)
     → Valid (recurrenceOf d .sizes) (recurrenceOf d .rows) (recurrenceOf d .relations)

@@ -310,7 +310,7 @@ recurrence-short d a =
     plain-short (recurrenceSizes (d .unknowns) (d .order) (d .degree)) (map (recurrenceRow (d .order)) (d .equations))
     (recurrence-valid d (a .valid) (a .as-many)) (no-sides (d .order) (d .equations))
 
--- The call that writes a recurrence, where the byte store is not shorter than that.
+-- The call that writes a recurrence, where the byte store is not shorter than that (SCOPE 10.42).
 written-fits : (text byteStore : List ℕ) → length text ≤ length byteStore
     → written text byteStore ≡ record { refusal = 0; length = length text; byteStore = overwrite text byteStore }
 unfolding written
