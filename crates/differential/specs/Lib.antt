@@ -10,3 +10,4 @@ pub mod Deciding
 pub mod Longer
 pub mod Accepted
 pub mod WrittenLength
+pub mod SeriesKept
