@@ -11,3 +11,4 @@ pub mod Longer
 pub mod Accepted
 pub mod WrittenLength
 pub mod SeriesKept
+pub mod Examples

@@ -63,7 +63,8 @@ term-series z series t =
 
 -- From the lower of the two indices on.
 sum-begun : (f g : Coefficients) → Begun f → Begun g → Begun (λ n. f n +ℤ g n)
-sum-begun f g b c = ⊎-elim (λ h. record { first = b .first; below = λ n k. ap₂ _+ℤ_ (b .below n k) (c .below n (<ℤ-≤ℤ-trans k h)) })
+sum-begun f g b c = ⊎-elim
+    (λ h. record { first = b .first; below = λ n k. ap₂ _+ℤ_ (b .below n k) (c .below n (<ℤ-≤ℤ-trans k h)) })
     (λ h. record { first = c .first; below = λ n k. ap₂ _+ℤ_ (b .below n (<ℤ-≤ℤ-trans k h)) (c .below n k) })
     (≤ℤ-total (b .first) (c .first))
 
