@@ -9,3 +9,12 @@ pub mod Added
 pub mod Rows
 pub mod Sections
 pub mod WholeSheet
+pub mod Terms
+pub mod SameSolutions
+pub mod ValidRecurrence
+pub mod Deciding
+pub mod Longer
+pub mod Accepted
+pub mod WrittenLength
+pub mod SeriesKept
+pub mod Examples
