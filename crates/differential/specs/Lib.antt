@@ -15,6 +15,7 @@ pub mod ValidRecurrence
 pub mod Deciding
 pub mod Longer
 pub mod Accepted
+pub mod SheetCalls
 pub mod WrittenLength
 pub mod SeriesKept
 pub mod Examples
