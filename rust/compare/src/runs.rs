@@ -7,7 +7,7 @@ use crate::subject::Subject;
 use outside::elimination::Side;
 use outside::stores::Asked;
 use std::str;
-use wurgalm::{row_store, COEFFICIENTS, ENTRIES, RELATION, RELATION_STORE, ROW};
+use wurgalm::{row_store, COEFFICIENTS, ENTRIES, RECURRENCE, RELATION, RELATION_STORE, ROW};
 
 /// Numbers of the result of a run or of the reader.
 const RESULT: usize = 8;
@@ -302,7 +302,7 @@ impl Judge {
 
     /// A fault of the sheet comes before a store that is too short, and both stores stay as they are.
     fn no_recurrence(&mut self, case: &Induced, subject: &dyn Subject) -> Judgement {
-        for (bytes, result) in [(4_096, 1), (0, 1), (4_096, 0), (0, 0)] {
+        for (bytes, result) in [(RECURRENCE, 1), (0, 1), (RECURRENCE, 0), (0, 0)] {
             let before = (unsaid::<u8>(bytes), unsaid::<i64>(result));
             let mut after = before.clone();
             let found = subject.write_recurrence(&case.sheet, &mut after.0, &mut after.1);

@@ -24,9 +24,8 @@ pub const RELATION: usize = 1 + ROW;
 /// Numbers that the relation store needs.
 pub const RELATION_STORE: usize = 16 * RELATION;
 
-/// Bytes that are enough for the sheet of any recurrence: 4 equations of at most 20 terms, each a block, a column, a count and at
-/// most 3 coefficients.
-pub const RECURRENCE: usize = 4_096;
+/// Bytes that are enough for the sheet of any recurrence, which is proved (SCOPE 10.42).
+pub const RECURRENCE: usize = 16_841;
 
 /// Numbers that the row store of a system with m unknowns needs.
 pub const fn row_store(m: usize) -> usize {

@@ -184,7 +184,7 @@ impl Fuzz {
             for behind in ["", "\n", " ", "0", "-", "x", "1\n"] {
                 let cut = [&sheet[..end], behind.as_bytes()].concat();
                 self.call("differential, cut", &Call::Differential(cut.clone()), stores);
-                self.call("recurrence, cut", &Call::Recurrence(cut, vec![b'#'; 4_096]), stores);
+                self.call("recurrence, cut", &Call::Recurrence(cut, vec![b'#'; wurgalm::RECURRENCE]), stores);
             }
         }
         for changed in with_other_numbers(sheet) {
