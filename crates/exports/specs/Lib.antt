@@ -3,3 +3,4 @@ pub mod Runs
 pub mod Writes
 pub mod Reads
 pub mod Batches
+pub mod Differentials

@@ -3,13 +3,14 @@
 -- Main definitions
 --   readNumbers r          the eight numbers of a result
 --   readAfter c ..         the call, by what reading the sheet did
+--   readWith call ..       an exported call, by the call that reads
 --   exportRead ..          the call
 --   SmallRead r            the counts and columns of a result are small
 --
 -- Main statements
 --   short-whole, short-fault   what a call with a result store that is too short refuses
---   read-short, read-done      the call with a result store that is too short, and with one that is long enough
---   read-small                 the result of every call is small
+--   with-short, with-done, read-short, read-done   a call with a result store that is too short, and with one that is long enough
+--   read-zeros, read-small     a refusal is small, and so is the result of every call
 use Prim.Native.Nat.{ℕ, _*_, _≤_, _<_, zero-le}
 use native.Mathlib.Nat.{le-trans}
 use mathlib.Core.Path.{_≡_, refl, sym, _∙_, ap, subst}
@@ -49,32 +50,49 @@ readAfter c resultStore =
     }
 
 -- The result store is found too short last of all, with the other stores (SCOPE 3.53, 4.42): the sheet is then judged
--- as with stores that hold nothing, and nothing is written.
+-- as with stores that hold nothing, and nothing is written. `call` says what a call that reads does to two stores.
+unfoldable pub readWith : (List ℤ → List ℤ → ReadCall) → List ℤ → List ℤ → List ℤ → Exported
+unfolding readAfter kept
+readWith call rowStore relationStore resultStore =
+    let whole = readAfter (call rowStore relationStore) resultStore in
+    cond (leb resultNeed (length resultStore)) whole (kept (call [] [] .result .refusal) rowStore relationStore resultStore)
+
 unfoldable pub exportRead : List ℕ → List ℤ → List ℤ → List ℤ → Exported
-unfolding readAfter readCall kept
-exportRead bytes rowStore relationStore resultStore =
-    let whole = readAfter (readCall bytes rowStore relationStore) resultStore in
-    cond (leb resultNeed (length resultStore)) whole (kept (readCall bytes [] [] .result .refusal) rowStore relationStore resultStore)
+unfolding readWith readCall
+exportRead bytes rowStore relationStore resultStore = readWith (readCall bytes) rowStore relationStore resultStore
 
 chosen : {A : Type 0} (x y : A) {b c : Bool} → b ≡ c → cond c x y ≡ cond b x y
 chosen x y e = ap (λ k. cond k x y) (sym e)
+
+module _ (call : List ℤ → List ℤ → ReadCall) (rowStore relationStore resultStore : List ℤ) where
+  pub with-short : length resultStore < resultNeed
+      → kept (call [] [] .result .refusal) rowStore relationStore resultStore ≡ readWith call rowStore relationStore resultStore
+  unfolding readWith
+  with-short h = chosen _ _ (lt-leb resultNeed (length resultStore) h)
+
+  -- The call, from what was read and the result store that was left.
+  pub with-done : {x : ReadCall} {left : List ℤ} → x ≡ call rowStore relationStore
+      → left ≡ onAcceptance (x .result .refusal) (readNumbers (x .result)) resultStore → resultNeed ≤ length resultStore
+      → record { refusal = x .result .refusal; rowStore = x .rowStore; relationStore = x .relationStore; resultStore = left }
+      ≡ readWith call rowStore relationStore resultStore
+  unfolding readWith readAfter
+  with-done {x} same f h =
+      (λ i. record { refusal = x .result .refusal; rowStore = x .rowStore; relationStore = x .relationStore; resultStore = f i })
+      ∙ ap (λ y. readAfter y resultStore) same ∙ chosen _ _ (le-leb resultNeed (length resultStore) h)
 
 module _ (bytes : List ℕ) (rowStore relationStore resultStore : List ℤ) where
   pub read-short : length resultStore < resultNeed
       → kept (readCall bytes [] [] .result .refusal) rowStore relationStore resultStore
       ≡ exportRead bytes rowStore relationStore resultStore
   unfolding exportRead
-  read-short h = chosen _ _ (lt-leb resultNeed (length resultStore) h)
+  read-short h = with-short (readCall bytes) rowStore relationStore resultStore h
 
-  -- The call, from what was read and the result store that was left.
   pub read-done : {x : ReadCall} {left : List ℤ} → x ≡ readCall bytes rowStore relationStore
       → left ≡ onAcceptance (x .result .refusal) (readNumbers (x .result)) resultStore → resultNeed ≤ length resultStore
       → record { refusal = x .result .refusal; rowStore = x .rowStore; relationStore = x .relationStore; resultStore = left }
       ≡ exportRead bytes rowStore relationStore resultStore
-  unfolding exportRead readAfter
-  read-done {x} same f h =
-      (λ i. record { refusal = x .result .refusal; rowStore = x .rowStore; relationStore = x .relationStore; resultStore = f i })
-      ∙ ap (λ y. readAfter y resultStore) same ∙ chosen _ _ (le-leb resultNeed (length resultStore) h)
+  unfolding exportRead
+  read-done same f h = with-done (readCall bytes) rowStore relationStore resultStore same f h
 
   -- A whole sheet is refused 1, and any other as it is with stores that are long enough.
   pub short-whole : (x : Sheet) (rest : List ℕ) → readSheet bytes ≡ got x rest → length resultStore < resultNeed
@@ -100,7 +118,7 @@ pub record SmallRead (r : ReadResult) : Type 0 where
   pub four : length (r .order) ≡ columnCount
   pub columns : All (λ c. c ≤ columnCount) (r .order)
 
-read-zeros : (n : ℕ) → SmallRead (readRefusal n)
+pub read-zeros : (n : ℕ) → SmallRead (readRefusal n)
 unfolding readRefusal All
 read-zeros n =
     record { few-unknowns = zero-le; few-relations = zero-le; four = refl; columns = (zero-le, (zero-le, (zero-le, (zero-le, tt)))) }

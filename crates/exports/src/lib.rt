@@ -1,5 +1,5 @@
-// The entry points for programs in C and other languages, by plain names: the public calls of `elimination` and
-// `sheets`, and the whole batch of `batches`, the fields of whose results are numbers of a lent store. No `requires`,
+// The entry points for programs in C and other languages, by plain names: the public calls of `elimination`, `sheets` and
+// `differential`, and the whole batch of `batches`, the fields of whose results are numbers of a lent store. No `requires`,
 // and contracts that give the refusal and every lent store by equations (SCOPE 3.51, 9.1, 9.2).
 use sides::Side;
 ghost use mathlib.Core.Path.{_≡_};
@@ -8,6 +8,7 @@ ghost use Rattle.exports.specs.Runs.{exportRun};
 ghost use Rattle.exports.specs.Writes.{exportWrite};
 ghost use Rattle.exports.specs.Reads.{exportRead};
 ghost use Rattle.exports.specs.Batches.{exportBatch};
+ghost use Rattle.exports.specs.Differentials.{exportDifferential, exportRecurrence};
 
 mod either_side;
 mod numbers;
@@ -134,4 +135,47 @@ pub extern "C" fn wurgalm_batch(input: &[u8], output: &mut [u8], result: &mut [i
     let worked = batches::output(input, output);
     result[0] = worked.length as i64;
     worked.refusal
+}
+
+// The recurrence of a differential sheet read into the stores. `result` gets eight numbers, as for a sheet (SCOPE 3.52).
+#[no_mangle]
+pub extern "C" fn wurgalm_read_differential(
+    bytes: &[u8],
+    rows: &mut [i64],
+    relations: &mut [i64],
+    result: &mut [i64],
+) -> u8
+    ensures { λ r. ⌜
+        record { refusal = r; rowStore = now (rows .exit); relationStore = now (relations .exit); resultStore = now (result .exit) }
+        ≡ exportDifferential (now (bytes .entry)) (now (rows .entry)) (now (relations .entry)) (now (result .entry)) ⌝ }
+{
+    if result.len() < 8 {
+        let judged = differential::read_differential(bytes, &mut rows[..0], &mut relations[..0]);
+        return judged.refusal;
+    }
+    let sheet = differential::read_differential(bytes, rows, relations);
+    if sheet.refusal != 0 {
+        return sheet.refusal;
+    }
+    numbers::put(result, reads::read_numbers(sheet));
+    0
+}
+
+// The recurrence of a differential sheet written as a sheet. `result` gets one number: its length (SCOPE 3.52).
+#[no_mangle]
+pub extern "C" fn wurgalm_write_recurrence(sheet: &[u8], bytes: &mut [u8], result: &mut [i64]) -> u8
+    ensures { λ r. ⌜
+        record { refusal = r; byteStore = now (bytes .exit); resultStore = now (result .exit) }
+        ≡ exportRecurrence (now (sheet .entry)) (now (bytes .entry)) (now (result .entry)) ⌝ }
+{
+    if result.len() < 1 {
+        let judged = differential::write_recurrence(sheet, &mut bytes[..0]);
+        return judged.refusal;
+    }
+    let written = differential::write_recurrence(sheet, bytes);
+    if written.refusal != 0 {
+        return written.refusal;
+    }
+    result[0] = written.length as i64;
+    0
 }

@@ -9,21 +9,21 @@ ghost use Rattle.tokens.specs.Fields.{Answers};
 ghost use Rattle.rules.specs.Sheets as Sheets;
 
 // The separator after a count: the line ends if nothing is counted (SCOPE 4.15, 4.21).
-pub(crate) fn after_count(value: i64) -> u8
+pub fn after_count(value: i64) -> u8
     ensures { λ r. ⌜ r ≡ afterCount value ⌝ }
 {
     if value == 0 { 10 } else { 32 }
 }
 
 // The separator after one of several things on a line of which `left` are still to come (SCOPE 4.36).
-pub(crate) fn parting(left: usize) -> u8
+pub fn parting(left: usize) -> u8
     ensures { λ r. ⌜ r ≡ Sheets.parting 10 left ⌝ }
 {
     if left == 0 { 10 } else { 32 }
 }
 
 // A count of 0 to `most` things.
-pub(crate) fn count_at(bytes: &[u8], at: usize, most: i64) -> tokens::NumberRead
+pub fn count_at(bytes: &[u8], at: usize, most: i64) -> tokens::NumberRead
     requires { ⌜ at ≤ length (now bytes) ⌝ }
     ensures { λ r. ⌜ Answers (now (bytes .entry)) (r .refusal) (r .value) (r .at) (field (between (pos 0) most) afterCount (drop at (now (bytes .entry)))) ⌝ }
 {

@@ -39,12 +39,12 @@ fn place_in_row(l: i64, block: i64, column: usize) -> usize
 }
 
 // The place after what was read into a store, or a refusal.
-pub(crate) struct PartRead {
+pub struct PartRead {
     pub refusal: u8,
     pub at: usize,
 }
 
-pub(crate) fn no_part(refusal: u8) -> PartRead
+pub fn no_part(refusal: u8) -> PartRead
     ensures { λ r. ⌜ (r .refusal ≡ refusal) × (r .at ≡ 0) ⌝ }
 {
     PartRead { refusal, at: 0 }

@@ -7,14 +7,14 @@ ghost use mathlib.Core.Path.{_≡_};
 ghost use Rattle.rules.specs.SheetCalls.{readCall};
 ghost use Rattle.reading.specs.ReadCalls.{callOf};
 
-mod counts;
-mod equations;
+pub mod counts;
+pub mod equations;
 mod order;
 pub mod own;
 mod sections;
 pub mod sheet;
 mod sides;
-mod sizes;
+pub mod sizes;
 mod terms;
 
 // The sheet is read into stores of its own first, so that the lent stores are unchanged on a refusal (SCOPE 4.43). A

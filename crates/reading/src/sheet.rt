@@ -24,7 +24,7 @@ pub struct SheetResult {
     pub order: [usize; COLUMNS],
 }
 
-pub(crate) fn refused(refusal: u8) -> SheetResult
+pub fn refused(refusal: u8) -> SheetResult
     ensures { λ r. ⌜ resultOf r ≡ readRefusal refusal ⌝ }
 {
     SheetResult {
@@ -121,7 +121,7 @@ pub(crate) fn rest_at(
 }
 
 // The numbers of some rows, put into a store that is long enough; what lies behind them stays (SCOPE 3.12).
-pub(crate) fn fill_rows(store: &mut [i64], numbers: &[i64], equations: usize)
+pub fn fill_rows(store: &mut [i64], numbers: &[i64], equations: usize)
     requires { ⌜ (equations ≤ mostEquations) × (equations * rowLength ≤ length (now store)) × (equations * rowLength ≤ length (now numbers)) ⌝ }
     ensures { λ _. ⌜ now (store .exit) ≡ overwrite (rowStoreOf (rowsOf equations (now (numbers .entry)))) (now (store .entry)) ⌝ }
 {
@@ -129,7 +129,7 @@ pub(crate) fn fill_rows(store: &mut [i64], numbers: &[i64], equations: usize)
 }
 
 // The numbers of the relations, put into a store that is long enough, and 0 at the places behind them (SCOPE 3.13).
-pub(crate) fn fill_relations(store: &mut [i64], numbers: &[i64], count: usize)
+pub fn fill_relations(store: &mut [i64], numbers: &[i64], count: usize)
     requires { ⌜ (count ≤ 16) × (relationNeed ≤ length (now store)) × (count * relationLength ≤ length (now numbers)) ⌝ }
     ensures { λ _. ⌜ now (store .exit) ≡ overwrite (relationStoreOf (relationsOf count (now (numbers .entry)))) (now (store .entry)) ⌝ }
 {

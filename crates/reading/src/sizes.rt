@@ -32,7 +32,7 @@ fn lowest_at(bytes: &[u8], at: usize, l: i64) -> tokens::NumberRead
 }
 
 // The count that a sheet begins with, 3, and the number of unknowns (SCOPE 4.12).
-fn unknowns_at(bytes: &[u8], at: usize) -> tokens::NumberRead
+pub fn unknowns_at(bytes: &[u8], at: usize) -> tokens::NumberRead
     requires { ⌜ at ≤ length (now bytes) ⌝ }
     ensures { λ r. ⌜ Answers (now (bytes .entry)) (r .refusal) (r .value) (r .at) (readUnknowns (drop at (now (bytes .entry)))) ⌝ }
 {

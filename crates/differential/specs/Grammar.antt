@@ -1,0 +1,115 @@
+-- Differential sheets, read: two sections, the line `3 m K J` and then, after their count, the equations, each a term count and its
+-- terms `k j c a`. Tokens are judged as those of a sheet are: form (3), range (2, of a factor 5), order or a zero factor (3), separator.
+--
+-- Main definitions
+--   Extent                m, K and J
+--   judgeOrdered          a number of a term that has a range, and in it those numbers that keep the order of terms
+--   firstPower, firstColumn   the order of terms: falling k, rising j, rising c
+--   readDifferential      the sheet, or the number of its first fault in byte order
+use Prim.Native.Nat.{ℕ, zero, suc}
+use mathlib.Core.Bool.{Bool, _&&_, _||_, cond}
+use mathlib.Core.List.{List, [], _∷_}
+use lib.Dec.{leb, ltb}
+use lib.IntN.{ℤ, pos, negℤ, natAbs}
+use lib.Signed.{leZ}
+use Rattle.algebra.specs.Polynomials.{isZeroℤ}
+use Rattle.rules.specs.Limits.{columnCount}
+use Rattle.rules.specs.Stores.{Sizes, equations}
+use Rattle.rules.specs.Numbers.{space, newline, Read, got, fault, thenRead, field, between}
+use Rattle.rules.specs.Sheets.{always, afterCount, parting}
+use Rattle.differential.specs.Differential.{DifferentialTerm, DifferentialSheet, mostDerivative, mostPower, factorBound, mostTerms}
+
+-- The numbers of the first line: m unknowns, derivatives up to K, powers of the variable up to J.
+pub record Extent : Type 0 where
+  pub unknowns : ℕ
+  pub order : ℕ
+  pub degree : ℕ
+
+-- The sizes of the recurrence: l = K and t = -J. They say how many equations there are.
+unfoldable pub sizesFor : Extent → Sizes
+sizesFor x = record { m = x .unknowns; l = pos (x .order); t = negℤ (pos (x .degree)) }
+
+-- The line `3 m K J`.
+unfoldable pub readExtent : List ℕ → Read Extent
+unfolding thenRead field between always
+readExtent bytes =
+    thenRead (field (between (pos 3) (pos 3)) (always space) bytes) λ _ bytes₁.
+    thenRead (field (between (pos 1) (pos columnCount)) (always space) bytes₁) λ m bytes₂.
+    thenRead (field (between (pos 0) (pos mostDerivative)) (always space) bytes₂) λ K bytes₃.
+    thenRead (field (between (pos 0) (pos mostPower)) (always newline) bytes₃) λ J bytes₄.
+    got (record { unknowns = natAbs m; order = natAbs K; degree = natAbs J }) bytes₄
+
+-- A number that is not from `low` to `high` is 2; then one that is not from `first` to `last` breaks the order of terms: 3.
+unfoldable pub judgeOrdered : ℕ → ℕ → ℕ → ℕ → ℤ → ℕ
+judgeOrdered low high first last v =
+    cond (leZ (pos low) v && leZ v (pos high)) (cond (leZ (pos first) v && leZ v (pos last)) 0 3) 2
+
+-- A factor past its bound is 5, and one that is 0 is 3.
+unfoldable pub judgeFactor : ℤ → ℕ
+unfolding isZeroℤ
+judgeFactor a = cond (leb (natAbs a) factorBound) (cond (isZeroℤ a) 3 0) 5
+
+-- The lowest power that may follow the term before, at derivative k: its own power, or any where the derivative falls.
+unfoldable pub firstPower : DifferentialTerm → ℕ → ℕ
+firstPower before k = cond (ltb k (before .derivative)) 0 (before .power)
+
+-- The lowest column that may follow it, at derivative k and power j: the one after its own, or any where the derivative falls or the
+-- power rises.
+unfoldable pub firstColumn : DifferentialTerm → ℕ → ℕ → ℕ
+firstColumn before k j = cond (ltb k (before .derivative) || ltb (before .power) j) 1 (suc (before .column))
+
+-- What an equation's first term follows: any derivative, any power and any column may come.
+unfoldable pub noTerm : Extent → DifferentialTerm
+noTerm x = record { derivative = x .order; power = 0; column = 0; factor = pos 0 }
+
+-- A term, `last` standing behind it.
+unfoldable pub readTerm : Extent → DifferentialTerm → ℕ → List ℕ → Read DifferentialTerm
+unfolding thenRead field judgeOrdered judgeFactor firstPower firstColumn always
+readTerm x before last bytes =
+    thenRead (field (judgeOrdered 0 (x .order) 0 (before .derivative)) (always space) bytes) λ k bytes₁.
+    thenRead (field (judgeOrdered 0 (x .degree) (firstPower before (natAbs k)) (x .degree)) (always space) bytes₁) λ j bytes₂.
+    thenRead (field (judgeOrdered 1 (x .unknowns) (firstColumn before (natAbs k) (natAbs j)) (x .unknowns)) (always space) bytes₂)
+    λ c bytes₃.
+    thenRead (field judgeFactor (always last) bytes₃) λ a bytes₄.
+    got (record { derivative = natAbs k; power = natAbs j; column = natAbs c; factor = a }) bytes₄
+
+unfoldable pub readTerms : Extent → ℕ → DifferentialTerm → List ℕ → Read (List DifferentialTerm)
+unfolding thenRead readTerm parting
+readTerms x zero before bytes = got [] bytes
+readTerms x (suc k) before bytes =
+    thenRead (readTerm x before (parting newline k) bytes) λ e rest.
+    thenRead (readTerms x k e rest) λ l more. got (e ∷ l) more
+
+-- An equation has at most m × (K + 1) × (J + 1) terms.
+abbrev pub mostOf : Extent → ℕ
+mostOf x = mostTerms (x .unknowns) (x .order) (x .degree)
+
+unfoldable pub readEquation : Extent → List ℕ → Read (List DifferentialTerm)
+unfolding thenRead field between afterCount readTerms noTerm
+readEquation x bytes =
+    thenRead (field (between (pos 0) (pos (mostOf x))) afterCount bytes) λ k rest. readTerms x (natAbs k) (noTerm x) rest
+
+unfoldable pub readEquations : Extent → ℕ → List ℕ → Read (List (List DifferentialTerm))
+unfolding thenRead readEquation
+readEquations x zero bytes = got [] bytes
+readEquations x (suc k) bytes =
+    thenRead (readEquation x bytes) λ e rest.
+    thenRead (readEquations x k rest) λ l more. got (e ∷ l) more
+
+-- Bytes behind the last equation are 4.
+unfoldable pub readEnd : DifferentialSheet → List ℕ → Read DifferentialSheet
+readEnd d [] = got d []
+readEnd d (b ∷ bytes) = fault 4
+
+abbrev pub sheetOf : Extent → List (List DifferentialTerm) → DifferentialSheet
+sheetOf x es = record { unknowns = x .unknowns; order = x .order; degree = x .degree; equations = es }
+
+-- An equation count other than that of the recurrence is 2.
+unfoldable pub readDifferential : List ℕ → Read DifferentialSheet
+unfolding thenRead readExtent sizesFor field between always readEquations readEnd
+readDifferential bytes =
+    thenRead (readExtent bytes) λ x bytes₁.
+    let n = equations (sizesFor x) in
+    thenRead (field (between (pos n) (pos n)) (always newline) bytes₁) λ _ bytes₂.
+    thenRead (readEquations x n bytes₂) λ es bytes₃.
+    readEnd (sheetOf x es) bytes₃

@@ -1,0 +1,108 @@
+-- The calls on a differential sheet that was read into rows.
+--
+-- Main statements
+--   read-faults, read-short, read-fills   the call that reads it: refused, a lent store too short, and filled
+--   write-faults, write-checks, write-is  the call that writes it: refused; its recurrence passes the checks of the writer, and is
+--                                         what the writer writes
+use Prim.Native.Nat.{ℕ, _*_, _≤_, zero-le}
+use native.Mathlib.Nat.{le-of-eq}
+use mathlib.Core.Path.{_≡_, refl, sym, ap, ap₂, _∙_, subst}
+use mathlib.Core.Bool.{true, false, cond}
+use mathlib.Core.List.{List, [], _∷_, _++_}
+use lib.Dec.{T}
+use lib.ListN.{length, take, drop, replicate, take-append-drop}
+use lib.IntN.{ℤ, pos}
+use Rattle.lists.specs.Overwritten.{overwrite}
+use Rattle.lists.specs.Padded.{padTo}
+use Rattle.lists.specs.Tests.{every}
+use Rattle.rules.specs.Limits.{columnCount, rowLength}
+use Rattle.rules.specs.Calls.{zeros}
+use Rattle.rules.specs.Stores.{equations, rowsOf, relationsOf, rowNeed, relationNeed, rowStoreOf, relationStoreOf, lengthsRight, Valid, checkStores}
+use Rattle.rules.specs.Layout.{rowStoreOf-rowsOf, valid-stores, checkStores-zero}
+use Rattle.rules.specs.Numbers.{got, fault}
+use Rattle.rules.specs.Sheets.{Sheet, writeSheet}
+use Rattle.rules.specs.SheetCalls.{ReadCall, WriteCall, afterRead, filled, unread, written, unwritten, checkWrite, writeCall, orderRight, orderGiven}
+use Rattle.rules.specs.SheetCalls as SheetCalls
+use Rattle.tokens.specs.Fields.{then-parts}
+use Rattle.reading.specs.Equations.{got-value}
+use Rattle.writing.specs.WriterChecks.{checkWrite-iff, call-checked}
+use Rattle.differential.specs.Grammar.{Extent, sizesFor, readDifferential}
+use Rattle.differential.specs.Recurrence.{recurrenceOf}
+use Rattle.differential.specs.Calls.{readRecurrence, readDifferentialCall, writeRead, writeRecurrenceCall}
+use Rattle.differential.specs.Sections.{recurrenceWith}
+use Rattle.differential.specs.Accepted.{accepted-valid}
+
+-- ---- a sheet that is refused
+
+pub read-faults : (bytes : List ℕ) (rowStore relationStore : List ℤ) {n : ℕ} → readRecurrence bytes ≡ fault n
+    → readDifferentialCall bytes rowStore relationStore ≡ unread n rowStore relationStore
+unfolding readDifferentialCall afterRead
+read-faults bytes rowStore relationStore e = ap (λ r. afterRead r rowStore relationStore) e
+
+pub write-faults : (bytes byteStore : List ℕ) {n : ℕ} → readRecurrence bytes ≡ fault n → writeRecurrenceCall bytes byteStore
+    ≡ unwritten n byteStore
+unfolding writeRecurrenceCall writeRead
+write-faults bytes byteStore e = ap (λ r. writeRead r byteStore) e
+
+-- ---- a sheet that is read
+
+-- No column order.
+abbrev pub noOrder : List ℕ
+noOrder = replicate columnCount 0
+
+module _ (bytes : List ℕ) (x : Extent) (numbers : List ℤ)
+    (read : readRecurrence bytes ≡ got (recurrenceWith x (rowsOf (equations (sizesFor x)) numbers)) []) where
+  abbrev rows : List Rattle.rules.specs.Rows.Row
+  rows = rowsOf (equations (sizesFor x)) numbers
+
+  module _ (rowStore relationStore : List ℤ) where
+    -- A store too short is 1, after all faults of the sheet (SCOPE 4.42).
+    pub read-short : lengthsRight (equations (sizesFor x)) rowStore relationStore ≡ false
+        → readDifferentialCall bytes rowStore relationStore ≡ unread 1 rowStore relationStore
+    unfolding readDifferentialCall afterRead
+    read-short e =
+        ap (λ r. afterRead r rowStore relationStore) read
+        ∙ ap (λ t. cond t (filled (recurrenceWith x rows) rowStore relationStore) (unread 1 rowStore relationStore)) e
+
+    pub read-fills : lengthsRight (equations (sizesFor x)) rowStore relationStore ≡ true
+        → readDifferentialCall bytes rowStore relationStore
+        ≡ record {
+          result = record { refusal = 0; sizes = sizesFor x; relations = 0; order = noOrder };
+          rowStore = overwrite (rowStoreOf rows) rowStore;
+          relationStore = overwrite (relationStoreOf []) relationStore;
+        }
+    unfolding readDifferentialCall afterRead filled padTo
+    read-fills e =
+        ap (λ r. afterRead r rowStore relationStore) read
+        ∙ ap (λ t. cond t (filled (recurrenceWith x rows) rowStore relationStore) (unread 1 rowStore relationStore)) e
+
+  -- The recurrence is a valid system.
+  recurrence-right : Valid (sizesFor x) rows []
+  unfolding readRecurrence
+  recurrence-right =
+      let parts = then-parts (readDifferential bytes) (λ d rest. got (recurrenceOf d) rest) read in
+      subst (λ (s : Sheet). Valid (s .sizes) (s .rows) (s .relations)) (got-value (parts .3))
+      (accepted-valid bytes (parts .0) (parts .1) (parts .2))
+
+  -- What the writer has: the numbers that were read, and no relation.
+  pub write-checks : checkWrite (sizesFor x) 0 noOrder numbers (zeros relationNeed) ≡ 0
+  unfolding orderRight every zeros rowNeed relationStoreOf
+  write-checks =
+      checkWrite-iff (sizesFor x) 0 noOrder numbers (zeros relationNeed) .1 (
+        tt,
+        checkStores-zero (sizesFor x) 0 numbers (zeros relationNeed) .0
+            (ap₂ (checkStores (sizesFor x) 0) (sym held) refl
+            ∙ valid-stores (sizesFor x) rows [] (drop (rowNeed (equations (sizesFor x))) numbers) [] recurrence-right),
+      )
+    where
+      held : rowStoreOf rows ++ drop (rowNeed (equations (sizesFor x))) numbers ≡ numbers
+      held =
+          ap (λ front. front ++ drop (rowNeed (equations (sizesFor x))) numbers) (rowStoreOf-rowsOf (equations (sizesFor x)) numbers)
+          ∙ take-append-drop (rowNeed (equations (sizesFor x))) numbers
+
+  pub write-is : (byteStore : List ℕ)
+      → writeCall (sizesFor x) 0 noOrder numbers (zeros relationNeed) byteStore ≡ writeRecurrenceCall bytes byteStore
+  unfolding writeRecurrenceCall writeRead SheetCalls.sheetOf orderGiven every relationsOf
+  write-is byteStore =
+      sym (call-checked (sizesFor x) 0 noOrder numbers (zeros relationNeed) byteStore write-checks)
+      ∙ sym (ap (λ r. writeRead r byteStore) read)
