@@ -4,12 +4,13 @@
 --   read-faults, read-short, read-fills   the call that reads it: refused, a lent store too short, and filled
 --   write-faults, write-checks, write-is  the call that writes it: refused; its recurrence passes the checks of the writer, and is
 --                                         what the writer writes
+--   recurrence-length                     the length that it gives back is at most that of the byte store
 use Prim.Native.Nat.{ℕ, _*_, _≤_, zero-le}
 use native.Mathlib.Nat.{le-of-eq}
 use mathlib.Core.Path.{_≡_, refl, sym, ap, ap₂, _∙_, subst}
-use mathlib.Core.Bool.{true, false, cond}
+use mathlib.Core.Bool.{Bool, true, false, cond}
 use mathlib.Core.List.{List, [], _∷_, _++_}
-use lib.Dec.{T}
+use lib.Dec.{T, leb, leb→le}
 use lib.ListN.{length, take, drop, replicate, take-append-drop}
 use lib.IntN.{ℤ, pos}
 use Rattle.lists.specs.Overwritten.{overwrite}
@@ -19,7 +20,7 @@ use Rattle.rules.specs.Limits.{columnCount, rowLength}
 use Rattle.rules.specs.Calls.{zeros}
 use Rattle.rules.specs.Stores.{equations, rowsOf, relationsOf, rowNeed, relationNeed, rowStoreOf, relationStoreOf, lengthsRight, Valid, checkStores}
 use Rattle.rules.specs.Layout.{rowStoreOf-rowsOf, valid-stores, checkStores-zero}
-use Rattle.rules.specs.Numbers.{got, fault}
+use Rattle.rules.specs.Numbers.{Read, got, fault}
 use Rattle.rules.specs.Sheets.{Sheet, writeSheet}
 use Rattle.rules.specs.SheetCalls.{ReadCall, WriteCall, afterRead, filled, unread, written, unwritten, checkWrite, writeCall, orderRight, orderGiven}
 use Rattle.rules.specs.SheetCalls as SheetCalls
@@ -106,3 +107,21 @@ module _ (bytes : List ℕ) (x : Extent) (numbers : List ℤ)
   write-is byteStore =
       sym (call-checked (sizesFor x) 0 noOrder numbers (zeros relationNeed) byteStore write-checks)
       ∙ sym (ap (λ r. writeRead r byteStore) read)
+
+-- ---- the length that is given back
+
+-- It is at most that of the byte store, on a refusal too.
+pub recurrence-length : (bytes byteStore : List ℕ) {x : WriteCall} → x ≡ writeRecurrenceCall bytes byteStore → x .length ≤ length byteStore
+unfolding writeRecurrenceCall writeRead written unwritten
+recurrence-length bytes byteStore same = subst (λ c. c .length ≤ length byteStore) (sym same) (by-sheet (readRecurrence bytes))
+  where
+    fitting : (text : List ℕ) (b : Bool) → (T b → length text ≤ length byteStore)
+        → cond b (record { refusal = 0; length = length text; byteStore = overwrite text byteStore }) (unwritten 1 byteStore) .length
+        ≤ length byteStore
+    fitting text true h = h tt
+    fitting text false h = zero-le
+
+    by-sheet : (r : Read Sheet) → writeRead r byteStore .length ≤ length byteStore
+    by-sheet (got s rest) =
+        fitting (writeSheet s) (leb (length (writeSheet s)) (length byteStore)) (leb→le (length (writeSheet s)) (length byteStore))
+    by-sheet (fault n) = zero-le

@@ -7,28 +7,25 @@
 -- Main statements
 --   differential-small      what a call that reads gives back is small
 --   recurrence-short, recurrence-done   the call that writes, with no place for the length, and with one
---   recurrence-length       the length of a sheet is at most that of the byte store
 use Prim.Native.Nat.{ℕ, _≤_, _<_, zero-le}
 use mathlib.Core.Path.{_≡_, refl, sym, _∙_, ap, subst}
 use mathlib.Core.Bool.{Bool, true, false, cond}
 use mathlib.Core.List.{List, [], _∷_}
 use borrow.Author.Tests.{le-leb, lt-leb}
-use lib.Dec.{T, leb, leb→le}
+use lib.Dec.{leb}
 use lib.IntN.{ℤ, pos}
 use lib.ListN.{length}
-use Rattle.lists.specs.Overwritten.{overwrite}
 use Rattle.lists.specs.Everywhere.{All}
 use Rattle.lists.specs.Padded.{length-padTo, all-padTo}
 use Rattle.rules.specs.Limits.{columnCount}
 use Rattle.rules.specs.Stores.{lengthsRight, equations}
 use Rattle.rules.specs.Layout.{size-bounds}
 use Rattle.rules.specs.Numbers.{Read, got, fault, thenRead}
-use Rattle.rules.specs.Sheets.{Sheet, writeSheet}
-use Rattle.rules.specs.SheetCalls.{ReadCall, WriteCall, afterRead, filled, unread, written, unwritten}
+use Rattle.rules.specs.SheetCalls.{ReadCall, WriteCall, afterRead, filled, unread}
 use Rattle.differential.specs.Differential.{DifferentialSheet}
 use Rattle.differential.specs.Recurrence.{recurrenceOf}
 use Rattle.differential.specs.Grammar.{readDifferential}
-use Rattle.differential.specs.Calls.{readRecurrence, readDifferentialCall, writeRead, writeRecurrenceCall}
+use Rattle.differential.specs.Calls.{readRecurrence, readDifferentialCall, writeRecurrenceCall}
 use Rattle.differential.specs.Accepted.{accepted-valid}
 use Rattle.exports.specs.Results.{Exported, onAcceptance}
 use Rattle.exports.specs.Reads.{readWith, SmallRead, read-zeros}
@@ -94,18 +91,3 @@ module _ (bytes byteStore : List ℕ) (resultStore : List ℤ) where
       ∙ ap (λ y. wrote y resultStore) same
       ∙ ap (λ t. cond t (wrote (writeRecurrenceCall bytes byteStore) resultStore)
       (notWritten (writeRecurrenceCall bytes [] .refusal) byteStore resultStore)) (sym (le-leb 1 (length resultStore) h))
-
-pub recurrence-length : (bytes byteStore : List ℕ) {x : WriteCall} → x ≡ writeRecurrenceCall bytes byteStore → x .length ≤ length byteStore
-unfolding writeRecurrenceCall writeRead written unwritten
-recurrence-length bytes byteStore same = subst (λ c. c .length ≤ length byteStore) (sym same) (by-sheet (readRecurrence bytes))
-  where
-    fitting : (text : List ℕ) (b : Bool) → (T b → length text ≤ length byteStore)
-        → cond b (record { refusal = 0; length = length text; byteStore = overwrite text byteStore }) (unwritten 1 byteStore) .length
-        ≤ length byteStore
-    fitting text true h = h tt
-    fitting text false h = zero-le
-
-    by-sheet : (r : Read Sheet) → writeRead r byteStore .length ≤ length byteStore
-    by-sheet (got s rest) =
-        fitting (writeSheet s) (leb (length (writeSheet s)) (length byteStore)) (leb→le (length (writeSheet s)) (length byteStore))
-    by-sheet (fault n) = zero-le

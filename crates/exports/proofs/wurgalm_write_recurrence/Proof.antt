@@ -16,7 +16,8 @@ use Rattle.lists.specs.Overwritten.{set-overwrite}
 use Rattle.lists.specs.Taken.{none-before}
 use Rattle.exports.specs.Results.{onAcceptance-none, onAcceptance-some}
 use Rattle.exports.specs.Writes.{notWritten}
-use Rattle.exports.specs.Differentials.{recurrence-short, recurrence-done, recurrence-length}
+use Rattle.differential.specs.SheetCalls.{recurrence-length}
+use Rattle.exports.specs.Differentials.{recurrence-short, recurrence-done}
 use Rattle.exports.proofs.wurgalm_write_recurrence.Statement.{statement}
 use Rattle.exports.proofs.wurgalm_write_recurrence.Tie as tie
 

@@ -1,0 +1,50 @@
+// The program for one differential sheet (SCOPE 10.51): it writes `0` and the sheet of the recurrence, or the number of the refusal alone on
+// a line. What is written for which sheet is proved of `differential::write_recurrence` and `frames::refusal_line`; that the bytes come
+// from standard input and go to standard output is for the reader's eye.
+use libc::STDERR_FILENO;
+use libc::STDIN_FILENO;
+use libc::STDOUT_FILENO;
+ghost use mathlib.Core.Path.{_≡_};
+ghost use lib.ListN.{length};
+ghost use Rattle.differential.specs.Longer.{mostSheetBytes};
+ghost use Rattle.differential.specs.WrittenLength.{mostRecurrenceBytes};
+
+// As many bytes as any fault needs: more input is read as these first bytes are (`write-window` of `differential`).
+fn input() -> [u8; 7021]
+    ensures { λ r. ⌜ mostSheetBytes ≡ length r ⌝ }
+{
+    [0; 7021]
+}
+
+// Room for the recurrence of any sheet (`write-fits` of `differential`), so that no sheet is refused with 1.
+fn room() -> [u8; 16841]
+    ensures { λ r. ⌜ mostRecurrenceBytes ≡ length r ⌝ }
+{
+    [0; 16841]
+}
+
+// Output, written at once. Where that fails, standard error says so.
+fn put(text: &[u8]) -> bool {
+    let written = io::write_all(STDOUT_FILENO, text);
+    if !written {
+        io::write_all(
+            STDERR_FILENO,
+            b"induce: standard output cannot be written\n",
+        );
+    }
+    written
+}
+
+fn main() {
+    let mut sheet = input();
+    let count = io::read_full(STDIN_FILENO, &mut sheet);
+    let mut output = room();
+    let written = differential::write_recurrence(&sheet[..count], &mut output);
+    let line = frames::refusal_line(written.refusal);
+    let text = line.bytes;
+    let end = line.length;
+    if put(&text[..end]) {
+        let length = written.length;
+        put(&output[..length]);
+    }
+}
