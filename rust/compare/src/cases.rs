@@ -1,6 +1,7 @@
 //! One call each, made from a number: the stores as they are lent and the other arguments, good or bad.
 
 use crate::batches::batch;
+use crate::differentials::{differential, input};
 use crate::random::Random;
 use crate::sheets::sheet;
 use crate::subject::Subject;
@@ -26,6 +27,13 @@ pub struct Answer {
     pub bytes: Vec<u8>,
 }
 
+impl Answer {
+    /// The answer of a call with no rows or relations, or of a program.
+    fn of_bytes(number: u8, bytes: Vec<u8>, result: Vec<i64>) -> Answer {
+        Answer { number, stores: Stores { rows: Vec::new(), relations: Vec::new(), result }, bytes }
+    }
+}
+
 #[derive(Clone)]
 pub enum Case {
     /// A run on stores.
@@ -38,6 +46,12 @@ pub enum Case {
     Batch { input: Vec<u8> },
     /// A batch that is worked by a call, into a byte store.
     BatchCall { input: Vec<u8>, bytes: Vec<u8>, result: Vec<i64> },
+    /// A differential sheet whose recurrence is read into stores; what was read is then written.
+    Differential { sheet: Vec<u8>, stores: Stores },
+    /// A differential sheet whose recurrence is written into a byte store.
+    Recurrence { sheet: Vec<u8>, bytes: Vec<u8>, result: Vec<i64> },
+    /// An input of the program `induce`.
+    Induce { input: Vec<u8> },
 }
 
 #[derive(Clone, Copy, Debug, PartialEq, Eq)]
@@ -48,10 +62,17 @@ pub enum Kind {
     Write,
     Batch,
     BatchCall,
+    Differential,
+    Recurrence,
+    Induce,
 }
 
 impl Kind {
-    pub const ALL: [Kind; 6] = [Kind::Leading, Kind::Trailing, Kind::Read, Kind::Write, Kind::Batch, Kind::BatchCall];
+    /// Calls on stores, which take no time to speak of.
+    pub const CALLS: [Kind; 6] =
+        [Kind::Leading, Kind::Trailing, Kind::Read, Kind::Write, Kind::Differential, Kind::Recurrence];
+    /// Batches and programs.
+    pub const SLOW: [Kind; 3] = [Kind::Batch, Kind::BatchCall, Kind::Induce];
 
     /// The k-th case of its kind. Leading and trailing runs have the same systems.
     pub fn case(self, k: usize) -> Case {
@@ -64,6 +85,9 @@ impl Kind {
             Kind::Write => write_case(&mut random),
             Kind::Batch => Case::Batch { input: batch(&mut random) },
             Kind::BatchCall => batch_call_case(&mut random),
+            Kind::Differential => differential_case(&mut random),
+            Kind::Recurrence => recurrence_case(&mut random),
+            Kind::Induce => Case::Induce { input: input(&mut random) },
         }
     }
 }
@@ -80,6 +104,12 @@ fn run_case(random: &mut Random, side: Side) -> Case {
 
 fn read_case(random: &mut Random) -> Case {
     let sheet = sheet(random);
+    let stores = stores_to_fill(random);
+    Case::Read { sheet, stores, room: random.pick(&[0, 0, 1, 50, -1]) }
+}
+
+/// Stores for what a reader finds: junk in them, and of every fourth call one that may be too short.
+fn stores_to_fill(random: &mut Random) -> Stores {
     let mut stores =
         Stores { rows: vec![0; row_store(4)], relations: vec![0; RELATION_STORE], result: vec![0; RESULT] };
     for store in [&mut stores.rows, &mut stores.relations, &mut stores.result] {
@@ -92,7 +122,22 @@ fn read_case(random: &mut Random) -> Case {
     if random.one_in(8) {
         stores.rows.truncate(ROW * random.below(5));
     }
-    Case::Read { sheet, stores, room: random.pick(&[0, 0, 1, 50, -1]) }
+    stores
+}
+
+fn differential_case(random: &mut Random) -> Case {
+    let sheet = differential(random);
+    Case::Differential { sheet, stores: stores_to_fill(random) }
+}
+
+/// A differential sheet with a byte store for its recurrence: just long enough, longer, one byte too short, or much shorter.
+fn recurrence_case(random: &mut Random) -> Case {
+    let sheet = differential(random);
+    let exact = outside::differential::answer(&sheet, None).map_or(70, |text| text.len());
+    let length = random.pick(&[exact, exact, exact + 1, exact + 70, exact - 1, exact - 1, exact / 2, 0]);
+    let bytes = (0..length).map(|k| k as u8 | 1).collect();
+    let result = (0..random.pick(&[1, 1, 1, 2, 5, 0])).map(|_| random.junk()).collect();
+    Case::Recurrence { sheet, bytes, result }
 }
 
 fn write_case(random: &mut Random) -> Case {
@@ -226,15 +271,19 @@ impl Case {
             }
             Case::Read { sheet, stores, room } => read_and_written(subject, sheet, stores, *room),
             Case::Write { stores, asked, order, bytes } => vec![written(subject, stores, *asked, order, bytes.clone())],
-            Case::Batch { input } => {
-                let stores = Stores { rows: Vec::new(), relations: Vec::new(), result: Vec::new() };
-                vec![Answer { number: 0, stores, bytes: subject.batch(input) }]
-            }
+            Case::Batch { input } => vec![Answer::of_bytes(0, subject.batch(input), Vec::new())],
             Case::BatchCall { input, bytes, result } => {
                 let (mut bytes, mut result) = (bytes.clone(), result.clone());
                 let number = subject.batch_call(input, &mut bytes, &mut result);
-                vec![Answer { number, stores: Stores { rows: Vec::new(), relations: Vec::new(), result }, bytes }]
+                vec![Answer::of_bytes(number, bytes, result)]
             }
+            Case::Differential { sheet, stores } => differential_and_written(subject, sheet, stores),
+            Case::Recurrence { sheet, bytes, result } => {
+                let (mut bytes, mut result) = (bytes.clone(), result.clone());
+                let number = subject.write_recurrence(sheet, &mut bytes, &mut result);
+                vec![Answer::of_bytes(number, bytes, result)]
+            }
+            Case::Induce { input } => vec![Answer::of_bytes(0, subject.induce(input), Vec::new())],
         }
     }
 
@@ -245,17 +294,18 @@ impl Case {
             Case::Write { stores, asked, order, bytes } => {
                 format!("write, order {order:?}, {} bytes, {}", bytes.len(), stores.shown(*asked))
             }
-            Case::Read { sheet, stores, room } => format!(
-                "read, row store {}, relation store {}, result {}, room {room}\n{}",
-                stores.rows.len(),
-                stores.relations.len(),
-                stores.result.len(),
-                text(sheet)
-            ),
+            Case::Read { sheet, stores, room } => {
+                format!("read, {}, room {room}\n{}", stores.lengths(), text(sheet))
+            }
             Case::Batch { input } => format!("batch\n{}", text(input)),
             Case::BatchCall { input, bytes, result } => {
                 format!("batch, {} bytes, result {}\n{}", bytes.len(), result.len(), text(input))
             }
+            Case::Differential { sheet, stores } => format!("differential, {}\n{}", stores.lengths(), text(sheet)),
+            Case::Recurrence { sheet, bytes, result } => {
+                format!("recurrence, {} bytes, result {}\n{}", bytes.len(), result.len(), text(sheet))
+            }
+            Case::Induce { input } => format!("induce, {} bytes\n{}", input.len(), text(input)),
         }
     }
 }
@@ -266,6 +316,11 @@ pub fn text(bytes: &[u8]) -> String {
 }
 
 impl Stores {
+    fn lengths(&self) -> String {
+        let (rows, relations, result) = (self.rows.len(), self.relations.len(), self.result.len());
+        format!("row store {rows}, relation store {relations}, result {result}")
+    }
+
     fn shown(&self, asked: Asked) -> String {
         let mut bytes = vec![0; 1 << 17];
         let mut result = [0];
@@ -294,13 +349,24 @@ fn written(subject: &dyn Subject, stores: &Stores, asked: Asked, order: &[i64], 
 fn read_and_written(subject: &dyn Subject, sheet: &[u8], stores: &Stores, room: isize) -> Vec<Answer> {
     let mut stores = stores.clone();
     let number = subject.read(sheet, &mut stores.rows, &mut stores.relations, &mut stores.result);
-    let read = Answer { number, stores, bytes: Vec::new() };
-    if number != 0 {
+    let room = sheet.len().saturating_add_signed(room);
+    then_written(subject, Answer { number, stores, bytes: Vec::new() }, room)
+}
+
+/// The same for the recurrence of a differential sheet, with room enough for any.
+fn differential_and_written(subject: &dyn Subject, sheet: &[u8], stores: &Stores) -> Vec<Answer> {
+    let mut stores = stores.clone();
+    let number = subject.read_differential(sheet, &mut stores.rows, &mut stores.relations, &mut stores.result);
+    then_written(subject, Answer { number, stores, bytes: Vec::new() }, wurgalm::RECURRENCE)
+}
+
+/// The answer of a reader, and, where it is 0, that of the writer on what was read.
+fn then_written(subject: &dyn Subject, read: Answer, room: usize) -> Vec<Answer> {
+    if read.number != 0 {
         return vec![read];
     }
     let result = &read.stores.result;
     let asked = Asked { m: result[0] as usize, l: result[1], t: result[2], count: result[3] as usize };
-    let bytes = vec![b'#'; sheet.len().saturating_add_signed(room)];
-    let written = written(subject, &read.stores, asked, &result[4..RESULT], bytes);
+    let written = written(subject, &read.stores, asked, &result[4..RESULT], vec![b'#'; room]);
     vec![read, written]
 }

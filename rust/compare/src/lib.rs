@@ -3,6 +3,7 @@
 pub mod batches;
 pub mod cases;
 pub mod clients;
+pub mod differentials;
 pub mod fast;
 pub mod judge;
 pub mod pieces;

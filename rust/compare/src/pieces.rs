@@ -1,6 +1,7 @@
-//! The batch program fed in pieces: what it writes depends neither on where its input is cut nor on when the pieces come.
+//! The programs fed in pieces: what they write depends neither on where its input is cut nor on when the pieces come.
 
 use crate::batches::batch;
+use crate::differentials::{corner_inputs, input};
 use crate::random::Random;
 use crate::subject::output_fed;
 use std::fs;
@@ -96,14 +97,33 @@ pub fn all() -> Vec<Fed> {
     }
     all.extend(after_a_pause());
     let mut random = Random::new(6 << 40);
-    all.extend((0..200).map(|_| cut_anywhere(&mut random)));
+    all.extend((0..200).map(|_| {
+        let batch = batch(&mut random);
+        cut_anywhere(&mut random, batch)
+    }));
     all
 }
 
-/// The batch in two pieces, for each place where it can be cut.
-fn cut_everywhere(batch: &[u8]) -> impl Iterator<Item = Fed> + '_ {
-    let cut = |at| Fed { pieces: vec![batch[..at].to_vec(), batch[at..].to_vec()], between: Between::Taken };
-    (1..batch.len()).map(cut)
+/// The inputs that the program `induce` is compared on: whole, cut at each place, byte by byte, and random ones cut anywhere.
+pub fn differentials() -> Vec<Fed> {
+    let mut all: Vec<Fed> =
+        corner_inputs().into_iter().map(|input| Fed { pieces: vec![input], between: Between::Taken }).collect();
+    for sheet in [&b"3 1 2 1\n1\n2 2 0 1 1 0 1 1 -1\n"[..], b"3 1 0 0\n1\n1 0 0 1 7\nx"] {
+        all.extend(cut_everywhere(sheet));
+        all.push(Fed { pieces: sheet.iter().map(|&byte| vec![byte]).collect(), between: Between::Taken });
+    }
+    let mut random = Random::new(7 << 40);
+    all.extend((0..100).map(|_| {
+        let input = input(&mut random);
+        cut_anywhere(&mut random, input)
+    }));
+    all
+}
+
+/// The input in two pieces, for each place where it can be cut.
+fn cut_everywhere(input: &[u8]) -> impl Iterator<Item = Fed> + '_ {
+    let cut = |at| Fed { pieces: vec![input[..at].to_vec(), input[at..].to_vec()], between: Between::Taken };
+    (1..input.len()).map(cut)
 }
 
 /// Left over bytes, a sheet's bytes and a line's that come 50 ms after the others, or then do not come.
@@ -127,13 +147,12 @@ fn after_a_pause() -> Vec<Fed> {
     ]
 }
 
-/// A random batch in two to six pieces.
-fn cut_anywhere(random: &mut Random) -> Fed {
-    let batch = batch(random);
-    let mut cuts: Vec<usize> = (0..1 + random.below(5)).map(|_| random.below(batch.len() + 1)).collect();
-    cuts.extend([0, batch.len()]);
+/// An input in two to six pieces.
+fn cut_anywhere(random: &mut Random, input: Vec<u8>) -> Fed {
+    let mut cuts: Vec<usize> = (0..1 + random.below(5)).map(|_| random.below(input.len() + 1)).collect();
+    cuts.extend([0, input.len()]);
     cuts.sort();
-    let pieces = cuts.windows(2).map(|ends| batch[ends[0]..ends[1]].to_vec());
+    let pieces = cuts.windows(2).map(|ends| input[ends[0]..ends[1]].to_vec());
     Fed { pieces: pieces.filter(|piece| !piece.is_empty()).collect(), between: Between::Taken }
 }
 

@@ -1,4 +1,4 @@
-//! Cases that were made elsewhere, from a file of runs or a batch with its output. A subject is called with stores of several lengths,
+//! Cases that were made elsewhere, from a file of runs, a file of differential sheets or a batch with its output. A subject is called with stores of several lengths,
 //! and every number of every store is judged, before and after. What is expected comes from the file alone: its sheets are taken apart
 //! here into the numbers that the stores have to hold.
 
@@ -7,7 +7,7 @@ use crate::subject::Subject;
 use outside::elimination::Side;
 use outside::stores::Asked;
 use std::str;
-use wurgalm::{row_store, COEFFICIENTS, ENTRIES, RELATION, RELATION_STORE, ROW};
+use wurgalm::{row_store, COEFFICIENTS, ENTRIES, RECURRENCE, RELATION, RELATION_STORE, ROW};
 
 /// Numbers of the result of a run or of the reader.
 const RESULT: usize = 8;
@@ -30,23 +30,60 @@ pub struct Runs {
     pub trailing: Left,
 }
 
-// ---- the file ----
+/// A differential sheet, its refusal or 0, and the sheet of its recurrence, empty on a refusal.
+#[derive(Debug, PartialEq, Eq)]
+pub struct Induced {
+    pub sheet: Vec<u8>,
+    pub refusal: u8,
+    pub recurrence: Vec<u8>,
+}
+
+// ---- the files ----
 
 /// The cases of a `run.txt`: a line `sheet BYTES` and so many bytes, a line `leading REFUSAL shifts S root R` with the sheet that is
 /// left where the refusal is 0, and the same for the trailing side.
 pub fn runs_of(mut file: &[u8]) -> Result<Vec<Runs>, String> {
     let mut cases = Vec::new();
     while !file.is_empty() {
-        let line = next_line(&mut file)?;
-        let length = line.strip_prefix("sheet ").and_then(|length| length.parse().ok());
-        let Some((sheet, rest)) = length.and_then(|length| file.split_at_checked(length)) else {
-            return Err(format!("no sheet at {line:?}"));
-        };
-        file = rest;
+        let sheet = sheet_of(&mut file)?;
         let (leading, trailing) = (left(&mut file, "leading")?, left(&mut file, "trailing")?);
-        cases.push(Runs { sheet: sheet.to_vec(), leading, trailing });
+        cases.push(Runs { sheet, leading, trailing });
     }
     Ok(cases)
+}
+
+/// The cases of a file of differential sheets: a line `sheet BYTES` and so many bytes, a line `answer REFUSAL`, and the recurrence's
+/// sheet where the refusal is 0.
+pub fn induced_of(mut file: &[u8]) -> Result<Vec<Induced>, String> {
+    let mut cases = Vec::new();
+    while !file.is_empty() {
+        let sheet = sheet_of(&mut file)?;
+        let line = next_line(&mut file)?;
+        let refusal = line.strip_prefix("answer ").and_then(|refusal| refusal.parse().ok());
+        let refusal = refusal.ok_or_else(|| format!("no answer at {line:?}"))?;
+        cases.push(Induced { sheet, refusal, recurrence: sheet_lines(&mut file)? });
+    }
+    Ok(cases)
+}
+
+/// A line `sheet BYTES`, and so many bytes.
+fn sheet_of(file: &mut &[u8]) -> Result<Vec<u8>, String> {
+    let line = next_line(file)?;
+    let length = line.strip_prefix("sheet ").and_then(|length| length.parse().ok());
+    let Some((sheet, rest)) = length.and_then(|length| file.split_at_checked(length)) else {
+        return Err(format!("no sheet at {line:?}"));
+    };
+    *file = rest;
+    Ok(sheet.to_vec())
+}
+
+/// The sheet that follows, or nothing: its lines have numbers alone, and all other lines begin with a letter.
+fn sheet_lines(file: &mut &[u8]) -> Result<Vec<u8>, String> {
+    let mut sheet = Vec::new();
+    while file.first().is_some_and(|first| !first.is_ascii_alphabetic()) {
+        sheet.extend(next_line(file)?.bytes().chain([b'\n']));
+    }
+    Ok(sheet)
 }
 
 fn next_line<'a>(file: &mut &'a [u8]) -> Result<&'a str, String> {
@@ -66,12 +103,7 @@ fn left(file: &mut &[u8], side: &str) -> Result<Left, String> {
     if name != side {
         return Err(wrong());
     }
-    // Lines of a sheet have numbers alone, and all other lines begin with a letter.
-    let mut sheet = Vec::new();
-    while file.first().is_some_and(|first| !first.is_ascii_alphabetic()) {
-        sheet.extend(next_line(file)?.bytes().chain([b'\n']));
-    }
-    Ok(Left { refusal, shifts, root, sheet })
+    Ok(Left { refusal, shifts, root, sheet: sheet_lines(file)? })
 }
 
 // ---- a sheet as numbers of stores ----
@@ -208,15 +240,22 @@ fn numbered(what: &str, found: u8, expected: u8) -> Judgement {
     }
 }
 
+/// A call that reads a sheet, or the recurrence of a differential sheet, into a row store, a relation store and a result.
+type Reader = fn(&dyn Subject, &[u8], &mut [i64], &mut [i64], &mut [i64]) -> u8;
+
+const READ: Reader = |subject, sheet, rows, relations, result| subject.read(sheet, rows, relations, result);
+const READ_DIFFERENTIAL: Reader =
+    |subject, sheet, rows, relations, result| subject.read_differential(sheet, rows, relations, result);
+
 impl Judge {
     /// Every call on one case.
     pub fn runs(&mut self, case: &Runs, subject: &dyn Subject) -> Judgement {
         let judged = match case.leading.refusal {
             // What is refused before the work of a run is refused by the reader.
-            number @ 1..=5 => self.unread(&case.sheet, number, subject),
+            number @ 1..=5 => self.unread(READ, &case.sheet, number, subject),
             _ => {
                 let input = held(&case.sheet);
-                self.read(&case.sheet, &input, subject)
+                self.read(READ, &case.sheet, &input, subject)
                     .and_then(|()| self.written(&case.sheet, &input, subject))
                     .and_then(|()| self.run(Side::Leading, &input, &case.leading, subject))
                     .and_then(|()| self.run(Side::Trailing, &input, &case.trailing, subject))
@@ -225,19 +264,76 @@ impl Judge {
         judged.map_err(|difference| format!("{difference}\n{}", text(&case.sheet)))
     }
 
+    /// Every call on a differential sheet, and the program `induce`.
+    pub fn induced(&mut self, case: &Induced, subject: &dyn Subject) -> Judgement {
+        let judged = match case.refusal {
+            0 => {
+                let input = held(&case.recurrence);
+                self.read(READ_DIFFERENTIAL, &case.sheet, &input, subject)
+                    .and_then(|()| self.written(&case.recurrence, &input, subject))
+                    .and_then(|()| self.recurrence(case, subject))
+            }
+            number => {
+                let unread = self.unread(READ_DIFFERENTIAL, &case.sheet, number, subject);
+                unread.and_then(|()| self.no_recurrence(case, subject))
+            }
+        };
+        let judged = judged.and_then(|()| self.program(case, subject));
+        judged.map_err(|difference| format!("{difference}\n{}", text(&case.sheet)))
+    }
+
+    /// The recurrence is written as a sheet, and nothing past its end.
+    fn recurrence(&mut self, case: &Induced, subject: &dyn Subject) -> Judgement {
+        let needed = &case.recurrence;
+        for (more, result) in [(0, 0), (5, 3), (-1, 0), (9, -1)] {
+            let before = (lent(&unsaid(needed.len()), more), lent(&unsaid(1), result));
+            let mut after = before.clone();
+            let found = subject.write_recurrence(&case.sheet, &mut after.0, &mut after.1);
+            let refused = is_short(&[more, result]);
+            let accepted = || (lent(needed, more), lent(&[needed.len() as i64], result));
+            let expected = if refused { before } else { accepted() };
+            self.calls += 1;
+            numbered("writing a recurrence", found, refused as u8)?;
+            same("recurrence that was written", &after.0, &expected.0)?;
+            same("result of writing a recurrence", &after.1, &expected.1)?;
+        }
+        Ok(())
+    }
+
+    /// A fault of the sheet comes before a store that is too short, and both stores stay as they are.
+    fn no_recurrence(&mut self, case: &Induced, subject: &dyn Subject) -> Judgement {
+        for (bytes, result) in [(RECURRENCE, 1), (0, 1), (RECURRENCE, 0), (0, 0)] {
+            let before = (unsaid::<u8>(bytes), unsaid::<i64>(result));
+            let mut after = before.clone();
+            let found = subject.write_recurrence(&case.sheet, &mut after.0, &mut after.1);
+            self.calls += 1;
+            numbered("writing a recurrence", found, case.refusal)?;
+            same("byte store", &after.0, &before.0)?;
+            same("result", &after.1, &before.1)?;
+        }
+        Ok(())
+    }
+
+    /// `induce` writes `0` and the recurrence, or the refusal alone on a line.
+    fn program(&mut self, case: &Induced, subject: &dyn Subject) -> Judgement {
+        let expected = [format!("{}\n", case.refusal).as_bytes(), &case.recurrence].concat();
+        self.calls += 1;
+        same("output of induce", &subject.induce(&case.sheet), &expected)
+    }
+
     /// The reader refuses the sheet, and leaves all stores as they are.
-    fn unread(&mut self, sheet: &[u8], number: u8, subject: &dyn Subject) -> Judgement {
+    fn unread(&mut self, reader: Reader, sheet: &[u8], number: u8, subject: &dyn Subject) -> Judgement {
         let before = (unsaid::<i64>(row_store(4)), unsaid::<i64>(RELATION_STORE), unsaid::<i64>(RESULT));
         let mut after = before.clone();
         self.calls += 1;
-        numbered("reading", subject.read(sheet, &mut after.0, &mut after.1, &mut after.2), number)?;
+        numbered("reading", reader(subject, sheet, &mut after.0, &mut after.1, &mut after.2), number)?;
         same("row store", &after.0, &before.0)?;
         same("relation store", &after.1, &before.1)?;
         same("result", &after.2, &before.2)
     }
 
     /// The reader fills the stores, whatever they held, and writes nothing past their needed parts.
-    fn read(&mut self, sheet: &[u8], input: &Held, subject: &dyn Subject) -> Judgement {
+    fn read(&mut self, reader: Reader, sheet: &[u8], input: &Held, subject: &dyn Subject) -> Judgement {
         let Asked { m, l, t, count } = input.asked;
         let [a, b, c, d] = input.order;
         let heading = [m as i64, l, t, count as i64, a, b, c, d];
@@ -245,7 +341,7 @@ impl Judge {
             let before: [Vec<i64>; 3] = [row_store(m), RELATION_STORE, RESULT].map(unsaid);
             let before = [0, 1, 2].map(|k| lent(&before[k], more[k]));
             let [mut rows, mut relations, mut result] = before.clone();
-            let found = subject.read(sheet, &mut rows, &mut relations, &mut result);
+            let found = reader(subject, sheet, &mut rows, &mut relations, &mut result);
             let parts: [&[i64]; 3] = [&input.rows, &input.relations, &heading];
             let expected = if is_short(&more) { before } else { [0, 1, 2].map(|k| lent(parts[k], more[k])) };
             self.calls += 1;
@@ -326,6 +422,7 @@ impl Judge {
 #[cfg(test)]
 mod tests {
     use super::*;
+    use crate::differentials::differential;
     use crate::random::Random;
     use crate::sheets::whole_sheet;
     use crate::subject::Outside;
@@ -396,6 +493,39 @@ mod tests {
         Judge::default().batch(&input, output, &Outside(None)).unwrap();
         for fault in [Fault::BatchStoresKept, Fault::BatchCut, Fault::BatchTailZeroed, Fault::BatchResultLast] {
             assert!(Judge::default().batch(&input, output, &Outside(Some(fault))).is_err(), "{fault:?}");
+        }
+    }
+
+    /// Differential sheets with their answers, as a file of them has both.
+    fn differential_cases() -> Vec<Induced> {
+        let mut random = Random::new(12);
+        let mut file = Vec::new();
+        for _ in 0..600 {
+            let sheet = differential(&mut random);
+            file.extend(format!("sheet {}\n", sheet.len()).bytes().chain(sheet.iter().copied()));
+            file.extend(b"answer ".iter().copied().chain(outside::differential::output(&sheet, None)));
+        }
+        induced_of(&file).unwrap()
+    }
+
+    #[test]
+    fn differential_sheets() {
+        use Fault::*;
+        let cases = differential_cases();
+        assert_eq!(cases.len(), 600);
+        let mut judge = Judge::default();
+        for case in &cases {
+            judge.induced(case, &Outside(None)).unwrap();
+        }
+        assert!(judge.calls > 4_000);
+        let recurrences = [DerivativeFactor, VariableUp, TermsOverwrite, RecurrenceCut, RecurrenceTailZeroed];
+        let sheets = [TermTwice, FactorZero, DifferentialBytesAfter, RecurrenceResultFirst];
+        for fault in recurrences.into_iter().chain(sheets) {
+            let noticed = |case: &Induced| Judge::default().induced(case, &Outside(Some(fault))).is_err();
+            assert!(cases.iter().any(noticed), "{fault:?}");
+        }
+        for file in ["sheet", "sheet 9\n", "sheet 1\n3answer", "sheet 1\n3answer x\n", "sheet 0\nleading 4\n"] {
+            assert!(induced_of(file.as_bytes()).is_err(), "{file:?}");
         }
     }
 

@@ -41,7 +41,7 @@ fn damaged(random: &mut Random, bytes: Vec<u8>) -> Vec<u8> {
 
 const BYTES: &[u8] = b"  \n\n-01234567899+.ax\t\r\0\x7f\xff";
 
-fn damaged_byte(random: &mut Random, mut bytes: Vec<u8>) -> Vec<u8> {
+pub(crate) fn damaged_byte(random: &mut Random, mut bytes: Vec<u8>) -> Vec<u8> {
     let at = random.below(bytes.len() + 1);
     let byte = random.pick(BYTES);
     match random.below(5) {
@@ -60,7 +60,7 @@ fn damaged_byte(random: &mut Random, mut bytes: Vec<u8>) -> Vec<u8> {
 }
 
 /// The beginning of a sheet, the last token now and then spoiled.
-fn cut(random: &mut Random, mut bytes: Vec<u8>) -> Vec<u8> {
+pub(crate) fn cut(random: &mut Random, mut bytes: Vec<u8>) -> Vec<u8> {
     bytes.truncate(random.below(bytes.len() + 1));
     let last =
         random.pick(&["", "", "", "", "-", "-0", "0", "00", "07", "+", "x", "12345678901", "1234567890", " ", "\n"]);
@@ -71,10 +71,10 @@ fn cut(random: &mut Random, mut bytes: Vec<u8>) -> Vec<u8> {
 // ---- tokens ----
 
 /// The tokens of a sheet by lines.
-struct Draft(Vec<Vec<String>>);
+pub(crate) struct Draft(pub Vec<Vec<String>>);
 
 impl Draft {
-    fn of(bytes: &[u8]) -> Draft {
+    pub fn of(bytes: &[u8]) -> Draft {
         let text: String = bytes.iter().map(|&b| b as char).collect();
         let lines = text.strip_suffix('\n').unwrap_or(&text).split('\n');
         Draft(lines.map(|line| line.split(' ').map(String::from).collect()).collect())
@@ -92,14 +92,14 @@ impl Draft {
         (order < self.0.len()).then_some(order)
     }
 
-    fn bytes(&self) -> Vec<u8> {
+    pub fn bytes(&self) -> Vec<u8> {
         let text = self.0.iter().map(|line| line.join(" ") + "\n").collect::<String>();
         text.chars().map(|c| c as u8).collect()
     }
 }
 
 /// One token changed. Lines are chosen first, so that short lines come up as often as long ones.
-fn damaged_token(random: &mut Random, mut draft: Draft) -> Draft {
+pub(crate) fn damaged_token(random: &mut Random, mut draft: Draft) -> Draft {
     let line = random.below(draft.0.len());
     let tokens = &mut draft.0[line];
     let among = if random.one_in(2) { tokens.len() } else { tokens.len().min(6) };
@@ -249,7 +249,7 @@ fn new_sides(random: &mut Random, count: usize) -> Vec<Vec<String>> {
 }
 
 /// A line left out, repeated, exchanged with another or broken.
-fn damaged_line(random: &mut Random, mut draft: Draft) -> Draft {
+pub(crate) fn damaged_line(random: &mut Random, mut draft: Draft) -> Draft {
     let lines = &mut draft.0;
     let (i, j) = (random.below(lines.len()), random.below(lines.len()));
     match random.below(5) {

@@ -1,14 +1,15 @@
-//! What is compared: the outside implementation, right or with a planted fault, and the proved library with its program.
+//! What is compared: the outside implementation, right or with a planted fault, and the proved library with its programs.
 
 use outside::elimination::Side;
 use outside::fault::Fault;
-use outside::stores::{batch_on_stores, read_on_stores, run_on_stores, write_on_stores, Asked};
+use outside::stores::{batch_on_stores, read_differential_on_stores, read_on_stores, run_on_stores};
+use outside::stores::{write_on_stores, write_recurrence_on_stores, Asked};
 use std::env;
 use std::io::{Read, Write};
 use std::path::{Path, PathBuf};
 use std::process::{ChildStdin, Command, Stdio};
 
-/// The calls on stores and the batch program, with the arguments of the exported functions.
+/// The calls on stores and the programs, with the arguments of the exported functions.
 pub trait Subject {
     fn name(&self) -> String;
     fn run(&self, side: Side, rows: &mut [i64], relations: &mut [i64], asked: Asked, result: &mut [i64]) -> u8;
@@ -27,6 +28,10 @@ pub trait Subject {
     fn batch(&self, input: &[u8]) -> Vec<u8>;
     /// The same by a call on stores.
     fn batch_call(&self, input: &[u8], output: &mut [u8], result: &mut [i64]) -> u8;
+    fn read_differential(&self, bytes: &[u8], rows: &mut [i64], relations: &mut [i64], result: &mut [i64]) -> u8;
+    fn write_recurrence(&self, sheet: &[u8], bytes: &mut [u8], result: &mut [i64]) -> u8;
+    /// What the program `induce` writes.
+    fn induce(&self, input: &[u8]) -> Vec<u8>;
 }
 
 /// The outside implementation.
@@ -64,23 +69,41 @@ impl Subject for Outside {
     fn batch_call(&self, input: &[u8], output: &mut [u8], result: &mut [i64]) -> u8 {
         batch_on_stores(input, output, result, self.0)
     }
+
+    fn read_differential(&self, bytes: &[u8], rows: &mut [i64], relations: &mut [i64], result: &mut [i64]) -> u8 {
+        read_differential_on_stores(bytes, rows, relations, result, self.0)
+    }
+
+    fn write_recurrence(&self, sheet: &[u8], bytes: &mut [u8], result: &mut [i64]) -> u8 {
+        write_recurrence_on_stores(sheet, bytes, result, self.0)
+    }
+
+    fn induce(&self, input: &[u8]) -> Vec<u8> {
+        outside::differential::output(input, self.0)
+    }
 }
 
-/// The static library of `exports`, and the program `regularise`.
+/// The static library of `exports`, and the programs `regularise` and `induce`.
 pub struct Library {
     program: PathBuf,
+    induce: PathBuf,
+}
+
+/// A program of the repository's `target/bin`, or what a variable names in its place.
+fn program(name: &str, variable: &str) -> PathBuf {
+    match env::var_os(variable) {
+        Some(program) => PathBuf::from(program),
+        None => Path::new(env!("CARGO_MANIFEST_DIR")).join("../../target/bin").join(name),
+    }
 }
 
 impl Library {
-    /// The library and the program, `None` where one of them is not built. The program is `target/bin/regularise` of the repository,
-    /// or what WURGALM_PROGRAM names.
+    /// The library and the programs, `None` where one of them is not built. WURGALM_PROGRAM names another batch program,
+    /// WURGALM_INDUCE another `induce`.
     pub fn found() -> Option<Library> {
-        let program = match env::var_os("WURGALM_PROGRAM") {
-            Some(program) => PathBuf::from(program),
-            None => Path::new(env!("CARGO_MANIFEST_DIR")).join("../../target/bin/regularise"),
-        };
-        if wurgalm::LINKED && program.exists() {
-            Some(Library { program })
+        let (program, induce) = (program("regularise", "WURGALM_PROGRAM"), program("induce", "WURGALM_INDUCE"));
+        if wurgalm::LINKED && program.exists() && induce.exists() {
+            Some(Library { program, induce })
         } else {
             None
         }
@@ -89,14 +112,18 @@ impl Library {
     /// As [`Library::found`], or a message and the end of the program.
     pub fn needed() -> Library {
         Library::found().unwrap_or_else(|| {
-            eprintln!("needs target/staticlib/libexports.a (`rt staticlib exports`) and target/bin/regularise (`rt check regularise`),");
-            eprintln!("and a build of this crate after them");
+            eprintln!("needs target/staticlib/libexports.a (`rt staticlib exports`), target/bin/regularise and target/bin/induce");
+            eprintln!("(`rt check regularise induce`), and a build of this crate after them");
             std::process::exit(2)
         })
     }
 
     pub fn program(&self) -> &Path {
         &self.program
+    }
+
+    pub fn induce_program(&self) -> &Path {
+        &self.induce
     }
 }
 
@@ -136,6 +163,18 @@ impl Subject for Library {
 
     fn batch_call(&self, input: &[u8], output: &mut [u8], result: &mut [i64]) -> u8 {
         wurgalm::stores::batch(input, output, result)
+    }
+
+    fn read_differential(&self, bytes: &[u8], rows: &mut [i64], relations: &mut [i64], result: &mut [i64]) -> u8 {
+        wurgalm::stores::read_differential(bytes, rows, relations, result)
+    }
+
+    fn write_recurrence(&self, sheet: &[u8], bytes: &mut [u8], result: &mut [i64]) -> u8 {
+        wurgalm::stores::write_recurrence(sheet, bytes, result)
+    }
+
+    fn induce(&self, input: &[u8]) -> Vec<u8> {
+        output_of(Command::new(&self.induce), input)
     }
 }
 

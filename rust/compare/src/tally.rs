@@ -17,8 +17,10 @@ pub struct Tally {
 
 impl Tally {
     pub fn count(&mut self, kind: Kind, answers: &[Answer]) {
-        if kind == Kind::Batch {
-            return self.count_batch(&answers[0].bytes);
+        match kind {
+            Kind::Batch => return self.count_batch(&answers[0].bytes),
+            Kind::Induce => return self.count_induced(&answers[0].bytes),
+            _ => {}
         }
         for answer in answers {
             *self.refusals.entry(answer.number).or_default() += 1;
@@ -38,6 +40,13 @@ impl Tally {
         for number in numbers(&lines, Vec::new()).unwrap_or_default() {
             *self.refusals.entry(number).or_default() += 1;
         }
+    }
+
+    /// The answer of `induce`, which stands alone on its first line.
+    fn count_induced(&mut self, output: &[u8]) {
+        let first = output.split(|&byte| byte == b'\n').next().unwrap_or_default();
+        let number = std::str::from_utf8(first).ok().and_then(|line| line.parse().ok());
+        number.into_iter().for_each(|number: u8| *self.refusals.entry(number).or_default() += 1);
     }
 
     /// How often a refusal came up.
@@ -125,6 +134,12 @@ mod tests {
         let (read, batch) = (counted(Kind::Read, 4_000), counted(Kind::Batch, 400));
         assert!((0..=5).all(|number| read.refused(number) >= 20));
         assert!((0..=10).all(|number| batch.refused(number) >= 10));
+        for kind in [Kind::Differential, Kind::Recurrence] {
+            let tally = counted(kind, 4_000);
+            assert!((0..=5).all(|number| tally.refused(number) >= 20), "{kind:?}");
+        }
+        let induced = counted(Kind::Induce, 1_000);
+        assert!([0, 2, 3, 4, 5].iter().all(|&number| induced.refused(number) >= 20));
     }
 
     /// As many answers are counted as the last line of a batch says, with their kinds.

@@ -102,6 +102,27 @@ faults! {
     BatchTailZeroed: "bytes past the output of a batch become zero",
     BatchResultLast: "a result store of no number is found after a batch is worked",
     BatchBrokenRefused: "a broken batch is refused with 3",
+    // Differential sheets.
+    DerivativeFactor: "the derivative's factor is n, without + 1",
+    VariableUp: "the variable moves the index up",
+    VariableFirst: "the power of the variable is taken before the derivative",
+    TermsOverwrite: "terms at one block and column overwrite each other",
+    LimitsExchanged: "l is the highest power and -t the highest derivative",
+    LimitsForm: "a highest derivative or power out of its range is 3",
+    TermTooMany: "an equation may have a term more than there are places",
+    DerivativesRise: "derivatives may rise from term to term",
+    PowersFall: "powers may fall from term to term",
+    ColumnsFall: "columns may fall from term to term",
+    TermTwice: "a term may stand twice",
+    PlaceOrderFirst: "the order of differential terms is judged before the range",
+    FactorZero: "a zero factor is let through",
+    FactorLimit: "a factor may reach ±C",
+    FactorIsSize: "a factor outside its limit is 2",
+    DifferentialBytesAfter: "bytes after the last differential equation are let through",
+    DifferentialShortFirst: "a short store is found before the rest of a differential sheet",
+    RecurrenceResultFirst: "a result store of no number is found before a differential sheet's fault",
+    RecurrenceCut: "a byte store too short for a recurrence gets its beginning",
+    RecurrenceTailZeroed: "bytes past a recurrence become zero",
 }
 
 /// Whether the version at hand is the wrong one that is asked for.

@@ -4,12 +4,13 @@
 //! Nothing here is taken from the proved crates: rows are maps from block and column to a polynomial, integers have 128
 //! bits, roots are found between turning points, n + 1 is put in by Horner's rule. A comment cites the rule of
 //! `docs/SCOPE.md` that the code below it renders, or a request as (02, U1). What the documents left open follows the
-//! paragraphs 8 to 19 of `docs/DECISIONS.md`.
+//! paragraphs 8 to 19, 42 to 44 and 50 to 56 of `docs/DECISIONS.md`.
 //!
 //! Every public function takes an `Option<Fault>`: `None` follows the rules, `Some` is one of the wrong versions of
 //! [`fault::Fault`], with which a comparison shows that it would notice.
 
 pub mod batch;
+pub mod differential;
 pub mod elimination;
 pub mod fault;
 pub mod polynomial;

@@ -94,11 +94,20 @@ impl Polynomial {
         Polynomial::new(quotient)
     }
 
-    /// n + 1 put for n (SCOPE 2.61), by Horner's rule in n + 1.
+    /// n + 1 put for n (SCOPE 2.61).
     pub fn after_increment(&self) -> Polynomial {
-        let next = Polynomial::linear(-1);
+        self.of(&Polynomial::linear(-1))
+    }
+
+    /// n - 1 put for n (SCOPE 10.22).
+    pub fn after_decrement(&self) -> Polynomial {
+        self.of(&Polynomial::linear(1))
+    }
+
+    /// Another polynomial put for n, by Horner's rule.
+    fn of(&self, inner: &Polynomial) -> Polynomial {
         let from_the_top = self.0.iter().rev();
-        from_the_top.fold(Polynomial::default(), |sum, &a| sum.times(&next).plus(&Polynomial::new(vec![a])))
+        from_the_top.fold(Polynomial::default(), |sum, &a| sum.times(inner).plus(&Polynomial::new(vec![a])))
     }
 
     /// -n put for n (SCOPE 2.91).
@@ -126,6 +135,8 @@ mod tests {
         assert_eq!(of(&[0, 0, 1]).after_increment(), of(&[1, 2, 1]));
         assert_eq!(of(&[7]).after_increment(), of(&[7]));
         assert_eq!(of(&[0; 3]).after_increment(), of(&[]));
+        assert_eq!(of(&[0, 0, 1]).after_decrement(), of(&[1, -2, 1]));
+        assert_eq!(of(&[5, -3, 2]).after_decrement().after_increment(), of(&[5, -3, 2]));
     }
 
     #[test]

@@ -4,8 +4,8 @@ use crate::fault::{is, Fault};
 use crate::polynomial::Polynomial;
 use crate::refusal::Refusal;
 use crate::row::Row;
-use crate::system::{block_in_range, lowest_in_range, relation_count_in_range, unknowns_in_range};
-use crate::system::{Relation, Sizes, System};
+use crate::system::{block_in_range, equation_count_in_range, lowest_in_range, relation_count_in_range};
+use crate::system::{unknowns_in_range, Relation, Sizes, System};
 use crate::{C, DEGREE};
 
 /// A system and a column order, empty if none.
@@ -25,7 +25,7 @@ pub enum Separator {
 }
 
 /// The line ends after the last number of so many.
-fn after(number: usize, of: usize) -> Separator {
+pub(crate) fn after(number: usize, of: usize) -> Separator {
     if number == of {
         Separator::LineEnd
     } else {
@@ -65,10 +65,10 @@ fn cut_token(rest: &[u8], fault: Option<Fault>) -> Refusal {
 }
 
 /// What a token's value is refused with, if it is.
-type Judgement = Result<(), Refusal>;
+pub(crate) type Judgement = Result<(), Refusal>;
 
 /// The fault under its number, where the value has it.
-fn refused_if(found: bool, refusal: Refusal) -> Judgement {
+pub(crate) fn refused_if(found: bool, refusal: Refusal) -> Judgement {
     if found {
         Err(refusal)
     } else {
@@ -152,7 +152,7 @@ impl Reader<'_> {
 
     /// The equation count, which is m, and the equations (SCOPE 4.13).
     fn equations(&mut self, sizes: Sizes) -> Result<Vec<Row>, Refusal> {
-        let count = self.within(Separator::LineEnd, |count| count == sizes.m as i128)?;
+        let count = self.within(Separator::LineEnd, |count| equation_count_in_range(count, sizes.m as i128))?;
         (0..count).map(|_| self.equation(sizes)).collect()
     }
 
@@ -293,7 +293,7 @@ impl Reader<'_> {
 /// The bytes of a sheet, with the fifth section exactly if some right side is not zero (02, U1).
 pub fn write(sheet: &Sheet) -> Vec<u8> {
     let Sizes { m, l, t } = sheet.system.sizes;
-    let mut lines = vec![format!("3 {m} {l} {t}"), m.to_string()];
+    let mut lines = vec![format!("3 {m} {l} {t}"), sheet.system.rows.len().to_string()];
     lines.extend(sheet.system.rows.iter().map(equation_text));
     lines.push(sheet.system.relations.len().to_string());
     lines.extend(sheet.system.relations.iter().map(|r| format!("{} {}", r.n0, equation_text(&r.row))));

@@ -4,6 +4,7 @@
 //! checked with the other lengths, and it is left as the other stores are.
 
 use crate::batch;
+use crate::differential;
 use crate::elimination::{run, Run, Side};
 use crate::fault::{is, Fault};
 use crate::polynomial::Polynomial;
@@ -47,9 +48,9 @@ impl Asked {
     }
 }
 
-/// The numbers that a row store needs (SCOPE 3.11).
-pub fn row_store(m: usize) -> usize {
-    m * ROW
+/// The numbers that a row store of so many equations needs (SCOPE 3.11).
+pub fn row_store(equations: usize) -> usize {
+    equations * ROW
 }
 
 // ---- the layout ----
@@ -277,12 +278,60 @@ fn read_to_stores(
     if is(fault, Fault::ShortBeforeRest) {
         long_enough(&fixed)?;
     }
-    let Sheet { system, order } = sheet::read(bytes, fault)?;
-    long_enough(&[(rows.len(), row_store(system.sizes.m))])?;
-    long_enough(&fixed)?;
-    store(&system, rows, relations);
-    let (Sizes { m, l, t }, c) = (system.sizes, order_numbers(&order));
+    fill(&sheet::read(bytes, fault)?, rows, relations, result)
+}
+
+/// A sheet that is without a fault put into stores that are long enough, and its sizes, relation count and order into the result.
+fn fill(sheet: &Sheet, rows: &mut [i64], relations: &mut [i64], result: &mut [i64]) -> Result<(), Refusal> {
+    let Sheet { system, order } = sheet;
+    long_enough(&[(rows.len(), row_store(system.rows.len()))])?;
+    long_enough(&[(relations.len(), RELATION_STORE), (result.len(), RESULT)])?;
+    store(system, rows, relations);
+    let (Sizes { m, l, t }, c) = (system.sizes, order_numbers(order));
     result[..RESULT].copy_from_slice(&[m as i64, l, t, system.relations.len() as i64, c[0], c[1], c[2], c[3]]);
+    Ok(())
+}
+
+/// Reads a differential sheet and puts its recurrence into stores, as [`read_on_stores`] does with a sheet (SCOPE 10.41).
+pub fn read_differential_on_stores(
+    bytes: &[u8],
+    rows: &mut [i64],
+    relations: &mut [i64],
+    result: &mut [i64],
+    fault: Option<Fault>,
+) -> u8 {
+    let short = long_enough(&[(relations.len(), RELATION_STORE), (result.len(), RESULT)]);
+    let first = if is(fault, Fault::DifferentialShortFirst) { short } else { Ok(()) };
+    let filled = first.and_then(|()| differential::read(bytes, fault)).and_then(|read| {
+        let sheet = Sheet { system: read.recurrence(fault), order: Vec::new() };
+        fill(&sheet, rows, relations, result)
+    });
+    number_of(filled)
+}
+
+/// Reads a differential sheet and writes its recurrence into a byte store; the answer is the length (SCOPE 10.42). That a store is too
+/// short comes last.
+pub fn write_recurrence_on_stores(bytes: &[u8], output: &mut [u8], result: &mut [i64], fault: Option<Fault>) -> u8 {
+    number_of(write_recurrence(bytes, output, result, fault))
+}
+
+fn write_recurrence(bytes: &[u8], output: &mut [u8], result: &mut [i64], fault: Option<Fault>) -> Result<(), Refusal> {
+    let room = long_enough(&[(result.len(), 1)]);
+    if is(fault, Fault::RecurrenceResultFirst) {
+        room?;
+    }
+    let text = differential::answer(bytes, fault)?;
+    room?;
+    let fits = long_enough(&[(output.len(), text.len())]);
+    if fits.is_err() && is(fault, Fault::RecurrenceCut) {
+        output.copy_from_slice(&text[..output.len()]);
+    }
+    fits?;
+    output[..text.len()].copy_from_slice(&text);
+    if is(fault, Fault::RecurrenceTailZeroed) {
+        output[text.len()..].fill(0);
+    }
+    result[0] = text.len() as i64;
     Ok(())
 }
 

@@ -17,6 +17,11 @@ pub fn unknowns_in_range(m: i128) -> bool {
     (1..=4).contains(&m)
 }
 
+/// A system of m unknowns has m equations (SCOPE 1.1).
+pub fn equation_count_in_range(count: i128, m: i128) -> bool {
+    count == m
+}
+
 /// A block number is from -64 to 64 (SCOPE 1.2).
 pub fn block_in_range(s: i128) -> bool {
     (-64..=64).contains(&s)

@@ -1,4 +1,4 @@
-//! The stored answers of `examples/`: what this implementation writes on the same sheets and batches.
+//! The stored answers of `examples/`: what this implementation writes on the same sheets, batches and differential sheets.
 
 use std::fs;
 use std::path::{Path, PathBuf};
@@ -23,7 +23,24 @@ fn sheets() {
     let sheets = examples("sheet");
     assert!(!sheets.is_empty());
     for (sheet, name, answer) in sheets {
-        answered(&[format!("1\n1 {}\n", sheet.len()).as_bytes(), &sheet].concat(), &name, &answer);
+        answered(&batch_of(&sheet), &name, &answer);
+    }
+}
+
+/// A batch of one sheet.
+fn batch_of(sheet: &[u8]) -> Vec<u8> {
+    [format!("1\n1 {}\n", sheet.len()).as_bytes(), sheet].concat()
+}
+
+/// The recurrence of each differential sheet, behind the line `0`, and the answer to it.
+#[test]
+fn differential_sheets() {
+    let sheets = examples("differential");
+    assert!(!sheets.is_empty());
+    for (sheet, name, answer) in sheets {
+        let induced = fs::read(name.with_extension("induced")).unwrap();
+        assert!(outside::differential::output(&sheet, None) == induced, "{} differs", name.display());
+        answered(&batch_of(&induced[2..]), &name, &answer);
     }
 }
 

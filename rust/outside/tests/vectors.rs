@@ -1,6 +1,7 @@
-//! Every vector of the folder that WURGALM_VECTORS names. The tests are left out unless they are asked for by
-//! `-- --include-ignored`, and fail where no folder is named.
+//! Every vector of the folder that WURGALM_VECTORS names, and those of the folder `calls` beside it. The tests are left out unless they
+//! are asked for by `-- --include-ignored`, and fail where no folder is named.
 
+use outside::differential;
 use outside::elimination::{run, Side};
 use outside::sheet::{read, write, Sheet};
 use std::path::PathBuf;
@@ -45,21 +46,27 @@ fn run_text(bytes: &[u8], side: Side) -> Vec<u8> {
 /// Every sheet of a file, with what follows it for the sides; whether there is such a file.
 fn compared(file: &str, sides: &[Side]) -> bool {
     let Ok(all) = fs::read(folder().join(file)) else { return false };
-    let mut rest = &all[..];
+    let followed = |bytes: &[u8]| sides.iter().flat_map(|&side| run_text(bytes, side)).collect();
+    println!("{file}: {} cases", followed_by(&all, followed));
+    true
+}
+
+/// Each sheet of a file is followed by the text that is expected of it. Returns how many there are.
+fn followed_by(file: &[u8], expected: impl Fn(&[u8]) -> Vec<u8>) -> usize {
+    let mut rest = file;
     let mut count = 0;
     while !rest.is_empty() {
         let end = rest.iter().position(|&b| b == b'\n').unwrap();
         let line = std::str::from_utf8(&rest[..end]).unwrap();
         let length: usize = line.strip_prefix("sheet ").unwrap().parse().unwrap();
         let (bytes, after) = rest[end + 1..].split_at(length);
-        let expected: Vec<u8> = sides.iter().flat_map(|&side| run_text(bytes, side)).collect();
+        let expected = expected(bytes);
         assert!(after.starts_with(&expected), "{}", String::from_utf8_lossy(bytes));
         rest = &after[expected.len()..];
         count += 1;
     }
-    println!("{file}: {count} cases");
     assert!(count > 0);
-    true
+    count
 }
 
 /// `run.txt` has both sides of each sheet, `trailing.txt` the trailing one.
@@ -69,4 +76,16 @@ fn runs() {
     let both = compared("run.txt", &[Side::Leading, Side::Trailing]);
     let trailing = compared("trailing.txt", &[Side::Trailing]);
     assert!(both || trailing, "the folder has no file of runs");
+}
+
+/// Differential sheets, each followed by the answer and, where that is 0, by the recurrence's sheet (02, U3).
+#[test]
+#[ignore = "needs a folder of vectors"]
+fn differential_sheets() {
+    let answered = |bytes: &[u8]| match differential::answer(bytes, None) {
+        Ok(sheet) => [b"answer 0\n", &sheet[..]].concat(),
+        Err(refusal) => format!("answer {}\n", refusal.number()).into_bytes(),
+    };
+    let file = fs::read(folder().join("../calls/differential-m.txt")).expect("the folder has one of calls beside it");
+    println!("differential sheets: {} cases", followed_by(&file, answered));
 }

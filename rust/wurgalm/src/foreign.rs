@@ -39,6 +39,15 @@ foreign! {
         bytes: *mut u8, bytes_length: usize,
         result: *mut i64, result_length: usize,
     ) -> u8;
+    fn wurgalm_read_differential(
+        bytes: *const u8, bytes_length: usize,
+        rows: *mut i64, rows_length: usize, relations: *mut i64, relations_length: usize,
+        result: *mut i64, result_length: usize,
+    ) -> u8;
+    fn wurgalm_write_recurrence(
+        sheet: *const u8, sheet_length: usize, bytes: *mut u8, bytes_length: usize,
+        result: *mut i64, result_length: usize,
+    ) -> u8;
     fn wurgalm_batch(
         input: *const u8, input_length: usize, output: *mut u8, output_length: usize,
         result: *mut i64, result_length: usize,

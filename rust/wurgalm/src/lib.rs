@@ -24,6 +24,9 @@ pub const RELATION: usize = 1 + ROW;
 /// Numbers that the relation store needs.
 pub const RELATION_STORE: usize = 16 * RELATION;
 
+/// Bytes that are enough for the sheet of any recurrence, which is proved (SCOPE 10.42).
+pub const RECURRENCE: usize = 16_841;
+
 /// Numbers that the row store of a system with m unknowns needs.
 pub const fn row_store(m: usize) -> usize {
     m * ROW
@@ -115,13 +118,42 @@ pub fn run_trailing(rows: &mut [i64], relations: &mut [i64], sizes: Sizes, count
     report(number, result)
 }
 
+fn heading(number: u8, result: [i64; 8]) -> Result<Heading, Refusal> {
+    let [m, l, t, relations, order @ ..] = result;
+    let sizes = Sizes { m: m as usize, l, t };
+    accepted(number, Heading { sizes, relations: relations as usize, order })
+}
+
 /// Reads a sheet into the stores.
 pub fn read_sheet(bytes: &[u8], rows: &mut [i64], relations: &mut [i64]) -> Result<Heading, Refusal> {
     let mut result = [0; 8];
     let number = stores::read_sheet(bytes, rows, relations, &mut result);
-    let [m, l, t, relations, order @ ..] = result;
-    let sizes = Sizes { m: m as usize, l, t };
-    accepted(number, Heading { sizes, relations: relations as usize, order })
+    heading(number, result)
+}
+
+/// Reads a differential sheet and puts the recurrence for the coefficients of its series into the stores: a run can follow at once.
+///
+/// ```
+/// let sheet = b"3 1 2 1\n1\n2 2 0 1 1 0 1 1 -1\n"; // y'' - x y = 0
+/// let (mut rows, mut relations) = (vec![0; wurgalm::row_store(1)], vec![0; wurgalm::RELATION_STORE]);
+/// let heading = wurgalm::read_differential(sheet, &mut rows, &mut relations).unwrap();
+/// assert_eq!(heading.sizes, wurgalm::Sizes { m: 1, l: 2, t: -1 });
+/// assert_eq!(rows[..3], [2, 3, 1]); // (n + 1) (n + 2) y(n + 2)
+/// let report = wurgalm::run_leading(&mut rows, &mut relations, heading.sizes, heading.relations).unwrap();
+/// assert_eq!(report.root, Some(-1)); // from y(0) and y(1) on everything follows
+/// ```
+pub fn read_differential(bytes: &[u8], rows: &mut [i64], relations: &mut [i64]) -> Result<Heading, Refusal> {
+    let mut result = [0; 8];
+    let number = stores::read_differential(bytes, rows, relations, &mut result);
+    heading(number, result)
+}
+
+/// Writes the recurrence of a differential sheet, as a sheet, to the beginning of `bytes`, and tells its length. [`RECURRENCE`] bytes
+/// are enough for any.
+pub fn write_recurrence(sheet: &[u8], bytes: &mut [u8]) -> Result<usize, Refusal> {
+    let mut result = [0; 1];
+    let number = stores::write_recurrence(sheet, bytes, &mut result);
+    accepted(number, result[0] as usize)
 }
 
 /// Writes the sheet of the system in the stores to the beginning of `bytes`, and tells its length.

@@ -109,6 +109,38 @@ pub fn write_sheet(
     }
 }
 
+/// The recurrence of a differential sheet. Eight numbers in `result`, as those of [`read_sheet`].
+pub fn read_differential(bytes: &[u8], rows: &mut [i64], relations: &mut [i64], result: &mut [i64]) -> u8 {
+    // SAFETY: as above; `bytes` is only read.
+    unsafe {
+        foreign::wurgalm_read_differential(
+            bytes.as_ptr(),
+            bytes.len(),
+            rows.as_mut_ptr(),
+            rows.len(),
+            relations.as_mut_ptr(),
+            relations.len(),
+            result.as_mut_ptr(),
+            result.len(),
+        )
+    }
+}
+
+/// The recurrence of a differential sheet as a sheet. One number in `result`: its length.
+pub fn write_recurrence(sheet: &[u8], bytes: &mut [u8], result: &mut [i64]) -> u8 {
+    // SAFETY: as above; `sheet` is only read.
+    unsafe {
+        foreign::wurgalm_write_recurrence(
+            sheet.as_ptr(),
+            sheet.len(),
+            bytes.as_mut_ptr(),
+            bytes.len(),
+            result.as_mut_ptr(),
+            result.len(),
+        )
+    }
+}
+
 /// One number in `result`: the length of the output. An output store that is too short is refused with all of it zero.
 pub fn batch(input: &[u8], output: &mut [u8], result: &mut [i64]) -> u8 {
     // SAFETY: as above; `input` is only read.

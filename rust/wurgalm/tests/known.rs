@@ -1,7 +1,8 @@
 //! K2 and K11 (SCOPE 7.2, 7.11) through the library. Where it is not built a call panics, so every test here fails.
 
-use wurgalm::{batch, batch_output, read_sheet, right_side, row_store, run_leading, run_trailing, write_sheet};
-use wurgalm::{Heading, Refusal, Report, Sizes, RELATION, RELATION_STORE, ROW};
+use wurgalm::{batch, batch_output, read_differential, read_sheet, right_side, row_store, run_leading, run_trailing};
+use wurgalm::{write_recurrence, write_sheet, Heading, Refusal, Report, Sizes};
+use wurgalm::{RECURRENCE, RELATION, RELATION_STORE, ROW};
 
 const K2: &[u8] = b"3 2 1 0\n2\n2 1 1 2 0 1 0 2 1 -1\n2 1 1 1 1 0 1 1 -1\n0\n0\n";
 const K2_ANSWER: &[u8] =
@@ -61,6 +62,26 @@ fn inconsistent() {
     rows[ROW - 16] = 1;
     assert_eq!(run_trailing(&mut rows, &mut relations, Sizes { m: 1, l: 0, t: 0 }, 0), Err(Refusal(10)));
     assert!(rows.iter().all(|&a| a == 0));
+}
+
+/// x^2 y'' + x y' + (x^2 - 4) y = 0 (SCOPE 10.22, 10.23): (n^2 - 4) y(n) + y(n - 2) = 0, moved up to block 2 by two shifts.
+#[test]
+fn bessel() {
+    let sheet = b"3 1 2 2\n1\n4 2 2 1 1 1 1 1 1 0 0 1 -4 0 2 1 1\n";
+    let (mut rows, mut relations) = stores();
+    let heading = read_differential(sheet, &mut rows, &mut relations).unwrap();
+    let sizes = Sizes { m: 1, l: 2, t: -2 };
+    assert_eq!(heading, Heading { sizes, relations: 0, order: [0; 4] });
+    let mut bytes = [0; RECURRENCE];
+    let length = write_recurrence(sheet, &mut bytes).unwrap();
+    assert_eq!(&bytes[..length], b"3 1 2 -2\n1\n2 0 1 3 -4 0 1 -2 1 1 1\n0\n0\n");
+    assert_eq!(read_sheet(&bytes[..length], &mut stores().0, &mut stores().1), Ok(heading));
+    let report = run_leading(&mut rows, &mut relations, sizes, 0).unwrap();
+    assert_eq!(report, Report { relations: 0, shifts: 2, order: [1, 0, 0, 0], root: Some(0) });
+    assert_eq!((&rows[..4], rows[128]), (&[0, 4, 1, 0][..], 1));
+    assert_eq!(write_recurrence(sheet, &mut bytes[..length - 1]), Err(Refusal(1)));
+    assert_eq!(write_recurrence(&sheet[..20], &mut bytes), Err(Refusal(4)));
+    assert_eq!(read_differential(&sheet[..20], &mut rows, &mut relations), Err(Refusal(4)));
 }
 
 #[test]

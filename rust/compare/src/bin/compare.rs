@@ -1,4 +1,4 @@
-//! The proved library and program against the outside implementation: every answer, every number of every store, every byte. A
+//! The proved library and its programs against the outside implementation: every answer, every number of every store, every byte. A
 //! difference is printed with its sheet, and the exit code is then 1.
 
 use compare::cases::{text, Kind};
@@ -7,17 +7,21 @@ use compare::judge::judge;
 use compare::pieces;
 use compare::subject::{Library, Outside, Subject};
 use compare::tally::{print_refusals, Tally};
+use outside::fault::Fault;
 use std::process::Command;
 use std::time::Instant;
 
 /// How many cases of each kind.
-const CASES: [(Kind, usize); 6] = [
+const CASES: [(Kind, usize); 9] = [
     (Kind::Leading, 20_000),
     (Kind::Trailing, 20_000),
     (Kind::Read, 20_000),
     (Kind::Write, 5_000),
     (Kind::Batch, 500),
     (Kind::BatchCall, 500),
+    (Kind::Differential, 20_000),
+    (Kind::Recurrence, 5_000),
+    (Kind::Induce, 1_000),
 ];
 /// Differences that are printed whole.
 const SHOWN: usize = 3;
@@ -39,11 +43,18 @@ fn compared(kind: Kind, count: usize, right: &dyn Subject, other: &dyn Subject, 
     differences
 }
 
-/// The program on inputs in pieces; a difference is `Err`.
-fn fed_in_pieces(start: &dyn Fn() -> Command) -> Vec<Result<(), String>> {
+/// As much of an input as is printed.
+const PRINTED: usize = 2_000;
+
+/// A program on inputs in pieces; a difference is `Err`.
+fn fed_in_pieces(
+    inputs: Vec<pieces::Fed>,
+    right: fn(&[u8], Option<Fault>) -> Vec<u8>,
+    start: &dyn Fn() -> Command,
+) -> Vec<Result<(), String>> {
     let compared = |fed: pieces::Fed| {
-        let (expected, found) = (outside::batch::output(&fed.input(), None), fed.output(start()));
-        let pieces: Vec<String> = fed.pieces.iter().map(|piece| text(piece)).collect();
+        let (expected, found) = (right(&fed.input(), None), fed.output(start()));
+        let pieces: Vec<String> = fed.pieces.iter().map(|piece| text(&piece[..piece.len().min(PRINTED)])).collect();
         let shown = || {
             format!("{:?} {pieces:?}\noutside writes\n{}the program\n{}", fed.between, text(&expected), text(&found))
         };
@@ -53,7 +64,7 @@ fn fed_in_pieces(start: &dyn Fn() -> Command) -> Vec<Result<(), String>> {
             Err(shown())
         }
     };
-    pieces::all().into_iter().map(compared).collect()
+    inputs.into_iter().map(compared).collect()
 }
 
 /// Equal inputs give equal bytes (SCOPE 2.33): the program twice on an input that comes whole, and once on it in pieces.
@@ -84,7 +95,7 @@ fn reported(name: &str, check: impl FnOnce() -> Vec<Result<(), String>>) -> usiz
 /// What the program does with its input and output as streams: it answers each sheet before it reads on, and tells on standard error of
 /// output that it could not write.
 fn streams(start: &dyn Fn() -> Command) -> usize {
-    reported("Pieces", || fed_in_pieces(start))
+    reported("Pieces", || fed_in_pieces(pieces::all(), outside::batch::output, start))
         + reported("Same bytes", || same_bytes(start))
         + reported("Waiting clients", || waiting(start))
         + reported("Unwritten output", || unwritten(start))
@@ -114,6 +125,9 @@ fn main() {
         tallies.push((kind, pair));
     }
     differences += streams(&|| Command::new(other.program()));
+    let induce = || Command::new(other.induce_program());
+    differences +=
+        reported("Induce", || fed_in_pieces(pieces::differentials(), outside::differential::output, &induce));
     println!();
     let names = [right.name(), other.name()];
     print_refusals(&lines(&tallies, &names));

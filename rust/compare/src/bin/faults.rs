@@ -6,15 +6,15 @@ use compare::judge::judge;
 use compare::subject::{Library, Outside, Subject};
 use outside::fault::Fault;
 
-/// A fault that is not found in so many cases of each kind is missed. Batches take longer, so there are fewer.
+/// A fault that is not found in so many cases of each kind is missed. Batches and programs take longer, so there are fewer.
 const MOST: usize = 20_000;
-const BATCH_EVERY: usize = 40;
+const SLOW_EVERY: usize = 40;
 
 /// The cases in the order in which a fault meets them.
 fn cases(round: usize) -> Vec<Case> {
-    let mut cases: Vec<Case> = Kind::ALL[..4].iter().map(|kind| kind.case(round)).collect();
-    if round.is_multiple_of(BATCH_EVERY) {
-        cases.extend([Kind::Batch, Kind::BatchCall].map(|kind| kind.case(round / BATCH_EVERY)));
+    let mut cases: Vec<Case> = Kind::CALLS.iter().map(|kind| kind.case(round)).collect();
+    if round.is_multiple_of(SLOW_EVERY) {
+        cases.extend(Kind::SLOW.map(|kind| kind.case(round / SLOW_EVERY)));
     }
     cases
 }
@@ -41,6 +41,9 @@ fn kind_of(case: &Case) -> &'static str {
         Case::Write { .. } => "write",
         Case::Batch { .. } => "batch",
         Case::BatchCall { .. } => "batch by a call",
+        Case::Differential { .. } => "differential",
+        Case::Recurrence { .. } => "recurrence",
+        Case::Induce { .. } => "induce",
     }
 }
 

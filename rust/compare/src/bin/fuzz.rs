@@ -2,6 +2,7 @@
 //! between guards that no call may touch, and every answer and every store is compared with the outside implementation.
 
 use compare::cases::{Answer, Stores};
+use compare::differentials::{longest_differential, whole_differential};
 use compare::random::Random;
 use compare::sheets::whole_sheet;
 use compare::subject::{Library, Outside, Subject};
@@ -54,13 +55,18 @@ enum Call {
     Read(Vec<u8>),
     Write(Asked, Vec<i64>, Vec<u8>),
     Batch(Vec<u8>, Vec<u8>),
+    Differential(Vec<u8>),
+    Recurrence(Vec<u8>, Vec<u8>),
 }
 
 fn answer(subject: &dyn Subject, call: &Call, stores: &Stores) -> Answer {
     let mut rows = Guarded::new(&stores.rows, MARK);
     let mut relations = Guarded::new(&stores.relations, MARK);
     let mut result = Guarded::new(&stores.result, MARK);
-    let lent: &[u8] = if let Call::Write(_, _, bytes) | Call::Batch(_, bytes) = call { bytes } else { &[] };
+    let lent: &[u8] = match call {
+        Call::Write(_, _, bytes) | Call::Batch(_, bytes) | Call::Recurrence(_, bytes) => bytes,
+        _ => &[],
+    };
     let mut bytes = Guarded::new(lent, 0x5a);
     let number = match call {
         Call::Run(side, asked) => subject.run(*side, rows.lent(), relations.lent(), *asked, result.lent()),
@@ -69,6 +75,8 @@ fn answer(subject: &dyn Subject, call: &Call, stores: &Stores) -> Answer {
             subject.write(rows.lent(), relations.lent(), *asked, order, bytes.lent(), result.lent())
         }
         Call::Batch(input, _) => subject.batch_call(input, bytes.lent(), result.lent()),
+        Call::Differential(sheet) => subject.read_differential(sheet, rows.lent(), relations.lent(), result.lent()),
+        Call::Recurrence(sheet, _) => subject.write_recurrence(sheet, bytes.lent(), result.lent()),
     };
     let stores = Stores { rows: rows.returned(), relations: relations.returned(), result: result.returned() };
     Answer { number, stores, bytes: bytes.returned() }
@@ -169,6 +177,28 @@ impl Fuzz {
         }
     }
 
+    /// A differential sheet, whole and cut at every place, with each of its numbers made others, with stores of every length.
+    fn every_differential(&mut self, sheet: &[u8], stores: &Stores, step: usize) {
+        self.every_length("differential", &Call::Differential(sheet.to_vec()), stores, step);
+        for end in 0..=sheet.len() {
+            for behind in ["", "\n", " ", "0", "-", "x", "1\n"] {
+                let cut = [&sheet[..end], behind.as_bytes()].concat();
+                self.call("differential, cut", &Call::Differential(cut.clone()), stores);
+                self.call("recurrence, cut", &Call::Recurrence(cut, vec![b'#'; wurgalm::RECURRENCE]), stores);
+            }
+        }
+        for changed in with_other_numbers(sheet) {
+            self.call("differential, number", &Call::Differential(changed), stores);
+        }
+        let most = outside::differential::answer(sheet, None).map_or(3, |text| text.len() + 3);
+        for length in 0..most {
+            for count in 0..3 {
+                let stores = Stores { result: vec![7; count], ..stores.clone() };
+                self.call("recurrence, bytes", &Call::Recurrence(sheet.to_vec(), vec![b'#'; length]), &stores);
+            }
+        }
+    }
+
     /// Sizes from a list that has the ends of every range, one past them, and the ends of the types.
     fn every_size(&mut self, make: impl Fn(Asked) -> Call, whole: &Stores) {
         let blocks = [i64::MIN, i64::MIN + 1, -65, -64, -63, -5, -1, 0, 1, 4, 60, 63, 64, 65, i64::MAX - 1, i64::MAX];
@@ -183,6 +213,42 @@ impl Fuzz {
             }
         }
     }
+}
+
+/// The sheet with one number, at every place, made each of those that are near an end of some range, and made no number.
+fn with_other_numbers(sheet: &[u8]) -> Vec<Vec<u8>> {
+    let others = [
+        "-1",
+        "0",
+        "1",
+        "2",
+        "3",
+        "4",
+        "5",
+        "6",
+        "7",
+        "36",
+        "37",
+        "1048576",
+        "1048577",
+        "-1048576",
+        "-1048577",
+        "",
+        "x",
+        "00",
+        "-0",
+        "9999999999",
+        "99999999999",
+    ];
+    let is_separator = |byte: &u8| *byte == b' ' || *byte == b'\n';
+    let ends: Vec<usize> = (0..sheet.len()).filter(|&at| is_separator(&sheet[at])).collect();
+    let mut changed = Vec::new();
+    let mut begin = 0;
+    for end in ends {
+        changed.extend(others.map(|other| [&sheet[..begin], other.as_bytes(), &sheet[end..]].concat()));
+        begin = end + 1;
+    }
+    changed
 }
 
 /// Stores that hold the system of a sheet, a little longer than they need to be.
@@ -266,6 +332,22 @@ fn main() {
     for _ in 0..20_000 {
         let noise = (0..random.below(30)).map(|_| random.pick(b"0011223 \n\n -9x")).collect();
         fuzz.call("batch, noise", &Call::Batch(noise, vec![b'#'; random.below(9)]), &small);
+    }
+    let stores = Stores { rows: vec![7; row_store(4) + 3], relations: vec![7; RELATION_STORE + 3], result: vec![7; 9] };
+    let small_sheets = [&b"3 2 2 2\n2\n3 2 2 1 7 1 1 1 -5 0 0 2 1048576\n2 1 0 2 -1 0 2 1 3\n"[..], b"3 1 0 0\n1\n0\n"];
+    for (round, sheet) in small_sheets.into_iter().enumerate() {
+        fuzz.every_differential(sheet, &stores, [1, 7][round]);
+    }
+    for _ in 0..3 {
+        fuzz.every_differential(&whole_differential(&mut random), &stores, 17);
+    }
+    fuzz.every_length("longest differential", &Call::Differential(longest_differential()), &stores, 17);
+    for _ in 0..20_000 {
+        let begin = random.pick(&["", "3 2 1 1\n", "3 2 2 2\n2\n", "3 1 2 1\n1\n2 1 1 1 5 "]);
+        let noise: Vec<u8> = (0..random.below(30)).map(|_| random.pick(b"0011223  \n-9x")).collect();
+        let sheet = [begin.as_bytes(), &noise].concat();
+        fuzz.call("differential, noise", &Call::Differential(sheet.clone()), &stores);
+        fuzz.call("recurrence, noise", &Call::Recurrence(sheet, vec![b'#'; random.below(99)]), &stores);
     }
     // Zero systems in whole stores, and no stores at all: a size is refused before a length.
     let zeros = Stores { rows: vec![0; row_store(4)], relations: vec![0; RELATION_STORE], result: vec![7; RESULT] };
