@@ -6,6 +6,8 @@
 --   Judging judge     so are the judgements of a number
 --
 -- Main statements
+--   one-of, two, three, five   judgements
+--   then-numbered     one thing read after another
 --   field-numbered    a number with its separator
 --   between-judging   a range is judged so
 --   sheet-numbered    a whole sheet
@@ -40,20 +42,20 @@ abbrev pub Judging : (ℤ → ℕ) → Type 0
 Judging judge = (v : ℤ) → Judged (judge v)
 
 -- One of two judgements.
-one-of : (t : Bool) {a b : ℕ} → Judged a → Judged b → Judged (cond t a b)
+pub one-of : (t : Bool) {a b : ℕ} → Judged a → Judged b → Judged (cond t a b)
 one-of true j k = j
 one-of false j k = k
 
-two : Judged 2
+pub two : Judged 2
 two = wrong 1 (omega arith) (omega arith)
 
-three : Judged 3
+pub three : Judged 3
 three = wrong 2 (omega arith) (omega arith)
 
-five : Judged 5
+pub five : Judged 5
 five = wrong 4 (omega arith) (omega arith)
 
-then-numbered : {A B : Type 0} (r : Read A) (next : A → List ℕ → Read B) → Numbered r → ((a : A) (rest : List ℕ) → Numbered (next a rest))
+pub then-numbered : {A B : Type 0} (r : Read A) (next : A → List ℕ → Read B) → Numbered r → ((a : A) (rest : List ℕ) → Numbered (next a rest))
     → Numbered (thenRead r next)
 unfolding thenRead
 then-numbered r next (read a rest) more = more a rest

@@ -4,7 +4,7 @@
 -- was lent the stores `rows` and `relations`, with the sizes z and `count` relations, and that c is its result with both stores
 -- as it left them: the function's contract, word for word. `SheetWasRead`, `SheetWasWritten`, `SheetWasAnswered`,
 -- `PieceWasGiven`, `InputWasEnded`, `BatchWasAnswered` and `ExportedRun`, `ExportedRead`, `ExportedWrite`, `ExportedBatch` say
--- so of the other calls. The words of the claims are in the files *Words.antt, and below those in `rules`, where the
+-- so of the other calls, `DifferentialWasRead` and `RecurrenceWasWritten` of those on differential sheets. The words of the claims are in the files *Words.antt, and below those in `rules`, where the
 -- scope (docs/SCOPE.md) stands as definitions. Every proof here is one citation of a file Lifted*.antt, which brings
 -- the theorems of `theory`, `sheets`, `answers` and `batches` to the calls, or of a theorem of those crates itself.
 --
@@ -21,6 +21,7 @@
 --   1 runs:         run-number, run-refused-fields, run-refused-before, run-refused-during, run-rest-kept
 --     polynomials:  polynomial-refused
 --     sheets:       read-number, read-refused, write-number, write-refused
+--     differential: differential-number, differential-refused, recurrence-number, recurrence-refused
 --     answers:      answer-number, answer-refused
 --     batches:      piece-number, piece-refused, piece-rest-kept, finish-number, finish-refused, batch-number, batch-refused
 --     exports:      export-number, export-refused-before, export-refused-during, export-read-number, export-read-refused,
@@ -31,6 +32,8 @@
 --     polynomials:  polynomial-range, polynomial-length, polynomial-accepts, polynomial-part, polynomial-sixteen
 --     sheets:       read-course, read-faults, read-lengths, read-accepts, read-output, read-writes-back, write-course,
 --                   write-range, write-lengths, write-numbers, write-accepts, write-output, written-reads-back
+--     differential: differential-course, differential-accepts, differential-output, differential-passes, recurrence-course,
+--                   recurrence-reads-back
 --     answers:      answer-course, answer-faults, answer-work-refused, answer-sizes, answer-output
 --     batches:      start-right, piece-course, piece-range, piece-lengths, piece-held, piece-accepts, piece-again,
 --                   piece-writes, piece-takes, piece-gets-on, piece-stops, finish-course, finish-lengths, finish-fits,
@@ -41,6 +44,7 @@
 --                   export-write-output, export-batch-course, export-batch-lengths, export-batch-output
 --   3 runs:         same-solutions, diagonal-nonzero, agreement-leading, agreement-trailing, no-root, no-root-zero, last-root,
 --                   accepted-independent, six-dependent, ten-unsatisfied, dependent-refused, shifts-bounded, output-passes
+--     differential: differential-solutions
 --     answers:      answer-solutions
 use Prim.Native.Nat.{ℕ, pred, _*_, _≤_, _<_}
 use mathlib.Core.Path.{_≡_}
@@ -55,11 +59,11 @@ use Rattle.algebra.specs.Roots.{roots, roots-sound, roots-complete, roots-disti
 use Rattle.rules.specs.Limits.{coefficientCount}
 use Rattle.rules.specs.Rows.{Row, Relation, noRow, mirrorRow, mirrorRelation}
 use Rattle.rules.specs.Elimination.{Side, leading, trailing, State, Outcome, done, refused, mirrorOutcome, wholeRun}
-use Rattle.rules.specs.Stores.{Sizes, equations, span, rowsOf, relationsOf, rowNeed, relationNeed}
+use Rattle.rules.specs.Stores.{Sizes, equations, span, rowsOf, relationsOf, rowNeed, relationNeed, checkStores}
 use Rattle.rules.specs.Sequences.{Sequence, Satisfies, Dependent, polynomialAt}
 use Rattle.rules.specs.Layout.{SizeBounds, NumbersRight}
 use Rattle.rules.specs.Calls.{Call, refusal, polynomialCheck, polynomialPart}
-use Rattle.rules.specs.Numbers.{fault}
+use Rattle.rules.specs.Numbers.{got, fault}
 use Rattle.rules.specs.Sheets.{Sheet, readSheet, writeSheet}
 use Rattle.rules.specs.SheetCalls.{ReadCall, WriteCall, unread, unwritten}
 use Rattle.rules.specs.Batch.{batchOutput}
@@ -74,6 +78,9 @@ use Rattle.batches.specs.PieceLaws.{Run}
 use Rattle.batches.specs.Rooms.{answerRoom}
 use Rattle.batches.specs.PieceLaws as Pieces
 use Rattle.batches.specs.Rooms as Rooms
+use Rattle.differential.specs.Differential.{DifferentialSheet}
+use Rattle.differential.specs.Recurrence.{recurrenceOf}
+use Rattle.differential.specs.Meaning.{Series, SatisfiesDifferential}
 use Rattle.exports.specs.Results.{Exported, resultNeed}
 use Rattle.exports.specs.Writes.{Written, notWritten}
 use Rattle.claims.specs.RunWords.{Ran, FoundBefore, FoundDuring, RunNumber, Rewritten, Cleared, Kept, InRange}
@@ -91,8 +98,10 @@ use Rattle.claims.specs.AnswerWords.{SheetAccepted}
 use Rattle.claims.specs.BatchWords.{PieceWasGiven, StreamInRange, StoreHolds, HeldWaits, StreamRight, PieceNumber}
 use Rattle.claims.specs.BatchWords.{PieceCourse, NextTooLong, InputWasEnded, BatchWasAnswered, lastText, noRoom}
 use Rattle.claims.specs.BatchWords.{TextCourse}
+use Rattle.claims.specs.DifferentialWords.{DifferentialWasRead, RecurrenceWasWritten, IsDifferential, DifferentialCourse, RecurrenceCourse}
 use Rattle.claims.specs.LiftedRuns as Runs
 use Rattle.claims.specs.LiftedSheets as Sheets
+use Rattle.claims.specs.LiftedDifferentials as Differentials
 use Rattle.claims.specs.LiftedExports as Exports
 use Rattle.claims.specs.MirroredRun.{Alike, trailing-mirrors}
 use Rattle.claims.specs.LiftedAnswers as Answers
@@ -365,6 +374,70 @@ module _ {z : Sizes} {count : ℕ} {order : List ℕ} {rows relations : List ℤ
       → SheetWasRead (take (w .length) (w .byteStore)) rows' relations' c → LongEnough z rows' relations'
       → ReadsBack z count order rows relations rows' relations' c
   written-reads-back = Sheets.read-back was-written
+
+-- ==== differential sheets: `differential::read_differential` and `write_recurrence`
+
+module _ {bytes : List ℕ} {rows relations : List ℤ} {c : ReadCall} (was-read : DifferentialWasRead bytes rows relations c) where
+  -- ---- demand 1
+
+  -- Reading returns 0, or a number from 1 to 5.
+  pub differential-number : (c .result .refusal ≡ 0) ⊎ FoundBefore (c .result .refusal)
+  differential-number = Differentials.read-number was-read
+
+  -- A refusal returns its number, with all other fields 0, and leaves both stores as they were (SCOPE 10.41).
+  pub differential-refused : c .result .refusal ≢ 0 → c ≡ unread (c .result .refusal) rows relations
+  differential-refused = Differentials.read-refused was-read
+
+  -- ---- demand 2
+
+  -- In one: the three things that the call can do.
+  pub differential-course : DifferentialCourse bytes rows relations c
+  differential-course = Differentials.read-course was-read
+
+  -- It accepts exactly if the bytes are a differential sheet and the stores are long enough.
+  pub differential-accepts : (c .result .refusal ≡ 0)
+      ↔ ((d : DifferentialSheet) × IsDifferential d bytes × LongEnough (recurrenceOf d .sizes) rows relations)
+  differential-accepts = Differentials.read-accepts was-read
+
+  module _ (d : DifferentialSheet) (is : IsDifferential d bytes) (accepted : c .result .refusal ≡ 0) where
+    -- The result and the stores then hold its recurrence (SCOPE 10.21).
+    pub differential-output : HoldsSheet (recurrenceOf d) rows relations c
+    differential-output = Differentials.read-holds was-read d is accepted
+
+    -- What was read passes the checks of a run: it is refused with neither 2 nor 1 nor 5 (SCOPE 10.24).
+    pub differential-passes : checkStores (c .result .sizes) (c .result .relations) (c .rowStore) (c .relationStore) ≡ 0
+    differential-passes = Differentials.read-passes was-read d is accepted
+
+    -- ---- demand 3
+
+    -- A series satisfies the differential sheet exactly if its coefficients satisfy the system that the stores hold (SCOPE 10.33).
+    pub differential-solutions : (y : Sequence) → Series y
+        → SatisfiesDifferential d y
+        ↔ Satisfies (c .result .sizes .l) (rowsOf (equations (c .result .sizes)) (c .rowStore))
+        (relationsOf (c .result .relations) (c .relationStore)) y
+    differential-solutions = Differentials.read-solutions was-read d is accepted
+
+module _ {sheet bytes : List ℕ} {w : WriteCall} (was-written : RecurrenceWasWritten sheet bytes w) where
+  -- ---- demand 1
+
+  -- Writing returns 0, or a number from 1 to 5.
+  pub recurrence-number : (w .refusal ≡ 0) ⊎ FoundBefore (w .refusal)
+  recurrence-number = Differentials.write-number was-written
+
+  -- A refusal writes nothing (SCOPE 10.42).
+  pub recurrence-refused : w .refusal ≢ 0 → w ≡ unwritten (w .refusal) bytes
+  recurrence-refused = Differentials.write-refused was-written
+
+  -- ---- demand 2
+
+  -- In one: the three things that the call can do.
+  pub recurrence-course : RecurrenceCourse sheet bytes w
+  recurrence-course = Differentials.write-course was-written
+
+  -- What is written reads back as the recurrence (SCOPE 4.56, 10.42).
+  pub recurrence-reads-back : (d : DifferentialSheet) → IsDifferential d sheet
+      → readSheet (writeSheet (recurrenceOf d)) ≡ got (recurrenceOf d) []
+  recurrence-reads-back = Differentials.written-reads was-written
 
 -- ==== the answer to one sheet: `batches::answer`
 

@@ -3,10 +3,12 @@ pub mod SheetWords
 pub mod AnswerWords
 pub mod BatchWords
 pub mod ExportWords
+pub mod DifferentialWords
 pub mod LiftedRuns
 pub mod LiftedSheets
 pub mod LiftedAnswers
 pub mod LiftedBatches
+pub mod LiftedDifferentials
 pub mod LiftedExports
 pub mod MirroredRun
 pub mod Claims

@@ -124,7 +124,7 @@ module _ {bytes : List ℕ} {rows relations : List ℤ} where
   )
   accepts-course (sheet-read x h l) = (λ f. (x, h, l), λ f. refl)
 
-  filled-holds : (x : Sheet) → IsSheetOf x bytes → LongEnough (x .sizes) rows relations
+  pub filled-holds : (x : Sheet) → IsSheetOf x bytes → LongEnough (x .sizes) rows relations
       → HoldsSheet x rows relations (filled x rows relations)
   unfolding filled overwrite
   filled-holds x h l =

@@ -22,7 +22,8 @@ use Rattle.differential.specs.SameSolutions.{SatisfiesRecurrence, series
 use Rattle.differential.specs.ValidRecurrence.{recurrence-valid}
 use Rattle.differential.specs.Longer.{Accepted, differential-accepted}
 
-no-order : (d : DifferentialSheet) → OrderRight (recurrenceOf d .sizes .m) (recurrenceOf d .order)
+-- The recurrence carries no column order.
+pub no-order : (d : DifferentialSheet) → OrderRight (recurrenceOf d .sizes .m) (recurrenceOf d .order)
 unfolding OrderRight recurrenceOf
 no-order d = inl refl
 
