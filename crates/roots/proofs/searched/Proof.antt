@@ -1,62 +1,101 @@
--- `roots::searched` meets its contract.
+-- `roots::searched` meets its contract: no root lies in the gap, and none reaches the limit.
 -- Assumes nothing.
 use mathlib.Core.Path.{sym, subst}
-use Prim.Native.Nat.{_≤_, zero-le}
+use mathlib.Core.Logic.{⊎-elim}
+use mathlib.Core.List.{List}
+use Prim.Native.Nat.{_≤_}
+use native.Mathlib.Nat.{div-le-self}
 use native.Mathlib.Omega.{arith}
 use borrow.Author.Needs.{needs}
-use lib.Seq.{length-take-le}
-use Rattle.algebra.specs.Vanishing.{lowest-positive}
+use lib.IntN.{ℤ}
 use Rattle.rules.specs.Limits.{bound}
-use Rattle.roots.specs.Factors.{Factored, remaining-all}
-use Rattle.roots.specs.RootSearch.{factorsOf, lowest-small, zero-tried, only-roots, all-tried}
+use Rattle.roots.specs.Bound.{RootsBelow, NoneBetween, none-roots}
+use Rattle.roots.specs.RootSearch.{Paired, lowest-small, roots-small, gap-paired}
 use Rattle.roots.proofs.searched.Statement.{statement}
 use Rattle.roots.proofs.searched.Tie as tie
 
 small-a : (c : tie.Start) → c .args .a ≤ bound
-small-a c = omega (arith, c .pre .3, lowest-small (c .args .p .now) (c .pre .2) (c .pre .1))
+small-a c = omega (arith, c .pre .4, lowest-small (c .args .p .now) (c .pre .3) (c .pre .1))
 
-bound-of-roots-requires : tie.Need-bound-of-roots-requires
-bound-of-roots-requires c κs = search needs
+-- Where the gap and the limit are known.
+module _ (c : tie.Joined1) where
+  abbrev start : tie.Start
+  start = c .before .before .before .before
 
-factors-requires : tie.Need-factors-requires
-factors-requires c κs =
-    let s = c .before in
-    (omega (arith, s .pre .3, lowest-positive (s .args .p .now) (s .pre .2)), small-a s)
+  abbrev p : List ℤ
+  p = start .args .p .now
 
-array-share-prefix-values : tie.Need-array-share-prefix-values
-array-share-prefix-values c = search needs
+  abbrev at-low : tie.After-low-end
+  at-low = c .before .before .before
 
-slice-aggregate-tried-products : tie.Need-slice-aggregate-tried-products
-slice-aggregate-tried-products c =
-    let list = c .before .before .factors .result in
-    sym (length-take-le (list .count) (list .values) (omega arith))
+  abbrev at-high : tie.After-high-end
+  at-high = c .before .before
 
-tried-first-requires : tie.Need-tried-first-requires
-tried-first-requires c κs = search needs
+  all-small : RootsBelow p 268435456
+  all-small = roots-small p (start .pre .3) (start .pre .1)
 
-tried-products-requires : tie.Need-tried-products-requires
-tried-products-requires c κs =
-    let s = c .before .before .before .before .before in
-    let first = only-roots (zero-tried (s .args .p .now) (c .tried-first .ensures)) in
-    (s .pre .0, s .pre .1, s .pre .2, first, zero-le, remaining-all (c .before .before .before .factors .ensures .1) (small-a s))
+  limited : RootsBelow p (c .if1 .limit)
+  limited =
+      ⊎-elim
+      (λ w.
+      let above = subst (NoneBetween p 16384) (w .0 .taken) (at-high .high-end .ensures .1) in
+      subst (RootsBelow p) (sym (w .1)) (none-roots p (at-low .low-end .result) 16384 268435456 (at-low .low-end .ensures .1) above all-small))
+      (λ w. subst (RootsBelow p) (sym (w .1)) all-small)
+      (c .if1 .came)
+
+  paired : Paired p (start .args .a) (c .before .larger-of .result)
+  paired =
+      let larger = c .before .larger-of .ensures in
+      gap-paired p (start .args .a) (at-low .low-end .result) 16384 (at-high .high-end .result) (c .before .larger-of .result)
+      (at-low .low-end .ensures .1)
+      (at-high .high-end .ensures .1)
+      (at-high .high-end .ensures .0)
+      (larger .0)
+      (omega (arith, larger .1))
+
+low-end-requires : tie.Need-low-end-requires
+low-end-requires c κs = search needs
+
+high-end-requires : tie.Need-high-end-requires
+high-end-requires c κs = search needs
+
+div-larger-of : tie.Need-div-larger-of
+div-larger-of c = search needs
+
+add-larger-of : tie.Need-add-larger-of
+add-larger-of c =
+    let s = c .before .before in
+    omega (arith, div-le-self (s .args .a) (c .high-end .result), small-a s)
+
+larger-of-requires : tie.Need-larger-of-requires
+larger-of-requires c κs = search needs
+
+by-pairs-requires : tie.Need-by-pairs-requires
+by-pairs-requires c κs =
+    let s = start (c .before) in
+    (s .pre .0, s .pre .1, s .pre .2, s .pre .3, s .pre .4, paired (c .before), limited (c .before))
+
+by-factors-requires : tie.Need-by-factors-requires
+by-factors-requires c κs =
+    let s = start (c .before) in
+    (s .pre .0, s .pre .1, s .pre .2, s .pre .3, s .pre .4, limited (c .before))
 
 returns : tie.Need-returns
-returns c =
-    let at-bound = c .before .before .before .before .before in
-    let s = at-bound .before in
-    let list = c .before .before .before .before .factors in
-    let factored = subst (λ a. Factored (at-bound .bound-of-roots .result) a (factorsOf (list .result))) (s .pre .3) (list .ensures .1) in
-    all-tried (s .args .p .now) (s .pre .2) (at-bound .bound-of-roots .ensures) factored (zero-tried _ (c .before .tried-first .ensures))
-    (c .tried-products .ensures)
+returns c = search needs
+
+returns-2 : tie.Need-returns-2
+returns-2 c = search needs
 
 pub searched-spec : {M : Type 1} → statement M
 searched-spec =
     tie.close
     (tie.spec
-    bound-of-roots-requires
-    factors-requires
-    array-share-prefix-values
-    slice-aggregate-tried-products
-    tried-first-requires
-    tried-products-requires
-    returns)
+    low-end-requires
+    high-end-requires
+    div-larger-of
+    add-larger-of
+    larger-of-requires
+    by-pairs-requires
+    by-factors-requires
+    returns
+    returns-2)

@@ -38,7 +38,7 @@ module _ (c : tie.Start) where
   twice = tryBoth-twice (c .args .p .now) d (held (c .args .found))
 
   room : length (tryRoot (c .args .p .now) (negℤ (pos d)) once) ≤ 16
-  room = subst (λ l. length l ≤ 16) twice (c .pre .3)
+  room = subst (λ l. length l ≤ 16) twice (c .pre .5)
 
 cast-r : tie.Need-cast-r
 cast-r c = search needs
@@ -48,7 +48,8 @@ sub-opposite c = rw (opposite c) (opposite-fits c)
 
 tried-requires : tie.Need-tried-requires
 tried-requires c κs =
-    (c .pre .0, c .pre .1, c .pre .2, rw (candidate c) (le-trans (tryRoot-longer (c .args .p .now) (negℤ (pos (d c))) (once c)) (room c)))
+    let grown = le-trans (tryRoot-longer (c .args .p .now) (negℤ (pos (d c))) (once c)) (room c) in
+    (c .pre .0, c .pre .1, c .pre .2, rw (candidate c) (c .pre .3), c .pre .4, rw (candidate c) grown)
 
 once-listed : (c : tie.After-tried) → c .tried .result ≡ listed (once (c .before))
 once-listed c = rw (candidate (c .before)) at (c .tried .ensures)
@@ -57,7 +58,14 @@ tried-requires-2 : tie.Need-tried-requires-2
 tried-requires-2 c κs =
     let s = c .before in
     let kept = held-of (once s) (once-listed c) in
-    (s .pre .0, s .pre .1, listed-held (once s) (once-listed c), simp (opposite s, toZ-ofZ (opposite-fits s), kept) (room s))
+    let size = le-trans (le-of-eq (natAbs-negℤ (pos (d s)))) (s .pre .3) in (
+      s .pre .0,
+      s .pre .1,
+      s .pre .2,
+      simp (opposite s, toZ-ofZ (opposite-fits s)) size,
+      listed-held (once s) (once-listed c),
+      simp (opposite s, toZ-ofZ (opposite-fits s), kept) (room s),
+    )
 
 returns : tie.Need-returns
 returns c =
