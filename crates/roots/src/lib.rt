@@ -198,13 +198,13 @@ fn none_between(p: &[i64], top: usize, n: u64, m: u64) -> bool
     0 < least
 }
 
-// The smallest power of 2 from which on, up to 2^14, the sizes are known to be free of roots.
+// The smallest power of 2 from which on, up to 2^14, the sizes are known to be free of roots, or one past `FEW`.
 fn low_end(p: &[i64], top: usize) -> u32
     requires { ⌜ T (every small (now p)) × Top (now p) top ⌝ }
-    ensures { λ r. ⌜ (2 ≤ r) × NoneBetween (now (p .entry)) r 16384 ⌝ }
+    ensures { λ r. ⌜ (2 ≤ r) × (r ≤ 256 → NoneBetween (now (p .entry)) r 16384) ⌝ }
 {
     let mut n: u32 = 2;
-    while n < MIDDLE {
+    while n <= FEW {
         if none_between(p, top, n as u64, MIDDLE as u64) {
             return n;
         }
@@ -226,6 +226,21 @@ fn high_end(p: &[i64], top: usize) -> u32
         m = m / 2;
     }
     m
+}
+
+// A power of 2 times `from` that every root is smaller than in size. None is larger than C.
+fn bound_of_roots(p: &[i64], top: usize, from: u32) -> u32
+    requires { ⌜ T (every small (now p)) × Top (now p) top × T (not (Polynomials.isZero (now p))) × (2 ≤ from) ⌝ }
+    ensures { λ r. ⌜ RootsBelow (now (p .entry)) r ⌝ }
+{
+    let mut r = from;
+    while r < PAST {
+        if none_between(p, top, r as u64, PAST as u64) {
+            return r;
+        }
+        r = r * 2;
+    }
+    r
 }
 
 // The factors of a number: the first `count` of `values`.
@@ -368,19 +383,32 @@ fn larger_of(a: u32, b: u32) -> u32
 }
 
 // No root has a size from low up to high. One below low is a divisor of a, and one from high on has a cofactor of at most a / high.
-fn searched(p: &[i64], top: usize, a: u32) -> RootList
+fn beside_gap(p: &[i64], top: usize, a: u32, low: u32) -> RootList
     requires { ⌜ (length (now p) ≤ 16) × T (every small (now p)) × Top (now p) top × T (not (Polynomials.isZero (now p)))
-        × (a ≡ natAbs (Polynomials.lowest (now p))) ⌝ }
+        × (a ≡ natAbs (Polynomials.lowest (now p))) × (2 ≤ low) × NoneBetween (now p) low 16384 ⌝ }
     ensures { λ l. ⌜ l ≡ listed (Roots.roots (now (p .entry))) ⌝ }
 {
-    let low = low_end(p, top);
     let high = high_end(p, top);
     let few = larger_of(low, a / high + 1);
     let limit = if high == PAST { low } else { PAST };
     if few <= FEW {
         by_pairs(p, top, a, few, limit)
     } else {
-        by_factors(p, top, a, limit)
+        by_factors(p, top, a, bound_of_roots(p, top, low))
+    }
+}
+
+// The candidates are 0 and, with both signs, divisors of the size a of the lowest nonzero coefficient.
+fn searched(p: &[i64], top: usize, a: u32) -> RootList
+    requires { ⌜ (length (now p) ≤ 16) × T (every small (now p)) × Top (now p) top × T (not (Polynomials.isZero (now p)))
+        × (a ≡ natAbs (Polynomials.lowest (now p))) ⌝ }
+    ensures { λ l. ⌜ l ≡ listed (Roots.roots (now (p .entry))) ⌝ }
+{
+    let low = low_end(p, top);
+    if low <= FEW {
+        beside_gap(p, top, a, low)
+    } else {
+        by_factors(p, top, a, bound_of_roots(p, top, low))
     }
 }
 
