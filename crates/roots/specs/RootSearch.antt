@@ -11,6 +11,7 @@
 --   Candidate n d l z  in size z is below n, and d times a divisor of the product of l
 --   Tried p n d l f g  the array g holds what f holds and the roots among these candidates
 --   Passed a d z       in size z is below d, or its cofactor in a is; Paired p a d where that holds of every root of p
+--   NoneOf p d         no root of p is d in size; NothingNew p a d e where none is passed from d to e
 --
 -- Main statements
 --   lowest-small, roots-small   the lowest coefficient is within ±C, and so is every root
@@ -19,8 +20,9 @@
 --   found-length       a list of roots has at most as many members as the degree says
 --   tried-none, tried-with, tried-without   the divisors of a product, by its factors
 --   all-tried          with 0 and the divisors of the lowest coefficient, the roots are found
---   pairs-start, pairs-divisor, pairs-other, pairs-end, pairs-few   the divisors in pairs, d and a / d: the start, a turn where d divides
---                      a and one where it does not, the end at the square root and the end where every root was passed
+--   pairs-start, pairs-divisor, pairs-other, pairs-none, pairs-end, pairs-few   the divisors in pairs, d and a / d: the start, both tried, d
+--                      that does not divide a or where there is no root, the end at the square root and the end where every root was passed
+--   found-new, none-of  nothing new to be found; no root d in size
 --   gap-paired         a root past a gap has a small cofactor
 --   linear-tried       a polynomial of degree 1 has one candidate
 --   roots-few          a polynomial of 16 coefficients has at most 15 roots
@@ -28,7 +30,7 @@
 use Prim.Native.Nat.{ℕ, suc, _+_, _*_, _-_, _/_, _≤_, _<_, _∣_, zero-le}
 use mathlib.Core.Path.{_≡_, refl, sym, _∙_, ap, subst, subst₂, subst⁻¹}
 use mathlib.Core.Logic.{_≢_, _⊎_, inl, inr, ⊎-elim, by-cases}
-use mathlib.Core.Bool.{Bool, true, false, cond, not}
+use mathlib.Core.Bool.{Bool, true, false, cond, not, true≢false}
 use mathlib.Core.List.{List, [], _∷_, _++_, prod}
 use mathlib.Core.List.{List·Mem, List·Memᴰ, List·Memᴰ·head, List·Memᴰ·tail, List·Memᴰ·not-nil, Memᴰ·cast}
 use mathlib.Core.List.{Pairwise·nil, Pairwise·of-cons}
@@ -50,7 +52,7 @@ use Rattle.algebra.specs.Integers.{ringℤ, natAbs-negℤ, negℤ-unique, neg�
 use Rattle.algebra.specs.Division.{quotZ-exact}
 use Rattle.algebra.specs.Order.{<ℤ-to-≤ℤ}
 use Rattle.algebra.specs.Polynomials.{Polynomial, coeff, eval, isZero, lowest, degree, isZeroℤ, eval-isZero}
-use Rattle.lists.specs.Tests.{same-test, every, dec-T, false-of}
+use Rattle.lists.specs.Tests.{same-test, every, dec-T, true-of, false-of}
 use Rattle.algebra.specs.Vanishing.{isZeroℤ-sound, isZeroℤ-complete, roots-at-most-degree, root-divides-lowest}
 use Rattle.algebra.specs.Vanishing.{nonzero-past-lowest, lowest-positive}
 use Rattle.algebra.specs.Coefficients.{degree-isZero, coeff-degree, lowest-place}
@@ -350,12 +352,28 @@ all-tried p nonzero {n} {l} {f} below factored first tried = tried .holds .exact
 
 -- ---- divisors in pairs
 
+-- d and -d are no roots.
+pub none-of : (p : Polynomial) (d : ℕ) → isZeroℤ (eval p (pos d)) ≡ false → isZeroℤ (eval p (negℤ (pos d))) ≡ false
+    → (z : ℤ) → eval p z ≡ pos 0 → natAbs z ≢ d
+none-of p d plus minus (pos n) root e =
+    true≢false (sym (true-of _ (isZeroℤ-complete (eval p (pos n)) root)) ∙ ap (λ k. isZeroℤ (eval p (pos k))) e ∙ plus)
+none-of p d plus minus (negsuc n) root e =
+    true≢false (sym (true-of _ (isZeroℤ-complete (eval p (negsuc n)) root)) ∙ ap (λ k. isZeroℤ (eval p (negℤ (pos k)))) e ∙ minus)
+
 -- The integers of size below d, and those whose cofactor in a is below d.
 abbrev pub Passed : ℕ → ℕ → ℤ → Type 0
 Passed a d z = (natAbs z < d) ⊎ (a / natAbs z < d)
 
 abbrev pub Paired : Polynomial → ℕ → ℕ → Type 0
 Paired p a d = (z : ℤ) → eval p z ≡ pos 0 → Passed a d z
+
+-- No root of p is d in size.
+abbrev pub NoneOf : Polynomial → ℕ → Type 0
+NoneOf p d = (z : ℤ) → eval p z ≡ pos 0 → natAbs z ≢ d
+
+-- From d to e no root of p is passed.
+abbrev pub NothingNew : Polynomial → ℕ → ℕ → ℕ → Type 0
+NothingNew p a d e = (z : ℤ) → eval p z ≡ pos 0 → Passed a e z → Passed a d z
 
 -- A root past a gap has a cofactor of at most a / high.
 pub gap-paired : (p : Polynomial) (a low k high d : ℕ) → NoneBetween p low k → NoneBetween p k high → 0 < high → low ≤ d
@@ -371,6 +389,9 @@ gap-paired p a low k high d first second positive small-low small-high z root =
     above i =
         by-cases (decLe high (natAbs z)) (λ j. inr (omega (arith, cofactor j)))
         (λ j. absurd (second z root i (lt-of-not-le j)))
+
+pub found-new : {p : Polynomial} {f : RootList} (a d e : ℕ) → NothingNew p a d e → Holds p (Passed a d) f → Holds p (Passed a e) f
+found-new a d e new h = holds-more new h
 
 -- One more d: those of size d, and those with the cofactor d.
 passed-next : (a d : ℕ) (z : ℤ) → Passed a (d + 1) z → ((natAbs z ≡ d) ⊎ (a / natAbs z ≡ d)) ⊎ Passed a d z
@@ -426,9 +447,13 @@ module _ (p : Polynomial) (nonzero : T (not (isZero p))) (a : ℕ) (lowest-size 
       step z e (inl (inr h)) = inl (cofactor-of-cofactor z e d positive h)
       step z e (inr h) = inr (inr h)
 
-  pub pairs-other : (d : ℕ) (l : List ℤ) → 0 < d → a / d * d ≢ a → Found p (Passed a d) l → Found p (Passed a (d + 1)) l
-  pairs-other d l positive n =
-      found-more (λ z e h. ⊎-elim (λ k. absurd (n (exact z e d positive k))) (λ k. k) (passed-next a d z h))
+  -- Where d does not divide a, and where neither d nor a / d is a root in size.
+  pub pairs-other : (d : ℕ) → 0 < d → a / d * d ≢ a → NothingNew p a d (d + 1)
+  pairs-other d positive n z e h = ⊎-elim (λ k. absurd (n (exact z e d positive k))) (λ k. k) (passed-next a d z h)
+
+  pub pairs-none : (d : ℕ) → 0 < d → NoneOf p d → NoneOf p (a / d) → NothingNew p a d (d + 1)
+  pairs-none d positive n m z e h =
+      ⊎-elim (λ k. absurd (⊎-elim (n z e) (λ i. m z e (cofactor-of-cofactor z e d positive i)) k)) (λ k. k) (passed-next a d z h)
 
   -- The end at the square root, and where every root or its cofactor was passed.
   pub pairs-end : (d : ℕ) (l : List ℤ) → 0 < d → a / d < d → Found p (Passed a d) l → l ≡ roots p

@@ -1,7 +1,7 @@
 // Root test, root search, largest and smallest root.
 ghost use mathlib.Core.Path.{_≡_};
 ghost use mathlib.Core.Logic.{_⊎_};
-ghost use mathlib.Core.Bool.{true, not};
+ghost use mathlib.Core.Bool.{true, false, not};
 ghost use mathlib.Core.List.{[], _∷_, _++_};
 ghost use Prim.Native.Nat.{_+_, _≤_, _<_};
 ghost use lib.Dec.{T};
@@ -15,7 +15,7 @@ ghost use Rattle.rules.specs.Elimination.{leading, trailing, furthest};
 ghost use Rattle.roots.specs.Ascending.{insert};
 ghost use Rattle.roots.specs.Bound.{Top, RootsBelow, NoneBetween};
 ghost use Rattle.roots.specs.Factors.{Gap, Factored, Run, Remaining};
-ghost use Rattle.roots.specs.RootSearch.{tryRoot, tryBoth, held, listed, factorsOf, Sized, answered, OnlyRoots, Tried, Paired};
+ghost use Rattle.roots.specs.RootSearch.{tryRoot, tryBoth, held, listed, factorsOf, Sized, answered, OnlyRoots, Tried, Paired, NoneOf, NothingNew};
 
 // 16 times 2^28, which is past 16 times C.
 const LARGE: u64 = 4_294_967_296;
@@ -357,21 +357,67 @@ fn by_factors(p: &[i64], top: usize, a: u32, limit: u32) -> RootList
     tried_products(p, top, limit, &values[..n], 0, 1, tried_zero(p))
 }
 
+// Is one of d and -d a root?
+fn either(p: &[i64], top: usize, d: u32) -> bool
+    requires { ⌜ (length (now p) ≤ 16) × T (every small (now p)) × Top (now p) top × (d ≤ bound) ⌝ }
+    ensures { λ b. ⌜ (b ≡ false → NoneOf (now (p .entry)) d) ⌝ }
+{
+    let r = d as i64;
+    if vanishes(p, top, r) {
+        true
+    } else {
+        vanishes(p, top, -r)
+    }
+}
+
+// Is a root d or a/d in size? No root reaches the limit.
+fn has_root(p: &[i64], top: usize, a: u32, d: u32, limit: u32) -> bool
+    requires { ⌜ (length (now p) ≤ 16) × T (every small (now p)) × Top (now p) top × T (not (Polynomials.isZero (now p)))
+        × (a ≡ natAbs (Polynomials.lowest (now p))) × RootsBelow (now p) limit × (0 < d) × (d ≤ bound) ⌝ }
+    ensures { λ b. ⌜ (b ≡ false → NothingNew (now (p .entry)) a d (d + 1)) ⌝ }
+{
+    let quotient = a / d;
+    if quotient * d != a {
+        return false;
+    }
+    if either(p, top, d) {
+        return true;
+    }
+    if quotient < limit {
+        either(p, top, quotient)
+    } else {
+        false
+    }
+}
+
+// The first d from `from` on for which d or a/d is a root in size, if it comes before the square root and before `few`.
+fn next_pair(p: &[i64], top: usize, a: u32, from: u32, few: u32, limit: u32) -> u32
+    requires { ⌜ (length (now p) ≤ 16) × T (every small (now p)) × Top (now p) top × T (not (Polynomials.isZero (now p)))
+        × (a ≡ natAbs (Polynomials.lowest (now p))) × RootsBelow (now p) limit × (0 < from) ⌝ }
+    ensures { λ r. ⌜ (from ≤ r) × NothingNew (now (p .entry)) a from r ⌝ }
+{
+    let mut d = from;
+    while d <= a / d && d < few {
+        if has_root(p, top, a, d, limit) {
+            return d;
+        }
+        d += 1;
+    }
+    d
+}
+
 // The candidates are 0 and, with both signs, d and a/d for the divisors d of a, up to the square root and below `few`; no root
-// reaches the limit.
+// reaches the limit. The list is handed on only where there is a root to list.
 fn by_pairs(p: &[i64], top: usize, a: u32, few: u32, limit: u32) -> RootList
     requires { ⌜ (length (now p) ≤ 16) × T (every small (now p)) × Top (now p) top × T (not (Polynomials.isZero (now p)))
         × (a ≡ natAbs (Polynomials.lowest (now p))) × Paired (now p) a few × RootsBelow (now p) limit ⌝ }
     ensures { λ l. ⌜ l ≡ listed (Roots.roots (now (p .entry))) ⌝ }
 {
     let mut found = tried_zero(p);
-    let mut d: u32 = 1;
+    let mut d = next_pair(p, top, a, 1, few, limit);
     while d <= a / d && d < few {
-        let quotient = a / d;
-        if quotient * d == a {
-            found = tried_below(p, top, quotient, limit, tried_both(p, top, d, found));
-        }
-        d += 1;
+        found = tried_below(p, top, a / d, limit, tried_both(p, top, d, found));
+        d = next_pair(p, top, a, d + 1, few, limit);
     }
     found
 }

@@ -2,10 +2,10 @@
 -- below d. The measure falls because d is at most a / d, and so at most a.
 -- Assumes nothing.
 use mathlib.Core.Path.{_≡_, _∙_, ap}
-use mathlib.Core.Logic.{_⊎_, ⊎-elim}
+use mathlib.Core.Logic.{_⊎_}
 use mathlib.Core.List.{List, []}
 use Prim.Native.Nat.{ℕ, _+_, _-_, _/_, _≤_, _<_}
-use native.Mathlib.Nat.{div-le-self, div-mul-le-self}
+use native.Mathlib.Nat.{div-le-self}
 use native.Mathlib.Omega.{arith}
 use borrow.Author.Tests.{ltb-false}
 use lib.IntN.{ℤ, pos, natAbs}
@@ -13,7 +13,7 @@ use lib.ListN.{length}
 use Rattle.rules.specs.Limits.{bound}
 use Rattle.roots.specs.RootSearch.{Found, Holds, Passed, held, listed, tryRoot, tryBoth, held-of, listed-held, holds-list}
 use Rattle.roots.specs.RootSearch.{found-length, found-both, lowest-small}
-use Rattle.roots.specs.RootSearch.{pairs-start, pairs-divisor, pairs-other, pairs-end, pairs-few}
+use Rattle.roots.specs.RootSearch.{pairs-start, pairs-divisor, found-new, pairs-end, pairs-few}
 use Rattle.roots.proofs.by_pairs.Statement.{statement}
 use Rattle.roots.proofs.by_pairs.Tie as tie
 
@@ -26,7 +26,7 @@ abbrev μ-loop : tie.MeasureT-loop
 -- The polynomial and the state at the loop's head.
 module _ (c : tie.At-loop Inv-loop μ-loop) where
   abbrev start : tie.Start Inv-loop μ-loop
-  start = c .before .before
+  start = c .before .before .before
 
   abbrev p : List ℤ
   p = start .args .p .now
@@ -63,31 +63,34 @@ module _ (c : tie.At-loop Inv-loop μ-loop) where
 tried-zero-requires : tie.Need-tried-zero-requires Inv-loop μ-loop
 tried-zero-requires c κs = (omega (arith, c .pre .2 .0), c .pre .1)
 
+next-pair-requires : tie.Need-next-pair-requires Inv-loop μ-loop
+next-pair-requires c κs =
+    let s = c .before in
+    (s .pre .0, s .pre .1, s .pre .2, s .pre .3, s .pre .4, s .pre .6, omega arith)
+
 loop-holds : tie.Need-loop-holds Inv-loop μ-loop
 loop-holds c =
-    let s = c .before in
+    let s = c .before .before in
     let q = s .args .p .now in
-    (omega arith, holds-list (tryRoot q (pos 0) []) (c .tried-zero .ensures) (pairs-start q (s .pre .3) (s .args .a) (s .pre .4)))
+    let first = holds-list (tryRoot q (pos 0) []) (c .before .tried-zero .ensures) (pairs-start q (s .pre .3) (s .args .a) (s .pre .4)) in
+    (omega (arith, c .next-pair .ensures .0), found-new (s .args .a) 1 (c .next-pair .result) (c .next-pair .ensures .1) first)
 
 div-loop : tie.Need-div-loop Inv-loop μ-loop
 div-loop c = c .loop .inv .0
 
-div-quotient : tie.Need-div-quotient Inv-loop μ-loop
-div-quotient c = c .before .before .loop .inv .0
-
-mul-if2 : tie.Need-mul-if2 Inv-loop μ-loop
-mul-if2 c = let head = c .before .before in omega (arith, div-mul-le-self (a head) (d head), small-a head)
+div-tried-below : tie.Need-div-tried-below Inv-loop μ-loop
+div-tried-below c = c .before .before .loop .inv .0
 
 tried-both-requires : tie.Need-tried-both-requires Inv-loop μ-loop
 tried-both-requires c κs =
-    let head = c .before .before .before in
+    let head = c .before .before in
     let s = start head in
-    let inside : d head ≤ bound = omega (arith, c .before .before .loop-test .taken, quotient head, small-a head) in
+    let inside : d head ≤ bound = omega (arith, c .before .loop-test .taken, quotient head, small-a head) in
     (s .pre .0, s .pre .1, s .pre .2, inside, head .loop .inv .1 .exact, within head (after-d head))
 
 tried-below-requires : tie.Need-tried-below-requires Inv-loop μ-loop
 tried-below-requires c κs =
-    let head = c .before .before .before .before in
+    let head = c .before .before .before in
     let s = start head in
     let first = tryBoth (p head) (d head) (found head) in (
       s .pre .0,
@@ -99,25 +102,30 @@ tried-below-requires c κs =
       rw (held-of first (c .tried-both .ensures)) (within head (after-both head)),
     )
 
-add-d : tie.Need-add-d Inv-loop μ-loop
-add-d c = let head = c .before .before .before in omega (arith, c .before .before .loop-test .taken, quotient head, small-a head)
+add-next-pair : tie.Need-add-next-pair Inv-loop μ-loop
+add-next-pair c =
+    let head = c .before .before .before .before in
+    omega (arith, c .before .before .before .loop-test .taken, quotient head, small-a head)
+
+next-pair-requires-2 : tie.Need-next-pair-requires-2 Inv-loop μ-loop
+next-pair-requires-2 c κs =
+    let s = start (c .before .before .before .before) in
+    (s .pre .0, s .pre .1, s .pre .2, s .pre .3, s .pre .4, s .pre .6, omega arith)
 
 loop-less : tie.Need-loop-less Inv-loop μ-loop
-loop-less c = let head = c .before .before .before in omega (arith, c .before .before .loop-test .taken, quotient head)
+loop-less c =
+    let head = c .before .before .before .before .before in
+    omega (arith, c .before .before .before .before .loop-test .taken, quotient head, c .next-pair2 .ensures .0)
 
 loop-again : tie.Need-loop-again Inv-loop μ-loop
 loop-again c =
-    let head = c .before .before .before in
-    let s = start head in
+    let head = c .before .before .before .before .before in
     let first = tryBoth (p head) (d head) (found head) in
     let both = tryBoth (p head) (a head / d head) first in
-    let other = pairs-other (p head) (s .pre .3) (a head) (s .pre .4) (d head) (found head) (head .loop .inv .0) in
-    ⊎-elim
-    (λ w.
-    let e = w .3 ∙ w .2 .ensures ∙ ap (λ l. listed (tryBoth (p head) (a head / d head) l)) (held-of first (w .1 .ensures)) in
-    (omega arith, holds-list both e (after-both head)))
-    (λ w. (omega arith, holds-list (found head) (w .1 ∙ head .loop .inv .1 .exact) (other (w .0 .left) (state head))))
-    (c .if2 .came)
+    let e = c .before .tried-below .ensures
+    ∙ ap (λ l. listed (tryBoth (p head) (a head / d head) l)) (held-of first (c .before .before .tried-both .ensures)) in
+    let listed-both = holds-list both e (after-both head) in
+    (omega (arith, c .next-pair2 .ensures .0), found-new (a head) (d head + 1) (c .next-pair2 .result) (c .next-pair2 .ensures .1) listed-both)
 
 returns : tie.Need-returns Inv-loop μ-loop
 returns c =
@@ -141,13 +149,14 @@ by-pairs-spec =
     Inv-loop
     μ-loop
     tried-zero-requires
+    next-pair-requires
     loop-holds
     div-loop
-    div-quotient
-    mul-if2
+    div-tried-below
     tried-both-requires
     tried-below-requires
-    add-d
+    add-next-pair
+    next-pair-requires-2
     loop-less
     loop-again
     returns
