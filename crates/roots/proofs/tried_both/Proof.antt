@@ -6,13 +6,14 @@ use mathlib.Core.List.{List}
 use native.Mathlib.Nat.{le-trans, le-of-eq}
 use native.Mathlib.Omega.{arith}
 use borrow.Author.Needs.{needs}
-use lib.IntN.{ℤ, pos, negℤ, _-ℤ_, +ℤ-idl}
+use lib.IntN.{ℤ, pos, negℤ, natAbs, _-ℤ_, +ℤ-idl}
 use lib.ListN.{length}
 use mir.Syntax.{w64}
-use mir.Val.{SFits, toZ}
+use mir.Val.{SFits, ofZ, toZ}
 use mir.Facts.{toZ-ofZ, toZ-pos}
 use Rattle.algebra.specs.Integers.{natAbs-negℤ}
 use Rattle.integers.specs.Ranges.{sfits-size}
+use Rattle.rules.specs.Limits.{bound}
 use Rattle.roots.specs.RootSearch.{held, listed, tryRoot, tryBoth, tryRoot-longer, tryBoth-twice, held-of, listed-held}
 use Rattle.roots.proofs.tried_both.Statement.{statement}
 use Rattle.roots.proofs.tried_both.Tie as tie
@@ -29,6 +30,9 @@ module _ (c : tie.Start) where
 
   opposite-fits : SFits w64 (negℤ (pos d))
   opposite-fits = sfits-size (negℤ (pos d)) (le-of-eq (natAbs-negℤ (pos d))) (omega (arith, c .fits .d))
+
+  stored : toZ w64 (ofZ w64 (pos 0 -ℤ toZ w64 d)) ≡ negℤ (pos d)
+  stored = ap (λ z. toZ w64 (ofZ w64 z)) opposite ∙ toZ-ofZ opposite-fits
 
   -- The list after the first candidate, and after both.
   abbrev once : List ℤ
@@ -62,7 +66,7 @@ tried-requires-2 c κs =
       s .pre .0,
       s .pre .1,
       s .pre .2,
-      simp (opposite s, toZ-ofZ (opposite-fits s)) size,
+      subst (λ z. natAbs z ≤ bound) (sym (stored s)) size,
       listed-held (once s) (once-listed c),
       simp (opposite s, toZ-ofZ (opposite-fits s), kept) (room s),
     )
