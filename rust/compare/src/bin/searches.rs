@@ -16,6 +16,8 @@ use std::time::Instant;
 const OF_A_KIND: usize = 20;
 /// A time is the shortest of so many passes.
 const PASSES: usize = 7;
+/// Instructions are counted over so many searches of each polynomial.
+const COUNTED: u64 = 10;
 /// A pass makes as many searches as take about so many instructions.
 const INSTRUCTIONS_OF_A_PASS: f64 = 2e8;
 
@@ -109,14 +111,18 @@ fn printed(program: &str, polynomials: &[Polynomial]) -> Vec<Vec<i128>> {
     text.lines().filter_map(|line| line.strip_prefix("roots")).map(roots).collect()
 }
 
-/// What `measure` says of so many searches of each polynomial more, for one search.
-fn of_a_search(polynomials: &[Polynomial], searches: u64, measure: impl Fn(&Path) -> f64) -> f64 {
-    let [once, more] = [1, 1 + searches].map(|n| {
+/// What `measure` says of a run with one search of each polynomial, and of a run with so many more.
+fn of_runs(polynomials: &[Polynomial], searches: u64, measure: impl Fn(&Path) -> f64) -> [f64; 2] {
+    [1, 1 + searches].map(|n| {
         let path = input(polynomials, n);
         let measured = measure(&path);
         remove_file(path).expect("the input is removed");
         measured
-    });
+    })
+}
+
+/// The part of one search, without what the process takes beside it.
+fn of_a_search(polynomials: &[Polynomial], searches: u64, [once, more]: [f64; 2]) -> f64 {
     (more - once) / (searches as f64 * polynomials.len() as f64)
 }
 
@@ -136,17 +142,17 @@ fn seconds(program: &str, path: &Path) -> f64 {
     start.elapsed().as_secs_f64()
 }
 
-/// The shortest time of a search by each program; in every pass each has its turn.
+/// The time of a search by each program, from the shortest runs; in every pass each program has its turn.
 fn times(programs: &[(&str, &str)], polynomials: &[Polynomial], counted: &[f64]) -> Vec<f64> {
-    let mut shortest = vec![f64::INFINITY; programs.len()];
+    let searches = |k: usize| (INSTRUCTIONS_OF_A_PASS / (counted[k] * polynomials.len() as f64)).ceil() as u64;
+    let mut shortest = vec![[f64::INFINITY; 2]; programs.len()];
     for _ in 0..PASSES {
         for (k, (_, program)) in programs.iter().enumerate() {
-            let searches = (INSTRUCTIONS_OF_A_PASS / (counted[k] * polynomials.len() as f64)).ceil() as u64;
-            let time = of_a_search(polynomials, searches, |path| seconds(program, path));
-            shortest[k] = shortest[k].min(time);
+            let [once, more] = of_runs(polynomials, searches(k), |path| seconds(program, path));
+            shortest[k] = [shortest[k][0].min(once), shortest[k][1].min(more)];
         }
     }
-    shortest
+    shortest.iter().enumerate().map(|(k, &runs)| of_a_search(polynomials, searches(k), runs)).collect()
 }
 
 // ---- the table ----
@@ -175,8 +181,9 @@ fn main() {
         for (name, program) in &programs {
             assert!(printed(program, &polynomials) == expected, "{what}: {name} finds other roots");
         }
-        let count = |program: &str| of_a_search(&polynomials, 10, |path| instructions(program, path));
-        let counted: Vec<f64> = programs.iter().map(|(_, program)| count(program)).collect();
+        let count = |program: &str| of_runs(&polynomials, COUNTED, |path| instructions(program, path));
+        let counted: Vec<f64> =
+            programs.iter().map(|(_, program)| of_a_search(&polynomials, COUNTED, count(program))).collect();
         let timed = times(&programs, &polynomials, &counted);
         no_slower &= line(&format!("{what}: instructions"), &counted);
         no_slower &= line(&format!("{what}: nanoseconds"), &timed.iter().map(|t| t * 1e9).collect::<Vec<_>>());
