@@ -15,7 +15,7 @@
 --   rest-positive, rest-small, few-factors   the rest is at most the number, and of a number up to C fewer than 28 factors are found
 --   simple-coprime     a simple number is coprime to a number below the limit that it does not divide
 --   run-next, run-divides   a run passed, and what divides the product and is coprime to the run
---   remaining-all, remaining-with, remaining-without   all factors; those after the first; those after the run of the first
+--   remaining-none, remaining-all, remaining-with, remaining-without   no factor left; all factors; those after the first; those after the run of the first
 use Prim.Native.Nat.{ℕ, _+_, _*_, _-_, _/_, _%_, _^_, _≤_, _<_, _∣_}
 use mathlib.Core.Path.{_≡_, refl, sym, _∙_, ap, subst}
 use mathlib.Core.Logic.{_≢_, _⊎_, inl, inr, ⊎-elim, by-cases}
@@ -250,6 +250,10 @@ pub record Remaining (n d : ℕ) (l : List ℕ) : Type 0 where
   pub positive : 0 < d
   pub simple : AllSimple n l
   pub small : d * product l ≤ bound
+
+pub remaining-none : {n d : ℕ} → Remaining n d [] → d ≤ bound
+unfolding prod
+remaining-none {d} r = le-trans (le-of-eq (sym (mul-one d))) (r .small)
 
 pub remaining-all : {n a : ℕ} {l : List ℕ} → Factored n a l → a ≤ bound → Remaining n 1 l
 remaining-all {l} f h =

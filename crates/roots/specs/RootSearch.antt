@@ -1,4 +1,4 @@
--- The search for the integer roots of a polynomial: the test of one candidate without large numbers, the candidates that are
+-- The search for the integer roots of a polynomial: the test of one candidate, the candidates that are
 -- tried, and why these are all.
 --
 -- Main definitions
@@ -6,48 +6,55 @@
 --   tryRoot p r l      the ascending list l with r, if p vanishes at r
 --   tryBoth p d l      the same for d and -d
 --   answered o         a root or none, as an answer
---   Chain p r i b      the root test after i coefficients
 --   Found p P l        l holds, ascending, only roots of p, and every root of p with the property P
 --   Holds p P f        the array f holds such a list; OnlyRoots p f where nothing is asked of P
 --   Candidate n d l z  in size z is below n, and d times a divisor of the product of l
 --   Tried p n d l f g  the array g holds what f holds and the roots among these candidates
+--   Passed a d z       in size z is below d, or its cofactor in a is; Paired p a d where that holds of every root of p
+--   NoneOf p d         no root of p is d in size; NothingNew p a d e where none is passed from d to e
 --
 -- Main statements
---   test-fails, test-steps   b + r e = 0 exactly if r divides b and b / r + e = 0
---   chain-start, chain-next, chain-fails, chain-ends   the turns of the root test
+--   lowest-small, roots-small   the lowest coefficient is within ±C, and so is every root
+--   vanishes-past      past C only the zero polynomial vanishes
+--   tryBoth-past       where no root reaches n, nothing from n on is listed
 --   found-length       a list of roots has at most as many members as the degree says
 --   tried-none, tried-with, tried-without   the divisors of a product, by its factors
 --   all-tried          with 0 and the divisors of the lowest coefficient, the roots are found
+--   pairs-start, pairs-divisor, pairs-other, pairs-none, pairs-end, pairs-few   the divisors in pairs, d and a / d: the start, both tried, d
+--                      that does not divide a or where there is no root, the end at the square root and the end where every root was passed
+--   found-new, none-of  nothing new to be found; no root d in size
+--   gap-paired         a root past a gap has a small cofactor
 --   linear-tried       a polynomial of degree 1 has one candidate
 --   roots-few          a polynomial of 16 coefficients has at most 15 roots
 --   answered-first, answered-last   the first root is the smallest and the last the largest
 use Prim.Native.Nat.{ℕ, suc, _+_, _*_, _-_, _/_, _≤_, _<_, _∣_, zero-le}
 use mathlib.Core.Path.{_≡_, refl, sym, _∙_, ap, subst, subst₂, subst⁻¹}
 use mathlib.Core.Logic.{_≢_, _⊎_, inl, inr, ⊎-elim, by-cases}
-use mathlib.Core.Bool.{Bool, true, false, cond, not}
+use mathlib.Core.Bool.{Bool, true, false, cond, not, true≢false}
 use mathlib.Core.List.{List, [], _∷_, _++_, prod}
 use mathlib.Core.List.{List·Mem, List·Memᴰ, List·Memᴰ·head, List·Memᴰ·tail, List·Memᴰ·not-nil, Memᴰ·cast}
 use mathlib.Core.List.{Pairwise·nil, Pairwise·of-cons}
 use mathlib.Core.Option.{Option, some}
 use native.Mathlib.Nat.{suc-ne-zero, le-refl, eq-zero-or-pos, mul-div-cancel', mul-one, one-mul, mul-comm, mul-assoc, le-mul-of-pos-right}
-use native.Mathlib.Nat.{le-trans, le-of-eq, div-mul-le-self, lt-of-not-le, pos-of-dvd-of-pos, eq-one-of-dvd-one, dvd-of-mul-dvd-mul-left}
+use native.Mathlib.Nat.{le-trans, le-of-eq, lt-of-not-le, eq-or-lt-of-le, pos-of-dvd-of-pos, eq-one-of-dvd-one, dvd-of-mul-dvd-mul-left}
+use native.Mathlib.Nat.{mul-zero, mul-le-mul, div-zero, div-eq-of-eq-mul-left, div-mul-le-self, le-div-iff-mul-le}
 use native.Mathlib.Decide.{decLe, decDvd}
 use native.Mathlib.Omega.{arith}
 use lib.Dec.{T, not-T}
-use lib.ListN.{length, take, drop, getD, replicate, drop-of-length-le, List·getD-append}
+use lib.ListN.{length, take, drop, getD, replicate, List·getD-append}
 use lib.Seq.{take-append-seam}
-use lib.IntN.{ℤ, pos, negsuc, negℤ, natAbs, _+ℤ_, _*ℤ_, +ℤ-assoc, negℤ-negℤ}
-use lib.Signed.{_<ℤ_, leZ, quotZ, remZ}
+use lib.IntN.{ℤ, pos, negsuc, negℤ, natAbs, _+ℤ_, _*ℤ_, negℤ-negℤ}
+use lib.Signed.{_<ℤ_, leZ, quotZ}
 use mir.Syntax.{w64}
 use mir.Val.{SFits}
 use Rattle.integers.specs.Ranges.{sfits-size}
-use Rattle.algebra.specs.Integers.{ringℤ, natAbs-+ℤ, natAbs-*ℤ, negℤ-unique, negℤ-*ℤ, natAbs-zero, no-zero-divisors}
-use Rattle.algebra.specs.Division.{natAbs-quotZ, quotZ-le, quotZ-exact, remZ-multiple, quotZ-multiple}
+use Rattle.algebra.specs.Integers.{ringℤ, natAbs-negℤ, negℤ-unique, negℤ-*ℤ, natAbs-zero}
+use Rattle.algebra.specs.Division.{quotZ-exact}
 use Rattle.algebra.specs.Order.{<ℤ-to-≤ℤ}
-use Rattle.algebra.specs.Polynomials.{Polynomial, coeff, eval, isZero, lowest, degree, isZeroℤ}
-use Rattle.lists.specs.Tests.{same-test, every}
+use Rattle.algebra.specs.Polynomials.{Polynomial, coeff, eval, isZero, lowest, degree, isZeroℤ, eval-isZero}
+use Rattle.lists.specs.Tests.{same-test, every, dec-T, true-of, false-of}
 use Rattle.algebra.specs.Vanishing.{isZeroℤ-sound, isZeroℤ-complete, roots-at-most-degree, root-divides-lowest}
-use Rattle.algebra.specs.Vanishing.{nonzero-past-lowest}
+use Rattle.algebra.specs.Vanishing.{nonzero-past-lowest, lowest-positive}
 use Rattle.algebra.specs.Coefficients.{degree-isZero, coeff-degree, lowest-place}
 use Rattle.algebra.specs.Roots.{place, roots, ascending-distinct, roots-sound, roots-complete, roots-ascending}
 use Rattle.rules.specs.Limits.{bound, small}
@@ -59,7 +66,7 @@ use Rattle.lists.specs.Places.{getD-member}
 use Rattle.roots.specs.Ascending.{Ascending, insert, insert-nil, first-below, ascending-unique, insert-longer}
 use Rattle.roots.specs.Ascending.{insert-new}
 use Rattle.roots.specs.Ascending.{insert-old, insert-only, insert-ascending}
-use Rattle.roots.specs.Bound.{RootsBelow, degree-inside, top-positive, eval-top}
+use Rattle.roots.specs.Bound.{Top, RootsBelow, NoneBetween, degree-inside, top-degree, top-positive, eval-top}
 use Rattle.roots.specs.Factors.{product, product-cons, product-positive, Simple, AllSimple, Factored, Run, simple-coprime}
 use Rattle.roots.specs.Factors.{run-divides}
 use Rattle.roots.specs.declared.RootList.{RootList}
@@ -96,31 +103,16 @@ answered o = record { found = rootFound o; root = rootValue o }
 
 -- ---- the root test
 
-isZeroℤ-same : (a b : ℤ) → (a ≡ pos 0 → b ≡ pos 0) → (b ≡ pos 0 → a ≡ pos 0) → isZeroℤ a ≡ isZeroℤ b
-isZeroℤ-same a b f g =
-    same-test (isZeroℤ a) (isZeroℤ b)
-    (λ t. isZeroℤ-complete b (f (isZeroℤ-sound a t)))
-    (λ t. isZeroℤ-complete a (g (isZeroℤ-sound b t)))
+-- The lowest coefficient is small as the others are.
+pub lowest-small : (p : Polynomial) → T (not (isZero p)) → T (every small p) → natAbs (lowest p) ≤ bound
+unfolding coeff
+lowest-small p n t = let (k, e, _) = lowest-place p n in rw (← e) (small-at p t k)
 
--- b + r e is not 0 where r does not divide b ..
-pub test-fails : (b r e : ℤ) → remZ b r ≢ pos 0 → isZeroℤ (b +ℤ r *ℤ e) ≡ false
-test-fails b r e n =
-    same-test (isZeroℤ (b +ℤ r *ℤ e)) false (λ t. n (multiple (isZeroℤ-sound (b +ℤ r *ℤ e) t))) (λ t. absurd t)
-  where
-    multiple : b +ℤ r *ℤ e ≡ pos 0 → remZ b r ≡ pos 0
-    multiple h =
-        let b-is : b ≡ negℤ e *ℤ r = negℤ-unique b (r *ℤ e) h ∙ simp ringℤ in
-        ap (λ x. remZ x r) b-is ∙ remZ-multiple (negℤ e) r
-
--- .. and otherwise exactly if b / r + e is.
-pub test-steps : (b r e : ℤ) → r ≢ pos 0 → remZ b r ≡ pos 0 → isZeroℤ (b +ℤ r *ℤ e) ≡ isZeroℤ (quotZ b r +ℤ e)
-test-steps b r e n h =
-    isZeroℤ-same (b +ℤ r *ℤ e) (quotZ b r +ℤ e)
-    (λ z. ⊎-elim (λ k. absurd (n k)) (λ k. k) (no-zero-divisors r (quotZ b r +ℤ e) (sym factored ∙ z)))
-    (λ z. factored ∙ ap (λ x. r *ℤ x) z ∙ simp ringℤ)
-  where
-    factored : b +ℤ r *ℤ e ≡ r *ℤ (quotZ b r +ℤ e)
-    factored = ap (λ x. x +ℤ r *ℤ e) (sym (quotZ-multiple b r h)) ∙ simp ringℤ
+pub roots-small : (p : Polynomial) → T (not (isZero p)) → T (every small p) → RootsBelow p (bound + 1)
+roots-small p n t z root =
+    by-cases (decLe (natAbs z) (natAbs (lowest p)))
+    (λ h. omega (arith, lowest-small p n t))
+    (λ h. absurd (nonzero-past-lowest p z n (lt-of-not-le h) root))
 
 -- The zero polynomial with no coefficient, and the root 0.
 pub eval-empty : (p : Polynomial) (r : ℤ) → length p ≡ 0 → eval p r ≡ pos 0
@@ -137,45 +129,14 @@ eval-at-zero (a ∷ p) = simp ringℤ
 pub fits-small : (l : List ℤ) (i : ℕ) → T (every small l) → SFits w64 (getD l i (pos 0))
 fits-small l i t = sfits-size (getD l i (pos 0)) (small-at l t i) (omega arith)
 
--- The chain b(0) = a(0), b(k + 1) = b(k) / r + a(k + 1) after i coefficients: p vanishes at r exactly if b + r q(r) is 0, q being
--- the polynomial of the other coefficients; and b stays small.
-pub record Chain (p : Polynomial) (r : ℤ) (i : ℕ) (b : ℤ) : Type 0 where
-  pub within : (0 < i) × (i ≤ length p)
-  pub size : natAbs b ≤ i * bound
-  pub test : isZeroℤ (eval p r) ≡ isZeroℤ (b +ℤ r *ℤ eval (drop i p) r)
-
-pub chain-start : (p : Polynomial) (r : ℤ) → 0 < length p → T (every small p) → Chain p r 1 (getD p 0 (pos 0))
-unfolding eval
-chain-start [] r h t = absurd (omega arith)
-chain-start (a ∷ p) r h t = record { within = omega arith; size = omega (arith, small-at (a ∷ p) t 0); test = refl }
-
-module _ {p : Polynomial} {r : ℤ} {i : ℕ} {b : ℤ} (c : Chain p r i b) where
-  -- The product of quotient and divisor is no larger than b.
-  pub product-size : natAbs (quotZ b r *ℤ r) ≤ natAbs b
-  product-size =
-      le-trans (le-of-eq (natAbs-*ℤ (quotZ b r) r ∙ ap (λ n. n * natAbs r) (natAbs-quotZ b r))) (div-mul-le-self (natAbs b) (natAbs r))
-
-  pub chain-fails : quotZ b r *ℤ r ≢ b → isZeroℤ (eval p r) ≡ false
-  chain-fails n = c .test ∙ test-fails b r (eval (drop i p) r) (λ z. n (quotZ-multiple b r z))
-
-  pub chain-next : T (every small p) → i < length p → r ≢ pos 0 → quotZ b r *ℤ r ≡ b
-      → Chain p r (i + 1) (quotZ b r +ℤ getD p i (pos 0))
-  unfolding eval
-  chain-next t h n z =
-      record { within = omega (arith, c .within); size = sizes; test = c .test ∙ test-steps b r _ n exact ∙ ap isZeroℤ rest }
-    where
-      exact : remZ b r ≡ pos 0
-      exact = ap (λ x. remZ x r) (sym z) ∙ remZ-multiple (quotZ b r) r
-
-      sizes : natAbs (quotZ b r +ℤ getD p i (pos 0)) ≤ (i + 1) * bound
-      sizes = omega (arith, natAbs-+ℤ (quotZ b r) (getD p i (pos 0)), quotZ-le b r, small-at p t i, c .size)
-
-      rest : quotZ b r +ℤ eval (drop i p) r ≡ quotZ b r +ℤ getD p i (pos 0) +ℤ r *ℤ eval (drop (i + 1) p) r
-      rest = rw (drop-next p i (pos 0) h) (sym (+ℤ-assoc (quotZ b r) (getD p i (pos 0)) (r *ℤ eval (drop (i + 1) p) r)))
-
-  pub chain-ends : length p ≤ i → isZeroℤ (eval p r) ≡ isZeroℤ b
-  unfolding eval
-  chain-ends h = c .test ∙ ap isZeroℤ (rw (drop-of-length-le p h) (simp ringℤ))
+-- Past C only the zero polynomial vanishes.
+pub vanishes-past : (p : Polynomial) (r : ℤ) → T (every small p) → bound < natAbs r → isZero p ≡ isZeroℤ (eval p r)
+vanishes-past p r t h =
+    same-test (isZero p) (isZeroℤ (eval p r)) (λ z. isZeroℤ-complete (eval p r) (eval-isZero p r z))
+    (λ z. by-cases (dec-T (isZero p)) (λ k. k) (λ k. absurd (far k (isZeroℤ-sound (eval p r) z))))
+  where
+    far : (T (isZero p) → ⊥) → eval p r ≡ pos 0 → ⊥
+    far k root = omega (arith, roots-small p (not-T (isZero p) k) t r root)
 
 -- ---- a tried candidate
 
@@ -222,6 +183,15 @@ pub tryBoth-twice : (p : Polynomial) (d : ℕ) (l : List ℤ) → tryBoth p d l 
 unfolding tryBoth
 tryBoth-twice p d l = refl
 
+-- Where no root reaches n, nothing from n on is listed.
+pub tryBoth-past : (p : Polynomial) (n d : ℕ) (l : List ℤ) → RootsBelow p n → n ≤ d → tryBoth p d l ≡ l
+tryBoth-past p n d l below h =
+    tryBoth-twice p d l ∙ tryRoot-no p (negℤ (pos d)) (tryRoot p (pos d) l) (none (negℤ (pos d)) (natAbs-negℤ (pos d)))
+    ∙ tryRoot-no p (pos d) l (none (pos d) refl)
+  where
+    none : (z : ℤ) → natAbs z ≡ d → isZeroℤ (eval p z) ≡ false
+    none z e = false-of (isZeroℤ (eval p z)) (λ t. omega (arith, below z (isZeroℤ-sound (eval p z) t)))
+
 -- ---- the search
 
 -- The list l holds, ascending, only roots of p, and every root of p with the property P.
@@ -251,7 +221,7 @@ module _ {p : Polynomial} where
       other : eval p r ≢ pos 0 → Found p (λ z. (z ≡ r) ⊎ P z) l
       other n = found-more (λ z e. ⊎-elim (λ i. absurd (n (ap (eval p) (sym i) ∙ e))) (λ h. h)) c
 
-  found-both : {P : ℤ → Type 0} (d : ℕ) (l : List ℤ) → Found p P l → Found p (λ z. (natAbs z ≡ d) ⊎ P z) (tryBoth p d l)
+  pub found-both : {P : ℤ → Type 0} (d : ℕ) (l : List ℤ) → Found p P l → Found p (λ z. (natAbs z ≡ d) ⊎ P z) (tryBoth p d l)
   found-both {P} d l c = rw (tryBoth-twice p d l) (found-more signs (found-root (negℤ (pos d)) _ (found-root (pos d) l c)))
     where
       signs : (z : ℤ) → eval p z ≡ pos 0 → (natAbs z ≡ d) ⊎ P z → (z ≡ negℤ (pos d)) ⊎ (z ≡ pos d) ⊎ P z
@@ -274,23 +244,12 @@ module _ (p : Polynomial) (nonzero : T (not (isZero p))) where
       (λ z m. place (roots p) (roots-complete p z nonzero (c .sound z m)))
       (λ z m. let e = roots-sound p (∣ m ∣₁) in c .complete z e (h z e))
 
--- The lowest coefficient is small as the others are.
-pub lowest-small : (p : Polynomial) → T (not (isZero p)) → T (every small p) → natAbs (lowest p) ≤ bound
-unfolding coeff
-lowest-small p n t = let (k, e, _) = lowest-place p n in rw (← e) (small-at p t k)
-
-pub roots-small : (p : Polynomial) → T (not (isZero p)) → T (every small p) → RootsBelow p (bound + 1)
-roots-small p n t z root =
-    by-cases (decLe (natAbs z) (natAbs (lowest p)))
-    (λ h. omega (arith, lowest-small p n t))
-    (λ h. absurd (nonzero-past-lowest p z n (lt-of-not-le h) root))
-
 -- The array f holds a list, and that list, ascending, only roots of p, among them every root with the property P.
 pub record Holds (p : Polynomial) (P : ℤ → Type 0) (f : RootList) : Type 0 where
   pub exact : f ≡ listed (held f)
   pub found : Found p P (held f)
 
-holds-list : {f : RootList} (l : List ℤ) {p : Polynomial} {P : ℤ → Type 0} → f ≡ listed l → Found p P l → Holds p P f
+pub holds-list : {f : RootList} (l : List ℤ) {p : Polynomial} {P : ℤ → Type 0} → f ≡ listed l → Found p P l → Holds p P f
 holds-list l e c = record { exact = listed-held l e; found = rw (held-of l e) c }
 
 abbrev pub OnlyRoots : Polynomial → RootList → Type 0
@@ -391,6 +350,119 @@ all-tried p nonzero {n} {l} {f} below factored first tried = tried .holds .exact
         inl (below z e, natAbs z, sym (one-mul (natAbs z)), subst (λ a. natAbs z ∣ a) (sym (factored .whole)) divides))
         (eq-zero-or-pos (natAbs z))
 
+-- ---- divisors in pairs
+
+-- d and -d are no roots.
+pub none-of : (p : Polynomial) (d : ℕ) → isZeroℤ (eval p (pos d)) ≡ false → isZeroℤ (eval p (negℤ (pos d))) ≡ false
+    → (z : ℤ) → eval p z ≡ pos 0 → natAbs z ≢ d
+none-of p d plus minus (pos n) root e =
+    true≢false (sym (true-of _ (isZeroℤ-complete (eval p (pos n)) root)) ∙ ap (λ k. isZeroℤ (eval p (pos k))) e ∙ plus)
+none-of p d plus minus (negsuc n) root e =
+    true≢false (sym (true-of _ (isZeroℤ-complete (eval p (negsuc n)) root)) ∙ ap (λ k. isZeroℤ (eval p (negℤ (pos k)))) e ∙ minus)
+
+-- The integers of size below d, and those whose cofactor in a is below d.
+abbrev pub Passed : ℕ → ℕ → ℤ → Type 0
+Passed a d z = (natAbs z < d) ⊎ (a / natAbs z < d)
+
+abbrev pub Paired : Polynomial → ℕ → ℕ → Type 0
+Paired p a d = (z : ℤ) → eval p z ≡ pos 0 → Passed a d z
+
+-- No root of p is d in size.
+abbrev pub NoneOf : Polynomial → ℕ → Type 0
+NoneOf p d = (z : ℤ) → eval p z ≡ pos 0 → natAbs z ≢ d
+
+-- From d to e no root of p is passed.
+abbrev pub NothingNew : Polynomial → ℕ → ℕ → ℕ → Type 0
+NothingNew p a d e = (z : ℤ) → eval p z ≡ pos 0 → Passed a e z → Passed a d z
+
+-- A root past a gap has a cofactor of at most a / high.
+pub gap-paired : (p : Polynomial) (a low k high d : ℕ) → NoneBetween p low k → NoneBetween p k high → 0 < high → low ≤ d
+    → a / high < d → Paired p a d
+gap-paired p a low k high d first second positive small-low small-high z root =
+    by-cases (decLe low (natAbs z)) (λ h. by-cases (decLe k (natAbs z)) above (λ i. absurd (first z root h (lt-of-not-le i))))
+    (λ h. inl (omega (arith, lt-of-not-le h)))
+  where
+    cofactor : high ≤ natAbs z → a / natAbs z ≤ a / high
+    cofactor j = le-div-iff-mul-le positive .1 (le-trans (mul-le-mul (le-refl (a / natAbs z)) j) (div-mul-le-self a (natAbs z)))
+
+    above : k ≤ natAbs z → Passed a d z
+    above i =
+        by-cases (decLe high (natAbs z)) (λ j. inr (omega (arith, cofactor j)))
+        (λ j. absurd (second z root i (lt-of-not-le j)))
+
+pub found-new : {p : Polynomial} {f : RootList} (a d e : ℕ) → NothingNew p a d e → Holds p (Passed a d) f → Holds p (Passed a e) f
+found-new a d e new h = holds-more new h
+
+-- One more d: those of size d, and those with the cofactor d.
+passed-next : (a d : ℕ) (z : ℤ) → Passed a (d + 1) z → ((natAbs z ≡ d) ⊎ (a / natAbs z ≡ d)) ⊎ Passed a d z
+passed-next a d z (inl h) = ⊎-elim (λ k. inl (inl k)) (λ k. inr (inl k)) (eq-or-lt-of-le (omega arith))
+passed-next a d z (inr h) = ⊎-elim (λ k. inl (inr k)) (λ k. inr (inr k)) (eq-or-lt-of-le (omega arith))
+
+-- The size a of the lowest coefficient of a nonzero polynomial.
+module _ (p : Polynomial) (nonzero : T (not (isZero p))) (a : ℕ) (lowest-size : a ≡ natAbs (lowest p)) where
+  -- A nonzero root times its cofactor is, in size, the lowest coefficient; the root 0 has the cofactor 0.
+  module _ (z : ℤ) (root : eval p z ≡ pos 0) where
+    divides : 0 < natAbs z → natAbs z * (a / natAbs z) ≡ a
+    divides h = rw lowest-size (mul-div-cancel' (natAbs z) (root-divides-lowest p z nonzero (λ i. omega (arith, ap natAbs i)) root))
+
+    positive-root : 0 < a / natAbs z → 0 < natAbs z
+    positive-root h =
+        ⊎-elim (λ e. absurd (omega (arith, ap (λ n. a / n) e, div-zero a))) (λ k. k) (eq-zero-or-pos (natAbs z))
+
+    cofactor-of-cofactor : (d : ℕ) → 0 < d → a / natAbs z ≡ d → natAbs z ≡ a / d
+    cofactor-of-cofactor d h e =
+        sym (div-eq-of-eq-mul-left h (sym (divides (positive-root (omega arith))) ∙ ap (λ k. natAbs z * k) e))
+
+    exact : (d : ℕ) → 0 < d → (natAbs z ≡ d) ⊎ (a / natAbs z ≡ d) → a / d * d ≡ a
+    exact d h (inl e) = subst (λ k. a / k * k ≡ a) e (mul-comm (a / natAbs z) (natAbs z) ∙ divides (omega arith))
+    exact d h (inr e) =
+        ap (λ k. k * d) (sym (cofactor-of-cofactor d h e)) ∙ ap (λ k. natAbs z * k) (sym e)
+        ∙ divides (positive-root (omega arith))
+
+    passed-start : Passed a 1 z → (z ≡ pos 0) ⊎ ⊥
+    passed-start h = ⊎-elim (λ e. inl (natAbs-zero e)) (λ k. inr (⊎-elim (λ m. omega arith) (large k) h)) (eq-zero-or-pos (natAbs z))
+      where
+        large : 0 < natAbs z → a / natAbs z < 1 → ⊥
+        large k m =
+            let none : a / natAbs z ≡ 0 = omega arith in
+            omega (arith, lowest-size, lowest-positive p nonzero, divides k, ap (λ q. natAbs z * q) none, mul-zero (natAbs z))
+
+    -- Of a root and its cofactor one is at most the square root.
+    passed-end : (d : ℕ) → 0 < d → a / d < d → Passed a d z
+    passed-end d positive h = by-cases (decLe d (natAbs z)) (λ k. inr (lt-of-not-le (λ m. large k m))) (λ n. inl (lt-of-not-le n))
+      where
+        large : d ≤ natAbs z → d ≤ a / natAbs z → ⊥
+        large k m = omega (arith, le-div-iff-mul-le positive .1 (le-trans (mul-le-mul k m) (le-of-eq (divides (omega arith)))))
+
+  pub pairs-start : Found p (Passed a 1) (tryRoot p (pos 0) [])
+  pairs-start = found-more passed-start (found-root (pos 0) [] found-none)
+
+  pub pairs-divisor : (d : ℕ) (l : List ℤ) → 0 < d → Found p (Passed a d) l
+      → Found p (Passed a (d + 1)) (tryBoth p (a / d) (tryBoth p d l))
+  pairs-divisor d l positive c = found-more (λ z e h. step z e (passed-next a d z h)) (found-both (a / d) _ (found-both d l c))
+    where
+      step : (z : ℤ) → eval p z ≡ pos 0 → ((natAbs z ≡ d) ⊎ (a / natAbs z ≡ d)) ⊎ Passed a d z
+          → (natAbs z ≡ a / d) ⊎ (natAbs z ≡ d) ⊎ Passed a d z
+      step z e (inl (inl h)) = inr (inl h)
+      step z e (inl (inr h)) = inl (cofactor-of-cofactor z e d positive h)
+      step z e (inr h) = inr (inr h)
+
+  -- Where d does not divide a, and where neither d nor a / d is a root in size.
+  pub pairs-other : (d : ℕ) → 0 < d → a / d * d ≢ a → NothingNew p a d (d + 1)
+  pairs-other d positive n z e h = ⊎-elim (λ k. absurd (n (exact z e d positive k))) (λ k. k) (passed-next a d z h)
+
+  pub pairs-none : (d : ℕ) → 0 < d → NoneOf p d → NoneOf p (a / d) → NothingNew p a d (d + 1)
+  pairs-none d positive n m z e h =
+      ⊎-elim (λ k. absurd (⊎-elim (n z e) (λ i. m z e (cofactor-of-cofactor z e d positive i)) k)) (λ k. k) (passed-next a d z h)
+
+  -- The end at the square root, and where every root or its cofactor was passed.
+  pub pairs-end : (d : ℕ) (l : List ℤ) → 0 < d → a / d < d → Found p (Passed a d) l → l ≡ roots p
+  pairs-end d l positive h c = found-all p nonzero c (λ z e. passed-end z e d positive h)
+
+  pub pairs-few : (n d : ℕ) (l : List ℤ) → Paired p a n → n ≤ d → Found p (Passed a d) l → l ≡ roots p
+  pairs-few n d l paired h c =
+      found-all p nonzero c (λ z e. ⊎-elim (λ k. inl (omega arith)) (λ k. inr (omega arith)) (paired z e))
+
 -- ---- degree 1
 
 pub nonconstant-nonzero : (p : Polynomial) → degree p ≢ 0 → T (not (isZero p))
@@ -399,6 +471,9 @@ nonconstant-nonzero p h = not-T (isZero p) (λ z. h (degree-isZero p z))
 module _ (p : Polynomial) (linear : degree p ≡ 1) where
   linear-nonzero : T (not (isZero p))
   linear-nonzero = nonconstant-nonzero p (λ e. omega (arith, linear))
+
+  pub linear-top : Top p 1
+  linear-top = subst (Top p) linear (top-degree p linear-nonzero)
 
   pub linear-length : 1 < length p
   linear-length = omega (arith, linear, degree-inside p linear-nonzero)

@@ -1,10 +1,11 @@
 // Root test, root search, largest and smallest root.
 ghost use mathlib.Core.Path.{_≡_};
-ghost use mathlib.Core.Bool.{true, not};
+ghost use mathlib.Core.Logic.{_⊎_};
+ghost use mathlib.Core.Bool.{true, false, not};
 ghost use mathlib.Core.List.{[], _∷_, _++_};
 ghost use Prim.Native.Nat.{_+_, _≤_, _<_};
 ghost use lib.Dec.{T};
-ghost use lib.IntN.{natAbs};
+ghost use lib.IntN.{pos, natAbs};
 ghost use lib.ListN.{length, getD, drop};
 ghost use Rattle.algebra.specs.Polynomials as Polynomials;
 ghost use Rattle.algebra.specs.Roots as Roots;
@@ -12,9 +13,18 @@ ghost use Rattle.rules.specs.Limits.{bound, small};
 ghost use Rattle.lists.specs.Tests.{every};
 ghost use Rattle.rules.specs.Elimination.{leading, trailing, furthest};
 ghost use Rattle.roots.specs.Ascending.{insert};
-ghost use Rattle.roots.specs.Bound.{RootsBelow};
+ghost use Rattle.roots.specs.Bound.{Top, RootsBelow, NoneBetween};
 ghost use Rattle.roots.specs.Factors.{Gap, Factored, Run, Remaining};
-ghost use Rattle.roots.specs.RootSearch.{tryRoot, tryBoth, held, listed, factorsOf, Sized, answered, OnlyRoots, Tried};
+ghost use Rattle.roots.specs.RootSearch.{tryRoot, tryBoth, held, listed, factorsOf, Sized, answered, OnlyRoots, Tried, Paired, NoneOf, NothingNew};
+
+// 16 times 2^28, which is past 16 times C.
+const LARGE: u64 = 4_294_967_296;
+// 2^28, the first size past C: no coefficient and no root has it.
+const PAST: u32 = 268_435_456;
+// 2^14, whose square is 2^28.
+const MIDDLE: u32 = 16_384;
+// So many divisors at most are tried one by one.
+const FEW: u32 = 256;
 
 // The integer roots of a polynomial, ascending: the first `count` of `values`; the others are 0.
 pub struct RootList {
@@ -31,22 +41,22 @@ fn no_roots() -> RootList
     }
 }
 
-// Without large numbers: a0 + r·q = 0 exactly if r divides a0 and a0/r + q = 0.
-fn vanishes(p: &[i64], r: i64) -> bool
-    requires { ⌜ (0 < length (now p)) × (length (now p) ≤ 16) × T (every small (now p)) × (0 < natAbs r) ⌝ }
+// Horner's rule from the coefficient at `top`, past which there is none. A value past 2^32 never comes back to 0: where r is 2 or more
+// in size it grows from there on, and otherwise 16 coefficients have no value so large.
+fn vanishes(p: &[i64], top: usize, r: i64) -> bool
+    requires { ⌜ (length (now p) ≤ 16) × T (every small (now p)) × Top (now p) top × (natAbs r ≤ bound) ⌝ }
     ensures { λ b. ⌜ b ≡ Polynomials.isZeroℤ (Polynomials.eval (now (p .entry)) r) ⌝ }
 {
-    let mut b = p[0];
-    let mut i = 1;
-    while i < p.len() {
-        let quotient = b / r;
-        if quotient * r != b {
+    let mut i = top;
+    let mut value = p[i];
+    while 0 < i {
+        i -= 1;
+        value = value * r + p[i];
+        if LARGE < integers::magnitude(value) {
             return false;
         }
-        b = quotient + p[i];
-        i += 1;
     }
-    b == 0
+    value == 0
 }
 
 pub fn is_root(p: &[i64], r: i64) -> bool
@@ -55,10 +65,10 @@ pub fn is_root(p: &[i64], r: i64) -> bool
 {
     if p.len() == 0 {
         true
-    } else if r == 0 {
-        p[0] == 0
+    } else if integers::within_bound(r) {
+        vanishes(p, p.len() - 1, r)
     } else {
-        vanishes(p, r)
+        polynomials::content::all_zero(p)
     }
 }
 
@@ -93,70 +103,139 @@ fn inserted(found: RootList, r: i64) -> RootList
 }
 
 // r is listed where p vanishes at r.
-fn tried(p: &[i64], r: i64, found: RootList) -> RootList
-    requires { ⌜ (length (now p) ≤ 16) × T (every small (now p)) × (found ≡ listed (held found))
-        × (length (tryRoot (now p) r (held found)) ≤ 16) ⌝ }
+fn tried(p: &[i64], top: usize, r: i64, found: RootList) -> RootList
+    requires { ⌜ (length (now p) ≤ 16) × T (every small (now p)) × Top (now p) top × (natAbs r ≤ bound)
+        × (found ≡ listed (held found)) × (length (tryRoot (now p) r (held found)) ≤ 16) ⌝ }
     ensures { λ l. ⌜ l ≡ listed (tryRoot (now (p .entry)) r (held found)) ⌝ }
 {
-    if is_root(p, r) {
+    if vanishes(p, top, r) {
         inserted(found, r)
     } else {
         found
     }
 }
 
-fn tried_first(p: &[i64], r: i64) -> RootList
-    requires { ⌜ (length (now p) ≤ 16) × T (every small (now p)) ⌝ }
-    ensures { λ l. ⌜ l ≡ listed (tryRoot (now (p .entry)) r []) ⌝ }
+// 0 is a root where the first coefficient is 0.
+fn tried_zero(p: &[i64]) -> RootList
+    requires { ⌜ (0 < length (now p)) × T (every small (now p)) ⌝ }
+    ensures { λ l. ⌜ l ≡ listed (tryRoot (now (p .entry)) (pos 0) []) ⌝ }
 {
-    tried(p, r, no_roots())
+    if p[0] == 0 {
+        RootList {
+            count: 1,
+            values: [0; 16],
+        }
+    } else {
+        no_roots()
+    }
 }
 
 // d and -d are tried.
-fn tried_both(p: &[i64], d: u32, found: RootList) -> RootList
-    requires { ⌜ (length (now p) ≤ 16) × T (every small (now p)) × (found ≡ listed (held found))
-        × (length (tryBoth (now p) d (held found)) ≤ 16) ⌝ }
+fn tried_both(p: &[i64], top: usize, d: u32, found: RootList) -> RootList
+    requires { ⌜ (length (now p) ≤ 16) × T (every small (now p)) × Top (now p) top × (d ≤ bound)
+        × (found ≡ listed (held found)) × (length (tryBoth (now p) d (held found)) ≤ 16) ⌝ }
     ensures { λ l. ⌜ l ≡ listed (tryBoth (now (p .entry)) d (held found)) ⌝ }
 {
     let r = d as i64;
     let opposite = -r;
-    tried(p, opposite, tried(p, r, found))
+    tried(p, top, opposite, tried(p, top, r, found))
+}
+
+// The same, where no root reaches the limit.
+fn tried_below(p: &[i64], top: usize, d: u32, limit: u32, found: RootList) -> RootList
+    requires { ⌜ (length (now p) ≤ 16) × T (every small (now p)) × Top (now p) top × (d ≤ bound) × RootsBelow (now p) limit
+        × (found ≡ listed (held found)) × (length (tryBoth (now p) d (held found)) ≤ 16) ⌝ }
+    ensures { λ l. ⌜ l ≡ listed (tryBoth (now (p .entry)) d (held found)) ⌝ }
+{
+    if d < limit {
+        tried_both(p, top, d, found)
+    } else {
+        found
+    }
 }
 
 fn capped(n: u64) -> u64
-    ensures { λ r. ⌜ (r ≤ n) × (r ≤ 268435456) × (0 < n → 0 < r) ⌝ }
+    ensures { λ r. ⌜ (r ≤ 268435456) × (r < 268435456 → r ≡ n) ⌝ }
 {
     if n < 268435456 { n } else { 268435456 }
 }
 
-// Is p known not to vanish at any integer of size r or more? Horner's rule on sizes: `least` is at most the size of the
-// value of the coefficients from i on, and 2^28 stands for more.
-fn stays_positive(p: &[i64], r: u64) -> bool
-    requires { ⌜ T (every small (now p)) × T (not (Polynomials.isZero (now p))) × (r ≤ 268435456) ⌝ }
-    ensures { λ b. ⌜ (b ≡ true → RootsBelow (now (p .entry)) r) ⌝ }
+// How far, at least, a number of size `low` to `high` and one of the given size are from cancelling out.
+fn distance(low: u64, high: u64, size: u64) -> u64
+    ensures { λ r. ⌜ (r + size ≤ low) ⊎ (r + high ≤ size) ⊎ (r ≡ 0) ⌝ }
 {
-    let mut i = polynomials::content::degree(p);
-    let mut least = integers::magnitude(p[i]);
-    while 0 < i {
-        i -= 1;
-        let size = integers::magnitude(p[i]);
-        let grown = least * r;
-        if grown <= size {
-            return false;
-        }
-        least = capped(grown - size);
+    if size < low {
+        low - size
+    } else if high < size {
+        size - high
+    } else {
+        0
     }
-    true
 }
 
-// A power of 2 that every root is smaller than in size. None is larger than the lowest nonzero coefficient, which it divides.
-fn bound_of_roots(p: &[i64]) -> u32
-    requires { ⌜ T (every small (now p)) × T (not (Polynomials.isZero (now p))) ⌝ }
+// Is p known not to vanish at any integer of size n to m - 1? Horner's rule on ranges: the value of the coefficients from i on has a
+// size from `least` to `most`, and 2^28 stands for more. Once it is past C it grows from there on.
+fn none_between(p: &[i64], top: usize, n: u64, m: u64) -> bool
+    requires { ⌜ T (every small (now p)) × Top (now p) top × (2 ≤ n) × (n ≤ 268435456) × (0 < m) × (m ≤ 268435456) ⌝ }
+    ensures { λ b. ⌜ (b ≡ true → NoneBetween (now (p .entry)) n m) ⌝ }
+{
+    let mut i = top;
+    let mut least = integers::magnitude(p[i]);
+    let mut most = least;
+    while 0 < i {
+        if 268435456 <= least {
+            return true;
+        }
+        i -= 1;
+        let size = integers::magnitude(p[i]);
+        let high = most * m;
+        least = distance(least * n, high, size);
+        if least == 0 {
+            return false;
+        }
+        most = capped(high + size);
+    }
+    0 < least
+}
+
+// The smallest power of 2 from which on, up to 2^14, the sizes are known to be free of roots, or one past `FEW`.
+fn low_end(p: &[i64], top: usize) -> u32
+    requires { ⌜ T (every small (now p)) × Top (now p) top ⌝ }
+    ensures { λ r. ⌜ (2 ≤ r) × (r ≤ 256 → NoneBetween (now (p .entry)) r 16384) ⌝ }
+{
+    let mut n: u32 = 2;
+    while n <= FEW {
+        if none_between(p, top, n as u64, MIDDLE as u64) {
+            return n;
+        }
+        n = n * 2;
+    }
+    n
+}
+
+// The largest power of 2 up to 2^28 below which, from 2^14 on, the sizes are known to be free of roots.
+fn high_end(p: &[i64], top: usize) -> u32
+    requires { ⌜ T (every small (now p)) × Top (now p) top ⌝ }
+    ensures { λ r. ⌜ (0 < r) × NoneBetween (now (p .entry)) 16384 r ⌝ }
+{
+    let mut m = PAST;
+    while MIDDLE < m {
+        if none_between(p, top, MIDDLE as u64, m as u64) {
+            return m;
+        }
+        m = m / 2;
+    }
+    m
+}
+
+// A power of 2 times `from` that every root is smaller than in size. None is larger than C.
+fn bound_of_roots(p: &[i64], top: usize, from: u32) -> u32
+    requires { ⌜ T (every small (now p)) × Top (now p) top × T (not (Polynomials.isZero (now p))) × (2 ≤ from) ⌝ }
     ensures { λ r. ⌜ RootsBelow (now (p .entry)) r ⌝ }
 {
-    let mut r = 1;
-    while r < 268435456 {
-        if stays_positive(p, r as u64) {
+    let mut r = from;
+    while r < PAST {
+        if none_between(p, top, r as u64, PAST as u64) {
             return r;
         }
         r = r * 2;
@@ -242,40 +321,141 @@ fn after_run(factors: &[u32], from: usize) -> usize
 // and those without it and the ones equal to it.
 fn tried_products(
     p: &[i64],
+    top: usize,
     limit: u32,
     factors: &[u32],
     i: usize,
     d: u32,
     found: RootList,
 ) -> RootList
-    requires { ⌜ (length (now p) ≤ 16) × T (every small (now p)) × T (not (Polynomials.isZero (now p))) × OnlyRoots (now p) found
-        × (i ≤ length (now factors)) × Remaining limit d (drop i (now factors)) ⌝ }
+    requires { ⌜ (length (now p) ≤ 16) × T (every small (now p)) × Top (now p) top × T (not (Polynomials.isZero (now p)))
+        × OnlyRoots (now p) found × (i ≤ length (now factors)) × Remaining limit d (drop i (now factors)) ⌝ }
     ensures { λ l. ⌜ Tried (now (p .entry)) limit d (drop i (now (factors .entry))) found l ⌝ }
 {
     if i == factors.len() {
-        return tried_both(p, d, found);
+        return tried_both(p, top, d, found);
     }
     let larger = d * factors[i];
     let next = after_run(factors, i);
     if larger < limit {
-        let more = tried_products(p, limit, factors, i + 1, larger, found);
-        tried_products(p, limit, factors, next, d, more)
+        let more = tried_products(p, top, limit, factors, i + 1, larger, found);
+        tried_products(p, top, limit, factors, next, d, more)
     } else {
-        tried_products(p, limit, factors, next, d, found)
+        tried_products(p, top, limit, factors, next, d, found)
     }
 }
 
-// The candidates are 0 and, with both signs, the divisors of the size a of the lowest nonzero coefficient.
-fn searched(p: &[i64], a: u32) -> RootList
-    requires { ⌜ (length (now p) ≤ 16) × T (every small (now p)) × T (not (Polynomials.isZero (now p)))
-        × (a ≡ natAbs (Polynomials.lowest (now p))) ⌝ }
+// The candidates are 0 and, with both signs, the products of the factors of a that are below the limit.
+fn by_factors(p: &[i64], top: usize, a: u32, limit: u32) -> RootList
+    requires { ⌜ (length (now p) ≤ 16) × T (every small (now p)) × Top (now p) top × T (not (Polynomials.isZero (now p)))
+        × (a ≡ natAbs (Polynomials.lowest (now p))) × RootsBelow (now p) limit ⌝ }
     ensures { λ l. ⌜ l ≡ listed (Roots.roots (now (p .entry))) ⌝ }
 {
-    let limit = bound_of_roots(p);
     let list = factors(a, limit);
     let n = list.count;
     let values = list.values;
-    tried_products(p, limit, &values[..n], 0, 1, tried_first(p, 0))
+    tried_products(p, top, limit, &values[..n], 0, 1, tried_zero(p))
+}
+
+// Is one of d and -d a root?
+fn either(p: &[i64], top: usize, d: u32) -> bool
+    requires { ⌜ (length (now p) ≤ 16) × T (every small (now p)) × Top (now p) top × (d ≤ bound) ⌝ }
+    ensures { λ b. ⌜ (b ≡ false → NoneOf (now (p .entry)) d) ⌝ }
+{
+    let r = d as i64;
+    if vanishes(p, top, r) {
+        true
+    } else {
+        vanishes(p, top, -r)
+    }
+}
+
+// Is a root d or a/d in size? No root reaches the limit.
+fn has_root(p: &[i64], top: usize, a: u32, d: u32, limit: u32) -> bool
+    requires { ⌜ (length (now p) ≤ 16) × T (every small (now p)) × Top (now p) top × T (not (Polynomials.isZero (now p)))
+        × (a ≡ natAbs (Polynomials.lowest (now p))) × RootsBelow (now p) limit × (0 < d) × (d ≤ bound) ⌝ }
+    ensures { λ b. ⌜ (b ≡ false → NothingNew (now (p .entry)) a d (d + 1)) ⌝ }
+{
+    let quotient = a / d;
+    if quotient * d != a {
+        return false;
+    }
+    if either(p, top, d) {
+        return true;
+    }
+    if quotient < limit {
+        either(p, top, quotient)
+    } else {
+        false
+    }
+}
+
+// The first d from `from` on for which d or a/d is a root in size, if it comes before the square root and before `few`.
+fn next_pair(p: &[i64], top: usize, a: u32, from: u32, few: u32, limit: u32) -> u32
+    requires { ⌜ (length (now p) ≤ 16) × T (every small (now p)) × Top (now p) top × T (not (Polynomials.isZero (now p)))
+        × (a ≡ natAbs (Polynomials.lowest (now p))) × RootsBelow (now p) limit × (0 < from) ⌝ }
+    ensures { λ r. ⌜ (from ≤ r) × NothingNew (now (p .entry)) a from r ⌝ }
+{
+    let mut d = from;
+    while d <= a / d && d < few {
+        if has_root(p, top, a, d, limit) {
+            return d;
+        }
+        d += 1;
+    }
+    d
+}
+
+// The candidates are 0 and, with both signs, d and a/d for the divisors d of a, up to the square root and below `few`; no root
+// reaches the limit. The list is handed on only where there is a root to list.
+fn by_pairs(p: &[i64], top: usize, a: u32, few: u32, limit: u32) -> RootList
+    requires { ⌜ (length (now p) ≤ 16) × T (every small (now p)) × Top (now p) top × T (not (Polynomials.isZero (now p)))
+        × (a ≡ natAbs (Polynomials.lowest (now p))) × Paired (now p) a few × RootsBelow (now p) limit ⌝ }
+    ensures { λ l. ⌜ l ≡ listed (Roots.roots (now (p .entry))) ⌝ }
+{
+    let mut found = tried_zero(p);
+    let mut d = next_pair(p, top, a, 1, few, limit);
+    while d <= a / d && d < few {
+        found = tried_below(p, top, a / d, limit, tried_both(p, top, d, found));
+        d = next_pair(p, top, a, d + 1, few, limit);
+    }
+    found
+}
+
+fn larger_of(a: u32, b: u32) -> u32
+    ensures { λ r. ⌜ (a ≤ r) × (b ≤ r) ⌝ }
+{
+    if a < b { b } else { a }
+}
+
+// No root has a size from low up to high. One below low is a divisor of a, and one from high on has a cofactor of at most a / high.
+fn beside_gap(p: &[i64], top: usize, a: u32, low: u32) -> RootList
+    requires { ⌜ (length (now p) ≤ 16) × T (every small (now p)) × Top (now p) top × T (not (Polynomials.isZero (now p)))
+        × (a ≡ natAbs (Polynomials.lowest (now p))) × (2 ≤ low) × NoneBetween (now p) low 16384 ⌝ }
+    ensures { λ l. ⌜ l ≡ listed (Roots.roots (now (p .entry))) ⌝ }
+{
+    let high = high_end(p, top);
+    let few = larger_of(low, a / high + 1);
+    let limit = if high == PAST { low } else { PAST };
+    if few <= FEW {
+        by_pairs(p, top, a, few, limit)
+    } else {
+        by_factors(p, top, a, bound_of_roots(p, top, low))
+    }
+}
+
+// The candidates are 0 and, with both signs, divisors of the size a of the lowest nonzero coefficient.
+fn searched(p: &[i64], top: usize, a: u32) -> RootList
+    requires { ⌜ (length (now p) ≤ 16) × T (every small (now p)) × Top (now p) top × T (not (Polynomials.isZero (now p)))
+        × (a ≡ natAbs (Polynomials.lowest (now p))) ⌝ }
+    ensures { λ l. ⌜ l ≡ listed (Roots.roots (now (p .entry))) ⌝ }
+{
+    let low = low_end(p, top);
+    if low <= FEW {
+        beside_gap(p, top, a, low)
+    } else {
+        by_factors(p, top, a, bound_of_roots(p, top, low))
+    }
 }
 
 // The candidate is the quotient of the two coefficients, with the other sign.
@@ -284,10 +464,11 @@ fn root_of_linear(p: &[i64]) -> RootList
     ensures { λ l. ⌜ l ≡ listed (Roots.roots (now (p .entry))) ⌝ }
 {
     let quotient = p[0] / p[1];
-    tried_first(p, -quotient)
+    tried(p, 1, -quotient, no_roots())
 }
 
-// The integer roots, ascending, each once; none for a constant, which is not searched (SCOPE 2.31, 2.32).
+// The integer roots, ascending, each once; none for a constant, which is not searched (SCOPE 2.31, 2.32). The size of the lowest
+// nonzero coefficient is worked out here, once a polynomial.
 pub fn roots(p: &[i64]) -> RootList
     requires { ⌜ (length (now p) ≤ 16) × T (every small (now p)) ⌝ }
     ensures { λ l. ⌜ l ≡ listed (Roots.roots (now (p .entry))) ⌝ }
@@ -300,6 +481,7 @@ pub fn roots(p: &[i64]) -> RootList
     } else {
         searched(
             p,
+            n,
             integers::magnitude(polynomials::content::lowest(p)) as u32,
         )
     }

@@ -9,7 +9,7 @@ use mathlib.Core.Path.{sym, subst}
 use mathlib.Core.List.{List, _∷_}
 use native.Mathlib.Nat.{le-of-eq}
 use Rattle.roots.specs.declared.RootList.{RootList}
-use Rattle.roots.specs.Factors.{Run, Remaining, remaining-with, remaining-without, next-small}
+use Rattle.roots.specs.Factors.{Run, Remaining, remaining-none, remaining-with, remaining-without, next-small}
 use Rattle.lists.specs.Taken.{drop-next}
 use Rattle.roots.specs.RootSearch.{Tried, tried-none, tried-with, tried-without, both-found, tried-only, found-length}
 use Prim.Native.Nat.{ℕ, _+_, _-_, _*_, _≤_, _<_}
@@ -47,7 +47,7 @@ module _ {n d : ℕ} (l : List ℕ) (i : ℕ) (inside : i < length l) (left : Re
         (tried-without (first .positive) (first .simple) first-run past without-q)
 
 abbrev μ-tried-products : Measures 2 tried-products-kinds.ps ℕ
-μ-tried-products κs a = length (now (a .1 .1 .0)) - a .1 .1 .1 .0
+μ-tried-products κs a = length (now (a .1 .1 .1 .0)) - a .1 .1 .1 .1 .0
 
 abbrev tried-products-at : ℕ → In 2 tried-products-kinds.ps
 tried-products-at t =
@@ -75,8 +75,10 @@ tried-products-tried-both-requires : (t : ℕ) → tried-products-lts.Need-tried
 ) (tried-products-at t) tried-products.Post
 tried-products-tried-both-requires t c κs =
     let s = c .before .before in
-    let few = found-length _ (s .pre .1 .2) (both-found (s .pre .1 .3) (s .args .d)) in
-    (s .pre .1 .0, s .pre .1 .1, s .pre .1 .3 .exact, omega arith)
+    let few = found-length _ (s .pre .1 .3) (both-found (s .pre .1 .4) (s .args .d)) in
+    let none = drop-of-length-le (s .args .factors .now) (le-of-eq (sym (c .if1 .taken))) in
+    let last = subst (Remaining (s .args .limit) (s .args .d)) none (s .pre .1 .6) in
+    (s .pre .1 .0, s .pre .1 .1, s .pre .1 .2, remaining-none last, s .pre .1 .4 .exact, omega arith)
 
 tried-products-returns : (t : ℕ) → tried-products-lts.Need-returns (
   tried-both-reads.Asked,
@@ -90,7 +92,7 @@ tried-products-returns t c =
     let s = c .before .before .before in
     let e = drop-of-length-le (s .args .factors .now) (le-of-eq (sym (c .before .if1 .taken))) in
     subst (λ l. Tried (now (s .args .p)) (s .args .limit) (s .args .d) l (s .args .found) (c .tried-both .result)) (sym e)
-    (tried-none (s .pre .1 .3) (s .args .limit) (s .args .d) (c .tried-both .ensures))
+    (tried-none (s .pre .1 .4) (s .args .limit) (s .args .d) (c .tried-both .ensures))
 
 tried-products-mul-larger : (t : ℕ) → tried-products-lts.Need-mul-larger (
   tried-both-reads.Asked,
@@ -123,7 +125,7 @@ tried-products-mul-larger-2 : (t : ℕ) → tried-products-lts.Need-mul-larger-2
 ) (tried-products-at t) tried-products.Post
 tried-products-mul-larger-2 t c =
     let s = c .before .before .before in
-    omega (arith, next-small (first (s .args .factors .now) (s .args .i) (omega arith) (s .pre .1 .5)))
+    omega (arith, next-small (first (s .args .factors .now) (s .args .i) (omega arith) (s .pre .1 .6)))
 
 tried-products-after-run-requires : (t : ℕ) → tried-products-lts.Need-after-run-requires (
   tried-both-reads.Asked,
@@ -155,8 +157,8 @@ tried-products-tried-products-requires : (t : ℕ) → tried-products-lts.Need-t
 ) (tried-products-at t) tried-products.Post
 tried-products-tried-products-requires t c κs =
     let s = c .before .before .before .before .before in
-    let rest = remaining-with (first (s .args .factors .now) (s .args .i) (omega arith) (s .pre .1 .5)) in
-    (omega arith, (s .pre .1 .0, s .pre .1 .1, s .pre .1 .2, s .pre .1 .3, omega arith, rest))
+    let rest = remaining-with (first (s .args .factors .now) (s .args .i) (omega arith) (s .pre .1 .6)) in
+    (omega arith, (s .pre .1 .0, s .pre .1 .1, s .pre .1 .2, s .pre .1 .3, s .pre .1 .4, omega arith, rest))
 
 tried-products-tried-products-requires-2 :
     (t : ℕ) → tried-products-lts.Need-tried-products-requires-2 (
@@ -169,8 +171,8 @@ tried-products-tried-products-requires-2 :
     ) (tried-products-at t) tried-products.Post
 tried-products-tried-products-requires-2 t c κs =
     let s = c .before .before .before .before .before .before in
-    let rest = remaining-without (s .pre .1 .5) (c .before .before .after-run .ensures .2) in
-    (omega arith, (s .pre .1 .0, s .pre .1 .1, s .pre .1 .2, tried-only (c .tried-products .ensures), omega arith, rest))
+    let rest = remaining-without (s .pre .1 .6) (c .before .before .after-run .ensures .2) in
+    (omega arith, (s .pre .1 .0, s .pre .1 .1, s .pre .1 .2, s .pre .1 .3, tried-only (c .tried-products .ensures), omega arith, rest))
 
 tried-products-tried-products-requires-3 :
     (t : ℕ) → tried-products-lts.Need-tried-products-requires-3 (
@@ -183,8 +185,8 @@ tried-products-tried-products-requires-3 :
     ) (tried-products-at t) tried-products.Post
 tried-products-tried-products-requires-3 t c κs =
     let s = c .before .before .before .before .before in
-    let rest = remaining-without (s .pre .1 .5) (c .before .after-run .ensures .2) in
-    (omega arith, (s .pre .1 .0, s .pre .1 .1, s .pre .1 .2, s .pre .1 .3, omega arith, rest))
+    let rest = remaining-without (s .pre .1 .6) (c .before .after-run .ensures .2) in
+    (omega arith, (s .pre .1 .0, s .pre .1 .1, s .pre .1 .2, s .pre .1 .3, s .pre .1 .4, omega arith, rest))
 
 tried-products-returns-2 : (t : ℕ) → tried-products-lts.Need-returns-2 (
   tried-both-reads.Asked,
@@ -197,7 +199,7 @@ tried-products-returns-2 : (t : ℕ) → tried-products-lts.Need-returns-2 (
 tried-products-returns-2 t c =
     let s = c .before .before .before .before .before .before .before in
     let passed = c .before .before .before .after-run in
-    both (s .args .factors .now) (s .args .i) (omega arith) (s .pre .1 .5) (passed .result) (passed .ensures .2)
+    both (s .args .factors .now) (s .args .i) (omega arith) (s .pre .1 .6) (passed .result) (passed .ensures .2)
     (c .before .tried-products .ensures)
     (c .tried-products2 .ensures)
 
@@ -212,7 +214,7 @@ tried-products-returns-3 : (t : ℕ) → tried-products-lts.Need-returns-3 (
 tried-products-returns-3 t c =
     let s = c .before .before .before .before .before .before in
     let passed = c .before .before .after-run in
-    without (s .args .factors .now) (s .args .i) (omega arith) (s .pre .1 .5) (passed .result) (passed .ensures .2)
+    without (s .args .factors .now) (s .args .i) (omega arith) (s .pre .1 .6) (passed .result) (passed .ensures .2)
     (c .before .if2 .left)
     (c .tried-products3 .ensures)
 

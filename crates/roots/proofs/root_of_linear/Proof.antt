@@ -1,11 +1,13 @@
 -- `roots::root_of_linear` meets its contract.
 -- Assumes nothing.
 use mathlib.Core.Path.{_≡_, _∙_, ap}
-use mathlib.Core.List.{List}
+use mathlib.Core.List.{List, []}
+use Prim.Native.Nat.{_≤_}
 use native.Mathlib.Nat.{le-trans, le-of-eq}
 use native.Mathlib.Omega.{arith}
 use borrow.Author.Needs.{needs}
-use lib.IntN.{ℤ, pos, negℤ, _-ℤ_, +ℤ-idl}
+use lib.Dec.{lit≤}
+use lib.IntN.{ℤ, pos, negℤ, natAbs, _-ℤ_, +ℤ-idl}
 use lib.ListN.{getD}
 use lib.Signed.{quotZ}
 use mir.Syntax.{w64}
@@ -15,7 +17,9 @@ use Rattle.algebra.specs.Integers.{natAbs-negℤ}
 use Rattle.algebra.specs.Division.{quotZ-le}
 use Rattle.integers.specs.Ranges.{division, sfits-size, sfits-quotZ}
 use Rattle.polynomials.specs.Content.{small-at}
-use Rattle.roots.specs.RootSearch.{listed, fits-small, linear-length, linear-positive, linear-tried}
+use Rattle.rules.specs.Limits.{bound}
+use Rattle.roots.specs.RootSearch.{listed, held-of, listed-held, tryRoot, tryRoot-one, fits-small}
+use Rattle.roots.specs.RootSearch.{linear-top, linear-length, linear-positive, linear-tried}
 use Rattle.roots.proofs.root_of_linear.Statement.{statement}
 use Rattle.roots.proofs.root_of_linear.Tie as tie
 
@@ -29,11 +33,11 @@ module _ (c : tie.Start) where
   abbrev b : ℤ
   b = getD p 1 (pos 0)
 
+  candidate-size : natAbs (negℤ (quotZ a b)) ≤ bound
+  candidate-size = le-trans (le-of-eq (natAbs-negℤ (quotZ a b))) (le-trans (quotZ-le a b) (small-at p (c .pre .1) 0))
+
   candidate-fits : SFits w64 (negℤ (quotZ a b))
-  candidate-fits =
-      sfits-size (negℤ (quotZ a b))
-      (le-trans (le-of-eq (natAbs-negℤ (quotZ a b))) (le-trans (quotZ-le a b) (small-at p (c .pre .1) 0)))
-      (omega arith)
+  candidate-fits = sfits-size (negℤ (quotZ a b)) candidate-size (omega arith)
 
   candidate : pos 0 -ℤ toZ w64 (ofZ w64 (quotZ (toZ w64 (ofZ w64 a)) (toZ w64 (ofZ w64 b)))) ≡ negℤ (quotZ a b)
   candidate =
@@ -54,16 +58,30 @@ div-quotient c =
     let t = s .pre .1 in
     division (fits-small (p s) 0 t) (fits-small (p s) 1 t) (omega (arith, small-at (p s) t 0)) (linear-positive (p s) (s .pre .2))
 
-sub-tried-first : tie.Need-sub-tried-first
-sub-tried-first c = rw (candidate (c .before .before)) (candidate-fits (c .before .before))
+sub-tried : tie.Need-sub-tried
+sub-tried c = rw (candidate (c .before .before)) (candidate-fits (c .before .before))
 
-tried-first-requires : tie.Need-tried-first-requires
-tried-first-requires c κs = search needs
+no-roots-requires : tie.Need-no-roots-requires
+no-roots-requires c κs = search needs
+
+tried-requires : tie.Need-tried-requires
+tried-requires c κs =
+    let s = c .before .before .before in
+    let none = c .no-roots .ensures in (
+      s .pre .0,
+      s .pre .1,
+      linear-top (p s) (s .pre .2),
+      simp (candidate s, toZ-ofZ (candidate-fits s)) (candidate-size s),
+      listed-held [] none,
+      rw (held-of [] none) (le-trans (tryRoot-one _ _) (lit≤ tt)),
+    )
 
 returns : tie.Need-returns
 returns c =
-    let s = c .before .before .before in
-    (simp (candidate s, toZ-ofZ (candidate-fits s)) at (c .tried-first .ensures)) ∙ ap listed (linear-tried (p s) (s .pre .2))
+    let s = c .before .before .before .before in
+    (simp (candidate s, toZ-ofZ (candidate-fits s)) at (c .tried .ensures))
+    ∙ ap (λ l. listed (tryRoot (p s) (negℤ (quotZ (a s) (b s))) l)) (held-of [] (c .before .no-roots .ensures))
+    ∙ ap listed (linear-tried (p s) (s .pre .2))
 
 pub root-of-linear-spec : {M : Type 1} → statement M
 root-of-linear-spec =
@@ -72,6 +90,7 @@ root-of-linear-spec =
     shared-slice-copy-out-quotient
     shared-slice-copy-out-quotient-2
     div-quotient
-    sub-tried-first
-    tried-first-requires
+    sub-tried
+    no-roots-requires
+    tried-requires
     returns)

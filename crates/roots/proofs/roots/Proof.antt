@@ -1,6 +1,6 @@
 -- `roots::roots` meets its contract. A constant has no roots; any other polynomial is nonzero.
 -- Assumes nothing.
-use mathlib.Core.Path.{_≡_, sym, _∙_, ap}
+use mathlib.Core.Path.{_≡_, sym, _∙_, ap, subst}
 use mathlib.Core.List.{List}
 use mathlib.Core.Bool.{not}
 use native.Mathlib.Omega.{arith}
@@ -12,6 +12,7 @@ use mir.Val.{ofZ, toZ}
 use mir.Facts.{toZ-ofZ}
 use Rattle.integers.specs.Ranges.{sfits-size}
 use Rattle.algebra.specs.Polynomials.{isZero, lowest}
+use Rattle.roots.specs.Bound.{Top, top-degree}
 use Rattle.roots.specs.RootSearch.{listed, lowest-small, nonconstant-nonzero, roots-constant}
 use Rattle.roots.proofs.roots.Statement.{statement}
 use Rattle.roots.proofs.roots.Tie as tie
@@ -51,7 +52,9 @@ cast-searched : tie.Need-cast-searched
 cast-searched c = omega (arith, size c, lowest-small (p c) (nonzero c) (start c .pre .1))
 
 searched-requires : tie.Need-searched-requires
-searched-requires c κs = (start c .pre .0, start c .pre .1, nonzero c, size c)
+searched-requires c κs =
+    let top = subst (Top (p c)) (sym (c .before .before .before .before .degree .ensures)) (top-degree (p c) (nonzero c)) in
+    (start c .pre .0, start c .pre .1, top, nonzero c, size c)
 
 returns : tie.Need-returns
 returns c =

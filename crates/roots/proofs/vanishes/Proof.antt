@@ -1,31 +1,37 @@
--- `roots::vanishes` meets its contract. The invariant is that b is the chain's number after i coefficients, `Chain`;
--- in it, as in every signed local of a loop, b stands as its bits. The measure is the number of coefficients left.
+-- `roots::vanishes` meets its contract. The invariant: the value is that of the coefficients from i on, and not large; in it, as in every
+-- signed local of a loop, the value stands as its bits. The measure is i.
 -- Assumes nothing.
-use mathlib.Core.Path.{_≡_, sym, _∙_, ap}
-use mathlib.Core.Logic.{_≢_}
+use mathlib.Core.Path.{_≡_, sym, _∙_, ap, subst}
 use mathlib.Core.List.{List}
-use Prim.Native.Nat.{ℕ, _+_, _-_, _^_, _<_}
+use Prim.Native.Nat.{ℕ, _+_, _*_, _-_, _≤_, _<_}
+use native.Mathlib.Nat.{le-trans, le-of-eq, mul-le-mul}
 use native.Mathlib.Omega.{arith}
+use borrow.Author.Needs.{needs}
 use lib.Dec.{eqb}
 use lib.IntN.{ℤ, pos, natAbs, _+ℤ_, _*ℤ_}
-use lib.Signed.{quotZ}
-use lib.ListN.{length, getD}
+use lib.ListN.{length, drop, getD}
 use mir.Syntax.{w64}
 use mir.Val.{Fits, SFits, ofZ, toZ}
 use mir.Facts.{toZ-ofZ, ofZ-toZ, sfits-toZ, fits-ofZ}
-use Rattle.integers.specs.Ranges.{sfits-size, ofZ-pos, ofZ-zero, sfits-quotZ}
-use Rattle.algebra.specs.Polynomials.{isZeroℤ}
-use Rattle.roots.specs.RootSearch.{Chain, fits-small, chain-start, product-size, chain-fails, chain-next, chain-ends}
+use Rattle.integers.specs.Ranges.{sfits-size, ofZ-zero}
+use Rattle.algebra.specs.Integers.{natAbs-+ℤ, natAbs-*ℤ}
+use Rattle.algebra.specs.Polynomials.{eval, isZeroℤ}
+use Rattle.algebra.specs.Vanishing.{isZeroℤ-sound}
+use Rattle.lists.specs.Tests.{false-of}
+use Rattle.rules.specs.Limits.{bound}
+use Rattle.polynomials.specs.Content.{small-at}
+use Rattle.roots.specs.Bound.{horner-next, never-back}
+use Rattle.roots.specs.RootSearch.{fits-small}
 use Rattle.roots.proofs.vanishes.Statement.{statement}
 use Rattle.roots.proofs.vanishes.Tie as tie
 
 abbrev Inv-loop : tie.InvT-loop
-Inv-loop p r b₀ i₀ b i = Fits w64 b × Chain p (toZ w64 r) i (toZ w64 b)
+Inv-loop p top r i₀ value₀ i value = Fits w64 value × (i < length p) × (natAbs (toZ w64 value) ≤ 4294967296) × (eval (drop i p) (toZ w64 r) ≡ toZ w64 value)
 
 abbrev μ-loop : tie.MeasureT-loop
-μ-loop p r b₀ i₀ b i = length p - i
+μ-loop p top r i₀ value₀ i value = i
 
--- The values at the loop's head.
+-- A turn: coefficient i, one before the loop's place, is joined.
 module _ (c : tie.At-loop Inv-loop μ-loop) where
   abbrev p : List ℤ
   p = c .before .before .args .p .now
@@ -34,99 +40,112 @@ module _ (c : tie.At-loop Inv-loop μ-loop) where
   r = c .before .before .args .r
 
   abbrev i : ℕ
-  i = c .loop .i
+  i = c .loop .i - 1
 
-  abbrev b : ℤ
-  b = toZ w64 (c .loop .b)
+  abbrev value : ℤ
+  value = toZ w64 (c .loop .value)
 
   abbrev next : ℤ
-  next = quotZ b r +ℤ getD p i (pos 0)
+  next = value *ℤ r +ℤ getD p i (pos 0)
 
   fits-r : SFits w64 r
   fits-r = c .before .before .fits .r
 
-  r-nonzero : r ≢ pos 0
-  r-nonzero e = omega (arith, ap natAbs e, c .before .before .pre .3)
+  value-is : eval (drop (c .loop .i) p) r ≡ value
+  value-is = rw (toZ-ofZ fits-r) at (c .loop .inv .3)
 
-  chain : Chain p r i b
-  chain = rw (toZ-ofZ fits-r) at (c .loop .inv .1)
+  product-is : value *ℤ toZ w64 (ofZ w64 r) ≡ value *ℤ r
+  product-is = ap (λ x. value *ℤ x) (toZ-ofZ fits-r)
 
-  size : natAbs b < 2 ^ 63
-  size = omega (arith, chain .size, chain .within, c .before .before .pre)
+  product-size : natAbs (value *ℤ r) ≤ 4294967296 * bound
+  product-size = le-trans (le-of-eq (natAbs-*ℤ value r)) (mul-le-mul (c .loop .inv .2) (c .before .before .pre .3))
 
-  divided : (0 < ofZ w64 r) × SFits w64 (quotZ b (toZ w64 (ofZ w64 r)))
-  divided = (ofZ-pos fits-r (c .before .before .pre .3), rw (toZ-ofZ fits-r) (sfits-quotZ b r size))
+  product-fits : SFits w64 (value *ℤ r)
+  product-fits = sfits-size (value *ℤ r) product-size (omega arith)
 
-  product-is : toZ w64 (ofZ w64 (quotZ b (toZ w64 (ofZ w64 r)))) *ℤ toZ w64 (ofZ w64 r) ≡ quotZ b r *ℤ r
-  product-is = simp (toZ-ofZ fits-r, toZ-ofZ (sfits-quotZ b r size))
+  next-size : natAbs next ≤ 4294967297 * bound
+  next-size = omega (arith, natAbs-+ℤ (value *ℤ r) (getD p i (pos 0)), product-size, small-at p (c .before .before .pre .1) i)
 
-  product-fits : SFits w64 (quotZ b r *ℤ r)
-  product-fits = sfits-size (quotZ b r *ℤ r) (product-size chain) size
+  next-fits : SFits w64 next
+  next-fits = sfits-size next next-size (omega arith)
 
-  next-is : toZ w64 (ofZ w64 (quotZ b (toZ w64 (ofZ w64 r)))) +ℤ toZ w64 (ofZ w64 (getD p i (pos 0))) ≡ next
-  next-is = simp (toZ-ofZ fits-r, toZ-ofZ (sfits-quotZ b r size), toZ-ofZ (fits-small p i (c .before .before .pre .2)))
+  next-is : toZ w64 (ofZ w64 (value *ℤ toZ w64 (ofZ w64 r))) +ℤ toZ w64 (ofZ w64 (getD p i (pos 0))) ≡ next
+  next-is = simp (toZ-ofZ fits-r, toZ-ofZ product-fits, toZ-ofZ (fits-small p i (c .before .before .pre .1)))
 
-  next-chain : i < length p → quotZ b r *ℤ r ≡ b → Chain p r (i + 1) next
-  next-chain h z = chain-next chain (c .before .before .pre .2) h r-nonzero z
+  next-value : 0 < c .loop .i → eval (drop i p) r ≡ next
+  next-value h =
+      let e : c .loop .i ≡ i + 1 = omega arith in
+      horner-next p r value i (omega (arith, c .loop .inv .1)) (subst (λ k. eval (drop k p) r ≡ value) e value-is)
 
-  next-fits : i < length p → quotZ b r *ℤ r ≡ b → SFits w64 next
-  next-fits h z = sfits-size next (next-chain h z .size) (omega (arith, c .before .before .pre .1))
+size-is : (c : tie.After-magnitude Inv-loop μ-loop) → c .magnitude .result ≡ natAbs (next (c .before .before .before))
+size-is c = simp (next-is (c .before .before .before), toZ-ofZ (next-fits (c .before .before .before))) at (c .magnitude .ensures)
 
-shared-slice-copy-out-b : tie.Need-shared-slice-copy-out-b Inv-loop μ-loop
-shared-slice-copy-out-b c = omega arith
+mul-value : tie.Need-mul-value Inv-loop μ-loop
+mul-value c = search needs
+
+shared-slice-copy-out-value : tie.Need-shared-slice-copy-out-value Inv-loop μ-loop
+shared-slice-copy-out-value c = c .pre .2 .0
 
 loop-holds : tie.Need-loop-holds Inv-loop μ-loop
 loop-holds c =
-    let fits = fits-small (c .before .args .p .now) 0 (c .before .pre .2) in
-    (fits-ofZ fits, simp (toZ-ofZ (c .before .fits .r), toZ-ofZ fits) (chain-start _ _ (c .before .pre .0) (c .before .pre .2)))
+    let s = c .before in
+    let fits = fits-small (s .args .p .now) (s .args .top) (s .pre .1) in (
+      fits-ofZ fits,
+      s .pre .2 .0,
+      rw (toZ-ofZ fits) (omega (arith, small-at (s .args .p .now) (s .pre .1) (s .args .top))),
+      simp (toZ-ofZ fits, toZ-ofZ (s .fits .r)) (s .pre .2 .1 (s .args .r)),
+    )
 
-div-quotient : tie.Need-div-quotient Inv-loop μ-loop
-div-quotient c = divided (c .before)
+sub-i : tie.Need-sub-i Inv-loop μ-loop
+sub-i c = search needs
 
-mul-if1 : tie.Need-mul-if1 Inv-loop μ-loop
-mul-if1 c = rw (product-is (c .before)) (product-fits (c .before))
+mul-value-2 : tie.Need-mul-value-2 Inv-loop μ-loop
+mul-value-2 c = rw (product-is (c .before)) (product-fits (c .before))
+
+mul-value-3 : tie.Need-mul-value-3 Inv-loop μ-loop
+mul-value-3 c = search needs
+
+shared-slice-copy-out-value-2 : tie.Need-shared-slice-copy-out-value-2 Inv-loop μ-loop
+shared-slice-copy-out-value-2 c = search needs
+
+add-value : tie.Need-add-value Inv-loop μ-loop
+add-value c = rw (next-is (c .before .before)) (next-fits (c .before .before))
+
+magnitude-requires : tie.Need-magnitude-requires Inv-loop μ-loop
+magnitude-requires c κs = search needs
 
 returns : tie.Need-returns Inv-loop μ-loop
 returns c =
-    let head = c .before .before in
-    sym (chain-fails (chain head) (λ z. c .if1 .taken (ap (ofZ w64) (product-is head ∙ z) ∙ ofZ-toZ (head .loop .inv .0))))
-
-mul-b : tie.Need-mul-b Inv-loop μ-loop
-mul-b c = omega arith
-
-shared-slice-copy-out-b-2 : tie.Need-shared-slice-copy-out-b-2 Inv-loop μ-loop
-shared-slice-copy-out-b-2 c = omega arith
-
--- The turn's division is exact.
-exact : (c : tie.Else1 Inv-loop μ-loop) → quotZ (b (c .before .before)) (r (c .before .before)) *ℤ r (c .before .before)
-    ≡ b (c .before .before)
-exact c =
-    let head = c .before .before in
-    sym (toZ-ofZ (product-fits head)) ∙ ap (toZ w64) (ap (ofZ w64) (sym (product-is head)) ∙ c .if1 .left)
-
-add-b : tie.Need-add-b Inv-loop μ-loop
-add-b c =
-    let head = c .before .before .before in
-    rw (next-is head) (next-fits head (c .before .before .loop-test .taken) (exact (c .before)))
-
-add-i : tie.Need-add-i Inv-loop μ-loop
-add-i c = omega arith
+    let head = c .before .before .before .before in
+    let s = head .before .before in
+    let here = next-value head (c .before .before .before .loop-test .taken) in
+    let past : 16 * bound < natAbs (eval (drop (i head) (p head)) (r head)) = rw here (omega (arith, size-is (c .before), c .if1 .taken)) in
+    sym (false-of (isZeroℤ (eval (p head) (r head)))
+    (λ t. never-back (p head) (r head) (i head) (s .pre .1) (s .pre .0) past (isZeroℤ-sound (eval (p head) (r head)) t)))
 
 loop-less : tie.Need-loop-less Inv-loop μ-loop
-loop-less c = omega arith
+loop-less c = search needs
 
 loop-again : tie.Need-loop-again Inv-loop μ-loop
 loop-again c =
-    let head = c .before .before .before in
-    let more = c .before .before .loop-test .taken in
-    let fits = next-fits head more (exact (c .before)) in
-    simp (next-is head) (fits-ofZ fits, simp (toZ-ofZ (fits-r head), toZ-ofZ fits) (next-chain head more (exact (c .before))))
+    let head = c .before .before .before .before in
+    let fits = next-fits head in
+    let here = next-value head (c .before .before .before .loop-test .taken) in
+    simp (next-is head) (
+      fits-ofZ fits,
+      omega (arith, head .loop .inv .1),
+      rw (toZ-ofZ fits) (omega (arith, size-is (c .before), c .if1 .left)),
+      simp (toZ-ofZ (fits-r head), toZ-ofZ fits) here,
+    )
 
 returns-2 : tie.Need-returns-2 Inv-loop μ-loop
 unfolding isZeroℤ
 returns-2 c =
-    let fits = c .before .loop .inv .0 in
-    ap (λ n. eqb n 0) (sym (ofZ-toZ fits)) ∙ ofZ-zero _ (sfits-toZ fits) ∙ sym (chain-ends (chain (c .before)) (c .loop-test .left))
+    let head = c .before in
+    let fits = head .loop .inv .0 in
+    let e : head .loop .i ≡ 0 = omega arith in
+    let whole = subst (λ k. eval (drop k (p head)) (r head) ≡ value head) e (value-is head) in
+    ap (λ n. eqb n 0) (sym (ofZ-toZ fits)) ∙ ofZ-zero _ (sfits-toZ fits) ∙ sym (ap isZeroℤ whole)
 
 pub vanishes-spec : {M : Type 1} → statement M
 vanishes-spec =
@@ -134,15 +153,16 @@ vanishes-spec =
     (tie.spec
     Inv-loop
     μ-loop
-    shared-slice-copy-out-b
+    mul-value
+    shared-slice-copy-out-value
     loop-holds
-    div-quotient
-    mul-if1
+    sub-i
+    mul-value-2
+    mul-value-3
+    shared-slice-copy-out-value-2
+    add-value
+    magnitude-requires
     returns
-    mul-b
-    shared-slice-copy-out-b-2
-    add-b
-    add-i
     loop-less
     loop-again
     returns-2)
