@@ -25,22 +25,20 @@ use native.Mathlib.Omega.{arith}
 use mathlib.Core.Path.{_≡_, refl, sym, _∙_, ap, ap₂, subst}
 use mathlib.Core.Logic.{_≢_}
 use mathlib.Core.Bool.{Bool, true, false, cond}
-use mathlib.Core.List.{List, [], _∷_, _++_, append-nil}
+use mathlib.Core.List.{List, [], _++_, append-nil}
 use borrow.Author.Tests.{le-leb, lt-leb, leb-true, leb-false, eqb-true, eqb-false, eq-eqb, ne-eqb}
 use lib.Dec.{leb, eqb}
-use lib.IntN.{ℤ, natAbs}
 use lib.ListN.{length, take, drop, length-append, length-drop}
 use lib.Seq.{drop-drop}
 use Rattle.rules.specs.Numbers.{Read, got, fault}
-use Rattle.rules.specs.Batch.{SheetLine as ReadLine, Answer, Tally, noTally, countAnswer, answerSheet, answerBytes, broken}
-use Rattle.rules.specs.Batch.{closingBy, closing, readSheetLine, answersBy, answers, answersAfter, outputBy, batchOutput}
-use Rattle.rules.specs.Batch.{clientCount, byClient}
+use Rattle.rules.specs.Batch.{SheetLine as ReadLine, Answer, Tally, countAnswer, answerSheet, answerBytes, broken, closing}
+use Rattle.rules.specs.Batch.{readSheetLine, answersBy, answers, batchOutput, clientCount, byClient}
 use Rattle.answers.specs.Answers.{RightAnswer, right-accepted, right-refused, answer-right}
 use Rattle.frames.specs.declared.Batch.{Batch}
 use Rattle.frames.specs.declared.Begun.{Begun}
 use Rattle.frames.specs.declared.SheetLine.{SheetLine}
 use Rattle.frames.specs.Windows.{batchLine, taken-length, sheetLine-taken}
-use Rattle.frames.specs.Pieces.{readCount, begunOf, lineOf, lineBy, countedOf, tallyOf, numbered, Counted}
+use Rattle.frames.specs.Pieces.{begunOf, lineOf, lineBy, countedOf, tallyOf, numbered, Counted}
 use Rattle.frames.specs.Pieces.{begun-inside, line-inside, begun-got, line-got, begun-fault, line-fault}
 use Rattle.frames.specs.Pieces.{counted-left, counted-tally, counted-few, closeText, close-closing, close-broken}
 use Rattle.frames.specs.Longer.{begun-longer, line-longer, begun-early, line-early}

@@ -19,12 +19,12 @@ use Prim.Native.Nat.{ℕ, zero, suc, pred, _+_, _-_, _*_, _≤_, _<_, zero-le}
 use native.Mathlib.Nat.{zero-add, le-refl, le-of-lt}
 use native.Mathlib.Numerals.{add-one, sub-one}
 use native.Mathlib.Omega.{arith}
-use mathlib.Core.Path.{_≡_, refl, sym, _∙_, ap, ap₂, subst}
+use mathlib.Core.Path.{_≡_, refl, sym, _∙_, ap, subst}
 use mathlib.Core.Logic.{_≢_, _⊎_, inl, inr}
 use mathlib.Core.Bool.{Bool, true, false, not, cond}
 use mathlib.Core.List.{List, [], _∷_, _++_, map, flatten, append-nil, append-assoc}
-use borrow.Author.Tests.{le-leb, lt-leb, le-ltb, lt-ltb, eq-eqb}
-use lib.Dec.{T, leb, ltb, eqb, leb→le, nleb→lt}
+use borrow.Author.Tests.{le-leb, lt-leb, le-ltb, eq-eqb}
+use lib.Dec.{T, leb, eqb, leb→le, nleb→lt}
 use lib.ListN.{length, take, drop, getD, set, replicate, length-append, length-drop, length-replicate, take-append-drop}
 use lib.ListN.{drop-of-length-le}
 use lib.Seq.{sets, sets-eq, length-take-le}
@@ -35,11 +35,11 @@ use Rattle.rules.specs.Sheets.{always}
 use Rattle.lists.specs.Overwritten.{overwrite}
 use Rattle.lists.specs.Totals.{total, getD-total}
 use Rattle.algebra.specs.Sums.{countFrom}
-use Rattle.rules.specs.Batch.{Answer, accepted, refusedWith, Tally, noTally, clientCount, oneMore, clientLine, tallyLines}
+use Rattle.rules.specs.Batch.{Tally, noTally, clientCount, oneMore, clientLine, tallyLines}
 use Rattle.rules.specs.Batch.{closingBy, closing, broken, readSize, readAfterClient, readSheetLine}
 use Rattle.tokens.specs.Fields.{field-judged, between-zero}
 use Rattle.tokens.specs.WrittenNumbers.{isNumber-decimal}
-use Rattle.writing.specs.Writer.{Put, put-then, put-same, digitsOf}
+use Rattle.writing.specs.Writer.{Put, digitsOf}
 use Rattle.lists.specs.Tests.{first-failed, second-failed, both-passed}
 use Rattle.frames.specs.declared.Batch.{Batch}
 use Rattle.frames.specs.declared.SheetLine.{SheetLine}

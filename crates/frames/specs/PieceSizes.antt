@@ -6,7 +6,7 @@
 --   begun-counted    a batch begins with at most 1,000 sheets, and none where its first line is broken
 --   answer-fits      the sheet that answers lies in the lent store
 --   text-fits        a text has at most 192 bytes
-use Prim.Native.Nat.{ℕ, zero, suc, _+_, _≤_, zero-le}
+use Prim.Native.Nat.{ℕ, zero, _+_, _≤_, zero-le}
 use native.Mathlib.Omega.{arith}
 use mathlib.Core.Path.{_≡_, refl, sym, _∙_, ap, subst}
 use mathlib.Core.Bool.{Bool, true, false, cond}

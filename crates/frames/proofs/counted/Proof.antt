@@ -1,6 +1,5 @@
 -- `frames::counted` meets its contract.
 -- Assumes nothing.
-use native.Mathlib.Omega.{arith}
 use Rattle.frames.specs.Lines.{stays-empty, counts-accepted, counts-refused}
 use borrow.Author.Needs.{needs}
 use Rattle.frames.proofs.counted.Statement.{statement}

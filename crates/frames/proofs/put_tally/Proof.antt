@@ -1,7 +1,7 @@
 -- `frames::put_tally` meets its contract. The loop's invariant: the lines of the clients from i on are still to be written.
 -- Assumes nothing.
 use Prim.Native.Nat.{_≤_, _-_, _*_}
-use mathlib.Core.Path.{_≡_, refl}
+use mathlib.Core.Path.{refl}
 use native.Mathlib.Omega.{arith}
 use Rattle.rules.specs.Numbers.{lines}
 use Rattle.rules.specs.Batch.{Tally, clientCount, tallyLines}
