@@ -85,12 +85,12 @@ uint8_t wurgalm_write_sheet(const int64_t *rows, size_t rows_length, const int64
  * In: the bytes of the batch: a line with the number of sheets, 0 to 1,000, and for each sheet a line with its client,
  * 1 to 8, and its length, 0 to 32,768, and then its bytes (SCOPE 5.1, 5.2).
  * Out: `output` begins with what the batch program writes for it: for each sheet a line `0` and the sheet that the
- * leading side gives, or a line with the refusal; at the end a line with the numbers of accepted and of refused sheets
- * (SCOPE 5.11, 5.12). A broken batch is worked too: its output ends in the line `3` (SCOPE 5.21, 5.32). Bytes past the
- * output stay. `result` (1 number): the length of the output in bytes.
+ * leading side gives, or a line with the refusal; at the end eight lines, clients 1 to 8, each with the numbers of the
+ * client's accepted and refused sheets (SCOPE 5.11, 5.12). A broken batch is worked too: its output ends in the line `3`,
+ * without those lines (SCOPE 5.21, 5.32). Bytes past the output stay. `result` (1 number): the length of the output in bytes.
  * Returns 0 or 1. A result store of no number is 1 before everything, and no store is changed. An output store that is
  * too short is 1 in the course of the work: then all of `output` and the number of `result` are zero. 65,538 bytes a
- * sheet and 64 more are enough. */
+ * sheet and 192 more are enough. */
 uint8_t wurgalm_batch(const uint8_t *input, size_t input_length, uint8_t *output, size_t output_length, int64_t *result,
                       size_t result_length);
 

@@ -201,11 +201,12 @@ static void check_batch(const char *input, size_t length, size_t results, uint8_
 }
 
 static void k2_in_a_batch(void) {
-    static const char zeros[300] = {0};
+    static const char zeros[300] = {0}, none[] = "0 0\n0 0\n0 0\n0 0\n0 0\n0 0\n0 0\n0 0\n", *others = none + 4;
+    static const char counts[] = "4\n4\n0 0\n0 0\n0 1\n0 0\n0 0\n0 0\n0 0\n0 1\n";
     char input[300], output[300];
     size_t length;
     snprintf(input, sizeof input, "1\n1 %d\n%s", (int)strlen(k2), k2);
-    snprintf(output, sizeof output, "0\n%s1 0\n", k2_answer);
+    snprintf(output, sizeof output, "0\n%s1 0\n%s", k2_answer, others);
     length = strlen(output);
     check_batch(input, 300, 2, 0, (int64_t)length, output, length, "batch, K2, byte for byte, and nothing past its end");
     check_batch(input, length, 1, 0, (int64_t)length, output, length, "batch, an output store just long enough");
@@ -213,10 +214,13 @@ static void k2_in_a_batch(void) {
     check_batch(input, 300, 0, 1, 7, "", 0, "batch, result store too short: 1, and no store is changed");
     check_batch(input, 0, 0, 1, 7, "", 0, "batch, no stores: 1");
     check_batch("", 300, 1, 0, 2, "3\n", 2, "batch, no bytes: worked, 3 is its only line");
-    check_batch("0\n", 300, 1, 0, 4, "0 0\n", 4, "batch, no sheets");
+    check_batch("0\n", 300, 1, 0, 32, none, 32, "batch, no sheets: a line for each client");
+    check_batch("2\n8 0\n3 0\n", 300, 1, 0, (int64_t)strlen(counts), counts, strlen(counts),
+                "batch, a sheet of client 8 and one of client 3, each counted for its client");
     snprintf(input + strlen(input), 10, "1 0\n");
-    memcpy(output + length - 4, "3\n", 3);
-    check_batch(input, 300, 1, 0, (int64_t)length - 2, output, length - 2, "batch, bytes left over: worked, 3 is its last line");
+    length -= 4 + strlen(others);
+    memcpy(output + length, "3\n", 3);
+    check_batch(input, 300, 1, 0, (int64_t)length + 2, output, length + 2, "batch, bytes left over: worked, 3 is its last line");
 }
 
 /* ---- refusals ---- */

@@ -25,10 +25,9 @@ use Rattle.rules.specs.Batch.{mostBytes, Answer, accepted, refusedWith, answerS
 use Rattle.answers.specs.declared.AnswerResult.{AnswerResult}
 use Rattle.answers.specs.Answers.{AnswerCall, callOf, answerCall, answered, unanswered, RightAnswer, right-accepted}
 use Rattle.answers.specs.Answers.{right-refused, answer-right, answerBy, answerCall-answer, answerCall-none}
-use Rattle.frames.specs.declared.TextLine.{TextLine}
-use Rattle.frames.specs.Windows.{batchLine}
+use Rattle.frames.specs.declared.Text.{Text}
 use Rattle.frames.specs.PieceSizes.{answer-fits}
-use Rattle.frames.specs.Pieces.{textOf, shown, shown-text, refusalLine, refusal-refused, refusal-accepted}
+use Rattle.frames.specs.Pieces.{textRoom, textOf, shown, shown-text, refusalLine, refusal-refused, refusal-accepted}
 use Rattle.lists.specs.Taken.{whole-part}
 use Rattle.batches.specs.declared.answering.Put.{Put}
 use Rattle.batches.specs.Feeds.{numberOf}
@@ -87,13 +86,13 @@ answer-keeps sheet store = go (answerSheet sheet)
     go (refusedWith n) = refl
 
 -- An answer is at most the line `0` and 65,536 bytes.
-answer-short : (a : Answer) → RightAnswer a → length (refusalLine (numberOf a)) ≤ batchLine → length (answerBytes a) ≤ 2 + mostBytes
+answer-short : (a : Answer) → RightAnswer a → length (refusalLine (numberOf a)) ≤ textRoom → length (answerBytes a) ≤ 2 + mostBytes
 unfolding numberOf refusalLine lines flatten
 answer-short a (right-accepted {bytes = sheet} few) h = rw (← refusal-accepted sheet, length-append) (omega arith)
 answer-short a (right-refused n low) h = rw (← refusal-refused (suc n)) (omega arith)
 
 -- The answer of a call in a store that is long enough for any, and its line.
-module _ (sheet store : List ℕ) (r : AnswerResult) (stored : List ℕ) (line : TextLine) (long : mostBytes ≤ length store)
+module _ (sheet store : List ℕ) (r : AnswerResult) (stored : List ℕ) (line : Text) (long : mostBytes ≤ length store)
     (e : callOf r stored ≡ answerCall sheet store) (f : line ≡ textOf (refusalLine (r .refusal))) where
   abbrev answer : Answer
   answer = answerSheet sheet
@@ -162,9 +161,9 @@ straight-put a output right long =
     go a (right-refused n low) =
         ap₂ overwrite (refusal-refused (suc n)) (take-append-drop 2 output)
 
-module _ (sheet output : List ℕ) (r : AnswerResult) (stored : List ℕ) (line : TextLine) (long : 2 + mostBytes ≤ length output)
+module _ (sheet output : List ℕ) (r : AnswerResult) (stored : List ℕ) (line : Text) (long : 2 + mostBytes ≤ length output)
     (e : callOf r stored ≡ answerCall sheet (take (length output - 2) (drop 2 output))) (f : line ≡ textOf (refusalLine (r .refusal)))
-    (few : line .length ≤ batchLine) where
+    (few : line .length ≤ textRoom) where
   behind : mostBytes ≤ length (take (length output - 2) (drop 2 output))
   behind = rw (whole-part output 2 (omega arith) .0, length-drop) (omega arith)
 
@@ -195,7 +194,7 @@ module _ (sheet output : List ℕ) (r : AnswerResult) (stored : List ℕ) (line 
       ∙ straight-put (answerSheet sheet) output (answer-right sheet) long)
 
 -- The answer made in a store beside the output.
-module _ (sheet store output : List ℕ) (r : AnswerResult) (stored : List ℕ) (line : TextLine) (long : mostBytes ≤ length store)
+module _ (sheet store output : List ℕ) (r : AnswerResult) (stored : List ℕ) (line : Text) (long : mostBytes ≤ length store)
     (e : callOf r stored ≡ answerCall sheet store) (f : line ≡ textOf (refusalLine (r .refusal))) where
   pub beside-unput : length output < line .length + r .length → unput output ≡ answerPut (answerSheet sheet) output
   unfolding answerPut

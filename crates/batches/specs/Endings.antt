@@ -20,7 +20,7 @@ use lib.Seq.{take-at, drop-at}
 use Rattle.lists.specs.Overwritten.{overwrite, put-behind, length-overwrite}
 use Rattle.rules.specs.Batch.{batchOutput}
 use Rattle.frames.specs.declared.Batch.{Batch}
-use Rattle.frames.specs.declared.TextLine.{TextLine}
+use Rattle.frames.specs.declared.Text.{Text}
 use Rattle.frames.specs.Pieces.{textOf, shown, shown-text}
 use Rattle.batches.specs.declared.Stage.the-variants.{Count}
 use Rattle.batches.specs.declared.OutputResult.{OutputResult}
@@ -70,7 +70,7 @@ module _ (text output short : List ℕ) where
             λ none. absurd (suc-ne-zero 0 (sym (ap (λ c. c .refusal) e') ∙ none)),
           )
 
-module _ (text output : List ℕ) (line : TextLine) (e : line ≡ textOf text) where
+module _ (text output : List ℕ) (line : Text) (e : line ≡ textOf text) where
   counted : line .length ≡ length text
   unfolding textOf
   counted = ap (λ t. t .length) e

@@ -80,23 +80,23 @@ module _ (b : Batch) (bytes : List ℕ) (room : ℕ) where
   unfolding afterStep stepBy
   sheets-broken l = sheets-is (look-is l)
 
-  module _ (from to : ℕ) (l : Look (b .left) bytes (sheet from to)) (a : Answer)
+  module _ (client from to : ℕ) (l : Look (b .left) bytes (sheet client from to)) (a : Answer)
       (e : answerSheet (take (to - from) (drop from bytes)) ≡ a) where
-    sheet-is : feed Sheets b bytes room ≡ afterStep (answerStep a b bytes room to) room (steps (b .left))
+    sheet-is : feed Sheets b bytes room ≡ afterStep (answerStep a client b bytes room to) room (steps (b .left))
     unfolding stepBy
-    sheet-is = sheets-is (look-is l) ∙ ap (λ a. afterStep (answerStep a b bytes room to) room (steps (b .left))) e
+    sheet-is = sheets-is (look-is l) ∙ ap (λ a. afterStep (answerStep a client b bytes room to) room (steps (b .left))) e
 
     sheet-fits : Counted b → length (answerBytes a) ≤ room
         → feed Sheets b bytes room
-        ≡ prefixed (answerBytes a) (feed Sheets (countedOf b (numberOf a)) (drop to bytes) (room - length (answerBytes a)))
+        ≡ prefixed (answerBytes a) (feed Sheets (countedOf b client (numberOf a)) (drop to bytes) (room - length (answerBytes a)))
     unfolding answerStep afterStep feed feedSheets
     sheet-fits few h =
         sheet-is ∙ rw (le-leb (length (answerBytes a)) room h)
-        (ap (λ k. prefixed (answerBytes a) (steps k (countedOf b (numberOf a)) (drop to bytes) (room - length (answerBytes a))))
+        (ap (λ k. prefixed (answerBytes a) (steps k (countedOf b client (numberOf a)) (drop to bytes) (room - length (answerBytes a))))
         left)
       where
-        left : b .left ≡ suc (countedOf b (numberOf a) .left)
-        left = omega (arith, counted-left b few (look-some l) (numberOf a), look-some l)
+        left : b .left ≡ suc (countedOf b client (numberOf a) .left)
+        left = omega (arith, counted-left b few (look-some l) client (numberOf a), look-some l)
 
     sheet-full : room < length (answerBytes a) → feed Sheets b bytes room ≡ fullAt Sheets b bytes
     unfolding answerStep afterStep
@@ -113,8 +113,8 @@ feed-move {b = b} {bytes = bytes} room few (count-breaks i j) h =
     count-broken b bytes room i j ∙ breaking-fits Count b bytes room h ∙ ap (overAt b) (sym (append-nil broken))
 feed-move {b = b} {bytes = bytes} room few (sheets-break l) h =
     sheets-broken b bytes room l ∙ breaking-fits Sheets b bytes room h ∙ ap (overAt b) (sym (append-nil broken))
-feed-move {b = b} {bytes = bytes} room few (answering {from = from} {to = to} {a = a} l e) h =
-    sheet-fits b bytes room from to l a e few h
+feed-move {b = b} {bytes = bytes} room few (answering {client = client} {from = from} {to = to} {a = a} l e) h =
+    sheet-fits b bytes room client from to l a e few h
 
 pub feed-full : {stage : Stage} {b : Batch} {bytes : List ℕ} {m : Moved} (room : ℕ) → Move stage b bytes m
     → room < length (m .text) → feed stage b bytes room ≡ fullAt stage b bytes
@@ -123,8 +123,8 @@ feed-full {b = b} {bytes = bytes} room (count-breaks i j) h =
     count-broken b bytes room i j ∙ breaking-full Count b bytes room h
 feed-full {b = b} {bytes = bytes} room (sheets-break l) h =
     sheets-broken b bytes room l ∙ breaking-full Sheets b bytes room h
-feed-full {b = b} {bytes = bytes} room (answering {from = from} {to = to} {a = a} l e) h =
-    sheet-full b bytes room from to l a e h
+feed-full {b = b} {bytes = bytes} room (answering {client = client} {from = from} {to = to} {a = a} l e) h =
+    sheet-full b bytes room client from to l a e h
 
 pub feed-waiting : (stage : Stage) (b : Batch) (bytes : List ℕ) (room : ℕ) → waitsWith stage b bytes ≡ true
     → feed stage b bytes room ≡ waitingAt stage b bytes
@@ -180,11 +180,11 @@ fed-sheets (suc k) b bytes h few = go (ready Sheets b bytes) (fed-sheets k)
         → FedRight Sheets b bytes
     go (waiting e) later = fed-waiting Sheets b bytes e
     go (moving (sheets-break l)) later = fed-move few (sheets-break l) (fed-over b (drop 0 bytes))
-    go (moving (answering {to = to} {a = a} l e)) later =
+    go (moving (answering {client = client} {to = to} {a = a} l e)) later =
         fed-move few (answering l e)
-        (later (countedOf b (numberOf a)) (drop to bytes)
-        (omega (arith, counted-left b few (look-some l) (numberOf a), look-some l))
-        (counted-few b few (look-some l) (numberOf a)))
+        (later (countedOf b client (numberOf a)) (drop to bytes)
+        (omega (arith, counted-left b few (look-some l) client (numberOf a), look-some l))
+        (counted-few b few (look-some l) client (numberOf a)))
 
 pub fed : (stage : Stage) (b : Batch) (bytes : List ℕ) → CountedIn stage b → FedRight stage b bytes
 fed Count b bytes few = go (ready Count b bytes)
@@ -311,12 +311,12 @@ fed-append {bytes = bytes} {room = room} few (moves {m = m} {f = f} move h later
 -- ---- bytes that were held
 
 -- A sheet that goes on in more bytes than wait ends beyond those.
-look-beyond : (left : ℕ) (held y : List ℕ) {from to : ℕ} → Look left held waits → Look left (held ++ y) (sheet from to)
-    → length held < to
-look-beyond left held y (no-more z e) (sheet-whole some i at end h) = absurd (some z)
-look-beyond left held y (line-waits some' e) (sheet-whole some i at end h) =
+look-beyond : (left : ℕ) (held y : List ℕ) {client from to : ℕ} → Look left held waits
+    → Look left (held ++ y) (sheet client from to) → length held < to
+look-beyond left held y (no-more z e) (sheet-whole some i client at end h) = absurd (some z)
+look-beyond left held y (line-waits some' e) (sheet-whole some i client at end h) =
     omega (arith, line-beyond held y (λ z. omega (arith, z, e)) i)
-look-beyond left held y (sheet-waits some' z k) (sheet-whole some i at end h) =
+look-beyond left held y (sheet-waits some' z k) (sheet-whole some i client at end h) =
     let same = line-longer held y (λ e. omega (arith, z, e)) in
     omega (arith, ap (λ v. v .taken) same, ap (λ v. v .bytes) same)
 

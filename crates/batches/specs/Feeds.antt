@@ -10,10 +10,10 @@ use mathlib.Core.List.{List, [], _++_}
 use lib.Dec.{leb, eqb}
 use lib.ListN.{length, take, drop}
 use Rattle.lists.specs.Overwritten.{overwrite}
-use Rattle.rules.specs.Batch.{Answer, accepted, refusedWith, answerSheet, answerBytes, broken}
+use Rattle.rules.specs.Batch.{Answer, accepted, refusedWith, answerSheet, answerBytes, broken, noTally}
 use Rattle.frames.specs.declared.Batch.{Batch}
 use Rattle.frames.specs.declared.SheetLine.{SheetLine}
-use Rattle.frames.specs.Pieces.{batchWith, noTally, begunOf, lineOf, countedOf}
+use Rattle.frames.specs.Pieces.{batchWith, begunOf, lineOf, countedOf}
 use Rattle.batches.specs.declared.Stage.{Stage}
 use Rattle.batches.specs.declared.Stage.the-variants.{Count, Sheets, Over}
 use Rattle.batches.specs.declared.Stream.{Stream}
@@ -25,12 +25,12 @@ pub data Next : Type 0 where
   waits : Next
   -- A line is broken or out of range, or bytes are left over (SCOPE 5.21).
   breaks : Next
-  -- A sheet, by the places where its bytes begin and end.
-  sheet : ℕ → ℕ → Next
+  -- A sheet, by its client and the places where its bytes begin and end.
+  sheet : ℕ → ℕ → ℕ → Next
 
 -- The bytes of a sheet after its line, of n bytes in all.
 unfoldable pub bySize : SheetLine → ℕ → Next
-bySize v n = cond (leb (v .taken + v .bytes) n) (sheet (v .taken) (v .taken + v .bytes)) waits
+bySize v n = cond (leb (v .taken + v .bytes) n) (sheet (v .client) (v .taken) (v .taken + v .bytes)) waits
 
 unfoldable pub byLine : SheetLine → ℕ → Next
 unfolding bySize
@@ -77,17 +77,18 @@ unfoldable pub numberOf : Answer → ℕ
 numberOf (accepted bytes) = 0
 numberOf (refusedWith n) = n
 
-unfoldable pub answerStep : Answer → Batch → List ℕ → ℕ → ℕ → Step
+unfoldable pub answerStep : Answer → ℕ → Batch → List ℕ → ℕ → ℕ → Step
 unfolding answerBytes countedOf numberOf
-answerStep a b bytes room to =
-    cond (leb (length (answerBytes a)) room) (answered (countedOf b (numberOf a)) (drop to bytes) (answerBytes a))
+answerStep a client b bytes room to =
+    cond (leb (length (answerBytes a)) room) (answered (countedOf b client (numberOf a)) (drop to bytes) (answerBytes a))
     (stopped (fullAt Sheets b bytes))
 
 unfoldable pub stepBy : Next → Batch → List ℕ → ℕ → Step
 unfolding breakingAt answerStep answerSheet
 stepBy waits b bytes room = stopped (waitingAt Sheets b bytes)
 stepBy breaks b bytes room = stopped (breakingAt Sheets b bytes room)
-stepBy (sheet from to) b bytes room = answerStep (answerSheet (take (to - from) (drop from bytes))) b bytes room to
+stepBy (sheet client from to) b bytes room =
+    answerStep (answerSheet (take (to - from) (drop from bytes))) client b bytes room to
 
 unfoldable pub step : Batch → List ℕ → ℕ → Step
 unfolding stepBy nextSheet

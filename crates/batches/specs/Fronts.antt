@@ -106,5 +106,5 @@ pub line-beyond : (held y : List ℕ) → lineOf held .refusal ≢ 0 → lineOf 
     → length held < lineOf (held ++ y) .taken
 unfolding lineOf lineBy
 line-beyond held y h z =
-    let (v, rest, e, d, same) = line-got (held ++ y) z in
+    let (v, rest, e, d, client, size) = line-got (held ++ y) z in
     rw e (beyond readSheetLine line-front held y _ v rest (line-fault held h) e)

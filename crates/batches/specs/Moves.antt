@@ -25,25 +25,25 @@ use native.Mathlib.Omega.{arith}
 use mathlib.Core.Path.{_≡_, refl, sym, _∙_, ap, ap₂, subst}
 use mathlib.Core.Logic.{_≢_}
 use mathlib.Core.Bool.{Bool, true, false, cond}
-use mathlib.Core.List.{List, [], _∷_, _++_, append-nil}
+use mathlib.Core.List.{List, [], _++_, append-nil}
 use borrow.Author.Tests.{le-leb, lt-leb, leb-true, leb-false, eqb-true, eqb-false, eq-eqb, ne-eqb}
 use lib.Dec.{leb, eqb}
-use lib.IntN.{ℤ, natAbs}
 use lib.ListN.{length, take, drop, length-append, length-drop}
 use lib.Seq.{drop-drop}
 use Rattle.rules.specs.Numbers.{Read, got, fault}
 use Rattle.rules.specs.Batch.{SheetLine as ReadLine, Answer, Tally, countAnswer, answerSheet, answerBytes, broken, closing}
-use Rattle.rules.specs.Batch.{readSheetLine, answers, answersAfter, batchOutput}
+use Rattle.rules.specs.Batch.{readSheetLine, answersBy, answers, batchOutput, clientCount, byClient}
 use Rattle.answers.specs.Answers.{RightAnswer, right-accepted, right-refused, answer-right}
 use Rattle.frames.specs.declared.Batch.{Batch}
 use Rattle.frames.specs.declared.Begun.{Begun}
 use Rattle.frames.specs.declared.SheetLine.{SheetLine}
 use Rattle.frames.specs.Windows.{batchLine, taken-length, sheetLine-taken}
-use Rattle.frames.specs.Pieces.{readCount, noTally, begunOf, lineOf, lineBy, countedOf, tallyOf, numbered, Counted}
+use Rattle.frames.specs.Pieces.{begunOf, lineOf, lineBy, countedOf, tallyOf, numbered, Counted}
 use Rattle.frames.specs.Pieces.{begun-inside, line-inside, begun-got, line-got, begun-fault, line-fault}
-use Rattle.frames.specs.Pieces.{counted-left, counted-tally, counted-few, closeLine, close-closing, close-broken}
+use Rattle.frames.specs.Pieces.{counted-left, counted-tally, counted-few, closeText, close-closing, close-broken}
 use Rattle.frames.specs.Longer.{begun-longer, line-longer, begun-early, line-early}
-use Rattle.frames.specs.PieceSizes.{line-small, begun-counted}
+use Rattle.frames.specs.PieceSizes.{line-client, line-small, begun-counted}
+use Rattle.frames.specs.Countings.{output-fault, output-got, answers-none, answers-fault, afterLine, answers-got, closing-over}
 use Rattle.lists.specs.Taken.{part-longer}
 use Rattle.batches.specs.declared.Stage.{Stage}
 use Rattle.batches.specs.declared.Stage.the-variants.{Count, Sheets, Over}
@@ -53,7 +53,7 @@ use Rattle.batches.specs.PieceCalls.{heldNeed, isWaiting, waitsWith, end
 -- ---- what a batch means
 
 unfoldable pub meaning : Stage → Batch → List ℕ → List ℕ
-unfolding batchOutput answers tallyOf
+unfolding batchOutput answersBy tallyOf
 meaning Count b bytes = batchOutput bytes
 meaning Sheets b bytes = answers (b .left) (tallyOf b) bytes
 meaning Over b bytes = []
@@ -80,8 +80,8 @@ pub data Look (left : ℕ) (bytes : List ℕ) : Next → Type 0 where
   -- Bytes of the sheet are missing, or it is whole.
   sheet-waits : left ≢ 0 → lineOf bytes .refusal ≡ 0 → length bytes < lineOf bytes .taken + lineOf bytes .bytes
       → Look left bytes waits
-  sheet-whole : {from to : ℕ} → left ≢ 0 → lineOf bytes .refusal ≡ 0 → lineOf bytes .taken ≡ from
-      → from + lineOf bytes .bytes ≡ to → to ≤ length bytes → Look left bytes (sheet from to)
+  sheet-whole : {client from to : ℕ} → left ≢ 0 → lineOf bytes .refusal ≡ 0 → lineOf bytes .client ≡ client
+      → lineOf bytes .taken ≡ from → from + lineOf bytes .bytes ≡ to → to ≤ length bytes → Look left bytes (sheet client from to)
 
 pub look : (left : ℕ) (bytes : List ℕ) → Look left bytes (nextSheet left bytes)
 unfolding nextSheet byLine bySize
@@ -99,8 +99,8 @@ look left bytes = by-left (eqb left 0) (eqb-true left 0) (eqb-false left 0)
 
     by-size : left ≢ 0 → v .refusal ≡ 0 → (t : Bool) → (t ≡ true → v .taken + v .bytes ≤ n)
         → (t ≡ false → n < v .taken + v .bytes)
-        → Look left bytes (cond t (sheet (v .taken) (v .taken + v .bytes)) waits)
-    by-size some z true is isn't = sheet-whole some z refl refl (is refl)
+        → Look left bytes (cond t (sheet (v .client) (v .taken) (v .taken + v .bytes)) waits)
+    by-size some z true is isn't = sheet-whole some z refl refl refl (is refl)
     by-size some z false is isn't = sheet-waits some z (isn't refl)
 
     by-fault : left ≢ 0 → v .refusal ≢ 4 → (t : Bool) → (t ≡ true → v .refusal ≡ 0) → (t ≡ false → v .refusal ≢ 0)
@@ -127,24 +127,24 @@ look-is {left} {bytes} (line-breaks some other z) =
     rw (ne-eqb left 0 some, ne-eqb (lineOf bytes .refusal) 4 other, ne-eqb (lineOf bytes .refusal) 0 z)
 look-is {left} {bytes} (sheet-waits some z h) =
     rw (ne-eqb left 0 some, z, lt-leb (lineOf bytes .taken + lineOf bytes .bytes) (length bytes) h)
-look-is {left} {bytes} (sheet-whole some z from to h) =
-    rw (ne-eqb left 0 some, z, from, to, le-leb _ (length bytes) h)
+look-is {left} {bytes} (sheet-whole some z client from to h) =
+    rw (ne-eqb left 0 some, z, client, from, to, le-leb _ (length bytes) h)
 
 -- What is seen of a sheet that is there, and of bytes that break the batch, is seen with more bytes after them.
 abbrev Decided : Next → Type 0
 Decided waits = ⊥
 Decided breaks = Unit {0}
-Decided (sheet from to) = Unit {0}
+Decided (sheet client from to) = Unit {0}
 
 look-longer : {left : ℕ} {bytes : List ℕ} {k : Next} (x : List ℕ) → Decided k → Look left bytes k → Look left (bytes ++ x) k
 look-longer {bytes = bytes} x d (left-over z h) = left-over z (λ e. h (omega (arith, e, length-append bytes x)))
 look-longer {bytes = bytes} x d (line-breaks some other z) =
     let same = line-longer bytes x other in
     line-breaks some (λ e. other (sym (ap (λ v. v .refusal) same) ∙ e)) (λ e. z (sym (ap (λ v. v .refusal) same) ∙ e))
-look-longer {bytes = bytes} x d (sheet-whole {from = from} some z at to h) =
+look-longer {bytes = bytes} x d (sheet-whole {from = from} some z client at to h) =
     let same = line-longer bytes x (λ e. omega (arith, e, z)) in
-    sheet-whole some (ap (λ v. v .refusal) same ∙ z) (ap (λ v. v .taken) same ∙ at) (ap (λ v. from + v .bytes) same ∙ to)
-    (omega (arith, length-append bytes x))
+    sheet-whole some (ap (λ v. v .refusal) same ∙ z) (ap (λ v. v .client) same ∙ client) (ap (λ v. v .taken) same ∙ at)
+    (ap (λ v. from + v .bytes) same ∙ to) (omega (arith, length-append bytes x))
 
 -- ---- one move
 
@@ -162,16 +162,17 @@ breaksOff b = record { text = broken; stage = Over; batch = b; taken = 0 }
 abbrev pub begunWith : Begun → Moved
 begunWith v = record { text = []; stage = Sheets; batch = v .batch; taken = v .taken }
 
-abbrev pub answeredBy : Answer → Batch → ℕ → Moved
-answeredBy a b to = record { text = answerBytes a; stage = Sheets; batch = countedOf b (numberOf a); taken = to }
+abbrev pub answeredBy : Answer → ℕ → Batch → ℕ → Moved
+answeredBy a client b to =
+    record { text = answerBytes a; stage = Sheets; batch = countedOf b client (numberOf a); taken = to }
 
 pub data Move : Stage → Batch → List ℕ → Moved → Type 0 where
   begins : {b : Batch} {bytes : List ℕ} → begunOf bytes .refusal ≡ 0 → Move Count b bytes (begunWith (begunOf bytes))
   count-breaks : {b : Batch} {bytes : List ℕ} → begunOf bytes .refusal ≢ 4 → begunOf bytes .refusal ≢ 0
       → Move Count b bytes (breaksOff b)
   sheets-break : {b : Batch} {bytes : List ℕ} → Look (b .left) bytes breaks → Move Sheets b bytes (breaksOff b)
-  answering : {b : Batch} {bytes : List ℕ} {from to : ℕ} {a : Answer} → Look (b .left) bytes (sheet from to)
-      → answerSheet (take (to - from) (drop from bytes)) ≡ a → Move Sheets b bytes (answeredBy a b to)
+  answering : {b : Batch} {bytes : List ℕ} {client from to : ℕ} {a : Answer} → Look (b .left) bytes (sheet client from to)
+      → answerSheet (take (to - from) (drop from bytes)) ≡ a → Move Sheets b bytes (answeredBy a client b to)
 
 -- A broken batch makes none.
 abbrev pub Alive : Stage → Type 0
@@ -203,17 +204,17 @@ ready Sheets b bytes = go (nextSheet (b .left) bytes) refl (look (b .left) bytes
     go : (k : Next) → nextSheet (b .left) bytes ≡ k → Look (b .left) bytes k → Ready Sheets b bytes
     go waits e l = waiting (ap isWaiting e)
     go breaks e l = moving (sheets-break l)
-    go (sheet from to) e l = moving (answering l refl)
+    go (sheet client from to) e l = moving (answering l refl)
 ready Over b bytes = passing
 
 -- ---- what a move keeps
 
-pub look-some : {left : ℕ} {bytes : List ℕ} {from to : ℕ} → Look left bytes (sheet from to) → left ≢ 0
-look-some (sheet-whole some z from to h) = some
+pub look-some : {left : ℕ} {bytes : List ℕ} {client from to : ℕ} → Look left bytes (sheet client from to) → left ≢ 0
+look-some (sheet-whole some z client from to h) = some
 
-pub look-inside : {left : ℕ} {bytes : List ℕ} {from to : ℕ} → Look left bytes (sheet from to)
+pub look-inside : {left : ℕ} {bytes : List ℕ} {client from to : ℕ} → Look left bytes (sheet client from to)
     → (from ≤ to) × (to ≤ length bytes)
-look-inside (sheet-whole some z from to h) = (omega arith, h)
+look-inside (sheet-whole some z client from to h) = (omega arith, h)
 
 pub move-inside : {stage : Stage} {b : Batch} {bytes : List ℕ} {m : Moved} → Move stage b bytes m → m .taken ≤ length bytes
 move-inside {bytes = bytes} (begins z) = begun-inside bytes
@@ -226,7 +227,7 @@ pub move-counted : {stage : Stage} {b : Batch} {bytes : List ℕ} {m : Moved} �
 move-counted {bytes = bytes} few (begins z) = begun-counted bytes
 move-counted few (count-breaks h i) = tt
 move-counted few (sheets-break l) = tt
-move-counted {b = b} few (answering {a = a} l e) = counted-few b few (look-some l) (numberOf a)
+move-counted {b = b} few (answering {client = client} {a = a} l e) = counted-few b few (look-some l) client (numberOf a)
 
 pub move-few : {stage : Stage} {b : Batch} {bytes : List ℕ} {m : Moved} → Counted b → Move stage b bytes m → Counted (m .batch)
 move-few {bytes = bytes} few (begins z) = begun-counted bytes
@@ -248,44 +249,10 @@ move-longer {bytes = bytes} x (answering {from = from} {to = to} l e) =
 
 -- ---- the answers of `rules`, step by step
 
-batch-fault : (input : List ℕ) (n : ℕ) → readCount input ≡ fault n → batchOutput input ≡ broken
-unfolding batchOutput answersAfter readCount
-batch-fault input n e = ap answersAfter e
-
-batch-got : (input : List ℕ) (k : ℤ) (rest : List ℕ) → readCount input ≡ got k rest
-    → batchOutput input ≡ answers (natAbs k) noTally rest
-unfolding batchOutput answersAfter readCount
-batch-got input k rest e = ap answersAfter e
-
-answers-none : (y : Tally) (bytes : List ℕ) → answers 0 y bytes ≡ closing y bytes
-unfolding answers
-answers-none y bytes = refl
-
-answers-fault : (k : ℕ) (y : Tally) (bytes : List ℕ) (n : ℕ) → readSheetLine bytes ≡ fault n
-    → answers (suc k) y bytes ≡ broken
-unfolding answers
-answers-fault k y bytes n e = rw e
-
--- A sheet of so many bytes, and the sheets after it.
-abbrev afterLine : ℕ → Tally → ℕ → List ℕ → List ℕ
-afterLine k y size rest =
-    let a = answerSheet (take size rest) in
-    answerBytes a ++ answers k (countAnswer a y) (drop size rest)
-
-answers-got : (k : ℕ) (y : Tally) (bytes : List ℕ) (v : ReadLine) (rest : List ℕ) → readSheetLine bytes ≡ got v rest
-    → answers (suc k) y bytes ≡ cond (leb (v .bytes) (length rest)) (afterLine k y (v .bytes) rest) broken
-unfolding answers
-answers-got k y bytes v rest e = rw e
-
-closing-over : (y : Tally) (bytes : List ℕ) → length bytes ≢ 0 → closing y bytes ≡ broken
-unfolding closing
-closing-over y [] h = absurd (h refl)
-closing-over y (c ∷ bytes) h = refl
-
 module _ (b : Batch) (bytes : List ℕ) where
   -- No sheet is to come.
   left-none : b .left ≡ 0 → answers (b .left) (tallyOf b) bytes ≡ closing (tallyOf b) bytes
-  left-none z = ap (λ k. answers k (tallyOf b) bytes) z ∙ answers-none (tallyOf b) bytes
+  left-none z = ap (λ k. answers k (tallyOf b) bytes) z ∙ answers-none byClient (tallyOf b) bytes
 
   module _ (some : b .left ≢ 0) where
     next : answers (b .left) (tallyOf b) bytes ≡ answers (suc (pred (b .left))) (tallyOf b) bytes
@@ -295,44 +262,49 @@ module _ (b : Batch) (bytes : List ℕ) where
         one-more n h = omega arith
 
     line-unread : lineOf bytes .refusal ≢ 0 → answers (b .left) (tallyOf b) bytes ≡ broken
-    line-unread z = next ∙ answers-fault (pred (b .left)) (tallyOf b) bytes _ (line-fault bytes z)
+    line-unread z = next ∙ answers-fault byClient (pred (b .left)) (tallyOf b) bytes _ (line-fault bytes z)
 
     line-read : lineOf bytes .refusal ≡ 0
         → let size = lineOf bytes .bytes in
         let after = drop (lineOf bytes .taken) bytes in
         answers (b .left) (tallyOf b) bytes
-        ≡ cond (leb size (length after)) (afterLine (pred (b .left)) (tallyOf b) size after) broken
+        ≡ cond (leb size (length after)) (afterLine byClient (pred (b .left)) (tallyOf b) (lineOf bytes .client) size after) broken
     line-read z =
-        let (v, rest, e, d, same) = line-got bytes z in
-        next ∙ answers-got (pred (b .left)) (tallyOf b) bytes v rest e
-        ∙ ap₂ (λ n l. cond (leb n (length l)) (afterLine (pred (b .left)) (tallyOf b) n l) broken) (sym same) (sym d)
+        let (v, rest, e, d, client, size) = line-got bytes z in
+        next ∙ answers-got byClient (pred (b .left)) (tallyOf b) bytes v rest e
+        ∙ ap (λ c. cond (leb (v .bytes) (length rest)) (afterLine byClient (pred (b .left)) (tallyOf b) c (v .bytes) rest) broken) (sym client)
+        ∙ ap₂ (λ n l. cond (leb n (length l)) (afterLine byClient (pred (b .left)) (tallyOf b) (lineOf bytes .client) n l) broken)
+        (sym size) (sym d)
 
 -- ---- the meaning, by one move
 
-number-counts : (a : Answer) (y : Tally) → RightAnswer a → countAnswer (numbered (numberOf a)) y ≡ countAnswer a y
+number-counts : (client : ℕ) (a : Answer) (y : Tally) → RightAnswer a
+    → countAnswer client (numbered (numberOf a)) y ≡ countAnswer client a y
 unfolding countAnswer numbered numberOf
-number-counts a y (right-accepted few) = refl
-number-counts a y (right-refused n few) = refl
+number-counts client a y (right-accepted few) = refl
+number-counts client a y (right-refused n few) = refl
 
 module _ (b : Batch) (bytes : List ℕ) where
   breaks-means : Look (b .left) bytes breaks → answers (b .left) (tallyOf b) bytes ≡ broken
-  breaks-means (left-over z h) = left-none b bytes z ∙ closing-over (tallyOf b) bytes h
+  breaks-means (left-over z h) = left-none b bytes z ∙ closing-over byClient (tallyOf b) bytes h
   breaks-means (line-breaks some other z) = line-unread b bytes some z
 
-  sheet-means : {from to : ℕ} → Counted b → Look (b .left) bytes (sheet from to)
+  sheet-means : {client from to : ℕ} → Counted b → Look (b .left) bytes (sheet client from to)
       → let a = answerSheet (take (to - from) (drop from bytes)) in
-      let b' = countedOf b (numberOf a) in
+      let b' = countedOf b client (numberOf a) in
       answers (b .left) (tallyOf b) bytes ≡ answerBytes a ++ answers (b' .left) (tallyOf b') (drop to bytes)
-  sheet-means {from} {to} few (sheet-whole some z at end h) =
+  sheet-means {client} {from} {to} few (sheet-whole some z same at end h) =
       let a = answerSheet (take (to - from) (drop from bytes)) in
+      let (low, high) = subst (λ n. (1 ≤ n) × (n ≤ clientCount)) same (line-client bytes z) in
       line-read b bytes some z
-      ∙ ap (λ t. cond t (afterLine (pred (b .left)) (tallyOf b) size after) broken)
+      ∙ ap (λ t. cond t (afterLine byClient (pred (b .left)) (tallyOf b) (lineOf bytes .client) size after) broken)
       (le-leb size (length after) (omega (arith, length-drop (lineOf bytes .taken) bytes)))
-      ∙ ap₂ (λ l r. answerBytes (answerSheet l) ++ answers (pred (b .left)) (countAnswer (answerSheet l) (tallyOf b)) r)
+      ∙ ap (λ n. afterLine byClient (pred (b .left)) (tallyOf b) n size after) same
+      ∙ ap₂ (λ l r. answerBytes (answerSheet l) ++ answers (pred (b .left)) (countAnswer client (answerSheet l) (tallyOf b)) r)
       whole behind
       ∙ sym
-      (ap₂ (λ k y. answerBytes a ++ answers k y (drop to bytes)) (counted-left b few some (numberOf a))
-      (counted-tally b few some (numberOf a) ∙ number-counts a (tallyOf b) (answer-right _)))
+      (ap₂ (λ k y. answerBytes a ++ answers k y (drop to bytes)) (counted-left b few some client (numberOf a))
+      (counted-tally b few some client (numberOf a) low high ∙ number-counts client a (tallyOf b) (answer-right _)))
     where
       size : ℕ
       size = lineOf bytes .bytes
@@ -350,15 +322,15 @@ module _ (b : Batch) (bytes : List ℕ) where
 
 pub move-means : {stage : Stage} {b : Batch} {bytes : List ℕ} {m : Moved} → CountedIn stage b → Move stage b bytes m
     → meaning stage b bytes ≡ m .text ++ meaning (m .stage) (m .batch) (drop (m .taken) bytes)
-unfolding meaning tallyOf
+unfolding meaning batchOutput tallyOf
 move-means {bytes = bytes} few (begins z) =
     let (k, rest, e, d, same) = begun-got bytes z in
-    batch-got bytes k rest e ∙ ap₂ (λ b l. answers (b .left) (tallyOf b) l) (sym same) (sym d)
-move-means {bytes = bytes} few (count-breaks h i) = batch-fault bytes _ (begun-fault bytes i) ∙ sym (append-nil broken)
+    output-got byClient bytes k rest e ∙ ap₂ (λ b l. answers (b .left) (tallyOf b) l) (sym same) (sym d)
+move-means {bytes = bytes} few (count-breaks h i) = output-fault byClient bytes _ (begun-fault bytes i) ∙ sym (append-nil broken)
 move-means {b = b} {bytes = bytes} few (sheets-break l) = breaks-means b bytes l ∙ sym (append-nil broken)
-move-means {b = b} {bytes = bytes} few (answering {to = to} l e) =
+move-means {b = b} {bytes = bytes} few (answering {client = client} {to = to} l e) =
     subst
-    (λ a. answers (b .left) (tallyOf b) bytes ≡ answerBytes a ++ meaning Sheets (countedOf b (numberOf a)) (drop to bytes))
+    (λ a. answers (b .left) (tallyOf b) bytes ≡ answerBytes a ++ meaning Sheets (countedOf b client (numberOf a)) (drop to bytes))
     e (sheet-means b bytes few l)
 
 -- ---- bytes that wait
@@ -381,7 +353,7 @@ look-waits left bytes e = go (nextSheet left bytes) e (look left bytes)
     go : (k : Next) → isWaiting k ≡ true → Look left bytes k → Look left bytes waits
     go waits e l = l
     go breaks e l = absurd (let z : _≡_ {A = ℕ} 0 1 = cc in omega arith)
-    go (sheet from to) e l = absurd (let z : _≡_ {A = ℕ} 0 1 = cc in omega arith)
+    go (sheet client from to) e l = absurd (let z : _≡_ {A = ℕ} 0 1 = cc in omega arith)
 
 line-taken : (bytes : List ℕ) → lineOf bytes .taken ≤ batchLine
 unfolding lineOf lineBy
@@ -404,19 +376,19 @@ waits-short Over b held e = omega (arith, eqb-true (length held) 0 e)
 
 pub end-meaning : (stage : Stage) (b : Batch) (held : List ℕ) → CountedIn stage b → waitsWith stage b held ≡ true
     → meaning stage b held ≡ endText stage b (length held)
-unfolding meaning endText waitsWith
+unfolding meaning batchOutput endText waitsWith
 end-meaning Count b held few e =
-    batch-fault held _ (begun-fault held (λ z. omega (arith, z, eqb-true (begunOf held .refusal) 4 e)))
+    output-fault byClient held _ (begun-fault held (λ z. omega (arith, z, eqb-true (begunOf held .refusal) 4 e)))
 end-meaning Sheets b held few e = go (look-waits (b .left) held e)
   where
-    go : Look (b .left) held waits → answers (b .left) (tallyOf b) held ≡ closeLine b (length held)
+    go : Look (b .left) held waits → answers (b .left) (tallyOf b) held ≡ closeText b (length held)
     go (no-more z n) = left-none b held z ∙ sym (close-closing b few z held)
     go (line-waits some z) = line-unread b held some (λ e. omega (arith, e, z)) ∙ sym (close-broken b (length held) some)
     go (sheet-waits some z h) =
         let size = lineOf held .bytes in
         let after = drop (lineOf held .taken) held in
         line-read b held some z
-        ∙ ap (λ t. cond t (afterLine (pred (b .left)) (tallyOf b) size after) broken)
+        ∙ ap (λ t. cond t (afterLine byClient (pred (b .left)) (tallyOf b) (lineOf held .client) size after) broken)
         (lt-leb size (length after) (omega (arith, length-drop (lineOf held .taken) held, line-inside held)))
         ∙ sym (close-broken b (length held) some)
 end-meaning Over b held few e = refl

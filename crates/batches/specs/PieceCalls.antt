@@ -12,9 +12,10 @@ use mathlib.Core.List.{List, [], _++_}
 use lib.Dec.{leb, ltb, eqb}
 use lib.ListN.{length, take, replicate}
 use Rattle.lists.specs.Overwritten.{overwrite}
+use Rattle.lists.specs.Totals.{total}
 use Rattle.rules.specs.Batch.{broken, batchOutput}
 use Rattle.frames.specs.declared.Batch.{Batch}
-use Rattle.frames.specs.Pieces.{begunOf, closeLine}
+use Rattle.frames.specs.Pieces.{begunOf, acceptedIn, refusedIn, closeText}
 use Rattle.batches.specs.declared.Stage.{Stage}
 use Rattle.batches.specs.declared.Stage.the-variants.{Count, Sheets, Over}
 use Rattle.batches.specs.declared.Stream.{Stream}
@@ -31,7 +32,7 @@ heldNeed = 32792
 unfoldable pub isWaiting : Next → Bool
 isWaiting waits = true
 isWaiting breaks = false
-isWaiting (sheet from to) = false
+isWaiting (sheet client from to) = false
 
 -- Do the held bytes begin a line or a sheet, and are they too few for it?
 unfoldable pub waitsWith : Stage → Batch → List ℕ → Bool
@@ -42,9 +43,8 @@ waitsWith Over b held = eqb (length held) 0
 
 -- At most 1,000 sheets in all, and fewer bytes are held than a line and a sheet can have (SCOPE 5.34).
 unfoldable pub streamRight : Stream → Bool
-streamRight s =
-    (leb (s .batch .left) 1000 && leb (s .batch .accepted) 1000 && leb (s .batch .refused) 1000)
-    && leb (s .batch .left + s .batch .accepted + s .batch .refused) 1000 && ltb (s .held) heldNeed
+unfolding total
+streamRight s = leb (s .batch .left + acceptedIn (s .batch) + refusedIn (s .batch)) 1000 && ltb (s .held) heldNeed
 
 -- The checks of SCOPE 5.34: sizes (2), lengths (1), and then the bytes that the store holds (5).
 unfoldable pub streamCheck : Stream → List ℕ → ℕ
@@ -116,9 +116,9 @@ outputOf r output = record { refusal = r .refusal; length = r .length; output = 
 
 -- What is still written at the end of the input: nothing after a broken batch (SCOPE 5.35).
 unfoldable pub endText : Stage → Batch → ℕ → List ℕ
-unfolding broken closeLine
+unfolding broken closeText
 endText Count b held = broken
-endText Sheets b held = closeLine b held
+endText Sheets b held = closeText b held
 endText Over b held = []
 
 -- The text at the front of the output, or 1 where it does not fit.

@@ -29,9 +29,10 @@ use lib.ListN.{length, take, drop, length-append}
 use lib.Seq.{take-at, length-take-le, drop-append-le, drop-append-add, drop-length}
 use Rattle.lists.specs.Tests.{T-&&, true-T}
 use Rattle.lists.specs.Overwritten.{overwrite, overwrite-length, overwrite-front}
+use Rattle.lists.specs.Totals.{total}
 use Rattle.rules.specs.Batch.{batchOutput}
 use Rattle.frames.specs.declared.Batch.{Batch}
-use Rattle.frames.specs.Pieces.{Counted}
+use Rattle.frames.specs.Pieces.{acceptedIn, refusedIn, Counted}
 use Rattle.batches.specs.declared.Stage.{Stage}
 use Rattle.batches.specs.declared.Stage.the-variants.{Count}
 use Rattle.batches.specs.declared.Stream.{Stream}
@@ -56,19 +57,16 @@ check-right s store e =
     let (sizes, f) = opened (streamRight s) _ 1 e in
     let (long, g) = opened (leb heldNeed (length store)) _ 0 f in
     let (waiting, h) = opened (waitsWith (s .stage) (s .batch) (take (s .held) store)) 0 4 g in
-    let parts = T-&& (each && leb all 1000) (ltb (s .held) heldNeed) .0 (true-T (streamRight s) sizes) in
+    let parts = T-&& (leb all 1000) (ltb (s .held) heldNeed) .0 (true-T (streamRight s) sizes) in
     record {
-      counted = leb→le all 1000 (T-&& each (leb all 1000) .0 (parts .0) .1);
+      counted = leb→le all 1000 (parts .0);
       few = ltb→lt (s .held) heldNeed (parts .1);
       long = leb-true heldNeed (length store) long;
       waiting = waiting;
     }
   where
-    each : Bool
-    each = leb (s .batch .left) 1000 && leb (s .batch .accepted) 1000 && leb (s .batch .refused) 1000
-
     all : ℕ
-    all = s .batch .left + s .batch .accepted + s .batch .refused
+    all = s .batch .left + acceptedIn (s .batch) + refusedIn (s .batch)
 
     opened : (t : Bool) (x n : ℕ) → cond t x (suc n) ≡ 0 → (t ≡ true) × (x ≡ 0)
     opened true x n e = (refl, e)
@@ -79,10 +77,7 @@ unfolding streamCheck streamRight
 right-check s store r =
     let b = s .batch in
     rw (
-      le-leb (b .left) 1000 (omega arith),
-      le-leb (b .accepted) 1000 (omega arith),
-      le-leb (b .refused) 1000 (omega arith),
-      le-leb (b .left + b .accepted + b .refused) 1000 (r .counted),
+      le-leb (b .left + acceptedIn b + refusedIn b) 1000 (r .counted),
       lt-ltb (s .held) heldNeed (r .few),
       le-leb heldNeed (length store) (r .long),
       r .waiting,
@@ -281,6 +276,7 @@ run-meaning {s} {store} {remaining} right (called piece later output same call r
     counts = counted-in (s .stage) (s .batch) (check-right s store right .counted)
 
 pub start-right : (store : List ℕ) → heldNeed ≤ length store → Right startOf store
+unfolding total
 start-right store long =
     record { counted = zero-le; few = omega arith; long = long; waiting = waits-none Count (startOf .batch) }
 

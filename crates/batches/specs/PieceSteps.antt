@@ -21,7 +21,7 @@ use lib.ListN.{length, take, drop}
 use Rattle.lists.specs.Tests.{T-&&, true-T}
 use Rattle.frames.specs.declared.Batch.{Batch}
 use Rattle.frames.specs.declared.SheetLine.{SheetLine}
-use Rattle.frames.specs.Pieces.{lineOf, line-inside}
+use Rattle.frames.specs.Pieces.{lineOf, line-inside, acceptedIn, refusedIn}
 use Rattle.batches.specs.declared.Stage.{Stage}
 use Rattle.batches.specs.declared.Stream.{Stream}
 use Rattle.batches.specs.declared.PieceResult.{PieceResult}
@@ -72,9 +72,8 @@ restOf f from store piece output =
 pub right-few : (s : Stream) → streamRight s ≡ true → s .held < heldNeed
 unfolding streamRight
 right-few s e =
-    let each = leb (s .batch .left) 1000 && leb (s .batch .accepted) 1000 && leb (s .batch .refused) 1000 in
-    let all = leb (s .batch .left + s .batch .accepted + s .batch .refused) 1000 in
-    ltb→lt (s .held) heldNeed (T-&& (each && all) (ltb (s .held) heldNeed) .0 (true-T (streamRight s) e) .1)
+    let all = leb (s .batch .left + acceptedIn (s .batch) + refusedIn (s .batch)) 1000 in
+    ltb→lt (s .held) heldNeed (T-&& all (ltb (s .held) heldNeed) .0 (true-T (streamRight s) e) .1)
 
 pub none-waits : (left : ℕ) (bytes : List ℕ) → left ≡ 0 → eqb (length bytes) 0 ≡ isWaiting (nextSheet left bytes)
 unfolding isWaiting nextSheet
@@ -99,7 +98,7 @@ size-waits left bytes v same some z = subst
         go : (t : Bool) → (t ≡ true → length bytes - line .taken < line .bytes) → (t ≡ false → line .bytes ≤ length bytes - line .taken)
             → t ≡ isWaiting (nextSheet left bytes)
         go true is isn't = ap isWaiting (sym (look-is (sheet-waits some z (omega (arith, is refl, line-inside bytes)))))
-        go false is isn't = ap isWaiting (sym (look-is (sheet-whole some z refl refl (omega (arith, isn't refl, line-inside bytes)))))
+        go false is isn't = ap isWaiting (sym (look-is (sheet-whole some z refl refl refl (omega (arith, isn't refl, line-inside bytes)))))
 
 -- A stream that is refused.
 pub piece-refused : (s : Stream) (store piece output : List ℕ) (n : ℕ) → n ≡ streamCheck s store → n ≢ 0

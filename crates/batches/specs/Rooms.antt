@@ -6,7 +6,7 @@
 --
 -- Main statements
 --   answer-room, move-room   no answer is longer
---   end-room, end-fits       at the end there are at most 24 bytes to write
+--   end-room, end-fits       at the end there are at most 192 bytes to write
 --   gets-on           a call with that room takes a byte of a piece that has one
 --   pieces-exist      for every input there are calls that take all of it
 use Prim.Native.Nat.{ℕ, zero, suc, _+_, _-_, _≤_, _<_, zero-le}
@@ -21,12 +21,13 @@ use borrow.Author.Tests.{le-leb}
 use lib.IntN.{pos}
 use lib.ListN.{length, take, drop, replicate, length-append, length-drop}
 use Rattle.rules.specs.Numbers.{decimal, line, lines}
-use Rattle.rules.specs.Batch.{mostBytes, Answer, accepted, answerSheet, answerBytes, broken, closing, batchOutput}
+use Rattle.rules.specs.Batch.{mostBytes, Answer, accepted, answerSheet, answerBytes, broken, closingBy, closing, batchOutput}
 use Rattle.tokens.specs.WrittenNumbers.{isNumber-decimal}
 use Rattle.answers.specs.Answers.{RightAnswer, right-accepted, right-refused, answer-right}
 use Rattle.frames.specs.declared.Batch.{Batch}
 use Rattle.frames.specs.Windows.{numberLine, batchLine, number-short}
-use Rattle.frames.specs.Pieces.{tallyOf, closeable, closeLine, Counted}
+use Rattle.frames.specs.Pieces.{textRoom, tallyOf, closeable, closeText, Counted}
+use Rattle.frames.specs.Lines.{tally-short}
 use Rattle.batches.specs.declared.Stage.{Stage}
 use Rattle.batches.specs.declared.Stage.the-variants.{Count, Sheets, Over}
 use Rattle.batches.specs.declared.Stream.{Stream}
@@ -46,10 +47,6 @@ decimal-room n h = number-short (decimal (pos n)) (isNumber-decimal (pos n) (ome
 line-room : (n : ℕ) → n ≤ 1000 → length (lines ((pos n ∷ []) ∷ [])) ≤ batchLine
 unfolding lines line
 line-room n h = simp length-append (omega (arith, decimal-room n h))
-
-tally-room : (a b : ℕ) → a ≤ 1000 → b ≤ 1000 → length (lines ((pos a ∷ pos b ∷ []) ∷ [])) ≤ batchLine
-unfolding lines line
-tally-room a b h i = simp length-append (omega (arith, decimal-room a h, decimal-room b i))
 
 broken-room : length broken ≤ batchLine
 unfolding broken
@@ -79,18 +76,18 @@ move-room (answering {bytes = bytes} {from = from} {to = to} l e) =
 
 -- ---- the end
 
-pub end-room : (stage : Stage) (b : Batch) (held : ℕ) → Counted b → length (endText stage b held) ≤ batchLine
-unfolding endText closeLine closing tallyOf
-end-room Count b held few = broken-room
+pub end-room : (stage : Stage) (b : Batch) (held : ℕ) → Counted b → length (endText stage b held) ≤ textRoom
+unfolding endText closeText closingBy tallyOf
+end-room Count b held few = omega (arith, broken-room)
 end-room Sheets b held few = go (closeable b) (replicate held 0)
   where
-    go : (t : Bool) (over : List ℕ) → length (cond t (closing (tallyOf b) over) broken) ≤ batchLine
-    go true [] = tally-room (b .accepted) (b .refused) (omega arith) (omega arith)
-    go true (x ∷ over) = broken-room
-    go false over = broken-room
+    go : (t : Bool) (over : List ℕ) → length (cond t (closing (tallyOf b) over) broken) ≤ textRoom
+    go true [] = tally-short (tallyOf b) (omega arith) (omega arith)
+    go true (x ∷ over) = omega (arith, broken-room)
+    go false over = omega (arith, broken-room)
 end-room Over b held few = zero-le
 
-pub end-fits : (s : Stream) (store output : List ℕ) → streamCheck s store ≡ 0 → batchLine ≤ length output
+pub end-fits : (s : Stream) (store output : List ℕ) → streamCheck s store ≡ 0 → textRoom ≤ length output
     → endCall s output .refusal ≡ 0
 unfolding endCall putText
 end-fits s store output right h =

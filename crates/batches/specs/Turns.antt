@@ -29,7 +29,7 @@ use Rattle.lists.specs.Overwritten.{overwrite, put-behind, length-overwrite}
 use Rattle.rules.specs.Batch.{Answer, answerSheet, answerBytes, broken}
 use Rattle.frames.specs.declared.Batch.{Batch}
 use Rattle.frames.specs.declared.Begun.{Begun}
-use Rattle.frames.specs.declared.TextLine.{TextLine}
+use Rattle.frames.specs.declared.Text.{Text}
 use Rattle.frames.specs.PieceSizes.{begun-counted}
 use Rattle.frames.specs.Pieces.{textOf, shown, shown-text, refusalLine, refusal-broken, begunOf, begun-inside}
 use Rattle.frames.specs.Pieces.{countedOf, Counted, counted-left}
@@ -91,7 +91,7 @@ unfolding fedBy overwrite
 nothing-by stage b full bytes output =
     λ i. callWith stage b (sym (sub-self (length bytes)) i) 0 full output
 
-module _ (stage : Stage) (b : Batch) (bytes output : List ℕ) (line : TextLine) (e : line ≡ textOf (refusalLine 3)) where
+module _ (stage : Stage) (b : Batch) (bytes output : List ℕ) (line : Text) (e : line ≡ textOf (refusalLine 3)) where
   three : (line .length ≡ length broken) × (shown line ≡ broken)
   unfolding textOf
   three = (ap (λ t. t .length) e ∙ ap length refusal-broken, ap shown e ∙ shown-text (refusalLine 3) ∙ refusal-broken)
@@ -115,18 +115,18 @@ module _ (stage : Stage) (b : Batch) (bytes output : List ℕ) (line : TextLine)
 
 -- ---- one sheet
 
-module _ (a : Answer) (b : Batch) (bytes output : List ℕ) (to : ℕ) (r : Put) (after : List ℕ) (e : putOf r after ≡ answerPut a output) where
+module _ (a : Answer) (client : ℕ) (b : Batch) (bytes output : List ℕ) (to : ℕ) (r : Put) (after : List ℕ) (e : putOf r after ≡ answerPut a output) where
   abbrev stepped : Step
-  stepped = answerStep a b bytes (length output) to
+  stepped = answerStep a client b bytes (length output) to
 
   by-fit : (t : Bool) → leb (length (answerBytes a)) (length output) ≡ t
       → (putOf r after ≡ cond t (put a output) (unput output))
-      × (stepped ≡ cond t (answered (countedOf b (numberOf a)) (drop to bytes) (answerBytes a)) (stopped (fullAt Sheets b bytes)))
+      × (stepped ≡ cond t (answered (countedOf b client (numberOf a)) (drop to bytes) (answerBytes a)) (stopped (fullAt Sheets b bytes)))
   unfolding answerPut answerStep
   by-fit t f = (
     e ∙ ap (λ t. cond t (put a output) (unput output)) f,
     ap
-        (λ t. cond t (answered (countedOf b (numberOf a)) (drop to bytes) (answerBytes a)) (stopped (fullAt Sheets b bytes))) f,
+        (λ t. cond t (answered (countedOf b client (numberOf a)) (drop to bytes) (answerBytes a)) (stopped (fullAt Sheets b bytes))) f,
   )
 
   pub put-full : not (r .fits) ≡ true → turnOf (stoppedOf (nothing Sheets b true)) after ≡ turnBy stepped bytes output
@@ -142,17 +142,17 @@ module _ (a : Answer) (b : Batch) (bytes output : List ℕ) (to : ℕ) (r : Put)
           ∙ ap (λ s. turnBy s bytes output) (sym (by-fit false f .1))
 
   pub put-done : not (r .fits) ≡ false → to ≤ length bytes
-      → _≡_ {A = Turned} (record { going = true; call = callWith Sheets (countedOf b (r .refusal)) to (r .written) false after })
+      → _≡_ {A = Turned} (record { going = true; call = callWith Sheets (countedOf b client (r .refusal)) to (r .written) false after })
       (turnBy stepped bytes output)
   unfolding turnBy
   put-done h inside = go (leb (length (answerBytes a)) (length output)) refl
     where
       go : (t : Bool) → leb (length (answerBytes a)) (length output) ≡ t
-          → _≡_ {A = Turned} (record { going = true; call = callWith Sheets (countedOf b (r .refusal)) to (r .written) false after })
+          → _≡_ {A = Turned} (record { going = true; call = callWith Sheets (countedOf b client (r .refusal)) to (r .written) false after })
           (turnBy stepped bytes output)
       go false f = absurd (true≢false (sym (ap (λ c. not (c .fits)) (by-fit false f .0)) ∙ h))
       go true f =
-          ap₂ (λ c n. record { going = true; call = callWith Sheets (countedOf b (c .refusal)) n (c .written) false (c .output) })
+          ap₂ (λ c n. record { going = true; call = callWith Sheets (countedOf b client (c .refusal)) n (c .written) false (c .output) })
           (by-fit true f .0) taken
           ∙ ap (λ s. turnBy s bytes output) (sym (by-fit true f .1))
         where
@@ -179,10 +179,10 @@ module _ (b : Batch) (bytes output : List ℕ) where
   unfolding stepBy turnBy
   turn-breaks e r after f = ap (λ c. record { going = false; call = c }) f ∙ sym (turned-by breaks e)
 
-  pub turn-sheet : (from to : ℕ) → nextSheet (b .left) bytes ≡ sheet from to
-      → turnBy (answerStep (sheetIn bytes from to) b bytes (length output) to) bytes output ≡ turned
+  pub turn-sheet : (client from to : ℕ) → nextSheet (b .left) bytes ≡ sheet client from to
+      → turnBy (answerStep (sheetIn bytes from to) client b bytes (length output) to) bytes output ≡ turned
   unfolding stepBy
-  turn-sheet from to e = sym (turned-by (sheet from to) e)
+  turn-sheet client from to e = sym (turned-by (sheet client from to) e)
 
 -- ---- from turn to turn
 
@@ -193,8 +193,9 @@ record Went (b b' : Batch) (bytes rest text : List ℕ) (room : ℕ) : Type 0 wh
   beyond : rest ≡ drop to bytes
   fits : length text ≤ room
   some : b .left ≢ 0
+  client : ℕ
   refusal : ℕ
-  counted : b' ≡ countedOf b refusal
+  counted : b' ≡ countedOf b client refusal
 
 step-answered : (b b' : Batch) (bytes rest text : List ℕ) (room : ℕ) → step b bytes room ≡ answered b' rest text
     → Went b b' bytes rest text room
@@ -204,17 +205,17 @@ step-answered b b' bytes rest text room e = go (nextSheet (b .left) bytes) (look
     go : (n : Next) → Look (b .left) bytes n → stepBy n b bytes room ≡ answered b' rest text → Went b b' bytes rest text room
     go waits l e = absurd (let z : _≡_ {A = ℕ} 0 1 = cc in omega arith)
     go breaks l e = absurd (let z : _≡_ {A = ℕ} 0 1 = cc in omega arith)
-    go (sheet from to) l e = by (leb (length (answerBytes a)) room) (leb→le (length (answerBytes a)) room) e
+    go (sheet client from to) l e = by (leb (length (answerBytes a)) room) (leb→le (length (answerBytes a)) room) e
       where
         a : Answer
         a = answerSheet (take (to - from) (drop from bytes))
 
         by : (t : Bool) → (T t → length (answerBytes a) ≤ room)
-            → cond t (answered (countedOf b (numberOf a)) (drop to bytes) (answerBytes a))
+            → cond t (answered (countedOf b client (numberOf a)) (drop to bytes) (answerBytes a))
             (stopped (fullAt Sheets b bytes)) ≡ answered b' rest text
             → Went b b' bytes rest text room
         by true h e =
-            let batch : countedOf b (numberOf a) ≡ b' = cc in
+            let batch : countedOf b client (numberOf a) ≡ b' = cc in
             let shown : answerBytes a ≡ text = cc in
             let left : drop to bytes ≡ rest = cc in
             record {
@@ -222,11 +223,12 @@ step-answered b b' bytes rest text room e = go (nextSheet (b .left) bytes) (look
               moved =
                   subst (λ c. Move Sheets b bytes (record { text = text; stage = Sheets; batch = c; taken = to })) batch
                   (subst (λ l. Move Sheets b bytes
-                  (record { text = l; stage = Sheets; batch = countedOf b (numberOf a); taken = to })) shown
+                  (record { text = l; stage = Sheets; batch = countedOf b client (numberOf a); taken = to })) shown
                   (answering l refl));
               beyond = sym left;
               fits = subst (λ l. length l ≤ room) shown (h tt);
               some = look-some l;
+              client = client;
               refusal = numberOf a;
               counted = sym batch;
             }
@@ -395,7 +397,7 @@ module _ {b₀ b : Batch} {bytes output₀ output : List ℕ} {at out : ℕ} (s 
             ∙ ap (written-before (feedSheets b' (drop (went .to) left) (room - length text))) (sym (append-assoc (s .text) text _))
             ∙ (λ i. prefixed (s .text ++ text) (feedSheets (sym batch-to i) (place i) (less i)));
       },
-      rw (batch-to, went .counted, counted-left b (s .few) (went .some) (went .refusal)) (omega (arith, went .some)),
+      rw (batch-to, went .counted, counted-left b (s .few) (went .some) (went .client) (went .refusal)) (omega (arith, went .some)),
     )
 
   pub sofar-goes : not (t .going) ≡ false

@@ -6,6 +6,7 @@ ghost use Rattle.rules.specs.Stores.{largestRows, relationNeed};
 ghost use Rattle.rules.specs.Calls.{zeros};
 ghost use Rattle.lists.specs.Overwritten.{overwrite};
 ghost use Rattle.rules.specs.Batch.{mostBytes, answerSheet};
+ghost use Rattle.frames.specs.Pieces.{textRoom};
 ghost use Rattle.batches.specs.Answering.{putOf, answerPut};
 
 // `fits` says that there was room for the answer; only then is it written, and its refusal, or 0, told.
@@ -24,14 +25,14 @@ const SHEET: usize = answers::SHEET;
 // The longest answer: that line and that sheet.
 pub const ANSWER: usize = ACCEPTED + SHEET;
 
-// A line of text at the front of the output.
-pub(crate) fn put_line(output: &mut [u8], line: frames::TextLine)
-    requires { ⌜ (line .length ≤ 24) × (line .length ≤ length (now output)) ⌝ }
-    ensures { λ _. ⌜ now (output .exit) ≡ overwrite (take (line .length) (line .bytes)) (now (output .entry)) ⌝ }
+// Lines of text at the front of the output.
+pub(crate) fn put_text(output: &mut [u8], text: frames::Text)
+    requires { ⌜ (text .length ≤ textRoom) × (text .length ≤ length (now output)) ⌝ }
+    ensures { λ _. ⌜ now (output .exit) ≡ overwrite (take (text .length) (text .bytes)) (now (output .entry)) ⌝ }
 {
-    let length = line.length;
-    let text = line.bytes;
-    bytes::copy(&text[..length], output);
+    let length = text.length;
+    let lines = text.bytes;
+    bytes::copy(&lines[..length], output);
 }
 
 // There is room for any answer: the sheet goes to its place behind the line `0`, and then the line before it.
@@ -43,7 +44,7 @@ fn put_straight(sheet: &[u8], output: &mut [u8], rows: &mut [i64], relations: &m
     let answer = answers::answer_in(sheet, rows, relations, &mut output[ACCEPTED..]);
     let line = frames::refusal_line(answer.refusal);
     let written = line.length + answer.length;
-    put_line(output, line);
+    put_text(output, line);
     Put {
         fits: true,
         refusal: answer.refusal,
@@ -71,7 +72,7 @@ fn put_beside(sheet: &[u8], output: &mut [u8], rows: &mut [i64], relations: &mut
         };
     }
     bytes::copy(&beside[..length], &mut output[from..]);
-    put_line(output, line);
+    put_text(output, line);
     Put {
         fits: true,
         refusal: answer.refusal,

@@ -9,14 +9,14 @@ ghost use Rattle.frames.specs.Pieces.{textOf};
 ghost use Rattle.batches.specs.PieceCalls.{outputOf, endText, putText, outputCall};
 
 // What is still written at the end of the input: nothing after a broken batch (SCOPE 5.35).
-fn end_line(stage: Stage, batch: frames::Batch, held: usize) -> frames::TextLine
+fn end_text(stage: Stage, batch: frames::Batch, held: usize) -> frames::Text
     ensures { λ r. ⌜ r ≡ textOf (endText stage batch held) ⌝ }
 {
     match stage {
         Stage::Count => frames::refusal_line(3),
         Stage::Sheets => frames::close(batch, held),
-        Stage::Over => frames::TextLine {
-            bytes: [0; 24],
+        Stage::Over => frames::Text {
+            bytes: [0; frames::TEXT],
             length: 0,
         },
     }
@@ -30,15 +30,15 @@ pub(crate) fn ending(
 ) -> OutputResult
     ensures { λ r. ⌜ outputOf r (now (output .exit)) ≡ putText (endText stage batch held) (now (output .entry)) (now (output .entry)) ⌝ }
 {
-    let line = end_line(stage, batch, held);
-    let length = line.length;
+    let text = end_text(stage, batch, held);
+    let length = text.length;
     if output.len() < length {
         return OutputResult {
             refusal: 1,
             length: 0,
         };
     }
-    crate::answering::put_line(output, line);
+    crate::answering::put_text(output, text);
     OutputResult { refusal: 0, length }
 }
 
@@ -66,11 +66,7 @@ pub(crate) fn whole(
     requires { ⌜ (now rows ≡ zeros largestRows) × (now relations ≡ zeros relationNeed) ⌝ }
     ensures { λ r. ⌜ outputOf r (now (output .exit)) ≡ outputCall (now (input .entry)) (now (output .entry)) ⌝ }
 {
-    let none = frames::Batch {
-        left: 0,
-        accepted: 0,
-        refused: 0,
-    };
+    let none = frames::uncounted(0);
     let fed = crate::feeding::feed(Stage::Count, none, input, output, rows, relations);
     if fed.full {
         return too_short(output);

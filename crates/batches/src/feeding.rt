@@ -43,7 +43,7 @@ fn breaking(stage: Stage, batch: frames::Batch, bytes: &[u8], output: &mut [u8])
     if output.len() < written {
         return nothing(stage, batch, true);
     }
-    crate::answering::put_line(output, line);
+    crate::answering::put_text(output, line);
     Fed {
         stage: Stage::Over,
         batch,
@@ -65,9 +65,10 @@ fn stopped(fed: Fed) -> Turn
     Turn { going: false, fed }
 }
 
-// A sheet that is there whole, from one place up to another.
+// A sheet of a client that is there whole, from one place up to another.
 fn sheet_turn(
     batch: frames::Batch,
+    client: usize,
     bytes: &[u8],
     from: usize,
     to: usize,
@@ -78,7 +79,9 @@ fn sheet_turn(
     requires { ⌜
         (from ≤ to) × (to ≤ length (now bytes)) × (now rows ≡ zeros largestRows) × (now relations ≡ zeros relationNeed) ⌝ }
     ensures { λ r. ⌜ turnOf r (now (output .exit))
-        ≡ turnBy (answerStep (sheetIn (now (bytes .entry)) from to) batch (now (bytes .entry)) (length (now (output .entry))) to) (now (bytes .entry)) (now (output .entry)) ⌝ }
+        ≡ turnBy
+        (answerStep (sheetIn (now (bytes .entry)) from to) client batch (now (bytes .entry)) (length (now (output .entry))) to)
+        (now (bytes .entry)) (now (output .entry)) ⌝ }
     ensures { λ _. ⌜ (now (rows .exit) ≡ now (rows .entry)) × (now (relations .exit) ≡ now (relations .entry)) ⌝ }
 {
     let put = crate::answering::put_answer(&bytes[from..to], output, rows, relations);
@@ -89,7 +92,7 @@ fn sheet_turn(
         going: true,
         fed: Fed {
             stage: Stage::Sheets,
-            batch: frames::counted(batch, put.refusal),
+            batch: frames::counted(batch, client, put.refusal),
             taken: to,
             written: put.written,
             full: false,
@@ -128,7 +131,7 @@ fn next_turn(
         return stopped(nothing(Stage::Sheets, batch, false));
     }
     let to = from + line.bytes;
-    sheet_turn(batch, bytes, from, to, output, rows, relations)
+    sheet_turn(batch, line.client, bytes, from, to, output, rows, relations)
 }
 
 // Every sheet that is there whole, as far as the answers fit.

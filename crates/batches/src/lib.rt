@@ -23,8 +23,8 @@ pub enum Stage {
     Over,
 }
 
-// A batch that comes in pieces: the sheets to come with the answers so far, and the number of bytes that are held, which begin a
-// line or a sheet.
+// A batch that comes in pieces: the sheets to come with the answers so far, client by client, and the number of bytes that are held,
+// which begin a line or a sheet.
 pub struct Stream {
     pub stage: Stage,
     pub batch: frames::Batch,
@@ -61,11 +61,7 @@ pub fn start() -> Stream
 {
     Stream {
         stage: Stage::Count,
-        batch: frames::Batch {
-            left: 0,
-            accepted: 0,
-            refused: 0,
-        },
+        batch: frames::uncounted(0),
         held: 0,
     }
 }
@@ -86,8 +82,8 @@ pub fn piece(stream: Stream, held: &mut [u8], bytes: &[u8], output: &mut [u8]) -
     pieces::checked(stream, held, bytes, output, &mut rows, &mut relations)
 }
 
-// The end of the input: the last line of the batch, or `3` where it is not whole. An output too short is 1, and stays
-// as it is (SCOPE 5.35).
+// The end of the input: the last lines of the batch, one for each client, or `3` where it is not whole. An output too short is 1,
+// and stays as it is (SCOPE 5.35).
 pub fn finish(stream: Stream, output: &mut [u8]) -> OutputResult
     ensures { λ r. ⌜ outputOf r (now (output .exit)) ≡ endCall stream (now (output .entry)) ⌝ }
 {

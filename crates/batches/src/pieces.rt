@@ -2,6 +2,7 @@
 use crate::PieceResult;
 use crate::Stage;
 use crate::Stream;
+use frames::SHEETS;
 ghost use mathlib.Core.Path.{_≡_};
 ghost use Prim.Native.Nat.{min, _-_, _≤_, _<_};
 ghost use lib.ListN.{length};
@@ -15,24 +16,17 @@ ghost use Rattle.batches.specs.PieceSteps.{refusedOf, unheld, untakenOf,
 // The bytes that a line of at most 24 and a sheet of at most 32,768 can have (SCOPE 5.33).
 pub const HELD: usize = 32792;
 
-const SHEETS: usize = 1000;
-
 fn stream_right(s: Stream) -> bool
     ensures { λ r. ⌜ r ≡ streamRight s ⌝ }
 {
-    let left = s.batch.left;
-    let accepted = s.batch.accepted;
-    let refused = s.batch.refused;
+    let batch = s.batch;
+    let left = batch.left;
     if SHEETS < left {
         return false;
     }
-    if SHEETS < accepted {
-        return false;
-    }
-    if SHEETS < refused {
-        return false;
-    }
-    left + accepted + refused <= SHEETS && s.held < HELD
+    let accepted = batch.accepted;
+    let refused = batch.refused;
+    left + frames::in_all(accepted) + frames::in_all(refused) <= SHEETS && s.held < HELD
 }
 
 fn sheet_waits(left: usize, bytes: &[u8]) -> bool

@@ -81,7 +81,7 @@ pub record InputWasEnded (s : Stream) (output : List ℕ) (e : OutputCall) : Typ
 pub record BatchWasAnswered (input output : List ℕ) (e : OutputCall) : Type 0 where
   pub called : e ≡ outputCall input output
 
--- The last line of the batch, `3` where it is not whole, and nothing where it was broken before (SCOPE 5.35).
+-- The last lines of the batch, `3` where it is not whole, and nothing where it was broken before (SCOPE 5.35).
 abbrev pub lastText : Stream → List ℕ
 lastText s = endText (s .stage) (s .batch) (s .held)
 

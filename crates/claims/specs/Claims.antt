@@ -37,7 +37,8 @@
 --     answers:      answer-course, answer-faults, answer-work-refused, answer-sizes, answer-output
 --     batches:      start-right, piece-course, piece-range, piece-lengths, piece-held, piece-accepts, piece-again,
 --                   piece-writes, piece-takes, piece-gets-on, piece-stops, finish-course, finish-lengths, finish-fits,
---                   finish-output, pieces-output, pieces-exist, batch-course, batch-lengths, batch-accepts, batch-output
+--                   finish-output, pieces-output, pieces-exist, batch-course, batch-lengths, batch-accepts, batch-output,
+--                   batch-sums
 --     exports:      export-course, export-range, export-lengths, export-numbers, export-work, export-output,
 --                   export-read-course, export-read-faults, export-read-lengths, export-read-accepts, export-read-output,
 --                   export-write-course, export-write-range, export-write-lengths, export-write-numbers, export-write-accepts,
@@ -67,10 +68,12 @@ use Rattle.rules.specs.Numbers.{got, fault}
 use Rattle.rules.specs.Sheets.{Sheet, readSheet, writeSheet}
 use Rattle.rules.specs.SheetCalls.{ReadCall, WriteCall, unread, unwritten}
 use Rattle.rules.specs.Batch.{batchOutput}
+use Rattle.rules.specs.Tallies.{outputInAll}
 use Rattle.theory.specs.Demands.{same-sequences}
 use Rattle.theory.specs.ListedOrder.{Listed}
 use Rattle.answers.specs.Answers.{AnswerCall, unanswered, sheetAfter}
-use Rattle.frames.specs.Windows.{batchLine}
+use Rattle.frames.specs.Pieces.{textRoom}
+use Rattle.frames.specs.Countings.{Ends, tally-sums}
 use Rattle.batches.specs.declared.Stream.{Stream}
 use Rattle.batches.specs.Feeds.{startOf}
 use Rattle.batches.specs.PieceCalls.{heldNeed, PieceCall, pieceRefused, OutputCall}
@@ -565,8 +568,8 @@ module _ {s : Stream} {output : List ℕ} {e : OutputCall} (ended : InputWasEnde
   pub finish-lengths : (e .refusal ≡ 1) ↔ (length output < length (lastText s))
   finish-lengths = Batches.text-one (Batches.end-course ended)
 
-  -- which for a stream that `start` or `piece` gave is at most 24 bytes.
-  pub finish-fits : (store : List ℕ) → StreamRight s store → batchLine ≤ length output → e .refusal ≡ 0
+  -- which for a stream that `start` or `piece` gave is at most 192 bytes.
+  pub finish-fits : (store : List ℕ) → StreamRight s store → textRoom ≤ length output → e .refusal ≡ 0
   finish-fits = Batches.end-fits ended
 
   -- With 0 the output begins with that, and the bytes past it stay (SCOPE 5.35).
@@ -614,6 +617,12 @@ module _ {input output : List ℕ} {e : OutputCall} (answered : BatchWasAnswered
   pub batch-output : e .refusal ≡ 0
       → (e .length ≡ length (batchOutput input)) × Rewritten (e .length) (batchOutput input) output (e .output)
   batch-output = Batches.text-front (Batches.whole-course answered)
+
+-- Whatever the input, what is written for it has the same answers as the output that counts the sheets of all clients together, and then
+-- both are broken, or the eight lines of the one have as their sums over the clients the two numbers of the other's last line
+-- (SCOPE 5.12, 5.15).
+pub batch-sums : (input : List ℕ) → Ends (batchOutput input) (outputInAll input)
+batch-sums = tally-sums
 
 -- ==== the exported calls: `wurgalm_run_leading`, `wurgalm_run_trailing`, `wurgalm_read_sheet`, `wurgalm_write_sheet`,
 -- `wurgalm_batch`

@@ -8,7 +8,7 @@
 --   piece-store, piece-written, piece-taken   what a call leaves in its stores, and how many bytes it takes
 --   piece-some, piece-stops           it takes a byte where there is room, and all of the piece unless an answer has no room
 --   end-course, whole-course          every call at the end, and every call on a whole batch, takes one of the courses
---   end-fits                          24 bytes are enough at the end
+--   end-fits                          192 bytes are enough at the end
 --   text-number, text-refused, text-one, text-zero, text-front   what such a call gives back and leaves, and when
 --   export-batch-course               every exported call on a whole batch takes one of the courses
 --   export-batch-number, export-batch-none, export-batch-cleared, export-batch-one, export-batch-front   what it gives
@@ -18,7 +18,7 @@ use native.Mathlib.Nat.{min-le-left}
 use native.Mathlib.Omega.{arith}
 use mathlib.Core.Path.{_≡_, refl, sym, _∙_, ap, subst}
 use mathlib.Core.Logic.{_↔_, _≢_, _⊎_, inl, inr}
-use mathlib.Core.Bool.{Bool, true, false, _&&_, cond}
+use mathlib.Core.Bool.{Bool, true, false, cond}
 use mathlib.Core.List.{List, [], _∷_, _++_}
 use borrow.Author.Tests.{leb-true, leb-false}
 use lib.Dec.{T, leb, ltb, eqb, leb→le, le→leb, ltb→lt, lt→ltb}
@@ -28,7 +28,7 @@ use Rattle.lists.specs.Tests.{T-&&, T-is}
 use Rattle.rules.specs.Calls.{zeros}
 use Rattle.lists.specs.Overwritten.{overwrite, drop-overwrite, length-overwrite}
 use Rattle.rules.specs.Batch.{batchOutput}
-use Rattle.frames.specs.Windows.{batchLine}
+use Rattle.frames.specs.Pieces.{acceptedIn, refusedIn, textRoom}
 use Rattle.batches.specs.declared.Stream.{Stream}
 use Rattle.batches.specs.Feeds.{Feed}
 use Rattle.batches.specs.PieceCalls.{heldNeed, waitsWith, streamRight, streamCheck, PieceCall, keptOf, laid, pieceBy}
@@ -54,31 +54,16 @@ range-iff : (s : Stream) → T (streamRight s) ↔ StreamInRange s
 unfolding streamRight
 range-iff s = (to, from)
   where
-    one-by-one : Bool
-    one-by-one = leb (s .batch .left) 1000 && leb (s .batch .accepted) 1000 && leb (s .batch .refused) 1000
-
     all : ℕ
-    all = s .batch .left + s .batch .accepted + s .batch .refused
+    all = s .batch .left + acceptedIn (s .batch) + refusedIn (s .batch)
 
     to : T (streamRight s) → StreamInRange s
     to h =
-        let e = T-&& (one-by-one && leb all 1000) (ltb (s .held) heldNeed) .0 h in
-        (leb→le all 1000 (T-&& one-by-one (leb all 1000) .0 (e .0) .1), ltb→lt (s .held) heldNeed (e .1))
-
-    below : (n : ℕ) → n ≤ all → all ≤ 1000 → T (leb n 1000)
-    below n h few = le→leb n 1000 (omega arith)
+        let e = T-&& (leb all 1000) (ltb (s .held) heldNeed) .0 h in
+        (leb→le all 1000 (e .0), ltb→lt (s .held) heldNeed (e .1))
 
     from : StreamInRange s → T (streamRight s)
-    from h =
-        let b = s .batch in
-        let e : T one-by-one =
-        T-&& (leb (b .left) 1000 && leb (b .accepted) 1000) (leb (b .refused) 1000) .1 (
-          T-&& (leb (b .left) 1000) (leb (b .accepted) 1000) .1
-              (below (b .left) (omega arith) (h .0), below (b .accepted) (omega arith) (h .0)),
-          below (b .refused) (omega arith) (h .0),
-        ) in
-        T-&& (one-by-one && leb all 1000) (ltb (s .held) heldNeed) .1
-        (T-&& one-by-one (leb all 1000) .1 (e, le→leb all 1000 (h .0)), lt→ltb (s .held) heldNeed (h .1))
+    from h = T-&& (leb all 1000) (ltb (s .held) heldNeed) .1 (le→leb all 1000 (h .0), lt→ltb (s .held) heldNeed (h .1))
 
 stream-verdict : (s : Stream) (store : List ℕ)
     → Verdict (StreamInRange s) (StoreHolds store) (HeldWaits s store) (streamCheck s store)
@@ -291,7 +276,7 @@ end-course {s} {output} call =
     subst (TextCourse (lastText s) output output) (sym (call .called)) (text-course (lastText s) output output)
 
 pub end-fits : {s : Stream} {output : List ℕ} {e : OutputCall} → InputWasEnded s output e → (store : List ℕ)
-    → StreamRight s store → batchLine ≤ length output → e .refusal ≡ 0
+    → StreamRight s store → textRoom ≤ length output → e .refusal ≡ 0
 end-fits {s} {output} call store right room =
     ap (λ e. e .refusal) (call .called) ∙ Rooms.end-fits s store output (right-check s store right) room
 

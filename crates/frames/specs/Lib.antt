@@ -3,3 +3,4 @@ pub mod Pieces
 pub mod Longer
 pub mod Lines
 pub mod PieceSizes
+pub mod Countings

@@ -1,42 +1,53 @@
 -- What the functions that read and write the lines of a batch go by.
 --
+-- Main definitions
+--   pairBytes, tallyBytes                 the bytes that the line of a client can take, and the lines of all
+--   linesFrom y i                         the lines of the clients from a place on
+--
 -- Main statements
 --   window-of                             the first 24 bytes are a window
 --   begun-refused, begun-read             a batch's first line, by what the window gives
 --   line-no-client, line-no-size, line-read   the line of a sheet, by what the window gives at its two numbers
 --   in-range                              a number that was read is not negative
---   text-put, text-count, text-tally      a line that was stored in 24 zeros, of one number and of two
---   stays-empty, stays-accepted, stays-refused, counts-accepted, counts-refused   the batch after one more answer, by the tests
---   close-left, close-over, close-accepted, close-refused, close-tally            the last line, by the tests
-use Prim.Native.Nat.{ℕ, zero, suc, pred, _+_, _-_, _≤_, _<_}
+--   text-put, text-count, text-tally      lines that were stored in 192 zeros: one number, and the tally
+--   raised-no-client, raised-past, raised-full, raised-more   one more for a client, by the tests
+--   stays-empty, counts-accepted, counts-refused   the batch after one more answer, by the tests
+--   close-left, close-over, close-accepted, close-refused, close-tally   the last lines, by the tests
+--   two-numbers, lines-next, lines-end    the line of a client, and the lines of all, one by one
+--   tally-short                           of at most 1,000 sheets the lines of all clients have at most 192 bytes
+use Prim.Native.Nat.{ℕ, zero, suc, pred, _+_, _-_, _*_, _≤_, _<_, zero-le}
 use native.Mathlib.Nat.{zero-add, le-refl, le-of-lt}
 use native.Mathlib.Numerals.{add-one, sub-one}
 use native.Mathlib.Omega.{arith}
 use mathlib.Core.Path.{_≡_, refl, sym, _∙_, ap, subst}
 use mathlib.Core.Logic.{_≢_, _⊎_, inl, inr}
 use mathlib.Core.Bool.{Bool, true, false, not, cond}
-use mathlib.Core.List.{List, [], _∷_, _++_, flatten, append-nil, append-assoc}
-use borrow.Author.Tests.{le-leb, lt-leb, le-ltb, lt-ltb, eq-eqb}
-use lib.Dec.{T, leb, ltb, eqb, leb→le, nleb→lt}
-use lib.ListN.{length, take, drop, replicate, length-append, length-drop, length-replicate, take-append-drop, drop-of-length-le}
+use mathlib.Core.List.{List, [], _∷_, _++_, map, flatten, append-nil, append-assoc}
+use borrow.Author.Tests.{le-leb, lt-leb, le-ltb, eq-eqb}
+use lib.Dec.{T, leb, eqb, leb→le, nleb→lt}
+use lib.ListN.{length, take, drop, getD, set, replicate, length-append, length-drop, length-replicate, take-append-drop}
+use lib.ListN.{drop-of-length-le}
 use lib.Seq.{sets, sets-eq, length-take-le}
 use lib.IntN.{ℤ, pos, natAbs}
 use lib.Signed.{nonNeg}
 use Rattle.rules.specs.Numbers.{space, line, lines, decimal, got, fault, field, between}
 use Rattle.rules.specs.Sheets.{always}
 use Rattle.lists.specs.Overwritten.{overwrite}
-use Rattle.rules.specs.Batch.{countAnswer, closing, broken, readSize, readAfterClient, readSheetLine}
+use Rattle.lists.specs.Totals.{total, getD-total}
+use Rattle.algebra.specs.Sums.{countFrom}
+use Rattle.rules.specs.Batch.{Tally, noTally, clientCount, oneMore, clientLine, tallyLines}
+use Rattle.rules.specs.Batch.{closingBy, closing, broken, readSize, readAfterClient, readSheetLine}
 use Rattle.tokens.specs.Fields.{field-judged, between-zero}
 use Rattle.tokens.specs.WrittenNumbers.{isNumber-decimal}
-use Rattle.writing.specs.Writer.{Put, put-then, put-same, digitsOf}
+use Rattle.writing.specs.Writer.{Put, digitsOf}
 use Rattle.lists.specs.Tests.{first-failed, second-failed, both-passed}
 use Rattle.frames.specs.declared.Batch.{Batch}
 use Rattle.frames.specs.declared.SheetLine.{SheetLine}
 use Rattle.frames.specs.Windows.{numberLine, batchLine, followed, Window, field-window, sheetLine-window}
 use Rattle.frames.specs.Windows.{countOf, clientOf, sheetLine-is, number-short}
-use Rattle.frames.specs.Pieces.{readCount, batchWith, noTally, begunOf, begunBy, lineOf, lineBy, tallyOf, numbered, countsMore}
-use Rattle.frames.specs.Pieces.{countedOf, counted-is, textOf, refusalLine, closeable, closeLine, closed-is}
-use Rattle.frames.specs.Pieces.{refusal-broken, close-broken}
+use Rattle.frames.specs.Pieces.{readCount, batchWith, begunOf, begunBy, lineOf, lineBy, tallyOf, numbered, raises, raisedOf}
+use Rattle.frames.specs.Pieces.{countedBy, countedOf, acceptedIn, refusedIn, raised-is, counted-is, textRoom, textOf, refusalLine}
+use Rattle.frames.specs.Pieces.{closeable, closeText, closed-is, refusal-broken, close-broken}
 
 -- ---- the window
 
@@ -113,8 +124,8 @@ in-range low high separator bytes v rest e = between-zero low high v
 
 -- ---- lines that are written
 
--- A line that was stored from the start of 24 zeros on.
-pub text-put : (l bytes : List ℕ) (n : ℕ) → length l ≤ batchLine → bytes ≡ sets (replicate batchLine 0) 0 l → n ≡ 0 + length l
+-- Lines that were stored from the start of 192 zeros on.
+pub text-put : (l bytes : List ℕ) (n : ℕ) → length l ≤ textRoom → bytes ≡ sets (replicate textRoom 0) 0 l → n ≡ 0 + length l
     → record { bytes = bytes; length = n } ≡ textOf l
 unfolding textOf overwrite
 text-put l bytes n h e f = λ i. record { bytes = stored i; length = size i }
@@ -122,81 +133,92 @@ text-put l bytes n h e f = λ i. record { bytes = stored i; length = size i }
     size : n ≡ length l
     size = f ∙ zero-add (length l)
 
-    stored : bytes ≡ l ++ drop (length l) (replicate batchLine 0)
+    stored : bytes ≡ l ++ drop (length l) (replicate textRoom 0)
     stored =
-        e ∙ sets-eq l (replicate batchLine 0) 0 (rw (zero-add (length l), length-replicate) h)
-        ∙ ap (λ k. l ++ drop k (replicate batchLine 0)) (zero-add (length l))
+        e ∙ sets-eq l (replicate textRoom 0) 0 (rw (zero-add (length l), length-replicate) h)
+        ∙ ap (λ k. l ++ drop k (replicate textRoom 0)) (zero-add (length l))
 
 -- ---- counting
 
-module _ (b : Batch) (n : ℕ) where
-  stays : countsMore b ≡ false → b ≡ countedOf b n
+module _ (client : ℕ) (counts : List ℕ) where
+  unraised : raises client counts ≡ false → counts ≡ raisedOf client counts
+  unfolding raisedOf
+  unraised e = sym (ap (λ t. cond t (oneMore client counts) counts) e)
+
+  pub raised-no-client : client < 1 → counts ≡ raisedOf client counts
+  unfolding raises
+  raised-no-client h = unraised (sym (first-failed (leb 1 client) _ _ (lt-leb 1 client h)))
+
+  pub raised-past : 1 ≤ client → clientCount < client → counts ≡ raisedOf client counts
+  unfolding raises
+  raised-past low h =
+      unraised (sym (second-failed (leb 1 client) _ _ (le-leb 1 client low) (lt-leb client clientCount h)))
+
+  module _ (low : 1 ≤ client) (high : client ≤ clientCount) where
+    pub raised-full : 1000 ≤ getD counts (client - 1) 0 → counts ≡ raisedOf client counts
+    unfolding raises
+    raised-full h =
+        unraised
+        (sym (both-passed (leb 1 client) (leb client clientCount) _ (le-leb 1 client low) (le-leb client clientCount high))
+        ∙ le-ltb (getD counts (pred client) 0) 1000 (rw sub-one at h))
+
+    pub raised-more : getD counts (client - 1) 0 < 1000
+        → set counts (client - 1) (getD counts (client - 1) 0 + 1) ≡ raisedOf client counts
+    unfolding oneMore
+    raised-more h =
+        rw (add-one, sub-one) refl ∙ sym (raised-is client counts low high (rw sub-one at h))
+
+module _ (b : Batch) (client n : ℕ) where
+  pub stays-empty : b .left ≡ 0 → b ≡ countedOf b client n
   unfolding countedOf
-  stays e = sym (ap (λ t. cond t (batchWith (pred (b .left)) (countAnswer (numbered n) (tallyOf b))) b) e)
+  stays-empty e = rw (le-ltb 0 (b .left) (omega arith))
 
-  pub stays-empty : b .left ≡ 0 → b ≡ countedOf b n
-  unfolding countsMore
-  stays-empty e = stays (sym (first-failed (ltb 0 (b .left)) _ _ (le-ltb 0 (b .left) (omega arith))))
+  module _ (some : b .left ≢ 0) where
+    pub counts-accepted : n ≡ 0 → (counts : List ℕ) → counts ≡ raisedOf client (b .accepted)
+        → record { left = b .left - 1; accepted = counts; refused = b .refused } ≡ countedOf b client n
+    unfolding countedBy numbered
+    counts-accepted z counts e =
+        (λ i. record { left = sub-one (b .left) i; accepted = e i; refused = b .refused })
+        ∙ sym (counted-is b client n some ∙ ap (λ n. countedBy (numbered n) client b) z)
 
-  pub stays-accepted : b .left ≢ 0 → 1000 ≤ b .accepted → b ≡ countedOf b n
-  unfolding countsMore
-  stays-accepted some h =
-      stays (sym (second-failed (ltb 0 (b .left)) _ _ (lt-ltb 0 (b .left) (omega arith)) (le-ltb (b .accepted) 1000 h)))
-
-  pub stays-refused : b .left ≢ 0 → b .accepted < 1000 → 1000 ≤ b .refused → b ≡ countedOf b n
-  unfolding countsMore
-  stays-refused some few h =
-      stays
-      (sym (both-passed (ltb 0 (b .left)) (ltb (b .accepted) 1000) _ (lt-ltb 0 (b .left) (omega arith)) (lt-ltb (b .accepted) 1000 few))
-      ∙ le-ltb (b .refused) 1000 h)
-
-  module _ (some : b .left ≢ 0) (few : b .accepted < 1000) (few' : b .refused < 1000) where
-    moves : countedOf b n ≡ batchWith (pred (b .left)) (countAnswer (numbered n) (tallyOf b))
-    moves = counted-is b n some few few'
-
-    pub counts-accepted : n ≡ 0 → record { left = b .left - 1; accepted = b .accepted + 1; refused = b .refused } ≡ countedOf b n
-    unfolding countAnswer numbered tallyOf
-    counts-accepted z =
-        (λ i. record { left = sub-one (b .left) i; accepted = add-one (b .accepted) i; refused = b .refused })
-        ∙ sym (moves ∙ ap (λ n. batchWith (pred (b .left)) (countAnswer (numbered n) (tallyOf b))) z)
-
-    pub counts-refused : n ≢ 0 → record { left = b .left - 1; accepted = b .accepted; refused = b .refused + 1 } ≡ countedOf b n
-    unfolding countAnswer numbered tallyOf
-    counts-refused z =
-        (λ i. record { left = sub-one (b .left) i; accepted = b .accepted; refused = add-one (b .refused) i })
-        ∙ sym (moves ∙ go n z)
+    pub counts-refused : n ≢ 0 → (counts : List ℕ) → counts ≡ raisedOf client (b .refused)
+        → record { left = b .left - 1; accepted = b .accepted; refused = counts } ≡ countedOf b client n
+    unfolding countedBy numbered
+    counts-refused z counts e =
+        (λ i. record { left = sub-one (b .left) i; accepted = b .accepted; refused = e i })
+        ∙ sym (counted-is b client n some ∙ go n z)
       where
         go : (n : ℕ) → n ≢ 0
-            → batchWith (pred (b .left)) (countAnswer (numbered n) (tallyOf b))
-            ≡ record { left = pred (b .left); accepted = b .accepted; refused = suc (b .refused) }
+            → countedBy (numbered n) client b
+            ≡ record { left = pred (b .left); accepted = b .accepted; refused = raisedOf client (b .refused) }
         go zero z = absurd (z refl)
         go (suc n) z = refl
 
--- ---- the last line
+-- ---- the last lines
 
 module _ (b : Batch) (over : ℕ) where
   -- The batch is not closed with its tally.
-  unclosed : closeable b ≡ false → refusalLine 3 ≡ closeLine b over
-  unfolding closeLine
+  unclosed : closeable b ≡ false → refusalLine 3 ≡ closeText b over
+  unfolding closeText
   unclosed e = refusal-broken ∙ sym (ap (λ t. cond t (closing (tallyOf b) (replicate over 0)) broken) e)
 
-  pub close-left : b .left ≢ 0 → refusalLine 3 ≡ closeLine b over
+  pub close-left : b .left ≢ 0 → refusalLine 3 ≡ closeText b over
   close-left h = refusal-broken ∙ sym (close-broken b over h)
 
-  pub close-accepted : b .left ≡ 0 → 1000 < b .accepted → refusalLine 3 ≡ closeLine b over
+  pub close-accepted : b .left ≡ 0 → 1000 < acceptedIn b → refusalLine 3 ≡ closeText b over
   unfolding closeable
   close-accepted none h =
-      unclosed (sym (second-failed (eqb (b .left) 0) _ _ (eq-eqb (b .left) 0 none) (lt-leb (b .accepted) 1000 h)))
+      unclosed (sym (second-failed (eqb (b .left) 0) _ _ (eq-eqb (b .left) 0 none) (lt-leb (acceptedIn b) 1000 h)))
 
-  pub close-refused : b .left ≡ 0 → b .accepted ≤ 1000 → 1000 < b .refused → refusalLine 3 ≡ closeLine b over
+  pub close-refused : b .left ≡ 0 → acceptedIn b ≤ 1000 → 1000 < refusedIn b → refusalLine 3 ≡ closeText b over
   unfolding closeable
   close-refused none few h =
       unclosed
-      (sym (both-passed (eqb (b .left) 0) (leb (b .accepted) 1000) _ (eq-eqb (b .left) 0 none) (le-leb (b .accepted) 1000 few))
-      ∙ lt-leb (b .refused) 1000 h)
+      (sym (both-passed (eqb (b .left) 0) (leb (acceptedIn b) 1000) _ (eq-eqb (b .left) 0 none) (le-leb (acceptedIn b) 1000 few))
+      ∙ lt-leb (refusedIn b) 1000 h)
 
-  pub close-over : over ≢ 0 → refusalLine 3 ≡ closeLine b over
-  unfolding closeLine closing
+  pub close-over : over ≢ 0 → refusalLine 3 ≡ closeText b over
+  unfolding closeText closingBy
   close-over h = refusal-broken ∙ sym (go (closeable b) over h)
     where
       go : (t : Bool) (over : ℕ) → over ≢ 0 → cond t (closing (tallyOf b) (replicate over 0)) broken ≡ broken
@@ -204,24 +226,51 @@ module _ (b : Batch) (over : ℕ) where
       go true (suc k) h = refl
       go false (suc k) h = refl
 
-  pub close-tally : b .left ≡ 0 → over ≡ 0 → b .accepted ≤ 1000 → b .refused ≤ 1000
-      → lines ((pos (b .accepted) ∷ pos (b .refused) ∷ []) ∷ []) ≡ closeLine b over
-  unfolding closing tallyOf
+  pub close-tally : b .left ≡ 0 → over ≡ 0 → acceptedIn b ≤ 1000 → refusedIn b ≤ 1000
+      → lines (tallyLines (record { accepted = b .accepted; refused = b .refused })) ≡ closeText b over
+  unfolding closingBy tallyOf
   close-tally none z few few' = sym (closed-is b over none few few' ∙ ap (λ n. closing (tallyOf b) (replicate n 0)) z)
 
 -- ---- what the writer of numbers leaves
 
 -- One number alone on a line.
-pub text-count : (n : ℕ) (bytes : List ℕ) (r : ℕ) → Put (replicate batchLine 0) 0 (line (pos n ∷ [])) 21 bytes r
+pub text-count : (n : ℕ) (bytes : List ℕ) (r : ℕ) → Put (replicate textRoom 0) 0 (line (pos n ∷ [])) 21 bytes r
     → record { bytes = bytes; length = r } ≡ textOf (refusalLine n)
 unfolding refusalLine lines flatten
 text-count n bytes r p =
     text-put (line (pos n ∷ [])) bytes r (omega (arith, p .few)) (p .stored) (p .passed) ∙ ap textOf (sym (append-nil (line (pos n ∷ []))))
 
--- Two numbers on a line, of at most ten digits each.
-two-numbers : (a b : ℕ) → (digitsOf a ++ (space ∷ [])) ++ line (pos b ∷ []) ≡ line (pos a ∷ pos b ∷ [])
+-- ---- the tally
+
+-- The bytes of two numbers of 64 bits with a space between them, and of a line of them for each client.
+abbrev pub pairBytes : ℕ
+pairBytes = 42
+
+abbrev pub tallyBytes : ℕ
+tallyBytes = 336
+
+-- Two numbers on a line.
+pub two-numbers : (a b : ℕ) → (digitsOf a ++ (space ∷ [])) ++ line (pos b ∷ []) ≡ line (pos a ∷ pos b ∷ [])
 unfolding digitsOf line decimal
 two-numbers a b = append-assoc (digitsOf a) (space ∷ []) (line (pos b ∷ []))
+
+abbrev pub linesFrom : Tally → ℕ → List ℕ
+linesFrom y i = lines (map (clientLine y) (countFrom i (clientCount - i)))
+
+pub lines-next : (y : Tally) (i : ℕ) → i < clientCount → linesFrom y i ≡ line (clientLine y i) ++ linesFrom y (i + 1)
+unfolding lines flatten countFrom
+lines-next y i h =
+    let more : clientCount - i ≡ suc (clientCount - (i + 1)) = omega arith in
+    ap (λ k. lines (map (clientLine y) (countFrom i k))) more
+    ∙ ap (λ k. line (clientLine y i) ++ lines (map (clientLine y) (countFrom k (clientCount - (i + 1))))) (sym (add-one i))
+
+pub lines-end : (y : Tally) (i : ℕ) → clientCount ≤ i → linesFrom y i ≡ []
+unfolding lines flatten countFrom
+lines-end y i h =
+    let none : clientCount - i ≡ 0 = omega arith in
+    ap (λ k. lines (map (clientLine y) (countFrom i k))) none
+
+-- ---- how long the lines are
 
 short-decimal : (n : ℕ) → n ≤ 1000 → length (decimal (pos n)) < numberLine
 short-decimal n h = number-short (decimal (pos n)) (isNumber-decimal (pos n) (omega arith))
@@ -231,12 +280,25 @@ unfolding line
 two-short a b h i =
     simp length-append (omega (arith, short-decimal a h, short-decimal b i))
 
-pub text-tally : (a b : ℕ) (first second third : List ℕ) (i j r : ℕ) → a ≤ 1000 → b ≤ 1000 → Put
-    (replicate batchLine 0) 0 (digitsOf a) 20 first i
-    → Put first i (space ∷ []) 1 second j → Put second j (line (pos b ∷ [])) 21 third r
-    → record { bytes = third; length = r } ≡ textOf (lines ((pos a ∷ pos b ∷ []) ∷ []))
-unfolding lines flatten
-text-tally a b first second third i j r h k p q s =
-    let all = put-same (put-then (put-then p q) s) (two-numbers a b) in
-    text-put (line (pos a ∷ pos b ∷ [])) third r (two-short a b h k) (all .stored) (all .passed)
-    ∙ ap textOf (sym (append-nil (line (pos a ∷ pos b ∷ []))))
+both-short : (l m : List ℕ) (a b : ℕ) → length l ≤ a → length m ≤ b → length (l ++ m) ≤ a + b
+both-short l m a b h i = rw length-append (omega arith)
+
+module _ (y : Tally) (few : total (y .accepted) ≤ 1000) (few' : total (y .refused) ≤ 1000) where
+  lines-short : (n i : ℕ) → length (lines (map (clientLine y) (countFrom i n))) ≤ n * batchLine
+  unfolding lines flatten countFrom
+  lines-short zero i = zero-le
+  lines-short (suc n) i =
+      let first =
+      two-short (getD (y .accepted) i 0) (getD (y .refused) i 0) (omega (arith, getD-total (y .accepted) i))
+      (omega (arith, getD-total (y .refused) i)) in
+      let h : length (line (clientLine y i) ++ lines (map (clientLine y) (countFrom (suc i) n))) ≤ batchLine + n * batchLine =
+      both-short (line (clientLine y i)) _ batchLine (n * batchLine) first (lines-short n (suc i)) in
+      omega arith
+
+  pub tally-short : length (lines (tallyLines y)) ≤ textRoom
+  unfolding tallyLines
+  tally-short = lines-short clientCount 0
+
+  pub text-tally : (bytes : List ℕ) (r : ℕ) → Put (replicate textRoom 0) 0 (lines (tallyLines y)) tallyBytes bytes r
+      → record { bytes = bytes; length = r } ≡ textOf (lines (tallyLines y))
+  text-tally bytes r p = text-put (lines (tallyLines y)) bytes r tally-short (p .stored) (p .passed)

@@ -20,12 +20,12 @@ use lib.Signed.{leZ}
 use Rattle.lists.specs.Tests.{T-&&, every, every-append}
 use Rattle.rules.specs.Numbers.{minus, word, afterWord, isDigit, signed, digits, startsRight, beginsNumber, isNumber, numberOf}
 use Rattle.rules.specs.Numbers.{Read, got, fault, thenRead, judged, readWord, readSeparator, field, between}
-use Rattle.rules.specs.Batch.{SheetLine as ReadLine, readSize, readAfterClient, readSheetLine}
+use Rattle.rules.specs.Batch.{SheetLine as ReadLine, noTally, readSize, readAfterClient, readSheetLine}
 use Rattle.tokens.specs.Exact.{fault-got}
 use Rattle.frames.specs.Windows.{followed, numberLine, batchLine, Taken, word-unended, word-whole, begins-short, separated, field-is}
 use Rattle.frames.specs.Windows.{field-unbegun, field-ended, field-got-longer, field-taken, countOf, clientOf, sheetLine-is}
 use Rattle.frames.specs.Windows.{sheetLine-got-longer}
-use Rattle.frames.specs.Pieces.{readCount, batchWith, noTally, begunBy, begunOf, lineBy, lineOf}
+use Rattle.frames.specs.Pieces.{readCount, batchWith, begunBy, begunOf, lineBy, lineOf}
 
 fault-inj : {A : Type 0} (m n : ℕ) → _≡_ {A = Read A} (fault m) (fault n) → m ≡ n
 fault-inj m n e = cc

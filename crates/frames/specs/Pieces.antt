@@ -2,44 +2,46 @@
 --
 -- Main definitions
 --   begunOf, lineOf            a batch's first line, and the line of a sheet, read from the bytes given
---   countedOf                  the batch after one more answer
---   refusalLine, closeLine     a refusal's number alone on a line, and the last line of a batch
---   textOf l, shown t          a line at the start of 24 bytes, and the line of such a text
+--   raisedOf, countedOf        one more for a client, and the batch after one more answer
+--   acceptedIn, refusedIn      the answers so far, of all clients
+--   refusalLine, closeText     a refusal's number alone on a line, and the last lines of a batch
+--   textOf l, shown t          lines at the start of 192 bytes, and the lines of such a text
 --   Counted b                  a batch of at most 1,000 sheets
 --
 -- Main statements
---   shown-text                 the line of a text is the line that was put there
+--   shown-text                 the lines of a text are those that were put there
 --   begun-got, line-got        a refusal of 0 tells that a line was read: its numbers, and the bytes after it
 --   begun-fault, line-fault    another refusal is the fault of the line
---   counted-is, closed-is      the tests of `countedOf` and `closeLine` passed
+--   raised-is, counted-is, closed-is   the tests of `raisedOf`, `countedOf` and `closeText` passed
 --   counted-left, counted-tally, counted-few   a batch of at most 1,000 sheets, counted as `rules` counts
---   close-closing, close-broken                its last line, as `rules` closes
+--   close-closing, close-broken                its last lines, as `rules` closes
 --   refusal-broken, refusal-refused, refusal-accepted   the lines of `rules`
 use Prim.Native.Nat.{ℕ, zero, suc, pred, _+_, _-_, _≤_, _<_, zero-le}
 use native.Mathlib.Nat.{suc-ne-zero}
 use native.Mathlib.Omega.{arith}
 use mathlib.Core.Path.{_≡_, refl, sym, _∙_, ap, subst}
 use mathlib.Core.Logic.{_≢_}
-use mathlib.Core.Bool.{Bool, cond, _&&_}
+use mathlib.Core.Bool.{Bool, true, false, cond, _&&_}
 use mathlib.Core.List.{List, [], _∷_, _++_}
 use borrow.Author.Tests.{le-leb, lt-ltb, eq-eqb, ne-eqb}
 use lib.Dec.{leb, ltb, eqb}
-use lib.ListN.{length, take, drop, replicate}
+use lib.ListN.{length, take, drop, replicate, getD}
 use lib.Seq.{take-at}
 use lib.IntN.{ℤ, pos, natAbs}
 use Rattle.lists.specs.Overwritten.{overwrite}
+use Rattle.lists.specs.Totals.{total, total-at-most, getD-total}
 use Rattle.rules.specs.Numbers.{newline, lines, Read, got, fault, field, between}
 use Rattle.rules.specs.Sheets.{always}
-use Rattle.rules.specs.Batch.{SheetLine as ReadLine, Answer as SheetAnswer, Tally, accepted, refusedWith}
-use Rattle.rules.specs.Batch.{countAnswer, broken, closing, answerBytes}
+use Rattle.rules.specs.Batch.{SheetLine as ReadLine, Answer as SheetAnswer, Tally, accepted, refusedWith, noTally, clientCount}
+use Rattle.rules.specs.Batch.{oneMore, countAnswer, broken, closingBy, closing, tallyLines, answerBytes}
 use Rattle.rules.specs.Batch.{readSize, readAfterClient, readSheetLine}
 use Rattle.answers.specs.Faults.{Numbered, read, numbered as numbered-fault, field-numbered, between-judging}
 use Rattle.lists.specs.Tests.{first-failed, both-passed}
 use Rattle.frames.specs.declared.Batch.{Batch}
 use Rattle.frames.specs.declared.Begun.{Begun}
 use Rattle.frames.specs.declared.SheetLine.{SheetLine}
-use Rattle.frames.specs.declared.TextLine.{TextLine}
-use Rattle.frames.specs.Windows.{numberLine, batchLine, Taken, taken-drop, field-taken, sheetLine-taken}
+use Rattle.frames.specs.declared.Text.{Text}
+use Rattle.frames.specs.Windows.{numberLine, Taken, taken-drop, field-taken, sheetLine-taken}
 use Rattle.frames.specs.Windows.{countOf, clientOf, sheetLine-is}
 
 -- ---- lines that are read
@@ -52,9 +54,6 @@ readCount bytes = field (between (pos 0) (pos 1000)) (always newline) bytes
 -- The sheets still to come, and the answers so far.
 abbrev pub batchWith : ℕ → Tally → Batch
 batchWith left y = record { left = left; accepted = y .accepted; refused = y .refused }
-
-abbrev pub noTally : Tally
-noTally = record { accepted = 0; refused = 0 }
 
 -- The fault of a line is told by its number: 4 where more bytes could make the line whole (SCOPE 5.23).
 unfoldable pub begunBy : List ℕ → Read ℤ → Begun
@@ -84,45 +83,67 @@ unfoldable pub numbered : ℕ → SheetAnswer
 numbered zero = accepted []
 numbered (suc n) = refusedWith (suc n)
 
--- A sheet is still to come, in a batch of at most 1,000.
-unfoldable pub countsMore : Batch → Bool
-countsMore b = ltb 0 (b .left) && ltb (b .accepted) 1000 && ltb (b .refused) 1000
+-- A client from 1 to 8, of whom fewer than 1,000 sheets are counted.
+unfoldable pub raises : ℕ → List ℕ → Bool
+raises client counts = leb 1 client && leb client clientCount && ltb (getD counts (pred client) 0) 1000
+
+-- One more for a client.
+unfoldable pub raisedOf : ℕ → List ℕ → List ℕ
+unfolding raises oneMore
+raisedOf client counts = cond (raises client counts) (oneMore client counts) counts
+
+unfoldable pub countedBy : SheetAnswer → ℕ → Batch → Batch
+unfolding raisedOf
+countedBy (accepted bytes) client b =
+    record { left = pred (b .left); accepted = raisedOf client (b .accepted); refused = b .refused }
+countedBy (refusedWith n) client b =
+    record { left = pred (b .left); accepted = b .accepted; refused = raisedOf client (b .refused) }
 
 -- One sheet fewer to come, and one answer more; a batch in which no sheet is still to come stays as it is.
-unfoldable pub countedOf : Batch → ℕ → Batch
-unfolding countsMore countAnswer numbered tallyOf
-countedOf b n =
-    let more = batchWith (pred (b .left)) (countAnswer (numbered n) (tallyOf b)) in
-    cond (countsMore b) more b
+unfoldable pub countedOf : Batch → ℕ → ℕ → Batch
+unfolding countedBy numbered
+countedOf b client n = let more = countedBy (numbered n) client b in cond (ltb 0 (b .left)) more b
+
+-- The answers so far, of all clients.
+abbrev pub acceptedIn : Batch → ℕ
+acceptedIn b = total (b .accepted)
+
+abbrev pub refusedIn : Batch → ℕ
+refusedIn b = total (b .refused)
 
 -- ---- lines that are written
 
--- A line at the start of 24 bytes, the others 0.
-unfoldable pub textOf : List ℕ → TextLine
-unfolding overwrite
-textOf l = record { bytes = overwrite l (replicate batchLine 0); length = length l }
+-- The longest text: a line of at most 24 bytes for each client.
+abbrev pub textRoom : ℕ
+textRoom = 192
 
--- The bytes of a line of text.
-abbrev pub shown : TextLine → List ℕ
+-- Lines at the start of 192 bytes, the others 0.
+unfoldable pub textOf : List ℕ → Text
+unfolding overwrite
+textOf l = record { bytes = overwrite l (replicate textRoom 0); length = length l }
+
+-- The bytes of the lines of a text.
+abbrev pub shown : Text → List ℕ
 shown t = take (t .length) (t .bytes)
 
 pub shown-text : (l : List ℕ) → shown (textOf l) ≡ l
 unfolding textOf overwrite
-shown-text l = take-at l (drop (length l) (replicate batchLine 0)) (length l) refl
+shown-text l = take-at l (drop (length l) (replicate textRoom 0)) (length l) refl
 
 -- A refusal alone on its line (SCOPE 5.11).
 unfoldable pub refusalLine : ℕ → List ℕ
 unfolding lines
 refusalLine n = lines ((pos n ∷ []) ∷ [])
 
--- The last line: how many sheets are accepted and how many refused (SCOPE 5.12). A batch with sheets still to come, or
--- bytes left over, is broken (SCOPE 5.21), and so is one that counts more than 1,000 sheets.
+-- The last lines: how many sheets of each client are accepted and how many refused (SCOPE 5.12). A batch with sheets still to come,
+-- or bytes left over, is broken (SCOPE 5.21), and so is one that counts more than 1,000 sheets.
 unfoldable pub closeable : Batch → Bool
-closeable b = eqb (b .left) 0 && leb (b .accepted) 1000 && leb (b .refused) 1000
+unfolding total
+closeable b = eqb (b .left) 0 && leb (acceptedIn b) 1000 && leb (refusedIn b) 1000
 
-unfoldable pub closeLine : Batch → ℕ → List ℕ
-unfolding closeable closing tallyOf broken
-closeLine b over = cond (closeable b) (closing (tallyOf b) (replicate over 0)) broken
+unfoldable pub closeText : Batch → ℕ → List ℕ
+unfolding closeable closingBy tallyLines tallyOf broken
+closeText b over = cond (closeable b) (closing (tallyOf b) (replicate over 0)) broken
 
 -- ---- what is read
 
@@ -180,14 +201,14 @@ line-inside bytes = go (readSheetLine bytes)
 -- A line that was read: its numbers, and the bytes after it.
 pub line-got : (bytes : List ℕ) → lineOf bytes .refusal ≡ 0
     → (v : ReadLine) × (rest : List ℕ) × (readSheetLine bytes ≡ got v rest) × (drop (lineOf bytes .taken) bytes ≡ rest)
-    × (lineOf bytes .bytes ≡ v .bytes)
+    × (lineOf bytes .client ≡ v .client) × (lineOf bytes .bytes ≡ v .bytes)
 unfolding lineOf lineBy
 line-got bytes z = go (readSheetLine bytes) (line-numbered bytes) refl z
   where
     go : (r : Read ReadLine) → Numbered r → readSheetLine bytes ≡ r → lineBy bytes r .refusal ≡ 0
         → (v : ReadLine) × (rest : List ℕ) × (readSheetLine bytes ≡ got v rest) × (drop (lineBy bytes r .taken) bytes ≡ rest)
-        × (lineBy bytes r .bytes ≡ v .bytes)
-    go r (read v rest) e z = (v, rest, e, taken-drop (sheetLine-taken bytes v rest e), refl)
+        × (lineBy bytes r .client ≡ v .client) × (lineBy bytes r .bytes ≡ v .bytes)
+    go r (read v rest) e z = (v, rest, e, taken-drop (sheetLine-taken bytes v rest e), refl, refl)
     go r (numbered-fault n low high) e z = absurd (suc-ne-zero n z)
 
 -- Another refusal is the fault of the line.
@@ -209,48 +230,74 @@ line-fault bytes z = go (readSheetLine bytes) z
 
 -- ---- counting and closing
 
-pub counted-is : (b : Batch) (n : ℕ) → b .left ≢ 0 → b .accepted < 1000 → b .refused < 1000
-    → countedOf b n ≡ batchWith (pred (b .left)) (countAnswer (numbered n) (tallyOf b))
-unfolding countedOf countsMore
-counted-is b n some few few' =
-    ap (λ t. cond t (batchWith (pred (b .left)) (countAnswer (numbered n) (tallyOf b))) b)
-    (sym (both-passed (ltb 0 (b .left)) (ltb (b .accepted) 1000) _ (lt-ltb 0 (b .left) (omega arith)) (lt-ltb (b .accepted) 1000 few))
-    ∙ lt-ltb (b .refused) 1000 few')
+pub raised-is : (client : ℕ) (counts : List ℕ) → 1 ≤ client → client ≤ clientCount → getD counts (pred client) 0 < 1000
+    → raisedOf client counts ≡ oneMore client counts
+unfolding raisedOf raises
+raised-is client counts low high few =
+    rw (le-leb 1 client low, le-leb client clientCount high, lt-ltb (getD counts (pred client) 0) 1000 few)
 
-pub closed-is : (b : Batch) (over : ℕ) → b .left ≡ 0 → b .accepted ≤ 1000 → b .refused ≤ 1000
-    → closeLine b over ≡ closing (tallyOf b) (replicate over 0)
-unfolding closeLine closeable
+pub counted-is : (b : Batch) (client n : ℕ) → b .left ≢ 0 → countedOf b client n ≡ countedBy (numbered n) client b
+unfolding countedOf
+counted-is b client n some = rw (lt-ltb 0 (b .left) (omega arith))
+
+pub closed-is : (b : Batch) (over : ℕ) → b .left ≡ 0 → acceptedIn b ≤ 1000 → refusedIn b ≤ 1000
+    → closeText b over ≡ closing (tallyOf b) (replicate over 0)
+unfolding closeText closeable
 closed-is b over none few few' =
     ap (λ t. cond t (closing (tallyOf b) (replicate over 0)) broken)
-    (sym (both-passed (eqb (b .left) 0) (leb (b .accepted) 1000) _ (eq-eqb (b .left) 0 none) (le-leb (b .accepted) 1000 few))
-    ∙ le-leb (b .refused) 1000 few')
+    (sym (both-passed (eqb (b .left) 0) (leb (acceptedIn b) 1000) _ (eq-eqb (b .left) 0 none) (le-leb (acceptedIn b) 1000 few))
+    ∙ le-leb (refusedIn b) 1000 few')
 
 -- What a batch that has begun keeps: its sheets are at most 1,000.
 abbrev pub Counted : Batch → Type 0
-Counted b = b .left + b .accepted + b .refused ≤ 1000
+Counted b = b .left + acceptedIn b + refusedIn b ≤ 1000
 
 module _ (b : Batch) (few : Counted b) where
-  module _ (some : b .left ≢ 0) (n : ℕ) where
-    counts : countedOf b n ≡ batchWith (pred (b .left)) (countAnswer (numbered n) (tallyOf b))
-    counts = counted-is b n some (omega arith) (omega arith)
-
-    pub counted-left : countedOf b n .left ≡ pred (b .left)
-    counted-left = ap (λ c. c .left) counts
-
-    pub counted-tally : tallyOf (countedOf b n) ≡ countAnswer (numbered n) (tallyOf b)
-    unfolding tallyOf
-    counted-tally = ap tallyOf counts
-
-    pub counted-few : Counted (countedOf b n)
-    unfolding countAnswer numbered tallyOf
-    counted-few = subst Counted (sym counts) (go n)
+  module _ (some : b .left ≢ 0) (client n : ℕ) where
+    pub counted-left : countedOf b client n .left ≡ pred (b .left)
+    unfolding countedBy
+    counted-left = ap (λ c. c .left) (counted-is b client n some) ∙ go (numbered n)
       where
-        go : (n : ℕ) → Counted (batchWith (pred (b .left)) (countAnswer (numbered n) (tallyOf b)))
-        go zero = let h : pred (b .left) + suc (b .accepted) + b .refused ≤ 1000 = omega arith in h
-        go (suc n) = let h : pred (b .left) + b .accepted + suc (b .refused) ≤ 1000 = omega arith in h
+        go : (a : SheetAnswer) → countedBy a client b .left ≡ pred (b .left)
+        go (accepted bytes) = refl
+        go (refusedWith n) = refl
 
-  pub close-closing : b .left ≡ 0 → (rest : List ℕ) → closeLine b (length rest) ≡ closing (tallyOf b) rest
-  unfolding closing
+    -- Where a number stands for a client, as many are counted as `rules` counts.
+    module _ (low : 1 ≤ client) (high : client ≤ clientCount) where
+      pub counted-tally : tallyOf (countedOf b client n) ≡ countAnswer client (numbered n) (tallyOf b)
+      unfolding tallyOf countAnswer countedBy
+      counted-tally = ap tallyOf (counted-is b client n some) ∙ go (numbered n)
+        where
+          below : (counts : List ℕ) → total counts < 1000 → raisedOf client counts ≡ oneMore client counts
+          below counts h = raised-is client counts low high (omega (arith, getD-total counts (pred client)))
+
+          go : (a : SheetAnswer) → tallyOf (countedBy a client b) ≡ countAnswer client a (tallyOf b)
+          go (accepted bytes) = ap (λ l. record { accepted = l; refused = b .refused }) (below (b .accepted) (omega arith))
+          go (refusedWith n) = ap (λ l. record { accepted = b .accepted; refused = l }) (below (b .refused) (omega arith))
+
+    pub counted-few : Counted (countedOf b client n)
+    unfolding countedBy raisedOf oneMore
+    counted-few = subst Counted (sym (counted-is b client n some)) (go (numbered n))
+      where
+        raised-few : (counts : List ℕ) → total (raisedOf client counts) ≤ suc (total counts)
+        raised-few counts = by (raises client counts)
+          where
+            by : (t : Bool) → total (cond t (oneMore client counts) counts) ≤ suc (total counts)
+            by true = total-at-most counts (pred client)
+            by false = omega arith
+
+        go : (a : SheetAnswer) → Counted (countedBy a client b)
+        go (accepted bytes) =
+            let h : pred (b .left) + total (raisedOf client (b .accepted)) + refusedIn b ≤ 1000 =
+            omega (arith, raised-few (b .accepted)) in
+            h
+        go (refusedWith n) =
+            let h : pred (b .left) + acceptedIn b + total (raisedOf client (b .refused)) ≤ 1000 =
+            omega (arith, raised-few (b .refused)) in
+            h
+
+  pub close-closing : b .left ≡ 0 → (rest : List ℕ) → closeText b (length rest) ≡ closing (tallyOf b) rest
+  unfolding closingBy
   close-closing none rest = closed-is b (length rest) none (omega arith) (omega arith) ∙ over rest
     where
       -- It only matters whether any bytes are left over.
@@ -258,11 +305,11 @@ module _ (b : Batch) (few : Counted b) where
       over [] = refl
       over (x ∷ rest) = refl
 
-pub close-broken : (b : Batch) (over : ℕ) → b .left ≢ 0 → closeLine b over ≡ broken
-unfolding closeLine closeable
+pub close-broken : (b : Batch) (over : ℕ) → b .left ≢ 0 → closeText b over ≡ broken
+unfolding closeText closeable
 close-broken b over some =
     ap (λ t. cond t (closing (tallyOf b) (replicate over 0)) broken)
-    (sym (first-failed (eqb (b .left) 0) (leb (b .accepted) 1000) (leb (b .refused) 1000) (ne-eqb (b .left) 0 some)))
+    (sym (first-failed (eqb (b .left) 0) (leb (acceptedIn b) 1000) (leb (refusedIn b) 1000) (ne-eqb (b .left) 0 some)))
 
 -- ---- the lines of `rules`
 

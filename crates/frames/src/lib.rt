@@ -1,18 +1,31 @@
-// The frame of a batch: the line with the sheet count, the line of each sheet, the count of the answers, and the last line. `batches` has
-// the public entry points; nothing here has a `requires`, and the contracts give the result by equations.
+// The frame of a batch: the line with the sheet count, the line of each sheet, the count of the answers by client, and the last lines.
+// `batches` has the public entry points; no `pub fn` here has a `requires`, and the contracts give the result by equations.
 ghost use mathlib.Core.Path.{_≡_};
 ghost use mathlib.Core.List.{[], _∷_};
-ghost use Prim.Native.Nat.{_≤_};
+ghost use Prim.Native.Nat.{min, _+_, _^_, _≤_, _<_};
 ghost use lib.IntN.{pos};
 ghost use lib.ListN.{length, take};
-ghost use Rattle.rules.specs.Numbers.{lines};
-ghost use Rattle.frames.specs.Pieces.{begunOf, lineOf, countedOf, textOf, refusalLine, closeLine};
+ghost use Rattle.lists.specs.Totals.{total};
+ghost use Rattle.rules.specs.Numbers.{line, lines};
+ghost use Rattle.rules.specs.Batch.{noTally, tallyLines};
+ghost use Rattle.writing.specs.Writer.{Put};
+ghost use Rattle.frames.specs.Pieces.{batchWith, begunOf, lineOf, raisedOf, countedOf, textOf, refusalLine, closeText};
+ghost use Rattle.frames.specs.Lines.{pairBytes, tallyBytes};
 
-// The sheets still to come, and the answers so far.
+// Clients have the numbers 1 to 8 (SCOPE 5.2).
+pub const CLIENTS: usize = 8;
+
+// The sheets that a batch may have (SCOPE 5.1).
+pub const SHEETS: usize = 1000;
+
+// The longest text: a line of at most 24 bytes for each client.
+pub const TEXT: usize = 24 * CLIENTS;
+
+// The sheets still to come, and the answers so far, client 1 first.
 pub struct Batch {
     pub left: usize,
-    pub accepted: usize,
-    pub refused: usize,
+    pub accepted: [usize; CLIENTS],
+    pub refused: [usize; CLIENTS],
 }
 
 // What a batch begins with, or the fault of its first line: 4 where it ends early. The line is `taken` bytes long.
@@ -30,10 +43,21 @@ pub struct SheetLine {
     pub bytes: usize,
 }
 
-// A line of text, with zeros past its end.
-pub struct TextLine {
-    pub bytes: [u8; 24],
+// Lines of text, with zeros past their end.
+pub struct Text {
+    pub bytes: [u8; TEXT],
     pub length: usize,
+}
+
+// A batch of so many sheets, of which none is counted.
+pub fn uncounted(left: usize) -> Batch
+    ensures { λ r. ⌜ r ≡ batchWith left noTally ⌝ }
+{
+    Batch {
+        left,
+        accepted: [0; CLIENTS],
+        refused: [0; CLIENTS],
+    }
 }
 
 // ---- lines that are read
@@ -60,21 +84,13 @@ pub fn begin(bytes: &[u8]) -> Begun
         return Begun {
             refusal: n.refusal,
             taken: 0,
-            batch: Batch {
-                left: 0,
-                accepted: 0,
-                refused: 0,
-            },
+            batch: uncounted(0),
         };
     }
     Begun {
         refusal: 0,
         taken: n.at,
-        batch: Batch {
-            left: n.value as usize,
-            accepted: 0,
-            refused: 0,
-        },
+        batch: uncounted(n.value as usize),
     }
 }
 
@@ -112,59 +128,115 @@ pub fn line(bytes: &[u8]) -> SheetLine
 
 // ---- counting
 
-// One sheet fewer to come, and one more accepted (0) or refused. Where none is to come, or 1,000 are counted, the batch stays.
-pub fn counted(batch: Batch, refusal: u8) -> Batch
-    ensures { λ r. ⌜ r ≡ countedOf batch refusal ⌝ }
+// One more for a client. A number that is no client's, and a client of whom 1,000 sheets are counted, count nothing.
+fn raised(counts: [usize; CLIENTS], client: usize) -> [usize; CLIENTS]
+    ensures { λ r. ⌜ r ≡ raisedOf client counts ⌝ }
+{
+    if client < 1 {
+        return counts;
+    }
+    if CLIENTS < client {
+        return counts;
+    }
+    let place = client - 1;
+    let count = counts[place];
+    if SHEETS <= count {
+        return counts;
+    }
+    let mut more = counts;
+    more[place] = count + 1;
+    more
+}
+
+// One sheet fewer to come, and one more of its client accepted (0) or refused (SCOPE 5.12). Where none is to come, the batch stays.
+pub fn counted(batch: Batch, client: usize, refusal: u8) -> Batch
+    ensures { λ r. ⌜ r ≡ countedOf batch client refusal ⌝ }
 {
     if batch.left == 0 {
         return batch;
     }
-    if 1000 <= batch.accepted {
-        return batch;
-    }
-    if 1000 <= batch.refused {
-        return batch;
-    }
+    let accepted = batch.accepted;
+    let refused = batch.refused;
     if refusal == 0 {
         return Batch {
             left: batch.left - 1,
-            accepted: batch.accepted + 1,
-            refused: batch.refused,
+            accepted: raised(accepted, client),
+            refused,
         };
     }
     Batch {
         left: batch.left - 1,
-        accepted: batch.accepted,
-        refused: batch.refused + 1,
+        accepted,
+        refused: raised(refused, client),
     }
+}
+
+// The sheets of all clients together, or one more than 1,000 where they are more.
+pub fn in_all(counts: [usize; CLIENTS]) -> usize
+    ensures { λ r. ⌜ r ≡ min (total counts) 1001 ⌝ }
+{
+    let mut sum = 0;
+    let mut i = 0;
+    while i < CLIENTS {
+        let count = counts[i];
+        if SHEETS - sum < count {
+            return SHEETS + 1;
+        }
+        sum += count;
+        i += 1;
+    }
+    sum
 }
 
 // ---- lines that are written
 
 // A refusal alone on its line; `0` before the sheet that answers (SCOPE 5.11).
-pub fn refusal_line(refusal: u8) -> TextLine
+pub fn refusal_line(refusal: u8) -> Text
     ensures { λ r. ⌜ r ≡ textOf (refusalLine refusal) ⌝ }
 {
-    let mut bytes = [0u8; 24];
+    let mut bytes = [0u8; TEXT];
     let length = writing::writer::put_count(&mut bytes, 0, refusal as usize);
-    TextLine { bytes, length }
+    Text { bytes, length }
 }
 
-fn tally_line(accepted: usize, refused: usize) -> TextLine
-    requires { ⌜ (accepted ≤ 1000) × (refused ≤ 1000) ⌝ }
-    ensures { λ r. ⌜ r ≡ textOf (lines ((pos accepted ∷ pos refused ∷ []) ∷ [])) ⌝ }
+// The line of a client.
+fn put_pair(bytes: &mut [u8], at: usize, accepted: usize, refused: usize) -> usize
+    requires { ⌜ at + pairBytes < 2 ^ 64 ⌝ }
+    ensures { λ r. ⌜ Put (now (bytes .entry)) at (line (pos accepted ∷ pos refused ∷ [])) pairBytes (now (bytes .exit)) r ⌝ }
 {
-    let mut bytes = [0u8; 24];
-    let after = writing::writer::put_digits(&mut bytes, 0, accepted as u64);
-    let next = writing::writer::put_byte(&mut bytes, after, 32);
-    let length = writing::writer::put_count(&mut bytes, next, refused);
-    TextLine { bytes, length }
+    let after = writing::writer::put_digits(bytes, at, accepted as u64);
+    let next = writing::writer::put_byte(bytes, after, 32);
+    writing::writer::put_count(bytes, next, refused)
 }
 
-// The last line: how many sheets are accepted and how many refused (SCOPE 5.12); 3 where sheets are still to come,
+// The lines of all clients, client 1 first.
+fn put_tally(bytes: &mut [u8], accepted: [usize; CLIENTS], refused: [usize; CLIENTS]) -> usize
+    ensures { λ r. ⌜
+        Put (now (bytes .entry)) 0 (lines (tallyLines (record { accepted = accepted; refused = refused }))) tallyBytes
+        (now (bytes .exit)) r ⌝ }
+{
+    let mut at = 0;
+    let mut i = 0;
+    while i < CLIENTS {
+        at = put_pair(bytes, at, accepted[i], refused[i]);
+        i += 1;
+    }
+    at
+}
+
+fn tally_text(accepted: [usize; CLIENTS], refused: [usize; CLIENTS]) -> Text
+    requires { ⌜ (total accepted ≤ 1000) × (total refused ≤ 1000) ⌝ }
+    ensures { λ r. ⌜ r ≡ textOf (lines (tallyLines (record { accepted = accepted; refused = refused }))) ⌝ }
+{
+    let mut bytes = [0u8; TEXT];
+    let length = put_tally(&mut bytes, accepted, refused);
+    Text { bytes, length }
+}
+
+// The last lines: how many sheets of each client are accepted and how many refused (SCOPE 5.12); 3 where sheets are still to come,
 // `over` bytes are left over (SCOPE 5.21), or more than 1,000 are counted.
-pub fn close(batch: Batch, over: usize) -> TextLine
-    ensures { λ r. ⌜ r ≡ textOf (closeLine batch over) ⌝ }
+pub fn close(batch: Batch, over: usize) -> Text
+    ensures { λ r. ⌜ r ≡ textOf (closeText batch over) ⌝ }
 {
     if batch.left != 0 {
         return refusal_line(3);
@@ -172,11 +244,13 @@ pub fn close(batch: Batch, over: usize) -> TextLine
     if over != 0 {
         return refusal_line(3);
     }
-    if 1000 < batch.accepted {
+    let accepted = batch.accepted;
+    if SHEETS < in_all(accepted) {
         return refusal_line(3);
     }
-    if 1000 < batch.refused {
+    let refused = batch.refused;
+    if SHEETS < in_all(refused) {
         return refusal_line(3);
     }
-    tally_line(batch.accepted, batch.refused)
+    tally_text(accepted, refused)
 }

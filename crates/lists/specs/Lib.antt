@@ -1,4 +1,5 @@
 pub mod Tests
+pub mod Totals
 pub mod Everywhere
 pub mod Places
 pub mod Taken

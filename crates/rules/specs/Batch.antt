@@ -2,13 +2,16 @@
 --
 -- Main definitions
 --   sheetAnswer bytes    the answer to one sheet (SCOPE 5.11)
+--   Counting, answersBy, outputBy   the output of a batch, for any way to count its answers
+--   Tally, byClient      accepted and refused sheets of each client (SCOPE 5.12)
 --   batchOutput bytes    the whole output for a whole input
-use Prim.Native.Nat.{ℕ, zero, suc}
+use Prim.Native.Nat.{ℕ, zero, suc, pred}
 use mathlib.Core.Bool.{Bool, true, false, cond}
 use mathlib.Core.List.{List, [], _∷_, _++_, map}
 use lib.Dec.{leb}
-use lib.ListN.{length, take, drop}
+use lib.ListN.{length, take, drop, getD, set, replicate}
 use lib.IntN.{ℤ, pos, natAbs}
+use Rattle.algebra.specs.Sums.{countFrom}
 use Rattle.rules.specs.Elimination.{State, Outcome, going, done, refused, leadingRun, neverNumber}
 use Rattle.rules.specs.Numbers.{space, newline, Read, got, fault, field, between, lines}
 use Rattle.rules.specs.Sheets.{Sheet, always, readSheet, writeSheet}
@@ -56,24 +59,16 @@ sheetAnswer bytes = answerBytes (answerSheet bytes)
 
 -- ---- the batch
 
-pub record Tally : Type 0 where
-  pub accepted : ℕ
-  pub refused : ℕ
-
-unfoldable pub countAnswer : Answer → Tally → Tally
-countAnswer (accepted bytes) y = record { accepted = suc (y .accepted); refused = y .refused }
-countAnswer (refusedWith n) y = record { accepted = y .accepted; refused = suc (y .refused) }
-
 -- What is written where the batch is found to be broken; nothing comes after it (SCOPE 5.21).
 unfoldable pub broken : List ℕ
 unfolding lines
 broken = lines ((pos 3 ∷ []) ∷ [])
 
--- At the end the numbers of accepted and of refused sheets; bytes left over are a broken batch (SCOPE 5.12, 5.21).
-unfoldable pub closing : Tally → List ℕ → List ℕ
-unfolding lines broken
-closing y [] = lines ((pos (y .accepted) ∷ pos (y .refused) ∷ []) ∷ [])
-closing y (b ∷ bytes) = broken
+-- How the answers of a batch are counted, by the client of each, and the lines that stand at its end (SCOPE 5.12).
+pub record Counting (C : Type 0) : Type 0 where
+  pub none : C
+  pub count : ℕ → Answer → C → C
+  pub ending : C → List (List ℤ)
 
 -- The client and byte count of a sheet (SCOPE 5.2).
 pub record SheetLine : Type 0 where
@@ -98,29 +93,80 @@ unfoldable pub readSheetLine : List ℕ → Read SheetLine
 unfolding readAfterClient readClient
 readSheetLine bytes = readAfterClient (readClient bytes)
 
--- The answers to k sheets and what comes after them; the sheet of which bytes are missing has none (SCOPE 5.22).
-unfoldable pub answers : ℕ → Tally → List ℕ → List ℕ
-unfolding closing broken countAnswer answerBytes answerSheet readSheetLine
-answers zero y bytes = closing y bytes
-answers (suc k) y bytes = afterLine (readSheetLine bytes) (answers k)
-  where
-    whole : ℕ → List ℕ → (Tally → List ℕ → List ℕ) → List ℕ
-    whole size rest more =
-        let answer = answerSheet (take size rest) in
-        answerBytes answer ++ more (countAnswer answer y) (drop size rest)
+module _ {C : Type 0} (how : Counting C) where
+  -- At the end the lines of the count; bytes left over are a broken batch (SCOPE 5.12, 5.21).
+  unfoldable pub closingBy : C → List ℕ → List ℕ
+  unfolding lines broken
+  closingBy y [] = lines (how .ending y)
+  closingBy y (b ∷ bytes) = broken
 
-    afterLine : Read SheetLine → (Tally → List ℕ → List ℕ) → List ℕ
-    afterLine (fault n) more = broken
-    afterLine (got sheetLine rest) more =
-        let answered = whole (sheetLine .bytes) rest more in
-        cond (leb (sheetLine .bytes) (length rest)) answered broken
+  -- The answers to k sheets and what comes after them; the sheet of which bytes are missing has none (SCOPE 5.22).
+  unfoldable pub answersBy : ℕ → C → List ℕ → List ℕ
+  unfolding closingBy broken answerBytes answerSheet readSheetLine
+  answersBy zero y bytes = closingBy y bytes
+  answersBy (suc k) y bytes = afterLine (readSheetLine bytes) (answersBy k)
+    where
+      whole : ℕ → ℕ → List ℕ → (C → List ℕ → List ℕ) → List ℕ
+      whole client size rest more =
+          let answer = answerSheet (take size rest) in
+          answerBytes answer ++ more (how .count client answer y) (drop size rest)
 
-unfoldable pub answersAfter : Read ℤ → List ℕ
-unfolding answers broken
-answersAfter (got k rest) = answers (natAbs k) (record { accepted = 0; refused = 0 }) rest
-answersAfter (fault n) = broken
+      afterLine : Read SheetLine → (C → List ℕ → List ℕ) → List ℕ
+      afterLine (fault n) more = broken
+      afterLine (got sheetLine rest) more =
+          let answered = whole (sheetLine .client) (sheetLine .bytes) rest more in
+          cond (leb (sheetLine .bytes) (length rest)) answered broken
 
--- The first line has the number of sheets, 0 to 1,000 (SCOPE 5.1).
+  unfoldable pub answersAfter : Read ℤ → List ℕ
+  unfolding answersBy broken
+  answersAfter (got k rest) = answersBy (natAbs k) (how .none) rest
+  answersAfter (fault n) = broken
+
+  -- The first line has the number of sheets, 0 to 1,000 (SCOPE 5.1).
+  unfoldable pub outputBy : List ℕ → List ℕ
+  unfolding answersAfter field between always
+  outputBy bytes = answersAfter (field (between (pos 0) (pos 1000)) (always newline) bytes)
+
+-- ---- the count by client
+
+-- Clients have the numbers 1 to 8 (SCOPE 5.2).
+abbrev pub clientCount : ℕ
+clientCount = 8
+
+-- The sheets that are accepted and those that are refused, each a list of the numbers of clients 1 to 8 (SCOPE 5.12).
+pub record Tally : Type 0 where
+  pub accepted : List ℕ
+  pub refused : List ℕ
+
+abbrev pub noTally : Tally
+noTally = record { accepted = replicate clientCount 0; refused = replicate clientCount 0 }
+
+-- One sheet more for a client.
+unfoldable pub oneMore : ℕ → List ℕ → List ℕ
+oneMore client counts = set counts (pred client) (suc (getD counts (pred client) 0))
+
+unfoldable pub countAnswer : ℕ → Answer → Tally → Tally
+unfolding oneMore
+countAnswer client (accepted bytes) y = record { accepted = oneMore client (y .accepted); refused = y .refused }
+countAnswer client (refusedWith n) y = record { accepted = y .accepted; refused = oneMore client (y .refused) }
+
+-- A line `accepted refused` for each client, client 1 first (SCOPE 5.12).
+abbrev pub clientLine : Tally → ℕ → List ℤ
+clientLine y k = pos (getD (y .accepted) k 0) ∷ pos (getD (y .refused) k 0) ∷ []
+
+unfoldable pub tallyLines : Tally → List (List ℤ)
+unfolding countFrom
+tallyLines y = map (clientLine y) (countFrom 0 clientCount)
+
+abbrev pub byClient : Counting Tally
+byClient = record { none = noTally; count = countAnswer; ending = tallyLines }
+
+abbrev pub closing : Tally → List ℕ → List ℕ
+closing = closingBy byClient
+
+abbrev pub answers : ℕ → Tally → List ℕ → List ℕ
+answers = answersBy byClient
+
 unfoldable pub batchOutput : List ℕ → List ℕ
-unfolding answersAfter field between always
-batchOutput bytes = answersAfter (field (between (pos 0) (pos 1000)) (always newline) bytes)
+unfolding outputBy countAnswer tallyLines
+batchOutput bytes = outputBy byClient bytes

@@ -264,8 +264,8 @@ k11-holds : Holds k11
 unfolding opened
 k11-holds = (refl, refl)
 
--- K2 as a batch: the lines `1` and `1 54` and the first sheet; what is printed is `0`, the second sheet and `1 0`
--- (SCOPE 7.2).
+-- K2 as a batch: the lines `1` and `1 54` and the first sheet; what is printed is `0`, the second sheet, `1 0` for client 1
+-- and `0 0` for each of the others (SCOPE 5.12, 7.2).
 abbrev pub k2-input : List ℕ
 k2-input =
     49 ∷ 10 ∷
@@ -288,7 +288,14 @@ k2-output =
     48 ∷ 32 ∷ 50 ∷ 32 ∷ 49 ∷ 32 ∷ 49 ∷ 32 ∷ 49 ∷ 32 ∷ 49 ∷ 32 ∷ 48 ∷ 32 ∷ 49 ∷ 32 ∷ 49 ∷ 32 ∷ 45 ∷ 49 ∷ 10 ∷
     45 ∷ 49 ∷ 32 ∷ 50 ∷ 32 ∷ 49 ∷ 32 ∷ 49 ∷ 32 ∷ 50 ∷ 32 ∷ 48 ∷ 32 ∷ 49 ∷ 32 ∷ 48 ∷ 32 ∷ 50 ∷ 32 ∷ 49 ∷ 32 ∷ 45 ∷ 49 ∷ 10 ∷
     50 ∷ 32 ∷ 49 ∷ 32 ∷ 50 ∷ 10 ∷
-    49 ∷ 32 ∷ 48 ∷ 10 ∷ []
+    49 ∷ 32 ∷ 48 ∷ 10 ∷
+    48 ∷ 32 ∷ 48 ∷ 10 ∷
+    48 ∷ 32 ∷ 48 ∷ 10 ∷
+    48 ∷ 32 ∷ 48 ∷ 10 ∷
+    48 ∷ 32 ∷ 48 ∷ 10 ∷
+    48 ∷ 32 ∷ 48 ∷ 10 ∷
+    48 ∷ 32 ∷ 48 ∷ 10 ∷
+    48 ∷ 32 ∷ 48 ∷ 10 ∷ []
 
 k2-printed : batchOutput k2-input ≡ k2-output
 unfolding opened

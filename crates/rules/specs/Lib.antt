@@ -11,4 +11,5 @@ pub mod Sheets
 pub mod SheetCalls
 pub mod Batch
 pub mod Opened
+pub mod Tallies
 pub mod Known

@@ -3,7 +3,7 @@
 use crate::batches::sheet_with_answer_of;
 use crate::cases::text;
 use crate::random::Random;
-use outside::batch::answer;
+use outside::batch::{answer, CLIENTS};
 use std::fs::OpenOptions;
 use std::io::{Read, Write};
 use std::process::{Child, Command, Stdio};
@@ -90,16 +90,20 @@ impl Drop for Talk {
 fn waits(command: Command, sheets: &[&[u8]]) -> Result<(), String> {
     let mut talk = Talk::with(command);
     talk.send(format!("{}\n", sheets.len()).as_bytes());
-    let mut accepted = 0;
+    let mut counts = [(0, 0); CLIENTS];
     for (k, sheet) in sheets.iter().enumerate() {
-        talk.send(format!("{} {}\n", k % 8 + 1, sheet.len()).as_bytes());
+        let place = k % CLIENTS;
+        talk.send(format!("{} {}\n", place + 1, sheet.len()).as_bytes());
         talk.send(sheet);
         let expected = answered(sheet);
-        accepted += expected.starts_with(b"0") as usize;
+        let accepted = expected.starts_with(b"0");
+        counts[place].0 += accepted as usize;
+        counts[place].1 += !accepted as usize;
         talk.expect(&format!("sheet {} of {}", k + 1, sheets.len()), &expected)?;
     }
     talk.close();
-    talk.expect("the last line", format!("{accepted} {}\n", sheets.len() - accepted).as_bytes())
+    let last: String = counts.map(|(accepted, refused)| format!("{accepted} {refused}\n")).concat();
+    talk.expect("the last lines", last.as_bytes())
 }
 
 /// The answers that have to come before more is sent. Returns what was different.

@@ -489,10 +489,14 @@ mod tests {
     fn batches() {
         let sheet = b"3 1 0 0\n1\n1 0 1 1 1\n0\n0\n1\n1 5\n";
         let input = [format!("2\n1 {}\n", sheet.len()).as_bytes(), sheet, b"8 0\n"].concat();
-        let output = b"0\n3 1 0 0\n1\n1 0 1 1 1\n0\n1 1\n1\n1 5\n4\n1 1\n";
-        Judge::default().batch(&input, output, &Outside(None)).unwrap();
+        let answers = b"0\n3 1 0 0\n1\n1 0 1 1 1\n0\n1 1\n1\n1 5\n4\n";
+        let output = [&answers[..], b"1 0\n", &b"0 0\n".repeat(6), b"0 1\n"].concat();
+        Judge::default().batch(&input, &output, &Outside(None)).unwrap();
         for fault in [Fault::BatchStoresKept, Fault::BatchCut, Fault::BatchTailZeroed, Fault::BatchResultLast] {
-            assert!(Judge::default().batch(&input, output, &Outside(Some(fault))).is_err(), "{fault:?}");
+            assert!(Judge::default().batch(&input, &output, &Outside(Some(fault))).is_err(), "{fault:?}");
+        }
+        for fault in [Fault::OtherClient, Fault::RefusedAccepted, Fault::OneLine, Fault::SilentClients] {
+            assert!(Judge::default().batch(&input, &output, &Outside(Some(fault))).is_err(), "{fault:?}");
         }
     }
 

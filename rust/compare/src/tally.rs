@@ -1,6 +1,7 @@
 //! How often each refusal, shift count and relation count came up.
 
 use crate::cases::{Answer, Kind};
+use outside::batch::CLIENTS;
 use std::collections::BTreeMap;
 
 /// The tables have a column for each number up to this one.
@@ -64,18 +65,18 @@ impl Tally {
 }
 
 /// The answers of a batch whose first ones are known, from the lines behind those: a refusal's line, or `0` and the lines of a sheet.
-/// The last line is the 3 of a broken frame, or says how many were accepted and refused. Only what follows tells whether a
+/// The last line is the 3 of a broken frame, or the last lines say how many were accepted and refused. Only what follows tells whether a
 /// sheet has a fifth section: it is taken to have one, and if then the rest makes no sense, to have none.
 fn numbers(lines: &[&str], mut answers: Vec<u8>) -> Option<Vec<u8>> {
-    let (first, rest) = lines.split_first()?;
-    let number = first.parse();
-    if rest.is_empty() {
+    if let Some(counts) = counts(lines) {
         let accepted = answers.iter().filter(|&&number| number == 0).count();
-        answers.extend(&number);
-        let whole = *first == format!("{accepted} {}", answers.len() - accepted);
-        return (whole || number == Ok(3)).then_some(answers);
+        return (counts == (accepted, answers.len() - accepted)).then_some(answers);
     }
-    answers.push(number.ok()?);
+    let (first, rest) = lines.split_first()?;
+    answers.push(first.parse().ok()?);
+    if rest.is_empty() {
+        return (answers.last() == Some(&3)).then_some(answers);
+    }
     if answers.last() != Some(&0) {
         return numbers(rest, answers);
     }
@@ -83,6 +84,24 @@ fn numbers(lines: &[&str], mut answers: Vec<u8>) -> Option<Vec<u8>> {
     let after_sides = after_order.get(..=sides).filter(|section| is_fifth(section)).map(|_| &after_order[sides + 1..]);
     let with_sides = after_sides.and_then(|after| numbers(after, answers.clone()));
     with_sides.or_else(|| numbers(after_order, answers))
+}
+
+/// The sums over the clients, where the lines are the last ones of a batch: how many sheets of each are accepted and refused.
+fn counts(lines: &[&str]) -> Option<(usize, usize)> {
+    let count = |line: &&str| {
+        let (accepted, refused) = line.split_once(' ')?;
+        Some((accepted.parse::<usize>().ok()?, refused.parse::<usize>().ok()?))
+    };
+    let clients: Vec<(usize, usize)> = lines.iter().map(count).collect::<Option<_>>()?;
+    let sums = || clients.iter().fold((0, 0), |(a, r), (accepted, refused)| (a + accepted, r + refused));
+    (clients.len() == CLIENTS).then(sums)
+}
+
+/// The sums over the clients that the output of a whole batch ends with.
+pub fn last_counts(output: &[u8]) -> Option<(usize, usize)> {
+    let text = String::from_utf8_lossy(output);
+    let lines: Vec<&str> = text.lines().collect();
+    counts(&lines[lines.len().saturating_sub(CLIENTS)..])
 }
 
 /// What follows the order line of a sheet, which comes after sizes, m and its equations, r and its relations; and m + r.
@@ -142,7 +161,7 @@ mod tests {
         assert!([0, 2, 3, 4, 5].iter().all(|&number| induced.refused(number) >= 20));
     }
 
-    /// As many answers are counted as the last line of a batch says, with their kinds.
+    /// As many answers are counted as the last lines of a batch say, with their kinds.
     #[test]
     fn answers_of_batches() {
         for k in 0..400 {
@@ -151,9 +170,7 @@ mod tests {
             let mut tally = Tally::default();
             tally.count_batch(&output);
             let all: usize = tally.refusals.values().sum();
-            let text = String::from_utf8(output).unwrap();
-            let last: Vec<usize> = text.lines().last().unwrap().split(' ').map(|n| n.parse().unwrap()).collect();
-            if let [accepted, refused] = last[..] {
+            if let Some((accepted, refused)) = last_counts(&output) {
                 assert_eq!((tally.refused(0), all), (accepted, accepted + refused), "batch {k}");
             } else {
                 assert!(tally.refused(3) > 0, "batch {k}");

@@ -95,7 +95,11 @@ faults! {
     MissingAnswered: "a sheet of which bytes are missing is answered",
     LargeOutput: "output sheets above 65,536 bytes are written",
     LargeFifth: "the fifth section does not count among the 65,536 bytes of an output sheet",
-    CountsAfterBreak: "the last line is written after a broken frame too",
+    CountsAfterBreak: "the last lines are written after a broken frame too",
+    OtherClient: "a sheet is counted for the next client",
+    RefusedAccepted: "a refused sheet is counted as accepted",
+    OneLine: "one last line counts the sheets of all clients",
+    SilentClients: "a client who sent nothing has no last line",
     // Batches on stores.
     BatchStoresKept: "an output store too short for a batch stays as it is",
     BatchCut: "an output store too short for a batch gets the beginning of the output",

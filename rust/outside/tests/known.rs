@@ -49,8 +49,9 @@ fn k2() -> System {
 #[test]
 fn k2_through_the_batch() {
     let input = "1\n1 54\n3 2 1 0\n2\n2 1 1 2 0 1 0 2 1 -1\n2 1 1 1 1 0 1 1 -1\n0\n0\n";
-    let output = "0\n3 2 1 0\n2\n2 1 1 2 -1 -1 1 2 1 1\n2 1 2 2 0 1 0 2 2 -1 -1\n2\n0 2 1 1 1 1 0 1 1 -1\n-1 2 1 1 2 0 1 0 2 1 -1\n2 1 2\n1 0\n";
-    assert_eq!(String::from_utf8(outside::batch::output(input.as_bytes(), None)).unwrap(), output);
+    let output = "0\n3 2 1 0\n2\n2 1 1 2 -1 -1 1 2 1 1\n2 1 2 2 0 1 0 2 2 -1 -1\n2\n0 2 1 1 1 1 0 1 1 -1\n-1 2 1 1 2 0 1 0 2 1 -1\n2 1 2\n";
+    let counts = "1 0\n0 0\n0 0\n0 0\n0 0\n0 0\n0 0\n0 0\n";
+    assert_eq!(String::from_utf8(outside::batch::output(input.as_bytes(), None)).unwrap(), format!("{output}{counts}"));
     let run = run(&k2(), Side::Leading, None).unwrap();
     assert_eq!((run.shifts, run.root), (1, Some(0)));
 }

@@ -164,8 +164,9 @@ pub fn write_sheet(rows: &[i64], relations: &[i64], heading: &Heading, bytes: &m
     accepted(number, result[0] as usize)
 }
 
-/// Works a whole batch, writes what the batch program would write to the beginning of `output`, and tells its length. A broken batch is
-/// worked too: its output ends in the line `3`. The only refusal is 1, an output store that is too short, which is then zero;
+/// Works a whole batch, writes what the batch program would write to the beginning of `output`, and tells its length. At the end stand eight
+/// lines, the accepted and the refused sheets of each client. A broken batch is worked too: its output ends in the line `3`, without those
+/// lines. The only refusal is 1, an output store that is too short, which is then zero;
 /// [`batch_output`] bytes are enough.
 ///
 /// ```
@@ -174,7 +175,9 @@ pub fn write_sheet(rows: &[i64], relations: &[i64], heading: &Heading, bytes: &m
 /// let mut output = vec![0; wurgalm::batch_output(2)];
 /// let length = wurgalm::batch(input.as_bytes(), &mut output).unwrap();
 /// let answer = "0\n3 1 1 0\n1\n2 1 1 2 -3 1 0 1 1 -1\n0\n1 1\n"; // the same system, in the column order 1
-/// assert_eq!(output[..length], *format!("{answer}4\n1 1\n").as_bytes()); // and the end of a sheet that is cut, refused with 4
+/// let refused = "4\n"; // the other sheet is cut
+/// let counts = "1 0\n0 0\n0 0\n0 0\n0 0\n0 0\n0 0\n0 1\n"; // accepted and refused sheets of clients 1 to 8
+/// assert_eq!(output[..length], *format!("{answer}{refused}{counts}").as_bytes());
 /// ```
 pub fn batch(input: &[u8], output: &mut [u8]) -> Result<usize, Refusal> {
     let mut result = [0; 1];
@@ -184,5 +187,5 @@ pub fn batch(input: &[u8], output: &mut [u8]) -> Result<usize, Refusal> {
 
 /// Bytes that are enough for the output of a batch of so many sheets.
 pub const fn batch_output(sheets: usize) -> usize {
-    sheets * (2 + 65_536) + 64
+    sheets * (2 + 65_536) + 8 * 24
 }

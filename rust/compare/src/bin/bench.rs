@@ -7,6 +7,7 @@ use compare::random::Random;
 use compare::sheets::{sheet, whole_sheet};
 use compare::subject::{output_of, Library};
 use compare::systems::large_system;
+use compare::tally::last_counts;
 use outside::batch::SHEET_BYTES;
 use outside::polynomial::Polynomial;
 use outside::sheet::{write, Sheet};
@@ -123,14 +124,14 @@ fn batches(what: &str, library: &Option<Library>, sheets: &[Vec<u8>]) {
         command
     };
     let expected = output_of(fast_program(), &input);
-    let last = expected.split(|&b| b == b'\n').nth_back(1).unwrap_or(&[]);
+    let (accepted, refused) = last_counts(&expected).expect("a whole batch");
     let time = library.as_ref().map(|library| {
         let found = output_of(Command::new(library.program()), &input);
         assert!(found == expected, "{what}: the program writes something else than the fast version");
         shortest(|| drop(output_of(Command::new(library.program()), &input)))
     });
     let fast = shortest(|| drop(output_of(fast_program(), &input)));
-    let what = format!("{what}, {} bytes, accepted and refused {}", input.len(), String::from_utf8_lossy(last));
+    let what = format!("{what}, {} bytes, accepted and refused {accepted} {refused}", input.len());
     line(&what, time, fast, None);
 }
 

@@ -89,29 +89,34 @@ pub fn batch(input: &[u8]) -> Vec<u8> {
     let mut system = System::new();
     let mut output = Vec::with_capacity(input.len() + 1024);
     match frames(input, &mut system, &mut output) {
-        Ok((accepted, refused)) => output.extend(format!("{accepted} {refused}\n").bytes()),
+        Ok(clients) => {
+            for [accepted, refused] in clients {
+                output.extend(format!("{accepted} {refused}\n").bytes());
+            }
+        }
         Err(_) => output.extend(b"3\n"),
     }
     output
 }
 
-fn frames(input: &[u8], system: &mut System, output: &mut Vec<u8>) -> Result<(usize, usize), u8> {
+/// The accepted and the refused sheets of each client.
+fn frames(input: &[u8], system: &mut System, output: &mut Vec<u8>) -> Result<[[usize; 2]; 8], u8> {
     let mut cursor = Cursor::new(input);
-    let (mut accepted, mut refused) = (0, 0);
+    let mut clients = [[0; 2]; 8];
     for _ in 0..cursor.within(0, 1000, b'\n')? {
-        cursor.within(1, 8, b' ')?;
+        let counts = &mut clients[cursor.within(1, 8, b' ')? as usize - 1];
         let length = cursor.within(0, 32_768, b'\n')? as usize;
         let bytes = cursor.take(length).ok_or(3)?;
         match answer(system, bytes, output) {
-            Ok(()) => accepted += 1,
+            Ok(()) => counts[0] += 1,
             Err(number) => {
                 output.extend(format!("{number}\n").bytes());
-                refused += 1;
+                counts[1] += 1;
             }
         }
     }
     cursor.ended()?;
-    Ok((accepted, refused))
+    Ok(clients)
 }
 
 #[cfg(test)]

@@ -12,7 +12,7 @@ use lib.Seq.{length-take-le, take-length}
 use Rattle.lists.specs.Overwritten.{overwrite}
 use Rattle.rules.specs.Batch.{mostBytes}
 use Rattle.frames.specs.PieceSizes.{text-fits}
-use Rattle.frames.specs.Pieces.{refusalLine}
+use Rattle.frames.specs.Pieces.{textRoom, refusalLine}
 use Rattle.batches.specs.Answering.{made-within, beside-call, beside-unput}
 use borrow.Author.Needs.{needs}
 use Rattle.batches.proofs.answering.put_beside.Statement.{statement}
@@ -32,9 +32,9 @@ module _ (c : tie.After-refusal-line) where
   abbrev made : tie.After-answer-in
   made = c .before .before .before .before
 
-  line-few : c .refusal-line .result .length ≤ 24
+  line-few : c .refusal-line .result .length ≤ textRoom
   line-few =
-      let bytes : length (c .refusal-line .result .bytes) ≡ 24 = search needs in
+      let bytes : length (c .refusal-line .result .bytes) ≡ textRoom = search needs in
       text-fits (c .refusal-line .result) (refusalLine (made .answer-in .result .refusal)) (c .refusal-line .ensures) bytes
 
   within : (made .answer-in .result .length ≤ length beside) × (length (made .answer-in .last .1 .1 .1 .0) ≡ length beside)
@@ -95,8 +95,8 @@ copy-requires c κs =
     let from = line .refusal-line .result .length in
     rw (counted line, length-take-le (length output - from) (drop from output) (rw length-drop (omega arith))) (omega arith)
 
-put-line-requires : tie.Need-put-line-requires
-put-line-requires c κs =
+put-text-requires : tie.Need-put-text-requires
+put-text-requires c κs =
     let line = c .before .before .before .before .before .before .before in
     let output = now (start line .args .output) in
     let from = line .refusal-line .result .length in
@@ -123,9 +123,9 @@ returns-2 c =
     let copied = c .before .before .before .before .before .before .copy in (
       beside-call (now (start line .args .sheet)) beside output (made line .answer-in .result)
           (made line .answer-in .last .1 .1 .1 .0) (line .refusal-line .result) long (made line .answer-in .ensures .0)
-          (line .refusal-line .ensures) (omega arith) (copied .last .1 .0) (c .before .before .put-line .last .0)
+          (line .refusal-line .ensures) (omega arith) (copied .last .1 .0) (c .before .before .put-text .last .0)
           (copied .ensures .1 ∙ ap (λ l. l ++ drop (length text) (take (length output - from) (drop from output))) (take-length text))
-          (c .before .before .put-line .ensures),
+          (c .before .before .put-text .ensures),
       search needs,
     )
 
@@ -146,7 +146,7 @@ put-beside-spec =
     part-copy-start
     part-copy-end
     copy-requires
-    put-line-requires
+    put-text-requires
     same-length-3
     same-length-4
     same-length-5

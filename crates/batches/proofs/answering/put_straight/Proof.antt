@@ -8,7 +8,7 @@ use borrow.Rule.Slice.PartMut.{same-len-mid}
 use denote.Ref.{now}
 use lib.ListN.{length}
 use Rattle.frames.specs.PieceSizes.{text-fits}
-use Rattle.frames.specs.Pieces.{refusalLine}
+use Rattle.frames.specs.Pieces.{textRoom, refusalLine}
 use Rattle.batches.specs.Answering.{straight-fits, straight-call}
 use Rattle.batches.proofs.answering.put_straight.Statement.{statement}
 use Rattle.batches.proofs.answering.put_straight.Tie as tie
@@ -21,9 +21,9 @@ module _ (c : tie.After-refusal-line) where
   abbrev made : tie.After-answer-in
   made = c .before .before .before .before .before
 
-  line-few : c .refusal-line .result .length ≤ 24
+  line-few : c .refusal-line .result .length ≤ textRoom
   line-few =
-      let bytes : length (c .refusal-line .result .bytes) ≡ 24 = search needs in
+      let bytes : length (c .refusal-line .result .bytes) ≡ textRoom = search needs in
       text-fits (c .refusal-line .result) (refusalLine (made .answer-in .result .refusal)) (c .refusal-line .ensures) bytes
 
   room : c .refusal-line .result .length + made .answer-in .result .length ≤ length (now (start .args .output))
@@ -49,8 +49,8 @@ refusal-line-requires c κs = search needs
 add-written : tie.Need-add-written
 add-written c = omega (arith, room (c .before .before))
 
-put-line-requires : tie.Need-put-line-requires
-put-line-requires c κs =
+put-text-requires : tie.Need-put-text-requires
+put-text-requires c κs =
     let line = c .before .before .before in
     let output = now (start line .args .output) in
     let same = same-len-mid 2 (length output - 2) output (made line .answer-in .last .1 .1 .1 .0)
@@ -71,7 +71,7 @@ returns c =
     let line = c .before .before .before .before .before .before in (
       straight-call (now (start line .args .sheet)) (now (start line .args .output)) (made line .answer-in .result)
           (made line .answer-in .last .1 .1 .1 .0) (line .refusal-line .result) (start line .pre .0) (made line .answer-in .ensures .0)
-          (line .refusal-line .ensures) (line-few line) (c .before .before .put-line .last .0) (c .before .before .put-line .ensures),
+          (line .refusal-line .ensures) (line-few line) (c .before .before .put-text .last .0) (c .before .before .put-text .ensures),
       search needs,
     )
 
@@ -85,7 +85,7 @@ put-straight-spec =
     answer-in-requires
     refusal-line-requires
     add-written
-    put-line-requires
+    put-text-requires
     same-length
     same-length-2
     same-length-3

@@ -2,7 +2,7 @@
 -- Assumes nothing.
 use Prim.Native.Nat.{ℕ, _-_, _≤_, zero-le}
 use native.Mathlib.Omega.{arith}
-use mathlib.Core.Path.{_≡_, _∙_, ap₂}
+use mathlib.Core.Path.{_≡_, sym, _∙_, ap₂, subst}
 use mathlib.Core.Bool.{false}
 use mathlib.Core.List.{List}
 use borrow.Author.Needs.{needs}
@@ -10,20 +10,21 @@ use borrow.Rule.Slice.PartMut.{putMid, same-len-mid}
 use denote.Ref.{now}
 use lib.ListN.{length}
 use Rattle.frames.specs.declared.Batch.{Batch}
-use Rattle.frames.specs.Pieces.{noTally, batchWith}
+use Rattle.lists.specs.Totals.{total}
+use Rattle.frames.specs.Pieces.{Counted}
 use Rattle.batches.specs.PieceCalls.{outputOf}
 use Rattle.batches.specs.Endings.{fed-places, whole-short, whole-less, whole-fits, whole-all}
 use Rattle.batches.proofs.endings.whole.Statement.{statement}
 use Rattle.batches.proofs.endings.whole.Tie as tie
 
--- Before anything has come.
-abbrev none : Batch
-none = batchWith 0 noTally
-
 -- The bytes have been worked.
 module _ (c : tie.After-feed) where
   abbrev start : tie.Start
-  start = c .before .before .before .before .before .before
+  start = c .before .before .before .before .before .before .before
+
+  -- Before anything has come.
+  abbrev none : Batch
+  none = c .before .before .before .before .uncounted .result
 
   abbrev input : List ℕ
   input = now (start .args .input)
@@ -56,8 +57,14 @@ module _ (c : tie.After-ending) where
       same-len-mid (fed .feed .result .written) (length (after fed) - fed .feed .result .written) (after fed) part
       (c .ending .kept .1 .1 .1 .0)
 
+uncounted-requires : tie.Need-uncounted-requires
+uncounted-requires c κs = search needs
+
 feed-requires : tie.Need-feed-requires
-feed-requires c κs = let start = c .before .before .before .before .before in (zero-le, start .pre .0, start .pre .1)
+unfolding total
+feed-requires c κs =
+    let start = c .before .before .before .before .before .before in
+    (subst Counted (sym (c .before .before .before .uncounted .ensures)) zero-le, start .pre .0, start .pre .1)
 
 too-short-requires : tie.Need-too-short-requires
 too-short-requires c κs = search needs
@@ -75,7 +82,7 @@ returns : tie.Need-returns
 returns c =
     let fed = c .before .before .before .before .before .before .before .before .before in
     ap₂ outputOf (c .before .before .too-short .ensures .0) (c .before .before .too-short .ensures .1)
-    ∙ whole-short none (input fed) (output fed) (fed .feed .result) (after fed) (fed .feed .ensures .0)
+    ∙ whole-short (none fed) (input fed) (output fed) (fed .feed .result) (after fed) (fed .feed .ensures .0)
     (c .before .before .before .before .if1 .taken)
 
 sub-ending : tie.Need-sub-ending
@@ -110,7 +117,7 @@ returns-2 c =
     let last = c .before .before .before .before .before .before .before .before in
     let fed = fed last in
     ap₂ outputOf (c .before .before .too-short2 .ensures .0) (c .before .before .too-short2 .ensures .1)
-    ∙ whole-less none (input fed) (output fed) (fed .feed .result) (after fed) (fed .feed .ensures .0)
+    ∙ whole-less (none fed) (input fed) (output fed) (fed .feed .result) (after fed) (fed .feed .ensures .0)
     (fits last) (last .ending .result) (part last) (last .ending .ensures) (c .before .before .before .before .if2 .taken)
     (joined last) (same last)
 
@@ -119,7 +126,7 @@ add-t24 c =
     let last = c .before .before .before .before .before in
     let fed = fed last in
     let few =
-    whole-fits none (input fed) (output fed) (fed .feed .result) (after fed) (fed .feed .ensures .0) (fits last)
+    whole-fits (none fed) (input fed) (output fed) (fed .feed .result) (after fed) (fed .feed .ensures .0) (fits last)
     (last .ending .result) (part last) (last .ending .ensures) (c .before .if2 .left) in
     omega (arith, few, start fed .good .1 .0 .0)
 
@@ -136,13 +143,14 @@ returns-3 : tie.Need-returns-3
 returns-3 c =
     let last = c .before .before .before .before .before in
     let fed = fed last in
-    whole-all none (input fed) (output fed) (fed .feed .result) (after fed) (fed .feed .ensures .0)
+    whole-all (none fed) (input fed) (output fed) (fed .feed .result) (after fed) (fed .feed .ensures .0)
     (fits last) (last .ending .result) (part last) (last .ending .ensures) (c .before .if2 .left)
 
 pub whole-spec : {M : Type 1} → statement M
 whole-spec =
     tie.close
     (tie.spec
+    uncounted-requires
     feed-requires
     too-short-requires
     same-length

@@ -6,7 +6,7 @@ use mathlib.Core.Path.{_≡_, _∙_, ap}
 use denote.Ref.{now}
 use lib.ListN.{length}
 use Rattle.frames.specs.PieceSizes.{text-fits}
-use Rattle.frames.specs.Pieces.{refusalLine}
+use Rattle.frames.specs.Pieces.{textRoom, refusalLine}
 use Rattle.batches.specs.Turns.{fedOf, breaks-full, breaks-over}
 use borrow.Author.Needs.{needs}
 use Rattle.batches.proofs.feeding.breaking.Statement.{statement}
@@ -26,10 +26,10 @@ returns c =
     ∙ breaks-full (args .stage) (args .batch) (now (args .bytes)) (now (args .output)) (line .result) (line .ensures)
     (c .before .if1 .taken)
 
-put-line-requires : tie.Need-put-line-requires
-put-line-requires c κs =
+put-text-requires : tie.Need-put-text-requires
+put-text-requires c κs =
     let line = c .before .before .refusal-line in
-    let bytes : length (line .result .bytes) ≡ 24 = search needs in
+    let bytes : length (line .result .bytes) ≡ textRoom = search needs in
     (text-fits (line .result) (refusalLine 3) (line .ensures) bytes, c .before .if1 .left)
 
 same-length : tie.Need-same-length
@@ -40,7 +40,7 @@ returns-2 c =
     let args = c .before .before .before .before .before .before .before .before .args in
     let line = c .before .before .before .before .before .refusal-line in
     breaks-over (args .stage) (args .batch) (now (args .bytes)) (now (args .output)) (line .result) (line .ensures)
-    (c .before .before .before .before .if1 .left) (c .before .before .put-line .last .0) (c .before .before .put-line .ensures)
+    (c .before .before .before .before .if1 .left) (c .before .before .put-text .last .0) (c .before .before .put-text .ensures)
 
 pub breaking-spec : {M : Type 1} → statement M
 breaking-spec =
@@ -49,6 +49,6 @@ breaking-spec =
     refusal-line-requires
     nothing-requires
     returns
-    put-line-requires
+    put-text-requires
     same-length
     returns-2)

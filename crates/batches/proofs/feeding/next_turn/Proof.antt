@@ -152,12 +152,12 @@ returns-6 c =
     let args = start line .args in
     let turn = c .before .before .before .before .sheet-turn in (
       turn .ensures .0
-          ∙ turn-sheet (args .batch) (bytes line) (now (args .output)) (line .line .result .taken)
+          ∙ turn-sheet (args .batch) (bytes line) (now (args .output)) (line .line .result .client) (line .line .result .taken)
           (line .line .result .taken + line .line .result .bytes)
           (look-is
           (sheet-whole (line .before .if1 .left)
           (rw (← seen line) (c .before .before .before .before .before .before .before .before .before .before .before .if4 .left))
-          (ap (λ v. v .taken) (sym (seen line)))
+          (ap (λ v. v .client) (sym (seen line))) (ap (λ v. v .taken) (sym (seen line)))
           (ap (λ v. line .line .result .taken + v .bytes) (sym (seen line)))
           (omega (
             arith,

@@ -43,7 +43,7 @@ returns c =
     let put = c .before .before .before .before .before .before .before .before .put-answer in
     let bytes = now (args .bytes) in (
       ap (λ r. turnOf r (put .last .1 .0)) (c .stopped .ensures ∙ ap stoppedOf (c .before .nothing .ensures))
-          ∙ put-full (sheetIn bytes (args .from) (args .to)) (args .batch) bytes (now (args .output)) (args .to)
+          ∙ put-full (sheetIn bytes (args .from) (args .to)) (args .client) (args .batch) bytes (now (args .output)) (args .to)
           (put .result) (put .last .1 .0)
           (put .ensures .0) (c .before .before .if1 .taken),
       put .ensures .1,
@@ -80,7 +80,7 @@ returns-2 c =
             };
           })
           (c .counted .ensures)
-          ∙ put-done (sheetIn bytes (args .from) (args .to)) (args .batch) bytes (now (args .output)) (args .to)
+          ∙ put-done (sheetIn bytes (args .from) (args .to)) (args .client) (args .batch) bytes (now (args .output)) (args .to)
           (put .result) (put .last .1 .0)
           (put .ensures .0) (c .before .if1 .left) (search needs),
       put .ensures .1,

@@ -1,12 +1,12 @@
--- `batches::endings::end_line` meets its contract: what is written at the end goes by the stage.
+-- `batches::endings::end_text` meets its contract: what is written at the end goes by the stage.
 -- Assumes nothing.
 use mathlib.Core.Path.{sym, _∙_, ap}
 use borrow.Author.Needs.{needs}
 use Rattle.lists.specs.Overwritten.{overwrite}
 use Rattle.frames.specs.Pieces.{textOf, refusal-broken}
 use Rattle.batches.specs.PieceCalls.{endText}
-use Rattle.batches.proofs.endings.end_line.Statement.{statement}
-use Rattle.batches.proofs.endings.end_line.Tie as tie
+use Rattle.batches.proofs.endings.end_text.Statement.{statement}
+use Rattle.batches.proofs.endings.end_text.Tie as tie
 
 enum-told : tie.Need-enum-told
 enum-told c = search needs
@@ -42,8 +42,8 @@ returns-3 c =
     let args = c .before .before .args in
     ap (λ stage. textOf (endText stage (args .batch) (args .held))) (sym (c .enum-told3 .given .1))
 
-pub end-line-spec : {M : Type 1} → statement M
-end-line-spec =
+pub end-text-spec : {M : Type 1} → statement M
+end-text-spec =
     tie.close
     (tie.spec
     enum-told
