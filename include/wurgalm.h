@@ -81,6 +81,25 @@ uint8_t wurgalm_write_sheet(const int64_t *rows, size_t rows_length, const int64
                             int64_t l, int64_t t, size_t count, const int64_t *order, size_t order_length, uint8_t *bytes,
                             size_t bytes_length, int64_t *result, size_t result_length);
 
+/* The recurrence of a differential sheet read into stores: the coefficients of a series satisfy it exactly if the series
+ * satisfies the sheet (SCOPE 10.33).
+ * In: the bytes of the differential sheet (SCOPE 10.1 to 10.7).
+ * Out: as for `wurgalm_read_sheet`: `rows` hold the recurrence with l = K and t = -J, `relations` are zero, and `result` has no
+ * relation and no column (SCOPE 10.41, 10.43).
+ * Returns 0, or the number of the sheet's first fault, 2 to 5, where 5 is a factor past +-1,048,576 (SCOPE 10.12, 10.14);
+ * 1 as for `wurgalm_read_sheet`. */
+uint8_t wurgalm_read_differential(const uint8_t *bytes, size_t bytes_length, int64_t *rows, size_t rows_length, int64_t *relations,
+                                  size_t relations_length, int64_t *result, size_t result_length);
+
+/* The recurrence of a differential sheet written as a sheet.
+ * In: the bytes of the differential sheet.
+ * Out: `bytes` begins with the sheet of the recurrence, which has at most 16,841 bytes; `result` (1 number): its length
+ * (SCOPE 10.42, 10.43).
+ * Returns 0, or the number of the differential sheet's first fault, 2 to 5; only a sheet without a fault gets 1, if a store is
+ * too short. */
+uint8_t wurgalm_write_recurrence(const uint8_t *sheet, size_t sheet_length, uint8_t *bytes, size_t bytes_length, int64_t *result,
+                                 size_t result_length);
+
 /* A whole batch worked.
  * In: the bytes of the batch: a line with the number of sheets, 0 to 1,000, and for each sheet a line with its client,
  * 1 to 8, and its length, 0 to 32,768, and then its bytes (SCOPE 5.1, 5.2).

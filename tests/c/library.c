@@ -184,6 +184,80 @@ static void k11_on_both_sides(void) {
     check(same(&stores, &expected), "(n-1) x(n), one shift, first root 1");
 }
 
+/* ---- differential sheets ---- */
+
+/* x^2 y'' + x y' + (x^2 - 4) y = 0, and its recurrence (n^2 - 4) y(n) + y(n-2) = 0. */
+static const char *const bessel = "3 1 2 2\n1\n4 2 2 1 1 1 1 1 1 0 0 1 -4 0 2 1 1\n";
+static const char *const bessel_answer = "3 1 2 -2\n1\n2 0 1 3 -4 0 1 -2 1 1 1\n0\n0\n";
+
+static uint8_t read_differential(const char *sheet, Stores *stores, Asked call) {
+    return wurgalm_read_differential((const uint8_t *)sheet, strlen(sheet), stores->rows, call.rows, stores->relations,
+                                     call.relations, stores->result, call.result);
+}
+
+/* Sheets that are not read leave the stores as they were. */
+static void not_induced(const char *sheet, Asked call, uint8_t refusal, const char *what) {
+    static Stores stores, before;
+    char line[120];
+    prepare(&stores, 9);
+    before = stores;
+    snprintf(line, sizeof line, "differential, %s: %d", what, refusal);
+    check(read_differential(sheet, &stores, call) == refusal && same(&stores, &before), line);
+}
+
+static void bessel_read(void) {
+    static const int64_t heading[WURGALM_RESULT] = {1, 2, -2, 0, 0, 0, 0, 0};
+    static Stores stores, expected;
+    Asked call = asked();
+    prepare(&stores, 9);
+    expected = stores;
+    check(read_differential(bessel, &stores, call) == 0, "Bessel's equation is read");
+    check_result(stores.result, heading, "its sizes, no relation, no order");
+    fill(expected.rows, WURGALM_ROW, 0);
+    fill(expected.relations, WURGALM_RELATIONS, 0);
+    memcpy(expected.result, heading, sizeof heading);
+    polynomial(expected.rows, 0, 2, 0)[0] = -4;
+    polynomial(expected.rows, 0, 2, 0)[2] = 1;
+    polynomial(expected.rows, 0, 4, 0)[0] = 1;
+    check(same(&stores, &expected), "its recurrence, and nothing past the needed parts");
+
+    not_induced("3 1 2 3\n", call, 2, "power 3");
+    not_induced("3 1 1 0\n1\n2 0 0 1 1 1 0 1 1\n", call, 3, "a derivative that rises");
+    not_induced("3 1 0 0\n1\n1 0 0 1 0\n", call, 3, "a zero factor");
+    not_induced("3 1 0 0\n1\n0\n0\n", call, 4, "the bytes go on");
+    not_induced("3 1 0 0\n1\n1 0 0 1 1048577\n", call, 5, "a factor past the limit");
+    call.relations = WURGALM_RELATIONS - 1;
+    not_induced(bessel, call, 1, "relation store too short");
+    call = asked();
+    call.result = WURGALM_RESULT - 1;
+    not_induced(bessel, call, 1, "result store too short");
+    not_induced("3 1 2", call, 4, "an early end, before a result store too short");
+}
+
+/* What a call that writes a recurrence answers and leaves: the number, and a result and bytes that begin so, with everything past them as
+ * before. */
+static void check_recurrence(const char *sheet, size_t length, size_t results, uint8_t number, int64_t result, const char *written,
+                             const char *what) {
+    uint8_t bytes[100], expected[100];
+    int64_t numbers[2] = {7, 7}, left[2] = {7, 7};
+    uint8_t answer;
+    memset(bytes, '#', sizeof bytes);
+    memset(expected, '#', sizeof expected);
+    memcpy(expected, written, strlen(written));
+    left[0] = result;
+    answer = wurgalm_write_recurrence((const uint8_t *)sheet, strlen(sheet), bytes, length, numbers, results);
+    check(answer == number && memcmp(bytes, expected, sizeof bytes) == 0 && memcmp(numbers, left, sizeof left) == 0, what);
+}
+
+static void bessel_written(void) {
+    size_t length = strlen(bessel_answer);
+    check_recurrence(bessel, 100, 2, 0, (int64_t)length, bessel_answer, "recurrence, Bessel's equation, byte for byte");
+    check_recurrence(bessel, length, 1, 0, (int64_t)length, bessel_answer, "recurrence, a byte store just long enough");
+    check_recurrence(bessel, length - 1, 1, 1, 7, "", "recurrence, a byte store one byte too short: 1");
+    check_recurrence(bessel, 100, 0, 1, 7, "", "recurrence, result store too short: 1");
+    check_recurrence("3 5", 0, 0, 4, 7, "", "recurrence, an early end, before stores too short");
+}
+
 /* ---- a whole batch ---- */
 
 /* What a call on a batch answers and leaves: the number, and a result and an output that begin so, with everything past them as before. */
@@ -371,6 +445,8 @@ int main(void) {
     k2_read_run_written();
     k11_on_both_sides();
     k2_in_a_batch();
+    bessel_read();
+    bessel_written();
     runs_refused_before_the_work(wurgalm_run_leading, "leading");
     runs_refused_before_the_work(wurgalm_run_trailing, "trailing");
     runs_refused_during_the_work(wurgalm_run_leading);

@@ -3,32 +3,31 @@
 -- Main definitions
 --   placeInRow K t       where the polynomial of a term begins in a row whose first block is K
 --   addedAt K t l        the numbers of a row with the polynomial of a term added at its place
---   Coefficients         a polynomial of three coefficients or fewer, by those
---   Within n l           the numbers of a list are at most n in size
+--   Trinomial            a polynomial of three coefficients or fewer, by those
 --
 -- Main statements
 --   add-three            a term's polynomial changes the first three numbers of a polynomial
 --   rowOf-added          the row of those numbers is `addTerm`
---   added-within         no number grows by more than `mostSum`
+--   added-within         no number grows by more than `termBound`
 use Prim.Native.Nat.{ℕ, zero, suc, pred, max, _+_, _*_, _-_, _≤_, _<_, zero-le}
-use native.Mathlib.Nat.{le-of-eq, suc-inj, suc-ne-zero, le-of-suc-le-suc, mul-le-mul}
+use native.Mathlib.Nat.{le-of-eq, suc-inj, suc-ne-zero}
 use native.Mathlib.Omega.{arith}
 use mathlib.Core.Path.{_≡_, refl, sym, ap, ap₂, _∙_, subst}
 use mathlib.Core.List.{List, [], _∷_, _++_}
 use lib.ListN.{length, take, drop, getD, set, replicate, length-drop}
 use lib.Seq.{paste, length-paste, length-take-le}
-use lib.Dec.{lit≤}
 use lib.IntN.{ℤ, pos, negℤ, natAbs, _+ℤ_, _*ℤ_, *ℤ-zero, +ℤ-idr}
-use Rattle.algebra.specs.Integers.{natAbs-*ℤ, natAbs-+ℤ}
 use Rattle.algebra.specs.Polynomials.{Polynomial, add, scale, length-add}
-use Rattle.lists.specs.Everywhere.{All, all-mono, append-all, all-take, all-drop, map-all}
-use Rattle.lists.specs.Padded.{padTo, length-padTo, all-padTo}
-use Rattle.rules.specs.Limits.{bound, coefficientCount, columnCount, blockCount, blockLength, rowLength}
+use Rattle.lists.specs.Everywhere.{All, all-mono, append-all, all-take, all-drop}
+use Rattle.lists.specs.Padded.{padTo}
+use Rattle.rules.specs.Limits.{coefficientCount, columnCount, blockCount, blockLength, rowLength}
 use Rattle.rules.specs.Stores.{rowOf}
 use Rattle.rules.specs.Layout.{polynomial-at-row}
 use Rattle.reading.specs.Equations.{rowOf-paste}
 use Rattle.differential.specs.Differential.{DifferentialTerm, mostDerivative, mostPower, factorBound}
 use Rattle.differential.specs.Recurrence.{rising, termPolynomial, placeOf, addTerm}
+use Rattle.differential.specs.Terms.{length-termPolynomial}
+use Rattle.differential.specs.ValidRecurrence.{Within, termBound, term-bounded, add-within}
 use Rattle.differential.specs.Read.{SmallPlace}
 
 -- ---- the place
@@ -55,7 +54,7 @@ module _ (K : ℕ) (t : DifferentialTerm) (order : K ≤ mostDerivative) (low : 
 
 -- ---- the polynomial
 
-pub record Coefficients (constant linear square : ℤ) (p : Polynomial) : Type 0 where
+pub record Trinomial (constant linear square : ℤ) (p : Polynomial) : Type 0 where
   pub are : constant ∷ linear ∷ square ∷ [] ≡ padTo 3 (pos 0) p
   pub short : length p ≤ 3
   pub constant-small : natAbs constant ≤ 3
@@ -72,7 +71,7 @@ scaled a (x ∷ y ∷ []) h = rw *ℤ-zero
 scaled a (x ∷ y ∷ z ∷ []) h = refl
 scaled a (x ∷ y ∷ z ∷ w ∷ p) h = absurd (omega arith)
 
-module _ (t : DifferentialTerm) (x y z : ℤ) (c : Coefficients x y z (rising (negℤ (pos (t .power))) (t .derivative))) where
+module _ (t : DifferentialTerm) (x y z : ℤ) (c : Trinomial x y z (rising (negℤ (pos (t .power))) (t .derivative))) where
   abbrev a : ℤ
   a = t .factor
 
@@ -99,7 +98,7 @@ three (p ∷ q ∷ r ∷ l) x y z h =
     ap (λ more. (p +ℤ x) ∷ (q +ℤ y) ∷ (r +ℤ z) ∷ more) (add-zeros 13 l (suc-inj (suc-inj (suc-inj h))))
 
 -- A term's polynomial, added to another of sixteen coefficients, changes the first three.
-pub add-three : (t : DifferentialTerm) (x y z : ℤ) → Coefficients x y z (rising (negℤ (pos (t .power))) (t .derivative)) → (l : List ℤ)
+pub add-three : (t : DifferentialTerm) (x y z : ℤ) → Trinomial x y z (rising (negℤ (pos (t .power))) (t .derivative)) → (l : List ℤ)
     → length l ≡ coefficientCount
     → set (set (set l 0 (getD l 0 (pos 0) +ℤ t .factor *ℤ x)) 1 (getD l 1 (pos 0) +ℤ t .factor *ℤ y)) 2
     (getD l 2 (pos 0) +ℤ t .factor *ℤ z)
@@ -122,7 +121,7 @@ module _ (K : ℕ) (t : DifferentialTerm) (order : K ≤ mostDerivative) (low : 
   unfolding termPolynomial
   sum-long =
       length-add (take coefficientCount (drop at l)) (termPolynomial t)
-      ∙ ap₂ max part-long (length-padTo coefficientCount (pos 0) (scale (t .factor) (rising (negℤ (pos (t .power))) (t .derivative))))
+      ∙ ap₂ max part-long (length-termPolynomial t)
 
   pub added-long : length (addedAt K t l) ≡ rowLength
   unfolding addedAt
@@ -142,66 +141,23 @@ module _ (K : ℕ) (t : DifferentialTerm) (order : K ≤ mostDerivative) (low : 
 
 -- ---- how large the numbers become
 
-abbrev pub Within : ℕ → List ℤ → Type 0
-Within n l = All (λ a. natAbs a ≤ n) l
-
--- A term adds no more than this to a number.
-abbrev pub mostSum : ℕ
-mostSum = 3 * factorBound
-
-rising-small : (j k : ℕ) → j ≤ mostPower → k ≤ mostDerivative → Within 3 (rising (negℤ (pos j)) k)
-unfolding rising All
-rising-small j zero hj hk = (lit≤ tt, tt)
-rising-small j (suc zero) hj hk = one j hj
-  where
-    one : (j : ℕ) → j ≤ mostPower → Within 3 (rising (negℤ (pos j)) 1)
-    one zero h = (lit≤ tt, (lit≤ tt, tt))
-    one (suc zero) h = (lit≤ tt, (lit≤ tt, tt))
-    one (suc (suc zero)) h = (lit≤ tt, (lit≤ tt, tt))
-    one (suc (suc (suc j))) h = absurd (omega arith)
-rising-small j (suc (suc zero)) hj hk = two j hj
-  where
-    two : (j : ℕ) → j ≤ mostPower → Within 3 (rising (negℤ (pos j)) 2)
-    two zero h = (lit≤ tt, (lit≤ tt, (lit≤ tt, tt)))
-    two (suc zero) h = (lit≤ tt, (lit≤ tt, (lit≤ tt, tt)))
-    two (suc (suc zero)) h = (lit≤ tt, (lit≤ tt, (lit≤ tt, tt)))
-    two (suc (suc (suc j))) h = absurd (omega arith)
-rising-small j (suc (suc (suc k))) hj hk = absurd (omega arith)
-
-polynomial-within : (t : DifferentialTerm) → SmallPlace t → natAbs (t .factor) ≤ factorBound → Within mostSum (termPolynomial t)
-unfolding termPolynomial scale
-polynomial-within t small factor =
-    all-padTo (λ a. natAbs a ≤ mostSum) coefficientCount (pos 0) _ zero-le
-    (map-all (λ a. natAbs a ≤ mostSum) (λ a. t .factor *ℤ a) (rising (negℤ (pos (t .power))) (t .derivative))
-    (all-mono (λ a. natAbs a ≤ 3) (λ a. natAbs (t .factor *ℤ a) ≤ mostSum) times _
-    (rising-small (t .power) (t .derivative) (small .before .power-small) (small .before .derivative-small))))
-  where
-    times : (a : ℤ) → natAbs a ≤ 3 → natAbs (t .factor *ℤ a) ≤ mostSum
-    times a h = rw (natAbs-*ℤ (t .factor) a) (omega (arith, mul-le-mul factor h))
-
-add-within : (n m : ℕ) (l p : List ℤ) → Within n l → Within m p → Within (n + m) (add l p)
-unfolding add All
-add-within n m [] p hl hp = all-mono (λ a. natAbs a ≤ m) (λ a. natAbs a ≤ n + m) (λ a h. omega arith) p hp
-add-within n m (x ∷ l) [] hl hp = all-mono (λ a. natAbs a ≤ n) (λ a. natAbs a ≤ n + m) (λ a h. omega arith) (x ∷ l) hl
-add-within n m (x ∷ l) (y ∷ p) hl hp = (omega (arith, natAbs-+ℤ x y, hl .0, hp .0), add-within n m l p (hl .1) (hp .1))
-
 module _ (K : ℕ) (t : DifferentialTerm) (n : ℕ) (l : List ℤ) where
   abbrev W : ℤ → Type 0
-  W a = natAbs a ≤ n + mostSum
+  W = Within (n + termBound)
 
   abbrev sum : List ℤ
   sum = add (take coefficientCount (drop (placeInRow K t) l)) (termPolynomial t)
 
-  pub added-within : SmallPlace t → natAbs (t .factor) ≤ factorBound → Within n l → Within (n + mostSum) (addedAt K t l)
+  pub added-within : SmallPlace t → natAbs (t .factor) ≤ factorBound → All (Within n) l → All W (addedAt K t l)
   unfolding addedAt
   added-within small factor h =
       append-all W (take (placeInRow K t) l ++ take coefficientCount sum) (drop (placeInRow K t + coefficientCount) l)
       (append-all W (take (placeInRow K t) l) (take coefficientCount sum) (all-take W (placeInRow K t) l more)
       (all-take W coefficientCount sum
-      (add-within n mostSum (take coefficientCount (drop (placeInRow K t) l)) (termPolynomial t)
-      (all-take (λ a. natAbs a ≤ n) coefficientCount (drop (placeInRow K t) l) (all-drop (λ a. natAbs a ≤ n) (placeInRow K t) l h))
-      (polynomial-within t small factor))))
+      (add-within n termBound (take coefficientCount (drop (placeInRow K t) l)) (termPolynomial t)
+      (all-take (Within n) coefficientCount (drop (placeInRow K t) l) (all-drop (Within n) (placeInRow K t) l h))
+      (term-bounded t (small .before .derivative-small) (small .before .power-small) factor))))
       (all-drop W (placeInRow K t + coefficientCount) l more)
     where
       more : All W l
-      more = all-mono (λ a. natAbs a ≤ n) W (λ a g. omega arith) l h
+      more = all-mono (Within n) W (λ a g. omega arith) l h

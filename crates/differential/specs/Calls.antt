@@ -17,12 +17,12 @@ unfoldable pub readRecurrence : List ℕ → Read Sheet
 unfolding thenRead readDifferential recurrenceOf
 readRecurrence bytes = thenRead (readDifferential bytes) λ d rest. got (recurrenceOf d) rest
 
--- The stores of a sheet that is read (SCOPE 4.41 to 4.43): unchanged on a refusal, and 1 comes last.
+-- The stores of a sheet that is read (SCOPE 10.41, 4.41 to 4.43): unchanged on a refusal, and 1 comes last.
 unfoldable pub readDifferentialCall : List ℕ → List ℤ → List ℤ → ReadCall
 unfolding afterRead readRecurrence
 readDifferentialCall bytes rowStore relationStore = afterRead (readRecurrence bytes) rowStore relationStore
 
--- The grammar's refusal comes first, and that the byte store is too short (1) last (SCOPE 4.51, 4.54).
+-- The grammar's refusal comes first, and that the byte store is too short (1) last (SCOPE 10.42, 4.51, 4.54).
 unfoldable pub writeRead : Read Sheet → List ℕ → WriteCall
 unfolding written writeSheet unwritten
 writeRead (got sheet rest) byteStore = written (writeSheet sheet) byteStore

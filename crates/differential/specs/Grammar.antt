@@ -25,11 +25,11 @@ pub record Extent : Type 0 where
   pub order : ℕ
   pub degree : ℕ
 
--- The sizes of the recurrence: l = K and t = -J. They say how many equations there are.
+-- The sizes of the recurrence: l = K and t = -J (SCOPE 10.21). They say how many equations there are.
 unfoldable pub sizesFor : Extent → Sizes
 sizesFor x = record { m = x .unknowns; l = pos (x .order); t = negℤ (pos (x .degree)) }
 
--- The line `3 m K J`.
+-- The line `3 m K J` (SCOPE 10.2).
 unfoldable pub readExtent : List ℕ → Read Extent
 unfolding thenRead field between always
 readExtent bytes =
@@ -39,17 +39,18 @@ readExtent bytes =
     thenRead (field (between (pos 0) (pos mostPower)) (always newline) bytes₃) λ J bytes₄.
     got (record { unknowns = natAbs m; order = natAbs K; degree = natAbs J }) bytes₄
 
--- A number that is not from `low` to `high` is 2; then one that is not from `first` to `last` breaks the order of terms: 3.
+-- A number that is not from `low` to `high` is 2 (SCOPE 10.12); then one that is not from `first` to `last` breaks the order of terms:
+-- 3 (SCOPE 10.13).
 unfoldable pub judgeOrdered : ℕ → ℕ → ℕ → ℕ → ℤ → ℕ
 judgeOrdered low high first last v =
     cond (leZ (pos low) v && leZ v (pos high)) (cond (leZ (pos first) v && leZ v (pos last)) 0 3) 2
 
--- A factor past its bound is 5, and one that is 0 is 3.
+-- A factor past its bound is 5 (SCOPE 10.12), and one that is 0 is 3 (SCOPE 10.13).
 unfoldable pub judgeFactor : ℤ → ℕ
 unfolding isZeroℤ
 judgeFactor a = cond (leb (natAbs a) factorBound) (cond (isZeroℤ a) 3 0) 5
 
--- The lowest power that may follow the term before, at derivative k: its own power, or any where the derivative falls.
+-- The lowest power that may follow the term before, at derivative k: its own power, or any where the derivative falls (SCOPE 10.6).
 unfoldable pub firstPower : DifferentialTerm → ℕ → ℕ
 firstPower before k = cond (ltb k (before .derivative)) 0 (before .power)
 
@@ -62,7 +63,7 @@ firstColumn before k j = cond (ltb k (before .derivative) || ltb (before .power)
 unfoldable pub noTerm : Extent → DifferentialTerm
 noTerm x = record { derivative = x .order; power = 0; column = 0; factor = pos 0 }
 
--- A term, `last` standing behind it.
+-- A term, `last` standing behind it (SCOPE 10.5).
 unfoldable pub readTerm : Extent → DifferentialTerm → ℕ → List ℕ → Read DifferentialTerm
 unfolding thenRead field judgeOrdered judgeFactor firstPower firstColumn always
 readTerm x before last bytes =
@@ -80,7 +81,7 @@ readTerms x (suc k) before bytes =
     thenRead (readTerm x before (parting newline k) bytes) λ e rest.
     thenRead (readTerms x k e rest) λ l more. got (e ∷ l) more
 
--- An equation has at most m × (K + 1) × (J + 1) terms.
+-- An equation has at most m × (K + 1) × (J + 1) terms (SCOPE 10.4).
 abbrev pub mostOf : Extent → ℕ
 mostOf x = mostTerms (x .unknowns) (x .order) (x .degree)
 
@@ -96,7 +97,7 @@ readEquations x (suc k) bytes =
     thenRead (readEquation x bytes) λ e rest.
     thenRead (readEquations x k rest) λ l more. got (e ∷ l) more
 
--- Bytes behind the last equation are 4.
+-- Bytes behind the last equation are 4 (SCOPE 10.7, 10.14).
 unfoldable pub readEnd : DifferentialSheet → List ℕ → Read DifferentialSheet
 readEnd d [] = got d []
 readEnd d (b ∷ bytes) = fault 4
@@ -104,7 +105,7 @@ readEnd d (b ∷ bytes) = fault 4
 abbrev pub sheetOf : Extent → List (List DifferentialTerm) → DifferentialSheet
 sheetOf x es = record { unknowns = x .unknowns; order = x .order; degree = x .degree; equations = es }
 
--- An equation count other than that of the recurrence is 2.
+-- An equation count other than that of the recurrence is 2 (SCOPE 10.3, 10.12).
 unfoldable pub readDifferential : List ℕ → Read DifferentialSheet
 unfolding thenRead readExtent sizesFor field between always readEquations readEnd
 readDifferential bytes =

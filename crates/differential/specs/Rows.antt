@@ -20,7 +20,7 @@ use borrow.Author.Tests.{leb-true}
 use lib.IntN.{ℤ, pos, natAbs}
 use lib.Signed.{leZ, nonNeg}
 use Rattle.algebra.specs.Polynomials.{isZeroℤ}
-use Rattle.lists.specs.Everywhere.{all-replicate}
+use Rattle.lists.specs.Everywhere.{All, all-replicate}
 use Rattle.rules.specs.Limits.{bound, columnCount, rowLength}
 use Rattle.rules.specs.Calls.{zeros}
 use Rattle.rules.specs.Rows.{Row}
@@ -35,7 +35,8 @@ use Rattle.differential.specs.Recurrence.{addTerm, addTerms, recurrenceR
 use Rattle.differential.specs.Grammar.{Extent, judgeOrdered, judgeFactor, firstPower, firstColumn, noTerm, readTerm, readTerms, mostOf}
 use Rattle.differential.specs.Grammar.{readEquation, readEquations}
 use Rattle.differential.specs.Read.{SmallExtent, SmallBefore, SmallPlace, readPlace}
-use Rattle.differential.specs.Added.{addedAt, Within, mostSum, added-long, added-within, rowOf-added}
+use Rattle.differential.specs.ValidRecurrence.{Within, termBound}
+use Rattle.differential.specs.Added.{addedAt, added-long, added-within, rowOf-added}
 
 -- The most terms that any equation has.
 abbrev pub mostCount : ℕ
@@ -159,7 +160,7 @@ pub record TermsTo (x : Extent) (count : ℕ) (bytes : List ℕ) (at : ℕ) (row
   pub within : next ≤ length bytes
   pub long : length row ≡ rowLength
   pub fewer : left ≤ count
-  pub sizes : Within ((count - left) * mostSum) row
+  pub sizes : All (Within ((count - left) * termBound)) row
   pub before : SmallBefore t
   pub rest : termsRow x count (drop at bytes) ≡ thenRead (readTerms x left t (drop next bytes)) (addRead (x .order) (rowOf row))
 
@@ -172,7 +173,7 @@ module _ (x : Extent) (small : SmallExtent x) (count : ℕ) (bytes : List ℕ) (
         within = rw start h;
         long = ap length blank ∙ length-zeros rowLength;
         fewer = le-refl count;
-        sizes = rw blank (all-replicate (λ a. natAbs a ≤ (count - count) * mostSum) rowLength (pos 0) zero-le);
+        sizes = rw blank (all-replicate (Within ((count - count) * termBound)) rowLength (pos 0) zero-le);
         before = rw none (record { derivative-small = small .order-small; power-small = zero-le; column-small = zero-le });
         rest = sym (λ i. thenRead (readTerms x count (none i) (drop (start i) bytes)) (addRead (x .order) (row-is-blank i)));
       }
@@ -210,7 +211,7 @@ module _ (x : Extent) (small : SmallExtent x) (count : ℕ) (bytes : List ℕ) (
             within = inside;
             long = added-long (x .order) u (small .order-small) (right .derivative-most) place row (so-far .long);
             fewer = omega (arith, so-far .fewer);
-            sizes = rw (grown (so-far .fewer)) (added-within (x .order) u ((count - left) * mostSum) row place (right .factor-most)
+            sizes = rw (grown (so-far .fewer)) (added-within (x .order) u ((count - left) * termBound) row place (right .factor-most)
                 (so-far .sizes));
             before = place .before;
             rest =
@@ -221,5 +222,5 @@ module _ (x : Extent) (small : SmallExtent x) (count : ℕ) (bytes : List ℕ) (
                 (sym (rowOf-added (x .order) u (small .order-small) (right .derivative-most) place row (so-far .long)));
           })
         where
-          grown : left ≤ count → (count - (left - 1)) * mostSum ≡ (count - left) * mostSum + mostSum
+          grown : left ≤ count → (count - (left - 1)) * termBound ≡ (count - left) * termBound + termBound
           grown h = omega arith

@@ -41,7 +41,7 @@ use Rattle.differential.specs.Terms.{column-used, column-inside, addTerm
 
 -- ---- numbers up to 2, one by one
 
-up-to-two : (P : ℕ → Type 0) → P 0 → P 1 → P 2 → (n : ℕ) → n ≤ 2 → P n
+pub up-to-two : (P : ℕ → Type 0) → P 0 → P 1 → P 2 → (n : ℕ) → n ≤ 2 → P n
 up-to-two P a b c zero h = a
 up-to-two P a b c (suc zero) h = b
 up-to-two P a b c (suc (suc zero)) h = c
@@ -49,7 +49,7 @@ up-to-two P a b c (suc (suc (suc n))) h = absurd (omega arith)
 
 -- ---- the coefficients of a term's polynomial
 
-abbrev Within : ℕ → ℤ → Type 0
+abbrev pub Within : ℕ → ℤ → Type 0
 Within B a = natAbs a ≤ B
 
 abbrev pub mostRising : ℕ
@@ -85,7 +85,7 @@ unfolding termPolynomial
 term-bounded t h i f = all-padTo (Within termBound) coefficientCount (pos 0) _ zero-le
     (scale-within (t .factor) factorBound mostRising _ f (rising-within (t .power) (t .derivative) i h))
 
-add-within : (A B : ℕ) (p q : Polynomial) → All (Within A) p → All (Within B) q → All (Within (A + B)) (add p q)
+pub add-within : (A B : ℕ) (p q : Polynomial) → All (Within A) p → All (Within B) q → All (Within (A + B)) (add p q)
 unfolding add All
 add-within A B [] q a b = all-mono (Within B) (Within (A + B)) (λ x h. omega arith) q b
 add-within A B (x ∷ p) [] a b = all-mono (Within A) (Within (A + B)) (λ x h. omega arith) (x ∷ p) a

@@ -1,4 +1,4 @@
-// Equations: the number of terms and then the terms, each added into the numbers of a row as it is read.
+// Equations: the number of terms and then the terms (SCOPE 10.4), each added into the numbers of a row as it is read.
 use crate::extent::Extent;
 use crate::terms::TermRead;
 use reading::equations::PartRead;
@@ -56,7 +56,7 @@ fn terms_at(bytes: &[u8], at: usize, x: Extent, count: usize, row: &mut [i64]) -
     }
 }
 
-// An equation has at most m × (K + 1) × (J + 1) terms.
+// An equation has at most m × (K + 1) × (J + 1) terms (SCOPE 10.4).
 fn most_terms(x: Extent) -> i64
     requires { ⌜ SmallExtent (extentOf x) ⌝ }
     ensures { λ r. ⌜ r ≡ pos (mostOf (extentOf x)) ⌝ }
@@ -103,7 +103,7 @@ fn equations_at(bytes: &[u8], at: usize, x: Extent, equations: usize, rows: &mut
     }
 }
 
-// The equation count, any other number being 2, and the equations.
+// The equation count, any other number being 2 (SCOPE 10.12), and the equations (SCOPE 10.3).
 pub(crate) fn equation_section(
     bytes: &[u8],
     at: usize,

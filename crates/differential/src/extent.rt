@@ -1,4 +1,4 @@
-// The first line of a differential sheet: 3, m, K and J.
+// The first line of a differential sheet: 3, m, K and J (SCOPE 10.2).
 ghost use mathlib.Core.Path.{_≡_};
 ghost use Rattle.tokens.specs.Fields.{Answers};
 ghost use Rattle.differential.specs.Grammar.{readExtent};

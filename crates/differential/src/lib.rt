@@ -32,7 +32,7 @@ fn sizes_for(x: extent::Extent) -> stores::validity::Sizes
     }
 }
 
-// The recurrence of a differential sheet, read into lent stores. On a refusal they are unchanged (SCOPE 4.43); numbers past the needed
+// The recurrence of a differential sheet, read into lent stores (SCOPE 10.41). On a refusal they are unchanged (SCOPE 4.43); numbers past the needed
 // part stay (SCOPE 3.12).
 pub fn read_differential(bytes: &[u8], rows: &mut [i64], relations: &mut [i64]) -> SheetResult
     ensures { λ r. ⌜ ReadCalls.callOf r (now (rows .exit)) (now (relations .exit))
@@ -58,7 +58,7 @@ pub fn read_differential(bytes: &[u8], rows: &mut [i64], relations: &mut [i64]) 
     }
 }
 
-// The recurrence of a differential sheet, written as a sheet. Nothing is written on a refusal (SCOPE 4.54), and bytes past the length
+// The recurrence of a differential sheet, written as a sheet (SCOPE 10.42). Nothing is written on a refusal (SCOPE 4.54), and bytes past the length
 // stay (SCOPE 4.51). The recurrence passes the checks of the writer, so they are not made.
 pub fn write_recurrence(sheet: &[u8], bytes: &mut [u8]) -> WriteResult
     ensures { λ r. ⌜ WriterChecks.callOf r (now (bytes .exit)) ≡ writeRecurrenceCall (now (sheet .entry)) (now (bytes .entry)) ⌝ }

@@ -1,4 +1,4 @@
-// A term added into a row: its polynomial, at its place.
+// A term added into a row: its polynomial, at its place (SCOPE 10.22, 10.23).
 use crate::terms::TermRead;
 use polynomials::lengths::COEFFICIENTS;
 use stores::lengths::BLOCK;
@@ -9,9 +9,11 @@ ghost use lib.IntN.{pos, negℤ, natAbs, _+ℤ_, _*ℤ_};
 ghost use Rattle.algebra.specs.Polynomials.{add};
 ghost use Rattle.rules.specs.Limits.{bound, coefficientCount, rowLength};
 ghost use Rattle.differential.specs.Differential.{mostDerivative, mostPower, factorBound};
+ghost use Rattle.lists.specs.Everywhere.{All};
 ghost use Rattle.differential.specs.Recurrence as Recurrence;
+ghost use Rattle.differential.specs.ValidRecurrence.{Within};
 ghost use Rattle.differential.specs.Read.{termOf, SmallPlace};
-ghost use Rattle.differential.specs.Added.{placeInRow, addedAt, Coefficients, Within};
+ghost use Rattle.differential.specs.Added.{placeInRow, addedAt, Trinomial};
 
 // The coefficients of a product of at most two factors n + b, from power 0 on.
 struct Product {
@@ -20,10 +22,10 @@ struct Product {
     square: i64,
 }
 
-// The product (n - j + 1)..(n - j + k): k derivatives, and then the variable to the power j.
+// The product (n - j + 1)..(n - j + k): k derivatives, and then the variable to the power j (SCOPE 10.22).
 fn rising(derivative: usize, power: usize) -> Product
     requires { ⌜ (derivative ≤ mostDerivative) × (power ≤ mostPower) ⌝ }
-    ensures { λ r. ⌜ Coefficients (r .constant) (r .linear) (r .square) (Recurrence.rising (negℤ (pos power)) derivative) ⌝ }
+    ensures { λ r. ⌜ Trinomial (r .constant) (r .linear) (r .square) (Recurrence.rising (negℤ (pos power)) derivative) ⌝ }
 {
     let first = 1 - power as i64;
     let second = 2 - power as i64;
@@ -48,7 +50,7 @@ fn rising(derivative: usize, power: usize) -> Product
     }
 }
 
-// A coefficient of a term, `factor` times a coefficient of its product, added to what stands there.
+// A coefficient of a term, `factor` times a coefficient of its product, added to what stands there (SCOPE 10.23).
 fn plus(number: i64, factor: i64, coefficient: i64) -> i64
     requires { ⌜ (natAbs number ≤ bound) × ((natAbs factor ≤ factorBound) × (natAbs coefficient ≤ 3)) ⌝ }
     ensures { λ r. ⌜ r ≡ number +ℤ factor *ℤ coefficient ⌝ }
@@ -58,7 +60,7 @@ fn plus(number: i64, factor: i64, coefficient: i64) -> i64
 
 // The polynomial of a term added to another: it has three coefficients at most.
 fn add_polynomial(p: &mut [i64], t: TermRead)
-    requires { ⌜ (length (now p) ≡ coefficientCount) × Within bound (now p) ⌝ }
+    requires { ⌜ (length (now p) ≡ coefficientCount) × All (Within bound) (now p) ⌝ }
     requires { ⌜ SmallPlace (termOf t) × (natAbs (t .factor) ≤ factorBound) ⌝ }
     ensures { λ _. ⌜ now (p .exit) ≡ add (now (p .entry)) (Recurrence.termPolynomial (termOf t)) ⌝ }
 {
@@ -82,7 +84,7 @@ fn place(order: usize, t: TermRead) -> usize
 
 // A term added to what a row holds already.
 pub(crate) fn add_term(row: &mut [i64], order: usize, t: TermRead)
-    requires { ⌜ (length (now row) ≡ rowLength) × Within bound (now row) ⌝ }
+    requires { ⌜ (length (now row) ≡ rowLength) × All (Within bound) (now row) ⌝ }
     requires { ⌜ (order ≤ mostDerivative) × ((t .derivative ≤ order) × (SmallPlace (termOf t) × (natAbs (t .factor) ≤ factorBound))) ⌝ }
     ensures { λ _. ⌜ now (row .exit) ≡ addedAt order (termOf t) (now (row .entry)) ⌝ }
 {

@@ -26,7 +26,7 @@ fn no_sheet(refusal: u8) -> SheetRead
     }
 }
 
-// The sheet's recurrence in the first rows of `rows`; bytes behind the last equation are 4.
+// The sheet's recurrence in the first rows of `rows`; bytes behind the last equation are 4 (SCOPE 10.7, 10.14).
 pub(crate) fn sheet_at(bytes: &[u8], rows: &mut [i64]) -> SheetRead
     requires { ⌜ now rows ≡ zeros largestRows ⌝ }
     ensures { λ r. ⌜ SheetTo (now (bytes .entry)) (r .refusal) (extentOf (r .extent)) (now (rows .exit)) ⌝ }

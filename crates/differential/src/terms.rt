@@ -1,4 +1,4 @@
-// Terms: the derivative k, the power j, the column c and the factor a, each judged as it is read.
+// Terms: the derivative k, the power j, the column c and the factor a (SCOPE 10.5), each judged as it is read (SCOPE 10.11).
 use crate::extent::Extent;
 ghost use mathlib.Core.Path.{_≡_};
 ghost use Prim.Native.Nat.{_≤_};
@@ -12,7 +12,7 @@ ghost use Rattle.differential.specs.Differential.{factorBound};
 ghost use Rattle.differential.specs.Grammar.{judgeOrdered, judgeFactor, firstPower, firstColumn, readTerm};
 ghost use Rattle.differential.specs.Read.{extentOf, termOf, FewNumbers, SmallExtent, SmallBefore, readPlace};
 
-// No factor passes this in size.
+// No factor passes this in size (SCOPE 10.5).
 const FACTOR: i64 = 1048576;
 
 // A term that was read and the place after it, or a refusal.
@@ -38,7 +38,8 @@ fn no_term(refusal: u8) -> TermRead
     }
 }
 
-// A number that is not from `low` to `high` is 2; then one that is not from `first` to `last` breaks the order of terms: 3.
+// A number that is not from `low` to `high` is 2 (SCOPE 10.12); then one that is not from `first` to `last` breaks the order of terms:
+// 3 (SCOPE 10.13).
 fn judge_ordered(low: usize, high: usize, first: usize, last: usize, value: i64) -> u8
     requires { ⌜ FewNumbers low high first last ⌝ }
     ensures { λ r. ⌜ r ≡ judgeOrdered low high first last value ⌝ }
@@ -75,7 +76,7 @@ fn factor_small(value: i64) -> bool
     -FACTOR <= value && value <= FACTOR
 }
 
-// A factor past its bound is 5, and one that is 0 is 3.
+// A factor past its bound is 5 (SCOPE 10.12), and one that is 0 is 3 (SCOPE 10.13).
 fn judge_factor(value: i64) -> u8
     ensures { λ r. ⌜ r ≡ judgeFactor value ⌝ }
 {
@@ -98,7 +99,7 @@ fn factor_at(bytes: &[u8], at: usize, separator: u8) -> tokens::NumberRead
     tokens::separated(bytes, n, judgement, separator)
 }
 
-// The lowest power that may follow the term before, at derivative k.
+// The lowest power that may follow the term before, at derivative k (SCOPE 10.6).
 fn first_power(before: TermRead, k: usize) -> usize
     ensures { λ r. ⌜ r ≡ firstPower (termOf before) k ⌝ }
 {
@@ -109,7 +110,7 @@ fn first_power(before: TermRead, k: usize) -> usize
     }
 }
 
-// The lowest column that may follow it, at derivative k and power j.
+// The lowest column that may follow it, at derivative k and power j (SCOPE 10.6).
 fn first_column(before: TermRead, k: usize, j: usize) -> usize
     requires { ⌜ SmallBefore (termOf before) ⌝ }
     ensures { λ r. ⌜ r ≡ firstColumn (termOf before) k j ⌝ }

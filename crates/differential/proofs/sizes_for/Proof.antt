@@ -1,25 +1,17 @@
 -- `differential::sizes_for` meets its contract. K and J are at most 2.
 -- Assumes nothing.
 use mathlib.Core.Path.{_≡_, refl}
-use Prim.Native.Nat.{ℕ, zero, suc, _≤_}
 use native.Mathlib.Omega.{arith}
 use lib.IntN.{pos, negℤ, _-ℤ_}
 use mir.Syntax.{w64}
 use mir.Val.{SFits, toZ, ofZ}
 use mir.Facts.{toZ-pos, sfits-lit}
 use Rattle.stores.specs.Validity.{sizesOf}
-use Rattle.differential.specs.Differential.{mostPower}
+use Rattle.differential.specs.ValidRecurrence.{up-to-two}
 use Rattle.differential.specs.Grammar.{sizesFor}
 use Rattle.differential.specs.Read.{extentOf}
 use Rattle.differential.proofs.sizes_for.Statement.{statement}
 use Rattle.differential.proofs.sizes_for.Tie as tie
-
--- What holds at 0, 1 and 2 holds of every power.
-each : (P : ℕ → Type 0) → P 0 → P 1 → P 2 → (j : ℕ) → j ≤ mostPower → P j
-each P a b c zero h = a
-each P a b c (suc zero) h = b
-each P a b c (suc (suc zero)) h = c
-each P a b c (suc (suc (suc j))) h = absurd (omega arith)
 
 cast-t2 : tie.Need-cast-t2
 unfolding extentOf
@@ -32,7 +24,7 @@ cast-t3 c = omega (arith, c .before .before .pre .degree-small)
 sub-t4 : tie.Need-sub-t4
 unfolding extentOf
 sub-t4 c =
-    each (λ j. SFits w64 (pos 0 -ℤ toZ w64 j)) (sfits-lit tt) (sfits-lit tt) (sfits-lit tt) (c .before .before .args .x .degree)
+    up-to-two (λ j. SFits w64 (pos 0 -ℤ toZ w64 j)) (sfits-lit tt) (sfits-lit tt) (sfits-lit tt) (c .before .before .args .x .degree)
     (c .before .before .pre .degree-small)
 
 returns : tie.Need-returns
@@ -41,7 +33,7 @@ returns c =
     let x = c .before .before .args .x in
     let highest : toZ w64 (x .order) ≡ pos (x .order) = toZ-pos w64 (omega (arith, c .before .before .pre .order-small)) in
     let lowest : toZ w64 (ofZ w64 (pos 0 -ℤ toZ w64 (x .degree))) ≡ negℤ (pos (x .degree)) =
-    each (λ j. toZ w64 (ofZ w64 (pos 0 -ℤ toZ w64 j)) ≡ negℤ (pos j)) refl refl refl (x .degree) (c .before .before .pre .degree-small) in
+    up-to-two (λ j. toZ w64 (ofZ w64 (pos 0 -ℤ toZ w64 j)) ≡ negℤ (pos j)) refl refl refl (x .degree) (c .before .before .pre .degree-small) in
     λ i. record { m = x .unknowns; l = highest i; t = lowest i }
 
 pub sizes-for-spec : {M : Type 1} → statement M

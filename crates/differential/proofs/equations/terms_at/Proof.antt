@@ -8,7 +8,7 @@ use native.Mathlib.Omega.{arith}
 use denote.Ref.{now}
 use lib.IntN.{ℤ, natAbs}
 use lib.ListN.{length, drop}
-use Rattle.lists.specs.Everywhere.{all-mono}
+use Rattle.lists.specs.Everywhere.{All, all-mono}
 use Rattle.rules.specs.Limits.{bound, rowLength}
 use Rattle.rules.specs.Numbers.{got}
 use Rattle.rules.specs.Sheets.{parting}
@@ -17,7 +17,7 @@ use Rattle.reading.specs.Zeros.{length-zeros}
 use Rattle.differential.specs.Differential.{ValidTerm}
 use Rattle.differential.specs.Grammar.{readTerm}
 use Rattle.differential.specs.Read.{extentOf, termOf, SmallExtent}
-use Rattle.differential.specs.Added.{Within, mostSum}
+use Rattle.differential.specs.ValidRecurrence.{Within, termBound}
 use Rattle.differential.specs.Rows.{mostCount, term-right, term-small, TermsTo, terms-begin, terms-end, terms-refused, terms-go-on}
 use Rattle.differential.proofs.equations.terms_at.Statement.{statement}
 use Rattle.differential.proofs.equations.terms_at.Tie as tie
@@ -91,9 +91,9 @@ module _ (c : tie.Else1 Inv-loop μ-loop) where
   unfolding extentOf
   right = term-right _ _ _ _ term-read
 
-  row-small : Within bound (l t .loop .row)
+  row-small : All (Within bound) (l t .loop .row)
   row-small =
-      all-mono (λ a. natAbs a ≤ (s t .args .count - l t .loop .left) * mostSum) (λ a. natAbs a ≤ bound)
+      all-mono (Within ((s t .args .count - l t .loop .left) * termBound)) (Within bound)
       (λ a h. omega (arith, h, s t .pre .0 .1 .1)) (l t .loop .row) (l t .loop .inv .sizes)
 
 add-term-requires : tie.Need-add-term-requires Inv-loop μ-loop

@@ -18,7 +18,7 @@ use Rattle.rules.specs.Limits.{bound, coefficientCount}
 use Rattle.differential.specs.Differential.{factorBound}
 use Rattle.differential.specs.Recurrence as Recurrence
 use Rattle.differential.specs.Read.{termOf}
-use Rattle.differential.specs.Added.{Within, Coefficients, add-three}
+use Rattle.differential.specs.Added.{Trinomial, add-three}
 use Rattle.differential.proofs.rows.add_polynomial.Statement.{statement}
 use Rattle.differential.proofs.rows.add_polynomial.Tie as tie
 
@@ -44,7 +44,7 @@ module _ (c : tie.After-rising) where
   factor-fits : SFits w64 (c .before .args .t .factor)
   factor-fits = fits (c .before .args .t .factor) factorBound (c .before .pre .1 .1) (omega arith)
 
-  coefficients : Coefficients (c .rising .result .constant) (c .rising .result .linear) (c .rising .result .square)
+  coefficients : Trinomial (c .rising .result .constant) (c .rising .result .linear) (c .rising .result .square)
       (Recurrence.rising (negℤ (pos (c .before .args .t .power))) (c .before .args .t .derivative))
   coefficients = c .rising .ensures
 

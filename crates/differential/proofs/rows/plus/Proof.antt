@@ -12,12 +12,12 @@ use mir.Facts.{toZ-ofZ}
 use Rattle.algebra.specs.Integers.{natAbs-*ℤ, natAbs-+ℤ}
 use Rattle.integers.specs.Ranges.{sfits-size}
 use Rattle.rules.specs.Limits.{bound}
-use Rattle.differential.specs.Added.{mostSum}
+use Rattle.differential.specs.ValidRecurrence.{termBound}
 use Rattle.differential.proofs.rows.plus.Statement.{statement}
 use Rattle.differential.proofs.rows.plus.Tie as tie
 
 module _ (c : tie.Start) where
-  product-small : natAbs (c .args .factor *ℤ c .args .coefficient) ≤ mostSum
+  product-small : natAbs (c .args .factor *ℤ c .args .coefficient) ≤ termBound
   product-small = rw (natAbs-*ℤ (c .args .factor) (c .args .coefficient)) (omega (arith, mul-le-mul (c .pre .1 .0) (c .pre .1 .1)))
 
   product-fits : SFits w64 (c .args .factor *ℤ c .args .coefficient)
