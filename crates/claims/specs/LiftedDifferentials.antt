@@ -16,19 +16,21 @@ use lib.ListN.{length}
 use lib.IntN.{ℤ, pos, natAbs}
 use lib.Signed.{leZ}
 use Rattle.algebra.specs.Polynomials.{isZeroℤ}
-use Rattle.rules.specs.Numbers.{Read, got, fault, thenRead, newline}
-use Rattle.rules.specs.Sheets.{readSheet, writeSheet, parting}
+use Rattle.rules.specs.Limits.{columnCount}
+use Rattle.rules.specs.Numbers.{Read, got, fault, thenRead, field, between, newline}
+use Rattle.rules.specs.Sheets.{readSheet, writeSheet, always, parting}
 use Rattle.rules.specs.Stores.{equations, lengthsRight, rowsOf, relationsOf, checkStores, Valid}
 use Rattle.rules.specs.Sequences.{Sequence, Satisfies}
 use Rattle.lists.specs.Overwritten.{overwrite}
 use Rattle.rules.specs.SheetCalls.{ReadCall, WriteCall, readRefusal, unread, filled, unwritten, written, afterRead}
 use Rattle.rules.specs.Layout.{lengthsRight-iff, valid-stores}
 use Rattle.tokens.specs.Exact.{got-inj, fault-got}
+use Rattle.sheets.specs.ReadBack.{SheetRight}
 use Rattle.answers.specs.Faults.{Numbered, read, numbered, Judging, fine, one-of, two, three, five, then-numbered, field-numbered, between-judging}
-use Rattle.differential.specs.Differential.{DifferentialTerm, DifferentialSheet, factorBound}
+use Rattle.differential.specs.Differential.{DifferentialTerm, DifferentialSheet, mostDerivative, mostPower, factorBound}
 use Rattle.differential.specs.Recurrence.{recurrenceOf}
 use Rattle.differential.specs.Grammar.{Extent, readDifferential, readExtent, judgeOrdered, judgeFactor, readTerm, readTerms, readEquation, readEquations}
-use Rattle.differential.specs.Grammar.{readEnd, sheetOf, noTerm, sizesFor}
+use Rattle.differential.specs.Grammar.{readEnd, sheetOf, noTerm, mostOf, sizesFor, firstPower, firstColumn}
 use Rattle.differential.specs.Meaning.{Series, SatisfiesDifferential}
 use Rattle.differential.specs.Accepted.{no-order, accepted-valid, accepted-solutions, accepted-read-back}
 use Rattle.differential.specs.Calls.{readRecurrence, readDifferentialCall, writeRead, writeRecurrenceCall}
@@ -52,17 +54,18 @@ factor-judging a = one-of (leb (natAbs a) factorBound) (one-of (isZeroℤ a) thr
 extent-numbered : (bytes : List ℕ) → Numbered (readExtent bytes)
 unfolding readExtent
 extent-numbered bytes =
-    then-numbered _ _ (field-numbered _ _ (between-judging _ _) bytes) λ _ bytes₁.
-    then-numbered _ _ (field-numbered _ _ (between-judging _ _) bytes₁) λ _ bytes₂.
-    then-numbered _ _ (field-numbered _ _ (between-judging _ _) bytes₂) λ _ bytes₃.
-    then-numbered _ _ (field-numbered _ _ (between-judging _ _) bytes₃) λ _ bytes₄. read _ _
+    then-numbered _ _ (field-numbered _ _ (between-judging (pos 3) (pos 3)) bytes) λ _ bytes₁.
+    then-numbered _ _ (field-numbered _ _ (between-judging (pos 1) (pos columnCount)) bytes₁) λ _ bytes₂.
+    then-numbered _ _ (field-numbered _ _ (between-judging (pos 0) (pos mostDerivative)) bytes₂) λ _ bytes₃.
+    then-numbered _ _ (field-numbered _ _ (between-judging (pos 0) (pos mostPower)) bytes₃) λ _ bytes₄. read _ _
 
 term-numbered : (x : Extent) (before : DifferentialTerm) (last : ℕ) (bytes : List ℕ) → Numbered (readTerm x before last bytes)
 unfolding readTerm
 term-numbered x before last bytes =
-    then-numbered _ _ (field-numbered _ _ (ordered-judging _ _ _ _) bytes) λ k bytes₁.
-    then-numbered _ _ (field-numbered _ _ (ordered-judging _ _ _ _) bytes₁) λ j bytes₂.
-    then-numbered _ _ (field-numbered _ _ (ordered-judging _ _ _ _) bytes₂) λ c bytes₃.
+    then-numbered _ _ (field-numbered _ _ (ordered-judging 0 (x .order) 0 (before .derivative)) bytes) λ k bytes₁.
+    then-numbered _ _ (field-numbered _ _ (ordered-judging 0 (x .degree) (firstPower before (natAbs k)) (x .degree)) bytes₁) λ j bytes₂.
+    then-numbered _ _
+    (field-numbered _ _ (ordered-judging 1 (x .unknowns) (firstColumn before (natAbs k) (natAbs j)) (x .unknowns)) bytes₂) λ c bytes₃.
     then-numbered _ _ (field-numbered _ _ factor-judging bytes₃) λ a bytes₄. read _ _
 
 terms-numbered : (x : Extent) (k : ℕ) (before : DifferentialTerm) (bytes : List ℕ) → Numbered (readTerms x k before bytes)
@@ -75,7 +78,8 @@ terms-numbered x (suc k) before bytes =
 equation-numbered : (x : Extent) (bytes : List ℕ) → Numbered (readEquation x bytes)
 unfolding readEquation
 equation-numbered x bytes =
-    then-numbered _ _ (field-numbered _ _ (between-judging _ _) bytes) λ k rest. terms-numbered x (natAbs k) (noTerm x) rest
+    then-numbered _ _ (field-numbered _ _ (between-judging (pos 0) (pos (mostOf x))) bytes) λ k rest.
+    terms-numbered x (natAbs k) (noTerm x) rest
 
 equations-numbered : (x : Extent) (k : ℕ) (bytes : List ℕ) → Numbered (readEquations x k bytes)
 unfolding readEquations
@@ -93,37 +97,40 @@ pub differential-numbered : (bytes : List ℕ) → Numbered (readDifferential by
 unfolding readDifferential
 differential-numbered bytes =
     then-numbered _ _ (extent-numbered bytes) λ x bytes₁.
-    then-numbered _ _ (field-numbered _ _ (between-judging _ _) bytes₁) λ _ bytes₂.
+    then-numbered _ _ (field-numbered _ _ (between-judging (pos (equations (sizesFor x))) (pos (equations (sizesFor x)))) bytes₁) λ _ bytes₂.
     then-numbered _ _ (equations-numbered x (equations (sizesFor x)) bytes₂) λ es bytes₃. end-numbered (sheetOf x es) bytes₃
 
 -- ---- a differential sheet that is read leaves no byte
 
-thens : {A B : Type 0} (r : Read A) (next : A → List ℕ → Read B) (b : B) (rest : List ℕ) → thenRead r next ≡ got b rest
-    → (a : A) × (bytes : List ℕ) × (next a bytes ≡ got b rest)
+-- What is read leaves no byte behind it.
+record Whole {A : Type 0} (r : Read A) : Type 0 where
+  pub none-left : (a : A) (rest : List ℕ) → r ≡ got a rest → rest ≡ []
+
+then-whole : {A B : Type 0} (r : Read A) (next : A → List ℕ → Read B) → ((a : A) (bytes : List ℕ) → Whole (next a bytes))
+    → Whole (thenRead r next)
 unfolding thenRead
-thens (got a bytes) next b rest e = (a, bytes, e)
-thens {B = B} (fault n) next b rest e = absurd (fault-got n b rest e)
+then-whole (got a bytes) next h = h a bytes
+then-whole (fault n) next h = record { none-left = λ b rest e. absurd (fault-got n b rest e) }
 
-end-empty : (x : DifferentialSheet) (bytes : List ℕ) (d : DifferentialSheet) (rest : List ℕ) → readEnd x bytes ≡ got d rest → rest ≡ []
+end-whole : (x : DifferentialSheet) (bytes : List ℕ) → Whole (readEnd x bytes)
 unfolding readEnd
-end-empty x [] d rest e = sym (got-inj x d [] rest e .1)
-end-empty x (b ∷ bytes) d rest e = absurd (fault-got 4 d rest e)
+end-whole x [] = record { none-left = λ d rest e. sym (got-inj x d [] rest e .1) }
+end-whole x (b ∷ bytes) = record { none-left = λ d rest e. absurd (fault-got 4 d rest e) }
 
-read-whole : (bytes : List ℕ) (d : DifferentialSheet) (rest : List ℕ) → readDifferential bytes ≡ got d rest → rest ≡ []
+read-whole : (bytes : List ℕ) → Whole (readDifferential bytes)
 unfolding readDifferential
-read-whole bytes d rest e =
-    let (x, bytes₁, e₁) = thens _ _ d rest e in
-    let (n, bytes₂, e₂) = thens _ _ d rest e₁ in
-    let (es, bytes₃, e₃) = thens _ _ d rest e₂ in
-    end-empty _ bytes₃ d rest e₃
+read-whole bytes =
+    then-whole (readExtent bytes) _ λ x bytes₁.
+    then-whole (field (between (pos (equations (sizesFor x))) (pos (equations (sizesFor x)))) (always newline) bytes₁) _ λ _ bytes₂.
+    then-whole (readEquations x (equations (sizesFor x)) bytes₂) _ λ es bytes₃. end-whole (sheetOf x es) bytes₃
 
 -- ---- reading
 
-same-differential : {d e : DifferentialSheet} {bytes : List ℕ} → IsDifferential d bytes → IsDifferential e bytes → d ≡ e
-same-differential {d} {e} h k = got-inj d e [] [] (sym h ∙ k) .0
+same-differential : (bytes : List ℕ) {d e : DifferentialSheet} → IsDifferential d bytes → IsDifferential e bytes → d ≡ e
+same-differential bytes {d} {e} h k = got-inj d e [] [] (sym h ∙ k) .0
 
-no-fault : {d : DifferentialSheet} {bytes : List ℕ} {n : ℕ} → IsDifferential d bytes → ¬ (readDifferential bytes ≡ fault n)
-no-fault {d} {n = n} h e = fault-got n d [] (sym e ∙ h)
+no-fault : (bytes : List ℕ) {d : DifferentialSheet} {n : ℕ} → IsDifferential d bytes → ¬ (readDifferential bytes ≡ fault n)
+no-fault bytes {d} {n} h e = fault-got n d [] (sym e ∙ h)
 
 module _ {bytes : List ℕ} {rows relations : List ℤ} where
   pub read-course : {c : ReadCall} → DifferentialWasRead bytes rows relations c → DifferentialCourse bytes rows relations c
@@ -140,7 +147,7 @@ module _ {bytes : List ℕ} {rows relations : List ℤ} where
           → DifferentialCourse bytes rows relations (afterRead (thenRead r (λ d rest. got (recurrenceOf d) rest)) rows relations)
       by r e (read d rest) =
           let n = equations (recurrenceOf d .sizes) in
-          long d (e ∙ ap (got d) (read-whole bytes d rest e)) (lengthsRight n rows relations) (lengthsRight-iff n rows relations)
+          long d (e ∙ ap (got d) (read-whole bytes .none-left d rest e)) (lengthsRight n rows relations) (lengthsRight-iff n rows relations)
       by r e (numbered n low high) = no-differential (suc n) (omega arith, omega arith) e
 
   number-course : {c : ReadCall} → DifferentialCourse bytes rows relations c → (c .result .refusal ≡ 0) ⊎ FoundBefore (c .result .refusal)
@@ -159,10 +166,10 @@ module _ {bytes : List ℕ} {rows relations : List ℤ} where
   accepts-course : {c : ReadCall} → DifferentialCourse bytes rows relations c
       → (c .result .refusal ≡ 0) ↔ ((d : DifferentialSheet) × IsDifferential d bytes × LongEnough (recurrenceOf d .sizes) rows relations)
   unfolding unread readRefusal filled
-  accepts-course (no-differential n h e) = (λ f. absurd (omega arith), λ f. absurd (no-fault (f .1) e))
+  accepts-course (no-differential n h e) = (λ f. absurd (omega arith), λ f. absurd (no-fault bytes (f .1) e))
   accepts-course (no-store d h l) = (
     λ f. absurd (omega arith),
-    λ f. absurd (l (subst (λ y. LongEnough (recurrenceOf y .sizes) rows relations) (same-differential (f .1) h) (f .2))),
+    λ f. absurd (l (subst (λ y. LongEnough (recurrenceOf y .sizes) rows relations) (same-differential bytes (f .1) h) (f .2))),
   )
   accepts-course (recurrence-read d h l) = (λ f. (d, h, l), λ f. refl)
 
@@ -172,7 +179,7 @@ module _ {bytes : List ℕ} {rows relations : List ℤ} where
   filled-course (no-differential n h e) d k f = absurd (omega arith)
   filled-course (no-store y h l) d k f = absurd (omega arith)
   filled-course (recurrence-read y h l) d k f =
-      let same = same-differential h k in
+      let same = same-differential bytes h k in
       (ap (λ u. filled (recurrenceOf u) rows relations) same, subst (λ u. LongEnough (recurrenceOf u .sizes) rows relations) same l)
 
 module _ {bytes : List ℕ} {rows relations : List ℤ} {c : ReadCall} (r : DifferentialWasRead bytes rows relations c) where
@@ -196,7 +203,7 @@ module _ {bytes : List ℕ} {rows relations : List ℤ} {c : ReadCall} (r : Diff
     -- The stores hold the recurrence.
     pub read-holds : HoldsSheet (recurrenceOf d) rows relations c
     read-holds =
-        let right = record { valid = valid; order-right = no-order d } in
+        let right : SheetRight (recurrenceOf d) = record { valid = valid; order-right = no-order d } in
         subst (HoldsSheet (recurrenceOf d) rows relations) (sym (whole .0)) (filled-holds (recurrenceOf d) (right, refl) (whole .1))
 
     pub read-solutions : (y : Sequence) → Series y
@@ -237,7 +244,7 @@ module _ {sheet bytes : List ℕ} where
       by : (r : Read DifferentialSheet) → readDifferential sheet ≡ r → Numbered r
           → RecurrenceCourse sheet bytes (writeRead (thenRead r (λ d rest. got (recurrenceOf d) rest)) bytes)
       by r e (read d rest) =
-          room d (e ∙ ap (got d) (read-whole sheet d rest e)) (leb (length (writeSheet (recurrenceOf d))) (length bytes))
+          room d (e ∙ ap (got d) (read-whole sheet .none-left d rest e)) (leb (length (writeSheet (recurrenceOf d))) (length bytes))
           (leb→le _ _) (nleb→lt _ _)
       by r e (numbered n low high) = nothing-to-write (suc n) (omega arith, omega arith) e
 

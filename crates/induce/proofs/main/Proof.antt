@@ -6,7 +6,7 @@ use native.Mathlib.Omega.{arith}
 use borrow.Author.Needs.{needs}
 use lib.ListN.{length}
 use lib.Seq.{length-take-le}
-use Rattle.frames.specs.Pieces.{refusalLine}
+use Rattle.frames.specs.Pieces.{refusalLine, textRoom}
 use Rattle.frames.specs.PieceSizes.{text-fits}
 use Rattle.differential.specs.SheetCalls.{recurrence-length}
 use Rattle.induce.proofs.main.Statement.{statement}
@@ -41,10 +41,10 @@ refusal-line-requires c κs = search needs
 
 -- The line of the refusal.
 module _ (c : tie.After-refusal-line) where
-  bytes : length (c .refusal-line .result .bytes) ≡ 24
+  bytes : length (c .refusal-line .result .bytes) ≡ textRoom
   bytes = search needs
 
-  line-fits : c .refusal-line .result .length ≤ 24
+  line-fits : c .refusal-line .result .length ≤ textRoom
   line-fits =
       text-fits (c .refusal-line .result) (refusalLine (c .before .before .write-recurrence .result .refusal))
       (c .refusal-line .ensures) bytes
