@@ -6,24 +6,23 @@
  * is aligned; no two stores of one call overlap. A store that a function takes as `const` is only read. A store of
  * numbers may be longer than needed: members past the needed part make no difference, and stay (SCOPE 3.12).
  *
- * The row store needs m x 336 numbers: for each row five blocks from block l downward, in each block four columns, in
+ * The row store needs 336 numbers for each equation: for each row five blocks from block l downward, in each block four columns, in
  * each column 16 coefficients from power 0 upward; behind those 320 the 16 coefficients of the right side
  * (SCOPE 3.2, 3.11). The relation store needs 16 x 337: `count` relations, each n0 and then a row, and zeros at the
  * places past them (SCOPE 3.4, 3.13). Positions of blocks below t and of columns above m hold 0 (SCOPE 3.3).
  *
- * Every function returns the number of a refusal, or 0 (SCOPE 6.1 to 6.10):
+ * Every function returns the number of a refusal, or 0 (SCOPE 6.1 to 6.10; 6 does not occur):
  *   1  a store has too few members
  *   2  a size, block, column, count or order is out of its range
  *   3  something in a sheet is not a number; or a separator, the order of the terms or a zero last coefficient is wrong,
  *      or its fifth section has zeros only
  *   4  the bytes of a sheet end too early, or go on behind its last line
  *   5  a coefficient or n0 is past +-268,435,455, or an unused position of a store does not hold 0
- *   6  the system is dependent: a row is zero on both sides
  *   7  a degree has passed 15
  *   8  a coefficient has passed +-268,435,455 in the course of the run
  *   9  a seventeenth relation would have to be listed
  *  10  the system has no solution: the left part of a row is zero and its right side is not
- * On 1 to 5 no store is changed (SCOPE 6.32; but see `wurgalm_batch`). On 6 to 10 the needed part of each store that the
+ * On 1 to 5 no store is changed (SCOPE 6.32; but see `wurgalm_batch`). On 7 to 10 the needed part of each store that the
  * function may write is zero (SCOPE 6.33). Sizes, count and order are checked first (2), then the lengths of the stores
  * (1), then their numbers (5) (SCOPE 3.31).
  *
@@ -39,47 +38,50 @@
 extern "C" {
 #endif
 
-/* The needed parts of the stores, in members. */
+/* The needed parts of the stores, in members: of the row store so many for each equation, of which there are at most six. */
 #define WURGALM_ROW 336
+#define WURGALM_EQUATIONS 6
 #define WURGALM_RELATION 337
 #define WURGALM_RELATIONS (16 * WURGALM_RELATION)
-#define WURGALM_RESULT 8
+#define WURGALM_RESULT 9
 
 /* Where the 16 coefficients of the right side begin in a row; in a relation, one place later. */
 #define WURGALM_RIGHT_SIDE 320
 
 /* The elimination on the leading side.
- * In: `rows` and `relations` hold a system of m unknowns (1 to 4) with blocks t to l (-64 <= t <= l <= 64, l - t <= 4)
- * and `count` relations (0 to 16) (SCOPE 1.1, 1.2, 1.23).
- * Out: `rows` and `relations` hold the output; `result` (8 numbers, SCOPE 3.52): the relation count, the shifts, the
- * columns c(1) to c(4) counted from 1 with zeros past c(m), 1 or 0 for whether a diagonal polynomial has an integer
- * root, and the largest such root (0 for none).
- * Returns 0, 1, 2, or 5 to 10. */
-uint8_t wurgalm_run_leading(int64_t *rows, size_t rows_length, int64_t *relations, size_t relations_length, size_t m, int64_t l,
-                            int64_t t, size_t count, int64_t *result, size_t result_length);
+ * In: `rows` and `relations` hold a system of m unknowns (1 to 4) and `equations` equations (0 to 6, however many unknowns
+ * there are) with blocks t to l (-64 <= t <= l <= 64, l - t <= 4) and `count` relations (0 to 16) (SCOPE 1.1, 1.2, 1.23).
+ * Out: `rows` and `relations` hold the output. A row that became zero on both sides is dropped: the later rows have moved up,
+ * and the places past the rows that are left are zero (SCOPE 2.11, 3.14). `result` (9 numbers, SCOPE 3.52): the relation count,
+ * the shifts, the columns c(1) to c(4) counted from 1 with zeros past those of the rows that are left, 1 or 0 for whether a
+ * diagonal polynomial has an integer root, the largest such root (0 for none), and the rank, which is the number of rows that
+ * are left: the output is a system of so many equations.
+ * Returns 0, 1, 2, 5, or 7 to 10. */
+uint8_t wurgalm_run_leading(int64_t *rows, size_t rows_length, int64_t *relations, size_t relations_length, size_t m,
+                            size_t equations, int64_t l, int64_t t, size_t count, int64_t *result, size_t result_length);
 
 /* The elimination on the trailing side: the same, with the smallest root in place of the largest (SCOPE 2.91, 2.93). */
-uint8_t wurgalm_run_trailing(int64_t *rows, size_t rows_length, int64_t *relations, size_t relations_length, size_t m, int64_t l,
-                             int64_t t, size_t count, int64_t *result, size_t result_length);
+uint8_t wurgalm_run_trailing(int64_t *rows, size_t rows_length, int64_t *relations, size_t relations_length, size_t m,
+                             size_t equations, int64_t l, int64_t t, size_t count, int64_t *result, size_t result_length);
 
 /* A sheet read into stores.
  * In: the bytes of the sheet. A fifth section has the right sides of the equations and relations; without it all are 0.
- * Out: `rows` and `relations` hold the system; `result` (8 numbers, SCOPE 3.52): m, l, t, the relation count, and the
- * four columns of the order line, zeros past its end.
+ * Out: `rows` and `relations` hold the system; `result` (9 numbers, SCOPE 3.52): m, l, t, the relation count, the four
+ * columns of the order line, zeros past its end, and the equation count.
  * Returns 0, or the number of the sheet's first fault, 2 to 5 (SCOPE 4.37). Only a sheet without a fault gets 1, if a
  * store is too short for it, the result store too (SCOPE 3.53, 4.42). */
 uint8_t wurgalm_read_sheet(const uint8_t *bytes, size_t bytes_length, int64_t *rows, size_t rows_length, int64_t *relations,
                            size_t relations_length, int64_t *result, size_t result_length);
 
 /* A system written as a sheet.
- * In: `rows`, `relations`, m, l, t and `count` as for a run; `order` (4 numbers): all 0 for no order, otherwise a
- * permutation of 1 to m and zeros past its end (SCOPE 3.55, 4.53).
+ * In: `rows`, `relations`, m, `equations`, l, t and `count` as for a run; `order` (4 numbers): different columns of 1 to m,
+ * as many as there are to be written, and zeros past them (SCOPE 3.55, 4.53).
  * Out: `bytes` begins with the sheet, which has a fifth section if a right side is not 0; `result` (1 number,
  * SCOPE 3.52): the length of the sheet in bytes.
  * Returns 0, 1, 2 or 5; 1 for a byte store that is too short comes after all else (SCOPE 4.54). */
 uint8_t wurgalm_write_sheet(const int64_t *rows, size_t rows_length, const int64_t *relations, size_t relations_length, size_t m,
-                            int64_t l, int64_t t, size_t count, const int64_t *order, size_t order_length, uint8_t *bytes,
-                            size_t bytes_length, int64_t *result, size_t result_length);
+                            size_t equations, int64_t l, int64_t t, size_t count, const int64_t *order, size_t order_length,
+                            uint8_t *bytes, size_t bytes_length, int64_t *result, size_t result_length);
 
 /* The recurrence of a differential sheet read into stores: the coefficients of a series satisfy it exactly if the series
  * satisfies the sheet (SCOPE 10.33).
@@ -93,7 +95,7 @@ uint8_t wurgalm_read_differential(const uint8_t *bytes, size_t bytes_length, int
 
 /* The recurrence of a differential sheet written as a sheet.
  * In: the bytes of the differential sheet.
- * Out: `bytes` begins with the sheet of the recurrence, which has at most 16,841 bytes; `result` (1 number): its length
+ * Out: `bytes` begins with the sheet of the recurrence, which has at most 25,223 bytes; `result` (1 number): its length
  * (SCOPE 10.42, 10.43).
  * Returns 0, or the number of the differential sheet's first fault, 2 to 5; only a sheet without a fault gets 1, if a store is
  * too short. */

@@ -12,9 +12,11 @@
 
 /* ---- stores ---- */
 
-/* The stores of a call for at most two unknowns, each with some numbers past the needed part, which no call may touch. */
+/* The stores of a call for at most three equations, each with some numbers past the needed part, which no call may touch. */
 #define MORE 3
-#define ROWS (2 * WURGALM_ROW)
+#define ROWS (3 * WURGALM_ROW)
+/* The needed part of the row store for two equations, as most systems here have. */
+#define TWO_ROWS (2 * WURGALM_ROW)
 
 typedef struct {
     int64_t rows[ROWS + MORE];
@@ -62,24 +64,24 @@ static void check_result(const int64_t *result, const int64_t *expected, const c
 
 /* ---- calls ---- */
 
-typedef uint8_t Run(int64_t *, size_t, int64_t *, size_t, size_t, int64_t, int64_t, size_t, int64_t *, size_t);
+typedef uint8_t Run(int64_t *, size_t, int64_t *, size_t, size_t, size_t, int64_t, int64_t, size_t, int64_t *, size_t);
 
 /* The sizes and the relation count of a call, and the lengths of its stores. */
 typedef struct {
-    size_t m;
+    size_t m, equations;
     int64_t l, t;
     size_t count, rows, relations, result;
 } Asked;
 
-/* Whole stores for a system of two unknowns and two blocks without relations. */
+/* Whole stores for a system of two unknowns, two equations and two blocks without relations. */
 static Asked asked(void) {
-    Asked call = {2, 1, 0, 0, ROWS + MORE, WURGALM_RELATIONS + MORE, WURGALM_RESULT + MORE};
+    Asked call = {2, 2, 1, 0, 0, ROWS + MORE, WURGALM_RELATIONS + MORE, WURGALM_RESULT + MORE};
     return call;
 }
 
 static uint8_t run(Run *side, Stores *stores, Asked call) {
-    return side(stores->rows, call.rows, stores->relations, call.relations, call.m, call.l, call.t, call.count, stores->result,
-                call.result);
+    return side(stores->rows, call.rows, stores->relations, call.relations, call.m, call.equations, call.l, call.t, call.count,
+                stores->result, call.result);
 }
 
 static uint8_t read_sheet(const char *sheet, Stores *stores, Asked call) {
@@ -88,8 +90,8 @@ static uint8_t read_sheet(const char *sheet, Stores *stores, Asked call) {
 }
 
 static uint8_t write_sheet(Stores *stores, Asked call, const int64_t *order, uint8_t *bytes, size_t length) {
-    return wurgalm_write_sheet(stores->rows, call.rows, stores->relations, call.relations, call.m, call.l, call.t, call.count,
-                               order, 4, bytes, length, stores->result, call.result);
+    return wurgalm_write_sheet(stores->rows, call.rows, stores->relations, call.relations, call.m, call.equations, call.l, call.t,
+                               call.count, order, 4, bytes, length, stores->result, call.result);
 }
 
 /* ---- known answers ---- */
@@ -99,9 +101,16 @@ static const char *const k2 = "3 2 1 0\n2\n2 1 1 2 0 1 0 2 1 -1\n2 1 1 1 1 0 1 1
 static const char *const k2_answer = "3 2 1 0\n2\n2 1 1 2 -1 -1 1 2 1 1\n2 1 2 2 0 1 0 2 2 -1 -1\n2\n"
                                      "0 2 1 1 1 1 0 1 1 -1\n-1 2 1 1 2 0 1 0 2 1 -1\n2 1 2\n";
 
+/* Zeros in the needed parts of the stores for two equations, and in the third row's place what the store held before. */
+static void prepare_two(Stores *stores) {
+    prepare(stores, 9);
+    fill(stores->rows, TWO_ROWS, 0);
+    fill(stores->relations, WURGALM_RELATIONS, 0);
+}
+
 /* The stores that hold k2. */
 static void k2_stores(Stores *stores) {
-    prepare(stores, 0);
+    prepare_two(stores);
     polynomial(stores->rows, 0, 0, 0)[1] = 1;
     polynomial(stores->rows, 0, 1, 1)[0] = -1;
     polynomial(stores->rows, 1, 0, 0)[0] = 1;
@@ -111,7 +120,7 @@ static void k2_stores(Stores *stores) {
 /* The stores after the run on k2, but for the result. */
 static void k2_answer_stores(Stores *stores) {
     int64_t *first = stores->relations, *second = stores->relations + WURGALM_RELATION;
-    prepare(stores, 0);
+    prepare_two(stores);
     polynomial(stores->rows, 0, 0, 0)[0] = -1;
     polynomial(stores->rows, 0, 0, 0)[1] = -1;
     polynomial(stores->rows, 0, 0, 1)[0] = 1;
@@ -127,8 +136,8 @@ static void k2_answer_stores(Stores *stores) {
 }
 
 static void k2_read_run_written(void) {
-    static const int64_t heading[WURGALM_RESULT] = {2, 1, 0, 0, 0, 0, 0, 0};
-    static const int64_t report[WURGALM_RESULT] = {2, 1, 1, 2, 0, 0, 1, 0};
+    static const int64_t heading[WURGALM_RESULT] = {2, 1, 0, 0, 0, 0, 0, 0, 2};
+    static const int64_t report[WURGALM_RESULT] = {2, 1, 1, 2, 0, 0, 1, 0, 2};
     static Stores stores, expected;
     size_t length = strlen(k2_answer);
     uint8_t bytes[200];
@@ -136,13 +145,13 @@ static void k2_read_run_written(void) {
 
     prepare(&stores, 9);
     check(read_sheet(k2, &stores, call) == 0, "K2 is read");
-    check_result(stores.result, heading, "its sizes, no relation, no order");
+    check_result(stores.result, heading, "its sizes, no relation, no order, two equations");
     k2_stores(&expected);
     memcpy(expected.result, heading, sizeof heading);
     check(same(&stores, &expected), "its rows, and nothing past the needed parts");
 
     check(run(wurgalm_run_leading, &stores, call) == 0, "K2, leading side, is accepted");
-    check_result(stores.result, report, "two relations, one shift, order 1 2, last root 0");
+    check_result(stores.result, report, "two relations, one shift, order 1 2, last root 0, rank 2");
     k2_answer_stores(&expected);
     memcpy(expected.result, report, sizeof report);
     check(same(&stores, &expected), "its rows and relations, and nothing past the needed parts");
@@ -163,11 +172,12 @@ static void k2_read_run_written(void) {
 static const char *const k11 = "3 1 1 0\n1\n1 1 1 2 0 1\n0\n0\n";
 
 static void k11_on_both_sides(void) {
-    static const int64_t trailing[WURGALM_RESULT] = {0, 1, 1, 0, 0, 0, 1, 1};
-    static const int64_t leading[WURGALM_RESULT] = {0, 0, 1, 0, 0, 0, 1, 0};
+    static const int64_t trailing[WURGALM_RESULT] = {0, 1, 1, 0, 0, 0, 1, 1, 1};
+    static const int64_t leading[WURGALM_RESULT] = {0, 0, 1, 0, 0, 0, 1, 0, 1};
     static Stores stores, expected;
     Asked call = asked();
     call.m = 1;
+    call.equations = 1;
 
     prepare(&stores, 9);
     check(read_sheet(k11, &stores, call) == 0, "K11 is read");
@@ -182,6 +192,63 @@ static void k11_on_both_sides(void) {
     polynomial(expected.rows, 0, 1, 0)[0] = -1;
     polynomial(expected.rows, 0, 1, 0)[1] = 1;
     check(same(&stores, &expected), "(n-1) x(n), one shift, first root 1");
+}
+
+/* ---- any number of equations ---- */
+
+/* x(n+1) + y(n) = 0, a zero equation, and the first once more. */
+static const char *const repeated = "3 2 1 0\n3\n2 1 1 1 1 0 2 1 1\n0\n2 1 1 1 1 0 2 1 1\n0\n1 2\n";
+static const char *const repeated_answer = "3 2 1 0\n1\n2 1 1 1 1 0 2 1 1\n0\n";
+
+/* The trailing side settles the other column. */
+static void repeated_on_one_side(Run *side, int64_t column) {
+    int64_t heading[WURGALM_RESULT] = {2, 1, 0, 0, 2, 0, 0, 0, 3}, report[WURGALM_RESULT] = {0, 0, 0, 0, 0, 0, 0, 0, 1};
+    static Stores stores, expected;
+    uint8_t bytes[200];
+    char answer[200];
+    Asked call = asked();
+    report[2] = column;
+
+    prepare(&stores, 9);
+    check(read_sheet(repeated, &stores, call) == 0, "three equations for two unknowns are read");
+    check_result(stores.result, heading, "their sizes, the order 2, three equations");
+    call.equations = 3;
+    prepare(&expected, 0);
+    polynomial(expected.rows, 0, 0, 0)[0] = 1;
+    polynomial(expected.rows, 0, 1, 1)[0] = 1;
+    memcpy(expected.result, report, sizeof report);
+    check(run(side, &stores, call) == 0, "two of them are dropped");
+    check(same(&stores, &expected), "one row is left, zeros in the freed places, rank 1");
+
+    call.equations = 1;
+    snprintf(answer, sizeof answer, "%s1 %d\n", repeated_answer, (int)column);
+    memset(bytes, '#', sizeof bytes);
+    check(write_sheet(&stores, call, report + 2, bytes, sizeof bytes) == 0, "the equation that is left is written");
+    check(stores.result[0] == (int64_t)strlen(answer) && memcmp(bytes, answer, strlen(answer)) == 0, "byte for byte");
+}
+
+/* One zero row, and no row at all: nothing is left. */
+static void nothing_left(Run *side) {
+    static const int64_t none[WURGALM_RESULT] = {0};
+    static Stores stores, expected;
+    Asked call = asked();
+    prepare(&stores, 9);
+    check(read_sheet("3 1 0 0\n1\n0\n0\n0\n", &stores, call) == 0, "one zero row is read");
+    call.m = 1;
+    call.equations = 1;
+    call.l = 0;
+    expected = stores;
+    memcpy(expected.result, none, sizeof none);
+    check(run(side, &stores, call) == 0 && same(&stores, &expected), "one zero row: rank 0");
+
+    prepare(&stores, 9);
+    call.rows = 0;
+    check(read_sheet("3 4 0 0\n0\n0\n0\n", &stores, call) == 0, "no equation is read, without a row store");
+    check(stores.result[0] == 4 && stores.result[8] == 0, "four unknowns, no equation");
+    call.equations = 0;
+    expected = stores;
+    memcpy(expected.result, none, sizeof none);
+    check(run(side, &stores, call) == 0 && same(&stores, &expected), "no equation: rank 0");
 }
 
 /* ---- differential sheets ---- */
@@ -206,13 +273,13 @@ static void not_induced(const char *sheet, Asked call, uint8_t refusal, const ch
 }
 
 static void bessel_read(void) {
-    static const int64_t heading[WURGALM_RESULT] = {1, 2, -2, 0, 0, 0, 0, 0};
+    static const int64_t heading[WURGALM_RESULT] = {1, 2, -2, 0, 0, 0, 0, 0, 1};
     static Stores stores, expected;
     Asked call = asked();
     prepare(&stores, 9);
     expected = stores;
     check(read_differential(bessel, &stores, call) == 0, "Bessel's equation is read");
-    check_result(stores.result, heading, "its sizes, no relation, no order");
+    check_result(stores.result, heading, "its sizes, no relation, no order, one equation");
     fill(expected.rows, WURGALM_ROW, 0);
     fill(expected.relations, WURGALM_RELATIONS, 0);
     memcpy(expected.result, heading, sizeof heading);
@@ -222,6 +289,7 @@ static void bessel_read(void) {
     check(same(&stores, &expected), "its recurrence, and nothing past the needed parts");
 
     not_induced("3 1 2 3\n", call, 2, "power 3");
+    not_induced("3 1 0 0\n7\n", call, 2, "seven equations");
     not_induced("3 1 1 0\n1\n2 0 0 1 1 1 0 1 1\n", call, 3, "a derivative that rises");
     not_induced("3 1 0 0\n1\n1 0 0 1 0\n", call, 3, "a zero factor");
     not_induced("3 1 0 0\n1\n0\n0\n", call, 4, "the bytes go on");
@@ -313,7 +381,7 @@ static void refused_before(Run *side, const char *name, Asked call, size_t at, i
 
 static void runs_refused_before_the_work(Run *side, const char *name) {
     Asked call = asked();
-    call.rows = ROWS - 1;
+    call.rows = TWO_ROWS - 1;
     refused_before(side, name, call, 0, 0, 1, "row store too short");
     call = asked();
     call.relations = WURGALM_RELATIONS - 1;
@@ -324,6 +392,9 @@ static void runs_refused_before_the_work(Run *side, const char *name) {
     call = asked();
     call.m = 5;
     refused_before(side, name, call, 0, 0, 2, "five unknowns");
+    call = asked();
+    call.equations = 7;
+    refused_before(side, name, call, 0, 0, 2, "seven equations");
     call = asked();
     call.l = 65;
     call.t = 64;
@@ -349,8 +420,9 @@ static void refused_during(Run *side, const char *sheet, uint8_t refusal, const 
     call.l = stores.result[1];
     call.t = stores.result[2];
     call.count = (size_t)stores.result[3];
+    call.equations = (size_t)stores.result[8];
     expected = stores;
-    fill(expected.rows, call.m * WURGALM_ROW, 0);
+    fill(expected.rows, call.equations * WURGALM_ROW, 0);
     fill(expected.relations, WURGALM_RELATIONS, 0);
     fill(expected.result, WURGALM_RESULT, 0);
     snprintf(line, sizeof line, "%s: %d, and zeros", what, refusal);
@@ -358,8 +430,6 @@ static void refused_during(Run *side, const char *sheet, uint8_t refusal, const 
 }
 
 static void runs_refused_during_the_work(Run *side) {
-    refused_during(side, "3 1 0 0\n1\n0\n0\n0\n", 6, "one zero row");
-    refused_during(side, "3 2 1 0\n2\n2 1 1 1 1 0 2 1 1\n2 1 1 1 1 0 2 1 1\n0\n0\n", 6, "the same equation twice");
     refused_during(side,
                    "3 2 0 0\n2\n2 0 1 16 0 0 0 0 0 0 0 0 0 0 0 0 0 0 0 1 0 2 1 1\n"
                    "2 0 1 2 0 1 0 2 2 0 1\n0\n0\n",
@@ -371,6 +441,7 @@ static void runs_refused_during_the_work(Run *side) {
                    "0 0\n0 0\n0 0\n0 0\n0 0\n0 0\n0 0\n0 0\n0 0\n0 0\n0 0\n0 0\n0 0\n0 0\n0 0\n0 0\n0\n",
                    9, "n x + y and x + y with sixteen relations");
     refused_during(side, "3 1 0 0\n1\n0\n0\n0\n1\n1 7\n", 10, "0 = 7");
+    refused_during(side, "3 1 0 0\n3\n0\n0\n1 0 1 1 1\n0\n0\n3\n0\n1 7\n0\n", 10, "0 = 0, 0 = 7 and x = 0");
     refused_during(side, "3 2 1 0\n2\n2 1 1 1 1 0 2 1 1\n2 1 1 1 1 0 2 1 1\n0\n0\n2\n1 1\n1 2\n", 10,
                    "the same left side with two right sides");
 }
@@ -388,6 +459,9 @@ static void unread(const char *sheet, Asked call, uint8_t refusal, const char *w
 static void sheets_refused(void) {
     Asked call = asked();
     unread("3 5 1 0\n", call, 2, "five unknowns");
+    unread("3 1 1 0\n7\n", call, 2, "seven equations");
+    unread("3 2 1 0\n0\n0\n2 1 1\n", call, 2, "a column twice in the order");
+    unread("3 1 1 0\n0\n0\n0\n0\n", call, 3, "right sides of nothing");
     unread("3 1 1 0\n1\n1 1 2 1 1\n0\n0\n", call, 2, "column 2 of 1");
     unread("3 1 1 0\n1\n1 1 1 x 1\n0\n0\n", call, 3, "a token that is no number");
     unread("3 1 1 0\n1\n1 1 1 1 0\n0\n0\n", call, 3, "a zero last coefficient");
@@ -395,7 +469,7 @@ static void sheets_refused(void) {
     unread("3 1 1 0\n1\n1 1 1 2 0 1\n0\n0\n\n", call, 3, "an empty line where the right sides would stand");
     unread("3 1 1 0\n1\n1 1 1 2 0 1\n0\n0\n1\n1 7\n\n", call, 4, "the bytes go on");
     unread("3 1 1 0\n1\n1 1 1 1 -268435456\n0\n0\n", call, 5, "a coefficient past the limit");
-    call.rows = ROWS - 1;
+    call.rows = TWO_ROWS - 1;
     unread(k2, call, 1, "row store too short");
     call = asked();
     call.relations = WURGALM_RELATIONS - 1;
@@ -423,7 +497,7 @@ static void unwritten(Stores *stores, Asked call, const int64_t *order, uint8_t 
 }
 
 static void systems_not_written(void) {
-    static const int64_t none[4] = {0, 0, 0, 0}, twice[4] = {1, 1, 0, 0};
+    static const int64_t none[4] = {0, 0, 0, 0}, twice[4] = {1, 1, 0, 0}, gap[4] = {0, 1, 0, 0};
     static Stores stores;
     Asked call = asked();
     k2_stores(&stores);
@@ -431,7 +505,11 @@ static void systems_not_written(void) {
     unwritten(&stores, call, none, 2, "no unknowns");
     call = asked();
     unwritten(&stores, call, twice, 2, "a column twice in the order");
-    call.rows = ROWS - 1;
+    unwritten(&stores, call, gap, 2, "a column behind a zero in the order");
+    call.equations = 7;
+    unwritten(&stores, call, none, 2, "seven equations");
+    call = asked();
+    call.rows = TWO_ROWS - 1;
     unwritten(&stores, call, none, 1, "row store too short");
     call = asked();
     call.result = 0;
@@ -444,6 +522,10 @@ static void systems_not_written(void) {
 int main(void) {
     k2_read_run_written();
     k11_on_both_sides();
+    repeated_on_one_side(wurgalm_run_leading, 1);
+    repeated_on_one_side(wurgalm_run_trailing, 2);
+    nothing_left(wurgalm_run_leading);
+    nothing_left(wurgalm_run_trailing);
     k2_in_a_batch();
     bessel_read();
     bessel_written();

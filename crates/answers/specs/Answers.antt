@@ -8,7 +8,7 @@
 -- Main statements
 --   answer-right         every sheet's answer is one of those
 --   answerCall-answer    in a store of at least 65,536 bytes the call leaves the answer of `rules`
---   order-after          the column order of a run that accepts is a permutation of the columns
+--   order-after          the column order of a run that accepts has different columns of 1..m
 --   read-refused, run-refused, run-written   the answer, by what reading and running on stores give
 --   read-checked         the stores that a sheet was read into pass the checks of a run
 --   answer-written       the writer, lent at most 65,536 bytes of the store, leaves in it what the whole call leaves
@@ -23,26 +23,26 @@ use mathlib.Core.Bool.{Bool, true, false, not, cond}
 use mathlib.Core.List.{List, [], _∷_, _++_, map, append-assoc, List·Memᴰ, List·Memᴰ·head, List·Memᴰ·tail}
 use borrow.Author.Tests.{le-leb, lt-leb}
 use lib.Dec.{T, leb, leb→le, le→leb, nleb→lt, eqb, eqb→eq, not-T}
-use lib.ListN.{length, take, drop, getD, length-map, take-append-drop}
+use lib.ListN.{length, take, drop, getD, take-append-drop}
 use lib.Seq.{take-at, length-take-le, drop-append-le}
 use lib.IntN.{ℤ}
 use Rattle.algebra.specs.Pigeonhole.{Distinct}
 use Rattle.lists.specs.Tests.{cond-passed, T-or}
-use Rattle.rules.specs.Elimination.{leading, State, Outcome, done, refused, wholeRun, leadingRun}
+use Rattle.rules.specs.Elimination.{leading, State, Outcome, done, refused, rank, wholeRun, leadingRun}
 use Rattle.rules.specs.Stores.{Sizes, equations, span, rowStoreOf, relationStoreOf, lengthsRight, checkStores, Valid}
-use Rattle.rules.specs.Stores.{rowNeed, largestRows, relationNeed}
-use Rattle.rules.specs.Layout.{valid-stores, size-bounds, equations-few, lengthsRight-iff, rowsOf-rowStoreOf, relationsOf-relationStoreOf}
+use Rattle.rules.specs.Stores.{withEquations, rowStoreFor, rowNeed, largestRows, relationNeed}
+use Rattle.rules.specs.Layout.{valid-stores, size-bounds, lengthsRight-iff, rowsOf-rowStoreOf, relationsOf-relationStoreOf}
 use Rattle.rules.specs.Calls.{Call, callRun, afterCheck, afterRun, acceptance, reportedOrder, cleared, refusal}
-use Rattle.lists.specs.Overwritten.{overwrite}
+use Rattle.lists.specs.Overwritten.{overwrite, overwrite-twice}
 use Rattle.rules.specs.Numbers.{Read, got, fault}
 use Rattle.rules.specs.Sheets.{Sheet, contains, readSheet, writeSheet}
 use Rattle.rules.specs.SheetCalls.{ReadCall, readCall, afterRead, filled, unread, readRefusal, differentColumns, WriteCall, written}
 use Rattle.rules.specs.SheetCalls.{unwritten}
 use Rattle.rules.specs.SheetCalls.{checkWrite, writeCall}
 use Rattle.rules.specs.Batch.{mostBytes, Answer, accepted, refusedWith, sized, answerRun, answerRead, answerSheet}
-use Rattle.theory.specs.Demands.{Accepted, Ended, run-ends, six, seven, eight, nine, ten, output-valid, diagonal-nonzero}
+use Rattle.theory.specs.Demands.{Accepted, Ended, run-ends, seven, eight, nine, ten, output-valid, diagonal-nonzero}
 use Rattle.theory.specs.Demands as Demands
-use Rattle.theory.specs.Settled.{Diagonal, as-many}
+use Rattle.theory.specs.Settled.{Diagonal}
 use Rattle.sheets.specs.WrittenOrder.{OrderRight, different-cons}
 use Rattle.sheets.specs.ReadBack.{SheetRight, read-valid, sheet-read-written}
 use Rattle.sheets.specs.CallsReadBack.{read-call-write, read-write-call}
@@ -93,7 +93,8 @@ sized-right bytes = go (leb (length bytes) mostBytes) (leb→le (length bytes) m
 
 -- The sheet that a run which accepts gives (SCOPE 5.14).
 abbrev pub sheetAfter : Sheet → State → Sheet
-sheetAfter x s = record { sizes = x .sizes; rows = s .rows; relations = s .relations; order = map suc (s .order) }
+sheetAfter x s =
+    record { sizes = withEquations (rank s) (x .sizes); rows = s .rows; relations = s .relations; order = map suc (s .order) }
 
 -- The leading run of a sheet that was read.
 leading-ends : (bytes : List ℕ) (x : Sheet) (rest : List ℕ) → readSheet bytes ≡ got x rest → Ended (leadingRun (x .rows) (x .relations))
@@ -106,7 +107,6 @@ answer-right bytes = by-read (readSheet bytes) refl (sheet-numbered bytes)
   where
     by-run : (x : Sheet) (o : Outcome) → Ended o → RightAnswer (answerRun x o)
     by-run x o (Demands.accepted s) = sized-right (writeSheet (sheetAfter x s))
-    by-run x o six = right-refused 5 (omega arith)
     by-run x o seven = right-refused 6 (omega arith)
     by-run x o eight = right-refused 7 (omega arith)
     by-run x o nine = right-refused 8 (omega arith)
@@ -173,22 +173,25 @@ different-columns m (c ∷ l) d below =
       different-columns m l (d .1) (λ k h. below (suc k) (suc-le-suc h)),
     )
 
-pub order-after : (e m D : ℕ) (s : State) → e ≡ m → Diagonal leading e m D s → OrderRight m (map suc (s .order))
-unfolding OrderRight
-order-after e m D s square d =
-    inr (
-      length-map (s .order) suc ∙ d .order-count ∙ square,
-      different-columns m (s .order) (d .columns-different) (λ k h. d .column-below k (subst (λ n. k < n) (d .order-count) h)),
-    )
+pub order-after : (m D : ℕ) (s : State) → Diagonal leading (rank s) m D s → OrderRight m (map suc (s .order))
+unfolding OrderRight rank
+order-after m D s d = different-columns m (s .order) (d .columns-different) (λ k h. d .column-below k h)
 
 -- ---- the run on the stores that a sheet was read into
 
--- The check before what a run leaves is written, and the call that writes it.
+-- The check before what a run leaves is written with some sizes, and the call that writes it.
+abbrev pub checkIn : Sizes → Call → ℕ
+checkIn z c = checkWrite z (c .result .relations) (c .result .order) (c .rowStore) (c .relationStore)
+
+abbrev pub writeIn : Sizes → Call → List ℕ → WriteCall
+writeIn z c store = writeCall z (c .result .relations) (c .result .order) (c .rowStore) (c .relationStore) store
+
+-- The same with as many equations as its rank, for a run on a system of sizes z (SCOPE 5.14).
 abbrev pub checkOn : Sizes → Call → ℕ
-checkOn z c = checkWrite z (c .result .relations) (c .result .order) (c .rowStore) (c .relationStore)
+checkOn z c = checkIn (withEquations (c .result .rank) z) c
 
 abbrev pub writeOn : Sizes → Call → List ℕ → WriteCall
-writeOn z c store = writeCall z (c .result .relations) (c .result .order) (c .rowStore) (c .relationStore) store
+writeOn z c store = writeIn (withEquations (c .result .rank) z) c store
 
 module _ (bytes : List ℕ) (x : Sheet) (rest : List ℕ) (e : readSheet bytes ≡ got x rest) (rows relations : List ℤ) where
   abbrev rowsRead : List ℤ
@@ -229,19 +232,38 @@ module _ (bytes : List ℕ) (x : Sheet) (rest : List ℕ) (e : readSheet bytes �
   ran-accepted : (s : State) → leadingRun (x .rows) (x .relations) ≡ done s
       → (ran .result .refusal ≡ 0) × (answerSheet bytes ≡ sized (writeSheet (sheetAfter x s))) × (checkOn (x .sizes) ran ≡ 0)
       × ((store : List ℕ) → writeOn (x .sizes) ran store ≡ written (writeSheet (sheetAfter x s)) store)
-  unfolding afterRun acceptance reportedOrder answerRun wholeRun
+  unfolding afterRun acceptance reportedOrder answerRun wholeRun rowStoreFor withEquations
   ran-accepted s f = (
-    ap (λ c. c .result .refusal) (ran-by (done s) f),
+    ap (λ c. c .result .refusal) leaves,
     answer-by (done s) f,
-    ap (checkOn (x .sizes)) (ran-by (done s) f)
-        ∙ read-call-write (writeSheet (sheetAfter x s)) (sheetAfter x s) [] rowsRead relationsRead
+    ap (checkOn (x .sizes)) leaves
+        ∙ read-call-write (writeSheet (sheetAfter x s)) (sheetAfter x s) [] rowsLeft relationsRead
         (sheet-read-written (sheetAfter x s) right),
     λ store.
-        ap (λ c. writeOn (x .sizes) c store) (ran-by (done s) f)
-        ∙ read-write-call (writeSheet (sheetAfter x s)) (sheetAfter x s) [] rowsRead relationsRead
+        ap (λ c. writeOn (x .sizes) c store) leaves
+        ∙ read-write-call (writeSheet (sheetAfter x s)) (sheetAfter x s) [] rowsLeft relationsRead
         (sheet-read-written (sheetAfter x s) right) store,
   )
     where
+      -- The rows that are left, and the places that the dropped ones freed (SCOPE 3.14).
+      rowsLeft : List ℤ
+      rowsLeft = overwrite (rowStoreFor (equations (x .sizes)) (s .rows)) rowsRead
+
+      leaves : ran
+          ≡ record {
+            result = acceptance leading (span (x .sizes)) s;
+            rowStore = overwrite (rowStoreOf (s .rows)) rowsLeft;
+            relationStore = overwrite (relationStoreOf (s .relations)) relationsRead;
+          }
+      leaves =
+          ran-by (done s) f
+          ∙ ap (λ l. record {
+            result = acceptance leading (span (x .sizes)) s;
+            rowStore = l;
+            relationStore = overwrite (relationStoreOf (s .relations)) relationsRead;
+          })
+          (sym (overwrite-twice (rowStoreOf (s .rows)) _ rowsRead))
+
       accepts : Accepted leading (x .sizes) (x .rows) (x .relations) s
       accepts = record { valid = valid; accepts = f }
 
@@ -249,8 +271,7 @@ module _ (bytes : List ℕ) (x : Sheet) (rest : List ℕ) (e : readSheet bytes �
       right =
           record {
             valid = output-valid accepts;
-            order-right = order-after (equations (x .sizes)) (x .sizes .m) (span (x .sizes)) s (as-many (x .sizes))
-                (diagonal-nonzero accepts);
+            order-right = order-after (x .sizes .m) (span (x .sizes)) s (diagonal-nonzero accepts);
           }
 
 -- ---- the three calls on stores
@@ -275,7 +296,7 @@ module _ (bytes : List ℕ) (rows relations : List ℤ) (rows-long : largestRows
       read-by (got x rest) e
       ∙ cond-passed (lengthsRight (equations (x .sizes)) rows relations) _ (unread 1 rows relations)
       (lengthsRight-iff (equations (x .sizes)) rows relations .1 (
-        omega (arith, equations-few (x .sizes) (size-bounds (x .sizes) (read-valid bytes x rest e .sizes))),
+        omega (arith, size-bounds (x .sizes) (read-valid bytes x rest e .sizes) .few-equations),
         relations-long,
       ))
 
@@ -329,7 +350,6 @@ module _ (bytes : List ℕ) (rows relations : List ℤ) (rows-long : largestRows
             → answerSheet bytes ≡ refusedWith (runOn readIn .result .refusal)
         go x rest e o f (Demands.accepted s) =
             absurd (h (ap (λ c. c .result .refusal) (ran-on x rest e) ∙ ran-accepted bytes x rest e rows relations s f .0))
-        go x rest e o f six = refuses x rest e 6 f
         go x rest e o f seven = refuses x rest e 7 f
         go x rest e o f eight = refuses x rest e 8 f
         go x rest e o f nine = refuses x rest e 9 f
@@ -359,7 +379,6 @@ module _ (bytes : List ℕ) (rows relations : List ℤ) (rows-long : largestRows
               ap₂ checkOn sizes (ran-on x rest e) ∙ all .2,
               λ store. ap₂ (λ z c. writeOn z c store) sizes (ran-on x rest e) ∙ all .3 store,
             )
-        go x rest e o f six = absurd (clash x rest e 5 f)
         go x rest e o f seven = absurd (clash x rest e 6 f)
         go x rest e o f eight = absurd (clash x rest e 7 f)
         go x rest e o f nine = absurd (clash x rest e 8 f)

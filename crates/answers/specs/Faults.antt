@@ -21,14 +21,15 @@ use lib.IntN.{ℤ, pos, negℤ, natAbs, _-ℤ_}
 use lib.Signed.{leZ, ltZ}
 use Rattle.algebra.specs.Polynomials.{isZeroℤ, isZero}
 use Rattle.lists.specs.Tests.{every}
-use Rattle.rules.specs.Limits.{coefficientCount, columnCount, mostRelations, blockBound, small}
+use Rattle.rules.specs.Limits.{coefficientCount, columnCount, mostEquations, mostRelations, blockBound, small}
 use Rattle.rules.specs.Stores.{Sizes, equations, span}
 use Rattle.rules.specs.Numbers.{newline, word, afterWord, beginsNumber, isNumber, numberOf, Read, got, fault, thenRead, judged, readWord}
 use Rattle.rules.specs.Numbers.{readSeparator, field}
 use Rattle.rules.specs.Numbers.{between, judgeSmall}
-use Rattle.rules.specs.Sheets.{contains, judgeLowest, judgeLast, judgeBlock, judgeColumn, judgeOrder, judgeOrderCount, judgeSide, readSide, readSides, readFifth, readRest}
+use Rattle.rules.specs.Sheets.{contains, judgeLowest, judgeLast, judgeBlock, judgeColumn, judgeOrder, judgeSide, judgeSideCount}
+use Rattle.rules.specs.Sheets.{readSide, readSides, readFifth}
 use Rattle.rules.specs.Sheets.{Sheet, parting, readSizes, readCoefficients, readTerm, readTerms, readEquation, readEquations, readRelation}
-use Rattle.rules.specs.Sheets.{readRelations, readColumns, readOrder, readEnd, readSheet}
+use Rattle.rules.specs.Sheets.{readRelations, readColumns, readOrder, readEnd, readRest, readSheet}
 
 pub data Numbered {A : Type 0} : Read A → Type 0 where
   read : (a : A) (rest : List ℕ) → Numbered (got a rest)
@@ -129,13 +130,14 @@ order-judging : (m : ℕ) (taken : List ℕ) → Judging (judgeOrder m taken)
 unfolding judgeOrder
 order-judging m taken v = one-of (leZ (pos 1) v && leZ v (pos m) && not (contains (natAbs v) taken)) fine two
 
-orderCount-judging : (m : ℕ) → Judging (judgeOrderCount m)
-unfolding judgeOrderCount
-orderCount-judging m v = one-of (isZeroℤ v || isZeroℤ (v -ℤ pos m)) fine two
-
 side-judging : (needed : Bool) → Judging (judgeSide needed)
 unfolding judgeSide
 side-judging needed v = one-of (leZ (pos 0) v && leZ v (pos coefficientCount)) (one-of (needed && isZeroℤ v) three fine) two
+
+sideCount-judging : (n : ℕ) → Judging (judgeSideCount n)
+unfolding judgeSideCount
+sideCount-judging zero v = one-of (isZeroℤ v) three two
+sideCount-judging (suc k) v = between-judging (pos (suc k)) (pos (suc k)) v
 
 -- ---- the sections
 
@@ -145,7 +147,8 @@ sizes-numbered bytes =
     then-numbered _ _ (field-numbered _ _ (between-judging (pos 3) (pos 3)) bytes) λ _ bytes₁.
     then-numbered _ _ (field-numbered _ _ (between-judging (pos 1) (pos columnCount)) bytes₁) λ m bytes₂.
     then-numbered _ _ (field-numbered _ _ (between-judging (negℤ (pos blockBound)) (pos blockBound)) bytes₂) λ l bytes₃.
-    then-numbered _ _ (field-numbered _ _ (lowest-judging l) bytes₃) λ t bytes₄. read _ _
+    then-numbered _ _ (field-numbered _ _ (lowest-judging l) bytes₃) λ t bytes₄.
+    then-numbered _ _ (field-numbered _ _ (between-judging (pos 0) (pos mostEquations)) bytes₄) λ k bytes₅. read _ _
 
 coefficients-numbered : (last k : ℕ) (bytes : List ℕ) → Numbered (readCoefficients last k bytes)
 unfolding readCoefficients
@@ -205,7 +208,8 @@ columns-numbered m (suc k) taken bytes =
 
 order-numbered : (m : ℕ) (bytes : List ℕ) → Numbered (readOrder m bytes)
 unfolding readOrder
-order-numbered m bytes = then-numbered _ _ (field-numbered _ _ (orderCount-judging m) bytes) λ k rest. columns-numbered m (natAbs k) [] rest
+order-numbered m bytes =
+    then-numbered _ _ (field-numbered _ _ (between-judging (pos 0) (pos m)) bytes) λ k rest. columns-numbered m (natAbs k) [] rest
 
 end-numbered : (sheet : Sheet) (bytes : List ℕ) → Numbered (readEnd sheet bytes)
 unfolding readEnd
@@ -229,7 +233,7 @@ fifth-numbered : (sheet : Sheet) (bytes : List ℕ) → Numbered (readFifth shee
 unfolding readFifth
 fifth-numbered sheet bytes =
     let n = length (sheet .rows) + length (sheet .relations) in
-    then-numbered _ _ (field-numbered _ _ (between-judging (pos n) (pos n)) bytes) λ _ bytes₁.
+    then-numbered _ _ (field-numbered _ _ (sideCount-judging n) bytes) λ _ bytes₁.
     then-numbered _ _ (sides-numbered (length (sheet .rows)) (length (sheet .relations)) true bytes₁) λ ps bytes₂.
     then-numbered _ _ (sides-numbered (length (sheet .relations)) 0 (every isZero ps) bytes₂) λ qs bytes₃. read _ _
 
@@ -244,9 +248,8 @@ pub sheet-numbered : (bytes : List ℕ) → Numbered (readSheet bytes)
 unfolding readSheet
 sheet-numbered bytes =
     then-numbered _ _ (sizes-numbered bytes) λ z bytes₁.
-    then-numbered _ _ (field-numbered _ _ (between-judging (pos (equations z)) (pos (equations z))) bytes₁) λ _ bytes₂.
-    then-numbered _ _ (equations-numbered z (equations z) bytes₂) λ rows bytes₃.
-    then-numbered _ _ (field-numbered _ _ (between-judging (pos 0) (pos mostRelations)) bytes₃) λ count bytes₄.
-    then-numbered _ _ (relations-numbered z (natAbs count) bytes₄) λ relations bytes₅.
-    then-numbered _ _ (order-numbered (z .m) bytes₅) λ order bytes₆.
-    rest-numbered _ bytes₆
+    then-numbered _ _ (equations-numbered z (equations z) bytes₁) λ rows bytes₂.
+    then-numbered _ _ (field-numbered _ _ (between-judging (pos 0) (pos mostRelations)) bytes₂) λ count bytes₃.
+    then-numbered _ _ (relations-numbered z (natAbs count) bytes₃) λ relations bytes₄.
+    then-numbered _ _ (order-numbered (z .m) bytes₄) λ order bytes₅.
+    rest-numbered _ bytes₅

@@ -19,32 +19,29 @@ use lib.ListN.{length, drop, replicate, length-append, length-replicate, drop-of
 use lib.Seq.{drop-at}
 use lib.IntN.{ℤ, pos}
 use Rattle.rules.specs.Limits.{rowLength, relationLength, mostRelations, mostEquations}
-use Rattle.rules.specs.Rows.{Row, Relation}
+use Rattle.rules.specs.Rows.{Relation}
 use Rattle.lists.specs.Everywhere.{All}
 use Rattle.rules.specs.Elimination.{leading, State, Outcome, done, refused, wholeRun}
 use Rattle.rules.specs.Stores.{Sizes, equations, span, rowsOf, relationsOf, relationNumbers, rowStoreOf, checkStores, Valid}
-use Rattle.rules.specs.Stores.{rowNeed, largestRows, relationNeed}
-use Rattle.rules.specs.Stores.{relationStoreOf, lengthsRight}
+use Rattle.rules.specs.Stores.{rowNeed, largestRows, relationNeed, rowStoreFor, relationStoreOf, lengthsRight}
 use Rattle.rules.specs.Layout.{StoreRelation, stores-valid, size-bounds, countRight-iff, length-rowStoreOf, length-relationStoreOf}
-use Rattle.rules.specs.Layout.{equations-few}
+use Rattle.rules.specs.Layout.{length-rowStoreFor}
 use Rattle.rules.specs.Calls.{Call, zeros, callRun, afterCheck, afterRun, acceptance, cleared, refusal}
 use Rattle.lists.specs.Overwritten.{overwrite, overwrite-paste, drop-overwrite}
 use Rattle.rules.specs.Numbers.{Read, got, fault}
 use Rattle.rules.specs.Sheets.{Sheet, readSheet}
 use Rattle.rules.specs.SheetCalls.{ReadCall, readCall, afterRead, filled, unread, readRefusal}
-use Rattle.theory.specs.Demands.{Ended, run-ends, six, seven, eight, nine, ten, output-valid}
+use Rattle.theory.specs.Demands.{Accepted, Ended, run-ends, seven, eight, nine, ten, diagonal-nonzero, rank-few, output-valid}
 use Rattle.theory.specs.Demands as Demands
 use Rattle.reading.specs.Zeros.{length-zeros, take-zeros, drop-zeros, zero-again}
 use Rattle.sheets.specs.ReadBack.{read-valid}
 
 -- ---- parts of a store
 
-past-rows : {z : Sizes} {rows : List Row} {relations : List Relation} (store : List ℤ) → Valid z rows relations
-    → drop (equations z * rowLength) (overwrite (rowStoreOf rows) store) ≡ drop (equations z * rowLength) store
+past-rows : (n : ℕ) (rows store : List ℤ) → length rows ≡ rowNeed n → drop (n * rowLength) (overwrite rows store)
+    ≡ drop (n * rowLength) store
 unfolding rowNeed
-past-rows {z} {rows} store v =
-    drop-overwrite (equations z * rowLength) (rowStoreOf rows) store
-    (le-of-eq (length-rowStoreOf rows (v .row-shapes) ∙ ap (λ m. m * rowLength) (v .row-count)))
+past-rows n rows store e = drop-overwrite (n * rowLength) rows store (le-of-eq e)
 
 -- A store whose used part is overwritten by zeros.
 zero-overwritten : (n k : ℕ) (store : List ℤ) → n ≤ k → drop n store ≡ drop n (zeros k) → overwrite (zeros n) store ≡ zeros k
@@ -120,8 +117,11 @@ module _ (bytes : List ℕ) (rows relations : List ℤ) (c : ReadCall) (e : c �
       go (fault n) f = subst Rest (sym (read-by (fault n) f)) refl
       go (got x rest) f = test (lengthsRight (equations (x .sizes)) rows relations) refl
         where
+          whole : length (rowStoreOf (x .rows)) ≡ rowNeed (equations (x .sizes))
+          whole = let v = read-valid bytes x rest f in length-rowStoreOf (x .rows) (v .row-shapes) ∙ ap rowNeed (v .row-count)
+
           test : (t : Bool) → lengthsRight (equations (x .sizes)) rows relations ≡ t → Rest c
-          test true g = subst Rest (sym (by-length x rest f true g)) (past-rows rows (read-valid bytes x rest f))
+          test true g = subst Rest (sym (by-length x rest f true g)) (past-rows _ (rowStoreOf (x .rows)) rows whole)
           test false g = subst Rest (sym (by-length x rest f false g)) refl
 
 -- ---- a run that accepted, or was refused
@@ -144,7 +144,7 @@ module _ (z : Sizes) (count : ℕ) (rows relations : List ℤ) (checked : checkS
   valid = stores-valid z count rows relations checked
 
   few-rows : equations z ≤ mostEquations
-  few-rows = equations-few z (size-bounds z (valid .sizes))
+  few-rows = size-bounds z (valid .sizes) .few-equations
 
   ran-by : (o : Outcome) → outcome ≡ o → d ≡ afterRun leading z o rows relations
   unfolding callRun afterCheck
@@ -169,7 +169,6 @@ module _ (z : Sizes) (count : ℕ) (rows relations : List ℤ) (checked : checkS
 
       go : (o : Outcome) → outcome ≡ o → Ended o → (d .rowStore ≡ zeros largestRows) × (d .relationStore ≡ zeros relationNeed)
       go o f (Demands.accepted s) = absurd (h (ap (λ d. d .result .refusal) (ran-by (done s) f)))
-      go o f six = zero 6 f
       go o f seven = zero 7 f
       go o f eight = zero 8 f
       go o f nine = zero 9 f
@@ -184,18 +183,20 @@ module _ (z : Sizes) (count : ℕ) (rows relations : List ℤ) (checked : checkS
 
       leaves : (s : State) → outcome ≡ done s → Used z (afterRun leading z (done s) rows relations)
       leaves s f =
-          let v = output-valid (record { valid = valid; accepts = f }) in
+          let accepts : Accepted leading z _ _ s = record { valid = valid; accepts = f } in
+          let v = output-valid accepts in
           let few = countRight-iff (length (s .relations)) .0 (v .relation-count) in
           record {
             few-rows = few-rows;
             few = few;
-            rows-rest = past-rows rows v ∙ rest;
+            rows-rest = past-rows (equations z) (rowStoreFor (equations z) (s .rows)) rows
+                (length-rowStoreFor (equations z) (s .rows) (rw (diagonal-nonzero accepts .row-count) (rank-few accepts)) (v .row-shapes))
+                ∙ rest;
             relations-rest = past-relations (s .relations) relations few (v .relation-shapes) long;
           }
 
       go : (o : Outcome) → outcome ≡ o → Ended o → Used z d
       go o f (Demands.accepted s) = subst (Used z) (sym (ran-by (done s) f)) (leaves s f)
-      go o f six = absurd (clash 5 f)
       go o f seven = absurd (clash 6 f)
       go o f eight = absurd (clash 7 f)
       go o f nine = absurd (clash 8 f)

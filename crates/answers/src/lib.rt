@@ -2,11 +2,13 @@
 // point.
 use stores::lengths::RELATION;
 use stores::lengths::ROW;
+use stores::validity::Sizes;
 ghost use mathlib.Core.Path.{_≡_};
 ghost use Prim.Native.Nat.{min};
-ghost use Rattle.rules.specs.Stores.{largestRows, relationNeed};
+ghost use Rattle.rules.specs.Stores.{withEquations, largestRows, relationNeed};
 ghost use Rattle.rules.specs.Calls.{zeros};
 ghost use Rattle.rules.specs.Batch.{mostBytes};
+ghost use Rattle.stores.specs.Validity.{sizesOf};
 ghost use Rattle.answers.specs.Answers.{callOf, answerCall};
 
 // The bytes of the largest sheet that answers (SCOPE 5.13).
@@ -31,6 +33,18 @@ fn lent_bytes(length: usize) -> usize
     if length < SHEET { length } else { SHEET }
 }
 
+// The sizes of what a run leaves: as many equations as its rank (SCOPE 5.14).
+fn with_equations(sizes: Sizes, equations: usize) -> Sizes
+    ensures { λ r. ⌜ sizesOf r ≡ withEquations equations (sizesOf sizes) ⌝ }
+{
+    Sizes {
+        m: sizes.m,
+        equations,
+        l: sizes.l,
+        t: sizes.t,
+    }
+}
+
 // The answer, worked out in stores of the largest sizes that are zero, and are zero again afterwards: only what was used is cleared.
 // What was read passes the checks of a run, and what a run that accepts leaves passes those of the writer, so neither checks again.
 pub fn answer_in(
@@ -53,16 +67,17 @@ pub fn answer_in(
         return no_answer(run.refusal);
     }
     let order = run.order;
+    let kept = with_equations(sizes, run.rank);
     let lent = lent_bytes(output.len());
     let written = writing::writer::write_checked(
         rows,
         relations,
-        sizes,
+        kept,
         run.relations,
         order,
         &mut output[..lent],
     );
-    stores::rows::clear(rows, 0, sizes.m * ROW);
+    stores::rows::clear(rows, 0, sizes.equations * ROW);
     stores::rows::clear(relations, 0, run.relations * RELATION);
     AnswerResult {
         refusal: written.refusal,

@@ -22,7 +22,7 @@ use Rattle.rules.specs.Sheets.{always}
 use Rattle.rules.specs.Batch.{readSize, readAfterClient, readSheetLine}
 use Rattle.tokens.specs.Fields.{between-zero}
 use Rattle.tokens.specs.Exact.{got-inj, fault-got, field-exact}
-use Rattle.frames.specs.Windows.{countOf, clientOf, sheetLine-is}
+use Rattle.tokens.specs.Windows.{countOf, clientOf, sheetLine-is}
 use Rattle.frames.specs.Pieces.{readCount, begunOf, begunBy, lineOf, lineBy, begun-got, line-got, begun-fault, line-fault}
 
 pub record Front {A : Type 0} (read : List ℕ → Read A) (bytes : List ℕ) (a : A) (rest : List ℕ) : Type 0 where

@@ -37,7 +37,7 @@ use Rattle.answers.specs.Answers.{RightAnswer, right-accepted, right-refused, a
 use Rattle.frames.specs.declared.Batch.{Batch}
 use Rattle.frames.specs.declared.Begun.{Begun}
 use Rattle.frames.specs.declared.SheetLine.{SheetLine}
-use Rattle.frames.specs.Windows.{batchLine, taken-length, sheetLine-taken}
+use Rattle.tokens.specs.Windows.{batchLine, taken-length, sheetLine-taken}
 use Rattle.frames.specs.Pieces.{begunOf, lineOf, lineBy, countedOf, tallyOf, numbered, Counted}
 use Rattle.frames.specs.Pieces.{begun-inside, line-inside, begun-got, line-got, begun-fault, line-fault}
 use Rattle.frames.specs.Pieces.{counted-left, counted-tally, counted-few, closeText, close-closing, close-broken}

@@ -25,7 +25,7 @@ use Rattle.rules.specs.Batch.{mostBytes, Answer, accepted, answerSheet, answerB
 use Rattle.tokens.specs.WrittenNumbers.{isNumber-decimal}
 use Rattle.answers.specs.Answers.{RightAnswer, right-accepted, right-refused, answer-right}
 use Rattle.frames.specs.declared.Batch.{Batch}
-use Rattle.frames.specs.Windows.{numberLine, batchLine, number-short}
+use Rattle.tokens.specs.Windows.{numberLine, batchLine, number-short}
 use Rattle.frames.specs.Pieces.{textRoom, tallyOf, closeable, closeText, Counted}
 use Rattle.frames.specs.Lines.{tally-short}
 use Rattle.batches.specs.declared.Stage.{Stage}

@@ -53,7 +53,8 @@ pub data AnswerCourse (bytes store : List ℕ) : AnswerCall → Type 0 where
       → AnswerFits (writeSheet (sheetAfter x s)) store
       → AnswerCourse bytes store (wholeAnswer (writeSheet (sheetAfter x s)) store)
 
--- The sheet x was accepted with the final state s, and the store begins with the sheet of s.
+-- The sheet x was accepted with the final state s, and the store begins with the sheet of s, which has the rank of x as its
+-- number of equations and of columns in its order (SCOPE 5.14).
 pub record AnswerHolds (bytes store : List ℕ) (a : AnswerCall) (x : Sheet) (s : State) : Type 0 where
   pub input-sheet : IsSheetOf x bytes
   pub accepted : SheetAccepted x s

@@ -4,9 +4,10 @@
 -- was lent the stores `rows` and `relations`, with the sizes z and `count` relations, and that c is its result with both stores
 -- as it left them: the function's contract, word for word. `SheetWasRead`, `SheetWasWritten`, `SheetWasAnswered`,
 -- `PieceWasGiven`, `InputWasEnded`, `BatchWasAnswered` and `ExportedRun`, `ExportedRead`, `ExportedWrite`, `ExportedBatch` say
--- so of the other calls, `DifferentialWasRead` and `RecurrenceWasWritten` of those on differential sheets. The words of the claims are in the files *Words.antt, and below those in `rules`, where the
--- scope (docs/SCOPE.md) stands as definitions. Every proof here is one citation of a file Lifted*.antt, which brings
--- the theorems of `theory`, `sheets`, `answers` and `batches` to the calls, or of a theorem of those crates itself.
+-- so of the other calls, `DifferentialWasRead` and `RecurrenceWasWritten` of those on differential sheets. The words of the claims
+-- are in the files *Words.antt, and below those in `rules`, where the scope (docs/SCOPE.md) stands as definitions. Every proof here is
+-- one citation of a file Lifted*.antt, which brings the theorems of `theory`, `sheets`, `answers` and `batches` to the calls, or of a
+-- theorem of those crates itself.
 --
 -- Demand 1 (SCOPE 2.112): whatever reaches a public entry point is worked to its end or gets a refusal number; on the
 -- way no digit is lost and no index is wrong. That part is no theorem here, but what it means that a crate is proved
@@ -14,8 +15,9 @@
 -- its indices in their stores, and to meet its contract. What is claimed here is what a refusal gives back and leaves.
 -- Demand 2 (SCOPE 2.113): the output is what the rules say, each refusal comes where they say, sheets follow the
 -- grammar, and one that was written reads back.
--- Demand 3 (SCOPE 2.114 to 2.119): an accepted system has the solutions of its input, its diagonal is nonzero, past the
--- reported root D vectors settle all that follow, refusal 6 means dependence, and what is accepted is not dependent.
+-- Demand 3 (SCOPE 2.114 to 2.122): an accepted system has the solutions of its input, its diagonal is nonzero, where its rank is m
+-- D vectors past the reported root settle all that follow, its rows are independent, and its rank is below the number of
+-- equations exactly if those are dependent. The rows of an output are as many as its rank says: `left z c` are its sizes.
 --
 -- Main statements, by demand and call
 --   1 runs:         run-number, run-refused-fields, run-refused-before, run-refused-during, run-rest-kept
@@ -27,7 +29,7 @@
 --     exports:      export-number, export-refused-before, export-refused-during, export-read-number, export-read-refused,
 --                   export-write-number, export-write-refused, export-batch-number, export-batch-missing,
 --                   export-batch-refused
---   2 runs:         run-course, run-range, run-lengths, run-numbers, run-work-refused, run-accepts, run-output,
+--   2 runs:         run-course, run-range, run-lengths, run-numbers, run-work-refused, run-accepts, run-output, run-freed,
 --                   run-relations-first, run-roots, run-roots-once, run-mirrored
 --     polynomials:  polynomial-range, polynomial-length, polynomial-accepts, polynomial-part, polynomial-sixteen
 --     sheets:       read-course, read-faults, read-lengths, read-accepts, read-output, read-writes-back, write-course,
@@ -44,7 +46,9 @@
 --                   export-write-course, export-write-range, export-write-lengths, export-write-numbers, export-write-accepts,
 --                   export-write-output, export-batch-course, export-batch-lengths, export-batch-output
 --   3 runs:         same-solutions, diagonal-nonzero, agreement-leading, agreement-trailing, no-root, no-root-zero, last-root,
---                   accepted-independent, six-dependent, ten-unsatisfied, dependent-refused, shifts-bounded, output-passes
+--                   rank-most, rank-few, rank-below, rows-independent, undropped-independent, ten-unsatisfied, shifts-bounded,
+--                   output-passes
+--     from an index: first-index-enough, first-index-kept, first-index-back
 --     differential: differential-solutions
 --     answers:      answer-solutions
 use Prim.Native.Nat.{ℕ, pred, _*_, _≤_, _<_}
@@ -87,8 +91,8 @@ use Rattle.differential.specs.Meaning.{Series, SatisfiesDifferential}
 use Rattle.exports.specs.Results.{Exported, resultNeed}
 use Rattle.exports.specs.Writes.{Written, notWritten}
 use Rattle.claims.specs.RunWords.{Ran, FoundBefore, FoundDuring, RunNumber, Rewritten, Cleared, Kept, InRange}
-use Rattle.claims.specs.RunWords.{Course, LongEnough, Passed, ruled, GivesBack, Solves, AgreeBetween, AgreeFrom}
-use Rattle.claims.specs.RunWords.{AgreeDown, AgreeUpTo, Triangular, NoRoot, LastRoot, PastRoot}
+use Rattle.claims.specs.RunWords.{Course, LongEnough, Passed, ruled, GivesBack, left, Freed, Solves, SolvesFrom}
+use Rattle.claims.specs.RunWords.{AgreeBetween, AgreeFrom, AgreeDown, AgreeUpTo, Triangular, NoRoot, LastRoot, PastRoot}
 use Rattle.claims.specs.SheetWords.{WriteNumber, SheetWasRead, SheetWasWritten, IsSheetOf, HoldsSheet, ReadsBack}
 use Rattle.claims.specs.SheetWords.{ReadCourse, WriteCourse, WriteRange, WriteShort, sheetBytes, PlaceInside}
 use Rattle.claims.specs.SheetWords.{WriteReady}
@@ -101,7 +105,8 @@ use Rattle.claims.specs.AnswerWords.{SheetAccepted}
 use Rattle.claims.specs.BatchWords.{PieceWasGiven, StreamInRange, StoreHolds, HeldWaits, StreamRight, PieceNumber}
 use Rattle.claims.specs.BatchWords.{PieceCourse, NextTooLong, InputWasEnded, BatchWasAnswered, lastText, noRoom}
 use Rattle.claims.specs.BatchWords.{TextCourse}
-use Rattle.claims.specs.DifferentialWords.{DifferentialWasRead, RecurrenceWasWritten, IsDifferential, DifferentialCourse, RecurrenceCourse}
+use Rattle.claims.specs.DifferentialWords.{DifferentialWasRead, RecurrenceWasWritten, IsDifferential, DifferentialCourse}
+use Rattle.claims.specs.DifferentialWords.{RecurrenceCourse}
 use Rattle.claims.specs.LiftedRuns as Runs
 use Rattle.claims.specs.LiftedSheets as Sheets
 use Rattle.claims.specs.LiftedDifferentials as Differentials
@@ -116,7 +121,7 @@ module _ {side : Side} {z : Sizes} {count : ℕ} {rows relations : List ℤ} {c 
     (ran : Ran side z count rows relations c) where
   -- ---- demand 1
 
-  -- A run returns 0, 1, 2, 5, or a number from 6 to 10.
+  -- A run returns 0, 1, 2, 5, or a number from 7 to 10.
   pub run-number : RunNumber (c .result .refusal)
   run-number = Runs.number-of ran
 
@@ -156,7 +161,7 @@ module _ {side : Side} {z : Sizes} {count : ℕ} {rows relations : List ℤ} {c 
       ↔ (InRange z count × LongEnough z rows relations × (¬ NumbersRight z count rows relations))
   run-numbers = Runs.five-exactly ran
 
-  -- 6, 7, 8 or 9 exactly if the checks pass and the run of the rules refuses with that number (SCOPE 6.6 to 6.9).
+  -- 7, 8, 9 or 10 exactly if the checks pass and the run of the rules refuses with that number (SCOPE 6.7 to 6.10).
   pub run-work-refused : (n : ℕ) → FoundDuring n
       → (c .result .refusal ≡ n) ↔ (Passed z count rows relations × (ruled side z count rows relations ≡ refused n))
   run-work-refused = Runs.during-exactly ran
@@ -166,11 +171,15 @@ module _ {side : Side} {z : Sizes} {count : ℕ} {rows relations : List ℤ} {c 
       ↔ (Passed z count rows relations × ((s : State) × (ruled side z count rows relations ≡ done s)))
   run-accepts = Runs.accepted-exactly ran
 
-  -- The rows, relations, column order, shift count and root report are those of the rules' final state, and what is
+  -- The rows, relations, column order, shift count, root report and rank are those of the rules' final state, and what is
   -- past the needed part of a store stays (SCOPE 3.21, 3.22).
   pub run-output : c .result .refusal ≡ 0
       → (s : State) × (ruled side z count rows relations ≡ done s) × GivesBack side z s rows relations c
   run-output e = let (s, a) = Runs.accepted ran e in (s, a .accepts, a .given)
+
+  -- The rows that are left come first in the row store; behind them its needed part is zero (SCOPE 3.14).
+  pub run-freed : c .result .refusal ≡ 0 → Freed (rowNeed (equations z)) (rowNeed (c .result .rank)) (c .rowStore)
+  run-freed = Runs.freed ran
 
   -- The lent relations stay first, in their order (SCOPE 2.3). Behind them the relations that one multiplier adds stand
   -- together, by strictly ascending n0, on either side as given back (SCOPE 2.33).
@@ -181,32 +190,23 @@ module _ {side : Side} {z : Sizes} {count : ℕ} {rows relations : List ℤ} {c 
 
   -- ---- demand 3
 
-  -- Refusal 6: a nonzero combination of shifted equations of the lent system vanishes (SCOPE 2.119).
-  pub six-dependent : c .result .refusal ≡ 6 → Dependent (z .l) (rowsOf (equations z) rows)
-  six-dependent = Runs.dependent-six ran
-
   -- A system that is refused with 10 is satisfied by no sequence (SCOPE 2.121).
   pub ten-unsatisfied : c .result .refusal ≡ 10 → (y : Sequence) → Solves z count rows relations y → ⊥
   ten-unsatisfied = Runs.unsatisfied-ten ran
 
-  -- A dependent system that passes the checks is refused during the work: as dependent, or because it meets a limit
-  -- first (SCOPE 2.103).
-  pub dependent-refused : Passed z count rows relations → Dependent (z .l) (rowsOf (equations z) rows) → FoundDuring (c .result .refusal)
-  dependent-refused = Runs.dependent-refused ran
-
   module _ (accepted : c .result .refusal ≡ 0) where
     -- The same sequences satisfy the system that was lent and the one that was given back (SCOPE 2.114).
     pub same-solutions : (y : Sequence)
-        → Solves z count rows relations y ↔ Solves z (c .result .relations) (c .rowStore) (c .relationStore) y
+        → Solves z count rows relations y ↔ Solves (left z c) (c .result .relations) (c .rowStore) (c .relationStore) y
     same-solutions = Runs.sequences ran accepted
 
-    -- The reported order is a permutation of the columns that makes block l, or block t, triangular, with nonzero
-    -- diagonal polynomials (SCOPE 2.71, 2.73, 2.115).
-    pub diagonal-nonzero : Triangular side z c
+    -- In the reported order, of different columns, block l, or block t, is triangular, with nonzero diagonal polynomials; where the
+    -- rank is m it is an order of all columns (SCOPE 2.71, 2.73, 2.115).
+    pub diagonal-nonzero : Triangular side (left z c) c
     diagonal-nonzero = Runs.triangular ran accepted
 
     -- No root is reported exactly if no diagonal polynomial has an integer root (SCOPE 2.81),
-    pub no-root : (c .result .hasRoot ≡ false) ↔ NoRoot side z c
+    pub no-root : (c .result .hasRoot ≡ false) ↔ NoRoot side (left z c) c
     no-root = Runs.root-no ran accepted
 
     -- and then the root is 0 (SCOPE 2.82).
@@ -215,39 +215,75 @@ module _ {side : Side} {z : Sizes} {count : ℕ} {rows relations : List ℤ} {c 
 
     -- A root that is reported is the largest integer root of all diagonal polynomials, on the trailing side the
     -- smallest (SCOPE 2.81, 2.93).
-    pub last-root : c .result .hasRoot ≡ true → LastRoot side z c (c .result .root)
+    pub last-root : c .result .hasRoot ≡ true → LastRoot side (left z c) c (c .result .root)
     last-root = Runs.root-yes ran accepted
 
-    -- An accepted system is not dependent (SCOPE 2.118).
-    pub accepted-independent : ¬ Dependent (z .l) (rowsOf (equations z) rows)
-    accepted-independent = Runs.independent ran accepted
+    -- The rank is at most the number of unknowns, and at most that of the lent equations (SCOPE 2.13).
+    pub rank-most : c .result .rank ≤ z .m
+    rank-most = Runs.most-unknowns ran accepted
 
-    -- There are at most m × D shifts (SCOPE 2.65).
+    pub rank-few : c .result .rank ≤ equations z
+    rank-few = Runs.most-equations ran accepted
+
+    -- It is below that number exactly if a nonzero combination of shifted lent equations vanishes: so it is where a row was dropped
+    -- (SCOPE 2.119, 2.122), and a run that is refused later has dropped one only there too, by `dropped-dependent` of
+    -- crates/theory/specs/Demands.antt.
+    pub rank-below : (c .result .rank < equations z) ↔ Dependent (z .l) (rowsOf (equations z) rows)
+    rank-below = Runs.below-dependent ran accepted
+
+    -- The rows that are left are independent, and so are the lent ones where none was dropped (SCOPE 2.118).
+    pub rows-independent : ¬ Dependent (z .l) (rowsOf (c .result .rank) (c .rowStore))
+    rows-independent = Runs.kept-independent ran accepted
+
+    pub undropped-independent : c .result .rank ≡ equations z → ¬ Dependent (z .l) (rowsOf (equations z) rows)
+    undropped-independent = Runs.undropped-independent ran accepted
+
+    -- There are at most D shifts for each lent equation (SCOPE 2.65).
     pub shifts-bounded : c .result .shifts ≤ equations z * span z
     shifts-bounded = Runs.shifts-few ran accepted
 
-    -- What was given back passes the checks of the next call: every number within ±C, every degree at most 15, unused
-    -- positions zero (SCOPE 9.27).
-    pub output-passes : Passed z (c .result .relations) (c .rowStore) (c .relationStore)
+    -- What was given back, with the rank as its number of equations, passes the checks of the next call: every number within ±C,
+    -- every degree at most 15, unused positions zero (SCOPE 9.27).
+    pub output-passes : Passed (left z c) (c .result .relations) (c .rowStore) (c .relationStore)
     output-passes = Runs.output-passes ran accepted
 
--- Two solutions that agree on D successive vectors past the reported root agree ever after (SCOPE 2.116, 2.117): on the
--- leading side upwards,
+-- Where the rank is m, two solutions that agree on D successive vectors past the reported root agree ever after (SCOPE 2.116,
+-- 2.117): on the leading side upwards,
 pub agreement-leading : {z : Sizes} {count : ℕ} {rows relations : List ℤ} {c : Call} → Ran leading z count rows relations c
-    → c .result .refusal ≡ 0 → (y w : Sequence) → Solves z count rows relations y → Solves z count rows relations w → (n : ℤ)
+    → c .result .refusal ≡ 0 → c .result .rank ≡ z .m
+    → (y w : Sequence) → Solves z count rows relations y → Solves z count rows relations w → (n : ℤ)
     → PastRoot leading (c .result) n → AgreeBetween z y w (n +ℤ z .t) (n +ℤ z .l) → AgreeFrom z y w (n +ℤ z .t)
 agreement-leading = Runs.agrees-leading
 
 -- on the trailing side downwards.
 pub agreement-trailing : {z : Sizes} {count : ℕ} {rows relations : List ℤ} {c : Call} → Ran trailing z count rows relations c
-    → c .result .refusal ≡ 0 → (y w : Sequence) → Solves z count rows relations y → Solves z count rows relations w → (n : ℤ)
+    → c .result .refusal ≡ 0 → c .result .rank ≡ z .m
+    → (y w : Sequence) → Solves z count rows relations y → Solves z count rows relations w → (n : ℤ)
     → PastRoot trailing (c .result) n → AgreeDown z y w (n +ℤ z .t) (n +ℤ z .l) → AgreeUpTo z y w (n +ℤ z .l)
 agreement-trailing = Runs.agrees-trailing
+
+-- Sequences with a first index, on the leading side. Equations at every n ≥ k and relations with n0 ≥ k use nothing below the index
+-- k + t, so that a two-sided sequence serves for a series that begins there.
+pub first-index-enough : {z : Sizes} {count : ℕ} {rows relations : List ℤ} → Passed z count rows relations → (k : ℤ) (y w : Sequence)
+    → AgreeFrom z y w (k +ℤ z .t) → SolvesFrom z k k count rows relations y → SolvesFrom z k k count rows relations w
+first-index-enough = Runs.from-unused
+
+module _ {z : Sizes} {count : ℕ} {rows relations : List ℤ} {c : Call} (ran : Ran leading z count rows relations c)
+    (accepted : c .result .refusal ≡ 0) (k : ℤ) (y : Sequence) where
+  -- What satisfies the lent equations at every n ≥ k and the lent relations with n0 ≥ k does so with those that were given back.
+  pub first-index-kept : SolvesFrom z k k count rows relations y
+      → SolvesFrom (left z c) k k (c .result .relations) (c .rowStore) (c .relationStore) y
+  first-index-kept = Runs.from-kept ran accepted k y
+
+  -- What satisfies these satisfies the lent equations at every n ≥ k + S, with S the shift count, and the lent relations with n0 ≥ k.
+  pub first-index-back : SolvesFrom (left z c) k k (c .result .relations) (c .rowStore) (c .relationStore) y
+      → SolvesFrom z (k +ℤ pos (c .result .shifts)) k count rows relations y
+  first-index-back = Runs.from-back ran accepted k y
 
 -- ---- demand 2, of the rules themselves
 --
 -- The rules are `step` and `run` of crates/rules/specs/Elimination.antt. A step has no memory of j: that it is the loop
--- over j is `next-row-later` and `zero-row-refused` of crates/theory/specs/Demands.antt (SCOPE 2.26). The order among
+-- over j is `next-row-later` and `zero-row-dropped` of crates/theory/specs/Demands.antt (SCOPE 2.26). The order among
 -- the roots of one g is ours (SCOPE 2.33).
 
 -- The roots that are listed for g are its integer roots (SCOPE 2.31),
@@ -445,8 +481,8 @@ module _ {sheet bytes : List ℕ} {w : WriteCall} (was-written : RecurrenceWasWr
 -- ==== the answer to one sheet: `batches::answer`
 
 module _ {bytes store : List ℕ} {a : AnswerCall} (was-answered : SheetWasAnswered bytes store a) where
-  -- An answer is 0 or a refusal from 1 to 10;
-  pub answer-number : (a .refusal ≡ 0) ⊎ ((1 ≤ a .refusal) × (a .refusal ≤ 10))
+  -- An answer is 0 or a refusal from 1 to 5 or from 7 to 10;
+  pub answer-number : (a .refusal ≡ 0) ⊎ (FoundBefore (a .refusal) ⊎ FoundDuring (a .refusal))
   answer-number = Answers.answer-number was-answered
 
   -- with a refusal the length is 0, and the lent store is as it was: no byte of it was needed (SCOPE 5.31).
@@ -461,7 +497,7 @@ module _ {bytes store : List ℕ} {a : AnswerCall} (was-answered : SheetWasAnswe
   pub answer-faults : (n : ℕ) → 2 ≤ n → n ≤ 5 → (a .refusal ≡ n) ↔ (readSheet bytes ≡ fault n)
   answer-faults = Answers.answer-fault was-answered
 
-  -- 6, 7, 8 or 9 exactly if the leading run of the rules refuses the sheet with that number,
+  -- 7, 8, 9 or 10 exactly if the leading run of the rules refuses the sheet with that number,
   pub answer-work-refused : (n : ℕ) → FoundDuring n
       → (a .refusal ≡ n) ↔ ((x : Sheet) × IsSheetOf x bytes × (sheetRun x ≡ refused n))
   answer-work-refused = Answers.answer-during was-answered
@@ -627,7 +663,7 @@ batch-sums = tally-sums
 -- ==== the exported calls: `wurgalm_run_leading`, `wurgalm_run_trailing`, `wurgalm_read_sheet`, `wurgalm_write_sheet`,
 -- `wurgalm_batch`
 --
--- They return the refusal, and the other fields of the result are numbers of one more lent store, `result`: eight for a
+-- They return the refusal, and the other fields of the result are numbers of one more lent store, `result`: nine for a
 -- run and for a sheet that is read, one, the length, for a sheet that is written (SCOPE 3.51, 3.52) and for a batch.
 
 module _ {side : Side} {z : Sizes} {count : ℕ} {rows relations result : List ℤ} {e : Exported}
@@ -669,7 +705,7 @@ module _ {side : Side} {z : Sizes} {count : ℕ} {rows relations result : List �
       → (e .refusal ≡ n) ↔ ((c .result .refusal ≡ n) × (resultNeed ≤ length result))
   export-work = Exports.export-as-run exported
 
-  -- With 0 the stores are those of the run, and the result's store begins with the eight numbers of SCOPE 3.52.
+  -- With 0 the stores are those of the run, and the result's store begins with the nine numbers of SCOPE 3.52.
   pub export-output : e .refusal ≡ 0 → (c : Call) × ExportGives side z count rows relations result c e
   export-output = Exports.export-accepted exported
 
@@ -699,7 +735,7 @@ module _ {bytes : List ℕ} {rows relations result : List ℤ} {e : Exported}
   pub export-read-accepts : (e .refusal ≡ 0) ↔ ((x : Sheet) × IsSheetOf x bytes × ExportLong (x .sizes) rows relations result)
   export-read-accepts = Exports.export-read-accepts exported
 
-  -- Then the stores are those of the call that reads a sheet, and the result's store begins with the eight numbers of its
+  -- Then the stores are those of the call that reads a sheet, and the result's store begins with the nine numbers of its
   -- result.
   pub export-read-output : e .refusal ≡ 0 → (c : ReadCall) × ExportReadGives bytes rows relations result c e
   export-read-output = Exports.export-read-accepted exported

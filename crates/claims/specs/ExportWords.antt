@@ -37,7 +37,7 @@ use Rattle.claims.specs.BatchWords.{BatchWasAnswered}
 pub record ExportedRun (side : Side) (z : Sizes) (count : ℕ) (rows relations result : List ℤ) (e : Exported) : Type 0 where
   pub called : e ≡ exportRun side z count rows relations result
 
--- The store of the result is one of the lent stores: eight numbers (SCOPE 3.52, 3.53).
+-- The store of the result is one of the lent stores: nine numbers (SCOPE 3.52, 3.53).
 abbrev pub ExportLong : Sizes → List ℤ → List ℤ → List ℤ → Type 0
 ExportLong z rows relations result = LongEnough z rows relations × (resultNeed ≤ length result)
 

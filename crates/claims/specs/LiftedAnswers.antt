@@ -14,18 +14,17 @@ use mathlib.Core.List.{List}
 use lib.Dec.{T, leb, leb→le, le→leb}
 use lib.ListN.{length}
 use Rattle.rules.specs.Elimination.{leading, State, Outcome, done, refused, wholeRun}
-use Rattle.rules.specs.Stores.{equations, span}
-use Rattle.theory.specs.Settled.{as-many}
+use Rattle.rules.specs.Stores.{span, withEquations}
 use Rattle.rules.specs.Numbers.{Read, got, fault}
 use Rattle.rules.specs.Sheets.{Sheet, readSheet, writeSheet}
 use Rattle.rules.specs.Batch.{mostBytes, sized, answerRun, answerRead, answerSheet}
 use Rattle.rules.specs.Batch as Batch
-use Rattle.theory.specs.Demands.{Ended, six, seven, eight, nine, ten, run-ends, output-valid, diagonal-nonzero}
+use Rattle.theory.specs.Demands.{Ended, seven, eight, nine, ten, run-ends, output-valid, diagonal-nonzero}
 use Rattle.theory.specs.Demands as Demands
 use Rattle.sheets.specs.ReadBack.{SheetRight, read-right}
 use Rattle.answers.specs.Answers.{AnswerCall, answerCall, answered, unanswered, sheetAfter, order-after}
 use Rattle.answers.specs.Faults.{Numbered, read, numbered, sheet-numbered}
-use Rattle.claims.specs.RunWords.{FoundDuring}
+use Rattle.claims.specs.RunWords.{FoundBefore, FoundDuring}
 use Rattle.claims.specs.SheetWords.{IsSheetOf}
 use Rattle.claims.specs.AnswerWords.{SheetWasAnswered, AnswerFits, sheetRun, SheetAccepted, AnswerHolds}
 use Rattle.claims.specs.AnswerWords.{wholeAnswer}
@@ -82,7 +81,6 @@ answer-course {bytes} {store} call =
     by-run x h o e (Demands.accepted s) =
         subst (λ a. AnswerCourse bytes store (answered a store)) (sym (run-done x s))
         (written x h s (record { valid = h .0 .valid; accepts = e }))
-    by-run x h o e six = stopped x h 6 (omega arith, omega arith) e
     by-run x h o e seven = stopped x h 7 (omega arith, omega arith) e
     by-run x h o e eight = stopped x h 8 (omega arith, omega arith) e
     by-run x h o e nine = stopped x h 9 (omega arith, omega arith) e
@@ -97,12 +95,9 @@ answer-course {bytes} {store} call =
 -- ---- the call as it is called
 
 after-right : (x : Sheet) (s : State) → SheetAccepted x s → SheetRight (sheetAfter x s)
+unfolding withEquations
 after-right x s a =
-    record {
-      valid = output-valid a;
-      order-right = order-after (equations (x .sizes)) (x .sizes .m) (span (x .sizes)) s
-          (as-many (x .sizes)) (diagonal-nonzero a);
-    }
+    record { valid = output-valid a; order-right = order-after (x .sizes .m) (span (x .sizes)) s (diagonal-nonzero a) }
 
 -- The run of a sheet ends in one way.
 sheet-end : {x y : Sheet} {bytes : List ℕ} {o u : Outcome} → IsSheetOf x bytes → IsSheetOf y bytes → sheetRun x ≡ o
@@ -122,11 +117,12 @@ same-answer {x} {y} {s} {u} h k a b =
     same-state e = cc
 
 module _ {bytes store : List ℕ} where
-  number-course : {a : AnswerCall} → AnswerCourse bytes store a → (a .refusal ≡ 0) ⊎ ((1 ≤ a .refusal) × (a .refusal ≤ 10))
+  number-course : {a : AnswerCall} → AnswerCourse bytes store a
+      → (a .refusal ≡ 0) ⊎ (FoundBefore (a .refusal) ⊎ FoundDuring (a .refusal))
   unfolding unanswered
-  number-course (sheet-fault n h e) = inr (omega arith, omega arith)
-  number-course (work-refused x h n f e) = inr (omega arith, f .1)
-  number-course (answer-long x h s a f) = inr (omega arith, omega arith)
+  number-course (sheet-fault n h e) = inr (inl (omega arith, h .1))
+  number-course (work-refused x h n f e) = inr (inr f)
+  number-course (answer-long x h s a f) = inr (inl (omega arith, omega arith))
   number-course (answer-written x h s a f) = inl refl
 
   refused-course : {a : AnswerCall} → AnswerCourse bytes store a → a .refusal ≢ 0 → a ≡ unanswered (a .refusal) store
@@ -187,7 +183,7 @@ module _ {bytes store : List ℕ} where
       ((λ i. g, λ i. refl), (λ i. absurd (omega arith), λ i. absurd (i g)))
 
 module _ {bytes store : List ℕ} {a : AnswerCall} (call : SheetWasAnswered bytes store a) where
-  pub answer-number : (a .refusal ≡ 0) ⊎ ((1 ≤ a .refusal) × (a .refusal ≤ 10))
+  pub answer-number : (a .refusal ≡ 0) ⊎ (FoundBefore (a .refusal) ⊎ FoundDuring (a .refusal))
   answer-number = number-course (answer-course call)
 
   pub answer-refused : a .refusal ≢ 0 → a ≡ unanswered (a .refusal) store

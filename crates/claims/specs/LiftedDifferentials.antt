@@ -16,9 +16,9 @@ use lib.ListN.{length}
 use lib.IntN.{ℤ, pos, natAbs}
 use lib.Signed.{leZ}
 use Rattle.algebra.specs.Polynomials.{isZeroℤ}
-use Rattle.rules.specs.Limits.{columnCount}
-use Rattle.rules.specs.Numbers.{Read, got, fault, thenRead, field, between, newline}
-use Rattle.rules.specs.Sheets.{readSheet, writeSheet, always, parting}
+use Rattle.rules.specs.Limits.{columnCount, mostEquations}
+use Rattle.rules.specs.Numbers.{Read, got, fault, thenRead, newline}
+use Rattle.rules.specs.Sheets.{readSheet, writeSheet, parting}
 use Rattle.rules.specs.Stores.{equations, lengthsRight, rowsOf, relationsOf, checkStores, Valid}
 use Rattle.rules.specs.Sequences.{Sequence, Satisfies}
 use Rattle.lists.specs.Overwritten.{overwrite}
@@ -26,18 +26,20 @@ use Rattle.rules.specs.SheetCalls.{ReadCall, WriteCall, readRefusal, unread, fi
 use Rattle.rules.specs.Layout.{lengthsRight-iff, valid-stores}
 use Rattle.tokens.specs.Exact.{got-inj, fault-got}
 use Rattle.sheets.specs.ReadBack.{SheetRight}
-use Rattle.answers.specs.Faults.{Numbered, read, numbered, Judging, fine, one-of, two, three, five, then-numbered, field-numbered, between-judging}
+use Rattle.answers.specs.Faults.{Numbered, read, numbered, Judging, fine, one-of, two, three, five, then-numbered, field-numbered}
+use Rattle.answers.specs.Faults.{between-judging}
 use Rattle.differential.specs.Differential.{DifferentialTerm, DifferentialSheet, mostDerivative, mostPower, factorBound}
 use Rattle.differential.specs.Recurrence.{recurrenceOf}
-use Rattle.differential.specs.Grammar.{Extent, readDifferential, readExtent, judgeOrdered, judgeFactor, readTerm, readTerms, readEquation, readEquations}
-use Rattle.differential.specs.Grammar.{readEnd, sheetOf, noTerm, mostOf, sizesFor, firstPower, firstColumn}
+use Rattle.differential.specs.Grammar.{Extent, readDifferential, readExtent, judgeOrdered, judgeFactor, readTerm, readTerms}
+use Rattle.differential.specs.Grammar.{readEquation, readEquations, readEnd, sheetOf, noTerm, mostOf, firstPower, firstColumn}
 use Rattle.differential.specs.Meaning.{Series, SatisfiesDifferential}
 use Rattle.differential.specs.Accepted.{no-order, accepted-valid, accepted-solutions, accepted-read-back}
 use Rattle.differential.specs.Calls.{readRecurrence, readDifferentialCall, writeRead, writeRecurrenceCall}
 use Rattle.claims.specs.RunWords.{FoundBefore, LongEnough}
 use Rattle.claims.specs.SheetWords.{HoldsSheet, wholeSheet}
 use Rattle.claims.specs.LiftedSheets.{filled-holds}
-use Rattle.claims.specs.DifferentialWords.{DifferentialWasRead, RecurrenceWasWritten, IsDifferential, DifferentialCourse, RecurrenceCourse}
+use Rattle.claims.specs.DifferentialWords.{DifferentialWasRead, RecurrenceWasWritten, IsDifferential, DifferentialCourse}
+use Rattle.claims.specs.DifferentialWords.{RecurrenceCourse}
 use Rattle.claims.specs.DifferentialWords.{no-differential, no-store, recurrence-read, nothing-to-write, no-bytes, recurrence-written}
 
 -- ---- the numbers of the faults
@@ -57,7 +59,8 @@ extent-numbered bytes =
     then-numbered _ _ (field-numbered _ _ (between-judging (pos 3) (pos 3)) bytes) λ _ bytes₁.
     then-numbered _ _ (field-numbered _ _ (between-judging (pos 1) (pos columnCount)) bytes₁) λ _ bytes₂.
     then-numbered _ _ (field-numbered _ _ (between-judging (pos 0) (pos mostDerivative)) bytes₂) λ _ bytes₃.
-    then-numbered _ _ (field-numbered _ _ (between-judging (pos 0) (pos mostPower)) bytes₃) λ _ bytes₄. read _ _
+    then-numbered _ _ (field-numbered _ _ (between-judging (pos 0) (pos mostPower)) bytes₃) λ _ bytes₄.
+    then-numbered _ _ (field-numbered _ _ (between-judging (pos 0) (pos mostEquations)) bytes₄) λ _ bytes₅. read _ _
 
 term-numbered : (x : Extent) (before : DifferentialTerm) (last : ℕ) (bytes : List ℕ) → Numbered (readTerm x before last bytes)
 unfolding readTerm
@@ -97,8 +100,7 @@ pub differential-numbered : (bytes : List ℕ) → Numbered (readDifferential by
 unfolding readDifferential
 differential-numbered bytes =
     then-numbered _ _ (extent-numbered bytes) λ x bytes₁.
-    then-numbered _ _ (field-numbered _ _ (between-judging (pos (equations (sizesFor x))) (pos (equations (sizesFor x)))) bytes₁) λ _ bytes₂.
-    then-numbered _ _ (equations-numbered x (equations (sizesFor x)) bytes₂) λ es bytes₃. end-numbered (sheetOf x es) bytes₃
+    then-numbered _ _ (equations-numbered x (x .equations) bytes₁) λ es bytes₂. end-numbered (sheetOf x es) bytes₂
 
 -- ---- a differential sheet that is read leaves no byte
 
@@ -121,8 +123,7 @@ read-whole : (bytes : List ℕ) → Whole (readDifferential bytes)
 unfolding readDifferential
 read-whole bytes =
     then-whole (readExtent bytes) _ λ x bytes₁.
-    then-whole (field (between (pos (equations (sizesFor x))) (pos (equations (sizesFor x)))) (always newline) bytes₁) _ λ _ bytes₂.
-    then-whole (readEquations x (equations (sizesFor x)) bytes₂) _ λ es bytes₃. end-whole (sheetOf x es) bytes₃
+    then-whole (readEquations x (x .equations) bytes₁) _ λ es bytes₂. end-whole (sheetOf x es) bytes₂
 
 -- ---- reading
 
@@ -217,14 +218,15 @@ module _ {bytes : List ℕ} {rows relations : List ℤ} {c : ReadCall} (r : Diff
         (relationsOf (c .result .relations) (c .relationStore)) y) (sym (h .sizes))
         (subst (λ rs. SatisfiesDifferential d y ↔ Satisfies (recurrenceOf d .sizes .l) rs
         (relationsOf (c .result .relations) (c .relationStore)) y) (sym (h .rows-held))
-        (subst (λ es. SatisfiesDifferential d y ↔ Satisfies (recurrenceOf d .sizes .l) (recurrenceOf d .rows) es y) (sym (h .relations-held))
-        meaning))
+        (subst (λ es. SatisfiesDifferential d y ↔ Satisfies (recurrenceOf d .sizes .l) (recurrenceOf d .rows) es y)
+        (sym (h .relations-held)) meaning))
 
     -- No check of a run or of the writer refuses what was read.
     pub read-passes : checkStores (c .result .sizes) (c .result .relations) (c .rowStore) (c .relationStore) ≡ 0
     unfolding filled overwrite
     read-passes =
-        subst (λ (x : ReadCall). checkStores (x .result .sizes) (x .result .relations) (x .rowStore) (x .relationStore) ≡ 0) (sym (whole .0))
+        subst (λ (x : ReadCall). checkStores (x .result .sizes) (x .result .relations) (x .rowStore) (x .relationStore) ≡ 0)
+        (sym (whole .0))
         (valid-stores (recurrenceOf d .sizes) (recurrenceOf d .rows) (recurrenceOf d .relations) _ _ valid)
 
 -- ---- writing

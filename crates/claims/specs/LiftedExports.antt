@@ -57,9 +57,9 @@ long-iff z rows relations result = (
   λ h. T-&& (lengthsRight (equations z) rows relations) _ .1 (lengthsRight-iff (equations z) rows relations .1 (h .0), le→leb _ _ (h .1)),
 )
 
-eight : (r : Result) → length (r .order) ≡ columnCount → length (runNumbers r) ≡ resultNeed
+nine : (r : Result) → length (r .order) ≡ columnCount → length (runNumbers r) ≡ resultNeed
 unfolding runNumbers
-eight r h = simp (length-append, length-map) (omega arith)
+nine r h = simp (length-append, length-map) (omega arith)
 
 module _ {side : Side} {z : Sizes} {count : ℕ} {rows relations result : List ℤ} where
   pub export-course : {e : Exported} → ExportedRun side z count rows relations result e
@@ -125,7 +125,7 @@ module _ {side : Side} {z : Sizes} {count : ℕ} {rows relations result : List �
       same-rows = refl;
       same-relations = refl;
       numbers = overwrite-rewritten (runNumbers (c .result)) result
-          (eight (c .result) (run-small side z count rows relations (r .called) .four)) l;
+          (nine (c .result) (run-small side z count rows relations (r .called) .four)) l;
     },
   )
 
@@ -211,9 +211,9 @@ module _ {side : Side} {z : Sizes} {count : ℕ} {rows relations result : List �
 
 -- ---- reading a sheet
 
-eight-read : (r : ReadResult) → length (r .order) ≡ columnCount → length (readNumbers r) ≡ resultNeed
+nine-read : (r : ReadResult) → length (r .order) ≡ columnCount → length (readNumbers r) ≡ resultNeed
 unfolding readNumbers
-eight-read r h = simp length-map (omega arith)
+nine-read r h = simp (length-append, length-map) (omega arith)
 
 -- Stores that hold nothing are too short for any sheet.
 nothing-short : (z : Sizes) → ¬ LongEnough z [] []
@@ -267,7 +267,7 @@ module _ {bytes : List ℕ} {rows relations result : List ℤ} where
       numbers = subst (Rewritten resultNeed (readNumbers (c .result)) result)
           (onAcceptance-some (c .result .refusal) (readNumbers (c .result)) result h)
           (overwrite-rewritten (readNumbers (c .result)) result
-          (eight-read (c .result) (read-small bytes rows relations (r .called) .four)) l);
+          (nine-read (c .result) (read-small bytes rows relations (r .called) .four)) l);
     },
   )
 

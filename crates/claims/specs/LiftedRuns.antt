@@ -12,56 +12,60 @@
 --   number-of, fields-zero, stores-kept, stores-cleared, rest-kept   what a refused call gives back and leaves
 --   two-exactly, one-exactly, five-exactly, during-exactly, accepted-exactly, begun   where each number comes
 --   accepted                   a call without a refusal has accepted, and gives back the final state of the rules
---   sequences, triangular, independent, shifts-few, relations-first, output-passes   what such a call has done
+--   sequences, triangular, shifts-few, relations-first, output-passes, freed   what such a call has done
+--   below-dependent, kept-independent, undropped-independent, most-unknowns, most-equations   what its rank says
 --   root-no, root-none, root-yes   the root report, by result and store
 --   agrees-leading, agrees-trailing   agreement past the root of the result
---   dependent-six, unsatisfied-ten, dependent-refused   refusals 6 and 10, and dependent systems
+--   from-unused, from-kept, from-back   sequences with a first index
+--   unsatisfied-ten            refusal 10
 --   state-accepted, state-triangular, state-report-no, state-report-value, state-report-yes, state-past   the same, from
 --                                the state
-use Prim.Native.Nat.{ℕ, suc, pred, _+_, _*_, _≤_, _<_}
+use Prim.Native.Nat.{ℕ, suc, pred, _+_, _*_, _-_, _≤_, _<_}
 use native.Mathlib.Nat.{le-trans}
 use native.Mathlib.Omega.{arith}
 use mathlib.Core.Path.{_≡_, refl, sym, _∙_, ap, ap₂, subst, subst₂}
 use mathlib.Core.Logic.{_↔_, _≢_, _⊎_, inl, inr, ⊎-elim}
 use mathlib.Core.Bool.{Bool, true, false, _&&_, not, cond}
 use mathlib.Core.Option.{Option, none, some}
-use mathlib.Core.List.{List, [], _++_, map, map-append, List·Memᴰ}
+use mathlib.Core.List.{List, [], _++_, map, append-assoc, List·Memᴰ}
 use lib.Dec.{T, le→leb, T-not}
-use lib.ListN.{length, drop, getD, length-append, length-drop, length-replicate, length-map, take-append-drop}
+use lib.ListN.{length, take, drop, replicate, getD, length-append, length-drop, length-replicate, length-map, take-append-drop}
 use lib.Seq.{take-at, drop-at}
 use lib.IntN.{ℤ, pos, natAbs, _+ℤ_, _-ℤ_, +ℤ-invr}
 use lib.Signed.{_≤ℤ_, _<ℤ_, ≤ℤ-refl}
 use Rattle.algebra.specs.Polynomials.{Polynomial, eval, isZero}
 use Rattle.lists.specs.Tests.{T-&&}
-use Rattle.rules.specs.Limits.{columnCount}
+use Rattle.rules.specs.Limits.{columnCount, rowLength}
 use Rattle.rules.specs.Rows.{Row, Relation, noRow, mirrorRelation}
 use Rattle.lists.specs.Everywhere.{All, all-mono}
 use Rattle.lists.specs.Images.{getD-map}
 use Rattle.rules.specs.Elimination.{start, wholeRun, mirrorState}
-use Rattle.rules.specs.Elimination.{Side, leading, trailing, State, Outcome, done, refused, report, diagonal, diagonalPlace}
-use Rattle.rules.specs.Stores.{Sizes, equations, span, rowsOf, relationsOf, rowNeed, relationNeed, rowStoreOf, relationStoreOf, checkStores}
+use Rattle.rules.specs.Elimination.{Side, leading, trailing, State, Outcome, done, refused, rank, report, diagonal, diagonalPlace}
+use Rattle.rules.specs.Stores.{Sizes, equations, withEquations, span, rowsOf, relationsOf, rowNeed, relationNeed, rowStoreOf, rowStoreFor}
+use Rattle.rules.specs.Stores.{relationStoreOf, checkStores}
 use Rattle.rules.specs.Stores.{sizesRight, countRight, lengthsRight, numbersRight, Valid}
 use Rattle.rules.specs.Sequences.{Sequence, Satisfies, Dependent}
-use Rattle.rules.specs.Layout.{SizeBounds, NumbersRight, size-bounds, equations-few, bounds-right, countRight-iff, lengthsRight-iff}
+use Rattle.rules.specs.Layout.{SizeBounds, NumbersRight, size-bounds, bounds-right, countRight-iff, lengthsRight-iff}
 use Rattle.rules.specs.Layout.{numbersRight-iff}
 use Rattle.rules.specs.Layout.{checkStores-order, checkStores-zero, stores-valid, valid-stores, length-rowStoreOf}
 use Rattle.rules.specs.Layout.{length-relationStoreOf}
-use Rattle.rules.specs.Layout.{rowsOf-rowStoreOf, relationsOf-relationStoreOf, polynomialCheck-zero, polynomialPart-at}
+use Rattle.rules.specs.Layout.{rowsOf-rowStoreFor, length-rowStoreFor, relationsOf-relationStoreOf, polynomialCheck-zero, polynomialPart-at}
 use Rattle.rules.specs.Calls.{Result, Call, callRun, afterCheck, afterRun, acceptance, unchanged, cleared, refusal}
 use Rattle.rules.specs.Calls.{zeros}
 use Rattle.lists.specs.Overwritten.{overwrite}
 use Rattle.rules.specs.Calls.{placeRight, reportedOrder, rootFound, rootValue}
-use Rattle.theory.specs.Settled.{as-many, Diagonal, pivotEntry, settled-leading, settled-trailing}
-use Rattle.theory.specs.Demands.{Accepted, Ended, six, seven, eight, nine, ten, run-ends, output-valid, diagonal-nonzero}
+use Rattle.theory.specs.Settled.{Diagonal, pivotEntry, diagonal-most}
+use Rattle.theory.specs.Demands.{Accepted, Ended, seven, eight, nine, ten, run-ends, output-valid, diagonal-nonzero}
 use Rattle.theory.specs.Demands.{report-no, report-root, relations-listed}
 use Rattle.theory.specs.ListedOrder.{Listed}
-use Rattle.theory.specs.Demands.{same-sequences, accepted-independent, shifts-bounded, refused-dependent, refused-inconsistent}
-use Rattle.theory.specs.Demands.{agreement-leading, agreement-trailing}
+use Rattle.theory.specs.Demands.{same-sequences, rank-most, rank-few, rank-below, rows-independent, shifts-bounded, refused-inconsistent}
+use Rattle.theory.specs.Demands.{agreement-leading, agreement-trailing, first-index, forward-from, backward-from}
+use Rattle.theory.specs.FirstIndex.{SatisfiesFrom}
 use Rattle.theory.specs.Report.{Past, Rootless, FurthestRoot, diagonalEntry, diagonal-member, diagonal-index}
 use Rattle.theory.specs.Demands as Demands
 use Rattle.lists.specs.Padded.{getD-padTo}
 use Rattle.claims.specs.RunWords.{Ran, RunNumber, FoundBefore, FoundDuring, Rewritten, Cleared, InRange, LongEnough}
-use Rattle.claims.specs.RunWords.{Passed, ruled, GivesBack, Course, Kept}
+use Rattle.claims.specs.RunWords.{Passed, ruled, GivesBack, Course, Kept, left, Freed, SolvesFrom}
 use Rattle.claims.specs.RunWords.{Solves, IsRow, IsColumn, edge, columnOf, entryOf, diagonalOf, Triangular, NoRoot, LastRoot}
 use Rattle.claims.specs.RunWords.{PastRoot}
 use Rattle.claims.specs.RunWords.{AgreeBetween, AgreeFrom, AgreeDown, AgreeUpTo}
@@ -155,7 +159,6 @@ course {side} {z} {count} {rows} {relations} ran =
     worked : Passed z count rows relations → (o : Outcome) → ruled side z count rows relations ≡ o → Ended o
         → Course side z count rows relations (afterRun side z o rows relations)
     worked p o e (Demands.accepted s) = run-accepted p s e
-    worked p o e six = run-refused p 6 (omega arith, omega arith) e
     worked p o e seven = run-refused p 7 (omega arith, omega arith) e
     worked p o e eight = run-refused p 8 (omega arith, omega arith) e
     worked p o e nine = run-refused p 9 (omega arith, omega arith) e
@@ -178,8 +181,9 @@ module _ {side : Side} {z : Sizes} {count : ℕ} {rows relations : List ℤ} whe
   unfolding afterRun acceptance overwrite
   gives-back p s e =
       record {
-        row-store = overwrite-rewritten (rowStoreOf (s .rows)) rows
-            (length-rowStoreOf (s .rows) (v .row-shapes) ∙ ap rowNeed (v .row-count)) (p .lengths .0);
+        row-store = overwrite-rewritten (rowStoreFor (equations z) (s .rows)) rows
+            (length-rowStoreFor (equations z) (s .rows) (subst (λ n. n ≤ equations z) (sym count-kept) (rank-few a)) (v .row-shapes))
+            (p .lengths .0);
         relation-store = overwrite-rewritten (relationStoreOf (s .relations)) relations
             (length-relationStoreOf (s .relations) (countRight-iff (length (s .relations)) .0 (v .relation-count))
             (v .relation-shapes))
@@ -191,13 +195,22 @@ module _ {side : Side} {z : Sizes} {count : ℕ} {rows relations : List ℤ} whe
         column-order = refl;
         root-found = refl;
         root-value = refl;
+        row-count = refl;
       }
     where
-      v : Valid z (s .rows) (s .relations)
-      v = output-valid (record { valid = passed-valid p; accepts = e })
+      a : Accepted side z (rowsOf (equations z) rows) (relationsOf count relations) s
+      a = record { valid = passed-valid p; accepts = e }
 
-      rows-held : rowsOf (equations z) (overwrite (rowStoreOf (s .rows)) rows) ≡ s .rows
-      rows-held = rowsOf-rowStoreOf (equations z) (s .rows) _ (v .row-count) (v .row-shapes)
+      v : Valid (withEquations (rank s) z) (s .rows) (s .relations)
+      v = output-valid a
+
+      count-kept : length (s .rows) ≡ rank s
+      count-kept = diagonal-nonzero a .row-count
+
+      rows-held : rowsOf (rank s) (overwrite (rowStoreFor (equations z) (s .rows)) rows) ≡ s .rows
+      rows-held =
+          ap (λ n. rowsOf n (overwrite (rowStoreFor (equations z) (s .rows)) rows)) (sym count-kept)
+          ∙ rowsOf-rowStoreFor (equations z) (s .rows) _ (v .row-shapes)
 
       relations-held : relationsOf (length (s .relations)) (overwrite (relationStoreOf (s .relations)) relations) ≡ s .relations
       relations-held = relationsOf-relationStoreOf (s .relations) _ (v .relation-shapes)
@@ -382,114 +395,131 @@ module _ {side : Side} {z : Sizes} {count : ℕ} {rows relations : List ℤ} {c 
   pub state-accepted : Accepted side z (rowsOf (equations z) rows) (relationsOf count relations) s
   state-accepted = record { valid = passed-valid (a .passed); accepts = a .accepts }
 
-  diagonals : Diagonal side (equations z) (z .m) (span z) s
-  diagonals = diagonal-nonzero state-accepted
+  -- What is left, with the rank as its number of equations.
+  out-bounds : SizeBounds (left z c)
+  out-bounds =
+      size-bounds (left z c)
+      (subst (λ n. T (sizesRight (withEquations n z))) (sym (a .given .row-count)) (output-valid state-accepted .sizes))
 
-  entry-is : (row column : ℕ) → IsRow z row → IsColumn z column
-      → entryOf side z c row column ≡ pivotEntry side (span z) s (pred row) (pred column)
+  diagonals : Diagonal side (equations (left z c)) (left z c .m) (span (left z c)) s
+  unfolding equations withEquations span
+  diagonals = subst (λ n. Diagonal side n (z .m) (span z) s) (sym (a .given .row-count)) (diagonal-nonzero state-accepted)
+
+  out-rows : rowsOf (equations (left z c)) (c .rowStore) ≡ s .rows
+  unfolding equations withEquations
+  out-rows = a .given .rows-held
+
+  out-fits : rowNeed (equations (left z c)) ≤ length (c .rowStore)
+  unfolding equations withEquations rowNeed
+  out-fits =
+      omega (arith, a .given .row-count, rank-few state-accepted, a .given .row-store .same-length, a .passed .lengths .0)
+
+  entry-is : (row column : ℕ) → IsRow (left z c) row → IsColumn (left z c) column
+      → entryOf side (left z c) c row column ≡ pivotEntry side (span (left z c)) s (pred row) (pred column)
   entry-is row column h k =
-      polynomialPart-at (c .rowStore) z row (edge side z) column
-      (polynomialCheck-zero (c .rowStore) z row (edge side z) column .1 (
-        bounds-right z bounds,
-        place-right z row (edge side z) column h (edge-inside side z bounds .0) (edge-inside side z bounds .1) k,
-        subst (λ n. rowNeed (equations z) ≤ n) (sym (a .given .row-store .same-length)) (a .passed .lengths .0),
+      polynomialPart-at (c .rowStore) (left z c) row (edge side (left z c)) column
+      (polynomialCheck-zero (c .rowStore) (left z c) row (edge side (left z c)) column .1 (
+        bounds-right (left z c) out-bounds,
+        place-right (left z c) row (edge side (left z c)) column h (edge-inside side (left z c) out-bounds .0)
+            (edge-inside side (left z c) out-bounds .1) k,
+        out-fits,
       ))
-      ∙ ap₂ (λ r d. getD (getD (getD r (pred row) noRow .blocks) d []) (pred column) []) (a .given .rows-held) (edge-place side z)
-    where
-      bounds : SizeBounds z
-      bounds = a .passed .range .0
+      ∙ ap₂ (λ r d. getD (getD (getD r (pred row) noRow .blocks) d []) (pred column) []) out-rows (edge-place side (left z c))
 
-  column-is : (row : ℕ) → IsRow z row → columnOf c row ≡ suc (getD (s .order) (pred row) 0)
+  column-is : (row : ℕ) → IsRow (left z c) row → columnOf c row ≡ suc (getD (s .order) (pred row) 0)
   unfolding reportedOrder
   column-is row h =
       ap (λ l. getD l (pred row) 0) (a .given .column-order)
       ∙ getD-padTo columnCount 0 0 (map suc (s .order)) (pred row) (rw length-map within)
-      (le-trans below (equations-few z (a .passed .range .0)))
+      (le-trans below (le-trans (diagonal-most diagonals) (out-bounds .few)))
       ∙ getD-map suc (s .order) (pred row) 0 0 within
     where
-      below : pred row < equations z
+      below : pred row < equations (left z c)
       below = omega arith
 
       within : pred row < length (s .order)
       within = subst (λ n. pred row < n) (sym (diagonals .order-count)) below
 
-  column-inside : (row : ℕ) → IsRow z row → IsColumn z (columnOf c row)
+  column-inside : (row : ℕ) → IsRow (left z c) row → IsColumn (left z c) (columnOf c row)
   column-inside row h =
-      subst (IsColumn z) (sym (column-is row h)) (omega arith, diagonals .column-below (pred row) (omega arith))
+      subst (IsColumn (left z c)) (sym (column-is row h)) (omega arith, diagonals .column-below (pred row) (omega arith))
 
-  diagonal-is : (row : ℕ) → IsRow z row → diagonalOf side z c row ≡ diagonalEntry side (span z) s (pred row)
+  diagonal-is : (row : ℕ) → IsRow (left z c) row
+      → diagonalOf side (left z c) c row ≡ diagonalEntry side (span (left z c)) s (pred row)
   diagonal-is row h =
       entry-is row (columnOf c row) h (column-inside row h)
-      ∙ ap (λ n. pivotEntry side (span z) s (pred row) (pred n)) (column-is row h)
+      ∙ ap (λ n. pivotEntry side (span (left z c)) s (pred row) (pred n)) (column-is row h)
 
-  pub state-triangular : Triangular side z c
+  pub state-triangular : Triangular side (left z c) c
   state-triangular =
       record {
         column-inside = column-inside;
         column-once = once;
-        every-column = λ column h.
-            let (j, inside, e) = diagonals .every-column (as-many z) (pred column) (omega arith) in
-            let row : IsRow z (suc j) = (omega arith, subst (λ n. j < n) (sym (as-many z)) inside) in
+        every-column = λ square column h.
+            let (j, inside, e) = diagonals .every-column square (pred column) (omega arith) in
+            let row : IsRow (left z c) (suc j) = (omega arith, subst (λ n. j < n) (sym square) inside) in
             (suc j, row, column-is (suc j) row ∙ ap suc e ∙ omega arith);
         zero-before = before;
         diagonal-nonzero = λ row h. subst (λ p. T (not (isZero p))) (sym (diagonal-is row h))
             (diagonals .nonzero (pred row) (omega arith));
       }
     where
-      before : (row other : ℕ) → IsRow z row → IsRow z other → other < row
-          → T (isZero (entryOf side z c row (columnOf c other)))
+      before : (row other : ℕ) → IsRow (left z c) row → IsRow (left z c) other → other < row
+          → T (isZero (entryOf side (left z c) c row (columnOf c other)))
       before row other h k less =
           subst (λ p. T (isZero p))
           (sym
           (entry-is row (columnOf c other) h (column-inside other k)
-          ∙ ap (λ n. pivotEntry side (span z) s (pred row) (pred n)) (column-is other k)))
+          ∙ ap (λ n. pivotEntry side (span (left z c)) s (pred row) (pred n)) (column-is other k)))
           (diagonals .zero-before (pred row) (pred other) (omega arith) (omega arith))
 
       -- An entry is not zero and nonzero at once.
-      apart : (row other : ℕ) → IsRow z row → IsRow z other → columnOf c row ≡ columnOf c other → ¬ (other < row)
+      apart : (row other : ℕ) → IsRow (left z c) row → IsRow (left z c) other → columnOf c row ≡ columnOf c other → ¬ (other < row)
       apart row other h k e less =
-          T-not (isZero (diagonalOf side z c row))
+          T-not (isZero (diagonalOf side (left z c) c row))
           (subst (λ p. T (not (isZero p))) (sym (diagonal-is row h)) (diagonals .nonzero (pred row) (omega arith)))
-          (subst (λ n. T (isZero (entryOf side z c row n))) (sym e) (before row other h k less))
+          (subst (λ n. T (isZero (entryOf side (left z c) c row n))) (sym e) (before row other h k less))
 
-      once : (row other : ℕ) → IsRow z row → IsRow z other → columnOf c row ≡ columnOf c other → row ≡ other
+      once : (row other : ℕ) → IsRow (left z c) row → IsRow (left z c) other → columnOf c row ≡ columnOf c other → row ≡ other
       once row other h k e = ≮-antisym (apart other row k h (sym e)) (apart row other h k e)
 
   -- ---- the root report by result and store
 
-  rows-inside : {j : ℕ} → j < length (s .rows) → IsRow z (suc j)
+  rows-inside : {j : ℕ} → j < length (s .rows) → IsRow (left z c) (suc j)
   rows-inside {j} h = (omega arith, subst (λ n. j < n) (diagonals .row-count) h)
 
-  inside-rows : {row : ℕ} → IsRow z row → pred row < length (s .rows)
+  inside-rows : {row : ℕ} → IsRow (left z c) row → pred row < length (s .rows)
   inside-rows {row} h = subst (λ n. pred row < n) (sym (diagonals .row-count)) (omega arith)
 
-  inside-order : {row : ℕ} → IsRow z row → pred row < length (s .order)
+  inside-order : {row : ℕ} → IsRow (left z c) row → pred row < length (s .order)
   inside-order {row} h = subst (λ n. pred row < n) (sym (diagonals .order-count)) (omega arith)
 
-  among : (row : ℕ) → IsRow z row → List·Memᴰ (diagonalOf side z c row) (diagonal side (span z) s)
+  among : (row : ℕ) → IsRow (left z c) row → List·Memᴰ (diagonalOf side (left z c) c row) (diagonal side (span (left z c)) s)
   among row h =
-      subst (λ p. List·Memᴰ p (diagonal side (span z) s)) (sym (diagonal-is row h))
-      (diagonal-member side (span z) s (pred row) (inside-rows h) (inside-order h))
+      subst (λ p. List·Memᴰ p (diagonal side (span (left z c)) s)) (sym (diagonal-is row h))
+      (diagonal-member side (span (left z c)) s (pred row) (inside-rows h) (inside-order h))
 
-  row-of : {p : Polynomial} → List·Memᴰ p (diagonal side (span z) s) → (row : ℕ) × IsRow z row × (p ≡ diagonalOf side z c row)
+  row-of : {p : Polynomial} → List·Memᴰ p (diagonal side (span (left z c)) s)
+      → (row : ℕ) × IsRow (left z c) row × (p ≡ diagonalOf side (left z c) c row)
   row-of m =
-      let (j, k, o, e) = diagonal-index side (span z) s m in
+      let (j, k, o, e) = diagonal-index side (span (left z c)) s m in
       (suc j, rows-inside k, e ∙ sym (diagonal-is (suc j) (rows-inside k)))
 
-  rootless-iff : Rootless (diagonal side (span z) s) ↔ NoRoot side z c
+  rootless-iff : Rootless (diagonal side (span (left z c)) s) ↔ NoRoot side (left z c) c
   rootless-iff = (
-    λ h row i n. h (diagonalOf side z c row) (among row i) n,
+    λ h row i n. h (diagonalOf side (left z c) c row) (among row i) n,
     λ h p m n e. let (row, i, same) = row-of m in h row i n (ap (λ q. eval q n) (sym same) ∙ e),
   )
 
-  furthest-last : {r : ℤ} → FurthestRoot side (diagonal side (span z) s) r → LastRoot side z c r
+  furthest-last : {r : ℤ} → FurthestRoot side (diagonal side (span (left z c)) s) r → LastRoot side (left z c) c r
   furthest-last {r} f =
       record {
         attained = let (p, m, e) = f .attained in let (row, i, same) = row-of m in (row, i, ap (λ q. eval q r) (sym same) ∙ e);
-        furthest = λ row i n e. f .furthest (diagonalOf side z c row) (among row i) n e;
+        furthest = λ row i n e. f .furthest (diagonalOf side (left z c) c row) (among row i) n e;
       }
 
-  pub state-report-no : (c .result .hasRoot ≡ false) ↔ NoRoot side z c
+  pub state-report-no : (c .result .hasRoot ≡ false) ↔ NoRoot side (left z c) c
+  unfolding withEquations span
   state-report-no = (
     λ e. rootless-iff .0 (report-no state-accepted .0 (found-none _ .0 (sym (a .given .root-found) ∙ e))),
     λ h. a .given .root-found ∙ found-none _ .1 (report-no state-accepted .1 (rootless-iff .1 h)),
@@ -498,9 +528,10 @@ module _ {side : Side} {z : Sizes} {count : ℕ} {rows relations : List ℤ} {c 
   pub state-report-value : c .result .hasRoot ≡ false → c .result .root ≡ pos 0
   state-report-value e = a .given .root-value ∙ none-value _ (sym (a .given .root-found) ∙ e)
 
-  pub state-report-yes : c .result .hasRoot ≡ true → LastRoot side z c (c .result .root)
+  pub state-report-yes : c .result .hasRoot ≡ true → LastRoot side (left z c) c (c .result .root)
+  unfolding withEquations span
   state-report-yes e =
-      subst (LastRoot side z c) (sym (a .given .root-value))
+      subst (LastRoot side (left z c) c) (sym (a .given .root-value))
       (furthest-last (report-root state-accepted (found-some _ (sym (a .given .root-found) ∙ e))))
 
   pub state-past : (n : ℤ) → PastRoot side (c .result) n → Past side (report side (span z) s) n
@@ -550,11 +581,6 @@ module _ {side : Side} {z : Sizes} {count : ℕ} {rows relations : List ℤ} {c 
       ↔ (Passed z count rows relations × ((s : State) × (ruled side z count rows relations ≡ done s)))
   accepted-exactly = accepted-course (course ran)
 
-  pub dependent-six : Number c ≡ 6 → Dependent (z .l) (rowsOf (equations z) rows)
-  dependent-six e =
-      let h = during-exactly 6 (omega arith, omega arith) .0 e in
-      refused-dependent side (passed-valid (h .0)) (h .1)
-
   pub unsatisfied-ten : Number c ≡ 10 → (y : Sequence) → Solves z count rows relations y → ⊥
   unsatisfied-ten e =
       let h = during-exactly 10 (omega arith, omega arith) .0 e in
@@ -570,18 +596,55 @@ module _ {side : Side} {z : Sizes} {count : ℕ} {rows relations : List ℤ} {c 
     accepted = accepted-as (course ran) e
 
     pub sequences : (y : Sequence)
-        → Solves z count rows relations y ↔ Solves z (c .result .relations) (c .rowStore) (c .relationStore) y
+        → Solves z count rows relations y ↔ Solves (left z c) (c .result .relations) (c .rowStore) (c .relationStore) y
+    unfolding equations withEquations
     sequences y =
         let (s, a) = accepted in
         subst₂ (λ r l. Solves z count rows relations y
         ↔ Satisfies (z .l) r l y) (sym (a .given .rows-held)) (sym (a .given .relations-held))
         (same-sequences (state-accepted a) y)
 
-    pub triangular : Triangular side z c
+    pub triangular : Triangular side (left z c) c
     triangular = let (s, a) = accepted in state-triangular a
 
-    pub independent : ¬ Dependent (z .l) (rowsOf (equations z) rows)
-    independent = let (s, a) = accepted in accepted-independent (state-accepted a)
+    pub most-unknowns : c .result .rank ≤ z .m
+    most-unknowns = let (s, a) = accepted in subst (λ n. n ≤ z .m) (sym (a .given .row-count)) (rank-most (state-accepted a))
+
+    pub most-equations : c .result .rank ≤ equations z
+    most-equations = let (s, a) = accepted in subst (λ n. n ≤ equations z) (sym (a .given .row-count)) (rank-few (state-accepted a))
+
+    pub below-dependent : (c .result .rank < equations z) ↔ Dependent (z .l) (rowsOf (equations z) rows)
+    below-dependent =
+        let (s, a) = accepted in
+        subst (λ n. (n < equations z) ↔ Dependent (z .l) (rowsOf (equations z) rows)) (sym (a .given .row-count))
+        (rank-below (state-accepted a))
+
+    pub kept-independent : ¬ Dependent (z .l) (rowsOf (c .result .rank) (c .rowStore))
+    kept-independent =
+        let (s, a) = accepted in
+        subst (λ r. ¬ Dependent (z .l) r) (sym (a .given .rows-held)) (rows-independent (state-accepted a))
+
+    pub undropped-independent : c .result .rank ≡ equations z → ¬ Dependent (z .l) (rowsOf (equations z) rows)
+    undropped-independent same d = omega (arith, same, below-dependent .1 d)
+
+    -- The places behind the rows that are left hold 0.
+    pub freed : Freed (rowNeed (equations z)) (rowNeed (c .result .rank)) (c .rowStore)
+    unfolding rowStoreFor rowNeed zeros
+    freed =
+        let (s, a) = accepted in
+        let kept : ℕ = rowNeed (c .result .rank) in
+        let gone : ℕ = (equations z - length (s .rows)) * rowLength in
+        let rest : List ℤ = drop (rowNeed (equations z)) rows in
+        let count-kept : length (s .rows) ≡ c .result .rank = diagonal-nonzero (state-accepted a) .row-count ∙ sym (a .given .row-count) in
+        let shapes = output-valid (state-accepted a) .row-shapes in
+        let stored : drop kept (c .rowStore) ≡ replicate gone (pos 0) ++ rest =
+        ap (drop kept)
+        (rewritten-is (a .given .row-store) ∙ append-assoc (rowStoreOf (s .rows)) (replicate gone (pos 0)) rest)
+        ∙ drop-at (rowStoreOf (s .rows)) _ kept (length-rowStoreOf (s .rows) shapes ∙ ap rowNeed count-kept) in
+        let many : gone ≡ rowNeed (equations z) - kept = omega (arith, count-kept) in
+        ap (take (rowNeed (equations z) - kept)) stored
+        ∙ take-at (replicate gone (pos 0)) _ (rowNeed (equations z) - kept) (length-replicate gone (pos 0) ∙ many)
+        ∙ ap (λ n. replicate n (pos 0)) many
 
     pub shifts-few : c .result .shifts ≤ equations z * span z
     shifts-few =
@@ -595,43 +658,63 @@ module _ {side : Side} {z : Sizes} {count : ℕ} {rows relations : List ℤ} {c 
         let (more, same, groups) = relations-listed (state-accepted a) in
         (more, a .given .relations-held ∙ same, groups)
 
-    pub root-no : (c .result .hasRoot ≡ false) ↔ NoRoot side z c
+    pub root-no : (c .result .hasRoot ≡ false) ↔ NoRoot side (left z c) c
     root-no = let (s, a) = accepted in state-report-no a
 
     pub root-none : c .result .hasRoot ≡ false → c .result .root ≡ pos 0
     root-none = let (s, a) = accepted in state-report-value a
 
-    pub root-yes : c .result .hasRoot ≡ true → LastRoot side z c (c .result .root)
+    pub root-yes : c .result .hasRoot ≡ true → LastRoot side (left z c) c (c .result .root)
     root-yes = let (s, a) = accepted in state-report-yes a
 
     -- What was left passes the checks of a call.
-    pub output-passes : Passed z (c .result .relations) (c .rowStore) (c .relationStore)
+    pub output-passes : Passed (left z c) (c .result .relations) (c .rowStore) (c .relationStore)
+    unfolding rowStoreFor
     output-passes =
         let (s, a) = accepted in
         zero-passed
-        (ap (λ n. checkStores z n (c .rowStore) (c .relationStore)) (a .given .relation-count)
-        ∙ ap₂ (checkStores z (length (s .relations))) (rewritten-is (a .given .row-store))
-        (rewritten-is (a .given .relation-store))
-        ∙ valid-stores z (s .rows) (s .relations) _ _ (output-valid (state-accepted a)))
+        (ap₂ (λ k n. checkStores (withEquations k z) n (c .rowStore) (c .relationStore)) (a .given .row-count) (a .given .relation-count)
+        ∙ ap₂ (checkStores (withEquations (rank s) z) (length (s .relations)))
+        (rewritten-is (a .given .row-store) ∙ append-assoc (rowStoreOf (s .rows)) _ _) (rewritten-is (a .given .relation-store))
+        ∙ valid-stores (withEquations (rank s) z) (s .rows) (s .relations) _ _ (output-valid (state-accepted a)))
 
--- A dependent system is refused during the work, if the checks pass (SCOPE 2.103).
-pub dependent-refused : {side : Side} {z : Sizes} {count : ℕ} {rows relations : List ℤ} {c : Call}
-    → Ran side z count rows relations c
-    → Passed z count rows relations → Dependent (z .l) (rowsOf (equations z) rows) → FoundDuring (Number c)
-dependent-refused r p d = ⊎-elim (λ e. absurd (independent r e d)) (λ h. h) (begun r p)
-
--- Solutions that agree on D successive vectors past the reported root agree ever after (SCOPE 2.116, 2.117).
+-- Where the rank is m, solutions that agree on D successive vectors past the reported root agree ever after (SCOPE 2.116, 2.117).
 module _ {z : Sizes} {count : ℕ} {rows relations : List ℤ} {c : Call} where
-  pub agrees-leading : Ran leading z count rows relations c → Number c ≡ 0
+  pub agrees-leading : Ran leading z count rows relations c → Number c ≡ 0 → c .result .rank ≡ z .m
       → (y w : Sequence) → Solves z count rows relations y → Solves z count rows relations w
       → (n : ℤ) → PastRoot leading (c .result) n → AgreeBetween z y w (n +ℤ z .t) (n +ℤ z .l) → AgreeFrom z y w (n +ℤ z .t)
-  agrees-leading ran e y w hy hw n past =
+  agrees-leading ran e full y w hy hw n past =
       let (s, a) = accepted ran e in
-      agreement-leading (state-accepted a) y w hy hw n (state-past a n past)
+      agreement-leading (state-accepted a) (sym (a .given .row-count) ∙ full) y w hy hw n (state-past a n past)
 
-  pub agrees-trailing : Ran trailing z count rows relations c → Number c ≡ 0
+  pub agrees-trailing : Ran trailing z count rows relations c → Number c ≡ 0 → c .result .rank ≡ z .m
       → (y w : Sequence) → Solves z count rows relations y → Solves z count rows relations w
       → (n : ℤ) → PastRoot trailing (c .result) n → AgreeDown z y w (n +ℤ z .t) (n +ℤ z .l) → AgreeUpTo z y w (n +ℤ z .l)
-  agrees-trailing ran e y w hy hw n past =
+  agrees-trailing ran e full y w hy hw n past =
       let (s, a) = accepted ran e in
-      agreement-trailing (state-accepted a) y w hy hw n (state-past a n past)
+      agreement-trailing (state-accepted a) (sym (a .given .row-count) ∙ full) y w hy hw n (state-past a n past)
+
+-- Sequences with a first index: nothing below the index k + t is used.
+pub from-unused : {z : Sizes} {count : ℕ} {rows relations : List ℤ} → Passed z count rows relations → (k : ℤ) (y w : Sequence)
+    → AgreeFrom z y w (k +ℤ z .t) → SolvesFrom z k k count rows relations y → SolvesFrom z k k count rows relations w
+from-unused p = first-index (passed-valid p)
+
+-- What is satisfied from an index on, before the run and after it.
+module _ {z : Sizes} {count : ℕ} {rows relations : List ℤ} {c : Call} (ran : Ran leading z count rows relations c) (e : Number c ≡ 0)
+    (k : ℤ) (y : Sequence) where
+  pub from-kept : SolvesFrom z k k count rows relations y
+      → SolvesFrom (left z c) k k (c .result .relations) (c .rowStore) (c .relationStore) y
+  unfolding equations withEquations
+  from-kept h =
+      let (s, a) = accepted ran e in
+      subst₂ (λ r l. SatisfiesFrom (z .l) k k r l y) (sym (a .given .rows-held)) (sym (a .given .relations-held))
+      (forward-from (state-accepted a) k y h)
+
+  pub from-back : SolvesFrom (left z c) k k (c .result .relations) (c .rowStore) (c .relationStore) y
+      → SolvesFrom z (k +ℤ pos (c .result .shifts)) k count rows relations y
+  unfolding equations withEquations
+  from-back h =
+      let (s, a) = accepted ran e in
+      subst (λ n. SolvesFrom z (k +ℤ pos n) k count rows relations y) (sym (a .given .shift-count))
+      (backward-from (state-accepted a) k y
+      (subst₂ (λ r l. SatisfiesFrom (z .l) k k r l y) (a .given .rows-held) (a .given .relations-held) h))

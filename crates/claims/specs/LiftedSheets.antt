@@ -10,16 +10,16 @@
 use Prim.Native.Nat.{ℕ, zero, suc, pred, _≤_, _<_}
 use native.Mathlib.Nat.{le-trans}
 use native.Mathlib.Omega.{arith}
-use mathlib.Core.Path.{_≡_, refl, sym, _∙_, ap, subst}
+use mathlib.Core.Path.{_≡_, refl, sym, _∙_, ap, ap₂, subst}
 use mathlib.Core.Logic.{_↔_, _≢_, _⊎_, inl, inr}
-use mathlib.Core.Bool.{Bool, true, false, _&&_, _||_, not, cond}
+use mathlib.Core.Bool.{Bool, true, false, _&&_, not, cond}
 use mathlib.Core.List.{List, []}
-use lib.Dec.{T, leb, leb→le, le→leb, nleb→lt, eqb}
-use lib.ListN.{length, take, drop, getD}
+use lib.Dec.{T, leb, leb→le, le→leb, nleb→lt}
+use lib.ListN.{length, take, getD}
 use lib.IntN.{ℤ, pos, negsuc, natAbs, _-ℤ_}
 use lib.Signed.{_≤ℤ_}
 use Rattle.algebra.specs.Order.{≤ℤ-difference}
-use Rattle.lists.specs.Tests.{T-&&, cond-passed, every}
+use Rattle.lists.specs.Tests.{T-&&, cond-passed}
 use Rattle.rules.specs.Limits.{columnCount, coefficientCount}
 use Rattle.rules.specs.Rows.{Block, Row, noRow}
 use Rattle.lists.specs.Everywhere.{All, all-getD}
@@ -32,14 +32,14 @@ use Rattle.rules.specs.Layout.{length-relationsOf}
 use Rattle.rules.specs.Layout.{SizeBounds, size-bounds, bounds-right, place-bounds, polynomialPart-at, block-place}
 use Rattle.rules.specs.Layout.{length-rowsOf, StoreRow-rowsOf}
 use Rattle.rules.specs.Calls.{placeRight, polynomialCheck, polynomialPart, polynomialPlace, partAt}
-use Rattle.lists.specs.Padded.{padTo, pad-zeros, pad-taken}
+use Rattle.lists.specs.Padded.{padTo, pad-taken}
 use Rattle.lists.specs.Overwritten.{overwrite}
 use Rattle.rules.specs.Numbers.{Read, got, fault}
 use Rattle.rules.specs.Sheets.{Sheet, readSheet}
 use Rattle.rules.specs.SheetCalls.{ReadCall, readCall, afterRead, unread, filled, readRefusal, WriteCall, writeCall}
 use Rattle.rules.specs.SheetCalls.{afterWriteCheck}
 use Rattle.rules.specs.SheetCalls.{written, unwritten, sheetOf, orderRight, orderGiven, differentColumns}
-use Rattle.writing.specs.WriterChecks.{checkWrite-order}
+use Rattle.writing.specs.WriterChecks.{checkWrite-order, given-first}
 use Rattle.tokens.specs.Exact.{got-inj, fault-got}
 use Rattle.sheets.specs.ReadBack.{SheetRight, read-right, read-exactly}
 use Rattle.sheets.specs.CallsReadBack.{order-given, read-write-call}
@@ -282,16 +282,11 @@ module _ {z : Sizes} {count : ℕ} {order : List ℕ} {rows relations : List ℤ
 
 -- The order that is written for an argument of four numbers, with zeros up to four, is the argument.
 given-padded : (m : ℕ) (order : List ℕ) → length order ≡ columnCount → T (orderRight m order)
-    → padTo columnCount 0 (orderGiven m order) ≡ order
-unfolding orderRight orderGiven
+    → padTo columnCount 0 (orderGiven order) ≡ order
+unfolding orderRight
 given-padded m order four h =
-    ap (λ n. padTo n 0 (orderGiven m order)) (sym four) ∙ go (every (eqb 0) order) (λ t. t) h
-  where
-    go : (t : Bool) → (T t → T (every (eqb 0) order))
-        → T (t || (differentColumns m (take m order) && every (eqb 0) (drop m order)))
-        → padTo (length order) 0 (cond t [] (take m order)) ≡ order
-    go true f h = pad-zeros order (f tt)
-    go false f h = pad-taken m order (T-&& (differentColumns m (take m order)) _ .0 h .1)
+    ap₂ (λ n l. padTo n 0 l) (sym four) (sym (given-first order))
+    ∙ pad-taken (length (orderGiven order)) order (T-&& (differentColumns m (orderGiven order)) _ .0 h .1)
 
 -- ---- the calls as they are called
 
@@ -330,7 +325,7 @@ module _ {z : Sizes} {count : ℕ} {order : List ℕ} {rows relations : List ℤ
     right =
         record {
           valid = passed-valid (ready .0);
-          order-right = order-given (z .m) order (subst (λ n. z .m ≤ n) (sym (call .four)) (ready .0 .range .0 .few)) (ready .1);
+          order-right = order-given (z .m) order (ready .1);
         }
 
     pub written-sheet : IsSheetOf (sheetOf z count order rows relations) (take (w .length) (w .byteStore))

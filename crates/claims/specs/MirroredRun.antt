@@ -24,7 +24,7 @@ use Rattle.rules.specs.Elimination.{within, beyond}
 use Rattle.rules.specs.Elimination.{start, enough, finished, step, workOn, meet, settleOrShift, shiftStep, eliminateStep}
 use Rattle.rules.specs.Elimination.{narrowFirst, combineStep}
 use Rattle.rules.specs.Elimination.{multipliersAt, rowAt, putRow, listRelations, settle, countShift, exchange, putLimited}
-use Rattle.rules.specs.Elimination.{listing}
+use Rattle.rules.specs.Elimination.{listing, dropRow}
 use Rattle.rules.specs.Elimination.{rootRelations, limitDegrees, limitCoefficients, run, andThen, mirrorState, mirrorOutcome}
 use Rattle.rules.specs.Elimination.{wholeRun, leadingRun, trailingRun}
 use Rattle.theory.specs.Mirror.{mirrorRow-length}
@@ -127,9 +127,9 @@ eliminate-alike s l p i j =
     narrow = narrowFirst s i j
 
 step-alike : (s : State) (l : List Relation) → List·Permᴰ l (s .relations) → Alike (step trailing (relist s l)) (step leading s)
-unfolding step workOn rowAt meet
+unfolding step workOn rowAt meet dropRow
 step-alike s l p =
-    cond-alike (zeroRow (rowAt s i)) (both-refused 6)
+    cond-alike (zeroRow (rowAt s i)) (both-going (dropRow s i) l p)
     (cond-alike (contradicts (rowAt s i)) (both-refused 10) (met (firstNonzero (map (entry (rowAt s i)) (s .order)))))
   where
     i : ℕ

@@ -2,8 +2,8 @@
 --
 -- Main definitions
 --   SheetWasRead, SheetWasWritten   what a call that reads or writes a sheet gave back and left: its contract
---   IsSheetOf x bytes            the bytes are those written of x, whose system is valid and whose order is none or a
---                                permutation
+--   IsSheetOf x bytes            the bytes are those written of x, whose system is valid and whose order is of different
+--                                columns
 --   HoldsSheet x rows relations c   the result and the stores of a call that read a sheet hold x
 --   ReadCourse, WriteCourse      all that a call that reads or writes a sheet can do
 --   WriteNumber n                a number that a call that writes a sheet returns
@@ -67,7 +67,7 @@ pub record SheetWasWritten (z : Sizes) (count : ℕ) (order : List ℕ) (rows re
 abbrev pub WriteNumber : ℕ → Type 0
 WriteNumber n = (n ≡ 0) ⊎ ((n ≡ 1) ⊎ ((n ≡ 2) ⊎ (n ≡ 5)))
 
--- The order is one of the sizes: all 0 for none, or a permutation of 1..m with zeros past its end (SCOPE 4.53).
+-- The order is one of the sizes: different columns of 1..m first, zeros past them, all 0 for none (SCOPE 4.53).
 abbrev pub WriteRange : Sizes → ℕ → List ℕ → Type 0
 WriteRange z count order = InRange z count × T (orderRight (z .m) order)
 

@@ -22,7 +22,7 @@ use lib.Seq.{take-all}
 use lib.IntN.{ℤ}
 use Rattle.rules.specs.Numbers.{Read, got, fault, thenRead, field}
 use Rattle.tokens.specs.Exact.{got-inj, field-read, got-in-two}
-use Rattle.frames.specs.Windows.{followed, numberLine, field-longer, field-taken, Taken}
+use Rattle.tokens.specs.Windows.{followed, numberLine, field-longer, field-taken, Taken}
 
 pub record Decides {A : Type 0} (most : ℕ) (Good : A → Type 0) (read : List ℕ → Read A) : Type 0 where
   pub longer : (w x : List ℕ) → most ≤ length w → read (w ++ x) ≡ followed (read w) x

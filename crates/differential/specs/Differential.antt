@@ -12,7 +12,7 @@ use mathlib.Core.List.{List}
 use lib.ListN.{length}
 use lib.IntN.{ℤ, natAbs}
 use Rattle.lists.specs.Everywhere.{All}
-use Rattle.rules.specs.Limits.{columnCount}
+use Rattle.rules.specs.Limits.{columnCount, mostEquations}
 
 abbrev pub mostDerivative : ℕ
 mostDerivative = 2
@@ -50,11 +50,12 @@ pub record ValidTerm (m K J : ℕ) (t : DifferentialTerm) : Type 0 where
   pub column-most : t .column ≤ m
   pub factor-most : natAbs (t .factor) ≤ factorBound
 
--- As the first line allows, and with no more terms than that (SCOPE 10.2, 10.4).
+-- Within their ranges, and with no more terms than the first line allows (SCOPE 10.2 to 10.4).
 pub record ValidDifferential (d : DifferentialSheet) : Type 0 where
   pub unknowns-least : 1 ≤ d .unknowns
   pub unknowns-most : d .unknowns ≤ columnCount
   pub order-most : d .order ≤ mostDerivative
   pub degree-most : d .degree ≤ mostPower
+  pub equations-most : length (d .equations) ≤ mostEquations
   pub term-counts : All (λ e. length e ≤ mostTerms (d .unknowns) (d .order) (d .degree)) (d .equations)
   pub terms : All (All (ValidTerm (d .unknowns) (d .order) (d .degree))) (d .equations)

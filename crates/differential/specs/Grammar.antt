@@ -2,34 +2,36 @@
 -- terms `k j c a`. Tokens are judged as those of a sheet are: form (3), range (2, of a factor 5), order or a zero factor (3), separator.
 --
 -- Main definitions
---   Extent                m, K and J
+--   Extent                m, K, J and the number of equations
 --   judgeOrdered          a number of a term that has a range, and in it those numbers that keep the order of terms
 --   firstPower, firstColumn   the order of terms: falling k, rising j, rising c
 --   readDifferential      the sheet, or the number of its first fault in byte order
 use Prim.Native.Nat.{ℕ, zero, suc}
-use mathlib.Core.Bool.{Bool, _&&_, _||_, cond}
+use mathlib.Core.Bool.{_&&_, _||_, cond}
 use mathlib.Core.List.{List, [], _∷_}
 use lib.Dec.{leb, ltb}
-use lib.IntN.{ℤ, pos, negℤ, natAbs}
+use lib.IntN.{ℤ, pos, natAbs}
 use lib.Signed.{leZ}
 use Rattle.algebra.specs.Polynomials.{isZeroℤ}
-use Rattle.rules.specs.Limits.{columnCount}
-use Rattle.rules.specs.Stores.{Sizes, equations}
+use Rattle.rules.specs.Limits.{columnCount, mostEquations}
+use Rattle.rules.specs.Stores.{Sizes}
 use Rattle.rules.specs.Numbers.{space, newline, Read, got, fault, thenRead, field, between}
 use Rattle.rules.specs.Sheets.{always, afterCount, parting}
 use Rattle.differential.specs.Differential.{DifferentialTerm, DifferentialSheet, mostDerivative, mostPower, factorBound, mostTerms}
+use Rattle.differential.specs.Recurrence.{recurrenceSizes}
 
--- The numbers of the first line: m unknowns, derivatives up to K, powers of the variable up to J.
+-- The numbers of the first two lines: m unknowns, derivatives up to K, powers of the variable up to J, and so many equations.
 pub record Extent : Type 0 where
   pub unknowns : ℕ
   pub order : ℕ
   pub degree : ℕ
+  pub equations : ℕ
 
--- The sizes of the recurrence: l = K and t = -J (SCOPE 10.21). They say how many equations there are.
+-- The sizes of the recurrence (SCOPE 10.21).
 unfoldable pub sizesFor : Extent → Sizes
-sizesFor x = record { m = x .unknowns; l = pos (x .order); t = negℤ (pos (x .degree)) }
+sizesFor x = recurrenceSizes (x .unknowns) (x .equations) (x .order) (x .degree)
 
--- The line `3 m K J` (SCOPE 10.2).
+-- The line `3 m K J`, and the line with the number of equations (SCOPE 10.2, 10.3).
 unfoldable pub readExtent : List ℕ → Read Extent
 unfolding thenRead field between always
 readExtent bytes =
@@ -37,7 +39,8 @@ readExtent bytes =
     thenRead (field (between (pos 1) (pos columnCount)) (always space) bytes₁) λ m bytes₂.
     thenRead (field (between (pos 0) (pos mostDerivative)) (always space) bytes₂) λ K bytes₃.
     thenRead (field (between (pos 0) (pos mostPower)) (always newline) bytes₃) λ J bytes₄.
-    got (record { unknowns = natAbs m; order = natAbs K; degree = natAbs J }) bytes₄
+    thenRead (field (between (pos 0) (pos mostEquations)) (always newline) bytes₄) λ n bytes₅.
+    got (record { unknowns = natAbs m; order = natAbs K; degree = natAbs J; equations = natAbs n }) bytes₅
 
 -- A number that is not from `low` to `high` is 2 (SCOPE 10.12); then one that is not from `first` to `last` breaks the order of terms:
 -- 3 (SCOPE 10.13).
@@ -105,12 +108,10 @@ readEnd d (b ∷ bytes) = fault 4
 abbrev pub sheetOf : Extent → List (List DifferentialTerm) → DifferentialSheet
 sheetOf x es = record { unknowns = x .unknowns; order = x .order; degree = x .degree; equations = es }
 
--- An equation count other than that of the recurrence is 2 (SCOPE 10.3, 10.12).
+-- The two sections, and nothing behind them (SCOPE 10.1, 10.7).
 unfoldable pub readDifferential : List ℕ → Read DifferentialSheet
-unfolding thenRead readExtent sizesFor field between always readEquations readEnd
+unfolding thenRead readExtent readEquations readEnd
 readDifferential bytes =
     thenRead (readExtent bytes) λ x bytes₁.
-    let n = equations (sizesFor x) in
-    thenRead (field (between (pos n) (pos n)) (always newline) bytes₁) λ _ bytes₂.
-    thenRead (readEquations x n bytes₂) λ es bytes₃.
-    readEnd (sheetOf x es) bytes₃
+    thenRead (readEquations x (x .equations) bytes₁) λ es bytes₂.
+    readEnd (sheetOf x es) bytes₂

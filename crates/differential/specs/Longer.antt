@@ -4,10 +4,9 @@
 --   termBytes, equationBytes, sheetBytes   the bytes that decide a term, an equation and the equations of a sheet, each
 --                          number with its separator
 --   mostSheetBytes         one more: bytes that are so many are a fault
---   Accepted d             the numbers of d are in their ranges, and it has as many equations as its recurrence's sizes say
 --
 -- Main statements
---   differential-accepted  a sheet that is read is so
+--   differential-accepted  a sheet that is read is valid
 --   differential-window    the first `mostSheetBytes` bytes are read as all bytes are
 --   differential-long      bytes that are so many or more are a fault
 --   read-window, write-window   so the calls do with the first bytes what they would do with all
@@ -24,22 +23,19 @@ use lib.Signed.{leZ}
 use Rattle.lists.specs.Everywhere.{All, all-mono}
 use Rattle.lists.specs.Tests.{T-&&, cond-zero}
 use Rattle.rules.specs.Limits.{columnCount, mostEquations}
-use Rattle.rules.specs.Layout.{size-bounds, equations-few}
 use Rattle.rules.specs.Numbers.{newline, got, fault, thenRead, between}
 use Rattle.rules.specs.Sheets.{parting}
 use Rattle.rules.specs.SheetCalls.{afterRead}
-use Rattle.rules.specs.Stores.{equations}
 use Rattle.tokens.specs.Exact.{fault-got, got-inj}
-use Rattle.frames.specs.Windows.{numberLine}
+use Rattle.tokens.specs.Windows.{numberLine}
 use Rattle.differential.specs.Differential.{DifferentialTerm, DifferentialSheet, ValidTerm, ValidDifferential}
 use Rattle.differential.specs.Differential.{mostDerivative, mostPower, mostTerms, factorBound}
 use Rattle.differential.specs.Recurrence.{recurrenceOf}
-use Rattle.differential.specs.Grammar.{Extent, sizesFor, readExtent, judgeOrdered, judgeFactor}
+use Rattle.differential.specs.Grammar.{Extent, readExtent, judgeOrdered, judgeFactor}
 use Rattle.differential.specs.Grammar.{firstPower, firstColumn}
 use Rattle.differential.specs.Grammar.{noTerm, readTerm, readTerms, mostOf, readEquation, readEquations, readEnd}
 use Rattle.differential.specs.Grammar.{sheetOf, readDifferential}
 use Rattle.differential.specs.Calls.{readRecurrence, readDifferentialCall, writeRead, writeRecurrenceCall}
-use Rattle.differential.specs.ValidRecurrence.{sizes-right}
 use Rattle.differential.specs.Deciding.{Decides, field-decides, nothing-decides, more-decides, weaken-decides}
 use Rattle.differential.specs.Deciding.{then-decides, Closes, then-closes}
 use Rattle.differential.specs.Deciding.{closes-window, closes-refused}
@@ -56,7 +52,7 @@ equationBytes = numberLine + mostTerms columnCount mostDerivative mostPower * te
 
 -- Four numbers in the first line, the count of the equations, and the equations (SCOPE 10.2 to 10.4).
 abbrev pub sheetBytes : ℕ
-sheetBytes = 4 * numberLine + (numberLine + mostEquations * equationBytes)
+sheetBytes = 5 * numberLine + mostEquations * equationBytes
 
 -- One byte more is a fault (SCOPE 10.14, 10.52).
 abbrev pub mostSheetBytes : ℕ
@@ -83,26 +79,29 @@ factor-ranged : (a : ℤ) → judgeFactor a ≡ 0 → natAbs a ≤ factorBound
 unfolding judgeFactor
 factor-ranged a e = leb→le (natAbs a) factorBound (cond-zero (leb (natAbs a) factorBound) _ 4 e .0)
 
--- ---- the first line
+-- ---- the first two lines
 
 pub record ExtentRight (x : Extent) : Type 0 where
   pub unknowns-least : 1 ≤ x .unknowns
   pub unknowns-most : x .unknowns ≤ columnCount
   pub order-most : x .order ≤ mostDerivative
   pub degree-most : x .degree ≤ mostPower
+  pub equations-most : x .equations ≤ mostEquations
 
-extent-decides : Decides (4 * numberLine) ExtentRight readExtent
+extent-decides : Decides (5 * numberLine) ExtentRight readExtent
 unfolding readExtent
 extent-decides =
     then-decides (field-decides _ _) λ three _.
     then-decides (field-decides _ _) λ m hm.
     then-decides (field-decides _ _) λ K hK.
     then-decides (field-decides _ _) λ J hJ.
+    then-decides (field-decides _ _) λ n hn.
     nothing-decides _ (record {
       unknowns-least = between-ranged 1 columnCount m hm .0;
       unknowns-most = between-ranged 1 columnCount m hm .1;
       order-most = between-ranged 0 mostDerivative K hK .1;
       degree-most = between-ranged 0 mostPower J hJ .1;
+      equations-most = between-ranged 0 mostEquations n hn .1;
     })
 
 -- ---- the equations
@@ -167,12 +166,7 @@ module _ (x : Extent) (right : ExtentRight x) where
 
 -- ---- the sheet
 
--- What is known of a sheet that is read.
-pub record Accepted (d : DifferentialSheet) : Type 0 where
-  pub valid : ValidDifferential d
-  pub as-many : length (d .equations) ≡ equations (recurrenceOf d .sizes)
-
-end-closes : (d : DifferentialSheet) → Accepted d → Closes 0 Accepted (readEnd d)
+end-closes : (d : DifferentialSheet) → ValidDifferential d → Closes 0 ValidDifferential (readEnd d)
 unfolding readEnd
 end-closes d h = record { longer = longer; few = few; good = good }
   where
@@ -184,45 +178,34 @@ end-closes d h = record { longer = longer; few = few; good = good }
     few [] a rest e = zero-le
     few (b ∷ bytes) a rest e = absurd (fault-got 4 a rest e)
 
-    good : (bytes : List ℕ) (a : DifferentialSheet) (rest : List ℕ) → readEnd d bytes ≡ got a rest → Accepted a
-    good [] a rest e = subst Accepted (got-inj d a [] rest e .0) h
+    good : (bytes : List ℕ) (a : DifferentialSheet) (rest : List ℕ) → readEnd d bytes ≡ got a rest → ValidDifferential a
+    good [] a rest e = subst ValidDifferential (got-inj d a [] rest e .0) h
     good (b ∷ bytes) a rest e = absurd (fault-got 4 a rest e)
 
-few-equations : (x : Extent) → ExtentRight x → equations (sizesFor x) ≤ mostEquations
-unfolding sizesFor
-few-equations x h =
-    equations-few (sizesFor x) (size-bounds (sizesFor x)
-    (sizes-right (x .unknowns) (x .order) (x .degree) (h .unknowns-most) (h .order-most) (h .degree-most)
-    (h .unknowns-least)))
-
-sheet-accepted : (x : Extent) (h : ExtentRight x) (es : List (List DifferentialTerm)) → length es ≡ equations (sizesFor x)
-    → All (EquationRight x h) es → Accepted (sheetOf x es)
-unfolding sizesFor recurrenceOf
+sheet-accepted : (x : Extent) (h : ExtentRight x) (es : List (List DifferentialTerm)) → length es ≡ x .equations
+    → All (EquationRight x h) es → ValidDifferential (sheetOf x es)
 sheet-accepted x h es as-many all =
     record {
-      valid = record {
-        unknowns-least = h .unknowns-least;
-        unknowns-most = h .unknowns-most;
-        order-most = h .order-most;
-        degree-most = h .degree-most;
-        term-counts = all-mono (EquationRight x h) (λ ts. length ts ≤ mostOf x) (λ ts i. i .0) es all;
-        terms = all-mono (EquationRight x h) (All (TermRight x h)) (λ ts i. i .1) es all;
-      };
-      as-many = as-many;
+      unknowns-least = h .unknowns-least;
+      unknowns-most = h .unknowns-most;
+      order-most = h .order-most;
+      degree-most = h .degree-most;
+      equations-most = rw as-many (h .equations-most);
+      term-counts = all-mono (EquationRight x h) (λ ts. length ts ≤ mostOf x) (λ ts i. i .0) es all;
+      terms = all-mono (EquationRight x h) (All (TermRight x h)) (λ ts i. i .1) es all;
     }
 
-pub differential-closes : Closes sheetBytes Accepted readDifferential
+pub differential-closes : Closes sheetBytes ValidDifferential readDifferential
 unfolding readDifferential
 differential-closes =
     then-closes extent-decides λ x h.
-    then-closes (field-decides _ _) λ _ _.
     then-closes {j = mostEquations * equationBytes}
-    (more-decides (mul-le-mul-right equationBytes (few-equations x h)) (equations-decides x h (equations (sizesFor x))))
+    (more-decides (mul-le-mul-right equationBytes (h .equations-most)) (equations-decides x h (x .equations)))
     λ es i.
     end-closes (sheetOf x es) (sheet-accepted x h es (i .0) (i .1))
 
 pub differential-accepted : (bytes : List ℕ) (d : DifferentialSheet) (rest : List ℕ)
-    → readDifferential bytes ≡ got d rest → Accepted d
+    → readDifferential bytes ≡ got d rest → ValidDifferential d
 differential-accepted bytes d rest e = differential-closes .good bytes d rest e
 
 -- The first bytes decide (SCOPE 10.52).

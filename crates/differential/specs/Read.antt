@@ -11,7 +11,7 @@ use Prim.Native.Nat.{ℕ, suc, _≤_}
 use mathlib.Core.List.{List}
 use mathlib.Core.Path.{_≡_, sym, _∙_}
 use lib.IntN.{ℤ, pos, natAbs}
-use Rattle.rules.specs.Limits.{columnCount}
+use Rattle.rules.specs.Limits.{columnCount, mostEquations}
 use Rattle.rules.specs.Numbers.{space, Read, got, thenRead, field}
 use Rattle.rules.specs.Sheets.{always}
 use Rattle.tokens.specs.Fields.{then-cong, then-then}
@@ -21,7 +21,7 @@ use Rattle.differential.specs.declared.extent.Extent as Declared
 use Rattle.differential.specs.declared.terms.TermRead.{TermRead}
 
 unfoldable pub extentOf : Declared.Extent → Extent
-extentOf x = record { unknowns = x .unknowns; order = x .order; degree = x .degree }
+extentOf x = record { unknowns = x .unknowns; order = x .order; degree = x .degree; equations = x .equations }
 
 unfoldable pub termOf : TermRead → DifferentialTerm
 termOf t = record { derivative = t .derivative; power = t .power; column = t .column; factor = t .factor }
@@ -37,6 +37,7 @@ pub record SmallExtent (x : Extent) : Type 0 where
   pub unknowns-few : x .unknowns ≤ columnCount
   pub order-small : x .order ≤ mostDerivative
   pub degree-small : x .degree ≤ mostPower
+  pub equations-few : x .equations ≤ mostEquations
 
 -- The term before another, or what an equation's first term follows.
 pub record SmallBefore (t : DifferentialTerm) : Type 0 where

@@ -5,11 +5,12 @@
 --   termPolynomial t       a × (n - j + 1)(n - j + 2)..(n - j + k), as a row of a store holds a polynomial
 --   addTerm K t r          that polynomial added at block k - j and column c of a row whose first block is K
 --   addTerms, recurrenceRow   the terms of an equation, each added to what the ones before it left; from a row of zeros
---   recurrenceSizes m K J  its sizes, l = K and t = -J
---   recurrenceOf d         the sheet with those sizes, a row for each equation, no relations and no order
+--   recurrenceSizes m n K J   the sizes of a recurrence of n equations, l = K and t = -J
+--   plainSheet z rows      a sheet without relations and order
+--   recurrenceOf d         the recurrence, a row for each equation
 use Prim.Native.Nat.{ℕ, zero, suc, _+_, _-_, pred}
 use mathlib.Core.List.{List, [], _∷_, map}
-use lib.ListN.{getD, set}
+use lib.ListN.{length, getD, set}
 use lib.IntN.{ℤ, pos, negℤ, _+ℤ_}
 use Rattle.algebra.specs.Polynomials.{Polynomial, add, scale, mul}
 use Rattle.lists.specs.Padded.{padTo}
@@ -57,16 +58,16 @@ unfolding addTerms blankRow
 recurrenceRow K ts = addTerms K blankRow ts
 
 -- The sizes of the recurrence: l = K and t = -J (SCOPE 10.21).
-abbrev pub recurrenceSizes : ℕ → ℕ → ℕ → Sizes
-recurrenceSizes m K J = record { m = m; l = pos K; t = negℤ (pos J) }
+abbrev pub recurrenceSizes : ℕ → ℕ → ℕ → ℕ → Sizes
+recurrenceSizes m n K J = record { m = m; equations = n; l = pos K; t = negℤ (pos J) }
 
--- No relations and no column order; right sides are zero (SCOPE 10.21).
+-- No relations and no column order (SCOPE 10.21).
+abbrev pub plainSheet : Sizes → List Row → Sheet
+plainSheet z rows = record { sizes = z; rows = rows; relations = []; order = [] }
+
+-- As many equations as the differential sheet has; right sides are zero (SCOPE 10.21).
 unfoldable pub recurrenceOf : DifferentialSheet → Sheet
 unfolding recurrenceRow
 recurrenceOf d =
-    record {
-      sizes = recurrenceSizes (d .unknowns) (d .order) (d .degree);
-      rows = map (recurrenceRow (d .order)) (d .equations);
-      relations = [];
-      order = [];
-    }
+    plainSheet (recurrenceSizes (d .unknowns) (length (d .equations)) (d .order) (d .degree))
+    (map (recurrenceRow (d .order)) (d .equations))

@@ -1,7 +1,6 @@
 -- A differential sheet read straight into rows: its extent, its equations and its end.
 --
 -- Main definitions
---   rowSection x n       the count of equations, which has to be n, and n rows
 --   endOf                nothing stands behind the last equation
 --
 -- Main statements
@@ -9,15 +8,15 @@
 use Prim.Native.Nat.{ℕ, zero, suc}
 use mathlib.Core.Path.{_≡_, refl, sym, ap, _∙_}
 use mathlib.Core.List.{List, [], _∷_, map}
-use lib.IntN.{ℤ, pos}
+use lib.ListN.{length, length-map}
 use Rattle.rules.specs.Rows.{Row}
-use Rattle.rules.specs.Stores.{equations}
-use Rattle.rules.specs.Numbers.{newline, Read, got, fault, thenRead, field, between}
-use Rattle.rules.specs.Sheets.{Sheet, always}
+use Rattle.rules.specs.Stores.{withEquations}
+use Rattle.rules.specs.Numbers.{Read, got, fault, thenRead}
+use Rattle.rules.specs.Sheets.{Sheet}
 use Rattle.tokens.specs.Fields.{then-cong, then-then}
 use Rattle.reading.specs.Sections.{readEach}
 use Rattle.differential.specs.Differential.{DifferentialTerm, DifferentialSheet}
-use Rattle.differential.specs.Recurrence.{recurrenceRow, recurrenceOf}
+use Rattle.differential.specs.Recurrence.{recurrenceRow, plainSheet, recurrenceOf}
 use Rattle.differential.specs.Grammar.{Extent, sizesFor, sheetOf, readExtent, readEquation, readEquations, readEnd, readDifferential}
 use Rattle.differential.specs.Calls.{readRecurrence}
 use Rattle.differential.specs.Rows.{rowRead, readRow}
@@ -76,19 +75,14 @@ module _ (x : Extent) where
 
 -- ---- the whole sheet
 
-unfoldable pub rowSection : Extent → ℕ → List ℕ → Read (List Row)
-rowSection x n bytes = thenRead (field (between (pos n) (pos n)) (always newline) bytes) λ _ rest. readEach (readRow x) n rest
-
--- The sheet of the recurrence.
-abbrev pub recurrenceWith : Extent → List Row → Sheet
-recurrenceWith x rows = record { sizes = sizesFor x; rows = rows; relations = []; order = [] }
-
+-- A row for each equation that was read.
 unfoldable pub endOf : Extent → List Row → List ℕ → Read Sheet
-endOf x rows [] = got (recurrenceWith x rows) []
+unfolding withEquations sizesFor
+endOf x rows [] = got (plainSheet (withEquations (length rows) (sizesFor x)) rows) []
 endOf x rows (b ∷ bytes) = fault 4
 
 unfoldable pub rowsEnd : Extent → List ℕ → Read Sheet
-rowsEnd x bytes = thenRead (rowSection x (equations (sizesFor x)) bytes) (endOf x)
+rowsEnd x bytes = thenRead (readEach (readRow x) (x .equations) bytes) (endOf x)
 
 recurrenceRead : DifferentialSheet → List ℕ → Read Sheet
 recurrenceRead d rest = got (recurrenceOf d) rest
@@ -96,40 +90,32 @@ recurrenceRead d rest = got (recurrenceOf d) rest
 equationsEnd : Extent → List (List DifferentialTerm) → List ℕ → Read DifferentialSheet
 equationsEnd x es rest = readEnd (sheetOf x es) rest
 
-countEnd : Extent → ℤ → List ℕ → Read DifferentialSheet
-countEnd x _ bytes = thenRead (readEquations x (equations (sizesFor x)) bytes) (equationsEnd x)
-
 extentEnd : Extent → List ℕ → Read DifferentialSheet
-extentEnd x bytes =
-    thenRead (field (between (pos (equations (sizesFor x))) (pos (equations (sizesFor x)))) (always newline) bytes) (countEnd x)
+extentEnd x bytes = thenRead (readEquations x (x .equations) bytes) (equationsEnd x)
 
 -- The definition, with its parts named.
 differential-is : (bytes : List ℕ) → readDifferential bytes ≡ thenRead (readExtent bytes) extentEnd
-unfolding readDifferential extentEnd countEnd equationsEnd
+unfolding readDifferential extentEnd equationsEnd
 differential-is bytes = refl
 
 end-is : (x : Extent) (es : List (List DifferentialTerm)) (rest : List ℕ)
     → thenRead (equationsEnd x es rest) recurrenceRead ≡ endOf x (map (recurrenceRow (x .order)) es) rest
-unfolding equationsEnd readEnd recurrenceRead endOf recurrenceOf sizesFor thenRead
-end-is x es [] = refl
+unfolding equationsEnd readEnd recurrenceRead endOf recurrenceOf thenRead
+end-is x es [] =
+    ap (λ n. got (plainSheet (withEquations n (sizesFor x)) (map (recurrenceRow (x .order)) es)) [])
+    (sym (length-map es (recurrenceRow (x .order))))
 end-is x es (b ∷ rest) = refl
 
 section-end : (x : Extent) (bytes : List ℕ) → thenRead (extentEnd x bytes) recurrenceRead ≡ rowsEnd x bytes
-unfolding extentEnd countEnd rowsEnd rowSection rowsRead thenRead
+unfolding extentEnd rowsEnd rowsRead thenRead
 section-end x bytes =
-    then-then count (countEnd x) recurrenceRead
-    ∙ then-cong count
-    (λ _ rest. then-then (readEquations x n rest) (equationsEnd x) recurrenceRead
-    ∙ then-cong (readEquations x n rest) (λ es more. end-is x es more)
-    ∙ sym (then-then (readEquations x n rest) (rowsRead (x .order)) (endOf x))
-    ∙ ap (λ r. thenRead r (endOf x)) (rows-are x n rest))
-    ∙ sym (then-then count (λ _ rest. readEach (readRow x) n rest) (endOf x))
+    then-then (readEquations x n bytes) (equationsEnd x) recurrenceRead
+    ∙ then-cong (readEquations x n bytes) (λ es rest. end-is x es rest)
+    ∙ sym (then-then (readEquations x n bytes) (rowsRead (x .order)) (endOf x))
+    ∙ ap (λ r. thenRead r (endOf x)) (rows-are x n bytes)
   where
     n : ℕ
-    n = equations (sizesFor x)
-
-    count : Read ℤ
-    count = field (between (pos n) (pos n)) (always newline) bytes
+    n = x .equations
 
 pub recurrence-is : (bytes : List ℕ) → readRecurrence bytes ≡ thenRead (readExtent bytes) rowsEnd
 unfolding readRecurrence recurrenceRead

@@ -5,32 +5,32 @@
 --   write-faults, write-checks, write-is  the call that writes it: refused; its recurrence passes the checks of the writer, and is
 --                                         what the writer writes
 --   recurrence-length                     the length that it gives back is at most that of the byte store
-use Prim.Native.Nat.{ℕ, _*_, _≤_, zero-le}
-use native.Mathlib.Nat.{le-of-eq}
+use Prim.Native.Nat.{ℕ, _≤_, zero-le}
 use mathlib.Core.Path.{_≡_, refl, sym, ap, ap₂, _∙_, subst}
 use mathlib.Core.Bool.{Bool, true, false, cond}
-use mathlib.Core.List.{List, [], _∷_, _++_}
+use mathlib.Core.List.{List, [], _++_}
 use lib.Dec.{T, leb, leb→le}
-use lib.ListN.{length, take, drop, replicate, take-append-drop}
-use lib.IntN.{ℤ, pos}
+use lib.ListN.{length, drop, replicate, take-append-drop}
+use lib.IntN.{ℤ}
 use Rattle.lists.specs.Overwritten.{overwrite}
 use Rattle.lists.specs.Padded.{padTo}
 use Rattle.lists.specs.Tests.{every}
-use Rattle.rules.specs.Limits.{columnCount, rowLength}
+use Rattle.rules.specs.Limits.{columnCount}
 use Rattle.rules.specs.Calls.{zeros}
-use Rattle.rules.specs.Stores.{equations, rowsOf, relationsOf, rowNeed, relationNeed, rowStoreOf, relationStoreOf, lengthsRight, Valid, checkStores}
+use Rattle.rules.specs.Stores.{equations, rowsOf, relationsOf, rowNeed, relationNeed, rowStoreOf, relationStoreOf}
+use Rattle.rules.specs.Stores.{lengthsRight, Valid, checkStores}
 use Rattle.rules.specs.Layout.{rowStoreOf-rowsOf, valid-stores, checkStores-zero}
 use Rattle.rules.specs.Numbers.{Read, got, fault}
 use Rattle.rules.specs.Sheets.{Sheet, writeSheet}
-use Rattle.rules.specs.SheetCalls.{ReadCall, WriteCall, afterRead, filled, unread, written, unwritten, checkWrite, writeCall, orderRight, orderGiven}
+use Rattle.rules.specs.SheetCalls.{WriteCall, afterRead, filled, unread, written, unwritten, checkWrite, writeCall}
+use Rattle.rules.specs.SheetCalls.{orderRight, orderGiven}
 use Rattle.rules.specs.SheetCalls as SheetCalls
 use Rattle.tokens.specs.Fields.{then-parts}
 use Rattle.reading.specs.Equations.{got-value}
 use Rattle.writing.specs.WriterChecks.{checkWrite-iff, call-checked}
 use Rattle.differential.specs.Grammar.{Extent, sizesFor, readDifferential}
-use Rattle.differential.specs.Recurrence.{recurrenceOf}
+use Rattle.differential.specs.Recurrence.{plainSheet, recurrenceOf}
 use Rattle.differential.specs.Calls.{readRecurrence, readDifferentialCall, writeRead, writeRecurrenceCall}
-use Rattle.differential.specs.Sections.{recurrenceWith}
 use Rattle.differential.specs.Accepted.{accepted-valid}
 
 -- ---- a sheet that is refused
@@ -52,30 +52,30 @@ abbrev pub noOrder : List ℕ
 noOrder = replicate columnCount 0
 
 module _ (bytes : List ℕ) (x : Extent) (numbers : List ℤ)
-    (read : readRecurrence bytes ≡ got (recurrenceWith x (rowsOf (equations (sizesFor x)) numbers)) []) where
+    (read : readRecurrence bytes ≡ got (plainSheet (sizesFor x) (rowsOf (x .equations) numbers)) []) where
   abbrev rows : List Rattle.rules.specs.Rows.Row
-  rows = rowsOf (equations (sizesFor x)) numbers
+  rows = rowsOf (x .equations) numbers
 
   module _ (rowStore relationStore : List ℤ) where
     -- A store too short is 1, after all faults of the sheet (SCOPE 4.42).
-    pub read-short : lengthsRight (equations (sizesFor x)) rowStore relationStore ≡ false
+    pub read-short : lengthsRight (x .equations) rowStore relationStore ≡ false
         → readDifferentialCall bytes rowStore relationStore ≡ unread 1 rowStore relationStore
-    unfolding readDifferentialCall afterRead
+    unfolding readDifferentialCall afterRead equations sizesFor
     read-short e =
         ap (λ r. afterRead r rowStore relationStore) read
-        ∙ ap (λ t. cond t (filled (recurrenceWith x rows) rowStore relationStore) (unread 1 rowStore relationStore)) e
+        ∙ ap (λ t. cond t (filled (plainSheet (sizesFor x) rows) rowStore relationStore) (unread 1 rowStore relationStore)) e
 
-    pub read-fills : lengthsRight (equations (sizesFor x)) rowStore relationStore ≡ true
+    pub read-fills : lengthsRight (x .equations) rowStore relationStore ≡ true
         → readDifferentialCall bytes rowStore relationStore
         ≡ record {
           result = record { refusal = 0; sizes = sizesFor x; relations = 0; order = noOrder };
           rowStore = overwrite (rowStoreOf rows) rowStore;
           relationStore = overwrite (relationStoreOf []) relationStore;
         }
-    unfolding readDifferentialCall afterRead filled padTo
+    unfolding readDifferentialCall afterRead filled padTo equations sizesFor
     read-fills e =
         ap (λ r. afterRead r rowStore relationStore) read
-        ∙ ap (λ t. cond t (filled (recurrenceWith x rows) rowStore relationStore) (unread 1 rowStore relationStore)) e
+        ∙ ap (λ t. cond t (filled (plainSheet (sizesFor x) rows) rowStore relationStore) (unread 1 rowStore relationStore)) e
 
   -- The recurrence is a valid system.
   recurrence-right : Valid (sizesFor x) rows []
@@ -87,23 +87,23 @@ module _ (bytes : List ℕ) (x : Extent) (numbers : List ℤ)
 
   -- What the writer has: the numbers that were read, and no relation.
   pub write-checks : checkWrite (sizesFor x) 0 noOrder numbers (zeros relationNeed) ≡ 0
-  unfolding orderRight every zeros rowNeed relationStoreOf
+  unfolding orderRight orderGiven every zeros rowNeed relationStoreOf equations sizesFor
   write-checks =
       checkWrite-iff (sizesFor x) 0 noOrder numbers (zeros relationNeed) .1 (
         tt,
         checkStores-zero (sizesFor x) 0 numbers (zeros relationNeed) .0
             (ap₂ (checkStores (sizesFor x) 0) (sym held) refl
-            ∙ valid-stores (sizesFor x) rows [] (drop (rowNeed (equations (sizesFor x))) numbers) [] recurrence-right),
+            ∙ valid-stores (sizesFor x) rows [] (drop (rowNeed (x .equations)) numbers) [] recurrence-right),
       )
     where
-      held : rowStoreOf rows ++ drop (rowNeed (equations (sizesFor x))) numbers ≡ numbers
+      held : rowStoreOf rows ++ drop (rowNeed (x .equations)) numbers ≡ numbers
       held =
-          ap (λ front. front ++ drop (rowNeed (equations (sizesFor x))) numbers) (rowStoreOf-rowsOf (equations (sizesFor x)) numbers)
-          ∙ take-append-drop (rowNeed (equations (sizesFor x))) numbers
+          ap (λ front. front ++ drop (rowNeed (x .equations)) numbers) (rowStoreOf-rowsOf (x .equations) numbers)
+          ∙ take-append-drop (rowNeed (x .equations)) numbers
 
   pub write-is : (byteStore : List ℕ)
       → writeCall (sizesFor x) 0 noOrder numbers (zeros relationNeed) byteStore ≡ writeRecurrenceCall bytes byteStore
-  unfolding writeRecurrenceCall writeRead SheetCalls.sheetOf orderGiven every relationsOf
+  unfolding writeRecurrenceCall writeRead SheetCalls.sheetOf orderGiven relationsOf equations sizesFor
   write-is byteStore =
       sym (call-checked (sizesFor x) 0 noOrder numbers (zeros relationNeed) byteStore write-checks)
       ∙ sym (ap (λ r. writeRead r byteStore) read)

@@ -9,7 +9,7 @@
 --   term-bounded            the coefficients of one term
 --   term-held, terms-held   adding a term, or several, raises the bound by so much for each
 --   row-valid               the row of an equation is as a store holds it and passes the check of its numbers
---   recurrence-valid        so does the recurrence, if it has as many equations as its sizes say
+--   recurrence-valid        so does the recurrence
 use Prim.Native.Nat.{ℕ, zero, suc, _+_, _*_, _≤_, _<_, max, pred, zero-le, suc-le-suc}
 use native.Mathlib.Nat.{le-trans, mul-le-mul}
 use native.Mathlib.Omega.{arith}
@@ -26,7 +26,7 @@ use Rattle.algebra.specs.Polynomials.{Polynomial, isZero, add, scale, length-ad
 use Rattle.lists.specs.Everywhere.{All, all-mono, all-both, all-set, all-getD, all-replicate, map-keeps}
 use Rattle.lists.specs.Padded.{all-padTo}
 use Rattle.lists.specs.Tests.{T-&&, every, every-of-all, all-of-every, every-drop}
-use Rattle.rules.specs.Limits.{bound, small, coefficientCount, columnCount, blockCount, mostSpan, blockBound}
+use Rattle.rules.specs.Limits.{bound, small, coefficientCount, columnCount, mostEquations, blockCount, mostSpan, blockBound}
 use Rattle.rules.specs.Rows.{Block, Row, zeroBlock, smallRow}
 use Rattle.rules.specs.Sheets.{blankRow}
 use Rattle.rules.specs.Stores.{Sizes, equations, span, sizesRight, countRight, unusedZero, rowRight}
@@ -199,9 +199,9 @@ module _ (z : Sizes) (B : ℕ) (fits : B ≤ bound) (r : Row) (held : Held (z .m
   held-right : StoreRow r × T (rowRight z r)
   held-right = (held-shaped, rowRight-iff z r .1 (held-small, held-unused))
 
-pub recurrence-span : (m K J : ℕ) → span (recurrenceSizes m K J) ≡ K + J
+pub recurrence-span : (m n K J : ℕ) → span (recurrenceSizes m n K J) ≡ K + J
 unfolding span
-recurrence-span m K J = ap (λ x. natAbs (pos K +ℤ x)) (negℤ-negℤ (pos J))
+recurrence-span m n K J = ap (λ x. natAbs (pos K +ℤ x)) (negℤ-negℤ (pos J))
 
 -- The ranges of l, t and D, for each K and J.
 abbrev BlocksRight : ℕ → ℕ → Type 0
@@ -251,33 +251,34 @@ module _ (m K J : ℕ) (columns : m ≤ columnCount) (orders : K ≤ mostDerivat
       most = le-trans h (mul-le-mul (mul-le-mul columns (suc-le-suc orders)) (suc-le-suc powers))
 
   pub row-valid : (ts : List DifferentialTerm) → All (ValidTerm m K J) ts → length ts ≤ mostTerms m K J
-      → StoreRow (recurrenceRow K ts) × T (rowRight (recurrenceSizes m K J) (recurrenceRow K ts))
+      → (n : ℕ) → StoreRow (recurrenceRow K ts) × T (rowRight (recurrenceSizes m n K J) (recurrenceRow K ts))
   unfolding recurrenceRow
-  row-valid ts a h =
-      held-right (recurrenceSizes m K J) (0 + length ts * termBound) (few-terms (length ts) h) (addTerms K blankRow ts)
-      (subst (λ D. Held m D (0 + length ts * termBound) (addTerms K blankRow ts .blocks)) (sym (recurrence-span m K J))
+  row-valid ts a h n =
+      held-right (recurrenceSizes m n K J) (0 + length ts * termBound) (few-terms (length ts) h) (addTerms K blankRow ts)
+      (subst (λ D. Held m D (0 + length ts * termBound) (addTerms K blankRow ts .blocks)) (sym (recurrence-span m n K J))
       (terms-held ts a 0 blankRow (blank-held m (K + J))))
       (addTerms-right K ts blankRow)
 
-  pub sizes-right : 1 ≤ m → T (sizesRight (recurrenceSizes m K J))
-  unfolding sizesRight
-  sizes-right some = T-&& (leb 1 m && leb m columnCount) _ .1 (
-    T-&& (leb 1 m) (leb m columnCount) .1 (le→leb 1 m some, le→leb m columnCount columns),
+  sizes-right : (n : ℕ) → n ≤ mostEquations → 1 ≤ m → T (sizesRight (recurrenceSizes m n K J))
+  unfolding sizesRight equations
+  sizes-right n few some = T-&& (leb 1 m && leb m columnCount && leb n mostEquations) _ .1 (
+    T-&& (leb 1 m && leb m columnCount) (leb n mostEquations) .1
+        (T-&& (leb 1 m) (leb m columnCount) .1 (le→leb 1 m some, le→leb m columnCount columns), le→leb n mostEquations few),
     blocks-right K orders J powers,
   )
 
--- If it has as many equations as its sizes say, no check of a call refuses the recurrence (SCOPE 10.24).
+-- No check of a call refuses the recurrence (SCOPE 10.24).
 pub recurrence-valid : (d : DifferentialSheet) → ValidDifferential d
-    → length (d .equations) ≡ equations (recurrenceOf d .sizes)
     → Valid (recurrenceOf d .sizes) (recurrenceOf d .rows) (recurrenceOf d .relations)
-unfolding recurrenceOf countRight All every
-recurrence-valid d valid as-many =
+unfolding recurrenceOf countRight All every equations
+recurrence-valid d valid =
     record {
-      sizes = sizes-right m K J (valid .unknowns-most) (valid .order-most) (valid .degree-most) (valid .unknowns-least);
-      row-count = length-map (d .equations) (recurrenceRow K) ∙ as-many;
+      sizes = sizes-right m K J (valid .unknowns-most) (valid .order-most) (valid .degree-most) n (valid .equations-most)
+          (valid .unknowns-least);
+      row-count = length-map (d .equations) (recurrenceRow K);
       row-shapes = map-keeps EquationRight StoreRow (recurrenceRow K) (λ ts h. row ts h .0) (d .equations) right;
-      rows-right = every-of-all (rowRight (recurrenceSizes m K J)) (map (recurrenceRow K) (d .equations))
-          (map-keeps EquationRight (λ r. T (rowRight (recurrenceSizes m K J) r)) (recurrenceRow K)
+      rows-right = every-of-all (rowRight (recurrenceSizes m n K J)) (map (recurrenceRow K) (d .equations))
+          (map-keeps EquationRight (λ r. T (rowRight (recurrenceSizes m n K J) r)) (recurrenceRow K)
           (λ ts h. row ts h .1) (d .equations) right);
       relation-count = tt;
       relation-shapes = tt;
@@ -286,6 +287,9 @@ recurrence-valid d valid as-many =
   where
     m : ℕ
     m = d .unknowns
+
+    n : ℕ
+    n = length (d .equations)
 
     K : ℕ
     K = d .order
@@ -302,5 +306,5 @@ recurrence-valid d valid as-many =
         (valid .terms) (valid .term-counts)
 
     row : (ts : List DifferentialTerm) → EquationRight ts
-        → StoreRow (recurrenceRow K ts) × T (rowRight (recurrenceSizes m K J) (recurrenceRow K ts))
-    row ts h = row-valid m K J (valid .unknowns-most) (valid .order-most) (valid .degree-most) ts (h .0) (h .1)
+        → StoreRow (recurrenceRow K ts) × T (rowRight (recurrenceSizes m n K J) (recurrenceRow K ts))
+    row ts h = row-valid m K J (valid .unknowns-most) (valid .order-most) (valid .degree-most) ts (h .0) (h .1) n

@@ -31,15 +31,15 @@ use Rattle.rules.specs.Rows.{Block, Row, smallRow}
 use Rattle.rules.specs.Sheets.{Sheet, blankRow, Term, trim, blockTerms, termsFrom, termNumbers, equationNumbers, orderLine}
 use Rattle.rules.specs.Sheets.{sideLines, sidesOf, sheetLines, writeSheet}
 use Rattle.rules.specs.Stores.{Sizes, rowRight, Shaped, StoreRow, Valid}
-use Rattle.rules.specs.Layout.{SizeBounds, size-bounds, equations-few}
+use Rattle.rules.specs.Layout.{SizeBounds, size-bounds}
 use Rattle.theory.specs.LimitsKept.{Small, smallRow-iff, rowRight-iff}
-use Rattle.differential.specs.Differential.{DifferentialTerm, DifferentialSheet}
-use Rattle.differential.specs.Recurrence.{addTerms, recurrenceRow, recurrenceSizes, recurrenceOf}
+use Rattle.differential.specs.Differential.{DifferentialTerm, DifferentialSheet, ValidDifferential}
+use Rattle.differential.specs.Recurrence.{addTerms, recurrenceRow, recurrenceSizes, plainSheet, recurrenceOf}
 use Rattle.differential.specs.Grammar.{readDifferential}
 use Rattle.differential.specs.Calls.{readRecurrence, writeRead, writeRecurrenceCall}
 use Rattle.differential.specs.Terms.{FullPolynomial, FullBlock, addTerms-right}
 use Rattle.differential.specs.ValidRecurrence.{recurrence-valid}
-use Rattle.differential.specs.Longer.{Accepted, differential-accepted}
+use Rattle.differential.specs.Longer.{differential-accepted}
 use Rattle.writing.specs.Writer.{decimal-length, trim-le, trim-take}
 
 -- ---- the bytes of a line
@@ -216,11 +216,7 @@ equationsBytes = 4 * writtenNumber + (writtenNumber + mostEquations * (equationL
 abbrev pub mostRecurrenceBytes : ℕ
 mostRecurrenceBytes = equationsBytes + (writtenNumber + writtenNumber)
 
--- A system without relations and order.
-abbrev pub plainSheet : Sizes → List Row → Sheet
-plainSheet z rows = record { sizes = z; rows = rows; relations = []; order = [] }
-
--- Its sheet is short if it is valid and has no right sides.
+-- The sheet of a system without relations and order is short if it is valid and has no right sides.
 module _ (z : Sizes) (rows : List Row) (v : Valid z rows [])
     (plain : T (every isZero (map (λ r. r .right) rows ++ []))) where
   bounds : SizeBounds z
@@ -233,7 +229,7 @@ module _ (z : Sizes) (rows : List Row) (v : Valid z rows [])
   low-small = natAbs-≤-iff (z .t) .1 (bounds .low, ≤ℤ-trans (bounds .ordered) (bounds .high))
 
   few-rows : length rows ≤ mostEquations
-  few-rows = rw (v .row-count) (equations-few z bounds)
+  few-rows = rw (v .row-count) (bounds .few-equations)
 
   first : List ℤ
   first = pos 3 ∷ pos (z .m) ∷ z .l ∷ z .t ∷ []
@@ -304,11 +300,11 @@ no-sides K (ts ∷ es) =
     zeros : T (isZero (blankRow .right))
     zeros = isZero-replicate coefficientCount
 
-pub recurrence-short : (d : DifferentialSheet) → Accepted d → length (writeSheet (recurrenceOf d)) ≤ mostRecurrenceBytes
+pub recurrence-short : (d : DifferentialSheet) → ValidDifferential d → length (writeSheet (recurrenceOf d)) ≤ mostRecurrenceBytes
 unfolding recurrenceOf
-recurrence-short d a =
-    plain-short (recurrenceSizes (d .unknowns) (d .order) (d .degree)) (map (recurrenceRow (d .order)) (d .equations))
-    (recurrence-valid d (a .valid) (a .as-many)) (no-sides (d .order) (d .equations))
+recurrence-short d valid =
+    plain-short (recurrenceSizes (d .unknowns) (length (d .equations)) (d .order) (d .degree))
+    (map (recurrenceRow (d .order)) (d .equations)) (recurrence-valid d valid) (no-sides (d .order) (d .equations))
 
 -- The call that writes a recurrence, where the byte store is not shorter than that (SCOPE 10.42).
 written-fits : (text byteStore : List ℕ) → length text ≤ length byteStore

@@ -14,7 +14,6 @@ ghost use Rattle.tokens.specs.Fields.{Answers};
 ghost use Rattle.differential.specs.Grammar.{mostOf, noTerm};
 ghost use Rattle.differential.specs.Read.{extentOf, termOf, SmallExtent};
 ghost use Rattle.differential.specs.Rows.{readRow, termsRow, mostCount};
-ghost use Rattle.differential.specs.Sections.{rowSection};
 ghost use Rattle.reading.specs.Sections.{readEach};
 
 // What an equation's first term follows, at the place where that term begins.
@@ -78,8 +77,14 @@ fn equation_at(bytes: &[u8], at: usize, x: Extent, row: &mut [i64]) -> PartRead
     terms_at(bytes, k.at, x, k.value as usize, row)
 }
 
-// So many equations, read into the rows of `rows`.
-fn equations_at(bytes: &[u8], at: usize, x: Extent, equations: usize, rows: &mut [i64]) -> PartRead
+// So many equations, read into the rows of `rows` (SCOPE 10.3).
+pub(crate) fn equations_at(
+    bytes: &[u8],
+    at: usize,
+    x: Extent,
+    equations: usize,
+    rows: &mut [i64],
+) -> PartRead
     requires { ⌜ (at ≤ length (now bytes)) × SmallExtent (extentOf x) ⌝ }
     requires { ⌜ (equations ≤ mostEquations) × (now rows ≡ zeros (equations * rowLength)) ⌝ }
     ensures { λ r. ⌜ Answers (now (bytes .entry)) (r .refusal) (rowsOf equations (now (rows .exit))) (r .at)
@@ -101,25 +106,4 @@ fn equations_at(bytes: &[u8], at: usize, x: Extent, equations: usize, rows: &mut
         refusal: 0,
         at: next,
     }
-}
-
-// The equation count, any other number being 2 (SCOPE 10.12), and the equations (SCOPE 10.3).
-pub(crate) fn equation_section(
-    bytes: &[u8],
-    at: usize,
-    x: Extent,
-    equations: usize,
-    rows: &mut [i64],
-) -> PartRead
-    requires { ⌜ (at ≤ length (now bytes)) × SmallExtent (extentOf x) ⌝ }
-    requires { ⌜ (equations ≤ mostEquations) × (now rows ≡ zeros (equations * rowLength)) ⌝ }
-    ensures { λ r. ⌜ Answers (now (bytes .entry)) (r .refusal) (rowsOf equations (now (rows .exit))) (r .at)
-        (rowSection (extentOf x) equations (drop at (now (bytes .entry)))) ⌝ }
-{
-    let n = equations as i64;
-    let k = tokens::number_between(bytes, at, n, n, 10);
-    if k.refusal != 0 {
-        return reading::equations::no_part(k.refusal);
-    }
-    equations_at(bytes, k.at, x, equations, rows)
 }

@@ -1,4 +1,4 @@
-// The first line of a differential sheet: 3, m, K and J (SCOPE 10.2).
+// The first two lines of a differential sheet: 3, m, K and J, and the number of equations (SCOPE 10.2, 10.3).
 ghost use mathlib.Core.Path.{_≡_};
 ghost use Rattle.tokens.specs.Fields.{Answers};
 ghost use Rattle.differential.specs.Grammar.{readExtent};
@@ -9,14 +9,15 @@ pub(crate) const MOST_DERIVATIVE: i64 = 2;
 
 pub(crate) const MOST_POWER: i64 = 2;
 
-// The unknowns, the highest derivative and the highest power of the variable.
+// The unknowns, the highest derivative, the highest power of the variable, and the number of equations.
 pub(crate) struct Extent {
     pub unknowns: usize,
     pub order: usize,
     pub degree: usize,
+    pub equations: usize,
 }
 
-// What the first line says and the place after it, or a refusal.
+// What those lines say and the place after them, or a refusal.
 pub(crate) struct ExtentRead {
     pub refusal: u8,
     pub at: usize,
@@ -33,11 +34,12 @@ fn no_extent(refusal: u8) -> ExtentRead
             unknowns: 0,
             order: 0,
             degree: 0,
+            equations: 0,
         },
     }
 }
 
-// The line `3 m K J`.
+// The line `3 m K J`, and the line with the number of equations, 0 to 6 (SCOPE 10.12).
 pub(crate) fn extent_at(bytes: &[u8]) -> ExtentRead
     ensures { λ r. ⌜ Answers (now (bytes .entry)) (r .refusal) (extentOf (r .extent)) (r .at) (readExtent (now (bytes .entry))) ⌝ }
 {
@@ -53,13 +55,18 @@ pub(crate) fn extent_at(bytes: &[u8]) -> ExtentRead
     if j.refusal != 0 {
         return no_extent(j.refusal);
     }
+    let n = tokens::number_between(bytes, j.at, 0, 6, 10);
+    if n.refusal != 0 {
+        return no_extent(n.refusal);
+    }
     ExtentRead {
         refusal: 0,
-        at: j.at,
+        at: n.at,
         extent: Extent {
             unknowns: m.value as usize,
             order: k.value as usize,
             degree: j.value as usize,
+            equations: n.value as usize,
         },
     }
 }

@@ -27,6 +27,7 @@ fn sizes_for(x: extent::Extent) -> stores::validity::Sizes
 {
     stores::validity::Sizes {
         m: x.unknowns,
+        equations: x.equations,
         l: x.order as i64,
         t: -(x.degree as i64),
     }
@@ -44,10 +45,10 @@ pub fn read_differential(bytes: &[u8], rows: &mut [i64], relations: &mut [i64]) 
         return reading::sheet::refused(d.refusal);
     }
     let x = d.extent;
-    if !stores::validity::lengths_right(rows, relations, x.unknowns) {
+    if !stores::validity::lengths_right(rows, relations, x.equations) {
         return reading::sheet::refused(1);
     }
-    reading::sheet::fill_rows(rows, &numbers, x.unknowns);
+    reading::sheet::fill_rows(rows, &numbers, x.equations);
     reading::sheet::fill_relations(relations, &numbers, 0);
     let sizes = sizes_for(x);
     SheetResult {

@@ -22,6 +22,7 @@ fn no_sheet(refusal: u8) -> SheetRead
             unknowns: 0,
             order: 0,
             degree: 0,
+            equations: 0,
         },
     }
 }
@@ -36,8 +37,8 @@ pub(crate) fn sheet_at(bytes: &[u8], rows: &mut [i64]) -> SheetRead
         return no_sheet(h.refusal);
     }
     let x = h.extent;
-    let used = x.unknowns * ROW;
-    let e = crate::equations::equation_section(bytes, h.at, x, x.unknowns, &mut rows[..used]);
+    let used = x.equations * ROW;
+    let e = crate::equations::equations_at(bytes, h.at, x, x.equations, &mut rows[..used]);
     if e.refusal != 0 {
         return no_sheet(e.refusal);
     }

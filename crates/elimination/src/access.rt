@@ -27,7 +27,7 @@ pub(crate) fn place_right(
 ) -> bool
     ensures { λ r. ⌜ r ≡ Calls.placeRight (sizesOf sizes) row block column ⌝ }
 {
-    if !stores::validity::counted(row, sizes.m) {
+    if !stores::validity::counted(row, sizes.equations) {
         return false;
     }
     if !between(block, sizes.l, sizes.t) {

@@ -37,7 +37,7 @@ pub fn run_trailing(
     runs::called(rows, relations, sizes, count, Side::Trailing)
 }
 
-// 2 where a size or the place is out of its range, otherwise 1 where the store is too short for m rows, otherwise 0
+// 2 where a size or the place is out of its range, otherwise 1 where the store is too short for the rows, otherwise 0
 // (SCOPE 3.42, 3.43).
 pub fn check_polynomial(
     rows: &[i64],
@@ -54,7 +54,7 @@ pub fn check_polynomial(
     if !access::place_right(sizes, row, block, column) {
         return 2;
     }
-    if rows.len() < sizes.m * ROW {
+    if rows.len() < sizes.equations * ROW {
         return 1;
     }
     0
@@ -86,10 +86,10 @@ pub fn check_right_side(rows: &[i64], sizes: stores::validity::Sizes, row: usize
     if !stores::validity::sizes_right(sizes) {
         return 2;
     }
-    if !stores::validity::counted(row, sizes.m) {
+    if !stores::validity::counted(row, sizes.equations) {
         return 2;
     }
-    if rows.len() < (sizes.m * ROW) {
+    if rows.len() < (sizes.equations * ROW) {
         return 1;
     }
     0

@@ -39,10 +39,12 @@ exportDifferential bytes rowStore relationStore resultStore = readWith (readDiff
 
 filled-small : (bytes : List ℕ) (d : DifferentialSheet) (rest : List ℕ) (rowStore relationStore : List ℤ) → readDifferential bytes ≡ got d rest
     → SmallRead (filled (recurrenceOf d) rowStore relationStore .result)
-unfolding filled recurrenceOf All
+unfolding filled recurrenceOf equations All
 filled-small bytes d rest rowStore relationStore e =
+    let bounds = size-bounds (recurrenceOf d .sizes) (accepted-valid bytes d rest e .sizes) in
     record {
-      few-unknowns = size-bounds (recurrenceOf d .sizes) (accepted-valid bytes d rest e .sizes) .few;
+      few-unknowns = bounds .few;
+      few-equations = bounds .few-equations;
       few-relations = zero-le;
       four = length-padTo {A = ℕ} columnCount 0 [];
       columns = all-padTo {A = ℕ} (λ c. c ≤ columnCount) columnCount 0 [] zero-le tt;

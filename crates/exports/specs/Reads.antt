@@ -1,7 +1,7 @@
 -- The exported reader of sheets: what a sheet says besides its rows and relations is numbers of a lent store.
 --
 -- Main definitions
---   readNumbers r          the eight numbers of a result
+--   readNumbers r          the nine numbers of a result
 --   readAfter c ..         the call, by what reading the sheet did
 --   readWith call ..       an exported call, by the call that reads
 --   exportRead ..          the call
@@ -14,17 +14,16 @@
 use Prim.Native.Nat.{ℕ, _*_, _≤_, _<_, zero-le}
 use native.Mathlib.Nat.{le-trans}
 use mathlib.Core.Path.{_≡_, refl, sym, _∙_, ap, subst}
-use mathlib.Core.Logic.{inl, inr}
 use mathlib.Core.Bool.{Bool, true, false, cond, and-false}
-use mathlib.Core.List.{List, [], _∷_, map}
+use mathlib.Core.List.{List, [], _∷_, _++_, map}
 use borrow.Author.Tests.{le-leb, lt-leb}
 use lib.Dec.{T, leb}
 use lib.IntN.{ℤ, pos}
 use lib.ListN.{length}
-use Rattle.rules.specs.Limits.{columnCount, rowLength}
+use Rattle.rules.specs.Limits.{columnCount, mostEquations, rowLength}
 use Rattle.lists.specs.Everywhere.{All, all-mono}
 use Rattle.rules.specs.Stores.{lengthsRight, rowNeed, equations}
-use Rattle.rules.specs.Layout.{size-bounds, countRight-iff}
+use Rattle.rules.specs.Layout.{SizeBounds, size-bounds, countRight-iff}
 use Rattle.lists.specs.Padded.{length-padTo, all-padTo}
 use Rattle.rules.specs.Numbers.{Read, got, fault}
 use Rattle.rules.specs.Sheets.{Sheet, readSheet}
@@ -33,9 +32,10 @@ use Rattle.sheets.specs.WrittenOrder.{OrderRight, different-cons}
 use Rattle.sheets.specs.ReadBack.{SheetRight, read-right}
 use Rattle.exports.specs.Results.{Exported, kept, resultNeed, onAcceptance}
 
--- m, l, t, the number of relations, c(1) to c(4) (SCOPE 3.52).
+-- m, l, t, the number of relations, c(1) to c(4), the number of equations (SCOPE 3.52).
 unfoldable pub readNumbers : ReadResult → List ℤ
-readNumbers r = pos (r .sizes .m) ∷ r .sizes .l ∷ r .sizes .t ∷ pos (r .relations) ∷ map pos (r .order)
+readNumbers r =
+    pos (r .sizes .m) ∷ r .sizes .l ∷ r .sizes .t ∷ pos (r .relations) ∷ (map pos (r .order) ++ (pos (r .sizes .equations) ∷ []))
 
 -- The result store is written on acceptance only: reading refuses 1 to 5 alone (SCOPE 3.54).
 unfoldable pub readAfter : ReadCall → List ℤ → Exported
@@ -114,6 +114,7 @@ module _ (bytes : List ℕ) (rowStore relationStore resultStore : List ℤ) wher
 
 pub record SmallRead (r : ReadResult) : Type 0 where
   pub few-unknowns : r .sizes .m ≤ columnCount
+  pub few-equations : r .sizes .equations ≤ mostEquations
   pub few-relations : r .relations ≤ 16
   pub four : length (r .order) ≡ columnCount
   pub columns : All (λ c. c ≤ columnCount) (r .order)
@@ -121,7 +122,13 @@ pub record SmallRead (r : ReadResult) : Type 0 where
 pub read-zeros : (n : ℕ) → SmallRead (readRefusal n)
 unfolding readRefusal All
 read-zeros n =
-    record { few-unknowns = zero-le; few-relations = zero-le; four = refl; columns = (zero-le, (zero-le, (zero-le, (zero-le, tt)))) }
+    record {
+      few-unknowns = zero-le;
+      few-equations = zero-le;
+      few-relations = zero-le;
+      four = refl;
+      columns = (zero-le, (zero-le, (zero-le, (zero-le, tt))));
+    }
 
 different-columns : (m : ℕ) (l : List ℕ) → T (differentColumns m l) → All (λ c. c ≤ m) l
 unfolding All
@@ -129,28 +136,28 @@ different-columns m [] h = tt
 different-columns m (c ∷ l) h = let e = different-cons m c l .0 h in (e .1, different-columns m l (e .3))
 
 order-columns : (m : ℕ) (order : List ℕ) → OrderRight m order → All (λ c. c ≤ m) order
-unfolding OrderRight All
-order-columns m order (inl e) = subst (All (λ c. c ≤ m)) (sym e) tt
-order-columns m order (inr h) = different-columns m order (h .1)
+unfolding OrderRight
+order-columns m order h = different-columns m order h
 
 filled-small : (bytes : List ℕ) (x : Sheet) (rest : List ℕ) (rowStore relationStore : List ℤ) → readSheet bytes ≡ got x rest
     → SmallRead (filled x rowStore relationStore .result)
-unfolding filled
+unfolding filled equations
 filled-small bytes x rest rowStore relationStore e =
     record {
-      few-unknowns = few;
+      few-unknowns = bounds .few;
+      few-equations = bounds .few-equations;
       few-relations = countRight-iff (length (x .relations)) .0 (right .valid .relation-count);
       four = length-padTo columnCount 0 (x .order);
       columns = all-padTo (λ c. c ≤ columnCount) columnCount 0 (x .order) zero-le
-          (all-mono (λ c. c ≤ x .sizes .m) (λ c. c ≤ columnCount) (λ c h. le-trans h few) (x .order)
+          (all-mono (λ c. c ≤ x .sizes .m) (λ c. c ≤ columnCount) (λ c h. le-trans h (bounds .few)) (x .order)
           (order-columns (x .sizes .m) (x .order) (right .order-right)));
     }
   where
     right : SheetRight x
     right = read-right bytes x rest e .0
 
-    few : x .sizes .m ≤ columnCount
-    few = size-bounds (x .sizes) (right .valid .sizes) .few
+    bounds : SizeBounds (x .sizes)
+    bounds = size-bounds (x .sizes) (right .valid .sizes)
 
 pub read-small : (bytes : List ℕ) (rowStore relationStore : List ℤ) {x : ReadCall} → x ≡ readCall bytes rowStore relationStore
     → SmallRead (x .result)

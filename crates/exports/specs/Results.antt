@@ -43,7 +43,7 @@ kept n rowStore relationStore resultStore =
 
 -- The numbers that a result of a run or of a sheet that was read has (SCOPE 3.52).
 abbrev pub resultNeed : ℕ
-resultNeed = 8
+resultNeed = 9
 
 unfoldable pub onAcceptance : ℕ → List ℤ → List ℤ → List ℤ
 unfolding overwrite
@@ -66,20 +66,21 @@ none-checked z count =
     ap (λ b. cond (sizesRight z && countRight count) (cond b (cond (numbersRight z count [] []) 0 5) 1) 2)
     (and-false (leb (equations z * rowLength) 0))
 
-pub small-fits : (n : ℕ) → n ≤ 16 → SFits w64 (pos n)
+pub small-fits : (n : ℕ) → n ≤ 24 → SFits w64 (pos n)
 small-fits n h = sfits-size (pos n) h (lit< tt)
 
-pub small-value : (n : ℕ) → n ≤ 16 → toZ w64 n ≡ pos n
+pub small-value : (n : ℕ) → n ≤ 24 → toZ w64 n ≡ pos n
 small-value n h = toZ-pos w64 (omega arith)
 
 pub answer-value : (b : Bool) → toZ w64 (boolByte b) ≡ pos (cond b 1 0)
 answer-value true = small-value 1 (omega arith)
 answer-value false = small-value 0 (omega arith)
 
--- m, l and t, as a call that takes them in a struct reads them.
-pub sizes-told : (m : ℕ) {l t : ℤ} → SFits w64 l → SFits w64 t
-    → _≡_ {A = Sizes} (record { m = m; l = toZ w64 (ofZ w64 l); t = toZ w64 (ofZ w64 t) }) (record { m = m; l = l; t = t })
-sizes-told m f g i = record { m = m; l = toZ-ofZ f i; t = toZ-ofZ g i }
+-- m, the number of equations, l and t, as a call that takes them in a struct reads them.
+pub sizes-told : (m n : ℕ) {l t : ℤ} → SFits w64 l → SFits w64 t
+    → _≡_ {A = Sizes} (record { m = m; equations = n; l = toZ w64 (ofZ w64 l); t = toZ w64 (ofZ w64 t) })
+    (record { m = m; equations = n; l = l; t = t })
+sizes-told m n f g i = record { m = m; equations = n; l = toZ-ofZ f i; t = toZ-ofZ g i }
 
 -- The first four members of a list, one by one.
 pub four-members : {A B : Type 0} (f : A → B) (d : A) (l : List A) → 4 ≤ length l

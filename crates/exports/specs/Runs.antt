@@ -1,7 +1,7 @@
 -- The exported runs: a run on lent stores whose result is a lent store too.
 --
 -- Main definitions
---   runNumbers r           the eight numbers of a result
+--   runNumbers r           the nine numbers of a result
 --   checkRun ..            the checks of the call: sizes (2), lengths (1), numbers (5)
 --   exportRun side ..      the call
 --   early n, keptOr ..     the refusals that leave the result store as it was, and the store by the refusal
@@ -29,19 +29,19 @@ use Rattle.lists.specs.Everywhere.{All, all-map, getD-all}
 use Rattle.rules.specs.Elimination.{Side, State, Outcome, going, done, refused, wholeRun, neverNumber}
 use Rattle.rules.specs.Stores.{Sizes, Valid, span, rowsOf, relationsOf, sizesRight, countRight, lengthsRight, numbersRight, checkStores}
 use Rattle.rules.specs.Stores.{equations}
-use Rattle.rules.specs.Layout.{SizeBounds, size-bounds, equations-few, checkStores-order, stores-valid, countRight-iff, block-place}
+use Rattle.rules.specs.Layout.{SizeBounds, size-bounds, checkStores-order, stores-valid, countRight-iff, block-place}
 use Rattle.lists.specs.Padded.{length-padTo, all-padTo}
-use Rattle.theory.specs.Demands.{Accepted, Ended, accepted, six, seven, eight, nine, ten, run-ends, shifts-bounded, output-valid}
-use Rattle.theory.specs.Demands.{diagonal-nonzero}
+use Rattle.theory.specs.Demands.{Accepted, Ended, accepted, seven, eight, nine, ten, run-ends, shifts-bounded, output-valid}
+use Rattle.theory.specs.Demands.{diagonal-nonzero, rank-most}
 use Rattle.rules.specs.Calls.{reportedOrder}
 use Rattle.rules.specs.Calls.{Result, Call, callRun, zeros, refusal, unchanged, cleared, acceptance, afterRun, afterCheck}
 use Rattle.lists.specs.Overwritten.{overwrite}
 use Rattle.exports.specs.Results.{Exported, kept, resultNeed, none-checked}
 
--- The number of relations, the shifts, c(1) to c(4), 1 or 0 for a root, the root (SCOPE 3.52).
+-- The number of relations, the shifts, c(1) to c(4), 1 or 0 for a root, the root, the rank (SCOPE 3.52).
 unfoldable pub runNumbers : Result → List ℤ
 runNumbers r =
-    pos (r .relations) ∷ pos (r .shifts) ∷ (map pos (r .order) ++ (pos (cond (r .hasRoot) 1 0) ∷ r .root ∷ []))
+    pos (r .relations) ∷ pos (r .shifts) ∷ (map pos (r .order) ++ (pos (cond (r .hasRoot) 1 0) ∷ r .root ∷ pos (r .rank) ∷ []))
 
 -- Sizes (2), lengths (1), numbers (5) in turn (SCOPE 3.31); the result store is one of the stores (SCOPE 3.53).
 unfoldable pub checkRun : Sizes → ℕ → List ℤ → List ℤ → List ℤ → ℕ
@@ -51,7 +51,7 @@ checkRun z count rowStore relationStore resultStore =
     let lengths : ℕ = cond (lengthsRight (equations z) rowStore relationStore && leb resultNeed (length resultStore)) numbers 1 in
     cond (sizesRight z && countRight count) lengths 2
 
--- An acceptance, or a refusal 6 to 10, which makes the eight numbers of the result zero (SCOPE 3.54, 6.31).
+-- An acceptance, or a refusal 7 to 10, which makes the nine numbers of the result zero (SCOPE 3.54, 6.31).
 unfoldable pub ran : Call → List ℤ → Exported
 unfolding overwrite runNumbers
 ran c resultStore =
@@ -80,9 +80,10 @@ refused-numbers n = refl
 -- Counts and columns that fit into a number of the result store.
 pub record SmallResult (r : Result) : Type 0 where
   pub few-relations : r .relations ≤ 16
-  pub few-shifts : r .shifts ≤ 16
+  pub few-shifts : r .shifts ≤ 24
   pub four : length (r .order) ≡ columnCount
   pub columns : All (λ c. c ≤ columnCount) (r .order)
+  pub low-rank : r .rank ≤ columnCount
 
 -- ---- the result store, by the refusal of the run
 
@@ -143,8 +144,14 @@ few-checks false l n = omega arith
 
 run-zeros : (n : ℕ) → SmallResult (refusal n)
 unfolding refusal All
-run-zeros n = record
-    { few-relations = zero-le; few-shifts = zero-le; four = refl; columns = (zero-le, (zero-le, (zero-le, (zero-le, tt)))) }
+run-zeros n =
+    record {
+      few-relations = zero-le;
+      few-shifts = zero-le;
+      four = refl;
+      columns = (zero-le, (zero-le, (zero-le, (zero-le, tt))));
+      low-rank = zero-le;
+    }
 
 module _ (side : Side) (z : Sizes) (count : ℕ) (rowStore relationStore : List ℤ) where
   abbrev outcome : Outcome
@@ -173,9 +180,10 @@ module _ (side : Side) (z : Sizes) (count : ℕ) (rowStore relationStore : List 
     accepted-small s f =
         record {
           few-relations = countRight-iff (length (s .relations)) .0 (output-valid a .relation-count);
-          few-shifts = le-trans (shifts-bounded a) (mul-le-mul (equations-few z bounds) few-blocks);
+          few-shifts = le-trans (shifts-bounded a) (mul-le-mul (bounds .few-equations) few-blocks);
           four = length-padTo 4 0 (map suc (s .order));
           columns = all-padTo (λ c. c ≤ 4) 4 0 (map suc (s .order)) zero-le (all-map (λ c. c ≤ 4) suc (s .order) .1 below);
+          low-rank = le-trans (rank-most a) (bounds .few);
         }
       where
         a : Accepted side z (rowsOf (equations z) rowStore) (relationsOf count relationStore) s
@@ -193,7 +201,6 @@ module _ (side : Side) (z : Sizes) (count : ℕ) (rowStore relationStore : List 
     late : (o : Outcome) → Ended o → early (afterRun side z o rowStore relationStore .result .refusal) ≡ false
     unfolding early afterRun acceptance cleared refusal
     late o (accepted s) = refl
-    late o six = refl
     late o seven = refl
     late o eight = refl
     late o nine = refl

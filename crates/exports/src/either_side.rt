@@ -9,7 +9,7 @@ ghost use Rattle.sides.specs.Lent.{sideOf};
 ghost use Rattle.runs.specs.CallLaws.{resultOf, callOf};
 ghost use Rattle.exports.specs.Runs.{runNumbers, SmallResult, keptOr, exportRun};
 
-fn run_numbers(answer: elimination::RunResult) -> [i64; 8]
+fn run_numbers(answer: elimination::RunResult) -> [i64; 9]
     requires { ⌜ SmallResult (resultOf answer) ⌝ }
     ensures { λ r. ⌜ r ≡ runNumbers (resultOf answer) ⌝ }
 {
@@ -23,12 +23,13 @@ fn run_numbers(answer: elimination::RunResult) -> [i64; 8]
         order[3] as i64,
         answer.has_root as i64,
         answer.root,
+        answer.rank as i64,
     ]
 }
 
 // The result store after a run: unchanged where the refusal was found before the work began (SCOPE 3.54).
 fn put_run(result: &mut [i64], answer: elimination::RunResult)
-    requires { ⌜ (8 ≤ length (now result)) × SmallResult (resultOf answer) ⌝ }
+    requires { ⌜ (9 ≤ length (now result)) × SmallResult (resultOf answer) ⌝ }
     ensures { λ _. ⌜ now (result .exit) ≡ keptOr (answer .refusal) (runNumbers (resultOf answer)) (now (result .entry)) ⌝ }
 {
     if stores::validity::counted(answer.refusal as usize, 5) {
@@ -67,7 +68,7 @@ pub(crate) fn exported(
         record { refusal = r; rowStore = now (rows .exit); relationStore = now (relations .exit); resultStore = now (result .exit) }
         ≡ exportRun (sideOf side) (sizesOf sizes) count (now (rows .entry)) (now (relations .entry)) (now (result .entry)) ⌝ }
 {
-    if result.len() < 8 {
+    if result.len() < 9 {
         return stores::validity::check_stores(&rows[..0], &relations[..0], sizes, count);
     }
     let answer = run(rows, relations, sizes, count, side);

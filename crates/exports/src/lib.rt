@@ -15,13 +15,14 @@ mod numbers;
 mod reads;
 mod writes;
 
-// A run on the leading side. `result` gets eight numbers: the relation count, the shifts, c(1) to c(4), 1 or 0 for a
-// root, the root (SCOPE 3.52).
+// A run on the leading side. `result` gets nine numbers: the relation count, the shifts, c(1) to c(4), 1 or 0 for a
+// root, the root, the rank (SCOPE 3.52).
 #[no_mangle]
 pub extern "C" fn wurgalm_run_leading(
     rows: &mut [i64],
     relations: &mut [i64],
     m: usize,
+    equations: usize,
     l: i64,
     t: i64,
     count: usize,
@@ -29,12 +30,12 @@ pub extern "C" fn wurgalm_run_leading(
 ) -> u8
     ensures { λ r. ⌜
         record { refusal = r; rowStore = now (rows .exit); relationStore = now (relations .exit); resultStore = now (result .exit) }
-        ≡ exportRun leading (record { m = m; l = l; t = t }) count (now (rows .entry)) (now (relations .entry)) (now (result .entry)) ⌝ }
+        ≡ exportRun leading (record { m = m; equations = equations; l = l; t = t }) count (now (rows .entry)) (now (relations .entry)) (now (result .entry)) ⌝ }
 {
     either_side::exported(
         rows,
         relations,
-        stores::validity::Sizes { m, l, t },
+        stores::validity::Sizes { m, equations, l, t },
         count,
         result,
         Side::Leading,
@@ -47,6 +48,7 @@ pub extern "C" fn wurgalm_run_trailing(
     rows: &mut [i64],
     relations: &mut [i64],
     m: usize,
+    equations: usize,
     l: i64,
     t: i64,
     count: usize,
@@ -54,19 +56,20 @@ pub extern "C" fn wurgalm_run_trailing(
 ) -> u8
     ensures { λ r. ⌜
         record { refusal = r; rowStore = now (rows .exit); relationStore = now (relations .exit); resultStore = now (result .exit) }
-        ≡ exportRun trailing (record { m = m; l = l; t = t }) count (now (rows .entry)) (now (relations .entry)) (now (result .entry)) ⌝ }
+        ≡ exportRun trailing (record { m = m; equations = equations; l = l; t = t }) count (now (rows .entry)) (now (relations .entry)) (now (result .entry)) ⌝ }
 {
     either_side::exported(
         rows,
         relations,
-        stores::validity::Sizes { m, l, t },
+        stores::validity::Sizes { m, equations, l, t },
         count,
         result,
         Side::Trailing,
     )
 }
 
-// A sheet read into the stores. `result` gets eight numbers: m, l, t, the relation count, c(1) to c(4) (SCOPE 3.52).
+// A sheet read into the stores. `result` gets nine numbers: m, l, t, the relation count, c(1) to c(4), the number
+// of equations (SCOPE 3.52).
 #[no_mangle]
 pub extern "C" fn wurgalm_read_sheet(
     bytes: &[u8],
@@ -78,7 +81,7 @@ pub extern "C" fn wurgalm_read_sheet(
         record { refusal = r; rowStore = now (rows .exit); relationStore = now (relations .exit); resultStore = now (result .exit) }
         ≡ exportRead (now (bytes .entry)) (now (rows .entry)) (now (relations .entry)) (now (result .entry)) ⌝ }
 {
-    if result.len() < 8 {
+    if result.len() < 9 {
         let judged = sheets::read_sheet(bytes, &mut rows[..0], &mut relations[..0]);
         return judged.refusal;
     }
@@ -90,13 +93,14 @@ pub extern "C" fn wurgalm_read_sheet(
     0
 }
 
-// The system of the stores written as a sheet. `order` holds four numbers: all 0 for no order, otherwise a permutation
-// of 1..m and zeros past its end (SCOPE 3.55, 4.53). `result` gets one number: the length of the sheet (SCOPE 3.52).
+// The system of the stores written as a sheet. `order` holds four numbers: different columns of 1..m and zeros past them
+// (SCOPE 3.55, 4.53). `result` gets one number: the length of the sheet (SCOPE 3.52).
 #[no_mangle]
 pub extern "C" fn wurgalm_write_sheet(
     rows: &[i64],
     relations: &[i64],
     m: usize,
+    equations: usize,
     l: i64,
     t: i64,
     count: usize,
@@ -106,13 +110,13 @@ pub extern "C" fn wurgalm_write_sheet(
 ) -> u8
     ensures { λ r. ⌜
         record { refusal = r; byteStore = now (bytes .exit); resultStore = now (result .exit) }
-        ≡ exportWrite (record { m = m; l = l; t = t }) count (now (order .entry)) (now (rows .entry)) (now (relations .entry))
+        ≡ exportWrite (record { m = m; equations = equations; l = l; t = t }) count (now (order .entry)) (now (rows .entry)) (now (relations .entry))
         (now (bytes .entry)) (now (result .entry)) ⌝ }
 {
     writes::exported(
         rows,
         relations,
-        stores::validity::Sizes { m, l, t },
+        stores::validity::Sizes { m, equations, l, t },
         count,
         order,
         bytes,
@@ -137,7 +141,7 @@ pub extern "C" fn wurgalm_batch(input: &[u8], output: &mut [u8], result: &mut [i
     worked.refusal
 }
 
-// The recurrence of a differential sheet read into the stores. `result` gets eight numbers, as for a sheet (SCOPE 3.52).
+// The recurrence of a differential sheet read into the stores. `result` gets nine numbers, as for a sheet (SCOPE 3.52).
 #[no_mangle]
 pub extern "C" fn wurgalm_read_differential(
     bytes: &[u8],
@@ -149,7 +153,7 @@ pub extern "C" fn wurgalm_read_differential(
         record { refusal = r; rowStore = now (rows .exit); relationStore = now (relations .exit); resultStore = now (result .exit) }
         ≡ exportDifferential (now (bytes .entry)) (now (rows .entry)) (now (relations .entry)) (now (result .entry)) ⌝ }
 {
-    if result.len() < 8 {
+    if result.len() < 9 {
         let judged = differential::read_differential(bytes, &mut rows[..0], &mut relations[..0]);
         return judged.refusal;
     }

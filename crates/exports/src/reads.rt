@@ -3,7 +3,7 @@ ghost use mathlib.Core.Path.{_≡_};
 ghost use Rattle.reading.specs.WholeSheet.{resultOf};
 ghost use Rattle.exports.specs.Reads.{readNumbers, SmallRead};
 
-pub(crate) fn read_numbers(sheet: sheets::SheetResult) -> [i64; 8]
+pub(crate) fn read_numbers(sheet: sheets::SheetResult) -> [i64; 9]
     requires { ⌜ SmallRead (resultOf sheet) ⌝ }
     ensures { λ r. ⌜ r ≡ readNumbers (resultOf sheet) ⌝ }
 {
@@ -18,5 +18,6 @@ pub(crate) fn read_numbers(sheet: sheets::SheetResult) -> [i64; 8]
         order[1] as i64,
         order[2] as i64,
         order[3] as i64,
+        sizes.equations as i64,
     ]
 }

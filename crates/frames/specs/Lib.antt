@@ -1,4 +1,3 @@
-pub mod Windows
 pub mod Pieces
 pub mod Longer
 pub mod Lines

@@ -43,8 +43,8 @@ use Rattle.writing.specs.Writer.{Put, digitsOf}
 use Rattle.lists.specs.Tests.{first-failed, second-failed, both-passed}
 use Rattle.frames.specs.declared.Batch.{Batch}
 use Rattle.frames.specs.declared.SheetLine.{SheetLine}
-use Rattle.frames.specs.Windows.{numberLine, batchLine, followed, Window, field-window, sheetLine-window}
-use Rattle.frames.specs.Windows.{countOf, clientOf, sheetLine-is, number-short}
+use Rattle.tokens.specs.Windows.{numberLine, batchLine, followed, Window, field-window, sheetLine-window}
+use Rattle.tokens.specs.Windows.{countOf, clientOf, sheetLine-is, number-short}
 use Rattle.frames.specs.Pieces.{readCount, batchWith, begunOf, begunBy, lineOf, lineBy, tallyOf, numbered, raises, raisedOf}
 use Rattle.frames.specs.Pieces.{countedBy, countedOf, acceptedIn, refusedIn, raised-is, counted-is, textRoom, textOf, refusalLine}
 use Rattle.frames.specs.Pieces.{closeable, closeText, closed-is, refusal-broken, close-broken}

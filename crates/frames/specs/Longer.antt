@@ -22,9 +22,9 @@ use Rattle.rules.specs.Numbers.{minus, word, afterWord, isDigit, signed, digits
 use Rattle.rules.specs.Numbers.{Read, got, fault, thenRead, judged, readWord, readSeparator, field, between}
 use Rattle.rules.specs.Batch.{SheetLine as ReadLine, noTally, readSize, readAfterClient, readSheetLine}
 use Rattle.tokens.specs.Exact.{fault-got}
-use Rattle.frames.specs.Windows.{followed, numberLine, batchLine, Taken, word-unended, word-whole, begins-short, separated, field-is}
-use Rattle.frames.specs.Windows.{field-unbegun, field-ended, field-got-longer, field-taken, countOf, clientOf, sheetLine-is}
-use Rattle.frames.specs.Windows.{sheetLine-got-longer}
+use Rattle.tokens.specs.Windows.{followed, numberLine, batchLine, Taken, word-unended, word-whole, begins-short, separated, field-is}
+use Rattle.tokens.specs.Windows.{field-unbegun, field-ended, field-got-longer, field-taken, countOf, clientOf, sheetLine-is}
+use Rattle.tokens.specs.Windows.{sheetLine-got-longer}
 use Rattle.frames.specs.Pieces.{readCount, batchWith, begunBy, begunOf, lineBy, lineOf}
 
 fault-inj : {A : Type 0} (m n : ℕ) → _≡_ {A = Read A} (fault m) (fault n) → m ≡ n

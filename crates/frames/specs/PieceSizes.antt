@@ -20,7 +20,7 @@ use Rattle.rules.specs.Numbers.{space, newline, Read, got, fault}
 use Rattle.rules.specs.Batch.{SheetLine as ReadLine, Answer, accepted, refusedWith, answerSheet, readAfterClient, readSize}
 use Rattle.rules.specs.Batch.{readSheetLine, clientCount}
 use Rattle.frames.specs.declared.Text.{Text}
-use Rattle.frames.specs.Windows.{countOf, clientOf, sheetLine-is}
+use Rattle.tokens.specs.Windows.{countOf, clientOf, sheetLine-is}
 use Rattle.frames.specs.Pieces.{readCount, begunBy, begunOf, lineBy, lineOf, line-got, textRoom, textOf, Counted}
 use Rattle.answers.specs.Answers.{AnswerCall, unanswered, answered, answerCall}
 use Rattle.frames.specs.Lines.{in-range}

@@ -41,8 +41,8 @@ use Rattle.frames.specs.declared.Batch.{Batch}
 use Rattle.frames.specs.declared.Begun.{Begun}
 use Rattle.frames.specs.declared.SheetLine.{SheetLine}
 use Rattle.frames.specs.declared.Text.{Text}
-use Rattle.frames.specs.Windows.{numberLine, Taken, taken-drop, field-taken, sheetLine-taken}
-use Rattle.frames.specs.Windows.{countOf, clientOf, sheetLine-is}
+use Rattle.tokens.specs.Windows.{numberLine, Taken, taken-drop, field-taken, sheetLine-taken}
+use Rattle.tokens.specs.Windows.{countOf, clientOf, sheetLine-is}
 
 -- ---- lines that are read
 

@@ -10,17 +10,17 @@ ghost use Rattle.differential.specs.Longer.{mostSheetBytes};
 ghost use Rattle.differential.specs.WrittenLength.{mostRecurrenceBytes};
 
 // As many bytes as any fault needs: more input is read as these first bytes are (`write-window` of `differential`).
-fn input() -> [u8; 7021]
+fn input() -> [u8; 10501]
     ensures { λ r. ⌜ mostSheetBytes ≡ length r ⌝ }
 {
-    [0; 7021]
+    [0; 10501]
 }
 
 // Room for the recurrence of any sheet (`write-fits` of `differential`), so that no sheet is refused with 1.
-fn room() -> [u8; 16841]
+fn room() -> [u8; 25223]
     ensures { λ r. ⌜ mostRecurrenceBytes ≡ length r ⌝ }
 {
-    [0; 16841]
+    [0; 25223]
 }
 
 // Output, written at once. Where that fails, standard error says so.

@@ -1,7 +1,7 @@
 // Prints what the library gives on systems of known result (SCOPE 7). Standard input has the cases: for each a line
 // `leading BYTES` or `trailing BYTES` and a sheet of that many bytes. Each is read, run on that side, and answered by a
-// line `leading REFUSAL relations R shifts S root N` or `trailing REFUSAL shifts S root N`, N a number or `none`, and,
-// where the refusal is 0, by the sheet that the run leaves, with its column order.
+// line `leading REFUSAL relations R shifts S root N rank W` or `trailing REFUSAL shifts S root N rank W`, N a number or
+// `none`, and, where the refusal is 0, by the sheet that the run leaves: W equations, and their column order.
 use elimination::RunResult;
 use printing::print;
 use printing::print_signed;
@@ -82,7 +82,6 @@ fn print_root(r: RunResult) {
     } else {
         print(b" none");
     }
-    print(b"\n");
 }
 
 fn print_result(r: RunResult, trailing: bool) {
@@ -98,6 +97,9 @@ fn print_result(r: RunResult, trailing: bool) {
     print(b" shifts");
     print_size(r.shifts as u64);
     print_root(r);
+    print(b" rank");
+    print_size(r.rank as u64);
+    print(b"\n");
 }
 
 fn print_sheet(rows: &[i64], relations: &[i64], sizes: Sizes, count: usize, order: [usize; 4]) {
@@ -130,6 +132,7 @@ fn refused(refusal: u8) -> RunResult {
         order: [0; 4],
         has_root: false,
         root: 0,
+        rank: 0,
     }
 }
 
@@ -146,7 +149,13 @@ fn run_sheet(sheet: &[u8], trailing: bool) {
     print_result(r, trailing);
     if r.refusal == 0 {
         let order = r.order;
-        print_sheet(&rows, &relations, sizes, r.relations, order);
+        let kept = Sizes {
+            m: sizes.m,
+            equations: r.rank,
+            l: sizes.l,
+            t: sizes.t,
+        };
+        print_sheet(&rows, &relations, kept, r.relations, order);
     }
 }
 

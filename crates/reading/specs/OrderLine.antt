@@ -1,4 +1,4 @@
--- The order line of a sheet: 0 alone for no order, otherwise m and the columns 1 to m in some order (SCOPE 4.15).
+-- The order line of a sheet: the number of its columns, at most m, and so many different columns of 1 to m (SCOPE 4.15).
 --
 -- Main definitions
 --   takenOf order i    the first i columns of an order, the latest first
@@ -6,41 +6,27 @@
 -- Main statements
 --   columns-next       the columns of an order, one after another
 --   order-is           an order line is its count and then its columns
---   order-count-zero, order-zero   what is known of a count and of a column that were let through
-use Prim.Native.Nat.{ℕ, zero, suc, _+_, _-_, _≤_, _<_, zero-le}
+--   order-zero         what is known of a column that was let through
+use Prim.Native.Nat.{ℕ, zero, suc, _+_, _-_, _≤_, _<_}
 use native.Mathlib.Nat.{le-refl}
 use native.Mathlib.Numerals.{add-one}
 use native.Mathlib.Omega.{arith}
-use mathlib.Core.Path.{_≡_, refl, sym, ap, ap₂, _∙_, subst}
-use mathlib.Core.Bool.{Bool, true, false, _&&_, _||_, not}
+use mathlib.Core.Path.{_≡_, refl, sym, ap, ap₂, _∙_}
+use mathlib.Core.Bool.{true, _&&_, _||_, not}
 use mathlib.Core.List.{List, [], _∷_}
 use lib.ListN.{length, getD, set}
 use lib.Seq.{getD-set-same, getD-set-other}
 use lib.Dec.{T, eqb}
 use borrow.Author.Tests.{eq-eqb, ne-eqb}
-use Rattle.algebra.specs.Integers.{natAbs-zero, -ℤ-zero}
-use Rattle.algebra.specs.Polynomials.{isZeroℤ, isZeroℤ-iff}
 use Rattle.lists.specs.Tests.{both-true}
-use lib.IntN.{ℤ, pos, natAbs, _-ℤ_, +ℤ-invr}
+use lib.IntN.{ℤ, pos, natAbs}
 use lib.Signed.{leZ, nonNeg}
 use Rattle.rules.specs.Limits.{columnCount}
-use Rattle.rules.specs.Numbers.{Read, got, thenRead, field, newline}
+use Rattle.rules.specs.Numbers.{Read, got, thenRead, field, between, newline}
 use Rattle.lists.specs.Padded.{padTo}
-use Rattle.rules.specs.Sheets.{contains, always, afterCount, parting, judgeOrder, judgeOrderCount, readColumns, readOrder}
+use Rattle.rules.specs.Sheets.{contains, always, afterCount, parting, judgeOrder, readColumns, readOrder}
 use Rattle.tokens.specs.Fields.{then-then, between-size, passed}
 use Rattle.reading.specs.Terms.{padded}
-
--- A difference is zero exactly if its parts are equal.
-pub difference-zero : (a b : ℤ) → a ≡ b → isZeroℤ (a -ℤ b) ≡ true
-unfolding isZeroℤ
-difference-zero a b e = rw (e, +ℤ-invr b)
-
-pub difference-equal : (a b : ℤ) → isZeroℤ (a -ℤ b) ≡ true → a ≡ b
-difference-equal a b e = -ℤ-zero a b (isZeroℤ-iff (a -ℤ b) .0 (subst T (sym e) tt))
-
-pub difference-nonzero : (a b : ℤ) → (a ≡ b → ⊥) → isZeroℤ (a -ℤ b) ≡ false
-unfolding isZeroℤ
-difference-nonzero a b h = ne-eqb (natAbs (a -ℤ b)) 0 (λ e. h (-ℤ-zero a b (natAbs-zero e)))
 
 -- ---- the column order
 
@@ -111,30 +97,17 @@ unfoldable pub orderThen : ℕ → ℤ → List ℕ → Read (List ℕ)
 orderThen m k bytes = padded columnCount 0 (readColumns m (natAbs k) [] bytes)
 
 order-parts : (m : ℕ) (bytes : List ℕ)
-    → readOrder m bytes ≡ thenRead (field (judgeOrderCount m) afterCount bytes) (λ k rest. readColumns m (natAbs k) [] rest)
+    → readOrder m bytes ≡ thenRead (field (between (pos 0) (pos m)) afterCount bytes) (λ k rest. readColumns m (natAbs k) [] rest)
 unfolding readOrder
 order-parts m bytes = refl
 
 pub order-is : (m : ℕ) (bytes : List ℕ)
-    → padded columnCount 0 (readOrder m bytes) ≡ thenRead (field (judgeOrderCount m) afterCount bytes) (orderThen m)
+    → padded columnCount 0 (readOrder m bytes) ≡ thenRead (field (between (pos 0) (pos m)) afterCount bytes) (orderThen m)
 unfolding padded orderThen
 order-is m bytes =
     ap (padded columnCount 0) (order-parts m bytes)
-    ∙ then-then (field (judgeOrderCount m) afterCount bytes) (λ k rest. readColumns m (natAbs k) [] rest)
+    ∙ then-then (field (between (pos 0) (pos m)) afterCount bytes) (λ k rest. readColumns m (natAbs k) [] rest)
     (λ l more. got (padTo columnCount 0 l) more)
-
--- The number of columns is 0 or m.
-pub order-count-zero : (m : ℕ) (k : ℤ) → judgeOrderCount m k ≡ 0 → T (nonNeg k) × (natAbs k ≤ m)
-unfolding judgeOrderCount
-order-count-zero m k e = by (isZeroℤ k) (isZeroℤ (k -ℤ pos m)) refl refl (passed (isZeroℤ k || isZeroℤ (k -ℤ pos m)) 0 1 e .0)
-  where
-    exactly : (n : ℕ) → n ≤ m → k ≡ pos n → T (nonNeg k) × (natAbs k ≤ m)
-    exactly n h e = subst (λ z. T (nonNeg z) × (natAbs z ≤ m)) (sym e) (tt, h)
-
-    by : (s t : Bool) → isZeroℤ k ≡ s → isZeroℤ (k -ℤ pos m) ≡ t → (s || t) ≡ true → T (nonNeg k) × (natAbs k ≤ m)
-    by true t e f h = exactly 0 zero-le (isZeroℤ-iff k .0 (subst T (sym e) tt))
-    by false true e f h = exactly m (le-refl m) (difference-equal k (pos m) f)
-    by false false e f h = absurd (subst T (sym h) tt)
 
 -- A column of an order is from 1 to m.
 pub order-zero : (m : ℕ) (taken : List ℕ) (c : ℤ) → judgeOrder m taken c ≡ 0 → T (nonNeg c) × (1 ≤ natAbs c) × (natAbs c ≤ m)

@@ -35,8 +35,9 @@ use Rattle.rules.specs.Limits.{coefficientCount, columnCount, blockCount, block
 use Rattle.rules.specs.Rows.{Row, Relation, noRow}
 use Rattle.rules.specs.Stores.{rowOf, rowsOf, relationOf, relationsOf}
 use Rattle.rules.specs.Layout.{blockOf}
-use Rattle.rules.specs.Numbers.{newline, Read, got, fault, thenRead, field, between}
-use Rattle.rules.specs.Sheets.{always, afterCount, judgeSide, readSide, readSides, readCoefficients, putSide, putRelationSide}
+use Rattle.rules.specs.Numbers.{newline, Read, got, fault, thenRead, field}
+use Rattle.rules.specs.Sheets.{always, afterCount, judgeSide, judgeSideCount, readSide, readSides, readCoefficients, putSide}
+use Rattle.rules.specs.Sheets.{putRelationSide}
 use Rattle.tokens.specs.Fields.{then-got, then-fault, then-cong, then-then, then-parts, got-not-fault, between-size, passed}
 use Rattle.reading.specs.Terms.{padded}
 use Rattle.reading.specs.Equations.{got-value, lent-back, rowOf-is}
@@ -357,15 +358,15 @@ allSides e r rows relations bytes =
 -- The number of the sides, and the sides.
 unfoldable pub sideSection : ℕ → ℕ → List Row → List Relation → List ℕ → Read (List Row × List Relation)
 sideSection e r rows relations bytes =
-    thenRead (field (between (pos (e + r)) (pos (e + r))) (always newline) bytes) λ _ rest. allSides e r rows relations rest
+    thenRead (field (judgeSideCount (e + r)) (always newline) bytes) λ _ rest. allSides e r rows relations rest
 
 module _ (e r : ℕ) (rows relations : List ℤ) (bytes : List ℕ) where
-  pub section-count-fault : {n : ℕ} → field (between (pos (e + r)) (pos (e + r))) (always newline) bytes ≡ fault n
+  pub section-count-fault : {n : ℕ} → field (judgeSideCount (e + r)) (always newline) bytes ≡ fault n
       → sideSection e r (rowsOf e rows) (relationsOf r relations) bytes ≡ fault n
   unfolding sideSection
   section-count-fault f = then-fault _ f
 
-  module _ (k : ℤ) (first : List ℕ) (counted : field (between (pos (e + r)) (pos (e + r))) (always newline) bytes ≡ got k first) where
+  module _ (k : ℤ) (first : List ℕ) (counted : field (judgeSideCount (e + r)) (always newline) bytes ≡ got k first) where
     pub section-rows-fault : {n : ℕ} → sidesInto rowLength entriesLength 0 e r true rows first ≡ fault n
         → sideSection e r (rowsOf e rows) (relationsOf r relations) bytes ≡ fault n
     unfolding sideSection allSides

@@ -2,11 +2,12 @@
 --
 -- Main definitions
 --   readUnknowns, readBlocks   the two halves of a sheet's first line
---   equationSection, relationSection, orderSection, readSections   the sections after it
+--   readCount                  the number of equations
+--   relationSection, orderSection, readSections   the sections after it
 --   SheetRead                  a sheet that was read into stores, or refused
 --
 -- Main statements
---   sizes-is      the first line is those two halves
+--   sizes-is      the sizes are those two halves and the number of equations
 --   sizes-right   sizes that were read are right
 --   sheet-is      a sheet is its sizes, its sections and its end
 use Prim.Native.Nat.{ℕ, _+_, _≤_}
@@ -23,8 +24,8 @@ use Rattle.rules.specs.Limits.{columnCount, mostSpan, mostEquations, mostRelati
 use Rattle.rules.specs.Stores.{Sizes, equations, sizesRight, rowsOf, relationsOf}
 use Rattle.rules.specs.Numbers.{space, newline, Read, got, fault, thenRead, field, between}
 use Rattle.rules.specs.Rows.{Row, Relation}
-use Rattle.rules.specs.Sheets.{always, judgeLowest, Sheet, readSizes, readEquations, readRelations, readOrder, readSides, readFifth, readEnd}
-use Rattle.rules.specs.Sheets.{readRest, readSheet, putSide, putRelationSide}
+use Rattle.rules.specs.Sheets.{always, judgeLowest, Sheet, readSizes, readEquations, readRelations, readOrder, readSides, readFifth}
+use Rattle.rules.specs.Sheets.{readEnd, readRest, readSheet, putSide, putRelationSide, judgeSideCount}
 use Rattle.algebra.specs.Polynomials.{isZero}
 use Rattle.lists.specs.Padded.{padTo}
 use Rattle.rules.specs.SheetCalls.{ReadResult, readRefusal}
@@ -48,15 +49,21 @@ readBlocks bytes =
     thenRead (field (between (negℤ (pos 64)) (pos 64)) (always space) bytes) λ l rest.
     thenRead (field (judgeLowest l) (always newline) rest) λ t more. got (l, t) more
 
-abbrev pub sizes : ℕ → ℤ → ℤ → Sizes
-sizes m l t = record { m = m; l = l; t = t }
+unfoldable pub readCount : List ℕ → Read ℤ
+readCount bytes = field (between (pos 0) (pos 6)) (always newline) bytes
+
+abbrev pub sizes : ℕ → ℕ → ℤ → ℤ → Sizes
+sizes m equations l t = record { m = m; equations = equations; l = l; t = t }
+
+unfoldable pub countThen : ℤ → ℤ × ℤ → List ℕ → Read Sizes
+countThen m q bytes = thenRead (readCount bytes) λ k rest. got (sizes (natAbs m) (natAbs k) (q .0) (q .1)) rest
 
 unfoldable pub sizesThen : ℤ → List ℕ → Read Sizes
-sizesThen m bytes = thenRead (readBlocks bytes) λ q rest. got (sizes (natAbs m) (q .0) (q .1)) rest
+sizesThen m bytes = thenRead (readBlocks bytes) (countThen m)
 
 -- The definition, with its parts named.
 lowestThen : ℤ → ℤ → List ℕ → Read Sizes
-lowestThen m l bytes = thenRead (field (judgeLowest l) (always newline) bytes) λ t rest. got (sizes (natAbs m) l t) rest
+lowestThen m l bytes = thenRead (field (judgeLowest l) (always newline) bytes) λ t rest. countThen m (l, t) rest
 
 highestThen : ℤ → List ℕ → Read Sizes
 highestThen m bytes = thenRead (field (between (negℤ (pos 64)) (pos 64)) (always space) bytes) (lowestThen m)
@@ -65,22 +72,19 @@ unknownsThen : ℤ → List ℕ → Read Sizes
 unknownsThen _ bytes = thenRead (field (between (pos 1) (pos 4)) (always space) bytes) highestThen
 
 sizes-parts : (bytes : List ℕ) → readSizes bytes ≡ thenRead (field (between (pos 3) (pos 3)) (always space) bytes) unknownsThen
-unfolding readSizes unknownsThen highestThen lowestThen
+unfolding readSizes unknownsThen highestThen lowestThen countThen readCount
 sizes-parts bytes = refl
 
 highest-is : (m : ℤ) (bytes : List ℕ) → highestThen m bytes ≡ sizesThen m bytes
 unfolding highestThen lowestThen sizesThen readBlocks
 highest-is m bytes =
     then-cong highest
-    (λ l rest. then-cong (field (judgeLowest l) (always newline) rest) (λ t more. sym (then-got made refl))
-    ∙ sym (then-then (field (judgeLowest l) (always newline) rest) (λ t more. got (l, t) more) made))
-    ∙ sym (then-then highest (λ l rest. thenRead (field (judgeLowest l) (always newline) rest) λ t more. got (l, t) more) made)
+    (λ l rest. then-cong (field (judgeLowest l) (always newline) rest) (λ t more. sym (then-got (countThen m) refl))
+    ∙ sym (then-then (field (judgeLowest l) (always newline) rest) (λ t more. got (l, t) more) (countThen m)))
+    ∙ sym (then-then highest (λ l rest. thenRead (field (judgeLowest l) (always newline) rest) λ t more. got (l, t) more) (countThen m))
   where
     highest : Read ℤ
     highest = field (between (negℤ (pos 64)) (pos 64)) (always space) bytes
-
-    made : ℤ × ℤ → List ℕ → Read Sizes
-    made q rest = got (sizes (natAbs m) (q .0) (q .1)) rest
 
 pub sizes-is : (bytes : List ℕ) → readSizes bytes ≡ thenRead (readUnknowns bytes) sizesThen
 unfolding readUnknowns unknownsThen
@@ -98,6 +102,13 @@ unknowns-right bytes m rest e =
     let first = then-parts (field (between (pos 3) (pos 3)) (always space) bytes) _ e in
     between-zero 1 4 m (field-judged (between (pos 1) (pos 4)) (always space) (first .1) (first .3))
 
+-- The number of equations is from 0 to 6.
+pub count-right : (bytes : List ℕ) (k : ℤ) (rest : List ℕ) → readCount bytes ≡ got k rest → T (nonNeg k) × (natAbs k ≤ mostEquations)
+unfolding readCount
+count-right bytes k rest e =
+    let two = between-zero 0 6 k (field-judged (between (pos 0) (pos 6)) (always newline) bytes e) in
+    (two .0, two .2)
+
 highest-passed : (l : ℤ) → between (negℤ (pos 64)) (pos 64) l ≡ 0 → (leZ (negℤ (pos 64)) l && leZ l (pos 64)) ≡ true
 unfolding between
 highest-passed l e = passed (leZ (negℤ (pos 64)) l && leZ l (pos 64)) 0 1 e .0
@@ -110,36 +121,36 @@ lowest-passed : (l t : ℤ) → judgeLowest l t ≡ 0 → (leZ (negℤ (pos 64))
 unfolding judgeLowest
 lowest-passed l t e = passed (leZ (negℤ (pos 64)) t && leZ t l && leZ (l -ℤ t) (pos mostSpan)) 0 1 e .0
 
-sizes-passed : (m : ℕ) (l t : ℤ) → 1 ≤ m → m ≤ 4 → (leZ (negℤ (pos 64)) l && leZ l (pos 64)) ≡ true
-    → (leZ (negℤ (pos 64)) t && leZ t l && leZ (l -ℤ t) (pos mostSpan)) ≡ true → T (sizesRight (sizes m l t))
-unfolding sizesRight
-sizes-passed m l t low high hl ht =
+sizes-passed : (m n : ℕ) (l t : ℤ) → 1 ≤ m → m ≤ 4 → n ≤ mostEquations → (leZ (negℤ (pos 64)) l && leZ l (pos 64)) ≡ true
+    → (leZ (negℤ (pos 64)) t && leZ t l && leZ (l -ℤ t) (pos mostSpan)) ≡ true → T (sizesRight (sizes m n l t))
+unfolding sizesRight equations
+sizes-passed m n l t low high few hl ht =
     let lowest = both-true (leZ (negℤ (pos 64)) t && leZ t l) (leZ (l -ℤ t) (pos mostSpan)) ht in
     let highest = both-true (leZ (negℤ (pos 64)) l) (leZ l (pos 64)) hl in
     subst T
     (sym
-    (ap₂ _&&_ (ap₂ _&&_ (le-leb 1 m low) (le-leb m 4 high)) (ap₂ _&&_ (ap₂ _&&_ (lowest .0) (highest .1)) (lowest .1))))
+    (ap₂ _&&_ (ap₂ _&&_ (ap₂ _&&_ (le-leb 1 m low) (le-leb m 4 high)) (le-leb n mostEquations few))
+    (ap₂ _&&_ (ap₂ _&&_ (lowest .0) (highest .1)) (lowest .1))))
     tt
 
 -- What the judgements let through are right sizes.
 pub sizes-right : (bytes : List ℕ) (z : Sizes) (rest : List ℕ) → readSizes bytes ≡ got z rest → T (sizesRight z)
-unfolding sizesThen readBlocks
+unfolding sizesThen countThen readBlocks
 sizes-right bytes z rest e =
     let unknowns = then-parts (readUnknowns bytes) sizesThen (sym (sizes-is bytes) ∙ e) in
     let blocks = then-parts (readBlocks (unknowns .1)) _ (unknowns .3) in
     let highest = then-parts (field (between (negℤ (pos 64)) (pos 64)) (always space) (unknowns .1)) _ (blocks .2) in
     let lowest = then-parts (field (judgeLowest (highest .0)) (always newline) (highest .1)) _ (highest .3) in
+    let count = then-parts (readCount (blocks .1)) _ (blocks .3) in
     let m = unknowns-right bytes (unknowns .0) (unknowns .1) (unknowns .2) in
+    let n = count-right (blocks .1) (count .0) (count .1) (count .2) in
     let l = highest-passed (highest .0) (field-judged (between (negℤ (pos 64)) (pos 64)) (always space) (unknowns .1) (highest .2)) in
     let t = lowest-passed (highest .0) (lowest .0) (field-judged (judgeLowest (highest .0)) (always newline) (highest .1) (lowest .2)) in
-    subst (λ z. T (sizesRight z)) (ap (λ q. sizes (natAbs (unknowns .0)) (q .0) (q .1)) (got-value (lowest .3)) ∙ got-value (blocks .3))
-    (sizes-passed (natAbs (unknowns .0)) (highest .0) (lowest .0) (m .1) (m .2) l t)
+    subst (λ z. T (sizesRight z))
+    (ap (λ q. sizes (natAbs (unknowns .0)) (natAbs (count .0)) (q .0) (q .1)) (got-value (lowest .3)) ∙ got-value (count .3))
+    (sizes-passed (natAbs (unknowns .0)) (natAbs (count .0)) (highest .0) (lowest .0) (m .1) (m .2) (n .1) l t)
 
 -- ---- sections
-
--- The count, which has to be n, and n equations.
-unfoldable pub equationSection : Sizes → ℕ → List ℕ → Read (List Row)
-equationSection z n bytes = thenRead (field (between (pos n) (pos n)) (always newline) bytes) λ _ rest. readEquations z n rest
 
 unfoldable pub relationSection : Sizes → List ℕ → Read (List Relation)
 relationSection z bytes = thenRead (field (between (pos 0) (pos 16)) (always newline) bytes) λ count rest. readRelations z
@@ -157,7 +168,7 @@ unfoldable pub relationsThen : Sizes → List Row → List ℕ → Read Sheet
 relationsThen z rows bytes = thenRead (relationSection z bytes) (orderSection z rows)
 
 unfoldable pub readSections : Sizes → List ℕ → Read Sheet
-readSections z bytes = thenRead (equationSection z (equations z) bytes) (relationsThen z)
+readSections z bytes = thenRead (readEquations z (equations z) bytes) (relationsThen z)
 
 -- ---- the whole sheet
 
@@ -191,7 +202,7 @@ fifth-is s bytes =
     r = length (s .relations)
 
     count : Read ℤ
-    count = field (between (pos (e + r)) (pos (e + r))) (always newline) bytes
+    count = field (judgeSideCount (e + r)) (always newline) bytes
 
 pub rest-is : (s : Sheet) (bytes : List ℕ)
     → readRest s bytes ≡ thenRead (restSection (length (s .rows)) (length (s .relations)) (s .rows) (s .relations) bytes) (withRest s)
@@ -230,11 +241,8 @@ module _ (z : Sizes) where
   fromRelationCount : List Row → List ℕ → Read Sheet
   fromRelationCount rows bytes = thenRead (field (between (pos 0) (pos 16)) (always newline) bytes) (fromRelations rows)
 
-  fromEquations : ℤ → List ℕ → Read Sheet
-  fromEquations _ bytes = thenRead (readEquations z (equations z) bytes) fromRelationCount
-
-  fromEquationCount : List ℕ → Read Sheet
-  fromEquationCount bytes = thenRead (field (between (pos (equations z)) (pos (equations z))) (always newline) bytes) fromEquations
+  fromEquations : List ℕ → Read Sheet
+  fromEquations bytes = thenRead (readEquations z (equations z) bytes) fromRelationCount
 
   order-padded : (rows : List Row) (relations : List Relation) (bytes : List ℕ)
       → thenRead (fromOrder rows relations bytes) padSheet ≡ thenRead (orderSection z rows relations bytes) readRest
@@ -268,24 +276,15 @@ module _ (z : Sizes) where
       count : Read ℤ
       count = field (between (pos 0) (pos 16)) (always newline) bytes
 
-  relationsEnd : List Row → List ℕ → Read Sheet
-  relationsEnd rows bytes = thenRead (relationsThen z rows bytes) readRest
-
-  equations-padded : (bytes : List ℕ) → thenRead (fromEquationCount bytes) padSheet ≡ thenRead (readSections z bytes) readRest
-  unfolding fromEquationCount fromEquations readSections equationSection relationsEnd
+  equations-padded : (bytes : List ℕ) → thenRead (fromEquations bytes) padSheet ≡ thenRead (readSections z bytes) readRest
+  unfolding fromEquations readSections
   equations-padded bytes =
-      then-then count fromEquations padSheet
-      ∙ then-cong count
-      (λ _ rest. then-then (readEquations z (equations z) rest) fromRelationCount padSheet
-      ∙ then-cong (readEquations z (equations z) rest) relations-padded)
-      ∙ sym (then-then count (λ _ rest. readEquations z (equations z) rest) relationsEnd)
-      ∙ sym (then-then (equationSection z (equations z) bytes) (relationsThen z) readRest)
-    where
-      count : Read ℤ
-      count = field (between (pos (equations z)) (pos (equations z))) (always newline) bytes
+      then-then (readEquations z (equations z) bytes) fromRelationCount padSheet
+      ∙ then-cong (readEquations z (equations z) bytes) relations-padded
+      ∙ sym (then-then (readEquations z (equations z) bytes) (relationsThen z) readRest)
 
-sheet-parts : (bytes : List ℕ) → readSheet bytes ≡ thenRead (readSizes bytes) fromEquationCount
-unfolding readSheet fromEquationCount fromEquations fromRelationCount fromRelations fromOrder
+sheet-parts : (bytes : List ℕ) → readSheet bytes ≡ thenRead (readSizes bytes) fromEquations
+unfolding readSheet fromEquations fromRelationCount fromRelations fromOrder
 sheet-parts bytes = refl
 
 -- The sections of a sheet, and its end.
@@ -296,7 +295,7 @@ pub sheet-is : (bytes : List ℕ) → thenRead (readSheet bytes) padSheet ≡ th
 unfolding sectionsEnd
 sheet-is bytes =
     ap (λ r. thenRead r padSheet) (sheet-parts bytes)
-    ∙ then-then (readSizes bytes) fromEquationCount padSheet
+    ∙ then-then (readSizes bytes) fromEquations padSheet
     ∙ then-cong (readSizes bytes) equations-padded
 
 -- ---- the answer to a whole sheet
@@ -333,11 +332,11 @@ module _ {bytes : List ℕ} {refusal : ℕ} {z : Sizes} {count at : ℕ} {rows :
 
 module _ (bytes : List ℕ) (z : Sizes) (first : List ℕ) (sizes-read : readSizes bytes ≡ got z first) where
   -- The equations, and then the relations.
-  pub equations-fault : {n : ℕ} → equationSection z (equations z) first ≡ fault n → thenRead (readSheet bytes) padSheet ≡ fault n
+  pub equations-fault : {n : ℕ} → readEquations z (equations z) first ≡ fault n → thenRead (readSheet bytes) padSheet ≡ fault n
   unfolding sectionsEnd readSections
   equations-fault e = sheet-is bytes ∙ then-got sectionsEnd sizes-read ∙ then-fault readRest (then-fault (relationsThen z) e)
 
-  module _ (rows : List Row) (second : List ℕ) (rows-read : equationSection z (equations z) first ≡ got rows second) where
+  module _ (rows : List Row) (second : List ℕ) (rows-read : readEquations z (equations z) first ≡ got rows second) where
     to-relations : thenRead (readSheet bytes) padSheet ≡ thenRead (thenRead (relationSection z second) (orderSection z rows)) readRest
     unfolding sectionsEnd readSections relationsThen
     to-relations = sheet-is bytes ∙ then-got sectionsEnd sizes-read ∙ ap (λ r. thenRead r readRest) (then-got (relationsThen z) rows-read)

@@ -1,4 +1,4 @@
-// The order line: 0 alone for no order, otherwise m and the columns 1 to m in some order (SCOPE 4.15).
+// The order line: the number of its columns, at most m, and so many different columns of 1 to m (SCOPE 4.15).
 use stores::lengths::COLUMNS;
 ghost use mathlib.Core.Path.{_≡_};
 ghost use mathlib.Core.List.{[]};
@@ -6,33 +6,10 @@ ghost use Prim.Native.Nat.{_≤_};
 ghost use lib.ListN.{length, drop};
 ghost use Rattle.rules.specs.Limits.{columnCount};
 ghost use Rattle.rules.specs.Numbers.{field};
-ghost use Rattle.rules.specs.Sheets.{readColumns, readOrder, judgeOrderCount, afterCount, always, contains, judgeOrder};
+ghost use Rattle.rules.specs.Sheets.{readColumns, readOrder, always, contains, judgeOrder};
 ghost use Rattle.tokens.specs.Fields.{Answers};
 ghost use Rattle.reading.specs.OrderLine.{takenOf};
 ghost use Rattle.reading.specs.Terms.{padded};
-
-fn judge_order_count(m: usize, value: i64) -> u8
-    requires { ⌜ m ≤ 4 ⌝ }
-    ensures { λ r. ⌜ r ≡ judgeOrderCount m value ⌝ }
-{
-    if value == 0 {
-        return 0;
-    }
-    if value == m as i64 {
-        return 0;
-    }
-    2
-}
-
-fn order_count_at(bytes: &[u8], at: usize, m: usize) -> tokens::NumberRead
-    requires { ⌜ (at ≤ length (now bytes)) × (m ≤ 4) ⌝ }
-    ensures { λ r. ⌜ Answers (now (bytes .entry)) (r .refusal) (r .value) (r .at) (field (judgeOrderCount m) afterCount (drop at (now (bytes .entry)))) ⌝ }
-{
-    let n = tokens::number_at(bytes, at);
-    let judgement = judge_order_count(m, n.value);
-    let separator = crate::counts::after_count(n.value);
-    tokens::separated(bytes, n, judgement, separator)
-}
 
 // Is c one of the first `taken` columns of the order?
 fn is_taken(order: &[usize], taken: usize, c: usize) -> bool
@@ -122,14 +99,14 @@ fn columns_at(bytes: &[u8], at: usize, m: usize, count: usize) -> OrderRead
     }
 }
 
-// The count, 0 or m, and so many columns (SCOPE 4.15).
+// The count, 0 to m, and so many columns (SCOPE 4.15).
 pub(crate) fn order_at(bytes: &[u8], at: usize, m: usize) -> OrderRead
     requires { ⌜ (at ≤ length (now bytes)) × (m ≤ 4) ⌝ }
     ensures { λ r. ⌜
         Answers (now (bytes .entry)) (r .refusal) (r .order) (r .at)
         (padded columnCount 0 (readOrder m (drop at (now (bytes .entry))))) ⌝ }
 {
-    let k = order_count_at(bytes, at, m);
+    let k = crate::counts::count_at(bytes, at, m as i64);
     if k.refusal != 0 {
         return no_order(k.refusal);
     }

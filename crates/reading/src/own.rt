@@ -16,10 +16,10 @@ pub fn read_own(bytes: &[u8], rows: &mut [i64], relations: &mut [i64]) -> crate:
 {
     let h = crate::sheet::head_at(bytes, rows);
     if h.refusal != 0 {
-        stores::rows::clear(rows, 0, h.sizes.m * ROW);
+        stores::rows::clear(rows, 0, h.sizes.equations * ROW);
         return crate::sheet::refused(h.refusal);
     }
-    let filled = h.sizes.m * ROW;
+    let filled = h.sizes.equations * ROW;
     let used = h.relations * RELATION;
     let r = crate::sheet::rest_at(bytes, h, &mut rows[..filled], &mut relations[..used]);
     if r.refusal != 0 {

@@ -1,5 +1,4 @@
-// The sections of a sheet in their order, each after its count (SCOPE 4.11), each read into a store of its size that is
-// zero.
+// The equations and the relations of a sheet, each read behind its count (SCOPE 4.11) into a store of its size that is zero.
 use stores::lengths::RELATION;
 use stores::lengths::ROW;
 ghost use mathlib.Core.Path.{_≡_};
@@ -12,10 +11,9 @@ ghost use Rattle.rules.specs.Calls.{zeros};
 ghost use Rattle.rules.specs.Sheets.{readEquations, readRelation, readRelations};
 ghost use Rattle.tokens.specs.Fields.{Answers};
 ghost use Rattle.stores.specs.Validity.{sizesOf};
-ghost use Rattle.reading.specs.WholeSheet.{equationSection};
 
 // So many equations, read into the rows of `rows` (SCOPE 4.13).
-fn equations_at(
+pub(crate) fn equations_at(
     bytes: &[u8],
     at: usize,
     z: stores::validity::Sizes,
@@ -45,7 +43,7 @@ fn equations_at(
     }
 }
 
-// n0 and an equation, read into the 321 numbers of a relation (SCOPE 3.4, 4.14).
+// n0 and an equation, read into the numbers of a relation (SCOPE 3.4, 4.14).
 fn relation_at(
     bytes: &[u8],
     at: usize,
@@ -65,7 +63,7 @@ fn relation_at(
     crate::equations::equation_at(bytes, n.at, z, &mut relation[1..])
 }
 
-// The relations, read into the `count` × 321 numbers of `relations` (SCOPE 4.14).
+// The relations, read into the parts of `relations` (SCOPE 4.14).
 pub(crate) fn relations_at(
     bytes: &[u8],
     at: usize,
@@ -93,25 +91,4 @@ pub(crate) fn relations_at(
         refusal: 0,
         at: next,
     }
-}
-
-// The equation count, any other number being 2 (SCOPE 4.34), and the equations (SCOPE 4.13).
-pub(crate) fn equation_section(
-    bytes: &[u8],
-    at: usize,
-    z: stores::validity::Sizes,
-    equations: usize,
-    rows: &mut [i64],
-) -> crate::equations::PartRead
-    requires { ⌜ (at ≤ length (now bytes)) × T (sizesRight (sizesOf z)) ⌝ }
-    requires { ⌜ (equations ≤ mostEquations) × (now rows ≡ zeros (equations * rowLength)) ⌝ }
-    ensures { λ r. ⌜ Answers (now (bytes .entry)) (r .refusal) (rowsOf equations (now (rows .exit))) (r .at)
-        (equationSection (sizesOf z) equations (drop at (now (bytes .entry)))) ⌝ }
-{
-    let n = equations as i64;
-    let k = tokens::number_between(bytes, at, n, n, 10);
-    if k.refusal != 0 {
-        return crate::equations::no_part(k.refusal);
-    }
-    equations_at(bytes, k.at, z, equations, rows)
 }

@@ -29,7 +29,12 @@ pub fn refused(refusal: u8) -> SheetResult
 {
     SheetResult {
         refusal,
-        sizes: stores::validity::Sizes { m: 0, l: 0, t: 0 },
+        sizes: stores::validity::Sizes {
+            m: 0,
+            equations: 0,
+            l: 0,
+            t: 0,
+        },
         relations: 0,
         order: [0; COLUMNS],
     }
@@ -43,13 +48,18 @@ pub(crate) struct SheetHead {
     pub relations: usize,
 }
 
-fn no_head(refusal: u8, m: usize) -> SheetHead
-    ensures { λ r. ⌜ (r .refusal ≡ refusal) × (r .sizes .m ≡ m) ⌝ }
+fn no_head(refusal: u8, equations: usize) -> SheetHead
+    ensures { λ r. ⌜ (r .refusal ≡ refusal) × (r .sizes .equations ≡ equations) ⌝ }
 {
     SheetHead {
         refusal,
         at: 0,
-        sizes: stores::validity::Sizes { m, l: 0, t: 0 },
+        sizes: stores::validity::Sizes {
+            m: 0,
+            equations,
+            l: 0,
+            t: 0,
+        },
         relations: 0,
     }
 }
@@ -68,14 +78,14 @@ pub(crate) fn head_at(bytes: &[u8], rows: &mut [i64]) -> SheetHead
         return no_head(z.refusal, 0);
     }
     let sizes = z.sizes;
-    let used = sizes.m * ROW;
-    let e = crate::sections::equation_section(bytes, z.at, sizes, sizes.m, &mut rows[..used]);
+    let used = sizes.equations * ROW;
+    let e = crate::sections::equations_at(bytes, z.at, sizes, sizes.equations, &mut rows[..used]);
     if e.refusal != 0 {
-        return no_head(e.refusal, sizes.m);
+        return no_head(e.refusal, sizes.equations);
     }
     let k = tokens::number_between(bytes, e.at, 0, 16, 10);
     if k.refusal != 0 {
-        return no_head(k.refusal, sizes.m);
+        return no_head(k.refusal, sizes.equations);
     }
     SheetHead {
         refusal: 0,
@@ -107,7 +117,7 @@ pub(crate) fn rest_at(
     if o.refusal != 0 {
         return refused(o.refusal);
     }
-    let e = crate::sides::end_at(bytes, o.at, sizes.m, h.relations, rows, relations);
+    let e = crate::sides::end_at(bytes, o.at, sizes.equations, h.relations, rows, relations);
     if e != 0 {
         return refused(e);
     }
@@ -158,10 +168,10 @@ pub(crate) fn fill(
     if r.refusal != 0 {
         return refused(r.refusal);
     }
-    if !stores::validity::lengths_right(rows, relations, r.sizes.m) {
+    if !stores::validity::lengths_right(rows, relations, r.sizes.equations) {
         return refused(1);
     }
-    fill_rows(rows, equations, r.sizes.m);
+    fill_rows(rows, equations, r.sizes.equations);
     fill_relations(relations, scratch, r.relations);
     r
 }

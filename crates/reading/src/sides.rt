@@ -13,7 +13,7 @@ ghost use Rattle.algebra.specs.Polynomials.{isZero};
 ghost use Rattle.rules.specs.Limits.{coefficientCount, mostEquations, mostRelations, rowLength, relationLength};
 ghost use Rattle.rules.specs.Stores.{rowsOf, relationsOf};
 ghost use Rattle.rules.specs.Numbers.{field, thenRead};
-ghost use Rattle.rules.specs.Sheets.{afterCount, judgeSide, readSide};
+ghost use Rattle.rules.specs.Sheets.{afterCount, always, judgeSide, judgeSideCount, readSide};
 ghost use Rattle.tokens.specs.Fields.{readOf, Answers};
 ghost use Rattle.reading.specs.Sides.{sideOf, sidesInto, sideSection, restSection};
 
@@ -133,7 +133,31 @@ fn sides_at(
     }
 }
 
-// The number of equations and relations, any other being 2 (SCOPE 4.34), and their sides.
+// A number of sides other than that of the equations and relations is 2 (SCOPE 4.34); where there are none, the number 0 is 3, since
+// a section of zeros only is no fifth section (SCOPE 4.35).
+fn judge_total(total: usize, value: i64) -> u8
+    requires { ⌜ total ≤ mostEquations + mostRelations ⌝ }
+    ensures { λ r. ⌜ r ≡ judgeSideCount total value ⌝ }
+{
+    if total == 0 {
+        if value == 0 {
+            return 3;
+        }
+        return 2;
+    }
+    tokens::judge_between(total as i64, total as i64, value)
+}
+
+fn total_at(bytes: &[u8], at: usize, total: usize) -> tokens::NumberRead
+    requires { ⌜ (at ≤ length (now bytes)) × (total ≤ mostEquations + mostRelations) ⌝ }
+    ensures { λ r. ⌜ Answers (now (bytes .entry)) (r .refusal) (r .value) (r .at) (field (judgeSideCount total) (always 10) (drop at (now (bytes .entry)))) ⌝ }
+{
+    let n = tokens::number_at(bytes, at);
+    let judgement = judge_total(total, n.value);
+    tokens::separated(bytes, n, judgement, 10)
+}
+
+// The number of the sides, and the sides (SCOPE 4.16).
 fn side_section(
     bytes: &[u8],
     at: usize,
@@ -148,8 +172,7 @@ fn side_section(
         (sideSection equations count (rowsOf equations (now (rows .entry))) (relationsOf count (now (relations .entry)))
         (drop at (now (bytes .entry)))) ⌝ }
 {
-    let n = (equations + count) as i64;
-    let k = tokens::number_between(bytes, at, n, n, 10);
+    let k = total_at(bytes, at, equations + count);
     if k.refusal != 0 {
         return crate::equations::no_part(k.refusal);
     }

@@ -1,4 +1,4 @@
-// The sizes: the line of 3, m, l and t (SCOPE 4.12).
+// The sizes: the line of 3, m, l and t, and the line with the number of equations (SCOPE 4.12, 4.13).
 ghost use mathlib.Core.Path.{_≡_};
 ghost use Prim.Native.Nat.{_≤_};
 ghost use lib.ListN.{length, drop};
@@ -95,11 +95,16 @@ fn no_sizes(refusal: u8) -> SizesRead
     SizesRead {
         refusal,
         at: 0,
-        sizes: stores::validity::Sizes { m: 0, l: 0, t: 0 },
+        sizes: stores::validity::Sizes {
+            m: 0,
+            equations: 0,
+            l: 0,
+            t: 0,
+        },
     }
 }
 
-// The first line of a sheet: 3, m, l, t (SCOPE 4.12).
+// The first two lines of a sheet: 3, m, l, t, and the number of equations, 0 to 6 (SCOPE 4.12, 4.13).
 pub(crate) fn sizes_at(bytes: &[u8], at: usize) -> SizesRead
     requires { ⌜ at ≤ length (now bytes) ⌝ }
     ensures { λ r. ⌜ Answers (now (bytes .entry)) (r .refusal) (sizesOf (r .sizes)) (r .at) (readSizes (drop at (now (bytes .entry)))) ⌝ }
@@ -112,11 +117,16 @@ pub(crate) fn sizes_at(bytes: &[u8], at: usize) -> SizesRead
     if b.refusal != 0 {
         return no_sizes(b.refusal);
     }
+    let k = tokens::number_between(bytes, b.at, 0, 6, 10);
+    if k.refusal != 0 {
+        return no_sizes(k.refusal);
+    }
     SizesRead {
         refusal: 0,
-        at: b.at,
+        at: k.at,
         sizes: stores::validity::Sizes {
             m: m.value as usize,
+            equations: k.value as usize,
             l: b.l,
             t: b.t,
         },

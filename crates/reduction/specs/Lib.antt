@@ -1,5 +1,6 @@
 pub mod Progress
 pub mod MultiplierSizes
+pub mod Dropping
 pub mod NewRows
 pub mod StoreExchange
 pub mod StepLaws

@@ -133,11 +133,13 @@ module _ (equations i : ℕ) (store : List ℤ) (w : Within (rowNeed equations) 
   saved-kept (beyond zero) h = absurd (not-suc-le-zero h)
   saved-kept (beyond (suc n)) h = kept-same (rowNeed equations) store
 
-  pub saved-outcome : (x : Limited) → Storable x → (relations : List ℤ) (p : Progress)
-      → outcomeOf (refusalOf x) false (stateOf equations (after x) relations p) ≡ putLimited (stateOf equations store relations p) i x
-  unfolding Storable saved refusalOf numbersOf outcomeOf putLimited putRow stateOf rowNeed
-  saved-outcome (within r) h relations p =
-      ap (λ rows. going (state rows (relationsOf (p .count) relations) (take (p .settled) (p .order)) (p .shifts)))
-      (rowsOf-paste equations store (coefficientsOf r) i (h .long) (w .long) inside ∙ ap (set (rowsOf equations store) i) (h .numbers))
-  saved-outcome (beyond zero) h relations p = absurd (not-suc-le-zero h)
-  saved-outcome (beyond (suc n)) h relations p = refl
+pub saved-outcome : (p : Progress) (i : ℕ) (store relations : List ℤ) → Within (rowNeed (p .rows)) store → i < p .rows
+    → (x : Limited) → Storable x
+    → outcomeOf (refusalOf x) false (stateOf (saved store i (refusalOf x) (numbersOf x)) relations p)
+    ≡ putLimited (stateOf store relations p) i x
+unfolding Storable saved refusalOf numbersOf outcomeOf putLimited putRow stateOf rowNeed
+saved-outcome p i store relations w inside (within r) h =
+    ap (λ rows. going (state rows (relationsOf (p .count) relations) (take (p .settled) (p .order)) (p .shifts)))
+    (rowsOf-paste (p .rows) store (coefficientsOf r) i (h .long) (w .long) inside ∙ ap (set (rowsOf (p .rows) store) i) (h .numbers))
+saved-outcome p i store relations w inside (beyond zero) h = absurd (not-suc-le-zero h)
+saved-outcome p i store relations w inside (beyond (suc n)) h = refl

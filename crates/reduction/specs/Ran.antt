@@ -3,7 +3,7 @@
 -- Main definitions
 --   runOf side equations count rows relations   the run of the state that the stores hold
 --   progressOf s                   how far a run has come with the state s
---   answerFor x                    the answer of a run with the outcome x
+--   answerFor equations x          the answer of a run with the outcome x
 --   rowsAfter equations x store, relationsAfter x store   the stores after it: the state of x, or zeros after a refusal
 --   Ran equations .. o x                   the answer o and both stores are those of x, and the stores are ready for a step
 --
@@ -13,7 +13,7 @@
 --   ran-cleared                    a refused run, after the rows and the relations that it has listed are cleared
 --   ran-kept                       a refused run on stores that were changed before it
 use Prim.Native.Nat.{ℕ, zero, suc, _+_, _*_, _-_, _≤_, zero-le}
-use native.Mathlib.Nat.{le-of-eq, zero-add, add-sub-of-le}
+use native.Mathlib.Nat.{le-refl, le-of-eq, zero-add, add-sub-of-le}
 use native.Mathlib.Omega.{arith}
 use mathlib.Core.Path.{_≡_, refl, sym, _∙_, ap, ap₂, subst, subst₂}
 use mathlib.Core.Logic.{_≢_}
@@ -22,14 +22,14 @@ use mathlib.Core.List.{List, _++_, append-assoc}
 use lib.Dec.{T}
 use lib.IntN.{ℤ, pos}
 use lib.ListN.{length, take, drop, replicate, length-append, length-drop, length-replicate, take-append-drop, replicate-append-replicate}
-use lib.Seq.{paste, take-all, take-at, drop-at, drop-drop, length-take-le}
+use lib.Seq.{paste, take-add, take-all, take-at, drop-at, drop-drop, length-take-le}
 use Rattle.algebra.specs.Polynomials.{isZero, isZero-replicate, zero-list}
-use Rattle.rules.specs.Limits.{columnCount, relationLength, small}
+use Rattle.rules.specs.Limits.{columnCount, mostEquations, rowLength, relationLength, small}
 use Rattle.lists.specs.Tests.{every}
 use Rattle.lists.specs.Taken.{drop-take}
-use Rattle.rules.specs.Stores.{rowsOf, relationsOf, rowNeed, relationNeed, rowStoreOf, relationStoreOf}
+use Rattle.rules.specs.Stores.{rowsOf, relationsOf, rowNeed, relationNeed, rowStoreOf, rowStoreFor, relationStoreOf}
 use Rattle.rules.specs.Elimination.{Side, State, Outcome, going, done, refused, run, enough, start}
-use Rattle.rules.specs.Layout.{rowStoreOf-rowsOf, relationStoreOf-relationsOf, length-relationsOf}
+use Rattle.rules.specs.Layout.{rowStoreOf-rowsOf, relationStoreOf-relationsOf, length-rowsOf, length-relationsOf}
 use Rattle.rules.specs.Calls.{zeros}
 use Rattle.lists.specs.Padded.{padTo}
 use Rattle.lists.specs.Overwritten.{overwrite}
@@ -37,7 +37,8 @@ use Rattle.sides.specs.Lent.{Within, Listing, Kept}
 use Rattle.sides.specs.StoreStates.{kept-then}
 use Rattle.reduction.specs.declared.step.Progress.{Progress}
 use Rattle.reduction.specs.declared.step.Outcome as Answer
-use Rattle.reduction.specs.Progress.{Ready, Reached, stateOf, outcomeOf, answerOf, mostSteps, startProgress}
+use Rattle.reduction.specs.Progress.{Ready, Freed, Reached, stateOf, outcomeOf, answerOf, mostSteps, startProgress}
+use Rattle.reduction.specs.Dropping.{freed-none}
 use Rattle.reduction.specs.RunLaws.{start-ready}
 
 abbrev pub runOf : Side → ℕ → ℕ → List ℤ → List ℤ → Outcome
@@ -48,19 +49,25 @@ runOf side equations count rows relations = run side (enough (rowsOf equations r
 unfoldable pub progressOf : State → Progress
 unfolding padTo
 progressOf s =
-    record { settled = length (s .order); order = padTo columnCount 0 (s .order); count = length (s .relations); shifts = s .shifts }
+    record {
+      rows = length (s .rows);
+      settled = length (s .order);
+      order = padTo columnCount 0 (s .order);
+      count = length (s .relations);
+      shifts = s .shifts;
+    }
 
-unfoldable pub answerFor : Outcome → Answer.Outcome
+unfoldable pub answerFor : ℕ → Outcome → Answer.Outcome
 unfolding progressOf
-answerFor (going s) = record { refusal = 0; done = false; progress = progressOf s }
-answerFor (done s) = record { refusal = 0; done = true; progress = progressOf s }
-answerFor (refused n) = answerOf n (startProgress 0)
+answerFor equations (going s) = record { refusal = 0; done = false; progress = progressOf s }
+answerFor equations (done s) = record { refusal = 0; done = true; progress = progressOf s }
+answerFor equations (refused n) = answerOf n (startProgress equations 0)
 
 -- A refusal during the work leaves the needed part zero, and the rest as it was (SCOPE 6.33).
 unfoldable pub rowsAfter : ℕ → Outcome → List ℤ → List ℤ
-unfolding overwrite zeros rowNeed rowStoreOf
-rowsAfter equations (going s) store = overwrite (rowStoreOf (s .rows)) store
-rowsAfter equations (done s) store = overwrite (rowStoreOf (s .rows)) store
+unfolding overwrite zeros rowNeed rowStoreFor
+rowsAfter equations (going s) store = overwrite (rowStoreFor equations (s .rows)) store
+rowsAfter equations (done s) store = overwrite (rowStoreFor equations (s .rows)) store
 rowsAfter equations (refused n) store = overwrite (zeros (rowNeed equations)) store
 
 unfoldable pub relationsAfter : Outcome → List ℤ → List ℤ
@@ -70,7 +77,7 @@ relationsAfter (done s) store = overwrite (relationStoreOf (s .relations)) store
 relationsAfter (refused n) store = overwrite (zeros relationNeed) store
 
 pub record Ran (equations : ℕ) (rows relations rows' relations' : List ℤ) (o : Answer.Outcome) (x : Outcome) : Type 0 where
-  pub answer : o ≡ answerFor x
+  pub answer : o ≡ answerFor equations x
   pub rows-after : rows' ≡ rowsAfter equations x rows
   pub relations-after : relations' ≡ relationsAfter x relations
   pub reached : Reached equations rows relations rows' relations' mostSteps o x
@@ -87,22 +94,36 @@ overwrite-kept need part store after long kept e =
     ∙ ap (λ l. take need after ++ l) (sym (kept .same-rest)) ∙ take-append-drop need after)
 
 -- The progress is that of the state that the stores hold with it.
-held-progress : {equations : ℕ} {rows relations : List ℤ} {p : Progress} → Ready equations rows relations p → p
-    ≡ progressOf (stateOf equations rows relations p)
+held-progress : {rows relations : List ℤ} {p : Progress} → Ready rows relations p → p
+    ≡ progressOf (stateOf rows relations p)
 unfolding progressOf stateOf
-held-progress {equations} {rows} {relations} {p} r =
-    let settled = sym (length-take-le (p .settled) (p .order) (omega (arith, r .settled, r .few-rows, r .four))) in
+held-progress {rows} {relations} {p} r =
+    let left = sym (length-rowsOf (p .rows) rows) in
+    let settled = sym (length-take-le (p .settled) (p .order) (omega (arith, r .few-settled, r .four))) in
     let count = sym (length-relationsOf (p .count) relations) in
-    λ i. record { settled = settled i; order = r .padded i; count = count i; shifts = p .shifts }
+    λ i. record { rows = left i; settled = settled i; order = r .padded i; count = count i; shifts = p .shifts }
+
+-- The rows that are left, and zeros in the places of the others.
+held-store : (equations n : ℕ) (store : List ℤ) → n ≤ equations → Freed equations n store
+    → rowStoreFor equations (rowsOf n store) ≡ take (rowNeed equations) store
+unfolding rowStoreFor rowNeed zeros
+held-store equations n store h freed =
+    ap₂ (λ l k. l ++ replicate ((equations - k) * rowLength) (pos 0)) (rowStoreOf-rowsOf n store) (length-rowsOf n store)
+    ∙ ap (λ l. take (n * rowLength) store ++ l) (sym freed)
+    ∙ sym (take-add (n * rowLength) ((equations - n) * rowLength) store) ∙ ap (λ k. take k store) whole
+  where
+    whole : n * rowLength + (equations - n) * rowLength ≡ equations * rowLength
+    whole = omega arith
 
 -- Going on or done.
 module _ (s : State) where
-  held-answer : (d : Bool) → record { refusal = 0; done = d; progress = progressOf s } ≡ answerFor (outcomeOf 0 d s)
+  held-answer : (equations : ℕ) (d : Bool) → record { refusal = 0; done = d; progress = progressOf s }
+      ≡ answerFor equations (outcomeOf 0 d s)
   unfolding answerFor outcomeOf
-  held-answer false = refl
-  held-answer true = refl
+  held-answer equations false = refl
+  held-answer equations true = refl
 
-  held-rows : (equations : ℕ) (d : Bool) (store : List ℤ) → overwrite (rowStoreOf (s .rows)) store
+  held-rows : (equations : ℕ) (d : Bool) (store : List ℤ) → overwrite (rowStoreFor equations (s .rows)) store
       ≡ rowsAfter equations (outcomeOf 0 d s) store
   unfolding rowsAfter outcomeOf
   held-rows equations false store = refl
@@ -114,14 +135,15 @@ module _ (s : State) where
   held-relations true store = refl
 
 pub ran-held : {equations : ℕ} {rows relations rows' relations' : List ℤ} {o : Answer.Outcome} {x : Outcome}
-    → Reached equations rows relations rows' relations' mostSteps o x → o .refusal ≡ 0 → Ran equations rows relations rows' relations' o x
+    → rowNeed equations ≤ length rows → Reached equations rows relations rows' relations' mostSteps o x → o .refusal ≡ 0
+    → Ran equations rows relations rows' relations' o x
 unfolding stateOf
-ran-held {equations} {rows} {relations} {rows'} {relations'} {o} {x} r e =
+ran-held {equations} {rows} {relations} {rows'} {relations'} {o} {x} room r e =
     record {
-      answer = whole ∙ held-answer s (o .done) ∙ ap answerFor same;
+      answer = whole ∙ held-answer s equations (o .done) ∙ ap (answerFor equations) same;
       rows-after =
-          overwrite-kept (rowNeed equations) (rowStoreOf (s .rows)) rows rows' (ready .rows-within .long) (r .rows-kept)
-          (rowStoreOf-rowsOf equations rows')
+          overwrite-kept (rowNeed equations) (rowStoreFor equations (s .rows)) rows rows' long (r .rows-kept)
+          (held-store equations (o .progress .rows) rows' (r .fewer) (r .freed))
           ∙ held-rows s equations (o .done) rows ∙ ap (λ y. rowsAfter equations y rows) same;
       relations-after =
           overwrite-kept relationNeed (relationStoreOf (s .relations)) relations relations' (listing .within .long) (r .relations-kept)
@@ -130,14 +152,17 @@ ran-held {equations} {rows} {relations} {rows'} {relations'} {o} {x} r e =
       reached = r;
     }
   where
-    ready : Ready equations rows' relations' (o .progress)
+    ready : Ready rows' relations' (o .progress)
     ready = r .ready
+
+    long : rowNeed equations ≤ length rows'
+    long = rw (r .rows-kept .same-length) room
 
     listing : Listing (o .progress .count) relations'
     listing = ready .listing
 
     s : State
-    s = stateOf equations rows' relations' (o .progress)
+    s = stateOf rows' relations' (o .progress)
 
     same : outcomeOf 0 (o .done) s ≡ x
     same = ap (λ n. outcomeOf n (o .done) s) (sym e) ∙ r .outcome
@@ -234,13 +259,13 @@ refused-is (suc n) d s h = refl
 refused-outcome : {equations : ℕ} {rows relations rows' relations' : List ℤ} {o : Answer.Outcome} {x : Outcome}
     → Reached equations rows relations rows' relations' mostSteps o x → o .refusal ≢ 0 → refused (o .refusal) ≡ x
 refused-outcome {equations} {rows} {relations} {rows'} {relations'} {o} r n =
-    refused-is (o .refusal) (o .done) (stateOf equations rows' relations' (o .progress)) n ∙ r .outcome
+    refused-is (o .refusal) (o .done) (stateOf rows' relations' (o .progress)) n ∙ r .outcome
 
 -- Both stores hold zeros, and the progress is that of a run that has not begun.
-ran-zeros : (equations n : ℕ) (rows relations : List ℤ) → n ≢ 0 → equations ≤ columnCount → rowNeed equations ≤ length rows
+ran-zeros : (equations n : ℕ) (rows relations : List ℤ) → n ≢ 0 → equations ≤ mostEquations → rowNeed equations ≤ length rows
     → relationNeed ≤ length relations
     → Ran equations rows relations (overwrite (zeros (rowNeed equations)) rows) (overwrite (zeros relationNeed) relations)
-    (answerOf n (startProgress 0))
+    (answerOf n (startProgress equations 0))
     (refused n)
 unfolding answerFor rowsAfter relationsAfter
 ran-zeros equations n rows relations h few rows-long relations-long =
@@ -250,7 +275,9 @@ ran-zeros equations n rows relations h few rows-long relations-long =
       relations-after = refl;
       reached =
           record {
-            outcome = sym (refused-is n false (stateOf equations rows' relations' (startProgress 0)) h);
+            outcome = sym (refused-is n false (stateOf rows' relations' (startProgress equations 0)) h);
+            fewer = le-refl equations;
+            freed = freed-none equations rows';
             rows-kept = zeros-kept (rowNeed equations) rows rows-long;
             relations-kept = zeros-kept relationNeed relations relations-long;
             few-shifts = zero-le;
@@ -268,15 +295,16 @@ ran-zeros equations n rows relations h few rows-long relations-long =
 
 -- The rows and the relations that are listed when the run is refused are cleared.
 pub ran-cleared : {equations : ℕ} {rows relations rows₁ relations₁ rows₂ relations₂ : List ℤ} {o o' : Answer.Outcome} {x : Outcome}
+    → equations ≤ mostEquations → rowNeed equations ≤ length rows
     → Reached equations rows relations rows₁ relations₁ mostSteps o x → o .refusal ≢ 0
     → rows₂ ≡ paste rows₁ 0 (replicate (rowNeed equations) (pos 0)) (rowNeed equations)
     → let used = o .progress .count * relationLength in relations₂ ≡ paste relations₁ 0 (replicate used (pos 0)) used
-    → o' ≡ answerOf (o .refusal) (startProgress 0) → Ran equations rows relations rows₂ relations₂ o' x
-ran-cleared {equations} {rows} {relations} {rows₁} {relations₁} {rows₂} {relations₂} {o} {o'} {x} r n e f g =
+    → o' ≡ answerOf (o .refusal) (startProgress equations 0) → Ran equations rows relations rows₂ relations₂ o' x
+ran-cleared {equations} {rows} {relations} {rows₁} {relations₁} {rows₂} {relations₂} {o} {o'} {x} few room r n e f g =
     subst₂ (λ a b. Ran equations rows relations a b o' x) (sym rows-zero) (sym relations-zero)
     (subst₂ (Ran equations rows relations (overwrite (zeros (rowNeed equations)) rows) (overwrite (zeros relationNeed) relations)) (sym g)
     (refused-outcome r n)
-    (ran-zeros equations (o .refusal) rows relations n (r .ready .few-rows) (long (r .rows-kept) (r .ready .rows-within .long))
+    (ran-zeros equations (o .refusal) rows relations n few room
     (long (r .relations-kept) (listing .within .long))))
   where
     long : {need : ℕ} {store after : List ℤ} → Kept need store after → need ≤ length after → need ≤ length store
@@ -316,6 +344,8 @@ ran-kept {equations} {rows} {relations} {rows₁} {relations₁} {rows₂} {rela
       reached =
           record {
             outcome = reached .outcome;
+            fewer = reached .fewer;
+            freed = reached .freed;
             rows-kept = kept-then h (reached .rows-kept);
             relations-kept = kept-then g (reached .relations-kept);
             few-shifts = reached .few-shifts;

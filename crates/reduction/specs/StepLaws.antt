@@ -9,10 +9,12 @@
 -- Main statements
 --   reached-same, reached-after      equal outcomes, and an exchange before the step
 --   refused-reached                  a refusal before anything is stored
+--   drop-reached                     rule 1: a row is dropped
 --   multipliers-in                   the multipliers of the state are those of the store
 --   combine-refused, combine-reached rules 3 and 4
 --   shift-reached                    rule 6
-use Prim.Native.Nat.{ℕ, suc, _+_, _≤_, _<_}
+use Prim.Native.Nat.{ℕ, suc, _+_, _-_, _≤_, _<_}
+use native.Mathlib.Nat.{le-refl}
 use native.Mathlib.Numerals.{add-one}
 use native.Mathlib.Omega.{arith}
 use mathlib.Core.Path.{_≡_, refl, sym, _∙_, ap, ap₂, subst, subst₂}
@@ -25,7 +27,7 @@ use Rattle.algebra.specs.Polynomials.{Polynomial}
 use Rattle.algebra.specs.Roots.{roots}
 use Rattle.rules.specs.Rows.{entry, combine, primitive, shiftUp}
 use Rattle.rules.specs.Stores.{rowOf, rowsOf, relationsOf, relationNeed, rowNeed}
-use Rattle.rules.specs.Elimination.{Side, State, Outcome, refused, Limited, limitDegrees, consistent, rowAt, putLimited}
+use Rattle.rules.specs.Elimination.{Side, State, Outcome, going, refused, dropRow, Limited, limitDegrees, consistent, rowAt, putLimited}
 use Rattle.rules.specs.Elimination.{Multipliers, multipliers, multipliersAt, listing, listRelations, rootRelations, combineStep}
 use Rattle.rules.specs.Elimination.{limitCoefficients, countShift, shiftStep}
 use Rattle.rules.specs.Layout.{length-relationsOf}
@@ -34,60 +36,98 @@ use Rattle.reduction.specs.declared.step.Progress.{Progress}
 use Rattle.reduction.specs.declared.step.Outcome as Answer
 use Rattle.sides.specs.Lent.{Kept}
 use Rattle.reduction.specs.Progress.{Ready, Reached, state, stateOf, outcomeOf, answerOf}
-use Rattle.reduction.specs.Progress.{listedProgress, shiftedProgress, ready-with}
+use Rattle.reduction.specs.Progress.{droppedProgress, listedProgress, shiftedProgress, ready-with}
 use Rattle.sides.specs.StoreStates.{kept-same, kept-then}
 use Rattle.sides.specs.Relations.{Relisted, length-listing}
+use Rattle.reduction.specs.Dropping.{dropped, dropped-state, dropped-within, dropped-kept, dropped-freed, freed-none}
 use Rattle.reduction.specs.NewRows.{Storable, saved, saved-within, saved-kept, saved-outcome, shifted-storable}
 use Rattle.reduction.specs.StoreExchange.{numbersAt, length-numbersAt, row-of}
 
 -- ---- what a step gives
 
 -- Equal stores, answers and outcomes.
-pub reached-same : {equations n : ℕ} {rows relations rows' rows'' relations' : List ℤ} {o o' : Answer.Outcome} {x x' : Outcome}
-    → rows' ≡ rows'' → o ≡ o' → x ≡ x' → Reached equations rows relations rows'' relations' n o' x'
-    → Reached equations rows relations rows' relations' n o x
-reached-same {equations} {n} {rows} {relations} {rows'} {rows''} {relations'} {o} {o'} {x} {x'} e f g h =
-    subst (λ r. Reached equations rows relations r relations' n o x) (sym e)
-    (subst₂ (λ a b. Reached equations rows relations rows'' relations' n a b) (sym f) (sym g) h)
+pub reached-same : {n most : ℕ} {rows relations rows' rows'' relations' : List ℤ} {o o' : Answer.Outcome} {x x' : Outcome}
+    → rows' ≡ rows'' → o ≡ o' → x ≡ x' → Reached n rows relations rows'' relations' most o' x'
+    → Reached n rows relations rows' relations' most o x
+reached-same {n} {most} {rows} {relations} {rows'} {rows''} {relations'} {o} {o'} {x} {x'} e f g h =
+    subst (λ r. Reached n rows relations r relations' most o x) (sym e)
+    (subst₂ (λ a b. Reached n rows relations rows'' relations' most a b) (sym f) (sym g) h)
 
 -- A step after the exchange.
-pub reached-after : {equations n : ℕ} {first rows relations rows' relations' : List ℤ} {o : Answer.Outcome} {x : Outcome}
-    → Kept (rowNeed equations) first rows → Reached equations rows relations rows' relations' n o x
-    → Reached equations first relations rows' relations' n o x
+pub reached-after : {n most : ℕ} {first rows relations rows' relations' : List ℤ} {o : Answer.Outcome} {x : Outcome}
+    → Kept (rowNeed n) first rows → Reached n rows relations rows' relations' most o x
+    → Reached n first relations rows' relations' most o x
 reached-after k h =
     record {
       outcome = h .outcome;
+      fewer = h .fewer;
+      freed = h .freed;
       rows-kept = kept-then k (h .rows-kept);
       relations-kept = h .relations-kept;
       few-shifts = h .few-shifts;
       ready = h .ready;
     }
 
-pub refused-reached : {equations : ℕ} {rows relations : List ℤ} {p : Progress} → Ready equations rows relations p → (n : ℕ)
-    → Reached equations rows relations rows relations (p .shifts + 1) (answerOf (suc n) p) (refused (suc n))
+pub refused-reached : {rows relations : List ℤ} {p : Progress} → Ready rows relations p → (n : ℕ)
+    → Reached (p .rows) rows relations rows relations (p .shifts + 1) (answerOf (suc n) p) (refused (suc n))
 unfolding outcomeOf
-refused-reached {equations} {rows} {relations} r n =
+refused-reached {rows} {relations} {p} r n =
     record {
       outcome = refl;
-      rows-kept = kept-same (rowNeed equations) rows;
+      fewer = le-refl (p .rows);
+      freed = freed-none (p .rows) rows;
+      rows-kept = kept-same (rowNeed (p .rows)) rows;
       relations-kept = kept-same relationNeed relations;
       few-shifts = omega arith;
       ready = r;
     }
 
 -- The new row in the place of the row that is worked on, or the refusal, after relations have been listed.
-put-reached : {equations : ℕ} {rows relations relations' : List ℤ} (p next : Progress) (x : Limited) → p .settled < equations → Storable x
-    → Kept relationNeed relations relations' → Ready equations rows relations' next → next .shifts ≤ p .shifts + 1
-    → Reached equations rows relations (saved rows (p .settled) (refusalOf x) (numbersOf x)) relations' (p .shifts + 1)
-    (answerOf (refusalOf x) next) (putLimited (stateOf equations rows relations' next) (p .settled) x)
-put-reached {equations} {rows} {relations} {relations'} p next x b h k r s =
+put-reached : {rows relations relations' : List ℤ} (p next : Progress) (x : Limited) → p .settled < next .rows → Storable x
+    → Kept relationNeed relations relations' → Ready rows relations' next → next .shifts ≤ p .shifts + 1
+    → Reached (next .rows) rows relations (saved rows (p .settled) (refusalOf x) (numbersOf x)) relations' (p .shifts + 1)
+    (answerOf (refusalOf x) next) (putLimited (stateOf rows relations' next) (p .settled) x)
+put-reached {rows} {relations} {relations'} p next x b h k r s =
+    let n = next .rows in
     let w = r .rows-within in
     record {
-      outcome = saved-outcome equations (p .settled) rows w b x h relations' next;
-      rows-kept = saved-kept equations (p .settled) rows w b x h;
+      outcome = saved-outcome next (p .settled) rows relations' w b x h;
+      fewer = le-refl n;
+      freed = freed-none n (saved rows (p .settled) (refusalOf x) (numbersOf x));
+      rows-kept = saved-kept n (p .settled) rows w b x h;
       relations-kept = k;
       few-shifts = s;
-      ready = ready-with r (saved-within equations (p .settled) rows w b x h) (r .listing);
+      ready = ready-with r (saved-within n (p .settled) rows w b x h) (r .listing);
+    }
+
+-- ---- rule 1
+
+pub drop-reached : {rows relations : List ℤ} {p : Progress} → Ready rows relations p → p .settled < p .rows
+    → Reached (p .rows) rows relations (dropped rows (p .settled) (p .rows - 1)) relations (p .shifts + 1)
+    (answerOf 0 (droppedProgress p)) (going (dropRow (stateOf rows relations p) (p .settled)))
+unfolding outcomeOf
+drop-reached {rows} {relations} {p} r inside =
+    let n = p .rows in
+    let w = r .rows-within in
+    record {
+      outcome = ap going (dropped-state rows relations p w inside);
+      fewer = omega arith;
+      freed = dropped-freed n rows w (p .settled) inside;
+      rows-kept = dropped-kept n rows w (p .settled) inside;
+      relations-kept = kept-same relationNeed relations;
+      few-shifts = omega arith;
+      ready =
+          record {
+            few-rows = omega (arith, r .few-rows);
+            rows-within = dropped-within n rows w (p .settled) inside;
+            listing = r .listing;
+            settled = omega arith;
+            few-settled = r .few-settled;
+            different = r .different;
+            four = r .four;
+            columns = r .columns;
+            padded = r .padded;
+          };
     }
 
 -- ---- rules 2 to 4
@@ -103,19 +143,19 @@ multipliersIn rows p j =
 abbrev pub newRow : Multipliers → List ℤ → List ℤ → Limited
 newRow x target pivot = consistent (limitDegrees (primitive (combine (x .g) (x .h) (rowOf target) (rowOf pivot))))
 
-module _ (side : Side) {equations : ℕ} {rows relations : List ℤ} {p : Progress} (ready : Ready equations rows relations p) (j : ℕ)
-    (inside : p .settled < equations) (settled : j < p .settled) where
+module _ (side : Side) {rows relations : List ℤ} {p : Progress} (ready : Ready rows relations p) (j : ℕ)
+    (inside : p .settled < p .rows) (settled : j < p .settled) where
   abbrev i : ℕ
   i = p .settled
 
   abbrev before : State
-  before = stateOf equations rows relations p
+  before = stateOf rows relations p
 
   i-row : rowAt before i ≡ rowOf (numbersAt rows i)
-  i-row = row-of equations rows relations p i inside
+  i-row = row-of rows relations p i inside
 
   j-row : rowAt before j ≡ rowOf (numbersAt rows j)
-  j-row = row-of equations rows relations p j (omega arith)
+  j-row = row-of rows relations p j (omega arith)
 
   pub multipliers-in : multipliersAt before i j ≡ multipliersIn rows p j
   unfolding multipliersAt stateOf
@@ -145,9 +185,9 @@ module _ (side : Side) {equations : ℕ} {rows relations : List ℤ} {p : Progre
     combine-refused h = rw (listed-count, lt-leb (p .count + more) 16 h)
 
     module _ {relations' : List ℤ} (l : Relisted (p .count) (numbersAt rows i) (listing side (roots (x .g))) relations relations') where
-      listed-state : listed ≡ stateOf equations rows relations' (listedProgress p more)
+      listed-state : listed ≡ stateOf rows relations' (listedProgress p more)
       unfolding stateOf listRelations rootRelations
-      listed-state = ap (λ r. state (rowsOf equations rows) r (take i (p .order)) (p .shifts)) same
+      listed-state = ap (λ r. state (rowsOf (p .rows) rows) r (take i (p .order)) (p .shifts)) same
         where
           same : relationsOf (p .count) relations ++ rootRelations side (x .g) (rowAt before i) ≡ relationsOf (p .count + more) relations'
           same =
@@ -155,7 +195,7 @@ module _ (side : Side) {equations : ℕ} {rows relations : List ℤ} {p : Progre
               ∙ ap (λ n. relationsOf (p .count + n) relations') (length-listing side (roots (x .g)))
 
       combine-listed : p .count + more ≤ 16
-          → combineStep side before i j x ≡ putLimited (stateOf equations rows relations' (listedProgress p more)) i new
+          → combineStep side before i j x ≡ putLimited (stateOf rows relations' (listedProgress p more)) i new
       unfolding combineStep
       combine-listed h =
           rw (listed-count, le-leb (p .count + more) 16 h)
@@ -163,7 +203,7 @@ module _ (side : Side) {equations : ℕ} {rows relations : List ℤ} {p : Progre
           (ap₂ (λ a b. consistent (limitDegrees (primitive (combine (x .g) (x .h) a b)))) i-row j-row))
 
       pub combine-reached : p .count + more ≤ 16 → Storable new
-          → Reached equations rows relations (saved rows i (refusalOf new) (numbersOf new)) relations' (p .shifts + 1)
+          → Reached (p .rows) rows relations (saved rows i (refusalOf new) (numbersOf new)) relations' (p .shifts + 1)
           (answerOf (refusalOf new) (listedProgress p more)) (combineStep side before i j x)
       combine-reached few h =
           let next = ready-with ready (ready .rows-within) (rw (length-listing side (roots (x .g))) at (l .listing)) in
@@ -174,12 +214,12 @@ module _ (side : Side) {equations : ℕ} {rows relations : List ℤ} {p : Progre
 abbrev pub shiftedRow : List ℤ → Limited
 shiftedRow l = limitCoefficients (shiftUp (rowOf l))
 
-pub shift-reached : {equations : ℕ} {rows relations : List ℤ} {p : Progress} → Ready equations rows relations p → p .settled < equations
+pub shift-reached : {rows relations : List ℤ} {p : Progress} → Ready rows relations p → p .settled < p .rows
     → let new = shiftedRow (numbersAt rows (p .settled)) in
-    Reached equations rows relations (saved rows (p .settled) (refusalOf new) (numbersOf new)) relations (p .shifts + 1)
-    (answerOf (refusalOf new) (shiftedProgress p)) (shiftStep (stateOf equations rows relations p) (p .settled))
+    Reached (p .rows) rows relations (saved rows (p .settled) (refusalOf new) (numbersOf new)) relations (p .shifts + 1)
+    (answerOf (refusalOf new) (shiftedProgress p)) (shiftStep (stateOf rows relations p) (p .settled))
 unfolding shiftStep countShift stateOf
-shift-reached {equations} {rows} {relations} {p} r inside =
+shift-reached {rows} {relations} {p} r inside =
     reached-same refl refl same
     (put-reached p (shiftedProgress p) (shiftedRow (numbersAt rows i)) inside storable (kept-same relationNeed relations)
     (ready-with r (r .rows-within) (r .listing)) (omega arith))
@@ -188,13 +228,13 @@ shift-reached {equations} {rows} {relations} {p} r inside =
     i = p .settled
 
     storable : Storable (shiftedRow (numbersAt rows i))
-    storable = shifted-storable (numbersAt rows i) (length-numbersAt equations rows (r .rows-within) i inside)
+    storable = shifted-storable (numbersAt rows i) (length-numbersAt (p .rows) rows (r .rows-within) i inside)
 
     withShifts : ℕ → State
-    withShifts n = state (rowsOf equations rows) (relationsOf (p .count) relations) (take i (p .order)) n
+    withShifts n = state (rowsOf (p .rows) rows) (relationsOf (p .count) relations) (take i (p .order)) n
 
-    same : shiftStep (stateOf equations rows relations p) i
-        ≡ putLimited (stateOf equations rows relations (shiftedProgress p)) i (shiftedRow (numbersAt rows i))
+    same : shiftStep (stateOf rows relations p) i
+        ≡ putLimited (stateOf rows relations (shiftedProgress p)) i (shiftedRow (numbersAt rows i))
     same =
         ap₂ (λ n q. putLimited (withShifts n) i (limitCoefficients (shiftUp q))) (sym (add-one (p .shifts)))
-        (row-of equations rows relations p i inside)
+        (row-of rows relations p i inside)

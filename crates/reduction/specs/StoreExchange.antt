@@ -103,10 +103,10 @@ module _ (equations : ℕ) (rows : List ℤ) (w : Within (rowNeed equations) row
   unfolding rowNeed
   small-numbersAt = part-small rowLength equations i rows inside w
 
-pub row-of : (equations : ℕ) (rows relations : List ℤ) (p : Progress) (i : ℕ) → i < equations
-    → rowAt (stateOf equations rows relations p) i ≡ rowOf (numbersAt rows i)
+pub row-of : (rows relations : List ℤ) (p : Progress) (i : ℕ) → i < p .rows
+    → rowAt (stateOf rows relations p) i ≡ rowOf (numbersAt rows i)
 unfolding stateOf rowAt
-row-of equations rows relations p i inside = row-at equations rows i inside
+row-of rows relations p i inside = row-at (p .rows) rows i inside
 
 -- ---- the exchange
 
@@ -203,28 +203,6 @@ module _ (equations : ℕ) (rows : List ℤ) (w : Within (rowNeed equations) row
       cases true = kept-exchanged
       cases false = kept-same (rowNeed equations) rows
 
-  pub narrowed-state : (relations : List ℤ) (p : Progress)
-      → narrowFirst (stateOf equations rows relations p) i j ≡ stateOf equations (narrowed rows i j) relations p
-  unfolding narrowFirst narrowed exchange putRow stateOf
-  narrowed-state relations p =
-      ap₂ (λ a b. cond (ltb (width a) (width b)) (exchange s i j) s) first second
-      ∙ cases (ltb (width (rowOf (numbersAt rows i))) (width (rowOf (numbersAt rows j))))
-    where
-      s : State
-      s = stateOf equations rows relations p
-
-      first : rowAt s i ≡ rowOf (numbersAt rows i)
-      first = row-of equations rows relations p i inside
-
-      second : rowAt s j ≡ rowOf (numbersAt rows j)
-      second = row-of equations rows relations p j other
-
-      cases : (t : Bool) → cond t (exchange s i j) s ≡ stateOf equations (cond t exchanged rows) relations p
-      cases true =
-          ap (λ l. state l (relationsOf (p .count) relations) (take (p .settled) (p .order)) (p .shifts))
-          (ap₂ (λ a b. set (set (rowsOf equations rows) j a) i b) first second ∙ sym rows-exchanged)
-      cases false = refl
-
   -- Row i stands in one of the two places afterwards.
   pub narrowed-one : j ≢ i
       → (rowOf (numbersAt (narrowed rows i j) j) ≡ rowOf (numbersAt rows i))
@@ -243,3 +221,25 @@ module _ (equations : ℕ) (rows : List ℤ) (w : Within (rowNeed equations) row
           (rowOf (numbersAt after j) ≡ rowOf (numbersAt rows i)) ⊎ (rowOf (numbersAt after i) ≡ rowOf (numbersAt rows i))
       cases true = inl moved
       cases false = inr refl
+
+pub narrowed-state : (rows relations : List ℤ) (p : Progress) → Within (rowNeed (p .rows)) rows → (i j : ℕ) → i < p .rows → j < p .rows
+    → narrowFirst (stateOf rows relations p) i j ≡ stateOf (narrowed rows i j) relations p
+unfolding narrowFirst narrowed exchange putRow stateOf
+narrowed-state rows relations p w i j inside other =
+    ap₂ (λ a b. cond (ltb (width a) (width b)) (exchange s i j) s) first second
+    ∙ cases (ltb (width (rowOf (numbersAt rows i))) (width (rowOf (numbersAt rows j))))
+  where
+    s : State
+    s = stateOf rows relations p
+
+    first : rowAt s i ≡ rowOf (numbersAt rows i)
+    first = row-of rows relations p i inside
+
+    second : rowAt s j ≡ rowOf (numbersAt rows j)
+    second = row-of rows relations p j other
+
+    cases : (t : Bool) → cond t (exchange s i j) s ≡ stateOf (cond t (exchanged (p .rows) rows w i j inside other) rows) relations p
+    cases true =
+        ap (λ l. state l (relationsOf (p .count) relations) (take (p .settled) (p .order)) (p .shifts))
+        (ap₂ (λ a b. set (set (rowsOf (p .rows) rows) j a) i b) first second ∙ sym (rows-exchanged (p .rows) rows w i j inside other))
+    cases false = refl

@@ -1,4 +1,5 @@
 // The elimination over checked stores: one step, and the whole run. Each contract says what the definition of `rules` does to the
 // state that the stores hold.
+pub mod dropping;
 pub mod run;
 pub mod step;

@@ -13,8 +13,8 @@ ghost use Rattle.sides.specs.Lent.{Within, Listing, sideOf};
 ghost use Rattle.reduction.specs.Progress.{mostSteps, Reached, startProgress};
 ghost use Rattle.reduction.specs.Ran.{runOf, answerFor, rowsAfter, relationsAfter};
 
-// A bound on the steps that no run reaches (SCOPE 3.24): m settlings, five shifts a row, and every settled row before each
-// of those.
+// A bound on the steps that no run reaches (SCOPE 3.24): a settling or a dropping and five shifts for each row, and every settled row
+// before each of those.
 fn enough(equations: usize) -> usize
     requires { ⌜ equations ≤ mostEquations ⌝ }
     ensures { λ r. ⌜ r ≡ (equations + 1) * (equations + equations * 5) ⌝ }
@@ -23,10 +23,11 @@ fn enough(equations: usize) -> usize
 }
 
 // No row is settled at the start (SCOPE 2.2).
-fn start(count: usize) -> Progress
-    ensures { λ r. ⌜ r ≡ startProgress count ⌝ }
+fn start(equations: usize, count: usize) -> Progress
+    ensures { λ r. ⌜ r ≡ startProgress equations count ⌝ }
 {
     Progress {
+        rows: equations,
         settled: 0,
         order: [0; COLUMNS],
         count,
@@ -34,7 +35,7 @@ fn start(count: usize) -> Progress
     }
 }
 
-// Step after step, up to a refusal, or as long as a row is left; the run is done if none is.
+// Step after step, up to a refusal, or as long as a row is not settled; the run is done if all that are left are.
 fn steps(
     rows: &mut [i64],
     relations: &mut [i64],
@@ -46,18 +47,18 @@ fn steps(
     ensures { λ r. ⌜ Reached equations (now (rows .entry)) (now (relations .entry)) (now (rows .exit)) (now (relations .exit)) mostSteps r
         (runOf (sideOf side) equations count (now (rows .entry)) (now (relations .entry))) ⌝ }
 {
-    let mut p = start(count);
+    let mut p = start(equations, count);
     let mut refusal: u8 = 0;
     let mut left = enough(equations);
-    while 0 < left && refusal == 0 && p.settled < equations {
-        let o = crate::step::step(rows, relations, equations, side, p);
+    while 0 < left && refusal == 0 && p.settled < p.rows {
+        let o = crate::step::step(rows, relations, side, p);
         refusal = o.refusal;
         p = o.progress;
         left -= 1;
     }
     Outcome {
         refusal,
-        done: equations <= p.settled,
+        done: p.rows <= p.settled,
         progress: p,
     }
 }
@@ -71,7 +72,7 @@ pub fn run(
     count: usize,
 ) -> Outcome
     requires { ⌜ (equations ≤ mostEquations) × Within (rowNeed equations) (now rows) × Listing count (now relations) ⌝ }
-    ensures { λ r. ⌜ r ≡ answerFor (runOf (sideOf side) equations count (now (rows .entry)) (now (relations .entry))) ⌝ }
+    ensures { λ r. ⌜ r ≡ answerFor equations (runOf (sideOf side) equations count (now (rows .entry)) (now (relations .entry))) ⌝ }
     ensures { λ _. ⌜ now (rows .exit)
         ≡ rowsAfter equations (runOf (sideOf side) equations count (now (rows .entry)) (now (relations .entry))) (now (rows .entry)) ⌝ }
     ensures { λ _. ⌜ now (relations .exit)
@@ -88,5 +89,5 @@ pub fn run(
     let listed = p.count;
     stores::rows::clear(rows, 0, equations * ROW);
     stores::rows::clear(relations, 0, listed * RELATION);
-    crate::step::answer(refusal, start(0))
+    crate::step::answer(refusal, start(equations, 0))
 }

@@ -7,11 +7,11 @@ use working_rows::WorkingRow;
 ghost use mathlib.Core.Path.{_≡_};
 ghost use mathlib.Core.Bool.{false, not};
 ghost use mathlib.Core.List.{_++_};
-ghost use Prim.Native.Nat.{_+_, _*_, _^_, _≤_, _<_};
+ghost use Prim.Native.Nat.{_+_, _*_, _-_, _^_, _≤_, _<_};
 ghost use lib.Dec.{T};
 ghost use lib.ListN.{length};
 ghost use Rattle.algebra.specs.Polynomials.{isZero};
-ghost use Rattle.rules.specs.Limits.{columnCount, entriesLength, rowLength, small};
+ghost use Rattle.rules.specs.Limits.{columnCount, mostEquations, entriesLength, rowLength, small};
 ghost use Rattle.rules.specs.Rows.{entry};
 ghost use Rattle.lists.specs.Tests.{every};
 ghost use Rattle.rules.specs.Elimination as Elimination;
@@ -19,13 +19,16 @@ ghost use Rattle.rules.specs.Stores.{rowOf};
 ghost use Rattle.working_rows.specs.Working.{numbersHeld, Full};
 ghost use Rattle.working_rows.specs.Worked.{refusalOf, numbersOf};
 ghost use Rattle.sides.specs.Lent.{sideOf};
-ghost use Rattle.reduction.specs.Progress.{Ready, Reached, stateOf, answerOf, settledProgress, shiftedProgress};
+ghost use Rattle.reduction.specs.Progress.{Ready, Reached, stateOf, answerOf, droppedProgress, settledProgress, shiftedProgress};
 ghost use Rattle.reduction.specs.NewRows.{saved};
+ghost use Rattle.reduction.specs.Dropping.{dropped};
 ghost use Rattle.reduction.specs.StoreExchange.{narrowed, Loaded};
 ghost use Rattle.reduction.specs.StepLaws.{metEntries, shiftedRow};
 
-// How far a run has come: the settled rows with their columns, counted from 0, the relations listed and the shifts made.
+// How far a run has come: the rows that are left, the settled ones with their columns, counted from 0, the relations listed and the
+// shifts made.
 pub struct Progress {
+    pub rows: usize,
     pub settled: usize,
     pub order: [usize; COLUMNS],
     pub count: usize,
@@ -92,6 +95,7 @@ fn settled(c: usize, p: Progress) -> Progress
     let w = p.settled;
     order[w] = c;
     Progress {
+        rows: p.rows,
         settled: w + 1,
         order,
         count: p.count,
@@ -111,6 +115,7 @@ fn shift_step(rows: &mut [i64], row: WorkingRow, p: Progress) -> Outcome
     let i = p.settled;
     let order = p.order;
     let next = Progress {
+        rows: p.rows,
         settled: i,
         order,
         count: p.count,
@@ -119,24 +124,43 @@ fn shift_step(rows: &mut [i64], row: WorkingRow, p: Progress) -> Outcome
     put_limited(rows, i, working_rows::shifting::shifted(row), next)
 }
 
-// Rules 3 and 4 for the row that is worked on and settled row j (SCOPE 2.31, 2.34, 2.41, 2.42, 2.47). The number of rows stands in the
-// contract only.
+// Rule 1: the row that is worked on is dropped; the later ones move up, and the place of the last one holds 0 (SCOPE 2.11).
+fn drop_step(rows: &mut [i64], p: Progress) -> Outcome
+    requires { ⌜ (p .rows ≤ mostEquations) × (p .settled < p .rows) × (p .rows * rowLength ≤ length (now rows)) ⌝ }
+    ensures { λ _. ⌜ now (rows .exit) ≡ dropped (now (rows .entry)) (p .settled) (p .rows - 1) ⌝ }
+    ensures { λ r. ⌜ r ≡ answerOf 0 (droppedProgress p) ⌝ }
+{
+    let i = p.settled;
+    let order = p.order;
+    let last = p.rows - 1;
+    crate::dropping::move_up(rows, i * ROW, (last - i) * ROW);
+    stores::rows::clear(rows, last * ROW, ROW);
+    let next = Progress {
+        rows: last,
+        settled: i,
+        order,
+        count: p.count,
+        shifts: p.shifts,
+    };
+    answer(0, next)
+}
+
+// Rules 3 and 4 for the row that is worked on and settled row j (SCOPE 2.31, 2.34, 2.41, 2.42, 2.47).
 fn combine_step(
     rows: &mut [i64],
     relations: &mut [i64],
-    equations: usize,
     side: Side,
     j: usize,
     target: WorkingRow,
     pivot: WorkingRow,
     p: Progress,
 ) -> Outcome
-    requires { ⌜ Ready equations (now rows) (now relations) p × (p .settled < equations) × (j < p .settled) ⌝ }
+    requires { ⌜ Ready (now rows) (now relations) p × (p .settled < p .rows) × (j < p .settled) ⌝ }
     requires { ⌜ Loaded (now rows) (p .settled) target × Loaded (now rows) j pivot ⌝ }
     requires { ⌜ T (not (isZero (metEntries (now rows) p j))) ⌝ }
-    ensures { λ r. ⌜ Reached equations (now (rows .entry)) (now (relations .entry)) (now (rows .exit)) (now (relations .exit)) (p .shifts + 1) r
-        (Elimination.combineStep (sideOf side) (stateOf equations (now (rows .entry)) (now (relations .entry)) p) (p .settled) j
-        (Elimination.multipliersAt (stateOf equations (now (rows .entry)) (now (relations .entry)) p) (p .settled) j)) ⌝ }
+    ensures { λ r. ⌜ Reached (p .rows) (now (rows .entry)) (now (relations .entry)) (now (rows .exit)) (now (relations .exit)) (p .shifts + 1) r
+        (Elimination.combineStep (sideOf side) (stateOf (now (rows .entry)) (now (relations .entry)) p) (p .settled) j
+        (Elimination.multipliersAt (stateOf (now (rows .entry)) (now (relations .entry)) p) (p .settled) j)) ⌝ }
     ensures { λ r. ⌜ r .done ≡ false ⌝ }
 {
     let i = p.settled;
@@ -155,6 +179,7 @@ fn combine_step(
     let row = stores::rows::row_at(rows, i * ROW);
     sides::listing::list_roots(relations, p.count, found, side, row);
     let next = Progress {
+        rows: p.rows,
         settled: i,
         order,
         count,
@@ -172,21 +197,20 @@ fn combine_step(
 fn eliminate_step(
     rows: &mut [i64],
     relations: &mut [i64],
-    equations: usize,
     side: Side,
     j: usize,
     row: WorkingRow,
     p: Progress,
 ) -> Outcome
     requires { ⌜
-        Ready equations (now rows) (now relations) p × (p .settled < equations) × (j < p .settled)
+        Ready (now rows) (now relations) p × (p .settled < p .rows) × (j < p .settled)
         × Loaded (now rows) (p .settled) row ⌝ }
     requires { ⌜ T (not (isZero (metEntries (narrowed (now rows) (p .settled) j) p j))) ⌝ }
-    ensures { λ r. ⌜ Reached equations (now (rows .entry)) (now (relations .entry)) (now (rows .exit)) (now (relations .exit)) (p .shifts + 1) r
+    ensures { λ r. ⌜ Reached (p .rows) (now (rows .entry)) (now (relations .entry)) (now (rows .exit)) (now (relations .exit)) (p .shifts + 1) r
         (Elimination.combineStep (sideOf side)
-        (stateOf equations (narrowed (now (rows .entry)) (p .settled) j) (now (relations .entry)) p) (p .settled) j
+        (stateOf (narrowed (now (rows .entry)) (p .settled) j) (now (relations .entry)) p) (p .settled) j
         (Elimination.multipliersAt
-        (stateOf equations (narrowed (now (rows .entry)) (p .settled) j) (now (relations .entry)) p) (p .settled) j)) ⌝ }
+        (stateOf (narrowed (now (rows .entry)) (p .settled) j) (now (relations .entry)) p) (p .settled) j)) ⌝ }
     ensures { λ r. ⌜ r .done ≡ false ⌝ }
 {
     let i = p.settled;
@@ -194,23 +218,17 @@ fn eliminate_step(
     if row.width < other.width {
         working_rows::stored::save(rows, j * ROW, row);
         working_rows::stored::save(rows, i * ROW, other);
-        return combine_step(rows, relations, equations, side, j, other, row, p);
+        return combine_step(rows, relations, side, j, other, row, p);
     }
-    combine_step(rows, relations, equations, side, j, row, other, p)
+    combine_step(rows, relations, side, j, row, other, p)
 }
 
-// One exchange with its combination, one combination, one settling or one shift (SCOPE 2.2, 2.11, 2.12, 2.26). A step is taken only
-// where a row is left.
-pub(crate) fn step(
-    rows: &mut [i64],
-    relations: &mut [i64],
-    equations: usize,
-    side: Side,
-    p: Progress,
-) -> Outcome
-    requires { ⌜ Ready equations (now rows) (now relations) p × (p .settled < equations) × (p .shifts < 2 ^ 32) ⌝ }
-    ensures { λ r. ⌜ Reached equations (now (rows .entry)) (now (relations .entry)) (now (rows .exit)) (now (relations .exit)) (p .shifts + 1) r
-        (Elimination.step (sideOf side) (stateOf equations (now (rows .entry)) (now (relations .entry)) p)) ⌝ }
+// One dropped row, one exchange with its combination, one combination, one settling or one shift (SCOPE 2.2, 2.11, 2.12, 2.26). A step
+// is taken only where a row is not settled.
+pub(crate) fn step(rows: &mut [i64], relations: &mut [i64], side: Side, p: Progress) -> Outcome
+    requires { ⌜ Ready (now rows) (now relations) p × (p .settled < p .rows) × (p .shifts < 2 ^ 32) ⌝ }
+    ensures { λ r. ⌜ Reached (p .rows) (now (rows .entry)) (now (relations .entry)) (now (rows .exit)) (now (relations .exit)) (p .shifts + 1) r
+        (Elimination.step (sideOf side) (stateOf (now (rows .entry)) (now (relations .entry)) p)) ⌝ }
     ensures { λ r. ⌜ r .done ≡ false ⌝ }
 {
     let i = p.settled;
@@ -218,7 +236,7 @@ pub(crate) fn step(
     let right = row.right;
     if row.width == 0 {
         if polynomials::content::is_zero(&right[..]) {
-            return answer(6, p);
+            return drop_step(rows, p);
         }
         return answer(10, p);
     }
@@ -226,7 +244,7 @@ pub(crate) fn step(
     let order = p.order;
     let j = working_rows::entries::first_met(&entries[..], order, i);
     if j < i {
-        return eliminate_step(rows, relations, equations, side, j, row, p);
+        return eliminate_step(rows, relations, side, j, row, p);
     }
     let c = working_rows::entries::first_column(&entries[..]);
     if c < COLUMNS {

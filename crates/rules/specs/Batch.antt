@@ -12,7 +12,8 @@ use lib.Dec.{leb}
 use lib.ListN.{length, take, drop, getD, set, replicate}
 use lib.IntN.{ℤ, pos, natAbs}
 use Rattle.algebra.specs.Sums.{countFrom}
-use Rattle.rules.specs.Elimination.{State, Outcome, going, done, refused, leadingRun, neverNumber}
+use Rattle.rules.specs.Stores.{withEquations}
+use Rattle.rules.specs.Elimination.{State, Outcome, going, done, refused, rank, leadingRun, neverNumber}
 use Rattle.rules.specs.Numbers.{space, newline, Read, got, fault, field, between, lines}
 use Rattle.rules.specs.Sheets.{Sheet, always, readSheet, writeSheet}
 
@@ -28,11 +29,11 @@ pub data Answer : Type 0 where
 unfoldable pub sized : List ℕ → Answer
 sized bytes = cond (leb (length bytes) mostBytes) (accepted bytes) (refusedWith 1)
 
--- The sheet has the input's sizes, and the rows, relations and column order of the run (SCOPE 5.14).
+-- The sheet has the input's m, l and t, and the rows, relations and column order of the run (SCOPE 5.14).
 unfoldable pub answerRun : Sheet → Outcome → Answer
-unfolding sized writeSheet
+unfolding sized writeSheet withEquations rank
 answerRun sheet (done s) =
-    sized (writeSheet (record { sizes = sheet .sizes; rows = s .rows; relations = s .relations; order = map suc (s .order) }))
+    sized (writeSheet (record { sizes = withEquations (rank s) (sheet .sizes); rows = s .rows; relations = s .relations; order = map suc (s .order) }))
 answerRun sheet (refused n) = refusedWith n
 -- A run always ends (crate theory), so this case never comes (SCOPE 3.24).
 answerRun sheet (going s) = refusedWith neverNumber

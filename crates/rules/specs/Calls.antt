@@ -16,8 +16,8 @@ use lib.Signed.{leZ}
 use Rattle.lists.specs.Padded.{padTo}
 use Rattle.lists.specs.Overwritten.{overwrite}
 use Rattle.rules.specs.Limits.{coefficientCount, columnCount, rowLength, blockLength, entriesLength}
-use Rattle.rules.specs.Elimination.{Side, State, Outcome, going, done, refused, wholeRun, report, neverNumber}
-use Rattle.rules.specs.Stores.{Sizes, equations, span, rowsOf, relationsOf, rowNeed, relationNeed, rowStoreOf, relationStoreOf}
+use Rattle.rules.specs.Elimination.{Side, State, Outcome, going, done, refused, rank, wholeRun, report, neverNumber}
+use Rattle.rules.specs.Stores.{Sizes, equations, span, rowsOf, relationsOf, rowNeed, relationNeed, rowStoreFor, relationStoreOf}
 use Rattle.rules.specs.Stores.{sizesRight, checkStores}
 
 -- What a run returns (SCOPE 3.22).
@@ -28,6 +28,7 @@ pub record Result : Type 0 where
   pub order : List ℕ
   pub hasRoot : Bool
   pub root : ℤ
+  pub rank : ℕ
 
 pub record Call : Type 0 where
   pub result : Result
@@ -36,7 +37,7 @@ pub record Call : Type 0 where
 
 -- A refusal returns its number, and 0 in all other fields (SCOPE 6.31).
 unfoldable pub refusal : ℕ → Result
-refusal n = record { refusal = n; relations = 0; shifts = 0; order = replicate columnCount 0; hasRoot = false; root = pos 0 }
+refusal n = record { refusal = n; relations = 0; shifts = 0; order = replicate columnCount 0; hasRoot = false; root = pos 0; rank = 0 }
 
 -- The value beside "no" is 0 (SCOPE 2.82).
 unfoldable pub rootFound : Option ℤ → Bool
@@ -53,7 +54,7 @@ unfolding padTo
 reportedOrder order = padTo columnCount 0 (map suc order)
 
 unfoldable pub acceptance : Side → ℕ → State → Result
-unfolding reportedOrder rootFound rootValue report
+unfolding reportedOrder rootFound rootValue report rank
 acceptance side D s =
     let root = report side D s in
     record {
@@ -64,6 +65,7 @@ acceptance side D s =
           (s .order);
       hasRoot = rootFound root;
       root = rootValue root;
+      rank = rank s;
     }
 
 unfoldable pub zeros : ℕ → List ℤ
@@ -74,7 +76,7 @@ unfoldable pub unchanged : ℕ → List ℤ → List ℤ → Call
 unfolding refusal
 unchanged n rowStore relationStore = record { result = refusal n; rowStore = rowStore; relationStore = relationStore }
 
--- Refusals 6 to 10, found during the work, make the needed parts zero; the rest stays (SCOPE 6.33).
+-- Refusals 7 to 10, found during the work, make the needed parts zero; the rest stays (SCOPE 6.33).
 unfoldable pub cleared : ℕ → ℕ → List ℤ → List ℤ → Call
 unfolding refusal overwrite zeros rowNeed
 cleared n equations rowStore relationStore =
@@ -86,11 +88,11 @@ cleared n equations rowStore relationStore =
     }
 
 unfoldable pub afterRun : Side → Sizes → Outcome → List ℤ → List ℤ → Call
-unfolding acceptance overwrite rowStoreOf relationStoreOf cleared span
+unfolding acceptance overwrite rowStoreFor relationStoreOf cleared span
 afterRun side z (done s) rowStore relationStore =
     record {
       result = acceptance side (span z) s;
-      rowStore = overwrite (rowStoreOf (s .rows)) rowStore;
+      rowStore = overwrite (rowStoreFor (equations z) (s .rows)) rowStore;
       relationStore = overwrite
           (relationStoreOf (s .relations)) relationStore;
     }

@@ -3,8 +3,9 @@
 -- Main definitions
 --   multipliers a b    rule 2's g and h
 --   State, Outcome     rows, relations, the columns of the settled rows, shifts; going on, done or refused
+--   rank s             w, the number of the settled rows
 --   finished s         every row is settled
---   step side s        one exchange with its combination, one combination, one shift or one settling
+--   step side s        one exchange with its combination, one combination, one shift, one settling or one dropped row
 --   run side k s       at most k steps, up to a finished state
 --   neverNumber        the number in the place of a run that does not end, which never comes
 --   leadingRun, trailingRun   the whole runs
@@ -17,6 +18,7 @@ use lib.Dec.{ltb, leb}
 use lib.ListN.{length, getD, set}
 use lib.IntN.{ℤ, pos}
 use lib.Signed.{leZ, ltZ}
+use Rattle.lists.specs.Places.{without}
 use Rattle.algebra.specs.Gcd.{content, divideBy}
 use Rattle.algebra.specs.Polynomials.{Polynomial, negate, lead}
 use Rattle.algebra.specs.Roots.{roots}
@@ -100,6 +102,11 @@ listRelations s l = record { rows = s .rows; relations = s .relations ++ l; orde
 unfoldable pub settle : State → ℕ → State
 settle s c = record { rows = s .rows; relations = s .relations; order = s .order ++ (c ∷ []); shifts = s .shifts }
 
+-- The row is left out, and the later rows move up (SCOPE 2.11).
+unfoldable pub dropRow : State → ℕ → State
+unfolding without
+dropRow s i = record { rows = without (s .rows) i; relations = s .relations; order = s .order; shifts = s .shifts }
+
 -- The shifts of a run are counted (SCOPE 2.65).
 unfoldable pub countShift : State → State
 countShift s = record { rows = s .rows; relations = s .relations; order = s .order; shifts = suc (s .shifts) }
@@ -173,13 +180,17 @@ unfolding eliminateStep firstNonzero leadingBlock rowAt settleOrShift
 meet side s i (some j) = eliminateStep side s i j
 meet side s i none = settleOrShift s i (firstNonzero (leadingBlock (rowAt s i)))
 
--- Rule 1: a zero row is refused with 6, also one that a combination has made zero (SCOPE 2.11, 2.45), and one whose left part
--- alone is zero with 10 (SCOPE 2.12).
+-- Rule 1: a zero row is dropped, also one that a combination has made zero (SCOPE 2.11, 2.45), and one whose left part
+-- alone is zero is refused with 10 (SCOPE 2.12).
 unfoldable pub workOn : Side → State → ℕ → Outcome
-unfolding zeroRow contradicts meet firstNonzero entry rowAt
+unfolding zeroRow contradicts meet firstNonzero entry rowAt dropRow
 workOn side s i =
     let rest = meet side s i (firstNonzero (map (entry (rowAt s i)) (s .order))) in
-    cond (zeroRow (rowAt s i)) (refused 6) (cond (contradicts (rowAt s i)) (refused 10) rest)
+    cond (zeroRow (rowAt s i)) (going (dropRow s i)) (cond (contradicts (rowAt s i)) (refused 10) rest)
+
+-- w, which is the rank of the system where the run is done (SCOPE 2.2, 2.13).
+unfoldable pub rank : State → ℕ
+rank s = length (s .order)
 
 -- The settled rows are all the rows (SCOPE 2.2).
 unfoldable pub finished : State → Bool
@@ -207,7 +218,7 @@ run side (suc k) s =
     cond (finished s) (done s) rest
 
 -- Enough steps for any rows: a settling for each row, a shift for each block, and combinations with every settled row
--- before each of those (SCOPE 3.24).
+-- before each of those; a row that is dropped is not settled (SCOPE 3.24).
 unfoldable pub enough : List Row → ℕ
 enough rows =
     let m = length rows in

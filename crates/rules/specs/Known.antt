@@ -44,8 +44,8 @@ pub record Entry : Type 0 where
   pub equations : List Equation
   pub expected : Expected
 
-abbrev pub sizesOf : ℕ → ℤ → ℤ → Sizes
-sizesOf m l t = record { m = m; l = l; t = t }
+abbrev pub sizesOf : ℕ → ℕ → ℤ → ℤ → Sizes
+sizesOf m equations l t = record { m = m; equations = equations; l = l; t = t }
 
 abbrev pub rowsOfEquations : ℤ → List Equation → List Row
 rowsOfEquations l es = map (rowOfTerms l) es
@@ -72,7 +72,7 @@ abbrev pub k1 : Entry
 k1 =
     record {
       side = leading;
-      sizes = sizesOf 2 (pos 0) (negsuc 2);
+      sizes = sizesOf 2 2 (pos 0) (negsuc 2);
       equations = (term (pos 0) 1 (negsuc 0 ∷ pos 1 ∷ []) ∷ term (negsuc 2) 2 (negsuc 0 ∷ []) ∷ []) ∷ k1-first ∷ [];
       expected =
           accepts
@@ -93,7 +93,7 @@ abbrev pub k2 : Entry
 k2 =
     record {
       side = leading;
-      sizes = sizesOf 2 (pos 1) (pos 0);
+      sizes = sizesOf 2 2 (pos 1) (pos 0);
       equations = k2-first ∷ k2-second ∷ [];
       expected =
           accepts
@@ -111,29 +111,30 @@ abbrev pub k3 : Entry
 k3 =
     record {
       side = leading;
-      sizes = sizesOf 1 (pos 1) (pos 0);
+      sizes = sizesOf 1 1 (pos 1) (pos 0);
       equations = k3-only ∷ [];
       expected = accepts (k3-only ∷ []) [] (1 ∷ []) 0 (some (pos 3));
     }
 
--- K4: m = 1, the zero row is refused with 6 (SCOPE 7.4).
+-- K4: m = 1, the zero row is dropped, and the rank is 0 (SCOPE 7.4).
 abbrev pub k4 : Entry
-k4 = record { side = leading; sizes = sizesOf 1 (pos 0) (pos 0); equations = [] ∷ []; expected = refuses 6 }
+k4 =
+    record { side = leading; sizes = sizesOf 1 1 (pos 0) (pos 0); equations = [] ∷ []; expected = accepts [] [] [] 0 none }
 
--- K5: x(n + 1) + y(n), two times, is refused with 6 (SCOPE 7.5).
+-- K5: of x(n + 1) + y(n), two times, one is kept, and the rank is 1 (SCOPE 7.5).
 abbrev k5-twice : Equation
 k5-twice = term (pos 1) 1 (pos 1 ∷ []) ∷ term (pos 0) 2 (pos 1 ∷ []) ∷ []
 
 abbrev pub k5 : Entry
 k5 =
-    record { side = leading; sizes = sizesOf 2 (pos 1) (pos 0); equations = k5-twice ∷ k5-twice ∷ []; expected = refuses 6 }
+    record { side = leading; sizes = sizesOf 2 2 (pos 1) (pos 0); equations = k5-twice ∷ k5-twice ∷ []; expected = accepts (k5-twice ∷ []) [] (1 ∷ []) 0 none }
 
 -- K6: m = 1, l = 4, t = 0: x(n) alone comes out as x(n + 4) after four shifts (SCOPE 7.6).
 abbrev pub k6 : Entry
 k6 =
     record {
       side = leading;
-      sizes = sizesOf 1 (pos 4) (pos 0);
+      sizes = sizesOf 1 1 (pos 4) (pos 0);
       equations = (term (pos 0) 1 (pos 1 ∷ []) ∷ []) ∷ [];
       expected = accepts ((term (pos 4) 1 (pos 1 ∷ []) ∷ []) ∷ []) [] (1 ∷ []) 4 none;
     }
@@ -152,7 +153,7 @@ abbrev pub k7 : Entry
 k7 =
     record {
       side = leading;
-      sizes = sizesOf 2 (pos 0) (pos 0);
+      sizes = sizesOf 2 2 (pos 0) (pos 0);
       equations = k7-first 14 ∷ k7-second ∷ [];
       expected =
           accepts
@@ -164,7 +165,7 @@ k7 =
 -- K8: with n^15 for n^14 the system is refused with 7 (SCOPE 7.8).
 abbrev pub k8 : Entry
 k8 =
-    record { side = leading; sizes = sizesOf 2 (pos 0) (pos 0); equations = k7-first 15 ∷ k7-second ∷ []; expected = refuses 7 }
+    record { side = leading; sizes = sizesOf 2 2 (pos 0) (pos 0); equations = k7-first 15 ∷ k7-second ∷ []; expected = refuses 7 }
 
 -- K9: D = 0, 10,000 x + y and x + (20,000 n + 1) y are accepted (SCOPE 7.9).
 abbrev k9-first : ℕ → Equation
@@ -177,7 +178,7 @@ abbrev pub k9 : Entry
 k9 =
     record {
       side = leading;
-      sizes = sizesOf 2 (pos 0) (pos 0);
+      sizes = sizesOf 2 2 (pos 0) (pos 0);
       equations = k9-first 10000 ∷ k9-second (pos 1 ∷ pos 20000 ∷ []) ∷ [];
       expected = accepts (k9-first 10000 ∷ (term (pos 0) 2 (pos 9999 ∷ pos 200000000 ∷ []) ∷ []) ∷ []) [] (1 ∷ 2 ∷ []) 0 none;
     }
@@ -188,7 +189,7 @@ abbrev pub k10 : Entry
 k10 =
     record {
       side = leading;
-      sizes = sizesOf 2 (pos 0) (pos 0);
+      sizes = sizesOf 2 2 (pos 0) (pos 0);
       equations = k9-first 20000 ∷ k9-second (pos 1 ∷ pos 20000 ∷ []) ∷ [];
       expected = refuses 8;
     }
@@ -197,7 +198,7 @@ abbrev pub k10-divided : Entry
 k10-divided =
     record {
       side = leading;
-      sizes = sizesOf 2 (pos 0) (pos 0);
+      sizes = sizesOf 2 2 (pos 0) (pos 0);
       equations = k9-first 20000 ∷ k9-second (pos 20000 ∷ []) ∷ [];
       expected = accepts (k9-first 20000 ∷ (term (pos 0) 2 (pos 1 ∷ []) ∷ []) ∷ []) [] (1 ∷ 2 ∷ []) 0 none;
     }
@@ -208,7 +209,7 @@ abbrev pub k11 : Entry
 k11 =
     record {
       side = trailing;
-      sizes = sizesOf 1 (pos 1) (pos 0);
+      sizes = sizesOf 1 1 (pos 1) (pos 0);
       equations = (term (pos 1) 1 (pos 0 ∷ pos 1 ∷ []) ∷ []) ∷ [];
       expected = accepts ((term (pos 0) 1 (negsuc 0 ∷ pos 1 ∷ []) ∷ []) ∷ []) [] (1 ∷ []) 1 (some (pos 1));
     }
@@ -230,11 +231,11 @@ k3-holds = (refl, refl)
 
 k4-holds : Holds k4
 unfolding opened
-k4-holds = refl
+k4-holds = (refl, refl)
 
 k5-holds : Holds k5
 unfolding opened
-k5-holds = refl
+k5-holds = (refl, refl)
 
 k6-holds : Holds k6
 unfolding opened

@@ -10,12 +10,12 @@
 -- Main statements
 --   rowOf-coefficientsOf, coefficientsOf-rowOf, rowsOf-rowStoreOf, rowStoreOf-rowsOf
 --                                 rows are read as they were written, and written as they were read
+--   rowsOf-rowStoreFor            the same of the rows left in a store for more of them
 --   relationOf-relationNumbers, relationNumbers-relationOf, relationsOf-relationStoreOf, relationStoreOf-relationsOf
 --                                 the same for relations, with the unused places
 --   stores-valid, valid-stores    stores without a refusal hold a valid system, and each valid system is held by such stores
 --   coefficient-at, polynomial-at
 --                                 the place of each coefficient, and of each polynomial, in a row store
---   equations-few                 right sizes have few equations
 --   rightSidePart-at              the same of the right side of a row
 --   polynomialPart-at             the part that a caller gets back is the polynomial of the row, block and column
 use Prim.Native.Nat.{ℕ, suc, pred, _+_, _*_, _-_, _≤_, _<_, suc-le-suc}
@@ -42,7 +42,8 @@ use Rattle.rules.specs.Rows.{Block, Row, Relation, noRow, coefficientsOf
 use Rattle.lists.specs.Everywhere.{All}
 use Rattle.lists.specs.Images.{getD-map}
 use Rattle.lists.specs.Joined.{flatten-flatten, length-flatten}
-use Rattle.rules.specs.Stores.{Sizes, rowOf, rowsOf, relationOf, relationsOf, relationNumbers, rowStoreOf, relationStoreOf, equations}
+use Rattle.rules.specs.Stores.{Sizes, rowOf, rowsOf, relationOf, relationsOf, relationNumbers, rowStoreOf, relationStoreOf}
+use Rattle.rules.specs.Stores.{equations, rowStoreFor}
 use Rattle.rules.specs.Stores.{rowNeed, relationNeed, sizesRight, countRight, lengthsRight, rowRight, relationRight, numbersRight}
 use Rattle.rules.specs.Stores.{checkStores, Shaped, StoreRow, Valid}
 use Rattle.rules.specs.Calls.{placeRight, polynomialCheck, polynomialPlace, partAt, polynomialPart, rightSideCheck, rightSidePart}
@@ -150,6 +151,33 @@ length-rowsOf m l = length-read rowLength rowOf coefficientsOf m l
 pub StoreRow-rowsOf : (m : ℕ) (l : List ℤ) → rowNeed m ≤ length l → All StoreRow (rowsOf m l)
 unfolding rowsOf rowNeed
 StoreRow-rowsOf m l h = all-read rowLength rowOf coefficientsOf StoreRow (λ p e. StoreRow-rowOf p (le-of-eq (sym e))) m l h
+
+-- ---- rows in a store for more of them
+
+-- What is read there are the rows, whatever follows them.
+pub rowsOf-rowStoreFor : (n : ℕ) (rows : List Row) (rest : List ℤ) → All StoreRow rows
+    → rowsOf (length rows) (rowStoreFor n rows ++ rest) ≡ rows
+unfolding rowStoreFor
+rowsOf-rowStoreFor n rows rest h =
+    let freed : List ℤ = replicate ((n - length rows) * rowLength) (pos 0) in
+    ap (rowsOf (length rows)) (append-assoc (rowStoreOf rows) freed rest) ∙ rowsOf-rowStoreOf (length rows) rows (freed ++ rest) refl h
+
+pub length-rowStoreFor : (n : ℕ) (rows : List Row) → length rows ≤ n → All StoreRow rows → length (rowStoreFor n rows) ≡ rowNeed n
+unfolding rowStoreFor rowNeed
+length-rowStoreFor n rows few h =
+    let freed : List ℤ = replicate ((n - length rows) * rowLength) (pos 0) in
+    length-append (rowStoreOf rows) freed
+    ∙ ap₂ _+_ (length-rowStoreOf rows h) (length-replicate ((n - length rows) * rowLength) (pos 0))
+    ∙ omega arith
+
+-- Where no row is dropped the store holds the rows alone.
+pub rowStoreFor-all : (n : ℕ) (rows : List Row) → length rows ≡ n → rowStoreFor n rows ≡ rowStoreOf rows
+unfolding rowStoreFor
+rowStoreFor-all n rows e =
+    ap (λ k. rowStoreOf rows ++ replicate (k * rowLength) (pos 0)) none ∙ append-nil (rowStoreOf rows)
+  where
+    none : n - length rows ≡ 0
+    none = omega (arith, e)
 
 -- ---- relations
 
@@ -404,6 +432,7 @@ coefficient-at m l i b c k hi hb hc hk =
 pub record SizeBounds (z : Sizes) : Type 0 where
   pub some : 1 ≤ z .m
   pub few : z .m ≤ columnCount
+  pub few-equations : equations z ≤ mostEquations
   pub low : negℤ (pos blockBound) ≤ℤ z .t
   pub ordered : z .t ≤ℤ z .l
   pub high : z .l ≤ℤ pos blockBound
@@ -414,22 +443,20 @@ unfolding sizesRight
 size-bounds z h =
     let e = simp T-&& at h in
     record {
-      some = leb→le _ _ (e .0 .0);
-      few = leb→le _ _ (e .0 .1);
+      some = leb→le _ _ (e .0 .0 .0);
+      few = leb→le _ _ (e .0 .0 .1);
+      few-equations = leb→le _ _ (e .0 .1);
       low = leZ-yes (e .1 .0 .0 .0);
       ordered = leZ-yes (e .1 .0 .0 .1);
       high = leZ-yes (e .1 .0 .1);
       narrow = leZ-yes (e .1 .1);
     }
 
--- The equations are few, since the unknowns are.
-pub equations-few : (z : Sizes) → SizeBounds z → equations z ≤ mostEquations
-unfolding equations
-equations-few z b = b .few
-
 pub bounds-right : (z : Sizes) → SizeBounds z → T (sizesRight z)
 unfolding sizesRight
-bounds-right z b = simp T-&& ((le→leb _ _ (b .some), le→leb _ _ (b .few)), (((b .low .le, b .ordered .le), b .high .le), b .narrow .le))
+bounds-right z b =
+    simp T-&&
+    (((le→leb _ _ (b .some), le→leb _ _ (b .few)), le→leb _ _ (b .few-equations)), (((b .low .le, b .ordered .le), b .high .le), b .narrow .le))
 
 -- A place inside a system, as facts.
 pub record PlaceBounds (z : Sizes) (row : ℕ) (block : ℤ) (column : ℕ) : Type 0 where

@@ -5,7 +5,7 @@
 --   coefficientCount           16 coefficients a polynomial, for degrees up to 15 (SCOPE 1.4)
 --   columnCount                four columns a block, for the largest m (SCOPE 1.1)
 --   mostSpan, blockCount       D = l - t is at most four, so that five blocks a row are enough (SCOPE 1.2)
---   mostEquations              a system has four equations or fewer (SCOPE 1.1)
+--   mostEquations              a system has six equations or fewer (SCOPE 1.1)
 --   polynomialCount            the polynomials of a row's left part
 --   blockLength, entriesLength, rowLength, relationLength
 --                              the numbers of a block, of a row's left part, of a row, and of a relation (SCOPE 3.2, 3.4)
@@ -26,9 +26,9 @@ coefficientCount = 16
 abbrev pub columnCount : ℕ
 columnCount = 4
 
--- As many as the unknowns, of which there are four at most (SCOPE 1.1).
+-- More than the unknowns may be given, and fewer (SCOPE 1.1).
 abbrev pub mostEquations : ℕ
-mostEquations = 4
+mostEquations = 6
 
 abbrev pub mostSpan : ℕ
 mostSpan = 4

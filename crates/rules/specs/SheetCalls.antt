@@ -35,7 +35,7 @@ pub record ReadCall : Type 0 where
 -- A refusal returns its number, and 0 in all other fields (SCOPE 6.31).
 unfoldable pub readRefusal : ℕ → ReadResult
 readRefusal n =
-    record { refusal = n; sizes = record { m = 0; l = pos 0; t = pos 0 }; relations = 0; order = replicate columnCount 0 }
+    record { refusal = n; sizes = record { m = 0; equations = 0; l = pos 0; t = pos 0 }; relations = 0; order = replicate columnCount 0 }
 
 -- A refusal leaves both stores as they were (SCOPE 4.43).
 unfoldable pub unread : ℕ → List ℤ → List ℤ → ReadCall
@@ -80,16 +80,17 @@ unfolding contains
 differentColumns m [] = true
 differentColumns m (c ∷ l) = (leb 1 c && leb c m) && not (contains c l) && differentColumns m l
 
--- The order argument: four numbers, all 0 for none, else a permutation of 1..m with zeros past its end (SCOPE 4.53).
-unfoldable pub orderRight : ℕ → List ℕ → Bool
-unfolding every differentColumns
-orderRight m order =
-    every (eqb 0) order || (differentColumns m (take m order) && every (eqb 0) (drop m order))
+-- The order that is written: the numbers before the first 0 (SCOPE 4.53).
+unfoldable pub orderGiven : List ℕ → List ℕ
+orderGiven [] = []
+orderGiven (zero ∷ l) = []
+orderGiven (suc c ∷ l) = suc c ∷ orderGiven l
 
--- The order that is written: none, or the first m numbers.
-unfoldable pub orderGiven : ℕ → List ℕ → List ℕ
-unfolding every
-orderGiven m order = cond (every (eqb 0) order) [] (take m order)
+-- The order argument: four numbers, different columns of 1..m first and zeros past them (SCOPE 4.53).
+unfoldable pub orderRight : ℕ → List ℕ → Bool
+unfolding every differentColumns orderGiven
+orderRight m order =
+    differentColumns m (orderGiven order) && every (eqb 0) (drop (length (orderGiven order)) order)
 
 -- Sizes (2), then lengths (1), then numbers (5); the order argument is one of the sizes (SCOPE 3.31, 4.53, 4.54).
 unfoldable pub checkWrite : Sizes → ℕ → List ℕ → List ℤ → List ℤ → ℕ
@@ -102,7 +103,7 @@ checkWrite z count order rowStore relationStore =
 unfoldable pub sheetOf : Sizes → ℕ → List ℕ → List ℤ → List ℤ → Sheet
 unfolding rowsOf relationsOf orderGiven
 sheetOf z count order rowStore relationStore =
-    record { sizes = z; rows = rowsOf (equations z) rowStore; relations = relationsOf count relationStore; order = orderGiven (z .m) order }
+    record { sizes = z; rows = rowsOf (equations z) rowStore; relations = relationsOf count relationStore; order = orderGiven order }
 
 -- On a refusal no byte is written and the length is 0 (SCOPE 4.54).
 unfoldable pub unwritten : ℕ → List ℕ → WriteCall

@@ -13,7 +13,8 @@ use lib.ListN.{length, getD, set, replicate}
 use lib.IntN.{ℤ, pos, negℤ, natAbs, predℤ, _-ℤ_}
 use lib.Signed.{leZ, ltZ}
 use Rattle.algebra.specs.Polynomials.{Polynomial, isZero, isZeroℤ}
-use Rattle.rules.specs.Limits.{coefficientCount, columnCount, mostSpan, blockCount, mostRelations, blockBound, small}
+use Rattle.rules.specs.Limits.{coefficientCount, columnCount, mostEquations, mostSpan, blockCount, mostRelations}
+use Rattle.rules.specs.Limits.{blockBound, small}
 use Rattle.rules.specs.Rows.{Block, Row, Relation}
 use Rattle.rules.specs.Stores.{Sizes, span, equations}
 use Rattle.lists.specs.Padded.{padTo}
@@ -54,7 +55,7 @@ unfoldable pub judgeLowest : ℤ → ℤ → ℕ
 judgeLowest l t =
     cond (leZ (negℤ (pos blockBound)) t && leZ t l && leZ (l -ℤ t) (pos mostSpan)) 0 2
 
--- The line `3 m l t` (SCOPE 4.12).
+-- The line `3 m l t`, and the line with the number of equations (SCOPE 4.12, 4.13).
 unfoldable pub readSizes : List ℕ → Read Sizes
 unfolding thenRead field between always judgeLowest
 readSizes bytes =
@@ -62,7 +63,8 @@ readSizes bytes =
     thenRead (field (between (pos 1) (pos columnCount)) (always space) bytes₁) λ m bytes₂.
     thenRead (field (between (negℤ (pos blockBound)) (pos blockBound)) (always space) bytes₂) λ l bytes₃.
     thenRead (field (judgeLowest l) (always newline) bytes₃) λ t bytes₄.
-    got (record { m = natAbs m; l = l; t = t }) bytes₄
+    thenRead (field (between (pos 0) (pos mostEquations)) (always newline) bytes₄) λ k bytes₅.
+    got (record { m = natAbs m; equations = natAbs k; l = l; t = t }) bytes₅
 
 -- A term's last coefficient is 5 past ±C, and 3 if it is 0 (SCOPE 4.24, 4.34, 4.35).
 unfoldable pub judgeLast : ℤ → ℕ
@@ -172,16 +174,11 @@ readColumns m (suc k) taken bytes =
     thenRead (field (judgeOrder m taken) (always (parting newline k)) bytes) λ c rest.
     thenRead (readColumns m k (natAbs c ∷ taken) rest) λ l more. got (natAbs c ∷ l) more
 
--- The order line begins with 0 or m (SCOPE 4.15, 4.34).
-unfoldable pub judgeOrderCount : ℕ → ℤ → ℕ
-unfolding isZeroℤ
-judgeOrderCount m v = cond (isZeroℤ v || isZeroℤ (v -ℤ pos m)) 0 2
-
--- The line of the column order: `0` if there is none, else m and the columns in some order (SCOPE 4.15).
+-- The line of the column order: the number of its columns, at most m, and those, all different (SCOPE 4.15, 4.34).
 unfoldable pub readOrder : ℕ → List ℕ → Read (List ℕ)
-unfolding thenRead field judgeOrderCount afterCount readColumns
+unfolding thenRead field between afterCount readColumns
 readOrder m bytes =
-    thenRead (field (judgeOrderCount m) afterCount bytes) λ k rest. readColumns m (natAbs k) [] rest
+    thenRead (field (between (pos 0) (pos m)) afterCount bytes) λ k rest. readColumns m (natAbs k) [] rest
 
 -- ---- the fifth section
 
@@ -214,13 +211,20 @@ unfoldable pub putRelationSide : Relation → Polynomial → Relation
 unfolding putSide
 putRelationSide e p = record { index = e .index; row = putSide (e .row) p }
 
--- The number of the equations and relations, any other being 2 (SCOPE 4.34), and a side for each (SCOPE 4.16).
+-- The number of the equations and relations, any other being 2 (SCOPE 4.34). Where there are none, a fifth section holds zeros
+-- only: its number 0 is 3 (SCOPE 4.35).
+unfoldable pub judgeSideCount : ℕ → ℤ → ℕ
+unfolding between
+judgeSideCount zero v = cond (isZeroℤ v) 3 2
+judgeSideCount (suc k) v = between (pos (suc k)) (pos (suc k)) v
+
+-- That number, and a side for each (SCOPE 4.16).
 unfoldable pub readFifth : Sheet → List ℕ → Read Sheet
-unfolding thenRead field between always readSides every isZero zipWith putSide putRelationSide
+unfolding thenRead field judgeSideCount always readSides every isZero zipWith putSide putRelationSide
 readFifth sheet bytes =
     let e = length (sheet .rows) in
     let r = length (sheet .relations) in
-    thenRead (field (between (pos (e + r)) (pos (e + r))) (always newline) bytes) λ _ bytes₁.
+    thenRead (field (judgeSideCount (e + r)) (always newline) bytes) λ _ bytes₁.
     thenRead (readSides e r true bytes₁) λ ps bytes₂.
     thenRead (readSides r 0 (every isZero ps) bytes₂) λ qs bytes₃.
     got
@@ -243,18 +247,16 @@ unfolding thenRead readFifth readEnd
 readRest sheet [] = got sheet []
 readRest sheet (b ∷ bytes) = thenRead (readFifth sheet (b ∷ bytes)) readEnd
 
--- The sections in their order, each behind its count (SCOPE 4.11 to 4.17); an equation count other than m is 2
--- (SCOPE 4.34).
+-- The sections in their order, each behind its count (SCOPE 4.11 to 4.17).
 unfoldable pub readSheet : List ℕ → Read Sheet
 unfolding thenRead readSizes field between always readEquations readRelations readOrder readRest
 readSheet bytes =
     thenRead (readSizes bytes) λ z bytes₁.
-    thenRead (field (between (pos (equations z)) (pos (equations z))) (always newline) bytes₁) λ _ bytes₂.
-    thenRead (readEquations z (equations z) bytes₂) λ rows bytes₃.
-    thenRead (field (between (pos 0) (pos mostRelations)) (always newline) bytes₃) λ count bytes₄.
-    thenRead (readRelations z (natAbs count) bytes₄) λ relations bytes₅.
-    thenRead (readOrder (z .m) bytes₅) λ order bytes₆.
-    readRest (record { sizes = z; rows = rows; relations = relations; order = order }) bytes₆
+    thenRead (readEquations z (equations z) bytes₁) λ rows bytes₂.
+    thenRead (field (between (pos 0) (pos mostRelations)) (always newline) bytes₂) λ count bytes₃.
+    thenRead (readRelations z (natAbs count) bytes₃) λ relations bytes₄.
+    thenRead (readOrder (z .m) bytes₄) λ order bytes₅.
+    readRest (record { sizes = z; rows = rows; relations = relations; order = order }) bytes₅
 
 -- ---- writing
 

@@ -1,12 +1,13 @@
 -- Systems in stores of 64-bit signed numbers, and the checks of a call on stores.
 --
 -- Main definitions
---   Sizes, span              m, l and t; D = l - t
---   equations                the number of equations
+--   Sizes, span              m, the number of equations, l and t; D = l - t
+--   equations, withEquations the number of equations; the same sizes with another
 --   rowOf, rowsOf            the row held by 336 numbers, the rows held by a row store
 --   relationOf, relationsOf  the relation held by 337 numbers, the relations held by a relation store
 --   rowNeed, largestRows, relationNeed   the numbers of a row store, of the largest one, and of a relation store
---   rowStoreOf, relationStoreOf   the numbers that hold rows; those that hold relations, unused places 0
+--   rowStoreOf, rowStoreFor, relationStoreOf   the numbers that hold rows; those in a store for more rows, and those that hold
+--                            relations, unused places 0
 --   sizesRight, lengthsRight, numbersRight   the checks for refusals 2, 1 and 5
 --   checkStores              their order
 --   Shaped, Valid            rows as a store holds them; the systems that the checks let through
@@ -27,16 +28,20 @@ use Rattle.rules.specs.Rows.{Row, Relation, zeroBlock, coefficientsOf, s
 use Rattle.lists.specs.Everywhere.{All}
 use Rattle.lists.specs.Tests.{every}
 
--- m unknowns, blocks from t to l (SCOPE 1.1, 1.2).
+-- m unknowns, so many equations, blocks from t to l (SCOPE 1.1, 1.2).
 pub record Sizes : Type 0 where
   pub m : ℕ
+  pub equations : ℕ
   pub l : ℤ
   pub t : ℤ
 
--- A system has as many equations as unknowns (SCOPE 1.1). What counts rows says this name, what counts columns says m, and
--- only what needs the two to be the same opens it.
+-- What counts rows says this name, what counts columns says m.
 unfoldable pub equations : Sizes → ℕ
-equations z = z .m
+equations z = z .equations
+
+-- The sizes of a system that differs in its rows.
+unfoldable pub withEquations : ℕ → Sizes → Sizes
+withEquations n z = record { m = z .m; equations = n; l = z .l; t = z .t }
 
 -- D = l - t (SCOPE 1.2).
 unfoldable pub span : Sizes → ℕ
@@ -85,6 +90,11 @@ unfoldable pub rowStoreOf : List Row → List ℤ
 unfolding flatten coefficientsOf
 rowStoreOf rows = flatten (map coefficientsOf rows)
 
+-- The rows in a store for n of them: the places behind those that are left hold 0 (SCOPE 3.14).
+unfoldable pub rowStoreFor : ℕ → List Row → List ℤ
+unfolding rowStoreOf
+rowStoreFor n rows = rowStoreOf rows ++ replicate ((n - length rows) * rowLength) (pos 0)
+
 -- The places behind the relations hold 0 (SCOPE 3.13).
 unfoldable pub relationStoreOf : List Relation → List ℤ
 unfolding flatten relationNumbers
@@ -93,10 +103,11 @@ relationStoreOf l =
 
 -- ---- the checks: sizes (2), then lengths (1), then numbers (5) (SCOPE 3.31)
 
--- m, l and t are within their ranges (SCOPE 1.1, 1.2, 3.32).
+-- m, the number of equations, l and t are within their ranges (SCOPE 1.1, 1.2, 3.32).
 unfoldable pub sizesRight : Sizes → Bool
 sizesRight z =
     (leb 1 (z .m) && leb (z .m) columnCount)
+    && leb (equations z) mostEquations
     && (leZ (negℤ (pos blockBound)) (z .t) && leZ (z .t) (z .l) && leZ (z .l) (pos blockBound) && leZ (z .l -ℤ z .t) (pos mostSpan))
 
 -- A relation count above 16 is refused with the sizes (SCOPE 1.23, 3.32).

@@ -3,16 +3,16 @@
 -- Main definitions
 --   resultOf r, callOf r rows relations   the result, and the whole call, as `rules` has them
 --   resultAfter side D x          the result of a call whose run has the outcome x
---   Final equations rows o                what the row store holds when the run has ended with the answer o
+--   Final rows o                  what the row store holds when the run has ended with the answer o
 --   Checked z count rows relations   what the stores hold when the checks have passed
 --
 -- Main statements
 --   counted-none, counted-next    the columns of an order, counted from 1, one after the other
---   few-equations, few-blocks     the equations and D of right sizes are at most 4
+--   few-equations, few-blocks     the equations and D of right sizes are few
 --   accepted-result               the result of a run that accepts
 --   ended-refused, ended-accepted the result after the run, from the answer and the stores
 --   checked                       what the checks let through
---   final-run                     a whole run ends, and one that accepts has settled every row
+--   final-run                     a whole run ends, and one that accepts has settled every row that is left
 --   call-run, call-refused        the whole call
 use Prim.Native.Nat.{ℕ, zero, suc, _+_, _*_, _-_, _≤_, _<_}
 use native.Mathlib.Nat.{le-of-suc-le-suc, le-of-lt}
@@ -28,12 +28,12 @@ use lib.Signed.{≤ℤ-refl}
 use lib.ListN.{length, take, getD, set, replicate, length-map}
 use lib.Seq.{take-suc, length-take-le}
 use Rattle.lists.specs.Tests.{T-&&, every, every-append}
-use Rattle.rules.specs.Limits.{relationLength, small, mostEquations}
+use Rattle.rules.specs.Limits.{columnCount, relationLength, small, mostEquations}
 use Rattle.rules.specs.Rows.{Row, Relation, coefficientsOf, smallRow}
-use Rattle.rules.specs.Elimination.{Side, State, Outcome, going, done, refused, wholeRun, report, neverNumber}
+use Rattle.rules.specs.Elimination.{Side, State, Outcome, going, done, refused, rank, wholeRun, report, neverNumber}
 use Rattle.rules.specs.Stores.{Sizes, equations, Valid, span, sizesRight, checkStores, rowsOf, relationsOf, rowNeed, relationNeed}
 use Rattle.rules.specs.Stores.{rowStoreOf, relationStoreOf, relationNumbers, unusedZero, rowRight, relationRight}
-use Rattle.rules.specs.Layout.{rowStoreOf-rowsOf, relationStoreOf-relationsOf, length-relationsOf, size-bounds, equations-few, block-place}
+use Rattle.rules.specs.Layout.{rowStoreOf-rowsOf, relationStoreOf-relationsOf, length-relationsOf, size-bounds, length-rowsOf, block-place}
 use Rattle.rules.specs.Layout.{StoresRight, checkStores-zero, stores-valid, NumbersRight, numbersRight-iff}
 use Rattle.rules.specs.Layout.{lengthsRight-iff, countRight-iff}
 use Rattle.rules.specs.Calls.{Result, Call, reportedOrder, refusal, acceptance, zeros}
@@ -54,7 +54,15 @@ use Rattle.runs.specs.declared.RunResult.{RunResult}
 
 unfoldable pub resultOf : RunResult → Result
 resultOf r =
-    record { refusal = r .refusal; relations = r .relations; shifts = r .shifts; order = r .order; hasRoot = r .«has_root»; root = r .root }
+    record {
+      refusal = r .refusal;
+      relations = r .relations;
+      shifts = r .shifts;
+      order = r .order;
+      hasRoot = r .«has_root»;
+      root = r .root;
+      rank = r .rank;
+    }
 
 unfoldable pub callOf : RunResult → List ℤ → List ℤ → Call
 unfolding resultOf
@@ -85,7 +93,7 @@ counted-next order j h g =
 -- ---- the sizes of a call
 
 pub few-equations : (z : Sizes) → T (sizesRight z) → equations z ≤ mostEquations
-few-equations z h = equations-few z (size-bounds z h)
+few-equations z h = size-bounds z h .few-equations
 
 pub few-blocks : (z : Sizes) → T (sizesRight z) → span z ≤ 4
 unfolding span
@@ -95,22 +103,22 @@ few-blocks z h =
 
 -- ---- the result of a run that accepts
 
-abbrev acceptedWith : ℕ → ℕ → List ℕ → RootAnswer → Result
-acceptedWith count shifts order a =
-    record { refusal = 0; relations = count; shifts = shifts; order = order; hasRoot = a .found; root = a .root }
+abbrev acceptedWith : ℕ → ℕ → List ℕ → RootAnswer → ℕ → Result
+acceptedWith count shifts order a rank =
+    record { refusal = 0; relations = count; shifts = shifts; order = order; hasRoot = a .found; root = a .root; rank = rank }
 
-pub accepted-result : (side : Side) (D equations : ℕ) (rows relations : List ℤ) (p : Progress) (order : List ℕ) (a : RootAnswer)
-    → p .settled ≡ equations
-    → order ≡ reportedOrder (take equations (p .order)) → a ≡ answered (report side D (settledState equations rows (p .order)))
-    → acceptedWith (p .count) (p .shifts) order a ≡ acceptance side D (stateOf equations rows relations p)
-unfolding acceptance stateOf
-accepted-result side D equations rows relations p order a e f g =
-    let s = stateOf equations rows relations p in
-    let columns = ap (λ n. take n (p .order)) e in
-    ap₂ (acceptedWith (p .count) (p .shifts)) (f ∙ ap reportedOrder (sym columns))
-    (g ∙ ap answered (sym (report-settled side D equations rows (p .order) s refl columns)))
-    ∙ ap (λ n. acceptedWith n (p .shifts) (reportedOrder (take (p .settled) (p .order))) (answered (report side D s)))
-    (sym (length-relationsOf (p .count) relations))
+pub accepted-result : (side : Side) (D : ℕ) (rows relations : List ℤ) (p : Progress) (order : List ℕ) (a : RootAnswer)
+    → p .rows ≡ p .settled → p .settled ≤ length (p .order)
+    → order ≡ reportedOrder (take (p .settled) (p .order)) → a ≡ answered (report side D (settledState (p .settled) rows (p .order)))
+    → acceptedWith (p .count) (p .shifts) order a (p .settled) ≡ acceptance side D (stateOf rows relations p)
+unfolding acceptance stateOf rank
+accepted-result side D rows relations p order a e h f g =
+    let s = stateOf rows relations p in
+    let columns = take (p .settled) (p .order) in
+    ap₂ (λ o b. acceptedWith (p .count) (p .shifts) o b (p .settled)) f
+    (g ∙ ap answered (sym (report-settled side D (p .settled) rows (p .order) s (ap (λ n. rowsOf n rows) e) refl)))
+    ∙ ap₂ (λ n w. acceptedWith n (p .shifts) (reportedOrder columns) (answered (report side D s)) w)
+    (sym (length-relationsOf (p .count) relations)) (sym (length-take-le (p .settled) (p .order) h))
 
 -- ---- the result after the run
 
@@ -122,10 +130,12 @@ resultAfter side D (refused n) = refusal n
 resultAfter side D (going s) = refusal neverNumber
 
 -- What the row store and the answer hold when the run has ended.
-pub record Final (equations : ℕ) (rows : List ℤ) (o : Answer.Outcome) : Type 0 where
-  pub rows-within : Within (rowNeed equations) rows
+pub record Final (rows : List ℤ) (o : Answer.Outcome) : Type 0 where
+  pub rows-within : Within (rowNeed (o .progress .rows)) rows
+  pub few-settled : o .progress .settled ≤ columnCount
+  pub four : length (o .progress .order) ≡ columnCount
   pub columns : Columns (o .progress .order)
-  pub all-settled : o .refusal ≡ 0 → (o .done ≡ true) × (o .progress .settled ≡ equations)
+  pub all-settled : o .refusal ≡ 0 → (o .done ≡ true) × (o .progress .rows ≡ o .progress .settled)
 
 module _ (side : Side) (D : ℕ) (r : RunResult) (s : State) where
   pub ended-refused : (n : ℕ) (d : Bool) → n ≢ 0 → resultOf r ≡ refusal n → resultOf r ≡ resultAfter side D (outcomeOf n d s)
@@ -207,7 +217,7 @@ checked z count rows relations e =
         subst (λ l. T (every small l)) (relationStoreOf-relationsOf count relations few (long .1) (right .unused-zero))
         (relations-small z (relationsOf count relations) (right .relations-right))
 
--- A run that is enough ends, and one that accepts has settled every row.
+-- A run that is enough ends, and one that accepts has settled every row that is left.
 module _ (side : Side) (z : Sizes) (count : ℕ) (rows relations rows' relations' : List ℤ) (o : Answer.Outcome)
     (c : Checked z count rows relations)
     (r : Ran (equations z) rows relations rows' relations' o
@@ -216,33 +226,35 @@ module _ (side : Side) (z : Sizes) (count : ℕ) (rows relations rows' relations
   whole = wholeRun side (span z) (rowsOf (equations z) rows) (relationsOf count relations)
 
   abbrev s : State
-  s = stateOf (equations z) rows' relations' (o .progress)
+  s = stateOf rows' relations' (o .progress)
 
   ends : (s : State) → whole ≢ going s
   ends s = wholeRun-ends side (span z) (rowsOf (equations z) rows) (relationsOf count relations) s (c .valid .row-shapes)
 
-  pub final-run : Final (equations z) rows' o
-  unfolding outcomeOf stateOf
+  pub final-run : Final rows' o
+  unfolding outcomeOf stateOf rank
   final-run =
       record {
         rows-within = ready .rows-within;
+        few-settled = ready .few-settled;
+        four = ready .four;
         columns = ready .columns;
         all-settled = λ e. cases e (o .done) refl;
       }
     where
-      ready : Ready (equations z) rows' relations' (o .progress)
+      ready : Ready rows' relations' (o .progress)
       ready = r .reached .ready
 
       came : (d : Bool) → o .refusal ≡ 0 → o .done ≡ d → whole ≡ outcomeOf 0 d s
       came d e f = sym (r .reached .outcome) ∙ ap₂ (λ n x. outcomeOf n x s) e f
 
-      settled : o .refusal ≡ 0 → o .done ≡ true → o .progress .settled ≡ equations z
+      settled : o .refusal ≡ 0 → o .done ≡ true → o .progress .rows ≡ o .progress .settled
       settled e f =
-          let order = diagonal-nonzero (record { valid = c .valid; accepts = came true e f }) .order-count in
-          let inside : o .progress .settled ≤ length (o .progress .order) = omega (arith, ready .settled, ready .few-rows, ready .four) in
-          sym (length-take-le (o .progress .settled) (o .progress .order) inside) ∙ order
+          let count = diagonal-nonzero (record { valid = c .valid; accepts = came true e f }) .row-count in
+          let inside : o .progress .settled ≤ length (o .progress .order) = omega (arith, ready .few-settled, ready .four) in
+          sym (length-rowsOf (o .progress .rows) rows') ∙ count ∙ length-take-le (o .progress .settled) (o .progress .order) inside
 
-      cases : o .refusal ≡ 0 → (d : Bool) → o .done ≡ d → (o .done ≡ true) × (o .progress .settled ≡ equations z)
+      cases : o .refusal ≡ 0 → (d : Bool) → o .done ≡ d → (o .done ≡ true) × (o .progress .rows ≡ o .progress .settled)
       cases e true f = (f, settled e f)
       cases e false f = absurd (ends s (came false e f))
 
@@ -267,7 +279,7 @@ call-after side z (refused k) r rows relations rows' relations' n e f g = call-o
 pub call-run : (side : Side) (z : Sizes) (count : ℕ) (rows relations rows' relations' : List ℤ) (o : Answer.Outcome) (r : RunResult)
     → checkStores z count rows relations ≡ 0
     → Ran (equations z) rows relations rows' relations' o (wholeRun side (span z) (rowsOf (equations z) rows) (relationsOf count relations))
-    → resultOf r ≡ resultAfter side (span z) (outcomeAt (equations z) rows' relations' o)
+    → resultOf r ≡ resultAfter side (span z) (outcomeAt rows' relations' o)
     → callOf r rows' relations' ≡ callRun side z count rows relations
 unfolding callRun afterCheck
 call-run side z count rows relations rows' relations' o r e ran f =

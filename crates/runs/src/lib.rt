@@ -6,10 +6,10 @@ ghost use mathlib.Core.List.{List};
 ghost use Prim.Native.Nat.{_≤_};
 ghost use lib.Dec.{T};
 ghost use lib.IntN.{ℤ};
-ghost use lib.ListN.{take};
-ghost use Rattle.rules.specs.Limits.{mostEquations};
+ghost use lib.ListN.{length, take};
+ghost use Rattle.rules.specs.Limits.{columnCount, mostEquations};
 ghost use Rattle.rules.specs.Elimination as Elimination;
-ghost use Rattle.rules.specs.Stores.{equations, rowsOf, relationsOf, rowNeed, sizesRight, span, checkStores};
+ghost use Rattle.rules.specs.Stores.{rowsOf, relationsOf, rowNeed, sizesRight, span, checkStores};
 ghost use Rattle.rules.specs.Calls as Calls;
 ghost use Rattle.working_rows.specs.Found.{Columns};
 ghost use Rattle.stores.specs.Validity.{sizesOf};
@@ -19,8 +19,8 @@ ghost use Rattle.reduction.specs.Ran.{Ran};
 ghost use Rattle.runs.specs.CallLaws.{resultOf, callOf, resultAfter, Final};
 
 // The number of the refusal or 0, and for a run that accepts: how many relations the store holds, how many shifts were
-// made, the columns of the settled rows, counted from 1, with zeros past the last, and whether there is a root, and
-// which; 0 where there is none (SCOPE 2.82, 3.22, 3.23).
+// made, the columns of the settled rows, counted from 1, with zeros past the last, whether there is a root, and
+// which, 0 where there is none, and the rank (SCOPE 2.82, 3.22, 3.23).
 pub struct RunResult {
     pub refusal: u8,
     pub relations: usize,
@@ -28,6 +28,7 @@ pub struct RunResult {
     pub order: [usize; 4],
     pub has_root: bool,
     pub root: i64,
+    pub rank: usize,
 }
 
 // A refusal has its number, and 0 in all other fields (SCOPE 6.31).
@@ -41,48 +42,46 @@ fn refused(refusal: u8) -> RunResult
         order: [0; 4],
         has_root: false,
         root: 0,
+        rank: 0,
     }
 }
 
 // Columns counted from 1, zeros past the last (SCOPE 3.23).
-fn counted(order: [usize; 4], equations: usize) -> [usize; 4]
-    requires { ⌜ (equations ≤ mostEquations) × Columns order ⌝ }
-    ensures { λ r. ⌜ r ≡ Calls.reportedOrder (take equations order) ⌝ }
+fn counted(order: [usize; 4], settled: usize) -> [usize; 4]
+    requires { ⌜ (settled ≤ columnCount) × Columns order ⌝ }
+    ensures { λ r. ⌜ r ≡ Calls.reportedOrder (take settled order) ⌝ }
 {
     let mut result = [0usize; 4];
     let mut j = 0;
-    while j < equations {
+    while j < settled {
         result[j] = order[j] + 1;
         j += 1;
     }
     result
 }
 
-// The result of a run that accepts (SCOPE 2.81, 3.22).
-fn accepted(
-    rows: &[i64],
-    equations: usize,
-    span: usize,
-    side: Side,
-    p: reduction::step::Progress,
-) -> RunResult
-    requires { ⌜ (equations ≤ mostEquations) × (span ≤ 4) × Within (rowNeed equations) (now rows) × (p .settled ≡ equations) × Columns (p .order) ⌝ }
+// The result of a run that accepts: the rows that are left are settled (SCOPE 2.81, 3.22).
+fn accepted(rows: &[i64], span: usize, side: Side, p: reduction::step::Progress) -> RunResult
+    requires { ⌜ (span ≤ 4) × (p .settled ≤ columnCount) × Within (rowNeed (p .settled)) (now rows) × (p .rows ≡ p .settled) ⌝ }
+    requires { ⌜ (length (p .order) ≡ columnCount) × Columns (p .order) ⌝ }
     ensures { λ r. ⌜ ((relations : List ℤ)
-        → resultOf r ≡ Calls.acceptance (sideOf side) span (stateOf equations (now (rows .entry)) relations p)) ⌝ }
+        → resultOf r ≡ Calls.acceptance (sideOf side) span (stateOf (now (rows .entry)) relations p)) ⌝ }
 {
+    let settled = p.settled;
     let order = p.order;
-    let answer = sides::report::report(rows, equations, order, side, span);
+    let answer = sides::report::report(rows, settled, order, side, span);
     RunResult {
         refusal: 0,
         relations: p.count,
         shifts: p.shifts,
-        order: counted(order, equations),
+        order: counted(order, settled),
         has_root: answer.found,
         root: answer.root,
+        rank: settled,
     }
 }
 
-// The trailing side: the system is mirrored, goes through the rules, and is mirrored again (SCOPE 2.91, 2.94).
+// The trailing side: the system is mirrored, goes through the rules, and the rows that are left are mirrored again (SCOPE 2.91, 2.94).
 fn trailing_run(
     rows: &mut [i64],
     relations: &mut [i64],
@@ -102,7 +101,7 @@ fn trailing_run(
         return o;
     }
     let p = o.progress;
-    sides::mirror::mirror_rows(rows, equations, span);
+    sides::mirror::mirror_rows(rows, p.rows, span);
     sides::mirror::mirror_relations(relations, p.count, span);
     o
 }
@@ -133,17 +132,16 @@ fn ended(
     side: Side,
     o: reduction::step::Outcome,
 ) -> RunResult
-    requires { ⌜ T (sizesRight (sizesOf sizes)) × Final (equations (sizesOf sizes)) (now rows) o ⌝ }
+    requires { ⌜ T (sizesRight (sizesOf sizes)) × Final (now rows) o ⌝ }
     ensures { λ r. ⌜ ((relations : List ℤ)
-        → resultOf r ≡ resultAfter (sideOf side) (span (sizesOf sizes)) (outcomeAt (equations (sizesOf sizes)) (now (rows .entry)) relations o)) ⌝ }
+        → resultOf r ≡ resultAfter (sideOf side) (span (sizesOf sizes)) (outcomeAt (now (rows .entry)) relations o)) ⌝ }
 {
     let refusal = o.refusal;
     if refusal != 0 {
         return refused(refusal);
     }
-    let equations = sizes.m;
     let p = o.progress;
-    accepted(rows, equations, stores::validity::span(sizes), side, p)
+    accepted(rows, stores::validity::span(sizes), side, p)
 }
 
 // A run on stores that pass the checks, and what it leaves.
@@ -158,7 +156,7 @@ fn checked_run(
     ensures { λ r. ⌜ callOf r (now (rows .exit)) (now (relations .exit))
         ≡ Calls.callRun (sideOf side) (sizesOf sizes) count (now (rows .entry)) (now (relations .entry)) ⌝ }
 {
-    let equations = sizes.m;
+    let equations = sizes.equations;
     let span = stores::validity::span(sizes);
     let o = whole_run(rows, relations, equations, span, side, count);
     ended(rows, sizes, side, o)

@@ -1,41 +1,42 @@
 -- Sheets read back: what is written is read, and what is read would be written so (SCOPE 4.56).
 --
 -- Main definitions
---   SheetRight sheet                     a valid system, with no column order or a permutation of its columns
+--   SheetRight sheet                     a valid system, with a column order of different columns or none
 --
 -- Main statements
 --   read-written                         what is written of a valid system and a right order is read back
 --   written-read                         what is read, written again, is the same bytes
 --   read-valid, read-order               what is read is a valid system with a right order
 --   read-exactly                         the byte strings that are read are exactly those written of right sheets
-use Prim.Native.Nat.{ℕ, _+_, _<_}
+use Prim.Native.Nat.{ℕ, zero, suc, _+_, _≤_, _<_}
 use mathlib.Core.Path.{_≡_, refl, sym, _∙_, ap, ap₂, subst}
 use mathlib.Core.Logic.{_↔_}
-use mathlib.Core.Bool.{Bool, true, false, not, _&&_}
+use mathlib.Core.Bool.{Bool, true, false, not, cond}
 use mathlib.Core.Logic.{_≢_}
 use native.Mathlib.Omega.{arith}
 use mathlib.Core.List.{nil≢cons}
-use native.Mathlib.Nat.{suc-ne-zero, suc-inj}
-use mathlib.Core.List.{List, [], _∷_, _++_, map, flatten, append-nil, append-assoc, zipWith, map-map, map-append}
+use native.Mathlib.Nat.{suc-ne-zero, suc-inj, not-suc-le-zero, zero-lt-suc}
+use mathlib.Core.List.{List, [], _∷_, _++_, map, flatten, append-nil, append-assoc, zipWith, map-append}
 use lib.Dec.{T, not-T, T-not}
 use lib.ListN.{length, replicate, length-map, length-append}
 use lib.IntN.{ℤ, pos, natAbs}
-use lib.Signed.{leZ-yes, _≤ℤ_, ≤ℤ-refl}
-use Rattle.algebra.specs.Order.{≤ℤ-trans, pos-natAbs-nonneg, pos-nonneg, pos-≤ℤ}
+use lib.Signed.{leZ-yes, ≤ℤ-refl}
+use Rattle.algebra.specs.Order.{pos-natAbs-nonneg, pos-nonneg, pos-≤ℤ}
 use Rattle.rules.specs.Limits.{mostRelations, coefficientCount, small}
 use Rattle.rules.specs.Rows.{Row, Relation}
 use Rattle.lists.specs.Everywhere.{All, all-mono, all-both}
 use Rattle.rules.specs.Stores.{Sizes, sizesRight, rowRight, relationRight, StoreRow, Valid, equations, Shaped}
-use Rattle.rules.specs.Layout.{SizeBounds, size-bounds, countRight-iff, equations-few}
+use Rattle.rules.specs.Layout.{size-bounds, countRight-iff}
 use Rattle.rules.specs.Numbers.{newline, decimal, line, lines, Read, got, fault, thenRead, field, between}
-use Rattle.rules.specs.Sheets.{Sheet, always, readSizes, readEquations, readRelations, readOrder, readEnd, readSheet, equationNumbers, readRest, readFifth, putSide, putRelationSide, sideLine, sheetLines, sideLines, sidesOf}
-use Rattle.rules.specs.Sheets.{relationLine, orderLine, writeSheet}
-use Rattle.tokens.specs.Exact.{Exact, got-inj, fault-got, got-in-two, nothing-exact, then-exact, same-exact}
+use Rattle.rules.specs.Sheets.{Sheet, always, readSizes, readEquations, readRelations, readOrder, readEnd, readRest, judgeSideCount}
+use Rattle.rules.specs.Sheets.{readFifth, readSheet, putSide, putRelationSide, sideLine, sideLines, sidesOf, sheetLines}
+use Rattle.rules.specs.Sheets.{equationNumbers, relationLine, orderLine, writeSheet}
+use Rattle.tokens.specs.Exact.{Exact, got-inj, fault-got, got-in-two, field-exact, nothing-exact, then-exact, same-exact}
 use Rattle.sheets.specs.WrittenTerms.{between-iff, between-exact, most, always-newline}
 use Rattle.lists.specs.Tests.{every-all, every, cond-passed, T-&&, cond-not, every-append}
-use Rattle.sheets.specs.WrittenSections.{just, sizes-exact, EquationRight, equations-exact, RelationGood, relations-exact}
+use Rattle.sheets.specs.WrittenSections.{just, sizesLines, sizes-exact, EquationRight, equations-exact, RelationGood, relations-exact}
 use Rattle.sheets.specs.WrittenOrder.{OrderRight, order-exact}
-use Rattle.sheets.specs.RowBlocks.{StorePolynomial, RowRight, rowRight-blocks, blocks-rowRight, rowRight-side}
+use Rattle.sheets.specs.RowBlocks.{StorePolynomial, rowRight-blocks, blocks-rowRight, rowRight-side}
 use Rattle.sheets.specs.RowTerms.{ZeroSide}
 use Rattle.lists.specs.Joined.{flatten-append}
 use Rattle.lists.specs.Images.{length-zipWith}
@@ -43,9 +44,9 @@ use Rattle.lists.specs.Everywhere.{all-zipWith, all-map, all-replicate}
 use Rattle.rules.specs.Stores.{countRight}
 use lib.ListN.{length-replicate}
 use Rattle.sheets.specs.WrittenSides.{Sides, sides-exact, sides-iff}
-use Rattle.algebra.specs.Polynomials.{Polynomial, isZero, isZero-replicate, zero-list}
+use Rattle.algebra.specs.Polynomials.{Polynomial, isZero, isZeroℤ, isZero-replicate, zero-list}
 
--- What a sheet can hold: a valid system, and no column order or a permutation of the columns.
+-- What a sheet can hold: a valid system, and a column order of different columns, or none.
 pub record SheetRight (sheet : Sheet) : Type 0 where
   pub valid : Valid (sheet .sizes) (sheet .rows) (sheet .relations)
   pub order-right : OrderRight (sheet .sizes .m) (sheet .order)
@@ -71,12 +72,11 @@ writeFour x = lines (fourLines x)
 readSections : List ℕ → Read Sheet
 readSections bytes =
     thenRead (readSizes bytes) λ z bytes₁.
-    thenRead (field (between (pos (equations z)) (pos (equations z))) (always newline) bytes₁) λ _ bytes₂.
-    thenRead (readEquations z (equations z) bytes₂) λ rows bytes₃.
-    thenRead (field (between (pos 0) (pos mostRelations)) (always newline) bytes₃) λ count bytes₄.
-    thenRead (readRelations z (natAbs count) bytes₄) λ relations bytes₅.
-    thenRead (readOrder (z .m) bytes₅) λ order bytes₆.
-    got (record { sizes = z; rows = rows; relations = relations; order = order }) bytes₆
+    thenRead (readEquations z (equations z) bytes₁) λ rows bytes₂.
+    thenRead (field (between (pos 0) (pos mostRelations)) (always newline) bytes₂) λ count bytes₃.
+    thenRead (readRelations z (natAbs count) bytes₃) λ relations bytes₄.
+    thenRead (readOrder (z .m) bytes₄) λ order bytes₅.
+    got (record { sizes = z; rows = rows; relations = relations; order = order }) bytes₅
 
 lines-append : (l more : List (List ℤ)) → lines (l ++ more) ≡ lines l ++ lines more
 unfolding lines flatten
@@ -139,20 +139,12 @@ unfolding All
 all-three P Q S [] a b c = tt
 all-three P Q S (x ∷ l) a b c = ((a .0, b .0, c .0), all-three P Q S l (a .1) (b .1) (c .1))
 
-few : (z : Sizes) → SizeBounds z → pos (equations z) ≤ℤ pos most
-few z b = ≤ℤ-trans (pos-≤ℤ .1 (equations-few z b)) (leZ-yes tt)
-
 sections-exact : Exact readSections PlainRight writeFour
 unfolding readSections
 sections-exact =
     same-exact readSections PlainRight writeFour
     (then-exact (λ x. x .sizes) sizes-exact
-    (λ z x _ e. ap (λ y. y .sizes) (sym (e .1 .1 .1 .1 .1))) λ z hz.
-    then-exact (λ x. pos (equations (x .sizes)))
-    (between-exact (pos (equations z)) (pos (equations z)) (always newline) (≤ℤ-trans (leZ-yes tt) (pos-nonneg (equations z)))
-    (few z (size-bounds z hz))
-    always-newline)
-    (λ k x hk e. just (equations z) k hk ∙ ap (λ y. pos (equations (y .sizes))) (sym (e .1 .1 .1 .1))) λ k hk.
+    (λ z x _ e. ap (λ y. y .sizes) (sym (e .1 .1 .1 .1))) λ z hz.
     then-exact (λ x. x .rows) (equations-exact z (size-bounds z hz) (equations z))
     (λ rows x _ e. ap (λ y. y .rows) (sym (e .1 .1 .1))) λ rows hr.
     then-exact (λ x. pos (length (x .relations)))
@@ -168,11 +160,10 @@ sections-exact =
     Whole : Sheet → Type 0
     Whole x =
         T (sizesRight (x .sizes))
-        × ((between (pos (equations (x .sizes))) (pos (equations (x .sizes))) (pos (equations (x .sizes))) ≡ 0)
         × (((length (x .rows) ≡ equations (x .sizes)) × All (EquationRight (x .sizes)) (x .rows))
         × ((between (pos 0) (pos mostRelations) (pos (length (x .relations))) ≡ 0)
         × (((length (x .relations) ≡ length (x .relations)) × All (RelationGood (x .sizes)) (x .relations))
-        × (OrderRight (x .sizes .m) (x .order) × (x ≡ x))))))
+        × (OrderRight (x .sizes .m) (x .order) × (x ≡ x)))))
 
     good : (x : Sheet) → PlainRight x → Whole x
     good x h =
@@ -180,25 +171,21 @@ sections-exact =
         let z = x .sizes in (
           v .sizes,
           (
-            between-iff (pos (equations z)) (pos (equations z)) (pos (equations z)) .1
-                (≤ℤ-refl (pos (equations z)), ≤ℤ-refl (pos (equations z))),
             (
+              v .row-count,
+              all-three StoreRow (λ r. T (rowRight z r)) ZeroSide (x .rows) (v .row-shapes)
+                  (every-all (rowRight z) (x .rows) .0 (v .rows-right)) (h .1),
+            ),
+            (
+              between-iff (pos 0) (pos mostRelations) (pos (length (x .relations))) .1
+                  (pos-nonneg (length (x .relations)), pos-≤ℤ .1 (countRight-iff (length (x .relations)) .0 (v .relation-count))),
               (
-                v .row-count,
-                all-three StoreRow (λ r. T (rowRight z r)) ZeroSide (x .rows) (v .row-shapes)
-                    (every-all (rowRight z) (x .rows) .0 (v .rows-right)) (h .1),
-              ),
-              (
-                between-iff (pos 0) (pos mostRelations) (pos (length (x .relations))) .1
-                    (pos-nonneg (length (x .relations)), pos-≤ℤ .1 (countRight-iff (length (x .relations)) .0 (v .relation-count))),
                 (
-                  (
-                    refl,
-                    all-three (λ e. StoreRow (e .row)) (λ e. T (relationRight z e)) (λ e. ZeroSide (e .row)) (x .relations)
-                        (v .relation-shapes) (every-all (relationRight z) (x .relations) .0 (v .relations-right)) (h .2),
-                  ),
-                  (h .0 .order-right, refl),
+                  refl,
+                  all-three (λ e. StoreRow (e .row)) (λ e. T (relationRight z e)) (λ e. ZeroSide (e .row)) (x .relations)
+                      (v .relation-shapes) (every-all (relationRight z) (x .relations) .0 (v .relations-right)) (h .2),
                 ),
+                (h .0 .order-right, refl),
               ),
             ),
           ),
@@ -207,40 +194,40 @@ sections-exact =
     best : (x : Sheet) → Whole x → PlainRight x
     best x h =
         let z = x .sizes in
-        let rows = h .1 .1 .0 .1 in
-        let relations = h .1 .1 .1 .1 .0 .1 in (
+        let rows = h .1 .0 .1 in
+        let relations = h .1 .1 .1 .0 .1 in (
           record {
             valid = record {
               sizes = h .0;
-              row-count = h .1 .1 .0 .0;
+              row-count = h .1 .0 .0;
               row-shapes = all-mono (EquationRight z) StoreRow (λ r i. i .0) (x .rows) rows;
               rows-right = every-all (rowRight z) (x .rows) .1
                   (all-mono (EquationRight z) (λ r. T (rowRight z r)) (λ r i. i .1) (x .rows) rows);
               relation-count = countRight-iff (length (x .relations)) .1
-                  (pos-≤ℤ .0 (between-iff (pos 0) (pos mostRelations) _ .0 (h .1 .1 .1 .0) .1));
+                  (pos-≤ℤ .0 (between-iff (pos 0) (pos mostRelations) _ .0 (h .1 .1 .0) .1));
               relation-shapes = all-mono (RelationGood z) (λ e. StoreRow (e .row)) (λ e i. i .0) (x .relations) relations;
               relations-right = every-all (relationRight z) (x .relations) .1
                   (all-mono (RelationGood z) (λ e. T (relationRight z e)) (λ e i. i .1) (x .relations) relations);
             };
-            order-right = h .1 .1 .1 .1 .1 .0;
+            order-right = h .1 .1 .1 .1 .0;
           },
           all-mono (EquationRight z) ZeroSide (λ r i. i .2) (x .rows) rows,
           all-mono (RelationGood z) (λ e. ZeroSide (e .row)) (λ e i. i .2) (x .relations) relations,
         )
 
     bytes : (x : Sheet) → Whole x → writeFour x
-        ≡ line (pos 3 ∷ pos (x .sizes .m) ∷ x .sizes .l ∷ x .sizes .t ∷ [])
-        ++ (ended (pos (equations (x .sizes)))
+        ≡ sizesLines (x .sizes)
         ++ (flatten (map (λ r. line (equationNumbers (x .sizes .l) r)) (x .rows))
         ++ (ended (pos (length (x .relations)))
-        ++ (flatten (map (λ e. line (relationLine (x .sizes .l) e)) (x .relations)) ++ (line (orderLine (x .order)) ++ [])))))
+        ++ (flatten (map (λ e. line (relationLine (x .sizes .l) e)) (x .relations)) ++ (line (orderLine (x .order)) ++ []))))
     bytes x h =
         writeFour-sections x
-        ∙ ap₂ (λ b d. line (pos 3 ∷ pos (x .sizes .m) ∷ x .sizes .l ∷ x .sizes .t ∷ [])
-        ++ (b
+        ∙ ap₂ (λ n d. line (pos 3 ∷ pos (x .sizes .m) ∷ x .sizes .l ∷ x .sizes .t ∷ [])
+        ++ (line (pos n ∷ [])
         ++ (flatten (map (λ r. line (equationNumbers (x .sizes .l) r)) (x .rows))
         ++ (d ++ (flatten (map (λ e. line (relationLine (x .sizes .l) e)) (x .relations)) ++ (line (orderLine (x .order)) ++ []))))))
-        (ap (λ n. line (pos n ∷ [])) (h .1 .1 .0 .0) ∙ line-ended (pos (equations (x .sizes)))) (line-ended (pos (length (x .relations))))
+        (h .1 .0 .0) (line-ended (pos (length (x .relations))))
+        ∙ sym (append-assoc (line (pos 3 ∷ pos (x .sizes .m) ∷ x .sizes .l ∷ x .sizes .t ∷ [])) (line (pos (equations (x .sizes)) ∷ [])) _)
 
 -- ---- the whole sheet
 
@@ -255,11 +242,10 @@ readSheet-sections : (bytes : List ℕ) → readSheet bytes ≡ thenRead (readSe
 unfolding readSheet readSections
 readSheet-sections bytes =
     then-assoc (readSizes bytes) _ readRest _ λ z bytes₁.
-    then-assoc (field (between (pos (equations z)) (pos (equations z))) (always newline) bytes₁) _ readRest _ λ _ bytes₂.
-    then-assoc (readEquations z (equations z) bytes₂) _ readRest _ λ rows bytes₃.
-    then-assoc (field (between (pos 0) (pos mostRelations)) (always newline) bytes₃) _ readRest _ λ count bytes₄.
-    then-assoc (readRelations z (natAbs count) bytes₄) _ readRest _ λ relations bytes₅.
-    then-assoc (readOrder (z .m) bytes₅) _ readRest _ λ order bytes₆. refl
+    then-assoc (readEquations z (equations z) bytes₁) _ readRest _ λ rows bytes₂.
+    then-assoc (field (between (pos 0) (pos mostRelations)) (always newline) bytes₂) _ readRest _ λ count bytes₃.
+    then-assoc (readRelations z (natAbs count) bytes₃) _ readRest _ λ relations bytes₄.
+    then-assoc (readOrder (z .m) bytes₄) _ readRest _ λ order bytes₅. refl
 
 readEnd-got : (x y : Sheet) (more rest : List ℕ) → readEnd x more ≡ got y rest → (x ≡ y) × (more ≡ []) × (rest ≡ [])
 unfolding readEnd
@@ -305,21 +291,35 @@ put-relation-sides (x ∷ es) (p ∷ ps) e = ap (λ l. p ∷ l) (put-relation-si
 abbrev sideCount : Sheet → ℕ
 sideCount y = length (y .rows) + length (y .relations)
 
+-- The section has a side (SCOPE 4.35).
+judgeSideCount-iff : (n : ℕ) (v : ℤ) → (judgeSideCount n v ≡ 0) ↔ ((0 < n) × (v ≡ pos n))
+unfolding judgeSideCount
+judgeSideCount-iff zero v = (λ e. absurd (none (isZeroℤ v) e), λ h. absurd (not-suc-le-zero (h .0)))
+  where
+    none : (t : Bool) → _≡_ {A = ℕ} (cond t 3 2) 0 → ⊥
+    none true e = suc-ne-zero 2 e
+    none false e = suc-ne-zero 1 e
+judgeSideCount-iff (suc n) v = (
+  λ e. (zero-lt-suc n, just (suc n) v e),
+  λ h. between-iff (pos (suc n)) (pos (suc n)) v .1 (rw (h .1) (≤ℤ-refl (pos (suc n)), ≤ℤ-refl (pos (suc n)))),
+)
+
 -- What the fifth section makes of a sheet.
 abbrev Fifth : Sheet → Sheet → Type 0
 Fifth y x =
-    (between (pos (sideCount y)) (pos (sideCount y)) (pos (sideCount y)) ≡ 0)
+    (judgeSideCount (sideCount y) (pos (sideCount y)) ≡ 0)
     × (((length (rowSides x) ≡ length (y .rows)) × Sides (length (y .relations)) true (rowSides x))
     × (((length (relationSides x) ≡ length (y .relations)) × Sides 0 (every isZero (rowSides x)) (relationSides x))
     × (x ≡ sided y (rowSides x) (relationSides x))))
 
-fifth-exact : (y : Sheet) → pos (sideCount y) ≤ℤ pos most → Exact (readFifth y) (Fifth y)
+fifth-exact : (y : Sheet) → sideCount y ≤ most → Exact (readFifth y) (Fifth y)
     (λ x. ended (pos (sideCount y)) ++ (sideBytes (rowSides x) ++ (sideBytes (relationSides x) ++ [])))
 unfolding readFifth
 fifth-exact y few =
     then-exact (λ x. pos (sideCount y))
-    (between-exact (pos (sideCount y)) (pos (sideCount y)) (always newline) (≤ℤ-trans (leZ-yes tt) (pos-nonneg (sideCount y))) few always-newline)
-    (λ k x hk _. just (sideCount y) k hk) λ k hk.
+    (field-exact (judgeSideCount (sideCount y)) (always newline)
+    (λ v h. omega (arith, few, ap natAbs (judgeSideCount-iff (sideCount y) v .0 h .1))) always-newline)
+    (λ k x hk _. judgeSideCount-iff (sideCount y) k .0 hk .1) λ k hk.
     then-exact rowSides (sides-exact (length (y .relations)) (length (y .rows)) true)
     (λ ps x hp e. sym (ap rowSides (e .1) ∙ put-sides (y .rows) ps (hp .0))) λ ps hp.
     then-exact relationSides (sides-exact 0 (length (y .relations)) (every isZero ps))
@@ -332,21 +332,22 @@ writeSheet-parts : (x : Sheet) → writeSheet x ≡ writeFour x ++ lines (sideLi
 unfolding writeSheet sheetLines
 writeSheet-parts x = lines-append (fourLines x) (sideLines (sidesOf x))
 
+sides-count : (x : Sheet) → length (sidesOf x) ≡ sideCount x
+unfolding sidesOf
+sides-count x =
+    length-append (rowSides x) (relationSides x)
+    ∙ ap₂ _+_ (length-map (x .rows) (λ r. r .right)) (length-map (x .relations) (λ e. e .row .right))
+
 -- The section is there exactly if some side is not zero.
 section-bytes : (x : Sheet) → T (not (every isZero (sidesOf x)))
     → lines (sideLines (sidesOf x)) ≡ ended (pos (sideCount x)) ++ (sideBytes (rowSides x) ++ (sideBytes (relationSides x) ++ []))
 unfolding sideLines sidesOf lines flatten
 section-bytes x h =
     ap lines (cond-not (every isZero (sidesOf x)) [] _ h)
-    ∙ ap₂ _++_ (ap (λ n. line (pos n ∷ [])) count ∙ line-ended (pos (sideCount x)))
+    ∙ ap₂ _++_ (ap (λ n. line (pos n ∷ [])) (sides-count x) ∙ line-ended (pos (sideCount x)))
     (lines-map sideLine (sidesOf x) ∙ ap flatten (map-append (λ p. line (sideLine p)) (rowSides x) (relationSides x))
     ∙ flatten-append (map (λ p. line (sideLine p)) (rowSides x)) (map (λ p. line (sideLine p)) (relationSides x))
     ∙ ap (λ l. sideBytes (rowSides x) ++ l) (sym (append-nil (sideBytes (relationSides x)))))
-  where
-    count : length (sidesOf x) ≡ sideCount x
-    count =
-        length-append (rowSides x) (relationSides x)
-        ∙ ap₂ _+_ (length-map (x .rows) (λ r. r .right)) (length-map (x .relations) (λ e. e .row .right))
 
 no-section : (x : Sheet) → T (every isZero (sidesOf x)) → lines (sideLines (sidesOf x)) ≡ []
 unfolding sideLines lines flatten
@@ -502,19 +503,14 @@ plain-back x = λ i. record {
   order = x .order;
 }
 
--- There is an equation.
-some-equations : (z : Sizes) → T (sizesRight z) → 0 < equations z
-unfolding equations
-some-equations z h = size-bounds z h .some
-
 -- The number of sides is small enough to be read.
-few-sides : (x : Sheet) → SheetRight x → pos (sideCount x) ≤ℤ pos most
-few-sides x h = pos-≤ℤ .1 (omega (
+few-sides : (x : Sheet) → SheetRight x → sideCount x ≤ most
+few-sides x h = omega (
   arith,
   h .valid .row-count,
-  equations-few (x .sizes) (size-bounds (x .sizes) (h .valid .sizes)),
+  size-bounds (x .sizes) (h .valid .sizes) .few-equations,
   countRight-iff (length (x .relations)) .0 (h .valid .relation-count),
-))
+)
 
 -- What the section says of a sheet with its sides.
 store-sides : (x : Sheet) → SheetRight x → All StorePolynomial (rowSides x) × All StorePolynomial (relationSides x)
@@ -538,15 +534,15 @@ some-side ps qs h z = not-T (every isZero qs) (λ w. T-not (every isZero (ps ++ 
     (T-&& (every isZero ps) (every isZero qs) .1 (z, w))))
 
 plain-fifth : (x : Sheet) → SheetRight x → T (not (every isZero (sidesOf x))) → Fifth (plain x) x
-unfolding sidesOf
+unfolding sidesOf every
 plain-fifth x h some =
     let a = zero-count (length (x .rows)) in
     let b = zero-count (length (x .relations)) in
     let e = sided-rows x (replicate (length (x .rows)) zeroPolynomial) (replicate (length (x .relations)) zeroPolynomial) a b in
     let f = sided-relations x (replicate (length (x .rows)) zeroPolynomial) (replicate (length (x .relations)) zeroPolynomial) a b in
     let stored = store-sides x h in (
-      between-iff (pos (sideCount (plain x))) (pos (sideCount (plain x))) (pos (sideCount (plain x))) .1
-          (≤ℤ-refl (pos (sideCount (plain x))), ≤ℤ-refl (pos (sideCount (plain x)))),
+      judgeSideCount-iff (sideCount (plain x)) (pos (sideCount (plain x))) .1
+          (omega (arith, e, f, sides-count x, some-sides (sidesOf x) some), refl),
       (
         (length-map (x .rows) (λ r. r .right) ∙ sym e, sides-iff (length (plain x .relations)) true (rowSides x) .1 (stored .0, first f)),
         (
@@ -560,6 +556,10 @@ plain-fifth x h some =
       ),
     )
   where
+    some-sides : (l : List Polynomial) → T (not (every isZero l)) → 0 < length l
+    some-sides [] h = absurd h
+    some-sides (p ∷ l) h = zero-lt-suc (length l)
+
     no-members : (l : List Polynomial) → length l ≡ 0 → l ≡ []
     no-members [] e = refl
     no-members (p ∷ l) e = absurd (suc-ne-zero (length l) e)
@@ -698,7 +698,7 @@ module _ (y x : Sheet) (right : SheetRight y) (w : Fifth y x) where
       clash a b [] e =
           T-not (every isZero (rowSides x))
           (sides-iff (length (y .relations)) true (rowSides x) .0 (w .1 .0 .1) .1 tt (sym (fifth-lengths .1) ∙ ap length e)
-          (subst (λ n. 0 < n) (sym (fifth-lengths .0 ∙ right .valid .row-count)) (some-equations (y .sizes) (right .valid .sizes)))) a
+          (omega (arith, fifth-lengths .0, fifth-lengths .1, ap length e, judgeSideCount-iff (sideCount y) _ .0 (w .0) .0))) a
       clash a b (q ∷ l) e =
           T-not (every isZero (relationSides x))
           (sides-iff 0 (every isZero (rowSides x)) (relationSides x) .0 (w .1 .1 .0 .1) .1 a refl (subst (λ k. 0 < length k) (sym e) (omega arith))) b

@@ -1,39 +1,39 @@
 -- The column order of a sheet, and its bytes.
 --
 -- Main definitions
---   OrderRight m order     no column order, or a permutation of 1..m
+--   OrderRight m order     different columns of 1..m, or none
 --
 -- Main statements
 --   different-cons         when columns are different with one more before them
+--   different-few          there are at most m of them
 --   order-exact            the reader of the order line reads what is written of right orders, and nothing else
-use Prim.Native.Nat.{ℕ, suc, _^_, _≤_, _<_}
-use native.Mathlib.Nat.{suc-ne-zero}
+use Prim.Native.Nat.{ℕ, suc, _^_, _≤_, _<_, suc-le-suc}
+use native.Mathlib.Nat.{not-suc-le-zero, le-of-suc-le-suc}
 use native.Mathlib.Omega.{arith}
 use mathlib.Core.Path.{_≡_, refl, sym, _∙_, ap, subst}
-use mathlib.Core.Logic.{_↔_, _⊎_, inl, inr, ⊎-elim}
+use mathlib.Core.Logic.{_↔_, inl, inr, ⊎-elim}
 use mathlib.Core.Bool.{not}
-use mathlib.Core.List.{List, [], _∷_, _++_, map}
-use lib.Dec.{T, lit<, eqb, leb→le, le→leb, eqb→eq, eqb-refl, T-not, not-T}
+use mathlib.Core.List.{List, [], _∷_, _++_, map, List·Memᴰ, List·Memᴰ·cases-cons, List·Memᴰ·not-nil}
+use lib.Dec.{T, eqb, leb→le, le→leb, eqb→eq, eqb-refl, T-not, not-T}
 use lib.ListN.{length, length-map}
-use lib.IntN.{ℤ, pos, natAbs, _-ℤ_, +ℤ-invr}
+use lib.IntN.{ℤ, pos, natAbs}
 use lib.Signed.{leZ-yes, _≤ℤ_}
-use Rattle.algebra.specs.Order.{≤ℤ-trans, pos-≤ℤ}
-use Rattle.algebra.specs.Integers.{ -ℤ-zero}
-use Rattle.algebra.specs.Polynomials.{isZeroℤ, isZeroℤ-iff}
+use Rattle.algebra.specs.Order.{≤ℤ-trans, pos-≤ℤ, pos-nonneg, pos-natAbs-nonneg}
+use Rattle.algebra.specs.Pigeonhole.{Distinct, distinct-length}
 use Rattle.lists.specs.Tests.{T-&&, T-or, T-not-or, cond-zero-iff}
 use Rattle.rules.specs.Limits.{columnCount}
 use Rattle.lists.specs.Everywhere.{All}
-use Rattle.rules.specs.Numbers.{newline, line, got, thenRead, field}
-use Rattle.rules.specs.Sheets.{always, parting, afterCount, contains, judgeOrder, readColumns, judgeOrderCount, readOrder, orderLine}
+use Rattle.rules.specs.Numbers.{newline, line, got, thenRead, field, between}
+use Rattle.rules.specs.Sheets.{always, parting, afterCount, contains, judgeOrder, readColumns, readOrder, orderLine}
 use Rattle.rules.specs.SheetCalls.{differentColumns}
 use Rattle.tokens.specs.Exact.{Exact, field-exact, then-exact, same-exact, Chain, chain-exact}
-use Rattle.sheets.specs.WrittenTerms.{range-digits, positive-pos, newline-separator, parting-separator, parted}
-use Rattle.sheets.specs.WrittenTerms.{line-parted, chainBytes-parted}
+use Rattle.sheets.specs.WrittenTerms.{between-iff, between-exact, range-digits, positive-pos, newline-separator}
+use Rattle.sheets.specs.WrittenTerms.{parting-separator, parted, line-parted, chainBytes-parted}
 use Rattle.sheets.specs.WrittenSections.{counted, count-parted, afterCount-separator}
 
--- None, or a permutation of 1..m: as many different columns as there are (SCOPE 4.15).
+-- Different columns of 1..m (SCOPE 4.15).
 unfoldable pub OrderRight : ℕ → List ℕ → Type 0
-OrderRight m order = (order ≡ []) ⊎ ((length order ≡ m) × T (differentColumns m order))
+OrderRight m order = T (differentColumns m order)
 
 -- ---- different columns
 
@@ -76,6 +76,35 @@ different-cons m c l = (
   λ h. let e = simp T-&& at h in (leb→le 1 c (e .0 .0 .0), leb→le c m (e .0 .0 .1), e .0 .1, e .1),
   λ h. simp T-&& (((le→leb 1 c (h .0), le→leb c m (h .1)), h .2), h .3),
 )
+
+-- A column that stands among others is found there.
+member-found : (c : ℕ) (l : List ℕ) → List·Memᴰ c l → T (contains c l)
+unfolding contains
+member-found c [] p = absurd (List·Memᴰ·not-nil p)
+member-found c (d ∷ l) p =
+    T-or (eqb c d) (contains c l) .1
+    (⊎-elim (λ e. inl (subst (λ n. T (eqb c n)) e (eqb-refl c))) (λ q. inr (member-found c l q)) (List·Memᴰ·cases-cons p))
+
+different-distinct : (m : ℕ) (l : List ℕ) → T (differentColumns m l) → Distinct l
+different-distinct m [] h = tt
+different-distinct m (c ∷ l) h =
+    let e = different-cons m c l .0 h in
+    (λ p. T-not (contains c l) (e .2) (member-found c l p), different-distinct m l (e .3))
+
+different-within : (m : ℕ) (l : List ℕ) → T (differentColumns m l) → (c : ℕ) → List·Memᴰ c l → (1 ≤ c) × (c ≤ m)
+different-within m [] h c p = absurd (List·Memᴰ·not-nil p)
+different-within m (d ∷ l) h c p =
+    let e = different-cons m d l .0 h in
+    ⊎-elim (λ same. subst (λ n. (1 ≤ n) × (n ≤ m)) (sym same) (e .0, e .1)) (different-within m l (e .3) c) (List·Memᴰ·cases-cons p)
+
+-- With 0 before them they are different numbers up to m.
+pub different-few : (m : ℕ) (l : List ℕ) → T (differentColumns m l) → length l ≤ m
+different-few m l h =
+    le-of-suc-le-suc
+    (distinct-length (suc m) (0 ∷ l) (λ p. not-suc-le-zero (different-within m l h 0 p .0), different-distinct m l h) below)
+  where
+    below : (x : ℕ) → List·Memᴰ x (0 ∷ l) → x < suc m
+    below x p = ⊎-elim (λ e. omega arith) (λ q. suc-le-suc (different-within m l h x q .1)) (List·Memᴰ·cases-cons p)
 
 Columns-iff : (m : ℕ) (taken l : List ℕ) → Columns m taken l ↔ (T (differentColumns m l) × Fresh taken l)
 unfolding Columns Chain All differentColumns
@@ -133,52 +162,22 @@ columns-exact m k b =
         let f = judgeOrder-iff m taken c .0 e in
         range-digits (pos 1) (pos m) c (leZ-yes tt) (≤ℤ-trans (pos-≤ℤ .1 b) (leZ-yes tt)) (f .0) (f .1)
 
-judgeOrderCount-iff : (m : ℕ) (v : ℤ) → (judgeOrderCount m v ≡ 0) ↔ ((v ≡ pos 0) ⊎ (v ≡ pos m))
-unfolding judgeOrderCount
-judgeOrderCount-iff m v = (
-  λ e.
-      ⊎-elim (λ h. inl (isZeroℤ-iff v .0 h)) (λ h. inr (-ℤ-zero v (pos m) (isZeroℤ-iff (v -ℤ pos m) .0 h)))
-      (T-or (isZeroℤ v) (isZeroℤ (v -ℤ pos m)) .0 ((simp cond-zero-iff at e) .0)),
-  λ h. simp cond-zero-iff (
-    T-or (isZeroℤ v) (isZeroℤ (v -ℤ pos m)) .1 (⊎-elim
-        (λ e. inl (isZeroℤ-iff v .1 e))
-        (λ e. inr (isZeroℤ-iff (v -ℤ pos m) .1 (ap (λ x. x -ℤ pos m) e ∙ +ℤ-invr (pos m)))) h),
-    refl,
-  ),
-)
-
 pub order-exact : (m : ℕ) → m ≤ columnCount → Exact (readOrder m) (OrderRight m) (λ order. line (orderLine order))
-unfolding readOrder orderLine OrderRight differentColumns
+unfolding readOrder orderLine OrderRight
 order-exact m b =
     same-exact (readOrder m) (OrderRight m) (λ order. line (orderLine order))
     (then-exact (λ order. pos (length order))
-    (field-exact (judgeOrderCount m) afterCount (λ v h. digits v (judgeOrderCount-iff m v .0 h)) afterCount-separator)
-    (λ k l h e. same k (judgeOrderCount-iff m k .0 h) ∙ ap pos (sym (e .0))) λ k _.
+    (between-exact (pos 0) (pos m) afterCount (leZ-yes tt) (≤ℤ-trans (pos-≤ℤ .1 b) (leZ-yes tt)) afterCount-separator)
+    (λ k order hk e. sym (pos-natAbs-nonneg (between-iff (pos 0) (pos m) k .0 hk .0)) ∙ ap pos (sym (e .0))) λ k _.
     columns-exact m (natAbs k) b)
-    (λ _. refl) good best (λ order _. bytes order)
+    (λ _. refl) good (λ order h. h .1 .1) (λ order _. bytes order)
   where
-    digits : (v : ℤ) → (v ≡ pos 0) ⊎ (v ≡ pos m) → natAbs v < 10 ^ 10
-    digits v (inl e) = rw e (lit< tt)
-    digits v (inr e) = rw e (omega arith)
-
-    same : (v : ℤ) → (v ≡ pos 0) ⊎ (v ≡ pos m) → v ≡ pos (natAbs v)
-    same v (inl e) = rw e
-    same v (inr e) = rw e
-
-    Whole : List ℕ → Type 0
-    Whole order = (judgeOrderCount m (pos (length order)) ≡ 0) × ((length order ≡ length order) × T (differentColumns m order))
-
-    good : (order : List ℕ) → OrderRight m order → Whole order
-    good order (inl e) = rw e (judgeOrderCount-iff m (pos 0) .1 (inl refl), (refl, tt))
-    good order (inr h) = (judgeOrderCount-iff m (pos (length order)) .1 (inr (ap pos (h .0))), (refl, h .1))
-
-    best : (order : List ℕ) → Whole order → OrderRight m order
-    best [] h = inl refl
-    best (c ∷ l) h = inr (whole (judgeOrderCount-iff m (pos (length (c ∷ l))) .0 (h .0)), h .1 .1)
-      where
-        whole : (pos (suc (length l)) ≡ pos 0) ⊎ (pos (suc (length l)) ≡ pos m) → suc (length l) ≡ m
-        whole (inl e) = absurd (suc-ne-zero (length l) (ap natAbs e))
-        whole (inr e) = ap natAbs e
+    good : (order : List ℕ) → OrderRight m order
+        → (between (pos 0) (pos m) (pos (length order)) ≡ 0) × ((length order ≡ length order) × T (differentColumns m order))
+    good order h = (
+      between-iff (pos 0) (pos m) (pos (length order)) .1 (pos-nonneg (length order), pos-≤ℤ .1 (different-few m order h)),
+      (refl, h),
+    )
 
     bytes : (order : List ℕ) → line (pos (length order) ∷ map pos order) ≡ counted (length order) ++ parted newline (map pos order)
     bytes order =

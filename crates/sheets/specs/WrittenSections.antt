@@ -2,6 +2,7 @@
 --
 -- Main definitions
 --   EquationRight, RelationGood     the rows and relations that a store can hold and the check of its numbers lets through
+--   sizesLines z                    the bytes of the lines with the sizes
 --
 -- Main statements
 --   count-parted                                              a count with what it counts
@@ -14,18 +15,18 @@ use mathlib.Core.Path.{_≡_, refl, sym, _∙_, ap, subst}
 use mathlib.Core.Logic.{_↔_}
 use mathlib.Core.Bool.{Bool, true, false, cond}
 use mathlib.Core.List.{List, [], _∷_, _++_, map, flatten, append-nil, append-assoc}
-use lib.Dec.{T, le→leb, eqb·suc-zero}
+use lib.Dec.{T, eqb·suc-zero}
 use lib.ListN.{length}
 use lib.IntN.{ℤ, pos, negℤ, natAbs, _-ℤ_}
 use lib.Signed.{leZ-yes, _≤ℤ_, ≤ℤ-refl}
 use Rattle.algebra.specs.Order.{≤ℤ-trans, ≤ℤ-antisym, ≤ℤ-difference, natAbs-≤-iff, pos-natAbs-nonneg, pos-nonneg, pos-≤ℤ}
 use Rattle.algebra.specs.Polynomials.{isZeroℤ}
 use Rattle.lists.specs.Tests.{T-&&, cond-zero-iff, every}
-use Rattle.rules.specs.Limits.{columnCount, blockCount, blockBound, small}
+use Rattle.rules.specs.Limits.{columnCount, mostEquations, blockCount, blockBound, small}
 use Rattle.rules.specs.Rows.{Row, Relation, noRow}
 use Rattle.lists.specs.Everywhere.{All}
-use Rattle.rules.specs.Stores.{Sizes, span, sizesRight, rowRight, relationRight, StoreRow}
-use Rattle.rules.specs.Layout.{SizeBounds, size-bounds}
+use Rattle.rules.specs.Stores.{Sizes, equations, span, sizesRight, rowRight, relationRight, StoreRow}
+use Rattle.rules.specs.Layout.{SizeBounds, size-bounds, bounds-right}
 use Rattle.rules.specs.Numbers.{space, newline, isSeparator, decimal, line, between, judgeSmall}
 use Rattle.rules.specs.Sheets.{Term, always, afterCount, parting, rowOfTerms, readEquation, readEquations, readRelation, readRelations}
 use Rattle.rules.specs.Sheets.{judgeLowest, readSizes, termsFrom, termNumbers, equationNumbers, relationLine}
@@ -176,26 +177,27 @@ judgeLowest-iff l t = (
   λ h. simp (cond-zero-iff, T-&&) (((h .0 .le, h .1 .le), h .2 .le), refl),
 )
 
-sizesRight-bounds : (z : Sizes) → SizeBounds z → T (sizesRight z)
-unfolding sizesRight
-sizesRight-bounds z b =
-    simp T-&&
-    ((le→leb 1 (z .m) (b .some), le→leb (z .m) columnCount (b .few)), (((b .low .le, b .ordered .le), b .high .le), b .narrow .le))
+-- The line of m, l and t, and that of the number of equations.
+abbrev pub sizesLines : Sizes → List ℕ
+sizesLines z = line (pos 3 ∷ pos (z .m) ∷ z .l ∷ z .t ∷ []) ++ line (pos (equations z) ∷ [])
 
-pub sizes-exact : Exact readSizes (λ z. T (sizesRight z)) (λ z. line (pos 3 ∷ pos (z .m) ∷ z .l ∷ z .t ∷ []))
-unfolding readSizes line
+pub sizes-exact : Exact readSizes (λ z. T (sizesRight z)) sizesLines
+unfolding readSizes line equations
 sizes-exact =
-    same-exact readSizes (λ z. T (sizesRight z)) (λ z. line (pos 3 ∷ pos (z .m) ∷ z .l ∷ z .t ∷ []))
+    same-exact readSizes (λ z. T (sizesRight z)) sizesLines
     (then-exact (λ _. pos 3) (between-exact (pos 3) (pos 3) (always space) (leZ-yes tt) (leZ-yes tt) always-space)
     (λ k z hk e. just 3 k hk) λ _ _.
     then-exact (λ z. pos (z .m)) (between-exact (pos 1) (pos columnCount) (always space) (leZ-yes tt) (leZ-yes tt) always-space)
-    (λ m z hm e. positive-pos (between-iff (pos 1) (pos columnCount) m .0 hm .0) ∙ ap (λ x. pos (x .m)) (sym (e .1 .1))) λ m _.
+    (λ m z hm e. positive-pos (between-iff (pos 1) (pos columnCount) m .0 hm .0) ∙ ap (λ x. pos (x .m)) (sym (e .1 .1 .1))) λ m _.
     then-exact (λ z. z .l)
     (between-exact (negℤ (pos blockBound)) (pos blockBound) (always space) (leZ-yes tt) (leZ-yes tt) always-space)
-    (λ l z _ e. ap (λ x. x .l) (sym (e .1))) λ l hl.
+    (λ l z _ e. ap (λ x. x .l) (sym (e .1 .1))) λ l hl.
     then-exact (λ z. z .t) (field-exact (judgeLowest l) (always newline) (lowest-digits l hl) always-newline)
-    (λ t z _ e. ap (λ x. x .t) (sym e)) λ t _.
-    nothing-exact (record { m = natAbs m; l = l; t = t }))
+    (λ t z _ e. ap (λ x. x .t) (sym (e .1))) λ t _.
+    then-exact (λ z. pos (equations z))
+    (between-exact (pos 0) (pos mostEquations) (always newline) (leZ-yes tt) (leZ-yes tt) always-newline)
+    (λ k z hk e. sym (pos-natAbs-nonneg (between-iff (pos 0) (pos mostEquations) k .0 hk .0)) ∙ ap (λ x. pos (equations x)) (sym e)) λ k _.
+    nothing-exact (record { m = natAbs m; equations = natAbs k; l = l; t = t }))
     (λ _. refl) good best bytes
   where
     lowest-digits : (l : ℤ) → between (negℤ (pos blockBound)) (pos blockBound) l ≡ 0 → (t : ℤ) → judgeLowest l t ≡ 0 → natAbs t < 10 ^ 10
@@ -208,7 +210,8 @@ sizes-exact =
     Whole z =
         (between (pos 3) (pos 3) (pos 3) ≡ 0)
         × ((between (pos 1) (pos columnCount) (pos (z .m)) ≡ 0)
-        × ((between (negℤ (pos blockBound)) (pos blockBound) (z .l) ≡ 0) × ((judgeLowest (z .l) (z .t) ≡ 0) × (z ≡ z))))
+        × ((between (negℤ (pos blockBound)) (pos blockBound) (z .l) ≡ 0)
+        × ((judgeLowest (z .l) (z .t) ≡ 0) × ((between (pos 0) (pos mostEquations) (pos (equations z)) ≡ 0) × (z ≡ z)))))
 
     good : (z : Sizes) → T (sizesRight z) → Whole z
     good z h =
@@ -218,7 +221,13 @@ sizes-exact =
             between-iff (pos 1) (pos columnCount) (pos (z .m)) .1 (pos-≤ℤ .1 (b .some), pos-≤ℤ .1 (b .few)),
             (
               between-iff (negℤ (pos blockBound)) (pos blockBound) (z .l) .1 (≤ℤ-trans (b .low) (b .ordered), b .high),
-              (judgeLowest-iff (z .l) (z .t) .1 (b .low, b .ordered, b .narrow), refl),
+              (
+                judgeLowest-iff (z .l) (z .t) .1 (b .low, b .ordered, b .narrow),
+                (
+                  between-iff (pos 0) (pos mostEquations) (pos (equations z)) .1 (pos-nonneg (equations z), pos-≤ℤ .1 (b .few-equations)),
+                  refl,
+                ),
+              ),
             ),
           ),
         )
@@ -228,13 +237,26 @@ sizes-exact =
         let m = between-iff (pos 1) (pos columnCount) (pos (z .m)) .0 (h .1 .0) in
         let l = between-iff (negℤ (pos blockBound)) (pos blockBound) (z .l) .0 (h .1 .1 .0) in
         let t = judgeLowest-iff (z .l) (z .t) .0 (h .1 .1 .1 .0) in
-        sizesRight-bounds z
-        (record { some = pos-≤ℤ .0 (m .0); few = pos-≤ℤ .0 (m .1); low = t .0; ordered = t .1; high = l .1; narrow = t .2 })
+        let k = between-iff (pos 0) (pos mostEquations) (pos (equations z)) .0 (h .1 .1 .1 .1 .0) in
+        bounds-right z
+        (record {
+          some = pos-≤ℤ .0 (m .0);
+          few = pos-≤ℤ .0 (m .1);
+          few-equations = pos-≤ℤ .0 (k .1);
+          low = t .0;
+          ordered = t .1;
+          high = l .1;
+          narrow = t .2;
+        })
 
-    bytes : (z : Sizes) → Whole z → line (pos 3 ∷ pos (z .m) ∷ z .l ∷ z .t ∷ [])
-        ≡ spaced (pos 3) ++ (spaced (pos (z .m)) ++ (spaced (z .l) ++ (line (z .t ∷ []) ++ [])))
+    regroup : (a b c d e : List ℕ) → (a ++ (b ++ (c ++ d))) ++ e ≡ a ++ (b ++ (c ++ (d ++ (e ++ []))))
+    regroup a b c d e = simp (append-assoc, append-nil)
+
+    bytes : (z : Sizes) → Whole z → sizesLines z
+        ≡ spaced (pos 3) ++ (spaced (pos (z .m)) ++ (spaced (z .l) ++ (line (z .t ∷ []) ++ (line (pos (equations z) ∷ []) ++ []))))
     bytes z _ =
-        line-space (pos 3) (pos (z .m)) (z .l ∷ z .t ∷ [])
+        ap (λ r. r ++ line (pos (equations z) ∷ []))
+        (line-space (pos 3) (pos (z .m)) (z .l ∷ z .t ∷ [])
         ∙ ap (λ r. spaced (pos 3) ++ r) (line-space (pos (z .m)) (z .l) (z .t ∷ [])
-        ∙ ap (λ r. spaced (pos (z .m)) ++ r) (line-space (z .l) (z .t) []
-        ∙ ap (λ r. spaced (z .l) ++ r) (sym (append-nil (line (z .t ∷ []))))))
+        ∙ ap (λ r. spaced (pos (z .m)) ++ r) (line-space (z .l) (z .t) [])))
+        ∙ regroup (spaced (pos 3)) (spaced (pos (z .m))) (spaced (z .l)) (line (z .t ∷ [])) (line (pos (equations z) ∷ []))

@@ -18,8 +18,8 @@ pub fn read_sheet(bytes: &[u8], rows: &mut [i64], relations: &mut [i64]) -> Shee
     reading::read_sheet(bytes, rows, relations)
 }
 
-// The system of the stores and its column order as a sheet: all four numbers of the order 0 for none, otherwise a
-// permutation of 1..m and zeros past its end (SCOPE 4.53). Nothing is written on a refusal (SCOPE 4.54), and bytes past
+// The system of the stores and its column order as a sheet: the order's four numbers are different columns of 1..m and zeros
+// past them, all four 0 for none (SCOPE 4.53). Nothing is written on a refusal (SCOPE 4.54), and bytes past
 // the length stay (SCOPE 4.51).
 pub fn write_sheet(
     rows: &[i64],

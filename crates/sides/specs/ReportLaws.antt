@@ -3,7 +3,7 @@
 -- Main definitions
 --   furtherOf side x y     the further of two roots, each of which may be missing
 --   optionOf r             the root that an answer gives, if any
---   settledState equations l cs    a state of the equations rows of the store l, settled at the columns cs
+--   settledState settled l cs    a state of so many rows of the store l, settled at the columns cs
 --
 -- Main statements
 --   furthest-append        the furthest of two lists is the further of their furthest
@@ -175,13 +175,13 @@ module _ (side : Side) (a b : RootAnswer) where
 -- ---- the diagonal polynomials in the store
 
 abbrev pub settledState : ℕ → List ℤ → List ℕ → State
-settledState equations store order = record { rows = rowsOf equations store; relations = []; order = take equations order; shifts = 0 }
+settledState settled store order = record { rows = rowsOf settled store; relations = []; order = take settled order; shifts = 0 }
 
-pub report-settled : (side : Side) (D equations : ℕ) (store : List ℤ) (order : List ℕ) (s : State)
-    → s .rows ≡ rowsOf equations store → s .order ≡ take equations order → report side D s
-    ≡ report side D (settledState equations store order)
+pub report-settled : (side : Side) (D settled : ℕ) (store : List ℤ) (order : List ℕ) (s : State)
+    → s .rows ≡ rowsOf settled store → s .order ≡ take settled order → report side D s
+    ≡ report side D (settledState settled store order)
 unfolding report diagonal
-report-settled side D equations store order s e f =
+report-settled side D settled store order s e f =
     let entry : Row → ℕ → Polynomial = λ r c. getD (getD (r .blocks) (diagonalPlace side D) []) c [] in
     ap₂ (λ rows cs. furthest side (flatten (map roots (zipWith entry rows cs)))) e f
 
@@ -195,9 +195,9 @@ unfolding diagonalPlace
 place-below leading D few = lit< tt
 place-below trailing D few = suc-le-suc few
 
-module _ (side : Side) (D equations : ℕ) (store : List ℤ) (order : List ℕ) where
+module _ (side : Side) (D settled : ℕ) (store : List ℤ) (order : List ℕ) where
   abbrev diagonals : List Polynomial
-  diagonals = diagonal side D (settledState equations store order)
+  diagonals = diagonal side D (settledState settled store order)
 
   -- The furthest root of the first j diagonal polynomials.
   unfoldable pub reported : ℕ → Option ℤ
@@ -207,54 +207,54 @@ module _ (side : Side) (D equations : ℕ) (store : List ℤ) (order : List ℕ)
   unfolding reported furthest flatten
   report-none = refl
 
-module _ (side : Side) (D equations : ℕ) (store : List ℤ) (order : List ℕ) (enough : equations ≤ length order) where
+module _ (side : Side) (D settled : ℕ) (store : List ℤ) (order : List ℕ) (enough : settled ≤ length order) where
   abbrev ps : List Polynomial
-  ps = diagonals side D equations store order
+  ps = diagonals side D settled store order
 
-  same-count : length (rowsOf equations store) ≡ length (take equations order)
-  same-count = length-rowsOf equations store ∙ sym (length-take-le equations order enough)
+  same-count : length (rowsOf settled store) ≡ length (take settled order)
+  same-count = length-rowsOf settled store ∙ sym (length-take-le settled order enough)
 
-  length-diagonals : length ps ≡ equations
+  length-diagonals : length ps ≡ settled
   unfolding diagonal
-  length-diagonals = length-zipWith _ (rowsOf equations store) (take equations order) same-count ∙ length-rowsOf equations store
+  length-diagonals = length-zipWith _ (rowsOf settled store) (take settled order) same-count ∙ length-rowsOf settled store
 
-  pub report-all : (j : ℕ) → equations ≤ j → reported side D equations store order j ≡ report side D (settledState equations store order)
+  pub report-all : (j : ℕ) → settled ≤ j → reported side D settled store order j ≡ report side D (settledState settled store order)
   unfolding reported report
   report-all j h = ap (λ l. furthest side (flatten (map roots l))) (take-all j ps (rw length-diagonals h))
 
-  module _ (few : D ≤ mostSpan) (columns : Columns order) (j : ℕ) (h : j < equations) where
+  module _ (few : D ≤ mostSpan) (columns : Columns order) (j : ℕ) (h : j < settled) where
     diagonal-at : getD ps j [] ≡ take coefficientCount (drop (diagonalAt side D order j) store)
     unfolding diagonal diagonalAt
     diagonal-at =
-        getD-zipWith _ (rowsOf equations store) (take equations order) j noRow 0 [] (rw length-rowsOf h)
+        getD-zipWith _ (rowsOf settled store) (take settled order) j noRow 0 [] (rw length-rowsOf h)
         (subst (λ n. j < n) same-count (rw length-rowsOf h))
-        ∙ ap (λ c. getD (getD (getD (rowsOf equations store) j noRow .blocks) (diagonalPlace side D) []) c [])
-        (getD-take equations order j 0 h)
-        ∙ polynomial-at equations store j (diagonalPlace side D) (getD order j 0) h (place-below side D few) (Columns-at order columns j)
+        ∙ ap (λ c. getD (getD (getD (rowsOf settled store) j noRow .blocks) (diagonalPlace side D) []) c [])
+        (getD-take settled order j 0 h)
+        ∙ polynomial-at settled store j (diagonalPlace side D) (getD order j 0) h (place-below side D few) (Columns-at order columns j)
 
-    pub report-next : furtherOf side (reported side D equations store order j)
+    pub report-next : furtherOf side (reported side D settled store order j)
         (furthest side (roots (take coefficientCount (drop (diagonalAt side D order j) store))))
-        ≡ reported side D equations store order (j + 1)
+        ≡ reported side D settled store order (j + 1)
     unfolding reported
     report-next =
-        ap (λ p. furtherOf side (reported side D equations store order j) (furthest side (roots p))) (sym diagonal-at)
+        ap (λ p. furtherOf side (reported side D settled store order j) (furthest side (roots p))) (sym diagonal-at)
         ∙ sym (furthest-more side roots (take j ps) (getD ps j []))
         ∙ ap (λ l. furthest side (flatten (map roots l))) (sym (take-suc ps j [] (rw length-diagonals h)))
-        ∙ ap (reported side D equations store order) (sym (add-one j))
+        ∙ ap (reported side D settled store order) (sym (add-one j))
 
     -- Its numbers.
-    pub diagonal-long : rowNeed equations ≤ length store → diagonalAt side D order j + coefficientCount ≤ length store
+    pub diagonal-long : rowNeed settled ≤ length store → diagonalAt side D order j + coefficientCount ≤ length store
     unfolding diagonalAt rowNeed
     diagonal-long long = omega (arith, place-below side D few, Columns-at order columns j)
 
-    pub diagonal-small : Within (rowNeed equations) store → T (every small (take coefficientCount (drop (diagonalAt side D order j) store)))
+    pub diagonal-small : Within (rowNeed settled) store → T (every small (take coefficientCount (drop (diagonalAt side D order j) store)))
     unfolding diagonalAt rowNeed
     diagonal-small w =
         let b = diagonalPlace side D in
         let c = getD order j 0 in
         let e = j * partCount + b * columnCount + c in
         let place : e * coefficientCount ≡ j * rowLength + b * blockLength + c * coefficientCount = omega arith in
-        let all : equations * rowLength ≡ equations * partCount * coefficientCount = omega arith in
-        let inside : e < equations * partCount = omega (arith, place-below side D few, Columns-at order columns j) in
+        let all : settled * rowLength ≡ settled * partCount * coefficientCount = omega arith in
+        let inside : e < settled * partCount = omega (arith, place-below side D few, Columns-at order columns j) in
         subst (λ n. T (every small (take coefficientCount (drop n store)))) place
-        (part-small coefficientCount (equations * partCount) e store inside (subst (λ n. Within n store) all w))
+        (part-small coefficientCount (settled * partCount) e store inside (subst (λ n. Within n store) all w))

@@ -9,7 +9,7 @@ ghost use Prim.Native.Nat.{_≤_};
 ghost use lib.Dec.{T};
 ghost use lib.ListN.{length};
 ghost use Rattle.algebra.specs.Roots.{roots};
-ghost use Rattle.rules.specs.Limits.{small, coefficientCount, mostEquations};
+ghost use Rattle.rules.specs.Limits.{small, coefficientCount, columnCount};
 ghost use Rattle.lists.specs.Tests.{every};
 ghost use Rattle.rules.specs.Stores.{rowNeed};
 ghost use Rattle.rules.specs.Elimination as Elimination;
@@ -56,16 +56,16 @@ fn furthest_root(p: &[i64], side: Side) -> roots::RootAnswer
 }
 
 // The greatest integer at which a diagonal polynomial of the output vanishes, if there is one (SCOPE 2.81); on the
-// trailing side the least (SCOPE 2.93).
+// trailing side the least (SCOPE 2.93). The output has a row for each settled column.
 pub fn report(
     store: &[i64],
-    equations: usize,
+    settled: usize,
     order: [usize; COLUMNS],
     side: Side,
     span: usize,
 ) -> roots::RootAnswer
-    requires { ⌜ (equations ≤ mostEquations) × (span ≤ 4) × Columns order × Within (rowNeed equations) (now store) ⌝ }
-    ensures { λ r. ⌜ r ≡ answered (Elimination.report (sideOf side) span (settledState equations (now (store .entry)) order)) ⌝ }
+    requires { ⌜ (settled ≤ columnCount) × (span ≤ 4) × Columns order × Within (rowNeed settled) (now store) ⌝ }
+    ensures { λ r. ⌜ r ≡ answered (Elimination.report (sideOf side) span (settledState settled (now (store .entry)) order)) ⌝ }
 {
     let block = match side {
         Side::Leading => 0,
@@ -76,7 +76,7 @@ pub fn report(
         root: 0,
     };
     let mut j = 0;
-    while j < equations {
+    while j < settled {
         let from = j * ROW + block * BLOCK + order[j] * COEFFICIENTS;
         let to = from + COEFFICIENTS;
         answer = further(answer, furthest_root(&store[from..to], side), side);

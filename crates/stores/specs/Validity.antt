@@ -34,7 +34,7 @@ use Rattle.lists.specs.Parts.{parts, getD-parts}
 use Rattle.stores.specs.declared.validity.Sizes.{Sizes}
 
 unfoldable pub sizesOf : Sizes → Stores.Sizes
-sizesOf s = record { m = s .m; l = s .l; t = s .t }
+sizesOf s = record { m = s .m; equations = s .equations; l = s .l; t = s .t }
 
 -- ---- the number checks, by m and D
 

@@ -1,4 +1,4 @@
-// The lengths of rows, relations and their stores: `columnCount`, `blockCount`, `polynomialCount`, `blockLength`, `entriesLength`,
+// The lengths of rows, relations and their stores: `columnCount`, `mostEquations`, `blockCount`, `polynomialCount`, `blockLength`, `entriesLength`,
 // `rowLength` and `relationLength` of `rules`, the largest row store and the relation store (SCOPE 3.2, 3.4, 3.11).
 use polynomials::lengths::COEFFICIENTS;
 
@@ -23,8 +23,11 @@ pub const ROW: usize = ENTRIES + COEFFICIENTS;
 // n0 and then a row.
 pub const RELATION: usize = 1 + ROW;
 
-// The largest row store: as many rows as there are columns.
-pub const ROWS: usize = COLUMNS * ROW;
+// The largest number of equations (SCOPE 1.1).
+pub const EQUATIONS: usize = 6;
+
+// The largest row store.
+pub const ROWS: usize = EQUATIONS * ROW;
 
 // The relation store: sixteen relations.
 pub const RELATIONS: usize = 16 * RELATION;

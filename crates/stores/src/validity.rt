@@ -14,9 +14,10 @@ ghost use Rattle.lists.specs.Tests.{every};
 ghost use Rattle.rules.specs.Stores as Stores;
 ghost use Rattle.stores.specs.Validity.{sizesOf, relationTest};
 
-// m unknowns and as many equations, blocks from t to l (SCOPE 1.1, 1.2).
+// m unknowns, so many equations, blocks from t to l (SCOPE 1.1, 1.2).
 pub struct Sizes {
     pub m: usize,
+    pub equations: usize,
     pub l: i64,
     pub t: i64,
 }
@@ -35,11 +36,18 @@ fn blocks_right(l: i64, t: i64) -> bool
     -64 <= t && t <= l && l <= 64 && l - t <= 4
 }
 
-// m is from 1 to 4, and the blocks are right (SCOPE 1.1, 3.32).
+// m is from 1 to 4, and there are at most 6 equations (SCOPE 1.1).
+fn counts_right(m: usize, equations: usize) -> bool
+    ensures { λ r. ⌜ r ≡ (leb 1 m && leb m 4 && leb equations 6) ⌝ }
+{
+    counted(m, 4) && equations <= 6
+}
+
+// The counts and the blocks are right (SCOPE 1.1, 3.32).
 pub fn sizes_right(sizes: Sizes) -> bool
     ensures { λ r. ⌜ r ≡ Stores.sizesRight (sizesOf sizes) ⌝ }
 {
-    counted(sizes.m, 4) && blocks_right(sizes.l, sizes.t)
+    counts_right(sizes.m, sizes.equations) && blocks_right(sizes.l, sizes.t)
 }
 
 // D = l - t (SCOPE 1.2).
@@ -111,7 +119,7 @@ fn numbers_right(rows: &[i64], relations: &[i64], sizes: Sizes, count: usize) ->
     requires { ⌜ (count ≤ 16) × (Stores.relationNeed ≤ length (now relations)) ⌝ }
     ensures { λ r. ⌜ r ≡ Stores.numbersRight (sizesOf sizes) count (now (rows .entry)) (now (relations .entry)) ⌝ }
 {
-    if !rows_right(rows, sizes, sizes.m) {
+    if !rows_right(rows, sizes, sizes.equations) {
         return false;
     }
     if !relations_right(relations, sizes, count) {
@@ -128,7 +136,7 @@ pub fn check_stores(rows: &[i64], relations: &[i64], sizes: Sizes, count: usize)
     if !(sizes_right(sizes) && count <= 16) {
         return 2;
     }
-    if !lengths_right(rows, relations, sizes.m) {
+    if !lengths_right(rows, relations, sizes.equations) {
         return 1;
     }
     if !numbers_right(rows, relations, sizes, count) {

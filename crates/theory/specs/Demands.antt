@@ -1,15 +1,17 @@
--- Demand 3, sentence by sentence, for both sides (SCOPE 2.114 to 2.119), and what else is proved of a run
+-- Demand 3, sentence by sentence, for both sides (SCOPE 2.114 to 2.119, 2.122), and what else is proved of a run
 -- (SCOPE 9.26 to 9.28).
 --
 -- Main definitions
 --   Accepted side z rows relations s   the system is valid and the whole run on that side accepts it with the final state s
+--   begun side D rows relations        the state from which a run on that side takes its steps
 --   Ended o                            the outcomes of a run that has ended
 -- Main statements, by the numbers of their comments
---   1 same-sequences          4 accepted-independent    7 report-no, report-root
---   2 diagonal-nonzero        5 refused-dependent,      8 output-valid, relations-listed
---                               refused-inconsistent
---   3 agreement-leading,      6 run-ends,               9 next-row-later, zero-row-refused
---     agreement-trailing        shifts-bounded          10 first-index, forward-from, backward-from
+--   1 same-sequences          4 rank-below, rows-independent,   7 report-no, report-root
+--   2 diagonal-nonzero,         undropped-independent,          8 output-valid, relations-listed
+--     rank-most, rank-few       dropped-dependent,              9 next-row-later, zero-row-dropped
+--   3 agreement-leading,        zero-row-dependent              10 first-index, forward-from, backward-from
+--     agreement-trailing      5 refused-inconsistent
+--                             6 run-ends, shifts-bounded
 use Prim.Native.Nat.{ℕ, suc, _*_, _≤_, _<_}
 use mathlib.Core.Path.{_≡_, refl, sym, _∙_, subst, ap}
 use mathlib.Core.Logic.{_↔_, inl, inr}
@@ -19,19 +21,20 @@ use mathlib.Core.Option.{none, some}
 use native.Mathlib.Omega.{arith}
 use native.Mathlib.Nat.{zero-add}
 use lib.Dec.{T}
-use lib.ListN.{length}
+use lib.ListN.{length, length-map}
 use lib.IntN.{ℤ, pos, _+ℤ_, +ℤ-idr}
 use lib.Signed.{_≤ℤ_, _<ℤ_}
 use Rattle.algebra.specs.Polynomials.{isZero}
 use Rattle.rules.specs.Rows.{Row, Relation, zeroRow, width, mirrorRelation, mirrorRow}
 use Rattle.lists.specs.Everywhere.{All, all-mono}
-use Rattle.rules.specs.Elimination.{Side, leading, trailing, State, Outcome, going, done, refused, start, enough, step, run}
-use Rattle.rules.specs.Elimination.{wholeRun, leadingRun, trailingRun, mirrorState, diagonal, report, rowAt, putRow, limitDegrees, within}
-use Rattle.rules.specs.Stores.{Sizes, equations, span, rowRight, relationRight, unusedZero, Valid}
+use Rattle.rules.specs.Elimination.{Side, leading, trailing, State, Outcome, going, done, refused, rank, start, enough, step, run}
+use Rattle.rules.specs.Elimination.{wholeRun, leadingRun, trailingRun, mirrorState, diagonal, report, rowAt, putRow, dropRow, limitDegrees}
+use Rattle.rules.specs.Elimination.{within}
+use Rattle.rules.specs.Stores.{Sizes, equations, withEquations, span, rowRight, relationRight, unusedZero, Valid}
 use Rattle.rules.specs.Sequences.{Sequence, Satisfies, Same, Dependent}
 use Rattle.lists.specs.Tests.{every-all}
 use Rattle.theory.specs.Steps.{current, met, MetZeroBelow, combination, listed, Chain, Refusal, run-refused, step-refused}
-use Rattle.theory.specs.Steps.{zero-refused}
+use Rattle.theory.specs.Steps.{next, dropped, length-dropRow, chain-length, zero-dropped}
 use Rattle.theory.specs.Cells.{width-unused}
 use Rattle.theory.specs.Ending.{wholeRun-ends, wholeRun-shifts, mirrorOutcome-refused}
 use Rattle.theory.specs.Report.{Past, Rootless, FurthestRoot, report-none, report-some}
@@ -39,20 +42,32 @@ use Rattle.theory.specs.Solutions.{run-solutions}
 use Rattle.theory.specs.FirstIndex.{SatisfiesFrom, from-same, chain-from, chain-from-back}
 use Rattle.theory.specs.ListedOrder.{Listed, leading-listed, trailing-listed}
 use Rattle.theory.specs.Triangular.{triangular-start, triangular-chain, combined-advances}
-use Rattle.theory.specs.Dependence.{settled-dropped, refused-dependent as run-dependent}
+use Rattle.theory.specs.Dependence.{settled-independent, chain-dropped, settled-dropped}
 use Rattle.theory.specs.LimitsKept.{rowRight-iff, relationRight-iff, ValidRows, valid-rows, counted-valid}
 use Rattle.theory.specs.Mirror.{span-sum, Reaches, Spans, valid-relations-span, mirrorRelations-twice}
 use Rattle.theory.specs.Agreement.{leading-agreement}
 use Rattle.theory.specs.Trailing.{valid-shapes, mirrored-sequences, diagonal-back, valid-back, dropped-back, agrees-back}
-use Rattle.theory.specs.Trailing.{trailing-dependent, trailing-inconsistent}
+use Rattle.theory.specs.Trailing.{dropped-mirrored, independent-back, trailing-inconsistent}
 use Rattle.theory.specs.Inconsistency.{refused-unsatisfied}
-use Rattle.theory.specs.Settled.{as-many, settled-count, settled-rows, Diagonal, settled-leading, settled-trailing}
-use Rattle.theory.specs.Settled.{settled-diagonal, settled-valid, nonzero-of-diagonal, accepted-rank}
+use Rattle.theory.specs.Settled.{settled-count, settled-few, settled-triangular, settled-rows, Diagonal, diagonal-most}
+use Rattle.theory.specs.Settled.{settled-leading, settled-trailing, settled-diagonal, settled-valid, nonzero-of-diagonal}
 
 -- The run returns no refusal (SCOPE 2.111). Valid is exactly what the checks of a call let through.
 pub record Accepted (side : Side) (z : Sizes) (rows : List Row) (relations : List Relation) (s : State) : Type 0 where
   pub valid : Valid z rows relations
   pub accepts : wholeRun side (span z) rows relations ≡ done s
+
+-- The system as it stands, on the trailing side its mirror (SCOPE 2.91).
+unfoldable pub begun : Side → ℕ → List Row → List Relation → State
+unfolding start mirrorState
+begun leading D rows relations = start rows relations
+begun trailing D rows relations = mirrorState D (start rows relations)
+
+begun-length : (side : Side) (D : ℕ) (rows : List Row) (relations : List Relation)
+    → length (begun side D rows relations .rows) ≡ length rows
+unfolding begun start mirrorState
+begun-length leading D rows relations = refl
+begun-length trailing D rows relations = length-map rows (mirrorRow D)
 
 -- ---- each sentence, first from a run to its final state, then mirrored back
 
@@ -73,6 +88,24 @@ triangular leading v e = settled-diagonal (settled-leading v e)
 triangular trailing {z} v e =
     let m = settled-trailing v e in
     subst (λ x. Diagonal trailing (current x) (z .m) (span z) x) (m .back) (diagonal-back (valid-rows v) (m .settled))
+
+no-more-rows : (side : Side) {z : Sizes} {rows : List Row} {relations : List Relation} {s : State} → Valid z rows relations
+    → wholeRun side (span z) rows relations ≡ done s → current s ≤ length rows
+unfolding mirrorState
+no-more-rows leading v e = settled-few (settled-leading v e)
+no-more-rows trailing {z} {rows} v e =
+    let m = settled-trailing v e in
+    subst (λ x. current x ≤ length rows) (m .back)
+    (subst (λ n. current (m .final) ≤ n) (length-map rows (mirrorRow (span z))) (settled-few (m .settled)))
+
+kept-independent : (side : Side) {z : Sizes} {rows : List Row} {relations : List Relation} {s : State} → Valid z rows relations
+    → wholeRun side (span z) rows relations ≡ done s → Dependent (z .l) (s .rows) → ⊥
+kept-independent leading {z} {s = s} v e =
+    let a = settled-leading v e in
+    settled-independent (z .l) s (settled-triangular a) (a .all)
+kept-independent trailing {z} v e =
+    let m = settled-trailing v e in
+    subst (λ x. Dependent (z .l) (x .rows) → ⊥) (m .back) (independent-back (valid-rows v) (m .settled))
 
 -- Fewer rows are settled than there were exactly if those were dependent.
 fewer-rows : (side : Side) {z : Sizes} {rows : List Row} {relations : List Relation} {s : State} → Valid z rows relations
@@ -127,15 +160,30 @@ module _ {side : Side} {z : Sizes} {rows : List Row} {relations : List Relation}
   pub same-sequences : (y : Sequence) → Satisfies (z .l) rows relations y ↔ Satisfies (z .l) (s .rows) (s .relations) y
   same-sequences y = sequences side (a .valid) (a .accepts) y
 
-  -- 2. The output is triangular, and no diagonal polynomial is zero (SCOPE 2.71, 2.73, 2.115).
-  pub diagonal-nonzero : Diagonal side (equations z) (z .m) (span z) s
-  diagonal-nonzero =
-      subst (λ e. Diagonal side e (z .m) (span z) s) (accepted-rank side (a .valid) (a .accepts)) (triangular side (a .valid) (a .accepts))
+  -- 2. The output is triangular, and no diagonal polynomial is zero (SCOPE 2.71, 2.73, 2.115); it has as many rows as its rank
+  -- says, no more than there are unknowns and no more than there were equations (SCOPE 2.13).
+  pub diagonal-nonzero : Diagonal side (rank s) (z .m) (span z) s
+  unfolding rank
+  diagonal-nonzero = triangular side (a .valid) (a .accepts)
 
-  -- 4. An accepted system is not dependent (SCOPE 2.118).
-  pub accepted-independent : Dependent (z .l) rows → ⊥
-  accepted-independent d =
-      absurd (omega (arith, fewer-rows side (a .valid) (a .accepts) .1 d, accepted-rank side (a .valid) (a .accepts), a .valid .row-count))
+  pub rank-most : rank s ≤ z .m
+  rank-most = diagonal-most diagonal-nonzero
+
+  pub rank-few : rank s ≤ equations z
+  unfolding rank
+  rank-few = subst (λ n. current s ≤ n) (a .valid .row-count) (no-more-rows side (a .valid) (a .accepts))
+
+  -- 4. The rank is below the number of equations exactly if they are dependent (SCOPE 2.122).
+  pub rank-below : (rank s < equations z) ↔ Dependent (z .l) rows
+  unfolding rank
+  rank-below = subst (λ n. (current s < n) ↔ Dependent (z .l) rows) (a .valid .row-count) (fewer-rows side (a .valid) (a .accepts))
+
+  -- The rows kept are independent, and so are the equations where no row was dropped (SCOPE 2.118).
+  pub rows-independent : Dependent (z .l) (s .rows) → ⊥
+  rows-independent = kept-independent side (a .valid) (a .accepts)
+
+  pub undropped-independent : rank s ≡ equations z → Dependent (z .l) rows → ⊥
+  undropped-independent same d = absurd (omega (arith, rank-below .1 d))
 
   -- 6. An accepted run has made no more than D shifts for each equation (SCOPE 2.65).
   pub shifts-bounded : s .shifts ≤ equations z * span z
@@ -146,59 +194,66 @@ module _ {side : Side} {z : Sizes} {rows : List Row} {relations : List Relation}
   -- 7. The report is "no" exactly if no diagonal polynomial of the output vanishes at an integer; a reported root is
   -- the greatest of all, on the trailing side the least (SCOPE 2.81, 2.93).
   pub report-no : (report side (span z) s ≡ none) ↔ Rootless (diagonal side (span z) s)
-  report-no = report-none side (span z) s (nonzero-of-diagonal side (equations z) (z .m) (span z) s diagonal-nonzero)
+  report-no = report-none side (span z) s (nonzero-of-diagonal side (rank s) (z .m) (span z) s diagonal-nonzero)
 
   pub report-root : {r : ℤ} → report side (span z) s ≡ some r → FurthestRoot side (diagonal side (span z) s) r
-  report-root e = report-some side (span z) s (nonzero-of-diagonal side (equations z) (z .m) (span z) s diagonal-nonzero) e
+  report-root e = report-some side (span z) s (nonzero-of-diagonal side (rank s) (z .m) (span z) s diagonal-nonzero) e
 
   -- 8. Every coefficient and every n0 of the output lies within ±C, every degree is at most 15, unused positions stay
   -- zero (SCOPE 9.27).
-  pub output-valid : Valid z (s .rows) (s .relations)
-  output-valid = counted-valid (valid-output side (a .valid) (a .accepts)) (diagonal-nonzero .row-count)
+  pub output-valid : Valid (withEquations (rank s) z) (s .rows) (s .relations)
+  output-valid = counted-valid (valid-output side (a .valid) (a .accepts)) (diagonal-nonzero .row-count) rank-few
 
   -- The input's relations stay first (SCOPE 2.3). Behind them the relations that one multiplier adds stand together, by strictly
   -- ascending n0 as given back (SCOPE 2.33).
   pub relations-listed : (more : List Relation) × (s .relations ≡ relations ++ more) × Listed more
   relations-listed = listed-behind side (a .valid) (a .accepts)
 
--- 3. Leading side: where n lies above the reported root, or anywhere if the report is "no", sequences that satisfy the
--- system and are equal at the D indices from n + t to n + l - 1 are equal from n + t upward (SCOPE 2.116).
+-- 3. Where the rank is m, on the leading side: where n lies above the reported root, or anywhere if the report is "no", sequences
+-- that satisfy the system and are equal at the D indices from n + t to n + l - 1 are equal from n + t upward (SCOPE 2.116).
 pub agreement-leading : {z : Sizes} {rows : List Row} {relations : List Relation} {s : State} → Accepted leading z rows relations s
-    → (y w : Sequence) → Satisfies (z .l) rows relations y → Satisfies (z .l) rows relations w
+    → rank s ≡ z .m → (y w : Sequence) → Satisfies (z .l) rows relations y → Satisfies (z .l) rows relations w
     → (n : ℤ) → Past leading (report leading (span z) s) n
     → ((i : ℤ) → (n +ℤ z .t) ≤ℤ i → i <ℤ (n +ℤ z .l) → Same (z .m) y w i)
     → (i : ℤ) → (n +ℤ z .t) ≤ℤ i → Same (z .m) y w i
-unfolding Satisfies
-agreement-leading {z} {s = s} a y w hy hw =
+unfolding Satisfies rank
+agreement-leading {z} {s = s} a square y w hy hw =
     let b = settled-leading (a .valid) (a .accepts) in
-    let square : current s ≡ z .m = accepted-rank leading (a .valid) (a .accepts) ∙ as-many z in
     leading-agreement (z .m) (span z) s (settled-rows b square) square
     (nonzero-of-diagonal leading (current s) (z .m) (span z) s (settled-diagonal b))
     (z .l) (z .t) (span-sum z (a .valid .sizes)) y w (same-sequences a y .0 hy .0) (same-sequences a w .0 hw .0)
 
--- Trailing side: where n lies below the reported root, or anywhere with "no", such sequences that are equal at the D
+-- On the trailing side: where n lies below the reported root, or anywhere with "no", such sequences that are equal at the D
 -- indices from n + t + 1 to n + l are equal from n + l downward (SCOPE 2.117).
 pub agreement-trailing : {z : Sizes} {rows : List Row} {relations : List Relation} {s : State} → Accepted trailing z rows relations s
-    → (y w : Sequence) → Satisfies (z .l) rows relations y → Satisfies (z .l) rows relations w
+    → rank s ≡ z .m → (y w : Sequence) → Satisfies (z .l) rows relations y → Satisfies (z .l) rows relations w
     → (n : ℤ) → Past trailing (report trailing (span z) s) n
     → ((i : ℤ) → (n +ℤ z .t) <ℤ i → i ≤ℤ (n +ℤ z .l) → Same (z .m) y w i)
     → (i : ℤ) → i ≤ℤ (n +ℤ z .l) → Same (z .m) y w i
-unfolding mirrorState
-agreement-trailing {z} a y w hy hw n past =
+unfolding mirrorState rank
+agreement-trailing {z} a square y w hy hw n past =
     let m = settled-trailing (a .valid) (a .accepts) in
-    agrees-back (valid-rows (a .valid)) (m .settled)
-    (ap (λ x. current x) (m .back) ∙ accepted-rank trailing (a .valid) (a .accepts) ∙ as-many z) y w hy hw n
+    agrees-back (valid-rows (a .valid)) (m .settled) (ap (λ x. current x) (m .back) ∙ square) y w hy hw n
     (subst (λ x. Past trailing (report trailing (span z) x) n) (sym (m .back)) past)
 
--- 5. A system that is refused with 6 is dependent (SCOPE 2.119).
-pub refused-dependent : (side : Side) {z : Sizes} {rows : List Row} {relations : List Relation} → Valid z rows relations
-    → wholeRun side (span z) rows relations ≡ refused 6 → Dependent (z .l) rows
-unfolding wholeRun leadingRun start
-refused-dependent leading {z} {rows} {relations} v e =
-    run-dependent (z .l) leading (enough rows) (start rows relations) (valid-shapes (valid-rows v)) (triangular-start rows relations) e
-refused-dependent trailing v e = trailing-dependent (valid-rows v) e
+-- 4. A row is dropped only where a nonzero combination of shifted equations vanishes (SCOPE 2.119), in a run that is refused later too:
+-- where any number of its steps have left fewer rows than there were equations,
+pub dropped-dependent : (side : Side) {z : Sizes} {rows : List Row} {relations : List Relation} → Valid z rows relations
+    → {k : ℕ} {u : State} → Chain side (begun side (span z) rows relations) k u → length (u .rows) < length rows → Dependent (z .l) rows
+unfolding begun start
+dropped-dependent leading {z} {rows} {relations} v c =
+    chain-dropped (z .l) (valid-shapes (valid-rows v)) (triangular-start rows relations) c
+dropped-dependent trailing v c = dropped-mirrored (valid-rows v) c
 
--- A system that is refused with 10 is satisfied by no sequence at all (SCOPE 2.121).
+-- and where they lead to a zero row in its turn.
+pub zero-row-dependent : (side : Side) {z : Sizes} {rows : List Row} {relations : List Relation} → Valid z rows relations
+    → {k : ℕ} {u : State} → Chain side (begun side (span z) rows relations) k u → current u < length (u .rows)
+    → T (zeroRow (rowAt u (current u))) → Dependent (z .l) rows
+zero-row-dependent side {z} {rows} {relations} v {u = u} c more zeros =
+    dropped-dependent side v (next c (dropped more zeros))
+    (omega (arith, length-dropRow u (current u) more, chain-length c, begun-length side (span z) rows relations))
+
+-- 5. A system that is refused with 10 is satisfied by no sequence at all (SCOPE 2.121).
 pub refused-inconsistent : (side : Side) {z : Sizes} {rows : List Row} {relations : List Relation} → Valid z rows relations
     → wholeRun side (span z) rows relations ≡ refused 10 → (y : Sequence) → Satisfies (z .l) rows relations y → ⊥
 unfolding wholeRun leadingRun start
@@ -207,10 +262,9 @@ refused-inconsistent leading {z} {rows} {relations} v e y =
     (triangular-start rows relations) y e
 refused-inconsistent trailing v e y = trailing-inconsistent (valid-rows v) e y
 
--- 6. Every run on a valid system ends in an acceptance or in one of the refusals 6 to 10 (SCOPE 9.26).
+-- 6. Every run on a valid system ends in an acceptance or in one of the refusals 7 to 10 (SCOPE 9.26).
 pub data Ended : Outcome → Type 0 where
   accepted : (s : State) → Ended (done s)
-  six : Ended (refused 6)
   seven : Ended (refused 7)
   eight : Ended (refused 8)
   nine : Ended (refused 9)
@@ -223,11 +277,10 @@ refused-number side k s n e =
     number u (step-refused side u n more f)
   where
     number : (u : State) → Refusal side u n → Ended (refused n)
-    number u (inl h) = subst (λ k. Ended (refused k)) (sym (h .0)) six
-    number u (inr (inl h)) = subst (λ k. Ended (refused k)) (sym (h .0)) ten
-    number u (inr (inr (inl h))) = subst (λ k. Ended (refused k)) (sym h) seven
-    number u (inr (inr (inr (inl h)))) = subst (λ k. Ended (refused k)) (sym h) eight
-    number u (inr (inr (inr (inr h)))) = subst (λ k. Ended (refused k)) (sym h) nine
+    number u (inl h) = subst (λ k. Ended (refused k)) (sym (h .0)) ten
+    number u (inr (inl h)) = subst (λ k. Ended (refused k)) (sym h) seven
+    number u (inr (inr (inl h))) = subst (λ k. Ended (refused k)) (sym h) eight
+    number u (inr (inr (inr h))) = subst (λ k. Ended (refused k)) (sym h) nine
 
 whole-refused : (side : Side) (D : ℕ) (rows : List Row) (relations : List Relation) (n : ℕ) → wholeRun side D rows relations ≡ refused n
     → Ended (refused n)
@@ -254,10 +307,9 @@ pub next-row-later : {side : Side} (rows : List Row) (relations : List Relation)
 next-row-later {side} rows relations {s = s} c j below more clear meets =
     combined-advances s j (triangular-chain c (triangular-start rows relations)) below more clear meets side
 
--- The row that a combination has made zero is refused by the next step (SCOPE 2.45).
-pub zero-row-refused : (side : Side) (s : State) → current s < length (s .rows) → T (zeroRow (rowAt s (current s))) → step side s
-    ≡ refused 6
-zero-row-refused = zero-refused
+-- The row that a combination has made zero is dropped by the next step (SCOPE 2.11, 2.45).
+pub zero-row-dropped : (side : Side) (s : State) → T (zeroRow (rowAt s (current s))) → step side s ≡ going (dropRow s (current s))
+zero-row-dropped = zero-dropped
 
 -- ---- sequences with a first index, on the leading side
 

@@ -5,7 +5,6 @@
 --   stepped-dependent, chain-dependent   steps that drop no row keep dependence and independence
 --   stepped-dependent-back, chain-dependent-back   dependence goes back through any step
 --   chain-dropped, settled-dropped   a chain that drops a row began with dependent rows; and only then, if it settles all
---   refused-dependent, done-independent   a run that refuses with 6 began with dependent rows, one that is done did not
 use mathlib.Core.Path.{_≡_, sym, subst}
 use mathlib.Core.Logic.{_↔_, Iff·rfl, Iff·trans, inl, inr, by-cases}
 use mathlib.Core.Bool.{not}
@@ -19,14 +18,13 @@ use lib.IntN.{ℤ}
 use Rattle.algebra.specs.Polynomials.{isZero}
 use Rattle.rules.specs.Rows.{Row, zeroRow, leadingBlock, firstNonzero, shiftUp}
 use Rattle.lists.specs.Everywhere.{All}
-use Rattle.rules.specs.Elimination.{Side, State, done, refused, within, limitDegrees, limitCoefficients, rowAt, putRow, listRelations}
-use Rattle.rules.specs.Elimination.{settle, countShift, exchange, narrowFirst, run}
+use Rattle.rules.specs.Elimination.{Side, State, within, limitDegrees, limitCoefficients, rowAt, putRow, listRelations}
+use Rattle.rules.specs.Elimination.{settle, countShift, exchange, narrowFirst}
 use Rattle.rules.specs.Stores.{StoreRow}
 use Rattle.rules.specs.Sequences.{Dependent}
 use Rattle.theory.specs.Steps.{current, exchanged, multipliersFor, listed, combination, Stepped, combined, settled, shifted, dropped}
-use Rattle.theory.specs.Steps.{stepped-rows, stepped-length, chain-length, length-dropRow, run-rows}
+use Rattle.theory.specs.Steps.{stepped-rows, stepped-length, chain-length, length-dropRow}
 use Rattle.theory.specs.Steps.{Chain, here, next, Narrowed, kept, swapped, narrowed, length-narrowFirst, limitCoefficients-within}
-use Rattle.theory.specs.Steps.{step-refused-6, run-refused, run-done}
 use Rattle.theory.specs.Triangular.{Triangular, triangular-chain, multipliersFor-nonzero}
 use Rattle.theory.specs.LimitsKept.{StateShaped, chain-shapes}
 use Rattle.theory.specs.Solutions.{combined-value, shifted-zeros}
@@ -130,16 +128,3 @@ module _ (l : ℤ) where
       back d = by-cases (decLt (length (s' .rows)) (length (s .rows))) (λ fewer. fewer)
           (λ none. absurd (settled-independent s' (triangular-chain c t) all
           (chain-dependent shaped t c (omega (arith, chain-length c)) .0 d)))
-
-  module _ (side : Side) (k : ℕ) (s : State) (shaped : StateShaped s) (t : Triangular s) where
-    -- A system that is refused with 6 is dependent (SCOPE 2.119).
-    pub refused-dependent : run side k s ≡ refused 6 → Dependent l (s .rows)
-    refused-dependent e =
-        let (j, u, c, below, f) = run-refused side k s 6 e in
-        chain-dependent-back shaped t c (zero-current-dependent u below (step-refused-6 side u below f))
-
-    -- An accepted system is not dependent (SCOPE 2.118).
-    pub done-independent : (s' : State) → run side k s ≡ done s' → Dependent l (s .rows) → ⊥
-    done-independent s' e d =
-        let (j, c, all) = run-done side k s s' e in
-        settled-independent s' (triangular-chain c t) all (chain-dependent shaped t c (run-rows side k s s' e) .0 d)

@@ -25,11 +25,11 @@ use Rattle.rules.specs.Rows.{Row, Relation, noRow, zeroRow, width, leadingBlock
 use Rattle.lists.specs.Everywhere.{All, all-mono, map-all}
 use Rattle.rules.specs.Elimination.{Side, leading, trailing, State, start, Outcome, going, done, refused, within, limitDegrees}
 use Rattle.rules.specs.Elimination.{limitCoefficients, rowAt, putRow, listRelations, settle, countShift, exchange, narrowFirst, run, enough}
-use Rattle.rules.specs.Elimination.{leadingRun, mirrorState, mirrorOutcome, trailingRun, wholeRun}
+use Rattle.rules.specs.Elimination.{leadingRun, mirrorState, mirrorOutcome, trailingRun, wholeRun, dropRow}
 use Rattle.rules.specs.Stores.{Shaped, StoreRow}
 use Rattle.theory.specs.Shapes.{mirrorRow-shaped}
 use Rattle.theory.specs.Steps.{current, met, MetZeroBelow, exchanged, listed, combination, multipliersFor, Stepped, combined, settled}
-use Rattle.theory.specs.Steps.{dropped, dropRow, length-dropRow, combined-length, firstNonzero-none}
+use Rattle.theory.specs.Steps.{dropped, length-dropRow, combined-length, firstNonzero-none}
 use Rattle.theory.specs.Steps.{shifted, Chain, here, next, Narrowed, narrowed, kept, swapped, narrowFirst-width, length-narrowFirst}
 use Rattle.theory.specs.Steps.{shifts-narrowFirst, listed-order, run-going, run-done, going≢done, going≢refused}
 use Rattle.theory.specs.Steps.{done≢refused, done-injective, limitCoefficients-within}

@@ -30,9 +30,9 @@ use Rattle.lists.specs.Everywhere.{All, all-getD, all-set, all-of-set, all-memb
 use Rattle.lists.specs.Places.{all-swap, all-without, all-of-without}
 use Rattle.rules.specs.Rows.{Row, Relation, noRow, zeroBlock, zeroRow, leadingBlock, shiftUp}
 use Rattle.rules.specs.Stores.{unusedZero}
-use Rattle.rules.specs.Elimination.{Side, State, rowAt, putRow, listRelations, settle, countShift, exchange, rootRelations}
+use Rattle.rules.specs.Elimination.{Side, State, rowAt, putRow, listRelations, settle, countShift, exchange, rootRelations, dropRow}
 use Rattle.rules.specs.Sequences.{Sequence, valueOf, Same}
-use Rattle.theory.specs.Steps.{Stepped, combined, settled, shifted, dropped, dropRow, Chain, here, next, current, exchanged}
+use Rattle.theory.specs.Steps.{Stepped, combined, settled, shifted, dropped, Chain, here, next, current, exchanged}
 use Rattle.theory.specs.Steps.{multipliersFor, listed, length-narrowFirst, limitCoefficients-within, Narrowed, narrowed}
 use Rattle.theory.specs.Steps.{narrowFirst-keeps, kept, swapped}
 use Rattle.theory.specs.AddRelations.{rootRelations-iff, rootRelations-all}

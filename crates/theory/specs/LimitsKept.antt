@@ -13,7 +13,7 @@
 --   stepped-shapes, chain-shapes  steps keep the shapes
 --   rowRight-iff, relationRight-iff   what the checks of a row and of a relation test
 --   stepped-right                 a step keeps the numbers right
---   valid-rows, counted-valid     a system is valid exactly if its rows are and their number is right
+--   valid-rows, counted-valid     the rows of a valid system are valid; valid rows, no more than there were, are a valid system of so many
 --   stepped-valid, valid-kept     the output of a run is valid, as its input was
 use mathlib.Core.Path.{_≡_, refl, sym, _∙_, subst}
 use mathlib.Core.Logic.{_↔_}
@@ -34,10 +34,12 @@ use Rattle.rules.specs.Limits.{bound, coefficientCount, mostRelations, small, c
 use Rattle.rules.specs.Rows.{Row, Relation, noRow, coefficientsOf, leadingBlock, entry, smallRow, shiftUp}
 use Rattle.lists.specs.Everywhere.{All, all-getD-default, all-getD, all-set, append-all, all-flatten, all-append}
 use Rattle.rules.specs.Elimination.{Side, State, start, within, limitDegrees, limitCoefficients, rowAt, putRow, listRelations, settle}
-use Rattle.rules.specs.Elimination.{countShift, rootRelations, multipliersAt}
-use Rattle.rules.specs.Stores.{Sizes, equations, span, sizesRight, countRight, unusedZero, rowRight, relationRight, Valid, StoreRow}
+use Rattle.rules.specs.Elimination.{countShift, rootRelations, multipliersAt, dropRow}
+use Rattle.rules.specs.Stores.{Sizes, equations, withEquations, span, sizesRight, countRight, unusedZero, rowRight, relationRight, Valid}
+use Rattle.rules.specs.Stores.{StoreRow}
+use Rattle.rules.specs.Layout.{size-bounds, bounds-right}
 use Rattle.lists.specs.Places.{without, all-without}
-use Rattle.theory.specs.Steps.{Stepped, combined, settled, shifted, dropped, dropRow, Chain, chain-induction, current, exchanged}
+use Rattle.theory.specs.Steps.{Stepped, combined, settled, shifted, dropped, Chain, chain-induction, current, exchanged}
 use Rattle.theory.specs.Steps.{combination, multipliersFor, limitDegrees-within, limitCoefficients-within, relations-narrowFirst}
 use Rattle.theory.specs.Steps.{length-narrowFirst, met, order-narrowFirst, narrowFirst-all}
 use Rattle.theory.specs.Multipliers.{multipliers-small, length-multipliers-g, length-multipliers-h}
@@ -306,11 +308,21 @@ valid-rows v =
       relations-right = v .relations-right;
     }
 
-pub counted-valid : {z : Sizes} {rows : List Row} {relations : List Relation} → ValidRows z rows relations → length rows ≡ equations z
-    → Valid z rows relations
-counted-valid v e =
+pub counted-valid : {z : Sizes} {rows : List Row} {relations : List Relation} → ValidRows z rows relations → {n : ℕ} → length rows ≡ n
+    → n ≤ equations z → Valid (withEquations n z) rows relations
+unfolding withEquations equations span rowRight relationRight
+counted-valid {z} v {n} e few =
+    let f = size-bounds z (v .sizes) in
     record {
-      sizes = v .sizes;
+      sizes = bounds-right (withEquations n z) (record {
+        some = f .some;
+        few = f .few;
+        few-equations = le-trans few (f .few-equations);
+        low = f .low;
+        ordered = f .ordered;
+        high = f .high;
+        narrow = f .narrow;
+      });
       row-count = e;
       row-shapes = v .row-shapes;
       rows-right = v .rows-right;

@@ -20,10 +20,10 @@ use Rattle.algebra.specs.Order.{negℤ-<ℤ, <ℤ-prop}
 use Rattle.algebra.specs.Polynomials.{Polynomial, eval, isZero, mirror, eval-mirror}
 use Rattle.algebra.specs.Roots.{roots, roots-sound, roots-complete, roots-ascending}
 use Rattle.rules.specs.Rows.{Row, Relation, mirrorRow, mirrorRelation}
-use Rattle.rules.specs.Elimination.{Side, leading, trailing, State, listing, rootRelations, rowAt, putRow, settle, countShift}
+use Rattle.rules.specs.Elimination.{Side, leading, trailing, State, listing, rootRelations, rowAt, putRow, settle, countShift, dropRow}
 use Rattle.lists.specs.Joined.{flatten-append, flatten-map}
 use Rattle.lists.specs.Everywhere.{All, append-all, map-keeps, all-mono}
-use Rattle.theory.specs.Steps.{Stepped, combined, settled, shifted, dropped, dropRow, Chain, here, next, current, exchanged}
+use Rattle.theory.specs.Steps.{Stepped, combined, settled, shifted, dropped, Chain, here, next, current, exchanged}
 use Rattle.theory.specs.Steps.{multipliersFor, listed-relations}
 use Rattle.theory.specs.Triangular.{Triangular, triangular-chain, multipliersFor-nonzero}
 

@@ -38,7 +38,7 @@ use Rattle.lists.specs.Everywhere.{All, all-always, all-mono, all-both, all-tak
 use Rattle.lists.specs.Tests.{every, every-all}
 use Rattle.rules.specs.Rows.{mirrorRelation}
 use Rattle.rules.specs.Elimination.{leading, trailing, State, mirrorState, diagonalPlace, diagonal}
-use Rattle.rules.specs.Stores.{Sizes, span, sizesRight, countRight, unusedZero, rowRight, relationRight, Shaped, StoreRow}
+use Rattle.rules.specs.Stores.{Sizes, equations, span, sizesRight, countRight, unusedZero, rowRight, relationRight, Shaped, StoreRow}
 use Rattle.rules.specs.Layout.{SizeBounds, size-bounds, bounds-right}
 use Rattle.rules.specs.Sequences.{Sequence, blockValue, blocksValue, valueOf, SatisfiesEquation, SatisfiesRelation, Satisfies, shiftsWithin}
 use Rattle.rules.specs.Sequences.{Dependent}
@@ -337,9 +337,9 @@ mirror-satisfies-back D l t e z rows relations a b = Iff·symm (subst₂ Same (n
 
 -- ---- sizes
 
--- m unknowns, blocks from -l to -t (SCOPE 2.92).
+-- The same numbers of unknowns and equations, blocks from -l to -t (SCOPE 2.92).
 abbrev pub mirrorSizes : Sizes → Sizes
-mirrorSizes z = record { m = z .m; l = negℤ (z .t); t = negℤ (z .l) }
+mirrorSizes z = record { m = z .m; equations = z .equations; l = negℤ (z .t); t = negℤ (z .l) }
 
 -- D = l - t for the mirrored sizes too.
 mirror-difference : (l t : ℤ) → negℤ t -ℤ negℤ l ≡ l -ℤ t
@@ -361,6 +361,7 @@ pub span-bound : (z : Sizes) → T (sizesRight z) → span z ≤ 4
 span-bound z h = let f = size-bounds z h in pos-≤ℤ .0 (subst (λ x. x ≤ℤ pos 4) (sym (span-difference z f)) (f .narrow))
 
 pub mirror-sizes : (z : Sizes) → T (sizesRight z) → T (sizesRight (mirrorSizes z))
+unfolding equations
 mirror-sizes z h = bounds-right (mirrorSizes z) (turned (size-bounds z h))
   where
     turned : SizeBounds z → SizeBounds (mirrorSizes z)
@@ -368,6 +369,7 @@ mirror-sizes z h = bounds-right (mirrorSizes z) (turned (size-bounds z h))
         record {
           some = f .some;
           few = f .few;
+          few-equations = f .few-equations;
           low = negℤ-≤ℤ .0 (f .high);
           ordered = negℤ-≤ℤ .0 (f .ordered);
           high = negℤ-≤ℤ .0 (f .low);

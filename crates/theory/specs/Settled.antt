@@ -4,27 +4,27 @@
 --   Diagonal side e m D s    e rows, triangular in the column order; with m rows it holds every column
 --   Settled side z rows relations u   a run from the valid system rows, relations leads to u, all of whose rows are settled
 -- Main statements
---   as-many                as many equations as unknowns
---   settled-count          all rows of u are settled
+--   settled-count, settled-few   all rows of u are settled, and they are no more than the equations
 --   settled-leading        an accepted leading run leads to its final state
 --   settled-trailing       an accepted trailing run leads to the mirror of its final state, from the mirrored system
 --   settled-diagonal, mirrored-diagonal     the diagonal of u, and of its mirror
---   accepted-rank          an accepted run has settled as many rows as there were equations
+--   diagonal-most          no more rows than columns
 use Prim.Native.Nat.{ℕ, _≤_, _<_}
 use mathlib.Core.Path.{_≡_, refl, sym, _∙_, ap, subst}
 use mathlib.Core.Bool.{not}
-use mathlib.Core.List.{List, [], map}
+use mathlib.Core.List.{List, [], map, List·Memᴰ}
 use native.Mathlib.Nat.{le-antisymm}
 use lib.Dec.{T}
 use lib.ListN.{length, getD, length-map, List·getD-map}
-use Rattle.algebra.specs.Pigeonhole.{Distinct}
+use Rattle.algebra.specs.Pigeonhole.{Distinct, distinct-length}
 use Rattle.algebra.specs.Polynomials.{Polynomial, isZero, isZero-mirror}
 use Rattle.rules.specs.Rows.{Row, Relation, noRow, entry, leadingBlock, mapRow, mirrorRow, mirrorRelation}
 use Rattle.lists.specs.Everywhere.{All, all-getD}
+use Rattle.lists.specs.Places.{member-place}
 use Rattle.rules.specs.Elimination.{Side, leading, trailing, State, start, done, run, enough, wholeRun, leadingRun, trailingRun}
 use Rattle.rules.specs.Elimination.{mirrorState, diagonalPlace, rowAt}
-use Rattle.rules.specs.Stores.{Sizes, span, Valid, equations}
-use Rattle.theory.specs.Steps.{current, Chain, run-done, run-rows}
+use Rattle.rules.specs.Stores.{Sizes, span, Valid}
+use Rattle.theory.specs.Steps.{current, Chain, chain-length, run-done}
 use Rattle.theory.specs.Triangular.{Triangular, triangular-start, triangular-chain}
 use Rattle.theory.specs.Pivots.{order-distinct}
 use Rattle.theory.specs.LimitsKept.{ValidRows, valid-rows, valid-kept}
@@ -33,11 +33,6 @@ use Rattle.theory.specs.BackSubstitution.{TriangularRows}
 use Rattle.theory.specs.Agreement.{settled-column, every-column, triangular-rows}
 use Rattle.theory.specs.Report.{NonzeroDiagonal, nonzero-diagonal}
 use Rattle.theory.specs.Mirror.{mirrorSizes, Reaches, mirror-valid, mirror-lastEntry}
-
--- A system has as many equations as unknowns (SCOPE 1.1): where it matters, it is said here.
-pub as-many : (z : Sizes) → equations z ≡ z .m
-unfolding equations
-as-many z = refl
 
 -- The polynomial of row j at column c of the block that is made triangular: block l, or block t.
 abbrev pub pivotEntry : Side → ℕ → State → ℕ → ℕ → Polynomial
@@ -72,6 +67,10 @@ module _ {side : Side} {z : Sizes} {rows : List Row} {relations : List Relation}
   pub settled-count : current u ≡ length (u .rows)
   settled-count = le-antisymm (settled-triangular .fits) (a .all)
 
+  pub settled-few : current u ≤ length rows
+  unfolding start
+  settled-few = subst (λ n. n ≤ length rows) (sym settled-count) (chain-length (a .chain))
+
   pub settled-rows : current u ≡ z .m → TriangularRows (z .m) (span z) (u .rows) (u .order)
   settled-rows square = triangular-rows z u settled-valid settled-triangular settled-count (sym settled-count ∙ square)
 
@@ -91,6 +90,16 @@ module _ {side : Side} {z : Sizes} {rows : List Row} {relations : List Relation}
 -- Each diagonal polynomial is nonzero.
 pub nonzero-of-diagonal : (side : Side) (e m D : ℕ) (s : State) → Diagonal side e m D s → NonzeroDiagonal side D s
 nonzero-of-diagonal side e m D s d = nonzero-diagonal side D s (λ j h k. d .nonzero j (subst (λ n. j < n) (d .row-count) h))
+
+-- There are no more rows than columns.
+pub diagonal-most : {side : Side} {e m D : ℕ} {s : State} → Diagonal side e m D s → e ≤ m
+diagonal-most {e = e} {m} {s = s} d =
+    subst (λ n. n ≤ m) (d .order-count) (distinct-length m (s .order) (d .columns-different) below)
+  where
+    below : (c : ℕ) → List·Memᴰ c (s .order) → c < m
+    below c h =
+        let (j, inside, same) = member-place 0 h in
+        subst (λ k. k < m) same (d .column-below j (subst (λ n. j < n) (d .order-count) inside))
 
 -- ---- mirrored back
 
@@ -146,21 +155,3 @@ settled-trailing {z} {rows} {relations} {s} v e =
       settled = record { valid = mirror-valid z rows relations (valid-rows v); steps = k; chain = chain; all = all };
       back = same;
     }
-
--- A run refuses a zero row with 6 and drops none (SCOPE 2.11), so an accepted one has settled all of its rows.
-settled-all : (side : Side) (k : ℕ) (rows : List Row) (relations : List Relation) (u : State) → run side k (start rows relations) ≡ done u
-    → length (u .order) ≡ length rows
-unfolding start
-settled-all side k rows relations u e =
-    let (j, chain, all) = run-done side k (start rows relations) u e in
-    le-antisymm (triangular-chain chain (triangular-start rows relations) .fits) all ∙ run-rows side k (start rows relations) u e
-
-pub accepted-rank : (side : Side) {z : Sizes} {rows : List Row} {relations : List Relation} {s : State} → Valid z rows relations
-    → wholeRun side (span z) rows relations ≡ done s → length (s .order) ≡ equations z
-unfolding wholeRun leadingRun trailingRun mirrorState start
-accepted-rank leading {rows = rows} {relations} {s} v e = settled-all leading (enough rows) rows relations s e ∙ v .row-count
-accepted-rank trailing {z} {rows} {relations} {s} v e =
-    let (u, f, same) = mirrorOutcome-done (span z) (run trailing (enough rows) (mirrorState (span z) (start rows relations))) s e in
-    ap (λ x. length (x .order)) (sym same)
-    ∙ settled-all trailing (enough rows) (map (mirrorRow (span z)) rows) (map (mirrorRelation (span z)) relations) u f
-    ∙ length-map rows (mirrorRow (span z)) ∙ v .row-count

@@ -20,9 +20,9 @@ use Rattle.rules.specs.Stores.{StoreRow}
 use Rattle.rules.specs.Rows.{Row, Relation, zeroBlock, leadingBlock, firstNonzero, shiftUp}
 use Rattle.lists.specs.Everywhere.{All}
 use Rattle.rules.specs.Elimination.{Side, State, start, within, limitDegrees, limitCoefficients, rowAt, putRow, listRelations, settle}
-use Rattle.rules.specs.Elimination.{countShift, exchange}
+use Rattle.rules.specs.Elimination.{countShift, exchange, dropRow}
 use Rattle.rules.specs.Sequences.{Sequence, Satisfies}
-use Rattle.theory.specs.Steps.{Stepped, combined, settled, shifted, dropped, dropRow, Chain, here, next, current, exchanged}
+use Rattle.theory.specs.Steps.{Stepped, combined, settled, shifted, dropped, Chain, here, next, current, exchanged}
 use Rattle.theory.specs.Steps.{multipliersFor, combination, listed, length-narrowFirst, limitCoefficients-within, firstNonzero-none}
 use Rattle.theory.specs.Steps.{limitDegrees-within, Narrowed, narrowed, kept, swapped}
 use Rattle.theory.specs.Cells.{zeroBlock-all}

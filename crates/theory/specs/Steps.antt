@@ -1,7 +1,6 @@
 -- What one step of the elimination does, and chains of steps.
 --
 -- Main definitions
---   dropRow s i            s without its row i
 --   Stepped side s s'      s' is the state after one step from s: a combination, a settling, a shift, the drop of a zero row
 --   Chain side s k s'      k steps lead from s to s'
 --   Narrowed s i j e       e is the state after the exchange of rule 2, if there is one
@@ -17,10 +16,10 @@
 --   stepped-rows, stepped-length, stepped-relations   a step keeps the number of rows, or drops a zero row; it keeps the
 --                                                listed relations
 --   left                                         `finished` tells whether a row is left
---   step-view, step-refused, step-refused-6      what a step's outcome says where a row is left
+--   step-view, step-refused, step-refused-10     what a step's outcome says where a row is left
+--   zero-dropped                                 a step drops a zero row
 --   chain-induction                              what every step keeps, a chain keeps
 --   run-view, run-going, run-done, run-refused   a run is a chain of steps
---   zero-refused, run-rows                   a step of a run drops no row: a zero row is refused with 6
 use Prim.Native.Nat.{ℕ, zero, suc, _≤_, _<_}
 use mathlib.Core.Path.{_≡_, refl, sym, _∙_, ap, subst, ap₂}
 use mathlib.Core.Logic.{_↔_, _⊎_, inl, inr}
@@ -38,11 +37,12 @@ use Rattle.rules.specs.Limits.{mostRelations}
 use Rattle.rules.specs.Rows.{Row, Relation, noRow, zeroLeft, zeroRow, contradicts, width, entry, leadingBlock, firstNonzero, combine, primitive, lowDegrees}
 use Rattle.lists.specs.Everywhere.{All}
 use Rattle.rules.specs.Rows.{cut, smallRow, shiftUp}
-use Rattle.lists.specs.Places.{all-swap, getD-swap-left, getD-swap-right, length-swap, without, length-without}
+use Rattle.lists.specs.Places.{all-swap, getD-swap-left, getD-swap-right, length-swap, length-without}
 use Rattle.lists.specs.Tests.{cond-passed}
 use Rattle.lists.specs.Images.{getD-map}
 use Rattle.rules.specs.Elimination.{Side, Multipliers, State, Outcome, going, done, refused, Limited, within, beyond, limitCoefficients}
-use Rattle.rules.specs.Elimination.{limitDegrees, consistent, rowAt, putRow, putLimited, listRelations, settle, countShift, exchange, rootRelations}
+use Rattle.rules.specs.Elimination.{limitDegrees, consistent, rowAt, putRow, putLimited, listRelations, settle, countShift, exchange}
+use Rattle.rules.specs.Elimination.{rootRelations, dropRow}
 use Rattle.rules.specs.Elimination.{multipliersAt, narrowFirst, combineStep, eliminateStep, shiftStep, settleOrShift, meet, workOn, step}
 use Rattle.rules.specs.Elimination.{finished, andThen, run}
 
@@ -75,12 +75,7 @@ abbrev pub combination : State → ℕ → Row
 combination s j =
     primitive (combine (multipliersFor s j .g) (multipliersFor s j .h) (rowAt (exchanged s j) (current s)) (rowAt (exchanged s j) j))
 
--- The row at place i is left out and the later rows move up; all else stays.
-unfoldable pub dropRow : State → ℕ → State
-unfolding without
-dropRow s i = record { rows = without (s .rows) i; relations = s .relations; order = s .order; shifts = s .shifts }
-
--- One step that goes on. A run takes no step of the last kind, since it refuses a zero row: `run-rows`.
+-- One step that goes on.
 pub data Stepped (side : Side) (s : State) : State → Type 0 where
   combined : (j : ℕ) → j < current s → current s < length (s .rows) → T (not (zeroLeft (rowAt s (current s)))) → MetZeroBelow s j
       → T (not (isZero (met s j))) → length (listed side s j .relations) ≤ mostRelations → (r : Row) → limitDegrees (combination s j)
@@ -314,7 +309,6 @@ pub data Inconsistent (side : Side) (s : State) : Type 0 where
 
 -- The outcome of one step from s.
 pub data StepView (side : Side) (s : State) : Outcome → Type 0 where
-  zero-row : current s < length (s .rows) → T (zeroRow (rowAt s (current s))) → StepView side s (refused 6)
   over-limit : (n : ℕ) → current s < length (s .rows) → T (not (zeroLeft (rowAt s (current s))))
       → (n ≡ 7) ⊎ (n ≡ 8) ⊎ (n ≡ 9) → StepView side s (refused n)
   inconsistent : current s < length (s .rows) → Inconsistent side s → StepView side s (refused 10)
@@ -448,8 +442,8 @@ step-view side s more = go (zeroLeft row) refl (isZero (row .right)) refl
     rest = meet side s (current s) (firstNonzero (map (entry row) (s .order)))
 
     go : (z : Bool) → zeroLeft row ≡ z → (q : Bool) → isZero (row .right) ≡ q
-        → StepView side s (cond (zeroRow row) (refused 6) (cond (contradicts row) (refused 10) rest))
-    go true z true q = rw (zero-parts row z q) (zero-row more (rw (zero-parts row z q) tt))
+        → StepView side s (cond (zeroRow row) (going (dropRow s (current s))) (cond (contradicts row) (refused 10) rest))
+    go true z true q = rw (zero-parts row z q) (goes-on (dropped more (rw (zero-parts row z q) tt)))
     go true z false q = rw (zero-parts row z q, contradict-parts row z q)
         (inconsistent more (at-once (rw (contradict-parts row z q) tt)))
     go false z q e = rw (zero-parts row z e, contradict-parts row z e)
@@ -475,40 +469,31 @@ going≢refused e = let z : _≡_ {A = ℕ} 0 1 = cc in omega arith
 pub done≢refused : {s : State} {n : ℕ} → done s ≡ refused n → ⊥
 done≢refused e = let z : _≡_ {A = ℕ} 0 1 = cc in omega arith
 
--- The refusals of a run (SCOPE 6.6 to 6.9, 6.10).
+-- The refusals of a run (SCOPE 6.7 to 6.10).
 abbrev pub Refusal : Side → State → ℕ → Type 0
-Refusal side s n =
-    ((n ≡ 6) × T (zeroRow (rowAt s (current s)))) ⊎ ((n ≡ 10) × Inconsistent side s) ⊎ ((n ≡ 7) ⊎ (n ≡ 8) ⊎ (n ≡ 9))
+Refusal side s n = ((n ≡ 10) × Inconsistent side s) ⊎ ((n ≡ 7) ⊎ (n ≡ 8) ⊎ (n ≡ 9))
 
 view-refused : {side : Side} {s : State} {o : Outcome} {n : ℕ} → StepView side s o → o ≡ refused n → Refusal side s n
-view-refused (zero-row h z) e = inl (sym (refused-injective e), z)
-view-refused (inconsistent h z) e = inr (inl (sym (refused-injective e), z))
-view-refused {n} (over-limit k h z c) e = inr (inr (rw (refused-injective e) at c))
+view-refused (inconsistent h z) e = inl (sym (refused-injective e), z)
+view-refused {n} (over-limit k h z c) e = inr (rw (refused-injective e) at c)
 view-refused (goes-on p) e = absurd (going≢refused e)
 
 pub step-refused : (side : Side) (s : State) (n : ℕ) → current s < length (s .rows) → step side s ≡ refused n → Refusal side s n
 step-refused side s n more = view-refused (step-view side s more)
 
-pub step-refused-6 : (side : Side) (s : State) → current s < length (s .rows) → step side s ≡ refused 6
-    → T (zeroRow (rowAt s (current s)))
-step-refused-6 side s more e = the-zero (step-refused side s 6 more e)
-  where
-    the-zero : Refusal side s 6 → T (zeroRow (rowAt s (current s)))
-    the-zero (inl h) = h .1
-    the-zero (inr (inl h)) = absurd (omega (arith, h .0))
-    the-zero (inr (inr (inl e))) = absurd (omega arith)
-    the-zero (inr (inr (inr (inl e)))) = absurd (omega arith)
-    the-zero (inr (inr (inr (inr e)))) = absurd (omega arith)
-
 pub step-refused-10 : (side : Side) (s : State) → current s < length (s .rows) → step side s ≡ refused 10 → Inconsistent side s
 step-refused-10 side s more e = the-row (step-refused side s 10 more e)
   where
     the-row : Refusal side s 10 → Inconsistent side s
-    the-row (inl h) = absurd (omega (arith, h .0))
-    the-row (inr (inl h)) = h .1
+    the-row (inl h) = h .1
+    the-row (inr (inl e)) = absurd (omega arith)
     the-row (inr (inr (inl e))) = absurd (omega arith)
-    the-row (inr (inr (inr (inl e)))) = absurd (omega arith)
-    the-row (inr (inr (inr (inr e)))) = absurd (omega arith)
+    the-row (inr (inr (inr e))) = absurd (omega arith)
+
+-- The row that a combination has made zero is dropped by the next step (SCOPE 2.45).
+pub zero-dropped : (side : Side) (s : State) → T (zeroRow (rowAt s (current s))) → step side s ≡ going (dropRow s (current s))
+unfolding step workOn
+zero-dropped side s zeros = cond-passed (zeroRow (rowAt s (current s))) (going (dropRow s (current s))) _ zeros
 
 -- ---- chains and runs
 
@@ -545,7 +530,6 @@ run-view side (suc k) s = go (left s) (run-view side k)
   where
     stepped : (o : Outcome) → step side s ≡ o → current s < length (s .rows) → StepView side s o
         → ((u : State) → RunView side u k (run side k u)) → RunView side s (suc k) (andThen o (run side k))
-    stepped o e h (zero-row i z) rec = step-stopped here h e
     stepped o e h (over-limit n i z c) rec = step-stopped here h e
     stepped o e h (inconsistent i z) rec = step-stopped here h e
     stepped o e h (goes-on {s' = u} p) rec = view-before p (rec u)
@@ -582,39 +566,3 @@ run-refused side k s n = go (run-view side k s)
     go (all-taken c h) e = absurd (going≢refused e)
     go (came-to-end c h) e = absurd (done≢refused e)
     go (step-stopped {j} {u = u} c h f) e = (j, u, c, h, f ∙ e)
-
--- ---- no row is dropped by a run
-
--- The row that a combination has made zero is refused by the next step (SCOPE 2.45).
-pub zero-refused : (side : Side) (s : State) → current s < length (s .rows) → T (zeroRow (rowAt s (current s))) → step side s
-    ≡ refused 6
-unfolding step workOn
-zero-refused side s below zeros =
-    cond-passed (zeroRow (rowAt s (current s))) (refused 6) _ zeros
-
-step-rows : {side : Side} {s s' : State} → step side s ≡ going s' → Stepped side s s' → length (s' .rows) ≡ length (s .rows)
-step-rows {side} {s} e t = elim (stepped-rows t)
-    [ inl same ↦ same | inr h ↦ absurd (going≢refused (sym e ∙ zero-refused side s (h .0) (h .1))) ]
-
--- A run that is done has as many rows as it began with (SCOPE 2.11).
-pub run-rows : (side : Side) (k : ℕ) (s s' : State) → run side k s ≡ done s' → length (s' .rows) ≡ length (s .rows)
-unfolding run
-run-rows side zero s s' = go (left s)
-  where
-    go : {t : Bool} → Left s t → cond t (done s) (going s) ≡ done s' → length (s' .rows) ≡ length (s .rows)
-    go (none-left h) e = ap (λ u. length (u .rows)) (sym (done-injective e))
-    go (row-left h) e = absurd (going≢done e)
-run-rows side (suc k) s s' = go (left s) (run-rows side k)
-  where
-    stepped : (o : Outcome) → step side s ≡ o → StepView side s o
-        → ((u u' : State) → run side k u ≡ done u' → length (u' .rows) ≡ length (u .rows))
-        → andThen o (run side k) ≡ done s' → length (s' .rows) ≡ length (s .rows)
-    stepped o e (zero-row i z) rec f = absurd (done≢refused (sym f))
-    stepped o e (over-limit n i z c) rec f = absurd (done≢refused (sym f))
-    stepped o e (inconsistent i z) rec f = absurd (done≢refused (sym f))
-    stepped o e (goes-on {s' = u} p) rec f = rec u s' f ∙ step-rows e p
-
-    go : {t : Bool} → Left s t → ((u u' : State) → run side k u ≡ done u' → length (u' .rows) ≡ length (u .rows))
-        → cond t (done s) (andThen (step side s) (run side k)) ≡ done s' → length (s' .rows) ≡ length (s .rows)
-    go (none-left h) rec e = ap (λ u. length (u .rows)) (sym (done-injective e))
-    go (row-left h) rec e = stepped (step side s) refl (step-view side s h) rec e

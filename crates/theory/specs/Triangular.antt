@@ -23,7 +23,7 @@ use lib.ListN.{length, getD, length-append}
 use Rattle.algebra.specs.Polynomials.{isZero, eval}
 use Rattle.rules.specs.Rows.{Row, Relation, entry, leadingBlock, firstNonzero, combine}
 use Rattle.rules.specs.Elimination.{Side, multipliers, multipliersAt, limitDegrees, within, State, start, rowAt, putRow, settle, countShift}
-use Rattle.rules.specs.Elimination.{listRelations, exchange}
+use Rattle.rules.specs.Elimination.{listRelations, exchange, dropRow}
 use Rattle.theory.specs.Multipliers.{multipliers-cancel, multipliers-nonzero}
 use Rattle.theory.specs.Pivots.{PivotRow, PivotRows, settle-pivots}
 use Rattle.theory.specs.Replace.{replace-pivots}
@@ -32,7 +32,7 @@ use Rattle.theory.specs.Combine.{combinedRow-zero, combine-clears}
 use Rattle.theory.specs.DropZero.{drop-pivots}
 use Rattle.theory.specs.Cells.{ZeroWhere}
 use Rattle.theory.specs.Steps.{Narrowed, narrowed, kept, swapped, current, met, MetZeroBelow, exchanged, listed, combination}
-use Rattle.theory.specs.Steps.{multipliersFor, Stepped, combined, settled, shifted, dropped, dropRow, Chain, chain-induction}
+use Rattle.theory.specs.Steps.{multipliersFor, Stepped, combined, settled, shifted, dropped, Chain, chain-induction}
 use Rattle.theory.specs.Steps.{order-narrowFirst, limitDegrees-within, combined-length, listed-order, listed-rows, length-putRow}
 use Rattle.theory.specs.Steps.{length-dropRow, rowAt-putRow-same}
 use Rattle.theory.specs.Steps.{narrowFirst-both, firstNonzero-some}

@@ -8,27 +8,28 @@
 --   checkWrite-order, checkWrite-iff   the checks are those of every call on stores, and that of the order argument
 --   checkWrite-sizes  wrong sizes
 --   checked           what holds where the checks give no refusal
+--   given-first, given-few   the columns that are given come first in the order argument
 --   sheet-given       the sheet that is written is the definition's
 --   call-refused, call-checked, written-short, written-whole   the cases of a call
 use mathlib.Core.Path.{_≡_, refl, sym, _∙_, ap}
 use mathlib.Core.Bool.{Bool, true, false, _&&_, cond}
 use mathlib.Core.Logic.{_↔_, _≢_}
-use mathlib.Core.List.{List, [], _++_}
+use mathlib.Core.List.{List, [], _∷_, _++_}
 use Prim.Native.Nat.{ℕ, zero, suc, _*_, _≤_, _<_}
 use native.Mathlib.Nat.{zero-add}
 use native.Mathlib.Omega.{arith}
 use borrow.Author.Tests.{le-leb, lt-leb}
-use lib.Dec.{T, eqb}
+use lib.Dec.{T}
 use lib.IntN.{ℤ, pos, natAbs}
 use lib.ListN.{length, take, drop, getD, length-take, length-drop}
 use lib.Seq.{sets, sets-eq, drop-cons}
 use Rattle.algebra.specs.Order.{≤ℤ-trans, natAbs-≤-iff}
 use Rattle.lists.specs.Tests.{T-&&, cond-zero-iff, every}
-use Rattle.rules.specs.Limits.{rowLength, relationLength, small, columnCount, mostEquations, mostRelations, blockBound}
+use Rattle.rules.specs.Limits.{rowLength, relationLength, small, mostEquations, mostRelations, blockBound}
 use Rattle.rules.specs.Rows.{smallRow}
 use Rattle.rules.specs.Stores.{Sizes, span, rowOf, rowsOf, relationOf, relationsOf, relationNeed, rowNeed, equations}
 use Rattle.rules.specs.Stores.{sizesRight, countRight, unusedZero, rowRight, relationRight, checkStores}
-use Rattle.rules.specs.Layout.{StoresRight, NumbersRight, SizeBounds, checkStores-zero, numbersRight-iff, size-bounds, equations-few}
+use Rattle.rules.specs.Layout.{StoresRight, NumbersRight, SizeBounds, checkStores-zero, numbersRight-iff, size-bounds}
 use Rattle.rules.specs.Layout.{countRight-iff, lengthsRight-iff, coefficientsOf-rowOf-all}
 use Rattle.lists.specs.Overwritten.{overwrite}
 use Rattle.rules.specs.Sheets.{writeSheet}
@@ -47,7 +48,6 @@ order-first false false n = refl
 
 -- What the checks tell the writer.
 pub record Checked (z : Sizes) (count : ℕ) (rowStore relationStore : List ℤ) : Type 0 where
-  pub columns : z .m ≤ columnCount
   pub few-rows : equations z ≤ mostEquations
   pub rows : equations z * rowLength ≤ length rowStore
   pub blocks : natAbs (z .l) ≤ blockBound
@@ -102,8 +102,7 @@ module _ (z : Sizes) (count : ℕ) (order : List ℕ) (rowStore relationStore : 
   unfolding rowNeed rowsOf relationsOf
   checked e =
       record {
-        columns = sizes .few;
-        few-rows = equations-few z sizes;
+        few-rows = sizes .few-equations;
         rows = long .0;
         blocks = natAbs-≤-iff (z .l) .1 (≤ℤ-trans (sizes .low) (sizes .ordered), sizes .high);
         few = countRight-iff count .0 (right .few);
@@ -140,21 +139,25 @@ module _ (z : Sizes) (count : ℕ) (order : List ℕ) (rowStore relationStore : 
 abbrev pub callOf : declared.WriteResult → List ℕ → WriteCall
 callOf r bytes = record { refusal = r .refusal; length = r .length; byteStore = bytes }
 
--- The first n columns of the order are written: none, or m.
-pub sheet-given : (z : Sizes) (count : ℕ) (order : List ℕ) (rowStore relationStore : List ℤ) (n : ℕ)
-    → n ≡ cond (every (eqb 0) order) 0 (z .m)
-    → writeSheet (sheetGiven z count (take n order) rowStore relationStore) ≡ writeSheet (sheetOf z count order rowStore relationStore)
-unfolding sheetOf sheetGiven orderGiven
-sheet-given z count order rowStore relationStore n e =
-    ap (λ columns. writeSheet (sheetGiven z count columns rowStore relationStore)) (ap (λ k. take k order) e ∙ cases (every (eqb 0) order))
-  where
-    cases : (t : Bool) → take (cond t 0 (z .m)) order ≡ cond t [] (take (z .m) order)
-    cases true = refl
-    cases false = refl
+-- The columns that are given come first in the order argument.
+pub given-first : (order : List ℕ) → take (length (orderGiven order)) order ≡ orderGiven order
+unfolding orderGiven
+given-first [] = refl
+given-first (zero ∷ order) = refl
+given-first (suc c ∷ order) = ap (λ l. suc c ∷ l) (given-first order)
 
-pub given-few : (t : Bool) {m : ℕ} → m ≤ 4 → cond t 0 m ≤ 4
-given-few true h = omega arith
-given-few false h = h
+pub given-few : (order : List ℕ) → length (orderGiven order) ≤ length order
+unfolding orderGiven
+given-few [] = omega arith
+given-few (zero ∷ order) = omega arith
+given-few (suc c ∷ order) = omega (arith, given-few order)
+
+-- They are written, n of them.
+pub sheet-given : (z : Sizes) (count : ℕ) (order : List ℕ) (rowStore relationStore : List ℤ) (n : ℕ) → n ≡ length (orderGiven order)
+    → writeSheet (sheetGiven z count (take n order) rowStore relationStore) ≡ writeSheet (sheetOf z count order rowStore relationStore)
+unfolding sheetOf sheetGiven
+sheet-given z count order rowStore relationStore n e =
+    ap (λ columns. writeSheet (sheetGiven z count columns rowStore relationStore)) (ap (λ k. take k order) e ∙ given-first order)
 
 pub call-refused : (z : Sizes) (count : ℕ) (order : List ℕ) (rowStore relationStore : List ℤ) (byteStore : List ℕ) (n : ℕ)
     → n ≡ checkWrite z count order rowStore relationStore → n ≢ 0

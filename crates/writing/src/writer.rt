@@ -457,15 +457,15 @@ fn put_sheet(
         (sheetBytes (equations (sizesOf sizes)) count)
         (now (bytes .exit)) r ⌝ }
 {
-    let m = sizes.m;
+    let equations = sizes.equations;
     let l = sizes.l;
-    let after_sizes = put_sizes(bytes, 0, m, l, sizes.t);
-    let after_m = put_count(bytes, after_sizes, m);
-    let after_rows = put_equations(bytes, after_m, rows, m, l);
+    let after_sizes = put_sizes(bytes, 0, sizes.m, l, sizes.t);
+    let after_number = put_count(bytes, after_sizes, equations);
+    let after_rows = put_equations(bytes, after_number, rows, equations, l);
     let after_count = put_count(bytes, after_rows, count);
     let after_relations = put_relations(bytes, after_count, relations, count, l);
     let after_order = put_order(bytes, after_relations, columns);
-    put_fifth(bytes, after_order, rows, m, relations, count)
+    put_fifth(bytes, after_order, rows, equations, relations, count)
 }
 
 // The refusal and the length of the sheet, 0 on a refusal (SCOPE 4.51, 6.31).
@@ -490,10 +490,10 @@ pub fn write_checked(
         callOf r (now (bytes .exit))
         ≡ writeCall (sizesOf sizes) count order (now (rows .entry)) (now (relations .entry)) (now (bytes .entry)) ⌝ }
 {
-    let m = sizes.m;
-    let n = checks::order_length(order, m);
+    let equations = sizes.equations;
+    let n = checks::order_length(order);
     let all = &order[..];
-    let longest = LINES_BYTES + m * EQUATION_BYTES + count * RELATION_BYTES;
+    let longest = LINES_BYTES + equations * EQUATION_BYTES + count * RELATION_BYTES;
     if longest <= bytes.len() {
         let length = put_sheet(bytes, rows, relations, sizes, count, &all[..n]);
         return WriteResult { refusal: 0, length };
@@ -509,8 +509,8 @@ pub fn write_checked(
     WriteResult { refusal: 0, length }
 }
 
-// The system of the stores and its column order as a sheet: all four numbers of the order 0 for none, otherwise a
-// permutation of 1..m and zeros past its end (SCOPE 4.53). Nothing is written on a refusal (SCOPE 4.54), and bytes past
+// The system of the stores and its column order as a sheet: the order's four numbers are different columns of 1..m and zeros
+// past them, all four 0 for none (SCOPE 4.53). Nothing is written on a refusal (SCOPE 4.54), and bytes past
 // the length stay (SCOPE 4.51).
 pub fn write_sheet(
     rows: &[i64],

@@ -8,8 +8,8 @@ use crate::subject::Subject;
 use crate::systems::system;
 use outside::elimination::Side;
 use outside::stores::{row_store, store, Asked, COEFFICIENTS, ENTRIES, RELATION, RELATION_STORE, RESULT, ROW};
-use outside::system::System;
-use outside::C;
+use outside::system::{Sizes, System};
+use outside::{C, EQUATIONS};
 
 /// The lent stores of a call.
 #[derive(Clone, PartialEq, Eq)]
@@ -111,7 +111,7 @@ fn read_case(random: &mut Random) -> Case {
 /// Stores for what a reader finds: junk in them, and of every fourth call one that may be too short.
 fn stores_to_fill(random: &mut Random) -> Stores {
     let mut stores =
-        Stores { rows: vec![0; row_store(4)], relations: vec![0; RELATION_STORE], result: vec![0; RESULT] };
+        Stores { rows: vec![0; row_store(EQUATIONS)], relations: vec![0; RELATION_STORE], result: vec![0; RESULT] };
     for store in [&mut stores.rows, &mut stores.relations, &mut stores.result] {
         store.fill_with(|| random.junk());
     }
@@ -120,7 +120,7 @@ fn stores_to_fill(random: &mut Random) -> Stores {
         shorten(random, &mut stores);
     }
     if random.one_in(8) {
-        stores.rows.truncate(ROW * random.below(5));
+        stores.rows.truncate(ROW * random.below(EQUATIONS + 1));
     }
     stores
 }
@@ -147,7 +147,9 @@ fn write_case(random: &mut Random) -> Case {
     let mut order = vec![0; 4];
     if random.one_in(2) {
         let columns = random.permutation(system.sizes.m);
-        columns.iter().zip(&mut order).for_each(|(&column, place)| *place = column as i64);
+        let some = random.below(columns.len() + 1);
+        let count = random.pick(&[columns.len(), some]);
+        columns[..count].iter().zip(&mut order).for_each(|(&column, place)| *place = column as i64);
     }
     if random.one_in(6) {
         let at = random.below(4);
@@ -180,13 +182,14 @@ fn written_order(order: &[i64]) -> Vec<usize> {
 }
 
 fn asked_of(system: &System) -> Asked {
-    Asked { m: system.sizes.m, l: system.sizes.l, t: system.sizes.t, count: system.relations.len() }
+    let (Sizes { m, l, t }, equations) = (system.sizes, system.rows.len());
+    Asked { m, equations, l, t, count: system.relations.len() }
 }
 
 /// The system in stores, of the needed length or longer, with junk past the needed part and in the result.
 fn lent(random: &mut Random, system: &System, result: usize) -> Stores {
     let mut stores = Stores {
-        rows: vec![0; row_store(system.sizes.m)],
+        rows: vec![0; row_store(system.rows.len())],
         relations: vec![0; RELATION_STORE],
         result: (0..result).map(|_| random.junk()).collect(),
     };
@@ -227,8 +230,9 @@ fn damage(random: &mut Random, stores: &mut Stores, asked: &mut Asked) {
 
 fn damage_sizes(random: &mut Random, asked: &mut Asked) {
     let far = random.pick(&[i64::MIN, i64::MAX, 65, -65, 66, -69, asked.l, asked.t, 0]);
-    match random.below(5) {
+    match random.below(6) {
         0 => asked.m = random.pick(&[0, 1, 2, 3, 4, 5, usize::MAX, 1 << 61]),
+        5 => asked.equations = random.pick(&[0, 1, 2, 3, 4, 5, 6, 7, 7, usize::MAX, 1 << 61]),
         1 => asked.l = far,
         2 => asked.t = far,
         3 => {
@@ -251,7 +255,7 @@ fn damage_number(random: &mut Random, stores: &mut Stores, asked: Asked) {
         0 => asked.count.min(15) * RELATION,
         1 => random.below(40) * COEFFICIENTS,
         // In a right side.
-        2 => record * random.below(4) + (record - ROW) + ENTRIES + random.below(COEFFICIENTS),
+        2 => record * random.below(EQUATIONS) + (record - ROW) + ENTRIES + random.below(COEFFICIENTS),
         _ => random.below(store.len()),
     };
     let last = store.len() - 1;
@@ -366,7 +370,8 @@ fn then_written(subject: &dyn Subject, read: Answer, room: usize) -> Vec<Answer>
         return vec![read];
     }
     let result = &read.stores.result;
-    let asked = Asked { m: result[0] as usize, l: result[1], t: result[2], count: result[3] as usize };
-    let written = written(subject, &read.stores, asked, &result[4..RESULT], vec![b'#'; room]);
+    let [m, l, t, count, equations] = [0, 1, 2, 3, 8].map(|place| result[place]);
+    let asked = Asked { m: m as usize, equations: equations as usize, l, t, count: count as usize };
+    let written = written(subject, &read.stores, asked, &result[4..8], vec![b'#'; room]);
     vec![read, written]
 }

@@ -3,7 +3,7 @@
 use crate::random::Random;
 use crate::sheets::{cut, damaged_byte, damaged_line, damaged_token, Draft};
 use outside::differential::{FACTOR, HIGHEST};
-use outside::C;
+use outside::{C, EQUATIONS};
 
 /// The bytes of a differential sheet: of a third whole, of the others with one to three damages.
 pub fn differential(random: &mut Random) -> Vec<u8> {
@@ -23,8 +23,9 @@ pub fn whole_differential(random: &mut Random) -> Vec<u8> {
     let (order, degree) = (random.between(0, HIGHEST), random.between(0, HIGHEST));
     // Of all places one in so many has a term.
     let thin = random.pick(&[1, 1, 2, 3, 8]);
-    let mut text = format!("3 {m} {order} {degree}\n{m}\n");
-    for _ in 0..m {
+    let equations = random.below(EQUATIONS + 1);
+    let mut text = format!("3 {m} {order} {degree}\n{equations}\n");
+    for _ in 0..equations {
         let mut terms = Vec::new();
         for k in (0..=order).rev() {
             for (j, c) in (0..=degree).flat_map(|j| (1..=m).map(move |c| (j, c))) {
@@ -38,11 +39,12 @@ pub fn whole_differential(random: &mut Random) -> Vec<u8> {
     text.into_bytes()
 }
 
-/// A sheet of the most bytes: four equations with a term at every place, each factor of the most digits.
+/// A sheet of the most bytes: six equations with a term at every place, each factor of the most digits.
 pub fn longest_differential() -> Vec<u8> {
     let places = || (0..=HIGHEST).rev().flat_map(|k| (0..=HIGHEST).flat_map(move |j| (1..=4).map(move |c| (k, j, c))));
     let terms: String = places().map(|(k, j, c)| format!(" {k} {j} {c} -{FACTOR}")).collect();
-    format!("3 4 {HIGHEST} {HIGHEST}\n4\n{}", format!("{}{terms}\n", places().count()).repeat(4)).into_bytes()
+    let equation = format!("{}{terms}\n", places().count());
+    format!("3 4 {HIGHEST} {HIGHEST}\n{EQUATIONS}\n{}", equation.repeat(EQUATIONS)).into_bytes()
 }
 
 fn factor(random: &mut Random) -> i128 {
@@ -117,9 +119,9 @@ fn far_factor(random: &mut Random) -> String {
 // ---- inputs of the program ----
 
 /// Bytes of the longest sheet.
-const LONGEST: usize = 2_182;
-/// Bytes of as many tokens as a sheet may have, 4 and 1 and 4 × (1 + 36 × 4), each with eleven bytes and its separator.
-const TOKEN_BYTES: usize = 585 * 12;
+const LONGEST: usize = 3_268;
+/// Bytes of as many tokens as a sheet may have, 4 and 1 and 6 × (1 + 36 × 4), each with eleven bytes and its separator.
+const TOKEN_BYTES: usize = 875 * 12;
 
 /// An input of `induce`: a sheet as above; or one with more behind it than any sheet has, or with a token in it that is longer than that.
 pub fn input(random: &mut Random) -> Vec<u8> {

@@ -7,10 +7,10 @@ use crate::subject::Subject;
 use outside::elimination::Side;
 use outside::stores::Asked;
 use std::str;
-use wurgalm::{row_store, COEFFICIENTS, ENTRIES, RECURRENCE, RELATION, RELATION_STORE, ROW};
+use wurgalm::{row_store, COEFFICIENTS, ENTRIES, EQUATIONS, RECURRENCE, RELATION, RELATION_STORE, ROW};
 
 /// Numbers of the result of a run or of the reader.
-const RESULT: usize = 8;
+const RESULT: usize = 9;
 
 /// What a run of a sheet leaves.
 #[derive(Debug, PartialEq, Eq)]
@@ -18,6 +18,7 @@ pub struct Left {
     pub refusal: u8,
     pub shifts: i64,
     pub root: Option<i64>,
+    pub rank: i64,
     /// Empty on a refusal.
     pub sheet: Vec<u8>,
 }
@@ -40,8 +41,8 @@ pub struct Induced {
 
 // ---- the files ----
 
-/// The cases of a `run.txt`: a line `sheet BYTES` and so many bytes, a line `leading REFUSAL shifts S root R` with the sheet that is
-/// left where the refusal is 0, and the same for the trailing side.
+/// The cases of a `run.txt`: a line `sheet BYTES` and so many bytes, a line `leading REFUSAL shifts S root R rank W` with the sheet
+/// that is left where the refusal is 0, and the same for the trailing side.
 pub fn runs_of(mut file: &[u8]) -> Result<Vec<Runs>, String> {
     let mut cases = Vec::new();
     while !file.is_empty() {
@@ -97,13 +98,14 @@ fn left(file: &mut &[u8], side: &str) -> Result<Left, String> {
     let line = next_line(file)?;
     let words: Vec<&str> = line.split(' ').collect();
     let wrong = || format!("no {side} run at {line:?}");
-    let [name, refusal, "shifts", shifts, "root", root] = words[..] else { return Err(wrong()) };
+    let [name, refusal, "shifts", shifts, "root", root, "rank", rank] = words[..] else { return Err(wrong()) };
     let root = if root == "none" { None } else { Some(root.parse().map_err(|_| wrong())?) };
-    let (refusal, shifts) = (refusal.parse().map_err(|_| wrong())?, shifts.parse().map_err(|_| wrong())?);
+    let refusal = refusal.parse().map_err(|_| wrong())?;
+    let (shifts, rank) = (shifts.parse().map_err(|_| wrong())?, rank.parse().map_err(|_| wrong())?);
     if name != side {
         return Err(wrong());
     }
-    Ok(Left { refusal, shifts, root, sheet: sheet_lines(file)? })
+    Ok(Left { refusal, shifts, root, rank, sheet: sheet_lines(file)? })
 }
 
 // ---- a sheet as numbers of stores ----
@@ -153,9 +155,9 @@ impl Numbers<'_> {
 fn held(sheet: &[u8]) -> Held {
     let mut numbers = Numbers(str::from_utf8(sheet).expect("a whole sheet").split_ascii_whitespace());
     let (_, m, l, t) = (numbers.next(), numbers.count(), numbers.next(), numbers.next());
-    let (mut rows, mut relations) = (vec![0; row_store(m)], vec![0; RELATION_STORE]);
     let equations = numbers.count();
-    rows.chunks_mut(ROW).take(equations).for_each(|row| numbers.equation(l, row));
+    let (mut rows, mut relations) = (vec![0; row_store(equations)], vec![0; RELATION_STORE]);
+    rows.chunks_mut(ROW).for_each(|row| numbers.equation(l, row));
     let count = numbers.count();
     for relation in relations.chunks_mut(RELATION).take(count) {
         relation[0] = numbers.next();
@@ -164,11 +166,11 @@ fn held(sheet: &[u8]) -> Held {
     let mut order = [0; 4];
     numbers.polynomial(&mut order);
     if numbers.more().is_some() {
-        rows.chunks_mut(ROW).take(equations).for_each(|row| numbers.polynomial(&mut row[ENTRIES..]));
+        rows.chunks_mut(ROW).for_each(|row| numbers.polynomial(&mut row[ENTRIES..]));
         relations.chunks_mut(RELATION).take(count).for_each(|row| numbers.polynomial(&mut row[1 + ENTRIES..]));
     }
     assert!(numbers.more().is_none(), "a whole sheet");
-    Held { asked: Asked { m, l, t, count }, rows, relations, order }
+    Held { asked: Asked { m, equations, l, t, count }, rows, relations, order }
 }
 
 // ---- lent stores ----
@@ -207,8 +209,9 @@ fn lent<T: Member>(needed: &[T], more: isize) -> Vec<T> {
 /// The stores of a call: how long each is beside its need, and what a call does with one that is too short.
 const LENGTHS: [[isize; 3]; 6] = [[0, 0, 0], [3, 0, 0], [0, ROW as isize, 1], [-1, 0, 0], [0, -1, 5], [7, 0, -1]];
 
-fn is_short(more: &[isize]) -> bool {
-    more.iter().any(|&more| more < 0)
+/// Whether a store is shorter than it needs to be, which one that needs no number never is.
+fn is_short(needs: &[usize], more: &[isize]) -> bool {
+    needs.iter().zip(more).any(|(&need, &more)| need.saturating_add_signed(more) < need)
 }
 
 // ---- judging ----
@@ -289,7 +292,7 @@ impl Judge {
             let before = (lent(&unsaid(needed.len()), more), lent(&unsaid(1), result));
             let mut after = before.clone();
             let found = subject.write_recurrence(&case.sheet, &mut after.0, &mut after.1);
-            let refused = is_short(&[more, result]);
+            let refused = is_short(&[needed.len(), 1], &[more, result]);
             let accepted = || (lent(needed, more), lent(&[needed.len() as i64], result));
             let expected = if refused { before } else { accepted() };
             self.calls += 1;
@@ -323,7 +326,7 @@ impl Judge {
 
     /// The reader refuses the sheet, and leaves all stores as they are.
     fn unread(&mut self, reader: Reader, sheet: &[u8], number: u8, subject: &dyn Subject) -> Judgement {
-        let before = (unsaid::<i64>(row_store(4)), unsaid::<i64>(RELATION_STORE), unsaid::<i64>(RESULT));
+        let before = (unsaid::<i64>(row_store(EQUATIONS)), unsaid::<i64>(RELATION_STORE), unsaid::<i64>(RESULT));
         let mut after = before.clone();
         self.calls += 1;
         numbered("reading", reader(subject, sheet, &mut after.0, &mut after.1, &mut after.2), number)?;
@@ -334,18 +337,20 @@ impl Judge {
 
     /// The reader fills the stores, whatever they held, and writes nothing past their needed parts.
     fn read(&mut self, reader: Reader, sheet: &[u8], input: &Held, subject: &dyn Subject) -> Judgement {
-        let Asked { m, l, t, count } = input.asked;
+        let Asked { m, equations, l, t, count } = input.asked;
         let [a, b, c, d] = input.order;
-        let heading = [m as i64, l, t, count as i64, a, b, c, d];
+        let heading = [m as i64, l, t, count as i64, a, b, c, d, equations as i64];
+        let needs = [row_store(equations), RELATION_STORE, RESULT];
         for more in LENGTHS {
-            let before: [Vec<i64>; 3] = [row_store(m), RELATION_STORE, RESULT].map(unsaid);
+            let before: [Vec<i64>; 3] = needs.map(unsaid);
             let before = [0, 1, 2].map(|k| lent(&before[k], more[k]));
             let [mut rows, mut relations, mut result] = before.clone();
             let found = reader(subject, sheet, &mut rows, &mut relations, &mut result);
             let parts: [&[i64]; 3] = [&input.rows, &input.relations, &heading];
-            let expected = if is_short(&more) { before } else { [0, 1, 2].map(|k| lent(parts[k], more[k])) };
+            let short = is_short(&needs, &more);
+            let expected = if short { before } else { [0, 1, 2].map(|k| lent(parts[k], more[k])) };
             self.calls += 1;
-            numbered("reading", found, is_short(&more) as u8)?;
+            numbered("reading", found, short as u8)?;
             same("row store that was read", &rows, &expected[0])?;
             same("relation store that was read", &relations, &expected[1])?;
             same("result of reading", &result, &expected[2])?;
@@ -356,7 +361,7 @@ impl Judge {
     /// The writer writes the sheet, and nothing past its end.
     fn written(&mut self, sheet: &[u8], held: &Held, subject: &dyn Subject) -> Judgement {
         for (more, past, result) in [(0, 0, 0), (5, 2, 3), (-1, 0, 0), (0, -1, 0), (9, 0, -1)] {
-            let refused = is_short(&[more, past, result]);
+            let refused = is_short(&[sheet.len(), held.rows.len(), 1], &[more, past, result]);
             let (rows, relations) = (lent(&held.rows, past), lent(&held.relations, past.max(0)));
             let before = (lent(&unsaid(sheet.len()), more), lent(&unsaid(1), result));
             let mut after = before.clone();
@@ -374,21 +379,24 @@ impl Judge {
     /// A run leaves what the file says, zeros on a refusal, and everything as it is in stores that are too short.
     fn run(&mut self, side: Side, input: &Held, left: &Left, subject: &dyn Subject) -> Judgement {
         let after = if left.refusal == 0 {
-            let output = held(&left.sheet);
+            let mut output = held(&left.sheet);
             let [a, b, c, d] = output.order;
             let root = [left.root.is_some() as i64, left.root.unwrap_or(0)];
-            let result = [output.asked.count as i64, left.shifts, a, b, c, d, root[0], root[1]];
+            let result = [output.asked.count as i64, left.shifts, a, b, c, d, root[0], root[1], left.rank];
             self.written(&left.sheet, &output, subject)?;
+            // The places of rows that were dropped are zero.
+            output.rows.resize(input.rows.len(), 0);
             [output.rows, output.relations, result.to_vec()]
         } else {
-            [vec![0; row_store(input.asked.m)], vec![0; RELATION_STORE], vec![0; RESULT]]
+            [vec![0; input.rows.len()], vec![0; RELATION_STORE], vec![0; RESULT]]
         };
+        let needs = [input.rows.len(), RELATION_STORE, RESULT];
         for more in LENGTHS {
             let before = [input.rows.clone(), input.relations.clone(), unsaid(RESULT)];
             let before = [0, 1, 2].map(|k| lent(&before[k], more[k]));
             let [mut rows, mut relations, mut result] = before.clone();
             let found = subject.run(side, &mut rows, &mut relations, input.asked, &mut result);
-            let short = is_short(&more);
+            let short = is_short(&needs, &more);
             let expected = if short { before } else { [0, 1, 2].map(|k| lent(&after[k], more[k])) };
             self.calls += 1;
             numbered(&format!("{side:?} run"), found, if short { 1 } else { left.refusal })?;
@@ -411,7 +419,7 @@ impl Judge {
                 _ => (lent(output, more), lent(&[output.len() as i64], result)),
             };
             self.calls += 1;
-            numbered("a batch", found, is_short(&[more, result]) as u8)?;
+            numbered("a batch", found, is_short(&[output.len(), 1], &[more, result]) as u8)?;
             same("output of a batch", &after.0, &expected.0)?;
             same("result of a batch", &after.1, &expected.1)?;
         }
@@ -434,10 +442,10 @@ mod tests {
     fn lines(sheet: &[u8], side: Side) -> Vec<u8> {
         let name = if side == Side::Leading { "leading" } else { "trailing" };
         match read(sheet, None).and_then(|sheet| run(&sheet.system, side, None)) {
-            Err(refusal) => format!("{name} {} shifts 0 root none\n", refusal.number()).into_bytes(),
+            Err(refusal) => format!("{name} {} shifts 0 root none rank 0\n", refusal.number()).into_bytes(),
             Ok(run) => {
                 let root = run.root.map_or("none".into(), |root| root.to_string());
-                let line = format!("{name} 0 shifts {} root {root}\n", run.shifts);
+                let line = format!("{name} 0 shifts {} root {root} rank {}\n", run.shifts, run.rank());
                 [line.into_bytes(), write(&Sheet { system: run.system, order: run.order })].concat()
             }
         }
@@ -455,13 +463,14 @@ mod tests {
         let mut random = Random::new(11);
         let mut sheets: Vec<Vec<u8>> = (0..400).map(|_| whole_sheet(&mut random)).collect();
         sheets.extend([b"3 1 0 0\n1\n0\n0\n0\n1\n0\n".to_vec(), b"3 5 0 0\n".to_vec(), Vec::new()]);
+        sheets.extend([b"3 1 0 0\n0\n0\n0\n0\n".to_vec(), b"3 1 0 0\n0\n0\n0\n1\n".to_vec()]);
         sheets
     }
 
     #[test]
     fn right() {
         let cases = runs_of(&file(&some_sheets())).unwrap();
-        assert_eq!(cases.len(), 403);
+        assert_eq!(cases.len(), 405);
         let mut judge = Judge::default();
         for case in &cases {
             judge.runs(case, &Outside(None)).unwrap();
@@ -476,7 +485,9 @@ mod tests {
         let cases = runs_of(&file(&some_sheets())).unwrap();
         let faults = [
             [SideNotCombined, SideOutOfContent, SideNotDivided, SideNotShifted, SideNotMirrored, SideOutOfDegree],
-            [SideOutOfLimit, SideOutOfShiftLimit, SideInWidth, RelationWithoutSide, InconsistentIsDependent, SideFirst],
+            [SideOutOfLimit, SideOutOfShiftLimit, SideInWidth, RelationWithoutSide, LeftZeroDropped, SideFirst],
+            [LaterRowsStay, LastRowMovesUp, ZeroRowInconsistent, FreedKept, RankOfEquations, RankOneMore],
+            [RowOfEachUnknown, EquationsAsUnknowns, OrderAllOrNone, OrderWhole, NoSidesRange, NoSidesForm],
             [StoresKept, ZeroedPastNeed, ZeroSides, SideOfEquations, SmallestRootReported, TrailingDescending],
         ];
         for fault in faults.concat() {
@@ -535,7 +546,9 @@ mod tests {
 
     #[test]
     fn broken_files() {
-        for file in ["sheet", "sheet 9\n", "sheet 1\n3leading 4", "sheet 0\nleading 4 shifts 0 root none\n", "x 1\n3"] {
+        for file in
+            ["sheet", "sheet 9\n", "sheet 1\n3leading 4", "sheet 0\nleading 4 shifts 0 root none rank 0\n", "x 1\n3"]
+        {
             assert!(runs_of(file.as_bytes()).is_err(), "{file:?}");
         }
     }

@@ -1,9 +1,10 @@
 //! Random sheets, whole and damaged at every kind of place.
 
 use crate::random::Random;
-use crate::systems::{large_system, system};
+use crate::systems::{large_system, system, system_with};
 use outside::sheet::{write, Sheet};
-use outside::C;
+use outside::system::System;
+use outside::{C, EQUATIONS};
 
 /// The bytes of a sheet: of a third whole, of the others with one to three damages.
 pub fn sheet(random: &mut Random) -> Vec<u8> {
@@ -21,18 +22,33 @@ pub fn sheet(random: &mut Random) -> Vec<u8> {
 /// A sheet without any fault.
 pub fn whole_sheet(random: &mut Random) -> Vec<u8> {
     let system = if random.one_in(40) { large_system(random) } else { system(random) };
-    let order = if random.one_in(2) { Vec::new() } else { random.permutation(system.sizes.m) };
+    with_order(random, system)
+}
+
+/// A sheet without any fault that has so many equations.
+pub fn whole_sheet_with(random: &mut Random, equations: usize) -> Vec<u8> {
+    let system = system_with(random, equations);
+    with_order(random, system)
+}
+
+/// The system's sheet, with no order, one of all columns or one of some.
+fn with_order(random: &mut Random, system: System) -> Vec<u8> {
+    let m = system.sizes.m;
+    let mut order = random.permutation(m);
+    let some = random.below(m + 1);
+    order.truncate(random.pick(&[0, 0, m, some]));
     write(&Sheet { system, order })
 }
 
 fn damaged(random: &mut Random, bytes: Vec<u8>) -> Vec<u8> {
-    match random.below(10) {
+    match random.below(11) {
         0 => damaged_byte(random, bytes),
         1 => cut(random, bytes),
         2 | 3 => damaged_terms(random, Draft::of(&bytes)).bytes(),
         4 => damaged_line(random, Draft::of(&bytes)).bytes(),
         5 => damaged_order(random, Draft::of(&bytes)).bytes(),
         6 | 7 => damaged_sides(random, Draft::of(&bytes)).bytes(),
+        8 => damaged_equations(random, Draft::of(&bytes)).bytes(),
         _ => damaged_token(random, Draft::of(&bytes)).bytes(),
     }
 }
@@ -87,7 +103,7 @@ impl Draft {
 
     /// Which line has the column order, where the counts before it still tell.
     fn order_line(&self) -> Option<usize> {
-        let relations = self.count(1)?.min(4) + 2;
+        let relations = self.count(1)?.min(EQUATIONS) + 2;
         let order = relations + self.count(relations)?.min(16) + 1;
         (order < self.0.len()).then_some(order)
     }
@@ -128,7 +144,7 @@ fn other_token(random: &mut Random, token: &str) -> String {
         2 => random.pick(&[9_999_999_999, -9_999_999_999, 1_000_000_000]),
         3 => random.pick(&[C + 1, -C - 1, C, -C]),
         4 => random.pick(&[value + 1, value - 1, -value, value * 10]),
-        5 => random.pick(&[65, -65, 64, -64, 5, 17, 16, 21]),
+        5 => random.pick(&[65, -65, 64, -64, 5, 7, 17, 16, 21]),
         6 | 7 => 0,
         _ => random.between(-3, 6),
     };
@@ -182,6 +198,22 @@ fn damaged_terms(random: &mut Random, mut draft: Draft) -> Draft {
     draft
 }
 
+/// Equations left out or put in, mostly with the count that fits then.
+fn damaged_equations(random: &mut Random, mut draft: Draft) -> Draft {
+    let Some(count) = draft.count(1).filter(|&count| count <= EQUATIONS && 2 + count <= draft.0.len()) else {
+        return draft;
+    };
+    let wished =
+        random.pick(&[0, count.saturating_sub(1), count + 1, EQUATIONS, EQUATIONS + 1, EQUATIONS + 1, EQUATIONS + 2]);
+    let mut lines: Vec<Vec<String>> = draft.0.splice(2..2 + count, []).collect();
+    lines.resize(wished, vec!["0".into()]);
+    draft.0.splice(2..2, lines);
+    if !random.one_in(6) {
+        draft.0[1] = vec![wished.to_string()];
+    }
+    draft
+}
+
 /// The column order made wrong, or put in where there was none.
 fn damaged_order(random: &mut Random, mut draft: Draft) -> Draft {
     let m: usize = draft.0[0].get(1).and_then(|m| m.parse().ok()).unwrap_or(1).clamp(1, 5);
@@ -208,6 +240,13 @@ fn damaged_sides(random: &mut Random, mut draft: Draft) -> Draft {
     let mut lines = draft.0.split_off(order + 1);
     if lines.len() < 2 || random.one_in(3) {
         lines = new_sides(random, order - 3);
+    }
+    // Where nothing could have a right side there is a count alone.
+    if lines.len() < 2 {
+        lines[0] = vec![other_count(random, 0)];
+        lines.extend(random.pick(&[None, None, Some("0"), Some("1 5"), Some("")]).map(|line| vec![line.to_string()]));
+        draft.0.extend(lines);
+        return draft;
     }
     let at = 1 + random.below(lines.len() - 1);
     match random.below(10) {

@@ -133,10 +133,10 @@ impl Subject for Library {
     }
 
     fn run(&self, side: Side, rows: &mut [i64], relations: &mut [i64], asked: Asked, result: &mut [i64]) -> u8 {
-        let Asked { m, l, t, count } = asked;
+        let Asked { m, equations, l, t, count } = asked;
         match side {
-            Side::Leading => wurgalm::stores::run_leading(rows, relations, m, l, t, count, result),
-            Side::Trailing => wurgalm::stores::run_trailing(rows, relations, m, l, t, count, result),
+            Side::Leading => wurgalm::stores::run_leading(rows, relations, m, equations, l, t, count, result),
+            Side::Trailing => wurgalm::stores::run_trailing(rows, relations, m, equations, l, t, count, result),
         }
     }
 
@@ -153,8 +153,8 @@ impl Subject for Library {
         bytes: &mut [u8],
         result: &mut [i64],
     ) -> u8 {
-        let Asked { m, l, t, count } = asked;
-        wurgalm::stores::write_sheet(rows, relations, m, l, t, count, order, bytes, result)
+        let Asked { m, equations, l, t, count } = asked;
+        wurgalm::stores::write_sheet(rows, relations, m, equations, l, t, count, order, bytes, result)
     }
 
     fn batch(&self, input: &[u8]) -> Vec<u8> {

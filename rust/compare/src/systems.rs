@@ -1,11 +1,12 @@
 //! Random systems, of kinds that together reach every rule of the elimination and every refusal of a run (SCOPE 2, 6). Most have
-//! no right side, a third has some.
+//! no right side, a third has some. Half have as many equations as unknowns, the others any number from 0 to 6: some equations are
+//! lacking, or there are repeated, combined, zero and new ones between them.
 
 use crate::random::Random;
 use outside::polynomial::Polynomial;
 use outside::row::Row;
 use outside::system::{Relation, Sizes, System};
-use outside::{C, DEGREE, RELATIONS};
+use outside::{C, DEGREE, EQUATIONS, RELATIONS};
 
 /// How large the polynomials of a system may be.
 #[derive(Clone, Copy)]
@@ -33,10 +34,25 @@ pub fn system(random: &mut Random) -> System {
         10 => near_limit(random),
         _ => one_unknown(random),
     };
-    if random.one_in(3) {
+    let with_sides = random.one_in(3);
+    if with_sides {
         add_sides(random, &mut system);
     }
+    if random.one_in(2) {
+        let equations = random.below(EQUATIONS + 1);
+        set_equations(random, &mut system, equations);
+        if with_sides && random.one_in(4) {
+            add_sides(random, &mut system);
+        }
+    }
     debug_assert!(within_limits(&system));
+    system
+}
+
+/// A system of some kind with so many equations.
+pub fn system_with(random: &mut Random, equations: usize) -> System {
+    let mut system = system(random);
+    set_equations(random, &mut system, equations);
     system
 }
 
@@ -51,7 +67,7 @@ pub fn large_system(random: &mut Random) -> System {
 }
 
 fn within_limits(system: &System) -> bool {
-    system.all_rows().all(fits) && system.relations.len() <= RELATIONS
+    system.all_rows().all(fits) && system.rows.len() <= EQUATIONS && system.relations.len() <= RELATIONS
 }
 
 fn fits(row: &Row) -> bool {
@@ -164,7 +180,7 @@ fn add_sides(random: &mut Random, system: &mut System) {
             row.set_right(side(random));
         }
     }
-    if random.one_in(20) {
+    if random.one_in(20) && !system.rows.is_empty() {
         let mut row = Row::default();
         row.set_right(side(random));
         let i = random.below(system.rows.len());
@@ -190,6 +206,45 @@ fn high_side(random: &mut Random) -> Polynomial {
     coefficients[0] = random.between(-2, 2);
     coefficients.push(nonzero(random, 3));
     Polynomial::new(coefficients)
+}
+
+// ---- more and fewer equations ----
+
+/// Equations left out, or others put in anywhere, until there are so many.
+fn set_equations(random: &mut Random, system: &mut System, equations: usize) {
+    while system.rows.len() > equations {
+        system.rows.remove(random.below(system.rows.len()));
+    }
+    while system.rows.len() < equations {
+        let row = another_row(random, system);
+        system.rows.insert(random.below(system.rows.len() + 1), row);
+    }
+}
+
+/// A row beside those that are there: one of them again, as it is, shifted or times a polynomial; a sum of two; zero; or new.
+fn another_row(random: &mut Random, system: &System) -> Row {
+    let Sizes { m, l, t } = system.sizes;
+    let one = Polynomial::new(vec![1]);
+    let factor = polynomial(random, Shape { degree: 1, size: 3, density: 100 });
+    let new = row(random, m, l, t, SMALL);
+    if system.rows.is_empty() {
+        return new;
+    }
+    let (first, second) = (random.pick(&system.rows), random.pick(&system.rows));
+    let made = match random.below(12) {
+        0 => Row::default(),
+        1 | 2 => new,
+        3 | 4 => first.clone(),
+        5 | 6 => first.shifted(),
+        7 | 8 => first.combined(&factor, &Row::default(), &one),
+        _ => first.combined(&one, &second, &factor),
+    };
+    let inside = made.entries().all(|(block, _, _)| (t..=l).contains(&block));
+    if inside && fits(&made) {
+        made
+    } else {
+        first
+    }
 }
 
 // ---- kinds ----

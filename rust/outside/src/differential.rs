@@ -70,9 +70,9 @@ impl Reader<'_> {
         Ok(Limits { unknowns, derivative, power })
     }
 
-    /// The equation count and the equations (SCOPE 10.3).
+    /// The equation count, 0 to 6, and the equations (SCOPE 10.3; 02, U6).
     fn differential_equations(&mut self, limits: Limits) -> Result<Vec<Vec<Term>>, Refusal> {
-        let count = self.within(Separator::LineEnd, |count| equation_count_in_range(count, limits.unknowns))?;
+        let count = self.within(Separator::LineEnd, equation_count_in_range)?;
         (0..count).map(|_| self.differential_equation(limits)).collect()
     }
 

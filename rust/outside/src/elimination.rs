@@ -18,13 +18,20 @@ pub enum Side {
 #[derive(Clone, Debug, PartialEq, Eq)]
 pub struct Run {
     pub system: System,
-    /// c(1)..c(m)
+    /// c(1)..c(w)
     pub order: Vec<usize>,
     pub shifts: usize,
     /// The root of the report, `None` if there is none.
     pub root: Option<i128>,
     /// How often rows were exchanged: for tables only.
     pub exchanges: usize,
+}
+
+impl Run {
+    /// w, the number of settled rows (02, U6).
+    pub fn rank(&self) -> usize {
+        self.order.len()
+    }
 }
 
 pub fn run(system: &System, side: Side, fault: Option<Fault>) -> Result<Run, Refusal> {
@@ -65,8 +72,8 @@ fn run_leading(system: &System, order: Order, fault: Option<Fault>) -> Result<Ru
         system.relations.iter().try_for_each(|r| inconsistent(&r.row))?;
     }
     let mut work = Work::new(system, order, fault);
-    while work.columns.len() < system.sizes.m {
-        work.settle_next()?;
+    while work.columns.len() < work.rows.len() {
+        work.settle_or_drop()?;
     }
     let mut run = work.finished();
     // The greatest integer root of all (SCOPE 2.81).
@@ -108,6 +115,10 @@ struct Work {
     given: usize,
     /// c(1)..c(w), so w is its length.
     columns: Vec<usize>,
+    /// How many rows there were.
+    equations: usize,
+    /// Where rows were dropped: for a wrong version.
+    gaps: Vec<usize>,
     shifts: usize,
     exchanges: usize,
     order: Order,
@@ -123,6 +134,8 @@ impl Work {
             relations: system.relations.clone(),
             given: system.relations.len(),
             columns: Vec::new(),
+            equations: system.rows.len(),
+            gaps: Vec::new(),
             shifts: 0,
             exchanges: 0,
             order,
@@ -133,6 +146,9 @@ impl Work {
     fn finished(mut self) -> Run {
         if is(self.fault, Fault::InputRelationsLast) {
             self.relations.rotate_left(self.given);
+        }
+        if self.wrong(Fault::LaterRowsStay) {
+            self.gaps.iter().rev().for_each(|&gap| self.rows.insert(gap, Row::default()));
         }
         Run {
             system: System { sizes: self.sizes, rows: self.rows, relations: self.relations },
@@ -147,15 +163,20 @@ impl Work {
         is(self.fault, fault)
     }
 
-    /// The row in turn, behind the settled ones (SCOPE 2.2): rules 1 to 6.
-    fn settle_next(&mut self) -> Result<(), Refusal> {
+    /// The row in turn, behind the settled ones (SCOPE 2.2): rules 1 to 6. It is settled, or dropped.
+    fn settle_or_drop(&mut self) -> Result<(), Refusal> {
         let i = self.columns.len();
         // Rule 1 (SCOPE 2.11).
-        self.row_left(i)?;
+        if self.row_done(i)? {
+            return Ok(());
+        }
         loop {
             // Rule 2: the row meets the settled rows one after the other (SCOPE 2.21).
             for j in 0..i {
-                self.meet(i, j)?;
+                // A row that a combination has made zero is dropped too (SCOPE 2.45).
+                if self.meet(i, j)? {
+                    return Ok(());
+                }
             }
             // Rule 5: with a nonzero leading block it is settled at the lowest column that has an entry (SCOPE 2.51).
             if let Some(column) = self.settling_column(i) {
@@ -167,16 +188,26 @@ impl Work {
         }
     }
 
-    /// A row that is zero on both sides is 6 (SCOPE 2.11, 2.45), one that is zero on the left alone 10 (02, U1).
-    fn row_left(&self, i: usize) -> Result<(), Refusal> {
-        if self.rows[i].is_zero() {
-            return Err(Refusal::Dependent);
+    /// A row that is zero on both sides is dropped, and its turn is over (02, U6); one that is zero on the left alone is 10 (02, U1).
+    fn row_done(&mut self, i: usize) -> Result<bool, Refusal> {
+        let left_alone = self.wrong(Fault::LeftZeroDropped) && self.rows[i].is_left_zero();
+        if self.rows[i].is_zero() || left_alone {
+            if self.wrong(Fault::ZeroRowInconsistent) {
+                return Err(Refusal::Inconsistent);
+            }
+            self.drop_row(i);
+            return Ok(true);
         }
-        let refused = inconsistent(&self.rows[i]);
-        if self.wrong(Fault::InconsistentIsDependent) {
-            refused.map_err(|_| Refusal::Dependent)
+        inconsistent(&self.rows[i]).map(|()| false)
+    }
+
+    /// The rows behind a dropped one move up (02, U6).
+    fn drop_row(&mut self, i: usize) {
+        self.gaps.push(i);
+        if self.wrong(Fault::LastRowMovesUp) {
+            self.rows.swap_remove(i);
         } else {
-            refused
+            self.rows.remove(i);
         }
     }
 
@@ -189,11 +220,11 @@ impl Work {
         }
     }
 
-    /// Rules 2 to 4 for row i and one settled row j.
-    fn meet(&mut self, i: usize, j: usize) -> Result<(), Refusal> {
+    /// Rules 2 to 4 for row i and one settled row j. Whether row i is dropped.
+    fn meet(&mut self, i: usize, j: usize) -> Result<bool, Refusal> {
         // A settled row is passed over where the leading entry in its column is zero (SCOPE 2.21).
         if self.leading_entry(i, j).is_zero() {
-            return Ok(());
+            return Ok(false);
         }
         let before = self.rows[i].clone();
         let (g_before, _) = self.multipliers(i, j);
@@ -228,8 +259,8 @@ impl Work {
         }
         self.rows[i] = self.judged(combined)?;
         relations?;
-        // A row without a left part is refused; otherwise the next settled row follows (SCOPE 2.45, 2.46).
-        self.row_left(i)
+        // A row without a left part is dropped or refused; otherwise the next settled row follows (SCOPE 2.45, 2.46).
+        self.row_done(i)
     }
 
     /// The entry of row i in block l at the column of the settled row j.
@@ -356,13 +387,14 @@ impl Work {
         self.shifts_within_bound()
     }
 
-    /// There are never more than m × D shifts (SCOPE 2.65). Only a wrong version gets past that, and has to be stopped.
+    /// There are never more shifts than the equations times D (SCOPE 2.65; 02, U6). Only a wrong version gets past that, and has to be
+    /// stopped.
     fn shifts_within_bound(&self) -> Result<(), Refusal> {
-        if self.shifts as i64 <= self.sizes.m as i64 * self.sizes.d() {
+        if self.shifts as i64 <= self.equations as i64 * self.sizes.d() {
             return Ok(());
         }
-        assert!(self.fault.is_some(), "more than m × D shifts");
-        Err(Refusal::Dependent)
+        assert!(self.fault.is_some(), "more shifts than the equations times D");
+        Err(Refusal::Coefficient)
     }
 }
 

@@ -25,5 +25,7 @@ pub mod system;
 pub const C: i128 = 268_435_455;
 /// The highest degree of a polynomial (SCOPE 1.4).
 pub const DEGREE: usize = 15;
+/// The most equations that a system has (02, U6).
+pub const EQUATIONS: usize = 6;
 /// The most relations that a system has (SCOPE 1.23).
 pub const RELATIONS: usize = 16;

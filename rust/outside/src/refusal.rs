@@ -1,6 +1,6 @@
 //! The refusals (SCOPE 6).
 
-/// Each refusal under its number.
+/// Each refusal under its number. 6 was that of dependent equations, and does not occur any more (02, U6).
 #[derive(Clone, Copy, Debug, PartialEq, Eq, PartialOrd, Ord, Hash)]
 #[repr(u8)]
 pub enum Refusal {
@@ -14,8 +14,6 @@ pub enum Refusal {
     End = 4,
     /// A number is past ±C, or an unused position is not 0 (SCOPE 6.5).
     Number = 5,
-    /// The equations are dependent (SCOPE 6.6).
-    Dependent = 6,
     /// A degree has passed 15 (SCOPE 6.7).
     Degree = 7,
     /// A coefficient has passed ±C (SCOPE 6.8).
@@ -34,6 +32,6 @@ impl Refusal {
     /// Whether the refusal comes while the work is going on, so that stores become zero (SCOPE 6.33), or before it
     /// begins (SCOPE 6.32). The system itself is refused during the work.
     pub fn during_the_work(self) -> bool {
-        self >= Refusal::Dependent
+        self >= Refusal::Degree
     }
 }

@@ -150,9 +150,15 @@ impl Reader<'_> {
         Ok(Sizes { m: m as usize, l: l as i64, t: t as i64 })
     }
 
-    /// The equation count, which is m, and the equations (SCOPE 4.13).
+    /// The equation count, 0 to 6, and the equations (SCOPE 4.13; 02, U6).
     fn equations(&mut self, sizes: Sizes) -> Result<Vec<Row>, Refusal> {
-        let count = self.within(Separator::LineEnd, |count| equation_count_in_range(count, sizes.m as i128))?;
+        let fault = self.fault;
+        let in_range = |count| match fault {
+            Some(Fault::EquationsAsUnknowns) => count == sizes.m as i128,
+            Some(Fault::SevenEquations) => (0..=7).contains(&count),
+            _ => equation_count_in_range(count),
+        };
+        let count = self.within(Separator::LineEnd, in_range)?;
         (0..count).map(|_| self.equation(sizes)).collect()
     }
 
@@ -235,23 +241,25 @@ impl Reader<'_> {
         Ok(Polynomial::new(coefficients))
     }
 
-    /// The order line: 0 alone, or m and the columns in some order (SCOPE 4.15); otherwise it is 2 (SCOPE 4.34).
+    /// The order line: a count up to m, and so many different columns (SCOPE 4.15; 02, U6); otherwise it is 2 (SCOPE 4.34).
     fn order(&mut self, sizes: Sizes) -> Result<Vec<usize>, Refusal> {
         let m = sizes.m;
         let separator = |count| if count == 0 { Separator::LineEnd } else { Separator::Space };
-        let count = self.number(separator, |count| refused_if(count != 0 && count != m as i128, Refusal::Range))?;
+        let all_or_none = is(self.fault, Fault::OrderAllOrNone);
+        let in_range = |count| (0..=m as i128).contains(&count) && !(all_or_none && count != 0 && count != m as i128);
+        let count = self.number(separator, |count| refused_if(!in_range(count), Refusal::Range))?;
         let twice = is(self.fault, Fault::ColumnTwice);
         let mut order = Vec::new();
         for place in 1..=count as usize {
             let fits = |c| (1..=m as i128).contains(&c) && (twice || !order.contains(&(c as usize)));
-            let column = self.within(after(place, m), fits)?;
+            let column = self.within(after(place, count as usize), fits)?;
             order.push(column as usize);
         }
         Ok(order)
     }
 
     /// The fifth section: the count of equations plus relations, another number is 2, and a line for each right side
-    /// (02, U1).
+    /// (02, U1). Where there are neither, it has zeros only: the count 0 is 3.
     fn sides(&mut self, system: &mut System) -> Result<(), Refusal> {
         let fault = self.fault;
         if is(fault, Fault::StrayByteIsEnd) && !matches!(self.bytes[0], b'-' | b'0'..=b'9') {
@@ -260,7 +268,13 @@ impl Reader<'_> {
         let equations_alone = is(fault, Fault::SideOfEquations);
         let count = if equations_alone { system.rows.len() } else { system.all_rows().count() };
         let refusal = if is(fault, Fault::SideCountForm) { Refusal::Form } else { Refusal::Range };
-        self.number(|_| Separator::LineEnd, |found| refused_if(found != count as i128, refusal))?;
+        let zeros_only = count == 0 && !is(fault, Fault::ZeroSides) && !is(fault, Fault::ZeroSidesLast);
+        let judge = |found| {
+            let any = is(fault, Fault::NoSidesForm);
+            refused_if(zeros_only && (any || found == 0 && !is(fault, Fault::NoSidesRange)), Refusal::Form)?;
+            refused_if(found != count as i128 || zeros_only, refusal)
+        };
+        self.number(|_| Separator::LineEnd, judge)?;
         let mut any = is(fault, Fault::ZeroSides) || is(fault, Fault::ZeroSidesLast);
         for (place, row) in system.all_rows_mut().take(count).enumerate() {
             let side = self.side(!any && place + 1 == count)?;

@@ -11,8 +11,8 @@ use crate::polynomial::Polynomial;
 use crate::refusal::Refusal;
 use crate::row::Row;
 use crate::sheet::{self, Sheet};
-use crate::system::{relation_count_in_range, Relation, Sizes, System};
-use crate::{C, RELATIONS};
+use crate::system::{equation_count_in_range, relation_count_in_range, Relation, Sizes, System};
+use crate::{C, EQUATIONS, RELATIONS};
 
 /// Coefficients of a column, from power 0 upward (SCOPE 3.2).
 pub const COEFFICIENTS: usize = 16;
@@ -27,24 +27,33 @@ pub const RELATION: usize = 1 + ROW;
 /// The relation store needs 16 × 337 numbers (SCOPE 3.11; 02, U1).
 pub const RELATION_STORE: usize = RELATIONS * RELATION;
 /// Numbers that the answer of a run or a reader takes (SCOPE 3.52).
-pub const RESULT: usize = 8;
+pub const RESULT: usize = 9;
 
 /// The sizes and the relation count of a call, as they are given.
 #[derive(Clone, Copy, Debug, PartialEq, Eq)]
 pub struct Asked {
     pub m: usize,
+    pub equations: usize,
     pub l: i64,
     pub t: i64,
     pub count: usize,
 }
 
 impl Asked {
-    /// The sizes, with which a relation count above 16 is refused too (SCOPE 3.32).
-    fn sizes(&self) -> Result<Sizes, Refusal> {
-        if !relation_count_in_range(self.count as i128) {
+    /// The sizes, with which a relation count above 16 and an equation count above 6 are refused too (SCOPE 3.32; 02, U6).
+    fn sizes(&self, fault: Option<Fault>) -> Result<Sizes, Refusal> {
+        let seven = self.equations == EQUATIONS + 1 && is(fault, Fault::EquationsNotLimited);
+        let equations_right = equation_count_in_range(self.equations as i128) || seven;
+        if !relation_count_in_range(self.count as i128) || !equations_right {
             return Err(Refusal::Range);
         }
         Sizes::checked(self.m, self.l, self.t)
+    }
+
+    /// The numbers that the row store needs: those of a row for each equation (02, U6).
+    fn row_need(&self, fault: Option<Fault>) -> usize {
+        let rows = if is(fault, Fault::RowOfEachUnknown) { self.m.max(self.equations) } else { self.equations };
+        row_store(rows.min(EQUATIONS + 1))
     }
 }
 
@@ -125,12 +134,12 @@ fn load_relation(numbers: &[i64], sizes: Sizes, fault: Option<Fault>) -> Result<
 }
 
 /// The system in two stores that are long enough; behind the relations in use they hold 0 (SCOPE 3.13).
-fn load(rows: &[i64], relations: &[i64], sizes: Sizes, count: usize, fault: Option<Fault>) -> Result<System, Refusal> {
-    let (used, unused) = relations[..RELATION_STORE].split_at(count * RELATION);
+fn load(rows: &[i64], relations: &[i64], sizes: Sizes, asked: Asked, fault: Option<Fault>) -> Result<System, Refusal> {
+    let (used, unused) = relations[..RELATION_STORE].split_at(asked.count * RELATION);
     if unused.iter().any(|&a| a != 0) && !is(fault, Fault::UnusedPlaces) {
         return Err(Refusal::Number);
     }
-    let rows = rows[..row_store(sizes.m)].chunks(ROW).map(|numbers| load_row(numbers, sizes, fault));
+    let rows = rows.chunks_exact(ROW).take(asked.equations).map(|numbers| load_row(numbers, sizes, fault));
     let relations = used.chunks(RELATION).map(|numbers| load_relation(numbers, sizes, fault));
     Ok(System { sizes, rows: rows.collect::<Result<_, _>>()?, relations: relations.collect::<Result<_, _>>()? })
 }
@@ -191,17 +200,19 @@ fn checked(
     extra: &[(usize, usize)],
     fault: Option<Fault>,
 ) -> Result<System, Refusal> {
-    let mut lengths = vec![(rows.len(), row_store(asked.m.min(COLUMNS))), (relations.len(), RELATION_STORE)];
+    let mut lengths = vec![(rows.len(), asked.row_need(fault)), (relations.len(), RELATION_STORE)];
     lengths.extend(extra);
     if is(fault, Fault::LengthsFirst) {
         long_enough(&lengths)?;
     }
-    let sizes = asked.sizes()?;
+    let sizes = asked.sizes(fault)?;
     if is(fault, Fault::NumbersBeforeLengths) {
-        rows.chunks_exact(ROW).take(sizes.m).try_for_each(|numbers| load_row(numbers, sizes, fault).map(drop))?;
+        rows.chunks_exact(ROW)
+            .take(asked.equations)
+            .try_for_each(|numbers| load_row(numbers, sizes, fault).map(drop))?;
     }
     long_enough(&lengths)?;
-    load(rows, relations, sizes, asked.count, fault)
+    load(rows, relations, sizes, asked, fault)
 }
 
 // ---- the calls ----
@@ -211,7 +222,7 @@ fn number_of(answer: Result<(), Refusal>) -> u8 {
 }
 
 /// A run, whose stores hold its input and then its output (SCOPE 3.21). The answer is the relation count, the shifts,
-/// c(1) to c(4), 1 or 0 for a root, and the root (SCOPE 3.52).
+/// c(1) to c(4), 1 or 0 for a root, the root, and the rank (SCOPE 3.52; 02, U6).
 pub fn run_on_stores(
     side: Side,
     rows: &mut [i64],
@@ -227,11 +238,21 @@ pub fn run_on_stores(
     match run(&system, side, fault) {
         Ok(run) => {
             store(&run.system, rows, relations);
-            result[..RESULT].copy_from_slice(&run_numbers(&run));
+            // Row places past w hold 0 (02, U6).
+            let (left, need) = (row_store(run.system.rows.len()), row_store(asked.equations));
+            if !is(fault, Fault::FreedKept) {
+                rows[left..need].fill(0);
+            }
+            let rank = match fault {
+                Some(Fault::RankOfEquations) => asked.equations,
+                Some(Fault::RankOneMore) => run.rank() + 1,
+                _ => run.rank(),
+            };
+            result[..RESULT].copy_from_slice(&run_numbers(&run, rank));
             0
         }
         Err(refusal) => {
-            zero_needed(rows, row_store(asked.m), fault);
+            zero_needed(rows, row_store(asked.equations), fault);
             zero_needed(relations, RELATION_STORE, fault);
             zero_needed(result, RESULT, fault);
             refusal.number()
@@ -239,11 +260,11 @@ pub fn run_on_stores(
     }
 }
 
-fn run_numbers(run: &Run) -> [i64; RESULT] {
+fn run_numbers(run: &Run, rank: usize) -> [i64; RESULT] {
     let c = order_numbers(&run.order);
     let root = run.root.unwrap_or(0) as i64;
     let (count, shifts) = (run.system.relations.len() as i64, run.shifts as i64);
-    [count, shifts, c[0], c[1], c[2], c[3], run.root.is_some() as i64, root]
+    [count, shifts, c[0], c[1], c[2], c[3], run.root.is_some() as i64, root, rank as i64]
 }
 
 /// A refusal that comes while the work is going on makes the needed part zero (SCOPE 6.33).
@@ -256,7 +277,7 @@ fn zero_needed(store: &mut [i64], need: usize, fault: Option<Fault>) {
 }
 
 /// Reads a sheet into stores, which stay as they are on a refusal (SCOPE 4.43); that they are too short comes last
-/// (SCOPE 4.42). The answer is m, l, t, the relation count, c(1) to c(4) (SCOPE 3.52).
+/// (SCOPE 4.42). The answer is m, l, t, the relation count, c(1) to c(4), the equation count (SCOPE 3.52; 02, U6).
 pub fn read_on_stores(
     bytes: &[u8],
     rows: &mut [i64],
@@ -288,7 +309,8 @@ fn fill(sheet: &Sheet, rows: &mut [i64], relations: &mut [i64], result: &mut [i6
     long_enough(&[(relations.len(), RELATION_STORE), (result.len(), RESULT)])?;
     store(system, rows, relations);
     let (Sizes { m, l, t }, c) = (system.sizes, order_numbers(order));
-    result[..RESULT].copy_from_slice(&[m as i64, l, t, system.relations.len() as i64, c[0], c[1], c[2], c[3]]);
+    let (equations, relations) = (system.rows.len() as i64, system.relations.len() as i64);
+    result[..RESULT].copy_from_slice(&[m as i64, l, t, relations, c[0], c[1], c[2], c[3], equations]);
     Ok(())
 }
 
@@ -362,8 +384,8 @@ fn write_from_stores(
     if is(fault, Fault::LengthsFirst) {
         long_enough(&extra)?;
     }
-    asked.sizes()?;
-    let order = order_argument(order, asked.m)?;
+    asked.sizes(fault)?;
+    let order = order_argument(order, asked.m, fault)?;
     let system = checked(rows, relations, asked, &extra, fault)?;
     let text = sheet::write(&Sheet { system, order });
     long_enough(&[(bytes.len(), text.len())])?;
@@ -372,16 +394,15 @@ fn write_from_stores(
     Ok(())
 }
 
-/// The order argument is one of the sizes: four numbers, all 0 for none, otherwise a permutation of 1..m with zeros past its end.
+/// The order argument is one of the sizes: four numbers, different columns of 1..m first and zeros past them (02, U6).
 /// Where fewer than four are lent there is no order to judge, and the lengths will refuse.
-fn order_argument(order: &[i64], m: usize) -> Result<Vec<usize>, Refusal> {
+fn order_argument(order: &[i64], m: usize, fault: Option<Fault>) -> Result<Vec<usize>, Refusal> {
     let Some(numbers) = order.get(..COLUMNS) else { return Ok(Vec::new()) };
-    if numbers.iter().all(|&c| c == 0) {
-        return Ok(Vec::new());
-    }
-    let (columns, rest) = numbers.split_at(m);
-    let is_permutation = (1..=m as i64).all(|c| columns.contains(&c));
-    if is_permutation && rest.iter().all(|&c| c == 0) {
+    let columns: Vec<i64> = numbers.iter().copied().filter(|&c| c != 0).collect();
+    let zeros_behind = numbers.starts_with(&columns) || is(fault, Fault::OrderGaps);
+    let different = columns.iter().enumerate().all(|(k, c)| !columns[..k].contains(c));
+    let whole = columns.is_empty() || columns.len() == m || !is(fault, Fault::OrderWhole);
+    if zeros_behind && different && whole && columns.iter().all(|c| (1..=m as i64).contains(c)) {
         Ok(columns.iter().map(|&c| c as usize).collect())
     } else {
         Err(Refusal::Range)
@@ -420,55 +441,55 @@ fn batch_to_stores(input: &[u8], output: &mut [u8], result: &mut [i64], fault: O
 
 // ---- one polynomial of a row store ----
 
-/// The part of the row store that holds one polynomial (SCOPE 3.41), empty where the check is not 0 (SCOPE 3.44).
-pub fn polynomial(rows: &[i64], m: usize, l: i64, t: i64, row: usize, block: i64, column: usize) -> &[i64] {
-    match polynomial_place(rows, m, l, t, row, block, column) {
+/// The part of the row store that holds one polynomial (SCOPE 3.41), empty where the check is not 0 (SCOPE 3.44). The relation count of
+/// the sizes plays no part.
+pub fn polynomial(rows: &[i64], sizes: Asked, row: usize, block: i64, column: usize) -> &[i64] {
+    match polynomial_place(rows, sizes, row, block, column) {
         Ok(at) => &rows[at..at + COEFFICIENTS],
         Err(_) => &[],
     }
 }
 
 /// 2 for a size or place out of its range, otherwise 1 for a store too short (SCOPE 3.42, 3.43).
-pub fn check_polynomial(rows: &[i64], m: usize, l: i64, t: i64, row: usize, block: i64, column: usize) -> u8 {
-    number_of(polynomial_place(rows, m, l, t, row, block, column).map(drop))
+pub fn check_polynomial(rows: &[i64], sizes: Asked, row: usize, block: i64, column: usize) -> u8 {
+    number_of(polynomial_place(rows, sizes, row, block, column).map(drop))
 }
 
-fn polynomial_place(
-    rows: &[i64],
-    m: usize,
-    l: i64,
-    t: i64,
-    row: usize,
-    block: i64,
-    column: usize,
-) -> Result<usize, Refusal> {
-    let sizes = Sizes::checked(m, l, t)?;
-    let inside = (1..=m).contains(&row) && (t..=l).contains(&block) && (1..=m).contains(&column);
+fn polynomial_place(rows: &[i64], asked: Asked, row: usize, block: i64, column: usize) -> Result<usize, Refusal> {
+    let sizes = row_sizes(asked, row)?;
+    let inside = (asked.t..=asked.l).contains(&block) && (1..=asked.m).contains(&column);
     if !inside {
         return Err(Refusal::Range);
     }
-    long_enough(&[(rows.len(), row_store(m))])?;
+    long_enough(&[(rows.len(), row_store(asked.equations))])?;
     Ok((row - 1) * ROW + entry_position(sizes, block, column))
 }
 
+/// The sizes, 2 where one of them or the row is out of its range.
+fn row_sizes(asked: Asked, row: usize) -> Result<Sizes, Refusal> {
+    let sizes = Asked { count: 0, ..asked }.sizes(None)?;
+    if (1..=asked.equations).contains(&row) {
+        Ok(sizes)
+    } else {
+        Err(Refusal::Range)
+    }
+}
+
 /// The part of the row store that holds the right side of a row, empty where the check is not 0 (02, U1).
-pub fn right_side(rows: &[i64], m: usize, l: i64, t: i64, row: usize) -> &[i64] {
-    match right_side_place(rows, m, l, t, row) {
+pub fn right_side(rows: &[i64], sizes: Asked, row: usize) -> &[i64] {
+    match right_side_place(rows, sizes, row) {
         Ok(at) => &rows[at..at + COEFFICIENTS],
         Err(_) => &[],
     }
 }
 
 /// As [`check_polynomial`].
-pub fn check_right_side(rows: &[i64], m: usize, l: i64, t: i64, row: usize) -> u8 {
-    number_of(right_side_place(rows, m, l, t, row).map(drop))
+pub fn check_right_side(rows: &[i64], sizes: Asked, row: usize) -> u8 {
+    number_of(right_side_place(rows, sizes, row).map(drop))
 }
 
-fn right_side_place(rows: &[i64], m: usize, l: i64, t: i64, row: usize) -> Result<usize, Refusal> {
-    Sizes::checked(m, l, t)?;
-    if !(1..=m).contains(&row) {
-        return Err(Refusal::Range);
-    }
-    long_enough(&[(rows.len(), row_store(m))])?;
+fn right_side_place(rows: &[i64], asked: Asked, row: usize) -> Result<usize, Refusal> {
+    row_sizes(asked, row)?;
+    long_enough(&[(rows.len(), row_store(asked.equations))])?;
     Ok((row - 1) * ROW + ENTRIES)
 }

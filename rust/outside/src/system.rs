@@ -2,7 +2,7 @@
 
 use crate::refusal::Refusal;
 use crate::row::Row;
-use crate::RELATIONS;
+use crate::{EQUATIONS, RELATIONS};
 
 /// Unknowns, highest block, lowest block.
 #[derive(Clone, Copy, Debug, PartialEq, Eq)]
@@ -17,9 +17,9 @@ pub fn unknowns_in_range(m: i128) -> bool {
     (1..=4).contains(&m)
 }
 
-/// A system of m unknowns has m equations (SCOPE 1.1).
-pub fn equation_count_in_range(count: i128, m: i128) -> bool {
-    count == m
+/// A system has 0 to 6 equations, however many unknowns it has (02, U6).
+pub fn equation_count_in_range(count: i128) -> bool {
+    (0..=EQUATIONS as i128).contains(&count)
 }
 
 /// A block number is from -64 to 64 (SCOPE 1.2).
@@ -60,6 +60,7 @@ pub struct Relation {
     pub row: Row,
 }
 
+/// The number of its equations is that of its rows.
 #[derive(Clone, Debug, PartialEq, Eq)]
 pub struct System {
     pub sizes: Sizes,

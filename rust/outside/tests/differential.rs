@@ -109,12 +109,18 @@ fn judged() {
             assert_eq!(found.err().unwrap_or(0), number, "{rest:?}");
         }
     }
-    let sizes = ["3 0 ", "3 5 ", "3 1 3 ", "3 1 -1 ", "3 1 0 3\n", "3 1 0 -1\n", "4 ", "3 1 0 0\n2\n", "3 2 0 0\n1\n"];
+    let sizes = ["3 0 ", "3 5 ", "3 1 3 ", "3 1 -1 ", "3 1 0 3\n", "3 1 0 -1\n", "4 ", "3 1 0 0\n7\n", "3 2 0 0\n-1\n"];
     for sheet in sizes {
         assert_eq!(answered(sheet), Err(2), "{sheet:?}");
     }
     assert_eq!(output(b"3 1 0 0\n1\n1 0 0 1 7\n", None), b"0\n3 1 0 0\n1\n1 0 1 1 7\n0\n0\n");
     assert_eq!(output(b"", None), b"4\n");
+    // Any number of equations up to six (02, U6).
+    assert_eq!(output(b"3 4 2 2\n0\n", None), b"0\n3 4 2 -2\n0\n0\n0\n");
+    let six = "1 0 0 1 7\n".repeat(6);
+    let recurrence = "1 0 1 1 7\n".repeat(6);
+    let expected = format!("3 1 0 0\n6\n{recurrence}0\n0\n");
+    assert_eq!(answered(&format!("3 1 0 0\n6\n{six}")), Ok(expected));
 }
 
 // ---- stores ----
@@ -128,7 +134,7 @@ fn stores() {
     assert_eq!(rows[..4], [2, 3, 1, 0]);
     assert_eq!((rows[192], rows[193], rows[ROW - 1], rows[ROW]), (-1, 0, 0, 9));
     assert!(relations[..RELATION_STORE].iter().all(|&a| a == 0) && relations[RELATION_STORE] == 9);
-    assert_eq!(result, [1, 2, -1, 0, 0, 0, 0, 0, 9]);
+    assert_eq!(result, [1, 2, -1, 0, 0, 0, 0, 0, 1, 9]);
     let (mut rows, mut relations, mut result) = lent();
     let short = &mut rows[..ROW - 1];
     assert_eq!(read_differential_on_stores(sheet, short, &mut relations, &mut result, None), 1);

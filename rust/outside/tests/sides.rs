@@ -69,17 +69,19 @@ fn widths() {
 }
 
 #[test]
-fn dependent_and_inconsistent() {
+fn repeated_and_inconsistent() {
     let both = |sheet: &str| {
         let [leading, trailing] = [Side::Leading, Side::Trailing].map(|side| of(sheet, side).unwrap_err().number());
         assert_eq!(leading, trailing);
         leading
     };
-    assert_eq!(both(&two([X, X], ["2 0 1", "2 0 1"])), 6);
+    let ranks = |sheet: &str| [Side::Leading, Side::Trailing].map(|side| of(sheet, side).unwrap().rank());
+    assert_eq!(ranks(&two([X, X], ["2 0 1", "2 0 1"])), [1, 1]);
     assert_eq!(both(&two([X, X], ["2 0 1", "2 1 1"])), 10);
     assert_eq!(both(&two(["0", X], ["1 3", "0"])), 10);
     assert_eq!(both(&two([X, "0"], ["1 3", "1 3"])), 10);
-    assert_eq!(both(&two([X, "0"], ["1 3", "0"])), 6);
+    assert_eq!(ranks(&two([X, "0"], ["1 3", "0"])), [1, 1]);
+    assert_eq!(ranks(&two(["0", X], ["0", "1 3"])), [1, 1]);
     // 2 x = C and 3 x = -C leave 0 = -5 C, divided 0 = -1; with n more, 0 = -5 C - 3 n, which 3 divides.
     let (twice, thrice) = ("1 0 1 1 2", "1 0 1 1 3");
     assert_eq!(both(&two([twice, thrice], ["1 268435455", "1 -268435455"])), 10);

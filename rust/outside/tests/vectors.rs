@@ -33,22 +33,14 @@ fn run_text(bytes: &[u8], side: Side) -> Vec<u8> {
     let name = if side == Side::Leading { "leading" } else { "trailing" };
     let outcome = read(bytes, None).and_then(|sheet| run(&sheet.system, side, None));
     match outcome {
-        Err(refusal) => format!("{name} {} shifts 0 root none\n", refusal.number()).into_bytes(),
+        Err(refusal) => format!("{name} {} shifts 0 root none rank 0\n", refusal.number()).into_bytes(),
         Ok(run) => {
             let root = run.root.map_or("none".to_string(), |r| r.to_string());
-            let mut text = format!("{name} 0 shifts {} root {root}\n", run.shifts).into_bytes();
+            let mut text = format!("{name} 0 shifts {} root {root} rank {}\n", run.shifts, run.rank()).into_bytes();
             text.extend(write(&Sheet { system: run.system, order: run.order }));
             text
         }
     }
-}
-
-/// Every sheet of a file, with what follows it for the sides; whether there is such a file.
-fn compared(file: &str, sides: &[Side]) -> bool {
-    let Ok(all) = fs::read(folder().join(file)) else { return false };
-    let followed = |bytes: &[u8]| sides.iter().flat_map(|&side| run_text(bytes, side)).collect();
-    println!("{file}: {} cases", followed_by(&all, followed));
-    true
 }
 
 /// Each sheet of a file is followed by the text that is expected of it. Returns how many there are.
@@ -69,13 +61,13 @@ fn followed_by(file: &[u8], expected: impl Fn(&[u8]) -> Vec<u8>) -> usize {
     count
 }
 
-/// `run.txt` has both sides of each sheet, `trailing.txt` the trailing one.
+/// `run.txt` has both sides of each sheet.
 #[test]
 #[ignore = "needs a folder of vectors"]
 fn runs() {
-    let both = compared("run.txt", &[Side::Leading, Side::Trailing]);
-    let trailing = compared("trailing.txt", &[Side::Trailing]);
-    assert!(both || trailing, "the folder has no file of runs");
+    let all = fs::read(folder().join("run.txt")).expect("the folder has a file of runs");
+    let sides = |bytes: &[u8]| [Side::Leading, Side::Trailing].iter().flat_map(|&side| run_text(bytes, side)).collect();
+    println!("runs: {} cases", followed_by(&all, sides));
 }
 
 /// Differential sheets, each followed by the answer and, where that is 0, by the recurrence's sheet (02, U3).
@@ -86,6 +78,6 @@ fn differential_sheets() {
         Ok(sheet) => [b"answer 0\n", &sheet[..]].concat(),
         Err(refusal) => format!("answer {}\n", refusal.number()).into_bytes(),
     };
-    let file = fs::read(folder().join("../calls/differential-m.txt")).expect("the folder has one of calls beside it");
+    let file = fs::read(folder().join("../calls/differential.txt")).expect("the folder has one of calls beside it");
     println!("differential sheets: {} cases", followed_by(&file, answered));
 }

@@ -20,12 +20,12 @@ macro_rules! foreign {
 foreign! {
     fn wurgalm_run_leading(
         rows: *mut i64, rows_length: usize, relations: *mut i64, relations_length: usize,
-        m: usize, l: i64, t: i64, count: usize,
+        m: usize, equations: usize, l: i64, t: i64, count: usize,
         result: *mut i64, result_length: usize,
     ) -> u8;
     fn wurgalm_run_trailing(
         rows: *mut i64, rows_length: usize, relations: *mut i64, relations_length: usize,
-        m: usize, l: i64, t: i64, count: usize,
+        m: usize, equations: usize, l: i64, t: i64, count: usize,
         result: *mut i64, result_length: usize,
     ) -> u8;
     fn wurgalm_read_sheet(
@@ -35,7 +35,7 @@ foreign! {
     ) -> u8;
     fn wurgalm_write_sheet(
         rows: *const i64, rows_length: usize, relations: *const i64, relations_length: usize,
-        m: usize, l: i64, t: i64, count: usize, order: *const i64, order_length: usize,
+        m: usize, equations: usize, l: i64, t: i64, count: usize, order: *const i64, order_length: usize,
         bytes: *mut u8, bytes_length: usize,
         result: *mut i64, result_length: usize,
     ) -> u8;

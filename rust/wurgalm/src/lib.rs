@@ -24,23 +24,29 @@ pub const RELATION: usize = 1 + ROW;
 /// Numbers that the relation store needs.
 pub const RELATION_STORE: usize = 16 * RELATION;
 
-/// Bytes that are enough for the sheet of any recurrence, which is proved (SCOPE 10.42).
-pub const RECURRENCE: usize = 16_841;
+/// The most equations that a system has. A row store for so many is long enough for any system.
+pub const EQUATIONS: usize = 6;
+/// Numbers that a run and a reader put into the result store.
+const RESULT: usize = 9;
 
-/// Numbers that the row store of a system with m unknowns needs.
-pub const fn row_store(m: usize) -> usize {
-    m * ROW
+/// Bytes that are enough for the sheet of any recurrence, which is proved (SCOPE 10.42).
+pub const RECURRENCE: usize = 25_223;
+
+/// Numbers that the row store of a system with so many equations needs.
+pub const fn row_store(equations: usize) -> usize {
+    equations * ROW
 }
 
-/// Unknowns, highest block, lowest block.
+/// Unknowns, equations, highest block, lowest block. There may be fewer equations than unknowns, or more.
 #[derive(Clone, Copy, Debug, PartialEq, Eq)]
 pub struct Sizes {
     pub m: usize,
+    pub equations: usize,
     pub l: i64,
     pub t: i64,
 }
 
-/// A refusal under its number, 1 to 10.
+/// A refusal under its number, 1 to 5 or 7 to 10.
 #[derive(Clone, Copy, Debug, PartialEq, Eq)]
 pub struct Refusal(pub u8);
 
@@ -49,10 +55,12 @@ pub struct Refusal(pub u8);
 pub struct Report {
     pub relations: usize,
     pub shifts: usize,
-    /// c(1) to c(m), zeros past its end.
+    /// c(1) to c(w), w the rank, and zeros past them.
     pub order: [i64; 4],
     /// The largest integer root of a diagonal polynomial; the smallest on the trailing side.
     pub root: Option<i64>,
+    /// How many equations are left. The others became zero; their places, behind those that are left, are zero.
+    pub rank: usize,
 }
 
 /// What a sheet holds beside the rows and relations, which are in the stores.
@@ -60,14 +68,15 @@ pub struct Report {
 pub struct Heading {
     pub sizes: Sizes,
     pub relations: usize,
-    /// Zeros if the sheet has no column order.
+    /// The columns of the sheet's order line, zeros past them.
     pub order: [i64; 4],
 }
 
 impl Sizes {
     fn in_range(&self) -> bool {
         let block = |s: i64| (-64..=64).contains(&s);
-        (1..=4).contains(&self.m) && block(self.l) && block(self.t) && (0..=4).contains(&(self.l - self.t))
+        let counts = (1..=4).contains(&self.m) && self.equations <= EQUATIONS;
+        counts && block(self.l) && block(self.t) && (0..=4).contains(&(self.l - self.t))
     }
 }
 
@@ -78,12 +87,12 @@ impl Sizes {
 /// let mut rows = vec![0; wurgalm::row_store(1)]; // x(n) = 3 + 5 n
 /// rows[0] = 1;
 /// (rows[wurgalm::ENTRIES], rows[wurgalm::ENTRIES + 1]) = (3, 5);
-/// let sizes = wurgalm::Sizes { m: 1, l: 0, t: 0 };
+/// let sizes = wurgalm::Sizes { m: 1, equations: 1, l: 0, t: 0 };
 /// assert_eq!(wurgalm::right_side(&rows, sizes, 1)[..3], [3, 5, 0]);
 /// assert_eq!(wurgalm::right_side(&rows, sizes, 2), []);
 /// ```
 pub fn right_side(rows: &[i64], sizes: Sizes, row: usize) -> &[i64] {
-    if sizes.in_range() && (1..=sizes.m).contains(&row) && rows.len() >= row_store(sizes.m) {
+    if sizes.in_range() && (1..=sizes.equations).contains(&row) && rows.len() >= row_store(sizes.equations) {
         &rows[row * ROW - COEFFICIENTS..row * ROW]
     } else {
         &[]
@@ -98,35 +107,48 @@ fn accepted<T>(number: u8, answer: T) -> Result<T, Refusal> {
     }
 }
 
-fn report(number: u8, result: [i64; 8]) -> Result<Report, Refusal> {
-    let [relations, shifts, a, b, c, d, any, root] = result;
+fn report(number: u8, result: [i64; RESULT]) -> Result<Report, Refusal> {
+    let [relations, shifts, a, b, c, d, any, root, rank] = result;
     let root = if any == 1 { Some(root) } else { None };
-    accepted(number, Report { relations: relations as usize, shifts: shifts as usize, order: [a, b, c, d], root })
+    let (relations, shifts, rank) = (relations as usize, shifts as usize, rank as usize);
+    accepted(number, Report { relations, shifts, order: [a, b, c, d], root, rank })
 }
 
-/// Regularises the leading side of the system in the stores.
+/// Regularises the leading side of the system in the stores. What is left has the sizes of the system with `rank` equations.
+///
+/// ```
+/// let (mut rows, mut relations) = (vec![0; wurgalm::row_store(3)], vec![0; wurgalm::RELATION_STORE]);
+/// rows[0] = 2; // 2 x(n) = 0, and the same once more, as the third of three equations
+/// rows[2 * wurgalm::ROW] = 2;
+/// let sizes = wurgalm::Sizes { m: 1, equations: 3, l: 0, t: 0 };
+/// let report = wurgalm::run_leading(&mut rows, &mut relations, sizes, 0).unwrap();
+/// assert_eq!((report.rank, report.order), (1, [1, 0, 0, 0]));
+/// assert_eq!((rows[0], rows[2 * wurgalm::ROW]), (2, 0));
+/// ```
 pub fn run_leading(rows: &mut [i64], relations: &mut [i64], sizes: Sizes, count: usize) -> Result<Report, Refusal> {
-    let mut result = [0; 8];
-    let number = stores::run_leading(rows, relations, sizes.m, sizes.l, sizes.t, count, &mut result);
+    let mut result = [0; RESULT];
+    let Sizes { m, equations, l, t } = sizes;
+    let number = stores::run_leading(rows, relations, m, equations, l, t, count, &mut result);
     report(number, result)
 }
 
 /// Regularises the trailing side of the system in the stores.
 pub fn run_trailing(rows: &mut [i64], relations: &mut [i64], sizes: Sizes, count: usize) -> Result<Report, Refusal> {
-    let mut result = [0; 8];
-    let number = stores::run_trailing(rows, relations, sizes.m, sizes.l, sizes.t, count, &mut result);
+    let mut result = [0; RESULT];
+    let Sizes { m, equations, l, t } = sizes;
+    let number = stores::run_trailing(rows, relations, m, equations, l, t, count, &mut result);
     report(number, result)
 }
 
-fn heading(number: u8, result: [i64; 8]) -> Result<Heading, Refusal> {
-    let [m, l, t, relations, order @ ..] = result;
-    let sizes = Sizes { m: m as usize, l, t };
-    accepted(number, Heading { sizes, relations: relations as usize, order })
+fn heading(number: u8, result: [i64; RESULT]) -> Result<Heading, Refusal> {
+    let [m, l, t, relations, a, b, c, d, equations] = result;
+    let sizes = Sizes { m: m as usize, equations: equations as usize, l, t };
+    accepted(number, Heading { sizes, relations: relations as usize, order: [a, b, c, d] })
 }
 
-/// Reads a sheet into the stores.
+/// Reads a sheet into the stores. A row store for [`EQUATIONS`] equations is long enough for any.
 pub fn read_sheet(bytes: &[u8], rows: &mut [i64], relations: &mut [i64]) -> Result<Heading, Refusal> {
-    let mut result = [0; 8];
+    let mut result = [0; RESULT];
     let number = stores::read_sheet(bytes, rows, relations, &mut result);
     heading(number, result)
 }
@@ -137,13 +159,13 @@ pub fn read_sheet(bytes: &[u8], rows: &mut [i64], relations: &mut [i64]) -> Resu
 /// let sheet = b"3 1 2 1\n1\n2 2 0 1 1 0 1 1 -1\n"; // y'' - x y = 0
 /// let (mut rows, mut relations) = (vec![0; wurgalm::row_store(1)], vec![0; wurgalm::RELATION_STORE]);
 /// let heading = wurgalm::read_differential(sheet, &mut rows, &mut relations).unwrap();
-/// assert_eq!(heading.sizes, wurgalm::Sizes { m: 1, l: 2, t: -1 });
+/// assert_eq!(heading.sizes, wurgalm::Sizes { m: 1, equations: 1, l: 2, t: -1 });
 /// assert_eq!(rows[..3], [2, 3, 1]); // (n + 1) (n + 2) y(n + 2)
 /// let report = wurgalm::run_leading(&mut rows, &mut relations, heading.sizes, heading.relations).unwrap();
 /// assert_eq!(report.root, Some(-1)); // from y(0) and y(1) on everything follows
 /// ```
 pub fn read_differential(bytes: &[u8], rows: &mut [i64], relations: &mut [i64]) -> Result<Heading, Refusal> {
-    let mut result = [0; 8];
+    let mut result = [0; RESULT];
     let number = stores::read_differential(bytes, rows, relations, &mut result);
     heading(number, result)
 }
@@ -156,11 +178,12 @@ pub fn write_recurrence(sheet: &[u8], bytes: &mut [u8]) -> Result<usize, Refusal
     accepted(number, result[0] as usize)
 }
 
-/// Writes the sheet of the system in the stores to the beginning of `bytes`, and tells its length.
+/// Writes the sheet of the system in the stores to the beginning of `bytes`, and tells its length. The order of the heading is different
+/// columns of 1 to m, and zeros past them.
 pub fn write_sheet(rows: &[i64], relations: &[i64], heading: &Heading, bytes: &mut [u8]) -> Result<usize, Refusal> {
     let mut result = [0; 1];
-    let Sizes { m, l, t } = heading.sizes;
-    let number = stores::write_sheet(rows, relations, m, l, t, heading.relations, &heading.order, bytes, &mut result);
+    let (Sizes { m, equations, l, t }, count) = (heading.sizes, heading.relations);
+    let number = stores::write_sheet(rows, relations, m, equations, l, t, count, &heading.order, bytes, &mut result);
     accepted(number, result[0] as usize)
 }
 

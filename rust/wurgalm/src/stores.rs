@@ -4,11 +4,13 @@
 
 use crate::foreign;
 
-/// Eight numbers in `result`: relation count, shifts, c(1) to c(4), 1 or 0 for a root, the root.
+/// Nine numbers in `result`: relation count, shifts, c(1) to c(4), 1 or 0 for a root, the root, the rank.
+#[allow(clippy::too_many_arguments)]
 pub fn run_leading(
     rows: &mut [i64],
     relations: &mut [i64],
     m: usize,
+    equations: usize,
     l: i64,
     t: i64,
     count: usize,
@@ -22,6 +24,7 @@ pub fn run_leading(
             relations.as_mut_ptr(),
             relations.len(),
             m,
+            equations,
             l,
             t,
             count,
@@ -32,10 +35,12 @@ pub fn run_leading(
 }
 
 /// As [`run_leading`], for the trailing side.
+#[allow(clippy::too_many_arguments)]
 pub fn run_trailing(
     rows: &mut [i64],
     relations: &mut [i64],
     m: usize,
+    equations: usize,
     l: i64,
     t: i64,
     count: usize,
@@ -49,6 +54,7 @@ pub fn run_trailing(
             relations.as_mut_ptr(),
             relations.len(),
             m,
+            equations,
             l,
             t,
             count,
@@ -58,7 +64,7 @@ pub fn run_trailing(
     }
 }
 
-/// Eight numbers in `result`: m, l, t, relation count, c(1) to c(4).
+/// Nine numbers in `result`: m, l, t, relation count, c(1) to c(4), equation count.
 pub fn read_sheet(bytes: &[u8], rows: &mut [i64], relations: &mut [i64], result: &mut [i64]) -> u8 {
     // SAFETY: as above; `bytes` is only read.
     unsafe {
@@ -81,6 +87,7 @@ pub fn write_sheet(
     rows: &[i64],
     relations: &[i64],
     m: usize,
+    equations: usize,
     l: i64,
     t: i64,
     count: usize,
@@ -96,6 +103,7 @@ pub fn write_sheet(
             relations.as_ptr(),
             relations.len(),
             m,
+            equations,
             l,
             t,
             count,
@@ -109,7 +117,7 @@ pub fn write_sheet(
     }
 }
 
-/// The recurrence of a differential sheet. Eight numbers in `result`, as those of [`read_sheet`].
+/// The recurrence of a differential sheet. Nine numbers in `result`, as those of [`read_sheet`].
 pub fn read_differential(bytes: &[u8], rows: &mut [i64], relations: &mut [i64], result: &mut [i64]) -> u8 {
     // SAFETY: as above; `bytes` is only read.
     unsafe {

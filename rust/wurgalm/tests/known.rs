@@ -2,24 +2,24 @@
 
 use wurgalm::{batch, batch_output, read_differential, read_sheet, right_side, row_store, run_leading, run_trailing};
 use wurgalm::{write_recurrence, write_sheet, Heading, Refusal, Report, Sizes};
-use wurgalm::{RECURRENCE, RELATION, RELATION_STORE, ROW};
+use wurgalm::{EQUATIONS, RECURRENCE, RELATION, RELATION_STORE, ROW};
 
 const K2: &[u8] = b"3 2 1 0\n2\n2 1 1 2 0 1 0 2 1 -1\n2 1 1 1 1 0 1 1 -1\n0\n0\n";
 const K2_ANSWER: &[u8] =
     b"3 2 1 0\n2\n2 1 1 2 -1 -1 1 2 1 1\n2 1 2 2 0 1 0 2 2 -1 -1\n2\n0 2 1 1 1 1 0 1 1 -1\n-1 2 1 1 2 0 1 0 2 1 -1\n2 1 2\n";
 
 fn stores() -> (Vec<i64>, Vec<i64>) {
-    (vec![0; row_store(4)], vec![0; RELATION_STORE])
+    (vec![0; row_store(EQUATIONS)], vec![0; RELATION_STORE])
 }
 
 #[test]
 fn k2() {
     let (mut rows, mut relations) = stores();
     let heading = read_sheet(K2, &mut rows, &mut relations).unwrap();
-    let sizes = Sizes { m: 2, l: 1, t: 0 };
+    let sizes = Sizes { m: 2, equations: 2, l: 1, t: 0 };
     assert_eq!(heading, Heading { sizes, relations: 0, order: [0; 4] });
     let report = run_leading(&mut rows, &mut relations, sizes, 0).unwrap();
-    assert_eq!(report, Report { relations: 2, shifts: 1, order: [1, 2, 0, 0], root: Some(0) });
+    assert_eq!(report, Report { relations: 2, shifts: 1, order: [1, 2, 0, 0], root: Some(0), rank: 2 });
     let mut bytes = [0; 200];
     let heading = Heading { sizes, relations: 2, order: report.order };
     let length = write_sheet(&rows, &relations, &heading, &mut bytes).unwrap();
@@ -32,7 +32,7 @@ fn k11() {
     let (mut rows, mut relations) = stores();
     let heading = read_sheet(b"3 1 1 0\n1\n1 1 1 2 0 1\n0\n0\n", &mut rows, &mut relations).unwrap();
     let report = run_trailing(&mut rows, &mut relations, heading.sizes, 0).unwrap();
-    assert_eq!(report, Report { relations: 0, shifts: 1, order: [1, 0, 0, 0], root: Some(1) });
+    assert_eq!(report, Report { relations: 0, shifts: 1, order: [1, 0, 0, 0], root: Some(1), rank: 1 });
     assert_eq!(rows[64..66], [-1, 1]);
 }
 
@@ -42,12 +42,12 @@ fn right_sides() {
     let (mut rows, mut relations) = stores();
     let sheet = b"3 1 1 0\n1\n1 0 1 1 1\n1\n7 1 0 1 1 1\n0\n2\n3 0 0 1\n1 5\n";
     let heading = read_sheet(sheet, &mut rows, &mut relations).unwrap();
-    let sizes = Sizes { m: 1, l: 1, t: 0 };
+    let sizes = Sizes { m: 1, equations: 1, l: 1, t: 0 };
     assert_eq!(heading, Heading { sizes, relations: 1, order: [0; 4] });
     assert_eq!(right_side(&rows, sizes, 1)[..4], [0, 0, 1, 0]);
     assert_eq!((relations[0], relations[RELATION - 16], relations[RELATION]), (7, 5, 0));
     let report = run_leading(&mut rows, &mut relations, sizes, 1).unwrap();
-    assert_eq!(report, Report { relations: 1, shifts: 1, order: [1, 0, 0, 0], root: None });
+    assert_eq!(report, Report { relations: 1, shifts: 1, order: [1, 0, 0, 0], root: None, rank: 1 });
     assert_eq!(right_side(&rows, sizes, 1)[..4], [1, 2, 1, 0]);
     let mut bytes = [0; 100];
     let length = write_sheet(&rows, &relations, &Heading { order: report.order, ..heading }, &mut bytes).unwrap();
@@ -60,8 +60,41 @@ fn right_sides() {
 fn inconsistent() {
     let (mut rows, mut relations) = stores();
     rows[ROW - 16] = 1;
-    assert_eq!(run_trailing(&mut rows, &mut relations, Sizes { m: 1, l: 0, t: 0 }, 0), Err(Refusal(10)));
+    assert_eq!(run_trailing(&mut rows, &mut relations, Sizes { m: 1, equations: 1, l: 0, t: 0 }, 0), Err(Refusal(10)));
     assert!(rows.iter().all(|&a| a == 0));
+}
+
+/// x(n + 1) + y(n) = n twice and a zero equation between: one equation is left (02, U6); with another right side there is no solution.
+#[test]
+fn repeated() {
+    let (mut rows, mut relations) = stores();
+    let equation = "2 1 1 1 1 0 2 1 1\n";
+    let sheet = |side: &str| format!("3 2 1 0\n3\n{equation}0\n{equation}0\n1 2\n3\n2 0 1\n0\n{side}\n").into_bytes();
+    let heading = read_sheet(&sheet("2 0 1"), &mut rows, &mut relations).unwrap();
+    let sizes = Sizes { m: 2, equations: 3, l: 1, t: 0 };
+    assert_eq!(heading, Heading { sizes, relations: 0, order: [2, 0, 0, 0] });
+    let report = run_leading(&mut rows, &mut relations, sizes, 0).unwrap();
+    assert_eq!(report, Report { relations: 0, shifts: 0, order: [1, 0, 0, 0], root: None, rank: 1 });
+    assert!(rows[ROW..].iter().all(|&a| a == 0));
+    let mut bytes = [0; 100];
+    let left = Heading { sizes: Sizes { equations: report.rank, ..sizes }, relations: 0, order: report.order };
+    let length = write_sheet(&rows, &relations, &left, &mut bytes).unwrap();
+    assert_eq!(&bytes[..length], format!("3 2 1 0\n1\n{equation}0\n1 1\n1\n2 0 1\n").as_bytes());
+    read_sheet(&sheet("2 1 1"), &mut rows, &mut relations).unwrap();
+    assert_eq!(run_trailing(&mut rows, &mut relations, sizes, 0), Err(Refusal(10)));
+}
+
+/// No equation at all, from a sheet and from a differential sheet.
+#[test]
+fn no_equations() {
+    let sizes = Sizes { m: 3, equations: 0, l: 1, t: 0 };
+    let (_, mut relations) = stores();
+    let heading = read_sheet(b"3 3 1 0\n0\n0\n0\n", &mut [], &mut relations).unwrap();
+    assert_eq!(heading, Heading { sizes, relations: 0, order: [0; 4] });
+    assert_eq!(read_differential(b"3 3 1 0\n0\n", &mut [], &mut relations), Ok(heading));
+    let report = run_leading(&mut [], &mut relations, sizes, 0).unwrap();
+    assert_eq!(report, Report { relations: 0, shifts: 0, order: [0; 4], root: None, rank: 0 });
+    assert_eq!(run_leading(&mut [], &mut relations, Sizes { equations: 7, ..sizes }, 0), Err(Refusal(2)));
 }
 
 /// x^2 y'' + x y' + (x^2 - 4) y = 0 (SCOPE 10.22, 10.23): (n^2 - 4) y(n) + y(n - 2) = 0, moved up to block 2 by two shifts.
@@ -70,14 +103,14 @@ fn bessel() {
     let sheet = b"3 1 2 2\n1\n4 2 2 1 1 1 1 1 1 0 0 1 -4 0 2 1 1\n";
     let (mut rows, mut relations) = stores();
     let heading = read_differential(sheet, &mut rows, &mut relations).unwrap();
-    let sizes = Sizes { m: 1, l: 2, t: -2 };
+    let sizes = Sizes { m: 1, equations: 1, l: 2, t: -2 };
     assert_eq!(heading, Heading { sizes, relations: 0, order: [0; 4] });
     let mut bytes = [0; RECURRENCE];
     let length = write_recurrence(sheet, &mut bytes).unwrap();
     assert_eq!(&bytes[..length], b"3 1 2 -2\n1\n2 0 1 3 -4 0 1 -2 1 1 1\n0\n0\n");
     assert_eq!(read_sheet(&bytes[..length], &mut stores().0, &mut stores().1), Ok(heading));
     let report = run_leading(&mut rows, &mut relations, sizes, 0).unwrap();
-    assert_eq!(report, Report { relations: 0, shifts: 2, order: [1, 0, 0, 0], root: Some(0) });
+    assert_eq!(report, Report { relations: 0, shifts: 2, order: [1, 0, 0, 0], root: Some(0), rank: 1 });
     assert_eq!((&rows[..4], rows[128]), (&[0, 4, 1, 0][..], 1));
     assert_eq!(write_recurrence(sheet, &mut bytes[..length - 1]), Err(Refusal(1)));
     assert_eq!(write_recurrence(&sheet[..20], &mut bytes), Err(Refusal(4)));

@@ -8,7 +8,7 @@ use mathlib.Core.Logic.{_≢_}
 use mathlib.Core.List.{List}
 use denote.Ref.{now}
 use lib.IntN.{ℤ}
-use lib.ListN.{length, drop}
+use lib.ListN.{length, take, drop}
 use lib.Seq.{length-take-le}
 use Rattle.rules.specs.Stores.{equations, largestRows, relationNeed, checkStores}
 use Rattle.rules.specs.Calls.{Call, zeros}
@@ -19,7 +19,8 @@ use Rattle.reading.specs.WholeSheet.{resultOf}
 use Rattle.reading.specs.ReadCalls as ReadCalls
 use Rattle.runs.specs.CallLaws as CallLaws
 use Rattle.writing.specs.WriterChecks as WriterChecks
-use Rattle.answers.specs.Answers.{callOf, unanswered, call-unread, call-refused, call-written, call-checked-read, call-checked-run}
+use Rattle.answers.specs.Answers.{callOf, unanswered, checkIn, writeIn, call-unread, call-refused, call-written, call-checked-read}
+use Rattle.answers.specs.Answers.{call-checked-run}
 use Rattle.answers.specs.WorkStores.{Used, unread-same, read-rest, refused-zero, accepted-used}
 use borrow.Author.Needs.{needs}
 use Rattle.rules.specs.Limits.{rowLength, relationLength}
@@ -115,7 +116,7 @@ module _ (c : tie.After-leading-run) where
 
   -- the number of equations
   abbrev n : ℕ
-  n = r e .read-own .result .sizes .m
+  n = r e .read-own .result .sizes .equations
 
   rest : drop (n * rowLength) (rows (r e)) ≡ drop (n * rowLength) (zeros largestRows)
   unfolding equations ReadCalls.callOf resultOf sizesOf
@@ -160,6 +161,9 @@ returns-2 c =
       (both .0 ∙ sym (a .pre .0), both .1 ∙ sym (a .pre .1)),
     )
 
+with-equations-requires : tie.Need-with-equations-requires
+with-equations-requires c κs = search needs
+
 lent-bytes-requires : tie.Need-lent-bytes-requires
 lent-bytes-requires c κs = search needs
 
@@ -169,22 +173,23 @@ slice-relend-prefix-write-checked c = search needs
 slice-aggregate-write-checked : tie.Need-slice-aggregate-write-checked
 slice-aggregate-write-checked c =
     let lent = c .before .before .before .lent-bytes in
-    let d = c .before .before .before .before .before .before .before .before .before in
+    let d = c .before .before .before .before .before .before .before .before .before .before in
     sym (length-take-le (lent .result) (output (s d)) (omega (arith, lent .ensures)))
 
 write-checked-requires : tie.Need-write-checked-requires
 unfolding ReadCalls.callOf resultOf CallLaws.callOf CallLaws.resultOf
 write-checked-requires c κs =
-    let f = c .before .before .before .before .before in
+    let f = c .before .before .before .before .before .before in
     let d = f .before .before .before .before in
     let a = s d in
-    call-checked-run (bytes a) (output a) (rows₀ a) (relations₀ a) (rows-long a) (relations-long a) (readBy (r (e d)))
+    ap (λ z. checkIn z (ranBy d)) (c .before .before .before .before .with-equations .ensures)
+    ∙ call-checked-run (bytes a) (output a) (rows₀ a) (relations₀ a) (rows-long a) (relations-long a) (readBy (r (e d)))
     (r (e d) .read-own .ensures) (e d .if1 .left) (ranBy d) (d .leading-run .ensures) (f .if2 .left)
 
 -- What the run has left is cleared.
 module _ (c : tie.After-write-checked) where
   abbrev f : tie.Else2
-  f = c .before .before .before .before .before .before
+  f = c .before .before .before .before .before .before .before
 
   abbrev d : tie.After-leading-run
   d = f .before .before .before .before
@@ -244,12 +249,15 @@ returns-3 : tie.Need-returns-3
 unfolding callOf ReadCalls.callOf resultOf sizesOf CallLaws.callOf CallLaws.resultOf
 returns-3 c =
     let lent = w c .before .before .before .before .lent-bytes in
+    let kept = w c .before .before .before .before .before .with-equations .ensures in
     let g = d (w c) in
     let a = s g in (
       call-written (bytes a) (output a) (rows₀ a) (relations₀ a) (rows-long a) (relations-long a) (readBy (r (e g)))
           (r (e g) .read-own .ensures) (e g .if1 .left) (ranBy g) (g .leading-run .ensures) (f (w c) .if2 .left) (lent .result)
           (lent .ensures)
-          (wroteBy (w c)) (w c .write-checked .ensures),
+          (wroteBy (w c))
+          (w c .write-checked .ensures
+          ∙ ap (λ z. writeIn z (ranBy g) (take (lent .result) (output a))) kept),
       (rows-back c, relations-back c),
     )
 
@@ -267,6 +275,7 @@ answer-in-spec =
     same-length-3
     same-length-4
     returns-2
+    with-equations-requires
     lent-bytes-requires
     slice-relend-prefix-write-checked
     slice-aggregate-write-checked

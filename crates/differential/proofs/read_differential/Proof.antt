@@ -1,7 +1,7 @@
 -- `differential::read_differential` meets its contract: the sheet is refused, or a lent store is too short, or both are filled.
 -- Assumes nothing.
 use mathlib.Core.List.{List}
-use mathlib.Core.Path.{_≡_, refl, sym, ap, ap₂, _∙_}
+use mathlib.Core.Path.{_≡_, refl, sym, _∙_}
 use Prim.Native.Nat.{_≤_, zero-le}
 use native.Mathlib.Omega.{arith}
 use borrow.Author.Needs.{needs}
@@ -13,12 +13,10 @@ use Rattle.lists.specs.Tests.{true-T}
 use Rattle.rules.specs.Calls.{zeros}
 use Rattle.rules.specs.Layout.{lengthsRight-iff}
 use Rattle.rules.specs.Limits.{mostEquations}
-use Rattle.rules.specs.Stores.{rowNeed, equations, lengthsRight, relationsOf, largestRows}
-use Rattle.stores.specs.Validity.{sizesOf}
+use Rattle.rules.specs.Stores.{rowNeed, relationsOf, largestRows}
 use Rattle.reading.specs.ReadCalls.{callOf, call-unread}
 use Rattle.reading.specs.WholeSheet.{resultOf}
-use Rattle.reading.specs.Zeros.{length-zeros}
-use Rattle.differential.specs.Grammar.{Extent, sizesFor}
+use Rattle.differential.specs.Grammar.{Extent}
 use Rattle.differential.specs.Read.{extentOf}
 use Rattle.differential.specs.WholeSheet.{SheetTo}
 use Rattle.differential.specs.SheetCalls.{noOrder, read-faults, read-short, read-fills}
@@ -57,9 +55,9 @@ returns c =
     call-unread _ _ _ _ (c .refused .ensures)
     ∙ sym (read-faults _ _ _ (sheet (c .before .before .before .before) .refused (c .before .if1 .taken)))
 
-few : (c : tie.Else1) → c .before .before .before .sheet-at .result .extent .unknowns ≤ mostEquations
+few : (c : tie.Else1) → c .before .before .before .sheet-at .result .extent .equations ≤ mostEquations
 unfolding extentOf
-few c = sheet (c .before .before .before) .small (c .if1 .left) .0 .unknowns-few
+few c = sheet (c .before .before .before) .small (c .if1 .left) .0 .equations-few
 
 lengths-right-requires : tie.Need-lengths-right-requires
 lengths-right-requires c κs = few (c .before .before .before)
@@ -74,7 +72,7 @@ same-length-2 : tie.Need-same-length-2
 same-length-2 c = search needs
 
 returns-2 : tie.Need-returns-2
-unfolding equations sizesFor extentOf
+unfolding extentOf
 returns-2 c =
     call-unread _ _ _ _ (c .refused2 .ensures)
     ∙ sym (read-short _ (extent (c .before .before .before .before .before .before .before .before .before)) (numbers (c .before .before .before .before .before .before .before .before .before)) (sheet (c .before .before .before .before .before .before .before .before .before) .read (c .before .before .before .before .before .before .if1 .left)) _ _
@@ -109,7 +107,7 @@ same-length-4 : tie.Need-same-length-4
 same-length-4 c = search needs
 
 returns-3 : tie.Need-returns-3
-unfolding callOf resultOf equations sizesFor extentOf relationsOf
+unfolding callOf resultOf extentOf relationsOf
 returns-3 c =
     (λ i. record {
       result = record { refusal = 0; sizes = c .sizes-for .ensures i; relations = 0; order = noOrder };

@@ -34,7 +34,7 @@ returns c =
     let highest : toZ w64 (x .order) ≡ pos (x .order) = toZ-pos w64 (omega (arith, c .before .before .pre .order-small)) in
     let lowest : toZ w64 (ofZ w64 (pos 0 -ℤ toZ w64 (x .degree))) ≡ negℤ (pos (x .degree)) =
     up-to-two (λ j. toZ w64 (ofZ w64 (pos 0 -ℤ toZ w64 j)) ≡ negℤ (pos j)) refl refl refl (x .degree) (c .before .before .pre .degree-small) in
-    λ i. record { m = x .unknowns; l = highest i; t = lowest i }
+    λ i. record { m = x .unknowns; equations = x .equations; l = highest i; t = lowest i }
 
 pub sizes-for-spec : {M : Type 1} → statement M
 sizes-for-spec = tie.close (tie.spec cast-t2 cast-t3 sub-t4 returns)

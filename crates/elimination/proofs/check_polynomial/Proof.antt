@@ -54,7 +54,7 @@ place-hold c = sym (place-tested (c .before)) ∙ not-false _ (c .if2 .left)
 -- the third test stands for the last two results
 tested : (c : tie.Else2)
     → let args = c .before .before .before .before .args in
-    cond (leb (rowNeed (args .sizes .m)) (length (now (args .rows)))) 0 1
+    cond (leb (rowNeed (args .sizes .equations)) (length (now (args .rows)))) 0 1
     ≡ polynomialCheck (now (args .rows)) (sizesOf (args .sizes)) (args .row) (args .block) (args .column)
 unfolding equations sizesOf
 tested c =
@@ -81,10 +81,10 @@ returns-2 c =
     (sym (place-tested (c .before)) ∙ not-true _ (c .if2 .taken))
 
 mul-if3 : tie.Need-mul-if3
-unfolding sizesOf
+unfolding equations sizesOf
 mul-if3 c =
     let sizes = sizesOf (c .before .before .before .before .before .args .sizes) in
-    omega (arith, size-bounds sizes (true-T _ (sizes-hold (c .before .before .before))) .few)
+    omega (arith, size-bounds sizes (true-T _ (sizes-hold (c .before .before .before))) .few-equations)
 
 returns-3 : tie.Need-returns-3
 unfolding rowNeed

@@ -11,7 +11,7 @@ use borrow.Author.Needs.{needs}
 use Rattle.rules.specs.Limits.{coefficientCount, entriesLength, rowLength}
 use Rattle.rules.specs.Stores.{Sizes, rowNeed}
 use Rattle.rules.specs.Calls.{partAt, rightSideCheck, rightSidePart}
-use Rattle.rules.specs.Layout.{rightSideCheck-zero, size-bounds, equations-few}
+use Rattle.rules.specs.Layout.{rightSideCheck-zero, size-bounds}
 use Rattle.stores.specs.Validity.{sizesOf}
 use Rattle.elimination.proofs.right_side.Statement.{statement}
 use Rattle.elimination.proofs.right_side.Tie as tie
@@ -37,7 +37,7 @@ module _ (l : List ℤ) (z : Sizes) (row : ℕ) where
   unfolding rowNeed
   place-inside e =
       let passed = rightSideCheck-zero l z row .0 e in
-      omega (arith, passed .2, passed .1 .0, passed .1 .1, equations-few z (size-bounds z (passed .0)))
+      omega (arith, passed .2, passed .1 .0, passed .1 .1, size-bounds z (passed .0) .few-equations)
 
 -- the check has given 0
 passed : (c : tie.Else1)
@@ -72,7 +72,7 @@ side-of-requires c κs =
     let args = c .before .before .args in
     let z = sizesOf (args .sizes) in
     let right = rightSideCheck-zero (now (args .rows)) z (args .row) .0 (passed c) in
-    (right .1 .0, omega (arith, right .1 .1, equations-few z (size-bounds z (right .0))))
+    (right .1 .0, omega (arith, right .1 .1, size-bounds z (right .0) .few-equations))
 
 add-result : tie.Need-add-result
 add-result c = omega (arith, inside c)

@@ -29,7 +29,7 @@ returns c =
     let args = start .args in
     c .before .before .before .exported .ensures
     ∙ ap (λ z. exportRun leading z (args .count) (now (args .rows)) (now (args .relations)) (now (args .result)))
-    (sizes-told (args .m) (start .fits .l) (start .fits .t))
+    (sizes-told (args .m) (args .equations) (start .fits .l) (start .fits .t))
 
 pub wurgalm-run-leading-spec : {M : Type 1} → statement M
 wurgalm-run-leading-spec =

@@ -26,7 +26,7 @@ returns c =
     c .before .before .before .exported .ensures
     ∙ ap (λ z. exportWrite z (args .count) (now (args .order)) (now (args .rows)) (now (args .relations)) (now (args .bytes))
     (now (args .result)))
-    (sizes-told (args .m) (start .fits .l) (start .fits .t))
+    (sizes-told (args .m) (args .equations) (start .fits .l) (start .fits .t))
 
 pub wurgalm-write-sheet-spec : {M : Type 1} → statement M
 wurgalm-write-sheet-spec = tie.close (tie.spec exported-requires same-length same-length-2 returns)

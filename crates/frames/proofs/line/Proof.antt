@@ -12,7 +12,7 @@ use lib.ListN.{drop}
 use mathlib.Core.List.{List}
 use Rattle.rules.specs.Numbers.{got}
 use Rattle.tokens.specs.Fields.{answer-got, answer-fault}
-use Rattle.frames.specs.Windows.{Window, clientOf, countOf}
+use Rattle.tokens.specs.Windows.{Window, clientOf, countOf}
 use Rattle.frames.specs.Lines.{window-of, line-no-client, line-no-size, line-read, in-range}
 use borrow.Author.Needs.{needs}
 use Rattle.frames.proofs.line.Statement.{statement}

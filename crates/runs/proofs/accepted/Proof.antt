@@ -1,5 +1,6 @@
 -- `runs::accepted` meets its contract.
 -- Assumes nothing.
+use native.Mathlib.Omega.{arith}
 use borrow.Author.Needs.{needs}
 use denote.Ref.{now}
 use mir.Syntax.{w64}
@@ -24,8 +25,8 @@ returns c =
     let read : SFits w64 (answer .result .root) = record { sfits = c .struct-told .given .1 .0 .1 } in
     λ relations.
     rw (toZ-ofZ read)
-    (accepted-result (sideOf (s .args .side)) (s .args .span) (s .args .equations) (now (s .args .rows)) relations (s .args .p)
-    (c .before .counted .result) (answer .result) (s .pre .3) (c .before .counted .ensures) (answer .ensures))
+    (accepted-result (sideOf (s .args .side)) (s .args .span) (now (s .args .rows)) relations (s .args .p) (c .before .counted .result)
+    (answer .result) (s .pre .0 .3) (omega (arith, s .pre .0 .1, s .pre .1 .0)) (c .before .counted .ensures) (answer .ensures))
 
 pub accepted-spec : {M : Type 1} → statement M
 accepted-spec = tie.close (tie.spec report-requires counted-requires returns)

@@ -11,10 +11,10 @@ use Rattle.runs.proofs.counted.Statement.{statement}
 use Rattle.runs.proofs.counted.Tie as tie
 
 abbrev Inv-loop : tie.InvT-loop
-Inv-loop equations order result₀ j₀ result j = (length order ≡ 4) × ((j ≤ equations) × (result ≡ reportedOrder (take j order)))
+Inv-loop settled order result₀ j₀ result j = (length order ≡ 4) × ((j ≤ settled) × (result ≡ reportedOrder (take j order)))
 
 abbrev μ-loop : tie.MeasureT-loop
-μ-loop equations order result₀ j₀ result j = equations - j
+μ-loop settled order result₀ j₀ result j = settled - j
 
 loop-holds : tie.Need-loop-holds Inv-loop μ-loop
 loop-holds c = (omega arith, (omega arith, counted-none (c .args .t1)))
@@ -50,7 +50,7 @@ loop-again c =
 
 returns : tie.Need-returns Inv-loop μ-loop
 returns c =
-    let all : c .before .loop .j ≡ c .before .before .args .equations = omega arith in
+    let all : c .before .loop .j ≡ c .before .before .args .settled = omega arith in
     rw all at (c .before .loop .inv .1 .1)
 
 pub counted-spec : {M : Type 1} → statement M

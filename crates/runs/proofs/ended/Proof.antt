@@ -1,13 +1,13 @@
 -- `runs::ended` meets its contract.
 -- Assumes nothing.
-use mathlib.Core.Path.{_∙_, ap}
+use mathlib.Core.Path.{_∙_, ap, subst}
 use denote.Ref.{now}
-use Rattle.rules.specs.Stores.{equations, span}
+use Rattle.rules.specs.Stores.{rowNeed, span}
 use Rattle.rules.specs.Calls.{acceptance}
 use Rattle.stores.specs.Validity.{sizesOf}
-use Rattle.sides.specs.Lent.{sideOf}
+use Rattle.sides.specs.Lent.{sideOf, Within}
 use Rattle.reduction.specs.Progress.{stateOf}
-use Rattle.runs.specs.CallLaws.{few-equations, few-blocks, ended-refused, ended-accepted}
+use Rattle.runs.specs.CallLaws.{few-blocks, ended-refused, ended-accepted}
 use borrow.Author.Needs.{needs}
 use Rattle.runs.proofs.ended.Statement.{statement}
 use Rattle.runs.proofs.ended.Tie as tie
@@ -20,7 +20,7 @@ returns c =
     let s = c .before .before in
     let o = s .args .o in
     λ relations.
-    let state = stateOf (equations (sizesOf (s .args .sizes))) (now (s .args .rows)) relations (o .progress) in
+    let state = stateOf (now (s .args .rows)) relations (o .progress) in
     ended-refused (sideOf (s .args .side)) (span (sizesOf (s .args .sizes))) (c .refused .result) state (o .refusal) (o .done)
     (c .before .if1 .taken) (c .refused .ensures)
 
@@ -28,23 +28,24 @@ span-requires : tie.Need-span-requires
 span-requires c κs = search needs
 
 accepted-requires : tie.Need-accepted-requires
-unfolding equations sizesOf
+unfolding sizesOf
 accepted-requires c κs =
     let s = c .before .before .before in
     let z = sizesOf (s .args .sizes) in
     let end = s .pre .1 in
     let settled = end .all-settled (c .before .before .if1 .left) .1 in
-    (few-equations z (s .pre .0), rw (c .span .ensures) (few-blocks z (s .pre .0)), end .rows-within, settled, end .columns)
+    let within = subst (λ n. Within (rowNeed n) (now (s .args .rows))) settled (end .rows-within) in
+    ((rw (c .span .ensures) (few-blocks z (s .pre .0)), end .few-settled, within, settled), (end .four, end .columns))
 
 returns-2 : tie.Need-returns-2
-unfolding equations sizesOf
+unfolding sizesOf
 returns-2 c =
     let s = c .before .before .before .before in
     let o = s .args .o in
     let side = sideOf (s .args .side) in
     let none = c .before .before .before .if1 .left in
     λ relations.
-    let state = stateOf (equations (sizesOf (s .args .sizes))) (now (s .args .rows)) relations (o .progress) in
+    let state = stateOf (now (s .args .rows)) relations (o .progress) in
     ended-accepted side (span (sizesOf (s .args .sizes))) (c .accepted .result) state (o .refusal) (o .done) none
     (s .pre .1 .all-settled none .0)
     (c .accepted .ensures relations ∙ ap (λ d. acceptance side d state) (c .before .span .ensures))

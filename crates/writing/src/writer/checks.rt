@@ -1,11 +1,10 @@
 // The checks before a sheet is written: sizes with count and order (2), lengths (1), numbers (5) (SCOPE 3.31, 4.53).
 ghost use mathlib.Core.Path.{_≡_};
-ghost use mathlib.Core.Bool.{cond};
-ghost use Prim.Native.Nat.{_≤_};
 ghost use lib.Dec.{eqb};
+ghost use lib.ListN.{length};
 ghost use Rattle.lists.specs.Tests.{every};
 ghost use Rattle.rules.specs.Sheets as Sheets;
-ghost use Rattle.rules.specs.SheetCalls.{differentColumns, orderRight, checkWrite};
+ghost use Rattle.rules.specs.SheetCalls.{differentColumns, orderGiven, orderRight, checkWrite};
 ghost use Rattle.stores.specs.Validity.{sizesOf};
 
 fn all_zero(numbers: &[usize]) -> bool
@@ -56,22 +55,32 @@ fn different_columns(columns: &[usize], m: usize) -> bool
     true
 }
 
-fn order_right(order: [usize; 4], m: usize) -> bool
-    requires { ⌜ m ≤ 4 ⌝ }
-    ensures { λ r. ⌜ r ≡ orderRight m order ⌝ }
+// The number of columns that are written: those before the first 0 (SCOPE 4.15, 4.53).
+fn columns_given(order: &[usize]) -> usize
+    ensures { λ r. ⌜ r ≡ length (orderGiven (now (order .entry))) ⌝ }
 {
-    let all = &order[..];
-    if all_zero(all) {
-        return true;
+    let mut n = 0;
+    while n < order.len() {
+        if order[n] == 0 {
+            return n;
+        }
+        n += 1;
     }
-    different_columns(&all[..m], m) && all_zero(&all[m..])
+    n
 }
 
-// The number of columns that are written: none, or m (SCOPE 4.15).
-pub fn order_length(order: [usize; 4], m: usize) -> usize
-    ensures { λ r. ⌜ r ≡ cond (every (eqb 0) order) 0 m ⌝ }
+pub fn order_length(order: [usize; 4]) -> usize
+    ensures { λ r. ⌜ r ≡ length (orderGiven order) ⌝ }
 {
-    if all_zero(&order[..]) { 0 } else { m }
+    columns_given(&order[..])
+}
+
+fn order_right(order: [usize; 4], m: usize) -> bool
+    ensures { λ r. ⌜ r ≡ orderRight m order ⌝ }
+{
+    let n = order_length(order);
+    let all = &order[..];
+    different_columns(&all[..n], m) && all_zero(&all[n..])
 }
 
 // Sizes (2), lengths (1), numbers (5) in turn (SCOPE 3.31); the order argument is one of the sizes (SCOPE 4.53).

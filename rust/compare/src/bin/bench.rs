@@ -78,7 +78,7 @@ struct Stores {
 
 impl Stores {
     fn new() -> Stores {
-        Stores { rows: vec![0; wurgalm::row_store(4)], relations: vec![0; wurgalm::RELATION_STORE] }
+        Stores { rows: vec![0; wurgalm::row_store(wurgalm::EQUATIONS)], relations: vec![0; wurgalm::RELATION_STORE] }
     }
 
     /// A sheet in the stores.
@@ -91,7 +91,7 @@ impl Stores {
     /// The largest root of a polynomial, by a run with one unknown and one block.
     fn root(&mut self, p: &[i64]) -> Option<i64> {
         self.rows[..p.len()].copy_from_slice(p);
-        let sizes = Sizes { m: 1, l: 0, t: 0 };
+        let sizes = Sizes { m: 1, equations: 1, l: 0, t: 0 };
         let report = wurgalm::run_leading(&mut self.rows, &mut self.relations, sizes, 0);
         report.expect("one nonzero row").root
     }
@@ -99,7 +99,7 @@ impl Stores {
 
 /// The largest root of a polynomial, by a run of the fast version.
 fn fast_root(system: &mut fast::System, p: &[i64]) -> Option<i64> {
-    (system.m, system.l, system.blocks, system.count) = (1, 0, 1, 0);
+    (system.m, system.equations, system.l, system.blocks, system.count) = (1, 1, 0, 1, 0);
     let entry = &mut system.rows[0].0[0];
     entry.numbers[..p.len()].copy_from_slice(p);
     entry.length = p.len();

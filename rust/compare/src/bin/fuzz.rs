@@ -4,11 +4,11 @@
 use compare::cases::{Answer, Stores};
 use compare::differentials::{longest_differential, whole_differential};
 use compare::random::Random;
-use compare::sheets::whole_sheet;
+use compare::sheets::{whole_sheet, whole_sheet_with};
 use compare::subject::{Library, Outside, Subject};
 use outside::elimination::Side;
 use outside::stores::{row_store, Asked, RELATION_STORE, RESULT};
-use outside::C;
+use outside::{C, EQUATIONS};
 
 /// Numbers on either side of a lent store.
 const GUARD: usize = 64;
@@ -39,13 +39,16 @@ impl<T: Copy + PartialEq> Guarded<T> {
     }
 }
 
-/// The numbers that are answered: 0 to 10, and one place for any other.
+/// The numbers that are answered: 0 to 10 without 6, and one place for any other.
 const NUMBERS: usize = 12;
 /// How many of them are printed.
 const PRINTED: usize = 11;
 
 /// A sheet of two equations and a relation, without its fifth section.
 const FOUR_SECTIONS: &[u8] = b"3 2 1 0\n2\n0\n0\n1\n0 0\n0\n";
+
+/// The same without equations and relations.
+const NO_ROWS: &[u8] = b"3 2 1 0\n0\n0\n0\n";
 
 const MARK: i64 = 0x5a5a_5a5a_5a5a_5a5a;
 
@@ -170,8 +173,10 @@ impl Fuzz {
         for section in counts.iter().chain(&lists).chain(&sides) {
             for end in 0..=section.len() {
                 for behind in ["", "\n", " ", "0", "1\n", "x"] {
-                    let sheet = [FOUR_SECTIONS, &section.as_bytes()[..end], behind.as_bytes()].concat();
-                    self.call("read, fifth section", &Call::Read(sheet), stores);
+                    for begin in [FOUR_SECTIONS, NO_ROWS] {
+                        let sheet = [begin, &section.as_bytes()[..end], behind.as_bytes()].concat();
+                        self.call("read, fifth section", &Call::Read(sheet), stores);
+                    }
                 }
             }
         }
@@ -199,18 +204,50 @@ impl Fuzz {
         }
     }
 
-    /// Sizes from a list that has the ends of every range, one past them, and the ends of the types.
+    /// Sizes from a list that has the ends of every range, one past them, and the ends of the types: first the unknowns with all blocks,
+    /// then with all numbers of equations.
     fn every_size(&mut self, make: impl Fn(Asked) -> Call, whole: &Stores) {
-        let blocks = [i64::MIN, i64::MIN + 1, -65, -64, -63, -5, -1, 0, 1, 4, 60, 63, 64, 65, i64::MAX - 1, i64::MAX];
+        let ends = [i64::MIN, i64::MIN + 1, -65, -64, -63, -5, -1, 0, 1, 4, 60, 63, 64, 65, i64::MAX - 1, i64::MAX];
+        let blocks = || ends.into_iter().flat_map(|l| ends.map(|t| (l, t)));
+        let equations = [0, 1, 2, 3, 4, 5, 6, 7, 8, 1 << 32, 1 << 56, usize::MAX];
         for m in [0, 1, 2, 3, 4, 5, 1 << 32, 1 << 56, usize::MAX] {
-            for l in blocks {
-                for t in blocks {
-                    for count in [0, 1, 15, 16, 17, usize::MAX] {
-                        let asked = Asked { m, l, t, count };
-                        self.call(&format!("{asked:?}"), &make(asked), whole);
-                    }
+            for count in [0, 1, 15, 16, 17, usize::MAX] {
+                let as_unknowns = blocks().map(|(l, t)| (m, l, t));
+                let others = equations.into_iter().flat_map(|equations| [(equations, 4, 0), (equations, 5, 0)]);
+                for (equations, l, t) in as_unknowns.chain(others) {
+                    let asked = Asked { m, equations, l, t, count };
+                    self.call(&format!("{asked:?}"), &make(asked), whole);
                 }
             }
+        }
+    }
+
+    /// The calls on a sheet's system: each store at every length, the sheet cut at every place, the order of every length.
+    fn every_call(&mut self, sheet: &[u8], step: usize) {
+        let (stores, asked, order) = stores_of(sheet);
+        self.every_length("leading", &Call::Run(Side::Leading, asked), &stores, step);
+        self.every_length("trailing", &Call::Run(Side::Trailing, asked), &stores, step);
+        self.every_length("read", &Call::Read(sheet.to_vec()), &stores, step);
+        let room = vec![b'#'; sheet.len() + 3];
+        self.every_length("write", &Call::Write(asked, order.clone(), room), &stores, step);
+        for length in 0..sheet.len() + 3 {
+            self.call("write, bytes", &Call::Write(asked, order.clone(), vec![b'#'; length]), &stores);
+            self.call("read, bytes", &Call::Read(sheet[..length.min(sheet.len())].to_vec()), &stores);
+        }
+        for length in 0..7 {
+            let mut order = order.clone();
+            order.resize(length, 0);
+            self.call("write, order", &Call::Write(asked, order, vec![b'#'; sheet.len()]), &stores);
+        }
+    }
+
+    /// Orders of four numbers, each from one below the columns to one above them.
+    fn every_order(&mut self, sheet: &[u8]) {
+        let (stores, asked, _) = stores_of(sheet);
+        let numbers = asked.m as i64 + 3;
+        for place in 0..numbers.pow(4) {
+            let order = [1, numbers, numbers.pow(2), numbers.pow(3)].map(|unit| place / unit % numbers - 1);
+            self.call("write, every order", &Call::Write(asked, order.to_vec(), vec![b'#'; sheet.len() + 9]), &stores);
         }
     }
 }
@@ -253,13 +290,13 @@ fn with_other_numbers(sheet: &[u8]) -> Vec<Vec<u8>> {
 
 /// Stores that hold the system of a sheet, a little longer than they need to be.
 fn stores_of(sheet: &[u8]) -> (Stores, Asked, Vec<i64>) {
-    let mut stores =
-        Stores { rows: vec![7; row_store(4) + 3], relations: vec![7; RELATION_STORE + 3], result: vec![7; RESULT + 2] };
+    let rows = vec![7; row_store(EQUATIONS) + 3];
+    let mut stores = Stores { rows, relations: vec![7; RELATION_STORE + 3], result: vec![7; RESULT + 2] };
     let number = Outside(None).read(sheet, &mut stores.rows, &mut stores.relations, &mut stores.result);
     assert_eq!(number, 0, "a whole sheet");
-    let [m, l, t, count] = [0, 1, 2, 3].map(|k| stores.result[k]);
-    let order = stores.result[4..RESULT].to_vec();
-    (stores, Asked { m: m as usize, l, t, count: count as usize }, order)
+    let [m, l, t, count, equations] = [0, 1, 2, 3, 8].map(|k| stores.result[k]);
+    let order = stores.result[4..8].to_vec();
+    (stores, Asked { m: m as usize, equations: equations as usize, l, t, count: count as usize }, order)
 }
 
 /// A batch of the sheet, of one that is refused, and of none.
@@ -280,27 +317,15 @@ fn main() {
     let mut fuzz =
         Fuzz { right: Outside(None), library: Library::needed(), calls: 0, differences: 0, answers: [0; NUMBERS] };
     let mut random = Random::new(77);
-    let small = Stores { rows: vec![7; row_store(4)], relations: vec![7; 9], result: vec![7; RESULT] };
-    for round in 0..4 {
-        let sheet = whole_sheet(&mut random);
-        let (stores, asked, order) = stores_of(&sheet);
-        let step = [1, 7, 13, 17][round];
-        fuzz.every_length("leading", &Call::Run(Side::Leading, asked), &stores, step);
-        fuzz.every_length("trailing", &Call::Run(Side::Trailing, asked), &stores, step);
-        fuzz.every_length("read", &Call::Read(sheet.clone()), &stores, step);
-        let room = vec![b'#'; sheet.len() + 3];
-        fuzz.every_length("write", &Call::Write(asked, order.clone(), room), &stores, step);
-        for length in 0..sheet.len() + 3 {
-            fuzz.call("write, bytes", &Call::Write(asked, order.clone(), vec![b'#'; length]), &stores);
-            fuzz.call("read, bytes", &Call::Read(sheet[..length.min(sheet.len())].to_vec()), &stores);
-        }
-        for length in 0..7 {
-            let mut order = order.clone();
-            order.resize(length, 0);
-            fuzz.call("write, order", &Call::Write(asked, order, vec![b'#'; sheet.len()]), &stores);
-        }
+    let small = Stores { rows: vec![7; row_store(EQUATIONS)], relations: vec![7; 9], result: vec![7; RESULT] };
+    for (round, step) in [1, 7, 13, 17].into_iter().enumerate() {
+        fuzz.every_call(&whole_sheet(&mut random), step);
+        fuzz.every_order(format!("3 {} 0 0\n0\n0\n0\n", round + 1).as_bytes());
     }
-    for number in 6..=10 {
+    for equations in 0..=EQUATIONS {
+        fuzz.every_call(&whole_sheet_with(&mut random, equations), 17);
+    }
+    for number in 7..=10 {
         let (stores, asked, _) = stores_of(&answered(&mut random, number));
         fuzz.every_length(&format!("leading, {number}"), &Call::Run(Side::Leading, asked), &stores, 17);
         fuzz.every_length(&format!("trailing of a leading {number}"), &Call::Run(Side::Trailing, asked), &stores, 17);
@@ -333,10 +358,16 @@ fn main() {
         let noise = (0..random.below(30)).map(|_| random.pick(b"0011223 \n\n -9x")).collect();
         fuzz.call("batch, noise", &Call::Batch(noise, vec![b'#'; random.below(9)]), &small);
     }
-    let stores = Stores { rows: vec![7; row_store(4) + 3], relations: vec![7; RELATION_STORE + 3], result: vec![7; 9] };
-    let small_sheets = [&b"3 2 2 2\n2\n3 2 2 1 7 1 1 1 -5 0 0 2 1048576\n2 1 0 2 -1 0 2 1 3\n"[..], b"3 1 0 0\n1\n0\n"];
+    let rows = vec![7; row_store(EQUATIONS) + 3];
+    let stores = Stores { rows, relations: vec![7; RELATION_STORE + 3], result: vec![7; RESULT + 1] };
+    let small_sheets = [
+        &b"3 2 2 2\n2\n3 2 2 1 7 1 1 1 -5 0 0 2 1048576\n2 1 0 2 -1 0 2 1 3\n"[..],
+        b"3 1 0 0\n1\n0\n",
+        b"3 3 1 2\n0\n",
+        b"3 1 0 1\n6\n0\n1 0 1 1 3\n0\n1 0 0 1 5\n0\n0\n",
+    ];
     for (round, sheet) in small_sheets.into_iter().enumerate() {
-        fuzz.every_differential(sheet, &stores, [1, 7][round]);
+        fuzz.every_differential(sheet, &stores, [1, 7, 13, 17][round]);
     }
     for _ in 0..3 {
         fuzz.every_differential(&whole_differential(&mut random), &stores, 17);
@@ -350,7 +381,8 @@ fn main() {
         fuzz.call("recurrence, noise", &Call::Recurrence(sheet, vec![b'#'; random.below(99)]), &stores);
     }
     // Zero systems in whole stores, and no stores at all: a size is refused before a length.
-    let zeros = Stores { rows: vec![0; row_store(4)], relations: vec![0; RELATION_STORE], result: vec![7; RESULT] };
+    let zeros =
+        Stores { rows: vec![0; row_store(EQUATIONS)], relations: vec![0; RELATION_STORE], result: vec![7; RESULT] };
     let none = Stores { rows: Vec::new(), relations: Vec::new(), result: Vec::new() };
     for stores in [zeros, none] {
         fuzz.every_size(|asked| Call::Run(Side::Leading, asked), &stores);

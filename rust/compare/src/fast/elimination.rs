@@ -14,21 +14,13 @@ pub struct Report {
 pub fn run(system: &mut System) -> Result<Report, u8> {
     let mut shifts = 0;
     system.order = [0; 4];
-    for i in 0..system.m {
-        system.row_left(i)?;
-        loop {
-            for j in 0..i {
-                let entry = system.order[j] - 1;
-                if system.rows[i].0[entry].length != 0 {
-                    system.meet(i, j, entry)?;
-                }
-            }
-            if let Some(column) = (0..system.m).find(|&c| system.rows[i].0[c].length != 0) {
-                system.order[i] = column + 1;
-                break;
-            }
-            system.shift(i)?;
-            shifts += 1;
+    let mut i = 0;
+    while i < system.equations {
+        if system.settled(i, &mut shifts)? {
+            i += 1;
+        } else {
+            system.rows[i..system.equations].rotate_left(1);
+            system.equations -= 1;
         }
     }
     Ok(Report { shifts, root: system.largest_root() })
@@ -45,21 +37,36 @@ impl System {
         (0..self.entries()).rev().find(|&e| row[e].length != 0).map_or(0, |e| e / 4 + 1)
     }
 
-    /// 6 for a zero row, 10 for one that has a right side alone.
-    fn row_left(&self, i: usize) -> Result<(), u8> {
+    /// Settles row i, or tells that it is zero on both sides; 10 for one that has a right side alone.
+    fn settled(&mut self, i: usize, shifts: &mut usize) -> Result<bool, u8> {
         match (self.width(i), self.rows[i].1.length) {
-            (0, 0) => Err(6),
-            (0, _) => Err(10),
-            _ => Ok(()),
+            (0, 0) => return Ok(false),
+            (0, _) => return Err(10),
+            _ => {}
+        }
+        loop {
+            for j in 0..i {
+                let entry = self.order[j] - 1;
+                if self.rows[i].0[entry].length != 0 && !self.meet(i, j, entry)? {
+                    return Ok(false);
+                }
+            }
+            if let Some(column) = (0..self.m).find(|&c| self.rows[i].0[c].length != 0) {
+                self.order[i] = column + 1;
+                return Ok(true);
+            }
+            self.shift(i)?;
+            *shifts += 1;
         }
     }
 
     fn largest_root(&self) -> Option<i64> {
-        let diagonal = (0..self.m).map(|j| self.rows[j].0[self.order[j] - 1]);
+        let diagonal = (0..self.equations).map(|j| self.rows[j].0[self.order[j] - 1]);
         diagonal.filter_map(|p| roots(p.coefficients()).as_slice().last().copied()).max()
     }
 
-    fn meet(&mut self, i: usize, j: usize, entry: usize) -> Result<(), u8> {
+    /// Whether something of row i is left.
+    fn meet(&mut self, i: usize, j: usize, entry: usize) -> Result<bool, u8> {
         if self.width(j) > self.width(i) {
             self.rows.swap(i, j);
         }
@@ -72,7 +79,7 @@ impl System {
         self.combine(i, j, &g, &h)
     }
 
-    fn combine(&mut self, i: usize, j: usize, g: &Polynomial, h: &Polynomial) -> Result<(), u8> {
+    fn combine(&mut self, i: usize, j: usize, g: &Polynomial, h: &Polynomial) -> Result<bool, u8> {
         let entries = self.entries();
         let [row, pivot] = self.rows.get_disjoint_mut([i, j]).expect("two rows");
         let mut content = 0;
@@ -88,7 +95,7 @@ impl System {
             content = with_divisor(content, row.1.coefficients());
         }
         if content == 0 {
-            return Err(6);
+            return Ok(false);
         }
         if content != 1 {
             divide(row, entries, content as i64);
@@ -97,7 +104,7 @@ impl System {
         if left_zero {
             Err(10)
         } else {
-            Ok(())
+            Ok(true)
         }
     }
 

@@ -51,13 +51,14 @@ pub struct Relation {
     pub row: Row,
 }
 
-/// The work area: a system and its column order, none where the first column is 0.
+/// The work area: a system and its column order, with zeros past its end.
 pub struct System {
     pub m: usize,
+    pub equations: usize,
     pub l: i64,
     /// D + 1
     pub blocks: usize,
-    pub rows: [Row; 4],
+    pub rows: [Row; 6],
     pub relations: [Relation; 16],
     pub count: usize,
     pub order: [usize; 4],
@@ -66,7 +67,8 @@ pub struct System {
 impl System {
     pub fn new() -> Box<System> {
         let relations = [Relation { n0: 0, row: Row::ZERO }; 16];
-        Box::new(System { m: 0, l: 0, blocks: 0, rows: [Row::ZERO; 4], relations, count: 0, order: [0; 4] })
+        let rows = [Row::ZERO; 6];
+        Box::new(System { m: 0, equations: 0, l: 0, blocks: 0, rows, relations, count: 0, order: [0; 4] })
     }
 }
 

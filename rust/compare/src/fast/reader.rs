@@ -90,9 +90,8 @@ pub fn read(bytes: &[u8], system: &mut System) -> Result<(), u8> {
     system.l = cursor.within(-64, 64, b' ')?;
     let t = cursor.within((system.l - 4).max(-64), system.l, b'\n')?;
     system.blocks = (system.l - t + 1) as usize;
-    let m = system.m as i64;
-    cursor.within(m, m, b'\n')?;
-    for i in 0..system.m {
+    system.equations = cursor.within(0, 6, b'\n')? as usize;
+    for i in 0..system.equations {
         equation(&mut cursor, system.m, system.l, system.blocks, &mut system.rows[i])?;
     }
     system.count = cursor.within(0, 16, b'\n')? as usize;
@@ -160,13 +159,13 @@ fn listed(cursor: &mut Cursor, count: usize, line: u8, p: &mut Polynomial) -> Re
 fn order(cursor: &mut Cursor, system: &mut System) -> Result<(), u8> {
     let m = system.m as i64;
     let (count, separator) = cursor.number()?;
-    judged(count == 0 || count == m, 2)?;
+    judged((0..=m).contains(&count), 2)?;
     judged(separator == separator_if(count == 0), 3)?;
     system.order = [0; 4];
     for place in 0..count as usize {
         let (c, separator) = cursor.number()?;
         judged((1..=m).contains(&c) && !system.order[..place].contains(&(c as usize)), 2)?;
-        judged(separator == separator_if(place as i64 + 1 == m), 3)?;
+        judged(separator == separator_if(place as i64 + 1 == count), 3)?;
         system.order[place] = c as usize;
     }
     Ok(())
@@ -174,12 +173,14 @@ fn order(cursor: &mut Cursor, system: &mut System) -> Result<(), u8> {
 
 /// The fifth section.
 fn sides(cursor: &mut Cursor, system: &mut System) -> Result<(), u8> {
-    let all = (system.m + system.count) as i64;
-    cursor.within(all, all, b'\n')?;
+    let all = (system.equations + system.count) as i64;
+    let (found, separator) = cursor.number()?;
+    judged(found == all, 2)?;
+    judged(all > 0 && separator == b'\n', 3)?;
     let relations = system.relations[..system.count].iter_mut().map(|relation| &mut relation.row);
     let mut left = all;
     let mut zeros = true;
-    for row in system.rows[..system.m].iter_mut().chain(relations) {
+    for row in system.rows[..system.equations].iter_mut().chain(relations) {
         left -= 1;
         let (count, separator) = cursor.number()?;
         judged((0..=16).contains(&count), 2)?;

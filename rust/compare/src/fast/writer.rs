@@ -4,10 +4,10 @@ use super::{Row, System};
 
 /// Appends the sheet in the work area.
 pub fn write(system: &System, output: &mut Vec<u8>) {
-    let System { m, l, blocks, .. } = *system;
+    let System { m, equations, l, blocks, .. } = *system;
     line(output, &[3, m as i64, l, l - blocks as i64 + 1]);
-    line(output, &[m as i64]);
-    for row in &system.rows[..m] {
+    line(output, &[equations as i64]);
+    for row in &system.rows[..equations] {
         equation(output, system, row);
     }
     line(output, &[system.count as i64]);
@@ -15,15 +15,13 @@ pub fn write(system: &System, output: &mut Vec<u8>) {
         number(output, relation.n0, b' ');
         equation(output, system, &relation.row);
     }
-    if system.order[0] == 0 {
-        line(output, &[0]);
-    } else {
-        number(output, m as i64, b' ');
-        line(output, &system.order.map(|c| c as i64)[..m]);
-    }
-    let all = || system.rows[..m].iter().chain(system.relations[..system.count].iter().map(|relation| &relation.row));
+    let columns = system.order.iter().filter(|&&c| c != 0).count();
+    number(output, columns as i64, b' ');
+    line(output, &system.order.map(|c| c as i64)[..columns]);
+    let all =
+        || system.rows[..equations].iter().chain(system.relations[..system.count].iter().map(|relation| &relation.row));
     if all().any(|row| row.1.length != 0) {
-        line(output, &[(m + system.count) as i64]);
+        line(output, &[(equations + system.count) as i64]);
         for row in all() {
             number(output, row.1.length as i64, b' ');
             line(output, row.1.coefficients());

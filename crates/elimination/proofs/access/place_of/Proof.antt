@@ -1,4 +1,4 @@
--- `elimination::access::place_of` meets its contract. Row and column are 1 to 4, and at most four blocks stand above.
+-- `elimination::access::place_of` meets its contract. The row is 1 to 6, the column 1 to 4, and at most four blocks stand above.
 -- Assumes nothing.
 use mathlib.Core.Path.{_≡_}
 use Prim.Native.Nat.{_≤_, _<_}
@@ -10,7 +10,7 @@ use mir.Val.{SFits, ofZ, toZ}
 use mir.Facts.{toZ-ofZ, fits-natAbs}
 use borrow.Author.Needs.{sfits-of}
 use Rattle.integers.specs.Ranges.{sfits-size}
-use Rattle.rules.specs.Layout.{SizeBounds, size-bounds, equations-few, PlaceBounds, place-bounds, block-place}
+use Rattle.rules.specs.Layout.{SizeBounds, size-bounds, PlaceBounds, place-bounds, block-place}
 use Rattle.rules.specs.Calls.{polynomialPlace}
 use Rattle.stores.specs.Validity.{sizesOf, difference-nonneg}
 use Rattle.elimination.proofs.access.place_of.Statement.{statement}
@@ -33,9 +33,9 @@ module _ (c : tie.After-struct-told) where
   unfolding sizesOf
   near = block-place (sizesOf (c .before .args .sizes)) (c .before .args .block) bounds (place .block-low) (place .block-high)
 
-  few : (c .before .args .row ≤ 4) × (c .before .args .column ≤ 4)
+  few : (c .before .args .row ≤ 6) × (c .before .args .column ≤ 4)
   unfolding sizesOf
-  few = omega (arith, bounds .few, equations-few _ bounds, place .row-high, place .column-high)
+  few = omega (arith, bounds .few, bounds .few-equations, place .row-high, place .column-high)
 
   fits : SFits w64 above
   fits = let small : natAbs above ≤ 4 = omega (arith, near) in sfits-size above small (lit< tt)
@@ -43,7 +43,10 @@ module _ (c : tie.After-struct-told) where
   -- l - block, as the machine reads its operands back
   read : toZ w64 (ofZ w64 (c .before .args .sizes .l)) -ℤ toZ w64 (ofZ w64 (c .before .args .block)) ≡ above
   read =
-      simp (toZ-ofZ {w = w64} {z = c .before .args .sizes .l} (sfits-of (c .struct-told .given .1 .0 .1)), toZ-ofZ (c .before .fits .block))
+      simp (
+        toZ-ofZ {w = w64} {z = c .before .args .sizes .l} (sfits-of (c .struct-told .given .1 .1 .0 .1)),
+        toZ-ofZ (c .before .fits .block),
+      )
 
 sub-down : tie.Need-sub-down
 sub-down c = rw (read c) (fits c)

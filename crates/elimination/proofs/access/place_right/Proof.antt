@@ -27,15 +27,15 @@ module _ (c : tie.After-between) where
   abbrev sizes : Sizes
   sizes = before .args .sizes
 
-  row-passed : (leb 1 (before .args .row) && leb (before .args .row) (sizes .m)) ≡ true
+  row-passed : (leb 1 (before .args .row) && leb (before .args .row) (sizes .equations)) ≡ true
   row-passed = sym (c .before .before .before .before .counted .ensures) ∙ not-false _ (c .before .before .before .if1 .left)
 
   tested : c .between .result ≡ (leZ (sizes .t) (before .args .block) && leZ (before .args .block) (sizes .l))
   tested =
       rw (
         toZ-ofZ (before .fits .block),
-        toZ-ofZ {w = w64} {z = sizes .l} (sfits-of (c .before .struct-told2 .given .1 .0 .1)),
-        toZ-ofZ {w = w64} {z = sizes .t} (sfits-of (c .before .struct-told2 .given .1 .1 .0 .1)),
+        toZ-ofZ {w = w64} {z = sizes .l} (sfits-of (c .before .struct-told2 .given .1 .1 .0 .1)),
+        toZ-ofZ {w = w64} {z = sizes .t} (sfits-of (c .before .struct-told2 .given .1 .1 .1 .0 .1)),
       )
       at (c .between .ensures)
 

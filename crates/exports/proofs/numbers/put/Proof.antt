@@ -18,10 +18,10 @@ use Rattle.exports.proofs.numbers.put.Statement.{statement}
 use Rattle.exports.proofs.numbers.put.Tie as tie
 
 abbrev Inv-loop : tie.InvT-loop
-Inv-loop result₀ numbers i₀ result i = (i ≤ 8) × ((length result ≡ length result₀) × (result ≡ paste result₀ 0 numbers i))
+Inv-loop result₀ numbers i₀ result i = (i ≤ 9) × ((length result ≡ length result₀) × (result ≡ paste result₀ 0 numbers i))
 
 abbrev μ-loop : tie.MeasureT-loop
-μ-loop result₀ numbers i₀ result i = 8 - i
+μ-loop result₀ numbers i₀ result i = 9 - i
 
 loop-holds : tie.Need-loop-holds Inv-loop μ-loop
 loop-holds c = (omega arith, (refl, paste-zero (now (c .args .result)) 0 (c .args .t2)))
@@ -64,9 +64,9 @@ same-length c = search needs
 returns : tie.Need-returns Inv-loop μ-loop
 returns c =
     let args = c .before .before .args in
-    let all : c .before .loop .i ≡ 8 = omega arith in
-    rw all at (c .before .loop .inv .1 .1) ∙ overwrite-paste (now (args .result)) (args .t2) 8 (omega arith)
-    ∙ ap (λ l. overwrite l (now (args .result))) (take-all 8 (args .t2) (omega arith))
+    let all : c .before .loop .i ≡ 9 = omega arith in
+    rw all at (c .before .loop .inv .1 .1) ∙ overwrite-paste (now (args .result)) (args .t2) 9 (omega arith)
+    ∙ ap (λ l. overwrite l (now (args .result))) (take-all 9 (args .t2) (omega arith))
 
 pub put-spec : {M : Type 1} → statement M
 put-spec =

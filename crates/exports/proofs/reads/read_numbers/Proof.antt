@@ -1,7 +1,7 @@
 -- `exports::reads::read_numbers` meets its contract.
 -- Assumes nothing.
 use mathlib.Core.Path.{_≡_, _∙_, ap}
-use mathlib.Core.List.{[], _∷_}
+use mathlib.Core.List.{[], _∷_, _++_}
 use Prim.Native.Nat.{ℕ, _≤_, zero-le}
 use native.Mathlib.Omega.{arith}
 use borrow.Author.Needs.{needs, sfits-of}
@@ -19,15 +19,19 @@ use Rattle.exports.proofs.reads.read_numbers.Tie as tie
 
 -- what is cast is small
 module _ (c : tie.Start) where
-  unknowns : c .args .sheet .sizes .m ≤ 16
+  unknowns : c .args .sheet .sizes .m ≤ 24
   unfolding resultOf sizesOf
   unknowns = omega (arith, c .pre .few-unknowns)
 
-  relations : c .args .sheet .relations ≤ 16
-  unfolding resultOf
-  relations = c .pre .few-relations
+  equations : c .args .sheet .sizes .equations ≤ 24
+  unfolding resultOf sizesOf
+  equations = omega (arith, c .pre .few-equations)
 
-  column : (j : ℕ) → getD (c .args .sheet .order) j 0 ≤ 16
+  relations : c .args .sheet .relations ≤ 24
+  unfolding resultOf
+  relations = omega (arith, c .pre .few-relations)
+
+  column : (j : ℕ) → getD (c .args .sheet .order) j 0 ≤ 24
   unfolding resultOf
   column j = omega (arith, all-getD-default (λ k. k ≤ 4) (c .args .sheet .order) 0 j zero-le (c .pre .columns))
 
@@ -61,18 +65,21 @@ array-read-t20 c = search needs
 cast-t21 : tie.Need-cast-t21
 cast-t21 c = small-fits _ (column (c .before .before .before .before) 3)
 
+cast-t22 : tie.Need-cast-t22
+cast-t22 c = small-fits _ (equations (c .before .before .before .before .before))
+
 returns : tie.Need-returns
 unfolding readNumbers resultOf sizesOf
 returns c =
-    let start = c .before .before .before .before .before in
+    let start = c .before .before .before .before .before .before in
     let sheet = start .args .sheet in
     let order = sheet .order in
     let value : (j : ℕ) → _≡_ {A = ℤ} _ (pos (getD order j 0)) = λ j. small-value (getD order j 0) (column start j) in
     (λ i. small-value (sheet .sizes .m) (unknowns start) i ∷ toZ-ofZ {w = w64} {z = sheet .sizes .l}
-    (sfits-of (c .struct-told .given .1 .0 .1)) i
-    ∷ toZ-ofZ {w = w64} {z = sheet .sizes .t} (sfits-of (c .struct-told .given .1 .1 .0 .1)) i ∷ small-value (sheet .relations)
-    (relations start) i ∷ value 0 i ∷ value 1 i ∷ value 2 i ∷ value 3 i ∷ [])
-    ∙ ap (λ l. pos (sheet .sizes .m) ∷ sheet .sizes .l ∷ sheet .sizes .t ∷ pos (sheet .relations) ∷ l)
+    (sfits-of (c .struct-told .given .1 .1 .0 .1)) i
+    ∷ toZ-ofZ {w = w64} {z = sheet .sizes .t} (sfits-of (c .struct-told .given .1 .1 .1 .0 .1)) i ∷ small-value (sheet .relations)
+    (relations start) i ∷ value 0 i ∷ value 1 i ∷ value 2 i ∷ value 3 i ∷ small-value (sheet .sizes .equations) (equations start) i ∷ [])
+    ∙ ap (λ l. pos (sheet .sizes .m) ∷ sheet .sizes .l ∷ sheet .sizes .t ∷ pos (sheet .relations) ∷ (l ++ (pos (sheet .sizes .equations) ∷ [])))
     (four-columns order (start .pre .four))
 
 pub read-numbers-spec : {M : Type 1} → statement M
@@ -89,4 +96,5 @@ read-numbers-spec =
     cast-t17
     array-read-t20
     cast-t21
+    cast-t22
     returns)

@@ -45,8 +45,8 @@ module _ (c : tie.After-struct-told) where
   -- The difference as the machine reads its operands back.
   difference : toZ w64 (ofZ w64 (toZ w64 (ofZ w64 l) -ℤ toZ w64 (ofZ w64 t))) ≡ l -ℤ t
   difference =
-      let fl : SFits w64 l = sfits-of (c .struct-told .given .1 .0 .1) in
-      let ft : SFits w64 t = sfits-of (c .struct-told .given .1 .1 .0 .1) in
+      let fl : SFits w64 l = sfits-of (c .struct-told .given .1 .1 .0 .1) in
+      let ft : SFits w64 t = sfits-of (c .struct-told .given .1 .1 .1 .0 .1) in
       simp (toZ-ofZ fl, toZ-ofZ ft, toZ-ofZ fits)
 
   most : c .before .before .args .z .m * (natAbs (l -ℤ t) + 1) ≤ polynomialCount
@@ -56,8 +56,8 @@ module _ (c : tie.After-struct-told) where
 
 sub-result : tie.Need-sub-result
 sub-result c =
-    let fl : SFits w64 (l c) = sfits-of (c .struct-told .given .1 .0 .1) in
-    let ft : SFits w64 (t c) = sfits-of (c .struct-told .given .1 .1 .0 .1) in
+    let fl : SFits w64 (l c) = sfits-of (c .struct-told .given .1 .1 .0 .1) in
+    let ft : SFits w64 (t c) = sfits-of (c .struct-told .given .1 .1 .1 .0 .1) in
     simp (toZ-ofZ fl, toZ-ofZ ft) (fits c)
 
 cast-result : tie.Need-cast-result

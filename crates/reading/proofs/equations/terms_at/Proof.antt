@@ -44,7 +44,7 @@ loop-holds : tie.Need-loop-holds Inv-loop μ-loop
 unfolding sizesOf
 loop-holds c =
     let s = c .before .before in
-    let f : SFits w64 (s .args .z .l) = sfits-of (c .struct-told .given .1 .0 .1) in
+    let f : SFits w64 (s .args .z .l) = sfits-of (c .struct-told .given .1 .1 .0 .1) in
     terms-begin _ (s .pre .0 .1) _ _ _ _ _ (s .pre .0 .0) (toZ-ofZ f) (row-long s) (ap rowOf (s .pre .1) ∙ zeros-blank)
 
 sub-left : tie.Need-sub-left Inv-loop μ-loop
@@ -84,7 +84,7 @@ module _ (d : tie.After-struct-told3 Inv-loop μ-loop) where
   q = d .before .before .before .before .place-at .result
 
   l-fits : SFits w64 (s .args .z .l)
-  l-fits = sfits-of (d .before .struct-told2 .given .1 .0 .1)
+  l-fits = sfits-of (d .before .struct-told2 .given .1 .1 .0 .1)
 
   block-fits : SFits w64 (q .block)
   block-fits = sfits-of (d .struct-told3 .given .1 .1 .0 .1)

@@ -4,26 +4,41 @@ use mathlib.Core.Path.{_≡_, sym, ap, _∙_}
 use mathlib.Core.List.{[]}
 use Prim.Native.Nat.{_≤_}
 use native.Mathlib.Nat.{le-trans}
+use native.Mathlib.Omega.{arith}
 use borrow.Author.Needs.{sfits-of}
 use denote.Ref.{now}
 use lib.Dec.{T}
-use lib.IntN.{ℤ, natAbs}
+use lib.IntN.{ℤ, pos, natAbs}
 use lib.ListN.{drop}
 use lib.Signed.{nonNeg}
 use mir.Syntax.{w64}
-use mir.Val.{SFits}
-use mir.Facts.{toZ-ofZ, fits-natAbs}
+use mir.Val.{SFits, toZ}
+use mir.Facts.{toZ-ofZ, toZ-pos, fits-natAbs}
 use Rattle.rules.specs.Limits.{columnCount}
-use Rattle.rules.specs.Numbers.{got, field}
-use Rattle.rules.specs.Sheets.{afterCount, judgeOrderCount, readColumns}
-use Rattle.tokens.specs.Fields.{answer-fault, answer-got, refuses, answers-as, then-got, then-fault, field-judged}
+use Rattle.rules.specs.Numbers.{got, field, between}
+use Rattle.rules.specs.Sheets.{afterCount, readColumns}
+use Rattle.tokens.specs.Fields.{Answers, answer-fault, answer-got, refuses, answers-as, then-got, then-fault, field-judged, between-zero}
 use Rattle.reading.specs.Terms.{padded}
-use Rattle.reading.specs.OrderLine.{orderThen, order-is, order-count-zero}
+use Rattle.reading.specs.OrderLine.{orderThen, order-is}
 use Rattle.reading.proofs.order.order_at.Statement.{statement}
 use Rattle.reading.proofs.order.order_at.Tie as tie
 
-order-count-at-requires : tie.Need-order-count-at-requires
-order-count-at-requires c κs = c .before .pre
+cast-count-at : tie.Need-cast-count-at
+cast-count-at c = omega (arith, c .before .pre .1)
+
+count-at-requires : tie.Need-count-at-requires
+count-at-requires c κs = c .before .pre .0
+
+-- The number of columns, as it was read.
+module _ (c : tie.After-count-at) where
+  count-answer : Answers (now (c .before .before .args .bytes)) (c .count-at .result .refusal) (c .count-at .result .value)
+      (c .count-at .result .at)
+      (field (between (pos 0) (pos (c .before .before .args .m))) afterCount
+      (drop (c .before .before .args .at) (now (c .before .before .args .bytes))))
+  count-answer =
+      let m : toZ w64 (c .before .before .args .m) ≡ pos (c .before .before .args .m)
+      = toZ-pos w64 (omega (arith, c .before .before .pre .1)) in
+      rw m at (c .count-at .ensures)
 
 no-order-requires : tie.Need-no-order-requires
 no-order-requires c κs = tt
@@ -31,38 +46,37 @@ no-order-requires c κs = tt
 returns : tie.Need-returns
 returns c =
     refuses (c .before .if1 .taken)
-    (order-is _ _ ∙ then-fault _ (answer-fault (c .before .if1 .taken) (c .before .before .before .order-count-at .ensures)))
+    (order-is _ _ ∙ then-fault _ (answer-fault (c .before .if1 .taken) (count-answer (c .before .before .before))))
     (c .no-order .ensures)
 
--- The number of columns, as it was read.
 module _ (c : tie.After-struct-told) where
   abbrev count : ℤ
-  count = c .before .before .before .before .order-count-at .result .value
+  count = c .before .before .before .before .count-at .result .value
 
   count-fits : SFits w64 count
   count-fits = sfits-of (c .struct-told .given .1 .0 .1)
 
-  count-read : field (judgeOrderCount (c .before .before .before .before .before .before .args .m)) afterCount
+  count-read : field (between (pos 0) (pos (c .before .before .before .before .before .before .args .m))) afterCount
       (drop (c .before .before .before .before .before .before .args .at)
       (now (c .before .before .before .before .before .before .args .bytes)))
       ≡ got count
-      (drop (c .before .before .before .before .order-count-at .result .at)
+      (drop (c .before .before .before .before .count-at .result .at)
       (now (c .before .before .before .before .before .before .args .bytes)))
-  count-read = answer-got (c .before .before .if1 .left) (c .before .before .before .before .order-count-at .ensures)
+  count-read = answer-got (c .before .before .if1 .left) (count-answer (c .before .before .before .before))
 
-  bounds : T (nonNeg count) × (natAbs count ≤ c .before .before .before .before .before .before .args .m)
-  bounds = order-count-zero _ _ (field-judged _ afterCount _ count-read)
+  bounds : T (nonNeg count) × (0 ≤ natAbs count) × (natAbs count ≤ c .before .before .before .before .before .before .args .m)
+  bounds = between-zero 0 _ _ (field-judged _ afterCount _ count-read)
 
 cast-columns-at : tie.Need-cast-columns-at
 cast-columns-at c = rw (toZ-ofZ (count-fits c)) (bounds c .0, fits-natAbs tt (count-fits c))
 
 columns-at-requires : tie.Need-columns-at-requires
 columns-at-requires c κs = (
-  c .before .before .before .before .order-count-at .ensures .within,
+  c .before .before .before .before .count-at .ensures .within,
   (
     c .before .before .before .before .before .before .pre .1,
     rw (toZ-ofZ (count-fits c))
-        (le-trans (bounds c .1) (c .before .before .before .before .before .before .pre .1)),
+        (le-trans (bounds c .2) (c .before .before .before .before .before .before .pre .1)),
   ),
 )
 
@@ -72,7 +86,7 @@ returns-2 c =
     let a = c .before .before .before .before .before .before .before .args in
     answers-as (c .columns-at .ensures)
     (ap (λ k. padded columnCount 0
-    (readColumns (a .m) (natAbs k) [] (drop (c .before .before .before .before .before .order-count-at .result .at) (now (a .bytes)))))
+    (readColumns (a .m) (natAbs k) [] (drop (c .before .before .before .before .before .count-at .result .at) (now (a .bytes)))))
     (toZ-ofZ (count-fits (c .before)))
     ∙ sym (order-is _ _ ∙ then-got _ (count-read (c .before))))
 
@@ -80,7 +94,8 @@ pub order-at-spec : {M : Type 1} → statement M
 order-at-spec =
     tie.close
     (tie.spec
-    order-count-at-requires
+    cast-count-at
+    count-at-requires
     no-order-requires
     returns
     cast-columns-at

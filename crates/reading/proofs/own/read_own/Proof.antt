@@ -15,7 +15,7 @@ use Rattle.reading.specs.ReadCalls.{callOf, call-unread, call-faults, ca
 use Rattle.reading.specs.WholeSheet.{resultOf, HeadTo, SheetRead}
 use Rattle.reading.specs.Zeros.{length-zeros, take-zeros, zero-again}
 use Rattle.rules.specs.Calls.{zeros}
-use Rattle.rules.specs.Limits.{rowLength, relationLength}
+use Rattle.rules.specs.Limits.{mostEquations, rowLength, relationLength}
 use Rattle.rules.specs.SheetCalls.{readCall}
 use Rattle.rules.specs.Stores.{equations, rowNeed, largestRows, relationNeed}
 use Rattle.stores.specs.Validity.{sizesOf}
@@ -35,9 +35,9 @@ module _ (c : tie.After-head-at) where
 
   -- the number of equations
   abbrev n : ℕ
-  n = c .head-at .result .sizes .m
+  n = c .head-at .result .sizes .equations
 
-  few-rows : n ≤ 4
+  few-rows : n ≤ mostEquations
   unfolding equations sizesOf
   few-rows = c .head-at .ensures .1 .0
 

@@ -33,7 +33,7 @@ returns c =
     (relation-is _ _ ∙ then-fault _ (answer-fault (c .before .if1 .taken) (c .before .before .before .small-at .ensures .0)))
     (c .no-part .ensures)
 
--- The relation that was lent has 321 numbers.
+-- The relation that was lent has numbers.
 whole : (c : tie.Start) → length (now (c .args .relation)) ≡ relationLength
 whole c = ap length (c .pre .1) ∙ length-zeros relationLength
 

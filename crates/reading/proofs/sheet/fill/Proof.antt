@@ -13,7 +13,7 @@ use Rattle.lists.specs.Tests.{true-T}
 use Rattle.reading.specs.ReadCalls.{callOf, call-unread, call-refuses, call-short, call-fills}
 use Rattle.reading.specs.WholeSheet.{resultOf, SheetRead}
 use Rattle.reading.specs.Zeros.{length-zeros}
-use Rattle.rules.specs.Layout.{lengthsRight-iff, size-bounds, equations-few}
+use Rattle.rules.specs.Layout.{lengthsRight-iff, size-bounds}
 use Rattle.rules.specs.Limits.{relationLength}
 use Rattle.rules.specs.Stores.{rowNeed, equations, lengthsRight}
 use Rattle.stores.specs.Validity.{sizesOf}
@@ -24,7 +24,7 @@ rest-at-requires : tie.Need-rest-at-requires
 unfolding equations sizesOf
 rest-at-requires c κs =
     let s = c .before .before .before in
-    (s .pre .0, (omega (arith, s .pre .1 .0, equations-few _ (size-bounds _ (s .pre .0 .right))), s .pre .1 .1))
+    (s .pre .0, (omega (arith, s .pre .1 .0, size-bounds _ (s .pre .0 .right) .few-equations), s .pre .1 .1))
 
 -- The sheet, as it was read.
 module _ (d : tie.After-rest-at) where

@@ -17,13 +17,13 @@ use mir.Facts.{toZ-ofZ, fits-natAbs}
 use Rattle.rules.specs.Limits.{mostEquations, rowLength}
 use Rattle.rules.specs.Numbers.{got, field, between}
 use Rattle.rules.specs.Stores.{equations, rowsOf, rowNeed, largestRows, sizesRight}
-use Rattle.rules.specs.Layout.{size-bounds, equations-few}
+use Rattle.rules.specs.Layout.{size-bounds}
 use Rattle.rules.specs.Calls.{zeros}
-use Rattle.rules.specs.Sheets.{always, readSizes}
+use Rattle.rules.specs.Sheets.{always, readSizes, readEquations}
 use Rattle.tokens.specs.Fields.{answer-fault, answer-got, then-fault, field-judged, between-zero}
 use Rattle.reading.specs.Zeros.{length-zeros, take-zeros}
 use Rattle.reading.specs.Sections.{rowsOf-front}
-use Rattle.reading.specs.WholeSheet.{equationSection, sizes-right, sheet-is, head-refuses, equations-fault, count-fault, count-got}
+use Rattle.reading.specs.WholeSheet.{sizes-right, sheet-is, head-refuses, equations-fault, count-fault, count-got}
 use Rattle.stores.specs.Validity.{sizesOf}
 use Rattle.reading.proofs.sheet.head_at.Statement.{statement}
 use Rattle.reading.proofs.sheet.head_at.Tie as tie
@@ -56,7 +56,7 @@ module _ (c : tie.After-sizes) where
 
   -- the number of equations
   abbrev n : ℕ
-  n = c .before .before .before .sizes-at .result .sizes .m
+  n = c .before .before .before .sizes-at .result .sizes .equations
 
   sizes-read : readSizes (now (start .args .bytes))
       ≡ got (sizesOf (c .before .before .before .sizes-at .result .sizes))
@@ -68,7 +68,7 @@ module _ (c : tie.After-sizes) where
 
   few : n ≤ mostEquations
   unfolding equations sizesOf
-  few = equations-few _ (size-bounds _ right)
+  few = size-bounds _ right .few-equations
 
   -- The part of the store that is lent.
   lent : take (n * rowLength) rows ≡ zeros (n * rowLength)
@@ -77,45 +77,45 @@ module _ (c : tie.After-sizes) where
 mul-used : tie.Need-mul-used
 mul-used c = omega (arith, few (c .before))
 
-slice-relend-prefix-equation-section : tie.Need-slice-relend-prefix-equation-section
-slice-relend-prefix-equation-section c =
+slice-relend-prefix-equations-at : tie.Need-slice-relend-prefix-equations-at
+slice-relend-prefix-equations-at c =
     omega (arith, few (c .before), ap length (start (c .before) .pre), length-zeros largestRows)
 
-slice-aggregate-equation-section : tie.Need-slice-aggregate-equation-section
-slice-aggregate-equation-section c = sym (ap length (lent (c .before .before)) ∙ length-zeros _)
+slice-aggregate-equations-at : tie.Need-slice-aggregate-equations-at
+slice-aggregate-equations-at c = sym (ap length (lent (c .before .before)) ∙ length-zeros _)
 
-equation-section-requires : tie.Need-equation-section-requires
-equation-section-requires c κs = (
+equations-at-requires : tie.Need-equations-at-requires
+equations-at-requires c κs = (
   (c .before .before .before .before .before .sizes-at .ensures .within, right (c .before .before)),
   (few (c .before .before), lent (c .before .before)),
 )
 
 -- The rows, as they were read into the part that was lent.
-module _ (c : tie.After-equation-section) where
+module _ (c : tie.After-equations-at) where
   abbrev d : tie.After-sizes
   d = c .before .before .before
 
   abbrev part : List ℤ
-  part = c .equation-section .last .1 .1 .1 .1 .0
+  part = c .equations-at .last .1 .1 .1 .1 .0
 
   abbrev after : List ℤ
   after = part ++ drop (n d * rowLength) (rows d)
 
   part-long : length part ≡ n d * rowLength
-  part-long = c .equation-section .kept .1 .1 .1 .1 .0 ∙ ap length (lent d) ∙ length-zeros _
+  part-long = c .equations-at .kept .1 .1 .1 .1 .0 ∙ ap length (lent d) ∙ length-zeros _
 
   -- What lies past the rows is as it was.
   past : (k : ℕ) → k ≡ n d → (k ≤ mostEquations) × (drop (k * rowLength) after ≡ drop (k * rowLength) (rows d))
   past k e = rw e (few d, drop-at part (drop (n d * rowLength) (rows d)) (n d * rowLength) part-long)
 
-  rows-read : c .equation-section .result .refusal ≡ 0
-      → equationSection (sizesOf (d .before .before .before .sizes-at .result .sizes)) (n d)
+  rows-read : c .equations-at .result .refusal ≡ 0
+      → readEquations (sizesOf (d .before .before .before .sizes-at .result .sizes)) (n d)
       (drop (d .before .before .before .sizes-at .result .at) (now (start d .args .bytes)))
-      ≡ got (rowsOf (n d) after) (drop (c .equation-section .result .at) (now (start d .args .bytes)))
+      ≡ got (rowsOf (n d) after) (drop (c .equations-at .result .at) (now (start d .args .bytes)))
   unfolding rowNeed
   rows-read h =
-      answer-got h (c .equation-section .ensures)
-      ∙ ap (λ r. got r (drop (c .equation-section .result .at) (now (start d .args .bytes))))
+      answer-got h (c .equations-at .ensures)
+      ∙ ap (λ r. got r (drop (c .equations-at .result .at) (now (start d .args .bytes))))
       (sym (rowsOf-front (n d) part (drop (n d * rowLength) (rows d)) part-long))
 
 no-head-requires-2 : tie.Need-no-head-requires-2
@@ -129,12 +129,12 @@ unfolding equations sizesOf
 returns-2 c =
     let h = c .before .if2 .taken in
     let e = c .before .before .before .before in (
-      head-refuses h (equations-fault _ _ _ (sizes-read (d e)) (answer-fault h (e .equation-section .ensures))) (c .no-head2 .ensures .0),
+      head-refuses h (equations-fault _ _ _ (sizes-read (d e)) (answer-fault h (e .equations-at .ensures))) (c .no-head2 .ensures .0),
       past e _ (c .no-head2 .ensures .1),
     )
 
 number-between-requires : tie.Need-number-between-requires
-number-between-requires c κs = c .before .before .before .equation-section .ensures .within
+number-between-requires c κs = c .before .before .before .equations-at .ensures .within
 
 no-head-requires-3 : tie.Need-no-head-requires-3
 no-head-requires-3 c κs = tt
@@ -156,7 +156,7 @@ returns-3 c =
 
 -- The number of relations, as it was read.
 module _ (c : tie.After-struct-told) where
-  abbrev e : tie.After-equation-section
+  abbrev e : tie.After-equations-at
   e = c .before .before .before .before .before .before .before .before
 
   abbrev count : ℤ
@@ -165,7 +165,7 @@ module _ (c : tie.After-struct-told) where
   count-fits : SFits w64 count
   count-fits = sfits-of (c .struct-told .given .1 .0 .1)
 
-  count-read : field (between (pos 0) (pos 16)) (always 10) (drop (e .equation-section .result .at) (now (start (d e) .args .bytes)))
+  count-read : field (between (pos 0) (pos 16)) (always 10) (drop (e .equations-at .result .at) (now (start (d e) .args .bytes)))
       ≡ got count (drop (c .before .before .before .before .number-between .result .at) (now (start (d e) .args .bytes)))
   count-read = answer-got (c .before .before .if3 .left) (c .before .before .before .before .number-between .ensures .0)
 
@@ -206,9 +206,9 @@ head-at-spec =
     no-head-requires
     returns
     mul-used
-    slice-relend-prefix-equation-section
-    slice-aggregate-equation-section
-    equation-section-requires
+    slice-relend-prefix-equations-at
+    slice-aggregate-equations-at
+    equations-at-requires
     no-head-requires-2
     same-length
     returns-2

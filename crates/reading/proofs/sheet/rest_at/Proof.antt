@@ -9,7 +9,7 @@ use lib.ListN.{length, drop}
 use Rattle.reading.specs.WholeSheet.{resultOf, sheet, padSheet, relations-fault, order-fault, order-got, refused-nonzero, sheet-refuses}
 use Rattle.reading.specs.WholeSheet.{sheet-gives, end-fault, end-got}
 use Rattle.reading.specs.Zeros.{length-zeros}
-use Rattle.rules.specs.Layout.{size-bounds, equations-few, length-rowsOf, length-relationsOf}
+use Rattle.rules.specs.Layout.{size-bounds, length-rowsOf, length-relationsOf}
 use Rattle.rules.specs.Limits.{mostEquations}
 use Rattle.rules.specs.Numbers.{thenRead}
 use Rattle.rules.specs.Sheets.{readRest, readSheet}
@@ -31,9 +31,9 @@ same-length c = search needs
 abbrev start : tie.After-relations-at → tie.Start
 start c = c .before .before .before .before
 
-few-rows : (c : tie.After-relations-at) → start c .args .h .sizes .m ≤ mostEquations
+few-rows : (c : tie.After-relations-at) → start c .args .h .sizes .equations ≤ mostEquations
 unfolding equations sizesOf
-few-rows c = equations-few _ (size-bounds _ (start c .pre .0 .right))
+few-rows c = size-bounds _ (start c .pre .0 .right) .few-equations
 
 returns : tie.Need-returns
 returns c =
@@ -97,7 +97,7 @@ module _ (c : tie.After-order-at) (got-order : c .order-at .result .refusal ≡ 
 
   to-end : thenRead (readSheet (now (start r .args .bytes))) padSheet
       ≡ readRest
-      (sheet (sizesOf (start r .args .h .sizes)) (rowsOf (start r .args .h .sizes .m) (now (start r .args .rows)))
+      (sheet (sizesOf (start r .args .h .sizes)) (rowsOf (start r .args .h .sizes .equations) (now (start r .args .rows)))
       (relationsOf (start r .args .h .relations) (r .relations-at .last .1 .1 .1 .1 .0)) (c .order-at .result .order))
       (drop (c .order-at .result .at) (now (start r .args .bytes)))
   unfolding equations sizesOf

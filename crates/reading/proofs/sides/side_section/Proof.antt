@@ -5,50 +5,30 @@ use Prim.Native.Nat.{_+_}
 use native.Mathlib.Omega.{arith}
 use borrow.Author.Needs.{needs}
 use denote.Ref.{now}
-use lib.IntN.{pos}
 use lib.ListN.{drop}
-use mir.Facts.{toZ-pos}
-use mir.Syntax.{w64}
-use mir.Val.{toZ}
 use Rattle.reading.specs.Sides.{section-count-fault, section-rows-fault, section-relations-fault, section-gives}
-use Rattle.rules.specs.Numbers.{got, field, between}
-use Rattle.rules.specs.Sheets.{always}
-use Rattle.tokens.specs.Fields.{Answers, answer-fault, answer-got, refuses, gives}
+use Rattle.rules.specs.Numbers.{got, field}
+use Rattle.rules.specs.Sheets.{always, judgeSideCount}
+use Rattle.tokens.specs.Fields.{answer-fault, answer-got, refuses, gives}
 use Rattle.reading.proofs.sides.side_section.Statement.{statement}
 use Rattle.reading.proofs.sides.side_section.Tie as tie
 
-add-n : tie.Need-add-n
-add-n c = search needs
+add-total-at : tie.Need-add-total-at
+add-total-at c = search needs
 
-cast-n : tie.Need-cast-n
-cast-n c = search needs
-
-number-between-requires : tie.Need-number-between-requires
-number-between-requires c κs = search needs
+total-at-requires : tie.Need-total-at-requires
+total-at-requires c κs = omega (arith, c .before .pre .0)
 
 no-part-requires : tie.Need-no-part-requires
 no-part-requires c κs = search needs
 
 -- The number of sides, as it was read.
-module _ (c : tie.After-number-between) where
-  count-answer : Answers (now (c .before .before .args .bytes)) (c .number-between .result .refusal) (c .number-between .result .value)
-      (c .number-between .result .at)
-      (field (between (pos (c .before .before .args .equations + c .before .before .args .count))
-      (pos (c .before .before .args .equations + c .before .before .args .count))) (always 10)
-      (drop (c .before .before .args .at) (now (c .before .before .args .bytes))))
-  count-answer =
-      let n : toZ w64 (c .before .before .args .equations + c .before .before .args .count)
-      ≡ pos (c .before .before .args .equations + c .before .before .args .count)
-      = toZ-pos w64 (omega (arith, c .before .before .pre .0)) in
-      rw n at (c .number-between .ensures .0)
-
 module _ (c : tie.Else1) where
-  counted : field (between (pos (c .before .before .before .before .args .equations + c .before .before .before .before .args .count))
-      (pos (c .before .before .before .before .args .equations + c .before .before .before .before .args .count))) (always 10)
-      (drop (c .before .before .before .before .args .at) (now (c .before .before .before .before .args .bytes)))
-      ≡ got (c .before .before .number-between .result .value)
-      (drop (c .before .before .number-between .result .at) (now (c .before .before .before .before .args .bytes)))
-  counted = answer-got (c .if1 .left) (count-answer (c .before .before))
+  counted : field (judgeSideCount (c .before .before .before .before .args .equations + c .before .before .before .before .args .count))
+      (always 10) (drop (c .before .before .before .before .args .at) (now (c .before .before .before .before .args .bytes)))
+      ≡ got (c .before .before .total-at .result .value)
+      (drop (c .before .before .total-at .result .at) (now (c .before .before .before .before .args .bytes)))
+  counted = answer-got (c .if1 .left) (c .before .before .total-at .ensures)
 
 -- The sides of the equations stand before those of the relations.
 abbrev rows-read : tie.After-sides-at2 → tie.After-sides-at
@@ -60,7 +40,7 @@ start c = c .before .before .before .before .before .before
 returns : tie.Need-returns
 returns c =
     refuses (c .before .if1 .taken)
-    (section-count-fault _ _ _ _ _ (answer-fault (c .before .if1 .taken) (count-answer (c .before .before .before))))
+    (section-count-fault _ _ _ _ _ (answer-fault (c .before .if1 .taken) (c .before .before .before .total-at .ensures)))
     (c .no-part .ensures)
 
 sides-at-requires : tie.Need-sides-at-requires
@@ -122,9 +102,8 @@ pub side-section-spec : {M : Type 1} → statement M
 side-section-spec =
     tie.close
     (tie.spec
-    add-n
-    cast-n
-    number-between-requires
+    add-total-at
+    total-at-requires
     no-part-requires
     returns
     sides-at-requires

@@ -21,7 +21,8 @@ same-length-2 c = search needs
 
 returns : tie.Need-returns
 returns c =
-    let ran = ran-held (c .before .before .before .steps .ensures) (c .if1 .taken) in
+    let ended = c .before .before .before in
+    let ran = ran-held (ended .before .before .before .pre .1 .long) (ended .steps .ensures) (c .if1 .taken) in
     (ran .answer, (ran .rows-after, (ran .relations-after, ran .reached)))
 
 mul-clear : tie.Need-mul-clear
@@ -29,7 +30,9 @@ mul-clear c = search needs
 
 clear-requires : tie.Need-clear-requires
 unfolding rowNeed
-clear-requires c κs = omega (arith, c .before .before .before .before .before .steps .ensures .ready .rows-within .long)
+clear-requires c κs =
+    let ended = c .before .before .before .before .before in
+    omega (arith, ended .before .before .before .pre .1 .long, ended .steps .ensures .rows-kept .same-length)
 
 mul-clear-2 : tie.Need-mul-clear-2
 mul-clear-2 c = search needs
@@ -57,7 +60,9 @@ returns-2 c =
     let ended = first .before .before .before .before .before .before in
     let answer = c .answer .ensures ∙ ap (answerOf (ended .steps .result .refusal)) (c .before .start .ensures) in
     let refused = first .before .before .before .if1 .left in
-    let ran = ran-cleared (ended .steps .ensures) refused (first .clear .ensures) (listed .clear2 .ensures) answer in
+    let asked = ended .before .before .before .pre in
+    let ran = ran-cleared (asked .0) (asked .1 .long) (ended .steps .ensures) refused (first .clear .ensures) (listed .clear2 .ensures)
+    answer in
     (ran .answer, (ran .rows-after, (ran .relations-after, ran .reached)))
 
 pub run-spec : {M : Type 1} → statement M

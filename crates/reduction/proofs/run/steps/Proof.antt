@@ -42,7 +42,7 @@ module _ (c : tie.Then2 Inv-loop μ-loop) where
   abbrev head : tie.At-loop Inv-loop μ-loop
   head = c .before .before .before .before
 
-  one-left : head .loop .p .settled < head .before .before .before .args .equations
+  one-left : head .loop .p .settled < head .loop .p .rows
   one-left = ltb-true _ _ (c .if2 .taken)
 
 step-requires : tie.Need-step-requires Inv-loop μ-loop
@@ -67,7 +67,7 @@ loop-again c =
 
 -- what the loop's end says
 stopped : (c : tie.Left-loop Inv-loop μ-loop)
-    → Stopped (c .before .before .before .before .args .equations) (c .before .loop .refusal) (c .before .loop .p) (c .before .loop .left)
+    → Stopped (c .before .loop .refusal) (c .before .loop .p) (c .before .loop .left)
 stopped c = elim (c .loop-test .came) [
   | inl w ↦ inr (inr (ltb-false _ _ (w .3 .left)))
   | inr (inl w) ↦ inr (inl (eqb-false _ _ (w .1 .left)))

@@ -64,26 +64,26 @@ module _ (c : tie.Start) where
   abbrev j : ℕ
   j = c .args .j
 
-  abbrev equations : ℕ
-  equations = c .args .equations
+  abbrev n : ℕ
+  n = p .rows
 
   abbrev side : Side
   side = sideOf (c .args .side)
 
-  ready : Ready equations rows relations p
+  ready : Ready rows relations p
   ready = c .pre .0 .0
 
-  inside : i < equations
+  inside : i < n
   inside = c .pre .0 .1
 
   settled : j < i
   settled = c .pre .0 .2
 
-  other : j < equations
+  other : j < n
   other = omega (arith, inside, settled)
 
-  room : (k : ℕ) → k < equations → k * rowLength + rowLength ≤ length rows
-  room k h = omega (arith, row-room equations k rows (ready .rows-within) h, ready .rows-within .long)
+  room : (k : ℕ) → k < n → k * rowLength + rowLength ≤ length rows
+  room k h = omega (arith, row-room n k rows (ready .rows-within) h, ready .rows-within .long)
 
   -- the two rows and their entries
   abbrev target : List ℤ
@@ -99,13 +99,13 @@ module _ (c : tie.Start) where
   below = Columns-at (p .order) (ready .columns) j
 
   target-small : Small target
-  target-small = small-numbersAt equations rows (ready .rows-within) i inside
+  target-small = small-numbersAt n rows (ready .rows-within) i inside
 
   pivot-small : Small pivot
-  pivot-small = small-numbersAt equations rows (ready .rows-within) j other
+  pivot-small = small-numbersAt n rows (ready .rows-within) j other
 
   target-long : length target ≡ rowLength
-  target-long = length-numbersAt equations rows (ready .rows-within) i inside
+  target-long = length-numbersAt n rows (ready .rows-within) i inside
 
   entry-fits : (l : List ℤ) → length l ≡ rowLength → Small l → Sixteen (entry (rowOf l) column)
   entry-fits l e h = (length-entry l column (omega (arith, e)) below, small-entry l column h below)
@@ -130,15 +130,15 @@ module _ (c : tie.Start) where
   fits : Sixteen (x .g) × Sixteen (x .h)
   fits =
       multipliers-fit (entry (rowOf pivot) column) (entry (rowOf target) column)
-      (entry-fits pivot (length-numbersAt equations rows (ready .rows-within) j other) pivot-small)
+      (entry-fits pivot (length-numbersAt n rows (ready .rows-within) j other) pivot-small)
       (entry-fits target target-long target-small)
 
   few : length (roots (x .g)) ≤ 15
   few = roots-few (x .g) (le-of-eq (fits .0 .0))
 
-  combine-is : combineStep side (stateOf equations rows relations p) i j (multipliersAt (stateOf equations rows relations p) i j)
-      ≡ combineStep side (stateOf equations rows relations p) i j x
-  combine-is = ap (combineStep side (stateOf equations rows relations p) i j) (multipliers-in side ready j inside settled)
+  combine-is : combineStep side (stateOf rows relations p) i j (multipliersAt (stateOf rows relations p) i j)
+      ≡ combineStep side (stateOf rows relations p) i j x
+  combine-is = ap (combineStep side (stateOf rows relations p) i j) (multipliers-in side ready j inside settled)
 
   -- the new row
   abbrev new : Limited

@@ -50,16 +50,16 @@ module _ (c : tie.Start) where
   abbrev row : WorkingRow
   row = c .args .row
 
-  abbrev equations : ℕ
-  equations = c .args .equations
+  abbrev n : ℕ
+  n = p .rows
 
   abbrev side : Side
   side = sideOf (c .args .side)
 
-  ready : Ready equations rows relations p
+  ready : Ready rows relations p
   ready = c .pre .0 .0
 
-  inside : i < equations
+  inside : i < n
   inside = c .pre .0 .1
 
   settled : j < i
@@ -68,20 +68,20 @@ module _ (c : tie.Start) where
   row-held : Loaded rows i row
   row-held = c .pre .0 .3
 
-  other : j < equations
+  other : j < n
   other = omega (arith, inside, settled)
 
-  room : (k : ℕ) → k < equations → k * rowLength + rowLength ≤ length rows
-  room k h = omega (arith, row-room equations k rows (ready .rows-within) h, ready .rows-within .long)
+  room : (k : ℕ) → k < n → k * rowLength + rowLength ≤ length rows
+  room k h = omega (arith, row-room n k rows (ready .rows-within) h, ready .rows-within .long)
 
   -- what a combination asks of the store and of its rows
   abbrev Asked : List ℤ → WorkingRow → WorkingRow → Type 0
   Asked r t q =
-      (Ready equations r relations p × (i < equations) × (j < i)) × ((Loaded r i t × Loaded r j q) × T (not (isZero (metEntries r p j))))
+      (Ready r relations p × (i < n) × (j < i)) × ((Loaded r i t × Loaded r j q) × T (not (isZero (metEntries r p j))))
 
   asked : (r : List ℤ) (t q : WorkingRow) → r ≡ narrowed rows i j → Loaded r i t → Loaded r j q → Asked r t q
   asked r t q e l k = (
-    (subst (λ d. Ready equations d relations p) (sym e) (narrowed-ready side ready inside j settled), inside, settled),
+    (subst (λ d. Ready d relations p) (sym e) (narrowed-ready side ready inside j settled), inside, settled),
     ((l, k), subst (λ d. T (not (isZero (metEntries d p j)))) (sym e) (c .pre .1)),
   )
 
@@ -90,14 +90,14 @@ module _ (c : tie.Start) where
 
   -- the outcome, for a store that is the narrowed one
   reached : (r rows' relations' : List ℤ) (o : Answer.Outcome) → r ≡ narrowed rows i j
-      → (let s = stateOf equations r relations p in
-      Reached equations r relations rows' relations' (p .shifts + 1) o (combineStep side s i j (multipliersAt s i j)))
-      → let s = stateOf equations (narrowed rows i j) relations p in
-      Reached equations rows relations rows' relations' (p .shifts + 1) o (combineStep side s i j (multipliersAt s i j))
+      → (let s = stateOf r relations p in
+      Reached n r relations rows' relations' (p .shifts + 1) o (combineStep side s i j (multipliersAt s i j)))
+      → let s = stateOf (narrowed rows i j) relations p in
+      Reached n rows relations rows' relations' (p .shifts + 1) o (combineStep side s i j (multipliersAt s i j))
   reached r rows' relations' o e h =
-      reached-after (narrowed-kept equations rows (ready .rows-within) i j inside other)
-      (subst (λ d. let s = stateOf equations d relations p in
-      Reached equations d relations rows' relations' (p .shifts + 1) o (combineStep side s i j (multipliersAt s i j))) e h)
+      reached-after (narrowed-kept n rows (ready .rows-within) i j inside other)
+      (subst (λ d. let s = stateOf d relations p in
+      Reached n d relations rows' relations' (p .shifts + 1) o (combineStep side s i j (multipliersAt s i j))) e h)
 
 -- the settled row
 module _ (c : tie.After-load) where
@@ -118,13 +118,13 @@ module _ (c : tie.After-save2) where
   abbrev b : tie.Start
   b = start loaded
 
-  abbrev w : Within (rowNeed (equations b)) (rows b)
+  abbrev w : Within (rowNeed (n b)) (rows b)
   w = ready b .rows-within
 
   wider : width (rowOf (numbersAt (rows b) (i b))) < width (rowOf (numbersAt (rows b) (j b)))
   wider = omega (arith, row-held b .width-is, other-held loaded .width-is, first .before .before .if1 .taken)
 
-  exchanged-is : c .save2 .last .0 ≡ exchanged (equations b) (rows b) w (i b) (j b) (inside b) (other b)
+  exchanged-is : c .save2 .last .0 ≡ exchanged (n b) (rows b) w (i b) (j b) (inside b) (other b)
   exchanged-is =
       c .save2 .ensures
       ∙ ap₂ (λ s l. paste s (i b * rowLength) l rowLength)
@@ -136,7 +136,7 @@ module _ (c : tie.After-save2) where
   rows-loaded : Loaded (c .save2 .last .0) (i b) (loaded .load .result) × Loaded (c .save2 .last .0) (j b) (row b)
   rows-loaded =
       subst (λ d. Loaded d (i b) (loaded .load .result) × Loaded d (j b) (row b)) (sym exchanged-is)
-      (exchanged-loaded (equations b) (rows b) w (i b) (j b) (inside b) (other b) (different b) (row b) (loaded .load .result)
+      (exchanged-loaded (n b) (rows b) w (i b) (j b) (inside b) (other b) (different b) (row b) (loaded .load .result)
       (row-held b) (other-held loaded))
 
 -- no exchange

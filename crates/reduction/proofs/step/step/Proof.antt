@@ -15,7 +15,7 @@ use Rattle.algebra.specs.Polynomials.{isZero}
 use Rattle.rules.specs.Limits.{columnCount, rowLength, small}
 use Rattle.rules.specs.Rows.{Row, zeroLeft, width, entry, leadingBlock, firstNonzero}
 use Rattle.lists.specs.Tests.{every}
-use Rattle.rules.specs.Stores.{rowOf}
+use Rattle.rules.specs.Stores.{rowOf, rowNeed}
 use Rattle.rules.specs.Elimination.{Side}
 use Rattle.working_rows.specs.Found.{foundOr, entriesAt}
 use Rattle.working_rows.specs.declared.WorkingRow.{WorkingRow}
@@ -26,8 +26,8 @@ use Rattle.sides.specs.Lent.{sideOf}
 use Rattle.reduction.specs.Progress.{Ready, answerOf, shiftedProgress}
 use Rattle.reduction.specs.NewRows.{saved, row-room}
 use Rattle.reduction.specs.StoreExchange.{numbersAt, Loaded, loaded-from, small-numbersAt}
-use Rattle.reduction.specs.StepLaws.{shiftedRow, reached-same, refused-reached, shift-reached}
-use Rattle.reduction.specs.StepCases.{step-zero, step-contradicts, step-met, met-nonzero, settled-reached, step-shift}
+use Rattle.reduction.specs.StepLaws.{shiftedRow, reached-same, refused-reached, drop-reached, shift-reached}
+use Rattle.reduction.specs.StepCases.{step-zero, step-contradicts, step-met, met-nonzero, room-left, settled-reached, step-shift}
 use Rattle.reduction.proofs.step.step.Statement.{statement}
 use Rattle.reduction.proofs.step.step.Tie as tie
 
@@ -45,8 +45,8 @@ module _ (c : tie.Start) where
   abbrev i : ℕ
   i = p .settled
 
-  abbrev equations : ℕ
-  equations = c .args .equations
+  abbrev n : ℕ
+  n = p .rows
 
   abbrev side : Side
   side = sideOf (c .args .side)
@@ -57,11 +57,11 @@ module _ (c : tie.Start) where
   abbrev met : ℕ
   met = foundOr i (firstNonzero (entriesAt row (p .order) i))
 
-  ready : Ready equations rows relations p
+  ready : Ready rows relations p
   ready = c .pre .0
 
-  room : (k : ℕ) → k < equations → k * rowLength + rowLength ≤ length rows
-  room k h = omega (arith, row-room equations k rows (ready .rows-within) h, ready .rows-within .long)
+  room : (k : ℕ) → k < n → k * rowLength + rowLength ≤ length rows
+  room k h = omega (arith, row-room n k rows (ready .rows-within) h, ready .rows-within .long)
 
 -- the row that is worked on
 module _ (c : tie.After-load) where
@@ -71,7 +71,7 @@ module _ (c : tie.After-load) where
   abbrev held : WorkingRow
   held = c .load .result
 
-  inside : i start < equations start
+  inside : i start < n start
   inside = start .pre .1
 
   loaded : Loaded (rows start) (i start) held
@@ -138,26 +138,30 @@ slice-aggregate-is-zero c = sym (loaded (c .before .before .before .before) .ful
 is-zero-requires : tie.Need-is-zero-requires
 is-zero-requires c κs = search needs
 
-answer-requires : tie.Need-answer-requires
-answer-requires c κs = search needs
+drop-step-requires : tie.Need-drop-step-requires
+unfolding rowNeed
+drop-step-requires c κs =
+    let b = start (c .before .before .before .before .before .before .before) in
+    (ready b .few-rows, b .pre .1, ready b .rows-within .long)
 
 same-length : tie.Need-same-length
 same-length c = search needs
 
 returns : tie.Need-returns
 returns c =
-    let zero-test = c .before .before in
+    let zero-test = c .before .before .before .before in
     let narrow = zero-test .before .before in
     let l = narrow .before .before .before in
     let b = start l in
-    let none = ap isZero (right-is l) ∙ sym (zero-test .is-zero .ensures) ∙ c .before .if2 .taken in (
-      reached-same refl (c .answer .ensures) (step-zero (side b) (ready b) (inside l) (left-zero l (narrow .if1 .taken)) none)
-          (refused-reached (ready b) 5),
-      ap (λ o. o .done) (c .answer .ensures),
+    let drop = c .before .drop-step .ensures in
+    let none = ap isZero (right-is l) ∙ sym (zero-test .is-zero .ensures) ∙ c .before .before .before .if2 .taken in (
+      reached-same (drop .0) (drop .1) (step-zero (side b) (ready b) (inside l) (left-zero l (narrow .if1 .taken)) none)
+          (drop-reached (ready b) (inside l)),
+      ap (λ o. o .done) (drop .1),
     )
 
-answer-requires-2 : tie.Need-answer-requires-2
-answer-requires-2 c κs = search needs
+answer-requires : tie.Need-answer-requires
+answer-requires c κs = search needs
 
 same-length-2 : tie.Need-same-length-2
 same-length-2 c = search needs
@@ -169,9 +173,9 @@ returns-2 c =
     let l = narrow .before .before .before in
     let b = start l in
     let some = ap isZero (right-is l) ∙ sym (zero-test .is-zero .ensures) ∙ c .before .if2 .left in (
-      reached-same refl (c .answer2 .ensures) (step-contradicts (side b) (ready b) (inside l) (left-zero l (narrow .if1 .taken)) some)
+      reached-same refl (c .answer .ensures) (step-contradicts (side b) (ready b) (inside l) (left-zero l (narrow .if1 .taken)) some)
           (refused-reached (ready b) 9),
-      ap (λ o. o .done) (c .answer2 .ensures),
+      ap (λ o. o .done) (c .answer .ensures),
     )
 
 slice-aggregate-first-met : tie.Need-slice-aggregate-first-met
@@ -217,17 +221,22 @@ first-column-requires : tie.Need-first-column-requires
 first-column-requires c κs = loaded (read (c .before .before)) .full .entries-long
 
 settled-requires : tie.Need-settled-requires
-settled-requires c κs = search needs
+settled-requires c κs =
+    let d = c .before in
+    let b = origin d in
+    let room = room-left (side b) (ready b) (inside (read (unmet d))) (nonzero (unmet d)) (none-met d) (d .first-column .result)
+    (column-is d) (omega (arith, c .if4 .taken)) in
+    (room, ready b .four)
 
-answer-requires-3 : tie.Need-answer-requires-3
-answer-requires-3 c κs = search needs
+answer-requires-2 : tie.Need-answer-requires-2
+answer-requires-2 c κs = search needs
 
 shift-step-requires : tie.Need-shift-step-requires
 shift-step-requires c κs =
     let d = c .before .before in
     let b = origin d in
     let l = read (unmet d) in
-    let numbers = small-numbersAt (equations b) (rows b) (ready b .rows-within) (i b) (inside l) in
+    let numbers = small-numbersAt (n b) (rows b) (ready b .rows-within) (i b) (inside l) in
     (room b (i b) (inside l), loaded l .full, subst (λ n. T (every small n)) (sym (loaded l .numbers)) numbers, b .pre .2)
 
 same-length-5 : tie.Need-same-length-5
@@ -238,10 +247,10 @@ returns-4 c =
     let d = c .before .before .before in
     let b = origin d in
     let column = d .first-column .result in (
-      reached-same refl (c .answer3 .ensures ∙ ap (answerOf 0) (c .before .settled .ensures)) refl
+      reached-same refl (c .answer2 .ensures ∙ ap (answerOf 0) (c .before .settled .ensures)) refl
           (settled-reached (side b) (ready b) (inside (read (unmet d))) (nonzero (unmet d)) (none-met d) column
           (column-is d) (omega (arith, c .before .before .if4 .taken))),
-      ap (λ o. o .done) (c .answer3 .ensures),
+      ap (λ o. o .done) (c .answer2 .ensures),
     )
 
 same-length-6 : tie.Need-same-length-6
@@ -269,10 +278,10 @@ step-spec =
     load-requires
     slice-aggregate-is-zero
     is-zero-requires
-    answer-requires
+    drop-step-requires
     same-length
     returns
-    answer-requires-2
+    answer-requires
     same-length-2
     returns-2
     slice-aggregate-first-met
@@ -284,7 +293,7 @@ step-spec =
     slice-aggregate-first-column
     first-column-requires
     settled-requires
-    answer-requires-3
+    answer-requires-2
     shift-step-requires
     same-length-5
     returns-4

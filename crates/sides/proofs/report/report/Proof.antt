@@ -24,12 +24,12 @@ use Rattle.sides.proofs.report.report.Statement.{statement}
 use Rattle.sides.proofs.report.report.Tie as tie
 
 abbrev Inv-loop : tie.InvT-loop
-Inv-loop store equations side span order block answer₀ j₀ answer j =
+Inv-loop store settled side span order block answer₀ j₀ answer j =
     (block ≡ diagonalPlace (sideOf side) span)
-    × ((equations ≤ length order) × ((j ≤ equations) × (answer ≡ answered (reported (sideOf side) span equations store order j))))
+    × ((settled ≤ length order) × ((j ≤ settled) × (answer ≡ answered (reported (sideOf side) span settled store order j))))
 
 abbrev μ-loop : tie.MeasureT-loop
-μ-loop store equations side span order block answer₀ j₀ answer j = equations - j
+μ-loop store settled side span order block answer₀ j₀ answer j = settled - j
 
 -- diagonal polynomial j
 module _ (c : tie.In-loop Inv-loop μ-loop) where
@@ -42,8 +42,8 @@ module _ (c : tie.In-loop Inv-loop μ-loop) where
   abbrev span : ℕ
   span = start .args .span
 
-  abbrev equations : ℕ
-  equations = start .args .equations
+  abbrev settled : ℕ
+  settled = start .args .settled
 
   abbrev store : List ℤ
   store = now (start .args .store)
@@ -57,7 +57,7 @@ module _ (c : tie.In-loop Inv-loop μ-loop) where
   abbrev from : ℕ
   from = j * rowLength + c .before .before .match .block * blockLength + getD order j 0 * coefficientCount
 
-  enough : equations ≤ length order
+  enough : settled ≤ length order
   enough = c .before .loop .inv .1 .0
 
   place : from ≡ diagonalAt side span order j
@@ -67,12 +67,12 @@ module _ (c : tie.In-loop Inv-loop μ-loop) where
   long : from + coefficientCount ≤ length store
   long =
       rw place
-      (diagonal-long side span equations store order enough (start .pre .1) (start .pre .2) j (c .loop-test .taken) (start .pre .3 .long))
+      (diagonal-long side span settled store order enough (start .pre .1) (start .pre .2) j (c .loop-test .taken) (start .pre .3 .long))
 
   numbers : T (every small (take coefficientCount (drop from store)))
   numbers =
       rw place
-      (diagonal-small side span equations store order enough (start .pre .1) (start .pre .2) j (c .loop-test .taken) (start .pre .3))
+      (diagonal-small side span settled store order enough (start .pre .1) (start .pre .2) j (c .loop-test .taken) (start .pre .3))
 
   -- it is the part that is lent
   part : take (from + coefficientCount - from) (drop from store) ≡ take coefficientCount (drop from store)
@@ -104,7 +104,7 @@ loop-holds : tie.Need-loop-holds Inv-loop μ-loop
 unfolding rootFound rootValue
 loop-holds c =
     let args = c .before .args in
-    let none = report-none (sideOf (args .side)) (args .span) (args .equations) (now (args .store)) (args .t3) in
+    let none = report-none (sideOf (args .side)) (args .span) (args .settled) (now (args .store)) (args .t3) in
     (block c, (omega arith, (omega arith, ap answered (sym none))))
 
 mul-from : tie.Need-mul-from Inv-loop μ-loop
@@ -162,7 +162,7 @@ loop-again c =
     let at = c .before .before .before .before in
     let inv = at .before .loop .inv in
     let answer = ap₂ (λ x y. answered (furtherOf (side at) x y)) (option-of _ (inv .1 .1 .1)) (option-of _ (root (c .before))) in
-    let next = report-next (side at) (span at) (equations at) (store at) (order at) (enough at) (start at .pre .1) (start at .pre .2) (j at)
+    let next = report-next (side at) (span at) (settled at) (store at) (order at) (enough at) (start at .pre .1) (start at .pre .2) (j at)
     (at .loop-test .taken) in
     (inv .0, (enough at, (omega arith, c .further .ensures ∙ answer ∙ ap answered next)))
 
@@ -170,7 +170,7 @@ returns : tie.Need-returns Inv-loop μ-loop
 returns c =
     let s = c .before .before .before in
     let inv = c .before .loop .inv in
-    let all = report-all (sideOf (s .args .side)) (s .args .span) (s .args .equations) (now (s .args .store)) (s .args .t3) (inv .1 .0)
+    let all = report-all (sideOf (s .args .side)) (s .args .span) (s .args .settled) (now (s .args .store)) (s .args .t3) (inv .1 .0)
     (c .before .loop .j) (c .loop-test .left) in
     inv .1 .1 .1 ∙ ap answered all
 

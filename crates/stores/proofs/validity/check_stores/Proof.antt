@@ -11,7 +11,7 @@ use lib.Dec.{T, leb}
 use lib.IntN.{ℤ}
 use Rattle.lists.specs.Tests.{T-&&, and-joined, true-T}
 use Rattle.rules.specs.Stores.{Sizes, sizesRight, countRight, lengthsRight, numbersRight, checkStores, equations}
-use Rattle.rules.specs.Layout.{checkStores-order, size-bounds, countRight-iff, lengthsRight-iff, equations-few}
+use Rattle.rules.specs.Layout.{checkStores-order, size-bounds, countRight-iff, lengthsRight-iff}
 use Rattle.stores.specs.Validity.{sizesOf}
 use Rattle.stores.proofs.validity.check_stores.Statement.{statement}
 use Rattle.stores.proofs.validity.check_stores.Tie as tie
@@ -76,7 +76,7 @@ returns c =
 
 lengths-right-requires : tie.Need-lengths-right-requires
 unfolding equations sizesOf
-lengths-right-requires c κs = equations-few _ (size-bounds _ (right c .0))
+lengths-right-requires c κs = size-bounds _ (right c .0) .few-equations
 
 returns-2 : tie.Need-returns-2
 unfolding equations sizesOf

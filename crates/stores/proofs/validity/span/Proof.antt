@@ -31,8 +31,8 @@ module _ (c : tie.After-struct-told2) where
   read : toZ w64 (ofZ w64 (sizes .l)) -ℤ toZ w64 (ofZ w64 (sizes .t)) ≡ difference
   read =
       simp (
-        toZ-ofZ {w = w64} {z = sizes .l} (sfits-of (c .struct-told2 .given .1 .0 .1)),
-        toZ-ofZ {w = w64} {z = sizes .t} (sfits-of (c .struct-told2 .given .1 .1 .0 .1)),
+        toZ-ofZ {w = w64} {z = sizes .l} (sfits-of (c .struct-told2 .given .1 .1 .0 .1)),
+        toZ-ofZ {w = w64} {z = sizes .t} (sfits-of (c .struct-told2 .given .1 .1 .1 .0 .1)),
       )
 
 sub-result : tie.Need-sub-result

@@ -28,10 +28,10 @@ module _ (c : tie.After-struct-told) where
   t = c .before .before .before .args .sizes .t
 
   back-l : toZ w64 (ofZ w64 l) ≡ l
-  back-l = toZ-ofZ {w = w64} {z = l} (sfits-of (c .struct-told .given .1 .0 .1))
+  back-l = toZ-ofZ {w = w64} {z = l} (sfits-of (c .struct-told .given .1 .1 .0 .1))
 
   back-t : toZ w64 (ofZ w64 t) ≡ t
-  back-t = toZ-ofZ {w = w64} {z = t} (sfits-of (c .struct-told .given .1 .1 .0 .1))
+  back-t = toZ-ofZ {w = w64} {z = t} (sfits-of (c .struct-told .given .1 .1 .1 .0 .1))
 
   small : natAbs (toZ w64 (ofZ w64 l)) ≤ blockBound
   unfolding sizesOf
@@ -77,12 +77,12 @@ put-order-requires c κs =
     let after-relations = c .before .before .before in
     let after-count = after-relations .before .before .before .before in
     let after-rows = after-count .before .before .before .before in
-    let after-m = after-rows .before .before .before .before in
-    let after-sizes = after-m .before .before .before .before in
+    let after-number = after-rows .before .before .before .before in
+    let after-sizes = after-number .before .before .before .before in
     let ready = after-sizes .before .before .before .before .before .before .pre in
     let written =
     put-then (after-sizes .put-sizes .ensures)
-    (put-then (after-m .put-count .ensures)
+    (put-then (after-number .put-count .ensures)
     (put-then (after-rows .put-equations .ensures)
     (put-then (after-count .put-count2 .ensures) (after-relations .put-relations .ensures)))) in
     (ready .1, omega (arith, written .passed, written .few, ready .0 .few-rows, ready .0 .few))
@@ -94,12 +94,12 @@ put-fifth-requires c κs =
     let after-relations = after-order .before .before .before .before in
     let after-count = after-relations .before .before .before .before in
     let after-rows = after-count .before .before .before .before in
-    let after-m = after-rows .before .before .before .before in
-    let after-sizes = after-m .before .before .before .before in
+    let after-number = after-rows .before .before .before .before in
+    let after-sizes = after-number .before .before .before .before in
     let ready = after-sizes .before .before .before .before .before .before .pre .0 in
     let written =
     put-then (after-sizes .put-sizes .ensures)
-    (put-then (after-m .put-count .ensures)
+    (put-then (after-number .put-count .ensures)
     (put-then (after-rows .put-equations .ensures)
     (put-then (after-count .put-count2 .ensures)
     (put-then (after-relations .put-relations .ensures) (after-order .put-order .ensures))))) in (
@@ -120,22 +120,22 @@ returns c =
     let after-relations = after-order .before .before .before .before in
     let after-count = after-relations .before .before .before .before in
     let after-rows = after-count .before .before .before .before in
-    let after-m = after-rows .before .before .before .before in
-    let after-sizes = after-m .before .before .before .before in
+    let after-number = after-rows .before .before .before .before in
+    let after-sizes = after-number .before .before .before .before in
     let told = after-sizes .before .before .before in
     let args = told .before .before .before .args in
-    let m = args .sizes .m in
+    let e = args .sizes .equations in
     let bytes : ℤ → ℤ → List ℕ = λ l t.
-    line (pos 3 ∷ pos m ∷ l ∷ t ∷ [])
-    ++ (line (pos m ∷ []) ++ (lines (map (equationNumbers l) (rowsOf m (now (args .rows))))
+    line (pos 3 ∷ pos (args .sizes .m) ∷ l ∷ t ∷ [])
+    ++ (line (pos e ∷ []) ++ (lines (map (equationNumbers l) (rowsOf e (now (args .rows))))
     ++ (line (pos (args .count) ∷ []) ++ (lines (map (relationLine l) (relationsOf (args .count) (now (args .relations))))
     ++ line (orderLine (now (args .columns))))))) in
-    let sides = lines (sideLines (sidesGiven m (args .count) (now (args .rows)) (now (args .relations)))) in
+    let sides = lines (sideLines (sidesGiven e (args .count) (now (args .rows)) (now (args .relations)))) in
     put-wide
     (put-same
     (put-then
     (put-then (after-sizes .put-sizes .ensures)
-    (put-then (after-m .put-count .ensures)
+    (put-then (after-number .put-count .ensures)
     (put-then (after-rows .put-equations .ensures)
     (put-then (after-count .put-count2 .ensures)
     (put-then (after-relations .put-relations .ensures) (after-order .put-order .ensures))))))

@@ -1,17 +1,15 @@
 -- `writing::writer::write_checked` meets its contract. Where the longest sheet would not fit, a first call of `put_sheet` only
 -- counts. The call that stores has room for all bytes.
 -- Assumes nothing.
-use mathlib.Core.Path.{_≡_, refl, sym, _∙_, ap, ap₂, subst}
+use mathlib.Core.Path.{_≡_, refl, sym, _∙_, ap, ap₂}
 use mathlib.Core.List.{List, _++_}
 use Prim.Native.Nat.{ℕ, _≤_, _<_}
 use native.Mathlib.Nat.{zero-add}
 use native.Mathlib.Omega.{arith}
 use denote.Ref.{now}
-use lib.Dec.{eqb}
 use lib.IntN.{ℤ}
 use lib.ListN.{length, take}
 use lib.Seq.{sets, length-take-le}
-use Rattle.lists.specs.Tests.{every}
 use Rattle.rules.specs.Limits.{columnCount}
 use Rattle.rules.specs.Sheets.{writeSheet}
 use Rattle.rules.specs.SheetCalls.{WriteCall, sheetOf, unwritten, writeCall}
@@ -61,7 +59,7 @@ module _ (c : tie.After-order-length) where
 
   few : c .order-length .result ≤ columnCount
   unfolding sizesOf
-  few = subst (λ n. n ≤ columnCount) (sym (c .order-length .ensures)) (given-few (every (eqb 0) (order start)) (facts .columns))
+  few = omega (arith, c .order-length .ensures, given-few (order start))
 
   size : length columns ≡ c .order-length .result
   size = length-take-le (c .order-length .result) (order start) (omega (arith, few))

@@ -8,9 +8,7 @@ use borrow.Author.Tests.{not-true, not-false}
 use denote.Ref.{now}
 use Rattle.rules.specs.SheetCalls.{orderRight, checkWrite}
 use Rattle.rules.specs.Stores.{Sizes, checkStores}
-use Rattle.rules.specs.Layout.{size-bounds}
 use Rattle.stores.specs.Validity.{sizesOf}
-use Rattle.lists.specs.Tests.{true-T}
 use Rattle.writing.specs.WriterChecks.{checkWrite-order, checkWrite-sizes}
 use Rattle.writing.proofs.writer.checks.check_write.Statement.{statement}
 use Rattle.writing.proofs.writer.checks.check_write.Tie as tie
@@ -40,9 +38,7 @@ returns c =
     (sym (c .before .sizes-right .ensures) ∙ not-true _ (c .if1 .taken))
 
 order-right-requires : tie.Need-order-right-requires
-unfolding sizesOf
-order-right-requires c κs =
-    size-bounds (z (c .before .before)) (true-T _ (sym (c .before .sizes-right .ensures) ∙ not-false _ (c .if1 .left))) .few
+order-right-requires c κs = search needs
 
 returns-2 : tie.Need-returns-2
 unfolding sizesOf

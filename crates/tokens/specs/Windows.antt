@@ -1,4 +1,4 @@
--- Lines read from a window: the first bytes of what is left of a batch.
+-- Lines read from a window: the first bytes of what is left of a sheet or of a batch.
 --
 -- Main definitions
 --   followed r x      what was read, with the bytes x after the rest
