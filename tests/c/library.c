@@ -194,6 +194,31 @@ static void k11_on_both_sides(void) {
     check(same(&stores, &expected), "(n-1) x(n), one shift, first root 1");
 }
 
+/* ---- common roots ---- */
+
+/* n^15 x + y = 0 and n x + n y = 0. n leaves both pivots once, so that no degree passes 15; 0 stays a root of the first, and is listed. */
+static const char *const k8 = "3 2 0 0\n2\n2 0 1 16 0 0 0 0 0 0 0 0 0 0 0 0 0 0 0 1 0 2 1 1\n"
+                              "2 0 1 2 0 1 0 2 2 0 1\n0\n0\n";
+
+static void k8_on_one_side(Run *side, int64_t root) {
+    int64_t report[WURGALM_RESULT] = {1, 0, 1, 2, 0, 0, 1, 0, 2};
+    static Stores stores, expected;
+    Asked call = asked();
+    call.l = 0;
+    report[7] = root;
+
+    prepare(&stores, 9);
+    check(read_sheet(k8, &stores, call) == 0, "K8 is read");
+    expected = stores;
+    memcpy(expected.relations + 1, expected.rows + WURGALM_ROW, WURGALM_ROW * sizeof(int64_t));
+    fill(expected.rows + WURGALM_ROW, WURGALM_ROW, 0);
+    polynomial(expected.rows, 1, 0, 1)[0] = -1;
+    polynomial(expected.rows, 1, 0, 1)[15] = 1;
+    memcpy(expected.result, report, sizeof report);
+    check(run(side, &stores, call) == 0, "K8 is accepted");
+    check(same(&stores, &expected), "n^15 y - y, and the relation n x + n y at 0");
+}
+
 /* ---- any number of equations ---- */
 
 /* x(n+1) + y(n) = 0, a zero equation, and the first once more. */
@@ -432,8 +457,8 @@ static void refused_during(Run *side, const char *sheet, uint8_t refusal, const 
 static void runs_refused_during_the_work(Run *side) {
     refused_during(side,
                    "3 2 0 0\n2\n2 0 1 16 0 0 0 0 0 0 0 0 0 0 0 0 0 0 0 1 0 2 1 1\n"
-                   "2 0 1 2 0 1 0 2 2 0 1\n0\n0\n",
-                   7, "n^15 x + y and n x + n y");
+                   "2 0 1 1 1 0 2 2 0 1\n0\n0\n",
+                   7, "n^15 x + y and x + n y");
     refused_during(side, "3 2 0 0\n2\n2 0 1 1 20000 0 2 1 1\n2 0 1 1 1 0 2 2 1 20000\n0\n0\n", 8,
                    "20,000 x + y and x + (20,000 n + 1) y");
     refused_during(side,
@@ -522,6 +547,8 @@ static void systems_not_written(void) {
 int main(void) {
     k2_read_run_written();
     k11_on_both_sides();
+    k8_on_one_side(wurgalm_run_leading, 1);
+    k8_on_one_side(wurgalm_run_trailing, 0);
     repeated_on_one_side(wurgalm_run_leading, 1);
     repeated_on_one_side(wurgalm_run_trailing, 2);
     nothing_left(wurgalm_run_leading);

@@ -150,8 +150,8 @@ pub struct Multipliers {
 pub fn multipliers_of(a: &[i64], b: &[i64]) -> Multipliers
     requires { ⌜ (length (now a) ≡ coefficientCount) × T (every small (now a)) × T (not (Polynomials.isZero (now a ++ now b))) ⌝ }
     requires { ⌜ (length (now b) ≡ coefficientCount) × T (every small (now b)) ⌝ }
-    ensures { λ r. ⌜ r .g ≡ Elimination.multipliers (now (a .entry)) (now (b .entry)) .g ⌝ }
-    ensures { λ r. ⌜ r .h ≡ Elimination.multipliers (now (a .entry)) (now (b .entry)) .h ⌝ }
+    ensures { λ r. ⌜ r .g ≡ Elimination.ratio (now (a .entry)) (now (b .entry)) .g ⌝ }
+    ensures { λ r. ⌜ r .h ≡ Elimination.ratio (now (a .entry)) (now (b .entry)) .h ⌝ }
 {
     let d = content_of_both(a, b) as i64;
     let g = divided(a, d);

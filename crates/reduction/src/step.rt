@@ -16,6 +16,7 @@ ghost use Rattle.rules.specs.Rows.{entry};
 ghost use Rattle.lists.specs.Tests.{every};
 ghost use Rattle.rules.specs.Elimination as Elimination;
 ghost use Rattle.rules.specs.Stores.{rowOf};
+ghost use Rattle.common_roots.specs.Amended.{withRoots};
 ghost use Rattle.working_rows.specs.Working.{numbersHeld, Full};
 ghost use Rattle.working_rows.specs.Worked.{refusalOf, numbersOf};
 ghost use Rattle.sides.specs.Lent.{sideOf};
@@ -73,17 +74,17 @@ fn put_limited(
     answer(0, next)
 }
 
-// The multipliers of rule 2, from the entries of both rows in column c (SCOPE 2.23, 2.24, 2.25).
-fn multipliers_at(target: &[i64], pivot: &[i64], c: usize) -> polynomials::content::Multipliers
+// The multipliers of rule 2, from the entries of both rows in column c, and the roots of g (SCOPE 2.23 to 2.28).
+fn multipliers_at(target: &[i64], pivot: &[i64], c: usize) -> common_roots::Amended
     requires { ⌜ (c < columnCount) × (length (now target) ≡ entriesLength) × (length (now pivot) ≡ entriesLength) ⌝ }
     requires { ⌜ T (every small (now target)) × T (every small (now pivot)) ⌝ }
     requires { ⌜ T (not (isZero (entry (rowOf (now pivot)) c ++ entry (rowOf (now target)) c))) ⌝ }
-    ensures { λ r. ⌜ r .g ≡ Elimination.multipliers (entry (rowOf (now (pivot .entry))) c) (entry (rowOf (now (target .entry))) c) .g ⌝ }
-    ensures { λ r. ⌜ r .h ≡ Elimination.multipliers (entry (rowOf (now (pivot .entry))) c) (entry (rowOf (now (target .entry))) c) .h ⌝ }
+    ensures { λ r. ⌜ r
+        ≡ withRoots (Elimination.multipliers (entry (rowOf (now (pivot .entry))) c) (entry (rowOf (now (target .entry))) c)) ⌝ }
 {
     let from = c * COEFFICIENTS;
     let to = from + COEFFICIENTS;
-    polynomials::content::multipliers_of(&pivot[from..to], &target[from..to])
+    common_roots::multipliers(&pivot[from..to], &target[from..to])
 }
 
 // Rule 5: the row in turn is settled at c, the lowest column with a nonzero leading entry (SCOPE 2.51).
@@ -171,7 +172,7 @@ fn combine_step(
     let x = multipliers_at(&a[..], &b[..], c);
     let g = x.g;
     let h = x.h;
-    let found = roots::roots(&g[..]);
+    let found = x.roots;
     let count = p.count + found.count;
     if 16 < count {
         return answer(9, p);

@@ -1,4 +1,4 @@
--- Two polynomials divided by n - r for each common integer root r.
+-- Two polynomials divided by n - r for each common integer root r (SCOPE 2.27, 2.28).
 --
 -- Main definitions
 --   Entries           the leading entries of rows j and i in column c(j)
@@ -33,7 +33,7 @@ unfoldable pub quotients : ℤ → Entries → Entries
 unfolding quotient
 quotients r e = record { pivot = quotient r (e .pivot); target = quotient r (e .target) }
 
--- Both vanish at r, and may be divided by n - r: no coefficient of a quotient lies past ±C.
+-- Both vanish at r, and may be divided by n - r: no coefficient of a quotient lies past ±C (SCOPE 2.28).
 unfoldable pub divisible : ℤ → Entries → Bool
 unfolding bothVanish bothSmall quotients
 divisible r e = bothVanish r e && bothSmall (quotients r e)
@@ -46,7 +46,7 @@ divideAt (suc k) r e =
     let more = divideAt k r (quotients r e) in
     cond (divisible r e) more e
 
--- One root after the other; one at which a division was left out is not tried again.
+-- One root after the other; one at which a division was left out is not tried again (SCOPE 2.28).
 unfoldable pub divideEach : ℕ → List ℤ → Entries → Entries
 unfolding divideAt
 divideEach k [] e = e

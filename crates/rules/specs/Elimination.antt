@@ -1,7 +1,7 @@
 -- The elimination: multipliers, step, run, root report, and the trailing side by the mirror (SCOPE 2).
 --
 -- Main definitions
---   multipliers a b    rule 2's g and h
+--   ratio a b, multipliers a b   rule 2's g and h, before and behind the division by common roots
 --   State, Outcome     rows, relations, the columns of the settled rows, shifts; going on, done or refused
 --   rank s             w, the number of the settled rows
 --   finished s         every row is settled
@@ -23,6 +23,7 @@ use Rattle.algebra.specs.Gcd.{content, divideBy}
 use Rattle.algebra.specs.Polynomials.{Polynomial, negate, lead}
 use Rattle.algebra.specs.Roots.{roots}
 use Rattle.rules.specs.Limits.{mostRelations}
+use Rattle.rules.specs.CommonRoots.{Entries, reduced}
 use Rattle.rules.specs.Rows.{Row, Relation, noRow, zeroRow, contradicts, width, leadingBlock, entry, firstNonzero, combine, primitive, lowDegrees}
 use Rattle.rules.specs.Rows.{cut, smallRow, shiftUp, mirrorRow, mirrorRelation}
 
@@ -43,9 +44,14 @@ turnSigns g h =
     cond (ltZ (lead g) (pos 0)) (record { g = negate g; h = negate h }) (record { g = g; h = h })
 
 -- g = a/d and h = -b/d, where d is the content of a and b together (SCOPE 2.23, 2.24).
-unfoldable pub multipliers : Polynomial → Polynomial → Multipliers
+unfoldable pub ratio : Polynomial → Polynomial → Multipliers
 unfolding content divideBy negate turnSigns
-multipliers a b = let d = content (a ++ b) in turnSigns (divideBy d a) (negate (divideBy d b))
+ratio a b = let d = content (a ++ b) in turnSigns (divideBy d a) (negate (divideBy d b))
+
+-- Before d is taken both are divided by n - r for their common integer roots r (SCOPE 2.27).
+unfoldable pub multipliers : Polynomial → Polynomial → Multipliers
+unfolding ratio reduced
+multipliers a b = let e : Entries = reduced (record { pivot = a; target = b }) in ratio (e .pivot) (e .target)
 
 -- ---- the state of a run and its outcome
 

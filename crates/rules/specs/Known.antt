@@ -139,7 +139,7 @@ k6 =
       expected = accepts ((term (pos 4) 1 (pos 1 ∷ []) ∷ []) ∷ []) [] (1 ∷ []) 4 none;
     }
 
--- K7: D = 0, n^14 x + y and n x + n y are accepted (SCOPE 7.7).
+-- K7: D = 0, n^14 x + y and n x + n y are accepted; the second row is n^14 y - y, and the relation at 0 stays (SCOPE 7.7).
 abbrev power : ℕ → Polynomial
 power k = replicate k (pos 0) ++ (pos 1 ∷ [])
 
@@ -157,15 +157,24 @@ k7 =
       equations = k7-first 14 ∷ k7-second ∷ [];
       expected =
           accepts
-          (k7-first 14 ∷ (term (pos 0) 2 (pos 0 ∷ negsuc 0 ∷ power 13) ∷ []) ∷ [])
+          (k7-first 14 ∷ (term (pos 0) 2 (negsuc 0 ∷ power 13) ∷ []) ∷ [])
           (record { index = pos 0; equation = k7-second } ∷ [])
           (1 ∷ 2 ∷ []) 0 (some (pos 1));
     }
 
--- K8: with n^15 for n^14 the system is refused with 7 (SCOPE 7.8).
+-- K8: with n^15 for n^14 the second row is n^15 y - y (SCOPE 7.8).
 abbrev pub k8 : Entry
 k8 =
-    record { side = leading; sizes = sizesOf 2 2 (pos 0) (pos 0); equations = k7-first 15 ∷ k7-second ∷ []; expected = refuses 7 }
+    record {
+      side = leading;
+      sizes = sizesOf 2 2 (pos 0) (pos 0);
+      equations = k7-first 15 ∷ k7-second ∷ [];
+      expected =
+          accepts
+          (k7-first 15 ∷ (term (pos 0) 2 (negsuc 0 ∷ power 14) ∷ []) ∷ [])
+          (record { index = pos 0; equation = k7-second } ∷ [])
+          (1 ∷ 2 ∷ []) 0 (some (pos 1));
+    }
 
 -- K9: D = 0, 10,000 x + y and x + (20,000 n + 1) y are accepted (SCOPE 7.9).
 abbrev k9-first : ℕ → Equation
@@ -247,7 +256,7 @@ k7-holds = (refl, refl)
 
 k8-holds : Holds k8
 unfolding opened
-k8-holds = refl
+k8-holds = (refl, refl)
 
 k9-holds : Holds k9
 unfolding opened

@@ -11,10 +11,10 @@
 --     rank-most, rank-few       dropped-dependent,              9 next-row-later, zero-row-dropped
 --   3 agreement-leading,        zero-row-dependent              10 first-index, forward-from, backward-from
 --     agreement-trailing      5 refused-inconsistent
---                             6 run-ends, shifts-bounded
+--                             6 run-ends, shifts-bounded        11 common-root-listed
 use Prim.Native.Nat.{ℕ, suc, _*_, _≤_, _<_}
 use mathlib.Core.Path.{_≡_, refl, sym, _∙_, subst, ap}
-use mathlib.Core.Logic.{_↔_, inl, inr}
+use mathlib.Core.Logic.{_↔_, _⊎_, inl, inr}
 use mathlib.Core.Bool.{not}
 use mathlib.Core.List.{List, map, _++_, map-append}
 use mathlib.Core.Option.{none, some}
@@ -24,7 +24,8 @@ use lib.Dec.{T}
 use lib.ListN.{length, length-map}
 use lib.IntN.{ℤ, pos, _+ℤ_, +ℤ-idr}
 use lib.Signed.{_≤ℤ_, _<ℤ_}
-use Rattle.algebra.specs.Polynomials.{isZero}
+use Rattle.algebra.specs.Polynomials.{isZero, eval}
+use Rattle.algebra.specs.Multiplicity.{multiplicity}
 use Rattle.rules.specs.Rows.{Row, Relation, zeroRow, width, mirrorRelation, mirrorRow}
 use Rattle.lists.specs.Everywhere.{All, all-mono}
 use Rattle.rules.specs.Elimination.{Side, leading, trailing, State, Outcome, going, done, refused, rank, start, enough, step, run}
@@ -34,14 +35,15 @@ use Rattle.rules.specs.Stores.{Sizes, equations, withEquations, span, rowRight,
 use Rattle.rules.specs.Sequences.{Sequence, Satisfies, Same, Dependent}
 use Rattle.lists.specs.Tests.{every-all}
 use Rattle.theory.specs.Steps.{current, met, MetZeroBelow, combination, listed, Chain, Refusal, run-refused, step-refused}
-use Rattle.theory.specs.Steps.{next, dropped, length-dropRow, chain-length, zero-dropped}
+use Rattle.theory.specs.Steps.{next, dropped, length-dropRow, chain-length, zero-dropped, multipliersFor}
+use Rattle.theory.specs.Reduced.{LeftOut}
 use Rattle.theory.specs.Cells.{width-unused}
 use Rattle.theory.specs.Ending.{wholeRun-ends, wholeRun-shifts, mirrorOutcome-refused}
 use Rattle.theory.specs.Report.{Past, Rootless, FurthestRoot, report-none, report-some}
 use Rattle.theory.specs.Solutions.{run-solutions}
 use Rattle.theory.specs.FirstIndex.{SatisfiesFrom, from-same, chain-from, chain-from-back}
 use Rattle.theory.specs.ListedOrder.{Listed, leading-listed, trailing-listed}
-use Rattle.theory.specs.Triangular.{triangular-start, triangular-chain, combined-advances}
+use Rattle.theory.specs.Triangular.{triangular-start, triangular-chain, combined-advances, entriesFor, multipliersFor-listed}
 use Rattle.theory.specs.Dependence.{settled-independent, chain-dropped, settled-dropped}
 use Rattle.theory.specs.LimitsKept.{rowRight-iff, relationRight-iff, ValidRows, valid-rows, counted-valid}
 use Rattle.theory.specs.Mirror.{span-sum, Reaches, Spans, valid-relations-span, mirrorRelations-twice}
@@ -310,6 +312,15 @@ next-row-later {side} rows relations {s = s} c j below more clear meets =
 -- The row that a combination has made zero is dropped by the next step (SCOPE 2.11, 2.45).
 pub zero-row-dropped : (side : Side) (s : State) → T (zeroRow (rowAt s (current s))) → step side s ≡ going (dropRow s (current s))
 zero-row-dropped = zero-dropped
+
+-- 11. A relation is listed at a common root r of both entries only where the limit has left a division by n - r out, or where r occurs
+-- more often in row j's entry than in row i's, as both are after the exchange (SCOPE 2.29).
+pub common-root-listed : {side : Side} (rows : List Row) (relations : List Relation) {k : ℕ} {s : State}
+    → Chain side (start rows relations) k s → (j : ℕ) → j < current s → current s < length (s .rows) → MetZeroBelow s j
+    → T (not (isZero (met s j))) → (r : ℤ) → eval (multipliersFor s j .g) r ≡ pos 0
+    → LeftOut r (entriesFor s j) ⊎ (multiplicity (entriesFor s j .target) r < multiplicity (entriesFor s j .pivot) r)
+common-root-listed rows relations {s = s} c j below more clear meets =
+    multipliersFor-listed s j (triangular-chain c (triangular-start rows relations)) below more clear meets
 
 -- ---- sequences with a first index, on the leading side
 

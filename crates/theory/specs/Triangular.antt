@@ -3,14 +3,18 @@
 -- Main definitions
 --   column s k               c(k), the column of settled row k
 --   Triangular s             each settled row j is a pivot row at place j
+--   entriesFor s j           the two entries of rule 2
 --
 -- Main statements
 --   triangular-start, triangular-stepped, triangular-chain   every state of a run is triangular
+--   multipliersFor-listed    where a root of g is common to both entries, the limit has left a division out, or it occurs more
+--                            often in row j's entry
 --   combined-zero            the row that a combination makes is zero where the combination is, before division and cut
 --   combined-clears          the row that a combination with row j makes is zero at the columns of rows 1 to j
 --   combined-advances        so the settled row that is met next comes after row j
 use Prim.Native.Nat.{ℕ, suc, _≤_, _<_, zero-le}
 use mathlib.Core.Path.{_≡_, refl, sym, _∙_, ap, subst}
+use mathlib.Core.Logic.{_⊎_}
 use mathlib.Core.Bool.{not}
 use mathlib.Core.List.{List, [], _∷_, _++_}
 use mathlib.Core.Option.{some}
@@ -21,10 +25,13 @@ use lib.Dec.{T}
 use lib.IntN.{ℤ, pos, _+ℤ_, _*ℤ_}
 use lib.ListN.{length, getD, length-append}
 use Rattle.algebra.specs.Polynomials.{isZero, eval}
+use Rattle.algebra.specs.Multiplicity.{multiplicity}
 use Rattle.rules.specs.Rows.{Row, Relation, entry, leadingBlock, firstNonzero, combine}
 use Rattle.rules.specs.Elimination.{Side, multipliers, multipliersAt, limitDegrees, within, State, start, rowAt, putRow, settle, countShift}
 use Rattle.rules.specs.Elimination.{listRelations, exchange, dropRow}
-use Rattle.theory.specs.Multipliers.{multipliers-cancel, multipliers-nonzero}
+use Rattle.rules.specs.CommonRoots.{Entries}
+use Rattle.theory.specs.Reduced.{LeftOut}
+use Rattle.theory.specs.Multipliers.{multipliers-cancel, multipliers-nonzero, multipliers-listed}
 use Rattle.theory.specs.Pivots.{PivotRow, PivotRows, settle-pivots}
 use Rattle.theory.specs.Replace.{replace-pivots}
 use Rattle.theory.specs.Exchange.{exchange-pivots}
@@ -121,6 +128,11 @@ combined-zero s j r e =
 
 -- ---- the step is rule 2's course over the settled rows (SCOPE 2.26)
 
+-- The entries of row j and of the row in turn at c(j), as both are after the exchange.
+abbrev pub entriesFor : State → ℕ → Entries
+entriesFor s j =
+    record { pivot = entry (rowAt (exchanged s j) j) (column s j); target = entry (rowAt (exchanged s j) (current s)) (column s j) }
+
 module _ (s : State) (j : ℕ) (t : Triangular s) (below : j < current s) (more : current s < length (s .rows))
     (clear : MetZeroBelow s j) (meets : T (not (isZero (met s j)))) where
   both : PivotRow (s .order) j (rowAt (exchanged s j) (current s)) × PivotRow (s .order) j (rowAt (exchanged s j) j)
@@ -148,6 +160,13 @@ module _ (s : State) (j : ℕ) (t : Triangular s) (below : j < current s) (more 
       subst (λ x. T (not (isZero (x .g)))) (sym multipliersFor-entries)
       (multipliers-nonzero (entry (rowAt (exchanged s j) j) (column s j)) (entry (rowAt (exchanged s j) (current s)) (column s j))
       (both .1 .diagonal))
+
+  -- A root of g at which both entries vanish: the limit has left a division out, or it occurs more often in row j's entry.
+  pub multipliersFor-listed : (r : ℤ) → eval (multipliersFor s j .g) r ≡ pos 0
+      → LeftOut r (entriesFor s j) ⊎ (multiplicity (entriesFor s j .target) r < multiplicity (entriesFor s j .pivot) r)
+  multipliersFor-listed r root =
+      multipliers-listed (entriesFor s j .pivot) (entriesFor s j .target) (both .1 .diagonal) r (both .0 .diagonal)
+      (subst (λ x. eval (x .g) r ≡ pos 0) multipliersFor-entries root)
 
   -- The row that the combination makes is zero at c(1) to c(j).
   pub combined-clears : (r : Row) → limitDegrees (combination s j) ≡ within r → (k : ℕ) → k ≤ j → T (isZero (entry r (column s k)))

@@ -488,6 +488,7 @@ mod tests {
             [SideOutOfLimit, SideOutOfShiftLimit, SideInWidth, RelationWithoutSide, LeftZeroDropped, SideFirst],
             [LaterRowsStay, LastRowMovesUp, ZeroRowInconsistent, FreedKept, RankOfEquations, RankOneMore],
             [RowOfEachUnknown, EquationsAsUnknowns, OrderAllOrNone, OrderWhole, NoSidesRange, NoSidesForm],
+            [CommonKept, CommonListed, CommonOnce, CommonUnlimited, CommonDescending, OneQuotientTaken],
             [StoresKept, ZeroedPastNeed, ZeroSides, SideOfEquations, SmallestRootReported, TrailingDescending],
         ];
         for fault in faults.concat() {

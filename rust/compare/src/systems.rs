@@ -21,7 +21,7 @@ const SMALL: Shape = Shape { degree: 2, size: 4, density: 50 };
 
 /// A system of some kind, within all limits of an input.
 pub fn system(random: &mut Random) -> System {
-    let mut system = match random.below(12) {
+    let mut system = match random.below(15) {
         0 => plain(random, SMALL),
         1 => plain(random, Shape { degree: 3, size: 6, density: 80 }),
         2 => plain(random, Shape { degree: 1, size: 2, density: 30 }),
@@ -32,7 +32,9 @@ pub fn system(random: &mut Random) -> System {
         8 => plain(random, Shape { degree: DEGREE, size: 3, density: 40 }),
         9 => high_degree(random),
         10 => near_limit(random),
-        _ => one_unknown(random),
+        11 => one_unknown(random),
+        12 => shared_roots(random),
+        _ => limited_roots(random),
     };
     let with_sides = random.one_in(3);
     if with_sides {
@@ -62,6 +64,20 @@ pub fn large_system(random: &mut Random) -> System {
     let mut system = triangle(random, sizes, Shape { degree: 1, size: 5, density: 95 });
     for _ in 0..4 {
         row_operation(random, &mut system);
+    }
+    system
+}
+
+/// A large system whose leading entries have common roots, so that every combination divides by them.
+pub fn large_shared_system(random: &mut Random) -> System {
+    let mut system = large_system(random);
+    let most = system.rows.iter().map(Row::degree).max().unwrap_or(0);
+    let common = product(random, (DEGREE - most).min(3), 4);
+    let leading = system.sizes.l;
+    for row in &mut system.rows {
+        for column in 1..=4 {
+            row.set(leading, column, row.entry(leading, column).times(&common));
+        }
     }
     system
 }
@@ -412,4 +428,120 @@ fn one_unknown(random: &mut Random) -> System {
     let mut row = row(random, 1, sizes.l, sizes.t, SMALL);
     row.set(sizes.l - random.below(sizes.d() as usize + 1) as i64, 1, p);
     system_of(random, sizes, vec![row])
+}
+
+// ---- common roots ----
+
+/// Leading and trailing entries that share roots, each several times or once, among them 0, 1 and -1.
+pub fn shared_roots(random: &mut Random) -> System {
+    let sizes = sizes_with(random, 2, 4);
+    let size = random.pick(&[1, 1, 2, 6, 40]);
+    let roots: Vec<i128> = (0..1 + random.below(3)).map(|_| random.between(-size, size)).collect();
+    let mut rows = Vec::new();
+    for _ in 0..sizes.m {
+        let mut row = row(random, sizes.m, sizes.l, sizes.t, Shape { degree: 1, size: 2, density: 30 });
+        for block in [sizes.l, sizes.t] {
+            for column in 1..=1 + random.below(2) {
+                row.set(block, column, with_roots(random, &roots));
+            }
+        }
+        rows.push(row);
+    }
+    system_of(random, sizes, rows)
+}
+
+/// A small polynomial times n - r for each root, once, several times or not at all.
+fn with_roots(random: &mut Random, roots: &[i128]) -> Polynomial {
+    let mut p = polynomial(random, Shape { degree: 1, size: 3, density: 100 });
+    for &r in roots {
+        let times = random.pick(&[0, 1, 1, 1, 2, 2, 3, 5]);
+        for longer in std::iter::repeat_n(Polynomial::linear(r), times) {
+            p = Some(p.times(&longer)).filter(|q| q.degree() <= DEGREE && q.size() <= C).unwrap_or(p);
+        }
+    }
+    p
+}
+
+/// Entries that share the root 1 or -1, or both, and others: a quotient's coefficients are about ±C, so that some division is left out.
+pub fn limited_roots(random: &mut Random) -> System {
+    let sizes = sizes_with(random, 2, 2);
+    let mut roots = random.pick(&[vec![1], vec![1], vec![-1], vec![-1], vec![-1, 1]]);
+    match random.below(3) {
+        0 => {}
+        1 => roots.push(random.between(-3, 3)),
+        _ => roots.push(random.pick(&[-1000, -30, -7, 0, 7, 30, 1000])),
+    }
+    let rows = 2 + random.below(2);
+    let mut all = Vec::new();
+    for _ in 0..rows {
+        let mut row = row(random, 2, sizes.l, sizes.t, Shape { degree: 0, size: 2, density: 50 });
+        let entry = limited_entry(random, &roots);
+        for block in [sizes.l, sizes.t] {
+            row.set(block, 1, entry.clone());
+        }
+        all.push(row);
+    }
+    system_of(random, sizes, all)
+}
+
+/// A hill of coefficients that rise to some height and fall again, times n - r for each root, and times a number such that the hill's top is
+/// at ±C or on one side of it; now and then no hill.
+fn limited_entry(random: &mut Random, roots: &[i128]) -> Polynomial {
+    let top = random.pick(&[1, 1, 2, 3, 3, 4, 5]);
+    let rising = (1..top).chain([top; 2].into_iter().take(1 + random.below(2)));
+    let mut hill: Vec<i128> = rising.chain((1..top).rev()).collect();
+    if roots[0] == -1 {
+        hill.iter_mut().skip(1).step_by(2).for_each(|a| *a = -*a);
+    }
+    let hill = Polynomial::new(hill);
+    let mut p = hill.clone();
+    for (k, &r) in roots.iter().enumerate() {
+        for _ in 0..if k == 0 { random.pick(&[1, 1, 1, 2]) } else { 1 } {
+            p = p.times(&Polynomial::linear(r));
+        }
+    }
+    // The quotient at the first root.
+    let wide = p.over_root(roots[0]).map_or(1, |q| q.size()).max(p.size());
+    let number = random.pick(&[C / wide, C / wide + 1, (C + 1) / wide, C / p.size(), C / p.size() / 2 + 1, 1, 2]);
+    let number = if number * p.size() > C { C / p.size() } else { number };
+    p.times_number(if random.one_in(2) { number } else { -number })
+}
+
+#[cfg(test)]
+mod tests {
+    use super::*;
+    use outside::elimination::{run, Side};
+    use outside::fault::Fault;
+
+    type Make = fn(&mut Random) -> System;
+
+    /// How many of so many systems are accepted, and for how many the fault makes a difference, on either side.
+    fn noticed(make: Make, fault: Fault) -> [[usize; 2]; 2] {
+        let mut random = Random::new(21);
+        let mut counts = [[0; 2]; 2];
+        for _ in 0..1_000 {
+            let system = make(&mut random);
+            assert!(within_limits(&system));
+            for (count, side) in counts.iter_mut().zip([Side::Leading, Side::Trailing]) {
+                let right = run(&system, side, None);
+                count[0] += right.is_ok() as usize;
+                count[1] += (right != run(&system, side, Some(fault))) as usize;
+            }
+        }
+        counts
+    }
+
+    #[test]
+    fn common_roots() {
+        let cases: [(Make, Fault, usize); 4] = [
+            (shared_roots, Fault::CommonOnce, 100),
+            (limited_roots, Fault::CommonUnlimited, 100),
+            (limited_roots, Fault::CommonDescending, 20),
+            (large_shared_system, Fault::CommonKept, 900),
+        ];
+        for (make, fault, least) in cases {
+            let counts = noticed(make, fault);
+            assert!(counts[0][0] >= 200 && counts[0][1] >= least, "{fault:?}: {counts:?}");
+        }
+    }
 }

@@ -1,5 +1,6 @@
 //! The elimination on the leading side (SCOPE 2), and the trailing side by mirroring.
 
+use crate::common_roots::{reduced, reduced_wrongly};
 use crate::fault::{is, Fault};
 use crate::polynomial::{greatest_divisor, Polynomial};
 use crate::refusal::Refusal;
@@ -240,7 +241,11 @@ impl Work {
             combined.set_right(self.rows[i].right().times(&g));
         }
         // Rule 3: row i, in the form that it has after the exchange, at each root of g (SCOPE 2.31).
-        let searched = if self.wrong(Fault::RootsBeforeExchange) { g_before } else { g };
+        let searched = match self.fault {
+            Some(Fault::RootsBeforeExchange) => g_before,
+            Some(Fault::CommonListed) => self.leading_entry(j, j),
+            _ => g,
+        };
         let listed = if self.wrong(Fault::RowBeforeExchange) {
             before
         } else if self.wrong(Fault::RowAfterCombination) {
@@ -280,10 +285,18 @@ impl Work {
         }
     }
 
-    /// g = a/d and h = -b/d, a of row j and b of row i, d the largest integer that divides all coefficients of both
-    /// (SCOPE 2.23, 2.24). If g would have a negative highest coefficient, both signs change (SCOPE 2.25).
+    /// g = a/d and h = -b/d, a of row j and b of row i, both after the division by their common roots (SCOPE 2.27), d the largest integer
+    /// that divides all coefficients of both (SCOPE 2.23, 2.24). If g would have a negative highest coefficient, both signs change
+    /// (SCOPE 2.25).
     fn multipliers(&self, i: usize, j: usize) -> (Polynomial, Polynomial) {
-        let (a, b) = (self.leading_entry(j, j), self.leading_entry(i, j));
+        let entries = (self.leading_entry(j, j), self.leading_entry(i, j));
+        let (a, b) = match self.fault {
+            None => reduced(entries),
+            Some(Fault::TrailingCommonDescending) if matches!(self.order, Order::Descending) => {
+                reduced_wrongly(entries, Fault::CommonDescending)
+            }
+            Some(fault) => reduced_wrongly(entries, fault),
+        };
         let d = greatest_divisor(a.content(), b.content());
         let turned = a.highest() < 0 && !self.wrong(Fault::SignKept);
         let d = if turned { -d } else { d };
@@ -403,8 +416,8 @@ fn repeated(g: &Polynomial, roots: &[i128]) -> Vec<i128> {
     let mut all = Vec::new();
     for &r in roots {
         let mut rest = g.clone();
-        while integer_roots(&rest).contains(&r) {
-            rest = rest.over_root(r);
+        while let Some(quotient) = rest.over_root(r) {
+            rest = quotient;
             all.push(r);
         }
     }
@@ -414,9 +427,9 @@ fn repeated(g: &Polynomial, roots: &[i128]) -> Vec<i128> {
 /// The row divided by n - r for an r that is a root of its entries and its right side: for a wrong version.
 fn without_common_factors(row: &Row) -> Row {
     let Some((_, _, first)) = row.entries().next() else { return row.clone() };
-    let common = |r: &i128| row.polynomials().all(|p| p.is_zero() || integer_roots(p).contains(r));
+    let common = |r: &i128| row.polynomials().all(|p| p.over_root(*r).is_some());
     match integer_roots(first).into_iter().find(common) {
-        Some(r) => row.mapped(|s| s, |p| p.over_root(r)),
+        Some(r) => row.mapped(|s| s, |p| p.over_root(r).expect("a common root")),
         None => row.clone(),
     }
 }

@@ -83,15 +83,23 @@ impl Polynomial {
         Polynomial::new(self.0.iter().map(|a| a / d).collect())
     }
 
-    /// Divided by n - r, where r is a root.
-    pub fn over_root(&self, r: i128) -> Polynomial {
-        let mut quotient = vec![0; self.0.len().saturating_sub(1)];
-        let mut carried = 0;
-        for k in (0..quotient.len()).rev() {
-            carried = carried * r + self.0[k + 1];
-            quotient[k] = carried;
+    /// Divided by n - r, where r is a root; otherwise nothing. From the lowest power up, as a(k) = q(k - 1) - r q(k).
+    pub fn over_root(&self, r: i128) -> Option<Polynomial> {
+        if r == 0 {
+            let lowest = self.0.first().copied().unwrap_or(0);
+            return (lowest == 0).then(|| Polynomial::new(self.0.iter().skip(1).copied().collect()));
         }
-        Polynomial::new(quotient)
+        let mut quotient = Vec::new();
+        let mut below = 0;
+        for a in &self.0 {
+            if (below - a) % r != 0 {
+                return None;
+            }
+            below = (below - a) / r;
+            quotient.push(below);
+        }
+        // The quotient's degree is one less, so that nothing is left at the top.
+        (below == 0).then(|| Polynomial::new(quotient))
     }
 
     /// n + 1 put for n (SCOPE 2.61).
@@ -142,7 +150,15 @@ mod tests {
     #[test]
     fn divides_by_a_root() {
         let p = Polynomial::linear(3).times(&of(&[5, 0, -2]));
-        assert_eq!(p.over_root(3), of(&[5, 0, -2]));
+        assert_eq!(p.over_root(3), Some(of(&[5, 0, -2])));
+        assert_eq!(p.over_root(2), None);
+        assert_eq!(p.over_root(-3), None);
+        assert_eq!(p.over_root(0), None);
+        assert_eq!(of(&[0, 0, 7]).over_root(0), Some(of(&[0, 7])));
+        assert_eq!(of(&[-1, 0, 1]).over_root(-1), Some(of(&[-1, 1])));
+        assert_eq!(of(&[4]).over_root(1), None);
+        assert_eq!(of(&[]).over_root(0), Some(of(&[])));
+        assert_eq!(of(&[]).over_root(1), Some(of(&[])));
     }
 
     #[test]

@@ -88,11 +88,19 @@ fn k6() {
     assert_eq!((run.system.rows, run.shifts), (vec![row(&[(4, X, &[1])])], 4));
 }
 
+/// n leaves the multipliers, so that the degree stays within 15 (02, U7); the row in turn has its relation at 0 all the same.
 #[test]
 fn k7_k8() {
-    let with = |n| leading(0, 0, &[row(&[(0, X, &power(n)), (0, Y, &[1])]), row(&[(0, X, &[0, 1]), (0, Y, &[0, 1])])]);
-    assert!(with(14).is_ok());
-    assert_eq!(with(15), Err(Refusal::Degree));
+    let second = row(&[(0, X, &[0, 1]), (0, Y, &[0, 1])]);
+    for (n, side, root) in [(14, Side::Leading, 1), (15, Side::Leading, 1), (15, Side::Trailing, 0)] {
+        let system = system(0, 0, &[row(&[(0, X, &power(n)), (0, Y, &[1])]), second.clone()]);
+        let mut left = power(n);
+        left[0] = -1;
+        let run = run(&system, side, None).unwrap();
+        assert_eq!(run.system.rows[1], row(&[(0, Y, &left)]));
+        assert_eq!(run.system.relations, [Relation { n0: 0, row: second.clone() }]);
+        assert_eq!((run.shifts, run.order, run.root), (0, vec![1, 2], Some(root)));
+    }
 }
 
 #[test]

@@ -86,12 +86,13 @@ fn repeated_and_inconsistent() {
     let (twice, thrice) = ("1 0 1 1 2", "1 0 1 1 3");
     assert_eq!(both(&two([twice, thrice], ["1 268435455", "1 -268435455"])), 10);
     assert_eq!(both(&two([twice, thrice], ["2 268435455 1", "1 -268435455"])), 8);
-    // n x = n^15 and n x = 0 leave 0 = -n^16.
-    assert_eq!(both(&two([N_X, N_X], ["16 0 0 0 0 0 0 0 0 0 0 0 0 0 0 0 1", "0"])), 7);
+    // n x = n^15 and (n + 1) x = 0 leave 0 = -(n + 1) n^15.
+    let next = "1 0 1 2 1 1";
+    assert_eq!(both(&two([N_X, next], ["16 0 0 0 0 0 0 0 0 0 0 0 0 0 0 0 1", "0"])), 7);
     // With sixteen relations the root of n is one too many.
     let relations = "0 0\n".repeat(16);
     let sides = "0\n".repeat(17);
-    assert_eq!(both(&format!("3 2 0 0\n2\n{N_X}\n{N_X}\n16\n{relations}0\n18\n1 1\n{sides}")), 9);
+    assert_eq!(both(&format!("3 2 0 0\n2\n{N_X}\n{next}\n16\n{relations}0\n18\n1 1\n{sides}")), 9);
 }
 
 /// A relation that says 0 = 1 is kept as it is.

@@ -134,8 +134,9 @@ fn dropped() {
     assert_eq!(rows[..ROW], before[..ROW]);
     assert!(rows[ROW..2 * ROW].iter().all(|&a| a == 0));
     assert_eq!(rows[2 * ROW..], [9, 9]);
-    assert_eq!(result, [1, 0, 1, 0, 0, 0, 1, 3, 1, 9, 9]);
-    assert_eq!((relations[0], &relations[1..ROW], relations[RELATION]), (3, &before[..ROW - 1], 0));
+    assert_eq!(result, [0, 0, 1, 0, 0, 0, 1, 3, 1, 9, 9]);
+    // The root 3 of both left the multiplier (02, U7).
+    assert!(relations[..RELATION].iter().all(|&a| a == 0));
 }
 
 /// No equations need no row store: nothing is read or written there.

@@ -1,4 +1,4 @@
-//! K2 and K11 (SCOPE 7.2, 7.11) through the library. Where it is not built a call panics, so every test here fails.
+//! K2, K8 and K11 (SCOPE 7.2, 7.8, 7.11) through the library. Where it is not built a call panics, so every test here fails.
 
 use wurgalm::{batch, batch_output, read_differential, read_sheet, right_side, row_store, run_leading, run_trailing};
 use wurgalm::{write_recurrence, write_sheet, Heading, Refusal, Report, Sizes};
@@ -7,6 +7,8 @@ use wurgalm::{EQUATIONS, RECURRENCE, RELATION, RELATION_STORE, ROW};
 const K2: &[u8] = b"3 2 1 0\n2\n2 1 1 2 0 1 0 2 1 -1\n2 1 1 1 1 0 1 1 -1\n0\n0\n";
 const K2_ANSWER: &[u8] =
     b"3 2 1 0\n2\n2 1 1 2 -1 -1 1 2 1 1\n2 1 2 2 0 1 0 2 2 -1 -1\n2\n0 2 1 1 1 1 0 1 1 -1\n-1 2 1 1 2 0 1 0 2 1 -1\n2 1 2\n";
+
+type Run = fn(&mut [i64], &mut [i64], Sizes, usize) -> Result<Report, Refusal>;
 
 fn stores() -> (Vec<i64>, Vec<i64>) {
     (vec![0; row_store(EQUATIONS)], vec![0; RELATION_STORE])
@@ -25,6 +27,25 @@ fn k2() {
     let length = write_sheet(&rows, &relations, &heading, &mut bytes).unwrap();
     assert_eq!(&bytes[..length], K2_ANSWER);
     assert_eq!(write_sheet(&rows, &relations, &heading, &mut bytes[..length - 1]), Err(Refusal(1)));
+}
+
+/// n leaves the multipliers once, so that no degree passes 15 (02, U7); the relation at 0 stays.
+#[test]
+fn k8() {
+    let [first, second] = ["2 0 1 16 0 0 0 0 0 0 0 0 0 0 0 0 0 0 0 1 0 2 1 1", "2 0 1 2 0 1 0 2 2 0 1"];
+    let left = "1 0 2 16 -1 0 0 0 0 0 0 0 0 0 0 0 0 0 0 1";
+    let sides: [(Run, i64); 2] = [(run_leading, 1), (run_trailing, 0)];
+    for (run, root) in sides {
+        let (mut rows, mut relations) = stores();
+        let sheet = format!("3 2 0 0\n2\n{first}\n{second}\n0\n0\n");
+        let heading = read_sheet(sheet.as_bytes(), &mut rows, &mut relations).unwrap();
+        let report = run(&mut rows, &mut relations, heading.sizes, 0).unwrap();
+        assert_eq!(report, Report { relations: 1, shifts: 0, order: [1, 2, 0, 0], root: Some(root), rank: 2 });
+        let mut bytes = [0; 200];
+        let heading = Heading { relations: 1, order: report.order, ..heading };
+        let length = write_sheet(&rows, &relations, &heading, &mut bytes).unwrap();
+        assert_eq!(&bytes[..length], format!("3 2 0 0\n2\n{first}\n{left}\n1\n0 {second}\n2 1 2\n").as_bytes());
+    }
 }
 
 #[test]

@@ -6,11 +6,12 @@ use compare::fast;
 use compare::random::Random;
 use compare::sheets::{sheet, whole_sheet};
 use compare::subject::{output_of, Library};
-use compare::systems::large_system;
+use compare::systems::{large_shared_system, large_system};
 use compare::tally::last_counts;
 use outside::batch::SHEET_BYTES;
 use outside::polynomial::Polynomial;
 use outside::sheet::{write, Sheet};
+use outside::system::System;
 use std::hint::black_box;
 use std::io::{stdin, stdout, Read, Write};
 use std::process::Command;
@@ -41,7 +42,16 @@ fn mixed_sheets(random: &mut Random) -> Vec<Vec<u8>> {
 
 /// Four unknowns and five blocks.
 fn large_sheets(random: &mut Random) -> Vec<Vec<u8>> {
-    let mut one = || write(&Sheet { system: large_system(random), order: Vec::new() });
+    sheets_of(|| large_system(random))
+}
+
+/// The same with leading entries that have common roots.
+fn shared_sheets(random: &mut Random) -> Vec<Vec<u8>> {
+    sheets_of(|| large_shared_system(random))
+}
+
+fn sheets_of(mut system: impl FnMut() -> System) -> Vec<Vec<u8>> {
+    let mut one = || write(&Sheet { system: system(), order: Vec::new() });
     (0..SHEETS).map(|_| one()).collect()
 }
 
@@ -225,6 +235,8 @@ fn main() {
     let mut random = Random::new(3);
     batches("batch of 1,000 mixed sheets", &library, &mixed_sheets(&mut random));
     batches("batch of 1,000 large sheets, m = 4, D = 4", &library, &large_sheets(&mut random));
+    let shared = shared_sheets(&mut Random::new(5));
+    batches("the same with pivots that share roots", &library, &shared);
     root_search(library.is_some());
     reading_and_writing(library.is_some());
 }

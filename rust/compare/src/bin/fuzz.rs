@@ -6,9 +6,14 @@ use compare::differentials::{longest_differential, whole_differential};
 use compare::random::Random;
 use compare::sheets::{whole_sheet, whole_sheet_with};
 use compare::subject::{Library, Outside, Subject};
+use compare::systems::{limited_roots, shared_roots};
 use outside::elimination::Side;
+use outside::polynomial::Polynomial;
+use outside::row::Row;
+use outside::sheet::{write, Sheet};
 use outside::stores::{row_store, Asked, RELATION_STORE, RESULT};
-use outside::{C, EQUATIONS};
+use outside::system::{Sizes, System};
+use outside::{C, DEGREE, EQUATIONS};
 
 /// Numbers on either side of a lent store.
 const GUARD: usize = 64;
@@ -252,6 +257,82 @@ impl Fuzz {
     }
 }
 
+/// Runs whose pivots share roots.
+impl Fuzz {
+    fn both_sides(&mut self, what: &str, system: System) {
+        let (stores, asked, _) = stores_of(&write(&Sheet { system, order: Vec::new() }));
+        for side in [Side::Leading, Side::Trailing] {
+            self.call(&format!("{side:?}, {what}"), &Call::Run(side, asked), &stores);
+        }
+    }
+
+    /// A root that occurs in either pivot from never to more often than the degree allows with another one beside it.
+    fn every_multiplicity(&mut self) {
+        for (r, other) in [-2, -1, 0, 1, 2].into_iter().flat_map(|r| [-3, 0, 1, 4].map(|other| (r, other))) {
+            for (often, beside) in (0..=DEGREE).flat_map(|often| (0..=2).map(move |beside| (often, beside))) {
+                for times in 0..=4 {
+                    let a = power(r, often).times(&power(other, beside)).times_number(6);
+                    let b = power(r, times).times(&power(other, 1)).times_number(-4);
+                    if fits(&a) && fits(&b) {
+                        self.both_sides(&format!("{r} {often} and {times} times"), pivots(&a, &b));
+                        self.both_sides(&format!("{r} {times} and {often} times"), pivots(&b, &a));
+                    }
+                }
+            }
+        }
+    }
+
+    /// A common root 1 or -1 at which a quotient reaches each number near ±C, for the pivot, the other row or both, alone, and with another
+    /// common root that comes before it or after it.
+    fn every_limit(&mut self) {
+        let others = [vec![], vec![-1], vec![1], vec![-1000], vec![-3], vec![0], vec![2], vec![1000], vec![1, 1]];
+        for (r, others) in [1, -1].into_iter().flat_map(|r| others.clone().map(|others| (r, others))) {
+            let beside = others.iter().fold(Polynomial::new(vec![1]), |p, &other| p.times(&Polynomial::linear(other)));
+            for top in 1..=6 {
+                let quotient = hill(r, top).times(&beside);
+                for number in (-2..=2).map(|more| C / quotient.size() + more).chain([C / quotient.size() / 2]) {
+                    let large = quotient.times(&Polynomial::linear(r)).times_number(number);
+                    let small = beside.times(&Polynomial::linear(r)).times_number(2);
+                    if number > 0 && fits(&large) {
+                        for (a, b) in [(&large, &small), (&small, &large), (&large, &large)] {
+                            self.both_sides(&format!("{r} and {others:?}, {top} times {number}"), pivots(a, b));
+                        }
+                    }
+                }
+            }
+        }
+    }
+}
+
+/// Coefficients that rise to the top and fall again, with signs such that n - r times it has small ones, where r is 1 or -1.
+fn hill(r: i128, top: i128) -> Polynomial {
+    let p = Polynomial::new((1..top).chain((1..=top).rev()).collect());
+    if r == 1 {
+        p
+    } else {
+        p.mirrored()
+    }
+}
+
+fn power(r: i128, times: usize) -> Polynomial {
+    std::iter::repeat_n(Polynomial::linear(r), times).fold(Polynomial::new(vec![1]), |p, factor| p.times(&factor))
+}
+
+fn fits(p: &Polynomial) -> bool {
+    p.degree() <= DEGREE && p.size() <= C
+}
+
+/// a x + y and b x - y, all in block 0, so that both sides meet a and b.
+fn pivots(a: &Polynomial, b: &Polynomial) -> System {
+    let row = |entry: &Polynomial, number| {
+        let mut row = Row::default();
+        row.set(0, 1, entry.clone());
+        row.set(0, 2, Polynomial::new(vec![number]));
+        row
+    };
+    System { sizes: Sizes { m: 2, l: 0, t: 0 }, rows: vec![row(a, 1), row(b, -1)], relations: Vec::new() }
+}
+
 /// The sheet with one number, at every place, made each of those that are near an end of some range, and made no number.
 fn with_other_numbers(sheet: &[u8]) -> Vec<Vec<u8>> {
     let others = [
@@ -329,6 +410,12 @@ fn main() {
         let (stores, asked, _) = stores_of(&answered(&mut random, number));
         fuzz.every_length(&format!("leading, {number}"), &Call::Run(Side::Leading, asked), &stores, 17);
         fuzz.every_length(&format!("trailing of a leading {number}"), &Call::Run(Side::Trailing, asked), &stores, 17);
+    }
+    fuzz.every_multiplicity();
+    fuzz.every_limit();
+    for _ in 0..10_000 {
+        fuzz.both_sides("shared roots", shared_roots(&mut random));
+        fuzz.both_sides("shared roots, limit", limited_roots(&mut random));
     }
     let sheet = b"3 2 1 0\n2\n2 1 1 2 0 1 0 2 1 -1\n2 1 1 1 1 0 1 1 -1\n1\n0 0\n0\n";
     let (stores, asked, order) = stores_of(sheet);

@@ -1,6 +1,6 @@
 //! The leading run in the work area.
 
-use super::roots::roots;
+use super::roots::{is_root, roots, Roots};
 use super::{Polynomial, Relation, Row, System, C, ENTRIES};
 
 /// What an accepted run reports beside the work area.
@@ -70,8 +70,8 @@ impl System {
         if self.width(j) > self.width(i) {
             self.rows.swap(i, j);
         }
-        let (g, h) = multipliers(&self.rows[j].0[entry], &self.rows[i].0[entry]);
-        for &n0 in roots(g.coefficients()).as_slice() {
+        let (g, h, roots) = multipliers(&self.rows[j].0[entry], &self.rows[i].0[entry]);
+        for &n0 in roots.as_slice() {
             let place = self.relations.get_mut(self.count).ok_or(9)?;
             *place = Relation { n0, row: self.rows[i] };
             self.count += 1;
@@ -191,11 +191,44 @@ fn greatest_divisor(mut a: u64, mut b: u64) -> u64 {
     a
 }
 
-fn multipliers(a: &Polynomial, b: &Polynomial) -> (Polynomial, Polynomial) {
+/// g and h with the roots of g. Those of g that are not common to a and b stay, the others only where no division takes the last of them.
+fn multipliers(a: &Polynomial, b: &Polynomial) -> (Polynomial, Polynomial, Roots) {
+    let (g, h) = over_divisor(a, b);
+    let found = roots(g.coefficients());
+    let (mut a, mut b, mut divided) = (*a, *b, false);
+    for &r in found.as_slice() {
+        while let Some((p, q)) = over_root(&a, r).zip(over_root(&b, r)) {
+            (a, b, divided) = (p, q, true);
+        }
+    }
+    if !divided {
+        return (g, h, found);
+    }
+    let (g, h) = over_divisor(&a, &b);
+    let left = found.filtered(|r| is_root(g.coefficients(), r));
+    (g, h, left)
+}
+
+/// g = a/d and h = -b/d, signs turned such that the highest coefficient of g is positive.
+fn over_divisor(a: &Polynomial, b: &Polynomial) -> (Polynomial, Polynomial) {
     let d = with_divisor(with_divisor(0, a.coefficients()), b.coefficients()) as i64;
     let d = if a.numbers[a.length - 1] < 0 { -d } else { d };
     let (mut g, mut h) = (*a, *b);
     g.numbers[..g.length].iter_mut().for_each(|a| *a /= d);
     h.numbers[..h.length].iter_mut().for_each(|b| *b /= -d);
     (g, h)
+}
+
+/// The quotient by n - r, where r is a root and the quotient is within ±C. A coefficient past that ends the division.
+fn over_root(p: &Polynomial, r: i64) -> Option<Polynomial> {
+    let mut quotient = Polynomial { numbers: [0; 16], length: p.length - 1 };
+    let mut value = 0;
+    for k in (1..p.length).rev() {
+        value = value * r + p.numbers[k];
+        if value.abs() > C {
+            return None;
+        }
+        quotient.numbers[k - 1] = value;
+    }
+    (value * r + p.numbers[0] == 0).then_some(quotient)
 }

@@ -16,6 +16,31 @@ impl Roots {
         self.numbers[self.count] = root;
         self.count += 1;
     }
+
+    /// Those that pass the test.
+    pub fn filtered(&self, test: impl Fn(i64) -> bool) -> Roots {
+        let mut kept = Roots { numbers: [0; 16], count: 0 };
+        self.as_slice().iter().filter(|&&r| test(r)).for_each(|&r| kept.push(r));
+        kept
+    }
+}
+
+/// Whether p vanishes at r.
+pub fn is_root(p: &[i64], r: i64) -> bool {
+    let value = p.iter().rev().fold(0i64, |value, &a| value.wrapping_mul(r).wrapping_add(a));
+    value == 0 && (r == 0 || divides_exactly(p, r))
+}
+
+/// The chain a(0)/r + a(1), that over r + a(2), and so on is whole at each place and ends in 0.
+fn divides_exactly(p: &[i64], r: i64) -> bool {
+    let mut carried = 0;
+    for &a in p {
+        if carried % r != 0 {
+            return false;
+        }
+        carried = carried / r + a;
+    }
+    carried == 0
 }
 
 /// All integer roots of a polynomial whose last coefficient is nonzero.
@@ -70,29 +95,12 @@ impl Test<'_> {
 
     fn both_signs(&self, d: i64, found: &mut Roots) {
         // r - 1 divides p(1), and r + 1 divides p(-1).
-        if divides(d - 1, self.at_one) && divides(d + 1, self.at_minus_one) && self.is_root(d) {
+        if divides(d - 1, self.at_one) && divides(d + 1, self.at_minus_one) && is_root(self.p, d) {
             found.push(d);
         }
-        if divides(d + 1, self.at_one) && divides(d - 1, self.at_minus_one) && self.is_root(-d) {
+        if divides(d + 1, self.at_one) && divides(d - 1, self.at_minus_one) && is_root(self.p, -d) {
             found.push(-d);
         }
-    }
-
-    fn is_root(&self, r: i64) -> bool {
-        let value = self.p.iter().rev().fold(0i64, |value, &a| value.wrapping_mul(r).wrapping_add(a));
-        value == 0 && self.divides_exactly(r)
-    }
-
-    /// The chain a(0)/r + a(1), that over r + a(2), and so on is whole at each place and ends in 0.
-    fn divides_exactly(&self, r: i64) -> bool {
-        let mut carried = 0;
-        for &a in self.p {
-            if carried % r != 0 {
-                return false;
-            }
-            carried = carried / r + a;
-        }
-        carried == 0
     }
 }
 

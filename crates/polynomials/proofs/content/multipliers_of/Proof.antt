@@ -18,7 +18,7 @@ use Rattle.algebra.specs.Polynomials.{negate, lead, length-negate}
 use Rattle.algebra.specs.Gcd.{content, divideBy, length-divideBy}
 use Rattle.rules.specs.Limits.{bound, small, coefficientCount}
 use Rattle.lists.specs.Tests.{every}
-use Rattle.rules.specs.Elimination.{multipliers}
+use Rattle.rules.specs.Elimination.{ratio}
 use Rattle.integers.specs.Ranges.{sfits-size}
 use Rattle.polynomials.specs.Content.{Below, read-back, below-of-small, below-divideBy, below-negate}
 use Rattle.polynomials.specs.Content.{content-bounds, signs-turned, signs-kept}
@@ -131,7 +131,7 @@ negated-requires-3 c κs =
     rw (n .negated .ensures) (length-negate q ∙ ok .0, below-negate q (ok .1))
 
 returns : tie.Need-returns
-unfolding multipliers
+unfolding ratio
 returns c =
     let e = c .before .before .before .before .before in
     let turned = sym (signs-turned (g e) (h e) (sign e (c .before .before .before .before .if1 .taken))) in (
@@ -140,7 +140,7 @@ returns c =
     )
 
 returns-2 : tie.Need-returns-2
-unfolding multipliers
+unfolding ratio
 returns-2 c =
     let e = c .before in
     let kept = sym (signs-kept (g e) (h e) (sign e (c .if1 .left))) in

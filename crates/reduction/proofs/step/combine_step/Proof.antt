@@ -18,6 +18,7 @@ use Rattle.rules.specs.Rows.{entry, combine, primitive}
 use Rattle.lists.specs.Tests.{every}
 use Rattle.rules.specs.Stores.{rowOf}
 use Rattle.rules.specs.Elimination.{Side, Limited, limitDegrees, consistent, Multipliers, multipliers, multipliersAt, listing, combineStep}
+use Rattle.roots.specs.declared.RootList.{RootList}
 use Rattle.roots.specs.RootSearch.{listed, held, held-of, roots-few}
 use Rattle.working_rows.specs.Found.{Columns-at}
 use Rattle.working_rows.specs.declared.WorkingRow.{WorkingRow}
@@ -158,26 +159,32 @@ module _ (c : tie.After-multipliers-at) where
       (entry-is start (i start) (start .args .target) (target-row start))
 
   g-is : c .multipliers-at .result .g ≡ x start .g
-  g-is = c .multipliers-at .ensures .0 ∙ ap (λ y. y .g) multipliers-are
+  g-is = ap (λ y. y .g) (c .multipliers-at .ensures) ∙ ap (λ y. y .g) multipliers-are
 
   h-is : c .multipliers-at .result .h ≡ x start .h
-  h-is = c .multipliers-at .ensures .1 ∙ ap (λ y. y .h) multipliers-are
+  h-is = ap (λ y. y .h) (c .multipliers-at .ensures) ∙ ap (λ y. y .h) multipliers-are
+
+  roots-are : c .multipliers-at .result .roots ≡ listed (roots (x start .g))
+  roots-are = ap (λ y. y .roots) (c .multipliers-at .ensures) ∙ ap (λ y. listed (roots (y .g))) multipliers-are
 
 -- the roots
-module _ (c : tie.After-roots) where
+module _ (c : tie.After-found) where
   abbrev multiplied : tie.After-multipliers-at
-  multiplied = c .before .before .before .before
+  multiplied = c .before .before .before
 
   abbrev base : tie.Start
   base = start multiplied
 
-  found-is : c .roots .result ≡ listed (roots (x base .g))
-  found-is = c .roots .ensures ∙ ap (λ q. listed (roots q)) (g-is multiplied)
+  abbrev found : RootList
+  found = multiplied .multipliers-at .result .roots
 
-  count-is : c .roots .result .count ≡ length (roots (x base .g))
+  found-is : found ≡ listed (roots (x base .g))
+  found-is = roots-are multiplied
+
+  count-is : found .count ≡ length (roots (x base .g))
   count-is = ap (λ f. f .count) found-is
 
-  held-is : held (c .roots .result) ≡ roots (x base .g)
+  held-is : held found ≡ roots (x base .g)
   held-is = held-of (roots (x base .g)) found-is
 
 -- the relations, and the new row
@@ -188,7 +195,7 @@ module _ (c : tie.After-combined) where
   abbrev row-call : tie.After-row-at
   row-call = listing-call .before .before
 
-  abbrev rooted : tie.After-roots
+  abbrev rooted : tie.After-found
   rooted = row-call .before .before .before .before .before
 
   abbrev origin : tie.Start
@@ -246,15 +253,6 @@ multipliers-at-requires c κs =
             (sym (entry-is b (i b) t (target-row b))) (b .pre .1 .1),
       ),
     )
-
-slice-aggregate-roots : tie.Need-slice-aggregate-roots
-slice-aggregate-roots c = search needs
-
-roots-requires : tie.Need-roots-requires
-roots-requires c κs =
-    let e = c .before .before .before in
-    let g-fits = subst Sixteen (sym (g-is e)) (fits (start e) .0) in
-    (le-of-eq (g-fits .0), g-fits .1)
 
 add-count : tie.Need-add-count
 add-count c = let e = c .before .before in omega (arith, few (base e), count-is e, ready (base e) .listing .few)
@@ -349,8 +347,6 @@ combine-step-spec =
     slice-aggregate-multipliers-at
     slice-aggregate-multipliers-at-2
     multipliers-at-requires
-    slice-aggregate-roots
-    roots-requires
     add-count
     answer-requires
     returns

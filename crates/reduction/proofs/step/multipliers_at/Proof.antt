@@ -13,6 +13,7 @@ use Rattle.rules.specs.Limits.{coefficientCount}
 use Rattle.rules.specs.Rows.{entry}
 use Rattle.rules.specs.Elimination.{multipliers}
 use Rattle.rules.specs.Stores.{rowOf}
+use Rattle.common_roots.specs.Amended.{withRoots}
 use Rattle.stores.specs.Flat.{entry-at}
 use Rattle.reduction.specs.StoreExchange.{length-entry, small-entry}
 use Rattle.reduction.proofs.step.multipliers_at.Statement.{statement}
@@ -34,32 +35,32 @@ mul-from c = search needs
 add-to : tie.Need-add-to
 add-to c = search needs
 
-mul-multipliers-of : tie.Need-mul-multipliers-of
-mul-multipliers-of c = search needs
+mul-multipliers : tie.Need-mul-multipliers
+mul-multipliers c = search needs
 
-sub-multipliers-of : tie.Need-sub-multipliers-of
-sub-multipliers-of c = search needs
+sub-multipliers : tie.Need-sub-multipliers
+sub-multipliers c = search needs
 
-part-multipliers-of-start : tie.Need-part-multipliers-of-start
-part-multipliers-of-start c = search needs
+part-multipliers-start : tie.Need-part-multipliers-start
+part-multipliers-start c = search needs
 
-part-multipliers-of-end : tie.Need-part-multipliers-of-end
-part-multipliers-of-end c = search needs
+part-multipliers-end : tie.Need-part-multipliers-end
+part-multipliers-end c = search needs
 
-mul-multipliers-of-2 : tie.Need-mul-multipliers-of-2
-mul-multipliers-of-2 c = search needs
+mul-multipliers-2 : tie.Need-mul-multipliers-2
+mul-multipliers-2 c = search needs
 
-sub-multipliers-of-2 : tie.Need-sub-multipliers-of-2
-sub-multipliers-of-2 c = search needs
+sub-multipliers-2 : tie.Need-sub-multipliers-2
+sub-multipliers-2 c = search needs
 
-part-multipliers-of-start-2 : tie.Need-part-multipliers-of-start-2
-part-multipliers-of-start-2 c = search needs
+part-multipliers-start-2 : tie.Need-part-multipliers-start-2
+part-multipliers-start-2 c = search needs
 
-part-multipliers-of-end-2 : tie.Need-part-multipliers-of-end-2
-part-multipliers-of-end-2 c = search needs
+part-multipliers-end-2 : tie.Need-part-multipliers-end-2
+part-multipliers-end-2 c = search needs
 
-multipliers-of-requires : tie.Need-multipliers-of-requires
-multipliers-of-requires c κs =
+multipliers-requires : tie.Need-multipliers-requires
+multipliers-requires c κs =
     let start = c .before .before in
     let target = now (start .args .target) in
     let pivot = now (start .args .pivot) in
@@ -67,7 +68,7 @@ multipliers-of-requires c κs =
     let below = start .pre .0 .0 in
     let fits = start .pre in
     rw (entry-of start target, entry-of start pivot) (
-      (length-entry pivot column (le-of-eq (sym (fits .0 .2))) below, small-entry pivot column (fits .1 .0 .1) below, fits .1 .1),
+      ((length-entry pivot column (le-of-eq (sym (fits .0 .2))) below, small-entry pivot column (fits .1 .0 .1) below), fits .1 .1),
       (length-entry target column (le-of-eq (sym (fits .0 .1))) below, small-entry target column (fits .1 .0 .0) below),
     )
 
@@ -75,10 +76,8 @@ returns : tie.Need-returns
 returns c =
     let start = c .before .before .before in
     let target = now (start .args .target) in
-    let pivot = now (start .args .pivot) in (
-      c .multipliers-of .ensures .0 ∙ ap₂ (λ a b. multipliers a b .g) (entry-of start pivot) (entry-of start target),
-      c .multipliers-of .ensures .1 ∙ ap₂ (λ a b. multipliers a b .h) (entry-of start pivot) (entry-of start target),
-    )
+    let pivot = now (start .args .pivot) in
+    c .multipliers .ensures ∙ ap₂ (λ a b. withRoots (multipliers a b)) (entry-of start pivot) (entry-of start target)
 
 pub multipliers-at-spec : {M : Type 1} → statement M
 multipliers-at-spec =
@@ -86,13 +85,13 @@ multipliers-at-spec =
     (tie.spec
     mul-from
     add-to
-    mul-multipliers-of
-    sub-multipliers-of
-    part-multipliers-of-start
-    part-multipliers-of-end
-    mul-multipliers-of-2
-    sub-multipliers-of-2
-    part-multipliers-of-start-2
-    part-multipliers-of-end-2
-    multipliers-of-requires
+    mul-multipliers
+    sub-multipliers
+    part-multipliers-start
+    part-multipliers-end
+    mul-multipliers-2
+    sub-multipliers-2
+    part-multipliers-start-2
+    part-multipliers-end-2
+    multipliers-requires
     returns)

@@ -1,0 +1,112 @@
+-- Rule 2's multipliers of two leading entries that were divided by their common roots.
+--
+-- Main definitions
+--   both a b              the entries a, of row j, and b, of row i
+--   withRoots x           multipliers with the roots of g
+--
+-- Main statements
+--   reduced-each          the division at the common roots, for 16 coefficients
+--   multipliers-plain         where no root is common, the ratio of a and b as they are
+--   common-pivot          where one is, a is not zero
+--   common-few, common-small   there are 16 common roots at most, within ±C
+--   multipliers-roots         the roots of g are those of a at which what is left of a vanishes
+use Prim.Native.Nat.{_≤_, _<_}
+use mathlib.Core.Path.{_≡_, refl, sym, _∙_, ap}
+use mathlib.Core.Bool.{not}
+use mathlib.Core.List.{List, [], _∷_, _++_, map}
+use native.Mathlib.Omega.{arith}
+use lib.Dec.{T, T-not, not-T, le→leb}
+use lib.Ieee.Fits.{and-l}
+use lib.IntN.{pos, negℤ, natAbs}
+use lib.ListN.{length}
+use Rattle.algebra.specs.Coefficients.{degree-isZero}
+use Rattle.algebra.specs.Polynomials.{Polynomial, isZero, isZero-append}
+use Rattle.algebra.specs.Roots.{roots, roots-sound}
+use Rattle.lists.specs.Sifted.{keep, mem-keep}
+use Rattle.lists.specs.Taken.{length-none}
+use Rattle.lists.specs.Tests.{every, every-member}
+use Rattle.rules.specs.Limits.{bound, small, coefficientCount}
+use Rattle.rules.specs.Elimination.{Multipliers, ratio, multipliers}
+use Rattle.rules.specs.CommonRoots.{Entries, divideEach, commonRoots, reduced}
+use Rattle.theory.specs.Reduced.{reduced-nonzero}
+use Rattle.roots.specs.RootSearch.{listed, roots-constant, roots-few, roots-small}
+use Rattle.common_roots.specs.declared.Amended.{Amended}
+use Rattle.common_roots.specs.Divisions.{vanishesAt}
+use Rattle.common_roots.specs.Kept.{length-keep, roots-reduced, roots-ratio}
+
+abbrev pub both : Polynomial → Polynomial → Entries
+both a b = record { pivot = a; target = b }
+
+-- The multipliers with the roots of g.
+abbrev pub withRoots : Multipliers → Amended
+withRoots x = record { g = x .g; h = x .h; roots = listed (roots (x .g)) }
+
+module _ (a b : Polynomial) where
+  pub reduced-each : length a ≡ coefficientCount → divideEach coefficientCount (commonRoots (both a b)) (both a b) ≡ reduced (both a b)
+  unfolding reduced
+  reduced-each e = ap (λ k. divideEach k (commonRoots (both a b)) (both a b)) (sym e)
+
+  pub multipliers-plain : length (commonRoots (both a b)) ≡ 0 → multipliers a b ≡ ratio a b
+  unfolding multipliers reduced divideEach
+  multipliers-plain none =
+      ap (λ l. let e = divideEach (length a) l (both a b) in ratio (e .pivot) (e .target)) (length-none (commonRoots (both a b)) none)
+
+  pub common-pivot : 0 < length (commonRoots (both a b)) → T (not (isZero a))
+  unfolding commonRoots keep
+  common-pivot some =
+      not-T (isZero a) (λ z. omega (arith, ap (λ l. length (keep (vanishesAt b) l)) (roots-constant a (degree-isZero a z))))
+
+  pub common-few : length a ≤ 16 → length (commonRoots (both a b)) ≤ 16
+  unfolding commonRoots
+  common-few h = omega (arith, length-keep (vanishesAt b) (roots a), roots-few a h)
+
+  module _ (nonzero : T (not (isZero a))) where
+    pub common-small : T (every small a) → T (every small (commonRoots (both a b)))
+    unfolding commonRoots small
+    common-small t =
+        every-member small (commonRoots (both a b))
+        (λ r m. le→leb (natAbs r) bound
+        (omega (arith, roots-small a nonzero t r (roots-sound a (mem-keep (vanishesAt b) (roots a) .0 m .0)))))
+
+    pub reduced-not-both : T (not (isZero (reduced (both a b) .pivot ++ reduced (both a b) .target)))
+    reduced-not-both =
+        let p = reduced (both a b) .pivot in
+        let q = reduced (both a b) .target in
+        not-T (isZero (p ++ q))
+        (λ z. T-not (isZero p) (reduced-nonzero (both a b) nonzero) (and-l (isZero p) (isZero q) (rw (isZero-append p q) at z)))
+
+    pub multipliers-roots : roots (multipliers a b .g) ≡ keep (vanishesAt (reduced (both a b) .pivot)) (roots a)
+    unfolding multipliers
+    multipliers-roots =
+        roots-ratio (reduced (both a b) .pivot) (reduced (both a b) .target) reduced-not-both ∙ roots-reduced (both a b) nonzero
+
+-- ---- examples
+
+abbrev examples : List (Polynomial × Polynomial × Multipliers)
+examples =
+    -- n²(n - 3) and n²(n + 1): a root that both have twice
+    (
+      pos 0 ∷ pos 0 ∷ negℤ (pos 3) ∷ pos 1 ∷ [],
+      pos 0 ∷ pos 0 ∷ pos 1 ∷ pos 1 ∷ [],
+      record { g = negℤ (pos 3) ∷ pos 1 ∷ pos 0 ∷ pos 0 ∷ []; h = negℤ (pos 1) ∷ negℤ (pos 1) ∷ pos 0 ∷ pos 0 ∷ [] },
+    ) ∷
+    -- (n - 1)(n + 1) and n - 1: a root that only one of both has stays
+    (
+      negℤ (pos 1) ∷ pos 0 ∷ pos 1 ∷ [],
+      negℤ (pos 1) ∷ pos 1 ∷ pos 0 ∷ [],
+      record { g = pos 1 ∷ pos 1 ∷ pos 0 ∷ []; h = negℤ (pos 1) ∷ pos 0 ∷ pos 0 ∷ [] },
+    ) ∷
+    -- C (n - 1)(n + 1)² and n - 1: the quotient of the first would have the coefficient 2 C
+    (
+      negℤ (pos bound) ∷ negℤ (pos bound) ∷ pos bound ∷ pos bound ∷ [],
+      negℤ (pos 1) ∷ pos 1 ∷ pos 0 ∷ pos 0 ∷ [],
+      record {
+        g = negℤ (pos bound) ∷ negℤ (pos bound) ∷ pos bound ∷ pos bound ∷ [];
+        h = pos 1 ∷ negℤ (pos 1) ∷ pos 0 ∷ pos 0 ∷ [];
+      },
+    ) ∷
+    []
+
+multipliers-examples : map (λ x. multipliers (x .0) (x .1)) examples ≡ map (λ x. x .2) examples
+unfolding multipliers
+multipliers-examples = refl

@@ -1,0 +1,3 @@
+pub mod Divisions
+pub mod Kept
+pub mod Amended

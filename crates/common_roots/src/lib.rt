@@ -1,0 +1,192 @@
+// Common roots leave the multipliers: both leading entries are divided by n - r for each common integer root r before rule 2's
+// multipliers are taken. Every function but `multipliers` is private; each contract gives the result by an equation with a definition
+// of `rules` or of `specs/`.
+use polynomials::lengths::COEFFICIENTS;
+use roots::RootList;
+ghost use mathlib.Core.Path.{_≡_};
+ghost use mathlib.Core.Bool.{not};
+ghost use mathlib.Core.List.{_++_};
+ghost use Prim.Native.Nat.{_≤_};
+ghost use lib.Dec.{T};
+ghost use lib.IntN.{natAbs};
+ghost use lib.ListN.{length};
+ghost use Rattle.algebra.specs.Polynomials.{isZero};
+ghost use Rattle.algebra.specs.Roots as Roots;
+ghost use Rattle.lists.specs.Sifted.{keep};
+ghost use Rattle.lists.specs.Tests.{every};
+ghost use Rattle.rules.specs.Limits.{bound, small, coefficientCount};
+ghost use Rattle.rules.specs.CommonRoots.{divideAt, divideEach, commonRoots};
+ghost use Rattle.rules.specs.CommonRoots as CommonRoots;
+ghost use Rattle.roots.specs.RootSearch.{held, listed};
+ghost use Rattle.rules.specs.Elimination as Elimination;
+ghost use Rattle.common_roots.specs.Amended.{both, withRoots};
+ghost use Rattle.common_roots.specs.Divisions.{Sixteen, Fits, Divided, entriesOf, vanishesAt};
+
+// A polynomial divided by n - r, where that may be done: `exact` says so.
+struct Quotient {
+    exact: bool,
+    values: [i64; COEFFICIENTS],
+}
+
+// The leading entries that rule 2 takes its multipliers from: that of row j, whose column it is, and that of row i.
+struct Entries {
+    pivot: [i64; COEFFICIENTS],
+    target: [i64; COEFFICIENTS],
+}
+
+// By Horner's rule from the top: each value on the way is a coefficient of the quotient, and the last one the remainder. A coefficient
+// past ±C ends the division, so that no value is larger than a product of two numbers within ±C and one more.
+fn divided(p: &[i64], r: i64) -> Quotient
+    requires { ⌜ Sixteen (now p) × (natAbs r ≤ bound) ⌝ }
+    ensures { λ q. ⌜ Divided r (now (p .entry)) q ⌝ }
+{
+    let mut q = [0; COEFFICIENTS];
+    let mut value = 0;
+    let mut i = COEFFICIENTS - 1;
+    while 0 < i {
+        value = value * r + p[i];
+        if !integers::within_bound(value) {
+            return Quotient {
+                exact: false,
+                values: q,
+            };
+        }
+        i -= 1;
+        q[i] = value;
+    }
+    Quotient {
+        exact: value * r + p[0] == 0,
+        values: q,
+    }
+}
+
+// As long as both vanish at r and no quotient passes ±C: both quotients are taken, or neither.
+fn divided_at(entries: Entries, r: i64) -> Entries
+    requires { ⌜ Fits entries × (natAbs r ≤ bound) ⌝ }
+    ensures { λ e. ⌜ Fits e × (entriesOf e ≡ divideAt coefficientCount r (entriesOf entries)) ⌝ }
+{
+    let mut pivot = entries.pivot;
+    let mut target = entries.target;
+    let mut left = COEFFICIENTS;
+    while 0 < left {
+        let p = divided(&pivot[..], r);
+        if !p.exact {
+            return Entries { pivot, target };
+        }
+        let q = divided(&target[..], r);
+        if !q.exact {
+            return Entries { pivot, target };
+        }
+        pivot = p.values;
+        target = q.values;
+        left -= 1;
+    }
+    Entries { pivot, target }
+}
+
+// One root after the other, ascending as they are listed.
+fn divided_each(entries: Entries, common: RootList) -> Entries
+    requires { ⌜ Fits entries × (common ≡ listed (held common)) × (length (held common) ≤ 16) × T (every small (held common)) ⌝ }
+    ensures { λ e. ⌜ Fits e × (entriesOf e ≡ divideEach coefficientCount (held common) (entriesOf entries)) ⌝ }
+{
+    let n = common.count;
+    let values = common.values;
+    let mut e = entries;
+    let mut left = n;
+    while 0 < left {
+        e = divided_at(e, values[n - left]);
+        left -= 1;
+    }
+    e
+}
+
+// Those of the listed numbers at which p vanishes. Its value is worked out from the highest coefficient that is not 0.
+fn kept(p: &[i64], found: RootList) -> RootList
+    requires { ⌜ Sixteen (now p) × (found ≡ listed (held found)) × (length (held found) ≤ 16) ⌝ }
+    ensures { λ l. ⌜ l ≡ listed (keep (vanishesAt (now (p .entry))) (held found)) ⌝ }
+{
+    let n = found.count;
+    if n == 0 {
+        return found;
+    }
+    let end = polynomials::content::degree(p) + 1;
+    let front = &p[..end];
+    let from = found.values;
+    let mut values = [0; 16];
+    let mut count = 0;
+    let mut i = 0;
+    while i < n {
+        let r = from[i];
+        if roots::is_root(front, r) {
+            values[count] = r;
+            count += 1;
+        }
+        i += 1;
+    }
+    RootList { count, values }
+}
+
+fn copied(p: &[i64]) -> [i64; COEFFICIENTS]
+    requires { ⌜ length (now p) ≡ coefficientCount ⌝ }
+    ensures { λ q. ⌜ q ≡ now (p .entry) ⌝ }
+{
+    let mut q = [0; COEFFICIENTS];
+    let mut i = 0;
+    while i < COEFFICIENTS {
+        q[i] = p[i];
+        i += 1;
+    }
+    q
+}
+
+// Both entries divided at each of their common roots, which are handed in.
+fn reduced(a: &[i64], b: &[i64], common: RootList) -> Entries
+    requires { ⌜ Sixteen (now a) × T (not (isZero (now a))) ⌝ }
+    requires { ⌜ Sixteen (now b) × (common ≡ listed (commonRoots (both (now a) (now b)))) ⌝ }
+    ensures { λ e. ⌜ Fits e × (entriesOf e ≡ CommonRoots.reduced (both (now (a .entry)) (now (b .entry)))) ⌝ }
+{
+    let pivot = copied(a);
+    let target = copied(b);
+    divided_each(Entries { pivot, target }, common)
+}
+
+// Rule 2's multipliers, and the integer roots of g, ascending.
+pub struct Amended {
+    pub g: [i64; COEFFICIENTS],
+    pub h: [i64; COEFFICIENTS],
+    pub roots: RootList,
+}
+
+// Where there are common roots. What is left of a has no root that a has not, so no root is searched again.
+fn divided_multipliers(a: &[i64], b: &[i64], found: RootList, common: RootList) -> Amended
+    requires { ⌜ Sixteen (now a) × T (not (isZero (now a))) × (found ≡ listed (Roots.roots (now a))) ⌝ }
+    requires { ⌜ Sixteen (now b) × (common ≡ listed (commonRoots (both (now a) (now b)))) ⌝ }
+    ensures { λ r. ⌜ r ≡ withRoots (Elimination.multipliers (now (a .entry)) (now (b .entry))) ⌝ }
+{
+    let e = reduced(a, b, common);
+    let pivot = e.pivot;
+    let target = e.target;
+    let x = polynomials::content::multipliers_of(&pivot[..], &target[..]);
+    let g = x.g;
+    let h = x.h;
+    let roots = kept(&pivot[..], found);
+    Amended { g, h, roots }
+}
+
+// The multipliers of a and b as they are have the roots of a. Where b vanishes at none of them, they are the answer.
+pub fn multipliers(a: &[i64], b: &[i64]) -> Amended
+    requires { ⌜ Sixteen (now a) × T (not (isZero (now a ++ now b))) ⌝ }
+    requires { ⌜ Sixteen (now b) ⌝ }
+    ensures { λ r. ⌜ r ≡ withRoots (Elimination.multipliers (now (a .entry)) (now (b .entry))) ⌝ }
+{
+    let x = polynomials::content::multipliers_of(a, b);
+    let g = x.g;
+    let h = x.h;
+    let roots = roots::roots(&g[..]);
+    let common = kept(b, roots);
+    if common.count == 0 {
+        Amended { g, h, roots }
+    } else {
+        divided_multipliers(a, b, roots, common)
+    }
+}
