@@ -43,7 +43,8 @@ extern "C" {
 #define WURGALM_EQUATIONS 6
 #define WURGALM_RELATION 337
 #define WURGALM_RELATIONS (16 * WURGALM_RELATION)
-#define WURGALM_RESULT 9
+#define WURGALM_RESULT 10 /* of a run */
+#define WURGALM_HEADING 9 /* of a reader */
 
 /* Where the 16 coefficients of the right side begin in a row; in a relation, one place later. */
 #define WURGALM_RIGHT_SIDE 320
@@ -52,10 +53,11 @@ extern "C" {
  * In: `rows` and `relations` hold a system of m unknowns (1 to 4) and `equations` equations (0 to 6, however many unknowns
  * there are) with blocks t to l (-64 <= t <= l <= 64, l - t <= 4) and `count` relations (0 to 16) (SCOPE 1.1, 1.2, 1.23).
  * Out: `rows` and `relations` hold the output. A row that became zero on both sides is dropped: the later rows have moved up,
- * and the places past the rows that are left are zero (SCOPE 2.11, 3.14). `result` (9 numbers, SCOPE 3.52): the relation count,
- * the shifts, the columns c(1) to c(4) counted from 1 with zeros past those of the rows that are left, 1 or 0 for whether a
- * diagonal polynomial has an integer root, the largest such root (0 for none), and the rank, which is the number of rows that
- * are left: the output is a system of so many equations.
+ * and the places past the rows that are left are zero (SCOPE 2.11, 3.14). `result` (10 numbers, SCOPE 3.52): the relation
+ * count, the shifts, the columns c(1) to c(4) counted from 1 with zeros past those of the rows that are left, 1 or 0 for whether
+ * a diagonal polynomial has an integer root, the largest such root (0 for none), the rank, which is the number of rows that are
+ * left: the output is a system of so many equations; and how often that root occurs in the product of the diagonal polynomials
+ * (0 for none, SCOPE 2.83).
  * Returns 0, 1, 2, 5, or 7 to 10. */
 uint8_t wurgalm_run_leading(int64_t *rows, size_t rows_length, int64_t *relations, size_t relations_length, size_t m,
                             size_t equations, int64_t l, int64_t t, size_t count, int64_t *result, size_t result_length);

@@ -58,8 +58,8 @@ static void check(int holds, const char *what) {
     }
 }
 
-static void check_result(const int64_t *result, const int64_t *expected, const char *what) {
-    check(memcmp(result, expected, WURGALM_RESULT * sizeof *result) == 0, what);
+static void check_numbers(const int64_t *result, const int64_t *expected, size_t count, const char *what) {
+    check(memcmp(result, expected, count * sizeof *result) == 0, what);
 }
 
 /* ---- calls ---- */
@@ -136,8 +136,8 @@ static void k2_answer_stores(Stores *stores) {
 }
 
 static void k2_read_run_written(void) {
-    static const int64_t heading[WURGALM_RESULT] = {2, 1, 0, 0, 0, 0, 0, 0, 2};
-    static const int64_t report[WURGALM_RESULT] = {2, 1, 1, 2, 0, 0, 1, 0, 2};
+    static const int64_t heading[WURGALM_HEADING] = {2, 1, 0, 0, 0, 0, 0, 0, 2};
+    static const int64_t report[WURGALM_RESULT] = {2, 1, 1, 2, 0, 0, 1, 0, 2, 1};
     static Stores stores, expected;
     size_t length = strlen(k2_answer);
     uint8_t bytes[200];
@@ -145,13 +145,13 @@ static void k2_read_run_written(void) {
 
     prepare(&stores, 9);
     check(read_sheet(k2, &stores, call) == 0, "K2 is read");
-    check_result(stores.result, heading, "its sizes, no relation, no order, two equations");
+    check_numbers(stores.result, heading, WURGALM_HEADING, "its sizes, no relation, no order, two equations");
     k2_stores(&expected);
     memcpy(expected.result, heading, sizeof heading);
     check(same(&stores, &expected), "its rows, and nothing past the needed parts");
 
     check(run(wurgalm_run_leading, &stores, call) == 0, "K2, leading side, is accepted");
-    check_result(stores.result, report, "two relations, one shift, order 1 2, last root 0, rank 2");
+    check_numbers(stores.result, report, WURGALM_RESULT, "two relations, one shift, order 1 2, last root 0, rank 2, once");
     k2_answer_stores(&expected);
     memcpy(expected.result, report, sizeof report);
     check(same(&stores, &expected), "its rows and relations, and nothing past the needed parts");
@@ -172,8 +172,8 @@ static void k2_read_run_written(void) {
 static const char *const k11 = "3 1 1 0\n1\n1 1 1 2 0 1\n0\n0\n";
 
 static void k11_on_both_sides(void) {
-    static const int64_t trailing[WURGALM_RESULT] = {0, 1, 1, 0, 0, 0, 1, 1, 1};
-    static const int64_t leading[WURGALM_RESULT] = {0, 0, 1, 0, 0, 0, 1, 0, 1};
+    static const int64_t trailing[WURGALM_RESULT] = {0, 1, 1, 0, 0, 0, 1, 1, 1, 1};
+    static const int64_t leading[WURGALM_RESULT] = {0, 0, 1, 0, 0, 0, 1, 0, 1, 1};
     static Stores stores, expected;
     Asked call = asked();
     call.m = 1;
@@ -200,12 +200,13 @@ static void k11_on_both_sides(void) {
 static const char *const k8 = "3 2 0 0\n2\n2 0 1 16 0 0 0 0 0 0 0 0 0 0 0 0 0 0 0 1 0 2 1 1\n"
                               "2 0 1 2 0 1 0 2 2 0 1\n0\n0\n";
 
-static void k8_on_one_side(Run *side, int64_t root) {
-    int64_t report[WURGALM_RESULT] = {1, 0, 1, 2, 0, 0, 1, 0, 2};
+static void k8_on_one_side(Run *side, int64_t root, int64_t times) {
+    int64_t report[WURGALM_RESULT] = {1, 0, 1, 2, 0, 0, 1, 0, 2, 0};
     static Stores stores, expected;
     Asked call = asked();
     call.l = 0;
     report[7] = root;
+    report[9] = times;
 
     prepare(&stores, 9);
     check(read_sheet(k8, &stores, call) == 0, "K8 is read");
@@ -219,6 +220,30 @@ static void k8_on_one_side(Run *side, int64_t root) {
     check(same(&stores, &expected), "n^15 y - y, and the relation n x + n y at 0");
 }
 
+/* ---- multiplicities ---- */
+
+/* C (n - 1) (n + 1)^2 x = 0 and (n - 1)^2 (n + 1) y = 0: the largest root, 1, and the smallest, -1, occur three times each. */
+static const char *const multiple = "3 2 0 0\n2\n1 0 1 4 -268435455 -268435455 268435455 268435455\n1 0 2 4 1 -1 -1 1\n0\n0\n";
+
+static void multiple_roots(Run *side, int64_t root) {
+    int64_t report[WURGALM_RESULT] = {0, 0, 1, 2, 0, 0, 1, 0, 2, 3};
+    static Stores stores, expected;
+    Asked call = asked();
+    call.l = 0;
+    report[7] = root;
+
+    prepare(&stores, 9);
+    check(read_sheet(multiple, &stores, call) == 0, "multiple roots are read");
+    expected = stores;
+    memcpy(expected.result, report, sizeof report);
+    call.result = WURGALM_RESULT;
+    check(run(side, &stores, call) == 0 && same(&stores, &expected), "the root three times, all else as it was");
+    call.result = WURGALM_RESULT - 1;
+    check(run(side, &stores, call) == 1 && same(&stores, &expected), "a result store of nine numbers: 1");
+    call.result = WURGALM_HEADING;
+    check(read_sheet(multiple, &stores, call) == 0, "nine numbers are enough for a reader");
+}
+
 /* ---- any number of equations ---- */
 
 /* x(n+1) + y(n) = 0, a zero equation, and the first once more. */
@@ -227,7 +252,7 @@ static const char *const repeated_answer = "3 2 1 0\n1\n2 1 1 1 1 0 2 1 1\n0\n";
 
 /* The trailing side settles the other column. */
 static void repeated_on_one_side(Run *side, int64_t column) {
-    int64_t heading[WURGALM_RESULT] = {2, 1, 0, 0, 2, 0, 0, 0, 3}, report[WURGALM_RESULT] = {0, 0, 0, 0, 0, 0, 0, 0, 1};
+    int64_t heading[WURGALM_HEADING] = {2, 1, 0, 0, 2, 0, 0, 0, 3}, report[WURGALM_RESULT] = {0, 0, 0, 0, 0, 0, 0, 0, 1, 0};
     static Stores stores, expected;
     uint8_t bytes[200];
     char answer[200];
@@ -236,7 +261,7 @@ static void repeated_on_one_side(Run *side, int64_t column) {
 
     prepare(&stores, 9);
     check(read_sheet(repeated, &stores, call) == 0, "three equations for two unknowns are read");
-    check_result(stores.result, heading, "their sizes, the order 2, three equations");
+    check_numbers(stores.result, heading, WURGALM_HEADING, "their sizes, the order 2, three equations");
     call.equations = 3;
     prepare(&expected, 0);
     polynomial(expected.rows, 0, 0, 0)[0] = 1;
@@ -298,13 +323,13 @@ static void not_induced(const char *sheet, Asked call, uint8_t refusal, const ch
 }
 
 static void bessel_read(void) {
-    static const int64_t heading[WURGALM_RESULT] = {1, 2, -2, 0, 0, 0, 0, 0, 1};
+    static const int64_t heading[WURGALM_HEADING] = {1, 2, -2, 0, 0, 0, 0, 0, 1};
     static Stores stores, expected;
     Asked call = asked();
     prepare(&stores, 9);
     expected = stores;
     check(read_differential(bessel, &stores, call) == 0, "Bessel's equation is read");
-    check_result(stores.result, heading, "its sizes, no relation, no order, one equation");
+    check_numbers(stores.result, heading, WURGALM_HEADING, "its sizes, no relation, no order, one equation");
     fill(expected.rows, WURGALM_ROW, 0);
     fill(expected.relations, WURGALM_RELATIONS, 0);
     memcpy(expected.result, heading, sizeof heading);
@@ -322,7 +347,7 @@ static void bessel_read(void) {
     call.relations = WURGALM_RELATIONS - 1;
     not_induced(bessel, call, 1, "relation store too short");
     call = asked();
-    call.result = WURGALM_RESULT - 1;
+    call.result = WURGALM_HEADING - 1;
     not_induced(bessel, call, 1, "result store too short");
     not_induced("3 1 2", call, 4, "an early end, before a result store too short");
 }
@@ -500,7 +525,7 @@ static void sheets_refused(void) {
     call.relations = WURGALM_RELATIONS - 1;
     unread(k2, call, 1, "relation store too short");
     call = asked();
-    call.result = WURGALM_RESULT - 1;
+    call.result = WURGALM_HEADING - 1;
     unread(k2, call, 1, "result store too short");
     unread("3 1 1 0\n1\n1 1 1", call, 4, "an early end, before a result store too short");
 }
@@ -547,8 +572,10 @@ static void systems_not_written(void) {
 int main(void) {
     k2_read_run_written();
     k11_on_both_sides();
-    k8_on_one_side(wurgalm_run_leading, 1);
-    k8_on_one_side(wurgalm_run_trailing, 0);
+    k8_on_one_side(wurgalm_run_leading, 1, 1);
+    k8_on_one_side(wurgalm_run_trailing, 0, 15);
+    multiple_roots(wurgalm_run_leading, 1);
+    multiple_roots(wurgalm_run_trailing, -1);
     repeated_on_one_side(wurgalm_run_leading, 1);
     repeated_on_one_side(wurgalm_run_trailing, 2);
     nothing_left(wurgalm_run_leading);

@@ -46,6 +46,7 @@
 --                   export-write-course, export-write-range, export-write-lengths, export-write-numbers, export-write-accepts,
 --                   export-write-output, export-batch-course, export-batch-lengths, export-batch-output
 --   3 runs:         same-solutions, diagonal-nonzero, agreement-leading, agreement-trailing, no-root, no-root-zero, last-root,
+--                   root-times, no-root-times,
 --                   rank-most, rank-few, rank-below, rows-independent, undropped-independent, ten-unsatisfied, shifts-bounded,
 --                   output-passes
 --     from an index: first-index-enough, first-index-kept, first-index-back
@@ -63,7 +64,9 @@ use Rattle.algebra.specs.Polynomials.{Polynomial, eval, isZero}
 use Rattle.algebra.specs.Roots.{roots, roots-sound, roots-complete, roots-distinct}
 use Rattle.rules.specs.Limits.{coefficientCount}
 use Rattle.rules.specs.Rows.{Row, Relation, noRow, mirrorRow, mirrorRelation}
-use Rattle.rules.specs.Elimination.{Side, leading, trailing, State, Outcome, done, refused, mirrorOutcome, wholeRun}
+use Rattle.rules.specs.Elimination.{Side, leading, trailing, State, Outcome, done, refused, diagonal, mirrorOutcome, wholeRun}
+use Rattle.algebra.specs.Multiplicity.{multiplicity}
+use Rattle.theory.specs.Report.{product}
 use Rattle.rules.specs.Stores.{Sizes, equations, span, rowsOf, relationsOf, rowNeed, relationNeed, checkStores}
 use Rattle.rules.specs.Sequences.{Sequence, Satisfies, Dependent, polynomialAt}
 use Rattle.rules.specs.Layout.{SizeBounds, NumbersRight}
@@ -88,7 +91,7 @@ use Rattle.batches.specs.Rooms as Rooms
 use Rattle.differential.specs.Differential.{DifferentialSheet}
 use Rattle.differential.specs.Recurrence.{recurrenceOf}
 use Rattle.differential.specs.Meaning.{Series, SatisfiesDifferential}
-use Rattle.exports.specs.Results.{Exported, resultNeed}
+use Rattle.exports.specs.Results.{Exported, runNeed}
 use Rattle.exports.specs.Writes.{Written, notWritten}
 use Rattle.claims.specs.RunWords.{Ran, FoundBefore, FoundDuring, RunNumber, Rewritten, Cleared, Kept, InRange}
 use Rattle.claims.specs.RunWords.{Course, LongEnough, Passed, ruled, GivesBack, left, Freed, Solves, SolvesFrom}
@@ -96,7 +99,7 @@ use Rattle.claims.specs.RunWords.{AgreeBetween, AgreeFrom, AgreeDown, Ag
 use Rattle.claims.specs.SheetWords.{WriteNumber, SheetWasRead, SheetWasWritten, IsSheetOf, HoldsSheet, ReadsBack}
 use Rattle.claims.specs.SheetWords.{ReadCourse, WriteCourse, WriteRange, WriteShort, sheetBytes, PlaceInside}
 use Rattle.claims.specs.SheetWords.{WriteReady}
-use Rattle.claims.specs.ExportWords.{ExportedRun, ExportedRead, ExportedWrite, ExportLong, OrderRange, OrderLong}
+use Rattle.claims.specs.ExportWords.{ExportedRun, ExportedRead, ExportedWrite, ExportLong, ExportReadLong, OrderRange, OrderLong}
 use Rattle.claims.specs.ExportWords.{ExportWriteShort, ExportCourse, ExportReadCourse, ExportWriteCourse}
 use Rattle.claims.specs.ExportWords.{ExportGives, ExportReadGives, ExportWriteGives, ExportWriteReady}
 use Rattle.claims.specs.ExportWords.{ExportedBatch, ExportBatchCourse}
@@ -217,6 +220,15 @@ module _ {side : Side} {z : Sizes} {count : ℕ} {rows relations : List ℤ} {c 
     -- smallest (SCOPE 2.81, 2.93).
     pub last-root : c .result .hasRoot ≡ true → LastRoot side (left z c) c (c .result .root)
     last-root = Runs.root-yes ran accepted
+
+    -- Beside it stands how often it occurs in the product of the diagonal polynomials of the rules' final state, at least once, and 0 with
+    -- "no" (SCOPE 2.83).
+    pub root-times : c .result .hasRoot ≡ true → (s : State) × (ruled side z count rows relations ≡ done s)
+        × (c .result .multiplicity ≡ multiplicity (product (diagonal side (span z) s)) (c .result .root)) × (1 ≤ c .result .multiplicity)
+    root-times = Runs.times-yes ran accepted
+
+    pub no-root-times : c .result .hasRoot ≡ false → c .result .multiplicity ≡ 0
+    no-root-times = Runs.times-none ran accepted
 
     -- The rank is at most the number of unknowns, and at most that of the lent equations (SCOPE 2.13).
     pub rank-most : c .result .rank ≤ z .m
@@ -663,8 +675,8 @@ batch-sums = tally-sums
 -- ==== the exported calls: `wurgalm_run_leading`, `wurgalm_run_trailing`, `wurgalm_read_sheet`, `wurgalm_write_sheet`,
 -- `wurgalm_batch`
 --
--- They return the refusal, and the other fields of the result are numbers of one more lent store, `result`: nine for a
--- run and for a sheet that is read, one, the length, for a sheet that is written (SCOPE 3.51, 3.52) and for a batch.
+-- They return the refusal, and the other fields of the result are numbers of one more lent store, `result`: ten for a
+-- run, nine for a sheet that is read, one, the length, for a sheet that is written (SCOPE 3.51, 3.52) and for a batch.
 
 module _ {side : Side} {z : Sizes} {count : ℕ} {rows relations result : List ℤ} {e : Exported}
     (exported : ExportedRun side z count rows relations result e) where
@@ -680,7 +692,7 @@ module _ {side : Side} {z : Sizes} {count : ℕ} {rows relations result : List �
   -- one found during the work leaves the needed part of all three zero, and the rest as it was (SCOPE 3.54, 6.33).
   pub export-refused-during : FoundDuring (e .refusal)
       → Cleared (rowNeed (equations z)) rows (e .rowStore) × Cleared relationNeed relations (e .relationStore)
-      × Cleared resultNeed result (e .resultStore)
+      × Cleared runNeed result (e .resultStore)
   export-refused-during = Exports.export-cleared exported
 
   -- In one: the four things that an exported run can do.
@@ -702,10 +714,10 @@ module _ {side : Side} {z : Sizes} {count : ℕ} {rows relations result : List �
 
   -- any other number exactly if the run on the same stores returns it and the result's store is long enough.
   pub export-work : {c : Call} → Ran side z count rows relations c → (n : ℕ) → ¬ FoundBefore n
-      → (e .refusal ≡ n) ↔ ((c .result .refusal ≡ n) × (resultNeed ≤ length result))
+      → (e .refusal ≡ n) ↔ ((c .result .refusal ≡ n) × (runNeed ≤ length result))
   export-work = Exports.export-as-run exported
 
-  -- With 0 the stores are those of the run, and the result's store begins with the nine numbers of SCOPE 3.52.
+  -- With 0 the stores are those of the run, and the result's store begins with the ten numbers of SCOPE 3.52.
   pub export-output : e .refusal ≡ 0 → (c : Call) × ExportGives side z count rows relations result c e
   export-output = Exports.export-accepted exported
 
@@ -728,11 +740,11 @@ module _ {bytes : List ℕ} {rows relations result : List ℤ} {e : Exported}
   export-read-faults = Exports.export-read-fault exported
 
   -- 1 exactly if the bytes are a sheet, and a store is too short, the result's too,
-  pub export-read-lengths : (e .refusal ≡ 1) ↔ ((x : Sheet) × IsSheetOf x bytes × (¬ ExportLong (x .sizes) rows relations result))
+  pub export-read-lengths : (e .refusal ≡ 1) ↔ ((x : Sheet) × IsSheetOf x bytes × (¬ ExportReadLong (x .sizes) rows relations result))
   export-read-lengths = Exports.export-read-short exported
 
   -- 0 exactly if the bytes are a sheet, and the stores are long enough for it.
-  pub export-read-accepts : (e .refusal ≡ 0) ↔ ((x : Sheet) × IsSheetOf x bytes × ExportLong (x .sizes) rows relations result)
+  pub export-read-accepts : (e .refusal ≡ 0) ↔ ((x : Sheet) × IsSheetOf x bytes × ExportReadLong (x .sizes) rows relations result)
   export-read-accepts = Exports.export-read-accepts exported
 
   -- Then the stores are those of the call that reads a sheet, and the result's store begins with the nine numbers of its

@@ -2,7 +2,7 @@
 --
 -- Main definitions
 --   ExportedRun, ExportedRead, ExportedWrite, ExportedBatch   what an exported call gave back and left: its contract
---   ExportLong, OrderRange, OrderLong   the checks of an exported call, whose result and order are lent stores too
+--   ExportLong, ExportReadLong, OrderRange, OrderLong   the checks of an exported call, whose result and order are lent stores too
 --   ExportWriteShort, ExportWriteReady   a store is too short for a sheet that is to be written; all is right
 --   ExportGives, ExportReadGives, ExportWriteGives   the call has left what the call of the library leaves, and the
 --                                numbers of its result
@@ -21,7 +21,7 @@ use Rattle.rules.specs.Layout.{NumbersRight}
 use Rattle.rules.specs.Calls.{Call}
 use Rattle.lists.specs.Overwritten.{overwrite}
 use Rattle.rules.specs.SheetCalls.{ReadCall, WriteCall}
-use Rattle.exports.specs.Results.{Exported, kept, resultNeed}
+use Rattle.exports.specs.Results.{Exported, kept, runNeed, readNeed}
 use Rattle.exports.specs.Runs.{exportRun, ran, runNumbers}
 use Rattle.exports.specs.Reads.{exportRead, readAfter, readNumbers}
 use Rattle.exports.specs.Writes.{Written, exportWrite, orderOf, orderStoreRight, notWritten, wrote}
@@ -37,9 +37,13 @@ use Rattle.claims.specs.BatchWords.{BatchWasAnswered}
 pub record ExportedRun (side : Side) (z : Sizes) (count : ℕ) (rows relations result : List ℤ) (e : Exported) : Type 0 where
   pub called : e ≡ exportRun side z count rows relations result
 
--- The store of the result is one of the lent stores: nine numbers (SCOPE 3.52, 3.53).
+-- The store of the result is one of the lent stores: ten numbers (SCOPE 3.52, 3.53).
 abbrev pub ExportLong : Sizes → List ℤ → List ℤ → List ℤ → Type 0
-ExportLong z rows relations result = LongEnough z rows relations × (resultNeed ≤ length result)
+ExportLong z rows relations result = LongEnough z rows relations × (runNeed ≤ length result)
+
+-- That of a sheet that is read has nine.
+abbrev pub ExportReadLong : Sizes → List ℤ → List ℤ → List ℤ → Type 0
+ExportReadLong z rows relations result = LongEnough z rows relations × (readNeed ≤ length result)
 
 -- An exported run without a refusal has left what the run c leaves, and the numbers of its result.
 pub record ExportGives (side : Side) (z : Sizes) (count : ℕ) (rows relations result : List ℤ) (c : Call) (e : Exported) :
@@ -48,7 +52,7 @@ pub record ExportGives (side : Side) (z : Sizes) (count : ℕ) (rows relations r
   pub accepted : c .result .refusal ≡ 0
   pub same-rows : e .rowStore ≡ c .rowStore
   pub same-relations : e .relationStore ≡ c .relationStore
-  pub numbers : Rewritten resultNeed (runNumbers (c .result)) result (e .resultStore)
+  pub numbers : Rewritten runNeed (runNumbers (c .result)) result (e .resultStore)
 
 pub data ExportCourse (side : Side) (z : Sizes) (count : ℕ) (rows relations result : List ℤ) : Exported → Type 0 where
   run-range-wrong : ¬ InRange z count → ExportCourse side z count rows relations result (kept 2 rows relations result)
@@ -56,7 +60,7 @@ pub data ExportCourse (side : Side) (z : Sizes) (count : ℕ) (rows relations re
       → ExportCourse side z count rows relations result (kept 1 rows relations result)
   run-number-wrong : InRange z count → ExportLong z rows relations result → ¬ NumbersRight z count rows relations
       → ExportCourse side z count rows relations result (kept 5 rows relations result)
-  as-run : Passed z count rows relations → resultNeed ≤ length result → (c : Call) → Ran side z count rows relations c
+  as-run : Passed z count rows relations → runNeed ≤ length result → (c : Call) → Ran side z count rows relations c
       → ExportCourse side z count rows relations result (ran c result)
 
 -- ---- reading a sheet
@@ -71,12 +75,12 @@ pub record ExportReadGives (bytes : List ℕ) (rows relations result : List ℤ)
   pub accepted : c .result .refusal ≡ 0
   pub same-rows : e .rowStore ≡ c .rowStore
   pub same-relations : e .relationStore ≡ c .relationStore
-  pub numbers : Rewritten resultNeed (readNumbers (c .result)) result (e .resultStore)
+  pub numbers : Rewritten readNeed (readNumbers (c .result)) result (e .resultStore)
 
 pub data ExportReadCourse (bytes : List ℕ) (rows relations result : List ℤ) : Exported → Type 0 where
-  result-short : length result < resultNeed → (c : ReadCall) → SheetWasRead bytes [] [] c
+  result-short : length result < readNeed → (c : ReadCall) → SheetWasRead bytes [] [] c
       → ExportReadCourse bytes rows relations result (kept (c .result .refusal) rows relations result)
-  as-read : resultNeed ≤ length result → (c : ReadCall) → SheetWasRead bytes rows relations c
+  as-read : readNeed ≤ length result → (c : ReadCall) → SheetWasRead bytes rows relations c
       → ExportReadCourse bytes rows relations result (readAfter c result)
 
 -- ---- writing a sheet

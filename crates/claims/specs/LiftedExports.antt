@@ -27,7 +27,7 @@ use Rattle.rules.specs.Stores.{Sizes, equations, rowNeed, relationNeed, sizesRi
 use Rattle.rules.specs.Layout.{NumbersRight, lengthsRight-iff, numbersRight-iff}
 use Rattle.rules.specs.Calls.{Result, Call, callRun, refusal, zeros}
 use Rattle.lists.specs.Overwritten.{overwrite}
-use Rattle.exports.specs.Results.{Exported, kept, resultNeed, onAcceptance-none, onAcceptance-some}
+use Rattle.exports.specs.Results.{Exported, kept, runNeed, readNeed, onAcceptance-none, onAcceptance-some}
 use Rattle.rules.specs.SheetCalls.{ReadResult, ReadCall, readCall, unread, WriteCall, writeCall, unwritten, orderRight}
 use Rattle.exports.specs.Reads.{exportRead, readNumbers, readAfter, read-small}
 use Rattle.exports.specs.Writes.{Written, exportWrite, orderOf, orderStoreRight, checkOrdered, afterOrderedCheck}
@@ -37,7 +37,7 @@ use Rattle.rules.specs.Sheets.{Sheet, readSheet}
 use Rattle.exports.specs.Runs.{exportRun, checkRun, afterRunCheck, ran, runNumbers, refused-numbers, run-small}
 use Rattle.claims.specs.RunWords.{Ran, RunNumber, FoundBefore, FoundDuring, Rewritten, Cleared, InRange, LongEnough}
 use Rattle.claims.specs.SheetWords.{WriteNumber, IsSheetOf, SheetWasRead}
-use Rattle.claims.specs.ExportWords.{ExportedRun, ExportLong, ExportGives, ExportCourse, run-range-wrong}
+use Rattle.claims.specs.ExportWords.{ExportedRun, ExportLong, ExportReadLong, ExportGives, ExportCourse, run-range-wrong}
 use Rattle.claims.specs.ExportWords.{run-store-short, run-number-wrong, as-run, ExportedRead, ExportReadGives}
 use Rattle.claims.specs.ExportWords.{ExportReadCourse, result-short, as-read, ExportedWrite, OrderRange, OrderLong}
 use Rattle.claims.specs.ExportWords.{ExportWriteShort, ExportWriteGives, ExportWriteCourse, wrong-order-range}
@@ -50,16 +50,16 @@ use Rattle.claims.specs.LiftedSheets.{write-refused, write-range, write-
 -- ---- runs
 
 long-iff : (z : Sizes) (rows relations result : List ℤ)
-    → T (lengthsRight (equations z) rows relations && leb resultNeed (length result)) ↔ ExportLong z rows relations result
+    → T (lengthsRight (equations z) rows relations && leb runNeed (length result)) ↔ ExportLong z rows relations result
 long-iff z rows relations result = (
   λ h. let e = T-&& (lengthsRight (equations z) rows relations) _ .0 h in
       (lengthsRight-iff (equations z) rows relations .0 (e .0), leb→le _ _ (e .1)),
   λ h. T-&& (lengthsRight (equations z) rows relations) _ .1 (lengthsRight-iff (equations z) rows relations .1 (h .0), le→leb _ _ (h .1)),
 )
 
-nine : (r : Result) → length (r .order) ≡ columnCount → length (runNumbers r) ≡ resultNeed
+ten : (r : Result) → length (r .order) ≡ columnCount → length (runNumbers r) ≡ runNeed
 unfolding runNumbers
-nine r h = simp (length-append, length-map) (omega arith)
+ten r h = simp (length-append, length-map) (omega arith)
 
 module _ {side : Side} {z : Sizes} {count : ℕ} {rows relations result : List ℤ} where
   pub export-course : {e : Exported} → ExportedRun side z count rows relations result e
@@ -68,7 +68,7 @@ module _ {side : Side} {z : Sizes} {count : ℕ} {rows relations result : List �
   export-course x =
       subst (ExportCourse side z count rows relations result) (sym (x .called))
       (by
-      (verdict (sizesRight z && countRight count) (lengthsRight (equations z) rows relations && leb resultNeed (length result))
+      (verdict (sizesRight z && countRight count) (lengthsRight (equations z) rows relations && leb runNeed (length result))
       (numbersRight z count rows relations) (range-iff z count) (long-iff z rows relations result)
       (numbersRight-iff z count rows relations)))
     where
@@ -98,7 +98,7 @@ module _ {side : Side} {z : Sizes} {count : ℕ} {rows relations result : List �
 
   cleared-export : {e : Exported} → ExportCourse side z count rows relations result e → FoundDuring (e .refusal)
       → Cleared (rowNeed (equations z)) rows (e .rowStore) × Cleared relationNeed relations (e .relationStore)
-      × Cleared resultNeed result (e .resultStore)
+      × Cleared runNeed result (e .resultStore)
   unfolding kept ran zeros
   cleared-export (run-range-wrong r) h = absurd (omega arith)
   cleared-export (run-store-short r l) h = absurd (omega arith)
@@ -106,9 +106,9 @@ module _ {side : Side} {z : Sizes} {count : ℕ} {rows relations result : List �
   cleared-export (as-run p l c r) h = (
     stores-cleared r h .0,
     stores-cleared r h .1,
-    subst (λ x. Rewritten resultNeed (zeros resultNeed) result (overwrite x result))
+    subst (λ x. Rewritten runNeed (zeros runNeed) result (overwrite x result))
         (sym (ap runNumbers (fields-zero r (λ e. omega arith)) ∙ refused-numbers (c .result .refusal)))
-        (overwrite-rewritten (zeros resultNeed) result refl l),
+        (overwrite-rewritten (zeros runNeed) result refl l),
   )
 
   accepted-export : {e : Exported} → ExportCourse side z count rows relations result e → e .refusal ≡ 0
@@ -125,7 +125,7 @@ module _ {side : Side} {z : Sizes} {count : ℕ} {rows relations result : List �
       same-rows = refl;
       same-relations = refl;
       numbers = overwrite-rewritten (runNumbers (c .result)) result
-          (nine (c .result) (run-small side z count rows relations (r .called) .four)) l;
+          (ten (c .result) (run-small side z count rows relations (r .called) .four)) l;
     },
   )
 
@@ -160,7 +160,7 @@ module _ {side : Side} {z : Sizes} {count : ℕ} {rows relations result : List �
   )
 
   same-export : {e : Exported} {c : Call} → ExportCourse side z count rows relations result e → Ran side z count rows relations c
-      → (n : ℕ) → ¬ FoundBefore n → (e .refusal ≡ n) ↔ ((c .result .refusal ≡ n) × (resultNeed ≤ length result))
+      → (n : ℕ) → ¬ FoundBefore n → (e .refusal ≡ n) ↔ ((c .result .refusal ≡ n) × (runNeed ≤ length result))
   unfolding kept ran
   same-export (run-range-wrong r) q n late = (
     λ e. absurd (late (omega arith, omega arith)),
@@ -189,7 +189,7 @@ module _ {side : Side} {z : Sizes} {count : ℕ} {rows relations result : List �
 
   pub export-cleared : FoundDuring (e .refusal)
       → Cleared (rowNeed (equations z)) rows (e .rowStore) × Cleared relationNeed relations (e .relationStore)
-      × Cleared resultNeed result (e .resultStore)
+      × Cleared runNeed result (e .resultStore)
   export-cleared = cleared-export (export-course x)
 
   pub export-accepted : e .refusal ≡ 0 → (c : Call) × ExportGives side z count rows relations result c e
@@ -206,12 +206,12 @@ module _ {side : Side} {z : Sizes} {count : ℕ} {rows relations result : List �
   export-five = five-export (export-course x)
 
   pub export-as-run : {c : Call} → Ran side z count rows relations c → (n : ℕ) → ¬ FoundBefore n
-      → (e .refusal ≡ n) ↔ ((c .result .refusal ≡ n) × (resultNeed ≤ length result))
+      → (e .refusal ≡ n) ↔ ((c .result .refusal ≡ n) × (runNeed ≤ length result))
   export-as-run = same-export (export-course x)
 
 -- ---- reading a sheet
 
-nine-read : (r : ReadResult) → length (r .order) ≡ columnCount → length (readNumbers r) ≡ resultNeed
+nine-read : (r : ReadResult) → length (r .order) ≡ columnCount → length (readNumbers r) ≡ readNeed
 unfolding readNumbers
 nine-read r h = simp (length-append, length-map) (omega arith)
 
@@ -229,9 +229,9 @@ module _ {bytes : List ℕ} {rows relations result : List ℤ} where
   unfolding exportRead
   export-read-course x =
       subst (ExportReadCourse bytes rows relations result) (sym (x .called))
-      (by (leb resultNeed (length result)) (leb→le resultNeed (length result)) (nleb→lt resultNeed (length result)))
+      (by (leb readNeed (length result)) (leb→le readNeed (length result)) (nleb→lt readNeed (length result)))
     where
-      by : (t : Bool) → (T t → resultNeed ≤ length result) → (T (not t) → length result < resultNeed)
+      by : (t : Bool) → (T t → readNeed ≤ length result) → (T (not t) → length result < readNeed)
           → ExportReadCourse bytes rows relations result
           (cond t (readAfter (readCall bytes rows relations) result)
           (kept (readCall bytes [] [] .result .refusal) rows relations result))
@@ -264,7 +264,7 @@ module _ {bytes : List ℕ} {rows relations result : List ℤ} where
       accepted = h;
       same-rows = refl;
       same-relations = refl;
-      numbers = subst (Rewritten resultNeed (readNumbers (c .result)) result)
+      numbers = subst (Rewritten readNeed (readNumbers (c .result)) result)
           (onAcceptance-some (c .result .refusal) (readNumbers (c .result)) result h)
           (overwrite-rewritten (readNumbers (c .result)) result
           (nine-read (c .result) (read-small bytes rows relations (r .called) .four)) l);
@@ -278,7 +278,7 @@ module _ {bytes : List ℕ} {rows relations result : List ℤ} where
   fault-read (as-read l c r) n h = read-fault r n h
 
   short-read : {e : Exported} → ExportReadCourse bytes rows relations result e
-      → (e .refusal ≡ 1) ↔ ((x : Sheet) × IsSheetOf x bytes × (¬ ExportLong (x .sizes) rows relations result))
+      → (e .refusal ≡ 1) ↔ ((x : Sheet) × IsSheetOf x bytes × (¬ ExportReadLong (x .sizes) rows relations result))
   unfolding kept readAfter
   short-read (result-short l c r) = (
     λ e. let (x, h, short) = read-short r .0 e in (x, h, λ k. omega (arith, k .1)),
@@ -290,7 +290,7 @@ module _ {bytes : List ℕ} {rows relations result : List ℤ} where
   )
 
   accepts-read : {e : Exported} → ExportReadCourse bytes rows relations result e
-      → (e .refusal ≡ 0) ↔ ((x : Sheet) × IsSheetOf x bytes × ExportLong (x .sizes) rows relations result)
+      → (e .refusal ≡ 0) ↔ ((x : Sheet) × IsSheetOf x bytes × ExportReadLong (x .sizes) rows relations result)
   unfolding kept readAfter
   accepts-read (result-short l c r) = (λ e. absurd (never-read r e), λ h. absurd (omega (arith, h .2 .1)))
   accepts-read (as-read l c r) = (
@@ -311,10 +311,10 @@ module _ {bytes : List ℕ} {rows relations result : List ℤ} {e : Exported} (x
   pub export-read-fault : (n : ℕ) → 2 ≤ n → (e .refusal ≡ n) ↔ (readSheet bytes ≡ fault n)
   export-read-fault = fault-read (export-read-course x)
 
-  pub export-read-short : (e .refusal ≡ 1) ↔ ((x : Sheet) × IsSheetOf x bytes × (¬ ExportLong (x .sizes) rows relations result))
+  pub export-read-short : (e .refusal ≡ 1) ↔ ((x : Sheet) × IsSheetOf x bytes × (¬ ExportReadLong (x .sizes) rows relations result))
   export-read-short = short-read (export-read-course x)
 
-  pub export-read-accepts : (e .refusal ≡ 0) ↔ ((x : Sheet) × IsSheetOf x bytes × ExportLong (x .sizes) rows relations result)
+  pub export-read-accepts : (e .refusal ≡ 0) ↔ ((x : Sheet) × IsSheetOf x bytes × ExportReadLong (x .sizes) rows relations result)
   export-read-accepts = accepts-read (export-read-course x)
 
 -- ---- writing a sheet

@@ -15,6 +15,7 @@
 --   sequences, triangular, shifts-few, relations-first, output-passes, freed   what such a call has done
 --   below-dependent, kept-independent, undropped-independent, most-unknowns, most-equations   what its rank says
 --   root-no, root-none, root-yes   the root report, by result and store
+--   times-none, times-yes      how often its root occurs
 --   agrees-leading, agrees-trailing   agreement past the root of the result
 --   from-unused, from-kept, from-back   sequences with a first index
 --   unsatisfied-ten            refusal 10
@@ -34,6 +35,7 @@ use lib.Seq.{take-at, drop-at}
 use lib.IntN.{ℤ, pos, natAbs, _+ℤ_, _-ℤ_, +ℤ-invr}
 use lib.Signed.{_≤ℤ_, _<ℤ_, ≤ℤ-refl}
 use Rattle.algebra.specs.Polynomials.{Polynomial, eval, isZero}
+use Rattle.algebra.specs.Multiplicity.{multiplicity}
 use Rattle.lists.specs.Tests.{T-&&}
 use Rattle.rules.specs.Limits.{columnCount, rowLength}
 use Rattle.rules.specs.Rows.{Row, Relation, noRow, mirrorRelation}
@@ -56,12 +58,12 @@ use Rattle.lists.specs.Overwritten.{overwrite}
 use Rattle.rules.specs.Calls.{placeRight, reportedOrder, rootFound, rootValue}
 use Rattle.theory.specs.Settled.{Diagonal, pivotEntry, diagonal-most}
 use Rattle.theory.specs.Demands.{Accepted, Ended, seven, eight, nine, ten, run-ends, output-valid, diagonal-nonzero}
-use Rattle.theory.specs.Demands.{report-no, report-root, relations-listed}
+use Rattle.theory.specs.Demands.{report-no, report-root, report-times, report-no-times, relations-listed}
 use Rattle.theory.specs.ListedOrder.{Listed}
 use Rattle.theory.specs.Demands.{same-sequences, rank-most, rank-few, rank-below, rows-independent, shifts-bounded, refused-inconsistent}
 use Rattle.theory.specs.Demands.{agreement-leading, agreement-trailing, first-index, forward-from, backward-from}
 use Rattle.theory.specs.FirstIndex.{SatisfiesFrom}
-use Rattle.theory.specs.Report.{Past, Rootless, FurthestRoot, diagonalEntry, diagonal-member, diagonal-index}
+use Rattle.theory.specs.Report.{Past, Rootless, FurthestRoot, diagonalEntry, diagonal-member, diagonal-index, product}
 use Rattle.theory.specs.Demands as Demands
 use Rattle.lists.specs.Padded.{getD-padTo}
 use Rattle.claims.specs.RunWords.{Ran, RunNumber, FoundBefore, FoundDuring, Rewritten, Cleared, InRange, LongEnough}
@@ -196,6 +198,7 @@ module _ {side : Side} {z : Sizes} {count : ℕ} {rows relations : List ℤ} whe
         root-found = refl;
         root-value = refl;
         row-count = refl;
+        root-times = refl;
       }
     where
       a : Accepted side z (rowsOf (equations z) rows) (relationsOf count relations) s
@@ -534,6 +537,17 @@ module _ {side : Side} {z : Sizes} {count : ℕ} {rows relations : List ℤ} {c 
       subst (LastRoot side (left z c) c) (sym (a .given .root-value))
       (furthest-last (report-root state-accepted (found-some _ (sym (a .given .root-found) ∙ e))))
 
+  pub state-times-no : c .result .hasRoot ≡ false → c .result .multiplicity ≡ 0
+  state-times-no e = a .given .root-times ∙ report-no-times state-accepted (found-none _ .0 (sym (a .given .root-found) ∙ e))
+
+  pub state-times-yes : c .result .hasRoot ≡ true
+      → (c .result .multiplicity ≡ multiplicity (product (diagonal side (span z) s)) (c .result .root)) × (1 ≤ c .result .multiplicity)
+  state-times-yes e =
+      let t = report-times state-accepted (found-some _ (sym (a .given .root-found) ∙ e)) in (
+        a .given .root-times ∙ t .0 ∙ ap (multiplicity (product (diagonal side (span z) s))) (sym (a .given .root-value)),
+        subst (λ n. 1 ≤ n) (sym (a .given .root-times)) (t .1),
+      )
+
   pub state-past : (n : ℤ) → PastRoot side (c .result) n → Past side (report side (span z) s) n
   unfolding rootFound rootValue
   state-past n past = by side (c .result) (report side (span z) s) (a .given .root-found) (a .given .root-value) past
@@ -666,6 +680,13 @@ module _ {side : Side} {z : Sizes} {count : ℕ} {rows relations : List ℤ} {c 
 
     pub root-yes : c .result .hasRoot ≡ true → LastRoot side (left z c) c (c .result .root)
     root-yes = let (s, a) = accepted in state-report-yes a
+
+    pub times-none : c .result .hasRoot ≡ false → c .result .multiplicity ≡ 0
+    times-none = let (s, a) = accepted in state-times-no a
+
+    pub times-yes : c .result .hasRoot ≡ true → (s : State) × (ruled side z count rows relations ≡ done s)
+        × (c .result .multiplicity ≡ multiplicity (product (diagonal side (span z) s)) (c .result .root)) × (1 ≤ c .result .multiplicity)
+    times-yes e = let (s, a) = accepted in let t = state-times-yes a e in (s, a .accepts, t .0, t .1)
 
     -- What was left passes the checks of a call.
     pub output-passes : Passed (left z c) (c .result .relations) (c .rowStore) (c .relationStore)

@@ -36,7 +36,7 @@ use lib.IntN.{ℤ, pos}
 use lib.Signed.{_≤ℤ_, _<ℤ_}
 use Rattle.algebra.specs.Polynomials.{Polynomial, eval, isZero}
 use Rattle.rules.specs.Limits.{mostRelations}
-use Rattle.rules.specs.Elimination.{Side, leading, trailing, State, Outcome, done, refused, rank, wholeRun, report}
+use Rattle.rules.specs.Elimination.{Side, leading, trailing, State, Outcome, done, refused, rank, wholeRun, report, reportedTimes}
 use Rattle.rules.specs.Stores.{Sizes, equations, withEquations, span, rowsOf, relationsOf, rowNeed, relationNeed, rowStoreFor}
 use Rattle.rules.specs.Stores.{relationStoreOf}
 use Rattle.rules.specs.Sequences.{Sequence, Satisfies, Same}
@@ -106,6 +106,7 @@ pub record GivesBack (side : Side) (z : Sizes) (s : State) (rows relations : Lis
   pub root-found : c .result .hasRoot ≡ rootFound (report side (span z) s)
   pub root-value : c .result .root ≡ rootValue (report side (span z) s)
   pub row-count : c .result .rank ≡ rank s
+  pub root-times : c .result .multiplicity ≡ reportedTimes side (span z) s (report side (span z) s)
 
 -- The five courses exclude each other, so each says exactly when it is taken.
 pub data Course (side : Side) (z : Sizes) (count : ℕ) (rows relations : List ℤ) : Call → Type 0 where

@@ -1,4 +1,5 @@
 pub mod Results
+pub mod Times
 pub mod Runs
 pub mod Writes
 pub mod Reads

@@ -30,7 +30,7 @@ use Rattle.rules.specs.Sheets.{Sheet, readSheet}
 use Rattle.rules.specs.SheetCalls.{ReadResult, ReadCall, differentColumns, readRefusal, unread, filled, afterRead, readCall}
 use Rattle.sheets.specs.WrittenOrder.{OrderRight, different-cons}
 use Rattle.sheets.specs.ReadBack.{SheetRight, read-right}
-use Rattle.exports.specs.Results.{Exported, kept, resultNeed, onAcceptance}
+use Rattle.exports.specs.Results.{Exported, kept, readNeed, onAcceptance}
 
 -- m, l, t, the number of relations, c(1) to c(4), the number of equations (SCOPE 3.52).
 unfoldable pub readNumbers : ReadResult → List ℤ
@@ -55,7 +55,7 @@ unfoldable pub readWith : (List ℤ → List ℤ → ReadCall) → List ℤ → 
 unfolding readAfter kept
 readWith call rowStore relationStore resultStore =
     let whole = readAfter (call rowStore relationStore) resultStore in
-    cond (leb resultNeed (length resultStore)) whole (kept (call [] [] .result .refusal) rowStore relationStore resultStore)
+    cond (leb readNeed (length resultStore)) whole (kept (call [] [] .result .refusal) rowStore relationStore resultStore)
 
 unfoldable pub exportRead : List ℕ → List ℤ → List ℤ → List ℤ → Exported
 unfolding readWith readCall
@@ -65,37 +65,37 @@ chosen : {A : Type 0} (x y : A) {b c : Bool} → b ≡ c → cond c x y ≡ cond
 chosen x y e = ap (λ k. cond k x y) (sym e)
 
 module _ (call : List ℤ → List ℤ → ReadCall) (rowStore relationStore resultStore : List ℤ) where
-  pub with-short : length resultStore < resultNeed
+  pub with-short : length resultStore < readNeed
       → kept (call [] [] .result .refusal) rowStore relationStore resultStore ≡ readWith call rowStore relationStore resultStore
   unfolding readWith
-  with-short h = chosen _ _ (lt-leb resultNeed (length resultStore) h)
+  with-short h = chosen _ _ (lt-leb readNeed (length resultStore) h)
 
   -- The call, from what was read and the result store that was left.
   pub with-done : {x : ReadCall} {left : List ℤ} → x ≡ call rowStore relationStore
-      → left ≡ onAcceptance (x .result .refusal) (readNumbers (x .result)) resultStore → resultNeed ≤ length resultStore
+      → left ≡ onAcceptance (x .result .refusal) (readNumbers (x .result)) resultStore → readNeed ≤ length resultStore
       → record { refusal = x .result .refusal; rowStore = x .rowStore; relationStore = x .relationStore; resultStore = left }
       ≡ readWith call rowStore relationStore resultStore
   unfolding readWith readAfter
   with-done {x} same f h =
       (λ i. record { refusal = x .result .refusal; rowStore = x .rowStore; relationStore = x .relationStore; resultStore = f i })
-      ∙ ap (λ y. readAfter y resultStore) same ∙ chosen _ _ (le-leb resultNeed (length resultStore) h)
+      ∙ ap (λ y. readAfter y resultStore) same ∙ chosen _ _ (le-leb readNeed (length resultStore) h)
 
 module _ (bytes : List ℕ) (rowStore relationStore resultStore : List ℤ) where
-  pub read-short : length resultStore < resultNeed
+  pub read-short : length resultStore < readNeed
       → kept (readCall bytes [] [] .result .refusal) rowStore relationStore resultStore
       ≡ exportRead bytes rowStore relationStore resultStore
   unfolding exportRead
   read-short h = with-short (readCall bytes) rowStore relationStore resultStore h
 
   pub read-done : {x : ReadCall} {left : List ℤ} → x ≡ readCall bytes rowStore relationStore
-      → left ≡ onAcceptance (x .result .refusal) (readNumbers (x .result)) resultStore → resultNeed ≤ length resultStore
+      → left ≡ onAcceptance (x .result .refusal) (readNumbers (x .result)) resultStore → readNeed ≤ length resultStore
       → record { refusal = x .result .refusal; rowStore = x .rowStore; relationStore = x .relationStore; resultStore = left }
       ≡ exportRead bytes rowStore relationStore resultStore
   unfolding exportRead
   read-done same f h = with-done (readCall bytes) rowStore relationStore resultStore same f h
 
   -- A whole sheet is refused 1, and any other as it is with stores that are long enough.
-  pub short-whole : (x : Sheet) (rest : List ℕ) → readSheet bytes ≡ got x rest → length resultStore < resultNeed
+  pub short-whole : (x : Sheet) (rest : List ℕ) → readSheet bytes ≡ got x rest → length resultStore < readNeed
       → exportRead bytes rowStore relationStore resultStore ≡ kept 1 rowStore relationStore resultStore
   unfolding readCall afterRead lengthsRight rowNeed unread readRefusal
   short-whole x rest e h =
@@ -104,7 +104,7 @@ module _ (bytes : List ℕ) (rowStore relationStore resultStore : List ℤ) wher
       ∙ ap (λ b. kept (cond b (filled x [] []) (unread 1 [] []) .result .refusal) rowStore relationStore resultStore)
       (and-false (leb (equations (x .sizes) * rowLength) 0))
 
-  pub short-fault : (n : ℕ) → readSheet bytes ≡ fault n → length resultStore < resultNeed
+  pub short-fault : (n : ℕ) → readSheet bytes ≡ fault n → length resultStore < readNeed
       → exportRead bytes rowStore relationStore resultStore ≡ kept n rowStore relationStore resultStore
   unfolding readCall afterRead unread readRefusal
   short-fault n e h =

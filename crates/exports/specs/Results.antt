@@ -41,9 +41,12 @@ unfoldable pub kept : ℕ → List ℤ → List ℤ → List ℤ → Exported
 kept n rowStore relationStore resultStore =
     record { refusal = n; rowStore = rowStore; relationStore = relationStore; resultStore = resultStore }
 
--- The numbers that a result of a run or of a sheet that was read has (SCOPE 3.52).
-abbrev pub resultNeed : ℕ
-resultNeed = 9
+-- The numbers that the result of a run has, and that of a sheet that was read (SCOPE 3.52).
+abbrev pub runNeed : ℕ
+runNeed = 10
+
+abbrev pub readNeed : ℕ
+readNeed = 9
 
 unfoldable pub onAcceptance : ℕ → List ℤ → List ℤ → List ℤ
 unfolding overwrite
@@ -66,10 +69,10 @@ none-checked z count =
     ap (λ b. cond (sizesRight z && countRight count) (cond b (cond (numbersRight z count [] []) 0 5) 1) 2)
     (and-false (leb (equations z * rowLength) 0))
 
-pub small-fits : (n : ℕ) → n ≤ 24 → SFits w64 (pos n)
+pub small-fits : (n : ℕ) → n ≤ 64 → SFits w64 (pos n)
 small-fits n h = sfits-size (pos n) h (lit< tt)
 
-pub small-value : (n : ℕ) → n ≤ 24 → toZ w64 n ≡ pos n
+pub small-value : (n : ℕ) → n ≤ 64 → toZ w64 n ≡ pos n
 small-value n h = toZ-pos w64 (omega arith)
 
 pub answer-value : (b : Bool) → toZ w64 (boolByte b) ≡ pos (cond b 1 0)

@@ -1,7 +1,7 @@
 -- The exported runs: a run on lent stores whose result is a lent store too.
 --
 -- Main definitions
---   runNumbers r           the nine numbers of a result
+--   runNumbers r           the ten numbers of a result
 --   checkRun ..            the checks of the call: sizes (2), lengths (1), numbers (5)
 --   exportRun side ..      the call
 --   early n, keptOr ..     the refusals that leave the result store as it was, and the store by the refusal
@@ -26,7 +26,7 @@ use lib.Signed.{≤ℤ-refl}
 use lib.ListN.{length}
 use Rattle.rules.specs.Limits.{columnCount}
 use Rattle.lists.specs.Everywhere.{All, all-map, getD-all}
-use Rattle.rules.specs.Elimination.{Side, State, Outcome, going, done, refused, wholeRun, neverNumber}
+use Rattle.rules.specs.Elimination.{Side, State, Outcome, going, done, refused, wholeRun, report, neverNumber}
 use Rattle.rules.specs.Stores.{Sizes, Valid, span, rowsOf, relationsOf, sizesRight, countRight, lengthsRight, numbersRight, checkStores}
 use Rattle.rules.specs.Stores.{equations}
 use Rattle.rules.specs.Layout.{SizeBounds, size-bounds, checkStores-order, stores-valid, countRight-iff, block-place}
@@ -36,22 +36,23 @@ use Rattle.theory.specs.Demands.{diagonal-nonzero, rank-most}
 use Rattle.rules.specs.Calls.{reportedOrder}
 use Rattle.rules.specs.Calls.{Result, Call, callRun, zeros, refusal, unchanged, cleared, acceptance, afterRun, afterCheck}
 use Rattle.lists.specs.Overwritten.{overwrite}
-use Rattle.exports.specs.Results.{Exported, kept, resultNeed, none-checked}
+use Rattle.exports.specs.Results.{Exported, kept, runNeed, none-checked}
+use Rattle.exports.specs.Times.{times-few}
 
--- The number of relations, the shifts, c(1) to c(4), 1 or 0 for a root, the root, the rank (SCOPE 3.52).
+-- The number of relations, the shifts, c(1) to c(4), 1 or 0 for a root, the root, the rank, how often the root occurs (SCOPE 3.52).
 unfoldable pub runNumbers : Result → List ℤ
 runNumbers r =
-    pos (r .relations) ∷ pos (r .shifts) ∷ (map pos (r .order) ++ (pos (cond (r .hasRoot) 1 0) ∷ r .root ∷ pos (r .rank) ∷ []))
+    pos (r .relations) ∷ pos (r .shifts) ∷ (map pos (r .order) ++ (pos (cond (r .hasRoot) 1 0) ∷ r .root ∷ pos (r .rank) ∷ pos (r .multiplicity) ∷ []))
 
 -- Sizes (2), lengths (1), numbers (5) in turn (SCOPE 3.31); the result store is one of the stores (SCOPE 3.53).
 unfoldable pub checkRun : Sizes → ℕ → List ℤ → List ℤ → List ℤ → ℕ
 unfolding sizesRight countRight lengthsRight numbersRight
 checkRun z count rowStore relationStore resultStore =
     let numbers : ℕ = cond (numbersRight z count rowStore relationStore) 0 5 in
-    let lengths : ℕ = cond (lengthsRight (equations z) rowStore relationStore && leb resultNeed (length resultStore)) numbers 1 in
+    let lengths : ℕ = cond (lengthsRight (equations z) rowStore relationStore && leb runNeed (length resultStore)) numbers 1 in
     cond (sizesRight z && countRight count) lengths 2
 
--- An acceptance, or a refusal 7 to 10, which makes the nine numbers of the result zero (SCOPE 3.54, 6.31).
+-- An acceptance, or a refusal 7 to 10, which makes the ten numbers of the result zero (SCOPE 3.54, 6.31).
 unfoldable pub ran : Call → List ℤ → Exported
 unfolding overwrite runNumbers
 ran c resultStore =
@@ -73,7 +74,7 @@ unfolding afterRunCheck checkRun
 exportRun side z count rowStore relationStore resultStore =
     afterRunCheck side z count rowStore relationStore resultStore (checkRun z count rowStore relationStore resultStore)
 
-pub refused-numbers : (n : ℕ) → runNumbers (refusal n) ≡ zeros resultNeed
+pub refused-numbers : (n : ℕ) → runNumbers (refusal n) ≡ zeros runNeed
 unfolding runNumbers refusal zeros
 refused-numbers n = refl
 
@@ -84,6 +85,7 @@ pub record SmallResult (r : Result) : Type 0 where
   pub four : length (r .order) ≡ columnCount
   pub columns : All (λ c. c ≤ columnCount) (r .order)
   pub low-rank : r .rank ≤ columnCount
+  pub few-times : r .multiplicity ≤ 64
 
 -- ---- the result store, by the refusal of the run
 
@@ -151,6 +153,7 @@ run-zeros n =
       four = refl;
       columns = (zero-le, (zero-le, (zero-le, (zero-le, tt))));
       low-rank = zero-le;
+      few-times = zero-le;
     }
 
 module _ (side : Side) (z : Sizes) (count : ℕ) (rowStore relationStore : List ℤ) where
@@ -184,6 +187,7 @@ module _ (side : Side) (z : Sizes) (count : ℕ) (rowStore relationStore : List 
           four = length-padTo 4 0 (map suc (s .order));
           columns = all-padTo (λ c. c ≤ 4) 4 0 (map suc (s .order)) zero-le (all-map (λ c. c ≤ 4) suc (s .order) .1 below);
           low-rank = le-trans (rank-most a) (bounds .few);
+          few-times = times-few side (span z) s (output-valid a .row-shapes) (le-trans (rank-most a) (bounds .few)) (report side (span z) s);
         }
       where
         a : Accepted side z (rowsOf (equations z) rowStore) (relationsOf count relationStore) s
@@ -224,7 +228,7 @@ module _ (side : Side) (z : Sizes) (count : ℕ) (rowStore relationStore : List 
 
   module _ (resultStore : List ℤ) where
     -- The length of the result store is checked with the other lengths, after the sizes (SCOPE 3.53).
-    pub run-short : length resultStore < resultNeed
+    pub run-short : length resultStore < runNeed
         → kept (checkStores z count [] []) rowStore relationStore resultStore
         ≡ exportRun side z count rowStore relationStore resultStore
     unfolding exportRun checkRun afterRunCheck
@@ -234,7 +238,7 @@ module _ (side : Side) (z : Sizes) (count : ℕ) (rowStore relationStore : List 
         (sym
         (ap (λ b. cond (sizesRight z && countRight count)
         (cond (lengthsRight (equations z) rowStore relationStore && b) (cond (numbersRight z count rowStore relationStore) 0 5) 1) 2)
-        (lt-leb resultNeed (length resultStore) h)
+        (lt-leb runNeed (length resultStore) h)
         ∙ short-check (sizesRight z && countRight count) (lengthsRight (equations z) rowStore relationStore)
         (numbersRight z count rowStore relationStore)))
       where
@@ -243,17 +247,17 @@ module _ (side : Side) (z : Sizes) (count : ℕ) (rowStore relationStore : List 
         refused-short true = refl
         refused-short false = refl
 
-    long-checked : resultNeed ≤ length resultStore
+    long-checked : runNeed ≤ length resultStore
         → checkRun z count rowStore relationStore resultStore ≡ checkStores z count rowStore relationStore
     unfolding checkRun checkStores
     long-checked h =
         ap (λ b. cond (sizesRight z && countRight count)
         (cond (lengthsRight (equations z) rowStore relationStore && b) (cond (numbersRight z count rowStore relationStore) 0 5) 1) 2)
-        (le-leb resultNeed (length resultStore) h)
+        (le-leb runNeed (length resultStore) h)
         ∙ long-check (sizesRight z && countRight count) (lengthsRight (equations z) rowStore relationStore)
         (numbersRight z count rowStore relationStore)
 
-    run-long : resultNeed ≤ length resultStore
+    run-long : runNeed ≤ length resultStore
         → runAfter (callRun side z count rowStore relationStore) resultStore ≡ exportRun side z count rowStore relationStore resultStore
     unfolding exportRun afterRunCheck
     run-long h =
@@ -282,7 +286,7 @@ module _ (side : Side) (z : Sizes) (count : ℕ) (rowStore relationStore : List 
 
     -- The call, from the run that was made and the result store that was left.
     pub run-done : {x : Call} {after : List ℤ} → x ≡ callRun side z count rowStore relationStore
-        → after ≡ keptOr (x .result .refusal) (runNumbers (x .result)) resultStore → resultNeed ≤ length resultStore
+        → after ≡ keptOr (x .result .refusal) (runNumbers (x .result)) resultStore → runNeed ≤ length resultStore
         → record { refusal = x .result .refusal; rowStore = x .rowStore; relationStore = x .relationStore; resultStore = after }
         ≡ exportRun side z count rowStore relationStore resultStore
     unfolding runAfter

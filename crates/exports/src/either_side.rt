@@ -9,7 +9,7 @@ ghost use Rattle.sides.specs.Lent.{sideOf};
 ghost use Rattle.runs.specs.CallLaws.{resultOf, callOf};
 ghost use Rattle.exports.specs.Runs.{runNumbers, SmallResult, keptOr, exportRun};
 
-fn run_numbers(answer: elimination::RunResult) -> [i64; 9]
+fn run_numbers(answer: elimination::RunResult) -> [i64; 10]
     requires { ⌜ SmallResult (resultOf answer) ⌝ }
     ensures { λ r. ⌜ r ≡ runNumbers (resultOf answer) ⌝ }
 {
@@ -24,18 +24,20 @@ fn run_numbers(answer: elimination::RunResult) -> [i64; 9]
         answer.has_root as i64,
         answer.root,
         answer.rank as i64,
+        answer.multiplicity as i64,
     ]
 }
 
 // The result store after a run: unchanged where the refusal was found before the work began (SCOPE 3.54).
 fn put_run(result: &mut [i64], answer: elimination::RunResult)
-    requires { ⌜ (9 ≤ length (now result)) × SmallResult (resultOf answer) ⌝ }
+    requires { ⌜ (10 ≤ length (now result)) × SmallResult (resultOf answer) ⌝ }
     ensures { λ _. ⌜ now (result .exit) ≡ keptOr (answer .refusal) (runNumbers (resultOf answer)) (now (result .entry)) ⌝ }
 {
     if stores::validity::counted(answer.refusal as usize, 5) {
         return;
     }
-    crate::numbers::put(result, run_numbers(answer));
+    let numbers = run_numbers(answer);
+    crate::numbers::put(result, &numbers[..]);
 }
 
 fn run(
@@ -68,7 +70,7 @@ pub(crate) fn exported(
         record { refusal = r; rowStore = now (rows .exit); relationStore = now (relations .exit); resultStore = now (result .exit) }
         ≡ exportRun (sideOf side) (sizesOf sizes) count (now (rows .entry)) (now (relations .entry)) (now (result .entry)) ⌝ }
 {
-    if result.len() < 9 {
+    if result.len() < 10 {
         return stores::validity::check_stores(&rows[..0], &relations[..0], sizes, count);
     }
     let answer = run(rows, relations, sizes, count, side);

@@ -15,8 +15,8 @@ mod numbers;
 mod reads;
 mod writes;
 
-// A run on the leading side. `result` gets nine numbers: the relation count, the shifts, c(1) to c(4), 1 or 0 for a
-// root, the root, the rank (SCOPE 3.52).
+// A run on the leading side. `result` gets ten numbers: the relation count, the shifts, c(1) to c(4), 1 or 0 for a
+// root, the root, the rank, how often the root occurs (SCOPE 3.52).
 #[no_mangle]
 pub extern "C" fn wurgalm_run_leading(
     rows: &mut [i64],
@@ -89,7 +89,8 @@ pub extern "C" fn wurgalm_read_sheet(
     if sheet.refusal != 0 {
         return sheet.refusal;
     }
-    numbers::put(result, reads::read_numbers(sheet));
+    let numbers = reads::read_numbers(sheet);
+    numbers::put(result, &numbers[..]);
     0
 }
 
@@ -161,7 +162,8 @@ pub extern "C" fn wurgalm_read_differential(
     if sheet.refusal != 0 {
         return sheet.refusal;
     }
-    numbers::put(result, reads::read_numbers(sheet));
+    let numbers = reads::read_numbers(sheet);
+    numbers::put(result, &numbers[..]);
     0
 }
 

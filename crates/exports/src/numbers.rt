@@ -1,16 +1,12 @@
-// Nine numbers at the start of a lent store.
+// Numbers at the start of a lent store.
 ghost use mathlib.Core.Path.{_≡_};
 ghost use Prim.Native.Nat.{_≤_};
 ghost use lib.ListN.{length};
 ghost use Rattle.lists.specs.Overwritten.{overwrite};
 
-pub(crate) fn put(result: &mut [i64], numbers: [i64; 9])
-    requires { ⌜ 9 ≤ length (now result) ⌝ }
-    ensures { λ _. ⌜ now (result .exit) ≡ overwrite numbers (now (result .entry)) ⌝ }
+pub(crate) fn put(result: &mut [i64], numbers: &[i64])
+    requires { ⌜ length (now numbers) ≤ length (now result) ⌝ }
+    ensures { λ _. ⌜ now (result .exit) ≡ overwrite (now (numbers .entry)) (now (result .entry)) ⌝ }
 {
-    let mut i = 0;
-    while i < 9 {
-        result[i] = numbers[i];
-        i += 1;
-    }
+    stores::rows::save(result, 0, numbers);
 }

@@ -1,7 +1,7 @@
 // Prints what the library gives on systems of known result (SCOPE 7). Standard input has the cases: for each a line
 // `leading BYTES` or `trailing BYTES` and a sheet of that many bytes. Each is read, run on that side, and answered by a
-// line `leading REFUSAL relations R shifts S root N rank W` or `trailing REFUSAL shifts S root N rank W`, N a number or
-// `none`, and, where the refusal is 0, by the sheet that the run leaves: W equations, and their column order.
+// line `leading REFUSAL relations R shifts S root N rank W mult M` or `trailing REFUSAL shifts S root N rank W mult M`, N a number
+// or `none` and M how often it occurs, and, where the refusal is 0, by the sheet that the run leaves: W equations, and their column order.
 use elimination::RunResult;
 use printing::print;
 use printing::print_signed;
@@ -99,6 +99,8 @@ fn print_result(r: RunResult, trailing: bool) {
     print_root(r);
     print(b" rank");
     print_size(r.rank as u64);
+    print(b" mult");
+    print_size(r.multiplicity as u64);
     print(b"\n");
 }
 
@@ -133,6 +135,7 @@ fn refused(refusal: u8) -> RunResult {
         has_root: false,
         root: 0,
         rank: 0,
+        multiplicity: 0,
     }
 }
 

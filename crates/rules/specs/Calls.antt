@@ -16,7 +16,7 @@ use lib.Signed.{leZ}
 use Rattle.lists.specs.Padded.{padTo}
 use Rattle.lists.specs.Overwritten.{overwrite}
 use Rattle.rules.specs.Limits.{coefficientCount, columnCount, rowLength, blockLength, entriesLength}
-use Rattle.rules.specs.Elimination.{Side, State, Outcome, going, done, refused, rank, wholeRun, report, neverNumber}
+use Rattle.rules.specs.Elimination.{Side, State, Outcome, going, done, refused, rank, wholeRun, report, reportedTimes, neverNumber}
 use Rattle.rules.specs.Stores.{Sizes, equations, span, rowsOf, relationsOf, rowNeed, relationNeed, rowStoreFor, relationStoreOf}
 use Rattle.rules.specs.Stores.{sizesRight, checkStores}
 
@@ -29,6 +29,7 @@ pub record Result : Type 0 where
   pub hasRoot : Bool
   pub root : ℤ
   pub rank : ℕ
+  pub multiplicity : ℕ
 
 pub record Call : Type 0 where
   pub result : Result
@@ -37,7 +38,7 @@ pub record Call : Type 0 where
 
 -- A refusal returns its number, and 0 in all other fields (SCOPE 6.31).
 unfoldable pub refusal : ℕ → Result
-refusal n = record { refusal = n; relations = 0; shifts = 0; order = replicate columnCount 0; hasRoot = false; root = pos 0; rank = 0 }
+refusal n = record { refusal = n; relations = 0; shifts = 0; order = replicate columnCount 0; hasRoot = false; root = pos 0; rank = 0; multiplicity = 0 }
 
 -- The value beside "no" is 0 (SCOPE 2.82).
 unfoldable pub rootFound : Option ℤ → Bool
@@ -54,7 +55,7 @@ unfolding padTo
 reportedOrder order = padTo columnCount 0 (map suc order)
 
 unfoldable pub acceptance : Side → ℕ → State → Result
-unfolding reportedOrder rootFound rootValue report rank
+unfolding reportedOrder rootFound rootValue report reportedTimes rank
 acceptance side D s =
     let root = report side D s in
     record {
@@ -66,6 +67,7 @@ acceptance side D s =
       hasRoot = rootFound root;
       root = rootValue root;
       rank = rank s;
+      multiplicity = reportedTimes side D s root;
     }
 
 unfoldable pub zeros : ℕ → List ℤ

@@ -10,6 +10,8 @@
 --   neverNumber        the number in the place of a run that does not end, which never comes
 --   leadingRun, trailingRun   the whole runs
 --   report side D s    the root report
+--   rootsWith p        the integer roots of a polynomial, each with how often it occurs
+--   occurrences side D s r   how often r occurs as a root of the diagonal polynomials, all together
 use Prim.Native.Nat.{ℕ, zero, suc, _+_, _*_}
 use mathlib.Core.Bool.{Bool, not, cond}
 use mathlib.Core.List.{List, [], _∷_, _++_, map, reverse, flatten, zipWith}
@@ -22,6 +24,8 @@ use Rattle.lists.specs.Places.{without}
 use Rattle.algebra.specs.Gcd.{content, divideBy}
 use Rattle.algebra.specs.Polynomials.{Polynomial, negate, lead}
 use Rattle.algebra.specs.Roots.{roots}
+use Rattle.algebra.specs.Multiplicity.{multiplicity}
+use Rattle.lists.specs.Totals.{total}
 use Rattle.rules.specs.Limits.{mostRelations}
 use Rattle.rules.specs.CommonRoots.{Entries, reduced}
 use Rattle.rules.specs.Rows.{Row, Relation, noRow, zeroRow, contradicts, width, leadingBlock, entry, firstNonzero, combine, primitive, lowDegrees}
@@ -294,3 +298,21 @@ furthest side (a ∷ l) = some (further side a (furthest side l))
 unfoldable pub report : Side → ℕ → State → Option ℤ
 unfolding furthest flatten diagonal roots
 report side D s = furthest side (flatten (map roots (diagonal side D s)))
+
+-- ---- multiplicities
+
+-- Ascending, each root once with its multiplicity (SCOPE 2.84).
+unfoldable pub rootsWith : Polynomial → List (ℤ × ℕ)
+unfolding roots multiplicity
+rootsWith p = map (λ r. (r, multiplicity p r)) (roots p)
+
+-- How often r occurs in the product of the diagonal polynomials, as the sum over them (SCOPE 2.83).
+unfoldable pub occurrences : Side → ℕ → State → ℤ → ℕ
+unfolding total diagonal multiplicity
+occurrences side D s r = total (map (λ p. multiplicity p r) (diagonal side D s))
+
+-- That of the reported root, and 0 with "no" (SCOPE 2.83).
+unfoldable pub reportedTimes : Side → ℕ → State → Option ℤ → ℕ
+unfolding occurrences
+reportedTimes side D s none = 0
+reportedTimes side D s (some r) = occurrences side D s r

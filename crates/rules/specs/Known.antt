@@ -17,7 +17,7 @@ use Rattle.rules.specs.Rows.{Row, Relation}
 use Rattle.lists.specs.Everywhere.{All}
 use Rattle.rules.specs.Stores.{Sizes, span}
 use Rattle.rules.specs.Sequences.{Sequence, valueOf}
-use Rattle.rules.specs.Elimination.{Side, leading, trailing, State, done, refused, wholeRun, report}
+use Rattle.rules.specs.Elimination.{Side, leading, trailing, State, done, refused, wholeRun, report, reportedTimes}
 use Rattle.rules.specs.Sheets.{Term, rowOfTerms}
 use Rattle.rules.specs.Batch.{batchOutput}
 use Rattle.rules.specs.Opened.{opened}
@@ -33,9 +33,9 @@ pub record Listed : Type 0 where
   pub index : ℤ
   pub equation : Equation
 
--- What the scope says of a system: rows, relations, order, shifts and root, or a refusal.
+-- What the scope says of a system: rows, relations, order, shifts, root and how often it occurs, or a refusal.
 pub data Expected : Type 0 where
-  accepts : List Equation → List Listed → List ℕ → ℕ → Option ℤ → Expected
+  accepts : List Equation → List Listed → List ℕ → ℕ → Option ℤ → ℕ → Expected
   refuses : ℕ → Expected
 
 pub record Entry : Type 0 where
@@ -54,10 +54,11 @@ abbrev pub relationsOfListed : ℤ → List Listed → List Relation
 relationsOfListed l es = map (λ e. record { index = e .index; row = rowOfTerms l (e .equation) }) es
 
 abbrev pub HoldsAs : Side → Sizes → List Equation → Expected → Type 0
-HoldsAs side z es (accepts rows relations order shifts root) =
+HoldsAs side z es (accepts rows relations order shifts root times) =
     let s : State = record
     { rows = rowsOfEquations (z .l) rows; relations = relationsOfListed (z .l) relations; order = map pred order; shifts = shifts } in
     (wholeRun side (span z) (rowsOfEquations (z .l) es) [] ≡ done s) × (report side (span z) s ≡ root)
+    × (reportedTimes side (span z) s root ≡ times)
 HoldsAs side z es (refuses n) = wholeRun side (span z) (rowsOfEquations (z .l) es) [] ≡ refused n
 
 abbrev pub Holds : Entry → Type 0
@@ -78,7 +79,7 @@ k1 =
           accepts
           (k1-first ∷ (term (pos 0) 2 (pos 0 ∷ negsuc 0 ∷ pos 1 ∷ []) ∷ term (negsuc 1) 2 (negsuc 1 ∷ []) ∷ []) ∷ [])
           []
-          (1 ∷ 2 ∷ []) 1 (some (pos 1));
+          (1 ∷ 2 ∷ []) 1 (some (pos 1)) 1;
     }
 
 -- K2: n x(n + 1) - y(n) and x(n + 1) - x(n) come out as the second sheet says, after one shift, with greatest root 0
@@ -100,7 +101,7 @@ k2 =
           ((term (pos 1) 1 (negsuc 0 ∷ negsuc 0 ∷ []) ∷ term (pos 1) 2 (pos 1 ∷ []) ∷ [])
           ∷ (term (pos 1) 2 (pos 0 ∷ pos 1 ∷ []) ∷ term (pos 0) 2 (negsuc 0 ∷ negsuc 0 ∷ []) ∷ []) ∷ [])
           (record { index = pos 0; equation = k2-second } ∷ record { index = negsuc 0; equation = k2-first } ∷ [])
-          (1 ∷ 2 ∷ []) 1 (some (pos 0));
+          (1 ∷ 2 ∷ []) 1 (some (pos 0)) 1;
     }
 
 -- K3: m = 1, (n - 3) x(n + 1) - x(n) stays as it is, with greatest root 3 (SCOPE 7.3).
@@ -113,13 +114,13 @@ k3 =
       side = leading;
       sizes = sizesOf 1 1 (pos 1) (pos 0);
       equations = k3-only ∷ [];
-      expected = accepts (k3-only ∷ []) [] (1 ∷ []) 0 (some (pos 3));
+      expected = accepts (k3-only ∷ []) [] (1 ∷ []) 0 (some (pos 3)) 1;
     }
 
 -- K4: m = 1, the zero row is dropped, and the rank is 0 (SCOPE 7.4).
 abbrev pub k4 : Entry
 k4 =
-    record { side = leading; sizes = sizesOf 1 1 (pos 0) (pos 0); equations = [] ∷ []; expected = accepts [] [] [] 0 none }
+    record { side = leading; sizes = sizesOf 1 1 (pos 0) (pos 0); equations = [] ∷ []; expected = accepts [] [] [] 0 none 0 }
 
 -- K5: of x(n + 1) + y(n), two times, one is kept, and the rank is 1 (SCOPE 7.5).
 abbrev k5-twice : Equation
@@ -127,7 +128,7 @@ k5-twice = term (pos 1) 1 (pos 1 ∷ []) ∷ term (pos 0) 2 (pos 1 ∷ []) ∷ [
 
 abbrev pub k5 : Entry
 k5 =
-    record { side = leading; sizes = sizesOf 2 2 (pos 1) (pos 0); equations = k5-twice ∷ k5-twice ∷ []; expected = accepts (k5-twice ∷ []) [] (1 ∷ []) 0 none }
+    record { side = leading; sizes = sizesOf 2 2 (pos 1) (pos 0); equations = k5-twice ∷ k5-twice ∷ []; expected = accepts (k5-twice ∷ []) [] (1 ∷ []) 0 none 0 }
 
 -- K6: m = 1, l = 4, t = 0: x(n) alone comes out as x(n + 4) after four shifts (SCOPE 7.6).
 abbrev pub k6 : Entry
@@ -136,7 +137,7 @@ k6 =
       side = leading;
       sizes = sizesOf 1 1 (pos 4) (pos 0);
       equations = (term (pos 0) 1 (pos 1 ∷ []) ∷ []) ∷ [];
-      expected = accepts ((term (pos 4) 1 (pos 1 ∷ []) ∷ []) ∷ []) [] (1 ∷ []) 4 none;
+      expected = accepts ((term (pos 4) 1 (pos 1 ∷ []) ∷ []) ∷ []) [] (1 ∷ []) 4 none 0;
     }
 
 -- K7: D = 0, n^14 x + y and n x + n y are accepted; the second row is n^14 y - y, and the relation at 0 stays (SCOPE 7.7).
@@ -159,7 +160,7 @@ k7 =
           accepts
           (k7-first 14 ∷ (term (pos 0) 2 (negsuc 0 ∷ power 13) ∷ []) ∷ [])
           (record { index = pos 0; equation = k7-second } ∷ [])
-          (1 ∷ 2 ∷ []) 0 (some (pos 1));
+          (1 ∷ 2 ∷ []) 0 (some (pos 1)) 1;
     }
 
 -- K8: with n^15 for n^14 the second row is n^15 y - y (SCOPE 7.8).
@@ -173,7 +174,7 @@ k8 =
           accepts
           (k7-first 15 ∷ (term (pos 0) 2 (negsuc 0 ∷ power 14) ∷ []) ∷ [])
           (record { index = pos 0; equation = k7-second } ∷ [])
-          (1 ∷ 2 ∷ []) 0 (some (pos 1));
+          (1 ∷ 2 ∷ []) 0 (some (pos 1)) 1;
     }
 
 -- K9: D = 0, 10,000 x + y and x + (20,000 n + 1) y are accepted (SCOPE 7.9).
@@ -189,7 +190,7 @@ k9 =
       side = leading;
       sizes = sizesOf 2 2 (pos 0) (pos 0);
       equations = k9-first 10000 ∷ k9-second (pos 1 ∷ pos 20000 ∷ []) ∷ [];
-      expected = accepts (k9-first 10000 ∷ (term (pos 0) 2 (pos 9999 ∷ pos 200000000 ∷ []) ∷ []) ∷ []) [] (1 ∷ 2 ∷ []) 0 none;
+      expected = accepts (k9-first 10000 ∷ (term (pos 0) 2 (pos 9999 ∷ pos 200000000 ∷ []) ∷ []) ∷ []) [] (1 ∷ 2 ∷ []) 0 none 0;
     }
 
 -- K10: with 20,000 x for 10,000 x the system is refused with 8; 20,000 x + y and x + 20,000 y are accepted, and y is
@@ -209,7 +210,7 @@ k10-divided =
       side = leading;
       sizes = sizesOf 2 2 (pos 0) (pos 0);
       equations = k9-first 20000 ∷ k9-second (pos 20000 ∷ []) ∷ [];
-      expected = accepts (k9-first 20000 ∷ (term (pos 0) 2 (pos 1 ∷ []) ∷ []) ∷ []) [] (1 ∷ 2 ∷ []) 0 none;
+      expected = accepts (k9-first 20000 ∷ (term (pos 0) 2 (pos 1 ∷ []) ∷ []) ∷ []) [] (1 ∷ 2 ∷ []) 0 none 0;
     }
 
 -- K11: on the trailing side, with l = 1 and t = 0, n x(n + 1) comes out as (n - 1) x(n) after one shift, with least
@@ -220,7 +221,7 @@ k11 =
       side = trailing;
       sizes = sizesOf 1 1 (pos 1) (pos 0);
       equations = (term (pos 1) 1 (pos 0 ∷ pos 1 ∷ []) ∷ []) ∷ [];
-      expected = accepts ((term (pos 0) 1 (negsuc 0 ∷ pos 1 ∷ []) ∷ []) ∷ []) [] (1 ∷ []) 1 (some (pos 1));
+      expected = accepts ((term (pos 0) 1 (negsuc 0 ∷ pos 1 ∷ []) ∷ []) ∷ []) [] (1 ∷ []) 1 (some (pos 1)) 1;
     }
 
 abbrev pub table : List Entry
@@ -228,39 +229,39 @@ table = k1 ∷ k2 ∷ k3 ∷ k4 ∷ k5 ∷ k6 ∷ k7 ∷ k8 ∷ k9 ∷ k10 ∷ k
 
 k1-holds : Holds k1
 unfolding opened
-k1-holds = (refl, refl)
+k1-holds = (refl, refl, refl)
 
 k2-holds : Holds k2
 unfolding opened
-k2-holds = (refl, refl)
+k2-holds = (refl, refl, refl)
 
 k3-holds : Holds k3
 unfolding opened
-k3-holds = (refl, refl)
+k3-holds = (refl, refl, refl)
 
 k4-holds : Holds k4
 unfolding opened
-k4-holds = (refl, refl)
+k4-holds = (refl, refl, refl)
 
 k5-holds : Holds k5
 unfolding opened
-k5-holds = (refl, refl)
+k5-holds = (refl, refl, refl)
 
 k6-holds : Holds k6
 unfolding opened
-k6-holds = (refl, refl)
+k6-holds = (refl, refl, refl)
 
 k7-holds : Holds k7
 unfolding opened
-k7-holds = (refl, refl)
+k7-holds = (refl, refl, refl)
 
 k8-holds : Holds k8
 unfolding opened
-k8-holds = (refl, refl)
+k8-holds = (refl, refl, refl)
 
 k9-holds : Holds k9
 unfolding opened
-k9-holds = (refl, refl)
+k9-holds = (refl, refl, refl)
 
 k10-holds : Holds k10
 unfolding opened
@@ -268,11 +269,11 @@ k10-holds = refl
 
 k10-divided-holds : Holds k10-divided
 unfolding opened
-k10-divided-holds = (refl, refl)
+k10-divided-holds = (refl, refl, refl)
 
 k11-holds : Holds k11
 unfolding opened
-k11-holds = (refl, refl)
+k11-holds = (refl, refl, refl)
 
 -- K2 as a batch: the lines `1` and `1 54` and the first sheet; what is printed is `0`, the second sheet, `1 0` for client 1
 -- and `0 0` for each of the others (SCOPE 5.12, 7.2).

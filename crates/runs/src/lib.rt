@@ -14,13 +14,16 @@ ghost use Rattle.rules.specs.Calls as Calls;
 ghost use Rattle.working_rows.specs.Found.{Columns};
 ghost use Rattle.stores.specs.Validity.{sizesOf};
 ghost use Rattle.sides.specs.Lent.{sideOf, Within, Listing};
+ghost use Rattle.sides.specs.ReportLaws.{settledState};
+ghost use Rattle.roots.specs.RootSearch.{answered};
 ghost use Rattle.reduction.specs.Progress.{stateOf, outcomeAt};
 ghost use Rattle.reduction.specs.Ran.{Ran};
-ghost use Rattle.runs.specs.CallLaws.{resultOf, callOf, resultAfter, Final};
+ghost use Rattle.runs.specs.CallLaws.{resultOf, callOf, resultAfter, timesReported, Final};
 
 // The number of the refusal or 0, and for a run that accepts: how many relations the store holds, how many shifts were
 // made, the columns of the settled rows, counted from 1, with zeros past the last, whether there is a root, and
-// which, 0 where there is none, and the rank (SCOPE 2.82, 3.22, 3.23).
+// which, 0 where there is none, the rank, and how often the root occurs in the product of the diagonal polynomials, 0 where there is
+// none (SCOPE 2.82, 2.83, 3.22, 3.23).
 pub struct RunResult {
     pub refusal: u8,
     pub relations: usize,
@@ -29,6 +32,7 @@ pub struct RunResult {
     pub has_root: bool,
     pub root: i64,
     pub rank: usize,
+    pub multiplicity: usize,
 }
 
 // A refusal has its number, and 0 in all other fields (SCOPE 6.31).
@@ -43,6 +47,7 @@ fn refused(refusal: u8) -> RunResult
         has_root: false,
         root: 0,
         rank: 0,
+        multiplicity: 0,
     }
 }
 
@@ -60,6 +65,25 @@ fn counted(order: [usize; 4], settled: usize) -> [usize; 4]
     result
 }
 
+// How often the reported root occurs in the diagonal polynomials, 0 where there is none (SCOPE 2.83).
+fn reported_times(
+    rows: &[i64],
+    settled: usize,
+    order: [usize; 4],
+    side: Side,
+    span: usize,
+    answer: roots::RootAnswer,
+) -> usize
+    requires { ⌜ (settled ≤ columnCount) × (span ≤ 4) × Columns order × Within (rowNeed settled) (now rows) ⌝ }
+    requires { ⌜ answer ≡ answered (Elimination.report (sideOf side) span (settledState settled (now rows) order)) ⌝ }
+    ensures { λ r. ⌜ r ≡ timesReported (sideOf side) span (settledState settled (now (rows .entry)) order) ⌝ }
+{
+    if !answer.found {
+        return 0;
+    }
+    sides::report::occurrences(rows, settled, order, side, span, answer.root)
+}
+
 // The result of a run that accepts: the rows that are left are settled (SCOPE 2.81, 3.22).
 fn accepted(rows: &[i64], span: usize, side: Side, p: reduction::step::Progress) -> RunResult
     requires { ⌜ (span ≤ 4) × (p .settled ≤ columnCount) × Within (rowNeed (p .settled)) (now rows) × (p .rows ≡ p .settled) ⌝ }
@@ -70,6 +94,7 @@ fn accepted(rows: &[i64], span: usize, side: Side, p: reduction::step::Progress)
     let settled = p.settled;
     let order = p.order;
     let answer = sides::report::report(rows, settled, order, side, span);
+    let multiplicity = reported_times(rows, settled, order, side, span, answer);
     RunResult {
         refusal: 0,
         relations: p.count,
@@ -78,6 +103,7 @@ fn accepted(rows: &[i64], span: usize, side: Side, p: reduction::step::Progress)
         has_root: answer.found,
         root: answer.root,
         rank: settled,
+        multiplicity,
     }
 }
 

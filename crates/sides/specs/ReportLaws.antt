@@ -10,7 +10,10 @@
 --   option-of, answered-option   an answer for a root, as an option again
 --   report-settled         the report depends on the rows and on their columns alone
 --   report-none, report-next, report-all   the report over no rows, one row more, all rows
-use Prim.Native.Nat.{ℕ, _+_, _*_, _≤_, _<_, suc-le-suc}
+--   counted-none, counted-next, counted-all   the same for how often an integer occurs in the diagonal polynomials
+--   diagonals-small        the diagonal polynomials are within ±C as the store is
+--   occurrences-settled    which too depends on the rows and on their columns alone
+use Prim.Native.Nat.{ℕ, zero, suc, _+_, _*_, _-_, _≤_, _<_, zero-le, suc-le-suc}
 use native.Mathlib.Numerals.{add-one}
 use native.Mathlib.Omega.{arith}
 use mathlib.Core.Path.{_≡_, refl, sym, _∙_, ap, ap₂, subst}
@@ -23,11 +26,14 @@ use lib.IntN.{ℤ}
 use lib.ListN.{length, take, drop, getD}
 use lib.Seq.{take-suc, take-all, length-take-le, getD-take}
 use lib.Signed.{_≤ℤ_, leZ, leZ-yes}
-use Rattle.algebra.specs.Polynomials.{Polynomial}
+use Rattle.algebra.specs.Polynomials.{Polynomial, eval, isZeroℤ, quotient}
+use Rattle.algebra.specs.Multiplicity.{divisions, multiplicity}
+use Rattle.lists.specs.Totals.{total}
+use Rattle.lists.specs.Everywhere.{All, getD-all}
 use Rattle.lists.specs.Tests.{same-test, every}
 use Rattle.algebra.specs.Roots.{roots}
 use Rattle.algebra.specs.Order.{≤ℤ-trans, ≤ℤ-total}
-use Rattle.rules.specs.Elimination.{Side, leading, trailing, State, diagonal, diagonalPlace, further, furthest, report}
+use Rattle.rules.specs.Elimination.{Side, leading, trailing, State, diagonal, diagonalPlace, further, furthest, report, occurrences}
 use Rattle.rules.specs.Limits.{coefficientCount, columnCount, mostSpan, blockCount, blockLength, rowLength, small}
 use Rattle.rules.specs.Rows.{Row, noRow}
 use Rattle.rules.specs.Stores.{rowsOf, rowNeed}
@@ -136,11 +142,11 @@ option-of (some a) e = ap optionOf e
 pub answered-option : {r : RootAnswer} (o : Option ℤ) → r ≡ answered o → r ≡ answered (optionOf r)
 answered-option o e = e ∙ ap answered (sym (option-of o e))
 
-optionOf-found : (r : RootAnswer) → r .found ≡ true → optionOf r ≡ some (r .root)
+pub optionOf-found : (r : RootAnswer) → r .found ≡ true → optionOf r ≡ some (r .root)
 unfolding optionOf
 optionOf-found r e = ap (λ t. cond t (some (r .root)) none) e
 
-optionOf-missing : (r : RootAnswer) → r .found ≡ false → optionOf r ≡ none
+pub optionOf-missing : (r : RootAnswer) → r .found ≡ false → optionOf r ≡ none
 unfolding optionOf
 optionOf-missing r e = ap (λ t. cond t (some (r .root)) none) e
 
@@ -172,6 +178,29 @@ module _ (side : Side) (a b : RootAnswer) where
   first-further e f t h =
       h ∙ ap answered (optionOf-found a e ∙ ap (λ u. some (cond u (b .root) (a .root))) (sym t) ∙ further-found e f)
 
+-- ---- multiplicities
+
+-- One number more.
+total-more : {A : Type 0} (f : A → ℕ) (xs : List A) (x : A) → total (map f (xs ++ x ∷ [])) ≡ total (map f xs) + f x
+unfolding total
+total-more f [] x = let e : f x + 0 ≡ 0 + f x = omega arith in e
+total-more f (y ∷ xs) x =
+    let e : f y + total (map f (xs ++ x ∷ [])) ≡ f y + total (map f xs) + f x = omega (arith, total-more f xs x) in e
+
+divisions-most : (k : ℕ) (p : Polynomial) (r : ℤ) → divisions k p r ≤ k
+unfolding divisions
+divisions-most zero p r = zero-le
+divisions-most (suc k) p r = cases (isZeroℤ (eval p r)) (divisions-most k (quotient r p) r)
+  where
+    cases : (t : Bool) → divisions k (quotient r p) r ≤ k → cond t (suc (divisions k (quotient r p) r)) 0 ≤ suc k
+    cases true h = suc-le-suc h
+    cases false h = zero-le
+
+-- Nothing occurs more often than the polynomial has coefficients.
+pub multiplicity-most : (p : Polynomial) (r : ℤ) → multiplicity p r ≤ length p
+unfolding multiplicity
+multiplicity-most p r = divisions-most (length p) p r
+
 -- ---- the diagonal polynomials in the store
 
 abbrev pub settledState : ℕ → List ℤ → List ℕ → State
@@ -185,10 +214,25 @@ report-settled side D settled store order s e f =
     let entry : Row → ℕ → Polynomial = λ r c. getD (getD (r .blocks) (diagonalPlace side D) []) c [] in
     ap₂ (λ rows cs. furthest side (flatten (map roots (zipWith entry rows cs)))) e f
 
--- Where the sixteen numbers of diagonal polynomial j begin.
-unfoldable pub diagonalAt : Side → ℕ → List ℕ → ℕ → ℕ
+pub occurrences-settled : (side : Side) (D settled : ℕ) (store : List ℤ) (order : List ℕ) (s : State) (r : ℤ)
+    → s .rows ≡ rowsOf settled store → s .order ≡ take settled order → occurrences side D s r
+    ≡ occurrences side D (settledState settled store order) r
+unfolding occurrences diagonal
+occurrences-settled side D settled store order s r e f =
+    let entry : Row → ℕ → Polynomial = λ r c. getD (getD (r .blocks) (diagonalPlace side D) []) c [] in
+    ap₂ (λ rows cs. total (map (λ p. multiplicity p r) (zipWith entry rows cs))) e f
+
+-- Where the sixteen numbers of diagonal polynomial j begin, which stands in that column.
+unfoldable pub diagonalAt : Side → ℕ → ℕ → ℕ → ℕ
 unfolding diagonalPlace
-diagonalAt side D order j = j * rowLength + diagonalPlace side D * blockLength + getD order j 0 * coefficientCount
+diagonalAt side D j column = j * rowLength + diagonalPlace side D * blockLength + column * coefficientCount
+
+-- The sixteen numbers that are lent from there.
+pub part-lent : (store : List ℤ) (n at : ℕ) → n ≡ at
+    → take (n + coefficientCount - n) (drop n store) ≡ take coefficientCount (drop at store)
+part-lent store n at e =
+    let size : n + coefficientCount - n ≡ coefficientCount = omega arith in
+    ap (λ k. take k (drop n store)) size ∙ ap (λ k. take coefficientCount (drop k store)) e
 
 pub place-below : (side : Side) (D : ℕ) → D ≤ mostSpan → diagonalPlace side D < blockCount
 unfolding diagonalPlace
@@ -207,6 +251,15 @@ module _ (side : Side) (D settled : ℕ) (store : List ℤ) (order : List ℕ) w
   unfolding reported furthest flatten
   report-none = refl
 
+  -- How often r occurs in the first j diagonal polynomials, all together.
+  unfoldable pub counted : ℤ → ℕ → ℕ
+  unfolding total multiplicity
+  counted r j = total (map (λ p. multiplicity p r) (take j diagonals))
+
+  pub counted-none : (r : ℤ) → counted r 0 ≡ 0
+  unfolding counted
+  counted-none r = refl
+
 module _ (side : Side) (D settled : ℕ) (store : List ℤ) (order : List ℕ) (enough : settled ≤ length order) where
   abbrev ps : List Polynomial
   ps = diagonals side D settled store order
@@ -222,8 +275,13 @@ module _ (side : Side) (D settled : ℕ) (store : List ℤ) (order : List ℕ) (
   unfolding reported report
   report-all j h = ap (λ l. furthest side (flatten (map roots l))) (take-all j ps (rw length-diagonals h))
 
+  pub counted-all : (r : ℤ) (j : ℕ) → settled ≤ j
+      → counted side D settled store order r j ≡ occurrences side D (settledState settled store order) r
+  unfolding counted occurrences
+  counted-all r j h = ap (λ l. total (map (λ p. multiplicity p r) l)) (take-all j ps (rw length-diagonals h))
+
   module _ (few : D ≤ mostSpan) (columns : Columns order) (j : ℕ) (h : j < settled) where
-    diagonal-at : getD ps j [] ≡ take coefficientCount (drop (diagonalAt side D order j) store)
+    diagonal-at : getD ps j [] ≡ take coefficientCount (drop (diagonalAt side D j (getD order j 0)) store)
     unfolding diagonal diagonalAt
     diagonal-at =
         getD-zipWith _ (rowsOf settled store) (take settled order) j noRow 0 [] (rw length-rowsOf h)
@@ -233,7 +291,7 @@ module _ (side : Side) (D settled : ℕ) (store : List ℤ) (order : List ℕ) (
         ∙ polynomial-at settled store j (diagonalPlace side D) (getD order j 0) h (place-below side D few) (Columns-at order columns j)
 
     pub report-next : furtherOf side (reported side D settled store order j)
-        (furthest side (roots (take coefficientCount (drop (diagonalAt side D order j) store))))
+        (furthest side (roots (take coefficientCount (drop (diagonalAt side D j (getD order j 0)) store))))
         ≡ reported side D settled store order (j + 1)
     unfolding reported
     report-next =
@@ -242,12 +300,24 @@ module _ (side : Side) (D settled : ℕ) (store : List ℤ) (order : List ℕ) (
         ∙ ap (λ l. furthest side (flatten (map roots l))) (sym (take-suc ps j [] (rw length-diagonals h)))
         ∙ ap (reported side D settled store order) (sym (add-one j))
 
+    pub counted-next : (r : ℤ)
+        → counted side D settled store order r j
+        + multiplicity (take coefficientCount (drop (diagonalAt side D j (getD order j 0)) store)) r
+        ≡ counted side D settled store order r (j + 1)
+    unfolding counted
+    counted-next r =
+        ap (λ p. counted side D settled store order r j + multiplicity p r) (sym diagonal-at)
+        ∙ sym (total-more (λ p. multiplicity p r) (take j ps) (getD ps j []))
+        ∙ ap (λ l. total (map (λ p. multiplicity p r) l)) (sym (take-suc ps j [] (rw length-diagonals h)))
+        ∙ ap (counted side D settled store order r) (sym (add-one j))
+
     -- Its numbers.
-    pub diagonal-long : rowNeed settled ≤ length store → diagonalAt side D order j + coefficientCount ≤ length store
+    pub diagonal-long : rowNeed settled ≤ length store → diagonalAt side D j (getD order j 0) + coefficientCount ≤ length store
     unfolding diagonalAt rowNeed
     diagonal-long long = omega (arith, place-below side D few, Columns-at order columns j)
 
-    pub diagonal-small : Within (rowNeed settled) store → T (every small (take coefficientCount (drop (diagonalAt side D order j) store)))
+    pub diagonal-small : Within (rowNeed settled) store
+        → T (every small (take coefficientCount (drop (diagonalAt side D j (getD order j 0)) store)))
     unfolding diagonalAt rowNeed
     diagonal-small w =
         let b = diagonalPlace side D in
@@ -258,3 +328,9 @@ module _ (side : Side) (D settled : ℕ) (store : List ℤ) (order : List ℕ) (
         let inside : e < settled * partCount = omega (arith, place-below side D few, Columns-at order columns j) in
         subst (λ n. T (every small (take coefficientCount (drop n store)))) place
         (part-small coefficientCount (settled * partCount) e store inside (subst (λ n. Within n store) all w))
+
+  pub diagonals-small : D ≤ mostSpan → Columns order → Within (rowNeed settled) store → All (λ p. T (every small p)) ps
+  diagonals-small few columns w =
+      getD-all (λ p. T (every small p)) ps []
+      (λ j h. let below = subst (λ n. j < n) length-diagonals h in
+      subst (λ p. T (every small p)) (sym (diagonal-at few columns j below)) (diagonal-small few columns j below w))

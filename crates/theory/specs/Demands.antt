@@ -6,12 +6,12 @@
 --   begun side D rows relations        the state from which a run on that side takes its steps
 --   Ended o                            the outcomes of a run that has ended
 -- Main statements, by the numbers of their comments
---   1 same-sequences          4 rank-below, rows-independent,   7 report-no, report-root
+--   1 same-sequences          4 rank-below, rows-independent,   7 report-no, report-root, report-times, report-no-times
 --   2 diagonal-nonzero,         undropped-independent,          8 output-valid, relations-listed
 --     rank-most, rank-few       dropped-dependent,              9 next-row-later, zero-row-dropped
 --   3 agreement-leading,        zero-row-dependent              10 first-index, forward-from, backward-from
 --     agreement-trailing      5 refused-inconsistent
---                             6 run-ends, shifts-bounded        11 common-root-listed
+--                             6 run-ends, shifts-bounded        11 common-root-divided, common-root-listed
 use Prim.Native.Nat.{ℕ, suc, _*_, _≤_, _<_}
 use mathlib.Core.Path.{_≡_, refl, sym, _∙_, subst, ap}
 use mathlib.Core.Logic.{_↔_, _⊎_, inl, inr}
@@ -29,21 +29,22 @@ use Rattle.algebra.specs.Multiplicity.{multiplicity}
 use Rattle.rules.specs.Rows.{Row, Relation, zeroRow, width, mirrorRelation, mirrorRow}
 use Rattle.lists.specs.Everywhere.{All, all-mono}
 use Rattle.rules.specs.Elimination.{Side, leading, trailing, State, Outcome, going, done, refused, rank, start, enough, step, run}
-use Rattle.rules.specs.Elimination.{wholeRun, leadingRun, trailingRun, mirrorState, diagonal, report, rowAt, putRow, dropRow, limitDegrees}
-use Rattle.rules.specs.Elimination.{within}
+use Rattle.rules.specs.Elimination.{wholeRun, leadingRun, trailingRun, mirrorState, diagonal, report, reportedTimes, rowAt, putRow, dropRow}
+use Rattle.rules.specs.Elimination.{limitDegrees, within}
 use Rattle.rules.specs.Stores.{Sizes, equations, withEquations, span, rowRight, relationRight, unusedZero, Valid}
 use Rattle.rules.specs.Sequences.{Sequence, Satisfies, Same, Dependent}
 use Rattle.lists.specs.Tests.{every-all}
 use Rattle.theory.specs.Steps.{current, met, MetZeroBelow, combination, listed, Chain, Refusal, run-refused, step-refused}
 use Rattle.theory.specs.Steps.{next, dropped, length-dropRow, chain-length, zero-dropped, multipliersFor}
-use Rattle.theory.specs.Reduced.{LeftOut}
+use Rattle.theory.specs.Reduced.{LeftOut, DividedOften}
 use Rattle.theory.specs.Cells.{width-unused}
 use Rattle.theory.specs.Ending.{wholeRun-ends, wholeRun-shifts, mirrorOutcome-refused}
-use Rattle.theory.specs.Report.{Past, Rootless, FurthestRoot, report-none, report-some}
+use Rattle.theory.specs.Report.{Past, Rootless, FurthestRoot, report-none, report-some, product, report-product, report-occurs}
 use Rattle.theory.specs.Solutions.{run-solutions}
 use Rattle.theory.specs.FirstIndex.{SatisfiesFrom, from-same, chain-from, chain-from-back}
 use Rattle.theory.specs.ListedOrder.{Listed, leading-listed, trailing-listed}
-use Rattle.theory.specs.Triangular.{triangular-start, triangular-chain, combined-advances, entriesFor, multipliersFor-listed}
+use Rattle.theory.specs.Triangular.{triangular-start, triangular-chain, combined-advances, entriesFor, entriesFor-divided}
+use Rattle.theory.specs.Triangular.{multipliersFor-listed}
 use Rattle.theory.specs.Dependence.{settled-independent, chain-dropped, settled-dropped}
 use Rattle.theory.specs.LimitsKept.{rowRight-iff, relationRight-iff, ValidRows, valid-rows, counted-valid}
 use Rattle.theory.specs.Mirror.{span-sum, Reaches, Spans, valid-relations-span, mirrorRelations-twice}
@@ -201,6 +202,20 @@ module _ {side : Side} {z : Sizes} {rows : List Row} {relations : List Relation}
   pub report-root : {r : ℤ} → report side (span z) s ≡ some r → FurthestRoot side (diagonal side (span z) s) r
   report-root e = report-some side (span z) s (nonzero-of-diagonal side (rank s) (z .m) (span z) s diagonal-nonzero) e
 
+  -- Beside a reported root stands how often it occurs in the product of the diagonal polynomials, at least once, and beside "no" 0
+  -- (SCOPE 2.83).
+  pub report-times : {r : ℤ} → report side (span z) s ≡ some r
+      → (reportedTimes side (span z) s (report side (span z) s) ≡ multiplicity (product (diagonal side (span z) s)) r)
+      × (1 ≤ reportedTimes side (span z) s (report side (span z) s))
+  unfolding reportedTimes
+  report-times {r} e =
+      let nonzero = nonzero-of-diagonal side (rank s) (z .m) (span z) s diagonal-nonzero in
+      rw e (report-product side (span z) s nonzero r, report-occurs side (span z) s nonzero e)
+
+  pub report-no-times : report side (span z) s ≡ none → reportedTimes side (span z) s (report side (span z) s) ≡ 0
+  unfolding reportedTimes
+  report-no-times e = ap (reportedTimes side (span z) s) e
+
   -- 8. Every coefficient and every n0 of the output lies within ±C, every degree is at most 15, unused positions stay
   -- zero (SCOPE 9.27).
   pub output-valid : Valid (withEquations (rank s) z) (s .rows) (s .relations)
@@ -313,7 +328,15 @@ next-row-later {side} rows relations {s = s} c j below more clear meets =
 pub zero-row-dropped : (side : Side) (s : State) → T (zeroRow (rowAt s (current s))) → step side s ≡ going (dropRow s (current s))
 zero-row-dropped = zero-dropped
 
--- 11. A relation is listed at a common root r of both entries only where the limit has left a division by n - r out, or where r occurs
+-- 11. At an integer r the two entries, as they are after the exchange, are divided by n - r as often as the smaller of their
+-- multiplicities says, unless the limit has left a division out (SCOPE 2.85).
+pub common-root-divided : {side : Side} (rows : List Row) (relations : List Relation) {k : ℕ} {s : State}
+    → Chain side (start rows relations) k s → (j : ℕ) → j < current s → current s < length (s .rows) → MetZeroBelow s j
+    → T (not (isZero (met s j))) → (r : ℤ) → LeftOut r (entriesFor s j) ⊎ DividedOften r (entriesFor s j)
+common-root-divided rows relations {s = s} c j below more clear meets =
+    entriesFor-divided s j (triangular-chain c (triangular-start rows relations)) below more clear meets
+
+-- A relation is listed at a common root r of both entries only where the limit has left a division by n - r out, or where r occurs
 -- more often in row j's entry than in row i's, as both are after the exchange (SCOPE 2.29).
 pub common-root-listed : {side : Side} (rows : List Row) (relations : List Relation) {k : ℕ} {s : State}
     → Chain side (start rows relations) k s → (j : ℕ) → j < current s → current s < length (s .rows) → MetZeroBelow s j

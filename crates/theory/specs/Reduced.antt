@@ -3,6 +3,7 @@
 -- Main definitions
 --   Divides d e        d is e times one nonzero polynomial
 --   Stage r e left, LeftOut r e   the limit of the coefficients has left out a division by n - r
+--   DividedOften r e   both are divided by n - r as often as r occurs in both
 --
 -- Main statements
 --   root-factor        a polynomial is n - r times its quotient exactly if it vanishes at r
@@ -10,10 +11,11 @@
 --   reduced-nonzero    the pivot's entry stays nonzero
 --   reduced-small, length-reduced   both stay within ±C and keep their lengths
 --   reduced-left       where both still vanish at r, the limit has left a division by n - r out
+--   reduced-times      or else both are divided by n - r as often as the smaller of the two multiplicities says
 --   reduced-listed     a relation at a common root is listed only there, or where the root occurs more often in the pivot's entry
-use Prim.Native.Nat.{ℕ, zero, suc, _≤_, _<_}
+use Prim.Native.Nat.{ℕ, zero, suc, min, _+_, _≤_, _<_}
 use mathlib.Core.Path.{_≡_, refl, sym, _∙_, ap, subst}
-use mathlib.Core.Logic.{_↔_, _⊎_, inl, inr, ⊎-elim}
+use mathlib.Core.Logic.{_↔_, _≢_, _⊎_, inl, inr, ⊎-elim}
 use mathlib.Core.Bool.{Bool, true, false, _&&_, not, cond}
 use mathlib.Core.List.{List, [], _∷_, List·Memᴰ, List·Memᴰ·not-nil, List·Memᴰ·cases-cons}
 use native.Mathlib.Nat.{not-suc-le-zero, le-refl}
@@ -125,10 +127,14 @@ pub reduced-divides : (e : Entries) → Divides e (reduced e)
 unfolding reduced
 reduced-divides e = divideEach-divides (length (e .pivot)) (commonRoots e) e
 
+-- A factor of a nonzero polynomial is nonzero.
+factor-nonzero : (p q f : Polynomial) → T (not (isZero p)) → ((x : ℤ) → eval p x ≡ eval f x *ℤ eval q x) → T (not (isZero q))
+factor-nonzero p q f n same =
+    not-T (isZero q) (λ z. T-not (isZero p) n (zero-everywhere p .1
+    (λ x. same x ∙ ap (λ y. eval f x *ℤ y) (eval-isZero q x z) ∙ *ℤ-zero (eval f x))))
+
 pub divides-nonzero : {d e : Entries} → Divides d e → T (not (isZero (d .pivot))) → T (not (isZero (e .pivot)))
-divides-nonzero {d} {e} f n =
-    not-T (isZero (e .pivot)) (λ z. T-not (isZero (d .pivot)) n (zero-everywhere (d .pivot) .1
-    (λ x. f .pivots x ∙ ap (λ y. eval (f .factor) x *ℤ y) (eval-isZero (e .pivot) x z) ∙ *ℤ-zero (eval (f .factor) x))))
+divides-nonzero {d} {e} f n = factor-nonzero (d .pivot) (e .pivot) (f .factor) n (f .pivots)
 
 pub reduced-nonzero : (e : Entries) → T (not (isZero (e .pivot))) → T (not (isZero (reduced e .pivot)))
 reduced-nonzero e n = divides-nonzero (reduced-divides e) n
@@ -245,25 +251,53 @@ reduced-left e r n v =
     (roots-complete (e .pivot) r n (zeros .0), isZeroℤ-iff (eval (e .target) r) .1 (zeros .1)) in
     left-among (length (e .pivot)) (commonRoots e) r e (place (commonRoots e) among) n (le-refl (length (e .pivot))) v
 
+-- At r both are divided by n - r as often as r occurs in both, the smaller of the two multiplicities, unless the limit has left a
+-- division out (SCOPE 2.85): with that number, what is left of each gives its multiplicity.
+abbrev pub DividedOften : ℤ → Entries → Type 0
+DividedOften r e =
+    let times = min (multiplicity (e .pivot) r) (multiplicity (e .target) r) in
+    (multiplicity (e .pivot) r ≡ times + multiplicity (reduced e .pivot) r)
+    × (multiplicity (e .target) r ≡ times + multiplicity (reduced e .target) r)
+
+pub reduced-times : (e : Entries) (r : ℤ) → T (not (isZero (e .pivot))) → T (not (isZero (e .target))) → LeftOut r e ⊎ DividedOften r e
+reduced-times e r n m = cases (ℤ-discrete (eval (reduced e .pivot) r) (pos 0)) (ℤ-discrete (eval (reduced e .target) r) (pos 0))
+  where
+    f : Divides e (reduced e)
+    f = reduced-divides e
+
+    shared : ℕ
+    shared = multiplicity (f .factor) r
+
+    -- How often r occurs in a product with the common factor.
+    both : (p q : Polynomial) → T (not (isZero p)) → ((x : ℤ) → eval p x ≡ eval (f .factor) x *ℤ eval q x)
+        → multiplicity p r ≡ shared + multiplicity q r
+    both p q h same =
+        occurs-unique (multiplicity-occurs p r h)
+        (occurs-same (λ x. same x ∙ sym (eval-mul (f .factor) q x))
+        (occurs-mul (multiplicity-occurs (f .factor) r (f .nonzero)) (multiplicity-occurs q r (factor-nonzero p q (f .factor) h same))))
+
+    pivots : multiplicity (e .pivot) r ≡ shared + multiplicity (reduced e .pivot) r
+    pivots = both (e .pivot) (reduced e .pivot) n (f .pivots)
+
+    targets : multiplicity (e .target) r ≡ shared + multiplicity (reduced e .target) r
+    targets = both (e .target) (reduced e .target) m (f .targets)
+
+    absent : (q : Polynomial) → T (not (isZero q)) → eval q r ≢ pos 0 → multiplicity q r ≡ 0
+    absent q h other = occurs-unique (multiplicity-occurs q r h) (occurs-none q r other)
+
+    cases : Dec (eval (reduced e .pivot) r ≡ pos 0) → Dec (eval (reduced e .target) r ≡ pos 0) → LeftOut r e ⊎ DividedOften r e
+    cases (yes root) (yes also) = inl (reduced-left e r n (vanish r (reduced e) .1 (root, also)))
+    cases (no other) _ =
+        let none = absent (reduced e .pivot) (reduced-nonzero e n) other in
+        inr (omega (arith, pivots, targets, none), omega (arith, pivots, targets, none))
+    cases (yes root) (no other) =
+        let none = absent (reduced e .target) (factor-nonzero (e .target) (reduced e .target) (f .factor) m (f .targets)) other in
+        inr (omega (arith, pivots, targets, none), omega (arith, pivots, targets, none))
+
 -- A relation is listed at a common root r of both entries only where the limit has left a division by n - r out, or where r
--- occurs more often in row j's entry than in row i's.
+-- occurs more often in row j's entry than in row i's (SCOPE 2.29).
 pub reduced-listed : (e : Entries) (r : ℤ) → T (not (isZero (e .pivot))) → T (not (isZero (e .target)))
     → eval (reduced e .pivot) r ≡ pos 0 → LeftOut r e ⊎ (multiplicity (e .target) r < multiplicity (e .pivot) r)
-reduced-listed e r n m root = cases (ℤ-discrete (eval (reduced e .target) r) (pos 0))
-  where
-    cases : Dec (eval (reduced e .target) r ≡ pos 0) → LeftOut r e ⊎ (multiplicity (e .target) r < multiplicity (e .pivot) r)
-    cases (yes also) = inl (reduced-left e r n (vanish r (reduced e) .1 (root, also)))
-    cases (no other) =
-        let f = reduced-divides e in
-        let left = reduced-nonzero e n in
-        let shared = multiplicity-occurs (f .factor) r (f .nonzero) in
-        let more = occurs-same (λ x. f .pivots x ∙ sym (eval-mul (f .factor) (reduced e .pivot) x))
-        (occurs-mul shared (multiplicity-occurs (reduced e .pivot) r left)) in
-        let same = occurs-same (λ x. f .targets x ∙ sym (eval-mul (f .factor) (reduced e .target) x))
-        (occurs-mul shared (occurs-none (reduced e .target) r other)) in
-        inr (omega (
-          arith,
-          occurs-unique (multiplicity-occurs (e .pivot) r n) more,
-          occurs-unique (multiplicity-occurs (e .target) r m) same,
-          multiplicity-root (reduced e .pivot) r left .0 root,
-        ))
+reduced-listed e r n m root =
+    ⊎-elim inl (λ d. inr (omega (arith, d .0, multiplicity-root (reduced e .pivot) r (reduced-nonzero e n) .0 root)))
+    (reduced-times e r n m)

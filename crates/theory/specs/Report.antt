@@ -6,13 +6,16 @@
 --   NonzeroDiagonal side D s   no diagonal polynomial is zero
 --   Rootless l, FurthestRoot side l r   no polynomial of l has an integer root; r is the furthest one among them all
 --   diagonalEntry side D s j   the diagonal polynomial of row j
+--   product l              the product of the polynomials of l
 --
 -- Main statements
 --   furthest-none, furthest-some   the furthest member of a list: none of an empty list, otherwise a member and no member further
 --   diagonal-member, diagonal-index   the members of the diagonal are its entries by row
 --   report-none, report-some   "no" exactly if no diagonal polynomial has an integer root; otherwise the furthest root of all
+--   report-product, report-occurs   how often a reported root occurs in the product of the diagonal polynomials, at least once
 --   past-report            past the report no diagonal polynomial is zero
-use Prim.Native.Nat.{ℕ, _<_}
+use Prim.Native.Nat.{ℕ, _+_, _≤_, _<_}
+use native.Mathlib.Omega.{arith}
 use mathlib.Core.Path.{_≡_, refl, sym, _∙_, ap, subst}
 use mathlib.Core.Logic.{_↔_, _≢_, _⊎_, inl, inr, ⊎-elim}
 use mathlib.Core.Bool.{Bool, true, false, not, cond}
@@ -21,15 +24,19 @@ use mathlib.Core.List.{List, [], _∷_, map, flatten, List·Memᴰ, List·Memᴰ
 use mathlib.Core.List.{List·Memᴰ·not-nil, Memᴰ·cast}
 use lib.Dec.{T, T-not}
 use lib.ListN.{length, getD}
-use lib.IntN.{ℤ, pos}
+use lib.IntN.{ℤ, pos, natAbs}
 use lib.Signed.{_≤ℤ_, _<ℤ_, leZ, leZ-yes, ≤ℤ-refl, clashℤ}
 use Rattle.algebra.specs.Order.{≤ℤ-trans, ¬≤ℤ→<ℤ, <ℤ-to-≤ℤ}
-use Rattle.algebra.specs.Polynomials.{Polynomial, eval, isZero}
+use Rattle.algebra.specs.Polynomials.{Polynomial, eval, isZero, mul}
+use Rattle.algebra.specs.Coefficients.{mul-nonzero}
+use Rattle.algebra.specs.Multiplicity.{power, power-zero, power-nonzero, multiplicity, multiplicity-occurs, multiplicity-root}
+use Rattle.algebra.specs.Multiplicity.{multiplicity-mul, occurs-none, occurs-unique}
 use Rattle.algebra.specs.Roots.{roots, roots-sound, roots-complete, place}
 use Rattle.rules.specs.Rows.{noRow}
-use Rattle.rules.specs.Elimination.{Side, leading, trailing, State, diagonalPlace, diagonal, further, furthest, report}
+use Rattle.rules.specs.Elimination.{Side, leading, trailing, State, diagonalPlace, diagonal, further, furthest, report, occurrences}
 use Rattle.lists.specs.Images.{zip-member, zip-index}
 use Rattle.lists.specs.Joined.{flat-member, flat-origin}
+use Rattle.lists.specs.Totals.{total}
 
 abbrev pub NoFurther : Side → ℤ → ℤ → Type 0
 NoFurther leading a r = a ≤ℤ r
@@ -152,6 +159,44 @@ pub nonzero-diagonal : (side : Side) (D : ℕ) (s : State)
     → ((j : ℕ) → j < length (s .rows) → j < length (s .order) → T (not (isZero (diagonalEntry side D s j)))) → NonzeroDiagonal side D s
 nonzero-diagonal side D s h p m = let (j, k, o, e) = diagonal-index side D s m in rw e (h j k o)
 
+-- ---- the product of the diagonal
+
+-- Of no polynomial the constant 1.
+unfoldable pub product : List Polynomial → Polynomial
+unfolding mul
+product [] = pos 1 ∷ []
+product (p ∷ l) = mul p (product l)
+
+abbrev AllNonzero : List Polynomial → Type 0
+AllNonzero l = (p : Polynomial) → List·Memᴰ p l → T (not (isZero p))
+
+pub product-nonzero : (l : List Polynomial) → AllNonzero l → T (not (isZero (product l)))
+unfolding product power
+product-nonzero [] h = power-nonzero (pos 0) 0
+product-nonzero (p ∷ l) h = mul-nonzero p (product l) (h p (List·Memᴰ·head refl)) (product-nonzero l (λ q m. h q (List·Memᴰ·tail m)))
+
+-- The multiplicities add up to that in the product.
+pub total-product : (l : List Polynomial) (r : ℤ) → AllNonzero l → total (map (λ p. multiplicity p r) l) ≡ multiplicity (product l) r
+unfolding product total power
+total-product [] r h =
+    occurs-unique (occurs-none (power r 0) r (λ e. one-nonzero (sym (power-zero r r) ∙ e)))
+    (multiplicity-occurs (power r 0) r (power-nonzero r 0))
+  where
+    one-nonzero : pos 1 ≡ pos 0 → ⊥
+    one-nonzero e = let z : _≡_ {A = ℕ} 1 0 = ap natAbs e in omega arith
+total-product (p ∷ l) r h =
+    let rest : AllNonzero l = λ q m. h q (List·Memᴰ·tail m) in
+    ap (λ n. multiplicity p r + n) (total-product l r rest)
+    ∙ sym (multiplicity-mul p (product l) r (h p (List·Memᴰ·head refl)) (product-nonzero l rest))
+
+-- No member's number is above the total.
+member-total : {A : Type 0} (f : A → ℕ) (l : List A) {x : A} → List·Memᴰ x l → f x ≤ total (map f l)
+unfolding total
+member-total f [] m = absurd (List·Memᴰ·not-nil m)
+member-total f (y ∷ l) {x} m =
+    ⊎-elim (λ e. let h : f x ≤ f y + total (map f l) = omega (arith, ap f e) in h)
+    (λ k. let h : f x ≤ f y + total (map f l) = omega (arith, member-total f l k) in h) (List·Memᴰ·cases-cons m)
+
 -- ---- the report
 
 -- The integer roots of the diagonal polynomials, all in one list.
@@ -201,6 +246,18 @@ module _ (side : Side) (D : ℕ) (s : State) (nonzero : NonzeroDiagonal side D s
     where
       far : List·Memᴰ r found × ((a : ℤ) → List·Memᴰ a found → NoFurther side a r)
       far = furthest-some side found (sym report-is ∙ e)
+
+  -- How often an integer occurs in the diagonal polynomials is how often it occurs in their product (SCOPE 2.83).
+  pub report-product : (r : ℤ) → occurrences side D s r ≡ multiplicity (product (diagonal side D s)) r
+  unfolding occurrences
+  report-product r = total-product (diagonal side D s) r nonzero
+
+  -- A reported root occurs at least once.
+  pub report-occurs : {r : ℤ} → report side D s ≡ some r → 0 < occurrences side D s r
+  unfolding occurrences
+  report-occurs {r} e =
+      let (p, m, root) = report-some e .attained in
+      omega (arith, multiplicity-root p r (nonzero p m) .0 root, member-total (λ q. multiplicity q r) (diagonal side D s) m)
 
   pub past-report : (n : ℤ) → Past side (report side D s) n → (p : Polynomial) → List·Memᴰ p (diagonal side D s) → eval p n ≢ pos 0
   past-report n past p m e = cases (report side D s) refl past

@@ -7,7 +7,7 @@ use crate::sheets::sheet;
 use crate::subject::Subject;
 use crate::systems::system;
 use outside::elimination::Side;
-use outside::stores::{row_store, store, Asked, COEFFICIENTS, ENTRIES, RELATION, RELATION_STORE, RESULT, ROW};
+use outside::stores::{row_store, store, Asked, COEFFICIENTS, ENTRIES, HEADING, RELATION, RELATION_STORE, RESULT, ROW};
 use outside::system::{Sizes, System};
 use outside::{C, EQUATIONS};
 
@@ -111,7 +111,7 @@ fn read_case(random: &mut Random) -> Case {
 /// Stores for what a reader finds: junk in them, and of every fourth call one that may be too short.
 fn stores_to_fill(random: &mut Random) -> Stores {
     let mut stores =
-        Stores { rows: vec![0; row_store(EQUATIONS)], relations: vec![0; RELATION_STORE], result: vec![0; RESULT] };
+        Stores { rows: vec![0; row_store(EQUATIONS)], relations: vec![0; RELATION_STORE], result: vec![0; HEADING] };
     for store in [&mut stores.rows, &mut stores.relations, &mut stores.result] {
         store.fill_with(|| random.junk());
     }
@@ -212,7 +212,16 @@ fn shorten(random: &mut Random, stores: &mut Stores) {
         _ => &mut stores.result,
     };
     let length = store.len();
-    store.truncate(random.pick(&[0, 1, length / 2, length.saturating_sub(1), RELATION_STORE - 1, ROW - 1, RESULT - 1]));
+    store.truncate(random.pick(&[
+        0,
+        1,
+        length / 2,
+        length.saturating_sub(1),
+        RELATION_STORE - 1,
+        ROW - 1,
+        RESULT - 1,
+        HEADING - 1,
+    ]));
 }
 
 /// Sizes, lengths and numbers made wrong, each with some chance.

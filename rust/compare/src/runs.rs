@@ -9,8 +9,10 @@ use outside::stores::Asked;
 use std::str;
 use wurgalm::{row_store, COEFFICIENTS, ENTRIES, EQUATIONS, RECURRENCE, RELATION, RELATION_STORE, ROW};
 
-/// Numbers of the result of a run or of the reader.
-const RESULT: usize = 9;
+/// Numbers of the result of a run.
+const RESULT: usize = 10;
+/// Numbers of the result of a reader.
+const HEADING: usize = 9;
 
 /// What a run of a sheet leaves.
 #[derive(Debug, PartialEq, Eq)]
@@ -19,6 +21,8 @@ pub struct Left {
     pub shifts: i64,
     pub root: Option<i64>,
     pub rank: i64,
+    /// How often the root occurs, where the file tells it.
+    pub multiplicity: Option<i64>,
     /// Empty on a refusal.
     pub sheet: Vec<u8>,
 }
@@ -41,8 +45,8 @@ pub struct Induced {
 
 // ---- the files ----
 
-/// The cases of a `run.txt`: a line `sheet BYTES` and so many bytes, a line `leading REFUSAL shifts S root R rank W` with the sheet
-/// that is left where the refusal is 0, and the same for the trailing side.
+/// The cases of a `run.txt`: a line `sheet BYTES` and so many bytes, a line `leading REFUSAL shifts S root R rank W mult M` with the
+/// sheet that is left where the refusal is 0, and the same for the trailing side. Files that are older have no ` mult M`.
 pub fn runs_of(mut file: &[u8]) -> Result<Vec<Runs>, String> {
     let mut cases = Vec::new();
     while !file.is_empty() {
@@ -98,14 +102,22 @@ fn left(file: &mut &[u8], side: &str) -> Result<Left, String> {
     let line = next_line(file)?;
     let words: Vec<&str> = line.split(' ').collect();
     let wrong = || format!("no {side} run at {line:?}");
-    let [name, refusal, "shifts", shifts, "root", root, "rank", rank] = words[..] else { return Err(wrong()) };
+    let [name, refusal, "shifts", shifts, "root", root, "rank", rank, ref times @ ..] = words[..] else {
+        return Err(wrong());
+    };
     let root = if root == "none" { None } else { Some(root.parse().map_err(|_| wrong())?) };
     let refusal = refusal.parse().map_err(|_| wrong())?;
-    let (shifts, rank) = (shifts.parse().map_err(|_| wrong())?, rank.parse().map_err(|_| wrong())?);
+    let number = |word: &str| word.parse::<i64>().map_err(|_| wrong());
+    let multiplicity = match times {
+        [] => None,
+        ["mult", times] => Some(number(times)?),
+        _ => return Err(wrong()),
+    };
+    let (shifts, rank) = (number(shifts)?, number(rank)?);
     if name != side {
         return Err(wrong());
     }
-    Ok(Left { refusal, shifts, root, rank, sheet: sheet_lines(file)? })
+    Ok(Left { refusal, shifts, root, rank, multiplicity, sheet: sheet_lines(file)? })
 }
 
 // ---- a sheet as numbers of stores ----
@@ -326,7 +338,7 @@ impl Judge {
 
     /// The reader refuses the sheet, and leaves all stores as they are.
     fn unread(&mut self, reader: Reader, sheet: &[u8], number: u8, subject: &dyn Subject) -> Judgement {
-        let before = (unsaid::<i64>(row_store(EQUATIONS)), unsaid::<i64>(RELATION_STORE), unsaid::<i64>(RESULT));
+        let before = (unsaid::<i64>(row_store(EQUATIONS)), unsaid::<i64>(RELATION_STORE), unsaid::<i64>(HEADING));
         let mut after = before.clone();
         self.calls += 1;
         numbered("reading", reader(subject, sheet, &mut after.0, &mut after.1, &mut after.2), number)?;
@@ -340,7 +352,7 @@ impl Judge {
         let Asked { m, equations, l, t, count } = input.asked;
         let [a, b, c, d] = input.order;
         let heading = [m as i64, l, t, count as i64, a, b, c, d, equations as i64];
-        let needs = [row_store(equations), RELATION_STORE, RESULT];
+        let needs = [row_store(equations), RELATION_STORE, HEADING];
         for more in LENGTHS {
             let before: [Vec<i64>; 3] = needs.map(unsaid);
             let before = [0, 1, 2].map(|k| lent(&before[k], more[k]));
@@ -382,7 +394,8 @@ impl Judge {
             let mut output = held(&left.sheet);
             let [a, b, c, d] = output.order;
             let root = [left.root.is_some() as i64, left.root.unwrap_or(0)];
-            let result = [output.asked.count as i64, left.shifts, a, b, c, d, root[0], root[1], left.rank];
+            let (count, times) = (output.asked.count as i64, left.multiplicity.unwrap_or(0));
+            let result = [count, left.shifts, a, b, c, d, root[0], root[1], left.rank, times];
             self.written(&left.sheet, &output, subject)?;
             // The places of rows that were dropped are zero.
             output.rows.resize(input.rows.len(), 0);
@@ -397,7 +410,11 @@ impl Judge {
             let [mut rows, mut relations, mut result] = before.clone();
             let found = subject.run(side, &mut rows, &mut relations, input.asked, &mut result);
             let short = is_short(&needs, &more);
-            let expected = if short { before } else { [0, 1, 2].map(|k| lent(&after[k], more[k])) };
+            let mut expected = if short { before } else { [0, 1, 2].map(|k| lent(&after[k], more[k])) };
+            // Of a root whose count the file does not tell it is known that it occurs.
+            if !short && left.root.is_some() && left.multiplicity.is_none() && result[RESULT - 1] > 0 {
+                expected[2][RESULT - 1] = result[RESULT - 1];
+            }
             self.calls += 1;
             numbered(&format!("{side:?} run"), found, if short { 1 } else { left.refusal })?;
             same(&format!("{side:?} row store"), &rows, &expected[0])?;
@@ -442,10 +459,11 @@ mod tests {
     fn lines(sheet: &[u8], side: Side) -> Vec<u8> {
         let name = if side == Side::Leading { "leading" } else { "trailing" };
         match read(sheet, None).and_then(|sheet| run(&sheet.system, side, None)) {
-            Err(refusal) => format!("{name} {} shifts 0 root none rank 0\n", refusal.number()).into_bytes(),
+            Err(refusal) => format!("{name} {} shifts 0 root none rank 0 mult 0\n", refusal.number()).into_bytes(),
             Ok(run) => {
                 let root = run.root.map_or("none".into(), |root| root.to_string());
-                let line = format!("{name} 0 shifts {} root {root} rank {}\n", run.shifts, run.rank());
+                let (shifts, rank, times) = (run.shifts, run.rank(), run.multiplicity);
+                let line = format!("{name} 0 shifts {shifts} root {root} rank {rank} mult {times}\n");
                 [line.into_bytes(), write(&Sheet { system: run.system, order: run.order })].concat()
             }
         }
@@ -489,6 +507,7 @@ mod tests {
             [LaterRowsStay, LastRowMovesUp, ZeroRowInconsistent, FreedKept, RankOfEquations, RankOneMore],
             [RowOfEachUnknown, EquationsAsUnknowns, OrderAllOrNone, OrderWhole, NoSidesRange, NoSidesForm],
             [CommonKept, CommonListed, CommonOnce, CommonUnlimited, CommonDescending, OneQuotientTaken],
+            [TimesOnce, TimesOnceEach, TimesOneDiagonal, TimesBesideNo, RunResultNine, ReadResultTen],
             [StoresKept, ZeroedPastNeed, ZeroSides, SideOfEquations, SmallestRootReported, TrailingDescending],
         ];
         for fault in faults.concat() {
@@ -545,11 +564,26 @@ mod tests {
         }
     }
 
+    /// A file that does not tell how often a root occurs: all else is judged, and that it does occur.
+    #[test]
+    fn without_multiplicities() {
+        let sheet = b"3 1 0 0\n1\n1 0 1 3 4 -4 1\n0\n0\n".to_vec();
+        let told = String::from_utf8(file(std::slice::from_ref(&sheet))).unwrap();
+        assert_eq!(told.matches(" root 2 rank 1 mult 2\n").count(), 2);
+        let older = told.replace(" mult 2", "");
+        for (told, once) in [(told, true), (older, false)] {
+            let case = &runs_of(told.as_bytes()).unwrap()[0];
+            Judge::default().runs(case, &Outside(None)).unwrap();
+            assert_eq!(Judge::default().runs(case, &Outside(Some(Fault::TimesOnce))).is_err(), once);
+            assert!(Judge::default().runs(case, &Outside(Some(Fault::RankOneMore))).is_err());
+        }
+    }
+
     #[test]
     fn broken_files() {
-        for file in
-            ["sheet", "sheet 9\n", "sheet 1\n3leading 4", "sheet 0\nleading 4 shifts 0 root none rank 0\n", "x 1\n3"]
-        {
+        let one_side = "sheet 0\nleading 4 shifts 0 root none rank 0 mult 0\n";
+        let no_times = "sheet 0\nleading 4 shifts 0 root none rank 0 mult\ntrailing 4 shifts 0 root none rank 0 mult\n";
+        for file in ["sheet", "sheet 9\n", "sheet 1\n3leading 4", one_side, no_times, "x 1\n3"] {
             assert!(runs_of(file.as_bytes()).is_err(), "{file:?}");
         }
     }

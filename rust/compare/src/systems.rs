@@ -21,7 +21,7 @@ const SMALL: Shape = Shape { degree: 2, size: 4, density: 50 };
 
 /// A system of some kind, within all limits of an input.
 pub fn system(random: &mut Random) -> System {
-    let mut system = match random.below(15) {
+    let mut system = match random.below(16) {
         0 => plain(random, SMALL),
         1 => plain(random, Shape { degree: 3, size: 6, density: 80 }),
         2 => plain(random, Shape { degree: 1, size: 2, density: 30 }),
@@ -34,6 +34,7 @@ pub fn system(random: &mut Random) -> System {
         10 => near_limit(random),
         11 => one_unknown(random),
         12 => shared_roots(random),
+        13 => multiple_roots(random),
         _ => limited_roots(random),
     };
     let with_sides = random.one_in(3);
@@ -450,6 +451,33 @@ pub fn shared_roots(random: &mut Random) -> System {
     system_of(random, sizes, rows)
 }
 
+/// Leading and trailing blocks that are triangular, or nearly so, with roots that several diagonal polynomials have, once or more often:
+/// 0, 1, -1, small ones, and ones so large that they can occur twice, three times or once only.
+pub fn multiple_roots(random: &mut Random) -> System {
+    let sizes = sizes(random);
+    let order = random.permutation(sizes.m);
+    let small = random.between(-9, 9);
+    let far = random.pick(&[645, 16_383, C]) * random.pick(&[1, -1]);
+    let mut roots = vec![random.pick(&[0, 0, 1, 1, -1, -1, small, small, far])];
+    if random.one_in(3) {
+        roots.push(random.between(-3, 3));
+    }
+    let mut rows = Vec::new();
+    for j in 0..sizes.m {
+        let mut row = row(random, sizes.m, sizes.l, sizes.t, Shape { degree: 0, size: 2, density: 30 });
+        for block in [sizes.l, sizes.t] {
+            order[..j].iter().for_each(|&column| row.set(block, column, Polynomial::default()));
+            row.set(block, order[j], with_roots(random, &roots));
+        }
+        rows.push(row);
+    }
+    let mut system = system_of(random, sizes, rows);
+    for _ in 0..random.pick(&[0, 0, 1, 3]) {
+        row_operation(random, &mut system);
+    }
+    system
+}
+
 /// A small polynomial times n - r for each root, once, several times or not at all.
 fn with_roots(random: &mut Random, roots: &[i128]) -> Polynomial {
     let mut p = polynomial(random, Shape { degree: 1, size: 3, density: 100 });
@@ -529,6 +557,18 @@ mod tests {
             }
         }
         counts
+    }
+
+    /// On either side.
+    #[test]
+    fn counted_roots() {
+        let faults = [Fault::TimesOnce, Fault::TimesOnceEach, Fault::TimesOneDiagonal, Fault::TimesMost];
+        for fault in faults.into_iter().chain([Fault::TimesLastRow, Fault::TimesOfAllRoots]) {
+            let counts = noticed(multiple_roots, fault);
+            assert!(counts.iter().all(|count| count[0] >= 500 && count[1] >= 50), "{fault:?}: {counts:?}");
+        }
+        let limited = noticed(limited_roots, Fault::TimesLimited);
+        assert!(limited.iter().all(|count| count[1] >= 20), "{limited:?}");
     }
 
     #[test]

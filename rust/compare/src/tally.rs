@@ -1,4 +1,4 @@
-//! How often each refusal, shift count, relation count and rank came up.
+//! How often each refusal, shift count, relation count, rank and multiplicity came up.
 
 use crate::cases::{Answer, Kind};
 use outside::batch::CLIENTS;
@@ -15,6 +15,7 @@ pub struct Tally {
     relations: BTreeMap<i64, usize>,
     roots: BTreeMap<i64, usize>,
     ranks: BTreeMap<i64, usize>,
+    multiplicities: BTreeMap<i64, usize>,
 }
 
 impl Tally {
@@ -33,6 +34,7 @@ impl Tally {
             *self.shifts.entry(result[1]).or_default() += 1;
             *self.roots.entry(result[6]).or_default() += 1;
             *self.ranks.entry(result[8]).or_default() += 1;
+            *self.multiplicities.entry(result[9]).or_default() += 1;
         }
     }
 
@@ -61,7 +63,7 @@ impl Tally {
     pub fn print_runs(&self, name: &str) {
         let (counts, report) = (
             [("shifts", &self.shifts), ("relations", &self.relations)],
-            [("root", &self.roots), ("rank", &self.ranks)],
+            [("root", &self.roots), ("rank", &self.ranks), ("multiplicity", &self.multiplicities)],
         );
         for (what, table) in counts.into_iter().chain(report) {
             let cells: Vec<String> = table.iter().map(|(n, times)| format!("{n}: {times}")).collect();
@@ -156,6 +158,8 @@ mod tests {
                 assert!(tally.refused(number) >= 20, "{kind:?}: {number} comes up {} times", tally.refused(number));
             }
             assert!((0..=4).all(|rank| tally.ranks[&rank] >= 20), "{kind:?}: {:?}", tally.ranks);
+            let times = &tally.multiplicities;
+            assert!((0..=4).all(|k| times.get(&k).is_some_and(|&often| often >= 20)), "{kind:?}: {times:?}");
         }
         let (read, batch) = (counted(Kind::Read, 4_000), counted(Kind::Batch, 400));
         assert!((0..=5).all(|number| read.refused(number) >= 20));

@@ -4,7 +4,7 @@ use crate::common_roots::{reduced, reduced_wrongly};
 use crate::fault::{is, Fault};
 use crate::polynomial::{greatest_divisor, Polynomial};
 use crate::refusal::Refusal;
-use crate::roots::integer_roots;
+use crate::roots::{integer_roots, occurrences};
 use crate::row::Row;
 use crate::system::{Relation, Sizes, System};
 use crate::{C, DEGREE, RELATIONS};
@@ -24,6 +24,8 @@ pub struct Run {
     pub shifts: usize,
     /// The root of the report, `None` if there is none.
     pub root: Option<i128>,
+    /// How often it occurs in the product of the diagonal polynomials (02, U8); 0 where there is none.
+    pub multiplicity: usize,
     /// How often rows were exchanged: for tables only.
     pub exchanges: usize,
 }
@@ -54,6 +56,9 @@ fn run_trailing(system: &System, fault: Option<Fault>) -> Result<Run, Refusal> {
     }
     let roots = diagonal_roots(&run, system.sizes.t, fault);
     run.root = if is(fault, Fault::LargestRootReported) { roots.max() } else { roots.min() };
+    let mirrored_back = is(fault, Fault::TrailingTimesMirrored);
+    let counted = if mirrored_back { run.root.map(|r| -r) } else { run.root };
+    run.multiplicity = reported_times(&run, system.sizes.t, counted, fault);
     Ok(run)
 }
 
@@ -80,6 +85,7 @@ fn run_leading(system: &System, order: Order, fault: Option<Fault>) -> Result<Ru
     // The greatest integer root of all (SCOPE 2.81).
     let roots = diagonal_roots(&run, system.sizes.l, fault);
     run.root = if is(fault, Fault::SmallestRootReported) { roots.min() } else { roots.max() };
+    run.multiplicity = reported_times(&run, system.sizes.l, run.root, fault);
     Ok(run)
 }
 
@@ -87,8 +93,31 @@ fn run_leading(system: &System, order: Order, fault: Option<Fault>) -> Result<Ru
 /// in block t on the trailing side (SCOPE 2.93).
 fn diagonal_roots(run: &Run, block: i64, fault: Option<Fault>) -> impl Iterator<Item = i128> + '_ {
     let looked_at = if is(fault, Fault::FirstDiagonalOnly) { 1 } else { run.order.len() };
-    let diagonal = run.system.rows.iter().zip(&run.order).take(looked_at);
-    diagonal.flat_map(move |(row, &column)| integer_roots(&row.entry(block, column)))
+    diagonal(run, block).take(looked_at).flat_map(|p| integer_roots(&p))
+}
+
+fn diagonal(run: &Run, block: i64) -> impl Iterator<Item = Polynomial> + '_ {
+    run.system.rows.iter().zip(&run.order).map(move |(row, &column)| row.entry(block, column))
+}
+
+/// How often the root of the report occurs in the product of the diagonal polynomials, so in all of them together (SCOPE 2.83).
+fn reported_times(run: &Run, block: i64, root: Option<i128>, fault: Option<Fault>) -> usize {
+    let Some(r) = root else { return is(fault, Fault::TimesBesideNo) as usize };
+    let times = diagonal(run, block).map(|p| occurrences(&p, r));
+    match fault {
+        None => times.sum(),
+        Some(Fault::TimesOnce) => 1,
+        Some(Fault::TimesOnceEach) => times.map(|k| k.min(1)).sum(),
+        Some(Fault::TimesOneDiagonal) => times.into_iter().find(|&k| k > 0).unwrap_or(0),
+        Some(Fault::TimesMost) => times.max().unwrap_or(0),
+        Some(Fault::TimesLastRow) => times.last().unwrap_or(0),
+        Some(Fault::TimesOfAllRoots) => {
+            diagonal(run, block).flat_map(|p| integer_roots(&p).into_iter().map(move |r| occurrences(&p, r))).sum()
+        }
+        Some(Fault::TimesLimited) => diagonal(run, block).map(|p| limited_divisions(p, r)).sum(),
+        Some(Fault::TimesNotZero) if r == 0 => times.map(|k| k.min(1)).sum(),
+        Some(_) => times.sum(),
+    }
 }
 
 /// 10 for a row whose left part is zero and whose right side is not (02, U1).
@@ -156,6 +185,7 @@ impl Work {
             order: self.columns,
             shifts: self.shifts,
             root: None,
+            multiplicity: 0,
             exchanges: self.exchanges,
         }
     }
@@ -422,6 +452,12 @@ fn repeated(g: &Polynomial, roots: &[i128]) -> Vec<i128> {
         }
     }
     all
+}
+
+/// How often n - r is divided out while the quotient stays within ±C: for a wrong version.
+fn limited_divisions(p: Polynomial, r: i128) -> usize {
+    let quotients = std::iter::successors(Some(p), |p| p.over_root(r).filter(|q| q.size() <= C));
+    quotients.count() - 1
 }
 
 /// The row divided by n - r for an r that is a root of its entries and its right side: for a wrong version.

@@ -42,6 +42,18 @@ faults! {
     SmallestRootReported: "the leading report is the smallest root",
     LargestRootReported: "the trailing report is the largest root",
     FirstDiagonalOnly: "the report looks at the first diagonal polynomial only",
+    // How often the reported root occurs.
+    TimesOnce: "the reported root counts once, however often it occurs",
+    TimesOnceEach: "a root counts once in each diagonal polynomial that has it",
+    TimesOneDiagonal: "the reported root is counted in the first diagonal polynomial that has it, and in no other",
+    TimesMost: "the reported root is counted in the diagonal polynomial that has it most often, and in no other",
+    TimesLastRow: "the reported root is counted in the last diagonal polynomial only",
+    TimesOfAllRoots: "the roots of all diagonal polynomials are counted, not the reported one alone",
+    TimesLimited: "the reported root is divided out only while the quotients stay within ±C",
+    TimesNotZero: "a root at zero counts once in each diagonal polynomial that has it",
+    TimesBesideNo: "beside no root stands 1",
+    TrailingTimesMirrored: "on the trailing side the root's other sign is counted",
+    // The trailing side.
     RelationsNotMirrored: "n0 is not mirrored back on the trailing side",
     TrailingDescending: "relations of one multiplier descend on the trailing side",
     // The division by common roots.
@@ -94,6 +106,8 @@ faults! {
     FreedKept: "the places of dropped rows keep their numbers",
     RankOfEquations: "the number of equations is returned as the rank",
     RankOneMore: "the rank is one too many",
+    RunResultNine: "a result store of nine numbers is long enough for a run",
+    ReadResultTen: "a reader needs a result store of ten numbers",
     RowOfEachUnknown: "the row store needs a row for each unknown",
     EquationsNotLimited: "a call with seven equations is not refused with 2",
     OrderGaps: "a zero may stand before a column of the order argument",

@@ -1,7 +1,8 @@
 //! Integer roots, found between turning points.
 //!
 //! A nonzero integer root divides the lowest nonzero coefficient, so no root is larger than the largest coefficient. Between
-//! two neighbouring turning points a polynomial rises or falls all the way, so bisection finds where it crosses zero.
+//! two neighbouring turning points a polynomial rises or falls all the way, so bisection finds where it crosses zero. How often
+//! a root occurs is told by the derivatives.
 
 use crate::polynomial::Polynomial;
 use std::collections::BTreeSet;
@@ -10,6 +11,14 @@ use std::collections::BTreeSet;
 pub fn integer_roots(p: &Polynomial) -> Vec<i128> {
     let candidates = floors(p, p.size());
     candidates.into_iter().filter(|&n| sign_at(p, n) == 0).collect()
+}
+
+/// How often r occurs as a root of a nonzero polynomial: as many of it, its derivative, the derivative of that and so on vanish at r,
+/// before the first that does not (SCOPE 2.83). No coefficient of theirs has more than 70 bits, since 15 is the highest degree.
+pub fn occurrences(p: &Polynomial, r: i128) -> usize {
+    debug_assert!(!p.is_zero());
+    let derivatives = std::iter::successors(Some(p.clone()), |p| Some(p.derivative()));
+    derivatives.take_while(|p| sign_at(p, r) == 0).count()
 }
 
 /// Integers among which is the floor of every real root between -reach and reach.
@@ -80,6 +89,47 @@ mod tests {
     fn no_integer_roots() {
         for p in [vec![3], vec![1, 2], vec![2, 0, 1], vec![-2, 0, 1], vec![C, -2], vec![1, 3, 3, 2]] {
             assert_eq!(integer_roots(&Polynomial::new(p)), []);
+        }
+    }
+
+    #[test]
+    fn roots_of_products_with_occurrences() {
+        let p = product(&[-3, 0, 0, 0, 1, 1, 7]).times_number(-6);
+        assert_eq!([-3, 0, 1, 7, 2, -1].map(|r| occurrences(&p, r)), [1, 3, 2, 1, 0, 0]);
+        for r in [0, 1, -1, 3, -3] {
+            assert_eq!(occurrences(&product(&[r; 15]), r), 15);
+            assert_eq!(occurrences(&product(&[r; 14]), -r), if r == 0 { 14 } else { 0 });
+        }
+        let far = product(&[16_383, 16_383]).times(&Polynomial::new(vec![0; 13].into_iter().chain([1]).collect()));
+        assert_eq!([16_383, -16_383, 0].map(|r| occurrences(&far, r)), [2, 0, 13]);
+        assert_eq!([C, -C].map(|r| occurrences(&product(&[C]), r)), [1, 0]);
+        assert_eq!(occurrences(&Polynomial::new(vec![5]), 0), 0);
+        // C (n - 1) (n + 1)^2, whose quotients are larger than C.
+        let p = Polynomial::new(vec![-C, -C, C, C]);
+        assert_eq!([1, -1, 0].map(|r| occurrences(&p, r)), [1, 2, 0]);
+    }
+
+    /// As many divisions by n - r, and what is left no longer vanishes; it adds over products.
+    #[test]
+    fn same_as_dividing() {
+        let divisions = |p: &Polynomial, r| {
+            let quotients = std::iter::successors(Some(p.clone()), |p| p.over_root(r));
+            quotients.count() - 1
+        };
+        for code in 0..5i128.pow(4) {
+            let digits = (0..4).map(|k| code / 5i128.pow(k) % 5 - 2).collect();
+            let p = Polynomial::new(digits);
+            if p.is_zero() {
+                continue;
+            }
+            for r in -3..=3 {
+                assert_eq!(occurrences(&p, r), divisions(&p, r), "{p:?} at {r}");
+                let other = product(&[r, 2, 2, -1]);
+                let both = occurrences(&p, r) + occurrences(&other, r);
+                assert_eq!(occurrences(&p.times(&other), r), both, "{p:?} at {r}");
+            }
+            let all: usize = integer_roots(&p).iter().map(|&r| occurrences(&p, r)).sum();
+            assert!(all <= p.degree(), "{p:?}");
         }
     }
 

@@ -26,8 +26,10 @@ pub const ROW: usize = ENTRIES + COEFFICIENTS;
 pub const RELATION: usize = 1 + ROW;
 /// The relation store needs 16 × 337 numbers (SCOPE 3.11; 02, U1).
 pub const RELATION_STORE: usize = RELATIONS * RELATION;
-/// Numbers that the answer of a run or a reader takes (SCOPE 3.52).
-pub const RESULT: usize = 9;
+/// Numbers that the answer of a run takes (SCOPE 3.52; 02, U8).
+pub const RESULT: usize = 10;
+/// Numbers that the answer of a reader takes (SCOPE 3.52; 02, U6).
+pub const HEADING: usize = 9;
 
 /// The sizes and the relation count of a call, as they are given.
 #[derive(Clone, Copy, Debug, PartialEq, Eq)]
@@ -222,7 +224,7 @@ fn number_of(answer: Result<(), Refusal>) -> u8 {
 }
 
 /// A run, whose stores hold its input and then its output (SCOPE 3.21). The answer is the relation count, the shifts,
-/// c(1) to c(4), 1 or 0 for a root, the root, and the rank (SCOPE 3.52; 02, U6).
+/// c(1) to c(4), 1 or 0 for a root, the root, the rank, and how often the root occurs (SCOPE 3.52; 02, U6, U8).
 pub fn run_on_stores(
     side: Side,
     rows: &mut [i64],
@@ -231,7 +233,8 @@ pub fn run_on_stores(
     result: &mut [i64],
     fault: Option<Fault>,
 ) -> u8 {
-    let system = match checked(rows, relations, asked, &[(result.len(), RESULT)], fault) {
+    let result_need = if is(fault, Fault::RunResultNine) { RESULT - 1 } else { RESULT };
+    let system = match checked(rows, relations, asked, &[(result.len(), result_need)], fault) {
         Ok(system) => system,
         Err(refusal) => return refusal.number(),
     };
@@ -248,13 +251,14 @@ pub fn run_on_stores(
                 Some(Fault::RankOneMore) => run.rank() + 1,
                 _ => run.rank(),
             };
-            result[..RESULT].copy_from_slice(&run_numbers(&run, rank));
+            let numbers = run_numbers(&run, rank);
+            result.iter_mut().zip(numbers).for_each(|(place, number)| *place = number);
             0
         }
         Err(refusal) => {
             zero_needed(rows, row_store(asked.equations), fault);
             zero_needed(relations, RELATION_STORE, fault);
-            zero_needed(result, RESULT, fault);
+            zero_needed(result, RESULT.min(result.len()), fault);
             refusal.number()
         }
     }
@@ -264,7 +268,8 @@ fn run_numbers(run: &Run, rank: usize) -> [i64; RESULT] {
     let c = order_numbers(&run.order);
     let root = run.root.unwrap_or(0) as i64;
     let (count, shifts) = (run.system.relations.len() as i64, run.shifts as i64);
-    [count, shifts, c[0], c[1], c[2], c[3], run.root.is_some() as i64, root, rank as i64]
+    let (any, times) = (run.root.is_some() as i64, run.multiplicity as i64);
+    [count, shifts, c[0], c[1], c[2], c[3], any, root, rank as i64, times]
 }
 
 /// A refusal that comes while the work is going on makes the needed part zero (SCOPE 6.33).
@@ -273,6 +278,15 @@ fn zero_needed(store: &mut [i64], need: usize, fault: Option<Fault>) {
         Some(Fault::StoresKept) => {}
         Some(Fault::ZeroedPastNeed) => store.fill(0),
         _ => store[..need].fill(0),
+    }
+}
+
+/// What a reader needs of the result store.
+fn heading_need(fault: Option<Fault>) -> usize {
+    if is(fault, Fault::ReadResultTen) {
+        HEADING + 1
+    } else {
+        HEADING
     }
 }
 
@@ -295,22 +309,28 @@ fn read_to_stores(
     result: &mut [i64],
     fault: Option<Fault>,
 ) -> Result<(), Refusal> {
-    let fixed = [(relations.len(), RELATION_STORE), (result.len(), RESULT)];
+    let fixed = [(relations.len(), RELATION_STORE), (result.len(), heading_need(fault))];
     if is(fault, Fault::ShortBeforeRest) {
         long_enough(&fixed)?;
     }
-    fill(&sheet::read(bytes, fault)?, rows, relations, result)
+    fill(&sheet::read(bytes, fault)?, rows, relations, result, heading_need(fault))
 }
 
 /// A sheet that is without a fault put into stores that are long enough, and its sizes, relation count and order into the result.
-fn fill(sheet: &Sheet, rows: &mut [i64], relations: &mut [i64], result: &mut [i64]) -> Result<(), Refusal> {
+fn fill(
+    sheet: &Sheet,
+    rows: &mut [i64],
+    relations: &mut [i64],
+    result: &mut [i64],
+    result_need: usize,
+) -> Result<(), Refusal> {
     let Sheet { system, order } = sheet;
     long_enough(&[(rows.len(), row_store(system.rows.len()))])?;
-    long_enough(&[(relations.len(), RELATION_STORE), (result.len(), RESULT)])?;
+    long_enough(&[(relations.len(), RELATION_STORE), (result.len(), result_need)])?;
     store(system, rows, relations);
     let (Sizes { m, l, t }, c) = (system.sizes, order_numbers(order));
     let (equations, relations) = (system.rows.len() as i64, system.relations.len() as i64);
-    result[..RESULT].copy_from_slice(&[m as i64, l, t, relations, c[0], c[1], c[2], c[3], equations]);
+    result[..HEADING].copy_from_slice(&[m as i64, l, t, relations, c[0], c[1], c[2], c[3], equations]);
     Ok(())
 }
 
@@ -322,11 +342,11 @@ pub fn read_differential_on_stores(
     result: &mut [i64],
     fault: Option<Fault>,
 ) -> u8 {
-    let short = long_enough(&[(relations.len(), RELATION_STORE), (result.len(), RESULT)]);
+    let short = long_enough(&[(relations.len(), RELATION_STORE), (result.len(), heading_need(fault))]);
     let first = if is(fault, Fault::DifferentialShortFirst) { short } else { Ok(()) };
     let filled = first.and_then(|()| differential::read(bytes, fault)).and_then(|read| {
         let sheet = Sheet { system: read.recurrence(fault), order: Vec::new() };
-        fill(&sheet, rows, relations, result)
+        fill(&sheet, rows, relations, result, heading_need(fault))
     });
     number_of(filled)
 }

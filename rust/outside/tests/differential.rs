@@ -2,7 +2,7 @@
 
 use outside::differential::{answer, output, read, Differential, Term};
 use outside::row::Row;
-use outside::stores::{read_differential_on_stores, write_recurrence_on_stores, RELATION_STORE, RESULT, ROW};
+use outside::stores::{read_differential_on_stores, write_recurrence_on_stores, HEADING, RELATION_STORE, ROW};
 
 /// The recurrence's sheet as text, or the refusal.
 fn answered(sheet: &str) -> Result<String, u8> {
@@ -128,7 +128,7 @@ fn judged() {
 #[test]
 fn stores() {
     let sheet = b"3 1 2 1\n1\n2 2 0 1 1 0 1 1 -1\n";
-    let lent = || (vec![9; ROW + 1], vec![9; RELATION_STORE + 1], vec![9; RESULT + 1]);
+    let lent = || (vec![9; ROW + 1], vec![9; RELATION_STORE + 1], vec![9; HEADING + 1]);
     let (mut rows, mut relations, mut result) = lent();
     assert_eq!(read_differential_on_stores(sheet, &mut rows, &mut relations, &mut result, None), 0);
     assert_eq!(rows[..4], [2, 3, 1, 0]);

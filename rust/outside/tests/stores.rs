@@ -20,7 +20,7 @@ fn accepted() {
     let before = (rows.clone(), relations.clone());
     assert_eq!(run_on_stores(Side::Leading, &mut rows, &mut relations, K3, &mut result, None), 0);
     assert_eq!((rows, relations), before);
-    assert_eq!(result, [0, 0, 1, 0, 0, 0, 1, 3, 1, 9, 9]);
+    assert_eq!(result, [0, 0, 1, 0, 0, 0, 1, 3, 1, 1, 9, 9]);
 }
 
 #[test]
@@ -134,7 +134,7 @@ fn dropped() {
     assert_eq!(rows[..ROW], before[..ROW]);
     assert!(rows[ROW..2 * ROW].iter().all(|&a| a == 0));
     assert_eq!(rows[2 * ROW..], [9, 9]);
-    assert_eq!(result, [0, 0, 1, 0, 0, 0, 1, 3, 1, 9, 9]);
+    assert_eq!(result, [0, 0, 1, 0, 0, 0, 1, 3, 1, 1, 9, 9]);
     // The root 3 of both left the multiplier (02, U7).
     assert!(relations[..RELATION].iter().all(|&a| a == 0));
 }
@@ -146,7 +146,7 @@ fn no_equations() {
         let (_, mut relations, mut result) = k3_stores();
         let asked = Asked { equations: 0, ..K3 };
         assert_eq!(run_on_stores(side, &mut [], &mut relations, asked, &mut result, None), 0);
-        assert_eq!(result, [0, 0, 0, 0, 0, 0, 0, 0, 0, 9, 9]);
+        assert_eq!(result, [0, 0, 0, 0, 0, 0, 0, 0, 0, 0, 9, 9]);
     }
     let (rows, relations, mut result) = k3_stores();
     let mut bytes = [b'#'; 20];

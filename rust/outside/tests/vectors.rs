@@ -28,15 +28,18 @@ fn batches() {
     assert!(count > 0);
 }
 
-/// What a file of runs says of one sheet and side: the line, and the sheet where the refusal is 0.
-fn run_text(bytes: &[u8], side: Side) -> Vec<u8> {
+/// What a file of runs says of one sheet and side: the line, and the sheet where the refusal is 0. Older files do not tell how often the
+/// root occurs.
+fn run_text(bytes: &[u8], side: Side, with_times: bool) -> Vec<u8> {
     let name = if side == Side::Leading { "leading" } else { "trailing" };
+    let mult = |times: usize| if with_times { format!(" mult {times}") } else { String::new() };
     let outcome = read(bytes, None).and_then(|sheet| run(&sheet.system, side, None));
     match outcome {
-        Err(refusal) => format!("{name} {} shifts 0 root none rank 0\n", refusal.number()).into_bytes(),
+        Err(refusal) => format!("{name} {} shifts 0 root none rank 0{}\n", refusal.number(), mult(0)).into_bytes(),
         Ok(run) => {
             let root = run.root.map_or("none".to_string(), |r| r.to_string());
-            let mut text = format!("{name} 0 shifts {} root {root} rank {}\n", run.shifts, run.rank()).into_bytes();
+            let (shifts, rank, times) = (run.shifts, run.rank(), mult(run.multiplicity));
+            let mut text = format!("{name} 0 shifts {shifts} root {root} rank {rank}{times}\n").into_bytes();
             text.extend(write(&Sheet { system: run.system, order: run.order }));
             text
         }
@@ -66,7 +69,11 @@ fn followed_by(file: &[u8], expected: impl Fn(&[u8]) -> Vec<u8>) -> usize {
 #[ignore = "needs a folder of vectors"]
 fn runs() {
     let all = fs::read(folder().join("run.txt")).expect("the folder has a file of runs");
-    let sides = |bytes: &[u8]| [Side::Leading, Side::Trailing].iter().flat_map(|&side| run_text(bytes, side)).collect();
+    let with_times = all.windows(6).any(|bytes| bytes == b" mult ");
+    let sides = |bytes: &[u8]| {
+        let sides = [Side::Leading, Side::Trailing].into_iter();
+        sides.flat_map(|side| run_text(bytes, side, with_times)).collect()
+    };
     println!("runs: {} cases", followed_by(&all, sides));
 }
 

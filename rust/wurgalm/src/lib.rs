@@ -26,8 +26,10 @@ pub const RELATION_STORE: usize = 16 * RELATION;
 
 /// The most equations that a system has. A row store for so many is long enough for any system.
 pub const EQUATIONS: usize = 6;
-/// Numbers that a run and a reader put into the result store.
-const RESULT: usize = 9;
+/// Numbers that a run puts into the result store.
+const RESULT: usize = 10;
+/// Numbers that a reader puts into the result store.
+const HEADING: usize = 9;
 
 /// Bytes that are enough for the sheet of any recurrence, which is proved (SCOPE 10.42).
 pub const RECURRENCE: usize = 25_223;
@@ -61,6 +63,8 @@ pub struct Report {
     pub root: Option<i64>,
     /// How many equations are left. The others became zero; their places, behind those that are left, are zero.
     pub rank: usize,
+    /// How often the root occurs in the product of the diagonal polynomials; 0 where there is none.
+    pub multiplicity: usize,
 }
 
 /// What a sheet holds beside the rows and relations, which are in the stores.
@@ -108,10 +112,11 @@ fn accepted<T>(number: u8, answer: T) -> Result<T, Refusal> {
 }
 
 fn report(number: u8, result: [i64; RESULT]) -> Result<Report, Refusal> {
-    let [relations, shifts, a, b, c, d, any, root, rank] = result;
+    let [relations, shifts, a, b, c, d, any, root, rank, multiplicity] = result;
     let root = if any == 1 { Some(root) } else { None };
     let (relations, shifts, rank) = (relations as usize, shifts as usize, rank as usize);
-    accepted(number, Report { relations, shifts, order: [a, b, c, d], root, rank })
+    let multiplicity = multiplicity as usize;
+    accepted(number, Report { relations, shifts, order: [a, b, c, d], root, rank, multiplicity })
 }
 
 /// Regularises the leading side of the system in the stores. What is left has the sizes of the system with `rank` equations.
@@ -133,6 +138,18 @@ pub fn run_leading(rows: &mut [i64], relations: &mut [i64], sizes: Sizes, count:
 }
 
 /// Regularises the trailing side of the system in the stores.
+///
+/// ```
+/// let (mut rows, mut relations) = (vec![0; wurgalm::row_store(2)], vec![0; wurgalm::RELATION_STORE]);
+/// (rows[0], rows[1], rows[2]) = (4, 4, 1); // (n + 2)^2 x(n) = 0
+/// let y = wurgalm::ROW + wurgalm::COEFFICIENTS;
+/// (rows[y], rows[y + 1], rows[y + 2]) = (-10, -3, 1); // (n + 2) (n - 5) y(n) = 0
+/// let sizes = wurgalm::Sizes { m: 2, equations: 2, l: 0, t: 0 };
+/// let report = wurgalm::run_trailing(&mut rows, &mut relations, sizes, 0).unwrap();
+/// assert_eq!((report.root, report.multiplicity), (Some(-2), 3));
+/// let report = wurgalm::run_leading(&mut rows, &mut relations, sizes, 0).unwrap();
+/// assert_eq!((report.root, report.multiplicity), (Some(5), 1));
+/// ```
 pub fn run_trailing(rows: &mut [i64], relations: &mut [i64], sizes: Sizes, count: usize) -> Result<Report, Refusal> {
     let mut result = [0; RESULT];
     let Sizes { m, equations, l, t } = sizes;
@@ -140,7 +157,7 @@ pub fn run_trailing(rows: &mut [i64], relations: &mut [i64], sizes: Sizes, count
     report(number, result)
 }
 
-fn heading(number: u8, result: [i64; RESULT]) -> Result<Heading, Refusal> {
+fn heading(number: u8, result: [i64; HEADING]) -> Result<Heading, Refusal> {
     let [m, l, t, relations, a, b, c, d, equations] = result;
     let sizes = Sizes { m: m as usize, equations: equations as usize, l, t };
     accepted(number, Heading { sizes, relations: relations as usize, order: [a, b, c, d] })
@@ -148,7 +165,7 @@ fn heading(number: u8, result: [i64; RESULT]) -> Result<Heading, Refusal> {
 
 /// Reads a sheet into the stores. A row store for [`EQUATIONS`] equations is long enough for any.
 pub fn read_sheet(bytes: &[u8], rows: &mut [i64], relations: &mut [i64]) -> Result<Heading, Refusal> {
-    let mut result = [0; RESULT];
+    let mut result = [0; HEADING];
     let number = stores::read_sheet(bytes, rows, relations, &mut result);
     heading(number, result)
 }
@@ -165,7 +182,7 @@ pub fn read_sheet(bytes: &[u8], rows: &mut [i64], relations: &mut [i64]) -> Resu
 /// assert_eq!(report.root, Some(-1)); // from y(0) and y(1) on everything follows
 /// ```
 pub fn read_differential(bytes: &[u8], rows: &mut [i64], relations: &mut [i64]) -> Result<Heading, Refusal> {
-    let mut result = [0; RESULT];
+    let mut result = [0; HEADING];
     let number = stores::read_differential(bytes, rows, relations, &mut result);
     heading(number, result)
 }

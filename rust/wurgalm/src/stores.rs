@@ -4,7 +4,7 @@
 
 use crate::foreign;
 
-/// Nine numbers in `result`: relation count, shifts, c(1) to c(4), 1 or 0 for a root, the root, the rank.
+/// Ten numbers in `result`: relation count, shifts, c(1) to c(4), 1 or 0 for a root, the root, the rank, and how often the root occurs.
 #[allow(clippy::too_many_arguments)]
 pub fn run_leading(
     rows: &mut [i64],

@@ -21,7 +21,10 @@ fn k2() {
     let sizes = Sizes { m: 2, equations: 2, l: 1, t: 0 };
     assert_eq!(heading, Heading { sizes, relations: 0, order: [0; 4] });
     let report = run_leading(&mut rows, &mut relations, sizes, 0).unwrap();
-    assert_eq!(report, Report { relations: 2, shifts: 1, order: [1, 2, 0, 0], root: Some(0), rank: 2 });
+    assert_eq!(
+        report,
+        Report { relations: 2, shifts: 1, order: [1, 2, 0, 0], root: Some(0), rank: 2, multiplicity: 1 }
+    );
     let mut bytes = [0; 200];
     let heading = Heading { sizes, relations: 2, order: report.order };
     let length = write_sheet(&rows, &relations, &heading, &mut bytes).unwrap();
@@ -34,17 +37,32 @@ fn k2() {
 fn k8() {
     let [first, second] = ["2 0 1 16 0 0 0 0 0 0 0 0 0 0 0 0 0 0 0 1 0 2 1 1", "2 0 1 2 0 1 0 2 2 0 1"];
     let left = "1 0 2 16 -1 0 0 0 0 0 0 0 0 0 0 0 0 0 0 1";
-    let sides: [(Run, i64); 2] = [(run_leading, 1), (run_trailing, 0)];
-    for (run, root) in sides {
+    let sides: [(Run, i64, usize); 2] = [(run_leading, 1, 1), (run_trailing, 0, 15)];
+    for (run, root, multiplicity) in sides {
         let (mut rows, mut relations) = stores();
         let sheet = format!("3 2 0 0\n2\n{first}\n{second}\n0\n0\n");
         let heading = read_sheet(sheet.as_bytes(), &mut rows, &mut relations).unwrap();
         let report = run(&mut rows, &mut relations, heading.sizes, 0).unwrap();
-        assert_eq!(report, Report { relations: 1, shifts: 0, order: [1, 2, 0, 0], root: Some(root), rank: 2 });
+        let order = [1, 2, 0, 0];
+        assert_eq!(report, Report { relations: 1, shifts: 0, order, root: Some(root), rank: 2, multiplicity });
         let mut bytes = [0; 200];
         let heading = Heading { relations: 1, order: report.order, ..heading };
         let length = write_sheet(&rows, &relations, &heading, &mut bytes).unwrap();
         assert_eq!(&bytes[..length], format!("3 2 0 0\n2\n{first}\n{left}\n1\n0 {second}\n2 1 2\n").as_bytes());
+    }
+}
+
+/// C (n - 1) (n + 1)^2 x = 0 and (n - 1)^2 (n + 1) y = 0 (02, U8): 1 and -1 occur three times each, and divisions by n - r leave ±C.
+#[test]
+fn multiple_roots() {
+    let sides: [(Run, i64); 2] = [(run_leading, 1), (run_trailing, -1)];
+    let sheet = b"3 2 0 0\n2\n1 0 1 4 -268435455 -268435455 268435455 268435455\n1 0 2 4 1 -1 -1 1\n0\n0\n";
+    for (run, root) in sides {
+        let (mut rows, mut relations) = stores();
+        let heading = read_sheet(sheet, &mut rows, &mut relations).unwrap();
+        let report = run(&mut rows, &mut relations, heading.sizes, 0).unwrap();
+        let order = [1, 2, 0, 0];
+        assert_eq!(report, Report { relations: 0, shifts: 0, order, root: Some(root), rank: 2, multiplicity: 3 });
     }
 }
 
@@ -53,7 +71,10 @@ fn k11() {
     let (mut rows, mut relations) = stores();
     let heading = read_sheet(b"3 1 1 0\n1\n1 1 1 2 0 1\n0\n0\n", &mut rows, &mut relations).unwrap();
     let report = run_trailing(&mut rows, &mut relations, heading.sizes, 0).unwrap();
-    assert_eq!(report, Report { relations: 0, shifts: 1, order: [1, 0, 0, 0], root: Some(1), rank: 1 });
+    assert_eq!(
+        report,
+        Report { relations: 0, shifts: 1, order: [1, 0, 0, 0], root: Some(1), rank: 1, multiplicity: 1 }
+    );
     assert_eq!(rows[64..66], [-1, 1]);
 }
 
@@ -68,7 +89,7 @@ fn right_sides() {
     assert_eq!(right_side(&rows, sizes, 1)[..4], [0, 0, 1, 0]);
     assert_eq!((relations[0], relations[RELATION - 16], relations[RELATION]), (7, 5, 0));
     let report = run_leading(&mut rows, &mut relations, sizes, 1).unwrap();
-    assert_eq!(report, Report { relations: 1, shifts: 1, order: [1, 0, 0, 0], root: None, rank: 1 });
+    assert_eq!(report, Report { relations: 1, shifts: 1, order: [1, 0, 0, 0], root: None, rank: 1, multiplicity: 0 });
     assert_eq!(right_side(&rows, sizes, 1)[..4], [1, 2, 1, 0]);
     let mut bytes = [0; 100];
     let length = write_sheet(&rows, &relations, &Heading { order: report.order, ..heading }, &mut bytes).unwrap();
@@ -95,7 +116,7 @@ fn repeated() {
     let sizes = Sizes { m: 2, equations: 3, l: 1, t: 0 };
     assert_eq!(heading, Heading { sizes, relations: 0, order: [2, 0, 0, 0] });
     let report = run_leading(&mut rows, &mut relations, sizes, 0).unwrap();
-    assert_eq!(report, Report { relations: 0, shifts: 0, order: [1, 0, 0, 0], root: None, rank: 1 });
+    assert_eq!(report, Report { relations: 0, shifts: 0, order: [1, 0, 0, 0], root: None, rank: 1, multiplicity: 0 });
     assert!(rows[ROW..].iter().all(|&a| a == 0));
     let mut bytes = [0; 100];
     let left = Heading { sizes: Sizes { equations: report.rank, ..sizes }, relations: 0, order: report.order };
@@ -114,7 +135,7 @@ fn no_equations() {
     assert_eq!(heading, Heading { sizes, relations: 0, order: [0; 4] });
     assert_eq!(read_differential(b"3 3 1 0\n0\n", &mut [], &mut relations), Ok(heading));
     let report = run_leading(&mut [], &mut relations, sizes, 0).unwrap();
-    assert_eq!(report, Report { relations: 0, shifts: 0, order: [0; 4], root: None, rank: 0 });
+    assert_eq!(report, Report { relations: 0, shifts: 0, order: [0; 4], root: None, rank: 0, multiplicity: 0 });
     assert_eq!(run_leading(&mut [], &mut relations, Sizes { equations: 7, ..sizes }, 0), Err(Refusal(2)));
 }
 
@@ -131,7 +152,10 @@ fn bessel() {
     assert_eq!(&bytes[..length], b"3 1 2 -2\n1\n2 0 1 3 -4 0 1 -2 1 1 1\n0\n0\n");
     assert_eq!(read_sheet(&bytes[..length], &mut stores().0, &mut stores().1), Ok(heading));
     let report = run_leading(&mut rows, &mut relations, sizes, 0).unwrap();
-    assert_eq!(report, Report { relations: 0, shifts: 2, order: [1, 0, 0, 0], root: Some(0), rank: 1 });
+    assert_eq!(
+        report,
+        Report { relations: 0, shifts: 2, order: [1, 0, 0, 0], root: Some(0), rank: 1, multiplicity: 1 }
+    );
     assert_eq!((&rows[..4], rows[128]), (&[0, 4, 1, 0][..], 1));
     assert_eq!(write_recurrence(sheet, &mut bytes[..length - 1]), Err(Refusal(1)));
     assert_eq!(write_recurrence(&sheet[..20], &mut bytes), Err(Refusal(4)));

@@ -6,7 +6,7 @@ use compare::differentials::{longest_differential, whole_differential};
 use compare::random::Random;
 use compare::sheets::{whole_sheet, whole_sheet_with};
 use compare::subject::{Library, Outside, Subject};
-use compare::systems::{limited_roots, shared_roots};
+use compare::systems::{limited_roots, multiple_roots, shared_roots};
 use outside::elimination::Side;
 use outside::polynomial::Polynomial;
 use outside::row::Row;
@@ -257,7 +257,7 @@ impl Fuzz {
     }
 }
 
-/// Runs whose pivots share roots.
+/// Runs whose pivots share roots, and whose diagonal has roots several times.
 impl Fuzz {
     fn both_sides(&mut self, what: &str, system: System) {
         let (stores, asked, _) = stores_of(&write(&Sheet { system, order: Vec::new() }));
@@ -276,6 +276,26 @@ impl Fuzz {
                     if fits(&a) && fits(&b) {
                         self.both_sides(&format!("{r} {often} and {times} times"), pivots(&a, &b));
                         self.both_sides(&format!("{r} {times} and {often} times"), pivots(&b, &a));
+                    }
+                }
+            }
+        }
+    }
+
+    /// A root that occurs in each of two diagonal polynomials from never to as often as fits, small and large, with others beside it that
+    /// are smaller and larger.
+    fn every_count(&mut self) {
+        let roots = [0, 1, -1, 2, -2, 3, -7, 30, 645, -645, 16_383, -16_383, C, -C];
+        for (r, other) in roots.into_iter().flat_map(|r| [-1, 0, 1, 4].map(|other| (r, other))) {
+            let fits_often = |times: &usize| i128::checked_pow(r, *times as u32).is_some_and(|a| a.abs() <= C);
+            let counts: Vec<usize> = (0..=DEGREE).filter(fits_often).collect();
+            for (&often, &times) in counts.iter().flat_map(|often| counts.iter().map(move |times| (often, times))) {
+                for beside in 0..=2 {
+                    let (p, q) = (power(r, often).times(&power(other, beside)), power(r, times));
+                    let (p, q) = (p.times_number(C / p.size().max(1)), q.times_number(-(C / q.size().max(1))));
+                    if !p.is_zero() && !q.is_zero() && fits(&p) && fits(&q) {
+                        let what = format!("{r} counted {often} and {times} times, beside {other}");
+                        self.both_sides(&what, diagonal(&p, &q));
                     }
                 }
             }
@@ -331,6 +351,14 @@ fn pivots(a: &Polynomial, b: &Polynomial) -> System {
         row
     };
     System { sizes: Sizes { m: 2, l: 0, t: 0 }, rows: vec![row(a, 1), row(b, -1)], relations: Vec::new() }
+}
+
+/// p x and q y, all in block 0, so that p and q are the diagonal polynomials of both sides.
+fn diagonal(p: &Polynomial, q: &Polynomial) -> System {
+    let (mut first, mut second) = (Row::default(), Row::default());
+    first.set(0, 1, p.clone());
+    second.set(0, 2, q.clone());
+    System { sizes: Sizes { m: 2, l: 0, t: 0 }, rows: vec![first, second], relations: Vec::new() }
 }
 
 /// The sheet with one number, at every place, made each of those that are near an end of some range, and made no number.
@@ -413,9 +441,11 @@ fn main() {
     }
     fuzz.every_multiplicity();
     fuzz.every_limit();
+    fuzz.every_count();
     for _ in 0..10_000 {
         fuzz.both_sides("shared roots", shared_roots(&mut random));
         fuzz.both_sides("shared roots, limit", limited_roots(&mut random));
+        fuzz.both_sides("multiple roots", multiple_roots(&mut random));
     }
     let sheet = b"3 2 1 0\n2\n2 1 1 2 0 1 0 2 1 -1\n2 1 1 1 1 0 1 1 -1\n1\n0 0\n0\n";
     let (stores, asked, order) = stores_of(sheet);

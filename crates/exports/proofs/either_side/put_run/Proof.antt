@@ -29,6 +29,9 @@ returns c =
 run-numbers-requires : tie.Need-run-numbers-requires
 run-numbers-requires c κs = search needs
 
+slice-aggregate-put : tie.Need-slice-aggregate-put
+slice-aggregate-put c = search needs
+
 put-requires : tie.Need-put-requires
 put-requires c κs = search needs
 
@@ -37,12 +40,12 @@ same-length c = search needs
 
 returns-2 : tie.Need-returns-2
 returns-2 c =
-    let passed = c .before .before .before .before in
+    let passed = c .before .before .before .before .before in
     let args = passed .before .before .before .args in
     c .before .put .ensures
-    ∙ ap (λ l. overwrite l (now (args .result))) (c .before .before .run-numbers .ensures)
+    ∙ ap (λ l. overwrite l (now (args .result))) (c .before .before .before .before .run-numbers .ensures)
     ∙ kept-late (args .answer .refusal) (runNumbers (resultOf (args .answer))) (now (args .result))
     (sym (tested (passed .before)) ∙ passed .if1 .left)
 
 pub put-run-spec : {M : Type 1} → statement M
-put-run-spec = tie.close (tie.spec cast-counted counted-requires returns run-numbers-requires put-requires same-length returns-2)
+put-run-spec = tie.close (tie.spec cast-counted counted-requires returns run-numbers-requires slice-aggregate-put put-requires same-length returns-2)

@@ -19,21 +19,25 @@ use Rattle.exports.proofs.either_side.run_numbers.Tie as tie
 
 -- what is cast is small
 module _ (c : tie.Start) where
-  relations : c .args .answer .relations ≤ 24
+  relations : c .args .answer .relations ≤ 64
   unfolding resultOf
   relations = omega (arith, c .pre .few-relations)
 
-  shifts : c .args .answer .shifts ≤ 24
+  shifts : c .args .answer .shifts ≤ 64
   unfolding resultOf
-  shifts = c .pre .few-shifts
+  shifts = omega (arith, c .pre .few-shifts)
 
-  column : (j : ℕ) → getD (c .args .answer .order) j 0 ≤ 24
+  column : (j : ℕ) → getD (c .args .answer .order) j 0 ≤ 64
   unfolding resultOf
   column j = omega (arith, all-getD-default (λ k. k ≤ 4) (c .args .answer .order) 0 j zero-le (c .pre .columns))
 
-  rank : c .args .answer .rank ≤ 24
+  rank : c .args .answer .rank ≤ 64
   unfolding resultOf
   rank = omega (arith, c .pre .low-rank)
+
+  times : c .args .answer .multiplicity ≤ 64
+  unfolding resultOf
+  times = c .pre .few-times
 
 cast-t3 : tie.Need-cast-t3
 cast-t3 c = small-fits _ (relations (c .before .before))
@@ -71,18 +75,23 @@ cast-t21 c = search needs
 cast-t22 : tie.Need-cast-t22
 cast-t22 c = small-fits _ (rank (c .before .before .before .before .before))
 
+cast-t23 : tie.Need-cast-t23
+cast-t23 c = small-fits _ (times (c .before .before .before .before .before .before))
+
 returns : tie.Need-returns
 unfolding runNumbers resultOf
 returns c =
-    let start = c .before .before .before .before .before .before in
+    let start = c .before .before .before .before .before .before .before in
     let answer = start .args .answer in
     let order = answer .order in
     let value : (j : ℕ) → _≡_ {A = ℤ} _ (pos (getD order j 0)) = λ j. small-value (getD order j 0) (column start j) in
     (λ i. small-value (answer .relations) (relations start) i ∷ small-value (answer .shifts)
     (shifts start) i ∷ value 0 i ∷ value 1 i ∷ value 2 i ∷ value 3 i
     ∷ answer-value (answer .«has_root») i ∷ toZ-ofZ {w = w64} {z = answer .root}
-    (sfits-of (c .struct-told .given .1 .1 .1 .1 .1 .0 .1)) i ∷ small-value (answer .rank) (rank start) i ∷ [])
-    ∙ ap (λ l. pos (answer .relations) ∷ pos (answer .shifts) ∷ (l ++ (pos (cond (answer .«has_root») 1 0) ∷ answer .root ∷ pos (answer .rank) ∷ [])))
+    (sfits-of (c .struct-told .given .1 .1 .1 .1 .1 .0 .1)) i ∷ small-value (answer .rank) (rank start) i
+    ∷ small-value (answer .multiplicity) (times start) i ∷ [])
+    ∙ ap (λ l. pos (answer .relations) ∷ pos (answer .shifts) ∷ (l ++ (pos (cond (answer .«has_root») 1 0) ∷ answer .root ∷ pos (answer .rank)
+    ∷ pos (answer .multiplicity) ∷ [])))
     (four-columns order (start .pre .four))
 
 pub run-numbers-spec : {M : Type 1} → statement M
@@ -101,4 +110,5 @@ run-numbers-spec =
     cast-t20
     cast-t21
     cast-t22
+    cast-t23
     returns)

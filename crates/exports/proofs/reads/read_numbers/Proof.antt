@@ -19,19 +19,19 @@ use Rattle.exports.proofs.reads.read_numbers.Tie as tie
 
 -- what is cast is small
 module _ (c : tie.Start) where
-  unknowns : c .args .sheet .sizes .m ≤ 24
+  unknowns : c .args .sheet .sizes .m ≤ 64
   unfolding resultOf sizesOf
   unknowns = omega (arith, c .pre .few-unknowns)
 
-  equations : c .args .sheet .sizes .equations ≤ 24
+  equations : c .args .sheet .sizes .equations ≤ 64
   unfolding resultOf sizesOf
   equations = omega (arith, c .pre .few-equations)
 
-  relations : c .args .sheet .relations ≤ 24
+  relations : c .args .sheet .relations ≤ 64
   unfolding resultOf
   relations = omega (arith, c .pre .few-relations)
 
-  column : (j : ℕ) → getD (c .args .sheet .order) j 0 ≤ 24
+  column : (j : ℕ) → getD (c .args .sheet .order) j 0 ≤ 64
   unfolding resultOf
   column j = omega (arith, all-getD-default (λ k. k ≤ 4) (c .args .sheet .order) 0 j zero-le (c .pre .columns))
 

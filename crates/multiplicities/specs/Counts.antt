@@ -1,0 +1,98 @@
+-- The roots of a polynomial in an array, and beside them how often each occurs.
+--
+-- Main definitions
+--   listedWith l          the arrays that hold the pairs l, zeros past their end
+--   filled f rs i         the counts f of the first i of rs, zeros behind
+--
+-- Main statements
+--   root-small            a root of a small polynomial is within ±C
+--   filled-next           one count more
+--   filled-all            all of them
+use Prim.Native.Nat.{ℕ, suc, _+_, _-_, _≤_, _<_}
+use mathlib.Core.Path.{_≡_, sym, _∙_, ap, ap₂}
+use mathlib.Core.Logic.{by-cases}
+use mathlib.Core.List.{List, [], _∷_, _++_, map, map-append, map-map, map-id}
+use native.Mathlib.Nat.{le-refl}
+use native.Mathlib.Numerals.{add-one}
+use native.Mathlib.Omega.{arith}
+use lib.Dec.{T, not-T}
+use lib.IntN.{ℤ, pos, natAbs}
+use lib.ListN.{length, getD, take, set, replicate, length-map}
+use lib.Seq.{take-all, take-suc, append-snoc, set-append-seam, length-take-le}
+use Rattle.algebra.specs.Coefficients.{degree-isZero}
+use Rattle.algebra.specs.Multiplicity.{multiplicity}
+use Rattle.algebra.specs.Polynomials.{Polynomial, isZero}
+use Rattle.algebra.specs.Roots.{roots, roots-sound}
+use Rattle.lists.specs.Places.{getD-member}
+use Rattle.lists.specs.Tests.{every, dec-T}
+use Rattle.rules.specs.Limits.{bound, small}
+use Rattle.rules.specs.Elimination.{rootsWith}
+use Rattle.roots.specs.RootSearch.{roots-small, roots-constant}
+use Rattle.multiplicities.specs.declared.RootsWith.{RootsWith}
+
+abbrev pub listedWith : List (ℤ × ℕ) → RootsWith
+listedWith l =
+    record {
+      count = length l;
+      values = map (λ x. x .0) l ++ replicate (16 - length l) (pos 0);
+      times = map (λ x. x .1) l ++ replicate (16 - length l) 0;
+    }
+
+-- ---- the roots
+
+-- The zero polynomial has no root listed.
+pub root-small : (p : Polynomial) → T (every small p) → (i : ℕ) → i < length (roots p) → natAbs (getD (roots p) i (pos 0)) ≤ bound
+root-small p t i h =
+    by-cases (dec-T (isZero p)) (λ z. absurd (omega (arith, ap length (roots-constant p (degree-isZero p z)))))
+    (λ n. omega (arith, roots-small p (not-T (isZero p) n) t r (roots-sound p (∣ getD-member (roots p) i (pos 0) h ∣₁))))
+  where
+    r : ℤ
+    r = getD (roots p) i (pos 0)
+
+-- ---- the counts
+
+abbrev pub filled : (ℤ → ℕ) → List ℤ → ℕ → List ℕ
+filled f rs i = map f (take i rs) ++ replicate (16 - i) 0
+
+pub filled-next : (f : ℤ → ℕ) (rs : List ℤ) (i : ℕ) → i < length rs → i < 16
+    → set (filled f rs i) i (f (getD rs i (pos 0))) ≡ filled f rs (i + 1)
+filled-next f rs i inside h =
+    ap₂ (λ n k. set (before ++ replicate n 0) k x) room here ∙ set-append-seam before 0 rest x ∙ sym (append-snoc before x rest)
+    ∙ ap (λ l. l ++ rest) (sym longer)
+  where
+    x : ℕ
+    x = f (getD rs i (pos 0))
+
+    before : List ℕ
+    before = map f (take i rs)
+
+    rest : List ℕ
+    rest = replicate (16 - (i + 1)) 0
+
+    room : 16 - i ≡ suc (16 - (i + 1))
+    room = omega arith
+
+    here : i ≡ length before
+    here = sym (length-map (take i rs) f ∙ length-take-le i rs (omega arith))
+
+    longer : map f (take (i + 1) rs) ≡ before ++ (x ∷ [])
+    longer = ap (λ n. map f (take n rs)) (add-one i) ∙ ap (map f) (take-suc rs i (pos 0) inside)
+        ∙ map-append f (take i rs) (getD rs i (pos 0) ∷ [])
+
+abbrev made : ℕ → List ℤ → List ℕ → RootsWith
+made n values times = record { count = n; values = values ++ replicate (16 - n) (pos 0); times = times ++ replicate (16 - n) 0 }
+
+listed-pairs : (f : ℤ → ℕ) (rs : List ℤ) → made (length rs) rs (map f (take (length rs) rs)) ≡ listedWith (map (λ r. (r, f r)) rs)
+listed-pairs f rs =
+    ap (λ l. made (length rs) rs (map f l)) (take-all (length rs) rs (le-refl (length rs)))
+    ∙ sym (ap (λ n. made n (map (λ x. x .0) pairs) (map (λ x. x .1) pairs)) (length-map rs (λ r. (r, f r)))
+    ∙ ap₂ (made (length rs)) (map-map (λ x. x .0) (λ r. (r, f r)) rs ∙ map-id rs) (map-map (λ x. x .1) (λ r. (r, f r)) rs))
+  where
+    pairs : List (ℤ × ℕ)
+    pairs = map (λ r. (r, f r)) rs
+
+-- All roots are counted.
+pub filled-all : (p : Polynomial) → made (length (roots p)) (roots p) (map (multiplicity p) (take (length (roots p)) (roots p)))
+    ≡ listedWith (rootsWith p)
+unfolding rootsWith
+filled-all p = listed-pairs (multiplicity p) (roots p)

@@ -1,0 +1,2 @@
+pub mod Divisions
+pub mod Counts
