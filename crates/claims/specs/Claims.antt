@@ -60,6 +60,7 @@ use mathlib.Core.List.{List, [], _∷_, _++_, map, List·Mem, List·Nodup}
 use lib.Dec.{T}
 use lib.ListN.{length, take, replicate, getD}
 use lib.IntN.{ℤ, pos, _+ℤ_}
+use lib.Signed.{_≤ℤ_}
 use Rattle.algebra.specs.Polynomials.{Polynomial, eval, isZero}
 use Rattle.algebra.specs.Roots.{roots, roots-sound, roots-complete, roots-distinct}
 use Rattle.rules.specs.Limits.{coefficientCount}
@@ -274,20 +275,21 @@ pub agreement-trailing : {z : Sizes} {count : ℕ} {rows relations : List ℤ} {
     → PastRoot trailing (c .result) n → AgreeDown z y w (n +ℤ z .t) (n +ℤ z .l) → AgreeUpTo z y w (n +ℤ z .l)
 agreement-trailing = Runs.agrees-trailing
 
--- Sequences with a first index, on the leading side. Equations at every n ≥ k and relations with n0 ≥ k use nothing below the index
--- k + t, so that a two-sided sequence serves for a series that begins there.
-pub first-index-enough : {z : Sizes} {count : ℕ} {rows relations : List ℤ} → Passed z count rows relations → (k : ℤ) (y w : Sequence)
-    → AgreeFrom z y w (k +ℤ z .t) → SolvesFrom z k k count rows relations y → SolvesFrom z k k count rows relations w
+-- Sequences with a first index, on the leading side. Equations at every n from k or a later index on and relations with n0 ≥ k use nothing
+-- below the index k + t, so that a two-sided sequence serves for a series that begins there (SCOPE 2.125).
+pub first-index-enough : {z : Sizes} {count : ℕ} {rows relations : List ℤ} → Passed z count rows relations → (j k : ℤ) → k ≤ℤ j
+    → (y w : Sequence) → AgreeFrom z y w (k +ℤ z .t) → SolvesFrom z j k count rows relations y → SolvesFrom z j k count rows relations w
 first-index-enough = Runs.from-unused
 
 module _ {z : Sizes} {count : ℕ} {rows relations : List ℤ} {c : Call} (ran : Ran leading z count rows relations c)
     (accepted : c .result .refusal ≡ 0) (k : ℤ) (y : Sequence) where
-  -- What satisfies the lent equations at every n ≥ k and the lent relations with n0 ≥ k does so with those that were given back.
+  -- What satisfies the lent equations at every n ≥ k and the lent relations with n0 ≥ k does so with those that were given back (SCOPE 2.123).
   pub first-index-kept : SolvesFrom z k k count rows relations y
       → SolvesFrom (left z c) k k (c .result .relations) (c .rowStore) (c .relationStore) y
   first-index-kept = Runs.from-kept ran accepted k y
 
-  -- What satisfies these satisfies the lent equations at every n ≥ k + S, with S the shift count, and the lent relations with n0 ≥ k.
+  -- What satisfies these satisfies the lent equations at every n ≥ k + S, with S the shift count, and the lent relations with n0 ≥ k
+  -- (SCOPE 2.124).
   pub first-index-back : SolvesFrom (left z c) k k (c .result .relations) (c .rowStore) (c .relationStore) y
       → SolvesFrom z (k +ℤ pos (c .result .shifts)) k count rows relations y
   first-index-back = Runs.from-back ran accepted k y

@@ -716,8 +716,8 @@ module _ {z : Sizes} {count : ℕ} {rows relations : List ℤ} {c : Call} where
       agreement-trailing (state-accepted a) (sym (a .given .row-count) ∙ full) y w hy hw n (state-past a n past)
 
 -- Sequences with a first index: nothing below the index k + t is used.
-pub from-unused : {z : Sizes} {count : ℕ} {rows relations : List ℤ} → Passed z count rows relations → (k : ℤ) (y w : Sequence)
-    → AgreeFrom z y w (k +ℤ z .t) → SolvesFrom z k k count rows relations y → SolvesFrom z k k count rows relations w
+pub from-unused : {z : Sizes} {count : ℕ} {rows relations : List ℤ} → Passed z count rows relations → (j k : ℤ) → k ≤ℤ j
+    → (y w : Sequence) → AgreeFrom z y w (k +ℤ z .t) → SolvesFrom z j k count rows relations y → SolvesFrom z j k count rows relations w
 from-unused p = first-index (passed-valid p)
 
 -- What is satisfied from an index on, before the run and after it.

@@ -134,7 +134,7 @@ Freed need kept store = take (need - kept) (drop kept store) ≡ zeros (need - k
 abbrev pub Solves : Sizes → ℕ → List ℤ → List ℤ → Sequence → Type 0
 Solves z count rows relations y = Satisfies (z .l) (rowsOf (equations z) rows) (relationsOf count relations) y
 
--- The equations hold at every n ≥ j, and the relations with n0 ≥ k hold.
+-- The equations hold at every n ≥ j, and the relations with n0 ≥ k hold (SCOPE 1.25).
 abbrev pub SolvesFrom : Sizes → ℤ → ℤ → ℕ → List ℤ → List ℤ → Sequence → Type 0
 SolvesFrom z j k count rows relations y = SatisfiesFrom (z .l) j k (rowsOf (equations z) rows) (relationsOf count relations) y
 

@@ -1,5 +1,5 @@
 -- Demand 3, sentence by sentence, for both sides (SCOPE 2.114 to 2.119, 2.122), and what else is proved of a run
--- (SCOPE 9.26 to 9.28).
+-- (SCOPE 9.26 to 9.30, 9.41).
 --
 -- Main definitions
 --   Accepted side z rows relations s   the system is valid and the whole run on that side accepts it with the final state s
@@ -358,16 +358,16 @@ valid-unused {z} {rows} {relations} v = (
       (every-all (relationRight z) relations .0 (v .relations-right)),
 )
 
--- 10. Of a sequence that satisfies the equations at every n ≥ k and the relations with n0 ≥ k, nothing below the index k + t is used,
--- so that a two-sided sequence serves for a series that begins there.
-pub first-index : {z : Sizes} {rows : List Row} {relations : List Relation} → Valid z rows relations → (k : ℤ) (y w : Sequence)
-    → ((i : ℤ) → (k +ℤ z .t) ≤ℤ i → Same (z .m) y w i)
-    → SatisfiesFrom (z .l) k k rows relations y → SatisfiesFrom (z .l) k k rows relations w
-first-index {z} {rows} {relations} v k y w same =
+-- 10. Of a sequence that satisfies the equations at every n from k or a later index on and the relations with n0 ≥ k, nothing below the
+-- index k + t is used, so that a two-sided sequence serves for a series that begins there (SCOPE 2.125).
+pub first-index : {z : Sizes} {rows : List Row} {relations : List Relation} → Valid z rows relations → (j k : ℤ) → k ≤ℤ j
+    → (y w : Sequence) → ((i : ℤ) → (k +ℤ z .t) ≤ℤ i → Same (z .m) y w i)
+    → SatisfiesFrom (z .l) j k rows relations y → SatisfiesFrom (z .l) j k rows relations w
+first-index {z} {rows} {relations} v j k h y w same =
     let unused = valid-unused v in
-    from-same (z .m) (span z) (z .l) (z .t) k (span-sum z (v .sizes)) y w same rows relations (unused .0) (unused .1)
+    from-same (z .m) (span z) (z .l) (z .t) k (span-sum z (v .sizes)) y w same j h rows relations (unused .0) (unused .1)
 
--- What satisfies the input's equations at every n ≥ k and its relations with n0 ≥ k does so with those of the output.
+-- What satisfies the input's equations at every n ≥ k and its relations with n0 ≥ k does so with those of the output (SCOPE 2.123).
 pub forward-from : {z : Sizes} {rows : List Row} {relations : List Relation} {s : State} → Accepted leading z rows relations s
     → (k : ℤ) (y : Sequence) → SatisfiesFrom (z .l) k k rows relations y → SatisfiesFrom (z .l) k k (s .rows) (s .relations) y
 unfolding start
@@ -375,7 +375,7 @@ forward-from {z} a k y =
     chain-from (z .l) y k (valid-shapes (valid-rows (a .valid))) (settled-leading (a .valid) (a .accepts) .chain)
 
 -- What satisfies those of the output satisfies the input's equations at every n ≥ k + S, with S shifts, and its relations with
--- n0 ≥ k.
+-- n0 ≥ k (SCOPE 2.124).
 pub backward-from : {z : Sizes} {rows : List Row} {relations : List Relation} {s : State} → Accepted leading z rows relations s
     → (k : ℤ) (y : Sequence) → SatisfiesFrom (z .l) k k (s .rows) (s .relations) y
     → SatisfiesFrom (z .l) (k +ℤ pos (s .shifts)) k rows relations y

@@ -1,4 +1,4 @@
--- Sequences with a first index: what the steps of a run do to those that satisfy a system from an index on.
+-- Sequences with a first index: what the steps of a run do to those that satisfy a system from an index on (SCOPE 2.123 to 2.125).
 --
 -- A series that begins at an index k + t is looked at as a two-sided sequence: by `from-same` nothing below k + t is used, so whatever a
 -- two-sided sequence has there says the same of it.
@@ -43,11 +43,11 @@ use Rattle.theory.specs.Triangular.{Triangular, triangular-chain, multip
 use Rattle.theory.specs.LimitsKept.{StateShaped, chain-shapes}
 use Rattle.theory.specs.Solutions.{combined-value, shifted-zeros}
 
--- The equation holds at every n from j on.
+-- The equation holds at every n from j on (SCOPE 1.25).
 unfoldable pub EquationFrom : ℤ → Sequence → ℤ → Row → Type 0
 EquationFrom l z j r = (n : ℤ) → j ≤ℤ n → valueOf l r z n ≡ pos 0
 
--- The relation holds, if its n0 is k or above it.
+-- The relation holds, if its n0 is k or above it (SCOPE 1.25).
 unfoldable pub RelationFrom : ℤ → Sequence → ℤ → Relation → Type 0
 RelationFrom l z k e = k ≤ℤ e .index → valueOf l (e .row) z (e .index) ≡ pos 0
 
@@ -64,16 +64,18 @@ index-above l t n D j e h =
     +ℤ-assoc n t (pos D) ∙ ap (λ a. n +ℤ a) (sym e) ∙ sym (-ℤ-+ℤ-cancel (n +ℤ l) (pos j)) in
     ≤ℤ-cancel-right (pos j) (subst (λ a. (n +ℤ t +ℤ pos j) ≤ℤ a) whole (+ℤ-≤ℤ-left (n +ℤ t) (pos-≤ℤ .1 h)))
 
--- An equation from k on uses no index below k + t.
+-- An equation from k on uses no index below k + t (SCOPE 2.125).
 module _ (m D : ℕ) (l t k : ℤ) (sum : l ≡ t +ℤ pos D) (y w : Sequence) (same : (i : ℤ) → (k +ℤ t) ≤ℤ i → Same m y w i) where
   value-same : (r : Row) → T (unusedZero m D r) → (n : ℤ) → k ≤ℤ n → valueOf l r y n ≡ valueOf l r w n
   value-same r u n a =
       value-congruence m D l r y w n u (λ j h. same (n +ℤ l -ℤ pos j) (≤ℤ-trans (+ℤ-≤ℤ-right t a) (index-above l t n D j sum h)))
 
-  equations-same : (rows : List Row) → All (λ r. T (unusedZero m D r)) rows → All (EquationFrom l y k) rows → All (EquationFrom l w k) rows
+  equations-same : (j : ℤ) → k ≤ℤ j → (rows : List Row) → All (λ r. T (unusedZero m D r)) rows → All (EquationFrom l y j) rows
+      → All (EquationFrom l w j) rows
   unfolding All EquationFrom
-  equations-same [] u s = tt
-  equations-same (r ∷ rows) u s = (λ n a. sym (value-same r (u .0) n a) ∙ s .0 n a, equations-same rows (u .1) (s .1))
+  equations-same j h [] u s = tt
+  equations-same j h (r ∷ rows) u s =
+      (λ n a. sym (value-same r (u .0) n (≤ℤ-trans h a)) ∙ s .0 n a, equations-same j h rows (u .1) (s .1))
 
   relations-same : (relations : List Relation) → All (λ e. T (unusedZero m D (e .row))) relations → All (RelationFrom l y k) relations
       → All (RelationFrom l w k) relations
@@ -82,10 +84,10 @@ module _ (m D : ℕ) (l t k : ℤ) (sum : l ≡ t +ℤ pos D) (y w : Sequence) (
   relations-same (e ∷ relations) u s =
       (λ a. sym (value-same (e .row) (u .0) (e .index) a) ∙ s .0 a, relations-same relations (u .1) (s .1))
 
-  pub from-same : (rows : List Row) (relations : List Relation) → All (λ r. T (unusedZero m D r)) rows
-      → All (λ e. T (unusedZero m D (e .row))) relations → SatisfiesFrom l k k rows relations y → SatisfiesFrom l k k rows relations w
+  pub from-same : (j : ℤ) → k ≤ℤ j → (rows : List Row) (relations : List Relation) → All (λ r. T (unusedZero m D r)) rows
+      → All (λ e. T (unusedZero m D (e .row))) relations → SatisfiesFrom l j k rows relations y → SatisfiesFrom l j k rows relations w
   unfolding SatisfiesFrom
-  from-same rows relations u v s = (equations-same rows u (s .0), relations-same relations v (s .1))
+  from-same j h rows relations u v s = (equations-same j h rows u (s .0), relations-same relations v (s .1))
 
 -- ---- one elementary change of the rows
 

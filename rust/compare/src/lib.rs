@@ -5,6 +5,7 @@ pub mod cases;
 pub mod clients;
 pub mod differentials;
 pub mod fast;
+pub mod first_index;
 pub mod judge;
 pub mod pieces;
 pub mod random;

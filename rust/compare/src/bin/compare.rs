@@ -3,6 +3,7 @@
 
 use compare::cases::{text, Kind};
 use compare::clients::{unwritten, waiting};
+use compare::first_index::{Lost, Tested};
 use compare::judge::judge;
 use compare::pieces;
 use compare::subject::{Library, Outside, Subject};
@@ -101,6 +102,22 @@ fn streams(start: &dyn Fn() -> Command) -> usize {
         + reported("Unwritten output", || unwritten(start))
 }
 
+/// Systems whose leading runs are looked at by sequences with a first index.
+const FIRST_INDEX: usize = 20_000;
+
+/// Both sentences about sequences with a first index, of the library's runs.
+fn first_index(subject: &dyn Subject) -> usize {
+    let start = Instant::now();
+    let mut tested = Tested::default();
+    (0..FIRST_INDEX).for_each(|k| tested.test(k, Lost::Shifts, subject));
+    let differences = &tested.differences;
+    differences.iter().take(SHOWN).for_each(|difference| println!("DIFFERENCE in First index: {difference}"));
+    let time = start.elapsed().as_secs_f64();
+    println!("First index: {FIRST_INDEX} cases, {} differences, {time:.1} s", differences.len());
+    tested.print();
+    differences.len()
+}
+
 /// A line of the table for each kind and side.
 fn lines<'a>(tallies: &'a [(Kind, [Tally; 2])], names: &[String; 2]) -> Vec<(String, &'a Tally)> {
     let mut lines = Vec::new();
@@ -128,6 +145,7 @@ fn main() {
     let induce = || Command::new(other.induce_program());
     differences +=
         reported("Induce", || fed_in_pieces(pieces::differentials(), outside::differential::output, &induce));
+    differences += first_index(&other);
     println!();
     let names = [right.name(), other.name()];
     print_refusals(&lines(&tallies, &names));

@@ -2,6 +2,7 @@
 //! library where it is built, and otherwise the outside implementation without the fault.
 
 use compare::cases::{Case, Kind};
+use compare::first_index::{Lost, Tested};
 use compare::judge::judge;
 use compare::subject::{Library, Outside, Subject};
 use outside::fault::Fault;
@@ -47,6 +48,15 @@ fn kind_of(case: &Case) -> &'static str {
     }
 }
 
+/// After how many systems a sequence is found that satisfies the output from k on and the input not from k + S - 1 on (SCOPE 2.124).
+fn one_shift_less_found(right: &dyn Subject) -> Option<usize> {
+    let mut tested = Tested::default();
+    (0..MOST).find(|&k| {
+        tested.test(k, Lost::OneLess, right);
+        !tested.differences.is_empty()
+    })
+}
+
 fn main() {
     let right: Box<dyn Subject> = match Library::found() {
         Some(library) => Box::new(library),
@@ -64,6 +74,12 @@ fn main() {
         missed += by.is_empty() as i32;
         println!("| {fault:?} | {} | {after} | {by} |", fault.says());
     }
-    println!("{} faults, {missed} missed", Fault::ALL.len());
+    let less = one_shift_less_found(right.as_ref());
+    missed += less.is_none() as i32;
+    let after = less.map_or("NOT FOUND".into(), |k| (k + 1).to_string());
+    println!(
+        "| OneLess | sequences from k on are said to satisfy the input from k + S - 1 on | {after} | first index |"
+    );
+    println!("{} faults, {missed} missed", Fault::ALL.len() + 1);
     std::process::exit((missed > 0) as i32);
 }
