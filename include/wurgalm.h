@@ -11,7 +11,7 @@
  * (SCOPE 3.2, 3.11). The relation store needs 16 x 337: `count` relations, each n0 and then a row, and zeros at the
  * places past them (SCOPE 3.4, 3.13). Positions of blocks below t and of columns above m hold 0 (SCOPE 3.3).
  *
- * Every function returns the number of a refusal, or 0 (SCOPE 6.1 to 6.10; 6 does not occur):
+ * Every function returns the number of a refusal, or 0 (SCOPE 6.1 to 6.12; 6 and 11 do not occur):
  *   1  a store has too few members
  *   2  a size, block, column, count or order is out of its range
  *   3  something in a sheet is not a number; or a separator, the order of the terms or a zero last coefficient is wrong,
@@ -22,7 +22,8 @@
  *   8  a coefficient has passed +-268,435,455 in the course of the run
  *   9  a seventeenth relation would have to be listed
  *  10  the system has no solution: the left part of a row is zero and its right side is not
- * On 1 to 5 no store is changed (SCOPE 6.32; but see `wurgalm_batch`). On 7 to 10 the needed part of each store that the
+ *  12  a value of Horner's rule has passed +-2^40 (`wurgalm_check_record` alone)
+ * On 1 to 5 no store is changed (SCOPE 6.32; but see `wurgalm_batch`). On 7 to 12 the needed part of each store that the
  * function may write is zero (SCOPE 6.33). Sizes, count and order are checked first (2), then the lengths of the stores
  * (1), then their numbers (5) (SCOPE 3.31).
  *
@@ -45,6 +46,7 @@ extern "C" {
 #define WURGALM_RELATIONS (16 * WURGALM_RELATION)
 #define WURGALM_RESULT 10 /* of a run */
 #define WURGALM_HEADING 9 /* of a reader */
+#define WURGALM_RECORD 4 /* of a record */
 
 /* Where the 16 coefficients of the right side begin in a row; in a relation, one place later. */
 #define WURGALM_RIGHT_SIDE 320
@@ -103,6 +105,21 @@ uint8_t wurgalm_read_differential(const uint8_t *bytes, size_t bytes_length, int
  * too short. */
 uint8_t wurgalm_write_recurrence(const uint8_t *sheet, size_t sheet_length, uint8_t *bytes, size_t bytes_length, int64_t *result,
                                  size_t result_length);
+
+/* Does the system explain recorded vectors? Nothing but `result` is written.
+ * In: `rows`, `relations`, m, `equations`, l, t and `count` as for a run; `values` (`vectors` x m numbers): so many vectors of m
+ * numbers each, one after another, that of index `first` first. There are 0 to 64 vectors, the first and the last index are
+ * within +-1,048,576, each value within +-65,536 (SCOPE 12.11 to 12.13).
+ * An equation is tested at each n for which the vectors from n + t to n + l are all in the record, by rising n, then by number;
+ * after the equations the relations, in their order, where n0 is such an n (SCOPE 12.22, 12.23). A test forms the sum of the
+ * equation there and subtracts its right side.
+ * Out: `result` (4 numbers, SCOPE 12.41): 0 for "fits", how many were tested, 0, 0; or of the first sum that is not zero: 1 for
+ * an equation, 2 for a relation, its number from 1, its index, the sum.
+ * Returns 0, 1, 2 or 5; or 12 where in Horner's rule for an entry or a right side, highest power first, a value passes +-2^40
+ * before any sum that is not zero (SCOPE 12.31). */
+uint8_t wurgalm_check_record(const int64_t *rows, size_t rows_length, const int64_t *relations, size_t relations_length, size_t m,
+                             size_t equations, int64_t l, int64_t t, size_t count, int64_t first, size_t vectors,
+                             const int64_t *values, size_t values_length, int64_t *result, size_t result_length);
 
 /* A whole batch worked.
  * In: the bytes of the batch: a line with the number of sheets, 0 to 1,000, and for each sheet a line with its client,

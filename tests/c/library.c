@@ -376,6 +376,57 @@ static void bessel_written(void) {
     check_recurrence("3 5", 0, 0, 4, 7, "", "recurrence, an early end, before stores too short");
 }
 
+/* ---- records ---- */
+
+/* (n + 1) x(n+1) - 2 x(n) = 0 with x(0) = 45 as a relation: 45, 90, 90, 60, 30, 12, 4 begins at 0. */
+static const char *const measured = "3 1 1 0\n1\n2 1 1 2 1 1 0 1 1 -2\n1\n0 1 0 1 1 1\n0\n2\n0\n1 45\n";
+
+/* A record of one unknown and what is answered: the number and the result; no other store changes, and nothing past four numbers. */
+static void check_measured(const char *sheet, Asked call, int64_t first, const int64_t *values, size_t vectors, size_t length,
+                           uint8_t number, const int64_t *result, const char *what) {
+    static Stores stores, expected;
+    int64_t kept[64];
+    uint8_t answer;
+    prepare(&stores, 9);
+    check(read_sheet(sheet, &stores, asked()) == 0, "a model is read");
+    fill(stores.result, WURGALM_RESULT + MORE, 7);
+    expected = stores;
+    memcpy(expected.result, result, WURGALM_RECORD * sizeof *result);
+    memcpy(kept, values, length * sizeof *values);
+    answer = wurgalm_check_record(stores.rows, call.rows, stores.relations, call.relations, call.m, call.equations, call.l, call.t,
+                                  call.count, first, vectors, values, length, stores.result, call.result);
+    check(answer == number && same(&stores, &expected) && memcmp(kept, values, length * sizeof *values) == 0, what);
+}
+
+static void records(void) {
+    static const int64_t good[7] = {45, 90, 90, 60, 30, 12, 4}, wrong[7] = {45, 90, 90, 60, 30, 13, 4}, large[1] = {65537};
+    static const int64_t double_good[3] = {90, 180, 180}, most[1] = {-65536}, nothing[1] = {0};
+    static const int64_t fits[4] = {0, 7, 0, 0}, one[4] = {0, 1, 0, 0}, none[4] = {0, 0, 0, 0}, kept[4] = {7, 7, 7, 7};
+    static const int64_t equation[4] = {1, 1, 4, 5}, relation[4] = {2, 1, 0, 45};
+    static const int64_t at_limit[4] = {1, 1, 1048576, -72057594037927936};
+    static const char *const square = "3 1 0 0\n1\n1 0 1 3 0 0 1\n0\n0\n", *const past = "3 1 0 0\n1\n1 0 1 3 1 0 1\n0\n0\n";
+    Asked call = asked(), constant;
+    call.m = call.equations = call.count = 1;
+    constant = call;
+    constant.l = 0;
+    constant.count = 0;
+    check_measured(measured, call, 0, good, 7, 7, 0, fits, "record, six tests of the equation and one of the relation: fits");
+    check_measured(measured, call, 0, wrong, 7, 7, 0, equation, "record, the equation fails at n = 4");
+    check_measured(measured, call, 0, double_good, 3, 3, 0, relation, "record, the relation fails after the equation fits");
+    check_measured(measured, call, 1, good + 1, 2, 2, 0, one, "record, without the relation's index");
+    check_measured(measured, call, 9, good, 1, 1, 0, none, "record, one vector and two blocks: nothing is tested");
+    check_measured(measured, call, -1048576, good, 0, 0, 0, none, "record, no vectors");
+    check_measured(square, constant, 1048576, most, 1, 1, 0, at_limit, "record, n^2 is 2^40");
+    check_measured(past, constant, 1048576, nothing, 1, 1, 12, none, "record, n^2 + 1 passes 2^40, and x is 0: 12, and zeros");
+    check_measured(measured, call, 1048577, good, 0, 0, 2, kept, "record, first index past its limit: 2");
+    check_measured(measured, call, 1048571, good, 7, 7, 2, kept, "record, last index past its limit: 2");
+    check_measured(measured, call, 0, good, 65, 7, 2, kept, "record, 65 vectors, before a store too short: 2");
+    check_measured(measured, call, 0, good, 7, 6, 1, kept, "record, a value too few: 1");
+    check_measured(measured, call, 0, large, 1, 1, 5, kept, "record, a value past its limit: 5");
+    call.result = WURGALM_RECORD - 1;
+    check_measured(measured, call, 0, large, 1, 1, 1, kept, "record, result store too short, before a value past its limit: 1");
+}
+
 /* ---- a whole batch ---- */
 
 /* What a call on a batch answers and leaves: the number, and a result and an output that begin so, with everything past them as before. */
@@ -583,6 +634,7 @@ int main(void) {
     k2_in_a_batch();
     bessel_read();
     bessel_written();
+    records();
     runs_refused_before_the_work(wurgalm_run_leading, "leading");
     runs_refused_before_the_work(wurgalm_run_trailing, "trailing");
     runs_refused_during_the_work(wurgalm_run_leading);

@@ -51,6 +51,7 @@
 --                   output-passes
 --     from an index: first-index-enough, first-index-kept, first-index-back
 --     differential: differential-solutions
+--     records:      record-fits, record-fails, record-limit, record-satisfied
 --     answers:      answer-solutions
 use Prim.Native.Nat.{ℕ, pred, _*_, _≤_, _<_}
 use mathlib.Core.Path.{_≡_}
@@ -69,7 +70,7 @@ use Rattle.rules.specs.Elimination.{Side, leading, trailing, State, Outcome, do
 use Rattle.algebra.specs.Multiplicity.{multiplicity}
 use Rattle.theory.specs.Report.{product}
 use Rattle.rules.specs.Stores.{Sizes, equations, span, rowsOf, relationsOf, rowNeed, relationNeed, checkStores}
-use Rattle.rules.specs.Sequences.{Sequence, Satisfies, Dependent, polynomialAt}
+use Rattle.rules.specs.Sequences.{Sequence, valueOf, Satisfies, Dependent, polynomialAt}
 use Rattle.rules.specs.Layout.{SizeBounds, NumbersRight}
 use Rattle.rules.specs.Calls.{Call, refusal, polynomialCheck, polynomialPart}
 use Rattle.rules.specs.Numbers.{got, fault}
@@ -92,6 +93,12 @@ use Rattle.batches.specs.Rooms as Rooms
 use Rattle.differential.specs.Differential.{DifferentialSheet}
 use Rattle.differential.specs.Recurrence.{recurrenceOf}
 use Rattle.differential.specs.Meaning.{Series, SatisfiesDifferential}
+use Rattle.records.specs.Records as Records
+use Rattle.records.specs.Records.{Which, Tested, fits, fails, limitPassed, tests, checkRecord, recordCall}
+use Rattle.records.specs.Meaning.{Agrees, RowPasses}
+use Rattle.records.specs.Outcomes.{First, FailsWith}
+use Rattle.records.specs.Explained.{named, Explains}
+use Rattle.records.specs.Promises as Promises
 use Rattle.exports.specs.Results.{Exported, runNeed}
 use Rattle.exports.specs.Writes.{Written, notWritten}
 use Rattle.claims.specs.RunWords.{Ran, FoundBefore, FoundDuring, RunNumber, Rewritten, Cleared, Kept, InRange}
@@ -673,6 +680,39 @@ module _ {input output : List ℕ} {e : OutputCall} (answered : BatchWasAnswered
 -- (SCOPE 5.12, 5.15).
 pub batch-sums : (input : List ℕ) → Ends (batchOutput input) (outputInAll input)
 batch-sums = tally-sums
+
+-- ==== records: `check_record`
+
+-- What the answer to a record says, of stores that pass the checks of the call (SCOPE 12.25). `tests` are the tests in their order.
+module _ (z : Sizes) (count : ℕ) (first : ℤ) (vectors : ℕ) (rows relations values : List ℤ)
+    (passed : checkRecord z count first vectors rows relations values ≡ 0) where
+  abbrev recorded : List Tested
+  recorded = tests z first vectors (take (vectors * z .m) values) (rowsOf (equations z) rows) (relationsOf count relations)
+
+  abbrev recordAnswer : Records.Answer
+  recordAnswer = recordCall z count first vectors rows relations values
+
+  -- Where 12 does not come, "fits" comes exactly if every tested equation and relation holds of a sequence with these vectors.
+  pub record-fits : (y : Sequence) → Agrees (z .m) first vectors values y → recordAnswer ≢ Records.refused limitPassed
+      → (recordAnswer ≡ fits (length recorded)) ↔ Explains z first vectors (rowsOf (equations z) rows) (relationsOf count relations) y
+  record-fits = Promises.record-fits z count first vectors rows relations values passed
+
+  -- A failure is the first in the order of the tests, and its sum is the nonzero value of its row there.
+  pub record-fails : (w : Which) (n s : ℤ) → recordAnswer ≡ fails w n s
+      → First (FailsWith w n s) recorded
+      × ((y : Sequence) → Agrees (z .m) first vectors values y
+      → (s ≡ valueOf (z .l) (named (rowsOf (equations z) rows) (relationsOf count relations) w) y n) × (s ≢ pos 0))
+  record-fails = Promises.record-fails z count first vectors rows relations values passed
+
+  -- 12 comes exactly if, before any nonzero sum, a value of Horner's rule for a tested row passes ±2^40 (SCOPE 12.31).
+  pub record-limit : (recordAnswer ≡ Records.refused limitPassed)
+      ↔ First (λ t. RowPasses (z .m) (span z) (named (rowsOf (equations z) rows) (relationsOf count relations) (t .which)) (t .index)) recorded
+  record-limit = Promises.record-limit z count first vectors rows relations values passed
+
+  -- What satisfies the system and has the recorded vectors never fails.
+  pub record-satisfied : (y : Sequence) → Solves z count rows relations y → Agrees (z .m) first vectors values y
+      → (w : Which) (n s : ℤ) → recordAnswer ≢ fails w n s
+  record-satisfied = Promises.satisfied-never-fails z count first vectors rows relations values passed
 
 -- ==== the exported calls: `wurgalm_run_leading`, `wurgalm_run_trailing`, `wurgalm_read_sheet`, `wurgalm_write_sheet`,
 -- `wurgalm_batch`

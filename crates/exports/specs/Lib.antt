@@ -5,3 +5,4 @@ pub mod Writes
 pub mod Reads
 pub mod Batches
 pub mod Differentials
+pub mod RecordNumbers

@@ -1,5 +1,5 @@
-// The entry points for programs in C and other languages, by plain names: the public calls of `elimination`, `sheets` and
-// `differential`, and the whole batch of `batches`, the fields of whose results are numbers of a lent store. No `requires`,
+// The entry points for programs in C and other languages, by plain names: the public calls of `elimination`, `sheets`,
+// `differential` and `records`, and the whole batch of `batches`, the fields of whose results are numbers of a lent store. No `requires`,
 // and contracts that give the refusal and every lent store by equations (SCOPE 3.51, 9.1, 9.2).
 use sides::Side;
 ghost use mathlib.Core.Path.{_≡_};
@@ -9,10 +9,12 @@ ghost use Rattle.exports.specs.Writes.{exportWrite};
 ghost use Rattle.exports.specs.Reads.{exportRead};
 ghost use Rattle.exports.specs.Batches.{exportBatch};
 ghost use Rattle.exports.specs.Differentials.{exportDifferential, exportRecurrence};
+ghost use Rattle.exports.specs.RecordNumbers.{exportRecord};
 
 mod either_side;
 mod numbers;
 mod reads;
+mod recorded;
 mod writes;
 
 // A run on the leading side. `result` gets ten numbers: the relation count, the shifts, c(1) to c(4), 1 or 0 for a
@@ -184,4 +186,38 @@ pub extern "C" fn wurgalm_write_recurrence(sheet: &[u8], bytes: &mut [u8], resul
     }
     result[0] = written.length as i64;
     0
+}
+
+// Does the system explain recorded vectors? There are `vectors` vectors of m numbers each, that of index `first` first. `result` gets
+// four numbers: 0 fits, 1 equation, 2 relation; the number tested, or which failed, from 1; its index and its sum, both 0 where all
+// fit (SCOPE 3.52, 12.24).
+#[no_mangle]
+pub extern "C" fn wurgalm_check_record(
+    rows: &[i64],
+    relations: &[i64],
+    m: usize,
+    equations: usize,
+    l: i64,
+    t: i64,
+    count: usize,
+    first: i64,
+    vectors: usize,
+    values: &[i64],
+    result: &mut [i64],
+) -> u8
+    ensures { λ r. ⌜
+        record { refusal = r; resultStore = now (result .exit) }
+        ≡ exportRecord (record { m = m; equations = equations; l = l; t = t }) count first vectors
+        (now (rows .entry)) (now (relations .entry)) (now (values .entry)) (now (result .entry)) ⌝ }
+{
+    recorded::exported(
+        rows,
+        relations,
+        stores::validity::Sizes { m, equations, l, t },
+        count,
+        first,
+        vectors,
+        values,
+        result,
+    )
 }

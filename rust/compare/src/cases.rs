@@ -3,11 +3,14 @@
 use crate::batches::batch;
 use crate::differentials::{differential, input};
 use crate::random::Random;
+use crate::records::{damage_record, recorded, Recorded};
 use crate::sheets::sheet;
 use crate::subject::Subject;
 use crate::systems::system;
 use outside::elimination::Side;
-use outside::stores::{row_store, store, Asked, COEFFICIENTS, ENTRIES, HEADING, RELATION, RELATION_STORE, RESULT, ROW};
+use outside::stores::{
+    row_store, store, Asked, COEFFICIENTS, ENTRIES, HEADING, RECORD, RELATION, RELATION_STORE, RESULT, ROW,
+};
 use outside::system::{Sizes, System};
 use outside::{C, EQUATIONS};
 
@@ -52,6 +55,8 @@ pub enum Case {
     Recurrence { sheet: Vec<u8>, bytes: Vec<u8>, result: Vec<i64> },
     /// An input of the program `induce`.
     Induce { input: Vec<u8> },
+    /// A record that is held against the system in stores.
+    Record { stores: Stores, asked: Asked, recorded: Recorded },
 }
 
 #[derive(Clone, Copy, Debug, PartialEq, Eq)]
@@ -65,12 +70,13 @@ pub enum Kind {
     Differential,
     Recurrence,
     Induce,
+    Record,
 }
 
 impl Kind {
     /// Calls on stores, which take no time to speak of.
-    pub const CALLS: [Kind; 6] =
-        [Kind::Leading, Kind::Trailing, Kind::Read, Kind::Write, Kind::Differential, Kind::Recurrence];
+    pub const CALLS: [Kind; 7] =
+        [Kind::Leading, Kind::Trailing, Kind::Read, Kind::Write, Kind::Differential, Kind::Recurrence, Kind::Record];
     /// Batches and programs.
     pub const SLOW: [Kind; 3] = [Kind::Batch, Kind::BatchCall, Kind::Induce];
 
@@ -88,6 +94,7 @@ impl Kind {
             Kind::Differential => differential_case(&mut random),
             Kind::Recurrence => recurrence_case(&mut random),
             Kind::Induce => Case::Induce { input: input(&mut random) },
+            Kind::Record => record_case(&mut random),
         }
     }
 }
@@ -175,6 +182,21 @@ fn batch_call_case(random: &mut Random) -> Case {
     let bytes = (0..length).map(|k| k as u8 | 1).collect();
     let result = (0..random.pick(&[1, 1, 1, 2, 5, 0])).map(|_| random.junk()).collect();
     Case::BatchCall { input, bytes, result }
+}
+
+/// A system and a record, with stores, sizes and record of every sixth call made wrong.
+fn record_case(random: &mut Random) -> Case {
+    let (system, mut recorded) = recorded(random);
+    let mut stores = lent(random, &system, RECORD);
+    let mut asked = asked_of(&system);
+    recorded.lengthen(random);
+    if random.one_in(6) {
+        if random.one_in(2) {
+            damage(random, &mut stores, &mut asked);
+        }
+        damage_record(random, &mut recorded);
+    }
+    Case::Record { stores, asked, recorded }
 }
 
 fn written_order(order: &[i64]) -> Vec<usize> {
@@ -297,6 +319,12 @@ impl Case {
                 vec![Answer::of_bytes(number, bytes, result)]
             }
             Case::Induce { input } => vec![Answer::of_bytes(0, subject.induce(input), Vec::new())],
+            Case::Record { stores, asked, recorded } => {
+                let mut stores = stores.clone();
+                let record = recorded.record();
+                let number = subject.check_record(&stores.rows, &stores.relations, *asked, &record, &mut stores.result);
+                vec![Answer { number, stores, bytes: Vec::new() }]
+            }
         }
     }
 
@@ -319,6 +347,7 @@ impl Case {
                 format!("recurrence, {} bytes, result {}\n{}", bytes.len(), result.len(), text(sheet))
             }
             Case::Induce { input } => format!("induce, {} bytes\n{}", input.len(), text(input)),
+            Case::Record { stores, asked, recorded } => format!("{recorded:?}, {}", stores.shown(*asked)),
         }
     }
 }

@@ -9,6 +9,7 @@ pub mod first_index;
 pub mod judge;
 pub mod pieces;
 pub mod random;
+pub mod records;
 pub mod runs;
 pub mod sheets;
 pub mod subject;

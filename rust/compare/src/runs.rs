@@ -1,10 +1,12 @@
-//! Cases that were made elsewhere, from a file of runs, a file of differential sheets or a batch with its output. A subject is called with stores of several lengths,
+//! Cases that were made elsewhere, from a file of runs, a file of differential sheets, a file of records or a batch with its output. A subject is called with stores of several lengths,
 //! and every number of every store is judged, before and after. What is expected comes from the file alone: its sheets are taken apart
 //! here into the numbers that the stores have to hold.
 
 use crate::cases::text;
+use crate::records::Recorded;
 use crate::subject::Subject;
 use outside::elimination::Side;
+use outside::record::Record;
 use outside::stores::Asked;
 use std::str;
 use wurgalm::{row_store, COEFFICIENTS, ENTRIES, EQUATIONS, RECURRENCE, RELATION, RELATION_STORE, ROW};
@@ -13,6 +15,8 @@ use wurgalm::{row_store, COEFFICIENTS, ENTRIES, EQUATIONS, RECURRENCE, RELATION,
 const RESULT: usize = 10;
 /// Numbers of the result of a reader.
 const HEADING: usize = 9;
+/// Numbers of the answer to a record.
+const RECORD: usize = 4;
 
 /// What a run of a sheet leaves.
 #[derive(Debug, PartialEq, Eq)]
@@ -43,7 +47,52 @@ pub struct Induced {
     pub recurrence: Vec<u8>,
 }
 
+/// A sheet with a record, and the refusal or 0 with the four numbers of the answer, zeros on a refusal.
+#[derive(Debug, PartialEq, Eq)]
+pub struct Measured {
+    pub sheet: Vec<u8>,
+    pub recorded: Recorded,
+    pub refusal: u8,
+    pub answer: [i64; RECORD],
+}
+
 // ---- the files ----
+
+/// The cases of a file of records: a line `sheet BYTES` and so many bytes, a line `record FIRST VECTORS`, a line of values, which may be
+/// empty or too short, and `fits TESTED`, `equation NUMBER N SUM`, `relation NUMBER N0 SUM` or `refused REFUSAL`.
+pub fn records_of(mut file: &[u8]) -> Result<Vec<Measured>, String> {
+    let mut cases = Vec::new();
+    while !file.is_empty() {
+        let sheet = sheet_of(&mut file)?;
+        let (heading, values, answer) = (next_line(&mut file)?, next_line(&mut file)?, next_line(&mut file)?);
+        let [first, vectors] =
+            heading.strip_prefix("record ").and_then(numbers_of).ok_or(format!("no record at {heading:?}"))?;
+        let values =
+            values.split_ascii_whitespace().map(|value| value.parse().map_err(|_| format!("no value {value:?}")));
+        let recorded = Recorded { first, vectors: vectors as usize, values: values.collect::<Result<_, _>>()? };
+        let (refusal, answer) = record_answer(answer).ok_or(format!("no answer at {answer:?}"))?;
+        cases.push(Measured { sheet, recorded, refusal, answer });
+    }
+    Ok(cases)
+}
+
+/// So many numbers that are a space apart.
+fn numbers_of<const COUNT: usize>(line: &str) -> Option<[i64; COUNT]> {
+    let numbers: Result<Vec<i64>, _> = line.split(' ').map(str::parse).collect();
+    numbers.ok()?.try_into().ok()
+}
+
+fn record_answer(line: &str) -> Option<(u8, [i64; RECORD])> {
+    let (word, rest) = line.split_once(' ')?;
+    let failure = |kind| numbers_of(rest).map(|[number, index, sum]| (0, [kind, number, index, sum]));
+    match word {
+        "fits" => numbers_of(rest).map(|[tested]| (0, [0, tested, 0, 0])),
+        "equation" => failure(1),
+        "relation" => failure(2),
+        "refused" => rest.parse().ok().map(|refusal| (refusal, [0; RECORD])),
+        _ => None,
+    }
+}
 
 /// The cases of a `run.txt`: a line `sheet BYTES` and so many bytes, a line `leading REFUSAL shifts S root R rank W mult M` with the
 /// sheet that is left where the refusal is 0, and the same for the trailing side. Files that are older have no ` mult M`.
@@ -221,6 +270,10 @@ fn lent<T: Member>(needed: &[T], more: isize) -> Vec<T> {
 /// The stores of a call: how long each is beside its need, and what a call does with one that is too short.
 const LENGTHS: [[isize; 3]; 6] = [[0, 0, 0], [3, 0, 0], [0, ROW as isize, 1], [-1, 0, 0], [0, -1, 5], [7, 0, -1]];
 
+/// The same for a record: rows, relations, result, values. The values of a file are as many as are needed, or too few.
+const RECORD_LENGTHS: [[isize; 4]; 7] =
+    [[0, 0, 0, 0], [3, 1, 2, 5], [-1, 0, 0, 0], [0, -1, 0, 2], [0, 0, -1, 0], [0, 0, 0, -1], [7, 0, -4, 0]];
+
 /// Whether a store is shorter than it needs to be, which one that needs no number never is.
 fn is_short(needs: &[usize], more: &[isize]) -> bool {
     needs.iter().zip(more).any(|(&need, &more)| need.saturating_add_signed(more) < need)
@@ -295,6 +348,37 @@ impl Judge {
         };
         let judged = judged.and_then(|()| self.program(case, subject));
         judged.map_err(|difference| format!("{difference}\n{}", text(&case.sheet)))
+    }
+
+    /// A record is held against the system of its sheet. Nothing but the result is written, and that only where the answer is 0, or 12.
+    pub fn record(&mut self, case: &Measured, subject: &dyn Subject) -> Judgement {
+        let input = held(&case.sheet);
+        let judged = RECORD_LENGTHS.iter().try_for_each(|more| self.record_in(case, &input, *more, subject));
+        judged.map_err(|difference| {
+            let Recorded { first, vectors, values } = &case.recorded;
+            format!("{difference}\n{}record {first} {vectors}\n{values:?}", text(&case.sheet))
+        })
+    }
+
+    fn record_in(&mut self, case: &Measured, input: &Held, more: [isize; 4], subject: &dyn Subject) -> Judgement {
+        let needs = [input.rows.len(), RELATION_STORE, RECORD, case.recorded.values.len()];
+        let given = [input.rows.clone(), input.relations.clone(), unsaid(RECORD), case.recorded.values.clone()];
+        // A store of values that is too short is not made longer.
+        let more = if case.refusal == 1 { [more[0], more[1], more[2], more[3].min(0)] } else { more };
+        let before = [0, 1, 2, 3].map(|k| lent(&given[k], more[k]));
+        let [rows, relations, mut result, values] = before.clone();
+        let Recorded { first, vectors, .. } = case.recorded;
+        let record = Record { first, vectors, values: &values };
+        let found = subject.check_record(&rows, &relations, input.asked, &record, &mut result);
+        // What is out of its range comes before a store that is too short.
+        let number = if is_short(&needs, &more) && case.refusal != 2 { 1 } else { case.refusal };
+        let expected = if number == 0 || number > 5 { lent(&case.answer, more[2]) } else { before[2].clone() };
+        self.calls += 1;
+        numbered("a record", found, number)?;
+        same("row store", &rows, &before[0])?;
+        same("relation store", &relations, &before[1])?;
+        same("values", &values, &before[3])?;
+        same("result of a record", &result, &expected)
     }
 
     /// The recurrence is written as a sheet, and nothing past its end.
@@ -449,6 +533,7 @@ mod tests {
     use super::*;
     use crate::differentials::differential;
     use crate::random::Random;
+    use crate::records::recorded;
     use crate::sheets::whole_sheet;
     use crate::subject::Outside;
     use outside::elimination::run;
@@ -561,6 +646,57 @@ mod tests {
         }
         for file in ["sheet", "sheet 9\n", "sheet 1\n3answer", "sheet 1\n3answer x\n", "sheet 0\nleading 4\n"] {
             assert!(induced_of(file.as_bytes()).is_err(), "{file:?}");
+        }
+    }
+
+    /// Sheets with records and their answers, as a file of them has all three.
+    fn record_cases() -> Vec<Measured> {
+        let mut random = Random::new(13);
+        let mut file = Vec::new();
+        while file.len() < 400_000 {
+            let (system, recorded) = recorded(&mut random);
+            let Ok(answer) = outside::record::check(&system, &recorded.record(), None) else { continue };
+            let sheet = write(&Sheet { system, order: Vec::new() });
+            let values: Vec<String> = recorded.values.iter().map(i64::to_string).collect();
+            let answer = match answer {
+                outside::record::Answer::Fits(tested) => format!("fits {tested}"),
+                outside::record::Answer::Equation(number, n, sum) => format!("equation {number} {n} {sum}"),
+                outside::record::Answer::Relation(number, n, sum) => format!("relation {number} {n} {sum}"),
+            };
+            let record = format!("record {} {}\n{}\n", recorded.first, recorded.vectors, values.join(" "));
+            file.extend(format!("sheet {}\n", sheet.len()).bytes().chain(sheet));
+            file.extend(format!("{record}{answer}\n").bytes());
+        }
+        let past = "3 1 0 0\n1\n1 0 1 3 1 0 1\n0\n0\n";
+        let lines =
+            ["1048576 1\n0\nrefused 12", "1048577 1\n0\nrefused 2", "0 1\n\nrefused 1", "0 1\n65537\nrefused 5"];
+        for lines in lines {
+            file.extend(format!("sheet {}\n{past}record {lines}\n", past.len()).bytes());
+        }
+        records_of(&file).unwrap()
+    }
+
+    #[test]
+    fn records() {
+        use Fault::*;
+        let cases = record_cases();
+        assert!(cases.len() > 300);
+        let mut judge = Judge::default();
+        for case in &cases {
+            judge.record(case, &Outside(None)).unwrap();
+        }
+        assert_eq!(judge.calls, 7 * cases.len());
+        let places = [RelationsFirst, BlockBefore, BlockBehind, RelationBefore, RelationBehind, IndicesFall, SideAdded];
+        let calls = [RecordResultKept, RecordResultThree, RecordAfterLengths, ValuesPast, ValueIsSize, NumberFromZero];
+        for fault in places.into_iter().chain(calls).chain([LimitReached, EquationsCounted, ByUnknown]) {
+            let noticed = |case: &Measured| Judge::default().record(case, &Outside(Some(fault))).is_err();
+            assert!(cases.iter().any(noticed), "{fault:?}");
+        }
+        let sheet = "sheet 1\n3";
+        for lines in
+            ["record 1\n\nfits 0\n", "record 1 1\nx\nfits 0\n", "record 1 0\n\nfits\n", "record 1 0\n\nfails 1\n"]
+        {
+            assert!(records_of(format!("{sheet}{lines}").as_bytes()).is_err(), "{lines:?}");
         }
     }
 

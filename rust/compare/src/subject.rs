@@ -2,8 +2,9 @@
 
 use outside::elimination::Side;
 use outside::fault::Fault;
-use outside::stores::{batch_on_stores, read_differential_on_stores, read_on_stores, run_on_stores};
-use outside::stores::{write_on_stores, write_recurrence_on_stores, Asked};
+use outside::record::Record;
+use outside::stores::{batch_on_stores, check_record_on_stores, read_differential_on_stores, read_on_stores};
+use outside::stores::{run_on_stores, write_on_stores, write_recurrence_on_stores, Asked};
 use std::env;
 use std::io::{Read, Write};
 use std::path::{Path, PathBuf};
@@ -32,6 +33,7 @@ pub trait Subject {
     fn write_recurrence(&self, sheet: &[u8], bytes: &mut [u8], result: &mut [i64]) -> u8;
     /// What the program `induce` writes.
     fn induce(&self, input: &[u8]) -> Vec<u8>;
+    fn check_record(&self, rows: &[i64], relations: &[i64], asked: Asked, record: &Record, result: &mut [i64]) -> u8;
 }
 
 /// The outside implementation.
@@ -80,6 +82,10 @@ impl Subject for Outside {
 
     fn induce(&self, input: &[u8]) -> Vec<u8> {
         outside::differential::output(input, self.0)
+    }
+
+    fn check_record(&self, rows: &[i64], relations: &[i64], asked: Asked, record: &Record, result: &mut [i64]) -> u8 {
+        check_record_on_stores(rows, relations, asked, record, result, self.0)
     }
 }
 
@@ -175,6 +181,11 @@ impl Subject for Library {
 
     fn induce(&self, input: &[u8]) -> Vec<u8> {
         output_of(Command::new(&self.induce), input)
+    }
+
+    fn check_record(&self, rows: &[i64], relations: &[i64], asked: Asked, record: &Record, result: &mut [i64]) -> u8 {
+        let (Asked { m, equations, l, t, count }, Record { first, vectors, values }) = (asked, *record);
+        wurgalm::stores::check_record(rows, relations, m, equations, l, t, count, first, vectors, values, result)
     }
 }
 

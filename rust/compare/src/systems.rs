@@ -87,13 +87,13 @@ fn within_limits(system: &System) -> bool {
     system.all_rows().all(fits) && system.rows.len() <= EQUATIONS && system.relations.len() <= RELATIONS
 }
 
-fn fits(row: &Row) -> bool {
+pub fn fits(row: &Row) -> bool {
     row.degree() <= DEGREE && row.size() <= C
 }
 
 // ---- parts ----
 
-fn sizes(random: &mut Random) -> Sizes {
+pub fn sizes(random: &mut Random) -> Sizes {
     sizes_with(random, 1, 4)
 }
 
@@ -109,7 +109,7 @@ fn sizes_with(random: &mut Random, least: usize, most: usize) -> Sizes {
     Sizes { m, l, t: l - d }
 }
 
-fn nonzero(random: &mut Random, size: i128) -> i128 {
+pub fn nonzero(random: &mut Random, size: i128) -> i128 {
     let a = random.between(1, size);
     if random.one_in(2) {
         a

@@ -5,7 +5,7 @@ use outside::batch::CLIENTS;
 use std::collections::BTreeMap;
 
 /// The tables have a column for each number up to this one.
-const COLUMNS: u8 = 10;
+const COLUMNS: u8 = 12;
 
 /// Counts for the cases of one kind.
 #[derive(Default)]
@@ -16,6 +16,8 @@ pub struct Tally {
     roots: BTreeMap<i64, usize>,
     ranks: BTreeMap<i64, usize>,
     multiplicities: BTreeMap<i64, usize>,
+    /// Of records: "fits", an equation, a relation.
+    kinds: BTreeMap<i64, usize>,
 }
 
 impl Tally {
@@ -27,6 +29,9 @@ impl Tally {
         }
         for answer in answers {
             *self.refusals.entry(answer.number).or_default() += 1;
+        }
+        if let (Kind::Record, 0) = (kind, answers[0].number) {
+            *self.kinds.entry(answers[0].stores.result[0]).or_default() += 1;
         }
         if let (Kind::Leading | Kind::Trailing, 0) = (kind, answers[0].number) {
             let result = &answers[0].stores.result;
@@ -69,6 +74,14 @@ impl Tally {
             let cells: Vec<String> = table.iter().map(|(n, times)| format!("{n}: {times}")).collect();
             println!("{name}, {what}: {}", cells.join(", "));
         }
+    }
+}
+
+impl Tally {
+    /// How often a record fits, and fails at an equation or a relation.
+    pub fn print_kinds(&self, name: &str) {
+        let [fits, equation, relation] = [0, 1, 2].map(|kind| self.kinds.get(&kind).copied().unwrap_or(0));
+        println!("{name}, fits: {fits}, equation: {equation}, relation: {relation}");
     }
 }
 
@@ -170,6 +183,11 @@ mod tests {
         }
         let induced = counted(Kind::Induce, 1_000);
         assert!([0, 2, 3, 4, 5].iter().all(|&number| induced.refused(number) >= 20));
+        let records = counted(Kind::Record, 4_000);
+        for number in [0, 1, 2, 5, 12] {
+            assert!(records.refused(number) >= 20, "record: {number} comes up {} times", records.refused(number));
+        }
+        assert!((0..=2).all(|kind| records.kinds[&kind] >= 100), "{:?}", records.kinds);
     }
 
     /// As many answers are counted as the last lines of a batch say, with their kinds.

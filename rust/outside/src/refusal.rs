@@ -22,6 +22,8 @@ pub enum Refusal {
     Relations = 9,
     /// A row's left part is zero and its right side is not (02, U1).
     Inconsistent = 10,
+    /// A value of Horner's rule has passed ±2^40 (02, U10).
+    Value = 12,
 }
 
 impl Refusal {

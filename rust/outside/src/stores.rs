@@ -8,6 +8,7 @@ use crate::differential;
 use crate::elimination::{run, Run, Side};
 use crate::fault::{is, Fault};
 use crate::polynomial::Polynomial;
+use crate::record::{self, Record};
 use crate::refusal::Refusal;
 use crate::row::Row;
 use crate::sheet::{self, Sheet};
@@ -30,6 +31,8 @@ pub const RELATION_STORE: usize = RELATIONS * RELATION;
 pub const RESULT: usize = 10;
 /// Numbers that the answer of a reader takes (SCOPE 3.52; 02, U6).
 pub const HEADING: usize = 9;
+/// Numbers that the answer to a record takes (SCOPE 12.41).
+pub const RECORD: usize = 4;
 
 /// The sizes and the relation count of a call, as they are given.
 #[derive(Clone, Copy, Debug, PartialEq, Eq)]
@@ -457,6 +460,61 @@ fn batch_to_stores(input: &[u8], output: &mut [u8], result: &mut [i64], fault: O
     long_enough(&[(result.len(), 1)])?;
     result[0] = if fits.is_ok() { text.len() as i64 } else { 0 };
     fits
+}
+
+// ---- records ----
+
+/// Whether the system in the stores explains a record (02, U10). The answer is 0 for "fits", 1 for an equation, 2 for a relation; the
+/// number tested, or which failed; its index and its sum. The range of the record is looked at with the sizes (2), the length of its store
+/// with the other lengths (1), its values after the other numbers (5). On 12 the answer is zeros.
+pub fn check_record_on_stores(
+    rows: &[i64],
+    relations: &[i64],
+    asked: Asked,
+    record: &Record,
+    result: &mut [i64],
+    fault: Option<Fault>,
+) -> u8 {
+    let system = match record_from_stores(rows, relations, asked, record, result.len(), fault) {
+        Ok(system) => system,
+        Err(refusal) => return refusal.number(),
+    };
+    let (number, numbers) = match record::check(&system, record, fault) {
+        Ok(answer) => (0, record_numbers(answer)),
+        Err(refusal) if is(fault, Fault::RecordResultKept) => return refusal.number(),
+        Err(refusal) => (refusal.number(), [0; RECORD]),
+    };
+    result.iter_mut().zip(numbers).for_each(|(place, number)| *place = number);
+    number
+}
+
+fn record_from_stores(
+    rows: &[i64],
+    relations: &[i64],
+    asked: Asked,
+    record: &Record,
+    result: usize,
+    fault: Option<Fault>,
+) -> Result<System, Refusal> {
+    let result_need = if is(fault, Fault::RecordResultThree) { RECORD - 1 } else { RECORD };
+    asked.sizes(fault)?;
+    let in_range = record.in_range(fault);
+    if !is(fault, Fault::RecordAfterLengths) {
+        in_range?;
+    }
+    let need = record.vectors.saturating_mul(asked.m);
+    let system = checked(rows, relations, asked, &[(record.values.len(), need), (result, result_need)], fault)?;
+    in_range?;
+    record.values_right(asked.m, fault)?;
+    Ok(system)
+}
+
+fn record_numbers(answer: record::Answer) -> [i64; RECORD] {
+    match answer {
+        record::Answer::Fits(tested) => [0, tested as i64, 0, 0],
+        record::Answer::Equation(number, n, sum) => [1, number as i64, n as i64, sum as i64],
+        record::Answer::Relation(number, n, sum) => [2, number as i64, n as i64, sum as i64],
+    }
 }
 
 // ---- one polynomial of a row store ----

@@ -1,5 +1,6 @@
 //! The stored answers of `examples/`: what this implementation writes on the same sheets, batches and differential sheets.
 
+use outside::record::{check, Answer, Record};
 use std::fs;
 use std::path::{Path, PathBuf};
 
@@ -50,5 +51,27 @@ fn batches() {
     assert!(!batches.is_empty());
     for (batch, name, answer) in batches {
         answered(&batch, &name, &answer);
+    }
+}
+
+/// Each record is held against the differential sheet of its name: what is answered stands beside it.
+#[test]
+fn records() {
+    let folder = Path::new(env!("CARGO_MANIFEST_DIR")).join("../../examples");
+    let paths = fs::read_dir(folder).unwrap().map(|file| file.unwrap().path());
+    let records: Vec<PathBuf> = paths.filter(|path| path.extension().is_some_and(|e| e == "record")).collect();
+    assert!(!records.is_empty());
+    for path in records {
+        let text = fs::read_to_string(&path).unwrap();
+        let numbers: Vec<i64> = text.split_ascii_whitespace().map(|number| number.parse().unwrap()).collect();
+        let [first, vectors, values @ ..] = &numbers[..] else { panic!("no first line") };
+        let sheet = outside::differential::read(&fs::read(path.with_extension("differential")).unwrap(), None).unwrap();
+        let record = Record { first: *first, vectors: *vectors as usize, values };
+        let answer = match check(&sheet.recurrence(None), &record, None).unwrap() {
+            Answer::Fits(tested) => format!("fits {tested}\n"),
+            Answer::Equation(number, n, sum) => format!("equation {number} {n} {sum}\n"),
+            Answer::Relation(number, n0, sum) => format!("relation {number} {n0} {sum}\n"),
+        };
+        assert_eq!(fs::read_to_string(path.with_extension("explained")).unwrap(), answer, "{}", path.display());
     }
 }

@@ -3,7 +3,10 @@
 
 use outside::differential;
 use outside::elimination::{run, Side};
+use outside::record::Record;
 use outside::sheet::{read, write, Sheet};
+use outside::stores::{check_record_on_stores, row_store, store, Asked, RELATION_STORE};
+use outside::system::Sizes;
 use std::path::PathBuf;
 use std::{env, fs};
 
@@ -48,6 +51,11 @@ fn run_text(bytes: &[u8], side: Side, with_times: bool) -> Vec<u8> {
 
 /// Each sheet of a file is followed by the text that is expected of it. Returns how many there are.
 fn followed_by(file: &[u8], expected: impl Fn(&[u8]) -> Vec<u8>) -> usize {
+    continued_by(file, |bytes, _| expected(bytes))
+}
+
+/// The same where what is expected depends on what follows.
+fn continued_by(file: &[u8], expected: impl Fn(&[u8], &[u8]) -> Vec<u8>) -> usize {
     let mut rest = file;
     let mut count = 0;
     while !rest.is_empty() {
@@ -55,7 +63,7 @@ fn followed_by(file: &[u8], expected: impl Fn(&[u8]) -> Vec<u8>) -> usize {
         let line = std::str::from_utf8(&rest[..end]).unwrap();
         let length: usize = line.strip_prefix("sheet ").unwrap().parse().unwrap();
         let (bytes, after) = rest[end + 1..].split_at(length);
-        let expected = expected(bytes);
+        let expected = expected(bytes, after);
         assert!(after.starts_with(&expected), "{}", String::from_utf8_lossy(bytes));
         rest = &after[expected.len()..];
         count += 1;
@@ -87,4 +95,38 @@ fn differential_sheets() {
     };
     let file = fs::read(folder().join("../calls/differential.txt")).expect("the folder has one of calls beside it");
     println!("differential sheets: {} cases", followed_by(&file, answered));
+}
+
+/// What is answered to the record in the two lines behind a sheet, after those lines.
+fn record_text(sheet: &[u8], after: &[u8]) -> Vec<u8> {
+    let lines: Vec<&[u8]> = after.splitn(3, |&b| b == b'\n').collect();
+    let numbers = |line: &[u8]| -> Vec<i64> {
+        let words = std::str::from_utf8(line).unwrap().split_ascii_whitespace();
+        words.filter_map(|word| word.parse().ok()).collect()
+    };
+    let (heading, values) = (numbers(lines[0]), numbers(lines[1]));
+    let record = Record { first: heading[0], vectors: heading[1] as usize, values: &values };
+    let system = read(sheet, None).unwrap().system;
+    let (mut rows, mut relations) = (vec![0; row_store(system.rows.len())], vec![0; RELATION_STORE]);
+    store(&system, &mut rows, &mut relations);
+    let (Sizes { m, l, t }, equations) = (system.sizes, system.rows.len());
+    let asked = Asked { m, equations, l, t, count: system.relations.len() };
+    let mut result = [7; 4];
+    let number = check_record_on_stores(&rows, &relations, asked, &record, &mut result, None);
+    let [kind, which, index, sum] = result;
+    let answer = match (number, kind) {
+        (0, 0) => format!("fits {which}"),
+        (0, 1) => format!("equation {which} {index} {sum}"),
+        (0, _) => format!("relation {which} {index} {sum}"),
+        _ => format!("refused {number}"),
+    };
+    [lines[0], b"\n", lines[1], b"\n", answer.as_bytes(), b"\n"].concat()
+}
+
+/// Sheets, each followed by a record and its answer (02, U10).
+#[test]
+#[ignore = "needs a folder of vectors"]
+fn records() {
+    let file = fs::read(folder().join("../calls/records.txt")).expect("the folder has one of calls beside it");
+    println!("records: {} cases", continued_by(&file, record_text));
 }

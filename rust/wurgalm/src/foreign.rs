@@ -48,6 +48,12 @@ foreign! {
         sheet: *const u8, sheet_length: usize, bytes: *mut u8, bytes_length: usize,
         result: *mut i64, result_length: usize,
     ) -> u8;
+    fn wurgalm_check_record(
+        rows: *const i64, rows_length: usize, relations: *const i64, relations_length: usize,
+        m: usize, equations: usize, l: i64, t: i64, count: usize, first: i64, vectors: usize,
+        values: *const i64, values_length: usize,
+        result: *mut i64, result_length: usize,
+    ) -> u8;
     fn wurgalm_batch(
         input: *const u8, input_length: usize, output: *mut u8, output_length: usize,
         result: *mut i64, result_length: usize,

@@ -30,6 +30,8 @@ pub const EQUATIONS: usize = 6;
 const RESULT: usize = 10;
 /// Numbers that a reader puts into the result store.
 const HEADING: usize = 9;
+/// Numbers that the answer to a record has.
+const RECORD: usize = 4;
 
 /// Bytes that are enough for the sheet of any recurrence, which is proved (SCOPE 10.42).
 pub const RECURRENCE: usize = 25_223;
@@ -48,7 +50,7 @@ pub struct Sizes {
     pub t: i64,
 }
 
-/// A refusal under its number, 1 to 5 or 7 to 10.
+/// A refusal under its number, 1 to 5, 7 to 10 or 12.
 #[derive(Clone, Copy, Debug, PartialEq, Eq)]
 pub struct Refusal(pub u8);
 
@@ -202,6 +204,61 @@ pub fn write_sheet(rows: &[i64], relations: &[i64], heading: &Heading, bytes: &m
     let (Sizes { m, equations, l, t }, count) = (heading.sizes, heading.relations);
     let number = stores::write_sheet(rows, relations, m, equations, l, t, count, &heading.order, bytes, &mut result);
     accepted(number, result[0] as usize)
+}
+
+/// Recorded vectors, one after another, each of m numbers: at most 64 of them, that of index `first` first. Indices are within
+/// ±1,048,576, values within ±65,536.
+#[derive(Clone, Copy, Debug, PartialEq, Eq)]
+pub struct Record<'a> {
+    pub first: i64,
+    pub vectors: usize,
+    pub values: &'a [i64],
+}
+
+/// Whether a system explains a record.
+#[derive(Clone, Copy, Debug, PartialEq, Eq)]
+pub enum Answer {
+    /// Every sum is zero, of so many equations and relations at the indices where the record has all they speak of.
+    Fits { tested: usize },
+    /// The first sum that is not zero is that of an equation, counted from 1, at n.
+    Equation { number: usize, n: i64, sum: i64 },
+    /// All equations fit, and the first sum that is not zero is that of a relation, counted from 1, at its n0.
+    Relation { number: usize, n0: i64, sum: i64 },
+}
+
+/// Asks whether the system in the stores explains a record. An equation is tested at each n for which all vectors from n + t to n + l are
+/// in the record, by rising n, then by number; the relations after them, in their order, where their n0 is such an n. Nothing but the
+/// answer is written. The refusal 12 says that in Horner's rule for an entry or a right side a value passed ±2^40, before any sum that is not zero.
+///
+/// ```
+/// use wurgalm::{check_record, Answer, Record};
+/// let (mut rows, relations) = (vec![0; wurgalm::row_store(1)], vec![0; wurgalm::RELATION_STORE]);
+/// (rows[0], rows[1]) = (1, 1); // (n + 1) x(n + 1) - 2 x(n) = 0
+/// rows[4 * wurgalm::COEFFICIENTS] = -2;
+/// let sizes = wurgalm::Sizes { m: 1, equations: 1, l: 1, t: 0 };
+/// let record = Record { first: 0, vectors: 4, values: &[45, 90, 90, 60] };
+/// assert_eq!(check_record(&rows, &relations, sizes, 0, &record), Ok(Answer::Fits { tested: 3 }));
+/// let record = Record { first: 0, vectors: 5, values: &[45, 90, 90, 60, 31] };
+/// let failure = Answer::Equation { number: 1, n: 3, sum: 4 }; // 4 x(4) - 2 x(3)
+/// assert_eq!(check_record(&rows, &relations, sizes, 0, &record), Ok(failure));
+/// ```
+pub fn check_record(
+    rows: &[i64],
+    relations: &[i64],
+    sizes: Sizes,
+    count: usize,
+    record: &Record,
+) -> Result<Answer, Refusal> {
+    let mut result = [0; RECORD];
+    let (Sizes { m, equations, l, t }, Record { first, vectors, values }) = (sizes, *record);
+    let number = stores::check_record(rows, relations, m, equations, l, t, count, first, vectors, values, &mut result);
+    let [kind, which, index, sum] = result;
+    let answer = match kind {
+        0 => Answer::Fits { tested: which as usize },
+        1 => Answer::Equation { number: which as usize, n: index, sum },
+        _ => Answer::Relation { number: which as usize, n0: index, sum },
+    };
+    accepted(number, answer)
 }
 
 /// Works a whole batch, writes what the batch program would write to the beginning of `output`, and tells its length. At the end stand eight

@@ -149,6 +149,44 @@ pub fn write_recurrence(sheet: &[u8], bytes: &mut [u8], result: &mut [i64]) -> u
     }
 }
 
+/// Four numbers in `result`: 0 for "fits", 1 for an equation, 2 for a relation; how many were tested, or which one fails, from 1; its index
+/// and its sum, both 0 with "fits". On 12 they are zero.
+#[allow(clippy::too_many_arguments)]
+pub fn check_record(
+    rows: &[i64],
+    relations: &[i64],
+    m: usize,
+    equations: usize,
+    l: i64,
+    t: i64,
+    count: usize,
+    first: i64,
+    vectors: usize,
+    values: &[i64],
+    result: &mut [i64],
+) -> u8 {
+    // SAFETY: as above; `rows`, `relations` and `values` are only read.
+    unsafe {
+        foreign::wurgalm_check_record(
+            rows.as_ptr(),
+            rows.len(),
+            relations.as_ptr(),
+            relations.len(),
+            m,
+            equations,
+            l,
+            t,
+            count,
+            first,
+            vectors,
+            values.as_ptr(),
+            values.len(),
+            result.as_mut_ptr(),
+            result.len(),
+        )
+    }
+}
+
 /// One number in `result`: the length of the output. An output store that is too short is refused with all of it zero.
 pub fn batch(input: &[u8], output: &mut [u8], result: &mut [i64]) -> u8 {
     // SAFETY: as above; `input` is only read.

@@ -1,10 +1,10 @@
 //! Files of cases that were made elsewhere, compared through the exported functions: `calls [outside] FILE ..`. A `run.txt` has sheets
-//! with what their runs leave, a `differential*.txt` has differential sheets with their recurrences, a `NAME.in` is a batch, whose output
-//! is in `NAME.out` beside it. Every store is judged before and after:
+//! with what their runs leave, a `differential*.txt` has differential sheets with their recurrences, a `records*.txt` has sheets with
+//! records and their answers, a `NAME.in` is a batch, whose output is in `NAME.out` beside it. Every store is judged before and after:
 //! of the needed length, longer and too short. With `outside` the outside implementation is judged in place of the library.
 //! The exit code is 1 if there is a difference, 2 if there is nothing to compare.
 
-use compare::runs::{induced_of, runs_of, Judge, Judgement};
+use compare::runs::{induced_of, records_of, runs_of, Judge, Judgement};
 use compare::subject::{Library, Outside, Subject};
 use std::path::{Path, PathBuf};
 use std::{env, fs, process};
@@ -27,8 +27,12 @@ fn judged(path: &Path, judge: &mut Judge, subject: &dyn Subject) -> Vec<Judgemen
     if path.extension().is_some_and(|extension| extension == "in") {
         return vec![judge.batch(&contents(path), &contents(&path.with_extension("out")), subject)];
     }
-    let is_differential = path.file_name().is_some_and(|name| name.as_encoded_bytes().starts_with(b"differential"));
-    if is_differential {
+    let begins = |word: &[u8]| path.file_name().is_some_and(|name| name.as_encoded_bytes().starts_with(word));
+    if begins(b"records") {
+        let cases = some_cases(path, records_of(&contents(path)));
+        return cases.iter().map(|case| judge.record(case, subject)).collect();
+    }
+    if begins(b"differential") {
         let cases = some_cases(path, induced_of(&contents(path)));
         return cases.iter().map(|case| judge.induced(case, subject)).collect();
     }

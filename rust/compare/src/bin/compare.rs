@@ -13,7 +13,7 @@ use std::process::Command;
 use std::time::Instant;
 
 /// How many cases of each kind.
-const CASES: [(Kind, usize); 9] = [
+const CASES: [(Kind, usize); 10] = [
     (Kind::Leading, 20_000),
     (Kind::Trailing, 20_000),
     (Kind::Read, 20_000),
@@ -23,6 +23,7 @@ const CASES: [(Kind, usize); 9] = [
     (Kind::Differential, 20_000),
     (Kind::Recurrence, 5_000),
     (Kind::Induce, 1_000),
+    (Kind::Record, 20_000),
 ];
 /// Differences that are printed whole.
 const SHOWN: usize = 3;
@@ -152,6 +153,11 @@ fn main() {
     for (kind, pair) in &tallies[..2] {
         println!();
         pair.iter().zip(&names).for_each(|(tally, name)| tally.print_runs(&format!("{kind:?}, {name}")));
+    }
+    println!();
+    let records = tallies.iter().filter(|(kind, _)| *kind == Kind::Record);
+    for (kind, pair) in records {
+        pair.iter().zip(&names).for_each(|(tally, name)| tally.print_kinds(&format!("{kind:?}, {name}")));
     }
     std::process::exit((differences > 0) as i32);
 }

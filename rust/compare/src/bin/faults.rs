@@ -45,6 +45,7 @@ fn kind_of(case: &Case) -> &'static str {
         Case::Differential { .. } => "differential",
         Case::Recurrence { .. } => "recurrence",
         Case::Induce { .. } => "induce",
+        Case::Record { .. } => "record",
     }
 }
 

@@ -4,15 +4,17 @@
 use compare::cases::{Answer, Stores};
 use compare::differentials::{longest_differential, whole_differential};
 use compare::random::Random;
+use compare::records::{reaching, recorded, Recorded};
 use compare::sheets::{whole_sheet, whole_sheet_with};
 use compare::subject::{Library, Outside, Subject};
 use compare::systems::{limited_roots, multiple_roots, shared_roots};
 use outside::elimination::Side;
 use outside::polynomial::Polynomial;
+use outside::record::{Record, INDEX, LIMIT, VALUE, VECTORS};
 use outside::row::Row;
 use outside::sheet::{write, Sheet};
 use outside::stores::{row_store, Asked, RELATION_STORE, RESULT};
-use outside::system::{Sizes, System};
+use outside::system::{Relation, Sizes, System};
 use outside::{C, DEGREE, EQUATIONS};
 
 /// Numbers on either side of a lent store.
@@ -44,10 +46,10 @@ impl<T: Copy + PartialEq> Guarded<T> {
     }
 }
 
-/// The numbers that are answered: 0 to 10 without 6, and one place for any other.
-const NUMBERS: usize = 12;
+/// The numbers that are answered: 0 to 12 without 6 and 11, and one place for any other.
+const NUMBERS: usize = 14;
 /// How many of them are printed.
-const PRINTED: usize = 11;
+const PRINTED: usize = 13;
 
 /// A sheet of two equations and a relation, without its fifth section.
 const FOUR_SECTIONS: &[u8] = b"3 2 1 0\n2\n0\n0\n1\n0 0\n0\n";
@@ -65,6 +67,7 @@ enum Call {
     Batch(Vec<u8>, Vec<u8>),
     Differential(Vec<u8>),
     Recurrence(Vec<u8>, Vec<u8>),
+    Record(Asked, Recorded),
 }
 
 fn answer(subject: &dyn Subject, call: &Call, stores: &Stores) -> Answer {
@@ -76,6 +79,8 @@ fn answer(subject: &dyn Subject, call: &Call, stores: &Stores) -> Answer {
         _ => &[],
     };
     let mut bytes = Guarded::new(lent, 0x5a);
+    let lent: &[i64] = if let Call::Record(_, recorded) = call { &recorded.values } else { &[] };
+    let mut values = Guarded::new(lent, MARK);
     let number = match call {
         Call::Run(side, asked) => subject.run(*side, rows.lent(), relations.lent(), *asked, result.lent()),
         Call::Read(sheet) => subject.read(sheet, rows.lent(), relations.lent(), result.lent()),
@@ -85,7 +90,12 @@ fn answer(subject: &dyn Subject, call: &Call, stores: &Stores) -> Answer {
         Call::Batch(input, _) => subject.batch_call(input, bytes.lent(), result.lent()),
         Call::Differential(sheet) => subject.read_differential(sheet, rows.lent(), relations.lent(), result.lent()),
         Call::Recurrence(sheet, _) => subject.write_recurrence(sheet, bytes.lent(), result.lent()),
+        Call::Record(asked, Recorded { first, vectors, .. }) => {
+            let record = Record { first: *first, vectors: *vectors, values: values.lent() };
+            subject.check_record(rows.lent(), relations.lent(), *asked, &record, result.lent())
+        }
     };
+    assert!(values.returned() == lent, "a call wrote into a record");
     let stores = Stores { rows: rows.returned(), relations: relations.returned(), result: result.returned() };
     Answer { number, stores, bytes: bytes.returned() }
 }
@@ -324,6 +334,75 @@ impl Fuzz {
     }
 }
 
+/// Records.
+impl Fuzz {
+    /// A record with stores of every length and values of every number, and with each end of every range of its own.
+    fn every_record(&mut self, system: System, recorded: &Recorded, step: usize) {
+        let (stores, asked, _) = stores_of(&write(&Sheet { system, order: Vec::new() }));
+        let call = |recorded: Recorded| Call::Record(asked, recorded);
+        self.every_length("record", &call(recorded.clone()), &stores, step);
+        for length in 0..=recorded.values.len() {
+            let values = recorded.values[..length].to_vec();
+            self.call("record, length", &call(Recorded { values, ..recorded.clone() }), &stores);
+        }
+        let most = VALUE as i64;
+        for at in 0..recorded.values.len() {
+            for number in [0, most, most + 1, -most, -most - 1, i64::MIN, i64::MAX] {
+                let mut changed = recorded.clone();
+                changed.values[at] = number;
+                self.call("record, value", &call(changed), &stores);
+            }
+        }
+        let (end, long) = (INDEX as i64, vec![0; 4 * (VECTORS + 1)]);
+        let ends = [-end - 1, -end, -end + 1, 0, end - 64, end - 63, end - 1, end, end + 1, i64::MIN, i64::MAX];
+        for vectors in [0, 1, 2, 5, VECTORS - 1, VECTORS, VECTORS + 1, 1 << 62, usize::MAX] {
+            for first in ends {
+                for values in [&long, &recorded.values] {
+                    let changed = Recorded { first, vectors, values: values.clone() };
+                    self.call("record, range", &call(changed), &stores);
+                }
+            }
+        }
+    }
+
+    /// Entries and right sides that are near the limit at an index, small and large: at that index, beside it, with a recorded 0 and without.
+    fn every_value(&mut self) {
+        for n in [16, 17, 100, 4_095, 4_096, 65_536, INDEX - 1, INDEX, INDEX + 64].into_iter().flat_map(|n| [n, -n]) {
+            for (more, sign) in (-2..=2).flat_map(|more| [(more, 1), (more, -1)]) {
+                for from_above in [false, true] {
+                    let p = reaching(n, (LIMIT + more) * sign, from_above).expect("no small index");
+                    self.every_value_at(&p, n);
+                }
+            }
+        }
+    }
+
+    fn every_value_at(&mut self, p: &Polynomial, n: i128) {
+        // In the block that brings an index of the record to n.
+        let block = if n.abs() > INDEX { -64 * n.signum() as i64 } else { 0 };
+        for side in [false, true] {
+            let mut row = Row::default();
+            if side {
+                row.set_right(p.clone());
+            } else {
+                row.set(block, 1, p.clone());
+            }
+            let sizes = Sizes { m: 1, l: block, t: block };
+            let relation = Relation { n0: n, row: row.clone() };
+            let as_equation = System { sizes, rows: vec![Row::default(), row], relations: Vec::new() };
+            let as_relation = System { sizes, rows: vec![Row::default()], relations: vec![relation] };
+            for system in [as_equation, as_relation] {
+                let (stores, asked, _) = stores_of(&write(&Sheet { system, order: Vec::new() }));
+                for (first, value) in (-1..=1).flat_map(|more| [0, 1, -65_536].map(|value| (n + more, value))) {
+                    let first = first as i64 + block;
+                    let recorded = Recorded { first, vectors: 1, values: vec![value] };
+                    self.call(&format!("record, {p:?} at {n}"), &Call::Record(asked, recorded), &stores);
+                }
+            }
+        }
+    }
+}
+
 /// Coefficients that rise to the top and fall again, with signs such that n - r times it has small ones, where r is 1 or -1.
 fn hill(r: i128, top: i128) -> Polynomial {
     let p = Polynomial::new((1..top).chain((1..=top).rev()).collect());
@@ -497,6 +576,19 @@ fn main() {
         fuzz.call("differential, noise", &Call::Differential(sheet.clone()), &stores);
         fuzz.call("recurrence, noise", &Call::Recurrence(sheet, vec![b'#'; random.below(99)]), &stores);
     }
+    for step in [1, 7, 13, 17] {
+        let (system, recorded) = recorded(&mut random);
+        fuzz.every_record(system, &recorded, step);
+    }
+    let (stores, asked, _) = stores_of(sheet);
+    let measured = Recorded { first: -1, vectors: 3, values: vec![1, 0, 1, -1, 1, 1] };
+    fuzz.every_position("record", &Call::Record(asked, measured.clone()), &stores);
+    fuzz.every_value();
+    for _ in 0..20_000 {
+        let (system, recorded) = recorded(&mut random);
+        let (stores, asked, _) = stores_of(&write(&Sheet { system, order: Vec::new() }));
+        fuzz.call("record", &Call::Record(asked, recorded), &stores);
+    }
     // Zero systems in whole stores, and no stores at all: a size is refused before a length.
     let zeros =
         Stores { rows: vec![0; row_store(EQUATIONS)], relations: vec![0; RELATION_STORE], result: vec![7; RESULT] };
@@ -505,6 +597,7 @@ fn main() {
         fuzz.every_size(|asked| Call::Run(Side::Leading, asked), &stores);
         fuzz.every_size(|asked| Call::Run(Side::Trailing, asked), &stores);
         fuzz.every_size(|asked| Call::Write(asked, vec![0; 4], vec![b'#'; 400]), &stores);
+        fuzz.every_size(|asked| Call::Record(asked, measured.clone()), &stores);
     }
     let answers = &fuzz.answers[..PRINTED];
     println!("{} calls, {} differences, answers 0 to {}: {answers:?}", fuzz.calls, fuzz.differences, PRINTED - 1);

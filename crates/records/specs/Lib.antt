@@ -1,0 +1,10 @@
+pub mod Records
+pub mod Sums
+pub mod Places
+pub mod Answers
+pub mod Checks
+pub mod Meaning
+pub mod Outcomes
+pub mod Explained
+pub mod Promises
+pub mod Examples

@@ -1,0 +1,197 @@
+-- Sums as the code forms them, one value after another.
+--
+-- Main definitions
+--   formedOf            the value that a `Formed` has, none where a value is past the limit
+--   farthest            no n that is tested is farther from 0
+--   blockRoom           the products of a block are together no larger
+--
+-- Main statements
+--   horner-next, horner-past    a coefficient more, at the low end; what is past the limit stays so
+--   after-some                  what comes after a value that is there
+--   horner-size                 a value that is formed is within the limit
+--   block-next, block-past      a column more
+--   values-small                the values of a record
+--   block-size                  how far a block can take the sum
+--   blocks-next, blocks-past    a block more
+--   columns-few, blocks-size    how far a row's blocks can take it
+--   row-left, row-right, row-formed   the right side after the left part
+--   blocks-of, columns-of       the blocks and the columns in use, by their numbers
+--   vector-room                 an earlier vector is there too
+use Prim.Native.Nat.{ℕ, zero, suc, pred, _+_, _*_, _≤_, _<_}
+use native.Mathlib.Nat.{le-refl, mul-le-mul, suc-mul}
+use native.Mathlib.Numerals.{add-one}
+use native.Mathlib.Omega.{arith}
+use mathlib.Core.Path.{_≡_, refl, sym, _∙_, ap}
+use mathlib.Core.Bool.{Bool, true, false, cond}
+use mathlib.Core.List.{List, [], _∷_, map}
+use mathlib.Core.Option.{Option, none, some}
+use lib.Dec.{T, leb, leb→le, le→leb}
+use lib.ListN.{length, take, drop, getD, length-take}
+use lib.IntN.{ℤ, pos, natAbs, _+ℤ_, _-ℤ_, _*ℤ_}
+use Rattle.algebra.specs.Integers.{natAbs-+ℤ, natAbs-*ℤ}
+use Rattle.algebra.specs.Polynomials.{Polynomial}
+use Rattle.lists.specs.Images.{map-take}
+use Rattle.lists.specs.Taken.{drop-next}
+use Rattle.lists.specs.Tests.{every-getD, true-of, false-of}
+use Rattle.rules.specs.Rows.{Block, Row}
+use Rattle.rules.specs.Limits.{coefficientCount, columnCount, blockCount, blockLength}
+use Rattle.rules.specs.Stores.{rowOf}
+use Rattle.rules.specs.Layout.{blockOf}
+use Rattle.lists.specs.Parts.{parts, take-parts, parts-take}
+use Rattle.records.specs.Records.{valueLimit, within, after, horner, withBlock, withBlocks, lessRight, rowSum, valueBound}
+use Rattle.records.specs.Records.{valuesRight}
+use Rattle.records.specs.declared.sums.Formed.{Formed}
+use Rattle.records.specs.declared.sums.Formed.the-variants.{Value, Past}
+
+unfoldable pub formedOf : Formed → Option ℤ
+formedOf (Value v) = some v
+formedOf Past = none
+
+-- 2^21: the indices of a record are within ±2^20, and blocks reach 64 further.
+abbrev pub farthest : ℕ
+farthest = 2097152
+
+-- 4 × 2^40 × 2^16
+abbrev pub blockRoom : ℕ
+blockRoom = 4 * (valueLimit * valueBound)
+
+-- ---- Horner's rule
+
+pub within-yes : (v : ℤ) → natAbs v ≤ valueLimit → within v ≡ some v
+unfolding within
+within-yes v h = ap (λ t. cond t (some v) none) (true-of (leb (natAbs v) valueLimit) (le→leb (natAbs v) valueLimit h))
+
+pub within-no : (v : ℤ) → valueLimit < natAbs v → within v ≡ none
+unfolding within
+within-no v h =
+    ap (λ t. cond t (some v) none)
+    (false-of (leb (natAbs v) valueLimit) (λ t. let k = leb→le (natAbs v) valueLimit t in absurd (omega arith)))
+
+pub within-size : (v w : ℤ) → within v ≡ some w → (w ≡ v) × (natAbs v ≤ valueLimit)
+unfolding within
+within-size v w e = go (leb (natAbs v) valueLimit) (leb→le (natAbs v) valueLimit) e
+  where
+    go : (t : Bool) → (T t → natAbs v ≤ valueLimit) → cond t (some v) none ≡ some w → (w ≡ v) × (natAbs v ≤ valueLimit)
+    go true h e = (cc, h tt)
+    go false h e = absurd (let z : _≡_ {A = ℕ} 0 1 = cc in omega arith)
+
+pub some-none : {A : Type 0} {v : A} → some v ≡ none → ⊥
+some-none e = let z : _≡_ {A = ℕ} 0 1 = cc in omega arith
+
+-- What follows a value that is there.
+pub after-some : {A B : Type 0} (f : A → Option B) (o : Option A) (q : B) → after f o ≡ some q → (v : A) × (o ≡ some v) × (f v ≡ some q)
+unfolding after
+after-some f none q e = absurd (some-none (sym e))
+after-some f (some v) q e = (v, refl, e)
+
+pub horner-next : (n : ℤ) (p : Polynomial) (i : ℕ) (v : ℤ) → i < length p → horner n (drop (i + 1) p) ≡ some v
+    → horner n (drop i p) ≡ within (getD p i (pos 0) +ℤ n *ℤ v)
+unfolding horner after
+horner-next n p i v h e =
+    ap (horner n) (drop-next p i (pos 0) h) ∙ ap (after (λ v. within (getD p i (pos 0) +ℤ n *ℤ v))) e
+
+pub horner-past : (n : ℤ) (p : Polynomial) (i : ℕ) → horner n (drop i p) ≡ none → horner n p ≡ none
+unfolding horner after
+horner-past n p zero e = e
+horner-past n [] (suc i) e = e
+horner-past n (a ∷ p) (suc i) e = ap (after (λ v. within (a +ℤ n *ℤ v))) (horner-past n p i e)
+
+pub horner-size : (n : ℤ) (p : Polynomial) (v : ℤ) → horner n p ≡ some v → natAbs v ≤ valueLimit
+unfolding horner
+horner-size n [] v e = let z : v ≡ pos 0 = cc in rw z (omega arith)
+horner-size n (a ∷ p) v e =
+    let w = after-some (λ v. within (a +ℤ n *ℤ v)) (horner n p) v e in
+    let both = within-size (a +ℤ n *ℤ w .0) v (w .2) in
+    rw (both .0) (both .1)
+
+-- ---- a block
+
+module _ (n : ℤ) (values : List ℤ) (from : ℕ) where
+  pub block-next : (c : ℕ) (s v : ℤ) (p : Polynomial) (ps : Block) → horner n p ≡ some v
+      → withBlock n values from c s (p ∷ ps) ≡ withBlock n values from (c + 1) (s +ℤ v *ℤ getD values (from + c) (pos 0)) ps
+  unfolding withBlock after
+  block-next c s v p ps e =
+      ap (after (λ v. withBlock n values from (suc c) (s +ℤ v *ℤ getD values (from + c) (pos 0)) ps)) e
+      ∙ ap (λ d. withBlock n values from d (s +ℤ v *ℤ getD values (from + c) (pos 0)) ps) (sym (add-one c))
+
+  pub block-past : (c : ℕ) (s : ℤ) (p : Polynomial) (ps : Block) → horner n p ≡ none → withBlock n values from c s (p ∷ ps) ≡ none
+  unfolding withBlock after
+  block-past c s p ps e = ap (after (λ v. withBlock n values from (suc c) (s +ℤ v *ℤ getD values (from + c) (pos 0)) ps)) e
+
+pub values-small : (values : List ℤ) → T (valuesRight values) → (k : ℕ) → natAbs (getD values k (pos 0)) ≤ valueBound
+unfolding valuesRight
+values-small values h k =
+    leb→le (natAbs (getD values k (pos 0))) valueBound (every-getD (λ v. leb (natAbs v) valueBound) values (pos 0) tt h k)
+
+pub block-size : (n : ℤ) (values : List ℤ) (from c : ℕ) (s q : ℤ) (ps : Block) → T (valuesRight values)
+    → withBlock n values from c s ps ≡ some q → natAbs q ≤ natAbs s + length ps * (valueLimit * valueBound)
+unfolding withBlock
+block-size n values from c s q [] h e = let z : q ≡ s = cc in rw z (omega arith)
+block-size n values from c s q (p ∷ ps) h e =
+    let x = getD values (from + c) (pos 0) in
+    let w = after-some (λ v. withBlock n values from (suc c) (s +ℤ v *ℤ x) ps) (horner n p) q e in
+    let size : natAbs (w .0 *ℤ x) ≤ valueLimit * valueBound =
+    rw (natAbs-*ℤ (w .0) x) (mul-le-mul (horner-size n p (w .0) (w .1)) (values-small values h (from + c))) in
+    omega (arith, block-size n values from (suc c) (s +ℤ w .0 *ℤ x) q ps h (w .2), natAbs-+ℤ s (w .0 *ℤ x))
+
+-- ---- the blocks
+
+module _ (n : ℤ) (values : List ℤ) (m : ℕ) where
+  pub blocks-next : (top : ℕ) (s q : ℤ) (b : Block) (bs : List Block) → withBlock n values (top * m) 0 s (take m b) ≡ some q
+      → withBlocks n values m top s (b ∷ bs) ≡ withBlocks n values m (pred top) q bs
+  unfolding withBlocks after
+  blocks-next top s q b bs e = ap (after (λ q. withBlocks n values m (pred top) q bs)) e
+
+  pub blocks-past : (top : ℕ) (s : ℤ) (b : Block) (bs : List Block) → withBlock n values (top * m) 0 s (take m b) ≡ none
+      → withBlocks n values m top s (b ∷ bs) ≡ none
+  unfolding withBlocks after
+  blocks-past top s b bs e = ap (after (λ q. withBlocks n values m (pred top) q bs)) e
+
+pub blocks-of : (row : List ℤ) (k : ℕ) → k ≤ blockCount → take k (rowOf row .blocks) ≡ map blockOf (parts blockLength k row)
+unfolding rowOf
+blocks-of row k h =
+    map-take blockOf k (parts blockLength blockCount row) ∙ ap (map blockOf) (take-parts blockLength blockCount k row h)
+
+pub columns-of : (l : List ℤ) (m : ℕ) → m ≤ columnCount → take m (blockOf (take blockLength l)) ≡ parts coefficientCount m l
+columns-of l m h =
+    take-parts coefficientCount columnCount m (take blockLength l) h ∙ parts-take coefficientCount m blockLength l (omega arith)
+
+-- Vector k of the record is there where vector `top` is.
+pub vector-room : (m k top n : ℕ) → k ≤ top → (top + 1) * m ≤ n → k * m + m ≤ n
+vector-room m k top n h room =
+    let rows : (k + 1) * m ≤ (top + 1) * m = mul-le-mul (omega arith) (le-refl m) in
+    let more : (k + 1) * m ≡ k * m + m = ap (λ j. j * m) (add-one k) ∙ suc-mul k m in
+    omega arith
+
+pub columns-few : (m : ℕ) (b : Block) → m ≤ columnCount → length (take m b) ≤ columnCount
+columns-few m b h = rw length-take (omega arith)
+
+pub blocks-size : (n : ℤ) (values : List ℤ) (m top : ℕ) (s q : ℤ) (bs : List Block) → T (valuesRight values) → m ≤ columnCount
+    → withBlocks n values m top s bs ≡ some q → natAbs q ≤ natAbs s + length bs * blockRoom
+unfolding withBlocks
+blocks-size n values m top s q [] h few e = let z : q ≡ s = cc in rw z (omega arith)
+blocks-size n values m top s q (b ∷ bs) h few e =
+    let w = after-some (λ a. withBlocks n values m (pred top) a bs) (withBlock n values (top * m) 0 s (take m b)) q e in
+    omega (
+      arith,
+      block-size n values (top * m) 0 s (w .0) (take m b) h (w .1),
+      blocks-size n values m (pred top) (w .0) q bs h few (w .2),
+      columns-few m b few,
+    )
+
+-- ---- the row
+
+module _ (m D : ℕ) (values : List ℤ) (top : ℕ) (r : Row) (n : ℤ) where
+  pub row-left : withBlocks n values m top (pos 0) (take (suc D) (r .blocks)) ≡ none → rowSum m D values top r n ≡ none
+  unfolding rowSum after
+  row-left e = ap (after (lessRight n (r .right))) e
+
+  pub row-right : (s : ℤ) → withBlocks n values m top (pos 0) (take (suc D) (r .blocks)) ≡ some s
+      → rowSum m D values top r n ≡ lessRight n (r .right) s
+  unfolding rowSum after
+  row-right s e = ap (after (lessRight n (r .right))) e
+
+  pub row-formed : (s b : ℤ) → withBlocks n values m top (pos 0) (take (suc D) (r .blocks)) ≡ some s → horner n (r .right) ≡ some b
+      → rowSum m D values top r n ≡ some (s -ℤ b)
+  unfolding after lessRight
+  row-formed s b e f = row-right s e ∙ ap (after (λ b. some (s -ℤ b))) f
