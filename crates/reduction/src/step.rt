@@ -226,7 +226,7 @@ fn eliminate_step(
 
 // One dropped row, one exchange with its combination, one combination, one settling or one shift (SCOPE 2.2, 2.11, 2.12, 2.26). A step
 // is taken only where a row is not settled.
-pub(crate) fn step(rows: &mut [i64], relations: &mut [i64], side: Side, p: Progress) -> Outcome
+pub fn step(rows: &mut [i64], relations: &mut [i64], side: Side, p: Progress) -> Outcome
     requires { ⌜ Ready (now rows) (now relations) p × (p .settled < p .rows) × (p .shifts < 2 ^ 32) ⌝ }
     ensures { λ r. ⌜ Reached (p .rows) (now (rows .entry)) (now (relations .entry)) (now (rows .exit)) (now (relations .exit)) (p .shifts + 1) r
         (Elimination.step (sideOf side) (stateOf (now (rows .entry)) (now (relations .entry)) p)) ⌝ }

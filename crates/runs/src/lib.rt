@@ -36,7 +36,7 @@ pub struct RunResult {
 }
 
 // A refusal has its number, and 0 in all other fields (SCOPE 6.31).
-fn refused(refusal: u8) -> RunResult
+pub fn refused(refusal: u8) -> RunResult
     ensures { λ r. ⌜ resultOf r ≡ Calls.refusal refusal ⌝ }
 {
     RunResult {
@@ -52,7 +52,7 @@ fn refused(refusal: u8) -> RunResult
 }
 
 // Columns counted from 1, zeros past the last (SCOPE 3.23).
-fn counted(order: [usize; 4], settled: usize) -> [usize; 4]
+pub fn counted(order: [usize; 4], settled: usize) -> [usize; 4]
     requires { ⌜ (settled ≤ columnCount) × Columns order ⌝ }
     ensures { λ r. ⌜ r ≡ Calls.reportedOrder (take settled order) ⌝ }
 {
@@ -85,7 +85,7 @@ fn reported_times(
 }
 
 // The result of a run that accepts: the rows that are left are settled (SCOPE 2.81, 3.22).
-fn accepted(rows: &[i64], span: usize, side: Side, p: reduction::step::Progress) -> RunResult
+pub fn accepted(rows: &[i64], span: usize, side: Side, p: reduction::step::Progress) -> RunResult
     requires { ⌜ (span ≤ 4) × (p .settled ≤ columnCount) × Within (rowNeed (p .settled)) (now rows) × (p .rows ≡ p .settled) ⌝ }
     requires { ⌜ (length (p .order) ≡ columnCount) × Columns (p .order) ⌝ }
     ensures { λ r. ⌜ ((relations : List ℤ)

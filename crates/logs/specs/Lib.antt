@@ -1,0 +1,14 @@
+pub mod Logs
+pub mod Changes
+pub mod Kept
+pub mod Pivots
+pub mod Accepted
+pub mod Own
+pub mod Written
+pub mod OwnSteps
+pub mod OwnRuns
+pub mod Calls
+pub mod CallLaws
+pub mod ShiftedDown
+pub mod Divided
+pub mod Examples

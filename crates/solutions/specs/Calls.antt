@@ -1,0 +1,113 @@
+-- The call on stores: its result and the contents of each lent store afterwards (SCOPE 14.6).
+--
+-- Main definitions
+--   listColumns, listNeed, matrixNeed   64 numbers a sequence; the numbers of the list store and of the work matrix
+--   Result, Work, Call   what the call returns; the stores that it may write; both
+--   checkCall            the checks before the work: sizes, lengths, numbers, right sides
+--   listStoreOf          the list in its store, one sequence a row
+--   solutionsCall        the call as a whole
+use Prim.Native.Nat.{ℕ, zero, suc, _+_, _*_}
+use mathlib.Core.Bool.{Bool, true, false, _&&_, cond}
+use mathlib.Core.List.{List, map, flatten}
+use lib.Dec.{leb}
+use lib.ListN.{length}
+use lib.IntN.{ℤ, pos}
+use Rattle.lists.specs.Padded.{padTo}
+use Rattle.lists.specs.Overwritten.{overwrite}
+use Rattle.rules.specs.Limits.{columnCount, mostSpan, mostEquations, mostRelations}
+use Rattle.rules.specs.Stores.{Sizes, equations, rowsOf, relationsOf, rowNeed, relationNeed, sizesRight, countRight, lengthsRight}
+use Rattle.rules.specs.Stores.{numbersRight}
+use Rattle.rules.specs.Calls.{zeros}
+use Rattle.solutions.specs.Answers.{Answer, refusedWith, noneListed, listed, largestIndex, homogeneous, answer}
+
+-- 16 indices of four unknowns (SCOPE 14.61).
+abbrev pub listColumns : ℕ
+listColumns = suc largestIndex * columnCount
+
+-- 64 × 64 numbers: there are no more sequences than columns (SCOPE 14.61).
+abbrev pub listNeed : ℕ
+listNeed = listColumns * listColumns
+
+-- Six equations at N - t + l + 1 indices, 20 at most, and 16 relations: 136 rows of 64 numbers (SCOPE 14.61).
+abbrev pub mostRows : ℕ
+mostRows = (suc largestIndex + mostSpan) * mostEquations + mostRelations
+
+abbrev pub matrixNeed : ℕ
+matrixNeed = mostRows * listColumns
+
+-- "found" where 0 ≤ N; otherwise all numbers are 0 (SCOPE 14.64).
+pub record Result : Type 0 where
+  pub refusal : ℕ
+  pub found : Bool
+  pub last : ℕ
+  pub count : ℕ
+
+-- The stores that a call may write: those in which the trailing run is made, the constant rows, and the list.
+pub record Work : Type 0 where
+  pub rows : List ℤ
+  pub relations : List ℤ
+  pub matrix : List ℤ
+  pub list : List ℤ
+
+pub record Call : Type 0 where
+  pub result : Result
+  pub work : Work
+
+-- The stores of the system, those of the trailing run, the matrix and the list have their needed parts (SCOPE 14.62).
+unfoldable pub allLengths : Sizes → List ℤ → List ℤ → Work → Bool
+unfolding lengthsRight equations
+allLengths z rowStore relationStore w =
+    lengthsRight (equations z) rowStore relationStore
+    && lengthsRight (equations z) (w .rows) (w .relations)
+    && leb matrixNeed (length (w .matrix))
+    && leb listNeed (length (w .list))
+
+-- Sizes (2), lengths (1), numbers (5), right sides (14) (SCOPE 14.62).
+unfoldable pub checkCall : Sizes → ℕ → List ℤ → List ℤ → Work → ℕ
+unfolding sizesRight countRight allLengths numbersRight homogeneous rowsOf relationsOf equations
+checkCall z count rowStore relationStore w =
+    let sides : ℕ = cond (homogeneous (rowsOf (equations z) rowStore) (relationsOf count relationStore)) 0 14 in
+    let numbers : ℕ = cond (numbersRight z count rowStore relationStore) sides 5 in
+    let lengths : ℕ = cond (allLengths z rowStore relationStore w) numbers 1 in
+    cond (sizesRight z && countRight count) lengths 2
+
+-- One sequence a row, 0 elsewhere (SCOPE 14.63).
+unfoldable pub listStoreOf : List (List ℤ) → List ℤ
+unfolding padTo flatten
+listStoreOf l = padTo listNeed (pos 0) (flatten (map (padTo listColumns (pos 0)) l))
+
+unfoldable pub resultOf : Answer → Result
+resultOf (refusedWith n) = record { refusal = n; found = false; last = 0; count = 0 }
+resultOf noneListed = record { refusal = 0; found = false; last = 0; count = 0 }
+resultOf (listed N l) = record { refusal = 0; found = true; last = N; count = length l }
+
+unfoldable pub listIn : Answer → List ℤ
+unfolding listStoreOf zeros
+listIn (refusedWith n) = zeros listNeed
+listIn noneListed = zeros listNeed
+listIn (listed N l) = listStoreOf l
+
+-- From the trailing run on the work stores end as zeros; numbers past the needed parts stay (SCOPE 14.63, 3.12).
+unfoldable pub workAfter : Sizes → Answer → Work → Work
+unfolding overwrite zeros rowNeed equations listIn
+workAfter z a w =
+    record {
+      rows = overwrite (zeros (rowNeed (equations z))) (w .rows);
+      relations = overwrite (zeros relationNeed) (w .relations);
+      matrix = overwrite (zeros matrixNeed) (w .matrix);
+      list = overwrite (listIn a) (w .list);
+    }
+
+-- A refusal of the checks leaves every store as it was (SCOPE 14.62).
+unfoldable pub afterCheck : Sizes → ℕ → List ℤ → List ℤ → Work → ℕ → Call
+unfolding resultOf workAfter answer rowsOf relationsOf equations
+afterCheck z count rowStore relationStore w zero =
+    let a = answer z (rowsOf (equations z) rowStore) (relationsOf count relationStore) in
+    record { result = resultOf a; work = workAfter z a w }
+afterCheck z count rowStore relationStore w (suc n) = record { result = resultOf (refusedWith (suc n)); work = w }
+
+-- The system's stores are only read (SCOPE 14.61).
+unfoldable pub solutionsCall : Sizes → ℕ → List ℤ → List ℤ → Work → Call
+unfolding afterCheck checkCall
+solutionsCall z count rowStore relationStore w =
+    afterCheck z count rowStore relationStore w (checkCall z count rowStore relationStore w)

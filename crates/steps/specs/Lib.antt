@@ -1,0 +1,9 @@
+pub mod Budgets
+pub mod Calls
+pub mod Passing
+pub mod Division
+pub mod Handed
+pub mod Moving
+pub mod StepCalls
+pub mod HandedIn
+pub mod SmallSteps
