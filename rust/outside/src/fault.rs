@@ -1,22 +1,59 @@
 //! Wrong versions of the rules, planted one at a time, to see that a comparison finds each.
 
 macro_rules! faults {
-    ($($(#[$note:meta])* $name:ident: $says:literal,)*) => {
+    ([$($step:ident: $tells:literal,)*] $($(#[$note:meta])* $name:ident: $says:literal,)*; $($later:ident: $later_says:literal,)*) => {
         #[derive(Clone, Copy, Debug, PartialEq, Eq)]
-        pub enum Fault { $($(#[$note])* $name,)* }
+        pub enum Fault { $($step,)* $($(#[$note])* $name,)* $($later,)* }
 
         impl Fault {
             pub const ALL: &'static [Fault] = &[$(Fault::$name,)*];
+            /// Those of calls that are not compared yet.
+            pub const LATER: &'static [Fault] = &[$(Fault::$later,)*];
+
+            /// Those of work by steps, which the tests of this crate find and no comparison yet.
+            pub const STEPS: &'static [Fault] = &[$(Fault::$step,)*];
 
             /// What this version does wrong.
             pub fn says(self) -> &'static str {
-                match self { $(Fault::$name => $says,)* }
+                match self { $(Fault::$step => $tells,)* $(Fault::$name => $says,)* $(Fault::$later => $later_says,)* }
             }
         }
     };
 }
 
 faults! {
+    // Work by steps.
+    [
+        RefusedStepCounted: "a refused step is counted",
+        RefusedStepsForgotten: "a refusal reports no steps",
+        RefusedPastBudget: "a refusal is told though the budget has no step left for it",
+        BudgetNoneSteps: "with budget 0 a step is taken",
+        BudgetReported: "the budget is reported as the steps",
+        EndFoundByStep: "that no row is left is found by a step",
+        ExchangeStep: "an exchange is a step of its own",
+        DroppedAtOnce: "the combination that makes a row zero drops it too",
+        InconsistentNextStep: "10 refuses the step after the combination",
+        SettlingNoStep: "a settling belongs to the step before it",
+        ShiftNoStep: "a shift belongs to the step before it",
+        DiagonalZero: "a settled diagonal may be zero",
+        EarlierEntries: "a settled row may have an entry at an earlier settled column",
+        LowestColumns: "a settled column has to be the lowest of its row",
+        SettledPastRows: "there may be more settled rows than rows",
+        ColumnsPastSettled: "the columns past the settled ones are not looked at",
+        ShiftsUnlimited: "the shifts of a state are not limited",
+        ShiftsOfRowsLeft: "the shifts of a state are limited by the rows that are left",
+        StateSizesTwo: "a size of a state out of its range is 2",
+        StateNumbersFive: "a number in a state's stores out of its range is 5",
+        StateLengthsFirst: "the lengths are looked at before a state's sizes",
+        ShortStateEleven: "a state of ten numbers is 11",
+        PrepareStateFirst: "a state store too short is found before a size to prepare is",
+        ShiftsAnew: "the shifts are counted anew in each call",
+        EquationsKept: "a state keeps its equations where a row is dropped",
+        ResultBeforeEnd: "the numbers of a run are told before it is finished",
+        RefusedStateKept: "a refusal by a step leaves the state as it is",
+        RefusedResultKept: "a refusal by a step leaves the result as it is",
+        StepsResultEleven: "a result store of eleven numbers is long enough for steps",
+    ]
     // What would be wrong, in the order of SCOPE 2.131 to 2.135.
     RootsBeforeExchange: "roots of the multiplier of the row before the exchange",
     PolynomialFactor: "a row is divided by a polynomial factor",
@@ -205,6 +242,44 @@ faults! {
     RecordAfterLengths: "the range of a record is found after a store that is too short",
     RecordResultKept: "12 leaves the result as it is",
     RecordResultThree: "a result store of three numbers is long enough for a record",
+    ;
+    // Polynomial solutions.
+    RelationSideListed: "a right side of a relation is not looked at before a list is made",
+    SidesAfterRun: "a right side is refused after the refusals of the trailing run",
+    SidesZeroStores: "a right side that is refused leaves the list zero",
+    RankBelowListed: "a trailing rank below m is let through to a list",
+    LastOfLeastRoot: "N comes from the reported root, the least one",
+    LastWithoutBlock: "N is the root, without t",
+    LastFourteen: "N = 15 is refused",
+    LastSixteen: "N = 16 is let through, if there are less than four unknowns",
+    NegativeLastRefused: "a negative N is refused with 14",
+    NoRootRefused: "a trailing diagonal without a root is refused with 14",
+    RowsFromZero: "the rows of constants begin at n = 0",
+    RowsOneLater: "the rows of constants begin at n = 1 - l",
+    RowsToLast: "the rows of constants end at n = N",
+    RowsOneLess: "the rows of constants end at n = N - t - 1",
+    RowsFall: "the rows of constants are made by falling n",
+    RowsByNumber: "the rows of constants are made equation by equation",
+    RelationsNotAsked: "the relations make no rows of constants",
+    RelationsAskedFirst: "the relations make the first rows of constants",
+    OutsideEvaluated: "entries at indices outside 0 to N are evaluated too",
+    EntryBeforeValue: "an entry past ±C is refused with 8 before 12",
+    EntriesUnlimited: "an entry past ±C is let through until a combination",
+    EntriesJudgedLast: "entries past ±C are refused after all rows are made",
+    EliminatedAsMade: "a row of constants is eliminated before the next is made",
+    RowsUndivided: "a combination of rows of constants is not divided",
+    RowsJudgedUndivided: "a combination of rows of constants is limited before its division",
+    LastColumnSettled: "a row of constants is settled at its last column that is not zero",
+    ListLoose: "a listed value may be up to 2 C",
+    ListFalls: "sequences are listed by falling column",
+    DivisorKept: "a listed sequence is multiplied by all denominators",
+    FirstPositive: "the first value of a listed sequence is positive, not the free one",
+    ListTight: "listed sequences stand one behind the other, without zeros between",
+    ListByUnknown: "a listed sequence has all numbers of an unknown together",
+    WorkStoresKept: "the work stores stay as they were lent",
+    RefusedListKept: "a refusal during the work leaves list and answer as they were",
+    MatrixOfEquations: "a matrix without places for the relations is long enough",
+    ListShorter: "a list store of 63 rows is long enough",
 }
 
 /// Whether the version at hand is the wrong one that is asked for.

@@ -22,8 +22,12 @@ pub enum Refusal {
     Relations = 9,
     /// A row's left part is zero and its right side is not (02, U1).
     Inconsistent = 10,
+    /// A state that is handed in is not right (02, U9).
+    State = 11,
     /// A value of Horner's rule has passed ±2^40 (02, U10).
     Value = 12,
+    /// The polynomial solutions of such a system are not listed (02, U13). Its right sides are looked at before the work begins.
+    NotListed = 14,
 }
 
 impl Refusal {
@@ -32,8 +36,8 @@ impl Refusal {
     }
 
     /// Whether the refusal comes while the work is going on, so that stores become zero (SCOPE 6.33), or before it
-    /// begins (SCOPE 6.32). The system itself is refused during the work.
+    /// begins (SCOPE 6.32). The system itself is refused during the work, a state before it.
     pub fn during_the_work(self) -> bool {
-        self >= Refusal::Degree
+        self >= Refusal::Degree && self != Refusal::State
     }
 }

@@ -46,7 +46,7 @@ pub struct Asked {
 
 impl Asked {
     /// The sizes, with which a relation count above 16 and an equation count above 6 are refused too (SCOPE 3.32; 02, U6).
-    fn sizes(&self, fault: Option<Fault>) -> Result<Sizes, Refusal> {
+    pub(crate) fn sizes(&self, fault: Option<Fault>) -> Result<Sizes, Refusal> {
         let seven = self.equations == EQUATIONS + 1 && is(fault, Fault::EquationsNotLimited);
         let equations_right = equation_count_in_range(self.equations as i128) || seven;
         if !relation_count_in_range(self.count as i128) || !equations_right {
@@ -177,7 +177,7 @@ pub fn store(system: &System, rows: &mut [i64], relations: &mut [i64]) {
 }
 
 /// A column order as four numbers, zeros past its end.
-fn order_numbers(order: &[usize]) -> [i64; COLUMNS] {
+pub(crate) fn order_numbers(order: &[usize]) -> [i64; COLUMNS] {
     let mut numbers = [0; COLUMNS];
     for (place, &column) in numbers.iter_mut().zip(order) {
         *place = column as i64;
@@ -198,7 +198,7 @@ fn long_enough(lengths: &[(usize, usize)]) -> Result<(), Refusal> {
 
 /// The system of a call, if nothing is refused: sizes come first (2), lengths next (1), numbers last (5) (SCOPE 3.31).
 /// `extra` are the lengths and needs of the call's other stores.
-fn checked(
+pub(crate) fn checked(
     rows: &[i64],
     relations: &[i64],
     asked: Asked,
@@ -276,7 +276,7 @@ fn run_numbers(run: &Run, rank: usize) -> [i64; RESULT] {
 }
 
 /// A refusal that comes while the work is going on makes the needed part zero (SCOPE 6.33).
-fn zero_needed(store: &mut [i64], need: usize, fault: Option<Fault>) {
+pub(crate) fn zero_needed(store: &mut [i64], need: usize, fault: Option<Fault>) {
     match fault {
         Some(Fault::StoresKept) => {}
         Some(Fault::ZeroedPastNeed) => store.fill(0),
