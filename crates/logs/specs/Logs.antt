@@ -28,6 +28,7 @@ use Rattle.rules.specs.Elimination.{State, start, Outcome, going, done, refused
 use Rattle.rules.specs.Elimination.{listRelations, rootRelations, putLimited, limitDegrees, limitCoefficients}
 use Rattle.rules.specs.SheetCalls.{differentColumns}
 use Rattle.theory.specs.ShiftDown.{shiftDown}
+use Rattle.steps.specs.HeldCalls.{pivotsRight}
 
 -- A log has 1,000 steps or fewer (SCOPE 13.1).
 abbrev pub mostSteps : ℕ
@@ -182,17 +183,6 @@ orderHolds m w numbers =
 unfoldable pub columnsOf : ℕ → List ℤ → List ℕ
 unfolding placeOf
 columnsOf w numbers = map placeOf (take w numbers)
-
--- A row is zero at the columns before its own and not zero there (SCOPE 13.32).
-unfoldable pub pivotRight : List ℕ → ℕ → Row → Bool
-unfolding every isZero entry
-pivotRight order j r = every (λ c. isZero (entry r c)) (take j order) && not (isZero (entry r (getD order j 0)))
-
--- The first rows, so many.
-unfoldable pub pivotsRight : List ℕ → List Row → ℕ → Bool
-unfolding pivotRight
-pivotsRight order rows zero = true
-pivotsRight order rows (suc j) = pivotsRight order rows j && pivotRight order j (getD rows j noRow)
 
 unfoldable pub withOrder : List ℕ → State → State
 withOrder order s = record { rows = s .rows; relations = s .relations; order = order; shifts = s .shifts }

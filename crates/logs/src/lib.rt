@@ -6,7 +6,7 @@ ghost use Rattle.polynomials.specs.Content.{Below};
 ghost use Rattle.logs.specs.Logs.{dividesAll};
 
 // Does the integer of a step divide all of them? (SCOPE 13.22)
-pub fn divides_all(d: i64, numbers: &[i64]) -> bool
+pub(crate) fn divides_all(d: i64, numbers: &[i64]) -> bool
     requires { ⌜ (0 < natAbs d) × Below (2 ^ 63) (now numbers) ⌝ }
     ensures { λ r. ⌜ r ≡ dividesAll (natAbs d) (now (numbers .entry)) ⌝ }
 {

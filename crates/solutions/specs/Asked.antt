@@ -25,10 +25,10 @@ use Rattle.rules.specs.Sequences.{Sequence, Satisfies, SatisfiesEquation, Satis
 use Rattle.theory.specs.Values.{value-congruence, left-nothing}
 use Rattle.theory.specs.LimitsKept.{rowRight-iff, relationRight-iff}
 use Rattle.solutions.specs.Constants.{fine, columnsOf, constantRow, rowIndices, asked, constantRows}
-use Rattle.solutions.specs.Answers.{homogeneous}
+use Rattle.solutions.specs.SolutionAnswers.{homogeneous}
 use Rattle.solutions.specs.Pairing.{Kills}
 use Rattle.solutions.specs.Extent.{nothing, homogeneous-left, zero-sides, zero-relation-sides}
-use Rattle.solutions.specs.Meaning.{each-all, sequenceOf, row-says, row-length, sequence-low, sequence-high}
+use Rattle.solutions.specs.RowMeaning.{each-all, sequenceOf, row-says, row-length, sequence-low, sequence-high}
 
 module _ {z : Sizes} {rows : List Row} {relations : List Relation} (valid : Valid z rows relations) where
   unused-rows : All (λ r. T (unusedZero (z .m) (span z) r)) rows

@@ -31,10 +31,10 @@ use Rattle.rules.specs.Stores.{Sizes, span}
 use Rattle.solutions.specs.Constants.{columnsOf, rowIndices, asked}
 use Rattle.solutions.specs.Eliminated.{Pivot, at, pivotOf, Factors, factorsOf}
 use Rattle.solutions.specs.Listed.{dot, isFree, freeColumns, substitute, substituteAll}
-use Rattle.solutions.specs.Answers.{largestIndex}
-use Rattle.solutions.specs.Calls.{listColumns, mostRows}
+use Rattle.solutions.specs.SolutionAnswers.{largestIndex}
+use Rattle.solutions.specs.SolutionCalls.{listColumns, mostRows}
 use Rattle.solutions.specs.Pairing.{pair, dot-pair}
-use Rattle.solutions.specs.Kept.{Echelon}
+use Rattle.solutions.specs.KernelKept.{Echelon}
 use Rattle.solutions.specs.Substituted.{Free, Solves, substitute-solves, substitute-away, times, times-positive, echelon-free}
 
 -- ---- the back substitution

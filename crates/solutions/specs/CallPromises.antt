@@ -20,10 +20,10 @@ use Rattle.lists.specs.Overwritten.{overwrite}
 use Rattle.lists.specs.Tests.{T-&&, cond-zero}
 use Rattle.rules.specs.Stores.{Sizes, equations, rowsOf, relationsOf, sizesRight, countRight, lengthsRight, numbersRight, Valid}
 use Rattle.rules.specs.Layout.{checkStores-zero, stores-valid}
-use Rattle.solutions.specs.Answers.{Answer, refusedWith, noneListed, listed, homogeneous, answer}
-use Rattle.solutions.specs.Calls.{listNeed, matrixNeed, Work, Call, allLengths, checkCall, listStoreOf, resultOf, listIn, workAfter}
-use Rattle.solutions.specs.Calls.{afterCheck, solutionsCall}
-use Rattle.solutions.specs.Numbers.{Number, answer-number}
+use Rattle.solutions.specs.SolutionAnswers.{Answer, refusedWith, noneListed, listed, homogeneous, answer}
+use Rattle.solutions.specs.SolutionCalls.{listNeed, matrixNeed, Work, Call, allLengths, checkCall, listStoreOf, resultOf, listIn, workAfter}
+use Rattle.solutions.specs.SolutionCalls.{afterCheck, solutionsCall}
+use Rattle.solutions.specs.AnswerNumbers.{Number, answer-number}
 
 -- The answer is a list, which stands in the list store and whose N and count come back.
 pub record FoundList (a : Answer) (list : List ℤ) (c : Call) : Type 0 where

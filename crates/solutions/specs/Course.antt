@@ -21,10 +21,10 @@ use Rattle.rules.specs.Stores.{Sizes, span}
 use Rattle.solutions.specs.Constants.{Judged, fine, passed, andOn, columnsOf, constantRows}
 use Rattle.solutions.specs.Eliminated.{Pivot, eliminate}
 use Rattle.solutions.specs.Listed.{sequences}
-use Rattle.solutions.specs.Answers.{Answer, refusedWith, noneListed, listed, largestIndex, homogeneous, lastRoot, answerOf, listFor}
-use Rattle.solutions.specs.Answers.{answerAt}
-use Rattle.solutions.specs.Answers.{answerFor, afterTrailing, answer}
-use Rattle.solutions.specs.Kept.{andOn-fine}
+use Rattle.solutions.specs.SolutionAnswers.{Answer, refusedWith, noneListed, listed, largestIndex, homogeneous, lastRoot, answerOf, listFor}
+use Rattle.solutions.specs.SolutionAnswers.{answerAt}
+use Rattle.solutions.specs.SolutionAnswers.{answerFor, afterTrailing, answer}
+use Rattle.solutions.specs.KernelKept.{andOn-fine}
 
 pub record Begun (z : Sizes) (rows : List Row) (relations : List Relation) (s : State) : Type 0 where
   pub sides : T (homogeneous rows relations)

@@ -28,7 +28,7 @@ use Rattle.lists.specs.Sifted.{keep}
 use Rattle.solutions.specs.Eliminated.{Pivot, at, pivotOf}
 use Rattle.solutions.specs.Listed.{isFree, freeColumns, vectorAt}
 use Rattle.solutions.specs.Pairing.{pair, Kills, pair-congr, pair-right, pair-only}
-use Rattle.solutions.specs.Kept.{Echelon, KillsAll}
+use Rattle.solutions.specs.KernelKept.{Echelon, KillsAll}
 use Rattle.solutions.specs.Substituted.{Free, isFree-iff, place-below, Solves, vector-solves}
 
 -- ---- a vector in the kernel that is zero at all free columns

@@ -34,7 +34,7 @@ use Rattle.lists.specs.Padded.{getD-replicate-each}
 use Rattle.solutions.specs.Eliminated.{Pivot, at, pivotOf}
 use Rattle.solutions.specs.Listed.{dot, isFree, unit, solved, substitute, substituteAll, vectorAt}
 use Rattle.solutions.specs.Pairing.{pair, Kills, pair-congr, pair-right, pair-only, dot-pair}
-use Rattle.solutions.specs.Kept.{Echelon, KillsAll}
+use Rattle.solutions.specs.KernelKept.{Echelon, KillsAll}
 
 unfoldable pub Free : List Pivot → ℕ → Type 0
 unfolding All

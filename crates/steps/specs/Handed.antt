@@ -27,10 +27,10 @@ use Rattle.rules.specs.Layout.{size-bounds, checkStores-order, checkStores-zero
 use Rattle.stores.specs.Validity.{sizesOf}
 use Rattle.working_rows.specs.Found.{foundOr, Columns}
 use Rattle.working_rows.specs.Working.{entry-held}
-use Rattle.steps.specs.Calls as Calls
-use Rattle.steps.specs.Calls.{Held, noState, prepared, afterChecks, prepareCall, columnsOf, sizesHeld, pivotRight, pivotsRight}
-use Rattle.steps.specs.Calls.{checkState}
-use Rattle.steps.specs.Passing.{HeldBounds, sizesHeld-iff}
+use Rattle.steps.specs.HeldCalls as Calls
+use Rattle.steps.specs.HeldCalls.{Held, noState, prepared, afterChecks, prepareCall, columnsOf, sizesHeld, pivotRight, pivotsRight}
+use Rattle.steps.specs.HeldCalls.{checkState}
+use Rattle.steps.specs.SoundStates.{HeldBounds, sizesHeld-iff}
 use Rattle.steps.specs.declared.State.{State}
 use Rattle.steps.specs.declared.Prepared as Answer
 

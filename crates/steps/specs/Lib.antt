@@ -1,7 +1,7 @@
 pub mod Budgets
-pub mod Calls
-pub mod Passing
-pub mod Division
+pub mod HeldCalls
+pub mod SoundStates
+pub mod BudgetParts
 pub mod Handed
 pub mod Moving
 pub mod StepCalls

@@ -25,9 +25,9 @@ use Rattle.theory.specs.Ending.{chain-shifts}
 use Rattle.reduction.specs.Progress.{mostSteps}
 use Rattle.runs.specs.CallLaws as RunLaws
 use Rattle.steps.specs.Budgets.{Walk, steps, Led, Walked, used-up, at-end, stopped, walked, led-chain}
-use Rattle.steps.specs.Calls.{Held, noState, stateIn, heldState, StepsResult, movedTo, stoppedBy, afterSteps, afterStateCheck, stepsCall}
-use Rattle.steps.specs.Calls.{checkState}
-use Rattle.steps.specs.Passing.{HeldBounds, Sound, settled-most, columns-within}
+use Rattle.steps.specs.HeldCalls.{Held, noState, stateIn, heldState, StepsResult, movedTo, stoppedBy, afterSteps, afterStateCheck, stepsCall}
+use Rattle.steps.specs.HeldCalls.{checkState}
+use Rattle.steps.specs.SoundStates.{HeldBounds, Sound, settled-most, columns-within}
 use Rattle.steps.specs.StepCalls.{passed-bounds}
 use Rattle.steps.specs.HandedIn.{handed-valid, handed-sound, handed-few}
 

@@ -42,10 +42,10 @@ use Rattle.reduction.specs.declared.step.Outcome as Answer
 use Rattle.runs.specs.CallLaws.{few-blocks, Checked, checked}
 use Rattle.runs.specs.CallLaws as RunLaws
 use Rattle.steps.specs.Budgets.{Walk, steps, Walked, used-up, at-end, stopped, walked, row-of, refusal-number}
-use Rattle.steps.specs.Calls as Calls
-use Rattle.steps.specs.Calls.{Held, noState, columnsOf, stateIn, heldState, StepsCall, movedTo, stoppedBy, afterSteps, unmoved}
-use Rattle.steps.specs.Calls.{afterStateCheck, stepsCall, checkState, sizesHeld}
-use Rattle.steps.specs.Passing.{HeldBounds, sizesHeld-iff, StateRight, checkState-zero, pivots-right}
+use Rattle.steps.specs.HeldCalls as Calls
+use Rattle.steps.specs.HeldCalls.{Held, noState, columnsOf, stateIn, heldState, StepsCall, movedTo, stoppedBy, afterSteps, unmoved}
+use Rattle.steps.specs.HeldCalls.{afterStateCheck, stepsCall, checkState, sizesHeld}
+use Rattle.steps.specs.SoundStates.{HeldBounds, sizesHeld-iff, StateRight, checkState-zero, pivots-right}
 use Rattle.steps.specs.Handed.{heldOf, held-few, held-columns, columns-count, columns-taken}
 use Rattle.steps.specs.Moving.{walkOf, MovedTo}
 use Rattle.steps.specs.declared.StepsResult.{StepsResult}

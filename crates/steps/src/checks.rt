@@ -16,7 +16,7 @@ ghost use Rattle.lists.specs.Everywhere.{All};
 ghost use Rattle.lists.specs.Padded.{padTo};
 ghost use Rattle.lists.specs.Tests.{every};
 ghost use Rattle.working_rows.specs.Found.{Columns};
-ghost use Rattle.steps.specs.Calls as Calls;
+ghost use Rattle.steps.specs.HeldCalls as Calls;
 ghost use Rattle.steps.specs.Handed.{heldOf};
 
 // The columns of the settled rows are from 1 to m (SCOPE 11.22).

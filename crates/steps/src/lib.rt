@@ -15,7 +15,7 @@ ghost use Rattle.stores.specs.Validity.{sizesOf};
 ghost use Rattle.working_rows.specs.Found.{Columns};
 ghost use Rattle.reduction.specs.Progress.{outcomeAt};
 ghost use Rattle.runs.specs.CallLaws as RunLaws;
-ghost use Rattle.steps.specs.Calls as Calls;
+ghost use Rattle.steps.specs.HeldCalls as Calls;
 ghost use Rattle.steps.specs.Handed.{heldOf, preparedOf};
 ghost use Rattle.steps.specs.StepCalls.{stateAfter, runAfter, Stands, callOf};
 

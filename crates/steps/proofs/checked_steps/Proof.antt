@@ -5,8 +5,8 @@ use denote.Ref.{now}
 use lib.IntN.{ℤ}
 use Rattle.rules.specs.Stores.{equations}
 use Rattle.stores.specs.Validity.{sizesOf}
-use Rattle.steps.specs.Calls.{Held, columnsOf}
-use Rattle.steps.specs.Passing.{HeldBounds}
+use Rattle.steps.specs.HeldCalls.{Held, columnsOf}
+use Rattle.steps.specs.SoundStates.{HeldBounds}
 use Rattle.steps.specs.Handed.{heldOf, held-few, held-positive}
 use Rattle.runs.specs.CallLaws as RunLaws
 use Rattle.steps.specs.StepCalls.{resultOf, callOf, progressIn, passed-bounds, held-ready, held-shifts, stands, call-moved}

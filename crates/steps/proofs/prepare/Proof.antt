@@ -3,7 +3,7 @@
 use mathlib.Core.Path.{sym, _∙_}
 use denote.Ref.{now}
 use Rattle.stores.specs.Validity.{sizesOf}
-use Rattle.steps.specs.Calls.{prepared}
+use Rattle.steps.specs.HeldCalls.{prepared}
 use Rattle.steps.specs.Handed.{heldOf, preparedOf, prepare-refused, prepare-passed}
 use native.Mathlib.Omega.{arith}
 use borrow.Author.Needs.{needs}

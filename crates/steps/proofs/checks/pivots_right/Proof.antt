@@ -12,7 +12,7 @@ use Rattle.rules.specs.Rows.{Row, noRow, entry, firstNonzero}
 use Rattle.rules.specs.Layout.{row-at}
 use Rattle.working_rows.specs.Found.{foundOr}
 use Rattle.rules.specs.Limits.{columnCount}
-use Rattle.steps.specs.Calls.{pivotRight, pivotsRight}
+use Rattle.steps.specs.HeldCalls.{pivotRight, pivotsRight}
 use Rattle.steps.specs.Handed.{entry-front, pivot-met, pivots-false, pivots-next}
 use borrow.Author.Tests.{eq-eqb, ne-eqb}
 use native.Mathlib.Omega.{arith}

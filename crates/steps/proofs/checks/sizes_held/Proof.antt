@@ -10,7 +10,7 @@ use borrow.Author.Tests.{not-true, not-false}
 use Rattle.rules.specs.Stores.{equations, sizesRight, countRight}
 use Rattle.stores.specs.Validity.{sizesOf}
 use Rattle.runs.specs.CallLaws.{few-blocks}
-use Rattle.steps.specs.Calls.{Held, sizesHeld}
+use Rattle.steps.specs.HeldCalls.{Held, sizesHeld}
 use Rattle.steps.specs.Handed.{heldOf, sizes-passed, settled-passed, first-fails, second-fails, third-fails, last-tells}
 use native.Mathlib.Omega.{arith}
 use borrow.Author.Needs.{needs}

@@ -29,9 +29,9 @@ use Rattle.solutions.specs.Eliminated.{firstAt, eliminate}
 use Rattle.solutions.specs.Constants.{horner, columnPolynomial, asked}
 use Rattle.algebra.specs.Sums.{countFrom}
 use Rattle.solutions.specs.Listed.{vectorAt, freeColumns, sequences}
-use Rattle.solutions.specs.Answers.{Answer, refusedWith, noneListed, listed, largestIndex, homogeneous, lastRoot, answerOf, listFor}
-use Rattle.solutions.specs.Answers.{answerAt}
-use Rattle.solutions.specs.Answers.{answerFor, afterTrailing, answer}
+use Rattle.solutions.specs.SolutionAnswers.{Answer, refusedWith, noneListed, listed, largestIndex, homogeneous, lastRoot, answerOf, listFor}
+use Rattle.solutions.specs.SolutionAnswers.{answerAt}
+use Rattle.solutions.specs.SolutionAnswers.{answerFor, afterTrailing, answer}
 use Rattle.solutions.specs.Extent.{nothing, nothing-satisfies}
 
 -- 12 or 8.

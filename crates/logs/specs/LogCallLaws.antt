@@ -39,12 +39,13 @@ use Rattle.logs.specs.Logs.{Change, exchanging, combining, raising, lowe
 use Rattle.logs.specs.Logs.{changeOf}
 use Rattle.logs.specs.Logs.{dividedRow, allowed, applied, combineRows, lowerRow, changed, changedIf, replayed, orderHolds}
 use Rattle.logs.specs.Logs.{columnsOf}
-use Rattle.logs.specs.Logs.{pivotsRight, withOrder, ordered, replay}
+use Rattle.logs.specs.Logs.{withOrder, ordered, replay}
+use Rattle.steps.specs.HeldCalls.{pivotsRight}
 use Rattle.logs.specs.Own.{ownChanges, ownNumbers, logOf}
 use Rattle.logs.specs.OwnRuns.{own-accepted, own-few, own-read, own-order}
-use Rattle.logs.specs.Accepted.{AcceptedLog}
-use Rattle.logs.specs.Calls.{logNeed, ownNeed, checkReplay, replayStores, afterReplayCheck, replayCall, ownStore, LoggedCall}
-use Rattle.logs.specs.Calls.{loggedAfter, afterLoggedCheck, loggedCall}
+use Rattle.logs.specs.AcceptedLogs.{AcceptedLog}
+use Rattle.logs.specs.LogCalls.{logNeed, ownNeed, checkReplay, replayStores, afterReplayCheck, replayCall, ownStore, LoggedCall}
+use Rattle.logs.specs.LogCalls.{loggedAfter, afterLoggedCheck, loggedCall}
 
 -- ---- the refusals of a replay
 

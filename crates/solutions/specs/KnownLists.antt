@@ -20,7 +20,7 @@ use Rattle.algebra.specs.Polynomials.{Polynomial}
 use Rattle.rules.specs.Stores.{Sizes}
 use Rattle.rules.specs.Sheets.{Term, rowOfTerms}
 use Rattle.rules.specs.Opened.{opened}
-use Rattle.solutions.specs.Answers.{Answer, refusedWith, noneListed, listed, answer}
+use Rattle.solutions.specs.SolutionAnswers.{Answer, refusedWith, noneListed, listed, answer}
 
 abbrev term : ℤ → ℕ → Polynomial → Term
 term s c p = record { block = s; column = c; polynomial = p }

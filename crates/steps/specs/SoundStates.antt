@@ -43,7 +43,7 @@ use Rattle.theory.specs.Pivots.{PivotRow, PivotRows, ColumnsBelow, column-below
 use Rattle.theory.specs.Cells.{entry-cell, unused-cells, width-unused}
 use Rattle.theory.specs.LimitsKept.{ValidRows, valid-rows, stepped-valid, counted-valid, rowRight-iff}
 use Rattle.theory.specs.Ending.{shift-bound}
-use Rattle.steps.specs.Calls.{Held, columnsOf, stateIn, heldState, prepared, sizesHeld, pivotRight, pivotsRight, checkState}
+use Rattle.steps.specs.HeldCalls.{Held, columnsOf, stateIn, heldState, prepared, sizesHeld, pivotRight, pivotsRight, checkState}
 
 -- ---- the checks as facts
 

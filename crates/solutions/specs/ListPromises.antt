@@ -40,12 +40,12 @@ use Rattle.theory.specs.Demands.{Accepted}
 use Rattle.solutions.specs.Constants.{Judged, fine, andOn, each, columnsOf}
 use Rattle.solutions.specs.Eliminated.{Pivot, at, limited}
 use Rattle.solutions.specs.Listed.{isFree, freeColumns, vectorAt, sequences}
-use Rattle.solutions.specs.Answers.{noneListed, listed, answer}
-use Rattle.solutions.specs.Kept.{andOn-fine, limited-fine, Echelon, KillsAll, Settled, eliminate-settled}
+use Rattle.solutions.specs.SolutionAnswers.{noneListed, listed, answer}
+use Rattle.solutions.specs.KernelKept.{andOn-fine, limited-fine, Echelon, KillsAll, Settled, eliminate-settled}
 use Rattle.solutions.specs.Substituted.{Free, isFree-iff, Solves, vector-solves}
 use Rattle.solutions.specs.Spanned.{combination, spanned, solves-unique}
 use Rattle.solutions.specs.Extent.{ZeroAt, ZeroAbove, ends-at, ends-nowhere}
-use Rattle.solutions.specs.Meaning.{sequenceOf, vectorOf, sequence-same, column-inside}
+use Rattle.solutions.specs.RowMeaning.{sequenceOf, vectorOf, sequence-same, column-inside}
 use Rattle.solutions.specs.Asked.{rows-say, rows-length, satisfies-same}
 use Rattle.solutions.specs.Course.{Begun, Course, listed-course, none-course}
 

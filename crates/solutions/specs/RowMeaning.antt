@@ -37,7 +37,7 @@ use Rattle.solutions.specs.Constants.{columnsOf}
 use Rattle.solutions.specs.Constants.{columnPolynomial, constantRow}
 use Rattle.solutions.specs.Eliminated.{at}
 use Rattle.solutions.specs.Pairing.{pair, Kills, pair-congr}
-use Rattle.solutions.specs.Kept.{andOn-fine}
+use Rattle.solutions.specs.KernelKept.{andOn-fine}
 
 -- ---- the values
 

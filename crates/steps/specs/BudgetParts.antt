@@ -38,9 +38,9 @@ use Rattle.theory.specs.Ending.{leadingRun-ends}
 use Rattle.steps.specs.Budgets.{Walk, steps, Led, Walked, used-up, at-end, stopped, walked, led-chain, led-further, row-of, continued}
 use Rattle.steps.specs.Budgets.{refusal-number}
 use Rattle.steps.specs.Budgets.{later, steps-add, whole-run, whole-more}
-use Rattle.steps.specs.Calls.{Held, noState, stateIn, heldState, prepared, StepsResult, StepsCall, movedTo, stoppedBy, afterSteps}
-use Rattle.steps.specs.Calls.{afterStateCheck, stepsCall, checkState}
-use Rattle.steps.specs.Passing.{Sound, sound-chain, shifts-chain, state-held, sound-passes, prepared-passes, prepared-start}
+use Rattle.steps.specs.HeldCalls.{Held, noState, stateIn, heldState, prepared, StepsResult, StepsCall, movedTo, stoppedBy, afterSteps}
+use Rattle.steps.specs.HeldCalls.{afterStateCheck, stepsCall, checkState}
+use Rattle.steps.specs.SoundStates.{Sound, sound-chain, shifts-chain, state-held, sound-passes, prepared-passes, prepared-start}
 
 -- ---- one call after another
 

@@ -18,7 +18,7 @@ use Rattle.rules.specs.Limits.{columnCount, mostSpan, mostEquations, mostRelati
 use Rattle.rules.specs.Stores.{Sizes, equations, rowsOf, relationsOf, rowNeed, relationNeed, sizesRight, countRight, lengthsRight}
 use Rattle.rules.specs.Stores.{numbersRight}
 use Rattle.rules.specs.Calls.{zeros}
-use Rattle.solutions.specs.Answers.{Answer, refusedWith, noneListed, listed, largestIndex, homogeneous, answer}
+use Rattle.solutions.specs.SolutionAnswers.{Answer, refusedWith, noneListed, listed, largestIndex, homogeneous, answer}
 
 -- 16 indices of four unknowns (SCOPE 14.61).
 abbrev pub listColumns : ℕ
