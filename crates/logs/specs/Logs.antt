@@ -10,7 +10,7 @@
 --   ordered m numbers s    the column order and the triangular form at the end (refusal 13)
 --   replay m D l numbers rows relations   the whole replay
 use Prim.Native.Nat.{ℕ, zero, suc, _+_, _*_, pred}
-use mathlib.Core.Bool.{Bool, true, _&&_, not, cond}
+use mathlib.Core.Bool.{Bool, _&&_, not, cond}
 use mathlib.Core.List.{List, [], _∷_, map}
 use mathlib.Core.Option.{Option, none, some}
 use lib.Dec.{leb, ltb, eqb}
@@ -23,7 +23,7 @@ use Rattle.algebra.specs.Divisors.{divides}
 use Rattle.algebra.specs.Gcd.{divideBy}
 use Rattle.algebra.specs.Polynomials.{Polynomial, isZero}
 use Rattle.rules.specs.Limits.{coefficientCount, columnCount, mostRelations, small}
-use Rattle.rules.specs.Rows.{Row, Relation, noRow, mapRow, coefficientsOf, zeroBlock, zeroRow, leadingBlock, entry, combine}
+use Rattle.rules.specs.Rows.{Row, Relation, mapRow, coefficientsOf, zeroBlock, zeroRow, leadingBlock, combine}
 use Rattle.rules.specs.Elimination.{State, start, Outcome, going, done, refused, andThen, leading, rowAt, exchange, dropRow, shiftStep}
 use Rattle.rules.specs.Elimination.{listRelations, rootRelations, putLimited, limitDegrees, limitCoefficients}
 use Rattle.rules.specs.SheetCalls.{differentColumns}
