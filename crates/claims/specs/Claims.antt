@@ -95,10 +95,10 @@ use Rattle.differential.specs.Recurrence.{recurrenceOf}
 use Rattle.differential.specs.Meaning.{Series, SatisfiesDifferential}
 use Rattle.records.specs.Records as Records
 use Rattle.records.specs.Records.{Which, Tested, fits, fails, limitPassed, tests, checkRecord, recordCall}
-use Rattle.records.specs.Meaning.{Agrees, RowPasses}
+use Rattle.records.specs.RecordMeaning.{Agrees, RowPasses}
 use Rattle.records.specs.Outcomes.{First, FailsWith}
 use Rattle.records.specs.Explained.{named, Explains}
-use Rattle.records.specs.Promises as Promises
+use Rattle.records.specs.RecordPromises as Promises
 use Rattle.exports.specs.Results.{Exported, runNeed}
 use Rattle.exports.specs.Writes.{Written, notWritten}
 use Rattle.claims.specs.RunWords.{Ran, FoundBefore, FoundDuring, RunNumber, Rewritten, Cleared, Kept, InRange}

@@ -40,8 +40,8 @@ use Rattle.rules.specs.Layout.{size-bounds, countRight-iff, length-rowsOf, leng
 use Rattle.records.specs.Records.{Which, equation, relation, Tested, Answer, fits, fails, refused, limitPassed, answerTo, tests}
 use Rattle.records.specs.Records.{rowTests, equationTests, relationTests, inside, sumAt, indexFrom, topAt}
 use Rattle.records.specs.Records.{recordRight, valuesRight, checkRecord, afterCheck, recordCall}
-use Rattle.records.specs.Checks.{RecordRight, checkRecord-zero}
-use Rattle.records.specs.Answers.{equations-count}
+use Rattle.records.specs.RecordChecks.{RecordRight, checkRecord-zero}
+use Rattle.records.specs.RecordAnswers.{equations-count}
 use Rattle.exports.specs.Runs.{early, keptOr, kept-early}
 
 -- ---- the call

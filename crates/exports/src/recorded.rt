@@ -4,7 +4,7 @@ ghost use mathlib.Core.Path.{_≡_};
 ghost use Prim.Native.Nat.{_≤_};
 ghost use lib.ListN.{length};
 ghost use Rattle.stores.specs.Validity.{sizesOf};
-ghost use Rattle.records.specs.Answers.{answerOf};
+ghost use Rattle.records.specs.RecordAnswers.{answerOf};
 ghost use Rattle.exports.specs.Runs.{keptOr};
 ghost use Rattle.exports.specs.RecordNumbers.{recordNumbers, recordRefusal, SmallAnswer, exportRecord};
 

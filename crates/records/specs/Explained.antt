@@ -30,9 +30,9 @@ use Rattle.rules.specs.Sequences.{Sequence, valueOf, Satisfies, SatisfiesEquati
 use Rattle.rules.specs.Stores.{Sizes, span, unusedZero}
 use Rattle.records.specs.Records.{Which, equation, relation, Tested, Answer, fits, fails, refused, limitPassed, answerTo}
 use Rattle.records.specs.Records.{rowSum, topAt, sumAt, inside, indexFrom, rowTests, equationTests, relationTests, tests}
-use Rattle.records.specs.Places.{inside-index, index-inside}
-use Rattle.records.specs.Answers.{answer-count}
-use Rattle.records.specs.Meaning.{Agrees, RowPasses, rowSum-none, sum-value}
+use Rattle.records.specs.RecordPlaces.{inside-index, index-inside}
+use Rattle.records.specs.RecordAnswers.{answer-count}
+use Rattle.records.specs.RecordMeaning.{Agrees, RowPasses, rowSum-none, sum-value}
 use Rattle.records.specs.Outcomes.{SumZero, First, FailsWith, Unformed, first-has, first-as, fits-sums, fails-first}
 use Rattle.records.specs.Outcomes.{refused-first, first-refused}
 

@@ -1,10 +1,10 @@
 pub mod Records
-pub mod Sums
-pub mod Places
-pub mod Answers
-pub mod Checks
-pub mod Meaning
+pub mod RecordSums
+pub mod RecordPlaces
+pub mod RecordAnswers
+pub mod RecordChecks
+pub mod RecordMeaning
 pub mod Outcomes
 pub mod Explained
-pub mod Promises
-pub mod Examples
+pub mod RecordPromises
+pub mod RecordExamples

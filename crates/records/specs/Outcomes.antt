@@ -24,7 +24,7 @@ use Rattle.algebra.specs.Polynomials.{isZeroℤ, isZeroℤ-iff}
 use Rattle.lists.specs.Everywhere.{All, all-back}
 use Rattle.lists.specs.Tests.{true-T}
 use Rattle.records.specs.Records.{Which, Tested, fits, fails, refused, limitPassed, answerTo}
-use Rattle.records.specs.Answers.{goOn, answer-append, answer-past, answer-zero, answer-fails}
+use Rattle.records.specs.RecordAnswers.{goOn, answer-append, answer-past, answer-zero, answer-fails}
 
 unfoldable pub SumZero : Tested → Type 0
 SumZero t = t .sum ≡ some (pos 0)

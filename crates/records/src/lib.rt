@@ -17,8 +17,8 @@ ghost use Rattle.rules.specs.Rows.{smallRow};
 ghost use Rattle.rules.specs.Stores as Stores;
 ghost use Rattle.stores.specs.Validity.{sizesOf};
 ghost use Rattle.records.specs.Records as Records;
-ghost use Rattle.records.specs.Sums.{farthest};
-ghost use Rattle.records.specs.Answers.{answerOf};
+ghost use Rattle.records.specs.RecordSums.{farthest};
+ghost use Rattle.records.specs.RecordAnswers.{answerOf};
 
 mod checks;
 mod sums;

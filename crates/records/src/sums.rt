@@ -12,7 +12,7 @@ ghost use Rattle.lists.specs.Parts.{parts};
 ghost use Rattle.rules.specs.Limits.{small, coefficientCount, columnCount, blockLength, rowLength, mostSpan};
 ghost use Rattle.rules.specs.Stores.{rowOf};
 ghost use Rattle.records.specs.Records as Records;
-ghost use Rattle.records.specs.Sums.{formedOf, blockRoom, farthest};
+ghost use Rattle.records.specs.RecordSums.{formedOf, blockRoom, farthest};
 
 // 2^40, which no value of Horner's rule passes (SCOPE 12.31).
 const LIMIT: u64 = 1_099_511_627_776;

@@ -18,8 +18,8 @@ use Rattle.rules.specs.Stores.{rowsOf, relationsOf}
 use Rattle.stores.specs.Validity.{sizesOf}
 use Rattle.records.specs.Records.{Tested, fits, refused, checkRecord, afterCheck, recordCall, tests, equationTests}
 use Rattle.records.specs.Records.{relationTests, answerTo, valuesRight}
-use Rattle.records.specs.Checks.{RecordRight, checkRecord-zero}
-use Rattle.records.specs.Answers.{answerOf, goOn, stays, answer-append, answer-count, equations-count, rows-small}
+use Rattle.records.specs.RecordChecks.{RecordRight, checkRecord-zero}
+use Rattle.records.specs.RecordAnswers.{answerOf, goOn, stays, answer-append, answer-count, equations-count, rows-small}
 use Rattle.records.specs.declared.Answer.the-variants.{Fits}
 use Rattle.records.proofs.Answer.{the-type}
 use Rattle.records.proofs.check_record.Statement.{statement}

@@ -18,7 +18,7 @@ use Rattle.rules.specs.Stores as Stores
 use Rattle.rules.specs.Stores.{rowsOf}
 use Rattle.stores.specs.Validity.{sizesOf}
 use Rattle.records.specs.Records.{Tested, fits, rowTests, equationTests, answerTo, indexFrom}
-use Rattle.records.specs.Answers.{answerOf, goOn, stays, answer-append, answer-count, equations-next, row-tests-count, span-few}
+use Rattle.records.specs.RecordAnswers.{answerOf, goOn, stays, answer-append, answer-count, equations-next, row-tests-count, span-few}
 use Rattle.records.specs.declared.Answer.the-variants.{Fits}
 use Rattle.records.proofs.Answer.{the-type}
 use Rattle.records.proofs.equations_fit.Statement.{statement}

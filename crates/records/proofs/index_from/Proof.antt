@@ -15,8 +15,8 @@ use Rattle.rules.specs.Layout.{SizeBounds, size-bounds}
 use Rattle.stores.specs.declared.validity.Sizes.{Sizes}
 use Rattle.stores.specs.Validity.{sizesOf}
 use Rattle.records.specs.Records.{indexFrom}
-use Rattle.records.specs.Sums.{farthest}
-use Rattle.records.specs.Answers.{t-near, index-size}
+use Rattle.records.specs.RecordSums.{farthest}
+use Rattle.records.specs.RecordAnswers.{t-near, index-size}
 use Rattle.records.proofs.index_from.Statement.{statement}
 use Rattle.records.proofs.index_from.Tie as tie
 

@@ -16,8 +16,8 @@ use Rattle.rules.specs.Stores as Stores
 use Rattle.rules.specs.Stores.{relationOf, relationsOf}
 use Rattle.stores.specs.Validity.{sizesOf}
 use Rattle.records.specs.Records.{Tested, fits, relationTests, answerTo}
-use Rattle.records.specs.Answers.{answerOf, goOn, stays, answer-append, answer-count, relations-next, relations-end, relation-small}
-use Rattle.records.specs.Answers.{relation-tests-next, relation-tests-few}
+use Rattle.records.specs.RecordAnswers.{answerOf, goOn, stays, answer-append, answer-count, relations-next, relations-end, relation-small}
+use Rattle.records.specs.RecordAnswers.{relation-tests-next, relation-tests-few}
 use Rattle.records.specs.declared.Answer.the-variants.{Fits}
 use Rattle.records.proofs.Answer.{the-type}
 use Rattle.records.proofs.relations_fit.Statement.{statement}

@@ -10,7 +10,7 @@ use mir.Facts.{toZ-ofZ}
 use Rattle.rules.specs.Stores.{Sizes}
 use Rattle.stores.specs.Validity.{sizesOf}
 use Rattle.records.specs.Records.{recordCall}
-use Rattle.records.specs.Answers.{answerOf}
+use Rattle.records.specs.RecordAnswers.{answerOf}
 use Rattle.exports.specs.Runs.{keptOr}
 use Rattle.exports.specs.RecordNumbers.{recordNumbers, record-none, record-done, record-small}
 use Rattle.exports.proofs.recorded.exported.Statement.{statement}

@@ -4,7 +4,7 @@ use mathlib.Core.Path.{_≡_, sym, _∙_, ap}
 use borrow.Author.Needs.{needs}
 use denote.Ref.{now}
 use Rattle.lists.specs.Overwritten.{overwrite}
-use Rattle.records.specs.Answers.{answerOf}
+use Rattle.records.specs.RecordAnswers.{answerOf}
 use Rattle.exports.specs.Runs.{early, kept-early, kept-late}
 use Rattle.exports.specs.RecordNumbers.{recordNumbers}
 use Rattle.exports.proofs.recorded.put_record.Statement.{statement}

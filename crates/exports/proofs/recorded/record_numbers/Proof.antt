@@ -9,7 +9,7 @@ use mir.Syntax.{w64}
 use mir.Val.{SFits}
 use mir.Facts.{toZ-ofZ}
 use Rattle.rules.specs.Calls.{zeros}
-use Rattle.records.specs.Answers.{answerOf}
+use Rattle.records.specs.RecordAnswers.{answerOf}
 use Rattle.records.specs.declared.Answer as declared
 use Rattle.records.specs.declared.Answer.the-variants.{Fits, Equation, Relation}
 use Rattle.exports.specs.RecordNumbers.{recordNumbers, SmallAnswer, mostTests, numberOf, number-fits, number-value}

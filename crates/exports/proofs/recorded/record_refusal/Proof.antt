@@ -2,7 +2,7 @@
 -- Assumes nothing.
 use mathlib.Core.Path.{sym, ap}
 use borrow.Author.Needs.{needs}
-use Rattle.records.specs.Answers.{answerOf}
+use Rattle.records.specs.RecordAnswers.{answerOf}
 use Rattle.exports.specs.RecordNumbers.{recordRefusal}
 use Rattle.exports.proofs.recorded.record_refusal.Statement.{statement}
 use Rattle.exports.proofs.recorded.record_refusal.Tie as tie

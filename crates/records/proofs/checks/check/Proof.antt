@@ -17,8 +17,8 @@ use Rattle.rules.specs.Stores as Stores
 use Rattle.rules.specs.Stores.{checkStores, sizesRight, countRight}
 use Rattle.stores.specs.Validity.{sizesOf}
 use Rattle.records.specs.Records.{recordRight}
-use Rattle.records.specs.Checks as Checks
-use Rattle.records.specs.Checks.{record-right}
+use Rattle.records.specs.RecordChecks as Checks
+use Rattle.records.specs.RecordChecks.{record-right}
 use Rattle.records.proofs.checks.check.Statement.{statement}
 use Rattle.records.proofs.checks.check.Tie as tie
 

@@ -21,7 +21,7 @@ use Rattle.rules.specs.Limits.{bound}
 use Rattle.polynomials.specs.Content.{small-at}
 use Rattle.records.specs.Records as Records
 use Rattle.records.specs.Records.{valueLimit, within}
-use Rattle.records.specs.Sums.{formedOf, farthest, horner-next, horner-past, within-yes, within-no}
+use Rattle.records.specs.RecordSums.{formedOf, farthest, horner-next, horner-past, within-yes, within-no}
 use Rattle.records.proofs.sums.horner.Statement.{statement}
 use Rattle.records.proofs.sums.horner.Tie as tie
 

@@ -22,7 +22,7 @@ use Rattle.lists.specs.Tests.{every-part}
 use Rattle.rules.specs.Limits.{coefficientCount, small}
 use Rattle.rules.specs.Rows.{Block}
 use Rattle.records.specs.Records.{valueLimit, valueBound, horner, withBlock}
-use Rattle.records.specs.Sums.{formedOf, blockRoom, horner-size, block-next, block-past, values-small}
+use Rattle.records.specs.RecordSums.{formedOf, blockRoom, horner-size, block-next, block-past, values-small}
 use Rattle.records.specs.declared.sums.Formed.the-variants.{Value, Past}
 use Rattle.records.proofs.sums.with_block.Statement.{statement}
 use Rattle.records.proofs.sums.with_block.Tie as tie

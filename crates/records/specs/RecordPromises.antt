@@ -26,8 +26,8 @@ use Rattle.rules.specs.Sequences.{Sequence, valueOf, Satisfies}
 use Rattle.rules.specs.Stores.{Sizes, equations, span, rowsOf, relationsOf, unusedZero, rowRight, relationRight}
 use Rattle.records.specs.Records.{Which, Tested, Answer, fits, fails, refused, limitPassed, answerTo, tests}
 use Rattle.records.specs.Records.{checkRecord, afterCheck, recordCall}
-use Rattle.records.specs.Checks.{RecordRight, checkRecord-zero}
-use Rattle.records.specs.Meaning.{Agrees, RowPasses}
+use Rattle.records.specs.RecordChecks.{RecordRight, checkRecord-zero}
+use Rattle.records.specs.RecordMeaning.{Agrees, RowPasses}
 use Rattle.records.specs.Outcomes.{First, FailsWith, fails-first}
 use Rattle.records.specs.Explained as Explained
 use Rattle.records.specs.Explained.{named, Explains, satisfied-explains}

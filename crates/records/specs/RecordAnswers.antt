@@ -43,8 +43,8 @@ use Rattle.stores.specs.Validity.{index-at, row-after}
 use Rattle.records.specs.Records.{equation, relation, Tested, rowSum, rowTests, equationTests, relationTests, inside, sumAt}
 use Rattle.records.specs.Records.{indexFrom, topAt}
 use Rattle.records.specs.Records.{Answer, fits, fails, refused, limitPassed, answerTo, indexBound, mostVectors}
-use Rattle.records.specs.Sums.{farthest}
-use Rattle.records.specs.Places.{top-at}
+use Rattle.records.specs.RecordSums.{farthest}
+use Rattle.records.specs.RecordPlaces.{top-at}
 use Rattle.records.specs.declared.Answer as declared
 use Rattle.records.specs.declared.Answer.the-variants as code
 

@@ -32,8 +32,8 @@ use Rattle.rules.specs.Sequences.{Sequence, blockValue, blocksValue, leftValue,
 use Rattle.rules.specs.Stores.{Sizes, span, unusedZero}
 use Rattle.theory.specs.Values.{block-zero, blocks-append-zero, index-below}
 use Rattle.records.specs.Records.{valueLimit, within, after, horner, withBlock, withBlocks, lessRight, rowSum, topAt, sumAt, inside}
-use Rattle.records.specs.Sums.{some-none, after-some, within-size}
-use Rattle.records.specs.Places.{top-index, top-at, inside-index}
+use Rattle.records.specs.RecordSums.{some-none, after-some, within-size}
+use Rattle.records.specs.RecordPlaces.{top-index, top-at, inside-index}
 
 -- ---- Horner's rule
 
