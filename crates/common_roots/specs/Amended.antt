@@ -3,39 +3,69 @@
 -- Main definitions
 --   both a b              the entries a, of row j, and b, of row i
 --   withRoots x           multipliers with the roots of g
+--   rootsAlone w          what the finder lists, without how often each root occurs
 --
 -- Main statements
+--   roots-alone, times-at  the roots of a polynomial, and how often each occurs, in the finder's arrays
 --   reduced-each          the division at the common roots, for 16 coefficients
 --   multipliers-plain         where no root is common, the ratio of a and b as they are
 --   common-pivot          where one is, a is not zero
---   common-few, common-small   there are 16 common roots at most, within ±C
 --   multipliers-roots         the roots of g are those of a at which what is left of a vanishes
-use Prim.Native.Nat.{_≤_, _<_}
-use mathlib.Core.Path.{_≡_, refl, sym, _∙_, ap}
+use Prim.Native.Nat.{ℕ, _-_, _<_}
+use mathlib.Core.Path.{_≡_, refl, sym, _∙_, ap, ap₂}
 use mathlib.Core.Bool.{not}
-use mathlib.Core.List.{List, [], _∷_, _++_, map}
+use mathlib.Core.List.{List, [], _∷_, _++_, map, map-map, map-id}
 use native.Mathlib.Omega.{arith}
-use lib.Dec.{T, T-not, not-T, le→leb}
+use lib.Dec.{T, T-not, not-T}
 use lib.Ieee.Fits.{and-l}
-use lib.IntN.{pos, negℤ, natAbs}
-use lib.ListN.{length}
+use lib.IntN.{ℤ, pos, negℤ}
+use lib.ListN.{length, getD, length-map, replicate, List·getD-append}
 use Rattle.algebra.specs.Coefficients.{degree-isZero}
 use Rattle.algebra.specs.Polynomials.{Polynomial, isZero, isZero-append}
-use Rattle.algebra.specs.Roots.{roots, roots-sound}
-use Rattle.lists.specs.Sifted.{keep, mem-keep}
+use Rattle.algebra.specs.Roots.{roots}
+use Rattle.algebra.specs.Multiplicity.{multiplicity}
+use Rattle.lists.specs.Images.{getD-map}
+use Rattle.lists.specs.Sifted.{keep}
 use Rattle.lists.specs.Taken.{length-none}
-use Rattle.lists.specs.Tests.{every, every-member}
-use Rattle.rules.specs.Limits.{bound, small, coefficientCount}
-use Rattle.rules.specs.Elimination.{Multipliers, ratio, multipliers}
+use Rattle.rules.specs.Limits.{bound, coefficientCount}
+use Rattle.rules.specs.Elimination.{Multipliers, ratio, multipliers, rootsWith}
 use Rattle.rules.specs.CommonRoots.{Entries, divideEach, commonRoots, reduced}
 use Rattle.theory.specs.Reduced.{reduced-nonzero}
-use Rattle.roots.specs.RootSearch.{listed, roots-constant, roots-few, roots-small}
+use Rattle.roots.specs.declared.RootList.{RootList}
+use Rattle.roots.specs.RootSearch.{listed, roots-constant}
+use Rattle.multiplicities.specs.declared.RootsWith.{RootsWith}
+use Rattle.multiplicities.specs.Counts.{listedWith}
 use Rattle.common_roots.specs.declared.Amended.{Amended}
 use Rattle.common_roots.specs.Divisions.{vanishesAt}
-use Rattle.common_roots.specs.Kept.{length-keep, roots-reduced, roots-ratio}
+use Rattle.common_roots.specs.Kept.{roots-reduced, roots-ratio}
 
 abbrev pub both : Polynomial → Polynomial → Entries
 both a b = record { pivot = a; target = b }
+
+-- What the finder lists, without how often each root occurs.
+abbrev pub rootsAlone : RootsWith → RootList
+rootsAlone w = record { count = w .count; values = w .values }
+
+pub roots-alone : {w : RootsWith} (p : Polynomial) → w ≡ listedWith (rootsWith p) → rootsAlone w ≡ listed (roots p)
+unfolding rootsWith
+roots-alone p e =
+    ap rootsAlone e
+    ∙ ap₂ (λ n l. record { count = n; values = l ++ replicate (16 - n) (pos 0) }) (length-map (roots p) (λ r. (r, multiplicity p r)))
+    (map-map (λ x. x .0) (λ r. (r, multiplicity p r)) (roots p) ∙ map-id (roots p))
+
+pub times-at : {w : RootsWith} (p : Polynomial) → w ≡ listedWith (rootsWith p) → (i : ℕ) → i < length (roots p)
+    → getD (w .times) i 0 ≡ multiplicity p (getD (roots p) i (pos 0))
+unfolding rootsWith
+times-at p e i h =
+    ap (λ v. getD (v .times) i 0) e
+    ∙ List·getD-append (map (λ x. x .1) pairs) (replicate (16 - length pairs) 0) 0 i (omega (arith, length-map pairs (λ x. x .1), size))
+    ∙ ap (λ l. getD l i 0) (map-map (λ x. x .1) (λ r. (r, multiplicity p r)) (roots p)) ∙ getD-map (multiplicity p) (roots p) i (pos 0) 0 h
+  where
+    pairs : List (ℤ × ℕ)
+    pairs = map (λ r. (r, multiplicity p r)) (roots p)
+
+    size : length pairs ≡ length (roots p)
+    size = length-map (roots p) (λ r. (r, multiplicity p r))
 
 -- The multipliers with the roots of g.
 abbrev pub withRoots : Multipliers → Amended
@@ -56,18 +86,7 @@ module _ (a b : Polynomial) where
   common-pivot some =
       not-T (isZero a) (λ z. omega (arith, ap (λ l. length (keep (vanishesAt b) l)) (roots-constant a (degree-isZero a z))))
 
-  pub common-few : length a ≤ 16 → length (commonRoots (both a b)) ≤ 16
-  unfolding commonRoots
-  common-few h = omega (arith, length-keep (vanishesAt b) (roots a), roots-few a h)
-
   module _ (nonzero : T (not (isZero a))) where
-    pub common-small : T (every small a) → T (every small (commonRoots (both a b)))
-    unfolding commonRoots small
-    common-small t =
-        every-member small (commonRoots (both a b))
-        (λ r m. le→leb (natAbs r) bound
-        (omega (arith, roots-small a nonzero t r (roots-sound a (mem-keep (vanishesAt b) (roots a) .0 m .0)))))
-
     pub reduced-not-both : T (not (isZero (reduced (both a b) .pivot ++ reduced (both a b) .target)))
     reduced-not-both =
         let p = reduced (both a b) .pivot in

@@ -160,7 +160,7 @@ module _ (r : ℤ) (p : Polynomial) (long : length p ≡ coefficientCount) where
 -- ---- as often as it goes
 
 -- Both vanish and both quotients are within ±C: for one polynomial after the other.
-divisible-both : (r : ℤ) (e : Rules.Entries) → Rules.divisible r e ≡ (divides r (e .pivot) && divides r (e .target))
+pub divisible-both : (r : ℤ) (e : Rules.Entries) → Rules.divisible r e ≡ (divides r (e .pivot) && divides r (e .target))
 unfolding Rules.divisible
 divisible-both r e =
     let p = e .pivot in

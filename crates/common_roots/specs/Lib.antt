@@ -1,3 +1,4 @@
 pub mod Divisions
 pub mod Kept
+pub mod DividedTimes
 pub mod Amended

@@ -1,6 +1,7 @@
 // Common roots leave the multipliers: both leading entries are divided by n - r for each common integer root r before rule 2's
 // multipliers are taken. Every function but `multipliers` is private; each contract gives the result by an equation with a definition
 // of `rules` or of `specs/`.
+use multiplicities::RootsWith;
 use polynomials::lengths::COEFFICIENTS;
 use roots::RootList;
 ghost use mathlib.Core.Path.{_≡_};
@@ -13,13 +14,13 @@ ghost use lib.ListN.{length};
 ghost use Rattle.algebra.specs.Polynomials.{isZero};
 ghost use Rattle.algebra.specs.Roots as Roots;
 ghost use Rattle.lists.specs.Sifted.{keep};
-ghost use Rattle.lists.specs.Tests.{every};
-ghost use Rattle.rules.specs.Limits.{bound, small, coefficientCount};
-ghost use Rattle.rules.specs.CommonRoots.{divideAt, divideEach, commonRoots};
+ghost use Rattle.rules.specs.Limits.{bound, coefficientCount};
+ghost use Rattle.rules.specs.CommonRoots.{divideAt, divideEach};
 ghost use Rattle.rules.specs.CommonRoots as CommonRoots;
 ghost use Rattle.roots.specs.RootSearch.{held, listed};
 ghost use Rattle.rules.specs.Elimination as Elimination;
-ghost use Rattle.common_roots.specs.Amended.{both, withRoots};
+ghost use Rattle.multiplicities.specs.Counts.{listedWith};
+ghost use Rattle.common_roots.specs.Amended.{both, withRoots, rootsAlone};
 ghost use Rattle.common_roots.specs.Divisions.{Sixteen, Fits, Divided, entriesOf, vanishesAt};
 
 // A polynomial divided by n - r, where that may be done: `exact` says so.
@@ -60,14 +61,14 @@ fn divided(p: &[i64], r: i64) -> Quotient
     }
 }
 
-// As long as both vanish at r and no quotient passes ±C: both quotients are taken, or neither.
-fn divided_at(entries: Entries, r: i64) -> Entries
+// As long as both vanish at r and no quotient passes ±C, so many times at most: both quotients are taken, or neither.
+fn divided_at(entries: Entries, r: i64, times: usize) -> Entries
     requires { ⌜ Fits entries × (natAbs r ≤ bound) ⌝ }
-    ensures { λ e. ⌜ Fits e × (entriesOf e ≡ divideAt coefficientCount r (entriesOf entries)) ⌝ }
+    ensures { λ e. ⌜ Fits e × (entriesOf e ≡ divideAt times r (entriesOf entries)) ⌝ }
 {
     let mut pivot = entries.pivot;
     let mut target = entries.target;
-    let mut left = COEFFICIENTS;
+    let mut left = times;
     while 0 < left {
         let p = divided(&pivot[..], r);
         if !p.exact {
@@ -84,17 +85,25 @@ fn divided_at(entries: Entries, r: i64) -> Entries
     Entries { pivot, target }
 }
 
-// One root after the other, ascending as they are listed.
-fn divided_each(entries: Entries, common: RootList) -> Entries
-    requires { ⌜ Fits entries × (common ≡ listed (held common)) × (length (held common) ≤ 16) × T (every small (held common)) ⌝ }
-    ensures { λ e. ⌜ Fits e × (entriesOf e ≡ divideEach coefficientCount (held common) (entriesOf entries)) ⌝ }
+// One root of the pivot after the other, ascending as they are listed, where b vanishes too. As often as a root occurs in the pivot,
+// the finder says; so often and no more it may be divided out.
+fn divided_each(entries: Entries, b: &[i64], found: RootsWith) -> Entries
+    requires { ⌜ Fits entries × T (not (isZero (entries .pivot))) × (found ≡ listedWith (Elimination.rootsWith (entries .pivot))) ⌝ }
+    requires { ⌜ Sixteen (now b) ⌝ }
+    ensures { λ e. ⌜ Fits e × (entriesOf e
+        ≡ divideEach coefficientCount (keep (vanishesAt (now (b .entry))) (Roots.roots (entries .pivot))) (entriesOf entries)) ⌝ }
 {
-    let n = common.count;
-    let values = common.values;
+    let n = found.count;
+    let values = found.values;
+    let times = found.times;
     let mut e = entries;
     let mut left = n;
     while 0 < left {
-        e = divided_at(e, values[n - left]);
+        let i = n - left;
+        let r = values[i];
+        if roots::is_root(b, r) {
+            e = divided_at(e, r, times[i]);
+        }
         left -= 1;
     }
     e
@@ -126,28 +135,24 @@ fn kept(p: &[i64], found: RootList) -> RootList
     RootList { count, values }
 }
 
-fn copied(p: &[i64]) -> [i64; COEFFICIENTS]
-    requires { ⌜ length (now p) ≡ coefficientCount ⌝ }
-    ensures { λ q. ⌜ q ≡ now (p .entry) ⌝ }
-{
-    let mut q = [0; COEFFICIENTS];
-    let mut i = 0;
-    while i < COEFFICIENTS {
-        q[i] = p[i];
-        i += 1;
-    }
-    q
-}
-
-// Both entries divided at each of their common roots, which are handed in.
-fn reduced(a: &[i64], b: &[i64], common: RootList) -> Entries
+// Both entries divided at each of their common roots. The roots of a are handed in, with how often each occurs.
+fn reduced(a: &[i64], b: &[i64], found: RootsWith) -> Entries
     requires { ⌜ Sixteen (now a) × T (not (isZero (now a))) ⌝ }
-    requires { ⌜ Sixteen (now b) × (common ≡ listed (commonRoots (both (now a) (now b)))) ⌝ }
+    requires { ⌜ Sixteen (now b) × (found ≡ listedWith (Elimination.rootsWith (now a))) ⌝ }
     ensures { λ e. ⌜ Fits e × (entriesOf e ≡ CommonRoots.reduced (both (now (a .entry)) (now (b .entry)))) ⌝ }
 {
-    let pivot = copied(a);
-    let target = copied(b);
-    divided_each(Entries { pivot, target }, common)
+    let pivot = multiplicities::copied(a);
+    let target = multiplicities::copied(b);
+    divided_each(Entries { pivot, target }, b, found)
+}
+
+// The roots alone.
+fn roots_of(found: RootsWith) -> RootList
+    ensures { λ l. ⌜ l ≡ rootsAlone found ⌝ }
+{
+    let count = found.count;
+    let values = found.values;
+    RootList { count, values }
 }
 
 // Rule 2's multipliers, and the integer roots of g, ascending.
@@ -158,22 +163,22 @@ pub struct Amended {
 }
 
 // Where there are common roots. What is left of a has no root that a has not, so no root is searched again.
-fn divided_multipliers(a: &[i64], b: &[i64], found: RootList, common: RootList) -> Amended
-    requires { ⌜ Sixteen (now a) × T (not (isZero (now a))) × (found ≡ listed (Roots.roots (now a))) ⌝ }
-    requires { ⌜ Sixteen (now b) × (common ≡ listed (commonRoots (both (now a) (now b)))) ⌝ }
+fn divided_multipliers(a: &[i64], b: &[i64], found: RootsWith) -> Amended
+    requires { ⌜ Sixteen (now a) × T (not (isZero (now a))) ⌝ }
+    requires { ⌜ Sixteen (now b) × (found ≡ listedWith (Elimination.rootsWith (now a))) ⌝ }
     ensures { λ r. ⌜ r ≡ withRoots (Elimination.multipliers (now (a .entry)) (now (b .entry))) ⌝ }
 {
-    let e = reduced(a, b, common);
+    let e = reduced(a, b, found);
     let pivot = e.pivot;
     let target = e.target;
     let x = polynomials::content::multipliers_of(&pivot[..], &target[..]);
     let g = x.g;
     let h = x.h;
-    let roots = kept(&pivot[..], found);
+    let roots = kept(&pivot[..], roots_of(found));
     Amended { g, h, roots }
 }
 
-// The multipliers of a and b as they are have the roots of a. Where b vanishes at none of them, they are the answer.
+// The multipliers of a and b as they are have the roots of a, each as often. Where b vanishes at none of them, they are the answer.
 pub fn multipliers(a: &[i64], b: &[i64]) -> Amended
     requires { ⌜ Sixteen (now a) × T (not (isZero (now a ++ now b))) ⌝ }
     requires { ⌜ Sixteen (now b) ⌝ }
@@ -182,11 +187,12 @@ pub fn multipliers(a: &[i64], b: &[i64]) -> Amended
     let x = polynomials::content::multipliers_of(a, b);
     let g = x.g;
     let h = x.h;
-    let roots = roots::roots(&g[..]);
+    let found = multiplicities::roots_with(&g[..]);
+    let roots = roots_of(found);
     let common = kept(b, roots);
     if common.count == 0 {
         Amended { g, h, roots }
     } else {
-        divided_multipliers(a, b, roots, common)
+        divided_multipliers(a, b, found)
     }
 }

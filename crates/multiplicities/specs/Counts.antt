@@ -3,16 +3,21 @@
 -- Main definitions
 --   listedWith l          the arrays that hold the pairs l, zeros past their end
 --   filled f rs i         the counts f of the first i of rs, zeros behind
+--   withTimes p a         an answer about p, with how often its root occurs
+--   answeredWith p o      a root of p or none, as such an answer
 --
 -- Main statements
 --   root-small            a root of a small polynomial is within ±C
 --   filled-next           one count more
 --   filled-all            all of them
-use Prim.Native.Nat.{ℕ, suc, _+_, _-_, _≤_, _<_}
+--   furthest-small        the largest and the smallest root are within ±C, and so is the 0 beside "no"
+use Prim.Native.Nat.{ℕ, suc, _+_, _-_, _≤_, _<_, zero-le}
 use mathlib.Core.Path.{_≡_, sym, _∙_, ap, ap₂}
-use mathlib.Core.Logic.{by-cases}
+use mathlib.Core.Logic.{by-cases, ⊎-elim}
+use mathlib.Core.Bool.{cond}
+use mathlib.Core.Option.{Option}
 use mathlib.Core.List.{List, [], _∷_, _++_, map, map-append, map-map, map-id}
-use native.Mathlib.Nat.{le-refl}
+use native.Mathlib.Nat.{le-refl, eq-zero-or-pos}
 use native.Mathlib.Numerals.{add-one}
 use native.Mathlib.Omega.{arith}
 use lib.Dec.{T, not-T}
@@ -26,9 +31,11 @@ use Rattle.algebra.specs.Roots.{roots, roots-sound}
 use Rattle.lists.specs.Places.{getD-member}
 use Rattle.lists.specs.Tests.{every, dec-T}
 use Rattle.rules.specs.Limits.{bound, small}
-use Rattle.rules.specs.Elimination.{rootsWith}
-use Rattle.roots.specs.RootSearch.{roots-small, roots-constant}
+use Rattle.rules.specs.Elimination.{Side, leading, trailing, furthest, rootsWith}
+use Rattle.roots.specs.declared.RootAnswer.{RootAnswer}
+use Rattle.roots.specs.RootSearch.{answered, roots-small, roots-constant, roots-ascend, answered-none, answered-first, answered-last}
 use Rattle.multiplicities.specs.declared.RootsWith.{RootsWith}
+use Rattle.multiplicities.specs.declared.RootWith.{RootWith}
 
 abbrev pub listedWith : List (ℤ × ℕ) → RootsWith
 listedWith l =
@@ -96,3 +103,23 @@ pub filled-all : (p : Polynomial) → made (length (roots p)) (roots p) (map (mu
     ≡ listedWith (rootsWith p)
 unfolding rootsWith
 filled-all p = listed-pairs (multiplicity p) (roots p)
+
+-- ---- the furthest root
+
+abbrev pub withTimes : Polynomial → RootAnswer → RootWith
+withTimes p a = record { found = a .found; root = a .root; times = cond (a .found) (multiplicity p (a .root)) 0 }
+
+-- Beside "no" stands 0 (SCOPE 2.83).
+abbrev pub answeredWith : Polynomial → Option ℤ → RootWith
+answeredWith p o = withTimes p (answered o)
+
+pub furthest-small : (side : Side) (p : Polynomial) → T (every small p) → natAbs (answered (furthest side (roots p)) .root) ≤ bound
+furthest-small side p t = ⊎-elim none (some side) (eq-zero-or-pos (length (roots p)))
+  where
+    none : length (roots p) ≡ 0 → natAbs (answered (furthest side (roots p)) .root) ≤ bound
+    none e = rw (ap (λ a. a .root) (answered-none side (roots p) e)) zero-le
+
+    some : (side : Side) → 0 < length (roots p) → natAbs (answered (furthest side (roots p)) .root) ≤ bound
+    some leading h =
+        rw (ap (λ a. a .root) (answered-last (roots p) (roots-ascend p) h)) (root-small p t (length (roots p) - 1) (omega arith))
+    some trailing h = rw (ap (λ a. a .root) (answered-first (roots p) (roots-ascend p) h)) (root-small p t 0 (omega arith))

@@ -13,10 +13,11 @@
 --   sized-at, sized-past          its coefficients are below 2^44; a value past the limit does not come back to 0
 --   dividing-start, dividing-next   Horner's rule: its start, one coefficient more
 --   divisions-none, divisions-more   the count ends at a rest, and is one more where there is none
-use Prim.Native.Nat.{ℕ, zero, suc, _+_, _*_, _-_, _≤_, _<_, zero-le}
+--   multiplicity-most             nothing occurs more often than the polynomial has coefficients
+use Prim.Native.Nat.{ℕ, zero, suc, _+_, _*_, _-_, _≤_, _<_, zero-le, suc-le-suc}
 use mathlib.Core.Path.{_≡_, refl, sym, _∙_, ap, ap₂, subst}
 use mathlib.Core.Logic.{_≢_, _⊎_, inl, inr, ⊎-elim, by-cases}
-use mathlib.Core.Bool.{true, false, cond}
+use mathlib.Core.Bool.{Bool, true, false, cond}
 use mathlib.Core.List.{[], _∷_}
 use native.Mathlib.Nat.{zero-add, not-suc-le-zero, le-of-suc-le-suc, le-of-eq, le-refl, le-trans, mul-le-mul, lt-of-not-le}
 use native.Mathlib.Numerals.{add-one}
@@ -29,7 +30,7 @@ use lib.Seq.{drop-at, set-split, length-take-le}
 use Rattle.algebra.specs.Integers.{natAbs-+ℤ, natAbs-*ℤ}
 use Rattle.algebra.specs.Polynomials.{Polynomial, eval, isZeroℤ, quotient}
 use Rattle.algebra.specs.Vanishing.{quotient-length}
-use Rattle.algebra.specs.Multiplicity.{divisions}
+use Rattle.algebra.specs.Multiplicity.{divisions, multiplicity}
 use Rattle.lists.specs.Tests.{every, T-&&}
 use Rattle.rules.specs.Limits.{bound, small, coefficientCount}
 use Rattle.polynomials.specs.Content.{small-at}
@@ -251,3 +252,17 @@ divisions-more zero p r h t = absurd (not-suc-le-zero h)
 divisions-more (suc k) p r h t =
     let less : k ≡ suc k - 1 = omega arith in
     ap (λ b. cond b (suc (divisions k (quotient r p) r)) 0) t ∙ ap (λ j. suc (divisions j (quotient r p) r)) less
+
+divisions-most : (k : ℕ) (p : Polynomial) (r : ℤ) → divisions k p r ≤ k
+unfolding divisions
+divisions-most zero p r = zero-le
+divisions-most (suc k) p r = cases (isZeroℤ (eval p r)) (divisions-most k (quotient r p) r)
+  where
+    cases : (t : Bool) → divisions k (quotient r p) r ≤ k → cond t (suc (divisions k (quotient r p) r)) 0 ≤ suc k
+    cases true h = suc-le-suc h
+    cases false h = zero-le
+
+-- Nothing occurs more often than the polynomial has coefficients.
+pub multiplicity-most : (p : Polynomial) (r : ℤ) → multiplicity p r ≤ length p
+unfolding multiplicity
+multiplicity-most p r = divisions-most (length p) p r

@@ -11,9 +11,10 @@ ghost use lib.ListN.{length};
 ghost use Rattle.algebra.specs.Multiplicity as Multiplicity;
 ghost use Rattle.lists.specs.Tests.{every};
 ghost use Rattle.rules.specs.Limits.{bound, small, coefficientCount};
+ghost use Rattle.algebra.specs.Roots as Roots;
 ghost use Rattle.rules.specs.Elimination as Elimination;
 ghost use Rattle.multiplicities.specs.Divisions.{Sized, Limited, Divided};
-ghost use Rattle.multiplicities.specs.Counts.{listedWith};
+ghost use Rattle.multiplicities.specs.Counts.{listedWith, withTimes, answeredWith};
 
 // C, the limit of the values at an integer of size 2 or more.
 const FAR: u64 = 268_435_455;
@@ -63,7 +64,8 @@ fn divided(p: &[i64], r: i64, limit: u64) -> Quotient
     }
 }
 
-fn copied(p: &[i64]) -> [i64; COEFFICIENTS]
+// The sixteen coefficients in an array.
+pub fn copied(p: &[i64]) -> [i64; COEFFICIENTS]
     requires { ⌜ length (now p) ≡ coefficientCount ⌝ }
     ensures { λ q. ⌜ q ≡ now (p .entry) ⌝ }
 {
@@ -122,4 +124,49 @@ pub fn roots_with(p: &[i64]) -> RootsWith
         values,
         times,
     }
+}
+
+// Whether there is an integer root, the one asked for and how often it occurs; 0 and 0 with "no" (SCOPE 2.82, 2.84).
+pub struct RootWith {
+    pub found: bool,
+    pub root: i64,
+    pub times: usize,
+}
+
+// An answer about p, with how often its root occurs.
+fn with_times(p: &[i64], answer: roots::RootAnswer) -> RootWith
+    requires { ⌜ (length (now p) ≡ coefficientCount) × T (every small (now p)) × (natAbs (answer .root) ≤ bound) ⌝ }
+    ensures { λ w. ⌜ w ≡ withTimes (now (p .entry)) answer ⌝ }
+{
+    let found = answer.found;
+    let root = answer.root;
+    if found {
+        RootWith {
+            found,
+            root,
+            times: multiplicity(p, root),
+        }
+    } else {
+        RootWith {
+            found,
+            root,
+            times: 0,
+        }
+    }
+}
+
+// The largest root with its multiplicity (SCOPE 2.84).
+pub fn largest_with(p: &[i64]) -> RootWith
+    requires { ⌜ (length (now p) ≡ coefficientCount) × T (every small (now p)) ⌝ }
+    ensures { λ w. ⌜ w ≡ answeredWith (now (p .entry)) (Elimination.furthest Elimination.leading (Roots.roots (now (p .entry)))) ⌝ }
+{
+    with_times(p, roots::largest_root(p))
+}
+
+// The smallest root with its multiplicity (SCOPE 2.84).
+pub fn smallest_with(p: &[i64]) -> RootWith
+    requires { ⌜ (length (now p) ≡ coefficientCount) × T (every small (now p)) ⌝ }
+    ensures { λ w. ⌜ w ≡ answeredWith (now (p .entry)) (Elimination.furthest Elimination.trailing (Roots.roots (now (p .entry)))) ⌝ }
+{
+    with_times(p, roots::smallest_root(p))
 }

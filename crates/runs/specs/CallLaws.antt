@@ -2,15 +2,13 @@
 --
 -- Main definitions
 --   resultOf r, callOf r rows relations   the result, and the whole call, as `rules` has them
---   timesReported side D s        how often the reported root occurs
 --   resultAfter side D x          the result of a call whose run has the outcome x
---   Final rows o                  what the row store holds when the run has ended with the answer o
+--   Final side D rows o           what the row store holds when the run has ended with the answer o
 --   Checked z count rows relations   what the stores hold when the checks have passed
 --
 -- Main statements
 --   counted-none, counted-next    the columns of an order, counted from 1, one after the other
 --   few-equations, few-blocks     the equations and D of right sizes are few
---   times-missing, times-found    how often the reported root occurs; reported-small: it is within ±C
 --   accepted-result               the result of a run that accepts
 --   ended-refused, ended-accepted the result after the run, from the answer and the stores
 --   checked                       what the checks let through
@@ -22,24 +20,19 @@ use native.Mathlib.Numerals.{add-one}
 use native.Mathlib.Omega.{arith}
 use mathlib.Core.Path.{_≡_, refl, sym, _∙_, ap, ap₂, subst}
 use mathlib.Core.Logic.{_≢_}
-use mathlib.Core.Bool.{Bool, true, false}
-use mathlib.Core.List.{List, [], _∷_, _++_, map, flatten, map-append, List·Memᴰ·not-nil}
-use mathlib.Core.Option.{Option, none, some}
-use lib.Dec.{T, not-T}
-use lib.IntN.{ℤ, pos, natAbs}
+use mathlib.Core.Bool.{Bool, true, false, not}
+use mathlib.Core.List.{List, [], _∷_, _++_, map, flatten, map-append}
+use lib.Dec.{T}
+use lib.IntN.{ℤ, pos}
 use lib.Signed.{≤ℤ-refl}
 use lib.ListN.{length, take, getD, set, replicate, length-map}
 use lib.Seq.{take-suc, length-take-le}
 use Rattle.algebra.specs.Polynomials.{isZero}
-use Rattle.algebra.specs.Coefficients.{degree-isZero}
-use Rattle.algebra.specs.Roots.{roots, roots-sound}
-use Rattle.lists.specs.Everywhere.{all-member}
-use Rattle.lists.specs.Joined.{flat-origin}
+use Rattle.lists.specs.Everywhere.{member-all}
 use Rattle.lists.specs.Tests.{T-&&, every, every-append}
-use Rattle.rules.specs.Limits.{bound, columnCount, relationLength, small, mostEquations}
+use Rattle.rules.specs.Limits.{columnCount, relationLength, small, mostEquations}
 use Rattle.rules.specs.Rows.{Row, Relation, coefficientsOf, smallRow}
-use Rattle.rules.specs.Elimination.{Side, State, Outcome, going, done, refused, rank, wholeRun, report, reportedTimes, neverNumber}
-use Rattle.rules.specs.Elimination.{occurrences, diagonal}
+use Rattle.rules.specs.Elimination.{Side, State, Outcome, going, done, refused, rank, wholeRun, neverNumber, diagonal}
 use Rattle.rules.specs.Stores.{Sizes, equations, Valid, span, sizesRight, checkStores, rowsOf, relationsOf, rowNeed, relationNeed}
 use Rattle.rules.specs.Stores.{rowStoreOf, relationStoreOf, relationNumbers, unusedZero, rowRight, relationRight}
 use Rattle.rules.specs.Layout.{rowStoreOf-rowsOf, relationStoreOf-relationsOf, length-relationsOf, size-bounds, length-rowsOf, block-place}
@@ -48,17 +41,16 @@ use Rattle.rules.specs.Layout.{lengthsRight-iff, countRight-iff}
 use Rattle.rules.specs.Calls.{Result, Call, reportedOrder, refusal, acceptance, zeros}
 use Rattle.lists.specs.Padded.{padTo, padTo-more}
 use Rattle.rules.specs.Calls.{cleared, unchanged, afterRun, afterCheck, callRun}
-use Rattle.roots.specs.declared.RootAnswer.{RootAnswer}
-use Rattle.roots.specs.RootSearch.{answered, roots-constant, roots-small}
-use Rattle.theory.specs.Report.{furthest-some}
+use Rattle.multiplicities.specs.declared.RootWith.{RootWith}
+use Rattle.theory.specs.Settled.{Diagonal, nonzero-of-diagonal}
 use Rattle.theory.specs.Ending.{wholeRun-ends}
 use Rattle.theory.specs.Demands.{diagonal-nonzero}
 use Rattle.working_rows.specs.Found.{Columns}
 use Rattle.sides.specs.Lent.{Within, Listing}
 use Rattle.reduction.specs.Progress.{stateOf, outcomeOf, outcomeAt, Ready}
 use Rattle.reduction.specs.Ran.{Ran, rowsAfter, relationsAfter, zeros-small}
-use Rattle.sides.specs.ReportLaws.{settledState, report-settled, occurrences-settled, diagonals-small}
-use Rattle.sides.specs.ReportLaws.{option-of, optionOf-found, optionOf-missing}
+use Rattle.sides.specs.FurthestRoots.{Nonzero}
+use Rattle.sides.specs.ReportLaws.{settledState, reportedWith, diagonal-settled, report-settled}
 use Rattle.reduction.specs.declared.step.Progress.{Progress}
 use Rattle.reduction.specs.declared.step.Outcome as Answer
 use Rattle.runs.specs.declared.RunResult.{RunResult}
@@ -115,50 +107,8 @@ few-blocks z h =
 
 -- ---- the result of a run that accepts
 
--- How often the reported root occurs.
-abbrev pub timesReported : Side → ℕ → State → ℕ
-timesReported side D s = reportedTimes side D s (report side D s)
-
-module _ (side : Side) (D settled : ℕ) (store : List ℤ) (order : List ℕ) where
-  abbrev ended : State
-  ended = settledState settled store order
-
-  module _ (a : RootAnswer) (given : a ≡ answered (report side D ended)) where
-    pub times-missing : a .found ≡ false → 0 ≡ timesReported side D ended
-    unfolding reportedTimes
-    times-missing e = ap (reportedTimes side D ended) (sym (optionOf-missing a e) ∙ option-of (report side D ended) given)
-
-    root-found : a .found ≡ true → report side D ended ≡ some (a .root)
-    root-found e = sym (option-of (report side D ended) given) ∙ optionOf-found a e
-
-    pub times-found : a .found ≡ true → occurrences side D ended (a .root) ≡ timesReported side D ended
-    unfolding reportedTimes
-    times-found e = ap (reportedTimes side D ended) (sym (root-found e))
-
-    -- It is a root of a diagonal polynomial, which is within ±C, and so is the root.
-    pub reported-small : settled ≤ length order → D ≤ 4 → Columns order → Within (rowNeed settled) store → a .found ≡ true
-        → natAbs (a .root) ≤ bound
-    unfolding report
-    reported-small enough few columns w e =
-        let ps = diagonal side D ended in
-        let (p, i, k) = flat-origin roots ps (furthest-some side (flatten (map roots ps)) (root-found e) .0) in
-        let within = all-member (λ q. T (every small q)) ps i (diagonals-small side D settled store order enough few columns w) in
-        let nonzero = not-T (isZero p) (λ z. List·Memᴰ·not-nil (rw (roots-constant p (degree-isZero p z)) at k)) in
-        omega (arith, roots-small p nonzero within (a .root) (roots-sound p ∣ k ∣₁))
-
-  -- The report and what stands beside it depend on the rows and on their columns alone.
-  times-settled : (s : State) → s .rows ≡ rowsOf settled store → s .order ≡ take settled order
-      → timesReported side D ended ≡ timesReported side D s
-  unfolding reportedTimes
-  times-settled s e f =
-      ap (reportedTimes side D ended) (sym (report-settled side D settled store order s e f)) ∙ sym (same (report side D s))
-    where
-      same : (o : Option ℤ) → reportedTimes side D s o ≡ reportedTimes side D ended o
-      same none = refl
-      same (some r) = occurrences-settled side D settled store order s r e f
-
-abbrev acceptedWith : ℕ → ℕ → List ℕ → RootAnswer → ℕ → ℕ → Result
-acceptedWith count shifts order a rank times =
+abbrev acceptedWith : ℕ → ℕ → List ℕ → RootWith → ℕ → Result
+acceptedWith count shifts order a rank =
     record {
       refusal = 0;
       relations = count;
@@ -167,26 +117,21 @@ acceptedWith count shifts order a rank times =
       hasRoot = a .found;
       root = a .root;
       rank = rank;
-      multiplicity = times;
+      multiplicity = a .times;
     }
 
-pub accepted-result : (side : Side) (D : ℕ) (rows relations : List ℤ) (p : Progress) (order : List ℕ) (a : RootAnswer) (times : ℕ)
+pub accepted-result : (side : Side) (D : ℕ) (rows relations : List ℤ) (p : Progress) (order : List ℕ) (a : RootWith)
     → p .rows ≡ p .settled → p .settled ≤ length (p .order)
-    → order ≡ reportedOrder (take (p .settled) (p .order)) → a ≡ answered (report side D (settledState (p .settled) rows (p .order)))
-    → times ≡ timesReported side D (settledState (p .settled) rows (p .order))
-    → acceptedWith (p .count) (p .shifts) order a (p .settled) times ≡ acceptance side D (stateOf rows relations p)
+    → order ≡ reportedOrder (take (p .settled) (p .order)) → a ≡ reportedWith side D (settledState (p .settled) rows (p .order))
+    → acceptedWith (p .count) (p .shifts) order a (p .settled) ≡ acceptance side D (stateOf rows relations p)
 unfolding acceptance stateOf rank
-accepted-result side D rows relations p order a times e h f g t =
+accepted-result side D rows relations p order a e h f g =
     let s = stateOf rows relations p in
-    let columns = take (p .settled) (p .order) in
     let same = ap (λ n. rowsOf n rows) e in
-    ap₂ (λ o b. acceptedWith (p .count) (p .shifts) o b (p .settled) times) f
-    (g ∙ ap answered (sym (report-settled side D (p .settled) rows (p .order) s same refl)))
-    ∙ ap₂ (λ n w. acceptedWith n (p .shifts) (reportedOrder columns) (answered (report side D s)) w times)
+    ap₂ (λ o b. acceptedWith (p .count) (p .shifts) o b (p .settled)) f
+    (g ∙ sym (report-settled side D (p .settled) rows (p .order) s same refl))
+    ∙ ap₂ (λ n w. acceptedWith n (p .shifts) (reportedOrder (take (p .settled) (p .order))) (reportedWith side D s) w)
     (sym (length-relationsOf (p .count) relations)) (sym (length-take-le (p .settled) (p .order) h))
-    ∙ ap (acceptedWith (length (relationsOf (p .count) relations)) (p .shifts) (reportedOrder columns) (answered (report side D s))
-    (length columns))
-    (t ∙ times-settled side D (p .settled) rows (p .order) s same refl)
 
 -- ---- the result after the run
 
@@ -197,13 +142,14 @@ resultAfter side D (refused n) = refusal n
 -- A run always ends (crate theory), so this case never comes (SCOPE 3.24).
 resultAfter side D (going s) = refusal neverNumber
 
--- What the row store and the answer hold when the run has ended.
-pub record Final (rows : List ℤ) (o : Answer.Outcome) : Type 0 where
+-- What the row store and the answer hold when the run has ended. No diagonal polynomial of a run that accepts is zero.
+pub record Final (side : Side) (D : ℕ) (rows : List ℤ) (o : Answer.Outcome) : Type 0 where
   pub rows-within : Within (rowNeed (o .progress .rows)) rows
   pub few-settled : o .progress .settled ≤ columnCount
   pub four : length (o .progress .order) ≡ columnCount
   pub columns : Columns (o .progress .order)
   pub all-settled : o .refusal ≡ 0 → (o .done ≡ true) × (o .progress .rows ≡ o .progress .settled)
+  pub nonzero : o .refusal ≡ 0 → Nonzero (diagonal side D (settledState (o .progress .settled) rows (o .progress .order)))
 
 module _ (side : Side) (D : ℕ) (r : RunResult) (s : State) where
   pub ended-refused : (n : ℕ) (d : Bool) → n ≢ 0 → resultOf r ≡ refusal n → resultOf r ≡ resultAfter side D (outcomeOf n d s)
@@ -299,7 +245,7 @@ module _ (side : Side) (z : Sizes) (count : ℕ) (rows relations rows' relations
   ends : (s : State) → whole ≢ going s
   ends s = wholeRun-ends side (span z) (rowsOf (equations z) rows) (relationsOf count relations) s (c .valid .row-shapes)
 
-  pub final-run : Final rows' o
+  pub final-run : Final side (span z) rows' o
   unfolding outcomeOf stateOf rank
   final-run =
       record {
@@ -308,6 +254,7 @@ module _ (side : Side) (z : Sizes) (count : ℕ) (rows relations rows' relations
         four = ready .four;
         columns = ready .columns;
         all-settled = λ e. cases e (o .done) refl;
+        nonzero = λ e. no-zero e (cases e (o .done) refl);
       }
     where
       ready : Ready rows' relations' (o .progress)
@@ -316,15 +263,26 @@ module _ (side : Side) (z : Sizes) (count : ℕ) (rows relations rows' relations
       came : (d : Bool) → o .refusal ≡ 0 → o .done ≡ d → whole ≡ outcomeOf 0 d s
       came d e f = sym (r .reached .outcome) ∙ ap₂ (λ n x. outcomeOf n x s) e f
 
+      triangular : o .refusal ≡ 0 → o .done ≡ true → Diagonal side (rank s) (z .m) (span z) s
+      triangular e f = diagonal-nonzero (record { valid = c .valid; accepts = came true e f })
+
       settled : o .refusal ≡ 0 → o .done ≡ true → o .progress .rows ≡ o .progress .settled
       settled e f =
-          let count = diagonal-nonzero (record { valid = c .valid; accepts = came true e f }) .row-count in
+          let count = triangular e f .row-count in
           let inside : o .progress .settled ≤ length (o .progress .order) = omega (arith, ready .few-settled, ready .four) in
           sym (length-rowsOf (o .progress .rows) rows') ∙ count ∙ length-take-le (o .progress .settled) (o .progress .order) inside
 
       cases : o .refusal ≡ 0 → (d : Bool) → o .done ≡ d → (o .done ≡ true) × (o .progress .rows ≡ o .progress .settled)
       cases e true f = (f, settled e f)
       cases e false f = absurd (ends s (came false e f))
+
+      no-zero : o .refusal ≡ 0 → (o .done ≡ true) × (o .progress .rows ≡ o .progress .settled)
+          → Nonzero (diagonal side (span z) (settledState (o .progress .settled) rows' (o .progress .order)))
+      no-zero e (f, all) =
+          subst Nonzero
+          (diagonal-settled side (span z) (o .progress .settled) rows' (o .progress .order) s (ap (λ n. rowsOf n rows') all) refl)
+          (member-all (λ p. T (not (isZero p))) (diagonal side (span z) s)
+          (nonzero-of-diagonal side (rank s) (z .m) (span z) s (triangular e f)))
 
 -- A call by its parts.
 call-of : (c : Call) (r : RunResult) (rows relations : List ℤ) → resultOf r ≡ c .result → rows ≡ c .rowStore → relations ≡ c .relationStore

@@ -14,11 +14,11 @@ ghost use Rattle.rules.specs.Calls as Calls;
 ghost use Rattle.working_rows.specs.Found.{Columns};
 ghost use Rattle.stores.specs.Validity.{sizesOf};
 ghost use Rattle.sides.specs.Lent.{sideOf, Within, Listing};
+ghost use Rattle.sides.specs.FurthestRoots.{Nonzero};
 ghost use Rattle.sides.specs.ReportLaws.{settledState};
-ghost use Rattle.roots.specs.RootSearch.{answered};
 ghost use Rattle.reduction.specs.Progress.{stateOf, outcomeAt};
 ghost use Rattle.reduction.specs.Ran.{Ran};
-ghost use Rattle.runs.specs.CallLaws.{resultOf, callOf, resultAfter, timesReported, Final};
+ghost use Rattle.runs.specs.CallLaws.{resultOf, callOf, resultAfter, Final};
 
 // The number of the refusal or 0, and for a run that accepts: how many relations the store holds, how many shifts were
 // made, the columns of the settled rows, counted from 1, with zeros past the last, whether there is a root, and
@@ -65,36 +65,17 @@ pub fn counted(order: [usize; 4], settled: usize) -> [usize; 4]
     result
 }
 
-// How often the reported root occurs in the diagonal polynomials, 0 where there is none (SCOPE 2.83).
-fn reported_times(
-    rows: &[i64],
-    settled: usize,
-    order: [usize; 4],
-    side: Side,
-    span: usize,
-    answer: roots::RootAnswer,
-) -> usize
-    requires { ⌜ (settled ≤ columnCount) × (span ≤ 4) × Columns order × Within (rowNeed settled) (now rows) ⌝ }
-    requires { ⌜ answer ≡ answered (Elimination.report (sideOf side) span (settledState settled (now rows) order)) ⌝ }
-    ensures { λ r. ⌜ r ≡ timesReported (sideOf side) span (settledState settled (now (rows .entry)) order) ⌝ }
-{
-    if !answer.found {
-        return 0;
-    }
-    sides::report::occurrences(rows, settled, order, side, span, answer.root)
-}
-
-// The result of a run that accepts: the rows that are left are settled (SCOPE 2.81, 3.22).
+// The result of a run that accepts: the rows that are left are settled, and no diagonal polynomial is zero (SCOPE 2.81, 2.83, 3.22).
 pub fn accepted(rows: &[i64], span: usize, side: Side, p: reduction::step::Progress) -> RunResult
     requires { ⌜ (span ≤ 4) × (p .settled ≤ columnCount) × Within (rowNeed (p .settled)) (now rows) × (p .rows ≡ p .settled) ⌝ }
     requires { ⌜ (length (p .order) ≡ columnCount) × Columns (p .order) ⌝ }
+    requires { ⌜ Nonzero (Elimination.diagonal (sideOf side) span (settledState (p .settled) (now rows) (p .order))) ⌝ }
     ensures { λ r. ⌜ ((relations : List ℤ)
         → resultOf r ≡ Calls.acceptance (sideOf side) span (stateOf (now (rows .entry)) relations p)) ⌝ }
 {
     let settled = p.settled;
     let order = p.order;
     let answer = sides::report::report(rows, settled, order, side, span);
-    let multiplicity = reported_times(rows, settled, order, side, span, answer);
     RunResult {
         refusal: 0,
         relations: p.count,
@@ -103,7 +84,7 @@ pub fn accepted(rows: &[i64], span: usize, side: Side, p: reduction::step::Progr
         has_root: answer.found,
         root: answer.root,
         rank: settled,
-        multiplicity,
+        multiplicity: answer.times,
     }
 }
 
@@ -158,7 +139,7 @@ fn ended(
     side: Side,
     o: reduction::step::Outcome,
 ) -> RunResult
-    requires { ⌜ T (sizesRight (sizesOf sizes)) × Final (now rows) o ⌝ }
+    requires { ⌜ T (sizesRight (sizesOf sizes)) × Final (sideOf side) (span (sizesOf sizes)) (now rows) o ⌝ }
     ensures { λ r. ⌜ ((relations : List ℤ)
         → resultOf r ≡ resultAfter (sideOf side) (span (sizesOf sizes)) (outcomeAt (now (rows .entry)) relations o)) ⌝ }
 {

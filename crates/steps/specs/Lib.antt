@@ -4,6 +4,6 @@ pub mod SoundStates
 pub mod BudgetParts
 pub mod Handed
 pub mod Moving
-pub mod StepCalls
 pub mod HandedIn
+pub mod StepCalls
 pub mod SmallSteps

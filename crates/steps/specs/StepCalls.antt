@@ -4,12 +4,13 @@
 --   resultOf r, callOf r rows relations   the result, and the whole call, as the definitions have them
 --   heldBy z p, stateAfter z n p   the state that is given back with a progress, and after a refusal n
 --   runAfter D x               the result of a run that came to x
---   Stands rows o              what the row store and the answer hold when a run stops
+--   Stands D rows o            what the row store and the answer hold when a run stops
 --   progressIn x               the progress that a state which is handed in says
 --
 -- Main statements
 --   state-in                   the stores hold the same state with it
 --   held-ready                 a step may be made of a state that passes the checks
+--   triangular-in              its settled rows are triangular
 --   stands                     what is left of a run
 --   call-moved, call-unmoved   the whole call
 use Prim.Native.Nat.{ℕ, zero, suc, _+_, _*_, _-_, _≤_, _<_, pred}
@@ -17,23 +18,30 @@ use native.Mathlib.Nat.{le-trans, le-of-eq, le-antisymm, mul-le-mul-left}
 use native.Mathlib.Omega.{arith}
 use mathlib.Core.Path.{_≡_, refl, sym, _∙_, ap, ap₂, subst}
 use mathlib.Core.Logic.{_≢_}
-use mathlib.Core.Bool.{Bool, true, false}
+use mathlib.Core.Bool.{Bool, true, false, not}
 use mathlib.Core.List.{List, [], _∷_, map}
 use borrow.Author.Tests.{leb-true}
 use lib.Dec.{T, leb}
 use lib.IntN.{ℤ}
 use lib.ListN.{length, take}
+use Rattle.lists.specs.Everywhere.{member-all}
 use Rattle.lists.specs.Padded.{padTo, length-padTo, take-padTo}
 use Rattle.rules.specs.Limits.{columnCount, mostEquations}
-use Rattle.rules.specs.Elimination.{leading, State, Outcome, going, done, refused, finished}
+use Rattle.rules.specs.Rows.{entry, leadingBlock}
+use Rattle.rules.specs.Elimination.{leading, State, Outcome, going, done, refused, finished, diagonal, diagonalPlace}
 use Rattle.rules.specs.Stores.{Sizes, equations, withEquations, span, rowsOf, relationsOf, rowNeed, checkStores}
 use Rattle.rules.specs.Layout.{size-bounds, checkStores-zero}
 use Rattle.rules.specs.Calls.{Result, refusal, reportedOrder, acceptance}
 use Rattle.theory.specs.Steps.{going≢refused, going≢done, done≢refused, done-injective, refused-injective}
 use Rattle.algebra.specs.Pigeonhole.{Distinct}
+use Rattle.algebra.specs.Polynomials.{isZero}
 use Rattle.theory.specs.Pivots.{PivotRows, order-distinct}
+use Rattle.theory.specs.Triangular.{Triangular, triangular-chain}
+use Rattle.theory.specs.Report.{nonzero-diagonal}
 use Rattle.working_rows.specs.Found.{Columns}
 use Rattle.sides.specs.Lent.{Within, Listing}
+use Rattle.sides.specs.FurthestRoots.{Nonzero}
+use Rattle.sides.specs.ReportLaws.{settledState, diagonal-settled}
 use Rattle.reduction.specs.Progress.{Ready, Reached, stateOf, outcomeOf, outcomeAt, answerOf, startProgress}
 use Rattle.reduction.specs.StepCases.{finished-at}
 use Rattle.reduction.specs.Ran.{Ran, progressOf, answerFor, rowsAfter, relationsAfter}
@@ -41,12 +49,13 @@ use Rattle.reduction.specs.declared.step.Progress.{Progress}
 use Rattle.reduction.specs.declared.step.Outcome as Answer
 use Rattle.runs.specs.CallLaws.{few-blocks, Checked, checked}
 use Rattle.runs.specs.CallLaws as RunLaws
-use Rattle.steps.specs.Budgets.{Walk, steps, Walked, used-up, at-end, stopped, walked, row-of, refusal-number}
+use Rattle.steps.specs.Budgets.{Walk, steps, Walked, used-up, at-end, stopped, walked, led-chain, row-of, refusal-number}
 use Rattle.steps.specs.HeldCalls as Calls
 use Rattle.steps.specs.HeldCalls.{Held, noState, columnsOf, stateIn, heldState, StepsCall, movedTo, stoppedBy, afterSteps, unmoved}
 use Rattle.steps.specs.HeldCalls.{afterStateCheck, stepsCall, checkState, sizesHeld}
 use Rattle.steps.specs.SoundStates.{HeldBounds, sizesHeld-iff, StateRight, checkState-zero, pivots-right}
 use Rattle.steps.specs.Handed.{heldOf, held-few, held-columns, columns-count, columns-taken}
+use Rattle.steps.specs.HandedIn.{handed-triangular}
 use Rattle.steps.specs.Moving.{walkOf, MovedTo}
 use Rattle.steps.specs.declared.StepsResult.{StepsResult}
 use Rattle.steps.specs.declared.moving.Moved.{Moved}
@@ -221,18 +230,23 @@ module _ (x : Held) (rowStore relationStore : List ℤ) (four : length (x .order
         padded = ap (padTo columnCount 0) (sym (columns-taken x bounds four));
       }
 
+  pub triangular-in : Triangular (stateOf rowStore relationStore (progressIn x))
+  triangular-in = subst Triangular (sym state-in) (handed-triangular x rowStore relationStore passed four)
+
   pub held-shifts : x .shifts ≤ 24
   held-shifts = le-trans (bounds .few-shifts) (mul-le-mul-left mostEquations (few-blocks (x .sizes) (bounds .sizes)))
 
 -- ---- the whole call
 
--- What the row store and the answer hold when a run stops.
-pub record Stands (rows : List ℤ) (o : Answer.Outcome) : Type 0 where
+-- What the row store and the answer hold when a run stops. No diagonal polynomial of a finished run is zero.
+pub record Stands (D : ℕ) (rows : List ℤ) (o : Answer.Outcome) : Type 0 where
   pub rows-within : Within (rowNeed (o .progress .rows)) rows
   pub few-settled : o .progress .settled ≤ columnCount
   pub four : length (o .progress .order) ≡ columnCount
   pub columns : Columns (o .progress .order)
   pub all-settled : o .refusal ≡ 0 → o .done ≡ true → o .progress .rows ≡ o .progress .settled
+  pub nonzero : o .refusal ≡ 0 → o .done ≡ true
+      → Nonzero (diagonal leading D (settledState (o .progress .settled) rows (o .progress .order)))
 
 pub call-unmoved : (budget : ℕ) (x : Held) (rowStore relationStore : List ℤ) (n : ℕ) (run : Result) → n ≢ 0
     → n ≡ checkState x rowStore relationStore → run ≡ refusal n
@@ -258,28 +272,54 @@ done-finished k s v = go (walked leading k s)
     go (at-end h l e) f = subst (λ u. finished u ≡ true) (done-injective f) e
     go (stopped h l e g) f = absurd (done≢refused (sym f))
 
+done-triangular : (k : ℕ) (s v : State) → Triangular s → steps leading k s .outcome ≡ done v → Triangular v
+done-triangular k s v t = go (walked leading k s)
+  where
+    go : {w : Walk} → Walked leading s k w → w .outcome ≡ done v → Triangular v
+    go (used-up l e) f = absurd (going≢done f)
+    go (at-end h l e) f = subst Triangular (done-injective f) (triangular-chain (led-chain l) t)
+    go (stopped h l e g) f = absurd (done≢refused (sym f))
+
+triangular-nonzero : (D : ℕ) (s : State) → Triangular s → Nonzero (diagonal leading D s)
+unfolding diagonalPlace entry leadingBlock
+triangular-nonzero D s t =
+    member-all (λ p. T (not (isZero p))) (diagonal leading D s) (nonzero-diagonal leading D s (λ j h k. t .pivots j k .diagonal))
+
 -- What a run has left.
-pub stands : {first : Progress} {budget : ℕ} {rows relations rows' relations' : List ℤ} {r : Moved}
-    → MovedTo first budget rows relations rows' relations' r → Stands rows' (r .outcome)
-unfolding outcomeOf
-stands {first} {budget} {rows} {relations} {rows'} {relations'} {r} m =
+pub stands : (D : ℕ) {first : Progress} {budget : ℕ} {rows relations rows' relations' : List ℤ} {r : Moved}
+    → Triangular (stateOf rows relations first) → MovedTo first budget rows relations rows' relations' r → Stands D rows' (r .outcome)
+unfolding outcomeOf stateOf
+stands D {first} {budget} {rows} {relations} {rows'} {relations'} {r} t m =
     record {
       rows-within = ready .rows-within;
       few-settled = ready .few-settled;
       four = ready .four;
       columns = ready .columns;
-      all-settled = λ e d. le-antisymm
-          (leb-true (o .progress .rows) (o .progress .settled)
-          (sym (finished-at leading ready) ∙ done-finished budget (stateOf rows relations first) (stateOf rows' relations' (o .progress))
-          (sym (m .ran .reached .outcome) ∙ ap₂ (λ n t. outcomeOf n t (stateOf rows' relations' (o .progress))) e d)))
-          (ready .settled);
+      all-settled = all-settled;
+      nonzero = λ e d.
+          subst Nonzero
+          (diagonal-settled leading D (o .progress .settled) rows' (o .progress .order) v (ap (λ n. rowsOf n rows') (all-settled e d)) refl)
+          (triangular-nonzero D v (done-triangular budget (stateOf rows relations first) v t (came e d)));
     }
   where
     o : Answer.Outcome
     o = r .outcome
 
+    v : State
+    v = stateOf rows' relations' (o .progress)
+
     ready : Ready rows' relations' (o .progress)
     ready = m .ran .reached .ready
+
+    came : o .refusal ≡ 0 → o .done ≡ true → walkOf first budget rows relations .outcome ≡ done v
+    came e d = sym (m .ran .reached .outcome) ∙ ap₂ (λ n b. outcomeOf n b v) e d
+
+    all-settled : o .refusal ≡ 0 → o .done ≡ true → o .progress .rows ≡ o .progress .settled
+    all-settled e d =
+        le-antisymm
+        (leb-true (o .progress .rows) (o .progress .settled)
+        (sym (finished-at leading ready) ∙ done-finished budget (stateOf rows relations first) v (came e d)))
+        (ready .settled)
 
 pub call-moved : (budget : ℕ) (x : Held) (rowStore relationStore : List ℤ) → length (x .order) ≡ columnCount
     → checkState x rowStore relationStore ≡ 0 → {first : Progress} {rows' relations' : List ℤ} {r : Moved}

@@ -116,7 +116,7 @@ fn state_after(sizes: stores::validity::Sizes, o: Outcome) -> State
 
 // The result of a run that has stopped: that of a whole run if no row is left, otherwise its refusal or zeros (SCOPE 11.31).
 fn result_after(rows: &[i64], sizes: stores::validity::Sizes, o: Outcome) -> runs::RunResult
-    requires { ⌜ T (sizesRight (sizesOf sizes)) × Stands (now rows) o ⌝ }
+    requires { ⌜ T (sizesRight (sizesOf sizes)) × Stands (span (sizesOf sizes)) (now rows) o ⌝ }
     ensures { λ r. ⌜ ((relations : List ℤ)
         → RunLaws.resultOf r ≡ runAfter (span (sizesOf sizes)) (outcomeAt (now (rows .entry)) relations o)) ⌝ }
 {

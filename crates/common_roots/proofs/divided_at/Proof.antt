@@ -4,7 +4,6 @@
 use mathlib.Core.Path.{_≡_, refl, sym, _∙_, ap, subst}
 use mathlib.Core.Bool.{false, _&&_, and-false}
 use mathlib.Core.List.{List}
-use Prim.Native.Nat.{_-_}
 use native.Mathlib.Omega.{arith}
 use borrow.Author.Needs.{needs}
 use borrow.Author.Tests.{not-true, not-false}
@@ -12,7 +11,6 @@ use lib.IntN.{ℤ}
 use mir.Syntax.{w64}
 use mir.Val.{toZ}
 use mir.Facts.{toZ-ofZ}
-use Rattle.rules.specs.Limits.{coefficientCount}
 use Rattle.rules.specs.CommonRoots.{Entries, divideAt}
 use Rattle.common_roots.specs.Divisions.{Sixteen, Divided, divides, divideAt-none, divideAt-both, quotient-sixteen}
 use Rattle.common_roots.proofs.divided_at.Statement.{statement}
@@ -22,12 +20,12 @@ abbrev both : List ℤ → List ℤ → Entries
 both pivot target = record { pivot = pivot; target = target }
 
 abbrev Inv-loop : tie.InvT-loop
-Inv-loop r pivot₀ target₀ left₀ pivot target left =
+Inv-loop r times pivot₀ target₀ left₀ pivot target left =
     Sixteen pivot × Sixteen target
-    × (divideAt left (toZ w64 r) (both pivot target) ≡ divideAt coefficientCount (toZ w64 r) (both pivot₀ target₀))
+    × (divideAt left (toZ w64 r) (both pivot target) ≡ divideAt times (toZ w64 r) (both pivot₀ target₀))
 
 abbrev μ-loop : tie.MeasureT-loop
-μ-loop r pivot₀ target₀ left₀ pivot target left = left
+μ-loop r times pivot₀ target₀ left₀ pivot target left = left
 
 -- Both polynomials at the loop's head.
 module _ (c : tie.At-loop Inv-loop μ-loop) where
@@ -44,7 +42,7 @@ module _ (c : tie.At-loop Inv-loop μ-loop) where
   b = c .loop .target
 
   abbrev whole : Entries
-  whole = divideAt coefficientCount r (both (start .args .entries .pivot) (start .args .entries .target))
+  whole = divideAt (start .args .times) r (both (start .args .entries .pivot) (start .args .entries .target))
 
   rest : divideAt (c .loop .left) r (both a b) ≡ whole
   rest = rw (toZ-ofZ (start .fits .r)) at (c .loop .inv .2)

@@ -10,9 +10,9 @@ use Rattle.algebra.specs.Roots.{roots}
 use Rattle.lists.specs.Sifted.{keep}
 use Rattle.rules.specs.CommonRoots.{reduced}
 use Rattle.rules.specs.Elimination.{ratio, multipliers}
-use Rattle.roots.specs.RootSearch.{held, listed, held-of, listed-held, roots-few}
+use Rattle.roots.specs.RootSearch.{listed, held-of, listed-held, roots-few}
 use Rattle.common_roots.specs.Divisions.{vanishesAt}
-use Rattle.common_roots.specs.Amended.{both, reduced-not-both, multipliers-roots}
+use Rattle.common_roots.specs.Amended.{both, rootsAlone, roots-alone, reduced-not-both, multipliers-roots}
 use borrow.Author.Needs.{needs}
 use Rattle.common_roots.proofs.divided_multipliers.Statement.{statement}
 use Rattle.common_roots.proofs.divided_multipliers.Tie as tie
@@ -31,8 +31,8 @@ module _ (c : tie.After-reduced) where
   target-is : c .reduced .result .target ≡ reduced (both a b) .target
   target-is = ap (λ e. e .target) (c .reduced .ensures .1)
 
-  found-is : held (c .before .args .found) ≡ roots a
-  found-is = held-of (roots a) (c .before .pre .0 .2)
+  alone : rootsAlone (c .before .args .found) ≡ listed (roots a)
+  alone = roots-alone a (c .before .pre .1 .1)
 
 reduced-requires : tie.Need-reduced-requires
 reduced-requires c κs = search needs
@@ -52,24 +52,36 @@ multipliers-of-requires c κs =
 slice-aggregate-kept : tie.Need-slice-aggregate-kept
 slice-aggregate-kept c = search needs
 
+roots-of-requires : tie.Need-roots-of-requires
+roots-of-requires c κs = search needs
+
+-- The roots of a.
+module _ (c : tie.After-roots-of) where
+  abbrev left : tie.After-reduced
+  left = c .before .before .before .before .before .before .before .before .before
+
+  found-is : c .roots-of .result ≡ listed (roots (a left))
+  found-is = c .roots-of .ensures ∙ alone left
+
 kept-requires : tie.Need-kept-requires
 kept-requires c κs =
-    let r = c .before .before .before .before .before .before .before .before in (
+    let r = left c in (
       r .reduced .ensures .0 .0,
-      listed-held (roots (a r)) (r .before .pre .0 .2),
-      rw (found-is r) (omega (arith, roots-few (a r) (le-of-eq (r .before .pre .0 .0 .0)))),
+      listed-held (roots (a r)) (found-is c),
+      rw (held-of (roots (a r)) (found-is c)) (omega (arith, roots-few (a r) (le-of-eq (r .before .pre .0 .0 .0)))),
     )
 
 returns : tie.Need-returns
 unfolding multipliers
 returns c =
-    let m = c .before .before .before .before in
-    let r = m .before .before .before .before .before in
+    let m = c .before .before .before .before .before in
+    let r = left (c .before) in
     let g = m .multipliers-of .ensures .0 ∙ ap₂ (λ p q. ratio p q .g) (pivot-is r) (target-is r) in
     let h = m .multipliers-of .ensures .1 ∙ ap₂ (λ p q. ratio p q .h) (pivot-is r) (target-is r) in
-    let left = c .kept .ensures ∙ ap₂ (λ p l. listed (keep (vanishesAt p) l)) (pivot-is r) (found-is r)
+    let found = held-of (roots (a r)) (found-is (c .before)) in
+    let kept = c .kept .ensures ∙ ap₂ (λ p l. listed (keep (vanishesAt p) l)) (pivot-is r) found
     ∙ ap listed (sym (multipliers-roots (a r) (b r) (r .before .pre .0 .1))) in
-    rw (g, h, left)
+    λ i. record { g = g i; h = h i; roots = kept i }
 
 pub divided-multipliers-spec : {M : Type 1} → statement M
 divided-multipliers-spec =
@@ -80,5 +92,6 @@ divided-multipliers-spec =
     slice-aggregate-multipliers-of-2
     multipliers-of-requires
     slice-aggregate-kept
+    roots-of-requires
     kept-requires
     returns)

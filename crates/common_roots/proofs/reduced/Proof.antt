@@ -1,29 +1,31 @@
 -- `common_roots::reduced` meets its contract.
 -- Assumes nothing.
-use mathlib.Core.Path.{_≡_, sym, _∙_, ap, ap₂, subst}
+use mathlib.Core.Path.{_≡_, sym, _∙_, ap₂, subst}
+use mathlib.Core.Bool.{not}
 use mathlib.Core.List.{List}
-use native.Mathlib.Nat.{le-of-eq}
 use denote.Ref.{now}
+use lib.Dec.{T}
 use lib.IntN.{ℤ}
+use Rattle.algebra.specs.Polynomials.{isZero}
+use Rattle.algebra.specs.Roots.{roots}
+use Rattle.lists.specs.Sifted.{keep}
 use Rattle.rules.specs.Limits.{coefficientCount}
 use Rattle.rules.specs.CommonRoots.{divideEach, commonRoots}
-use Rattle.roots.specs.RootSearch.{held, held-of, listed-held}
-use Rattle.common_roots.specs.Divisions.{Sixteen}
-use Rattle.common_roots.specs.Amended.{both, reduced-each, common-few, common-small}
+use Rattle.rules.specs.Elimination.{rootsWith}
+use Rattle.multiplicities.specs.Counts.{listedWith}
+use Rattle.common_roots.specs.Divisions.{Sixteen, vanishesAt}
+use Rattle.common_roots.specs.Amended.{both, reduced-each}
 use borrow.Author.Needs.{needs}
 use Rattle.common_roots.proofs.reduced.Statement.{statement}
 use Rattle.common_roots.proofs.reduced.Tie as tie
 
--- The arguments, and the common roots as a list.
+-- The arguments.
 module _ (c : tie.Start) where
   abbrev a : List ℤ
   a = now (c .args .a)
 
   abbrev b : List ℤ
   b = now (c .args .b)
-
-  held-is : held (c .args .common) ≡ commonRoots (both a b)
-  held-is = held-of (commonRoots (both a b)) (c .pre .1 .1)
 
 copied-requires : tie.Need-copied-requires
 copied-requires c κs = search needs
@@ -33,21 +35,24 @@ copied-requires-2 c κs = search needs
 
 divided-each-requires : tie.Need-divided-each-requires
 divided-each-requires c κs =
-    let s = c .before .before in (
-      (subst Sixteen (sym (c .before .copied .ensures)) (s .pre .0 .0), subst Sixteen (sym (c .copied2 .ensures)) (s .pre .1 .0)),
-      listed-held (commonRoots (both (a s) (b s))) (s .pre .1 .1),
-      rw (held-is s) (common-few (a s) (b s) (le-of-eq (s .pre .0 .0 .0))),
-      rw (held-is s) (common-small (a s) (b s) (s .pre .0 .1) (s .pre .0 .0 .1)),
+    let s = c .before .before in
+    let same = sym (c .before .copied .ensures) in (
+      (
+        (subst Sixteen same (s .pre .0 .0), subst Sixteen (sym (c .copied2 .ensures)) (s .pre .1 .0)),
+        subst (λ p. T (not (isZero p))) same (s .pre .0 .1),
+        subst (λ p. s .args .found ≡ listedWith (rootsWith p)) same (s .pre .1 .1),
+      ),
+      s .pre .1 .0,
     )
 
 returns : tie.Need-returns
+unfolding commonRoots
 returns c =
-    let s = c .before .before .before in
-    let l = commonRoots (both (a s) (b s)) in (
+    let s = c .before .before .before in (
       c .divided-each .ensures .0,
       c .divided-each .ensures .1
-          ∙ ap (λ m. divideEach coefficientCount m (both (c .before .before .copied .result) (c .before .copied2 .result))) (held-is s)
-          ∙ ap₂ (λ p q. divideEach coefficientCount l (both p q)) (c .before .before .copied .ensures) (c .before .copied2 .ensures)
+          ∙ ap₂ (λ p q. divideEach coefficientCount (keep (vanishesAt (b s)) (roots p)) (both p q)) (c .before .before .copied .ensures)
+          (c .before .copied2 .ensures)
           ∙ reduced-each (a s) (b s) (s .pre .0 .0 .0),
     )
 

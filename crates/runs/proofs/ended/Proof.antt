@@ -34,8 +34,10 @@ accepted-requires c κs =
     let z = sizesOf (s .args .sizes) in
     let end = s .pre .1 in
     let settled = end .all-settled (c .before .before .if1 .left) .1 in
-    let within = subst (λ n. Within (rowNeed n) (now (s .args .rows))) settled (end .rows-within) in
-    ((rw (c .span .ensures) (few-blocks z (s .pre .0)), end .few-settled, within, settled), (end .four, end .columns))
+    let within = subst (λ n. Within (rowNeed n) (now (s .args .rows))) settled (end .rows-within) in (
+      (rw (c .span .ensures) (few-blocks z (s .pre .0)), end .few-settled, within, settled),
+      ((end .four, end .columns), rw (c .span .ensures) (end .nonzero (c .before .before .if1 .left))),
+    )
 
 returns-2 : tie.Need-returns-2
 unfolding sizesOf

@@ -3,13 +3,14 @@
 use mathlib.Core.List.{List}
 use denote.Ref.{now}
 use lib.IntN.{ℤ}
-use Rattle.rules.specs.Stores.{equations}
+use Rattle.rules.specs.Stores.{equations, span}
 use Rattle.stores.specs.Validity.{sizesOf}
 use Rattle.steps.specs.HeldCalls.{Held, columnsOf}
 use Rattle.steps.specs.SoundStates.{HeldBounds}
 use Rattle.steps.specs.Handed.{heldOf, held-few, held-positive}
 use Rattle.runs.specs.CallLaws as RunLaws
-use Rattle.steps.specs.StepCalls.{resultOf, callOf, progressIn, passed-bounds, held-ready, held-shifts, stands, call-moved}
+use Rattle.steps.specs.StepCalls.{resultOf, callOf, progressIn, passed-bounds, held-ready, held-shifts, triangular-in, stands}
+use Rattle.steps.specs.StepCalls.{call-moved}
 use native.Mathlib.Omega.{arith}
 use borrow.Author.Needs.{needs}
 use Rattle.steps.proofs.checked_steps.Statement.{statement}
@@ -46,11 +47,13 @@ state-after-requires : tie.Need-state-after-requires
 state-after-requires c κs = search needs
 
 result-after-requires : tie.Need-result-after-requires
-unfolding heldOf
+unfolding heldOf progressIn columnsOf sizesOf equations
 result-after-requires c κs =
     let run = c .before .before .before .before .before in
     let s = run .before .before .before .before .before .before in
-    (held s .sizes, stands (run .run-on .ensures))
+    let order = run .before .before .before .from-zero .ensures in
+    let triangular = triangular-in (x s) (rows s) (relations s) (order .1) (s .pre) in
+    (held s .sizes, stands (span (x s .sizes)) (rw (order .0) triangular) (run .run-on .ensures))
 
 same-length : tie.Need-same-length
 same-length c = search needs

@@ -43,10 +43,14 @@ accepted-requires : tie.Need-accepted-requires
 accepted-requires c κs =
     let s = c .before .before .before .before .before in
     let end = s .pre .1 in
-    let settled = end .all-settled (c .before .before .before .before .if1 .left) (not-false _ (c .before .before .if2 .left)) in
+    let accepts = c .before .before .before .before .if1 .left in
+    let done = not-false _ (c .before .before .if2 .left) in
+    let settled = end .all-settled accepts done in
     let within = subst (λ n. Within (rowNeed n) (now (s .args .rows))) settled (end .rows-within) in
-    let narrow = few-blocks (sizesOf (s .args .sizes)) (s .pre .0) in
-    ((rw (c .span .ensures) narrow, end .few-settled, within, settled), (end .four, end .columns))
+    let narrow = few-blocks (sizesOf (s .args .sizes)) (s .pre .0) in (
+      (rw (c .span .ensures) narrow, end .few-settled, within, settled),
+      ((end .four, end .columns), rw (c .span .ensures) (end .nonzero accepts done)),
+    )
 
 returns-3 : tie.Need-returns-3
 returns-3 c =

@@ -2,7 +2,7 @@
 -- Assumes nothing.
 use mir.Facts.{toZ-ofZ}
 use borrow.Author.Needs.{needs}
-use Rattle.sides.specs.ReportLaws.{isBeyond}
+use Rattle.sides.specs.FurthestRoots.{isBeyond}
 use Rattle.sides.proofs.report.is_beyond.Statement.{statement}
 use Rattle.sides.proofs.report.is_beyond.Tie as tie
 
