@@ -11,7 +11,7 @@
  * (SCOPE 3.2, 3.11). The relation store needs 16 x 337: `count` relations, each n0 and then a row, and zeros at the
  * places past them (SCOPE 3.4, 3.13). Positions of blocks below t and of columns above m hold 0 (SCOPE 3.3).
  *
- * Every function returns the number of a refusal, or 0 (SCOPE 6.1 to 6.12; 6 and 11 do not occur):
+ * Every function returns the number of a refusal, or 0 (SCOPE 6.1 to 6.12; 6 does not occur):
  *   1  a store has too few members
  *   2  a size, block, column, count or order is out of its range
  *   3  something in a sheet is not a number; or a separator, the order of the terms or a zero last coefficient is wrong,
@@ -22,10 +22,12 @@
  *   8  a coefficient has passed +-268,435,455 in the course of the run
  *   9  a seventeenth relation would have to be listed
  *  10  the system has no solution: the left part of a row is zero and its right side is not
+ *  11  the state of a run is not right: a size or a number is out of its range, an unused position does not hold 0, or a settled row
+ *      does not stand as a settled row has to (`wurgalm_run_steps` alone)
  *  12  a value of Horner's rule has passed +-2^40 (`wurgalm_check_record` alone)
- * On 1 to 5 no store is changed (SCOPE 6.32; but see `wurgalm_batch`). On 7 to 12 the needed part of each store that the
- * function may write is zero (SCOPE 6.33). Sizes, count and order are checked first (2), then the lengths of the stores
- * (1), then their numbers (5) (SCOPE 3.31).
+ * On 1 to 5 and on 11 no store is changed (SCOPE 6.32; but see `wurgalm_batch`). On 7 to 10 and on 12 the needed part of each
+ * store that the function may write is zero (SCOPE 6.33; `wurgalm_run_steps` then tells the steps, and zeros). Sizes, count and
+ * order are checked first (2), then the lengths of the stores (1), then their numbers (5) (SCOPE 3.31).
  *
  * Equal arguments give equal numbers and bytes in every store, on every installation. The relations that one multiplier
  * adds stand together, by strictly ascending n0, on the leading and on the trailing side (SCOPE 2.33). */
@@ -47,6 +49,8 @@ extern "C" {
 #define WURGALM_RESULT 10 /* of a run */
 #define WURGALM_HEADING 9 /* of a reader */
 #define WURGALM_RECORD 4 /* of a record */
+#define WURGALM_STATE 11 /* of the state of a run by steps */
+#define WURGALM_STEPS 12 /* of a run with a budget */
 
 /* Where the 16 coefficients of the right side begin in a row; in a relation, one place later. */
 #define WURGALM_RIGHT_SIDE 320
@@ -120,6 +124,27 @@ uint8_t wurgalm_write_recurrence(const uint8_t *sheet, size_t sheet_length, uint
 uint8_t wurgalm_check_record(const int64_t *rows, size_t rows_length, const int64_t *relations, size_t relations_length, size_t m,
                              size_t equations, int64_t l, int64_t t, size_t count, int64_t first, size_t vectors,
                              const int64_t *values, size_t values_length, int64_t *result, size_t result_length);
+
+/* The state before the first step of a run on the leading side. Nothing but `state` is written.
+ * In: `rows`, `relations`, m, `equations`, l, t and `count` as for a run; the checks are those of a run.
+ * Out: `state` (11 numbers, SCOPE 11.12): m, the equations, l, t, the relation count, the settled rows, their columns c(1) to c(4)
+ * counted from 1 with zeros past the last, the shifts. Before the first step no row is settled and no shift made.
+ * Returns 0, 1, 2 or 5; a state store that is too short is 1 with the other stores (SCOPE 11.42). */
+uint8_t wurgalm_prepare(const int64_t *rows, size_t rows_length, const int64_t *relations, size_t relations_length, size_t m,
+                        size_t equations, int64_t l, int64_t t, size_t count, int64_t *state, size_t state_length);
+
+/* At most `budget` steps of a run on the leading side. A step is one combination with the exchange before it, one shift, one
+ * settling or one dropped row (SCOPE 11.2). From a prepared state only the sum of the budgets of successive calls counts, and calls
+ * with enough steps leave what `wurgalm_run_leading` leaves (SCOPE 11.5, 11.6). No run takes more than 252 steps (SCOPE 11.26).
+ * In: `state` (11 numbers) as `wurgalm_prepare` or the last call left it, with both stores as they were left. A state made by hand is
+ * taken as well where it passes the checks (SCOPE 11.21 to 11.24).
+ * Out: `rows`, `relations` and `state` hold the state that the steps lead to; after a drop there is one equation fewer, and the
+ * place of its row is zero. `result` (12 numbers, SCOPE 11.44): the steps that were taken; 1 if no row is left to settle, else 0;
+ * behind them the ten numbers of a run if so, else zeros. With budget 0 the state is checked and nothing moves.
+ * Returns 0; 1, first of all for a state store that is too short, and after the sizes for the others (SCOPE 11.43); 11; or 7 to 10 by
+ * a step: then the needed parts of `rows`, `relations` and `state` are zero, and `result` is the steps before it and zeros. */
+uint8_t wurgalm_run_steps(int64_t *rows, size_t rows_length, int64_t *relations, size_t relations_length, int64_t *state,
+                          size_t state_length, size_t budget, int64_t *result, size_t result_length);
 
 /* A whole batch worked.
  * In: the bytes of the batch: a line with the number of sheets, 0 to 1,000, and for each sheet a line with its client,

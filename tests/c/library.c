@@ -427,6 +427,180 @@ static void records(void) {
     check_measured(measured, call, 0, large, 1, 1, 1, kept, "record, result store too short, before a value past its limit: 1");
 }
 
+/* ---- work by steps ---- */
+
+/* The state and the result of a run by steps, each with some numbers past the needed part. */
+typedef struct {
+    int64_t state[WURGALM_STATE + MORE];
+    int64_t result[WURGALM_STEPS + MORE];
+} Stepped;
+
+static uint8_t prepare_run(Stores *stores, Asked call, Stepped *stepped, size_t state) {
+    return wurgalm_prepare(stores->rows, call.rows, stores->relations, call.relations, call.m, call.equations, call.l, call.t,
+                           call.count, stepped->state, state);
+}
+
+static uint8_t run_steps(Stores *stores, Asked call, Stepped *stepped, size_t budget) {
+    return wurgalm_run_steps(stores->rows, call.rows, stores->relations, call.relations, stepped->state, WURGALM_STATE, budget,
+                             stepped->result, WURGALM_STEPS);
+}
+
+static void untouched(Stepped *stepped) {
+    fill(stepped->state, WURGALM_STATE + MORE, 7);
+    fill(stepped->result, WURGALM_STEPS + MORE, 7);
+}
+
+/* K2 prepared, 7 past the state. */
+static void k2_prepared(Stores *stores, Stepped *stepped) {
+    k2_stores(stores);
+    untouched(stepped);
+    check(prepare_run(stores, asked(), stepped, WURGALM_STATE) == 0, "K2 is prepared");
+}
+
+static void k2_by_steps(void) {
+    static const int64_t first[WURGALM_STATE] = {2, 2, 1, 0, 0, 0, 0, 0, 0, 0, 0};
+    static const int64_t second[WURGALM_STATE] = {2, 2, 1, 0, 1, 1, 1, 0, 0, 0, 0};
+    static const int64_t last[WURGALM_STATE] = {2, 2, 1, 0, 2, 2, 1, 2, 0, 0, 1};
+    static const int64_t looked[WURGALM_STEPS] = {0}, two[WURGALM_STEPS] = {2};
+    static const int64_t done[WURGALM_STEPS] = {3, 1, 2, 1, 1, 2, 0, 0, 1, 0, 2, 1};
+    static Stores stores, expected;
+    static Stepped stepped, left;
+    Asked call = asked();
+
+    k2_prepared(&stores, &stepped);
+    untouched(&left);
+    memcpy(left.state, first, sizeof first);
+    k2_stores(&expected);
+    check(same(&stores, &expected) && memcmp(&stepped, &left, sizeof left) == 0, "its state, and the stores are only read");
+    check(run_steps(&stores, call, &stepped, 0) == 0, "K2, budget 0");
+    memcpy(left.result, looked, sizeof looked);
+    check(same(&stores, &expected) && memcmp(&stepped, &left, sizeof left) == 0, "nothing moves: no steps, not finished");
+    check(run_steps(&stores, call, &stepped, 2) == 0, "K2, two steps");
+    memcpy(left.state, second, sizeof second);
+    memcpy(left.result, two, sizeof two);
+    check(memcmp(&stepped, &left, sizeof left) == 0, "one row settled in column 1, one relation");
+    check(run_steps(&stores, call, &stepped, (size_t)-1) == 0, "K2, to the end");
+    memcpy(left.state, last, sizeof last);
+    memcpy(left.result, done, sizeof done);
+    check(memcmp(&stepped, &left, sizeof left) == 0, "three steps more, finished, and the ten numbers of the whole run");
+    k2_answer_stores(&expected);
+    check(same(&stores, &expected), "the rows and relations of the whole run, and nothing past the needed parts");
+    check(run_steps(&stores, call, &stepped, 5) == 0, "K2, at its end");
+    left.result[0] = 0;
+    check(same(&stores, &expected) && memcmp(&stepped, &left, sizeof left) == 0, "no step is left");
+    polynomial(stores.rows, 1, 0, 0)[0] = 1;
+    expected = stores;
+    check(run_steps(&stores, call, &stepped, 5) == 11, "an entry at an earlier settled column: 11");
+    check(same(&stores, &expected) && memcmp(&stepped, &left, sizeof left) == 0, "and no store is changed");
+}
+
+/* What is refused before the first step leaves every store as it was: K2 after two steps, with some of its state, a number of the row store
+ * or a length changed. */
+static void unmoved(size_t place, int64_t number, size_t at, int64_t coefficient, Asked call, size_t state, uint8_t refusal,
+                    const char *what) {
+    static Stores stores, before;
+    static Stepped stepped, kept;
+    char line[120];
+    size_t budget;
+    uint8_t answer;
+    k2_prepared(&stores, &stepped);
+    check(run_steps(&stores, asked(), &stepped, 2) == 0, "and two steps taken");
+    stepped.state[place] = number;
+    stores.rows[at] = coefficient;
+    before = stores;
+    kept = stepped;
+    snprintf(line, sizeof line, "steps, %s: %d", what, refusal);
+    for (budget = 0; budget < 3; budget++) {
+        answer = wurgalm_run_steps(stores.rows, call.rows, stores.relations, call.relations, stepped.state, state, budget,
+                                   stepped.result, call.result);
+        check(answer == refusal && same(&stores, &before) && memcmp(&stepped, &kept, sizeof kept) == 0, line);
+    }
+}
+
+static void states_refused(void) {
+    const size_t n = 1, behind = WURGALM_STATE, all = WURGALM_STATE;
+    Asked call = asked(), none = asked();
+    call.result = WURGALM_STEPS;
+    none.rows = none.relations = none.result = 0;
+    /* Place 1 of the row store holds the coefficient 1 of n. */
+    unmoved(0, 5, n, 1, none, all, 11, "five unknowns, before stores too short");
+    unmoved(0, -1, n, 1, call, all, 11, "less than no unknowns");
+    unmoved(behind, 7, n, 0, call, all, 11, "a settled diagonal that is zero");
+    unmoved(2, 65, n, 1, call, all, 11, "block 65");
+    unmoved(4, 17, n, 1, call, all, 11, "seventeen relations");
+    unmoved(4, 0, n, 1, call, all, 11, "a number past the relations");
+    unmoved(5, 3, n, 1, call, all, 11, "three settled rows");
+    unmoved(6, 0, n, 1, call, all, 11, "a settled column 0");
+    unmoved(6, 2, n, 1, call, all, 11, "a settled column without a diagonal");
+    unmoved(7, 1, n, 1, call, all, 11, "a column behind the settled ones");
+    unmoved(10, 7, n, 1, call, all, 11, "seven shifts");
+    unmoved(10, INT64_MIN, n, 1, call, all, 11, "less than no shifts");
+    unmoved(behind, 7, n, 268435456, call, all, 11, "a coefficient past the limit");
+    unmoved(behind, 7, 32, 1, call, all, 11, "a number at an unused position");
+    unmoved(0, 5, n, 1, none, WURGALM_STATE - 1, 1, "a state store too short, before all else");
+    call.result = WURGALM_STEPS - 1;
+    unmoved(behind, 7, n, 268435456, call, all, 1, "a result store too short, before a coefficient past the limit");
+    call = asked();
+    call.result = WURGALM_STEPS;
+    call.rows = TWO_ROWS - 1;
+    unmoved(behind, 7, n, 1, call, all, 1, "a row store too short");
+    call.rows = TWO_ROWS;
+    call.relations = WURGALM_RELATIONS - 1;
+    unmoved(behind, 7, n, 1, call, all, 1, "a relation store too short");
+}
+
+/* A step that is refused leaves zeros, and the steps before it in the result. */
+static void steps_refused(void) {
+    static const int64_t one[WURGALM_STEPS] = {1};
+    static Stores stores, expected;
+    static Stepped stepped, left;
+    Asked call = asked();
+    prepare(&stores, 9);
+    check(read_sheet("3 1 0 0\n2\n1 0 1 1 1\n1 0 1 1 1\n0\n0\n2\n1 1\n1 2\n", &stores, call) == 0, "x = 1 and x = 2 are read");
+    call.m = 1;
+    call.l = 0;
+    expected = stores;
+    fill(expected.rows, TWO_ROWS, 0);
+    fill(expected.relations, WURGALM_RELATIONS, 0);
+    untouched(&stepped);
+    left = stepped;
+    fill(left.state, WURGALM_STATE, 0);
+    memcpy(left.result, one, sizeof one);
+    check(prepare_run(&stores, call, &stepped, WURGALM_STATE) == 0, "and prepared");
+    check(run_steps(&stores, call, &stepped, 9) == 10, "the second step is refused with 10");
+    check(same(&stores, &expected) && memcmp(&stepped, &left, sizeof left) == 0, "one step, and zeros in stores and state");
+}
+
+/* What is not prepared leaves the state as it was. */
+static void unprepared(Asked call, size_t state, int64_t coefficient, uint8_t refusal, const char *what) {
+    static Stores stores, before;
+    static Stepped stepped, kept;
+    char line[100];
+    k2_stores(&stores);
+    stores.rows[1] = coefficient;
+    before = stores;
+    untouched(&stepped);
+    kept = stepped;
+    snprintf(line, sizeof line, "prepare, %s: %d", what, refusal);
+    check(prepare_run(&stores, call, &stepped, state) == refusal && same(&stores, &before)
+              && memcmp(&stepped, &kept, sizeof kept) == 0,
+          line);
+}
+
+static void systems_not_prepared(void) {
+    Asked call = asked();
+    call.equations = 7;
+    unprepared(call, 0, 1, 2, "seven equations, before a state store too short");
+    call = asked();
+    unprepared(call, WURGALM_STATE - 1, 268435456, 1, "a state store too short, before a coefficient past the limit");
+    unprepared(call, WURGALM_STATE, 268435456, 5, "a coefficient past the limit");
+    call.rows = TWO_ROWS - 1;
+    unprepared(call, WURGALM_STATE, 1, 1, "a row store too short");
+    call = asked();
+    call.relations = WURGALM_RELATIONS - 1;
+    unprepared(call, WURGALM_STATE, 1, 1, "a relation store too short");
+}
+
 /* ---- a whole batch ---- */
 
 /* What a call on a batch answers and leaves: the number, and a result and an output that begin so, with everything past them as before. */
@@ -635,6 +809,10 @@ int main(void) {
     bessel_read();
     bessel_written();
     records();
+    k2_by_steps();
+    states_refused();
+    steps_refused();
+    systems_not_prepared();
     runs_refused_before_the_work(wurgalm_run_leading, "leading");
     runs_refused_before_the_work(wurgalm_run_trailing, "trailing");
     runs_refused_during_the_work(wurgalm_run_leading);

@@ -4,7 +4,8 @@
 -- was lent the stores `rows` and `relations`, with the sizes z and `count` relations, and that c is its result with both stores
 -- as it left them: the function's contract, word for word. `SheetWasRead`, `SheetWasWritten`, `SheetWasAnswered`,
 -- `PieceWasGiven`, `InputWasEnded`, `BatchWasAnswered` and `ExportedRun`, `ExportedRead`, `ExportedWrite`, `ExportedBatch` say
--- so of the other calls, `DifferentialWasRead` and `RecurrenceWasWritten` of those on differential sheets. The words of the claims
+-- so of the other calls, `DifferentialWasRead` and `RecurrenceWasWritten` of those on differential sheets, `ExportedPrepare` and
+-- `ExportedSteps` of those of work by steps. The words of the claims
 -- are in the files *Words.antt, and below those in `rules`, where the scope (docs/SCOPE.md) stands as definitions. Every proof here is
 -- one citation of a file Lifted*.antt, which brings the theorems of `theory`, `sheets`, `answers` and `batches` to the calls, or of a
 -- theorem of those crates itself.
@@ -29,6 +30,7 @@
 --     exports:      export-number, export-refused-before, export-refused-during, export-read-number, export-read-refused,
 --                   export-write-number, export-write-refused, export-batch-number, export-batch-missing,
 --                   export-batch-refused
+--     steps:        prepare-number, prepare-refused, steps-number, steps-refused-before, steps-refused-during
 --   2 runs:         run-course, run-range, run-lengths, run-numbers, run-work-refused, run-accepts, run-output, run-freed,
 --                   run-relations-first, run-roots, run-roots-once, run-mirrored
 --     polynomials:  polynomial-range, polynomial-length, polynomial-accepts, polynomial-part, polynomial-sixteen
@@ -45,6 +47,8 @@
 --                   export-read-course, export-read-faults, export-read-lengths, export-read-accepts, export-read-output,
 --                   export-write-course, export-write-range, export-write-lengths, export-write-numbers, export-write-accepts,
 --                   export-write-output, export-batch-course, export-batch-lengths, export-batch-output
+--     steps:        prepare-course, prepare-range, prepare-lengths, prepare-numbers, prepare-output, steps-checks, steps-output,
+--                   steps-bound, steps-none, steps-divided, steps-whole, steps-passes
 --   3 runs:         same-solutions, diagonal-nonzero, agreement-leading, agreement-trailing, no-root, no-root-zero, last-root,
 --                   root-times, no-root-times,
 --                   rank-most, rank-few, rank-below, rows-independent, undropped-independent, ten-unsatisfied, shifts-bounded,
@@ -59,7 +63,7 @@ use mathlib.Core.Logic.{_↔_, _≢_, _⊎_}
 use mathlib.Core.Bool.{true, false, not}
 use mathlib.Core.List.{List, [], _∷_, _++_, map, List·Mem, List·Nodup}
 use lib.Dec.{T}
-use lib.ListN.{length, take, replicate, getD}
+use lib.ListN.{length, take, drop, replicate, getD}
 use lib.IntN.{ℤ, pos, _+ℤ_}
 use lib.Signed.{_≤ℤ_}
 use Rattle.algebra.specs.Polynomials.{Polynomial, eval, isZero}
@@ -72,7 +76,7 @@ use Rattle.theory.specs.Report.{product}
 use Rattle.rules.specs.Stores.{Sizes, equations, span, rowsOf, relationsOf, rowNeed, relationNeed, checkStores}
 use Rattle.rules.specs.Sequences.{Sequence, valueOf, Satisfies, Dependent, polynomialAt}
 use Rattle.rules.specs.Layout.{SizeBounds, NumbersRight}
-use Rattle.rules.specs.Calls.{Call, refusal, polynomialCheck, polynomialPart}
+use Rattle.rules.specs.Calls.{Call, refusal, zeros, polynomialCheck, polynomialPart}
 use Rattle.rules.specs.Numbers.{got, fault}
 use Rattle.rules.specs.Sheets.{Sheet, readSheet, writeSheet}
 use Rattle.rules.specs.SheetCalls.{ReadCall, WriteCall, unread, unwritten}
@@ -118,10 +122,17 @@ use Rattle.claims.specs.BatchWords.{PieceCourse, NextTooLong, InputWasEn
 use Rattle.claims.specs.BatchWords.{TextCourse}
 use Rattle.claims.specs.DifferentialWords.{DifferentialWasRead, RecurrenceWasWritten, IsDifferential, DifferentialCourse}
 use Rattle.claims.specs.DifferentialWords.{RecurrenceCourse}
+use Rattle.reduction.specs.Progress.{mostSteps}
+use Rattle.steps.specs.HeldCalls.{stateNumbers, prepared}
+use Rattle.exports.specs.StateNumbers.{stateNeed, StatePrepared, heldIn}
+use Rattle.exports.specs.StepNumbers.{stepsNeed, checkSteps, Stepped}
+use Rattle.claims.specs.StepWords.{ExportedPrepare, ExportedSteps, PrepareLong, PrepareCourse, StateFault, StepsNumber, stepsTold}
+use Rattle.claims.specs.StepWords.{StepsGives, Successive, SameEnd}
 use Rattle.claims.specs.LiftedRuns as Runs
 use Rattle.claims.specs.LiftedSheets as Sheets
 use Rattle.claims.specs.LiftedDifferentials as Differentials
 use Rattle.claims.specs.LiftedExports as Exports
+use Rattle.claims.specs.LiftedSteps as Steps
 use Rattle.claims.specs.MirroredRun.{Alike, trailing-mirrors}
 use Rattle.claims.specs.LiftedAnswers as Answers
 use Rattle.claims.specs.LiftedBatches as Batches
@@ -856,3 +867,91 @@ module _ {input output : List ℕ} {result : List ℤ} {w : Written} (exported :
       → let l = batchOutput input in
       Rewritten (length l) l output (w .byteStore) × Rewritten 1 (pos (length l) ∷ []) result (w .resultStore)
   export-batch-output = Batches.export-batch-front exported
+
+-- ==== work by steps: `wurgalm_prepare` and `wurgalm_run_steps`
+
+module _ {z : Sizes} {count : ℕ} {rows relations state : List ℤ} {p : StatePrepared}
+    (exported : ExportedPrepare z count rows relations state p) where
+  -- The call that prepares returns 0, 1, 2 or 5.
+  pub prepare-number : WriteNumber (p .refusal)
+  prepare-number = Steps.prepare-number exported
+
+  -- A refusal leaves the state store as it was.
+  pub prepare-refused : p .refusal ≢ 0 → p .stateStore ≡ state
+  prepare-refused = Steps.prepare-refused exported
+
+  -- In one: the four things that it can do.
+  pub prepare-course : PrepareCourse z count rows relations state p
+  prepare-course = Steps.prepare-course exported
+
+  -- 2 comes exactly if a size or the count is out of its range,
+  pub prepare-range : (p .refusal ≡ 2) ↔ (¬ InRange z count)
+  prepare-range = Steps.prepare-two exported
+
+  -- 1 if it is not and a store is too short, that of the state too,
+  pub prepare-lengths : (p .refusal ≡ 1) ↔ (InRange z count × (¬ PrepareLong z rows relations state))
+  prepare-lengths = Steps.prepare-one exported
+
+  -- and 5 if only a number is wrong.
+  pub prepare-numbers : (p .refusal ≡ 5)
+      ↔ (InRange z count × PrepareLong z rows relations state × (¬ NumbersRight z count rows relations))
+  prepare-numbers = Steps.prepare-five exported
+
+  -- Otherwise the state store begins with the numbers of the state before the first step (SCOPE 11.15).
+  pub prepare-output : p .refusal ≡ 0
+      → Passed z count rows relations × Rewritten stateNeed (stateNumbers (prepared z count)) state (p .stateStore)
+  prepare-output = Steps.prepare-output exported
+
+module _ {budget : ℕ} {rows relations state result : List ℤ} {s : Stepped}
+    (exported : ExportedSteps budget rows relations state result s) where
+  -- A run with a budget returns 0, 1, 11, or a number from 7 to 10.
+  pub steps-number : StepsNumber (s .refusal)
+  steps-number = Steps.steps-number exported
+
+  -- A refusal by the checks leaves every store as it was (SCOPE 11.35, 11.45).
+  pub steps-refused-before : StateFault (s .refusal)
+      → (s .rowStore ≡ rows) × (s .relationStore ≡ relations) × (s .stateStore ≡ state) × (s .resultStore ≡ result)
+  steps-refused-before = Steps.steps-refused exported
+
+  -- A refusal by a step makes the needed parts of rows, relations and state zero; the result tells the steps before it, and zeros.
+  pub steps-refused-during : FoundDuring (s .refusal)
+      → Cleared (rowNeed (equations (heldIn state .sizes))) rows (s .rowStore) × Cleared relationNeed relations (s .relationStore)
+      × Cleared stateNeed state (s .stateStore) × Rewritten stepsNeed (pos (stepsTold s) ∷ zeros 11) result (s .resultStore)
+  steps-refused-during = Steps.steps-cleared exported
+
+  -- 1 and 11 come exactly where the checks say so (SCOPE 11.21, 11.43, 11.44).
+  pub steps-checks : {n : ℕ} → StateFault n → (s .refusal ≡ n) ↔ (checkSteps rows relations state result ≡ n)
+  steps-checks = Steps.steps-checked exported
+
+  -- A call that is not refused leaves what the run of the definition leaves, and the numbers of its state and of its result.
+  pub steps-output : s .refusal ≡ 0 → StepsGives budget rows relations state result s
+  steps-output = Steps.steps-gives exported
+
+  -- No call takes more steps than its budget, and none more than 252, whatever state it was handed (SCOPE 11.1, 11.26).
+  pub steps-bound : ¬ StateFault (s .refusal) → (stepsTold s ≤ budget) × (stepsTold s ≤ mostSteps)
+  steps-bound = Steps.steps-bound exported
+
+-- With budget 0 nothing moves (SCOPE 11.4).
+pub steps-none : {rows relations state result : List ℤ} {s : Stepped} → ExportedSteps 0 rows relations state result s
+    → (s .rowStore ≡ rows) × (s .relationStore ≡ relations) × (s .stateStore ≡ state) × (¬ StateFault (s .refusal) → stepsTold s ≡ 0)
+steps-none = Steps.steps-none
+
+-- Successive calls from a prepared state, with a result store that is long enough.
+module _ {z : Sizes} {count : ℕ} {rows relations state : List ℤ} {p : StatePrepared}
+    (exported : ExportedPrepare z count rows relations state p) (accepted : p .refusal ≡ 0) (result : List ℤ)
+    (long : stepsNeed ≤ length result) {a n : ℕ} {s : Stepped} (calls : Successive rows relations (p .stateStore) result a n s) where
+  -- They end as one call with the sum of their budgets ends, and take as many steps (SCOPE 11.5).
+  pub steps-divided : {t : Stepped} → ExportedSteps a rows relations (p .stateStore) result t → SameEnd n s t
+  steps-divided = Steps.divided (Steps.prepare-accepted exported accepted) result long calls
+
+  -- With budgets of 252 together, or more, they give and leave what `wurgalm_run_leading` gives and leaves (SCOPE 11.6).
+  pub steps-whole : mostSteps ≤ a → {other : List ℤ} {e : Exported} → ExportedRun leading z count rows relations other e
+      → runNeed ≤ length other
+      → (s .refusal ≡ e .refusal) × (s .rowStore ≡ e .rowStore) × (s .relationStore ≡ e .relationStore)
+      × (take runNeed (drop 2 (s .resultStore)) ≡ take runNeed (e .resultStore))
+  steps-whole = Steps.whole (Steps.prepare-accepted exported accepted) result long calls
+
+  -- Where none was refused, the checks of the next call pass (SCOPE 11.25).
+  pub steps-passes : s .refusal ≡ 0 → {k : ℕ} {t : Stepped}
+      → ExportedSteps k (s .rowStore) (s .relationStore) (s .stateStore) (s .resultStore) t → ¬ StateFault (t .refusal)
+  steps-passes = Steps.passes (Steps.prepare-accepted exported accepted) result long calls

@@ -3,6 +3,7 @@ pub mod SheetWords
 pub mod AnswerWords
 pub mod BatchWords
 pub mod ExportWords
+pub mod StepWords
 pub mod DifferentialWords
 pub mod LiftedRuns
 pub mod LiftedSheets
@@ -10,5 +11,6 @@ pub mod LiftedAnswers
 pub mod LiftedBatches
 pub mod LiftedDifferentials
 pub mod LiftedExports
+pub mod LiftedSteps
 pub mod MirroredRun
 pub mod Claims

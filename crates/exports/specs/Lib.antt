@@ -6,3 +6,5 @@ pub mod Reads
 pub mod Batches
 pub mod Differentials
 pub mod RecordNumbers
+pub mod StateNumbers
+pub mod StepNumbers

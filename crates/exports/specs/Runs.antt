@@ -81,7 +81,7 @@ refused-numbers n = refl
 -- Counts and columns that fit into a number of the result store.
 pub record SmallResult (r : Result) : Type 0 where
   pub few-relations : r .relations ≤ 16
-  pub few-shifts : r .shifts ≤ 24
+  pub few-shifts : r .shifts ≤ 48
   pub four : length (r .order) ≡ columnCount
   pub columns : All (λ c. c ≤ columnCount) (r .order)
   pub low-rank : r .rank ≤ columnCount
@@ -183,7 +183,7 @@ module _ (side : Side) (z : Sizes) (count : ℕ) (rowStore relationStore : List 
     accepted-small s f =
         record {
           few-relations = countRight-iff (length (s .relations)) .0 (output-valid a .relation-count);
-          few-shifts = le-trans (shifts-bounded a) (mul-le-mul (bounds .few-equations) few-blocks);
+          few-shifts = omega (arith, shifts-bounded a, mul-le-mul (bounds .few-equations) few-blocks);
           four = length-padTo 4 0 (map suc (s .order));
           columns = all-padTo (λ c. c ≤ 4) 4 0 (map suc (s .order)) zero-le (all-map (λ c. c ≤ 4) suc (s .order) .1 below);
           low-rank = le-trans (rank-most a) (bounds .few);

@@ -9,7 +9,7 @@ ghost use Rattle.sides.specs.Lent.{sideOf};
 ghost use Rattle.runs.specs.CallLaws.{resultOf, callOf};
 ghost use Rattle.exports.specs.Runs.{runNumbers, SmallResult, keptOr, exportRun};
 
-fn run_numbers(answer: elimination::RunResult) -> [i64; 10]
+pub(crate) fn run_numbers(answer: elimination::RunResult) -> [i64; 10]
     requires { ⌜ SmallResult (resultOf answer) ⌝ }
     ensures { λ r. ⌜ r ≡ runNumbers (resultOf answer) ⌝ }
 {

@@ -1,6 +1,6 @@
 // The entry points for programs in C and other languages, by plain names: the public calls of `elimination`, `sheets`,
-// `differential` and `records`, and the whole batch of `batches`, the fields of whose results are numbers of a lent store. No `requires`,
-// and contracts that give the refusal and every lent store by equations (SCOPE 3.51, 9.1, 9.2).
+// `differential`, `records` and `steps`, and the whole batch of `batches`, the fields of whose results are numbers of a lent store. No
+// `requires`, and contracts that give the refusal and every lent store by equations (SCOPE 3.51, 9.1, 9.2).
 use sides::Side;
 ghost use mathlib.Core.Path.{_≡_};
 ghost use Rattle.rules.specs.Elimination.{leading, trailing};
@@ -10,11 +10,14 @@ ghost use Rattle.exports.specs.Reads.{exportRead};
 ghost use Rattle.exports.specs.Batches.{exportBatch};
 ghost use Rattle.exports.specs.Differentials.{exportDifferential, exportRecurrence};
 ghost use Rattle.exports.specs.RecordNumbers.{exportRecord};
+ghost use Rattle.exports.specs.StateNumbers.{exportPrepare};
+ghost use Rattle.exports.specs.StepNumbers.{exportSteps};
 
 mod either_side;
 mod numbers;
 mod reads;
 mod recorded;
+mod stepped;
 mod writes;
 
 // A run on the leading side. `result` gets ten numbers: the relation count, the shifts, c(1) to c(4), 1 or 0 for a
@@ -220,4 +223,54 @@ pub extern "C" fn wurgalm_check_record(
         values,
         result,
     )
+}
+
+// The state before the first step of a run on the leading side. `state` gets eleven numbers: m, the equations, l, t, the relation count,
+// the settled rows, c(1) to c(4), the shifts (SCOPE 11.12, 11.42).
+#[no_mangle]
+pub extern "C" fn wurgalm_prepare(
+    rows: &[i64],
+    relations: &[i64],
+    m: usize,
+    equations: usize,
+    l: i64,
+    t: i64,
+    count: usize,
+    state: &mut [i64],
+) -> u8
+    ensures { λ r. ⌜
+        record { refusal = r; stateStore = now (state .exit) }
+        ≡ exportPrepare (record { m = m; equations = equations; l = l; t = t }) count
+        (now (rows .entry)) (now (relations .entry)) (now (state .entry)) ⌝ }
+{
+    stepped::exported_prepare(
+        rows,
+        relations,
+        stores::validity::Sizes { m, equations, l, t },
+        count,
+        state,
+    )
+}
+
+// At most `budget` steps of the run that `state` says. `result` gets twelve numbers: the steps, 1 or 0 for a finished run, and behind
+// them the ten of a run if it is finished, else zeros (SCOPE 11.44).
+#[no_mangle]
+pub extern "C" fn wurgalm_run_steps(
+    rows: &mut [i64],
+    relations: &mut [i64],
+    state: &mut [i64],
+    budget: usize,
+    result: &mut [i64],
+) -> u8
+    ensures { λ r. ⌜
+        record {
+          refusal = r;
+          rowStore = now (rows .exit);
+          relationStore = now (relations .exit);
+          stateStore = now (state .exit);
+          resultStore = now (result .exit);
+        }
+        ≡ exportSteps budget (now (rows .entry)) (now (relations .entry)) (now (state .entry)) (now (result .entry)) ⌝ }
+{
+    stepped::exported_steps(rows, relations, state, budget, result)
 }

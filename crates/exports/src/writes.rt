@@ -9,7 +9,7 @@ ghost use Rattle.lists.specs.Tests.{every};
 ghost use Rattle.stores.specs.Validity.{sizesOf};
 ghost use Rattle.exports.specs.Writes.{exportWrite};
 
-fn no_negative(numbers: &[i64]) -> bool
+pub(crate) fn no_negative(numbers: &[i64]) -> bool
     ensures { λ r. ⌜ r ≡ every nonNeg (now (numbers .entry)) ⌝ }
 {
     let mut i = 0;
@@ -22,7 +22,7 @@ fn no_negative(numbers: &[i64]) -> bool
     true
 }
 
-fn columns(order: &[i64]) -> [usize; 4]
+pub(crate) fn columns(order: &[i64]) -> [usize; 4]
     requires { ⌜ 4 ≤ length (now order) ⌝ }
     ensures { λ r. ⌜ r ≡ map natAbs (take 4 (now (order .entry))) ⌝ }
 {

@@ -5,9 +5,11 @@ use crate::differentials::{differential, input};
 use crate::random::Random;
 use crate::records::{damage_record, recorded, Recorded};
 use crate::sheets::sheet;
+use crate::steps::{budgets, handed_in, in_parts, prepared_and_run, state_store};
 use crate::subject::Subject;
 use crate::systems::system;
 use outside::elimination::Side;
+use outside::step_calls::STEPS;
 use outside::stores::{
     row_store, store, Asked, COEFFICIENTS, ENTRIES, HEADING, RECORD, RELATION, RELATION_STORE, RESULT, ROW,
 };
@@ -22,18 +24,23 @@ pub struct Stores {
     pub result: Vec<i64>,
 }
 
-/// What a call leaves: its number, the stores, and the bytes of a writer or of the batch program.
+/// What a call leaves: its number, the stores, the bytes of a writer or of the batch program, and the state of a run by steps.
 #[derive(Clone, PartialEq, Eq)]
 pub struct Answer {
     pub number: u8,
     pub stores: Stores,
     pub bytes: Vec<u8>,
+    pub state: Vec<i64>,
 }
 
 impl Answer {
     /// The answer of a call with no rows or relations, or of a program.
     fn of_bytes(number: u8, bytes: Vec<u8>, result: Vec<i64>) -> Answer {
-        Answer { number, stores: Stores { rows: Vec::new(), relations: Vec::new(), result }, bytes }
+        Answer { bytes, ..Answer::of_stores(number, Stores { rows: Vec::new(), relations: Vec::new(), result }) }
+    }
+
+    fn of_stores(number: u8, stores: Stores) -> Answer {
+        Answer { number, stores, bytes: Vec::new(), state: Vec::new() }
     }
 }
 
@@ -57,6 +64,10 @@ pub enum Case {
     Induce { input: Vec<u8> },
     /// A record that is held against the system in stores.
     Record { stores: Stores, asked: Asked, recorded: Recorded },
+    /// A system that a state is prepared of, with runs of these budgets from there.
+    Steps { stores: Stores, asked: Asked, state: Vec<i64>, budgets: Vec<usize> },
+    /// A state that is handed in, with runs of these budgets.
+    State { stores: Stores, state: Vec<i64>, budgets: Vec<usize> },
 }
 
 #[derive(Clone, Copy, Debug, PartialEq, Eq)]
@@ -71,12 +82,23 @@ pub enum Kind {
     Recurrence,
     Induce,
     Record,
+    Steps,
+    State,
 }
 
 impl Kind {
     /// Calls on stores, which take no time to speak of.
-    pub const CALLS: [Kind; 7] =
-        [Kind::Leading, Kind::Trailing, Kind::Read, Kind::Write, Kind::Differential, Kind::Recurrence, Kind::Record];
+    pub const CALLS: [Kind; 9] = [
+        Kind::Leading,
+        Kind::Trailing,
+        Kind::Read,
+        Kind::Write,
+        Kind::Differential,
+        Kind::Recurrence,
+        Kind::Record,
+        Kind::Steps,
+        Kind::State,
+    ];
     /// Batches and programs.
     pub const SLOW: [Kind; 3] = [Kind::Batch, Kind::BatchCall, Kind::Induce];
 
@@ -95,6 +117,8 @@ impl Kind {
             Kind::Recurrence => recurrence_case(&mut random),
             Kind::Induce => Case::Induce { input: input(&mut random) },
             Kind::Record => record_case(&mut random),
+            Kind::Steps => steps_case(&mut random),
+            Kind::State => state_case(&mut random),
         }
     }
 }
@@ -199,17 +223,36 @@ fn record_case(random: &mut Random) -> Case {
     Case::Record { stores, asked, recorded }
 }
 
+/// A system with budgets, its stores and sizes of every sixth call made wrong.
+fn steps_case(random: &mut Random) -> Case {
+    let system = system(random);
+    let mut stores = lent(random, &system, STEPS);
+    let mut asked = asked_of(&system);
+    let state = state_store(random);
+    if random.one_in(6) {
+        damage(random, &mut stores, &mut asked);
+    }
+    Case::Steps { stores, asked, state, budgets: budgets(random) }
+}
+
+fn state_case(random: &mut Random) -> Case {
+    let (stores, state) = handed_in(random);
+    let mut budgets = budgets(random);
+    budgets.truncate(3);
+    Case::State { stores, state, budgets }
+}
+
 fn written_order(order: &[i64]) -> Vec<usize> {
     order.iter().filter(|&&c| c > 0).map(|&c| c as usize).collect()
 }
 
-fn asked_of(system: &System) -> Asked {
+pub(crate) fn asked_of(system: &System) -> Asked {
     let (Sizes { m, l, t }, equations) = (system.sizes, system.rows.len());
     Asked { m, equations, l, t, count: system.relations.len() }
 }
 
 /// The system in stores, of the needed length or longer, with junk past the needed part and in the result.
-fn lent(random: &mut Random, system: &System, result: usize) -> Stores {
+pub(crate) fn lent(random: &mut Random, system: &System, result: usize) -> Stores {
     let mut stores = Stores {
         rows: vec![0; row_store(system.rows.len())],
         relations: vec![0; RELATION_STORE],
@@ -275,7 +318,7 @@ fn damage_sizes(random: &mut Random, asked: &mut Asked) {
 }
 
 /// A number at some position of the needed parts, used or not.
-fn damage_number(random: &mut Random, stores: &mut Stores, asked: Asked) {
+pub(crate) fn damage_number(random: &mut Random, stores: &mut Stores, asked: Asked) {
     let number = random.pick(&[C as i64 + 1, -C as i64 - 1, C as i64, -C as i64, 1, -1, i64::MIN, i64::MAX, 0]);
     let in_rows = random.one_in(2);
     let (store, record) = if in_rows { (&mut stores.rows, ROW) } else { (&mut stores.relations, RELATION) };
@@ -302,7 +345,7 @@ impl Case {
             Case::Run { side, stores, asked } => {
                 let mut stores = stores.clone();
                 let number = subject.run(*side, &mut stores.rows, &mut stores.relations, *asked, &mut stores.result);
-                vec![Answer { number, stores, bytes: Vec::new() }]
+                vec![Answer::of_stores(number, stores)]
             }
             Case::Read { sheet, stores, room } => read_and_written(subject, sheet, stores, *room),
             Case::Write { stores, asked, order, bytes } => vec![written(subject, stores, *asked, order, bytes.clone())],
@@ -313,6 +356,8 @@ impl Case {
                 vec![Answer::of_bytes(number, bytes, result)]
             }
             Case::Differential { sheet, stores } => differential_and_written(subject, sheet, stores),
+            Case::Steps { stores, asked, state, budgets } => prepared_and_run(subject, stores, *asked, state, budgets),
+            Case::State { stores, state, budgets } => in_parts(subject, stores, state, budgets),
             Case::Recurrence { sheet, bytes, result } => {
                 let (mut bytes, mut result) = (bytes.clone(), result.clone());
                 let number = subject.write_recurrence(sheet, &mut bytes, &mut result);
@@ -323,7 +368,7 @@ impl Case {
                 let mut stores = stores.clone();
                 let record = recorded.record();
                 let number = subject.check_record(&stores.rows, &stores.relations, *asked, &record, &mut stores.result);
-                vec![Answer { number, stores, bytes: Vec::new() }]
+                vec![Answer::of_stores(number, stores)]
             }
         }
     }
@@ -348,6 +393,12 @@ impl Case {
             }
             Case::Induce { input } => format!("induce, {} bytes\n{}", input.len(), text(input)),
             Case::Record { stores, asked, recorded } => format!("{recorded:?}, {}", stores.shown(*asked)),
+            Case::Steps { stores, asked, state, budgets } => {
+                format!("budgets {budgets:?}, state of {}, {}", state.len(), stores.shown(*asked))
+            }
+            Case::State { stores, state, budgets } => {
+                format!("budgets {budgets:?}, state {state:?}, {}\n{}", stores.lengths(), stores.numbers())
+            }
         }
     }
 }
@@ -361,6 +412,16 @@ impl Stores {
     fn lengths(&self) -> String {
         let (rows, relations, result) = (self.rows.len(), self.relations.len(), self.result.len());
         format!("row store {rows}, relation store {relations}, result {result}")
+    }
+
+    /// The numbers that are not 0, each behind its position, of the rows and of the relations.
+    fn numbers(&self) -> String {
+        let nonzero = |store: &[i64]| -> Vec<String> {
+            let numbered = store.iter().enumerate().filter(|(_, &number)| number != 0);
+            numbered.map(|(at, number)| format!("{at} {number}")).collect()
+        };
+        let (rows, relations) = (nonzero(&self.rows), nonzero(&self.relations));
+        format!("rows {}\nrelations {}\n", rows.join(" "), relations.join(" "))
     }
 
     fn shown(&self, asked: Asked) -> String {
@@ -384,7 +445,7 @@ impl Stores {
 fn written(subject: &dyn Subject, stores: &Stores, asked: Asked, order: &[i64], mut bytes: Vec<u8>) -> Answer {
     let mut stores = stores.clone();
     let number = subject.write(&stores.rows, &stores.relations, asked, order, &mut bytes, &mut stores.result);
-    Answer { number, stores, bytes }
+    Answer { bytes, ..Answer::of_stores(number, stores) }
 }
 
 /// The answer of the reader and, on acceptance, that of the writer on what was read.
@@ -392,14 +453,14 @@ fn read_and_written(subject: &dyn Subject, sheet: &[u8], stores: &Stores, room: 
     let mut stores = stores.clone();
     let number = subject.read(sheet, &mut stores.rows, &mut stores.relations, &mut stores.result);
     let room = sheet.len().saturating_add_signed(room);
-    then_written(subject, Answer { number, stores, bytes: Vec::new() }, room)
+    then_written(subject, Answer::of_stores(number, stores), room)
 }
 
 /// The same for the recurrence of a differential sheet, with room enough for any.
 fn differential_and_written(subject: &dyn Subject, sheet: &[u8], stores: &Stores) -> Vec<Answer> {
     let mut stores = stores.clone();
     let number = subject.read_differential(sheet, &mut stores.rows, &mut stores.relations, &mut stores.result);
-    then_written(subject, Answer { number, stores, bytes: Vec::new() }, wurgalm::RECURRENCE)
+    then_written(subject, Answer::of_stores(number, stores), wurgalm::RECURRENCE)
 }
 
 /// The answer of a reader, and, where it is 0, that of the writer on what was read.

@@ -12,6 +12,8 @@ pub mod random;
 pub mod records;
 pub mod runs;
 pub mod sheets;
+pub mod step_files;
+pub mod steps;
 pub mod subject;
 pub mod systems;
 pub mod tally;

@@ -121,7 +121,7 @@ pub fn induced_of(mut file: &[u8]) -> Result<Vec<Induced>, String> {
 }
 
 /// A line `sheet BYTES`, and so many bytes.
-fn sheet_of(file: &mut &[u8]) -> Result<Vec<u8>, String> {
+pub(crate) fn sheet_of(file: &mut &[u8]) -> Result<Vec<u8>, String> {
     let line = next_line(file)?;
     let length = line.strip_prefix("sheet ").and_then(|length| length.parse().ok());
     let Some((sheet, rest)) = length.and_then(|length| file.split_at_checked(length)) else {
@@ -132,7 +132,7 @@ fn sheet_of(file: &mut &[u8]) -> Result<Vec<u8>, String> {
 }
 
 /// The sheet that follows, or nothing: its lines have numbers alone, and all other lines begin with a letter.
-fn sheet_lines(file: &mut &[u8]) -> Result<Vec<u8>, String> {
+pub(crate) fn sheet_lines(file: &mut &[u8]) -> Result<Vec<u8>, String> {
     let mut sheet = Vec::new();
     while file.first().is_some_and(|first| !first.is_ascii_alphabetic()) {
         sheet.extend(next_line(file)?.bytes().chain([b'\n']));
@@ -140,7 +140,7 @@ fn sheet_lines(file: &mut &[u8]) -> Result<Vec<u8>, String> {
     Ok(sheet)
 }
 
-fn next_line<'a>(file: &mut &'a [u8]) -> Result<&'a str, String> {
+pub(crate) fn next_line<'a>(file: &mut &'a [u8]) -> Result<&'a str, String> {
     let end = file.iter().position(|&b| b == b'\n').ok_or("the file ends in the middle of a line")?;
     let line = str::from_utf8(&file[..end]).map_err(|_| "a line is no text")?;
     *file = &file[end + 1..];
@@ -173,11 +173,11 @@ fn left(file: &mut &[u8], side: &str) -> Result<Left, String> {
 
 /// What the needed parts of the stores hold for a sheet, and its column order.
 #[derive(Clone)]
-struct Held {
-    asked: Asked,
-    rows: Vec<i64>,
-    relations: Vec<i64>,
-    order: [i64; 4],
+pub(crate) struct Held {
+    pub asked: Asked,
+    pub rows: Vec<i64>,
+    pub relations: Vec<i64>,
+    pub order: [i64; 4],
 }
 
 /// The numbers of a sheet one after the other. Its lines play no part: every count is among the numbers.
@@ -213,7 +213,7 @@ impl Numbers<'_> {
 }
 
 /// The numbers that a sheet without a fault puts into stores.
-fn held(sheet: &[u8]) -> Held {
+pub(crate) fn held(sheet: &[u8]) -> Held {
     let mut numbers = Numbers(str::from_utf8(sheet).expect("a whole sheet").split_ascii_whitespace());
     let (_, m, l, t) = (numbers.next(), numbers.count(), numbers.next(), numbers.next());
     let equations = numbers.count();
@@ -237,12 +237,12 @@ fn held(sheet: &[u8]) -> Held {
 // ---- lent stores ----
 
 /// What a lent store holds where nothing is said about it.
-fn unsaid<T: Member>(length: usize) -> Vec<T> {
+pub(crate) fn unsaid<T: Member>(length: usize) -> Vec<T> {
     (0..length).map(T::unsaid).collect()
 }
 
 /// A member of a store.
-trait Member: Copy + PartialEq + Default {
+pub(crate) trait Member: Copy + PartialEq + Default {
     fn unsaid(at: usize) -> Self;
 }
 
@@ -259,7 +259,7 @@ impl Member for u8 {
 }
 
 /// The numbers, and behind them so many that the call has nothing to do with; or one number less.
-fn lent<T: Member>(needed: &[T], more: isize) -> Vec<T> {
+pub(crate) fn lent<T: Member>(needed: &[T], more: isize) -> Vec<T> {
     let length = needed.len().saturating_add_signed(more);
     let mut store = unsaid(length);
     let both = length.min(needed.len());
@@ -275,7 +275,7 @@ const RECORD_LENGTHS: [[isize; 4]; 7] =
     [[0, 0, 0, 0], [3, 1, 2, 5], [-1, 0, 0, 0], [0, -1, 0, 2], [0, 0, -1, 0], [0, 0, 0, -1], [7, 0, -4, 0]];
 
 /// Whether a store is shorter than it needs to be, which one that needs no number never is.
-fn is_short(needs: &[usize], more: &[isize]) -> bool {
+pub(crate) fn is_short(needs: &[usize], more: &[isize]) -> bool {
     needs.iter().zip(more).any(|(&need, &more)| need.saturating_add_signed(more) < need)
 }
 
@@ -290,7 +290,7 @@ pub struct Judge {
     pub calls: usize,
 }
 
-fn same<T: PartialEq + std::fmt::Debug>(what: &str, found: &[T], expected: &[T]) -> Judgement {
+pub(crate) fn same<T: PartialEq + std::fmt::Debug>(what: &str, found: &[T], expected: &[T]) -> Judgement {
     if found.len() != expected.len() {
         return Err(format!("{what}: {} members and not {}", found.len(), expected.len()));
     }
@@ -300,7 +300,7 @@ fn same<T: PartialEq + std::fmt::Debug>(what: &str, found: &[T], expected: &[T])
     }
 }
 
-fn numbered(what: &str, found: u8, expected: u8) -> Judgement {
+pub(crate) fn numbered(what: &str, found: u8, expected: u8) -> Judgement {
     if found == expected {
         Ok(())
     } else {

@@ -3,6 +3,7 @@
 use outside::elimination::Side;
 use outside::fault::Fault;
 use outside::record::Record;
+use outside::step_calls::{prepare_on_stores, run_steps_on_stores};
 use outside::stores::{batch_on_stores, check_record_on_stores, read_differential_on_stores, read_on_stores};
 use outside::stores::{run_on_stores, write_on_stores, write_recurrence_on_stores, Asked};
 use std::env;
@@ -34,6 +35,15 @@ pub trait Subject {
     /// What the program `induce` writes.
     fn induce(&self, input: &[u8]) -> Vec<u8>;
     fn check_record(&self, rows: &[i64], relations: &[i64], asked: Asked, record: &Record, result: &mut [i64]) -> u8;
+    fn prepare(&self, rows: &[i64], relations: &[i64], asked: Asked, state: &mut [i64]) -> u8;
+    fn run_steps(
+        &self,
+        rows: &mut [i64],
+        relations: &mut [i64],
+        state: &mut [i64],
+        budget: usize,
+        result: &mut [i64],
+    ) -> u8;
 }
 
 /// The outside implementation.
@@ -86,6 +96,21 @@ impl Subject for Outside {
 
     fn check_record(&self, rows: &[i64], relations: &[i64], asked: Asked, record: &Record, result: &mut [i64]) -> u8 {
         check_record_on_stores(rows, relations, asked, record, result, self.0)
+    }
+
+    fn prepare(&self, rows: &[i64], relations: &[i64], asked: Asked, state: &mut [i64]) -> u8 {
+        prepare_on_stores(rows, relations, asked, state, self.0)
+    }
+
+    fn run_steps(
+        &self,
+        rows: &mut [i64],
+        relations: &mut [i64],
+        state: &mut [i64],
+        budget: usize,
+        result: &mut [i64],
+    ) -> u8 {
+        run_steps_on_stores(rows, relations, state, budget, result, self.0)
     }
 }
 
@@ -186,6 +211,22 @@ impl Subject for Library {
     fn check_record(&self, rows: &[i64], relations: &[i64], asked: Asked, record: &Record, result: &mut [i64]) -> u8 {
         let (Asked { m, equations, l, t, count }, Record { first, vectors, values }) = (asked, *record);
         wurgalm::stores::check_record(rows, relations, m, equations, l, t, count, first, vectors, values, result)
+    }
+
+    fn prepare(&self, rows: &[i64], relations: &[i64], asked: Asked, state: &mut [i64]) -> u8 {
+        let Asked { m, equations, l, t, count } = asked;
+        wurgalm::stores::prepare(rows, relations, m, equations, l, t, count, state)
+    }
+
+    fn run_steps(
+        &self,
+        rows: &mut [i64],
+        relations: &mut [i64],
+        state: &mut [i64],
+        budget: usize,
+        result: &mut [i64],
+    ) -> u8 {
+        wurgalm::stores::run_steps(rows, relations, state, budget, result)
     }
 }
 

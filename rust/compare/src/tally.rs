@@ -188,6 +188,13 @@ mod tests {
             assert!(records.refused(number) >= 20, "record: {number} comes up {} times", records.refused(number));
         }
         assert!((0..=2).all(|kind| records.kinds[&kind] >= 100), "{:?}", records.kinds);
+        let (steps, states) = (counted(Kind::Steps, 2_000), counted(Kind::State, 4_000));
+        for number in [0, 1, 2, 5, 7, 8, 9, 10, 11] {
+            assert!(steps.refused(number) >= 20, "steps: {number} comes up {} times", steps.refused(number));
+        }
+        for number in [0, 1, 7, 8, 9, 10, 11] {
+            assert!(states.refused(number) >= 20, "state: {number} comes up {} times", states.refused(number));
+        }
     }
 
     /// As many answers are counted as the last lines of a batch say, with their kinds.

@@ -1,59 +1,24 @@
 //! Wrong versions of the rules, planted one at a time, to see that a comparison finds each.
 
 macro_rules! faults {
-    ([$($step:ident: $tells:literal,)*] $($(#[$note:meta])* $name:ident: $says:literal,)*; $($later:ident: $later_says:literal,)*) => {
+    ($($(#[$note:meta])* $name:ident: $says:literal,)*; $($later:ident: $later_says:literal,)*) => {
         #[derive(Clone, Copy, Debug, PartialEq, Eq)]
-        pub enum Fault { $($step,)* $($(#[$note])* $name,)* $($later,)* }
+        pub enum Fault { $($(#[$note])* $name,)* $($later,)* }
 
         impl Fault {
             pub const ALL: &'static [Fault] = &[$(Fault::$name,)*];
             /// Those of calls that are not compared yet.
             pub const LATER: &'static [Fault] = &[$(Fault::$later,)*];
 
-            /// Those of work by steps, which the tests of this crate find and no comparison yet.
-            pub const STEPS: &'static [Fault] = &[$(Fault::$step,)*];
-
             /// What this version does wrong.
             pub fn says(self) -> &'static str {
-                match self { $(Fault::$step => $tells,)* $(Fault::$name => $says,)* $(Fault::$later => $later_says,)* }
+                match self { $(Fault::$name => $says,)* $(Fault::$later => $later_says,)* }
             }
         }
     };
 }
 
 faults! {
-    // Work by steps.
-    [
-        RefusedStepCounted: "a refused step is counted",
-        RefusedStepsForgotten: "a refusal reports no steps",
-        RefusedPastBudget: "a refusal is told though the budget has no step left for it",
-        BudgetNoneSteps: "with budget 0 a step is taken",
-        BudgetReported: "the budget is reported as the steps",
-        EndFoundByStep: "that no row is left is found by a step",
-        ExchangeStep: "an exchange is a step of its own",
-        DroppedAtOnce: "the combination that makes a row zero drops it too",
-        InconsistentNextStep: "10 refuses the step after the combination",
-        SettlingNoStep: "a settling belongs to the step before it",
-        ShiftNoStep: "a shift belongs to the step before it",
-        DiagonalZero: "a settled diagonal may be zero",
-        EarlierEntries: "a settled row may have an entry at an earlier settled column",
-        LowestColumns: "a settled column has to be the lowest of its row",
-        SettledPastRows: "there may be more settled rows than rows",
-        ColumnsPastSettled: "the columns past the settled ones are not looked at",
-        ShiftsUnlimited: "the shifts of a state are not limited",
-        ShiftsOfRowsLeft: "the shifts of a state are limited by the rows that are left",
-        StateSizesTwo: "a size of a state out of its range is 2",
-        StateNumbersFive: "a number in a state's stores out of its range is 5",
-        StateLengthsFirst: "the lengths are looked at before a state's sizes",
-        ShortStateEleven: "a state of ten numbers is 11",
-        PrepareStateFirst: "a state store too short is found before a size to prepare is",
-        ShiftsAnew: "the shifts are counted anew in each call",
-        EquationsKept: "a state keeps its equations where a row is dropped",
-        ResultBeforeEnd: "the numbers of a run are told before it is finished",
-        RefusedStateKept: "a refusal by a step leaves the state as it is",
-        RefusedResultKept: "a refusal by a step leaves the result as it is",
-        StepsResultEleven: "a result store of eleven numbers is long enough for steps",
-    ]
     // What would be wrong, in the order of SCOPE 2.131 to 2.135.
     RootsBeforeExchange: "roots of the multiplier of the row before the exchange",
     PolynomialFactor: "a row is divided by a polynomial factor",
@@ -242,6 +207,39 @@ faults! {
     RecordAfterLengths: "the range of a record is found after a store that is too short",
     RecordResultKept: "12 leaves the result as it is",
     RecordResultThree: "a result store of three numbers is long enough for a record",
+    // Work by steps.
+    RefusedStepCounted: "a refused step is counted",
+    DoneCounted: "that no row is left is counted as a step",
+    RefusedStepsForgotten: "a refusal reports no steps",
+    RefusedPastBudget: "a refusal is told though the budget has no step left for it",
+    BudgetNoneSteps: "with budget 0 a step is taken",
+    BudgetReported: "the budget is reported as the steps",
+    EndFoundByStep: "that no row is left is found by a step",
+    ExchangeStep: "an exchange is a step of its own",
+    DroppedAtOnce: "the combination that makes a row zero drops it too",
+    InconsistentNextStep: "10 refuses the step after the combination",
+    SettlingNoStep: "a settling belongs to the step before it",
+    ShiftNoStep: "a shift belongs to the step before it",
+    DiagonalZero: "a settled diagonal may be zero",
+    EarlierEntries: "a settled row may have an entry at an earlier settled column",
+    LowestColumns: "a settled column has to be the lowest of its row",
+    SettledPastRows: "there may be more settled rows than rows",
+    ColumnsPastSettled: "the columns past the settled ones are not looked at",
+    NegativeCountZero: "a count of a state below 0 is taken as 0",
+    FoundAfterStep: "a wrong diagonal or column of a state is found after the first step",
+    ShiftsUnlimited: "the shifts of a state are not limited",
+    ShiftsOfRowsLeft: "the shifts of a state are limited by the rows that are left",
+    StateSizesTwo: "a size of a state out of its range is 2",
+    StateNumbersFive: "a number in a state's stores out of its range is 5",
+    StateLengthsFirst: "the lengths are looked at before a state's sizes",
+    ShortStateEleven: "a state of ten numbers is 11",
+    PrepareStateFirst: "a state store too short is found before a size to prepare is",
+    ShiftsAnew: "the shifts are counted anew in each call",
+    EquationsKept: "a state keeps its equations where a row is dropped",
+    ResultBeforeEnd: "the numbers of a run are told before it is finished",
+    RefusedStateKept: "a refusal by a step leaves the state as it is",
+    RefusedResultKept: "a refusal by a step leaves the result as it is",
+    StepsResultEleven: "a result store of eleven numbers is long enough for steps",
     ;
     // Polynomial solutions.
     RelationSideListed: "a right side of a relation is not looked at before a list is made",

@@ -42,7 +42,11 @@ pub fn run_steps_on_stores(
     };
     let need = row_store(before.system.rows.len());
     let mut numbers = [0; STEPS];
-    let number = match run_steps(&before, budget, fault) {
+    // Only with the fault is such a state handed in; it is then refused as by a second step.
+    let wrong = is(fault, Fault::FoundAfterStep) && budget > 0 && !before.is_triangular(fault);
+    let stop =
+        if wrong { Err(Refused { steps: 1, refusal: Refusal::State }) } else { run_steps(&before, budget, fault) };
+    let number = match stop {
         Ok(mut stop) => {
             if is(fault, Fault::ShiftsAnew) {
                 stop.state.shifts -= before.shifts;
@@ -121,7 +125,7 @@ fn handed_in(
         other => other,
     })?;
     let state = State { system, columns, shifts };
-    if state.is_triangular(fault) {
+    if state.is_triangular(fault) || is(fault, Fault::FoundAfterStep) {
         Ok(state)
     } else {
         Err(Refusal::State)
@@ -131,7 +135,8 @@ fn handed_in(
 /// The sizes, the settled columns and the shifts, where all of them are in their range (SCOPE 11.22).
 fn sizes_held(numbers: &[i64; STATE], fault: Option<Fault>) -> Option<(Asked, Vec<usize>, usize)> {
     let &[m, equations, l, t, count, settled, ref columns @ .., shifts] = numbers;
-    let size = |number: i64| usize::try_from(number).ok();
+    let least = if is(fault, Fault::NegativeCountZero) { 0 } else { i64::MIN };
+    let size = |number: i64| usize::try_from(number.max(least)).ok();
     let asked = Asked { m: size(m)?, equations: size(equations)?, l, t, count: size(count)? };
     let d = asked.sizes(None).ok()?.d();
     let settled_most = if is(fault, Fault::SettledPastRows) { m } else { m.min(equations) };
@@ -144,8 +149,8 @@ fn sizes_held(numbers: &[i64; STATE], fault: Option<Fault>) -> Option<(Asked, Ve
         Some(Fault::ShiftsOfRowsLeft) => equations * d,
         _ => EQUATIONS as i64 * d,
     };
-    if columns_right && zeros_behind && (0..=shifts_most).contains(&shifts) {
-        Some((asked, used.iter().map(|&c| c as usize).collect(), shifts as usize))
+    if columns_right && zeros_behind && (0..=shifts_most).contains(&shifts.max(least)) {
+        Some((asked, used.iter().map(|&c| c as usize).collect(), shifts.max(0) as usize))
     } else {
         None
     }

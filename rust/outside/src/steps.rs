@@ -61,7 +61,11 @@ pub fn run_steps(state: &State, budget: usize, fault: Option<Fault>) -> Result<S
     }
     let state = walk.states.swap_remove(steps);
     let finished = state.is_finished() && (budget > most || !is(fault, Fault::EndFoundByStep));
-    let steps = if is(fault, Fault::BudgetReported) { budget.min(252) } else { steps };
+    let steps = match fault {
+        Some(Fault::BudgetReported) => budget.min(252),
+        Some(Fault::DoneCounted) => steps + (budget > most) as usize,
+        _ => steps,
+    };
     Ok(Stop { steps, finished, state })
 }
 

@@ -1,6 +1,8 @@
-//! The stored answers of `examples/`: what this implementation writes on the same sheets, batches and differential sheets.
+//! The stored answers of `examples/`: what this implementation writes on the same sheets, batches and differential sheets, and shows of runs.
 
 use outside::record::{check, Answer, Record};
+use outside::sheet::read;
+use outside::steps::{prepared, run_steps, State};
 use std::fs;
 use std::path::{Path, PathBuf};
 
@@ -73,5 +75,35 @@ fn records() {
             Answer::Relation(number, n0, sum) => format!("relation {number} {n0} {sum}\n"),
         };
         assert_eq!(fs::read_to_string(path.with_extension("explained")).unwrap(), answer, "{}", path.display());
+    }
+}
+
+/// What is shown of a run while it works, a line after each step.
+#[test]
+fn progress() {
+    let folder = Path::new(env!("CARGO_MANIFEST_DIR")).join("../../examples");
+    for name in ["k2", "surplus", "contradiction"] {
+        let sheet = fs::read(folder.join(name).with_extension("sheet")).unwrap();
+        let stored = fs::read_to_string(folder.join(name).with_extension("progress")).unwrap();
+        assert_eq!(shown(prepared(read(&sheet, None).unwrap().system)), stored, "{name}");
+    }
+}
+
+fn shown(mut state: State) -> String {
+    let (mut text, mut steps) = (String::new(), 0);
+    loop {
+        let stop = match run_steps(&state, 1, None) {
+            Ok(stop) => stop,
+            Err(refused) => return text + &format!("refused {}, steps {steps}\n", refused.refusal.number()),
+        };
+        steps += stop.steps;
+        state = stop.state;
+        let (settled, rows) = (state.columns.len(), state.system.rows.len());
+        let (shifts, relations) = (state.shifts, state.system.relations.len());
+        text += &format!("steps {steps}, settled {settled} of {rows}, shifts {shifts}, relations {relations}\n");
+        if stop.finished {
+            let root = state.report().0.map_or("no root".into(), |root| format!("last root {root}"));
+            return text + &format!("finished, rank {settled}, {root}\n");
+        }
     }
 }

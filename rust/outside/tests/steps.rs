@@ -336,11 +336,17 @@ impl Random {
     }
 }
 
+/// The faults of work by steps, which stand together.
+fn of_steps() -> &'static [Fault] {
+    let place = |fault| Fault::ALL.iter().position(|&other| other == fault).expect("a fault of the list");
+    &Fault::ALL[place(Fault::RefusedStepCounted)..=place(Fault::StepsResultEleven)]
+}
+
 #[test]
 fn faults_found() {
     let right: Vec<Vec<(u8, Lent)>> = (0..400).map(|seed| calls(seed, None)).collect();
     let mut missed = Vec::new();
-    for &fault in Fault::STEPS {
+    for &fault in of_steps() {
         let found = right.iter().zip(0..).position(|(right, seed)| calls(seed, Some(fault)) != *right);
         println!("{fault:?} ({}): {found:?}", fault.says());
         if found.is_none() {

@@ -54,6 +54,16 @@ foreign! {
         values: *const i64, values_length: usize,
         result: *mut i64, result_length: usize,
     ) -> u8;
+    fn wurgalm_prepare(
+        rows: *const i64, rows_length: usize, relations: *const i64, relations_length: usize,
+        m: usize, equations: usize, l: i64, t: i64, count: usize,
+        state: *mut i64, state_length: usize,
+    ) -> u8;
+    fn wurgalm_run_steps(
+        rows: *mut i64, rows_length: usize, relations: *mut i64, relations_length: usize,
+        state: *mut i64, state_length: usize, budget: usize,
+        result: *mut i64, result_length: usize,
+    ) -> u8;
     fn wurgalm_batch(
         input: *const u8, input_length: usize, output: *mut u8, output_length: usize,
         result: *mut i64, result_length: usize,

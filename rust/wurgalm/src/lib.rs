@@ -8,7 +8,10 @@
 //! coefficients a column, and 16 for its right side; see [`row_store`], [`RELATION_STORE`] and [`right_side`].
 
 mod foreign;
+mod steps;
 pub mod stores;
+
+pub use steps::{prepare, run_steps, Progress, Refused, Run, State, Steps};
 
 /// Whether the static library was there when this crate was built. Without it every call panics.
 pub const LINKED: bool = cfg!(archive);
@@ -50,7 +53,7 @@ pub struct Sizes {
     pub t: i64,
 }
 
-/// A refusal under its number, 1 to 5, 7 to 10 or 12.
+/// A refusal under its number, 1 to 5 or 7 to 12.
 #[derive(Clone, Copy, Debug, PartialEq, Eq)]
 pub struct Refusal(pub u8);
 

@@ -187,6 +187,55 @@ pub fn check_record(
     }
 }
 
+/// Eleven numbers in `state`: m, equations, l, t, relation count, settled rows, c(1) to c(4), shifts.
+#[allow(clippy::too_many_arguments)]
+pub fn prepare(
+    rows: &[i64],
+    relations: &[i64],
+    m: usize,
+    equations: usize,
+    l: i64,
+    t: i64,
+    count: usize,
+    state: &mut [i64],
+) -> u8 {
+    // SAFETY: as above; `rows` and `relations` are only read.
+    unsafe {
+        foreign::wurgalm_prepare(
+            rows.as_ptr(),
+            rows.len(),
+            relations.as_ptr(),
+            relations.len(),
+            m,
+            equations,
+            l,
+            t,
+            count,
+            state.as_mut_ptr(),
+            state.len(),
+        )
+    }
+}
+
+/// Twelve numbers in `result`: the steps, 1 or 0 for a finished run, and the ten of [`run_leading`] if it is finished, otherwise zeros. The
+/// state is that of [`prepare`] or of another call. On 7 to 10 the steps stand before zeros, and the state is zero.
+pub fn run_steps(rows: &mut [i64], relations: &mut [i64], state: &mut [i64], budget: usize, result: &mut [i64]) -> u8 {
+    // SAFETY: as above, four slices.
+    unsafe {
+        foreign::wurgalm_run_steps(
+            rows.as_mut_ptr(),
+            rows.len(),
+            relations.as_mut_ptr(),
+            relations.len(),
+            state.as_mut_ptr(),
+            state.len(),
+            budget,
+            result.as_mut_ptr(),
+            result.len(),
+        )
+    }
+}
+
 /// One number in `result`: the length of the output. An output store that is too short is refused with all of it zero.
 pub fn batch(input: &[u8], output: &mut [u8], result: &mut [i64]) -> u8 {
     // SAFETY: as above; `input` is only read.

@@ -6,6 +6,7 @@ use compare::clients::{unwritten, waiting};
 use compare::first_index::{Lost, Tested};
 use compare::judge::judge;
 use compare::pieces;
+use compare::steps::Divided;
 use compare::subject::{Library, Outside, Subject};
 use compare::tally::{print_refusals, Tally};
 use outside::fault::Fault;
@@ -13,7 +14,7 @@ use std::process::Command;
 use std::time::Instant;
 
 /// How many cases of each kind.
-const CASES: [(Kind, usize); 10] = [
+const CASES: [(Kind, usize); 12] = [
     (Kind::Leading, 20_000),
     (Kind::Trailing, 20_000),
     (Kind::Read, 20_000),
@@ -24,6 +25,8 @@ const CASES: [(Kind, usize); 10] = [
     (Kind::Recurrence, 5_000),
     (Kind::Induce, 1_000),
     (Kind::Record, 20_000),
+    (Kind::Steps, 10_000),
+    (Kind::State, 20_000),
 ];
 /// Differences that are printed whole.
 const SHOWN: usize = 3;
@@ -119,6 +122,22 @@ fn first_index(subject: &dyn Subject) -> usize {
     differences.len()
 }
 
+/// Systems whose budgets are divided.
+const DIVIDED: usize = 10_000;
+
+/// What is said of divided budgets, of the library's runs.
+fn divided(subject: &dyn Subject) -> usize {
+    let start = Instant::now();
+    let mut divided = Divided::default();
+    (0..DIVIDED).for_each(|k| divided.test(k, subject));
+    let differences = &divided.differences;
+    differences.iter().take(SHOWN).for_each(|difference| println!("DIFFERENCE in Divided budgets: {difference}"));
+    let time = start.elapsed().as_secs_f64();
+    println!("Divided budgets: {DIVIDED} cases, {} differences, {time:.1} s", differences.len());
+    divided.print();
+    differences.len()
+}
+
 /// A line of the table for each kind and side.
 fn lines<'a>(tallies: &'a [(Kind, [Tally; 2])], names: &[String; 2]) -> Vec<(String, &'a Tally)> {
     let mut lines = Vec::new();
@@ -147,6 +166,7 @@ fn main() {
     differences +=
         reported("Induce", || fed_in_pieces(pieces::differentials(), outside::differential::output, &induce));
     differences += first_index(&other);
+    differences += divided(&other);
     println!();
     let names = [right.name(), other.name()];
     print_refusals(&lines(&tallies, &names));

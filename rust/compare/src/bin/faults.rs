@@ -46,6 +46,8 @@ fn kind_of(case: &Case) -> &'static str {
         Case::Recurrence { .. } => "recurrence",
         Case::Induce { .. } => "induce",
         Case::Record { .. } => "record",
+        Case::Steps { .. } => "steps",
+        Case::State { .. } => "state",
     }
 }
 

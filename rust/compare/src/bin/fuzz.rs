@@ -6,6 +6,7 @@ use compare::differentials::{longest_differential, whole_differential};
 use compare::random::Random;
 use compare::records::{reaching, recorded, Recorded};
 use compare::sheets::{whole_sheet, whole_sheet_with};
+use compare::steps::{budgets, handed_in, in_parts, MOST_STEPS};
 use compare::subject::{Library, Outside, Subject};
 use compare::systems::{limited_roots, multiple_roots, shared_roots};
 use outside::elimination::Side;
@@ -13,6 +14,7 @@ use outside::polynomial::Polynomial;
 use outside::record::{Record, INDEX, LIMIT, VALUE, VECTORS};
 use outside::row::Row;
 use outside::sheet::{write, Sheet};
+use outside::step_calls::{STATE, STEPS};
 use outside::stores::{row_store, Asked, RELATION_STORE, RESULT};
 use outside::system::{Relation, Sizes, System};
 use outside::{C, DEGREE, EQUATIONS};
@@ -46,7 +48,7 @@ impl<T: Copy + PartialEq> Guarded<T> {
     }
 }
 
-/// The numbers that are answered: 0 to 12 without 6 and 11, and one place for any other.
+/// The numbers that are answered: 0 to 12 without 6, and one place for any other.
 const NUMBERS: usize = 14;
 /// How many of them are printed.
 const PRINTED: usize = 13;
@@ -68,6 +70,10 @@ enum Call {
     Differential(Vec<u8>),
     Recurrence(Vec<u8>, Vec<u8>),
     Record(Asked, Recorded),
+    /// The state store.
+    Prepare(Asked, Vec<i64>),
+    /// The state and the budget.
+    Steps(Vec<i64>, usize),
 }
 
 fn answer(subject: &dyn Subject, call: &Call, stores: &Stores) -> Answer {
@@ -81,6 +87,8 @@ fn answer(subject: &dyn Subject, call: &Call, stores: &Stores) -> Answer {
     let mut bytes = Guarded::new(lent, 0x5a);
     let lent: &[i64] = if let Call::Record(_, recorded) = call { &recorded.values } else { &[] };
     let mut values = Guarded::new(lent, MARK);
+    let held: &[i64] = if let Call::Prepare(_, state) | Call::Steps(state, _) = call { state } else { &[] };
+    let mut state = Guarded::new(held, MARK);
     let number = match call {
         Call::Run(side, asked) => subject.run(*side, rows.lent(), relations.lent(), *asked, result.lent()),
         Call::Read(sheet) => subject.read(sheet, rows.lent(), relations.lent(), result.lent()),
@@ -94,10 +102,14 @@ fn answer(subject: &dyn Subject, call: &Call, stores: &Stores) -> Answer {
             let record = Record { first: *first, vectors: *vectors, values: values.lent() };
             subject.check_record(rows.lent(), relations.lent(), *asked, &record, result.lent())
         }
+        Call::Prepare(asked, _) => subject.prepare(rows.lent(), relations.lent(), *asked, state.lent()),
+        Call::Steps(_, budget) => {
+            subject.run_steps(rows.lent(), relations.lent(), state.lent(), *budget, result.lent())
+        }
     };
     assert!(values.returned() == lent, "a call wrote into a record");
     let stores = Stores { rows: rows.returned(), relations: relations.returned(), result: result.returned() };
-    Answer { number, stores, bytes: bytes.returned() }
+    Answer { number, stores, bytes: bytes.returned(), state: state.returned() }
 }
 
 struct Fuzz {
@@ -403,6 +415,122 @@ impl Fuzz {
     }
 }
 
+/// Work by steps.
+impl Fuzz {
+    /// Every state of a run: each of its numbers made each of those near an end of some range, with stores of every length.
+    fn every_step(&mut self, sheet: &[u8], step: usize) {
+        let states = states_of(sheet);
+        for (stores, state) in &states {
+            for (place, number) in (0..STATE).flat_map(|place| NEAR_ENDS.map(|number| (place, number))) {
+                let mut changed = state.clone();
+                changed[place] = number;
+                for budget in [0, 1, usize::MAX] {
+                    self.call("state", &Call::Steps(changed.clone(), budget), stores);
+                }
+            }
+        }
+        let (stores, state) = &states[states.len() / 2];
+        self.every_length("steps", &Call::Steps(state.clone(), 2), stores, step);
+        for length in 0..=STATE + 2 {
+            let mut state = state.clone();
+            state.resize(length, 7);
+            self.call("state, length", &Call::Steps(state.clone(), 2), stores);
+            let none = Stores { rows: Vec::new(), relations: Vec::new(), result: Vec::new() };
+            self.call("state, length", &Call::Steps(state.clone(), 2), &none);
+            let asked = asked_of(sheet);
+            let stores = stores_of(sheet).0;
+            self.call("prepare, length", &Call::Prepare(asked, state.clone()), &stores);
+            self.call("prepare, length", &Call::Prepare(Asked { m: 5, ..asked }, state), &stores);
+        }
+        self.every_length("prepare", &Call::Prepare(asked_of(sheet), vec![7; STATE]), &stores_of(sheet).0, step);
+    }
+
+    /// Two numbers of a state at once, at every two places.
+    fn every_two(&mut self, sheet: &[u8]) {
+        let states = states_of(sheet);
+        let (stores, state) = &states[states.len() / 2];
+        for (a, b) in (0..STATE).flat_map(|a| (0..a).map(move |b| (a, b))) {
+            for (number, other) in (-1..=5).flat_map(|number| (-1..=5).map(move |other| (number, other))) {
+                let mut changed = state.clone();
+                (changed[a], changed[b]) = (number, other);
+                self.call("state, two numbers", &Call::Steps(changed, 3), stores);
+            }
+        }
+    }
+
+    /// States of any numbers, mostly within their ranges, with stores that know nothing of them.
+    fn any_state(&mut self, random: &mut Random, stores: &Stores) {
+        let d = random.between(0, 4) as i64;
+        let l = random.between(-6, 6) as i64;
+        let mut state = [1, 0, l, l - d, 0, 0, 0, 0, 0, 0, 0];
+        state[0] = random.between(1, 4) as i64;
+        state[1] = random.between(0, 6) as i64;
+        state[4] = random.pick(&[0, 0, 0, 1, 16]);
+        state[5] = random.between(0, state[0].min(state[1]) as i128) as i64;
+        for place in 0..state[5] as usize {
+            state[6 + place] = random.between(1, state[0] as i128) as i64;
+        }
+        state[10] = random.between(0, 6 * d as i128) as i64;
+        for _ in 0..random.pick(&[0, 0, 1, 2]) {
+            let number = random.junk();
+            state[random.below(STATE)] = random.pick(&[number, number % 70, number % 6, number % 2]);
+        }
+        let budget = random.pick(&[0, 1, 2, 300]);
+        self.call("any state", &Call::Steps(state.to_vec(), budget), stores);
+    }
+}
+
+/// Numbers that are near an end of some range of a state, and the ends of the type.
+const NEAR_ENDS: [i64; 28] = [
+    i64::MIN,
+    i64::MIN + 1,
+    -(1 << 32),
+    -65,
+    -64,
+    -5,
+    -4,
+    -1,
+    0,
+    1,
+    2,
+    3,
+    4,
+    5,
+    6,
+    7,
+    8,
+    15,
+    16,
+    17,
+    23,
+    24,
+    25,
+    64,
+    65,
+    1 << 32,
+    i64::MAX - 1,
+    i64::MAX,
+];
+
+fn asked_of(sheet: &[u8]) -> Asked {
+    stores_of(sheet).1
+}
+
+/// Each state of the run of a sheet, with its stores.
+fn states_of(sheet: &[u8]) -> Vec<(Stores, Vec<i64>)> {
+    let (stores, asked, _) = stores_of(sheet);
+    let stores = Stores { result: vec![7; STEPS + 2], ..stores };
+    let mut state = vec![7; STATE];
+    assert_eq!(Outside(None).prepare(&stores.rows, &stores.relations, asked, &mut state), 0, "a whole sheet");
+    let end = in_parts(&Outside(None), &stores, &state, &[MOST_STEPS as usize]).remove(0);
+    let steps = end.stores.result[0] as usize;
+    let after = |steps| {
+        let answer = in_parts(&Outside(None), &stores, &state, &[steps]).remove(0);
+        (Stores { result: stores.result.clone(), ..answer.stores }, answer.state)
+    };
+    (0..=steps).map(after).collect()
+}
+
 /// Coefficients that rise to the top and fall again, with signs such that n - r times it has small ones, where r is 1 or -1.
 fn hill(r: i128, top: i128) -> Polynomial {
     let p = Polynomial::new((1..top).chain((1..=top).rev()).collect());
@@ -589,6 +717,30 @@ fn main() {
         let (stores, asked, _) = stores_of(&write(&Sheet { system, order: Vec::new() }));
         fuzz.call("record", &Call::Record(asked, recorded), &stores);
     }
+    for step in [1, 7, 13, 17] {
+        fuzz.every_step(&whole_sheet(&mut random), step);
+    }
+    for number in 7..=10 {
+        fuzz.every_step(&answered(&mut random, number), 17);
+    }
+    let sheet = b"3 2 1 0\n2\n2 1 1 2 0 1 0 2 1 -1\n2 1 1 1 1 0 1 1 -1\n1\n0 0\n0\n3\n2 0 1\n0\n1 5\n";
+    fuzz.every_step(sheet, 17);
+    fuzz.every_two(sheet);
+    let (stores, state) = &states_of(sheet)[2];
+    fuzz.every_position("state", &Call::Steps(state.clone(), 2), stores);
+    let (whole, asked, _) = stores_of(sheet);
+    fuzz.every_position("prepare", &Call::Prepare(asked, vec![7; STATE]), &whole);
+    for _ in 0..20_000 {
+        let (stores, state) = handed_in(&mut random);
+        let budget = budgets(&mut random)[0];
+        fuzz.call("state, changed", &Call::Steps(state, budget), &stores);
+    }
+    let no_rows =
+        Stores { rows: vec![0; row_store(EQUATIONS)], relations: vec![0; RELATION_STORE], result: vec![7; STEPS] };
+    for _ in 0..20_000 {
+        fuzz.any_state(&mut random, &no_rows);
+        fuzz.any_state(&mut random, stores);
+    }
     // Zero systems in whole stores, and no stores at all: a size is refused before a length.
     let zeros =
         Stores { rows: vec![0; row_store(EQUATIONS)], relations: vec![0; RELATION_STORE], result: vec![7; RESULT] };
@@ -598,6 +750,7 @@ fn main() {
         fuzz.every_size(|asked| Call::Run(Side::Trailing, asked), &stores);
         fuzz.every_size(|asked| Call::Write(asked, vec![0; 4], vec![b'#'; 400]), &stores);
         fuzz.every_size(|asked| Call::Record(asked, measured.clone()), &stores);
+        fuzz.every_size(|asked| Call::Prepare(asked, vec![7; STATE]), &stores);
     }
     let answers = &fuzz.answers[..PRINTED];
     println!("{} calls, {} differences, answers 0 to {}: {answers:?}", fuzz.calls, fuzz.differences, PRINTED - 1);
