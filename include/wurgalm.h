@@ -11,7 +11,7 @@
  * (SCOPE 3.2, 3.11). The relation store needs 16 x 337: `count` relations, each n0 and then a row, and zeros at the
  * places past them (SCOPE 3.4, 3.13). Positions of blocks below t and of columns above m hold 0 (SCOPE 3.3).
  *
- * Every function returns the number of a refusal, or 0 (SCOPE 6.1 to 6.12; 6 does not occur):
+ * Every function returns the number of a refusal, or 0 (SCOPE 6.1 to 6.12 and 13.26; 6 does not occur):
  *   1  a store has too few members
  *   2  a size, block, column, count or order is out of its range
  *   3  something in a sheet is not a number; or a separator, the order of the terms or a zero last coefficient is wrong,
@@ -25,7 +25,9 @@
  *  11  the state of a run is not right: a size or a number is out of its range, an unused position does not hold 0, or a settled row
  *      does not stand as a settled row has to (`wurgalm_run_steps` alone)
  *  12  a value of Horner's rule has passed +-2^40 (`wurgalm_check_record` alone)
- * On 1 to 5 and on 11 no store is changed (SCOPE 6.32; but see `wurgalm_batch`). On 7 to 10 and on 12 the needed part of each
+ *  13  a log is not right: a step is malformed or not allowed, or the rows at its end are not triangular in its column order
+ *      (`wurgalm_replay` alone)
+ * On 1 to 5 and on 11 no store is changed (SCOPE 6.32; but see `wurgalm_batch`). On 7 to 10, 12 and 13 the needed part of each
  * store that the function may write is zero (SCOPE 6.33; `wurgalm_run_steps` then tells the steps, and zeros). Sizes, count and
  * order are checked first (2), then the lengths of the stores (1), then their numbers (5) (SCOPE 3.31).
  *
@@ -51,6 +53,15 @@ extern "C" {
 #define WURGALM_RECORD 4 /* of a record */
 #define WURGALM_STATE 11 /* of the state of a run by steps */
 #define WURGALM_STEPS 12 /* of a run with a budget */
+#define WURGALM_LOGGED 11 /* of a run with its log */
+
+/* A log: 36 numbers for each step, of which there are at most 1,000, and behind them the four of the column order (SCOPE 13.1). The
+ * store of `wurgalm_run_logged` needs WURGALM_LOG numbers; that of `wurgalm_replay` needs WURGALM_LOG_STEP for each step and
+ * WURGALM_LOG_ORDER. */
+#define WURGALM_LOG_STEP 36
+#define WURGALM_LOG_ORDER 4
+#define WURGALM_LOG_STEPS 1000
+#define WURGALM_LOG 36004
 
 /* Where the 16 coefficients of the right side begin in a row; in a relation, one place later. */
 #define WURGALM_RIGHT_SIDE 320
@@ -145,6 +156,30 @@ uint8_t wurgalm_prepare(const int64_t *rows, size_t rows_length, const int64_t *
  * a step: then the needed parts of `rows`, `relations` and `state` are zero, and `result` is the steps before it and zeros. */
 uint8_t wurgalm_run_steps(int64_t *rows, size_t rows_length, int64_t *relations, size_t relations_length, int64_t *state,
                           size_t state_length, size_t budget, int64_t *result, size_t result_length);
+
+/* The elimination on the leading side, with a log of its steps.
+ * In: as for `wurgalm_run_leading`; `log` (36,004 numbers, whatever they are).
+ * Out: `rows` and `relations` as from `wurgalm_run_leading`. `log`: 36 numbers for each step (SCOPE 13.11): the kind (1 exchange,
+ * 2 combination, 3 up, 4 down, 5 drop), i, j, the integer, 16 coefficients of g and 16 of h, zeros for what a kind does not use; behind
+ * the steps the columns c(1) to c(4); zeros past them (SCOPE 13.52). `result` (11 numbers, SCOPE 13.55): the ten of a run, and the
+ * number of steps. `wurgalm_replay` accepts that log on the same input and leaves the same (SCOPE 13.53).
+ * Returns 0, 1, 2, 5, or 7 to 10; on these four the needed part of `log` is zero too. */
+uint8_t wurgalm_run_logged(int64_t *rows, size_t rows_length, int64_t *relations, size_t relations_length, size_t m,
+                           size_t equations, int64_t l, int64_t t, size_t count, int64_t *log, size_t log_length,
+                           int64_t *result, size_t result_length);
+
+/* The replay of a log, from wherever it comes. `log` is only read.
+ * In: as for `wurgalm_run_leading`; `steps` (0 to 1,000) and `log` (36 x `steps` + 4 numbers), as above; rows are counted from 1 among
+ * those that are present when a step's turn comes (SCOPE 13.2).
+ * Each step is tested and made: rows i and j change places; g x row i + h x row j, divided by the integer, takes the place of row i,
+ * after row i was listed at each integer root of g; row i is shifted up or down; row i, which is zero, is dropped (SCOPE 13.21 to 13.27).
+ * At the end the rows are triangular in the order of the log (SCOPE 13.31, 13.32).
+ * Out: as from `wurgalm_run_leading`: the same sequences satisfy what is left (SCOPE 13.61). `result` (10 numbers): those of a run; the
+ * shifts are the steps up (SCOPE 13.43).
+ * Returns 0, 1, 2, 5 (the log is not judged before its turn); or in the course of the replay 13, 7, 8 or 9. */
+uint8_t wurgalm_replay(int64_t *rows, size_t rows_length, int64_t *relations, size_t relations_length, size_t m,
+                       size_t equations, int64_t l, int64_t t, size_t count, size_t steps, const int64_t *log,
+                       size_t log_length, int64_t *result, size_t result_length);
 
 /* A whole batch worked.
  * In: the bytes of the batch: a line with the number of sheets, 0 to 1,000, and for each sheet a line with its client,

@@ -601,6 +601,244 @@ static void systems_not_prepared(void) {
     unprepared(call, WURGALM_STATE, 1, 1, "a relation store too short");
 }
 
+/* ---- logs ---- */
+
+/* The log of a run and its result, each with some numbers past the needed part. */
+typedef struct {
+    int64_t log[WURGALM_LOG + MORE];
+    int64_t result[WURGALM_LOGGED + MORE];
+} Logged;
+
+static uint8_t run_logged(Stores *stores, Asked call, Logged *logged, size_t log, size_t result) {
+    return wurgalm_run_logged(stores->rows, call.rows, stores->relations, call.relations, call.m, call.equations, call.l, call.t,
+                              call.count, logged->log, log, logged->result, result);
+}
+
+static uint8_t replay(Stores *stores, Asked call, size_t steps, const int64_t *log, size_t length) {
+    return wurgalm_replay(stores->rows, call.rows, stores->relations, call.relations, call.m, call.equations, call.l, call.t,
+                          call.count, steps, log, length, stores->result, call.result);
+}
+
+static void unlogged(Logged *logged) {
+    fill(logged->log, WURGALM_LOG + MORE, 7);
+    fill(logged->result, WURGALM_LOGGED + MORE, 7);
+}
+
+/* A step of a log: its kind, i, j, the integer, and the first two coefficients of g and of h. */
+static void put_step(int64_t *log, size_t step, const int64_t *numbers) {
+    int64_t *place = log + step * WURGALM_LOG_STEP;
+    fill(place, WURGALM_LOG_STEP, 0);
+    memcpy(place, numbers, 4 * sizeof *place);
+    memcpy(place + 4, numbers + 4, 2 * sizeof *place);
+    memcpy(place + 20, numbers + 6, 2 * sizeof *place);
+}
+
+#define FOUR 4
+#define FOUR_STEPS (FOUR * WURGALM_LOG_STEP + WURGALM_LOG_ORDER)
+
+/* The log of four steps with the columns 1 2. */
+static void put_log(int64_t *log, const int64_t steps[FOUR][8]) {
+    size_t step;
+    for (step = 0; step < FOUR; step++) {
+        put_step(log, step, steps[step]);
+    }
+    fill(log + FOUR * WURGALM_LOG_STEP, WURGALM_LOG_ORDER, 0);
+    log[FOUR * WURGALM_LOG_STEP] = 1;
+    log[FOUR * WURGALM_LOG_STEP + 1] = 2;
+}
+
+/* The steps of the run on K2: n x row 2 - row 1, row 2 up, the rows exchanged, (n + 1) x row 2 + n x row 1. */
+static const int64_t k2_steps[FOUR][8] = {
+    {2, 2, 1, 1, 0, 1, -1, 0}, {3, 2, 0, 0, 0, 0, 0, 0}, {1, 2, 1, 0, 0, 0, 0, 0}, {2, 2, 1, 1, 1, 1, 0, 1}};
+/* Other ones: the rows exchanged, -row 2 + n x row 1, row 2 up, row 2 + (n + 1) x row 1. */
+static const int64_t k2_others[FOUR][8] = {
+    {1, 1, 2, 0, 0, 0, 0, 0}, {2, 2, 1, 1, -1, 0, 0, 1}, {3, 2, 0, 0, 0, 0, 0, 0}, {2, 2, 1, 1, 1, 0, 1, 1}};
+
+static void k2_with_its_log(void) {
+    static const int64_t report[WURGALM_LOGGED] = {2, 1, 1, 2, 0, 0, 1, 0, 2, 1, FOUR};
+    static Stores stores, expected;
+    static Logged logged, left;
+    Asked call = asked();
+
+    k2_stores(&stores);
+    unlogged(&logged);
+    unlogged(&left);
+    fill(left.log, WURGALM_LOG, 0);
+    put_log(left.log, k2_steps);
+    memcpy(left.result, report, sizeof report);
+    check(run_logged(&stores, call, &logged, WURGALM_LOG, WURGALM_LOGGED) == 0, "K2 with its log is accepted");
+    k2_answer_stores(&expected);
+    check(same(&stores, &expected), "the rows and relations of the run, and nothing past the needed parts");
+    check(memcmp(&logged, &left, sizeof left) == 0, "four steps, their numbers, the order, zeros behind them");
+
+    k2_stores(&stores);
+    memcpy(expected.result, report, WURGALM_RESULT * sizeof *report);
+    check(replay(&stores, call, FOUR, logged.log, FOUR_STEPS) == 0, "the replay of that log is accepted");
+    check(same(&stores, &expected), "the same rows, relations and ten numbers");
+    check(memcmp(&logged, &left, sizeof left) == 0, "and the log is only read");
+}
+
+static void k2_with_other_pivots(void) {
+    static const int64_t report[WURGALM_RESULT] = {0, 1, 1, 2, 0, 0, 0, 0, 2, 0};
+    static Stores stores, expected;
+    static int64_t log[FOUR_STEPS];
+    Asked call = asked();
+    k2_stores(&stores);
+    put_log(log, k2_others);
+    check(replay(&stores, call, FOUR, log, FOUR_STEPS) == 0, "K2 with other pivots is accepted");
+    /* x(n+1) - x(n) = 0 and y(n+1) - (n + 1) x(n) = 0 */
+    prepare_two(&expected);
+    polynomial(expected.rows, 0, 0, 0)[0] = 1;
+    polynomial(expected.rows, 0, 1, 0)[0] = -1;
+    polynomial(expected.rows, 1, 0, 1)[0] = 1;
+    polynomial(expected.rows, 1, 1, 0)[0] = -1;
+    polynomial(expected.rows, 1, 1, 0)[1] = -1;
+    memcpy(expected.result, report, sizeof report);
+    check(same(&stores, &expected), "two rows, no relation, one step up, order 1 2, no root, rank 2");
+}
+
+/* A replay of the other log with one number changed, that is refused during the work: zeros, and what is past the needed parts stays. */
+static void replay_refused(size_t at, int64_t number, uint8_t refusal, const char *what) {
+    static Stores stores, expected;
+    static int64_t log[FOUR_STEPS];
+    char line[120];
+    k2_stores(&stores);
+    put_log(log, k2_others);
+    log[at] = number;
+    expected = stores;
+    fill(expected.rows, TWO_ROWS, 0);
+    fill(expected.relations, WURGALM_RELATIONS, 0);
+    fill(expected.result, WURGALM_RESULT, 0);
+    snprintf(line, sizeof line, "replay, %s: %d, and zeros", what, refusal);
+    check(replay(&stores, asked(), FOUR, log, FOUR_STEPS) == refusal && same(&stores, &expected), line);
+}
+
+static void replays_refused(void) {
+    const size_t second = WURGALM_LOG_STEP, third = 2 * WURGALM_LOG_STEP, order = FOUR * WURGALM_LOG_STEP;
+    replay_refused(0, 6, 13, "a kind that there is not");
+    replay_refused(2, 1, 13, "a row exchanged with itself");
+    replay_refused(3, 1, 13, "a field that an exchange does not use");
+    replay_refused(second + 1, 3, 13, "a third row");
+    replay_refused(second + 3, 2, 13, "an integer that does not divide");
+    replay_refused(second + 4, 0, 13, "g zero");
+    replay_refused(second + 4, 268435456, 13, "a coefficient of g past the limit");
+    replay_refused(third + 1, 1, 13, "a step up that would lose a block");
+    replay_refused(third, 4, 13, "a step down that would lose a block");
+    replay_refused(third, 5, 13, "a drop of a row that is not zero");
+    replay_refused(order, 2, 13, "a column twice in the order");
+    replay_refused(order + 2, 1, 13, "a third column");
+    replay_refused(second + 20, 268435455, 13, "a combination that leaves an entry to be shifted over");
+    replay_refused(3 * WURGALM_LOG_STEP + 4, 268435455, 13, "a leading matrix that is not triangular");
+}
+
+/* A combination that meets a limit: (g x row 1) / 1 of K2, with so many relations before it. */
+static void replay_limited(size_t power, int64_t number, size_t count, uint8_t refusal, const char *what) {
+    static Stores stores, expected;
+    static int64_t log[WURGALM_LOG_STEP + WURGALM_LOG_ORDER];
+    char line[120];
+    Asked call = asked();
+    k2_stores(&stores);
+    call.count = count;
+    polynomial(stores.rows, 0, 1, 1)[1] = 3;
+    fill(log, WURGALM_LOG_STEP + WURGALM_LOG_ORDER, 0);
+    log[0] = 2;
+    log[1] = 1;
+    log[2] = 2;
+    log[3] = 1;
+    log[4 + power] = number;
+    expected = stores;
+    fill(expected.rows, TWO_ROWS, 0);
+    fill(expected.relations, WURGALM_RELATIONS, 0);
+    fill(expected.result, WURGALM_RESULT, 0);
+    snprintf(line, sizeof line, "replay, %s: %d, and zeros", what, refusal);
+    check(replay(&stores, call, 1, log, WURGALM_LOG_STEP + WURGALM_LOG_ORDER) == refusal && same(&stores, &expected), line);
+}
+
+static void replays_limited(void) {
+    replay_limited(15, 1, 0, 7, "degree 16");
+    replay_limited(0, 268435455, 0, 8, "a coefficient past the limit");
+    replay_limited(15, 268435455, 16, 9, "a seventeenth relation, before the degree and the coefficient");
+}
+
+/* Calls that are refused before the work leave every store as it was. */
+static void log_unread(Asked call, size_t steps, size_t length, int64_t number, uint8_t refusal, const char *what) {
+    static Stores stores, before;
+    static int64_t log[FOUR_STEPS];
+    char line[120];
+    k2_stores(&stores);
+    put_log(log, k2_others);
+    stores.rows[0] = number;
+    before = stores;
+    snprintf(line, sizeof line, "replay, %s: %d", what, refusal);
+    check(replay(&stores, call, steps, log, length) == refusal && same(&stores, &before), line);
+}
+
+static void logs_unread(void) {
+    Asked call = asked();
+    log_unread(call, 1001, FOUR_STEPS, 0, 2, "1,001 steps");
+    log_unread(call, (size_t)-1, 0, 0, 2, "more steps than a log can have, before a log too short");
+    log_unread(call, FOUR, FOUR_STEPS - 1, 268435456, 1, "a log too short, before a coefficient past the limit");
+    log_unread(call, FOUR + 1, FOUR_STEPS, 0, 1, "a step more than the log has");
+    log_unread(call, FOUR, FOUR_STEPS, 268435456, 5, "a coefficient past the limit");
+    call.m = 5;
+    log_unread(call, FOUR, FOUR_STEPS - 1, 0, 2, "five unknowns, before a log too short");
+    call = asked();
+    call.rows = TWO_ROWS - 1;
+    log_unread(call, FOUR, FOUR_STEPS, 0, 1, "a row store too short");
+    call = asked();
+    call.relations = WURGALM_RELATIONS - 1;
+    log_unread(call, FOUR, FOUR_STEPS, 0, 1, "a relation store too short");
+    call = asked();
+    call.result = WURGALM_RESULT - 1;
+    log_unread(call, FOUR, FOUR_STEPS, 0, 1, "a result store too short");
+}
+
+static void log_unwritten(Asked call, size_t log, size_t result, int64_t number, uint8_t refusal, const char *what) {
+    static Stores stores, before;
+    static Logged logged, left;
+    char line[120];
+    k2_stores(&stores);
+    unlogged(&logged);
+    unlogged(&left);
+    stores.rows[0] = number;
+    before = stores;
+    snprintf(line, sizeof line, "run with its log, %s: %d", what, refusal);
+    check(run_logged(&stores, call, &logged, log, result) == refusal && same(&stores, &before), line);
+    check(memcmp(&logged, &left, sizeof left) == 0, "and neither log nor result is changed");
+}
+
+static void logs_unwritten(void) {
+    Asked call = asked();
+    log_unwritten(call, WURGALM_LOG - 1, WURGALM_LOGGED, 268435456, 1, "a log store too short, before a coefficient past the limit");
+    log_unwritten(call, WURGALM_LOG, WURGALM_LOGGED - 1, 0, 1, "a result store too short");
+    log_unwritten(call, WURGALM_LOG, WURGALM_LOGGED, 268435456, 5, "a coefficient past the limit");
+    call.rows = TWO_ROWS - 1;
+    log_unwritten(call, WURGALM_LOG, WURGALM_LOGGED, 0, 1, "a row store too short");
+    call = asked();
+    call.equations = 7;
+    log_unwritten(call, 0, 0, 0, 2, "seven equations, before stores too short");
+}
+
+/* A run that is refused during the work leaves zeros, in the log and the result too. */
+static void log_of_a_refused_run(void) {
+    static Stores stores, expected;
+    static Logged logged, left;
+    Asked call = asked();
+    k2_stores(&stores);
+    unlogged(&logged);
+    unlogged(&left);
+    fill(left.log, WURGALM_LOG, 0);
+    fill(left.result, WURGALM_LOGGED, 0);
+    /* n x(n+1) - y(n) = 0 and 0 = 1 */
+    fill(stores.rows + WURGALM_ROW, WURGALM_ROW, 0);
+    stores.rows[WURGALM_ROW + WURGALM_RIGHT_SIDE] = 1;
+    expected = stores;
+    fill(expected.rows, TWO_ROWS, 0);
+    fill(expected.relations, WURGALM_RELATIONS, 0);
+    check(run_logged(&stores, call, &logged, WURGALM_LOG, WURGALM_LOGGED) == 10, "run with its log, 0 = 1: 10");
+    check(same(&stores, &expected) && memcmp(&logged, &left, sizeof left) == 0, "and zeros in every needed part");
+}
+
 /* ---- a whole batch ---- */
 
 /* What a call on a batch answers and leaves: the number, and a result and an output that begin so, with everything past them as before. */
@@ -813,6 +1051,13 @@ int main(void) {
     states_refused();
     steps_refused();
     systems_not_prepared();
+    k2_with_its_log();
+    k2_with_other_pivots();
+    replays_refused();
+    replays_limited();
+    logs_unread();
+    logs_unwritten();
+    log_of_a_refused_run();
     runs_refused_before_the_work(wurgalm_run_leading, "leading");
     runs_refused_before_the_work(wurgalm_run_trailing, "trailing");
     runs_refused_during_the_work(wurgalm_run_leading);

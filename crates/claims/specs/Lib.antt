@@ -4,6 +4,7 @@ pub mod AnswerWords
 pub mod BatchWords
 pub mod ExportWords
 pub mod StepWords
+pub mod LogWords
 pub mod DifferentialWords
 pub mod LiftedRuns
 pub mod LiftedSheets
@@ -12,5 +13,6 @@ pub mod LiftedBatches
 pub mod LiftedDifferentials
 pub mod LiftedExports
 pub mod LiftedSteps
+pub mod LiftedLogs
 pub mod MirroredRun
 pub mod Claims

@@ -3,6 +3,8 @@
 -- Main definitions
 --   Verdict A B D n            the number of the first of three checks that fails
 --   AcceptedAs .. c s          the checks passed, the rules accept with the final state s, and the call gives s back
+--   LeftAs .. c s              the checks passed, and a call gives back s, which is valid and triangular
+--
 -- Main statements
 --   overwrite-rewritten        a store whose needed part is overwritten
 --   range-iff, place-right     the tests of sizes and of a place
@@ -19,8 +21,9 @@
 --   agrees-leading, agrees-trailing   agreement past the root of the result
 --   from-unused, from-kept, from-back   sequences with a first index
 --   unsatisfied-ten            refusal 10
---   state-accepted, state-triangular, state-report-no, state-report-value, state-report-yes, state-past   the same, from
---                                the state
+--   gives-back                 a final state, as it is given back
+--   state-accepted, left-as    an accepted call has left a final state
+--   state-triangular, state-report-no, state-report-value, state-report-yes, state-past, left-passes   the same, from the state
 use Prim.Native.Nat.{ℕ, suc, pred, _+_, _*_, _-_, _≤_, _<_}
 use native.Mathlib.Nat.{le-trans}
 use native.Mathlib.Omega.{arith}
@@ -56,14 +59,15 @@ use Rattle.rules.specs.Calls.{Result, Call, callRun, afterCheck, afterRun, acce
 use Rattle.rules.specs.Calls.{zeros}
 use Rattle.lists.specs.Overwritten.{overwrite}
 use Rattle.rules.specs.Calls.{placeRight, reportedOrder, rootFound, rootValue}
-use Rattle.theory.specs.Settled.{Diagonal, pivotEntry, diagonal-most}
+use Rattle.theory.specs.Settled.{Diagonal, pivotEntry, diagonal-most, nonzero-of-diagonal}
 use Rattle.theory.specs.Demands.{Accepted, Ended, seven, eight, nine, ten, run-ends, output-valid, diagonal-nonzero}
-use Rattle.theory.specs.Demands.{report-no, report-root, report-times, report-no-times, relations-listed}
+use Rattle.theory.specs.Demands.{report-times, report-no-times, relations-listed}
 use Rattle.theory.specs.ListedOrder.{Listed}
 use Rattle.theory.specs.Demands.{same-sequences, rank-most, rank-few, rank-below, rows-independent, shifts-bounded, refused-inconsistent}
 use Rattle.theory.specs.Demands.{agreement-leading, agreement-trailing, first-index, forward-from, backward-from}
 use Rattle.theory.specs.FirstIndex.{SatisfiesFrom}
 use Rattle.theory.specs.Report.{Past, Rootless, FurthestRoot, diagonalEntry, diagonal-member, diagonal-index, product}
+use Rattle.theory.specs.Report.{NonzeroDiagonal, report-none, report-some}
 use Rattle.theory.specs.Demands as Demands
 use Rattle.lists.specs.Padded.{getD-padTo}
 use Rattle.claims.specs.RunWords.{Ran, RunNumber, FoundBefore, FoundDuring, Rewritten, Cleared, InRange, LongEnough}
@@ -178,13 +182,13 @@ course {side} {z} {count} {rows} {relations} ran =
 -- ---- what an accepted call gives back
 
 module _ {side : Side} {z : Sizes} {count : ℕ} {rows relations : List ℤ} where
-  gives-back : Passed z count rows relations → (s : State) → ruled side z count rows relations ≡ done s
-      → GivesBack side z s rows relations (afterRun side z (done s) rows relations)
+  pub gives-back : Passed z count rows relations → (s : State) → Valid (withEquations (rank s) z) (s .rows) (s .relations)
+      → length (s .rows) ≡ rank s → rank s ≤ equations z → GivesBack side z s rows relations (afterRun side z (done s) rows relations)
   unfolding afterRun acceptance overwrite
-  gives-back p s e =
+  gives-back p s v count-kept few =
       record {
         row-store = overwrite-rewritten (rowStoreFor (equations z) (s .rows)) rows
-            (length-rowStoreFor (equations z) (s .rows) (subst (λ n. n ≤ equations z) (sym count-kept) (rank-few a)) (v .row-shapes))
+            (length-rowStoreFor (equations z) (s .rows) (subst (λ n. n ≤ equations z) (sym count-kept) few) (v .row-shapes))
             (p .lengths .0);
         relation-store = overwrite-rewritten (relationStoreOf (s .relations)) relations
             (length-relationStoreOf (s .relations) (countRight-iff (length (s .relations)) .0 (v .relation-count))
@@ -201,15 +205,6 @@ module _ {side : Side} {z : Sizes} {count : ℕ} {rows relations : List ℤ} whe
         root-times = refl;
       }
     where
-      a : Accepted side z (rowsOf (equations z) rows) (relationsOf count relations) s
-      a = record { valid = passed-valid p; accepts = e }
-
-      v : Valid (withEquations (rank s) z) (s .rows) (s .relations)
-      v = output-valid a
-
-      count-kept : length (s .rows) ≡ rank s
-      count-kept = diagonal-nonzero a .row-count
-
       rows-held : rowsOf (rank s) (overwrite (rowStoreFor (equations z) (s .rows)) rows) ≡ s .rows
       rows-held =
           ap (λ n. rowsOf n (overwrite (rowStoreFor (equations z) (s .rows)) rows)) (sym count-kept)
@@ -217,6 +212,13 @@ module _ {side : Side} {z : Sizes} {count : ℕ} {rows relations : List ℤ} whe
 
       relations-held : relationsOf (length (s .relations)) (overwrite (relationStoreOf (s .relations)) relations) ≡ s .relations
       relations-held = relationsOf-relationStoreOf (s .relations) _ (v .relation-shapes)
+
+  run-gives-back : Passed z count rows relations → (s : State) → ruled side z count rows relations ≡ done s
+      → GivesBack side z s rows relations (afterRun side z (done s) rows relations)
+  run-gives-back p s e = gives-back p s (output-valid a) (diagonal-nonzero a .row-count) (rank-few a)
+    where
+      a : Accepted side z (rowsOf (equations z) rows) (relationsOf count relations) s
+      a = record { valid = passed-valid p; accepts = e }
 
 -- ---- refusals
 
@@ -271,7 +273,7 @@ module _ {side : Side} {z : Sizes} {count : ℕ} {rows relations : List ℤ} whe
     rest-of (zeros-written (rowNeed (equations z)) rows (p .lengths .0)),
     rest-of (zeros-written relationNeed relations (p .lengths .1)),
   )
-  rest-course (run-accepted p s e) = let g = gives-back p s e in (rest-of (g .row-store), rest-of (g .relation-store))
+  rest-course (run-accepted p s e) = let g = run-gives-back p s e in (rest-of (g .row-store), rest-of (g .relation-store))
 
   begun-course : {c : Call} → Passed z count rows relations → Course side z count rows relations c
       → (Number c ≡ 0) ⊎ FoundDuring (Number c)
@@ -346,6 +348,15 @@ pub record AcceptedAs (side : Side) (z : Sizes) (count : ℕ) (rows relations : 
   pub accepts : ruled side z count rows relations ≡ done s
   pub given : GivesBack side z s rows relations c
 
+-- What an accepted call has left, whichever call it was: the checks passed, the final state s was given back, and it is a valid system
+-- in triangular form.
+pub record LeftAs (side : Side) (z : Sizes) (count : ℕ) (rows relations : List ℤ) (c : Call) (s : State) : Type 0 where
+  pub passed : Passed z count rows relations
+  pub given : GivesBack side z s rows relations c
+  pub valid : Valid (withEquations (rank s) z) (s .rows) (s .relations)
+  pub diagonal : Diagonal side (rank s) (z .m) (span z) s
+  pub few : rank s ≤ equations z
+
 module _ {side : Side} {z : Sizes} {count : ℕ} {rows relations : List ℤ} where
   accepted-as : {c : Call} → Course side z count rows relations c → Number c ≡ 0
       → (s : State) × AcceptedAs side z count rows relations c s
@@ -354,7 +365,7 @@ module _ {side : Side} {z : Sizes} {count : ℕ} {rows relations : List ℤ} whe
   accepted-as (too-short r l) h = absurd (omega arith)
   accepted-as (wrong-number r l w) h = absurd (omega arith)
   accepted-as (run-refused p n f e) h = absurd (omega arith)
-  accepted-as (run-accepted p s e) h = (s, record { passed = p; accepts = e; given = gives-back p s e })
+  accepted-as (run-accepted p s e) h = (s, record { passed = p; accepts = e; given = run-gives-back p s e })
 
 -- ---- the diagonal by result and store
 
@@ -398,15 +409,38 @@ module _ {side : Side} {z : Sizes} {count : ℕ} {rows relations : List ℤ} {c 
   pub state-accepted : Accepted side z (rowsOf (equations z) rows) (relationsOf count relations) s
   state-accepted = record { valid = passed-valid (a .passed); accepts = a .accepts }
 
+  pub left-as : LeftAs side z count rows relations c s
+  left-as =
+      record {
+        passed = a .passed;
+        given = a .given;
+        valid = output-valid state-accepted;
+        diagonal = diagonal-nonzero state-accepted;
+        few = rank-few state-accepted;
+      }
+
+  pub state-times-no : c .result .hasRoot ≡ false → c .result .multiplicity ≡ 0
+  state-times-no e = a .given .root-times ∙ report-no-times state-accepted (found-none _ .0 (sym (a .given .root-found) ∙ e))
+
+  pub state-times-yes : c .result .hasRoot ≡ true
+      → (c .result .multiplicity ≡ multiplicity (product (diagonal side (span z) s)) (c .result .root)) × (1 ≤ c .result .multiplicity)
+  state-times-yes e =
+      let t = report-times state-accepted (found-some _ (sym (a .given .root-found) ∙ e)) in (
+        a .given .root-times ∙ t .0 ∙ ap (multiplicity (product (diagonal side (span z) s))) (sym (a .given .root-value)),
+        subst (λ n. 1 ≤ n) (sym (a .given .root-times)) (t .1),
+      )
+
+module _ {side : Side} {z : Sizes} {count : ℕ} {rows relations : List ℤ} {c : Call} {s : State}
+    (a : LeftAs side z count rows relations c s) where
   -- What is left, with the rank as its number of equations.
   out-bounds : SizeBounds (left z c)
   out-bounds =
       size-bounds (left z c)
-      (subst (λ n. T (sizesRight (withEquations n z))) (sym (a .given .row-count)) (output-valid state-accepted .sizes))
+      (subst (λ n. T (sizesRight (withEquations n z))) (sym (a .given .row-count)) (a .valid .sizes))
 
   diagonals : Diagonal side (equations (left z c)) (left z c .m) (span (left z c)) s
   unfolding equations withEquations span
-  diagonals = subst (λ n. Diagonal side n (z .m) (span z) s) (sym (a .given .row-count)) (diagonal-nonzero state-accepted)
+  diagonals = subst (λ n. Diagonal side n (z .m) (span z) s) (sym (a .given .row-count)) (a .diagonal)
 
   out-rows : rowsOf (equations (left z c)) (c .rowStore) ≡ s .rows
   unfolding equations withEquations
@@ -415,7 +449,7 @@ module _ {side : Side} {z : Sizes} {count : ℕ} {rows relations : List ℤ} {c 
   out-fits : rowNeed (equations (left z c)) ≤ length (c .rowStore)
   unfolding equations withEquations rowNeed
   out-fits =
-      omega (arith, a .given .row-count, rank-few state-accepted, a .given .row-store .same-length, a .passed .lengths .0)
+      omega (arith, a .given .row-count, a .few, a .given .row-store .same-length, a .passed .lengths .0)
 
   entry-is : (row column : ℕ) → IsRow (left z c) row → IsColumn (left z c) column
       → entryOf side (left z c) c row column ≡ pivotEntry side (span (left z c)) s (pred row) (pred column)
@@ -521,11 +555,14 @@ module _ {side : Side} {z : Sizes} {count : ℕ} {rows relations : List ℤ} {c 
         furthest = λ row i n e. f .furthest (diagonalOf side (left z c) c row) (among row i) n e;
       }
 
+  pivots : NonzeroDiagonal side (span z) s
+  pivots = nonzero-of-diagonal side (rank s) (z .m) (span z) s (a .diagonal)
+
   pub state-report-no : (c .result .hasRoot ≡ false) ↔ NoRoot side (left z c) c
   unfolding withEquations span
   state-report-no = (
-    λ e. rootless-iff .0 (report-no state-accepted .0 (found-none _ .0 (sym (a .given .root-found) ∙ e))),
-    λ h. a .given .root-found ∙ found-none _ .1 (report-no state-accepted .1 (rootless-iff .1 h)),
+    λ e. rootless-iff .0 (report-none side (span z) s pivots .0 (found-none _ .0 (sym (a .given .root-found) ∙ e))),
+    λ h. a .given .root-found ∙ found-none _ .1 (report-none side (span z) s pivots .1 (rootless-iff .1 h)),
   )
 
   pub state-report-value : c .result .hasRoot ≡ false → c .result .root ≡ pos 0
@@ -535,18 +572,7 @@ module _ {side : Side} {z : Sizes} {count : ℕ} {rows relations : List ℤ} {c 
   unfolding withEquations span
   state-report-yes e =
       subst (LastRoot side (left z c) c) (sym (a .given .root-value))
-      (furthest-last (report-root state-accepted (found-some _ (sym (a .given .root-found) ∙ e))))
-
-  pub state-times-no : c .result .hasRoot ≡ false → c .result .multiplicity ≡ 0
-  state-times-no e = a .given .root-times ∙ report-no-times state-accepted (found-none _ .0 (sym (a .given .root-found) ∙ e))
-
-  pub state-times-yes : c .result .hasRoot ≡ true
-      → (c .result .multiplicity ≡ multiplicity (product (diagonal side (span z) s)) (c .result .root)) × (1 ≤ c .result .multiplicity)
-  state-times-yes e =
-      let t = report-times state-accepted (found-some _ (sym (a .given .root-found) ∙ e)) in (
-        a .given .root-times ∙ t .0 ∙ ap (multiplicity (product (diagonal side (span z) s))) (sym (a .given .root-value)),
-        subst (λ n. 1 ≤ n) (sym (a .given .root-times)) (t .1),
-      )
+      (furthest-last (report-some side (span z) s pivots (found-some _ (sym (a .given .root-found) ∙ e))))
 
   pub state-past : (n : ℤ) → PastRoot side (c .result) n → Past side (report side (span z) s) n
   unfolding rootFound rootValue
@@ -557,6 +583,16 @@ module _ {side : Side} {z : Sizes} {count : ℕ} {rows relations : List ℤ} {c 
       by side r none e f h = tt
       by leading r (some x) e f h = subst (λ y. y <ℤ n) f (h e)
       by trailing r (some x) e f h = subst (λ y. n <ℤ y) f (h e)
+
+  -- What was left passes the checks of a call.
+  pub left-passes : Passed (left z c) (c .result .relations) (c .rowStore) (c .relationStore)
+  unfolding rowStoreFor
+  left-passes =
+      zero-passed
+      (ap₂ (λ k n. checkStores (withEquations k z) n (c .rowStore) (c .relationStore)) (a .given .row-count) (a .given .relation-count)
+      ∙ ap₂ (checkStores (withEquations (rank s) z) (length (s .relations)))
+      (rewritten-is (a .given .row-store) ∙ append-assoc (rowStoreOf (s .rows)) _ _) (rewritten-is (a .given .relation-store))
+      ∙ valid-stores (withEquations (rank s) z) (s .rows) (s .relations) _ _ (a .valid))
 
 -- ---- the calls as they are called
 
@@ -619,7 +655,7 @@ module _ {side : Side} {z : Sizes} {count : ℕ} {rows relations : List ℤ} {c 
         (same-sequences (state-accepted a) y)
 
     pub triangular : Triangular side (left z c) c
-    triangular = let (s, a) = accepted in state-triangular a
+    triangular = let (s, a) = accepted in state-triangular (left-as a)
 
     pub most-unknowns : c .result .rank ≤ z .m
     most-unknowns = let (s, a) = accepted in subst (λ n. n ≤ z .m) (sym (a .given .row-count)) (rank-most (state-accepted a))
@@ -673,13 +709,13 @@ module _ {side : Side} {z : Sizes} {count : ℕ} {rows relations : List ℤ} {c 
         (more, a .given .relations-held ∙ same, groups)
 
     pub root-no : (c .result .hasRoot ≡ false) ↔ NoRoot side (left z c) c
-    root-no = let (s, a) = accepted in state-report-no a
+    root-no = let (s, a) = accepted in state-report-no (left-as a)
 
     pub root-none : c .result .hasRoot ≡ false → c .result .root ≡ pos 0
-    root-none = let (s, a) = accepted in state-report-value a
+    root-none = let (s, a) = accepted in state-report-value (left-as a)
 
     pub root-yes : c .result .hasRoot ≡ true → LastRoot side (left z c) c (c .result .root)
-    root-yes = let (s, a) = accepted in state-report-yes a
+    root-yes = let (s, a) = accepted in state-report-yes (left-as a)
 
     pub times-none : c .result .hasRoot ≡ false → c .result .multiplicity ≡ 0
     times-none = let (s, a) = accepted in state-times-no a
@@ -688,16 +724,8 @@ module _ {side : Side} {z : Sizes} {count : ℕ} {rows relations : List ℤ} {c 
         × (c .result .multiplicity ≡ multiplicity (product (diagonal side (span z) s)) (c .result .root)) × (1 ≤ c .result .multiplicity)
     times-yes e = let (s, a) = accepted in let t = state-times-yes a e in (s, a .accepts, t .0, t .1)
 
-    -- What was left passes the checks of a call.
     pub output-passes : Passed (left z c) (c .result .relations) (c .rowStore) (c .relationStore)
-    unfolding rowStoreFor
-    output-passes =
-        let (s, a) = accepted in
-        zero-passed
-        (ap₂ (λ k n. checkStores (withEquations k z) n (c .rowStore) (c .relationStore)) (a .given .row-count) (a .given .relation-count)
-        ∙ ap₂ (checkStores (withEquations (rank s) z) (length (s .relations)))
-        (rewritten-is (a .given .row-store) ∙ append-assoc (rowStoreOf (s .rows)) _ _) (rewritten-is (a .given .relation-store))
-        ∙ valid-stores (withEquations (rank s) z) (s .rows) (s .relations) _ _ (output-valid (state-accepted a)))
+    output-passes = let (s, a) = accepted in left-passes (left-as a)
 
 -- Where the rank is m, solutions that agree on D successive vectors past the reported root agree ever after (SCOPE 2.116, 2.117).
 module _ {z : Sizes} {count : ℕ} {rows relations : List ℤ} {c : Call} where
@@ -706,14 +734,14 @@ module _ {z : Sizes} {count : ℕ} {rows relations : List ℤ} {c : Call} where
       → (n : ℤ) → PastRoot leading (c .result) n → AgreeBetween z y w (n +ℤ z .t) (n +ℤ z .l) → AgreeFrom z y w (n +ℤ z .t)
   agrees-leading ran e full y w hy hw n past =
       let (s, a) = accepted ran e in
-      agreement-leading (state-accepted a) (sym (a .given .row-count) ∙ full) y w hy hw n (state-past a n past)
+      agreement-leading (state-accepted a) (sym (a .given .row-count) ∙ full) y w hy hw n (state-past (left-as a) n past)
 
   pub agrees-trailing : Ran trailing z count rows relations c → Number c ≡ 0 → c .result .rank ≡ z .m
       → (y w : Sequence) → Solves z count rows relations y → Solves z count rows relations w
       → (n : ℤ) → PastRoot trailing (c .result) n → AgreeDown z y w (n +ℤ z .t) (n +ℤ z .l) → AgreeUpTo z y w (n +ℤ z .l)
   agrees-trailing ran e full y w hy hw n past =
       let (s, a) = accepted ran e in
-      agreement-trailing (state-accepted a) (sym (a .given .row-count) ∙ full) y w hy hw n (state-past a n past)
+      agreement-trailing (state-accepted a) (sym (a .given .row-count) ∙ full) y w hy hw n (state-past (left-as a) n past)
 
 -- Sequences with a first index: nothing below the index k + t is used.
 pub from-unused : {z : Sizes} {count : ℕ} {rows relations : List ℤ} → Passed z count rows relations → (j k : ℤ) → k ≤ℤ j

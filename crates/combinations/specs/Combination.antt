@@ -9,13 +9,14 @@
 -- Main statements
 --   combined-trim      trimmed polynomials have a combination with the same coefficients
 --   lowPart-at, lowPart-take    coefficient k of the low part; the low part is the front where there are 16 coefficients
---   high-free, high-found       the test of the coefficients past power 15
---   low-degrees, length-combinations, trimmed-high   the polynomials of a combination of rows, and which have a degree past 15
+--   past-degrees, high-free, high-found   the test of the coefficients past power 15
+--   combination-at, polynomials-combination, length-combinations   the polynomials of a combination of rows
+--   low-degrees, trimmed-high   which of them have a degree past 15
 --   length-low, trimmed-low, trimmed-zero   the numbers of the low parts: each part, and those that are zero
 --   trimmed-zero-low   where both parts are zero, the degree is not past 15
 --   combinations-apart, low-apart   the left parts and the right sides are combined apart
 --   trimmed-fit        what is trimmed stays within the limits
---   cut-low            the low parts are the cut of the combination
+--   cut-low, StoreRow-cut   the low parts are the cut of the combination
 --   combined-held      a combination within the limits is held by its numbers
 --   numbers-below      the numbers of the low parts are in the range of an i64
 use mathlib.Core.Path.{_≡_, refl, sym, _∙_, ap, ap₂, subst, fun-ext}
@@ -153,7 +154,7 @@ module _ (g p h q : Polynomial) where
   abbrev sum : Polynomial
   sum = add (mul g p) (mul h q)
 
-  past-degrees : (k : ℕ) → max (degree g + degree p) (degree h + degree q) < k → coeff sum k ≡ pos 0
+  pub past-degrees : (k : ℕ) → max (degree g + degree p) (degree h + degree q) < k → coeff sum k ≡ pos 0
   past-degrees k l =
       coeff-add (mul g p) (mul h q) k
       ∙ ap₂ _+ℤ_ (mul-within g p (degree g) (degree p) (coeff-past-degree g) (coeff-past-degree p) k (omega arith))
@@ -270,7 +271,7 @@ module _ (k : ℕ) (g h : Polynomial) (t u : List ℤ) where
       (parts-length coefficientCount k t ∙ sym (parts-length coefficientCount k u))
       ∙ parts-length coefficientCount k t
 
-  combination-at : (e : ℕ) → e < k → getD (combinations k g h t u) e [] ≡ entryAt e
+  pub combination-at : (e : ℕ) → e < k → getD (combinations k g h t u) e [] ≡ entryAt e
   unfolding combinations
   combination-at e l =
       getD-zipWith (λ p q. add (mul g p) (mul h q)) (parts coefficientCount k t) (parts coefficientCount k u) e [] [] []
@@ -327,7 +328,7 @@ module _ (g h : Polynomial) (t u : List ℤ) where
   abbrev combination : Row
   combination = combine g h (rowOf t) (rowOf u)
 
-  polynomials-combination : polynomialsOf combination ≡ combinations partCount g h t u
+  pub polynomials-combination : polynomialsOf combination ≡ combinations partCount g h t u
   unfolding combinations
   polynomials-combination =
       polynomials-combine g h columnCount (rowOf t) (rowOf u) (length-blocks t ∙ sym (length-blocks u)) (columns t) (columns u)
@@ -355,7 +356,7 @@ module _ (g h : Polynomial) (t u : List ℤ) where
         ∙ ap flatten (sym (low-front (combinations partCount g h t u) long-combinations))
 
     -- The row divided by d, cut to 16 coefficients.
-    StoreRow-cut : (f : Polynomial → Polynomial) → ((p : Polynomial) → length (f p) ≡ length p) → StoreRow (cut (mapRow f combination))
+    pub StoreRow-cut : (f : Polynomial → Polynomial) → ((p : Polynomial) → length (f p) ≡ length p) → StoreRow (cut (mapRow f combination))
     unfolding cut mapRow combine rowOf zipWith All
     StoreRow-cut f e =
         store-row (cut (mapRow f combination)) refl (refl, (refl, (refl, (refl, (refl, tt)))))

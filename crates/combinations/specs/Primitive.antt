@@ -8,6 +8,7 @@
 --   divided-apart         two lists of numbers, divided one by one
 --   content-below         the content is at most as large as the numbers
 --   degree-kept           the division does not change which polynomials have degrees up to 15
+--   content-cut           where all have, the row that is cut to 16 coefficients has the content of the row
 --   cut-primitive         where all have, the row may be cut to 16 coefficients before the division
 --   limit-past, limit-low the answer for a row whose degrees pass 15, and for one whose degrees do not
 --   degrees-within        a row within both limits is within that of the coefficients
@@ -115,7 +116,7 @@ module _ (d : ℕ) (positive : 0 < d) where
       (divides-append d (take coefficientCount p) (drop coefficientCount p)
       (subst (λ q. d ∣ content q) (sym (take-append-drop coefficientCount p)) h) .1))
 
-  divided-every : (ps : List Polynomial) → d ∣ content (flatten ps) → every isLow (map (divideBy d) ps) ≡ every isLow ps
+  pub divided-every : (ps : List Polynomial) → d ∣ content (flatten ps) → every isLow (map (divideBy d) ps) ≡ every isLow ps
   unfolding flatten every
   divided-every [] h = refl
   divided-every (p ∷ ps) h =
@@ -154,27 +155,28 @@ numbers-cut : (r : Row) → coefficientsOf (cut r) ≡ flatten (map (take coeffi
 unfolding cut
 numbers-cut r = numbers-mapRow (take coefficientCount) r
 
-cut-divided : (d : ℕ) (r : Row) → coefficientsOf (cut (mapRow (divideBy d) r)) ≡ divideBy d (coefficientsOf (cut r))
+pub cut-divided : (d : ℕ) (r : Row) → coefficientsOf (cut (mapRow (divideBy d) r)) ≡ divideBy d (coefficientsOf (cut r))
 unfolding divideBy
 cut-divided d r =
     numbers-cut (mapRow (divideBy d) r)
     ∙ ap flatten (ap (map (take coefficientCount)) (polynomials-mapRow (divideBy d) r) ∙ map-divide-take d (polynomialsOf r))
     ∙ flatten-map (λ a. quotZ a (pos d)) (map (take coefficientCount) (polynomialsOf r)) ∙ ap (divideBy d) (sym (numbers-cut r))
 
+-- Where all degrees are at most 15, the row that is cut has the content of the row.
+pub content-cut : (r : Row) → T (lowDegrees r) → content (coefficientsOf (cut r)) ≡ content (coefficientsOf r)
+content-cut r low =
+    ap content (numbers-cut r) ∙ content-low (polynomialsOf r) (subst T (lowDegrees-every r) low)
+    ∙ ap content (sym (numbers-polynomials r))
+
 pub cut-primitive : (r : Row) → T (lowDegrees r) → coefficientsOf (cut (primitive r)) ≡ primitiveNumbers (coefficientsOf (cut r))
 unfolding primitive primitiveNumbers coefficientsOf
 cut-primitive r low =
-    go (content (coefficientsOf r)) ∙ ap (λ d. divideUnlessZero d (coefficientsOf (cut r))) (sym same)
+    go (content (coefficientsOf r)) ∙ ap (λ d. divideUnlessZero d (coefficientsOf (cut r))) (sym (content-cut r low))
   where
     go : (d : ℕ) → coefficientsOf (cut (elim d [ zero ↦ r | suc e ↦ mapRow (divideBy (suc e)) r ]))
         ≡ divideUnlessZero d (coefficientsOf (cut r))
     go zero = refl
     go (suc d) = cut-divided (suc d) r
-
-    same : content (coefficientsOf (cut r)) ≡ content (coefficientsOf r)
-    same =
-        ap content (numbers-cut r) ∙ content-low (polynomialsOf r) (subst T (lowDegrees-every r) low)
-        ∙ ap content (sym (numbers-polynomials r))
 
 -- ---- the answer
 

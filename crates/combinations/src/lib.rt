@@ -19,6 +19,7 @@ ghost use Rattle.working_rows.specs.Working.{numbersHeld, Full};
 ghost use Rattle.working_rows.specs.Worked.{refusalOf, workedRow};
 ghost use Rattle.combinations.specs.Combination.{trim, lowPart, combinations, lowNumbers};
 ghost use Rattle.combinations.specs.Primitive.{isLow, primitiveNumbers};
+ghost use Rattle.combinations.specs.LowRows.{LowRow, ContentOf};
 ghost use Rattle.polynomials.specs.Content.{Below};
 
 // The coefficients up to the highest nonzero one.
@@ -84,7 +85,13 @@ fn put_combined(place: &mut [i64], g: &[i64], p: &[i64], h: &[i64], q: &[i64])
 
 // The low coefficients of the combinations of the polynomials of two lists of numbers, over zeros, up to the first whose degree is past 15:
 // is there one? Nothing is done for polynomials that are zero in both.
-fn low_combination(place: &mut [i64], g: &[i64], h: &[i64], target: &[i64], pivot: &[i64]) -> bool
+pub fn low_combination(
+    place: &mut [i64],
+    g: &[i64],
+    h: &[i64],
+    target: &[i64],
+    pivot: &[i64],
+) -> bool
     requires { ⌜
         (length (now g) ≡ coefficientCount) × T (every small (now g)) × (length (now h) ≡ coefficientCount) × T (every small (now h)) ⌝ }
     requires { ⌜
@@ -138,6 +145,41 @@ fn primitive_part(
     working_rows::limits::consistent(left, side)
 }
 
+// The coefficients of g × target + h × pivot up to power 15, for the left part and the right side; if a degree is past 15, they are not
+// all there (SCOPE 2.41, 2.43).
+struct Low {
+    past: bool,
+    entries: [i64; ENTRIES],
+    right: [i64; COEFFICIENTS],
+}
+
+fn low_row(g: &[i64], h: &[i64], target: WorkingRow, pivot: WorkingRow) -> Low
+    requires { ⌜
+        (length (now g) ≡ coefficientCount) × T (every small (now g)) × (length (now h) ≡ coefficientCount) × T (every small (now h)) ⌝ }
+    requires { ⌜ Full target × Full pivot × T (every small (numbersHeld target)) × T (every small (numbersHeld pivot)) ⌝ }
+    ensures { λ r. ⌜ LowRow (combine (now (g .entry)) (now (h .entry)) (rowOf (numbersHeld target)) (rowOf (numbersHeld pivot))) r ⌝ }
+{
+    let a = target.entries;
+    let b = pivot.entries;
+    let mut entries = [0i64; ENTRIES];
+    let mut right = [0i64; COEFFICIENTS];
+    if low_combination(&mut entries, g, h, &a[..], &b[..]) {
+        return Low {
+            past: true,
+            entries,
+            right,
+        };
+    }
+    let s = target.right;
+    let t = pivot.right;
+    let past = low_combination(&mut right, g, h, &s[..], &t[..]);
+    Low {
+        past,
+        entries,
+        right,
+    }
+}
+
 // g × target + h × pivot, divided by its content (SCOPE 2.41, 2.42). A degree past 15 is refused with 7; if there is
 // none, a coefficient past ±C with 8; a row whose left part alone is zero with 10 (SCOPE 2.43, 2.44, 2.46). The division does not
 // change a degree, so the degrees are looked at first.
@@ -155,17 +197,28 @@ pub fn combined(
     ensures { λ r. ⌜ r .row ≡ workedRow (consistent (limitDegrees (primitive
         (combine (now (g .entry)) (now (h .entry)) (rowOf (numbersHeld target)) (rowOf (numbersHeld pivot)))))) ⌝ }
 {
-    let a = target.entries;
-    let b = pivot.entries;
-    let mut entries = [0i64; ENTRIES];
-    if low_combination(&mut entries, g, h, &a[..], &b[..]) {
+    let low = low_row(g, h, target, pivot);
+    if low.past {
         return working_rows::limits::broken(7);
     }
-    let s = target.right;
-    let t = pivot.right;
-    let mut right = [0i64; COEFFICIENTS];
-    if low_combination(&mut right, g, h, &s[..], &t[..]) {
-        return working_rows::limits::broken(7);
-    }
+    let entries = low.entries;
+    let right = low.right;
     primitive_part(entries, right)
+}
+
+// What that combination is divided by (SCOPE 2.42). If a degree is past 15, which is refused, the content is not asked for.
+pub fn combined_content(g: &[i64], h: &[i64], target: WorkingRow, pivot: WorkingRow) -> u64
+    requires { ⌜
+        (length (now g) ≡ coefficientCount) × T (every small (now g)) × (length (now h) ≡ coefficientCount) × T (every small (now h)) ⌝ }
+    requires { ⌜ Full target × Full pivot × T (every small (numbersHeld target)) × T (every small (numbersHeld pivot)) ⌝ }
+    ensures { λ r. ⌜ ContentOf
+        (combine (now (g .entry)) (now (h .entry)) (rowOf (numbersHeld target)) (rowOf (numbersHeld pivot))) r ⌝ }
+{
+    let low = low_row(g, h, target, pivot);
+    if low.past {
+        return 0;
+    }
+    let entries = low.entries;
+    let right = low.right;
+    polynomials::content::content_of_both(&entries[..], &right[..])
 }

@@ -8,3 +8,4 @@ pub mod Differentials
 pub mod RecordNumbers
 pub mod StateNumbers
 pub mod StepNumbers
+pub mod LogNumbers

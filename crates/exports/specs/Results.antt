@@ -9,6 +9,7 @@
 --   onAcceptance-none, onAcceptance-some   such a store, by the refusal
 --   none-checked               stores that hold nothing are too short
 --   small-fits, small-value    a small count is in the range of an i64, and is the number that it is cast to
+--   steps-fits, steps-value    so is a number of steps, or of steps up
 --   answer-value               so is 1 or 0 for yes or no
 --   four-members, four-columns   four members of a list, and the numbers of an order of four columns, one by one
 --   sizes-told                 sizes as they are handed on
@@ -29,6 +30,7 @@ use Rattle.rules.specs.Limits.{rowLength}
 use Rattle.integers.specs.Ranges.{sfits-size}
 use Rattle.rules.specs.Stores.{Sizes, sizesRight, countRight, lengthsRight, numbersRight, rowNeed, checkStores, equations}
 use Rattle.lists.specs.Overwritten.{overwrite}
+use Rattle.logs.specs.Logs.{mostSteps}
 
 pub record Exported : Type 0 where
   pub refusal : ℕ
@@ -74,6 +76,12 @@ small-fits n h = sfits-size (pos n) h (lit< tt)
 
 pub small-value : (n : ℕ) → n ≤ 64 → toZ w64 n ≡ pos n
 small-value n h = toZ-pos w64 (omega arith)
+
+pub steps-fits : (n : ℕ) → n ≤ mostSteps → SFits w64 (pos n)
+steps-fits n h = sfits-size (pos n) h (lit< tt)
+
+pub steps-value : (n : ℕ) → n ≤ mostSteps → toZ w64 n ≡ pos n
+steps-value n h = toZ-pos w64 (omega arith)
 
 pub answer-value : (b : Bool) → toZ w64 (boolByte b) ≡ pos (cond b 1 0)
 answer-value true = small-value 1 (omega arith)

@@ -12,7 +12,8 @@
 --   refused-numbers        on a refusal the needed part of the result store is zero where it is written
 --   kept-early, kept-late  the result store by the refusal
 --   run-short, run-done    the call with a result store that is too short, and with one that is long enough
---   run-small              the result of every run is small
+--   settled-small          the result of a final state is small
+--   run-zeros, run-small   the result of a refusal is small, and that of every run
 use Prim.Native.Nat.{ℕ, zero, suc, _≤_, _<_, zero-le}
 use native.Mathlib.Nat.{le-trans, le-of-suc-le-suc, mul-le-mul}
 use native.Mathlib.Omega.{arith}
@@ -26,16 +27,18 @@ use lib.Signed.{≤ℤ-refl}
 use lib.ListN.{length}
 use Rattle.rules.specs.Limits.{columnCount}
 use Rattle.lists.specs.Everywhere.{All, all-map, getD-all}
-use Rattle.rules.specs.Elimination.{Side, State, Outcome, going, done, refused, wholeRun, report, neverNumber}
+use Rattle.rules.specs.Elimination.{Side, State, Outcome, going, done, refused, rank, wholeRun, report, neverNumber}
 use Rattle.rules.specs.Stores.{Sizes, Valid, span, rowsOf, relationsOf, sizesRight, countRight, lengthsRight, numbersRight, checkStores}
-use Rattle.rules.specs.Stores.{equations}
+use Rattle.rules.specs.Stores.{equations, withEquations}
 use Rattle.rules.specs.Layout.{SizeBounds, size-bounds, checkStores-order, stores-valid, countRight-iff, block-place}
 use Rattle.lists.specs.Padded.{length-padTo, all-padTo}
 use Rattle.theory.specs.Demands.{Accepted, Ended, accepted, seven, eight, nine, ten, run-ends, shifts-bounded, output-valid}
-use Rattle.theory.specs.Demands.{diagonal-nonzero, rank-most}
+use Rattle.theory.specs.Demands.{diagonal-nonzero}
+use Rattle.theory.specs.Settled.{Diagonal, diagonal-most}
 use Rattle.rules.specs.Calls.{reportedOrder}
 use Rattle.rules.specs.Calls.{Result, Call, callRun, zeros, refusal, unchanged, cleared, acceptance, afterRun, afterCheck}
 use Rattle.lists.specs.Overwritten.{overwrite}
+use Rattle.logs.specs.Logs.{mostSteps}
 use Rattle.exports.specs.Results.{Exported, kept, runNeed, none-checked}
 use Rattle.exports.specs.Times.{times-few}
 
@@ -78,10 +81,10 @@ pub refused-numbers : (n : ℕ) → runNumbers (refusal n) ≡ zeros runNeed
 unfolding runNumbers refusal zeros
 refused-numbers n = refl
 
--- Counts and columns that fit into a number of the result store.
+-- Counts and columns that fit into a number of the result store. A replay has the most shifts: no more than its log has steps (SCOPE 13.1).
 pub record SmallResult (r : Result) : Type 0 where
   pub few-relations : r .relations ≤ 16
-  pub few-shifts : r .shifts ≤ 48
+  pub few-shifts : r .shifts ≤ mostSteps
   pub four : length (r .order) ≡ columnCount
   pub columns : All (λ c. c ≤ columnCount) (r .order)
   pub low-rank : r .rank ≤ columnCount
@@ -144,7 +147,7 @@ few-checks true true false = omega arith
 few-checks true false n = omega arith
 few-checks false l n = omega arith
 
-run-zeros : (n : ℕ) → SmallResult (refusal n)
+pub run-zeros : (n : ℕ) → SmallResult (refusal n)
 unfolding refusal All
 run-zeros n =
     record {
@@ -155,6 +158,28 @@ run-zeros n =
       low-rank = zero-le;
       few-times = zero-le;
     }
+
+-- A final state has few relations and rows, and its columns are below m.
+pub settled-small : (side : Side) (z : Sizes) (s : State) → SizeBounds z → Valid (withEquations (rank s) z) (s .rows) (s .relations)
+    → Diagonal side (rank s) (z .m) (span z) s → s .shifts ≤ mostSteps → SmallResult (acceptance side (span z) s)
+unfolding acceptance reportedOrder
+settled-small side z s bounds v d few =
+    record {
+      few-relations = countRight-iff (length (s .relations)) .0 (v .relation-count);
+      few-shifts = few;
+      four = length-padTo 4 0 (map suc (s .order));
+      columns = all-padTo (λ c. c ≤ 4) 4 0 (map suc (s .order)) zero-le (all-map (λ c. c ≤ 4) suc (s .order) .1 below);
+      low-rank = low;
+      few-times = times-few side (span z) s (v .row-shapes) low (report side (span z) s);
+    }
+  where
+    low : rank s ≤ 4
+    low = le-trans (diagonal-most d) (bounds .few)
+
+    below : All (λ c. suc c ≤ 4) (s .order)
+    below =
+        getD-all (λ c. suc c ≤ 4) (s .order) 0
+        (λ j h. le-trans (d .column-below j (subst (λ n. j < n) (d .order-count) h)) (bounds .few))
 
 module _ (side : Side) (z : Sizes) (count : ℕ) (rowStore relationStore : List ℤ) where
   abbrev outcome : Outcome
@@ -179,27 +204,16 @@ module _ (side : Side) (z : Sizes) (count : ℕ) (rowStore relationStore : List 
     bounds = size-bounds z (valid .sizes)
 
     accepted-small : (s : State) → outcome ≡ done s → SmallResult (acceptance side (span z) s)
-    unfolding acceptance reportedOrder span
+    unfolding span
     accepted-small s f =
-        record {
-          few-relations = countRight-iff (length (s .relations)) .0 (output-valid a .relation-count);
-          few-shifts = omega (arith, shifts-bounded a, mul-le-mul (bounds .few-equations) few-blocks);
-          four = length-padTo 4 0 (map suc (s .order));
-          columns = all-padTo (λ c. c ≤ 4) 4 0 (map suc (s .order)) zero-le (all-map (λ c. c ≤ 4) suc (s .order) .1 below);
-          low-rank = le-trans (rank-most a) (bounds .few);
-          few-times = times-few side (span z) s (output-valid a .row-shapes) (le-trans (rank-most a) (bounds .few)) (report side (span z) s);
-        }
+        settled-small side z s bounds (output-valid a) (diagonal-nonzero a)
+        (omega (arith, shifts-bounded a, mul-le-mul (bounds .few-equations) few-blocks))
       where
         a : Accepted side z (rowsOf (equations z) rowStore) (relationsOf count relationStore) s
         a = record { valid = valid; accepts = f }
 
         few-blocks : span z ≤ 4
         few-blocks = le-of-suc-le-suc (block-place z (z .t) bounds (≤ℤ-refl (z .t)) (bounds .ordered))
-
-        below : All (λ c. suc c ≤ 4) (s .order)
-        below =
-            getD-all (λ c. suc c ≤ 4) (s .order) 0
-            (λ j h. le-trans (diagonal-nonzero a .column-below j (subst (λ n. j < n) (diagonal-nonzero a .order-count) h)) (bounds .few))
 
     -- A run that has begun gives no early refusal.
     late : (o : Outcome) → Ended o → early (afterRun side z o rowStore relationStore .result .refusal) ≡ false

@@ -250,7 +250,7 @@ module _ (x : Held) (rowStore relationStore : List ℤ) where
                 few-steps = small .few-steps;
                 run = record {
                   few-relations = small .run .few-relations;
-                  few-shifts = small .run .few-shifts;
+                  few-shifts = omega (arith, small .run .few-shifts);
                   four = small .run .four;
                   columns = small .run .columns;
                   low-rank = small .run .low-rank;

@@ -29,7 +29,7 @@ pub(crate) fn run_numbers(answer: elimination::RunResult) -> [i64; 10]
 }
 
 // The result store after a run: unchanged where the refusal was found before the work began (SCOPE 3.54).
-fn put_run(result: &mut [i64], answer: elimination::RunResult)
+pub(crate) fn put_run(result: &mut [i64], answer: elimination::RunResult)
     requires { ⌜ (10 ≤ length (now result)) × SmallResult (resultOf answer) ⌝ }
     ensures { λ _. ⌜ now (result .exit) ≡ keptOr (answer .refusal) (runNumbers (resultOf answer)) (now (result .entry)) ⌝ }
 {

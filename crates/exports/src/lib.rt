@@ -1,6 +1,6 @@
 // The entry points for programs in C and other languages, by plain names: the public calls of `elimination`, `sheets`,
-// `differential`, `records` and `steps`, and the whole batch of `batches`, the fields of whose results are numbers of a lent store. No
-// `requires`, and contracts that give the refusal and every lent store by equations (SCOPE 3.51, 9.1, 9.2).
+// `differential`, `records`, `steps` and `logs`, and the whole batch of `batches`, the fields of whose results are numbers of a lent
+// store. No `requires`, and contracts that give the refusal and every lent store by equations (SCOPE 3.51, 9.1, 9.2).
 use sides::Side;
 ghost use mathlib.Core.Path.{_≡_};
 ghost use Rattle.rules.specs.Elimination.{leading, trailing};
@@ -12,8 +12,10 @@ ghost use Rattle.exports.specs.Differentials.{exportDifferential, export
 ghost use Rattle.exports.specs.RecordNumbers.{exportRecord};
 ghost use Rattle.exports.specs.StateNumbers.{exportPrepare};
 ghost use Rattle.exports.specs.StepNumbers.{exportSteps};
+ghost use Rattle.exports.specs.LogNumbers.{exportReplay, exportLogged};
 
 mod either_side;
+mod logged;
 mod numbers;
 mod reads;
 mod recorded;
@@ -273,4 +275,70 @@ pub extern "C" fn wurgalm_run_steps(
         ≡ exportSteps budget (now (rows .entry)) (now (relations .entry)) (now (state .entry)) (now (result .entry)) ⌝ }
 {
     stepped::exported_steps(rows, relations, state, budget, result)
+}
+
+// A run on the leading side with its log. `log` gets the steps and behind them the columns; `result` gets eleven numbers: the ten of a
+// run and the steps of the log (SCOPE 13.52, 13.55).
+#[no_mangle]
+pub extern "C" fn wurgalm_run_logged(
+    rows: &mut [i64],
+    relations: &mut [i64],
+    m: usize,
+    equations: usize,
+    l: i64,
+    t: i64,
+    count: usize,
+    log: &mut [i64],
+    result: &mut [i64],
+) -> u8
+    ensures { λ r. ⌜
+        record {
+          refusal = r;
+          rowStore = now (rows .exit);
+          relationStore = now (relations .exit);
+          logStore = now (log .exit);
+          resultStore = now (result .exit);
+        }
+        ≡ exportLogged (record { m = m; equations = equations; l = l; t = t }) count
+        (now (log .entry)) (now (rows .entry)) (now (relations .entry)) (now (result .entry)) ⌝ }
+{
+    logged::exported_run(
+        rows,
+        relations,
+        stores::validity::Sizes { m, equations, l, t },
+        count,
+        log,
+        result,
+    )
+}
+
+// The replay of a log of so many steps, from wherever it comes. `result` gets the ten numbers of a run, whose shifts are the steps up
+// (SCOPE 13.4, 13.43).
+#[no_mangle]
+pub extern "C" fn wurgalm_replay(
+    rows: &mut [i64],
+    relations: &mut [i64],
+    m: usize,
+    equations: usize,
+    l: i64,
+    t: i64,
+    count: usize,
+    steps: usize,
+    log: &[i64],
+    result: &mut [i64],
+) -> u8
+    ensures { λ r. ⌜
+        record { refusal = r; rowStore = now (rows .exit); relationStore = now (relations .exit); resultStore = now (result .exit) }
+        ≡ exportReplay (record { m = m; equations = equations; l = l; t = t }) count steps
+        (now (log .entry)) (now (rows .entry)) (now (relations .entry)) (now (result .entry)) ⌝ }
+{
+    logged::exported_replay(
+        rows,
+        relations,
+        stores::validity::Sizes { m, equations, l, t },
+        count,
+        steps,
+        log,
+        result,
+    )
 }

@@ -10,4 +10,16 @@ pub mod LogCalls
 pub mod LogCallLaws
 pub mod ShiftedDown
 pub mod Divided
+pub mod StoreChanges
+pub mod LoweredRows
+pub mod Divisions
+pub mod StoreCombinations
+pub mod Given
+pub mod Replays
+pub mod Endings
+pub mod ReplayCalls
 pub mod LogExamples
+pub mod OwnLines
+pub mod LineLaws
+pub mod LoggedSteps
+pub mod LoggedRuns

@@ -40,10 +40,10 @@ use Rattle.rules.specs.Layout.{SizeBounds, coefficientsOf-rowOf-all}
 use Rattle.rules.specs.Rows.{Row, Relation, smallRow}
 use Rattle.rules.specs.Stores.{Sizes, span, rowOf, rowsOf, rowNeed, relationOf, relationsOf, rowRight, relationRight, unusedZero}
 use Rattle.stores.specs.Validity.{index-at, row-after}
+use Rattle.evaluation.specs.Evaluated.{farthest}
 use Rattle.records.specs.Records.{equation, relation, Tested, rowSum, rowTests, equationTests, relationTests, inside, sumAt}
 use Rattle.records.specs.Records.{indexFrom, topAt}
 use Rattle.records.specs.Records.{Answer, fits, fails, refused, limitPassed, answerTo, indexBound, mostVectors}
-use Rattle.records.specs.RecordSums.{farthest}
 use Rattle.records.specs.RecordPlaces.{top-at}
 use Rattle.records.specs.declared.Answer as declared
 use Rattle.records.specs.declared.Answer.the-variants as code

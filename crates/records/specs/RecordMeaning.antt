@@ -7,7 +7,6 @@
 --   Agrees              a sequence that has the recorded vectors
 --
 -- Main statements
---   horner-eval         where Horner's rule gives a value, it is that of the polynomial
 --   horner-none         it gives none exactly if a value on the way is past the limit
 --   rowSum-none         the sum of a row is none exactly if one of its polynomials passes the limit
 --   sum-value           a sum that is formed is the row's value on every sequence that agrees with the record
@@ -31,8 +30,8 @@ use Rattle.rules.specs.Rows.{Block, Row, zeroBlock}
 use Rattle.rules.specs.Sequences.{Sequence, blockValue, blocksValue, leftValue, valueOf}
 use Rattle.rules.specs.Stores.{Sizes, span, unusedZero}
 use Rattle.theory.specs.Values.{block-zero, blocks-append-zero, index-below}
-use Rattle.records.specs.Records.{valueLimit, within, after, horner, withBlock, withBlocks, lessRight, rowSum, topAt, sumAt, inside}
-use Rattle.records.specs.RecordSums.{some-none, after-some, within-size}
+use Rattle.evaluation.specs.Evaluated.{valueLimit, within, after, horner, some-none, after-some, within-size, horner-eval}
+use Rattle.records.specs.Records.{withBlock, withBlocks, lessRight, rowSum, topAt, sumAt, inside}
 use Rattle.records.specs.RecordPlaces.{top-index, top-at, inside-index}
 
 -- ---- Horner's rule
@@ -50,13 +49,6 @@ after-none : {A B : Type 0} (f : A → Option B) (o : Option A) → after f o �
 unfolding after
 after-none f none e = inl refl
 after-none f (some v) e = inr (v, refl, e)
-
-pub horner-eval : (n : ℤ) (p : Polynomial) (v : ℤ) → horner n p ≡ some v → v ≡ eval p n
-unfolding horner eval
-horner-eval n [] v e = cc
-horner-eval n (a ∷ p) v e =
-    let w = after-some (λ v. within (a +ℤ n *ℤ v)) (horner n p) v e in
-    within-size (a +ℤ n *ℤ w .0) v (w .2) .0 ∙ ap (λ x. a +ℤ n *ℤ x) (horner-eval n p (w .0) (w .1))
 
 horner-near : (n : ℤ) (p : Polynomial) (v : ℤ) → horner n p ≡ some v → (i : ℕ) → natAbs (eval (drop i p) n) ≤ valueLimit
 unfolding horner eval

@@ -1,14 +1,9 @@
 -- Sums as the code forms them, one value after another.
 --
 -- Main definitions
---   formedOf            the value that a `Formed` has, none where a value is past the limit
---   farthest            no n that is tested is farther from 0
 --   blockRoom           the products of a block are together no larger
 --
 -- Main statements
---   horner-next, horner-past    a coefficient more, at the low end; what is past the limit stays so
---   after-some                  what comes after a value that is there
---   horner-size                 a value that is formed is within the limit
 --   block-next, block-past      a column more
 --   values-small                the values of a record
 --   block-size                  how far a block can take the sum
@@ -17,92 +12,32 @@
 --   row-left, row-right, row-formed   the right side after the left part
 --   blocks-of, columns-of       the blocks and the columns in use, by their numbers
 --   vector-room                 an earlier vector is there too
-use Prim.Native.Nat.{ℕ, zero, suc, pred, _+_, _*_, _≤_, _<_}
+use Prim.Native.Nat.{ℕ, suc, pred, _+_, _*_, _≤_}
 use native.Mathlib.Nat.{le-refl, mul-le-mul, suc-mul}
 use native.Mathlib.Numerals.{add-one}
 use native.Mathlib.Omega.{arith}
-use mathlib.Core.Path.{_≡_, refl, sym, _∙_, ap}
-use mathlib.Core.Bool.{Bool, true, false, cond}
+use mathlib.Core.Path.{_≡_, sym, _∙_, ap}
 use mathlib.Core.List.{List, [], _∷_, map}
-use mathlib.Core.Option.{Option, none, some}
-use lib.Dec.{T, leb, leb→le, le→leb}
-use lib.ListN.{length, take, drop, getD, length-take}
+use mathlib.Core.Option.{none, some}
+use lib.Dec.{T, leb, leb→le}
+use lib.ListN.{length, take, getD, length-take}
 use lib.IntN.{ℤ, pos, natAbs, _+ℤ_, _-ℤ_, _*ℤ_}
 use Rattle.algebra.specs.Integers.{natAbs-+ℤ, natAbs-*ℤ}
 use Rattle.algebra.specs.Polynomials.{Polynomial}
 use Rattle.lists.specs.Images.{map-take}
-use Rattle.lists.specs.Taken.{drop-next}
-use Rattle.lists.specs.Tests.{every-getD, true-of, false-of}
+use Rattle.lists.specs.Tests.{every-getD}
 use Rattle.rules.specs.Rows.{Block, Row}
 use Rattle.rules.specs.Limits.{coefficientCount, columnCount, blockCount, blockLength}
 use Rattle.rules.specs.Stores.{rowOf}
 use Rattle.rules.specs.Layout.{blockOf}
 use Rattle.lists.specs.Parts.{parts, take-parts, parts-take}
-use Rattle.records.specs.Records.{valueLimit, within, after, horner, withBlock, withBlocks, lessRight, rowSum, valueBound}
+use Rattle.evaluation.specs.Evaluated.{valueLimit, after, horner, after-some, horner-size}
+use Rattle.records.specs.Records.{withBlock, withBlocks, lessRight, rowSum, valueBound}
 use Rattle.records.specs.Records.{valuesRight}
-use Rattle.records.specs.declared.sums.Formed.{Formed}
-use Rattle.records.specs.declared.sums.Formed.the-variants.{Value, Past}
-
-unfoldable pub formedOf : Formed → Option ℤ
-formedOf (Value v) = some v
-formedOf Past = none
-
--- 2^21: the indices of a record are within ±2^20, and blocks reach 64 further.
-abbrev pub farthest : ℕ
-farthest = 2097152
 
 -- 4 × 2^40 × 2^16
 abbrev pub blockRoom : ℕ
 blockRoom = 4 * (valueLimit * valueBound)
-
--- ---- Horner's rule
-
-pub within-yes : (v : ℤ) → natAbs v ≤ valueLimit → within v ≡ some v
-unfolding within
-within-yes v h = ap (λ t. cond t (some v) none) (true-of (leb (natAbs v) valueLimit) (le→leb (natAbs v) valueLimit h))
-
-pub within-no : (v : ℤ) → valueLimit < natAbs v → within v ≡ none
-unfolding within
-within-no v h =
-    ap (λ t. cond t (some v) none)
-    (false-of (leb (natAbs v) valueLimit) (λ t. let k = leb→le (natAbs v) valueLimit t in absurd (omega arith)))
-
-pub within-size : (v w : ℤ) → within v ≡ some w → (w ≡ v) × (natAbs v ≤ valueLimit)
-unfolding within
-within-size v w e = go (leb (natAbs v) valueLimit) (leb→le (natAbs v) valueLimit) e
-  where
-    go : (t : Bool) → (T t → natAbs v ≤ valueLimit) → cond t (some v) none ≡ some w → (w ≡ v) × (natAbs v ≤ valueLimit)
-    go true h e = (cc, h tt)
-    go false h e = absurd (let z : _≡_ {A = ℕ} 0 1 = cc in omega arith)
-
-pub some-none : {A : Type 0} {v : A} → some v ≡ none → ⊥
-some-none e = let z : _≡_ {A = ℕ} 0 1 = cc in omega arith
-
--- What follows a value that is there.
-pub after-some : {A B : Type 0} (f : A → Option B) (o : Option A) (q : B) → after f o ≡ some q → (v : A) × (o ≡ some v) × (f v ≡ some q)
-unfolding after
-after-some f none q e = absurd (some-none (sym e))
-after-some f (some v) q e = (v, refl, e)
-
-pub horner-next : (n : ℤ) (p : Polynomial) (i : ℕ) (v : ℤ) → i < length p → horner n (drop (i + 1) p) ≡ some v
-    → horner n (drop i p) ≡ within (getD p i (pos 0) +ℤ n *ℤ v)
-unfolding horner after
-horner-next n p i v h e =
-    ap (horner n) (drop-next p i (pos 0) h) ∙ ap (after (λ v. within (getD p i (pos 0) +ℤ n *ℤ v))) e
-
-pub horner-past : (n : ℤ) (p : Polynomial) (i : ℕ) → horner n (drop i p) ≡ none → horner n p ≡ none
-unfolding horner after
-horner-past n p zero e = e
-horner-past n [] (suc i) e = e
-horner-past n (a ∷ p) (suc i) e = ap (after (λ v. within (a +ℤ n *ℤ v))) (horner-past n p i e)
-
-pub horner-size : (n : ℤ) (p : Polynomial) (v : ℤ) → horner n p ≡ some v → natAbs v ≤ valueLimit
-unfolding horner
-horner-size n [] v e = let z : v ≡ pos 0 = cc in rw z (omega arith)
-horner-size n (a ∷ p) v e =
-    let w = after-some (λ v. within (a +ℤ n *ℤ v)) (horner n p) v e in
-    let both = within-size (a +ℤ n *ℤ w .0) v (w .2) in
-    rw (both .0) (both .1)
 
 -- ---- a block
 

@@ -1,8 +1,6 @@
 -- Recorded vectors, and whether a system explains them.
 --
 -- Main definitions
---   valueLimit, within      2^40, and a value unless it is past it
---   horner n p              the value of p at n by Horner's rule, none where a value on the way is past the limit
 --   withBlock, withBlocks   a sum with the products of a block's columns, and of a row's blocks, added one by one
 --   lessRight, rowSum, sumAt   the sum that a row makes at n on a record, less its right side; none where a value is past the limit
 --   Which, Tested           an equation or a relation by its number; what a test has: which, its index and its sum
@@ -20,29 +18,10 @@ use lib.ListN.{length, take, getD}
 use lib.IntN.{ℤ, pos, natAbs, _+ℤ_, _-ℤ_, _*ℤ_}
 use lib.Signed.{leZ, ltZ}
 use Rattle.algebra.specs.Polynomials.{Polynomial, isZeroℤ}
+use Rattle.evaluation.specs.Evaluated.{after, horner}
 use Rattle.lists.specs.Tests.{every}
 use Rattle.rules.specs.Rows.{Block, Row, Relation}
 use Rattle.rules.specs.Stores.{Sizes, equations, span, rowsOf, relationsOf, sizesRight, countRight, lengthsRight, numbersRight}
-
--- ---- Horner's rule with its limit
-
--- No value of Horner's rule may pass ±2^40 (SCOPE 12.31).
-abbrev pub valueLimit : ℕ
-valueLimit = 1099511627776
-
-unfoldable pub within : ℤ → Option ℤ
-within v = cond (leb (natAbs v) valueLimit) (some v) none
-
--- What follows a value, and nothing where there is none.
-unfoldable pub after : {A B : Type 0} → (A → Option B) → Option A → Option B
-after f none = none
-after f (some v) = f v
-
--- From the highest power down, over all coefficients that are there: zeros at the top leave the value at 0.
-unfoldable pub horner : ℤ → Polynomial → Option ℤ
-unfolding after within
-horner n [] = some (pos 0)
-horner n (a ∷ p) = after (λ v. within (a +ℤ n *ℤ v)) (horner n p)
 
 -- ---- the sum of a row on a record
 

@@ -1,8 +1,8 @@
 // Recorded vectors: does a system explain them? `check_record` is the public entry point: no `requires`, and a contract that gives the
 // answer by one equation. It only reads what it is lent.
+use evaluation::Formed;
 use stores::lengths::RELATION;
 use stores::lengths::ROW;
-use sums::Formed;
 ghost use mathlib.Core.Path.{_≡_};
 ghost use mathlib.Core.Bool.{_&&_};
 ghost use mathlib.Core.List.{[], _∷_};
@@ -16,8 +16,8 @@ ghost use Rattle.rules.specs.Limits.{columnCount, mostSpan, rowLength, relation
 ghost use Rattle.rules.specs.Rows.{smallRow};
 ghost use Rattle.rules.specs.Stores as Stores;
 ghost use Rattle.stores.specs.Validity.{sizesOf};
+ghost use Rattle.evaluation.specs.Evaluated.{farthest};
 ghost use Rattle.records.specs.Records as Records;
-ghost use Rattle.records.specs.RecordSums.{farthest};
 ghost use Rattle.records.specs.RecordAnswers.{answerOf};
 
 mod checks;

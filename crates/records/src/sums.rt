@@ -1,4 +1,5 @@
 // The sum that a row makes at n on a record (SCOPE 12.21, 12.31).
+use evaluation::Formed;
 use polynomials::lengths::COEFFICIENTS;
 use stores::lengths::BLOCK;
 use stores::lengths::ENTRIES;
@@ -11,38 +12,13 @@ ghost use Rattle.lists.specs.Tests.{every};
 ghost use Rattle.lists.specs.Parts.{parts};
 ghost use Rattle.rules.specs.Limits.{small, coefficientCount, columnCount, blockLength, rowLength, mostSpan};
 ghost use Rattle.rules.specs.Stores.{rowOf};
+ghost use Rattle.evaluation.specs.Evaluated.{formedOf, farthest, valueLimit, horner};
 ghost use Rattle.records.specs.Records as Records;
-ghost use Rattle.records.specs.RecordSums.{formedOf, blockRoom, farthest};
-
-// 2^40, which no value of Horner's rule passes (SCOPE 12.31).
-const LIMIT: u64 = 1_099_511_627_776;
-
-// A value or a sum, or that a value passed the limit.
-pub(crate) enum Formed {
-    Value(i64),
-    Past,
-}
-
-// Horner's rule, from the highest power down (SCOPE 12.31).
-fn horner(p: &[i64], n: i64) -> Formed
-    requires { ⌜ T (every small (now p)) × (natAbs n ≤ farthest) ⌝ }
-    ensures { λ r. ⌜ formedOf r ≡ Records.horner n (now (p .entry)) ⌝ }
-{
-    let mut i = p.len();
-    let mut value: i64 = 0;
-    while 0 < i {
-        i -= 1;
-        value = p[i] + n * value;
-        if LIMIT < integers::magnitude(value) {
-            return Formed::Past;
-        }
-    }
-    Formed::Value(value)
-}
+ghost use Rattle.records.specs.RecordSums.{blockRoom};
 
 // An entry's product with the number of its column, added to a sum.
 fn plus(sum: i64, value: i64, number: i64) -> i64
-    requires { ⌜ (natAbs sum ≤ 5 * blockRoom) × (natAbs value ≤ Records.valueLimit) × (natAbs number ≤ Records.valueBound) ⌝ }
+    requires { ⌜ (natAbs sum ≤ 5 * blockRoom) × (natAbs value ≤ valueLimit) × (natAbs number ≤ Records.valueBound) ⌝ }
     ensures { λ r. ⌜ r ≡ sum +ℤ value *ℤ number ⌝ }
 {
     sum + value * number
@@ -69,7 +45,7 @@ fn with_block(
     while c < m {
         let begin = at + c * COEFFICIENTS;
         let end = begin + COEFFICIENTS;
-        let Formed::Value(value) = horner(&row[begin..end], n) else {
+        let Formed::Value(value) = evaluation::horner(&row[begin..end], n) else {
             return Formed::Past;
         };
         sum = plus(sum, value, values[from + c]);
@@ -116,7 +92,7 @@ pub(crate) fn row_sum(
     let Formed::Value(left) = with_blocks(row, n, values, m, span, top) else {
         return Formed::Past;
     };
-    let Formed::Value(right) = horner(&row[ENTRIES..], n) else {
+    let Formed::Value(right) = evaluation::horner(&row[ENTRIES..], n) else {
         return Formed::Past;
     };
     Formed::Value(left - right)

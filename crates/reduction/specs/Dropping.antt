@@ -173,7 +173,7 @@ module _ (n : ℕ) (store : List ℤ) (w : Within (rowNeed n) store) (i : ℕ) (
       one : (n - (n - 1)) * rowLength ≡ rowLength
       one = omega arith
 
-  dropped-rows : rowsOf (n - 1) after ≡ without (rowsOf n store) i
+  pub dropped-rows : rowsOf (n - 1) after ≡ without (rowsOf n store) i
   unfolding rowsOf
   dropped-rows =
       ap (map rowOf)

@@ -41,7 +41,7 @@ unfoldable pub Storable : Limited → Type 0
 Storable (within r) = Held r
 Storable (beyond n) = 0 < n
 
-coefficients-storable : (q : Row) → ((r : Row) → limitCoefficients q ≡ within r → Held r) → Storable (limitCoefficients q)
+pub coefficients-storable : (q : Row) → ((r : Row) → limitCoefficients q ≡ within r → Held r) → Storable (limitCoefficients q)
 unfolding Storable limitCoefficients
 coefficients-storable q h = cases (smallRow q) h
   where
@@ -49,7 +49,7 @@ coefficients-storable q h = cases (smallRow q) h
     cases true h = h q refl
     cases false h = lit< tt
 
-degrees-storable : (q : Row) → ((r : Row) → limitDegrees q ≡ within r → Held r) → Storable (limitDegrees q)
+pub degrees-storable : (q : Row) → ((r : Row) → limitDegrees q ≡ within r → Held r) → Storable (limitDegrees q)
 unfolding Storable limitDegrees
 degrees-storable q h = cases (lowDegrees q) h
   where

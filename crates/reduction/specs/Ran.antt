@@ -5,7 +5,9 @@
 --   progressOf s                   how far a run has come with the state s
 --   answerFor equations x          the answer of a run with the outcome x
 --   rowsAfter equations x store, relationsAfter x store   the stores after it: the state of x, or zeros after a refusal
---   Ran equations .. o x                   the answer o and both stores are those of x, and the stores are ready for a step
+--   RanWithin most equations .. o x        the answer o and both stores are those of x, the stores are ready for a step, and there are at
+--                                          most so many shifts
+--   Ran equations .. o x                   the same with the most shifts of a run
 --
 -- Main statements
 --   zeros-small                    zeros are within ±C
@@ -76,11 +78,14 @@ relationsAfter (going s) store = overwrite (relationStoreOf (s .relations)) stor
 relationsAfter (done s) store = overwrite (relationStoreOf (s .relations)) store
 relationsAfter (refused n) store = overwrite (zeros relationNeed) store
 
-pub record Ran (equations : ℕ) (rows relations rows' relations' : List ℤ) (o : Answer.Outcome) (x : Outcome) : Type 0 where
+pub record RanWithin (most equations : ℕ) (rows relations rows' relations' : List ℤ) (o : Answer.Outcome) (x : Outcome) : Type 0 where
   pub answer : o ≡ answerFor equations x
   pub rows-after : rows' ≡ rowsAfter equations x rows
   pub relations-after : relations' ≡ relationsAfter x relations
-  pub reached : Reached equations rows relations rows' relations' mostSteps o x
+  pub reached : Reached equations rows relations rows' relations' most o x
+
+abbrev pub Ran : ℕ → List ℤ → List ℤ → List ℤ → List ℤ → Answer.Outcome → Outcome → Type 0
+Ran = RanWithin mostSteps
 
 -- ---- a run without a refusal
 
@@ -134,11 +139,11 @@ module _ (s : State) where
   held-relations false store = refl
   held-relations true store = refl
 
-pub ran-held : {equations : ℕ} {rows relations rows' relations' : List ℤ} {o : Answer.Outcome} {x : Outcome}
-    → rowNeed equations ≤ length rows → Reached equations rows relations rows' relations' mostSteps o x → o .refusal ≡ 0
-    → Ran equations rows relations rows' relations' o x
+pub ran-held : {most equations : ℕ} {rows relations rows' relations' : List ℤ} {o : Answer.Outcome} {x : Outcome}
+    → rowNeed equations ≤ length rows → Reached equations rows relations rows' relations' most o x → o .refusal ≡ 0
+    → RanWithin most equations rows relations rows' relations' o x
 unfolding stateOf
-ran-held {equations} {rows} {relations} {rows'} {relations'} {o} {x} room r e =
+ran-held {most} {equations} {rows} {relations} {rows'} {relations'} {o} {x} room r e =
     record {
       answer = whole ∙ held-answer s equations (o .done) ∙ ap (answerFor equations) same;
       rows-after =
@@ -256,19 +261,19 @@ unfolding outcomeOf
 refused-is zero d s h = absurd (h refl)
 refused-is (suc n) d s h = refl
 
-refused-outcome : {equations : ℕ} {rows relations rows' relations' : List ℤ} {o : Answer.Outcome} {x : Outcome}
-    → Reached equations rows relations rows' relations' mostSteps o x → o .refusal ≢ 0 → refused (o .refusal) ≡ x
-refused-outcome {equations} {rows} {relations} {rows'} {relations'} {o} r n =
+refused-outcome : {most equations : ℕ} {rows relations rows' relations' : List ℤ} {o : Answer.Outcome} {x : Outcome}
+    → Reached equations rows relations rows' relations' most o x → o .refusal ≢ 0 → refused (o .refusal) ≡ x
+refused-outcome {most} {equations} {rows} {relations} {rows'} {relations'} {o} r n =
     refused-is (o .refusal) (o .done) (stateOf rows' relations' (o .progress)) n ∙ r .outcome
 
 -- Both stores hold zeros, and the progress is that of a run that has not begun.
-ran-zeros : (equations n : ℕ) (rows relations : List ℤ) → n ≢ 0 → equations ≤ mostEquations → rowNeed equations ≤ length rows
+ran-zeros : (most equations n : ℕ) (rows relations : List ℤ) → n ≢ 0 → equations ≤ mostEquations → rowNeed equations ≤ length rows
     → relationNeed ≤ length relations
-    → Ran equations rows relations (overwrite (zeros (rowNeed equations)) rows) (overwrite (zeros relationNeed) relations)
+    → RanWithin most equations rows relations (overwrite (zeros (rowNeed equations)) rows) (overwrite (zeros relationNeed) relations)
     (answerOf n (startProgress equations 0))
     (refused n)
 unfolding answerFor rowsAfter relationsAfter
-ran-zeros equations n rows relations h few rows-long relations-long =
+ran-zeros most equations n rows relations h few rows-long relations-long =
     record {
       answer = refl;
       rows-after = refl;
@@ -294,17 +299,18 @@ ran-zeros equations n rows relations h few rows-long relations-long =
     relations' = overwrite (zeros relationNeed) relations
 
 -- The rows and the relations that are listed when the run is refused are cleared.
-pub ran-cleared : {equations : ℕ} {rows relations rows₁ relations₁ rows₂ relations₂ : List ℤ} {o o' : Answer.Outcome} {x : Outcome}
+pub ran-cleared : {most equations : ℕ} {rows relations rows₁ relations₁ rows₂ relations₂ : List ℤ} {o o' : Answer.Outcome} {x : Outcome}
     → equations ≤ mostEquations → rowNeed equations ≤ length rows
-    → Reached equations rows relations rows₁ relations₁ mostSteps o x → o .refusal ≢ 0
+    → Reached equations rows relations rows₁ relations₁ most o x → o .refusal ≢ 0
     → rows₂ ≡ paste rows₁ 0 (replicate (rowNeed equations) (pos 0)) (rowNeed equations)
     → let used = o .progress .count * relationLength in relations₂ ≡ paste relations₁ 0 (replicate used (pos 0)) used
-    → o' ≡ answerOf (o .refusal) (startProgress equations 0) → Ran equations rows relations rows₂ relations₂ o' x
-ran-cleared {equations} {rows} {relations} {rows₁} {relations₁} {rows₂} {relations₂} {o} {o'} {x} few room r n e f g =
-    subst₂ (λ a b. Ran equations rows relations a b o' x) (sym rows-zero) (sym relations-zero)
-    (subst₂ (Ran equations rows relations (overwrite (zeros (rowNeed equations)) rows) (overwrite (zeros relationNeed) relations)) (sym g)
+    → o' ≡ answerOf (o .refusal) (startProgress equations 0) → RanWithin most equations rows relations rows₂ relations₂ o' x
+ran-cleared {most} {equations} {rows} {relations} {rows₁} {relations₁} {rows₂} {relations₂} {o} {o'} {x} few room r n e f g =
+    subst₂ (λ a b. RanWithin most equations rows relations a b o' x) (sym rows-zero) (sym relations-zero)
+    (subst₂ (RanWithin most equations rows relations (overwrite (zeros (rowNeed equations)) rows)
+    (overwrite (zeros relationNeed) relations)) (sym g)
     (refused-outcome r n)
-    (ran-zeros equations (o .refusal) rows relations n few room
+    (ran-zeros most equations (o .refusal) rows relations n few room
     (long (r .relations-kept) (listing .within .long))))
   where
     long : {need : ℕ} {store after : List ℤ} → Kept need store after → need ≤ length after → need ≤ length store
@@ -326,11 +332,11 @@ ran-cleared {equations} {rows} {relations} {rows₁} {relations₁} {rows₂} {r
         ∙ zeros-over relationNeed relations (r .relations-kept)
 
 -- The stores were changed before the run.
-pub ran-kept : {equations : ℕ} {rows relations rows₁ relations₁ rows₂ relations₂ : List ℤ} {o : Answer.Outcome} {x : Outcome}
+pub ran-kept : {most equations : ℕ} {rows relations rows₁ relations₁ rows₂ relations₂ : List ℤ} {o : Answer.Outcome} {x : Outcome}
     → Kept (rowNeed equations) rows rows₁ → Kept relationNeed relations relations₁ → o .refusal ≢ 0
-    → Ran equations rows₁ relations₁ rows₂ relations₂ o x → Ran equations rows relations rows₂ relations₂ o x
+    → RanWithin most equations rows₁ relations₁ rows₂ relations₂ o x → RanWithin most equations rows relations rows₂ relations₂ o x
 unfolding rowsAfter relationsAfter
-ran-kept {equations} {rows} {relations} {rows₁} {relations₁} {rows₂} {relations₂} {o} {x} h g n r =
+ran-kept {most} {equations} {rows} {relations} {rows₁} {relations₁} {rows₂} {relations₂} {o} {x} h g n r =
     record {
       answer = r .answer;
       rows-after =
@@ -353,5 +359,5 @@ ran-kept {equations} {rows} {relations} {rows₁} {relations₁} {rows₂} {rela
           };
     }
   where
-    reached : Reached equations rows₁ relations₁ rows₂ relations₂ mostSteps o x
+    reached : Reached equations rows₁ relations₁ rows₂ relations₂ most o x
     reached = r .reached

@@ -1,6 +1,7 @@
 -- The cases of a step: which rule comes next for the row that is worked on.
 --
 -- Main statements
+--   found-some, found-none     what a search has found, from its answer
 --   finished-at               the state is finished if the settled rows are all rows that are left
 --   step-zero, step-contradicts   rule 1: a zero row, and one whose left part alone is zero
 --   step-met, met-nonzero     rule 2: settled row j meets a nonzero entry, and the entries are not both zero after the exchange
@@ -61,12 +62,12 @@ first-found (p ∷ ps) = cases (isZero p) refl (firstNonzero ps) (first-found ps
     cases true e (some k) f = (suc-le-suc (f .0), f .1)
     cases false e o f = (zero-lt-suc (length ps), e)
 
-found-some : (n j : ℕ) (o : Option ℕ) → foundOr n o ≡ j → j < n → o ≡ some j
+pub found-some : (n j : ℕ) (o : Option ℕ) → foundOr n o ≡ j → j < n → o ≡ some j
 unfolding foundOr
 found-some n j none e h = absurd (omega arith)
 found-some n j (some k) e h = ap some e
 
-found-none : (n : ℕ) (ps : List Polynomial) → length ps ≤ n → n ≤ foundOr n (firstNonzero ps) → firstNonzero ps ≡ none
+pub found-none : (n : ℕ) (ps : List Polynomial) → length ps ≤ n → n ≤ foundOr n (firstNonzero ps) → firstNonzero ps ≡ none
 unfolding foundOr FoundAt
 found-none n ps h g = cases (firstNonzero ps) (first-found ps) g
   where

@@ -126,13 +126,13 @@ module _ (equations : ℕ) (rows : List ℤ) (w : Within (rowNeed equations) row
       within-paste (rowNeed equations) rows w (j * rowLength) (numbersAt rows i) rowLength long-i (row-room equations j rows w other)
       (small-numbersAt equations rows w i inside)
 
-  within-exchanged : Within (rowNeed equations) exchanged
+  pub within-exchanged : Within (rowNeed equations) exchanged
   within-exchanged =
       within-paste (rowNeed equations) (paste rows (j * rowLength) (numbersAt rows i) rowLength) within-first (i * rowLength)
       (numbersAt rows j) rowLength long-j
       (row-room equations i rows w inside) (small-numbersAt equations rows w j other)
 
-  kept-exchanged : Kept (rowNeed equations) rows exchanged
+  pub kept-exchanged : Kept (rowNeed equations) rows exchanged
   kept-exchanged =
       kept-then
       (kept-paste (rowNeed equations) rows w (j * rowLength) (numbersAt rows i) rowLength long-i (row-room equations j rows w other))
@@ -140,7 +140,8 @@ module _ (equations : ℕ) (rows : List ℤ) (w : Within (rowNeed equations) row
       (numbersAt rows j) rowLength long-j
       (row-room equations i rows w inside))
 
-  rows-exchanged : rowsOf equations exchanged ≡ set (set (rowsOf equations rows) j (rowOf (numbersAt rows i))) i (rowOf (numbersAt rows j))
+  pub rows-exchanged : rowsOf equations exchanged
+      ≡ set (set (rowsOf equations rows) j (rowOf (numbersAt rows i))) i (rowOf (numbersAt rows j))
   unfolding rowNeed
   rows-exchanged =
       rowsOf-paste equations (paste rows (j * rowLength) (numbersAt rows i) rowLength) (numbersAt rows j) i

@@ -7,7 +7,7 @@ ghost use lib.Seq.{paste};
 ghost use Rattle.rules.specs.Limits.{rowLength};
 
 // The `count` numbers that stand one row behind a place, from that place on (SCOPE 2.11).
-pub(crate) fn move_up(store: &mut [i64], at: usize, count: usize)
+pub fn move_up(store: &mut [i64], at: usize, count: usize)
     requires { ⌜ at + rowLength + count ≤ length (now store) ⌝ }
     ensures { λ _. ⌜ now (store .exit) ≡ paste (now (store .entry)) at (drop (at + rowLength) (now (store .entry))) count ⌝ }
 {

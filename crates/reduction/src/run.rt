@@ -15,7 +15,7 @@ ghost use Rattle.reduction.specs.Ran.{runOf, answerFor, rowsAfter, relat
 
 // A bound on the steps that no run reaches (SCOPE 3.24): a settling or a dropping and five shifts for each row, and every settled row
 // before each of those.
-fn enough(equations: usize) -> usize
+pub fn enough(equations: usize) -> usize
     requires { ⌜ equations ≤ mostEquations ⌝ }
     ensures { λ r. ⌜ r ≡ (equations + 1) * (equations + equations * 5) ⌝ }
 {
@@ -23,7 +23,7 @@ fn enough(equations: usize) -> usize
 }
 
 // No row is settled at the start (SCOPE 2.2).
-fn start(equations: usize, count: usize) -> Progress
+pub fn start(equations: usize, count: usize) -> Progress
     ensures { λ r. ⌜ r ≡ startProgress equations count ⌝ }
 {
     Progress {

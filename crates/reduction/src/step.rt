@@ -44,7 +44,7 @@ pub struct Outcome {
 }
 
 // A refusal, or 0: the run goes on.
-pub(crate) fn answer(refusal: u8, p: Progress) -> Outcome
+pub fn answer(refusal: u8, p: Progress) -> Outcome
     ensures { λ r. ⌜ r ≡ answerOf refusal p ⌝ }
 {
     Outcome {
@@ -55,7 +55,7 @@ pub(crate) fn answer(refusal: u8, p: Progress) -> Outcome
 }
 
 // The new row in the place of row i, or the refusal.
-fn put_limited(
+pub fn put_limited(
     rows: &mut [i64],
     i: usize,
     worked: working_rows::limits::Worked,
@@ -75,7 +75,7 @@ fn put_limited(
 }
 
 // The multipliers of rule 2, from the entries of both rows in column c, and the roots of g (SCOPE 2.23 to 2.28).
-fn multipliers_at(target: &[i64], pivot: &[i64], c: usize) -> common_roots::Amended
+pub fn multipliers_at(target: &[i64], pivot: &[i64], c: usize) -> common_roots::Amended
     requires { ⌜ (c < columnCount) × (length (now target) ≡ entriesLength) × (length (now pivot) ≡ entriesLength) ⌝ }
     requires { ⌜ T (every small (now target)) × T (every small (now pivot)) ⌝ }
     requires { ⌜ T (not (isZero (entry (rowOf (now pivot)) c ++ entry (rowOf (now target)) c))) ⌝ }

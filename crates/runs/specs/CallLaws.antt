@@ -285,13 +285,14 @@ module _ (side : Side) (z : Sizes) (count : ℕ) (rows relations rows' relations
           (nonzero-of-diagonal side (rank s) (z .m) (span z) s (triangular e f)))
 
 -- A call by its parts.
-call-of : (c : Call) (r : RunResult) (rows relations : List ℤ) → resultOf r ≡ c .result → rows ≡ c .rowStore → relations ≡ c .relationStore
+pub call-of : (c : Call) (r : RunResult) (rows relations : List ℤ) → resultOf r ≡ c .result → rows ≡ c .rowStore
+    → relations ≡ c .relationStore
     → callOf r rows relations ≡ c
 unfolding callOf
 call-of c r rows relations e f g = λ i. record { result = e i; rowStore = f i; relationStore = g i }
 
 -- What a run that ends leaves is what its call leaves.
-call-after : (side : Side) (z : Sizes) (x : Outcome) (r : RunResult) (rows relations rows' relations' : List ℤ)
+pub call-after : (side : Side) (z : Sizes) (x : Outcome) (r : RunResult) (rows relations rows' relations' : List ℤ)
     → ((s : State) → x ≢ going s) → resultOf r ≡ resultAfter side (span z) x → rows' ≡ rowsAfter (equations z) x rows → relations'
     ≡ relationsAfter x relations
     → callOf r rows' relations' ≡ afterRun side z x rows relations

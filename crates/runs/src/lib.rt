@@ -89,7 +89,7 @@ pub fn accepted(rows: &[i64], span: usize, side: Side, p: reduction::step::Progr
 }
 
 // The trailing side: the system is mirrored, goes through the rules, and the rows that are left are mirrored again (SCOPE 2.91, 2.94).
-fn trailing_run(
+pub fn trailing_run(
     rows: &mut [i64],
     relations: &mut [i64],
     equations: usize,
@@ -133,7 +133,7 @@ fn whole_run(
 
 // The result of a run that has ended. The stores are as the call leaves them: they hold the output, or zeros after a
 // refusal (SCOPE 3.21, 6.33).
-fn ended(
+pub fn ended(
     rows: &[i64],
     sizes: stores::validity::Sizes,
     side: Side,

@@ -85,7 +85,7 @@ place-below leading D few = lit< tt
 place-below trailing D few = suc-le-suc few
 
 module _ (side : Side) (D settled : ℕ) (store : List ℤ) (order : List ℕ) where
-  abbrev diagonals : List Polynomial
+  abbrev pub diagonals : List Polynomial
   diagonals = diagonal side D (settledState settled store order)
 
   -- The furthest root of the first j diagonal polynomials, with its times.
@@ -93,13 +93,13 @@ module _ (side : Side) (D settled : ℕ) (store : List ℤ) (order : List ℕ) w
   reported j = furthestWith side (take j diagonals)
 
 module _ (side : Side) (D settled : ℕ) (store : List ℤ) (order : List ℕ) (enough : settled ≤ length order) where
-  abbrev ps : List Polynomial
+  abbrev pub ps : List Polynomial
   ps = diagonals side D settled store order
 
   same-count : length (rowsOf settled store) ≡ length (take settled order)
   same-count = length-rowsOf settled store ∙ sym (length-take-le settled order enough)
 
-  length-diagonals : length ps ≡ settled
+  pub length-diagonals : length ps ≡ settled
   unfolding diagonal
   length-diagonals = length-zipWith _ (rowsOf settled store) (take settled order) same-count ∙ length-rowsOf settled store
 
@@ -108,7 +108,7 @@ module _ (side : Side) (D settled : ℕ) (store : List ℤ) (order : List ℕ) (
       ap (furthestWith side) (take-all j ps (rw length-diagonals h)) ∙ reported-with side D (settledState settled store order)
 
   module _ (few : D ≤ mostSpan) (columns : Columns order) (j : ℕ) (h : j < settled) where
-    diagonal-at : getD ps j [] ≡ take coefficientCount (drop (diagonalAt side D j (getD order j 0)) store)
+    pub diagonal-at : getD ps j [] ≡ take coefficientCount (drop (diagonalAt side D j (getD order j 0)) store)
     unfolding diagonal diagonalAt
     diagonal-at =
         getD-zipWith _ (rowsOf settled store) (take settled order) j noRow 0 [] (rw length-rowsOf h)

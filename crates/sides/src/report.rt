@@ -64,7 +64,7 @@ fn furthest_with(p: &[i64], side: Side) -> RootWith
 }
 
 // Where the numbers of row j's diagonal polynomial begin.
-fn diagonal_at(j: usize, column: usize, side: Side, span: usize) -> usize
+pub fn diagonal_at(j: usize, column: usize, side: Side, span: usize) -> usize
     requires { ⌜ (j < columnCount) × (column < columnCount) × (span ≤ 4) ⌝ }
     ensures { λ r. ⌜ r ≡ diagonalAt (sideOf side) span j column ⌝ }
 {

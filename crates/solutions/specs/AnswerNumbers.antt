@@ -26,7 +26,8 @@ use Rattle.theory.specs.Trailing.{trailing-inconsistent}
 use Rattle.solutions.specs.Constants.{Judged, fine, passed, andOn, each, judgeValue, entryAt, constantRow, constantRows, columnsOf}
 use Rattle.solutions.specs.Eliminated.{Pivot, at, pivotOf, factorsOf, combined, whole, limited, reduceBy, reduceAll, settleAt}
 use Rattle.solutions.specs.Eliminated.{firstAt, eliminate}
-use Rattle.solutions.specs.Constants.{horner, columnPolynomial, asked}
+use Rattle.evaluation.specs.Evaluated.{horner}
+use Rattle.solutions.specs.Constants.{columnPolynomial, asked}
 use Rattle.algebra.specs.Sums.{countFrom}
 use Rattle.solutions.specs.Listed.{vectorAt, freeColumns, sequences}
 use Rattle.solutions.specs.SolutionAnswers.{Answer, refusedWith, noneListed, listed, largestIndex, homogeneous, lastRoot, answerOf, listFor}
@@ -39,7 +40,7 @@ abbrev pub Limit : ℕ → Type 0
 Limit n = (n ≡ 8) ⊎ (n ≡ 12)
 
 -- What is judged passes no other limit.
-abbrev Limits : {A : Type 0} → Judged A → Type 0
+abbrev pub Limits : {A : Type 0} → Judged A → Type 0
 Limits (fine a) = Unit {0}
 Limits (passed n) = Limit n
 
@@ -48,7 +49,7 @@ unfolding andOn
 andOn-limits (fine a) f h k = k a
 andOn-limits (passed n) f h k = h
 
-each-limits : {A B : Type 0} (f : A → Judged B) → ((x : A) → Limits (f x)) → (l : List A) → Limits (each f l)
+pub each-limits : {A B : Type 0} (f : A → Judged B) → ((x : A) → Limits (f x)) → (l : List A) → Limits (each f l)
 unfolding each
 each-limits f h [] = tt
 each-limits f h (x ∷ l) =
@@ -68,13 +69,13 @@ unfolding judgeValue
 value-limits none = inr refl
 value-limits (some v) = cond-limits (small v) (fine v) (passed 8) tt (inl refl)
 
-row-limits : (m : ℕ) (l : ℤ) (N : ℕ) (r : Row) (n : ℤ) → Limits (constantRow m l N r n)
+pub row-limits : (m : ℕ) (l : ℤ) (N : ℕ) (r : Row) (n : ℤ) → Limits (constantRow m l N r n)
 unfolding constantRow entryAt
 row-limits m l N r n =
     each-limits (λ j. entryAt n (columnPolynomial m l r n j)) (λ j. value-limits (horner n (columnPolynomial m l r n j)))
     (countFrom 0 (columnsOf m N))
 
-rows-limits : (z : Sizes) (N : ℕ) (rows : List Row) (relations : List Relation) → Limits (constantRows z N rows relations)
+pub rows-limits : (z : Sizes) (N : ℕ) (rows : List Row) (relations : List Relation) → Limits (constantRows z N rows relations)
 unfolding constantRows
 rows-limits z N rows relations =
     each-limits (λ e. constantRow (z .m) (z .l) N (e .row) (e .index)) (λ e. row-limits (z .m) (z .l) N (e .row) (e .index))
@@ -92,7 +93,7 @@ unfolding reduceAll
 reduceAll-limits [] r = tt
 reduceAll-limits (p ∷ ps) r = andOn-limits (reduceBy p r) (reduceAll ps) (reduceBy-limits p r) (reduceAll-limits ps)
 
-eliminate-limits : (rows : List (List ℤ)) (ps : List Pivot) → Limits (eliminate ps rows)
+pub eliminate-limits : (rows : List (List ℤ)) (ps : List Pivot) → Limits (eliminate ps rows)
 unfolding eliminate
 eliminate-limits [] ps = tt
 eliminate-limits (r ∷ rows) ps =

@@ -21,8 +21,8 @@ use Rattle.lists.specs.Tests.{T-&&, cond-zero}
 use Rattle.rules.specs.Stores.{Sizes, equations, rowsOf, relationsOf, sizesRight, countRight, lengthsRight, numbersRight, Valid}
 use Rattle.rules.specs.Layout.{checkStores-zero, stores-valid}
 use Rattle.solutions.specs.SolutionAnswers.{Answer, refusedWith, noneListed, listed, homogeneous, answer}
-use Rattle.solutions.specs.SolutionCalls.{listNeed, matrixNeed, Work, Call, allLengths, checkCall, listStoreOf, resultOf, listIn, workAfter}
-use Rattle.solutions.specs.SolutionCalls.{afterCheck, solutionsCall}
+use Rattle.solutions.specs.SolutionCalls.{listNeed, matrixNeed, Work, Call, allLengths, checkCall, listStoreOf, unlisted, resultOf}
+use Rattle.solutions.specs.SolutionCalls.{listIn, workAfter, afterCheck, solutionsCall}
 use Rattle.solutions.specs.AnswerNumbers.{Number, answer-number}
 
 -- The answer is a list, which stands in the list store and whose N and count come back.
@@ -35,7 +35,7 @@ pub record FoundList (a : Answer) (list : List ℤ) (c : Call) : Type 0 where
 
 module _ (z : Sizes) (count : ℕ) (rowStore relationStore : List ℤ) (w : Work) where
   -- The answer to the system in the stores.
-  pub answered : Answer
+  unfoldable pub answered : Answer
   answered = answer z (rowsOf (equations z) rowStore) (relationsOf count relationStore)
 
   pub checked-valid : checkCall z count rowStore relationStore w ≡ 0
@@ -72,7 +72,7 @@ module _ (z : Sizes) (count : ℕ) (rowStore relationStore : List ℤ) (w : Work
 
   -- A refusal of the checks (SCOPE 14.62).
   pub call-refused : (n : ℕ) → checkCall z count rowStore relationStore w ≡ suc n
-      → solutionsCall z count rowStore relationStore w ≡ record { result = resultOf (refusedWith (suc n)); work = w }
+      → solutionsCall z count rowStore relationStore w ≡ record { result = unlisted false (suc n); work = w }
   unfolding solutionsCall afterCheck
   call-refused n e = ap (afterCheck z count rowStore relationStore w) e
 

@@ -1,7 +1,6 @@
 -- The constant rows of a system: what its equations and relations say of the sequences within 0 to N (SCOPE 14.3).
 --
 -- Main definitions
---   valueLimit, horner n p   2^40; the value of p at n by Horner's rule, none where a value on the way is past the limit
 --   Judged A, andOn, each    what is made, or the number of the first limit that is passed; one after another
 --   entryAt n p              the value of an entry, judged
 --   columnsOf m N            the number of the columns: N + 1 indices of m unknowns each
@@ -12,31 +11,14 @@ use Prim.Native.Nat.{ℕ, suc, _+_, _*_, _/_, _%_}
 use mathlib.Core.Bool.{cond}
 use mathlib.Core.List.{List, [], _∷_, _++_, map, flatten}
 use mathlib.Core.Option.{Option, none, some}
-use lib.Dec.{leb}
-use lib.IntN.{ℤ, pos, natAbs, _+ℤ_, _-ℤ_, _*ℤ_}
+use lib.IntN.{ℤ, pos, _-ℤ_}
 use Rattle.algebra.specs.Sums.{countFrom}
 use Rattle.algebra.specs.Polynomials.{Polynomial}
+use Rattle.evaluation.specs.Evaluated.{horner}
 use Rattle.rules.specs.Limits.{small}
 use Rattle.rules.specs.Rows.{Row, Relation}
 use Rattle.rules.specs.Stores.{Sizes, span}
 use Rattle.rules.specs.Sequences.{polynomialAt}
-
--- ---- Horner's rule with its limit
-
--- No value of Horner's rule may pass ±2^40 (SCOPE 14.33).
-abbrev pub valueLimit : ℕ
-valueLimit = 1099511627776
-
--- One coefficient more.
-unfoldable pub hornerStep : ℤ → ℤ → Option ℤ → Option ℤ
-hornerStep n a none = none
-hornerStep n a (some v) = let w = a +ℤ n *ℤ v in cond (leb (natAbs w) valueLimit) (some w) none
-
--- From the highest power down.
-unfoldable pub horner : ℤ → Polynomial → Option ℤ
-unfolding hornerStep
-horner n [] = some (pos 0)
-horner n (a ∷ p) = hornerStep n a (horner n p)
 
 -- ---- what is made, or the first limit that is passed
 

@@ -3,6 +3,14 @@ pub mod Eliminated
 pub mod Listed
 pub mod SolutionAnswers
 pub mod SolutionCalls
+pub mod Matrices
+pub mod SolutionChecks
+pub mod LargestRoots
+pub mod LastIndices
+pub mod TrailingCopies
+pub mod CourseLaws
+pub mod AnswerStores
+pub mod ConstantStores
 pub mod Pairing
 pub mod KernelKept
 pub mod Substituted
@@ -15,4 +23,9 @@ pub mod ListPromises
 pub mod AnswerNumbers
 pub mod CallPromises
 pub mod Bounds
+pub mod BackSubstitution
+pub mod ListRows
 pub mod KnownLists
+pub mod SoundRows
+pub mod RowWork
+pub mod MatrixTurns

@@ -4,7 +4,6 @@
 --   sequenceOf m N v    the sequence whose vector at index k is v (k m), .., v (k m + m - 1), and which is zero outside 0 to N
 --   vectorOf m y        the numbers of a sequence from index 0 on, m to an index
 -- Main statements
---   horner-eval         where Horner's rule gives a value, it is that of the polynomial
 --   row-says            a constant row kills v exactly if the equation's sum is zero at its n for the sequence that v holds
 --   sequence-same       a sequence that is zero outside 0 to N is the one that its vector holds
 use Prim.Native.Nat.{ℕ, zero, suc, _+_, _*_, _/_, _%_, _≤_, _<_, suc-le-suc}
@@ -32,7 +31,8 @@ use Rattle.rules.specs.Limits.{small}
 use Rattle.rules.specs.Rows.{Block, Row}
 use Rattle.rules.specs.Sequences.{Sequence, blockValue, blocksValue, leftValue, Same}
 use Rattle.theory.specs.Values.{delta, delta-here, delta-index, delta-column, left-delta, left-nothing}
-use Rattle.solutions.specs.Constants.{valueLimit, hornerStep, horner, Judged, fine, passed, andOn, each, judgeValue, entryAt}
+use Rattle.evaluation.specs.Evaluated.{horner, horner-eval}
+use Rattle.solutions.specs.Constants.{Judged, fine, passed, andOn, each, judgeValue, entryAt}
 use Rattle.solutions.specs.Constants.{columnsOf}
 use Rattle.solutions.specs.Constants.{columnPolynomial, constantRow}
 use Rattle.solutions.specs.Eliminated.{at}
@@ -40,19 +40,6 @@ use Rattle.solutions.specs.Pairing.{pair, Kills, pair-congr}
 use Rattle.solutions.specs.KernelKept.{andOn-fine}
 
 -- ---- the values
-
-pub horner-eval : (n : ℤ) (p : Polynomial) (v : ℤ) → horner n p ≡ some v → v ≡ eval p n
-unfolding horner hornerStep eval
-horner-eval n [] v e = cc
-horner-eval n (a ∷ p) v e = step (horner n p) (horner-eval n p) e
-  where
-    limit : (t : Bool) (w : ℤ) → cond t (some w) none ≡ some v → v ≡ w
-    limit true w s = cc
-    limit false w s = let z : _≡_ {A = ℕ} 0 1 = cc in absurd (omega arith)
-
-    step : (o : Option ℤ) → ((w : ℤ) → o ≡ some w → w ≡ eval p n) → hornerStep n a o ≡ some v → v ≡ a +ℤ n *ℤ eval p n
-    step none known s = let z : _≡_ {A = ℕ} 0 1 = cc in absurd (omega arith)
-    step (some w) known s = limit (leb (natAbs (a +ℤ n *ℤ w)) valueLimit) (a +ℤ n *ℤ w) s ∙ ap (λ x. a +ℤ n *ℤ x) (known w refl)
 
 entry-value : (n : ℤ) (p : Polynomial) (v : ℤ) → entryAt n p ≡ fine v → v ≡ eval p n
 unfolding entryAt judgeValue

@@ -3,6 +3,7 @@
 -- Main definitions
 --   listColumns, listNeed, matrixNeed   64 numbers a sequence; the numbers of the list store and of the work matrix
 --   Result, Work, Call   what the call returns; the stores that it may write; both
+--   unlisted             a result without a list
 --   checkCall            the checks before the work: sizes, lengths, numbers, right sides
 --   listStoreOf          the list in its store, one sequence a row
 --   solutionsCall        the call as a whole
@@ -35,9 +36,11 @@ mostRows = (suc largestIndex + mostSpan) * mostEquations + mostRelations
 abbrev pub matrixNeed : ℕ
 matrixNeed = mostRows * listColumns
 
--- "found" where 0 ≤ N; otherwise all numbers are 0 (SCOPE 14.64).
+-- "begun" from the trailing run on, so that a refusal of the checks is told from a later one; "found" where 0 ≤ N, otherwise all numbers
+-- are 0 (SCOPE 14.64).
 pub record Result : Type 0 where
   pub refusal : ℕ
+  pub begun : Bool
   pub found : Bool
   pub last : ℕ
   pub count : ℕ
@@ -76,10 +79,14 @@ unfoldable pub listStoreOf : List (List ℤ) → List ℤ
 unfolding padTo flatten
 listStoreOf l = padTo listNeed (pos 0) (flatten (map (padTo listColumns (pos 0)) l))
 
+-- A refusal, or "no" with 0.
+abbrev pub unlisted : Bool → ℕ → Result
+unlisted begun n = record { refusal = n; begun = begun; found = false; last = 0; count = 0 }
+
 unfoldable pub resultOf : Answer → Result
-resultOf (refusedWith n) = record { refusal = n; found = false; last = 0; count = 0 }
-resultOf noneListed = record { refusal = 0; found = false; last = 0; count = 0 }
-resultOf (listed N l) = record { refusal = 0; found = true; last = N; count = length l }
+resultOf (refusedWith n) = unlisted true n
+resultOf noneListed = unlisted true 0
+resultOf (listed N l) = record { refusal = 0; begun = true; found = true; last = N; count = length l }
 
 unfoldable pub listIn : Answer → List ℤ
 unfolding listStoreOf zeros
@@ -104,7 +111,7 @@ unfolding resultOf workAfter answer rowsOf relationsOf equations
 afterCheck z count rowStore relationStore w zero =
     let a = answer z (rowsOf (equations z) rowStore) (relationsOf count relationStore) in
     record { result = resultOf a; work = workAfter z a w }
-afterCheck z count rowStore relationStore w (suc n) = record { result = resultOf (refusedWith (suc n)); work = w }
+afterCheck z count rowStore relationStore w (suc n) = record { result = unlisted false (suc n); work = w }
 
 -- The system's stores are only read (SCOPE 14.61).
 unfoldable pub solutionsCall : Sizes → ℕ → List ℤ → List ℤ → Work → Call

@@ -90,7 +90,7 @@ fn sizes_held(state: State) -> bool
 }
 
 // The columns of the settled rows, counted from 0, zeros past the last.
-pub(crate) fn from_zero(order: [usize; COLUMNS], settled: usize) -> [usize; COLUMNS]
+pub fn from_zero(order: [usize; COLUMNS], settled: usize) -> [usize; COLUMNS]
     requires { ⌜ (settled ≤ columnCount) × All (λ c. 1 ≤ c) (take settled order) ⌝ }
     ensures { λ r. ⌜ (r ≡ padTo columnCount 0 (map pred (take settled order))) × (length order ≡ columnCount) ⌝ }
 {
@@ -104,7 +104,7 @@ pub(crate) fn from_zero(order: [usize; COLUMNS], settled: usize) -> [usize; COLU
 }
 
 // Each settled row is zero at the columns before its own and not zero there: its own is the first that it meets (SCOPE 11.24).
-fn pivots_right(rows: &[i64], order: [usize; COLUMNS], settled: usize) -> bool
+pub fn pivots_right(rows: &[i64], order: [usize; COLUMNS], settled: usize) -> bool
     requires { ⌜ (settled ≤ columnCount) × (rowNeed settled ≤ length (now rows)) × Columns order ⌝ }
     ensures { λ r. ⌜ r ≡ Calls.pivotsRight order (rowsOf settled (now (rows .entry))) settled ⌝ }
 {

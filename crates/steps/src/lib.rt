@@ -19,7 +19,7 @@ ghost use Rattle.steps.specs.HeldCalls as Calls;
 ghost use Rattle.steps.specs.Handed.{heldOf, preparedOf};
 ghost use Rattle.steps.specs.StepCalls.{stateAfter, runAfter, Stands, callOf};
 
-mod checks;
+pub mod checks;
 mod moving;
 
 // A run between two calls: the sizes of the rows that are left, the number of relations, of settled rows, their columns, counted

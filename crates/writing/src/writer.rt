@@ -9,7 +9,7 @@ use stores::lengths::POLYNOMIALS;
 use stores::lengths::RELATION;
 use stores::lengths::ROW;
 
-mod checks;
+pub mod checks;
 
 ghost use mathlib.Core.Path.{_≡_};
 ghost use mathlib.Core.List.{[], _∷_, map};

@@ -2,6 +2,7 @@
 
 use crate::batches::batch;
 use crate::differentials::{differential, input};
+use crate::logs::{elsewhere, log_store, logged_and_replayed, replayed, Log};
 use crate::random::Random;
 use crate::records::{damage_record, recorded, Recorded};
 use crate::sheets::sheet;
@@ -9,6 +10,7 @@ use crate::steps::{budgets, handed_in, in_parts, prepared_and_run, state_store};
 use crate::subject::Subject;
 use crate::systems::system;
 use outside::elimination::Side;
+use outside::logs::LOGGED_RESULT;
 use outside::step_calls::STEPS;
 use outside::stores::{
     row_store, store, Asked, COEFFICIENTS, ENTRIES, HEADING, RECORD, RELATION, RELATION_STORE, RESULT, ROW,
@@ -24,7 +26,8 @@ pub struct Stores {
     pub result: Vec<i64>,
 }
 
-/// What a call leaves: its number, the stores, the bytes of a writer or of the batch program, and the state of a run by steps.
+/// What a call leaves: its number, the stores, the bytes of a writer or of the batch program, and the state of a run by steps or the log
+/// of a run.
 #[derive(Clone, PartialEq, Eq)]
 pub struct Answer {
     pub number: u8,
@@ -68,6 +71,10 @@ pub enum Case {
     Steps { stores: Stores, asked: Asked, state: Vec<i64>, budgets: Vec<usize> },
     /// A state that is handed in, with runs of these budgets.
     State { stores: Stores, state: Vec<i64>, budgets: Vec<usize> },
+    /// A run with its log, in a store, and the replay of that log.
+    Logged { stores: Stores, asked: Asked, log: Vec<i64> },
+    /// The replay of a log that was made elsewhere.
+    Replay { stores: Stores, asked: Asked, log: Log },
 }
 
 #[derive(Clone, Copy, Debug, PartialEq, Eq)]
@@ -84,11 +91,13 @@ pub enum Kind {
     Record,
     Steps,
     State,
+    Logged,
+    Replay,
 }
 
 impl Kind {
     /// Calls on stores, which take no time to speak of.
-    pub const CALLS: [Kind; 9] = [
+    pub const CALLS: [Kind; 11] = [
         Kind::Leading,
         Kind::Trailing,
         Kind::Read,
@@ -98,6 +107,8 @@ impl Kind {
         Kind::Record,
         Kind::Steps,
         Kind::State,
+        Kind::Logged,
+        Kind::Replay,
     ];
     /// Batches and programs.
     pub const SLOW: [Kind; 3] = [Kind::Batch, Kind::BatchCall, Kind::Induce];
@@ -119,6 +130,8 @@ impl Kind {
             Kind::Record => record_case(&mut random),
             Kind::Steps => steps_case(&mut random),
             Kind::State => state_case(&mut random),
+            Kind::Logged => logged_case(&mut random),
+            Kind::Replay => replay_case(&mut random),
         }
     }
 }
@@ -242,6 +255,34 @@ fn state_case(random: &mut Random) -> Case {
     Case::State { stores, state, budgets }
 }
 
+/// A system and a store for its log, its stores and sizes of every sixth call made wrong.
+fn logged_case(random: &mut Random) -> Case {
+    let system = system(random);
+    let mut stores = lent(random, &system, LOGGED_RESULT);
+    let mut asked = asked_of(&system);
+    if random.one_in(6) {
+        damage(random, &mut stores, &mut asked);
+        if random.one_in(3) {
+            stores.result.truncate(RESULT);
+        }
+    }
+    Case::Logged { stores, asked, log: log_store(random) }
+}
+
+/// A system and a log for it, stores, sizes and the log's length of every sixth call made wrong.
+fn replay_case(random: &mut Random) -> Case {
+    let (system, mut log) = elsewhere(random);
+    let mut stores = lent(random, &system, RESULT);
+    let mut asked = asked_of(&system);
+    if random.one_in(6) {
+        damage(random, &mut stores, &mut asked);
+        if random.one_in(3) {
+            log.numbers.truncate(random.pick(&[0, 3, 39]));
+        }
+    }
+    Case::Replay { stores, asked, log }
+}
+
 fn written_order(order: &[i64]) -> Vec<usize> {
     order.iter().filter(|&&c| c > 0).map(|&c| c as usize).collect()
 }
@@ -358,6 +399,8 @@ impl Case {
             Case::Differential { sheet, stores } => differential_and_written(subject, sheet, stores),
             Case::Steps { stores, asked, state, budgets } => prepared_and_run(subject, stores, *asked, state, budgets),
             Case::State { stores, state, budgets } => in_parts(subject, stores, state, budgets),
+            Case::Logged { stores, asked, log } => logged_and_replayed(subject, stores, *asked, log),
+            Case::Replay { stores, asked, log } => vec![replayed(subject, stores, *asked, log)],
             Case::Recurrence { sheet, bytes, result } => {
                 let (mut bytes, mut result) = (bytes.clone(), result.clone());
                 let number = subject.write_recurrence(sheet, &mut bytes, &mut result);
@@ -398,6 +441,10 @@ impl Case {
             }
             Case::State { stores, state, budgets } => {
                 format!("budgets {budgets:?}, state {state:?}, {}\n{}", stores.lengths(), stores.numbers())
+            }
+            Case::Logged { stores, asked, log } => format!("log store {}, {}", log.len(), stores.shown(*asked)),
+            Case::Replay { stores, asked, log } => {
+                format!("{} steps, log {:?}, {}", log.steps, log.numbers, stores.shown(*asked))
             }
         }
     }

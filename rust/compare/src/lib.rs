@@ -7,6 +7,8 @@ pub mod differentials;
 pub mod fast;
 pub mod first_index;
 pub mod judge;
+pub mod log_files;
+pub mod logs;
 pub mod pieces;
 pub mod random;
 pub mod records;

@@ -2,6 +2,7 @@
 
 use outside::elimination::Side;
 use outside::fault::Fault;
+use outside::logs::{replay_on_stores, run_logged_on_stores};
 use outside::record::Record;
 use outside::step_calls::{prepare_on_stores, run_steps_on_stores};
 use outside::stores::{batch_on_stores, check_record_on_stores, read_differential_on_stores, read_on_stores};
@@ -42,6 +43,23 @@ pub trait Subject {
         relations: &mut [i64],
         state: &mut [i64],
         budget: usize,
+        result: &mut [i64],
+    ) -> u8;
+    fn run_logged(
+        &self,
+        rows: &mut [i64],
+        relations: &mut [i64],
+        asked: Asked,
+        log: &mut [i64],
+        result: &mut [i64],
+    ) -> u8;
+    fn replay(
+        &self,
+        rows: &mut [i64],
+        relations: &mut [i64],
+        asked: Asked,
+        steps: usize,
+        log: &[i64],
         result: &mut [i64],
     ) -> u8;
 }
@@ -111,6 +129,29 @@ impl Subject for Outside {
         result: &mut [i64],
     ) -> u8 {
         run_steps_on_stores(rows, relations, state, budget, result, self.0)
+    }
+
+    fn run_logged(
+        &self,
+        rows: &mut [i64],
+        relations: &mut [i64],
+        asked: Asked,
+        log: &mut [i64],
+        result: &mut [i64],
+    ) -> u8 {
+        run_logged_on_stores(rows, relations, asked, log, result, self.0)
+    }
+
+    fn replay(
+        &self,
+        rows: &mut [i64],
+        relations: &mut [i64],
+        asked: Asked,
+        steps: usize,
+        log: &[i64],
+        result: &mut [i64],
+    ) -> u8 {
+        replay_on_stores(rows, relations, asked, steps, log, result, self.0)
     }
 }
 
@@ -227,6 +268,31 @@ impl Subject for Library {
         result: &mut [i64],
     ) -> u8 {
         wurgalm::stores::run_steps(rows, relations, state, budget, result)
+    }
+
+    fn run_logged(
+        &self,
+        rows: &mut [i64],
+        relations: &mut [i64],
+        asked: Asked,
+        log: &mut [i64],
+        result: &mut [i64],
+    ) -> u8 {
+        let Asked { m, equations, l, t, count } = asked;
+        wurgalm::stores::run_logged(rows, relations, m, equations, l, t, count, log, result)
+    }
+
+    fn replay(
+        &self,
+        rows: &mut [i64],
+        relations: &mut [i64],
+        asked: Asked,
+        steps: usize,
+        log: &[i64],
+        result: &mut [i64],
+    ) -> u8 {
+        let Asked { m, equations, l, t, count } = asked;
+        wurgalm::stores::replay(rows, relations, m, equations, l, t, count, steps, log, result)
     }
 }
 

@@ -5,7 +5,7 @@ use outside::batch::CLIENTS;
 use std::collections::BTreeMap;
 
 /// The tables have a column for each number up to this one.
-const COLUMNS: u8 = 12;
+const COLUMNS: u8 = 13;
 
 /// Counts for the cases of one kind.
 #[derive(Default)]
@@ -195,6 +195,14 @@ mod tests {
         for number in [0, 1, 7, 8, 9, 10, 11] {
             assert!(states.refused(number) >= 20, "state: {number} comes up {} times", states.refused(number));
         }
+        let (logged, replays) = (counted(Kind::Logged, 2_000), counted(Kind::Replay, 4_000));
+        for number in [0, 1, 2, 5, 7, 8, 9, 10] {
+            assert!(logged.refused(number) >= 10, "logged: {number} comes up {} times", logged.refused(number));
+        }
+        for number in [0, 1, 2, 5, 7, 8, 9, 13] {
+            assert!(replays.refused(number) >= 20, "replay: {number} comes up {} times", replays.refused(number));
+        }
+        assert_eq!(replays.refused(10), 0);
     }
 
     /// As many answers are counted as the last lines of a batch say, with their kinds.

@@ -5,13 +5,13 @@
 
 use crate::common_roots::reduced;
 use crate::elimination::Run;
-use crate::fault::Fault;
+use crate::fault::{is, Fault};
 use crate::polynomial::{greatest_divisor, Polynomial};
 use crate::refusal::Refusal;
 use crate::roots::{integer_roots, occurrences};
 use crate::row::Row;
-use crate::sheet;
-use crate::stores::{row_store, store, write_on_stores, Asked, COEFFICIENTS, COLUMNS, RELATION_STORE, RESULT};
+use crate::stores::{checked, order_numbers, row_store, store, zero_needed};
+use crate::stores::{Asked, COEFFICIENTS, COLUMNS, RELATION_STORE, RESULT};
 use crate::system::{Relation, System};
 use crate::{C, DEGREE, RELATIONS};
 
@@ -46,13 +46,15 @@ pub enum Step {
 impl Step {
     /// The step of 36 numbers. That a field which the kind does not use is 0 shows when it is written again: the numbers are the same
     /// (SCOPE 13.12).
-    pub fn of(numbers: &[i64]) -> Result<Step, u8> {
+    pub fn of(numbers: &[i64], fault: Option<Fault>) -> Result<Step, u8> {
         let (i, j) = (number_of_row(numbers[1]), number_of_row(numbers[2]));
         let step = match numbers[0] {
             1 => Step::Exchange(i?, j?),
             2 => {
                 let (integer, g, h) = (numbers[3] as i128, multiplier(&numbers[4..20]), multiplier(&numbers[20..36]));
-                right(integer > 0 && g.size() <= C && h.size() <= C)?;
+                let most = if is(fault, Fault::LogMultipliersUnlimited) { 2 * C } else { C };
+                right(integer > 0 || integer < 0 && is(fault, Fault::LogIntegerNegative))?;
+                right(g.size() <= most && h.size() <= most)?;
                 Step::Combine { i: i?, j: j?, integer, g, h }
             }
             3 => Step::Up(i?),
@@ -60,7 +62,7 @@ impl Step {
             5 => Step::Drop(i?),
             _ => return Err(WRONG_LOG),
         };
-        right(step.numbers()[..] == *numbers)?;
+        right(step.numbers()[..] == *numbers || is(fault, Fault::LogUnusedFields))?;
         Ok(step)
     }
 
@@ -105,15 +107,25 @@ fn multiplier(numbers: &[i64]) -> Polynomial {
 // ---- the replay ----
 
 /// A replay under way.
-struct Replay {
+pub struct Replay {
     system: System,
     ups: usize,
     exchanges: usize,
+    fault: Option<Fault>,
 }
 
 impl Replay {
-    fn new(system: &System) -> Replay {
-        Replay { system: system.clone(), ups: 0, exchanges: 0 }
+    pub fn new(system: &System, fault: Option<Fault>) -> Replay {
+        Replay { system: system.clone(), ups: 0, exchanges: 0, fault }
+    }
+
+    /// The rows and relations that the steps so far have led to.
+    pub fn system(&self) -> &System {
+        &self.system
+    }
+
+    fn wrong(&self, fault: Fault) -> bool {
+        is(self.fault, fault)
     }
 
     /// Where row i is, if it is present.
@@ -122,34 +134,47 @@ impl Replay {
         Ok(i - 1)
     }
 
-    fn two_rows(&self, i: usize, j: usize) -> Result<(usize, usize), u8> {
-        right(i != j)?;
+    fn two_rows(&self, i: usize, j: usize, same: Fault) -> Result<(usize, usize), u8> {
+        right(i != j || self.wrong(same))?;
         Ok((self.present(i)?, self.present(j)?))
     }
 
     /// One step: its condition (13), then its limits (SCOPE 13.26).
-    fn take(&mut self, step: &Step) -> Result<(), u8> {
+    pub fn take(&mut self, step: &Step) -> Result<(), u8> {
         match *step {
             Step::Exchange(i, j) => {
-                let (i, j) = self.two_rows(i, j)?;
+                let (i, j) = self.two_rows(i, j, Fault::LogExchangeSame)?;
                 self.system.rows.swap(i, j);
                 self.exchanges += 1;
                 Ok(())
             }
-            Step::Combine { i, j, integer, ref g, ref h } => self.combine(self.two_rows(i, j)?, integer, g, h),
+            Step::Combine { i, j, integer, ref g, ref h } => {
+                let rows = self.two_rows(i, j, Fault::LogCombineSame)?;
+                self.combine(rows, integer, g, h)
+            }
             Step::Up(i) => {
-                let i = self.present(i)?;
-                self.shift(i, self.system.sizes.l, Row::shifted)?;
+                let (i, lost) = (self.present(i)?, self.system.sizes.l);
+                right(self.is_block_zero(i, lost) || self.wrong(Fault::LogUpLoses))?;
+                let row = self.system.rows[i].shifted();
+                self.put_shifted(i, row, Fault::LogUpSide)?;
                 self.ups += 1;
                 Ok(())
             }
             Step::Down(i) => {
-                let i = self.present(i)?;
-                self.shift(i, self.system.sizes.t, |row| row.mapped(|s| s - 1, Polynomial::after_decrement))
+                let (i, lost) = (self.present(i)?, self.system.sizes.t);
+                right(self.is_block_zero(i, lost) || self.wrong(Fault::LogDownLoses))?;
+                let change =
+                    if self.wrong(Fault::LogDownPlain) { Polynomial::clone } else { Polynomial::after_decrement };
+                let row = self.system.rows[i].mapped(|s| s - 1, change);
+                self.put_shifted(i, row, Fault::LogDownSide)?;
+                self.ups += self.wrong(Fault::LogDownCounted) as usize;
+                Ok(())
             }
             Step::Drop(i) => {
                 let i = self.present(i)?;
-                right(self.system.rows[i].is_zero())?;
+                let row = &self.system.rows[i];
+                let left_alone = row.is_left_zero() && self.wrong(Fault::LogDropLeftZero);
+                right(row.is_zero() || left_alone || self.wrong(Fault::LogDropAny))?;
                 self.system.rows.remove(i);
                 Ok(())
             }
@@ -159,33 +184,88 @@ impl Replay {
     /// Row i becomes (g × row i + h × row j) / integer, which has to come out even, on both sides and in every power (SCOPE 13.22). Row i
     /// as it was is listed at g's roots (SCOPE 13.27). The limits are 9, 7, 8, the last two on what the division leaves (SCOPE 13.26).
     fn combine(&mut self, (i, j): (usize, usize), integer: i128, g: &Polynomial, h: &Polynomial) -> Result<(), u8> {
-        right(!g.is_zero())?;
+        right(!g.is_zero() || self.wrong(Fault::LogGZero))?;
+        right(!h.is_zero() || !self.wrong(Fault::LogHNonzero))?;
         let before = self.system.rows[i].clone();
         let sum = before.combined(g, &self.system.rows[j], h);
-        right(sum.content() % integer == 0)?;
-        let listed = integer_roots(g).into_iter().map(|n0| Relation { n0, row: before.clone() });
-        self.system.relations.extend(listed);
-        if self.system.relations.len() > RELATIONS {
-            return Err(Refusal::Relations.number());
+        let divided = match self.fault {
+            Some(Fault::LogNotDivided) => sum.clone(),
+            _ => sum.mapped(|s| s, |p| quotient(p, integer)),
+        };
+        let divides = right(self.judged_part(&sum).content() % integer == 0);
+        if !self.wrong(Fault::LogLimitsFirst) {
+            divides?;
+        }
+        let listed = match self.fault {
+            Some(Fault::LogRowAfterStep) => divided.clone(),
+            Some(Fault::LogRowOther) => self.system.rows[j].clone(),
+            Some(Fault::LogRelationLeft) => before.left(),
+            _ => before,
+        };
+        let relations = self.list(if self.wrong(Fault::LogRootsOfH) { h } else { g }, listed);
+        if !self.wrong(Fault::LogRelationsLast) {
+            relations?;
+        }
+        let limited = if self.wrong(Fault::LogLimitUndivided) { &sum } else { &divided };
+        if self.wrong(Fault::LogCoefficientFirst) {
+            within_limit(limited)?;
         }
         if sum.degree() > DEGREE {
             return Err(Refusal::Degree.number());
         }
-        self.put(i, sum.mapped(|s| s, |p| p.over(integer)))
+        within_limit(limited)?;
+        relations?;
+        divides?;
+        if self.wrong(Fault::LogInconsistent) && divided.is_left_zero() && !divided.is_zero() {
+            return Err(Refusal::Inconsistent.number());
+        }
+        self.put(i, divided)
     }
 
-    /// Row i moved by a block; the one that is lost has to be zero (SCOPE 13.23, 13.24).
-    fn shift(&mut self, i: usize, lost: i64, moved: impl Fn(&Row) -> Row) -> Result<(), u8> {
-        let row = &self.system.rows[i];
-        right(row.columns(lost).next().is_none())?;
-        self.put(i, moved(row))
+    /// What the integer of a combination has to divide: all of it.
+    fn judged_part(&self, sum: &Row) -> Row {
+        let low = |p: &Polynomial| Polynomial::new(p.coefficients().iter().copied().take(COEFFICIENTS).collect());
+        match self.fault {
+            Some(Fault::LogLeftDivided) => sum.left(),
+            Some(Fault::LogLowDivided) => sum.mapped(|s| s, low),
+            _ => sum.clone(),
+        }
+    }
+
+    /// 9 for a seventeenth relation.
+    fn list(&mut self, p: &Polynomial, row: Row) -> Result<(), u8> {
+        let mut roots = if p.is_zero() { Vec::new() } else { integer_roots(p) };
+        if self.wrong(Fault::LogRootsDescending) {
+            roots.reverse();
+        }
+        self.system.relations.extend(roots.into_iter().map(|n0| Relation { n0, row: row.clone() }));
+        if self.system.relations.len() > RELATIONS {
+            return Err(Refusal::Relations.number());
+        }
+        Ok(())
+    }
+
+    /// Whether a block of row i, the one that a shift loses, is zero (SCOPE 13.23, 13.24).
+    fn is_block_zero(&self, i: usize, block: i64) -> bool {
+        self.system.rows[i].columns(block).next().is_none()
+    }
+
+    /// A shifted row; with the fault its right side stays. Blocks outside are only there with other faults, and are lost.
+    fn put_shifted(&mut self, i: usize, mut row: Row, side: Fault) -> Result<(), u8> {
+        if self.wrong(side) {
+            row.set_right(self.system.rows[i].right().clone());
+        }
+        let sizes = self.system.sizes;
+        let outside: Vec<(i64, usize)> = row.entries().map(|(s, c, _)| (s, c)).collect();
+        outside.into_iter().filter(|(s, _)| !(sizes.t..=sizes.l).contains(s)).for_each(|(s, c)| {
+            row.set(s, c, Polynomial::default());
+        });
+        self.put(i, row)
     }
 
     /// 8 for a coefficient past ±C.
     fn put(&mut self, i: usize, row: Row) -> Result<(), u8> {
-        if row.size() > C {
-            return Err(Refusal::Coefficient.number());
-        }
+        within_limit(&row)?;
         self.system.rows[i] = row;
         Ok(())
     }
@@ -199,38 +279,66 @@ impl Replay {
     /// in the column of a row is in no later one, and in that row (SCOPE 13.32).
     fn triangular(&self, order: &[usize]) -> bool {
         let rows = 0..self.system.rows.len();
-        let lowest = |&column: &usize| rows.clone().rev().find(|&row| !self.leading(row, column).is_zero());
-        order.iter().map(lowest).eq(rows.clone().map(Some))
+        let last = |&column: &usize| rows.clone().rev().find(|&row| !self.leading(row, column).is_zero());
+        let own = |row: usize| !self.leading(row, order[row]).is_zero();
+        let later_zero = |row: usize| rows.clone().all(|k| k <= row || self.leading(k, order[row]).is_zero());
+        match self.fault {
+            Some(Fault::LogDiagonalZero) => rows.clone().all(later_zero),
+            Some(Fault::LogEarlierEntries) => rows.clone().all(own),
+            Some(Fault::LogLowestColumns) => {
+                let lowest = |row: usize| self.system.rows[row].columns(self.system.sizes.l).next();
+                rows.clone().all(|row| lowest(row) == Some(order[row]) && later_zero(row))
+            }
+            _ => order.iter().map(last).eq(rows.clone().map(Some)),
+        }
     }
 
     /// The end: the column order (SCOPE 13.31), the leading matrix (SCOPE 13.32), and the report as a run has it.
     fn finished(self, order: Vec<usize>) -> Result<Run, u8> {
         right(self.triangular(&order))?;
-        let diagonal: Vec<Polynomial> = order.iter().enumerate().map(|(j, &c)| self.leading(j, c)).collect();
+        let entries = order.iter().enumerate().map(|(j, &c)| self.leading(j, c));
+        let diagonal: Vec<Polynomial> = entries.filter(|p| !p.is_zero()).collect();
         let root = diagonal.iter().flat_map(integer_roots).max();
         let times = |r| diagonal.iter().map(|p| occurrences(p, r)).sum();
         let multiplicity = root.map_or(0, times);
-        let Replay { system, ups, exchanges } = self;
+        let Replay { system, ups, exchanges, .. } = self;
         Ok(Run { system, order, shifts: ups, root, multiplicity, exchanges })
     }
 }
 
+/// Divided coefficient by coefficient, toward zero where it does not come out even, which is refused.
+fn quotient(p: &Polynomial, integer: i128) -> Polynomial {
+    Polynomial::new(p.coefficients().iter().map(|a| a / integer).collect())
+}
+
+/// 8 for a coefficient past ±C.
+fn within_limit(row: &Row) -> Result<(), u8> {
+    if row.size() > C {
+        return Err(Refusal::Coefficient.number());
+    }
+    Ok(())
+}
+
 /// The columns of the four numbers at a log's end, for w rows: w different ones of 1..m, and zeros behind them (SCOPE 13.31).
-fn order_of(numbers: &[i64], w: usize, m: usize) -> Result<Vec<usize>, u8> {
+fn order_of(numbers: &[i64], w: usize, m: usize, fault: Option<Fault>) -> Result<Vec<usize>, u8> {
     right(w <= m)?;
     let (columns, behind) = numbers.split_at(w);
-    right(behind.iter().all(|&c| c == 0) && columns.iter().all(|c| (1..=m as i64).contains(c)))?;
+    right(behind.iter().all(|&c| c == 0) || is(fault, Fault::LogOrderBehind))?;
+    right(columns.iter().all(|c| (1..=m as i64).contains(c)))?;
     right((1..=m as i64).all(|c| columns.iter().filter(|&&other| other == c).count() <= 1))?;
     Ok(columns.iter().map(|&c| c as usize).collect())
 }
 
 /// The replay of a log of so many steps, whose store is long enough (SCOPE 13.3); the refusal where there is one. A step is looked at
 /// when its turn comes.
-pub fn replay(system: &System, steps: usize, log: &[i64]) -> Result<Run, u8> {
+pub fn replay(system: &System, steps: usize, log: &[i64], fault: Option<Fault>) -> Result<Run, u8> {
     let (all, behind) = log.split_at(STEP * steps);
-    let mut replay = Replay::new(system);
-    all.chunks(STEP).try_for_each(|numbers| replay.take(&Step::of(numbers)?))?;
-    let order = order_of(&behind[..COLUMNS], replay.system.rows.len(), system.sizes.m)?;
+    let mut replay = Replay::new(system, fault);
+    if is(fault, Fault::LogFormsFirst) {
+        all.chunks(STEP).try_for_each(|numbers| Step::of(numbers, fault).map(drop))?;
+    }
+    all.chunks(STEP).try_for_each(|numbers| replay.take(&Step::of(numbers, fault)?))?;
+    let order = order_of(&behind[..COLUMNS], replay.system.rows.len(), system.sizes.m, fault)?;
     replay.finished(order)
 }
 
@@ -265,57 +373,66 @@ fn next(replay: &Replay, columns: &[usize]) -> Result<Next, u8> {
 }
 
 /// The leading run, and its log (SCOPE 13.5); the refusal where there is one.
-pub fn run_logged(system: &System) -> Result<(Run, Vec<Step>), u8> {
-    let mut replay = Replay::new(system);
+pub fn run_logged(system: &System, fault: Option<Fault>) -> Result<(Run, Vec<Step>), u8> {
+    let mut replay = Replay::new(system, None);
     let (mut columns, mut steps) = (Vec::new(), Vec::new());
     while columns.len() < replay.system.rows.len() {
         match next(&replay, &columns)? {
             Next::Settle(column) => columns.push(column),
             Next::Step(step) => {
                 replay.take(&step)?;
-                steps.push(step);
+                steps.extend(written(step, fault));
             }
         }
     }
     Ok((replay.finished(columns)?, steps))
 }
 
+/// What the log has for a step that was made: the step.
+fn written(mut step: Step, fault: Option<Fault>) -> Option<Step> {
+    if let (Step::Combine { integer, .. }, Some(Fault::LoggedIntegerOne)) = (&mut step, fault) {
+        *integer = 1;
+    }
+    let left_out = match step {
+        Step::Exchange(..) => is(fault, Fault::LoggedExchangeLeft),
+        Step::Drop(_) => is(fault, Fault::LoggedDropLeft),
+        _ => false,
+    };
+    (!left_out).then_some(step)
+}
+
 // ---- the calls on stores ----
 
-/// The bytes of a sheet that no system's is longer than: 22 rows of 336 numbers.
-const SHEET: usize = 1 << 17;
-
-/// The system in the stores of a call, by way of the sheet that is written of them: the writer has the checks of a run, sizes (2), lengths
-/// (1), numbers (5). It lacks room for its answer where another store of the call is too short.
-fn system_in(rows: &[i64], relations: &[i64], asked: Asked, room: bool, fault: Option<Fault>) -> Result<System, u8> {
-    let (mut bytes, mut length) = (vec![0; SHEET], vec![0; room as usize]);
-    match write_on_stores(rows, relations, asked, &[0; COLUMNS], &mut bytes, &mut length, fault) {
-        0 => sheet::read(&bytes[..length[0] as usize], None).map(|sheet| sheet.system).map_err(Refusal::number),
-        refusal => Err(refusal),
-    }
-}
-
 /// What a run or a replay leaves in the needed parts: its output, places that were freed zero; all zeros on a refusal (SCOPE 13.42).
-fn leave(outcome: Result<Run, u8>, rows: &mut [i64], relations: &mut [i64], asked: Asked, result: &mut [i64]) -> u8 {
-    rows[..row_store(asked.equations)].fill(0);
-    relations[..RELATION_STORE].fill(0);
-    result[..RESULT].fill(0);
+fn leave(
+    outcome: Result<Run, u8>,
+    rows: &mut [i64],
+    relations: &mut [i64],
+    asked: Asked,
+    result: &mut [i64],
+    fault: Option<Fault>,
+) -> u8 {
+    let told = RESULT.min(result.len());
     let run = match outcome {
         Ok(run) => run,
-        Err(refusal) => return refusal,
+        Err(WRONG_LOG) if is(fault, Fault::LogStoresKept) => return WRONG_LOG,
+        Err(refusal) => {
+            zero_needed(rows, row_store(asked.equations), fault);
+            zero_needed(relations, RELATION_STORE, fault);
+            zero_needed(&mut result[..told], told, fault);
+            return refusal;
+        }
     };
     store(&run.system, rows, relations);
-    let (count, shifts, rank) = (run.system.relations.len() as i64, run.shifts as i64, run.rank() as i64);
-    (result[0], result[1], result[8]) = (count, shifts, rank);
-    result[2..6].copy_from_slice(&order_numbers(&run.order));
-    if let Some(root) = run.root {
-        (result[6], result[7], result[9]) = (1, root as i64, run.multiplicity as i64);
+    if !is(fault, Fault::FreedKept) {
+        rows[row_store(run.rank())..row_store(asked.equations)].fill(0);
     }
+    let (c, count, shifts) = (order_numbers(&run.order), run.system.relations.len() as i64, run.shifts as i64);
+    let (any, root) = (run.root.is_some() as i64, run.root.unwrap_or(0) as i64);
+    let (rank, times) = (run.rank() as i64, run.multiplicity as i64);
+    let numbers = [count, shifts, c[0], c[1], c[2], c[3], any, root, rank, times];
+    result.iter_mut().zip(numbers).for_each(|(place, number)| *place = number);
     0
-}
-
-fn order_numbers(order: &[usize]) -> [i64; COLUMNS] {
-    std::array::from_fn(|k| order.get(k).map_or(0, |&column| column as i64))
 }
 
 /// The replay of a log on stores (SCOPE 13.4). The number of steps is one of the sizes (2), the log's length one of the lengths (1); its
@@ -329,13 +446,21 @@ pub fn replay_on_stores(
     result: &mut [i64],
     fault: Option<Fault>,
 ) -> u8 {
-    if steps > STEPS {
+    let most = if is(fault, Fault::LogStepsMore) { STEPS + 1 } else { STEPS };
+    if steps > most {
         return Refusal::Range.number();
     }
-    let room = log.len() >= log_need(steps) && result.len() >= RESULT;
-    match system_in(rows, relations, asked, room, fault) {
-        Ok(system) => leave(replay(&system, steps, log), rows, relations, asked, result),
-        Err(refusal) => refusal,
+    let short = log.len() < log_need(steps);
+    if short && is(fault, Fault::LogShortFirst) {
+        return Refusal::Short.number();
+    }
+    let result_need = if is(fault, Fault::ReplayResultNine) { RESULT - 1 } else { RESULT };
+    let log_last = is(fault, Fault::LogShortLast);
+    let log_length = (log.len(), if log_last { 0 } else { log_need(steps) });
+    match checked(rows, relations, asked, &[log_length, (result.len(), result_need)], fault) {
+        Ok(_) if short => Refusal::Short.number(),
+        Ok(system) => leave(replay(&system, steps, log, fault), rows, relations, asked, result, fault),
+        Err(refusal) => refusal.number(),
     }
 }
 
@@ -348,20 +473,34 @@ pub fn run_logged_on_stores(
     result: &mut [i64],
     fault: Option<Fault>,
 ) -> u8 {
-    let room = log.len() >= LOG_STORE && result.len() >= LOGGED_RESULT;
-    let system = match system_in(rows, relations, asked, room, fault) {
+    let need = if is(fault, Fault::LoggedStoreShorter) { LOG_STORE - 1 } else { LOG_STORE };
+    let result_need = if is(fault, Fault::LoggedResultTen) { RESULT } else { LOGGED_RESULT };
+    let system = match checked(rows, relations, asked, &[(log.len(), need), (result.len(), result_need)], fault) {
         Ok(system) => system,
-        Err(refusal) => return refusal,
+        Err(refusal) => return refusal.number(),
     };
-    let log = &mut log[..LOG_STORE];
-    log.fill(0);
-    result[RESULT] = 0;
-    let outcome = run_logged(&system).map(|(run, steps)| {
+    let (needed, mut told) = (LOG_STORE.min(log.len()), 0);
+    let log = &mut log[..needed];
+    let outcome = run_logged(&system, fault).map(|(run, steps)| {
         let (numbers, behind) = log.split_at_mut(STEP * steps.len());
         numbers.chunks_mut(STEP).zip(&steps).for_each(|(places, step)| places.copy_from_slice(&step.numbers()));
-        behind[..COLUMNS].copy_from_slice(&order_numbers(&run.order));
-        result[RESULT] = steps.len() as i64;
+        let (order, tail) = behind.split_at_mut(COLUMNS);
+        order.copy_from_slice(&order_numbers(if is(fault, Fault::LoggedNoOrder) { &[] } else { &run.order }));
+        if !is(fault, Fault::LoggedTailKept) {
+            tail.fill(0);
+        }
+        told = match fault {
+            // The steps of a run by steps: an exchange belongs to the combination behind it.
+            Some(Fault::LoggedStepsOfRun) => steps.len() - run.exchanges,
+            _ => steps.len(),
+        };
         run
     });
-    leave(outcome, rows, relations, asked, result)
+    if outcome.is_err() && !is(fault, Fault::LoggedRefusedKept) {
+        zero_needed(log, needed, fault);
+    }
+    if result.len() > RESULT && !(outcome.is_err() && is(fault, Fault::StoresKept)) {
+        result[RESULT] = told as i64;
+    }
+    leave(outcome, rows, relations, asked, result, fault)
 }

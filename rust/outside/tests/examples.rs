@@ -1,7 +1,10 @@
-//! The stored answers of `examples/`: what this implementation writes on the same sheets, batches and differential sheets, and shows of runs.
+//! The stored answers of `examples/`: what this implementation writes on the same sheets, batches and differential sheets, and shows of
+//! runs and replays.
 
+use outside::logs::{replay, run_logged, Step};
+use outside::polynomial::Polynomial;
 use outside::record::{check, Answer, Record};
-use outside::sheet::read;
+use outside::sheet::{read, write, Sheet};
 use outside::steps::{prepared, run_steps, State};
 use std::fs;
 use std::path::{Path, PathBuf};
@@ -106,4 +109,60 @@ fn shown(mut state: State) -> String {
             return text + &format!("finished, rank {settled}, {root}\n");
         }
     }
+}
+
+/// A log as text: a line for each step, and the order.
+fn log_of(text: &str) -> (Vec<Step>, [i64; 4]) {
+    let (mut steps, mut order) = (Vec::new(), [0; 4]);
+    for line in text.lines() {
+        let (kind, numbers) = line.split_once(' ').unwrap_or((line, ""));
+        let numbers: Vec<i128> = numbers.split_ascii_whitespace().map(|number| number.parse().unwrap()).collect();
+        let row = |k: usize| numbers[k] as usize;
+        steps.push(match kind {
+            "exchange" => Step::Exchange(row(0), row(1)),
+            "combine" => {
+                let (g, h) = numbers[4..].split_at(row(3));
+                let (g, h) = (Polynomial::new(g.to_vec()), Polynomial::new(h[1..].to_vec()));
+                Step::Combine { i: row(0), j: row(1), integer: numbers[2], g, h }
+            }
+            "up" => Step::Up(row(0)),
+            "down" => Step::Down(row(0)),
+            "drop" => Step::Drop(row(0)),
+            _ => {
+                assert_eq!(kind, "order");
+                order.iter_mut().zip(&numbers).for_each(|(place, &column)| *place = column as i64);
+                continue;
+            }
+        });
+    }
+    (steps, order)
+}
+
+/// What the replay of each log leaves of its sheet; and that `k2-own` is the log of our own run.
+#[test]
+fn logs() {
+    let folder = Path::new(env!("CARGO_MANIFEST_DIR")).join("../../examples");
+    let sheet = |name: &str| read(&fs::read(folder.join(name).with_extension("sheet")).unwrap(), None).unwrap().system;
+    let paths = fs::read_dir(folder.join("logs")).unwrap().map(|file| file.unwrap().path());
+    let (mut accepted, mut refused) = (0, 0);
+    for path in paths.filter(|path| path.extension().is_some_and(|e| e == "log")) {
+        let name = path.file_stem().unwrap().to_str().unwrap().split('-').next().unwrap();
+        let (steps, order) = log_of(&fs::read_to_string(&path).unwrap());
+        let numbers: Vec<i64> = steps.iter().flat_map(Step::numbers).chain(order).collect();
+        let answer = match replay(&sheet(name), steps.len(), &numbers, None) {
+            Ok(run) => {
+                accepted += 1;
+                let left = write(&Sheet { system: run.system, order: run.order });
+                format!("0\n{}", String::from_utf8(left).unwrap())
+            }
+            Err(number) => {
+                refused += 1;
+                format!("{number}\n")
+            }
+        };
+        assert_eq!(fs::read_to_string(path.with_extension("replayed")).unwrap(), answer, "{}", path.display());
+    }
+    assert!(accepted > 1 && refused > 2);
+    let own = log_of(&fs::read_to_string(folder.join("logs/k2-own.log")).unwrap()).0;
+    assert_eq!(run_logged(&sheet("k2"), None).unwrap().1, own);
 }

@@ -106,7 +106,7 @@ fn own_log_of_k2() {
     assert_eq!(run.result[..RESULT], logged.result[..RESULT]);
     let steps = logged.result[RESULT] as usize;
     assert_eq!(logged.result[LOGGED_RESULT..], [9, 9]);
-    assert_eq!(Step::of(&written[..STEP]), Ok(combine(2, 1, 1, &[0, 1], &[-1])));
+    assert_eq!(Step::of(&written[..STEP], None), Ok(combine(2, 1, 1, &[0, 1], &[-1])));
     assert_eq!(written[STEP * steps..log_need(steps)], logged.result[2..6]);
     assert!(written[log_need(steps)..LOG_STORE].iter().all(|&a| a == 0));
     assert_eq!(written[LOG_STORE..], [9, 9]);
@@ -147,7 +147,7 @@ fn wrong_steps() {
     let right = [Step::Exchange(1, 2), combine(1, 2, 1, &[1], &[]), Step::Up(1), Step::Down(1), Step::Drop(1)];
     for step in &right {
         let numbers = step.numbers();
-        assert_eq!(Step::of(&numbers).as_ref(), Ok(step));
+        assert_eq!(Step::of(&numbers, None).as_ref(), Ok(step));
         for k in 0..STEP {
             let used = match step {
                 Step::Exchange(..) => k < 3,
@@ -157,19 +157,19 @@ fn wrong_steps() {
             for number in [1, -1, i64::MAX, i64::MIN] {
                 let mut other = numbers;
                 other[k] = number;
-                assert!(used || Step::of(&other) == Err(13), "{step:?} with {number} at {k}");
+                assert!(used || Step::of(&other, None) == Err(13), "{step:?} with {number} at {k}");
             }
         }
         for (k, number) in [(0, 0), (0, 6), (0, -1), (1, 0), (1, -1)] {
             let mut other = numbers;
             other[k] = number;
-            assert_eq!(Step::of(&other), Err(13));
+            assert_eq!(Step::of(&other, None), Err(13));
         }
     }
     let wrong = |k: usize, number: i64| {
         let mut numbers = right[1].numbers();
         numbers[k] = number;
-        Step::of(&numbers).is_err()
+        Step::of(&numbers, None).is_err()
     };
     assert!(wrong(2, 0) && wrong(3, 0) && wrong(3, -1) && !wrong(3, i64::MAX));
     for k in [4, 19, 20, 35] {
@@ -391,9 +391,9 @@ fn own_logs() {
         if let Some((steps, _)) = own_log(sheet) {
             longest = longest.max(steps);
             let system = read(sheet, None).unwrap().system;
-            let (run, _) = run_logged(&system).unwrap();
+            let (run, _) = run_logged(&system, None).unwrap();
             let left = write(&Sheet { system: run.system.clone(), order: run.order.clone() });
-            let replayed = replay(&read(&left, None).unwrap().system, 0, &log(&[], orders(&run.order))).unwrap();
+            let replayed = replay(&read(&left, None).unwrap().system, 0, &log(&[], orders(&run.order)), None).unwrap();
             assert_eq!((replayed.system, replayed.order), (run.system, run.order));
         }
         count += 1;

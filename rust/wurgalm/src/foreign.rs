@@ -64,6 +64,16 @@ foreign! {
         state: *mut i64, state_length: usize, budget: usize,
         result: *mut i64, result_length: usize,
     ) -> u8;
+    fn wurgalm_run_logged(
+        rows: *mut i64, rows_length: usize, relations: *mut i64, relations_length: usize,
+        m: usize, equations: usize, l: i64, t: i64, count: usize, log: *mut i64, log_length: usize,
+        result: *mut i64, result_length: usize,
+    ) -> u8;
+    fn wurgalm_replay(
+        rows: *mut i64, rows_length: usize, relations: *mut i64, relations_length: usize,
+        m: usize, equations: usize, l: i64, t: i64, count: usize, steps: usize, log: *const i64, log_length: usize,
+        result: *mut i64, result_length: usize,
+    ) -> u8;
     fn wurgalm_batch(
         input: *const u8, input_length: usize, output: *mut u8, output_length: usize,
         result: *mut i64, result_length: usize,

@@ -8,9 +8,11 @@
 //! coefficients a column, and 16 for its right side; see [`row_store`], [`RELATION_STORE`] and [`right_side`].
 
 mod foreign;
+mod logs;
 mod steps;
 pub mod stores;
 
+pub use logs::{replay, run_logged, Log, LogStep, Malformed, LOG_STEP, LOG_STEPS};
 pub use steps::{prepare, run_steps, Progress, Refused, Run, State, Steps};
 
 /// Whether the static library was there when this crate was built. Without it every call panics.
@@ -53,7 +55,7 @@ pub struct Sizes {
     pub t: i64,
 }
 
-/// A refusal under its number, 1 to 5 or 7 to 12.
+/// A refusal under its number, 1 to 5 or 7 to 13.
 #[derive(Clone, Copy, Debug, PartialEq, Eq)]
 pub struct Refusal(pub u8);
 

@@ -236,6 +236,76 @@ pub fn run_steps(rows: &mut [i64], relations: &mut [i64], state: &mut [i64], bud
     }
 }
 
+/// Eleven numbers in `result`: the ten of [`run_leading`], and the steps of the log. The log's store needs 36 × 1,000 + 4 numbers: the
+/// steps stand at its front, the column order behind them, then zeros. On 7 to 10 all of them are zero.
+#[allow(clippy::too_many_arguments)]
+pub fn run_logged(
+    rows: &mut [i64],
+    relations: &mut [i64],
+    m: usize,
+    equations: usize,
+    l: i64,
+    t: i64,
+    count: usize,
+    log: &mut [i64],
+    result: &mut [i64],
+) -> u8 {
+    // SAFETY: as above, four slices.
+    unsafe {
+        foreign::wurgalm_run_logged(
+            rows.as_mut_ptr(),
+            rows.len(),
+            relations.as_mut_ptr(),
+            relations.len(),
+            m,
+            equations,
+            l,
+            t,
+            count,
+            log.as_mut_ptr(),
+            log.len(),
+            result.as_mut_ptr(),
+            result.len(),
+        )
+    }
+}
+
+/// Ten numbers in `result`, those of [`run_leading`] with the steps up as the shifts. The log has 36 numbers for each of its steps and four
+/// more. On 7 to 9 and on 13 the needed parts of rows, relations and result are zero.
+#[allow(clippy::too_many_arguments)]
+pub fn replay(
+    rows: &mut [i64],
+    relations: &mut [i64],
+    m: usize,
+    equations: usize,
+    l: i64,
+    t: i64,
+    count: usize,
+    steps: usize,
+    log: &[i64],
+    result: &mut [i64],
+) -> u8 {
+    // SAFETY: as above; `log` is only read.
+    unsafe {
+        foreign::wurgalm_replay(
+            rows.as_mut_ptr(),
+            rows.len(),
+            relations.as_mut_ptr(),
+            relations.len(),
+            m,
+            equations,
+            l,
+            t,
+            count,
+            steps,
+            log.as_ptr(),
+            log.len(),
+            result.as_mut_ptr(),
+            result.len(),
+        )
+    }
+}
+
 /// One number in `result`: the length of the output. An output store that is too short is refused with all of it zero.
 pub fn batch(input: &[u8], output: &mut [u8], result: &mut [i64]) -> u8 {
     // SAFETY: as above; `input` is only read.

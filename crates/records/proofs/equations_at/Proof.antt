@@ -17,10 +17,10 @@ use Rattle.integers.specs.Ranges.{ofZ-inj}
 use Rattle.rules.specs.Limits.{rowLength}
 use Rattle.rules.specs.Rows.{Row}
 use Rattle.rules.specs.Stores.{rowOf, rowsOf, rowNeed}
+use Rattle.evaluation.specs.Evaluated.{formedOf}
 use Rattle.records.specs.Records.{Tested, equation, rowSum, rowTests, answerTo, fits}
-use Rattle.records.specs.RecordSums.{formedOf}
 use Rattle.records.specs.RecordAnswers.{answerOf, answer-past, answer-zero, answer-fails, rows-next, rows-end, row-small, row-tests-next}
-use Rattle.records.specs.declared.sums.Formed.the-variants.{Value, Past}
+use Rattle.evaluation.specs.declared.Formed.the-variants.{Value, Past}
 use Rattle.records.proofs.equations_at.Statement.{statement}
 use Rattle.records.proofs.equations_at.Tie as tie
 

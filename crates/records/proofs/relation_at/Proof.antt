@@ -28,13 +28,13 @@ use Rattle.rules.specs.Rows.{Relation}
 use Rattle.rules.specs.Stores as Stores
 use Rattle.rules.specs.Stores.{rowOf, relationOf}
 use Rattle.stores.specs.Validity.{sizesOf, index-at, row-after}
+use Rattle.evaluation.specs.Evaluated.{formedOf, farthest}
 use Rattle.records.specs.Records.{Tested, relation, fits, sumAt, rowSum, topAt, indexFrom, inside, relationTests, answerTo}
-use Rattle.records.specs.RecordSums.{formedOf, farthest}
 use Rattle.records.specs.RecordPlaces.{inside-index, top-index, top-at}
 use Rattle.records.specs.RecordAnswers.{answerOf, answer-past, answer-zero, answer-fails, relation-inside, relation-outside}
 use Rattle.records.specs.RecordAnswers.{span-few}
 use Rattle.records.specs.RecordAnswers.{t-near, l-near, index-size}
-use Rattle.records.specs.declared.sums.Formed.the-variants.{Value, Past}
+use Rattle.evaluation.specs.declared.Formed.the-variants.{Value, Past}
 use Rattle.records.proofs.relation_at.Statement.{statement}
 use Rattle.records.proofs.relation_at.Tie as tie
 

@@ -34,7 +34,7 @@ fn contains(numbers: &[usize], c: usize) -> bool
 }
 
 // Columns of 1..m, each once (SCOPE 4.53).
-fn different_columns(columns: &[usize], m: usize) -> bool
+pub fn different_columns(columns: &[usize], m: usize) -> bool
     ensures { λ r. ⌜ r ≡ differentColumns m (now (columns .entry)) ⌝ }
 {
     let mut i = 0;

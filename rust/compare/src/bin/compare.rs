@@ -5,6 +5,7 @@ use compare::cases::{text, Kind};
 use compare::clients::{unwritten, waiting};
 use compare::first_index::{Lost, Tested};
 use compare::judge::judge;
+use compare::logs::OwnLogs;
 use compare::pieces;
 use compare::steps::Divided;
 use compare::subject::{Library, Outside, Subject};
@@ -14,7 +15,7 @@ use std::process::Command;
 use std::time::Instant;
 
 /// How many cases of each kind.
-const CASES: [(Kind, usize); 12] = [
+const CASES: [(Kind, usize); 14] = [
     (Kind::Leading, 20_000),
     (Kind::Trailing, 20_000),
     (Kind::Read, 20_000),
@@ -27,6 +28,8 @@ const CASES: [(Kind, usize); 12] = [
     (Kind::Record, 20_000),
     (Kind::Steps, 10_000),
     (Kind::State, 20_000),
+    (Kind::Logged, 10_000),
+    (Kind::Replay, 20_000),
 ];
 /// Differences that are printed whole.
 const SHOWN: usize = 3;
@@ -138,6 +141,22 @@ fn divided(subject: &dyn Subject) -> usize {
     differences.len()
 }
 
+/// Systems whose runs are taken with their log.
+const OWN_LOGS: usize = 10_000;
+
+/// What is said of a run with its log, of the library's runs.
+fn own_logs(subject: &dyn Subject) -> usize {
+    let start = Instant::now();
+    let mut own = OwnLogs::default();
+    (0..OWN_LOGS).for_each(|k| own.test(k, subject));
+    let differences = &own.differences;
+    differences.iter().take(SHOWN).for_each(|difference| println!("DIFFERENCE in Own logs: {difference}"));
+    let time = start.elapsed().as_secs_f64();
+    println!("Own logs: {OWN_LOGS} cases, {} differences, {time:.1} s", differences.len());
+    own.print();
+    differences.len()
+}
+
 /// A line of the table for each kind and side.
 fn lines<'a>(tallies: &'a [(Kind, [Tally; 2])], names: &[String; 2]) -> Vec<(String, &'a Tally)> {
     let mut lines = Vec::new();
@@ -167,6 +186,7 @@ fn main() {
         reported("Induce", || fed_in_pieces(pieces::differentials(), outside::differential::output, &induce));
     differences += first_index(&other);
     differences += divided(&other);
+    differences += own_logs(&other);
     println!();
     let names = [right.name(), other.name()];
     print_refusals(&lines(&tallies, &names));

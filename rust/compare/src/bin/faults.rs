@@ -48,6 +48,8 @@ fn kind_of(case: &Case) -> &'static str {
         Case::Record { .. } => "record",
         Case::Steps { .. } => "steps",
         Case::State { .. } => "state",
+        Case::Logged { .. } => "run with its log",
+        Case::Replay { .. } => "replay",
     }
 }
 

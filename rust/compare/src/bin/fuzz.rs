@@ -3,6 +3,7 @@
 
 use compare::cases::{Answer, Stores};
 use compare::differentials::{longest_differential, whole_differential};
+use compare::logs::{elsewhere, Log};
 use compare::random::Random;
 use compare::records::{reaching, recorded, Recorded};
 use compare::sheets::{whole_sheet, whole_sheet_with};
@@ -10,10 +11,11 @@ use compare::steps::{budgets, handed_in, in_parts, MOST_STEPS};
 use compare::subject::{Library, Outside, Subject};
 use compare::systems::{limited_roots, multiple_roots, shared_roots};
 use outside::elimination::Side;
+use outside::logs::{run_logged, LOG_STORE, STEP};
 use outside::polynomial::Polynomial;
 use outside::record::{Record, INDEX, LIMIT, VALUE, VECTORS};
 use outside::row::Row;
-use outside::sheet::{write, Sheet};
+use outside::sheet::{read, write, Sheet};
 use outside::step_calls::{STATE, STEPS};
 use outside::stores::{row_store, Asked, RELATION_STORE, RESULT};
 use outside::system::{Relation, Sizes, System};
@@ -48,10 +50,10 @@ impl<T: Copy + PartialEq> Guarded<T> {
     }
 }
 
-/// The numbers that are answered: 0 to 12 without 6, and one place for any other.
-const NUMBERS: usize = 14;
+/// The numbers that are answered: 0 to 13 without 6, and one place for any other.
+const NUMBERS: usize = 15;
 /// How many of them are printed.
-const PRINTED: usize = 13;
+const PRINTED: usize = 14;
 
 /// A sheet of two equations and a relation, without its fifth section.
 const FOUR_SECTIONS: &[u8] = b"3 2 1 0\n2\n0\n0\n1\n0 0\n0\n";
@@ -74,6 +76,9 @@ enum Call {
     Prepare(Asked, Vec<i64>),
     /// The state and the budget.
     Steps(Vec<i64>, usize),
+    /// The log's store.
+    Logged(Asked, Vec<i64>),
+    Replay(Asked, Log),
 }
 
 fn answer(subject: &dyn Subject, call: &Call, stores: &Stores) -> Answer {
@@ -85,9 +90,16 @@ fn answer(subject: &dyn Subject, call: &Call, stores: &Stores) -> Answer {
         _ => &[],
     };
     let mut bytes = Guarded::new(lent, 0x5a);
-    let lent: &[i64] = if let Call::Record(_, recorded) = call { &recorded.values } else { &[] };
+    let lent: &[i64] = match call {
+        Call::Record(_, recorded) => &recorded.values,
+        Call::Replay(_, log) => &log.numbers,
+        _ => &[],
+    };
     let mut values = Guarded::new(lent, MARK);
-    let held: &[i64] = if let Call::Prepare(_, state) | Call::Steps(state, _) = call { state } else { &[] };
+    let held: &[i64] = match call {
+        Call::Prepare(_, state) | Call::Steps(state, _) | Call::Logged(_, state) => state,
+        _ => &[],
+    };
     let mut state = Guarded::new(held, MARK);
     let number = match call {
         Call::Run(side, asked) => subject.run(*side, rows.lent(), relations.lent(), *asked, result.lent()),
@@ -106,8 +118,14 @@ fn answer(subject: &dyn Subject, call: &Call, stores: &Stores) -> Answer {
         Call::Steps(_, budget) => {
             subject.run_steps(rows.lent(), relations.lent(), state.lent(), *budget, result.lent())
         }
+        Call::Logged(asked, _) => {
+            subject.run_logged(rows.lent(), relations.lent(), *asked, state.lent(), result.lent())
+        }
+        Call::Replay(asked, log) => {
+            subject.replay(rows.lent(), relations.lent(), *asked, log.steps, values.lent(), result.lent())
+        }
     };
-    assert!(values.returned() == lent, "a call wrote into a record");
+    assert!(values.returned() == lent, "a call wrote into a record or a log");
     let stores = Stores { rows: rows.returned(), relations: relations.returned(), result: result.returned() };
     Answer { number, stores, bytes: bytes.returned(), state: state.returned() }
 }
@@ -480,6 +498,51 @@ impl Fuzz {
     }
 }
 
+/// Elimination logs.
+impl Fuzz {
+    /// Our own log of a sheet: with each of its numbers made others, each number of steps about its own and about the most, a log's store of
+    /// every length; and the run that writes it, with stores of every length.
+    fn every_log(&mut self, sheet: &[u8], step: usize) {
+        let (stores, asked, _) = stores_of(sheet);
+        let log = own_log(sheet);
+        for (place, number) in (0..log.numbers.len()).flat_map(|place| NEAR_LOG_ENDS.map(|number| (place, number))) {
+            let mut changed = log.clone();
+            changed.numbers[place] = number;
+            self.call("replay, number", &Call::Replay(asked, changed), &stores);
+        }
+        let counts = (0..=log.steps + 2).chain([999, 1_000, 1_001, 1 << 32, 1 << 58, usize::MAX / STEP, usize::MAX]);
+        for steps in counts {
+            self.call("replay, steps", &Call::Replay(asked, Log { steps, ..log.clone() }), &stores);
+        }
+        for length in 0..=log.numbers.len() {
+            let numbers = log.numbers[..length].to_vec();
+            self.call("replay, length", &Call::Replay(asked, Log { numbers, ..log.clone() }), &stores);
+        }
+        self.every_length("replay", &Call::Replay(asked, log), &stores, step);
+        for length in (0..LOG_STORE).step_by(997).chain(LOG_STORE - 2..=LOG_STORE + 2) {
+            self.call("run with its log, length", &Call::Logged(asked, vec![7; length]), &stores);
+        }
+    }
+
+    /// A run with its log, with stores of every length.
+    fn every_logged(&mut self, sheet: &[u8]) {
+        let (stores, asked, _) = stores_of(sheet);
+        self.every_length("run with its log", &Call::Logged(asked, vec![7; LOG_STORE + 1]), &stores, 97);
+    }
+}
+
+/// Our own log of a sheet; where its run is refused, a log of no steps.
+fn own_log(sheet: &[u8]) -> Log {
+    match run_logged(&read(sheet, None).expect("a whole sheet").system, None) {
+        Ok((run, steps)) => Log::of(&steps, &run.order),
+        Err(_) => Log::of(&[], &[]),
+    }
+}
+
+/// Numbers that are near an end of some range of a log, and the ends of the type.
+const NEAR_LOG_ENDS: [i64; 16] =
+    [i64::MIN, -(C as i64) - 1, -(C as i64), -1, 0, 1, 2, 3, 4, 5, 6, 7, C as i64, C as i64 + 1, 1 << 32, i64::MAX];
+
 /// Numbers that are near an end of some range of a state, and the ends of the type.
 const NEAR_ENDS: [i64; 28] = [
     i64::MIN,
@@ -741,6 +804,21 @@ fn main() {
         fuzz.any_state(&mut random, &no_rows);
         fuzz.any_state(&mut random, stores);
     }
+    for step in [7, 13, 17] {
+        fuzz.every_log(&answered(&mut random, 0), step);
+    }
+    fuzz.every_log(sheet, 17);
+    for number in [0, 7, 8, 9, 10] {
+        fuzz.every_logged(&answered(&mut random, number));
+    }
+    let log = own_log(sheet);
+    let (whole, asked, _) = stores_of(sheet);
+    fuzz.every_position("replay", &Call::Replay(asked, log.clone()), &whole);
+    for _ in 0..30_000 {
+        let (system, log) = elsewhere(&mut random);
+        let (stores, asked, _) = stores_of(&write(&Sheet { system, order: Vec::new() }));
+        fuzz.call("replay, made elsewhere", &Call::Replay(asked, log), &stores);
+    }
     // Zero systems in whole stores, and no stores at all: a size is refused before a length.
     let zeros =
         Stores { rows: vec![0; row_store(EQUATIONS)], relations: vec![0; RELATION_STORE], result: vec![7; RESULT] };
@@ -751,6 +829,8 @@ fn main() {
         fuzz.every_size(|asked| Call::Write(asked, vec![0; 4], vec![b'#'; 400]), &stores);
         fuzz.every_size(|asked| Call::Record(asked, measured.clone()), &stores);
         fuzz.every_size(|asked| Call::Prepare(asked, vec![7; STATE]), &stores);
+        fuzz.every_size(|asked| Call::Replay(asked, log.clone()), &stores);
+        fuzz.every_size(|asked| Call::Logged(asked, vec![7; 9]), &stores);
     }
     let answers = &fuzz.answers[..PRINTED];
     println!("{} calls, {} differences, answers 0 to {}: {answers:?}", fuzz.calls, fuzz.differences, PRINTED - 1);

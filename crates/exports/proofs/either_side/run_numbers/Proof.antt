@@ -12,7 +12,8 @@ use mir.Syntax.{w64}
 use mir.Facts.{toZ-ofZ}
 use Rattle.lists.specs.Everywhere.{all-getD-default}
 use Rattle.runs.specs.CallLaws.{resultOf}
-use Rattle.exports.specs.Results.{small-fits, small-value, answer-value, four-columns}
+use Rattle.logs.specs.Logs.{mostSteps}
+use Rattle.exports.specs.Results.{small-fits, small-value, steps-fits, steps-value, answer-value, four-columns}
 use Rattle.exports.specs.Runs.{runNumbers}
 use Rattle.exports.proofs.either_side.run_numbers.Statement.{statement}
 use Rattle.exports.proofs.either_side.run_numbers.Tie as tie
@@ -23,9 +24,9 @@ module _ (c : tie.Start) where
   unfolding resultOf
   relations = omega (arith, c .pre .few-relations)
 
-  shifts : c .args .answer .shifts ≤ 64
+  shifts : c .args .answer .shifts ≤ mostSteps
   unfolding resultOf
-  shifts = omega (arith, c .pre .few-shifts)
+  shifts = c .pre .few-shifts
 
   column : (j : ℕ) → getD (c .args .answer .order) j 0 ≤ 64
   unfolding resultOf
@@ -43,7 +44,7 @@ cast-t3 : tie.Need-cast-t3
 cast-t3 c = small-fits _ (relations (c .before .before))
 
 cast-t4 : tie.Need-cast-t4
-cast-t4 c = small-fits _ (shifts (c .before .before .before))
+cast-t4 c = steps-fits _ (shifts (c .before .before .before))
 
 array-read-t7 : tie.Need-array-read-t7
 array-read-t7 c = search needs
@@ -85,7 +86,7 @@ returns c =
     let answer = start .args .answer in
     let order = answer .order in
     let value : (j : ℕ) → _≡_ {A = ℤ} _ (pos (getD order j 0)) = λ j. small-value (getD order j 0) (column start j) in
-    (λ i. small-value (answer .relations) (relations start) i ∷ small-value (answer .shifts)
+    (λ i. small-value (answer .relations) (relations start) i ∷ steps-value (answer .shifts)
     (shifts start) i ∷ value 0 i ∷ value 1 i ∷ value 2 i ∷ value 3 i
     ∷ answer-value (answer .«has_root») i ∷ toZ-ofZ {w = w64} {z = answer .root}
     (sfits-of (c .struct-told .given .1 .1 .1 .1 .1 .0 .1)) i ∷ small-value (answer .rank) (rank start) i

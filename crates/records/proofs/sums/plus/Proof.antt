@@ -10,7 +10,8 @@ use mir.Val.{SFits}
 use mir.Facts.{toZ-ofZ}
 use Rattle.algebra.specs.Integers.{natAbs-*ℤ, natAbs-+ℤ}
 use Rattle.integers.specs.Ranges.{sfits-size}
-use Rattle.records.specs.Records.{valueLimit, valueBound}
+use Rattle.evaluation.specs.Evaluated.{valueLimit}
+use Rattle.records.specs.Records.{valueBound}
 use Rattle.records.proofs.sums.plus.Statement.{statement}
 use Rattle.records.proofs.sums.plus.Tie as tie
 

@@ -18,9 +18,10 @@ use Rattle.lists.specs.Tests.{every-part}
 use Rattle.rules.specs.Limits.{coefficientCount, entriesLength, small}
 use Rattle.rules.specs.Rows.{Row, Block}
 use Rattle.rules.specs.Stores.{rowOf}
-use Rattle.records.specs.Records.{valueLimit, after, lessRight, horner, withBlocks}
-use Rattle.records.specs.RecordSums.{formedOf, blockRoom, horner-size, blocks-size, row-left, row-right, row-formed}
-use Rattle.records.specs.declared.sums.Formed.the-variants.{Value, Past}
+use Rattle.evaluation.specs.Evaluated.{valueLimit, after, horner, formedOf, horner-size}
+use Rattle.records.specs.Records.{lessRight, withBlocks}
+use Rattle.records.specs.RecordSums.{blockRoom, blocks-size, row-left, row-right, row-formed}
+use Rattle.evaluation.specs.declared.Formed.the-variants.{Value, Past}
 use Rattle.records.proofs.sums.row_sum.Statement.{statement}
 use Rattle.records.proofs.sums.row_sum.Tie as tie
 

@@ -18,10 +18,11 @@ use Rattle.rules.specs.Limits.{blockLength}
 use Rattle.rules.specs.Rows.{Block}
 use Rattle.rules.specs.Stores.{rowOf}
 use Rattle.rules.specs.Layout.{blockOf}
+use Rattle.evaluation.specs.Evaluated.{formedOf}
 use Rattle.records.specs.Records.{withBlock, withBlocks}
-use Rattle.records.specs.RecordSums.{vector-room, columns-few, formedOf, blockRoom, block-size, blocks-next, blocks-past, blocks-of}
+use Rattle.records.specs.RecordSums.{vector-room, columns-few, blockRoom, block-size, blocks-next, blocks-past, blocks-of}
 use Rattle.records.specs.RecordSums.{columns-of}
-use Rattle.records.specs.declared.sums.Formed.the-variants.{Value, Past}
+use Rattle.evaluation.specs.declared.Formed.the-variants.{Value, Past}
 use Rattle.records.proofs.sums.with_blocks.Statement.{statement}
 use Rattle.records.proofs.sums.with_blocks.Tie as tie
 

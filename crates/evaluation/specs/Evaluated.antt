@@ -1,0 +1,111 @@
+-- Horner's rule with a limit on every value on the way.
+--
+-- Main definitions
+--   valueLimit, within   2^40, and a value unless it is past it
+--   after                what follows a value, and nothing where there is none
+--   horner n p           the value of p at n by Horner's rule, none where a value on the way is past the limit
+--   formedOf             the value that a `Formed` has, none where a value is past the limit
+--   farthest             no n at which a program evaluates is farther from 0
+--
+-- Main statements
+--   within-yes, within-no, within-size   a value that is kept is within the limit
+--   after-some                  what comes after a value that is there
+--   horner-next, horner-past    a coefficient more, at the low end; what is past the limit stays so
+--   horner-size                 a value that is formed is within the limit
+--   horner-eval                 where Horner's rule gives a value, it is that of the polynomial
+use Prim.Native.Nat.{ℕ, zero, suc, _+_, _≤_, _<_}
+use native.Mathlib.Omega.{arith}
+use mathlib.Core.Path.{_≡_, refl, sym, _∙_, ap}
+use mathlib.Core.Bool.{Bool, true, false, cond}
+use mathlib.Core.List.{[], _∷_}
+use mathlib.Core.Option.{Option, none, some}
+use lib.Dec.{T, leb, leb→le, le→leb}
+use lib.ListN.{length, drop, getD}
+use lib.IntN.{ℤ, pos, natAbs, _+ℤ_, _*ℤ_}
+use Rattle.algebra.specs.Polynomials.{Polynomial, eval}
+use Rattle.lists.specs.Taken.{drop-next}
+use Rattle.lists.specs.Tests.{true-of, false-of}
+use Rattle.evaluation.specs.declared.Formed.{Formed}
+use Rattle.evaluation.specs.declared.Formed.the-variants.{Value, Past}
+
+-- No value of Horner's rule may pass ±2^40 (SCOPE 12.31, 14.33).
+abbrev pub valueLimit : ℕ
+valueLimit = 1099511627776
+
+unfoldable pub within : ℤ → Option ℤ
+within v = cond (leb (natAbs v) valueLimit) (some v) none
+
+-- What follows a value, and nothing where there is none.
+unfoldable pub after : {A B : Type 0} → (A → Option B) → Option A → Option B
+after f none = none
+after f (some v) = f v
+
+-- From the highest power down, over all coefficients that are there: zeros at the top leave the value at 0.
+unfoldable pub horner : ℤ → Polynomial → Option ℤ
+unfolding after within
+horner n [] = some (pos 0)
+horner n (a ∷ p) = after (λ v. within (a +ℤ n *ℤ v)) (horner n p)
+
+unfoldable pub formedOf : Formed → Option ℤ
+formedOf (Value v) = some v
+formedOf Past = none
+
+-- 2^21: the indices of a record are within ±2^20, and blocks reach 64 further; solutions stay nearer to 0.
+abbrev pub farthest : ℕ
+farthest = 2097152
+
+-- ---- laws
+
+pub within-yes : (v : ℤ) → natAbs v ≤ valueLimit → within v ≡ some v
+unfolding within
+within-yes v h = ap (λ t. cond t (some v) none) (true-of (leb (natAbs v) valueLimit) (le→leb (natAbs v) valueLimit h))
+
+pub within-no : (v : ℤ) → valueLimit < natAbs v → within v ≡ none
+unfolding within
+within-no v h =
+    ap (λ t. cond t (some v) none)
+    (false-of (leb (natAbs v) valueLimit) (λ t. let k = leb→le (natAbs v) valueLimit t in absurd (omega arith)))
+
+pub within-size : (v w : ℤ) → within v ≡ some w → (w ≡ v) × (natAbs v ≤ valueLimit)
+unfolding within
+within-size v w e = go (leb (natAbs v) valueLimit) (leb→le (natAbs v) valueLimit) e
+  where
+    go : (t : Bool) → (T t → natAbs v ≤ valueLimit) → cond t (some v) none ≡ some w → (w ≡ v) × (natAbs v ≤ valueLimit)
+    go true h e = (cc, h tt)
+    go false h e = absurd (let z : _≡_ {A = ℕ} 0 1 = cc in omega arith)
+
+pub some-none : {A : Type 0} {v : A} → some v ≡ none → ⊥
+some-none e = let z : _≡_ {A = ℕ} 0 1 = cc in omega arith
+
+-- What follows a value that is there.
+pub after-some : {A B : Type 0} (f : A → Option B) (o : Option A) (q : B) → after f o ≡ some q → (v : A) × (o ≡ some v) × (f v ≡ some q)
+unfolding after
+after-some f none q e = absurd (some-none (sym e))
+after-some f (some v) q e = (v, refl, e)
+
+pub horner-next : (n : ℤ) (p : Polynomial) (i : ℕ) (v : ℤ) → i < length p → horner n (drop (i + 1) p) ≡ some v
+    → horner n (drop i p) ≡ within (getD p i (pos 0) +ℤ n *ℤ v)
+unfolding horner after
+horner-next n p i v h e =
+    ap (horner n) (drop-next p i (pos 0) h) ∙ ap (after (λ v. within (getD p i (pos 0) +ℤ n *ℤ v))) e
+
+pub horner-past : (n : ℤ) (p : Polynomial) (i : ℕ) → horner n (drop i p) ≡ none → horner n p ≡ none
+unfolding horner after
+horner-past n p zero e = e
+horner-past n [] (suc i) e = e
+horner-past n (a ∷ p) (suc i) e = ap (after (λ v. within (a +ℤ n *ℤ v))) (horner-past n p i e)
+
+pub horner-size : (n : ℤ) (p : Polynomial) (v : ℤ) → horner n p ≡ some v → natAbs v ≤ valueLimit
+unfolding horner
+horner-size n [] v e = let z : v ≡ pos 0 = cc in rw z (omega arith)
+horner-size n (a ∷ p) v e =
+    let w = after-some (λ v. within (a +ℤ n *ℤ v)) (horner n p) v e in
+    let both = within-size (a +ℤ n *ℤ w .0) v (w .2) in
+    rw (both .0) (both .1)
+
+pub horner-eval : (n : ℤ) (p : Polynomial) (v : ℤ) → horner n p ≡ some v → v ≡ eval p n
+unfolding horner eval
+horner-eval n [] v e = cc
+horner-eval n (a ∷ p) v e =
+    let w = after-some (λ v. within (a +ℤ n *ℤ v)) (horner n p) v e in
+    within-size (a +ℤ n *ℤ w .0) v (w .2) .0 ∙ ap (λ x. a +ℤ n *ℤ x) (horner-eval n p (w .0) (w .1))

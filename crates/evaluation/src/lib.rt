@@ -1,0 +1,35 @@
+// The value of a polynomial at an integer by Horner's rule, with a limit on every value on the way, for recorded vectors and for
+// polynomial solutions.
+ghost use mathlib.Core.Path.{_≡_};
+ghost use Prim.Native.Nat.{_≤_};
+ghost use lib.Dec.{T};
+ghost use lib.IntN.{natAbs};
+ghost use Rattle.lists.specs.Tests.{every};
+ghost use Rattle.rules.specs.Limits.{small};
+ghost use Rattle.evaluation.specs.Evaluated as Evaluated;
+
+// 2^40, which no value of Horner's rule passes (SCOPE 12.31, 14.33).
+const LIMIT: u64 = 1_099_511_627_776;
+
+// A value or a sum, or that a value passed the limit.
+pub enum Formed {
+    Value(i64),
+    Past,
+}
+
+// Horner's rule, from the highest power down (SCOPE 12.31).
+pub fn horner(p: &[i64], n: i64) -> Formed
+    requires { ⌜ T (every small (now p)) × (natAbs n ≤ Evaluated.farthest) ⌝ }
+    ensures { λ r. ⌜ Evaluated.formedOf r ≡ Evaluated.horner n (now (p .entry)) ⌝ }
+{
+    let mut i = p.len();
+    let mut value: i64 = 0;
+    while 0 < i {
+        i -= 1;
+        value = p[i] + n * value;
+        if LIMIT < integers::magnitude(value) {
+            return Formed::Past;
+        }
+    }
+    Formed::Value(value)
+}

@@ -1,0 +1,68 @@
+-- `solutions::eliminating::settle` meets its contract.
+-- Assumes nothing.
+use mathlib.Core.Path.{_≡_, refl, _∙_}
+use mathlib.Core.Option.{none, some}
+use native.Mathlib.Omega.{arith}
+use borrow.Author.Needs.{needs}
+use denote.Ref.{now}
+use lib.ListN.{length}
+use Rattle.solutions.specs.Eliminated.{firstAt}
+use Rattle.solutions.specs.MatrixTurns.{countAfter, columnsAfter, storeAfter}
+use Rattle.solutions.specs.RowWork.{column-some, column-none}
+use Rattle.solutions.proofs.eliminating.settle.Statement.{statement}
+use Rattle.solutions.proofs.eliminating.settle.Tie as tie
+
+found : (c : tie.Then1) → firstAt (now (c .before .before .args .row)) ≡ some (c .before .first-column .result)
+found c =
+    c .before .first-column .ensures
+    ∙ column-some (length (now (c .before .before .args .row))) (c .before .first-column .result) (c .if1 .taken)
+
+missing : (c : tie.Else1) → firstAt (now (c .before .before .args .row)) ≡ none
+missing c =
+    c .before .first-column .ensures
+    ∙ column-none (length (now (c .before .before .args .row))) (c .before .first-column .result) (c .if1 .left)
+
+first-column-requires : tie.Need-first-column-requires
+first-column-requires c κs = search needs
+
+mul-save : tie.Need-mul-save
+mul-save c = search needs
+
+save-requires : tie.Need-save-requires
+save-requires c κs = search needs
+
+mul-places : tie.Need-mul-places
+mul-places c = search needs
+
+array-write-places : tie.Need-array-write-places
+unfolding countAfter
+array-write-places c =
+    let t = c .before .before .before in omega (arith, rw (found t) at (t .before .before .pre .1 .1))
+
+add-t12 : tie.Need-add-t12
+add-t12 c = search needs
+
+same-length : tie.Need-same-length
+same-length c = search needs
+
+returns : tie.Need-returns
+unfolding countAfter columnsAfter storeAfter
+returns c = rw (found (c .before .before .before)) ((refl, refl, refl), c .before .save .ensures)
+
+returns-2 : tie.Need-returns-2
+unfolding countAfter columnsAfter storeAfter
+returns-2 c = rw (missing c) ((refl, refl, refl), refl)
+
+pub settle-spec : {M : Type 1} → statement M
+settle-spec =
+    tie.close
+    (tie.spec
+    first-column-requires
+    mul-save
+    save-requires
+    mul-places
+    array-write-places
+    add-t12
+    same-length
+    returns
+    returns-2)
