@@ -24,12 +24,13 @@
  *  10  the system has no solution: the left part of a row is zero and its right side is not
  *  11  the state of a run is not right: a size or a number is out of its range, an unused position does not hold 0, or a settled row
  *      does not stand as a settled row has to (`wurgalm_run_steps` alone)
- *  12  a value of Horner's rule has passed +-2^40 (`wurgalm_check_record` alone)
+ *  12  a value of Horner's rule has passed +-2^40 (`wurgalm_check_record` and `wurgalm_solutions` alone)
  *  13  a log is not right: a step is malformed or not allowed, or the rows at its end are not triangular in its column order
  *      (`wurgalm_replay` alone)
+ *  14  the system is not one whose polynomial solutions are listed (`wurgalm_solutions` alone)
  * On 1 to 5 and on 11 no store is changed (SCOPE 6.32; but see `wurgalm_batch`). On 7 to 10, 12 and 13 the needed part of each
- * store that the function may write is zero (SCOPE 6.33; `wurgalm_run_steps` then tells the steps, and zeros). Sizes, count and
- * order are checked first (2), then the lengths of the stores (1), then their numbers (5) (SCOPE 3.31).
+ * store that the function may write is zero (SCOPE 6.33; `wurgalm_run_steps` then tells the steps, and zeros). 14 does the one or
+ * the other, as `wurgalm_solutions` says. Sizes, count and order are checked first (2), then the lengths of the stores (1), then their numbers (5) (SCOPE 3.31).
  *
  * Equal arguments give equal numbers and bytes in every store, on every installation. The relations that one multiplier
  * adds stand together, by strictly ascending n0, on the leading and on the trailing side (SCOPE 2.33). */
@@ -62,6 +63,13 @@ extern "C" {
 #define WURGALM_LOG_ORDER 4
 #define WURGALM_LOG_STEPS 1000
 #define WURGALM_LOG 36004
+
+#define WURGALM_SOLUTIONS 3 /* of polynomial solutions */
+
+/* The stores of `wurgalm_solutions`: the numbers of one sequence, of the list, and of the matrix that is lent for the work. */
+#define WURGALM_SEQUENCE 64
+#define WURGALM_LIST 4096 /* 64 x 64 */
+#define WURGALM_MATRIX 8704 /* 136 x 64 */
 
 /* Where the 16 coefficients of the right side begin in a row; in a relation, one place later. */
 #define WURGALM_RIGHT_SIDE 320
@@ -180,6 +188,25 @@ uint8_t wurgalm_run_logged(int64_t *rows, size_t rows_length, int64_t *relations
 uint8_t wurgalm_replay(int64_t *rows, size_t rows_length, int64_t *relations, size_t relations_length, size_t m,
                        size_t equations, int64_t l, int64_t t, size_t count, size_t steps, const int64_t *log,
                        size_t log_length, int64_t *result, size_t result_length);
+
+/* Which sequences satisfy the system and are zero outside the indices 0 to N?
+ * In: `rows`, `relations`, m, `equations`, l, t and `count` as for a run, whose right sides are all zero; they are only read.
+ * `work_rows` and `work_relations` are as long as those of a run, `work_matrix` has 8,704 numbers, `list` has 4,096
+ * (SCOPE 14.61); what they hold before makes no difference.
+ * N is t plus the largest integer at which a diagonal polynomial of the system's trailing run vanishes (SCOPE 14.21).
+ * Out: `list` holds the sequences, one in each 64 numbers, in which the value of unknown c (1 to m) at index i stands at place
+ * i x m + c - 1, counted from 0, and zeros elsewhere; the needed parts of the three work stores are zero (SCOPE 14.63). `result`
+ * (3 numbers, SCOPE 14.65): 1, N and the number of sequences; 0, 0, 0 where there is no such integer or N is negative.
+ * Each listed sequence satisfies the system, and its values have no common divisor above 1. What satisfies it and has finitely
+ * many values that are not zero, none below index 0, is a sum of multiples of the listed ones once it is multiplied by an integer
+ * that is not 0; with 0, 0, 0 it is zero everywhere (SCOPE 14.71, 14.72).
+ * Returns 0, 1, 2 or 5, or 14 for a right side that is not zero: then no store is changed. Found during the work: 7, 8 or 9 of
+ * the trailing run; 14 for a rank below m, or an N above 15; 12 or 8 for a value or a number that has become too large. Then the
+ * needed parts of the three work stores, of `list` and of `result` are zero (SCOPE 14.62, 14.63, 14.65). */
+uint8_t wurgalm_solutions(const int64_t *rows, size_t rows_length, const int64_t *relations, size_t relations_length, size_t m,
+                          size_t equations, int64_t l, int64_t t, size_t count, int64_t *work_rows, size_t work_rows_length,
+                          int64_t *work_relations, size_t work_relations_length, int64_t *work_matrix, size_t work_matrix_length,
+                          int64_t *list, size_t list_length, int64_t *result, size_t result_length);
 
 /* A whole batch worked.
  * In: the bytes of the batch: a line with the number of sheets, 0 to 1,000, and for each sheet a line with its client,

@@ -839,6 +839,164 @@ static void log_of_a_refused_run(void) {
     check(same(&stores, &expected) && memcmp(&logged, &left, sizeof left) == 0, "and zeros in every needed part");
 }
 
+/* ---- polynomial solutions ---- */
+
+/* The stores of the work, the list and the result, each with some numbers past the needed part. */
+typedef struct {
+    int64_t rows[ROWS + MORE];
+    int64_t relations[WURGALM_RELATIONS + MORE];
+    int64_t matrix[WURGALM_MATRIX + MORE];
+    int64_t list[WURGALM_LIST + MORE];
+    int64_t result[WURGALM_SOLUTIONS + MORE];
+} Listed;
+
+/* How many numbers of each are lent. */
+typedef struct {
+    size_t rows, relations, matrix, list, result;
+} Lengths;
+
+static Lengths lengths(void) {
+    Lengths lent = {WURGALM_ROW, WURGALM_RELATIONS, WURGALM_MATRIX, WURGALM_LIST, WURGALM_SOLUTIONS};
+    return lent;
+}
+
+static uint8_t solutions(const Stores *stores, Asked call, Listed *listed, Lengths lent) {
+    return wurgalm_solutions(stores->rows, call.rows, stores->relations, call.relations, call.m, call.equations, call.l, call.t,
+                             call.count, listed->rows, lent.rows, listed->relations, lent.relations, listed->matrix, lent.matrix,
+                             listed->list, lent.list, listed->result, lent.result);
+}
+
+/* What every store of the work holds before a call. */
+static void unlisted(Listed *listed) {
+    fill(listed->rows, ROWS + MORE, 9);
+    fill(listed->relations, WURGALM_RELATIONS + MORE, 9);
+    fill(listed->matrix, WURGALM_MATRIX + MORE, 9);
+    fill(listed->list, WURGALM_LIST + MORE, 9);
+    fill(listed->result, WURGALM_SOLUTIONS + MORE, 9);
+}
+
+/* Zeros in the needed parts, for so many equations. */
+static void zeroed(Listed *listed, size_t equations) {
+    fill(listed->rows, equations * WURGALM_ROW, 0);
+    fill(listed->relations, WURGALM_RELATIONS, 0);
+    fill(listed->matrix, WURGALM_MATRIX, 0);
+    fill(listed->list, WURGALM_LIST, 0);
+    fill(listed->result, WURGALM_SOLUTIONS, 0);
+}
+
+/* A system of one unknown is read and asked: the answer, what the stores of the work hold then, and that the system stays as it was. */
+static void check_listed(const char *sheet, Asked call, Lengths lent, uint8_t number, const Listed *expected, const char *what) {
+    static Stores stores, kept;
+    static Listed listed;
+    uint8_t answer;
+    prepare(&stores, 9);
+    check(read_sheet(sheet, &stores, asked()) == 0, "a system to be solved is read");
+    kept = stores;
+    unlisted(&listed);
+    answer = solutions(&stores, call, &listed, lent);
+    check(answer == number, what);
+    check(same(&stores, &kept), "the system is only read");
+    check(memcmp(&listed, expected, sizeof listed) == 0, "every store of the work is left as it should be");
+}
+
+/* n (n - 1) (n - 2) x(n) = 0 with 2 x(0) + 3 x(1) - 5 x(2) = 0. */
+static const char *const three = "3 1 1 -1\n1\n1 0 1 4 0 2 -3 1\n1\n1 3 1 1 1 -5 0 1 1 3 -1 1 1 2\n0\n";
+/* The same with a right side of the relation. */
+static const char *const three_sides = "3 1 1 -1\n1\n1 0 1 4 0 2 -3 1\n1\n1 3 1 1 1 -5 0 1 1 3 -1 1 1 2\n0\n2\n0\n1 4\n";
+
+static Asked asked_of_three(void) {
+    Asked call = asked();
+    call.m = call.equations = call.count = 1;
+    call.l = 1;
+    call.t = -1;
+    return call;
+}
+
+static Asked asked_of_one_block(size_t equations) {
+    Asked call = asked();
+    call.m = 1;
+    call.equations = equations;
+    call.l = call.t = 0;
+    return call;
+}
+
+static void lists(void) {
+    static Listed expected;
+    Asked call = asked_of_three();
+    unlisted(&expected);
+    zeroed(&expected, 1);
+    expected.list[0] = -3;
+    expected.list[1] = 2;
+    expected.list[WURGALM_SEQUENCE] = 5;
+    expected.list[WURGALM_SEQUENCE + 2] = 2;
+    expected.result[0] = 1;
+    expected.result[1] = expected.result[2] = 2;
+    check_listed(three, call, lengths(), 0, &expected, "solutions, two sequences up to N = 2");
+    unlisted(&expected);
+    zeroed(&expected, 1);
+    call = asked_of_one_block(1);
+    check_listed("3 1 0 0\n1\n1 0 1 1 7\n0\n0\n", call, lengths(), 0, &expected, "solutions, no root: none");
+    check_listed("3 1 0 0\n1\n1 0 1 2 1 1\n0\n0\n", call, lengths(), 0, &expected, "solutions, N = -1: none");
+    check_listed("3 1 0 0\n1\n1 0 1 2 -16 1\n0\n0\n", call, lengths(), 14, &expected, "solutions, N = 16: 14 during the work");
+    call = asked_of_three();
+    call.count = 2;
+    check_listed("3 1 1 -1\n1\n1 0 1 4 0 2 -3 1\n2\n1 2 0 1 1 -1 -1 1 1 20000\n2 2 0 1 1 -1 -1 1 1 20000\n0\n", call, lengths(), 8,
+                 &expected, "solutions, a listed value past its limit: 8");
+    call = asked_of_one_block(1);
+    call.count = 1;
+    call.l = 64;
+    call.t = 63;
+    check_listed("3 1 64 63\n1\n1 63 1 2 -62 -1\n1\n-62 1 63 1 7 0 0 0 0 0 0 20\n0\n", call, lengths(), 12, &expected,
+                 "solutions, 20 n^6 passes 2^40: 12");
+    unlisted(&expected);
+    zeroed(&expected, 0);
+    check_listed("3 1 0 0\n0\n0\n0\n", asked_of_one_block(0), lengths(), 14, &expected, "solutions, rank below m: 14 during the work");
+}
+
+static void not_listed(void) {
+    static Listed expected;
+    Asked call = asked_of_three();
+    Lengths lent = lengths();
+    unlisted(&expected);
+    check_listed(three_sides, call, lent, 14, &expected, "solutions, a right side: 14 before the work");
+    call.m = 5;
+    lent.list = 0;
+    check_listed(three, call, lent, 2, &expected, "solutions, m = 5, before a store too short: 2");
+    call = asked_of_three();
+    lent = lengths();
+    lent.rows--;
+    check_listed(three, call, lent, 1, &expected, "solutions, work rows too short: 1");
+    lent = lengths();
+    lent.relations--;
+    check_listed(three, call, lent, 1, &expected, "solutions, work relations too short: 1");
+    lent = lengths();
+    lent.matrix--;
+    check_listed(three, call, lent, 1, &expected, "solutions, matrix too short: 1");
+    lent = lengths();
+    lent.list--;
+    check_listed(three_sides, call, lent, 1, &expected, "solutions, list too short, before a right side: 1");
+    lent = lengths();
+    lent.result--;
+    check_listed(three, call, lent, 1, &expected, "solutions, result too short: 1");
+    lent = lengths();
+    call.rows = WURGALM_ROW - 1;
+    check_listed(three, call, lent, 1, &expected, "solutions, row store too short: 1");
+}
+
+/* A number past its limit is found before a right side. */
+static void not_listed_numbers(void) {
+    static Stores stores, kept;
+    static Listed listed, expected;
+    prepare(&stores, 9);
+    check(read_sheet(three_sides, &stores, asked()) == 0, "a system with a right side is read");
+    stores.rows[WURGALM_ROW - 1] = 268435456;
+    kept = stores;
+    unlisted(&listed);
+    expected = listed;
+    check(solutions(&stores, asked_of_three(), &listed, lengths()) == 5, "solutions, a number past its limit, before a right side: 5");
+    check(same(&stores, &kept) && memcmp(&listed, &expected, sizeof listed) == 0, "and no store is changed");
+}
+
 /* ---- a whole batch ---- */
 
 /* What a call on a batch answers and leaves: the number, and a result and an output that begin so, with everything past them as before. */
@@ -1058,6 +1216,9 @@ int main(void) {
     logs_unread();
     logs_unwritten();
     log_of_a_refused_run();
+    lists();
+    not_listed();
+    not_listed_numbers();
     runs_refused_before_the_work(wurgalm_run_leading, "leading");
     runs_refused_before_the_work(wurgalm_run_trailing, "trailing");
     runs_refused_during_the_work(wurgalm_run_leading);

@@ -15,4 +15,6 @@ pub mod LiftedExports
 pub mod LiftedSteps
 pub mod LiftedLogs
 pub mod MirroredRun
+pub mod SolutionWords
+pub mod LiftedSolutions
 pub mod Claims

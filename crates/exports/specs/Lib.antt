@@ -9,3 +9,4 @@ pub mod RecordNumbers
 pub mod StateNumbers
 pub mod StepNumbers
 pub mod LogNumbers
+pub mod SolutionNumbers

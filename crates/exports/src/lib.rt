@@ -4,6 +4,7 @@
 use sides::Side;
 ghost use mathlib.Core.Path.{_≡_};
 ghost use Rattle.rules.specs.Elimination.{leading, trailing};
+ghost use Rattle.solutions.specs.AnswerStores.{workOf};
 ghost use Rattle.exports.specs.Runs.{exportRun};
 ghost use Rattle.exports.specs.Writes.{exportWrite};
 ghost use Rattle.exports.specs.Reads.{exportRead};
@@ -13,12 +14,14 @@ ghost use Rattle.exports.specs.RecordNumbers.{exportRecord};
 ghost use Rattle.exports.specs.StateNumbers.{exportPrepare};
 ghost use Rattle.exports.specs.StepNumbers.{exportSteps};
 ghost use Rattle.exports.specs.LogNumbers.{exportReplay, exportLogged};
+ghost use Rattle.exports.specs.SolutionNumbers.{exportSolutions};
 
 mod either_side;
 mod logged;
 mod numbers;
 mod reads;
 mod recorded;
+mod solved;
 mod stepped;
 mod writes;
 
@@ -339,6 +342,47 @@ pub extern "C" fn wurgalm_replay(
         count,
         steps,
         log,
+        result,
+    )
+}
+
+// Which sequences satisfy the system and are zero outside the indices 0 to N? `list` gets them, one in each 64 numbers; the three stores
+// before it are lent for the work. `result` gets three numbers: 1 or 0 for whether there is an N from 0 on, that N, the number of
+// sequences (SCOPE 3.52, 14.63, 14.64).
+#[no_mangle]
+pub extern "C" fn wurgalm_solutions(
+    rows: &[i64],
+    relations: &[i64],
+    m: usize,
+    equations: usize,
+    l: i64,
+    t: i64,
+    count: usize,
+    work_rows: &mut [i64],
+    work_relations: &mut [i64],
+    work_matrix: &mut [i64],
+    list: &mut [i64],
+    result: &mut [i64],
+) -> u8
+    ensures { λ r. ⌜
+        record {
+          refusal = r;
+          work = workOf (now («work_rows» .exit)) (now («work_relations» .exit)) (now («work_matrix» .exit)) (now (list .exit));
+          resultStore = now (result .exit);
+        }
+        ≡ exportSolutions (record { m = m; equations = equations; l = l; t = t }) count (now (rows .entry)) (now (relations .entry))
+        (workOf (now («work_rows» .entry)) (now («work_relations» .entry)) (now («work_matrix» .entry)) (now (list .entry)))
+        (now (result .entry)) ⌝ }
+{
+    solved::exported(
+        rows,
+        relations,
+        stores::validity::Sizes { m, equations, l, t },
+        count,
+        work_rows,
+        work_relations,
+        work_matrix,
+        list,
         result,
     )
 }

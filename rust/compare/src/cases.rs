@@ -6,11 +6,13 @@ use crate::logs::{elsewhere, log_store, logged_and_replayed, replayed, Log};
 use crate::random::Random;
 use crate::records::{damage_record, recorded, Recorded};
 use crate::sheets::sheet;
+use crate::solutions::{called, solvable, work, Work};
 use crate::steps::{budgets, handed_in, in_parts, prepared_and_run, state_store};
 use crate::subject::Subject;
 use crate::systems::system;
 use outside::elimination::Side;
 use outside::logs::LOGGED_RESULT;
+use outside::solutions::ANSWER;
 use outside::step_calls::STEPS;
 use outside::stores::{
     row_store, store, Asked, COEFFICIENTS, ENTRIES, HEADING, RECORD, RELATION, RELATION_STORE, RESULT, ROW,
@@ -26,8 +28,8 @@ pub struct Stores {
     pub result: Vec<i64>,
 }
 
-/// What a call leaves: its number, the stores, the bytes of a writer or of the batch program, and the state of a run by steps or the log
-/// of a run.
+/// What a call leaves: its number, the stores, the bytes of a writer or of the batch program, and the state of a run by steps, the log
+/// of a run or what else the call works in.
 #[derive(Clone, PartialEq, Eq)]
 pub struct Answer {
     pub number: u8,
@@ -75,6 +77,8 @@ pub enum Case {
     Logged { stores: Stores, asked: Asked, log: Vec<i64> },
     /// The replay of a log that was made elsewhere.
     Replay { stores: Stores, asked: Asked, log: Log },
+    /// A system whose polynomial solutions are listed, with the stores for that.
+    Solutions { stores: Stores, asked: Asked, work: Work },
 }
 
 #[derive(Clone, Copy, Debug, PartialEq, Eq)]
@@ -93,11 +97,12 @@ pub enum Kind {
     State,
     Logged,
     Replay,
+    Solutions,
 }
 
 impl Kind {
     /// Calls on stores, which take no time to speak of.
-    pub const CALLS: [Kind; 11] = [
+    pub const CALLS: [Kind; 12] = [
         Kind::Leading,
         Kind::Trailing,
         Kind::Read,
@@ -109,6 +114,7 @@ impl Kind {
         Kind::State,
         Kind::Logged,
         Kind::Replay,
+        Kind::Solutions,
     ];
     /// Batches and programs.
     pub const SLOW: [Kind; 3] = [Kind::Batch, Kind::BatchCall, Kind::Induce];
@@ -132,6 +138,7 @@ impl Kind {
             Kind::State => state_case(&mut random),
             Kind::Logged => logged_case(&mut random),
             Kind::Replay => replay_case(&mut random),
+            Kind::Solutions => solutions_case(&mut random),
         }
     }
 }
@@ -283,6 +290,21 @@ fn replay_case(random: &mut Random) -> Case {
     Case::Replay { stores, asked, log }
 }
 
+/// A system, its stores and sizes of every eighth call made wrong.
+fn solutions_case(random: &mut Random) -> Case {
+    let system = solvable(random);
+    let mut stores = lent(random, &system, ANSWER);
+    let mut asked = asked_of(&system);
+    let work = work(random, asked.equations);
+    if random.one_in(8) {
+        damage(random, &mut stores, &mut asked);
+    }
+    if random.one_in(20) {
+        stores.result.truncate(ANSWER - 1);
+    }
+    Case::Solutions { stores, asked, work }
+}
+
 fn written_order(order: &[i64]) -> Vec<usize> {
     order.iter().filter(|&&c| c > 0).map(|&c| c as usize).collect()
 }
@@ -401,6 +423,7 @@ impl Case {
             Case::State { stores, state, budgets } => in_parts(subject, stores, state, budgets),
             Case::Logged { stores, asked, log } => logged_and_replayed(subject, stores, *asked, log),
             Case::Replay { stores, asked, log } => vec![replayed(subject, stores, *asked, log)],
+            Case::Solutions { stores, asked, work } => vec![called(subject, stores, *asked, work)],
             Case::Recurrence { sheet, bytes, result } => {
                 let (mut bytes, mut result) = (bytes.clone(), result.clone());
                 let number = subject.write_recurrence(sheet, &mut bytes, &mut result);
@@ -445,6 +468,10 @@ impl Case {
             Case::Logged { stores, asked, log } => format!("log store {}, {}", log.len(), stores.shown(*asked)),
             Case::Replay { stores, asked, log } => {
                 format!("{} steps, log {:?}, {}", log.steps, log.numbers, stores.shown(*asked))
+            }
+            Case::Solutions { stores, asked, work } => {
+                let lengths: Vec<usize> = work.iter().map(Vec::len).collect();
+                format!("solutions, work stores {lengths:?}, {}", stores.shown(*asked))
             }
         }
     }

@@ -34,7 +34,7 @@ fn answer_difference(a: &Answer, b: &Answer, right: &str, other: &str) -> String
         ("row store", &a.stores.rows, &b.stores.rows),
         ("relation store", &a.stores.relations, &b.stores.relations),
         ("result", &a.stores.result, &b.stores.result),
-        ("state or log", &a.state, &b.state),
+        ("state, log or work stores", &a.state, &b.state),
     ];
     for (name, a, b) in stores {
         if let Some(at) = a.iter().zip(b).position(|(a, b)| a != b) {

@@ -14,6 +14,8 @@ pub mod random;
 pub mod records;
 pub mod runs;
 pub mod sheets;
+pub mod solution_files;
+pub mod solutions;
 pub mod step_files;
 pub mod steps;
 pub mod subject;

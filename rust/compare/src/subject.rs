@@ -4,6 +4,7 @@ use outside::elimination::Side;
 use outside::fault::Fault;
 use outside::logs::{replay_on_stores, run_logged_on_stores};
 use outside::record::Record;
+use outside::solutions::{solutions_on_stores, Lent};
 use outside::step_calls::{prepare_on_stores, run_steps_on_stores};
 use outside::stores::{batch_on_stores, check_record_on_stores, read_differential_on_stores, read_on_stores};
 use outside::stores::{run_on_stores, write_on_stores, write_recurrence_on_stores, Asked};
@@ -62,6 +63,7 @@ pub trait Subject {
         log: &[i64],
         result: &mut [i64],
     ) -> u8;
+    fn solutions(&self, rows: &[i64], relations: &[i64], asked: Asked, lent: Lent, result: &mut [i64]) -> u8;
 }
 
 /// The outside implementation.
@@ -152,6 +154,10 @@ impl Subject for Outside {
         result: &mut [i64],
     ) -> u8 {
         replay_on_stores(rows, relations, asked, steps, log, result, self.0)
+    }
+
+    fn solutions(&self, rows: &[i64], relations: &[i64], asked: Asked, lent: Lent, result: &mut [i64]) -> u8 {
+        solutions_on_stores(rows, relations, asked, lent, result, self.0)
     }
 }
 
@@ -293,6 +299,12 @@ impl Subject for Library {
     ) -> u8 {
         let Asked { m, equations, l, t, count } = asked;
         wurgalm::stores::replay(rows, relations, m, equations, l, t, count, steps, log, result)
+    }
+
+    fn solutions(&self, rows: &[i64], relations: &[i64], asked: Asked, lent: Lent, result: &mut [i64]) -> u8 {
+        let Asked { m, equations, l, t, count } = asked;
+        let Lent { rows: a, relations: b, matrix, list } = lent;
+        wurgalm::stores::solutions(rows, relations, m, equations, l, t, count, a, b, matrix, list, result)
     }
 }
 

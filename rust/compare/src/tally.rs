@@ -5,7 +5,7 @@ use outside::batch::CLIENTS;
 use std::collections::BTreeMap;
 
 /// The tables have a column for each number up to this one.
-const COLUMNS: u8 = 13;
+const COLUMNS: u8 = 14;
 
 /// Counts for the cases of one kind.
 #[derive(Default)]
@@ -18,6 +18,8 @@ pub struct Tally {
     multiplicities: BTreeMap<i64, usize>,
     /// Of records: "fits", an equation, a relation.
     kinds: BTreeMap<i64, usize>,
+    /// Of polynomial solutions: how many sequences a list has, -1 where there is none.
+    lists: BTreeMap<i64, usize>,
 }
 
 impl Tally {
@@ -32,6 +34,10 @@ impl Tally {
         }
         if let (Kind::Record, 0) = (kind, answers[0].number) {
             *self.kinds.entry(answers[0].stores.result[0]).or_default() += 1;
+        }
+        if let (Kind::Solutions, 0) = (kind, answers[0].number) {
+            let result = &answers[0].stores.result;
+            *self.lists.entry(if result[0] == 1 { result[2] } else { -1 }).or_default() += 1;
         }
         if let (Kind::Leading | Kind::Trailing, 0) = (kind, answers[0].number) {
             let result = &answers[0].stores.result;
@@ -82,6 +88,13 @@ impl Tally {
     pub fn print_kinds(&self, name: &str) {
         let [fits, equation, relation] = [0, 1, 2].map(|kind| self.kinds.get(&kind).copied().unwrap_or(0));
         println!("{name}, fits: {fits}, equation: {equation}, relation: {relation}");
+    }
+
+    /// How often there is no list, and how often a list has so many sequences.
+    pub fn print_lists(&self, name: &str) {
+        let none = self.lists.get(&-1).copied().unwrap_or(0);
+        let cells: Vec<String> = self.lists.range(0..).map(|(n, times)| format!("{n}: {times}")).collect();
+        println!("{name}, no list: {none}, lists by their sequences: {}", cells.join(", "));
     }
 }
 

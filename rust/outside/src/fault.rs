@@ -1,18 +1,16 @@
 //! Wrong versions of the rules, planted one at a time, to see that a comparison finds each.
 
 macro_rules! faults {
-    ($($(#[$note:meta])* $name:ident: $says:literal,)*; $($later:ident: $later_says:literal,)*) => {
+    ($($(#[$note:meta])* $name:ident: $says:literal,)*) => {
         #[derive(Clone, Copy, Debug, PartialEq, Eq)]
-        pub enum Fault { $($(#[$note])* $name,)* $($later,)* }
+        pub enum Fault { $($(#[$note])* $name,)* }
 
         impl Fault {
             pub const ALL: &'static [Fault] = &[$(Fault::$name,)*];
-            /// Those of calls that are not compared yet.
-            pub const LATER: &'static [Fault] = &[$(Fault::$later,)*];
 
             /// What this version does wrong.
             pub fn says(self) -> &'static str {
-                match self { $(Fault::$name => $says,)* $(Fault::$later => $later_says,)* }
+                match self { $(Fault::$name => $says,)* }
             }
         }
     };
@@ -289,7 +287,6 @@ faults! {
     LoggedRefusedKept: "a refused run leaves the log's store as it is",
     LoggedStoreShorter: "a log's store of 36,003 numbers is long enough for a run",
     LoggedResultTen: "a result store of ten numbers is long enough for a run with its log",
-    ;
     // Polynomial solutions.
     RelationSideListed: "a right side of a relation is not looked at before a list is made",
     SidesAfterRun: "a right side is refused after the refusals of the trailing run",

@@ -5,8 +5,8 @@
 //! 128 bits, roots are found between turning points and counted by derivatives, n + 1 is put in by Horner's rule, n -
 //! r is divided out from the lowest power up, polynomial solutions are found in fractions. A comment cites the rule of
 //! `docs/SCOPE.md` that the code below it renders, or a request as (02, U1). What the documents left open follows the
-//! paragraphs 8 to 19, 42 to 44, 50 to 56, 70 to 78, 80 to 82, 90 to 93, 100 to 107, 120 to 128 and 140 to
-//! 148 of `docs/DECISIONS.md`.
+//! paragraphs 8 to 19, 42 to 44, 50 to 56, 70 to 78, 80 to 82, 90 to 93, 100 to 107, 120 to 128, 140 to
+//! 148 and 150 to 156 of `docs/DECISIONS.md`.
 //!
 //! A run by steps (02, U9) writes down all of its states and then picks the one that its budget comes to.
 //!
@@ -18,6 +18,7 @@ pub mod common_roots;
 pub mod differential;
 pub mod elimination;
 pub mod fault;
+pub mod list_checks;
 pub mod logs;
 pub mod polynomial;
 pub mod record;

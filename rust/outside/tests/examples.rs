@@ -1,10 +1,11 @@
-//! The stored answers of `examples/`: what this implementation writes on the same sheets, batches and differential sheets, and shows of
-//! runs and replays.
+//! The stored answers of `examples/`: what this implementation writes on the same sheets, batches and differential sheets, shows of runs and
+//! replays, and finds of polynomials.
 
 use outside::logs::{replay, run_logged, Step};
 use outside::polynomial::Polynomial;
 use outside::record::{check, Answer, Record};
 use outside::sheet::{read, write, Sheet};
+use outside::solutions::list;
 use outside::steps::{prepared, run_steps, State};
 use std::fs;
 use std::path::{Path, PathBuf};
@@ -165,4 +166,56 @@ fn logs() {
     assert!(accepted > 1 && refused > 2);
     let own = log_of(&fs::read_to_string(folder.join("logs/k2-own.log")).unwrap()).0;
     assert_eq!(run_logged(&sheet("k2"), None).unwrap().1, own);
+}
+
+/// The polynomials that were found for each differential sheet of the folder, by their terms: each `+ a x^k` or `- a x^k` is read back.
+#[test]
+fn polynomials() {
+    let folder = Path::new(env!("CARGO_MANIFEST_DIR")).join("../../examples/polynomials");
+    let mut sheets = 0;
+    for name in ["legendre", "hermite", "chebyshev", "euler", "pair", "half", "laguerre"] {
+        let stored = fs::read_to_string(folder.join(name).with_extension("found")).unwrap();
+        let mut lines = stored.lines();
+        while let Some((sheet, says)) = lines.next().and_then(|line| line.split_once(": ")) {
+            let bytes = fs::read(folder.join(sheet).with_extension("differential")).unwrap();
+            let system = outside::differential::read(&bytes, None).unwrap().recurrence(None);
+            sheets += 1;
+            let found = match list(&system, None) {
+                Err(refusal) => {
+                    assert_eq!(says, format!("refused {}", refusal.number()));
+                    continue;
+                }
+                Ok(None) => {
+                    assert_eq!(says, "no polynomial");
+                    continue;
+                }
+                Ok(Some(found)) => found,
+            };
+            assert_eq!(says, format!("up to degree {}, solutions {}", found.last, found.sequences.len()));
+            for values in found.sequences {
+                let line = lines.next().unwrap().trim();
+                let mut stored = vec![0; values.len()];
+                for (unknown, polynomial) in line.split(", ").enumerate() {
+                    let (_, terms) = polynomial.split_once(" = ").unwrap();
+                    for (power, a) in terms.replace("- ", "-").replace("+ ", "").split(' ').map(term) {
+                        stored[power * system.sizes.m + unknown] = a;
+                    }
+                }
+                assert_eq!(stored, values, "{sheet}");
+            }
+        }
+        assert!(lines.next().is_none(), "{name}");
+    }
+    assert_eq!(sheets, 34);
+}
+
+/// The power and the coefficient of `a`, `ax` or `ax^k`, where a 1 is not written.
+fn term(text: &str) -> (usize, i128) {
+    let Some((number, power)) = text.split_once('x') else { return (0, text.parse().unwrap()) };
+    let a = match number {
+        "" => 1,
+        "-" => -1,
+        _ => number.parse().unwrap(),
+    };
+    (power.strip_prefix('^').map_or(1, |power| power.parse().unwrap()), a)
 }

@@ -1,7 +1,8 @@
 //! Lists of polynomial solutions, by hand, on many small systems, and on a file of vectors (02, U13).
 
 use outside::fault::Fault;
-use outside::polynomial::{greatest_divisor, Polynomial};
+use outside::list_checks::judged;
+use outside::polynomial::Polynomial;
 use outside::refusal::Refusal;
 use outside::row::Row;
 use outside::sheet::read;
@@ -268,36 +269,7 @@ fn made(chance: &mut Chance) -> System {
     system
 }
 
-/// What a sequence leaves of a row at n, by the powers of n.
-fn left_at(row: &Row, n: i128, m: usize, values: &[i128]) -> i128 {
-    let terms = row.entries().map(|(block, unknown, p)| {
-        let index = n + block as i128;
-        let place = index * m as i128 + unknown as i128 - 1;
-        let value = if index < 0 { 0 } else { values.get(place as usize).copied().unwrap_or(0) };
-        if value == 0 {
-            return 0;
-        }
-        let powers = p.coefficients().iter().enumerate();
-        value * powers.map(|(k, a)| a * n.pow(k as u32)).sum::<i128>()
-    });
-    terms.sum()
-}
-
-/// What is promised of a list, as far as one can try it (SCOPE 14.71): each sequence satisfies the system, has no common divisor, and is
-/// the only one that is not zero at some column, where it is positive.
-fn judge(system: &System, list: &List) {
-    let m = system.sizes.m;
-    for values in &list.sequences {
-        for row in &system.rows {
-            assert!((-90..=100).all(|n| left_at(row, n, m, values) == 0), "{system:?}");
-        }
-        assert!(system.relations.iter().all(|r| left_at(&r.row, r.n0, m, values) == 0), "{system:?}");
-        assert_eq!(values.iter().fold(0, |d, &a| greatest_divisor(d, a)), 1);
-        let alone = |column: usize| list.sequences.iter().filter(|other| other[column] != 0).count() == 1;
-        assert!((0..values.len()).any(|column| values[column] > 0 && alone(column)), "{system:?}");
-    }
-}
-
+/// Lists, and systems without one, with all that is promised of them.
 #[test]
 fn many() {
     let mut chance = Chance(13);
@@ -307,9 +279,12 @@ fn many() {
         let system = made(&mut chance);
         let outcome = sides_zero(&system, None).and_then(|()| list(&system, None));
         match &outcome {
-            Ok(None) => seen[1] += 1,
+            Ok(None) => {
+                judged(&system, None).unwrap();
+                seen[1] += 1;
+            }
             Ok(Some(list)) => {
-                judge(&system, list);
+                judged(&system, Some(list)).unwrap();
                 sequences += list.sequences.len();
                 seen[0] += 1;
             }
@@ -350,10 +325,9 @@ fn faults() {
     short.list.truncate(LIST - 1);
     cases.push(short);
     let right: Vec<(u8, Stores)> = cases.iter().map(|case| case.after(None)).collect();
-    let all: Vec<Fault> = [Fault::ALL, Fault::LATER].concat();
-    let place = |of: Fault| all.iter().position(|&fault| fault == of).unwrap();
+    let place = |of: Fault| Fault::ALL.iter().position(|&fault| fault == of).unwrap();
     let mut missed = Vec::new();
-    for &fault in &all[place(Fault::RelationSideListed)..=place(Fault::ListShorter)] {
+    for &fault in &Fault::ALL[place(Fault::RelationSideListed)..=place(Fault::ListShorter)] {
         match cases.iter().zip(&right).position(|(case, right)| case.after(Some(fault)) != *right) {
             Some(k) => println!("{fault:?}: {k}"),
             None => missed.push(fault),
@@ -385,7 +359,10 @@ fn solutions_text(system: &System) -> String {
         }
         let sequences = (0..count as usize).map(|k| &after.list[k * COLUMNS..k * COLUMNS + columns]);
         let sequences = sequences.map(|values| values.iter().map(|&a| a as i128).collect()).collect();
-        judge(system, &List { last: last as usize, sequences });
+        judged(system, Some(&List { last: last as usize, sequences })).unwrap();
+    }
+    if (number, any) == (0, 0) {
+        judged(system, None).unwrap();
     }
     assert!(after == expected, "a store is left otherwise: {system:?}");
     text

@@ -74,6 +74,13 @@ foreign! {
         m: usize, equations: usize, l: i64, t: i64, count: usize, steps: usize, log: *const i64, log_length: usize,
         result: *mut i64, result_length: usize,
     ) -> u8;
+    fn wurgalm_solutions(
+        rows: *const i64, rows_length: usize, relations: *const i64, relations_length: usize,
+        m: usize, equations: usize, l: i64, t: i64, count: usize,
+        work_rows: *mut i64, work_rows_length: usize, work_relations: *mut i64, work_relations_length: usize,
+        work_matrix: *mut i64, work_matrix_length: usize, list: *mut i64, list_length: usize,
+        result: *mut i64, result_length: usize,
+    ) -> u8;
     fn wurgalm_batch(
         input: *const u8, input_length: usize, output: *mut u8, output_length: usize,
         result: *mut i64, result_length: usize,

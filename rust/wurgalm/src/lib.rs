@@ -9,10 +9,12 @@
 
 mod foreign;
 mod logs;
+mod solutions;
 mod steps;
 pub mod stores;
 
 pub use logs::{replay, run_logged, Log, LogStep, Malformed, LOG_STEP, LOG_STEPS};
+pub use solutions::{solutions, Solutions, LIST_STORE, MATRIX_STORE, SEQUENCE};
 pub use steps::{prepare, run_steps, Progress, Refused, Run, State, Steps};
 
 /// Whether the static library was there when this crate was built. Without it every call panics.
@@ -55,7 +57,7 @@ pub struct Sizes {
     pub t: i64,
 }
 
-/// A refusal under its number, 1 to 5 or 7 to 13.
+/// A refusal under its number, 1 to 5 or 7 to 14.
 #[derive(Clone, Copy, Debug, PartialEq, Eq)]
 pub struct Refusal(pub u8);
 

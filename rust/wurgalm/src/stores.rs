@@ -306,6 +306,50 @@ pub fn replay(
     }
 }
 
+/// Three numbers in `result`: 1, N and the number of sequences, or zeros where there is no N from 0 on. From the trailing run on the needed
+/// parts of the three work stores end as zeros, and on a refusal those of the list and of the result too; what is refused before it (2, 1, 5,
+/// and 14 for a right side) leaves every store as it was.
+#[allow(clippy::too_many_arguments)]
+pub fn solutions(
+    rows: &[i64],
+    relations: &[i64],
+    m: usize,
+    equations: usize,
+    l: i64,
+    t: i64,
+    count: usize,
+    work_rows: &mut [i64],
+    work_relations: &mut [i64],
+    work_matrix: &mut [i64],
+    list: &mut [i64],
+    result: &mut [i64],
+) -> u8 {
+    // SAFETY: as above; `rows` and `relations` are only read.
+    unsafe {
+        foreign::wurgalm_solutions(
+            rows.as_ptr(),
+            rows.len(),
+            relations.as_ptr(),
+            relations.len(),
+            m,
+            equations,
+            l,
+            t,
+            count,
+            work_rows.as_mut_ptr(),
+            work_rows.len(),
+            work_relations.as_mut_ptr(),
+            work_relations.len(),
+            work_matrix.as_mut_ptr(),
+            work_matrix.len(),
+            list.as_mut_ptr(),
+            list.len(),
+            result.as_mut_ptr(),
+            result.len(),
+        )
+    }
+}
+
 /// One number in `result`: the length of the output. An output store that is too short is refused with all of it zero.
 pub fn batch(input: &[u8], output: &mut [u8], result: &mut [i64]) -> u8 {
     // SAFETY: as above; `input` is only read.

@@ -5,6 +5,7 @@ use compare::batches::framed;
 use compare::fast;
 use compare::random::Random;
 use compare::sheets::{sheet, whole_sheet};
+use compare::solutions::{needs, solvable};
 use compare::subject::{output_of, Library};
 use compare::systems::{large_shared_system, large_system};
 use compare::tally::last_counts;
@@ -216,6 +217,33 @@ fn fast_system(sheet: &[u8]) -> Box<fast::System> {
     system
 }
 
+/// Lists of polynomial solutions. The fast version has none; beside the library stands `outside`, whose rows are maps and whose numbers
+/// have 128 bits.
+fn listing(library: bool) {
+    let mut random = Random::new(6);
+    let systems: Vec<System> = (0..SHEETS).map(|_| solvable(&mut random)).collect();
+    let list = |system: &System| {
+        outside::solutions::sides_zero(system, None).and_then(|()| outside::solutions::list(system, None))
+    };
+    let listed = systems.iter().filter(|system| matches!(list(system), Ok(Some(_)))).count();
+    let sheets: Vec<Vec<u8>> =
+        systems.iter().map(|system| write(&Sheet { system: system.clone(), order: Vec::new() })).collect();
+    let time = library.then(|| {
+        let lent: Vec<(Stores, Heading)> = sheets.iter().map(|sheet| Stores::of(sheet)).collect();
+        let [mut rows, mut relations, mut matrix, mut list] = needs(wurgalm::EQUATIONS).map(|need| vec![0; need]);
+        shortest(|| {
+            for (stores, Heading { sizes: Sizes { m, equations, l, t }, relations: count, .. }) in &lent {
+                let Stores { rows: a, relations: b } = stores;
+                let (work, result) = ((&mut rows, &mut relations, &mut matrix), &mut [0; 3]);
+                let (r, s, x) = work;
+                black_box(wurgalm::stores::solutions(a, b, *m, *equations, *l, *t, *count, r, s, x, &mut list, result));
+            }
+        })
+    });
+    let outside = shortest(|| systems.iter().for_each(|system| drop(black_box(list(system)))));
+    line(&format!("polynomial solutions of {SHEETS} systems, {listed} lists, beside `outside`"), time, outside, None);
+}
+
 fn fast_batch() {
     let mut input = Vec::new();
     stdin().read_to_end(&mut input).expect("the input is read");
@@ -239,4 +267,5 @@ fn main() {
     batches("the same with pivots that share roots", &library, &shared);
     root_search(library.is_some());
     reading_and_writing(library.is_some());
+    listing(library.is_some());
 }

@@ -1,12 +1,14 @@
 //! Files of cases that were made elsewhere, compared through the exported functions: `calls [outside] FILE ..`. A `run.txt` has sheets
 //! with what their runs leave, a `differential*.txt` has differential sheets with their recurrences, a `records*.txt` has sheets with
 //! records and their answers, a `steps*.txt` has sheets with budgets and what they lead to, a `states*.txt` has states with the answers
-//! to them, a `logs*.txt` has sheets with elimination logs and what their replays leave, a `NAME.in` is a batch, whose output is in
-//! `NAME.out` beside it. Every store is judged before and after: of the needed length, longer and too short. With `outside` the outside
-//! implementation is judged in place of the library. The exit code is 1 if there is a difference, 2 if there is nothing to compare.
+//! to them, a `logs*.txt` has sheets with elimination logs and what their replays leave, a `solutions*.txt` has sheets with their
+//! polynomial solutions, a `NAME.in` is a batch, whose output is in `NAME.out` beside it. Every store is judged before and after: of the
+//! needed length, longer and too short. With `outside` the outside implementation is judged in place of the library. The exit code is 1
+//! if there is a difference, 2 if there is nothing to compare.
 
 use compare::log_files::logs_of;
 use compare::runs::{induced_of, records_of, runs_of, Judge, Judgement};
+use compare::solution_files::solutions_of;
 use compare::step_files::{states_of, steps_of};
 use compare::subject::{Library, Outside, Subject};
 use std::path::{Path, PathBuf};
@@ -46,6 +48,10 @@ fn judged(path: &Path, judge: &mut Judge, subject: &dyn Subject) -> Vec<Judgemen
     if begins(b"logs") {
         let cases = some_cases(path, logs_of(&contents(path)));
         return cases.iter().map(|case| judge.replayed(case, subject)).collect();
+    }
+    if begins(b"solutions") {
+        let cases = some_cases(path, solutions_of(&contents(path)));
+        return cases.iter().map(|case| judge.listed(case, subject)).collect();
     }
     if begins(b"differential") {
         let cases = some_cases(path, induced_of(&contents(path)));

@@ -7,6 +7,7 @@ use compare::first_index::{Lost, Tested};
 use compare::judge::judge;
 use compare::logs::OwnLogs;
 use compare::pieces;
+use compare::solutions::Listed;
 use compare::steps::Divided;
 use compare::subject::{Library, Outside, Subject};
 use compare::tally::{print_refusals, Tally};
@@ -15,7 +16,7 @@ use std::process::Command;
 use std::time::Instant;
 
 /// How many cases of each kind.
-const CASES: [(Kind, usize); 14] = [
+const CASES: [(Kind, usize); 15] = [
     (Kind::Leading, 20_000),
     (Kind::Trailing, 20_000),
     (Kind::Read, 20_000),
@@ -30,6 +31,7 @@ const CASES: [(Kind, usize); 14] = [
     (Kind::State, 20_000),
     (Kind::Logged, 10_000),
     (Kind::Replay, 20_000),
+    (Kind::Solutions, 20_000),
 ];
 /// Differences that are printed whole.
 const SHOWN: usize = 3;
@@ -157,6 +159,22 @@ fn own_logs(subject: &dyn Subject) -> usize {
     differences.len()
 }
 
+/// Systems whose lists are held against what is promised of them.
+const LISTED: usize = 5_000;
+
+/// What is said of a list, that it is complete among the rest, of the library's lists.
+fn listed(subject: &dyn Subject) -> usize {
+    let start = Instant::now();
+    let mut listed = Listed::default();
+    (0..LISTED).for_each(|k| listed.test(k, subject));
+    let differences = &listed.differences;
+    differences.iter().take(SHOWN).for_each(|difference| println!("DIFFERENCE in Complete lists: {difference}"));
+    let time = start.elapsed().as_secs_f64();
+    println!("Complete lists: {LISTED} cases, {} differences, {time:.1} s", differences.len());
+    listed.print();
+    differences.len()
+}
+
 /// A line of the table for each kind and side.
 fn lines<'a>(tallies: &'a [(Kind, [Tally; 2])], names: &[String; 2]) -> Vec<(String, &'a Tally)> {
     let mut lines = Vec::new();
@@ -187,6 +205,7 @@ fn main() {
     differences += first_index(&other);
     differences += divided(&other);
     differences += own_logs(&other);
+    differences += listed(&other);
     println!();
     let names = [right.name(), other.name()];
     print_refusals(&lines(&tallies, &names));
@@ -198,6 +217,10 @@ fn main() {
     let records = tallies.iter().filter(|(kind, _)| *kind == Kind::Record);
     for (kind, pair) in records {
         pair.iter().zip(&names).for_each(|(tally, name)| tally.print_kinds(&format!("{kind:?}, {name}")));
+    }
+    let solutions = tallies.iter().filter(|(kind, _)| *kind == Kind::Solutions);
+    for (kind, pair) in solutions {
+        pair.iter().zip(&names).for_each(|(tally, name)| tally.print_lists(&format!("{kind:?}, {name}")));
     }
     std::process::exit((differences > 0) as i32);
 }

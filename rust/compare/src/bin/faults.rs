@@ -50,6 +50,7 @@ fn kind_of(case: &Case) -> &'static str {
         Case::State { .. } => "state",
         Case::Logged { .. } => "run with its log",
         Case::Replay { .. } => "replay",
+        Case::Solutions { .. } => "solutions",
     }
 }
 

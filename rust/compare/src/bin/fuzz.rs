@@ -7,6 +7,7 @@ use compare::logs::{elsewhere, Log};
 use compare::random::Random;
 use compare::records::{reaching, recorded, Recorded};
 use compare::sheets::{whole_sheet, whole_sheet_with};
+use compare::solutions::{needs, solvable, Work};
 use compare::steps::{budgets, handed_in, in_parts, MOST_STEPS};
 use compare::subject::{Library, Outside, Subject};
 use compare::systems::{limited_roots, multiple_roots, shared_roots};
@@ -16,6 +17,7 @@ use outside::polynomial::Polynomial;
 use outside::record::{Record, INDEX, LIMIT, VALUE, VECTORS};
 use outside::row::Row;
 use outside::sheet::{read, write, Sheet};
+use outside::solutions::{Lent, ANSWER, LAST};
 use outside::step_calls::{STATE, STEPS};
 use outside::stores::{row_store, Asked, RELATION_STORE, RESULT};
 use outside::system::{Relation, Sizes, System};
@@ -50,10 +52,10 @@ impl<T: Copy + PartialEq> Guarded<T> {
     }
 }
 
-/// The numbers that are answered: 0 to 13 without 6, and one place for any other.
-const NUMBERS: usize = 15;
+/// The numbers that are answered: 0 to 14 without 6, and one place for any other.
+const NUMBERS: usize = 16;
 /// How many of them are printed.
-const PRINTED: usize = 14;
+const PRINTED: usize = 15;
 
 /// A sheet of two equations and a relation, without its fifth section.
 const FOUR_SECTIONS: &[u8] = b"3 2 1 0\n2\n0\n0\n1\n0 0\n0\n";
@@ -79,9 +81,26 @@ enum Call {
     /// The log's store.
     Logged(Asked, Vec<i64>),
     Replay(Asked, Log),
+    /// The stores of the work, and the list.
+    Solutions(Asked, Work),
+}
+
+/// A list that is asked for, all of its stores between guards.
+fn list_answer(subject: &dyn Subject, asked: Asked, work: &Work, stores: &Stores) -> Answer {
+    let [mut rows, mut relations, mut result] =
+        [&stores.rows, &stores.relations, &stores.result].map(|store| Guarded::new(store, MARK));
+    let mut work = work.each_ref().map(|store| Guarded::new(store, MARK));
+    let [a, b, c, d] = &mut work;
+    let lent = Lent { rows: a.lent(), relations: b.lent(), matrix: c.lent(), list: d.lent() };
+    let number = subject.solutions(rows.lent(), relations.lent(), asked, lent, result.lent());
+    let stores = Stores { rows: rows.returned(), relations: relations.returned(), result: result.returned() };
+    Answer { number, stores, bytes: Vec::new(), state: work.map(Guarded::returned).concat() }
 }
 
 fn answer(subject: &dyn Subject, call: &Call, stores: &Stores) -> Answer {
+    if let Call::Solutions(asked, work) = call {
+        return list_answer(subject, *asked, work, stores);
+    }
     let mut rows = Guarded::new(&stores.rows, MARK);
     let mut relations = Guarded::new(&stores.relations, MARK);
     let mut result = Guarded::new(&stores.result, MARK);
@@ -124,6 +143,7 @@ fn answer(subject: &dyn Subject, call: &Call, stores: &Stores) -> Answer {
         Call::Replay(asked, log) => {
             subject.replay(rows.lent(), relations.lent(), *asked, log.steps, values.lent(), result.lent())
         }
+        Call::Solutions(..) => unreachable!("answered above"),
     };
     assert!(values.returned() == lent, "a call wrote into a record or a log");
     let stores = Stores { rows: rows.returned(), relations: relations.returned(), result: result.returned() };
@@ -543,6 +563,48 @@ fn own_log(sheet: &[u8]) -> Log {
 const NEAR_LOG_ENDS: [i64; 16] =
     [i64::MIN, -(C as i64) - 1, -(C as i64), -1, 0, 1, 2, 3, 4, 5, 6, 7, C as i64, C as i64 + 1, 1 << 32, i64::MAX];
 
+/// Polynomial solutions.
+impl Fuzz {
+    fn solutions(&mut self, what: &str, system: System) {
+        let (stores, asked, _) = stores_of(&write(&Sheet { system, order: Vec::new() }));
+        self.call(what, &Call::Solutions(asked, work_of(asked, 0)), &stores);
+    }
+
+    /// A system with stores of every length, those of the work and the list at every 97th and near their ends.
+    fn every_work_store(&mut self, system: System) {
+        let (stores, asked, _) = stores_of(&write(&Sheet { system, order: Vec::new() }));
+        let stores = Stores { result: vec![7; ANSWER + 2], ..stores };
+        self.every_length("solutions", &Call::Solutions(asked, work_of(asked, 2)), &stores, 17);
+        for (at, need) in needs(asked.equations).into_iter().enumerate() {
+            for length in (0..need).step_by(97).chain([need.saturating_sub(1), need, need + 1]) {
+                let mut work = work_of(asked, 2);
+                work[at].resize(length, 7);
+                self.call("solutions, work stores", &Call::Solutions(asked, work), &stores);
+            }
+        }
+    }
+
+    /// Each N near the ends of its range, in each lowest block, for each number of unknowns.
+    fn every_last_index(&mut self) {
+        for t in (-64..=64).step_by(4).chain([-1, 1]) {
+            for (last, m) in (-2..=LAST + 2).flat_map(|last| (1..=4).map(move |m| (last, m))) {
+                let mut rows = vec![Row::default(); m];
+                for (row, unknown) in rows.iter_mut().zip(1..) {
+                    let index = if unknown == m { last } else { last / 2 };
+                    row.set(t, unknown, Polynomial::linear(index - t as i128));
+                }
+                let system = System { sizes: Sizes { m, l: t, t }, rows, relations: Vec::new() };
+                self.solutions(&format!("solutions, N = {last}"), system);
+            }
+        }
+    }
+}
+
+/// Work stores of the needed lengths and so many numbers more.
+fn work_of(asked: Asked, more: usize) -> Work {
+    needs(asked.equations).map(|need| vec![7; need + more])
+}
+
 /// Numbers that are near an end of some range of a state, and the ends of the type.
 const NEAR_ENDS: [i64; 28] = [
     i64::MIN,
@@ -819,6 +881,17 @@ fn main() {
         let (stores, asked, _) = stores_of(&write(&Sheet { system, order: Vec::new() }));
         fuzz.call("replay, made elsewhere", &Call::Replay(asked, log), &stores);
     }
+    for _ in 0..2 {
+        fuzz.every_work_store(solvable(&mut random));
+    }
+    fuzz.every_last_index();
+    for _ in 0..10_000 {
+        fuzz.solutions("solutions", solvable(&mut random));
+    }
+    // n (n - 1) (n - 2) x(n) = 0 with 2 x(0) + 3 x(1) - 5 x(2) = 0, and one number other.
+    let sheet = b"3 1 1 -1\n1\n1 0 1 4 0 2 -3 1\n1\n1 3 1 1 1 -5 0 1 1 3 -1 1 1 2\n0\n";
+    let (stores, asked, _) = stores_of(sheet);
+    fuzz.every_position("solutions", &Call::Solutions(asked, work_of(asked, 0)), &stores);
     // Zero systems in whole stores, and no stores at all: a size is refused before a length.
     let zeros =
         Stores { rows: vec![0; row_store(EQUATIONS)], relations: vec![0; RELATION_STORE], result: vec![7; RESULT] };
@@ -831,6 +904,7 @@ fn main() {
         fuzz.every_size(|asked| Call::Prepare(asked, vec![7; STATE]), &stores);
         fuzz.every_size(|asked| Call::Replay(asked, log.clone()), &stores);
         fuzz.every_size(|asked| Call::Logged(asked, vec![7; 9]), &stores);
+        fuzz.every_size(|asked| Call::Solutions(asked, work_of(asked, 0)), &stores);
     }
     let answers = &fuzz.answers[..PRINTED];
     println!("{} calls, {} differences, answers 0 to {}: {answers:?}", fuzz.calls, fuzz.differences, PRINTED - 1);
