@@ -74,6 +74,37 @@ extern "C" {
 /* Where the 16 coefficients of the right side begin in a row; in a relation, one place later. */
 #define WURGALM_RIGHT_SIDE 320
 
+/* The version of this header and of the library that belongs to it. */
+#define WURGALM_VERSION_MAJOR 0
+#define WURGALM_VERSION_MINOR 1
+#define WURGALM_VERSION_PATCH 0
+#define WURGALM_VERSION "0.1.0"
+
+/* Names for the refusals. docs/REFUSALS.md has each with a cause and what to do. */
+enum wurgalm_refusal {
+    WURGALM_ACCEPTED = 0,
+    WURGALM_REFUSED_SHORT = 1,
+    WURGALM_REFUSED_RANGE = 2,
+    WURGALM_REFUSED_FORM = 3,
+    WURGALM_REFUSED_END = 4,
+    WURGALM_REFUSED_NUMBER = 5,
+    WURGALM_REFUSED_DEGREE = 7,
+    WURGALM_REFUSED_COEFFICIENT = 8,
+    WURGALM_REFUSED_RELATIONS = 9,
+    WURGALM_REFUSED_INCONSISTENT = 10,
+    WURGALM_REFUSED_STATE = 11,
+    WURGALM_REFUSED_VALUE = 12
+};
+
+/* One polynomial and one right side: where their 16 coefficients begin in the row store of a system with highest block l. Rows and
+ * columns count from 1, the block is one of t to l (SCOPE 3.2). In the relation store, relation r begins at
+ * WURGALM_RELATION_AT(r) with its n0, and its row one place later. */
+#define WURGALM_COEFFICIENTS 16
+#define WURGALM_POLYNOMIAL_AT(l, row, block, column) \
+    ((size_t)((row) - 1) * WURGALM_ROW + ((size_t)((l) - (block)) * 4 + (size_t)((column) - 1)) * WURGALM_COEFFICIENTS)
+#define WURGALM_RIGHT_SIDE_AT(row) ((size_t)((row) - 1) * WURGALM_ROW + WURGALM_RIGHT_SIDE)
+#define WURGALM_RELATION_AT(relation) ((size_t)((relation) - 1) * WURGALM_RELATION)
+
 /* The elimination on the leading side.
  * In: `rows` and `relations` hold a system of m unknowns (1 to 4) and `equations` equations (0 to 6, however many unknowns
  * there are) with blocks t to l (-64 <= t <= l <= 64, l - t <= 4) and `count` relations (0 to 16) (SCOPE 1.1, 1.2, 1.23).

@@ -3,7 +3,7 @@
 
 use crate::cases::{asked_of, lent, Answer, Stores};
 use crate::random::Random;
-use crate::subject::{Outside, Subject};
+use crate::subject::Subject;
 use crate::systems::system;
 use outside::elimination::Side;
 use outside::logs::{log_need, run_logged, Replay, Step, LOGGED_RESULT, LOG_STORE, STEP};
@@ -434,14 +434,10 @@ fn holds(fact: bool, what: &str) -> Result<(), String> {
     fact.then_some(()).ok_or(what.to_string())
 }
 
-/// The right answer to a log.
-pub fn right(stores: &Stores, asked: Asked, log: &Log) -> u8 {
-    replayed(&Outside(None), stores, asked, log).number
-}
-
 #[cfg(test)]
 mod tests {
     use super::*;
+    use crate::subject::Outside;
     use outside::fault::Fault;
 
     fn tested(subject: &dyn Subject, cases: usize) -> OwnLogs {

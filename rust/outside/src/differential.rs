@@ -51,7 +51,18 @@ pub struct Differential {
 
 /// The sheet that the bytes hold: two sections and nothing behind them (4; SCOPE 10.7, 10.14).
 pub fn read(bytes: &[u8], fault: Option<Fault>) -> Result<Differential, Refusal> {
-    let mut reader = Reader { bytes, fault };
+    read_by(&mut Reader { bytes, fault })
+}
+
+/// The first fault of a differential sheet, and where the token begins at which the reading ended, in bytes from 0.
+pub fn fault_place(bytes: &[u8]) -> Option<(Refusal, usize)> {
+    let mut reader = Reader { bytes, fault: None };
+    let refusal = read_by(&mut reader).err()?;
+    Some((refusal, bytes.len() - reader.bytes.len()))
+}
+
+fn read_by(reader: &mut Reader) -> Result<Differential, Refusal> {
+    let fault = reader.fault;
     let limits = reader.limits()?;
     let equations = reader.differential_equations(limits)?;
     refused_if(!reader.bytes.is_empty() && !is(fault, Fault::DifferentialBytesAfter), Refusal::End)?;

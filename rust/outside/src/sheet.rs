@@ -123,7 +123,18 @@ fn within_limit(value: i128, fault: Option<Fault>) -> Judgement {
 /// The sheet that the bytes hold: four sections in their order, each with its count, a fifth for the right sides if one
 /// of them is not zero, and nothing behind (SCOPE 4.11, 4.16; 02, U1).
 pub fn read(bytes: &[u8], fault: Option<Fault>) -> Result<Sheet, Refusal> {
-    let mut reader = Reader { bytes, fault };
+    read_by(&mut Reader { bytes, fault })
+}
+
+/// The first fault of a sheet, and where the token begins at which the reading ended, in bytes from 0.
+pub fn fault_place(bytes: &[u8]) -> Option<(Refusal, usize)> {
+    let mut reader = Reader { bytes, fault: None };
+    let refusal = read_by(&mut reader).err()?;
+    Some((refusal, bytes.len() - reader.bytes.len()))
+}
+
+fn read_by(reader: &mut Reader) -> Result<Sheet, Refusal> {
+    let fault = reader.fault;
     let sizes = reader.sizes()?;
     let rows = reader.equations(sizes)?;
     let relations = reader.relations(sizes)?;

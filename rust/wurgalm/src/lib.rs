@@ -9,13 +9,16 @@
 
 mod foreign;
 mod logs;
+mod refusal;
 mod solutions;
 mod steps;
 pub mod stores;
+mod system;
 
 pub use logs::{replay, run_logged, Log, LogStep, Malformed, LOG_STEP, LOG_STEPS};
 pub use solutions::{solutions, Solutions, LIST_STORE, MATRIX_STORE, SEQUENCE};
 pub use steps::{prepare, run_steps, Progress, Refused, Run, State, Steps};
+pub use system::{Builder, Equation, System, Term};
 
 /// Whether the static library was there when this crate was built. Without it every call panics.
 pub const LINKED: bool = cfg!(archive);
@@ -44,6 +47,10 @@ const RECORD: usize = 4;
 pub const RECURRENCE: usize = 25_223;
 
 /// Numbers that the row store of a system with so many equations needs.
+///
+/// ```
+/// assert_eq!(wurgalm::row_store(2), 2 * wurgalm::ROW);
+/// ```
 pub const fn row_store(equations: usize) -> usize {
     equations * ROW
 }
@@ -173,6 +180,14 @@ fn heading(number: u8, result: [i64; HEADING]) -> Result<Heading, Refusal> {
 }
 
 /// Reads a sheet into the stores. A row store for [`EQUATIONS`] equations is long enough for any.
+///
+/// ```
+/// let sheet = b"3 1 0 0\n0\n0\n0\n"; // one unknown, no equations
+/// let (mut rows, mut relations) = (vec![0; wurgalm::row_store(wurgalm::EQUATIONS)], vec![0; wurgalm::RELATION_STORE]);
+/// let heading = wurgalm::read_sheet(sheet, &mut rows, &mut relations).unwrap();
+/// assert_eq!(heading.sizes, wurgalm::Sizes { m: 1, equations: 0, l: 0, t: 0 });
+/// assert_eq!(wurgalm::read_sheet(sheet, &mut [], &mut []), Err(wurgalm::Refusal(1))); // the relation store is too short
+/// ```
 pub fn read_sheet(bytes: &[u8], rows: &mut [i64], relations: &mut [i64]) -> Result<Heading, Refusal> {
     let mut result = [0; HEADING];
     let number = stores::read_sheet(bytes, rows, relations, &mut result);
@@ -198,6 +213,12 @@ pub fn read_differential(bytes: &[u8], rows: &mut [i64], relations: &mut [i64]) 
 
 /// Writes the recurrence of a differential sheet, as a sheet, to the beginning of `bytes`, and tells its length. [`RECURRENCE`] bytes
 /// are enough for any.
+///
+/// ```
+/// let mut bytes = vec![0; wurgalm::RECURRENCE];
+/// let length = wurgalm::write_recurrence(b"3 1 1 0\n1\n2 1 0 1 1 0 0 1 -1\n", &mut bytes).unwrap(); // y' = y
+/// assert_eq!(bytes[..length], *b"3 1 1 0\n1\n2 1 1 2 1 1 0 1 1 -1\n0\n0\n"); // (n + 1) y(n+1) - y(n) = 0
+/// ```
 pub fn write_recurrence(sheet: &[u8], bytes: &mut [u8]) -> Result<usize, Refusal> {
     let mut result = [0; 1];
     let number = stores::write_recurrence(sheet, bytes, &mut result);
@@ -206,6 +227,15 @@ pub fn write_recurrence(sheet: &[u8], bytes: &mut [u8]) -> Result<usize, Refusal
 
 /// Writes the sheet of the system in the stores to the beginning of `bytes`, and tells its length. The order of the heading is different
 /// columns of 1 to m, and zeros past them.
+///
+/// ```
+/// let sizes = wurgalm::Sizes { m: 1, equations: 1, l: 0, t: 0 };
+/// let heading = wurgalm::Heading { sizes, relations: 0, order: [1, 0, 0, 0] };
+/// let (mut rows, relations, mut bytes) = (vec![0; wurgalm::row_store(1)], vec![0; wurgalm::RELATION_STORE], [0; 100]);
+/// rows[1] = 7; // 7n x(n) = 0
+/// let length = wurgalm::write_sheet(&rows, &relations, &heading, &mut bytes).unwrap();
+/// assert_eq!(bytes[..length], *b"3 1 0 0\n1\n1 0 1 2 0 7\n0\n1 1\n");
+/// ```
 pub fn write_sheet(rows: &[i64], relations: &[i64], heading: &Heading, bytes: &mut [u8]) -> Result<usize, Refusal> {
     let mut result = [0; 1];
     let (Sizes { m, equations, l, t }, count) = (heading.sizes, heading.relations);
@@ -290,6 +320,11 @@ pub fn batch(input: &[u8], output: &mut [u8]) -> Result<usize, Refusal> {
 }
 
 /// Bytes that are enough for the output of a batch of so many sheets.
+///
+/// ```
+/// let mut output = vec![0; wurgalm::batch_output(0)];
+/// assert_eq!(wurgalm::batch(b"0\n", &mut output), Ok(32)); // eight lines `0 0`
+/// ```
 pub const fn batch_output(sheets: usize) -> usize {
     sheets * (2 + 65_536) + 8 * 24
 }

@@ -70,6 +70,14 @@ impl fmt::Display for Refused {
 impl Error for Refused {}
 
 /// The state before the first step of a leading run on the system in the stores, which are checked as for the run and only read.
+///
+/// ```
+/// let (rows, relations) = (vec![0; wurgalm::row_store(1)], vec![0; wurgalm::RELATION_STORE]);
+/// let sizes = wurgalm::Sizes { m: 1, equations: 1, l: 0, t: 0 };
+/// let state = wurgalm::prepare(&rows, &relations, sizes, 0).unwrap();
+/// assert_eq!((state.sizes, state.settled, state.shifts), (sizes, 0, 0));
+/// assert_eq!(wurgalm::prepare(&rows, &relations, sizes, 17), Err(wurgalm::Refusal(2))); // 16 relations are the most
+/// ```
 pub fn prepare(rows: &[i64], relations: &[i64], sizes: Sizes, count: usize) -> Result<State, Refusal> {
     let mut numbers = [0; STATE];
     let Sizes { m, equations, l, t } = sizes;

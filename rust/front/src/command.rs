@@ -1,0 +1,151 @@
+//! The dispatch: which subcommand, its arguments, its exit status.
+
+use crate::{batch, check, fits, help, induce, run, show, steps, type_in};
+use std::ffi::OsString;
+use std::io::{self, Read, Write};
+use std::process::ExitCode;
+use std::{fs, path::Path};
+use wurgalm::Refusal;
+
+/// Why a command ends without its answer.
+#[derive(Debug)]
+pub enum End {
+    /// The input is refused: exit status 1.
+    Refused(String),
+    /// The command is used wrongly, or a file cannot be read: exit status 2.
+    Misused(String),
+}
+
+impl From<Refusal> for End {
+    fn from(refusal: Refusal) -> End {
+        End::Refused(refusal.to_string())
+    }
+}
+
+/// What a subcommand writes to standard output, or why it does not.
+pub type Outcome = Result<Vec<u8>, End>;
+
+/// The arguments behind a subcommand.
+pub struct Arguments {
+    left: Vec<String>,
+}
+
+impl Arguments {
+    /// Whether an option is there, which is taken out.
+    pub fn flag(&mut self, name: &str) -> bool {
+        let before = self.left.len();
+        self.left.retain(|argument| argument != name);
+        self.left.len() < before
+    }
+
+    /// The value behind an option, both of which are taken out.
+    pub fn value(&mut self, name: &str) -> Result<Option<String>, End> {
+        let Some(at) = self.left.iter().position(|argument| argument == name) else { return Ok(None) };
+        if at + 1 == self.left.len() {
+            return Err(End::Misused(format!("{name} needs a value behind it")));
+        }
+        self.left.remove(at);
+        Ok(Some(self.left.remove(at)))
+    }
+
+    /// The files that are left: between `least` and `most` of them, and no option that is not known.
+    pub fn files(self, least: usize, most: usize) -> Result<Vec<String>, End> {
+        if let Some(option) = self.left.iter().find(|argument| argument.len() > 1 && argument.starts_with('-')) {
+            return Err(End::Misused(format!("there is no option {option} here")));
+        }
+        if self.left.len() < least {
+            return Err(End::Misused("a file is missing".into()));
+        }
+        if self.left.len() > most {
+            return Err(End::Misused(format!("one argument too many: {}", self.left[most])));
+        }
+        Ok(self.left)
+    }
+}
+
+/// The bytes of a file, or of standard input for `-`.
+pub fn bytes_of(path: &str) -> Result<Vec<u8>, End> {
+    let mut bytes = Vec::new();
+    let read = if path == "-" { io::stdin().lock().read_to_end(&mut bytes).map(|_| bytes) } else { fs::read(path) };
+    read.map_err(|error| End::Misused(format!("{}: {error}", named(path))))
+}
+
+/// A file as messages name it.
+pub fn named(path: &str) -> &str {
+    if path == "-" {
+        "standard input"
+    } else {
+        path
+    }
+}
+
+/// Whether a file is taken for a differential sheet: by the option, or by its name.
+pub fn is_differential(arguments: &mut Arguments, path: impl FnOnce(&Arguments) -> Option<String>) -> bool {
+    let named = |path: String| Path::new(&path).extension().is_some_and(|extension| extension == "differential");
+    arguments.flag("--differential") || path(arguments).is_some_and(named)
+}
+
+/// The last argument, which is the file in most subcommands.
+pub fn last(arguments: &Arguments) -> Option<String> {
+    arguments.left.last().cloned()
+}
+
+/// The first argument that is no option.
+pub fn first(arguments: &Arguments) -> Option<String> {
+    arguments.left.iter().find(|argument| !argument.starts_with("--")).cloned()
+}
+
+type Subcommand = fn(Arguments) -> Outcome;
+
+/// Every subcommand by its name. `log`, `replay` and `solutions` find their place here when their calls are exported.
+const SUBCOMMANDS: &[(&str, Subcommand)] = &[
+    ("show", show::show),
+    ("type", type_in::type_in),
+    ("check", check::check),
+    ("run", run::run),
+    ("induce", induce::induce),
+    ("steps", steps::steps),
+    ("fits", fits::fits),
+    ("batch", batch::batch),
+];
+
+fn dispatch(mut words: Vec<String>) -> Outcome {
+    if words.is_empty() {
+        return Err(End::Misused(format!("which subcommand?\n{}", help::overview().trim_end())));
+    }
+    let name = words.remove(0);
+    if matches!(name.as_str(), "--help" | "-h" | "help") {
+        return Ok(help::overview().into_bytes());
+    }
+    if name == "--version" {
+        return Ok(format!("wurgalm {}\n", env!("CARGO_PKG_VERSION")).into_bytes());
+    }
+    let Some((name, subcommand)) = SUBCOMMANDS.iter().find(|(known, _)| *known == name) else {
+        return Err(End::Misused(format!("there is no subcommand {name}; `wurgalm --help` lists them")));
+    };
+    if words.iter().any(|word| word == "--help" || word == "-h") {
+        return Ok(help::page(name).into_bytes());
+    }
+    subcommand(Arguments { left: words }).map_err(|end| match end {
+        End::Misused(message) => End::Misused(format!("{name}: {message}\n{}", help::usage(name))),
+        refused => refused,
+    })
+}
+
+/// Runs the command: its answer to standard output, messages to standard error; 0 accepted, 1 refused, 2 wrong use.
+pub fn main(arguments: Vec<OsString>) -> ExitCode {
+    let words = arguments.into_iter().map(|word| word.to_string_lossy().into_owned()).collect();
+    match dispatch(words) {
+        Ok(answer) => match io::stdout().lock().write_all(&answer) {
+            Ok(()) => ExitCode::SUCCESS,
+            Err(error) => ended(2, &format!("the answer cannot be written: {error}")),
+        },
+        Err(End::Refused(message)) => ended(1, &message),
+        Err(End::Misused(message)) => ended(2, &message),
+    }
+}
+
+fn ended(status: u8, message: &str) -> ExitCode {
+    eprintln!("wurgalm: {message}");
+    ExitCode::from(status)
+}

@@ -1,0 +1,86 @@
+//! `wurgalm fits`: whether a model explains a record, which is text or CSV.
+//!
+//! As text a record is a line with the first index and the number of vectors, and a line for each vector. As CSV it has a line for each
+//! vector, the index first and the values of the unknowns behind it, with a line of names above them or without.
+
+use crate::command::{bytes_of, first, is_differential, named, Arguments, End, Outcome};
+use crate::run::{refused, system_of};
+use wurgalm::{Answer, Record};
+
+/// A record that owns its values.
+struct Recorded {
+    first: i64,
+    vectors: usize,
+    values: Vec<i64>,
+}
+
+fn number(text: &str, line: usize) -> Result<i64, String> {
+    text.trim().parse().map_err(|_| format!("line {line}: `{}` is not a number", text.trim()))
+}
+
+/// A record in CSV.
+fn of_csv(text: &str, m: usize) -> Result<Recorded, String> {
+    let mut recorded = Recorded { first: 0, vectors: 0, values: Vec::new() };
+    for (at, content) in text.lines().enumerate().filter(|(_, content)| !content.trim().is_empty()) {
+        let (line, fields): (usize, Vec<&str>) = (at + 1, content.split(',').collect());
+        if recorded.vectors == 0 && at == 0 && fields[0].trim().parse::<i64>().is_err() {
+            continue; // names of the columns
+        }
+        let numbers = fields.iter().map(|field| number(field, line)).collect::<Result<Vec<i64>, _>>()?;
+        if numbers.len() != m + 1 {
+            return Err(format!("line {line}: {} numbers, and an index and {m} values are needed", numbers.len()));
+        }
+        if recorded.vectors == 0 {
+            recorded.first = numbers[0];
+        }
+        if i128::from(numbers[0]) != i128::from(recorded.first) + recorded.vectors as i128 {
+            return Err(format!("line {line}: index {} does not follow the one before it", numbers[0]));
+        }
+        recorded.vectors += 1;
+        recorded.values.extend(&numbers[1..]);
+    }
+    Ok(recorded)
+}
+
+/// A record as text.
+fn of_text(text: &str, m: usize) -> Result<Recorded, String> {
+    let mut numbers = Vec::new();
+    for (at, line) in text.lines().enumerate() {
+        for word in line.split_ascii_whitespace() {
+            numbers.push(number(word, at + 1)?);
+        }
+    }
+    let [first, count, values @ ..] = &numbers[..] else {
+        return Err("line 1: the first index and the number of vectors are missing".into());
+    };
+    match usize::try_from(*count) {
+        Ok(vectors) if vectors.checked_mul(m) == Some(values.len()) => {
+            Ok(Recorded { first: *first, vectors, values: values.to_vec() })
+        }
+        _ => Err(format!("{} values, and {count} vectors of {m} each are announced", values.len())),
+    }
+}
+
+pub fn fits(mut arguments: Arguments) -> Outcome {
+    let as_csv = arguments.flag("--csv");
+    let is_differential = is_differential(&mut arguments, first);
+    let files = arguments.files(2, 2)?;
+    let [model, record] = &files[..] else { return Err(End::Misused("MODEL and RECORD".into())) };
+    let system = system_of(model, is_differential)?;
+    let text = String::from_utf8_lossy(&bytes_of(record)?).into_owned();
+    let m = system.sizes().m;
+    let recorded = if as_csv || text.contains(',') { of_csv(&text, m) } else { of_text(&text, m) };
+    let name = named(record);
+    let recorded = recorded.map_err(|reason| End::Refused(format!("{name}: {reason}")))?;
+    let Recorded { first, vectors, values } = &recorded;
+    let answer = system.explains(&Record { first: *first, vectors: *vectors, values });
+    match answer.map_err(|refusal| refused(refusal, record))? {
+        Answer::Fits { tested } => Ok(format!("fits: {tested} tested, every sum is zero\n").into_bytes()),
+        Answer::Equation { number, n, sum } => {
+            Err(End::Refused(format!("{name}: equation {number} does not hold at n = {n}: its sum is {sum}")))
+        }
+        Answer::Relation { number, n0, sum } => {
+            Err(End::Refused(format!("{name}: relation {number} does not hold at n = {n0}: its sum is {sum}")))
+        }
+    }
+}

@@ -1,0 +1,75 @@
+//! The help of each subcommand.
+
+const TAIL: &str =
+    "Exit status: 0 accepted, 1 refused, 2 wrong use. Messages are on standard error. `-` is standard input.\n";
+
+/// Name, arguments, and what it does.
+const PAGES: &[(&str, &str, &str)] = &[
+    (
+        "show",
+        "[--differential] [--names X,Y,..] FILE",
+        "Writes a sheet as equations. The first line has the unknowns, the blocks l and t and the column order; relations are\n\
+         written as `at n = 0: x(1) = x(0)`. `wurgalm type` makes the same sheet of it again.\n",
+    ),
+    (
+        "type",
+        "[--differential] [-e TEXT | FILE]",
+        "Makes a sheet of equations, a line or a `;` after each: `n*x(n+1) - y(n) = 0; x(n+1) = x(n)`. Unknowns have any names and\n\
+         are columns in the order in which they occur; # begins a remark. A relation is `at n = 0: x(1) = x(0)`. With primes, as\n\
+         `x^2*y'' + x*y' + (x^2 - 1)*y = 0`, it makes a differential sheet. A first line `unknowns x, y; l = 1; t = 0; order x`\n\
+         or `unknowns y; derivatives 2; powers 2` may say what the equations leave open.\n",
+    ),
+    (
+        "check",
+        "[--differential] FILE",
+        "Tells line, column and token of the first fault of a sheet, why it is one, and what would be right there.\n",
+    ),
+    (
+        "run",
+        "[--trailing] [--sheet | --json] [--differential] [--names X,Y,..] FILE",
+        "Regularises the leading side of a system, or the trailing one, and writes rank, relations, shifts, the root with how often it\n\
+         occurs, and the rows. --sheet writes the sheet that the batch program answers, --json all of it for programs.\n",
+    ),
+    (
+        "induce",
+        "[--sheet] [--names X,Y,..] FILE",
+        "Makes of a differential sheet the recurrence for the coefficients of its series, as equations or as a sheet.\n",
+    ),
+    (
+        "steps",
+        "[--budget N] [--differential] [--names X,Y,..] FILE",
+        "Takes the leading run by N steps at a time, 1 where none is given, with a progress line on standard error after each.\n",
+    ),
+    (
+        "fits",
+        "[--differential] [--csv] MODEL RECORD",
+        "Says whether a model explains a record, or the first equation, index and sum where it does not. A record is text, the first\n\
+         index and the number of vectors and then the vectors, or CSV, a line `index,value,..` for each vector.\n",
+    ),
+    (
+        "batch",
+        "[--jobs N] [--progress] [FILE]",
+        "Works a batch and writes the same bytes as `regularise`, the sheets worked by N threads. A progress bar is on standard error\n\
+         where that is a terminal, or with --progress.\n",
+    ),
+];
+
+pub fn overview() -> String {
+    let mut text = String::from("wurgalm SUBCOMMAND ..: the recurrence regulariser\n\n");
+    for (name, arguments, _) in PAGES {
+        text += &format!("  wurgalm {name} {arguments}\n");
+    }
+    text + "\nA file is a differential sheet where its name ends in .differential, or with --differential.\n\
+            `wurgalm SUBCOMMAND --help` says more. "
+        + TAIL
+}
+
+pub fn usage(name: &str) -> String {
+    let arguments = PAGES.iter().find(|(known, ..)| *known == name).map_or("", |(_, arguments, _)| arguments);
+    format!("usage: wurgalm {name} {arguments}")
+}
+
+pub fn page(name: &str) -> String {
+    let text = PAGES.iter().find(|(known, ..)| *known == name).map_or("", |(_, _, text)| text);
+    format!("{}\n\n{text}{TAIL}", usage(name))
+}

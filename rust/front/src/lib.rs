@@ -1,0 +1,25 @@
+//! The command `wurgalm`: systems typed, shown, checked and run, over the calls of the crate `wurgalm` alone.
+//!
+//! A module for each subcommand; [`writing`] has systems as text, [`expressions`] and [`typing`] read that text, [`places`] finds
+//! the first fault of a sheet. `docs/wurgalm.1` is the manual.
+
+pub mod batch;
+mod check;
+pub mod command;
+pub mod differentials;
+pub mod expressions;
+mod fits;
+mod help;
+mod induce;
+mod json;
+pub mod places;
+mod roles;
+mod run;
+mod show;
+mod steps;
+pub mod tokens;
+mod type_in;
+pub mod typing;
+pub mod writing;
+
+pub use command::main;
