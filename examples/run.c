@@ -1,6 +1,6 @@
 /* A sheet from standard input, run on the leading side: the report, the diagonal polynomials and the right sides.
+ * The two commands at the beginning of README.md build the library; then
  *
- *     rt check exports && rt staticlib exports && cp target/staticlib/libexports.a target/staticlib/libwurgalm.a
  *     gcc -std=c99 -Iinclude examples/run.c -Ltarget/staticlib -lwurgalm -o target/run && target/run < examples/k2.sheet
  */
 #include "wurgalm.h"

@@ -1,6 +1,6 @@
-/* The recurrence regulariser for C: the functions of the static library that `rt staticlib exports` writes
- * (target/staticlib/libexports.a). Their contracts are proved: crates/exports/src/lib.rt. What they promise stands in
- * docs/SCOPE.md, whose rules are cited here by their numbers.
+/* The recurrence regulariser for C: the functions of the static library target/staticlib/libwurgalm.a, which the two commands at
+ * the beginning of README.md build. Their contracts are proved: crates/exports/src/lib.rt. What they promise stands in
+ * docs/SCOPE.md, whose rules are cited here by their numbers. examples/run.c is an example program.
  *
  * A store is lent as a pointer and the number of its members. The pointer is not null, also where that number is 0, and
  * is aligned; no two stores of one call overlap. A store that a function takes as `const` is only read. A store of
@@ -11,7 +11,7 @@
  * (SCOPE 3.2, 3.11). The relation store needs 16 x 337: `count` relations, each n0 and then a row, and zeros at the
  * places past them (SCOPE 3.4, 3.13). Positions of blocks below t and of columns above m hold 0 (SCOPE 3.3).
  *
- * Every function returns the number of a refusal, or 0 (SCOPE 6.1 to 6.12 and 13.26; 6 does not occur):
+ * Every function returns the number of a refusal, or 0 (SCOPE 6.1 to 6.14; 6 does not occur):
  *   1  a store has too few members
  *   2  a size, block, column, count or order is out of its range
  *   3  something in a sheet is not a number; or a separator, the order of the terms or a zero last coefficient is wrong,
@@ -30,7 +30,8 @@
  *  14  the system is not one whose polynomial solutions are listed (`wurgalm_solutions` alone)
  * On 1 to 5 and on 11 no store is changed (SCOPE 6.32; but see `wurgalm_batch`). On 7 to 10, 12 and 13 the needed part of each
  * store that the function may write is zero (SCOPE 6.33; `wurgalm_run_steps` then tells the steps, and zeros). 14 does the one or
- * the other, as `wurgalm_solutions` says. Sizes, count and order are checked first (2), then the lengths of the stores (1), then their numbers (5) (SCOPE 3.31).
+ * the other, as `wurgalm_solutions` says. Sizes, count and order are checked first (2), then the lengths of the stores (1), then
+ * their numbers (5) (SCOPE 3.31).
  *
  * Equal arguments give equal numbers and bytes in every store, on every installation. The relations that one multiplier
  * adds stand together, by strictly ascending n0, on the leading and on the trailing side (SCOPE 2.33). */
@@ -93,7 +94,9 @@ enum wurgalm_refusal {
     WURGALM_REFUSED_RELATIONS = 9,
     WURGALM_REFUSED_INCONSISTENT = 10,
     WURGALM_REFUSED_STATE = 11,
-    WURGALM_REFUSED_VALUE = 12
+    WURGALM_REFUSED_VALUE = 12,
+    WURGALM_REFUSED_LOG = 13,
+    WURGALM_REFUSED_LIST = 14
 };
 
 /* One polynomial and one right side: where their 16 coefficients begin in the row store of a system with highest block l. Rows and

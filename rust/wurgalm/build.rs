@@ -1,8 +1,9 @@
-//! Links `libexports.a`, which `rt staticlib exports` writes to `target/staticlib` of the repository. Another folder can be named
-//! by WURGALM_ARCHIVE. Without the archive the crate still builds, so that what needs no library can be run; see `LINKED`.
+//! Links `libwurgalm.a`. `rt staticlib exports` writes the library to `target/staticlib` of the repository under the name of its crate,
+//! `libexports.a`, and this script copies it there to the name that its users link. Another folder can be named by WURGALM_ARCHIVE.
+//! Without the library the crate still builds, so that what needs none can be run; see `LINKED`.
 
-use std::env;
 use std::path::{Path, PathBuf};
+use std::{env, fs, io};
 
 fn archive_folder() -> PathBuf {
     match env::var_os("WURGALM_ARCHIVE") {
@@ -11,15 +12,30 @@ fn archive_folder() -> PathBuf {
     }
 }
 
+/// Copies a file where the other one is not the same, with the time of the first: what is copied here does not count as changed.
+fn copied(from: &Path, to: &Path) -> io::Result<()> {
+    if fs::read(to).is_ok_and(|there| fs::read(from).is_ok_and(|bytes| bytes == there)) {
+        return Ok(());
+    }
+    let new = to.with_extension("new");
+    fs::copy(from, &new)?;
+    fs::File::options().write(true).open(&new)?.set_modified(fs::metadata(from)?.modified()?)?;
+    fs::rename(&new, to)
+}
+
 fn main() {
     let folder = archive_folder();
-    let archive = folder.join("libexports.a");
+    let (written, archive) = (folder.join("libexports.a"), folder.join("libwurgalm.a"));
+    if written.exists() {
+        copied(&written, &archive).expect("libwurgalm.a is written beside libexports.a");
+        println!("cargo::rerun-if-changed={}", written.display());
+    }
     println!("cargo::rerun-if-env-changed=WURGALM_ARCHIVE");
     println!("cargo::rerun-if-changed={}", archive.display());
     println!("cargo::rustc-check-cfg=cfg(archive)");
     if archive.exists() {
         println!("cargo::rustc-cfg=archive");
         println!("cargo::rustc-link-search=native={}", folder.display());
-        println!("cargo::rustc-link-lib=static=exports");
+        println!("cargo::rustc-link-lib=static=wurgalm");
     }
 }

@@ -1,8 +1,7 @@
 /* The library from C, and the same file from C++: systems of known result, a sheet read and written, every refusal, and what each
  * call leaves in its stores. Prints a line for each check; the first difference ends the program with 1.
  *
- *     rt staticlib exports
- *     gcc -std=c99 -Iinclude tests/c/library.c target/staticlib/libexports.a -o library && ./library
+ *     gcc -std=c99 -Iinclude tests/c/library.c -Ltarget/staticlib -lwurgalm -o target/library && target/library
  */
 #include "wurgalm.h"
 

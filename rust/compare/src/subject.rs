@@ -190,7 +190,7 @@ impl Library {
     /// As [`Library::found`], or a message and the end of the program.
     pub fn needed() -> Library {
         Library::found().unwrap_or_else(|| {
-            eprintln!("needs target/staticlib/libexports.a (`rt staticlib exports`), target/bin/regularise and target/bin/induce");
+            eprintln!("needs target/staticlib/libwurgalm.a (`rt staticlib exports`), target/bin/regularise and target/bin/induce");
             eprintln!("(`rt check regularise induce`), and a build of this crate after them");
             std::process::exit(2)
         })

@@ -1,6 +1,6 @@
 //! The dispatch: which subcommand, its arguments, its exit status.
 
-use crate::{batch, check, fits, help, induce, run, show, steps, type_in};
+use crate::{batch, check, fits, help, induce, log, replay, run, show, solutions, steps, type_in};
 use std::ffi::OsString;
 use std::io::{self, Read, Write};
 use std::process::ExitCode;
@@ -97,7 +97,7 @@ pub fn first(arguments: &Arguments) -> Option<String> {
 
 type Subcommand = fn(Arguments) -> Outcome;
 
-/// Every subcommand by its name. `log`, `replay` and `solutions` find their place here when their calls are exported.
+/// Every subcommand by its name.
 const SUBCOMMANDS: &[(&str, Subcommand)] = &[
     ("show", show::show),
     ("type", type_in::type_in),
@@ -106,6 +106,9 @@ const SUBCOMMANDS: &[(&str, Subcommand)] = &[
     ("induce", induce::induce),
     ("steps", steps::steps),
     ("fits", fits::fits),
+    ("log", log::log),
+    ("replay", replay::replay),
+    ("solutions", solutions::solutions),
     ("batch", batch::batch),
 ];
 

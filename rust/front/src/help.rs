@@ -47,6 +47,24 @@ const PAGES: &[(&str, &str, &str)] = &[
          index and the number of vectors and then the vectors, or CSV, a line `index,value,..` for each vector.\n",
     ),
     (
+        "log",
+        "[--differential] FILE",
+        "Writes the steps of the leading run as a log: a line for each, `exchange I J`, `up I`, `down I`, `drop I`, or\n\
+         `combine I J INTEGER` with each multiplier as the number of its coefficients and those; last `order` and the columns.\n",
+    ),
+    (
+        "replay",
+        "[--sheet | --json] [--differential] [--names X,Y,..] SHEET LOG",
+        "Makes the steps of a log, whoever wrote it, on a system, tests each one, and writes what they lead to as `run` does.\n",
+    ),
+    (
+        "solutions",
+        "[--differential] [--names X,Y,..] FILE",
+        "Lists the polynomial solutions, a line for each unknown and an empty line between two solutions, or writes `none`. Every\n\
+         polynomial solution is, times an integer, an integer combination of those listed. The value at n of a recurrence's unknown\n\
+         is the coefficient of power n, of x, or of s where an unknown is called x.\n",
+    ),
+    (
         "batch",
         "[--jobs N] [--progress] [FILE]",
         "Works a batch and writes the same bytes as `regularise`, the sheets worked by N threads. A progress bar is on standard error\n\

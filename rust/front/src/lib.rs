@@ -3,6 +3,8 @@
 //! A module for each subcommand; [`writing`] has systems as text, [`expressions`] and [`typing`] read that text, [`places`] finds
 //! the first fault of a sheet. `docs/wurgalm.1` is the manual.
 
+#![forbid(unsafe_code)]
+
 pub mod batch;
 mod check;
 pub mod command;
@@ -12,10 +14,13 @@ mod fits;
 mod help;
 mod induce;
 mod json;
+mod log;
 pub mod places;
+mod replay;
 mod roles;
 mod run;
 mod show;
+mod solutions;
 mod steps;
 pub mod tokens;
 mod type_in;

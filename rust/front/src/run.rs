@@ -24,12 +24,27 @@ pub fn refused(refusal: Refusal, file: &str) -> End {
     End::Refused(format!("{}: {refusal} (docs/REFUSALS.md has what to do)", named(file)))
 }
 
+/// The form of an answer.
+#[derive(Clone, Copy)]
+pub enum Form {
+    Text,
+    Sheet,
+    Json,
+}
+
+/// The form that the options name.
+pub fn form_of(arguments: &mut Arguments) -> Result<Form, End> {
+    match (arguments.flag("--sheet"), arguments.flag("--json")) {
+        (true, true) => Err(End::Misused("either --sheet or --json".into())),
+        (true, false) => Ok(Form::Sheet),
+        (false, true) => Ok(Form::Json),
+        (false, false) => Ok(Form::Text),
+    }
+}
+
 pub fn run(mut arguments: Arguments) -> Outcome {
     let is_trailing = arguments.flag("--trailing");
-    let (as_sheet, as_json) = (arguments.flag("--sheet"), arguments.flag("--json"));
-    if as_sheet && as_json {
-        return Err(End::Misused("either --sheet or --json".into()));
-    }
+    let form = form_of(&mut arguments)?;
     let names = arguments.value("--names")?;
     let is_differential = is_differential(&mut arguments, last);
     let names = names_for(names, is_differential)?;
@@ -37,13 +52,17 @@ pub fn run(mut arguments: Arguments) -> Outcome {
     let mut system = system_of(&file, is_differential)?;
     let report = if is_trailing { system.run_trailing() } else { system.run_leading() };
     let report = report.map_err(|refusal| refused(refusal, &file))?;
-    if as_sheet {
-        return Ok(system.to_sheet()?);
+    written(&system, &report, is_trailing, &names, form)
+}
+
+/// An accepted run in its form.
+pub fn written(system: &System, report: &Report, is_trailing: bool, names: &[String], form: Form) -> Outcome {
+    let side = if is_trailing { "trailing" } else { "leading" };
+    match form {
+        Form::Text => Ok(answer(system, report, is_trailing, names).into_bytes()),
+        Form::Sheet => Ok(system.to_sheet()?),
+        Form::Json => Ok(json::answer(system, report, side).into_bytes()),
     }
-    if as_json {
-        return Ok(json::answer(&system, &report, if is_trailing { "trailing" } else { "leading" }).into_bytes());
-    }
-    Ok(answer(&system, &report, is_trailing, &names).into_bytes())
 }
 
 fn counted(count: usize, one: &str) -> String {

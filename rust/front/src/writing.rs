@@ -7,9 +7,13 @@ use wurgalm::{Equation, System};
 /// The names of the unknowns of a recurrence where none are given.
 pub const UNKNOWNS: [&str; 4] = ["x", "y", "z", "w"];
 
-/// A power of the variable times a size that is not 0: `1`, `n`, `3n^2`.
-fn monomial(size: u64, power: usize, variable: &str) -> String {
-    let number = if size == 1 && power > 0 { String::new() } else { size.to_string() };
+/// A power of the variable times a size that is not 0: `1`, `n`, `3n^2`, or with a sign between the two `3*n^2`.
+fn monomial(size: u64, power: usize, variable: &str, times: &str) -> String {
+    let number = match (size, power) {
+        (_, 0) => size.to_string(),
+        (1, _) => String::new(),
+        _ => format!("{size}{times}"),
+    };
     match power {
         0 => number,
         1 => format!("{number}{variable}"),
@@ -30,9 +34,14 @@ fn join(sum: &mut String, is_negative: bool, part: &str) {
 
 /// A polynomial, highest power first; `0` where it has no coefficients.
 pub fn polynomial(coefficients: &[i64], variable: &str) -> String {
+    sum_of_powers(coefficients, variable, "")
+}
+
+/// A polynomial, highest power first, with such a sign between a number and a power.
+pub fn sum_of_powers(coefficients: &[i64], variable: &str, times: &str) -> String {
     let mut sum = String::new();
     for (power, &a) in coefficients.iter().enumerate().rev().filter(|(_, &a)| a != 0) {
-        join(&mut sum, a < 0, &monomial(a.unsigned_abs(), power, variable));
+        join(&mut sum, a < 0, &monomial(a.unsigned_abs(), power, variable, times));
     }
     if sum.is_empty() {
         sum += "0";
@@ -46,7 +55,7 @@ pub fn join_term(sum: &mut String, coefficients: &[i64], variable: &str, unknown
     match (powers.next(), powers.next()) {
         (Some((0, &a)), None) if a.abs() == 1 => join(sum, a < 0, unknown),
         (Some((power, &a)), None) => {
-            join(sum, a < 0, &format!("{} {unknown}", monomial(a.unsigned_abs(), power, variable)))
+            join(sum, a < 0, &format!("{} {unknown}", monomial(a.unsigned_abs(), power, variable, "")))
         }
         _ => join(sum, false, &format!("({}) {unknown}", polynomial(coefficients, variable))),
     }

@@ -7,6 +7,9 @@
 //! Rows lie in stores of 64-bit numbers, 336 a row: 320 for its entries, five blocks from block l downward, four columns a block, 16
 //! coefficients a column, and 16 for its right side; see [`row_store`], [`RELATION_STORE`] and [`right_side`].
 
+#![deny(unsafe_code)]
+
+#[allow(unsafe_code)] // the calls of the exported functions; nothing else needs it
 mod foreign;
 mod logs;
 mod refusal;
@@ -265,7 +268,8 @@ pub enum Answer {
 
 /// Asks whether the system in the stores explains a record. An equation is tested at each n for which all vectors from n + t to n + l are
 /// in the record, by rising n, then by number; the relations after them, in their order, where their n0 is such an n. Nothing but the
-/// answer is written. The refusal 12 says that in Horner's rule for an entry or a right side a value passed ±2^40, before any sum that is not zero.
+/// answer is written. The refusal 12 says that in Horner's rule for an entry or a right side a value passed ±2^40, before any sum that is
+/// not zero.
 ///
 /// ```
 /// use wurgalm::{check_record, Answer, Record};
@@ -298,8 +302,8 @@ pub fn check_record(
     accepted(number, answer)
 }
 
-/// Works a whole batch, writes what the batch program would write to the beginning of `output`, and tells its length. At the end stand eight
-/// lines, the accepted and the refused sheets of each client. A broken batch is worked too: its output ends in the line `3`, without those
+/// Works a whole batch, writes what the batch program would write to the beginning of `output`, and tells its length. At the end stand
+/// eight lines, the accepted and the refused sheets of each client. A broken batch is worked too: its output ends in the line `3`, without those
 /// lines. The only refusal is 1, an output store that is too short, which is then zero;
 /// [`batch_output`] bytes are enough.
 ///

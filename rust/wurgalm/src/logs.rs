@@ -47,11 +47,21 @@ impl Error for Malformed {}
 
 impl LogStep {
     /// The combination with multipliers of so many coefficients, from power 0 upward; at most sixteen each.
+    ///
+    /// ```
+    /// let step = wurgalm::LogStep::combine(2, 1, 1, &[2], &[0, -1]).unwrap(); // 2 × row 2 - n × row 1
+    /// assert_eq!(step.to_string(), "combine 2 1 1 1 2 2 0 -1");
+    /// assert_eq!(wurgalm::LogStep::combine(2, 1, 1, &[1; 17], &[]), None);
+    /// ```
     pub fn combine(i: usize, j: usize, integer: i64, g: &[i64], h: &[i64]) -> Option<LogStep> {
         Some(LogStep::Combine { i, j, integer, g: multiplier(g)?, h: multiplier(h)? })
     }
 
     /// The 36 numbers of the step. A row that is no `i64` is past every row, and so is the number in its place.
+    ///
+    /// ```
+    /// assert_eq!(wurgalm::LogStep::Exchange { i: 1, j: 2 }.numbers()[..4], [1, 1, 2, 0]);
+    /// ```
     pub fn numbers(&self) -> [i64; LOG_STEP] {
         let mut numbers = [0; LOG_STEP];
         let (kind, i, j) = match *self {
@@ -72,6 +82,14 @@ impl LogStep {
     }
 
     /// The step of 36 numbers. Its condition, and whether its numbers are within their limits, is for [`replay`] to say.
+    ///
+    /// ```
+    /// use wurgalm::{LogStep, Malformed};
+    /// let mut numbers = LogStep::Up { i: 2 }.numbers();
+    /// assert_eq!(LogStep::of_numbers(&numbers), Ok(LogStep::Up { i: 2 }));
+    /// numbers[2] = 1; // a shift has one row
+    /// assert_eq!(LogStep::of_numbers(&numbers), Err(Malformed));
+    /// ```
     pub fn of_numbers(numbers: &[i64; LOG_STEP]) -> Result<LogStep, Malformed> {
         let row = |number: i64| usize::try_from(number).map_err(|_| Malformed);
         let (i, j) = (row(numbers[1])?, row(numbers[2])?);
@@ -125,11 +143,24 @@ pub struct Log {
 
 impl Log {
     /// The numbers of [`stores::replay`]: those of the steps, and the order behind them.
+    ///
+    /// ```
+    /// let log: wurgalm::Log = "drop 3\norder 2 1\n".parse().unwrap();
+    /// let numbers = log.numbers();
+    /// assert_eq!((numbers[0], numbers[1]), (5, 3));
+    /// assert_eq!(numbers[wurgalm::LOG_STEP..], [2, 1, 0, 0]);
+    /// ```
     pub fn numbers(&self) -> Vec<i64> {
         self.steps.iter().flat_map(LogStep::numbers).chain(self.order).collect()
     }
 
     /// The log of so many steps at the beginning of a store.
+    ///
+    /// ```
+    /// let log = wurgalm::Log::of_numbers(0, &[2, 1, 0, 0]).unwrap();
+    /// assert_eq!(log.to_string(), "order 2 1\n");
+    /// assert_eq!(wurgalm::Log::of_numbers(1, &[2, 1, 0, 0]), Err(wurgalm::Malformed)); // too short for a step
+    /// ```
     pub fn of_numbers(steps: usize, numbers: &[i64]) -> Result<Log, Malformed> {
         let of_steps = steps.checked_mul(LOG_STEP).ok_or(Malformed)?;
         let (of_steps, behind) = numbers.split_at_checked(of_steps).ok_or(Malformed)?;

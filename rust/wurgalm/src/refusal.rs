@@ -9,6 +9,8 @@ impl Refusal {
     ///
     /// ```
     /// assert_eq!(wurgalm::Refusal(10).meaning(), "no sequence satisfies the system");
+    /// assert_eq!(wurgalm::Refusal(13).meaning(), "a step of the log, or its end, is not right");
+    /// assert_eq!(wurgalm::Refusal(6).meaning(), "no call gives this number");
     /// ```
     pub const fn meaning(self) -> &'static str {
         match self.0 {
@@ -23,6 +25,8 @@ impl Refusal {
             10 => "no sequence satisfies the system",
             11 => "the state that was handed in is not right",
             12 => "a value of Horner's rule has passed 2^40",
+            13 => "a step of the log, or its end, is not right",
+            14 => "the system is not one whose polynomial solutions are listed",
             _ => "no call gives this number",
         }
     }

@@ -13,8 +13,8 @@ const ANSWER: usize = 3;
 
 /// The list of a system whose last index N is 0 or above; it may be empty.
 ///
-/// A sequence belongs to a column, an index with an unknown, at which it is positive and every other sequence is 0; the list is in the order
-/// of these columns. The values of a sequence have no common divisor above 1. Every solution with finitely many nonzero terms, none of
+/// A sequence belongs to a column, an index with an unknown, at which it is positive and every other sequence is 0; the list is in the
+/// order of these columns. The values of a sequence have no common divisor above 1. Every solution with finitely many nonzero terms, none of
 /// them below index 0, is, times some nonzero integer, an integer combination of the sequences.
 #[derive(Clone, Debug, PartialEq, Eq)]
 pub struct Solutions {
@@ -29,6 +29,12 @@ pub struct Solutions {
 impl Solutions {
     /// The values of one unknown, counted from 1, at the indices 0 to N: the coefficients of a polynomial from power 0 upward where the
     /// system is the recurrence of a differential sheet. Empty where there is no such sequence, counted from 0, or no such unknown.
+    ///
+    /// ```
+    /// let list = wurgalm::Solutions { last: 1, unknowns: 2, sequences: vec![vec![3, 0, 0, 6]] };
+    /// assert_eq!((list.polynomial(0, 1), list.polynomial(0, 2)), (vec![3, 0], vec![0, 6])); // 3, and 6x
+    /// assert_eq!(list.polynomial(0, 3), []);
+    /// ```
     pub fn polynomial(&self, sequence: usize, unknown: usize) -> Vec<i64> {
         let values = self.sequences.get(sequence).map_or(&[][..], |values| values);
         if (1..=self.unknowns).contains(&unknown) {

@@ -153,6 +153,14 @@ pub struct Run<'a> {
 
 impl<'a> Run<'a> {
     /// The run before its first step, of the system in the stores.
+    ///
+    /// ```
+    /// let (mut rows, mut relations) = (vec![0; wurgalm::row_store(1)], vec![0; wurgalm::RELATION_STORE]);
+    /// let sizes = wurgalm::Sizes { m: 1, equations: 1, l: 0, t: 0 };
+    /// let run = wurgalm::Run::prepare(&mut rows, &mut relations, sizes, 0).unwrap();
+    /// assert_eq!((run.taken(), run.state().settled), (0, 0));
+    /// assert!(wurgalm::Run::prepare(&mut rows, &mut relations, sizes, 17).is_err()); // 16 relations are the most
+    /// ```
     pub fn prepare(
         rows: &'a mut [i64],
         relations: &'a mut [i64],
@@ -164,21 +172,57 @@ impl<'a> Run<'a> {
     }
 
     /// A run that was left in that state, with its rows and relations in the stores. The first call checks them.
+    ///
+    /// ```
+    /// let (mut rows, mut relations) = (vec![0; wurgalm::row_store(1)], vec![0; wurgalm::RELATION_STORE]);
+    /// rows[0] = 5; // 5 x(n) = 0
+    /// let sizes = wurgalm::Sizes { m: 1, equations: 1, l: 0, t: 0 };
+    /// let kept = wurgalm::Run::prepare(&mut rows, &mut relations, sizes, 0).unwrap().state(); // eleven numbers
+    /// let mut run = wurgalm::Run::resume(&mut rows, &mut relations, kept); // at another time
+    /// assert_eq!(run.advance(9).unwrap().report.unwrap().rank, 1);
+    /// ```
     pub fn resume(rows: &'a mut [i64], relations: &'a mut [i64], state: State) -> Run<'a> {
         Run { rows, relations, state, taken: 0, is_refused: false }
     }
 
     /// The state that it has come to. Where a step was refused, all its numbers are 0.
+    ///
+    /// ```
+    /// let (mut rows, mut relations) = (vec![0; wurgalm::row_store(1)], vec![0; wurgalm::RELATION_STORE]);
+    /// rows[0] = 5; // 5 x(n) = 0
+    /// let sizes = wurgalm::Sizes { m: 1, equations: 1, l: 0, t: 0 };
+    /// let mut run = wurgalm::Run::prepare(&mut rows, &mut relations, sizes, 0).unwrap();
+    /// run.advance(1).unwrap();
+    /// assert_eq!((run.state().settled, run.state().order), (1, [1, 0, 0, 0]));
+    /// ```
     pub fn state(&self) -> State {
         self.state
     }
 
     /// The steps of all calls so far.
+    ///
+    /// ```
+    /// let (mut rows, mut relations) = (vec![0; wurgalm::row_store(1)], vec![0; wurgalm::RELATION_STORE]);
+    /// rows[0] = 5; // 5 x(n) = 0
+    /// let sizes = wurgalm::Sizes { m: 1, equations: 1, l: 0, t: 0 };
+    /// let mut run = wurgalm::Run::prepare(&mut rows, &mut relations, sizes, 0).unwrap();
+    /// run.advance(9).unwrap();
+    /// assert_eq!(run.taken(), 1); // the one row is settled, and nothing is left to do
+    /// ```
     pub fn taken(&self) -> usize {
         self.taken
     }
 
     /// Takes at most so many steps, as [`run_steps`] does.
+    ///
+    /// ```
+    /// let (mut rows, mut relations) = (vec![0; wurgalm::row_store(1)], vec![0; wurgalm::RELATION_STORE]);
+    /// rows[0] = 5; // 5 x(n) = 0
+    /// let sizes = wurgalm::Sizes { m: 1, equations: 1, l: 0, t: 0 };
+    /// let mut run = wurgalm::Run::prepare(&mut rows, &mut relations, sizes, 0).unwrap();
+    /// assert_eq!(run.advance(0).unwrap().report, None); // a look at the state
+    /// assert_eq!(run.advance(1).unwrap().report.unwrap().rank, 1);
+    /// ```
     pub fn advance(&mut self, budget: usize) -> Result<Progress, Refused> {
         let answer = run_steps(self.rows, self.relations, &mut self.state, budget);
         let (Ok(Progress { steps, .. }) | Err(Refused { steps, .. })) = answer;
@@ -189,6 +233,15 @@ impl<'a> Run<'a> {
 
     /// An iterator that takes at most so many steps each time. What finishes the run is its last item, and so is a refusal; after a refusal
     /// it has no other. With budget 0, which never finishes anything, it has one item, a look at the state.
+    ///
+    /// ```
+    /// let (mut rows, mut relations) = (vec![0; wurgalm::row_store(1)], vec![0; wurgalm::RELATION_STORE]);
+    /// rows[0] = 5; // 5 x(n) = 0
+    /// let sizes = wurgalm::Sizes { m: 1, equations: 1, l: 0, t: 0 };
+    /// let mut run = wurgalm::Run::prepare(&mut rows, &mut relations, sizes, 0).unwrap();
+    /// let reports: Vec<_> = run.steps(1).map(|progress| progress.unwrap().report).collect();
+    /// assert_eq!(reports.last().unwrap().unwrap().rank, 1);
+    /// ```
     pub fn steps(&mut self, budget: usize) -> Steps<'_, 'a> {
         let has_ended = self.is_refused;
         Steps { run: self, budget, has_ended }

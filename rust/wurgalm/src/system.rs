@@ -1,9 +1,8 @@
 //! A system that owns its stores: built, read, looked at, worked and written.
 
-use crate::{check_record, read_differential, read_sheet, row_store, run_leading, run_trailing, write_sheet};
-use crate::{
-    Answer, Heading, Record, Refusal, Report, Sizes, COEFFICIENTS, ENTRIES, EQUATIONS, RELATION, RELATION_STORE, ROW,
-};
+use crate::{check_record, read_differential, read_sheet, replay, row_store, run_leading, run_logged, run_trailing};
+use crate::{solutions, write_sheet, Answer, Heading, Log, Record, Refusal, Report, Sizes, Solutions};
+use crate::{COEFFICIENTS, ENTRIES, EQUATIONS, RELATION, RELATION_STORE, ROW};
 
 /// Bytes that are enough for any sheet: 22 rows, each of 336 coefficients with at most ten digits, a sign and a separator.
 const SHEET: usize = 131_072;
@@ -61,6 +60,12 @@ fn trimmed(polynomial: &[i64]) -> &[i64] {
 
 impl<'a> Equation<'a> {
     /// The coefficients at a block and a column, without the zeros past the highest power; none where there is no such place.
+    ///
+    /// ```
+    /// let system = wurgalm::System::builder(1, 1, 0).equation(&[(1, 1, &[0, 3])], &[]).build().unwrap(); // 3n x(n+1) = 0
+    /// let equation = system.equation(1).unwrap();
+    /// assert_eq!((equation.entry(1, 1), equation.entry(0, 1), equation.entry(9, 9)), (&[0, 3][..], &[][..], &[][..]));
+    /// ```
     pub fn entry(&self, block: i64, column: usize) -> &'a [i64] {
         if !(self.sizes.t..=self.sizes.l).contains(&block) || !(1..=self.sizes.m).contains(&column) {
             return &[];
@@ -70,11 +75,22 @@ impl<'a> Equation<'a> {
     }
 
     /// The coefficients of the right side, without the zeros past the highest power.
+    ///
+    /// ```
+    /// let system = wurgalm::System::builder(1, 0, 0).equation(&[(0, 1, &[1])], &[0, 2]).build().unwrap(); // x(n) = 2n
+    /// assert_eq!(system.equation(1).unwrap().right(), [0, 2]);
+    /// ```
     pub fn right(&self) -> &'a [i64] {
         trimmed(&self.row[ENTRIES..ROW])
     }
 
     /// The entries that are not zero, by falling block and then by column.
+    ///
+    /// ```
+    /// let system = wurgalm::System::builder(2, 1, 0).equation(&[(0, 2, &[7]), (1, 1, &[1])], &[]).build().unwrap();
+    /// let terms: Vec<_> = system.equation(1).unwrap().terms().collect(); // x(n+1) + 7 y(n) = 0
+    /// assert_eq!(terms, [(1, 1, &[1][..]), (0, 2, &[7][..])]);
+    /// ```
     pub fn terms(self) -> impl Iterator<Item = Term<'a>> {
         let places = (self.sizes.t..=self.sizes.l).rev().flat_map(move |s| (1..=self.sizes.m).map(move |c| (s, c)));
         places.map(move |(s, c)| (s, c, self.entry(s, c))).filter(|(_, _, p)| !p.is_empty())
@@ -138,21 +154,43 @@ impl System {
     }
 
     /// Unknowns, equations and blocks.
+    ///
+    /// ```
+    /// let system = wurgalm::System::from_sheet(b"3 2 1 0\n0\n0\n0\n").unwrap();
+    /// assert_eq!(system.sizes(), wurgalm::Sizes { m: 2, equations: 0, l: 1, t: 0 });
+    /// ```
     pub fn sizes(&self) -> Sizes {
         self.heading.sizes
     }
 
     /// How many relations there are.
+    ///
+    /// ```
+    /// let sheet = b"3 2 1 0\n1\n2 1 1 2 0 1 0 2 1 -1\n1\n-4 1 0 1 1 5\n1 2\n"; // n x(n+1) - y(n) = 0; at n = -4: 5 x(n) = 0
+    /// assert_eq!(wurgalm::System::from_sheet(sheet).unwrap().relation_count(), 1);
+    /// ```
     pub fn relation_count(&self) -> usize {
         self.heading.relations
     }
 
     /// The columns of its order; none where it has no order.
+    ///
+    /// ```
+    /// let sheet = b"3 2 1 0\n1\n2 1 1 2 0 1 0 2 1 -1\n1\n-4 1 0 1 1 5\n1 2\n"; // n x(n+1) - y(n) = 0; at n = -4: 5 x(n) = 0
+    /// assert_eq!(wurgalm::System::from_sheet(sheet).unwrap().order(), [2]);
+    /// ```
     pub fn order(&self) -> &[i64] {
         trimmed(&self.heading.order)
     }
 
     /// An equation, counted from 1.
+    ///
+    /// ```
+    /// let sheet = b"3 2 1 0\n1\n2 1 1 2 0 1 0 2 1 -1\n1\n-4 1 0 1 1 5\n1 2\n"; // n x(n+1) - y(n) = 0; at n = -4: 5 x(n) = 0
+    /// let system = wurgalm::System::from_sheet(sheet).unwrap();
+    /// assert_eq!(system.equation(1).unwrap().entry(0, 2), [-1]);
+    /// assert_eq!(system.equation(2), None);
+    /// ```
     pub fn equation(&self, number: usize) -> Option<Equation<'_>> {
         let sizes = self.heading.sizes;
         let in_range = (1..=sizes.equations).contains(&number);
@@ -160,6 +198,14 @@ impl System {
     }
 
     /// A relation, counted from 1: its n0 and its equation.
+    ///
+    /// ```
+    /// let sheet = b"3 2 1 0\n1\n2 1 1 2 0 1 0 2 1 -1\n1\n-4 1 0 1 1 5\n1 2\n"; // n x(n+1) - y(n) = 0; at n = -4: 5 x(n) = 0
+    /// let system = wurgalm::System::from_sheet(sheet).unwrap();
+    /// let (n0, equation) = system.relation(1).unwrap();
+    /// assert_eq!((n0, equation.entry(0, 1)), (-4, &[5][..]));
+    /// assert_eq!(system.relation(0), None);
+    /// ```
     pub fn relation(&self, number: usize) -> Option<(i64, Equation<'_>)> {
         if !(1..=self.heading.relations).contains(&number) {
             return None;
@@ -169,16 +215,36 @@ impl System {
     }
 
     /// All equations in their order.
+    ///
+    /// ```
+    /// let sheet = b"3 2 1 0\n1\n2 1 1 2 0 1 0 2 1 -1\n1\n-4 1 0 1 1 5\n1 2\n"; // n x(n+1) - y(n) = 0; at n = -4: 5 x(n) = 0
+    /// let system = wurgalm::System::from_sheet(sheet).unwrap();
+    /// assert_eq!(system.equations().map(|equation| equation.terms().count()).collect::<Vec<_>>(), [2]);
+    /// ```
     pub fn equations(&self) -> impl Iterator<Item = Equation<'_>> {
         (1..=self.heading.sizes.equations).filter_map(|number| self.equation(number))
     }
 
     /// All relations in their order.
+    ///
+    /// ```
+    /// let sheet = b"3 2 1 0\n1\n2 1 1 2 0 1 0 2 1 -1\n1\n-4 1 0 1 1 5\n1 2\n"; // n x(n+1) - y(n) = 0; at n = -4: 5 x(n) = 0
+    /// let system = wurgalm::System::from_sheet(sheet).unwrap();
+    /// assert_eq!(system.relations().map(|(n0, _)| n0).collect::<Vec<_>>(), [-4]);
+    /// ```
     pub fn relations(&self) -> impl Iterator<Item = (i64, Equation<'_>)> {
         (1..=self.heading.relations).filter_map(|number| self.relation(number))
     }
 
     /// The row store, the relation store and the heading, for the calls on stores.
+    ///
+    /// ```
+    /// let mut system = wurgalm::System::from_sheet(b"3 1 0 0\n1\n1 0 1 1 5\n0\n0\n").unwrap(); // 5 x(n) = 0
+    /// let (rows, relations, heading) = system.stores();
+    /// let report = wurgalm::run_leading(rows, relations, heading.sizes, heading.relations).unwrap();
+    /// system.settle(&report); // the system takes the rank, the relations and the order of the run
+    /// assert_eq!(system.order(), [1]);
+    /// ```
     pub fn stores(&mut self) -> (&mut [i64], &mut [i64], Heading) {
         (&mut self.rows, &mut self.relations, self.heading)
     }
@@ -209,8 +275,55 @@ impl System {
     fn run(&mut self, side: RunCall) -> Result<Report, Refusal> {
         let Heading { sizes, relations, .. } = self.heading;
         let answer = side(&mut self.rows, &mut self.relations, sizes, relations);
+        self.settle_answer(answer)
+    }
+
+    /// Regularises the leading side as [`System::run_leading`] does, and tells the steps; see [`run_logged`].
+    ///
+    /// ```
+    /// let sheet = b"3 1 0 0\n2\n1 0 1 1 2\n1 0 1 1 3\n0\n0\n"; // 2 x(n) = 0, 3 x(n) = 0
+    /// let (report, log) = wurgalm::System::from_sheet(sheet).unwrap().run_logged().unwrap();
+    /// assert_eq!(report.rank, 1);
+    /// assert_eq!(log.to_string(), "combine 2 1 1 1 2 1 -3\ndrop 2\norder 1\n");
+    /// ```
+    pub fn run_logged(&mut self) -> Result<(Report, Log), Refusal> {
+        let Heading { sizes, relations, .. } = self.heading;
+        let answer = run_logged(&mut self.rows, &mut self.relations, sizes, relations);
+        self.settle_answer(answer.as_ref().map(|(report, _)| *report).map_err(|refusal| *refusal)).and(answer)
+    }
+
+    /// Makes the steps of a log; see [`replay`]. The system is then what they leave, with the log's order.
+    ///
+    /// ```
+    /// let sheet = b"3 2 1 0\n2\n2 1 1 2 0 1 0 2 1 -1\n2 1 1 1 1 0 1 1 -1\n0\n0\n"; // n x(n+1) = y(n), x(n+1) = x(n)
+    /// let mut system = wurgalm::System::from_sheet(sheet).unwrap();
+    /// let log = "exchange 1 2\ncombine 2 1 1 1 -1 2 0 1\nup 2\ncombine 2 1 1 1 1 2 1 1\norder 1 2\n".parse().unwrap();
+    /// assert_eq!(system.replay(&log).unwrap().relations, 0);
+    /// assert_eq!(system.equation(2).unwrap().entry(0, 1), [-1, -1]); // y(n+1) - (n + 1) x(n) = 0
+    /// assert_eq!(system.replay(&log), Err(wurgalm::Refusal(13))); // row 2 has nothing more to be shifted
+    /// ```
+    pub fn replay(&mut self, log: &Log) -> Result<Report, Refusal> {
+        let Heading { sizes, relations, .. } = self.heading;
+        let answer = replay(&mut self.rows, &mut self.relations, sizes, relations, log);
+        self.settle_answer(answer)
+    }
+
+    /// The polynomial solutions of the system, which stays as it is; see [`solutions`].
+    ///
+    /// ```
+    /// let euler = wurgalm::System::from_differential(b"3 1 2 2\n1\n3 2 2 1 1 1 1 1 -2 0 0 1 2\n").unwrap();
+    /// let list = euler.solutions().unwrap().unwrap(); // x^2 y'' - 2x y' + 2y = 0
+    /// assert_eq!((list.polynomial(0, 1), list.polynomial(1, 1)), (vec![0, 1, 0], vec![0, 0, 1])); // x and x^2
+    /// ```
+    pub fn solutions(&self) -> Result<Option<Solutions>, Refusal> {
+        solutions(&self.rows, &self.relations, self.heading.sizes, self.heading.relations)
+    }
+
+    /// A run or a replay that was refused on its way leaves zeros, one that its checks refused leaves all as it was.
+    fn settle_answer(&mut self, answer: Result<Report, Refusal>) -> Result<Report, Refusal> {
         match answer {
             Ok(report) => self.settle(&report),
+            Err(Refusal(1..=5)) => {}
             Err(_) => {
                 self.settle(&Report { relations: 0, shifts: 0, order: [0; 4], root: None, rank: 0, multiplicity: 0 })
             }
@@ -219,6 +332,15 @@ impl System {
     }
 
     /// Takes the sizes of what a run has left in the stores.
+    ///
+    /// ```
+    /// let mut system = wurgalm::System::from_sheet(b"3 1 0 0\n2\n1 0 1 1 5\n1 0 1 1 5\n0\n0\n").unwrap();
+    /// let (rows, relations, heading) = system.stores(); // 5 x(n) = 0, two times
+    /// let mut run = wurgalm::Run::prepare(rows, relations, heading.sizes, heading.relations).unwrap();
+    /// let report = run.advance(252).unwrap().report.unwrap();
+    /// system.settle(&report);
+    /// assert_eq!(system.to_sheet().unwrap(), b"3 1 0 0\n1\n1 0 1 1 5\n0\n1 1\n");
+    /// ```
     pub fn settle(&mut self, report: &Report) {
         self.heading.sizes.equations = report.rank;
         self.heading.relations = report.relations;
@@ -258,6 +380,12 @@ pub struct Builder {
 
 impl Builder {
     /// Adds an equation: its terms, and the coefficients of its right side. Terms at one place add up.
+    ///
+    /// ```
+    /// let places = &[(0, 1, &[1, 1][..]), (0, 1, &[2])]; // (n + 1) x(n) + 2 x(n) = 4
+    /// let system = wurgalm::System::builder(1, 0, 0).equation(places, &[4]).build().unwrap();
+    /// assert_eq!(system.equation(1).unwrap().entry(0, 1), [3, 1]);
+    /// ```
     pub fn equation(mut self, terms: &[Term], right: &[i64]) -> Builder {
         match self.row(terms, right) {
             Ok(row) => self.system.rows.extend(row),
@@ -268,6 +396,11 @@ impl Builder {
     }
 
     /// Adds a relation: an equation at one index.
+    ///
+    /// ```
+    /// let system = wurgalm::System::builder(1, 0, 0).relation(7, &[(0, 1, &[1])], &[9]).build().unwrap(); // at n = 7: x(7) = 9
+    /// assert_eq!(system.to_sheet().unwrap(), b"3 1 0 0\n0\n1\n7 1 0 1 1 1\n0\n1\n1 9\n");
+    /// ```
     pub fn relation(mut self, n0: i64, terms: &[Term], right: &[i64]) -> Builder {
         let at = self.system.heading.relations * RELATION;
         match self.row(terms, right) {
@@ -283,6 +416,12 @@ impl Builder {
     }
 
     /// Sets the column order.
+    ///
+    /// ```
+    /// let system = wurgalm::System::builder(2, 0, 0).order(&[2, 1]).build().unwrap();
+    /// assert_eq!(system.order(), [2, 1]);
+    /// assert_eq!(wurgalm::System::builder(2, 0, 0).order(&[1, 1]).build(), Err(wurgalm::Refusal(2)));
+    /// ```
     pub fn order(mut self, columns: &[i64]) -> Builder {
         let order = &mut self.system.heading.order;
         if columns.len() > order.len() {
@@ -295,6 +434,13 @@ impl Builder {
     }
 
     /// The system, or the first thing that is wrong with it: 2 for a size, block, column, count or order, 5 for a number.
+    ///
+    /// ```
+    /// let too_large = wurgalm::System::builder(1, 0, 0).equation(&[(0, 1, &[268_435_456])], &[]);
+    /// assert_eq!(too_large.build(), Err(wurgalm::Refusal(5)));
+    /// let no_such_block = wurgalm::System::builder(1, 0, 0).equation(&[(1, 1, &[1])], &[]);
+    /// assert_eq!(no_such_block.build(), Err(wurgalm::Refusal(2)));
+    /// ```
     pub fn build(self) -> Result<System, Refusal> {
         match self.refusal {
             Some(refusal) => Err(refusal),
