@@ -1,6 +1,6 @@
 //! The dispatch: which subcommand, its arguments, its exit status.
 
-use crate::{batch, check, fits, help, induce, log, replay, run, show, solutions, steps, type_in};
+use crate::{batch, check, fits, help, induce, log, replay, run, series, show, solutions, steps, type_in};
 use std::ffi::OsString;
 use std::io::{self, Read, Write};
 use std::process::ExitCode;
@@ -109,6 +109,7 @@ const SUBCOMMANDS: &[(&str, Subcommand)] = &[
     ("log", log::log),
     ("replay", replay::replay),
     ("solutions", solutions::solutions),
+    ("series", series::series),
     ("batch", batch::batch),
 ];
 

@@ -65,6 +65,15 @@ const PAGES: &[(&str, &str, &str)] = &[
          is the coefficient of power n, of x, or of s where an unknown is called x.\n",
     ),
     (
+        "series",
+        "[--first K | --zero-below A] [--from A] [--terms N] [--start X(0)=1,..].. [--free] [--plot FILE.svg] [--over A:B] [--of X]\n\
+         \x20      [--differential] [--names X,Y,..] FILE",
+        "Writes the first N terms of the sequences of a system, exact, and which of them are free. The equations hold at every n; with\n\
+         --first at n >= K; with --zero-below, and for a differential sheet with 0, the values below A are 0. --start gives values, and\n\
+         may stand several times; --free tells of each value whether it is free, forced or follows; --plot draws the sum of X(n) x^n\n\
+         over an interval, a curve for each --start. docs/SERIES.md has examples.\n",
+    ),
+    (
         "batch",
         "[--jobs N] [--progress] [FILE]",
         "Works a batch and writes the same bytes as `regularise`, the sheets worked by N threads. A progress bar is on standard error\n\

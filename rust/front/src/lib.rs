@@ -19,6 +19,7 @@ pub mod places;
 mod replay;
 mod roles;
 mod run;
+pub mod series;
 mod show;
 mod solutions;
 mod steps;

@@ -65,7 +65,7 @@ pub fn written(system: &System, report: &Report, is_trailing: bool, names: &[Str
     }
 }
 
-fn counted(count: usize, one: &str) -> String {
+pub(crate) fn counted(count: usize, one: &str) -> String {
     if count == 1 {
         format!("1 {one}")
     } else {
@@ -82,7 +82,7 @@ fn times(count: usize) -> String {
 }
 
 /// What the root of a run says of the vectors (SCOPE 2.116, 2.117).
-fn consequence(system: &System, report: &Report, is_trailing: bool, names: &[String]) -> String {
+pub(crate) fn consequence(system: &System, report: &Report, is_trailing: bool, names: &[String]) -> String {
     let sizes = system.sizes();
     let free: Vec<&str> =
         (1..=sizes.m).filter(|&c| !report.order.contains(&(c as i64))).map(|c| &names[c - 1][..]).collect();

@@ -1,0 +1,174 @@
+//! Partial sums over an interval, as a picture in SVG.
+
+use super::fractions::Fraction;
+use std::fmt::Write;
+
+/// Points of a curve, less one.
+pub const STEPS: i64 = 120;
+const WIDTH: f64 = 760.0;
+const HEIGHT: f64 = 460.0;
+/// The frame: left, top, right, bottom.
+const FRAME: [f64; 4] = [80.0, 50.0, 740.0, 400.0];
+const COLOURS: [&str; 6] = ["#1f5fa8", "#c2451e", "#2b8a4b", "#7d3fa0", "#a87b00", "#3a3a3a"];
+
+/// What belongs to one picture.
+pub struct Picture {
+    pub title: String,
+    pub horizontal: String,
+    pub vertical: String,
+    /// A name for each curve, and its points from left to right.
+    pub curves: Vec<(String, Vec<(f64, f64)>)>,
+}
+
+/// The place number `step` of an interval.
+fn place((from, to): &(Fraction, Fraction), step: i64) -> Fraction {
+    let whole = to.plus(&from.clone().negated());
+    from.plus(&whole.times(&Fraction::from(step)).over(&Fraction::from(STEPS)))
+}
+
+/// The points of the sum of value × x^index over an interval, exact before they are rounded; none where a power of 0 is not there.
+pub fn points(first: i64, values: &[Fraction], interval: &(Fraction, Fraction)) -> Option<Vec<(f64, f64)>> {
+    let has_negative = values.iter().zip(first..0).any(|(value, _)| !value.is_zero());
+    (0..=STEPS)
+        .map(|step| {
+            let x = place(interval, step);
+            if x.is_zero() && has_negative {
+                return None;
+            }
+            let horner = |sum: Fraction, value: &Fraction| sum.times(&x).plus(value);
+            let mut sum = values.iter().rev().fold(Fraction::from(0), horner);
+            for _ in 0..first {
+                sum = sum.times(&x);
+            }
+            if x.is_zero() && first < 0 {
+                sum = values.get(first.unsigned_abs() as usize).cloned().unwrap_or_else(|| Fraction::from(0));
+            } else {
+                for _ in first..0 {
+                    sum = sum.over(&x);
+                }
+            }
+            Some((x.rounded(), sum.rounded()))
+        })
+        .collect()
+}
+
+/// Round numbers between two, about six of them.
+fn ticks(low: f64, high: f64) -> Vec<f64> {
+    let rough = (high - low) / 6.0;
+    let power = 10f64.powf(rough.log10().floor());
+    let step = [1.0, 2.0, 5.0, 10.0].iter().map(|by| by * power).find(|step| *step >= rough).unwrap_or(rough);
+    let first = (low / step).ceil() as i64;
+    let last = (high / step).floor() as i64;
+    (first..=last).map(|at| at as f64 * step).collect()
+}
+
+/// A tick as text: no more decimals than it needs.
+fn tick(value: f64) -> String {
+    if value != 0.0 && (value.abs() >= 1e6 || value.abs() < 1e-4) {
+        return format!("{value:.1e}");
+    }
+    let text = format!("{value:.6}");
+    let text = text.trim_end_matches('0').trim_end_matches('.');
+    if text == "-0" { "0" } else { text }.into()
+}
+
+fn escaped(text: &str) -> String {
+    text.replace('&', "&amp;").replace('<', "&lt;").replace('>', "&gt;")
+}
+
+/// The ends of a scale that shows all these, a little wider than they are.
+fn ends(values: impl Iterator<Item = f64>) -> (f64, f64) {
+    let (low, high) = values.fold((f64::INFINITY, f64::NEG_INFINITY), |(low, high), v| (low.min(v), high.max(v)));
+    match (low.is_finite() && high.is_finite(), high - low) {
+        (false, _) => (0.0, 1.0),
+        (_, 0.0) => (low - 1.0, high + 1.0),
+        (_, whole) => (low - whole * 0.05, high + whole * 0.05),
+    }
+}
+
+impl Picture {
+    /// Where a point stands in the picture.
+    pub fn places(&self) -> impl Fn(f64, f64) -> (f64, f64) {
+        let all = || self.curves.iter().flat_map(|(_, points)| points.iter());
+        let (low, high) = ends(all().map(|point| point.1));
+        let left = all().map(|point| point.0).fold(f64::INFINITY, f64::min);
+        let right = all().map(|point| point.0).fold(f64::NEG_INFINITY, f64::max);
+        let [x0, y0, x1, y1] = FRAME;
+        move |x, y| (x0 + (x - left) / (right - left) * (x1 - x0), y1 - (y - low) / (high - low) * (y1 - y0))
+    }
+
+    fn axes(&self, svg: &mut String) {
+        let ([x0, y0, x1, y1], at) = (FRAME, self.places());
+        let all = || self.curves.iter().flat_map(|(_, points)| points.iter());
+        let (low, high) = ends(all().map(|point| point.1));
+        let left = all().map(|point| point.0).fold(f64::INFINITY, f64::min);
+        let right = all().map(|point| point.0).fold(f64::NEG_INFINITY, f64::max);
+        for x in ticks(left, right) {
+            let (h, label) = (at(x, low).0, tick(x));
+            let _ = writeln!(svg, "<line x1=\"{h:.2}\" y1=\"{y0}\" x2=\"{h:.2}\" y2=\"{y1}\" stroke=\"#e3e3e3\"/>");
+            let below = y1 + 18.0;
+            let _ = writeln!(svg, "<text x=\"{h:.2}\" y=\"{below}\" text-anchor=\"middle\">{label}</text>");
+        }
+        for y in ticks(low, high) {
+            let (v, label) = (at(left, y).1, tick(y));
+            let colour = if y == 0.0 { "#777777" } else { "#e3e3e3" };
+            let _ = writeln!(svg, "<line x1=\"{x0}\" y1=\"{v:.2}\" x2=\"{x1}\" y2=\"{v:.2}\" stroke=\"{colour}\"/>");
+            let (beside, v) = (x0 - 8.0, v + 4.0);
+            let _ = writeln!(svg, "<text x=\"{beside}\" y=\"{v:.2}\" text-anchor=\"end\">{label}</text>");
+        }
+        let (width, height) = (x1 - x0, y1 - y0);
+        let _ = writeln!(
+            svg,
+            "<rect x=\"{x0}\" y=\"{y0}\" width=\"{width}\" height=\"{height}\" fill=\"none\" stroke=\"#444444\"/>"
+        );
+        let (middle, below) = ((x0 + x1) / 2.0, y1 + 40.0);
+        let _ = writeln!(
+            svg,
+            "<text x=\"{middle}\" y=\"{below}\" text-anchor=\"middle\" font-style=\"italic\">{}</text>",
+            escaped(&self.horizontal)
+        );
+        let across = (y0 + y1) / 2.0;
+        let _ = writeln!(
+            svg,
+            "<text x=\"16\" y=\"{across}\" text-anchor=\"middle\" font-style=\"italic\" transform=\"rotate(-90 16 {across})\">{}</text>",
+            escaped(&self.vertical)
+        );
+    }
+
+    /// The picture as a file.
+    pub fn svg(&self) -> String {
+        let height = HEIGHT + 20.0 * self.curves.len() as f64;
+        let mut svg = format!(
+            "<?xml version=\"1.0\" encoding=\"UTF-8\"?>\n\
+             <svg xmlns=\"http://www.w3.org/2000/svg\" width=\"{WIDTH}\" height=\"{height}\" viewBox=\"0 0 {WIDTH} {height}\" \
+             font-family=\"sans-serif\" font-size=\"13\">\n<rect width=\"{WIDTH}\" height=\"{height}\" fill=\"white\"/>\n\
+             <text x=\"{}\" y=\"30\" text-anchor=\"middle\" font-size=\"16\">{}</text>\n",
+            WIDTH / 2.0,
+            escaped(&self.title)
+        );
+        self.axes(&mut svg);
+        let at = self.places();
+        for (number, (name, points)) in self.curves.iter().enumerate() {
+            let colour = COLOURS[number % COLOURS.len()];
+            let pair = |&(x, y): &(f64, f64)| {
+                let (h, v) = at(x, y);
+                format!("{h:.2},{v:.2}")
+            };
+            let points: Vec<String> = points.iter().map(pair).collect();
+            let _ = writeln!(
+                svg,
+                "<polyline points=\"{}\" fill=\"none\" stroke=\"{colour}\" stroke-width=\"2\"/>",
+                points.join(" ")
+            );
+            let [x0, .., y1] = FRAME;
+            let (line, x) = (y1 + 60.0 + 20.0 * number as f64, x0 + 40.0);
+            let _ = writeln!(
+                svg,
+                "<line x1=\"{x0}\" y1=\"{line}\" x2=\"{}\" y2=\"{line}\" stroke=\"{colour}\" stroke-width=\"2\"/>",
+                x0 + 30.0
+            );
+            let _ = writeln!(svg, "<text x=\"{x}\" y=\"{}\">{}</text>", line + 4.0, escaped(name));
+        }
+        svg + "</svg>\n"
+    }
+}
