@@ -14,7 +14,7 @@ use outside::polynomial::Polynomial;
 use outside::sheet::{write, Sheet};
 use outside::system::System;
 use std::hint::black_box;
-use std::io::{stdin, stdout, Read, Write};
+use std::io::{stdin, stdout};
 use std::process::Command;
 use std::time::{Duration, Instant};
 use wurgalm::{Heading, Sizes};
@@ -110,11 +110,7 @@ impl Stores {
 
 /// The largest root of a polynomial, by a run of the fast version.
 fn fast_root(system: &mut fast::System, p: &[i64]) -> Option<i64> {
-    (system.m, system.equations, system.l, system.blocks, system.count) = (1, 1, 0, 1, 0);
-    let entry = &mut system.rows[0].0[0];
-    entry.numbers[..p.len()].copy_from_slice(p);
-    entry.length = p.len();
-    fast::run(system).expect("one nonzero row").root
+    fast::largest_root(system, p)
 }
 
 /// One line of the table. Without the library there is a time of the fast version only.
@@ -245,9 +241,7 @@ fn listing(library: bool) {
 }
 
 fn fast_batch() {
-    let mut input = Vec::new();
-    stdin().read_to_end(&mut input).expect("the input is read");
-    stdout().write_all(&fast::batch(&input)).expect("the output is written");
+    fast::stream(stdin().lock(), stdout().lock()).expect("the output is written");
 }
 
 fn main() {

@@ -1,4 +1,4 @@
-//! Integer roots from the divisors of the lowest nonzero coefficient, which come from its prime factors.
+//! Integer roots: by formula up to degree 2, and above it small numbers one by one and the others by ranges that may have a root.
 
 /// Up to sixteen roots, ascending.
 #[derive(Clone, Copy)]
@@ -8,6 +8,8 @@ pub struct Roots {
 }
 
 impl Roots {
+    pub const NONE: Roots = Roots { numbers: [0; 16], count: 0 };
+
     pub fn as_slice(&self) -> &[i64] {
         &self.numbers[..self.count]
     }
@@ -19,7 +21,7 @@ impl Roots {
 
     /// Those that pass the test.
     pub fn filtered(&self, test: impl Fn(i64) -> bool) -> Roots {
-        let mut kept = Roots { numbers: [0; 16], count: 0 };
+        let mut kept = Roots::NONE;
         self.as_slice().iter().filter(|&&r| test(r)).for_each(|&r| kept.push(r));
         kept
     }
@@ -43,135 +45,141 @@ fn divides_exactly(p: &[i64], r: i64) -> bool {
     carried == 0
 }
 
-/// All integer roots of a polynomial whose last coefficient is nonzero.
+/// All integer roots of a polynomial within ±C whose last coefficient is nonzero.
 pub fn roots(p: &[i64]) -> Roots {
-    let mut found = Roots { numbers: [0; 16], count: 0 };
+    let mut found = Roots::NONE;
     let Some(lowest) = p.iter().position(|&a| a != 0) else { return found };
     if lowest > 0 {
         found.push(0);
     }
-    let p = &p[lowest..];
-    match p {
+    match p[lowest..] {
         [_] => {}
-        [a, b] if a % b == 0 => found.push(-a / b),
-        [_, _] => {}
-        _ => nonzero_roots(p, &mut found),
+        [a, b] => linear(a, b, &mut found),
+        [a, b, c] => quadratic(a, b, c, &mut found),
+        _ => Search::new(&p[lowest..]).all(&mut found),
     }
-    found.numbers[..found.count].sort_unstable();
+    if found.count > 1 {
+        found.numbers[..found.count].sort_unstable();
+    }
     found
 }
 
-/// The roots of a polynomial of degree 2 or more whose first coefficient is nonzero.
-fn nonzero_roots(p: &[i64], found: &mut Roots) {
-    let (first, last) = (p[0].unsigned_abs() as u32, p[p.len() - 1].unsigned_abs());
-    // Cauchy's bound.
-    let largest = p[..p.len() - 1].iter().map(|a| a.unsigned_abs()).max().unwrap_or(0);
-    let bound = (1 + largest / last).min(first as u64) as u32;
-    let test = Test::new(p);
-    if bound < 300 {
-        for d in 1..=bound {
-            if first.is_multiple_of(d) {
-                test.both_signs(d as i64, found);
-            }
-        }
-    } else {
-        divisors(first, bound, |d| test.both_signs(d as i64, found));
+/// The root of a + b n, if it is whole.
+fn linear(a: i64, b: i64, found: &mut Roots) {
+    if a % b == 0 {
+        found.push(-a / b);
     }
 }
 
-/// Whether a number is a root.
-struct Test<'a> {
+/// The whole roots of a + b n + c n^2, by the square root of the discriminant, which fits 59 bits.
+fn quadratic(a: i64, b: i64, c: i64, found: &mut Roots) {
+    let discriminant = b * b - 4 * a * c;
+    if discriminant < 0 {
+        return;
+    }
+    let root = (discriminant as f64).sqrt().round() as i64;
+    if root * root != discriminant {
+        return;
+    }
+    linear(b + root, 2 * c, found);
+    if root != 0 {
+        linear(b - root, 2 * c, found);
+    }
+}
+
+/// Up to this size every number is tried.
+const TRIED: i64 = 8;
+
+/// The search for the roots of a polynomial of degree 3 or more whose first coefficient is nonzero.
+struct Search<'a> {
     p: &'a [i64],
-    at_one: i64,
-    at_minus_one: i64,
+    /// Its coefficients of even and of odd powers, two by two.
+    pairs: [[i64; 2]; 8],
+    /// The same with -n for n.
+    mirrored: [i64; 16],
+    /// The largest size of a coefficient.
+    size: u32,
+    /// No root is larger: a root divides the first coefficient, and Cauchy's bound holds.
+    bound: i64,
 }
 
-impl Test<'_> {
-    fn new(p: &[i64]) -> Test<'_> {
-        let even: i64 = p.iter().step_by(2).sum();
-        let odd: i64 = p.iter().skip(1).step_by(2).sum();
-        Test { p, at_one: even + odd, at_minus_one: even - odd }
+impl Search<'_> {
+    fn new(p: &[i64]) -> Search<'_> {
+        let mut mirrored = [0; 16];
+        let mut pairs = [[0; 2]; 8];
+        let mut size = 0;
+        for (k, &a) in p.iter().enumerate() {
+            mirrored[k] = if k % 2 == 0 { a } else { -a };
+            pairs[k / 2][k % 2] = a;
+            size = size.max(a.unsigned_abs() as u32);
+        }
+        let bound = (1 + size / p[p.len() - 1].unsigned_abs() as u32).min(p[0].unsigned_abs() as u32);
+        Search { p, pairs, mirrored, size, bound: bound as i64 }
     }
 
+    fn all(&self, found: &mut Roots) {
+        let zero = found.count;
+        for d in 1..TRIED.min(self.bound) + 1 {
+            self.both_signs(d, found);
+        }
+        let mut low = TRIED + 1;
+        while low <= self.bound && found.count - zero < self.p.len() - 1 {
+            let high = (2 * low - 2).min(self.bound);
+            self.between(self.p, low, high, &mut |r| found.push(r));
+            self.between(&self.mirrored[..self.p.len()], low, high, &mut |r| found.push(-r));
+            low = high + 1;
+        }
+    }
+
+    /// Tries d and -d: the even and the odd powers, added and subtracted.
+    #[inline(always)]
     fn both_signs(&self, d: i64, found: &mut Roots) {
-        // r - 1 divides p(1), and r + 1 divides p(-1).
-        if divides(d - 1, self.at_one) && divides(d + 1, self.at_minus_one) && is_root(self.p, d) {
-            found.push(d);
+        let square = d * d;
+        let (mut even, mut odd) = (0i64, 0i64);
+        for [a, b] in self.pairs[..self.p.len().div_ceil(2)].iter().rev() {
+            even = even.wrapping_mul(square).wrapping_add(*a);
+            odd = odd.wrapping_mul(square).wrapping_add(*b);
         }
-        if divides(d + 1, self.at_one) && divides(d - 1, self.at_minus_one) && is_root(self.p, -d) {
-            found.push(-d);
-        }
-    }
-}
-
-fn divides(d: i64, n: i64) -> bool {
-    if d == 0 {
-        n == 0
-    } else {
-        n % d == 0
-    }
-}
-
-const PRIMES: usize = 1900;
-
-/// The primes below 16,384, whose square is 2^28.
-static TABLE: [u16; PRIMES] = primes();
-
-const fn primes() -> [u16; PRIMES] {
-    let mut composite = [false; 16_384];
-    let mut table = [0; PRIMES];
-    let (mut n, mut count) = (2, 0);
-    while n < 16_384 {
-        if !composite[n] {
-            table[count] = n as u16;
-            count += 1;
-            let mut multiple = n * n;
-            while multiple < 16_384 {
-                composite[multiple] = true;
-                multiple += n;
+        let odd = odd.wrapping_mul(d);
+        for (r, value) in [(d, even.wrapping_add(odd)), (-d, even.wrapping_sub(odd))] {
+            if value == 0 && is_root(self.p, r) {
+                found.push(r);
             }
         }
-        n += 1;
     }
-    assert!(count == PRIMES);
-    table
-}
 
-/// Hands on every divisor of n up to the bound.
-fn divisors(mut n: u32, bound: u32, mut take: impl FnMut(u32)) {
-    let mut all = [1u32; 1024];
-    let mut count = 1;
-    let mut spread = |prime: u32, power: u32| {
-        let before = count;
-        let mut factor = 1;
-        for _ in 0..power {
-            factor *= prime;
-            for k in 0..before {
-                if all[k] <= bound / factor {
-                    all[count] = all[k] * factor;
-                    count += 1;
-                }
+    /// Hands on the roots of p or of its mirror between two numbers above 1, by halves that may have one.
+    fn between(&self, p: &[i64], low: i64, high: i64, take: &mut impl FnMut(i64)) {
+        if !self.may_vanish(p, low, high) {
+            return;
+        }
+        if low == high {
+            return take(low);
+        }
+        let middle = (low + high) / 2;
+        self.between(p, low, middle, take);
+        self.between(p, middle + 1, high, take);
+    }
+
+    /// Horner's rule on a range: the value of the coefficients from k on lies between `least` and `most`. A value that has reached the limit
+    /// only grows, so that nothing past it is worked out. For one number it is the value itself.
+    #[inline(always)]
+    fn may_vanish(&self, p: &[i64], low: i64, high: i64) -> bool {
+        let limit = (self.size / (low as u32 - 1) + 1) as i64;
+        let (mut least, mut most) = (0, 0);
+        for &a in p.iter().rev() {
+            least = a + least * if least < 0 { high } else { low };
+            most = a + most * if most < 0 { low } else { high };
+            if least >= limit || most <= -limit {
+                return false;
             }
+            if least <= -limit && most >= limit {
+                return true;
+            }
+            (least, most) = (least.max(-limit), most.min(limit));
         }
-    };
-    for &prime in &TABLE {
-        let prime = prime as u32;
-        if prime * prime > n {
-            break;
-        }
-        let mut power = 0;
-        while n.is_multiple_of(prime) {
-            n /= prime;
-            power += 1;
-        }
-        if power > 0 {
-            spread(prime, power);
-        }
+        least <= 0 && most >= 0
     }
-    if n > 1 {
-        spread(n, 1);
-    }
-    all[..count].iter().for_each(|&d| take(d));
 }
 
 #[cfg(test)]
