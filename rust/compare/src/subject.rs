@@ -1,5 +1,6 @@
-//! What is compared: the outside implementation, right or with a planted fault, and the proved library with its programs.
+//! What is compared: the outside implementation, right or with a planted fault, the proved library with its programs, and the calls of `fast`.
 
+use crate::fast::calls;
 use outside::elimination::Side;
 use outside::fault::Fault;
 use outside::logs::{replay_on_stores, run_logged_on_stores};
@@ -305,6 +306,111 @@ impl Subject for Library {
         let Asked { m, equations, l, t, count } = asked;
         let Lent { rows: a, relations: b, matrix, list } = lent;
         wurgalm::stores::solutions(rows, relations, m, equations, l, t, count, a, b, matrix, list, result)
+    }
+}
+
+/// The calls of `fast`; what it has no call for is answered by the outside implementation.
+pub struct Fast;
+
+impl Subject for Fast {
+    fn name(&self) -> String {
+        "fast".into()
+    }
+
+    fn run(&self, side: Side, rows: &mut [i64], relations: &mut [i64], asked: Asked, result: &mut [i64]) -> u8 {
+        let Asked { m, equations, l, t, count } = asked;
+        match side {
+            Side::Leading => calls::run_leading(rows, relations, m, equations, l, t, count, result),
+            Side::Trailing => calls::run_trailing(rows, relations, m, equations, l, t, count, result),
+        }
+    }
+
+    fn read(&self, bytes: &[u8], rows: &mut [i64], relations: &mut [i64], result: &mut [i64]) -> u8 {
+        Outside(None).read(bytes, rows, relations, result)
+    }
+
+    fn write(
+        &self,
+        rows: &[i64],
+        relations: &[i64],
+        asked: Asked,
+        order: &[i64],
+        bytes: &mut [u8],
+        result: &mut [i64],
+    ) -> u8 {
+        Outside(None).write(rows, relations, asked, order, bytes, result)
+    }
+
+    fn batch(&self, input: &[u8]) -> Vec<u8> {
+        crate::fast::batch(input)
+    }
+
+    fn batch_call(&self, input: &[u8], output: &mut [u8], result: &mut [i64]) -> u8 {
+        Outside(None).batch_call(input, output, result)
+    }
+
+    fn read_differential(&self, bytes: &[u8], rows: &mut [i64], relations: &mut [i64], result: &mut [i64]) -> u8 {
+        Outside(None).read_differential(bytes, rows, relations, result)
+    }
+
+    fn write_recurrence(&self, sheet: &[u8], bytes: &mut [u8], result: &mut [i64]) -> u8 {
+        Outside(None).write_recurrence(sheet, bytes, result)
+    }
+
+    fn induce(&self, input: &[u8]) -> Vec<u8> {
+        Outside(None).induce(input)
+    }
+
+    fn check_record(&self, rows: &[i64], relations: &[i64], asked: Asked, record: &Record, result: &mut [i64]) -> u8 {
+        let (Asked { m, equations, l, t, count }, Record { first, vectors, values }) = (asked, *record);
+        calls::check_record(rows, relations, m, equations, l, t, count, first, vectors, values, result)
+    }
+
+    fn prepare(&self, rows: &[i64], relations: &[i64], asked: Asked, state: &mut [i64]) -> u8 {
+        let Asked { m, equations, l, t, count } = asked;
+        calls::prepare(rows, relations, m, equations, l, t, count, state)
+    }
+
+    fn run_steps(
+        &self,
+        rows: &mut [i64],
+        relations: &mut [i64],
+        state: &mut [i64],
+        budget: usize,
+        result: &mut [i64],
+    ) -> u8 {
+        calls::run_steps(rows, relations, state, budget, result)
+    }
+
+    fn run_logged(
+        &self,
+        rows: &mut [i64],
+        relations: &mut [i64],
+        asked: Asked,
+        log: &mut [i64],
+        result: &mut [i64],
+    ) -> u8 {
+        let Asked { m, equations, l, t, count } = asked;
+        calls::run_logged(rows, relations, m, equations, l, t, count, log, result)
+    }
+
+    fn replay(
+        &self,
+        rows: &mut [i64],
+        relations: &mut [i64],
+        asked: Asked,
+        steps: usize,
+        log: &[i64],
+        result: &mut [i64],
+    ) -> u8 {
+        let Asked { m, equations, l, t, count } = asked;
+        calls::replay(rows, relations, m, equations, l, t, count, steps, log, result)
+    }
+
+    fn solutions(&self, rows: &[i64], relations: &[i64], asked: Asked, lent: Lent, result: &mut [i64]) -> u8 {
+        let Asked { m, equations, l, t, count } = asked;
+        let Lent { rows: a, relations: b, matrix, list } = lent;
+        calls::solutions(rows, relations, m, equations, l, t, count, a, b, matrix, list, result)
     }
 }
 

@@ -1,16 +1,16 @@
-//! Files of cases that were made elsewhere, compared through the exported functions: `calls [outside] FILE ..`. A `run.txt` has sheets
+//! Files of cases that were made elsewhere, compared through the exported functions: `calls [outside | fast] FILE ..`. A `run.txt` has sheets
 //! with what their runs leave, a `differential*.txt` has differential sheets with their recurrences, a `records*.txt` has sheets with
 //! records and their answers, a `steps*.txt` has sheets with budgets and what they lead to, a `states*.txt` has states with the answers
 //! to them, a `logs*.txt` has sheets with elimination logs and what their replays leave, a `solutions*.txt` has sheets with their
 //! polynomial solutions, a `NAME.in` is a batch, whose output is in `NAME.out` beside it. Every store is judged before and after: of the
-//! needed length, longer and too short. With `outside` the outside implementation is judged in place of the library. The exit code is 1
+//! needed length, longer and too short. With `outside` the outside implementation is judged in place of the library, with `fast` the version that the benchmark divides by. The exit code is 1
 //! if there is a difference, 2 if there is nothing to compare.
 
 use compare::log_files::logs_of;
 use compare::runs::{induced_of, records_of, runs_of, Judge, Judgement};
 use compare::solution_files::solutions_of;
 use compare::step_files::{states_of, steps_of};
-use compare::subject::{Library, Outside, Subject};
+use compare::subject::{Fast, Library, Outside, Subject};
 use std::path::{Path, PathBuf};
 use std::{env, fs, process};
 
@@ -72,14 +72,19 @@ fn some_cases<T>(path: &Path, cases: Result<Vec<T>, String>) -> Vec<T> {
 
 fn main() {
     let mut arguments: Vec<PathBuf> = env::args_os().skip(1).map(PathBuf::from).collect();
-    let with_outside = arguments.first().is_some_and(|first| first.as_os_str() == "outside");
-    if with_outside {
+    let named = |name: &str| arguments.first().is_some_and(|first| first.as_os_str() == name);
+    let (with_outside, with_fast) = (named("outside"), named("fast"));
+    if with_outside || with_fast {
         arguments.remove(0);
     }
     if arguments.is_empty() {
-        nothing("calls [outside] FILE ..".into());
+        nothing("calls [outside | fast] FILE ..".into());
     }
-    let subject: Box<dyn Subject> = if with_outside { Box::new(Outside(None)) } else { Box::new(Library::needed()) };
+    let subject: Box<dyn Subject> = match (with_outside, with_fast) {
+        (true, _) => Box::new(Outside(None)),
+        (_, true) => Box::new(Fast),
+        _ => Box::new(Library::needed()),
+    };
     let mut all = 0;
     for path in arguments {
         let mut judge = Judge::default();

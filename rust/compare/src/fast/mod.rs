@@ -2,6 +2,7 @@
 //! polynomials of each row, lines that the run leaves as they are copied from text to text, eight digits read or written at once, one
 //! work area for all sheets. Leading side and batches only.
 
+pub mod calls;
 mod elimination;
 mod frames;
 mod reader;
