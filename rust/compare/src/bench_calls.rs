@@ -1,5 +1,6 @@
 //! Times of single calls on stores, the library beside the calls of `fast`, in one run: of each call cases that are worked to the end, on
-//! stores that are filled before each call, outside the time that is taken. A measurement is the shortest of seven passes over all cases.
+//! stores that are filled before each call, outside the time that is taken. Seven passes go over all cases, the library's and the other's in
+//! turn; the time of a case is the shortest of its seven.
 
 use crate::cases::asked_of;
 use crate::random::Random;
@@ -19,7 +20,7 @@ use outside::system::{Sizes, System};
 use outside::EQUATIONS;
 use std::time::{Duration, Instant};
 
-/// A measurement is the shortest of so many passes.
+/// The time of a case is the shortest of so many.
 const PASSES: usize = 7;
 
 /// A system in stores, with what a call takes beside it.
@@ -77,9 +78,8 @@ const TRAILING: Call =
     |subject, input, s| subject.run(Side::Trailing, &mut s.rows, &mut s.relations, input.asked, &mut s.result);
 const PREPARE: Call = |subject, input, s| subject.prepare(&s.rows, &s.relations, input.asked, &mut s.state);
 const STEP: Call = |subject, _, s| subject.run_steps(&mut s.rows, &mut s.relations, &mut s.state, 1, &mut s.result);
-const RECORD: Call = |subject, input, s| {
-    subject.check_record(&s.rows, &s.relations, input.asked, &input.record.record(), &mut s.result)
-};
+const RECORD: Call =
+    |subject, input, s| subject.check_record(&s.rows, &s.relations, input.asked, &input.record.record(), &mut s.result);
 const LOGGED: Call =
     |subject, input, s| subject.run_logged(&mut s.rows, &mut s.relations, input.asked, &mut s.log, &mut s.result);
 const REPLAY: Call = |subject, input, s| {
@@ -221,17 +221,15 @@ pub const BENCHES: [Bench; 10] = [
 
 // ---- measuring ----
 
-/// The time of one call of each case, without the filling of its stores.
-fn pass(subject: &dyn Subject, inputs: &[Input], call: Call, stores: &mut Stores) -> Duration {
-    let mut all = Duration::ZERO;
-    for input in inputs {
+/// One call of each case. The shortest times so far are kept, without the filling of the stores.
+fn pass(subject: &dyn Subject, inputs: &[Input], call: Call, stores: &mut Stores, shortest: &mut [Duration]) {
+    for (input, shortest) in inputs.iter().zip(shortest) {
         stores.fill(input);
         let start = Instant::now();
         let number = call(subject, input, stores);
-        all += start.elapsed();
+        *shortest = start.elapsed().min(*shortest);
         assert_eq!(number, 0, "a case that is worked to the end");
     }
-    all
 }
 
 /// Both leave the same in all stores, case by case.
@@ -254,26 +252,27 @@ impl Bench {
             same(&inputs, self.call, [library, &Fast], self.what);
         }
         let mut stores = Stores::new();
-        let (mut ours, mut fast) = (Duration::MAX, Duration::MAX);
+        let (mut ours, mut fast) = (vec![Duration::MAX; inputs.len()], vec![Duration::MAX; inputs.len()]);
         for _ in 0..PASSES {
             if let Some(library) = library {
-                ours = ours.min(pass(library, &inputs, self.call, &mut stores));
+                pass(library, &inputs, self.call, &mut stores, &mut ours);
             }
-            fast = fast.min(pass(&Fast, &inputs, self.call, &mut stores));
+            pass(&Fast, &inputs, self.call, &mut stores, &mut fast);
         }
-        let each = |time: Duration| time.as_secs_f64() * 1e6 / inputs.len() as f64;
+        let mean = |times: &[Duration]| times.iter().sum::<Duration>().as_secs_f64() * 1e6 / times.len() as f64;
         let (ours, ratio) = match library {
-            Some(_) => (format!("{:.2} µs", each(ours)), format!("{:.2}", ours.as_secs_f64() / fast.as_secs_f64())),
+            Some(_) => (format!("{:.2} µs", mean(&ours)), format!("{:.2}", mean(&ours) / mean(&fast))),
             None => ("-".into(), "-".into()),
         };
-        println!("| {}, mean of {} | {ours} | {:.2} µs | {ratio} |", self.what, inputs.len(), each(fast));
+        println!("| {}, mean of {} | {ours} | {:.2} µs | {ratio} |", self.what, inputs.len(), mean(&fast));
     }
 
     /// One pass of one side, for a profile.
     pub fn once(&self, library: bool) {
         let subject: Box<dyn Subject> = if library { Box::new(Library::needed()) } else { Box::new(Fast) };
         let inputs = (self.inputs)();
-        pass(subject.as_ref(), &inputs, self.call, &mut Stores::new());
+        let mut shortest = vec![Duration::MAX; inputs.len()];
+        pass(subject.as_ref(), &inputs, self.call, &mut Stores::new(), &mut shortest);
     }
 }
 

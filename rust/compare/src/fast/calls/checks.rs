@@ -1,6 +1,6 @@
 //! The checks before the work: sizes (2), lengths (1), numbers (5) (SCOPE 3.31).
 
-use super::{passed, rows_of, Polynomial, Row, C, EQUATIONS, LEFT, RELATION, RELATIONS, RELATION_STORE, RIGHT, ROW};
+use super::{rows_of, Bits, Row, C, EQUATIONS, LEFT, RELATION, RELATIONS, RELATION_STORE, RIGHT, ROW};
 
 /// The sizes and the relation count of a call, in their ranges.
 #[derive(Clone, Copy)]
@@ -48,18 +48,18 @@ impl Sizes {
         }
     }
 
-    /// The masks of the rows; 5 for a number past ±C, or one that is not 0 at an unused position (SCOPE 3.34).
-    pub fn numbers(&self, rows: &[i64], relations: &[i64]) -> Result<[u32; EQUATIONS], u8> {
+    /// The masks of rows and relations; 5 for a number past ±C, or one that is not 0 at an unused position (SCOPE 3.34).
+    pub fn numbers(&self, rows: &[i64], relations: &[i64]) -> Result<Masks, u8> {
         let used = self.used();
-        let mut masks = [0; EQUATIONS];
-        for (mask, row) in masks.iter_mut().zip(&rows_of(rows)[..self.equations]) {
+        let mut masks = Masks { rows: [0; EQUATIONS], relations: [0; RELATIONS] };
+        for (mask, row) in masks.rows.iter_mut().zip(&rows_of(rows)[..self.equations]) {
             *mask = mask_of(row, used).ok_or(5)?;
         }
         let (listed, unused) = relations[..RELATION_STORE].split_at(self.count * RELATION);
-        let right = |relation: &[i64; RELATION]| {
-            passed(0, relation[0], C) >= 0 && mask_of(relation_row(relation), used).is_some()
-        };
-        if listed.as_chunks().0.iter().all(right) && all_zero(unused) {
+        for (mask, relation) in masks.relations.iter_mut().zip(listed.as_chunks().0) {
+            *mask = mask_of(relation_row(relation), used).filter(|_| past(0, relation[0]) >> 29 == 0).ok_or(5)?;
+        }
+        if all_zero(unused) {
             Ok(masks)
         } else {
             Err(5)
@@ -67,32 +67,48 @@ impl Sizes {
     }
 }
 
+/// Which polynomials of each row and of each relation are not zero.
+#[derive(Clone, Copy)]
+pub struct Masks {
+    pub rows: [u32; EQUATIONS],
+    pub relations: [u32; RELATIONS],
+}
+
+/// A bit from 29 on where a number is past ±C, or where one of those before it was.
+#[inline(always)]
+fn past(before: u64, a: i64) -> u64 {
+    before | a.wrapping_add(C) as u64 | a.wrapping_add(C + 1) as u64
+}
+
 /// The row of a relation.
 pub fn relation_row(relation: &[i64; RELATION]) -> &Row {
     &rows_of(&relation[1..])[0]
 }
 
-/// Which polynomials of a row are not zero, where its numbers are right.
+/// Which polynomials of a row are not zero, where its numbers are right. The unused ones have to be zero, and of the others those that are
+/// not are looked at again, half of each where all of them are short.
 #[inline]
 fn mask_of(row: &Row, used: u32) -> Option<u32> {
-    let (mut mask, mut faults) = (0, 0);
-    for (bit, p) in row.iter().enumerate() {
-        if !is_zero(p) {
-            mask |= 1 << bit;
-            faults = p.iter().fold(faults, |faults, &a| passed(faults, a, C));
-        }
+    let any = |numbers: &[i64]| numbers.iter().fold(0, |all, a| all | a);
+    let (mut mask, mut high) = (0, 0);
+    for (at, p) in row.iter().enumerate() {
+        let upper = any(&p[8..]);
+        high |= upper;
+        mask |= ((any(&p[..8]) | upper != 0) as u32) << at;
     }
-    (mask & !used == 0 && faults >= 0).then_some(mask)
+    let faults = if high == 0 { faults::<8>(row, mask) } else { faults::<16>(row, mask) };
+    (mask & !used == 0 && faults >> 29 == 0).then_some(mask)
 }
 
+/// Of the first coefficients of some polynomials.
 #[inline(always)]
-fn is_zero(p: &Polynomial) -> bool {
-    p.iter().fold(0, |all, a| all | a) == 0
+fn faults<const COUNT: usize>(row: &Row, mask: u32) -> u64 {
+    Bits(mask).fold(0, |faults, at| row[at][..COUNT].iter().fold(faults, |faults, &a| past(faults, a)))
 }
 
 /// By pieces that are `or`ed together.
 fn all_zero(numbers: &[i64]) -> bool {
-    let (pieces, rest) = numbers.as_chunks::<64>();
+    let (pieces, rest) = numbers.as_chunks::<128>();
     let zero = |piece: &[i64]| piece.iter().fold(0, |all, a| all | a) == 0;
     pieces.iter().all(|piece| zero(piece)) && zero(rest)
 }

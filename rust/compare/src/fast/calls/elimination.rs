@@ -1,9 +1,9 @@
 //! The elimination in a row store (SCOPE 2), on either side.
 
-use super::checks::Sizes;
+use super::checks::{Masks, Sizes};
 use super::multipliers::{multiplicity, multipliers, Listed, Multiplier};
 use super::rows::{combine, divide, row_content, shift, swap, Factors, Shape};
-use super::{Bits, Polynomial, Row, COEFFICIENTS, EQUATIONS, LEFT, RELATION, RELATIONS, RESULT};
+use super::{Bits, Polynomial, Row, C, COEFFICIENTS, EQUATIONS, LEFT, RELATION, RELATIONS, RESULT};
 
 /// Where relations are listed.
 pub trait Relations {
@@ -86,14 +86,8 @@ pub struct Work<'a, R, K> {
 }
 
 impl<'a, R: Relations, K: Recorder> Work<'a, R, K> {
-    pub fn new(
-        rows: &'a mut [Row],
-        masks: [u32; EQUATIONS],
-        sizes: &Sizes,
-        relations: R,
-        recorder: K,
-    ) -> Work<'a, R, K> {
-        let shapes = masks.map(|mask| Shape { mask, ..Shape::ZERO });
+    pub fn new(rows: &'a mut [Row], masks: &Masks, sizes: &Sizes, relations: R, recorder: K) -> Work<'a, R, K> {
+        let shapes = masks.rows.map(Shape::of);
         let places = [0, 1, 2, 3, 4, 5];
         let (equations, blocks) = (sizes.equations, sizes.blocks());
         let rows = &mut rows[..equations];
@@ -250,8 +244,8 @@ impl<'a, R: Relations, K: Recorder> Work<'a, R, K> {
             return Err(7);
         }
         let content = row_content(place, shape) as i64;
-        let faults = if content > 1 { divide(place, shape, content) } else { sum.faults };
-        if faults < 0 {
+        let size = if content > 1 { divide(place, shape, content) } else { sum.size };
+        if size > C as u64 {
             return Err(8);
         }
         if shape.mask & LEFT == 0 && shape.mask != 0 {
@@ -275,7 +269,7 @@ impl<'a, R: Relations, K: Recorder> Work<'a, R, K> {
     pub fn shift_row<const UP: bool>(&mut self, i: usize) -> Result<(), u8> {
         let place = self.place(i);
         self.measure(place);
-        if shift::<UP>(&mut self.rows[place], &mut self.shapes[place], self.blocks) < 0 {
+        if shift::<UP>(&mut self.rows[place], &mut self.shapes[place], self.blocks) > C as u64 {
             return Err(8);
         }
         Ok(())

@@ -1,9 +1,9 @@
 //! Whether a system explains a record (SCOPE 12).
 
-use super::checks::{relation_row, Sizes};
+use super::checks::{relation_row, Masks, Sizes};
 use super::rows::{length, Shape};
 use super::run::number;
-use super::{passed, rows_of, Bits, Polynomial, Row, EQUATIONS, POLYNOMIALS, RELATION, RIGHT};
+use super::{passed, rows_of, Bits, Polynomial, Row, EQUATIONS, RELATION, RIGHT};
 
 /// Numbers of the answer (SCOPE 12.41).
 const ANSWER: usize = 4;
@@ -13,7 +13,7 @@ const INDEX: i64 = 1 << 20;
 const VALUE: i64 = 1 << 16;
 pub const LIMIT: i64 = 1 << 40;
 /// As many indices are worked at a time.
-const LANES: usize = 8;
+const LANES: usize = 32;
 
 /// Four numbers in `result`, as those of the exported function.
 #[allow(clippy::too_many_arguments)]
@@ -51,7 +51,7 @@ fn checked(
     if values.iter().fold(0, |faults, &a| passed(faults, a, VALUE)) < 0 {
         return Err(5);
     }
-    let answer = Record::new(&sizes, first, vectors, values).answer(rows_of(rows), &masks, relations, &sizes);
+    let answer = Record::new(&sizes, first, vectors, values).answer(rows_of(rows), relations, &masks, &sizes);
     result[..ANSWER].copy_from_slice(&answer.unwrap_or([0; ANSWER]));
     answer.map(drop)
 }
@@ -68,7 +68,7 @@ fn in_range(first: i64, vectors: usize) -> Result<(), u8> {
 
 /// The recorded numbers by unknown, and the indices at which equations are tested.
 struct Record {
-    columns: [[i64; VECTORS + LANES]; 4],
+    columns: [[i64; VECTORS]; 4],
     /// The first n, and how many there are.
     first: i64,
     tests: usize,
@@ -80,7 +80,7 @@ type Answer = Result<[i64; ANSWER], u8>;
 
 impl Record {
     fn new(sizes: &Sizes, first: i64, vectors: usize, values: &[i64]) -> Record {
-        let mut columns = [[0; VECTORS + LANES]; 4];
+        let mut columns = [[0; VECTORS]; 4];
         for (k, vector) in values.chunks_exact(sizes.m).enumerate() {
             for (column, &value) in columns.iter_mut().zip(vector) {
                 column[k] = value;
@@ -90,16 +90,17 @@ impl Record {
         Record { columns, first: first - sizes.t, tests: (vectors + 1).saturating_sub(blocks), blocks }
     }
 
-    fn answer(&self, rows: &[Row], masks: &[u32; EQUATIONS], relations: &[i64], sizes: &Sizes) -> Answer {
-        let equations = self.equations(&rows[..sizes.equations], masks)?;
+    fn answer(&self, rows: &[Row], relations: &[i64], masks: &Masks, sizes: &Sizes) -> Answer {
+        let equations = self.equations(&rows[..sizes.equations], &masks.rows)?;
         if equations[0] != 0 {
             return Ok(equations);
         }
         let mut tested = equations[1];
+        let inside = self.first..self.first + self.tests as i64;
         for (k, relation) in relations[..sizes.count * RELATION].as_chunks().0.iter().enumerate() {
             let n0 = relation[0];
-            if (self.first..self.first + self.tests as i64).contains(&n0) {
-                let sum = self.sum(relation_row(relation), (1 << POLYNOMIALS) - 1, (n0 - self.first) as usize)?;
+            if inside.contains(&n0) {
+                let sum = self.sum(relation_row(relation), masks.relations[k], (n0 - self.first) as usize)?;
                 if sum != 0 {
                     return Ok([2, k as i64 + 1, n0, sum]);
                 }
@@ -111,9 +112,8 @@ impl Record {
 
     /// The tests of the equations, by rising n, then by number (SCOPE 12.22).
     fn equations(&self, rows: &[Row], masks: &[u32; EQUATIONS]) -> Answer {
-        let mut shapes = masks.map(|mask| Shape { mask, ..Shape::ZERO });
-        let last = self.first + self.tests as i64 + LANES as i64;
-        let far = self.first.abs().max(last.abs());
+        let mut shapes = masks.map(Shape::of);
+        let far = self.first.abs().max((self.first + self.tests as i64).abs());
         let mut safe = true;
         for (row, shape) in rows.iter().zip(&mut shapes) {
             shape.measure(row);
@@ -122,21 +122,28 @@ impl Record {
         if !safe {
             return self.one_by_one(rows, masks);
         }
-        let mut from = 0;
-        while from < self.tests {
-            let mut sums = [[0; LANES]; EQUATIONS];
-            for ((sums, row), shape) in sums.iter_mut().zip(rows).zip(&shapes) {
-                self.add_row(sums, row, shape, from);
+        for from in (0..self.tests).step_by(LANES) {
+            if let Some(failure) = self.failure(rows, &shapes, from) {
+                return Ok(failure);
             }
-            let lanes = LANES.min(self.tests - from);
-            for lane in 0..lanes {
-                if let Some(k) = (0..rows.len()).find(|&k| sums[k][lane] != 0) {
-                    return Ok([1, k as i64 + 1, self.first + (from + lane) as i64, sums[k][lane]]);
-                }
-            }
-            from += LANES;
         }
         Ok([0, (self.tests * rows.len()) as i64, 0, 0])
+    }
+
+    /// The first of the next tests that fails, where no value can pass the limit: the sums of all rows are formed together.
+    fn failure(&self, rows: &[Row], shapes: &[Shape; EQUATIONS], from: usize) -> Option<[i64; ANSWER]> {
+        let (mut sums, lanes) = ([[0; LANES]; EQUATIONS], LANES.min(self.tests - from));
+        let mut any = 0;
+        for ((sums, row), shape) in sums.iter_mut().zip(rows).zip(shapes) {
+            self.add_row(&mut sums[..lanes], row, shape, from);
+            any = sums.iter().fold(any, |any, sum| any | sum);
+        }
+        if any == 0 {
+            return None;
+        }
+        let failing = |lane: usize| (0..rows.len()).find(|&k| sums[k][lane] != 0).map(|k| (lane, k));
+        let (lane, k) = (0..lanes).find_map(failing)?;
+        Some([1, k as i64 + 1, self.first + (from + lane) as i64, sums[k][lane]])
     }
 
     /// Where a value might pass the limit.
@@ -152,7 +159,7 @@ impl Record {
         Ok([0, (self.tests * rows.len()) as i64, 0, 0])
     }
 
-    /// The number that a test multiplies with the value of an entry is `test` places behind the first of these.
+    /// The numbers that successive tests multiply with the values of an entry.
     fn numbers(&self, at: usize) -> &[i64] {
         &self.columns[at % 4][self.blocks - 1 - at / 4..]
     }
@@ -162,8 +169,9 @@ impl Record {
         let n = self.first + test as i64;
         let (mut sum, mut faults) = (0i64, 0);
         for at in Bits(mask) {
-            let value = horner(&row[at], n, LIMIT, &mut faults);
-            let number = if at == RIGHT { -1 } else { value_at(self.numbers_of(at), test) };
+            let p = &row[at];
+            let value = horner(&p[..length(p)], n, LIMIT, &mut faults);
+            let number = if at == RIGHT { -1 } else { self.numbers(at)[test] };
             sum = sum.wrapping_add(value.wrapping_mul(number));
         }
         if faults < 0 {
@@ -172,33 +180,19 @@ impl Record {
         Ok(sum)
     }
 
-    /// As [`Record::numbers`], empty for an entry of a block that is not there.
-    fn numbers_of(&self, at: usize) -> &[i64] {
-        if at / 4 < self.blocks {
-            self.numbers(at)
-        } else {
-            &[]
-        }
-    }
-
     /// Adds what a row makes at the next indices.
-    fn add_row(&self, sums: &mut [i64; LANES], row: &Row, shape: &Shape, from: usize) {
+    fn add_row(&self, sums: &mut [i64], row: &Row, shape: &Shape, from: usize) {
         let n = self.first + from as i64;
         for at in Bits(shape.mask) {
-            let numbers =
-                if at == RIGHT { &[-1; LANES] } else { self.numbers(at)[from..].first_chunk().expect("so many lanes") };
+            let numbers = if at == RIGHT { &[-1; LANES] } else { &self.numbers(at)[from..] };
             add_entry(sums, &row[at], shape.length(at), n, numbers);
         }
     }
 }
 
-fn value_at(numbers: &[i64], test: usize) -> i64 {
-    numbers.get(test).copied().unwrap_or(0)
-}
-
 /// Adds the values of a polynomial at n and the next indices, each times its number.
 #[inline]
-fn add_entry(sums: &mut [i64; LANES], p: &Polynomial, length: usize, n: i64, numbers: &[i64; LANES]) {
+fn add_entry(sums: &mut [i64], p: &Polynomial, length: usize, n: i64, numbers: &[i64]) {
     match length {
         1 => add_values::<1>(sums, p, n, numbers),
         2 => add_values::<2>(sums, p, n, numbers),
@@ -213,15 +207,15 @@ fn add_entry(sums: &mut [i64; LANES], p: &Polynomial, length: usize, n: i64, num
 
 /// Of a polynomial of at most L coefficients.
 #[inline(always)]
-fn add_values<const L: usize>(sums: &mut [i64; LANES], p: &Polynomial, n: i64, numbers: &[i64; LANES]) {
+fn add_values<const L: usize>(sums: &mut [i64], p: &Polynomial, mut n: i64, numbers: &[i64]) {
     let p: &[i64; L] = p.first_chunk().expect("16 of them");
-    for lane in 0..LANES {
-        let n = n + lane as i64;
+    for (sum, number) in sums.iter_mut().zip(numbers) {
         let mut value = p[L - 1];
         for k in (0..L - 1).rev() {
-            value = value.wrapping_mul(n).wrapping_add(p[k]);
+            value = value * n + p[k];
         }
-        sums[lane] = sums[lane].wrapping_add(value.wrapping_mul(numbers[lane]));
+        *sum += value * number;
+        n += 1;
     }
 }
 
@@ -238,9 +232,10 @@ pub fn is_safe(p: &[i64], far: i64, limit: i64) -> bool {
 }
 
 /// The value of a polynomial; the faults are negative where a value on the way is past the limit. What comes after that has no meaning.
-pub fn horner(p: &Polynomial, n: i64, limit: i64, faults: &mut i64) -> i64 {
+#[inline]
+pub fn horner(p: &[i64], n: i64, limit: i64, faults: &mut i64) -> i64 {
     let mut value = 0i64;
-    for &a in p[..length(p)].iter().rev() {
+    for &a in p.iter().rev() {
         value = value.wrapping_mul(n).wrapping_add(a);
         *faults = passed(*faults, value, limit);
     }

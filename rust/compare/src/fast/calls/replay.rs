@@ -82,7 +82,7 @@ fn logged(
     let log = &mut log[..LOG_STORE];
     let (store, recorder) =
         (Store { numbers: relations, count: sizes.count }, Log { places: log.as_chunks_mut().0, steps: 0 });
-    let mut work = Work::new(rows_of_mut(rows), masks, &sizes, store, recorder);
+    let mut work = Work::new(rows_of_mut(rows), &masks, &sizes, store, recorder);
     let ended = work.run::<false>(usize::MAX).1;
     let (count, steps) = (work.relations.count, work.recorder.steps);
     match ended {
@@ -138,7 +138,7 @@ fn replayed(
     let masks = sizes.numbers(rows, relations)?;
     let (numbers, order) = log.split_at(STEP * steps);
     let store = Store { numbers: relations, count: sizes.count };
-    let work = Work::new(rows_of_mut(rows), masks, &sizes, store, ());
+    let work = Work::new(rows_of_mut(rows), &masks, &sizes, store, ());
     let lowest = 4 * sizes.blocks() - 4;
     let mut replay = Replay { work, lowest };
     let ended = numbers.as_chunks().0.iter().try_for_each(|step| replay.step(step));
@@ -242,12 +242,12 @@ impl Replay<'_> {
         let (row, shape, other, pivot) = self.work.two_rows(i, j);
         let sum = combine(row, shape, other, pivot, Factors { g: &g, h: &h, integer });
         right(sum.rest == 0)?;
-        let faults = if integer == 1 { sum.faults } else { divide_judged(row, shape, integer).ok_or(13)? };
+        let size = if integer == 1 { sum.size } else { divide_judged(row, shape, integer).ok_or(13)? };
         listed?;
         if sum.high != 0 {
             return Err(7);
         }
-        if faults < 0 {
+        if size > C as u64 {
             return Err(8);
         }
         Ok(())

@@ -48,7 +48,7 @@ fn run<const TRAILING: bool>(
     sizes.lengths(rows, relations, result.len() >= RESULT)?;
     let masks = sizes.numbers(rows, relations)?;
     let store = Store { numbers: relations, count: sizes.count };
-    let mut work = Work::new(rows_of_mut(rows), masks, &sizes, store, ());
+    let mut work = Work::new(rows_of_mut(rows), &masks, &sizes, store, ());
     match work.run::<TRAILING>(usize::MAX).1 {
         Ok(()) => {
             result[..RESULT].copy_from_slice(&work.numbers::<TRAILING>());

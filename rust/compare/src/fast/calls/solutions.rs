@@ -1,11 +1,12 @@
 //! The list of polynomial solutions (SCOPE 14).
 
-use super::checks::{relation_row, Sizes};
+use super::checks::{relation_row, Masks, Sizes};
 use super::elimination::{Counted, Work};
 use super::multipliers::{content, divisor, Exact};
-use super::records::{horner, LIMIT};
+use super::records::{horner, is_safe, LIMIT};
+use super::rows::Shape;
 use super::run::number;
-use super::{passed, rows_of, rows_of_mut, Row, C, EQUATIONS, LEFT, RELATION, RELATION_STORE, RIGHT};
+use super::{passed, rows_of, rows_of_mut, Bits, Row, C, EQUATIONS, RELATION, RELATION_STORE, RIGHT};
 
 /// Numbers of a row of constants, and of the matrix, the list and the result (SCOPE 14.61, 14.65).
 const WIDTH: usize = 64;
@@ -53,15 +54,16 @@ fn called(rows: &[i64], relations: &[i64], sizes: Sizes, lent: Lent, result: &mu
     sizes.lengths(rows, relations, others)?;
     let masks = sizes.numbers(rows, relations)?;
     let relations = relations[..sizes.count * RELATION].as_chunks().0;
-    if masks.iter().any(|mask| mask >> RIGHT != 0) || relations.iter().any(|relation| !has_no_side(relation)) {
+    if masks.rows.iter().chain(&masks.relations).any(|mask| mask >> RIGHT != 0) {
         return Err(14);
     }
     let Lent { rows: work, relations: unused, matrix, list } = lent;
     work[..need].copy_from_slice(&rows[..need]);
     list[..LIST].fill(0);
-    let answer = last_index(rows_of_mut(work), masks, &sizes).and_then(|last| match last {
+    let answer = last_index(rows_of_mut(work), &masks, &sizes).and_then(|last| match last {
         Some(last) => {
-            let system = System { rows: &rows_of(rows)[..sizes.equations], masks, relations, sizes: &sizes, last };
+            let system =
+                System { rows: &rows_of(rows)[..sizes.equations], masks: &masks, relations, sizes: &sizes, last };
             listed(&system, matrix, list).map(|count| [1, last, count as i64])
         }
         None => Ok([0; ANSWER]),
@@ -76,12 +78,8 @@ fn called(rows: &[i64], relations: &[i64], sizes: Sizes, lent: Lent, result: &mu
     answer.map(drop)
 }
 
-fn has_no_side(relation: &[i64; RELATION]) -> bool {
-    relation_row(relation)[RIGHT].iter().fold(0, |all, a| all | a) == 0
-}
-
 /// N, if it is not negative (SCOPE 14.12, 14.21, 14.22).
-fn last_index(rows: &mut [Row], masks: [u32; EQUATIONS], sizes: &Sizes) -> Result<Option<i64>, u8> {
+fn last_index(rows: &mut [Row], masks: &Masks, sizes: &Sizes) -> Result<Option<i64>, u8> {
     let mut work = Work::new(rows, masks, sizes, Counted(sizes.count), ());
     work.run::<true>(usize::MAX).1?;
     if work.settled < sizes.m {
@@ -96,7 +94,7 @@ fn last_index(rows: &mut [Row], masks: [u32; EQUATIONS], sizes: &Sizes) -> Resul
 /// The system that a list is made of.
 struct System<'a> {
     rows: &'a [Row],
-    masks: [u32; EQUATIONS],
+    masks: &'a Masks,
     relations: &'a [[i64; RELATION]],
     sizes: &'a Sizes,
     last: i64,
@@ -132,45 +130,76 @@ fn listed(system: &System, matrix: &mut [i64], list: &mut [i64]) -> Result<usize
 impl System<'_> {
     /// All rows of constants, and how many there are (SCOPE 14.31).
     fn make(&self, matrix: &mut [[i64; WIDTH]], extents: &mut [Extent; 136]) -> Result<usize, u8> {
+        let (first, end) = (-self.sizes.l, self.last - self.sizes.t);
+        let far = first.abs().max(end.abs());
+        let shapes = Shapes::of(self.rows, &self.masks.rows, far);
         let mut made = 0;
-        for n in -self.sizes.l..=self.last - self.sizes.t {
-            for (row, &mask) in self.rows.iter().zip(&self.masks) {
-                extents[made] = self.constants(row, mask, n, &mut matrix[made])?;
+        for n in first..=end {
+            for (k, row) in self.rows.iter().enumerate() {
+                let (shape, safe) = (&shapes.shapes[k], shapes.safe[k]);
+                extents[made] = self.constants(row, shape, safe, n, &mut matrix[made])?;
                 made += 1;
             }
         }
-        for relation in self.relations {
-            extents[made] = self.constants(relation_row(relation), LEFT, relation[0], &mut matrix[made])?;
+        for (relation, &mask) in self.relations.iter().zip(&self.masks.relations) {
+            let (row, mut shape) = (relation_row(relation), Shape::of(mask));
+            shape.measure(row);
+            extents[made] = self.constants(row, &shape, 0, relation[0], &mut matrix[made])?;
             made += 1;
         }
         Ok(made)
     }
 
     /// A row at n, by index and then by unknown; 12 and 8 as they come (SCOPE 14.32 to 14.34).
-    fn constants(&self, row: &Row, mask: u32, n: i64, place: &mut [i64; WIDTH]) -> Result<Extent, u8> {
+    fn constants(&self, row: &Row, shape: &Shape, safe: u32, n: i64, place: &mut [i64; WIDTH]) -> Result<Extent, u8> {
         let Sizes { m, t, l, .. } = *self.sizes;
         let (low, high) = ((n + t).max(0), (n + l).min(self.last));
         if low > high {
             return Ok(Extent { from: 0, to: 0 });
         }
         let extent = Extent { from: low as usize * m, to: (high as usize + 1) * m };
-        for index in low..=high {
-            let block = (l - (index - n)) as usize;
-            let places = &mut place[index as usize * m..][..m];
+        let mut block = 4 * (l - (low - n)) as usize;
+        for places in place[extent.from..extent.to].chunks_exact_mut(m) {
             for (column, place) in places.iter_mut().enumerate() {
-                let at = 4 * block + column;
-                *place = if mask >> at & 1 == 1 { value(row, at, n)? } else { 0 };
+                let at = block + column;
+                *place = if shape.mask >> at & 1 == 0 {
+                    0
+                } else if safe >> at & 1 == 1 {
+                    row[at][..shape.length(at)].iter().rev().fold(0, |value, a| value * n + a)
+                } else {
+                    value(&row[at][..shape.length(at)], n)?
+                };
             }
+            block = block.wrapping_sub(4);
         }
         Ok(extent)
     }
 }
 
+/// The shapes of the equations, and which of their polynomials pass no limit at any n that is asked for.
+struct Shapes {
+    shapes: [Shape; EQUATIONS],
+    safe: [u32; EQUATIONS],
+}
+
+impl Shapes {
+    fn of(rows: &[Row], masks: &[u32; EQUATIONS], far: i64) -> Shapes {
+        let (mut shapes, mut safe) = (masks.map(Shape::of), [0; EQUATIONS]);
+        for ((row, shape), safe) in rows.iter().zip(&mut shapes).zip(&mut safe) {
+            shape.measure(row);
+            for at in Bits(shape.mask) {
+                *safe |= (is_safe(&row[at][..shape.length(at)], far, C) as u32) << at;
+            }
+        }
+        Shapes { shapes, safe }
+    }
+}
+
 /// The value of an entry; 12, then 8.
-fn value(row: &Row, at: usize, n: i64) -> Result<i64, u8> {
+fn value(p: &[i64], n: i64) -> Result<i64, u8> {
     let mut faults = 0;
-    let value = horner(&row[at], n, LIMIT, &mut faults);
-    match (faults < 0, value.abs() > C) {
+    let value = horner(p, n, LIMIT, &mut faults);
+    match (faults < 0, value.unsigned_abs() > C as u64) {
         (true, _) => Err(12),
         (_, true) => Err(8),
         _ => Ok(value),
@@ -252,7 +281,6 @@ fn combine(
     let (a, b) = (other[pivot], row[pivot]);
     let d = divisor(a.unsigned_abs(), b.unsigned_abs()) as i64;
     let (g, h) = (a.abs() / d, -(b / d) * a.signum());
-    let mut faults = 0;
     if g != 1 {
         for a in &mut row[extent.from..extent.to] {
             *a *= g;
@@ -267,8 +295,7 @@ fn combine(
         let exact = Exact::new(d);
         row.iter_mut().for_each(|a| *a = exact.of(*a));
     }
-    faults = row.iter().fold(faults, |faults, &a| passed(faults, a, C));
-    if faults < 0 {
+    if row.iter().fold(0, |faults, &a| passed(faults, a, C)) < 0 {
         return Err(8);
     }
     Ok(())

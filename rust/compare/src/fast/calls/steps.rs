@@ -89,9 +89,9 @@ fn steps(
     let sizes = held.sizes;
     sizes.lengths(rows, relations, result.len() >= STEPS)?;
     let masks = sizes.numbers(rows, relations).map_err(|_| 11)?;
-    held.settled_rows(&masks)?;
+    held.settled_rows(&masks.rows)?;
     let store = Store { numbers: relations, count: sizes.count };
-    let mut work = Work::new(rows_of_mut(rows), masks, &sizes, store, ());
+    let mut work = Work::new(rows_of_mut(rows), &masks, &sizes, store, ());
     work.settle(&held.columns[..held.settled]);
     work.shifts = held.shifts;
     let (steps, ended) = work.run::<false>(budget);
