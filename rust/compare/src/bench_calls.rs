@@ -107,10 +107,18 @@ fn runs(count: usize, side: Side) -> Vec<Input> {
     (0..count).map(|k| Input::of(&worked(&mut random, side, k % 2 == 1))).collect()
 }
 
+fn leading_runs(count: usize) -> Vec<Input> {
+    runs(count, Side::Leading)
+}
+
+fn trailing_runs(count: usize) -> Vec<Input> {
+    runs(count, Side::Trailing)
+}
+
 /// Every state of some runs but the last, as it is handed in.
 fn states(count: usize) -> Vec<Input> {
     let mut all = Vec::new();
-    for input in runs(count, Side::Leading) {
+    for input in leading_runs(1 + count / 4) {
         let mut stores = Stores::new();
         stores.fill(&input);
         PREPARE(&Outside(None), &input, &mut stores);
@@ -141,7 +149,7 @@ fn records(count: usize) -> Vec<Input> {
 
 /// Runs with their own logs.
 fn logs(count: usize) -> Vec<Input> {
-    let mut all = runs(count, Side::Leading);
+    let mut all = leading_runs(count);
     for input in &mut all {
         let mut stores = Stores::new();
         stores.fill(input);
@@ -202,21 +210,33 @@ fn constants(count: usize) -> Vec<Input> {
 pub struct Bench {
     pub name: &'static str,
     what: &'static str,
-    inputs: fn() -> Vec<Input>,
+    count: usize,
+    inputs: fn(usize) -> Vec<Input>,
     call: Call,
 }
 
+/// One kind, with so many cases.
+const fn bench(
+    name: &'static str,
+    what: &'static str,
+    count: usize,
+    inputs: fn(usize) -> Vec<Input>,
+    call: Call,
+) -> Bench {
+    Bench { name, what, count, inputs, call }
+}
+
 pub const BENCHES: [Bench; 10] = [
-    Bench { name: "leading", what: "a leading run", inputs: || runs(600, Side::Leading), call: LEADING },
-    Bench { name: "trailing", what: "a trailing run", inputs: || runs(600, Side::Trailing), call: TRAILING },
-    Bench { name: "prepare", what: "a prepared state", inputs: || runs(600, Side::Leading), call: PREPARE },
-    Bench { name: "step", what: "one step", inputs: || states(1_000), call: STEP },
-    Bench { name: "record", what: "a record of 20 to 64 vectors", inputs: || records(600), call: RECORD },
-    Bench { name: "logged", what: "a leading run with its log", inputs: || runs(600, Side::Leading), call: LOGGED },
-    Bench { name: "replay", what: "the replay of that log", inputs: || logs(600), call: REPLAY },
-    Bench { name: "solutions", what: "a list of polynomial solutions", inputs: || lists(600), call: SOLUTIONS },
-    Bench { name: "roots", what: "the roots of degree 15, by a run", inputs: || polynomials(200), call: LEADING },
-    Bench { name: "constants", what: "the same run on a constant", inputs: || constants(200), call: LEADING },
+    bench("leading", "a leading run", 600, leading_runs, LEADING),
+    bench("trailing", "a trailing run", 600, trailing_runs, TRAILING),
+    bench("prepare", "a prepared state", 600, leading_runs, PREPARE),
+    bench("step", "one step", 1_000, states, STEP),
+    bench("record", "a record of 20 to 64 vectors", 600, records, RECORD),
+    bench("logged", "a leading run with its log", 600, leading_runs, LOGGED),
+    bench("replay", "the replay of that log", 600, logs, REPLAY),
+    bench("solutions", "a list of polynomial solutions", 600, lists, SOLUTIONS),
+    bench("roots", "the roots of degree 15, by a run", 200, polynomials, LEADING),
+    bench("constants", "the same run on a constant", 200, constants, LEADING),
 ];
 
 // ---- measuring ----
@@ -247,7 +267,7 @@ fn same(inputs: &[Input], call: Call, subjects: [&dyn Subject; 2], what: &str) {
 impl Bench {
     /// One line of the table.
     fn measured(&self, library: Option<&dyn Subject>) {
-        let inputs = (self.inputs)();
+        let inputs = (self.inputs)(self.count);
         if let Some(library) = library {
             same(&inputs, self.call, [library, &Fast], self.what);
         }
@@ -267,10 +287,10 @@ impl Bench {
         println!("| {}, mean of {} | {ours} | {:.2} µs | {ratio} |", self.what, inputs.len(), mean(&fast));
     }
 
-    /// One pass of one side, for a profile.
-    pub fn once(&self, library: bool) {
+    /// One pass of one side over the first cases, for a profile.
+    pub fn once(&self, library: bool, count: usize) {
         let subject: Box<dyn Subject> = if library { Box::new(Library::needed()) } else { Box::new(Fast) };
-        let inputs = (self.inputs)();
+        let inputs = (self.inputs)(count);
         let mut shortest = vec![Duration::MAX; inputs.len()];
         pass(subject.as_ref(), &inputs, self.call, &mut Stores::new(), &mut shortest);
     }

@@ -1,4 +1,4 @@
-//! The table of single calls; or, with `library NAME` or `fast NAME`, one pass of one side over the cases of that call, for a profile.
+//! The table of single calls; or, with `library NAME` or `fast NAME`, one pass of one side over 100 cases of that call, for a profile.
 
 use compare::bench_calls::{calls, BENCHES};
 use compare::subject::Library;
@@ -10,5 +10,5 @@ fn main() {
         println!("|---|---:|---:|---:|");
         return calls(Library::found().is_some());
     };
-    BENCHES.iter().filter(|bench| bench.name == name).for_each(|bench| bench.once(side == "library"));
+    BENCHES.iter().filter(|bench| bench.name == name).for_each(|bench| bench.once(side == "library", 100));
 }
