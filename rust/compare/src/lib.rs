@@ -1,7 +1,7 @@
 //! Cases made from fixed seeds, and what it takes to run two implementations on them.
 
 pub mod batches;
-pub mod bench_calls;
+pub mod bench;
 pub mod cases;
 pub mod clients;
 pub mod differentials;

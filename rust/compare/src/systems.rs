@@ -10,14 +10,14 @@ use outside::{C, DEGREE, EQUATIONS, RELATIONS};
 
 /// How large the polynomials of a system may be.
 #[derive(Clone, Copy)]
-struct Shape {
-    degree: usize,
-    size: i128,
+pub(crate) struct Shape {
+    pub degree: usize,
+    pub size: i128,
     /// Of a hundred entries, how many are nonzero.
-    density: usize,
+    pub density: usize,
 }
 
-const SMALL: Shape = Shape { degree: 2, size: 4, density: 50 };
+pub(crate) const SMALL: Shape = Shape { degree: 2, size: 4, density: 50 };
 
 /// A system of some kind, within all limits of an input.
 pub fn system(random: &mut Random) -> System {
@@ -119,7 +119,7 @@ pub fn nonzero(random: &mut Random, size: i128) -> i128 {
 }
 
 /// A nonzero polynomial: a constant, any coefficients, or a product of linear factors.
-fn polynomial(random: &mut Random, shape: Shape) -> Polynomial {
+pub(crate) fn polynomial(random: &mut Random, shape: Shape) -> Polynomial {
     match random.below(10) {
         0..=2 => Polynomial::new(vec![nonzero(random, shape.size)]),
         3..=5 => {
@@ -150,7 +150,7 @@ fn product(random: &mut Random, factors: usize, size: i128) -> Polynomial {
 }
 
 /// A row with entries in some of the blocks from high down to low.
-fn row(random: &mut Random, m: usize, high: i64, low: i64, shape: Shape) -> Row {
+pub(crate) fn row(random: &mut Random, m: usize, high: i64, low: i64, shape: Shape) -> Row {
     let mut row = Row::default();
     for block in low..=high {
         for column in 1..=m {
@@ -205,7 +205,7 @@ fn add_sides(random: &mut Random, system: &mut System) {
     }
 }
 
-fn small_side(random: &mut Random) -> Polynomial {
+pub(crate) fn small_side(random: &mut Random) -> Polynomial {
     polynomial(random, SMALL).times_number(random.pick(&[1, 1, 1, 2, 6]))
 }
 
@@ -228,7 +228,7 @@ fn high_side(random: &mut Random) -> Polynomial {
 // ---- more and fewer equations ----
 
 /// Equations left out, or others put in anywhere, until there are so many.
-fn set_equations(random: &mut Random, system: &mut System, equations: usize) {
+pub(crate) fn set_equations(random: &mut Random, system: &mut System, equations: usize) {
     while system.rows.len() > equations {
         system.rows.remove(random.below(system.rows.len()));
     }
@@ -287,7 +287,7 @@ fn staircase(random: &mut Random) -> System {
 }
 
 /// A system whose leading block is triangular in a random order of the columns.
-fn triangle(random: &mut Random, sizes: Sizes, shape: Shape) -> System {
+pub(crate) fn triangle(random: &mut Random, sizes: Sizes, shape: Shape) -> System {
     let order = random.permutation(sizes.m);
     let mut rows = Vec::new();
     for j in 0..sizes.m {
@@ -311,7 +311,7 @@ fn hidden_triangle(random: &mut Random) -> System {
 }
 
 /// One change that keeps the solutions, or nearly so; it is left out where it would pass a limit.
-fn row_operation(random: &mut Random, system: &mut System) {
+pub(crate) fn row_operation(random: &mut Random, system: &mut System) {
     let Sizes { m, t, .. } = system.sizes;
     let (i, j) = (random.below(m), random.below(m));
     if i == j {

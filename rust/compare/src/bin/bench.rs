@@ -1,21 +1,27 @@
-//! Times of the proved library and program, each as a ratio to the version of `fast`. Build with --release. With the argument
-//! `fast-batch` it is the batch program of that version, so that a process is compared with a process.
+//! Times of the proved library and program, each as a ratio to the version of `fast`. Build with --release.
+//!
+//!     bench                   the tables of docs/BENCHMARKS.md: batches, and single calls
+//!     bench kinds             what the seven kinds of batches are, and how much elimination is in each
+//!     bench inputs FOLDER     writes those batches into a folder
+//!     bench series FILE.csv   measures the series, and writes them and FILE.svg, their picture
+//!     bench picture FILE.csv  draws that picture again
+//!     bench fast-batch        the batch program of the fast version, so that a process is compared with a process
 
-use compare::batches::framed;
+use compare::bench::process::Program;
+use compare::bench::{batches, curves, kinds, picture};
 use compare::fast;
 use compare::random::Random;
-use compare::sheets::{sheet, whole_sheet};
+use compare::sheets::whole_sheet;
 use compare::solutions::{needs, solvable};
-use compare::subject::{output_of, Library};
-use compare::systems::{large_shared_system, large_system};
-use compare::tally::last_counts;
-use outside::batch::SHEET_BYTES;
+use compare::subject::Library;
+use compare::systems::large_system;
 use outside::polynomial::Polynomial;
 use outside::sheet::{write, Sheet};
 use outside::system::System;
+use std::fs;
 use std::hint::black_box;
-use std::io::{stdin, stdout};
-use std::process::Command;
+use std::io::{self, stdin, stdout, Read, Write};
+use std::path::Path;
 use std::time::{Duration, Instant};
 use wurgalm::{Heading, Sizes};
 
@@ -36,23 +42,9 @@ fn shortest(mut pass: impl FnMut()) -> Duration {
 
 // ---- what is measured ----
 
-fn mixed_sheets(random: &mut Random) -> Vec<Vec<u8>> {
-    let all = std::iter::repeat_with(|| sheet(random));
-    all.filter(|bytes| bytes.len() <= SHEET_BYTES as usize).take(SHEETS).collect()
-}
-
 /// Four unknowns and five blocks.
 fn large_sheets(random: &mut Random) -> Vec<Vec<u8>> {
-    sheets_of(|| large_system(random))
-}
-
-/// The same with leading entries that have common roots.
-fn shared_sheets(random: &mut Random) -> Vec<Vec<u8>> {
-    sheets_of(|| large_shared_system(random))
-}
-
-fn sheets_of(mut system: impl FnMut() -> System) -> Vec<Vec<u8>> {
-    let mut one = || write(&Sheet { system: system(), order: Vec::new() });
+    let mut one = || write(&Sheet { system: large_system(random), order: Vec::new() });
     (0..SHEETS).map(|_| one()).collect()
 }
 
@@ -121,25 +113,6 @@ fn line(what: &str, library: Option<Duration>, fast: Duration, bytes: Option<usi
     };
     let ratio = library.map_or("-".into(), |time| format!("{:.2}", time.as_secs_f64() / fast.as_secs_f64()));
     println!("| {what} | {} | {} | {ratio} |", library.map_or("-".into(), speed), speed(fast));
-}
-
-fn batches(what: &str, library: &Option<Library>, sheets: &[Vec<u8>]) {
-    let input = framed(&mut Random::new(1), sheets);
-    let fast_program = || {
-        let mut command = Command::new(std::env::current_exe().expect("this program"));
-        command.arg("fast-batch");
-        command
-    };
-    let expected = output_of(fast_program(), &input);
-    let (accepted, refused) = last_counts(&expected).expect("a whole batch");
-    let time = library.as_ref().map(|library| {
-        let found = output_of(Command::new(library.program()), &input);
-        assert!(found == expected, "{what}: the program writes something else than the fast version");
-        shortest(|| drop(output_of(Command::new(library.program()), &input)))
-    });
-    let fast = shortest(|| drop(output_of(fast_program(), &input)));
-    let what = format!("{what}, {} bytes, accepted and refused {accepted} {refused}", input.len());
-    line(&what, time, fast, None);
 }
 
 /// The same runs with constants tell what a run takes without the search.
@@ -244,22 +217,47 @@ fn fast_batch() {
     fast::stream(stdin().lock(), stdout().lock()).expect("the output is written");
 }
 
-fn main() {
-    if std::env::args().nth(1).as_deref() == Some("fast-batch") {
-        return fast_batch();
-    }
+/// Writes the measured series into a file, and the picture of them beside it.
+fn series(file: &Path) -> io::Result<()> {
+    let program = Program::proved(&Library::needed());
+    fs::write(file, curves::written(&curves::points(&program)))?;
+    draw(file)
+}
+
+/// The picture of series that are in a file, beside it.
+fn draw(file: &Path) -> io::Result<()> {
+    let text = fs::read_to_string(file)?;
+    let points = curves::read(&text).expect("a file of series");
+    fs::write(file.with_extension("svg"), picture::drawn(&points))
+}
+
+/// The tables of batches and of calls.
+fn tables() {
     let library = Library::found();
     if library.is_none() {
         println!("The library is not built: times of the fast version only.\n");
     }
-    println!("| what | library | fast version | ratio |");
+    batches::table(library.as_ref().map(Program::proved).as_ref());
+    println!("\n| what | library | fast version | ratio |");
     println!("|---|---:|---:|---:|");
-    let mut random = Random::new(3);
-    batches("batch of 1,000 mixed sheets", &library, &mixed_sheets(&mut random));
-    batches("batch of 1,000 large sheets, m = 4, D = 4", &library, &large_sheets(&mut random));
-    let shared = shared_sheets(&mut Random::new(5));
-    batches("the same with pivots that share roots", &library, &shared);
     root_search(library.is_some());
     reading_and_writing(library.is_some());
     listing(library.is_some());
+}
+
+fn main() -> io::Result<()> {
+    let arguments: Vec<String> = std::env::args().skip(1).collect();
+    match arguments.iter().map(String::as_str).collect::<Vec<_>>()[..] {
+        [] => tables(),
+        ["kinds"] => batches::contents(),
+        ["inputs", folder] => kinds::write_inputs(Path::new(folder))?,
+        ["series", file] => series(Path::new(file))?,
+        ["picture", file] => draw(Path::new(file))?,
+        ["fast-batch"] => fast_batch(),
+        _ => {
+            eprintln!("bench [kinds | inputs FOLDER | series FILE.csv | picture FILE.csv | fast-batch]");
+            std::process::exit(2);
+        }
+    }
+    Ok(())
 }
