@@ -2,10 +2,11 @@
 
 use super::kinds::{Kind, Work, KINDS};
 use super::process::{measured, milliseconds, Measured, Program};
+use crate::fast;
 use crate::tally::last_counts;
 
 /// Passes over one batch.
-const PASSES: usize = 15;
+const PASSES: usize = 25;
 
 /// A line for each kind, as docs/BENCHMARKS.md has it.
 pub fn table(library: Option<&Program>) {
@@ -26,11 +27,11 @@ fn line(kind: &Kind, measured: &Measured) {
 
 /// What each kind is: its bytes, the answers to it, and the elimination in it.
 pub fn contents() {
-    println!("| kind | its sheets | bytes | accepted, refused | combinations | exchanges | shifts | dropped rows | relations |");
+    println!("| batch | its sheets | bytes | accepted, refused | combinations | exchanges | shifts | rows dropped | relations |");
     println!("|---|---|---:|---:|---:|---:|---:|---:|---:|");
     for kind in &KINDS {
         let (batch, sheets) = (kind.batch(), kind.sheets());
-        let (accepted, refused) = last_counts(&crate::fast::batch(&batch)).expect("a whole batch");
+        let (accepted, refused) = last_counts(&fast::batch(&batch)).expect("a whole batch");
         let Work { combinations, exchanges, shifts, drops, relations } = Work::of(&sheets);
         let counts = format!("{combinations} | {exchanges} | {shifts} | {drops} | {relations}");
         println!("| {} | {} | {} | {accepted}, {refused} | {counts} |", kind.name, kind.about, batch.len());

@@ -6,7 +6,7 @@ use crate::random::Random;
 use outside::system::System;
 
 /// Passes over one batch.
-const PASSES: usize = 15;
+const PASSES: usize = 25;
 
 /// One measured batch of a series.
 pub struct Point {

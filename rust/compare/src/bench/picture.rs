@@ -1,7 +1,181 @@
-//! The picture of the series, as SVG.
+//! The picture of the series, as SVG: a panel for each, with a curve for either program.
 
 use super::curves::Point;
+use std::fmt::Write;
 
-pub fn drawn(_points: &[Point]) -> String {
-    String::new()
+/// Two panels beside each other and two below them, each with room for its heading and the names of its axes.
+const PANEL: [f64; 2] = [460.0, 330.0];
+const TOP: f64 = 64.0;
+/// The corner of the plot in its panel, and its sizes.
+const CORNER: [f64; 2] = [70.0, 40.0];
+const PLOT: [f64; 2] = [360.0, 225.0];
+
+/// What is drawn for each program: name, colour, mark.
+const CURVES: [(&str, &str, Mark); 2] =
+    [("proved program", "#1f5fa8", Mark::Circle), ("fast version", "#c2571a", Mark::Square)];
+
+#[derive(Clone, Copy)]
+enum Mark {
+    Circle,
+    Square,
+}
+
+#[derive(Clone, Copy, PartialEq)]
+enum Scale {
+    Linear,
+    Logarithmic,
+}
+
+/// A series, the panel's heading, what stands below it, and how both axes are divided.
+const PANELS: [(&str, &str, &str, Scale); 4] = [
+    ("sheets", "the number of sheets", "mixed sheets in the batch", Scale::Logarithmic),
+    ("m", "the number of unknowns", "m (D = 2, degree 4; 1,000 sheets)", Scale::Linear),
+    ("D", "the number of blocks below the highest", "D (m = 3, degree 4; 1,000 sheets)", Scale::Linear),
+    ("degree", "the degree", "degree (m = 3, D = 2; 1,000 sheets)", Scale::Linear),
+];
+
+/// The whole picture.
+pub fn drawn(points: &[Point]) -> String {
+    let [width, height] = [2.0 * PANEL[0], TOP + 2.0 * PANEL[1]];
+    let mut svg = format!(
+        "<svg xmlns=\"http://www.w3.org/2000/svg\" viewBox=\"0 0 {width} {height}\" width=\"{width}\" height=\"{height}\" \
+         font-family=\"Helvetica, Arial, sans-serif\" font-size=\"13\" fill=\"#222\">\n"
+    );
+    put(&mut svg, &format!("<rect width=\"{width}\" height=\"{height}\" fill=\"#fff\"/>"));
+    text(&mut svg, [width / 2.0, 24.0], "middle", "17", "Time of a batch, process beside process");
+    legend(&mut svg, width / 2.0);
+    for (k, panel) in PANELS.iter().enumerate() {
+        let corner = [(k % 2) as f64 * PANEL[0] + CORNER[0], TOP + (k / 2) as f64 * PANEL[1] + CORNER[1]];
+        let series: Vec<&Point> = points.iter().filter(|point| point.series == panel.0).collect();
+        draw_panel(&mut svg, corner, *panel, &series);
+    }
+    svg + "</svg>\n"
+}
+
+// ---- axes ----
+
+/// The part of the numbers that an axis shows, and the numbers that are written beside it.
+struct Axis {
+    scale: Scale,
+    low: f64,
+    high: f64,
+    ticks: Vec<f64>,
+}
+
+impl Axis {
+    /// An axis with the numbers that were measured at.
+    fn of_places(scale: Scale, places: Vec<f64>) -> Axis {
+        let (low, high) = (places[0], places[places.len() - 1]);
+        let margin = if scale == Scale::Linear { (high - low) / 20.0 } else { 0.0 };
+        Axis { scale, low: low - margin, high: high + margin, ticks: places }
+    }
+
+    /// An axis for times: from 0 in round steps, or from one round number to another.
+    fn of_times(scale: Scale, least: f64, most: f64) -> Axis {
+        let ticks: Vec<f64> = match scale {
+            Scale::Linear => {
+                let step = round_numbers().find(|step| step * 6.0 >= most).expect("a step");
+                (0..=(most / step).ceil() as usize).map(|k| k as f64 * step).collect()
+            }
+            Scale::Logarithmic => {
+                let first = round_numbers().take_while(|&number| number <= least).last().expect("a lower end");
+                let last = round_numbers().find(|&number| number >= most).expect("an upper end");
+                round_numbers().filter(|&number| (first..=last).contains(&number)).take_while(|&n| n <= last).collect()
+            }
+        };
+        Axis { scale, low: ticks[0], high: ticks[ticks.len() - 1], ticks }
+    }
+
+    /// How far along the axis a number lies, from 0 to 1.
+    fn along(&self, number: f64) -> f64 {
+        match self.scale {
+            Scale::Linear => (number - self.low) / (self.high - self.low),
+            Scale::Logarithmic => (number / self.low).ln() / (self.high / self.low).ln(),
+        }
+    }
+}
+
+/// 1, 2 and 5 times the powers of ten from 0.01 to 100,000.
+fn round_numbers() -> impl Iterator<Item = f64> {
+    (-2..6).flat_map(|power| [1.0, 2.0, 5.0].map(|digit| digit * 10f64.powi(power)))
+}
+
+/// A number without zeros at its end, thousands apart.
+fn label(number: f64) -> String {
+    if number >= 1000.0 {
+        return format!("{},{:03}", number as u64 / 1000, number as u64 % 1000);
+    }
+    format!("{}", (number * 1000.0).round() / 1000.0)
+}
+
+// ---- parts ----
+
+fn draw_panel(svg: &mut String, corner: [f64; 2], panel: (&str, &str, &str, Scale), points: &[&Point]) {
+    let (_, heading, below, scale) = panel;
+    let times = || points.iter().flat_map(|point| point.times);
+    let across = Axis::of_places(scale, points.iter().map(|point| point.at as f64).collect());
+    let up = Axis::of_times(scale, times().fold(f64::INFINITY, f64::min), times().fold(0.0, f64::max));
+    let place =
+        |at: f64, time: f64| [corner[0] + across.along(at) * PLOT[0], corner[1] + (1.0 - up.along(time)) * PLOT[1]];
+    text(svg, [corner[0] + PLOT[0] / 2.0, corner[1] - 12.0], "middle", "14", &format!("against {heading}"));
+    for &time in &up.ticks {
+        let y = place(across.low, time)[1];
+        segment(svg, [corner[0], y], [corner[0] + PLOT[0], y], "#ddd");
+        text(svg, [corner[0] - 8.0, y + 4.0], "end", "12", &label(time));
+    }
+    for &at in &across.ticks {
+        let x = place(at, up.low)[0];
+        segment(svg, [x, corner[1] + PLOT[1]], [x, corner[1] + PLOT[1] + 5.0], "#222");
+        text(svg, [x, corner[1] + PLOT[1] + 19.0], "middle", "12", &label(at));
+    }
+    segment(svg, [corner[0], corner[1] + PLOT[1]], [corner[0] + PLOT[0], corner[1] + PLOT[1]], "#222");
+    segment(svg, corner, [corner[0], corner[1] + PLOT[1]], "#222");
+    text(svg, [corner[0] + PLOT[0] / 2.0, corner[1] + PLOT[1] + 40.0], "middle", "13", below);
+    upright(svg, [corner[0] - 46.0, corner[1] + PLOT[1] / 2.0], "milliseconds");
+    for (k, (_, colour, mark)) in CURVES.iter().enumerate() {
+        let places: Vec<[f64; 2]> = points.iter().map(|point| place(point.at as f64, point.times[k])).collect();
+        curve(svg, &places, colour);
+        places.iter().for_each(|&at| draw_mark(svg, *mark, at, colour));
+    }
+}
+
+fn legend(svg: &mut String, middle: f64) {
+    for (k, (name, colour, mark)) in CURVES.iter().enumerate() {
+        let left = middle - 150.0 + 170.0 * k as f64;
+        curve(svg, &[[left, 48.0], [left + 30.0, 48.0]], colour);
+        draw_mark(svg, *mark, [left + 15.0, 48.0], colour);
+        text(svg, [left + 38.0, 52.0], "start", "13", name);
+    }
+}
+
+fn put(svg: &mut String, element: &str) {
+    writeln!(svg, "{element}").expect("a string takes it");
+}
+
+fn text(svg: &mut String, [x, y]: [f64; 2], anchor: &str, size: &str, words: &str) {
+    put(svg, &format!("<text x=\"{x:.1}\" y=\"{y:.1}\" text-anchor=\"{anchor}\" font-size=\"{size}\">{words}</text>"));
+}
+
+/// Words from below to above.
+fn upright(svg: &mut String, [x, y]: [f64; 2], words: &str) {
+    let turned = format!("transform=\"rotate(-90 {x:.1} {y:.1})\"");
+    put(svg, &format!("<text x=\"{x:.1}\" y=\"{y:.1}\" text-anchor=\"middle\" {turned}>{words}</text>"));
+}
+
+fn segment(svg: &mut String, [x, y]: [f64; 2], [u, v]: [f64; 2], colour: &str) {
+    put(svg, &format!("<line x1=\"{x:.1}\" y1=\"{y:.1}\" x2=\"{u:.1}\" y2=\"{v:.1}\" stroke=\"{colour}\"/>"));
+}
+
+fn curve(svg: &mut String, places: &[[f64; 2]], colour: &str) {
+    let points: Vec<String> = places.iter().map(|[x, y]| format!("{x:.1},{y:.1}")).collect();
+    let line = format!("fill=\"none\" stroke=\"{colour}\" stroke-width=\"2\"");
+    put(svg, &format!("<polyline points=\"{}\" {line}/>", points.join(" ")));
+}
+
+fn draw_mark(svg: &mut String, mark: Mark, [x, y]: [f64; 2], colour: &str) {
+    let shape = match mark {
+        Mark::Circle => format!("<circle cx=\"{x:.1}\" cy=\"{y:.1}\" r=\"4\""),
+        Mark::Square => format!("<rect x=\"{:.1}\" y=\"{:.1}\" width=\"7\" height=\"7\"", x - 3.5, y - 3.5),
+    };
+    put(svg, &format!("{shape} fill=\"{colour}\"/>"));
 }

@@ -8,32 +8,34 @@ use std::process::Command;
 use std::time::{Duration, Instant};
 
 /// A batch program.
-pub struct Program {
-    path: PathBuf,
-    arguments: &'static [&'static str],
-}
+pub struct Program(PathBuf);
 
 impl Program {
     /// The proved one.
     pub fn proved(library: &Library) -> Program {
-        Program { path: library.program().to_path_buf(), arguments: &[] }
+        Program(library.program().to_path_buf())
     }
 
-    /// That of the fast version: the running program itself, with another argument.
+    /// That of the fast version, which is built beside the running program.
     pub fn fast() -> Program {
-        Program { path: std::env::current_exe().expect("this program"), arguments: &["fast-batch"] }
+        let path = std::env::current_exe().expect("this program").with_file_name("fast_batch");
+        if !path.exists() {
+            eprintln!("{} is missing: `cargo build --release` makes it", path.display());
+            std::process::exit(2);
+        }
+        Program(path)
     }
 
     /// The time from the start of the process to its end. The output is written over what its file holds.
     fn timed(&self, input: &Path, output: &Path) -> Duration {
         let input = File::open(input).expect("the input is there");
         let output = File::options().write(true).open(output).expect("the output's file is there");
-        let mut command = Command::new(&self.path);
-        command.args(self.arguments).stdin(input).stdout(output);
+        let mut command = Command::new(&self.0);
+        command.stdin(input).stdout(output);
         let start = Instant::now();
         let status = command.status().expect("the program runs");
         let time = start.elapsed();
-        assert!(status.success(), "{}: {status}", self.path.display());
+        assert!(status.success(), "{}: {status}", self.0.display());
         time
     }
 }
@@ -63,11 +65,10 @@ impl Drop for Folder {
     }
 }
 
-/// What both programs took on one input, pass by pass, and what they wrote.
+/// What both programs took on one input, pass by pass.
 pub struct Measured {
-    pub library: Vec<Duration>,
-    pub fast: Vec<Duration>,
-    pub output: Vec<u8>,
+    library: Vec<Duration>,
+    fast: Vec<Duration>,
 }
 
 /// Both programs on one input, by turns, so many passes; the one that begins is the other one in the next pass. Their outputs have to be
@@ -77,22 +78,17 @@ pub fn measured(library: Option<&Program>, input: &[u8], passes: usize) -> Measu
     let input = folder.file("input", input);
     let outputs = ["library", "fast"].map(|name| folder.file(name, b""));
     fast.timed(&input, &outputs[1]);
-    let output = read(&outputs[1]).expect("the output is there");
     if let Some(library) = library {
         library.timed(&input, &outputs[0]);
-        assert!(
-            read(&outputs[0]).is_ok_and(|found| found == output),
-            "the program writes something else than the fast version"
-        );
+        let [found, expected] = outputs.each_ref().map(|path| read(path).expect("the output is there"));
+        assert!(found == expected, "the program writes something else than the fast version");
     }
-    let mut measured = Measured { library: Vec::new(), fast: Vec::new(), output };
-    for pass in 0..passes {
-        for turn in [pass, pass + 1] {
-            match library {
-                Some(library) if turn % 2 == 0 => measured.library.push(library.timed(&input, &outputs[0])),
-                _ if turn % 2 == 1 => measured.fast.push(fast.timed(&input, &outputs[1])),
-                _ => {}
-            }
+    let mut measured = Measured { library: Vec::new(), fast: Vec::new() };
+    for turn in (0..passes).flat_map(|pass| [pass, pass + 1]) {
+        if turn % 2 == 1 {
+            measured.fast.push(fast.timed(&input, &outputs[1]));
+        } else if let Some(library) = library {
+            measured.library.push(library.timed(&input, &outputs[0]));
         }
     }
     measured

@@ -1,11 +1,13 @@
-//! Times of the proved library and program, each as a ratio to the version of `fast`. Build with --release.
+//! Times of the proved library and program, each as a ratio to the version of `fast`. Build all programs with --release: the batch
+//! program of the fast version is one of its own, so that a process is compared with a process.
 //!
-//!     bench                   the tables of docs/BENCHMARKS.md: batches, and single calls
+//!     bench                   the tables of docs/BENCHMARKS.md: batches, then single calls
+//!     bench batches           the first of them
+//!     bench calls             the second
 //!     bench kinds             what the seven kinds of batches are, and how much elimination is in each
 //!     bench inputs FOLDER     writes those batches into a folder
 //!     bench series FILE.csv   measures the series, and writes them and FILE.svg, their picture
 //!     bench picture FILE.csv  draws that picture again
-//!     bench fast-batch        the batch program of the fast version, so that a process is compared with a process
 
 use compare::bench::process::Program;
 use compare::bench::{batches, curves, kinds, picture};
@@ -20,7 +22,7 @@ use outside::sheet::{write, Sheet};
 use outside::system::System;
 use std::fs;
 use std::hint::black_box;
-use std::io::{self, stdin, stdout, Read, Write};
+use std::io;
 use std::path::Path;
 use std::time::{Duration, Instant};
 use wurgalm::{Heading, Sizes};
@@ -213,10 +215,6 @@ fn listing(library: bool) {
     line(&format!("polynomial solutions of {SHEETS} systems, {listed} lists, beside `outside`"), time, outside, None);
 }
 
-fn fast_batch() {
-    fast::stream(stdin().lock(), stdout().lock()).expect("the output is written");
-}
-
 /// Writes the measured series into a file, and the picture of them beside it.
 fn series(file: &Path) -> io::Result<()> {
     let program = Program::proved(&Library::needed());
@@ -231,31 +229,41 @@ fn draw(file: &Path) -> io::Result<()> {
     fs::write(file.with_extension("svg"), picture::drawn(&points))
 }
 
-/// The tables of batches and of calls.
-fn tables() {
+/// The table of single calls.
+fn calls(library: bool) {
+    println!("| what | library | fast version | ratio |");
+    println!("|---|---:|---:|---:|");
+    root_search(library);
+    reading_and_writing(library);
+    listing(library);
+}
+
+/// The library, where it is built.
+fn library() -> Option<Library> {
     let library = Library::found();
     if library.is_none() {
-        println!("The library is not built: times of the fast version only.\n");
+        eprintln!("The library is not built: times of the fast version only.");
     }
-    batches::table(library.as_ref().map(Program::proved).as_ref());
-    println!("\n| what | library | fast version | ratio |");
-    println!("|---|---:|---:|---:|");
-    root_search(library.is_some());
-    reading_and_writing(library.is_some());
-    listing(library.is_some());
+    library
 }
 
 fn main() -> io::Result<()> {
     let arguments: Vec<String> = std::env::args().skip(1).collect();
+    let timed = |library: Option<Library>| batches::table(library.as_ref().map(Program::proved).as_ref());
     match arguments.iter().map(String::as_str).collect::<Vec<_>>()[..] {
-        [] => tables(),
+        [] => {
+            timed(library());
+            println!();
+            calls(library().is_some());
+        }
+        ["batches"] => timed(library()),
+        ["calls"] => calls(library().is_some()),
         ["kinds"] => batches::contents(),
         ["inputs", folder] => kinds::write_inputs(Path::new(folder))?,
         ["series", file] => series(Path::new(file))?,
         ["picture", file] => draw(Path::new(file))?,
-        ["fast-batch"] => fast_batch(),
         _ => {
-            eprintln!("bench [kinds | inputs FOLDER | series FILE.csv | picture FILE.csv | fast-batch]");
+            eprintln!("bench [batches | calls | kinds | inputs FOLDER | series FILE.csv | picture FILE.csv]");
             std::process::exit(2);
         }
     }
