@@ -9,6 +9,7 @@ use outside::system::System;
 const PASSES: usize = 25;
 
 /// One measured batch of a series.
+#[derive(Clone, Debug, PartialEq)]
 pub struct Point {
     pub series: String,
     /// What is varied.
@@ -41,7 +42,7 @@ const SERIES: [Series; 4] = [
 /// The first sheets of the mixed kind.
 fn first_sheets(count: usize) -> Vec<u8> {
     let mixed = KINDS.iter().find(|kind| kind.name == "mixed").expect("one of the kinds");
-    batch_of(&mixed.sheets()[..count])
+    batch_of(&mixed.first(count))
 }
 
 /// A batch of full systems with as many equations as unknowns, small coefficients and numbers in the highest block.
@@ -90,4 +91,17 @@ fn read_line(line: &str) -> Option<Point> {
     let [series, at, bytes, library, fast, _ratio] = line.split(',').collect::<Vec<_>>().try_into().ok()?;
     let times = [library.parse().ok()?, fast.parse().ok()?];
     Some(Point { series: series.into(), at: at.parse().ok()?, bytes: bytes.parse().ok()?, times })
+}
+
+#[cfg(test)]
+mod tests {
+    use super::*;
+
+    #[test]
+    fn read_as_written() {
+        let point = |at| Point { series: "m".into(), at, bytes: 10 * at, times: [0.5, 0.25] };
+        let points = [1, 2, 1_000].map(point);
+        assert_eq!(read(&written(&points)).as_deref(), Some(&points[..]));
+        assert_eq!(read("m,1,10"), None);
+    }
 }

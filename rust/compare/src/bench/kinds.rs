@@ -45,9 +45,14 @@ pub const KINDS: [Kind; 7] = [
 
 impl Kind {
     pub fn sheets(&self) -> Vec<Vec<u8>> {
+        self.first(SHEETS)
+    }
+
+    /// The first sheets of the batch.
+    pub fn first(&self, count: usize) -> Vec<Vec<u8>> {
         let mut random = Random::new(self.seed);
         let all = std::iter::repeat_with(|| (self.make)(&mut random));
-        all.filter(|bytes| bytes.len() <= SHEET_BYTES as usize).take(SHEETS).collect()
+        all.filter(|bytes| bytes.len() <= SHEET_BYTES as usize).take(count).collect()
     }
 
     /// The input of the batch program.
@@ -221,4 +226,50 @@ fn ranks(random: &mut Random) -> Vec<u8> {
     let equations = random.below(EQUATIONS + 1);
     set_equations(random, &mut system, equations);
     text(system)
+}
+
+#[cfg(test)]
+mod tests {
+    use super::*;
+    use outside::batch::answer;
+
+    const SOME: usize = 100;
+
+    fn first(name: &str) -> Vec<Vec<u8>> {
+        KINDS.iter().find(|kind| kind.name == name).expect("one of the kinds").first(SOME)
+    }
+
+    fn systems(name: &str) -> Vec<System> {
+        first(name).iter().map(|bytes| read(bytes, None).expect("a whole sheet").system).collect()
+    }
+
+    #[test]
+    fn most_are_accepted() {
+        for kind in KINDS.iter().filter(|kind| kind.name != "mixed") {
+            let accepted = kind.first(SOME).iter().filter(|sheet| answer(sheet, None).is_ok()).count();
+            assert!(accepted * 5 >= SOME * 4, "{}: {accepted}", kind.name);
+        }
+    }
+
+    #[test]
+    fn small_and_large() {
+        for System { sizes, rows, .. } in systems("small") {
+            assert!(sizes.m <= 2 && sizes.d() <= 1 && rows.iter().all(|row| row.degree() <= 2));
+        }
+        assert!(first("large").iter().all(|sheet| (28_000..=SHEET_BYTES as usize).contains(&sheet.len())));
+    }
+
+    #[test]
+    fn much_elimination() {
+        let work = Work::of(&first("elimination"));
+        assert!(work.combinations >= 8 * SOME && work.shifts >= 2 * SOME && work.relations >= SOME / 2);
+    }
+
+    #[test]
+    fn sides_and_ranks() {
+        assert!(systems("right-sides").iter().all(|system| system.rows.iter().all(|row| !row.right().is_zero())));
+        let ranks = systems("ranks");
+        assert!((0..=EQUATIONS).all(|count| ranks.iter().any(|system| system.rows.len() == count)));
+        assert!(Work::of(&first("ranks")).drops >= SOME / 2);
+    }
 }

@@ -179,3 +179,27 @@ fn draw_mark(svg: &mut String, mark: Mark, [x, y]: [f64; 2], colour: &str) {
     };
     put(svg, &format!("{shape} fill=\"{colour}\"/>"));
 }
+
+#[cfg(test)]
+mod tests {
+    use super::*;
+
+    /// In every panel and in the legend a line and its marks for either program.
+    #[test]
+    fn two_curves_a_panel() {
+        let point = |series: &str, at| Point { series: series.into(), at, bytes: 1, times: [at as f64, 0.75] };
+        let points: Vec<Point> = PANELS.iter().flat_map(|panel| [1, 2, 4].map(|at| point(panel.0, at))).collect();
+        let svg = drawn(&points);
+        let count = |what: &str| svg.matches(what).count();
+        assert_eq!([count("<polyline"), count("<circle"), count("width=\"7\"")], [10, 13, 13]);
+        assert!(!svg.contains("NaN") && !svg.contains("inf"));
+    }
+
+    #[test]
+    fn round_ends() {
+        let axis = Axis::of_times(Scale::Logarithmic, 0.7, 3.0);
+        assert_eq!(axis.ticks, [0.5, 1.0, 2.0, 5.0]);
+        assert_eq!(Axis::of_times(Scale::Linear, 0.7, 23.0).ticks, [0.0, 5.0, 10.0, 15.0, 20.0, 25.0]);
+        assert_eq!([label(1000.0), label(0.5)], ["1,000", "0.5"]);
+    }
+}
