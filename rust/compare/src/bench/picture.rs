@@ -26,12 +26,39 @@ enum Scale {
     Logarithmic,
 }
 
-/// A series, the panel's heading, what stands below it, and how both axes are divided.
-const PANELS: [(&str, &str, &str, Scale); 4] = [
-    ("sheets", "the number of sheets", "mixed sheets in the batch", Scale::Logarithmic),
-    ("m", "the number of unknowns", "m (D = 2, degree 4; 1,000 sheets)", Scale::Linear),
-    ("D", "the number of blocks below the highest", "D (m = 3, degree 4; 1,000 sheets)", Scale::Linear),
-    ("degree", "the degree", "degree (m = 3, D = 2; 1,000 sheets)", Scale::Linear),
+/// The panel of a series: its heading, what stands below it, and how both axes are divided.
+struct Panel {
+    series: &'static str,
+    heading: &'static str,
+    below: &'static str,
+    scale: Scale,
+}
+
+const PANELS: [Panel; 4] = [
+    Panel {
+        series: "sheets",
+        heading: "against the number of sheets",
+        below: "mixed sheets in the batch",
+        scale: Scale::Logarithmic,
+    },
+    Panel {
+        series: "m",
+        heading: "against the number of unknowns",
+        below: "m (D = 2, degree 4; 1,000 sheets)",
+        scale: Scale::Linear,
+    },
+    Panel {
+        series: "D",
+        heading: "against the number of blocks below the highest",
+        below: "D (m = 3, degree 4; 1,000 sheets)",
+        scale: Scale::Linear,
+    },
+    Panel {
+        series: "degree",
+        heading: "against the degree",
+        below: "degree (m = 3, D = 2; 1,000 sheets)",
+        scale: Scale::Linear,
+    },
 ];
 
 /// The whole picture.
@@ -46,8 +73,8 @@ pub fn drawn(points: &[Point]) -> String {
     legend(&mut svg, width / 2.0);
     for (k, panel) in PANELS.iter().enumerate() {
         let corner = [(k % 2) as f64 * PANEL[0] + CORNER[0], TOP + (k / 2) as f64 * PANEL[1] + CORNER[1]];
-        let series: Vec<&Point> = points.iter().filter(|point| point.series == panel.0).collect();
-        draw_panel(&mut svg, corner, *panel, &series);
+        let series: Vec<&Point> = points.iter().filter(|point| point.series == panel.series).collect();
+        Plot::new(corner, panel.scale, &series).draw(&mut svg, panel, &series);
     }
     svg + "</svg>\n"
 }
@@ -80,7 +107,7 @@ impl Axis {
             Scale::Logarithmic => {
                 let first = round_numbers().take_while(|&number| number <= least).last().expect("a lower end");
                 let last = round_numbers().find(|&number| number >= most).expect("an upper end");
-                round_numbers().filter(|&number| (first..=last).contains(&number)).take_while(|&n| n <= last).collect()
+                round_numbers().filter(|number| (first..=last).contains(number)).collect()
             }
         };
         Axis { scale, low: ticks[0], high: ticks[ticks.len() - 1], ticks }
@@ -108,36 +135,70 @@ fn label(number: f64) -> String {
     format!("{}", (number * 1000.0).round() / 1000.0)
 }
 
-// ---- parts ----
+// ---- a panel ----
 
-fn draw_panel(svg: &mut String, corner: [f64; 2], panel: (&str, &str, &str, Scale), points: &[&Point]) {
-    let (_, heading, below, scale) = panel;
-    let times = || points.iter().flat_map(|point| point.times);
-    let across = Axis::of_places(scale, points.iter().map(|point| point.at as f64).collect());
-    let up = Axis::of_times(scale, times().fold(f64::INFINITY, f64::min), times().fold(0.0, f64::max));
-    let place =
-        |at: f64, time: f64| [corner[0] + across.along(at) * PLOT[0], corner[1] + (1.0 - up.along(time)) * PLOT[1]];
-    text(svg, [corner[0] + PLOT[0] / 2.0, corner[1] - 12.0], "middle", "14", &format!("against {heading}"));
-    for &time in &up.ticks {
-        let y = place(across.low, time)[1];
-        segment(svg, [corner[0], y], [corner[0] + PLOT[0], y], "#ddd");
-        text(svg, [corner[0] - 8.0, y + 4.0], "end", "12", &label(time));
+/// Where the upper left corner of a panel's curves is, and the axes.
+struct Plot {
+    corner: [f64; 2],
+    across: Axis,
+    up: Axis,
+}
+
+impl Plot {
+    fn new(corner: [f64; 2], scale: Scale, points: &[&Point]) -> Plot {
+        let times = || points.iter().flat_map(|point| point.times);
+        let across = Axis::of_places(scale, points.iter().map(|point| point.at as f64).collect());
+        let up = Axis::of_times(scale, times().fold(f64::INFINITY, f64::min), times().fold(0.0, f64::max));
+        Plot { corner, across, up }
     }
-    for &at in &across.ticks {
-        let x = place(at, up.low)[0];
-        segment(svg, [x, corner[1] + PLOT[1]], [x, corner[1] + PLOT[1] + 5.0], "#222");
-        text(svg, [x, corner[1] + PLOT[1] + 19.0], "middle", "12", &label(at));
+
+    fn draw(&self, svg: &mut String, panel: &Panel, points: &[&Point]) {
+        let [middle, bottom] = [self.corner[0] + PLOT[0] / 2.0, self.corner[1] + PLOT[1]];
+        text(svg, [middle, self.corner[1] - 12.0], "middle", "14", panel.heading);
+        self.times(svg);
+        self.places(svg);
+        segment(svg, [self.corner[0], bottom], [self.corner[0] + PLOT[0], bottom], "#222");
+        segment(svg, self.corner, [self.corner[0], bottom], "#222");
+        text(svg, [middle, bottom + 40.0], "middle", "13", panel.below);
+        upright(svg, [self.corner[0] - 46.0, self.corner[1] + PLOT[1] / 2.0], "milliseconds");
+        self.curves(svg, points);
     }
-    segment(svg, [corner[0], corner[1] + PLOT[1]], [corner[0] + PLOT[0], corner[1] + PLOT[1]], "#222");
-    segment(svg, corner, [corner[0], corner[1] + PLOT[1]], "#222");
-    text(svg, [corner[0] + PLOT[0] / 2.0, corner[1] + PLOT[1] + 40.0], "middle", "13", below);
-    upright(svg, [corner[0] - 46.0, corner[1] + PLOT[1] / 2.0], "milliseconds");
-    for (k, (_, colour, mark)) in CURVES.iter().enumerate() {
-        let places: Vec<[f64; 2]> = points.iter().map(|point| place(point.at as f64, point.times[k])).collect();
-        curve(svg, &places, colour);
-        places.iter().for_each(|&at| draw_mark(svg, *mark, at, colour));
+
+    /// Where a point stands in the picture.
+    fn place(&self, at: f64, time: f64) -> [f64; 2] {
+        let [x, y] = [self.across.along(at), 1.0 - self.up.along(time)];
+        [self.corner[0] + x * PLOT[0], self.corner[1] + y * PLOT[1]]
+    }
+
+    /// The numbers of the axis on the left, each with a line across.
+    fn times(&self, svg: &mut String) {
+        for &time in &self.up.ticks {
+            let [x, y] = [self.corner[0], self.place(self.across.low, time)[1]];
+            segment(svg, [x, y], [x + PLOT[0], y], "#ddd");
+            text(svg, [x - 8.0, y + 4.0], "end", "12", &label(time));
+        }
+    }
+
+    /// The numbers of the axis below.
+    fn places(&self, svg: &mut String) {
+        for &at in &self.across.ticks {
+            let [x, y] = self.place(at, self.up.low);
+            segment(svg, [x, y], [x, y + 5.0], "#222");
+            text(svg, [x, y + 19.0], "middle", "12", &label(at));
+        }
+    }
+
+    fn curves(&self, svg: &mut String, points: &[&Point]) {
+        for (k, (_, colour, mark)) in CURVES.iter().enumerate() {
+            let places: Vec<[f64; 2]> =
+                points.iter().map(|point| self.place(point.at as f64, point.times[k])).collect();
+            curve(svg, &places, colour);
+            places.iter().for_each(|&at| draw_mark(svg, *mark, at, colour));
+        }
     }
 }
+
+// ---- parts ----
 
 fn legend(svg: &mut String, middle: f64) {
     for (k, (name, colour, mark)) in CURVES.iter().enumerate() {
@@ -188,7 +249,7 @@ mod tests {
     #[test]
     fn two_curves_a_panel() {
         let point = |series: &str, at| Point { series: series.into(), at, bytes: 1, times: [at as f64, 0.75] };
-        let points: Vec<Point> = PANELS.iter().flat_map(|panel| [1, 2, 4].map(|at| point(panel.0, at))).collect();
+        let points: Vec<Point> = PANELS.iter().flat_map(|panel| [1, 2, 4].map(|at| point(panel.series, at))).collect();
         let svg = drawn(&points);
         let count = |what: &str| svg.matches(what).count();
         assert_eq!([count("<polyline"), count("<circle"), count("width=\"7\"")], [10, 13, 13]);
