@@ -8,11 +8,11 @@ use crate::tally::last_counts;
 /// Passes over one batch.
 const PASSES: usize = 25;
 
-/// A line for each kind, as docs/BENCHMARKS.md has it.
-pub fn table(library: Option<&Program>) {
+/// A line for each kind, as docs/BENCHMARKS.md has it; of the named ones only, where there are names.
+pub fn table(library: Option<&Program>, names: &[&str]) {
     println!("| batch of 1,000 sheets | library | fast version | ratio | least, median, greatest |");
     println!("|---|---:|---:|---:|---:|");
-    for kind in &KINDS {
+    for kind in KINDS.iter().filter(|kind| names.is_empty() || names.contains(&kind.name)) {
         line(kind, &measured(library, &kind.batch(), PASSES));
     }
 }

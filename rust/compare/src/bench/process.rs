@@ -1,8 +1,8 @@
-//! Batch programs as processes: each reads its input from a file and writes its output into another one, both in memory where the system has
-//! a folder for that, so that no pipe and no disk has a part in what is measured.
+//! Batch programs as processes: each reads its input from a file and writes its output into another one, both in memory where the
+//! system has a folder for that, so that no pipe and no disk has a part in what is measured.
 
 use crate::subject::Library;
-use std::fs::{create_dir, read, remove_dir_all, write, File};
+use std::fs::{create_dir_all, read, remove_dir_all, write, File};
 use std::path::{Path, PathBuf};
 use std::process::Command;
 use std::time::{Duration, Instant};
@@ -48,7 +48,7 @@ impl Folder {
         let memory = Path::new("/dev/shm");
         let place = if memory.is_dir() { memory.to_path_buf() } else { std::env::temp_dir() };
         let folder = place.join(format!("wurgalm-bench-{}", std::process::id()));
-        create_dir(&folder).expect("a folder for inputs and outputs");
+        create_dir_all(&folder).expect("a folder for inputs and outputs");
         Folder(folder)
     }
 

@@ -2,7 +2,7 @@
 //! program of the fast version is one of its own, so that a process is compared with a process.
 //!
 //!     bench                   the tables of docs/BENCHMARKS.md: batches, then single calls
-//!     bench batches           the first of them
+//!     bench batches KIND ..   the first of them, of these kinds; of all where none is named
 //!     bench calls             the second
 //!     bench kinds             what the seven kinds of batches are, and how much elimination is in each
 //!     bench inputs FOLDER     writes those batches into a folder
@@ -249,21 +249,21 @@ fn library() -> Option<Library> {
 
 fn main() -> io::Result<()> {
     let arguments: Vec<String> = std::env::args().skip(1).collect();
-    let timed = |library: Option<Library>| batches::table(library.as_ref().map(Program::proved).as_ref());
-    match arguments.iter().map(String::as_str).collect::<Vec<_>>()[..] {
+    let timed = |names: &[&str]| batches::table(library().as_ref().map(Program::proved).as_ref(), names);
+    match &arguments.iter().map(String::as_str).collect::<Vec<_>>()[..] {
         [] => {
-            timed(library());
+            timed(&[]);
             println!();
             calls(library().is_some());
         }
-        ["batches"] => timed(library()),
+        ["batches", names @ ..] => timed(names),
         ["calls"] => calls(library().is_some()),
         ["kinds"] => batches::contents(),
         ["inputs", folder] => kinds::write_inputs(Path::new(folder))?,
         ["series", file] => series(Path::new(file))?,
         ["picture", file] => draw(Path::new(file))?,
         _ => {
-            eprintln!("bench [batches | calls | kinds | inputs FOLDER | series FILE.csv | picture FILE.csv]");
+            eprintln!("bench [batches KIND .. | calls | kinds | inputs FOLDER | series FILE.csv | picture FILE.csv]");
             std::process::exit(2);
         }
     }
