@@ -15,6 +15,7 @@ mod help;
 mod induce;
 mod json;
 mod log;
+pub mod log_places;
 pub mod places;
 mod replay;
 mod roles;
