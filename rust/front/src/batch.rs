@@ -1,55 +1,61 @@
-//! `wurgalm batch`: what the batch program writes, the sheets worked by several threads.
+//! `wurgalm batch`: what the batch program writes, the sheets worked by several threads while others are still to come.
 //!
-//! A batch that is whole is taken apart into its sheets; each is a batch of its own for the proved call, and the tallies add up. Whatever
-//! is not clearly whole goes to the proved call as it is.
+//! The batch is read as it comes and taken apart into its sheets ([`frames`](crate::frames)). Each is a batch of its own for the proved
+//! call; the answers are written in the order of the sheets, as soon as all before them are, and the tallies add up. What is left at
+//! the end goes to the proved call as well. At most [`AHEAD`] sheets for each thread are held at a time.
 
-use crate::command::{bytes_of, Arguments, End, Outcome};
-use std::io::{self, IsTerminal};
-use std::sync::atomic::{AtomicUsize, Ordering};
+use crate::command::{named, Arguments, End, Outcome};
+use crate::frames::{Broken, Frames, Next};
+use std::fs::File;
+use std::io::{self, ErrorKind, IsTerminal, Read, Write};
+use std::sync::mpsc::{channel, sync_channel, Receiver, Sender, SyncSender};
 use std::sync::Mutex;
-use std::thread;
-use wurgalm::{batch as work, batch_output};
+use std::thread::{self, Scope};
+use wurgalm::{batch as work, batch_output, Refusal};
 
-/// The most sheets of a batch (SCOPE 5.1).
-const SHEETS: usize = 1_000;
-/// The most bytes of a sheet (SCOPE 5.2).
-const SHEET: usize = 32_768;
 /// The clients are 1 to so many (SCOPE 5.2).
 const CLIENTS: usize = 8;
+/// Sheets for each thread that are read before the first of them is answered.
+const AHEAD: usize = 4;
+/// Bytes that are read at a time.
+const PIECE: usize = 65_536;
 
-/// A number of at most so much, without superfluous zeros, and what stands behind the separator that follows it.
-fn number(bytes: &[u8], separator: u8, most: usize) -> Option<(usize, &[u8])> {
-    let end = bytes.iter().take(6).position(|&byte| byte == separator)?;
-    let digits = &bytes[..end];
-    let value: usize = std::str::from_utf8(digits).ok()?.parse().ok()?;
-    let is_plain = digits.iter().all(u8::is_ascii_digit) && (digits.len() == 1 || digits[0] != b'0');
-    (is_plain && value <= most).then_some((value, &bytes[end + 1..]))
+/// The accepted and the refused sheets of each client.
+type Tally = [[usize; 2]; CLIENTS];
+/// What the proved call writes on a batch of one sheet.
+type Answer = Result<Vec<u8>, Refusal>;
+
+/// A sheet for a thread, and where its answer goes.
+struct Job {
+    sheet: Vec<u8>,
+    answer: Sender<Answer>,
 }
 
-/// Each sheet of a whole batch as a batch of its own; nothing where the batch is not whole.
-fn sheets(input: &[u8]) -> Option<Vec<Vec<u8>>> {
-    let (count, mut rest) = number(input, b'\n', SHEETS)?;
-    let mut sheets = Vec::new();
-    for _ in 0..count {
-        let (client, behind) = number(rest, b' ', CLIENTS).filter(|(client, _)| *client > 0)?;
-        let (length, behind) = number(behind, b'\n', SHEET)?;
-        let (sheet, behind) = behind.split_at_checked(length)?;
-        sheets.push([format!("1\n{client} {length}\n").as_bytes(), sheet].concat());
-        rest = behind;
-    }
-    rest.is_empty().then_some(sheets)
+/// An answer that is still to come, and the sheets of the batch.
+struct Turn {
+    answer: Receiver<Answer>,
+    of: usize,
 }
 
-/// What the proved call writes on a batch of at most so many sheets.
-fn output(input: &[u8], sheets: usize) -> Result<Vec<u8>, End> {
-    let mut output = vec![0; batch_output(sheets)];
+/// How a batch came to its end.
+#[derive(Debug)]
+pub enum Ended {
+    Whole,
+    Broken(Broken),
+    /// A read failed, which ends the batch (SCOPE 5.41).
+    Unread(io::Error),
+}
+
+/// What the proved call writes on a batch of at most one sheet.
+fn output(input: &[u8]) -> Answer {
+    let mut output = vec![0; batch_output(1)];
     let length = work(input, &mut output)?;
     output.truncate(length);
     Ok(output)
 }
 
-/// The answer at the front of the output of one sheet, and the tally behind it: accepted and refused of each client.
-fn parted(output: &[u8]) -> Option<(&[u8], [[usize; 2]; CLIENTS])> {
+/// The answer at the front of the output of one sheet, and the tally behind it.
+fn parted(output: &[u8]) -> Option<(&[u8], Tally)> {
     // Behind one sheet each of the eight lines is `0 0`, `1 0` or `0 1`.
     let (answer, lines) = output.split_at_checked(output.len().checked_sub(4 * CLIENTS)?)?;
     let mut tally = [[0; 2]; CLIENTS];
@@ -59,60 +65,148 @@ fn parted(output: &[u8]) -> Option<(&[u8], [[usize; 2]; CLIENTS])> {
     Some((answer, tally))
 }
 
-/// A bar on standard error.
-struct Bar {
-    is_shown: bool,
-    of: usize,
+fn tally_lines(totals: &Tally) -> String {
+    totals.iter().map(|[accepted, refused]| format!("{accepted} {refused}\n")).collect()
 }
 
-impl Bar {
-    fn show(&self, done: usize) {
-        let step = (self.of / 100).max(1);
-        if self.is_shown && (done.is_multiple_of(step) || done == self.of) {
-            let full = 40 * done / self.of.max(1);
-            eprint!("\r[{}{}] {done} of {}", "#".repeat(full), ".".repeat(40 - full), self.of);
-            if done == self.of {
-                eprintln!();
+/// A bar on standard error.
+fn show_bar(done: usize, of: usize) {
+    let step = (of / 100).max(1);
+    if done.is_multiple_of(step) || done == of {
+        let full = 40 * done / of.max(1);
+        eprint!("\r[{}{}] {done} of {of}", "#".repeat(full), ".".repeat(40 - full));
+        if done == of {
+            eprintln!();
+        }
+    }
+}
+
+/// The work of a thread: sheets as long as there are some.
+fn work_sheets(jobs: &Mutex<Receiver<Job>>) {
+    loop {
+        let job = jobs.lock().unwrap_or_else(|poisoned| poisoned.into_inner()).recv();
+        let Ok(Job { sheet, answer }) = job else { return };
+        // Nobody waits for it where writing has failed.
+        let _ = answer.send(output(&sheet));
+    }
+}
+
+/// Writes the answers in their order, and adds up their tallies.
+fn write_answers(turns: &Receiver<Turn>, writer: &mut impl Write, is_shown: bool) -> Result<Tally, End> {
+    let mut totals = [[0; 2]; CLIENTS];
+    for (before, turn) in turns.iter().enumerate() {
+        let output = turn.answer.recv().map_err(|_| End::Refused("a thread has ended without its answer".into()))??;
+        let Some((answer, tally)) = parted(&output) else { return Err(End::Refused("an answer has no tally".into())) };
+        writer.write_all(answer).and_then(|()| writer.flush()).map_err(unwritten)?;
+        for (total, count) in totals.iter_mut().flatten().zip(tally.iter().flatten()) {
+            *total += count;
+        }
+        if is_shown {
+            show_bar(before + 1, turn.of);
+        }
+    }
+    Ok(totals)
+}
+
+fn unwritten(error: io::Error) -> End {
+    End::Misused(format!("the answer cannot be written: {error}"))
+}
+
+/// The next bytes of the input, none at its end.
+fn read_piece(input: &mut impl Read, piece: &mut [u8]) -> io::Result<usize> {
+    loop {
+        match input.read(piece) {
+            Err(error) if error.kind() == ErrorKind::Interrupted => {}
+            read => return read,
+        }
+    }
+}
+
+/// Hands out all sheets of the input, until it ends, breaks or cannot be read, or until `hand_out` fails.
+fn read_sheets(
+    input: &mut impl Read,
+    frames: &mut Frames,
+    mut hand_out: impl FnMut(Vec<u8>, usize) -> Option<()>,
+) -> Ended {
+    let mut piece = vec![0; PIECE];
+    loop {
+        let read = match read_piece(input, &mut piece) {
+            Ok(0) => return frames.ends_early().map_or(Ended::Whole, Ended::Broken),
+            Ok(read) => read,
+            Err(error) => return Ended::Unread(error),
+        };
+        frames.take(&piece[..read]);
+        loop {
+            match frames.next_part() {
+                Next::Waits => break,
+                Next::Breaks(broken) => return Ended::Broken(broken),
+                Next::Sheet(sheet) => {
+                    // Where no more can be written the end of the writing says why.
+                    if hand_out(sheet, frames.count()).is_none() {
+                        return Ended::Whole;
+                    }
+                }
             }
         }
     }
 }
 
-/// The outputs of all sheets in their order, worked by so many threads.
-fn worked(sheets: &[Vec<u8>], jobs: usize, bar: &Bar) -> Result<Vec<Vec<u8>>, End> {
-    let (next, done) = (AtomicUsize::new(0), AtomicUsize::new(0));
-    let outputs = Mutex::new((0..sheets.len()).map(|_| Ok(Vec::new())).collect::<Vec<Result<Vec<u8>, End>>>());
-    thread::scope(|scope| {
-        for _ in 0..jobs.min(sheets.len()) {
-            scope.spawn(|| loop {
-                let at = next.fetch_add(1, Ordering::Relaxed);
-                let Some(sheet) = sheets.get(at) else { return };
-                let answer = output(sheet, 1);
-                let mut outputs = outputs.lock().unwrap_or_else(|poisoned| poisoned.into_inner());
-                outputs[at] = answer;
-                bar.show(done.fetch_add(1, Ordering::Relaxed) + 1);
-            });
-        }
-    });
-    outputs.into_inner().unwrap_or_else(|poisoned| poisoned.into_inner()).into_iter().collect()
+/// The threads of a batch: as many as there are sheets, up to a number.
+struct Threads<'scope, 'env> {
+    scope: &'scope Scope<'scope, 'env>,
+    jobs: &'env Mutex<Receiver<Job>>,
+    most: usize,
+    started: usize,
+    work: SyncSender<Job>,
+    turns: SyncSender<Turn>,
 }
 
-/// The output of a batch.
-pub fn answers(input: &[u8], jobs: usize, is_shown: bool) -> Outcome {
-    let Some(sheets) = sheets(input) else { return output(input, SHEETS) };
-    let outputs = worked(&sheets, jobs, &Bar { is_shown, of: sheets.len() })?;
-    let mut written = Vec::new();
-    let mut totals = [[0; 2]; CLIENTS];
-    for output in &outputs {
-        let Some((answer, tally)) = parted(output) else { return Err(End::Refused("an answer has no tally".into())) };
-        written.extend(answer);
-        for (total, counts) in totals.iter_mut().flatten().zip(tally.iter().flatten()) {
-            *total += counts;
+impl Threads<'_, '_> {
+    /// Hands out a sheet once there is room for it; nothing where its answer cannot be written any more.
+    fn hand_out(&mut self, sheet: Vec<u8>, of: usize) -> Option<()> {
+        if self.started < self.most {
+            let jobs = self.jobs;
+            self.scope.spawn(move || work_sheets(jobs));
+            self.started += 1;
         }
+        let (answer, turn) = channel();
+        self.turns.send(Turn { answer: turn, of }).ok()?;
+        self.work.send(Job { sheet, answer }).ok()
     }
-    let lines: String = totals.iter().map(|[accepted, refused]| format!("{accepted} {refused}\n")).collect();
-    written.extend(lines.bytes());
-    Ok(written)
+}
+
+/// Works a batch as it comes, and writes what the batch program writes.
+pub fn answers(mut input: impl Read, mut writer: impl Write + Send, jobs: usize, is_shown: bool) -> Result<Ended, End> {
+    let (work, works) = sync_channel(AHEAD * jobs);
+    let (turns, ordered) = sync_channel(AHEAD * jobs);
+    let works = Mutex::new(works);
+    let mut frames = Frames::new();
+    let (ended, totals) = thread::scope(|scope| {
+        let writer = &mut writer;
+        let writing = scope.spawn(move || write_answers(&ordered, writer, is_shown));
+        let mut threads = Threads { scope, jobs: &works, most: jobs, started: 0, work, turns };
+        let ended = read_sheets(&mut input, &mut frames, |sheet, of| threads.hand_out(sheet, of));
+        drop(threads);
+        let lost = |_| Err(End::Refused("the answers have not all been written".into()));
+        (ended, writing.join().unwrap_or_else(lost))
+    });
+    let totals = totals?;
+    // The eight lines, or `3`.
+    let mut last = output(&frames.left_over())?;
+    if last == tally_lines(&Tally::default()).as_bytes() {
+        last = tally_lines(&totals).into_bytes();
+    }
+    writer.write_all(&last).and_then(|()| writer.flush()).map_err(unwritten)?;
+    Ok(ended)
+}
+
+/// A batch of a file, or of standard input for `-`.
+fn answers_of(file: &str, jobs: usize, is_shown: bool) -> Result<Ended, End> {
+    if file == "-" {
+        return answers(io::stdin().lock(), io::stdout(), jobs, is_shown);
+    }
+    let input = File::open(file).map_err(|error| End::Misused(format!("{file}: {error}")))?;
+    answers(input, io::stdout(), jobs, is_shown)
 }
 
 pub fn batch(mut arguments: Arguments) -> Outcome {
@@ -124,5 +218,12 @@ pub fn batch(mut arguments: Arguments) -> Outcome {
     };
     let is_shown = arguments.flag("--progress") || io::stderr().is_terminal();
     let file = arguments.files(0, 1)?.pop().unwrap_or_else(|| "-".into());
-    answers(&bytes_of(&file)?, jobs, is_shown)
+    match answers_of(&file, jobs, is_shown)? {
+        Ended::Whole => Ok(Vec::new()),
+        Ended::Broken(Broken { line, column, reason }) => {
+            let place = format!("{}: line {line}, column {column}", named(&file));
+            Err(End::Refused(format!("{place}: {reason} (the batch is broken, its answers end in 3)")))
+        }
+        Ended::Unread(error) => Err(End::Misused(format!("{}: {error}", named(&file)))),
+    }
 }

@@ -11,6 +11,7 @@ pub mod command;
 pub mod differentials;
 pub mod expressions;
 mod fits;
+pub mod frames;
 mod help;
 mod induce;
 mod json;

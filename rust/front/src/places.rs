@@ -44,7 +44,7 @@ pub struct Judge {
     reader: ReadCall,
 }
 
-fn is_separator(byte: &u8) -> bool {
+pub(crate) fn is_separator(byte: &u8) -> bool {
     matches!(byte, b' ' | b'\n')
 }
 
