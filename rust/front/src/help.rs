@@ -37,8 +37,9 @@ const PAGES: &[(&str, &str, &str)] = &[
     ),
     (
         "steps",
-        "[--budget N] [--differential] [--names X,Y,..] FILE",
-        "Takes the leading run by N steps at a time, 1 where none is given, with a progress line on standard error after each.\n",
+        "[--budget N] [--keep] [--resume] [--differential] [--names X,Y,..] FILE",
+        "Takes the leading run by N steps at a time, 1 where none is given, with a progress line on standard error after each. --keep\n\
+         takes N steps and writes the run as it stands then, a sheet and a line with the shifts; --resume goes on with such a file.\n",
     ),
     (
         "fits",
@@ -55,7 +56,8 @@ const PAGES: &[(&str, &str, &str)] = &[
     (
         "replay",
         "[--sheet | --json] [--differential] [--names X,Y,..] SHEET LOG",
-        "Makes the steps of a log, whoever wrote it, on a system, tests each one, and writes what they lead to as `run` does.\n",
+        "Makes the steps of a log, whoever wrote it, on a system, tests each one, and writes what they lead to as `run` does. A log that\n\
+         is refused is told with the line of the step, or of its end.\n",
     ),
     (
         "solutions",
@@ -76,8 +78,8 @@ const PAGES: &[(&str, &str, &str)] = &[
     (
         "batch",
         "[--jobs N] [--progress] [FILE]",
-        "Works a batch and writes the same bytes as `regularise`, the sheets worked by N threads. A progress bar is on standard error\n\
-         where that is a terminal, or with --progress.\n",
+        "Works a batch as it comes and writes the same bytes as `regularise`, the sheets worked by N threads. A progress bar is on\n\
+         standard error where that is a terminal, or with --progress. A broken batch has exit status 1, and its place is told.\n",
     ),
 ];
 

@@ -1,9 +1,13 @@
-//! `wurgalm steps`: the leading run by steps, with a progress line on standard error.
+//! `wurgalm steps`: the leading run by steps, with a progress line on standard error. It can be kept between two steps and gone on with.
 
-use crate::command::{is_differential, last, Arguments, End, Outcome};
+use crate::check::with_place;
+use crate::command::{bytes_of, is_differential, last, named, Arguments, End, Outcome};
 use crate::run::{answer, names_for, refused, system_of};
 use std::io::{self, IsTerminal, Write};
-use wurgalm::{Progress, Run};
+use wurgalm::{prepare, write_sheet, Heading, Progress, Run, State, System};
+
+/// Bytes that are enough for any sheet.
+const KEPT: usize = 131_072;
 
 /// How far a run has come.
 fn line(taken: usize, progress: &Progress) -> String {
@@ -12,33 +16,92 @@ fn line(taken: usize, progress: &Progress) -> String {
     format!("steps {taken}, settled {settled} of {rows}, shifts {}, relations {}", state.shifts, state.relations)
 }
 
+/// How a run is taken.
+struct Options {
+    /// The steps of one call.
+    budget: usize,
+    /// One call, and the run as it stands then.
+    is_kept: bool,
+    names: Vec<String>,
+}
+
+/// A run as it was kept: the sheet of its rows and relations, whose order line has the columns of the settled rows, and behind it the line
+/// with the shifts. The state of a run has no other numbers (SCOPE 11.11).
+fn kept(system: &mut System, state: &State) -> Outcome {
+    let heading = Heading { sizes: state.sizes, relations: state.relations, order: state.order };
+    let (rows, relations, _) = system.stores();
+    let mut bytes = vec![0; KEPT];
+    let length = write_sheet(rows, relations, &heading, &mut bytes)?;
+    bytes.truncate(length);
+    bytes.extend(format!("shifts {}\n", state.shifts).bytes());
+    Ok(bytes)
+}
+
+/// The system and the state of a run that was kept. What is wrong with the state is for the call that goes on with it.
+fn resumed(file: &str) -> Result<(System, State), End> {
+    let bytes = bytes_of(file)?;
+    let text = bytes.strip_suffix(b"\n").unwrap_or(&bytes);
+    let (sheet, last) = text.split_at(text.iter().rposition(|&byte| byte == b'\n').map_or(0, |at| at + 1));
+    let number = last.strip_prefix(b"shifts ").and_then(|number| std::str::from_utf8(number).ok()?.parse().ok());
+    let Some(shifts) = number else {
+        let line = 1 + sheet.iter().filter(|&&byte| byte == b'\n').count();
+        let right = "right would be `shifts` and their number, behind a sheet";
+        return Err(End::Refused(format!("{}: line {line} is not that of a run that was kept: {right}", named(file))));
+    };
+    let mut system = System::from_sheet(sheet).map_err(|refusal| with_place(refusal, file, sheet, false))?;
+    let settled = system.order().len();
+    let (.., Heading { sizes, relations, order }) = system.stores();
+    Ok((system, State { sizes, relations, settled, order, shifts }))
+}
+
+/// The system of a sheet, and the state before the first step.
+fn begun(file: &str, is_differential: bool) -> Result<(System, State), End> {
+    let mut system = system_of(file, is_differential)?;
+    let (rows, relations, heading) = system.stores();
+    let state = prepare(rows, relations, heading.sizes, heading.relations)?;
+    Ok((system, state))
+}
+
 pub fn steps(mut arguments: Arguments) -> Outcome {
     let budget = match arguments.value("--budget")?.map(|budget| budget.parse()) {
         None => 1,
         Some(Ok(budget)) if budget > 0 => budget,
         Some(_) => return Err(End::Misused("--budget wants a number from 1 on".into())),
     };
+    let (is_kept, is_resumed) = (arguments.flag("--keep"), arguments.flag("--resume"));
     let names = arguments.value("--names")?;
     let is_differential = is_differential(&mut arguments, last);
+    if is_resumed && is_differential {
+        return Err(End::Misused("--resume goes on with a run that was kept, which is no differential sheet".into()));
+    }
     let names = names_for(names, is_differential)?;
     let file = arguments.files(1, 1)?.remove(0);
-    let mut system = system_of(&file, is_differential)?;
-    let (rows, relations, heading) = system.stores();
-    let mut run = Run::prepare(rows, relations, heading.sizes, heading.relations)?;
+    let (system, state) = if is_resumed { resumed(&file)? } else { begun(&file, is_differential)? };
+    taken(system, state, &file, Options { budget, is_kept, names })
+}
+
+/// Takes a run from a state, one call or all.
+fn taken(mut system: System, state: State, file: &str, options: Options) -> Outcome {
+    let (rows, relations, _) = system.stores();
+    let mut run = Run::resume(rows, relations, state);
     let (mut report, mut taken) = (None, 0);
-    for progress in run.steps(budget) {
+    for progress in run.steps(options.budget).take(if options.is_kept { 1 } else { usize::MAX }) {
         let progress = progress.map_err(|refused_at| {
             line_ended();
-            refused(refused_at.refusal, &file)
+            refused(refused_at.refusal, file)
         })?;
         taken += progress.steps;
         shown(&line(taken, &progress));
         report = progress.report;
     }
     line_ended();
+    let state = run.state();
+    if options.is_kept {
+        return kept(&mut system, &state);
+    }
     let Some(report) = report else { return Err(End::Refused(format!("{file}: the run did not finish"))) };
     system.settle(&report);
-    Ok(answer(&system, &report, false, &names).into_bytes())
+    Ok(answer(&system, &report, false, &options.names).into_bytes())
 }
 
 /// The last line stays on a terminal.
