@@ -69,13 +69,26 @@ fn tally_lines(totals: &Tally) -> String {
     totals.iter().map(|[accepted, refused]| format!("{accepted} {refused}\n")).collect()
 }
 
-/// A bar on standard error.
-fn show_bar(done: usize, of: usize) {
-    let step = (of / 100).max(1);
-    if done.is_multiple_of(step) || done == of {
-        let full = 40 * done / of.max(1);
-        eprint!("\r[{}{}] {done} of {of}", "#".repeat(full), ".".repeat(40 - full));
-        if done == of {
+/// A bar on standard error, whose line ends with it.
+struct Bar {
+    is_shown: bool,
+    is_open: bool,
+}
+
+impl Bar {
+    fn show(&mut self, done: usize, of: usize) {
+        let step = (of / 100).max(1);
+        if self.is_shown && (done.is_multiple_of(step) || done == of) {
+            let full = 40 * done / of.max(1);
+            eprint!("\r[{}{}] {done} of {of}", "#".repeat(full), ".".repeat(40 - full));
+            self.is_open = true;
+        }
+    }
+}
+
+impl Drop for Bar {
+    fn drop(&mut self) {
+        if self.is_open {
             eprintln!();
         }
     }
@@ -93,7 +106,7 @@ fn work_sheets(jobs: &Mutex<Receiver<Job>>) {
 
 /// Writes the answers in their order, and adds up their tallies.
 fn write_answers(turns: &Receiver<Turn>, writer: &mut impl Write, is_shown: bool) -> Result<Tally, End> {
-    let mut totals = [[0; 2]; CLIENTS];
+    let (mut totals, mut bar) = ([[0; 2]; CLIENTS], Bar { is_shown, is_open: false });
     for (before, turn) in turns.iter().enumerate() {
         let output = turn.answer.recv().map_err(|_| End::Refused("a thread has ended without its answer".into()))??;
         let Some((answer, tally)) = parted(&output) else { return Err(End::Refused("an answer has no tally".into())) };
@@ -101,9 +114,7 @@ fn write_answers(turns: &Receiver<Turn>, writer: &mut impl Write, is_shown: bool
         for (total, count) in totals.iter_mut().flatten().zip(tally.iter().flatten()) {
             *total += count;
         }
-        if is_shown {
-            show_bar(before + 1, turn.of);
-        }
+        bar.show(before + 1, turn.of);
     }
     Ok(totals)
 }

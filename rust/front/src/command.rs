@@ -113,13 +113,22 @@ const SUBCOMMANDS: &[(&str, Subcommand)] = &[
     ("batch", batch::batch),
 ];
 
+/// The help of all subcommands, or of one.
+fn help_on(words: &[String]) -> Outcome {
+    match words {
+        [] => Ok(help::overview().into_bytes()),
+        [name] if SUBCOMMANDS.iter().any(|(known, _)| known == name) => Ok(help::page(name).into_bytes()),
+        [name, ..] => Err(End::Misused(format!("there is no help on {name}; `wurgalm --help` lists the subcommands"))),
+    }
+}
+
 fn dispatch(mut words: Vec<String>) -> Outcome {
     if words.is_empty() {
         return Err(End::Misused(format!("which subcommand?\n{}", help::overview().trim_end())));
     }
     let name = words.remove(0);
     if matches!(name.as_str(), "--help" | "-h" | "help") {
-        return Ok(help::overview().into_bytes());
+        return help_on(&words);
     }
     if name == "--version" {
         return Ok(format!("wurgalm {}\n", env!("CARGO_PKG_VERSION")).into_bytes());
