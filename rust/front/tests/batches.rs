@@ -6,7 +6,8 @@ use compare::sheets::sheet;
 use front::batch::{answers, Ended};
 use front::typing::sheet_of;
 use std::io::{self, Read, Write};
-use std::sync::mpsc::{channel, Receiver, Sender};
+use std::sync::atomic::{AtomicUsize, Ordering};
+use std::sync::mpsc::{sync_channel, Receiver, SyncSender};
 use std::thread;
 use std::time::Duration;
 
@@ -114,7 +115,7 @@ fn same_bytes_at_the_edges() {
 
 /// Input and output that a test and a batch hand each other piece by piece.
 struct Pieces(Receiver<Vec<u8>>);
-struct Written(Sender<Vec<u8>>);
+struct Written(SyncSender<Vec<u8>>);
 
 impl Read for Pieces {
     fn read(&mut self, piece: &mut [u8]) -> io::Result<usize> {
@@ -137,8 +138,8 @@ impl Write for Written {
 
 #[test]
 fn answers_come_before_the_batch_ends() {
-    let (send, pieces) = channel();
-    let (written, receive) = channel();
+    let (send, pieces) = sync_channel(100);
+    let (written, receive) = sync_channel(100);
     let working = thread::spawn(move || answers(Pieces(pieces), Written(written), 2, false));
     let next = || receive.recv_timeout(Duration::from_secs(60)).unwrap();
     for piece in ["3\n1 ", "3\n", "3 1"] {
@@ -156,13 +157,39 @@ fn answers_come_before_the_batch_ends() {
 
 #[test]
 fn a_writer_that_fails_ends_the_work() {
-    let (send, pieces) = channel();
-    let (written, receive) = channel();
+    let (send, pieces) = sync_channel(100);
+    let (written, receive) = sync_channel(100);
     drop(receive);
     let working = thread::spawn(move || answers(Pieces(pieces), Written(written), 1, false));
     send.send(b"1000\n".to_vec()).unwrap();
     // Far more than is held at a time: it ends without reading them all.
     while send.send(b"1 3\n3 1".repeat(100)).is_ok() {}
+    assert!(working.join().unwrap().is_err());
+}
+
+#[test]
+fn few_sheets_are_held() {
+    let jobs = 2;
+    let (send, pieces) = sync_channel(0);
+    let (written, receive) = sync_channel(0);
+    let working = thread::spawn(move || answers(Pieces(pieces), Written(written), jobs, false));
+    let taken = AtomicUsize::new(0);
+    thread::scope(|scope| {
+        scope.spawn(|| {
+            send.send(b"1000\n".to_vec()).unwrap();
+            while send.send(b"1 3\n3 1".to_vec()).is_ok() {
+                taken.fetch_add(1, Ordering::Relaxed);
+            }
+        });
+        // Nobody takes an answer: no more is read than four sheets a thread, and those that are read and written beside them.
+        let held = || taken.load(Ordering::Relaxed);
+        let waits = (0..1_000).take_while(|_| held() < 4 * jobs);
+        waits.for_each(|_| thread::sleep(Duration::from_millis(10)));
+        thread::sleep(Duration::from_millis(200));
+        assert!((4 * jobs..=4 * jobs + 3).contains(&held()), "{}", held());
+        assert_eq!(receive.recv().unwrap(), b"4\n");
+        drop(receive);
+    });
     assert!(working.join().unwrap().is_err());
 }
 
