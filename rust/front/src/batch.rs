@@ -168,7 +168,7 @@ struct Threads<'scope, 'env> {
     jobs: &'env Mutex<Receiver<Job>>,
     most: usize,
     started: usize,
-    work: SyncSender<Job>,
+    work: Sender<Job>,
     turns: SyncSender<Turn>,
 }
 
@@ -188,7 +188,8 @@ impl Threads<'_, '_> {
 
 /// Works a batch as it comes, and writes what the batch program writes.
 pub fn answers(mut input: impl Read, mut writer: impl Write + Send, jobs: usize, is_shown: bool) -> Result<Ended, End> {
-    let (work, works) = sync_channel(AHEAD * jobs);
+    // The turns bound the sheets that wait for a thread too.
+    let (work, works) = channel();
     let (turns, ordered) = sync_channel(AHEAD * jobs);
     let works = Mutex::new(works);
     let mut frames = Frames::new();
