@@ -14,6 +14,7 @@ pub mod pieces;
 pub mod random;
 pub mod records;
 pub mod runs;
+pub mod series;
 pub mod sheets;
 pub mod solution_files;
 pub mod solutions;

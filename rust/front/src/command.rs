@@ -31,6 +31,10 @@ pub struct Arguments {
 }
 
 impl Arguments {
+    pub fn new(left: Vec<String>) -> Arguments {
+        Arguments { left }
+    }
+
     /// Whether an option is there, which is taken out.
     pub fn flag(&mut self, name: &str) -> bool {
         let before = self.left.len();
@@ -139,7 +143,7 @@ fn dispatch(mut words: Vec<String>) -> Outcome {
     if words.iter().any(|word| word == "--help" || word == "-h") {
         return Ok(help::page(name).into_bytes());
     }
-    subcommand(Arguments { left: words }).map_err(|end| match end {
+    subcommand(Arguments::new(words)).map_err(|end| match end {
         End::Misused(message) => End::Misused(format!("{name}: {message}\n{}", help::usage(name))),
         refused => refused,
     })

@@ -7,6 +7,7 @@ use compare::first_index::{Lost, Tested};
 use compare::judge::judge;
 use compare::logs::OwnLogs;
 use compare::pieces;
+use compare::series;
 use compare::solutions::Listed;
 use compare::steps::Divided;
 use compare::subject::{Library, Outside, Subject};
@@ -175,6 +176,22 @@ fn listed(subject: &dyn Subject) -> usize {
     differences.len()
 }
 
+/// Systems with an answer of `wurgalm series`.
+const SERIES: usize = 1_000;
+
+/// The terms and verdicts of `wurgalm series`, by the input's equations alone.
+fn terms() -> usize {
+    let start = Instant::now();
+    let mut tested = series::Tested::default();
+    tested.test(SERIES, &series::command);
+    let differences = &tested.differences;
+    differences.iter().take(SHOWN).for_each(|difference| println!("DIFFERENCE in Series: {difference}"));
+    let time = start.elapsed().as_secs_f64();
+    println!("Series: {SERIES} cases, {} differences, {time:.1} s", differences.len());
+    tested.print();
+    differences.len()
+}
+
 /// A line of the table for each kind and side.
 fn lines<'a>(tallies: &'a [(Kind, [Tally; 2])], names: &[String; 2]) -> Vec<(String, &'a Tally)> {
     let mut lines = Vec::new();
@@ -206,6 +223,7 @@ fn main() {
     differences += divided(&other);
     differences += own_logs(&other);
     differences += listed(&other);
+    differences += terms();
     println!();
     let names = [right.name(), other.name()];
     print_refusals(&lines(&tallies, &names));

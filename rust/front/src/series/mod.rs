@@ -10,8 +10,9 @@ use crate::command::{is_differential, last, Arguments, End, Outcome};
 use crate::run::{consequence, counted, names_for, refused, system_of};
 use fractions::Fraction;
 use plot::Picture;
-use range::{Kind, Lacking, Model, Range, Value};
+use range::{Kind, Lacking, Model, Range, Unrun, Value};
 use std::fs;
+use wurgalm::{Refusal, System};
 
 /// The most terms.
 const TERMS: i64 = 400;
@@ -171,6 +172,16 @@ fn count(model: &Model, range: &Range, names: &[String]) -> String {
     text
 }
 
+fn not_run(unrun: Unrun, file: &str) -> End {
+    match unrun {
+        Unrun::Trailing(refusal) if refusal != Refusal(10) => End::Refused(format!(
+            "{}: the trailing run, which two-sided sequences need, is {refusal}; --first K asks for those from an index on",
+            crate::command::named(file)
+        )),
+        Unrun::Leading(refusal) | Unrun::Trailing(refusal) => refused(refusal, file),
+    }
+}
+
 fn lacking(lacking: Lacking, file: &str) -> End {
     match lacking {
         Lacking::None(told) | Lacking::Far(told) => End::Refused(format!("{}: {told}", crate::command::named(file))),
@@ -215,15 +226,26 @@ pub fn series(mut arguments: Arguments) -> Outcome {
     let is_differential = is_differential(&mut arguments, last);
     let asked = asked(&mut arguments, is_differential)?;
     let file = arguments.files(1, 1)?.remove(0);
-    let input = system_of(&file, is_differential)?;
-    let model = Model::new(input, asked.kind).map_err(|refusal| refused(refusal, &file))?;
+    answered(&asked, system_of(&file, is_differential)?, &file)
+}
+
+/// What the command writes with such arguments before the file, for the bytes of a sheet.
+pub fn of_sheet(words: &[String], sheet: &[u8]) -> Outcome {
+    let mut arguments = Arguments::new(words.to_vec());
+    let asked = asked(&mut arguments, false)?;
+    arguments.files(0, 0)?;
+    answered(&asked, System::from_sheet(sheet)?, "-")
+}
+
+fn answered(asked: &Asked, input: System, file: &str) -> Outcome {
+    let model = Model::new(input, asked.kind).map_err(|unrun| not_run(unrun, file))?;
     let begin = model.begin(asked.kind);
     let first = asked.from.unwrap_or(begin);
     if first < begin && asked.kind != Kind::TwoSided {
         return Err(End::Misused(format!("--from is {begin} at least here")));
     }
     let indices = (first, first + asked.terms - 1);
-    let range = model.range(asked.kind, indices).map_err(|told| lacking(told, &file))?;
+    let range = model.range(asked.kind, indices).map_err(|told| lacking(told, file))?;
     let (names, m) = (&asked.names, model.input.sizes().m);
     let mut text = count(&model, &range, names);
     if !asked.is_free && asked.starts.is_empty() {
@@ -234,17 +256,17 @@ pub fn series(mut arguments: Arguments) -> Outcome {
     }
     let mut curves = Vec::new();
     for (given, start) in &asked.starts {
-        let range = started(&range, start, names, &file, indices)?;
+        let range = started(&range, start, names, file, indices)?;
         if !asked.is_free {
             text += &format!("\nwith {given}\n{}", terms(&range, indices, m, names));
         }
         if asked.plot.is_some() {
-            curves.push((given.replace('=', " = ").replace(',', ", "), curve(&range, indices, &asked)?));
+            curves.push((given.replace('=', " = ").replace(',', ", "), curve(&range, indices, asked)?));
         }
     }
     if let Some(plot) = &asked.plot {
         if curves.is_empty() {
-            curves.push((names[asked.of - 1].clone(), curve(&range, indices, &asked)?));
+            curves.push((names[asked.of - 1].clone(), curve(&range, indices, asked)?));
         }
         let variable = if names.iter().take(m).any(|name| name == "x") { "s" } else { "x" };
         let name = &names[asked.of - 1];

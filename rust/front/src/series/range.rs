@@ -60,14 +60,35 @@ pub enum Value {
     Given(Fraction, Vec<((i64, usize), Fraction)>),
 }
 
+/// A run that was refused.
+#[derive(Debug)]
+pub enum Unrun {
+    Leading(Refusal),
+    Trailing(Refusal),
+}
+
+/// Whether an equation says something of some value at n.
+fn ties(equation: &Equation, n: i64) -> bool {
+    equation.terms().any(|(_, _, p)| !Fraction::value(p, n).is_zero())
+}
+
 impl Model {
-    /// Runs the leading side, and the trailing side where that is needed.
-    pub fn new(input: System, kind: Kind) -> Result<Model, Refusal> {
+    /// Runs the leading side, and for two-sided sequences the trailing side: without it nothing bounds the indices that matter.
+    pub fn new(input: System, kind: Kind) -> Result<Model, Unrun> {
         let mut leading = input.clone();
-        let report = leading.run_leading()?;
-        let mut mirrored = input.clone();
-        let run = if kind == Kind::TwoSided { mirrored.run_trailing().ok() } else { None };
-        Ok(Model { input, leading, report, trailing: run.map(|report| (mirrored, report)) })
+        let report = leading.run_leading().map_err(Unrun::Leading)?;
+        if kind != Kind::TwoSided {
+            return Ok(Model { input, leading, report, trailing: None });
+        }
+        let mut trailing = input.clone();
+        let below = trailing.run_trailing().map_err(Unrun::Trailing)?;
+        Ok(Model { input, leading, report, trailing: Some((trailing, below)) })
+    }
+
+    /// The input and its runs, each with its name.
+    fn systems(&self) -> Vec<(&'static str, &System)> {
+        let runs = [("input", &self.input), ("leading run", &self.leading)].into_iter();
+        runs.chain(self.trailing.as_ref().map(|(system, _)| ("trailing run", system))).collect()
     }
 
     /// The first index of a range where none is given.
@@ -84,14 +105,13 @@ impl Model {
         let sizes = self.input.sizes();
         let span = sizes.l - sizes.t;
         let (mut low, mut high) = (first, last);
-        let asked = |n0: i64| !matches!(kind, Kind::First(k) if n0 < k);
-        let mut systems = vec![&self.input, &self.leading];
-        if let Some((system, report)) = &self.trailing {
-            systems.push(system);
-            low = low.min(report.root.map_or(low, |root| root + sizes.t)) - report.shifts as i64;
+        for (_, system) in self.systems() {
+            for (n0, _) in system.relations().filter(|(n0, row)| kind.counts(*n0) && ties(row, *n0)) {
+                (low, high) = (low.min(n0 + sizes.t), high.max(n0 + sizes.l));
+            }
         }
-        for (n0, _) in systems.iter().flat_map(|system| system.relations()).filter(|&(n0, _)| asked(n0)) {
-            (low, high) = (low.min(n0 + sizes.t), high.max(n0 + sizes.l));
+        if let Some((_, report)) = &self.trailing {
+            low = low.min(report.root.map_or(low, |root| root + sizes.t)) - report.shifts as i64;
         }
         high = high.max(self.report.root.map_or(high, |root| root + sizes.l)) + self.report.shifts as i64 + span + 1;
         low = match kind {
@@ -117,22 +137,17 @@ impl Model {
         if let Kind::ZeroBelow(index) = kind {
             self.below(index)?;
         }
-        let mut systems = vec![("input", &self.input), ("leading run", &self.leading)];
-        systems.extend(self.trailing.as_ref().map(|(system, _)| ("trailing run", system)));
-        for n in window.0 - sizes.t..=window.1 - sizes.l {
-            for (of, system) in &systems {
+        let ns = window.0 - sizes.t..=window.1 - sizes.l;
+        range.relations(self, |n0| n0 < *ns.start())?;
+        for n in ns.clone() {
+            for (of, system) in self.systems() {
                 for (at, equation) in system.equations().enumerate() {
                     range.hold(&equation, n, &format!("equation {} of the {of}", at + 1))?;
                 }
             }
+            range.relations(self, |n0| n0 == n)?;
         }
-        for (of, system) in &systems {
-            for (at, (n0, equation)) in system.relations().enumerate() {
-                if !matches!(kind, Kind::First(k) if n0 < k) {
-                    range.hold(&equation, n0, &format!("relation {} of the {of}", at + 1))?;
-                }
-            }
-        }
+        range.relations(self, |n0| n0 > *ns.end())?;
         Ok(range)
     }
 
@@ -148,6 +163,13 @@ impl Model {
             }
         }
         Ok(())
+    }
+}
+
+impl Kind {
+    /// Whether a relation at n0 counts.
+    fn counts(self, n0: i64) -> bool {
+        !matches!(self, Kind::First(k) if n0 < k)
     }
 }
 
@@ -180,9 +202,10 @@ impl Range {
     fn row(&self, equation: &Equation, n: i64) -> Row {
         let mut row = Row { right: Fraction::value(equation.right(), n), ..Row::new() };
         for (s, c, p) in equation.terms() {
-            let is_zero = matches!(self.kind, Kind::ZeroBelow(index) if n + s < index);
-            if !is_zero {
-                row.add(self.unknown(n + s, c), &Fraction::value(p, n));
+            let (is_zero, factor) =
+                (matches!(self.kind, Kind::ZeroBelow(index) if n + s < index), Fraction::value(p, n));
+            if !is_zero && !factor.is_zero() {
+                row.add(self.unknown(n + s, c), &factor);
             }
         }
         row
@@ -193,6 +216,18 @@ impl Range {
             return Ok(());
         }
         Err(Lacking::None(format!("no such sequence: {named} cannot hold at n = {n} beside what stands before it")))
+    }
+
+    /// Holds the relations at some n0.
+    fn relations(&mut self, model: &Model, at: impl Fn(i64) -> bool) -> Result<(), Lacking> {
+        for (of, system) in model.systems() {
+            for (number, (n0, equation)) in system.relations().enumerate() {
+                if at(n0) && self.kind.counts(n0) {
+                    self.hold(&equation, n0, &format!("relation {} of the {of}", number + 1))?;
+                }
+            }
+        }
+        Ok(())
     }
 
     /// The indices of which the equations speak that are looked at, the first and the last.
