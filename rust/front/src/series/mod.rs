@@ -218,8 +218,12 @@ fn curve(range: &Range, (first, last): (i64, i64), asked: &Asked) -> Result<Vec<
         _ => Err(End::Misused(format!("{name}({index}) is not settled: --start has to give the free constants"))),
     };
     let values: Vec<Fraction> = (first..=last).map(number).collect::<Result<_, _>>()?;
-    let points = plot::points(first, &values, &asked.over);
-    points.ok_or_else(|| End::Misused("the series has negative powers: --over an interval without 0".into()))
+    let points = plot::points(first, &values, &asked.over)
+        .ok_or_else(|| End::Misused("the series has negative powers: --over an interval without 0".into()))?;
+    if !points.iter().all(|(x, y)| x.is_finite() && y.is_finite()) {
+        return Err(End::Misused("the sum is too large to be drawn: --over a shorter interval".into()));
+    }
+    Ok(points)
 }
 
 pub fn series(mut arguments: Arguments) -> Outcome {
@@ -270,7 +274,7 @@ fn answered(asked: &Asked, input: System, file: &str) -> Outcome {
         }
         let variable = if names.iter().take(m).any(|name| name == "x") { "s" } else { "x" };
         let name = &names[asked.of - 1];
-        let title = format!("Sum of {name}(n) {variable}^n, n from {} to {}", indices.0, indices.1);
+        let title = format!("Sum of {name}(n) {variable}ⁿ, n from {} to {}", indices.0, indices.1);
         let vertical = name.clone();
         let picture = Picture { title, horizontal: variable.into(), vertical, curves };
         fs::write(plot, picture.svg()).map_err(|error| End::Misused(format!("{plot}: {error}")))?;

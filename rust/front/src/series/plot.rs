@@ -8,8 +8,12 @@ pub const STEPS: i64 = 120;
 const WIDTH: f64 = 760.0;
 const HEIGHT: f64 = 460.0;
 /// The frame: left, top, right, bottom.
-const FRAME: [f64; 4] = [80.0, 50.0, 740.0, 400.0];
+const FRAME: [f64; 4] = [80.0, 50.0, 720.0, 400.0];
 const COLOURS: [&str; 6] = ["#1f5fa8", "#c2451e", "#2b8a4b", "#7d3fa0", "#a87b00", "#3a3a3a"];
+/// Strokes of the first six curves, of the next six, and of all others.
+const DASHES: [&str; 3] = ["none", "8 4", "2 3"];
+/// Characters of a curve's name that have room.
+const NAME: usize = 72;
 
 /// What belongs to one picture.
 pub struct Picture {
@@ -72,13 +76,26 @@ fn tick(value: f64) -> String {
     if text == "-0" { "0" } else { text }.into()
 }
 
+/// A name, cut where it has no room.
+fn short(name: &str) -> String {
+    if name.chars().count() <= NAME {
+        return name.into();
+    }
+    name.chars().take(NAME - 3).chain(" ..".chars()).collect()
+}
+
 fn escaped(text: &str) -> String {
     text.replace('&', "&amp;").replace('<', "&lt;").replace('>', "&gt;")
 }
 
-/// The ends of a scale that shows all these, a little wider than they are.
+/// The ends of a scale that shows all these, and 0 where it is not far from them, a little wider than they are.
 fn ends(values: impl Iterator<Item = f64>) -> (f64, f64) {
     let (low, high) = values.fold((f64::INFINITY, f64::NEG_INFINITY), |(low, high), v| (low.min(v), high.max(v)));
+    let (low, high) = match (low < 0.5 * high, high > 0.5 * low) {
+        (true, _) if low > 0.0 => (0.0, high),
+        (_, true) if high < 0.0 => (low, 0.0),
+        _ => (low, high),
+    };
     match (low.is_finite() && high.is_finite(), high - low) {
         (false, _) => (0.0, 1.0),
         (_, 0.0) => (low - 1.0, high + 1.0),
@@ -130,7 +147,7 @@ impl Picture {
         let across = (y0 + y1) / 2.0;
         let _ = writeln!(
             svg,
-            "<text x=\"16\" y=\"{across}\" text-anchor=\"middle\" font-style=\"italic\" transform=\"rotate(-90 16 {across})\">{}</text>",
+            "<text x=\"24\" y=\"{across}\" text-anchor=\"middle\" font-style=\"italic\" transform=\"rotate(-90 24 {across})\">{}</text>",
             escaped(&self.vertical)
         );
     }
@@ -143,31 +160,24 @@ impl Picture {
              <svg xmlns=\"http://www.w3.org/2000/svg\" width=\"{WIDTH}\" height=\"{height}\" viewBox=\"0 0 {WIDTH} {height}\" \
              font-family=\"sans-serif\" font-size=\"13\">\n<rect width=\"{WIDTH}\" height=\"{height}\" fill=\"white\"/>\n\
              <text x=\"{}\" y=\"30\" text-anchor=\"middle\" font-size=\"16\">{}</text>\n",
-            WIDTH / 2.0,
+            (FRAME[0] + FRAME[2]) / 2.0,
             escaped(&self.title)
         );
         self.axes(&mut svg);
         let at = self.places();
         for (number, (name, points)) in self.curves.iter().enumerate() {
-            let colour = COLOURS[number % COLOURS.len()];
+            let (colour, dashes) = (COLOURS[number % COLOURS.len()], DASHES[(number / COLOURS.len()).min(2)]);
+            let drawn = format!("stroke=\"{colour}\" stroke-width=\"2\" stroke-dasharray=\"{dashes}\"");
             let pair = |&(x, y): &(f64, f64)| {
                 let (h, v) = at(x, y);
                 format!("{h:.2},{v:.2}")
             };
             let points: Vec<String> = points.iter().map(pair).collect();
-            let _ = writeln!(
-                svg,
-                "<polyline points=\"{}\" fill=\"none\" stroke=\"{colour}\" stroke-width=\"2\"/>",
-                points.join(" ")
-            );
+            let _ = writeln!(svg, "<polyline points=\"{}\" fill=\"none\" {drawn}/>", points.join(" "));
             let [x0, .., y1] = FRAME;
             let (line, x) = (y1 + 60.0 + 20.0 * number as f64, x0 + 40.0);
-            let _ = writeln!(
-                svg,
-                "<line x1=\"{x0}\" y1=\"{line}\" x2=\"{}\" y2=\"{line}\" stroke=\"{colour}\" stroke-width=\"2\"/>",
-                x0 + 30.0
-            );
-            let _ = writeln!(svg, "<text x=\"{x}\" y=\"{}\">{}</text>", line + 4.0, escaped(name));
+            let _ = writeln!(svg, "<line x1=\"{x0}\" y1=\"{line}\" x2=\"{}\" y2=\"{line}\" {drawn}/>", x0 + 30.0);
+            let _ = writeln!(svg, "<text x=\"{x}\" y=\"{}\">{}</text>", line + 4.0, escaped(&short(name)));
         }
         svg + "</svg>\n"
     }
