@@ -2,9 +2,12 @@
 import doctest
 import importlib
 import importlib.util
+import inspect
+import re
 import unittest
 
 import made
+import wurgalm
 
 MODULES = ["wurgalm", *(f"wurgalm.{name}" for name in ("calls", "differential", "library", "logs", "refusals", "systems"))]
 WITH_SYMPY = ["wurgalm.expressions"]
@@ -39,6 +42,35 @@ class Pages(unittest.TestCase):
     def test_every_module_is_looked_at(self):
         modules = {path.stem for path in (made.ROOT / "python/wurgalm").glob("*.py")} - {"__init__"}
         self.assertEqual({f"wurgalm.{name}" for name in modules} | {"wurgalm"}, {*MODULES, *WITH_SYMPY})
+
+    def test_everything_is_documented_and_typed(self):
+        """Each public name has a docstring, and each argument and result of a public function or method a type."""
+        named = {f"wurgalm.{name}": getattr(wurgalm, name) for name in wurgalm.__all__}
+        for name in [*MODULES[1:], *(WITH_SYMPY if has_sympy() else [])]:
+            module = importlib.import_module(name)
+            self.assertTrue(module.__doc__, name)
+            own = {key: value for key, value in vars(module).items() if getattr(value, "__module__", None) == name}
+            named |= {f"{name}.{key}": value for key, value in own.items() if not key.startswith("_")}
+        functions = {name: value for name, value in named.items() if inspect.isfunction(value)}
+        classes = {name: value for name, value in named.items() if inspect.isclass(value)}
+        for name, value in classes.items():
+            self.assertTrue(inspect.getdoc(value), name)
+            functions |= {f"{name}.{key}": method for key, method in vars(value).items()
+                          if inspect.isfunction(method) and not key.startswith("_")}
+        self.assertGreater(min(len(functions), len(classes)), 20)
+        for name, function in functions.items():
+            with self.subTest(name):
+                self.assertTrue(inspect.getdoc(function))
+                signature = inspect.signature(function)
+                self.assertIsNot(signature.return_annotation, signature.empty)
+                untyped = [key for key, p in signature.parameters.items() if p.annotation is p.empty and key != "self"]
+                self.assertEqual(untyped, [])
+
+    def test_sentences(self):
+        """A refusal says what it says in the Rust crate and the command."""
+        meanings = (made.ROOT / "rust/wurgalm/src/refusal.rs").read_text(encoding="utf-8")
+        told = {int(number): sentence for number, sentence in re.findall(r"^ +(\d+) => \"(.*)\",$", meanings, re.M)}
+        self.assertEqual({number: refusal.sentence for number, refusal in wurgalm.REFUSALS.items()}, told)
 
     @unittest.skipIf(has_sympy(), "SymPy is there")
     def test_expressions_say_what_they_need(self):

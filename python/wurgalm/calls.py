@@ -300,7 +300,7 @@ def replay(system: System, log: Log) -> Run:
     True
     >>> replay(k2, Log(log.steps[1:], log.order))
     Traceback (most recent call last):
-    wurgalm.refusals.WrongLog: refused with 13: a step of the log, or the end of the log, is not right
+    wurgalm.refusals.WrongLog: refused with 13: a step of the log, or its end, is not right
     """
     stores, result = Stores(system), library.zeros(10)
     library.call("replay", *stores.arguments(), len(log.steps), library.numbers(log.numbers(), 13), result)

@@ -71,7 +71,7 @@ class ValueTooLarge(Refused):
 
 
 class WrongLog(Refused):
-    number, sentence = 13, "a step of the log, or the end of the log, is not right"
+    number, sentence = 13, "a step of the log, or its end, is not right"
 
 
 class NotListed(Refused):
