@@ -1,5 +1,5 @@
-"""`wurgalm series` and the recurrences of differential equations against the series that SymPy has of their solutions. Where SymPy is missing,
-all of this is left out; where the command is not built, what it writes."""
+"""`wurgalm series` and the recurrences of differential equations against the series that SymPy has of their solutions. Where SymPy is
+missing, all of this is left out; where the command is not built, what it writes."""
 import re
 import subprocess
 import tempfile

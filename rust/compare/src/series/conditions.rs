@@ -72,8 +72,8 @@ pub struct TooLarge;
 /// Limbs of the largest number that is worked with.
 const LIMBS: usize = 48;
 
-/// Conditions on the values at the indices of a window, in steps: each under its first unknown. The unknowns are the values above the range that is
-/// shown, from the top down, then those below it, from the bottom up, then those of the range, the latest first.
+/// Conditions on the values at the indices of a window, in steps: each under its first unknown. The unknowns are the values above the
+/// range that is shown, from the top down, then those below it, from the bottom up, then those of the range, the latest first.
 #[derive(Clone)]
 pub struct Conditions {
     m: usize,
@@ -148,7 +148,8 @@ impl Conditions {
         places.filter(|&place| !self.steps.contains_key(&self.unknown(place))).collect()
     }
 
-    /// Adds what an input says: its equations at the n of a list, its relations with an n0 of that list. The first n at which it contradicts is given.
+    /// Adds what an input says: its equations at the n of a list, its relations with an n0 of that list. The first n at which it
+    /// contradicts is given.
     pub fn add_all(&mut self, input: &System, kind: Kind, ns: &[i64]) -> Result<Option<i64>, TooLarge> {
         for &n in ns {
             let relations = input.relations.iter().filter(|relation| relation.n0 == i128::from(n)).map(|r| &r.row);

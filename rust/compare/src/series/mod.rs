@@ -1,22 +1,25 @@
-//! `wurgalm series` on random systems, against the equations and relations of the input alone and by exact numbers of our own: nothing of
-//! `rust/front/src/series` is used but the text that the command writes.
+//! `wurgalm series` on random systems, against the equations and relations of the input alone and by exact numbers of our own:
+//! nothing of `rust/front/src/series` is used but the text that the command writes.
 //!
-//! *What is drawn.* The systems of [`crate::systems`] as they come, of 1 to 4 unknowns, D from 0 to 4 and 0 to 6 equations, with right sides,
-//! relations, common roots and coefficients up to the limits; some of the largest; and the recurrences of random differential sheets; an eighth
-//! has one relation more, that contradicts its equations or repeats them. Each is asked for two-sided
-//! sequences, for those from an index on or for those with zeros below one, near an index at which it has a relation or near n = 0, and for some terms. A system that a
-//! run refuses, or whose roots and relations are too far away for `series`, has no terms: it is counted and another one is drawn.
+//! *What is drawn.* The systems of [`crate::systems`] as they come, of 1 to 4 unknowns, D from 0 to 4 and 0 to 6 equations, with right
+//! sides, relations, common roots and coefficients up to the limits; some of the largest; and the recurrences of random differential
+//! sheets. An eighth has one relation more, which contradicts its equations or repeats them. Each is asked for two-sided sequences,
+//! for those from an index on or for those with zeros below one, near an index at which it has a relation or near n = 0, and for some
+//! terms. A system that a run refuses, or whose roots and relations are too far away for `series`, has no terms: it is counted and
+//! another one is drawn.
 //!
 //! *What is tested.*
-//! - All values are computed from random constants, twice, the second time with one constant changed. Every equation of the input at every n
-//!   whose values are all shown, and every relation, holds exactly.
-//! - [`Conditions`] has what the input says of a window that reaches further than the roots and relations do. What is called forced, or follows, is implied by it;
-//!   what is called free is exactly what it leaves free, so that any numbers there have values before and after them with which the input holds in the window.
-//!   "Solution on the shown range" so means the restriction of such a solution: what equations outside the range force is forced.
-//! - Starting values are accepted or refused as they agree with it; one that cannot be is told with what it has to be, and is accepted with that.
+//! - All values are computed from random constants, twice, the second time with one constant changed. Every equation of the input at
+//!   every n whose values are all shown, and every relation, holds exactly.
+//! - [`Conditions`] has what the input says of a window that reaches further than the roots and relations do. What is called forced, or
+//!   follows, is implied by it; what is called free is exactly what it leaves free, so that any numbers there have values before and
+//!   after them with which the input holds in the window. A solution on the shown range is so the restriction of one on the window:
+//!   what equations outside the range force is forced.
+//! - Starting values are accepted or refused as they agree with it; one that cannot be is told with what it has to be, and is accepted
+//!   with that.
 //! - Where the ranks are the number of unknowns, the constants that are told are as many as the window leaves free.
-//! - Where there is no such sequence, the window has none, and what the input says below the n that is told has one. What it says up to there has none either, or
-//!   up to n + S, since a row of the leading run at n is made of the input's at n to n + S.
+//! - Where there is no such sequence, the window has none, and what the input says below the n that is told has one. What it says up to
+//!   there has none either, or up to n + S, since a row of the leading run at n is made of the input's at n to n + S.
 //!
 //! Where numbers become longer than [`conditions`] works with, what it would settle is left out, and it is counted.
 
@@ -162,8 +165,8 @@ fn says(row: &Row) -> bool {
 struct Window {
     /// Those that are looked at.
     all: (i64, i64),
-    /// Those up to the last root of the leading run, down to the first one of the trailing run, and of every relation. Outside stand as many as there are
-    /// shifts and some more.
+    /// Those up to the last root of the leading run, down to the first one of the trailing run, and of every relation. Outside stand as
+    /// many as there are shifts and some more.
     inner: (i64, i64),
     /// Those of the leading run.
     shifts: i64,
@@ -475,9 +478,13 @@ impl Tested {
             match (added, told) {
                 (Added::Holds, Ok(_)) => self.accepted_starts += 1,
                 (Added::Contradicts, Err(Told::Cannot(message))) => {
-                    let Some((at, is)) = text::settled(&message) else { return difference(message) };
-                    if at != place || !known.implies(&Sum::single(at, is.numerator, is.denominator))? {
-                        return difference(format!("with {start:?} it is told: {message}"));
+                    let told = || difference(format!("with {start:?} it is told: {message}"));
+                    let Some((at, number)) = text::settled(&message) else { return told() };
+                    let Some(is) = Fraction::read(&number).filter(|_| at == place) else { return told() };
+                    let right = [&start[..start.len() - 1], &[format!("{}={number}", text::named(at))]].concat();
+                    let taken = series(&case.words(&["--start".into(), right.join(",")]), &case.sheet()).is_ok();
+                    if !taken || !known.implies(&Sum::single(at, is.numerator, is.denominator))? {
+                        return told();
                     }
                     self.refused_starts += 1;
                     return Ok(());

@@ -112,7 +112,8 @@ impl Free {
         self.verdicts.iter().filter(|(_, verdict)| **verdict == Verdict::Free).map(|(&place, _)| place).collect()
     }
 
-    /// How many constants there are, those on which no value shown depends among them; none where those of the indices shown are counted alone.
+    /// How many constants there are, those on which no value shown depends among them; none where those of the indices shown are
+    /// counted alone.
     pub fn constants(&self) -> Option<usize> {
         let more = self.heading.iter().find_map(|line| line.strip_suffix(" more, on which no value shown depends"));
         let more = more.map_or(Some(0), |told| told.split(' ').next()?.parse().ok())?;
@@ -164,9 +165,9 @@ pub fn failing(message: &str) -> Option<i64> {
     behind[..end].parse().ok()
 }
 
-/// What is told of a starting value that cannot be: its place, and what it is.
-pub fn settled(message: &str) -> Option<(Place, Fraction)> {
+/// What is told of a starting value that cannot be: its place, and what it is, as it is written.
+pub fn settled(message: &str) -> Option<(Place, String)> {
     let (_, behind) = message.split_once(" cannot be: ")?;
     let (value, number) = behind.strip_suffix(" by what stands before it")?.split_once(" is ")?;
-    Some((place(value)?, Fraction::read(number)?))
+    Some((place(value)?, number.to_string()))
 }

@@ -1,5 +1,5 @@
-//! Whole numbers of any size. They share nothing with those of `rust/front/src/series`: limbs of 64 bits, a quotient from its lowest limb on,
-//! common divisors by halving.
+//! Whole numbers of any size. They share nothing with those of `rust/front/src/series`: limbs of 64 bits, a quotient from its lowest
+//! limb on, common divisors by halving.
 
 use std::cmp::Ordering;
 
