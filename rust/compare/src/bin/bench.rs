@@ -4,31 +4,29 @@
 //!     bench                   the tables of docs/BENCHMARKS.md: batches, then single calls
 //!     bench batches KIND ..   the first of them, of these kinds; of all where none is named
 //!     bench calls             the second
+//!     bench once SIDE CALL    one pass of `library` or `fast` over 100 cases of one call, for a profile
 //!     bench kinds             what the seven kinds of batches are, and how much elimination is in each
 //!     bench inputs FOLDER     writes those batches into a folder
 //!     bench series FILE.csv   measures the series, and writes them and FILE.svg, their picture
 //!     bench picture FILE.csv  draws that picture again
 
+use compare::bench::calls::{self as single, BENCHES};
 use compare::bench::process::Program;
 use compare::bench::{batches, curves, kinds, picture};
 use compare::fast;
 use compare::random::Random;
 use compare::sheets::whole_sheet;
-use compare::solutions::{needs, solvable};
 use compare::subject::Library;
 use compare::systems::large_system;
-use outside::polynomial::Polynomial;
 use outside::sheet::{write, Sheet};
-use outside::system::System;
 use std::fs;
 use std::hint::black_box;
 use std::io;
 use std::path::Path;
 use std::time::{Duration, Instant};
-use wurgalm::{Heading, Sizes};
+use wurgalm::Heading;
 
 const SHEETS: usize = 1_000;
-const POLYNOMIALS: usize = 100;
 /// A measurement is the shortest of so many passes.
 const PASSES: usize = 7;
 
@@ -50,29 +48,6 @@ fn large_sheets(random: &mut Random) -> Vec<Vec<u8>> {
     (0..SHEETS).map(|_| one()).collect()
 }
 
-/// Degree 15: half of them products with many roots, half with large coefficients that have few.
-fn polynomials(random: &mut Random) -> Vec<Vec<i64>> {
-    let mut all = Vec::new();
-    while all.len() < POLYNOMIALS {
-        let p = if all.len() % 2 == 0 { product(random) } else { large_coefficients(random) };
-        if p.degree() == 15 && p.size() <= outside::C {
-            all.push(p.coefficients().iter().map(|&a| a as i64).collect());
-        }
-    }
-    all
-}
-
-fn product(random: &mut Random) -> Polynomial {
-    let factors = (0..15).map(|_| Polynomial::linear(random.between(-4, 4)));
-    factors.fold(Polynomial::new(vec![1]), |p, factor| p.times(&factor))
-}
-
-/// (n - r) times a polynomial with coefficients of eight digits, so that there is a root and the search is not cut short.
-fn large_coefficients(random: &mut Random) -> Polynomial {
-    let coefficients = (0..14).map(|_| random.between(-99_999_999, 99_999_999)).chain([1]).collect();
-    Polynomial::new(coefficients).times(&Polynomial::linear(random.pick(&[1, -1, 2])))
-}
-
 // ---- the two sides ----
 
 /// Stores of the largest sizes.
@@ -92,19 +67,6 @@ impl Stores {
         let heading = wurgalm::read_sheet(sheet, &mut stores.rows, &mut stores.relations).expect("a whole sheet");
         (stores, heading)
     }
-
-    /// The largest root of a polynomial, by a run with one unknown and one block.
-    fn root(&mut self, p: &[i64]) -> Option<i64> {
-        self.rows[..p.len()].copy_from_slice(p);
-        let sizes = Sizes { m: 1, equations: 1, l: 0, t: 0 };
-        let report = wurgalm::run_leading(&mut self.rows, &mut self.relations, sizes, 0);
-        report.expect("one nonzero row").root
-    }
-}
-
-/// The largest root of a polynomial, by a run of the fast version.
-fn fast_root(system: &mut fast::System, p: &[i64]) -> Option<i64> {
-    fast::largest_root(system, p)
 }
 
 /// One line of the table. Without the library there is a time of the fast version only.
@@ -115,25 +77,6 @@ fn line(what: &str, library: Option<Duration>, fast: Duration, bytes: Option<usi
     };
     let ratio = library.map_or("-".into(), |time| format!("{:.2}", time.as_secs_f64() / fast.as_secs_f64()));
     println!("| {what} | {} | {} | {ratio} |", library.map_or("-".into(), speed), speed(fast));
-}
-
-/// The same runs with constants tell what a run takes without the search.
-fn root_search(library: bool) {
-    let searched = polynomials(&mut Random::new(2));
-    roots_of("root search, 100 polynomials of degree 15", library, &searched);
-    roots_of("the same 100 runs on constants, without the search", library, &vec![vec![1]; POLYNOMIALS]);
-}
-
-fn roots_of(what: &str, library: bool, polynomials: &[Vec<i64>]) {
-    let mut system = fast::System::new();
-    let mut fast_roots = || -> Vec<_> { polynomials.iter().map(|p| fast_root(&mut system, p)).collect() };
-    let time = library.then(|| {
-        let mut stores = Stores::new();
-        let mut roots = || -> Vec<_> { polynomials.iter().map(|p| stores.root(p)).collect() };
-        assert!(roots() == fast_roots(), "{what}: other roots than the fast version");
-        shortest(|| drop(black_box(roots())))
-    });
-    line(what, time, shortest(|| drop(black_box(fast_roots()))), None);
 }
 
 fn reading_and_writing(library: bool) {
@@ -188,33 +131,6 @@ fn fast_system(sheet: &[u8]) -> Box<fast::System> {
     system
 }
 
-/// Lists of polynomial solutions. The fast version has none; beside the library stands `outside`, whose rows are maps and whose numbers
-/// have 128 bits.
-fn listing(library: bool) {
-    let mut random = Random::new(6);
-    let systems: Vec<System> = (0..SHEETS).map(|_| solvable(&mut random)).collect();
-    let list = |system: &System| {
-        outside::solutions::sides_zero(system, None).and_then(|()| outside::solutions::list(system, None))
-    };
-    let listed = systems.iter().filter(|system| matches!(list(system), Ok(Some(_)))).count();
-    let sheets: Vec<Vec<u8>> =
-        systems.iter().map(|system| write(&Sheet { system: system.clone(), order: Vec::new() })).collect();
-    let time = library.then(|| {
-        let lent: Vec<(Stores, Heading)> = sheets.iter().map(|sheet| Stores::of(sheet)).collect();
-        let [mut rows, mut relations, mut matrix, mut list] = needs(wurgalm::EQUATIONS).map(|need| vec![0; need]);
-        shortest(|| {
-            for (stores, Heading { sizes: Sizes { m, equations, l, t }, relations: count, .. }) in &lent {
-                let Stores { rows: a, relations: b } = stores;
-                let (work, result) = ((&mut rows, &mut relations, &mut matrix), &mut [0; 3]);
-                let (r, s, x) = work;
-                black_box(wurgalm::stores::solutions(a, b, *m, *equations, *l, *t, *count, r, s, x, &mut list, result));
-            }
-        })
-    });
-    let outside = shortest(|| systems.iter().for_each(|system| drop(black_box(list(system)))));
-    line(&format!("polynomial solutions of {SHEETS} systems, {listed} lists, beside `outside`"), time, outside, None);
-}
-
 /// Writes the measured series into a file, and the picture of them beside it.
 fn series(file: &Path) -> io::Result<()> {
     let program = Program::proved(&Library::needed());
@@ -233,9 +149,8 @@ fn draw(file: &Path) -> io::Result<()> {
 fn calls(library: bool) {
     println!("| what | library | fast version | ratio |");
     println!("|---|---:|---:|---:|");
-    root_search(library);
+    single::calls(library);
     reading_and_writing(library);
-    listing(library);
 }
 
 /// The library, where it is built.
@@ -258,12 +173,15 @@ fn main() -> io::Result<()> {
         }
         ["batches", names @ ..] => timed(names),
         ["calls"] => calls(library().is_some()),
+        ["once", side, name] => {
+            BENCHES.iter().filter(|bench| bench.name == *name).for_each(|bench| bench.once(*side == "library", 100));
+        }
         ["kinds"] => batches::contents(),
         ["inputs", folder] => kinds::write_inputs(Path::new(folder))?,
         ["series", file] => series(Path::new(file))?,
         ["picture", file] => draw(Path::new(file))?,
         _ => {
-            eprintln!("bench [batches KIND .. | calls | kinds | inputs FOLDER | series FILE.csv | picture FILE.csv]");
+            eprintln!("bench [batches KIND .. | calls | once SIDE CALL | kinds | inputs FOLDER | series FILE.csv | picture FILE.csv]");
             std::process::exit(2);
         }
     }
