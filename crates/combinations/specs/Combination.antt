@@ -9,11 +9,13 @@
 -- Main statements
 --   combined-trim      trimmed polynomials have a combination with the same coefficients
 --   lowPart-at, lowPart-take    coefficient k of the low part; the low part is the front where there are 16 coefficients
---   past-degrees, high-free, high-found   the test of the coefficients past power 15
+--   front-over, front-rest   numbers written over zeros
+--   past-highest, low-past   what is zero past the highest power that a combination can have
+--   high-free, high-found   the test of the coefficients past power 15
 --   combination-at, polynomials-combination, length-combinations   the polynomials of a combination of rows
 --   low-degrees, trimmed-high   which of them have a degree past 15
---   length-low, trimmed-low, trimmed-zero   the numbers of the low parts: each part, and those that are zero
---   trimmed-zero-low   where both parts are zero, the degree is not past 15
+--   length-low, trimmed-low   the numbers of the low parts, and each part
+--   zero-part, zero-low   where both parts are zero, so is that of the combination
 --   combinations-apart, low-apart   the left parts and the right sides are combined apart
 --   trimmed-fit        what is trimmed stays within the limits
 --   cut-low, StoreRow-cut   the low parts are the cut of the combination
@@ -29,7 +31,7 @@ use native.Mathlib.Omega.{arith}
 use native.Mathlib.Decide.{decLe, decLt}
 use lib.Dec.{T, lit<}
 use lib.IntN.{ℤ, pos, natAbs, _+ℤ_, _*ℤ_}
-use lib.ListN.{length, take, drop, getD, length-take, length-map}
+use lib.ListN.{length, take, drop, getD, replicate, length-take, length-drop, length-map, length-replicate, replicate-append-replicate}
 use lib.Seq.{ext-getD, getD-take, length-take-le, take-at, drop-at}
 use Rattle.algebra.specs.Integers.{natAbs-+ℤ}
 use Rattle.algebra.specs.Gcd.{content, divideBy, length-divideBy}
@@ -53,6 +55,7 @@ use Rattle.rules.specs.Elimination.{within, limitDegrees}
 use Rattle.rules.specs.Layout.{coefficientsAt}
 use Rattle.stores.specs.Flat.{partCount, partsIn, polynomialsOf, polynomials-rowOf, polynomials-mapRow, polynomials-combine}
 use Rattle.stores.specs.Flat.{numbers-mapRow, length-blocks}
+use Rattle.stores.specs.OverZeros.{front}
 use Rattle.combinations.specs.Primitive.{isLow, lowDegrees-every, degrees-within}
 use Rattle.working_rows.specs.Worked.{Held, held, store-row}
 
@@ -89,11 +92,14 @@ combined-trim g p h q =
     add-same (mul (trim g) (trim p)) (mul g p) (mul (trim h) (trim q)) (mul h q)
     (mul-same (trim g) g (trim p) p (coeff-trim g) (coeff-trim p)) (mul-same (trim h) h (trim q) q (coeff-trim h) (coeff-trim q))
 
+-- A factor of a combination: from 1 to 16 coefficients, all within ±C.
+abbrev pub Counted : Polynomial → Type 0
+Counted p = (0 < length p) × (length p ≤ coefficientCount) × T (every small p)
+
 -- A trimmed polynomial r stays within the limits.
-trim-fits : (p r : Polynomial) → r ≡ trim p → length p ≤ coefficientCount → T (every small p)
-    → (length r ≤ coefficientCount) × T (every small r)
+trim-fits : (p r : Polynomial) → r ≡ trim p → Counted p → Counted r
 unfolding trim
-trim-fits p r e h s = rw e (rw length-take (omega arith), every-take small (degree p + 1) p s)
+trim-fits p r e h = rw e (rw length-take (omega arith), rw length-take (omega arith), every-take small (degree p + 1) p (h .2))
 
 -- ---- the coefficients up to power 15 and those past it
 
@@ -149,28 +155,65 @@ high-same p q s = same-test (isZero (drop coefficientCount p)) (isZero (drop coe
     (λ z. high-zero q .1 (λ k h. sym (s k) ∙ high-zero p .0 z k h))
     (λ z. high-zero p .1 (λ k h. s k ∙ high-zero q .0 z k h))
 
--- The loop over the coefficients k from power 16 on, up to the larger sum of degrees.
+-- The highest power that g·p + h·q can have, by the numbers of coefficients.
+abbrev pub highest : Polynomial → Polynomial → Polynomial → Polynomial → ℕ
+highest g p h q = max (length g + length p) (length h + length q) - 2
+
+-- The loop over the coefficients k from power 16 on, up to that power.
 module _ (g p h q : Polynomial) where
   abbrev sum : Polynomial
   sum = add (mul g p) (mul h q)
 
-  pub past-degrees : (k : ℕ) → max (degree g + degree p) (degree h + degree q) < k → coeff sum k ≡ pos 0
-  past-degrees k l =
+  pub past-highest : Counted g × Counted p × Counted h × Counted q → (k : ℕ) → highest g p h q < k → coeff sum k ≡ pos 0
+  past-highest c k l =
       coeff-add (mul g p) (mul h q) k
-      ∙ ap₂ _+ℤ_ (mul-within g p (degree g) (degree p) (coeff-past-degree g) (coeff-past-degree p) k (omega arith))
-      (mul-within h q (degree h) (degree q) (coeff-past-degree h) (coeff-past-degree q) k (omega arith))
+      ∙ ap₂ _+ℤ_
+      (mul-within g p (length g - 1) (length p - 1) (λ i m. coeff-past-length g i (omega arith))
+      (λ i m. coeff-past-length p i (omega arith)) k (omega arith))
+      (mul-within h q (length h - 1) (length q - 1) (λ i m. coeff-past-length h i (omega arith))
+      (λ i m. coeff-past-length q i (omega arith)) k (omega arith))
 
-  pub high-free : (k : ℕ) → max (degree g + degree p) (degree h + degree q) < k
+  -- The low part has zeros from there on.
+  pub low-past : Counted g × Counted p × Counted h × Counted q → (n : ℕ) → highest g p h q < n → T (isZero (drop n (lowPart sum)))
+  unfolding coeff
+  low-past c n l =
+      coeff-isZero (drop n (lowPart sum)) (λ k. coeff-drop n (lowPart sum) k ∙ cases k (decLt (n + k) coefficientCount))
+    where
+      cases : (k : ℕ) → Dec (n + k < coefficientCount) → coeff (lowPart sum) (n + k) ≡ pos 0
+      cases k (yes m) = lowPart-at sum (n + k) m ∙ past-highest c (n + k) (omega arith)
+      cases k (no m) = coeff-past-length (lowPart sum) (n + k) (omega (arith, length-lowPart sum))
+
+  pub high-free : Counted g × Counted p × Counted h × Counted q → (k : ℕ) → highest g p h q < k
       → ((j : ℕ) → j < k → coefficientCount ≤ j → coeff sum j ≡ pos 0)
       → isZero (drop coefficientCount sum) ≡ true
-  high-free k l e = true-of _ (high-zero sum .1 (λ j h. cases j h (decLt j k)))
+  high-free c k l e = true-of _ (high-zero sum .1 (λ j h. cases j h (decLt j k)))
     where
       cases : (j : ℕ) → coefficientCount ≤ j → Dec (j < k) → coeff sum j ≡ pos 0
       cases j h (yes m) = e j m h
-      cases j h (no m) = past-degrees j (omega arith)
+      cases j h (no m) = past-highest c j (omega arith)
 
   pub high-found : (k : ℕ) → coefficientCount ≤ k → coeff sum k ≢ pos 0 → isZero (drop coefficientCount sum) ≡ false
   high-found k l n = false-of _ (λ z. n (high-zero sum .0 z k l))
+
+-- ---- numbers written over zeros
+
+-- Zeros under which the first n members are overwritten.
+pub front-over : (l z : List ℤ) (n : ℕ) → z ≡ replicate (length l) (pos 0) → n ≤ length l → take n l ++ drop n z ≡ front l n
+unfolding front
+front-over l z n e h =
+    let count : length l ≡ n + (length l - n) = omega arith in
+    ap (λ r. take n l ++ r)
+    (ap (drop n) (e ∙ ap (λ m. replicate m (pos 0)) count ∙ sym (replicate-append-replicate n (length l - n) (pos 0)))
+    ∙ drop-at (replicate n (pos 0)) (replicate (length l - n) (pos 0)) n (length-replicate n (pos 0)))
+
+-- What is not written yet holds 0.
+pub front-rest : (l : List ℤ) (n k : ℕ) → n + k ≤ length l → take k (drop n (front l n)) ≡ replicate k (pos 0)
+unfolding front
+front-rest l n k h =
+    let count : length l - n ≡ k + (length l - n - k) = omega arith in
+    ap (take k) (drop-at (take n l) (replicate (length l - n) (pos 0)) n (length-take-le n l (omega arith))
+    ∙ ap (λ m. replicate m (pos 0)) count ∙ sym (replicate-append-replicate k (length l - n - k) (pos 0)))
+    ∙ take-at (replicate k (pos 0)) (replicate (length l - n - k) (pos 0)) k (length-replicate k (pos 0))
 
 -- ---- lengths and sizes
 
@@ -291,6 +334,22 @@ module _ (k : ℕ) (g h : Polynomial) (t u : List ℤ) where
       (low-width (combinations k g h t u)) e l
       ∙ getD-map lowPart (combinations k g h t u) e [] [] (rw length-combinations l)
       ∙ ap lowPart (combination-at e l)
+
+  -- Where both parts at place e are zero, so is the polynomial.
+  module _ (e : ℕ) (l : e < k) (z : (isZero (coefficientsAt t e) && isZero (coefficientsAt u e)) ≡ true) where
+    sum-zero : T (isZero (entryAt e))
+    sum-zero =
+        let both = T-&& (isZero (coefficientsAt t e)) (isZero (coefficientsAt u e)) .0 (subst T (sym z) tt) in
+        isZero-add (mul g (coefficientsAt t e)) (mul h (coefficientsAt u e))
+        (isZero-mul-right g (coefficientsAt t e) (both .0)) (isZero-mul-right h (coefficientsAt u e) (both .1))
+
+    pub zero-part : T (isZero (coefficientsAt (lowNumbers k g h t u) e))
+    zero-part = subst (λ r. T (isZero r)) (sym (low-part e l)) (lowPart-zero (entryAt e) sum-zero)
+
+    pub zero-low : isLow (getD (combinations k g h t u) e []) ≡ true
+    zero-low =
+        ap isLow (combination-at e l)
+        ∙ true-of _ (high-zero (entryAt e) .1 (λ i h. isZero-coeff (entryAt e) sum-zero i))
 
 -- Numbers joined behind a whole number k of polynomials.
 module _ (k m : ℕ) (g h : Polynomial) (t s u v : List ℤ) (long-t : length t ≡ k * coefficientCount)
@@ -413,27 +472,20 @@ module _ {k : ℕ} {g h : Polynomial} {t u : List ℤ} {e n : ℕ} {a p b q : Po
   pub trimmed-low : lowPart (add (mul a p) (mul b q)) ≡ coefficientsAt (lowNumbers k g h t u) e
   trimmed-low = lowPart-same (add (mul a p) (mul b q)) (entryAt k g h t u e) trimmed-same ∙ sym (low-part k g h t u e (made .below))
 
-  -- Where both parts are zero, so is the polynomial.
-  sum-zero : (isZero p && isZero q) ≡ true → T (isZero (add (mul a p) (mul b q)))
-  sum-zero z =
-      let both = T-&& (isZero p) (isZero q) .0 (subst T (sym z) tt) in
-      isZero-add (mul a p) (mul b q) (isZero-mul-right a p (both .0)) (isZero-mul-right b q (both .1))
-
-  pub trimmed-zero : (isZero p && isZero q) ≡ true → T (isZero (coefficientsAt (lowNumbers k g h t u) e))
-  trimmed-zero z = subst (λ l. T (isZero l)) trimmed-low (lowPart-zero (add (mul a p) (mul b q)) (sum-zero z))
-
-  pub trimmed-zero-low : (isZero p && isZero q) ≡ true → isLow (getD (combinations k g h t u) e []) ≡ true
-  trimmed-zero-low z =
-      sym trimmed-high
-      ∙ true-of _ (high-zero (add (mul a p) (mul b q)) .1 (λ i h. isZero-coeff (add (mul a p) (mul b q)) (sum-zero z) i))
-
   pub trimmed-fit : (length g ≡ coefficientCount) × T (every small g) × (length h ≡ coefficientCount) × T (every small h)
+      → (e * coefficientCount + coefficientCount ≤ length t) × (e * coefficientCount + coefficientCount ≤ length u)
       → T (every small t) × T (every small u)
-      → ((length a ≤ coefficientCount) × T (every small a) × (length p ≤ coefficientCount) × T (every small p))
-      × ((length b ≤ coefficientCount) × T (every small b) × (length q ≤ coefficientCount) × T (every small q))
-  trimmed-fit m r =
-      let fit-a = trim-fits g a (made .at-g) (omega arith) (m .1) in
-      let fit-p = trim-fits _ p (made .at-t) (rw length-take (omega arith)) (every-part small (e * coefficientCount) n t (r .0)) in
-      let fit-b = trim-fits h b (made .at-h) (omega arith) (m .3) in
-      let fit-q = trim-fits _ q (made .at-u) (rw length-take (omega arith)) (every-part small (e * coefficientCount) n u (r .1)) in
-      ((fit-a .0, fit-a .1, fit-p .0, fit-p .1), (fit-b .0, fit-b .1, fit-q .0, fit-q .1))
+      → Counted a × Counted p × Counted b × Counted q
+  trimmed-fit m l r =
+      let part : (v : List ℤ) → e * coefficientCount + coefficientCount ≤ length v → T (every small v)
+      → Counted (take n (drop (e * coefficientCount) v))
+      = λ v long s. (
+        rw (length-take, length-drop) (omega (arith, made .width)),
+        rw (length-take, length-drop) (omega (arith, made .width)),
+        every-part small (e * coefficientCount) n v s,
+      ) in (
+        trim-fits g a (made .at-g) (omega arith, omega arith, m .1),
+        trim-fits _ p (made .at-t) (part t (l .0) (r .0)),
+        trim-fits h b (made .at-h) (omega arith, omega arith, m .3),
+        trim-fits _ q (made .at-u) (part u (l .1) (r .1)),
+      )

@@ -5,21 +5,21 @@ use working_rows::WorkingRow;
 ghost use mathlib.Core.Path.{_≡_};
 ghost use mathlib.Core.Bool.{false, not, _&&_};
 ghost use mathlib.Core.List.{_++_};
-ghost use Prim.Native.Nat.{_+_, _*_, _/_, _^_, _≤_, _<_, max};
+ghost use Prim.Native.Nat.{_+_, _*_, _/_, _^_, _≤_, _<_};
 ghost use lib.Dec.{T};
 ghost use lib.IntN.{pos};
-ghost use lib.ListN.{length, drop, replicate};
-ghost use Rattle.algebra.specs.Polynomials.{isZero, degree, add, mul};
-ghost use Rattle.rules.specs.Limits.{small, coefficientCount};
+ghost use lib.ListN.{length, take, replicate};
+ghost use Rattle.algebra.specs.Polynomials.{isZero, add, mul};
+ghost use Rattle.rules.specs.Limits.{small, coefficientCount, rowLength};
 ghost use Rattle.rules.specs.Rows.{combine, primitive};
 ghost use Rattle.lists.specs.Tests.{every};
 ghost use Rattle.rules.specs.Stores.{rowOf};
 ghost use Rattle.rules.specs.Elimination.{limitCoefficients, limitDegrees, consistent};
 ghost use Rattle.working_rows.specs.Working.{numbersHeld, Full};
 ghost use Rattle.working_rows.specs.Worked.{refusalOf, workedRow};
-ghost use Rattle.combinations.specs.Combination.{trim, lowPart, combinations, lowNumbers};
+ghost use Rattle.combinations.specs.Combination.{trim, lowPart, combinations, lowNumbers, Counted, highest};
 ghost use Rattle.combinations.specs.Primitive.{isLow, primitiveNumbers};
-ghost use Rattle.combinations.specs.LowRows.{LowRow, ContentOf};
+ghost use Rattle.combinations.specs.LowRows.{RowParts, LowRow, ContentOf};
 ghost use Rattle.polynomials.specs.Content.{Below};
 
 // The coefficients up to the highest nonzero one.
@@ -33,26 +33,25 @@ fn trimmed(p: &[i64]) -> &[i64]
 
 // No coefficient of g·p + h·q past this power is left.
 fn top(g: &[i64], p: &[i64], h: &[i64], q: &[i64]) -> usize
-    requires { ⌜
-        (length (now g) ≤ coefficientCount) × (length (now p) ≤ coefficientCount) × (length (now h) ≤ coefficientCount)
-        × (length (now q) ≤ coefficientCount) ⌝ }
-    ensures { λ r. ⌜ r ≡ max (degree (now (g .entry)) + degree (now (p .entry))) (degree (now (h .entry)) + degree (now (q .entry))) ⌝ }
+    requires { ⌜ Counted (now g) × Counted (now p) × Counted (now h) × Counted (now q) ⌝ }
+    ensures { λ r. ⌜ r ≡ highest (now (g .entry)) (now (p .entry)) (now (h .entry)) (now (q .entry)) ⌝ }
 {
-    let first = polynomials::content::degree(g) + polynomials::content::degree(p);
-    let second = polynomials::content::degree(h) + polynomials::content::degree(q);
-    if first < second { second } else { first }
+    let first = g.len() + p.len();
+    let second = h.len() + q.len();
+    if first < second {
+        second - 2
+    } else {
+        first - 2
+    }
 }
 
-// Has g·p + h·q a degree past 15?
-fn passes(g: &[i64], p: &[i64], h: &[i64], q: &[i64]) -> bool
-    requires { ⌜
-        (length (now g) ≤ coefficientCount) × T (every small (now g)) × (length (now p) ≤ coefficientCount) × T (every small (now p)) ⌝ }
-    requires { ⌜
-        (length (now h) ≤ coefficientCount) × T (every small (now h)) × (length (now q) ≤ coefficientCount) × T (every small (now q)) ⌝ }
+// Has g·p + h·q a degree past 15? Its coefficients past `most` are zero.
+fn passes(g: &[i64], p: &[i64], h: &[i64], q: &[i64], most: usize) -> bool
+    requires { ⌜ Counted (now g) × Counted (now p) × Counted (now h) × Counted (now q) ⌝ }
+    requires { ⌜ most ≡ highest (now g) (now p) (now h) (now q) ⌝ }
     ensures { λ r. ⌜
-        r ≡ not (isZero (drop coefficientCount (add (mul (now (g .entry)) (now (p .entry))) (mul (now (h .entry)) (now (q .entry)))))) ⌝ }
+        r ≡ not (isLow (add (mul (now (g .entry)) (now (p .entry))) (mul (now (h .entry)) (now (q .entry))))) ⌝ }
 {
-    let most = top(g, p, h, q);
     let mut k = COEFFICIENTS;
     while k <= most {
         if polynomials::product::combined_coefficient(g, p, h, q, k) != 0 {
@@ -66,21 +65,44 @@ fn passes(g: &[i64], p: &[i64], h: &[i64], q: &[i64]) -> bool
 fn both_zero(p: &[i64], q: &[i64]) -> bool
     ensures { λ r. ⌜ r ≡ (isZero (now (p .entry)) && isZero (now (q .entry))) ⌝ }
 {
-    polynomials::content::is_zero(p) && polynomials::content::is_zero(q)
+    polynomials::content::all_zero(p) && polynomials::content::all_zero(q)
 }
 
-// The low coefficients of g·p + h·q.
+// As many of the lowest coefficients of g·p + h·q as there are places.
 fn put_combined(place: &mut [i64], g: &[i64], p: &[i64], h: &[i64], q: &[i64])
-    requires { ⌜ length (now place) ≡ coefficientCount ⌝ }
-    requires { ⌜ (length (now g) ≤ coefficientCount) × T (every small (now g)) × T (every small (now p)) ⌝ }
-    requires { ⌜ (length (now h) ≤ coefficientCount) × T (every small (now h)) × T (every small (now q)) ⌝ }
-    ensures { λ _. ⌜ now (place .exit) ≡ lowPart (add (mul (now (g .entry)) (now (p .entry))) (mul (now (h .entry)) (now (q .entry)))) ⌝ }
+    requires { ⌜ length (now place) ≤ coefficientCount ⌝ }
+    requires { ⌜ Counted (now g) × Counted (now p) × Counted (now h) × Counted (now q) ⌝ }
+    ensures { λ _. ⌜ now (place .exit) ≡ take (length (now (place .entry)))
+        (lowPart (add (mul (now (g .entry)) (now (p .entry))) (mul (now (h .entry)) (now (q .entry))))) ⌝ }
 {
     let mut k = 0;
-    while k < COEFFICIENTS {
+    while k < place.len() {
         place[k] = polynomials::product::combined_coefficient(g, p, h, q, k);
         k += 1;
     }
+}
+
+// The coefficients of g·p + h·q, over zeros, unless its degree is past 15: is it? Those past the highest power that it can have are
+// not worked out.
+fn put_low(place: &mut [i64], g: &[i64], p: &[i64], h: &[i64], q: &[i64]) -> bool
+    requires { ⌜ now place ≡ replicate coefficientCount (pos 0) ⌝ }
+    requires { ⌜ Counted (now g) × Counted (now p) × Counted (now h) × Counted (now q) ⌝ }
+    ensures { λ r. ⌜
+        r ≡ not (isLow (add (mul (now (g .entry)) (now (p .entry))) (mul (now (h .entry)) (now (q .entry))))) ⌝ }
+    ensures { λ r. ⌜ (r ≡ false → now (place .exit)
+        ≡ lowPart (add (mul (now (g .entry)) (now (p .entry))) (mul (now (h .entry)) (now (q .entry))))) ⌝ }
+{
+    let most = top(g, p, h, q);
+    if most < COEFFICIENTS {
+        let count = most + 1;
+        put_combined(&mut place[..count], g, p, h, q);
+        return false;
+    }
+    if passes(g, p, h, q, most) {
+        return true;
+    }
+    put_combined(place, g, p, h, q);
+    false
 }
 
 // The low coefficients of the combinations of the polynomials of two lists of numbers, over zeros, up to the first whose degree is past 15:
@@ -109,13 +131,12 @@ pub fn low_combination(
     while e < count {
         let from = e * COEFFICIENTS;
         let to = from + COEFFICIENTS;
-        let p = trimmed(&target[from..to]);
-        let q = trimmed(&pivot[from..to]);
+        let p = &target[from..to];
+        let q = &pivot[from..to];
         if !both_zero(p, q) {
-            if passes(a, p, b, q) {
+            if put_low(&mut place[from..to], a, trimmed(p), b, trimmed(q)) {
                 return true;
             }
-            put_combined(&mut place[from..to], a, p, b, q);
         }
         e += 1;
     }
@@ -153,26 +174,24 @@ struct Low {
     right: [i64; COEFFICIENTS],
 }
 
-fn low_row(g: &[i64], h: &[i64], target: WorkingRow, pivot: WorkingRow) -> Low
+// The left part and the right side of each row are handed in apart.
+fn low_row(g: &[i64], h: &[i64], target: &[i64], side: &[i64], pivot: &[i64], other: &[i64]) -> Low
     requires { ⌜
         (length (now g) ≡ coefficientCount) × T (every small (now g)) × (length (now h) ≡ coefficientCount) × T (every small (now h)) ⌝ }
-    requires { ⌜ Full target × Full pivot × T (every small (numbersHeld target)) × T (every small (numbersHeld pivot)) ⌝ }
-    ensures { λ r. ⌜ LowRow (combine (now (g .entry)) (now (h .entry)) (rowOf (numbersHeld target)) (rowOf (numbersHeld pivot))) r ⌝ }
+    requires { ⌜ RowParts (now target) (now side) × RowParts (now pivot) (now other) ⌝ }
+    ensures { λ r. ⌜ LowRow (combine (now (g .entry)) (now (h .entry))
+        (rowOf (now (target .entry) ++ now (side .entry))) (rowOf (now (pivot .entry) ++ now (other .entry)))) r ⌝ }
 {
-    let a = target.entries;
-    let b = pivot.entries;
     let mut entries = [0i64; ENTRIES];
     let mut right = [0i64; COEFFICIENTS];
-    if low_combination(&mut entries, g, h, &a[..], &b[..]) {
+    if low_combination(&mut entries, g, h, target, pivot) {
         return Low {
             past: true,
             entries,
             right,
         };
     }
-    let s = target.right;
-    let t = pivot.right;
-    let past = low_combination(&mut right, g, h, &s[..], &t[..]);
+    let past = low_combination(&mut right, g, h, side, other);
     Low {
         past,
         entries,
@@ -183,21 +202,24 @@ fn low_row(g: &[i64], h: &[i64], target: WorkingRow, pivot: WorkingRow) -> Low
 // g × target + h × pivot, divided by its content (SCOPE 2.41, 2.42). A degree past 15 is refused with 7; if there is
 // none, a coefficient past ±C with 8; a row whose left part alone is zero with 10 (SCOPE 2.43, 2.44, 2.46). The division does not
 // change a degree, so the degrees are looked at first.
-pub fn combined(
-    g: &[i64],
-    h: &[i64],
-    target: WorkingRow,
-    pivot: WorkingRow,
-) -> working_rows::limits::Worked
+pub fn combined(g: &[i64], h: &[i64], target: &[i64], pivot: &[i64]) -> working_rows::limits::Worked
     requires { ⌜
         (length (now g) ≡ coefficientCount) × T (every small (now g)) × (length (now h) ≡ coefficientCount) × T (every small (now h)) ⌝ }
-    requires { ⌜ Full target × Full pivot × T (every small (numbersHeld target)) × T (every small (numbersHeld pivot)) ⌝ }
+    requires { ⌜
+        (length (now target) ≡ rowLength) × (length (now pivot) ≡ rowLength) × T (every small (now target)) × T (every small (now pivot)) ⌝ }
     ensures { λ r. ⌜ r .refusal ≡ refusalOf (consistent (limitDegrees (primitive
-        (combine (now (g .entry)) (now (h .entry)) (rowOf (numbersHeld target)) (rowOf (numbersHeld pivot)))))) ⌝ }
+        (combine (now (g .entry)) (now (h .entry)) (rowOf (now (target .entry))) (rowOf (now (pivot .entry))))))) ⌝ }
     ensures { λ r. ⌜ r .row ≡ workedRow (consistent (limitDegrees (primitive
-        (combine (now (g .entry)) (now (h .entry)) (rowOf (numbersHeld target)) (rowOf (numbersHeld pivot)))))) ⌝ }
+        (combine (now (g .entry)) (now (h .entry)) (rowOf (now (target .entry))) (rowOf (now (pivot .entry))))))) ⌝ }
 {
-    let low = low_row(g, h, target, pivot);
+    let low = low_row(
+        g,
+        h,
+        &target[..ENTRIES],
+        &target[ENTRIES..],
+        &pivot[..ENTRIES],
+        &pivot[ENTRIES..],
+    );
     if low.past {
         return working_rows::limits::broken(7);
     }
@@ -214,7 +236,11 @@ pub fn combined_content(g: &[i64], h: &[i64], target: WorkingRow, pivot: Working
     ensures { λ r. ⌜ ContentOf
         (combine (now (g .entry)) (now (h .entry)) (rowOf (numbersHeld target)) (rowOf (numbersHeld pivot))) r ⌝ }
 {
-    let low = low_row(g, h, target, pivot);
+    let a = target.entries;
+    let s = target.right;
+    let b = pivot.entries;
+    let t = pivot.right;
+    let low = low_row(g, h, &a[..], &s[..], &b[..], &t[..]);
     if low.past {
         return 0;
     }

@@ -20,14 +20,14 @@ use mathlib.Core.Logic.{_≢_}
 use mathlib.Core.Bool.{true, false, true≢false}
 use mathlib.Core.List.{List, [], flatten}
 use lib.Dec.{T}
-use lib.IntN.{ℤ, pos, natAbs}
+use lib.IntN.{ℤ, pos, natAbs, _+ℤ_}
 use lib.ListN.{length, getD, take, drop}
 use lib.Signed.{remZ}
 use Rattle.lists.specs.Tests.{every, every-from-all, every-false, every-flatten, true-of, true-T}
 use Rattle.algebra.specs.Divisors.{divides, divides-dvd}
 use Rattle.algebra.specs.Gcd.{content, divideBy, divides-content, length-divideBy}
 use Rattle.algebra.specs.Polynomials.{Polynomial, coeff, add, mul}
-use Rattle.algebra.specs.Coefficients.{coeff-past-length}
+use Rattle.algebra.specs.Coefficients.{coeff-past-length, coeff-add, mul-within}
 use Rattle.rules.specs.Limits.{coefficientCount, rowLength}
 use Rattle.rules.specs.Rows.{Row, mapRow, coefficientsOf, combine, lowDegrees, cut}
 use Rattle.rules.specs.Stores.{rowOf, StoreRow}
@@ -36,7 +36,7 @@ use Rattle.rules.specs.Elimination.{beyond, limitCoefficients, limitDegrees}
 use Rattle.stores.specs.Flat.{partCount, polynomialsOf, polynomials-mapRow, numbers-polynomials}
 use Rattle.working_rows.specs.Worked.{held}
 use Rattle.combinations.specs.Primitive.{isLow, lowDegrees-every, divided-every, cut-divided, degrees-within}
-use Rattle.combinations.specs.Combination.{combinations, combination-at, polynomials-combination, past-degrees, degree-below, StoreRow-cut}
+use Rattle.combinations.specs.Combination.{combinations, combination-at, polynomials-combination, StoreRow-cut}
 use Rattle.reduction.specs.NewRows.{Storable, degrees-storable}
 use Rattle.logs.specs.Logs.{dividesAll}
 use Rattle.logs.specs.Changes.{dividesAll-all}
@@ -51,14 +51,11 @@ sumOf g p h q = add (mul g p) (mul h q)
 pub past-sum : (g p h q : Polynomial) → length g ≤ coefficientCount → length p ≤ coefficientCount → length h ≤ coefficientCount
     → length q ≤ coefficientCount → (k : ℕ) → 31 ≤ k → coeff (sumOf g p h q) k ≡ pos 0
 past-sum g p h q a b c d k l =
-    past-degrees g p h q k
-    (omega (
-      arith,
-      degree-below g coefficientCount a (omega arith),
-      degree-below p coefficientCount b (omega arith),
-      degree-below h coefficientCount c (omega arith),
-      degree-below q coefficientCount d (omega arith),
-    ))
+    coeff-add (mul g p) (mul h q) k ∙ ap₂ _+ℤ_ (past g p a b) (past h q c d)
+  where
+    past : (f q : Polynomial) → length f ≤ coefficientCount → length q ≤ coefficientCount → coeff (mul f q) k ≡ pos 0
+    past f q a b =
+        mul-within f q 15 15 (λ i m. coeff-past-length f i (omega arith)) (λ i m. coeff-past-length q i (omega arith)) k (omega arith)
 
 -- The first k coefficients are divided, and there are no others.
 pub sum-divided : (d : ℤ) (l : Polynomial) (k : ℕ) → ((j : ℕ) → j < k → remZ (coeff l j) d ≡ pos 0)

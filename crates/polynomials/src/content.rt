@@ -79,6 +79,16 @@ pub fn lowest(p: &[i64]) -> i64
     0
 }
 
+// The greatest common divisor of d and a coefficient; a zero changes nothing, and costs no division.
+fn with_divisor(d: u64, a: i64) -> u64
+    ensures { λ r. ⌜ r ≡ Gcd.gcd (natAbs a) d ⌝ }
+{
+    if a == 0 {
+        return d;
+    }
+    integers::gcd(integers::magnitude(a), d)
+}
+
 // Once the greatest common divisor is 1, the coefficients that are left do not matter.
 pub fn content(p: &[i64]) -> u64
     ensures { λ r. ⌜ r ≡ Gcd.content (now (p .entry)) ⌝ }
@@ -86,7 +96,7 @@ pub fn content(p: &[i64]) -> u64
     let mut d = 0;
     let mut i = 0;
     while i < p.len() {
-        d = integers::gcd(integers::magnitude(p[i]), d);
+        d = with_divisor(d, p[i]);
         if d == 1 {
             return 1;
         }

@@ -13,6 +13,7 @@ ghost use lib.ListN.{length};
 ghost use Rattle.algebra.specs.Polynomials.{isZero};
 ghost use Rattle.rules.specs.Limits.{columnCount, mostEquations, entriesLength, rowLength, small};
 ghost use Rattle.rules.specs.Rows.{entry};
+ghost use Rattle.rules.specs.Rows as Rows;
 ghost use Rattle.lists.specs.Tests.{every};
 ghost use Rattle.rules.specs.Elimination as Elimination;
 ghost use Rattle.rules.specs.Stores.{rowOf};
@@ -23,7 +24,7 @@ ghost use Rattle.sides.specs.Lent.{sideOf};
 ghost use Rattle.reduction.specs.Progress.{Ready, Reached, stateOf, answerOf, droppedProgress, settledProgress, shiftedProgress};
 ghost use Rattle.reduction.specs.NewRows.{saved};
 ghost use Rattle.reduction.specs.Dropping.{dropped};
-ghost use Rattle.reduction.specs.StoreExchange.{narrowed, Loaded};
+ghost use Rattle.reduction.specs.StoreExchange.{numbersAt, narrowed};
 ghost use Rattle.reduction.specs.StepLaws.{metEntries, shiftedRow};
 
 // How far a run has come: the rows that are left, the settled ones with their columns, counted from 0, the relations listed and the
@@ -76,7 +77,7 @@ pub fn put_limited(
 
 // The multipliers of rule 2, from the entries of both rows in column c, and the roots of g (SCOPE 2.23 to 2.28).
 pub fn multipliers_at(target: &[i64], pivot: &[i64], c: usize) -> common_roots::Amended
-    requires { ⌜ (c < columnCount) × (length (now target) ≡ entriesLength) × (length (now pivot) ≡ entriesLength) ⌝ }
+    requires { ⌜ (c < columnCount) × (entriesLength ≤ length (now target)) × (entriesLength ≤ length (now pivot)) ⌝ }
     requires { ⌜ T (every small (now target)) × T (every small (now pivot)) ⌝ }
     requires { ⌜ T (not (isZero (entry (rowOf (now pivot)) c ++ entry (rowOf (now target)) c))) ⌝ }
     ensures { λ r. ⌜ r
@@ -152,12 +153,9 @@ fn combine_step(
     relations: &mut [i64],
     side: Side,
     j: usize,
-    target: WorkingRow,
-    pivot: WorkingRow,
     p: Progress,
 ) -> Outcome
     requires { ⌜ Ready (now rows) (now relations) p × (p .settled < p .rows) × (j < p .settled) ⌝ }
-    requires { ⌜ Loaded (now rows) (p .settled) target × Loaded (now rows) j pivot ⌝ }
     requires { ⌜ T (not (isZero (metEntries (now rows) p j))) ⌝ }
     ensures { λ r. ⌜ Reached (p .rows) (now (rows .entry)) (now (relations .entry)) (now (rows .exit)) (now (relations .exit)) (p .shifts + 1) r
         (Elimination.combineStep (sideOf side) (stateOf (now (rows .entry)) (now (relations .entry)) p) (p .settled) j
@@ -167,9 +165,9 @@ fn combine_step(
     let i = p.settled;
     let order = p.order;
     let c = order[j];
-    let a = target.entries;
-    let b = pivot.entries;
-    let x = multipliers_at(&a[..], &b[..], c);
+    let target = stores::rows::row_at(rows, i * ROW);
+    let pivot = stores::rows::row_at(rows, j * ROW);
+    let x = multipliers_at(target, pivot, c);
     let g = x.g;
     let h = x.h;
     let found = x.roots;
@@ -177,8 +175,8 @@ fn combine_step(
     if 16 < count {
         return answer(9, p);
     }
-    let row = stores::rows::row_at(rows, i * ROW);
-    sides::listing::list_roots(relations, p.count, found, side, row);
+    sides::listing::list_roots(relations, p.count, found, side, target);
+    let new = combinations::combined(&g[..], &h[..], target, pivot);
     let next = Progress {
         rows: p.rows,
         settled: i,
@@ -186,12 +184,7 @@ fn combine_step(
         count,
         shifts: p.shifts,
     };
-    put_limited(
-        rows,
-        i,
-        combinations::combined(&g[..], &h[..], target, pivot),
-        next,
-    )
+    put_limited(rows, i, new, next)
 }
 
 // Rule 2 for the row that is worked on and settled row j: if the settled row is the wider, the two change places first (SCOPE 2.22).
@@ -200,12 +193,12 @@ fn eliminate_step(
     relations: &mut [i64],
     side: Side,
     j: usize,
-    row: WorkingRow,
+    width: usize,
     p: Progress,
 ) -> Outcome
     requires { ⌜
         Ready (now rows) (now relations) p × (p .settled < p .rows) × (j < p .settled)
-        × Loaded (now rows) (p .settled) row ⌝ }
+        × (width ≡ Rows.width (rowOf (numbersAt (now rows) (p .settled)))) ⌝ }
     requires { ⌜ T (not (isZero (metEntries (narrowed (now rows) (p .settled) j) p j))) ⌝ }
     ensures { λ r. ⌜ Reached (p .rows) (now (rows .entry)) (now (relations .entry)) (now (rows .exit)) (now (relations .exit)) (p .shifts + 1) r
         (Elimination.combineStep (sideOf side)
@@ -214,14 +207,10 @@ fn eliminate_step(
         (stateOf (narrowed (now (rows .entry)) (p .settled) j) (now (relations .entry)) p) (p .settled) j)) ⌝ }
     ensures { λ r. ⌜ r .done ≡ false ⌝ }
 {
-    let i = p.settled;
-    let other = working_rows::stored::load(rows, j * ROW);
-    if row.width < other.width {
-        working_rows::stored::save(rows, j * ROW, row);
-        working_rows::stored::save(rows, i * ROW, other);
-        return combine_step(rows, relations, side, j, other, row, p);
+    if width < crate::looking::width_at(rows, j) {
+        crate::exchanging::exchange(rows, p.settled, j);
     }
-    combine_step(rows, relations, side, j, row, other, p)
+    combine_step(rows, relations, side, j, p)
 }
 
 // One dropped row, one exchange with its combination, one combination, one settling or one shift (SCOPE 2.2, 2.11, 2.12, 2.26). A step
@@ -233,24 +222,23 @@ pub fn step(rows: &mut [i64], relations: &mut [i64], side: Side, p: Progress) ->
     ensures { λ r. ⌜ r .done ≡ false ⌝ }
 {
     let i = p.settled;
-    let row = working_rows::stored::load(rows, i * ROW);
-    let right = row.right;
-    if row.width == 0 {
-        if polynomials::content::is_zero(&right[..]) {
+    let width = crate::looking::width_at(rows, i);
+    if width == 0 {
+        if crate::looking::side_zero_at(rows, i) {
             return drop_step(rows, p);
         }
         return answer(10, p);
     }
-    let entries = row.entries;
     let order = p.order;
-    let j = working_rows::entries::first_met(&entries[..], order, i);
+    let j = crate::looking::met_at(rows, i, order, i);
     if j < i {
-        return eliminate_step(rows, relations, side, j, row, p);
+        return eliminate_step(rows, relations, side, j, width, p);
     }
-    let c = working_rows::entries::first_column(&entries[..]);
+    let c = crate::looking::column_at(rows, i);
     if c < COLUMNS {
         answer(0, settled(c, p))
     } else {
+        let row = working_rows::stored::load(rows, i * ROW);
         shift_step(rows, row, p)
     }
 }

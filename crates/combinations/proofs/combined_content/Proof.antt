@@ -14,6 +14,7 @@ use Rattle.rules.specs.Rows.{Row, combine, lowDegrees}
 use Rattle.rules.specs.Stores.{rowOf}
 use Rattle.working_rows.specs.Working.{numbersHeld}
 use Rattle.combinations.specs.Combination.{below-append}
+use Rattle.combinations.specs.LowRows.{parts-held}
 use Rattle.combinations.specs.Primitive.{content-cut, content-below}
 use Rattle.combinations.proofs.combined_content.Statement.{statement}
 use Rattle.combinations.proofs.combined_content.Tie as tie
@@ -24,13 +25,30 @@ module _ (c : tie.Start) where
   combination =
       combine (now (c .args .g)) (now (c .args .h)) (rowOf (numbersHeld (c .args .target))) (rowOf (numbersHeld (c .args .pivot)))
 
+abbrev origin : tie.After-low-row → tie.Start
+origin c = c .before .before .before .before .before .before .before .before .before
+
+slice-aggregate-low-row : tie.Need-slice-aggregate-low-row
+slice-aggregate-low-row c = search needs
+
+slice-aggregate-low-row-2 : tie.Need-slice-aggregate-low-row-2
+slice-aggregate-low-row-2 c = search needs
+
+slice-aggregate-low-row-3 : tie.Need-slice-aggregate-low-row-3
+slice-aggregate-low-row-3 c = search needs
+
+slice-aggregate-low-row-4 : tie.Need-slice-aggregate-low-row-4
+slice-aggregate-low-row-4 c = search needs
+
 low-row-requires : tie.Need-low-row-requires
-low-row-requires c κs = search needs
+low-row-requires c κs =
+    let b = c .before .before .before .before .before .before .before .before in
+    (b .pre .0, (parts-held (b .args .target) (b .pre .1 .0) (b .pre .1 .2), parts-held (b .args .pivot) (b .pre .1 .1) (b .pre .1 .3)))
 
 returns : tie.Need-returns
 returns c =
     let d = c .before in
-    let past : lowDegrees (combination (d .before)) ≡ false = not-true _ (sym (d .low-row .ensures .tested) ∙ c .if1 .taken) in
+    let past : lowDegrees (combination (origin d)) ≡ false = not-true _ (sym (d .low-row .ensures .tested) ∙ c .if1 .taken) in
     record { content-is = λ low. let z : _≡_ {A = ℕ} 0 1 = cc in absurd (omega arith); below = lit< tt }
 
 slice-aggregate-content-of-both : tie.Need-slice-aggregate-content-of-both
@@ -48,7 +66,7 @@ returns-2 c =
     let low = tested .before .low-row .result in
     let made = tested .before .low-row .ensures in
     let left = tested .if1 .left in
-    let r = combination (tested .before .before) in
+    let r = combination (origin (tested .before)) in
     record {
       content-is =
           λ e. c .content-of-both .ensures ∙ ap content (made .numbers left) ∙ content-cut r (subst T (sym e) tt);
@@ -62,6 +80,10 @@ pub combined-content-spec : {M : Type 1} → statement M
 combined-content-spec =
     tie.close
     (tie.spec
+    slice-aggregate-low-row
+    slice-aggregate-low-row-2
+    slice-aggregate-low-row-3
+    slice-aggregate-low-row-4
     low-row-requires
     returns
     slice-aggregate-content-of-both

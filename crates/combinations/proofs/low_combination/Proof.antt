@@ -3,23 +3,24 @@
 -- Assumes nothing.
 use mathlib.Core.Path.{_≡_, refl, sym, _∙_, ap, ap₂}
 use mathlib.Core.Logic.{⊎-elim}
-use mathlib.Core.Bool.{Bool, true, false, not}
+use mathlib.Core.Bool.{Bool, true, false, not, _&&_}
 use mathlib.Core.List.{List, []}
 use Prim.Native.Nat.{ℕ, _+_, _*_, _/_, _≤_, _<_, _-_}
 use native.Mathlib.Omega.{arith}
 use borrow.Author.Needs.{needs}
 use borrow.Author.Tests.{not-true, not-false}
-use borrow.Rule.Slice.PartMut.{putMid}
+use borrow.Rule.Slice.PartMut.{putMid, same-len-mid}
 use denote.Ref.{now}
 use lib.IntN.{ℤ, pos}
-use lib.ListN.{length, take, getD, replicate, length-replicate}
+use lib.ListN.{length, take, drop, getD, replicate, length-replicate}
 use lib.Seq.{take-all}
-use Rattle.algebra.specs.Polynomials.{Polynomial, add, mul}
+use Rattle.algebra.specs.Polynomials.{Polynomial, isZero, add, mul}
 use Rattle.lists.specs.Tests.{every, every-longer, every-false}
 use Rattle.rules.specs.Limits.{coefficientCount}
+use Rattle.rules.specs.Layout.{coefficientsAt}
 use Rattle.stores.specs.OverZeros.{front, length-front, front-none, front-whole, front-put, front-skip}
 use Rattle.combinations.specs.Combination.{lowPart, combinations, lowNumbers, length-combinations, length-low, trimmed-high, trimmed-low}
-use Rattle.combinations.specs.Combination.{trimmed-zero, trimmed-zero-low, Trimmed, trimmed-fit}
+use Rattle.combinations.specs.Combination.{zero-part, zero-low, front-rest, Trimmed, trimmed-fit}
 use Rattle.combinations.specs.Primitive.{isLow}
 use Rattle.combinations.proofs.low_combination.Statement.{statement}
 use Rattle.combinations.proofs.low_combination.Tie as tie
@@ -38,10 +39,10 @@ Inv-loop place₀ g h target pivot a b count e₀ place e =
 abbrev μ-loop : tie.MeasureT-loop
 μ-loop place₀ g h target pivot a b count e₀ place e = count - e
 
--- the polynomials that are combined at place e
+-- the parts at place e
 module _ (c : tie.After-both-zero Inv-loop μ-loop) where
   abbrev at : tie.At-loop Inv-loop μ-loop
-  at = c .before .before .before .before .before .before
+  at = c .before .before .before .before
 
   abbrev start : tie.Start Inv-loop μ-loop
   start = at .before .before .before
@@ -55,51 +56,91 @@ module _ (c : tie.After-both-zero Inv-loop μ-loop) where
   abbrev target : List ℤ
   target = now (start .args .target)
 
+  abbrev pivot : List ℤ
+  pivot = now (start .args .pivot)
+
+  abbrev count : ℕ
+  count = length target / coefficientCount
+
+  abbrev g : Polynomial
+  g = now (start .args .g)
+
+  abbrev h : Polynomial
+  h = now (start .args .h)
+
   abbrev ps : List Polynomial
-  ps = polynomials (now (start .args .g)) (now (start .args .h)) target (now (start .args .pivot))
+  ps = polynomials g h target pivot
 
   abbrev full : List ℤ
-  full = numbers (now (start .args .g)) (now (start .args .h)) target (now (start .args .pivot))
-
-  abbrev p : Polynomial
-  p = now (c .before .before .before .trimmed3 .result)
-
-  abbrev q : Polynomial
-  q = now (c .before .trimmed4 .result)
+  full = numbers g h target pivot
 
   full-long : length full ≡ length target
-  full-long =
-      length-low (length target / coefficientCount) (now (start .args .g)) (now (start .args .h)) target (now (start .args .pivot))
-      ∙ sym (start .pre .1 .0)
+  full-long = length-low count g h target pivot ∙ sym (start .pre .1 .0)
 
-  made : Trimmed (length target / coefficientCount) (now (start .args .g)) (now (start .args .h)) target (now (start .args .pivot)) e width
-      (now (at .before .before .trimmed .result)) p (now (at .before .trimmed2 .result)) q
-  made = search needs
+  inside : e < count
+  inside = omega (arith, at .loop .inv .0, c .before .before .before .loop-test .taken)
+
+  room : e * coefficientCount + coefficientCount ≤ length target
+  room = omega (arith, start .pre .1 .0, inside)
 
   some-left : e < length ps
-  some-left = rw length-combinations (made .below)
+  some-left = rw length-combinations inside
 
   one-more : isLow (getD ps e []) ≡ true → every isLow (take (e + 1) ps) ≡ true
   one-more passed = every-longer isLow ps e [] some-left (at .loop .inv .4) passed
 
+  both : not (c .both-zero .result) ≡ false → (isZero (coefficientsAt target e) && isZero (coefficientsAt pivot e)) ≡ true
+  both z =
+      let wide : width ≡ coefficientCount = omega arith in
+      ap (λ n. isZero (take n (drop (e * coefficientCount) target)) && isZero (take n (drop (e * coefficientCount) pivot))) (sym wide)
+      ∙ sym (c .both-zero .ensures) ∙ not-false _ z
+
   zeros : not (c .both-zero .result) ≡ false → front full (e * coefficientCount) ≡ front full ((e + 1) * coefficientCount)
-  zeros z = front-skip full e (omega (arith, full-long)) (trimmed-zero made (sym (c .both-zero .ensures) ∙ not-false _ z))
+  zeros z = front-skip full e (omega (arith, full-long, room)) (zero-part count g h target pivot e inside (both z))
 
   zeros-low : not (c .both-zero .result) ≡ false → isLow (getD ps e []) ≡ true
-  zeros-low z = trimmed-zero-low made (sym (c .both-zero .ensures) ∙ not-false _ z)
+  zeros-low z = zero-low count g h target pivot e inside (both z)
 
-  put : (r : List ℤ) → r ≡ lowPart (add (mul (now (at .before .before .trimmed .result)) p) (mul (now (at .before .trimmed2 .result)) q))
-      → putMid (e * coefficientCount) width (at .loop .place) r ≡ front full ((e + 1) * coefficientCount)
+-- the polynomials that are combined there
+module _ (d : tie.After-trimmed4 Inv-loop μ-loop) where
+  abbrev here : tie.After-both-zero Inv-loop μ-loop
+  here = d .before .before .before .before
+
+  abbrev a : Polynomial
+  a = now (at here .before .before .trimmed .result)
+
+  abbrev b : Polynomial
+  b = now (at here .before .trimmed2 .result)
+
+  abbrev p : Polynomial
+  p = now (d .before .trimmed3 .result)
+
+  abbrev q : Polynomial
+  q = now (d .trimmed4 .result)
+
+  made : Trimmed (count here) (g here) (h here) (target here) (pivot here) (e here) (width here) a p b q
+  made = record {
+    below = inside here;
+    width = omega arith;
+    at-g = at here .before .before .trimmed .ensures;
+    at-h = at here .before .trimmed2 .ensures;
+    at-t = d .before .trimmed3 .ensures;
+    at-u = d .trimmed4 .ensures;
+  }
+
+  put : (r : List ℤ) → r ≡ lowPart (add (mul a p) (mul b q))
+      → putMid (e here * coefficientCount) (width here) (at here .loop .place) r ≡ front (full here) ((e here + 1) * coefficientCount)
   put r w =
-      ap₂ (putMid (e * coefficientCount) width) (at .loop .inv .3) (w ∙ trimmed-low made)
-      ∙ front-put full e (omega (arith, full-long)) width (omega arith)
+      ap₂ (putMid (e here * coefficientCount) (width here)) (at here .loop .inv .3) (w ∙ trimmed-low made)
+      ∙ front-put (full here) (e here) (omega (arith, full-long here, room here)) (width here) (omega arith)
 
 never : _≡_ {A = Bool} true false → ⊥
 never e = let z : _≡_ {A = ℕ} 0 1 = cc in omega arith
 
 -- the test of the degree
-tested : (c : tie.After-passes Inv-loop μ-loop) → c .passes .result ≡ not (isLow (getD (ps (c .before .before)) (e (c .before .before)) []))
-tested c = c .passes .ensures ∙ ap not (trimmed-high (made (c .before .before)))
+tested : (c : tie.After-put-low Inv-loop μ-loop)
+    → c .put-low .result ≡ not (isLow (getD (ps (here (c .before))) (e (here (c .before))) []))
+tested c = c .put-low .ensures .0 ∙ ap not (trimmed-high (made (c .before)))
 
 trimmed-requires : tie.Need-trimmed-requires Inv-loop μ-loop
 trimmed-requires c κs = search needs
@@ -129,73 +170,76 @@ mul-from c = search needs
 add-to : tie.Need-add-to Inv-loop μ-loop
 add-to c = search needs
 
-mul-trimmed : tie.Need-mul-trimmed Inv-loop μ-loop
-mul-trimmed c = search needs
+mul-p : tie.Need-mul-p Inv-loop μ-loop
+mul-p c = search needs
 
-sub-trimmed : tie.Need-sub-trimmed Inv-loop μ-loop
-sub-trimmed c = search needs
+sub-p : tie.Need-sub-p Inv-loop μ-loop
+sub-p c = search needs
 
-part-trimmed-start : tie.Need-part-trimmed-start Inv-loop μ-loop
-part-trimmed-start c = search needs
+part-p-start : tie.Need-part-p-start Inv-loop μ-loop
+part-p-start c = search needs
 
-part-trimmed-end : tie.Need-part-trimmed-end Inv-loop μ-loop
-part-trimmed-end c = search needs
+part-p-end : tie.Need-part-p-end Inv-loop μ-loop
+part-p-end c = search needs
 
-trimmed-requires-3 : tie.Need-trimmed-requires-3 Inv-loop μ-loop
-trimmed-requires-3 c κs = search needs
+mul-q : tie.Need-mul-q Inv-loop μ-loop
+mul-q c = search needs
 
-mul-trimmed-2 : tie.Need-mul-trimmed-2 Inv-loop μ-loop
-mul-trimmed-2 c = search needs
+sub-q : tie.Need-sub-q Inv-loop μ-loop
+sub-q c = search needs
 
-sub-trimmed-2 : tie.Need-sub-trimmed-2 Inv-loop μ-loop
-sub-trimmed-2 c = search needs
+part-q-start : tie.Need-part-q-start Inv-loop μ-loop
+part-q-start c = search needs
 
-part-trimmed-start-2 : tie.Need-part-trimmed-start-2 Inv-loop μ-loop
-part-trimmed-start-2 c = search needs
-
-part-trimmed-end-2 : tie.Need-part-trimmed-end-2 Inv-loop μ-loop
-part-trimmed-end-2 c = search needs
-
-trimmed-requires-4 : tie.Need-trimmed-requires-4 Inv-loop μ-loop
-trimmed-requires-4 c κs = search needs
+part-q-end : tie.Need-part-q-end Inv-loop μ-loop
+part-q-end c = search needs
 
 both-zero-requires : tie.Need-both-zero-requires Inv-loop μ-loop
 both-zero-requires c κs = search needs
 
-passes-requires : tie.Need-passes-requires Inv-loop μ-loop
-passes-requires c κs =
-    let here = c .before in
-    trimmed-fit (made here) (start here .pre .0) (start here .pre .1 .2, start here .pre .1 .3)
+mul-put-low : tie.Need-mul-put-low Inv-loop μ-loop
+mul-put-low c = search needs
+
+sub-put-low : tie.Need-sub-put-low Inv-loop μ-loop
+sub-put-low c = search needs
+
+part-put-low-start : tie.Need-part-put-low-start Inv-loop μ-loop
+part-put-low-start c = search needs
+
+part-put-low-end : tie.Need-part-put-low-end Inv-loop μ-loop
+part-put-low-end c = search needs
+
+trimmed-requires-3 : tie.Need-trimmed-requires-3 Inv-loop μ-loop
+trimmed-requires-3 c κs = search needs
+
+trimmed-requires-4 : tie.Need-trimmed-requires-4 Inv-loop μ-loop
+trimmed-requires-4 c κs = search needs
+
+put-low-requires : tie.Need-put-low-requires Inv-loop μ-loop
+put-low-requires c κs =
+    let w = here c in
+    let start = start w in
+    let from = e w * coefficientCount in
+    let wide : width w ≡ coefficientCount = omega arith in (
+      ap (λ l. take (width w) (drop from l)) (at w .loop .inv .3) ∙ ap (λ n. take n (drop from (front (full w) from))) wide
+          ∙ front-rest (full w) from coefficientCount (omega (arith, full-long w, room w)),
+      trimmed-fit (made c) (start .pre .0) (room w, omega (arith, room w, start .pre .1 .1)) (start .pre .1 .2, start .pre .1 .3),
+    )
 
 same-length : tie.Need-same-length Inv-loop μ-loop
 same-length c =
-    let here = c .before .before .before in
-    at here .loop .inv .2 ∙ sym (ap length (start here .pre .1 .4) ∙ length-replicate (length (target here)) (pos 0))
+    let d = c .before .before in
+    let w = here (d .before) in
+    same-len-mid (e w * coefficientCount) (width w) (at w .loop .place) (d .put-low .last .0) (d .put-low .kept .0)
+    ∙ at w .loop .inv .2 ∙ sym (ap length (start w .pre .1 .4) ∙ length-replicate (length (target w)) (pos 0))
 
 returns : tie.Need-returns Inv-loop μ-loop
 returns c =
-    let here = c .before .before .before in
-    let failed = not-true _ (sym (tested (c .before)) ∙ c .if2 .taken) in
-    let high = ap not (sym (every-false isLow (ps here) (e here) [] (some-left here) failed)) in
+    let d = c .before .before in
+    let w = here (d .before) in
+    let failed = not-true _ (sym (tested d) ∙ c .if2 .taken) in
+    let high = ap not (sym (every-false isLow (ps w) (e w) [] (some-left w) failed)) in
     (high, λ low. absurd (never low))
-
-mul-put-combined : tie.Need-mul-put-combined Inv-loop μ-loop
-mul-put-combined c = search needs
-
-sub-put-combined : tie.Need-sub-put-combined Inv-loop μ-loop
-sub-put-combined c = search needs
-
-part-put-combined-start : tie.Need-part-put-combined-start Inv-loop μ-loop
-part-put-combined-start c = search needs
-
-part-put-combined-end : tie.Need-part-put-combined-end Inv-loop μ-loop
-part-put-combined-end c = search needs
-
-put-combined-requires : tie.Need-put-combined-requires Inv-loop μ-loop
-put-combined-requires c κs =
-    let here = c .before .before .before .before in
-    let fit = trimmed-fit (made here) (start here .pre .0) (start here .pre .1 .2, start here .pre .1 .3) in
-    (search needs, ((fit .0 .0, fit .0 .1, fit .0 .3), (fit .1 .0, fit .1 .1, fit .1 .3)))
 
 add-e : tie.Need-add-e Inv-loop μ-loop
 add-e c = search needs
@@ -207,14 +251,19 @@ loop-again : tie.Need-loop-again Inv-loop μ-loop
 loop-again c =
     let here = c .before in
     let written : (c .if1 .place ≡ front (full here) ((e here + 1) * coefficientCount)) × (isLow (getD (ps here) (e here) []) ≡ true) = ⊎-elim
-    (λ w. let tests : tie.After-passes Inv-loop μ-loop = record { before = record { before = here; if1 = w .0 }; passes = w .1 } in
-    (w .6 ∙ put here (w .4 .last .0) (w .4 .ensures), not-false _ (sym (tested tests) ∙ w .2 .left)))
+    (λ w.
+    let trimmed : tie.After-trimmed4 Inv-loop μ-loop = record {
+      before = record { before = record { before = record { before = here; if1 = w .0 }; put-low-arg = w .1 }; trimmed3 = w .2 };
+      trimmed4 = w .3;
+    } in
+    let tests : tie.After-put-low Inv-loop μ-loop = record { before = trimmed; put-low = w .4 } in
+    (w .7 ∙ put trimmed (w .4 .last .0) (w .4 .ensures .1 (w .6 .left)), not-false _ (sym (tested tests) ∙ w .6 .left)))
     (λ w. (w .1 ∙ at here .loop .inv .3 ∙ zeros here (w .0 .left), zeros-low here (w .0 .left)))
     (c .if1 .came)
     in (
       at here .loop .inv .0,
-      omega arith,
-      ap length (written .0) ∙ length-front (full here) ((e here + 1) * coefficientCount) (omega (arith, full-long here))
+      omega (arith, inside here, at here .loop .inv .0),
+      ap length (written .0) ∙ length-front (full here) ((e here + 1) * coefficientCount) (omega (arith, full-long here, room here))
           ∙ full-long here,
       written .0,
       one-more here (written .1),
@@ -251,25 +300,24 @@ low-combination-spec =
     loop-holds
     mul-from
     add-to
-    mul-trimmed
-    sub-trimmed
-    part-trimmed-start
-    part-trimmed-end
-    trimmed-requires-3
-    mul-trimmed-2
-    sub-trimmed-2
-    part-trimmed-start-2
-    part-trimmed-end-2
-    trimmed-requires-4
+    mul-p
+    sub-p
+    part-p-start
+    part-p-end
+    mul-q
+    sub-q
+    part-q-start
+    part-q-end
     both-zero-requires
-    passes-requires
+    mul-put-low
+    sub-put-low
+    part-put-low-start
+    part-put-low-end
+    trimmed-requires-3
+    trimmed-requires-4
+    put-low-requires
     same-length
     returns
-    mul-put-combined
-    sub-put-combined
-    part-put-combined-start
-    part-put-combined-end
-    put-combined-requires
     add-e
     loop-less
     loop-again

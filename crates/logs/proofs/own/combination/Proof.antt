@@ -6,6 +6,7 @@ use mathlib.Core.Bool.{true, not}
 use mathlib.Core.List.{_∷_, _++_}
 use Prim.Native.Nat.{ℕ, suc, _+_, _^_, _<_}
 use native.Mathlib.Numerals.{add-one}
+use native.Mathlib.Nat.{le-of-eq}
 use native.Mathlib.Omega.{arith}
 use borrow.Author.Needs.{needs}
 use lib.Dec.{T}
@@ -128,7 +129,7 @@ slice-aggregate-multipliers-at-2 c = search needs
 multipliers-at-requires : tie.Need-multipliers-at-requires
 multipliers-at-requires c κs =
     let b = c .before .before .before .before in (
-      (b .pre .0 .2, full-target b .entries-long, full-pivot b .entries-long),
+      (b .pre .0 .2, le-of-eq (sym (full-target b .entries-long)), le-of-eq (sym (full-pivot b .entries-long))),
       (
         (small-apart (target b) (small-target b) .0, small-apart (pivot b) (small-pivot b) .0),
         subst₂ (λ u v. T (not (isZero (u (column b) ++ v (column b))))) (sym (entry-is b (pivot b) (full-pivot b)))

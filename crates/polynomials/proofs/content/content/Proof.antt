@@ -21,39 +21,34 @@ abbrev μ-loop : tie.MeasureT-loop
 μ-loop p d₀ i₀ d i = length p - i
 
 -- the content, with coefficient i joined to d
-module _ (c : tie.After-gcd Inv-loop μ-loop) where
+module _ (c : tie.After-with-divisor Inv-loop μ-loop) where
   abbrev p : List ℤ
-  p = now (c .before .before .before .before .before .args .p)
+  p = now (c .before .before .before .before .args .p)
 
   abbrev i : ℕ
-  i = c .before .before .before .before .loop .i
+  i = c .before .before .before .loop .i
 
   abbrev rest : ℕ
   rest = content (drop (i + 1) p)
 
-  size : c .before .magnitude .result ≡ natAbs (getD p i (pos 0))
-  size = c .before .magnitude .ensures ∙ ap natAbs (read-back (getD p i (pos 0)) (c .before .before .magnitude-arg .given))
-
-  joined : content p ≡ gcd (c .gcd .result) rest
+  joined : content p ≡ gcd (c .with-divisor .result) rest
   joined =
-      let d = c .before .before .before .before .loop .d in
-      c .before .before .before .before .loop .inv .1 ∙ content-next d p i (c .before .before .before .loop-test .taken)
-      ∙ ap (λ e. gcd e rest) (sym (c .gcd .ensures ∙ ap (λ e. gcd e d) size))
+      let d = c .before .before .before .loop .d in
+      c .before .before .before .loop .inv .1 ∙ content-next d p i (c .before .before .loop-test .taken)
+      ∙ ap (λ e. gcd e rest)
+      (sym (c .with-divisor .ensures ∙ ap (λ a. gcd (natAbs a) d) (read-back (getD p i (pos 0)) (c .before .with-divisor-arg .given))))
 
 loop-holds : tie.Need-loop-holds Inv-loop μ-loop
 loop-holds c = (omega arith, sym (zero-gcd (content (now (c .args .p)))))
 
-mul-magnitude : tie.Need-mul-magnitude Inv-loop μ-loop
-mul-magnitude c = search needs
+mul-with-divisor : tie.Need-mul-with-divisor Inv-loop μ-loop
+mul-with-divisor c = search needs
 
-shared-slice-copy-out-magnitude : tie.Need-shared-slice-copy-out-magnitude Inv-loop μ-loop
-shared-slice-copy-out-magnitude c = search needs
+shared-slice-copy-out-with-divisor : tie.Need-shared-slice-copy-out-with-divisor Inv-loop μ-loop
+shared-slice-copy-out-with-divisor c = search needs
 
-magnitude-requires : tie.Need-magnitude-requires Inv-loop μ-loop
-magnitude-requires c κs = search needs
-
-gcd-requires : tie.Need-gcd-requires Inv-loop μ-loop
-gcd-requires c κs = search needs
+with-divisor-requires : tie.Need-with-divisor-requires Inv-loop μ-loop
+with-divisor-requires c κs = search needs
 
 returns : tie.Need-returns Inv-loop μ-loop
 returns c = sym (joined (c .before) ∙ ap (λ e. gcd e (rest (c .before))) (c .if1 .taken) ∙ one-gcd (rest (c .before)))
@@ -81,10 +76,9 @@ content-spec =
     Inv-loop
     μ-loop
     loop-holds
-    mul-magnitude
-    shared-slice-copy-out-magnitude
-    magnitude-requires
-    gcd-requires
+    mul-with-divisor
+    shared-slice-copy-out-with-divisor
+    with-divisor-requires
     returns
     add-i
     loop-less

@@ -21,8 +21,7 @@ use Rattle.rules.specs.Elimination.{Side, Limited, limitDegrees, consistent, Mu
 use Rattle.roots.specs.declared.RootList.{RootList}
 use Rattle.roots.specs.RootSearch.{listed, held, held-of, roots-few}
 use Rattle.working_rows.specs.Found.{Columns-at}
-use Rattle.working_rows.specs.declared.WorkingRow.{WorkingRow}
-use Rattle.working_rows.specs.Working.{numbersHeld, Full, small-apart, entry-held}
+use Rattle.working_rows.specs.Working.{numbersHeld, Full}
 use Rattle.working_rows.specs.Worked.{refusalOf, numbersOf, workedRow, numbers-worked}
 use Rattle.reduction.specs.declared.step.Progress.{Progress}
 use Rattle.sides.specs.Lent.{sideOf}
@@ -30,7 +29,7 @@ use Rattle.reduction.specs.Progress.{Ready, stateOf, answerOf, listedPro
 use Rattle.sides.specs.Relations.{Relisted}
 use Rattle.reduction.specs.MultiplierSizes.{Sixteen, multipliers-fit, roots-small}
 use Rattle.reduction.specs.NewRows.{Storable, saved, row-room, combined-storable, full-worked}
-use Rattle.reduction.specs.StoreExchange.{numbersAt, Loaded, length-numbersAt, small-numbersAt, length-entry, small-entry}
+use Rattle.reduction.specs.StoreExchange.{numbersAt, length-numbersAt, small-numbersAt, length-entry, small-entry}
 use Rattle.reduction.specs.StepLaws.{multipliersIn, newRow, multipliers-in, combine-refused, combine-reached}
 use Rattle.reduction.specs.StepLaws.{refused-reached, reached-same}
 use Rattle.reduction.proofs.step.combine_step.Statement.{statement}
@@ -111,19 +110,6 @@ module _ (c : tie.Start) where
   entry-fits : (l : List ℤ) → length l ≡ rowLength → Small l → Sixteen (entry (rowOf l) column)
   entry-fits l e h = (length-entry l column (omega (arith, e)) below, small-entry l column h below)
 
-  -- the working rows
-  target-row : Loaded rows i (c .args .target)
-  target-row = c .pre .1 .0 .0
-
-  pivot-row : Loaded rows j (c .args .pivot)
-  pivot-row = c .pre .1 .0 .1
-
-  held-small : (k : ℕ) (w : WorkingRow) → Loaded rows k w → Small (numbersAt rows k) → Small (numbersHeld w)
-  held-small k w l h = subst Small (sym (l .numbers)) h
-
-  entry-is : (k : ℕ) (w : WorkingRow) → Loaded rows k w → entry (rowOf (w .entries)) ≡ entry (rowOf (numbersAt rows k))
-  entry-is k w l = sym (entry-held (w .entries) (w .right) (l .full .entries-long)) ∙ ap (λ n. entry (rowOf n)) (l .numbers)
-
   -- the multipliers and their roots
   abbrev x : Multipliers
   x = multipliersIn rows p j
@@ -151,12 +137,17 @@ module _ (c : tie.Start) where
 -- the multipliers
 module _ (c : tie.After-multipliers-at) where
   abbrev start : tie.Start
-  start = c .before .before .before .before .before .before
+  start = c .before .before .before .before .before
 
-  multipliers-are : multipliersOf (column start) (start .args .target .entries) (start .args .pivot .entries) ≡ x start
-  multipliers-are =
-      ap₂ (λ p q. multipliers (p (column start)) (q (column start))) (entry-is start (j start) (start .args .pivot) (pivot-row start))
-      (entry-is start (i start) (start .args .target) (target-row start))
+  -- the rows, where they stand
+  target-is : now (c .before .before .row-at .result) ≡ target start
+  target-is = c .before .before .row-at .ensures .0
+
+  pivot-is : now (c .before .row-at2 .result) ≡ pivot start
+  pivot-is = c .before .row-at2 .ensures .0
+
+  multipliers-are : multipliersOf (column start) (now (c .before .before .row-at .result)) (now (c .before .row-at2 .result)) ≡ x start
+  multipliers-are = ap₂ (multipliersOf (column start)) target-is pivot-is
 
   g-is : c .multipliers-at .result .g ≡ x start .g
   g-is = ap (λ y. y .g) (c .multipliers-at .ensures) ∙ ap (λ y. y .g) multipliers-are
@@ -190,13 +181,10 @@ module _ (c : tie.After-found) where
 -- the relations, and the new row
 module _ (c : tie.After-combined) where
   abbrev listing-call : tie.After-list-roots
-  listing-call = c .before .before .before .before .before
-
-  abbrev row-call : tie.After-row-at
-  row-call = listing-call .before .before
+  listing-call = c .before .before .before .before
 
   abbrev rooted : tie.After-found
-  rooted = row-call .before .before .before .before .before
+  rooted = listing-call .before .before .before .before .before
 
   abbrev origin : tie.Start
   origin = base rooted
@@ -207,15 +195,16 @@ module _ (c : tie.After-combined) where
   relisted : Relisted (p origin .count) (target origin) (listing (side origin) (roots (x origin .g))) (relations origin) after
   relisted =
       subst₂ (λ t l. Relisted (p origin .count) t (listing (side origin) l) (relations origin) after)
-      (row-call .row-at .ensures .0) (held-is rooted) (listing-call .list-roots .ensures)
+      (target-is (multiplied rooted)) (held-is rooted) (listing-call .list-roots .ensures)
 
   -- the code's multipliers and rows are those of the definition
   new-is : consistent (limitDegrees (primitive (combine (multiplied rooted .multipliers-at .result .g)
       (multiplied rooted .multipliers-at .result .h)
-      (rowOf (numbersHeld (origin .args .target))) (rowOf (numbersHeld (origin .args .pivot)))))) ≡ new origin
+      (rowOf (now (multiplied rooted .before .before .row-at .result))) (rowOf (now (multiplied rooted .before .row-at2 .result))))))
+      ≡ new origin
   new-is =
       λ k. consistent (limitDegrees (primitive (combine (g-is (multiplied rooted) k) (h-is (multiplied rooted) k)
-      (rowOf (target-row origin .numbers k)) (rowOf (pivot-row origin .numbers k)))))
+      (rowOf (target-is (multiplied rooted) k)) (rowOf (pivot-is (multiplied rooted) k)))))
 
   refusal-is : c .combined .result .refusal ≡ refusalOf (new origin)
   refusal-is = c .combined .ensures .0 ∙ ap refusalOf new-is
@@ -232,25 +221,27 @@ mul-c c = search needs
 array-read-c : tie.Need-array-read-c
 array-read-c c = search needs
 
-slice-aggregate-multipliers-at : tie.Need-slice-aggregate-multipliers-at
-slice-aggregate-multipliers-at c = search needs
+mul-row-at : tie.Need-mul-row-at
+mul-row-at c = search needs
 
-slice-aggregate-multipliers-at-2 : tie.Need-slice-aggregate-multipliers-at-2
-slice-aggregate-multipliers-at-2 c = search needs
+row-at-requires : tie.Need-row-at-requires
+row-at-requires c κs = let b = c .before .before in room b (i b) (inside b)
+
+mul-row-at-2 : tie.Need-mul-row-at-2
+mul-row-at-2 c = search needs
+
+row-at-requires-2 : tie.Need-row-at-requires-2
+row-at-requires-2 c κs = let b = c .before .before .before in room b (j b) (other b)
 
 multipliers-at-requires : tie.Need-multipliers-at-requires
 multipliers-at-requires c κs =
-    let b = c .before .before .before .before .before in
-    let t = b .args .target in
-    let q = b .args .pivot in (
-      (below b, target-row b .full .entries-long, pivot-row b .full .entries-long),
+    let b = c .before .before .before .before in
+    let t = c .before .row-at .ensures in
+    let q = c .row-at2 .ensures in (
+      (below b, omega (arith, t .1), omega (arith, q .1)),
       (
-        (
-          small-apart t (held-small b (i b) t (target-row b) (target-small b)) .0,
-          small-apart q (held-small b (j b) q (pivot-row b) (pivot-small b)) .0,
-        ),
-        subst₂ (λ u v. T (not (isZero (u (column b) ++ v (column b))))) (sym (entry-is b (j b) q (pivot-row b)))
-            (sym (entry-is b (i b) t (target-row b))) (b .pre .1 .1),
+        (subst Small (sym (t .0)) (target-small b), subst Small (sym (q .0)) (pivot-small b)),
+        subst₂ (NotBoth (column b)) (sym (t .0)) (sym (q .0)) (b .pre .1),
       ),
     )
 
@@ -271,65 +262,61 @@ returns c =
       ap (λ o. o .done) (c .answer .ensures),
     )
 
-mul-row-at : tie.Need-mul-row-at
-mul-row-at c = search needs
-
-row-at-requires : tie.Need-row-at-requires
-row-at-requires c κs = let b = base (c .before .before .before .before) in room b (i b) (inside b)
+same-length : tie.Need-same-length
+same-length c = search needs
 
 list-roots-requires : tie.Need-list-roots-requires
 list-roots-requires c κs =
-    let row-call = c .before in
-    let passed = row-call .before .before in
+    let passed = c .before in
     let e = passed .before .before .before in
     let b = base e in
-    let row = subst Small (sym (row-call .row-at .ensures .0)) (target-small b) in
+    let t = multiplied e .before .before .row-at .ensures in
+    let row = subst Small (sym (t .0)) (target-small b) in
     let values = ap (λ f. length (f .values)) (found-is e) ∙ listed-length (roots (x b .g)) (omega (arith, few b)) in (
       (ready b .listing, omega (arith, passed .if1 .left), values),
-      (subst Small (sym (held-is e)) (roots-small (x b .g) (fits b .0 .1)), row, row-call .row-at .ensures .1),
+      (subst Small (sym (held-is e)) (roots-small (x b .g) (fits b .0 .1)), row, t .1),
     )
 
 slice-aggregate-combined : tie.Need-slice-aggregate-combined
-slice-aggregate-combined c = search needs
+slice-aggregate-combined c =
+    let e = multiplied (c .before .before .before .before .before .before .before) in
+    sym (ap length (g-is e) ∙ fits (start e) .0 .0)
 
 slice-aggregate-combined-2 : tie.Need-slice-aggregate-combined-2
 slice-aggregate-combined-2 c =
-    let e = multiplied (c .before .before .before .before .before .before .before .before .before .before .before) in
+    let e = multiplied (c .before .before .before .before .before .before .before .before) in
     sym (ap length (h-is e) ∙ fits (start e) .1 .0)
 
 combined-requires : tie.Need-combined-requires
 combined-requires c κs =
-    let e = multiplied (c .before .before .before .before .before .before .before .before .before .before .before) in
+    let e = multiplied (c .before .before .before .before .before .before .before .before) in
     let b = start e in
-    let t = b .args .target in
-    let q = b .args .pivot in
+    let t = e .before .before .row-at .ensures in
+    let q = e .before .row-at2 .ensures in
     let g-fits = subst Sixteen (sym (g-is e)) (fits b .0) in
     let h-fits = subst Sixteen (sym (h-is e)) (fits b .1) in (
       (g-fits .0, g-fits .1, h-fits .0, h-fits .1),
-      (
-        target-row b .full,
-        pivot-row b .full,
-        held-small b (i b) t (target-row b) (target-small b),
-        held-small b (j b) q (pivot-row b) (pivot-small b),
-      ),
+      (t .1, q .1, subst Small (sym (t .0)) (target-small b), subst Small (sym (q .0)) (pivot-small b)),
     )
 
 put-limited-requires : tie.Need-put-limited-requires
 put-limited-requires c κs =
-    let b = origin c in (room b (i b) (inside b), subst Full (sym (row-is c)) (full-worked (new b) (storable b)))
-
-same-length : tie.Need-same-length
-same-length c = search needs
+    let d = c .before in
+    let b = origin d in
+    (room b (i b) (inside b), subst Full (sym (row-is d)) (full-worked (new b) (storable b)))
 
 same-length-2 : tie.Need-same-length-2
 same-length-2 c = search needs
 
+same-length-3 : tie.Need-same-length-3
+same-length-3 c = search needs
+
 returns-2 : tie.Need-returns-2
 returns-2 c =
-    let d = c .before .before in
+    let d = c .before .before .before in
     let b = origin d in
     let put = c .before .put-limited .ensures in
-    let passed = row-call d .before .before .if1 .left in
+    let passed = listing-call d .before .before .if1 .left in
     let room : p b .count + length (roots (x b .g)) ≤ 16 = omega (arith, count-is (rooted d), passed) in (
       reached-same (put .0 ∙ ap₂ (saved (rows b) (i b)) (refusal-is d) (numbers-are d))
           (put .1 ∙ ap₂ (λ n k. answerOf n (listedProgress (p b) k)) (refusal-is d) (count-is (rooted d)))
@@ -344,19 +331,20 @@ combine-step-spec =
     (tie.spec
     mul-c
     array-read-c
-    slice-aggregate-multipliers-at
-    slice-aggregate-multipliers-at-2
+    mul-row-at
+    row-at-requires
+    mul-row-at-2
+    row-at-requires-2
     multipliers-at-requires
     add-count
     answer-requires
+    same-length
     returns
-    mul-row-at
-    row-at-requires
     list-roots-requires
     slice-aggregate-combined
     slice-aggregate-combined-2
     combined-requires
     put-limited-requires
-    same-length
     same-length-2
+    same-length-3
     returns-2)

@@ -3,7 +3,6 @@
 use mathlib.Core.Path.{_≡_, sym, _∙_, ap, ap₂}
 use mathlib.Core.List.{List}
 use Prim.Native.Nat.{_+_, _*_, _-_}
-use native.Mathlib.Nat.{le-of-eq}
 use native.Mathlib.Omega.{arith}
 use borrow.Author.Needs.{needs}
 use denote.Ref.{now}
@@ -68,8 +67,8 @@ multipliers-requires c κs =
     let below = start .pre .0 .0 in
     let fits = start .pre in
     rw (entry-of start target, entry-of start pivot) (
-      ((length-entry pivot column (le-of-eq (sym (fits .0 .2))) below, small-entry pivot column (fits .1 .0 .1) below), fits .1 .1),
-      (length-entry target column (le-of-eq (sym (fits .0 .1))) below, small-entry target column (fits .1 .0 .0) below),
+      ((length-entry pivot column (fits .0 .2) below, small-entry pivot column (fits .1 .0 .1) below), fits .1 .1),
+      (length-entry target column (fits .0 .1) below, small-entry target column (fits .1 .0 .0) below),
     )
 
 returns : tie.Need-returns

@@ -28,7 +28,7 @@ abbrev μ-loop : tie.MeasureT-loop
 μ-loop numbers blocks₀ blocks = blocks
 
 -- the test of the lowest block that is left
-module _ (c : tie.After-is-zero Inv-loop μ-loop) where
+module _ (c : tie.After-all-zero Inv-loop μ-loop) where
   abbrev numbers : List ℤ
   numbers = now (c .before .before .before .before .args .entries)
 
@@ -38,10 +38,10 @@ module _ (c : tie.After-is-zero Inv-loop μ-loop) where
   some-left : c .before .before .before .loop .blocks ≡ suc left
   some-left = omega arith
 
-  tested : c .is-zero .result ≡ zeroBlock (getD (rowOf numbers .blocks) left [])
+  tested : c .all-zero .result ≡ zeroBlock (getD (rowOf numbers .blocks) left [])
   tested =
       let size : suc left * blockLength - left * blockLength ≡ blockLength = omega arith in
-      c .is-zero .ensures
+      c .all-zero .ensures
       ∙ ap (λ n. isZero (take n (drop (left * blockLength) numbers))) (ap (λ b. b * blockLength - left * blockLength) some-left ∙ size)
       ∙ sym (zeroBlock-at numbers left (omega arith))
 
@@ -63,20 +63,20 @@ mul-from c = search needs
 mul-to : tie.Need-mul-to Inv-loop μ-loop
 mul-to c = search needs
 
-mul-is-zero : tie.Need-mul-is-zero Inv-loop μ-loop
-mul-is-zero c = search needs
+mul-all-zero : tie.Need-mul-all-zero Inv-loop μ-loop
+mul-all-zero c = search needs
 
-sub-is-zero : tie.Need-sub-is-zero Inv-loop μ-loop
-sub-is-zero c = search needs
+sub-all-zero : tie.Need-sub-all-zero Inv-loop μ-loop
+sub-all-zero c = search needs
 
-part-is-zero-start : tie.Need-part-is-zero-start Inv-loop μ-loop
-part-is-zero-start c = search needs
+part-all-zero-start : tie.Need-part-all-zero-start Inv-loop μ-loop
+part-all-zero-start c = search needs
 
-part-is-zero-end : tie.Need-part-is-zero-end Inv-loop μ-loop
-part-is-zero-end c = search needs
+part-all-zero-end : tie.Need-part-all-zero-end Inv-loop μ-loop
+part-all-zero-end c = search needs
 
-is-zero-requires : tie.Need-is-zero-requires Inv-loop μ-loop
-is-zero-requires c κs = search needs
+all-zero-requires : tie.Need-all-zero-requires Inv-loop μ-loop
+all-zero-requires c κs = search needs
 
 returns : tie.Need-returns Inv-loop μ-loop
 returns c =
@@ -113,11 +113,11 @@ width-spec =
     sub-from
     mul-from
     mul-to
-    mul-is-zero
-    sub-is-zero
-    part-is-zero-start
-    part-is-zero-end
-    is-zero-requires
+    mul-all-zero
+    sub-all-zero
+    part-all-zero-start
+    part-all-zero-end
+    all-zero-requires
     returns
     sub-blocks
     loop-less

@@ -1,0 +1,34 @@
+-- `reduction::looking::width_at` meets its contract.
+-- Assumes nothing.
+use mathlib.Core.Path.{_≡_, sym, _∙_, ap}
+use mathlib.Core.List.{List}
+use native.Mathlib.Omega.{arith}
+use borrow.Author.Needs.{needs}
+use denote.Ref.{now}
+use lib.IntN.{ℤ}
+use lib.ListN.{length}
+use Rattle.rules.specs.Rows.{width}
+use Rattle.rules.specs.Stores.{rowOf}
+use Rattle.reduction.specs.StoreExchange.{left-long, width-left}
+use Rattle.reduction.proofs.looking.width_at.Statement.{statement}
+use Rattle.reduction.proofs.looking.width_at.Tie as tie
+
+mul-row-at : tie.Need-mul-row-at
+mul-row-at c = search needs
+
+row-at-requires : tie.Need-row-at-requires
+row-at-requires c κs = search needs
+
+slice-aggregate-width : tie.Need-slice-aggregate-width
+slice-aggregate-width c = let r = c .before .row-at in sym (left-long (now (r .result)) (r .ensures .1))
+
+width-requires : tie.Need-width-requires
+width-requires c κs = let r = c .before .row-at in left-long (now (r .result)) (r .ensures .1)
+
+returns : tie.Need-returns
+returns c =
+    let r = c .before .before .row-at in
+    c .width .ensures ∙ width-left (now (r .result)) (r .ensures .1) ∙ ap (λ l. width (rowOf l)) (r .ensures .0)
+
+pub width-at-spec : {M : Type 1} → statement M
+width-at-spec = tie.close (tie.spec mul-row-at row-at-requires slice-aggregate-width width-requires returns)
