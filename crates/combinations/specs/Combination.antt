@@ -41,7 +41,7 @@ use Rattle.lists.specs.Tests.{same-test, T-&&, true-of, false-of, every, every-
 use Rattle.algebra.specs.Polynomials.{coeff-isZero}
 use Rattle.algebra.specs.Polynomials.{isZero-add, isZero-mul-right, length-add, length-scale}
 use Rattle.algebra.specs.Coefficients.{coeff-add, coeff-mul, coeff-take, coeff-drop, coeff-past-length, coeff-past-degree}
-use Rattle.algebra.specs.Coefficients.{degree-lt-length, mul-within}
+use Rattle.algebra.specs.Coefficients.{mul-within}
 use Rattle.polynomials.specs.Content.{Below}
 use Rattle.polynomials.specs.Product.{product-size}
 use Rattle.rules.specs.Limits.{rowLength, small, coefficientCount, columnCount}
@@ -70,11 +70,6 @@ mul-same g g′ p p′ s t k =
 
 add-same : (p p′ q q′ : Polynomial) → Same p p′ → Same q q′ → Same (add p q) (add p′ q′)
 add-same p p′ q q′ s t k = coeff-add p q k ∙ ap₂ _+ℤ_ (s k) (t k) ∙ sym (coeff-add p′ q′ k)
-
-pub degree-below : (p : Polynomial) (n : ℕ) → length p ≤ n → 0 < n → degree p < n
-unfolding degree
-degree-below [] n h m = m
-degree-below (a ∷ p) n h m = le-trans (degree-lt-length a p) h
 
 unfoldable pub trim : Polynomial → Polynomial
 trim p = take (degree p + 1) p

@@ -1,7 +1,7 @@
 -- Those of a polynomial's roots that are left when it is divided, without a second search.
 --
 -- Main statements
---   degree-below, eval-front   the coefficients up to the degree have the value of all
+--   eval-front   the coefficients up to the degree have the value of all
 --   length-keep           no more members are kept than there are
 --   few-kept, kept-yes, kept-no   one member more of a list that is sifted into an array
 --   roots-among           the roots of a polynomial whose roots are some of another one's
@@ -25,7 +25,7 @@ use Rattle.algebra.specs.Gcd.{content, divideBy, DividesAll, content-pos, conte
 use Rattle.algebra.specs.Gcd.{dividesAll-of-content, eval-divideBy, isZero-divideBy}
 use Rattle.algebra.specs.Polynomials.{Polynomial, eval, isZero, degree, negate, lead, scale, eval-take, coeff-isZero, isZeroℤ-iff}
 use Rattle.algebra.specs.Polynomials.{isZero-negate, eval-scale, eval-negate}
-use Rattle.algebra.specs.Coefficients.{degree-isZero, degree-lt-length, coeff-drop, coeff-past-degree}
+use Rattle.algebra.specs.Coefficients.{degree-isZero, coeff-drop, coeff-past-degree}
 use Rattle.algebra.specs.Roots.{roots, place, roots-sound, roots-complete, roots-ascending}
 use Rattle.algebra.specs.Multiplicity.{power, Occurs, multiplicity, multiplicity-occurs, occurs-unique}
 use Rattle.lists.specs.Sifted.{keep, mem-keep, keep-pairwise}
@@ -39,10 +39,6 @@ use Rattle.roots.specs.RootSearch.{listed, roots-constant}
 use Rattle.common_roots.specs.Divisions.{vanishesAt}
 
 -- ---- the coefficients up to the highest that is not 0
-
-pub degree-below : (p : Polynomial) → 0 < length p → degree p < length p
-degree-below [] h = absurd (not-suc-le-zero h)
-degree-below (a ∷ p) h = degree-lt-length a p
 
 pub eval-front : (p : Polynomial) (z : ℤ) → eval (take (degree p + 1) p) z ≡ eval p z
 eval-front p z =

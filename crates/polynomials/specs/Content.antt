@@ -9,6 +9,7 @@
 --   skip-zero              one coefficient more from the front that is zero and changes nothing
 --   isZero-false, lowest-first   a nonzero coefficient makes p nonzero; at the front it is the lowest
 --   or-zero, join-next     joined bits are 0 exactly if both are; one coefficient more is joined
+--   degree-below           there is a coefficient at the degree
 --   within-down, degree-bottom   one zero coefficient less from the top; none left past power 0: the degree is 0
 --   content-next, one-gcd  a coefficient joins the greatest common divisor of those passed; 1 stays 1
 --   quotient-stored        the quotient by a positive i64, stored, is a coefficient of `divideBy`
@@ -18,9 +19,9 @@
 use mathlib.Core.Path.{_≡_, refl, sym, _∙_, ap, subst, ap₂}
 use mathlib.Core.Logic.{_≢_, ⊎-elim}
 use mathlib.Core.Bool.{Bool, true, false, not, cond, _&&_, and-assoc}
-use mathlib.Core.List.{_∷_, _++_}
+use mathlib.Core.List.{[], _∷_, _++_}
 use Prim.Native.Nat.{ℕ, zero, suc, _+_, _-_, _^_, _≤_, _<_}
-use native.Mathlib.Nat.{pos-of-ne-zero, le-trans, le-of-dvd, dvd-one, eq-or-lt-of-le}
+use native.Mathlib.Nat.{pos-of-ne-zero, le-trans, le-of-dvd, dvd-one, eq-or-lt-of-le, not-suc-le-zero}
 use native.Mathlib.Omega.{arith}
 use lib.Bits.{bitOr, and-le-r, or-add-and}
 use lib.Dec.{T, eqb, ltb→lt, leb→le, eqb·suc-zero}
@@ -34,7 +35,7 @@ use borrow.Author.Needs.{sfits-of}
 use borrow.Author.Tests.{ne-eqb}
 use Rattle.algebra.specs.Integers.{natAbs-negℤ, natAbs-zero}
 use Rattle.algebra.specs.Polynomials.{Polynomial, coeff, negate, isZeroℤ, isZero, lead, lowest, degree, isZeroℤ-not-iff, isZero-coeff}
-use Rattle.algebra.specs.Coefficients.{Within, coeff-negate, coeff-degree, lead-nonzero, degree-le}
+use Rattle.algebra.specs.Coefficients.{Within, coeff-negate, coeff-degree, lead-nonzero, degree-le, degree-lt-length}
 use Rattle.algebra.specs.Gcd.{gcd, content, divideBy, gcd-comm, gcd-assoc, gcd-divides-left}
 use Rattle.algebra.specs.Gcd.{content-divides, content-pos, divideBy-getD, divideBy-le}
 use Rattle.rules.specs.Limits.{bound, small}
@@ -116,6 +117,11 @@ within-down p n h w e k l = ⊎-elim at-top (w k) (eq-or-lt-of-le (omega arith))
   where
     at-top : n - 1 ≡ k → coeff p k ≡ pos 0
     at-top t = rw t at e
+
+-- There is a coefficient at the degree.
+pub degree-below : (p : Polynomial) → 0 < length p → degree p < length p
+degree-below [] h = absurd (not-suc-le-zero h)
+degree-below (a ∷ p) h = degree-lt-length a p
 
 pub degree-bottom : (p : Polynomial) (n : ℕ) → n ≤ 1 → Within p (n - 1) → degree p ≡ 0
 degree-bottom p n h w = omega (arith, degree-le p 0 (λ k l. w k (omega arith)))

@@ -4,6 +4,7 @@
 --   movedCount        the number of polynomials that move
 --
 -- Main statements
+--   coeff-shift-front   the coefficients up to the highest nonzero one have the shift of all
 --   length-shiftUp    those of the left part are as many as a left part has
 --   shiftUp-part      polynomial e is p(n + 1) for the polynomial p one block further down
 --   shiftUp-rest      the last block is zero
@@ -15,10 +16,13 @@ use Prim.Native.Nat.{ℕ, _+_, _*_, _≤_, _<_}
 use native.Mathlib.Nat.{add-comm}
 use native.Mathlib.Omega.{arith}
 use lib.Dec.{T}
-use lib.IntN.{ℤ, pos}
+use lib.IntN.{ℤ, pos, _*ℤ_, *ℤ-zero}
 use lib.ListN.{length, take, drop, length-append, length-take, length-drop, length-map, List·getD-map}
 use lib.Seq.{drop-at, drop-drop, length-take-le}
-use Rattle.algebra.specs.Polynomials.{Polynomial, isZero, shift, shiftBy, length-shift, isZero-append, isZero-shift}
+use Rattle.algebra.specs.Polynomials.{Polynomial, coeff, degree, isZero, shift, shiftBy, length-shift, isZero-append, isZero-shift}
+use Rattle.algebra.specs.Sums.{sumBelow, sumBelow-congr, sumBelow-extend}
+use Rattle.algebra.specs.Coefficients.{coeff-take, coeff-past-degree}
+use Rattle.algebra.specs.Binomials.{binomial, coeff-shift}
 use Rattle.lists.specs.Tests.{T-&&}
 use Rattle.rules.specs.Rows.{Block, Row, mapRow, coefficientsOf, blank, leadingBlock, shiftUp}
 use Rattle.lists.specs.Everywhere.{All, append-all, map-keeps}
@@ -30,6 +34,16 @@ use Rattle.rules.specs.Elimination.{within, limitCoefficients}
 use Rattle.rules.specs.Layout.{rowOf-coefficientsOf, blockOf, coefficientsAt}
 use Rattle.working_rows.specs.Working.{leftPart, blocks-held, right-held}
 use Rattle.working_rows.specs.Worked.{Held, held, store-row}
+
+-- The coefficients up to the highest nonzero one have the shift of all.
+pub coeff-shift-front : (p : Polynomial) (n k : ℕ) → n ≤ length p → degree p < n → coeff (shift (take n p)) k ≡ coeff (shift p) k
+coeff-shift-front p n k h d =
+    coeff-shift (take n p) k
+    ∙ ap (λ m. sumBelow m (λ j. pos (binomial j k) *ℤ coeff (take n p) j)) (length-take-le n p h)
+    ∙ sumBelow-congr n _ _ (λ j l. ap (λ a. pos (binomial j k) *ℤ a) (coeff-take n p j l))
+    ∙ sym (sumBelow-extend n (length p) _ h
+    (λ j l m. ap (λ a. pos (binomial j k) *ℤ a) (coeff-past-degree p j (omega arith)) ∙ *ℤ-zero (pos (binomial j k))))
+    ∙ sym (coeff-shift p k)
 
 -- The polynomials of all blocks but the first move up.
 abbrev pub movedCount : ℕ

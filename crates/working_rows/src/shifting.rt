@@ -22,16 +22,18 @@ ghost use Rattle.working_rows.specs.Working.{leftPart, numbersHeld, Full
 // The polynomials of the blocks that move up: all but the first.
 const MOVED: usize = POLYNOMIALS - COLUMNS;
 
-// The coefficients of p(n + 1), by a table of Pascal's numbers.
+// The coefficients of p(n + 1), by a table of Pascal's numbers and the coefficients of p up to the highest that is not 0.
 fn put_shifted(place: &mut [i64], table: &[[i64; COEFFICIENTS]; COEFFICIENTS], p: &[i64])
     requires { ⌜
         T (followsRule (now table)) × (length (now place) ≡ coefficientCount) × (length (now p) ≡ coefficientCount)
         × T (every small (now p)) ⌝ }
     ensures { λ _. ⌜ now (place .exit) ≡ shift (now (p .entry)) ⌝ }
 {
+    let count = polynomials::content::degree(p) + 1;
+    let front = &p[..count];
     let mut k = 0;
     while k < COEFFICIENTS {
-        place[k] = polynomials::shift::shifted_coefficient(table, p, k);
+        place[k] = polynomials::shift::shifted_coefficient(table, front, k);
         k += 1;
     }
 }

@@ -8,7 +8,8 @@ use borrow.Author.Needs.{needs}
 use denote.Ref.{now}
 use lib.ListN.{length, take}
 use lib.Seq.{length-take-le}
-use Rattle.combinations.specs.Combination.{trim, degree-below}
+use Rattle.polynomials.specs.Content.{degree-below}
+use Rattle.combinations.specs.Combination.{trim}
 use Rattle.combinations.proofs.trimmed.Statement.{statement}
 use Rattle.combinations.proofs.trimmed.Tie as tie
 
@@ -18,13 +19,13 @@ degree-requires c κs = search needs
 add-n : tie.Need-add-n
 add-n c =
     let p = now (c .before .args .p) in
-    omega (arith, c .degree .ensures, degree-below p (length p) (le-refl (length p)) (c .before .pre))
+    omega (arith, c .degree .ensures, degree-below p (c .before .pre))
 
 slice-aggregate-result : tie.Need-slice-aggregate-result
 slice-aggregate-result c =
     let p = now (c .before .before .args .p) in
     sym (length-take-le (c .before .degree .result + 1) p
-    (omega (arith, c .before .degree .ensures, degree-below p (length p) (le-refl (length p)) (c .before .before .pre))))
+    (omega (arith, c .before .degree .ensures, degree-below p (c .before .before .pre))))
 
 returns : tie.Need-returns
 unfolding trim

@@ -22,7 +22,8 @@ use Rattle.rules.specs.Limits.{small}
 use Rattle.roots.specs.declared.RootList.{RootList}
 use Rattle.roots.specs.RootSearch.{held, listed}
 use Rattle.common_roots.specs.Divisions.{vanishesAt}
-use Rattle.common_roots.specs.Kept.{degree-below, eval-front, few-kept, kept-yes, kept-no}
+use Rattle.polynomials.specs.Content.{degree-below}
+use Rattle.common_roots.specs.Kept.{eval-front, few-kept, kept-yes, kept-no}
 use Rattle.common_roots.proofs.kept.Statement.{statement}
 use Rattle.common_roots.proofs.kept.Tie as tie
 
