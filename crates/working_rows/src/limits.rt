@@ -37,8 +37,15 @@ pub fn limited(entries: [i64; ENTRIES], right: [i64; COEFFICIENTS]) -> Worked
     if !stores::checks::all_small(&right[..]) {
         return broken(8);
     }
-    let row = crate::stored::working(entries, right);
-    Worked { refusal: 0, row }
+    let width = crate::entries::width(&entries[..]);
+    Worked {
+        refusal: 0,
+        row: WorkingRow {
+            entries,
+            right,
+            width,
+        },
+    }
 }
 
 // Behind that limit, a row whose left part alone is zero is refused with 10 (SCOPE 2.46). Without a right side there is none.

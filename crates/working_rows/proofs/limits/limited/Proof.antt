@@ -1,6 +1,6 @@
 -- `working_rows::limits::limited` meets its contract.
 -- Assumes nothing.
-use mathlib.Core.Path.{_≡_, refl, sym, _∙_, ap₂, subst}
+use mathlib.Core.Path.{_≡_, refl, sym, _∙_, ap, ap₂, subst}
 use mathlib.Core.Bool.{false, _&&_}
 use mathlib.Core.List.{List, _++_}
 use native.Mathlib.Omega.{arith}
@@ -14,6 +14,7 @@ use Rattle.rules.specs.Rows.{coefficientsOf}
 use Rattle.rules.specs.Stores.{rowOf}
 use Rattle.rules.specs.Elimination.{Limited, beyond, limitCoefficients}
 use Rattle.rules.specs.Layout.{coefficientsOf-rowOf-all}
+use Rattle.working_rows.specs.declared.WorkingRow.{WorkingRow}
 use Rattle.working_rows.specs.Working.{workingOf, left-held, right-held}
 use Rattle.working_rows.specs.Worked.{Shown, refusalOf, workedRow, limit-within, limit-beyond}
 use Rattle.working_rows.proofs.limits.limited.Statement.{statement}
@@ -76,22 +77,27 @@ returns-2 c =
     let failed = sym (c .before .before .all-small2 .ensures) ∙ not-true _ (c .before .if2 .taken) in
     subst (Shown _ _) (sym (past start (sym (and-second _ _ passed) ∙ failed))) (c .broken2 .ensures)
 
-working-requires : tie.Need-working-requires
-working-requires c κs = search needs
+slice-aggregate-width : tie.Need-slice-aggregate-width
+slice-aggregate-width c = search needs
+
+width-requires : tie.Need-width-requires
+width-requires c κs = search needs
 
 returns-3 : tie.Need-returns-3
 unfolding refusalOf workedRow
 returns-3 c =
-    let second = c .before .before in
+    let tested = c .before .before in
+    let second = tested .before in
     let first = second .before .before in
     let b = first .before .before .before in
     let passed = sym (first .before .all-small .ensures) ∙ not-false _ (first .if1 .left) in
-    let also = sym (second .all-small2 .ensures) ∙ not-false _ (c .before .if2 .left) in
+    let also = sym (second .all-small2 .ensures) ∙ not-false _ (tested .if2 .left) in
     let whole = every-append small (entries b) (right b) ∙ sym (and-second _ _ passed) ∙ also in
+    let made = ap {B = WorkingRow} (λ n. record { entries = entries b; right = right b; width = n }) (c .width .ensures) in
     let row = ap₂ workingOf (sym (left-held (entries b) (right b) (long b))) (sym (right-held (entries b) (right b) (long b)
     (right-long b))) in
     subst (Shown _ _) (sym (limit-within (rowOf (entries b ++ right b)) (entries b ++ right b) (held b) whole))
-    (refl, c .working .ensures ∙ row)
+    (refl, made ∙ row)
 
 pub limited-spec : {M : Type 1} → statement M
 limited-spec =
@@ -105,5 +111,6 @@ limited-spec =
     all-small-requires-2
     broken-requires-2
     returns-2
-    working-requires
+    slice-aggregate-width
+    width-requires
     returns-3)
