@@ -10,6 +10,7 @@
 -- Main statements
 --   within-yes, within-no, within-size   a value that is kept is within the limit
 --   after-some                  what comes after a value that is there
+--   horner-zero                 zeros leave the value at 0
 --   horner-next, horner-past    a coefficient more, at the low end; what is past the limit stays so
 --   horner-size                 a value that is formed is within the limit
 --   horner-eval                 where Horner's rule gives a value, it is that of the polynomial
@@ -19,10 +20,10 @@ use mathlib.Core.Path.{_≡_, refl, sym, _∙_, ap}
 use mathlib.Core.Bool.{Bool, true, false, cond}
 use mathlib.Core.List.{[], _∷_}
 use mathlib.Core.Option.{Option, none, some}
-use lib.Dec.{T, leb, leb→le, le→leb}
+use lib.Dec.{T, leb, leb→le, le→leb, lit≤}
 use lib.ListN.{length, drop, getD}
-use lib.IntN.{ℤ, pos, natAbs, _+ℤ_, _*ℤ_}
-use Rattle.algebra.specs.Polynomials.{Polynomial, eval}
+use lib.IntN.{ℤ, pos, natAbs, _+ℤ_, _*ℤ_, *ℤ-zero}
+use Rattle.algebra.specs.Polynomials.{Polynomial, eval, isZero, isZero-cons}
 use Rattle.lists.specs.Taken.{drop-next}
 use Rattle.lists.specs.Tests.{true-of, false-of}
 use Rattle.evaluation.specs.declared.Formed.{Formed}
@@ -88,6 +89,16 @@ pub horner-next : (n : ℤ) (p : Polynomial) (i : ℕ) (v : ℤ) → i < length 
 unfolding horner after
 horner-next n p i v h e =
     ap (horner n) (drop-next p i (pos 0) h) ∙ ap (after (λ v. within (getD p i (pos 0) +ℤ n *ℤ v))) e
+
+-- Zeros leave the value at 0.
+pub horner-zero : (n : ℤ) (p : Polynomial) → T (isZero p) → horner n p ≡ some (pos 0)
+unfolding horner after
+horner-zero n [] z = refl
+horner-zero n (a ∷ p) z =
+    let both = isZero-cons a p .0 z in
+    ap (after (λ v. within (a +ℤ n *ℤ v))) (horner-zero n p (both .1))
+    ∙ ap within (ap (λ b. b +ℤ n *ℤ pos 0) (both .0) ∙ ap (λ b. pos 0 +ℤ b) (*ℤ-zero n))
+    ∙ within-yes (pos 0) (lit≤ tt)
 
 pub horner-past : (n : ℤ) (p : Polynomial) (i : ℕ) → horner n (drop i p) ≡ none → horner n p ≡ none
 unfolding horner after

@@ -4,6 +4,8 @@ ghost use mathlib.Core.Path.{_≡_};
 ghost use Prim.Native.Nat.{_≤_};
 ghost use lib.Dec.{T};
 ghost use lib.IntN.{natAbs};
+ghost use lib.ListN.{length, drop};
+ghost use Rattle.algebra.specs.Polynomials.{isZero};
 ghost use Rattle.lists.specs.Tests.{every};
 ghost use Rattle.rules.specs.Limits.{small};
 ghost use Rattle.evaluation.specs.Evaluated as Evaluated;
@@ -17,12 +19,20 @@ pub enum Formed {
     Past,
 }
 
+// How many coefficients there are up to the highest that is not 0: those above leave the value at 0.
+fn used(p: &[i64]) -> usize
+    ensures { λ r. ⌜ (r ≤ length (now (p .entry))) × T (isZero (drop r (now (p .entry)))) ⌝ }
+{
+    let d = polynomials::content::degree(p);
+    if d < p.len() { d + 1 } else { 0 }
+}
+
 // Horner's rule, from the highest power down (SCOPE 12.31).
 pub fn horner(p: &[i64], n: i64) -> Formed
     requires { ⌜ T (every small (now p)) × (natAbs n ≤ Evaluated.farthest) ⌝ }
     ensures { λ r. ⌜ Evaluated.formedOf r ≡ Evaluated.horner n (now (p .entry)) ⌝ }
 {
-    let mut i = p.len();
+    let mut i = used(p);
     let mut value: i64 = 0;
     while 0 < i {
         i -= 1;

@@ -1,7 +1,7 @@
 -- `evaluation::horner` meets its contract. The invariant: the value is that of the coefficients from i on; in it, as in every signed
 -- local of a loop, the value stands as its bits. The measure is i.
 -- Assumes nothing.
-use mathlib.Core.Path.{_≡_, sym, _∙_, ap, subst}
+use mathlib.Core.Path.{_≡_, sym, _∙_, subst}
 use mathlib.Core.List.{List}
 use mathlib.Core.Option.{some}
 use Prim.Native.Nat.{ℕ, _+_, _*_, _-_, _≤_, _<_}
@@ -11,7 +11,6 @@ use borrow.Author.Needs.{needs}
 use lib.Dec.{lit<}
 use lib.IntN.{ℤ, pos, natAbs, _+ℤ_, _*ℤ_}
 use lib.ListN.{length, drop, getD}
-use lib.Seq.{drop-length}
 use mir.Syntax.{w64}
 use mir.Val.{Fits, SFits, ofZ, toZ}
 use mir.Facts.{toZ-ofZ, fits-ofZ}
@@ -19,7 +18,7 @@ use Rattle.integers.specs.Ranges.{sfits-size}
 use Rattle.algebra.specs.Integers.{natAbs-+ℤ, natAbs-*ℤ}
 use Rattle.rules.specs.Limits.{bound}
 use Rattle.polynomials.specs.Content.{small-at}
-use Rattle.evaluation.specs.Evaluated.{valueLimit, within, formedOf, farthest, horner-next, horner-past, within-yes, within-no, horner}
+use Rattle.evaluation.specs.Evaluated.{valueLimit, within, formedOf, farthest, horner-zero, horner-next, horner-past, within-yes, within-no, horner}
 use Rattle.evaluation.proofs.horner.Statement.{statement}
 use Rattle.evaluation.proofs.horner.Tie as tie
 
@@ -33,10 +32,10 @@ abbrev μ-loop : tie.MeasureT-loop
 -- A turn: coefficient i, one before the loop's place, is joined.
 module _ (c : tie.At-loop Inv-loop μ-loop) where
   abbrev p : List ℤ
-  p = c .before .args .p .now
+  p = c .before .before .args .p .now
 
   abbrev n : ℤ
-  n = c .before .args .n
+  n = c .before .before .args .n
 
   abbrev i : ℕ
   i = c .loop .i - 1
@@ -48,24 +47,24 @@ module _ (c : tie.At-loop Inv-loop μ-loop) where
   next = getD p i (pos 0) +ℤ n *ℤ value
 
   fits-n : SFits w64 n
-  fits-n = c .before .fits .n
+  fits-n = c .before .before .fits .n
 
   value-is : horner n (drop (c .loop .i) p) ≡ some value
   value-is = rw (toZ-ofZ fits-n) at (c .loop .inv .3)
 
   product-size : natAbs (n *ℤ value) ≤ farthest * valueLimit
-  product-size = le-trans (le-of-eq (natAbs-*ℤ n value)) (mul-le-mul (c .before .pre .1) (c .loop .inv .2))
+  product-size = le-trans (le-of-eq (natAbs-*ℤ n value)) (mul-le-mul (c .before .before .pre .1) (c .loop .inv .2))
 
   product-fits : SFits w64 (n *ℤ value)
   product-fits = sfits-size (n *ℤ value) product-size (lit< tt)
 
   coefficient-fits : SFits w64 (getD p i (pos 0))
-  coefficient-fits = sfits-size (getD p i (pos 0)) (small-at p (c .before .pre .0) i) (lit< tt)
+  coefficient-fits = sfits-size (getD p i (pos 0)) (small-at p (c .before .before .pre .0) i) (lit< tt)
 
   next-fits : SFits w64 next
   next-fits =
       sfits-size next {k = farthest * valueLimit + bound}
-      (omega (arith, natAbs-+ℤ (getD p i (pos 0)) (n *ℤ value), product-size, small-at p (c .before .pre .0) i)) (lit< tt)
+      (omega (arith, natAbs-+ℤ (getD p i (pos 0)) (n *ℤ value), product-size, small-at p (c .before .before .pre .0) i)) (lit< tt)
 
   next-is : toZ w64 (ofZ w64 (getD p i (pos 0))) +ℤ toZ w64 (ofZ w64 (toZ w64 (ofZ w64 n) *ℤ value)) ≡ next
   next-is = simp (toZ-ofZ fits-n, toZ-ofZ product-fits, toZ-ofZ coefficient-fits)
@@ -78,10 +77,13 @@ module _ (c : tie.At-loop Inv-loop μ-loop) where
 size-is : (c : tie.After-magnitude Inv-loop μ-loop) → c .magnitude .result ≡ natAbs (next (c .before .before .before))
 size-is c = simp (next-is (c .before .before .before), toZ-ofZ (next-fits (c .before .before .before))) at (c .magnitude .ensures)
 
+used-requires : tie.Need-used-requires Inv-loop μ-loop
+used-requires c κs = search needs
+
 loop-holds : tie.Need-loop-holds Inv-loop μ-loop
-unfolding horner
 loop-holds c =
-    (search needs, search needs, search needs, ap (horner (toZ w64 (ofZ w64 (c .args .n)))) (drop-length (c .args .p .now)))
+    let n = toZ w64 (ofZ w64 (c .before .args .n)) in
+    (search needs, c .used .ensures .0, search needs, horner-zero n (drop (c .used .result) (c .before .args .p .now)) (c .used .ensures .1))
 
 sub-i : tie.Need-sub-i Inv-loop μ-loop
 sub-i c = search needs
@@ -138,6 +140,7 @@ horner-spec =
     (tie.spec
     Inv-loop
     μ-loop
+    used-requires
     loop-holds
     sub-i
     mul-value
