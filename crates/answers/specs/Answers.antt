@@ -7,7 +7,8 @@
 --
 -- Main statements
 --   answer-right         every sheet's answer is one of those
---   answerCall-answer    in a store of at least 65,536 bytes the call leaves the answer of `rules`
+--   answerCall-answer    the call leaves the answer of `rules`, unless it says 1 of a store of less than 65,536 bytes
+--   answerCall-none      a refusal leaves the store as it was
 --   order-after          the column order of a run that accepts has different columns of 1..m
 --   read-refused, run-refused, run-written   the answer, by what reading and running on stores give
 --   read-checked         the stores that a sheet was read into pass the checks of a run
@@ -123,33 +124,51 @@ unfoldable pub answerBy : ℕ → ℕ → List ℕ → Answer
 answerBy zero n store = accepted (take n store)
 answerBy (suc k) n store = refusedWith (suc k)
 
-pub answerCall-answer : (bytes store : List ℕ) → mostBytes ≤ length store
+-- A sheet of at most 65,536 bytes lies in the store, unless that is shorter and the call says 1.
+pub answered-fits : (sheet store : List ℕ) → length sheet ≤ mostBytes
+    → (answered (accepted sheet) store .refusal ≡ 1 → mostBytes ≤ length store) → length sheet ≤ length store
+unfolding answered unanswered
+answered-fits sheet store few decided = go (leb (length sheet) (length store)) (leb→le (length sheet) (length store)) decided
+  where
+    whole : AnswerCall
+    whole = record { refusal = 0; length = length sheet; store = overwrite sheet store }
+
+    go : (t : Bool) → (T t → length sheet ≤ length store) → (cond t whole (unanswered 1 store) .refusal ≡ 1 → mostBytes ≤ length store)
+        → length sheet ≤ length store
+    go true low decided = low tt
+    go false low decided = omega (arith, decided refl)
+
+pub answerCall-answer : (bytes store : List ℕ) → (answerCall bytes store .refusal ≡ 1 → mostBytes ≤ length store)
     → let c = answerCall bytes store in answerBy (c .refusal) (c .length) (c .store) ≡ answerSheet bytes
 unfolding answerCall answered answerBy overwrite unanswered
-answerCall-answer bytes store h = go (answerSheet bytes) (answer-right bytes)
+answerCall-answer bytes store decided = go (answerSheet bytes) (answer-right bytes) decided
   where
-    go : (a : Answer) → RightAnswer a → let c = answered a store in answerBy (c .refusal) (c .length) (c .store) ≡ a
-    go a (right-accepted {bytes = sheet} few) =
+    go : (a : Answer) → RightAnswer a → (answered a store .refusal ≡ 1 → mostBytes ≤ length store)
+        → let c = answered a store in answerBy (c .refusal) (c .length) (c .store) ≡ a
+    go a (right-accepted {bytes = sheet} few) decided =
         ap (λ c. answerBy (c .refusal) (c .length) (c .store))
-        (cond-passed (leb (length sheet) (length store)) _ (unanswered 1 store) (le→leb (length sheet) (length store) (omega arith)))
+        (cond-passed (leb (length sheet) (length store)) _ (unanswered 1 store)
+        (le→leb (length sheet) (length store) (answered-fits sheet store few decided)))
         ∙ ap accepted (take-at sheet (drop (length sheet) store) (length sheet) refl)
-    go a (right-refused n few) = refl
+    go a (right-refused n few) decided = refl
 
--- With a refusal the length is 0 (SCOPE 6.31).
-pub answerCall-none : (bytes store : List ℕ) → answerCall bytes store .refusal ≢ 0 → answerCall bytes store .length ≡ 0
+-- With a refusal the length is 0 (SCOPE 6.31), and the store is unchanged (SCOPE 5.31).
+pub answerCall-none : (bytes store : List ℕ) → answerCall bytes store .refusal ≢ 0
+    → (answerCall bytes store .length ≡ 0) × (answerCall bytes store .store ≡ store)
 unfolding answerCall answered unanswered
 answerCall-none bytes store h = go (answerSheet bytes) h
   where
-    go : (a : Answer) → answered a store .refusal ≢ 0 → answered a store .length ≡ 0
+    go : (a : Answer) → answered a store .refusal ≢ 0 → (answered a store .length ≡ 0) × (answered a store .store ≡ store)
     go (accepted sheet) h = by (leb (length sheet) (length store)) h
       where
         whole : AnswerCall
         whole = record { refusal = 0; length = length sheet; store = overwrite sheet store }
 
-        by : (t : Bool) → cond t whole (unanswered 1 store) .refusal ≢ 0 → cond t whole (unanswered 1 store) .length ≡ 0
+        by : (t : Bool) → cond t whole (unanswered 1 store) .refusal ≢ 0
+            → (cond t whole (unanswered 1 store) .length ≡ 0) × (cond t whole (unanswered 1 store) .store ≡ store)
         by true h = absurd (h refl)
-        by false h = refl
-    go (refusedWith n) h = refl
+        by false h = (refl, refl)
+    go (refusedWith n) h = (refl, refl)
 
 -- ---- the column order of a run that accepts
 

@@ -1,5 +1,6 @@
 // The answer to one sheet, put at the front of the output.
 ghost use mathlib.Core.Path.{_≡_};
+ghost use mathlib.Core.Bool.{true, false};
 ghost use Prim.Native.Nat.{_+_, _≤_};
 ghost use lib.ListN.{length, take};
 ghost use Rattle.rules.specs.Stores.{largestRows, relationNeed};
@@ -35,24 +36,7 @@ pub(crate) fn put_text(output: &mut [u8], text: frames::Text)
     bytes::copy(&lines[..length], output);
 }
 
-// There is room for any answer: the sheet goes to its place behind the line `0`, and then the line before it.
-fn put_straight(sheet: &[u8], output: &mut [u8], rows: &mut [i64], relations: &mut [i64]) -> Put
-    requires { ⌜ (2 + mostBytes ≤ length (now output)) × (now rows ≡ zeros largestRows) × (now relations ≡ zeros relationNeed) ⌝ }
-    ensures { λ r. ⌜ putOf r (now (output .exit)) ≡ answerPut (answerSheet (now (sheet .entry))) (now (output .entry)) ⌝ }
-    ensures { λ _. ⌜ (now (rows .exit) ≡ now (rows .entry)) × (now (relations .exit) ≡ now (relations .entry)) ⌝ }
-{
-    let answer = answers::answer_in(sheet, rows, relations, &mut output[ACCEPTED..]);
-    let line = frames::refusal_line(answer.refusal);
-    let written = line.length + answer.length;
-    put_text(output, line);
-    Put {
-        fits: true,
-        refusal: answer.refusal,
-        written,
-    }
-}
-
-// There may be too little room: the answer is worked out beside the output, and copied where it fits.
+// The answer worked out beside the output, and copied where it fits.
 fn put_beside(sheet: &[u8], output: &mut [u8], rows: &mut [i64], relations: &mut [i64]) -> Put
     requires { ⌜ (now rows ≡ zeros largestRows) × (now relations ≡ zeros relationNeed) ⌝ }
     ensures { λ r. ⌜ putOf r (now (output .exit)) ≡ answerPut (answerSheet (now (sheet .entry))) (now (output .entry)) ⌝ }
@@ -80,6 +64,15 @@ fn put_beside(sheet: &[u8], output: &mut [u8], rows: &mut [i64], relations: &mut
     }
 }
 
+// Refusal 1 in a room shorter than that of the longest answer may be the room's, and then the answer is another.
+fn undecided(refusal: u8, room: usize) -> bool
+    ensures { λ r. ⌜ (r ≡ false → refusal ≡ 1 → 2 + mostBytes ≤ room) × (r ≡ true → refusal ≡ 1) ⌝ }
+{
+    refusal == 1 && room < ANSWER
+}
+
+// The sheet goes to its place behind the line `0`, and then the line before it. Only where the output has too little room for that, or for
+// some line, is the answer worked out beside it.
 pub(crate) fn put_answer(
     sheet: &[u8],
     output: &mut [u8],
@@ -90,9 +83,19 @@ pub(crate) fn put_answer(
     ensures { λ r. ⌜ putOf r (now (output .exit)) ≡ answerPut (answerSheet (now (sheet .entry))) (now (output .entry)) ⌝ }
     ensures { λ _. ⌜ (now (rows .exit) ≡ now (rows .entry)) × (now (relations .exit) ≡ now (relations .entry)) ⌝ }
 {
-    if output.len() < ACCEPTED + SHEET {
-        put_beside(sheet, output, rows, relations)
-    } else {
-        put_straight(sheet, output, rows, relations)
+    if output.len() < frames::TEXT {
+        return put_beside(sheet, output, rows, relations);
+    }
+    let answer = answers::answer_in(sheet, rows, relations, &mut output[ACCEPTED..]);
+    if undecided(answer.refusal, output.len()) {
+        return put_beside(sheet, output, rows, relations);
+    }
+    let line = frames::refusal_line(answer.refusal);
+    let written = line.length + answer.length;
+    put_text(output, line);
+    Put {
+        fits: true,
+        refusal: answer.refusal,
+        written,
     }
 }

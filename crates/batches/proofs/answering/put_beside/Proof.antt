@@ -40,7 +40,7 @@ module _ (c : tie.After-refusal-line) where
   within : (made .answer-in .result .length ≤ length beside) × (length (made .answer-in .last .1 .1 .1 .0) ≡ length beside)
   within =
       made-within (now (start .args .sheet)) beside (made .answer-in .result) (made .answer-in .last .1 .1 .1 .0)
-      (c .refusal-line .result) long (made .answer-in .ensures .0) (c .refusal-line .ensures)
+      (c .refusal-line .result) (λ _. long) (made .answer-in .ensures .0) (c .refusal-line .ensures)
 
   -- The bytes that are copied.
   counted : length (take (made .answer-in .result .length) (made .answer-in .last .1 .1 .1 .0)) ≡ made .answer-in .result .length
@@ -68,7 +68,7 @@ returns : tie.Need-returns
 returns c =
     let line = c .before in (
       beside-unput (now (start line .args .sheet)) beside (now (start line .args .output)) (made line .answer-in .result)
-          (made line .answer-in .last .1 .1 .1 .0) (line .refusal-line .result) long (made line .answer-in .ensures .0)
+          (made line .answer-in .last .1 .1 .1 .0) (line .refusal-line .result) (λ _. long) (made line .answer-in .ensures .0)
           (line .refusal-line .ensures) (omega arith),
       search needs,
     )
@@ -122,7 +122,7 @@ returns-2 c =
     let text = take (made line .answer-in .result .length) (made line .answer-in .last .1 .1 .1 .0) in
     let copied = c .before .before .before .before .before .before .copy in (
       beside-call (now (start line .args .sheet)) beside output (made line .answer-in .result)
-          (made line .answer-in .last .1 .1 .1 .0) (line .refusal-line .result) long (made line .answer-in .ensures .0)
+          (made line .answer-in .last .1 .1 .1 .0) (line .refusal-line .result) (λ _. long) (made line .answer-in .ensures .0)
           (line .refusal-line .ensures) (omega arith) (copied .last .1 .0) (c .before .before .put-text .last .0)
           (copied .ensures .1 ∙ ap (λ l. l ++ drop (length text) (take (length output - from) (drop from output))) (take-length text))
           (c .before .before .put-text .ensures),

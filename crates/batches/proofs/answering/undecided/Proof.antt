@@ -1,0 +1,15 @@
+-- `batches::answering::undecided` meets its contract.
+-- Assumes nothing.
+use borrow.Author.Needs.{needs}
+use borrow.Author.Tests.{eqb-true}
+use Rattle.batches.proofs.answering.undecided.Statement.{statement}
+use Rattle.batches.proofs.answering.undecided.Tie as tie
+
+returns : tie.Need-returns
+returns c = search needs
+
+returns-2 : tie.Need-returns-2
+returns-2 c = (λ _ one. absurd (c .if1 .left one), eqb-true (c .before .args .refusal) 1)
+
+pub undecided-spec : {M : Type 1} → statement M
+undecided-spec = tie.close (tie.spec returns returns-2)
