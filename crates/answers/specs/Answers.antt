@@ -33,7 +33,7 @@ use Rattle.rules.specs.Elimination.{leading, State, Outcome, done, refused, ran
 use Rattle.rules.specs.Stores.{Sizes, equations, span, rowStoreOf, relationStoreOf, lengthsRight, checkStores, Valid}
 use Rattle.rules.specs.Stores.{withEquations, rowStoreFor, rowNeed, largestRows, relationNeed}
 use Rattle.rules.specs.Layout.{valid-stores, size-bounds, lengthsRight-iff, rowsOf-rowStoreOf, relationsOf-relationStoreOf}
-use Rattle.rules.specs.Calls.{Call, callRun, afterCheck, afterRun, acceptance, reportedOrder, cleared, refusal}
+use Rattle.rules.specs.Calls.{callRun, afterCheck, afterRun, acceptance, reportedOrder, cleared, refusal}
 use Rattle.lists.specs.Overwritten.{overwrite, overwrite-twice}
 use Rattle.rules.specs.Numbers.{Read, got, fault}
 use Rattle.rules.specs.Sheets.{Sheet, contains, readSheet, writeSheet}
@@ -47,6 +47,7 @@ use Rattle.theory.specs.Settled.{Diagonal}
 use Rattle.sheets.specs.WrittenOrder.{OrderRight, different-cons}
 use Rattle.sheets.specs.ReadBack.{SheetRight, read-valid, sheet-read-written}
 use Rattle.sheets.specs.CallsReadBack.{read-call-write, read-write-call}
+use Rattle.runs.specs.Unreported.{UnreportedCall, unreportedIn, unreportedCall}
 use Rattle.answers.specs.declared.AnswerResult as declared
 use Rattle.answers.specs.Faults.{Numbered, read, numbered, sheet-numbered}
 
@@ -199,17 +200,17 @@ order-after m D s d = different-columns m (s .order) (d .columns-different) (λ 
 -- ---- the run on the stores that a sheet was read into
 
 -- The check before what a run leaves is written with some sizes, and the call that writes it.
-abbrev pub checkIn : Sizes → Call → ℕ
+abbrev pub checkIn : Sizes → UnreportedCall → ℕ
 checkIn z c = checkWrite z (c .result .relations) (c .result .order) (c .rowStore) (c .relationStore)
 
-abbrev pub writeIn : Sizes → Call → List ℕ → WriteCall
+abbrev pub writeIn : Sizes → UnreportedCall → List ℕ → WriteCall
 writeIn z c store = writeCall z (c .result .relations) (c .result .order) (c .rowStore) (c .relationStore) store
 
 -- The same with as many equations as its rank, for a run on a system of sizes z (SCOPE 5.14).
-abbrev pub checkOn : Sizes → Call → ℕ
+abbrev pub checkOn : Sizes → UnreportedCall → ℕ
 checkOn z c = checkIn (withEquations (c .result .rank) z) c
 
-abbrev pub writeOn : Sizes → Call → List ℕ → WriteCall
+abbrev pub writeOn : Sizes → UnreportedCall → List ℕ → WriteCall
 writeOn z c store = writeIn (withEquations (c .result .rank) z) c store
 
 module _ (bytes : List ℕ) (x : Sheet) (rest : List ℕ) (e : readSheet bytes ≡ got x rest) (rows relations : List ℤ) where
@@ -219,24 +220,25 @@ module _ (bytes : List ℕ) (x : Sheet) (rest : List ℕ) (e : readSheet bytes �
   abbrev relationsRead : List ℤ
   relationsRead = overwrite (relationStoreOf (x .relations)) relations
 
-  abbrev ran : Call
-  ran = callRun leading (x .sizes) (length (x .relations)) rowsRead relationsRead
+  abbrev ran : UnreportedCall
+  ran = unreportedCall (callRun leading (x .sizes) (length (x .relations)) rowsRead relationsRead)
 
   valid : Valid (x .sizes) (x .rows) (x .relations)
   valid = read-valid bytes x rest e
 
   -- The call does with the stores what the run does with the sheet.
-  ran-is : ran ≡ afterRun leading (x .sizes) (leadingRun (x .rows) (x .relations)) rowsRead relationsRead
+  ran-is : ran ≡ unreportedCall (afterRun leading (x .sizes) (leadingRun (x .rows) (x .relations)) rowsRead relationsRead)
   unfolding callRun afterCheck wholeRun overwrite
   ran-is =
-      ap (afterCheck leading (x .sizes) (length (x .relations)) rowsRead relationsRead)
+      ap (λ n. unreportedCall (afterCheck leading (x .sizes) (length (x .relations)) rowsRead relationsRead n))
       (valid-stores (x .sizes) (x .rows) (x .relations) _ _ valid)
-      ∙ ap₂ (λ r l. afterRun leading (x .sizes) (leadingRun r l) rowsRead relationsRead)
+      ∙ ap₂ (λ r l. unreportedCall (afterRun leading (x .sizes) (leadingRun r l) rowsRead relationsRead))
       (rowsOf-rowStoreOf (equations (x .sizes)) (x .rows) _ (valid .row-count) (valid .row-shapes))
       (relationsOf-relationStoreOf (x .relations) _ (valid .relation-shapes))
 
-  ran-by : (o : Outcome) → leadingRun (x .rows) (x .relations) ≡ o → ran ≡ afterRun leading (x .sizes) o rowsRead relationsRead
-  ran-by o f = ran-is ∙ ap (λ o. afterRun leading (x .sizes) o rowsRead relationsRead) f
+  ran-by : (o : Outcome) → leadingRun (x .rows) (x .relations) ≡ o
+      → ran ≡ unreportedCall (afterRun leading (x .sizes) o rowsRead relationsRead)
+  ran-by o f = ran-is ∙ ap (λ o. unreportedCall (afterRun leading (x .sizes) o rowsRead relationsRead)) f
 
   answer-by : (o : Outcome) → leadingRun (x .rows) (x .relations) ≡ o → answerSheet bytes ≡ answerRun x o
   unfolding answerSheet answerRead
@@ -270,14 +272,14 @@ module _ (bytes : List ℕ) (x : Sheet) (rest : List ℕ) (e : readSheet bytes �
 
       leaves : ran
           ≡ record {
-            result = acceptance leading (span (x .sizes)) s;
+            result = unreportedIn (acceptance leading (span (x .sizes)) s);
             rowStore = overwrite (rowStoreOf (s .rows)) rowsLeft;
             relationStore = overwrite (relationStoreOf (s .relations)) relationsRead;
           }
       leaves =
           ran-by (done s) f
           ∙ ap (λ l. record {
-            result = acceptance leading (span (x .sizes)) s;
+            result = unreportedIn (acceptance leading (span (x .sizes)) s);
             rowStore = l;
             relationStore = overwrite (relationStoreOf (s .relations)) relationsRead;
           })
@@ -296,8 +298,8 @@ module _ (bytes : List ℕ) (x : Sheet) (rest : List ℕ) (e : readSheet bytes �
 -- ---- the three calls on stores
 
 -- The run on what was read.
-abbrev pub runOn : ReadCall → Call
-runOn c = callRun leading (c .result .sizes) (c .result .relations) (c .rowStore) (c .relationStore)
+abbrev pub runOn : ReadCall → UnreportedCall
+runOn c = unreportedCall (callRun leading (c .result .sizes) (c .result .relations) (c .rowStore) (c .relationStore))
 
 -- The stores are long enough for every sheet.
 module _ (bytes : List ℕ) (rows relations : List ℤ) (rows-long : largestRows ≤ length rows)
@@ -343,8 +345,8 @@ module _ (bytes : List ℕ) (rows relations : List ℤ) (rows-long : largestRows
 
     ran-on : (x : Sheet) (rest : List ℕ) → readSheet bytes ≡ got x rest
         → runOn readIn
-        ≡ callRun leading (x .sizes) (length (x .relations)) (overwrite (rowStoreOf (x .rows)) rows)
-        (overwrite (relationStoreOf (x .relations)) relations)
+        ≡ unreportedCall (callRun leading (x .sizes) (length (x .relations)) (overwrite (rowStoreOf (x .rows)) rows)
+        (overwrite (relationStoreOf (x .relations)) relations))
     unfolding filled
     ran-on x rest e = ap runOn (read-got x rest e)
 
@@ -490,7 +492,7 @@ module _ (bytes store : List ℕ) (rows relations : List ℤ) (rows-long : large
       ap (λ c. checkStores (c .result .sizes) (c .result .relations) (c .rowStore) (c .relationStore)) e
       ∙ read-checked bytes rows relations rows-long relations-long (fine-read fine)
 
-  module _ (fine : c .result .refusal ≡ 0) (d : Call) (f : d ≡ runOn c) where
+  module _ (fine : c .result .refusal ≡ 0) (d : UnreportedCall) (f : d ≡ runOn c) where
     same-run : d ≡ runOn (readCall bytes rows relations)
     same-run = f ∙ ap runOn e
 

@@ -26,13 +26,14 @@ use Rattle.rules.specs.Stores.{Sizes, equations, span, rowsOf, relationsOf, rel
 use Rattle.rules.specs.Stores.{rowNeed, largestRows, relationNeed, rowStoreFor, relationStoreOf, lengthsRight}
 use Rattle.rules.specs.Layout.{StoreRelation, stores-valid, size-bounds, countRight-iff, length-rowStoreOf, length-relationStoreOf}
 use Rattle.rules.specs.Layout.{length-rowStoreFor}
-use Rattle.rules.specs.Calls.{Call, zeros, callRun, afterCheck, afterRun, acceptance, cleared, refusal}
+use Rattle.rules.specs.Calls.{zeros, callRun, afterCheck, afterRun, acceptance, cleared, refusal}
 use Rattle.lists.specs.Overwritten.{overwrite, overwrite-paste, drop-overwrite}
 use Rattle.rules.specs.Numbers.{Read, got, fault}
 use Rattle.rules.specs.Sheets.{Sheet, readSheet}
 use Rattle.rules.specs.SheetCalls.{ReadCall, readCall, afterRead, filled, unread, readRefusal}
 use Rattle.theory.specs.Demands.{Accepted, Ended, run-ends, seven, eight, nine, ten, diagonal-nonzero, rank-few, output-valid}
 use Rattle.theory.specs.Demands as Demands
+use Rattle.runs.specs.Unreported.{UnreportedCall, unreportedCall}
 use Rattle.reading.specs.Zeros.{length-zeros, take-zeros, drop-zeros, zero-again}
 use Rattle.sheets.specs.ReadBack.{read-valid}
 
@@ -126,7 +127,7 @@ module _ (bytes : List ℕ) (rows relations : List ℤ) (c : ReadCall) (e : c �
 
 -- ---- a run that accepted, or was refused
 
-pub record Used (z : Sizes) (d : Call) : Type 0 where
+pub record Used (z : Sizes) (d : UnreportedCall) : Type 0 where
   pub few-rows : equations z ≤ mostEquations
   pub few : d .result .relations ≤ mostRelations
   pub rows-rest : drop (equations z * rowLength) (d .rowStore) ≡ drop (equations z * rowLength) (zeros largestRows)
@@ -136,7 +137,7 @@ pub record Used (z : Sizes) (d : Call) : Type 0 where
 module _ (z : Sizes) (count : ℕ) (rows relations : List ℤ) (checked : checkStores z count rows relations ≡ 0)
     (rest : drop (equations z * rowLength) rows ≡ drop (equations z * rowLength) (zeros largestRows))
     (long : length relations ≡ relationNeed)
-    (d : Call) (e : d ≡ callRun leading z count rows relations) where
+    (d : UnreportedCall) (e : d ≡ unreportedCall (callRun leading z count rows relations)) where
   abbrev outcome : Outcome
   outcome = wholeRun leading (span z) (rowsOf (equations z) rows) (relationsOf count relations)
 
@@ -146,9 +147,11 @@ module _ (z : Sizes) (count : ℕ) (rows relations : List ℤ) (checked : checkS
   few-rows : equations z ≤ mostEquations
   few-rows = size-bounds z (valid .sizes) .few-equations
 
-  ran-by : (o : Outcome) → outcome ≡ o → d ≡ afterRun leading z o rows relations
+  ran-by : (o : Outcome) → outcome ≡ o → d ≡ unreportedCall (afterRun leading z o rows relations)
   unfolding callRun afterCheck
-  ran-by o f = e ∙ ap (afterCheck leading z count rows relations) checked ∙ ap (λ o. afterRun leading z o rows relations) f
+  ran-by o f =
+      e ∙ ap (λ n. unreportedCall (afterCheck leading z count rows relations n)) checked
+      ∙ ap (λ o. unreportedCall (afterRun leading z o rows relations)) f
 
   pub refused-zero : d .result .refusal ≢ 0 → (d .rowStore ≡ zeros largestRows) × (d .relationStore ≡ zeros relationNeed)
   unfolding afterRun acceptance cleared rowNeed
@@ -181,7 +184,7 @@ module _ (z : Sizes) (count : ℕ) (rows relations : List ℤ) (checked : checkS
       clash : (n : ℕ) → outcome ≡ refused (suc n) → ⊥
       clash n f = suc-ne-zero n (sym (ap (λ d. d .result .refusal) (ran-by (refused (suc n)) f)) ∙ h)
 
-      leaves : (s : State) → outcome ≡ done s → Used z (afterRun leading z (done s) rows relations)
+      leaves : (s : State) → outcome ≡ done s → Used z (unreportedCall (afterRun leading z (done s) rows relations))
       leaves s f =
           let accepts : Accepted leading z _ _ s = record { valid = valid; accepts = f } in
           let v = output-valid accepts in

@@ -5,6 +5,7 @@
 --   resultAfter side D x          the result of a call whose run has the outcome x
 --   Final side D rows o           what the row store holds when the run has ended with the answer o
 --   Checked z count rows relations   what the stores hold when the checks have passed
+--   RanOn side z count .. o       the answer o and both stores are those of the whole run
 --
 -- Main statements
 --   counted-none, counted-next    the columns of an order, counted from 1, one after the other
@@ -13,7 +14,7 @@
 --   ended-refused, ended-accepted the result after the run, from the answer and the stores
 --   checked                       what the checks let through
 --   final-run                     a whole run ends, and one that accepts has settled every row that is left
---   call-run, call-refused        the whole call
+--   call-left, call-run, call-refused   the whole call
 use Prim.Native.Nat.{ℕ, zero, suc, _+_, _*_, _-_, _≤_, _<_}
 use native.Mathlib.Nat.{le-of-suc-le-suc, le-of-lt}
 use native.Mathlib.Numerals.{add-one}
@@ -151,16 +152,15 @@ pub record Final (side : Side) (D : ℕ) (rows : List ℤ) (o : Answer.Outcome) 
   pub all-settled : o .refusal ≡ 0 → (o .done ≡ true) × (o .progress .rows ≡ o .progress .settled)
   pub nonzero : o .refusal ≡ 0 → Nonzero (diagonal side D (settledState (o .progress .settled) rows (o .progress .order)))
 
-module _ (side : Side) (D : ℕ) (r : RunResult) (s : State) where
-  pub ended-refused : (n : ℕ) (d : Bool) → n ≢ 0 → resultOf r ≡ refusal n → resultOf r ≡ resultAfter side D (outcomeOf n d s)
+module _ (side : Side) (D : ℕ) (s : State) where
+  pub ended-refused : (n : ℕ) (d : Bool) → n ≢ 0 → refusal n ≡ resultAfter side D (outcomeOf n d s)
   unfolding resultAfter outcomeOf
-  ended-refused zero d h e = absurd (h refl)
-  ended-refused (suc n) d h e = e
+  ended-refused zero d h = absurd (h refl)
+  ended-refused (suc n) d h = refl
 
-  pub ended-accepted : (n : ℕ) (d : Bool) → n ≡ 0 → d ≡ true → resultOf r ≡ acceptance side D s
-      → resultOf r ≡ resultAfter side D (outcomeOf n d s)
+  pub ended-accepted : (n : ℕ) (d : Bool) → n ≡ 0 → d ≡ true → acceptance side D s ≡ resultAfter side D (outcomeOf n d s)
   unfolding resultAfter outcomeOf
-  ended-accepted n d e f h = rw (e, f) h
+  ended-accepted n d e f = rw (e, f) refl
 
 -- ---- the checks and the run
 
@@ -231,11 +231,14 @@ checked z count rows relations e =
         subst (λ l. T (every small l)) (relationStoreOf-relationsOf count relations few (long .1) (right .unused-zero))
         (relations-small z (relationsOf count relations) (right .relations-right))
 
+-- The whole run of the system that the stores hold.
+abbrev pub RanOn : Side → Sizes → ℕ → List ℤ → List ℤ → List ℤ → List ℤ → Answer.Outcome → Type 0
+RanOn side z count rows relations rows' relations' o =
+    Ran (equations z) rows relations rows' relations' o (wholeRun side (span z) (rowsOf (equations z) rows) (relationsOf count relations))
+
 -- A run that is enough ends, and one that accepts has settled every row that is left.
 module _ (side : Side) (z : Sizes) (count : ℕ) (rows relations rows' relations' : List ℤ) (o : Answer.Outcome)
-    (c : Checked z count rows relations)
-    (r : Ran (equations z) rows relations rows' relations' o
-    (wholeRun side (span z) (rowsOf (equations z) rows) (relationsOf count relations))) where
+    (c : Checked z count rows relations) (r : RanOn side z count rows relations rows' relations' o) where
   abbrev whole : Outcome
   whole = wholeRun side (span z) (rowsOf (equations z) rows) (relationsOf count relations)
 
@@ -292,29 +295,42 @@ unfolding callOf
 call-of c r rows relations e f g = λ i. record { result = e i; rowStore = f i; relationStore = g i }
 
 -- What a run that ends leaves is what its call leaves.
+left-after : (side : Side) (z : Sizes) (x : Outcome) (result : Result) (rows relations rows' relations' : List ℤ)
+    → ((s : State) → x ≢ going s) → result ≡ resultAfter side (span z) x → rows' ≡ rowsAfter (equations z) x rows → relations'
+    ≡ relationsAfter x relations
+    → _≡_ {A = Call} (record { result = result; rowStore = rows'; relationStore = relations' }) (afterRun side z x rows relations)
+unfolding afterRun resultAfter rowsAfter relationsAfter cleared
+left-after side z (going s) result rows relations rows' relations' n e f g = absurd (n s refl)
+left-after side z (done s) result rows relations rows' relations' n e f g =
+    λ i. record { result = e i; rowStore = f i; relationStore = g i }
+left-after side z (refused k) result rows relations rows' relations' n e f g =
+    λ i. record { result = e i; rowStore = f i; relationStore = g i }
+
 pub call-after : (side : Side) (z : Sizes) (x : Outcome) (r : RunResult) (rows relations rows' relations' : List ℤ)
     → ((s : State) → x ≢ going s) → resultOf r ≡ resultAfter side (span z) x → rows' ≡ rowsAfter (equations z) x rows → relations'
     ≡ relationsAfter x relations
     → callOf r rows' relations' ≡ afterRun side z x rows relations
-unfolding afterRun resultAfter rowsAfter relationsAfter cleared
-call-after side z (going s) r rows relations rows' relations' n e f g = absurd (n s refl)
-call-after side z (done s) r rows relations rows' relations' n e f g =
-    call-of (afterRun side z (done s) rows relations) r rows' relations' e f g
-call-after side z (refused k) r rows relations rows' relations' n e f g = call-of
-    (cleared k (equations z) rows relations) r rows' relations' e f g
+unfolding callOf
+call-after side z x r = left-after side z x (resultOf r)
 
-pub call-run : (side : Side) (z : Sizes) (count : ℕ) (rows relations rows' relations' : List ℤ) (o : Answer.Outcome) (r : RunResult)
-    → checkStores z count rows relations ≡ 0
-    → Ran (equations z) rows relations rows' relations' o (wholeRun side (span z) (rowsOf (equations z) rows) (relationsOf count relations))
-    → resultOf r ≡ resultAfter side (span z) (outcomeAt rows' relations' o)
-    → callOf r rows' relations' ≡ callRun side z count rows relations
+pub call-left : (side : Side) (z : Sizes) (count : ℕ) (rows relations rows' relations' : List ℤ) (o : Answer.Outcome) (result : Result)
+    → checkStores z count rows relations ≡ 0 → RanOn side z count rows relations rows' relations' o
+    → result ≡ resultAfter side (span z) (outcomeAt rows' relations' o)
+    → _≡_ {A = Call} (record { result = result; rowStore = rows'; relationStore = relations' }) (callRun side z count rows relations)
 unfolding callRun afterCheck
-call-run side z count rows relations rows' relations' o r e ran f =
+call-left side z count rows relations rows' relations' o result e ran f =
     let x = wholeRun side (span z) (rowsOf (equations z) rows) (relationsOf count relations) in
     let never-going = ends side z count rows relations rows' relations' o (checked z count rows relations e) ran in
-    call-after side z x r rows relations rows' relations' never-going
+    left-after side z x result rows relations rows' relations' never-going
     (f ∙ ap (resultAfter side (span z)) (ran .reached .outcome)) (ran .rows-after) (ran .relations-after)
     ∙ ap (afterCheck side z count rows relations) (sym e)
+
+pub call-run : (side : Side) (z : Sizes) (count : ℕ) (rows relations rows' relations' : List ℤ) (o : Answer.Outcome) (r : RunResult)
+    → checkStores z count rows relations ≡ 0 → RanOn side z count rows relations rows' relations' o
+    → resultOf r ≡ resultAfter side (span z) (outcomeAt rows' relations' o)
+    → callOf r rows' relations' ≡ callRun side z count rows relations
+unfolding callOf
+call-run side z count rows relations rows' relations' o r = call-left side z count rows relations rows' relations' o (resultOf r)
 
 -- Refusals 1, 2 and 5.
 pub call-refused : (side : Side) (z : Sizes) (count : ℕ) (rows relations : List ℤ) (r : RunResult) (n : ℕ) → n ≢ 0

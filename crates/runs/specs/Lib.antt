@@ -1,2 +1,3 @@
 pub mod TrailingLaws
 pub mod CallLaws
+pub mod Unreported

@@ -2,8 +2,9 @@
 // entry points.
 use sides::Side;
 ghost use mathlib.Core.Path.{_≡_};
+ghost use mathlib.Core.Bool.{true};
 ghost use mathlib.Core.List.{List};
-ghost use Prim.Native.Nat.{_≤_};
+ghost use Prim.Native.Nat.{ℕ, _≤_};
 ghost use lib.Dec.{T};
 ghost use lib.IntN.{ℤ};
 ghost use lib.ListN.{length, take};
@@ -18,7 +19,8 @@ ghost use Rattle.sides.specs.FurthestRoots.{Nonzero};
 ghost use Rattle.sides.specs.ReportLaws.{settledState};
 ghost use Rattle.reduction.specs.Progress.{stateOf, outcomeAt};
 ghost use Rattle.reduction.specs.Ran.{Ran};
-ghost use Rattle.runs.specs.CallLaws.{resultOf, callOf, resultAfter, Final};
+ghost use Rattle.runs.specs.CallLaws.{resultOf, callOf, resultAfter, Final, RanOn};
+ghost use Rattle.runs.specs.Unreported.{unreportedOf, unreportedIn, unreportedCallOf, unreportedCall};
 
 // The number of the refusal or 0, and for a run that accepts: how many relations the store holds, how many shifts were
 // made, the columns of the settled rows, counted from 1, with zeros past the last, whether there is a root, and
@@ -151,36 +153,21 @@ pub fn ended(
     accepted(rows, stores::validity::span(sizes), side, p)
 }
 
-// A run on stores that pass the checks, and what it leaves.
+// A run on stores that pass the checks, and how it ended.
 fn checked_run(
     rows: &mut [i64],
     relations: &mut [i64],
     sizes: stores::validity::Sizes,
     count: usize,
     side: Side,
-) -> RunResult
+) -> reduction::step::Outcome
     requires { ⌜ checkStores (sizesOf sizes) count (now rows) (now relations) ≡ 0 ⌝ }
-    ensures { λ r. ⌜ callOf r (now (rows .exit)) (now (relations .exit))
-        ≡ Calls.callRun (sideOf side) (sizesOf sizes) count (now (rows .entry)) (now (relations .entry)) ⌝ }
+    ensures { λ r. ⌜ RanOn (sideOf side) (sizesOf sizes) count (now (rows .entry)) (now (relations .entry)) (now (rows .exit))
+        (now (relations .exit)) r ⌝ }
 {
     let equations = sizes.equations;
     let span = stores::validity::span(sizes);
-    let o = whole_run(rows, relations, equations, span, side, count);
-    ended(rows, sizes, side, o)
-}
-
-// The same on the leading side.
-pub fn leading_run(
-    rows: &mut [i64],
-    relations: &mut [i64],
-    sizes: stores::validity::Sizes,
-    count: usize,
-) -> RunResult
-    requires { ⌜ checkStores (sizesOf sizes) count (now rows) (now relations) ≡ 0 ⌝ }
-    ensures { λ r. ⌜ callOf r (now (rows .exit)) (now (relations .exit))
-        ≡ Calls.callRun Elimination.leading (sizesOf sizes) count (now (rows .entry)) (now (relations .entry)) ⌝ }
-{
-    checked_run(rows, relations, sizes, count, Side::Leading)
+    whole_run(rows, relations, equations, span, side, count)
 }
 
 // A run on lent stores: the checks, and the run (SCOPE 3.21, 3.31).
@@ -198,5 +185,56 @@ pub fn called(
     if refusal != 0 {
         return refused(refusal);
     }
-    checked_run(rows, relations, sizes, count, side)
+    let o = checked_run(rows, relations, sizes, count, side);
+    ended(rows, sizes, side, o)
+}
+
+// A result without the shifts and the root report, which no sheet says (SCOPE 5.14).
+pub struct Unreported {
+    pub refusal: u8,
+    pub relations: usize,
+    pub order: [usize; 4],
+    pub rank: usize,
+}
+
+// That of a run that has ended.
+fn without_report(o: reduction::step::Outcome) -> Unreported
+    requires { ⌜ (o .progress .settled ≤ columnCount) × (length (o .progress .order) ≡ columnCount) × Columns (o .progress .order) ⌝ }
+    requires { ⌜ (o .refusal ≡ 0 → o .done ≡ true) ⌝ }
+    ensures { λ r. ⌜ ((side : Elimination.Side) (D : ℕ) (rows relations : List ℤ)
+        → unreportedOf r ≡ unreportedIn (resultAfter side D (outcomeAt rows relations o))) ⌝ }
+{
+    let refusal = o.refusal;
+    if refusal != 0 {
+        return Unreported {
+            refusal,
+            relations: 0,
+            order: [0; 4],
+            rank: 0,
+        };
+    }
+    let p = o.progress;
+    let settled = p.settled;
+    let order = p.order;
+    Unreported {
+        refusal: 0,
+        relations: p.count,
+        order: counted(order, settled),
+        rank: settled,
+    }
+}
+
+// A run on the leading side, on stores that pass the checks, for a caller that wants no report.
+pub fn leading_run(
+    rows: &mut [i64],
+    relations: &mut [i64],
+    sizes: stores::validity::Sizes,
+    count: usize,
+) -> Unreported
+    requires { ⌜ checkStores (sizesOf sizes) count (now rows) (now relations) ≡ 0 ⌝ }
+    ensures { λ r. ⌜ unreportedCallOf r (now (rows .exit)) (now (relations .exit))
+        ≡ unreportedCall (Calls.callRun Elimination.leading (sizesOf sizes) count (now (rows .entry)) (now (relations .entry))) ⌝ }
+{
+    let o = checked_run(rows, relations, sizes, count, Side::Leading);
+    without_report(o)
 }

@@ -11,13 +11,13 @@ use lib.IntN.{ℤ}
 use lib.ListN.{length, take, drop}
 use lib.Seq.{length-take-le}
 use Rattle.rules.specs.Stores.{equations, largestRows, relationNeed, checkStores}
-use Rattle.rules.specs.Calls.{Call, zeros}
+use Rattle.rules.specs.Calls.{zeros}
 use Rattle.rules.specs.SheetCalls.{ReadCall, WriteCall}
 use Rattle.stores.specs.Validity.{sizesOf}
 use Rattle.reading.specs.Zeros.{length-zeros, zero-again}
 use Rattle.reading.specs.WholeSheet.{resultOf}
 use Rattle.reading.specs.ReadCalls as ReadCalls
-use Rattle.runs.specs.CallLaws as CallLaws
+use Rattle.runs.specs.Unreported.{UnreportedCall, unreportedCallOf}
 use Rattle.writing.specs.WriterChecks as WriterChecks
 use Rattle.answers.specs.Answers.{callOf, unanswered, checkIn, writeIn, call-unread, call-refused, call-written, call-checked-read}
 use Rattle.answers.specs.Answers.{call-checked-run}
@@ -62,8 +62,8 @@ module _ (c : tie.After-read-own) where
   readBy = ReadCalls.callOf (c .read-own .result) rows relations
 
 -- The other two calls.
-abbrev ranBy : tie.After-leading-run → Call
-ranBy c = CallLaws.callOf (c .leading-run .result) (c .leading-run .last .0) (c .leading-run .last .1 .0)
+abbrev ranBy : tie.After-leading-run → UnreportedCall
+ranBy c = unreportedCallOf (c .leading-run .result) (c .leading-run .last .0) (c .leading-run .last .1 .0)
 
 abbrev wroteBy : tie.After-write-checked → WriteCall
 wroteBy c = WriterChecks.callOf (c .write-checked .result) (c .write-checked .last .1 .1 .1 .1 .1 .0)
@@ -150,7 +150,7 @@ same-length-4 : tie.Need-same-length-4
 same-length-4 c = search needs
 
 returns-2 : tie.Need-returns-2
-unfolding callOf unanswered ReadCalls.callOf resultOf CallLaws.callOf CallLaws.resultOf
+unfolding callOf unanswered ReadCalls.callOf resultOf
 returns-2 c =
     let d = c .before .before .before .before .before in
     let a = s d in
@@ -177,7 +177,7 @@ slice-aggregate-write-checked c =
     sym (length-take-le (lent .result) (output (s d)) (omega (arith, lent .ensures)))
 
 write-checked-requires : tie.Need-write-checked-requires
-unfolding ReadCalls.callOf resultOf CallLaws.callOf CallLaws.resultOf
+unfolding ReadCalls.callOf resultOf
 write-checked-requires c κs =
     let f = c .before .before .before .before .before .before in
     let d = f .before .before .before .before in
@@ -195,7 +195,6 @@ module _ (c : tie.After-write-checked) where
   d = f .before .before .before .before
 
   left : Used (sizesOf (r (e d) .read-own .result .sizes)) (ranBy d)
-  unfolding CallLaws.callOf CallLaws.resultOf
   left = used d (f .if2 .left)
 
 mul-clear : tie.Need-mul-clear
@@ -207,11 +206,9 @@ unfolding equations sizesOf
 clear-requires c κs = let w = c .before .before .before .before in omega (arith, left w .few-rows, rows-after (d w))
 
 mul-clear-2 : tie.Need-mul-clear-2
-unfolding CallLaws.callOf CallLaws.resultOf
 mul-clear-2 c = omega (arith, left (c .before .before .before .before .before .before .before .before) .few)
 
 clear-requires-2 : tie.Need-clear-requires-2
-unfolding CallLaws.callOf CallLaws.resultOf
 clear-requires-2 c κs =
     let w = c .before .before .before .before .before .before .before .before in
     omega (arith, left w .few, relations-after (d w))
@@ -222,14 +219,14 @@ module _ (c : tie.After-relations3) where
   w = c .before .before .before .before .before .before .before .before .before .before
 
   rows-back : c .before .before .before .before .before .clear .last .0 ≡ rows₀ (s (d w))
-  unfolding equations sizesOf CallLaws.callOf CallLaws.resultOf
+  unfolding equations sizesOf
   rows-back =
       c .before .before .before .before .before .clear .ensures
       ∙ zero-again (n (d w) * rowLength) largestRows _ (omega (arith, left w .few-rows)) (left w .rows-rest)
       ∙ sym (s (d w) .pre .0)
 
   relations-back : c .before .clear2 .last .0 ≡ relations₀ (s (d w))
-  unfolding sizesOf CallLaws.callOf CallLaws.resultOf
+  unfolding sizesOf
   relations-back =
       c .before .clear2 .ensures
       ∙ zero-again (d w .leading-run .result .relations * relationLength) relationNeed _ (omega (arith, left w .few))
@@ -246,7 +243,7 @@ same-length-7 : tie.Need-same-length-7
 same-length-7 c = search needs
 
 returns-3 : tie.Need-returns-3
-unfolding callOf ReadCalls.callOf resultOf sizesOf CallLaws.callOf CallLaws.resultOf
+unfolding callOf ReadCalls.callOf resultOf sizesOf
 returns-3 c =
     let lent = w c .before .before .before .before .lent-bytes in
     let kept = w c .before .before .before .before .before .with-equations .ensures in

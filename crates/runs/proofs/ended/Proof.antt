@@ -21,8 +21,8 @@ returns c =
     let o = s .args .o in
     λ relations.
     let state = stateOf (now (s .args .rows)) relations (o .progress) in
-    ended-refused (sideOf (s .args .side)) (span (sizesOf (s .args .sizes))) (c .refused .result) state (o .refusal) (o .done)
-    (c .before .if1 .taken) (c .refused .ensures)
+    c .refused .ensures
+    ∙ ended-refused (sideOf (s .args .side)) (span (sizesOf (s .args .sizes))) state (o .refusal) (o .done) (c .before .if1 .taken)
 
 span-requires : tie.Need-span-requires
 span-requires c κs = search needs
@@ -48,9 +48,8 @@ returns-2 c =
     let none = c .before .before .before .if1 .left in
     λ relations.
     let state = stateOf (now (s .args .rows)) relations (o .progress) in
-    ended-accepted side (span (sizesOf (s .args .sizes))) (c .accepted .result) state (o .refusal) (o .done) none
-    (s .pre .1 .all-settled none .0)
-    (c .accepted .ensures relations ∙ ap (λ d. acceptance side d state) (c .before .span .ensures))
+    c .accepted .ensures relations ∙ ap (λ d. acceptance side d state) (c .before .span .ensures)
+    ∙ ended-accepted side (span (sizesOf (s .args .sizes))) state (o .refusal) (o .done) none (s .pre .1 .all-settled none .0)
 
 pub ended-spec : {M : Type 1} → statement M
 ended-spec = tie.close (tie.spec refused-requires returns span-requires accepted-requires returns-2)
