@@ -1,28 +1,28 @@
 -- The work stores of an answer are zero before it and zero again after it: what reading a sheet and running on it leave in them.
 --
 -- Main definitions
---   Used z d             past the rows and the relations that an accepting run leaves, the stores are zero
+--   Used d               past the rows and the relations that an accepting run leaves, the stores are zero
 --
 -- Main statements
 --   unread-same          a sheet that is refused leaves the stores as they were
 --   read-rest            reading a sheet leaves what lies past its rows
 --   refused-zero         a run that is refused leaves zeros
 --   accepted-used        a run that accepts leaves zeros past its rows and its relations
-use Prim.Native.Nat.{ℕ, suc, _*_, _-_, _≤_}
+use Prim.Native.Nat.{ℕ, suc, _+_, _*_, _-_, _≤_}
 use native.Mathlib.Nat.{le-refl, le-of-eq, suc-ne-zero}
 use native.Mathlib.Omega.{arith}
 use mathlib.Core.Path.{_≡_, refl, sym, ap, _∙_, subst}
 use mathlib.Core.Logic.{_≢_}
 use mathlib.Core.Bool.{Bool, true, false, cond}
-use mathlib.Core.List.{List, _++_, map, flatten, append-nil}
-use lib.ListN.{length, drop, replicate, length-append, length-replicate, drop-of-length-le}
+use mathlib.Core.List.{List, _++_, map, flatten, append-nil, append-assoc}
+use lib.ListN.{length, drop, replicate, length-append, length-replicate, drop-of-length-le, replicate-append-replicate}
 use lib.Seq.{drop-at}
 use lib.IntN.{ℤ, pos}
 use Rattle.rules.specs.Limits.{rowLength, relationLength, mostRelations, mostEquations}
-use Rattle.rules.specs.Rows.{Relation}
+use Rattle.rules.specs.Rows.{Row, Relation}
 use Rattle.lists.specs.Everywhere.{All}
-use Rattle.rules.specs.Elimination.{leading, State, Outcome, done, refused, wholeRun}
-use Rattle.rules.specs.Stores.{Sizes, equations, span, rowsOf, relationsOf, relationNumbers, rowStoreOf, checkStores, Valid}
+use Rattle.rules.specs.Elimination.{leading, State, Outcome, done, refused, rank, wholeRun}
+use Rattle.rules.specs.Stores.{Sizes, equations, span, rowsOf, relationsOf, relationNumbers, rowStoreOf, checkStores, StoreRow, Valid}
 use Rattle.rules.specs.Stores.{rowNeed, largestRows, relationNeed, rowStoreFor, relationStoreOf, lengthsRight}
 use Rattle.rules.specs.Layout.{StoreRelation, stores-valid, size-bounds, countRight-iff, length-rowStoreOf, length-relationStoreOf}
 use Rattle.rules.specs.Layout.{length-rowStoreFor}
@@ -51,6 +51,27 @@ zero-overwritten n k store h e =
     ap (λ p. overwrite p store) (sym (take-zeros n n (le-refl n)))
     ∙ sym (overwrite-paste store (zeros n) n (le-of-eq (sym (length-zeros n))))
     ∙ zero-again n k store h e
+
+-- The places that dropped rows have freed hold 0 (SCOPE 3.14).
+past-left : (n : ℕ) (rows : List Row) (store : List ℤ) (k : ℕ) → length rows ≡ k → k ≤ n → n ≤ mostEquations → All StoreRow rows
+    → drop (n * rowLength) store ≡ drop (n * rowLength) (zeros largestRows)
+    → drop (k * rowLength) (overwrite (rowStoreFor n rows) store) ≡ drop (k * rowLength) (zeros largestRows)
+unfolding overwrite rowStoreFor zeros rowNeed
+past-left n rows store k e few small shapes rest =
+    ap (drop (k * rowLength)) (append-assoc (rowStoreOf rows) freed (drop (length (rowStoreFor n rows)) store))
+    ∙ drop-at (rowStoreOf rows) (freed ++ drop (length (rowStoreFor n rows)) store) (k * rowLength)
+    (length-rowStoreOf rows shapes ∙ ap rowNeed e)
+    ∙ ap (λ l. freed ++ l)
+    (ap (λ j. drop j store) (length-rowStoreFor n rows (rw e few) shapes) ∙ rest ∙ drop-zeros (n * rowLength) largestRows (omega arith))
+    ∙ replicate-append-replicate ((n - length rows) * rowLength) (largestRows - n * rowLength) (pos 0)
+    ∙ ap zeros sum
+    ∙ sym (drop-zeros (k * rowLength) largestRows (omega arith))
+  where
+    freed : List ℤ
+    freed = replicate ((n - length rows) * rowLength) (pos 0)
+
+    sum : (n - length rows) * rowLength + (largestRows - n * rowLength) ≡ largestRows - k * rowLength
+    sum = omega arith
 
 -- The places behind the relations in use hold 0 (SCOPE 3.13).
 past-relations : (es : List Relation) (store : List ℤ) → length es ≤ mostRelations → All StoreRelation es → length store ≡ relationNeed
@@ -127,10 +148,10 @@ module _ (bytes : List ℕ) (rows relations : List ℤ) (c : ReadCall) (e : c �
 
 -- ---- a run that accepted, or was refused
 
-pub record Used (z : Sizes) (d : UnreportedCall) : Type 0 where
-  pub few-rows : equations z ≤ mostEquations
+pub record Used (d : UnreportedCall) : Type 0 where
+  pub few-rows : d .result .rank ≤ mostEquations
   pub few : d .result .relations ≤ mostRelations
-  pub rows-rest : drop (equations z * rowLength) (d .rowStore) ≡ drop (equations z * rowLength) (zeros largestRows)
+  pub rows-rest : drop (d .result .rank * rowLength) (d .rowStore) ≡ drop (d .result .rank * rowLength) (zeros largestRows)
   pub relations-rest : drop (d .result .relations * relationLength) (d .relationStore)
       ≡ drop (d .result .relations * relationLength) (zeros relationNeed)
 
@@ -177,29 +198,28 @@ module _ (z : Sizes) (count : ℕ) (rows relations : List ℤ) (checked : checkS
       go o f nine = zero 9 f
       go o f ten = zero 10 f
 
-  pub accepted-used : d .result .refusal ≡ 0 → Used z d
-  unfolding afterRun acceptance cleared refusal
+  pub accepted-used : d .result .refusal ≡ 0 → Used d
+  unfolding afterRun acceptance cleared refusal rank
   accepted-used h = go outcome refl (run-ends leading valid)
     where
       clash : (n : ℕ) → outcome ≡ refused (suc n) → ⊥
       clash n f = suc-ne-zero n (sym (ap (λ d. d .result .refusal) (ran-by (refused (suc n)) f)) ∙ h)
 
-      leaves : (s : State) → outcome ≡ done s → Used z (unreportedCall (afterRun leading z (done s) rows relations))
+      leaves : (s : State) → outcome ≡ done s → Used (unreportedCall (afterRun leading z (done s) rows relations))
       leaves s f =
           let accepts : Accepted leading z _ _ s = record { valid = valid; accepts = f } in
           let v = output-valid accepts in
           let few = countRight-iff (length (s .relations)) .0 (v .relation-count) in
           record {
-            few-rows = few-rows;
+            few-rows = omega (arith, few-rows, rank-few accepts);
             few = few;
-            rows-rest = past-rows (equations z) (rowStoreFor (equations z) (s .rows)) rows
-                (length-rowStoreFor (equations z) (s .rows) (rw (diagonal-nonzero accepts .row-count) (rank-few accepts)) (v .row-shapes))
-                ∙ rest;
+            rows-rest = past-left (equations z) (s .rows) rows (rank s) (diagonal-nonzero accepts .row-count) (rank-few accepts) few-rows
+                (v .row-shapes) rest;
             relations-rest = past-relations (s .relations) relations few (v .relation-shapes) long;
           }
 
-      go : (o : Outcome) → outcome ≡ o → Ended o → Used z d
-      go o f (Demands.accepted s) = subst (Used z) (sym (ran-by (done s) f)) (leaves s f)
+      go : (o : Outcome) → outcome ≡ o → Ended o → Used d
+      go o f (Demands.accepted s) = subst Used (sym (ran-by (done s) f)) (leaves s f)
       go o f seven = absurd (clash 6 f)
       go o f eight = absurd (clash 7 f)
       go o f nine = absurd (clash 8 f)

@@ -77,7 +77,7 @@ pub fn answer_in(
         order,
         &mut output[..lent],
     );
-    stores::rows::clear(rows, 0, sizes.equations * ROW);
+    stores::rows::clear(rows, 0, run.rank * ROW);
     stores::rows::clear(relations, 0, run.relations * RELATION);
     AnswerResult {
         refusal: written.refusal,

@@ -136,7 +136,7 @@ module _ (c : tie.After-leading-run) where
   unfolding equations sizesOf
   zero = refused-zero _ _ _ _ (checked e) rest long (ranBy c) (c .leading-run .ensures)
 
-  used : ranBy c .result .refusal ≡ 0 → Used (sizesOf (r e .read-own .result .sizes)) (ranBy c)
+  used : ranBy c .result .refusal ≡ 0 → Used (ranBy c)
   unfolding equations sizesOf
   used = accepted-used _ _ _ _ (checked e) rest long (ranBy c) (c .leading-run .ensures)
 
@@ -194,7 +194,7 @@ module _ (c : tie.After-write-checked) where
   abbrev d : tie.After-leading-run
   d = f .before .before .before .before
 
-  left : Used (sizesOf (r (e d) .read-own .result .sizes)) (ranBy d)
+  left : Used (ranBy d)
   left = used d (f .if2 .left)
 
 mul-clear : tie.Need-mul-clear
@@ -222,7 +222,7 @@ module _ (c : tie.After-relations3) where
   unfolding equations sizesOf
   rows-back =
       c .before .before .before .before .before .clear .ensures
-      ∙ zero-again (n (d w) * rowLength) largestRows _ (omega (arith, left w .few-rows)) (left w .rows-rest)
+      ∙ zero-again (d w .leading-run .result .rank * rowLength) largestRows _ (omega (arith, left w .few-rows)) (left w .rows-rest)
       ∙ sym (s (d w) .pre .0)
 
   relations-back : c .before .clear2 .last .0 ≡ relations₀ (s (d w))
