@@ -6,6 +6,7 @@
 --   digitsOf, spaced  the digits of a whole number; numbers with a space before each
 --   termAt, numbersOf, nonzeroCount, Lengths   the numbers of one term, of several, how many there are, and their lengths
 --   SmallParts        the parts of a store hold numbers within ±C
+--   Unused, UnusedParts   what is not in use of a row, and of the rows of a store, holds no term
 --   sheetGiven        the sheet of a system in stores, with the columns that are written
 --   sideIn, sidesIn, sidesGiven   the right side of a record, those of a store's records, and those of a system in stores
 --
@@ -18,6 +19,7 @@
 --   trim-nonzero, trim-more, trim-take   how many coefficients a term has, and which
 --   block-next, terms-next, lines-next   one term, one block, one line more
 --   term-count        the number of terms of a row is that of its nonzero polynomials
+--   unused            what passes the check of unused places holds no term there
 --   equation-line, relation-line, order-line, side-line, count-line, sizes-line   the lines of a sheet, as they are written
 --   side-place, side-early, side-at, side-get   where a record's right side stands
 --   sides-none, sides-some   the fifth section, as it is written
@@ -45,11 +47,11 @@ use Rattle.lists.specs.Images.{getD-map}
 use Rattle.lists.specs.Taken.{drop-take, drop-next, part-of-part}
 use Rattle.rules.specs.Limits.{bound, coefficientCount, small, columnCount, mostSpan, blockCount, polynomialCount, blockLength, blockBound}
 use Rattle.rules.specs.Limits.{entriesLength, rowLength, relationLength, mostRelations}
-use Rattle.rules.specs.Rows.{Block}
-use Rattle.lists.specs.Tests.{every}
-use Rattle.rules.specs.Stores.{Sizes, rowOf, rowsOf, relationOf, relationsOf, equations}
+use Rattle.rules.specs.Rows.{Block, zeroBlock}
+use Rattle.lists.specs.Tests.{T-&&, every, every-cons, every-from-at}
+use Rattle.rules.specs.Stores.{Sizes, rowOf, rowsOf, relationOf, relationsOf, equations, unusedZero}
 use Rattle.lists.specs.Parts.{parts, parts-length, getD-parts, parts-next, parts-end, parts-parts, held-next, held-end}
-use Rattle.rules.specs.Layout.{length-rowsOf, length-relationsOf, blockOf, coefficientsAt, blockAt, polynomialsIn}
+use Rattle.rules.specs.Layout.{length-rowsOf, length-relationsOf, blockOf, coefficientsAt, blockAt, polynomialsIn, polynomial-at-row}
 use Rattle.rules.specs.Sheets.{Sheet, Term, trim, blockTerms, termsFrom, termNumbers}
 use Rattle.rules.specs.Sheets.{equationNumbers, relationLine, orderLine, sidesOf, sideLine, sideLines, sheetLines, writeSheet}
 use Rattle.rules.specs.Numbers.{space, newline, minus, decimalWithin, decimal, line, lines}
@@ -398,14 +400,110 @@ count-some l i n h e some =
     let part = coefficientsAt l i in
     rw (parts-next coefficientCount polynomialCount l i h, isZero-trim part, ne-eqb (length (trim part)) 0 (λ z. some (e ∙ z)))
 
+-- ---- the places of a row that are not in use
+
+block-zero : (s : ℤ) (c : ℕ) (b : Block) → T (zeroBlock b) → blockTerms s c b ≡ []
+unfolding blockTerms zeroBlock every
+block-zero s c [] h = refl
+block-zero s c (p ∷ b) h =
+    let both = every-cons isZero p b .0 h in
+    cases (isZero p) _ (both .0) (block-zero s (suc c) b (both .1))
+  where
+    cases : (t : Bool) (e : Term) {es : List Term} → T t → es ≡ [] → cond t es (e ∷ es) ≡ []
+    cases true e h none = none
+    cases false e h none = absurd h
+
+terms-zero : (s : ℤ) (bs : List Block) → T (every zeroBlock bs) → termsFrom s bs ≡ []
+unfolding termsFrom
+terms-zero s [] h = refl
+terms-zero s (b ∷ bs) h =
+    let both = every-cons zeroBlock b bs .0 h in
+    ap₂ _++_ (block-zero s 1 b (both .0)) (terms-zero (predℤ s) bs (both .1))
+
+-- There are no terms past so many blocks.
+abbrev pub NoTerms : ℕ → List ℤ → Type 0
+NoTerms blocks row = (s : ℤ) → termsFrom s (drop blocks (rowOf row .blocks)) ≡ []
+
+-- The polynomials of a row past column m, and past so many blocks, are zero (SCOPE 3.34): they are no terms.
+pub record Unused (m blocks : ℕ) (row : List ℤ) : Type 0 where
+  pub columns : (i : ℕ) → i < polynomialCount → m ≤ i % columnCount → T (isZero (coefficientsAt row i))
+  pub rest : nonzeroCount (drop (blocks * columnCount) (polynomialsIn row)) ≡ 0
+  pub terms : NoTerms blocks row
+
+-- So is each of the first n parts of k numbers, behind its first `skip` ones.
+abbrev pub UnusedParts : ℕ → ℕ → ℕ → ℕ → ℕ → List ℤ → Type 0
+UnusedParts m blocks skip k n l = (i : ℕ) → i < n → Unused m blocks (drop skip (take k (drop (i * k) l)))
+
+module _ (row : List ℤ) where
+  abbrev bs : List Block
+  bs = rowOf row .blocks
+
+  many : length bs ≡ blockCount
+  unfolding rowOf
+  many = length-map (parts blockLength blockCount row) blockOf ∙ parts-length blockLength blockCount row
+
+  -- The columns of a block.
+  wide : (b : ℕ) → b < blockCount → length (getD bs b []) ≡ columnCount
+  unfolding rowOf
+  wide b h =
+      ap length
+      (getD-map blockOf (parts blockLength blockCount row) b [] [] (rw parts-length h) ∙ ap blockOf (getD-parts blockLength blockCount row b h))
+      ∙ parts-length coefficientCount columnCount (blockAt row b)
+
+  -- A polynomial is zero where its block says so of its column.
+  zero-at : (i : ℕ) → i < polynomialCount → T (isZero (getD (getD bs (i / columnCount) []) (i % columnCount) []))
+      → T (isZero (coefficientsAt row i))
+  zero-at i h z =
+      let b = i / columnCount in
+      let c = i % columnCount in
+      let place : b * blockLength + c * coefficientCount ≡ i * coefficientCount = omega arith in
+      subst (λ p. T (isZero p))
+      (polynomial-at-row row b c (omega arith) (omega arith) ∙ ap (λ n. take coefficientCount (drop n row)) place) z
+
+  -- The count of what is left where it is zero.
+  count-rest : (k i : ℕ) → i + k ≡ polynomialCount → ((j : ℕ) → j < polynomialCount → i ≤ j → T (isZero (coefficientsAt row j)))
+      → nonzeroCount (drop i (polynomialsIn row)) ≡ 0
+  unfolding nonzeroCount
+  count-rest zero i h z = ap nonzeroCount (parts-end coefficientCount polynomialCount row i (omega arith))
+  count-rest (suc k) i h z =
+      count-none row i 0 (omega arith) (sym (ap length (trim-none (coefficientsAt row i) (z i (omega arith) (omega arith))))) refl
+      ∙ count-rest k (i + 1) (omega arith) (λ j lt le. z j lt (omega arith))
+
+pub unused : (m D : ℕ) (row : List ℤ) → suc D ≤ blockCount → T (unusedZero m D (rowOf row)) → Unused m (suc D) row
+unfolding unusedZero zeroBlock
+unused m D row few h =
+    record {
+      columns = λ i lt low. zero-at row i lt (column (i / columnCount) (i % columnCount) (omega arith) (omega arith) low);
+      rest = count-rest row (polynomialCount - suc D * columnCount) (suc D * columnCount) (omega arith) (λ j lt low.
+          zero-at row j lt (past (j / columnCount) (j % columnCount) (omega arith) (omega arith) (omega arith)));
+      terms = λ s. terms-zero s (drop (suc D) (bs row)) (both .1);
+    }
+  where
+    both : T (every (λ b. zeroBlock (drop m b)) (bs row)) × T (every zeroBlock (drop (suc D) (bs row)))
+    both = T-&& (every (λ b. zeroBlock (drop m b)) (bs row)) (every zeroBlock (drop (suc D) (bs row))) .0 h
+
+    column : (b c : ℕ) → b < blockCount → c < columnCount → m ≤ c → T (isZero (getD (getD (bs row) b []) c []))
+    column b c hb hc low =
+        every-from-at isZero (getD (bs row) b []) [] m
+        (every-from-at (λ q. zeroBlock (drop m q)) (bs row) [] 0 (both .0) b (omega arith) (omega (arith, many row)))
+        c low (omega (arith, wide row b hb))
+
+    past : (b c : ℕ) → b < blockCount → c < columnCount → suc D ≤ b → T (isZero (getD (getD (bs row) b []) c []))
+    past b c hb hc low =
+        every-from-at isZero (getD (bs row) b []) [] 0
+        (every-from-at zeroBlock (bs row) [] (suc D) (both .1) b low (omega (arith, many row)))
+        c (omega arith) (omega (arith, wide row b hb))
+
+-- ---- the lengths of terms
+
 -- The number of coefficients of each of the first n polynomials that l holds.
 abbrev pub Lengths : ℕ → List ℤ → List ℕ → Type 0
 Lengths n l lengths = (i : ℕ) → i < n → getD lengths i 0 ≡ length (trim (coefficientsAt l i))
 
 -- Those of one block.
-pub lengths-part : (row : List ℤ) (lengths : List ℕ) (b : ℕ) → b < blockCount → Lengths polynomialCount row lengths
+pub lengths-part : (row : List ℤ) (lengths : List ℕ) (blocks b : ℕ) → b < blocks → Lengths (blocks * columnCount) row lengths
     → Lengths columnCount (blockAt row b) (take columnCount (drop (b * columnCount) lengths))
-lengths-part row lengths b h all c g =
+lengths-part row lengths blocks b h all c g =
     getD-take columnCount (drop (b * columnCount) lengths) c 0 g ∙ getD-drop (b * columnCount) lengths c 0
     ∙ all (b * columnCount + c) (omega arith)
     ∙ ap (λ p. length (trim p)) (sym polynomial)
@@ -470,9 +568,10 @@ terms-next l row b h =
     ∙ ap (λ s. numbersOf (blockTerms (l -ℤ pos b) 1 block) ++ numbersOf (termsFrom s more)) (pred-block l b))
     ∙ sym (spaced-append (numbersOf (blockTerms (l -ℤ pos b) 1 block)) (numbersOf (termsFrom (l -ℤ pos (b + 1)) more)))
 
-pub terms-end : (s : ℤ) (row : List ℤ) (b : ℕ) → blockCount ≤ b → spaced (numbersOf (termsFrom s (drop b (rowOf row .blocks)))) ≡ []
-unfolding rowOf spaced numbersOf termsFrom flatten
-terms-end s row b h = ap (λ bs. spaced (numbersOf (termsFrom s bs))) (held-end blockOf blockLength blockCount row b h)
+pub terms-end : (s : ℤ) (row : List ℤ) (blocks b : ℕ) → b ≡ blocks → NoTerms blocks row
+    → spaced (numbersOf (termsFrom s (drop b (rowOf row .blocks)))) ≡ []
+unfolding spaced numbersOf flatten
+terms-end s row blocks b e none = ap (λ n. spaced (numbersOf (termsFrom s (drop n (rowOf row .blocks))))) e ∙ ap (λ es. spaced (numbersOf es)) (none s)
 
 -- ---- lines
 

@@ -21,20 +21,21 @@ use native.Mathlib.Omega.{arith}
 use borrow.Author.Tests.{le-leb, lt-leb}
 use lib.Dec.{T}
 use lib.IntN.{ℤ, pos, natAbs}
+use lib.Signed.{≤ℤ-refl}
 use lib.ListN.{length, take, drop, getD, length-take, length-drop}
 use lib.Seq.{sets, sets-eq, drop-cons}
 use Rattle.algebra.specs.Order.{≤ℤ-trans, natAbs-≤-iff}
 use Rattle.lists.specs.Tests.{T-&&, cond-zero-iff, every}
-use Rattle.rules.specs.Limits.{rowLength, relationLength, small, mostEquations, mostRelations, blockBound}
+use Rattle.rules.specs.Limits.{rowLength, relationLength, small, mostEquations, mostRelations, blockBound, blockCount}
 use Rattle.rules.specs.Rows.{smallRow}
 use Rattle.rules.specs.Stores.{Sizes, span, rowOf, rowsOf, relationOf, relationsOf, relationNeed, rowNeed, equations}
 use Rattle.rules.specs.Stores.{sizesRight, countRight, unusedZero, rowRight, relationRight, checkStores}
 use Rattle.rules.specs.Layout.{StoresRight, NumbersRight, SizeBounds, checkStores-zero, numbersRight-iff, size-bounds}
-use Rattle.rules.specs.Layout.{countRight-iff, lengthsRight-iff, coefficientsOf-rowOf-all}
+use Rattle.rules.specs.Layout.{countRight-iff, lengthsRight-iff, coefficientsOf-rowOf-all, block-place}
 use Rattle.lists.specs.Overwritten.{overwrite}
 use Rattle.rules.specs.Sheets.{writeSheet}
 use Rattle.lists.specs.Parts.{held-every}
-use Rattle.writing.specs.Writer.{SmallParts, sheetGiven}
+use Rattle.writing.specs.Writer.{SmallParts, Unused, UnusedParts, unused, sheetGiven}
 use Rattle.writing.specs.declared.writer.WriteResult as declared
 use Rattle.rules.specs.SheetCalls.{WriteCall, orderRight, orderGiven, checkWrite, sheetOf, unwritten, written, afterWriteCheck, writeCall}
 
@@ -56,6 +57,10 @@ pub record Checked (z : Sizes) (count : ℕ) (rowStore relationStore : List ℤ)
   pub low : natAbs (z .t) ≤ blockBound
   pub row-numbers : SmallParts rowLength (equations z) rowStore
   pub relation-numbers : SmallParts relationLength count relationStore
+  pub sizes : T (sizesRight z)
+  pub narrow : suc (span z) ≤ blockCount
+  pub row-unused : UnusedParts (z .m) (suc (span z)) 0 rowLength (equations z) rowStore
+  pub relation-unused : UnusedParts (z .m) (suc (span z)) 1 relationLength count relationStore
 
 row-small : (z : Sizes) (part : List ℤ) → length part ≡ rowLength → T (rowRight z (rowOf part)) → T (every small part)
 unfolding rowRight smallRow
@@ -70,6 +75,17 @@ relation-small z part h right =
     rw (drop-cons part 0 (pos 0) (omega arith))
     (T-&& (small (getD part 0 (pos 0))) (every small (drop 1 part)) .1
     (both .0, row-small z (drop 1 part) (rw length-drop (omega arith)) (both .1)))
+
+row-used : (z : Sizes) (row : List ℤ) → suc (span z) ≤ blockCount → T (rowRight z (rowOf row)) → Unused (z .m) (suc (span z)) row
+unfolding rowRight
+row-used z row few right =
+    unused (z .m) (span z) row few (T-&& (smallRow (rowOf row)) (unusedZero (z .m) (span z) (rowOf row)) .0 right .1)
+
+relation-used : (z : Sizes) (part : List ℤ) → suc (span z) ≤ blockCount → T (relationRight z (relationOf part))
+    → Unused (z .m) (suc (span z)) (drop 1 part)
+unfolding relationRight relationOf
+relation-used z part few right =
+    row-used z (drop 1 part) few (T-&& (small (getD part 0 (pos 0))) (rowRight z (rowOf (drop 1 part))) .0 right .1)
 
 module _ (z : Sizes) (count : ℕ) (order : List ℕ) (rowStore relationStore : List ℤ) where
   -- A wrong order argument is a wrong size (SCOPE 4.53).
@@ -99,7 +115,7 @@ module _ (z : Sizes) (count : ℕ) (order : List ℕ) (rowStore relationStore : 
       chosen = cond-zero-iff (orderRight (z .m) order) (checkStores z count rowStore relationStore) 2 refl
 
   pub checked : checkWrite z count order rowStore relationStore ≡ 0 → Checked z count rowStore relationStore
-  unfolding rowNeed rowsOf relationsOf
+  unfolding rowNeed rowsOf relationsOf span
   checked e =
       record {
         few-rows = sizes .few-equations;
@@ -116,6 +132,14 @@ module _ (z : Sizes) (count : ℕ) (order : List ℕ) (rowStore relationStore : 
             relation-small z (take relationLength (drop (i * relationLength) relationStore))
             (simp (length-take, length-drop) (omega (arith, places)))
             (held-every (relationRight z) relationOf relationLength count relationStore (numbers .relations-right) i h);
+        sizes = right .sizes;
+        narrow = narrow;
+        row-unused = λ i h.
+            row-used z (take rowLength (drop (i * rowLength) rowStore)) narrow
+            (held-every (rowRight z) rowOf rowLength (equations z) rowStore (numbers .rows-right) i h);
+        relation-unused = λ i h.
+            relation-used z (take relationLength (drop (i * relationLength) relationStore)) narrow
+            (held-every (relationRight z) relationOf relationLength count relationStore (numbers .relations-right) i h);
       }
     where
       right : StoresRight z count rowStore relationStore
@@ -126,6 +150,9 @@ module _ (z : Sizes) (count : ℕ) (order : List ℕ) (rowStore relationStore : 
 
       sizes : SizeBounds z
       sizes = size-bounds z (right .sizes)
+
+      narrow : suc (span z) ≤ blockCount
+      narrow = block-place z (z .t) sizes (≤ℤ-refl (z .t)) (sizes .ordered)
 
       long : (rowNeed (equations z) ≤ length rowStore) × (relationNeed ≤ length relationStore)
       long = lengthsRight-iff (equations z) rowStore relationStore .0 (right .lengths)

@@ -2,7 +2,6 @@
 // the next place: called on an empty part of the store it only counts, so that nothing is written before it is known to fit.
 use polynomials::lengths::COEFFICIENTS;
 use stores::lengths::BLOCK;
-use stores::lengths::BLOCKS;
 use stores::lengths::COLUMNS;
 use stores::lengths::ENTRIES;
 use stores::lengths::POLYNOMIALS;
@@ -13,13 +12,13 @@ pub mod checks;
 
 ghost use mathlib.Core.Path.{_≡_};
 ghost use mathlib.Core.List.{[], _∷_, map};
-ghost use Prim.Native.Nat.{_+_, _*_, _^_, _≤_, _<_};
+ghost use Prim.Native.Nat.{_+_, _*_, _%_, _^_, _≤_, _<_};
 ghost use Rattle.rules.specs.Numbers.{decimal, line, lines};
 ghost use lib.IntN.{pos, natAbs};
 ghost use lib.Dec.{T};
-ghost use lib.ListN.{length};
+ghost use lib.ListN.{length, drop};
 ghost use lib.Seq.{sets};
-ghost use Rattle.rules.specs.Limits.{columnCount, rowLength, relationLength, mostRelations, small, coefficientCount, mostEquations, polynomialCount, blockLength, blockBound};
+ghost use Rattle.rules.specs.Limits.{columnCount, rowLength, relationLength, mostRelations, small, coefficientCount, mostEquations, polynomialCount, blockCount, blockLength, blockBound};
 ghost use Rattle.lists.specs.Tests.{every};
 ghost use Rattle.algebra.specs.Polynomials.{isZero};
 ghost use Rattle.rules.specs.Sheets.{trim, blockTerms, termsFrom, equationNumbers, relationLine, orderLine};
@@ -30,10 +29,10 @@ ghost use Rattle.writing.specs.SheetBytes.{numberBytes, countBytes, term
 ghost use Rattle.writing.specs.SheetBytes.{sizesBytes, orderBytes, sheetBytes, numberRoom, termRoom, blockRoom, termsRoom};
 ghost use Rattle.writing.specs.SheetBytes.{equationRoom, relationRoom, sizesRoom, sideBytes, sidesBytes, sideRoom};
 ghost use Rattle.writing.specs.Writer.{Put, digitsOf, spaced, SmallParts, Lengths, termAt, numbersOf, nonzeroCount};
-ghost use Rattle.writing.specs.Writer.{sheetGiven, sidesIn, sidesGiven};
+ghost use Rattle.writing.specs.Writer.{Unused, UnusedParts, NoTerms, sheetGiven, sidesIn, sidesGiven};
 ghost use Rattle.writing.specs.WriterChecks.{Checked, callOf};
 ghost use Rattle.rules.specs.SheetCalls.{checkWrite, writeCall};
-ghost use Rattle.rules.specs.Layout.{blockOf, polynomialsIn};
+ghost use Rattle.rules.specs.Layout.{blockOf, coefficientsAt, polynomialsIn};
 ghost use Rattle.stores.specs.Validity.{sizesOf};
 
 // The bytes of the longest term, of the longest line of a right side, of the longest line of an equation and of a relation, each with that
@@ -200,18 +199,26 @@ fn put_block(bytes: &mut [u8], at: usize, numbers: &[i64], lengths: &[usize], bl
     next
 }
 
-// The terms of a row, from block l downward, in each block by rising column (SCOPE 4.23).
-fn put_terms(bytes: &mut [u8], at: usize, row: &[i64], lengths: &[usize], l: i64) -> usize
+// The terms of a row, from block l downward, in each block by rising column (SCOPE 4.23). Past the blocks in use there are none.
+fn put_terms(
+    bytes: &mut [u8],
+    at: usize,
+    row: &[i64],
+    lengths: &[usize],
+    l: i64,
+    blocks: usize,
+) -> usize
     requires { ⌜
-        (length (now row) ≡ rowLength) × (length (now lengths) ≡ polynomialCount) × Lengths polynomialCount (now row) (now lengths)
-        × (natAbs l ≤ blockBound) × (at + termsRoom < 2 ^ 64) × T (every small (now row)) ⌝ }
+        (length (now row) ≡ rowLength) × (length (now lengths) ≡ polynomialCount)
+        × Lengths (blocks * columnCount) (now row) (now lengths) × (natAbs l ≤ blockBound) × (at + termsRoom < 2 ^ 64)
+        × T (every small (now row)) × (blocks ≤ blockCount) × NoTerms blocks (now row) ⌝ }
     ensures { λ r. ⌜
         Put (now (bytes .entry)) at (spaced (numbersOf (termsFrom l (rowOf (now (row .entry)) .blocks)))) termsBytes
         (now (bytes .exit)) r ⌝ }
 {
     let mut next = at;
     let mut b = 0;
-    while b < BLOCKS {
+    while b < blocks {
         let from = b * BLOCK;
         let to = from + BLOCK;
         let first = b * COLUMNS;
@@ -228,19 +235,36 @@ fn put_terms(bytes: &mut [u8], at: usize, row: &[i64], lengths: &[usize], l: i64
     next
 }
 
-// The number of terms of a row, of its polynomials that are not zero (SCOPE 4.52), and the number of coefficients of
-// each.
-fn term_lengths(lengths: &mut [usize], row: &[i64]) -> usize
-    requires { ⌜ (length (now lengths) ≡ polynomialCount) × (length (now row) ≡ rowLength) ⌝ }
-    ensures { λ r. ⌜
-        (r ≡ nonzeroCount (polynomialsIn (now (row .entry)))) × Lengths polynomialCount (now (row .entry)) (now (lengths .exit)) ⌝ }
+// The number of coefficients of polynomial i of a row: none past column m, where it is not looked at.
+fn term_length(row: &[i64], i: usize, m: usize) -> usize
+    requires { ⌜
+        (length (now row) ≡ rowLength) × (i < polynomialCount)
+        × (m ≤ i % columnCount → T (isZero (coefficientsAt (now row) i))) ⌝ }
+    ensures { λ r. ⌜ r ≡ length (trim (coefficientsAt (now (row .entry)) i)) ⌝ }
 {
+    if m <= i % COLUMNS {
+        return 0;
+    }
+    let from = i * COEFFICIENTS;
+    let to = from + COEFFICIENTS;
+    trimmed(&row[from..to])
+}
+
+// The number of terms of a row, of its polynomials that are not zero (SCOPE 4.52), and the number of coefficients of
+// each. Those past the blocks in use are zero (SCOPE 3.34), and not looked at.
+fn term_lengths(lengths: &mut [usize], row: &[i64], m: usize, blocks: usize) -> usize
+    requires { ⌜
+        (length (now lengths) ≡ polynomialCount) × (length (now row) ≡ rowLength) × (blocks ≤ blockCount)
+        × Unused m blocks (now row) ⌝ }
+    ensures { λ r. ⌜
+        (r ≡ nonzeroCount (polynomialsIn (now (row .entry))))
+        × Lengths (blocks * columnCount) (now (row .entry)) (now (lengths .exit)) ⌝ }
+{
+    let used = blocks * COLUMNS;
     let mut terms = 0;
     let mut i = 0;
-    while i < POLYNOMIALS {
-        let from = i * COEFFICIENTS;
-        let to = from + COEFFICIENTS;
-        let n = trimmed(&row[from..to]);
+    while i < used {
+        let n = term_length(row, i, m);
         lengths[i] = n;
         if n != 0 {
             terms += 1;
@@ -250,38 +274,57 @@ fn term_lengths(lengths: &mut [usize], row: &[i64]) -> usize
     terms
 }
 
-fn put_equation(bytes: &mut [u8], at: usize, row: &[i64], l: i64) -> usize
-    requires { ⌜ (length (now row) ≡ rowLength) × (natAbs l ≤ blockBound) × (at + equationRoom < 2 ^ 64) × T (every small (now row)) ⌝ }
+fn put_equation(bytes: &mut [u8], at: usize, row: &[i64], l: i64, m: usize, blocks: usize) -> usize
+    requires { ⌜
+        (length (now row) ≡ rowLength) × (natAbs l ≤ blockBound) × (at + equationRoom < 2 ^ 64) × T (every small (now row))
+        × (blocks ≤ blockCount) × Unused m blocks (now row) ⌝ }
     ensures { λ r. ⌜
         Put (now (bytes .entry)) at (line (equationNumbers l (rowOf (now (row .entry))))) equationBytes (now (bytes .exit)) r ⌝ }
 {
     let mut lengths = [0usize; POLYNOMIALS];
-    let terms = term_lengths(&mut lengths, row);
+    let terms = term_lengths(&mut lengths, row, m, blocks);
     let counted = put_digits(bytes, at, terms as u64);
-    let written = put_terms(bytes, counted, row, &lengths, l);
+    let written = put_terms(bytes, counted, row, &lengths, l, blocks);
     put_byte(bytes, written, 10)
 }
 
 // A line with n0 and an equation (SCOPE 4.14).
-fn put_relation(bytes: &mut [u8], at: usize, numbers: &[i64], l: i64) -> usize
+fn put_relation(
+    bytes: &mut [u8],
+    at: usize,
+    numbers: &[i64],
+    l: i64,
+    m: usize,
+    blocks: usize,
+) -> usize
     requires { ⌜
-        (length (now numbers) ≡ relationLength) × (natAbs l ≤ blockBound) × (at + relationRoom < 2 ^ 64) × T (every small (now numbers)) ⌝ }
+        (length (now numbers) ≡ relationLength) × (natAbs l ≤ blockBound) × (at + relationRoom < 2 ^ 64) × T (every small (now numbers))
+        × (blocks ≤ blockCount) × Unused m blocks (drop 1 (now numbers)) ⌝ }
     ensures { λ r. ⌜
         Put (now (bytes .entry)) at (line (relationLine l (relationOf (now (numbers .entry))))) relationBytes
         (now (bytes .exit)) r ⌝ }
 {
     let row = &numbers[1..];
     let mut lengths = [0usize; POLYNOMIALS];
-    let terms = term_lengths(&mut lengths, row);
+    let terms = term_lengths(&mut lengths, row, m, blocks);
     let indexed = put_number(bytes, at, numbers[0]);
     let counted = put_next_count(bytes, indexed, terms);
-    let written = put_terms(bytes, counted, row, &lengths, l);
+    let written = put_terms(bytes, counted, row, &lengths, l, blocks);
     put_byte(bytes, written, 10)
 }
 
-fn put_equations(bytes: &mut [u8], at: usize, rows: &[i64], equations: usize, l: i64) -> usize
+fn put_equations(
+    bytes: &mut [u8],
+    at: usize,
+    rows: &[i64],
+    equations: usize,
+    l: i64,
+    m: usize,
+    blocks: usize,
+) -> usize
     requires { ⌜ (equations ≤ mostEquations) × (equations * rowLength ≤ length (now rows)) × (natAbs l ≤ blockBound)
-        × (at + mostEquations * equationRoom < 2 ^ 64) × SmallParts rowLength equations (now rows) ⌝ }
+        × (at + mostEquations * equationRoom < 2 ^ 64) × SmallParts rowLength equations (now rows)
+        × (blocks ≤ blockCount) × UnusedParts m blocks 0 rowLength equations (now rows) ⌝ }
     ensures { λ r. ⌜
         Put (now (bytes .entry)) at (lines (map (equationNumbers l) (rowsOf equations (now (rows .entry))))) (equations * equationBytes)
         (now (bytes .exit)) r ⌝ }
@@ -291,15 +334,24 @@ fn put_equations(bytes: &mut [u8], at: usize, rows: &[i64], equations: usize, l:
     while i < equations {
         let from = i * ROW;
         let to = from + ROW;
-        next = put_equation(bytes, next, &rows[from..to], l);
+        next = put_equation(bytes, next, &rows[from..to], l, m, blocks);
         i += 1;
     }
     next
 }
 
-fn put_relations(bytes: &mut [u8], at: usize, relations: &[i64], count: usize, l: i64) -> usize
+fn put_relations(
+    bytes: &mut [u8],
+    at: usize,
+    relations: &[i64],
+    count: usize,
+    l: i64,
+    m: usize,
+    blocks: usize,
+) -> usize
     requires { ⌜ (count ≤ mostRelations) × (count * relationLength ≤ length (now relations)) × (natAbs l ≤ blockBound)
-        × (at + mostRelations * relationRoom < 2 ^ 64) × SmallParts relationLength count (now relations) ⌝ }
+        × (at + mostRelations * relationRoom < 2 ^ 64) × SmallParts relationLength count (now relations)
+        × (blocks ≤ blockCount) × UnusedParts m blocks 1 relationLength count (now relations) ⌝ }
     ensures { λ r. ⌜
         Put (now (bytes .entry)) at (lines (map (relationLine l) (relationsOf count (now (relations .entry))))) (count * relationBytes)
         (now (bytes .exit)) r ⌝ }
@@ -309,7 +361,7 @@ fn put_relations(bytes: &mut [u8], at: usize, relations: &[i64], count: usize, l
     while i < count {
         let from = i * RELATION;
         let to = from + RELATION;
-        next = put_relation(bytes, next, &relations[from..to], l);
+        next = put_relation(bytes, next, &relations[from..to], l, m, blocks);
         i += 1;
     }
     next
@@ -459,11 +511,13 @@ fn put_sheet(
 {
     let equations = sizes.equations;
     let l = sizes.l;
-    let after_sizes = put_sizes(bytes, 0, sizes.m, l, sizes.t);
+    let m = sizes.m;
+    let blocks = stores::validity::span(sizes) + 1;
+    let after_sizes = put_sizes(bytes, 0, m, l, sizes.t);
     let after_number = put_count(bytes, after_sizes, equations);
-    let after_rows = put_equations(bytes, after_number, rows, equations, l);
+    let after_rows = put_equations(bytes, after_number, rows, equations, l, m, blocks);
     let after_count = put_count(bytes, after_rows, count);
-    let after_relations = put_relations(bytes, after_count, relations, count, l);
+    let after_relations = put_relations(bytes, after_count, relations, count, l, m, blocks);
     let after_order = put_order(bytes, after_relations, columns);
     put_fifth(bytes, after_order, rows, equations, relations, count)
 }

@@ -18,7 +18,9 @@ slice-aggregate-term-lengths : tie.Need-slice-aggregate-term-lengths
 slice-aggregate-term-lengths c = search needs
 
 term-lengths-requires : tie.Need-term-lengths-requires
-term-lengths-requires c κs = search needs
+term-lengths-requires c κs =
+    let start = c .before .before in
+    (search needs, start .pre .0, start .pre .4, start .pre .5)
 
 put-digits-requires : tie.Need-put-digits-requires
 put-digits-requires c κs = search needs
@@ -36,6 +38,8 @@ put-terms-requires c κs =
       rw (toZ-ofZ (start .fits .l)) (start .pre .1),
       search needs,
       start .pre .3,
+      start .pre .4,
+      start .pre .5 .terms,
     )
 
 put-byte-requires : tie.Need-put-byte-requires

@@ -21,13 +21,13 @@ use Rattle.writing.proofs.writer.put_equations.Statement.{statement}
 use Rattle.writing.proofs.writer.put_equations.Tie as tie
 
 abbrev Inv-loop : tie.InvT-loop
-Inv-loop bytes₀ at rows equations l next₀ i₀ bytes next i =
+Inv-loop bytes₀ at rows equations l m blocks next₀ i₀ bytes next i =
     (i ≤ equations)
     × Going bytes₀ at (lines (map (equationNumbers (toZ w64 l)) (rowsOf equations rows))) bytes next
     (lines (map (equationNumbers (toZ w64 l)) (drop i (rowsOf equations rows)))) (i * equationBytes)
 
 abbrev μ-loop : tie.MeasureT-loop
-μ-loop bytes₀ at rows equations l next₀ i₀ bytes next i = equations - i
+μ-loop bytes₀ at rows equations l m blocks next₀ i₀ bytes next i = equations - i
 
 loop-holds : tie.Need-loop-holds Inv-loop μ-loop
 loop-holds c = (omega arith, going-first refl)
@@ -56,7 +56,8 @@ put-equation-requires c κs =
     let i = c .before .before .before .loop .i in
     let width : i * rowLength + rowLength - i * rowLength ≡ rowLength = omega arith in
     let part = start .pre .4 i (c .before .before .loop-test .taken) in
-    (search needs, rw (toZ-ofZ (start .fits .l)) (start .pre .2), search needs, rw width part)
+    let unused = start .pre .6 i (c .before .before .loop-test .taken) in
+    (search needs, rw (toZ-ofZ (start .fits .l)) (start .pre .2), search needs, rw width part, start .pre .5, rw width unused)
 
 add-i : tie.Need-add-i Inv-loop μ-loop
 add-i c = search needs

@@ -1,6 +1,6 @@
 -- `writing::writer::put_relation` meets its contract: n0, the number of terms, the terms, and the end of the line.
 -- Assumes nothing.
-use mathlib.Core.Path.{_≡_, _∙_, ap₂}
+use mathlib.Core.Path.{_≡_, sym, _∙_, ap₂, subst}
 use mathlib.Core.List.{List, [], _∷_, _++_}
 use Prim.Native.Nat.{ℕ, _-_}
 use native.Mathlib.Nat.{le-refl}
@@ -18,10 +18,14 @@ use Rattle.rules.specs.Sheets.{termsFrom}
 use Rattle.rules.specs.Stores.{rowOf}
 use Rattle.lists.specs.Parts.{parts}
 use Rattle.rules.specs.Layout.{polynomialsIn}
-use Rattle.writing.specs.Writer.{put-same, put-then, spaced-then, spaced, numbersOf, nonzeroCount, relation-line}
+use Rattle.writing.specs.Writer.{put-same, put-then, spaced-then, spaced, numbersOf, nonzeroCount, Unused, relation-line}
 use borrow.Author.Needs.{needs, sfits-of}
 use Rattle.writing.proofs.writer.put_relation.Statement.{statement}
 use Rattle.writing.proofs.writer.put_relation.Tie as tie
+
+-- the numbers behind n0
+rest : (numbers : List ℤ) → take (length numbers - 1) (drop 1 numbers) ≡ drop 1 numbers
+rest numbers = take-all (length numbers - 1) (drop 1 numbers) (rw length-drop (le-refl _))
 
 sub-row : tie.Need-sub-row
 sub-row c = search needs
@@ -36,7 +40,14 @@ slice-aggregate-term-lengths : tie.Need-slice-aggregate-term-lengths
 slice-aggregate-term-lengths c = search needs
 
 term-lengths-requires : tie.Need-term-lengths-requires
-term-lengths-requires c κs = search needs
+term-lengths-requires c κs =
+    let start = c .before .before .before in
+    let numbers = now (start .args .numbers) in (
+      search needs,
+      search needs,
+      start .pre .4,
+      subst (Unused (start .args .m) (start .args .blocks)) (sym (rest numbers)) (start .pre .5),
+    )
 
 shared-slice-copy-out-put-number : tie.Need-shared-slice-copy-out-put-number
 shared-slice-copy-out-put-number c = search needs
@@ -65,6 +76,8 @@ put-terms-requires c κs =
       rw (toZ-ofZ (start .fits .l)) (start .pre .1),
       search needs,
       every-part small 1 (length (now (start .args .numbers)) - 1) (now (start .args .numbers)) (start .pre .3),
+      start .pre .4,
+      rw (rest (now (start .args .numbers))) (start .pre .5 .terms),
     )
 
 put-byte-requires : tie.Need-put-byte-requires
@@ -86,14 +99,13 @@ returns c =
     let read : SFits w64 (getD numbers 0 (pos 0)) = sfits-of (indexed .before .put-number-arg2 .given) in
     let part = take (length numbers - 1) (drop 1 numbers) in
     let read-l = toZ w64 (ofZ w64 (start .args .l)) in
-    let rest : part ≡ drop 1 numbers = take-all (length numbers - 1) (drop 1 numbers) (rw length-drop (le-refl _)) in
     put-same
     (put-then
     (put-then (indexed .put-number .ensures)
     (spaced-then (_ ∷ []) (terms part read-l) (counted .put-next-count .ensures) (written .put-terms .ensures)))
     (c .before .before .put-byte .ensures))
     (ap₂ (λ a n. bytes a n part read-l) (toZ-ofZ read) (measured .term-lengths .ensures .0)
-    ∙ ap₂ (λ row l. bytes (getD numbers 0 (pos 0)) (nonzeroCount (polynomialsIn row)) row l) rest (toZ-ofZ (start .fits .l))
+    ∙ ap₂ (λ row l. bytes (getD numbers 0 (pos 0)) (nonzeroCount (polynomialsIn row)) row l) (rest numbers) (toZ-ofZ (start .fits .l))
     ∙ relation-line (start .args .l) numbers)
 
 pub put-relation-spec : {M : Type 1} → statement M

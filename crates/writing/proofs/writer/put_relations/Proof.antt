@@ -21,13 +21,13 @@ use Rattle.writing.proofs.writer.put_relations.Statement.{statement}
 use Rattle.writing.proofs.writer.put_relations.Tie as tie
 
 abbrev Inv-loop : tie.InvT-loop
-Inv-loop bytes₀ at relations count l next₀ i₀ bytes next i =
+Inv-loop bytes₀ at relations count l m blocks next₀ i₀ bytes next i =
     (i ≤ count)
     × Going bytes₀ at (lines (map (relationLine (toZ w64 l)) (relationsOf count relations))) bytes next
     (lines (map (relationLine (toZ w64 l)) (drop i (relationsOf count relations)))) (i * relationBytes)
 
 abbrev μ-loop : tie.MeasureT-loop
-μ-loop bytes₀ at relations count l next₀ i₀ bytes next i = count - i
+μ-loop bytes₀ at relations count l m blocks next₀ i₀ bytes next i = count - i
 
 loop-holds : tie.Need-loop-holds Inv-loop μ-loop
 loop-holds c = (omega arith, going-first refl)
@@ -56,7 +56,8 @@ put-relation-requires c κs =
     let i = c .before .before .before .loop .i in
     let width : i * relationLength + relationLength - i * relationLength ≡ relationLength = omega arith in
     let part = start .pre .4 i (c .before .before .loop-test .taken) in
-    (search needs, rw (toZ-ofZ (start .fits .l)) (start .pre .2), search needs, rw width part)
+    let unused = start .pre .6 i (c .before .before .loop-test .taken) in
+    (search needs, rw (toZ-ofZ (start .fits .l)) (start .pre .2), search needs, rw width part, start .pre .5, rw width unused)
 
 add-i : tie.Need-add-i Inv-loop μ-loop
 add-i c = search needs

@@ -27,13 +27,13 @@ use Rattle.writing.proofs.writer.put_terms.Statement.{statement}
 use Rattle.writing.proofs.writer.put_terms.Tie as tie
 
 abbrev Inv-loop : tie.InvT-loop
-Inv-loop bytes₀ at row lengths l next₀ b₀ bytes next b =
-    (b ≤ blockCount)
+Inv-loop bytes₀ at row lengths l blocks next₀ b₀ bytes next b =
+    (b ≤ blocks)
     × Going bytes₀ at (spaced (numbersOf (termsFrom (toZ w64 l) (rowOf row .blocks)))) bytes next
     (spaced (numbersOf (termsFrom (toZ w64 l -ℤ pos b) (drop b (rowOf row .blocks))))) (blockBytes * b)
 
 abbrev μ-loop : tie.MeasureT-loop
-μ-loop bytes₀ at row lengths l next₀ b₀ bytes next b = blockCount - b
+μ-loop bytes₀ at row lengths l blocks next₀ b₀ bytes next b = blocks - b
 
 -- the block that is written
 module _ (c : tie.After-put-block-arg3 Inv-loop μ-loop) where
@@ -119,7 +119,7 @@ put-block-requires c κs =
       search needs,
       λ i lt.
           ap (λ n. getD (take n (drop (b c * columnCount) lengths)) i 0) (lengths-width c)
-          ∙ lengths-part row lengths (b c) (c .before .before .before .loop-test .taken) (start c .pre .2) i lt
+          ∙ lengths-part row lengths (start c .args .blocks) (b c) (c .before .before .before .loop-test .taken) (start c .pre .2) i lt
           ∙ ap (λ n. length (trim (coefficientsAt (take n (drop (b c * blockLength) row)) i))) (sym (row-width c)),
       search needs,
       every-part Limits.small (b c * blockLength) (b c * blockLength + blockLength - b c * blockLength) row (start c .pre .5),
@@ -139,7 +139,7 @@ loop-again c =
     let row = now (start arg .args .row) in
     let written : ℤ → ℕ → List ℕ = λ s n. spaced (numbersOf (blockTerms s 1 (blockOf (take n (drop (b arg * blockLength) row))))) in (
       omega arith,
-      going-next (turn .before .loop .inv .1) (terms-next (l arg) row (b arg) (turn .loop-test .taken))
+      going-next (turn .before .loop .inv .1) (terms-next (l arg) row (b arg) (omega arith))
           (put-same (c .before .before .put-block .ensures)
           (ap₂ written (read arg) (row-width arg)))
           (omega arith),
@@ -152,7 +152,7 @@ returns : tie.Need-returns Inv-loop μ-loop
 returns c =
     let args = c .before .before .before .before .args in
     put-same
-    (going-last (c .before .loop .inv .1) (terms-end _ (now (args .row)) (c .before .loop .b) (c .loop-test .left)) (omega arith))
+    (going-last (c .before .loop .inv .1) (terms-end _ (now (args .row)) (args .blocks) (c .before .loop .b) (omega arith) (c .before .before .before .before .pre .7)) (omega arith))
     (ap (λ s. spaced (numbersOf (termsFrom s (rowOf (now (args .row)) .blocks)))) (toZ-ofZ (c .before .before .before .before .fits .l)))
 
 pub put-terms-spec : {M : Type 1} → statement M

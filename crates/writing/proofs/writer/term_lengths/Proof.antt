@@ -4,13 +4,13 @@
 use mathlib.Core.Path.{_≡_, _∙_, ap}
 use mathlib.Core.List.{List}
 use mathlib.Core.Logic.{⊎-elim}
-use Prim.Native.Nat.{ℕ, _+_, _*_, _-_, _≤_}
+use Prim.Native.Nat.{ℕ, _+_, _*_, _-_, _≤_, _<_}
 use native.Mathlib.Nat.{not-suc-le-zero}
 use native.Mathlib.Omega.{arith}
 use denote.Ref.{now}
 use lib.IntN.{ℤ}
 use lib.ListN.{length, take, drop, length-set}
-use Rattle.rules.specs.Limits.{coefficientCount, polynomialCount}
+use Rattle.rules.specs.Limits.{coefficientCount, columnCount, polynomialCount}
 use Rattle.rules.specs.Sheets.{trim}
 use Rattle.lists.specs.Parts.{parts, parts-end}
 use Rattle.writing.specs.Writer.{nonzeroCount, Lengths, lengths-next, count-none, count-some}
@@ -20,52 +20,28 @@ use Rattle.writing.proofs.writer.term_lengths.Statement.{statement}
 use Rattle.writing.proofs.writer.term_lengths.Tie as tie
 
 abbrev Inv-loop : tie.InvT-loop
-Inv-loop lengths₀ row terms₀ i₀ lengths terms i =
-    (i ≤ polynomialCount)
+Inv-loop lengths₀ row m blocks used terms₀ i₀ lengths terms i =
+    (i ≤ blocks * columnCount)
     × (terms ≤ i)
     × (terms + nonzeroCount (drop i (polynomialsIn row)) ≡ nonzeroCount (polynomialsIn row))
     × (length lengths ≡ polynomialCount)
     × Lengths i row lengths
 
 abbrev μ-loop : tie.MeasureT-loop
-μ-loop lengths₀ row terms₀ i₀ lengths terms i = polynomialCount - i
+μ-loop lengths₀ row m blocks used terms₀ i₀ lengths terms i = blocks * columnCount - i
 
--- what `trimmed` says of polynomial i
-module _ (c : tie.After-trimmed Inv-loop μ-loop) where
-  abbrev row : List ℤ
-  row = now (c .before .before .before .before .before .args .row)
-
-  abbrev i : ℕ
-  i = c .before .before .before .loop .i
-
-  size : c .trimmed .result ≡ length (trim (coefficientsAt row i))
-  size =
-      let width : i * coefficientCount + coefficientCount - i * coefficientCount ≡ coefficientCount = omega arith in
-      c .trimmed .ensures ∙ ap (λ n. length (trim (take n (drop (i * coefficientCount) row)))) width
+mul-used : tie.Need-mul-used Inv-loop μ-loop
+mul-used c = search needs
 
 loop-holds : tie.Need-loop-holds Inv-loop μ-loop
 loop-holds c = (omega arith, omega arith, omega arith, omega arith, λ k lt. absurd (not-suc-le-zero lt))
 
-mul-from : tie.Need-mul-from Inv-loop μ-loop
-mul-from c = search needs
-
-add-to : tie.Need-add-to Inv-loop μ-loop
-add-to c = search needs
-
-mul-trimmed : tie.Need-mul-trimmed Inv-loop μ-loop
-mul-trimmed c = search needs
-
-sub-trimmed : tie.Need-sub-trimmed Inv-loop μ-loop
-sub-trimmed c = search needs
-
-part-trimmed-start : tie.Need-part-trimmed-start Inv-loop μ-loop
-part-trimmed-start c = search needs
-
-part-trimmed-end : tie.Need-part-trimmed-end Inv-loop μ-loop
-part-trimmed-end c = search needs
-
-trimmed-requires : tie.Need-trimmed-requires Inv-loop μ-loop
-trimmed-requires c κs = search needs
+term-length-requires : tie.Need-term-length-requires Inv-loop μ-loop
+term-length-requires c κs =
+    let start = c .before .before .before in
+    let i = c .before .loop .i in
+    let low : i < polynomialCount = omega arith in
+    (start .pre .1, low, start .pre .3 .columns i low)
 
 mul-lengths : tie.Need-mul-lengths Inv-loop μ-loop
 mul-lengths c = search needs
@@ -85,16 +61,20 @@ loop-less c = search needs
 loop-again : tie.Need-loop-again Inv-loop μ-loop
 loop-again c =
     let e = c .before in
-    let inside = e .before .before .loop-test .taken in
-    let loop = e .before .before .before .loop in
-    let long = length-set (loop .lengths) (i e) (e .trimmed .result) in
-    let more = lengths-next (row e) (loop .lengths) (i e) (e .trimmed .result) (loop .inv .4) (omega arith) (size e) in
+    let loop = e .before .before .loop in
+    let start = e .before .before .before .before in
+    let row = now (start .args .row) in
+    let i = loop .i in
+    let n = e .term-length .result in
+    let inside : i < polynomialCount = omega arith in
+    let long = length-set (loop .lengths) i n in
+    let more = lengths-next row (loop .lengths) i n (loop .inv .4) (omega arith) (e .term-length .ensures) in
     ⊎-elim
     (λ w.
-    let one = count-some (row e) (i e) (e .trimmed .result) inside (size e) (w .0 .taken) in
+    let one = count-some row i n inside (e .term-length .ensures) (w .0 .taken) in
     (omega arith, omega arith, omega arith, omega arith, more))
     (λ w.
-    let none = count-none (row e) (i e) (e .trimmed .result) inside (size e) (w .0 .left) in
+    let none = count-none row i n inside (e .term-length .ensures) (w .0 .left) in
     (omega arith, omega arith, omega arith, omega arith, more))
     (c .if1 .came)
 
@@ -102,11 +82,11 @@ same-length : tie.Need-same-length Inv-loop μ-loop
 same-length c = search needs
 
 returns : tie.Need-returns Inv-loop μ-loop
-unfolding nonzeroCount
 returns c =
     let loop = c .before .loop in
-    let none = ap nonzeroCount
-    (parts-end coefficientCount polynomialCount (now (c .before .before .before .args .row)) (loop .i) (c .loop-test .left)) in
+    let start = c .before .before .before in
+    let whole : loop .i ≡ start .args .blocks * columnCount = omega arith in
+    let none = ap (λ k. nonzeroCount (drop k (polynomialsIn (now (start .args .row))))) whole ∙ start .pre .3 .rest in
     (omega (arith, none), λ k lt. loop .inv .4 k (omega arith))
 
 pub term-lengths-spec : {M : Type 1} → statement M
@@ -115,14 +95,9 @@ term-lengths-spec =
     (tie.spec
     Inv-loop
     μ-loop
+    mul-used
     loop-holds
-    mul-from
-    add-to
-    mul-trimmed
-    sub-trimmed
-    part-trimmed-start
-    part-trimmed-end
-    trimmed-requires
+    term-length-requires
     mul-lengths
     slice-write-lengths
     add-terms
