@@ -14,6 +14,7 @@
 --   put-then          two runs of bytes stored one after the other are one run
 --   going-first, going-next, going-last   a loop that stores a run part by part
 --   digits-last, digits-back   the last digit of a number comes after the digits of its tenth, and may be stored before them
+--   one-stored        a number of one digit with the space before it, stored so that no step depends on its sign
 --   decimal-length    a number within ±C takes at most ten bytes
 --   line-is           a line is its first number, the others spaced, and byte 10
 --   trim-nonzero, trim-more, trim-take   how many coefficients a term has, and which
@@ -26,7 +27,7 @@
 --   sheet-bytes       the bytes of a sheet, section by section
 use mathlib.Core.Path.{_≡_, refl, sym, _∙_, ap, ap₂, subst, fun-ext}
 use mathlib.Core.Bool.{Bool, true, false, and-true, cond}
-use mathlib.Core.Logic.{_≢_}
+use mathlib.Core.Logic.{_≢_, _⊎_, ⊎-elim}
 use mathlib.Core.List.{List, [], _∷_, _++_, map, flatten, append-assoc, append-nil, map-append, map-map}
 use Prim.Native.Nat.{ℕ, zero, suc, _+_, _-_, _*_, _/_, _%_, _^_, _≤_, _<_}
 use native.Mathlib.Nat.{zero-add, suc-add, div-lt-self, add-mul}
@@ -40,7 +41,7 @@ use lib.IntN.{ℤ, pos, negsuc, natAbs, negℤ, predℤ, _+ℤ_, _-ℤ_, negℤ-
 use lib.Signed.{ltZ}
 use lib.ListN.{length, take, drop, getD, set, length-append, length-take, length-map, drop-of-length-le}
 use lib.Seq.{sets, length-sets, take-suc, length-take-le, take-take, drop-drop}
-use lib.Seq.{getD-take, getD-drop, getD-set-same, getD-set-other}
+use lib.Seq.{getD-take, getD-drop, getD-set-same, getD-set-other, set-set}
 use Rattle.algebra.specs.Integers.{natAbs-+ℤ, natAbs-negℤ}
 use Rattle.algebra.specs.Polynomials.{Polynomial, coeff, isZero, isZero-cons, isZero-coeff, isZero-append}
 use Rattle.lists.specs.Images.{getD-map}
@@ -232,6 +233,36 @@ columns-next l i h =
 pub spaced-number : (a : ℤ) → space ∷ decimal a ≡ spaced (a ∷ [])
 unfolding spaced
 spaced-number a = ap (λ r. space ∷ r) (sym (append-nil (decimal a)))
+
+-- A space, a minus and a digit, which is stored over the minus where the number is not negative.
+pub one-stored : (d : List ℕ) (at place n k : ℕ) (a : ℤ) → n ≡ natAbs a → n ≤ 9 → 3 ≤ k
+    → ((ltZ a (pos 0) ≡ true) × (place ≡ at + 2)) ⊎ ((ltZ a (pos 0) ≡ false) × (place ≡ at + 1))
+    → Put d at (spaced (a ∷ [])) k (set (set (set d at space) (at + 1) minus) place (48 + n)) (place + 1)
+one-stored d at place n k a e few room sides =
+    ⊎-elim
+    (λ w.
+    put-same
+    (record {
+      stored = ap₂ (λ i j. set (set (set d at space) i minus) j (48 + n)) (add-one at) (w .1 ∙ omega arith);
+      passed = omega (arith, w .1);
+      few = room;
+    })
+    (ap (λ l. space ∷ minus ∷ l) digit ∙ ap (λ l. space ∷ l) (sym (decimal-negative a (w .0))) ∙ spaced-number a))
+    (λ w.
+    put-same
+    (record {
+      stored =
+          ap (λ j. set (set (set d at space) (at + 1) minus) j (48 + n)) (w .1)
+          ∙ set-set (set d at space) (at + 1) minus (48 + n)
+          ∙ ap (λ i. set (set d at space) i (48 + n)) (add-one at);
+      passed = omega (arith, w .1);
+      few = omega arith;
+    })
+    (ap (λ l. space ∷ l) (digit ∙ sym (decimal-positive a (w .0))) ∙ spaced-number a))
+    sides
+  where
+    digit : (48 + n) ∷ [] ≡ digitsOf (natAbs a)
+    digit = sym (digits-one n (omega arith)) ∙ ap digitsOf e
 
 pub decimal-count : (n : ℕ) → decimal (pos n) ≡ digitsOf n
 unfolding decimal digitsOf

@@ -15,7 +15,7 @@ ghost use mathlib.Core.List.{[], _∷_, map};
 ghost use Prim.Native.Nat.{_+_, _*_, _%_, _^_, _≤_, _<_};
 ghost use Rattle.rules.specs.Numbers.{decimal, line, lines};
 ghost use lib.IntN.{pos, natAbs};
-ghost use lib.Dec.{T};
+ghost use lib.Dec.{T, leb};
 ghost use lib.ListN.{length, drop};
 ghost use lib.Seq.{sets};
 ghost use Rattle.rules.specs.Limits.{columnCount, rowLength, relationLength, mostRelations, small, coefficientCount, mostEquations, polynomialCount, blockCount, blockLength, blockBound};
@@ -114,11 +114,40 @@ fn put_number(bytes: &mut [u8], at: usize, a: i64) -> usize
     }
 }
 
-// A number of a line past the first.
+fn one_digit(a: i64) -> bool
+    ensures { λ r. ⌜ r ≡ leb (natAbs a) 9 ⌝ }
+{
+    -9 <= a && a <= 9
+}
+
+// A space and a number of one digit. The sign of a number is hard to foretell, so the minus is stored in any case, and the digit over it
+// where there is none.
+fn put_one(bytes: &mut [u8], at: usize, a: i64) -> usize
+    requires { ⌜ (natAbs a ≤ 9) × (at + 3 ≤ length (now bytes)) × (at + 3 < 2 ^ 64) ⌝ }
+    ensures { λ r. ⌜ Put (now (bytes .entry)) at (spaced (a ∷ [])) numberBytes (now (bytes .exit)) r ⌝ }
+{
+    let size = integers::magnitude(a);
+    let sign = at + 1;
+    let mut place = sign;
+    if a < 0 {
+        place = at + 2;
+    }
+    bytes[at] = 32;
+    bytes[sign] = 45;
+    bytes[place] = 48 + size as u8;
+    place + 1
+}
+
+// A number of a line past the first. Most have one digit.
 fn put_next(bytes: &mut [u8], at: usize, a: i64) -> usize
     requires { ⌜ T (small a) × (at + numberRoom < 2 ^ 64) ⌝ }
     ensures { λ r. ⌜ Put (now (bytes .entry)) at (spaced (a ∷ [])) numberBytes (now (bytes .exit)) r ⌝ }
 {
+    if one_digit(a) {
+        if at + 3 <= bytes.len() {
+            return put_one(bytes, at, a);
+        }
+    }
     let next = put_byte(bytes, at, 32);
     put_number(bytes, next, a)
 }

@@ -1,30 +1,62 @@
 -- `writing::writer::put_next` meets its contract: a space, and the number.
 -- Assumes nothing.
-use mathlib.Core.Path.{_∙_, ap}
-use mathlib.Core.List.{_∷_}
+use mathlib.Core.Path.{sym, _∙_, ap}
+use mathlib.Core.List.{[], _∷_}
+use native.Mathlib.Omega.{arith}
+use borrow.Author.Tests.{leb-true}
 use mir.Facts.{toZ-ofZ}
 use Rattle.rules.specs.Numbers.{space, decimal}
-use Rattle.writing.specs.Writer.{put-same, put-then, spaced-number}
+use Rattle.writing.specs.Writer.{put-same, put-then, spaced, spaced-number}
 use borrow.Author.Needs.{needs}
 use Rattle.writing.proofs.writer.put_next.Statement.{statement}
 use Rattle.writing.proofs.writer.put_next.Tie as tie
 
-put-byte-requires : tie.Need-put-byte-requires
-put-byte-requires c κs = search needs
+one-digit-requires : tie.Need-one-digit-requires
+one-digit-requires c κs = search needs
 
-put-number-requires : tie.Need-put-number-requires
-put-number-requires c κs =
-    let start = c .before .before .before .before .before .before in
-    (rw (toZ-ofZ (start .fits .a)) (start .pre .0), search needs)
+add-if2 : tie.Need-add-if2
+add-if2 c = search needs
+
+put-one-requires : tie.Need-put-one-requires
+put-one-requires c κs =
+    let one = c .before .before .before in
+    (leb-true _ 9 (sym (one .one-digit .ensures) ∙ c .before .before .if1 .taken), omega arith, search needs)
 
 same-length : tie.Need-same-length
 same-length c = search needs
 
 returns : tie.Need-returns
 returns c =
-    let start = c .before .before .before .before .before .before .before .before .before in
+    let start = c .before .before .before .before .before .before .before .before in
+    put-same (c .before .before .put-one .ensures) (ap (λ a. spaced (a ∷ [])) (toZ-ofZ (start .fits .a)))
+
+put-byte-requires : tie.Need-put-byte-requires
+put-byte-requires c κs = search needs
+
+put-number-requires : tie.Need-put-number-requires
+put-number-requires c κs =
+    let start = c .before .before .before .before .before .before .before .before in
+    (rw (toZ-ofZ (start .fits .a)) (start .pre .0), search needs)
+
+same-length-2 : tie.Need-same-length-2
+same-length-2 c = search needs
+
+returns-2 : tie.Need-returns-2
+returns-2 c =
+    let start = c .before .before .before .before .before .before .before .before .before .before .before in
     put-same (put-then (c .before .before .before .before .before .before .put-byte .ensures) (c .before .before .put-number .ensures))
     (ap (λ a. space ∷ decimal a) (toZ-ofZ (start .fits .a)) ∙ spaced-number (start .args .a))
 
 pub put-next-spec : {M : Type 1} → statement M
-put-next-spec = tie.close (tie.spec put-byte-requires put-number-requires same-length returns)
+put-next-spec =
+    tie.close
+    (tie.spec
+    one-digit-requires
+    add-if2
+    put-one-requires
+    same-length
+    returns
+    put-byte-requires
+    put-number-requires
+    same-length-2
+    returns-2)
