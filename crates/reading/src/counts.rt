@@ -27,6 +27,14 @@ pub fn count_at(bytes: &[u8], at: usize, most: i64) -> tokens::NumberRead
     requires { ⌜ at ≤ length (now bytes) ⌝ }
     ensures { λ r. ⌜ Answers (now (bytes .entry)) (r .refusal) (r .value) (r .at) (field (between (pos 0) most) afterCount (drop at (now (bytes .entry)))) ⌝ }
 {
+    let d = tokens::digit_at(bytes, at, 32);
+    if d.refusal == 0 {
+        if tokens::judge_between(0, most, d.value) == 0 {
+            if after_count(d.value) == 32 {
+                return d;
+            }
+        }
+    }
     let n = tokens::number_at(bytes, at);
     let judgement = tokens::judge_between(0, most, n.value);
     let separator = after_count(n.value);

@@ -26,6 +26,12 @@ fn lowest_at(bytes: &[u8], at: usize, l: i64) -> tokens::NumberRead
     requires { ⌜ (at ≤ length (now bytes)) × (natAbs l ≤ 64) ⌝ }
     ensures { λ r. ⌜ Answers (now (bytes .entry)) (r .refusal) (r .value) (r .at) (field (judgeLowest l) (always 10) (drop at (now (bytes .entry)))) ⌝ }
 {
+    let d = tokens::digit_at(bytes, at, 10);
+    if d.refusal == 0 {
+        if judge_lowest(l, d.value) == 0 {
+            return d;
+        }
+    }
     let n = tokens::number_at(bytes, at);
     let judgement = judge_lowest(l, n.value);
     tokens::separated(bytes, n, judgement, 10)

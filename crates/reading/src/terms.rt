@@ -61,6 +61,12 @@ fn last_at(bytes: &[u8], at: usize, separator: u8) -> tokens::NumberRead
     requires { ⌜ at ≤ length (now bytes) ⌝ }
     ensures { λ r. ⌜ Answers (now (bytes .entry)) (r .refusal) (r .value) (r .at) (field judgeLast (always separator) (drop at (now (bytes .entry)))) ⌝ }
 {
+    let d = tokens::digit_at(bytes, at, separator);
+    if d.refusal == 0 {
+        if judge_last(d.value) == 0 {
+            return d;
+        }
+    }
     let n = tokens::number_at(bytes, at);
     let judgement = judge_last(n.value);
     tokens::separated(bytes, n, judgement, separator)
@@ -70,6 +76,12 @@ fn block_at(bytes: &[u8], at: usize, z: stores::validity::Sizes, before: i64) ->
     requires { ⌜ at ≤ length (now bytes) ⌝ }
     ensures { λ r. ⌜ Answers (now (bytes .entry)) (r .refusal) (r .value) (r .at) (field (judgeBlock (sizesOf z) before) (always 32) (drop at (now (bytes .entry)))) ⌝ }
 {
+    let d = tokens::digit_at(bytes, at, 32);
+    if d.refusal == 0 {
+        if judge_block(z, before, d.value) == 0 {
+            return d;
+        }
+    }
     let n = tokens::number_at(bytes, at);
     let judgement = judge_block(z, before, n.value);
     tokens::separated(bytes, n, judgement, 32)
@@ -86,6 +98,12 @@ fn column_at(
     requires { ⌜ (at ≤ length (now bytes)) × ((z .m ≤ 4) × (last ≤ 4)) ⌝ }
     ensures { λ r. ⌜ Answers (now (bytes .entry)) (r .refusal) (r .value) (r .at) (field (judgeColumn (sizesOf z) before last s) (always 32) (drop at (now (bytes .entry)))) ⌝ }
 {
+    let d = tokens::digit_at(bytes, at, 32);
+    if d.refusal == 0 {
+        if judge_column(z, before, last, s, d.value) == 0 {
+            return d;
+        }
+    }
     let n = tokens::number_at(bytes, at);
     let judgement = judge_column(z, before, last, s, n.value);
     tokens::separated(bytes, n, judgement, 32)

@@ -1,5 +1,6 @@
 pub mod Tokens
 pub mod Fields
+pub mod Straight
 pub mod WrittenNumbers
 pub mod Exact
 pub mod Windows

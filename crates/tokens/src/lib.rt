@@ -1,7 +1,7 @@
 // The numbers of a sheet and of a batch line: one to ten digits, a minus or none in front, no superfluous zero
 // (SCOPE 4.2); each is judged, and has its separator (SCOPE 4.33, 4.34, 4.36).
 ghost use mathlib.Core.Path.{_≡_};
-ghost use mathlib.Core.Bool.{_&&_, cond};
+ghost use mathlib.Core.Bool.{true, _&&_, cond};
 ghost use Prim.Native.Nat.{_+_, _^_, _≤_, _<_};
 ghost use lib.ListN.{length, drop};
 ghost use lib.Seq.{slice};
@@ -11,6 +11,7 @@ ghost use lib.Signed.{leZ};
 ghost use Rattle.rules.specs.Numbers.{isSeparator, isDigit, startsRight, thenRead, field, between, judgeSmall};
 ghost use Rattle.rules.specs.Sheets.{always};
 ghost use Rattle.tokens.specs.Tokens.{DigitsStart, DigitsTo, Stopped, tokenAnswer};
+ghost use Rattle.tokens.specs.Straight.{twoDigits, fourDigits, eightDigits, twoBytes, fourBytes, Closed};
 ghost use Rattle.tokens.specs.Fields.{NumberAt, Answers, Unread, readNumber, readOf, closing};
 
 fn is_separator(b: u8) -> bool
@@ -20,14 +21,19 @@ fn is_separator(b: u8) -> bool
 }
 
 // Where the digits of the token at `at` begin: after a minus, if it has one.
+fn after_sign(bytes: &[u8], at: usize) -> usize
+    requires { ⌜ at < length (now bytes) ⌝ }
+    ensures { λ r. ⌜ DigitsStart (now (bytes .entry)) at r × (r ≤ at + 1) ⌝ }
+{
+    if bytes[at] == 45 { at + 1 } else { at }
+}
+
 fn digits_start(bytes: &[u8], at: usize) -> usize
     requires { ⌜ at ≤ length (now bytes) ⌝ }
     ensures { λ r. ⌜ DigitsStart (now (bytes .entry)) at r ⌝ }
 {
     if at < bytes.len() {
-        if bytes[at] == 45 {
-            return at + 1;
-        }
+        return after_sign(bytes, at);
     }
     at
 }
@@ -127,12 +133,116 @@ pub fn no_number(refusal: u8) -> NumberRead
     }
 }
 
+fn two_digits(bytes: &[u8], at: usize) -> bool
+    requires { ⌜ at + 2 ≤ length (now bytes) ⌝ }
+    ensures { λ r. ⌜ r ≡ twoDigits (now (bytes .entry)) at ⌝ }
+{
+    is_digit(bytes[at]) & is_digit(bytes[at + 1])
+}
+
+fn four_digits(bytes: &[u8], at: usize) -> bool
+    requires { ⌜ at + 4 ≤ length (now bytes) ⌝ }
+    ensures { λ r. ⌜ r ≡ fourDigits (now (bytes .entry)) at ⌝ }
+{
+    two_digits(bytes, at) & two_digits(bytes, at + 2)
+}
+
+// Are the eight bytes from `at` on digits? No test waits for another, so that all are made at once.
+fn eight_digits(bytes: &[u8], at: usize) -> bool
+    requires { ⌜ at + 8 ≤ length (now bytes) ⌝ }
+    ensures { λ r. ⌜ r ≡ eightDigits (now (bytes .entry)) at ⌝ }
+{
+    four_digits(bytes, at) & four_digits(bytes, at + 4)
+}
+
+fn wide(b: u8) -> u64
+    ensures { λ r. ⌜ (r ≡ b) × (r ≤ 255) ⌝ }
+{
+    b as u64
+}
+
+// Bytes as digits, without the 48 that each of them is more.
+fn two_bytes(bytes: &[u8], at: usize) -> u64
+    requires { ⌜ at + 2 ≤ length (now bytes) ⌝ }
+    ensures { λ r. ⌜ (r ≡ twoBytes (now (bytes .entry)) at) × (r ≤ 2805) ⌝ }
+{
+    10 * wide(bytes[at]) + wide(bytes[at + 1])
+}
+
+fn four_bytes(bytes: &[u8], at: usize) -> u64
+    requires { ⌜ at + 4 ≤ length (now bytes) ⌝ }
+    ensures { λ r. ⌜ (r ≡ fourBytes (now (bytes .entry)) at) × (r ≤ 283305) ⌝ }
+{
+    100 * two_bytes(bytes, at) + two_bytes(bytes, at + 2)
+}
+
+// The value of eight digits: 533333328 is 48 in each of eight places.
+fn eight_value(bytes: &[u8], from: usize) -> u64
+    requires { ⌜ (from + 8 ≤ length (now bytes)) × (eightDigits (now bytes) from ≡ true) ⌝ }
+    ensures { λ r. ⌜ DigitsTo (now (bytes .entry)) from (from + 8) r ⌝ }
+{
+    10000 * four_bytes(bytes, from) + four_bytes(bytes, from + 4) - 533333328
+}
+
+// One digit more, if there is one.
+fn with_digit(bytes: &[u8], from: usize, d: Digits) -> Digits
+    requires { ⌜ DigitsTo (now bytes) from (d .end) (d .value) × (d .end < from + 10) × (d .end < length (now bytes)) ⌝ }
+    ensures { λ r. ⌜ DigitsTo (now (bytes .entry)) from (r .end) (r .value) × (d .end ≤ r .end) × (r .end ≤ d .end + 1) ⌝ }
+{
+    let end = d.end;
+    let b = bytes[end];
+    if !is_digit(b) {
+        return d;
+    }
+    Digits {
+        end: end + 1,
+        value: 10 * d.value + wide(b - 48),
+    }
+}
+
+// A number of eight to ten digits, read straight, where its longest form and a separator have room; any refusal says
+// that none was read so.
+fn long_at(bytes: &[u8], at: usize) -> NumberRead
+    requires { ⌜ at ≤ length (now bytes) ⌝ }
+    ensures { λ r. ⌜ (r .refusal ≡ 0 → NumberAt (now (bytes .entry)) at (r .refusal) (r .value) (r .at)) ⌝ }
+{
+    if bytes.len() - at < 12 {
+        return no_number(3);
+    }
+    let from = after_sign(bytes, at);
+    if !eight_digits(bytes, from) {
+        return no_number(3);
+    }
+    if bytes[from] == 48 {
+        return no_number(3);
+    }
+    let eight = Digits {
+        end: from + 8,
+        value: eight_value(bytes, from),
+    };
+    let nine = with_digit(bytes, from, eight);
+    let d = with_digit(bytes, from, nine);
+    let end = d.end;
+    if !is_separator(bytes[end]) {
+        return no_number(3);
+    }
+    NumberRead {
+        refusal: 0,
+        value: signed_value(at < from, d.value),
+        at: end,
+    }
+}
+
 // The number at `at`; the place after it is that of its separator. Bytes that end before the separator are 4 where they
 // could begin a number, 3 where not (SCOPE 4.32); a token that is no number is 3 (SCOPE 4.33, 8.3).
 pub fn number_at(bytes: &[u8], at: usize) -> NumberRead
     requires { ⌜ at ≤ length (now bytes) ⌝ }
     ensures { λ r. ⌜ NumberAt (now (bytes .entry)) at (r .refusal) (r .value) (r .at) ⌝ }
 {
+    let n = long_at(bytes, at);
+    if n.refusal == 0 {
+        return n;
+    }
     let from = digits_start(bytes, at);
     let d = digits_from(bytes, from);
     let end = d.end;
@@ -150,6 +260,39 @@ pub fn number_at(bytes: &[u8], at: usize) -> NumberRead
         refusal: 0,
         value,
         at: end,
+    }
+}
+
+// A number of one digit and the separator behind it, read straight: most numbers of a sheet are such. Any refusal says that none
+// was read so; a 0 has no sign.
+pub fn digit_at(bytes: &[u8], at: usize, separator: u8) -> NumberRead
+    requires { ⌜ at ≤ length (now bytes) ⌝ }
+    ensures { λ r. ⌜ (r .refusal ≡ 0 → Closed (now (bytes .entry)) at separator (r .value) (r .at)) ⌝ }
+{
+    if bytes.len() - at < 3 {
+        return no_number(3);
+    }
+    let from = after_sign(bytes, at);
+    let b = bytes[from];
+    if !is_digit(b) {
+        return no_number(3);
+    }
+    let end = from + 1;
+    let after = bytes[end];
+    if !is_separator(after) {
+        return no_number(3);
+    }
+    if after != separator {
+        return no_number(3);
+    }
+    let size = wide(b - 48);
+    if (size as usize) < from - at {
+        return no_number(3);
+    }
+    NumberRead {
+        refusal: 0,
+        value: signed_value(at < from, size),
+        at: end + 1,
     }
 }
 
@@ -201,6 +344,12 @@ pub fn number_between(bytes: &[u8], at: usize, low: i64, high: i64, separator: u
     ensures { λ r. ⌜ Answers (now (bytes .entry)) (r .refusal) (r .value) (r .at) (field (between low high) (always separator) (drop at (now (bytes .entry)))) ⌝ }
     ensures { λ r. ⌜ Unread (r .refusal) (r .value) (r .at) ⌝ }
 {
+    let d = digit_at(bytes, at, separator);
+    if d.refusal == 0 {
+        if judge_between(low, high, d.value) == 0 {
+            return d;
+        }
+    }
     let n = number_at(bytes, at);
     let judgement = judge_between(low, high, n.value);
     separated(bytes, n, judgement, separator)
@@ -212,6 +361,12 @@ pub fn small_at(bytes: &[u8], at: usize) -> NumberRead
     ensures { λ r. ⌜ Answers (now (bytes .entry)) (r .refusal) (r .value) (r .at) (field judgeSmall (always 32) (drop at (now (bytes .entry)))) ⌝ }
     ensures { λ r. ⌜ Unread (r .refusal) (r .value) (r .at) ⌝ }
 {
+    let d = digit_at(bytes, at, 32);
+    if d.refusal == 0 {
+        if judge_small(d.value) == 0 {
+            return d;
+        }
+    }
     let n = number_at(bytes, at);
     let judgement = judge_small(n.value);
     separated(bytes, n, judgement, 32)

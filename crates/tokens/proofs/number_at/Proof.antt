@@ -1,5 +1,5 @@
 -- `tokens::number_at` meets its contract. The digits are read first; where the bytes go on after them, the token
--- is a number or none.
+-- is a number or none. A long number was read straight before.
 -- Assumes nothing.
 use mathlib.Core.Path.{_≡_, refl, sym, ap, _∙_}
 use mathlib.Core.Bool.{Bool, true, false, cond}
@@ -17,6 +17,12 @@ use Rattle.tokens.specs.Fields.{readNumber, readOf, number-cut, number-r
 use Rattle.tokens.specs.declared.Token.the-variants.{Number, NoNumber}
 use Rattle.tokens.proofs.number_at.Statement.{statement}
 use Rattle.tokens.proofs.number_at.Tie as tie
+
+long-at-requires : tie.Need-long-at-requires
+long-at-requires c κs = omega arith
+
+returns : tie.Need-returns
+returns c = c .before .before .long-at .ensures (c .if1 .taken)
 
 digits-start-requires : tie.Need-digits-start-requires
 digits-start-requires c κs = omega arith
@@ -36,10 +42,10 @@ module _ (d : tie.After-starts-right) where
   end = d .before .digits-from .result .end
 
   abbrev bytes : List ℕ
-  bytes = now (d .before .before .before .before .args .bytes)
+  bytes = now (d .before .before .before .before .before .before .before .args .bytes)
 
   abbrev at : ℕ
-  at = d .before .before .before .before .args .at
+  at = d .before .before .before .before .before .before .before .args .at
 
   right : (t : Bool) → d .starts-right .result ≡ t → startsRight (ltb at from) (slice from end bytes) ≡ t
   right t e = sym (d .starts-right .ensures) ∙ e
@@ -51,16 +57,16 @@ module _ (d : tie.After-starts-right) where
 no-number-requires : tie.Need-no-number-requires
 no-number-requires c κs = tt
 
-returns : tie.Need-returns
-returns c = number-refuses (λ z. omega arith)
-    (cut (c .before .before .before) true (c .before .before .if1 .taken) (c .before .if2 .taken)) (c .no-number .ensures)
+returns-2 : tie.Need-returns-2
+returns-2 c = number-refuses (λ z. omega arith)
+    (cut (c .before .before .before) true (c .before .before .if2 .taken) (c .before .if3 .taken)) (c .no-number .ensures)
 
 no-number-requires-2 : tie.Need-no-number-requires-2
 no-number-requires-2 c κs = tt
 
-returns-2 : tie.Need-returns-2
-returns-2 c = number-refuses (λ z. omega arith)
-    (cut (c .before .before .before) false (c .before .before .if1 .taken) (c .before .if2 .left)) (c .no-number2 .ensures)
+returns-3 : tie.Need-returns-3
+returns-3 c = number-refuses (λ z. omega arith)
+    (cut (c .before .before .before) false (c .before .before .if2 .taken) (c .before .if3 .left)) (c .no-number2 .ensures)
 
 read-token-requires : tie.Need-read-token-requires
 read-token-requires c κs =
@@ -78,9 +84,9 @@ enum-told c = search needs
 no-number-requires-3 : tie.Need-no-number-requires-3
 no-number-requires-3 c κs = tt
 
-returns-3 : tie.Need-returns-3
+returns-4 : tie.Need-returns-4
 unfolding tokenAnswer
-returns-3 c =
+returns-4 c =
     let t = c .before .before .before in
     let a = t .before .before in
     let told : t .read-token .result ≡ NoNumber = c .before .enum-told .given .1 in
@@ -88,9 +94,9 @@ returns-3 c =
     (sym (t .read-token .ensures) ∙ ap (λ k. tokenAnswer k (drop (end a) (bytes a))) told)
     (c .no-number3 .ensures)
 
-returns-4 : tie.Need-returns-4
+returns-5 : tie.Need-returns-5
 unfolding tokenAnswer readOf
-returns-4 c =
+returns-5 c =
     let t = c .before .before .before in
     let a = t .before .before in
     let known : t .read-token .result ≡ Number (c .before .value .given .0 .0) = c .before .value .given .1 in
@@ -106,16 +112,18 @@ pub number-at-spec : {M : Type 1} → statement M
 number-at-spec =
     tie.close
     (tie.spec
+    long-at-requires
+    returns
     digits-start-requires
     digits-from-requires
     starts-right-requires
     no-number-requires
-    returns
-    no-number-requires-2
     returns-2
+    no-number-requires-2
+    returns-3
     read-token-requires
     enum-known-value
     enum-told
     no-number-requires-3
-    returns-3
-    returns-4)
+    returns-4
+    returns-5)
