@@ -6,20 +6,18 @@
 --   ContentOf r d     d is the content of r where no degree is past 15, and it is in the range of an i64
 --
 -- Main statements
---   parts-held, parts-of   the parts of a working row, and of the numbers of a row
+--   parts-held   the parts of a working row
 use mathlib.Core.Path.{_≡_}
 use mathlib.Core.Bool.{true, false, not}
 use mathlib.Core.List.{List, _++_}
 use Prim.Native.Nat.{ℕ, _^_, _<_}
-use native.Mathlib.Omega.{arith}
 use lib.Dec.{T}
 use lib.IntN.{ℤ}
-use lib.ListN.{length, take, drop, length-drop}
-use lib.Seq.{length-take-le}
+use lib.ListN.{length}
 use Rattle.algebra.specs.Gcd.{content}
 use Rattle.polynomials.specs.Content.{Below}
-use Rattle.lists.specs.Tests.{every, every-take, every-drop}
-use Rattle.rules.specs.Limits.{coefficientCount, entriesLength, rowLength, small}
+use Rattle.lists.specs.Tests.{every}
+use Rattle.rules.specs.Limits.{coefficientCount, entriesLength, small}
 use Rattle.rules.specs.Rows.{Row, coefficientsOf, lowDegrees, cut}
 use Rattle.working_rows.specs.declared.WorkingRow.{WorkingRow}
 use Rattle.working_rows.specs.Working.{Full, numbersHeld, small-apart}
@@ -31,20 +29,11 @@ pub record RowParts (e s : List ℤ) : Type 0 where
   pub entries-small : T (every small e)
   pub right-small : T (every small s)
 
--- The parts of a working row, and those of the numbers of a row.
+-- The parts of a working row.
 pub parts-held : (w : WorkingRow) → Full w → T (every small (numbersHeld w)) → RowParts (w .entries) (w .right)
 parts-held w f h =
     let apart = small-apart w h in
     record { entries-long = f .entries-long; right-long = f .right-long; entries-small = apart .0; right-small = apart .1 }
-
-pub parts-of : (l : List ℤ) → length l ≡ rowLength → T (every small l) → RowParts (take entriesLength l) (drop entriesLength l)
-parts-of l e h =
-    record {
-      entries-long = length-take-le entriesLength l (omega (arith, e));
-      right-long = rw length-drop (omega (arith, e));
-      entries-small = every-take small entriesLength l h;
-      right-small = every-drop small entriesLength l h;
-    }
 
 pub record LowRow (r : Row) (low : Low) : Type 0 where
   pub entries-long : length (low .entries) ≡ entriesLength

@@ -28,12 +28,13 @@ use Rattle.algebra.specs.Gcd.{dividesAll-of-content, isZero-divideBy, divideBy-
 use Rattle.algebra.specs.Polynomials.{Polynomial, isZero}
 use Rattle.lists.specs.Tests.{T-&&, every, every-append, every-flatten}
 use Rattle.polynomials.specs.Content.{Below}
-use Rattle.rules.specs.Rows.{Row, mapRow, coefficientsOf, primitive, lowDegrees, cut}
+use Rattle.rules.specs.Rows.{Row, mapRow, coefficientsOf, primitive, lowDegrees, cut, contradicts, smallRow}
 use Rattle.lists.specs.Images.{map-take, map-drop}
 use Rattle.rules.specs.Limits.{coefficientCount}
 use Rattle.rules.specs.Elimination.{within, beyond, limitCoefficients, limitDegrees, consistent}
 use Rattle.stores.specs.Flat.{polynomialsOf, polynomials-mapRow, numbers-polynomials, numbers-mapRow}
 use Rattle.lists.specs.Joined.{flatten-map}
+use Rattle.working_rows.specs.Worked.{refusalOf}
 
 -- The numbers divided by d, or as they are if d is 0.
 abbrev pub divideUnlessZero : ℕ → List ℤ → List ℤ
@@ -195,3 +196,16 @@ degrees-within q r e = go (lowDegrees q) e
     go : (t : Bool) → cond t (limitCoefficients (cut q)) (beyond 7) ≡ within r → limitCoefficients (cut q) ≡ within r
     go true h = h
     go false h = let impossible : _≡_ {A = ℕ} 0 1 = cc in absurd (omega arith)
+
+-- A row that breaks no limit is the row itself.
+pub consistent-zero : (q : Row) → refusalOf (consistent (limitCoefficients q)) ≡ 0 → consistent (limitCoefficients q) ≡ within q
+unfolding refusalOf consistent limitCoefficients
+consistent-zero q e = go (smallRow q) e
+  where
+    tested : (u : Bool) → refusalOf (cond u (beyond 10) (within q)) ≡ 0 → cond u (beyond 10) (within q) ≡ within q
+    tested true z = absurd (omega (arith, z))
+    tested false z = refl
+
+    go : (t : Bool) → refusalOf (consistent (cond t (within q) (beyond 8))) ≡ 0 → consistent (cond t (within q) (beyond 8)) ≡ within q
+    go true z = tested (contradicts q) z
+    go false z = absurd (omega (arith, z))

@@ -14,9 +14,9 @@ ghost use Rattle.rules.specs.Limits.{small, coefficientCount, rowLength};
 ghost use Rattle.rules.specs.Rows.{combine, primitive};
 ghost use Rattle.lists.specs.Tests.{every};
 ghost use Rattle.rules.specs.Stores.{rowOf};
-ghost use Rattle.rules.specs.Elimination.{limitCoefficients, limitDegrees, consistent};
+ghost use Rattle.rules.specs.Elimination.{limitDegrees, consistent};
 ghost use Rattle.working_rows.specs.Working.{numbersHeld, Full};
-ghost use Rattle.working_rows.specs.Worked.{refusalOf, workedRow};
+ghost use Rattle.working_rows.specs.Worked.{refusalOf, numbersOf};
 ghost use Rattle.combinations.specs.Combination.{trim, lowPart, combinations, lowNumbers, Counted, highest};
 ghost use Rattle.combinations.specs.Primitive.{isLow, primitiveNumbers};
 ghost use Rattle.combinations.specs.LowRows.{RowParts, LowRow, ContentOf};
@@ -143,27 +143,42 @@ pub fn low_combination(
     false
 }
 
-// Divided by the largest number that divides all coefficients, those of the right side too; a zero row stays (SCOPE 2.42). The limits
-// come behind the division.
-fn primitive_part(
-    entries: [i64; ENTRIES],
-    right: [i64; COEFFICIENTS],
-) -> working_rows::limits::Worked
-    requires { ⌜ Below (2 ^ 63) entries × Below (2 ^ 63) right ⌝ }
-    ensures { λ r. ⌜ r .refusal ≡ refusalOf (consistent (limitCoefficients (rowOf (primitiveNumbers (entries ++ right))))) ⌝ }
-    ensures { λ r. ⌜ r .row ≡ workedRow (consistent (limitCoefficients (rowOf (primitiveNumbers (entries ++ right))))) ⌝ }
+// Divided by the largest number that divides all of them, the right side's too; zeros stay (SCOPE 2.42).
+fn divide_by_content(numbers: &mut [i64])
+    requires { ⌜ Below (2 ^ 63) (now numbers) ⌝ }
+    ensures { λ _. ⌜ now (numbers .exit) ≡ primitiveNumbers (now (numbers .entry)) ⌝ }
 {
-    let first = &entries[..];
-    let second = &right[..];
-    let d = polynomials::content::content_of_both(first, second);
-    if d <= 1 {
-        return working_rows::limits::consistent(entries, right);
+    let d = polynomials::content::content(numbers);
+    if 1 < d {
+        polynomials::content::divide_in_place(numbers, d as i64);
     }
-    let mut left = entries;
-    polynomials::content::divide_in_place(&mut left, d as i64);
-    let mut side = right;
-    polynomials::content::divide_in_place(&mut side, d as i64);
-    working_rows::limits::consistent(left, side)
+}
+
+// The numbers of g × target + h × pivot, divided by their content, over zeros (SCOPE 2.41, 2.42). A degree past 15 is refused with 7; if
+// there is none, a coefficient past ±C with 8; a row whose left part alone is zero with 10 (SCOPE 2.43, 2.44, 2.46). The division does not
+// change a degree, so the degrees are looked at first.
+pub fn put_combined_row(
+    place: &mut [i64],
+    g: &[i64],
+    h: &[i64],
+    target: &[i64],
+    pivot: &[i64],
+) -> u8
+    requires { ⌜
+        (length (now g) ≡ coefficientCount) × T (every small (now g)) × (length (now h) ≡ coefficientCount) × T (every small (now h)) ⌝ }
+    requires { ⌜
+        (length (now target) ≡ rowLength) × (length (now pivot) ≡ rowLength) × T (every small (now target)) × T (every small (now pivot))
+        × (now place ≡ replicate rowLength (pos 0)) ⌝ }
+    ensures { λ r. ⌜ r ≡ refusalOf (consistent (limitDegrees (primitive
+        (combine (now (g .entry)) (now (h .entry)) (rowOf (now (target .entry))) (rowOf (now (pivot .entry))))))) ⌝ }
+    ensures { λ r. ⌜ (r ≡ 0 → now (place .exit) ≡ numbersOf (consistent (limitDegrees (primitive
+        (combine (now (g .entry)) (now (h .entry)) (rowOf (now (target .entry))) (rowOf (now (pivot .entry)))))))) ⌝ }
+{
+    if low_combination(place, g, h, target, pivot) {
+        return 7;
+    }
+    divide_by_content(place);
+    working_rows::limits::refusal(place)
 }
 
 // The coefficients of g × target + h × pivot up to power 15, for the left part and the right side; if a degree is past 15, they are not
@@ -199,36 +214,7 @@ fn low_row(g: &[i64], h: &[i64], target: &[i64], side: &[i64], pivot: &[i64], ot
     }
 }
 
-// g × target + h × pivot, divided by its content (SCOPE 2.41, 2.42). A degree past 15 is refused with 7; if there is
-// none, a coefficient past ±C with 8; a row whose left part alone is zero with 10 (SCOPE 2.43, 2.44, 2.46). The division does not
-// change a degree, so the degrees are looked at first.
-pub fn combined(g: &[i64], h: &[i64], target: &[i64], pivot: &[i64]) -> working_rows::limits::Worked
-    requires { ⌜
-        (length (now g) ≡ coefficientCount) × T (every small (now g)) × (length (now h) ≡ coefficientCount) × T (every small (now h)) ⌝ }
-    requires { ⌜
-        (length (now target) ≡ rowLength) × (length (now pivot) ≡ rowLength) × T (every small (now target)) × T (every small (now pivot)) ⌝ }
-    ensures { λ r. ⌜ r .refusal ≡ refusalOf (consistent (limitDegrees (primitive
-        (combine (now (g .entry)) (now (h .entry)) (rowOf (now (target .entry))) (rowOf (now (pivot .entry))))))) ⌝ }
-    ensures { λ r. ⌜ r .row ≡ workedRow (consistent (limitDegrees (primitive
-        (combine (now (g .entry)) (now (h .entry)) (rowOf (now (target .entry))) (rowOf (now (pivot .entry))))))) ⌝ }
-{
-    let low = low_row(
-        g,
-        h,
-        &target[..ENTRIES],
-        &target[ENTRIES..],
-        &pivot[..ENTRIES],
-        &pivot[ENTRIES..],
-    );
-    if low.past {
-        return working_rows::limits::broken(7);
-    }
-    let entries = low.entries;
-    let right = low.right;
-    primitive_part(entries, right)
-}
-
-// What that combination is divided by (SCOPE 2.42). If a degree is past 15, which is refused, the content is not asked for.
+// What a combination is divided by (SCOPE 2.42). If a degree is past 15, which is refused, the content is not asked for.
 pub fn combined_content(g: &[i64], h: &[i64], target: WorkingRow, pivot: WorkingRow) -> u64
     requires { ⌜
         (length (now g) ≡ coefficientCount) × T (every small (now g)) × (length (now h) ≡ coefficientCount) × T (every small (now h)) ⌝ }

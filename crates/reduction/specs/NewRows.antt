@@ -8,7 +8,7 @@
 --   combined-storable, shifted-storable   the new rows of rules 4 and 6
 --   full-worked             the working row of a new row is full
 --   row-room                row i of equations rows has room in a store for equations rows
---   saved-none              a refusal stores nothing
+--   saved-none, saved-same  a refusal stores nothing, and equal numbers the same
 --   saved-outcome, saved-within, saved-kept   what storing the new row does
 use Prim.Native.Nat.{ℕ, zero, suc, _+_, _*_, _≤_, _<_}
 use native.Mathlib.Nat.{suc-mul, le-of-eq, not-suc-le-zero, mul-le-mul-right}
@@ -108,6 +108,13 @@ pub saved-none : (store : List ℤ) (i n : ℕ) (numbers : List ℤ) → (n ≡ 
 unfolding saved
 saved-none store i zero numbers h = absurd (h refl)
 saved-none store i (suc n) numbers h = refl
+
+-- The numbers matter only where there is no refusal.
+pub saved-same : (store : List ℤ) (i n : ℕ) (numbers others : List ℤ) → (n ≡ 0 → numbers ≡ others)
+    → saved store i n numbers ≡ saved store i n others
+unfolding saved
+saved-same store i zero numbers others e = ap (λ l. paste store (i * rowLength) l rowLength) (e refl)
+saved-same store i (suc n) numbers others e = refl
 
 -- Row i of equations rows in a store within ±C, in whose place a new row is put.
 module _ (equations i : ℕ) (store : List ℤ) (w : Within (rowNeed equations) store) (inside : i < equations) where

@@ -9,7 +9,6 @@
 -- Main statements
 --   narrowed-exchanged, narrowed-same     the two cases
 --   loaded-from, exchanged-loaded         a working row as it is loaded; two of them after the exchange
---   left-long, width-left, leading-left, entry-left, right-behind   what a row's left part and right side hold, where they stand
 --   length-entry, small-entry             the entries of a row within ±C
 --   length-numbersAt, small-numbersAt, row-of   the numbers of a row of the state
 --   narrowed-within, narrowed-kept, narrowed-state, narrowed-one   what the exchange does to the store and to the state
@@ -19,14 +18,14 @@ use native.Mathlib.Omega.{arith}
 use mathlib.Core.Path.{_≡_, refl, sym, _∙_, ap, ap₂, subst}
 use mathlib.Core.Logic.{_≢_, _⊎_, inl, inr}
 use mathlib.Core.Bool.{Bool, true, false, cond}
-use mathlib.Core.List.{List, [], _++_}
+use mathlib.Core.List.{List, []}
 use borrow.Author.Tests.{lt-ltb, le-ltb}
 use lib.Dec.{T, ltb}
 use lib.IntN.{ℤ}
-use lib.ListN.{length, take, drop, getD, set, length-drop, length-set, take-append-drop}
+use lib.ListN.{length, take, drop, getD, set, length-drop, length-set}
 use lib.Seq.{paste, length-take-le, getD-set-same, getD-set-other}
 use Rattle.rules.specs.Limits.{coefficientCount, columnCount, entriesLength, rowLength, small}
-use Rattle.rules.specs.Rows.{noRow, width, entry, leadingBlock}
+use Rattle.rules.specs.Rows.{noRow, width, entry}
 use Rattle.lists.specs.Tests.{every, every-part}
 use Rattle.rules.specs.Stores.{rowOf, rowsOf, relationsOf, rowNeed}
 use Rattle.rules.specs.Elimination.{State, rowAt, putRow, exchange, narrowFirst}
@@ -35,7 +34,7 @@ use Rattle.lists.specs.Parts.{parts, parts-length, getD-parts}
 use Rattle.lists.specs.Pasted.{parts-paste}
 use Rattle.stores.specs.Flat.{entry-at}
 use Rattle.working_rows.specs.declared.WorkingRow.{WorkingRow}
-use Rattle.working_rows.specs.Working.{workingOf, numbersHeld, Full, full-loaded, numbers-loaded, width-held, leading-held, entry-held, right-held}
+use Rattle.working_rows.specs.Working.{workingOf, numbersHeld, Full, full-loaded, numbers-loaded, width-held}
 use Rattle.reduction.specs.declared.step.Progress.{Progress}
 use Rattle.sides.specs.Lent.{Within, Kept}
 use Rattle.reduction.specs.Progress.{state, stateOf}
@@ -85,33 +84,6 @@ loaded-from store i w room e =
           (full-loaded store (i * rowLength) room .entries-long))
           ∙ ap (λ l. width (rowOf l)) (numbers-loaded store (i * rowLength));
     }
-
--- ---- the parts of a row, where it stands
-
-module _ (l : List ℤ) (long : length l ≡ rowLength) where
-  abbrev left : List ℤ
-  left = take entriesLength l
-
-  abbrev behind : List ℤ
-  behind = drop entriesLength l
-
-  pub left-long : length left ≡ entriesLength
-  left-long = length-take-le entriesLength l (omega (arith, long))
-
-  joined : rowOf (left ++ behind) ≡ rowOf l
-  joined = ap rowOf (take-append-drop entriesLength l)
-
-  pub width-left : width (rowOf left) ≡ width (rowOf l)
-  width-left = sym (width-held left behind left-long) ∙ ap width joined
-
-  pub leading-left : leadingBlock (rowOf left) ≡ leadingBlock (rowOf l)
-  leading-left = sym (leading-held left behind left-long) ∙ ap leadingBlock joined
-
-  pub entry-left : entry (rowOf left) ≡ entry (rowOf l)
-  entry-left = sym (entry-held left behind left-long) ∙ ap entry joined
-
-  pub right-behind : rowOf l .right ≡ behind
-  right-behind = ap (λ r. r .right) (sym joined) ∙ right-held left behind left-long (rw length-drop (omega (arith, long)))
 
 -- ---- the entries of a row
 

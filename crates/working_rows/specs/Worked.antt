@@ -10,11 +10,10 @@
 -- Main statements
 --   numbers-worked the numbers of that working row
 --   limit-within, limit-beyond   the answer for numbers that are all within ±C, and for others
---   limit-zero, consistent-refused, consistent-passed, consistent-kept   the answer of the test behind the limit
+--   limit-zero, consistent-passed, consistent-kept   the answer of the test behind the limit
 --   held           a row of a store's shape that is within the limit is held by its numbers
 --   store-row      that shape, by the polynomials of the row
 use mathlib.Core.Path.{_≡_, refl, sym, _∙_, ap, subst}
-use mathlib.Core.Logic.{_≢_}
 use mathlib.Core.Bool.{Bool, true, false, cond}
 use mathlib.Core.List.{List, [], _∷_, _++_, flatten}
 use Prim.Native.Nat.{ℕ}
@@ -81,12 +80,6 @@ limit-zero r e = go (smallRow r) e
     go : (t : Bool) → refusalOf (cond t (within r) (beyond 8)) ≡ 0 → cond t (within r) (beyond 8) ≡ within r
     go true h = refl
     go false h = absurd (omega arith)
-
--- What the limit refuses is refused with its number.
-pub consistent-refused : (x : Limited) → refusalOf x ≢ 0 → consistent x ≡ x
-unfolding refusalOf consistent
-consistent-refused (within r) n = absurd (n refl)
-consistent-refused (beyond k) n = refl
 
 -- What it lets through is tested.
 pub consistent-passed : (r : Row) → refusalOf (limitCoefficients r) ≡ 0

@@ -11,9 +11,10 @@
 --   length-held          a full row has the numbers of a row
 --   small-apart          both parts are within ±C where all the numbers are
 --   blocks-held, right-held, left-held, width-held, leading-held, entry-held   what its numbers hold
+--   left-long, width-left, leading-left, entry-left, behind-all, right-behind   what the two parts of a row hold, where they stand
 --   width-zero           the width is 0 exactly if the left part is zero
 --   paste-joined         two lists put into a store one behind the other
-use Prim.Native.Nat.{ℕ, suc, _+_, _≤_}
+use Prim.Native.Nat.{ℕ, suc, _+_, _-_, _≤_}
 use native.Mathlib.Nat.{le-of-eq, le-refl, add-assoc}
 use native.Mathlib.Omega.{arith}
 use mathlib.Core.Path.{_≡_, refl, sym, _∙_, ap, ap₂, subst}
@@ -21,7 +22,7 @@ use mathlib.Core.Bool.{Bool, true, false, _&&_, cond}
 use mathlib.Core.List.{List, [], _∷_, _++_, map, flatten, append-assoc}
 use lib.Dec.{T, eqb, eqb·suc-zero}
 use lib.IntN.{ℤ}
-use lib.ListN.{length, take, drop, getD, length-append, length-drop}
+use lib.ListN.{length, take, drop, getD, length-append, length-drop, take-append-drop}
 use lib.Seq.{paste, take-at, take-all, take-add, drop-at, drop-drop, take-paste, drop-paste, length-take-le}
 use Rattle.lists.specs.Parts.{parts, parts-take}
 use Rattle.lists.specs.Tests.{T-&&, every, every-append}
@@ -98,6 +99,37 @@ module _ (e s : List ℤ) (long : length e ≡ entriesLength) where
   pub entry-held : entry (rowOf (e ++ s)) ≡ entry (rowOf e)
   unfolding entry leadingBlock
   entry-held = ap (λ bs c. getD (getD bs 0 []) c []) blocks-held
+
+-- ---- the parts of a row, where it stands
+
+module _ (l : List ℤ) (long : length l ≡ rowLength) where
+  abbrev left : List ℤ
+  left = take entriesLength l
+
+  abbrev behind : List ℤ
+  behind = drop entriesLength l
+
+  pub left-long : length left ≡ entriesLength
+  left-long = length-take-le entriesLength l (omega (arith, long))
+
+  joined : rowOf (left ++ behind) ≡ rowOf l
+  joined = ap rowOf (take-append-drop entriesLength l)
+
+  pub width-left : width (rowOf left) ≡ width (rowOf l)
+  width-left = sym (width-held left behind left-long) ∙ ap width joined
+
+  pub leading-left : leadingBlock (rowOf left) ≡ leadingBlock (rowOf l)
+  leading-left = sym (leading-held left behind left-long) ∙ ap leadingBlock joined
+
+  pub entry-left : entry (rowOf left) ≡ entry (rowOf l)
+  entry-left = sym (entry-held left behind left-long) ∙ ap entry joined
+
+  -- The right side, as a part of the row behind the left one.
+  pub behind-all : take (length l - entriesLength) behind ≡ behind
+  behind-all = take-all (length l - entriesLength) behind (rw length-drop (omega arith))
+
+  pub right-behind : rowOf l .right ≡ behind
+  right-behind = ap (λ r. r .right) (sym joined) ∙ right-held left behind left-long (rw length-drop (omega (arith, long)))
 
 -- ---- the width of a zero left part
 

@@ -4,6 +4,8 @@ use polynomials::lengths::COEFFICIENTS;
 use stores::lengths::ENTRIES;
 ghost use mathlib.Core.Path.{_≡_};
 ghost use mathlib.Core.List.{_++_};
+ghost use lib.ListN.{length};
+ghost use Rattle.rules.specs.Limits.{rowLength};
 ghost use Rattle.rules.specs.Stores.{rowOf};
 ghost use Rattle.rules.specs.Elimination.{limitCoefficients, consistent, beyond};
 ghost use Rattle.working_rows.specs.Worked.{refusalOf, workedRow};
@@ -48,22 +50,20 @@ pub fn limited(entries: [i64; ENTRIES], right: [i64; COEFFICIENTS]) -> Worked
     }
 }
 
-// Behind that limit, a row whose left part alone is zero is refused with 10 (SCOPE 2.46). Without a right side there is none.
-pub fn consistent(entries: [i64; ENTRIES], right: [i64; COEFFICIENTS]) -> Worked
-    ensures { λ r. ⌜ r .refusal ≡ refusalOf (consistent (limitCoefficients (rowOf (entries ++ right)))) ⌝ }
-    ensures { λ r. ⌜ r .row ≡ workedRow (consistent (limitCoefficients (rowOf (entries ++ right)))) ⌝ }
+// The number of the limit that the numbers of a new row break, or 0: a coefficient past ±C, on the right side too, is 8 (SCOPE 2.44), and
+// behind it a row whose left part alone is zero 10 (SCOPE 2.46). Without a right side there is none.
+pub fn refusal(numbers: &[i64]) -> u8
+    requires { ⌜ length (now numbers) ≡ rowLength ⌝ }
+    ensures { λ r. ⌜ r ≡ refusalOf (consistent (limitCoefficients (rowOf (now (numbers .entry))))) ⌝ }
 {
-    if polynomials::content::is_zero(&right[..]) {
-        return limited(entries, right);
+    if !stores::checks::all_small(numbers) {
+        return 8;
     }
-    let worked = limited(entries, right);
-    let refusal = worked.refusal;
-    if refusal != 0 {
-        return worked;
+    if polynomials::content::is_zero(&numbers[ENTRIES..]) {
+        return 0;
     }
-    let row = worked.row;
-    if 0 < row.width {
-        return worked;
+    if 0 < crate::entries::width(&numbers[..ENTRIES]) {
+        return 0;
     }
-    broken(10)
+    10
 }

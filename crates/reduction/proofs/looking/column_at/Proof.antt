@@ -11,7 +11,7 @@ use Rattle.rules.specs.Limits.{columnCount}
 use Rattle.rules.specs.Rows.{leadingBlock, firstNonzero}
 use Rattle.rules.specs.Stores.{rowOf}
 use Rattle.working_rows.specs.Found.{foundOr}
-use Rattle.reduction.specs.StoreExchange.{left-long, leading-left}
+use Rattle.working_rows.specs.Working.{left-long, leading-left}
 use Rattle.reduction.proofs.looking.column_at.Statement.{statement}
 use Rattle.reduction.proofs.looking.column_at.Tie as tie
 

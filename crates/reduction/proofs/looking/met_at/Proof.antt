@@ -12,7 +12,7 @@ use lib.ListN.{take}
 use Rattle.rules.specs.Rows.{entry, firstNonzero}
 use Rattle.rules.specs.Stores.{rowOf}
 use Rattle.working_rows.specs.Found.{foundOr}
-use Rattle.reduction.specs.StoreExchange.{left-long, entry-left}
+use Rattle.working_rows.specs.Working.{left-long, entry-left}
 use Rattle.reduction.proofs.looking.met_at.Statement.{statement}
 use Rattle.reduction.proofs.looking.met_at.Tie as tie
 

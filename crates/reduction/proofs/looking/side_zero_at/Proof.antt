@@ -7,13 +7,9 @@ use borrow.Author.Needs.{needs}
 use denote.Ref.{now}
 use lib.IntN.{ℤ}
 use lib.ListN.{length}
-use Prim.Native.Nat.{_-_}
-use lib.ListN.{take, drop, length-drop}
-use lib.Seq.{take-all}
 use Rattle.algebra.specs.Polynomials.{isZero}
-use Rattle.rules.specs.Limits.{entriesLength}
 use Rattle.rules.specs.Stores.{rowOf}
-use Rattle.reduction.specs.StoreExchange.{right-behind}
+use Rattle.working_rows.specs.Working.{behind-all, right-behind}
 use Rattle.reduction.proofs.looking.side_zero_at.Statement.{statement}
 use Rattle.reduction.proofs.looking.side_zero_at.Tie as tie
 
@@ -40,8 +36,7 @@ returns c =
     let r = c .before .before .row-at in
     let l = now (r .result) in
     c .is-zero .ensures
-    ∙ ap isZero (take-all (length l - entriesLength) (drop entriesLength l) (rw length-drop (omega arith))
-    ∙ sym (right-behind l (r .ensures .1)))
+    ∙ ap isZero (behind-all l (r .ensures .1) ∙ sym (right-behind l (r .ensures .1)))
     ∙ ap (λ m. isZero (rowOf m .right)) (r .ensures .0)
 
 pub side-zero-at-spec : {M : Type 1} → statement M

@@ -9,7 +9,7 @@ use lib.IntN.{ℤ}
 use lib.ListN.{length}
 use Rattle.rules.specs.Rows.{width}
 use Rattle.rules.specs.Stores.{rowOf}
-use Rattle.reduction.specs.StoreExchange.{left-long, width-left}
+use Rattle.working_rows.specs.Working.{left-long, width-left}
 use Rattle.reduction.proofs.looking.width_at.Statement.{statement}
 use Rattle.reduction.proofs.looking.width_at.Tie as tie
 

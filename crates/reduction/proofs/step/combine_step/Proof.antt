@@ -9,7 +9,7 @@ use native.Mathlib.Omega.{arith}
 use borrow.Author.Needs.{needs}
 use denote.Ref.{now}
 use lib.Dec.{T}
-use lib.IntN.{ℤ}
+use lib.IntN.{ℤ, pos}
 use lib.ListN.{length, getD, length-append, length-replicate}
 use Rattle.algebra.specs.Polynomials.{isZero}
 use Rattle.algebra.specs.Roots.{roots}
@@ -21,14 +21,13 @@ use Rattle.rules.specs.Elimination.{Side, Limited, limitDegrees, consistent, Mu
 use Rattle.roots.specs.declared.RootList.{RootList}
 use Rattle.roots.specs.RootSearch.{listed, held, held-of, roots-few}
 use Rattle.working_rows.specs.Found.{Columns-at}
-use Rattle.working_rows.specs.Working.{numbersHeld, Full}
-use Rattle.working_rows.specs.Worked.{refusalOf, numbersOf, workedRow, numbers-worked}
+use Rattle.working_rows.specs.Worked.{refusalOf, numbersOf}
 use Rattle.reduction.specs.declared.step.Progress.{Progress}
 use Rattle.sides.specs.Lent.{sideOf}
 use Rattle.reduction.specs.Progress.{Ready, stateOf, answerOf, listedProgress}
 use Rattle.sides.specs.Relations.{Relisted}
 use Rattle.reduction.specs.MultiplierSizes.{Sixteen, multipliers-fit, roots-small}
-use Rattle.reduction.specs.NewRows.{Storable, saved, row-room, combined-storable, full-worked}
+use Rattle.reduction.specs.NewRows.{Storable, saved, saved-same, row-room, combined-storable}
 use Rattle.reduction.specs.StoreExchange.{numbersAt, length-numbersAt, small-numbersAt, length-entry, small-entry}
 use Rattle.reduction.specs.StepLaws.{multipliersIn, newRow, multipliers-in, combine-refused, combine-reached}
 use Rattle.reduction.specs.StepLaws.{refused-reached, reached-same}
@@ -179,9 +178,9 @@ module _ (c : tie.After-found) where
   held-is = held-of (roots (x base .g)) found-is
 
 -- the relations, and the new row
-module _ (c : tie.After-combined) where
+module _ (c : tie.After-put-combined-row) where
   abbrev listing-call : tie.After-list-roots
-  listing-call = c .before .before .before .before
+  listing-call = c .before .before .before .before .before
 
   abbrev rooted : tie.After-found
   rooted = listing-call .before .before .before .before .before
@@ -206,14 +205,14 @@ module _ (c : tie.After-combined) where
       λ k. consistent (limitDegrees (primitive (combine (g-is (multiplied rooted) k) (h-is (multiplied rooted) k)
       (rowOf (target-is (multiplied rooted) k)) (rowOf (pivot-is (multiplied rooted) k)))))
 
-  refusal-is : c .combined .result .refusal ≡ refusalOf (new origin)
-  refusal-is = c .combined .ensures .0 ∙ ap refusalOf new-is
+  refusal-is : c .put-combined-row .result ≡ refusalOf (new origin)
+  refusal-is = c .put-combined-row .ensures .0 ∙ ap refusalOf new-is
 
-  row-is : c .combined .result .row ≡ workedRow (new origin)
-  row-is = c .combined .ensures .1 ∙ ap workedRow new-is
+  numbers-are : c .put-combined-row .result ≡ 0 → c .put-combined-row .last .0 ≡ numbersOf (new origin)
+  numbers-are z = c .put-combined-row .ensures .1 z ∙ ap numbersOf new-is
 
-  numbers-are : numbersHeld (c .combined .result .row) ≡ numbersOf (new origin)
-  numbers-are = ap numbersHeld row-is ∙ numbers-worked (new origin)
+  numbers-long : length (c .put-combined-row .last .0) ≡ rowLength
+  numbers-long = c .put-combined-row .kept .0 ∙ length-replicate rowLength (pos 0)
 
 mul-c : tie.Need-mul-c
 mul-c c = search needs
@@ -277,33 +276,39 @@ list-roots-requires c κs =
       (subst Small (sym (held-is e)) (roots-small (x b .g) (fits b .0 .1)), row, t .1),
     )
 
-slice-aggregate-combined : tie.Need-slice-aggregate-combined
-slice-aggregate-combined c =
-    let e = multiplied (c .before .before .before .before .before .before .before) in
+slice-aggregate-put-combined-row : tie.Need-slice-aggregate-put-combined-row
+slice-aggregate-put-combined-row c = search needs
+
+slice-aggregate-put-combined-row-2 : tie.Need-slice-aggregate-put-combined-row-2
+slice-aggregate-put-combined-row-2 c =
+    let e = multiplied (c .before .before .before .before .before .before .before .before) in
     sym (ap length (g-is e) ∙ fits (start e) .0 .0)
 
-slice-aggregate-combined-2 : tie.Need-slice-aggregate-combined-2
-slice-aggregate-combined-2 c =
-    let e = multiplied (c .before .before .before .before .before .before .before .before) in
+slice-aggregate-put-combined-row-3 : tie.Need-slice-aggregate-put-combined-row-3
+slice-aggregate-put-combined-row-3 c =
+    let e = multiplied (c .before .before .before .before .before .before .before .before .before) in
     sym (ap length (h-is e) ∙ fits (start e) .1 .0)
 
-combined-requires : tie.Need-combined-requires
-combined-requires c κs =
-    let e = multiplied (c .before .before .before .before .before .before .before .before) in
+put-combined-row-requires : tie.Need-put-combined-row-requires
+put-combined-row-requires c κs =
+    let e = multiplied (c .before .before .before .before .before .before .before .before .before) in
     let b = start e in
     let t = e .before .before .row-at .ensures in
     let q = e .before .row-at2 .ensures in
     let g-fits = subst Sixteen (sym (g-is e)) (fits b .0) in
     let h-fits = subst Sixteen (sym (h-is e)) (fits b .1) in (
       (g-fits .0, g-fits .1, h-fits .0, h-fits .1),
-      (t .1, q .1, subst Small (sym (t .0)) (target-small b), subst Small (sym (q .0)) (pivot-small b)),
+      (t .1, q .1, subst Small (sym (t .0)) (target-small b), subst Small (sym (q .0)) (pivot-small b), refl),
     )
 
-put-limited-requires : tie.Need-put-limited-requires
-put-limited-requires c κs =
-    let d = c .before in
+slice-aggregate-put-numbers : tie.Need-slice-aggregate-put-numbers
+slice-aggregate-put-numbers c = sym (numbers-long (c .before .before .before))
+
+put-numbers-requires : tie.Need-put-numbers-requires
+put-numbers-requires c κs =
+    let d = c .before .before .before in
     let b = origin d in
-    (room b (i b) (inside b), subst Full (sym (row-is d)) (full-worked (new b) (storable b)))
+    (room b (i b) (inside b), numbers-long d)
 
 same-length-2 : tie.Need-same-length-2
 same-length-2 c = search needs
@@ -313,12 +318,15 @@ same-length-3 c = search needs
 
 returns-2 : tie.Need-returns-2
 returns-2 c =
-    let d = c .before .before .before in
+    let d = c .before .before .before .before .before in
     let b = origin d in
-    let put = c .before .put-limited .ensures in
+    let put = c .before .put-numbers .ensures in
+    let made = d .put-combined-row in
     let passed = listing-call d .before .before .if1 .left in
     let room : p b .count + length (roots (x b .g)) ≤ 16 = omega (arith, count-is (rooted d), passed) in (
-      reached-same (put .0 ∙ ap₂ (saved (rows b) (i b)) (refusal-is d) (numbers-are d))
+      reached-same
+          (put .0 ∙ saved-same (rows b) (i b) (made .result) (made .last .0) (numbersOf (new b)) (numbers-are d)
+          ∙ ap (λ n. saved (rows b) (i b) n (numbersOf (new b))) (refusal-is d))
           (put .1 ∙ ap₂ (λ n k. answerOf n (listedProgress (p b) k)) (refusal-is d) (count-is (rooted d)))
           (combine-is b)
           (combine-reached (side b) (ready b) (j b) (inside b) (settled b) (x b) (relisted d) room (storable b)),
@@ -341,10 +349,12 @@ combine-step-spec =
     same-length
     returns
     list-roots-requires
-    slice-aggregate-combined
-    slice-aggregate-combined-2
-    combined-requires
-    put-limited-requires
+    slice-aggregate-put-combined-row
+    slice-aggregate-put-combined-row-2
+    slice-aggregate-put-combined-row-3
+    put-combined-row-requires
+    slice-aggregate-put-numbers
+    put-numbers-requires
     same-length-2
     same-length-3
     returns-2)
