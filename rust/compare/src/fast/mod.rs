@@ -1,6 +1,6 @@
 //! A second version of the hot path, written for speed, that the benchmark divides by: 32-bit coefficients, a mask of the nonzero
 //! polynomials of each row, lines that the run leaves as they are copied from text to text, eight digits read or written at once, one
-//! work area for all sheets. Leading side and batches only.
+//! work area for all sheets: the leading side, for batches. `calls` has the calls on stores, of both sides.
 
 pub mod calls;
 mod elimination;
