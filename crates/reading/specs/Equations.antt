@@ -17,10 +17,10 @@ use mathlib.Core.Path.{_≡_, refl, sym, ap, ap₂, _∙_, subst}
 use mathlib.Core.Logic.{_⊎_, inl, inr}
 use borrow.Author.Tests.{ltb-true}
 use mathlib.Core.Bool.{Bool, true, false, _||_}
-use mathlib.Core.List.{List, [], _∷_, _++_, map, append-assoc}
+use mathlib.Core.List.{List, [], _∷_, map}
 use lib.ListN.{length, getD, take, drop, set, length-drop}
-use lib.Seq.{paste, length-paste, take-all, length-take-le, set-comm, getD-set-other}
-use borrow.Rule.Slice.PartMut.{midOf, putMid, mid-len, post-is}
+use lib.Seq.{paste, length-paste, length-take-le, set-comm, getD-set-other}
+use borrow.Rule.Slice.PartMut.{putMid}
 use lib.Dec.{T, ltb}
 use lib.IntN.{ℤ, pos, natAbs, _-ℤ_}
 use lib.Signed.{ltZ, ltZ-yes, ≤ℤ-refl, clashℤ, pos-natAbs, _≤ℤ_, _<ℤ_}
@@ -39,21 +39,10 @@ use Rattle.rules.specs.Sheets.{Term, putTerm, rowOfTerms, blankRow, readTerm, r
 use Rattle.rules.specs.Sheets.{judgeBlock, judgeColumn, readCoefficients}
 use Rattle.algebra.specs.Order.{≤ℤ-trans, ≤ℤ-cases, ≤ℤ-of-≡, ≤ℤ-difference, <ℤ-to-≤ℤ, +ℤ-<ℤ-left, negℤ-<ℤ, pos-<ℤ, pos-natAbs-nonneg}
 use Rattle.algebra.specs.Polynomials.{Polynomial}
+use Rattle.stores.specs.LentParts.{lent-back}
 use Rattle.tokens.specs.Fields.{then-got, then-fault, then-cong, then-cong-read, then-then, then-parts, field-judged}
 use Rattle.reading.specs.Terms.{padded, BlockRight, block-zero, column-zero, termOf, padTerm, readPadded, readPlace, readPolynomial}
 use Rattle.reading.specs.Terms.{withPlace, readPadded-is, placeInRow}
-
--- ---- a part of a list replaced
-
-module _ {A : Type 0} where
-  -- A part that was lent, and is back.
-  pub lent-long : (l : List A) (at w : ℕ) → at + w ≤ length l → length (midOf at (at + w - at) l) ≡ w
-  lent-long l at w h = mid-len at (at + w) l h ∙ omega arith
-
-  pub lent-back : (l : List A) (at w : ℕ) (p : List A) → length p ≡ w → putMid at (at + w - at) l p ≡ paste l at p w
-  lent-back l at w p long =
-      ap₂ (λ t r. take at l ++ (t ++ r)) (sym (take-all w p (le-of-eq long))) (post-is at (at + w) l (omega arith))
-      ∙ sym (append-assoc (take at l) (take w p) (drop (at + w) l))
 
 -- ---- sixteen numbers put into a row
 

@@ -29,7 +29,7 @@ use Rattle.rules.specs.Numbers.{space, Read, got, fault, thenRead, field, judge
 use Rattle.rules.specs.Sheets.{always, readEquation, readEquations, readRelation, readRelations}
 use Rattle.tokens.specs.Fields.{then-got, then-fault, then-cong, then-then}
 use Rattle.reading.specs.Zeros.{take-zeros, drop-zeros}
-use Rattle.reading.specs.Equations.{lent-back}
+use Rattle.stores.specs.LentParts.{lent-back}
 use Rattle.lists.specs.Pasted.{parts-paste-end}
 
 -- ---- things of one kind

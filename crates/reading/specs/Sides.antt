@@ -40,7 +40,8 @@ use Rattle.rules.specs.Sheets.{always, afterCount, judgeSide, judgeSideCount, r
 use Rattle.rules.specs.Sheets.{putRelationSide}
 use Rattle.tokens.specs.Fields.{then-got, then-fault, then-cong, then-then, then-parts, got-not-fault, between-size, passed}
 use Rattle.reading.specs.Terms.{padded}
-use Rattle.reading.specs.Equations.{got-value, lent-back, rowOf-is}
+use Rattle.stores.specs.LentParts.{lent-back}
+use Rattle.reading.specs.Equations.{got-value, rowOf-is}
 use Rattle.reading.specs.Sections.{rowsOf-parts, relationsOf-parts, relationOf-is}
 
 got-rest : {A : Type 0} {a b : A} {r s : List ℕ} → got a r ≡ got b s → r ≡ s

@@ -16,7 +16,7 @@ ghost use Rattle.sides.specs.Lent.{sideOf, Listing};
 ghost use Rattle.sides.specs.Relations.{Relisted};
 
 // The relation of the row at n0, at place k of the store.
-pub fn save_relation(relations: &mut [i64], k: usize, n0: i64, row: &[i64])
+fn save_relation(relations: &mut [i64], k: usize, n0: i64, row: &[i64])
     requires { ⌜ (k * relationLength + relationLength ≤ length (now relations)) × (length (now row) ≡ rowLength) ⌝ }
     ensures { λ _. ⌜ now (relations .exit) ≡ paste (now (relations .entry)) (k * relationLength) (n0 ∷ now (row .entry)) relationLength ⌝ }
 {

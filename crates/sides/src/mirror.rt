@@ -14,9 +14,8 @@ pub fn mirror_rows(store: &mut [i64], equations: usize, span: usize)
     let mut i = 0;
     while i < equations {
         let at = i * ROW;
-        let row = stores::rows::load(store, at);
-        let mirror = working_rows::mirroring::mirrored(row, span);
-        stores::rows::save(store, at, &mirror[..]);
+        let end = at + ROW;
+        working_rows::mirroring::mirror(&mut store[at..end], span);
         i += 1;
     }
 }
@@ -29,10 +28,10 @@ pub fn mirror_relations(store: &mut [i64], count: usize, span: usize)
     let mut k = 0;
     while k < count {
         let at = k * RELATION;
-        let n0 = store[at];
-        let row = stores::rows::load(store, at + 1);
-        let mirrored = working_rows::mirroring::mirrored(row, span);
-        super::listing::save_relation(store, k, integers::negated(n0), &mirrored[..]);
+        store[at] = integers::negated(store[at]);
+        let row = at + 1;
+        let end = row + ROW;
+        working_rows::mirroring::mirror(&mut store[row..end], span);
         k += 1;
     }
 }

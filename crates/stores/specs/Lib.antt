@@ -1,4 +1,5 @@
 pub mod Checks
 pub mod Flat
+pub mod LentParts
 pub mod OverZeros
 pub mod Validity

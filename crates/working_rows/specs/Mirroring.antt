@@ -3,6 +3,10 @@
 -- Main definitions
 --   mirrorBlock D b     the block that comes to the place of block b
 --   mirrorPlace D i     the place that the number at place i of the mirror comes from
+--   Alternated i before after       up to place i the numbers at odd places have changed their sign
+--   Exchanged a b n before after    n numbers from place a on and n from place b on have changed places
+--   TurnedTo D b before after       of the blocks 0 to D the first b have changed places with the last b
+--   Turned D before after           all have, first with last
 --
 -- Main statements
 --   alternate-even, alternate-odd   the sign of a coefficient in the mirror, by the parity of its power
@@ -10,19 +14,24 @@
 --   rowOf-mirrorRow     the mirror's numbers hold the mirror
 --   number-mirrorRow    each number of the mirror
 --   small-mirrorRow     the mirror of a row with coefficients within ±C has such coefficients
+--   alternated-none, alternated-next, alternated-all   no sign changed, that of one odd place more, all
+--   exchanged-none, exchanged-next                     no number exchanged, one of each part more
+--   turned-none, turned-next, turned-all               no block exchanged, one pair more, all
+--   mirror-numbers      signs changed and then blocks turned: the mirror's numbers
 use Prim.Native.Nat.{ℕ, zero, suc, _+_, _*_, _-_, _/_, _%_, _≤_, _<_, zero-le}
-use native.Mathlib.Nat.{le-of-eq, suc-ne-zero}
+use native.Mathlib.Nat.{le-refl, le-of-eq, suc-ne-zero, not-suc-le-zero}
 use native.Mathlib.Omega.{arith}
-use native.Mathlib.Decide.{decLt}
-use mathlib.Core.Path.{_≡_, refl, sym, _∙_, ap, ap₂}
+use native.Mathlib.Decide.{ℕ-discrete, decLt}
+use mathlib.Core.Path.{_≡_, refl, sym, _∙_, ap, ap₂, subst}
+use mathlib.Core.Logic.{_⊎_, inl, inr, ⊎-elim}
 use mathlib.Core.Bool.{Bool, true, false, cond}
 use mathlib.Core.List.{List, [], _++_, map, flatten, reverse}
 use borrow.Author.Tests.{leb-true, leb-false, lt-leb}
 use lib.Dec.{T, leb}
 use lib.IntN.{ℤ, pos, negℤ, natAbs, negℤ-negℤ}
-use lib.ListN.{length, take, drop, getD, length-map, length-append, length-take, length-drop, length-reverse}
+use lib.ListN.{length, take, drop, getD, set, length-set, length-map, length-append, length-take, length-drop, length-reverse}
 use lib.ListN.{List·getD-append, List·getD-map}
-use lib.Seq.{length-take-le, getD-take, getD-drop, getD-append-add}
+use lib.Seq.{length-take-le, getD-take, getD-drop, getD-append-add, getD-set-same, getD-set-other, ext-getD}
 use Rattle.algebra.specs.Integers.{natAbs-negℤ}
 use Rattle.algebra.specs.Polynomials.{coeff, mirror, length-mirror}
 use Rattle.algebra.specs.Coefficients.{alternate, coeff-mirror}
@@ -91,6 +100,14 @@ unfolding alternate
 alternate-odd zero a e = absurd (e refl)
 alternate-odd (suc zero) a e = refl
 alternate-odd (suc (suc k)) a e = negℤ-negℤ (alternate k a) ∙ alternate-odd k a (λ h. e (omega arith))
+
+-- The power counts by its parity only.
+alternate-parity : (k n : ℕ) (a : ℤ) → k % 2 ≡ n % 2 → alternate k a ≡ alternate n a
+alternate-parity k n a e = cases (ℕ-discrete (k % 2) 0)
+  where
+    cases : Dec (k % 2 ≡ 0) → alternate k a ≡ alternate n a
+    cases (yes h) = alternate-even k a h ∙ sym (alternate-even n a (sym e ∙ h))
+    cases (no h) = alternate-odd k a h ∙ sym (alternate-odd n a (λ g. h (e ∙ g)))
 
 natAbs-alternate : (k : ℕ) (a : ℤ) → natAbs (alternate k a) ≡ natAbs a
 unfolding alternate
@@ -261,3 +278,239 @@ module _ (D : ℕ) (l : List ℤ) (few : D ≤ mostSpan) (long : length l ≡ ro
       each i b =
           let source : mirrorPlace D i < length l = rw long (mirrorPlace-below D i few b) in
           rw (number-mirrorRow i b, natAbs-alternate) (every-from-at small l (pos 0) 0 h (mirrorPlace D i) zero-le source)
+
+-- ---- signs changed where the numbers stand
+
+pub record Alternated (i : ℕ) (before after : List ℤ) : Type 0 where
+  pub same-length : length after ≡ length before
+  pub changed : (j : ℕ) → j < i → getD after j (pos 0) ≡ alternate j (getD before j (pos 0))
+  pub kept : (j : ℕ) → i ≤ j → getD after j (pos 0) ≡ getD before j (pos 0)
+
+pub alternated-none : (l : List ℤ) → Alternated 1 l l
+alternated-none l =
+    record { same-length = refl; changed = λ j h. sym (alternate-even j (getD l j (pos 0)) (omega arith)); kept = λ j h. refl }
+
+pub alternated-next : (i : ℕ) (before l : List ℤ) → (i % 2 ≡ 0 → ⊥) → i < length before → Alternated i before l
+    → Alternated (i + 2) before (set l i (negℤ (getD l i (pos 0))))
+alternated-next i before l odd inside s =
+    record {
+      same-length = simp length-set (s .same-length);
+      changed = changed;
+      kept = λ j h. other j (λ e. omega arith) ∙ s .kept j (omega arith);
+    }
+  where
+    next : List ℤ
+    next = set l i (negℤ (getD l i (pos 0)))
+
+    other : (j : ℕ) → (j ≡ i → ⊥) → getD next j (pos 0) ≡ getD l j (pos 0)
+    other j n = getD-set-other l i j (negℤ (getD l i (pos 0))) (pos 0) n
+
+    here : getD next i (pos 0) ≡ alternate i (getD before i (pos 0))
+    here =
+        getD-set-same l i (negℤ (getD l i (pos 0))) (pos 0) (omega (arith, s .same-length)) ∙ ap negℤ (s .kept i (le-refl i))
+        ∙ sym (alternate-odd i (getD before i (pos 0)) odd)
+
+    past : (j : ℕ) → (j < i → ⊥) → (j ≡ i → ⊥) → j < i + 2 → getD next j (pos 0) ≡ alternate j (getD before j (pos 0))
+    past j low n h =
+        other j n ∙ s .kept j (omega arith) ∙ sym (alternate-even j (getD before j (pos 0)) (omega arith))
+
+    at : (j : ℕ) → (j < i → ⊥) → j < i + 2 → Dec (j ≡ i) → getD next j (pos 0) ≡ alternate j (getD before j (pos 0))
+    at j low h (yes e) = subst (λ n. getD next n (pos 0) ≡ alternate n (getD before n (pos 0))) (sym e) here
+    at j low h (no n) = past j low n h
+
+    changed : (j : ℕ) → j < i + 2 → getD next j (pos 0) ≡ alternate j (getD before j (pos 0))
+    changed j h = cases (decLt j i)
+      where
+        cases : Dec (j < i) → getD next j (pos 0) ≡ alternate j (getD before j (pos 0))
+        cases (yes b) = other j (λ e. omega arith) ∙ s .changed j b
+        cases (no b) = at j b h (ℕ-discrete j i)
+
+pub alternated-all : (i : ℕ) (before after : List ℤ) → length before ≤ i → Alternated i before after → after ≡ mirror before
+unfolding coeff
+alternated-all i before after h s =
+    ext-getD (pos 0) after (mirror before) (s .same-length ∙ sym (length-mirror before))
+    (λ j b. s .changed j (omega (arith, s .same-length)) ∙ sym (coeff-mirror before j))
+
+-- ---- blocks that change places where they stand
+
+pub record Exchanged (a b n : ℕ) (before after : List ℤ) : Type 0 where
+  pub same-length : length after ≡ length before
+  pub first : (k : ℕ) → k < n → getD after (a + k) (pos 0) ≡ getD before (b + k) (pos 0)
+  pub second : (k : ℕ) → k < n → getD after (b + k) (pos 0) ≡ getD before (a + k) (pos 0)
+  pub others : (j : ℕ) → (j < a) ⊎ (a + n ≤ j) → (j < b) ⊎ (b + n ≤ j) → getD after j (pos 0) ≡ getD before j (pos 0)
+
+pub exchanged-none : (a b : ℕ) (l : List ℤ) → Exchanged a b 0 l l
+exchanged-none a b l =
+    record {
+      same-length = refl;
+      first = λ k h. absurd (not-suc-le-zero h);
+      second = λ k h. absurd (not-suc-le-zero h);
+      others = λ j h g. refl;
+    }
+
+module _ (a b n : ℕ) (before l : List ℤ) (apart : a + n < b) (inside : b + n < length before) (s : Exchanged a b n before l) where
+  abbrev from-first : ℤ
+  from-first = getD l (a + n) (pos 0)
+
+  abbrev from-second : ℤ
+  from-second = getD l (b + n) (pos 0)
+
+  abbrev once : List ℤ
+  once = set l (a + n) from-second
+
+  abbrev twice : List ℤ
+  twice = set once (b + n) from-first
+
+  elsewhere : (j : ℕ) → (j ≡ a + n → ⊥) → (j ≡ b + n → ⊥) → getD twice j (pos 0) ≡ getD l j (pos 0)
+  elsewhere j h g =
+      getD-set-other once (b + n) j from-first (pos 0) g ∙ getD-set-other l (a + n) j from-second (pos 0) h
+
+  at-first : getD twice (a + n) (pos 0) ≡ getD before (b + n) (pos 0)
+  at-first =
+      getD-set-other once (b + n) (a + n) from-first (pos 0) (λ e. omega arith)
+      ∙ getD-set-same l (a + n) from-second (pos 0) (omega (arith, s .same-length))
+      ∙ s .others (b + n) (inr (omega arith)) (inr (le-refl (b + n)))
+
+  at-second : getD twice (b + n) (pos 0) ≡ getD before (a + n) (pos 0)
+  at-second =
+      getD-set-same once (b + n) from-first (pos 0) (simp length-set (omega (arith, s .same-length)))
+      ∙ s .others (a + n) (inr (le-refl (a + n))) (inl apart)
+
+  pub exchanged-next : Exchanged a b (n + 1) before twice
+  exchanged-next =
+      record {
+        same-length = simp length-set (s .same-length);
+        first = λ k h. first k (ℕ-discrete k n) h;
+        second = λ k h. second k (ℕ-discrete k n) h;
+        others =
+            λ j h g. elsewhere j (λ e. ⊎-elim (λ x. omega arith) (λ x. omega arith) h) (λ e. ⊎-elim (λ x. omega arith) (λ x. omega arith) g)
+            ∙ s .others j (⊎-elim (λ x. inl x) (λ x. inr (omega arith)) h) (⊎-elim (λ x. inl x) (λ x. inr (omega arith)) g);
+      }
+    where
+      first : (k : ℕ) → Dec (k ≡ n) → k < n + 1 → getD twice (a + k) (pos 0) ≡ getD before (b + k) (pos 0)
+      first k (yes e) h = subst (λ i. getD twice (a + i) (pos 0) ≡ getD before (b + i) (pos 0)) (sym e) at-first
+      first k (no e) h = elsewhere (a + k) (λ g. e (omega arith)) (λ g. omega arith) ∙ s .first k (omega arith)
+
+      second : (k : ℕ) → Dec (k ≡ n) → k < n + 1 → getD twice (b + k) (pos 0) ≡ getD before (a + k) (pos 0)
+      second k (yes e) h = subst (λ i. getD twice (b + i) (pos 0) ≡ getD before (a + i) (pos 0)) (sym e) at-second
+      second k (no e) h = elsewhere (b + k) (λ g. omega arith) (λ g. e (omega arith)) ∙ s .second k (omega arith)
+
+pub record TurnedTo (D b : ℕ) (before after : List ℤ) : Type 0 where
+  pub same-length : length after ≡ length before
+  pub outer : (q k : ℕ) → k < blockLength → q ≤ D → (q < b) ⊎ (D < q + b)
+      → getD after (q * blockLength + k) (pos 0) ≡ getD before ((D - q) * blockLength + k) (pos 0)
+  pub inner : (q k : ℕ) → k < blockLength → ((b ≤ q) × (q + b ≤ D)) ⊎ (D < q)
+      → getD after (q * blockLength + k) (pos 0) ≡ getD before (q * blockLength + k) (pos 0)
+
+pub turned-none : (D : ℕ) (l : List ℤ) → TurnedTo D 0 l l
+turned-none D l =
+    record {
+      same-length = refl;
+      outer = λ q k _ h e. absurd (⊎-elim (λ x. not-suc-le-zero x) (λ x. omega arith) e);
+      inner = λ q k _ _. refl;
+    }
+
+-- Block b and block D - b change places.
+pub turned-next : (D b : ℕ) (before l after : List ℤ) → 2 * b < D → TurnedTo D b before l
+    → Exchanged (b * blockLength) ((D - b) * blockLength) blockLength l after → TurnedTo D (b + 1) before after
+turned-next D b before l after h s e =
+    record { same-length = e .same-length ∙ s .same-length; outer = outer; inner = inner }
+  where
+    -- a number of another block
+    elsewhere : (q k : ℕ) → k < blockLength → (q ≡ b → ⊥) → (q ≡ D - b → ⊥)
+        → getD after (q * blockLength + k) (pos 0) ≡ getD l (q * blockLength + k) (pos 0)
+    elsewhere q k w n m = e .others (q * blockLength + k) (away b n) (away (D - b) m)
+      where
+        away : (p : ℕ) → (q ≡ p → ⊥) → (q * blockLength + k < p * blockLength) ⊎ (p * blockLength + blockLength ≤ q * blockLength + k)
+        away p f = side (decLt q p)
+          where
+            side : Dec (q < p) → (q * blockLength + k < p * blockLength) ⊎ (p * blockLength + blockLength ≤ q * blockLength + k)
+            side (yes x) = inl (omega arith)
+            side (no x) = inr (omega arith)
+
+    at-first : (k : ℕ) → k < blockLength → getD after (b * blockLength + k) (pos 0) ≡ getD before ((D - b) * blockLength + k) (pos 0)
+    at-first k w = e .first k w ∙ s .inner (D - b) k w (inl (omega arith, omega arith))
+
+    at-second : (k : ℕ) → k < blockLength
+        → getD after ((D - b) * blockLength + k) (pos 0) ≡ getD before ((D - (D - b)) * blockLength + k) (pos 0)
+    at-second k w =
+        let back : b ≡ D - (D - b) = omega arith in
+        e .second k w ∙ s .inner b k w (inl (le-refl b, omega arith)) ∙ ap (λ p. getD before (p * blockLength + k) (pos 0)) back
+
+    outer : (q k : ℕ) → k < blockLength → q ≤ D → (q < b + 1) ⊎ (D < q + (b + 1))
+        → getD after (q * blockLength + k) (pos 0) ≡ getD before ((D - q) * blockLength + k) (pos 0)
+    outer q k w g x = cases (ℕ-discrete q b) (ℕ-discrete q (D - b))
+      where
+        cases : Dec (q ≡ b) → Dec (q ≡ D - b)
+            → getD after (q * blockLength + k) (pos 0) ≡ getD before ((D - q) * blockLength + k) (pos 0)
+        cases (yes n) m =
+            subst (λ p. getD after (p * blockLength + k) (pos 0) ≡ getD before ((D - p) * blockLength + k) (pos 0)) (sym n)
+            (at-first k w)
+        cases (no n) (yes m) =
+            subst (λ p. getD after (p * blockLength + k) (pos 0) ≡ getD before ((D - p) * blockLength + k) (pos 0)) (sym m)
+            (at-second k w)
+        cases (no n) (no m) =
+            elsewhere q k w n m ∙ s .outer q k w g (⊎-elim (λ y. inl (omega arith)) (λ y. inr (omega arith)) x)
+
+    inner : (q k : ℕ) → k < blockLength → ((b + 1 ≤ q) × (q + (b + 1) ≤ D)) ⊎ (D < q)
+        → getD after (q * blockLength + k) (pos 0) ≡ getD before (q * blockLength + k) (pos 0)
+    inner q k w x =
+        elsewhere q k w (λ n. ⊎-elim (λ y. omega arith) (λ y. omega arith) x) (λ m. ⊎-elim (λ y. omega arith) (λ y. omega arith) x)
+        ∙ s .inner q k w (⊎-elim (λ y. inl (omega arith, omega arith)) (λ y. inr y) x)
+
+pub record Turned (D : ℕ) (before after : List ℤ) : Type 0 where
+  pub same-length : length after ≡ length before
+  pub numbers : (i : ℕ) → getD after i (pos 0) ≡ getD before (mirrorPlace D i) (pos 0)
+
+pub turned-all : (D b : ℕ) (before after : List ℤ) → D ≤ 2 * b → TurnedTo D b before after → Turned D before after
+unfolding mirrorPlace mirrorBlock
+turned-all D b before after h s = record { same-length = s .same-length; numbers = numbers }
+  where
+    numbers : (i : ℕ) → getD after i (pos 0) ≡ getD before (mirrorPlace D i) (pos 0)
+    numbers i = ap (λ n. getD after n (pos 0)) place ∙ cases (leb q D) (leb-true q D) (leb-false q D)
+      where
+        q : ℕ
+        q = i / blockLength
+
+        k : ℕ
+        k = i % blockLength
+
+        place : i ≡ q * blockLength + k
+        place = omega arith
+
+        within : k < blockLength
+        within = omega arith
+
+        middle : (D < q + b → ⊥) → (q < b → ⊥) → q ≤ D
+            → getD after (q * blockLength + k) (pos 0) ≡ getD before ((D - q) * blockLength + k) (pos 0)
+        middle m n g =
+            let same : q ≡ D - q = omega arith in
+            s .inner q k within (inl (omega arith, omega arith)) ∙ ap (λ p. getD before (p * blockLength + k) (pos 0)) same
+
+        used : q ≤ D → Dec (q < b) → Dec (D < q + b)
+            → getD after (q * blockLength + k) (pos 0) ≡ getD before ((D - q) * blockLength + k) (pos 0)
+        used g (yes n) m = s .outer q k within g (inl n)
+        used g (no n) (yes m) = s .outer q k within g (inr m)
+        used g (no n) (no m) = middle m n g
+
+        cases : (t : Bool) → (t ≡ true → q ≤ D) → (t ≡ false → D < q)
+            → getD after (q * blockLength + k) (pos 0) ≡ getD before (cond t (D - q) q * blockLength + k) (pos 0)
+        cases true f g = used (f refl) (decLt q b) (decLt D (q + b))
+        cases false f g = s .inner q k within (inr (g refl))
+
+mirrorPlace-parity : (D i : ℕ) → mirrorPlace D i % 2 ≡ i % coefficientCount % 2
+unfolding mirrorPlace
+mirrorPlace-parity D i = omega arith
+
+-- The signs first, and then the blocks.
+pub mirror-numbers : (D : ℕ) (l after : List ℤ) → D ≤ mostSpan → length l ≡ rowLength → Turned D (mirror l) after
+    → after ≡ coefficientsOf (mirrorRow D (rowOf l))
+unfolding coeff
+mirror-numbers D l after few long t =
+    ext-getD (pos 0) after (coefficientsOf (mirrorRow D (rowOf l))) (size ∙ sym (length-mirrorRow D l few long))
+    (λ i h. t .numbers i ∙ coeff-mirror l (mirrorPlace D i)
+    ∙ alternate-parity (mirrorPlace D i) (i % coefficientCount) (getD l (mirrorPlace D i) (pos 0)) (mirrorPlace-parity D i)
+    ∙ sym (number-mirrorRow D l few long i (rw size at h)))
+  where
+    size : length after ≡ rowLength
+    size = t .same-length ∙ length-mirror l ∙ long

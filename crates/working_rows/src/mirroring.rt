@@ -1,48 +1,71 @@
 // The mirror: block -s for s and -n for n.
-use polynomials::lengths::COEFFICIENTS;
 use stores::lengths::BLOCK;
 use stores::lengths::ROW;
 ghost use mathlib.Core.Path.{_≡_};
-ghost use Prim.Native.Nat.{_^_, _≤_, _<_};
+ghost use Prim.Native.Nat.{_+_, _≤_};
 ghost use lib.Dec.{T};
-ghost use lib.IntN.{natAbs};
-ghost use Rattle.algebra.specs.Coefficients.{alternate};
-ghost use Rattle.rules.specs.Limits.{small, mostSpan};
+ghost use lib.ListN.{length};
+ghost use Rattle.algebra.specs.Polynomials as Polynomials;
+ghost use Rattle.rules.specs.Limits.{small, mostSpan, blockLength, rowLength};
 ghost use Rattle.rules.specs.Rows.{coefficientsOf, mirrorRow};
 ghost use Rattle.lists.specs.Tests.{every};
 ghost use Rattle.rules.specs.Stores.{rowOf};
-ghost use Rattle.working_rows.specs.Mirroring.{mirrorBlock};
+ghost use Rattle.working_rows.specs.Mirroring.{Exchanged, Turned};
 
-// The block that comes to the place of a block: the blocks in use change places, first with last.
-fn mirrored_block(block: usize, span: usize) -> usize
-    ensures { λ r. ⌜ r ≡ mirrorBlock span block ⌝ }
+// -n for n in every polynomial of a row: odd powers change the sign. A polynomial has an even number of coefficients, so that these are
+// the numbers at the odd places of the row.
+fn alternate_signs(row: &mut [i64])
+    requires { ⌜ (length (now row) ≡ rowLength) × T (every small (now row)) ⌝ }
+    ensures { λ _. ⌜ now (row .exit) ≡ Polynomials.mirror (now (row .entry)) ⌝ }
 {
-    if block <= span { span - block } else { block }
-}
-
-// The coefficient of a power with -n for n: odd powers change the sign.
-fn alternated(a: i64, power: usize) -> i64
-    requires { ⌜ natAbs a < 2 ^ 63 ⌝ }
-    ensures { λ r. ⌜ r ≡ alternate power a ⌝ }
-{
-    if power % 2 == 0 {
-        a
-    } else {
-        integers::negated(a)
+    let mut i = 1;
+    while i < ROW {
+        row[i] = integers::negated(row[i]);
+        i += 2;
     }
 }
 
-// The row with block -s for s and -n for n (SCOPE 2.91).
+// The blocks from two places on change places.
+fn exchange(row: &mut [i64], a: usize, b: usize)
+    requires { ⌜ (a + blockLength ≤ b) × (b + blockLength ≤ length (now row)) ⌝ }
+    ensures { λ _. ⌜ Exchanged a b blockLength (now (row .entry)) (now (row .exit)) ⌝ }
+{
+    let mut k = 0;
+    while k < BLOCK {
+        let kept = row[a + k];
+        row[a + k] = row[b + k];
+        row[b + k] = kept;
+        k += 1;
+    }
+}
+
+// The blocks in use change places, first with last.
+fn turn(row: &mut [i64], span: usize)
+    requires { ⌜ (span ≤ mostSpan) × (length (now row) ≡ rowLength) ⌝ }
+    ensures { λ _. ⌜ Turned span (now (row .entry)) (now (row .exit)) ⌝ }
+{
+    let mut b = 0;
+    while 2 * b < span {
+        exchange(row, b * BLOCK, (span - b) * BLOCK);
+        b += 1;
+    }
+}
+
+// A row with block -s for s and -n for n, where it stands (SCOPE 2.91).
+pub fn mirror(row: &mut [i64], span: usize)
+    requires { ⌜ (span ≤ mostSpan) × (length (now row) ≡ rowLength) × T (every small (now row)) ⌝ }
+    ensures { λ _. ⌜ now (row .exit) ≡ coefficientsOf (mirrorRow span (rowOf (now (row .entry)))) ⌝ }
+{
+    alternate_signs(row);
+    turn(row, span);
+}
+
+// The same, as an array of its own.
 pub fn mirrored(row: [i64; ROW], span: usize) -> [i64; ROW]
     requires { ⌜ (span ≤ mostSpan) × T (every small row) ⌝ }
     ensures { λ r. ⌜ r ≡ coefficientsOf (mirrorRow span (rowOf row)) ⌝ }
 {
-    let mut result = [0i64; ROW];
-    let mut i = 0;
-    while i < ROW {
-        let from = mirrored_block(i / BLOCK, span) * BLOCK + i % BLOCK;
-        result[i] = alternated(row[from], i % COEFFICIENTS);
-        i += 1;
-    }
+    let mut result = row;
+    mirror(&mut result[..], span);
     result
 }

@@ -13,7 +13,7 @@ use lib.Seq.{paste}
 use Rattle.algebra.specs.Polynomials.{add}
 use Rattle.lists.specs.Everywhere.{all-take, all-drop}
 use Rattle.rules.specs.Limits.{bound, coefficientCount, rowLength}
-use Rattle.reading.specs.Equations.{lent-long, lent-back}
+use Rattle.stores.specs.LentParts.{lent-long, lent-back}
 use Rattle.differential.specs.Recurrence.{termPolynomial}
 use Rattle.differential.specs.Read.{termOf}
 use Rattle.differential.specs.Added.{placeInRow, addedAt, place-fits}

@@ -22,7 +22,8 @@ use Rattle.rules.specs.Layout.{size-bounds}
 use Rattle.tokens.specs.Fields.{Answers, answer-fault, answer-got, refuses, gives, then-got, then-fault}
 use Rattle.reading.specs.Zeros.{length-zeros}
 use Rattle.reading.specs.Terms.{termOf, readPlace, readPolynomial, withPlace, readPadded-is, placeInRow}
-use Rattle.reading.specs.Equations.{lent-long, TermRight, place-right, term-place, place-fits, TermsTo, terms-begin, terms-end}
+use Rattle.stores.specs.LentParts.{lent-long}
+use Rattle.reading.specs.Equations.{TermRight, place-right, term-place, place-fits, TermsTo, terms-begin, terms-end}
 use Rattle.reading.specs.Equations.{terms-refused, terms-go-on, zeros-blank}
 use Rattle.stores.specs.Validity.{sizesOf}
 use Rattle.reading.specs.declared.terms.PlaceRead.{PlaceRead}

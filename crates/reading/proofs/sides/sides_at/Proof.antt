@@ -14,7 +14,7 @@ use Rattle.rules.specs.Limits.{coefficientCount, mostRelations, relationLength}
 use Rattle.rules.specs.Numbers.{thenRead}
 use Rattle.rules.specs.Sheets.{readSide}
 use Rattle.tokens.specs.Fields.{Answers, answer-fault, answer-got, refuses, gives}
-use Rattle.reading.specs.Equations.{lent-long}
+use Rattle.stores.specs.LentParts.{lent-long}
 use Rattle.reading.specs.Sides.{sideOf, SidesTo, sides-begin, sides-end, sides-refused, sides-go-on}
 use Rattle.reading.proofs.sides.sides_at.Statement.{statement}
 use Rattle.reading.proofs.sides.sides_at.Tie as tie

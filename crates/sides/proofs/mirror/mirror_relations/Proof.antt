@@ -2,20 +2,22 @@
 -- Assumes nothing.
 use Prim.Native.Nat.{ℕ, _+_, _*_, _-_, _≤_}
 use native.Mathlib.Omega.{arith}
-use mathlib.Core.Path.{_∙_, ap, ap₂}
+use mathlib.Core.Path.{_≡_, _∙_, ap, ap₂}
 use mathlib.Core.List.{List, _∷_}
 use borrow.Author.Needs.{needs, sfits-of}
+use borrow.Rule.Slice.PartMut.{midOf}
 use denote.Ref.{now}
 use lib.Dec.{T}
 use lib.IntN.{ℤ, pos, negℤ}
-use lib.ListN.{length, take, drop, getD}
-use lib.Seq.{paste}
+use lib.ListN.{length, take, drop, getD, set, length-set}
+use lib.Seq.{paste, drop-set-lt}
 use mir.Syntax.{w64}
-use mir.Val.{SFits}
+use mir.Val.{SFits, toZ, ofZ}
 use mir.Facts.{toZ-ofZ}
-use Rattle.rules.specs.Limits.{relationLength, small}
+use Rattle.lists.specs.Pasted.{paste-cons}
+use Rattle.rules.specs.Limits.{rowLength, relationLength, small}
 use Rattle.lists.specs.Tests.{every}
-use Rattle.polynomials.specs.Content.{read-back}
+use Rattle.stores.specs.LentParts.{lent-long, lent-back}
 use Rattle.sides.specs.MirrorLaws.{Changed, mirrorNumbers, mirrorRelationNumbers, changed-none, changed-next}
 use Rattle.sides.specs.StoreStates.{part-small}
 use Rattle.sides.specs.MirrorLaws.{relation-stays, used-within, index-small, row-small}
@@ -44,6 +46,36 @@ module _ (c : tie.In-loop Inv-loop μ-loop) where
   numbers =
       part-small relationLength (c .before .before .args .count) k store (c .loop-test .taken) (c .before .loop .inv .1 .within)
 
+-- the same relation with its n0 negated, and its row as it is lent
+module _ (d : tie.After-negated Inv-loop μ-loop) where
+  abbrev here : tie.In-loop Inv-loop μ-loop
+  here = d .before .before
+
+  abbrev place : ℕ
+  place = k here * relationLength
+
+  abbrev index : ℤ
+  index = toZ w64 (ofZ w64 (d .negated .result))
+
+  abbrev begun : List ℤ
+  begun = set (store here) place index
+
+  index-is : index ≡ negℤ (getD (store here) place (pos 0))
+  index-is =
+      let read : SFits w64 (getD (store here) place (pos 0)) = sfits-of (d .before .negated-arg .given) in
+      toZ-ofZ (sfits-of (d .negated .ok)) ∙ d .negated .ensures ∙ ap negℤ (toZ-ofZ read)
+
+  room : place + 1 + rowLength ≤ length begun
+  room = simp length-set (omega (arith, long here))
+
+  abbrev row : List ℤ
+  row = take rowLength (drop (place + 1) (store here))
+
+  lent-row : midOf (place + 1) (place + 1 + rowLength - (place + 1)) begun ≡ row
+  lent-row =
+      let width : place + 1 + rowLength - (place + 1) ≡ rowLength = omega arith in
+      ap₂ take width (drop-set-lt (place + 1) (store here) place index (omega arith))
+
 loop-holds : tie.Need-loop-holds Inv-loop μ-loop
 loop-holds c =
     let a = c .args in
@@ -53,37 +85,49 @@ loop-holds c =
 mul-at : tie.Need-mul-at Inv-loop μ-loop
 mul-at c = omega (arith, long c)
 
-mul-n0 : tie.Need-mul-n0 Inv-loop μ-loop
-mul-n0 c = omega (arith, long c)
+mul-negated : tie.Need-mul-negated Inv-loop μ-loop
+mul-negated c = omega (arith, long c)
 
-slice-copy-out-n0 : tie.Need-slice-copy-out-n0 Inv-loop μ-loop
-slice-copy-out-n0 c = omega (arith, long c)
-
-add-load : tie.Need-add-load Inv-loop μ-loop
-add-load c = omega (arith, long (c .before .before))
-
-load-requires : tie.Need-load-requires Inv-loop μ-loop
-load-requires c κs = omega (arith, long (c .before .before))
-
-mirrored-requires : tie.Need-mirrored-requires Inv-loop μ-loop
-mirrored-requires c κs =
-    let at = c .before .before .before in (
-      at .before .before .pre .0,
-      rw (c .load .ensures) (row-small (store at) (k at * relationLength) (numbers at)),
-    )
+slice-copy-out-negated : tie.Need-slice-copy-out-negated Inv-loop μ-loop
+slice-copy-out-negated c = omega (arith, long c)
 
 negated-requires : tie.Need-negated-requires Inv-loop μ-loop
 negated-requires c κs =
-    let read-n0 = c .before .before .before .before in
-    let at = read-n0 .before in
-    let read : SFits w64 (getD (store at) (k at * relationLength) (pos 0)) = sfits-of (read-n0 .n0 .given) in
+    let at = c .before in
+    let read : SFits w64 (getD (store at) (k at * relationLength) (pos 0)) = sfits-of (c .negated-arg .given) in
     rw (toZ-ofZ read) (omega (arith, index-small (store at) (k at * relationLength) (numbers at)))
 
-slice-aggregate-save-relation : tie.Need-slice-aggregate-save-relation Inv-loop μ-loop
-slice-aggregate-save-relation c = search needs
+mul-t13 : tie.Need-mul-t13 Inv-loop μ-loop
+mul-t13 c = omega (arith, long (here c))
 
-save-relation-requires : tie.Need-save-relation-requires Inv-loop μ-loop
-save-relation-requires c κs = (long (c .before .before .before .before .before .before .before), search needs)
+slice-set-from-store : tie.Need-slice-set-from-store Inv-loop μ-loop
+slice-set-from-store c = omega (arith, long (here c))
+
+add-row : tie.Need-add-row Inv-loop μ-loop
+add-row c = omega (arith, long (here c))
+
+add-end : tie.Need-add-end Inv-loop μ-loop
+add-end c = omega (arith, long (here c))
+
+mul-mirror : tie.Need-mul-mirror Inv-loop μ-loop
+mul-mirror c = omega (arith, long (here c))
+
+sub-mirror : tie.Need-sub-mirror Inv-loop μ-loop
+sub-mirror c = search needs
+
+part-mirror-start : tie.Need-part-mirror-start Inv-loop μ-loop
+part-mirror-start c = search needs
+
+part-mirror-end : tie.Need-part-mirror-end Inv-loop μ-loop
+part-mirror-end c = room c
+
+mirror-requires : tie.Need-mirror-requires Inv-loop μ-loop
+mirror-requires c κs =
+    let d = c .before in (
+      here d .before .before .pre .0,
+      lent-long (begun d) (place d + 1) rowLength (room d),
+      rw (lent-row d) (row-small (store (here d)) (place d) (numbers (here d))),
+    )
 
 add-k : tie.Need-add-k Inv-loop μ-loop
 add-k c = omega arith
@@ -93,20 +137,19 @@ loop-less c = omega arith
 
 loop-again : tie.Need-loop-again Inv-loop μ-loop
 loop-again c =
-    let negating = c .before .before .before in
-    let mirrored = negating .before .before in
-    let loaded = mirrored .before in
-    let at = loaded .before .before .before in
+    let d = c .before .before .before in
+    let at = here d in
     let s = at .before .before in
-    let read : SFits w64 (getD (store at) (k at * relationLength) (pos 0)) = sfits-of (loaded .before .before .n0 .given) in
-    let negated = negating .negated in
-    let index = read-back (negated .result) (negated .ok) ∙ negated .ensures ∙ ap negℤ (toZ-ofZ read) in
-    let row = mirrored .mirrored .ensures ∙ ap (mirrorNumbers (s .args .span)) (loaded .load .ensures) in
     let next = changed-next relationLength (s .args .count) (mirrorRelationNumbers (s .args .span))
     (relation-stays (s .args .span) (s .pre .0))
     (now (s .args .store)) (store at) (k at) (at .loop-test .taken) (at .before .loop .inv .1) in
-    let stored = c .before .save-relation .ensures ∙ ap (λ p. paste (store at) (k at * relationLength) p relationLength)
-    (ap₂ _∷_ index row ∙ mirror-relation (store at) (k at * relationLength) (s .args .span)) in
+    let mirror = c .before .mirror in
+    let width = mirror .kept .0 ∙ lent-long (begun d) (place d + 1) rowLength (room d) in
+    let mirrored = mirror .ensures ∙ ap (mirrorNumbers (s .args .span)) (lent-row d) in
+    let stored = lent-back (begun d) (place d + 1) rowLength (mirror .last .0) width
+    ∙ paste-cons (store at) (place d) (index d) (mirror .last .0) rowLength (omega (arith, long at))
+    ∙ ap (λ p. paste (store at) (place d) p relationLength)
+    (ap₂ _∷_ (index-is d) mirrored ∙ mirror-relation (store at) (place d) (s .args .span)) in
     (omega arith, rw stored next)
 
 same-length : tie.Need-same-length Inv-loop μ-loop
@@ -126,14 +169,18 @@ mirror-relations-spec =
     μ-loop
     loop-holds
     mul-at
-    mul-n0
-    slice-copy-out-n0
-    add-load
-    load-requires
-    mirrored-requires
+    mul-negated
+    slice-copy-out-negated
     negated-requires
-    slice-aggregate-save-relation
-    save-relation-requires
+    mul-t13
+    slice-set-from-store
+    add-row
+    add-end
+    mul-mirror
+    sub-mirror
+    part-mirror-start
+    part-mirror-end
+    mirror-requires
     add-k
     loop-less
     loop-again

@@ -2,15 +2,17 @@
 -- Assumes nothing.
 use Prim.Native.Nat.{ℕ, _+_, _*_, _-_, _≤_}
 use native.Mathlib.Omega.{arith}
-use mathlib.Core.Path.{_≡_, _∙_, ap, ap₂}
+use mathlib.Core.Path.{_≡_, _∙_, ap}
 use mathlib.Core.List.{List}
 use borrow.Author.Needs.{needs}
+use borrow.Rule.Slice.PartMut.{midOf}
 use denote.Ref.{now}
 use lib.IntN.{ℤ}
-use lib.ListN.{length}
+use lib.ListN.{length, take, drop}
 use lib.Seq.{paste}
 use Rattle.rules.specs.Limits.{rowLength}
 use Rattle.rules.specs.Stores.{rowNeed}
+use Rattle.stores.specs.LentParts.{lent-long, lent-back}
 use Rattle.sides.specs.StoreStates.{part-small}
 use Rattle.sides.specs.MirrorLaws.{Changed, mirrorNumbers, mirror-stays, changed-none, changed-next, rows-mirrored}
 use Rattle.sides.proofs.mirror.mirror_rows.Statement.{statement}
@@ -33,6 +35,15 @@ module _ (c : tie.In-loop Inv-loop μ-loop) where
   long : i * rowLength + rowLength ≤ length store
   long = omega (arith, c .before .loop .inv .1 .within .long)
 
+  -- the row as it is lent
+  abbrev lent : List ℤ
+  lent = midOf (i * rowLength) (i * rowLength + rowLength - i * rowLength) store
+
+  lent-row : lent ≡ take rowLength (drop (i * rowLength) store)
+  lent-row =
+      let width : i * rowLength + rowLength - i * rowLength ≡ rowLength = omega arith in
+      ap (λ n. take n (drop (i * rowLength) store)) width
+
 loop-holds : tie.Need-loop-holds Inv-loop μ-loop
 unfolding rowNeed
 loop-holds c =
@@ -41,21 +52,27 @@ loop-holds c =
 mul-at : tie.Need-mul-at Inv-loop μ-loop
 mul-at c = omega (arith, long c)
 
-load-requires : tie.Need-load-requires Inv-loop μ-loop
-load-requires c κs = long (c .before)
+add-end : tie.Need-add-end Inv-loop μ-loop
+add-end c = omega (arith, long c)
 
-mirrored-requires : tie.Need-mirrored-requires Inv-loop μ-loop
-mirrored-requires c κs =
-    let at = c .before .before in
+mul-mirror : tie.Need-mul-mirror Inv-loop μ-loop
+mul-mirror c = omega (arith, long c)
+
+sub-mirror : tie.Need-sub-mirror Inv-loop μ-loop
+sub-mirror c = search needs
+
+part-mirror-start : tie.Need-part-mirror-start Inv-loop μ-loop
+part-mirror-start c = search needs
+
+part-mirror-end : tie.Need-part-mirror-end Inv-loop μ-loop
+part-mirror-end c = long c
+
+mirror-requires : tie.Need-mirror-requires Inv-loop μ-loop
+mirror-requires c κs =
+    let at = c .before in
     let s = at .before .before in
     let numbers = part-small rowLength (s .args .equations) (i at) (store at) (at .loop-test .taken) (at .before .loop .inv .1 .within) in
-    (s .pre .0, rw (c .load .ensures) numbers)
-
-slice-aggregate-save : tie.Need-slice-aggregate-save Inv-loop μ-loop
-slice-aggregate-save c = search needs
-
-save-requires : tie.Need-save-requires Inv-loop μ-loop
-save-requires c κs = omega (arith, long (c .before .before .before .before .before))
+    (s .pre .0, lent-long (store at) (i at * rowLength) rowLength (long at), rw (lent-row at) numbers)
 
 add-i : tie.Need-add-i Inv-loop μ-loop
 add-i c = omega arith
@@ -65,15 +82,14 @@ loop-less c = omega arith
 
 loop-again : tie.Need-loop-again Inv-loop μ-loop
 loop-again c =
-    let mirrored = c .before .before .before .before in
-    let loaded = mirrored .before in
-    let at = loaded .before .before in
+    let at = c .before .before .before in
     let s = at .before .before in
     let next = changed-next rowLength (s .args .equations) (mirrorNumbers (s .args .span)) (mirror-stays (s .args .span) (s .pre .0))
     (now (s .args .store)) (store at) (i at) (at .loop-test .taken) (at .before .loop .inv .1) in
-    let long : length (mirrored .mirrored .result) ≡ rowLength = omega arith in
-    let row = mirrored .mirrored .ensures ∙ ap (mirrorNumbers (s .args .span)) (loaded .load .ensures) in
-    let stored = c .before .save .ensures ∙ ap₂ (λ l n. paste (store at) (i at * rowLength) l n) row long in
+    let mirror = c .before .mirror in
+    let width = mirror .kept .0 ∙ lent-long (store at) (i at * rowLength) rowLength (long at) in
+    let stored = lent-back (store at) (i at * rowLength) rowLength (mirror .last .0) width
+    ∙ ap (λ p. paste (store at) (i at * rowLength) p rowLength) (mirror .ensures ∙ ap (mirrorNumbers (s .args .span)) (lent-row at)) in
     (omega arith, rw stored next)
 
 same-length : tie.Need-same-length Inv-loop μ-loop
@@ -93,10 +109,12 @@ mirror-rows-spec =
     μ-loop
     loop-holds
     mul-at
-    load-requires
-    mirrored-requires
-    slice-aggregate-save
-    save-requires
+    add-end
+    mul-mirror
+    sub-mirror
+    part-mirror-start
+    part-mirror-end
+    mirror-requires
     add-i
     loop-less
     loop-again
