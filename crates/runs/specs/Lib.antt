@@ -1,3 +1,4 @@
+pub mod KeptRelations
 pub mod TrailingLaws
 pub mod CallLaws
 pub mod Unreported

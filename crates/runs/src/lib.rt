@@ -90,7 +90,8 @@ pub fn accepted(rows: &[i64], span: usize, side: Side, p: reduction::step::Progr
     }
 }
 
-// The trailing side: the system is mirrored, goes through the rules, and the rows that are left are mirrored again (SCOPE 2.91, 2.94).
+// The trailing side: the system is mirrored, goes through the rules, and what is left is mirrored again (SCOPE 2.91, 2.94). The relations
+// that are there before the run are not looked at by it, and would be mirrored twice, which leaves them as they are.
 pub fn trailing_run(
     rows: &mut [i64],
     relations: &mut [i64],
@@ -103,7 +104,6 @@ pub fn trailing_run(
         (Elimination.trailingRun span (rowsOf equations (now (rows .entry))) (relationsOf count (now (relations .entry)))) ⌝ }
 {
     sides::mirror::mirror_rows(rows, equations, span);
-    sides::mirror::mirror_relations(relations, count, span);
     let o = reduction::run::run(rows, relations, equations, Side::Trailing, count);
     let refusal = o.refusal;
     if refusal != 0 {
@@ -111,7 +111,7 @@ pub fn trailing_run(
     }
     let p = o.progress;
     sides::mirror::mirror_rows(rows, p.rows, span);
-    sides::mirror::mirror_relations(relations, p.count, span);
+    sides::mirror::mirror_relations(relations, count, p.count, span);
     o
 }
 

@@ -3,23 +3,24 @@
 -- Main definitions
 --   mirrorNumbers D p           the numbers of the mirror of the row that p holds
 --   mirrorRelationNumbers D p   the numbers of the mirror of the relation that p holds
---   Changed k n i g a b         of n parts of width k of the store a the first i have been changed by g, which gives b
---   RowsMirrored, RelationsMirrored   the store after the mirror: what it holds, and what has stayed
+--   Changed k n a i g l l'      of n parts of width k of the store l those from part a on and before part i have been changed by g,
+--                               which gives l'
+--   RowsMirrored, RelationsMirrored   the store after the mirror, of the relations those from a place on: what it holds, and what has stayed
 --
 -- Main statements
 --   changed-none, changed-next, changed-parts   no part changed, one part more, all parts
 --   rows-mirrored, relations-mirrored           all parts mirrored
-use Prim.Native.Nat.{ℕ, zero, suc, _+_, _*_, _-_, _≤_, _<_}
+use Prim.Native.Nat.{ℕ, zero, suc, _+_, _*_, _-_, _≤_, _<_, zero-le}
 use native.Mathlib.Nat.{not-suc-le-zero, le-of-suc-le-suc, le-of-eq, le-refl, suc-ne-zero, suc-inj}
 use native.Mathlib.Nat.{suc-mul, mul-le-mul-right}
 use native.Mathlib.Numerals.{add-one}
 use native.Mathlib.Omega.{arith}
 use mathlib.Core.Path.{_≡_, refl, sym, _∙_, ap, ap₂, subst}
-use mathlib.Core.List.{List, [], _∷_, _++_, map}
+use mathlib.Core.List.{List, [], _∷_, _++_, map, append-nil}
 use lib.Dec.{T}
 use lib.IntN.{ℤ, pos, negℤ, natAbs}
-use lib.ListN.{length, take, drop, getD, set, length-drop}
-use lib.Seq.{paste, length-take-le, take-take, drop-drop}
+use lib.ListN.{length, take, drop, getD, set, length-drop, drop-of-length-le}
+use lib.Seq.{paste, length-take-le, take-all, take-take, drop-drop}
 use Rattle.algebra.specs.Integers.{natAbs-negℤ}
 use Rattle.algebra.specs.Polynomials.{isZero}
 use Rattle.lists.specs.Tests.{T-&&, every, every-append, every-part}
@@ -38,48 +39,59 @@ use Rattle.lists.specs.Pasted.{parts-paste}
 
 -- ---- parts of one width, changed one after the other
 
--- The list with g applied to its first i members.
-unfoldable pub changeFirst : {A : Type 0} → (A → A) → ℕ → List A → List A
-changeFirst g i l = map g (take i l) ++ drop i l
+-- The list with g applied to its members from the a-th on and before the i-th.
+unfoldable pub changePart : {A : Type 0} → (A → A) → ℕ → ℕ → List A → List A
+changePart g a i l = take a l ++ (map g (drop a (take i l)) ++ drop i l)
 
-change-next : {A : Type 0} (g : A → A) (l : List A) (i : ℕ) (d : A) → i < length l
-    → set (changeFirst g i l) i (g (getD (changeFirst g i l) i d)) ≡ changeFirst g (suc i) l
-unfolding changeFirst
-change-next g [] i d h = absurd (not-suc-le-zero h)
-change-next g (x ∷ l) zero d h = refl
-change-next g (x ∷ l) (suc i) d h = ap (λ r. g x ∷ r) (change-next g l i d (le-of-suc-le-suc h))
+change-none : {A : Type 0} (g : A → A) (l : List A) (a : ℕ) → changePart g a a l ≡ l
+unfolding changePart
+change-none g l zero = refl
+change-none g [] (suc a) = refl
+change-none g (x ∷ l) (suc a) = ap (λ r. x ∷ r) (change-none g l a)
 
-change-all : {A : Type 0} (g : A → A) (l : List A) (i : ℕ) → length l ≤ i → changeFirst g i l ≡ map g l
-unfolding changeFirst
-change-all g [] zero h = refl
-change-all g [] (suc i) h = refl
-change-all g (x ∷ l) zero h = absurd (not-suc-le-zero h)
-change-all g (x ∷ l) (suc i) h = ap (λ r. g x ∷ r) (change-all g l i (le-of-suc-le-suc h))
+change-next : {A : Type 0} (g : A → A) (l : List A) (a i : ℕ) (d : A) → a ≤ i → i < length l
+    → set (changePart g a i l) i (g (getD (changePart g a i l) i d)) ≡ changePart g a (suc i) l
+unfolding changePart
+change-next g [] a i d w h = absurd (not-suc-le-zero h)
+change-next g (x ∷ l) zero zero d w h = refl
+change-next g (x ∷ l) zero (suc i) d w h = ap (λ r. g x ∷ r) (change-next g l zero i d zero-le (le-of-suc-le-suc h))
+change-next g (x ∷ l) (suc a) zero d w h = absurd (not-suc-le-zero w)
+change-next g (x ∷ l) (suc a) (suc i) d w h = ap (λ r. x ∷ r) (change-next g l a i d (le-of-suc-le-suc w) (le-of-suc-le-suc h))
 
-pub record Changed (k n i : ℕ) (g : List ℤ → List ℤ) (before after : List ℤ) : Type 0 where
-  pub changed : parts k n after ≡ changeFirst g i (parts k n before)
+-- All from the a-th on.
+abbrev pub changeFrom : {A : Type 0} → (A → A) → ℕ → List A → List A
+changeFrom g a l = take a l ++ map g (drop a l)
+
+change-all : {A : Type 0} (g : A → A) (l : List A) (a i : ℕ) → length l ≤ i → changePart g a i l ≡ changeFrom g a l
+unfolding changePart
+change-all g l a i h =
+    ap₂ (λ p q. take a l ++ (map g (drop a p) ++ q)) (take-all i l h) (drop-of-length-le l h)
+    ∙ ap (λ q. take a l ++ q) (append-nil (map g (drop a l)))
+
+pub record Changed (k n a i : ℕ) (g : List ℤ → List ℤ) (before after : List ℤ) : Type 0 where
+  pub changed : parts k n after ≡ changePart g a i (parts k n before)
   pub within : Within (n * k) after
   pub kept : Kept (n * k) before after
 
-pub changed-none : (k n : ℕ) (g : List ℤ → List ℤ) (store : List ℤ) → Within (n * k) store → Changed k n 0 g store store
-unfolding changeFirst
-changed-none k n g store w = record { changed = refl; within = w; kept = kept-same (n * k) store }
+pub changed-none : (k n a : ℕ) (g : List ℤ → List ℤ) (store : List ℤ) → Within (n * k) store → Changed k n a a g store store
+changed-none k n a g store w =
+    record { changed = sym (change-none g (parts k n store) a); within = w; kept = kept-same (n * k) store }
 
 -- g keeps the width k and the bound ±C.
 abbrev pub Stays : ℕ → (List ℤ → List ℤ) → Type 0
 Stays k g = (p : List ℤ) → length p ≡ k → T (every small p) → (length (g p) ≡ k) × T (every small (g p))
 
-module _ (k n : ℕ) (g : List ℤ → List ℤ) (stays : Stays k g) (before store : List ℤ) where
-  pub changed-next : (i : ℕ) → i < n → Changed k n i g before store
-      → Changed k n (i + 1) g before (paste store (i * k) (g (take k (drop (i * k) store))) k)
-  changed-next i h c =
+module _ (k n a : ℕ) (g : List ℤ → List ℤ) (stays : Stays k g) (before store : List ℤ) where
+  pub changed-next : (i : ℕ) → a ≤ i → i < n → Changed k n a i g before store
+      → Changed k n a (i + 1) g before (paste store (i * k) (g (take k (drop (i * k) store))) k)
+  changed-next i from h c =
       record {
         changed =
             parts-paste k n store (g part) i (kept-part .0) (c .within .long) h
             ∙ ap (λ p. set (parts k n store) i (g p)) (sym (getD-parts k n store i h))
             ∙ ap (λ ps. set ps i (g (getD ps i []))) (c .changed)
-            ∙ change-next g (parts k n before) i [] (rw parts-length h)
-            ∙ ap (λ j. changeFirst g j (parts k n before)) (sym (add-one i));
+            ∙ change-next g (parts k n before) a i [] from (rw parts-length h)
+            ∙ ap (λ j. changePart g a j (parts k n before)) (sym (add-one i));
         within = within-paste (n * k) store (c .within) (i * k) (g part) k long inside (kept-part .1);
         kept = kept-then (c .kept) (kept-paste (n * k) store (c .within) (i * k) (g part) k long inside);
       }
@@ -99,8 +111,8 @@ module _ (k n : ℕ) (g : List ℤ → List ℤ) (stays : Stays k g) (before sto
       long : k ≤ length (g part)
       long = le-of-eq (sym (kept-part .0))
 
-  pub changed-parts : (i : ℕ) → n ≤ i → Changed k n i g before store → parts k n store ≡ map g (parts k n before)
-  changed-parts i h c = c .changed ∙ change-all g (parts k n before) i (rw parts-length h)
+  pub changed-parts : (i : ℕ) → n ≤ i → Changed k n a i g before store → parts k n store ≡ changeFrom g a (parts k n before)
+  changed-parts i h c = c .changed ∙ change-all g (parts k n before) a i (rw parts-length h)
 
 -- A longer part of a store.
 module _ (n need : ℕ) (inside : n ≤ need) where
@@ -141,6 +153,14 @@ unfolding All
 decode-changed k decode g f e [] h = refl
 decode-changed k decode g f e (p ∷ ps) h = ap₂ (λ x l. x ∷ l) (e p (h .0)) (decode-changed k decode g f e ps (h .1))
 
+decode-from : {B : Type 0} (k : ℕ) (decode : List ℤ → B) (g : List ℤ → List ℤ) (f : B → B)
+    → ((p : List ℤ) → length p ≡ k → decode (g p) ≡ f (decode p))
+    → (a : ℕ) (ps : List (List ℤ)) → All (λ p. length p ≡ k) ps → map decode (changeFrom g a ps) ≡ changeFrom f a (map decode ps)
+unfolding All
+decode-from k decode g f e zero ps h = decode-changed k decode g f e ps h
+decode-from k decode g f e (suc a) [] h = refl
+decode-from k decode g f e (suc a) (p ∷ ps) h = ap (λ l. decode p ∷ l) (decode-from k decode g f e a ps (h .1))
+
 -- ---- rows
 
 abbrev pub mirrorNumbers : ℕ → List ℤ → List ℤ
@@ -156,12 +176,12 @@ pub record RowsMirrored (equations D : ℕ) (before after : List ℤ) : Type 0 w
   pub kept : Kept (rowNeed equations) before after
 
 pub rows-mirrored : (equations D i : ℕ) (before after : List ℤ) → D ≤ 4 → Within (rowNeed equations) before → equations ≤ i
-    → Changed rowLength equations i (mirrorNumbers D) before after → RowsMirrored equations D before after
+    → Changed rowLength equations 0 i (mirrorNumbers D) before after → RowsMirrored equations D before after
 unfolding rowsOf rowNeed
 rows-mirrored equations D i before after few w h c =
     record {
       rows =
-          ap (map rowOf) (changed-parts rowLength equations (mirrorNumbers D) (mirror-stays D few) before after i h c)
+          ap (map rowOf) (changed-parts rowLength equations 0 (mirrorNumbers D) (mirror-stays D few) before after i h c)
           ∙ decode-changed rowLength rowOf (mirrorNumbers D) (mirrorRow D) (λ p. rowOf-mirrorRow D p few)
           (parts rowLength equations before)
           (parts-width rowLength equations before (w .long));
@@ -222,21 +242,21 @@ unfolding relationOf relationNumbers mirrorRelation
 relationOf-mirrorRelation D few p e =
     λ i. record { index = negℤ (getD p 0 (pos 0)); row = rowOf-mirrorRow D (drop 1 p) few (rw length-drop (omega arith)) i }
 
-pub record RelationsMirrored (count D : ℕ) (before after : List ℤ) : Type 0 where
-  pub relations : relationsOf count after ≡ map (mirrorRelation D) (relationsOf count before)
+pub record RelationsMirrored (from count D : ℕ) (before after : List ℤ) : Type 0 where
+  pub relations : relationsOf count after ≡ changeFrom (mirrorRelation D) from (relationsOf count before)
   pub listing : Listing count after
   pub kept : Kept relationNeed before after
 
-pub relations-mirrored : (count D i : ℕ) (before after : List ℤ) → D ≤ 4 → Listing count before → count ≤ i
-    → Changed relationLength count i (mirrorRelationNumbers D) before after → RelationsMirrored count D before after
+pub relations-mirrored : (from count D i : ℕ) (before after : List ℤ) → D ≤ 4 → Listing count before → count ≤ i
+    → Changed relationLength count from i (mirrorRelationNumbers D) before after → RelationsMirrored from count D before after
 unfolding relationsOf
-relations-mirrored count D i before after few l h c =
+relations-mirrored from count D i before after few l h c =
     record {
       relations =
-          ap (map relationOf) (changed-parts relationLength count (mirrorRelationNumbers D)
+          ap (map relationOf) (changed-parts relationLength count from (mirrorRelationNumbers D)
           (relation-stays D few) before after i h c)
-          ∙ decode-changed relationLength relationOf (mirrorRelationNumbers D) (mirrorRelation D)
-          (relationOf-mirrorRelation D few) (parts relationLength count before)
+          ∙ decode-from relationLength relationOf (mirrorRelationNumbers D) (mirrorRelation D)
+          (relationOf-mirrorRelation D few) from (parts relationLength count before)
           (parts-width relationLength count before (omega (arith, l .within .long)));
       listing =
           record {

@@ -20,12 +20,12 @@ pub fn mirror_rows(store: &mut [i64], equations: usize, span: usize)
     }
 }
 
-// The same in every relation, and -n0 for n0 (SCOPE 2.91).
-pub fn mirror_relations(store: &mut [i64], count: usize, span: usize)
-    requires { ⌜ (span ≤ 4) × Listing count (now store) ⌝ }
-    ensures { λ _. ⌜ RelationsMirrored count span (now (store .entry)) (now (store .exit)) ⌝ }
+// The same in every relation from a place on, and -n0 for n0 (SCOPE 2.91).
+pub fn mirror_relations(store: &mut [i64], from: usize, count: usize, span: usize)
+    requires { ⌜ (span ≤ 4) × (from ≤ count) × Listing count (now store) ⌝ }
+    ensures { λ _. ⌜ RelationsMirrored from count span (now (store .entry)) (now (store .exit)) ⌝ }
 {
-    let mut k = 0;
+    let mut k = from;
     while k < count {
         let at = k * RELATION;
         store[at] = integers::negated(store[at]);

@@ -6,35 +6,29 @@ use denote.Ref.{now}
 use lib.IntN.{ℤ}
 use Rattle.rules.specs.Elimination.{trailing}
 use Rattle.reduction.specs.Ran.{Ran, runOf}
-use Rattle.runs.specs.TrailingLaws.{trailing-refused, trailing-held}
+use Rattle.runs.specs.TrailingLaws.{listed-more, trailing-refused, trailing-held}
 use Rattle.runs.proofs.trailing_run.Statement.{statement}
 use Rattle.runs.proofs.trailing_run.Tie as tie
 
--- the stores after the first mirror, and the run on them
+-- the row store after the first mirror, and the run on it
 module _ (c : tie.After-run) where
-  abbrev mirrored : tie.After-mirror-relations
+  abbrev mirrored : tie.After-mirror-rows
   mirrored = c .before .before .before .before
 
   abbrev start : tie.Start
-  start = mirrored .before .before .before .before .before
+  start = mirrored .before .before
 
   abbrev rows : List ℤ
-  rows = mirrored .before .before .before .mirror-rows .last .0
+  rows = mirrored .mirror-rows .last .0
 
-  abbrev relations : List ℤ
-  relations = mirrored .mirror-relations .last .0
-
-  ran : Ran (start .args .equations) rows relations (c .run .last .0) (c .run .last .1 .0) (c .run .result)
-      (runOf trailing (start .args .equations) (start .args .count) rows relations)
+  ran : Ran (start .args .equations) rows (now (start .args .relations)) (c .run .last .0) (c .run .last .1 .0) (c .run .result)
+      (runOf trailing (start .args .equations) (start .args .count) rows (now (start .args .relations)))
   ran =
       let ensured = c .run .ensures in
       record { answer = ensured .0; rows-after = ensured .1 .0; relations-after = ensured .1 .1 .0; reached = ensured .1 .1 .1 }
 
 mirror-rows-requires : tie.Need-mirror-rows-requires
 mirror-rows-requires c κs = search needs
-
-mirror-relations-requires : tie.Need-mirror-relations-requires
-mirror-relations-requires c κs = search needs
 
 run-requires : tie.Need-run-requires
 run-requires c κs = search needs
@@ -49,19 +43,22 @@ returns : tie.Need-returns
 returns c =
     let at = c .before .before .before in
     let s = start at in
-    trailing-refused (s .args .equations) (s .args .span) (s .args .count) (now (s .args .rows)) (now (s .args .relations)) _ _ _ _
-    (mirrored at .before .before .before .mirror-rows .ensures) (mirrored at .mirror-relations .ensures) (at .run .result) (ran at)
-    (c .if1 .taken)
+    trailing-refused (s .args .equations) (s .args .span) (s .args .count) (now (s .args .rows)) (now (s .args .relations)) _ _ _
+    (s .pre .1) (mirrored at .mirror-rows .ensures) (at .run .result) (ran at) (c .if1 .taken)
 
 mirror-rows-requires-2 : tie.Need-mirror-rows-requires-2
 mirror-rows-requires-2 c κs =
     let at = c .before .before .before .before .before in
     (start at .pre .1, ran at .reached .ready .rows-within)
 
-mirror-relations-requires-2 : tie.Need-mirror-relations-requires-2
-mirror-relations-requires-2 c κs =
-    let at = c .before .before .before .before .before .before .before .before in
-    (start at .pre .1, ran at .reached .ready .listing)
+mirror-relations-requires : tie.Need-mirror-relations-requires
+mirror-relations-requires c κs =
+    let tested = c .before .before .before .before .before in
+    let at = tested .before .before .before in
+    let s = start at in
+    let more = listed-more (s .args .equations) (s .args .span) (s .args .count) (now (s .args .rows)) (now (s .args .relations)) _ _ _
+    (s .pre .1) (mirrored at .mirror-rows .ensures) (at .run .result) (ran at) (tested .if1 .left) in
+    (s .pre .1, more, ran at .reached .ready .listing)
 
 same-length-3 : tie.Need-same-length-3
 same-length-3 c = search needs
@@ -72,25 +69,24 @@ same-length-4 c = search needs
 returns-2 : tie.Need-returns-2
 returns-2 c =
     let back = c .before in
-    let at = back .before .before .before .before .before .before .before .before .before in
+    let tested = back .before .before .before .before .before .before in
+    let at = tested .before .before .before in
     let s = start at in
-    trailing-held (s .args .equations) (s .args .span) (s .args .count) (now (s .args .rows)) (now (s .args .relations)) _ _ _ _
-    (mirrored at .before .before .before .mirror-rows .ensures) (mirrored at .mirror-relations .ensures) (at .run .result) (ran at)
-    _ _ (back .before .before .before .before .before .before .if1 .left) (back .before .before .before .mirror-rows2 .ensures)
-    (back .mirror-relations2 .ensures)
+    trailing-held (s .args .equations) (s .args .span) (s .args .count) (now (s .args .rows)) (now (s .args .relations)) _ _ _
+    (s .pre .1) (mirrored at .mirror-rows .ensures) (at .run .result) (ran at) _ _ (tested .if1 .left)
+    (back .before .before .before .mirror-rows2 .ensures) (back .mirror-relations .ensures)
 
 pub trailing-run-spec : {M : Type 1} → statement M
 trailing-run-spec =
     tie.close
     (tie.spec
     mirror-rows-requires
-    mirror-relations-requires
     run-requires
     same-length
     same-length-2
     returns
     mirror-rows-requires-2
-    mirror-relations-requires-2
+    mirror-relations-requires
     same-length-3
     same-length-4
     returns-2)

@@ -1,4 +1,5 @@
--- `sides::mirror::mirror_relations` meets its contract. The loop's invariant: the first k relations are mirrored.
+-- `sides::mirror::mirror_relations` meets its contract. The loop's invariant: the relations from `from` on and before k are
+-- mirrored.
 -- Assumes nothing.
 use Prim.Native.Nat.{ℕ, _+_, _*_, _-_, _≤_}
 use native.Mathlib.Omega.{arith}
@@ -26,10 +27,11 @@ use Rattle.sides.proofs.mirror.mirror_relations.Statement.{statement}
 use Rattle.sides.proofs.mirror.mirror_relations.Tie as tie
 
 abbrev Inv-loop : tie.InvT-loop
-Inv-loop store₀ count span k₀ store k = (k ≤ count) × Changed relationLength count k (mirrorRelationNumbers span) store₀ store
+Inv-loop store₀ from count span k₀ store k =
+    (from ≤ k) × ((k ≤ count) × Changed relationLength count from k (mirrorRelationNumbers span) store₀ store)
 
 abbrev μ-loop : tie.MeasureT-loop
-μ-loop store₀ count span k₀ store k = count - k
+μ-loop store₀ from count span k₀ store k = count - k
 
 -- relation k of the store
 module _ (c : tie.In-loop Inv-loop μ-loop) where
@@ -40,11 +42,11 @@ module _ (c : tie.In-loop Inv-loop μ-loop) where
   store = c .before .loop .store
 
   long : k * relationLength + relationLength ≤ length store
-  long = omega (arith, c .before .loop .inv .1 .within .long)
+  long = omega (arith, c .before .loop .inv .1 .1 .within .long)
 
   numbers : T (every small (take relationLength (drop (k * relationLength) store)))
   numbers =
-      part-small relationLength (c .before .before .args .count) k store (c .loop-test .taken) (c .before .loop .inv .1 .within)
+      part-small relationLength (c .before .before .args .count) k store (c .loop-test .taken) (c .before .loop .inv .1 .1 .within)
 
 -- the same relation with its n0 negated, and its row as it is lent
 module _ (d : tie.After-negated Inv-loop μ-loop) where
@@ -79,8 +81,8 @@ module _ (d : tie.After-negated Inv-loop μ-loop) where
 loop-holds : tie.Need-loop-holds Inv-loop μ-loop
 loop-holds c =
     let a = c .args in
-    let used = used-within (a .count) (now (a .store)) (c .pre .1) in
-    (omega arith, changed-none relationLength (a .count) (mirrorRelationNumbers (a .span)) (now (a .store)) used)
+    let used = used-within (a .count) (now (a .store)) (c .pre .2) in
+    (omega arith, (omega arith, changed-none relationLength (a .count) (a .from) (mirrorRelationNumbers (a .span)) (now (a .store)) used))
 
 mul-at : tie.Need-mul-at Inv-loop μ-loop
 mul-at c = omega (arith, long c)
@@ -97,8 +99,8 @@ negated-requires c κs =
     let read : SFits w64 (getD (store at) (k at * relationLength) (pos 0)) = sfits-of (c .negated-arg .given) in
     rw (toZ-ofZ read) (omega (arith, index-small (store at) (k at * relationLength) (numbers at)))
 
-mul-t13 : tie.Need-mul-t13 Inv-loop μ-loop
-mul-t13 c = omega (arith, long (here c))
+mul-t14 : tie.Need-mul-t14 Inv-loop μ-loop
+mul-t14 c = omega (arith, long (here c))
 
 slice-set-from-store : tie.Need-slice-set-from-store Inv-loop μ-loop
 slice-set-from-store c = omega (arith, long (here c))
@@ -140,9 +142,9 @@ loop-again c =
     let d = c .before .before .before in
     let at = here d in
     let s = at .before .before in
-    let next = changed-next relationLength (s .args .count) (mirrorRelationNumbers (s .args .span))
+    let next = changed-next relationLength (s .args .count) (s .args .from) (mirrorRelationNumbers (s .args .span))
     (relation-stays (s .args .span) (s .pre .0))
-    (now (s .args .store)) (store at) (k at) (at .loop-test .taken) (at .before .loop .inv .1) in
+    (now (s .args .store)) (store at) (k at) (at .before .loop .inv .0) (at .loop-test .taken) (at .before .loop .inv .1 .1) in
     let mirror = c .before .mirror in
     let width = mirror .kept .0 ∙ lent-long (begun d) (place d + 1) rowLength (room d) in
     let mirrored = mirror .ensures ∙ ap (mirrorNumbers (s .args .span)) (lent-row d) in
@@ -150,16 +152,16 @@ loop-again c =
     ∙ paste-cons (store at) (place d) (index d) (mirror .last .0) rowLength (omega (arith, long at))
     ∙ ap (λ p. paste (store at) (place d) p relationLength)
     (ap₂ _∷_ (index-is d) mirrored ∙ mirror-relation (store at) (place d) (s .args .span)) in
-    (omega arith, rw stored next)
+    (omega arith, (omega arith, rw stored next))
 
 same-length : tie.Need-same-length Inv-loop μ-loop
-same-length c = c .before .loop .inv .1 .kept .same-length
+same-length c = c .before .loop .inv .1 .1 .kept .same-length
 
 returns : tie.Need-returns Inv-loop μ-loop
 returns c =
     let s = c .before .before in
-    relations-mirrored (s .args .count) (s .args .span) (c .before .loop .k) (now (s .args .store)) (c .before .loop .store)
-    (s .pre .0) (s .pre .1) (c .loop-test .left) (c .before .loop .inv .1)
+    relations-mirrored (s .args .from) (s .args .count) (s .args .span) (c .before .loop .k) (now (s .args .store)) (c .before .loop .store)
+    (s .pre .0) (s .pre .2) (c .loop-test .left) (c .before .loop .inv .1 .1)
 
 pub mirror-relations-spec : {M : Type 1} → statement M
 mirror-relations-spec =
@@ -172,7 +174,7 @@ mirror-relations-spec =
     mul-negated
     slice-copy-out-negated
     negated-requires
-    mul-t13
+    mul-t14
     slice-set-from-store
     add-row
     add-end

@@ -1,6 +1,6 @@
 -- `sides::mirror::mirror_rows` meets its contract. The loop's invariant: the first i rows are mirrored.
 -- Assumes nothing.
-use Prim.Native.Nat.{ℕ, _+_, _*_, _-_, _≤_}
+use Prim.Native.Nat.{ℕ, _+_, _*_, _-_, _≤_, zero-le}
 use native.Mathlib.Omega.{arith}
 use mathlib.Core.Path.{_≡_, _∙_, ap}
 use mathlib.Core.List.{List}
@@ -19,7 +19,7 @@ use Rattle.sides.proofs.mirror.mirror_rows.Statement.{statement}
 use Rattle.sides.proofs.mirror.mirror_rows.Tie as tie
 
 abbrev Inv-loop : tie.InvT-loop
-Inv-loop store₀ equations span i₀ store i = (i ≤ equations) × Changed rowLength equations i (mirrorNumbers span) store₀ store
+Inv-loop store₀ equations span i₀ store i = (i ≤ equations) × Changed rowLength equations 0 i (mirrorNumbers span) store₀ store
 
 abbrev μ-loop : tie.MeasureT-loop
 μ-loop store₀ equations span i₀ store i = equations - i
@@ -47,7 +47,7 @@ module _ (c : tie.In-loop Inv-loop μ-loop) where
 loop-holds : tie.Need-loop-holds Inv-loop μ-loop
 unfolding rowNeed
 loop-holds c =
-    (omega arith, changed-none rowLength (c .args .equations) (mirrorNumbers (c .args .span)) (now (c .args .store)) (c .pre .1))
+    (omega arith, changed-none rowLength (c .args .equations) 0 (mirrorNumbers (c .args .span)) (now (c .args .store)) (c .pre .1))
 
 mul-at : tie.Need-mul-at Inv-loop μ-loop
 mul-at c = omega (arith, long c)
@@ -84,8 +84,8 @@ loop-again : tie.Need-loop-again Inv-loop μ-loop
 loop-again c =
     let at = c .before .before .before in
     let s = at .before .before in
-    let next = changed-next rowLength (s .args .equations) (mirrorNumbers (s .args .span)) (mirror-stays (s .args .span) (s .pre .0))
-    (now (s .args .store)) (store at) (i at) (at .loop-test .taken) (at .before .loop .inv .1) in
+    let next = changed-next rowLength (s .args .equations) 0 (mirrorNumbers (s .args .span)) (mirror-stays (s .args .span) (s .pre .0))
+    (now (s .args .store)) (store at) (i at) zero-le (at .loop-test .taken) (at .before .loop .inv .1) in
     let mirror = c .before .mirror in
     let width = mirror .kept .0 ∙ lent-long (store at) (i at * rowLength) rowLength (long at) in
     let stored = lent-back (store at) (i at * rowLength) rowLength (mirror .last .0) width
