@@ -6,36 +6,36 @@
 --   combined, quotient     the combination of the rows that two lists of numbers hold, and that divided by an integer
 --
 -- Main statements
---   past-sum, sum-divided, sum-left   the test of g·p + h·q, coefficient by coefficient
+--   past-sum, sum-divided, sum-left, one-exact   the test of g·p + h·q, coefficient by coefficient; 1 passes it
 --   parts-divided, sum-at  the test of a combination of rows, polynomial by polynomial
+--   cut-exact              where no degree is past 15, the test of the first 16 coefficients of each polynomial is the test of all
 --   degree-divided         the division does not change which polynomials have degrees up to 15
 --   divided-past, divided-low   the answer for a quotient whose degrees pass 15, and for one whose degrees do not
---   quotient-numbers, divided-storable   the quotient is held by its numbers
+--   divided-storable       the quotient is held by its numbers
 use Prim.Native.Nat.{ℕ, _*_, _∣_, _≤_, _<_}
-use native.Mathlib.Nat.{dvd-zero}
+use native.Mathlib.Nat.{dvd-zero, one-dvd}
 use native.Mathlib.Omega.{arith}
 use native.Mathlib.Decide.{decLt}
 use mathlib.Core.Path.{_≡_, refl, sym, _∙_, ap, ap₂, subst}
-use mathlib.Core.Logic.{_≢_}
+use mathlib.Core.Logic.{_↔_, _≢_}
 use mathlib.Core.Bool.{true, false, true≢false}
 use mathlib.Core.List.{List, [], flatten}
 use lib.Dec.{T}
 use lib.IntN.{ℤ, pos, natAbs, _+ℤ_}
 use lib.ListN.{length, getD, take, drop}
 use lib.Signed.{remZ}
-use Rattle.lists.specs.Tests.{every, every-from-all, every-false, every-flatten, true-of, true-T}
+use Rattle.lists.specs.Tests.{every, every-from-all, every-false, every-flatten, same-test, true-of, true-T}
 use Rattle.algebra.specs.Divisors.{divides, divides-dvd}
-use Rattle.algebra.specs.Gcd.{content, divideBy, divides-content, length-divideBy}
+use Rattle.algebra.specs.Gcd.{content, divideBy, divides-content, dividesAll-of-content, length-divideBy}
 use Rattle.algebra.specs.Polynomials.{Polynomial, coeff, add, mul}
 use Rattle.algebra.specs.Coefficients.{coeff-past-length, coeff-add, mul-within}
 use Rattle.rules.specs.Limits.{coefficientCount, rowLength}
 use Rattle.rules.specs.Rows.{Row, mapRow, coefficientsOf, combine, lowDegrees, cut}
 use Rattle.rules.specs.Stores.{rowOf, StoreRow}
-use Rattle.rules.specs.Layout.{rowOf-coefficientsOf}
 use Rattle.rules.specs.Elimination.{beyond, limitCoefficients, limitDegrees}
 use Rattle.stores.specs.Flat.{partCount, polynomialsOf, polynomials-mapRow, numbers-polynomials}
 use Rattle.working_rows.specs.Worked.{held}
-use Rattle.combinations.specs.Primitive.{isLow, lowDegrees-every, divided-every, cut-divided, degrees-within}
+use Rattle.combinations.specs.Primitive.{isLow, lowDegrees-every, divided-every, content-cut, degrees-within}
 use Rattle.combinations.specs.Combination.{combinations, combination-at, polynomials-combination, StoreRow-cut}
 use Rattle.reduction.specs.NewRows.{Storable, degrees-storable}
 use Rattle.logs.specs.Logs.{dividesAll}
@@ -79,6 +79,11 @@ sum-left d l j n = cases (decLt j (length l))
         let nothing = remainder-some (pos 0) d (λ e. n (ap (λ a. remZ a d) (coeff-past-length l j (omega arith)) ∙ e)) in
         absurd (true≢false (sym (true-of _ (divides-dvd (natAbs d) 0 .1 (dvd-zero (natAbs d)))) ∙ nothing))
 
+-- 1 divides every number.
+pub one-exact : (l : List ℤ) → dividesAll 1 l ≡ true
+unfolding dividesAll
+one-exact l = true-of _ (every-from-all (λ a. divides 1 (natAbs a)) l (pos 0) 0 (λ j _ _. divides-dvd 1 (natAbs (getD l j (pos 0))) .1 (one-dvd (natAbs (getD l j (pos 0))))))
+
 -- ---- a row
 
 -- The n numbers of a polynomial at place e.
@@ -98,6 +103,21 @@ module _ (g h : Polynomial) (t u : List ℤ) where
   pub sum-at : (e n : ℕ) → e < partCount → n ≡ coefficientCount
       → getD (combinations partCount g h t u) e [] ≡ sumOf g (partAt n t e) h (partAt n u e)
   sum-at e n l w = combination-at partCount g h t u e l ∙ ap (λ k. sumOf g (partAt k t e) h (partAt k u e)) (sym w)
+
+-- Whether d divides all numbers depends on their content alone.
+content-exact : (d : ℕ) (l : List ℤ) → T (dividesAll d l) ↔ (d ∣ content l)
+unfolding dividesAll
+content-exact d l = (λ t. divides-content d l (dividesAll-all d l t), back)
+  where
+    back : d ∣ content l → T (dividesAll d l)
+    back h = every-from-all (λ a. divides d (natAbs a)) l (pos 0) 0 (λ k _ _. divides-dvd d _ .1 (dividesAll-of-content d l h k))
+
+pub cut-exact : (d : ℕ) (r : Row) → lowDegrees r ≡ true → dividesAll d (coefficientsOf (cut r)) ≡ dividesAll d (coefficientsOf r)
+cut-exact d r low =
+    let same = content-cut r (true-T _ low) in
+    same-test (dividesAll d (coefficientsOf (cut r))) (dividesAll d (coefficientsOf r))
+    (λ t. content-exact d (coefficientsOf r) .1 (subst (λ n. d ∣ n) same (content-exact d (coefficientsOf (cut r)) .0 t)))
+    (λ t. content-exact d (coefficientsOf (cut r)) .1 (subst (λ n. d ∣ n) (sym same) (content-exact d (coefficientsOf r) .0 t)))
 
 -- ---- the division
 
@@ -124,10 +144,6 @@ module _ (g h : Polynomial) (t u : List ℤ) (some : 0 < length g) (long : lengt
 
   quotient-shaped : StoreRow (cut quotient)
   quotient-shaped = StoreRow-cut g h t u some long (divideBy d) (length-divideBy d)
-
-  pub quotient-numbers : rowOf (divideBy d (coefficientsOf (cut (combine g h (rowOf t) (rowOf u))))) ≡ cut quotient
-  quotient-numbers =
-      ap rowOf (sym (cut-divided d (combine g h (rowOf t) (rowOf u)))) ∙ rowOf-coefficientsOf (cut quotient) quotient-shaped
 
   pub divided-storable : Storable (limitDegrees quotient)
   divided-storable = degrees-storable quotient (λ r e. held (cut quotient) r quotient-shaped (degrees-within quotient r e))

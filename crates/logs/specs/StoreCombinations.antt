@@ -2,15 +2,19 @@
 --
 -- Main definitions
 --   newRow d g h target pivot   the new row with its limits, from the numbers of both rows
+--   judged d g h target pivot   the refusal by the integer and the new row: 13, 7, 8, or 0 for none
+--   Made x n l                  n is the refusal of the new row x, and l its numbers where there is none
 --
 -- Main statements
+--   judged-exact, judged-inexact, exact-judged, inexact-judged   the refusal tells whether the integer divides every coefficient
 --   absent-combined, combine-allowed   the condition, where a row is not present, and where both are
 --   combine-many               too many relations
 --   combine-stepped            the new row, after the relations have been listed
 use Prim.Native.Nat.{ℕ, _+_, _≤_, _<_}
 use native.Mathlib.Omega.{arith}
 use mathlib.Core.Path.{_≡_, refl, sym, _∙_, ap, ap₂}
-use mathlib.Core.Bool.{Bool, false, _&&_, not, cond}
+use mathlib.Core.Logic.{_≢_}
+use mathlib.Core.Bool.{Bool, true, false, _&&_, not, cond}
 use mathlib.Core.List.{List, _++_}
 use borrow.Author.Tests.{le-leb, lt-leb}
 use lib.Dec.{ltb, leb, eqb}
@@ -19,10 +23,10 @@ use lib.ListN.{length, take, length-append, length-map}
 use Rattle.algebra.specs.Gcd.{divideBy}
 use Rattle.algebra.specs.Polynomials.{Polynomial, isZero}
 use Rattle.algebra.specs.Roots.{roots}
-use Rattle.rules.specs.Rows.{mapRow, coefficientsOf, combine}
+use Rattle.rules.specs.Rows.{Row, mapRow, coefficientsOf, combine, lowDegrees, smallRow, cut}
 use Rattle.rules.specs.Stores.{rowOf, rowsOf, relationsOf}
 use Rattle.rules.specs.Layout.{length-relationsOf}
-use Rattle.rules.specs.Elimination.{State, leading, refused, Limited, limitDegrees, rowAt, putLimited}
+use Rattle.rules.specs.Elimination.{State, leading, refused, Limited, within, beyond, limitDegrees, limitCoefficients, rowAt, putLimited}
 use Rattle.rules.specs.Elimination.{listing, listRelations, rootRelations}
 use Rattle.sides.specs.Relations.{Relisted, length-listing}
 use Rattle.working_rows.specs.Worked.{refusalOf, numbersOf}
@@ -36,6 +40,57 @@ use Rattle.logs.specs.StoreChanges.{Stepped, stepped-same, two-rows-at, 
 
 abbrev pub newRow : ℕ → Polynomial → Polynomial → List ℤ → List ℤ → Limited
 newRow d g h target pivot = limitDegrees (mapRow (divideBy d) (combine g h (rowOf target) (rowOf pivot)))
+
+pub record Made (x : Limited) (n : ℕ) (l : List ℤ) : Type 0 where
+  pub refusal-is : n ≡ refusalOf x
+  pub numbers-are : n ≡ 0 → l ≡ numbersOf x
+
+-- ---- the integer divides every coefficient, and the new row is within the limits
+
+unfoldable pub judged : ℕ → Polynomial → Polynomial → List ℤ → List ℤ → ℕ
+unfolding dividesAll coefficientsOf combine rowOf refusalOf limitDegrees mapRow divideBy
+judged d g h target pivot =
+    cond (dividesAll d (coefficientsOf (combine g h (rowOf target) (rowOf pivot)))) (refusalOf (newRow d g h target pivot)) 13
+
+-- No limit of a new row has the number 13.
+limited-not : (q : Row) → refusalOf (limitDegrees q) ≢ 13
+unfolding refusalOf limitDegrees limitCoefficients
+limited-not q = cases (lowDegrees q) (smallRow (cut q))
+  where
+    cases : (t u : Bool) → refusalOf (cond t (cond u (within (cut q)) (beyond 8)) (beyond 7)) ≢ 13
+    cases true true e = omega (arith, e)
+    cases true false e = omega (arith, e)
+    cases false u e = omega (arith, e)
+
+module _ (d : ℕ) (g h : Polynomial) (target pivot : List ℤ) where
+  abbrev exact : Bool
+  exact = dividesAll d (coefficientsOf (combine g h (rowOf target) (rowOf pivot)))
+
+  abbrev limit : ℕ
+  limit = refusalOf (newRow d g h target pivot)
+
+  pub judged-exact : exact ≡ true → judged d g h target pivot ≡ limit
+  unfolding judged
+  judged-exact e = ap (λ t. cond t limit 13) e
+
+  pub judged-inexact : exact ≡ false → judged d g h target pivot ≡ 13
+  unfolding judged
+  judged-inexact e = ap (λ t. cond t limit 13) e
+
+  pub inexact-judged : judged d g h target pivot ≡ 13 → exact ≡ false
+  unfolding judged
+  inexact-judged e = cases exact e
+    where
+      cases : (t : Bool) → cond t limit 13 ≡ 13 → t ≡ false
+      cases true e = absurd (limited-not (mapRow (divideBy d) (combine g h (rowOf target) (rowOf pivot))) e)
+      cases false e = refl
+
+  pub exact-judged : judged d g h target pivot ≢ 13 → exact ≡ true
+  exact-judged n = cases exact judged-inexact
+    where
+      cases : (t : Bool) → (t ≡ false → judged d g h target pivot ≡ 13) → t ≡ true
+      cases true e = refl
+      cases false e = absurd (n (e refl))
 
 module _ {rows relations : List ℤ} {p : Progress} (ready : Ready rows relations p) (none : p .settled ≡ 0) (i j d : ℕ)
     (g h : Polynomial) where

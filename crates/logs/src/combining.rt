@@ -3,29 +3,27 @@ use polynomials::lengths::COEFFICIENTS;
 use reduction::step::Outcome;
 use reduction::step::Progress;
 use sides::Side;
-use stores::lengths::ENTRIES;
 use stores::lengths::ROW;
-use working_rows::WorkingRow;
-use working_rows::limits::Worked;
 ghost use mathlib.Core.Path.{_≡_};
-ghost use mathlib.Core.Bool.{not};
-ghost use Prim.Native.Nat.{ℕ, _+_, _*_, _≤_, _<_};
+ghost use mathlib.Core.Bool.{true};
+ghost use mathlib.Core.List.{List};
+ghost use Prim.Native.Nat.{ℕ, _^_, _≤_, _<_};
 ghost use lib.Dec.{T};
-ghost use lib.IntN.{pos, natAbs};
-ghost use lib.Signed.{ltZ};
-ghost use lib.ListN.{length};
-ghost use Rattle.algebra.specs.Polynomials.{isZero};
+ghost use lib.IntN.{ℤ, pos, natAbs};
+ghost use lib.Signed.{ltZ, quotZ, remZ};
+ghost use lib.ListN.{length, replicate};
+ghost use Rattle.algebra.specs.Gcd.{divideBy};
 ghost use Rattle.lists.specs.Tests.{every};
 ghost use Rattle.rules.specs.Limits.{rowLength, small, coefficientCount};
 ghost use Rattle.rules.specs.Rows.{coefficientsOf};
-ghost use Rattle.working_rows.specs.Working.{numbersHeld, Full};
-ghost use Rattle.working_rows.specs.Worked.{refusalOf, workedRow};
+ghost use Rattle.polynomials.specs.Content.{Below};
+ghost use Rattle.working_rows.specs.Worked.{numbersOf};
 ghost use Rattle.reduction.specs.Progress.{Ready, stateOf};
 ghost use Rattle.reduction.specs.StoreExchange.{numbersAt};
 ghost use Rattle.logs.specs.Logs.{combining, combineRows, changed, dividesAll};
 ghost use Rattle.logs.specs.Divisions.{sumOf, combined};
 ghost use Rattle.logs.specs.StoreChanges.{Stepped};
-ghost use Rattle.logs.specs.StoreCombinations.{newRow};
+ghost use Rattle.logs.specs.StoreCombinations.{newRow, judged, Made};
 
 // The coefficients of a product of two polynomials.
 const PRODUCT: usize = COEFFICIENTS + COEFFICIENTS - 1;
@@ -76,63 +74,101 @@ fn divides_combination(d: i64, g: &[i64], h: &[i64], target: &[i64], pivot: &[i6
     true
 }
 
-// The combination divided by d, which divides it: a degree past 15 is refused with 7; if there is none, a coefficient past ±C with 8
-// (SCOPE 13.22, 13.26). The division does not change a degree, so the degrees are looked at first.
-fn divided_row(g: &[i64], h: &[i64], d: i64, target: WorkingRow, pivot: WorkingRow) -> Worked
-    requires { ⌜
-        (length (now g) ≡ coefficientCount) × T (every small (now g)) × (length (now h) ≡ coefficientCount) × T (every small (now h)) ⌝ }
-    requires { ⌜ Full target × Full pivot × T (every small (numbersHeld target)) × T (every small (numbersHeld pivot)) ⌝ }
-    requires { ⌜ T (ltZ (pos 0) d)
-        × T (dividesAll (natAbs d) (coefficientsOf (combined (now g) (now h) (numbersHeld target) (numbersHeld pivot)))) ⌝ }
-    ensures { λ r. ⌜ r .refusal
-        ≡ refusalOf (newRow (natAbs d) (now (g .entry)) (now (h .entry)) (numbersHeld target) (numbersHeld pivot)) ⌝ }
-    ensures { λ r. ⌜ r .row
-        ≡ workedRow (newRow (natAbs d) (now (g .entry)) (now (h .entry)) (numbersHeld target) (numbersHeld pivot)) ⌝ }
+// Zero costs no division.
+fn quotient(a: i64, d: i64) -> i64
+    requires { ⌜ (natAbs a < 2 ^ 63) × (0 < natAbs d) ⌝ }
+    ensures { λ r. ⌜ r ≡ quotZ a d ⌝ }
 {
-    let a = target.entries;
-    let b = pivot.entries;
-    let mut entries = [0i64; ENTRIES];
-    if combinations::low_combination(&mut entries, g, h, &a[..], &b[..]) {
-        return working_rows::limits::broken(7);
+    if a == 0 {
+        return 0;
     }
-    let s = target.right;
-    let t = pivot.right;
-    let mut right = [0i64; COEFFICIENTS];
-    if combinations::low_combination(&mut right, g, h, &s[..], &t[..]) {
-        return working_rows::limits::broken(7);
-    }
-    polynomials::content::divide_in_place(&mut entries, d);
-    polynomials::content::divide_in_place(&mut right, d);
-    working_rows::limits::limited(entries, right)
+    integers::quotient(a, d)
 }
 
-// Row i, as it is, is listed at the roots of g, ascending; more than 16 relations are refused with 9. Then the new row takes its place
-// (SCOPE 13.26, 13.27).
+fn remainder(a: i64, d: i64) -> i64
+    requires { ⌜ (natAbs a < 2 ^ 63) × (0 < natAbs d) ⌝ }
+    ensures { λ r. ⌜ r ≡ remZ a d ⌝ }
+{
+    if a == 0 {
+        return 0;
+    }
+    integers::remainder(a, d)
+}
+
+// Every number divided by d, where it stands, up to the first that d does not divide: does d divide them all? (SCOPE 13.22) By 1, the most
+// common integer, the numbers stay.
+fn divide_exactly(numbers: &mut [i64], d: i64) -> bool
+    requires { ⌜ Below (2 ^ 63) (now numbers) × T (ltZ (pos 0) d) ⌝ }
+    ensures { λ r. ⌜ r ≡ dividesAll (natAbs d) (now (numbers .entry)) ⌝ }
+    ensures { λ r. ⌜ (r ≡ true → now (numbers .exit) ≡ divideBy (natAbs d) (now (numbers .entry))) ⌝ }
+{
+    if d == 1 {
+        return true;
+    }
+    let mut k = 0;
+    while k < numbers.len() {
+        let a = numbers[k];
+        if remainder(a, d) != 0 {
+            return false;
+        }
+        numbers[k] = quotient(a, d);
+        k += 1;
+    }
+    true
+}
+
+// The numbers of (g × target + h × pivot) / d, over zeros. If d does not divide every coefficient, 13; a degree past 15 is refused with 7; if
+// there is none, a coefficient past ±C with 8 (SCOPE 13.22, 13.26). The division does not change a degree, so the degrees are looked at
+// first, and where none is past 15, the numbers are all coefficients.
+fn put_divided(place: &mut [i64], d: i64, g: &[i64], h: &[i64], target: &[i64], pivot: &[i64]) -> u8
+    requires { ⌜ T (ltZ (pos 0) d) ⌝ }
+    requires { ⌜
+        (length (now g) ≡ coefficientCount) × T (every small (now g)) × (length (now h) ≡ coefficientCount) × T (every small (now h)) ⌝ }
+    requires { ⌜
+        (length (now target) ≡ rowLength) × (length (now pivot) ≡ rowLength) × T (every small (now target)) × T (every small (now pivot))
+        × (now place ≡ replicate rowLength (pos 0)) ⌝ }
+    ensures { λ r. ⌜ r ≡ judged (natAbs d) (now (g .entry)) (now (h .entry)) (now (target .entry)) (now (pivot .entry)) ⌝ }
+    ensures { λ r. ⌜ (r ≡ 0 → now (place .exit)
+        ≡ numbersOf (newRow (natAbs d) (now (g .entry)) (now (h .entry)) (now (target .entry)) (now (pivot .entry)))) ⌝ }
+{
+    if combinations::low_combination(place, g, h, target, pivot) {
+        if divides_combination(d, g, h, target, pivot) {
+            return 7;
+        }
+        return 13;
+    }
+    if !divide_exactly(place, d) {
+        return 13;
+    }
+    if !stores::checks::all_small(place) {
+        return 8;
+    }
+    0
+}
+
+// Row i, as it is, is listed at the roots of g, ascending; more than 16 relations are refused with 9. Then the new row takes its place, or
+// the limit that it breaks is the refusal (SCOPE 13.26, 13.27).
 fn combine_allowed(
     rows: &mut [i64],
     relations: &mut [i64],
     i: usize,
-    j: usize,
-    d: i64,
     g: &[i64],
-    h: &[i64],
+    refusal: u8,
+    numbers: &[i64],
     p: Progress,
 ) -> Outcome
-    requires { ⌜ Ready (now rows) (now relations) p × (p .settled ≡ 0) × (i < p .rows) × (j < p .rows) ⌝ }
-    requires { ⌜
-        (length (now g) ≡ coefficientCount) × T (every small (now g)) × (length (now h) ≡ coefficientCount) × T (every small (now h)) ⌝ }
-    requires { ⌜ T (ltZ (pos 0) d)
-        × T (dividesAll (natAbs d) (coefficientsOf (combined (now g) (now h) (numbersAt (now rows) i) (numbersAt (now rows) j)))) ⌝ }
-    ensures { λ r. ⌜ Stepped (now (rows .entry)) (now (relations .entry)) (now (rows .exit)) (now (relations .exit)) p r
-        (combineRows (stateOf (now (rows .entry)) (now (relations .entry)) p) i j (natAbs d) (now (g .entry)) (now (h .entry))) ⌝ }
+    requires { ⌜ Ready (now rows) (now relations) p × (p .settled ≡ 0) × (i < p .rows) ⌝ }
+    requires { ⌜ (length (now g) ≡ coefficientCount) × T (every small (now g)) × (length (now numbers) ≡ rowLength) ⌝ }
+    ensures { λ r. ⌜ ((j d : ℕ) (h : List ℤ) → j < p .rows
+        → Made (newRow d (now (g .entry)) h (numbersAt (now (rows .entry)) i) (numbersAt (now (rows .entry)) j)) refusal (now (numbers .entry))
+        → Stepped (now (rows .entry)) (now (relations .entry)) (now (rows .exit)) (now (relations .exit)) p r
+        (combineRows (stateOf (now (rows .entry)) (now (relations .entry)) p) i j d (now (g .entry)) h)) ⌝ }
 {
     let found = roots::roots(g);
     let count = p.count + found.count;
     if 16 < count {
         return reduction::step::answer(9, p);
     }
-    let target = working_rows::stored::load(rows, i * ROW);
-    let pivot = working_rows::stored::load(rows, j * ROW);
     let row = stores::rows::row_at(rows, i * ROW);
     sides::listing::list_roots(relations, p.count, found, Side::Leading, row);
     let order = p.order;
@@ -143,21 +179,11 @@ fn combine_allowed(
         count,
         shifts: p.shifts,
     };
-    reduction::step::put_limited(rows, i, divided_row(g, h, d, target, pivot), next)
-}
-
-// Does d divide the combination of rows i and j? (SCOPE 13.22)
-fn divides_rows(rows: &[i64], i: usize, j: usize, d: i64, g: &[i64], h: &[i64]) -> bool
-    requires { ⌜ (0 < natAbs d) × (i * rowLength + rowLength ≤ length (now rows)) × (j * rowLength + rowLength ≤ length (now rows)) ⌝ }
-    requires { ⌜ T (every small (numbersAt (now rows) i)) × T (every small (numbersAt (now rows) j)) ⌝ }
-    requires { ⌜
-        (length (now g) ≡ coefficientCount) × T (every small (now g)) × (length (now h) ≡ coefficientCount) × T (every small (now h)) ⌝ }
-    ensures { λ r. ⌜ r ≡ dividesAll (natAbs d) (coefficientsOf (combined (now (g .entry)) (now (h .entry))
-        (numbersAt (now (rows .entry)) i) (numbersAt (now (rows .entry)) j))) ⌝ }
-{
-    let target = stores::rows::row_at(rows, i * ROW);
-    let pivot = stores::rows::row_at(rows, j * ROW);
-    divides_combination(d, g, h, target, pivot)
+    if refusal != 0 {
+        return reduction::step::answer(refusal, next);
+    }
+    stores::rows::save(rows, i * ROW, numbers);
+    reduction::step::answer(0, next)
 }
 
 // Row i becomes (g × row i + h × row j) / d, with g not zero and d a divisor of all of it (SCOPE 13.22).
@@ -184,8 +210,12 @@ pub(crate) fn combine_rows(
     if polynomials::content::is_zero(g) {
         return reduction::step::answer(13, p);
     }
-    if !divides_rows(rows, i, j, d, g, h) {
+    let target = stores::rows::row_at(rows, i * ROW);
+    let pivot = stores::rows::row_at(rows, j * ROW);
+    let mut new = [0i64; ROW];
+    let refusal = put_divided(&mut new, d, g, h, target, pivot);
+    if refusal == 13 {
         return reduction::step::answer(13, p);
     }
-    combine_allowed(rows, relations, i, j, d, g, h, p)
+    combine_allowed(rows, relations, i, g, refusal, &new[..], p)
 }
