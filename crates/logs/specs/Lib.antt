@@ -14,6 +14,7 @@ pub mod StoreChanges
 pub mod LoweredRows
 pub mod Divisions
 pub mod StoreCombinations
+pub mod Contents
 pub mod Given
 pub mod Replays
 pub mod Endings

@@ -3,7 +3,6 @@ use polynomials::lengths::COEFFICIENTS;
 use reduction::step::Progress;
 use stores::lengths::COLUMNS;
 use stores::lengths::ROW;
-use working_rows::WorkingRow;
 ghost use mathlib.Core.Path.{_≡_};
 ghost use mathlib.Core.Bool.{not};
 ghost use mathlib.Core.List.{_∷_, _++_};
@@ -14,12 +13,14 @@ ghost use lib.ListN.{length};
 ghost use Rattle.algebra.specs.Polynomials.{isZero};
 ghost use Rattle.lists.specs.Tests.{every};
 ghost use Rattle.rules.specs.Calls.{zeros};
-ghost use Rattle.rules.specs.Limits.{coefficientCount, columnCount, mostEquations, small};
+ghost use Rattle.rules.specs.Limits.{coefficientCount, columnCount, mostEquations, rowLength, small};
 ghost use Rattle.rules.specs.Rows.{entry};
+ghost use Rattle.rules.specs.Rows as Rows;
 ghost use Rattle.rules.specs.Stores.{rowOf};
-ghost use Rattle.working_rows.specs.Working.{numbersHeld, Full};
-ghost use Rattle.reduction.specs.StoreExchange.{narrowed, Loaded};
+ghost use Rattle.reduction.specs.StoreExchange.{numbersAt, narrowed};
 ghost use Rattle.reduction.specs.StepLaws.{metEntries};
+ghost use Rattle.logs.specs.Divisions.{sumOf, combined};
+ghost use Rattle.logs.specs.Contents.{PartContent, ContentOf};
 ghost use Rattle.logs.specs.OwnLines.{oneLine, CombinationLine, Readable, Eliminated, StepLines};
 
 // The kind, i, j and the integer (SCOPE 13.11).
@@ -36,6 +37,9 @@ const COMBINATION: usize = 2;
 const SHIFT: usize = 3;
 
 const DROP: usize = 5;
+
+// The polynomials of a row: the right side is the last.
+const PARTS: usize = ROW / COEFFICIENTS;
 
 // No step of a log, one or two. Past so many the numbers say nothing.
 pub(crate) struct Lines {
@@ -80,34 +84,78 @@ fn one(first: [i64; STEP]) -> Lines
     }
 }
 
-// The combination of rows i and j with the entries in column c: the integer is its content, 1 for a zero result (SCOPE 13.51).
-fn combination(i: usize, j: usize, c: usize, target: WorkingRow, pivot: WorkingRow) -> [i64; STEP]
-    requires { ⌜ (i < mostEquations) × (j < mostEquations) × (c < columnCount) ⌝ }
-    requires { ⌜ Full target × Full pivot × T (every small (numbersHeld target)) × T (every small (numbersHeld pivot)) ⌝ }
-    requires { ⌜ T (not (isZero (entry (rowOf (numbersHeld pivot)) c ++ entry (rowOf (numbersHeld target)) c))) ⌝ }
-    ensures { λ r. ⌜ CombinationLine i j c (rowOf (numbersHeld target)) (rowOf (numbersHeld pivot)) r ⌝ }
+// The content of one polynomial g·p + h·q of a combination. If its degree is past 15, which is refused, the content is not asked for.
+fn part_content(g: &[i64], h: &[i64], p: &[i64], q: &[i64]) -> u64
+    requires { ⌜
+        (length (now g) ≡ coefficientCount) × T (every small (now g)) × (length (now h) ≡ coefficientCount) × T (every small (now h)) ⌝ }
+    requires { ⌜
+        (length (now p) ≡ coefficientCount) × (length (now q) ≡ coefficientCount) × T (every small (now p)) × T (every small (now q)) ⌝ }
+    ensures { λ r. ⌜ PartContent (sumOf (now (g .entry)) (now (p .entry)) (now (h .entry)) (now (q .entry))) r ⌝ }
 {
-    let a = target.entries;
-    let b = pivot.entries;
-    let x = reduction::step::multipliers_at(&a[..], &b[..], c);
+    let mut low = [0i64; COEFFICIENTS];
+    if combinations::low_combination(&mut low, g, h, p, q) {
+        return 1;
+    }
+    polynomials::content::content(&low[..])
+}
+
+// What a combination is divided by (SCOPE 2.42), if no degree is past 15. Once the greatest common divisor is 1, the polynomials that are left
+// do not matter.
+fn combined_content(g: &[i64], h: &[i64], target: &[i64], pivot: &[i64]) -> u64
+    requires { ⌜
+        (length (now g) ≡ coefficientCount) × T (every small (now g)) × (length (now h) ≡ coefficientCount) × T (every small (now h)) ⌝ }
+    requires { ⌜
+        (length (now target) ≡ rowLength) × (length (now pivot) ≡ rowLength)
+        × T (every small (now target)) × T (every small (now pivot)) ⌝ }
+    ensures { λ r. ⌜ ContentOf
+        (combined (now (g .entry)) (now (h .entry)) (now (target .entry)) (now (pivot .entry))) r ⌝ }
+{
+    let mut content = 0;
+    let mut e = 0;
+    while e < PARTS {
+        let from = e * COEFFICIENTS;
+        let to = from + COEFFICIENTS;
+        let part = part_content(g, h, &target[from..to], &pivot[from..to]);
+        content = integers::gcd(part, content);
+        if content == 1 {
+            return 1;
+        }
+        e += 1;
+    }
+    content
+}
+
+// The combination of rows i and j with the entries in column c: the integer is its content, 1 for a zero result (SCOPE 13.51).
+fn combination(i: usize, j: usize, c: usize, target: &[i64], pivot: &[i64]) -> [i64; STEP]
+    requires { ⌜ (i < mostEquations) × (j < mostEquations) × (c < columnCount) ⌝ }
+    requires { ⌜
+        (length (now target) ≡ rowLength) × (length (now pivot) ≡ rowLength)
+        × T (every small (now target)) × T (every small (now pivot)) ⌝ }
+    requires { ⌜ T (not (isZero (entry (rowOf (now pivot)) c ++ entry (rowOf (now target)) c))) ⌝ }
+    ensures { λ r. ⌜ CombinationLine i j c (rowOf (now (target .entry))) (rowOf (now (pivot .entry))) r ⌝ }
+{
+    let x = reduction::step::multipliers_at(target, pivot, c);
     let g = x.g;
     let h = x.h;
-    let content = combinations::combined_content(&g[..], &h[..], target, pivot);
+    let content = combined_content(&g[..], &h[..], target, pivot);
     let divisor = if content == 0 { 1 } else { content };
     combining(i + 1, j + 1, divisor, &g[..], &h[..])
 }
 
 // The exchange of rule 2, if there is one, and the combination of the row in turn with settled row j (SCOPE 13.51).
-fn elimination(rows: &[i64], j: usize, row: WorkingRow, p: Progress) -> Lines
-    requires { ⌜ Readable (now rows) p × (p .settled < p .rows) × (j < p .settled) × Loaded (now rows) (p .settled) row ⌝ }
+fn elimination(rows: &[i64], j: usize, width: usize, p: Progress) -> Lines
+    requires { ⌜
+        Readable (now rows) p × (p .settled < p .rows) × (j < p .settled)
+        × (width ≡ Rows.width (rowOf (numbersAt (now rows) (p .settled)))) ⌝ }
     requires { ⌜ T (not (isZero (metEntries (narrowed (now rows) (p .settled) j) p j))) ⌝ }
     ensures { λ r. ⌜ Eliminated (now (rows .entry)) p j r ⌝ }
 {
     let i = p.settled;
     let order = p.order;
     let c = order[j];
-    let other = working_rows::stored::load(rows, j * ROW);
-    if row.width < other.width {
+    let row = stores::rows::row_at(rows, i * ROW);
+    let other = stores::rows::row_at(rows, j * ROW);
+    if width < reduction::looking::width_at(rows, j) {
         let first = plain(EXCHANGE, i + 1, j + 1);
         let second = combination(i, j, c, other, row);
         return Lines {
@@ -125,17 +173,16 @@ pub(crate) fn step_lines(rows: &[i64], p: Progress) -> Lines
     ensures { λ r. ⌜ StepLines (now (rows .entry)) p r ⌝ }
 {
     let i = p.settled;
-    let row = working_rows::stored::load(rows, i * ROW);
-    if row.width == 0 {
+    let width = reduction::looking::width_at(rows, i);
+    if width == 0 {
         return one(plain(DROP, i + 1, 0));
     }
-    let entries = row.entries;
     let order = p.order;
-    let j = working_rows::entries::first_met(&entries[..], order, i);
+    let j = reduction::looking::met_at(rows, i, order, i);
     if j < i {
-        return elimination(rows, j, row, p);
+        return elimination(rows, j, width, p);
     }
-    if working_rows::entries::first_column(&entries[..]) < COLUMNS {
+    if reduction::looking::column_at(rows, i) < COLUMNS {
         return Lines {
             count: 0,
             first: [0; STEP],

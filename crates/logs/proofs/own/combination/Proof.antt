@@ -2,92 +2,65 @@
 -- Assumes nothing.
 use mathlib.Core.Path.{_≡_, sym, _∙_, ap, ap₂, subst, subst₂}
 use mathlib.Core.Logic.{⊎-elim}
-use mathlib.Core.Bool.{true, not}
-use mathlib.Core.List.{_∷_, _++_}
+use mathlib.Core.Bool.{true}
+use mathlib.Core.List.{List, _∷_, _++_}
 use Prim.Native.Nat.{ℕ, suc, _+_, _^_, _<_}
 use native.Mathlib.Numerals.{add-one}
-use native.Mathlib.Nat.{le-of-eq}
 use native.Mathlib.Omega.{arith}
 use borrow.Author.Needs.{needs}
+use denote.Ref.{now}
 use lib.Dec.{T}
-use lib.IntN.{pos}
+use lib.IntN.{ℤ, pos}
 use lib.ListN.{length, length-append}
-use Rattle.algebra.specs.Gcd.{content}
-use Rattle.algebra.specs.Polynomials.{isZero}
 use Rattle.lists.specs.Tests.{every}
-use Rattle.rules.specs.Limits.{small}
+use Rattle.rules.specs.Limits.{rowLength, small}
 use Rattle.rules.specs.Rows.{Row, entry, combine, lowDegrees}
 use Rattle.rules.specs.Stores.{rowOf}
 use Rattle.rules.specs.Elimination.{Multipliers, multipliers}
-use Rattle.working_rows.specs.declared.WorkingRow.{WorkingRow}
-use Rattle.working_rows.specs.Working.{numbersHeld, Full, length-held, small-apart, entry-held}
 use Rattle.reduction.specs.MultiplierSizes.{Sixteen, multipliers-fit}
 use Rattle.reduction.specs.StoreExchange.{length-entry, small-entry}
-use Rattle.combinations.specs.LowRows.{ContentOf}
 use Rattle.logs.specs.Own.{changeNumbers, divisorOf}
 use Rattle.logs.specs.LineLaws.{divisor-zero, divisor-some}
+use Rattle.logs.specs.Contents.{ContentOf}
 use Rattle.logs.proofs.own.combination.Statement.{statement}
 use Rattle.logs.proofs.own.combination.Tie as tie
 
 -- the two rows
 module _ (c : tie.Start) where
-  abbrev target : WorkingRow
-  target = c .args .target
+  abbrev target : List ℤ
+  target = now (c .args .target)
 
-  abbrev pivot : WorkingRow
-  pivot = c .args .pivot
+  abbrev pivot : List ℤ
+  pivot = now (c .args .pivot)
 
   abbrev column : ℕ
   column = c .args .c
 
-  full-target : Full target
-  full-target = c .pre .1 .0 .0
-
-  full-pivot : Full pivot
-  full-pivot = c .pre .1 .0 .1
-
-  small-target : T (every small (numbersHeld target))
-  small-target = c .pre .1 .0 .2
-
-  small-pivot : T (every small (numbersHeld pivot))
-  small-pivot = c .pre .1 .0 .3
-
-  entry-is : (w : WorkingRow) → Full w → entry (rowOf (w .entries)) ≡ entry (rowOf (numbersHeld w))
-  entry-is w f = sym (entry-held (w .entries) (w .right) (f .entries-long))
-
-  fits-entry : (w : WorkingRow) → Full w → T (every small (numbersHeld w)) → Sixteen (entry (rowOf (numbersHeld w)) column)
-  fits-entry w f s = (
-    length-entry (numbersHeld w) column (omega (arith, length-held w f)) (c .pre .0 .2),
-    small-entry (numbersHeld w) column s (c .pre .0 .2),
-  )
+  fits-entry : (l : List ℤ) → length l ≡ rowLength → T (every small l) → Sixteen (entry (rowOf l) column)
+  fits-entry l e s = (length-entry l column (omega (arith, e)) (c .pre .0 .2), small-entry l column s (c .pre .0 .2))
 
   abbrev x : Multipliers
-  x = multipliers (entry (rowOf (numbersHeld pivot)) column) (entry (rowOf (numbersHeld target)) column)
+  x = multipliers (entry (rowOf pivot) column) (entry (rowOf target) column)
 
   fits : Sixteen (x .g) × Sixteen (x .h)
   fits =
-      multipliers-fit (entry (rowOf (numbersHeld pivot)) column) (entry (rowOf (numbersHeld target)) column)
-      (fits-entry pivot full-pivot small-pivot) (fits-entry target full-target small-target)
+      let rows = c .pre .1 .0 in
+      multipliers-fit (entry (rowOf pivot) column) (entry (rowOf target) column) (fits-entry pivot (rows .1) (rows .3))
+      (fits-entry target (rows .0) (rows .2))
 
   abbrev result : Row
-  result = combine (x .g) (x .h) (rowOf (numbersHeld target)) (rowOf (numbersHeld pivot))
+  result = combine (x .g) (x .h) (rowOf target) (rowOf pivot)
 
 -- the multipliers
 module _ (c : tie.After-multipliers-at) where
   abbrev start : tie.Start
-  start = c .before .before .before .before .before
-
-  multipliers-are : multipliers (entry (rowOf (pivot start .entries)) (column start)) (entry (rowOf (target start .entries)) (column start))
-      ≡ x start
-  multipliers-are =
-      ap₂ (λ p q. multipliers (p (column start)) (q (column start))) (entry-is start (pivot start) (full-pivot start))
-      (entry-is start (target start) (full-target start))
+  start = c .before
 
   g-is : c .multipliers-at .result .g ≡ x start .g
-  g-is = ap (λ y. y .g) (c .multipliers-at .ensures) ∙ ap (λ y. y .g) multipliers-are
+  g-is = ap (λ y. y .g) (c .multipliers-at .ensures)
 
   h-is : c .multipliers-at .result .h ≡ x start .h
-  h-is = ap (λ y. y .h) (c .multipliers-at .ensures) ∙ ap (λ y. y .h) multipliers-are
+  h-is = ap (λ y. y .h) (c .multipliers-at .ensures)
 
   g-fits : Sixteen (c .multipliers-at .result .g)
   g-fits = subst Sixteen (sym g-is) (fits start .0)
@@ -105,8 +78,8 @@ module _ (c : tie.After-combined-content) where
 
   found : ContentOf (result base) (c .combined-content .result)
   found =
-      subst₂ (λ g h. ContentOf (combine g h (rowOf (numbersHeld (target base))) (rowOf (numbersHeld (pivot base))))
-      (c .combined-content .result)) (g-is multiplied) (h-is multiplied) (c .combined-content .ensures)
+      subst₂ (λ g h. ContentOf (combine g h (rowOf (target base)) (rowOf (pivot base))) (c .combined-content .result)) (g-is multiplied)
+      (h-is multiplied) (c .combined-content .ensures)
 
 -- the integer
 module _ (c : tie.Joined1) where
@@ -120,21 +93,11 @@ module _ (c : tie.Joined1) where
       ⊎-elim (λ w. w .1 ∙ sym (divisor-zero r (sym same ∙ w .0 .taken)))
       (λ w. w .1 ∙ same ∙ sym (divisor-some r (λ e. w .0 .left (same ∙ e)))) (c .if1 .came)
 
-slice-aggregate-multipliers-at : tie.Need-slice-aggregate-multipliers-at
-slice-aggregate-multipliers-at c = search needs
-
-slice-aggregate-multipliers-at-2 : tie.Need-slice-aggregate-multipliers-at-2
-slice-aggregate-multipliers-at-2 c = search needs
-
 multipliers-at-requires : tie.Need-multipliers-at-requires
 multipliers-at-requires c κs =
-    let b = c .before .before .before .before in (
-      (b .pre .0 .2, le-of-eq (sym (full-target b .entries-long)), le-of-eq (sym (full-pivot b .entries-long))),
-      (
-        (small-apart (target b) (small-target b) .0, small-apart (pivot b) (small-pivot b) .0),
-        subst₂ (λ u v. T (not (isZero (u (column b) ++ v (column b))))) (sym (entry-is b (pivot b) (full-pivot b)))
-            (sym (entry-is b (target b) (full-target b))) (b .pre .1 .1),
-      ),
+    let rows = c .pre .1 .0 in (
+      (c .pre .0 .2, omega (arith, rows .0), omega (arith, rows .1)),
+      ((rows .2, rows .3), c .pre .1 .1),
     )
 
 slice-aggregate-combined-content : tie.Need-slice-aggregate-combined-content
@@ -146,8 +109,7 @@ slice-aggregate-combined-content-2 c = search needs
 combined-content-requires : tie.Need-combined-content-requires
 combined-content-requires c κs =
     let e = c .before .before .before .before in
-    let b = start e in
-    ((g-fits e .0, g-fits e .1, h-fits e .0, h-fits e .1), (full-target b, full-pivot b, small-target b, small-pivot b))
+    ((g-fits e .0, g-fits e .1, h-fits e .0, h-fits e .1), start e .pre .1 .0)
 
 add-combining : tie.Need-add-combining
 add-combining c = search needs
@@ -190,8 +152,6 @@ pub combination-spec : {M : Type 1} → statement M
 combination-spec =
     tie.close
     (tie.spec
-    slice-aggregate-multipliers-at
-    slice-aggregate-multipliers-at-2
     multipliers-at-requires
     slice-aggregate-combined-content
     slice-aggregate-combined-content-2

@@ -11,21 +11,20 @@ use borrow.Author.Tests.{lt-ltb, le-ltb}
 use denote.Ref.{now}
 use lib.Dec.{T, ltb}
 use lib.IntN.{ℤ, pos}
-use lib.ListN.{length, getD}
+use lib.ListN.{length, getD, take, drop}
 use Rattle.algebra.specs.Polynomials.{isZero}
 use Rattle.lists.specs.Tests.{every}
 use Rattle.rules.specs.Calls.{zeros}
-use Rattle.rules.specs.Limits.{columnCount, mostEquations, rowLength, small}
+use Rattle.rules.specs.Limits.{coefficientCount, columnCount, entriesLength, mostEquations, rowLength, small}
 use Rattle.rules.specs.Rows.{width, entry}
 use Rattle.rules.specs.Stores.{rowOf, rowNeed}
 use Rattle.sides.specs.Lent.{Within}
-use Rattle.working_rows.specs.declared.WorkingRow.{WorkingRow}
 use Rattle.working_rows.specs.Found.{Columns-at}
-use Rattle.working_rows.specs.Working.{numbersHeld, Full}
+use Rattle.working_rows.specs.Working.{workingOf}
 use Rattle.reduction.specs.declared.step.Progress.{Progress}
 use Rattle.reduction.specs.Progress.{Ready}
 use Rattle.reduction.specs.NewRows.{row-room}
-use Rattle.reduction.specs.StoreExchange.{numbersAt, narrowed, Loaded, loaded-from, exchanged-loaded, small-numbersAt}
+use Rattle.reduction.specs.StoreExchange.{numbersAt, narrowed, Loaded, loaded-from, exchanged-loaded, length-numbersAt, small-numbersAt}
 use Rattle.reduction.specs.StoreExchange.{narrowed-exchanged, narrowed-same, narrowed-within}
 use Rattle.logs.specs.Logs.{Change, exchanging}
 use Rattle.logs.specs.Own.{changeNumbers}
@@ -49,9 +48,6 @@ module _ (c : tie.Start) where
   abbrev j : ℕ
   j = c .args .j
 
-  abbrev row : WorkingRow
-  row = c .args .row
-
   abbrev n : ℕ
   n = p .rows
 
@@ -64,14 +60,19 @@ module _ (c : tie.Start) where
   settled : j < i
   settled = c .pre .0 .2
 
-  row-held : Loaded rows i row
-  row-held = c .pre .0 .3
+  width-is : c .args .width ≡ width (rowOf (numbersAt rows i))
+  width-is = c .pre .0 .3
 
   other : j < n
   other = omega (arith, inside, settled)
 
-  room : j * rowLength + rowLength ≤ length rows
-  room = omega (arith, row-room n j rows (ready .rows-within) other, ready .rows-within .long)
+  room : (k : ℕ) → k < n → k * rowLength + rowLength ≤ length rows
+  room k h = omega (arith, row-room n k rows (ready .rows-within) h, ready .rows-within .long)
+
+  -- the numbers of row k, as a working row has them
+  held : (k : ℕ) → k < n → Loaded rows k (workingOf (take entriesLength (drop (k * rowLength) rows))
+      (take coefficientCount (drop (k * rowLength + entriesLength) rows)))
+  held k h = loaded-from rows k _ (room k h) refl
 
   abbrev column : ℕ
   column = getD (p .order) j 0
@@ -82,29 +83,34 @@ module _ (c : tie.Start) where
   within-after : Within (rowNeed n) after
   within-after = narrowed-within n rows (ready .rows-within) i j inside other
 
-  held-small : (k : ℕ) (w : WorkingRow) → k < n → Loaded after k w → T (every small (numbersHeld w))
-  held-small k w h l = subst (λ m. T (every small m)) (sym (l .numbers)) (small-numbersAt n after within-after k h)
+  -- the rows that are combined
+  pub record Narrowed (t q : List ℤ) : Type 0 where
+    pub target-is : t ≡ numbersAt after i
+    pub pivot-is : q ≡ numbersAt after j
 
   -- what a combination asks
-  asked : (t q : WorkingRow) → Loaded after i t → Loaded after j q
+  asked : (t q : List ℤ) → Narrowed t q
       → ((i < mostEquations) × (j < mostEquations) × (column < columnCount))
-      × ((Full t × Full q × T (every small (numbersHeld t)) × T (every small (numbersHeld q)))
-      × T (not (isZero (entry (rowOf (numbersHeld q)) column ++ entry (rowOf (numbersHeld t)) column))))
-  asked t q l k = (
+      × (((length t ≡ rowLength) × (length q ≡ rowLength) × T (every small t) × T (every small q))
+      × T (not (isZero (entry (rowOf q) column ++ entry (rowOf t) column))))
+  asked t q k = (
     (omega (arith, inside, ready .few-rows), omega (arith, other, ready .few-rows), Columns-at (p .order) (ready .columns) j),
     (
-      (l .full, k .full, held-small i t inside l, held-small j q other k),
-      subst₂ (λ a b. T (not (isZero (entry (rowOf a) column ++ entry (rowOf b) column)))) (sym (k .numbers)) (sym (l .numbers))
+      (
+        ap length (k .target-is) ∙ length-numbersAt n after within-after i inside,
+        ap length (k .pivot-is) ∙ length-numbersAt n after within-after j other,
+        subst (λ m. T (every small m)) (sym (k .target-is)) (small-numbersAt n after within-after i inside),
+        subst (λ m. T (every small m)) (sym (k .pivot-is)) (small-numbersAt n after within-after j other),
+      ),
+      subst₂ (λ a b. T (not (isZero (entry (rowOf a) column ++ entry (rowOf b) column)))) (sym (k .pivot-is)) (sym (k .target-is))
           (c .pre .1),
     ),
   )
 
   -- what it gives
-  combined-line : (t q : WorkingRow) (l : List ℤ) → Loaded after i t → Loaded after j q
-      → CombinationLine i j column (rowOf (numbersHeld t)) (rowOf (numbersHeld q)) l
+  combined-line : (t q l : List ℤ) → Narrowed t q → CombinationLine i j column (rowOf t) (rowOf q) l
       → CombinationLine i j column (targetIn rows p j) (pivotIn rows p j) l
-  combined-line t q l m k line =
-      subst₂ (λ a b. CombinationLine i j column (rowOf a) (rowOf b) l) (m .numbers) (k .numbers) line
+  combined-line t q l k line = subst₂ (λ a b. CombinationLine i j column (rowOf a) (rowOf b) l) (k .target-is) (k .pivot-is) line
 
   abbrev whole : Change
   whole = combinationBy i j (multipliersAfter rows p j) (targetIn rows p j) (pivotIn rows p j)
@@ -117,50 +123,70 @@ module _ (c : tie.Start) where
       → LinesOf (changesBy t) lines → LinesOf (changesBy (ltb (width (rowOf (numbersAt rows i))) (width (rowOf (numbersAt rows j))))) lines
   said t lines e h = subst (λ u. LinesOf (changesBy u) lines) (sym e) h
 
--- the settled row
-module _ (c : tie.After-load) where
-  abbrev start : tie.Start
-  start = c .before .before
+-- both rows, where they stand
+module _ (c : tie.After-width-at) where
+  abbrev seen : tie.After-row-at2
+  seen = c .before
 
-  other-held : Loaded (rows start) (j start) (c .load .result)
-  other-held = loaded-from (rows start) (j start) (c .load .result) (room start) (c .load .ensures)
+  abbrev start : tie.Start
+  start = seen .before .before .before
+
+  abbrev first : List ℤ
+  first = now (seen .before .row-at .result)
+
+  abbrev second : List ℤ
+  second = now (seen .row-at2 .result)
+
+  first-is : first ≡ numbersAt (rows start) (i start)
+  first-is = seen .before .row-at .ensures .0
+
+  second-is : second ≡ numbersAt (rows start) (j start)
+  second-is = seen .row-at2 .ensures .0
 
 -- the exchange
 module _ (c : tie.Then1) where
-  abbrev loaded : tie.After-load
-  loaded = c .before .before .before
+  abbrev looked : tie.After-width-at
+  looked = c .before
 
   abbrev b : tie.Start
-  b = start loaded
+  b = start looked
 
   wider : width (rowOf (numbersAt (rows b) (i b))) < width (rowOf (numbersAt (rows b) (j b)))
-  wider = omega (arith, row-held b .width-is, other-held loaded .width-is, c .if1 .taken)
+  wider = omega (arith, width-is b, looked .width-at .ensures, c .if1 .taken)
 
   different : j b ≡ i b → ⊥
   different e = omega (arith, settled b, e)
 
-  rows-loaded : Loaded (after b) (i b) (loaded .load .result) × Loaded (after b) (j b) (row b)
-  rows-loaded =
-      subst (λ d. Loaded d (i b) (loaded .load .result) × Loaded d (j b) (row b))
-      (sym (narrowed-exchanged (rows b) (i b) (j b) wider))
-      (exchanged-loaded (n b) (rows b) (ready b .rows-within) (i b) (j b) (inside b) (other b) different (row b) (loaded .load .result)
-      (row-held b) (other-held loaded))
+  exchanged : Narrowed b (second looked) (first looked)
+  exchanged =
+      let w = ready b .rows-within in
+      let held-i = held b (i b) (inside b) in
+      let held-j = held b (j b) (other b) in
+      let both = exchanged-loaded (n b) (rows b) w (i b) (j b) (inside b) (other b) different _ _ held-i held-j in
+      let same = narrowed-exchanged (rows b) (i b) (j b) wider in
+      record {
+        target-is = second-is looked ∙ sym (held-j .numbers) ∙ both .0 .numbers ∙ ap (λ d. numbersAt d (i b)) (sym same);
+        pivot-is = first-is looked ∙ sym (held-i .numbers) ∙ both .1 .numbers ∙ ap (λ d. numbersAt d (j b)) (sym same);
+      }
 
 -- no exchange
 module _ (c : tie.Else1) where
-  abbrev read : tie.After-load
-  read = c .before .before .before
+  abbrev kept : tie.After-width-at
+  kept = c .before
 
   abbrev base : tie.Start
-  base = start read
+  base = start kept
 
   not-wider : width (rowOf (numbersAt (rows base) (j base))) ≤ width (rowOf (numbersAt (rows base) (i base)))
-  not-wider = omega (arith, row-held base .width-is, other-held read .width-is, c .if1 .left)
+  not-wider = omega (arith, width-is base, kept .width-at .ensures, c .if1 .left)
 
-  rows-kept : Loaded (after base) (i base) (row base) × Loaded (after base) (j base) (read .load .result)
-  rows-kept =
-      subst (λ d. Loaded d (i base) (row base) × Loaded d (j base) (read .load .result))
-      (sym (narrowed-same (rows base) (i base) (j base) not-wider)) (row-held base, other-held read)
+  same-places : Narrowed base (first kept) (second kept)
+  same-places =
+      let same = narrowed-same (rows base) (i base) (j base) not-wider in
+      record {
+        target-is = first-is kept ∙ ap (λ d. numbersAt d (i base)) (sym same);
+        pivot-is = second-is kept ∙ ap (λ d. numbersAt d (j base)) (sym same);
+      }
 
 mul-c : tie.Need-mul-c
 mul-c c = search needs
@@ -168,11 +194,20 @@ mul-c c = search needs
 array-read-c : tie.Need-array-read-c
 array-read-c c = search needs
 
-mul-load : tie.Need-mul-load
-mul-load c = search needs
+mul-row-at : tie.Need-mul-row-at
+mul-row-at c = search needs
 
-load-requires : tie.Need-load-requires
-load-requires c κs = room (c .before)
+row-at-requires : tie.Need-row-at-requires
+row-at-requires c κs = let b = c .before in room b (i b) (inside b)
+
+mul-row-at-2 : tie.Need-mul-row-at-2
+mul-row-at-2 c = search needs
+
+row-at-requires-2 : tie.Need-row-at-requires-2
+row-at-requires-2 c κs = let b = c .before .before in room b (j b) (other b)
+
+width-at-requires : tie.Need-width-at-requires
+width-at-requires c κs = let b = c .before .before .before in room b (j b) (other b)
 
 add-plain : tie.Need-add-plain
 add-plain c = search needs
@@ -185,7 +220,7 @@ plain-requires c κs = search needs
 
 combination-requires : tie.Need-combination-requires
 combination-requires c κs =
-    let d = c .before in asked (b d) (loaded d .load .result) (row (b d)) (rows-loaded d .0) (rows-loaded d .1)
+    let d = c .before in asked (b d) (second (looked d)) (first (looked d)) (exchanged d)
 
 returns : tie.Need-returns
 unfolding changeNumbers zeros
@@ -193,7 +228,7 @@ returns c =
     let d = c .before .before in
     let a = b d in
     let l = c .combination .result in
-    let line = combined-line a (loaded d .load .result) (row a) l (rows-loaded d .0) (rows-loaded d .1) (c .combination .ensures) in
+    let line = combined-line a (second (looked d)) (first (looked d)) l (exchanged d) (c .combination .ensures) in
     let first = c .before .plain .ensures
     ∙ (λ k. pos 1 ∷ pos (add-one (i a) k) ∷ pos (add-one (j a) k) ∷ zeros 33) in
     let long = ap length (c .before .plain .ensures) in
@@ -205,7 +240,7 @@ returns c =
     }
 
 combination-requires-2 : tie.Need-combination-requires-2
-combination-requires-2 c κs = asked (base c) (row (base c)) (read c .load .result) (rows-kept c .0) (rows-kept c .1)
+combination-requires-2 c κs = asked (base c) (first (kept c)) (second (kept c)) (same-places c)
 
 one-requires : tie.Need-one-requires
 one-requires c κs = search needs
@@ -216,7 +251,7 @@ returns-2 c =
     let d = c .before .before in
     let a = base d in
     let l = c .before .combination2 .result in
-    let line = combined-line a (row a) (read d .load .result) l (rows-kept d .0) (rows-kept d .1) (c .before .combination2 .ensures) in
+    let line = combined-line a (first (kept d)) (second (kept d)) l (same-places d) (c .before .combination2 .ensures) in
     subst (Eliminated (rows a) (p a) (j a)) (sym (c .one .ensures))
     (record {
       two = record { few = omega arith; first-long = line .long; second-long = refl };
@@ -229,8 +264,11 @@ elimination-spec =
     (tie.spec
     mul-c
     array-read-c
-    mul-load
-    load-requires
+    mul-row-at
+    row-at-requires
+    mul-row-at-2
+    row-at-requires-2
+    width-at-requires
     add-plain
     add-plain-2
     plain-requires

@@ -2,7 +2,7 @@
 -- Assumes nothing.
 use mathlib.Core.Path.{_≡_, refl, sym, _∙_, ap, subst}
 use mathlib.Core.Bool.{Bool, true, false}
-use mathlib.Core.List.{List, [], _∷_, map}
+use mathlib.Core.List.{List, [], _∷_}
 use Prim.Native.Nat.{ℕ, _+_, _*_, _≤_, _<_}
 use native.Mathlib.Numerals.{add-one}
 use native.Mathlib.Omega.{arith}
@@ -10,21 +10,20 @@ use borrow.Author.Needs.{needs}
 use borrow.Author.Tests.{eq-eqb, ne-eqb}
 use denote.Ref.{now}
 use lib.IntN.{ℤ, pos}
-use lib.ListN.{length, take}
+use lib.ListN.{length}
 use Rattle.algebra.specs.Polynomials.{isZero}
 use Rattle.rules.specs.Calls.{zeros}
 use Rattle.rules.specs.Limits.{columnCount, rowLength}
-use Rattle.rules.specs.Rows.{Row, zeroLeft, width, entry, leadingBlock, firstNonzero}
+use Rattle.rules.specs.Rows.{Row, zeroLeft, width, leadingBlock, firstNonzero}
 use Rattle.rules.specs.Stores.{rowOf}
 use Rattle.rules.specs.Elimination.{State, going, leading, step}
 use Rattle.theory.specs.Steps.{going≢refused}
 use Rattle.working_rows.specs.Found.{foundOr, entriesAt}
-use Rattle.working_rows.specs.declared.WorkingRow.{WorkingRow}
-use Rattle.working_rows.specs.Working.{leading-held, entry-held, width-zero}
+use Rattle.working_rows.specs.Working.{width-zero}
 use Rattle.reduction.specs.declared.step.Progress.{Progress}
 use Rattle.reduction.specs.Progress.{Ready, stateOf}
 use Rattle.reduction.specs.NewRows.{row-room}
-use Rattle.reduction.specs.StoreExchange.{numbersAt, Loaded, loaded-from}
+use Rattle.reduction.specs.StoreExchange.{numbersAt}
 use Rattle.reduction.specs.StepCases.{step-contradicts, met-nonzero}
 use Rattle.logs.specs.Logs.{raising, dropping}
 use Rattle.logs.specs.Own.{changeNumbers, stepChanges}
@@ -69,36 +68,23 @@ module _ (c : tie.Start) where
   dropped relations s false r e f g = absurd (going≢refused (sym g ∙ step-contradicts leading r inside e f))
 
 -- the row that is worked on
-module _ (c : tie.After-load) where
+module _ (c : tie.After-width-at) where
   abbrev start : tie.Start
   start = c .before
 
-  abbrev held : WorkingRow
-  held = c .load .result
+  left-zero : c .width-at .result ≡ 0 → zeroLeft (row start) ≡ true
+  left-zero e = sym (width-zero (row start)) ∙ eq-eqb (width (row start)) 0 (sym (c .width-at .ensures) ∙ e)
 
-  loaded : Loaded (rows start) (i start) held
-  loaded = loaded-from (rows start) (i start) held (room start) (c .load .ensures)
-
-  left-zero : held .width ≡ 0 → zeroLeft (row start) ≡ true
-  left-zero e = sym (width-zero (row start)) ∙ eq-eqb (width (row start)) 0 (sym (loaded .width-is) ∙ e)
-
-  left-nonzero : (held .width ≡ 0 → ⊥) → zeroLeft (row start) ≡ false
-  left-nonzero n = sym (width-zero (row start)) ∙ ne-eqb (width (row start)) 0 (λ e. n (loaded .width-is ∙ e))
-
-  leading-is : leadingBlock (rowOf (held .entries)) ≡ leadingBlock (row start)
-  leading-is = sym (leading-held (held .entries) (held .right) (loaded .full .entries-long)) ∙ ap (λ l. leadingBlock (rowOf l))
-      (loaded .numbers)
-
-  entry-is : entry (rowOf (held .entries)) ≡ entry (row start)
-  entry-is = sym (entry-held (held .entries) (held .right) (loaded .full .entries-long)) ∙ ap (λ l. entry (rowOf l)) (loaded .numbers)
+  left-nonzero : (c .width-at .result ≡ 0 → ⊥) → zeroLeft (row start) ≡ false
+  left-nonzero n = sym (width-zero (row start)) ∙ ne-eqb (width (row start)) 0 (λ e. n (c .width-at .ensures ∙ e))
 
 -- the settled row that is met
-module _ (c : tie.After-first-met) where
+module _ (c : tie.After-met-at) where
   abbrev tested : tie.Else1
-  tested = c .before .before .before .before
+  tested = c .before .before
 
-  abbrev read : tie.After-load
-  read = tested .before .before
+  abbrev read : tie.After-width-at
+  read = tested .before
 
   abbrev base : tie.Start
   base = start read
@@ -106,28 +92,25 @@ module _ (c : tie.After-first-met) where
   nonzero : zeroLeft (row base) ≡ false
   nonzero = left-nonzero read (tested .if1 .left)
 
-  met-is : met base ≡ c .first-met .result
-  met-is = sym (c .first-met .ensures ∙ ap (λ f. foundOr (i base) (firstNonzero (map f (take (i base) (p base .order))))) (entry-is read))
+  met-is : met base ≡ c .met-at .result
+  met-is = sym (c .met-at .ensures)
 
 -- the column, where no settled row is met
-module _ (c : tie.After-first-column) where
-  abbrev unmet : tie.After-first-met
-  unmet = c .before .before .before
+module _ (c : tie.After-column-at) where
+  abbrev unmet : tie.After-met-at
+  unmet = c .before .before
 
   abbrev origin : tie.Start
   origin = base unmet
 
   none-met : i origin ≤ met origin
-  none-met = omega (arith, met-is unmet, c .before .before .if2 .left)
+  none-met = omega (arith, met-is unmet, c .before .if2 .left)
 
-  column-is : foundOr columnCount (firstNonzero (leadingBlock (row origin))) ≡ c .first-column .result
-  column-is = sym (c .first-column .ensures ∙ ap (λ b. foundOr columnCount (firstNonzero b)) (leading-is (read unmet)))
+  column-is : foundOr columnCount (firstNonzero (leadingBlock (row origin))) ≡ c .column-at .result
+  column-is = sym (c .column-at .ensures)
 
-mul-load : tie.Need-mul-load
-mul-load c = search needs
-
-load-requires : tie.Need-load-requires
-load-requires c κs = room c
+width-at-requires : tie.Need-width-at-requires
+width-at-requires c κs = room c
 
 add-plain : tie.Need-add-plain
 add-plain c = search needs
@@ -142,7 +125,7 @@ returns : tie.Need-returns
 unfolding changeNumbers zeros
 returns c =
     let narrow = c .before .before in
-    let l = narrow .before .before in
+    let l = narrow .before in
     let b = start l in
     let plain = c .before .plain in
     let line = plain .ensures ∙ (λ k. pos 5 ∷ pos (add-one (i b) k) ∷ zeros 34) in
@@ -156,19 +139,17 @@ returns c =
           (lines-one (dropping (i b)) (plain .result) line long);
     })
 
-slice-aggregate-first-met : tie.Need-slice-aggregate-first-met
-slice-aggregate-first-met c = search needs
-
-first-met-requires : tie.Need-first-met-requires
-first-met-requires c κs = search needs
+met-at-requires : tie.Need-met-at-requires
+met-at-requires c κs =
+    let b = start (c .before .before) in (room b, ready b .few-settled, ready b .columns)
 
 elimination-requires : tie.Need-elimination-requires
 elimination-requires c κs =
     let d = c .before in
     let b = base d in
     let met-j = c .if2 .taken in (
-      (b .pre .0, inside b, met-j, loaded (read d)),
-      met-nonzero leading (ready b) (inside b) (nonzero d) (d .first-met .result) (met-is d) met-j,
+      (b .pre .0, inside b, met-j, read d .width-at .ensures),
+      met-nonzero leading (ready b) (inside b) (nonzero d) (d .met-at .result) (met-is d) met-j,
     )
 
 returns-2 : tie.Need-returns-2
@@ -176,7 +157,7 @@ returns-2 c =
     let passed = c .before in
     let d = passed .before in
     let b = base d in
-    let j = d .first-met .result in
+    let j = d .met-at .result in
     let h = passed .if2 .taken in
     let lines = c .elimination .ensures in
     record {
@@ -187,11 +168,8 @@ returns-2 c =
           (lines .said (met-low r (inside b) j h s (nonzero d) (met-is d) e));
     }
 
-slice-aggregate-first-column : tie.Need-slice-aggregate-first-column
-slice-aggregate-first-column c = search needs
-
-first-column-requires : tie.Need-first-column-requires
-first-column-requires c κs = search needs
+column-at-requires : tie.Need-column-at-requires
+column-at-requires c κs = room (base (c .before))
 
 returns-3 : tie.Need-returns-3
 unfolding zeros
@@ -202,7 +180,7 @@ returns-3 c =
       two = record { few = omega arith; first-long = refl; second-long = refl };
       said =
           λ relations s r e. subst (λ cs. LinesOf cs noLines)
-          (sym (changes-settled r (inside b) (nonzero (unmet d)) (none-met d) (d .first-column .result) (column-is d)
+          (sym (changes-settled r (inside b) (nonzero (unmet d)) (none-met d) (d .column-at .result) (column-is d)
           (omega (arith, c .if3 .taken))))
           lines-none;
     }
@@ -238,18 +216,15 @@ pub step-lines-spec : {M : Type 1} → statement M
 step-lines-spec =
     tie.close
     (tie.spec
-    mul-load
-    load-requires
+    width-at-requires
     add-plain
     plain-requires
     one-requires
     returns
-    slice-aggregate-first-met
-    first-met-requires
+    met-at-requires
     elimination-requires
     returns-2
-    slice-aggregate-first-column
-    first-column-requires
+    column-at-requires
     returns-3
     add-plain-2
     plain-requires-2
