@@ -6,30 +6,30 @@
 --   lowParts g h t u       the coefficients of each polynomial of a combination up to power 15
 --
 -- Main statements
---   one-low                the combination of one polynomial of each row
+--   one-low, none-low      the combination of one polynomial of each row, and of two that are zero
 --   gcd-below              a greatest common divisor is in the range of its numbers
 --   joined                 a polynomial more
 --   length-lowParts, low-at, is-low-at   the polynomial at place e
 --   whole-content          where no degree is past 15, those coefficients have the content of the combination
-use Prim.Native.Nat.{ℕ, zero, suc, _+_, _^_, _<_, zero-le}
+use Prim.Native.Nat.{ℕ, zero, suc, _^_, _<_, zero-le}
 use native.Mathlib.Nat.{zero-lt-suc, le-of-eq}
 use native.Mathlib.Omega.{arith}
 use mathlib.Core.Path.{_≡_, sym, _∙_, ap, ap₂}
 use mathlib.Core.Bool.{true, and-true}
-use mathlib.Core.List.{List, [], map, flatten, zipWith, append-nil}
+use mathlib.Core.List.{List, [], _∷_, _++_, map, flatten, zipWith, append-nil}
 use lib.IntN.{ℤ}
-use lib.ListN.{length, getD, drop, length-map}
-use lib.Seq.{take-all}
+use lib.ListN.{length, getD, take, length-map}
+use lib.Seq.{take-all, take-suc}
 use Rattle.lists.specs.Images.{getD-map}
+use Rattle.lists.specs.Joined.{flatten-append}
 use Rattle.lists.specs.Parts.{parts}
-use Rattle.lists.specs.Taken.{drop-next}
 use Rattle.lists.specs.Tests.{every, every-from-at, true-of, true-T}
-use Rattle.algebra.specs.Gcd.{gcd, content, gcd-zero, gcd-comm, gcd-assoc, gcd-le-right, content-append}
-use Rattle.algebra.specs.Polynomials.{Polynomial}
+use Rattle.algebra.specs.Gcd.{gcd, content, gcd-zero, gcd-comm, gcd-assoc, gcd-le-right, content-append, content-zero}
+use Rattle.algebra.specs.Polynomials.{Polynomial, isZero, mul, isZero-add, isZero-mul-right}
 use Rattle.rules.specs.Limits.{coefficientCount, rowLength}
 use Rattle.rules.specs.Rows.{Row, coefficientsOf, lowDegrees}
 use Rattle.stores.specs.Flat.{partCount}
-use Rattle.combinations.specs.Combination.{lowPart, combinations, lowNumbers, length-combinations, low-degrees, cut-low}
+use Rattle.combinations.specs.Combination.{lowPart, lowPart-zero, combinations, lowNumbers, length-combinations, low-degrees, cut-low}
 use Rattle.combinations.specs.Primitive.{isLow, content-cut}
 use Rattle.logs.specs.Divisions.{sumOf, partAt, combined, sum-at}
 
@@ -50,18 +50,27 @@ one-low g h p q a b =
     let same = ap₂ (λ x y. sumOf g x h y) (take-all coefficientCount p (le-of-eq a)) (take-all coefficientCount q (le-of-eq b)) in
     (and-true _ ∙ ap isLow same, append-nil _ ∙ ap lowPart same)
 
+-- Where p and q are zero, there is no coefficient.
+pub none-low : (g h p q : Polynomial) → isZero p ≡ true → isZero q ≡ true → content (lowPart (sumOf g p h q)) ≡ 0
+none-low g h p q e f =
+    content-zero (lowPart (sumOf g p h q)) .1
+    (lowPart-zero (sumOf g p h q)
+    (isZero-add (mul g p) (mul h q) (isZero-mul-right g p (true-T _ e)) (isZero-mul-right h q (true-T _ f))))
+
 pub gcd-below : (n a b : ℕ) → a < n → b < n → gcd a b < n
 gcd-below n a zero h k = rw (gcd-zero a) h
 gcd-below n a (suc b) h k = omega (arith, gcd-le-right a (suc b) (zero-lt-suc b))
 
--- The polynomial at place e is joined to the greatest common divisor d of those before it.
+-- The polynomial at place e is joined to the greatest common divisor d of those behind it.
 pub joined : (d : ℕ) (ps : List Polynomial) (e : ℕ) → e < length ps
-    → gcd d (content (flatten (drop e ps))) ≡ gcd (gcd (content (getD ps e [])) d) (content (flatten (drop (e + 1) ps)))
+    → gcd d (content (flatten (take (suc e) ps))) ≡ gcd (gcd (content (getD ps e [])) d) (content (flatten (take e ps)))
 unfolding flatten
 joined d ps e h =
     let p = getD ps e [] in
-    let rest = content (flatten (drop (e + 1) ps)) in
-    ap (λ l. gcd d (content (flatten l))) (drop-next ps e [] h) ∙ ap (gcd d) (content-append p (flatten (drop (e + 1) ps)))
+    let rest = content (flatten (take e ps)) in
+    ap (λ l. gcd d (content (flatten l))) (take-suc ps e [] h)
+    ∙ ap (λ l. gcd d (content l)) (flatten-append (take e ps) (p ∷ []) ∙ ap (λ l. flatten (take e ps) ++ l) (append-nil p))
+    ∙ ap (gcd d) (content-append (flatten (take e ps)) p ∙ gcd-comm rest (content p))
     ∙ sym (gcd-assoc d (content p) rest) ∙ ap (λ x. gcd x rest) (gcd-comm d (content p))
 
 -- ---- a row

@@ -60,10 +60,7 @@ pub(crate) fn exchange_rows(rows: &mut [i64], i: usize, j: usize, p: Progress) -
     if !two_rows(i, j, p.rows) {
         return reduction::step::answer(13, p);
     }
-    let first = working_rows::stored::load(rows, i * ROW);
-    let second = working_rows::stored::load(rows, j * ROW);
-    working_rows::stored::save(rows, j * ROW, first);
-    working_rows::stored::save(rows, i * ROW, second);
+    reduction::exchanging::exchange(rows, i, j);
     reduction::step::answer(0, p)
 }
 

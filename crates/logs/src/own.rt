@@ -84,7 +84,8 @@ fn one(first: [i64; STEP]) -> Lines
     }
 }
 
-// The content of one polynomial g·p + h·q of a combination. If its degree is past 15, which is refused, the content is not asked for.
+// The content of one polynomial g·p + h·q of a combination; nothing is done where p and q are zero. If its degree is past 15, which is
+// refused, the content is not asked for.
 fn part_content(g: &[i64], h: &[i64], p: &[i64], q: &[i64]) -> u64
     requires { ⌜
         (length (now g) ≡ coefficientCount) × T (every small (now g)) × (length (now h) ≡ coefficientCount) × T (every small (now h)) ⌝ }
@@ -92,6 +93,11 @@ fn part_content(g: &[i64], h: &[i64], p: &[i64], q: &[i64]) -> u64
         (length (now p) ≡ coefficientCount) × (length (now q) ≡ coefficientCount) × T (every small (now p)) × T (every small (now q)) ⌝ }
     ensures { λ r. ⌜ PartContent (sumOf (now (g .entry)) (now (p .entry)) (now (h .entry)) (now (q .entry))) r ⌝ }
 {
+    if polynomials::content::all_zero(p) {
+        if polynomials::content::all_zero(q) {
+            return 0;
+        }
+    }
     let mut low = [0i64; COEFFICIENTS];
     if combinations::low_combination(&mut low, g, h, p, q) {
         return 1;
@@ -100,7 +106,7 @@ fn part_content(g: &[i64], h: &[i64], p: &[i64], q: &[i64]) -> u64
 }
 
 // What a combination is divided by (SCOPE 2.42), if no degree is past 15. Once the greatest common divisor is 1, the polynomials that are left
-// do not matter.
+// do not matter; the leading block, with the entry that is eliminated, comes last.
 fn combined_content(g: &[i64], h: &[i64], target: &[i64], pivot: &[i64]) -> u64
     requires { ⌜
         (length (now g) ≡ coefficientCount) × T (every small (now g)) × (length (now h) ≡ coefficientCount) × T (every small (now h)) ⌝ }
@@ -111,16 +117,16 @@ fn combined_content(g: &[i64], h: &[i64], target: &[i64], pivot: &[i64]) -> u64
         (combined (now (g .entry)) (now (h .entry)) (now (target .entry)) (now (pivot .entry))) r ⌝ }
 {
     let mut content = 0;
-    let mut e = 0;
-    while e < PARTS {
-        let from = e * COEFFICIENTS;
+    let mut left = PARTS;
+    while 0 < left {
+        left -= 1;
+        let from = left * COEFFICIENTS;
         let to = from + COEFFICIENTS;
         let part = part_content(g, h, &target[from..to], &pivot[from..to]);
         content = integers::gcd(part, content);
         if content == 1 {
             return 1;
         }
-        e += 1;
     }
     content
 }

@@ -1,15 +1,16 @@
 -- `logs::own::combined_content` meets its contract. The loop's invariant: where no degree is past 15, the content is the greatest common
--- divisor of `content` and of the content of the polynomials from e on.
+-- divisor of `content` and of the content of the first `left` polynomials.
 -- Assumes nothing.
 use mathlib.Core.Path.{_≡_, sym, _∙_, ap}
 use mathlib.Core.Bool.{true}
 use mathlib.Core.List.{List, flatten}
-use Prim.Native.Nat.{ℕ, _+_, _*_, _-_, _^_, _≤_, _<_}
+use Prim.Native.Nat.{ℕ, suc, _+_, _*_, _-_, _^_, _≤_, _<_}
 use native.Mathlib.Omega.{arith}
 use borrow.Author.Needs.{needs}
 use denote.Ref.{now}
 use lib.IntN.{ℤ}
-use lib.ListN.{length, drop, length-take, length-drop, drop-of-length-le}
+use lib.ListN.{length, take, length-take, length-drop}
+use lib.Seq.{take-all}
 use Rattle.algebra.specs.Gcd.{gcd, zero-gcd, gcd-zero}
 use Rattle.algebra.specs.Gcd as Gcd
 use Rattle.algebra.specs.Polynomials.{Polynomial}
@@ -24,13 +25,13 @@ use Rattle.logs.proofs.own.combined_content.Statement.{statement}
 use Rattle.logs.proofs.own.combined_content.Tie as tie
 
 abbrev Inv-loop : tie.InvT-loop
-Inv-loop g h target pivot content₀ e₀ content e =
-    (e ≤ partCount) × (content < 2 ^ 63)
+Inv-loop g h target pivot content₀ left₀ content left =
+    (left ≤ partCount) × (content < 2 ^ 63)
     × (lowDegrees (combined g h target pivot) ≡ true
-    → Gcd.content (flatten (lowParts g h target pivot)) ≡ gcd content (Gcd.content (flatten (drop e (lowParts g h target pivot)))))
+    → Gcd.content (flatten (lowParts g h target pivot)) ≡ gcd content (Gcd.content (flatten (take left (lowParts g h target pivot)))))
 
 abbrev μ-loop : tie.MeasureT-loop
-μ-loop g h target pivot content₀ e₀ content e = partCount - e
+μ-loop g h target pivot content₀ left₀ content left = left
 
 -- one polynomial more
 module _ (c : tie.After-gcd Inv-loop μ-loop) where
@@ -56,16 +57,19 @@ module _ (c : tie.After-gcd Inv-loop μ-loop) where
   u = now (start .args .pivot)
 
   abbrev e : ℕ
-  e = at .loop .e
+  e = at .loop .left - 1
 
   abbrev n : ℕ
   n = e * coefficientCount + coefficientCount - e * coefficientCount
 
   abbrev rest : ℕ
-  rest = Gcd.content (flatten (drop (e + 1) (lowParts g h t u)))
+  rest = Gcd.content (flatten (take e (lowParts g h t u)))
 
   below : e < partCount
-  below = omega (arith, called .before .before .before .loop-test .taken)
+  below = omega (arith, called .before .before .before .loop-test .taken, at .loop .inv .0)
+
+  one-more : at .loop .left ≡ suc e
+  one-more = omega (arith, called .before .before .before .loop-test .taken)
 
   width : n ≡ coefficientCount
   width = omega arith
@@ -75,7 +79,8 @@ module _ (c : tie.After-gcd Inv-loop μ-loop) where
 
   next : lowDegrees (combined g h t u) ≡ true → Gcd.content (flatten (lowParts g h t u)) ≡ gcd (c .gcd .result) rest
   next low =
-      at .loop .inv .2 low ∙ joined (at .loop .content) (lowParts g h t u) e (rw length-lowParts below)
+      at .loop .inv .2 low ∙ ap (λ k. gcd (at .loop .content) (Gcd.content (flatten (take k (lowParts g h t u))))) one-more
+      ∙ joined (at .loop .content) (lowParts g h t u) e (rw length-lowParts below)
       ∙ ap (λ d. gcd (gcd d (at .loop .content)) rest)
       (ap Gcd.content (low-at g h t u e n below width)
       ∙ sym (called .part-content .ensures .content-is (is-low-at g h t u low e n below width)))
@@ -92,7 +97,14 @@ module _ (s : tie.Start Inv-loop μ-loop) where
 
 loop-holds : tie.Need-loop-holds Inv-loop μ-loop
 loop-holds c =
-    (omega arith, omega arith, λ low. sym (zero-gcd _))
+    let a = c .args in
+    let parts = lowParts (now (a .g)) (now (a .h)) (now (a .target)) (now (a .pivot)) in
+    let all : length parts ≤ partCount =
+    omega (arith, length-lowParts (now (a .g)) (now (a .h)) (now (a .target)) (now (a .pivot))) in
+    (omega arith, omega arith, λ low. ap (λ l. Gcd.content (flatten l)) (sym (take-all partCount parts all)) ∙ sym (zero-gcd _))
+
+sub-left : tie.Need-sub-left Inv-loop μ-loop
+sub-left c = search needs
 
 mul-from : tie.Need-mul-from Inv-loop μ-loop
 mul-from c = search needs
@@ -129,7 +141,7 @@ part-content-requires c κs =
     let i = c .before .before in
     let s = i .before .before in
     let rows = s .pre .1 in
-    let from = i .before .loop .e * coefficientCount in
+    let from = (i .before .loop .left - 1) * coefficientCount in
     let width = from + coefficientCount - from in (
       s .pre .0,
       (
@@ -152,9 +164,6 @@ returns c =
       below = omega arith;
     }
 
-add-e : tie.Need-add-e Inv-loop μ-loop
-add-e c = search needs
-
 loop-less : tie.Need-loop-less Inv-loop μ-loop
 loop-less c = search needs
 
@@ -167,14 +176,13 @@ unfolding flatten Gcd.content
 returns-2 c =
     let loop = c .before .loop in
     let s = c .before .before in
+    let none : loop .left ≡ 0 = omega (arith, c .loop-test .left) in
     let a = s .args in
     let parts = lowParts (now (a .g)) (now (a .h)) (now (a .target)) (now (a .pivot)) in
-    let all : length parts ≤ loop .e =
-    omega (arith, length-lowParts (now (a .g)) (now (a .h)) (now (a .target)) (now (a .pivot))) in
     record {
       content-is =
           λ low. sym (sym (whole s low) ∙ loop .inv .2 low
-          ∙ ap (λ l. gcd (loop .content) (Gcd.content (flatten l))) (drop-of-length-le parts all) ∙ gcd-zero (loop .content));
+          ∙ ap (λ k. gcd (loop .content) (Gcd.content (flatten (take k parts)))) none ∙ gcd-zero (loop .content));
       below = loop .inv .1;
     }
 
@@ -185,6 +193,7 @@ combined-content-spec =
     Inv-loop
     μ-loop
     loop-holds
+    sub-left
     mul-from
     add-to
     mul-part-content
@@ -198,7 +207,6 @@ combined-content-spec =
     part-content-requires
     gcd-requires
     returns
-    add-e
     loop-less
     loop-again
     returns-2)

@@ -19,14 +19,14 @@ use Rattle.rules.specs.Limits.{coefficientCount}
 use Rattle.combinations.specs.Combination.{lowPart, combinations, lowNumbers, numbers-below}
 use Rattle.combinations.specs.Primitive.{isLow, content-below}
 use Rattle.logs.specs.Divisions.{sumOf}
-use Rattle.logs.specs.Contents.{one-low}
+use Rattle.logs.specs.Contents.{one-low, none-low}
 use Rattle.logs.proofs.own.part_content.Statement.{statement}
 use Rattle.logs.proofs.own.part_content.Tie as tie
 
 -- the low part of the combination
 module _ (c : tie.After-low-combination) where
   abbrev start : tie.Start
-  start = c .before .before
+  start = c .before .before .before .before
 
   abbrev g : Polynomial
   g = now (start .args .g)
@@ -57,12 +57,29 @@ module _ (c : tie.After-low-combination) where
       let m = start .pre .0 in
       numbers-below g h p q 1 (le-of-eq (m .0), le-of-eq (m .2), m .1, m .3, start .pre .1 .2, start .pre .1 .3)
 
+all-zero-requires : tie.Need-all-zero-requires
+all-zero-requires c κs = search needs
+
+all-zero-requires-2 : tie.Need-all-zero-requires-2
+all-zero-requires-2 c κs = search needs
+
+returns : tie.Need-returns
+returns c =
+    let first = c .before .before .before in
+    let a = first .before .args in
+    record {
+      content-is =
+          λ low. sym (none-low (now (a .g)) (now (a .h)) (now (a .p)) (now (a .q))
+          (sym (first .all-zero .ensures) ∙ c .before .before .if1 .taken) (sym (c .before .all-zero2 .ensures) ∙ c .if2 .taken));
+      below = omega arith;
+    }
+
 slice-aggregate-low-combination : tie.Need-slice-aggregate-low-combination
 slice-aggregate-low-combination c = search needs
 
 low-combination-requires : tie.Need-low-combination-requires
 low-combination-requires c κs =
-    let s = c .before in
+    let s = c .before .before .before in
     let long = s .pre .1 .0 in (
       s .pre .0,
       (
@@ -74,11 +91,11 @@ low-combination-requires c κs =
       ),
     )
 
-returns : tie.Need-returns
-returns c =
+returns-2 : tie.Need-returns-2
+returns-2 c =
     let l = c .before .before in
     record {
-      content-is = λ low. absurd (true≢false (sym low ∙ not-true _ (sym (tested l) ∙ c .if1 .taken)));
+      content-is = λ low. absurd (true≢false (sym low ∙ not-true _ (sym (tested l) ∙ c .if3 .taken)));
       below = omega arith;
     }
 
@@ -88,11 +105,11 @@ slice-aggregate-content c = search needs
 content-requires : tie.Need-content-requires
 content-requires c κs = search needs
 
-returns-2 : tie.Need-returns-2
-returns-2 c =
+returns-3 : tie.Need-returns-3
+returns-3 c =
     let e = c .before .before in
     let l = e .before .before in
-    let made = c .content .ensures ∙ ap content (numbers l (e .if1 .left)) in
+    let made = c .content .ensures ∙ ap content (numbers l (e .if3 .left)) in
     record {
       content-is = λ low. made ∙ ap content (alone l .1);
       below = rw made (content-below (2 ^ 63) (lowNumbers 1 (g l) (h l) (p l) (q l)) (lit< tt) (below l));
@@ -102,9 +119,12 @@ pub part-content-spec : {M : Type 1} → statement M
 part-content-spec =
     tie.close
     (tie.spec
+    all-zero-requires
+    all-zero-requires-2
+    returns
     slice-aggregate-low-combination
     low-combination-requires
-    returns
+    returns-2
     slice-aggregate-content
     content-requires
-    returns-2)
+    returns-3)
