@@ -94,8 +94,8 @@ fn put_low(place: &mut [i64], g: &[i64], p: &[i64], h: &[i64], q: &[i64]) -> boo
 {
     let most = top(g, p, h, q);
     if most < COEFFICIENTS {
-        let count = most + 1;
-        put_combined(&mut place[..count], g, p, h, q);
+        polynomials::product::add_product(place, g, p);
+        polynomials::product::add_product(place, h, q);
         return false;
     }
     if passes(g, p, h, q, most) {

@@ -10,7 +10,7 @@
 --   isZero-false, lowest-first   a nonzero coefficient makes p nonzero; at the front it is the lowest
 --   or-zero, join-next     joined bits are 0 exactly if both are; one coefficient more is joined
 --   degree-below           there is a coefficient at the degree
---   within-down, degree-bottom   one zero coefficient less from the top; none left past power 0: the degree is 0
+--   within-down, within-part, degree-bottom   one zero coefficient less from the top, and several; none left past power 0: the degree is 0
 --   content-next, one-gcd  a coefficient joins the greatest common divisor of those passed; 1 stays 1
 --   quotient-stored        the quotient by a positive i64, stored, is a coefficient of `divideBy`
 --   small-at, below-of-small, below-divideBy, below-negate   sizes of coefficients, of quotients and of negatives
@@ -23,10 +23,11 @@ use mathlib.Core.List.{[], _∷_, _++_}
 use Prim.Native.Nat.{ℕ, zero, suc, _+_, _-_, _^_, _≤_, _<_}
 use native.Mathlib.Nat.{pos-of-ne-zero, le-trans, le-of-dvd, dvd-one, eq-or-lt-of-le, not-suc-le-zero}
 use native.Mathlib.Omega.{arith}
+use native.Mathlib.Decide.{decLt}
 use lib.Bits.{bitOr, and-le-r, or-add-and}
 use lib.Dec.{T, eqb, ltb→lt, leb→le, eqb·suc-zero}
 use lib.IntN.{ℤ, pos, negsuc, natAbs}
-use lib.ListN.{length, getD, drop, length-set}
+use lib.ListN.{length, getD, take, drop, length-set}
 use lib.Signed.{mag, ltZ, quotZ}
 use mir.Syntax.{w64}
 use mir.Val.{SFits, ofZ, toZ}
@@ -35,7 +36,7 @@ use borrow.Author.Needs.{sfits-of}
 use borrow.Author.Tests.{ne-eqb}
 use Rattle.algebra.specs.Integers.{natAbs-negℤ, natAbs-zero}
 use Rattle.algebra.specs.Polynomials.{Polynomial, coeff, negate, isZeroℤ, isZero, lead, lowest, degree, isZeroℤ-not-iff, isZero-coeff}
-use Rattle.algebra.specs.Coefficients.{Within, coeff-negate, coeff-degree, lead-nonzero, degree-le, degree-lt-length}
+use Rattle.algebra.specs.Coefficients.{Within, coeff-negate, coeff-take, coeff-drop, coeff-degree, lead-nonzero, degree-le, degree-lt-length}
 use Rattle.algebra.specs.Gcd.{gcd, content, divideBy, gcd-comm, gcd-assoc, gcd-divides-left}
 use Rattle.algebra.specs.Gcd.{content-divides, content-pos, divideBy-getD, divideBy-le}
 use Rattle.rules.specs.Limits.{bound, small}
@@ -117,6 +118,17 @@ within-down p n h w e k l = ⊎-elim at-top (w k) (eq-or-lt-of-le (omega arith))
   where
     at-top : n - 1 ≡ k → coeff p k ≡ pos 0
     at-top t = rw t at e
+
+-- Zeros taken off the top, from `from` on.
+pub within-part : (p : Polynomial) (from n : ℕ) → Within p (n - 1) → T (isZero (take (n - from) (drop from p))) → Within p (from - 1)
+within-part p from n w z k l = cases (decLt k n)
+  where
+    cases : Dec (k < n) → coeff p k ≡ pos 0
+    cases (yes m) =
+        let place : from + (k - from) ≡ k = omega arith in
+        ap (coeff p) (sym place) ∙ sym (coeff-drop from p (k - from))
+        ∙ sym (coeff-take (n - from) (drop from p) (k - from) (omega arith)) ∙ isZero-coeff (take (n - from) (drop from p)) z (k - from)
+    cases (no m) = w k (omega arith)
 
 -- There is a coefficient at the degree.
 pub degree-below : (p : Polynomial) → 0 < length p → degree p < length p

@@ -8,21 +8,26 @@
 --   sum-all            with the terms up to g's length the coefficient is complete
 --   sum-size, product-size   a sum of terms, and so the coefficient, has a size of at most n C² where g has at most n coefficients
 --   coeff-mul-take     factors may be cut where only zeros are left
+--   product-next       one coefficient of g: a multiple of p is added, and what is left goes one power further up
+--   added-part         a multiple that is added to a part of the numbers
+--   below-part, below-next   the size of the numbers of a part, and how much numbers grow by a multiple
 use mathlib.Core.Path.{_≡_, refl, sym, _∙_, ap, fun-ext}
-use mathlib.Core.List.{[], _∷_, _++_}
-use Prim.Native.Nat.{ℕ, zero, suc, _+_, _-_, _*_, _≤_, min}
-use native.Mathlib.Nat.{le-trans, mul-le-mul, mul-le-mul-right}
+use mathlib.Core.List.{List, [], _∷_, _++_}
+use Prim.Native.Nat.{ℕ, zero, suc, _+_, _-_, _*_, _≤_, _<_, min}
+use native.Mathlib.Nat.{le-trans, mul-le-mul, mul-le-mul-right, not-suc-le-zero, le-of-suc-le-suc}
 use native.Mathlib.Omega.{arith}
-use lib.Dec.{T}
-use lib.IntN.{ℤ, pos, natAbs, _*ℤ_, zero-*ℤ, *ℤ-zero}
-use lib.ListN.{length, take, drop, take-append-drop}
-use Rattle.algebra.specs.Integers.{natAbs-*ℤ}
+use lib.Dec.{T, leb→le}
+use lib.IntN.{ℤ, pos, natAbs, _+ℤ_, _*ℤ_, +ℤ-idr, zero-*ℤ, *ℤ-zero}
+use lib.ListN.{length, take, drop, length-take, take-append-drop}
+use lib.Seq.{getD-drop}
+use Rattle.algebra.specs.Integers.{natAbs-+ℤ, natAbs-*ℤ}
 use Rattle.algebra.specs.Sums.{sumBelow, sumBelow-zeros, sumBelow-extend, natAbs-sumBelow}
-use Rattle.algebra.specs.Polynomials.{Polynomial, coeff, mul, isZero, isZero-coeff}
-use Rattle.algebra.specs.Coefficients.{coeff-mul, coeff-past-length}
+use Rattle.algebra.specs.Polynomials.{Polynomial, coeff, add, scale, mul, isZero, isZero-coeff, add-nil, length-add, length-scale}
+use Rattle.algebra.specs.Polynomials.{Polynomial·add-assoc}
+use Rattle.algebra.specs.Coefficients.{coeff-add, coeff-scale, coeff-drop, coeff-mul, coeff-past-length}
 use Rattle.rules.specs.Limits.{bound, small}
 use Rattle.lists.specs.Tests.{every}
-use Rattle.polynomials.specs.Content.{small-at}
+use Rattle.polynomials.specs.Content.{Below, small-at}
 
 abbrev pub term : Polynomial → Polynomial → ℕ → ℕ → ℤ
 term g p k i = coeff g i *ℤ coeff p (k - i)
@@ -72,3 +77,59 @@ coeff-mul-take n g p k z =
   where
     same : (i : ℕ) → coeff (take n g) i ≡ coeff g i
     same i = sym (coeff-append-zero (take n g) (drop n g) i z) ∙ ap (λ q. coeff q i) (take-append-drop n g)
+
+-- ---- a product that is added to numbers
+
+-- The multiple of p by g's coefficient a, and what is left of the product behind the first number.
+pub product-next : (r : Polynomial) (a : ℤ) (g p : Polynomial) → 0 < length r
+    → add r (mul (a ∷ g) p) ≡ take 1 (add r (scale a p)) ++ add (drop 1 (add r (scale a p))) (mul g p)
+unfolding mul add
+product-next r a g p h =
+    sym (Polynomial·add-assoc r (scale a p) (pos 0 ∷ mul g p)) ∙ go (add r (scale a p)) (rw length-add (omega arith))
+  where
+    go : (s : Polynomial) → 0 < length s → add s (pos 0 ∷ mul g p) ≡ take 1 s ++ add (drop 1 s) (mul g p)
+    go [] l = absurd (not-suc-le-zero l)
+    go (x ∷ s) l = ap (λ y. y ∷ add s (mul g p)) (+ℤ-idr x)
+
+-- A sum with fewer numbers leaves those behind as they are.
+add-front : (u v w : Polynomial) → length w ≤ length u → add (u ++ v) w ≡ add u w ++ v
+unfolding add
+add-front [] v [] h = add-nil v
+add-front [] v (b ∷ w) h = absurd (not-suc-le-zero h)
+add-front (a ∷ u) v [] h = refl
+add-front (a ∷ u) v (b ∷ w) h = ap (λ r. (a +ℤ b) ∷ r) (add-front u v w (le-of-suc-le-suc h))
+
+pub added-part : (l p : Polynomial) (a : ℤ) (n : ℕ) → length p ≤ n → n ≤ length l
+    → add (take n l) (scale a p) ++ drop n l ≡ add l (scale a p)
+added-part l p a n h i =
+    sym (ap (λ r. add r (scale a p)) (sym (take-append-drop n l))
+    ∙ add-front (take n l) (drop n l) (scale a p) (rw (length-scale, length-take) (omega arith)))
+
+below-behind : (n i : ℕ) (l s : List ℤ) → Below n l → Below n s → Below n (take i l ++ s)
+below-behind n zero l s h t k = t k
+below-behind n (suc i) [] s h t k = t k
+below-behind n (suc i) (a ∷ l) s h t zero = h 0
+below-behind n (suc i) (a ∷ l) s h t (suc k) = below-behind n i l s (λ j. h (suc j)) t k
+
+below-take : (n w : ℕ) (l : List ℤ) → Below n l → Below n (take w l)
+below-take n zero l h k = omega (arith, h 0)
+below-take n (suc w) [] h k = h k
+below-take n (suc w) (a ∷ l) h zero = h 0
+below-take n (suc w) (a ∷ l) h (suc k) = below-take n w l (λ j. h (suc j)) k
+
+pub below-part : (n i w : ℕ) (l : List ℤ) → Below n l → Below n (take w (drop i l))
+below-part n i w l h = below-take n w (drop i l) (λ k. rw (getD-drop i l k (pos 0)) (h (i + k)))
+
+-- The numbers from i on grow by C² at most.
+pub below-next : (n i : ℕ) (l p : List ℤ) (a : ℤ) → Below n l → T (small a) → T (every small p)
+    → Below (n + bound * bound) (take i l ++ add (drop i l) (scale a p))
+unfolding coeff small
+below-next n i l p a h u v =
+    below-behind (n + bound * bound) i l (add (drop i l) (scale a p)) (λ k. omega (arith, h k)) (λ k. rw (
+      coeff-add (drop i l) (scale a p) k,
+      coeff-drop i l k,
+      coeff-scale a p k,
+    ) (omega (arith, h (i + k), natAbs-+ℤ (coeff l (i + k)) (a *ℤ coeff p k), size k)))
+  where
+    size : (k : ℕ) → natAbs (a *ℤ coeff p k) ≤ bound * bound
+    size k = rw (natAbs-*ℤ a (coeff p k)) (mul-le-mul (leb→le (natAbs a) bound u) (small-at p v k))

@@ -3,12 +3,13 @@ use crate::lengths::COEFFICIENTS;
 ghost use mathlib.Core.Path.{_≡_};
 ghost use mathlib.Core.Bool.{not};
 ghost use mathlib.Core.List.{_++_};
-ghost use Prim.Native.Nat.{ℕ, _^_, _<_};
+ghost use Prim.Native.Nat.{ℕ, _-_, _^_, _≤_, _<_};
 ghost use lib.Dec.{T};
 ghost use lib.IntN.{pos, natAbs};
 ghost use lib.Signed.{ltZ};
 ghost use lib.ListN.{length};
 ghost use Rattle.algebra.specs.Polynomials as Polynomials;
+ghost use Rattle.algebra.specs.Coefficients.{Within};
 ghost use Rattle.algebra.specs.Gcd as Gcd;
 ghost use Rattle.polynomials.specs.Content.{Below};
 ghost use Rattle.rules.specs.Limits.{small, coefficientCount};
@@ -43,11 +44,27 @@ pub fn all_zero(p: &[i64]) -> bool
     joined == 0
 }
 
+// How many coefficients are left when those at the top are taken off four at a time as long as all four are zero: most polynomials are far
+// shorter than their places.
+fn without_fours(p: &[i64]) -> usize
+    ensures { λ r. ⌜ (r ≤ length (now (p .entry))) × Within (now (p .entry)) (r - 1) ⌝ }
+{
+    let mut n = p.len();
+    while 4 < n {
+        let from = n - 4;
+        if !all_zero(&p[from..n]) {
+            return n;
+        }
+        n = from;
+    }
+    n
+}
+
 // From the top: the first nonzero coefficient found is the highest.
 pub fn degree(p: &[i64]) -> usize
     ensures { λ r. ⌜ r ≡ Polynomials.degree (now (p .entry)) ⌝ }
 {
-    let mut n = p.len();
+    let mut n = without_fours(p);
     while 1 < n {
         if p[n - 1] != 0 {
             return n - 1;

@@ -1,12 +1,13 @@
-// A coefficient of g·p + h·q.
+// A coefficient of g·p + h·q, and products added to what a place holds.
 ghost use mathlib.Core.Path.{_≡_};
-ghost use Prim.Native.Nat.{_*_, _≤_};
+ghost use Prim.Native.Nat.{_+_, _*_, _≤_, _<_};
 ghost use lib.Dec.{T};
 ghost use lib.IntN.{natAbs};
 ghost use lib.ListN.{length};
-ghost use Rattle.algebra.specs.Polynomials.{coeff, add, mul};
+ghost use Rattle.algebra.specs.Polynomials.{coeff, add, scale, mul};
 ghost use Rattle.rules.specs.Limits.{bound, small, coefficientCount};
 ghost use Rattle.lists.specs.Tests.{every};
+ghost use Rattle.polynomials.specs.Content.{Below};
 
 // Coefficient k of g·p. Term i counts where i ≤ k, i < g.len() and k - i < p.len(): there are at most as many as a polynomial has coefficients.
 pub fn product_coefficient(g: &[i64], p: &[i64], k: usize) -> i64
@@ -33,4 +34,30 @@ pub fn combined_coefficient(g: &[i64], p: &[i64], h: &[i64], q: &[i64], k: usize
     ensures { λ r. ⌜ natAbs r ≤ 32 * (bound * bound) ⌝ }
 {
     product_coefficient(g, p, k) + product_coefficient(h, q, k)
+}
+
+// The multiple a·p, added to as many numbers.
+fn add_scaled(place: &mut [i64], a: i64, p: &[i64])
+    requires { ⌜ (length (now place) ≡ length (now p)) × Below (32 * (bound * bound)) (now place) × T (small a) × T (every small (now p)) ⌝ }
+    ensures { λ _. ⌜ now (place .exit) ≡ add (now (place .entry)) (scale a (now (p .entry))) ⌝ }
+{
+    let mut k = 0;
+    while k < p.len() {
+        place[k] += a * p[k];
+        k += 1;
+    }
+}
+
+// The product g·p, added to numbers among which it has room: for each coefficient of g a multiple of p, one power further up.
+pub fn add_product(place: &mut [i64], g: &[i64], p: &[i64])
+    requires { ⌜ (length (now g) ≤ coefficientCount) × T (every small (now g)) × T (every small (now p)) ⌝ }
+    requires { ⌜ (0 < length (now p)) × (length (now g) + length (now p) ≤ length (now place) + 1) × Below (16 * (bound * bound) + 1) (now place) ⌝ }
+    ensures { λ _. ⌜ now (place .exit) ≡ add (now (place .entry)) (mul (now (g .entry)) (now (p .entry))) ⌝ }
+{
+    let mut i = 0;
+    while i < g.len() {
+        let end = i + p.len();
+        add_scaled(&mut place[i..end], g[i], p);
+        i += 1;
+    }
 }

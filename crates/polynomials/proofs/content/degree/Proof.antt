@@ -7,7 +7,7 @@ use borrow.Author.Needs.{needs, sfits-of}
 use denote.Ref.{now}
 use lib.ListN.{length}
 use Rattle.algebra.specs.Polynomials.{coeff}
-use Rattle.algebra.specs.Coefficients.{Within, coeff-past-length, degree-unique}
+use Rattle.algebra.specs.Coefficients.{Within, degree-unique}
 use Rattle.polynomials.specs.Content.{zero-bits, nonzero-bits, within-down, degree-bottom}
 use Rattle.polynomials.proofs.content.degree.Statement.{statement}
 use Rattle.polynomials.proofs.content.degree.Tie as tie
@@ -18,8 +18,11 @@ Inv-loop p n₀ n = (n ≤ length p) × Within p (n - 1)
 abbrev μ-loop : tie.MeasureT-loop
 μ-loop p n₀ n = n
 
+without-fours-requires : tie.Need-without-fours-requires Inv-loop μ-loop
+without-fours-requires c κs = search needs
+
 loop-holds : tie.Need-loop-holds Inv-loop μ-loop
-loop-holds c = (omega arith, λ k h. coeff-past-length (now (c .args .p)) k (omega arith))
+loop-holds c = c .without-fours .ensures
 
 sub-if1 : tie.Need-sub-if1 Inv-loop μ-loop
 sub-if1 c = search needs
@@ -37,7 +40,7 @@ returns : tie.Need-returns Inv-loop μ-loop
 unfolding coeff
 returns c =
     let at = c .before .before .before in
-    sym (degree-unique (now (at .before .args .p)) (at .loop .n - 1) (nonzero-bits (c .if1 .taken)) (at .loop .inv .1))
+    sym (degree-unique (now (at .before .before .args .p)) (at .loop .n - 1) (nonzero-bits (c .if1 .taken)) (at .loop .inv .1))
 
 sub-n : tie.Need-sub-n Inv-loop μ-loop
 sub-n c = search needs
@@ -50,12 +53,12 @@ unfolding coeff
 loop-again c =
     let at = c .before .before .before in (
       omega arith,
-      within-down (now (at .before .args .p)) (at .loop .n) (c .before .before .loop-test .taken) (at .loop .inv .1)
+      within-down (now (at .before .before .args .p)) (at .loop .n) (c .before .before .loop-test .taken) (at .loop .inv .1)
           (zero-bits (sfits-of (c .before .if12 .given)) (c .if1 .left)),
     )
 
 returns-2 : tie.Need-returns-2 Inv-loop μ-loop
-returns-2 c = sym (degree-bottom (now (c .before .before .args .p)) (c .before .loop .n) (c .loop-test .left) (c .before .loop .inv .1))
+returns-2 c = sym (degree-bottom (now (c .before .before .before .args .p)) (c .before .loop .n) (c .loop-test .left) (c .before .loop .inv .1))
 
 pub degree-spec : {M : Type 1} → statement M
 degree-spec =
@@ -63,6 +66,7 @@ degree-spec =
     (tie.spec
     Inv-loop
     μ-loop
+    without-fours-requires
     loop-holds
     sub-if1
     mul-if1
