@@ -9,8 +9,8 @@
 -- Main statements
 --   combined-trim      trimmed polynomials have a combination with the same coefficients
 --   lowPart-at, lowPart-take    coefficient k of the low part; the low part is the front where there are 16 coefficients
---   front-over, front-rest   numbers written over zeros
---   past-highest, low-past   what is zero past the highest power that a combination can have
+--   front-rest         what is not written yet holds 0
+--   past-highest       what is zero past the highest power that a combination can have
 --   high-free, high-found   the test of the coefficients past power 15
 --   combination-at, polynomials-combination, length-combinations   the polynomials of a combination of rows
 --   low-degrees, trimmed-high   which of them have a degree past 15
@@ -168,16 +168,6 @@ module _ (g p h q : Polynomial) where
       (mul-within h q (length h - 1) (length q - 1) (λ i m. coeff-past-length h i (omega arith))
       (λ i m. coeff-past-length q i (omega arith)) k (omega arith))
 
-  -- The low part has zeros from there on.
-  pub low-past : Counted g × Counted p × Counted h × Counted q → (n : ℕ) → highest g p h q < n → T (isZero (drop n (lowPart sum)))
-  unfolding coeff
-  low-past c n l =
-      coeff-isZero (drop n (lowPart sum)) (λ k. coeff-drop n (lowPart sum) k ∙ cases k (decLt (n + k) coefficientCount))
-    where
-      cases : (k : ℕ) → Dec (n + k < coefficientCount) → coeff (lowPart sum) (n + k) ≡ pos 0
-      cases k (yes m) = lowPart-at sum (n + k) m ∙ past-highest c (n + k) (omega arith)
-      cases k (no m) = coeff-past-length (lowPart sum) (n + k) (omega (arith, length-lowPart sum))
-
   pub high-free : Counted g × Counted p × Counted h × Counted q → (k : ℕ) → highest g p h q < k
       → ((j : ℕ) → j < k → coefficientCount ≤ j → coeff sum j ≡ pos 0)
       → isZero (drop coefficientCount sum) ≡ true
@@ -191,15 +181,6 @@ module _ (g p h q : Polynomial) where
   high-found k l n = false-of _ (λ z. n (high-zero sum .0 z k l))
 
 -- ---- numbers written over zeros
-
--- Zeros under which the first n members are overwritten.
-pub front-over : (l z : List ℤ) (n : ℕ) → z ≡ replicate (length l) (pos 0) → n ≤ length l → take n l ++ drop n z ≡ front l n
-unfolding front
-front-over l z n e h =
-    let count : length l ≡ n + (length l - n) = omega arith in
-    ap (λ r. take n l ++ r)
-    (ap (drop n) (e ∙ ap (λ m. replicate m (pos 0)) count ∙ sym (replicate-append-replicate n (length l - n) (pos 0)))
-    ∙ drop-at (replicate n (pos 0)) (replicate (length l - n) (pos 0)) n (length-replicate n (pos 0)))
 
 -- What is not written yet holds 0.
 pub front-rest : (l : List ℤ) (n k : ℕ) → n + k ≤ length l → take k (drop n (front l n)) ≡ replicate k (pos 0)
