@@ -4,10 +4,12 @@
 --   combinations, lowNumbers   the combinations of the polynomials of two lists of numbers, and the numbers of their low parts
 --   Trimmed            the trimmed multipliers and the trimmed parts of two lists at one place
 --   trim p             the coefficients of p up to the highest nonzero one
+--   Shortened r p      r is a front of p with only zeros behind it
 --   lowPart p          the first 16 coefficients
 --
 -- Main statements
---   combined-trim      trimmed polynomials have a combination with the same coefficients
+--   combined-same      factors with the same coefficients have a combination with the same coefficients
+--   shortened-trim, shortened-front, shortened-fits   what is shortened, and that it stays within the limits
 --   lowPart-at, lowPart-take    coefficient k of the low part; the low part is the front where there are 16 coefficients
 --   front-rest         what is not written yet holds 0
 --   past-highest       what is zero past the highest power that a combination can have
@@ -82,19 +84,49 @@ coeff-trim p k = cases (decLe k (degree p))
     cases (yes h) = coeff-take (degree p + 1) p k (omega arith)
     cases (no h) = coeff-past-length (take (degree p + 1) p) k (rw length-take (omega arith)) ∙ sym (coeff-past-degree p k (omega arith))
 
-pub combined-trim : (g p h q : Polynomial) → Same (add (mul (trim g) (trim p)) (mul (trim h) (trim q))) (add (mul g p) (mul h q))
-combined-trim g p h q =
-    add-same (mul (trim g) (trim p)) (mul g p) (mul (trim h) (trim q)) (mul h q)
-    (mul-same (trim g) g (trim p) p (coeff-trim g) (coeff-trim p)) (mul-same (trim h) h (trim q) q (coeff-trim h) (coeff-trim q))
+pub combined-same : (a g p s b h q t : Polynomial) → Same a g → Same p s → Same b h → Same q t
+    → Same (add (mul a p) (mul b q)) (add (mul g s) (mul h t))
+combined-same a g p s b h q t u v w x =
+    add-same (mul a p) (mul g s) (mul b q) (mul h t) (mul-same a g p s u v) (mul-same b h q t w x)
 
 -- A factor of a combination: from 1 to 16 coefficients, all within ±C.
 abbrev pub Counted : Polynomial → Type 0
 Counted p = (0 < length p) × (length p ≤ coefficientCount) × T (every small p)
 
--- A trimmed polynomial r stays within the limits.
-trim-fits : (p r : Polynomial) → r ≡ trim p → Counted p → Counted r
+-- A front r of p, which has all that is not zero.
+pub record Shortened (r p : Polynomial) : Type 0 where
+  pub some : 0 < length r
+  pub few : length r ≤ length p
+  pub same : Same r p
+  pub within : T (every small p) → T (every small r)
+
+pub shortened-fits : (r p : Polynomial) → Shortened r p → Counted p → Counted r
+shortened-fits r p s h = (s .some, omega (arith, s .few, h .1), s .within (h .2))
+
+pub shortened-trim : (p r : Polynomial) → 0 < length p → r ≡ trim p → Shortened r p
 unfolding trim
-trim-fits p r e h = rw e (rw length-take (omega arith), rw length-take (omega arith), every-take small (degree p + 1) p (h .2))
+shortened-trim p r some e = record {
+  some = rw (e, length-take) (omega (arith, some));
+  few = rw (e, length-take) (omega arith);
+  same = λ k. ap (λ s. coeff s k) e ∙ coeff-trim p k;
+  within = λ h. rw e (every-take small (degree p + 1) p h);
+}
+
+-- The first n coefficients, where those behind are zero.
+pub shortened-front : (p r : Polynomial) (n : ℕ) → 0 < n → n ≤ length p → r ≡ take n p → T (isZero (drop n p)) → Shortened r p
+shortened-front p r n some few e z = record {
+  some = rw (e, length-take) (omega arith);
+  few = rw (e, length-take) (omega arith);
+  same = λ k. ap (λ s. coeff s k) e ∙ cases k (decLt k n);
+  within = λ h. rw e (every-take small n p h);
+}
+  where
+    cases : (k : ℕ) → Dec (k < n) → coeff (take n p) k ≡ coeff p k
+    cases k (yes m) = coeff-take n p k m
+    cases k (no m) =
+        let place : n + (k - n) ≡ k = omega arith in
+        coeff-past-length (take n p) k (rw length-take (omega arith))
+        ∙ sym (ap (coeff p) (sym place) ∙ sym (coeff-drop n p (k - n)) ∙ isZero-coeff (drop n p) z (k - n))
 
 -- ---- the coefficients up to power 15 and those past it
 
@@ -422,20 +454,21 @@ module _ (g h : Polynomial) (t u : List ℤ) where
 
 -- ---- the polynomial at place e, made of trimmed parts
 
--- Multipliers g and h, and the parts of t and u at place e of k, all trimmed; n is the width of a part as the code computes it.
+-- Multipliers g and h, trimmed, and the parts of t and u at place e of k, shortened; n is the width of a part as the code computes it.
 pub record Trimmed (k : ℕ) (g h : Polynomial) (t u : List ℤ) (e n : ℕ) (a p b q : Polynomial) : Type 0 where
   pub below : e < k
   pub width : n ≡ coefficientCount
   pub at-g : a ≡ trim g
   pub at-h : b ≡ trim h
-  pub at-t : p ≡ trim (take n (drop (e * coefficientCount) t))
-  pub at-u : q ≡ trim (take n (drop (e * coefficientCount) u))
+  pub at-t : Shortened p (take n (drop (e * coefficientCount) t))
+  pub at-u : Shortened q (take n (drop (e * coefficientCount) u))
 
 module _ {k : ℕ} {g h : Polynomial} {t u : List ℤ} {e n : ℕ} {a p b q : Polynomial} (made : Trimmed k g h t u e n a p b q) where
   trimmed-same : Same (add (mul a p) (mul b q)) (entryAt k g h t u e)
   trimmed-same i =
-      ap₂ (λ x y. coeff (add x y) i) (ap₂ mul (made .at-g) (made .at-t)) (ap₂ mul (made .at-h) (made .at-u))
-      ∙ combined-trim g (take n (drop (e * coefficientCount) t)) h (take n (drop (e * coefficientCount) u)) i
+      combined-same a g p (take n (drop (e * coefficientCount) t)) b h q (take n (drop (e * coefficientCount) u))
+      (λ k. ap (λ s. coeff s k) (made .at-g) ∙ coeff-trim g k) (made .at-t .same)
+      (λ k. ap (λ s. coeff s k) (made .at-h) ∙ coeff-trim h k) (made .at-u .same) i
       ∙ ap (λ m. coeff (add (mul g (take m (drop (e * coefficientCount) t))) (mul h (take m (drop (e * coefficientCount) u)))) i)
       (made .width)
 
@@ -460,8 +493,8 @@ module _ {k : ℕ} {g h : Polynomial} {t u : List ℤ} {e n : ℕ} {a p b q : Po
         rw (length-take, length-drop) (omega (arith, made .width)),
         every-part small (e * coefficientCount) n v s,
       ) in (
-        trim-fits g a (made .at-g) (omega arith, omega arith, m .1),
-        trim-fits _ p (made .at-t) (part t (l .0) (r .0)),
-        trim-fits h b (made .at-h) (omega arith, omega arith, m .3),
-        trim-fits _ q (made .at-u) (part u (l .1) (r .1)),
+        shortened-fits a g (shortened-trim g a (omega arith) (made .at-g)) (omega arith, omega arith, m .1),
+        shortened-fits p _ (made .at-t) (part t (l .0) (r .0)),
+        shortened-fits b h (shortened-trim h b (omega arith) (made .at-h)) (omega arith, omega arith, m .3),
+        shortened-fits q _ (made .at-u) (part u (l .1) (r .1)),
       )

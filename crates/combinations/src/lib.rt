@@ -17,7 +17,7 @@ ghost use Rattle.rules.specs.Stores.{rowOf};
 ghost use Rattle.rules.specs.Elimination.{limitDegrees, consistent};
 ghost use Rattle.working_rows.specs.Working.{numbersHeld, Full};
 ghost use Rattle.working_rows.specs.Worked.{refusalOf, numbersOf};
-ghost use Rattle.combinations.specs.Combination.{trim, lowPart, combinations, lowNumbers, Counted, highest};
+ghost use Rattle.combinations.specs.Combination.{trim, Shortened, lowPart, combinations, lowNumbers, Counted, highest};
 ghost use Rattle.combinations.specs.Primitive.{isLow, primitiveNumbers};
 ghost use Rattle.combinations.specs.LowRows.{RowParts, LowRow, ContentOf};
 ghost use Rattle.polynomials.specs.Content.{Below};
@@ -29,6 +29,21 @@ fn trimmed(p: &[i64]) -> &[i64]
 {
     let n = polynomials::content::degree(p) + 1;
     &p[..n]
+}
+
+// Most polynomials have no more coefficients than this.
+const SHORT: usize = 4;
+
+// A front of the coefficients, with only zeros behind it. Where it can have four it has, since lengths of one to four are hard to
+// foretell, and a multiplication by 0 costs less than a wrong guess.
+fn shortened(p: &[i64]) -> &[i64]
+    requires { ⌜ length (now p) ≡ coefficientCount ⌝ }
+    ensures { λ r. ⌜ Shortened (now r) (now (p .entry)) ⌝ }
+{
+    if polynomials::content::all_zero(&p[SHORT..]) {
+        return &p[..SHORT];
+    }
+    trimmed(p)
 }
 
 // No coefficient of g·p + h·q past this power is left.
@@ -62,9 +77,17 @@ fn passes(g: &[i64], p: &[i64], h: &[i64], q: &[i64], most: usize) -> bool
     false
 }
 
+// Most often the lowest coefficients tell.
 fn both_zero(p: &[i64], q: &[i64]) -> bool
+    requires { ⌜ (0 < length (now p)) × (0 < length (now q)) ⌝ }
     ensures { λ r. ⌜ r ≡ (isZero (now (p .entry)) && isZero (now (q .entry))) ⌝ }
 {
+    if p[0] != 0 {
+        return false;
+    }
+    if q[0] != 0 {
+        return false;
+    }
     polynomials::content::all_zero(p) && polynomials::content::all_zero(q)
 }
 
@@ -134,7 +157,7 @@ pub fn low_combination(
         let p = &target[from..to];
         let q = &pivot[from..to];
         if !both_zero(p, q) {
-            if put_low(&mut place[from..to], a, trimmed(p), b, trimmed(q)) {
+            if put_low(&mut place[from..to], a, shortened(p), b, shortened(q)) {
                 return true;
             }
         }

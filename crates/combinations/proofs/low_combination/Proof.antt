@@ -102,7 +102,7 @@ module _ (c : tie.After-both-zero Inv-loop μ-loop) where
   zeros-low z = zero-low count g h target pivot e inside (both z)
 
 -- the polynomials that are combined there
-module _ (d : tie.After-trimmed4 Inv-loop μ-loop) where
+module _ (d : tie.After-shortened2 Inv-loop μ-loop) where
   abbrev here : tie.After-both-zero Inv-loop μ-loop
   here = d .before .before .before .before
 
@@ -113,10 +113,10 @@ module _ (d : tie.After-trimmed4 Inv-loop μ-loop) where
   b = now (at here .before .trimmed2 .result)
 
   abbrev p : Polynomial
-  p = now (d .before .trimmed3 .result)
+  p = now (d .before .shortened .result)
 
   abbrev q : Polynomial
-  q = now (d .trimmed4 .result)
+  q = now (d .shortened2 .result)
 
   made : Trimmed (count here) (g here) (h here) (target here) (pivot here) (e here) (width here) a p b q
   made = record {
@@ -124,8 +124,8 @@ module _ (d : tie.After-trimmed4 Inv-loop μ-loop) where
     width = omega arith;
     at-g = at here .before .before .trimmed .ensures;
     at-h = at here .before .trimmed2 .ensures;
-    at-t = d .before .trimmed3 .ensures;
-    at-u = d .trimmed4 .ensures;
+    at-t = d .before .shortened .ensures;
+    at-u = d .shortened2 .ensures;
   }
 
   put : (r : List ℤ) → r ≡ lowPart (add (mul a p) (mul b q))
@@ -209,11 +209,11 @@ part-put-low-start c = search needs
 part-put-low-end : tie.Need-part-put-low-end Inv-loop μ-loop
 part-put-low-end c = search needs
 
-trimmed-requires-3 : tie.Need-trimmed-requires-3 Inv-loop μ-loop
-trimmed-requires-3 c κs = search needs
+shortened-requires : tie.Need-shortened-requires Inv-loop μ-loop
+shortened-requires c κs = search needs
 
-trimmed-requires-4 : tie.Need-trimmed-requires-4 Inv-loop μ-loop
-trimmed-requires-4 c κs = search needs
+shortened-requires-2 : tie.Need-shortened-requires-2 Inv-loop μ-loop
+shortened-requires-2 c κs = search needs
 
 put-low-requires : tie.Need-put-low-requires Inv-loop μ-loop
 put-low-requires c κs =
@@ -252,9 +252,9 @@ loop-again c =
     let here = c .before in
     let written : (c .if1 .place ≡ front (full here) ((e here + 1) * coefficientCount)) × (isLow (getD (ps here) (e here) []) ≡ true) = ⊎-elim
     (λ w.
-    let trimmed : tie.After-trimmed4 Inv-loop μ-loop = record {
-      before = record { before = record { before = record { before = here; if1 = w .0 }; put-low-arg = w .1 }; trimmed3 = w .2 };
-      trimmed4 = w .3;
+    let trimmed : tie.After-shortened2 Inv-loop μ-loop = record {
+      before = record { before = record { before = record { before = here; if1 = w .0 }; put-low-arg = w .1 }; shortened = w .2 };
+      shortened2 = w .3;
     } in
     let tests : tie.After-put-low Inv-loop μ-loop = record { before = trimmed; put-low = w .4 } in
     (w .7 ∙ put trimmed (w .4 .last .0) (w .4 .ensures .1 (w .6 .left)), not-false _ (sym (tested tests) ∙ w .6 .left)))
@@ -313,8 +313,8 @@ low-combination-spec =
     sub-put-low
     part-put-low-start
     part-put-low-end
-    trimmed-requires-3
-    trimmed-requires-4
+    shortened-requires
+    shortened-requires-2
     put-low-requires
     same-length
     returns

@@ -54,8 +54,12 @@ module _ (c : tie.Start) where
   unfolding coeff
   first-below k =
       rw (coeff-add (now (c .args .place)) (mul g p) k)
-      (omega (arith, natAbs-+ℤ (coeff (now (c .args .place)) k) (coeff (mul g p) k), ap natAbs (zero-at k),
-      product-size g p (c .pre .1 .0 .2) (c .pre .1 .1 .2) k coefficientCount (c .pre .1 .0 .1)))
+      (omega (
+        arith,
+        natAbs-+ℤ (coeff (now (c .args .place)) k) (coeff (mul g p) k),
+        ap natAbs (zero-at k),
+        product-size g p (c .pre .1 .0 .2) (c .pre .1 .1 .2) k coefficientCount (c .pre .1 .0 .1),
+      ))
 
   both-added : (r : List ℤ) → length r ≡ coefficientCount → r ≡ add (add (now (c .args .place)) (mul g p)) (mul h q) → r ≡ lowPart sum
   unfolding coeff
