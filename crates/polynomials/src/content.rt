@@ -44,6 +44,18 @@ pub fn all_zero(p: &[i64]) -> bool
     joined == 0
 }
 
+// The same of a long list that most often begins with a number other than 0, if it has one.
+pub fn zero_throughout(p: &[i64]) -> bool
+    ensures { λ r. ⌜ r ≡ Polynomials.isZero (now (p .entry)) ⌝ }
+{
+    if 0 < p.len() {
+        if p[0] != 0 {
+            return false;
+        }
+    }
+    all_zero(p)
+}
+
 // How many coefficients are left when those at the top are taken off four at a time as long as all four are zero: most polynomials are far
 // shorter than their places.
 fn without_fours(p: &[i64]) -> usize

@@ -22,7 +22,7 @@ pub fn width(entries: &[i64]) -> usize
     while 0 < blocks {
         let from = (blocks - 1) * BLOCK;
         let to = blocks * BLOCK;
-        if !polynomials::content::all_zero(&entries[from..to]) {
+        if !polynomials::content::zero_throughout(&entries[from..to]) {
             return blocks;
         }
         blocks -= 1;

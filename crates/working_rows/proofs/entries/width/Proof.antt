@@ -28,7 +28,7 @@ abbrev μ-loop : tie.MeasureT-loop
 μ-loop numbers blocks₀ blocks = blocks
 
 -- the test of the lowest block that is left
-module _ (c : tie.After-all-zero Inv-loop μ-loop) where
+module _ (c : tie.After-zero-throughout Inv-loop μ-loop) where
   abbrev numbers : List ℤ
   numbers = now (c .before .before .before .before .args .entries)
 
@@ -38,10 +38,10 @@ module _ (c : tie.After-all-zero Inv-loop μ-loop) where
   some-left : c .before .before .before .loop .blocks ≡ suc left
   some-left = omega arith
 
-  tested : c .all-zero .result ≡ zeroBlock (getD (rowOf numbers .blocks) left [])
+  tested : c .zero-throughout .result ≡ zeroBlock (getD (rowOf numbers .blocks) left [])
   tested =
       let size : suc left * blockLength - left * blockLength ≡ blockLength = omega arith in
-      c .all-zero .ensures
+      c .zero-throughout .ensures
       ∙ ap (λ n. isZero (take n (drop (left * blockLength) numbers))) (ap (λ b. b * blockLength - left * blockLength) some-left ∙ size)
       ∙ sym (zeroBlock-at numbers left (omega arith))
 
@@ -63,20 +63,20 @@ mul-from c = search needs
 mul-to : tie.Need-mul-to Inv-loop μ-loop
 mul-to c = search needs
 
-mul-all-zero : tie.Need-mul-all-zero Inv-loop μ-loop
-mul-all-zero c = search needs
+mul-zero-throughout : tie.Need-mul-zero-throughout Inv-loop μ-loop
+mul-zero-throughout c = search needs
 
-sub-all-zero : tie.Need-sub-all-zero Inv-loop μ-loop
-sub-all-zero c = search needs
+sub-zero-throughout : tie.Need-sub-zero-throughout Inv-loop μ-loop
+sub-zero-throughout c = search needs
 
-part-all-zero-start : tie.Need-part-all-zero-start Inv-loop μ-loop
-part-all-zero-start c = search needs
+part-zero-throughout-start : tie.Need-part-zero-throughout-start Inv-loop μ-loop
+part-zero-throughout-start c = search needs
 
-part-all-zero-end : tie.Need-part-all-zero-end Inv-loop μ-loop
-part-all-zero-end c = search needs
+part-zero-throughout-end : tie.Need-part-zero-throughout-end Inv-loop μ-loop
+part-zero-throughout-end c = search needs
 
-all-zero-requires : tie.Need-all-zero-requires Inv-loop μ-loop
-all-zero-requires c κs = search needs
+zero-throughout-requires : tie.Need-zero-throughout-requires Inv-loop μ-loop
+zero-throughout-requires c κs = search needs
 
 returns : tie.Need-returns Inv-loop μ-loop
 returns c =
@@ -113,11 +113,11 @@ width-spec =
     sub-from
     mul-from
     mul-to
-    mul-all-zero
-    sub-all-zero
-    part-all-zero-start
-    part-all-zero-end
-    all-zero-requires
+    mul-zero-throughout
+    sub-zero-throughout
+    part-zero-throughout-start
+    part-zero-throughout-end
+    zero-throughout-requires
     returns
     sub-blocks
     loop-less
