@@ -11,7 +11,6 @@
 --   combined-same      factors with the same coefficients have a combination with the same coefficients
 --   shortened-trim, shortened-front, shortened-fits   what is shortened, and that it stays within the limits
 --   lowPart-at, lowPart-take    coefficient k of the low part; the low part is the front where there are 16 coefficients
---   front-rest         what is not written yet holds 0
 --   past-highest       what is zero past the highest power that a combination can have
 --   high-free, high-found   the test of the coefficients past power 15
 --   combination-at, polynomials-combination, length-combinations   the polynomials of a combination of rows
@@ -211,17 +210,6 @@ module _ (g p h q : Polynomial) where
 
   pub high-found : (k : ℕ) → coefficientCount ≤ k → coeff sum k ≢ pos 0 → isZero (drop coefficientCount sum) ≡ false
   high-found k l n = false-of _ (λ z. n (high-zero sum .0 z k l))
-
--- ---- numbers written over zeros
-
--- What is not written yet holds 0.
-pub front-rest : (l : List ℤ) (n k : ℕ) → n + k ≤ length l → take k (drop n (front l n)) ≡ replicate k (pos 0)
-unfolding front
-front-rest l n k h =
-    let count : length l - n ≡ k + (length l - n - k) = omega arith in
-    ap (take k) (drop-at (take n l) (replicate (length l - n) (pos 0)) n (length-take-le n l (omega arith))
-    ∙ ap (λ m. replicate m (pos 0)) count ∙ sym (replicate-append-replicate k (length l - n - k) (pos 0)))
-    ∙ take-at (replicate k (pos 0)) (replicate (length l - n - k) (pos 0)) k (length-replicate k (pos 0))
 
 -- ---- lengths and sizes
 

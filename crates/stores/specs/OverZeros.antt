@@ -5,6 +5,7 @@
 --
 -- Main statements
 --   front-none, front-put, front-skip, front-all, front-whole   none written, one part of 16 more, one that is zero, all
+--   front-over, front-rest   the first members written over zeros, and what is not written yet
 use mathlib.Core.Path.{_≡_, sym, _∙_, ap, ap₂}
 use mathlib.Core.List.{List, _++_, append-assoc}
 use Prim.Native.Nat.{ℕ, _+_, _*_, _-_, _≤_}
@@ -39,6 +40,24 @@ front-all l n h =
 pub front-whole : (l : List ℤ) → front l (length l) ≡ l
 unfolding isZero
 front-whole l = front-all l (length l) (rw drop-length tt)
+
+-- Zeros under which the first n members are overwritten.
+pub front-over : (l z : List ℤ) (n : ℕ) → z ≡ replicate (length l) (pos 0) → n ≤ length l → take n l ++ drop n z ≡ front l n
+unfolding front
+front-over l z n e h =
+    let count : length l ≡ n + (length l - n) = omega arith in
+    ap (λ r. take n l ++ r)
+    (ap (drop n) (e ∙ ap (λ m. replicate m (pos 0)) count ∙ sym (replicate-append-replicate n (length l - n) (pos 0)))
+    ∙ drop-at (replicate n (pos 0)) (replicate (length l - n) (pos 0)) n (length-replicate n (pos 0)))
+
+-- What is not written yet holds 0.
+pub front-rest : (l : List ℤ) (n k : ℕ) → n + k ≤ length l → take k (drop n (front l n)) ≡ replicate k (pos 0)
+unfolding front
+front-rest l n k h =
+    let count : length l - n ≡ k + (length l - n - k) = omega arith in
+    ap (take k) (drop-at (take n l) (replicate (length l - n) (pos 0)) n (length-take-le n l (omega arith))
+    ∙ ap (λ m. replicate m (pos 0)) count ∙ sym (replicate-append-replicate k (length l - n - k) (pos 0)))
+    ∙ take-at (replicate k (pos 0)) (replicate (length l - n - k) (pos 0)) k (length-replicate k (pos 0))
 
 -- The polynomials of a row stand in parts of 16 numbers.
 module _ (l : List ℤ) (e : ℕ) (h : e * coefficientCount + coefficientCount ≤ length l) where

@@ -4,7 +4,7 @@
 --   movedCount        the number of polynomials that move
 --
 -- Main statements
---   coeff-shift-front   the coefficients up to the highest nonzero one have the shift of all
+--   coeff-shift-front, shift-past   the coefficients up to the highest nonzero one have the shift of all, and past it there is none
 --   length-shiftUp    those of the left part are as many as a left part has
 --   shiftUp-part      polynomial e is p(n + 1) for the polynomial p one block further down
 --   shiftUp-rest      the last block is zero
@@ -19,9 +19,9 @@ use lib.Dec.{T}
 use lib.IntN.{ℤ, pos, _*ℤ_, *ℤ-zero}
 use lib.ListN.{length, take, drop, length-append, length-take, length-drop, length-map, List·getD-map}
 use lib.Seq.{drop-at, drop-drop, length-take-le}
-use Rattle.algebra.specs.Polynomials.{Polynomial, coeff, degree, isZero, shift, shiftBy, length-shift, isZero-append, isZero-shift}
+use Rattle.algebra.specs.Polynomials.{Polynomial, coeff, degree, isZero, shift, shiftBy, length-shift, isZero-append, isZero-shift, coeff-isZero}
 use Rattle.algebra.specs.Sums.{sumBelow, sumBelow-congr, sumBelow-extend}
-use Rattle.algebra.specs.Coefficients.{coeff-take, coeff-past-degree}
+use Rattle.algebra.specs.Coefficients.{coeff-take, coeff-drop, coeff-past-length, coeff-past-degree}
 use Rattle.algebra.specs.Binomials.{binomial, coeff-shift}
 use Rattle.lists.specs.Tests.{T-&&}
 use Rattle.rules.specs.Rows.{Block, Row, mapRow, coefficientsOf, blank, leadingBlock, shiftUp}
@@ -44,6 +44,12 @@ coeff-shift-front p n k h d =
     ∙ sym (sumBelow-extend n (length p) _ h
     (λ j l m. ap (λ a. pos (binomial j k) *ℤ a) (coeff-past-degree p j (omega arith)) ∙ *ℤ-zero (pos (binomial j k))))
     ∙ sym (coeff-shift p k)
+
+-- Past the highest nonzero coefficient of p, p(n + 1) has none either.
+pub shift-past : (p : Polynomial) (n : ℕ) → n ≤ length p → degree p < n → T (isZero (drop n (shift p)))
+shift-past p n h d =
+    coeff-isZero (drop n (shift p)) (λ k. coeff-drop n (shift p) k ∙ sym (coeff-shift-front p n (n + k) h d)
+    ∙ coeff-past-length (shift (take n p)) (n + k) (rw (length-shift, length-take) (omega arith)))
 
 -- The polynomials of all blocks but the first move up.
 abbrev pub movedCount : ℕ

@@ -8,7 +8,8 @@ use stores::lengths::POLYNOMIALS;
 ghost use mathlib.Core.Path.{_≡_};
 ghost use Prim.Native.Nat.{_+_};
 ghost use lib.Dec.{T};
-ghost use lib.ListN.{length};
+ghost use lib.IntN.{pos};
+ghost use lib.ListN.{length, replicate};
 ghost use Rattle.algebra.specs.Polynomials.{shift};
 ghost use Rattle.rules.specs.Limits.{entriesLength, small, coefficientCount};
 ghost use Rattle.rules.specs.Rows.{shiftUp};
@@ -22,17 +23,18 @@ ghost use Rattle.working_rows.specs.Working.{leftPart, numbersHeld, Full
 // The polynomials of the blocks that move up: all but the first.
 const MOVED: usize = POLYNOMIALS - COLUMNS;
 
-// The coefficients of p(n + 1), by a table of Pascal's numbers and the coefficients of p up to the highest that is not 0.
+// The coefficients of p(n + 1), over zeros, by a table of Pascal's numbers and the coefficients of p up to the highest that is not 0: past it
+// both have only zeros.
 fn put_shifted(place: &mut [i64], table: &[[i64; COEFFICIENTS]; COEFFICIENTS], p: &[i64])
     requires { ⌜
-        T (followsRule (now table)) × (length (now place) ≡ coefficientCount) × (length (now p) ≡ coefficientCount)
+        T (followsRule (now table)) × (now place ≡ replicate coefficientCount (pos 0)) × (length (now p) ≡ coefficientCount)
         × T (every small (now p)) ⌝ }
     ensures { λ _. ⌜ now (place .exit) ≡ shift (now (p .entry)) ⌝ }
 {
     let count = polynomials::content::degree(p) + 1;
     let front = &p[..count];
     let mut k = 0;
-    while k < COEFFICIENTS {
+    while k < count {
         place[k] = polynomials::shift::shifted_coefficient(table, front, k);
         k += 1;
     }

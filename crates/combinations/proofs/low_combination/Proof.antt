@@ -18,9 +18,9 @@ use Rattle.algebra.specs.Polynomials.{Polynomial, isZero, add, mul}
 use Rattle.lists.specs.Tests.{every, every-longer, every-false}
 use Rattle.rules.specs.Limits.{coefficientCount}
 use Rattle.rules.specs.Layout.{coefficientsAt}
-use Rattle.stores.specs.OverZeros.{front, length-front, front-none, front-whole, front-put, front-skip}
+use Rattle.stores.specs.OverZeros.{front, length-front, front-none, front-whole, front-put, front-skip, front-rest}
 use Rattle.combinations.specs.Combination.{lowPart, combinations, lowNumbers, length-combinations, length-low, trimmed-high, trimmed-low}
-use Rattle.combinations.specs.Combination.{zero-part, zero-low, front-rest, Trimmed, trimmed-fit}
+use Rattle.combinations.specs.Combination.{zero-part, zero-low, Trimmed, trimmed-fit}
 use Rattle.combinations.specs.Primitive.{isLow}
 use Rattle.combinations.proofs.low_combination.Statement.{statement}
 use Rattle.combinations.proofs.low_combination.Tie as tie

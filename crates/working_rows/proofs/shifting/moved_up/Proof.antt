@@ -18,7 +18,7 @@ use Rattle.algebra.specs.Polynomials.{isZero, shift, isZero-shift}
 use Rattle.rules.specs.Limits.{coefficientCount, blockLength, entriesLength, small}
 use Rattle.rules.specs.Rows.{shiftUp}
 use Rattle.rules.specs.Stores.{rowOf}
-use Rattle.stores.specs.OverZeros.{front, length-front, front-none, front-all, front-put, front-skip}
+use Rattle.stores.specs.OverZeros.{front, length-front, front-none, front-all, front-put, front-skip, front-rest}
 use Rattle.lists.specs.Tests.{every-part}
 use Rattle.working_rows.specs.Working.{leftPart}
 use Rattle.working_rows.specs.Shifting.{length-shiftUp, shiftUp-part, shiftUp-rest, movedCount}
@@ -124,7 +124,15 @@ put-shifted-requires : tie.Need-put-shifted-requires Inv-loop μ-loop
 put-shifted-requires c κs =
     let at = c .before .before in
     let start = at .before .before .before .before in
-    (search needs, search needs, search needs, every-part small (from at) (from at + coefficientCount - from at) (row at) (start .pre .2))
+    let wide : width at ≡ coefficientCount = omega arith in
+    let start-at = e at * coefficientCount in (
+      search needs,
+      ap (λ l. take (width at) (drop start-at l)) (at .before .before .before .loop .inv .2)
+          ∙ ap (λ n. take n (drop start-at (front (full at) start-at))) wide
+          ∙ front-rest (full at) start-at coefficientCount (omega (arith, full-long at, at .before .before .loop-test .taken)),
+      search needs,
+      every-part small (from at) (from at + coefficientCount - from at) (row at) (start .pre .2),
+    )
 
 add-e : tie.Need-add-e Inv-loop μ-loop
 add-e c = search needs
