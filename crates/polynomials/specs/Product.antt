@@ -10,15 +10,16 @@
 --   coeff-mul-take     factors may be cut where only zeros are left
 --   product-next       one coefficient of g: a multiple of p is added, and what is left goes one power further up
 --   added-part         a multiple that is added to a part of the numbers
+--   multiple-fits, multiple-is   one number to which a multiple is added
 --   below-part, below-next   the size of the numbers of a part, and how much numbers grow by a multiple
-use mathlib.Core.Path.{_≡_, refl, sym, _∙_, ap, fun-ext}
+use mathlib.Core.Path.{_≡_, refl, sym, _∙_, ap, ap₂, fun-ext}
 use mathlib.Core.List.{List, [], _∷_, _++_}
 use Prim.Native.Nat.{ℕ, zero, suc, _+_, _-_, _*_, _≤_, _<_, min}
 use native.Mathlib.Nat.{le-trans, mul-le-mul, mul-le-mul-right, not-suc-le-zero, le-of-suc-le-suc}
 use native.Mathlib.Omega.{arith}
 use lib.Dec.{T, leb→le}
 use lib.IntN.{ℤ, pos, natAbs, _+ℤ_, _*ℤ_, +ℤ-idr, zero-*ℤ, *ℤ-zero}
-use lib.ListN.{length, take, drop, length-take, take-append-drop}
+use lib.ListN.{length, getD, take, drop, length-take, take-append-drop}
 use lib.Seq.{getD-drop}
 use Rattle.algebra.specs.Integers.{natAbs-+ℤ, natAbs-*ℤ}
 use Rattle.algebra.specs.Sums.{sumBelow, sumBelow-zeros, sumBelow-extend, natAbs-sumBelow}
@@ -26,7 +27,8 @@ use Rattle.algebra.specs.Polynomials.{Polynomial, coeff, add, scale, mul, isZer
 use Rattle.algebra.specs.Polynomials.{Polynomial·add-assoc}
 use Rattle.algebra.specs.Coefficients.{coeff-add, coeff-scale, coeff-drop, coeff-mul, coeff-past-length}
 use Rattle.rules.specs.Limits.{bound, small}
-use Rattle.lists.specs.Tests.{every}
+use Rattle.lists.specs.Tests.{every, every-getD}
+use Rattle.lists.specs.Taken.{suffix-first}
 use Rattle.polynomials.specs.Content.{Below, small-at}
 
 abbrev pub term : Polynomial → Polynomial → ℕ → ℕ → ℤ
@@ -133,3 +135,21 @@ below-next n i l p a h u v =
   where
     size : (k : ℕ) → natAbs (a *ℤ coeff p k) ≤ bound * bound
     size k = rw (natAbs-*ℤ a (coeff p k)) (mul-le-mul (leb→le (natAbs a) bound u) (small-at p v k))
+
+-- One number q of the numbers l, where those from place k on are as they were, and the multiple that is added to it.
+module _ (l q p : List ℤ) (a : ℤ) (k : ℕ) (kept : drop k q ≡ drop k l) {x y z : ℤ} (at-x : x ≡ getD q k (pos 0)) (at-y : y ≡ a)
+    (at-z : z ≡ getD p k (pos 0)) where
+  pub multiple-fits : Below (32 * (bound * bound)) l → T (small a) → T (every small p)
+      → (natAbs x < 32 * (bound * bound)) × T (small y) × T (small z)
+  unfolding small
+  multiple-fits h u v = (
+    rw (at-x, suffix-first q l k (pos 0) kept) (h k),
+    rw at-y u,
+    rw at-z (every-getD small p (pos 0) tt v k),
+  )
+
+  pub multiple-is : {r : ℤ} → r ≡ x +ℤ y *ℤ z → r ≡ getD (add l (scale a p)) k (pos 0)
+  unfolding coeff
+  multiple-is e =
+      e ∙ ap₂ (λ n m. n +ℤ m) (at-x ∙ suffix-first q l k (pos 0) kept) (ap₂ (λ n m. n *ℤ m) at-y at-z ∙ sym (coeff-scale a p k))
+      ∙ sym (coeff-add l (scale a p) k)

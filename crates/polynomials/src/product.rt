@@ -2,7 +2,7 @@
 ghost use mathlib.Core.Path.{_≡_};
 ghost use Prim.Native.Nat.{_+_, _*_, _≤_, _<_};
 ghost use lib.Dec.{T};
-ghost use lib.IntN.{natAbs};
+ghost use lib.IntN.{natAbs, _+ℤ_, _*ℤ_};
 ghost use lib.ListN.{length};
 ghost use Rattle.algebra.specs.Polynomials.{coeff, add, scale, mul};
 ghost use Rattle.rules.specs.Limits.{bound, small, coefficientCount};
@@ -48,6 +48,39 @@ fn add_scaled(place: &mut [i64], a: i64, p: &[i64])
     }
 }
 
+// One number with a multiple added.
+fn plus_multiple(x: i64, a: i64, b: i64) -> i64
+    requires { ⌜ (natAbs x < 32 * (bound * bound)) × T (small a) × T (small b) ⌝ }
+    ensures { λ r. ⌜ r ≡ x +ℤ a *ℤ b ⌝ }
+{
+    x + a * b
+}
+
+// The same for four numbers, most often the case, one after the other: a loop would be worked for two at a time, and then wait for the sums
+// of the turn before.
+fn add_four(place: &mut [i64], a: i64, p: &[i64])
+    requires { ⌜
+        (length (now place) ≡ 4) × (length (now p) ≡ 4) × Below (32 * (bound * bound)) (now place) × T (small a)
+        × T (every small (now p)) ⌝ }
+    ensures { λ _. ⌜ now (place .exit) ≡ add (now (place .entry)) (scale a (now (p .entry))) ⌝ }
+{
+    place[0] = plus_multiple(place[0], a, p[0]);
+    place[1] = plus_multiple(place[1], a, p[1]);
+    place[2] = plus_multiple(place[2], a, p[2]);
+    place[3] = plus_multiple(place[3], a, p[3]);
+}
+
+fn add_multiple(place: &mut [i64], a: i64, p: &[i64])
+    requires { ⌜ (length (now place) ≡ length (now p)) × Below (32 * (bound * bound)) (now place) × T (small a) × T (every small (now p)) ⌝ }
+    ensures { λ _. ⌜ now (place .exit) ≡ add (now (place .entry)) (scale a (now (p .entry))) ⌝ }
+{
+    if p.len() == 4 {
+        add_four(place, a, p);
+    } else {
+        add_scaled(place, a, p);
+    }
+}
+
 // The product g·p, added to numbers among which it has room: for each coefficient of g a multiple of p, one power further up.
 pub fn add_product(place: &mut [i64], g: &[i64], p: &[i64])
     requires { ⌜ (length (now g) ≤ coefficientCount) × T (every small (now g)) × T (every small (now p)) ⌝ }
@@ -57,7 +90,7 @@ pub fn add_product(place: &mut [i64], g: &[i64], p: &[i64])
     let mut i = 0;
     while i < g.len() {
         let end = i + p.len();
-        add_scaled(&mut place[i..end], g[i], p);
+        add_multiple(&mut place[i..end], g[i], p);
         i += 1;
     }
 }

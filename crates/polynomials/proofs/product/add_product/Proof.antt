@@ -99,32 +99,32 @@ loop-holds c = (omega arith, refl, refl, c .pre .1 .2)
 add-end : tie.Need-add-end Inv-loop μ-loop
 add-end c = omega (arith, room c, at c .loop .inv .1)
 
-mul-add-scaled : tie.Need-mul-add-scaled Inv-loop μ-loop
-mul-add-scaled c = search needs
+mul-add-multiple : tie.Need-mul-add-multiple Inv-loop μ-loop
+mul-add-multiple c = search needs
 
-sub-add-scaled : tie.Need-sub-add-scaled Inv-loop μ-loop
-sub-add-scaled c = search needs
+sub-add-multiple : tie.Need-sub-add-multiple Inv-loop μ-loop
+sub-add-multiple c = search needs
 
-part-add-scaled-start : tie.Need-part-add-scaled-start Inv-loop μ-loop
-part-add-scaled-start c = search needs
+part-add-multiple-start : tie.Need-part-add-multiple-start Inv-loop μ-loop
+part-add-multiple-start c = search needs
 
-part-add-scaled-end : tie.Need-part-add-scaled-end Inv-loop μ-loop
-part-add-scaled-end c = room c
+part-add-multiple-end : tie.Need-part-add-multiple-end Inv-loop μ-loop
+part-add-multiple-end c = room c
 
-mul-add-scaled-2 : tie.Need-mul-add-scaled-2 Inv-loop μ-loop
-mul-add-scaled-2 c = search needs
+mul-add-multiple-2 : tie.Need-mul-add-multiple-2 Inv-loop μ-loop
+mul-add-multiple-2 c = search needs
 
-shared-slice-copy-out-add-scaled : tie.Need-shared-slice-copy-out-add-scaled Inv-loop μ-loop
-shared-slice-copy-out-add-scaled c = search needs
+shared-slice-copy-out-add-multiple : tie.Need-shared-slice-copy-out-add-multiple Inv-loop μ-loop
+shared-slice-copy-out-add-multiple c = search needs
 
-add-scaled-requires : tie.Need-add-scaled-requires Inv-loop μ-loop
+add-multiple-requires : tie.Need-add-multiple-requires Inv-loop μ-loop
 unfolding small
-add-scaled-requires c κs =
+add-multiple-requires c κs =
     let d = c .before .before in
     let few : i d < 16 = omega (arith, start d .pre .0 .0, d .loop-test .taken) in (
       length-take-le (width d) (drop (i d) (place d)) (rw length-drop (omega (arith, wide d, room d))) ∙ wide d,
       below-part (32 * (bound * bound)) (i d) (width d) (place d) (λ k. omega (arith, at d .loop .inv .3 k, few)),
-      rw (read-back (getD (g d) (i d) (pos 0)) (c .add-scaled-arg2 .given)) (every-getD small (g d) (pos 0) tt (start d .pre .0 .1) (i d)),
+      rw (read-back (getD (g d) (i d) (pos 0)) (c .add-multiple-arg2 .given)) (every-getD small (g d) (pos 0) tt (start d .pre .0 .1) (i d)),
       start d .pre .0 .2,
     )
 
@@ -140,11 +140,11 @@ loop-again c =
     let call = c .before in
     let d = call .before .before .before in
     let a = getD (g d) (i d) (pos 0) in
-    let back = read-back a (call .before .add-scaled-arg2 .given) in
-    let whole = put d a (call .add-scaled .last .0)
-    (call .add-scaled .ensures ∙ ap (λ z. add (take (width d) (drop (i d) (place d))) (scale z (p d))) back) in (
+    let back = read-back a (call .before .add-multiple-arg2 .given) in
+    let whole = put d a (call .add-multiple .last .0)
+    (call .add-multiple .ensures ∙ ap (λ z. add (take (width d) (drop (i d) (place d))) (scale z (p d))) back) in (
       omega (arith, d .loop-test .taken),
-      same-len-mid (i d) (width d) (place d) (call .add-scaled .last .0) (call .add-scaled .kept .0) ∙ at d .loop .inv .1,
+      same-len-mid (i d) (width d) (place d) (call .add-multiple .last .0) (call .add-multiple .kept .0) ∙ at d .loop .inv .1,
       next d ∙ ap (λ l. take (i d + 1) l ++ add (drop (i d + 1) l) (mul (drop (i d + 1) (g d)) (p d))) (sym whole),
       λ k. subst (λ l. natAbs (getD l k (pos 0)) < (16 + (i d + 1)) * (bound * bound) + 1) (sym whole)
           (omega (
@@ -176,13 +176,13 @@ add-product-spec =
     μ-loop
     loop-holds
     add-end
-    mul-add-scaled
-    sub-add-scaled
-    part-add-scaled-start
-    part-add-scaled-end
-    mul-add-scaled-2
-    shared-slice-copy-out-add-scaled
-    add-scaled-requires
+    mul-add-multiple
+    sub-add-multiple
+    part-add-multiple-start
+    part-add-multiple-end
+    mul-add-multiple-2
+    shared-slice-copy-out-add-multiple
+    add-multiple-requires
     add-i
     loop-less
     loop-again
