@@ -36,6 +36,14 @@ pub fn combined_coefficient(g: &[i64], p: &[i64], h: &[i64], q: &[i64], k: usize
     product_coefficient(g, p, k) + product_coefficient(h, q, k)
 }
 
+// One number with a multiple added.
+fn plus_multiple(x: i64, a: i64, b: i64) -> i64
+    requires { ⌜ (natAbs x < 32 * (bound * bound)) × T (small a) × T (small b) ⌝ }
+    ensures { λ r. ⌜ r ≡ x +ℤ a *ℤ b ⌝ }
+{
+    x + a * b
+}
+
 // The multiple a·p, added to as many numbers.
 fn add_scaled(place: &mut [i64], a: i64, p: &[i64])
     requires { ⌜ (length (now place) ≡ length (now p)) × Below (32 * (bound * bound)) (now place) × T (small a) × T (every small (now p)) ⌝ }
@@ -43,17 +51,9 @@ fn add_scaled(place: &mut [i64], a: i64, p: &[i64])
 {
     let mut k = 0;
     while k < p.len() {
-        place[k] += a * p[k];
+        place[k] = plus_multiple(place[k], a, p[k]);
         k += 1;
     }
-}
-
-// One number with a multiple added.
-fn plus_multiple(x: i64, a: i64, b: i64) -> i64
-    requires { ⌜ (natAbs x < 32 * (bound * bound)) × T (small a) × T (small b) ⌝ }
-    ensures { λ r. ⌜ r ≡ x +ℤ a *ℤ b ⌝ }
-{
-    x + a * b
 }
 
 // The same for four numbers, most often the case, one after the other: a loop would be worked for two at a time, and then wait for the sums

@@ -1,26 +1,21 @@
 -- `polynomials::product::add_scaled` meets its contract. The loop's invariant: the first k numbers are the sums and the others are as they
 -- were.
 -- Assumes nothing.
-use mathlib.Core.Path.{_≡_, refl, sym, _∙_, ap, ap₂}
+use mathlib.Core.Path.{_≡_, refl, _∙_}
 use mathlib.Core.List.{List}
-use Prim.Native.Nat.{ℕ, _-_, _*_, _≤_, _<_}
-use native.Mathlib.Nat.{mul-le-mul}
+use Prim.Native.Nat.{ℕ, _-_, _<_}
 use native.Mathlib.Omega.{arith}
 use borrow.Author.Needs.{needs}
 use denote.Ref.{now}
-use lib.Dec.{lit<, leb→le}
-use lib.IntN.{ℤ, pos, natAbs, _*ℤ_, _+ℤ_}
+use lib.IntN.{ℤ, pos}
 use lib.ListN.{length, getD, drop}
 use mir.Syntax.{w64}
-use mir.Val.{SFits, ofZ, toZ}
+use mir.Val.{ofZ, toZ}
 use mir.Facts.{toZ-ofZ}
-use Rattle.algebra.specs.Integers.{natAbs-+ℤ, natAbs-*ℤ}
-use Rattle.algebra.specs.Polynomials.{add, scale, coeff, length-add, length-scale}
-use Rattle.algebra.specs.Coefficients.{coeff-add, coeff-scale}
-use Rattle.rules.specs.Limits.{bound, small}
-use Rattle.integers.specs.Ranges.{sfits-size}
-use Rattle.polynomials.specs.Content.{read-back, small-at}
-use Rattle.lists.specs.Taken.{Overwritten, overwritten-next, overwritten-all, suffix-next, suffix-first}
+use Rattle.algebra.specs.Polynomials.{add, scale, length-add, length-scale}
+use Rattle.polynomials.specs.Content.{read-back}
+use Rattle.polynomials.specs.Product.{multiple-fits, multiple-is}
+use Rattle.lists.specs.Taken.{Overwritten, overwritten-next, overwritten-all, suffix-next}
 use Rattle.polynomials.proofs.product.add_scaled.Statement.{statement}
 use Rattle.polynomials.proofs.product.add_scaled.Tie as tie
 
@@ -31,71 +26,28 @@ Inv-loop place₀ a p k₀ place k =
 abbrev μ-loop : tie.MeasureT-loop
 μ-loop place₀ a p k₀ place k = length place₀ - k
 
--- the product of this turn
-module _ (c : tie.After-place Inv-loop μ-loop) where
-  abbrev start : tie.Start Inv-loop μ-loop
-  start = c .before .before .before
+-- the numbers of this turn
+module _ (c : tie.In-loop Inv-loop μ-loop) where
+  abbrev at : tie.At-loop Inv-loop μ-loop
+  at = c .before
 
-  abbrev a : ℤ
-  a = toZ w64 (ofZ w64 (start .args .a))
+  abbrev start : tie.Start Inv-loop μ-loop
+  start = at .before
+
+  abbrev place : List ℤ
+  place = now (start .args .place)
 
   abbrev p : List ℤ
   p = now (start .args .p)
 
+  abbrev a : ℤ
+  a = toZ w64 (ofZ w64 (start .args .a))
+
   abbrev k : ℕ
-  k = c .before .before .loop .k
+  k = at .loop .k
 
-  abbrev product : ℤ
-  product = a *ℤ toZ w64 (ofZ w64 (getD p k (pos 0)))
-
-  product-is : product ≡ a *ℤ coeff p k
-  unfolding coeff
-  product-is = ap (λ b. a *ℤ b) (read-back (getD p k (pos 0)) (c .place .given))
-
-  product-size : natAbs product ≤ bound * bound
-  unfolding small coeff
-  product-size =
-      rw (product-is, natAbs-*ℤ a (coeff p k), toZ-ofZ (start .fits .a))
-      (mul-le-mul (leb→le (natAbs (start .args .a)) bound (start .pre .2)) (small-at p (start .pre .3) k))
-
-  product-fits : SFits w64 product
-  product-fits = sfits-size product product-size (lit< tt)
-
-  inside : k < length (c .before .before .loop .place)
-  inside = omega (arith, c .before .before .loop .inv .0 .long, c .before .loop-test .taken, start .pre .0)
-
--- the sum with it
-module _ (c : tie.After-place2 Inv-loop μ-loop) where
-  abbrev old : tie.After-place Inv-loop μ-loop
-  old = c .before
-
-  abbrev place : List ℤ
-  place = now (start old .args .place)
-
-  abbrev sum : ℤ
-  sum = toZ w64 (ofZ w64 (getD (old .before .before .loop .place) (k old) (pos 0))) +ℤ toZ w64 (ofZ w64 (product old))
-
-  sum-is : sum ≡ coeff place (k old) +ℤ product old
-  unfolding coeff
-  sum-is =
-      ap₂ _+ℤ_
-      (read-back _ (c .place2 .given) ∙ suffix-first (old .before .before .loop .place) place (k old) (pos 0) (old .before .before .loop .inv .1))
-      (toZ-ofZ (product-fits old))
-
-  sum-fits : SFits w64 sum
-  unfolding coeff
-  sum-fits =
-      rw sum-is
-      (sfits-size (coeff place (k old) +ℤ product old)
-      {k = 33 * (bound * bound)} (omega (arith, natAbs-+ℤ (coeff place (k old)) (product old), start old .pre .1 (k old), product-size old))
-      (lit< tt))
-
-  stored : toZ w64 (ofZ w64 sum) ≡ getD (add place (scale (a old) (p old))) (k old) (pos 0)
-  unfolding coeff
-  stored =
-      toZ-ofZ sum-fits ∙ sum-is
-      ∙ sym (coeff-add place (scale (a old) (p old)) (k old)
-      ∙ ap (λ b. coeff place (k old) +ℤ b) (coeff-scale (a old) (p old) (k old) ∙ sym (product-is old)))
+  inside : k < length (at .loop .place)
+  inside = omega (arith, at .loop .inv .0 .long, c .loop-test .taken, start .pre .0)
 
 -- as many sums as numbers
 sums-long : (z : ℤ) (place p : List ℤ) → length place ≡ length p → length (add place (scale z p)) ≡ length place
@@ -104,40 +56,47 @@ sums-long z place p e = rw (length-add, length-scale) (omega arith)
 loop-holds : tie.Need-loop-holds Inv-loop μ-loop
 loop-holds c = (record { within = omega arith; long = refl; front = refl }, refl)
 
-mul-place : tie.Need-mul-place Inv-loop μ-loop
-mul-place c = search needs
+mul-plus-multiple : tie.Need-mul-plus-multiple Inv-loop μ-loop
+mul-plus-multiple c = search needs
 
-shared-slice-copy-out-place : tie.Need-shared-slice-copy-out-place Inv-loop μ-loop
-shared-slice-copy-out-place c = search needs
+slice-copy-out-plus-multiple : tie.Need-slice-copy-out-plus-multiple Inv-loop μ-loop
+slice-copy-out-plus-multiple c = inside c
 
-mul-place-2 : tie.Need-mul-place-2 Inv-loop μ-loop
-mul-place-2 c = product-fits c
+mul-plus-multiple-2 : tie.Need-mul-plus-multiple-2 Inv-loop μ-loop
+mul-plus-multiple-2 c = search needs
 
-mul-place-3 : tie.Need-mul-place-3 Inv-loop μ-loop
-mul-place-3 c = search needs
+shared-slice-copy-out-plus-multiple : tie.Need-shared-slice-copy-out-plus-multiple Inv-loop μ-loop
+shared-slice-copy-out-plus-multiple c = search needs
 
-slice-copy-out-place : tie.Need-slice-copy-out-place Inv-loop μ-loop
-slice-copy-out-place c = inside c
+plus-multiple-requires : tie.Need-plus-multiple-requires Inv-loop μ-loop
+plus-multiple-requires c κs =
+    let d = c .before .before in
+    multiple-fits (place d) (at d .loop .place) (p d) (start d .args .a) (k d) (at d .loop .inv .1)
+    (read-back _ (c .before .plus-multiple-arg .given)) (toZ-ofZ (start d .fits .a)) (read-back _ (c .plus-multiple-arg2 .given))
+    (start d .pre .1) (start d .pre .2) (start d .pre .3)
 
-add-place : tie.Need-add-place Inv-loop μ-loop
-add-place c = sum-fits c
+mul-t13 : tie.Need-mul-t13 Inv-loop μ-loop
+mul-t13 c = search needs
 
 slice-set-from-place : tie.Need-slice-set-from-place Inv-loop μ-loop
-slice-set-from-place c = inside (c .before)
+slice-set-from-place c = inside (c .before .before .before)
 
 add-k : tie.Need-add-k Inv-loop μ-loop
 add-k c = search needs
 
 loop-less : tie.Need-loop-less Inv-loop μ-loop
-loop-less c = omega (arith, start (c .before) .pre .0)
+loop-less c = let d = c .before .before .before in omega (arith, start d .pre .0, d .loop-test .taken)
 
 loop-again : tie.Need-loop-again Inv-loop μ-loop
 loop-again c =
-    let o = c .before in
-    let loop = o .before .before .loop in (
-      overwritten-next (loop .inv .0) (sums-long (a o) (place c) (p o) (start o .pre .0)) (pos 0)
-          (omega (arith, start o .pre .0, o .before .loop-test .taken)) (stored c),
-      suffix-next (loop .place) (place c) (k o) _ (loop .inv .1),
+    let d = c .before .before .before in (
+      overwritten-next (at d .loop .inv .0) (sums-long (a d) (place d) (p d) (start d .pre .0)) (pos 0)
+          (omega (arith, start d .pre .0, d .loop-test .taken))
+          (read-back _ (c .plus-multiple .ok)
+          ∙ multiple-is (place d) (at d .loop .place) (p d) (a d) (k d) (at d .loop .inv .1)
+          (read-back _ (c .before .before .plus-multiple-arg .given)) refl (read-back _ (c .before .plus-multiple-arg2 .given))
+          (c .plus-multiple .ensures)),
+      suffix-next (at d .loop .place) (place d) (k d) _ (at d .loop .inv .1),
     )
 
 same-length : tie.Need-same-length Inv-loop μ-loop
@@ -146,9 +105,9 @@ same-length c = c .before .loop .inv .0 .long
 returns : tie.Need-returns Inv-loop μ-loop
 returns c =
     let start = c .before .before in
-    let place = now (start .args .place) in
     overwritten-all (rw (toZ-ofZ (start .fits .a)) at (c .before .loop .inv .0))
-    (sums-long (start .args .a) place (now (start .args .p)) (start .pre .0)) (omega (arith, start .pre .0, c .loop-test .left))
+    (sums-long (start .args .a) (now (start .args .place)) (now (start .args .p)) (start .pre .0))
+    (omega (arith, start .pre .0, c .loop-test .left))
 
 pub add-scaled-spec : {M : Type 1} → statement M
 add-scaled-spec =
@@ -157,12 +116,12 @@ add-scaled-spec =
     Inv-loop
     μ-loop
     loop-holds
-    mul-place
-    shared-slice-copy-out-place
-    mul-place-2
-    mul-place-3
-    slice-copy-out-place
-    add-place
+    mul-plus-multiple
+    slice-copy-out-plus-multiple
+    mul-plus-multiple-2
+    shared-slice-copy-out-plus-multiple
+    plus-multiple-requires
+    mul-t13
     slice-set-from-place
     add-k
     loop-less
