@@ -1,6 +1,7 @@
 // Rule 4: a combination of two rows, its division by the content and its limits.
 use polynomials::lengths::COEFFICIENTS;
 use stores::lengths::ENTRIES;
+use stores::lengths::ROW;
 use working_rows::WorkingRow;
 ghost use mathlib.Core.Path.{_≡_};
 ghost use mathlib.Core.Bool.{false, not, _&&_};
@@ -10,6 +11,7 @@ ghost use lib.Dec.{T};
 ghost use lib.IntN.{pos};
 ghost use lib.ListN.{length, take, replicate};
 ghost use Rattle.algebra.specs.Polynomials.{isZero, add, mul};
+ghost use Rattle.algebra.specs.Gcd.{content};
 ghost use Rattle.rules.specs.Limits.{small, coefficientCount, rowLength};
 ghost use Rattle.rules.specs.Rows.{combine, primitive};
 ghost use Rattle.lists.specs.Tests.{every};
@@ -33,6 +35,9 @@ fn trimmed(p: &[i64]) -> &[i64]
 
 // Most polynomials have no more coefficients than this.
 const SHORT: usize = 4;
+
+// The polynomials of a row: the right side is the last.
+const PARTS: usize = ROW / COEFFICIENTS;
 
 // A front of the coefficients, with only zeros behind it. Where it can have four it has, since lengths of one to four are hard to
 // foretell, and a multiplication by 0 costs less than a wrong guess.
@@ -166,12 +171,34 @@ pub fn low_combination(
     false
 }
 
-// Divided by the largest number that divides all of them, the right side's too; zeros stay (SCOPE 2.42).
+// The content of a row's numbers, the right side's too: polynomial by polynomial, so that nothing is done for those that are zero.
+fn row_content(numbers: &[i64]) -> u64
+    requires { ⌜ length (now numbers) ≡ rowLength ⌝ }
+    ensures { λ r. ⌜ r ≡ content (now (numbers .entry)) ⌝ }
+{
+    let mut d = 0;
+    let mut e = 0;
+    while e < PARTS {
+        let from = e * COEFFICIENTS;
+        let to = from + COEFFICIENTS;
+        let p = &numbers[from..to];
+        if !polynomials::content::zero_throughout(p) {
+            d = integers::gcd(polynomials::content::content(p), d);
+            if d == 1 {
+                return 1;
+            }
+        }
+        e += 1;
+    }
+    d
+}
+
+// Divided by the largest number that divides all of them; zeros stay (SCOPE 2.42).
 fn divide_by_content(numbers: &mut [i64])
-    requires { ⌜ Below (2 ^ 63) (now numbers) ⌝ }
+    requires { ⌜ (length (now numbers) ≡ rowLength) × Below (2 ^ 63) (now numbers) ⌝ }
     ensures { λ _. ⌜ now (numbers .exit) ≡ primitiveNumbers (now (numbers .entry)) ⌝ }
 {
-    let d = polynomials::content::content(numbers);
+    let d = row_content(numbers);
     if 1 < d {
         polynomials::content::divide_in_place(numbers, d as i64);
     }

@@ -20,33 +20,33 @@ use Rattle.combinations.proofs.divide_by_content.Statement.{statement}
 use Rattle.combinations.proofs.divide_by_content.Tie as tie
 
 -- the divisor, as a number and as an i64
-module _ (c : tie.After-content) where
+module _ (c : tie.After-row-content) where
   abbrev start : tie.Start
   start = c .before .before
 
   abbrev l : List ℤ
   l = now (start .args .numbers)
 
-  fits : SFits w64 (pos (c .content .result))
+  fits : SFits w64 (pos (c .row-content .result))
   fits =
-      rw (c .content .ensures) (sfits-size (pos (content l)) (le-refl (content l)) (content-below (2 ^ 63) l (lit< tt) (start .pre)))
+      rw (c .row-content .ensures) (sfits-size (pos (content l)) (le-refl (content l)) (content-below (2 ^ 63) l (lit< tt) (start .pre .1)))
 
-  divisor : toZ w64 (c .content .result) ≡ pos (content l)
-  divisor = toZ-ofZ fits ∙ ap pos (c .content .ensures)
+  divisor : toZ w64 (c .row-content .result) ≡ pos (content l)
+  divisor = toZ-ofZ fits ∙ ap pos (c .row-content .ensures)
 
-  positive : 1 < c .content .result → T (ltZ (pos 0) (toZ w64 (c .content .result)))
+  positive : 1 < c .row-content .result → T (ltZ (pos 0) (toZ w64 (c .row-content .result)))
   positive h =
-      let some : 0 < content l = omega (arith, h, c .content .ensures) in rw divisor (lt→ltb 0 (content l) some)
+      let some : 0 < content l = omega (arith, h, c .row-content .ensures) in rw divisor (lt→ltb 0 (content l) some)
 
-content-requires : tie.Need-content-requires
-content-requires c κs = search needs
+row-content-requires : tie.Need-row-content-requires
+row-content-requires c κs = search needs
 
 cast-divide-in-place : tie.Need-cast-divide-in-place
 cast-divide-in-place c = fits (c .before .before)
 
 divide-in-place-requires : tie.Need-divide-in-place-requires
 divide-in-place-requires c κs =
-    let here = c .before .before in (start here .pre, positive here (c .before .if1 .taken))
+    let here = c .before .before in (start here .pre .1, positive here (c .before .if1 .taken))
 
 same-length : tie.Need-same-length
 same-length c = search needs
@@ -56,7 +56,7 @@ returns c =
     let call = c .before in
     let passed = call .before .before in
     let here = passed .before in
-    let many : 1 < content (l here) = omega (arith, passed .if1 .taken, here .content .ensures) in
+    let many : 1 < content (l here) = omega (arith, passed .if1 .taken, here .row-content .ensures) in
     call .divide-in-place .ensures ∙ ap (λ z. divideBy (natAbs z) (l here)) (divisor here) ∙ sym (primitive-divided (l here) many)
 
 same-length-2 : tie.Need-same-length-2
@@ -65,14 +65,14 @@ same-length-2 c = search needs
 returns-2 : tie.Need-returns-2
 returns-2 c =
     let here = c .before in
-    let one : content (l here) ≤ 1 = omega (arith, c .if1 .left, here .content .ensures) in
+    let one : content (l here) ≤ 1 = omega (arith, c .if1 .left, here .row-content .ensures) in
     sym (primitive-kept (l here) one)
 
 pub divide-by-content-spec : {M : Type 1} → statement M
 divide-by-content-spec =
     tie.close
     (tie.spec
-    content-requires
+    row-content-requires
     cast-divide-in-place
     divide-in-place-requires
     same-length

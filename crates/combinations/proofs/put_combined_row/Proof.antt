@@ -127,8 +127,10 @@ returns c =
 
 divide-by-content-requires : tie.Need-divide-by-content-requires
 divide-by-content-requires c κs =
-    let d = c .before .before .before in
-    subst (Below (2 ^ 63)) (sym (low-numbers d (c .before .if1 .left))) (below (start d))
+    let d = c .before .before .before in (
+      d .low-combination .kept .0 ∙ place-long (start d),
+      subst (Below (2 ^ 63)) (sym (low-numbers d (c .before .if1 .left))) (below (start d)),
+    )
 
 refusal-requires : tie.Need-refusal-requires
 refusal-requires c κs =
