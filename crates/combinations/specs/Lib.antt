@@ -1,3 +1,2 @@
 pub mod Combination
 pub mod Primitive
-pub mod LowRows

@@ -1,11 +1,8 @@
 // Rule 4: a combination of two rows, its division by the content and its limits.
 use polynomials::lengths::COEFFICIENTS;
-use stores::lengths::ENTRIES;
 use stores::lengths::ROW;
-use working_rows::WorkingRow;
 ghost use mathlib.Core.Path.{_≡_};
 ghost use mathlib.Core.Bool.{false, not, _&&_};
-ghost use mathlib.Core.List.{_++_};
 ghost use Prim.Native.Nat.{_+_, _*_, _/_, _^_, _≤_, _<_};
 ghost use lib.Dec.{T};
 ghost use lib.IntN.{pos};
@@ -17,11 +14,9 @@ ghost use Rattle.rules.specs.Rows.{combine, primitive};
 ghost use Rattle.lists.specs.Tests.{every};
 ghost use Rattle.rules.specs.Stores.{rowOf};
 ghost use Rattle.rules.specs.Elimination.{limitDegrees, consistent};
-ghost use Rattle.working_rows.specs.Working.{numbersHeld, Full};
 ghost use Rattle.working_rows.specs.Worked.{refusalOf, numbersOf};
 ghost use Rattle.combinations.specs.Combination.{trim, Shortened, lowPart, combinations, lowNumbers, Counted, highest};
 ghost use Rattle.combinations.specs.Primitive.{isLow, primitiveNumbers};
-ghost use Rattle.combinations.specs.LowRows.{RowParts, LowRow, ContentOf};
 ghost use Rattle.polynomials.specs.Content.{Below};
 
 // The coefficients up to the highest nonzero one.
@@ -229,58 +224,4 @@ pub fn put_combined_row(
     }
     divide_by_content(place);
     working_rows::limits::refusal(place)
-}
-
-// The coefficients of g × target + h × pivot up to power 15, for the left part and the right side; if a degree is past 15, they are not
-// all there (SCOPE 2.41, 2.43).
-struct Low {
-    past: bool,
-    entries: [i64; ENTRIES],
-    right: [i64; COEFFICIENTS],
-}
-
-// The left part and the right side of each row are handed in apart.
-fn low_row(g: &[i64], h: &[i64], target: &[i64], side: &[i64], pivot: &[i64], other: &[i64]) -> Low
-    requires { ⌜
-        (length (now g) ≡ coefficientCount) × T (every small (now g)) × (length (now h) ≡ coefficientCount) × T (every small (now h)) ⌝ }
-    requires { ⌜ RowParts (now target) (now side) × RowParts (now pivot) (now other) ⌝ }
-    ensures { λ r. ⌜ LowRow (combine (now (g .entry)) (now (h .entry))
-        (rowOf (now (target .entry) ++ now (side .entry))) (rowOf (now (pivot .entry) ++ now (other .entry)))) r ⌝ }
-{
-    let mut entries = [0i64; ENTRIES];
-    let mut right = [0i64; COEFFICIENTS];
-    if low_combination(&mut entries, g, h, target, pivot) {
-        return Low {
-            past: true,
-            entries,
-            right,
-        };
-    }
-    let past = low_combination(&mut right, g, h, side, other);
-    Low {
-        past,
-        entries,
-        right,
-    }
-}
-
-// What a combination is divided by (SCOPE 2.42). If a degree is past 15, which is refused, the content is not asked for.
-pub fn combined_content(g: &[i64], h: &[i64], target: WorkingRow, pivot: WorkingRow) -> u64
-    requires { ⌜
-        (length (now g) ≡ coefficientCount) × T (every small (now g)) × (length (now h) ≡ coefficientCount) × T (every small (now h)) ⌝ }
-    requires { ⌜ Full target × Full pivot × T (every small (numbersHeld target)) × T (every small (numbersHeld pivot)) ⌝ }
-    ensures { λ r. ⌜ ContentOf
-        (combine (now (g .entry)) (now (h .entry)) (rowOf (numbersHeld target)) (rowOf (numbersHeld pivot))) r ⌝ }
-{
-    let a = target.entries;
-    let s = target.right;
-    let b = pivot.entries;
-    let t = pivot.right;
-    let low = low_row(g, h, &a[..], &s[..], &b[..], &t[..]);
-    if low.past {
-        return 0;
-    }
-    let entries = low.entries;
-    let right = low.right;
-    polynomials::content::content_of_both(&entries[..], &right[..])
 }

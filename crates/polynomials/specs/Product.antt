@@ -7,12 +7,11 @@
 --   sum-none           the terms that p is too short for are zero
 --   sum-all            with the terms up to g's length the coefficient is complete
 --   sum-size, product-size   a sum of terms, and so the coefficient, has a size of at most n C² where g has at most n coefficients
---   coeff-mul-take     factors may be cut where only zeros are left
 --   product-next       one coefficient of g: a multiple of p is added, and what is left goes one power further up
 --   added-part         a multiple that is added to a part of the numbers
 --   multiple-fits, multiple-is   one number to which a multiple is added
 --   below-part, below-next   the size of the numbers of a part, and how much numbers grow by a multiple
-use mathlib.Core.Path.{_≡_, refl, sym, _∙_, ap, ap₂, fun-ext}
+use mathlib.Core.Path.{_≡_, refl, sym, _∙_, ap, ap₂}
 use mathlib.Core.List.{List, [], _∷_, _++_}
 use Prim.Native.Nat.{ℕ, zero, suc, _+_, _-_, _*_, _≤_, _<_, min}
 use native.Mathlib.Nat.{le-trans, mul-le-mul, mul-le-mul-right, not-suc-le-zero, le-of-suc-le-suc}
@@ -23,7 +22,7 @@ use lib.ListN.{length, getD, take, drop, length-take, take-append-drop}
 use lib.Seq.{getD-drop}
 use Rattle.algebra.specs.Integers.{natAbs-+ℤ, natAbs-*ℤ}
 use Rattle.algebra.specs.Sums.{sumBelow, sumBelow-zeros, sumBelow-extend, natAbs-sumBelow}
-use Rattle.algebra.specs.Polynomials.{Polynomial, coeff, add, scale, mul, isZero, isZero-coeff, add-nil, length-add, length-scale}
+use Rattle.algebra.specs.Polynomials.{Polynomial, coeff, add, scale, mul, add-nil, length-add, length-scale}
 use Rattle.algebra.specs.Polynomials.{Polynomial·add-assoc}
 use Rattle.algebra.specs.Coefficients.{coeff-add, coeff-scale, coeff-drop, coeff-mul, coeff-past-length}
 use Rattle.rules.specs.Limits.{bound, small}
@@ -64,21 +63,6 @@ module _ (g p : Polynomial) (small-g : T (every small g)) (small-p : T (every sm
   -- The size of the coefficient itself.
   pub product-size : (n : ℕ) → length g ≤ n → natAbs (coeff (mul g p) k) ≤ n * (bound * bound)
   product-size n h = rw (coeff-mul g p k) (sum-size n (suc k) h)
-
--- ---- factors that are cut
-
-coeff-append-zero : (p q : Polynomial) (i : ℕ) → T (isZero q) → coeff (p ++ q) i ≡ coeff p i
-unfolding coeff
-coeff-append-zero [] q i z = isZero-coeff q z i
-coeff-append-zero (a ∷ p) q zero z = refl
-coeff-append-zero (a ∷ p) q (suc i) z = coeff-append-zero p q i z
-
-pub coeff-mul-take : (n : ℕ) (g p : Polynomial) (k : ℕ) → T (isZero (drop n g)) → coeff (mul (take n g) p) k ≡ coeff (mul g p) k
-coeff-mul-take n g p k z =
-    coeff-mul (take n g) p k ∙ ap (sumBelow (suc k)) (fun-ext (λ i. ap (λ e. e *ℤ coeff p (k - i)) (same i))) ∙ sym (coeff-mul g p k)
-  where
-    same : (i : ℕ) → coeff (take n g) i ≡ coeff g i
-    same i = sym (coeff-append-zero (take n g) (drop n g) i z) ∙ ap (λ q. coeff q i) (take-append-drop n g)
 
 -- ---- a product that is added to numbers
 
