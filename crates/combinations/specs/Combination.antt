@@ -17,7 +17,6 @@
 --   low-degrees, trimmed-high   which of them have a degree past 15
 --   length-low, trimmed-low   the numbers of the low parts, and each part
 --   zero-part, zero-low   where both parts are zero, so is that of the combination
---   combinations-apart, low-apart   the left parts and the right sides are combined apart
 --   trimmed-fit        what is trimmed stays within the limits
 --   cut-low, StoreRow-cut   the low parts are the cut of the combination
 --   combined-held      a combination within the limits is held by its numbers
@@ -25,15 +24,15 @@
 use mathlib.Core.Path.{_≡_, refl, sym, _∙_, ap, ap₂, subst, fun-ext}
 use mathlib.Core.Logic.{_↔_, _≢_}
 use mathlib.Core.Bool.{true, false, _&&_}
-use mathlib.Core.List.{List, [], _∷_, _++_, map, flatten, zipWith, append-nil, map-append}
+use mathlib.Core.List.{List, [], _∷_, _++_, map, flatten, zipWith, append-nil}
 use Prim.Native.Nat.{ℕ, zero, suc, _+_, _*_, _-_, _^_, _≤_, _<_, max}
-use native.Mathlib.Nat.{not-suc-le-zero, le-trans, le-refl, zero-add}
+use native.Mathlib.Nat.{not-suc-le-zero, zero-add}
 use native.Mathlib.Omega.{arith}
 use native.Mathlib.Decide.{decLe, decLt}
 use lib.Dec.{T, lit<}
 use lib.IntN.{ℤ, pos, natAbs, _+ℤ_, _*ℤ_}
-use lib.ListN.{length, take, drop, getD, replicate, length-take, length-drop, length-map, length-replicate, replicate-append-replicate}
-use lib.Seq.{ext-getD, getD-take, length-take-le, take-at, drop-at}
+use lib.ListN.{length, take, drop, getD, length-take, length-drop, length-map}
+use lib.Seq.{ext-getD, getD-take, length-take-le}
 use Rattle.algebra.specs.Integers.{natAbs-+ℤ}
 use Rattle.algebra.specs.Gcd.{content, divideBy, length-divideBy}
 use Rattle.algebra.specs.Sums.{countFrom, sumBelow, length-countFrom, getD-countFrom}
@@ -48,10 +47,10 @@ use Rattle.polynomials.specs.Product.{product-size}
 use Rattle.rules.specs.Limits.{rowLength, small, coefficientCount, columnCount}
 use Rattle.rules.specs.Rows.{Row, mapRow, coefficientsOf, combine, primitive, lowDegrees, cut}
 use Rattle.lists.specs.Everywhere.{All}
-use Rattle.lists.specs.Images.{getD-map, length-zipWith, getD-zipWith, zipWith-append}
-use Rattle.lists.specs.Joined.{length-flatten, flatten-append}
+use Rattle.lists.specs.Images.{getD-map, length-zipWith, getD-zipWith}
+use Rattle.lists.specs.Joined.{length-flatten}
 use Rattle.rules.specs.Stores.{rowOf, StoreRow}
-use Rattle.lists.specs.Parts.{parts, parts-length, parts-width, parts-append, parts-take, getD-parts, part-flatten}
+use Rattle.lists.specs.Parts.{parts, parts-length, parts-width, getD-parts, part-flatten}
 use Rattle.rules.specs.Elimination.{within, limitDegrees}
 use Rattle.rules.specs.Layout.{coefficientsAt}
 use Rattle.stores.specs.Flat.{partCount, partsIn, polynomialsOf, polynomials-rowOf, polynomials-mapRow, polynomials-combine}
@@ -346,32 +345,6 @@ module _ (k : ℕ) (g h : Polynomial) (t u : List ℤ) where
     zero-low =
         ap isLow (combination-at e l)
         ∙ true-of _ (high-zero (entryAt e) .1 (λ i h. isZero-coeff (entryAt e) sum-zero i))
-
--- Numbers joined behind a whole number k of polynomials.
-module _ (k m : ℕ) (g h : Polynomial) (t s u v : List ℤ) (long-t : length t ≡ k * coefficientCount)
-    (long-u : length u ≡ k * coefficientCount) where
-  parts-joined : (l r : List ℤ) → length l ≡ k * coefficientCount
-      → parts coefficientCount (k + m) (l ++ r) ≡ parts coefficientCount k l ++ parts coefficientCount m r
-  parts-joined l r e =
-      parts-append coefficientCount k m (l ++ r)
-      ∙ ap₂ _++_
-      (sym (parts-take coefficientCount k (k * coefficientCount) (l ++ r) (le-refl (k * coefficientCount)))
-      ∙ ap (parts coefficientCount k) (take-at l r (k * coefficientCount) e))
-      (ap (parts coefficientCount m) (drop-at l r (k * coefficientCount) e))
-
-  pub combinations-apart : combinations (k + m) g h (t ++ s) (u ++ v) ≡ combinations k g h t u ++ combinations m g h s v
-  unfolding combinations
-  combinations-apart =
-      ap₂ (zipWith (λ p q. add (mul g p) (mul h q))) (parts-joined t s long-t) (parts-joined u v long-u)
-      ∙ zipWith-append (λ p q. add (mul g p) (mul h q)) (parts coefficientCount k t) (parts coefficientCount m s)
-      (parts coefficientCount k u) (parts coefficientCount m v)
-      (parts-length coefficientCount k t ∙ sym (parts-length coefficientCount k u))
-
-  pub low-apart : lowNumbers (k + m) g h (t ++ s) (u ++ v) ≡ lowNumbers k g h t u ++ lowNumbers m g h s v
-  low-apart =
-      ap (λ ps. flatten (map lowPart ps)) combinations-apart
-      ∙ ap flatten (map-append lowPart (combinations k g h t u) (combinations m g h s v))
-      ∙ flatten-append (map lowPart (combinations k g h t u)) (map lowPart (combinations m g h s v))
 
 -- ---- combinations of rows
 

@@ -5,7 +5,6 @@
 --
 -- Main statements
 --   primitive-divided, primitive-kept   what the numbers become, by their content
---   divided-apart         two lists of numbers, divided one by one
 --   content-below         the content is at most as large as the numbers
 --   degree-kept           the division does not change which polynomials have degrees up to 15
 --   content-cut           where all have, the row that is cut to 16 coefficients has the content of the row
@@ -14,7 +13,7 @@
 --   degrees-within        a row within both limits is within that of the coefficients
 use mathlib.Core.Path.{_≡_, refl, sym, _∙_, ap, ap₂, subst}
 use mathlib.Core.Bool.{Bool, true, false, _&&_, cond}
-use mathlib.Core.List.{List, [], _∷_, _++_, map, flatten, map-append}
+use mathlib.Core.List.{List, [], _∷_, _++_, map, flatten}
 use Prim.Native.Nat.{ℕ, zero, suc, _≤_, _<_, _∣_}
 use native.Mathlib.Nat.{zero-lt-suc, dvd-refl, dvd-trans}
 use native.Mathlib.Omega.{arith}
@@ -61,11 +60,6 @@ primitive-kept l h = go (content l) h
     go zero h = refl
     go (suc zero) h = divideBy-one l
     go (suc (suc d)) h = absurd (omega arith)
-
--- The two parts of a row are divided apart.
-pub divided-apart : (d : ℕ) (l m : List ℤ) → divideBy d l ++ divideBy d m ≡ divideBy d (l ++ m)
-unfolding divideBy
-divided-apart d l m = sym (map-append (λ a. quotZ a (pos d)) l m)
 
 -- ---- the size of the content
 
