@@ -26,7 +26,7 @@ use Rattle.rules.specs.Limits.{coefficientCount, blockLength}
 use Rattle.rules.specs.Numbers.{Read, got, fault, thenRead, field, between, judgeSmall, space}
 use Rattle.lists.specs.Padded.{padTo, padTo-set}
 use Rattle.rules.specs.Stores.{Sizes}
-use Rattle.rules.specs.Sheets.{Term, judgeLast, judgeBlock, judgeColumn, always, readCoefficients, readTerm}
+use Rattle.rules.specs.Sheets.{Term, judgeLast, judgeBlock, judgeColumn, always, parting, readCoefficients, readTerm}
 use Rattle.tokens.specs.Fields.{then-got, then-fault, then-cong, then-then, leZ-true, between-size, passed}
 
 -- ---- a list of known length, read into an array
@@ -94,25 +94,24 @@ module _ {A : Type 0} (n : ℕ) (v : A) where
 
 -- ---- coefficients
 
--- A coefficient after which `left` others are to come.
+-- A coefficient after which k others are to come: how it is judged, and how it is read.
+unfoldable pub judgeCoefficient : ℕ → ℤ → ℕ
+judgeCoefficient zero = judgeLast
+judgeCoefficient (suc k) = judgeSmall
+
 unfoldable pub readCoefficient : ℕ → ℕ → List ℕ → Read ℤ
-unfolding field judgeLast judgeSmall always
-readCoefficient last zero bytes = field judgeLast (always last) bytes
-readCoefficient last (suc k) bytes = field judgeSmall (always space) bytes
+unfolding field judgeCoefficient parting always
+readCoefficient last k bytes = field (judgeCoefficient k) (always (parting last k)) bytes
 
-pub coefficient-last : (last k : ℕ) (bytes : List ℕ) → k ≡ 0 → readCoefficient last k bytes ≡ field judgeLast (always last) bytes
-unfolding readCoefficient
-coefficient-last last k bytes e = ap (λ k. readCoefficient last k bytes) e
-
-pub coefficient-inner : (last k : ℕ) (bytes : List ℕ) → (k ≡ 0 → ⊥) → readCoefficient last k bytes ≡ field judgeSmall (always space) bytes
-unfolding readCoefficient
-coefficient-inner last zero bytes h = absurd (h refl)
-coefficient-inner last (suc k) bytes h = refl
+pub judge-inner : (k : ℕ) (v : ℤ) → (k ≡ 0 → ⊥) → judgeSmall v ≡ judgeCoefficient k v
+unfolding judgeCoefficient
+judge-inner zero v h = absurd (h refl)
+judge-inner (suc k) v h = refl
 
 pub coefficients-step : (last k : ℕ) (bytes : List ℕ)
     → readCoefficients last (suc k) bytes
     ≡ thenRead (readCoefficient last k bytes) (λ a rest. thenRead (readCoefficients last k rest) (λ p more. got (a ∷ p) more))
-unfolding readCoefficients readCoefficient thenRead
+unfolding readCoefficients readCoefficient judgeCoefficient parting thenRead
 coefficients-step last zero bytes = refl
 coefficients-step last (suc k) bytes = refl
 

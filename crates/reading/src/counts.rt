@@ -15,11 +15,18 @@ pub fn after_count(value: i64) -> u8
     if value == 0 { 10 } else { 32 }
 }
 
-// The separator after one of several things on a line of which `left` are still to come (SCOPE 4.36).
+// The separator after one of several things on a line of which `left` are still to come; `last` stands after the last (SCOPE 4.36).
+pub(crate) fn mark_after(last: u8, left: usize) -> u8
+    ensures { λ r. ⌜ r ≡ Sheets.parting last left ⌝ }
+{
+    if left == 0 { last } else { 32 }
+}
+
+// The same where the line ends after the last.
 pub fn parting(left: usize) -> u8
     ensures { λ r. ⌜ r ≡ Sheets.parting 10 left ⌝ }
 {
-    if left == 0 { 10 } else { 32 }
+    mark_after(10, left)
 }
 
 // A count of 0 to `most` things.

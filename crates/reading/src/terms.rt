@@ -9,7 +9,7 @@ ghost use Rattle.rules.specs.Numbers.{field};
 ghost use Rattle.rules.specs.Sheets.{judgeLast, judgeBlock, judgeColumn, always, readCoefficients};
 ghost use Rattle.tokens.specs.Fields.{Answers};
 ghost use Rattle.stores.specs.Validity.{sizesOf};
-ghost use Rattle.reading.specs.Terms.{readCoefficient, padded, readPlace, readPolynomial};
+ghost use Rattle.reading.specs.Terms.{judgeCoefficient, readCoefficient, padded, readPlace, readPolynomial};
 
 // The most coefficients of a term or a side.
 pub(crate) const MOST: i64 = COEFFICIENTS as i64;
@@ -57,19 +57,14 @@ fn judge_column(z: stores::validity::Sizes, before: i64, last: usize, s: i64, c:
     2
 }
 
-fn last_at(bytes: &[u8], at: usize, separator: u8) -> tokens::NumberRead
-    requires { ⌜ at ≤ length (now bytes) ⌝ }
-    ensures { λ r. ⌜ Answers (now (bytes .entry)) (r .refusal) (r .value) (r .at) (field judgeLast (always separator) (drop at (now (bytes .entry)))) ⌝ }
+// A coefficient after which `left` others are to come: only the last of them must not be 0.
+fn judge_coefficient(left: usize, value: i64) -> u8
+    ensures { λ r. ⌜ r ≡ judgeCoefficient left value ⌝ }
 {
-    let d = tokens::digit_at(bytes, at, separator);
-    if d.refusal == 0 {
-        if judge_last(d.value) == 0 {
-            return d;
-        }
+    if left == 0 {
+        return judge_last(value);
     }
-    let n = tokens::number_at(bytes, at);
-    let judgement = judge_last(n.value);
-    tokens::separated(bytes, n, judgement, separator)
+    tokens::judge_small(value)
 }
 
 fn block_at(bytes: &[u8], at: usize, z: stores::validity::Sizes, before: i64) -> tokens::NumberRead
@@ -114,10 +109,22 @@ fn coefficient_at(bytes: &[u8], at: usize, left: usize, last: u8) -> tokens::Num
     requires { ⌜ at ≤ length (now bytes) ⌝ }
     ensures { λ r. ⌜ Answers (now (bytes .entry)) (r .refusal) (r .value) (r .at) (readCoefficient last left (drop at (now (bytes .entry)))) ⌝ }
 {
-    if left == 0 {
-        return last_at(bytes, at, last);
+    let separator = crate::counts::mark_after(last, left);
+    let d = tokens::digit_at(bytes, at, separator);
+    if d.refusal == 0 {
+        if judge_coefficient(left, d.value) == 0 {
+            return d;
+        }
     }
-    tokens::small_at(bytes, at)
+    let s = tokens::digits_at(bytes, at, separator);
+    if s.refusal == 0 {
+        if judge_coefficient(left, s.value) == 0 {
+            return s;
+        }
+    }
+    let n = tokens::number_at(bytes, at);
+    let judgement = judge_coefficient(left, n.value);
+    tokens::separated(bytes, n, judgement, separator)
 }
 
 // The coefficients of a term, read into the numbers of a polynomial, zeros past them.

@@ -4,3 +4,4 @@ pub mod Straight
 pub mod WrittenNumbers
 pub mod Exact
 pub mod Windows
+pub mod Words

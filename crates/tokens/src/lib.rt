@@ -2,16 +2,18 @@
 // (SCOPE 4.2); each is judged, and has its separator (SCOPE 4.33, 4.34, 4.36).
 ghost use mathlib.Core.Path.{_≡_};
 ghost use mathlib.Core.Bool.{true, _&&_, cond};
-ghost use Prim.Native.Nat.{_+_, _^_, _≤_, _<_};
+ghost use Prim.Native.Nat.{_+_, _*_, _^_, _≤_, _<_};
 ghost use lib.ListN.{length, drop};
 ghost use lib.Seq.{slice};
 ghost use lib.Dec.{ltb};
+ghost use lib.Bits.{bitXor};
 ghost use lib.IntN.{pos, negℤ};
 ghost use lib.Signed.{leZ};
 ghost use Rattle.rules.specs.Numbers.{isSeparator, isDigit, startsRight, thenRead, field, between, judgeSmall};
 ghost use Rattle.rules.specs.Sheets.{always};
 ghost use Rattle.tokens.specs.Tokens.{DigitsStart, DigitsTo, Stopped, tokenAnswer};
 ghost use Rattle.tokens.specs.Straight.{twoDigits, fourDigits, eightDigits, twoBytes, fourBytes, Closed};
+ghost use Rattle.tokens.specs.Words.{fourWord, eightWord, stopWord, frontCount, wordValue};
 ghost use Rattle.tokens.specs.Fields.{NumberAt, Answers, Unread, readNumber, readOf, closing};
 
 fn is_separator(b: u8) -> bool
@@ -273,16 +275,16 @@ pub fn digit_at(bytes: &[u8], at: usize, separator: u8) -> NumberRead
         return no_number(3);
     }
     let from = after_sign(bytes, at);
-    let b = bytes[from];
-    if !is_digit(b) {
-        return no_number(3);
-    }
     let end = from + 1;
     let after = bytes[end];
+    if after != separator {
+        return no_number(3);
+    }
     if !is_separator(after) {
         return no_number(3);
     }
-    if after != separator {
+    let b = bytes[from];
+    if !is_digit(b) {
         return no_number(3);
     }
     let size = wide(b - 48);
@@ -292,6 +294,107 @@ pub fn digit_at(bytes: &[u8], at: usize, separator: u8) -> NumberRead
     NumberRead {
         refusal: 0,
         value: signed_value(at < from, size),
+        at: end + 1,
+    }
+}
+
+// Four bytes as one number, the first of them lowest.
+fn four_word(bytes: &[u8], at: usize) -> u64
+    requires { ⌜ at + 4 ≤ length (now bytes) ⌝ }
+    ensures { λ r. ⌜ (r ≡ fourWord (now (bytes .entry)) at) × (r < 4294967296) ⌝ }
+{
+    let low = wide(bytes[at]) + 256 * wide(bytes[at + 1]);
+    low + 65536 * wide(bytes[at + 2]) + 16777216 * wide(bytes[at + 3])
+}
+
+fn eight_word(bytes: &[u8], at: usize) -> u64
+    requires { ⌜ at + 8 ≤ length (now bytes) ⌝ }
+    ensures { λ r. ⌜ r ≡ eightWord (now (bytes .entry)) at ⌝ }
+{
+    four_word(bytes, at) + 4294967296 * four_word(bytes, at + 4)
+}
+
+// Of eight bytes, each of which was changed by 48 so that a digit became its value: 128 at each that was no digit, 0 at the others.
+fn stops(x: u64) -> u64
+    ensures { λ r. ⌜ r ≡ stopWord 8 x ⌝ }
+{
+    (((x & 0x7f7f7f7f7f7f7f7f) + 0x7676767676767676) | x) & 0x8080808080808080
+}
+
+// How many of the eight stand before the first that was no digit.
+fn front_count(s: u64) -> usize
+    ensures { λ r. ⌜ r ≡ frontCount s ⌝ }
+{
+    (u64::trailing_zeros(s) >> 3) as usize
+}
+
+// The value of eight digits, the first of them lowest: by pairs, by fours, and then whole.
+fn word_value(d: u64) -> u64
+    requires { ⌜ d < 720575940379279360 ⌝ }
+    ensures { λ r. ⌜ r ≡ wordValue d ⌝ }
+{
+    let a = (10 * d + d / 256) & 0x00ff00ff00ff00ff;
+    let b = (100 * a + a / 65536) & 0x0000ffff0000ffff;
+    10000 * (b % 4294967296) + b / 4294967296
+}
+
+// A value with one digit more, if there is one: no branch has to be foretold.
+fn one_more(value: u64, digit: u8, more: bool) -> u64
+    requires { ⌜ value < 10 ^ 10 ⌝ }
+    ensures { λ r. ⌜ r ≡ cond more (10 * value + digit) value ⌝ }
+{
+    if more {
+        10 * value + wide(digit)
+    } else {
+        value
+    }
+}
+
+// The digits from `from` on, at most nine, of which `n` are found among eight bytes.
+fn front_digits(bytes: &[u8], from: usize, x: u64, s: u64, n: usize) -> Digits
+    requires { ⌜ (from + 9 ≤ length (now bytes)) × (x ≡ bitXor (eightWord (now bytes) from) 0x3030303030303030) ⌝ }
+    requires { ⌜ (s ≡ stopWord 8 x) × (n ≡ frontCount s) × (1 ≤ n) ⌝ }
+    ensures { λ r. ⌜ DigitsTo (now (bytes .entry)) from (r .end) (r .value) × (from < r .end) × (r .end ≤ from + 9) ⌝ }
+{
+    let value = word_value(x << (64 - 8 * n));
+    let ninth = bytes[from + 8] ^ 48;
+    let more = (s == 0) & (ninth < 10);
+    Digits {
+        end: from + n + more as usize,
+        value: one_more(value, ninth, more),
+    }
+}
+
+// A number of at most nine digits that does not begin with 0, and the separator behind it, read straight. Any refusal says that none
+// was read so.
+pub fn digits_at(bytes: &[u8], at: usize, separator: u8) -> NumberRead
+    requires { ⌜ at ≤ length (now bytes) ⌝ }
+    ensures { λ r. ⌜ (r .refusal ≡ 0 → Closed (now (bytes .entry)) at separator (r .value) (r .at)) ⌝ }
+{
+    if bytes.len() - at < 12 {
+        return no_number(3);
+    }
+    if !is_separator(separator) {
+        return no_number(3);
+    }
+    let from = after_sign(bytes, at);
+    if bytes[from] == 48 {
+        return no_number(3);
+    }
+    let x = eight_word(bytes, from) ^ 0x3030303030303030;
+    let s = stops(x);
+    let n = front_count(s);
+    if n == 0 {
+        return no_number(3);
+    }
+    let d = front_digits(bytes, from, x, s, n);
+    let end = d.end;
+    if bytes[end] != separator {
+        return no_number(3);
+    }
+    NumberRead {
+        refusal: 0,
+        value: signed_value(at < from, d.value),
         at: end + 1,
     }
 }

@@ -29,23 +29,17 @@ returns c = λ z. absurd (omega (arith, c .no-number .ensures .0))
 after-sign-requires : tie.Need-after-sign-requires
 after-sign-requires c κs = search needs
 
-shared-slice-read-b : tie.Need-shared-slice-read-b
-shared-slice-read-b c = search needs
+add-end : tie.Need-add-end
+add-end c = search needs
 
-is-digit-requires : tie.Need-is-digit-requires
-is-digit-requires c κs = search needs
+shared-slice-read-after : tie.Need-shared-slice-read-after
+shared-slice-read-after c = search needs
 
 no-number-requires-2 : tie.Need-no-number-requires-2
 no-number-requires-2 c κs = search needs
 
 returns-2 : tie.Need-returns-2
 returns-2 c = λ z. absurd (omega (arith, c .no-number2 .ensures .0))
-
-add-end : tie.Need-add-end
-add-end c = search needs
-
-shared-slice-read-after : tie.Need-shared-slice-read-after
-shared-slice-read-after c = search needs
 
 is-separator-requires : tie.Need-is-separator-requires
 is-separator-requires c κs = search needs
@@ -56,28 +50,40 @@ no-number-requires-3 c κs = search needs
 returns-3 : tie.Need-returns-3
 returns-3 c = λ z. absurd (omega (arith, c .no-number3 .ensures .0))
 
+shared-slice-read-b : tie.Need-shared-slice-read-b
+shared-slice-read-b c = search needs
+
+is-digit-requires : tie.Need-is-digit-requires
+is-digit-requires c κs = search needs
+
 no-number-requires-4 : tie.Need-no-number-requires-4
 no-number-requires-4 c κs = search needs
 
 returns-4 : tie.Need-returns-4
 returns-4 c = λ z. absurd (omega (arith, c .no-number4 .ensures .0))
 
--- What is known of a byte that is a digit.
-module _ (e : tie.Else2) where
+-- What is known of a byte that is a digit, behind which the separator stands.
+module _ (e : tie.Else4) where
+  abbrev mark : tie.Else3
+  mark = e .before .before .before
+
+  abbrev sign : tie.After-after-sign
+  sign = mark .before .before .before .before
+
   abbrev bytes : List ℕ
-  bytes = now (e .before .before .before .before .before .before .args .bytes)
+  bytes = now (sign .before .before .before .args .bytes)
 
   abbrev from : ℕ
-  from = e .before .before .before .after-sign .result
+  from = sign .after-sign .result
 
   digit : isDigit (getD bytes from 0) ≡ true
-  digit = sym (e .before .is-digit .ensures) ∙ not-false _ (e .if2 .left)
+  digit = sym (e .before .is-digit .ensures) ∙ not-false _ (e .if4 .left)
 
   bounds : (48 ≤ getD bytes from 0) × (getD bytes from 0 ≤ 57)
   bounds = digit-bounds _ digit
 
 sub-wide : tie.Need-sub-wide
-sub-wide c = bounds (c .before .before .before .before) .0
+sub-wide c = bounds c .0
 
 wide-requires : tie.Need-wide-requires
 wide-requires c κs = search needs
@@ -100,8 +106,7 @@ add-t9 c = search needs
 returns-6 : tie.Need-returns-6
 returns-6 c =
     let w = c .before .before in
-    let e = w .before .before .before .before .before in
-    let a = e .before .before .before in
+    let e = w .before in
     let read = subst (λ v. DigitsTo (bytes e) (from e) (from e + 1) v) (sym (w .wide .ensures .0))
     (one-read (bytes e) (from e) (omega arith) (digit e)) in
     λ _. record {
@@ -109,11 +114,11 @@ returns-6 c =
       behind = refl;
       inside = omega arith;
       number =
-          whole-number (a .after-sign .ensures .0) read (omega arith) (omega arith)
-          (sym (w .before .before .before .is-separator .ensures) ∙ not-false _ (w .before .before .if3 .left))
+          whole-number (sign e .after-sign .ensures .0) read (omega arith) (omega arith)
+          (sym (mark e .before .is-separator .ensures) ∙ not-false _ (mark e .if3 .left))
           (digit-right (bytes e) _ (from e) (omega arith) (omega (arith, w .wide .ensures .0)))
           ∙ ap (λ v. got v (drop (from e + 1) (bytes e))) (sym (toZ-ofZ (sfits-of (c .signed-value .ok)) ∙ c .signed-value .ensures));
-      mark = w .before .if4 .left;
+      mark = mark e .before .before .if2 .left;
     }
 
 pub digit-at-spec : {M : Type 1} → statement M
@@ -124,15 +129,15 @@ digit-at-spec =
     no-number-requires
     returns
     after-sign-requires
-    shared-slice-read-b
-    is-digit-requires
-    no-number-requires-2
-    returns-2
     add-end
     shared-slice-read-after
+    no-number-requires-2
+    returns-2
     is-separator-requires
     no-number-requires-3
     returns-3
+    shared-slice-read-b
+    is-digit-requires
     no-number-requires-4
     returns-4
     sub-wide

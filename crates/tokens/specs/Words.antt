@@ -1,0 +1,475 @@
+-- Eight bytes as one number, the first of them lowest: how many digits stand in front, and what they are worth.
+--
+-- Main definitions
+--   fourWord, eightWord   four and eight bytes as one number
+--   stopWord, frontCount  128 in each place that held no digit, and how many places stand before the first such
+--   wordValue             the value of eight digits that stand in one number
+--
+-- Main statements
+--   front-read            the digits in front, and their value
+use Prim.Native.Nat.{ℕ, zero, suc, _+_, _-_, _*_, _/_, _%_, _^_, _≤_, _<_}
+use native.Mathlib.Nat.{add-zero, zero-add, add-assoc, mul-one, mul-assoc, mod-one, mod-lt, mul-div-cancel, mul-mod-left, lt-of-lt-of-le, le-add-right}
+use native.Mathlib.Decide.{ℕ-discrete}
+use native.Mathlib.Omega.{arith}
+use mathlib.Core.Path.{_≡_, refl, sym, ap, ap₂, _∙_, subst}
+use mathlib.Core.Bool.{Bool, true, false, _&&_, cond}
+use mathlib.Core.List.{List, [], _∷_}
+use lib.Dec.{T, eqb, leb, ltb, eqb→eq, leb→le}
+use borrow.Author.Tests.{eqb-true, ltb-true}
+use mir.Val.{boolByte}
+use lib.ListN.{length, getD}
+use lib.Arith.{mod-mul, digits-div, digits-mod}
+use lib.Pow.{pow-pos, pow-mono, pow-add, split, mod-mod-pow, ones-lt}
+use lib.Bits.{bitAnd, bitOr, bitXor, and-block, or-block, xor-block, and-le-r, or-lt, xor-lt, and-mask}
+use lib.Count.{trailingZeros, trailing-of-zero}
+use Rattle.rules.specs.Numbers.{isDigit}
+use Rattle.lists.specs.Tests.{T-&&, both-true}
+use Rattle.tokens.specs.Tokens.{DigitsTo, digits-begin, digits-go-on, digit-bounds}
+
+-- ---- a byte
+
+-- Of a byte that was changed by 48: 0 where it was a digit, 128 where not.
+unfoldable pub stopByte : ℕ → ℕ
+stopByte x = bitAnd (bitOr (bitAnd x 127 + 118) x) 128
+
+byteRight : ℕ → Bool
+unfolding stopByte isDigit
+byteRight b =
+    cond (isDigit b) (eqb (stopByte (bitXor b 48)) 0 && eqb (bitXor b 48) (b - 48))
+    (eqb (stopByte (bitXor b 48)) 128 && leb 10 (bitXor b 48))
+
+-- The test of each byte below n.
+allRight : ℕ → Bool
+allRight zero = true
+allRight (suc n) = byteRight n && allRight n
+
+right-at : (n b : ℕ) → T (allRight n) → b < n → T (byteRight b)
+unfolding allRight
+right-at zero b t h = absurd (omega arith)
+right-at (suc n) b t h =
+    let both = T-&& (byteRight n) (allRight n) .0 t in by (ℕ-discrete b n) (both .0) (λ less. right-at n b (both .1) less)
+  where
+    by : Dec (b ≡ n) → T (byteRight n) → (b < n → T (byteRight b)) → T (byteRight b)
+    by (yes e) here below = rw e here
+    by (no e) here below = below (omega arith)
+
+byte-right : (b : ℕ) → b < 256 → T (byteRight b)
+unfolding allRight byteRight stopByte isDigit
+byte-right b h = right-at 256 b tt h
+
+module _ (b : ℕ) (h : b < 256) where
+  digit-byte : isDigit b ≡ true → (stopByte (bitXor b 48) ≡ 0) × (bitXor b 48 ≡ b - 48)
+  unfolding byteRight
+  digit-byte e =
+      let t = T-&& (eqb (stopByte (bitXor b 48)) 0) (eqb (bitXor b 48) (b - 48)) .0 (rw e at (byte-right b h)) in
+      (eqb→eq _ _ (t .0), eqb→eq _ _ (t .1))
+
+  other-byte : isDigit b ≡ false → (stopByte (bitXor b 48) ≡ 128) × (10 ≤ bitXor b 48)
+  unfolding byteRight
+  other-byte e =
+      let t = T-&& (eqb (stopByte (bitXor b 48)) 128) (leb 10 (bitXor b 48)) .0 (rw e at (byte-right b h)) in
+      (eqb→eq _ _ (t .0), leb→le _ _ (t .1))
+
+-- ---- places
+
+-- One byte in k places.
+unfoldable pub repeated : ℕ → ℕ → ℕ
+repeated b zero = 0
+repeated b (suc k) = repeated b k * 256 + b
+
+-- k bytes from i on, the first of them lowest.
+unfoldable pub wordAt : List ℕ → ℕ → ℕ → ℕ
+wordAt bytes i zero = 0
+wordAt bytes i (suc k) = wordAt bytes (i + 1) k * 256 + getD bytes i 0
+
+unfoldable pub fourWord : List ℕ → ℕ → ℕ
+fourWord bytes i =
+    getD bytes i 0 + 256 * getD bytes (i + 1) 0 + 65536 * getD bytes (i + 2) 0 + 16777216 * getD bytes (i + 3) 0
+
+unfoldable pub eightWord : List ℕ → ℕ → ℕ
+eightWord bytes i = fourWord bytes i + 4294967296 * fourWord bytes (i + 4)
+
+eight-places : (bytes : List ℕ) (i : ℕ) → eightWord bytes i ≡ wordAt bytes i 8
+unfolding eightWord fourWord wordAt
+eight-places bytes i = simp add-assoc (omega arith)
+
+-- 128 in each of k places that held no digit, 0 in the others.
+unfoldable pub stopWord : ℕ → ℕ → ℕ
+unfolding repeated
+stopWord k x = bitAnd (bitOr (bitAnd x (repeated 127 k) + repeated 118 k) x) (repeated 128 k)
+
+stop-next : (k x b : ℕ) → b < 256 → stopWord (suc k) (x * 256 + b) ≡ stopWord k x * 256 + stopByte b
+unfolding stopWord stopByte repeated
+stop-next k x b h =
+    let low : bitAnd b 127 ≤ 127 = and-le-r b 127 in
+    let mask = and-block 8 x (repeated 127 k) b 127 h (omega arith) in
+    let sum : bitAnd (x * 256 + b) (repeated 127 k * 256 + 127) + (repeated 118 k * 256 + 118)
+    ≡ (bitAnd x (repeated 127 k) + repeated 118 k) * 256 + (bitAnd b 127 + 118) = omega (arith, mask) in
+    let join = or-block 8 (bitAnd x (repeated 127 k) + repeated 118 k) x (bitAnd b 127 + 118) b (omega arith) h in
+    ap (λ n. bitAnd (bitOr n (x * 256 + b)) (repeated 128 k * 256 + 128)) sum
+    ∙ ap (λ n. bitAnd n (repeated 128 k * 256 + 128)) join
+    ∙ and-block 8 (bitOr (bitAnd x (repeated 127 k) + repeated 118 k) x) (repeated 128 k) (bitOr (bitAnd b 127 + 118) b) 128
+    (or-lt 8 (bitAnd b 127 + 118) b (omega arith) h) (omega arith)
+
+xor-next : (k w b : ℕ) → b < 256 → bitXor (w * 256 + b) (repeated 48 (suc k)) ≡ bitXor w (repeated 48 k) * 256 + bitXor b 48
+unfolding repeated
+xor-next k w b h = xor-block 8 w (repeated 48 k) b 48 h (omega arith)
+
+-- ---- how many digits stand in front
+
+even-down : (m n y : ℕ) → n ≡ y * 2 → trailingZeros (suc m) n ≡ suc (trailingZeros m y)
+unfolding trailingZeros
+even-down m n y e =
+    let low : n % 2 ≡ 0 = omega arith in
+    let high : n / 2 ≡ y = omega arith in
+    rw (low, high)
+
+odd-stop : (m n y : ℕ) → n ≡ y * 2 + 1 → trailingZeros (suc m) n ≡ 0
+unfolding trailingZeros
+odd-stop m n y e =
+    let low : n % 2 ≡ 1 = omega arith in
+    rw low
+
+-- Eight binary places more.
+eightMore : ℕ → ℕ
+eightMore m = suc (suc (suc (suc (suc (suc (suc (suc m)))))))
+
+-- The binary places of k bytes.
+places : ℕ → ℕ
+unfolding eightMore
+places zero = 0
+places (suc k) = eightMore (places k)
+
+pass-byte : (m y : ℕ) → trailingZeros (eightMore m) (y * 256 + 0) ≡ eightMore (trailingZeros m y)
+unfolding eightMore
+pass-byte m y =
+    even-down _ _ (y * 128) (omega arith)
+    ∙ ap suc (even-down _ _ (y * 64) (omega arith)
+    ∙ ap suc (even-down _ _ (y * 32) (omega arith)
+    ∙ ap suc (even-down _ _ (y * 16) (omega arith)
+    ∙ ap suc (even-down _ _ (y * 8) (omega arith)
+    ∙ ap suc (even-down _ _ (y * 4) (omega arith)
+    ∙ ap suc (even-down _ _ (y * 2) (omega arith)
+    ∙ ap suc (even-down _ _ y (omega arith))))))))
+
+stop-byte : (m y : ℕ) → trailingZeros (eightMore m) (y * 256 + 128) ≡ 7
+unfolding eightMore
+stop-byte m y =
+    even-down _ _ (y * 128 + 64) (omega arith)
+    ∙ ap suc (even-down _ _ (y * 64 + 32) (omega arith)
+    ∙ ap suc (even-down _ _ (y * 32 + 16) (omega arith)
+    ∙ ap suc (even-down _ _ (y * 16 + 8) (omega arith)
+    ∙ ap suc (even-down _ _ (y * 8 + 4) (omega arith)
+    ∙ ap suc (even-down _ _ (y * 4 + 2) (omega arith)
+    ∙ ap suc (even-down _ _ (y * 2 + 1) (omega arith)
+    ∙ ap suc (odd-stop _ _ y (omega arith))))))))
+
+unfoldable pub frontCount : ℕ → ℕ
+frontCount s = trailingZeros 64 s / 8
+
+-- The digits in front of k bytes from i on.
+unfoldable pub front : List ℕ → ℕ → ℕ → List ℕ
+front bytes i zero = []
+front bytes i (suc k) = cond (isDigit (getD bytes i 0)) ((getD bytes i 0 - 48) ∷ front bytes (i + 1) k) []
+
+-- Digits as one number, the first of them lowest.
+unfoldable pub packed : List ℕ → ℕ
+packed [] = 0
+packed (d ∷ l) = packed l * 256 + d
+
+-- The value of digits of a base, behind those of the value v.
+unfoldable pub valued : ℕ → ℕ → List ℕ → ℕ
+valued c v [] = v
+valued c v (d ∷ l) = valued c (c * v + d) l
+
+-- The bytes from i on, each changed by 48.
+unfoldable pub changed : List ℕ → ℕ → ℕ → ℕ
+unfolding wordAt repeated
+changed bytes i k = bitXor (wordAt bytes i k) (repeated 48 k)
+
+byte-power : (n : ℕ) → 2 ^ (8 * suc n) ≡ 2 ^ (8 * n) * 256
+byte-power n = ap (λ e. 2 ^ e) more ∙ pow-add 2 (8 * n) 8
+  where
+    more : 8 * suc n ≡ 8 * n + 8
+    more = omega arith
+
+low-next : (p x b : ℕ) → 0 < p → b < 256 → (x * 256 + b) % (p * 256) ≡ x % p * 256 + b
+low-next p x b some h =
+    mod-mul (x * 256 + b) some (omega arith) ∙ ap₂ (λ q r. q % p * 256 + r) (digits-div x h) (digits-mod x h)
+
+module _ (bytes : List ℕ) (small : (j : ℕ) → getD bytes j 0 < 256) where
+  changed-next : (k i : ℕ) → changed bytes i (suc k) ≡ changed bytes (i + 1) k * 256 + bitXor (getD bytes i 0) 48
+  unfolding changed wordAt
+  changed-next k i = xor-next k (wordAt bytes (i + 1) k) (getD bytes i 0) (small i)
+
+  stops-next : (k i : ℕ) → stopWord (suc k) (changed bytes i (suc k))
+      ≡ stopWord k (changed bytes (i + 1) k) * 256 + stopByte (bitXor (getD bytes i 0) 48)
+  stops-next k i =
+      ap (stopWord (suc k)) (changed-next k i)
+      ∙ stop-next k (changed bytes (i + 1) k) (bitXor (getD bytes i 0) 48) (xor-lt 8 (getD bytes i 0) 48 (small i) (omega arith))
+
+  counted : (k i : ℕ) → trailingZeros (places k) (stopWord k (changed bytes i k)) / 8 ≡ length (front bytes i k)
+  unfolding places trailingZeros front eightMore
+  counted zero i = refl
+  counted (suc k) i = ap (λ s. trailingZeros (eightMore (places k)) s / 8) (stops-next k i) ∙ by (isDigit (getD bytes i 0)) refl (counted k (i + 1))
+    where
+      more : List ℕ
+      more = (getD bytes i 0 - 48) ∷ front bytes (i + 1) k
+
+      by : (t : Bool) → isDigit (getD bytes i 0) ≡ t
+          → trailingZeros (places k) (stopWord k (changed bytes (i + 1) k)) / 8 ≡ length (front bytes (i + 1) k)
+          → trailingZeros (eightMore (places k)) (stopWord k (changed bytes (i + 1) k) * 256 + stopByte (bitXor (getD bytes i 0) 48)) / 8
+          ≡ length (cond t more [])
+      by true e rest =
+          ap (λ n. trailingZeros (eightMore (places k)) (stopWord k (changed bytes (i + 1) k) * 256 + n) / 8) (digit-byte _ (small i) e .0)
+          ∙ ap (λ n. n / 8) (pass-byte (places k) (stopWord k (changed bytes (i + 1) k)))
+          ∙ omega arith
+      by false e rest =
+          ap (λ n. trailingZeros (eightMore (places k)) (stopWord k (changed bytes (i + 1) k) * 256 + n) / 8) (other-byte _ (small i) e .0)
+          ∙ ap (λ n. n / 8) (stop-byte (places k) (stopWord k (changed bytes (i + 1) k)))
+
+  -- The digits stand in the low places.
+  low-digits : (k i : ℕ) → changed bytes i k % 2 ^ (8 * length (front bytes i k)) ≡ packed (front bytes i k)
+  unfolding front packed
+  low-digits zero i = mod-one (changed bytes i zero)
+  low-digits (suc k) i = ap (λ n. n % 2 ^ (8 * length (front bytes i (suc k)))) (changed-next k i) ∙ by (isDigit (getD bytes i 0)) refl (low-digits k (i + 1))
+    where
+      more : List ℕ
+      more = (getD bytes i 0 - 48) ∷ front bytes (i + 1) k
+
+      by : (t : Bool) → isDigit (getD bytes i 0) ≡ t
+          → changed bytes (i + 1) k % 2 ^ (8 * length (front bytes (i + 1) k)) ≡ packed (front bytes (i + 1) k)
+          → (changed bytes (i + 1) k * 256 + bitXor (getD bytes i 0) 48) % 2 ^ (8 * length (cond t more [])) ≡ packed (cond t more [])
+      by true e rest =
+          ap (λ n. (changed bytes (i + 1) k * 256 + bitXor (getD bytes i 0) 48) % n) (byte-power (length (front bytes (i + 1) k)))
+          ∙ low-next (2 ^ (8 * length (front bytes (i + 1) k))) (changed bytes (i + 1) k) (bitXor (getD bytes i 0) 48)
+          (pow-pos (8 * length (front bytes (i + 1) k))) (xor-lt 8 (getD bytes i 0) 48 (small i) (omega arith))
+          ∙ ap₂ (λ p d. p * 256 + d) rest (digit-byte _ (small i) e .1)
+      by false e rest = mod-one (changed bytes (i + 1) k * 256 + bitXor (getD bytes i 0) 48)
+
+  digit-small : (k i j : ℕ) → getD (front bytes i k) j 0 ≤ 9
+  unfolding front
+  digit-small zero i j = omega arith
+  digit-small (suc k) i j = by (isDigit (getD bytes i 0)) refl j (digit-small k (i + 1))
+    where
+      by : (t : Bool) → isDigit (getD bytes i 0) ≡ t → (j : ℕ) → ((j : ℕ) → getD (front bytes (i + 1) k) j 0 ≤ 9)
+          → getD (cond t ((getD bytes i 0 - 48) ∷ front bytes (i + 1) k) []) j 0 ≤ 9
+      by true e zero rest = let h = digit-bounds (getD bytes i 0) e in omega arith
+      by true e (suc j) rest = rest j
+      by false e j rest = omega arith
+
+  front-short : (k i : ℕ) → length (front bytes i k) ≤ k
+  unfolding front
+  front-short zero i = omega arith
+  front-short (suc k) i = by (isDigit (getD bytes i 0)) (front-short k (i + 1))
+    where
+      by : (t : Bool) → length (front bytes (i + 1) k) ≤ k → length (cond t ((getD bytes i 0 - 48) ∷ front bytes (i + 1) k) []) ≤ suc k
+      by true h = omega arith
+      by false h = omega arith
+
+  digits-front : (from k i v : ℕ) → DigitsTo bytes from i v → i + k ≤ length bytes → i + k ≤ from + 10
+      → DigitsTo bytes from (i + length (front bytes i k)) (valued 10 v (front bytes i k))
+  unfolding front valued
+  digits-front from zero i v read h short = subst (λ e. DigitsTo bytes from e v) (omega arith) read
+  digits-front from (suc k) i v read h short =
+      by (isDigit (getD bytes i 0)) refl (λ w one. digits-front from k (i + 1) w one (omega arith) (omega arith))
+    where
+      by : (t : Bool) → isDigit (getD bytes i 0) ≡ t
+          → ((w : ℕ) → DigitsTo bytes from (i + 1) w
+          → DigitsTo bytes from (i + 1 + length (front bytes (i + 1) k)) (valued 10 w (front bytes (i + 1) k)))
+          → DigitsTo bytes from (i + length (cond t ((getD bytes i 0 - 48) ∷ front bytes (i + 1) k) []))
+          (valued 10 v (cond t ((getD bytes i 0 - 48) ∷ front bytes (i + 1) k) []))
+      by true e rest =
+          subst (λ n. DigitsTo bytes from n (valued 10 (10 * v + (getD bytes i 0 - 48)) (front bytes (i + 1) k))) (omega arith)
+          (rest (10 * v + (getD bytes i 0 - 48)) (digits-go-on bytes from i v read (omega arith) (omega arith) e))
+      by false e rest = subst (λ n. DigitsTo bytes from n v) (omega arith) read
+
+-- ---- digits that were shifted to the high places
+
+-- Zeros in front of digits.
+unfoldable pub pad : ℕ → List ℕ → List ℕ
+pad zero l = l
+pad (suc m) l = 0 ∷ pad m l
+
+pad-length : (m : ℕ) (l : List ℕ) → length (pad m l) ≡ m + length l
+unfolding pad
+pad-length zero l = omega arith
+pad-length (suc m) l = omega (arith, pad-length m l)
+
+pad-small : (m : ℕ) (l : List ℕ) → ((j : ℕ) → getD l j 0 ≤ 9) → (j : ℕ) → getD (pad m l) j 0 ≤ 9
+unfolding pad
+pad-small zero l h j = h j
+pad-small (suc m) l h zero = omega arith
+pad-small (suc m) l h (suc j) = pad-small m l h j
+
+pad-value : (m : ℕ) (l : List ℕ) → valued 10 0 (pad m l) ≡ valued 10 0 l
+unfolding pad valued
+pad-value zero l = refl
+pad-value (suc m) l = pad-value m l
+
+pad-packed : (m : ℕ) (l : List ℕ) → packed (pad m l) ≡ packed l * 2 ^ (8 * m)
+unfolding pad packed
+pad-packed zero l = sym (mul-one (packed l))
+pad-packed (suc m) l =
+    ap (λ n. n * 256 + 0) (pad-packed m l) ∙ add-zero (packed l * 2 ^ (8 * m) * 256)
+    ∙ mul-assoc (packed l) (2 ^ (8 * m)) 256 ∙ ap (λ n. packed l * n) (sym (byte-power m))
+
+shifted : (x n : ℕ) → n ≤ 8 → x * 2 ^ (64 - 8 * n) % 2 ^ 64 ≡ x % 2 ^ (8 * n) * 2 ^ (64 - 8 * n)
+shifted x n h =
+    ap (λ m. x * 2 ^ (64 - 8 * n) % m) (ap (λ e. 2 ^ e) whole ∙ pow-add 2 (8 * n) (64 - 8 * n))
+    ∙ mod-mul (x * 2 ^ (64 - 8 * n)) (pow-pos (8 * n)) (pow-pos (64 - 8 * n))
+    ∙ ap₂ (λ q r. q % 2 ^ (8 * n) * 2 ^ (64 - 8 * n) + r) (mul-div-cancel x (pow-pos (64 - 8 * n))) (mul-mod-left x (2 ^ (64 - 8 * n)))
+    ∙ add-zero (x % 2 ^ (8 * n) * 2 ^ (64 - 8 * n))
+  where
+    whole : 64 ≡ 8 * n + (64 - 8 * n)
+    whole = omega arith
+
+-- ---- the value of eight digits
+
+-- Two neighbours are put together in every second place.
+unfoldable pub pairWord : ℕ → ℕ
+pairWord d = bitAnd (10 * d + d / 256) 0x00ff00ff00ff00ff
+
+unfoldable pub quadWord : ℕ → ℕ
+quadWord a = bitAnd (100 * a + a / 65536) 0x0000ffff0000ffff
+
+unfoldable pub wordValue : ℕ → ℕ
+unfolding pairWord quadWord
+wordValue d = 10000 * (quadWord (pairWord d) % 4294967296) + quadWord (pairWord d) / 4294967296
+
+-- A mask of which the lowest of two places is kept.
+lane : (k y e u p : ℕ) → y / 2 ^ (k + k) ≡ u → y % 2 ^ k ≡ p
+    → bitAnd y (e * 2 ^ (k + k) + (2 ^ k - 1)) ≡ bitAnd u e * 2 ^ (k + k) + p
+lane k y e u p high low =
+    ap (λ n. bitAnd n (e * 2 ^ (k + k) + (2 ^ k - 1))) (sym (split y (k + k)))
+    ∙ and-block (k + k) (y / 2 ^ (k + k)) e (y % 2 ^ (k + k)) (2 ^ k - 1) (mod-lt y (pow-pos (k + k)))
+    (lt-of-lt-of-le (ones-lt k) (pow-mono (le-add-right k k)))
+    ∙ ap₂ (λ q r. bitAnd q e * 2 ^ (k + k) + r) high (and-mask (y % 2 ^ (k + k)) k ∙ mod-mod-pow y k k ∙ low)
+
+pair-lane : (w a b e : ℕ) → a ≤ 9 → b ≤ 9 → w % 256 ≤ 9
+    → bitAnd (10 * ((w * 256 + b) * 256 + a) + ((w * 256 + b) * 256 + a) / 256) (e * 65536 + 255)
+    ≡ bitAnd (10 * w + w / 256) e * 65536 + (10 * a + b)
+pair-lane w a b e ha hb hw =
+    lane 8 (10 * ((w * 256 + b) * 256 + a) + ((w * 256 + b) * 256 + a) / 256) e (10 * w + w / 256) (10 * a + b) (omega arith)
+    (ap (λ n. n % 256) whole ∙ digits-mod (2561 * w + 10 * b) (omega arith))
+  where
+    whole : 10 * ((w * 256 + b) * 256 + a) + ((w * 256 + b) * 256 + a) / 256 ≡ (2561 * w + 10 * b) * 256 + (10 * a + b)
+    whole = omega arith
+
+quad-lane : (w a b e : ℕ) → a ≤ 99 → b ≤ 99 → w % 65536 ≤ 99
+    → bitAnd (100 * ((w * 65536 + b) * 65536 + a) + ((w * 65536 + b) * 65536 + a) / 65536) (e * 4294967296 + 65535)
+    ≡ bitAnd (100 * w + w / 65536) e * 4294967296 + (100 * a + b)
+quad-lane w a b e ha hb hw =
+    lane 16 (100 * ((w * 65536 + b) * 65536 + a) + ((w * 65536 + b) * 65536 + a) / 65536) e (100 * w + w / 65536) (100 * a + b)
+    (omega arith) (ap (λ n. n % 65536) whole ∙ digits-mod (6553601 * w + 100 * b) (omega arith))
+  where
+    whole : 100 * ((w * 65536 + b) * 65536 + a) + ((w * 65536 + b) * 65536 + a) / 65536 ≡ (6553601 * w + 100 * b) * 65536 + (100 * a + b)
+    whole = omega arith
+
+module _ (a b c d : ℕ) (ha : a ≤ 99) (hb : b ≤ 99) (hc : c ≤ 99) (hd : d ≤ 99) where
+  quads : quadWord (((d * 65536 + c) * 65536 + b) * 65536 + a) ≡ (100 * c + d) * 4294967296 + (100 * a + b)
+  unfolding quadWord
+  quads =
+      quad-lane (d * 65536 + c) a b 65535 ha hb (omega arith)
+      ∙ ap (λ n. bitAnd n 65535 * 4294967296 + (100 * a + b)) same
+      ∙ ap (λ n. n * 4294967296 + (100 * a + b)) (quad-lane 0 c d 0 hc hd (omega arith) ∙ zero-add (100 * c + d))
+    where
+      same : 100 * (d * 65536 + c) + (d * 65536 + c) / 65536 ≡ 100 * ((0 * 65536 + d) * 65536 + c) + ((0 * 65536 + d) * 65536 + c) / 65536
+      same = omega arith
+
+-- Eight digits come to their value.
+eight-valued : (l : List ℕ) → length l ≡ 8 → ((j : ℕ) → getD l j 0 ≤ 9) → (wordValue (packed l) ≡ valued 10 0 l) × (packed l < 720575940379279360)
+unfolding wordValue pairWord packed valued
+eight-valued (a ∷ b ∷ c ∷ d ∷ e ∷ f ∷ g ∷ h ∷ []) len small =
+    let h₀ : a ≤ 9 = small 0 in
+    let h₁ : b ≤ 9 = small 1 in
+    let h₂ : c ≤ 9 = small 2 in
+    let h₃ : d ≤ 9 = small 3 in
+    let h₄ : e ≤ 9 = small 4 in
+    let h₅ : f ≤ 9 = small 5 in
+    let h₆ : g ≤ 9 = small 6 in
+    let h₇ : h ≤ 9 = small 7 in
+    let w₆ = (0 * 256 + h) * 256 + g in
+    let w₄ = (w₆ * 256 + f) * 256 + e in
+    let w₂ = (w₄ * 256 + d) * 256 + c in
+    let pairs : bitAnd (10 * ((w₂ * 256 + b) * 256 + a) + ((w₂ * 256 + b) * 256 + a) / 256) 0x00ff00ff00ff00ff
+    ≡ (((10 * g + h) * 65536 + (10 * e + f)) * 65536 + (10 * c + d)) * 65536 + (10 * a + b) =
+    pair-lane w₂ a b 0x00ff00ff00ff h₀ h₁ (omega arith)
+    ∙ ap (λ n. n * 65536 + (10 * a + b)) (pair-lane w₄ c d 0x00ff00ff h₂ h₃ (omega arith))
+    ∙ ap (λ n. (n * 65536 + (10 * c + d)) * 65536 + (10 * a + b)) (pair-lane w₆ e f 0x00ff h₄ h₅ (omega arith))
+    ∙ ap (λ n. ((n * 65536 + (10 * e + f)) * 65536 + (10 * c + d)) * 65536 + (10 * a + b)) (pair-lane 0 g h 0 h₆ h₇ (omega arith) ∙ zero-add (10 * g + h)) in
+    let whole = ap quadWord pairs
+    ∙ quads (10 * a + b) (10 * c + d) (10 * e + f) (10 * g + h) (omega arith) (omega arith) (omega arith) (omega arith) in
+    (ap (λ q. 10000 * (q % 4294967296) + q / 4294967296) whole ∙ omega arith, omega arith)
+eight-valued [] len small = absurd (omega arith)
+eight-valued (a ∷ []) len small = absurd (omega arith)
+eight-valued (a ∷ b ∷ []) len small = absurd (omega arith)
+eight-valued (a ∷ b ∷ c ∷ []) len small = absurd (omega arith)
+eight-valued (a ∷ b ∷ c ∷ d ∷ []) len small = absurd (omega arith)
+eight-valued (a ∷ b ∷ c ∷ d ∷ e ∷ []) len small = absurd (omega arith)
+eight-valued (a ∷ b ∷ c ∷ d ∷ e ∷ f ∷ []) len small = absurd (omega arith)
+eight-valued (a ∷ b ∷ c ∷ d ∷ e ∷ f ∷ g ∷ []) len small = absurd (omega arith)
+eight-valued (a ∷ b ∷ c ∷ d ∷ e ∷ f ∷ g ∷ h ∷ i ∷ l) len small = absurd (omega arith)
+
+-- ---- what is read of eight bytes
+
+module _ (bytes : List ℕ) (small : (j : ℕ) → getD bytes j 0 < 256) (from x s n : ℕ) (h : from + 8 ≤ length bytes)
+    (ex : x ≡ bitXor (eightWord bytes from) 0x3030303030303030) (es : s ≡ stopWord 8 x) (en : n ≡ frontCount s) where
+  x-is : x ≡ changed bytes from 8
+  unfolding changed repeated
+  x-is = ex ∙ ap (λ w. bitXor w 0x3030303030303030) (eight-places bytes from)
+
+  n-is : n ≡ length (front bytes from 8)
+  unfolding frontCount places eightMore
+  n-is = en ∙ ap frontCount (es ∙ ap (stopWord 8) x-is) ∙ counted bytes small 8 from
+
+  pub front-most : n ≤ 8
+  front-most = rw n-is (front-short bytes small 8 from)
+
+  -- All eight are digits where none stopped.
+  pub front-all : s ≡ 0 → n ≡ 8
+  unfolding frontCount
+  front-all e = en ∙ ap frontCount e ∙ ap (λ t. t / 8) (trailing-of-zero 64)
+
+  shifted-is : x * 2 ^ (64 - 8 * n) % 2 ^ 64 ≡ packed (pad (8 - n) (front bytes from 8))
+  shifted-is =
+      shifted x n front-most
+      ∙ ap₂ (λ a e. a * 2 ^ e) (ap₂ (λ y m. y % 2 ^ (8 * m)) x-is n-is ∙ low-digits bytes small 8 from) left
+      ∙ sym (pad-packed (8 - n) (front bytes from 8))
+    where
+      left : 64 - 8 * n ≡ 8 * (8 - n)
+      left = omega (arith, front-most)
+
+  eight-long : (wordValue (packed (pad (8 - n) (front bytes from 8))) ≡ valued 10 0 (pad (8 - n) (front bytes from 8)))
+      × (packed (pad (8 - n) (front bytes from 8)) < 720575940379279360)
+  eight-long =
+      eight-valued (pad (8 - n) (front bytes from 8)) (pad-length (8 - n) (front bytes from 8) ∙ omega (arith, n-is, front-most))
+      (pad-small (8 - n) (front bytes from 8) (digit-small bytes small 8 from))
+
+  pub shifted-small : x * 2 ^ (64 - 8 * n) % 2 ^ 64 < 720575940379279360
+  shifted-small = rw shifted-is (eight-long .1)
+
+  -- The digits in front, and their value.
+  pub front-read : DigitsTo bytes from (from + n) (wordValue (x * 2 ^ (64 - 8 * n) % 2 ^ 64))
+  front-read =
+      rw (shifted-is, eight-long .0, pad-value (8 - n) (front bytes from 8), n-is)
+      (digits-front bytes small from 8 from 0 (digits-begin bytes from (omega arith)) h (omega arith))
+
+-- One digit more behind eight, if there is one.
+pub ninth-read : (bytes : List ℕ) → ((j : ℕ) → getD bytes j 0 < 256) → (from s n v : ℕ) → from + 9 ≤ length bytes → n ≤ 8
+    → (s ≡ 0 → n ≡ 8) → DigitsTo bytes from (from + n) v → (t : Bool) → (eqb s 0 && ltb (bitXor (getD bytes (from + 8) 0) 48) 10) ≡ t
+    → DigitsTo bytes from (from + n + boolByte t) (cond t (10 * v + bitXor (getD bytes (from + 8) 0) 48) v) × (from + n + boolByte t ≤ from + 9)
+ninth-read bytes small from s n v h most all read false e = (subst (λ k. DigitsTo bytes from k v) (omega arith) read, omega arith)
+ninth-read bytes small from s n v h most all read true e =
+    let both = both-true (eqb s 0) (ltb (bitXor (getD bytes (from + 8) 0) 48) 10) e in
+    let eight : n ≡ 8 = all (eqb-true s 0 (both .0)) in
+    let digit = is-digit (getD bytes (from + 8) 0) (small (from + 8)) (ltb-true _ 10 (both .1)) in
+    let next = digits-go-on bytes from (from + 8) v (rw eight at read) (omega arith) (omega arith) digit in
+    (rw (eight, digit-byte (getD bytes (from + 8) 0) (small (from + 8)) digit .1) next, omega arith)
+  where
+    is-digit : (b : ℕ) → b < 256 → bitXor b 48 < 10 → isDigit b ≡ true
+    is-digit b h less = by (isDigit b) refl
+      where
+        by : (t : Bool) → isDigit b ≡ t → t ≡ true
+        by true e = refl
+        by false e = absurd (omega (arith, other-byte b h e .1))
