@@ -18,11 +18,11 @@ use mathlib.Core.List.{List, [], _∷_, _++_, append-nil}
 use lib.ListN.{length, take, drop, set, length-set}
 use lib.Seq.{append-snoc, take-suc-set}
 use lib.Dec.{T}
-use Rattle.algebra.specs.Polynomials.{Polynomial}
-use Rattle.lists.specs.Tests.{both-true}
+use Rattle.algebra.specs.Polynomials.{Polynomial, isZeroℤ, isZeroℤ-iff}
+use Rattle.lists.specs.Tests.{false-of, both-true}
 use lib.IntN.{ℤ, pos, natAbs, _-ℤ_}
 use lib.Signed.{leZ, ltZ, nonNeg, _≤ℤ_}
-use Rattle.rules.specs.Limits.{coefficientCount, blockLength}
+use Rattle.rules.specs.Limits.{coefficientCount, blockLength, small}
 use Rattle.rules.specs.Numbers.{Read, got, fault, thenRead, field, between, judgeSmall, space}
 use Rattle.lists.specs.Padded.{padTo, padTo-set}
 use Rattle.rules.specs.Stores.{Sizes}
@@ -107,6 +107,12 @@ pub judge-inner : (k : ℕ) (v : ℤ) → (k ≡ 0 → ⊥) → judgeSmall v ≡
 unfolding judgeCoefficient
 judge-inner zero v h = absurd (h refl)
 judge-inner (suc k) v h = refl
+
+-- Only a 0 is judged otherwise as the last.
+pub judge-some : (k : ℕ) (v : ℤ) → (v ≡ pos 0 → ⊥) → judgeSmall v ≡ judgeCoefficient k v
+unfolding judgeCoefficient judgeLast judgeSmall
+judge-some zero v h = sym (ap (λ t. cond (small v) (cond t 3 0) 5) (false-of (isZeroℤ v) (λ t. h (isZeroℤ-iff v .0 t))))
+judge-some (suc k) v h = refl
 
 pub coefficients-step : (last k : ℕ) (bytes : List ℕ)
     → readCoefficients last (suc k) bytes

@@ -104,7 +104,7 @@ fn column_at(
     tokens::separated(bytes, n, judgement, 32)
 }
 
-// A coefficient after which `left` others are to come; `last` stands after the last.
+// A coefficient after which `left` others are to come; `last` stands after the last. What `digits_at` reads is not 0.
 fn coefficient_at(bytes: &[u8], at: usize, left: usize, last: u8) -> tokens::NumberRead
     requires { ⌜ at ≤ length (now bytes) ⌝ }
     ensures { λ r. ⌜ Answers (now (bytes .entry)) (r .refusal) (r .value) (r .at) (readCoefficient last left (drop at (now (bytes .entry)))) ⌝ }
@@ -118,7 +118,7 @@ fn coefficient_at(bytes: &[u8], at: usize, left: usize, last: u8) -> tokens::Num
     }
     let s = tokens::digits_at(bytes, at, separator);
     if s.refusal == 0 {
-        if judge_coefficient(left, s.value) == 0 {
+        if tokens::judge_small(s.value) == 0 {
             return s;
         }
     }

@@ -8,23 +8,27 @@
 -- Main statements
 --   eight-read, one-read   eight digits, one digit, and their value
 --   digit-right, whole-number   one digit starts right; digits that start right, with a separator behind them, are a number
+--   digits-some, signed-some   a number that does not begin with 0 is not 0
 --   closed-field          a number that was read with its separator is a field, where its judgement is 0
 use Prim.Native.Nat.{ℕ, _+_, _-_, _*_, _≤_, _<_}
+use native.Mathlib.Nat.{le-refl}
 use native.Mathlib.Decide.{ℕ-discrete}
 use native.Mathlib.Omega.{arith}
 use mathlib.Core.Path.{_≡_, refl, sym, ap, ap₂, _∙_, subst}
-use mathlib.Core.Bool.{Bool, true, _&&_, not, cond}
-use mathlib.Core.List.{List}
+use mathlib.Core.Bool.{Bool, true, false, _&&_, not, cond}
+use mathlib.Core.List.{List, [], _∷_}
 use lib.ListN.{length, getD, drop}
 use lib.Seq.{slice}
 use lib.Dec.{ltb, leb}
 use borrow.Author.Tests.{eq-eqb, le-ltb, le-leb}
-use lib.IntN.{ℤ, pos, negℤ}
+use lib.Arith.{lt-of-le-ne}
+use lib.IntN.{ℤ, pos, negℤ, natAbs}
 use mir.Syntax.{w64}
 use mir.Val.{SFits, ofZ, toZ}
-use Rattle.lists.specs.Tests.{both-true}
-use Rattle.rules.specs.Numbers.{isSeparator, isDigit, startsRight, got, fault, field}
-use Rattle.tokens.specs.Tokens.{DigitsStart, DigitsTo, digits-begin, digits-go-on, digit-bounds, starts-nonzero, starts-zero}
+use Rattle.lists.specs.Tests.{both-true, every}
+use Rattle.algebra.specs.Integers.{natAbs-negℤ}
+use Rattle.rules.specs.Numbers.{isSeparator, isDigit, startsRight, valueFrom, got, fault, field}
+use Rattle.tokens.specs.Tokens.{DigitsStart, DigitsTo, digits-begin, digits-go-on, digit-bounds, slice-next, starts-nonzero, starts-zero}
 use Rattle.tokens.specs.Fields.{Answers, readOf, readNumber, gives, number-whole, closing-right, answers-field}
 
 -- ---- eight digits
@@ -105,6 +109,25 @@ whole-number {bytes} {at} {from} {end} {v} start read some h e right =
     number-whole bytes at from end v start read h e
     ∙ ap₂ (λ s t. cond (s && t) (got (cond (ltb at from) (negℤ (pos v)) (pos v)) (drop end bytes)) (fault 3))
     (le-leb 1 (end - from) (omega arith)) right
+
+-- ---- a number that does not begin with 0
+
+value-keeps : (v : ℕ) (l : List ℕ) → v ≤ valueFrom v l
+unfolding valueFrom
+value-keeps v [] = le-refl v
+value-keeps v (d ∷ l) = omega (arith, value-keeps (10 * v + (d - 48)) l)
+
+pub digits-some : (bytes : List ℕ) (from end v : ℕ) → DigitsTo bytes from end v → from < end → (getD bytes from 0 ≡ 48 → ⊥) → 1 ≤ v
+unfolding every valueFrom
+digits-some bytes from end v read some e =
+    let part = slice-next bytes from end some (read .token .within) in
+    let digit = both-true (isDigit (getD bytes from 0)) _ (ap (every isDigit) (sym part) ∙ read .all-digits) .0 in
+    let more : 49 ≤ getD bytes from 0 = lt-of-le-ne (digit-bounds (getD bytes from 0) digit .0) (λ z. e (sym z)) in
+    omega (arith, value-keeps (10 * 0 + (getD bytes from 0 - 48)) (slice (from + 1) end bytes), ap (valueFrom 0) (sym part) ∙ read .value)
+
+pub signed-some : (minus : Bool) (v : ℕ) → 1 ≤ v → cond minus (negℤ (pos v)) (pos v) ≡ pos 0 → ⊥
+signed-some true v h e = omega (arith, sym (natAbs-negℤ (pos v)) ∙ ap natAbs e)
+signed-some false v h e = omega (arith, ap natAbs e)
 
 -- ---- a number with its separator
 

@@ -8,7 +8,7 @@
 -- Main statements
 --   front-read            the digits in front, and their value
 use Prim.Native.Nat.{ℕ, zero, suc, _+_, _-_, _*_, _/_, _%_, _^_, _≤_, _<_}
-use native.Mathlib.Nat.{add-zero, zero-add, add-assoc, mul-one, mul-assoc, mod-one, mod-lt, mul-div-cancel, mul-mod-left, lt-of-lt-of-le, le-add-right}
+use native.Mathlib.Nat.{mod-eq-of-lt, mul-add-mod-self-right, add-zero, zero-add, add-assoc, mul-one, mul-assoc, mod-one, mod-lt, mul-div-cancel, mul-mod-left, lt-of-lt-of-le, le-add-right}
 use native.Mathlib.Decide.{ℕ-discrete}
 use native.Mathlib.Omega.{arith}
 use mathlib.Core.Path.{_≡_, refl, sym, ap, ap₂, _∙_, subst}
@@ -20,7 +20,7 @@ use mir.Val.{boolByte}
 use lib.ListN.{length, getD}
 use lib.Arith.{mod-mul, digits-div, digits-mod}
 use lib.Pow.{pow-pos, pow-mono, pow-add, split, mod-mod-pow, ones-lt}
-use lib.Bits.{bitAnd, bitOr, bitXor, and-block, or-block, xor-block, and-le-r, or-lt, xor-lt, and-mask}
+use lib.Bits.{bitAnd, bitOr, bitXor, and-block, or-block, xor-block, or-lt, xor-lt, and-mask, and-mod, or-mod}
 use lib.Count.{trailingZeros, trailing-of-zero}
 use Rattle.rules.specs.Numbers.{isDigit}
 use Rattle.lists.specs.Tests.{T-&&, both-true}
@@ -30,7 +30,7 @@ use Rattle.tokens.specs.Tokens.{DigitsTo, digits-begin, digits-go-on, di
 
 -- Of a byte that was changed by 48: 0 where it was a digit, 128 where not.
 unfoldable pub stopByte : ℕ → ℕ
-stopByte x = bitAnd (bitOr (bitAnd x 127 + 118) x) 128
+stopByte x = bitAnd (bitOr ((x + 118) % 256) x) 128
 
 byteRight : ℕ → Bool
 unfolding stopByte isDigit
@@ -93,23 +93,58 @@ eight-places : (bytes : List ℕ) (i : ℕ) → eightWord bytes i ≡ wordAt byt
 unfolding eightWord fourWord wordAt
 eight-places bytes i = simp add-assoc (omega arith)
 
--- 128 in each of k places that held no digit, 0 in the others.
+byte-power : (n : ℕ) → 2 ^ (8 * suc n) ≡ 2 ^ (8 * n) * 256
+byte-power n = ap (λ e. 2 ^ e) more ∙ pow-add 2 (8 * n) 8
+  where
+    more : 8 * suc n ≡ 8 * n + 8
+    more = omega arith
+
+low-next : (p x b : ℕ) → 0 < p → b < 256 → (x * 256 + b) % (p * 256) ≡ x % p * 256 + b
+low-next p x b some h =
+    mod-mul (x * 256 + b) some (omega arith) ∙ ap₂ (λ q r. q % p * 256 + r) (digits-div x h) (digits-mod x h)
+
+-- Of k bytes, each changed by 48: 0 in each place before the first that held no digit, and 128 in that one.
 unfoldable pub stopWord : ℕ → ℕ → ℕ
 unfolding repeated
-stopWord k x = bitAnd (bitOr (bitAnd x (repeated 127 k) + repeated 118 k) x) (repeated 128 k)
+stopWord k x = bitAnd (bitOr ((x + repeated 118 k) % 2 ^ (8 * k)) x) (repeated 128 k)
 
-stop-next : (k x b : ℕ) → b < 256 → stopWord (suc k) (x * 256 + b) ≡ stopWord k x * 256 + stopByte b
+-- A digit passes: what is added to it stays in its place.
+stop-pass : (k x b : ℕ) → b ≤ 9 → stopByte b ≡ 0 → stopWord (suc k) (x * 256 + b) ≡ stopWord k x * 256 + 0
 unfolding stopWord stopByte repeated
-stop-next k x b h =
-    let low : bitAnd b 127 ≤ 127 = and-le-r b 127 in
-    let mask = and-block 8 x (repeated 127 k) b 127 h (omega arith) in
-    let sum : bitAnd (x * 256 + b) (repeated 127 k * 256 + 127) + (repeated 118 k * 256 + 118)
-    ≡ (bitAnd x (repeated 127 k) + repeated 118 k) * 256 + (bitAnd b 127 + 118) = omega (arith, mask) in
-    let join = or-block 8 (bitAnd x (repeated 127 k) + repeated 118 k) x (bitAnd b 127 + 118) b (omega arith) h in
-    ap (λ n. bitAnd (bitOr n (x * 256 + b)) (repeated 128 k * 256 + 128)) sum
+stop-pass k x b h e =
+    let sum : x * 256 + b + (repeated 118 k * 256 + 118) ≡ (x + repeated 118 k) * 256 + (b + 118) = omega arith in
+    let join = or-block 8 ((x + repeated 118 k) % 2 ^ (8 * k)) x (b + 118) b (omega arith) (omega arith) in
+    ap (λ n. bitAnd (bitOr (n % 2 ^ (8 * suc k)) (x * 256 + b)) (repeated 128 k * 256 + 128)) sum
+    ∙ ap (λ n. bitAnd (bitOr (((x + repeated 118 k) * 256 + (b + 118)) % n) (x * 256 + b)) (repeated 128 k * 256 + 128)) (byte-power k)
+    ∙ ap (λ n. bitAnd (bitOr n (x * 256 + b)) (repeated 128 k * 256 + 128))
+    (low-next (2 ^ (8 * k)) (x + repeated 118 k) (b + 118) (pow-pos (8 * k)) (omega arith))
     ∙ ap (λ n. bitAnd n (repeated 128 k * 256 + 128)) join
-    ∙ and-block 8 (bitOr (bitAnd x (repeated 127 k) + repeated 118 k) x) (repeated 128 k) (bitOr (bitAnd b 127 + 118) b) 128
-    (or-lt 8 (bitAnd b 127 + 118) b (omega arith) h) (omega arith)
+    ∙ and-block 8 (bitOr ((x + repeated 118 k) % 2 ^ (8 * k)) x) (repeated 128 k) (bitOr (b + 118) b) 128
+    (or-lt 8 (b + 118) b (omega arith) (omega arith)) (omega arith)
+    ∙ ap (λ n. bitAnd (bitOr ((x + repeated 118 k) % 2 ^ (8 * k)) x) (repeated 128 k) * 256 + n)
+    (ap (λ n. bitAnd (bitOr n b) 128) (sym (mod-eq-of-lt {n = b + 118} {m = 256} (omega arith))) ∙ e)
+
+-- Any other byte stops, whatever is carried out of its place.
+stop-stops : (k x b : ℕ) → b < 256 → stopByte b ≡ 128 → stopWord (suc k) (x * 256 + b) % 256 ≡ 128
+unfolding stopWord stopByte repeated
+stop-stops k x b h e =
+    and-mod (bitOr ((x * 256 + b + (repeated 118 k * 256 + 118)) % 2 ^ (8 * suc k)) (x * 256 + b)) (repeated 128 k * 256 + 128) 8
+    ∙ ap₂ bitAnd
+    (or-mod ((x * 256 + b + (repeated 118 k * 256 + 118)) % 2 ^ (8 * suc k)) (x * 256 + b) 8 ∙ ap₂ bitOr low (digits-mod x h))
+    (digits-mod (repeated 128 k) (omega arith))
+    ∙ e
+  where
+    low : (x * 256 + b + (repeated 118 k * 256 + 118)) % 2 ^ (8 * suc k) % 256 ≡ (b + 118) % 256
+    low =
+        ap (λ n. (x * 256 + b + (repeated 118 k * 256 + 118)) % n % 256) (ap (λ e. 2 ^ e) more)
+        ∙ mod-mod-pow (x * 256 + b + (repeated 118 k * 256 + 118)) (8 * k) 8
+        ∙ ap (λ n. n % 256) sum ∙ mul-add-mod-self-right (x + repeated 118 k) 256 (b + 118)
+      where
+        more : 8 * suc k ≡ 8 * k + 8
+        more = omega arith
+
+        sum : x * 256 + b + (repeated 118 k * 256 + 118) ≡ (x + repeated 118 k) * 256 + (b + 118)
+        sum = omega arith
 
 xor-next : (k w b : ℕ) → b < 256 → bitXor (w * 256 + b) (repeated 48 (suc k)) ≡ bitXor w (repeated 48 k) * 256 + bitXor b 48
 unfolding repeated
@@ -187,46 +222,41 @@ unfoldable pub changed : List ℕ → ℕ → ℕ → ℕ
 unfolding wordAt repeated
 changed bytes i k = bitXor (wordAt bytes i k) (repeated 48 k)
 
-byte-power : (n : ℕ) → 2 ^ (8 * suc n) ≡ 2 ^ (8 * n) * 256
-byte-power n = ap (λ e. 2 ^ e) more ∙ pow-add 2 (8 * n) 8
-  where
-    more : 8 * suc n ≡ 8 * n + 8
-    more = omega arith
-
-low-next : (p x b : ℕ) → 0 < p → b < 256 → (x * 256 + b) % (p * 256) ≡ x % p * 256 + b
-low-next p x b some h =
-    mod-mul (x * 256 + b) some (omega arith) ∙ ap₂ (λ q r. q % p * 256 + r) (digits-div x h) (digits-mod x h)
-
 module _ (bytes : List ℕ) (small : (j : ℕ) → getD bytes j 0 < 256) where
   changed-next : (k i : ℕ) → changed bytes i (suc k) ≡ changed bytes (i + 1) k * 256 + bitXor (getD bytes i 0) 48
   unfolding changed wordAt
   changed-next k i = xor-next k (wordAt bytes (i + 1) k) (getD bytes i 0) (small i)
 
-  stops-next : (k i : ℕ) → stopWord (suc k) (changed bytes i (suc k))
-      ≡ stopWord k (changed bytes (i + 1) k) * 256 + stopByte (bitXor (getD bytes i 0) 48)
-  stops-next k i =
-      ap (stopWord (suc k)) (changed-next k i)
-      ∙ stop-next k (changed bytes (i + 1) k) (bitXor (getD bytes i 0) 48) (xor-lt 8 (getD bytes i 0) 48 (small i) (omega arith))
+  stopped : (n : ℕ) → n % 256 ≡ 128 → n ≡ n / 256 * 256 + 128
+  stopped n e = omega arith
 
   counted : (k i : ℕ) → trailingZeros (places k) (stopWord k (changed bytes i k)) / 8 ≡ length (front bytes i k)
   unfolding places trailingZeros front eightMore
   counted zero i = refl
-  counted (suc k) i = ap (λ s. trailingZeros (eightMore (places k)) s / 8) (stops-next k i) ∙ by (isDigit (getD bytes i 0)) refl (counted k (i + 1))
+  counted (suc k) i =
+      ap (λ x. trailingZeros (eightMore (places k)) (stopWord (suc k) x) / 8) (changed-next k i)
+      ∙ by (isDigit (getD bytes i 0)) refl (counted k (i + 1))
     where
       more : List ℕ
       more = (getD bytes i 0 - 48) ∷ front bytes (i + 1) k
 
+      word : ℕ
+      word = stopWord (suc k) (changed bytes (i + 1) k * 256 + bitXor (getD bytes i 0) 48)
+
       by : (t : Bool) → isDigit (getD bytes i 0) ≡ t
           → trailingZeros (places k) (stopWord k (changed bytes (i + 1) k)) / 8 ≡ length (front bytes (i + 1) k)
-          → trailingZeros (eightMore (places k)) (stopWord k (changed bytes (i + 1) k) * 256 + stopByte (bitXor (getD bytes i 0) 48)) / 8
-          ≡ length (cond t more [])
+          → trailingZeros (eightMore (places k)) word / 8 ≡ length (cond t more [])
       by true e rest =
-          ap (λ n. trailingZeros (eightMore (places k)) (stopWord k (changed bytes (i + 1) k) * 256 + n) / 8) (digit-byte _ (small i) e .0)
+          let d = digit-byte _ (small i) e in
+          let h = digit-bounds (getD bytes i 0) e in
+          ap (λ n. trailingZeros (eightMore (places k)) n / 8)
+          (stop-pass k (changed bytes (i + 1) k) (bitXor (getD bytes i 0) 48) (omega (arith, d .1)) (d .0))
           ∙ ap (λ n. n / 8) (pass-byte (places k) (stopWord k (changed bytes (i + 1) k)))
           ∙ omega arith
       by false e rest =
-          ap (λ n. trailingZeros (eightMore (places k)) (stopWord k (changed bytes (i + 1) k) * 256 + n) / 8) (other-byte _ (small i) e .0)
-          ∙ ap (λ n. n / 8) (stop-byte (places k) (stopWord k (changed bytes (i + 1) k)))
+          let low = stop-stops k (changed bytes (i + 1) k) (bitXor (getD bytes i 0) 48)
+          (xor-lt 8 (getD bytes i 0) 48 (small i) (omega arith)) (other-byte _ (small i) e .0) in
+          ap (λ n. n / 8) (ap (trailingZeros (eightMore (places k))) (stopped word low) ∙ stop-byte (places k) (word / 256))
 
   -- The digits stand in the low places.
   low-digits : (k i : ℕ) → changed bytes i k % 2 ^ (8 * length (front bytes i k)) ≡ packed (front bytes i k)

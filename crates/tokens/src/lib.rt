@@ -314,11 +314,12 @@ fn eight_word(bytes: &[u8], at: usize) -> u64
     four_word(bytes, at) + 4294967296 * four_word(bytes, at + 4)
 }
 
-// Of eight bytes, each of which was changed by 48 so that a digit became its value: 128 at each that was no digit, 0 at the others.
+// Of eight bytes, each of which was changed by 48 so that a digit became its value: 0 at each before the first that was no digit, and
+// 128 at that one. What is carried out of it is of no use.
 fn stops(x: u64) -> u64
     ensures { λ r. ⌜ r ≡ stopWord 8 x ⌝ }
 {
-    (((x & 0x7f7f7f7f7f7f7f7f) + 0x7676767676767676) | x) & 0x8080808080808080
+    (std::num::wrapping_add_u64(x, 0x7676767676767676) | x) & 0x8080808080808080
 }
 
 // How many of the eight stand before the first that was no digit.
@@ -370,6 +371,7 @@ fn front_digits(bytes: &[u8], from: usize, x: u64, s: u64, n: usize) -> Digits
 pub fn digits_at(bytes: &[u8], at: usize, separator: u8) -> NumberRead
     requires { ⌜ at ≤ length (now bytes) ⌝ }
     ensures { λ r. ⌜ (r .refusal ≡ 0 → Closed (now (bytes .entry)) at separator (r .value) (r .at)) ⌝ }
+    ensures { λ r. ⌜ (r .refusal ≡ 0 → r .value ≡ pos 0 → ⊥) ⌝ }
 {
     if bytes.len() - at < 12 {
         return no_number(3);

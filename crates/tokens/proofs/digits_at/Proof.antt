@@ -1,20 +1,26 @@
 -- `tokens::digits_at` meets its contract. There is room for a sign, nine digits and a separator, and digits that begin with no 0
 -- start right.
 -- Assumes nothing.
-use mathlib.Core.Path.{refl, sym, ap, _∙_}
+use mathlib.Core.Path.{_≡_, refl, sym, ap, _∙_}
+use Prim.Native.Nat.{ℕ}
 use native.Mathlib.Omega.{arith}
 use borrow.Author.Needs.{sfits-of}
 use borrow.Author.Tests.{not-false}
 use denote.Ref.{now}
+use lib.Dec.{ltb}
 use lib.Bits.{bitXor}
 use lib.ListN.{drop}
 use mir.Facts.{toZ-ofZ}
 use Rattle.rules.specs.Numbers.{isSeparator, got}
 use Rattle.tokens.specs.Tokens.{digits-size, starts-nonzero}
-use Rattle.tokens.specs.Straight.{whole-number}
+use Rattle.tokens.specs.Straight.{whole-number, digits-some, signed-some}
 use borrow.Author.Needs.{needs}
 use Rattle.tokens.proofs.digits_at.Statement.{statement}
 use Rattle.tokens.proofs.digits_at.Tie as tie
+
+-- A refusal promises nothing.
+none : {A B : Type 0} {r : ℕ} → r ≡ 3 → (r ≡ 0 → A) × (r ≡ 0 → B)
+none e = (λ z. absurd (omega arith), λ z. absurd (omega arith))
 
 sub-if1 : tie.Need-sub-if1
 sub-if1 c = search needs
@@ -23,7 +29,7 @@ no-number-requires : tie.Need-no-number-requires
 no-number-requires c κs = search needs
 
 returns : tie.Need-returns
-returns c = λ z. absurd (omega (arith, c .no-number .ensures .0))
+returns c = none (c .no-number .ensures .0)
 
 is-separator-requires : tie.Need-is-separator-requires
 is-separator-requires c κs = search needs
@@ -32,7 +38,7 @@ no-number-requires-2 : tie.Need-no-number-requires-2
 no-number-requires-2 c κs = search needs
 
 returns-2 : tie.Need-returns-2
-returns-2 c = λ z. absurd (omega (arith, c .no-number2 .ensures .0))
+returns-2 c = none (c .no-number2 .ensures .0)
 
 after-sign-requires : tie.Need-after-sign-requires
 after-sign-requires c κs = search needs
@@ -44,7 +50,7 @@ no-number-requires-3 : tie.Need-no-number-requires-3
 no-number-requires-3 c κs = search needs
 
 returns-3 : tie.Need-returns-3
-returns-3 c = λ z. absurd (omega (arith, c .no-number3 .ensures .0))
+returns-3 c = none (c .no-number3 .ensures .0)
 
 eight-word-requires : tie.Need-eight-word-requires
 eight-word-requires c κs = search needs
@@ -59,7 +65,7 @@ no-number-requires-4 : tie.Need-no-number-requires-4
 no-number-requires-4 c κs = search needs
 
 returns-4 : tie.Need-returns-4
-returns-4 c = λ z. absurd (omega (arith, c .no-number4 .ensures .0))
+returns-4 c = none (c .no-number4 .ensures .0)
 
 front-digits-requires : tie.Need-front-digits-requires
 front-digits-requires c κs =
@@ -75,7 +81,7 @@ no-number-requires-5 : tie.Need-no-number-requires-5
 no-number-requires-5 c κs = search needs
 
 returns-5 : tie.Need-returns-5
-returns-5 c = λ z. absurd (omega (arith, c .no-number5 .ensures .0))
+returns-5 c = none (c .no-number5 .ensures .0)
 
 signed-value-requires : tie.Need-signed-value-requires
 signed-value-requires c κs = digits-size _ _ _ _ (c .before .before .front-digits .ensures .0)
@@ -89,18 +95,21 @@ returns-6 c =
     let e = d .before .before .before .before .before in
     let a = e .before .before in
     let read = d .front-digits .ensures in
-    λ _. record {
-      end = d .front-digits .result .end;
-      behind = refl;
-      inside = omega arith;
-      number =
-          whole-number (a .after-sign .ensures .0) (read .0) (read .1) (omega arith)
-          (ap isSeparator (c .before .if5 .left) ∙ sym (a .before .before .is-separator .ensures) ∙ not-false _ (a .before .if2 .left))
-          (starts-nonzero _ _ _ _ (read .1) (omega arith) (e .if3 .left))
-          ∙ ap (λ v. got v (drop (d .front-digits .result .end) (now (a .before .before .before .before .before .args .bytes))))
-          (sym (toZ-ofZ (sfits-of (c .signed-value .ok)) ∙ c .signed-value .ensures));
-      mark = c .before .if5 .left;
-    }
+    let value = toZ-ofZ (sfits-of (c .signed-value .ok)) ∙ c .signed-value .ensures in (
+      λ _. record {
+        end = d .front-digits .result .end;
+        behind = refl;
+        inside = omega arith;
+        number =
+            whole-number (a .after-sign .ensures .0) (read .0) (read .1) (omega arith)
+            (ap isSeparator (c .before .if5 .left) ∙ sym (a .before .before .is-separator .ensures) ∙ not-false _ (a .before .if2 .left))
+            (starts-nonzero _ _ _ _ (read .1) (omega arith) (e .if3 .left))
+            ∙ ap (λ v. got v (drop (d .front-digits .result .end) (now (a .before .before .before .before .before .args .bytes)))) (sym value);
+        mark = c .before .if5 .left;
+      },
+      λ _ z. signed-some (ltb (a .before .before .before .before .before .args .at) (a .after-sign .result)) _
+          (digits-some _ _ _ _ (read .0) (read .1) (e .if3 .left)) (sym value ∙ z),
+    )
 
 pub digits-at-spec : {M : Type 1} → statement M
 digits-at-spec =

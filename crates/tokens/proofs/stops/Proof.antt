@@ -1,18 +1,18 @@
 -- `tokens::stops` meets its contract. Each constant is one byte in eight places.
 -- Assumes nothing.
-use mathlib.Core.Path.{refl}
-use native.Mathlib.Omega.{arith}
-use lib.Bits.{and-le-r}
+use mathlib.Core.Path.{ap}
+use lib.Bits.{bitAnd, bitOr}
 use Rattle.tokens.specs.Words.{repeated, stopWord}
+use borrow.Author.Needs.{needs}
 use Rattle.tokens.proofs.stops.Statement.{statement}
 use Rattle.tokens.proofs.stops.Tie as tie
 
-add-result : tie.Need-add-result
-add-result c = omega (arith, and-le-r (c .args .x) 0x7f7f7f7f7f7f7f7f)
+wrapping-add-u64-requires : tie.Need-wrapping-add-u64-requires
+wrapping-add-u64-requires c κs = search needs
 
 returns : tie.Need-returns
 unfolding stopWord repeated
-returns c = refl
+returns c = ap (λ n. bitAnd (bitOr n (c .before .args .x)) 0x8080808080808080) (c .wrapping-add-u64 .ensures)
 
 pub stops-spec : {M : Type 1} → statement M
-stops-spec = tie.close (tie.spec add-result returns)
+stops-spec = tie.close (tie.spec wrapping-add-u64-requires returns)

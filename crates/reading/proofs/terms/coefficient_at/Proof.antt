@@ -1,11 +1,15 @@
 -- `reading::terms::coefficient_at` meets its contract: a field is a number, its judgement and its separator.
 -- Assumes nothing.
+use mathlib.Core.Path.{sym, _∙_}
 use Prim.Native.Nat.{ℕ}
 use lib.IntN.{ℤ}
+use mir.Syntax.{w64}
+use mir.Val.{SFits}
+use mir.Facts.{toZ-ofZ}
 use Rattle.rules.specs.Sheets.{always, parting}
 use Rattle.tokens.specs.Fields.{answers-field}
 use Rattle.tokens.specs.Straight.{closed-field}
-use Rattle.reading.specs.Terms.{judgeCoefficient, readCoefficient}
+use Rattle.reading.specs.Terms.{judgeCoefficient, readCoefficient, judge-some}
 use borrow.Author.Needs.{needs}
 use Rattle.reading.proofs.terms.coefficient_at.Statement.{statement}
 use Rattle.reading.proofs.terms.coefficient_at.Tie as tie
@@ -38,8 +42,8 @@ returns c =
 digits-at-requires : tie.Need-digits-at-requires
 digits-at-requires c κs = search needs
 
-judge-coefficient-requires-2 : tie.Need-judge-coefficient-requires-2
-judge-coefficient-requires-2 c κs = search needs
+judge-small-requires : tie.Need-judge-small-requires
+judge-small-requires c κs = search needs
 
 returns-2 : tie.Need-returns-2
 unfolding always readCoefficient
@@ -47,14 +51,16 @@ returns-2 c =
     let z = c .before .before .before .if3 .taken in
     let d = c .before .before .before .before .before in
     let k = d .before .before .before .before in
-    closed-field (judge k) (follow k) (d .digits-at .ensures z) (search needs)
-    (c .before .judge-coefficient2 .ensures) (c .if4 .taken) (k .mark-after .ensures) z
+    let fits : SFits w64 (d .digits-at .result .value) = search needs in
+    closed-field (judge k) (follow k) (d .digits-at .ensures .0 z) fits
+    (c .before .judge-small .ensures ∙ judge-some (k .before .before .args .left) _ (λ e. d .digits-at .ensures .1 z (sym (toZ-ofZ fits) ∙ e)))
+    (c .if4 .taken) (k .mark-after .ensures) z
 
 number-at-requires : tie.Need-number-at-requires
 number-at-requires c κs = search needs
 
-judge-coefficient-requires-3 : tie.Need-judge-coefficient-requires-3
-judge-coefficient-requires-3 c κs = search needs
+judge-coefficient-requires-2 : tie.Need-judge-coefficient-requires-2
+judge-coefficient-requires-2 c κs = search needs
 
 separated-requires : tie.Need-separated-requires
 separated-requires c κs = c .before .before .number-at .ensures .separator
@@ -64,7 +70,7 @@ unfolding always readCoefficient
 returns-3 c =
     let n = c .before .before .before in
     let k = n .before .before .before .before .before .before .before in
-    answers-field (judge k) (follow k) (n .number-at .ensures) (search needs) (c .before .judge-coefficient3 .ensures)
+    answers-field (judge k) (follow k) (n .number-at .ensures) (search needs) (c .before .judge-coefficient2 .ensures)
     (k .mark-after .ensures) (c .separated .ensures .0)
 
 pub coefficient-at-spec : {M : Type 1} → statement M
@@ -76,9 +82,9 @@ coefficient-at-spec =
     judge-coefficient-requires
     returns
     digits-at-requires
-    judge-coefficient-requires-2
+    judge-small-requires
     returns-2
     number-at-requires
-    judge-coefficient-requires-3
+    judge-coefficient-requires-2
     separated-requires
     returns-3)
