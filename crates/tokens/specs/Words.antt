@@ -2,29 +2,32 @@
 --
 -- Main definitions
 --   fourWord, eightWord   four and eight bytes as one number
---   stopWord, frontCount  128 in each place that held no digit, and how many places stand before the first such
+--   stopWord, restStops, frontCount   128 in the first place that held no digit, and how many places stand before it
 --   wordValue             the value of eight digits that stand in one number
 --
 -- Main statements
---   front-read            the digits in front, and their value
+--   front-read, more-read  the digits in front and their value, and one digit more
 use Prim.Native.Nat.{ℕ, zero, suc, _+_, _-_, _*_, _/_, _%_, _^_, _≤_, _<_}
 use native.Mathlib.Nat.{mod-eq-of-lt, mul-add-mod-self-right, add-zero, zero-add, add-assoc, mul-one, mul-assoc, mod-one, mod-lt, mul-div-cancel, mul-mod-left, lt-of-lt-of-le, le-add-right}
 use native.Mathlib.Decide.{ℕ-discrete}
 use native.Mathlib.Omega.{arith}
 use mathlib.Core.Path.{_≡_, refl, sym, ap, ap₂, _∙_, subst}
+use mathlib.Core.Logic.{_⊎_, inl, inr}
 use mathlib.Core.Bool.{Bool, true, false, _&&_, cond}
 use mathlib.Core.List.{List, [], _∷_}
-use lib.Dec.{T, eqb, leb, ltb, eqb→eq, leb→le}
-use borrow.Author.Tests.{eqb-true, ltb-true}
+use lib.Dec.{T, eqb, leb, eqb→eq, leb→le}
+use borrow.Author.Tests.{eqb-true, lt-ltb}
 use mir.Val.{boolByte}
-use lib.ListN.{length, getD}
-use lib.Arith.{mod-mul, digits-div, digits-mod}
+use lib.ListN.{length, getD, drop}
+use lib.Seq.{drop-cons}
+use lib.Arith.{lt-of-le-ne, mod-mul, digits-div, digits-mod}
 use lib.Pow.{pow-pos, pow-mono, pow-add, split, mod-mod-pow, ones-lt}
-use lib.Bits.{bitAnd, bitOr, bitXor, and-block, or-block, xor-block, or-lt, xor-lt, and-mask, and-mod, or-mod}
+use lib.Bits.{bitAnd, bitOr, bitXor, and-zero-r, and-block, or-block, xor-block, or-lt, xor-lt, and-mask, and-mod, or-mod}
 use lib.Count.{trailingZeros, trailing-of-zero}
-use Rattle.rules.specs.Numbers.{isDigit}
-use Rattle.lists.specs.Tests.{T-&&, both-true}
-use Rattle.tokens.specs.Tokens.{DigitsTo, digits-begin, digits-go-on, digit-bounds}
+use Rattle.rules.specs.Numbers.{isSeparator, isDigit, word, signed}
+use Rattle.lists.specs.Tests.{true-T, T-&&}
+use Rattle.tokens.specs.Tokens.{DigitsStart, DigitsTo, digits-begin, digits-go-on, digit-bounds}
+use Rattle.tokens.specs.Straight.{one-read}
 
 -- ---- a byte
 
@@ -108,20 +111,26 @@ unfoldable pub stopWord : ℕ → ℕ → ℕ
 unfolding repeated
 stopWord k x = bitAnd (bitOr ((x + repeated 118 k) % 2 ^ (8 * k)) x) (repeated 128 k)
 
--- A digit passes: what is added to it stays in its place.
+-- A byte passes where what is added to it stays in its place and the mask meets nothing.
+pass-next : (k x b m : ℕ) → b + 118 < 256 → m < 256 → bitAnd (bitOr (b + 118) b) m ≡ 0
+    → bitAnd (bitOr ((x * 256 + b + repeated 118 (suc k)) % 2 ^ (8 * suc k)) (x * 256 + b)) (repeated 128 k * 256 + m) ≡ stopWord k x * 256 + 0
+unfolding stopWord repeated
+pass-next k x b m h hm e =
+    let sum : x * 256 + b + (repeated 118 k * 256 + 118) ≡ (x + repeated 118 k) * 256 + (b + 118) = omega arith in
+    let join = or-block 8 ((x + repeated 118 k) % 2 ^ (8 * k)) x (b + 118) b h (omega arith) in
+    ap (λ n. bitAnd (bitOr (n % 2 ^ (8 * suc k)) (x * 256 + b)) (repeated 128 k * 256 + m)) sum
+    ∙ ap (λ n. bitAnd (bitOr (((x + repeated 118 k) * 256 + (b + 118)) % n) (x * 256 + b)) (repeated 128 k * 256 + m)) (byte-power k)
+    ∙ ap (λ n. bitAnd (bitOr n (x * 256 + b)) (repeated 128 k * 256 + m))
+    (low-next (2 ^ (8 * k)) (x + repeated 118 k) (b + 118) (pow-pos (8 * k)) h)
+    ∙ ap (λ n. bitAnd n (repeated 128 k * 256 + m)) join
+    ∙ and-block 8 (bitOr ((x + repeated 118 k) % 2 ^ (8 * k)) x) (repeated 128 k) (bitOr (b + 118) b) m
+    (or-lt 8 (b + 118) b h (omega arith)) hm
+    ∙ ap (λ n. bitAnd (bitOr ((x + repeated 118 k) % 2 ^ (8 * k)) x) (repeated 128 k) * 256 + n) e
+
 stop-pass : (k x b : ℕ) → b ≤ 9 → stopByte b ≡ 0 → stopWord (suc k) (x * 256 + b) ≡ stopWord k x * 256 + 0
 unfolding stopWord stopByte repeated
 stop-pass k x b h e =
-    let sum : x * 256 + b + (repeated 118 k * 256 + 118) ≡ (x + repeated 118 k) * 256 + (b + 118) = omega arith in
-    let join = or-block 8 ((x + repeated 118 k) % 2 ^ (8 * k)) x (b + 118) b (omega arith) (omega arith) in
-    ap (λ n. bitAnd (bitOr (n % 2 ^ (8 * suc k)) (x * 256 + b)) (repeated 128 k * 256 + 128)) sum
-    ∙ ap (λ n. bitAnd (bitOr (((x + repeated 118 k) * 256 + (b + 118)) % n) (x * 256 + b)) (repeated 128 k * 256 + 128)) (byte-power k)
-    ∙ ap (λ n. bitAnd (bitOr n (x * 256 + b)) (repeated 128 k * 256 + 128))
-    (low-next (2 ^ (8 * k)) (x + repeated 118 k) (b + 118) (pow-pos (8 * k)) (omega arith))
-    ∙ ap (λ n. bitAnd n (repeated 128 k * 256 + 128)) join
-    ∙ and-block 8 (bitOr ((x + repeated 118 k) % 2 ^ (8 * k)) x) (repeated 128 k) (bitOr (b + 118) b) 128
-    (or-lt 8 (b + 118) b (omega arith) (omega arith)) (omega arith)
-    ∙ ap (λ n. bitAnd (bitOr ((x + repeated 118 k) % 2 ^ (8 * k)) x) (repeated 128 k) * 256 + n)
+    pass-next k x b 128 (omega arith) (omega arith)
     (ap (λ n. bitAnd (bitOr n b) 128) (sym (mod-eq-of-lt {n = b + 118} {m = 256} (omega arith))) ∙ e)
 
 -- Any other byte stops, whatever is carried out of its place.
@@ -443,59 +452,154 @@ eight-valued (a ∷ b ∷ c ∷ d ∷ e ∷ f ∷ g ∷ h ∷ i ∷ l) len small
 
 -- ---- what is read of eight bytes
 
-module _ (bytes : List ℕ) (small : (j : ℕ) → getD bytes j 0 < 256) (from x s n : ℕ) (h : from + 8 ≤ length bytes)
-    (ex : x ≡ bitXor (eightWord bytes from) 0x3030303030303030) (es : s ≡ stopWord 8 x) (en : n ≡ frontCount s) where
-  x-is : x ≡ changed bytes from 8
+-- The stops behind the first of eight bytes, which is a sign or a digit.
+unfoldable pub restStops : ℕ → ℕ
+restStops x = bitAnd (bitOr ((x + 0x7676767676767676) % 2 ^ 64) x) 0x8080808080808000
+
+-- The token begins with its first digit or with a minus.
+abbrev pub Begins : List ℕ → ℕ → ℕ → Type 0
+Begins bytes at from = ((from ≡ at) × (isDigit (getD bytes at 0) ≡ true)) ⊎ ((from ≡ at + 1) × (getD bytes at 0 ≡ 45))
+
+pub near : (bytes : List ℕ) (at from : ℕ) → Begins bytes at from → (at ≤ from) × (from ≤ at + 1)
+near bytes at from (inl b) = (omega (arith, b .0), omega (arith, b .0))
+near bytes at from (inr b) = (omega (arith, b .0), omega (arith, b .0))
+
+module _ (bytes : List ℕ) (small : (j : ℕ) → getD bytes j 0 < 256) (at from x s n : ℕ) (h : at + 8 ≤ length bytes)
+    (how : Begins bytes at from) (ex : x ≡ bitXor (eightWord bytes at) 0x3030303030303030) (es : s ≡ restStops x)
+    (en : n ≡ frontCount s) where
+  abbrev first : ℕ
+  first = bitXor (getD bytes at 0) 48
+
+  abbrev rest : ℕ
+  rest = changed bytes (at + 1) 7
+
+  abbrev behind : List ℕ
+  behind = front bytes (at + 1) 7
+
+  x-is : x ≡ rest * 256 + first
   unfolding changed repeated
-  x-is = ex ∙ ap (λ w. bitXor w 0x3030303030303030) (eight-places bytes from)
+  x-is = ex ∙ ap (λ w. bitXor w 0x3030303030303030) (eight-places bytes at) ∙ changed-next bytes small 7 at
 
-  n-is : n ≡ length (front bytes from 8)
+  -- What the first byte is worth: a sign counts as 0.
+  first-is : Begins bytes at from → (29 * (from - at) ≤ first) × (first - 29 * (from - at) ≤ 9) × (first ≤ 29)
+  first-is (inl b) =
+      let d = digit-byte _ (small at) (b .1) .1 in
+      let bounds = digit-bounds (getD bytes at 0) (b .1) in
+      (omega arith, omega arith, omega arith)
+  first-is (inr b) =
+      let d : first ≡ 29 = ap (λ c. bitXor c 48) (b .1) in
+      (omega arith, omega arith, omega arith)
+
+  s-is : s ≡ stopWord 7 rest * 256 + 0
+  unfolding restStops repeated
+  s-is =
+      es ∙ ap restStops x-is
+      ∙ pass-next 7 rest first 0 (omega (arith, first-is how .2)) (omega arith) (and-zero-r (bitOr (first + 118) first))
+
+  n-is : n ≡ suc (length behind)
   unfolding frontCount places eightMore
-  n-is = en ∙ ap frontCount (es ∙ ap (stopWord 8) x-is) ∙ counted bytes small 8 from
+  n-is =
+      en ∙ ap frontCount s-is ∙ ap (λ t. t / 8) (pass-byte (places 7) (stopWord 7 rest))
+      ∙ eight-more (trailingZeros (places 7) (stopWord 7 rest)) ∙ ap suc (counted bytes small 7 (at + 1))
+    where
+      eight-more : (t : ℕ) → eightMore t / 8 ≡ suc (t / 8)
+      eight-more t = omega arith
 
-  pub front-most : n ≤ 8
-  front-most = rw n-is (front-short bytes small 8 from)
+  pub front-most : (1 ≤ n) × (n ≤ 8)
+  front-most = let short = front-short bytes small 7 (at + 1) in (omega (arith, n-is), omega (arith, n-is))
 
-  -- All eight are digits where none stopped.
+  pub front-some : isDigit (getD bytes from 0) ≡ true → from < at + n
+  unfolding front
+  front-some digit = by how
+    where
+      by : Begins bytes at from → from < at + n
+      by (inl b) = omega (arith, b .0, front-most .0)
+      by (inr b) =
+          let e : isDigit (getD bytes (at + 1) 0) ≡ true = subst (λ k. isDigit (getD bytes k 0) ≡ true) (b .0) digit in
+          omega (arith, b .0, n-is, ap (λ t. length (cond t ((getD bytes (at + 1) 0 - 48) ∷ front bytes (at + 1 + 1) 6) [])) e)
+
+  -- All eight are read where none stopped.
   pub front-all : s ≡ 0 → n ≡ 8
   unfolding frontCount
   front-all e = en ∙ ap frontCount e ∙ ap (λ t. t / 8) (trailing-of-zero 64)
 
-  shifted-is : x * 2 ^ (64 - 8 * n) % 2 ^ 64 ≡ packed (pad (8 - n) (front bytes from 8))
+  pub sign-less : 29 * (from - at) ≤ x
+  sign-less = omega (arith, x-is, first-is how .0)
+
+  -- Eight digits: zeros, what the first byte is worth, and the digits behind it.
+  abbrev eight : List ℕ
+  eight = pad (8 - n) ((first - 29 * (from - at)) ∷ behind)
+
+  without-sign : x - 29 * (from - at) ≡ rest * 256 + (first - 29 * (from - at))
+  without-sign = omega (arith, x-is, first-is how .0)
+
+  low-part : (x - 29 * (from - at)) % 2 ^ (8 * n) ≡ packed ((first - 29 * (from - at)) ∷ behind)
+  unfolding packed
+  low-part =
+      ap₂ (λ y m. y % 2 ^ (8 * m)) without-sign n-is
+      ∙ ap (λ m. (rest * 256 + (first - 29 * (from - at))) % m) (byte-power (length behind))
+      ∙ low-next (2 ^ (8 * length behind)) rest (first - 29 * (from - at)) (pow-pos (8 * length behind)) (omega (arith, first-is how .1))
+      ∙ ap (λ p. p * 256 + (first - 29 * (from - at))) (low-digits bytes small 7 (at + 1))
+
+  shifted-is : (x - 29 * (from - at)) * 2 ^ (64 - 8 * n) % 2 ^ 64 ≡ packed eight
   shifted-is =
-      shifted x n front-most
-      ∙ ap₂ (λ a e. a * 2 ^ e) (ap₂ (λ y m. y % 2 ^ (8 * m)) x-is n-is ∙ low-digits bytes small 8 from) left
-      ∙ sym (pad-packed (8 - n) (front bytes from 8))
+      shifted (x - 29 * (from - at)) n (front-most .1)
+      ∙ ap₂ (λ a e. a * 2 ^ e) low-part left
+      ∙ sym (pad-packed (8 - n) ((first - 29 * (from - at)) ∷ behind))
     where
       left : 64 - 8 * n ≡ 8 * (8 - n)
       left = omega (arith, front-most)
 
-  eight-long : (wordValue (packed (pad (8 - n) (front bytes from 8))) ≡ valued 10 0 (pad (8 - n) (front bytes from 8)))
-      × (packed (pad (8 - n) (front bytes from 8)) < 720575940379279360)
-  eight-long =
-      eight-valued (pad (8 - n) (front bytes from 8)) (pad-length (8 - n) (front bytes from 8) ∙ omega (arith, n-is, front-most))
-      (pad-small (8 - n) (front bytes from 8) (digit-small bytes small 8 from))
+  digit-each : (j : ℕ) → getD ((first - 29 * (from - at)) ∷ behind) j 0 ≤ 9
+  digit-each zero = first-is how .1
+  digit-each (suc j) = digit-small bytes small 7 (at + 1) j
 
-  pub shifted-small : x * 2 ^ (64 - 8 * n) % 2 ^ 64 < 720575940379279360
+  eight-long : (wordValue (packed eight) ≡ valued 10 0 eight) × (packed eight < 720575940379279360)
+  eight-long =
+      eight-valued eight (pad-length (8 - n) ((first - 29 * (from - at)) ∷ behind) ∙ omega (arith, n-is, front-most))
+      (pad-small (8 - n) ((first - 29 * (from - at)) ∷ behind) digit-each)
+
+  pub shifted-small : (x - 29 * (from - at)) * 2 ^ (64 - 8 * n) % 2 ^ 64 < 720575940379279360
   shifted-small = rw shifted-is (eight-long .1)
 
-  -- The digits in front, and their value.
-  pub front-read : DigitsTo bytes from (from + n) (wordValue (x * 2 ^ (64 - 8 * n) % 2 ^ 64))
-  front-read =
-      rw (shifted-is, eight-long .0, pad-value (8 - n) (front bytes from 8), n-is)
-      (digits-front bytes small from 8 from 0 (digits-begin bytes from (omega arith)) h (omega arith))
+  value-is : wordValue ((x - 29 * (from - at)) * 2 ^ (64 - 8 * n) % 2 ^ 64) ≡ valued 10 (first - 29 * (from - at)) behind
+  unfolding valued
+  value-is =
+      ap wordValue shifted-is ∙ eight-long .0 ∙ pad-value (8 - n) ((first - 29 * (from - at)) ∷ behind)
+      ∙ ap (λ v. valued 10 v behind) (zero-add (first - 29 * (from - at)))
 
--- One digit more behind eight, if there is one.
-pub ninth-read : (bytes : List ℕ) → ((j : ℕ) → getD bytes j 0 < 256) → (from s n v : ℕ) → from + 9 ≤ length bytes → n ≤ 8
-    → (s ≡ 0 → n ≡ 8) → DigitsTo bytes from (from + n) v → (t : Bool) → (eqb s 0 && ltb (bitXor (getD bytes (from + 8) 0) 48) 10) ≡ t
-    → DigitsTo bytes from (from + n + boolByte t) (cond t (10 * v + bitXor (getD bytes (from + 8) 0) 48) v) × (from + n + boolByte t ≤ from + 9)
-ninth-read bytes small from s n v h most all read false e = (subst (λ k. DigitsTo bytes from k v) (omega arith) read, omega arith)
-ninth-read bytes small from s n v h most all read true e =
-    let both = both-true (eqb s 0) (ltb (bitXor (getD bytes (from + 8) 0) 48) 10) e in
-    let eight : n ≡ 8 = all (eqb-true s 0 (both .0)) in
-    let digit = is-digit (getD bytes (from + 8) 0) (small (from + 8)) (ltb-true _ 10 (both .1)) in
-    let next = digits-go-on bytes from (from + 8) v (rw eight at read) (omega arith) (omega arith) digit in
-    (rw (eight, digit-byte (getD bytes (from + 8) 0) (small (from + 8)) digit .1) next, omega arith)
+  -- The digits in front, and their value.
+  read-from : Begins bytes at from → DigitsTo bytes from (at + 1 + length behind) (valued 10 (first - 29 * (from - at)) behind)
+  read-from (inl b) =
+      digits-front bytes small from 7 (at + 1) (first - 29 * (from - at))
+      (subst (λ v. DigitsTo bytes from (at + 1) v) worth (subst (λ f. DigitsTo bytes f (at + 1) (getD bytes at 0 - 48)) (sym (b .0))
+      (one-read bytes at (omega arith) (b .1)))) (omega arith) (omega arith)
+    where
+      worth : getD bytes at 0 - 48 ≡ first - 29 * (from - at)
+      worth = omega (arith, digit-byte _ (small at) (b .1) .1, b .0)
+  read-from (inr b) =
+      digits-front bytes small from 7 (at + 1) (first - 29 * (from - at))
+      (subst (λ v. DigitsTo bytes from (at + 1) v) worth (subst (λ f. DigitsTo bytes f (at + 1) 0) (sym (b .0))
+      (digits-begin bytes (at + 1) (omega arith)))) (omega arith) (omega arith)
+    where
+      worth : 0 ≡ first - 29 * (from - at)
+      worth = omega (arith, first-is how .1, b .0, ap (λ c. bitXor c 48) (b .1))
+
+  pub front-read : DigitsTo bytes from (at + n) (wordValue ((x - 29 * (from - at)) * 2 ^ (64 - 8 * n) % 2 ^ 64))
+  front-read =
+      subst (λ v. DigitsTo bytes from (at + n) v) (sym value-is)
+      (subst (λ e. DigitsTo bytes from e (valued 10 (first - 29 * (from - at)) behind)) (omega (arith, n-is)) (read-from how))
+
+-- One digit more, if it was found.
+pub more-read : (bytes : List ℕ) → ((j : ℕ) → getD bytes j 0 < 256) → (from end v place : ℕ) → place < length bytes → place < from + 10
+    → (t : Bool) → (t ≡ true → (end ≡ place) × (bitXor (getD bytes place 0) 48 < 10)) → DigitsTo bytes from end v
+    → DigitsTo bytes from (end + boolByte t) (cond t (10 * v + bitXor (getD bytes place 0) 48) v)
+more-read bytes small from end v place h short false found read = subst (λ k. DigitsTo bytes from k v) (omega arith) read
+more-read bytes small from end v place h short true found read =
+    let f = found refl in
+    let digit = is-digit (getD bytes place 0) (small place) (f .1) in
+    let next = digits-go-on bytes from place v (rw (f .0) at read) (omega arith) (omega arith) digit in
+    rw (f .0, digit-byte (getD bytes place 0) (small place) digit .1) next
   where
     is-digit : (b : ℕ) → b < 256 → bitXor b 48 < 10 → isDigit b ≡ true
     is-digit b h less = by (isDigit b) refl
@@ -503,3 +607,23 @@ ninth-read bytes small from s n v h most all read true e =
         by : (t : Bool) → isDigit b ≡ t → t ≡ true
         by true e = refl
         by false e = absurd (omega (arith, other-byte b h e .1))
+
+-- A token whose digits begin with a digit begins with that or with a minus.
+pub begins : (bytes : List ℕ) (at from : ℕ) → at < length bytes → DigitsStart bytes at from → from ≤ at + 1
+    → isDigit (getD bytes from 0) ≡ true → Begins bytes at from
+unfolding isSeparator word signed
+begins bytes at from h start near digit = by (ℕ-discrete from at)
+  where
+    sign : (t : Bool) → signed (cond t [] (getD bytes at 0 ∷ word (drop (suc at) bytes))) ≡ true → getD bytes at 0 ≡ 45
+    sign true e = absurd (true-T false e)
+    sign false e = eqb-true (getD bytes at 0) 45 e
+
+    by : Dec (from ≡ at) → Begins bytes at from
+    by (yes e) = inl (e, subst (λ k. isDigit (getD bytes k 0) ≡ true) e digit)
+    by (no e) =
+        let behind : at < from = lt-of-le-ne (start .begun) (λ z. e (sym z)) in
+        inr (
+          omega arith,
+          sign (isSeparator (getD bytes at 0))
+              (ap (λ l. signed (word l)) (sym (drop-cons bytes at 0 h)) ∙ start .sign ∙ lt-ltb at from behind),
+        )

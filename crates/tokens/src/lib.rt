@@ -3,7 +3,7 @@
 ghost use mathlib.Core.Path.{_≡_};
 ghost use mathlib.Core.Bool.{true, _&&_, cond};
 ghost use Prim.Native.Nat.{_+_, _*_, _^_, _≤_, _<_};
-ghost use lib.ListN.{length, drop};
+ghost use lib.ListN.{length, getD, drop};
 ghost use lib.Seq.{slice};
 ghost use lib.Dec.{ltb};
 ghost use lib.Bits.{bitXor};
@@ -13,7 +13,7 @@ ghost use Rattle.rules.specs.Numbers.{isSeparator, isDigit, startsRight, thenRe
 ghost use Rattle.rules.specs.Sheets.{always};
 ghost use Rattle.tokens.specs.Tokens.{DigitsStart, DigitsTo, Stopped, tokenAnswer};
 ghost use Rattle.tokens.specs.Straight.{twoDigits, fourDigits, eightDigits, twoBytes, fourBytes, Closed};
-ghost use Rattle.tokens.specs.Words.{fourWord, eightWord, stopWord, frontCount, wordValue};
+ghost use Rattle.tokens.specs.Words.{fourWord, eightWord, restStops, frontCount, wordValue, Begins};
 ghost use Rattle.tokens.specs.Fields.{NumberAt, Answers, Unread, readNumber, readOf, closing};
 
 fn is_separator(b: u8) -> bool
@@ -314,15 +314,15 @@ fn eight_word(bytes: &[u8], at: usize) -> u64
     four_word(bytes, at) + 4294967296 * four_word(bytes, at + 4)
 }
 
-// Of eight bytes, each of which was changed by 48 so that a digit became its value: 0 at each before the first that was no digit, and
-// 128 at that one. What is carried out of it is of no use.
+// Of eight bytes, each of which was changed by 48 so that a digit became its value, and the first of which is a sign or a digit: 0 at each
+// before the first that was neither, and 128 at that one. What is carried out of it is of no use.
 fn stops(x: u64) -> u64
-    ensures { λ r. ⌜ r ≡ stopWord 8 x ⌝ }
+    ensures { λ r. ⌜ r ≡ restStops x ⌝ }
 {
-    (std::num::wrapping_add_u64(x, 0x7676767676767676) | x) & 0x8080808080808080
+    (std::num::wrapping_add_u64(x, 0x7676767676767676) | x) & 0x8080808080808000
 }
 
-// How many of the eight stand before the first that was no digit.
+// How many of the eight stand before that one.
 fn front_count(s: u64) -> usize
     ensures { λ r. ⌜ r ≡ frontCount s ⌝ }
 {
@@ -351,22 +351,25 @@ fn one_more(value: u64, digit: u8, more: bool) -> u64
     }
 }
 
-// The digits from `from` on, at most nine, of which `n` are found among eight bytes.
-fn front_digits(bytes: &[u8], from: usize, x: u64, s: u64, n: usize) -> Digits
-    requires { ⌜ (from + 9 ≤ length (now bytes)) × (x ≡ bitXor (eightWord (now bytes) from) 0x3030303030303030) ⌝ }
-    requires { ⌜ (s ≡ stopWord 8 x) × (n ≡ frontCount s) × (1 ≤ n) ⌝ }
-    ensures { λ r. ⌜ DigitsTo (now (bytes .entry)) from (r .end) (r .value) × (from < r .end) × (r .end ≤ from + 9) ⌝ }
+// The digits from `from` on, at most ten, of which those among the eight bytes from `at` on were counted with the sign. A minus is 29
+// where it was changed as a digit is, and counts as a 0 in front.
+fn front_digits(bytes: &[u8], at: usize, from: usize, x: u64, s: u64, n: usize) -> Digits
+    requires { ⌜ (at + 10 ≤ length (now bytes)) × Begins (now bytes) at from × (isDigit (getD (now bytes) from 0) ≡ true) ⌝ }
+    requires { ⌜ (x ≡ bitXor (eightWord (now bytes) at) 0x3030303030303030) × (s ≡ restStops x) × (n ≡ frontCount s) ⌝ }
+    ensures { λ r. ⌜ DigitsTo (now (bytes .entry)) from (r .end) (r .value) × (from < r .end) × (r .end ≤ at + 10) ⌝ }
 {
-    let value = word_value(x << (64 - 8 * n));
-    let ninth = bytes[from + 8] ^ 48;
+    let value = word_value((x - 29 * (from - at) as u64) << (64 - 8 * n));
+    let ninth = bytes[at + 8] ^ 48;
+    let tenth = bytes[at + 9] ^ 48;
     let more = (s == 0) & (ninth < 10);
+    let last = more & (tenth < 10);
     Digits {
-        end: from + n + more as usize,
-        value: one_more(value, ninth, more),
+        end: at + n + more as usize + last as usize,
+        value: one_more(one_more(value, ninth, more), tenth, last),
     }
 }
 
-// A number of at most nine digits that does not begin with 0, and the separator behind it, read straight. Any refusal says that none
+// A number of at most ten digits that does not begin with 0, and the separator behind it, read straight. Any refusal says that none
 // was read so.
 pub fn digits_at(bytes: &[u8], at: usize, separator: u8) -> NumberRead
     requires { ⌜ at ≤ length (now bytes) ⌝ }
@@ -380,16 +383,17 @@ pub fn digits_at(bytes: &[u8], at: usize, separator: u8) -> NumberRead
         return no_number(3);
     }
     let from = after_sign(bytes, at);
-    if bytes[from] == 48 {
+    let first = bytes[from];
+    if first == 48 {
         return no_number(3);
     }
-    let x = eight_word(bytes, from) ^ 0x3030303030303030;
+    if !is_digit(first) {
+        return no_number(3);
+    }
+    let x = eight_word(bytes, at) ^ 0x3030303030303030;
     let s = stops(x);
     let n = front_count(s);
-    if n == 0 {
-        return no_number(3);
-    }
-    let d = front_digits(bytes, from, x, s, n);
+    let d = front_digits(bytes, at, from, x, s, n);
     let end = d.end;
     if bytes[end] != separator {
         return no_number(3);
