@@ -3,6 +3,7 @@
 -- Main definitions
 --   valueLimit, within   2^40, and a value unless it is past it
 --   after                what follows a value, and nothing where there is none
+--   used p               how many coefficients there are up to the highest that is not 0
 --   horner n p           the value of p at n by Horner's rule, none where a value on the way is past the limit
 --   formedOf             the value that a `Formed` has, none where a value is past the limit
 --   farthest             no n at which a program evaluates is farther from 0
@@ -10,22 +11,25 @@
 -- Main statements
 --   within-yes, within-no, within-size   a value that is kept is within the limit
 --   after-some                  what comes after a value that is there
---   horner-zero                 zeros leave the value at 0
+--   used-length, used-zero      no more than there are, and only zeros behind them
+--   horner-zero, horner-front   zeros leave the value at 0, and those at the top leave it as it is
 --   horner-next, horner-past    a coefficient more, at the low end; what is past the limit stays so
 --   horner-size                 a value that is formed is within the limit
 --   horner-eval                 where Horner's rule gives a value, it is that of the polynomial
-use Prim.Native.Nat.{ℕ, zero, suc, _+_, _≤_, _<_}
+use Prim.Native.Nat.{ℕ, zero, suc, _+_, _≤_, _<_, zero-le}
 use native.Mathlib.Omega.{arith}
 use mathlib.Core.Path.{_≡_, refl, sym, _∙_, ap}
 use mathlib.Core.Bool.{Bool, true, false, cond}
 use mathlib.Core.List.{[], _∷_}
 use mathlib.Core.Option.{Option, none, some}
 use lib.Dec.{T, leb, leb→le, le→leb, lit≤}
-use lib.ListN.{length, drop, getD}
+use lib.ListN.{length, take, drop, getD}
 use lib.IntN.{ℤ, pos, natAbs, _+ℤ_, _*ℤ_, *ℤ-zero}
-use Rattle.algebra.specs.Polynomials.{Polynomial, eval, isZero, isZero-cons}
+use Rattle.algebra.specs.Coefficients.{coeff-drop, coeff-past-degree}
+use Rattle.algebra.specs.Polynomials.{Polynomial, eval, isZero, degree, isZero-cons, coeff-isZero}
 use Rattle.lists.specs.Taken.{drop-next}
 use Rattle.lists.specs.Tests.{true-of, false-of}
+use Rattle.polynomials.specs.Content.{degree-below}
 use Rattle.evaluation.specs.declared.Formed.{Formed}
 use Rattle.evaluation.specs.declared.Formed.the-variants.{Value, Past}
 
@@ -40,6 +44,11 @@ within v = cond (leb (natAbs v) valueLimit) (some v) none
 unfoldable pub after : {A B : Type 0} → (A → Option B) → Option A → Option B
 after f none = none
 after f (some v) = f v
+
+-- None of a polynomial of zeros.
+unfoldable pub used : Polynomial → ℕ
+unfolding isZero degree
+used p = cond (isZero p) 0 (suc (degree p))
 
 -- From the highest power down, over all coefficients that are there: zeros at the top leave the value at 0.
 unfoldable pub horner : ℤ → Polynomial → Option ℤ
@@ -99,6 +108,31 @@ horner-zero n (a ∷ p) z =
     ap (after (λ v. within (a +ℤ n *ℤ v))) (horner-zero n p (both .1))
     ∙ ap within (ap (λ b. b +ℤ n *ℤ pos 0) (both .0) ∙ ap (λ b. pos 0 +ℤ b) (*ℤ-zero n))
     ∙ within-yes (pos 0) (lit≤ tt)
+
+-- Zeros at the top leave the value as it is.
+pub horner-front : (n : ℤ) (p : Polynomial) (k : ℕ) → T (isZero (drop k p)) → horner n (take k p) ≡ horner n p
+unfolding horner after
+horner-front n p zero z = sym (horner-zero n p z)
+horner-front n [] (suc k) z = refl
+horner-front n (a ∷ p) (suc k) z = ap (after (λ v. within (a +ℤ n *ℤ v))) (horner-front n p k z)
+
+pub used-length : (p : Polynomial) → used p ≤ length p
+unfolding used isZero
+used-length [] = zero-le
+used-length (a ∷ p) = go (isZero (a ∷ p))
+  where
+    go : (t : Bool) → cond t 0 (suc (degree (a ∷ p))) ≤ length (a ∷ p)
+    go true = zero-le
+    go false = degree-below (a ∷ p) (omega arith)
+
+pub used-zero : (p : Polynomial) → T (isZero (drop (used p) p))
+unfolding used
+used-zero p = go (isZero p) (λ z. z)
+  where
+    go : (t : Bool) → (T t → T (isZero p)) → T (isZero (drop (cond t 0 (suc (degree p))) p))
+    go true z = z tt
+    go false z =
+        coeff-isZero (drop (suc (degree p)) p) (λ k. coeff-drop (suc (degree p)) p k ∙ coeff-past-degree p (suc (degree p) + k) (omega arith))
 
 pub horner-past : (n : ℤ) (p : Polynomial) (i : ℕ) → horner n (drop i p) ≡ none → horner n p ≡ none
 unfolding horner after

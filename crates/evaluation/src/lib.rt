@@ -4,8 +4,6 @@ ghost use mathlib.Core.Path.{_≡_};
 ghost use Prim.Native.Nat.{_≤_};
 ghost use lib.Dec.{T};
 ghost use lib.IntN.{natAbs};
-ghost use lib.ListN.{length, drop};
-ghost use Rattle.algebra.specs.Polynomials.{isZero};
 ghost use Rattle.lists.specs.Tests.{every};
 ghost use Rattle.rules.specs.Limits.{small};
 ghost use Rattle.evaluation.specs.Evaluated as Evaluated;
@@ -19,20 +17,23 @@ pub enum Formed {
     Past,
 }
 
-// How many coefficients there are up to the highest that is not 0: those above leave the value at 0.
-fn used(p: &[i64]) -> usize
-    ensures { λ r. ⌜ (r ≤ length (now (p .entry))) × T (isZero (drop r (now (p .entry)))) ⌝ }
+// How many coefficients there are up to the highest that is not 0: those above leave the value at 0. A polynomial of zeros only, which is the
+// most frequent, has none.
+pub fn used(p: &[i64]) -> usize
+    ensures { λ r. ⌜ r ≡ Evaluated.used (now (p .entry)) ⌝ }
 {
-    let d = polynomials::content::degree(p);
-    if d < p.len() { d + 1 } else { 0 }
+    if polynomials::content::all_zero(p) {
+        return 0;
+    }
+    polynomials::content::degree(p) + 1
 }
 
-// Horner's rule, from the highest power down (SCOPE 12.31).
-pub fn horner(p: &[i64], n: i64) -> Formed
+// Horner's rule, from the highest power down, over all coefficients that are there (SCOPE 12.31).
+pub fn evaluate(p: &[i64], n: i64) -> Formed
     requires { ⌜ T (every small (now p)) × (natAbs n ≤ Evaluated.farthest) ⌝ }
     ensures { λ r. ⌜ Evaluated.formedOf r ≡ Evaluated.horner n (now (p .entry)) ⌝ }
 {
-    let mut i = used(p);
+    let mut i = p.len();
     let mut value: i64 = 0;
     while 0 < i {
         i -= 1;
@@ -42,4 +43,13 @@ pub fn horner(p: &[i64], n: i64) -> Formed
         }
     }
     Formed::Value(value)
+}
+
+// The same, where it is not known how many coefficients matter.
+pub fn horner(p: &[i64], n: i64) -> Formed
+    requires { ⌜ T (every small (now p)) × (natAbs n ≤ Evaluated.farthest) ⌝ }
+    ensures { λ r. ⌜ Evaluated.formedOf r ≡ Evaluated.horner n (now (p .entry)) ⌝ }
+{
+    let end = used(p);
+    evaluate(&p[..end], n)
 }

@@ -1,46 +1,44 @@
 -- `evaluation::used` meets its contract.
 -- Assumes nothing.
-use mathlib.Core.Path.{_≡_, _∙_}
-use Prim.Native.Nat.{_+_, _≤_, _<_}
+use mathlib.Core.Path.{_≡_, sym, _∙_, ap}
+use mathlib.Core.Bool.{false, cond}
+use Prim.Native.Nat.{suc, _≤_}
+use native.Mathlib.Numerals.{add-one}
 use native.Mathlib.Omega.{arith}
-use native.Mathlib.Decide.{decLt}
 use borrow.Author.Needs.{needs}
 use denote.Ref.{now}
-use lib.ListN.{length, drop}
-use Rattle.algebra.specs.Polynomials.{Polynomial, degree, coeff-isZero}
-use Rattle.algebra.specs.Coefficients.{coeff-drop, coeff-past-degree, coeff-past-length}
-use Rattle.polynomials.specs.Content.{degree-below}
+use lib.ListN.{length}
+use Rattle.algebra.specs.Polynomials.{Polynomial, isZero, degree}
+use Rattle.evaluation.specs.Evaluated.{used, used-length}
 use Rattle.evaluation.proofs.used.Statement.{statement}
 use Rattle.evaluation.proofs.used.Tie as tie
 
--- only where there is no coefficient
-none : (p : Polynomial) → length p ≤ degree p → length p ≡ 0
-none p h = cases (decLt 0 (length p))
-  where
-    cases : Dec (0 < length p) → length p ≡ 0
-    cases (yes some) = absurd (omega (arith, degree-below p some))
-    cases (no e) = omega arith
+all-zero-requires : tie.Need-all-zero-requires
+all-zero-requires c κs = search needs
+
+returns : tie.Need-returns
+unfolding used
+returns c =
+    let p = now (c .before .before .args .p) in
+    sym (ap (λ t. cond t 0 (suc (degree p))) (sym (c .before .all-zero .ensures) ∙ c .if1 .taken))
 
 degree-requires : tie.Need-degree-requires
 degree-requires c κs = search needs
 
-add-result : tie.Need-add-result
-add-result c = search needs
+-- A coefficient is not 0: they are as many as the degree and one more.
+module _ (c : tie.After-degree) where
+  abbrev p : Polynomial
+  p = now (c .before .before .before .args .p)
 
-returns : tie.Need-returns
-returns c =
-    let p = now (c .before .before .args .p) in
-    let d = c .before .degree .result in (
-      omega arith,
-      coeff-isZero (drop (d + 1) p) (λ k. coeff-drop (d + 1) p k
-          ∙ coeff-past-degree p (d + 1 + k) (omega (arith, c .before .degree .ensures))),
-    )
+  used-is : used p ≡ suc (degree p)
+  unfolding used
+  used-is = ap (λ t. cond t 0 (suc (degree p))) (sym (c .before .before .all-zero .ensures) ∙ c .before .if1 .left)
+
+add-result : tie.Need-add-result
+add-result c = omega (arith, c .degree .ensures, used-is c, used-length (p c))
 
 returns-2 : tie.Need-returns-2
-returns-2 c =
-    let p = now (c .before .before .args .p) in
-    let long : length p ≤ degree p = omega (arith, c .before .degree .ensures, c .if1 .left) in
-    (omega arith, coeff-isZero p (λ k. coeff-past-length p k (omega (arith, none p long))))
+returns-2 c = omega (arith, c .degree .ensures, used-is c, add-one (c .degree .result))
 
 pub used-spec : {M : Type 1} → statement M
-used-spec = tie.close (tie.spec degree-requires add-result returns returns-2)
+used-spec = tie.close (tie.spec all-zero-requires returns degree-requires add-result returns-2)
