@@ -1,5 +1,6 @@
 pub mod Records
 pub mod RecordSums
+pub mod Terms
 pub mod RecordPlaces
 pub mod RecordAnswers
 pub mod RecordChecks

@@ -1,29 +1,23 @@
--- Sums as the code forms them, one value after another.
+-- The sum of a row: how large it can become, and the right side after the left part.
 --
 -- Main definitions
 --   blockRoom           the products of a block are together no larger
 --
 -- Main statements
---   block-next, block-past      a column more
 --   values-small                the values of a record
---   block-size                  how far a block can take the sum
---   blocks-next, blocks-past    a block more
---   columns-few, blocks-size    how far a row's blocks can take it
+--   blocks-size                 how far a row's blocks can take the sum
 --   row-left, row-right, row-formed   the right side after the left part
 --   blocks-of, columns-of       the blocks and the columns in use, by their numbers
---   vector-room                 an earlier vector is there too
 use Prim.Native.Nat.{ℕ, suc, pred, _+_, _*_, _≤_}
-use native.Mathlib.Nat.{le-refl, mul-le-mul, suc-mul}
-use native.Mathlib.Numerals.{add-one}
+use native.Mathlib.Nat.{mul-le-mul}
 use native.Mathlib.Omega.{arith}
-use mathlib.Core.Path.{_≡_, sym, _∙_, ap}
+use mathlib.Core.Path.{_≡_, _∙_, ap}
 use mathlib.Core.List.{List, [], _∷_, map}
 use mathlib.Core.Option.{none, some}
 use lib.Dec.{T, leb, leb→le}
 use lib.ListN.{length, take, getD, length-take}
 use lib.IntN.{ℤ, pos, natAbs, _+ℤ_, _-ℤ_, _*ℤ_}
 use Rattle.algebra.specs.Integers.{natAbs-+ℤ, natAbs-*ℤ}
-use Rattle.algebra.specs.Polynomials.{Polynomial}
 use Rattle.lists.specs.Images.{map-take}
 use Rattle.lists.specs.Tests.{every-getD}
 use Rattle.rules.specs.Rows.{Block, Row}
@@ -41,24 +35,12 @@ blockRoom = 4 * (valueLimit * valueBound)
 
 -- ---- a block
 
-module _ (n : ℤ) (values : List ℤ) (from : ℕ) where
-  pub block-next : (c : ℕ) (s v : ℤ) (p : Polynomial) (ps : Block) → horner n p ≡ some v
-      → withBlock n values from c s (p ∷ ps) ≡ withBlock n values from (c + 1) (s +ℤ v *ℤ getD values (from + c) (pos 0)) ps
-  unfolding withBlock after
-  block-next c s v p ps e =
-      ap (after (λ v. withBlock n values from (suc c) (s +ℤ v *ℤ getD values (from + c) (pos 0)) ps)) e
-      ∙ ap (λ d. withBlock n values from d (s +ℤ v *ℤ getD values (from + c) (pos 0)) ps) (sym (add-one c))
-
-  pub block-past : (c : ℕ) (s : ℤ) (p : Polynomial) (ps : Block) → horner n p ≡ none → withBlock n values from c s (p ∷ ps) ≡ none
-  unfolding withBlock after
-  block-past c s p ps e = ap (after (λ v. withBlock n values from (suc c) (s +ℤ v *ℤ getD values (from + c) (pos 0)) ps)) e
-
 pub values-small : (values : List ℤ) → T (valuesRight values) → (k : ℕ) → natAbs (getD values k (pos 0)) ≤ valueBound
 unfolding valuesRight
 values-small values h k =
     leb→le (natAbs (getD values k (pos 0))) valueBound (every-getD (λ v. leb (natAbs v) valueBound) values (pos 0) tt h k)
 
-pub block-size : (n : ℤ) (values : List ℤ) (from c : ℕ) (s q : ℤ) (ps : Block) → T (valuesRight values)
+block-size : (n : ℤ) (values : List ℤ) (from c : ℕ) (s q : ℤ) (ps : Block) → T (valuesRight values)
     → withBlock n values from c s ps ≡ some q → natAbs q ≤ natAbs s + length ps * (valueLimit * valueBound)
 unfolding withBlock
 block-size n values from c s q [] h e = let z : q ≡ s = cc in rw z (omega arith)
@@ -71,17 +53,6 @@ block-size n values from c s q (p ∷ ps) h e =
 
 -- ---- the blocks
 
-module _ (n : ℤ) (values : List ℤ) (m : ℕ) where
-  pub blocks-next : (top : ℕ) (s q : ℤ) (b : Block) (bs : List Block) → withBlock n values (top * m) 0 s (take m b) ≡ some q
-      → withBlocks n values m top s (b ∷ bs) ≡ withBlocks n values m (pred top) q bs
-  unfolding withBlocks after
-  blocks-next top s q b bs e = ap (after (λ q. withBlocks n values m (pred top) q bs)) e
-
-  pub blocks-past : (top : ℕ) (s : ℤ) (b : Block) (bs : List Block) → withBlock n values (top * m) 0 s (take m b) ≡ none
-      → withBlocks n values m top s (b ∷ bs) ≡ none
-  unfolding withBlocks after
-  blocks-past top s b bs e = ap (after (λ q. withBlocks n values m (pred top) q bs)) e
-
 pub blocks-of : (row : List ℤ) (k : ℕ) → k ≤ blockCount → take k (rowOf row .blocks) ≡ map blockOf (parts blockLength k row)
 unfolding rowOf
 blocks-of row k h =
@@ -91,14 +62,7 @@ pub columns-of : (l : List ℤ) (m : ℕ) → m ≤ columnCount → take m (bloc
 columns-of l m h =
     take-parts coefficientCount columnCount m (take blockLength l) h ∙ parts-take coefficientCount m blockLength l (omega arith)
 
--- Vector k of the record is there where vector `top` is.
-pub vector-room : (m k top n : ℕ) → k ≤ top → (top + 1) * m ≤ n → k * m + m ≤ n
-vector-room m k top n h room =
-    let rows : (k + 1) * m ≤ (top + 1) * m = mul-le-mul (omega arith) (le-refl m) in
-    let more : (k + 1) * m ≡ k * m + m = ap (λ j. j * m) (add-one k) ∙ suc-mul k m in
-    omega arith
-
-pub columns-few : (m : ℕ) (b : Block) → m ≤ columnCount → length (take m b) ≤ columnCount
+columns-few : (m : ℕ) (b : Block) → m ≤ columnCount → length (take m b) ≤ columnCount
 columns-few m b h = rw length-take (omega arith)
 
 pub blocks-size : (n : ℤ) (values : List ℤ) (m top : ℕ) (s q : ℤ) (bs : List Block) → T (valuesRight values) → m ≤ columnCount

@@ -1,8 +1,10 @@
 // Recorded vectors: does a system explain them? `check_record` is the public entry point: no `requires`, and a contract that gives the
 // answer by one equation. It only reads what it is lent.
 use evaluation::Formed;
+use stores::lengths::EQUATIONS;
 use stores::lengths::RELATION;
 use stores::lengths::ROW;
+use terms::SHAPE;
 ghost use mathlib.Core.Path.{_≡_};
 ghost use mathlib.Core.Bool.{_&&_};
 ghost use mathlib.Core.List.{[], _∷_};
@@ -12,16 +14,18 @@ ghost use lib.IntN.{pos, natAbs, _+ℤ_};
 ghost use lib.Signed.{leZ, ltZ};
 ghost use lib.ListN.{length, take, drop, getD};
 ghost use Rattle.lists.specs.Tests.{every};
-ghost use Rattle.rules.specs.Limits.{columnCount, mostSpan, rowLength, relationLength, blockBound, bound, small};
+ghost use Rattle.rules.specs.Limits.{columnCount, mostSpan, mostEquations, rowLength, relationLength, blockBound, bound, small};
 ghost use Rattle.rules.specs.Rows.{smallRow};
 ghost use Rattle.rules.specs.Stores as Stores;
 ghost use Rattle.stores.specs.Validity.{sizesOf};
 ghost use Rattle.evaluation.specs.Evaluated.{farthest};
 ghost use Rattle.records.specs.Records as Records;
 ghost use Rattle.records.specs.RecordAnswers.{answerOf};
+ghost use Rattle.records.specs.Terms.{shapeLength, AllShaped};
 
 mod checks;
 mod sums;
+mod terms;
 
 // A value of Horner's rule is past its limit (SCOPE 12.31).
 const LIMIT_PASSED: u8 = 12;
@@ -38,6 +42,7 @@ pub enum Answer {
 // The equations at n, by number, after so many tests (SCOPE 12.22).
 fn equations_at(
     rows: &[i64],
+    shapes: &[usize],
     equations: usize,
     n: i64,
     values: &[i64],
@@ -50,14 +55,19 @@ fn equations_at(
         × (natAbs n ≤ farthest) ⌝ }
     requires { ⌜ T (Records.valuesRight (now values)) × ((top + 1) * m ≤ length (now values))
         × (m ≤ columnCount) × (span ≤ mostSpan) × (span ≤ top) ⌝ }
+    requires { ⌜ (equations ≤ mostEquations) × (mostEquations * shapeLength ≤ length (now shapes))
+        × AllShaped m span equations (now rows) (now shapes) ⌝ }
     requires { ⌜ before + equations ≤ 1000 ⌝ }
     ensures { λ r. ⌜ answerOf r ≡ Records.answerTo before
         (Records.rowTests m span (now (values .entry)) top n 1 (Stores.rowsOf equations (now (rows .entry)))) ⌝ }
 {
     let mut i = 0;
     while i < equations {
+        let at = i * SHAPE;
+        let end = at + SHAPE;
         let Formed::Value(sum) = sums::row_sum(
             stores::rows::row_at(rows, i * ROW),
+            &shapes[at..end],
             n,
             values,
             m,
@@ -102,11 +112,23 @@ fn equations_fit(
     let m = sizes.m;
     let equations = sizes.equations;
     let span = stores::validity::span(sizes);
+    let mut shapes = [0usize; EQUATIONS * SHAPE];
+    terms::row_shapes(&mut shapes, rows, equations, m, span);
     let mut tested = 0;
     let mut j = 0;
     while j + span < vectors {
         let n = index_from(sizes, first, j);
-        let answer = equations_at(rows, equations, n, values, m, span, j + span, tested);
+        let answer = equations_at(
+            rows,
+            &shapes,
+            equations,
+            n,
+            values,
+            m,
+            span,
+            j + span,
+            tested,
+        );
         let Answer::Fits(k) = answer else {
             return answer;
         };
@@ -152,14 +174,10 @@ fn relation_at(
     }
     let span = stores::validity::span(sizes);
     let top = (n + l - first) as usize;
-    let Formed::Value(sum) = sums::row_sum(
-        stores::rows::row_at(relations, at + 1),
-        n,
-        values,
-        m,
-        span,
-        top,
-    ) else {
+    let row = stores::rows::row_at(relations, at + 1);
+    let mut shape = [0usize; SHAPE];
+    terms::row_shape(&mut shape, row, m, span);
+    let Formed::Value(sum) = sums::row_sum(row, &shape, n, values, m, span, top) else {
         return Answer::Refused(LIMIT_PASSED);
     };
     if sum != 0 {

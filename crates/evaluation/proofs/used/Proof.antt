@@ -1,14 +1,13 @@
 -- `evaluation::used` meets its contract.
 -- Assumes nothing.
 use mathlib.Core.Path.{_≡_, sym, _∙_, ap}
-use mathlib.Core.Bool.{false, cond}
-use Prim.Native.Nat.{suc, _≤_}
+use mathlib.Core.Bool.{cond}
+use Prim.Native.Nat.{suc}
 use native.Mathlib.Numerals.{add-one}
 use native.Mathlib.Omega.{arith}
 use borrow.Author.Needs.{needs}
 use denote.Ref.{now}
-use lib.ListN.{length}
-use Rattle.algebra.specs.Polynomials.{Polynomial, isZero, degree}
+use Rattle.algebra.specs.Polynomials.{Polynomial, degree}
 use Rattle.evaluation.specs.Evaluated.{used, used-length}
 use Rattle.evaluation.proofs.used.Statement.{statement}
 use Rattle.evaluation.proofs.used.Tie as tie

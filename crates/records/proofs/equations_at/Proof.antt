@@ -20,23 +20,24 @@ use Rattle.rules.specs.Stores.{rowOf, rowsOf, rowNeed}
 use Rattle.evaluation.specs.Evaluated.{formedOf}
 use Rattle.records.specs.Records.{Tested, equation, rowSum, rowTests, answerTo, fits}
 use Rattle.records.specs.RecordAnswers.{answerOf, answer-past, answer-zero, answer-fails, rows-next, rows-end, row-small, row-tests-next}
+use Rattle.records.specs.Terms.{shapeLength}
 use Rattle.evaluation.specs.declared.Formed.the-variants.{Value, Past}
 use Rattle.records.proofs.equations_at.Statement.{statement}
 use Rattle.records.proofs.equations_at.Tie as tie
 
 abbrev Inv-loop : tie.InvT-loop
-Inv-loop rows equations n values m span top before i₀ i =
+Inv-loop rows shapes equations n values m span top before i₀ i =
     (i ≤ equations)
     × (answerTo (before + i) (rowTests m span values top (toZ w64 n) (i + 1) (drop i (rowsOf equations rows)))
     ≡ answerTo before (rowTests m span values top (toZ w64 n) 1 (rowsOf equations rows)))
 
 abbrev μ-loop : tie.MeasureT-loop
-μ-loop rows equations n values m span top before i₀ i = equations - i
+μ-loop rows shapes equations n values m span top before i₀ i = equations - i
 
 -- A turn: row i.
 module _ (d : tie.In-loop Inv-loop μ-loop) where
   abbrev s : tie.Start Inv-loop μ-loop
-  s = d .before .before
+  s = d .before .before .before
 
   abbrev rows : List ℤ
   rows = s .args .rows .now
@@ -75,17 +76,23 @@ module _ (d : tie.In-loop Inv-loop μ-loop) where
 
 -- The sum of the row.
 sum-is : (w : tie.After-row-sum Inv-loop μ-loop)
-    → formedOf (w .row-sum .result) ≡ sum-of (w .before .before) (rowOf (numbers (w .before .before)))
+    → formedOf (w .row-sum .result) ≡ sum-of (w .before .before .before) (rowOf (numbers (w .before .before .before)))
 sum-is w =
-    let d = w .before .before in
-    (simp (toZ-ofZ (s d .fits .n)) at (w .row-sum .ensures)) ∙ ap (λ l. sum-of d (rowOf l)) (w .before .row-at .ensures .0)
+    let d = w .before .before .before in
+    (simp (toZ-ofZ (s d .fits .n)) at (w .row-sum .ensures)) ∙ ap (λ l. sum-of d (rowOf l)) (w .before .before .row-at .ensures .0)
 
 loop-holds : tie.Need-loop-holds Inv-loop μ-loop
 loop-holds c = (
   search needs,
-  ap (λ k. answerTo k (rowTests (c .args .m) (c .args .span) (c .args .values .now) (c .args .top) (toZ w64 (ofZ w64 (c .args .n))) 1
-      (rowsOf (c .args .equations) (c .args .rows .now)))) (add-zero (c .args .before)),
+  ap (λ k. answerTo k (rowTests (c .before .args .m) (c .before .args .span) (c .before .args .values .now) (c .before .args .top) (toZ w64 (ofZ w64 (c .before .args .n))) 1
+      (rowsOf (c .before .args .equations) (c .before .args .rows .now)))) (add-zero (c .before .args .before)),
 )
+
+mul-at : tie.Need-mul-at Inv-loop μ-loop
+mul-at c = omega (arith, c .loop-test .taken, s c .pre .1 .1 .0 .0)
+
+add-end : tie.Need-add-end Inv-loop μ-loop
+add-end c = omega (arith, c .loop-test .taken, s c .pre .1 .1 .0 .0)
 
 mul-row-at : tie.Need-mul-row-at Inv-loop μ-loop
 unfolding rowNeed
@@ -95,16 +102,30 @@ row-at-requires : tie.Need-row-at-requires Inv-loop μ-loop
 unfolding rowNeed
 row-at-requires c κs = search needs
 
+mul-row-sum : tie.Need-mul-row-sum Inv-loop μ-loop
+mul-row-sum c = let d = c .before in omega (arith, d .loop-test .taken, s d .pre .1 .1 .0 .0)
+
+sub-row-sum : tie.Need-sub-row-sum Inv-loop μ-loop
+sub-row-sum c = search needs
+
+part-row-sum-start : tie.Need-part-row-sum-start Inv-loop μ-loop
+part-row-sum-start c = search needs
+
+part-row-sum-end : tie.Need-part-row-sum-end Inv-loop μ-loop
+part-row-sum-end c = let d = c .before in omega (arith, d .loop-test .taken, s d .pre .1 .1 .0 .0, s d .pre .1 .1 .0 .1)
+
 row-sum-requires : tie.Need-row-sum-requires Inv-loop μ-loop
 row-sum-requires c κs =
-    let d = c .before in (
+    let r = c .before in
+    let d = r .before in
+    let width : i d * shapeLength + shapeLength - i d * shapeLength ≡ shapeLength = omega arith in (
       (
-        rw (c .row-at .ensures .0)
+        rw (r .row-at .ensures .0)
             (row-small (s d .args .equations) (rows d) (i d) (d .loop-test .taken) (s d .pre .0 .0) (s d .pre .0 .1)),
-        c .row-at .ensures .1,
+        r .row-at .ensures .1,
         rw (toZ-ofZ (s d .fits .n)) (s d .pre .0 .2),
       ),
-      s d .pre .1 .0,
+      (s d .pre .1 .0, rw (r .row-at .ensures .0, width) (s d .pre .1 .1 .0 .2 (i d) (d .loop-test .taken))),
     )
 
 enum-known-sum : tie.Need-enum-known-sum Inv-loop μ-loop
@@ -117,7 +138,7 @@ returns : tie.Need-returns Inv-loop μ-loop
 unfolding formedOf answerOf
 returns c =
     let w = c .before .before in
-    let d = w .before .before in
+    let d = w .before .before .before in
     let told : w .row-sum .result ≡ Past = c .enum-told .given .1 in
     sym (sym (whole d) ∙ answer-past (s d .args .before + i d) (test d) (rest d) (sym (sym (ap formedOf told) ∙ sum-is w)))
 
@@ -127,7 +148,7 @@ module _ (k : tie.After-known-told Inv-loop μ-loop) where
   w = k .before .before .before
 
   abbrev d : tie.In-loop Inv-loop μ-loop
-  d = w .before .before
+  d = w .before .before .before
 
   abbrev sum : ℤ
   sum = k .before .sum .given .0 .0
@@ -141,8 +162,8 @@ module _ (k : tie.After-known-told Inv-loop μ-loop) where
   sum-fits : SFits w64 sum
   sum-fits = search needs
 
-add-t15 : tie.Need-add-t15 Inv-loop μ-loop
-add-t15 c = search needs
+add-t23 : tie.Need-add-t23 Inv-loop μ-loop
+add-t23 c = search needs
 
 returns-2 : tie.Need-returns-2 Inv-loop μ-loop
 unfolding answerOf
@@ -171,14 +192,14 @@ loop-again c =
           ∙ sym (answer-zero (s e .args .before + i e) (test e) (rest e) (sum-found k ∙ ap some zero-sum)) ∙ whole e),
     )
 
-add-t16 : tie.Need-add-t16 Inv-loop μ-loop
-add-t16 c = search needs
+add-t24 : tie.Need-add-t24 Inv-loop μ-loop
+add-t24 c = search needs
 
 returns-3 : tie.Need-returns-3 Inv-loop μ-loop
 unfolding answerOf answerTo rowTests
 returns-3 c =
     let at = c .before in
-    let st = at .before in
+    let st = at .before .before in
     let all : at .loop .i ≡ st .args .equations = omega arith in
     let tests = rowTests (st .args .m) (st .args .span) (st .args .values .now) (st .args .top) (st .args .n) in
     ap (λ j. fits (st .args .before + j)) (sym all)
@@ -193,16 +214,22 @@ equations-at-spec =
     Inv-loop
     μ-loop
     loop-holds
+    mul-at
+    add-end
     mul-row-at
     row-at-requires
+    mul-row-sum
+    sub-row-sum
+    part-row-sum-start
+    part-row-sum-end
     row-sum-requires
     enum-known-sum
     enum-told
     returns
-    add-t15
+    add-t23
     returns-2
     add-i
     loop-less
     loop-again
-    add-t16
+    add-t24
     returns-3)

@@ -25,13 +25,13 @@ use Rattle.records.proofs.equations_fit.Statement.{statement}
 use Rattle.records.proofs.equations_fit.Tie as tie
 
 abbrev Inv-loop : tie.InvT-loop
-Inv-loop rows sizes first vectors values m equations span tested₀ j₀ tested j =
+Inv-loop rows sizes first vectors values m equations span shapes tested₀ j₀ tested j =
     (j ≤ vectors) × (tested ≤ 6 * j)
     × (answerTo tested (equationTests (sizesOf sizes) (toZ w64 first) values (rowsOf (sizes .equations) rows) j (vectors - span - j))
     ≡ answerTo 0 (equationTests (sizesOf sizes) (toZ w64 first) values (rowsOf (sizes .equations) rows) 0 (vectors - span)))
 
 abbrev μ-loop : tie.MeasureT-loop
-μ-loop rows sizes first vectors values m equations span tested₀ j₀ tested j = vectors - j
+μ-loop rows sizes first vectors values m equations span shapes tested₀ j₀ tested j = vectors - j
 
 -- What is known before the loop.
 module _ (a : tie.After-span Inv-loop μ-loop) where
@@ -67,7 +67,7 @@ module _ (a : tie.After-span Inv-loop μ-loop) where
 -- A turn: the n whose lowest block meets vector j.
 module _ (d : tie.In-loop Inv-loop μ-loop) where
   abbrev a : tie.After-span Inv-loop μ-loop
-  a = d .before .before
+  a = d .before .before .before .before .before
 
   abbrev j : ℕ
   j = d .before .loop .j
@@ -104,14 +104,14 @@ index-is f =
 -- What the equations there answer.
 module _ (e : tie.After-equations-at Inv-loop μ-loop) where
   abbrev d : tie.In-loop Inv-loop μ-loop
-  d = e .before .before
+  d = e .before .before .before
 
   answered : answerOf (e .equations-at .result) ≡ answerTo (d .before .loop .tested) (here d)
   answered =
       e .equations-at .ensures
       ∙ ap (λ n. answerTo (d .before .loop .tested)
       (rowTests (s (a d) .args .sizes .m) (a d .span .result) (s (a d) .args .values .now) (j d + a d .span .result) n 1 (rows (a d))))
-      (index-is (e .before))
+      (index-is (e .before .before))
 
   goes-on : goOn (all (a d) (j d + 1) (left d)) (answerOf (e .equations-at .result))
       ≡ answerTo 0 (all (a d) 0 (s (a d) .args .vectors - a d .span .result))
@@ -122,33 +122,50 @@ module _ (e : tie.After-equations-at Inv-loop μ-loop) where
 span-requires : tie.Need-span-requires Inv-loop μ-loop
 span-requires c κs = c .pre .0 .0
 
+slice-aggregate-row-shapes : tie.Need-slice-aggregate-row-shapes Inv-loop μ-loop
+slice-aggregate-row-shapes c = search needs
+
+row-shapes-requires : tie.Need-row-shapes-requires Inv-loop μ-loop
+row-shapes-requires c κs =
+    let b = c .before in
+    ((s b .pre .1 .0 .0, m-small b, span-small b), (equations-few b, search needs))
+
 loop-holds : tie.Need-loop-holds Inv-loop μ-loop
-loop-holds c = (
-  search needs,
-  search needs,
-  ap (λ k. answerTo 0 (equationTests (z c) (toZ w64 (ofZ w64 (s c .args .first))) (s c .args .values .now) (rows c) 0 k))
-      (sub-zero (s c .args .vectors - c .span .result)),
-)
+loop-holds c =
+    let b = c .before .before .before in (
+      search needs,
+      search needs,
+      ap (λ k. answerTo 0 (equationTests (z b) (toZ w64 (ofZ w64 (s b .args .first))) (s b .args .values .now) (rows b) 0 k))
+          (sub-zero (s b .args .vectors - b .span .result)),
+    )
 
 add-loop : tie.Need-add-loop Inv-loop μ-loop
-add-loop c = omega (arith, c .loop .inv .0, span-small (c .before), s (c .before) .pre .0 .2)
+add-loop c = let b = c .before .before .before .before in omega (arith, c .loop .inv .0, span-small b, s b .pre .0 .2)
 
 index-from-requires : tie.Need-index-from-requires Inv-loop μ-loop
 index-from-requires c κs =
     let st = s (a c) in
     (st .pre .0 .0, rw (toZ-ofZ (st .fits .first)) (st .pre .0 .1), omega (arith, c .loop-test .taken, st .pre .0 .2))
 
+slice-aggregate-equations-at : tie.Need-slice-aggregate-equations-at Inv-loop μ-loop
+slice-aggregate-equations-at c = search needs
+
 add-equations-at : tie.Need-add-equations-at Inv-loop μ-loop
-add-equations-at c = omega (arith, c .before .before .loop .inv .0, span-small (a (c .before)), s (a (c .before)) .pre .0 .2)
+add-equations-at c = let d = c .before .before in omega (arith, d .before .loop .inv .0, span-small (a d), s (a d) .pre .0 .2)
 
 equations-at-requires : tie.Need-equations-at-requires Inv-loop μ-loop
 equations-at-requires c κs =
-    let d = c .before in
+    let f = c .before in
+    let d = f .before in
+    let shaped = d .before .before .before in
     let st = s (a d) in (
-      (st .pre .1 .0 .0, st .pre .1 .0 .1, rw (toZ-ofZ (sfits-of (c .index-from .ok))) (c .index-from .ensures .1)),
+      (st .pre .1 .0 .0, st .pre .1 .0 .1, rw (toZ-ofZ (sfits-of (f .index-from .ok))) (f .index-from .ensures .1)),
       (
         (st .pre .1 .1 .0, room d, m-small (a d), span-small (a d), omega arith),
-        omega (arith, d .before .loop .inv .1, d .loop-test .taken, equations-few (a d), st .pre .0 .2),
+        (
+          (equations-few (a d), search needs, shaped .row-shapes .ensures),
+          omega (arith, d .before .loop .inv .1, d .loop-test .taken, equations-few (a d), st .pre .0 .2),
+        ),
       ),
     )
 
@@ -157,22 +174,22 @@ enum-known-answer c = search needs
 
 returns : tie.Need-returns Inv-loop μ-loop
 returns c =
-    let d = c .before .before .before in
+    let d = c .before .before .before .before in
     sym (stays (tagOf the-type) (λ k. refl) (c .before .equations-at .result) (all (a d) (j d + 1) (left d)) (c .match .keys2))
     ∙ goes-on (c .before)
     ∙ ap (λ k. answerTo 0 (all (a d) 0 (s (a d) .args .vectors - k))) (span-is (a d))
 
 add-j : tie.Need-add-j Inv-loop μ-loop
-add-j c = let d = c .before .before .before .before .before in omega (arith, d .loop-test .taken, s (a d) .pre .0 .2)
+add-j c = let d = c .before .before .before .before .before .before in omega (arith, d .loop-test .taken, s (a d) .pre .0 .2)
 
 loop-less : tie.Need-loop-less Inv-loop μ-loop
-loop-less c = let d = c .before .before .before .before .before in omega (arith, d .loop-test .taken)
+loop-less c = let d = c .before .before .before .before .before .before in omega (arith, d .loop-test .taken)
 
 loop-again : tie.Need-loop-again Inv-loop μ-loop
 unfolding answerOf goOn
 loop-again c =
     let e = c .before .before .before in
-    let d = e .before .before in
+    let d = e .before .before .before in
     let k = c .before .answer .given .0 .0 in
     let known : e .equations-at .result ≡ Fits k = c .before .answer .given .1 in
     let found : answerTo (d .before .loop .tested) (here d) ≡ fits k = sym (answered e) ∙ ap answerOf known in
@@ -188,7 +205,7 @@ returns-2 : tie.Need-returns-2 Inv-loop μ-loop
 unfolding answerOf answerTo equationTests
 returns-2 c =
     let at = c .before in
-    let b = at .before in
+    let b = at .before .before .before .before in
     let none-left : s b .args .vectors - b .span .result - at .loop .j ≡ 0 = omega (arith, c .loop-test .left) in
     sym (ap (λ k. answerTo (at .loop .tested) (all b (at .loop .j) k)) none-left)
     ∙ (simp (toZ-ofZ (s b .fits .first)) at (at .loop .inv .2))
@@ -201,9 +218,12 @@ equations-fit-spec =
     Inv-loop
     μ-loop
     span-requires
+    slice-aggregate-row-shapes
+    row-shapes-requires
     loop-holds
     add-loop
     index-from-requires
+    slice-aggregate-equations-at
     add-equations-at
     equations-at-requires
     enum-known-answer

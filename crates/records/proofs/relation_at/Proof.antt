@@ -188,36 +188,55 @@ add-row-at c = search needs
 row-at-requires : tie.Need-row-at-requires
 row-at-requires c κs = search needs
 
+slice-aggregate-row-shape : tie.Need-slice-aggregate-row-shape
+slice-aggregate-row-shape c = search needs
+
+row-shape-requires : tie.Need-row-shape-requires
+unfolding sizesOf
+row-shape-requires c κs =
+    let r = c .before in
+    let st = s (r .before .before) in
+    (r .row-at .ensures .1, bounds st .few, omega (arith, r .before .span .ensures, span-few (z st) (bounds st)), search needs)
+
+slice-aggregate-row-sum : tie.Need-slice-aggregate-row-sum
+slice-aggregate-row-sum c = search needs
+
 row-sum-requires : tie.Need-row-sum-requires
 unfolding topAt sizesOf
 row-sum-requires c κs =
-    let w = c .before in
+    let h = c .before .before in
+    let r = h .before .before in
+    let w = r .before in
     let d = w .before in
     let st = s d in
     simp (toZ-ofZ (n-fits st), toZ-ofZ (l-fits st), toZ-ofZ (high-fits st), toZ-ofZ (st .fits .first), toZ-ofZ (top-fits st)) (
-      (rw (c .row-at .ensures .0) (st .pre .1 .0 .2), c .row-at .ensures .1, near d),
+      (rw (r .row-at .ensures .0) (st .pre .1 .0 .2), r .row-at .ensures .1, near d),
       (
-        st .pre .1 .1 .0,
-        room d,
-        bounds st .few,
-        omega (arith, w .span .ensures, span-few (z st) (bounds st)),
-        omega (arith, w .span .ensures, top-is d),
+        (
+          st .pre .1 .1 .0,
+          room d,
+          bounds st .few,
+          omega (arith, w .span .ensures, span-few (z st) (bounds st)),
+          omega (arith, w .span .ensures, top-is d),
+        ),
+        h .row-shape .ensures,
       ),
     )
 
 -- The sum of the relation's row.
 sum-is : (w : tie.After-row-sum)
-    → let d = w .before .before .before in
+    → let d = w .before .before .before .before .before .before .before in
     formedOf (w .row-sum .result) ≡ test d .sum
 unfolding sumAt topAt sizesOf
 sum-is w =
-    let a = w .before .before in
+    let r = w .before .before .before .before .before in
+    let a = r .before in
     let d = a .before in
     let st = s d in
     (simp (toZ-ofZ (n-fits st), toZ-ofZ (l-fits st), toZ-ofZ (high-fits st), toZ-ofZ (st .fits .first), toZ-ofZ (top-fits st)) at
     (w .row-sum .ensures))
     ∙ ap₂ (λ k r. rowSum (st .args .sizes .m) k (st .args .values .now) (topAt (z st) (first st) (n st)) r (n st)) (a .span .ensures)
-    (ap rowOf (w .before .row-at .ensures .0) ∙ sym (row-after (store st) (st .args .at)))
+    (ap rowOf (r .row-at .ensures .0) ∙ sym (row-after (store st) (st .args .at)))
 
 enum-known-sum : tie.Need-enum-known-sum
 enum-known-sum c = search needs
@@ -229,7 +248,7 @@ returns-2 : tie.Need-returns-2
 unfolding formedOf answerOf
 returns-2 c =
     let w = c .before .before in
-    let d = w .before .before .before in
+    let d = w .before .before .before .before .before .before .before in
     let st = s d in
     let told : w .row-sum .result ≡ Past = c .enum-told .given .1 in
     sym (ap (answerTo (st .args .before)) (tests-are d)
@@ -241,7 +260,7 @@ module _ (k : tie.After-known-told) where
   w = k .before .before .before
 
   abbrev d : tie.Else1
-  d = w .before .before .before
+  d = w .before .before .before .before .before .before .before
 
   abbrev sum : ℤ
   sum = k .before .sum .given .0 .0
@@ -265,8 +284,8 @@ returns-3 c =
     (sym (ap (answerTo (st .args .before)) (tests-are (d k))
     ∙ answer-fails (st .args .before) (test (d k)) [] (sum k) (sum-found k) nonzero))
 
-add-t16 : tie.Need-add-t16
-add-t16 c = search needs
+add-t18 : tie.Need-add-t18
+add-t18 c = search needs
 
 returns-4 : tie.Need-returns-4
 unfolding answerOf answerTo
@@ -291,10 +310,13 @@ relation-at-spec =
     cast-top
     add-row-at
     row-at-requires
+    slice-aggregate-row-shape
+    row-shape-requires
+    slice-aggregate-row-sum
     row-sum-requires
     enum-known-sum
     enum-told
     returns-2
     returns-3
-    add-t16
+    add-t18
     returns-4)
