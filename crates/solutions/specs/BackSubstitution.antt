@@ -12,34 +12,36 @@
 --   sum-next, sum-size, dot-sum   one product more; the size of a sum; the sum of all products
 --   multiple-size, multiple-at, length-multiple   a vector so many times
 --   divisor-size, solved-kept, solved-turned      the divisor of pivot and sum, and the value with its sign
+--   substitute-none, none-small                   a step whose sum is 0
 --   pivots-length, pivot-at, free-columns         the settled rows of a store, one of them, and their columns
 --   back-none, back-next, back-all   the back substitution row by row
 --   back-solves, back-small   its vectors solve the rows; what is within ±C at the end was so on the way
 --   row-ready                 what a step asks of its row
 --   filled-all, filled-not    the two ends of the back substitution
 use Prim.Native.Nat.{ℕ, zero, suc, _+_, _*_, _≤_, _<_}
-use mathlib.Core.Path.{_≡_, refl, sym, _∙_, ap, subst}
+use mathlib.Core.Path.{_≡_, refl, sym, _∙_, ap, ap₂, subst}
 use mathlib.Core.Logic.{_≢_}
-use mathlib.Core.Bool.{Bool, true, false, not, _&&_}
+use mathlib.Core.Bool.{Bool, true, false, not, cond, _&&_}
 use mathlib.Core.List.{List, [], _∷_, _++_, zipWith}
 use native.Mathlib.Nat.{pos-of-ne-zero, le-trans, mul-le-mul, mul-le-mul-right}
 use native.Mathlib.Numerals.{add-one}
 use native.Mathlib.Omega.{arith}
 use lib.Dec.{T, eqb}
-use lib.ListN.{length, getD, take, drop, replicate, length-map, take-append-drop, drop-of-length-le}
+use lib.ListN.{length, getD, set, take, drop, replicate, length-map, take-append-drop, drop-of-length-le}
 use lib.Seq.{take-take}
 use lib.IntN.{ℤ, pos, negℤ, natAbs, _+ℤ_, _*ℤ_}
 use lib.Signed.{ltZ, quotZ}
-use Rattle.algebra.specs.Integers.{natAbs-*ℤ, natAbs-zero}
-use Rattle.algebra.specs.Polynomials.{scale, coeff}
+use Rattle.algebra.specs.Integers.{ringℤ, natAbs-*ℤ, natAbs-zero}
+use Rattle.algebra.specs.Division.{quotZ-le, quotZ-exact}
+use Rattle.algebra.specs.Polynomials.{scale, scale-one, coeff}
 use Rattle.algebra.specs.Coefficients.{coeff-scale}
-use Rattle.algebra.specs.Gcd.{gcd, gcd-pos-left, gcd-le-left}
+use Rattle.algebra.specs.Gcd.{gcd, gcd-zero, gcd-pos-left, gcd-le-left}
 use Rattle.algebra.specs.Sums.{sumBelow, sumBelow-last, natAbs-sumBelow}
 use Rattle.lists.specs.Everywhere.{All, all-drop, all-set, all-replicate}
 use Rattle.lists.specs.Images.{length-zipWith, getD-zipWith, getD-map}
 use Rattle.lists.specs.Parts.{parts, parts-length, getD-parts}
 use Rattle.lists.specs.Taken.{drop-next}
-use Rattle.lists.specs.Tests.{every, every-of-all, true-of, false-of}
+use Rattle.lists.specs.Tests.{every, every-of-all, all-of-every, true-of, false-of}
 use Rattle.polynomials.specs.Content.{small-at}
 use Rattle.rules.specs.Limits.{bound, small}
 use Rattle.solutions.specs.Eliminated.{Pivot, at, pivotOf}
@@ -116,6 +118,36 @@ pub record FreeColumn (n : ℕ) (ps : List Pivot) (f : ℕ) : Type 0 where
 pub record Filled (r : Bool) (w v : List ℤ) : Type 0 where
   pub judged : r ≡ every small w
   pub same : r ≡ true → v ≡ w
+
+-- Where the sum is 0, the value is 0 and all others stay.
+module _ (r v : List ℤ) (c : ℕ) (nonzero : getD r c (pos 0) ≢ pos 0) (none-left : dot r v ≡ pos 0) where
+  abbrev d : ℤ
+  d = getD r c (pos 0)
+
+  kept-once : quotZ (pos (natAbs d)) (pos (gcd (natAbs d) 0)) ≡ pos 1
+  kept-once =
+      let whole : pos 1 *ℤ pos (natAbs d) ≡ pos (natAbs d) = simp ringℤ in
+      ap (λ k. quotZ (pos (natAbs d)) (pos k)) (gcd-zero (natAbs d)) ∙ ap (λ a. quotZ a (pos (natAbs d))) (sym whole)
+      ∙ quotZ-exact (pos 1) (pos (natAbs d)) (λ e. nonzero (natAbs-zero (ap natAbs e)))
+
+  solved-none : solved d (pos 0) ≡ pos 0
+  unfolding solved
+  solved-none = cases (ltZ d (pos 0)) (natAbs-zero (omega (arith, quotZ-le (pos 0) (pos (gcd (natAbs d) 0)))))
+    where
+      cases : (t : Bool) {q : ℤ} → q ≡ pos 0 → cond t q (negℤ q) ≡ pos 0
+      cases true e = e
+      cases false e = ap negℤ e
+
+  pub substitute-none : substitute (pivotAt r c) v ≡ set v c (pos 0)
+  unfolding substitute pivotOf at
+  substitute-none =
+      ap (λ S. set (scale (quotZ (pos (natAbs d)) (pos (gcd (natAbs d) (natAbs S)))) v) c (solved d S)) none-left
+      ∙ ap₂ (λ k x. set (scale k v) c x) kept-once solved-none ∙ ap (λ w. set w c (pos 0)) (scale-one v)
+
+  pub none-small : T (every small v) → T (every small (set v c (pos 0)))
+  unfolding small
+  none-small h =
+      every-of-all small (set v c (pos 0)) (all-set (λ x. T (small x)) v c (pos 0) tt (all-of-every small v h))
 
 -- The tests of the columns, whatever the rows.
 zip-free : (rows : List (List ℤ)) (columns : List ℕ) (f : ℕ) → length rows ≡ length columns

@@ -87,17 +87,34 @@ fn solved(d: i64, s: i64, common: i64) -> i64
     }
 }
 
-// One step of the back substitution: the vector is taken |d| / gcd (d, S) times, so that it keeps no common divisor (SCOPE 14.52).
-fn substitute(row: &[i64], column: usize, v: &mut [i64])
-    requires { ⌜ (length (now row) ≡ length (now v)) × (length (now row) ≤ listColumns) × (column < length (now row)) ⌝ }
+// One step of the back substitution where the sum is not 0: the vector is taken |d| / gcd (d, S) times, so that it keeps no common divisor
+// (SCOPE 14.52).
+fn substitute(row: &[i64], column: usize, s: i64, v: &mut [i64])
+    requires { ⌜ (length (now row) ≡ length (now v)) × (column < length (now row)) ⌝ }
     requires { ⌜ T (every small (now row)) × T (every small (now v)) × (getD (now row) column (pos 0) ≢ pos 0) ⌝ }
+    requires { ⌜ (s ≡ Listed.dot (now row) (now v)) × (natAbs s ≤ listColumns * (bound * bound)) ⌝ }
     ensures { λ _. ⌜ now (v .exit) ≡ Listed.substitute (pivotAt (now (row .entry)) column) (now (v .entry)) ⌝ }
 {
     let d = row[column];
-    let s = row_sum(row, v);
     let common = common_divisor(d, s);
     multiply(v, integers::quotient(integers::magnitude(d) as i64, common));
     v[column] = solved(d, s, common);
+}
+
+// One step of the back substitution. Is the vector within ±C behind it? Where the sum is 0, the value is 0 and all others stay.
+fn substituted(row: &[i64], column: usize, v: &mut [i64]) -> bool
+    requires { ⌜ (length (now row) ≡ length (now v)) × (length (now row) ≤ listColumns) × (column < length (now row)) ⌝ }
+    requires { ⌜ T (every small (now row)) × T (every small (now v)) × (getD (now row) column (pos 0) ≢ pos 0) ⌝ }
+    ensures { λ r. ⌜ r ≡ every small (now (v .exit)) ⌝ }
+    ensures { λ _. ⌜ now (v .exit) ≡ Listed.substitute (pivotAt (now (row .entry)) column) (now (v .entry)) ⌝ }
+{
+    let s = row_sum(row, v);
+    if s == 0 {
+        v[column] = 0;
+        return true;
+    }
+    substitute(row, column, s, v);
+    stores::checks::all_small(v)
 }
 
 // Back through the settled rows, from the last; a value past ±C on the way leads to one past ±C at the end (SCOPE 14.52, 14.53).
@@ -111,8 +128,7 @@ fn substitute_all(matrix: &[i64], n: usize, columns: &[usize], f: usize, v: &mut
         i -= 1;
         let from = i * LIST_COLUMNS;
         let to = from + n;
-        substitute(&matrix[from..to], columns[i], v);
-        if !stores::checks::all_small(v) {
+        if !substituted(&matrix[from..to], columns[i], v) {
             return false;
         }
     }

@@ -28,9 +28,9 @@ use Rattle.solutions.proofs.listing.substitute.Statement.{statement}
 use Rattle.solutions.proofs.listing.substitute.Tie as tie
 
 -- the pivot and the sum
-module _ (c : tie.After-row-sum) where
+module _ (c : tie.After-d) where
   abbrev start : tie.Start
-  start = c .before .before .before
+  start = c .before
 
   abbrev row : List ℤ
   row = now (start .args .row)
@@ -51,16 +51,16 @@ module _ (c : tie.After-row-sum) where
   times = quotZ (pos (natAbs d)) (pos common)
 
   d-is : toZ w64 (ofZ w64 d) ≡ d
-  d-is = read-back d (c .before .before .d .given)
+  d-is = read-back d (c .d .given)
 
   d-size : natAbs d ≤ bound
-  d-size = small-at row (start .pre .1 .0) (start .args .column)
+  d-size = small-at row (start .pre .1 .0 .0) (start .args .column)
 
-  sum-is : toZ w64 (ofZ w64 (c .row-sum .result)) ≡ S
-  sum-is = read-back (c .row-sum .result) (c .row-sum .ok) ∙ c .row-sum .ensures .0
+  sum-is : toZ w64 (ofZ w64 (start .args .s)) ≡ S
+  sum-is = toZ-ofZ (start .fits .s) ∙ start .pre .1 .1 .0
 
   sum-size : natAbs S ≤ listColumns * (bound * bound)
-  sum-size = rw (c .row-sum .ensures .0) at (c .row-sum .ensures .1)
+  sum-size = rw (start .pre .1 .1 .0) at (start .pre .1 .1 .1)
 
   factor-size : natAbs times ≤ bound
   factor-size = le-trans (quotZ-le (pos (natAbs d)) (pos common)) d-size
@@ -77,7 +77,7 @@ module _ (c : tie.After-common-divisor) where
 
 -- the factor
 module _ (c : tie.After-magnitude) where
-  abbrev sums : tie.After-row-sum
+  abbrev sums : tie.After-d
   sums = c .before .before .before
 
   size-is : c .magnitude .result ≡ natAbs (d sums)
@@ -100,11 +100,8 @@ mul-d c = search needs
 shared-slice-copy-out-d : tie.Need-shared-slice-copy-out-d
 shared-slice-copy-out-d c = search needs
 
-row-sum-requires : tie.Need-row-sum-requires
-row-sum-requires c κs = search needs
-
 common-divisor-requires : tie.Need-common-divisor-requires
-common-divisor-requires c κs = (λ e. start c .pre .1 .2 (sym (d-is c) ∙ e), rw (d-is c) (d-size c))
+common-divisor-requires c κs = (λ e. start c .pre .1 .0 .2 (sym (d-is c) ∙ e), rw (d-is c) (d-size c))
 
 magnitude-requires : tie.Need-magnitude-requires
 magnitude-requires c κs = search needs
@@ -118,7 +115,7 @@ quotient-requires c κs = (rw (size-back c) (omega (arith, d-size (sums c))), co
 multiply-requires : tie.Need-multiply-requires
 multiply-requires c κs =
     let e = sums (c .before) in
-    (start e .pre .1 .1, rw (factor-is c) (factor-size e))
+    (start e .pre .1 .0 .1, rw (factor-is c) (factor-size e))
 
 solved-requires : tie.Need-solved-requires
 solved-requires c κs =
@@ -150,7 +147,6 @@ substitute-spec =
     (tie.spec
     mul-d
     shared-slice-copy-out-d
-    row-sum-requires
     common-divisor-requires
     magnitude-requires
     cast-quotient

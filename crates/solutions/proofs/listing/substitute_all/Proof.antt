@@ -86,16 +86,16 @@ module _ (c : tie.In-loop Inv-loop μ-loop) where
   v-length = ap length v-is ∙ back-solves n ps f (start .pre .0 .1) (start .pre .1) (i + 1) .size
 
 -- the vector behind that row, and its test
-module _ (c : tie.After-all-small Inv-loop μ-loop) where
+module _ (c : tie.After-substituted Inv-loop μ-loop) where
   abbrev at : tie.In-loop Inv-loop μ-loop
-  at = c .before .before .before .before .before .before .before
+  at = c .before .before .before .before
 
   abbrev new : List ℤ
-  new = c .before .before .before .substitute .last .1 .1 .0
+  new = c .substituted .last .1 .1 .0
 
   new-is : new ≡ back (n at) (ps at) (f at) (i at)
   new-is =
-      c .before .before .before .substitute .ensures
+      c .substituted .ensures .1
       ∙ ap₂ (λ r w. Listed.substitute (pivotAt r (getD (columns at) (i at) 0)) w) (lent at) (v-is at)
       ∙ sym (back-next (n at) (ps at) (f at) (i at) (pivotAt (row at) (getD (columns at) (i at) 0)) (pivot at))
 
@@ -116,54 +116,51 @@ mul-from c = omega (arith, long c)
 add-to : tie.Need-add-to Inv-loop μ-loop
 add-to c = omega (arith, long c, start c .pre .0 .0)
 
-mul-substitute : tie.Need-mul-substitute Inv-loop μ-loop
-mul-substitute c = omega (arith, long c, start c .pre .0 .0)
+mul-substituted : tie.Need-mul-substituted Inv-loop μ-loop
+mul-substituted c = omega (arith, long c, start c .pre .0 .0)
 
-sub-substitute : tie.Need-sub-substitute Inv-loop μ-loop
-sub-substitute c = omega (arith, long c, start c .pre .0 .0)
+sub-substituted : tie.Need-sub-substituted Inv-loop μ-loop
+sub-substituted c = omega (arith, long c, start c .pre .0 .0)
 
-part-substitute-start : tie.Need-part-substitute-start Inv-loop μ-loop
-part-substitute-start c = omega (arith, long c, start c .pre .0 .0)
+part-substituted-start : tie.Need-part-substituted-start Inv-loop μ-loop
+part-substituted-start c = omega (arith, long c, start c .pre .0 .0)
 
-part-substitute-end : tie.Need-part-substitute-end Inv-loop μ-loop
-part-substitute-end c = omega (arith, long c, start c .pre .0 .0)
+part-substituted-end : tie.Need-part-substituted-end Inv-loop μ-loop
+part-substituted-end c = omega (arith, long c, start c .pre .0 .0)
 
-mul-substitute-2 : tie.Need-mul-substitute-2 Inv-loop μ-loop
-mul-substitute-2 c = search needs
+mul-substituted-2 : tie.Need-mul-substituted-2 Inv-loop μ-loop
+mul-substituted-2 c = search needs
 
-shared-slice-read-substitute : tie.Need-shared-slice-read-substitute Inv-loop μ-loop
-shared-slice-read-substitute c = search needs
+shared-slice-read-substituted : tie.Need-shared-slice-read-substituted Inv-loop μ-loop
+shared-slice-read-substituted c = search needs
 
-substitute-requires : tie.Need-substitute-requires Inv-loop μ-loop
-substitute-requires c κs =
+substituted-requires : tie.Need-substituted-requires Inv-loop μ-loop
+substituted-requires c κs =
     let at = c .before .before .before in
     let r = ready at in
     let small-v = at .before .loop .inv .3 in
     rw (lent at)
     ((r .0 ∙ sym (v-length at), omega (arith, r .0, start at .pre .0 .0), omega (arith, r .0, r .1)), (r .2, small-v, r .3))
 
-all-small-requires : tie.Need-all-small-requires Inv-loop μ-loop
-all-small-requires c κs = search needs
-
 same-length : tie.Need-same-length Inv-loop μ-loop
 same-length c = search needs
 
 returns : tie.Need-returns Inv-loop μ-loop
 returns c =
-    let e = c .before in
+    let e = c .before .before in
     let at = at e in
     let s = start at in
     filled-not (n at) (ps at) (f at) (s .pre .0 .1) (s .pre .1) (i at) (new e) (new-is e)
-    (sym (e .all-small .ensures) ∙ not-true _ (c .if1 .taken))
+    (sym (e .substituted .ensures .0) ∙ not-true _ (c .if1 .taken))
 
 loop-less : tie.Need-loop-less Inv-loop μ-loop
 loop-less c = search needs
 
 loop-again : tie.Need-loop-again Inv-loop μ-loop
 loop-again c =
-    let e = c .before in
+    let e = c .before .before in
     let at = at e in
-    (omega arith, search needs, new-is e, true-T (every small (new e)) (sym (e .all-small .ensures) ∙ not-false _ (c .if1 .left)))
+    (omega arith, search needs, new-is e, true-T (every small (new e)) (sym (e .substituted .ensures .0) ∙ not-false _ (c .if1 .left)))
 
 same-length-2 : tie.Need-same-length-2 Inv-loop μ-loop
 same-length-2 c = search needs
@@ -185,14 +182,13 @@ substitute-all-spec =
     sub-i
     mul-from
     add-to
-    mul-substitute
-    sub-substitute
-    part-substitute-start
-    part-substitute-end
-    mul-substitute-2
-    shared-slice-read-substitute
-    substitute-requires
-    all-small-requires
+    mul-substituted
+    sub-substituted
+    part-substituted-start
+    part-substituted-end
+    mul-substituted-2
+    shared-slice-read-substituted
+    substituted-requires
     same-length
     returns
     loop-less
