@@ -128,26 +128,19 @@ fn first_column(row: &[i64]) -> usize
     j
 }
 
-// A row as its reduction leaves it, and whether it stayed within ±C.
-struct Reduction {
-    within: bool,
-    numbers: [i64; LIST_COLUMNS],
-}
-
-// Row i of the store behind the settled rows.
-fn reduced_row(matrix: &[i64], n: usize, i: usize, columns: &[usize]) -> Reduction
+// Row i of the store behind the settled rows, in lent numbers. Is each combination within ±C?
+fn reduced_row(matrix: &[i64], n: usize, i: usize, columns: &[usize], numbers: &mut [i64]) -> bool
     requires { ⌜ (n ≤ listColumns) × (i * listColumns + listColumns ≤ length (now matrix)) × T (every small (rowAt n i (now matrix))) ⌝ }
-    requires { ⌜ (length (now columns) * listColumns ≤ length (now matrix)) × Sound n (pivotsIn n (now columns) (now matrix)) ⌝ }
+    requires { ⌜ (length (now columns) * listColumns ≤ length (now matrix)) × Sound n (pivotsIn n (now columns) (now matrix))
+        × (length (now numbers) ≡ listColumns) ⌝ }
     ensures { λ r. ⌜ Elimination.reduceAll (pivotsIn n (now (columns .entry)) (now (matrix .entry))) (rowAt n i (now (matrix .entry)))
-        ≡ judged (r .within) (take n (r .numbers)) ⌝ }
-    ensures { λ r. ⌜ length (r .numbers) ≡ listColumns ⌝ }
+        ≡ judged r (take n (now (numbers .exit))) ⌝ }
+    ensures { λ _. ⌜ length (now (numbers .exit)) ≡ listColumns ⌝ }
 {
     let from = i * LIST_COLUMNS;
     let to = from + n;
-    let mut numbers = [0i64; LIST_COLUMNS];
-    stores::rows::save(&mut numbers, 0, &matrix[from..to]);
-    let within = reduce_all(&mut numbers[..n], matrix, columns);
-    Reduction { within, numbers }
+    stores::rows::save(numbers, 0, &matrix[from..to]);
+    reduce_all(&mut numbers[..n], matrix, columns)
 }
 
 // What an elimination leaves: 8 where a number passed ±C, otherwise the number of the settled rows, which are the first of the store, and
@@ -159,36 +152,22 @@ pub(crate) struct Eliminated {
 }
 
 // A row that is not zero is settled at its first column with a nonzero entry, in the place behind the settled rows; a zero row is dropped
-// (SCOPE 14.44).
-fn settle(
-    matrix: &mut [i64],
-    row: &[i64],
-    settled: usize,
-    columns: [usize; LIST_COLUMNS],
-) -> Eliminated
+// (SCOPE 14.44). How many are settled then?
+fn settle(matrix: &mut [i64], row: &[i64], settled: usize, columns: &mut [usize]) -> usize
     requires { ⌜ (length (now row) ≤ listColumns) × (settled * listColumns + listColumns ≤ length (now matrix)) ⌝ }
-    requires { ⌜ (length columns ≡ listColumns) × (countAfter settled (Elimination.firstAt (now row)) ≤ listColumns) ⌝ }
-    ensures { λ r. ⌜ (r .refusal ≡ 0) × (r .settled ≡ countAfter settled (Elimination.firstAt (now (row .entry))))
-        × (r .columns ≡ columnsAfter settled columns (Elimination.firstAt (now (row .entry)))) ⌝ }
+    requires { ⌜ (length (now columns) ≡ listColumns) × (countAfter settled (Elimination.firstAt (now row)) ≤ listColumns) ⌝ }
+    ensures { λ r. ⌜ (r ≡ countAfter settled (Elimination.firstAt (now (row .entry))))
+        × (now (columns .exit) ≡ columnsAfter settled (now (columns .entry)) (Elimination.firstAt (now (row .entry)))) ⌝ }
     ensures { λ _. ⌜ now (matrix .exit)
         ≡ storeAfter settled (now (row .entry)) (now (matrix .entry)) (Elimination.firstAt (now (row .entry))) ⌝ }
 {
     let column = first_column(row);
-    let mut places = columns;
     if column < row.len() {
         stores::rows::save(matrix, settled * LIST_COLUMNS, row);
-        places[settled] = column;
-        return Eliminated {
-            refusal: 0,
-            settled: settled + 1,
-            columns: places,
-        };
+        columns[settled] = column;
+        return settled + 1;
     }
-    Eliminated {
-        refusal: 0,
-        settled,
-        columns: places,
-    }
+    settled
 }
 
 // The rows in their order, each behind the settled ones (SCOPE 14.41). A row is settled in a place that is not behind its own, so no row
@@ -203,20 +182,17 @@ pub(crate) fn eliminate(matrix: &mut [i64], n: usize, count: usize) -> Eliminate
 {
     let mut settled = 0;
     let mut columns = [0usize; LIST_COLUMNS];
+    let mut numbers = [0i64; LIST_COLUMNS];
     let mut i = 0;
     while i < count {
-        let reduction = reduced_row(matrix, n, i, &columns[..settled]);
-        if !reduction.within {
+        if !reduced_row(matrix, n, i, &columns[..settled], &mut numbers) {
             return Eliminated {
                 refusal: 8,
                 settled: 0,
                 columns,
             };
         }
-        let row = reduction.numbers;
-        let next = settle(matrix, &row[..n], settled, columns);
-        settled = next.settled;
-        columns = next.columns;
+        settled = settle(matrix, &numbers[..n], settled, &mut columns);
         i += 1;
     }
     Eliminated {

@@ -49,16 +49,13 @@ module _ (c : tie.After-save) where
   loaded = front _ _ copied n (ap length part ∙ row-long) (c .save .ensures) ∙ part
 
   copied-long : length copied ≡ listColumns
-  copied-long = c .save .kept .0
+  copied-long = c .save .kept .0 ∙ start .pre .1 .2
 
 mul-from : tie.Need-mul-from
 mul-from c = search needs
 
 add-to : tie.Need-add-to
 add-to c = search needs
-
-slice-aggregate-save : tie.Need-slice-aggregate-save
-slice-aggregate-save c = search needs
 
 mul-save : tie.Need-mul-save
 mul-save c = search needs
@@ -75,8 +72,8 @@ part-save-end c = search needs
 save-requires : tie.Need-save-requires
 save-requires c κs = search needs
 
-array-borrow-prefix-numbers : tie.Need-array-borrow-prefix-numbers
-array-borrow-prefix-numbers c = search needs
+slice-relend-prefix-reduce-all : tie.Need-slice-relend-prefix-reduce-all
+slice-relend-prefix-reduce-all c = search needs
 
 slice-aggregate-reduce-all : tie.Need-slice-aggregate-reduce-all
 slice-aggregate-reduce-all c = let e = c .before .before in sym (ap length (loaded e) ∙ row-long e)
@@ -86,6 +83,9 @@ reduce-all-requires c κs =
     let e = c .before .before in
     let s = start e in
     rw (loaded e, row-long e) ((s .pre .0 .0, s .pre .1 .0), (s .pre .0 .2, s .pre .1 .1))
+
+same-length : tie.Need-same-length
+same-length c = search needs
 
 returns : tie.Need-returns
 returns c =
@@ -103,13 +103,13 @@ reduced-row-spec =
     (tie.spec
     mul-from
     add-to
-    slice-aggregate-save
     mul-save
     sub-save
     part-save-start
     part-save-end
     save-requires
-    array-borrow-prefix-numbers
+    slice-relend-prefix-reduce-all
     slice-aggregate-reduce-all
     reduce-all-requires
+    same-length
     returns)
