@@ -1,3 +1,4 @@
+pub mod DigitPairs
 pub mod SheetBytes
 pub mod Writer
 pub mod WriterChecks

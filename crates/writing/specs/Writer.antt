@@ -30,7 +30,7 @@ use mathlib.Core.Bool.{Bool, true, false, and-true, cond}
 use mathlib.Core.Logic.{_≢_, _⊎_, ⊎-elim}
 use mathlib.Core.List.{List, [], _∷_, _++_, map, flatten, append-assoc, append-nil, map-append, map-map}
 use Prim.Native.Nat.{ℕ, zero, suc, _+_, _-_, _*_, _/_, _%_, _^_, _≤_, _<_}
-use native.Mathlib.Nat.{zero-add, suc-add, div-lt-self, add-mul}
+use native.Mathlib.Nat.{zero-add, suc-add, div-lt-self, add-mul, pow-suc, one-le-pow, le-div-iff-mul-le, div-lt-iff-lt-mul}
 use native.Mathlib.Nat.{suc-mul, mul-le-mul, mul-le-mul-right, lt-trans, le-trans, lt-of-le-of-lt, le-of-suc-le-suc, not-suc-le-zero}
 use native.Mathlib.Numerals.{add-one}
 use native.Mathlib.Omega.{arith}
@@ -159,6 +159,14 @@ digits-last n h =
 pub digits-more : (n : ℕ) → 10 ≤ n → length (digitsOf n) ≡ length (digitsOf (n / 10)) + 1
 digits-more n h = ap length (digits-last n h) ∙ length-append (digitsOf (n / 10)) _
 
+-- The number of digits goes by the powers of ten.
+pub digits-size : (k n : ℕ) → 10 ^ k ≤ n → n < 10 ^ suc k → length (digitsOf n) ≡ suc k
+digits-size zero n low high = ap length (digits-one n high)
+digits-size (suc k) n low high =
+    let less : 10 ^ k ≤ n / 10 = le-div-iff-mul-le (lit< tt) .1 (rw pow-suc at low) in
+    let more : n / 10 < 10 ^ suc k = div-lt-iff-lt-mul (lit< tt) .1 (rw pow-suc at high) in
+    digits-more n (omega (arith, less, one-le-pow k 10 (lit< tt))) ∙ omega (arith, digits-size k (n / 10) less more)
+
 -- The last digit may be stored first.
 pub digits-back : (d : List ℕ) (at n : ℕ) → 10 ≤ n
     → sets (set d (at + length (digitsOf (n / 10))) (48 + n % 10)) at (digitsOf (n / 10)) ≡ sets d at (digitsOf n)
@@ -172,9 +180,13 @@ digits-length n h = length-decimalWithin (suc n) n [] (omega arith) 19 (lt-trans
 
 -- ---- numbers
 
-nine-digits : (n : ℕ) → n ≤ bound → length (digitsOf n) ≤ 9
+pub nine-digits : (n : ℕ) → n ≤ bound → length (digitsOf n) ≤ 9
 unfolding digitsOf
 nine-digits n h = length-decimalWithin (suc n) n [] (omega arith) 8 (lt-of-le-of-lt h (lit< tt))
+
+pub small-size : (a : ℤ) → T (small a) → natAbs a ≤ bound
+unfolding small
+small-size a h = leb→le (natAbs a) bound h
 
 -- A number within ±C has at most nine digits.
 pub decimal-length : (a : ℤ) → T (small a) → length (decimal a) ≤ 10

@@ -12,7 +12,7 @@ pub mod checks;
 
 ghost use mathlib.Core.Path.{_≡_};
 ghost use mathlib.Core.List.{[], _∷_, map};
-ghost use Prim.Native.Nat.{_+_, _*_, _%_, _^_, _≤_, _<_};
+ghost use Prim.Native.Nat.{ℕ, _+_, _*_, _%_, _^_, _≤_, _<_};
 ghost use Rattle.rules.specs.Numbers.{decimal, line, lines};
 ghost use lib.IntN.{pos, natAbs};
 ghost use lib.Dec.{T, leb};
@@ -30,6 +30,7 @@ ghost use Rattle.writing.specs.SheetBytes.{sizesBytes, orderBytes, sheet
 ghost use Rattle.writing.specs.SheetBytes.{equationRoom, relationRoom, sizesRoom, sideBytes, sidesBytes, sideRoom};
 ghost use Rattle.writing.specs.Writer.{Put, digitsOf, spaced, SmallParts, Lengths, termAt, numbersOf, nonzeroCount};
 ghost use Rattle.writing.specs.Writer.{Unused, UnusedParts, NoTerms, sheetGiven, sidesIn, sidesGiven};
+ghost use Rattle.writing.specs.DigitPairs.{pairOf, Ends};
 ghost use Rattle.writing.specs.WriterChecks.{Checked, callOf};
 ghost use Rattle.rules.specs.SheetCalls.{checkWrite, writeCall};
 ghost use Rattle.rules.specs.Layout.{blockOf, coefficientsAt, polynomialsIn};
@@ -48,6 +49,13 @@ const RELATION_BYTES: usize = 11 + EQUATION_BYTES;
 
 const LINES_BYTES: usize = 45 + 3 * 21 + 105;
 
+// The bytes of a space and the longest number within C.
+const NUMBER_BYTES: usize = 11;
+
+// The two digits of each number below 100.
+const PAIRS: [u8; 200] =
+    *b"00010203040506070809101112131415161718192021222324252627282930313233343536373839404142434445464748495051525354555657585960616263646566676869707172737475767778798081828384858687888990919293949596979899";
+
 pub fn put_byte(bytes: &mut [u8], at: usize, b: u8) -> usize
     requires { ⌜ at + 1 < 2 ^ 64 ⌝ }
     ensures { λ r. ⌜ Put (now (bytes .entry)) at (b ∷ []) 1 (now (bytes .exit)) r ⌝ }
@@ -59,16 +67,36 @@ pub fn put_byte(bytes: &mut [u8], at: usize, b: u8) -> usize
     next
 }
 
+// The number of digits of a number within C, by comparisons alone.
+fn few_digits(n: u64) -> usize
+    requires { ⌜ n < 1000000000 ⌝ }
+    ensures { λ r. ⌜ r ≡ length (digitsOf n) ⌝ }
+{
+    if n < 100 {
+        return if n < 10 { 1 } else { 2 };
+    }
+    if n < 10000 {
+        return if n < 1000 { 3 } else { 4 };
+    }
+    if n < 1000000 {
+        return if n < 100000 { 5 } else { 6 };
+    }
+    if n < 10000000 {
+        return 7;
+    }
+    if n < 100000000 { 8 } else { 9 }
+}
+
 fn digit_count(n: u64) -> usize
     ensures { λ r. ⌜ r ≡ length (digitsOf n) ⌝ }
 {
-    let mut count = 1;
+    let mut count = 0;
     let mut rest = n;
-    while 10 <= rest {
+    while 1000000000 <= rest {
         rest = rest / 10;
         count += 1;
     }
-    count
+    count + few_digits(rest)
 }
 
 // The digits of a number, from the last back.
@@ -114,6 +142,50 @@ fn put_number(bytes: &mut [u8], at: usize, a: i64) -> usize
     }
 }
 
+// The two digits of a number below 100.
+fn put_pair(bytes: &mut [u8], at: usize, n: u64)
+    requires { ⌜ (n < 100) × (at + 2 ≤ length (now bytes)) ⌝ }
+    ensures { λ _. ⌜ now (bytes .exit) ≡ sets (now (bytes .entry)) at (pairOf n) ⌝ }
+{
+    let place = 2 * n as usize;
+    let next = at + 1;
+    bytes[at] = PAIRS[place];
+    bytes[next] = PAIRS[place + 1];
+}
+
+// The digits of a number by pairs, from the last back. Where their number is odd, there is a zero before them.
+fn put_pairs_back(bytes: &mut [u8], end: usize, n: u64)
+    requires { ⌜ (length (digitsOf n) < end) × (end ≤ length (now bytes)) ⌝ }
+    ensures { λ _. ⌜ ((at : ℕ) → Ends (now (bytes .entry)) at end n (now (bytes .exit))) ⌝ }
+{
+    let mut i = end;
+    let mut rest = n;
+    while 100 <= rest {
+        i -= 2;
+        put_pair(bytes, i, rest % 100);
+        rest = rest / 100;
+    }
+    put_pair(bytes, i - 2, rest);
+}
+
+// A space and a number. Its sign is hard to foretell, so the minus is stored in any case, and the space over it where there is none.
+fn put_long(bytes: &mut [u8], at: usize, a: i64) -> usize
+    requires { ⌜ T (small a) × (at + numberBytes ≤ length (now bytes)) ⌝ }
+    ensures { λ r. ⌜ Put (now (bytes .entry)) at (spaced (a ∷ [])) numberBytes (now (bytes .exit)) r ⌝ }
+{
+    let size = integers::magnitude(a);
+    let mut start = at + 1;
+    if a < 0 {
+        start = at + 2;
+    }
+    let end = start + few_digits(size);
+    put_pairs_back(bytes, end, size);
+    let sign = start - 1;
+    bytes[sign] = 45;
+    bytes[at] = 32;
+    end
+}
+
 fn one_digit(a: i64) -> bool
     ensures { λ r. ⌜ r ≡ leb (natAbs a) 9 ⌝ }
 {
@@ -143,10 +215,11 @@ fn put_next(bytes: &mut [u8], at: usize, a: i64) -> usize
     requires { ⌜ T (small a) × (at + numberRoom < 2 ^ 64) ⌝ }
     ensures { λ r. ⌜ Put (now (bytes .entry)) at (spaced (a ∷ [])) numberBytes (now (bytes .exit)) r ⌝ }
 {
-    if one_digit(a) {
-        if at + 3 <= bytes.len() {
+    if at + NUMBER_BYTES <= bytes.len() {
+        if one_digit(a) {
             return put_one(bytes, at, a);
         }
+        return put_long(bytes, at, a);
     }
     let next = put_byte(bytes, at, 32);
     put_number(bytes, next, a)

@@ -11,7 +11,7 @@ use Rattle.writing.proofs.writer.digit_count.Statement.{statement}
 use Rattle.writing.proofs.writer.digit_count.Tie as tie
 
 abbrev Inv-loop : tie.InvT-loop
-Inv-loop n count₀ rest₀ count rest = (rest ≤ n) × (count + length (digitsOf rest) ≡ length (digitsOf n) + 1)
+Inv-loop n count₀ rest₀ count rest = (rest ≤ n) × (count + length (digitsOf rest) ≡ length (digitsOf n))
 
 abbrev μ-loop : tie.MeasureT-loop
 μ-loop n count₀ rest₀ count rest = rest
@@ -28,11 +28,17 @@ loop-less c = div-lt-self {n = c .before .loop .rest} {k = 10} (omega arith) (li
 loop-again : tie.Need-loop-again Inv-loop μ-loop
 loop-again c =
     let rest = c .before .loop .rest in
-    (omega (arith, div-lt-self {n = rest} {k = 10} (omega arith) (lit< tt)), omega (arith, digits-more rest (c .loop-test .taken)))
+    (omega (arith, div-lt-self {n = rest} {k = 10} (omega arith) (lit< tt)), omega (arith, digits-more rest (omega arith)))
+
+few-digits-requires : tie.Need-few-digits-requires Inv-loop μ-loop
+few-digits-requires c κs = omega arith
+
+add-result : tie.Need-add-result Inv-loop μ-loop
+add-result c = omega (arith, digits-length (c .before .before .before .args .n) (omega arith))
 
 returns : tie.Need-returns Inv-loop μ-loop
-returns c = omega (arith, ap length (digits-one (c .before .loop .rest) (omega arith)))
+returns c = omega arith
 
 pub digit-count-spec : {M : Type 1} → statement M
 digit-count-spec =
-    tie.close (tie.spec Inv-loop μ-loop loop-holds add-count loop-less loop-again returns)
+    tie.close (tie.spec Inv-loop μ-loop loop-holds add-count loop-less loop-again few-digits-requires add-result returns)

@@ -11,16 +11,14 @@ use borrow.Author.Needs.{needs}
 use Rattle.writing.proofs.writer.put_next.Statement.{statement}
 use Rattle.writing.proofs.writer.put_next.Tie as tie
 
+add-if1 : tie.Need-add-if1
+add-if1 c = search needs
+
 one-digit-requires : tie.Need-one-digit-requires
 one-digit-requires c κs = search needs
 
-add-if2 : tie.Need-add-if2
-add-if2 c = search needs
-
 put-one-requires : tie.Need-put-one-requires
-put-one-requires c κs =
-    let one = c .before .before .before in
-    (leb-true _ 9 (sym (one .one-digit .ensures) ∙ c .before .before .if1 .taken), omega arith, search needs)
+put-one-requires c κs = (leb-true _ 9 (sym (c .before .before .one-digit .ensures) ∙ c .before .if2 .taken), omega arith, search needs)
 
 same-length : tie.Need-same-length
 same-length c = search needs
@@ -30,20 +28,33 @@ returns c =
     let start = c .before .before .before .before .before .before .before .before in
     put-same (c .before .before .put-one .ensures) (ap (λ a. spaced (a ∷ [])) (toZ-ofZ (start .fits .a)))
 
-put-byte-requires : tie.Need-put-byte-requires
-put-byte-requires c κs = search needs
-
-put-number-requires : tie.Need-put-number-requires
-put-number-requires c κs =
-    let start = c .before .before .before .before .before .before .before .before in
-    (rw (toZ-ofZ (start .fits .a)) (start .pre .0), search needs)
+put-long-requires : tie.Need-put-long-requires
+put-long-requires c κs =
+    let start = c .before .before .before .before .before in
+    (rw (toZ-ofZ (start .fits .a)) (start .pre .0), omega arith)
 
 same-length-2 : tie.Need-same-length-2
 same-length-2 c = search needs
 
 returns-2 : tie.Need-returns-2
 returns-2 c =
-    let start = c .before .before .before .before .before .before .before .before .before .before .before in
+    let start = c .before .before .before .before .before .before .before .before in
+    put-same (c .before .before .put-long .ensures) (ap (λ a. spaced (a ∷ [])) (toZ-ofZ (start .fits .a)))
+
+put-byte-requires : tie.Need-put-byte-requires
+put-byte-requires c κs = search needs
+
+put-number-requires : tie.Need-put-number-requires
+put-number-requires c κs =
+    let start = c .before .before .before .before .before .before .before in
+    (rw (toZ-ofZ (start .fits .a)) (start .pre .0), search needs)
+
+same-length-3 : tie.Need-same-length-3
+same-length-3 c = search needs
+
+returns-3 : tie.Need-returns-3
+returns-3 c =
+    let start = c .before .before .before .before .before .before .before .before .before .before in
     put-same (put-then (c .before .before .before .before .before .before .put-byte .ensures) (c .before .before .put-number .ensures))
     (ap (λ a. space ∷ decimal a) (toZ-ofZ (start .fits .a)) ∙ spaced-number (start .args .a))
 
@@ -51,12 +62,15 @@ pub put-next-spec : {M : Type 1} → statement M
 put-next-spec =
     tie.close
     (tie.spec
+    add-if1
     one-digit-requires
-    add-if2
     put-one-requires
     same-length
     returns
+    put-long-requires
+    same-length-2
+    returns-2
     put-byte-requires
     put-number-requires
-    same-length-2
-    returns-2)
+    same-length-3
+    returns-3)
