@@ -4,6 +4,7 @@
 -- Main definitions
 --   pairOf n           the two digits of a number below 100
 --   pairsFrom k n      the pairs of n numbers from k on, one after the other
+--   fourOf n, eightOf n   the four digits of a number below 10^4, and the eight of one below 10^8
 --   Ends d at end n e  the digits of n were stored in d up to a place, and what stands between `at` and them is still to be stored
 --
 -- Main statements
@@ -11,6 +12,7 @@
 --   run-behind, run-over   a run of bytes stored behind another, before that; a byte that a run is stored over
 --   digits-pair, digits-two   the digits of a number below 100, and the last two of any other
 --   pair-back, pair-first   one pair more, and the last
+--   nine-stored        eight digits at once, and the ninth before them
 --   long-stored        a number with the space before it, stored so that no step depends on its sign
 use mathlib.Core.Path.{_≡_, refl, sym, _∙_, ap, ap₂}
 use mathlib.Core.Bool.{Bool, true, false, not}
@@ -130,6 +132,117 @@ pair-first d at i n few front some e = go (ltb n 10) (ltb→lt n 10) (nltb→le 
     go : (t : Bool) → (T t → n < 10) → (T (not t) → 10 ≤ n) → sets (sets d (i - 2) (pairOf n)) at front ≡ sets d at (front ++ digitsOf n)
     go true low high = one (low tt)
     go false low high = several (high tt)
+
+-- ---- seven to nine digits at once
+
+abbrev pub fourOf : ℕ → List ℕ
+fourOf n = pairOf (n / 100) ++ pairOf (n % 100)
+
+abbrev pub eightOf : ℕ → List ℕ
+eightOf n = fourOf (n / 10000) ++ fourOf (n % 10000)
+
+-- The last six digits.
+abbrev sixOf : ℕ → List ℕ
+sixOf n = pairOf (n / 10000 % 100) ++ fourOf (n % 10000)
+
+digits-four : (n : ℕ) → 10000 ≤ n → digitsOf n ≡ digitsOf (n / 10000) ++ fourOf (n % 10000)
+digits-four n h =
+    let rest : n / 100 / 100 ≡ n / 10000 = omega arith in
+    let high : n / 100 % 100 ≡ n % 10000 / 100 = omega arith in
+    let low : n % 100 ≡ n % 10000 % 100 = omega arith in
+    digits-two n (omega arith)
+    ∙ ap₂ (λ l k. l ++ pairOf k) (digits-two (n / 100) (omega arith)) low
+    ∙ append-assoc (digitsOf (n / 100 / 100)) (pairOf (n / 100 % 100)) (pairOf (n % 10000 % 100))
+    ∙ ap₂ (λ q k. digitsOf q ++ (pairOf k ++ pairOf (n % 10000 % 100))) rest high
+
+digits-six : (n : ℕ) → 1000000 ≤ n → digitsOf n ≡ digitsOf (n / 1000000) ++ sixOf n
+digits-six n h =
+    let rest : n / 10000 / 100 ≡ n / 1000000 = omega arith in
+    digits-four n (omega arith)
+    ∙ ap (λ l. l ++ fourOf (n % 10000)) (digits-two (n / 10000) (omega arith))
+    ∙ append-assoc (digitsOf (n / 10000 / 100)) (pairOf (n / 10000 % 100)) (fourOf (n % 10000))
+    ∙ ap (λ q. digitsOf q ++ sixOf n) rest
+
+pub six-more : (n : ℕ) → 1000000 ≤ n → length (digitsOf n) ≡ length (digitsOf (n / 1000000)) + 6
+six-more n h = ap length (digits-six n h) ∙ length-append (digitsOf (n / 1000000)) (sixOf n)
+
+eight-six : (n : ℕ) → eightOf (n % 100000000) ≡ pairOf (n / 1000000 % 100) ++ sixOf n
+eight-six n =
+    let first : n % 100000000 / 10000 / 100 ≡ n / 1000000 % 100 = omega arith in
+    let second : n % 100000000 / 10000 % 100 ≡ n / 10000 % 100 = omega arith in
+    let last : n % 100000000 % 10000 ≡ n % 10000 = omega arith in
+    ap₂ (λ i j. pairOf i ++ (pairOf j ++ fourOf (n % 100000000 % 10000))) first second
+    ∙ ap (λ k. pairOf (n / 1000000 % 100) ++ (pairOf (n / 10000 % 100) ++ fourOf k)) last
+
+-- The ninth digit stands before the others where there is room for it. Where there are fewer digits, what comes before the number is
+-- stored over it.
+module _ (d : List ℕ) (at end n first : ℕ) (big : 1000000 ≤ n) (few : n < 1000000000)
+    (place : ((at + 9 ≤ end) × (first ≡ end - 9)) ⊎ ((end < at + 9) × (first ≡ at))) where
+  abbrev top : ℕ
+  top = n / 1000000
+
+  abbrev ninth : ℕ
+  ninth = 48 + n / 100000000
+
+  module _ (front : List ℕ) (some : 0 < length front) (e : at + (length front + length (digitsOf n)) ≡ end) where
+    abbrev Stored : Type 0
+    Stored = sets (sets (set d first ninth) (end - 8) (pairOf (top % 100) ++ sixOf n)) at front ≡ sets d at (front ++ digitsOf n)
+
+    seven : top < 10 → Stored
+    seven h =
+        let digits : digitsOf n ≡ (48 + top) ∷ sixOf n = digits-six n big ∙ ap (λ l. l ++ sixOf n) (digits-one top h) in
+        let size : length (digitsOf n) ≡ 7 = ap length digits in
+        let same : top % 100 % 10 ≡ top = omega arith in
+        let zeroth = 48 + top % 100 / 10 in
+        let rest = (48 + top % 100 % 10) ∷ sixOf n in
+        let long : length (front ++ rest) ≡ length front + 7 = length-append front rest in
+        let low : at ≤ first = ⊎-elim (λ w. omega arith) (λ w. omega arith) place in
+        let high : first < at + length front = ⊎-elim (λ w. omega arith) (λ w. omega arith) place in
+        run-behind (set (set d first ninth) (end - 8) zeroth) at (suc (end - 8)) front rest (omega arith)
+        ∙ run-over (set d first ninth) at (end - 8) zeroth (front ++ rest) (omega arith) (omega arith)
+        ∙ run-over d at first ninth (front ++ rest) low (omega arith)
+        ∙ ap (λ l. sets d at (front ++ l)) (ap (λ k. (48 + k) ∷ sixOf n) same ∙ sym digits)
+
+    eight : 10 ≤ top → top < 100 → Stored
+    eight h less =
+        let digits : digitsOf n ≡ pairOf top ++ sixOf n = digits-six n big ∙ ap (λ l. l ++ sixOf n) (digits-pair top h less) in
+        let size : length (digitsOf n) ≡ 8 = ap length digits in
+        let same : top % 100 ≡ top = omega arith in
+        let rest = pairOf (top % 100) ++ sixOf n in
+        let long : length (front ++ rest) ≡ length front + 8 = length-append front rest in
+        let low : at ≤ first = ⊎-elim (λ w. omega arith) (λ w. omega arith) place in
+        let high : first < at + length front = ⊎-elim (λ w. omega arith) (λ w. omega arith) place in
+        run-behind (set d first ninth) at (end - 8) front rest (omega arith)
+        ∙ run-over d at first ninth (front ++ rest) low (omega arith)
+        ∙ ap (λ l. sets d at (front ++ l)) (ap (λ k. pairOf k ++ sixOf n) same ∙ sym digits)
+
+    nine : 100 ≤ top → Stored
+    nine h =
+        let rest = pairOf (top % 100) ++ sixOf n in
+        let digits : digitsOf n ≡ (48 + top / 100) ∷ rest =
+        digits-six n big
+        ∙ ap (λ l. l ++ sixOf n) (digits-two top h ∙ ap (λ l. l ++ pairOf (top % 100)) (digits-one (top / 100) (omega arith))) in
+        let size : length (digitsOf n) ≡ 9 = ap length digits in
+        let same : n / 100000000 ≡ top / 100 = omega arith in
+        let here : first ≡ at + length front = ⊎-elim (λ w. omega arith) (λ w. omega arith) place in
+        let next : end - 8 ≡ suc first = omega arith in
+        ap (λ i. sets (sets (set d first ninth) i rest) at front) next
+        ∙ run-behind d at first front (ninth ∷ rest) here
+        ∙ ap (λ l. sets d at (front ++ l)) (ap (λ k. (48 + k) ∷ rest) same ∙ sym digits)
+
+    cases : Stored
+    cases = go (ltb top 10) (ltb→lt top 10) (nltb→le top 10) (ltb top 100) (ltb→lt top 100) (nltb→le top 100)
+      where
+        go : (s : Bool) → (T s → top < 10) → (T (not s) → 10 ≤ top) → (t : Bool) → (T t → top < 100) → (T (not t) → 100 ≤ top) → Stored
+        go true l h t m k = seven (l tt)
+        go false l h true m k = eight (h tt) (m tt)
+        go false l h false m k = nine (k tt)
+
+  pub nine-stored : Ends d at end n (sets (set d first ninth) (end - 8) (eightOf (n % 100000000)))
+  nine-stored front some e =
+      ap (λ l. sets (sets (set d first ninth) (end - 8) l) at front) (eight-six n) ∙ cases front some e
+
+-- ---- a number with the space before it
 
 -- The minus is stored in any case, and the space over it where there is none.
 pub long-stored : (d e : List ℕ) (at start n k : ℕ) (a : ℤ) → n ≡ natAbs a → Ends d at (start + length (digitsOf n)) n e

@@ -30,7 +30,7 @@ ghost use Rattle.writing.specs.SheetBytes.{sizesBytes, orderBytes, sheet
 ghost use Rattle.writing.specs.SheetBytes.{equationRoom, relationRoom, sizesRoom, sideBytes, sidesBytes, sideRoom};
 ghost use Rattle.writing.specs.Writer.{Put, digitsOf, spaced, SmallParts, Lengths, termAt, numbersOf, nonzeroCount};
 ghost use Rattle.writing.specs.Writer.{Unused, UnusedParts, NoTerms, sheetGiven, sidesIn, sidesGiven};
-ghost use Rattle.writing.specs.DigitPairs.{pairOf, Ends};
+ghost use Rattle.writing.specs.DigitPairs.{pairOf, fourOf, eightOf, Ends};
 ghost use Rattle.writing.specs.WriterChecks.{Checked, callOf};
 ghost use Rattle.rules.specs.SheetCalls.{checkWrite, writeCall};
 ghost use Rattle.rules.specs.Layout.{blockOf, coefficientsAt, polynomialsIn};
@@ -168,6 +168,49 @@ fn put_pairs_back(bytes: &mut [u8], end: usize, n: u64)
     put_pair(bytes, i - 2, rest);
 }
 
+fn put_four(bytes: &mut [u8], at: usize, n: u64)
+    requires { ⌜ (n < 10000) × (at + 4 ≤ length (now bytes)) ⌝ }
+    ensures { λ _. ⌜ now (bytes .exit) ≡ sets (now (bytes .entry)) at (fourOf n) ⌝ }
+{
+    put_pair(bytes, at, n / 100);
+    put_pair(bytes, at + 2, n % 100);
+}
+
+fn put_eight(bytes: &mut [u8], at: usize, n: u64)
+    requires { ⌜ (n < 100000000) × (at + 8 ≤ length (now bytes)) ⌝ }
+    ensures { λ _. ⌜ now (bytes .exit) ≡ sets (now (bytes .entry)) at (eightOf n) ⌝ }
+{
+    put_four(bytes, at, n / 10000);
+    put_four(bytes, at + 4, n % 10000);
+}
+
+// Seven to nine digits. How many there are is hard to foretell, so eight are stored in any case, and a ninth before them. Zeros before the
+// first digit stand where the minus and the space come.
+fn put_nine(bytes: &mut [u8], at: usize, end: usize, n: u64)
+    requires { ⌜
+        (1000000 ≤ n) × (n < 1000000000) × (at + length (digitsOf n) < end) × (end ≤ length (now bytes)) ⌝ }
+    ensures { λ _. ⌜ Ends (now (bytes .entry)) at end n (now (bytes .exit)) ⌝ }
+{
+    let mut first = at;
+    if at + 9 <= end {
+        first = end - 9;
+    }
+    bytes[first] = 48 + (n / 100000000) as u8;
+    put_eight(bytes, end - 8, n % 100000000);
+}
+
+// The digits of a number within C up to a place, with room for a byte before them.
+fn put_before(bytes: &mut [u8], at: usize, end: usize, n: u64)
+    requires { ⌜ (n < 1000000000) × (at + length (digitsOf n) < end) × (end ≤ length (now bytes)) ⌝ }
+    ensures { λ _. ⌜ Ends (now (bytes .entry)) at end n (now (bytes .exit)) ⌝ }
+{
+    if n < 1000000 {
+        put_pairs_back(bytes, end, n);
+    } else {
+        put_nine(bytes, at, end, n);
+    }
+}
+
 // A space and a number. Its sign is hard to foretell, so the minus is stored in any case, and the space over it where there is none.
 fn put_long(bytes: &mut [u8], at: usize, a: i64) -> usize
     requires { ⌜ T (small a) × (at + numberBytes ≤ length (now bytes)) ⌝ }
@@ -179,7 +222,7 @@ fn put_long(bytes: &mut [u8], at: usize, a: i64) -> usize
         start = at + 2;
     }
     let end = start + few_digits(size);
-    put_pairs_back(bytes, end, size);
+    put_before(bytes, at, end, size);
     let sign = start - 1;
     bytes[sign] = 45;
     bytes[at] = 32;

@@ -67,10 +67,10 @@ few-digits-requires c κs = omega (arith, low (c .before))
 add-end : tie.Need-add-end
 add-end c = omega (arith, top (c .before .before), few (c .before .before .before), begin (c .before .before) .pre .1)
 
-put-pairs-back-requires : tie.Need-put-pairs-back-requires
-put-pairs-back-requires c κs =
+put-before-requires : tie.Need-put-before-requires
+put-before-requires c κs =
     let e = c .before .before .before in
-    (omega (arith, bottom e), omega (arith, top e, few (e .before), begin e .pre .1))
+    (omega (arith, low (e .before)), omega (arith, bottom e), omega (arith, top e, few (e .before), begin e .pre .1))
 
 sub-sign : tie.Need-sub-sign
 sub-sign c = omega (arith, bottom (c .before .before .before .before .before .before))
@@ -94,8 +94,8 @@ returns c =
     let n = e .before .magnitude .result in
     let count = c .before .before .before .before .before .few-digits .ensures in
     let stored =
-    long-stored (bytes e) (c .before .before .put-pairs-back .last .0) (at e) (e .if1 .start) n numberBytes (begin e .args .a) (size (e .before))
-    (λ front some same. c .before .before .put-pairs-back .ensures (at e) front some (omega (arith, count, same)))
+    long-stored (bytes e) (c .before .before .put-before .last .0) (at e) (e .if1 .start) n numberBytes (begin e .args .a) (size (e .before))
+    (λ front some same. c .before .before .put-before .ensures front some (omega (arith, count, same)))
     (omega (arith, few (e .before))) (sides e) in
     rw count stored
 
@@ -108,7 +108,7 @@ put-long-spec =
     add-start-2
     few-digits-requires
     add-end
-    put-pairs-back-requires
+    put-before-requires
     sub-sign
     slice-write-bytes
     slice-write-bytes-2
