@@ -14,13 +14,13 @@
 --   pair-back, pair-first   one pair more, and the last
 --   nine-stored        eight digits at once, and the ninth before them
 --   long-stored        a number with the space before it, stored so that no step depends on its sign
+--   few-stored         a count with the space before it
 use mathlib.Core.Path.{_≡_, refl, sym, _∙_, ap, ap₂}
 use mathlib.Core.Bool.{Bool, true, false, not}
 use mathlib.Core.Logic.{_⊎_, ⊎-elim}
 use mathlib.Core.List.{List, [], _∷_, _++_, append-assoc}
 use Prim.Native.Nat.{ℕ, zero, suc, _+_, _-_, _*_, _/_, _%_, _≤_, _<_}
 use native.Mathlib.Nat.{add-zero, le-of-suc-le-suc, not-suc-le-zero, eq-or-lt-of-le}
-use native.Mathlib.Numerals.{add-one}
 use native.Mathlib.Omega.{arith}
 use lib.Dec.{T, ltb, ltb→lt, nltb→le}
 use lib.IntN.{ℤ, pos, natAbs}
@@ -30,7 +30,7 @@ use lib.Seq.{sets, set-set, set-comm}
 use Rattle.lists.specs.Pasted.{sets-append, sets-later}
 use Rattle.rules.specs.Numbers.{space, minus}
 use Rattle.writing.specs.Writer.{Put, put-same, digitsOf, digits-one, digits-last, digits-more, spaced, spaced-number}
-use Rattle.writing.specs.Writer.{decimal-negative, decimal-positive}
+use Rattle.writing.specs.Writer.{decimal-negative, decimal-positive, decimal-count}
 
 -- ---- pairs of digits
 
@@ -273,3 +273,10 @@ long-stored d e at start n k a size ends room sides =
     })
     (ap (λ l. space ∷ l) (ap digitsOf size ∙ sym (decimal-positive a (w .0))) ∙ spaced-number a))
     sides
+
+-- A count has no sign.
+pub few-stored : (d e : List ℕ) (at end n k : ℕ) → Ends d at end n e → end ≡ at + 1 + length (digitsOf n) → length (digitsOf n) < k
+    → Put d at (spaced (pos n ∷ [])) k (set e at space) end
+few-stored d e at end n k ends same room =
+    put-same (record { stored = ends (space ∷ []) (omega arith) (omega arith); passed = omega arith; few = omega arith })
+    (ap (λ l. space ∷ l) (sym (decimal-count n)) ∙ spaced-number (pos n))

@@ -14,10 +14,9 @@
 --   put-then          two runs of bytes stored one after the other are one run
 --   going-first, going-next, going-last   a loop that stores a run part by part
 --   digits-last, digits-back   the last digit of a number comes after the digits of its tenth, and may be stored before them
---   one-stored        a number of one digit with the space before it, stored so that no step depends on its sign
 --   decimal-length    a number within ±C takes at most ten bytes
 --   line-is           a line is its first number, the others spaced, and byte 10
---   trim-nonzero, trim-more, trim-take   how many coefficients a term has, and which
+--   trim-nonzero, trim-more, trim-front, trim-take   how many coefficients a term has, and which
 --   block-next, terms-next, lines-next   one term, one block, one line more
 --   term-count        the number of terms of a row is that of its nonzero polynomials
 --   unused            what passes the check of unused places holds no term there
@@ -26,8 +25,8 @@
 --   sides-none, sides-some   the fifth section, as it is written
 --   sheet-bytes       the bytes of a sheet, section by section
 use mathlib.Core.Path.{_≡_, refl, sym, _∙_, ap, ap₂, subst, fun-ext}
-use mathlib.Core.Bool.{Bool, true, false, and-true, cond}
-use mathlib.Core.Logic.{_≢_, _⊎_, ⊎-elim}
+use mathlib.Core.Bool.{Bool, true, false, _&&_, and-true, cond}
+use mathlib.Core.Logic.{_≢_}
 use mathlib.Core.List.{List, [], _∷_, _++_, map, flatten, append-assoc, append-nil, map-append, map-map}
 use Prim.Native.Nat.{ℕ, zero, suc, _+_, _-_, _*_, _/_, _%_, _^_, _≤_, _<_}
 use native.Mathlib.Nat.{zero-add, suc-add, div-lt-self, add-mul, pow-suc, one-le-pow, le-div-iff-mul-le, div-lt-iff-lt-mul}
@@ -39,9 +38,9 @@ use borrow.Author.Tests.{ltb-true, lt-ltb, le-ltb, ne-eqb}
 use lib.Dec.{T, ltb, eqb, eqb·suc-zero, leb→le, le→leb, lit<, lit≤}
 use lib.IntN.{ℤ, pos, negsuc, natAbs, negℤ, predℤ, _+ℤ_, _-ℤ_, negℤ-sucℤ, +ℤ-predℤ}
 use lib.Signed.{ltZ}
-use lib.ListN.{length, take, drop, getD, set, length-append, length-take, length-map, drop-of-length-le}
+use lib.ListN.{length, take, drop, getD, set, length-append, length-take, length-map, take-append-drop, drop-of-length-le}
 use lib.Seq.{sets, length-sets, take-suc, length-take-le, take-take, drop-drop}
-use lib.Seq.{getD-take, getD-drop, getD-set-same, getD-set-other, set-set}
+use lib.Seq.{getD-take, getD-drop, getD-set-same, getD-set-other}
 use Rattle.algebra.specs.Integers.{natAbs-+ℤ, natAbs-negℤ}
 use Rattle.algebra.specs.Polynomials.{Polynomial, coeff, isZero, isZero-cons, isZero-coeff, isZero-append}
 use Rattle.lists.specs.Images.{getD-map}
@@ -49,7 +48,7 @@ use Rattle.lists.specs.Taken.{drop-take, drop-next, part-of-part}
 use Rattle.rules.specs.Limits.{bound, coefficientCount, small, columnCount, mostSpan, blockCount, polynomialCount, blockLength, blockBound}
 use Rattle.rules.specs.Limits.{entriesLength, rowLength, relationLength, mostRelations}
 use Rattle.rules.specs.Rows.{Block, zeroBlock}
-use Rattle.lists.specs.Tests.{T-&&, every, every-cons, every-from-at}
+use Rattle.lists.specs.Tests.{true-of, T-&&, every, every-cons, every-from-at}
 use Rattle.rules.specs.Stores.{Sizes, rowOf, rowsOf, relationOf, relationsOf, equations, unusedZero}
 use Rattle.lists.specs.Parts.{parts, parts-length, getD-parts, parts-next, parts-end, parts-parts, held-next, held-end}
 use Rattle.rules.specs.Layout.{length-rowsOf, length-relationsOf, blockOf, coefficientsAt, blockAt, polynomialsIn, polynomial-at-row}
@@ -246,36 +245,6 @@ pub spaced-number : (a : ℤ) → space ∷ decimal a ≡ spaced (a ∷ [])
 unfolding spaced
 spaced-number a = ap (λ r. space ∷ r) (sym (append-nil (decimal a)))
 
--- A space, a minus and a digit, which is stored over the minus where the number is not negative.
-pub one-stored : (d : List ℕ) (at place n k : ℕ) (a : ℤ) → n ≡ natAbs a → n ≤ 9 → 3 ≤ k
-    → ((ltZ a (pos 0) ≡ true) × (place ≡ at + 2)) ⊎ ((ltZ a (pos 0) ≡ false) × (place ≡ at + 1))
-    → Put d at (spaced (a ∷ [])) k (set (set (set d at space) (at + 1) minus) place (48 + n)) (place + 1)
-one-stored d at place n k a e few room sides =
-    ⊎-elim
-    (λ w.
-    put-same
-    (record {
-      stored = ap₂ (λ i j. set (set (set d at space) i minus) j (48 + n)) (add-one at) (w .1 ∙ omega arith);
-      passed = omega (arith, w .1);
-      few = room;
-    })
-    (ap (λ l. space ∷ minus ∷ l) digit ∙ ap (λ l. space ∷ l) (sym (decimal-negative a (w .0))) ∙ spaced-number a))
-    (λ w.
-    put-same
-    (record {
-      stored =
-          ap (λ j. set (set (set d at space) (at + 1) minus) j (48 + n)) (w .1)
-          ∙ set-set (set d at space) (at + 1) minus (48 + n)
-          ∙ ap (λ i. set (set d at space) i (48 + n)) (add-one at);
-      passed = omega (arith, w .1);
-      few = omega arith;
-    })
-    (ap (λ l. space ∷ l) (digit ∙ sym (decimal-positive a (w .0))) ∙ spaced-number a))
-    sides
-  where
-    digit : (48 + n) ∷ [] ≡ digitsOf (natAbs a)
-    digit = sym (digits-one n (omega arith)) ∙ ap digitsOf e
-
 pub decimal-count : (n : ℕ) → decimal (pos n) ≡ digitsOf n
 unfolding decimal digitsOf
 decimal-count n = refl
@@ -334,15 +303,22 @@ trim-nonzero p i h ne =
     trim-length (take (suc i) p) i (omega arith) (rw (getD-take (suc i) p i (pos 0) (omega arith)) ne)
     (rw (drop-of-length-le (take (suc i) p) {i = suc i} (omega arith)) tt)
 
-trim-last : (p : Polynomial) → trim (p ++ (pos 0 ∷ [])) ≡ trim p
+-- Zeros at the end change nothing.
+trim-zeros : (p q : Polynomial) → T (isZero q) → trim (p ++ q) ≡ trim p
 unfolding trim isZero
-trim-last [] = refl
-trim-last (b ∷ p) = ap₂ (λ t q. cond t [] (b ∷ q)) (isZero-append (b ∷ p) (pos 0 ∷ []) ∙ and-true (isZero (b ∷ p))) (trim-last p)
+trim-zeros [] q z = trim-none q z
+trim-zeros (b ∷ p) q z =
+    ap₂ (λ t r. cond t [] (b ∷ r))
+    (isZero-append (b ∷ p) q ∙ ap (λ t. isZero (b ∷ p) && t) (true-of (isZero q) z) ∙ and-true (isZero (b ∷ p))) (trim-zeros p q z)
+
+pub trim-front : (p : Polynomial) (k : ℕ) → T (isZero (drop k p)) → length (trim (take k p)) ≡ length (trim p)
+trim-front p k z = ap length (sym (trim-zeros (take k p) (drop k p) z) ∙ ap trim (take-append-drop k p))
 
 pub trim-more : (p : Polynomial) (i : ℕ) → i < length p → getD p i (pos 0) ≡ pos 0
     → length (trim (take (suc i) p)) ≡ length (trim (take i p))
+unfolding isZero
 trim-more p i h e =
-    ap (λ q. length (trim q)) (take-suc p i (pos 0) h ∙ ap (λ a. take i p ++ (a ∷ [])) e) ∙ ap length (trim-last (take i p))
+    ap (λ q. length (trim q)) (take-suc p i (pos 0) h ∙ ap (λ a. take i p ++ (a ∷ [])) e) ∙ ap length (trim-zeros (take i p) (pos 0 ∷ []) tt)
 
 -- ---- the numbers of terms
 

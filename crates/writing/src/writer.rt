@@ -15,8 +15,8 @@ ghost use mathlib.Core.List.{[], _∷_, map};
 ghost use Prim.Native.Nat.{ℕ, _+_, _*_, _%_, _^_, _≤_, _<_};
 ghost use Rattle.rules.specs.Numbers.{decimal, line, lines};
 ghost use lib.IntN.{pos, natAbs};
-ghost use lib.Dec.{T, leb};
-ghost use lib.ListN.{length, drop};
+ghost use lib.Dec.{T};
+ghost use lib.ListN.{length, take, drop};
 ghost use lib.Seq.{sets};
 ghost use Rattle.rules.specs.Limits.{columnCount, rowLength, relationLength, mostRelations, small, coefficientCount, mostEquations, polynomialCount, blockCount, blockLength, blockBound};
 ghost use Rattle.lists.specs.Tests.{every};
@@ -36,21 +36,23 @@ ghost use Rattle.rules.specs.SheetCalls.{checkWrite, writeCall};
 ghost use Rattle.rules.specs.Layout.{blockOf, coefficientsAt, polynomialsIn};
 ghost use Rattle.stores.specs.Validity.{sizesOf};
 
-// The bytes of the longest term, of the longest line of a right side, of the longest line of an equation and of a relation, each with that
-// of its right side, and of the other lines of a sheet together, as in `specs/SheetBytes.antt`: a space and a number take at most 11 bytes,
-// a space and a count 21.
-const TERM_BYTES: usize = 11 + 2 * 21 + COEFFICIENTS * 11;
+// The bytes of a space and the longest number within C.
+const NUMBER_BYTES: usize = 11;
 
-const SIDE_BYTES: usize = 21 + COEFFICIENTS * 11;
+// The bytes of the longest term, of the longest line of a right side, of the longest line of an equation and of a relation, each with that
+// of its right side, and of the other lines of a sheet together, as in `specs/SheetBytes.antt`: a space and a count take at most 21.
+const TERM_BYTES: usize = NUMBER_BYTES + 2 * 21 + COEFFICIENTS * NUMBER_BYTES;
+
+const SIDE_BYTES: usize = 21 + COEFFICIENTS * NUMBER_BYTES;
 
 const EQUATION_BYTES: usize = 21 + POLYNOMIALS * TERM_BYTES + SIDE_BYTES;
 
-const RELATION_BYTES: usize = 11 + EQUATION_BYTES;
+const RELATION_BYTES: usize = NUMBER_BYTES + EQUATION_BYTES;
 
 const LINES_BYTES: usize = 45 + 3 * 21 + 105;
 
-// The bytes of a space and the longest number within C.
-const NUMBER_BYTES: usize = 11;
+// Most polynomials have no more coefficients.
+const FEW: usize = 4;
 
 // The two digits of each number below 100.
 const PAIRS: [u8; 200] =
@@ -212,7 +214,7 @@ fn put_before(bytes: &mut [u8], at: usize, end: usize, n: u64)
 }
 
 // A space and a number. Its sign is hard to foretell, so the minus is stored in any case, and the space over it where there is none.
-fn put_long(bytes: &mut [u8], at: usize, a: i64) -> usize
+fn put_spaced(bytes: &mut [u8], at: usize, a: i64) -> usize
     requires { ⌜ T (small a) × (at + numberBytes ≤ length (now bytes)) ⌝ }
     ensures { λ r. ⌜ Put (now (bytes .entry)) at (spaced (a ∷ [])) numberBytes (now (bytes .exit)) r ⌝ }
 {
@@ -229,49 +231,39 @@ fn put_long(bytes: &mut [u8], at: usize, a: i64) -> usize
     end
 }
 
-fn one_digit(a: i64) -> bool
-    ensures { λ r. ⌜ r ≡ leb (natAbs a) 9 ⌝ }
-{
-    -9 <= a && a <= 9
-}
-
-// A space and a number of one digit. The sign of a number is hard to foretell, so the minus is stored in any case, and the digit over it
-// where there is none.
-fn put_one(bytes: &mut [u8], at: usize, a: i64) -> usize
-    requires { ⌜ (natAbs a ≤ 9) × (at + 3 ≤ length (now bytes)) × (at + 3 < 2 ^ 64) ⌝ }
-    ensures { λ r. ⌜ Put (now (bytes .entry)) at (spaced (a ∷ [])) numberBytes (now (bytes .exit)) r ⌝ }
-{
-    let size = integers::magnitude(a);
-    let sign = at + 1;
-    let mut place = sign;
-    if a < 0 {
-        place = at + 2;
-    }
-    bytes[at] = 32;
-    bytes[sign] = 45;
-    bytes[place] = 48 + size as u8;
-    place + 1
-}
-
-// A number of a line past the first. Most have one digit.
+// A number of a line past the first.
 fn put_next(bytes: &mut [u8], at: usize, a: i64) -> usize
     requires { ⌜ T (small a) × (at + numberRoom < 2 ^ 64) ⌝ }
     ensures { λ r. ⌜ Put (now (bytes .entry)) at (spaced (a ∷ [])) numberBytes (now (bytes .exit)) r ⌝ }
 {
     if at + NUMBER_BYTES <= bytes.len() {
-        if one_digit(a) {
-            return put_one(bytes, at, a);
-        }
-        return put_long(bytes, at, a);
+        return put_spaced(bytes, at, a);
     }
     let next = put_byte(bytes, at, 32);
     put_number(bytes, next, a)
+}
+
+// A space and a count of one or two digits.
+fn put_few(bytes: &mut [u8], at: usize, n: u64) -> usize
+    requires { ⌜ (n < 100) × (at + 3 ≤ length (now bytes)) ⌝ }
+    ensures { λ r. ⌜ Put (now (bytes .entry)) at (spaced (pos n ∷ [])) countBytes (now (bytes .exit)) r ⌝ }
+{
+    let mut end = at + 2;
+    if 10 <= n {
+        end = at + 3;
+    }
+    put_pair(bytes, end - 2, n);
+    bytes[at] = 32;
+    end
 }
 
 fn put_next_count(bytes: &mut [u8], at: usize, n: usize) -> usize
     requires { ⌜ at + countBytes < 2 ^ 64 ⌝ }
     ensures { λ r. ⌜ Put (now (bytes .entry)) at (spaced (pos n ∷ [])) countBytes (now (bytes .exit)) r ⌝ }
 {
+    if n < 100 && at + 3 <= bytes.len() {
+        return put_few(bytes, at, n as u64);
+    }
     let next = put_byte(bytes, at, 32);
     put_digits(bytes, next, n as u64)
 }
@@ -291,21 +283,32 @@ fn put_numbers(bytes: &mut [u8], at: usize, numbers: &[i64]) -> usize
     next
 }
 
-// The number of coefficients up to the last nonzero one (SCOPE 4.24). All are looked at: a way out of the loop would
+// The number of coefficients up to the last nonzero one of the first `count`. All of these are looked at: a way out of the loop would
 // cost more than it spares.
-fn trimmed(p: &[i64]) -> usize
-    requires { ⌜ length (now p) ≡ coefficientCount ⌝ }
-    ensures { λ r. ⌜ r ≡ length (trim (now (p .entry))) ⌝ }
+fn trimmed_to(p: &[i64], count: usize) -> usize
+    requires { ⌜ count ≤ length (now p) ⌝ }
+    ensures { λ r. ⌜ r ≡ length (trim (take count (now (p .entry)))) ⌝ }
 {
     let mut n = 0;
     let mut i = 0;
-    while i < COEFFICIENTS {
+    while i < count {
         if p[i] != 0 {
             n = i + 1;
         }
         i += 1;
     }
     n
+}
+
+// The number of coefficients up to the last nonzero one (SCOPE 4.24). Most polynomials have few.
+fn trimmed(p: &[i64]) -> usize
+    requires { ⌜ length (now p) ≡ coefficientCount ⌝ }
+    ensures { λ r. ⌜ r ≡ length (trim (now (p .entry))) ⌝ }
+{
+    if polynomials::content::all_zero(&p[FEW..]) {
+        return trimmed_to(p, FEW);
+    }
+    trimmed_to(p, COEFFICIENTS)
 }
 
 // One term; nothing for a zero polynomial (SCOPE 4.22, 4.52).

@@ -1,12 +1,12 @@
 -- `writing::writer::digit_count` meets its contract. The loop's invariant: the digits of the rest are still to be counted, all but one.
 -- Assumes nothing.
-use mathlib.Core.Path.{_≡_, ap}
+use mathlib.Core.Path.{_≡_}
 use Prim.Native.Nat.{_+_, _≤_}
 use native.Mathlib.Nat.{div-lt-self}
 use native.Mathlib.Omega.{arith}
 use lib.Dec.{lit<}
 use lib.ListN.{length}
-use Rattle.writing.specs.Writer.{digitsOf, digits-one, digits-more, digits-length}
+use Rattle.writing.specs.Writer.{digitsOf, digits-more, digits-length}
 use Rattle.writing.proofs.writer.digit_count.Statement.{statement}
 use Rattle.writing.proofs.writer.digit_count.Tie as tie
 

@@ -3,7 +3,7 @@
 use mathlib.Core.Path.{sym, ap}
 use native.Mathlib.Omega.{arith}
 use lib.ListN.{length}
-use Rattle.writing.specs.Writer.{digitsOf, digits-one, digits-size}
+use Rattle.writing.specs.Writer.{digits-one, digits-size}
 use Rattle.writing.proofs.writer.few_digits.Statement.{statement}
 use Rattle.writing.proofs.writer.few_digits.Tie as tie
 

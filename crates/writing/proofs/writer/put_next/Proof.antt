@@ -1,9 +1,8 @@
 -- `writing::writer::put_next` meets its contract: a space, and the number.
 -- Assumes nothing.
-use mathlib.Core.Path.{sym, _∙_, ap}
+use mathlib.Core.Path.{_∙_, ap}
 use mathlib.Core.List.{[], _∷_}
 use native.Mathlib.Omega.{arith}
-use borrow.Author.Tests.{leb-true}
 use mir.Facts.{toZ-ofZ}
 use Rattle.rules.specs.Numbers.{space, decimal}
 use Rattle.writing.specs.Writer.{put-same, put-then, spaced, spaced-number}
@@ -14,32 +13,18 @@ use Rattle.writing.proofs.writer.put_next.Tie as tie
 add-if1 : tie.Need-add-if1
 add-if1 c = search needs
 
-one-digit-requires : tie.Need-one-digit-requires
-one-digit-requires c κs = search needs
-
-put-one-requires : tie.Need-put-one-requires
-put-one-requires c κs = (leb-true _ 9 (sym (c .before .before .one-digit .ensures) ∙ c .before .if2 .taken), omega arith, search needs)
+put-spaced-requires : tie.Need-put-spaced-requires
+put-spaced-requires c κs =
+    let start = c .before .before .before in
+    (rw (toZ-ofZ (start .fits .a)) (start .pre .0), omega arith)
 
 same-length : tie.Need-same-length
 same-length c = search needs
 
 returns : tie.Need-returns
 returns c =
-    let start = c .before .before .before .before .before .before .before .before in
-    put-same (c .before .before .put-one .ensures) (ap (λ a. spaced (a ∷ [])) (toZ-ofZ (start .fits .a)))
-
-put-long-requires : tie.Need-put-long-requires
-put-long-requires c κs =
-    let start = c .before .before .before .before .before in
-    (rw (toZ-ofZ (start .fits .a)) (start .pre .0), omega arith)
-
-same-length-2 : tie.Need-same-length-2
-same-length-2 c = search needs
-
-returns-2 : tie.Need-returns-2
-returns-2 c =
-    let start = c .before .before .before .before .before .before .before .before in
-    put-same (c .before .before .put-long .ensures) (ap (λ a. spaced (a ∷ [])) (toZ-ofZ (start .fits .a)))
+    let start = c .before .before .before .before .before .before in
+    put-same (c .before .before .put-spaced .ensures) (ap (λ a. spaced (a ∷ [])) (toZ-ofZ (start .fits .a)))
 
 put-byte-requires : tie.Need-put-byte-requires
 put-byte-requires c κs = search needs
@@ -49,11 +34,11 @@ put-number-requires c κs =
     let start = c .before .before .before .before .before .before .before in
     (rw (toZ-ofZ (start .fits .a)) (start .pre .0), search needs)
 
-same-length-3 : tie.Need-same-length-3
-same-length-3 c = search needs
+same-length-2 : tie.Need-same-length-2
+same-length-2 c = search needs
 
-returns-3 : tie.Need-returns-3
-returns-3 c =
+returns-2 : tie.Need-returns-2
+returns-2 c =
     let start = c .before .before .before .before .before .before .before .before .before .before in
     put-same (put-then (c .before .before .before .before .before .before .put-byte .ensures) (c .before .before .put-number .ensures))
     (ap (λ a. space ∷ decimal a) (toZ-ofZ (start .fits .a)) ∙ spaced-number (start .args .a))
@@ -61,16 +46,4 @@ returns-3 c =
 pub put-next-spec : {M : Type 1} → statement M
 put-next-spec =
     tie.close
-    (tie.spec
-    add-if1
-    one-digit-requires
-    put-one-requires
-    same-length
-    returns
-    put-long-requires
-    same-length-2
-    returns-2
-    put-byte-requires
-    put-number-requires
-    same-length-3
-    returns-3)
+    (tie.spec add-if1 put-spaced-requires same-length returns put-byte-requires put-number-requires same-length-2 returns-2)

@@ -2,12 +2,23 @@
 -- Assumes nothing.
 use mathlib.Core.Path.{sym, _∙_, ap}
 use mathlib.Core.List.{_∷_}
-use lib.IntN.{pos}
 use Rattle.rules.specs.Numbers.{space}
 use Rattle.writing.specs.Writer.{put-same, put-then, decimal-count, spaced-number}
 use borrow.Author.Needs.{needs}
 use Rattle.writing.proofs.writer.put_next_count.Statement.{statement}
 use Rattle.writing.proofs.writer.put_next_count.Tie as tie
+
+add-if2 : tie.Need-add-if2
+add-if2 c = search needs
+
+put-few-requires : tie.Need-put-few-requires
+put-few-requires c κs = search needs
+
+same-length : tie.Need-same-length
+same-length c = search needs
+
+returns : tie.Need-returns
+returns c = search needs
 
 put-byte-requires : tie.Need-put-byte-requires
 put-byte-requires c κs = search needs
@@ -15,15 +26,23 @@ put-byte-requires c κs = search needs
 put-digits-requires : tie.Need-put-digits-requires
 put-digits-requires c κs = search needs
 
-same-length : tie.Need-same-length
-same-length c = search needs
+same-length-2 : tie.Need-same-length-2
+same-length-2 c = search needs
 
-returns : tie.Need-returns
-returns c =
-    let n = c .before .before .before .before .before .before .before .before .before .args .n in
+returns-2 : tie.Need-returns-2
+returns-2 c =
     put-same (put-then (c .before .before .before .before .before .before .put-byte .ensures) (c .before .before .put-digits .ensures))
-    (ap (λ l. space ∷ l) (sym (decimal-count n)) ∙ spaced-number (pos n))
+    (ap (λ l. space ∷ l) (sym (decimal-count _)) ∙ spaced-number _)
 
 pub put-next-count-spec : {M : Type 1} → statement M
 put-next-count-spec =
-    tie.close (tie.spec put-byte-requires put-digits-requires same-length returns)
+    tie.close
+    (tie.spec
+    add-if2
+    put-few-requires
+    same-length
+    returns
+    put-byte-requires
+    put-digits-requires
+    same-length-2
+    returns-2)

@@ -1,7 +1,7 @@
 -- `writing::writer::put_pair` meets its contract: the table is that of the pairs of all numbers, which antt computes.
 -- Assumes nothing.
 use mathlib.Core.Path.{_≡_, _∙_, ap₂}
-use Prim.Native.Nat.{_+_, _*_, _/_, _%_}
+use Prim.Native.Nat.{_+_, _/_, _%_}
 use native.Mathlib.Numerals.{add-one}
 use native.Mathlib.Omega.{arith}
 use borrow.Author.Needs.{needs}

@@ -1,76 +1,59 @@
--- `writing::writer::trimmed` meets its contract. The loop's invariant: n coefficients of the first i are left.
+-- `writing::writer::trimmed` meets its contract. Zeros at the end change nothing.
 -- Assumes nothing.
-use mathlib.Core.Path.{_≡_, sym, _∙_, ap}
-use mathlib.Core.Logic.{⊎-elim}
-use Prim.Native.Nat.{_-_, _≤_}
-use native.Mathlib.Numerals.{add-one}
+use mathlib.Core.Path.{sym, _∙_, ap}
+use Prim.Native.Nat.{_-_}
 use native.Mathlib.Omega.{arith}
-use borrow.Author.Needs.{needs, sfits-of}
+use borrow.Author.Needs.{needs}
 use denote.Ref.{now}
-use lib.ListN.{length, take}
+use lib.ListN.{length, drop, length-drop}
 use lib.Seq.{take-all}
-use Rattle.polynomials.specs.Content.{zero-bits, nonzero-bits}
+use Rattle.lists.specs.Tests.{true-T}
+use Rattle.algebra.specs.Polynomials.{isZero}
 use Rattle.rules.specs.Limits.{coefficientCount}
 use Rattle.rules.specs.Sheets.{trim}
-use Rattle.writing.specs.Writer.{trim-nonzero, trim-more}
+use Rattle.writing.specs.Writer.{trim-front}
 use Rattle.writing.proofs.writer.trimmed.Statement.{statement}
 use Rattle.writing.proofs.writer.trimmed.Tie as tie
 
-abbrev Inv-loop : tie.InvT-loop
-Inv-loop p n₀ i₀ n i = (i ≤ coefficientCount) × (n ≡ length (trim (take i p)))
+sub-all-zero : tie.Need-sub-all-zero
+sub-all-zero c = search needs
 
-abbrev μ-loop : tie.MeasureT-loop
-μ-loop p n₀ i₀ n i = coefficientCount - i
+part-all-zero-start : tie.Need-part-all-zero-start
+part-all-zero-start c = search needs
 
-loop-holds : tie.Need-loop-holds Inv-loop μ-loop
-unfolding trim
-loop-holds c = search needs
+part-all-zero-end : tie.Need-part-all-zero-end
+part-all-zero-end c = search needs
 
-mul-if1 : tie.Need-mul-if1 Inv-loop μ-loop
-mul-if1 c = search needs
+all-zero-requires : tie.Need-all-zero-requires
+all-zero-requires c κs = search needs
 
-shared-slice-copy-out-if1 : tie.Need-shared-slice-copy-out-if1 Inv-loop μ-loop
-shared-slice-copy-out-if1 c = search needs
+trimmed-to-requires : tie.Need-trimmed-to-requires
+trimmed-to-requires c κs = search needs
 
-add-n : tie.Need-add-n Inv-loop μ-loop
-add-n c = search needs
+returns : tie.Need-returns
+returns c =
+    let p = now (c .before .before .before .before .args .p) in
+    let rest = take-all (length p - 4) (drop 4 p) (omega (arith, length-drop 4 p)) in
+    let zero = ap isZero (sym rest) ∙ sym (c .before .before .all-zero .ensures) ∙ c .before .if1 .taken in
+    c .trimmed-to .ensures ∙ trim-front p 4 (true-T (isZero (drop 4 p)) zero)
 
-add-i : tie.Need-add-i Inv-loop μ-loop
-add-i c = search needs
+trimmed-to-requires-2 : tie.Need-trimmed-to-requires-2
+trimmed-to-requires-2 c κs = search needs
 
-loop-less : tie.Need-loop-less Inv-loop μ-loop
-loop-less c = search needs
-
-loop-again : tie.Need-loop-again Inv-loop μ-loop
-loop-again c =
-    let turn = c .before .before in
-    let p = now (turn .before .before .args .p) in
-    let i = turn .before .loop .i in
-    let next = ap (λ k. length (trim (take k p))) (sym (add-one i)) in (
-      omega arith,
-      ⊎-elim (λ w. w .1 ∙ add-one i ∙ sym (trim-nonzero p i (omega arith) (nonzero-bits (w .0 .taken))) ∙ next)
-          (λ w.
-          w .1 ∙ turn .before .loop .inv .1
-          ∙ sym (trim-more p i (omega arith) (zero-bits (sfits-of (c .before .if12 .given)) (w .0 .left)))
-          ∙ next)
-          (c .if1 .came),
-    )
-
-returns : tie.Need-returns Inv-loop μ-loop
-returns c = c .before .loop .inv .1
-    ∙ ap (λ q. length (trim q)) (take-all (c .before .loop .i) (now (c .before .before .args .p)) (omega arith))
+returns-2 : tie.Need-returns-2
+returns-2 c =
+    let p = now (c .before .before .before .before .args .p) in
+    c .trimmed-to2 .ensures ∙ ap (λ q. length (trim q)) (take-all coefficientCount p (omega arith))
 
 pub trimmed-spec : {M : Type 1} → statement M
 trimmed-spec =
     tie.close
     (tie.spec
-    Inv-loop
-    μ-loop
-    loop-holds
-    mul-if1
-    shared-slice-copy-out-if1
-    add-n
-    add-i
-    loop-less
-    loop-again
-    returns)
+    sub-all-zero
+    part-all-zero-start
+    part-all-zero-end
+    all-zero-requires
+    trimmed-to-requires
+    returns
+    trimmed-to-requires-2
+    returns-2)

@@ -1,4 +1,4 @@
--- `writing::writer::put_long` meets its contract. The digits stand behind the minus of a negative number, and behind the space otherwise.
+-- `writing::writer::put_spaced` meets its contract. The digits stand behind the minus of a negative number, and behind the space otherwise.
 -- Assumes nothing.
 use mathlib.Core.Path.{_≡_, _∙_, ap}
 use mathlib.Core.Bool.{true, false}
@@ -9,15 +9,15 @@ use native.Mathlib.Omega.{arith}
 use borrow.Author.Needs.{needs}
 use denote.Ref.{now}
 use lib.IntN.{pos, natAbs}
-use lib.ListN.{length, set, length-set}
+use lib.ListN.{length, length-set}
 use lib.Signed.{ltZ}
 use mir.Facts.{toZ-ofZ}
 use Rattle.rules.specs.Limits.{bound}
 use Rattle.writing.specs.SheetBytes.{numberBytes}
 use Rattle.writing.specs.Writer.{digitsOf, nine-digits, small-size}
 use Rattle.writing.specs.DigitPairs.{long-stored}
-use Rattle.writing.proofs.writer.put_long.Statement.{statement}
-use Rattle.writing.proofs.writer.put_long.Tie as tie
+use Rattle.writing.proofs.writer.put_spaced.Statement.{statement}
+use Rattle.writing.proofs.writer.put_spaced.Tie as tie
 
 -- the size of the number
 module _ (c : tie.After-magnitude) where
@@ -99,8 +99,8 @@ returns c =
     (omega (arith, few (e .before))) (sides e) in
     rw count stored
 
-pub put-long-spec : {M : Type 1} → statement M
-put-long-spec =
+pub put-spaced-spec : {M : Type 1} → statement M
+put-spaced-spec =
     tie.close
     (tie.spec
     magnitude-requires
