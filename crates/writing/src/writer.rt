@@ -18,13 +18,12 @@ ghost use lib.IntN.{pos, natAbs};
 ghost use lib.Dec.{T};
 ghost use lib.ListN.{length, take, drop};
 ghost use lib.Seq.{sets};
-ghost use Rattle.rules.specs.Limits.{columnCount, rowLength, relationLength, mostRelations, small, coefficientCount, mostEquations, polynomialCount, blockCount, blockLength, blockBound};
+ghost use Rattle.rules.specs.Limits.{columnCount, rowLength, relationLength, mostRelations, small, coefficientCount, mostEquations, polynomialCount, mostSpan, blockCount, blockLength, blockBound};
 ghost use Rattle.lists.specs.Tests.{every};
 ghost use Rattle.algebra.specs.Polynomials.{isZero};
 ghost use Rattle.rules.specs.Sheets.{trim, blockTerms, termsFrom, equationNumbers, relationLine, orderLine};
 ghost use Rattle.rules.specs.Sheets.{sideLine, sideLines, writeSheet};
 ghost use Rattle.rules.specs.Stores.{rowOf, rowsOf, relationOf, relationsOf, equations};
-ghost use Rattle.lists.specs.Parts.{parts};
 ghost use Rattle.writing.specs.SheetBytes.{numberBytes, countBytes, termBytes, blockBytes, termsBytes, equationBytes, relationBytes};
 ghost use Rattle.writing.specs.SheetBytes.{sizesBytes, orderBytes, sheetBytes, numberRoom, termRoom, blockRoom, termsRoom};
 ghost use Rattle.writing.specs.SheetBytes.{equationRoom, relationRoom, sizesRoom, sideBytes, sidesBytes, sideRoom};
@@ -231,6 +230,36 @@ fn put_spaced(bytes: &mut [u8], at: usize, a: i64) -> usize
     end
 }
 
+// The same of a number of one or two digits.
+fn put_spaced_pair(bytes: &mut [u8], at: usize, a: i64) -> usize
+    requires { ⌜ (natAbs a < 100) × (at + 4 ≤ length (now bytes)) ⌝ }
+    ensures { λ r. ⌜ Put (now (bytes .entry)) at (spaced (a ∷ [])) numberBytes (now (bytes .exit)) r ⌝ }
+{
+    let size = integers::magnitude(a);
+    let mut start = at + 1;
+    if a < 0 {
+        start = at + 2;
+    }
+    let mut end = start + 1;
+    if 10 <= size {
+        end = start + 2;
+    }
+    put_pair(bytes, end - 2, size);
+    let sign = start - 1;
+    bytes[sign] = 45;
+    bytes[at] = 32;
+    end
+}
+
+// A number of a line past the first, byte by byte: some may be past the store's end.
+fn put_far(bytes: &mut [u8], at: usize, a: i64) -> usize
+    requires { ⌜ T (small a) × (at + numberRoom < 2 ^ 64) ⌝ }
+    ensures { λ r. ⌜ Put (now (bytes .entry)) at (spaced (a ∷ [])) numberBytes (now (bytes .exit)) r ⌝ }
+{
+    let next = put_byte(bytes, at, 32);
+    put_number(bytes, next, a)
+}
+
 // A number of a line past the first.
 fn put_next(bytes: &mut [u8], at: usize, a: i64) -> usize
     requires { ⌜ T (small a) × (at + numberRoom < 2 ^ 64) ⌝ }
@@ -239,8 +268,18 @@ fn put_next(bytes: &mut [u8], at: usize, a: i64) -> usize
     if at + NUMBER_BYTES <= bytes.len() {
         return put_spaced(bytes, at, a);
     }
-    let next = put_byte(bytes, at, 32);
-    put_number(bytes, next, a)
+    put_far(bytes, at, a)
+}
+
+// The number of a block, which has at most two digits.
+fn put_block_number(bytes: &mut [u8], at: usize, block: i64) -> usize
+    requires { ⌜ (natAbs block ≤ blockBound + mostSpan) × (at + numberRoom < 2 ^ 64) ⌝ }
+    ensures { λ r. ⌜ Put (now (bytes .entry)) at (spaced (block ∷ [])) numberBytes (now (bytes .exit)) r ⌝ }
+{
+    if at + 4 <= bytes.len() {
+        return put_spaced_pair(bytes, at, block);
+    }
+    put_far(bytes, at, block)
 }
 
 // A space and a count of one or two digits.
@@ -315,13 +354,13 @@ fn trimmed(p: &[i64]) -> usize
 fn put_term(bytes: &mut [u8], at: usize, p: &[i64], n: usize, block: i64, column: usize) -> usize
     requires { ⌜
         (length (now p) ≡ coefficientCount) × (n ≡ length (trim (now p))) × (at + termRoom < 2 ^ 64) × T (every small (now p))
-        × T (small block) ⌝ }
+        × (natAbs block ≤ blockBound + mostSpan) ⌝ }
     ensures { λ r. ⌜ Put (now (bytes .entry)) at (spaced (termAt block column (now (p .entry)))) termBytes (now (bytes .exit)) r ⌝ }
 {
     if n == 0 {
         return at;
     }
-    let after_block = put_next(bytes, at, block);
+    let after_block = put_block_number(bytes, at, block);
     let after_column = put_next_count(bytes, after_block, column);
     let after_count = put_next_count(bytes, after_column, n);
     put_numbers(bytes, after_count, &p[..n])
@@ -331,7 +370,8 @@ fn put_term(bytes: &mut [u8], at: usize, p: &[i64], n: usize, block: i64, column
 fn put_block(bytes: &mut [u8], at: usize, numbers: &[i64], lengths: &[usize], block: i64) -> usize
     requires { ⌜
         (length (now numbers) ≡ blockLength) × (length (now lengths) ≡ columnCount) × Lengths columnCount (now numbers) (now lengths)
-        × (at + blockRoom < 2 ^ 64) × T (every small (now numbers)) × T (small block) ⌝ }
+        × (at + blockRoom < 2 ^ 64) × T (every small (now numbers))
+        × (natAbs block ≤ blockBound + mostSpan) ⌝ }
     ensures { λ r. ⌜
         Put (now (bytes .entry)) at (spaced (numbersOf (blockTerms block 1 (blockOf (now (numbers .entry)))))) blockBytes
         (now (bytes .exit)) r ⌝ }

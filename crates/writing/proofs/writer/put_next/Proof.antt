@@ -1,11 +1,10 @@
--- `writing::writer::put_next` meets its contract: a space, and the number.
+-- `writing::writer::put_next` meets its contract: both ways write the same bytes.
 -- Assumes nothing.
-use mathlib.Core.Path.{_∙_, ap}
+use mathlib.Core.Path.{ap}
 use mathlib.Core.List.{[], _∷_}
 use native.Mathlib.Omega.{arith}
 use mir.Facts.{toZ-ofZ}
-use Rattle.rules.specs.Numbers.{space, decimal}
-use Rattle.writing.specs.Writer.{put-same, put-then, spaced, spaced-number}
+use Rattle.writing.specs.Writer.{put-same, spaced}
 use borrow.Author.Needs.{needs}
 use Rattle.writing.proofs.writer.put_next.Statement.{statement}
 use Rattle.writing.proofs.writer.put_next.Tie as tie
@@ -26,24 +25,20 @@ returns c =
     let start = c .before .before .before .before .before .before in
     put-same (c .before .before .put-spaced .ensures) (ap (λ a. spaced (a ∷ [])) (toZ-ofZ (start .fits .a)))
 
-put-byte-requires : tie.Need-put-byte-requires
-put-byte-requires c κs = search needs
-
-put-number-requires : tie.Need-put-number-requires
-put-number-requires c κs =
-    let start = c .before .before .before .before .before .before .before in
-    (rw (toZ-ofZ (start .fits .a)) (start .pre .0), search needs)
+put-far-requires : tie.Need-put-far-requires
+put-far-requires c κs =
+    let start = c .before .before .before in
+    (rw (toZ-ofZ (start .fits .a)) (start .pre .0), omega arith)
 
 same-length-2 : tie.Need-same-length-2
 same-length-2 c = search needs
 
 returns-2 : tie.Need-returns-2
 returns-2 c =
-    let start = c .before .before .before .before .before .before .before .before .before .before in
-    put-same (put-then (c .before .before .before .before .before .before .put-byte .ensures) (c .before .before .put-number .ensures))
-    (ap (λ a. space ∷ decimal a) (toZ-ofZ (start .fits .a)) ∙ spaced-number (start .args .a))
+    let start = c .before .before .before .before .before .before in
+    put-same (c .before .before .put-far .ensures) (ap (λ a. spaced (a ∷ [])) (toZ-ofZ (start .fits .a)))
 
 pub put-next-spec : {M : Type 1} → statement M
 put-next-spec =
     tie.close
-    (tie.spec add-if1 put-spaced-requires same-length returns put-byte-requires put-number-requires same-length-2 returns-2)
+    (tie.spec add-if1 put-spaced-requires same-length returns put-far-requires same-length-2 returns-2)

@@ -37,8 +37,8 @@ returns c =
     let start = c .before .before in
     put-none (ap spaced (term-none (start .args .block) (start .args .column) (p start) (sym (start .pre .1) ∙ c .if1 .taken)))
 
-put-next-requires : tie.Need-put-next-requires
-put-next-requires c κs =
+put-block-number-requires : tie.Need-put-block-number-requires
+put-block-number-requires c κs =
     let start = c .before .before .before in
     (rw (toZ-ofZ (start .fits .block)) (start .pre .4), search needs)
 
@@ -74,7 +74,7 @@ returns-2 c =
     let bound : numberBytes + (countBytes + (countBytes + numberBytes * length coefficients)) ≤ termBytes = omega (arith, size t, few t) in
     put-wide
     (put-same
-    (spaced-then (_ ∷ []) (pos column ∷ pos (n t) ∷ coefficients) (blocked .put-next .ensures)
+    (spaced-then (_ ∷ []) (pos column ∷ pos (n t) ∷ coefficients) (blocked .put-block-number .ensures)
     (spaced-then (pos column ∷ []) (pos (n t) ∷ coefficients) (columned .put-next-count .ensures)
     (spaced-then (pos (n t) ∷ []) coefficients (counted .put-next-count2 .ensures) (c .before .before .put-numbers .ensures))))
     (ap (λ s. spaced (s ∷ pos column ∷ pos (n t) ∷ coefficients)) (toZ-ofZ (t .fits .block))
@@ -86,7 +86,7 @@ put-term-spec =
     tie.close
     (tie.spec
     returns
-    put-next-requires
+    put-block-number-requires
     put-next-count-requires
     put-next-count-requires-2
     slice-aggregate-put-numbers

@@ -1,11 +1,11 @@
 -- `writing::writer::put_terms` meets its contract. The loop's invariant: the terms from block l - b down are still to be written.
 -- Assumes nothing.
-use mathlib.Core.Path.{_≡_, sym, _∙_, ap, ap₂, subst}
+use mathlib.Core.Path.{_≡_, sym, _∙_, ap, ap₂}
 use mathlib.Core.List.{List}
 use Prim.Native.Nat.{ℕ, _+_, _*_, _-_, _≤_}
 use native.Mathlib.Omega.{arith}
 use denote.Ref.{now}
-use lib.Dec.{T, lit<}
+use lib.Dec.{lit<}
 use lib.IntN.{ℤ, pos, natAbs, _-ℤ_, +ℤ-idr}
 use lib.ListN.{length, take, drop, getD}
 use mir.Syntax.{w64}
@@ -17,11 +17,10 @@ use Rattle.rules.specs.Limits as Limits
 use Rattle.lists.specs.Tests.{every-part}
 use Rattle.rules.specs.Sheets.{trim, blockTerms, termsFrom}
 use Rattle.rules.specs.Stores.{rowOf}
-use Rattle.lists.specs.Parts.{parts}
 use Rattle.writing.specs.SheetBytes.{blockBytes}
 use Rattle.rules.specs.Layout.{blockOf, coefficientsAt}
 use Rattle.writing.specs.Writer.{Going, going-first, going-next, going-last, put-same}
-use Rattle.writing.specs.Writer.{spaced, numbersOf, block-size, small-block, lengths-part, terms-next, terms-end}
+use Rattle.writing.specs.Writer.{spaced, numbersOf, block-size, lengths-part, terms-next, terms-end}
 use borrow.Author.Needs.{needs}
 use Rattle.writing.proofs.writer.put_terms.Statement.{statement}
 use Rattle.writing.proofs.writer.put_terms.Tie as tie
@@ -123,7 +122,7 @@ put-block-requires c κs =
           ∙ ap (λ n. length (trim (coefficientsAt (take n (drop (b c * blockLength) row)) i))) (sym (row-width c)),
       search needs,
       every-part Limits.small (b c * blockLength) (b c * blockLength + blockLength - b c * blockLength) row (start c .pre .5),
-      subst (λ s. T (Limits.small s)) (sym (read c)) (small-block _ (block-size (l c) (b c) (small c) (omega arith))),
+      rw (read c) (block-size (l c) (b c) (small c) (omega arith)),
     )
 
 add-b : tie.Need-add-b Inv-loop μ-loop
