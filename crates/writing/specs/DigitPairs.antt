@@ -3,12 +3,10 @@
 --
 -- Main definitions
 --   pairOf n           the two digits of a number below 100
---   pairsFrom k n      the pairs of n numbers from k on, one after the other
 --   fourOf n, eightOf n   the four digits of a number below 10^4, and the eight of one below 10^8
 --   Ends d at end n e  the digits of n were stored in d up to a place, and what stands between `at` and them is still to be stored
 --
 -- Main statements
---   pair-entry         where the pair of a number stands among them
 --   run-behind, run-over   a run of bytes stored behind another, before that; a byte that a run is stored over
 --   digits-pair, digits-two   the digits of a number below 100, and the last two of any other
 --   pair-back, pair-first   one pair more, and the last
@@ -20,7 +18,7 @@ use mathlib.Core.Bool.{Bool, true, false, not}
 use mathlib.Core.Logic.{_⊎_, ⊎-elim}
 use mathlib.Core.List.{List, [], _∷_, _++_, append-assoc}
 use Prim.Native.Nat.{ℕ, zero, suc, _+_, _-_, _*_, _/_, _%_, _≤_, _<_}
-use native.Mathlib.Nat.{add-zero, le-of-suc-le-suc, not-suc-le-zero, eq-or-lt-of-le}
+use native.Mathlib.Nat.{eq-or-lt-of-le}
 use native.Mathlib.Omega.{arith}
 use lib.Dec.{T, ltb, ltb→lt, nltb→le}
 use lib.IntN.{ℤ, pos, natAbs}
@@ -36,24 +34,6 @@ use Rattle.writing.specs.Writer.{decimal-negative, decimal-positive, dec
 
 abbrev pub pairOf : ℕ → List ℕ
 pairOf n = (48 + n / 10) ∷ (48 + n % 10) ∷ []
-
--- The pairs of n numbers from k on.
-unfoldable pub pairsFrom : ℕ → ℕ → List ℕ
-pairsFrom k zero = []
-pairsFrom k (suc n) = (48 + k / 10) ∷ (48 + k % 10) ∷ pairsFrom (suc k) n
-
-pub pair-entry : (k n i : ℕ) → i < n
-    → (getD (pairsFrom k n) (2 * i) 0 ≡ 48 + (k + i) / 10) × (getD (pairsFrom k n) (2 * i + 1) 0 ≡ 48 + (k + i) % 10)
-unfolding pairsFrom
-pair-entry k zero i lt = absurd (not-suc-le-zero lt)
-pair-entry k (suc n) zero lt = (ap (λ j. 48 + j / 10) (sym (add-zero k)), ap (λ j. 48 + j % 10) (sym (add-zero k)))
-pair-entry k (suc n) (suc i) lt =
-    let all = pairsFrom k (suc n) in
-    let even : 2 * suc i ≡ suc (suc (2 * i)) = omega arith in
-    let odd : 2 * suc i + 1 ≡ suc (suc (2 * i + 1)) = omega arith in
-    let next : suc k + i ≡ k + suc i = omega arith in
-    let more = pair-entry (suc k) n i (le-of-suc-le-suc lt) in
-    (ap (λ j. getD all j 0) even ∙ more .0 ∙ ap (λ j. 48 + j / 10) next, ap (λ j. getD all j 0) odd ∙ more .1 ∙ ap (λ j. 48 + j % 10) next)
 
 pub digits-pair : (n : ℕ) → 10 ≤ n → n < 100 → digitsOf n ≡ pairOf n
 digits-pair n h few = digits-last n h ∙ ap (λ l. l ++ ((48 + n % 10) ∷ [])) (digits-one (n / 10) (omega arith))

@@ -53,10 +53,6 @@ const LINES_BYTES: usize = 45 + 3 * 21 + 105;
 // Most polynomials have no more coefficients.
 const FEW: usize = 4;
 
-// The two digits of each number below 100.
-const PAIRS: [u8; 200] =
-    *b"00010203040506070809101112131415161718192021222324252627282930313233343536373839404142434445464748495051525354555657585960616263646566676869707172737475767778798081828384858687888990919293949596979899";
-
 pub fn put_byte(bytes: &mut [u8], at: usize, b: u8) -> usize
     requires { ⌜ at + 1 < 2 ^ 64 ⌝ }
     ensures { λ r. ⌜ Put (now (bytes .entry)) at (b ∷ []) 1 (now (bytes .exit)) r ⌝ }
@@ -143,15 +139,15 @@ fn put_number(bytes: &mut [u8], at: usize, a: i64) -> usize
     }
 }
 
-// The two digits of a number below 100.
+// The two digits of a number below 100. For these 103 / 1024 does for a tenth.
 fn put_pair(bytes: &mut [u8], at: usize, n: u64)
     requires { ⌜ (n < 100) × (at + 2 ≤ length (now bytes)) ⌝ }
     ensures { λ _. ⌜ now (bytes .exit) ≡ sets (now (bytes .entry)) at (pairOf n) ⌝ }
 {
-    let place = 2 * n as usize;
+    let tens = n * 103 / 1024;
     let next = at + 1;
-    bytes[at] = PAIRS[place];
-    bytes[next] = PAIRS[place + 1];
+    bytes[at] = 48 + tens as u8;
+    bytes[next] = 48 + (n - 10 * tens) as u8;
 }
 
 // The digits of a number by pairs, from the last back. Where their number is odd, there is a zero before them.
