@@ -111,8 +111,8 @@ use Rattle.records.specs.RecordMeaning.{Agrees, RowPasses}
 use Rattle.records.specs.Outcomes.{First, FailsWith}
 use Rattle.records.specs.Explained.{named, Explains}
 use Rattle.records.specs.RecordPromises as Promises
-use Rattle.exports.specs.Results.{Exported, runNeed}
-use Rattle.exports.specs.Writes.{Written, notWritten}
+use Rattle.export_results.specs.Results.{Exported, runNeed}
+use Rattle.exported_sheets.specs.Writes.{Written, notWritten}
 use Rattle.claims.specs.RunWords.{Ran, FoundBefore, FoundDuring, RunNumber, Rewritten, Cleared, Kept, InRange}
 use Rattle.claims.specs.RunWords.{Course, LongEnough, Passed, ruled, GivesBack, left, Freed, Solves, SolvesFrom}
 use Rattle.claims.specs.RunWords.{AgreeBetween, AgreeFrom, AgreeDown, AgreeUpTo, Triangular, NoRoot, LastRoot, PastRoot}
@@ -132,13 +132,13 @@ use Rattle.claims.specs.DifferentialWords.{DifferentialWasRead, Recurren
 use Rattle.claims.specs.DifferentialWords.{RecurrenceCourse}
 use Rattle.reduction.specs.Progress.{mostSteps}
 use Rattle.steps.specs.HeldCalls.{stateNumbers, prepared}
-use Rattle.exports.specs.StateNumbers.{stateNeed, StatePrepared, heldIn}
-use Rattle.exports.specs.StepNumbers.{stepsNeed, checkSteps, Stepped}
+use Rattle.exported_steps.specs.StateNumbers.{stateNeed, StatePrepared, heldIn}
+use Rattle.exported_steps.specs.StepNumbers.{stepsNeed, checkSteps, Stepped}
 use Rattle.claims.specs.StepWords.{ExportedPrepare, ExportedSteps, PrepareLong, PrepareCourse, StateFault, StepsNumber, stepsTold}
 use Rattle.claims.specs.StepWords.{StepsGives, Successive, SameEnd}
 use Rattle.logs.specs.LogCalls.{ownNeed, LoggedCall}
 use Rattle.logs.specs.LogCallLaws.{ReplayNumber}
-use Rattle.exports.specs.LogNumbers.{LoggedExport, loggedNeed}
+use Rattle.exported_logs.specs.LogNumbers.{LoggedExport, loggedNeed}
 use Rattle.claims.specs.LogWords.{Replayed, ExportedReplay, ExportedLogged, ReplayRange, ReplayLong, LoggedLong, ReplayReturns}
 use Rattle.claims.specs.LogWords.{ReplayCourse, ReplayGives, LoggedCourse, LoggedGives, stepsLogged}
 use Rattle.claims.specs.LiftedRuns as Runs
@@ -150,7 +150,7 @@ use Rattle.claims.specs.LiftedLogs as Logs
 use Rattle.claims.specs.MirroredRun.{Alike, trailing-mirrors}
 use Rattle.claims.specs.LiftedAnswers as Answers
 use Rattle.claims.specs.LiftedBatches as Batches
-use Rattle.exports.specs.SolutionNumbers.{Solved, unsolved}
+use Rattle.exported_solutions.specs.SolutionNumbers.{Solved, unsolved}
 use Rattle.solutions.specs.SolutionCalls.{Work}
 use Rattle.solutions.specs.AnswerNumbers.{Number}
 use Rattle.claims.specs.SolutionWords.{ExportedSolutions, SolveLong, SolvePassed, Unlisted, Lists, NoneFinite, Promised, SolveCourse}

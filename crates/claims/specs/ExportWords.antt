@@ -21,10 +21,10 @@ use Rattle.rules.specs.Layout.{NumbersRight}
 use Rattle.rules.specs.Calls.{Call}
 use Rattle.lists.specs.Overwritten.{overwrite}
 use Rattle.rules.specs.SheetCalls.{ReadCall, WriteCall}
-use Rattle.exports.specs.Results.{Exported, kept, runNeed, readNeed}
-use Rattle.exports.specs.Runs.{exportRun, ran, runNumbers}
-use Rattle.exports.specs.Reads.{exportRead, readAfter, readNumbers}
-use Rattle.exports.specs.Writes.{Written, exportWrite, orderOf, orderStoreRight, notWritten, wrote}
+use Rattle.export_results.specs.Results.{Exported, kept, runNeed, readNeed}
+use Rattle.exported_runs.specs.Runs.{exportRun, ran, runNumbers}
+use Rattle.exported_sheets.specs.Reads.{exportRead, readAfter, readNumbers}
+use Rattle.exported_sheets.specs.Writes.{Written, exportWrite, orderOf, orderStoreRight, notWritten, wrote}
 use Rattle.batches.specs.PieceCalls.{OutputCall}
 use Rattle.exports.specs.Batches.{exportBatch}
 use Rattle.claims.specs.RunWords.{Ran, Rewritten, InRange, LongEnough, Passed}

@@ -38,7 +38,7 @@ use Rattle.batches.specs.FeedLaws.{feed-room}
 use Rattle.batches.specs.PieceLaws.{check-right, right-check, fedBy, call-is, piece-right, piece-rest, greedy}
 use Rattle.batches.specs.Rooms.{answerRoom, gets-on}
 use Rattle.batches.specs.Rooms as Rooms
-use Rattle.exports.specs.Writes.{Written, notWritten}
+use Rattle.exported_sheets.specs.Writes.{Written, notWritten}
 use Rattle.exports.specs.Batches.{exportBatch, batch-missing, batch-worked}
 use Rattle.claims.specs.RunWords.{Rewritten, Cleared, Kept}
 use Rattle.claims.specs.BatchWords.{PieceWasGiven, StreamInRange, StoreHolds, HeldWaits, StreamRight, PieceNumber}

@@ -27,14 +27,14 @@ use Rattle.rules.specs.Stores.{Sizes, equations, rowNeed, relationNeed, sizesRi
 use Rattle.rules.specs.Layout.{NumbersRight, lengthsRight-iff, numbersRight-iff}
 use Rattle.rules.specs.Calls.{Result, Call, callRun, refusal, zeros}
 use Rattle.lists.specs.Overwritten.{overwrite}
-use Rattle.exports.specs.Results.{Exported, kept, runNeed, readNeed, onAcceptance-none, onAcceptance-some}
+use Rattle.export_results.specs.Results.{Exported, kept, runNeed, readNeed, onAcceptance-none, onAcceptance-some}
 use Rattle.rules.specs.SheetCalls.{ReadResult, ReadCall, readCall, unread, WriteCall, writeCall, unwritten, orderRight}
-use Rattle.exports.specs.Reads.{exportRead, readNumbers, readAfter, read-small}
-use Rattle.exports.specs.Writes.{Written, exportWrite, orderOf, orderStoreRight, checkOrdered, afterOrderedCheck}
-use Rattle.exports.specs.Writes.{notWritten, wrote, noNegative}
+use Rattle.exported_sheets.specs.Reads.{exportRead, readNumbers, readAfter, read-small}
+use Rattle.exported_sheets.specs.Writes.{Written, exportWrite, orderOf, orderStoreRight, checkOrdered, afterOrderedCheck}
+use Rattle.exported_sheets.specs.Writes.{notWritten, wrote, noNegative}
 use Rattle.rules.specs.Numbers.{fault}
 use Rattle.rules.specs.Sheets.{Sheet, readSheet}
-use Rattle.exports.specs.Runs.{exportRun, checkRun, afterRunCheck, ran, runNumbers, refused-numbers, run-small}
+use Rattle.exported_runs.specs.Runs.{exportRun, checkRun, afterRunCheck, ran, runNumbers, refused-numbers, run-small}
 use Rattle.claims.specs.RunWords.{Ran, RunNumber, FoundBefore, FoundDuring, Rewritten, Cleared, InRange, LongEnough}
 use Rattle.claims.specs.SheetWords.{WriteNumber, IsSheetOf, SheetWasRead}
 use Rattle.claims.specs.ExportWords.{ExportedRun, ExportLong, ExportReadLong, ExportGives, ExportCourse, run-range-wrong}

@@ -41,10 +41,11 @@ use Rattle.logs.specs.LogCallLaws.{ReplayNumber, replay-refused, check-right, a
 use Rattle.logs.specs.AcceptedLogs as Logged
 use Rattle.logs.specs.AcceptedLogs.{AcceptedLog}
 use Rattle.steps.specs.HeldCalls.{pivotsRight}
-use Rattle.exports.specs.Results.{Exported, kept, runNeed}
-use Rattle.exports.specs.Runs.{runNumbers, ran, runAfter, early, keptOr, kept-late, refused-numbers}
-use Rattle.exports.specs.LogNumbers.{exportReplay, LoggedExport, loggedNeed, loggedNumbers, loggedLeft, loggedKept, exportLogged}
-use Rattle.exports.specs.LogNumbers.{none-lent, replay-shifts, replay-small, replay-done, logged-small, logged-run}
+use Rattle.export_results.specs.Results.{Exported, kept, runNeed}
+use Rattle.exported_runs.specs.Runs.{runNumbers, ran, runAfter, refused-numbers}
+use Rattle.export_results.specs.Results.{early, keptOr, kept-late}
+use Rattle.exported_logs.specs.LogNumbers.{exportReplay, LoggedExport, loggedNeed, loggedNumbers, loggedLeft, loggedKept, exportLogged}
+use Rattle.exported_logs.specs.LogNumbers.{none-lent, replay-shifts, replay-small, replay-done, logged-small, logged-run}
 use Rattle.claims.specs.RunWords.{Ran, RunNumber, FoundBefore, FoundDuring, Rewritten, Cleared, InRange, LongEnough, Passed, left}
 use Rattle.claims.specs.RunWords.{GivesBack, Solves, Triangular, NoRoot, LastRoot, PastRoot, AgreeBetween, AgreeFrom}
 use Rattle.claims.specs.LogWords.{Replayed, ExportedReplay, ExportedLogged, ReplayRange, ReplayLong, LoggedLong, ReplayReturns}

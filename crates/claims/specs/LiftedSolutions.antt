@@ -28,8 +28,8 @@ use Rattle.solutions.specs.SolutionCalls.{listIn, workAfter}
 use Rattle.solutions.specs.AnswerNumbers.{Number, answer-number}
 use Rattle.solutions.specs.CallPromises.{answered, call-checked}
 use Rattle.solutions.specs.ListPromises as Promises
-use Rattle.exports.specs.SolutionNumbers.{Solved, solutionNeed, solutionNumbers, checkSolutions, solved, unsolved, afterSolutionsCheck}
-use Rattle.exports.specs.SolutionNumbers.{exportSolutions, unlisted-zeros}
+use Rattle.exported_solutions.specs.SolutionNumbers.{Solved, solutionNeed, solutionNumbers, checkSolutions, solved, unsolved, afterSolutionsCheck}
+use Rattle.exported_solutions.specs.SolutionNumbers.{exportSolutions, unlisted-zeros}
 use Rattle.claims.specs.RunWords.{Cleared, InRange}
 use Rattle.claims.specs.LiftedRuns.{overwrite-rewritten, range-iff, passed-valid}
 use Rattle.claims.specs.SolutionWords.{ExportedSolutions, SolveLong, SidesZero, SolvePassed, WorkCleared, Unlisted, Lists, NoneFinite}

@@ -42,12 +42,12 @@ use Rattle.steps.specs.SoundStates.{prepared-passes, checkState-zero}
 use Rattle.steps.specs.HandedIn.{call-none}
 use Rattle.steps.specs.SmallSteps.{SmallSteps, steps-small}
 use Rattle.reduction.specs.Progress.{mostSteps}
-use Rattle.exports.specs.Results.{Exported, runNeed, none-checked, onAcceptance}
-use Rattle.exports.specs.Runs.{runNumbers, ran}
-use Rattle.exports.specs.StateNumbers.{stateNeed, StatePrepared, statePut, exportPrepare, heldIn, countsRight}
-use Rattle.exports.specs.StateNumbers.{numbers-held, numbers-right, length-stateNumbers, held-four, held-numbers, no-numbers}
-use Rattle.exports.specs.StepNumbers.{stepsNeed, stepNumbers, Stepped, stepped, exportSteps, early, steps-left, left-late}
-use Rattle.exports.specs.StepNumbers.{checkSteps, keptSteps, afterStepsCheck, worked, call-late, refused-steps}
+use Rattle.export_results.specs.Results.{Exported, runNeed, none-checked, onAcceptance}
+use Rattle.exported_runs.specs.Runs.{runNumbers, ran}
+use Rattle.exported_steps.specs.StateNumbers.{stateNeed, StatePrepared, statePut, exportPrepare, heldIn, countsRight}
+use Rattle.exported_steps.specs.StateNumbers.{numbers-held, numbers-right, length-stateNumbers, held-four, held-numbers, no-numbers}
+use Rattle.exported_steps.specs.StepNumbers.{stepsNeed, stepNumbers, Stepped, stepped, exportSteps, early, steps-left, left-late}
+use Rattle.exported_steps.specs.StepNumbers.{checkSteps, keptSteps, afterStepsCheck, worked, call-late, refused-steps}
 use Rattle.claims.specs.RunWords.{Passed, InRange, LongEnough, Rewritten, Cleared, FoundDuring}
 use Rattle.claims.specs.ExportWords.{ExportedRun, ExportCourse, run-range-wrong, run-store-short, run-number-wrong, as-run}
 use Rattle.claims.specs.LiftedRuns.{overwrite-rewritten, zero-passed, range-iff, Verdict, two, one, five, none-found}

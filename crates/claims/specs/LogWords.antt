@@ -22,9 +22,9 @@ use Rattle.rules.specs.Calls.{Call, zeros}
 use Rattle.logs.specs.Logs.{mostSteps}
 use Rattle.logs.specs.LogCalls.{logNeed, ownNeed, replayStores, replayCall, LoggedCall, loggedCall}
 use Rattle.logs.specs.LogCallLaws.{ReplayNumber}
-use Rattle.exports.specs.Results.{Exported, kept, runNeed}
-use Rattle.exports.specs.Runs.{ran, runNumbers}
-use Rattle.exports.specs.LogNumbers.{exportReplay, LoggedExport, loggedNeed, loggedNumbers, loggedKept, exportLogged}
+use Rattle.export_results.specs.Results.{Exported, kept, runNeed}
+use Rattle.exported_runs.specs.Runs.{ran, runNumbers}
+use Rattle.exported_logs.specs.LogNumbers.{exportReplay, LoggedExport, loggedNeed, loggedNumbers, loggedKept, exportLogged}
 use Rattle.claims.specs.RunWords.{Ran, Rewritten, InRange, LongEnough, Passed}
 
 -- ---- the calls

@@ -25,7 +25,7 @@ use Rattle.solutions.specs.Extent.{ZeroAt}
 use Rattle.solutions.specs.SolutionAnswers.{Answer, homogeneous, answer}
 use Rattle.solutions.specs.SolutionCalls.{Work, Call, matrixNeed, listNeed, listStoreOf, resultOf, workAfter}
 use Rattle.solutions.specs.ListPromises.{ListedAt, Finite, sumOf}
-use Rattle.exports.specs.SolutionNumbers.{Solved, solutionNeed, solved, unsolved, exportSolutions}
+use Rattle.exported_solutions.specs.SolutionNumbers.{Solved, solutionNeed, solved, unsolved, exportSolutions}
 use Rattle.claims.specs.RunWords.{Rewritten, Cleared, InRange, LongEnough, Solves}
 
 -- The contract of `wurgalm_solutions`.

@@ -19,8 +19,8 @@ use Rattle.lists.specs.Overwritten.{overwrite}
 use Rattle.rules.specs.Stores.{Sizes}
 use Rattle.rules.specs.Layout.{NumbersRight}
 use Rattle.steps.specs.HeldCalls.{stateNumbers, prepared, stepsCall}
-use Rattle.exports.specs.StateNumbers.{stateNeed, StatePrepared, exportPrepare, heldIn}
-use Rattle.exports.specs.StepNumbers.{stepsNeed, stepNumbers, Stepped, exportSteps}
+use Rattle.exported_steps.specs.StateNumbers.{stateNeed, StatePrepared, exportPrepare, heldIn}
+use Rattle.exported_steps.specs.StepNumbers.{stepsNeed, stepNumbers, Stepped, exportSteps}
 use Rattle.claims.specs.RunWords.{FoundDuring, Rewritten, InRange, LongEnough, Passed}
 
 -- ---- the calls

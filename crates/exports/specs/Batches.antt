@@ -18,7 +18,7 @@ use lib.ListN.{length, replicate}
 use Rattle.lists.specs.Overwritten.{overwrite}
 use Rattle.rules.specs.Batch.{batchOutput}
 use Rattle.batches.specs.PieceCalls.{OutputCall, putText, outputCall}
-use Rattle.exports.specs.Writes.{Written, notWritten}
+use Rattle.exported_sheets.specs.Writes.{Written, notWritten}
 
 -- The refusal and the output of a call, with its length, 0 on a refusal, at the start of the result.
 abbrev batched : OutputCall → List ℤ → Written

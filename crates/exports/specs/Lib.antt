@@ -1,12 +1,1 @@
-pub mod Results
-pub mod Times
-pub mod Runs
-pub mod Writes
-pub mod Reads
 pub mod Batches
-pub mod Differentials
-pub mod RecordNumbers
-pub mod StateNumbers
-pub mod StepNumbers
-pub mod LogNumbers
-pub mod SolutionNumbers

@@ -1,29 +1,21 @@
 // The entry points for programs in C and other languages, by plain names: the public calls of `elimination`, `sheets`,
-// `differential`, `records`, `steps` and `logs`, and the whole batch of `batches`, the fields of whose results are numbers of a lent
-// store. No `requires`, and contracts that give the refusal and every lent store by equations (SCOPE 3.51, 9.1, 9.2).
+// `differential`, `records`, `solutions`, `steps` and `logs`, and the whole batch of `batches`, the fields of whose results are numbers
+// of a lent store. The crates `exported_*` have what each does, this one the sizes as single arguments. No `requires`, and contracts
+// that give the refusal and every lent store by equations (SCOPE 3.51, 9.1, 9.2).
 use sides::Side;
 ghost use mathlib.Core.Path.{_≡_};
 ghost use Rattle.rules.specs.Elimination.{leading, trailing};
 ghost use Rattle.solutions.specs.AnswerStores.{workOf};
-ghost use Rattle.exports.specs.Runs.{exportRun};
-ghost use Rattle.exports.specs.Writes.{exportWrite};
-ghost use Rattle.exports.specs.Reads.{exportRead};
+ghost use Rattle.exported_runs.specs.Runs.{exportRun};
+ghost use Rattle.exported_sheets.specs.Writes.{exportWrite};
+ghost use Rattle.exported_sheets.specs.Reads.{exportRead};
 ghost use Rattle.exports.specs.Batches.{exportBatch};
-ghost use Rattle.exports.specs.Differentials.{exportDifferential, exportRecurrence};
-ghost use Rattle.exports.specs.RecordNumbers.{exportRecord};
-ghost use Rattle.exports.specs.StateNumbers.{exportPrepare};
-ghost use Rattle.exports.specs.StepNumbers.{exportSteps};
-ghost use Rattle.exports.specs.LogNumbers.{exportReplay, exportLogged};
-ghost use Rattle.exports.specs.SolutionNumbers.{exportSolutions};
-
-mod either_side;
-mod logged;
-mod numbers;
-mod reads;
-mod recorded;
-mod solved;
-mod stepped;
-mod writes;
+ghost use Rattle.exported_sheets.specs.Differentials.{exportDifferential, exportRecurrence};
+ghost use Rattle.exported_records.specs.RecordNumbers.{exportRecord};
+ghost use Rattle.exported_steps.specs.StateNumbers.{exportPrepare};
+ghost use Rattle.exported_steps.specs.StepNumbers.{exportSteps};
+ghost use Rattle.exported_logs.specs.LogNumbers.{exportReplay, exportLogged};
+ghost use Rattle.exported_solutions.specs.SolutionNumbers.{exportSolutions};
 
 // A run on the leading side. `result` gets ten numbers: the relation count, the shifts, c(1) to c(4), 1 or 0 for a
 // root, the root, the rank, how often the root occurs (SCOPE 3.52).
@@ -42,7 +34,7 @@ pub extern "C" fn wurgalm_run_leading(
         record { refusal = r; rowStore = now (rows .exit); relationStore = now (relations .exit); resultStore = now (result .exit) }
         ≡ exportRun leading (record { m = m; equations = equations; l = l; t = t }) count (now (rows .entry)) (now (relations .entry)) (now (result .entry)) ⌝ }
 {
-    either_side::exported(
+    exported_runs::exported(
         rows,
         relations,
         stores::validity::Sizes { m, equations, l, t },
@@ -68,7 +60,7 @@ pub extern "C" fn wurgalm_run_trailing(
         record { refusal = r; rowStore = now (rows .exit); relationStore = now (relations .exit); resultStore = now (result .exit) }
         ≡ exportRun trailing (record { m = m; equations = equations; l = l; t = t }) count (now (rows .entry)) (now (relations .entry)) (now (result .entry)) ⌝ }
 {
-    either_side::exported(
+    exported_runs::exported(
         rows,
         relations,
         stores::validity::Sizes { m, equations, l, t },
@@ -91,17 +83,7 @@ pub extern "C" fn wurgalm_read_sheet(
         record { refusal = r; rowStore = now (rows .exit); relationStore = now (relations .exit); resultStore = now (result .exit) }
         ≡ exportRead (now (bytes .entry)) (now (rows .entry)) (now (relations .entry)) (now (result .entry)) ⌝ }
 {
-    if result.len() < 9 {
-        let judged = sheets::read_sheet(bytes, &mut rows[..0], &mut relations[..0]);
-        return judged.refusal;
-    }
-    let sheet = sheets::read_sheet(bytes, rows, relations);
-    if sheet.refusal != 0 {
-        return sheet.refusal;
-    }
-    let numbers = reads::read_numbers(sheet);
-    numbers::put(result, &numbers[..]);
-    0
+    exported_sheets::reads::read_sheet(bytes, rows, relations, result)
 }
 
 // The system of the stores written as a sheet. `order` holds four numbers: different columns of 1..m and zeros past them
@@ -124,7 +106,7 @@ pub extern "C" fn wurgalm_write_sheet(
         ≡ exportWrite (record { m = m; equations = equations; l = l; t = t }) count (now (order .entry)) (now (rows .entry)) (now (relations .entry))
         (now (bytes .entry)) (now (result .entry)) ⌝ }
 {
-    writes::exported(
+    exported_sheets::writes::write_sheet(
         rows,
         relations,
         stores::validity::Sizes { m, equations, l, t },
@@ -164,17 +146,7 @@ pub extern "C" fn wurgalm_read_differential(
         record { refusal = r; rowStore = now (rows .exit); relationStore = now (relations .exit); resultStore = now (result .exit) }
         ≡ exportDifferential (now (bytes .entry)) (now (rows .entry)) (now (relations .entry)) (now (result .entry)) ⌝ }
 {
-    if result.len() < 9 {
-        let judged = differential::read_differential(bytes, &mut rows[..0], &mut relations[..0]);
-        return judged.refusal;
-    }
-    let sheet = differential::read_differential(bytes, rows, relations);
-    if sheet.refusal != 0 {
-        return sheet.refusal;
-    }
-    let numbers = reads::read_numbers(sheet);
-    numbers::put(result, &numbers[..]);
-    0
+    exported_sheets::reads::read_differential(bytes, rows, relations, result)
 }
 
 // The recurrence of a differential sheet written as a sheet. `result` gets one number: its length (SCOPE 3.52).
@@ -184,16 +156,7 @@ pub extern "C" fn wurgalm_write_recurrence(sheet: &[u8], bytes: &mut [u8], resul
         record { refusal = r; byteStore = now (bytes .exit); resultStore = now (result .exit) }
         ≡ exportRecurrence (now (sheet .entry)) (now (bytes .entry)) (now (result .entry)) ⌝ }
 {
-    if result.len() < 1 {
-        let judged = differential::write_recurrence(sheet, &mut bytes[..0]);
-        return judged.refusal;
-    }
-    let written = differential::write_recurrence(sheet, bytes);
-    if written.refusal != 0 {
-        return written.refusal;
-    }
-    result[0] = written.length as i64;
-    0
+    exported_sheets::writes::write_recurrence(sheet, bytes, result)
 }
 
 // Does the system explain recorded vectors? There are `vectors` vectors of m numbers each, that of index `first` first. `result` gets
@@ -218,7 +181,7 @@ pub extern "C" fn wurgalm_check_record(
         ≡ exportRecord (record { m = m; equations = equations; l = l; t = t }) count first vectors
         (now (rows .entry)) (now (relations .entry)) (now (values .entry)) (now (result .entry)) ⌝ }
 {
-    recorded::exported(
+    exported_records::exported(
         rows,
         relations,
         stores::validity::Sizes { m, equations, l, t },
@@ -248,7 +211,7 @@ pub extern "C" fn wurgalm_prepare(
         ≡ exportPrepare (record { m = m; equations = equations; l = l; t = t }) count
         (now (rows .entry)) (now (relations .entry)) (now (state .entry)) ⌝ }
 {
-    stepped::exported_prepare(
+    exported_steps::exported_prepare(
         rows,
         relations,
         stores::validity::Sizes { m, equations, l, t },
@@ -277,7 +240,7 @@ pub extern "C" fn wurgalm_run_steps(
         }
         ≡ exportSteps budget (now (rows .entry)) (now (relations .entry)) (now (state .entry)) (now (result .entry)) ⌝ }
 {
-    stepped::exported_steps(rows, relations, state, budget, result)
+    exported_steps::exported_steps(rows, relations, state, budget, result)
 }
 
 // A run on the leading side with its log. `log` gets the steps and behind them the columns; `result` gets eleven numbers: the ten of a
@@ -305,7 +268,7 @@ pub extern "C" fn wurgalm_run_logged(
         ≡ exportLogged (record { m = m; equations = equations; l = l; t = t }) count
         (now (log .entry)) (now (rows .entry)) (now (relations .entry)) (now (result .entry)) ⌝ }
 {
-    logged::exported_run(
+    exported_logs::exported_run(
         rows,
         relations,
         stores::validity::Sizes { m, equations, l, t },
@@ -335,7 +298,7 @@ pub extern "C" fn wurgalm_replay(
         ≡ exportReplay (record { m = m; equations = equations; l = l; t = t }) count steps
         (now (log .entry)) (now (rows .entry)) (now (relations .entry)) (now (result .entry)) ⌝ }
 {
-    logged::exported_replay(
+    exported_logs::exported_replay(
         rows,
         relations,
         stores::validity::Sizes { m, equations, l, t },
@@ -374,7 +337,7 @@ pub extern "C" fn wurgalm_solutions(
         (workOf (now («work_rows» .entry)) (now («work_relations» .entry)) (now («work_matrix» .entry)) (now (list .entry)))
         (now (result .entry)) ⌝ }
 {
-    solved::exported(
+    exported_solutions::exported(
         rows,
         relations,
         stores::validity::Sizes { m, equations, l, t },

@@ -14,7 +14,7 @@ use mir.Facts.{toZ-pos}
 use Rattle.integers.specs.Ranges.{sfits-size}
 use Rattle.batches.specs.PieceCalls.{outputOf}
 use Rattle.lists.specs.Overwritten.{set-overwrite}
-use Rattle.exports.specs.Writes.{notWritten}
+use Rattle.exported_sheets.specs.Writes.{notWritten}
 use Rattle.exports.specs.Batches.{batch-missing, batch-worked, output-length}
 use Rattle.exports.proofs.wurgalm_batch.Statement.{statement}
 use Rattle.exports.proofs.wurgalm_batch.Tie as tie

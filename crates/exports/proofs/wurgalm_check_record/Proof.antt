@@ -5,8 +5,8 @@ use borrow.Author.Needs.{needs}
 use denote.Ref.{now}
 use mir.Facts.{toZ-ofZ}
 use Rattle.stores.specs.Validity.{sizesOf}
-use Rattle.exports.specs.Results.{sizes-told}
-use Rattle.exports.specs.RecordNumbers.{exportRecord}
+use Rattle.export_results.specs.Results.{sizes-told}
+use Rattle.exported_records.specs.RecordNumbers.{exportRecord}
 use Rattle.exports.proofs.wurgalm_check_record.Statement.{statement}
 use Rattle.exports.proofs.wurgalm_check_record.Tie as tie
 

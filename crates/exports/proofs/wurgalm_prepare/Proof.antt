@@ -4,8 +4,8 @@ use mathlib.Core.Path.{_∙_, ap}
 use borrow.Author.Needs.{needs}
 use denote.Ref.{now}
 use Rattle.stores.specs.Validity.{sizesOf}
-use Rattle.exports.specs.Results.{sizes-told}
-use Rattle.exports.specs.StateNumbers.{exportPrepare}
+use Rattle.export_results.specs.Results.{sizes-told}
+use Rattle.exported_steps.specs.StateNumbers.{exportPrepare}
 use Rattle.exports.proofs.wurgalm_prepare.Statement.{statement}
 use Rattle.exports.proofs.wurgalm_prepare.Tie as tie
 

@@ -5,8 +5,8 @@ use borrow.Author.Needs.{needs}
 use denote.Ref.{now}
 use Rattle.rules.specs.Elimination.{trailing}
 use Rattle.stores.specs.Validity.{sizesOf}
-use Rattle.exports.specs.Results.{sizes-told}
-use Rattle.exports.specs.Runs.{exportRun}
+use Rattle.export_results.specs.Results.{sizes-told}
+use Rattle.exported_runs.specs.Runs.{exportRun}
 use Rattle.exports.proofs.wurgalm_run_trailing.Statement.{statement}
 use Rattle.exports.proofs.wurgalm_run_trailing.Tie as tie
 

@@ -5,8 +5,8 @@ use borrow.Author.Needs.{needs}
 use denote.Ref.{now}
 use Rattle.stores.specs.Validity.{sizesOf}
 use Rattle.solutions.specs.AnswerStores.{workOf}
-use Rattle.exports.specs.Results.{sizes-told}
-use Rattle.exports.specs.SolutionNumbers.{exportSolutions}
+use Rattle.export_results.specs.Results.{sizes-told}
+use Rattle.exported_solutions.specs.SolutionNumbers.{exportSolutions}
 use Rattle.exports.proofs.wurgalm_solutions.Statement.{statement}
 use Rattle.exports.proofs.wurgalm_solutions.Tie as tie
 
