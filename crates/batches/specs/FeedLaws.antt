@@ -36,7 +36,8 @@ use Rattle.frames.specs.Longer.{line-longer}
 use Rattle.lists.specs.Taken.{length-none}
 use Rattle.batches.specs.declared.Stage.{Stage}
 use Rattle.batches.specs.declared.Stage.the-variants.{Count, Sheets, Over}
-use Rattle.batches.specs.Feeds.{Next, waits, breaks, sheet, nextSheet, numberOf, Feed, waitingAt, fullAt, overAt}
+use Rattle.batches.specs.Feeds.{Next, waits, breaks, sheet, nextSheet, Feed, waitingAt, fullAt, overAt}
+use Rattle.placed_answers.specs.Answering.{numberOf}
 use Rattle.batches.specs.Feeds.{breakingAt, prefixed, answerStep, stepBy, step, afterStep, steps, feedSheets}
 use Rattle.batches.specs.Feeds.{feedCount, feed}
 use Rattle.batches.specs.PieceCalls.{heldNeed, waitsWith}

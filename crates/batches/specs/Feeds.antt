@@ -10,10 +10,11 @@ use mathlib.Core.List.{List, [], _++_}
 use lib.Dec.{leb, eqb}
 use lib.ListN.{length, take, drop}
 use Rattle.lists.specs.Overwritten.{overwrite}
-use Rattle.rules.specs.Batch.{Answer, accepted, refusedWith, answerSheet, answerBytes, broken, noTally}
+use Rattle.rules.specs.Batch.{Answer, answerSheet, answerBytes, broken, noTally}
 use Rattle.frames.specs.declared.Batch.{Batch}
 use Rattle.frames.specs.declared.SheetLine.{SheetLine}
 use Rattle.frames.specs.Pieces.{batchWith, begunOf, lineOf, countedOf}
+use Rattle.placed_answers.specs.Answering.{numberOf}
 use Rattle.batches.specs.declared.Stage.{Stage}
 use Rattle.batches.specs.declared.Stage.the-variants.{Count, Sheets, Over}
 use Rattle.batches.specs.declared.Stream.{Stream}
@@ -71,11 +72,6 @@ breakingAt stage b bytes room = cond (leb (length broken) room) (overAt b broken
 pub data Step : Type 0 where
   stopped : Feed → Step
   answered : Batch → List ℕ → List ℕ → Step
-
--- The refusal's number of an answer, 0 for one that accepts.
-unfoldable pub numberOf : Answer → ℕ
-numberOf (accepted bytes) = 0
-numberOf (refusedWith n) = n
 
 unfoldable pub answerStep : Answer → ℕ → Batch → List ℕ → ℕ → ℕ → Step
 unfolding answerBytes countedOf numberOf

@@ -6,7 +6,6 @@ pub mod FeedLaws
 pub mod OutputLaws
 pub mod PieceLaws
 pub mod Rooms
-pub mod Answering
 pub mod Turns
 pub mod PieceSteps
 pub mod PieceJoins

@@ -47,7 +47,8 @@ use Rattle.frames.specs.Countings.{output-fault, output-got, answers-none, answ
 use Rattle.lists.specs.Taken.{part-longer}
 use Rattle.batches.specs.declared.Stage.{Stage}
 use Rattle.batches.specs.declared.Stage.the-variants.{Count, Sheets, Over}
-use Rattle.batches.specs.Feeds.{Next, waits, breaks, sheet, bySize, byLine, nextSheet, numberOf}
+use Rattle.batches.specs.Feeds.{Next, waits, breaks, sheet, bySize, byLine, nextSheet}
+use Rattle.placed_answers.specs.Answering.{numberOf}
 use Rattle.batches.specs.PieceCalls.{heldNeed, isWaiting, waitsWith, endText}
 
 -- ---- what a batch means

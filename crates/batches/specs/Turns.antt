@@ -35,15 +35,15 @@ use Rattle.frames.specs.Pieces.{textOf, shown, shown-text, refusalLine, refusal
 use Rattle.frames.specs.Pieces.{countedOf, Counted, counted-left}
 use Rattle.batches.specs.declared.Stage.{Stage}
 use Rattle.batches.specs.declared.Stage.the-variants.{Count, Sheets, Over}
-use Rattle.batches.specs.declared.answering.Put.{Put}
+use Rattle.placed_answers.specs.declared.Put.{Put}
 use Rattle.batches.specs.declared.feeding.Fed.{Fed}
 use Rattle.batches.specs.declared.feeding.Turn.{Turn}
 use Rattle.batches.specs.Feeds.{Next, waits, breaks, sheet, nextSheet, Feed, waitingAt, fullAt, overAt, breakingAt}
-use Rattle.batches.specs.Feeds.{Step, stopped, answered, numberOf, answerStep, stepBy, step, prefixed}
+use Rattle.batches.specs.Feeds.{Step, stopped, answered, answerStep, stepBy, step, prefixed}
 use Rattle.batches.specs.Feeds.{afterStep, steps, feedSheets, feedCount, feed, FeedCall, fedBy}
 use Rattle.batches.specs.Moves.{Look, look, look-some, Move, answering, move-inside, move-few}
 use Rattle.batches.specs.FeedLaws.{feed-move, feed-room, feed-rest}
-use Rattle.batches.specs.Answering.{putOf, answerPut, put, unput}
+use Rattle.placed_answers.specs.Answering.{numberOf, putOf, answerPut, put, unput}
 use Rattle.lists.specs.Taken.{whole-part}
 
 abbrev callWith : Stage → Batch → ℕ → ℕ → Bool → List ℕ → FeedCall

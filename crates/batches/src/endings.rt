@@ -38,7 +38,7 @@ pub(crate) fn ending(
             length: 0,
         };
     }
-    crate::answering::put_text(output, text);
+    placed_answers::put_text(output, text);
     OutputResult { refusal: 0, length }
 }
 
@@ -46,11 +46,7 @@ pub(crate) fn ending(
 fn too_short(output: &mut [u8]) -> OutputResult
     ensures { λ r. ⌜ (r ≡ record { refusal = 1; length = 0 }) × (now (output .exit) ≡ replicate (length (now (output .entry))) 0) ⌝ }
 {
-    let mut i = 0;
-    while i < output.len() {
-        output[i] = 0;
-        i += 1;
-    }
+    placed_answers::clear(output);
     OutputResult {
         refusal: 1,
         length: 0,

@@ -43,7 +43,7 @@ fn breaking(stage: Stage, batch: frames::Batch, bytes: &[u8], output: &mut [u8])
     if output.len() < written {
         return nothing(stage, batch, true);
     }
-    crate::answering::put_text(output, line);
+    placed_answers::put_text(output, line);
     Fed {
         stage: Stage::Over,
         batch,
@@ -84,7 +84,7 @@ fn sheet_turn(
         (now (bytes .entry)) (now (output .entry)) ⌝ }
     ensures { λ _. ⌜ (now (rows .exit) ≡ now (rows .entry)) × (now (relations .exit) ≡ now (relations .entry)) ⌝ }
 {
-    let put = crate::answering::put_answer(&bytes[from..to], output, rows, relations);
+    let put = placed_answers::put_answer(&bytes[from..to], output, rows, relations);
     if !put.fits {
         return stopped(nothing(Stage::Sheets, batch, true));
     }

@@ -6,11 +6,10 @@ ghost use mathlib.Core.Path.{_≡_};
 ghost use Rattle.answers.specs.Answers as Answers;
 ghost use Rattle.batches.specs.Feeds.{startOf};
 ghost use Rattle.batches.specs.PieceCalls.{callOf, pieceCall, outputOf, endCall, outputCall};
-pub use answering::ANSWER;
 pub use answers::AnswerResult;
 pub use pieces::HELD;
+pub use placed_answers::ANSWER;
 
-mod answering;
 mod endings;
 mod feeding;
 mod pieces;

@@ -1,4 +1,4 @@
--- `batches::endings::too_short` meets its contract. The loop's invariant: the first i bytes of the output are zero, the others stay.
+-- `placed_answers::clear` meets its contract. The loop's invariant: the first i bytes of the output are zero, the others stay.
 -- Assumes nothing.
 use mathlib.Core.Path.{_≡_, refl, sym, _∙_, ap}
 use mathlib.Core.List.{List}
@@ -11,8 +11,8 @@ use denote.Ref.{now}
 use lib.ListN.{length, set, replicate, length-set, length-replicate, getD-replicate}
 use lib.Seq.{paste, paste-zero, paste-suc}
 use Rattle.lists.specs.Pasted.{paste-whole}
-use Rattle.batches.proofs.endings.too_short.Statement.{statement}
-use Rattle.batches.proofs.endings.too_short.Tie as tie
+use Rattle.placed_answers.proofs.clear.Statement.{statement}
+use Rattle.placed_answers.proofs.clear.Tie as tie
 
 abbrev Inv-loop : tie.InvT-loop
 Inv-loop output₀ i₀ output i =
@@ -55,14 +55,12 @@ returns : tie.Need-returns Inv-loop μ-loop
 returns c =
     let output = now (c .before .before .args .output) in
     let zeros : List ℕ = replicate (length output) 0 in
-    let all : c .before .loop .i ≡ length output = omega arith in (
-      refl,
-      c .before .loop .inv .1 .1 ∙ ap (paste output 0 zeros) all
-          ∙ paste-whole output zeros (length output) (le-refl (length output)) (length-replicate (length output) 0),
-    )
+    let all : c .before .loop .i ≡ length output = omega arith in
+    c .before .loop .inv .1 .1 ∙ ap (paste output 0 zeros) all
+    ∙ paste-whole output zeros (length output) (le-refl (length output)) (length-replicate (length output) 0)
 
-pub too-short-spec : {M : Type 1} → statement M
-too-short-spec =
+pub clear-spec : {M : Type 1} → statement M
+clear-spec =
     tie.close
     (tie.spec
     Inv-loop

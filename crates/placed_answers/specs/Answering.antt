@@ -1,6 +1,7 @@
 -- The answer to one sheet put at the front of the output, where it fits.
 --
 -- Main definitions
+--   numberOf a                    the refusal's number of an answer, 0 for one that accepts
 --   PutCall, answerPut a output   what is told, and the output afterwards
 --
 -- Main statements
@@ -29,10 +30,14 @@ use Rattle.frames.specs.declared.Text.{Text}
 use Rattle.frames.specs.PieceSizes.{answer-fits}
 use Rattle.frames.specs.Pieces.{textRoom, textOf, shown, shown-text, refusalLine, refusal-refused, refusal-accepted}
 use Rattle.lists.specs.Taken.{whole-part}
-use Rattle.batches.specs.declared.answering.Put.{Put}
-use Rattle.batches.specs.Feeds.{numberOf}
+use Rattle.placed_answers.specs.declared.Put.{Put}
 
 -- ---- the call
+
+-- The refusal's number of an answer, 0 for one that accepts.
+unfoldable pub numberOf : Answer → ℕ
+numberOf (accepted bytes) = 0
+numberOf (refusedWith n) = n
 
 pub record PutCall : Type 0 where
   pub fits : Bool

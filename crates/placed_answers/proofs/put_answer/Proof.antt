@@ -1,4 +1,4 @@
--- `batches::answering::put_answer` meets its contract: the sheet that answers stands behind the line `0`, and then its line before it; where
+-- `placed_answers::put_answer` meets its contract: the sheet that answers stands behind the line `0`, and then its line before it; where
 -- the output is too short for that, it is as it was, and the answer is made beside it.
 -- Assumes nothing.
 use Prim.Native.Nat.{ℕ, _+_, _≤_, _-_}
@@ -12,9 +12,9 @@ use lib.ListN.{length}
 use Rattle.rules.specs.Batch.{mostBytes, answerSheet}
 use Rattle.frames.specs.PieceSizes.{text-fits}
 use Rattle.frames.specs.Pieces.{textRoom, refusalLine}
-use Rattle.batches.specs.Answering.{answerPut, straight-fits, straight-call, straight-none}
-use Rattle.batches.proofs.answering.put_answer.Statement.{statement}
-use Rattle.batches.proofs.answering.put_answer.Tie as tie
+use Rattle.placed_answers.specs.Answering.{answerPut, straight-fits, straight-call, straight-none}
+use Rattle.placed_answers.proofs.put_answer.Statement.{statement}
+use Rattle.placed_answers.proofs.put_answer.Tie as tie
 
 put-beside-requires : tie.Need-put-beside-requires
 put-beside-requires c κs = search needs

@@ -1,9 +1,9 @@
--- `batches::answering::undecided` meets its contract.
+-- `placed_answers::undecided` meets its contract.
 -- Assumes nothing.
 use borrow.Author.Needs.{needs}
 use borrow.Author.Tests.{eqb-true}
-use Rattle.batches.proofs.answering.undecided.Statement.{statement}
-use Rattle.batches.proofs.answering.undecided.Tie as tie
+use Rattle.placed_answers.proofs.undecided.Statement.{statement}
+use Rattle.placed_answers.proofs.undecided.Tie as tie
 
 returns : tie.Need-returns
 returns c = search needs

@@ -1,4 +1,4 @@
--- `batches::answering::put_text` meets its contract: an array of a text has 192 bytes.
+-- `placed_answers::put_text` meets its contract: an array of a text has 192 bytes.
 -- Assumes nothing.
 use Prim.Native.Nat.{_≤_}
 use mathlib.Core.Path.{_≡_, sym, _∙_, ap}
@@ -10,8 +10,8 @@ use lib.Seq.{length-take-le, take-length}
 use Rattle.lists.specs.Overwritten.{overwrite}
 use Rattle.frames.specs.Pieces.{textRoom}
 use borrow.Author.Needs.{needs}
-use Rattle.batches.proofs.answering.put_text.Statement.{statement}
-use Rattle.batches.proofs.answering.put_text.Tie as tie
+use Rattle.placed_answers.proofs.put_text.Statement.{statement}
+use Rattle.placed_answers.proofs.put_text.Tie as tie
 
 -- The first bytes of a text are as many as its length says.
 within : (c : tie.Start) → c .args .text .length ≤ length (c .args .text .bytes)

@@ -1,4 +1,4 @@
--- `batches::answering::put_beside` meets its contract: the answer is made in a store of the largest size, and copied with its line where
+-- `placed_answers::put_beside` meets its contract: the answer is made in a store of the largest size, and copied with its line where
 -- both fit.
 -- Assumes nothing.
 use Prim.Native.Nat.{ℕ, _+_, _-_, _≤_}
@@ -13,10 +13,10 @@ use Rattle.lists.specs.Overwritten.{overwrite}
 use Rattle.rules.specs.Batch.{mostBytes}
 use Rattle.frames.specs.PieceSizes.{text-fits}
 use Rattle.frames.specs.Pieces.{textRoom, refusalLine}
-use Rattle.batches.specs.Answering.{made-within, beside-call, beside-unput}
+use Rattle.placed_answers.specs.Answering.{made-within, beside-call, beside-unput}
 use borrow.Author.Needs.{needs}
-use Rattle.batches.proofs.answering.put_beside.Statement.{statement}
-use Rattle.batches.proofs.answering.put_beside.Tie as tie
+use Rattle.placed_answers.proofs.put_beside.Statement.{statement}
+use Rattle.placed_answers.proofs.put_beside.Tie as tie
 
 abbrev beside : List ℕ
 beside = replicate mostBytes 0
