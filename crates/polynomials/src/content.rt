@@ -134,10 +134,15 @@ pub fn content(p: &[i64]) -> u64
     d
 }
 
+// Where that of a is 1, b does not matter.
 pub fn content_of_both(a: &[i64], b: &[i64]) -> u64
     ensures { λ r. ⌜ r ≡ Gcd.content (now (a .entry) ++ now (b .entry)) ⌝ }
 {
-    integers::gcd(content(a), content(b))
+    let first = content(a);
+    if first == 1 {
+        return 1;
+    }
+    integers::gcd(first, content(b))
 }
 
 // Every coefficient divided by d, toward zero: exact where d divides them all.
