@@ -141,8 +141,8 @@ fn reduced(a: &[i64], b: &[i64], found: RootsWith) -> Entries
     requires { ⌜ Sixteen (now b) × (found ≡ listedWith (Elimination.rootsWith (now a))) ⌝ }
     ensures { λ e. ⌜ Fits e × (entriesOf e ≡ CommonRoots.reduced (both (now (a .entry)) (now (b .entry)))) ⌝ }
 {
-    let pivot = multiplicities::copied(a);
-    let target = multiplicities::copied(b);
+    let pivot = polynomials::content::copied(a);
+    let target = polynomials::content::copied(b);
     divided_each(Entries { pivot, target }, b, found)
 }
 

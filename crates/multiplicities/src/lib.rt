@@ -64,27 +64,13 @@ fn divided(p: &[i64], r: i64, limit: u64) -> Quotient
     }
 }
 
-// The sixteen coefficients in an array.
-pub fn copied(p: &[i64]) -> [i64; COEFFICIENTS]
-    requires { ⌜ length (now p) ≡ coefficientCount ⌝ }
-    ensures { λ q. ⌜ q ≡ now (p .entry) ⌝ }
-{
-    let mut q = [0; COEFFICIENTS];
-    let mut i = 0;
-    while i < COEFFICIENTS {
-        q[i] = p[i];
-        i += 1;
-    }
-    q
-}
-
 // How often r occurs as a root of p (SCOPE 2.84).
 pub fn multiplicity(p: &[i64], r: i64) -> usize
     requires { ⌜ (length (now p) ≡ coefficientCount) × T (every small (now p)) × (natAbs r ≤ bound) ⌝ }
     ensures { λ n. ⌜ n ≡ Multiplicity.multiplicity (now (p .entry)) r ⌝ }
 {
     let limit = limit_at(r);
-    let mut rest = copied(p);
+    let mut rest = polynomials::content::copied(p);
     let mut times = 0;
     while times < COEFFICIENTS {
         let d = divided(&rest[..], r, limit);

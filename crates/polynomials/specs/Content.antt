@@ -13,10 +13,11 @@
 --   within-down, within-part, degree-bottom   one zero coefficient less from the top, and several; none left past power 0: the degree is 0
 --   content-next, one-gcd  a coefficient joins the greatest common divisor of those passed; 1 stays 1
 --   quotient-stored        the quotient by a positive i64, stored, is a coefficient of `divideBy`
---   small-at, below-of-small, below-divideBy, below-negate   sizes of coefficients, of quotients and of negatives
+--   small-at, below-of-small, below-divideBy   sizes of coefficients and of quotients
 --   content-bounds         the content of two polynomials within ±C that are not both zero is positive and at most C
+--   ratio-primitive        rule 2's multipliers of two polynomials whose common content is 1
 --   signs-turned, signs-kept   the two cases of rule 2's signs
-use mathlib.Core.Path.{_≡_, refl, sym, _∙_, ap, subst, ap₂}
+use mathlib.Core.Path.{_≡_, refl, sym, _∙_, ap, ap₂}
 use mathlib.Core.Logic.{_≢_, ⊎-elim}
 use mathlib.Core.Bool.{Bool, true, false, not, cond, _&&_, and-assoc}
 use mathlib.Core.List.{[], _∷_, _++_}
@@ -27,22 +28,22 @@ use native.Mathlib.Decide.{decLt}
 use lib.Bits.{bitOr, and-le-r, or-add-and}
 use lib.Dec.{T, eqb, ltb→lt, leb→le, eqb·suc-zero}
 use lib.IntN.{ℤ, pos, negsuc, natAbs}
-use lib.ListN.{length, getD, take, drop, length-set}
+use lib.ListN.{length, getD, take, drop}
 use lib.Signed.{mag, ltZ, quotZ}
 use mir.Syntax.{w64}
 use mir.Val.{SFits, ofZ, toZ}
 use mir.Facts.{sfits-lit, toZ-ofZ}
 use borrow.Author.Needs.{sfits-of}
 use borrow.Author.Tests.{ne-eqb}
-use Rattle.algebra.specs.Integers.{natAbs-negℤ, natAbs-zero}
+use Rattle.algebra.specs.Integers.{natAbs-zero}
 use Rattle.algebra.specs.Polynomials.{Polynomial, coeff, negate, isZeroℤ, isZero, lead, lowest, degree, isZeroℤ-not-iff, isZero-coeff}
-use Rattle.algebra.specs.Coefficients.{Within, coeff-negate, coeff-take, coeff-drop, coeff-degree, lead-nonzero, degree-le, degree-lt-length}
+use Rattle.algebra.specs.Coefficients.{Within, coeff-take, coeff-drop, coeff-degree, lead-nonzero, degree-le, degree-lt-length}
 use Rattle.algebra.specs.Gcd.{gcd, content, divideBy, gcd-comm, gcd-assoc, gcd-divides-left}
-use Rattle.algebra.specs.Gcd.{content-divides, content-pos, divideBy-getD, divideBy-le}
+use Rattle.algebra.specs.Gcd.{content-divides, content-pos, divideBy-getD, divideBy-le, divideBy-one}
 use Rattle.rules.specs.Limits.{bound, small}
 use Rattle.lists.specs.Tests.{every, every-getD, every-join}
 use Rattle.lists.specs.Taken.{drop-next}
-use Rattle.rules.specs.Elimination.{turnSigns}
+use Rattle.rules.specs.Elimination.{turnSigns, ratio}
 use Rattle.integers.specs.Ranges.{ofZ-inj, ofZ-zero}
 
 -- Every coefficient has a size below n.
@@ -160,10 +161,6 @@ below-of-small p h k = omega (arith, small-at p h k)
 pub below-divideBy : {n : ℕ} (d : ℕ) (p : Polynomial) → Below n p → Below n (divideBy d p)
 below-divideBy d p h k = omega (arith, divideBy-le d p k, h k)
 
-pub below-negate : {n : ℕ} (p : Polynomial) → Below n p → Below n (negate p)
-unfolding coeff
-below-negate {n} p h k = subst (λ m. m < n) (sym (ap natAbs (coeff-negate p k) ∙ natAbs-negℤ (coeff p k))) (h k)
-
 -- ---- the multipliers of rule 2
 
 content-le : (p : Polynomial) → T (every small p) → T (not (isZero p)) → content p ≤ bound
@@ -176,6 +173,13 @@ content-le p h n =
 pub content-bounds : (a b : Polynomial) → T (every small a) → T (every small b) → T (not (isZero (a ++ b)))
     → (0 < content (a ++ b)) × (content (a ++ b) ≤ bound)
 content-bounds a b h g n = (content-pos (a ++ b) n, content-le (a ++ b) (every-join small a b h g) n)
+
+-- Where the common content is 1, nothing is divided.
+pub ratio-primitive : (a b : Polynomial) → content (a ++ b) ≡ 1 → ratio a b ≡ turnSigns a (negate b)
+unfolding ratio
+ratio-primitive a b e =
+    ap (λ d. turnSigns (divideBy d a) (negate (divideBy d b))) e
+    ∙ ap₂ (λ x y. turnSigns x (negate y)) (divideBy-one a) (divideBy-one b)
 
 pub signs-turned : (g h : Polynomial) → ltZ (lead g) (pos 0) ≡ true → turnSigns g h ≡ record { g = negate g; h = negate h }
 unfolding turnSigns

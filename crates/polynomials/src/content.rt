@@ -3,7 +3,7 @@ use crate::lengths::COEFFICIENTS;
 ghost use mathlib.Core.Path.{_≡_};
 ghost use mathlib.Core.Bool.{not};
 ghost use mathlib.Core.List.{_++_};
-ghost use Prim.Native.Nat.{ℕ, _-_, _^_, _≤_, _<_};
+ghost use Prim.Native.Nat.{_-_, _^_, _≤_, _<_};
 ghost use lib.Dec.{T};
 ghost use lib.IntN.{pos, natAbs};
 ghost use lib.Signed.{ltZ};
@@ -171,6 +171,20 @@ pub fn divide_in_place(p: &mut [i64], d: i64)
     }
 }
 
+// The sixteen coefficients in an array.
+pub fn copied(p: &[i64]) -> [i64; COEFFICIENTS]
+    requires { ⌜ length (now p) ≡ coefficientCount ⌝ }
+    ensures { λ q. ⌜ q ≡ now (p .entry) ⌝ }
+{
+    let mut q = [0; COEFFICIENTS];
+    let mut i = 0;
+    while i < COEFFICIENTS {
+        q[i] = p[i];
+        i += 1;
+    }
+    q
+}
+
 pub fn negated(p: &[i64]) -> [i64; COEFFICIENTS]
     requires { ⌜ (length (now p) ≡ coefficientCount) × Below (2 ^ 63) (now p) ⌝ }
     ensures { λ r. ⌜ r ≡ Polynomials.negate (now (p .entry)) ⌝ }
@@ -189,23 +203,40 @@ pub struct Multipliers {
     pub h: [i64; COEFFICIENTS],
 }
 
+// g = a and h = -b, both with the other sign if a's highest coefficient is negative (SCOPE 2.25): either way one of both is a copy.
+fn signed_multipliers(a: &[i64], b: &[i64]) -> Multipliers
+    requires { ⌜ (length (now a) ≡ coefficientCount) × Below (2 ^ 63) (now a) ⌝ }
+    requires { ⌜ (length (now b) ≡ coefficientCount) × Below (2 ^ 63) (now b) ⌝ }
+    ensures { λ r. ⌜ r .g ≡ Elimination.turnSigns (now (a .entry)) (Polynomials.negate (now (b .entry))) .g ⌝ }
+    ensures { λ r. ⌜ r .h ≡ Elimination.turnSigns (now (a .entry)) (Polynomials.negate (now (b .entry))) .h ⌝ }
+{
+    if lead(a) < 0 {
+        Multipliers {
+            g: negated(a),
+            h: copied(b),
+        }
+    } else {
+        Multipliers {
+            g: copied(a),
+            h: negated(b),
+        }
+    }
+}
+
 // Rule 2: g = a/d and h = -b/d, both with the other sign if g's highest coefficient is negative (SCOPE 2.23 to 2.25).
-// The content d is at most C, since a and b are not both zero.
+// The content d is at most C, since a and b are not both zero; most often it is 1, and nothing is divided.
 pub fn multipliers_of(a: &[i64], b: &[i64]) -> Multipliers
     requires { ⌜ (length (now a) ≡ coefficientCount) × T (every small (now a)) × T (not (Polynomials.isZero (now a ++ now b))) ⌝ }
     requires { ⌜ (length (now b) ≡ coefficientCount) × T (every small (now b)) ⌝ }
     ensures { λ r. ⌜ r .g ≡ Elimination.ratio (now (a .entry)) (now (b .entry)) .g ⌝ }
     ensures { λ r. ⌜ r .h ≡ Elimination.ratio (now (a .entry)) (now (b .entry)) .h ⌝ }
 {
-    let d = content_of_both(a, b) as i64;
-    let g = divided(a, d);
-    let h = negated(&divided(b, d));
-    if lead(&g) < 0 {
-        Multipliers {
-            g: negated(&g),
-            h: negated(&h),
-        }
-    } else {
-        Multipliers { g, h }
+    let d = content_of_both(a, b);
+    if d == 1 {
+        return signed_multipliers(a, b);
     }
+    let divisor = d as i64;
+    let p = divided(a, divisor);
+    let q = divided(b, divisor);
+    signed_multipliers(&p[..], &q[..])
 }

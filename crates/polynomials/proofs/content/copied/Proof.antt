@@ -1,14 +1,14 @@
--- `multiplicities::copied` meets its contract. The loop's invariant: the first i coefficients of q are those of p.
+-- `polynomials::content::copied` meets its contract. The loop's invariant: the first i coefficients of q are those of p.
 -- Assumes nothing.
 use Prim.Native.Nat.{_-_}
 use native.Mathlib.Omega.{arith}
 use borrow.Author.Needs.{needs}
 use lib.IntN.{pos}
 use Rattle.lists.specs.Taken.{Overwritten, overwritten-next, overwritten-all}
 use Rattle.polynomials.specs.Content.{read-back}
 use Rattle.rules.specs.Limits.{coefficientCount}
-use Rattle.multiplicities.proofs.copied.Statement.{statement}
-use Rattle.multiplicities.proofs.copied.Tie as tie
+use Rattle.polynomials.proofs.content.copied.Statement.{statement}
+use Rattle.polynomials.proofs.content.copied.Tie as tie
 
 abbrev Inv-loop : tie.InvT-loop
 Inv-loop p q₀ i₀ q i = Overwritten coefficientCount p q i
