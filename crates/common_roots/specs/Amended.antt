@@ -6,15 +6,17 @@
 --   rootsAlone w          what the finder lists, without how often each root occurs
 --
 -- Main statements
---   roots-alone, times-at  the roots of a polynomial, and how often each occurs, in the finder's arrays
+--   roots-alone, times-at  numbers, and how often each occurs as a root of a polynomial, in the finder's arrays
 --   reduced-each          the division at the common roots, for 16 coefficients
 --   multipliers-plain         where no root is common, the ratio of a and b as they are
---   common-pivot          where one is, a is not zero
+--   common-few, common-within   there are few common roots, all within ±C
+--   common-pivot          where there is one, a is not zero
 --   multipliers-roots         the roots of g are those of a at which what is left of a vanishes
 use Prim.Native.Nat.{ℕ, _-_, _<_}
 use mathlib.Core.Path.{_≡_, refl, sym, _∙_, ap, ap₂}
 use mathlib.Core.Bool.{not}
 use mathlib.Core.List.{List, [], _∷_, _++_, map, map-map, map-id}
+use native.Mathlib.Nat.{le-of-eq}
 use native.Mathlib.Omega.{arith}
 use lib.Dec.{T, T-not, not-T}
 use lib.Ieee.Fits.{and-l}
@@ -27,17 +29,18 @@ use Rattle.algebra.specs.Multiplicity.{multiplicity}
 use Rattle.lists.specs.Images.{getD-map}
 use Rattle.lists.specs.Sifted.{keep}
 use Rattle.lists.specs.Taken.{length-none}
-use Rattle.rules.specs.Limits.{bound, coefficientCount}
-use Rattle.rules.specs.Elimination.{Multipliers, ratio, multipliers, rootsWith}
+use Rattle.lists.specs.Tests.{every}
+use Rattle.rules.specs.Limits.{bound, small, coefficientCount}
+use Rattle.rules.specs.Elimination.{Multipliers, ratio, multipliers}
 use Rattle.rules.specs.CommonRoots.{Entries, divideEach, commonRoots, reduced}
 use Rattle.theory.specs.Reduced.{reduced-nonzero}
 use Rattle.roots.specs.declared.RootList.{RootList}
-use Rattle.roots.specs.RootSearch.{listed, roots-constant}
+use Rattle.roots.specs.RootSearch.{listed, roots-constant, roots-few}
 use Rattle.multiplicities.specs.declared.RootsWith.{RootsWith}
-use Rattle.multiplicities.specs.Counts.{listedWith}
+use Rattle.multiplicities.specs.Counts.{listedWith, timesIn, roots-within}
 use Rattle.common_roots.specs.declared.Amended.{Amended}
 use Rattle.common_roots.specs.Divisions.{vanishesAt}
-use Rattle.common_roots.specs.Kept.{roots-reduced, roots-ratio}
+use Rattle.common_roots.specs.Kept.{length-keep, every-keep, roots-reduced, roots-ratio}
 
 abbrev pub both : Polynomial → Polynomial → Entries
 both a b = record { pivot = a; target = b }
@@ -46,26 +49,24 @@ both a b = record { pivot = a; target = b }
 abbrev pub rootsAlone : RootsWith → RootList
 rootsAlone w = record { count = w .count; values = w .values }
 
-pub roots-alone : {w : RootsWith} (p : Polynomial) → w ≡ listedWith (rootsWith p) → rootsAlone w ≡ listed (roots p)
-unfolding rootsWith
-roots-alone p e =
+pub roots-alone : {w : RootsWith} (p : Polynomial) (rs : List ℤ) → w ≡ listedWith (timesIn p rs) → rootsAlone w ≡ listed rs
+roots-alone p rs e =
     ap rootsAlone e
-    ∙ ap₂ (λ n l. record { count = n; values = l ++ replicate (16 - n) (pos 0) }) (length-map (roots p) (λ r. (r, multiplicity p r)))
-    (map-map (λ x. x .0) (λ r. (r, multiplicity p r)) (roots p) ∙ map-id (roots p))
+    ∙ ap₂ (λ n l. record { count = n; values = l ++ replicate (16 - n) (pos 0) }) (length-map rs (λ r. (r, multiplicity p r)))
+    (map-map (λ x. x .0) (λ r. (r, multiplicity p r)) rs ∙ map-id rs)
 
-pub times-at : {w : RootsWith} (p : Polynomial) → w ≡ listedWith (rootsWith p) → (i : ℕ) → i < length (roots p)
-    → getD (w .times) i 0 ≡ multiplicity p (getD (roots p) i (pos 0))
-unfolding rootsWith
-times-at p e i h =
+pub times-at : {w : RootsWith} (p : Polynomial) (rs : List ℤ) → w ≡ listedWith (timesIn p rs) → (i : ℕ) → i < length rs
+    → getD (w .times) i 0 ≡ multiplicity p (getD rs i (pos 0))
+times-at p rs e i h =
     ap (λ v. getD (v .times) i 0) e
     ∙ List·getD-append (map (λ x. x .1) pairs) (replicate (16 - length pairs) 0) 0 i (omega (arith, length-map pairs (λ x. x .1), size))
-    ∙ ap (λ l. getD l i 0) (map-map (λ x. x .1) (λ r. (r, multiplicity p r)) (roots p)) ∙ getD-map (multiplicity p) (roots p) i (pos 0) 0 h
+    ∙ ap (λ l. getD l i 0) (map-map (λ x. x .1) (λ r. (r, multiplicity p r)) rs) ∙ getD-map (multiplicity p) rs i (pos 0) 0 h
   where
     pairs : List (ℤ × ℕ)
-    pairs = map (λ r. (r, multiplicity p r)) (roots p)
+    pairs = timesIn p rs
 
-    size : length pairs ≡ length (roots p)
-    size = length-map (roots p) (λ r. (r, multiplicity p r))
+    size : length pairs ≡ length rs
+    size = length-map rs (λ r. (r, multiplicity p r))
 
 -- The multipliers with the roots of g.
 abbrev pub withRoots : Multipliers → Amended
@@ -80,6 +81,14 @@ module _ (a b : Polynomial) where
   unfolding multipliers reduced divideEach
   multipliers-plain none =
       ap (λ l. let e = divideEach (length a) l (both a b) in ratio (e .pivot) (e .target)) (length-none (commonRoots (both a b)) none)
+
+  pub common-few : length a ≡ coefficientCount → length (commonRoots (both a b)) < 16
+  unfolding commonRoots
+  common-few e = omega (arith, length-keep (vanishesAt b) (roots a), roots-few a (le-of-eq e))
+
+  pub common-within : T (every small a) → T (every small (commonRoots (both a b)))
+  unfolding commonRoots
+  common-within t = every-keep (vanishesAt b) small (roots a) (roots-within a t)
 
   pub common-pivot : 0 < length (commonRoots (both a b)) → T (not (isZero a))
   unfolding commonRoots keep

@@ -2,36 +2,35 @@
 --
 -- Main statements
 --   eval-front   the coefficients up to the degree have the value of all
---   length-keep           no more members are kept than there are
+--   length-keep, every-keep   no more members are kept than there are; what every member passes, every member that is kept passes
 --   few-kept, kept-yes, kept-no   one member more of a list that is sifted into an array
 --   roots-among           the roots of a polynomial whose roots are some of another one's
 --   roots-reduced         dividing by common roots leaves those of the pivot's roots at which the rest still vanishes
---   roots-ratio, rootsWith-ratio   dividing by the content and turning the signs changes no root and no multiplicity
+--   roots-ratio           dividing by the content and turning the signs changes no root
 use Prim.Native.Nat.{ℕ, suc, _+_, _-_, _≤_, _<_, zero-le}
 use mathlib.Core.Path.{_≡_, refl, sym, _∙_, ap, ap₂, subst}
-use mathlib.Core.Logic.{_↔_, _≢_, ⊎-elim, by-cases}
+use mathlib.Core.Logic.{_↔_, ⊎-elim}
 use mathlib.Core.Bool.{Bool, true, false, not, cond}
-use mathlib.Core.List.{List, [], _∷_, _++_, map, append-nil, List·Mem, map-congr-left, not-mem-nil}
-use native.Mathlib.Nat.{not-suc-le-zero, le-trans, le-of-eq}
+use mathlib.Core.List.{List, [], _∷_, _++_, append-nil, List·Mem}
+use native.Mathlib.Nat.{le-trans, le-of-eq}
 use native.Mathlib.Numerals.{add-one}
 use native.Mathlib.Omega.{arith}
-use lib.Dec.{T, not-T}
+use lib.Dec.{T}
 use lib.IntN.{ℤ, pos, negℤ, natAbs, _*ℤ_, *ℤ-zero, negℤ-negℤ}
 use lib.Signed.{ltZ}
 use lib.ListN.{length, getD, take, drop, set, replicate, length-append}
 use lib.Seq.{take-suc, append-snoc, set-append-seam, length-take-le}
-use Rattle.algebra.specs.Integers.{ringℤ, natAbs-negℤ, no-zero-divisors, *ℤ-nonzero}
+use Rattle.algebra.specs.Integers.{no-zero-divisors}
 use Rattle.algebra.specs.Gcd.{content, divideBy, DividesAll, content-pos, content-append, gcd-divides-left}
 use Rattle.algebra.specs.Gcd.{dividesAll-of-content, eval-divideBy, isZero-divideBy}
-use Rattle.algebra.specs.Polynomials.{Polynomial, eval, isZero, degree, negate, lead, scale, eval-take, coeff-isZero, isZeroℤ-iff}
-use Rattle.algebra.specs.Polynomials.{isZero-negate, eval-scale, eval-negate}
+use Rattle.algebra.specs.Polynomials.{Polynomial, eval, isZero, degree, negate, lead, eval-take, coeff-isZero, isZeroℤ-iff}
+use Rattle.algebra.specs.Polynomials.{isZero-negate, eval-negate}
 use Rattle.algebra.specs.Coefficients.{degree-isZero, coeff-drop, coeff-past-degree}
 use Rattle.algebra.specs.Roots.{roots, place, roots-sound, roots-complete, roots-ascending}
-use Rattle.algebra.specs.Multiplicity.{power, Occurs, multiplicity, multiplicity-occurs, occurs-unique}
 use Rattle.lists.specs.Sifted.{keep, mem-keep, keep-pairwise}
-use Rattle.lists.specs.Tests.{true-T, dec-T}
+use Rattle.lists.specs.Tests.{true-T, every, every-cons}
 use Rattle.rules.specs.CommonRoots.{Entries, reduced}
-use Rattle.rules.specs.Elimination.{Multipliers, turnSigns, ratio, rootsWith}
+use Rattle.rules.specs.Elimination.{Multipliers, turnSigns, ratio}
 use Rattle.theory.specs.Reduced.{reduced-divides, reduced-nonzero}
 use Rattle.roots.specs.Ascending.{Ascending, ascending-unique}
 use Rattle.roots.specs.declared.RootList.{RootList}
@@ -64,6 +63,15 @@ length-keep {A} t (x ∷ l) = cases (t x) (keep t l) (length-keep t l)
     cases : (b : Bool) (k : List A) → length k ≤ length l → length (cond b (x ∷ k) k) ≤ suc (length l)
     cases true k h = omega arith
     cases false k h = omega arith
+
+pub every-keep : {A : Type 0} (t s : A → Bool) (l : List A) → T (every s l) → T (every s (keep t l))
+unfolding keep every
+every-keep t s [] h = tt
+every-keep {A} t s (x ∷ l) h = let parts = every-cons s x l .0 h in cases (t x) (keep t l) (every-keep t s l (parts .1)) (parts .0)
+  where
+    cases : (b : Bool) (k : List A) → T (every s k) → T (s x) → T (every s (cond b (x ∷ k) k))
+    cases true k rest first = every-cons s x k .1 (first, rest)
+    cases false k rest first = rest
 
 -- One number more behind the listed ones.
 listed-longer : {f : RootList} (l : List ℤ) (x : ℤ) → length l < 16 → f ≡ listed l
@@ -147,23 +155,6 @@ negated-roots p = roots-same p (negate p) (isZero-negate p) (λ z. (
   λ e. eval-negate p z ∙ ap negℤ e,
 ))
 
--- A multiple has the roots as often.
-scaled : (c : ℤ) → c ≢ pos 0 → (p q : Polynomial) → T (not (isZero p)) → T (not (isZero q)) → ((x : ℤ) → eval p x ≡ c *ℤ eval q x)
-    → (r : ℤ) → multiplicity p r ≡ multiplicity q r
-scaled c apart p q n m h r = occurs-unique (multiplicity-occurs p r n) (multiple (multiplicity-occurs q r m))
-  where
-    turned : (a b d : ℤ) → a *ℤ (b *ℤ d) ≡ b *ℤ (a *ℤ d)
-    turned a b d = simp ringℤ
-
-    multiple : {k : ℕ} → Occurs q r k → Occurs p r k
-    multiple {k} o =
-        record {
-          rest = scale c (o .rest);
-          no-root = λ e. *ℤ-nonzero apart (o .no-root) (sym (eval-scale c (o .rest) r) ∙ e);
-          factored = λ x. h x ∙ ap (λ y. c *ℤ y) (o .factored x) ∙ turned c (eval (power r k) x) (eval (o .rest) x)
-              ∙ ap (λ y. eval (power r k) x *ℤ y) (sym (eval-scale c (o .rest) x));
-        }
-
 -- g is a divided by the positive content of a and b, or the negative of that.
 module _ (a b : Polynomial) (nonzero : T (not (isZero (a ++ b)))) where
   d : ℕ
@@ -199,39 +190,3 @@ module _ (a b : Polynomial) (nonzero : T (not (isZero (a ++ b)))) where
           cond t (record { g = negate (divideBy d a); h = negate h }) (record { g = divideBy d a; h = h }) in roots (x .g) ≡ roots a
       cases true = negated-roots (divideBy d a) ∙ divided-roots
       cases false = divided-roots
-
-  -- And each root as often.
-  times-ratio : T (not (isZero a)) → (r : ℤ) → multiplicity (ratio a b .g) r ≡ multiplicity a r
-  unfolding ratio turnSigns d
-  times-ratio n r = cases (ltZ (lead q) (pos 0))
-    where
-      q : Polynomial
-      q = divideBy d a
-
-      h : Polynomial
-      h = negate (divideBy d b)
-
-      left : T (not (isZero q))
-      left = subst (λ t. T (not t)) (sym (isZero-divideBy d a positive divides)) n
-
-      negative : (x y : ℤ) → x *ℤ y ≡ negℤ x *ℤ negℤ y
-      negative x y = simp ringℤ
-
-      cases : (t : Bool) → let x : Multipliers =
-          cond t (record { g = negate q; h = negate h }) (record { g = q; h = h }) in multiplicity (x .g) r ≡ multiplicity a r
-      cases true =
-          sym (scaled (negℤ (pos d)) (λ e. omega (arith, positive, natAbs-negℤ (pos d), ap natAbs e)) a (negate q) n
-          (subst (λ t. T (not t)) (sym (isZero-negate q)) left)
-          (λ x. sym (eval-divideBy d a x divides) ∙ negative (pos d) (eval q x) ∙ ap (λ y. negℤ (pos d) *ℤ y) (sym (eval-negate q x))) r)
-      cases false =
-          sym (scaled (pos d) (λ e. omega (arith, positive, ap natAbs e)) a q n left (λ x. sym (eval-divideBy d a x divides)) r)
-
-  pub rootsWith-ratio : rootsWith (ratio a b .g) ≡ rootsWith a
-  unfolding rootsWith
-  rootsWith-ratio =
-      ap (map (λ r. (r, multiplicity (ratio a b .g) r))) roots-ratio ∙ map-congr-left (λ r m. ap (λ k. (r, k)) (times r m))
-    where
-      times : (r : ℤ) → List·Mem r (roots a) → multiplicity (ratio a b .g) r ≡ multiplicity a r
-      times r m =
-          by-cases (dec-T (isZero a)) (λ z. absurd (not-mem-nil (rw (roots-constant a (degree-isZero a z)) at m)))
-          (λ n. times-ratio (not-T (isZero a) n) r)

@@ -15,12 +15,12 @@ ghost use Rattle.algebra.specs.Polynomials.{isZero};
 ghost use Rattle.algebra.specs.Roots as Roots;
 ghost use Rattle.lists.specs.Sifted.{keep};
 ghost use Rattle.rules.specs.Limits.{bound, coefficientCount};
-ghost use Rattle.rules.specs.CommonRoots.{divideAt, divideEach};
+ghost use Rattle.rules.specs.CommonRoots.{commonRoots, divideAt, divideEach};
 ghost use Rattle.rules.specs.CommonRoots as CommonRoots;
 ghost use Rattle.roots.specs.RootSearch.{held, listed};
 ghost use Rattle.rules.specs.Elimination as Elimination;
-ghost use Rattle.multiplicities.specs.Counts.{listedWith};
-ghost use Rattle.common_roots.specs.Amended.{both, withRoots, rootsAlone};
+ghost use Rattle.multiplicities.specs.Counts.{listedWith, timesIn};
+ghost use Rattle.common_roots.specs.Amended.{both, withRoots};
 ghost use Rattle.common_roots.specs.Divisions.{Sixteen, Fits, Divided, entriesOf, vanishesAt};
 
 // A polynomial divided by n - r, where that may be done: `exact` says so.
@@ -85,25 +85,22 @@ fn divided_at(entries: Entries, r: i64, times: usize) -> Entries
     Entries { pivot, target }
 }
 
-// One root of the pivot after the other, ascending as they are listed, where b vanishes too. As often as a root occurs in the pivot,
-// the finder says; so often and no more it may be divided out.
-fn divided_each(entries: Entries, b: &[i64], found: RootsWith) -> Entries
-    requires { ⌜ Fits entries × T (not (isZero (entries .pivot))) × (found ≡ listedWith (Elimination.rootsWith (entries .pivot))) ⌝ }
-    requires { ⌜ Sixteen (now b) ⌝ }
-    ensures { λ e. ⌜ Fits e × (entriesOf e
-        ≡ divideEach coefficientCount (keep (vanishesAt (now (b .entry))) (Roots.roots (entries .pivot))) (entriesOf entries)) ⌝ }
+// One common root after the other, ascending as they are listed. As often as a root occurs in the pivot, the finder says; so often and
+// no more it may be divided out.
+fn divided_each(entries: Entries, common: RootsWith) -> Entries
+    requires { ⌜ Fits entries × T (not (isZero (entries .pivot)))
+        × (common ≡ listedWith (timesIn (entries .pivot) (commonRoots (entriesOf entries)))) ⌝ }
+    ensures { λ e. ⌜ Fits e × (entriesOf e ≡ divideEach coefficientCount (commonRoots (entriesOf entries)) (entriesOf entries)) ⌝ }
 {
-    let n = found.count;
-    let values = found.values;
-    let times = found.times;
+    let n = common.count;
+    let values = common.values;
+    let times = common.times;
     let mut e = entries;
     let mut left = n;
     while 0 < left {
         let i = n - left;
         let r = values[i];
-        if roots::is_root(b, r) {
-            e = divided_at(e, r, times[i]);
-        }
+        e = divided_at(e, r, times[i]);
         left -= 1;
     }
     e
@@ -115,9 +112,6 @@ fn kept(p: &[i64], found: RootList) -> RootList
     ensures { λ l. ⌜ l ≡ listed (keep (vanishesAt (now (p .entry))) (held found)) ⌝ }
 {
     let n = found.count;
-    if n == 0 {
-        return found;
-    }
     let end = polynomials::content::degree(p) + 1;
     let front = &p[..end];
     let from = found.values;
@@ -135,24 +129,18 @@ fn kept(p: &[i64], found: RootList) -> RootList
     RootList { count, values }
 }
 
-// Both entries divided at each of their common roots. The roots of a are handed in, with how often each occurs.
-fn reduced(a: &[i64], b: &[i64], found: RootsWith) -> Entries
+// Both entries divided at each of their common roots, which are handed in.
+fn reduced(a: &[i64], b: &[i64], common: RootList) -> Entries
     requires { ⌜ Sixteen (now a) × T (not (isZero (now a))) ⌝ }
-    requires { ⌜ Sixteen (now b) × (found ≡ listedWith (Elimination.rootsWith (now a))) ⌝ }
+    requires { ⌜ Sixteen (now b) × (common ≡ listed (commonRoots (both (now a) (now b)))) ⌝ }
     ensures { λ e. ⌜ Fits e × (entriesOf e ≡ CommonRoots.reduced (both (now (a .entry)) (now (b .entry)))) ⌝ }
 {
     let pivot = polynomials::content::copied(a);
     let target = polynomials::content::copied(b);
-    divided_each(Entries { pivot, target }, b, found)
-}
-
-// The roots alone.
-fn roots_of(found: RootsWith) -> RootList
-    ensures { λ l. ⌜ l ≡ rootsAlone found ⌝ }
-{
-    let count = found.count;
-    let values = found.values;
-    RootList { count, values }
+    divided_each(
+        Entries { pivot, target },
+        multiplicities::each_with_times(a, common),
+    )
 }
 
 // Rule 2's multipliers, and the integer roots of g, ascending.
@@ -163,22 +151,22 @@ pub struct Amended {
 }
 
 // Where there are common roots. What is left of a has no root that a has not, so no root is searched again.
-fn divided_multipliers(a: &[i64], b: &[i64], found: RootsWith) -> Amended
-    requires { ⌜ Sixteen (now a) × T (not (isZero (now a))) ⌝ }
-    requires { ⌜ Sixteen (now b) × (found ≡ listedWith (Elimination.rootsWith (now a))) ⌝ }
+fn divided_multipliers(a: &[i64], b: &[i64], found: RootList, common: RootList) -> Amended
+    requires { ⌜ Sixteen (now a) × T (not (isZero (now a))) × (found ≡ listed (Roots.roots (now a))) ⌝ }
+    requires { ⌜ Sixteen (now b) × (common ≡ listed (commonRoots (both (now a) (now b)))) ⌝ }
     ensures { λ r. ⌜ r ≡ withRoots (Elimination.multipliers (now (a .entry)) (now (b .entry))) ⌝ }
 {
-    let e = reduced(a, b, found);
+    let e = reduced(a, b, common);
     let pivot = e.pivot;
     let target = e.target;
     let x = polynomials::content::multipliers_of(&pivot[..], &target[..]);
     let g = x.g;
     let h = x.h;
-    let roots = kept(&pivot[..], roots_of(found));
+    let roots = kept(&pivot[..], found);
     Amended { g, h, roots }
 }
 
-// The multipliers of a and b as they are have the roots of a, each as often. Where b vanishes at none of them, they are the answer.
+// The multipliers of a and b as they are have the roots of a. Where there are none, or b vanishes at none of them, they are the answer.
 pub fn multipliers(a: &[i64], b: &[i64]) -> Amended
     requires { ⌜ Sixteen (now a) × T (not (isZero (now a ++ now b))) ⌝ }
     requires { ⌜ Sixteen (now b) ⌝ }
@@ -187,12 +175,14 @@ pub fn multipliers(a: &[i64], b: &[i64]) -> Amended
     let x = polynomials::content::multipliers_of(a, b);
     let g = x.g;
     let h = x.h;
-    let found = multiplicities::roots_with(&g[..]);
-    let roots = roots_of(found);
+    let roots = roots::roots(&g[..]);
+    if roots.count == 0 {
+        return Amended { g, h, roots };
+    }
     let common = kept(b, roots);
     if common.count == 0 {
         Amended { g, h, roots }
     } else {
-        divided_multipliers(a, b, found)
+        divided_multipliers(a, b, roots, common)
     }
 }

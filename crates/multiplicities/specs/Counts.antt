@@ -2,12 +2,13 @@
 --
 -- Main definitions
 --   listedWith l          the arrays that hold the pairs l, zeros past their end
+--   timesIn p rs          each of the numbers rs, with how often it occurs as a root of p
 --   filled f rs i         the counts f of the first i of rs, zeros behind
 --   withTimes p a         an answer about p, with how often its root occurs
 --   answeredWith p o      a root of p or none, as such an answer
 --
 -- Main statements
---   root-small            a root of a small polynomial is within ±C
+--   roots-within          the roots of a small polynomial are within ±C
 --   filled-next           one count more
 --   filled-all            all of them
 --   furthest-small        the largest and the smallest root are within ±C, and so is the 0 beside "no"
@@ -20,7 +21,7 @@ use mathlib.Core.List.{List, [], _∷_, _++_, map, map-append, map-map, map-id}
 use native.Mathlib.Nat.{le-refl, eq-zero-or-pos}
 use native.Mathlib.Numerals.{add-one}
 use native.Mathlib.Omega.{arith}
-use lib.Dec.{T, not-T}
+use lib.Dec.{T, not-T, le→leb}
 use lib.IntN.{ℤ, pos, natAbs}
 use lib.ListN.{length, getD, take, set, replicate, length-map}
 use lib.Seq.{take-all, take-suc, append-snoc, set-append-seam, length-take-le}
@@ -28,10 +29,10 @@ use Rattle.algebra.specs.Coefficients.{degree-isZero}
 use Rattle.algebra.specs.Multiplicity.{multiplicity}
 use Rattle.algebra.specs.Polynomials.{Polynomial, isZero}
 use Rattle.algebra.specs.Roots.{roots, roots-sound}
-use Rattle.lists.specs.Places.{getD-member}
-use Rattle.lists.specs.Tests.{every, dec-T}
+use Rattle.polynomials.specs.Content.{small-at}
+use Rattle.lists.specs.Tests.{every, every-member, dec-T}
 use Rattle.rules.specs.Limits.{bound, small}
-use Rattle.rules.specs.Elimination.{Side, leading, trailing, furthest, rootsWith}
+use Rattle.rules.specs.Elimination.{Side, leading, trailing, furthest}
 use Rattle.roots.specs.declared.RootAnswer.{RootAnswer}
 use Rattle.roots.specs.RootSearch.{answered, roots-small, roots-constant, roots-ascend, answered-none, answered-first, answered-last}
 use Rattle.multiplicities.specs.declared.RootsWith.{RootsWith}
@@ -48,13 +49,11 @@ listedWith l =
 -- ---- the roots
 
 -- The zero polynomial has no root listed.
-pub root-small : (p : Polynomial) → T (every small p) → (i : ℕ) → i < length (roots p) → natAbs (getD (roots p) i (pos 0)) ≤ bound
-root-small p t i h =
-    by-cases (dec-T (isZero p)) (λ z. absurd (omega (arith, ap length (roots-constant p (degree-isZero p z)))))
-    (λ n. omega (arith, roots-small p (not-T (isZero p) n) t r (roots-sound p (∣ getD-member (roots p) i (pos 0) h ∣₁))))
-  where
-    r : ℤ
-    r = getD (roots p) i (pos 0)
+pub roots-within : (p : Polynomial) → T (every small p) → T (every small (roots p))
+unfolding every small
+roots-within p t =
+    by-cases (dec-T (isZero p)) (λ z. rw (roots-constant p (degree-isZero p z)) tt)
+    (λ n. every-member small (roots p) (λ r m. le→leb (natAbs r) bound (omega (arith, roots-small p (not-T (isZero p) n) t r (roots-sound p m)))))
 
 -- ---- the counts
 
@@ -86,23 +85,18 @@ filled-next f rs i inside h =
     longer = ap (λ n. map f (take n rs)) (add-one i) ∙ ap (map f) (take-suc rs i (pos 0) inside)
         ∙ map-append f (take i rs) (getD rs i (pos 0) ∷ [])
 
+abbrev pub timesIn : Polynomial → List ℤ → List (ℤ × ℕ)
+timesIn p rs = map (λ r. (r, multiplicity p r)) rs
+
 abbrev made : ℕ → List ℤ → List ℕ → RootsWith
 made n values times = record { count = n; values = values ++ replicate (16 - n) (pos 0); times = times ++ replicate (16 - n) 0 }
 
-listed-pairs : (f : ℤ → ℕ) (rs : List ℤ) → made (length rs) rs (map f (take (length rs) rs)) ≡ listedWith (map (λ r. (r, f r)) rs)
-listed-pairs f rs =
-    ap (λ l. made (length rs) rs (map f l)) (take-all (length rs) rs (le-refl (length rs)))
-    ∙ sym (ap (λ n. made n (map (λ x. x .0) pairs) (map (λ x. x .1) pairs)) (length-map rs (λ r. (r, f r)))
-    ∙ ap₂ (made (length rs)) (map-map (λ x. x .0) (λ r. (r, f r)) rs ∙ map-id rs) (map-map (λ x. x .1) (λ r. (r, f r)) rs))
-  where
-    pairs : List (ℤ × ℕ)
-    pairs = map (λ r. (r, f r)) rs
-
--- All roots are counted.
-pub filled-all : (p : Polynomial) → made (length (roots p)) (roots p) (map (multiplicity p) (take (length (roots p)) (roots p)))
-    ≡ listedWith (rootsWith p)
-unfolding rootsWith
-filled-all p = listed-pairs (multiplicity p) (roots p)
+-- All of them are counted.
+pub filled-all : (p : Polynomial) (rs : List ℤ) → made (length rs) rs (map (multiplicity p) (take (length rs) rs)) ≡ listedWith (timesIn p rs)
+filled-all p rs =
+    ap (λ l. made (length rs) rs (map (multiplicity p) l)) (take-all (length rs) rs (le-refl (length rs)))
+    ∙ sym (ap (λ n. made n (map (λ x. x .0) (timesIn p rs)) (map (λ x. x .1) (timesIn p rs))) (length-map rs (λ r. (r, multiplicity p r)))
+    ∙ ap₂ (made (length rs)) (map-map (λ x. x .0) (λ r. (r, multiplicity p r)) rs ∙ map-id rs) (map-map (λ x. x .1) (λ r. (r, multiplicity p r)) rs))
 
 -- ---- the furthest root
 
@@ -121,5 +115,5 @@ furthest-small side p t = ⊎-elim none (some side) (eq-zero-or-pos (length (roo
 
     some : (side : Side) → 0 < length (roots p) → natAbs (answered (furthest side (roots p)) .root) ≤ bound
     some leading h =
-        rw (ap (λ a. a .root) (answered-last (roots p) (roots-ascend p) h)) (root-small p t (length (roots p) - 1) (omega arith))
-    some trailing h = rw (ap (λ a. a .root) (answered-first (roots p) (roots-ascend p) h)) (root-small p t 0 (omega arith))
+        rw (ap (λ a. a .root) (answered-last (roots p) (roots-ascend p) h)) (small-at (roots p) (roots-within p t) (length (roots p) - 1))
+    some trailing h = rw (ap (λ a. a .root) (answered-first (roots p) (roots-ascend p) h)) (small-at (roots p) (roots-within p t) 0)

@@ -13,8 +13,9 @@ ghost use Rattle.lists.specs.Tests.{every};
 ghost use Rattle.rules.specs.Limits.{bound, small, coefficientCount};
 ghost use Rattle.algebra.specs.Roots as Roots;
 ghost use Rattle.rules.specs.Elimination as Elimination;
+ghost use Rattle.roots.specs.RootSearch.{held, listed};
 ghost use Rattle.multiplicities.specs.Divisions.{Sized, Limited, Divided};
-ghost use Rattle.multiplicities.specs.Counts.{listedWith, withTimes, answeredWith};
+ghost use Rattle.multiplicities.specs.Counts.{listedWith, timesIn, withTimes, answeredWith};
 
 // C, the limit of the values at an integer of size 2 or more.
 const FAR: u64 = 268_435_455;
@@ -83,20 +84,19 @@ pub fn multiplicity(p: &[i64], r: i64) -> usize
     times
 }
 
-// The integer roots of a polynomial, ascending, each with how often it occurs: the first `count` of `values` and of `times`; the others
-// are 0.
+// Integer roots of a polynomial, ascending, each with how often it occurs: the first `count` of `values` and of `times`; the others are 0.
 pub struct RootsWith {
     pub count: usize,
     pub values: [i64; 16],
     pub times: [usize; 16],
 }
 
-// Each root once, with its multiplicity (SCOPE 2.84).
-pub fn roots_with(p: &[i64]) -> RootsWith
+// Each of the listed numbers, with how often it occurs as a root of p (SCOPE 2.84).
+pub fn each_with_times(p: &[i64], found: roots::RootList) -> RootsWith
     requires { ⌜ (length (now p) ≡ coefficientCount) × T (every small (now p)) ⌝ }
-    ensures { λ w. ⌜ w ≡ listedWith (Elimination.rootsWith (now (p .entry))) ⌝ }
+    requires { ⌜ (found ≡ listed (held found)) × (length (held found) ≤ 16) × T (every small (held found)) ⌝ }
+    ensures { λ w. ⌜ w ≡ listedWith (timesIn (now (p .entry)) (held found)) ⌝ }
 {
-    let found = roots::roots(p);
     let n = found.count;
     let values = found.values;
     let mut times: [usize; 16] = [0; 16];
@@ -110,6 +110,14 @@ pub fn roots_with(p: &[i64]) -> RootsWith
         values,
         times,
     }
+}
+
+// Each root once, with its multiplicity (SCOPE 2.84).
+pub fn roots_with(p: &[i64]) -> RootsWith
+    requires { ⌜ (length (now p) ≡ coefficientCount) × T (every small (now p)) ⌝ }
+    ensures { λ w. ⌜ w ≡ listedWith (Elimination.rootsWith (now (p .entry))) ⌝ }
+{
+    each_with_times(p, roots::roots(p))
 }
 
 // Whether there is an integer root, the one asked for and how often it occurs; 0 and 0 with "no" (SCOPE 2.82, 2.84).

@@ -12,7 +12,7 @@ use Rattle.rules.specs.CommonRoots.{reduced}
 use Rattle.rules.specs.Elimination.{ratio, multipliers}
 use Rattle.roots.specs.RootSearch.{listed, held-of, listed-held, roots-few}
 use Rattle.common_roots.specs.Divisions.{vanishesAt}
-use Rattle.common_roots.specs.Amended.{both, rootsAlone, roots-alone, reduced-not-both, multipliers-roots}
+use Rattle.common_roots.specs.Amended.{both, reduced-not-both, multipliers-roots}
 use borrow.Author.Needs.{needs}
 use Rattle.common_roots.proofs.divided_multipliers.Statement.{statement}
 use Rattle.common_roots.proofs.divided_multipliers.Tie as tie
@@ -30,9 +30,6 @@ module _ (c : tie.After-reduced) where
 
   target-is : c .reduced .result .target ≡ reduced (both a b) .target
   target-is = ap (λ e. e .target) (c .reduced .ensures .1)
-
-  alone : rootsAlone (c .before .args .found) ≡ listed (roots a)
-  alone = roots-alone a (c .before .pre .1 .1)
 
 reduced-requires : tie.Need-reduced-requires
 reduced-requires c κs = search needs
@@ -52,33 +49,23 @@ multipliers-of-requires c κs =
 slice-aggregate-kept : tie.Need-slice-aggregate-kept
 slice-aggregate-kept c = search needs
 
-roots-of-requires : tie.Need-roots-of-requires
-roots-of-requires c κs = search needs
-
--- The roots of a.
-module _ (c : tie.After-roots-of) where
-  abbrev left : tie.After-reduced
-  left = c .before .before .before .before .before .before .before .before .before
-
-  found-is : c .roots-of .result ≡ listed (roots (a left))
-  found-is = c .roots-of .ensures ∙ alone left
-
 kept-requires : tie.Need-kept-requires
 kept-requires c κs =
-    let r = left c in (
+    let r = c .before .before .before .before .before .before .before .before in
+    let found = r .before .pre .0 .2 in (
       r .reduced .ensures .0 .0,
-      listed-held (roots (a r)) (found-is c),
-      rw (held-of (roots (a r)) (found-is c)) (omega (arith, roots-few (a r) (le-of-eq (r .before .pre .0 .0 .0)))),
+      listed-held (roots (a r)) found,
+      rw (held-of (roots (a r)) found) (omega (arith, roots-few (a r) (le-of-eq (r .before .pre .0 .0 .0)))),
     )
 
 returns : tie.Need-returns
 unfolding multipliers
 returns c =
-    let m = c .before .before .before .before .before in
-    let r = left (c .before) in
+    let m = c .before .before .before .before in
+    let r = m .before .before .before .before .before in
     let g = m .multipliers-of .ensures .0 ∙ ap₂ (λ p q. ratio p q .g) (pivot-is r) (target-is r) in
     let h = m .multipliers-of .ensures .1 ∙ ap₂ (λ p q. ratio p q .h) (pivot-is r) (target-is r) in
-    let found = held-of (roots (a r)) (found-is (c .before)) in
+    let found = held-of (roots (a r)) (r .before .pre .0 .2) in
     let kept = c .kept .ensures ∙ ap₂ (λ p l. listed (keep (vanishesAt p) l)) (pivot-is r) found
     ∙ ap listed (sym (multipliers-roots (a r) (b r) (r .before .pre .0 .1))) in
     λ i. record { g = g i; h = h i; roots = kept i }
@@ -92,6 +79,5 @@ divided-multipliers-spec =
     slice-aggregate-multipliers-of-2
     multipliers-of-requires
     slice-aggregate-kept
-    roots-of-requires
     kept-requires
     returns)

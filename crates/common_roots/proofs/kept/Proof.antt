@@ -5,7 +5,6 @@ use mathlib.Core.Bool.{Bool}
 use mathlib.Core.Logic.{⊎-elim}
 use mathlib.Core.List.{List}
 use Prim.Native.Nat.{ℕ, _+_, _-_, _≤_, _<_}
-use native.Mathlib.Nat.{le-of-eq}
 use native.Mathlib.Omega.{arith}
 use borrow.Author.Needs.{sfits-of}
 use lib.IntN.{ℤ, pos}
@@ -16,7 +15,6 @@ use mir.Facts.{toZ-ofZ}
 use lib.Seq.{length-take-le}
 use Rattle.algebra.specs.Polynomials.{eval, isZeroℤ}
 use Rattle.lists.specs.Sifted.{keep}
-use Rattle.lists.specs.Taken.{length-none}
 use Rattle.lists.specs.Tests.{every-take}
 use Rattle.rules.specs.Limits.{small}
 use Rattle.roots.specs.declared.RootList.{RootList}
@@ -53,14 +51,14 @@ module _ (c : tie.Start Inv-loop μ-loop) where
 -- The coefficients up to the highest that is not 0.
 module _ (c : tie.After-degree Inv-loop μ-loop) where
   abbrev p : List ℤ
-  p = c .before .before .args .p .now
+  p = c .before .args .p .now
 
   abbrev end : ℕ
   end = c .degree .result + 1
 
   end-inside : end ≤ 16
   end-inside =
-      omega (arith, c .degree .ensures, degree-below p (omega (arith, c .before .before .pre .0 .0)), c .before .before .pre .0 .0)
+      omega (arith, c .degree .ensures, degree-below p (omega (arith, c .before .pre .0 .0)), c .before .pre .0 .0)
 
   front-value : (z : ℤ) → eval (take end p) z ≡ eval p z
   front-value z = ap (λ n. eval (take (n + 1) p) z) (c .degree .ensures) ∙ eval-front p z
@@ -68,7 +66,7 @@ module _ (c : tie.After-degree Inv-loop μ-loop) where
 -- The numbers sifted so far, and the next.
 module _ (c : tie.In-loop Inv-loop μ-loop) where
   abbrev start : tie.Start Inv-loop μ-loop
-  start = c .before .before .before .before .before .before
+  start = c .before .before .before .before .before
 
   abbrev t : ℤ → Bool
   t = vanishesAt (start .args .p .now)
@@ -98,13 +96,6 @@ tested c =
     let read = rw (toZ-ofZ (fits-r (c .before))) at (c .is-root .ensures) in
     read ∙ ap isZeroℤ (front-value (c .before .before .before .before .before .before) _)
 
-returns : tie.Need-returns Inv-loop μ-loop
-unfolding keep
-returns c =
-    let l = held (found (c .before)) in
-    let none = length-none l (sym (counted (c .before)) ∙ c .if1 .taken) in
-    c .before .pre .1 ∙ ap listed (none ∙ ap (keep (vanishesAt (c .before .args .p .now))) (sym none))
-
 degree-requires : tie.Need-degree-requires Inv-loop μ-loop
 degree-requires c κs = tt
 
@@ -114,7 +105,7 @@ add-end c = omega (arith, end-inside c)
 slice-aggregate-front : tie.Need-slice-aggregate-front Inv-loop μ-loop
 slice-aggregate-front c =
     let d = c .before in
-    sym (length-take-le (end d) (p d) (omega (arith, end-inside d, d .before .before .pre .0 .0)))
+    sym (length-take-le (end d) (p d) (omega (arith, end-inside d, d .before .pre .0 .0)))
 
 loop-holds : tie.Need-loop-holds Inv-loop μ-loop
 unfolding keep
@@ -129,7 +120,7 @@ array-copy-out-r c = below c
 is-root-requires : tie.Need-is-root-requires Inv-loop μ-loop
 is-root-requires c κs =
     let d = c .before .before .before .before .before in
-    let pre = d .before .before .pre .0 in
+    let pre = d .before .pre .0 in
     (omega (arith, length-take-le (end d) (p d) (omega (arith, end-inside d, pre .0)), end-inside d), every-take small (end d) (p d) (pre .1))
 
 mul-values : tie.Need-mul-values Inv-loop μ-loop
@@ -157,12 +148,12 @@ loop-again c =
       ⊎-elim
           (λ w. rw (w .1, w .2, toZ-ofZ fits) (kept-yes (t turn) (from turn) (i turn) (inside turn) (below turn) before (is ∙ w .0 .taken)))
           (λ w. rw (w .1, w .2) (kept-no (t turn) (from turn) (i turn) (inside turn) before (is ∙ w .0 .left)))
-          (c .if2 .came),
+          (c .if1 .came),
     )
 
-returns-2 : tie.Need-returns-2 Inv-loop μ-loop
-returns-2 c =
-    let s = c .before .before .before .before .before .before in
+returns : tie.Need-returns Inv-loop μ-loop
+returns c =
+    let s = c .before .before .before .before .before in
     let e : c .before .loop .i ≡ found s .count = omega (arith, c .loop-test .left) in
     c .before .loop .inv .1 ∙ ap (λ n. listed (keep (vanishesAt (s .args .p .now)) (take n (found s .values)))) e
 
@@ -172,7 +163,6 @@ kept-spec =
     (tie.spec
     Inv-loop
     μ-loop
-    returns
     degree-requires
     add-end
     slice-aggregate-front
@@ -186,4 +176,4 @@ kept-spec =
     add-i
     loop-less
     loop-again
-    returns-2)
+    returns)
