@@ -43,7 +43,7 @@ use Rattle.algebra.specs.Polynomials.{isZero-add, isZero-mul-right, length-add,
 use Rattle.algebra.specs.Coefficients.{coeff-add, coeff-mul, coeff-take, coeff-drop, coeff-past-length, coeff-past-degree}
 use Rattle.algebra.specs.Coefficients.{mul-within}
 use Rattle.polynomials.specs.Content.{Below}
-use Rattle.polynomials.specs.Product.{product-size}
+use Rattle.products.specs.Product.{product-size}
 use Rattle.rules.specs.Limits.{rowLength, small, coefficientCount, columnCount}
 use Rattle.rules.specs.Rows.{Row, mapRow, coefficientsOf, combine, primitive, lowDegrees, cut}
 use Rattle.lists.specs.Everywhere.{All}

@@ -69,7 +69,7 @@ fn passes(g: &[i64], p: &[i64], h: &[i64], q: &[i64], most: usize) -> bool
 {
     let mut k = COEFFICIENTS;
     while k <= most {
-        if polynomials::product::combined_coefficient(g, p, h, q, k) != 0 {
+        if products::combined_coefficient(g, p, h, q, k) != 0 {
             return true;
         }
         k += 1;
@@ -100,7 +100,7 @@ fn put_combined(place: &mut [i64], g: &[i64], p: &[i64], h: &[i64], q: &[i64])
 {
     let mut k = 0;
     while k < place.len() {
-        place[k] = polynomials::product::combined_coefficient(g, p, h, q, k);
+        place[k] = products::combined_coefficient(g, p, h, q, k);
         k += 1;
     }
 }
@@ -117,8 +117,8 @@ fn put_low(place: &mut [i64], g: &[i64], p: &[i64], h: &[i64], q: &[i64]) -> boo
 {
     let most = top(g, p, h, q);
     if most < COEFFICIENTS {
-        polynomials::product::add_product(place, g, p);
-        polynomials::product::add_product(place, h, q);
+        products::add_product(place, g, p);
+        products::add_product(place, h, q);
         return false;
     }
     if passes(g, p, h, q, most) {

@@ -42,7 +42,7 @@ fn divides_sum(d: i64, g: &[i64], p: &[i64], h: &[i64], q: &[i64]) -> bool
 {
     let mut k = 0;
     while k < PRODUCT {
-        let a = polynomials::product::combined_coefficient(g, p, h, q, k);
+        let a = products::combined_coefficient(g, p, h, q, k);
         if integers::remainder(a, d) != 0 {
             return false;
         }

@@ -1,3 +1,2 @@
 pub mod Content
-pub mod Product
 pub mod Shift

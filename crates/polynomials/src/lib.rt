@@ -2,5 +2,4 @@
 // equation with a definition of `algebra` or `rules`.
 pub mod content;
 pub mod lengths;
-pub mod product;
 pub mod shift;

@@ -14,7 +14,7 @@ use Rattle.algebra.specs.Integers.{natAbs-+ℤ}
 use Rattle.algebra.specs.Polynomials.{Polynomial, coeff, add, mul, isZero, isZeroℤ, isZero-coeff}
 use Rattle.algebra.specs.Coefficients.{coeff-add}
 use Rattle.polynomials.specs.Content.{Below}
-use Rattle.polynomials.specs.Product.{product-size}
+use Rattle.products.specs.Product.{product-size}
 use Rattle.rules.specs.Limits.{bound, coefficientCount}
 use Rattle.combinations.specs.Combination.{lowPart, length-lowPart, lowPart-at, high-free}
 use Rattle.combinations.proofs.put_low.Statement.{statement}

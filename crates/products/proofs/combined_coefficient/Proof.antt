@@ -1,4 +1,4 @@
--- `polynomials::product::combined_coefficient` meets its contract. Each product's coefficient has a size of at most 16 C², so the sum
+-- `products::combined_coefficient` meets its contract. Each product's coefficient has a size of at most 16 C², so the sum
 -- of the two is in the range of an i64.
 -- Assumes nothing.
 use mathlib.Core.Path.{_≡_, sym, _∙_, ap₂}
@@ -16,9 +16,9 @@ use Rattle.algebra.specs.Polynomials.{mul}
 use Rattle.algebra.specs.Coefficients.{coeff-add}
 use Rattle.rules.specs.Limits.{bound}
 use Rattle.integers.specs.Ranges.{sfits-size}
 use Rattle.polynomials.specs.Content.{read-back}
-use Rattle.polynomials.proofs.product.combined_coefficient.Statement.{statement}
-use Rattle.polynomials.proofs.product.combined_coefficient.Tie as tie
+use Rattle.products.proofs.combined_coefficient.Statement.{statement}
+use Rattle.products.proofs.combined_coefficient.Tie as tie
 
 -- the two coefficients and their sum
 module _ (c : tie.After-product-coefficient2) where

@@ -1,4 +1,4 @@
--- `polynomials::product::plus_multiple` meets its contract.
+-- `products::plus_multiple` meets its contract.
 -- Assumes nothing.
 use mathlib.Core.Path.{_≡_, refl, ap₂}
 use Prim.Native.Nat.{_*_, _≤_}
@@ -12,8 +12,8 @@ use mir.Facts.{toZ-ofZ}
 use Rattle.algebra.specs.Integers.{natAbs-+ℤ, natAbs-*ℤ}
 use Rattle.integers.specs.Ranges.{sfits-size}
 use Rattle.rules.specs.Limits.{bound, small}
-use Rattle.polynomials.proofs.product.plus_multiple.Statement.{statement}
-use Rattle.polynomials.proofs.product.plus_multiple.Tie as tie
+use Rattle.products.proofs.plus_multiple.Statement.{statement}
+use Rattle.products.proofs.plus_multiple.Tie as tie
 
 module _ (c : tie.Start) where
   abbrev x : ℤ

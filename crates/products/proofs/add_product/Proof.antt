@@ -1,4 +1,4 @@
--- `polynomials::product::add_product` meets its contract. The loop's invariant: what is left of the product, added behind the first i numbers,
+-- `products::add_product` meets its contract. The loop's invariant: what is left of the product, added behind the first i numbers,
 -- makes the sum; and the numbers have grown by C² at most a turn.
 -- Assumes nothing.
 use mathlib.Core.Path.{_≡_, refl, sym, _∙_, ap, ap₂, subst}
@@ -18,10 +18,10 @@ use Rattle.lists.specs.Tests.{every, every-getD}
 use Rattle.lists.specs.Taken.{drop-next}
 use Rattle.algebra.specs.Polynomials.{Polynomial, add, scale, mul, add-nil}
 use Rattle.rules.specs.Limits.{bound, small, coefficientCount}
 use Rattle.polynomials.specs.Content.{Below, read-back}
-use Rattle.polynomials.specs.Product.{product-next, added-part, below-part, below-next}
-use Rattle.polynomials.proofs.product.add_product.Statement.{statement}
-use Rattle.polynomials.proofs.product.add_product.Tie as tie
+use Rattle.products.specs.Product.{product-next, added-part, below-part, below-next}
+use Rattle.products.proofs.add_product.Statement.{statement}
+use Rattle.products.proofs.add_product.Tie as tie
 
 abbrev Inv-loop : tie.InvT-loop
 Inv-loop place₀ g p i₀ place i =

@@ -1,4 +1,4 @@
--- `polynomials::product::product_coefficient` meets its contract. The loop's invariant: sum is the sum of the terms below i, and i lies
+-- `products::product_coefficient` meets its contract. The loop's invariant: sum is the sum of the terms below i, and i lies
 -- where p still has coefficient k - i. The terms before the first i and from end on are zero.
 -- Assumes nothing.
 use mathlib.Core.Path.{_≡_, sym, _∙_, ap, ap₂}
@@ -19,10 +19,10 @@ use Rattle.algebra.specs.Sums.{sumBelow, sumBelow-last}
 use Rattle.algebra.specs.Polynomials.{coeff}
 use Rattle.integers.specs.Ranges.{sfits-size}
 use Rattle.rules.specs.Limits.{coefficientCount}
 use Rattle.polynomials.specs.Content.{read-back}
-use Rattle.polynomials.specs.Product.{term, sum-none, sum-all, term-size, sum-size, product-size}
-use Rattle.polynomials.proofs.product.product_coefficient.Statement.{statement}
-use Rattle.polynomials.proofs.product.product_coefficient.Tie as tie
+use Rattle.products.specs.Product.{term, sum-none, sum-all, term-size, sum-size, product-size}
+use Rattle.products.proofs.product_coefficient.Statement.{statement}
+use Rattle.products.proofs.product_coefficient.Tie as tie
 
 abbrev Inv-loop : tie.InvT-loop
 Inv-loop g p k end i₀ sum₀ i sum =

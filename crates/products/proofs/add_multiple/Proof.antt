@@ -1,12 +1,12 @@
--- `polynomials::product::add_multiple` meets its contract.
+-- `products::add_multiple` meets its contract.
 -- Assumes nothing.
 use mathlib.Core.Path.{_∙_, ap}
 use borrow.Author.Needs.{needs}
 use denote.Ref.{now}
 use mir.Facts.{toZ-ofZ}
 use Rattle.algebra.specs.Polynomials.{add, scale}
-use Rattle.polynomials.proofs.product.add_multiple.Statement.{statement}
-use Rattle.polynomials.proofs.product.add_multiple.Tie as tie
+use Rattle.products.proofs.add_multiple.Statement.{statement}
+use Rattle.products.proofs.add_multiple.Tie as tie
 
 add-four-requires : tie.Need-add-four-requires
 add-four-requires c κs = search needs

@@ -1,4 +1,4 @@
--- `polynomials::product::add_four` meets its contract: each turn writes one number more, and leaves those behind it as they were.
+-- `products::add_four` meets its contract: each turn writes one number more, and leaves those behind it as they were.
 -- Assumes nothing.
 use mathlib.Core.Path.{_≡_, refl, _∙_}
 use mathlib.Core.List.{List}
@@ -12,10 +12,10 @@ use mir.Val.{ofZ, toZ}
 use mir.Facts.{toZ-ofZ}
 use Rattle.algebra.specs.Polynomials.{add, scale, length-add, length-scale}
 use Rattle.lists.specs.Taken.{Overwritten, overwritten-next, overwritten-all, suffix-next}
 use Rattle.polynomials.specs.Content.{read-back}
-use Rattle.polynomials.specs.Product.{multiple-fits, multiple-is}
-use Rattle.polynomials.proofs.product.add_four.Statement.{statement}
-use Rattle.polynomials.proofs.product.add_four.Tie as tie
+use Rattle.products.specs.Product.{multiple-fits, multiple-is}
+use Rattle.products.proofs.add_four.Statement.{statement}
+use Rattle.products.proofs.add_four.Tie as tie
 
 -- what is to be written
 module _ (c : tie.Start) where

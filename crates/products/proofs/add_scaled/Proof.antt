@@ -1,4 +1,4 @@
--- `polynomials::product::add_scaled` meets its contract. The loop's invariant: the first k numbers are the sums and the others are as they
+-- `products::add_scaled` meets its contract. The loop's invariant: the first k numbers are the sums and the others are as they
 -- were.
 -- Assumes nothing.
 use mathlib.Core.Path.{_≡_, refl, _∙_}
@@ -13,11 +13,11 @@ use mir.Syntax.{w64}
 use mir.Val.{ofZ, toZ}
 use mir.Facts.{toZ-ofZ}
 use Rattle.algebra.specs.Polynomials.{add, scale, length-add, length-scale}
 use Rattle.polynomials.specs.Content.{read-back}
-use Rattle.polynomials.specs.Product.{multiple-fits, multiple-is}
+use Rattle.products.specs.Product.{multiple-fits, multiple-is}
 use Rattle.lists.specs.Taken.{Overwritten, overwritten-next, overwritten-all, suffix-next}
-use Rattle.polynomials.proofs.product.add_scaled.Statement.{statement}
-use Rattle.polynomials.proofs.product.add_scaled.Tie as tie
+use Rattle.products.proofs.add_scaled.Statement.{statement}
+use Rattle.products.proofs.add_scaled.Tie as tie
 
 abbrev Inv-loop : tie.InvT-loop
 Inv-loop place₀ a p k₀ place k =
