@@ -2,6 +2,7 @@
 --
 -- Main definitions
 --   term g p k i       g's coefficient i times p's coefficient k - i
+--   unrolled           how many numbers a multiple is added to without a loop
 --
 -- Main statements
 --   sum-none           the terms that p is too short for are zero
@@ -65,6 +66,9 @@ module _ (g p : Polynomial) (small-g : T (every small g)) (small-p : T (every sm
   product-size n h = rw (coeff-mul g p k) (sum-size n (suc k) h)
 
 -- ---- a product that is added to numbers
+
+abbrev pub unrolled : ℕ
+unrolled = 4
 
 -- The multiple of p by g's coefficient a, and what is left of the product behind the first number.
 pub product-next : (r : Polynomial) (a : ℤ) (g p : Polynomial) → 0 < length r

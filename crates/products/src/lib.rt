@@ -8,6 +8,7 @@ ghost use Rattle.algebra.specs.Polynomials.{coeff, add, scale, mul};
 ghost use Rattle.rules.specs.Limits.{bound, small, coefficientCount};
 ghost use Rattle.lists.specs.Tests.{every};
 ghost use Rattle.polynomials.specs.Content.{Below};
+ghost use Rattle.products.specs.Product.{unrolled};
 
 // Coefficient k of g·p. Term i counts where i ≤ k, i < g.len() and k - i < p.len(): there are at most as many as a polynomial has coefficients.
 pub fn product_coefficient(g: &[i64], p: &[i64], k: usize) -> i64
@@ -56,11 +57,14 @@ fn add_scaled(place: &mut [i64], a: i64, p: &[i64])
     }
 }
 
+// How many numbers are added without a loop: `unrolled` of `specs/Product.antt`.
+const UNROLLED: usize = 4;
+
 // The same for four numbers, most often the case, one after the other: a loop would be worked for two at a time, and then wait for the sums
 // of the turn before.
 fn add_four(place: &mut [i64], a: i64, p: &[i64])
     requires { ⌜
-        (length (now place) ≡ 4) × (length (now p) ≡ 4) × Below (32 * (bound * bound)) (now place) × T (small a)
+        (length (now place) ≡ unrolled) × (length (now p) ≡ unrolled) × Below (32 * (bound * bound)) (now place) × T (small a)
         × T (every small (now p)) ⌝ }
     ensures { λ _. ⌜ now (place .exit) ≡ add (now (place .entry)) (scale a (now (p .entry))) ⌝ }
 {
@@ -70,11 +74,12 @@ fn add_four(place: &mut [i64], a: i64, p: &[i64])
     place[3] = plus_multiple(place[3], a, p[3]);
 }
 
+// The same by whichever of both fits the length.
 fn add_multiple(place: &mut [i64], a: i64, p: &[i64])
     requires { ⌜ (length (now place) ≡ length (now p)) × Below (32 * (bound * bound)) (now place) × T (small a) × T (every small (now p)) ⌝ }
     ensures { λ _. ⌜ now (place .exit) ≡ add (now (place .entry)) (scale a (now (p .entry))) ⌝ }
 {
-    if p.len() == 4 {
+    if p.len() == UNROLLED {
         add_four(place, a, p);
     } else {
         add_scaled(place, a, p);

@@ -13,7 +13,7 @@ use mir.Facts.{toZ-ofZ}
 use Rattle.algebra.specs.Polynomials.{add, scale, length-add, length-scale}
 use Rattle.lists.specs.Taken.{Overwritten, overwritten-next, overwritten-all, suffix-next}
 use Rattle.polynomials.specs.Content.{read-back}
-use Rattle.products.specs.Product.{multiple-fits, multiple-is}
+use Rattle.products.specs.Product.{unrolled, multiple-fits, multiple-is}
 use Rattle.products.proofs.add_four.Statement.{statement}
 use Rattle.products.proofs.add_four.Tie as tie
 
@@ -28,10 +28,10 @@ module _ (c : tie.Start) where
   abbrev sums : List ℤ
   sums = add place (scale (c .args .a) p)
 
-  sums-long : length sums ≡ 4
+  sums-long : length sums ≡ unrolled
   sums-long = rw (length-add, length-scale) (omega (arith, c .pre .0, c .pre .1))
 
-  none : Overwritten 4 sums place 0
+  none : Overwritten unrolled sums place 0
   none = record { within = omega arith; long = c .pre .0; front = refl }
 
 -- number one
@@ -45,7 +45,7 @@ module _ (c : tie.After-plus-multiple) where
   kept-one : drop 1 after-one ≡ drop 1 (place start)
   kept-one = suffix-next (place start) (place start) 0 _ (refl)
 
-  written-one : Overwritten 4 (sums start) after-one 1
+  written-one : Overwritten unrolled (sums start) after-one 1
   written-one =
       overwritten-next (none start) (sums-long start) (pos 0) (omega arith)
       (read-back _ (c .plus-multiple .ok)
@@ -64,7 +64,7 @@ module _ (c : tie.After-plus-multiple2) where
   kept-two : drop 2 after-two ≡ drop 2 (place start2)
   kept-two = suffix-next (after-one (c .before .before .before)) (place start2) 1 _ (kept-one (c .before .before .before))
 
-  written-two : Overwritten 4 (sums start2) after-two 2
+  written-two : Overwritten unrolled (sums start2) after-two 2
   written-two =
       overwritten-next (written-one (c .before .before .before)) (sums-long start2) (pos 0) (omega arith)
       (read-back _ (c .plus-multiple2 .ok)
@@ -83,7 +83,7 @@ module _ (c : tie.After-plus-multiple3) where
   kept-three : drop 3 after-three ≡ drop 3 (place start3)
   kept-three = suffix-next (after-two (c .before .before .before)) (place start3) 2 _ (kept-two (c .before .before .before))
 
-  written-three : Overwritten 4 (sums start3) after-three 3
+  written-three : Overwritten unrolled (sums start3) after-three 3
   written-three =
       overwritten-next (written-two (c .before .before .before)) (sums-long start3) (pos 0) (omega arith)
       (read-back _ (c .plus-multiple3 .ok)
@@ -102,7 +102,7 @@ module _ (c : tie.After-plus-multiple4) where
   kept-four : drop 4 after-four ≡ drop 4 (place start4)
   kept-four = suffix-next (after-three (c .before .before .before)) (place start4) 3 _ (kept-three (c .before .before .before))
 
-  written-four : Overwritten 4 (sums start4) after-four 4
+  written-four : Overwritten unrolled (sums start4) after-four 4
   written-four =
       overwritten-next (written-three (c .before .before .before)) (sums-long start4) (pos 0) (omega arith)
       (read-back _ (c .plus-multiple4 .ok)
