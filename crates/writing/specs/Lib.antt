@@ -1,4 +1,5 @@
 pub mod DigitPairs
+pub mod LineLengths
 pub mod SheetBytes
 pub mod Writer
 pub mod WriterChecks

@@ -7,7 +7,7 @@
 --   equationBytes, relationBytes        the line of an equation, and that of a relation
 --   sizesBytes, orderBytes, sideBytes   the line of the sizes, that of the order, and that of a right side
 --   sidesBytes equations count   the fifth section, for so many equations and relations
---   sheetBytes equations count   a sheet of so many equations and relations
+--   sheetBytes written equations count   a sheet of so many equations and relations, whose lines take so many bytes
 --   numberRoom, sizesRoom, termRoom, blockRoom, termsRoom, equationRoom, relationRoom, sideRoom   the same parts, with that room
 use Prim.Native.Nat.{ℕ, _+_, _*_}
 use Rattle.rules.specs.Limits.{coefficientCount, columnCount, blockCount}
@@ -55,9 +55,8 @@ abbrev pub sidesBytes : ℕ → ℕ → ℕ
 sidesBytes equations count = countBytes + (equations * sideBytes + count * sideBytes)
 
 -- the sizes, the number of equations and the equations, the number of relations and the relations, the order, and the right sides
-abbrev pub sheetBytes : ℕ → ℕ → ℕ
-sheetBytes equations count =
-    sizesBytes + countBytes + countBytes + orderBytes + equations * equationBytes + count * relationBytes + sidesBytes equations count
+abbrev pub sheetBytes : ℕ → ℕ → ℕ → ℕ
+sheetBytes written equations count = sizesBytes + countBytes + countBytes + orderBytes + written + sidesBytes equations count
 
 -- a space, a minus and twenty digits
 abbrev pub numberRoom : ℕ

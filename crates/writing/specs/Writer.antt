@@ -21,7 +21,7 @@
 --   term-count        the number of terms of a row is that of its nonzero polynomials
 --   unused            what passes the check of unused places holds no term there
 --   equation-line, relation-line, order-line, side-line, count-line, sizes-line   the lines of a sheet, as they are written
---   side-place, side-early, side-at, side-get   where a record's right side stands
+--   record-place, record-early, side-at, side-get   where a record stands, and its right side
 --   sides-none, sides-some   the fifth section, as it is written
 --   sheet-bytes       the bytes of a sheet, section by section
 use mathlib.Core.Path.{_≡_, refl, sym, _∙_, ap, ap₂, subst, fun-ext}
@@ -700,16 +700,15 @@ unfolding sidesIn
 length-sidesIn skip n l =
     length-map (parts (skip + coefficientCount) n l) (sideIn skip) ∙ parts-length (skip + coefficientCount) n l
 
--- Where record i and its side stand in the store.
-pub side-place : (skip n : ℕ) (l : List ℤ) (i : ℕ) → i < n → n * (skip + coefficientCount) ≤ length l
-    → i * (skip + coefficientCount) + skip + coefficientCount ≤ length l
-side-place skip n l i h fits =
-    omega (arith, fits, mul-le-mul-right {m = suc i} {n = n} (skip + coefficientCount) h, suc-mul i (skip + coefficientCount))
+-- Where record i stands in the store, and so many of its numbers behind its first `skip` ones.
+module _ (skip width : ℕ) where
+  pub record-place : (n : ℕ) (l : List ℤ) (i : ℕ) → i < n → n * (skip + width) ≤ length l → i * (skip + width) + skip + width ≤ length l
+  record-place n l i h fits = omega (arith, fits, mul-le-mul-right {m = suc i} {n = n} (skip + width) h, suc-mul i (skip + width))
 
-pub side-early : (skip n i : ℕ) → i < n → n ≤ mostRelations → skip ≤ rowLength
-    → i * (skip + coefficientCount) ≤ mostRelations * (rowLength + coefficientCount)
-side-early skip n i h few low =
-    mul-le-mul {n₁ = i} {m₁ = skip + coefficientCount} {n₂ = mostRelations} {m₂ = rowLength + coefficientCount} (omega arith) (omega arith)
+  pub record-early : (n i : ℕ) → i < n → n ≤ mostRelations → skip ≤ rowLength → width ≤ rowLength
+      → i * (skip + width) ≤ mostRelations * (rowLength + rowLength)
+  record-early n i h few low narrow =
+      mul-le-mul {n₁ = i} {m₁ = skip + width} {n₂ = mostRelations} {m₂ = rowLength + rowLength} (omega arith) (omega arith)
 
 pub side-at : (skip : ℕ) (l : List ℤ) (i : ℕ)
     → take (i * (skip + coefficientCount) + skip + coefficientCount - (i * (skip + coefficientCount) + skip))

@@ -14,7 +14,7 @@ ghost use mathlib.Core.Path.{_≡_};
 ghost use mathlib.Core.List.{[], _∷_, map};
 ghost use Prim.Native.Nat.{ℕ, _+_, _*_, _%_, _^_, _≤_, _<_};
 ghost use Rattle.rules.specs.Numbers.{decimal, line, lines};
-ghost use lib.IntN.{pos, natAbs};
+ghost use lib.IntN.{ℤ, pos, natAbs};
 ghost use lib.Dec.{T};
 ghost use lib.ListN.{length, take, drop};
 ghost use lib.Seq.{sets};
@@ -29,6 +29,7 @@ ghost use Rattle.writing.specs.SheetBytes.{sizesBytes, orderBytes, sheet
 ghost use Rattle.writing.specs.SheetBytes.{equationRoom, relationRoom, sizesRoom, sideBytes, sidesBytes, sideRoom};
 ghost use Rattle.writing.specs.Writer.{Put, digitsOf, spaced, SmallParts, Lengths, termAt, numbersOf, nonzeroCount};
 ghost use Rattle.writing.specs.Writer.{Unused, UnusedParts, NoTerms, sheetGiven, sidesIn, sidesGiven};
+ghost use Rattle.writing.specs.LineLengths.{mostInTerm, mostInTerms, mostInRecords, linesLength};
 ghost use Rattle.writing.specs.DigitPairs.{pairOf, fourOf, eightOf, Ends};
 ghost use Rattle.writing.specs.WriterChecks.{Checked, callOf};
 ghost use Rattle.rules.specs.SheetCalls.{checkWrite, writeCall};
@@ -38,20 +39,21 @@ ghost use Rattle.stores.specs.Validity.{sizesOf};
 // The bytes of a space and the longest number within C.
 const NUMBER_BYTES: usize = 11;
 
-// The bytes of the longest term, of the longest line of a right side, of the longest line of an equation and of a relation, each with that
-// of its right side, and of the other lines of a sheet together, as in `specs/SheetBytes.antt`: a space and a count take at most 21.
-const TERM_BYTES: usize = NUMBER_BYTES + 2 * 21 + COEFFICIENTS * NUMBER_BYTES;
-
+// The bytes of the longest line of a right side, and of the lines of a sheet but those of right sides, equations and relations together, as
+// in `specs/SheetBytes.antt`: a space and a count take at most 21.
 const SIDE_BYTES: usize = 21 + COEFFICIENTS * NUMBER_BYTES;
-
-const EQUATION_BYTES: usize = 21 + POLYNOMIALS * TERM_BYTES + SIDE_BYTES;
-
-const RELATION_BYTES: usize = NUMBER_BYTES + EQUATION_BYTES;
 
 const LINES_BYTES: usize = 45 + 3 * 21 + 105;
 
 // Most polynomials have no more coefficients.
 const FEW: usize = 4;
+
+// The numbers of a term with so few coefficients, of the longest term, and of all terms of the longest line.
+const SHORT_TERM: usize = 3 + FEW;
+
+const LONG_TERM: usize = 3 + COEFFICIENTS;
+
+const LONG_TERMS: usize = POLYNOMIALS * LONG_TERM;
 
 pub fn put_byte(bytes: &mut [u8], at: usize, b: u8) -> usize
     requires { ⌜ at + 1 < 2 ^ 64 ⌝ }
@@ -690,7 +692,8 @@ fn put_sheet(
     ensures { λ r. ⌜
         Put (now (bytes .entry)) 0
         (writeSheet (sheetGiven (sizesOf sizes) count (now (columns .entry)) (now (rows .entry)) (now (relations .entry))))
-        (sheetBytes (equations (sizesOf sizes)) count)
+        (sheetBytes (linesLength (sizesOf sizes .l) (equations (sizesOf sizes)) count (now (rows .entry)) (now (relations .entry)))
+        (equations (sizesOf sizes)) count)
         (now (bytes .exit)) r ⌝ }
 {
     let equations = sizes.equations;
@@ -712,9 +715,76 @@ pub struct WriteResult {
     pub length: usize,
 }
 
-// The sheet of a system that passes the checks; refusal 1 where it is longer than the byte store (SCOPE 4.54). Where
-// the longest sheet of these sizes fits, nothing has to be counted first. No public entry point: the caller knows that
-// the checks pass.
+// The numbers of a term with this polynomial, at most.
+fn most_in_term(p: &[i64]) -> usize
+    requires { ⌜ length (now p) ≡ coefficientCount ⌝ }
+    ensures { λ r. ⌜ r ≡ mostInTerm (now (p .entry)) ⌝ }
+{
+    if polynomials::content::all_zero(&p[FEW..]) {
+        return SHORT_TERM;
+    }
+    LONG_TERM
+}
+
+// Those of the terms of a row, at most.
+fn most_in_terms(row: &[i64]) -> usize
+    requires { ⌜ length (now row) ≡ rowLength ⌝ }
+    ensures { λ r. ⌜ r ≡ mostInTerms (now (row .entry)) ⌝ }
+{
+    let mut numbers = 0;
+    let mut i = 0;
+    while i < POLYNOMIALS {
+        let from = i * COEFFICIENTS;
+        let to = from + COEFFICIENTS;
+        numbers += most_in_term(&row[from..to]);
+        i += 1;
+    }
+    numbers
+}
+
+// Those of the first records of a store, each row behind so many numbers of its record.
+fn most_in_records(store: &[i64], skip: usize, records: usize) -> usize
+    requires { ⌜ (skip ≤ 1) × (records ≤ mostRelations) × (records * (skip + rowLength) ≤ length (now store)) ⌝ }
+    ensures { λ r. ⌜ r ≡ mostInRecords skip records (now (store .entry)) ⌝ }
+{
+    let mut numbers = 0;
+    let mut i = 0;
+    while i < records {
+        let from = i * (skip + ROW) + skip;
+        let to = from + ROW;
+        numbers += most_in_terms(&store[from..to]);
+        i += 1;
+    }
+    numbers
+}
+
+// Is it plain without counting that the sheet of these rows and relations fits into so many bytes? The longest sheet of its sizes may, or the
+// longest one whose polynomials have as many coefficients: each number takes at most 11 bytes.
+fn plainly_fits(
+    rows: &[i64],
+    equations: usize,
+    relations: &[i64],
+    count: usize,
+    room: usize,
+) -> bool
+    requires { ⌜ (equations ≤ mostEquations) × (equations * rowLength ≤ length (now rows)) × SmallParts rowLength equations (now rows) ⌝ }
+    requires { ⌜ (count ≤ mostRelations) × (count * relationLength ≤ length (now relations))
+        × SmallParts relationLength count (now relations) ⌝ }
+    ensures { λ r. ⌜
+        (T r → (l : ℤ) → natAbs l ≤ blockBound
+        → sheetBytes (linesLength l equations count (now (rows .entry)) (now (relations .entry))) equations count ≤ room) ⌝ }
+{
+    let others = LINES_BYTES + (equations + count) * SIDE_BYTES;
+    let most = equations + 2 * count;
+    if others + NUMBER_BYTES * (most + (equations + count) * LONG_TERMS) <= room {
+        return true;
+    }
+    let numbers = most_in_records(rows, 0, equations) + most_in_records(relations, 1, count);
+    others + NUMBER_BYTES * (most + numbers) <= room
+}
+
+// The sheet of a system that passes the checks; refusal 1 where it is longer than the byte store (SCOPE 4.54). It is counted first where it is
+// not plain that it fits. No public entry point: the caller knows that the checks pass.
 pub fn write_checked(
     rows: &[i64],
     relations: &[i64],
@@ -731,8 +801,7 @@ pub fn write_checked(
     let equations = sizes.equations;
     let n = checks::order_length(order);
     let all = &order[..];
-    let longest = LINES_BYTES + equations * EQUATION_BYTES + count * RELATION_BYTES;
-    if longest <= bytes.len() {
+    if plainly_fits(rows, equations, relations, count, bytes.len()) {
         let length = put_sheet(bytes, rows, relations, sizes, count, &all[..n]);
         return WriteResult { refusal: 0, length };
     }

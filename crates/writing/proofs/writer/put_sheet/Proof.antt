@@ -1,8 +1,9 @@
 -- `writing::writer::put_sheet` meets its contract: the seven parts of a sheet, one after the other.
 -- Assumes nothing.
-use mathlib.Core.Path.{_≡_, _∙_, ap₂, subst}
+use mathlib.Core.Path.{_≡_, _∙_, ap, ap₂, subst}
 use mathlib.Core.List.{List, [], _∷_, _++_, map}
 use Prim.Native.Nat.{ℕ, suc, _+_, _≤_}
+use native.Mathlib.Nat.{le-refl}
 use native.Mathlib.Omega.{arith}
 use borrow.Author.Needs.{needs, sfits-of}
 use denote.Ref.{now}
@@ -15,7 +16,8 @@ use Rattle.rules.specs.Numbers.{line, lines}
 use Rattle.rules.specs.Sheets.{equationNumbers, relationLine, orderLine, sideLines}
 use Rattle.rules.specs.Stores.{span, equations, rowsOf, relationsOf}
 use Rattle.stores.specs.Validity.{sizesOf}
-use Rattle.writing.specs.Writer.{put-same, put-then, put-wide, small-block, UnusedParts, sidesGiven, sheet-bytes}
+use Rattle.writing.specs.LineLengths.{linesLength}
+use Rattle.writing.specs.Writer.{put-same, put-then, put-few, put-wide, small-block, UnusedParts, sidesGiven, sheet-bytes}
 use Rattle.writing.proofs.writer.put_sheet.Statement.{statement}
 use Rattle.writing.proofs.writer.put_sheet.Tie as tie
 
@@ -140,7 +142,7 @@ same-length : tie.Need-same-length
 same-length c = search needs
 
 returns : tie.Need-returns
-unfolding equations sizesOf
+unfolding equations sizesOf linesLength
 returns c =
     let after-order = c .before .before .before .before .before .before in
     let after-relations = after-order .before .before .before .before in
@@ -157,18 +159,19 @@ returns c =
     ++ (line (pos (args .count) ∷ []) ++ (lines (map (relationLine l) (relationsOf (args .count) (now (args .relations))))
     ++ line (orderLine (now (args .columns))))))) in
     let sides = lines (sideLines (sidesGiven e (args .count) (now (args .rows)) (now (args .relations)))) in
+    let lengths = ap (λ l. linesLength l e (args .count) (now (args .rows)) (now (args .relations))) (back-l told) in
     put-wide
     (put-same
     (put-then
     (put-then (after-sizes .put-sizes .ensures)
     (put-then (after-number .put-count .ensures)
-    (put-then (after-rows .put-equations .ensures)
+    (put-then (put-few (after-rows .put-equations .ensures) (le-refl _))
     (put-then (after-count .put-count2 .ensures)
-    (put-then (after-relations .put-relations .ensures) (after-order .put-order .ensures))))))
+    (put-then (put-few (after-relations .put-relations .ensures) (le-refl _)) (after-order .put-order .ensures))))))
     (c .before .before .put-fifth .ensures))
     (ap₂ (λ l t. bytes l t ++ sides) (back-l told) (back-t told)
     ∙ sheet-bytes (sizesOf (args .sizes)) (args .count) (now (args .columns)) (now (args .rows)) (now (args .relations))))
-    (omega arith)
+    (omega (arith, lengths))
 
 pub put-sheet-spec : {M : Type 1} → statement M
 put-sheet-spec =

@@ -15,7 +15,7 @@ use Rattle.rules.specs.Numbers.{line, lines}
 use Rattle.rules.specs.Sheets.{sideLine}
 use Rattle.writing.specs.SheetBytes.{sideBytes}
 use Rattle.writing.specs.Writer.{Going, going-first, put-same, lines-next, lines-last}
-use Rattle.writing.specs.Writer.{sideIn, sidesIn, side-place, side-early, side-at}
+use Rattle.writing.specs.Writer.{sideIn, sidesIn, record-place, record-early, side-at}
 use Rattle.writing.proofs.writer.put_sides.Statement.{statement}
 use Rattle.writing.proofs.writer.put_sides.Tie as tie
 
@@ -45,11 +45,11 @@ module _ (c : tie.In-loop Inv-loop μ-loop) where
   abbrev i : ℕ
   i = c .before .loop .i
 
-  early : i * (skip + coefficientCount) ≤ mostRelations * (rowLength + coefficientCount)
-  early = side-early skip records i (c .loop-test .taken) (start .pre .1) (start .pre .0)
+  early : i * (skip + coefficientCount) ≤ mostRelations * (rowLength + rowLength)
+  early = record-early skip coefficientCount records i (c .loop-test .taken) (start .pre .1) (start .pre .0) (omega arith)
 
   place : i * (skip + coefficientCount) + skip + coefficientCount ≤ length store
-  place = side-place skip records store i (c .loop-test .taken) (start .pre .2)
+  place = record-place skip coefficientCount records store i (c .loop-test .taken) (start .pre .2)
 
   part : T (every small (sideIn skip (take (skip + coefficientCount) (drop (i * (skip + coefficientCount)) store))))
   part =

@@ -14,7 +14,7 @@ use lib.Seq.{take-all}
 use Rattle.algebra.specs.Polynomials.{Polynomial, isZero}
 use Rattle.lists.specs.Tests.{every, every-longer, every-false}
 use Rattle.rules.specs.Limits.{coefficientCount, rowLength, mostRelations}
-use Rattle.writing.specs.Writer.{sidesIn, length-sidesIn, side-place, side-early, side-at, side-get}
+use Rattle.writing.specs.Writer.{sidesIn, length-sidesIn, record-place, record-early, side-at, side-get}
 use Rattle.writing.proofs.writer.sides_zero.Statement.{statement}
 use Rattle.writing.proofs.writer.sides_zero.Tie as tie
 
@@ -41,11 +41,11 @@ module _ (c : tie.In-loop Inv-loop μ-loop) where
   abbrev i : ℕ
   i = c .before .loop .i
 
-  early : i * (skip + coefficientCount) ≤ mostRelations * (rowLength + coefficientCount)
-  early = side-early skip records i (c .loop-test .taken) (start .pre .1) (start .pre .0)
+  early : i * (skip + coefficientCount) ≤ mostRelations * (rowLength + rowLength)
+  early = record-early skip coefficientCount records i (c .loop-test .taken) (start .pre .1) (start .pre .0) (omega arith)
 
   place : i * (skip + coefficientCount) + skip + coefficientCount ≤ length store
-  place = side-place skip records store i (c .loop-test .taken) (start .pre .2)
+  place = record-place skip coefficientCount records store i (c .loop-test .taken) (start .pre .2)
 
   abbrev sides : List Polynomial
   sides = sidesIn skip records store

@@ -1,4 +1,4 @@
--- `writing::writer::write_checked` meets its contract. Where the longest sheet would not fit, a first call of `put_sheet` only
+-- `writing::writer::write_checked` meets its contract. Where it is not plain that the sheet fits, a first call of `put_sheet` only
 -- counts. The call that stores has room for all bytes.
 -- Assumes nothing.
 use mathlib.Core.Path.{_≡_, refl, sym, _∙_, ap, ap₂}
@@ -17,6 +17,7 @@ use Rattle.rules.specs.Stores.{Sizes, equations}
 use Rattle.stores.specs.Validity.{sizesOf}
 use Rattle.writing.specs.Writer.{Put, sheetGiven}
 use Rattle.lists.specs.Pasted.{sets-out}
+use Rattle.lists.specs.Tests.{true-T}
 use Rattle.writing.specs.WriterChecks.{Checked, checked, sheet-given, given-few}
 use Rattle.writing.specs.WriterChecks.{call-checked, written-short, written-whole}
 use borrow.Author.Needs.{needs}
@@ -90,7 +91,7 @@ module _ (c : tie.After-order-length) where
 -- what the call that counts tells
 module _ (c : tie.After-put-sheet2) where
   abbrev given : tie.After-order-length
-  given = c .before .before .before .before .before
+  given = c .before .before .before .before .before .before
 
   kept : (c .put-sheet2 .last .0 ++ store (start given)) ≡ store (start given)
   kept = ap (λ l. l ++ store (start given)) (c .put-sheet2 .ensures .stored ∙ sets-out _ 0 (bytes given) (omega arith))
@@ -104,27 +105,18 @@ order-length-requires c κs = search needs
 slice-aggregate-all : tie.Need-slice-aggregate-all
 slice-aggregate-all c = search needs
 
-mul-longest : tie.Need-mul-longest
+plainly-fits-requires : tie.Need-plainly-fits-requires
 unfolding equations sizesOf
-mul-longest c = omega (arith, facts (c .before) .few-rows)
-
-add-longest : tie.Need-add-longest
-unfolding equations sizesOf
-add-longest c = omega (arith, facts (c .before) .few-rows)
-
-mul-longest-2 : tie.Need-mul-longest-2
-mul-longest-2 c = omega (arith, facts (c .before) .few)
-
-add-longest-2 : tie.Need-add-longest-2
-unfolding equations sizesOf
-add-longest-2 c = omega (arith, facts (c .before) .few-rows, facts (c .before) .few)
+plainly-fits-requires c κs =
+    let ready = facts (c .before) in
+    ((ready .few-rows, ready .rows, ready .row-numbers), (ready .few, ready .relations, ready .relation-numbers))
 
 slice-aggregate-put-sheet : tie.Need-slice-aggregate-put-sheet
-slice-aggregate-put-sheet c = sym (size (c .before .before .before .before))
+slice-aggregate-put-sheet c = sym (size (c .before .before .before .before .before))
 
 put-sheet-requires : tie.Need-put-sheet-requires
 put-sheet-requires c κs =
-    let o = c .before .before .before .before in
+    let o = c .before .before .before .before .before in
     (facts o, omega (arith, size o, few o))
 
 same-length : tie.Need-same-length
@@ -134,8 +126,9 @@ returns : tie.Need-returns
 unfolding equations sizesOf
 returns c =
     let put = c .before .before .put-sheet .ensures in
-    let o = c .before .before .before .before .before .before .before in
-    let room = c .before .before .before .before .before .if1 .taken in
+    let tested = c .before .before .before .before .before .before in
+    let o = tested .before .before in
+    let room = tested .plainly-fits .ensures (true-T _ (c .before .before .before .before .before .if1 .taken)) (z (start o) .l) (facts o .blocks) in
     done o put refl (omega (arith, put .few, ap length (same o), room))
 
 slice-relend-prefix-put-sheet : tie.Need-slice-relend-prefix-put-sheet
@@ -145,11 +138,11 @@ slice-aggregate-put-sheet-2 : tie.Need-slice-aggregate-put-sheet-2
 slice-aggregate-put-sheet-2 c = search needs
 
 slice-aggregate-put-sheet-3 : tie.Need-slice-aggregate-put-sheet-3
-slice-aggregate-put-sheet-3 c = sym (size (c .before .before .before .before))
+slice-aggregate-put-sheet-3 c = sym (size (c .before .before .before .before .before))
 
 put-sheet-requires-2 : tie.Need-put-sheet-requires-2
 put-sheet-requires-2 c κs =
-    let o = c .before .before .before .before in
+    let o = c .before .before .before .before .before in
     (facts o, omega (arith, size o, few o))
 
 same-length-2 : tie.Need-same-length-2
@@ -188,10 +181,7 @@ write-checked-spec =
     (tie.spec
     order-length-requires
     slice-aggregate-all
-    mul-longest
-    add-longest
-    mul-longest-2
-    add-longest-2
+    plainly-fits-requires
     slice-aggregate-put-sheet
     put-sheet-requires
     same-length
