@@ -1,7 +1,6 @@
 -- The recurrence of a differential sheet is a short sheet: a byte store of a fixed length holds it.
 --
 -- Main definitions
---   writtenNumber         the bytes of a number within ±C with its separator, at most
 --   equationLength        the numbers of an equation's line, at most
 --   mostRecurrenceBytes   the bytes of a recurrence, at most
 --
@@ -11,24 +10,23 @@
 use Prim.Native.Nat.{ℕ, suc, _+_, _*_, _≤_}
 use native.Mathlib.Nat.{le-trans, le-refl, le-of-eq}
 use native.Mathlib.Omega.{arith}
-use mathlib.Core.Path.{_≡_, refl, sym, _∙_, ap, subst}
-use mathlib.Core.Bool.{Bool, true, false, cond}
+use mathlib.Core.Path.{_≡_, refl, _∙_, ap}
 use mathlib.Core.List.{List, [], _∷_, _++_, map, flatten, map-append}
 use lib.Dec.{T, leb, le→leb, lit≤}
 use lib.ListN.{length, length-append}
-use lib.IntN.{ℤ, pos, negsuc, natAbs, predℤ, _+ℤ_, _-ℤ_, -ℤ-one}
+use lib.IntN.{ℤ, pos, natAbs}
 use Rattle.algebra.specs.Order.{natAbs-≤-iff, ≤ℤ-trans}
-use Rattle.algebra.specs.Integers.{natAbs-+ℤ}
 use Rattle.algebra.specs.Polynomials.{Polynomial, isZero, isZero-replicate}
-use Rattle.lists.specs.Everywhere.{All, all-mono, all-both, all-take, append-all}
-use Rattle.lists.specs.Joined.{flatten-append}
+use Rattle.lists.specs.Everywhere.{All, all-mono, all-both}
+use Rattle.lists.specs.Joined.{flatten-append, length-flatten}
 use Rattle.lists.specs.Tests.{T-&&, every, cond-passed, all-of-every}
-use Rattle.rules.specs.Limits.{bound, small, coefficientCount, columnCount, blockCount, blockBound, mostEquations}
+use Rattle.lists.specs.Totals.{total}
+use Rattle.rules.specs.Limits.{bound, small, coefficientCount, columnCount, blockCount, blockBound, mostEquations, polynomialCount}
 use Rattle.lists.specs.Overwritten.{overwrite}
 use Rattle.rules.specs.Numbers.{decimal, line, lines, got, thenRead}
 use Rattle.rules.specs.SheetCalls.{written}
 use Rattle.rules.specs.Rows.{Block, Row, smallRow}
-use Rattle.rules.specs.Sheets.{Sheet, blankRow, Term, trim, blockTerms, termsFrom, termNumbers, equationNumbers, orderLine}
+use Rattle.rules.specs.Sheets.{Sheet, blankRow, termsFrom, equationNumbers, orderLine}
 use Rattle.rules.specs.Sheets.{sideLines, sidesOf, sheetLines, writeSheet}
 use Rattle.rules.specs.Stores.{Sizes, rowRight, Shaped, StoreRow, Valid}
 use Rattle.rules.specs.Layout.{SizeBounds, size-bounds}
@@ -40,117 +38,16 @@ use Rattle.differential.specs.Calls.{readRecurrence, writeRead, writeRec
 use Rattle.differential.specs.Terms.{FullPolynomial, FullBlock, addTerms-right}
 use Rattle.differential.specs.ValidRecurrence.{recurrence-valid}
 use Rattle.differential.specs.Longer.{differential-accepted}
-use Rattle.writing.specs.Writer.{decimal-length, trim-le, trim-take}
+use Rattle.number_texts.specs.TextBytes.{numberBytes}
+use Rattle.writing.specs.Writer.{numbersOf}
+use Rattle.writing.specs.LineLengths.{line-length, small-pos, SmallPolynomial, SmallBlock, Numbers, blocks-numbers, terms-fewer}
+use Rattle.writing.specs.LineLengths.{longTerm, mostInTerm, most-in-term, total-most}
 
--- ---- the bytes of a line
-
--- A minus, nine digits and the separator.
-abbrev pub writtenNumber : ℕ
-writtenNumber = 11
-
-line-length : (a : ℤ) (l : List ℤ) → All Small (a ∷ l) → length (line (a ∷ l)) ≤ suc (length l) * writtenNumber
-unfolding line All
-line-length a [] h = simp length-append (omega (arith, decimal-length a (h .0)))
-line-length a (b ∷ l) h = simp length-append (omega (arith, decimal-length a (h .0), line-length b l (h .1)))
-
--- ---- the numbers of a block
-
--- Block, column, the number of coefficients and those.
-abbrev termLength : ℕ
-termLength = 3 + coefficientCount
-
--- What is written of the terms: all small, and not more than so many.
-record Numbers (n : ℕ) (l : List ℤ) : Type 0 where
-  pub smalls : All Small l
-  pub few : length l ≤ n
-
-numbers-join : {j k : ℕ} {l m : List ℤ} → Numbers j l → Numbers k m → Numbers (j + k) (l ++ m)
-numbers-join {l = l} {m = m} g h =
-    record {
-      smalls = append-all Small l m (g .smalls) (h .smalls);
-      few = rw (length-append l m) (omega (arith, g .few, h .few));
-    }
-
-abbrev SmallPolynomial : Polynomial → Type 0
-SmallPolynomial p = (length p ≤ coefficientCount) × All Small p
-
-small-pos : (n : ℕ) → n ≤ bound → Small (pos n)
-unfolding small
-small-pos n h = le→leb n bound h
-
-term-numbers : (s : ℤ) (c : ℕ) (p : Polynomial) → Small s → c ≤ bound → SmallPolynomial p
-    → Numbers termLength (termNumbers (record { block = s; column = c; polynomial = trim p }))
-unfolding termNumbers All
-term-numbers s c p hs hc hp =
-    record {
-      smalls = (hs, (small-pos c hc, (small-pos (length (trim p)) (omega (arith, trim-le p, hp .0)), trimmed)));
-      few = omega (arith, trim-le p, hp .0);
-    }
-  where
-    trimmed : All Small (trim p)
-    trimmed = subst (All Small) (trim-take p) (all-take Small (length (trim p)) p (hp .1))
-
-numbersOf : List Term → List ℤ
-unfolding flatten termNumbers
-numbersOf es = flatten (map termNumbers es)
-
-block-numbers : (s : ℤ) (c : ℕ) (b : Block) → Small s → c + length b ≤ bound → All SmallPolynomial b
-    → Numbers (length b * termLength) (numbersOf (blockTerms s c b))
-unfolding numbersOf blockTerms All
-block-numbers s c [] hs hc h = record { smalls = tt; few = le-refl 0 }
-block-numbers s c (p ∷ b) hs hc h =
-    cases (isZero p) (blockTerms s (suc c) b) (block-numbers s (suc c) b hs (omega arith) (h .1))
-  where
-    term : Term
-    term = record { block = s; column = c; polynomial = trim p }
-
-    one-more : termLength + length b * termLength ≡ suc (length b) * termLength
-    one-more = omega arith
-
-    cases : (t : Bool) (more : List Term) → Numbers (length b * termLength) (numbersOf more)
-        → Numbers (suc (length b) * termLength) (numbersOf (cond t more (term ∷ more)))
-    cases true more i = record { smalls = i .smalls; few = omega (arith, i .few) }
-    cases false more i =
-        subst (λ n. Numbers n (numbersOf (term ∷ more))) one-more
-        (numbers-join (term-numbers s c p hs (omega arith) (h .0)) i)
-
-numbersOf-append : (es fs : List Term) → numbersOf (es ++ fs) ≡ numbersOf es ++ numbersOf fs
-unfolding numbersOf
-numbersOf-append es fs =
-    ap flatten (map-append termNumbers es fs) ∙ flatten-append (map termNumbers es) (map termNumbers fs)
-
--- ---- the numbers of a row
-
-natAbs-predℤ : (s : ℤ) → natAbs (predℤ s) ≤ suc (natAbs s)
-natAbs-predℤ s = subst (λ x. natAbs x ≤ suc (natAbs s)) (-ℤ-one s) (omega (arith, natAbs-+ℤ s (negsuc 0)))
-
-abbrev SmallBlock : Block → Type 0
-SmallBlock b = (length b ≡ columnCount) × All SmallPolynomial b
-
-blocks-numbers : (s : ℤ) (bs : List Block) → natAbs s + length bs ≤ bound → All SmallBlock bs
-    → Numbers (length bs * (columnCount * termLength)) (numbersOf (termsFrom s bs))
-unfolding numbersOf termsFrom All small
-blocks-numbers s [] hs h = record { smalls = tt; few = le-refl 0 }
-blocks-numbers s (b ∷ bs) hs h =
-    subst (Numbers (suc (length bs) * (columnCount * termLength)))
-    (sym (numbersOf-append (blockTerms s 1 b) (termsFrom (predℤ s) bs)))
-    (subst (λ n. Numbers n (numbersOf (blockTerms s 1 b) ++ numbersOf (termsFrom (predℤ s) bs))) together
-    (numbers-join first (blocks-numbers (predℤ s) bs (omega (arith, natAbs-predℤ s)) (h .1))))
-  where
-    first : Numbers (length b * termLength) (numbersOf (blockTerms s 1 b))
-    first = block-numbers s 1 b (le→leb (natAbs s) bound (omega arith)) (omega (arith, h .0 .0)) (h .0 .1)
-
-    together : length b * termLength + length bs * (columnCount * termLength) ≡ suc (length bs) * (columnCount * termLength)
-    together = omega (arith, h .0 .0)
+-- ---- the line of an equation
 
 -- The number of the terms and the terms.
 abbrev pub equationLength : ℕ
-equationLength = suc (blockCount * (columnCount * termLength))
-
-terms-fewer : (es : List Term) → length es ≤ length (numbersOf es)
-unfolding numbersOf termNumbers
-terms-fewer [] = le-refl 0
-terms-fewer (e ∷ es) = simp length-append (omega (arith, terms-fewer es))
+equationLength = suc (polynomialCount * longTerm)
 
 module _ (l : ℤ) (r : Row) (reach : natAbs l + blockCount ≤ bound) (shape : StoreRow r) (smalls : T (smallRow r)) where
   small-blocks : All SmallBlock (r .blocks)
@@ -169,24 +66,29 @@ module _ (l : ℤ) (r : Row) (reach : natAbs l + blockCount ≤ bound) (shape : 
             (all-both FullPolynomial (All Small) b (h .0 .1) (h .1)),
       )
 
-  row-numbers : Numbers (blockCount * (columnCount * termLength)) (numbersOf (termsFrom l (r .blocks)))
+  row-numbers : Numbers (total (map mostInTerm (flatten (r .blocks)))) (numbersOf (termsFrom l (r .blocks)))
   unfolding Shaped
-  row-numbers =
-      subst (λ n. Numbers (n * (columnCount * termLength)) (numbersOf (termsFrom l (r .blocks)))) (shape .0)
-      (blocks-numbers l (r .blocks) (rw (shape .0) reach) small-blocks)
+  row-numbers = blocks-numbers l (r .blocks) (rw (shape .0) reach) small-blocks
 
-  row-line : length (line (equationNumbers l r)) ≤ equationLength * writtenNumber
+  row-most : total (map mostInTerm (flatten (r .blocks))) ≤ polynomialCount * longTerm
+  unfolding Shaped
+  row-most =
+      let many =
+      length-flatten columnCount (r .blocks) (all-mono SmallBlock (λ b. length b ≡ columnCount) (λ b h. h .0) (r .blocks) small-blocks) in
+      omega (arith, total-most mostInTerm longTerm most-in-term (flatten (r .blocks)), many, shape .0)
+
+  row-line : length (line (equationNumbers l r)) ≤ numberBytes * equationLength
   unfolding equationNumbers numbersOf All
   row-line =
       let es = termsFrom l (r .blocks) in
       let n = row-numbers in
-      let count : Small (pos (length es)) = small-pos _ (omega (arith, terms-fewer es, n .few)) in
-      omega (arith, line-length (pos (length es)) (numbersOf es) (count, n .smalls), n .few)
+      let count : Small (pos (length es)) = small-pos _ (omega (arith, terms-fewer es, n .few, row-most)) in
+      omega (arith, line-length (pos (length es)) (numbersOf es) (count, n .smalls), n .few, row-most)
 
 -- ---- the bytes of a sheet
 
 rows-lines : (l : ℤ) (rows : List Row) → natAbs l + blockCount ≤ bound → All StoreRow rows → All (λ r. T (smallRow r)) rows
-    → length (lines (map (equationNumbers l) rows)) ≤ length rows * (equationLength * writtenNumber)
+    → length (lines (map (equationNumbers l) rows)) ≤ length rows * (numberBytes * equationLength)
 unfolding lines All
 rows-lines l [] reach shapes smalls = le-refl 0
 rows-lines l (r ∷ rows) reach shapes smalls =
@@ -210,11 +112,11 @@ writeSheet-is sheet = refl
 
 -- Four numbers in the first line, the count of the equations, and the equations.
 abbrev equationsBytes : ℕ
-equationsBytes = 4 * writtenNumber + (writtenNumber + mostEquations * (equationLength * writtenNumber))
+equationsBytes = numberBytes * 4 + (numberBytes + mostEquations * (numberBytes * equationLength))
 
 -- Then no relations and no order.
 abbrev pub mostRecurrenceBytes : ℕ
-mostRecurrenceBytes = equationsBytes + (writtenNumber + writtenNumber)
+mostRecurrenceBytes = equationsBytes + (numberBytes + numberBytes)
 
 -- The sheet of a system without relations and order is short if it is valid and has no right sides.
 module _ (z : Sizes) (rows : List Row) (v : Valid z rows [])
@@ -234,7 +136,7 @@ module _ (z : Sizes) (rows : List Row) (v : Valid z rows [])
   first : List ℤ
   first = pos 3 ∷ pos (z .m) ∷ z .l ∷ z .t ∷ []
 
-  first-line : length (line first) ≤ 4 * writtenNumber
+  first-line : length (line first) ≤ numberBytes * 4
   unfolding All small first
   first-line = line-length (pos 3) (pos (z .m) ∷ z .l ∷ z .t ∷ []) (
     tt,
@@ -247,11 +149,11 @@ module _ (z : Sizes) (rows : List Row) (v : Valid z rows [])
     ),
   )
 
-  count-line : length (line (pos (length rows) ∷ [])) ≤ writtenNumber
+  count-line : length (line (pos (length rows) ∷ [])) ≤ numberBytes
   unfolding All
   count-line = line-length (pos (length rows)) [] (small-pos (length rows) (omega (arith, few-rows)), tt)
 
-  equation-lines : length (lines (map (equationNumbers (z .l)) rows)) ≤ length rows * (equationLength * writtenNumber)
+  equation-lines : length (lines (map (equationNumbers (z .l)) rows)) ≤ length rows * (numberBytes * equationLength)
   equation-lines =
       rows-lines (z .l) rows (omega (arith, high-small)) (v .row-shapes)
       (all-mono (λ r. T (rowRight z r)) (λ r. T (smallRow r)) (λ r h. rowRight-iff z r .0 h .0) rows
@@ -269,7 +171,7 @@ module _ (z : Sizes) (rows : List Row) (v : Valid z rows [])
       ap (λ sides. equations-part ++ none ++ none ++ sides)
       (cond-passed (every isZero (map (λ r. r .right) rows ++ [])) [] _ plain)
 
-  none-short : length (lines none) ≤ writtenNumber
+  none-short : length (lines none) ≤ numberBytes
   unfolding none lines line decimal
   none-short = lit≤ tt
 

@@ -39,7 +39,8 @@ use Rattle.rules.specs.Batch.{Tally, noTally, clientCount, oneMore, clientLine,
 use Rattle.rules.specs.Batch.{closingBy, closing, broken, readSize, readAfterClient, readSheetLine}
 use Rattle.tokens.specs.Fields.{field-judged, between-zero}
 use Rattle.tokens.specs.WrittenNumbers.{isNumber-decimal}
-use Rattle.writing.specs.Writer.{Put, digitsOf}
+use Rattle.number_texts.specs.Runs.{Put}
+use Rattle.number_texts.specs.Texts.{digitsOf}
 use Rattle.lists.specs.Tests.{first-failed, second-failed, both-passed}
 use Rattle.frames.specs.declared.Batch.{Batch}
 use Rattle.frames.specs.declared.SheetLine.{SheetLine}

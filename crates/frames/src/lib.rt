@@ -8,7 +8,7 @@ ghost use lib.ListN.{length, take};
 ghost use Rattle.lists.specs.Totals.{total};
 ghost use Rattle.rules.specs.Numbers.{line, lines};
 ghost use Rattle.rules.specs.Batch.{noTally, tallyLines};
-ghost use Rattle.writing.specs.Writer.{Put};
+ghost use Rattle.number_texts.specs.Runs.{Put};
 ghost use Rattle.frames.specs.Pieces.{batchWith, begunOf, lineOf, raisedOf, countedOf, textOf, refusalLine, closeText};
 ghost use Rattle.frames.specs.Lines.{pairBytes, tallyBytes};
 
@@ -195,7 +195,7 @@ pub fn refusal_line(refusal: u8) -> Text
     ensures { λ r. ⌜ r ≡ textOf (refusalLine refusal) ⌝ }
 {
     let mut bytes = [0u8; TEXT];
-    let length = writing::writer::put_count(&mut bytes, 0, refusal as usize);
+    let length = number_texts::put_count(&mut bytes, 0, refusal as usize);
     Text { bytes, length }
 }
 
@@ -204,9 +204,9 @@ fn put_pair(bytes: &mut [u8], at: usize, accepted: usize, refused: usize) -> usi
     requires { ⌜ at + pairBytes < 2 ^ 64 ⌝ }
     ensures { λ r. ⌜ Put (now (bytes .entry)) at (line (pos accepted ∷ pos refused ∷ [])) pairBytes (now (bytes .exit)) r ⌝ }
 {
-    let after = writing::writer::put_digits(bytes, at, accepted as u64);
-    let next = writing::writer::put_byte(bytes, after, 32);
-    writing::writer::put_count(bytes, next, refused)
+    let after = number_texts::put_digits(bytes, at, accepted as u64);
+    let next = number_texts::put_byte(bytes, after, 32);
+    number_texts::put_count(bytes, next, refused)
 }
 
 // The lines of all clients, client 1 first.

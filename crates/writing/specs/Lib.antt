@@ -1,4 +1,3 @@
-pub mod DigitPairs
 pub mod LineLengths
 pub mod SheetBytes
 pub mod Writer

@@ -39,8 +39,9 @@ use Rattle.rules.specs.Numbers.{line, lines}
 use Rattle.rules.specs.Rows.{Block}
 use Rattle.rules.specs.Sheets.{Term, trim, blockTerms, termsFrom, termNumbers, equationNumbers, relationLine}
 use Rattle.rules.specs.Stores.{rowOf, rowsOf, relationOf, relationsOf}
-use Rattle.writing.specs.SheetBytes.{numberBytes}
-use Rattle.writing.specs.Writer.{decimal-length, trim-le, trim-take, trim-front, numbersOf, terms-cons, SmallParts}
+use Rattle.number_texts.specs.TextBytes.{numberBytes}
+use Rattle.writing.specs.Writer.{trim-le, trim-take, trim-front, numbersOf, terms-cons, SmallParts}
+use Rattle.number_texts.specs.Texts.{decimal-length}
 
 -- ---- the bytes of a line
 

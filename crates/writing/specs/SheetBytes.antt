@@ -1,24 +1,15 @@
--- How many bytes each part of a sheet takes at most, and how far below 2 ^ 64 the place has to be at which it is written: a
--- function that writes digits takes room for 20 of them, however few there are.
+-- How many bytes each part of a sheet takes at most, and how far below 2 ^ 64 the place has to be at which it is written.
 --
 -- Main definitions
---   numberBytes, countBytes   a space and a number within ±C; a space and a count
 --   termBytes, blockBytes, termsBytes   one term, the terms of a block, and those of a row, with a space before each number
 --   equationBytes, relationBytes        the line of an equation, and that of a relation
 --   sizesBytes, orderBytes, sideBytes   the line of the sizes, that of the order, and that of a right side
 --   sidesBytes equations count   the fifth section, for so many equations and relations
 --   sheetBytes written equations count   a sheet of so many equations and relations, whose lines take so many bytes
---   numberRoom, sizesRoom, termRoom, blockRoom, termsRoom, equationRoom, relationRoom, sideRoom   the same parts, with that room
+--   sizesRoom, termRoom, blockRoom, termsRoom, equationRoom, relationRoom, sideRoom   the same parts, with that room
 use Prim.Native.Nat.{ℕ, _+_, _*_}
+use Rattle.number_texts.specs.TextBytes.{numberBytes, countBytes, numberRoom}
 use Rattle.rules.specs.Limits.{coefficientCount, columnCount, blockCount}
-
--- a space, a minus and nine digits
-abbrev pub numberBytes : ℕ
-numberBytes = 11
-
--- a space, or the newline past it, and twenty digits
-abbrev pub countBytes : ℕ
-countBytes = 21
 
 -- the block, the column, the number of coefficients, and these
 abbrev pub termBytes : ℕ
@@ -57,10 +48,6 @@ sidesBytes equations count = countBytes + (equations * sideBytes + count * sideB
 -- the sizes, the number of equations and the equations, the number of relations and the relations, the order, and the right sides
 abbrev pub sheetBytes : ℕ → ℕ → ℕ → ℕ
 sheetBytes written equations count = sizesBytes + countBytes + countBytes + orderBytes + written + sidesBytes equations count
-
--- a space, a minus and twenty digits
-abbrev pub numberRoom : ℕ
-numberRoom = 22
 
 abbrev pub sizesRoom : ℕ
 sizesRoom = 1 + countBytes + numberRoom + numberRoom + 1

@@ -1,9 +1,6 @@
--- What the functions that write a sheet go by: runs of bytes stored from a place on, as far as the store goes, and the bytes
--- of numbers, terms, lines and the whole sheet as such runs.
+-- What the functions that write a sheet go by: the bytes of terms, lines and the whole sheet.
 --
 -- Main definitions
---   Put, Going        what a writing function does; what a loop that writes has still to do
---   digitsOf, spaced  the digits of a whole number; numbers with a space before each
 --   termAt, numbersOf, nonzeroCount, Lengths   the numbers of one term, of several, how many there are, and their lengths
 --   SmallParts        the parts of a store hold numbers within ±C
 --   Unused, UnusedParts   what is not in use of a row, and of the rows of a store, holds no term
@@ -11,16 +8,11 @@
 --   sideIn, sidesIn, sidesGiven   the right side of a record, those of a store's records, and those of a system in stores
 --
 -- Main statements
---   put-then          two runs of bytes stored one after the other are one run
---   going-first, going-next, going-last   a loop that stores a run part by part
---   digits-last, digits-back   the last digit of a number comes after the digits of its tenth, and may be stored before them
---   decimal-length    a number within ±C takes at most ten bytes
---   line-is           a line is its first number, the others spaced, and byte 10
 --   trim-nonzero, trim-more, trim-front, trim-take   how many coefficients a term has, and which
 --   block-next, terms-next, lines-next   one term, one block, one line more
 --   term-count        the number of terms of a row is that of its nonzero polynomials
 --   unused            what passes the check of unused places holds no term there
---   equation-line, relation-line, order-line, side-line, count-line, sizes-line   the lines of a sheet, as they are written
+--   equation-line, relation-line, order-line, side-line, sizes-line   the lines of a sheet, as they are written
 --   record-place, record-early, side-at, side-get   where a record stands, and its right side
 --   sides-none, sides-some   the fifth section, as it is written
 --   sheet-bytes       the bytes of a sheet, section by section
@@ -28,24 +20,23 @@ use mathlib.Core.Path.{_≡_, refl, sym, _∙_, ap, ap₂, subst, fun-ext}
 use mathlib.Core.Bool.{Bool, true, false, _&&_, and-true, cond}
 use mathlib.Core.Logic.{_≢_}
 use mathlib.Core.List.{List, [], _∷_, _++_, map, flatten, append-assoc, append-nil, map-append, map-map}
-use Prim.Native.Nat.{ℕ, zero, suc, _+_, _-_, _*_, _/_, _%_, _^_, _≤_, _<_}
-use native.Mathlib.Nat.{zero-add, suc-add, div-lt-self, add-mul, pow-suc, one-le-pow, le-div-iff-mul-le, div-lt-iff-lt-mul}
-use native.Mathlib.Nat.{suc-mul, mul-le-mul, mul-le-mul-right, lt-trans, le-trans, lt-of-le-of-lt, le-of-suc-le-suc, not-suc-le-zero}
+use Prim.Native.Nat.{ℕ, zero, suc, _+_, _-_, _*_, _/_, _%_, _≤_, _<_}
+use native.Mathlib.Nat.{zero-add, suc-add, add-mul}
+use native.Mathlib.Nat.{suc-mul, mul-le-mul, mul-le-mul-right, le-of-suc-le-suc, not-suc-le-zero}
 use native.Mathlib.Numerals.{add-one}
 use native.Mathlib.Omega.{arith}
 use borrow.Author.Count.{below-more}
-use borrow.Author.Tests.{ltb-true, lt-ltb, le-ltb, ne-eqb}
-use lib.Dec.{T, ltb, eqb, eqb·suc-zero, leb→le, le→leb, lit<, lit≤}
-use lib.IntN.{ℤ, pos, negsuc, natAbs, negℤ, predℤ, _+ℤ_, _-ℤ_, negℤ-sucℤ, +ℤ-predℤ}
-use lib.Signed.{ltZ}
+use borrow.Author.Tests.{ne-eqb}
+use lib.Dec.{T, eqb, eqb·suc-zero}
+use lib.IntN.{ℤ, pos, natAbs, negℤ, predℤ, _+ℤ_, _-ℤ_, negℤ-sucℤ, +ℤ-predℤ}
 use lib.ListN.{length, take, drop, getD, set, length-append, length-take, length-map, take-append-drop, drop-of-length-le}
-use lib.Seq.{sets, length-sets, take-suc, length-take-le, take-take, drop-drop}
+use lib.Seq.{take-suc, length-take-le, take-take, drop-drop}
 use lib.Seq.{getD-take, getD-drop, getD-set-same, getD-set-other}
 use Rattle.algebra.specs.Integers.{natAbs-+ℤ, natAbs-negℤ}
 use Rattle.algebra.specs.Polynomials.{Polynomial, coeff, isZero, isZero-cons, isZero-coeff, isZero-append}
 use Rattle.lists.specs.Images.{getD-map}
-use Rattle.lists.specs.Taken.{drop-take, drop-next, part-of-part}
-use Rattle.rules.specs.Limits.{bound, coefficientCount, small, columnCount, mostSpan, blockCount, polynomialCount, blockLength, blockBound}
+use Rattle.lists.specs.Taken.{drop-take, part-of-part}
+use Rattle.rules.specs.Limits.{coefficientCount, small, columnCount, mostSpan, blockCount, polynomialCount, blockLength, blockBound}
 use Rattle.rules.specs.Limits.{entriesLength, rowLength, relationLength, mostRelations}
 use Rattle.rules.specs.Rows.{Block, zeroBlock}
 use Rattle.lists.specs.Tests.{true-of, T-&&, every, every-cons, every-from-at}
@@ -54,200 +45,13 @@ use Rattle.lists.specs.Parts.{parts, parts-length, getD-parts, parts-next, part
 use Rattle.rules.specs.Layout.{length-rowsOf, length-relationsOf, blockOf, coefficientsAt, blockAt, polynomialsIn, polynomial-at-row}
 use Rattle.rules.specs.Sheets.{Sheet, Term, trim, blockTerms, termsFrom, termNumbers}
 use Rattle.rules.specs.Sheets.{equationNumbers, relationLine, orderLine, sidesOf, sideLine, sideLines, sheetLines, writeSheet}
-use Rattle.rules.specs.Numbers.{space, newline, minus, decimalWithin, decimal, line, lines}
-use Rattle.tokens.specs.WrittenNumbers.{decimalWithin-bound, length-decimalWithin}
-use Rattle.lists.specs.Pasted.{sets-append, sets-later}
-
--- ---- runs of bytes
-
--- The bytes xs, at most k of them, were stored in d from a place on, which gave e; those past the end of d were only counted.
-pub record Put (d : List ℕ) (at : ℕ) (xs : List ℕ) (k : ℕ) (e : List ℕ) (next : ℕ) : Type 0 where
-  pub stored : e ≡ sets d at xs
-  pub passed : next ≡ at + length xs
-  pub few : length xs ≤ k
-
-pub put-then : {d e f : List ℕ} {at j k next last : ℕ} {xs ys : List ℕ} → Put d at xs j e next → Put e next ys k f last
-    → Put d at (xs ++ ys) (j + k) f last
-put-then {d} {e} {f} {at} {j} {k} {next} {last} {xs} {ys} p q =
-    record {
-      stored =
-          q .stored ∙ ap₂ (λ l n. sets l n ys) (p .stored) (p .passed) ∙ sets-append d at xs ys;
-      passed = rw length-append (omega (arith, p .passed, q .passed));
-      few = rw length-append (omega (arith, p .few, q .few));
-    }
-
--- The same bytes, said otherwise.
-pub put-same : {d e : List ℕ} {at k next : ℕ} {xs ys : List ℕ} → Put d at xs k e next → xs ≡ ys → Put d at ys k e next
-put-same {d} {e} {at} {k} {next} p same = subst (λ l. Put d at l k e next) same p
-
--- The same number of bytes, bounded otherwise.
-pub put-few : {d e : List ℕ} {at j k next : ℕ} {xs : List ℕ} → Put d at xs j e next → length xs ≤ k → Put d at xs k e next
-put-few p few = record { stored = p .stored; passed = p .passed; few = few }
-
-pub put-wide : {d e : List ℕ} {at j k next : ℕ} {xs : List ℕ} → Put d at xs j e next → j ≤ k → Put d at xs k e next
-put-wide p le = put-few p (le-trans (p .few) le)
-
-pub put-none : {d xs : List ℕ} {at k : ℕ} → xs ≡ [] → Put d at xs k d at
-put-none {d} {xs} {at} {k} none =
-    let size = ap length none in
-    record { stored = sym (ap (sets d at) none); passed = omega arith; few = omega arith }
-
-pub put-length : {d e : List ℕ} {at k next : ℕ} {xs : List ℕ} → Put d at xs k e next → length e ≡ length d
-put-length {d} {e} {at} {k} {next} {xs} p = ap length (p .stored) ∙ length-sets d at xs
-
--- A loop that stores `all` in d from `at` on, at most k bytes up to now: `rest` is still to be stored in e from `next` on.
-pub record Going (d : List ℕ) (at : ℕ) (all : List ℕ) (e : List ℕ) (next : ℕ) (rest : List ℕ) (k : ℕ) : Type 0 where
-  pub stored : sets e next rest ≡ sets d at all
-  pub passed : next + length rest ≡ at + length all
-  pub few : next ≤ at + k
-  pub kept : length e ≡ length d
-
-pub going-first : {d all rest : List ℕ} {at : ℕ} → all ≡ rest → Going d at all d at rest 0
-going-first {d} {all} {rest} {at} same =
-    record { stored = ap (sets d at) (sym same); passed = ap (λ l. at + length l) (sym same); few = omega arith; kept = refl }
-
-pub going-next : {d all e f part rest more : List ℕ} {at next last j k m : ℕ} → Going d at all e next rest j → rest ≡ part ++ more
-    → Put e next part k f last → j + k ≤ m → Going d at all f last more m
-going-next {d} {all} {e} {f} {part} {rest} {more} {at} {next} {last} {j} {k} {m} g split p le =
-    let size = ap length split ∙ length-append part more in
-    record {
-      stored =
-          ap₂ (λ l n. sets l n more) (p .stored) (p .passed) ∙ sets-append e next part more ∙ ap (sets e next) (sym split) ∙ g .stored;
-      passed = omega (arith, p .passed, g .passed, size);
-      few = omega (arith, p .passed, p .few, g .few);
-      kept = put-length p ∙ g .kept;
-    }
-
-pub going-last : {d all e rest : List ℕ} {at next j k : ℕ} → Going d at all e next rest j → rest ≡ [] → j ≤ k → Put d at all k e next
-going-last {d} {all} {e} {rest} {at} {next} g none le =
-    let size = ap length none in
-    record {
-      stored = sym (ap (sets e next) none) ∙ g .stored;
-      passed = omega (arith, g .passed, size);
-      few = omega (arith, g .passed, g .few);
-    }
-
--- ---- digits
-
-unfoldable pub digitsOf : ℕ → List ℕ
-unfolding decimalWithin
-digitsOf n = decimalWithin (suc n) n []
-
--- What is written already only follows.
-within-append : (k n : ℕ) (w v : List ℕ) → decimalWithin k n (w ++ v) ≡ decimalWithin k n w ++ v
-unfolding decimalWithin
-within-append zero n w v = refl
-within-append (suc k) n w v = step (ltb n 10) _ (within-append k (n / 10) ((48 + n % 10) ∷ w) v)
-  where
-    step : (t : Bool) {a : List ℕ} (b : List ℕ) → a ≡ b ++ v → cond t ((48 + n) ∷ (w ++ v)) a ≡ cond t ((48 + n) ∷ w) b ++ v
-    step true b e = refl
-    step false b e = e
-
-pub digits-one : (n : ℕ) → n < 10 → digitsOf n ≡ (48 + n) ∷ []
-unfolding digitsOf decimalWithin
-digits-one n h = rw (lt-ltb n 10 h)
-
-pub digits-last : (n : ℕ) → 10 ≤ n → digitsOf n ≡ digitsOf (n / 10) ++ ((48 + n % 10) ∷ [])
-unfolding digitsOf decimalWithin
-digits-last n h =
-    rw (le-ltb n 10 h)
-    (decimalWithin-bound (suc (n / 10)) n (n / 10) ((48 + n % 10) ∷ []) (omega arith)
-    (div-lt-self {n = n} {k = 10} (omega arith) (omega arith))
-    ∙ within-append (suc (n / 10)) (n / 10) [] ((48 + n % 10) ∷ []))
-
-pub digits-more : (n : ℕ) → 10 ≤ n → length (digitsOf n) ≡ length (digitsOf (n / 10)) + 1
-digits-more n h = ap length (digits-last n h) ∙ length-append (digitsOf (n / 10)) _
-
--- The number of digits goes by the powers of ten.
-pub digits-size : (k n : ℕ) → 10 ^ k ≤ n → n < 10 ^ suc k → length (digitsOf n) ≡ suc k
-digits-size zero n low high = ap length (digits-one n high)
-digits-size (suc k) n low high =
-    let less : 10 ^ k ≤ n / 10 = le-div-iff-mul-le (lit< tt) .1 (rw pow-suc at low) in
-    let more : n / 10 < 10 ^ suc k = div-lt-iff-lt-mul (lit< tt) .1 (rw pow-suc at high) in
-    digits-more n (omega (arith, less, one-le-pow k 10 (lit< tt))) ∙ omega (arith, digits-size k (n / 10) less more)
-
--- The last digit may be stored first.
-pub digits-back : (d : List ℕ) (at n : ℕ) → 10 ≤ n
-    → sets (set d (at + length (digitsOf (n / 10))) (48 + n % 10)) at (digitsOf (n / 10)) ≡ sets d at (digitsOf n)
-digits-back d at n h =
-    sym (sets-later d at (digitsOf (n / 10)) _ _ (omega arith)) ∙ sets-append d at (digitsOf (n / 10)) _
-    ∙ ap (sets d at) (sym (digits-last n h))
-
-pub digits-length : (n : ℕ) → n < 2 ^ 64 → length (digitsOf n) ≤ 20
-unfolding digitsOf
-digits-length n h = length-decimalWithin (suc n) n [] (omega arith) 19 (lt-trans h (lit< tt))
-
--- ---- numbers
-
-pub nine-digits : (n : ℕ) → n ≤ bound → length (digitsOf n) ≤ 9
-unfolding digitsOf
-nine-digits n h = length-decimalWithin (suc n) n [] (omega arith) 8 (lt-of-le-of-lt h (lit< tt))
-
-pub small-size : (a : ℤ) → T (small a) → natAbs a ≤ bound
-unfolding small
-small-size a h = leb→le (natAbs a) bound h
-
--- A number within ±C has at most nine digits.
-pub decimal-length : (a : ℤ) → T (small a) → length (decimal a) ≤ 10
-unfolding decimal digitsOf small
-decimal-length (pos n) h = omega (arith, nine-digits n (leb→le n bound h))
-decimal-length (negsuc n) h = omega (arith, nine-digits (suc n) (leb→le (suc n) bound h))
-
-pub small-block : (a : ℤ) → natAbs a ≤ 68 → T (small a)
-unfolding small
-small-block a h = le→leb (natAbs a) bound (le-trans h (lit≤ tt))
+use Rattle.rules.specs.Numbers.{newline, decimal, line, lines}
+use Rattle.number_texts.specs.Runs.{Going, Put, going-next, put-same, going-last}
+use Rattle.number_texts.specs.Texts.{spaced, spaced-append, digitsOf, decimal-count, line-is}
 
 -- The first n parts of k numbers are within ±C.
 abbrev pub SmallParts : ℕ → ℕ → List ℤ → Type 0
 SmallParts k n l = (i : ℕ) → i < n → T (every small (take k (drop (i * k) l)))
-
-pub decimal-negative : (a : ℤ) → ltZ a (pos 0) ≡ true → decimal a ≡ minus ∷ digitsOf (natAbs a)
-unfolding decimal digitsOf
-decimal-negative (pos n) h = absurd (not-suc-le-zero (ltb-true n 0 h))
-decimal-negative (negsuc n) h = refl
-
-pub decimal-positive : (a : ℤ) → ltZ a (pos 0) ≡ false → decimal a ≡ digitsOf (natAbs a)
-unfolding decimal digitsOf
-decimal-positive (pos n) h = refl
-decimal-positive (negsuc n) h = absurd (subst T h tt)
-
--- Numbers of a line past the first: a space before each.
-unfoldable pub spaced : List ℤ → List ℕ
-unfolding decimal
-spaced [] = []
-spaced (a ∷ l) = space ∷ (decimal a ++ spaced l)
-
-pub spaced-append : (l m : List ℤ) → spaced l ++ spaced m ≡ spaced (l ++ m)
-unfolding spaced
-spaced-append [] m = refl
-spaced-append (a ∷ l) m =
-    ap (λ r. space ∷ r) (append-assoc (decimal a) (spaced l) (spaced m) ∙ ap (λ r. decimal a ++ r) (spaced-append l m))
-
--- A line is its first number, the others, and the byte that ends it (SCOPE 4.1).
-pub line-is : (a : ℤ) (l : List ℤ) → line (a ∷ l) ≡ (decimal a ++ spaced l) ++ (newline ∷ [])
-unfolding line spaced
-line-is a [] = ap (λ r. r ++ (newline ∷ [])) (sym (append-nil (decimal a)))
-line-is a (b ∷ l) = ap (λ r. decimal a ++ (space ∷ r)) (line-is b l) ∙ sym (append-assoc (decimal a) (spaced (b ∷ l)) (newline ∷ []))
-
-pub spaced-then : {d e f : List ℕ} {at j k next last : ℕ} (l m : List ℤ) → Put d at (spaced l) j e next → Put e next (spaced m) k f last
-    → Put d at (spaced (l ++ m)) (j + k) f last
-spaced-then l m p q = put-same (put-then p q) (spaced-append l m)
-
-pub spaced-next : (l : List ℤ) (i : ℕ) → i < length l → spaced (drop i l) ≡ spaced (getD l i (pos 0) ∷ []) ++ spaced (drop (i + 1) l)
-spaced-next l i h = ap spaced (drop-next l i (pos 0) h) ∙ sym (spaced-append (getD l i (pos 0) ∷ []) (drop (i + 1) l))
-
-pub columns-next : (l : List ℕ) (i : ℕ) → i < length l
-    → spaced (map pos (drop i l)) ≡ spaced (pos (getD l i 0) ∷ []) ++ spaced (map pos (drop (i + 1) l))
-columns-next l i h =
-    ap (λ r. spaced (map pos r)) (drop-next l i 0 h) ∙ sym (spaced-append (pos (getD l i 0) ∷ []) (map pos (drop (i + 1) l)))
-
-pub spaced-number : (a : ℤ) → space ∷ decimal a ≡ spaced (a ∷ [])
-unfolding spaced
-spaced-number a = ap (λ r. space ∷ r) (sym (append-nil (decimal a)))
-
-pub decimal-count : (n : ℕ) → decimal (pos n) ≡ digitsOf n
-unfolding decimal digitsOf
-decimal-count n = refl
 
 -- ---- a polynomial without its zero high coefficients
 
@@ -629,10 +433,6 @@ side-line p n e =
     ap (λ k. (digitsOf k ++ spaced (take k p)) ++ (newline ∷ [])) e
     ∙ ap₂ (λ d q. (d ++ spaced q) ++ (newline ∷ [])) (sym (decimal-count (length (trim p)))) (trim-take p)
     ∙ sym (line-is (pos (length (trim p))) (trim p))
-
-pub count-line : (n : ℕ) → digitsOf n ++ (newline ∷ []) ≡ line (pos n ∷ [])
-unfolding line
-count-line n = ap (λ d. d ++ (newline ∷ [])) (sym (decimal-count n))
 
 -- The lines of what the n parts of a store hold, k numbers a part: those from i on are still to be stored.
 module _ {B : Type 0} (f : B → List ℤ) (g : List ℤ → B) (k n : ℕ) (l : List ℤ) (i : ℕ) where

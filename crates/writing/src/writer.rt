@@ -1,5 +1,8 @@
 // Writing a sheet. Each writing function stores its bytes from a place on, as far as the store goes, counts them all and gives
-// the next place: called on an empty part of the store it only counts, so that nothing is written before it is known to fit.
+// the next place, as those of `number_texts`: called on an empty part of the store it only counts, so that nothing is written before it is
+// known to fit.
+use number_texts::COUNT_BYTES;
+use number_texts::NUMBER_BYTES;
 use polynomials::lengths::COEFFICIENTS;
 use stores::lengths::BLOCK;
 use stores::lengths::COLUMNS;
@@ -12,38 +15,40 @@ pub mod checks;
 
 ghost use mathlib.Core.Path.{_≡_};
 ghost use mathlib.Core.List.{[], _∷_, map};
-ghost use Prim.Native.Nat.{ℕ, _+_, _*_, _%_, _^_, _≤_, _<_};
-ghost use Rattle.rules.specs.Numbers.{decimal, line, lines};
+ghost use Prim.Native.Nat.{_+_, _*_, _%_, _^_, _≤_, _<_};
+ghost use Rattle.rules.specs.Numbers.{line, lines};
 ghost use lib.IntN.{ℤ, pos, natAbs};
 ghost use lib.Dec.{T};
 ghost use lib.ListN.{length, take, drop};
-ghost use lib.Seq.{sets};
 ghost use Rattle.rules.specs.Limits.{columnCount, rowLength, relationLength, mostRelations, small, coefficientCount, mostEquations, polynomialCount, mostSpan, blockCount, blockLength, blockBound};
 ghost use Rattle.lists.specs.Tests.{every};
 ghost use Rattle.algebra.specs.Polynomials.{isZero};
 ghost use Rattle.rules.specs.Sheets.{trim, blockTerms, termsFrom, equationNumbers, relationLine, orderLine};
 ghost use Rattle.rules.specs.Sheets.{sideLine, sideLines, writeSheet};
 ghost use Rattle.rules.specs.Stores.{rowOf, rowsOf, relationOf, relationsOf, equations};
-ghost use Rattle.writing.specs.SheetBytes.{numberBytes, countBytes, termBytes, blockBytes, termsBytes, equationBytes, relationBytes};
-ghost use Rattle.writing.specs.SheetBytes.{sizesBytes, orderBytes, sheetBytes, numberRoom, termRoom, blockRoom, termsRoom};
+ghost use Rattle.number_texts.specs.Runs.{Put};
+ghost use Rattle.number_texts.specs.Texts.{spaced};
+ghost use Rattle.number_texts.specs.TextBytes.{countBytes};
+ghost use Rattle.writing.specs.SheetBytes.{termBytes, blockBytes, termsBytes, equationBytes, relationBytes};
+ghost use Rattle.writing.specs.SheetBytes.{sizesBytes, orderBytes, sheetBytes, termRoom, blockRoom, termsRoom};
 ghost use Rattle.writing.specs.SheetBytes.{equationRoom, relationRoom, sizesRoom, sideBytes, sidesBytes, sideRoom};
-ghost use Rattle.writing.specs.Writer.{Put, digitsOf, spaced, SmallParts, Lengths, termAt, numbersOf, nonzeroCount};
+ghost use Rattle.writing.specs.Writer.{SmallParts, Lengths, termAt, numbersOf, nonzeroCount};
 ghost use Rattle.writing.specs.Writer.{Unused, UnusedParts, NoTerms, sheetGiven, sidesIn, sidesGiven};
 ghost use Rattle.writing.specs.LineLengths.{mostInTerm, mostInTerms, mostInRecords, linesLength};
-ghost use Rattle.writing.specs.DigitPairs.{pairOf, fourOf, eightOf, Ends};
 ghost use Rattle.writing.specs.WriterChecks.{Checked, callOf};
 ghost use Rattle.rules.specs.SheetCalls.{checkWrite, writeCall};
 ghost use Rattle.rules.specs.Layout.{blockOf, coefficientsAt, polynomialsIn};
 ghost use Rattle.stores.specs.Validity.{sizesOf};
 
-// The bytes of a space and the longest number within C.
-const NUMBER_BYTES: usize = 11;
-
 // The bytes of the longest line of a right side, and of the lines of a sheet but those of right sides, equations and relations together, as
-// in `specs/SheetBytes.antt`: a space and a count take at most 21.
-const SIDE_BYTES: usize = 21 + COEFFICIENTS * NUMBER_BYTES;
+// in `specs/SheetBytes.antt`: the sizes, three counts and the order.
+const SIDE_BYTES: usize = COUNT_BYTES + COEFFICIENTS * NUMBER_BYTES;
 
-const LINES_BYTES: usize = 45 + 3 * 21 + 105;
+const LINES_BYTES: usize = 2
+    + COUNT_BYTES
+    + 2 * NUMBER_BYTES
+    + 3 * COUNT_BYTES
+    + (1 + COLUMNS) * COUNT_BYTES;
 
 // Most polynomials have no more coefficients.
 const FEW: usize = 4;
@@ -54,271 +59,6 @@ const SHORT_TERM: usize = 3 + FEW;
 const LONG_TERM: usize = 3 + COEFFICIENTS;
 
 const LONG_TERMS: usize = POLYNOMIALS * LONG_TERM;
-
-pub fn put_byte(bytes: &mut [u8], at: usize, b: u8) -> usize
-    requires { ⌜ at + 1 < 2 ^ 64 ⌝ }
-    ensures { λ r. ⌜ Put (now (bytes .entry)) at (b ∷ []) 1 (now (bytes .exit)) r ⌝ }
-{
-    let next = at + 1;
-    if at < bytes.len() {
-        bytes[at] = b;
-    }
-    next
-}
-
-// The number of digits of a number within C, by comparisons alone.
-fn few_digits(n: u64) -> usize
-    requires { ⌜ n < 1000000000 ⌝ }
-    ensures { λ r. ⌜ r ≡ length (digitsOf n) ⌝ }
-{
-    if n < 100 {
-        return if n < 10 { 1 } else { 2 };
-    }
-    if n < 10000 {
-        return if n < 1000 { 3 } else { 4 };
-    }
-    if n < 1000000 {
-        return if n < 100000 { 5 } else { 6 };
-    }
-    if n < 10000000 {
-        return 7;
-    }
-    if n < 100000000 { 8 } else { 9 }
-}
-
-fn digit_count(n: u64) -> usize
-    ensures { λ r. ⌜ r ≡ length (digitsOf n) ⌝ }
-{
-    let mut count = 0;
-    let mut rest = n;
-    while 1000000000 <= rest {
-        rest = rest / 10;
-        count += 1;
-    }
-    count + few_digits(rest)
-}
-
-// The digits of a number, from the last back.
-fn put_digits_back(bytes: &mut [u8], at: usize, n: u64, end: usize)
-    requires { ⌜ end ≡ at + length (digitsOf n) ⌝ }
-    ensures { λ _. ⌜ now (bytes .exit) ≡ sets (now (bytes .entry)) at (digitsOf n) ⌝ }
-{
-    let mut i = end;
-    let mut rest = n;
-    while 10 <= rest {
-        i -= 1;
-        put_byte(bytes, i, 48 + (rest % 10) as u8);
-        rest = rest / 10;
-    }
-    put_byte(bytes, at, 48 + rest as u8);
-}
-
-// Most numbers of a sheet have one digit. Past the store's end digits are only counted.
-pub fn put_digits(bytes: &mut [u8], at: usize, n: u64) -> usize
-    requires { ⌜ at + 20 < 2 ^ 64 ⌝ }
-    ensures { λ r. ⌜ Put (now (bytes .entry)) at (digitsOf n) 20 (now (bytes .exit)) r ⌝ }
-{
-    if n < 10 {
-        return put_byte(bytes, at, 48 + n as u8);
-    }
-    let end = at + digit_count(n);
-    if at < bytes.len() {
-        put_digits_back(bytes, at, n, end);
-    }
-    end
-}
-
-fn put_number(bytes: &mut [u8], at: usize, a: i64) -> usize
-    requires { ⌜ T (small a) × (at + 21 < 2 ^ 64) ⌝ }
-    ensures { λ r. ⌜ Put (now (bytes .entry)) at (decimal a) 10 (now (bytes .exit)) r ⌝ }
-{
-    let size = integers::magnitude(a);
-    if a < 0 {
-        let next = put_byte(bytes, at, 45);
-        put_digits(bytes, next, size)
-    } else {
-        put_digits(bytes, at, size)
-    }
-}
-
-// The two digits of a number below 100. For these 103 / 1024 does for a tenth.
-fn put_pair(bytes: &mut [u8], at: usize, n: u64)
-    requires { ⌜ (n < 100) × (at + 2 ≤ length (now bytes)) ⌝ }
-    ensures { λ _. ⌜ now (bytes .exit) ≡ sets (now (bytes .entry)) at (pairOf n) ⌝ }
-{
-    let tens = n * 103 / 1024;
-    let next = at + 1;
-    bytes[at] = 48 + tens as u8;
-    bytes[next] = 48 + (n - 10 * tens) as u8;
-}
-
-// The digits of a number by pairs, from the last back. Where their number is odd, there is a zero before them.
-fn put_pairs_back(bytes: &mut [u8], end: usize, n: u64)
-    requires { ⌜ (length (digitsOf n) < end) × (end ≤ length (now bytes)) ⌝ }
-    ensures { λ _. ⌜ ((at : ℕ) → Ends (now (bytes .entry)) at end n (now (bytes .exit))) ⌝ }
-{
-    let mut i = end;
-    let mut rest = n;
-    while 100 <= rest {
-        i -= 2;
-        put_pair(bytes, i, rest % 100);
-        rest = rest / 100;
-    }
-    put_pair(bytes, i - 2, rest);
-}
-
-fn put_four(bytes: &mut [u8], at: usize, n: u64)
-    requires { ⌜ (n < 10000) × (at + 4 ≤ length (now bytes)) ⌝ }
-    ensures { λ _. ⌜ now (bytes .exit) ≡ sets (now (bytes .entry)) at (fourOf n) ⌝ }
-{
-    put_pair(bytes, at, n / 100);
-    put_pair(bytes, at + 2, n % 100);
-}
-
-fn put_eight(bytes: &mut [u8], at: usize, n: u64)
-    requires { ⌜ (n < 100000000) × (at + 8 ≤ length (now bytes)) ⌝ }
-    ensures { λ _. ⌜ now (bytes .exit) ≡ sets (now (bytes .entry)) at (eightOf n) ⌝ }
-{
-    put_four(bytes, at, n / 10000);
-    put_four(bytes, at + 4, n % 10000);
-}
-
-// Seven to nine digits. How many there are is hard to foretell, so eight are stored in any case, and a ninth before them. Zeros before the
-// first digit stand where the minus and the space come.
-fn put_nine(bytes: &mut [u8], at: usize, end: usize, n: u64)
-    requires { ⌜
-        (1000000 ≤ n) × (n < 1000000000) × (at + length (digitsOf n) < end) × (end ≤ length (now bytes)) ⌝ }
-    ensures { λ _. ⌜ Ends (now (bytes .entry)) at end n (now (bytes .exit)) ⌝ }
-{
-    let mut first = at;
-    if at + 9 <= end {
-        first = end - 9;
-    }
-    bytes[first] = 48 + (n / 100000000) as u8;
-    put_eight(bytes, end - 8, n % 100000000);
-}
-
-// The digits of a number within C up to a place, with room for a byte before them.
-fn put_before(bytes: &mut [u8], at: usize, end: usize, n: u64)
-    requires { ⌜ (n < 1000000000) × (at + length (digitsOf n) < end) × (end ≤ length (now bytes)) ⌝ }
-    ensures { λ _. ⌜ Ends (now (bytes .entry)) at end n (now (bytes .exit)) ⌝ }
-{
-    if n < 1000000 {
-        put_pairs_back(bytes, end, n);
-    } else {
-        put_nine(bytes, at, end, n);
-    }
-}
-
-// A space and a number. Its sign is hard to foretell, so the minus is stored in any case, and the space over it where there is none.
-fn put_spaced(bytes: &mut [u8], at: usize, a: i64) -> usize
-    requires { ⌜ T (small a) × (at + numberBytes ≤ length (now bytes)) ⌝ }
-    ensures { λ r. ⌜ Put (now (bytes .entry)) at (spaced (a ∷ [])) numberBytes (now (bytes .exit)) r ⌝ }
-{
-    let size = integers::magnitude(a);
-    let mut start = at + 1;
-    if a < 0 {
-        start = at + 2;
-    }
-    let end = start + few_digits(size);
-    put_before(bytes, at, end, size);
-    let sign = start - 1;
-    bytes[sign] = 45;
-    bytes[at] = 32;
-    end
-}
-
-// The same of a number of one or two digits.
-fn put_spaced_pair(bytes: &mut [u8], at: usize, a: i64) -> usize
-    requires { ⌜ (natAbs a < 100) × (at + 4 ≤ length (now bytes)) ⌝ }
-    ensures { λ r. ⌜ Put (now (bytes .entry)) at (spaced (a ∷ [])) numberBytes (now (bytes .exit)) r ⌝ }
-{
-    let size = integers::magnitude(a);
-    let mut start = at + 1;
-    if a < 0 {
-        start = at + 2;
-    }
-    let mut end = start + 1;
-    if 10 <= size {
-        end = start + 2;
-    }
-    put_pair(bytes, end - 2, size);
-    let sign = start - 1;
-    bytes[sign] = 45;
-    bytes[at] = 32;
-    end
-}
-
-// A number of a line past the first, byte by byte: some may be past the store's end.
-fn put_far(bytes: &mut [u8], at: usize, a: i64) -> usize
-    requires { ⌜ T (small a) × (at + numberRoom < 2 ^ 64) ⌝ }
-    ensures { λ r. ⌜ Put (now (bytes .entry)) at (spaced (a ∷ [])) numberBytes (now (bytes .exit)) r ⌝ }
-{
-    let next = put_byte(bytes, at, 32);
-    put_number(bytes, next, a)
-}
-
-// A number of a line past the first.
-fn put_next(bytes: &mut [u8], at: usize, a: i64) -> usize
-    requires { ⌜ T (small a) × (at + numberRoom < 2 ^ 64) ⌝ }
-    ensures { λ r. ⌜ Put (now (bytes .entry)) at (spaced (a ∷ [])) numberBytes (now (bytes .exit)) r ⌝ }
-{
-    if at + NUMBER_BYTES <= bytes.len() {
-        return put_spaced(bytes, at, a);
-    }
-    put_far(bytes, at, a)
-}
-
-// The number of a block, which has at most two digits.
-fn put_block_number(bytes: &mut [u8], at: usize, block: i64) -> usize
-    requires { ⌜ (natAbs block ≤ blockBound + mostSpan) × (at + numberRoom < 2 ^ 64) ⌝ }
-    ensures { λ r. ⌜ Put (now (bytes .entry)) at (spaced (block ∷ [])) numberBytes (now (bytes .exit)) r ⌝ }
-{
-    if at + 4 <= bytes.len() {
-        return put_spaced_pair(bytes, at, block);
-    }
-    put_far(bytes, at, block)
-}
-
-// A space and a count of one or two digits.
-fn put_few(bytes: &mut [u8], at: usize, n: u64) -> usize
-    requires { ⌜ (n < 100) × (at + 3 ≤ length (now bytes)) ⌝ }
-    ensures { λ r. ⌜ Put (now (bytes .entry)) at (spaced (pos n ∷ [])) countBytes (now (bytes .exit)) r ⌝ }
-{
-    let mut end = at + 2;
-    if 10 <= n {
-        end = at + 3;
-    }
-    put_pair(bytes, end - 2, n);
-    bytes[at] = 32;
-    end
-}
-
-fn put_next_count(bytes: &mut [u8], at: usize, n: usize) -> usize
-    requires { ⌜ at + countBytes < 2 ^ 64 ⌝ }
-    ensures { λ r. ⌜ Put (now (bytes .entry)) at (spaced (pos n ∷ [])) countBytes (now (bytes .exit)) r ⌝ }
-{
-    if n < 100 && at + 3 <= bytes.len() {
-        return put_few(bytes, at, n as u64);
-    }
-    let next = put_byte(bytes, at, 32);
-    put_digits(bytes, next, n as u64)
-}
-
-fn put_numbers(bytes: &mut [u8], at: usize, numbers: &[i64]) -> usize
-    requires { ⌜ T (every small (now numbers)) × (at + numberRoom * length (now numbers) < 2 ^ 64) ⌝ }
-    ensures { λ r. ⌜
-        Put (now (bytes .entry)) at (spaced (now (numbers .entry))) (numberBytes * length (now (numbers .entry)))
-        (now (bytes .exit)) r ⌝ }
-{
-    let mut next = at;
-    let mut i = 0;
-    while i < numbers.len() {
-        next = put_next(bytes, next, numbers[i]);
-        i += 1;
-    }
-    next
-}
 
 // The number of coefficients up to the last nonzero one of the first `count`. All of these are looked at: a way out of the loop would
 // cost more than it spares.
@@ -358,10 +98,10 @@ fn put_term(bytes: &mut [u8], at: usize, p: &[i64], n: usize, block: i64, column
     if n == 0 {
         return at;
     }
-    let after_block = put_block_number(bytes, at, block);
-    let after_column = put_next_count(bytes, after_block, column);
-    let after_count = put_next_count(bytes, after_column, n);
-    put_numbers(bytes, after_count, &p[..n])
+    let after_block = number_texts::put_next_short(bytes, at, block);
+    let after_column = number_texts::put_next_count(bytes, after_block, column);
+    let after_count = number_texts::put_next_count(bytes, after_column, n);
+    number_texts::put_numbers(bytes, after_count, &p[..n])
 }
 
 // The terms of one block, by rising column (SCOPE 4.23).
@@ -469,9 +209,9 @@ fn put_equation(bytes: &mut [u8], at: usize, row: &[i64], l: i64, m: usize, bloc
 {
     let mut lengths = [0usize; POLYNOMIALS];
     let terms = term_lengths(&mut lengths, row, m, blocks);
-    let counted = put_digits(bytes, at, terms as u64);
+    let counted = number_texts::put_digits(bytes, at, terms as u64);
     let written = put_terms(bytes, counted, row, &lengths, l, blocks);
-    put_byte(bytes, written, 10)
+    number_texts::put_byte(bytes, written, 10)
 }
 
 // A line with n0 and an equation (SCOPE 4.14).
@@ -493,10 +233,10 @@ fn put_relation(
     let row = &numbers[1..];
     let mut lengths = [0usize; POLYNOMIALS];
     let terms = term_lengths(&mut lengths, row, m, blocks);
-    let indexed = put_number(bytes, at, numbers[0]);
-    let counted = put_next_count(bytes, indexed, terms);
+    let indexed = number_texts::put_number(bytes, at, numbers[0]);
+    let counted = number_texts::put_next_count(bytes, indexed, terms);
     let written = put_terms(bytes, counted, row, &lengths, l, blocks);
-    put_byte(bytes, written, 10)
+    number_texts::put_byte(bytes, written, 10)
 }
 
 fn put_equations(
@@ -553,48 +293,24 @@ fn put_relations(
     next
 }
 
-// A line with one number.
-pub fn put_count(bytes: &mut [u8], at: usize, n: usize) -> usize
-    requires { ⌜ at + countBytes < 2 ^ 64 ⌝ }
-    ensures { λ r. ⌜ Put (now (bytes .entry)) at (line (pos n ∷ [])) countBytes (now (bytes .exit)) r ⌝ }
-{
-    let written = put_digits(bytes, at, n as u64);
-    put_byte(bytes, written, 10)
-}
-
-fn put_columns(bytes: &mut [u8], at: usize, columns: &[usize]) -> usize
-    requires { ⌜ at + countBytes * length (now columns) < 2 ^ 64 ⌝ }
-    ensures { λ r. ⌜
-        Put (now (bytes .entry)) at (spaced (map pos (now (columns .entry)))) (countBytes * length (now (columns .entry)))
-        (now (bytes .exit)) r ⌝ }
-{
-    let mut next = at;
-    let mut i = 0;
-    while i < columns.len() {
-        next = put_next_count(bytes, next, columns[i]);
-        i += 1;
-    }
-    next
-}
-
 fn put_order(bytes: &mut [u8], at: usize, order: &[usize]) -> usize
     requires { ⌜ (length (now order) ≤ columnCount) × (at + orderBytes < 2 ^ 64) ⌝ }
     ensures { λ r. ⌜ Put (now (bytes .entry)) at (line (orderLine (now (order .entry)))) orderBytes (now (bytes .exit)) r ⌝ }
 {
-    let counted = put_digits(bytes, at, order.len() as u64);
-    let written = put_columns(bytes, counted, order);
-    put_byte(bytes, written, 10)
+    let counted = number_texts::put_digits(bytes, at, order.len() as u64);
+    let written = number_texts::put_columns(bytes, counted, order);
+    number_texts::put_byte(bytes, written, 10)
 }
 
 fn put_sizes(bytes: &mut [u8], at: usize, m: usize, l: i64, t: i64) -> usize
     requires { ⌜ (at + sizesRoom < 2 ^ 64) × T (small l) × T (small t) ⌝ }
     ensures { λ r. ⌜ Put (now (bytes .entry)) at (line (pos 3 ∷ pos m ∷ l ∷ t ∷ [])) sizesBytes (now (bytes .exit)) r ⌝ }
 {
-    let after_form = put_byte(bytes, at, 51);
-    let after_m = put_next_count(bytes, after_form, m);
-    let after_l = put_next(bytes, after_m, l);
-    let after_t = put_next(bytes, after_l, t);
-    put_byte(bytes, after_t, 10)
+    let after_form = number_texts::put_byte(bytes, at, 51);
+    let after_m = number_texts::put_next_count(bytes, after_form, m);
+    let after_l = number_texts::put_next(bytes, after_m, l);
+    let after_t = number_texts::put_next(bytes, after_l, t);
+    number_texts::put_byte(bytes, after_t, 10)
 }
 
 // The number of coefficients of a right side, and these (SCOPE 4.25).
@@ -603,9 +319,9 @@ fn put_side(bytes: &mut [u8], at: usize, p: &[i64]) -> usize
     ensures { λ r. ⌜ Put (now (bytes .entry)) at (line (sideLine (now (p .entry)))) sideBytes (now (bytes .exit)) r ⌝ }
 {
     let n = trimmed(p);
-    let counted = put_digits(bytes, at, n as u64);
-    let written = put_numbers(bytes, counted, &p[..n]);
-    put_byte(bytes, written, 10)
+    let counted = number_texts::put_digits(bytes, at, n as u64);
+    let written = number_texts::put_numbers(bytes, counted, &p[..n]);
+    number_texts::put_byte(bytes, written, 10)
 }
 
 // Are the right sides of the first records of a store zero, each behind so many numbers of its record?
@@ -674,7 +390,7 @@ fn put_fifth(
     if no_sides(rows, equations, relations, count) {
         return at;
     }
-    let after_count = put_count(bytes, at, equations + count);
+    let after_count = number_texts::put_count(bytes, at, equations + count);
     let after_rows = put_sides(bytes, after_count, rows, ENTRIES, equations);
     put_sides(bytes, after_rows, relations, 1 + ENTRIES, count)
 }
@@ -701,9 +417,9 @@ fn put_sheet(
     let m = sizes.m;
     let blocks = stores::validity::span(sizes) + 1;
     let after_sizes = put_sizes(bytes, 0, m, l, sizes.t);
-    let after_number = put_count(bytes, after_sizes, equations);
+    let after_number = number_texts::put_count(bytes, after_sizes, equations);
     let after_rows = put_equations(bytes, after_number, rows, equations, l, m, blocks);
-    let after_count = put_count(bytes, after_rows, count);
+    let after_count = number_texts::put_count(bytes, after_rows, count);
     let after_relations = put_relations(bytes, after_count, relations, count, l, m, blocks);
     let after_order = put_order(bytes, after_relations, columns);
     put_fifth(bytes, after_order, rows, equations, relations, count)

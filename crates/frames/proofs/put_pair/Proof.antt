@@ -1,6 +1,6 @@
 -- `frames::put_pair` meets its contract: the three pieces are one line.
 -- Assumes nothing.
-use Rattle.writing.specs.Writer.{put-then, put-same}
+use Rattle.number_texts.specs.Runs.{put-then, put-same}
 use Rattle.frames.specs.Lines.{two-numbers}
 use borrow.Author.Needs.{needs}
 use Rattle.frames.proofs.put_pair.Statement.{statement}

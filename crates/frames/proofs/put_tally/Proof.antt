@@ -5,7 +5,7 @@ use mathlib.Core.Path.{refl}
 use native.Mathlib.Omega.{arith}
 use Rattle.rules.specs.Numbers.{lines}
 use Rattle.rules.specs.Batch.{Tally, clientCount, tallyLines}
-use Rattle.writing.specs.Writer.{Going, going-first, going-next, going-last}
+use Rattle.number_texts.specs.Runs.{Going, going-first, going-next, going-last}
 use Rattle.frames.specs.Lines.{pairBytes, linesFrom, lines-next, lines-end}
 use borrow.Author.Needs.{needs}
 use Rattle.frames.proofs.put_tally.Statement.{statement}

@@ -8,7 +8,7 @@ use denote.Ref.{now}
 use lib.Dec.{leb→le}
 use lib.IntN.{ℤ, natAbs}
 use Rattle.rules.specs.Limits.{blockBound, polynomialCount}
-use Rattle.writing.specs.SheetBytes.{numberBytes}
+use Rattle.number_texts.specs.TextBytes.{numberBytes}
 use Rattle.writing.specs.LineLengths.{longTerm, mostInRecords, most-in-records, linesLength, lines-most}
 use Rattle.writing.proofs.writer.plainly_fits.Statement.{statement}
 use Rattle.writing.proofs.writer.plainly_fits.Tie as tie

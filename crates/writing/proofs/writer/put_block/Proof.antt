@@ -14,8 +14,9 @@ use Rattle.rules.specs.Limits.{small, coefficientCount, columnCount}
 use Rattle.lists.specs.Tests.{every-part}
 use Rattle.writing.specs.SheetBytes.{termBytes}
 use Rattle.rules.specs.Layout.{blockOf}
-use Rattle.writing.specs.Writer.{Going, going-first, going-next, going-last, put-same}
-use Rattle.writing.specs.Writer.{spaced, termAt, numbersOf, block-next, block-end}
+use Rattle.number_texts.specs.Runs.{Going, going-first, going-next, going-last, put-same}
+use Rattle.writing.specs.Writer.{termAt, numbersOf, block-next, block-end}
+use Rattle.number_texts.specs.Texts.{spaced}
 use borrow.Author.Needs.{needs}
 use Rattle.writing.proofs.writer.put_block.Statement.{statement}
 use Rattle.writing.proofs.writer.put_block.Tie as tie

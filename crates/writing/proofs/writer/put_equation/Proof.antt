@@ -9,7 +9,9 @@ use mir.Facts.{toZ-ofZ}
 use Rattle.rules.specs.Numbers.{newline}
 use Rattle.rules.specs.Sheets.{termsFrom}
 use Rattle.rules.specs.Stores.{rowOf}
-use Rattle.writing.specs.Writer.{put-same, put-then, digitsOf, spaced, numbersOf, equation-line}
+use Rattle.writing.specs.Writer.{numbersOf, equation-line}
+use Rattle.number_texts.specs.Runs.{put-same, put-then}
+use Rattle.number_texts.specs.Texts.{digitsOf, spaced}
 use borrow.Author.Needs.{needs}
 use Rattle.writing.proofs.writer.put_equation.Statement.{statement}
 use Rattle.writing.proofs.writer.put_equation.Tie as tie

@@ -4,7 +4,8 @@
 use mathlib.Core.Path.{sym, _∙_}
 use borrow.Author.Needs.{needs}
 use denote.Ref.{now}
-use Rattle.writing.specs.Writer.{put-none, put-same, put-then, sidesGiven, sides-none, sides-some}
+use Rattle.writing.specs.Writer.{sidesGiven, sides-none, sides-some}
+use Rattle.number_texts.specs.Runs.{put-none, put-same, put-then}
 use Rattle.writing.proofs.writer.put_fifth.Statement.{statement}
 use Rattle.writing.proofs.writer.put_fifth.Tie as tie
 

@@ -2,7 +2,8 @@
 -- Assumes nothing.
 use denote.Ref.{now}
 use native.Mathlib.Omega.{arith}
-use Rattle.writing.specs.Writer.{put-same, put-then, put-wide, order-line}
+use Rattle.writing.specs.Writer.{order-line}
+use Rattle.number_texts.specs.Runs.{put-same, put-then, put-wide}
 use borrow.Author.Needs.{needs}
 use Rattle.writing.proofs.writer.put_order.Statement.{statement}
 use Rattle.writing.proofs.writer.put_order.Tie as tie

@@ -18,7 +18,9 @@ use Rattle.rules.specs.Sheets.{termsFrom}
 use Rattle.rules.specs.Stores.{rowOf}
 use Rattle.lists.specs.Parts.{parts}
 use Rattle.rules.specs.Layout.{polynomialsIn}
-use Rattle.writing.specs.Writer.{put-same, put-then, spaced-then, spaced, numbersOf, nonzeroCount, Unused, relation-line}
+use Rattle.writing.specs.Writer.{numbersOf, nonzeroCount, Unused, relation-line}
+use Rattle.number_texts.specs.Runs.{put-same, put-then}
+use Rattle.number_texts.specs.Texts.{spaced-then, spaced}
 use borrow.Author.Needs.{needs, sfits-of}
 use Rattle.writing.proofs.writer.put_relation.Statement.{statement}
 use Rattle.writing.proofs.writer.put_relation.Tie as tie

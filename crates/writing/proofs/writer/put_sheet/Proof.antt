@@ -17,7 +17,9 @@ use Rattle.rules.specs.Sheets.{equationNumbers, relationLine, orderLine, sideLi
 use Rattle.rules.specs.Stores.{span, equations, rowsOf, relationsOf}
 use Rattle.stores.specs.Validity.{sizesOf}
 use Rattle.writing.specs.LineLengths.{linesLength}
-use Rattle.writing.specs.Writer.{put-same, put-then, put-few, put-wide, small-block, UnusedParts, sidesGiven, sheet-bytes}
+use Rattle.writing.specs.Writer.{UnusedParts, sidesGiven, sheet-bytes}
+use Rattle.number_texts.specs.Runs.{put-same, put-then, put-few, put-wide}
+use Rattle.number_texts.specs.Texts.{small-pair}
 use Rattle.writing.proofs.writer.put_sheet.Statement.{statement}
 use Rattle.writing.proofs.writer.put_sheet.Tie as tie
 
@@ -54,8 +56,8 @@ put-sizes-requires c κs =
     let told = c .before .before in
     let ready = told .before .before .before .before .pre .0 in (
       search needs,
-      rw (back-l told) (small-block (l told) (omega (arith, ready .blocks))),
-      rw (back-t told) (small-block (t told) (omega (arith, ready .low))),
+      rw (back-l told) (small-pair (l told) (omega (arith, ready .blocks))),
+      rw (back-t told) (small-pair (t told) (omega (arith, ready .low))),
     )
 
 put-count-requires : tie.Need-put-count-requires

@@ -11,7 +11,8 @@ use lib.ListN.{length, take}
 use lib.Seq.{length-take-le}
 use Rattle.lists.specs.Tests.{every-take}
 use Rattle.rules.specs.Limits.{small}
-use Rattle.writing.specs.Writer.{trim-le, put-same, put-then, put-wide, side-line}
+use Rattle.writing.specs.Writer.{trim-le, side-line}
+use Rattle.number_texts.specs.Runs.{put-same, put-then, put-wide}
 use Rattle.writing.proofs.writer.put_side.Statement.{statement}
 use Rattle.writing.proofs.writer.put_side.Tie as tie
 

@@ -14,7 +14,8 @@ use Rattle.rules.specs.Limits.{coefficientCount, rowLength, mostRelations, smal
 use Rattle.rules.specs.Numbers.{line, lines}
 use Rattle.rules.specs.Sheets.{sideLine}
 use Rattle.writing.specs.SheetBytes.{sideBytes}
-use Rattle.writing.specs.Writer.{Going, going-first, put-same, lines-next, lines-last}
+use Rattle.writing.specs.Writer.{lines-next, lines-last}
+use Rattle.number_texts.specs.Runs.{Going, going-first, put-same}
 use Rattle.writing.specs.Writer.{sideIn, sidesIn, record-place, record-early, side-at}
 use Rattle.writing.proofs.writer.put_sides.Statement.{statement}
 use Rattle.writing.proofs.writer.put_sides.Tie as tie

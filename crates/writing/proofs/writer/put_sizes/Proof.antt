@@ -6,7 +6,9 @@ use Prim.Native.Nat.{ℕ}
 use lib.IntN.{ℤ, pos}
 use mir.Facts.{toZ-ofZ}
 use Rattle.rules.specs.Numbers.{newline}
-use Rattle.writing.specs.Writer.{put-same, put-then, spaced, spaced-then, sizes-line}
+use Rattle.writing.specs.Writer.{sizes-line}
+use Rattle.number_texts.specs.Runs.{put-same, put-then}
+use Rattle.number_texts.specs.Texts.{spaced, spaced-then}
 use borrow.Author.Needs.{needs}
 use Rattle.writing.proofs.writer.put_sizes.Statement.{statement}
 use Rattle.writing.proofs.writer.put_sizes.Tie as tie

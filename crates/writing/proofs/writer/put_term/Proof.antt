@@ -11,8 +11,11 @@ use lib.Seq.{length-take-le}
 use mir.Facts.{toZ-ofZ}
 use Rattle.rules.specs.Limits.{small}
 use Rattle.lists.specs.Tests.{every-take}
-use Rattle.writing.specs.SheetBytes.{numberBytes, countBytes, termBytes}
-use Rattle.writing.specs.Writer.{trim-le, term-none, term-some, spaced, spaced-then, put-none, put-same, put-wide}
+use Rattle.writing.specs.SheetBytes.{termBytes}
+use Rattle.number_texts.specs.TextBytes.{numberBytes, countBytes}
+use Rattle.writing.specs.Writer.{trim-le, term-none, term-some}
+use Rattle.number_texts.specs.Runs.{put-none, put-same, put-wide}
+use Rattle.number_texts.specs.Texts.{spaced, spaced-then}
 use borrow.Author.Needs.{needs}
 use Rattle.writing.proofs.writer.put_term.Statement.{statement}
 use Rattle.writing.proofs.writer.put_term.Tie as tie
@@ -37,10 +40,10 @@ returns c =
     let start = c .before .before in
     put-none (ap spaced (term-none (start .args .block) (start .args .column) (p start) (sym (start .pre .1) ∙ c .if1 .taken)))
 
-put-block-number-requires : tie.Need-put-block-number-requires
-put-block-number-requires c κs =
+put-next-short-requires : tie.Need-put-next-short-requires
+put-next-short-requires c κs =
     let start = c .before .before .before in
-    (rw (toZ-ofZ (start .fits .block)) (start .pre .4), search needs)
+    (rw (toZ-ofZ (start .fits .block)) (omega (arith, start .pre .4)), search needs)
 
 put-next-count-requires : tie.Need-put-next-count-requires
 put-next-count-requires c κs = search needs
@@ -74,7 +77,7 @@ returns-2 c =
     let bound : numberBytes + (countBytes + (countBytes + numberBytes * length coefficients)) ≤ termBytes = omega (arith, size t, few t) in
     put-wide
     (put-same
-    (spaced-then (_ ∷ []) (pos column ∷ pos (n t) ∷ coefficients) (blocked .put-block-number .ensures)
+    (spaced-then (_ ∷ []) (pos column ∷ pos (n t) ∷ coefficients) (blocked .put-next-short .ensures)
     (spaced-then (pos column ∷ []) (pos (n t) ∷ coefficients) (columned .put-next-count .ensures)
     (spaced-then (pos (n t) ∷ []) coefficients (counted .put-next-count2 .ensures) (c .before .before .put-numbers .ensures))))
     (ap (λ s. spaced (s ∷ pos column ∷ pos (n t) ∷ coefficients)) (toZ-ofZ (t .fits .block))
@@ -86,7 +89,7 @@ put-term-spec =
     tie.close
     (tie.spec
     returns
-    put-block-number-requires
+    put-next-short-requires
     put-next-count-requires
     put-next-count-requires-2
     slice-aggregate-put-numbers

@@ -19,8 +19,9 @@ use Rattle.rules.specs.Sheets.{trim, blockTerms, termsFrom}
 use Rattle.rules.specs.Stores.{rowOf}
 use Rattle.writing.specs.SheetBytes.{blockBytes}
 use Rattle.rules.specs.Layout.{blockOf, coefficientsAt}
-use Rattle.writing.specs.Writer.{Going, going-first, going-next, going-last, put-same}
-use Rattle.writing.specs.Writer.{spaced, numbersOf, block-size, lengths-part, terms-next, terms-end}
+use Rattle.number_texts.specs.Runs.{Going, going-first, going-next, going-last, put-same}
+use Rattle.writing.specs.Writer.{numbersOf, block-size, lengths-part, terms-next, terms-end}
+use Rattle.number_texts.specs.Texts.{spaced}
 use borrow.Author.Needs.{needs}
 use Rattle.writing.proofs.writer.put_terms.Statement.{statement}
 use Rattle.writing.proofs.writer.put_terms.Tie as tie

@@ -15,7 +15,8 @@ use Rattle.rules.specs.Sheets.{writeSheet}
 use Rattle.rules.specs.SheetCalls.{WriteCall, sheetOf, unwritten, writeCall}
 use Rattle.rules.specs.Stores.{Sizes, equations}
 use Rattle.stores.specs.Validity.{sizesOf}
-use Rattle.writing.specs.Writer.{Put, sheetGiven}
+use Rattle.writing.specs.Writer.{sheetGiven}
+use Rattle.number_texts.specs.Runs.{Put}
 use Rattle.lists.specs.Pasted.{sets-out}
 use Rattle.lists.specs.Tests.{true-T}
 use Rattle.writing.specs.WriterChecks.{Checked, checked, sheet-given, given-few}

@@ -1,0 +1,4 @@
+pub mod DigitPairs
+pub mod Runs
+pub mod TextBytes
+pub mod Texts
