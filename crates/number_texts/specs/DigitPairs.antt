@@ -5,11 +5,13 @@
 --   pairOf n           the two digits of a number below 100
 --   fourOf n, eightOf n   the four digits of a number below 10^4, and the eight of one below 10^8
 --   Ends d at end n e  the digits of n were stored in d up to a place, and what stands between `at` and them is still to be stored
+--   Begins at a start  where the digits of a number begin that has a space before it
 --
 -- Main statements
 --   run-behind, run-over   a run of bytes stored behind another, before that; a byte that a run is stored over
 --   digits-pair, digits-two   the digits of a number below 100, and the last two of any other
 --   pair-back, pair-first   one pair more, and the last
+--   four-first         three or four digits at once
 --   nine-stored        eight digits at once, and the ninth before them
 --   long-stored        a number with the space before it, stored so that no step depends on its sign
 --   few-stored         a count with the space before it
@@ -114,13 +116,25 @@ pair-first d at i n few front some e = go (ltb n 10) (ltb→lt n 10) (nltb→le 
     go true low high = one (low tt)
     go false low high = several (high tt)
 
--- ---- seven to nine digits at once
+-- ---- several digits at once
 
 abbrev pub fourOf : ℕ → List ℕ
 fourOf n = pairOf (n / 100) ++ pairOf (n % 100)
 
 abbrev pub eightOf : ℕ → List ℕ
 eightOf n = fourOf (n / 10000) ++ fourOf (n % 10000)
+
+-- Three digits or four.
+pub four-first : (d : List ℕ) (at i n : ℕ) → 100 ≤ n → n < 10000 → Ends d at i n (sets d (i - 4) (fourOf n))
+four-first d at i n low high front some e =
+    let top = pairOf (n / 100) in
+    let last = sets d (i - 2) (pairOf (n % 100)) in
+    let place : i - 4 ≡ i - 2 - 2 = omega arith in
+    ap (λ l. sets l at front)
+    (sym (run-behind d (i - 4) (i - 2) top (pairOf (n % 100)) (omega (arith, two-more n low, digits-some (n / 100))))
+    ∙ ap (λ j. sets last j top) place)
+    ∙ pair-first last at (i - 2) (n / 100) (omega arith) front some (omega (arith, two-more n low))
+    ∙ pair-back d at i n front low e
 
 -- The last six digits.
 abbrev sixOf : ℕ → List ℕ
@@ -225,12 +239,16 @@ module _ (d : List ℕ) (at end n first : ℕ) (big : 1000000 ≤ n) (few : n < 
 
 -- ---- a number with the space before it
 
+-- The digits of a stand behind the minus of a negative number, and behind the space otherwise.
+pub record Begins (at : ℕ) (a : ℤ) (start : ℕ) : Type 0 where
+  pub sides : ((ltZ a (pos 0) ≡ true) × (start ≡ at + 2)) ⊎ ((ltZ a (pos 0) ≡ false) × (start ≡ at + 1))
+  pub bottom : at < start
+  pub top : start ≤ at + 2
+
 -- The minus is stored in any case, and the space over it where there is none.
-pub long-stored : (d e : List ℕ) (at start n k : ℕ) (a : ℤ) → n ≡ natAbs a → Ends d at (start + length (digitsOf n)) n e
-    → length (digitsOf n) + 2 ≤ k
-    → ((ltZ a (pos 0) ≡ true) × (start ≡ at + 2)) ⊎ ((ltZ a (pos 0) ≡ false) × (start ≡ at + 1))
-    → Put d at (spaced (a ∷ [])) k (set (set e (start - 1) minus) at space) (start + length (digitsOf n))
-long-stored d e at start n k a size ends room sides =
+pub long-stored : (d e : List ℕ) (at start end n k : ℕ) (a : ℤ) → n ≡ natAbs a → Ends d at end n e → end ≡ start + length (digitsOf n)
+    → length (digitsOf n) + 2 ≤ k → Begins at a start → Put d at (spaced (a ∷ [])) k (set (set e (start - 1) minus) at space) end
+long-stored d e at start end n k a size ends last room begins =
     ⊎-elim
     (λ w.
     let sign : start - 1 ≡ suc at = omega (arith, w .1) in
@@ -253,7 +271,7 @@ long-stored d e at start n k a size ends room sides =
       few = omega arith;
     })
     (ap (λ l. space ∷ l) (ap digitsOf size ∙ sym (decimal-positive a (w .0))) ∙ spaced-number a))
-    sides
+    (begins .sides)
 
 -- A count has no sign.
 pub few-stored : (d e : List ℕ) (at end n k : ℕ) → Ends d at end n e → end ≡ at + 1 + length (digitsOf n) → length (digitsOf n) < k

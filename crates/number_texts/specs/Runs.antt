@@ -5,7 +5,7 @@
 --
 -- Main statements
 --   put-then          two runs of bytes stored one after the other are one run
---   put-same, put-few, put-wide, put-none, put-length   the same run, said otherwise; one of no bytes; the store's length
+--   put-same, put-few, put-wide, put-into, put-none, put-length   the same run, said otherwise; one of no bytes; the store's length
 --   going-first, going-next, going-last   a loop that stores a run part by part
 use mathlib.Core.Path.{_≡_, refl, sym, _∙_, ap, ap₂, subst}
 use mathlib.Core.List.{List, [], _++_}
@@ -42,6 +42,10 @@ put-few p few = record { stored = p .stored; passed = p .passed; few = few }
 
 pub put-wide : {d e : List ℕ} {at j k next : ℕ} {xs : List ℕ} → Put d at xs j e next → j ≤ k → Put d at xs k e next
 put-wide p le = put-few p (le-trans (p .few) le)
+
+-- The same store, said otherwise.
+pub put-into : {d e f : List ℕ} {at k next : ℕ} {xs : List ℕ} → Put d at xs k e next → f ≡ e → Put d at xs k f next
+put-into p same = record { stored = same ∙ p .stored; passed = p .passed; few = p .few }
 
 pub put-none : {d xs : List ℕ} {at k : ℕ} → xs ≡ [] → Put d at xs k d at
 put-none {d} {xs} {at} {k} none =

@@ -1,18 +1,19 @@
 // The writing of numbers. Each writing function stores its bytes from a place on, as far as the store goes, counts them all and gives the
-// next place: called on an empty part of the store it only counts.
+// next place: called on an empty part of the store it only counts. No public entry points: callers know that places stay below 2^64 and
+// numbers within C, and the contracts give the bytes and the place by equations.
 ghost use mathlib.Core.Path.{_≡_};
 ghost use mathlib.Core.List.{[], _∷_, map};
-ghost use Prim.Native.Nat.{ℕ, _+_, _*_, _^_, _≤_, _<_};
+ghost use Prim.Native.Nat.{ℕ, _+_, _-_, _*_, _^_, _≤_, _<_};
 ghost use lib.IntN.{pos, natAbs};
 ghost use lib.Dec.{T};
-ghost use lib.ListN.{length};
+ghost use lib.ListN.{length, set};
 ghost use lib.Seq.{sets};
 ghost use Rattle.lists.specs.Tests.{every};
-ghost use Rattle.rules.specs.Limits.{small};
-ghost use Rattle.rules.specs.Numbers.{decimal, line};
+ghost use Rattle.rules.specs.Limits.{bound, small};
+ghost use Rattle.rules.specs.Numbers.{decimal, line, space, minus};
 ghost use Rattle.number_texts.specs.Runs.{Put};
 ghost use Rattle.number_texts.specs.Texts.{digitsOf, spaced};
-ghost use Rattle.number_texts.specs.DigitPairs.{pairOf, fourOf, eightOf, Ends};
+ghost use Rattle.number_texts.specs.DigitPairs.{pairOf, fourOf, eightOf, Ends, Begins};
 ghost use Rattle.number_texts.specs.TextBytes.{numberBytes, countBytes, numberRoom};
 
 // The bytes of a space and the longest number within C, and of a space and the longest count, as in `specs/TextBytes.antt`.
@@ -175,21 +176,81 @@ fn put_before(bytes: &mut [u8], at: usize, end: usize, n: u64)
     }
 }
 
-// A space and a number. Its sign is hard to foretell, so the minus is stored in any case, and the space over it where there is none.
+// One digit or two from a place on. Two are stored in any case: a zero before a single digit stands where something else comes.
+fn put_short(bytes: &mut [u8], start: usize, n: u64) -> usize
+    requires { ⌜ (n < 100) × (0 < start) × (start + 2 ≤ length (now bytes)) ⌝ }
+    ensures { λ r. ⌜
+        (r ≡ start + length (digitsOf n)) × ((at : ℕ) → Ends (now (bytes .entry)) at r n (now (bytes .exit))) ⌝ }
+{
+    let mut end = start + 1;
+    if 10 <= n {
+        end = start + 2;
+    }
+    put_pair(bytes, end - 2, n);
+    end
+}
+
+// The same of three digits or four.
+fn put_middle(bytes: &mut [u8], start: usize, n: u64) -> usize
+    requires { ⌜ (100 ≤ n) × (n < 10000) × (0 < start) × (start + 4 ≤ length (now bytes)) ⌝ }
+    ensures { λ r. ⌜
+        (r ≡ start + length (digitsOf n)) × ((at : ℕ) → Ends (now (bytes .entry)) at r n (now (bytes .exit))) ⌝ }
+{
+    let mut end = start + 3;
+    if 1000 <= n {
+        end = start + 4;
+    }
+    put_four(bytes, end - 4, n);
+    end
+}
+
+// The digits of a number within C from a place on, with room for a byte before them. Most numbers have one digit, few more than four.
+fn put_size(bytes: &mut [u8], at: usize, start: usize, n: u64) -> usize
+    requires { ⌜ (n ≤ bound) × (at < start) × (start + 9 ≤ length (now bytes)) ⌝ }
+    ensures { λ r. ⌜ (r ≡ start + length (digitsOf n)) × Ends (now (bytes .entry)) at r n (now (bytes .exit)) ⌝ }
+{
+    if n < 100 {
+        return put_short(bytes, start, n);
+    }
+    if n < 10000 {
+        return put_middle(bytes, start, n);
+    }
+    let end = start + few_digits(n);
+    put_before(bytes, at, end, n);
+    end
+}
+
+// Where the digits of a number begin that has a space before it.
+fn digits_from(at: usize, a: i64) -> usize
+    requires { ⌜ at + 2 < 2 ^ 64 ⌝ }
+    ensures { λ r. ⌜ Begins at a r ⌝ }
+{
+    let mut start = at + 1;
+    if a < 0 {
+        start = at + 2;
+    }
+    start
+}
+
+// What stands before them. The sign is hard to foretell, so the minus is stored in any case, and the space over it where there is none.
+fn put_sign(bytes: &mut [u8], at: usize, start: usize)
+    requires { ⌜ (at < start) × (start ≤ length (now bytes)) ⌝ }
+    ensures { λ _. ⌜ now (bytes .exit) ≡ set (set (now (bytes .entry)) (start - 1) minus) at space ⌝ }
+{
+    let sign = start - 1;
+    bytes[sign] = 45;
+    bytes[at] = 32;
+}
+
+// A space and a number.
 fn put_spaced(bytes: &mut [u8], at: usize, a: i64) -> usize
     requires { ⌜ T (small a) × (at + numberBytes ≤ length (now bytes)) ⌝ }
     ensures { λ r. ⌜ Put (now (bytes .entry)) at (spaced (a ∷ [])) numberBytes (now (bytes .exit)) r ⌝ }
 {
     let size = integers::magnitude(a);
-    let mut start = at + 1;
-    if a < 0 {
-        start = at + 2;
-    }
-    let end = start + few_digits(size);
-    put_before(bytes, at, end, size);
-    let sign = start - 1;
-    bytes[sign] = 45;
-    bytes[at] = 32;
+    let start = digits_from(at, a);
+    let end = put_size(bytes, at, start, size);
+    put_sign(bytes, at, start);
     end
 }
 
@@ -199,18 +260,9 @@ fn put_spaced_pair(bytes: &mut [u8], at: usize, a: i64) -> usize
     ensures { λ r. ⌜ Put (now (bytes .entry)) at (spaced (a ∷ [])) numberBytes (now (bytes .exit)) r ⌝ }
 {
     let size = integers::magnitude(a);
-    let mut start = at + 1;
-    if a < 0 {
-        start = at + 2;
-    }
-    let mut end = start + 1;
-    if 10 <= size {
-        end = start + 2;
-    }
-    put_pair(bytes, end - 2, size);
-    let sign = start - 1;
-    bytes[sign] = 45;
-    bytes[at] = 32;
+    let start = digits_from(at, a);
+    let end = put_short(bytes, start, size);
+    put_sign(bytes, at, start);
     end
 }
 
@@ -250,11 +302,7 @@ fn put_few(bytes: &mut [u8], at: usize, n: u64) -> usize
     requires { ⌜ (n < 100) × (at + 3 ≤ length (now bytes)) ⌝ }
     ensures { λ r. ⌜ Put (now (bytes .entry)) at (spaced (pos n ∷ [])) countBytes (now (bytes .exit)) r ⌝ }
 {
-    let mut end = at + 2;
-    if 10 <= n {
-        end = at + 3;
-    }
-    put_pair(bytes, end - 2, n);
+    let end = put_short(bytes, at + 1, n);
     bytes[at] = 32;
     end
 }

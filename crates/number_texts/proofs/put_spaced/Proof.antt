@@ -1,116 +1,69 @@
--- `number_texts::put_spaced` meets its contract. The digits stand behind the minus of a negative number, and behind the space otherwise.
+-- `number_texts::put_spaced` meets its contract: the digits, and before them the minus and the space.
 -- Assumes nothing.
 use mathlib.Core.Path.{_≡_, _∙_, ap}
-use mathlib.Core.Bool.{true, false}
-use mathlib.Core.List.{List}
-use mathlib.Core.Logic.{_⊎_, inl, inr, ⊎-elim}
-use Prim.Native.Nat.{ℕ, _+_, _≤_}
+use Prim.Native.Nat.{_≤_}
 use native.Mathlib.Omega.{arith}
 use borrow.Author.Needs.{needs}
 use denote.Ref.{now}
-use lib.IntN.{pos, natAbs}
-use lib.ListN.{length, length-set}
-use lib.Signed.{ltZ}
+use lib.IntN.{natAbs}
 use mir.Facts.{toZ-ofZ}
 use Rattle.rules.specs.Limits.{bound}
 use Rattle.number_texts.specs.TextBytes.{numberBytes}
-use Rattle.number_texts.specs.Texts.{digitsOf, nine-digits, small-size}
-use Rattle.number_texts.specs.DigitPairs.{long-stored}
+use Rattle.number_texts.specs.Runs.{put-into}
+use Rattle.number_texts.specs.Texts.{nine-digits, small-size}
+use Rattle.number_texts.specs.DigitPairs.{Begins, long-stored}
 use Rattle.number_texts.proofs.put_spaced.Statement.{statement}
 use Rattle.number_texts.proofs.put_spaced.Tie as tie
 
--- the size of the number
-module _ (c : tie.After-magnitude) where
-  size : c .magnitude .result ≡ natAbs (c .before .before .args .a)
-  size = c .magnitude .ensures ∙ ap natAbs (toZ-ofZ (c .before .before .fits .a))
-
-  low : c .magnitude .result ≤ bound
-  low = omega (arith, size, small-size (c .before .before .args .a) (c .before .before .pre .0))
-
-  few : length (digitsOf (c .magnitude .result)) ≤ 9
-  few = nine-digits (c .magnitude .result) low
-
--- the place of the first digit
-module _ (c : tie.Joined1) where
+-- the size of the number, and where its digits begin
+module _ (c : tie.After-digits-from) where
   abbrev begin : tie.Start
   begin = c .before .before .before
 
-  abbrev bytes : List ℕ
-  bytes = now (begin .args .bytes)
+  size : c .before .magnitude .result ≡ natAbs (begin .args .a)
+  size = c .before .magnitude .ensures ∙ ap natAbs (toZ-ofZ (begin .fits .a))
 
-  abbrev at : ℕ
-  at = begin .args .at
+  low : c .before .magnitude .result ≤ bound
+  low = omega (arith, size, small-size (begin .args .a) (begin .pre .0))
 
-  sides : ((ltZ (begin .args .a) (pos 0) ≡ true) × (c .if1 .start ≡ at + 2)) ⊎ ((ltZ (begin .args .a) (pos 0) ≡ false) × (c .if1 .start ≡ at + 1))
-  sides =
-      let back = toZ-ofZ (begin .fits .a) in
-      ⊎-elim (λ w. inl (rw back at (w .0 .taken), w .1)) (λ w. inr (rw back at (w .0 .left), w .1)) (c .if1 .came)
-
-  bottom : at + 1 ≤ c .if1 .start
-  bottom = ⊎-elim (λ w. omega (arith, w .1)) (λ w. omega (arith, w .1)) sides
-
-  top : c .if1 .start ≤ at + 2
-  top = ⊎-elim (λ w. omega (arith, w .1)) (λ w. omega (arith, w .1)) sides
+  begins : Begins (begin .args .at) (begin .args .a) (c .digits-from .result)
+  begins = rw (toZ-ofZ (begin .fits .a)) at (c .digits-from .ensures)
 
 magnitude-requires : tie.Need-magnitude-requires
 magnitude-requires c κs = search needs
 
-add-start : tie.Need-add-start
-add-start c = search needs
+digits-from-requires : tie.Need-digits-from-requires
+digits-from-requires c κs = search needs
 
-add-start-2 : tie.Need-add-start-2
-add-start-2 c = search needs
+put-size-requires : tie.Need-put-size-requires
+put-size-requires c κs =
+    let e = c .before in
+    (low e, begins e .bottom, omega (arith, begins e .top, begin e .pre .1))
 
-few-digits-requires : tie.Need-few-digits-requires
-few-digits-requires c κs = omega (arith, low (c .before))
-
-add-end : tie.Need-add-end
-add-end c = omega (arith, top (c .before .before), few (c .before .before .before), begin (c .before .before) .pre .1)
-
-put-before-requires : tie.Need-put-before-requires
-put-before-requires c κs =
-    let e = c .before .before .before in
-    (omega (arith, low (e .before)), omega (arith, bottom e), omega (arith, top e, few (e .before), begin e .pre .1))
-
-sub-sign : tie.Need-sub-sign
-sub-sign c = omega (arith, bottom (c .before .before .before .before .before .before))
-
-slice-write-bytes : tie.Need-slice-write-bytes
-slice-write-bytes c =
-    let e = c .before .before .before .before .before .before in
-    omega (arith, bottom e, top e, begin e .pre .1)
-
-slice-write-bytes-2 : tie.Need-slice-write-bytes-2
-slice-write-bytes-2 c =
-    let e = c .before .before .before .before .before .before in
-    simp length-set (omega (arith, begin e .pre .1))
+put-sign-requires : tie.Need-put-sign-requires
+put-sign-requires c κs = search needs
 
 same-length : tie.Need-same-length
 same-length c = search needs
 
 returns : tie.Need-returns
 returns c =
-    let e = c .before .before .before .before .before .before in
+    let stored = c .before .before .before .before .before .before .put-size in
+    let e = c .before .before .before .before .before .before .before .before in
+    let args = begin e .args in
     let n = e .before .magnitude .result in
-    let count = c .before .before .before .before .before .few-digits .ensures in
-    let stored =
-    long-stored (bytes e) (c .before .before .put-before .last .0) (at e) (e .if1 .start) n numberBytes (begin e .args .a) (size (e .before))
-    (λ front some same. c .before .before .put-before .ensures front some (omega (arith, count, same)))
-    (omega (arith, few (e .before))) (sides e) in
-    rw count stored
+    put-into
+    (long-stored (now (args .bytes)) (stored .last .0) (args .at) (e .digits-from .result) (stored .result) n numberBytes (args .a) (size e)
+    (stored .ensures .1) (stored .ensures .0) (omega (arith, nine-digits n (low e))) (begins e))
+    (c .before .before .put-sign .ensures)
 
 pub put-spaced-spec : {M : Type 1} → statement M
 put-spaced-spec =
     tie.close
     (tie.spec
     magnitude-requires
-    add-start
-    add-start-2
-    few-digits-requires
-    add-end
-    put-before-requires
-    sub-sign
-    slice-write-bytes
-    slice-write-bytes-2
+    digits-from-requires
+    put-size-requires
+    put-sign-requires
     same-length
     returns)
