@@ -1,3 +1,4 @@
+pub mod GivenLines
 pub mod LineLengths
 pub mod SheetBytes
 pub mod Writer

@@ -14,6 +14,7 @@
 --   unused            what passes the check of unused places holds no term there
 --   equation-line, relation-line, order-line, side-line, sizes-line   the lines of a sheet, as they are written
 --   record-place, record-early, side-at, side-get   where a record stands, and its right side
+--   lines-append      the lines of lists joined
 --   sides-none, sides-some   the fifth section, as it is written
 --   sheet-bytes       the bytes of a sheet, section by section
 use mathlib.Core.Path.{_≡_, refl, sym, _∙_, ap, ap₂, subst, fun-ext}
@@ -458,7 +459,7 @@ sizes-line m l t = sym (line-is (pos 3) (pos m ∷ l ∷ t ∷ []))
 
 -- ---- the whole sheet
 
-lines-append : (l m : List (List ℤ)) → lines (l ++ m) ≡ lines l ++ lines m
+pub lines-append : (l m : List (List ℤ)) → lines (l ++ m) ≡ lines l ++ lines m
 unfolding lines flatten
 lines-append [] m = refl
 lines-append (a ∷ l) m = ap (λ r. line a ++ r) (lines-append l m) ∙ sym (append-assoc (line a) (lines l) (lines m))

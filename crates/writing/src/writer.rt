@@ -15,7 +15,7 @@ pub mod checks;
 
 ghost use mathlib.Core.Path.{_≡_};
 ghost use mathlib.Core.List.{[], _∷_, map};
-ghost use Prim.Native.Nat.{_+_, _*_, _%_, _^_, _≤_, _<_};
+ghost use Prim.Native.Nat.{_+_, _*_, _-_, _%_, _^_, _≤_, _<_, min};
 ghost use Rattle.rules.specs.Numbers.{line, lines};
 ghost use lib.IntN.{ℤ, pos, natAbs};
 ghost use lib.Dec.{T};
@@ -293,6 +293,66 @@ fn put_relations(
     next
 }
 
+// How many of n bytes a store takes from a place on.
+fn stored_bytes(at: usize, n: usize, store: usize) -> usize
+    ensures { λ r. ⌜ r ≡ min n (store - at) ⌝ }
+{
+    if store <= at {
+        return 0;
+    }
+    let room = store - at;
+    if n < room { n } else { room }
+}
+
+// Bytes that are there already.
+fn put_text(bytes: &mut [u8], at: usize, text: &[u8]) -> usize
+    requires { ⌜ at + length (now text) < 2 ^ 64 ⌝ }
+    ensures { λ r. ⌜
+        Put (now (bytes .entry)) at (now (text .entry)) (length (now (text .entry))) (now (bytes .exit)) r ⌝ }
+{
+    let stored = stored_bytes(at, text.len(), bytes.len());
+    let mut i = 0;
+    while i < stored {
+        bytes[at + i] = text[i];
+        i += 1;
+    }
+    at + text.len()
+}
+
+// The lines of all relations: a text that has those of the first ones, and the others written. A relation has one line alone, so a caller
+// that has read it may hand in the bytes that it read.
+fn put_given(
+    bytes: &mut [u8],
+    at: usize,
+    relations: &[i64],
+    count: usize,
+    l: i64,
+    m: usize,
+    blocks: usize,
+    given: &[u8],
+    first: usize,
+) -> usize
+    requires { ⌜ (count ≤ mostRelations) × (count * relationLength ≤ length (now relations)) × (natAbs l ≤ blockBound)
+        × (at + (length (now given) + mostRelations * relationRoom) < 2 ^ 64) × SmallParts relationLength count (now relations)
+        × (blocks ≤ blockCount) × UnusedParts m blocks 1 relationLength count (now relations) ⌝ }
+    requires { ⌜ (first ≤ count) × (now given ≡ lines (map (relationLine l) (relationsOf first (now relations)))) ⌝ }
+    ensures { λ r. ⌜
+        Put (now (bytes .entry)) at (lines (map (relationLine l) (relationsOf count (now (relations .entry)))))
+        (length (now (given .entry)) + (count - first) * relationBytes) (now (bytes .exit)) r ⌝ }
+{
+    let start = first * RELATION;
+    let after_given = put_text(bytes, at, given);
+    put_relations(
+        bytes,
+        after_given,
+        &relations[start..],
+        count - first,
+        l,
+        m,
+        blocks,
+    )
+}
+
 fn put_order(bytes: &mut [u8], at: usize, order: &[usize]) -> usize
     requires { ⌜ (length (now order) ≤ columnCount) × (at + orderBytes < 2 ^ 64) ⌝ }
     ensures { λ r. ⌜ Put (now (bytes .entry)) at (line (orderLine (now (order .entry)))) orderBytes (now (bytes .exit)) r ⌝ }
@@ -395,7 +455,51 @@ fn put_fifth(
     put_sides(bytes, after_rows, relations, 1 + ENTRIES, count)
 }
 
-// The five sections from the start of the store on (SCOPE 4.11).
+// The five sections from the start of the store on (SCOPE 4.11), with a text that has the lines of the first relations.
+fn put_given_sheet(
+    bytes: &mut [u8],
+    rows: &[i64],
+    relations: &[i64],
+    sizes: stores::validity::Sizes,
+    count: usize,
+    columns: &[usize],
+    given: &[u8],
+    first: usize,
+) -> usize
+    requires { ⌜ Checked (sizesOf sizes) count (now rows) (now relations) × (length (now columns) ≤ columnCount) ⌝ }
+    requires { ⌜
+        (first ≤ count) × (now given ≡ lines (map (relationLine (sizesOf sizes .l)) (relationsOf first (now relations)))) ⌝ }
+    ensures { λ r. ⌜
+        Put (now (bytes .entry)) 0
+        (writeSheet (sheetGiven (sizesOf sizes) count (now (columns .entry)) (now (rows .entry)) (now (relations .entry))))
+        (sheetBytes (linesLength (sizesOf sizes .l) (equations (sizesOf sizes)) count (now (rows .entry)) (now (relations .entry)))
+        (equations (sizesOf sizes)) count)
+        (now (bytes .exit)) r ⌝ }
+{
+    let equations = sizes.equations;
+    let l = sizes.l;
+    let m = sizes.m;
+    let blocks = stores::validity::span(sizes) + 1;
+    let after_sizes = put_sizes(bytes, 0, m, l, sizes.t);
+    let after_number = number_texts::put_count(bytes, after_sizes, equations);
+    let after_rows = put_equations(bytes, after_number, rows, equations, l, m, blocks);
+    let after_count = number_texts::put_count(bytes, after_rows, count);
+    let after_relations = put_given(
+        bytes,
+        after_count,
+        relations,
+        count,
+        l,
+        m,
+        blocks,
+        given,
+        first,
+    );
+    let after_order = put_order(bytes, after_relations, columns);
+    put_fifth(bytes, after_order, rows, equations, relations, count)
+}
+
+// The same with every line written.
 fn put_sheet(
     bytes: &mut [u8],
     rows: &[i64],
@@ -412,17 +516,9 @@ fn put_sheet(
         (equations (sizesOf sizes)) count)
         (now (bytes .exit)) r ⌝ }
 {
-    let equations = sizes.equations;
-    let l = sizes.l;
-    let m = sizes.m;
-    let blocks = stores::validity::span(sizes) + 1;
-    let after_sizes = put_sizes(bytes, 0, m, l, sizes.t);
-    let after_number = number_texts::put_count(bytes, after_sizes, equations);
-    let after_rows = put_equations(bytes, after_number, rows, equations, l, m, blocks);
-    let after_count = number_texts::put_count(bytes, after_rows, count);
-    let after_relations = put_relations(bytes, after_count, relations, count, l, m, blocks);
-    let after_order = put_order(bytes, after_relations, columns);
-    put_fifth(bytes, after_order, rows, equations, relations, count)
+    let store = [0u8; 1];
+    let text = &store[..];
+    put_given_sheet(bytes, rows, relations, sizes, count, columns, &text[..0], 0)
 }
 
 // The refusal and the length of the sheet, 0 on a refusal (SCOPE 4.51, 6.31).
