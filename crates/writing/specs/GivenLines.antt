@@ -3,6 +3,7 @@
 -- Main statements
 --   text-next, text-last   a text that is copied byte by byte, as far as the store goes
 --   lines-given       the lines of the first relations and those of the others are the lines of all
+--   lines-length-given   how many bytes they take
 --   parts-behind      what holds of each part of a store holds of those behind the first ones
 use mathlib.Core.Path.{_≡_, sym, _∙_, ap, subst}
 use mathlib.Core.Logic.{⊎-elim}
@@ -11,7 +12,7 @@ use Prim.Native.Nat.{ℕ, suc, _+_, _-_, _*_, _≤_, _<_, min}
 use native.Mathlib.Nat.{add-mul, add-sub-of-le, eq-or-lt-of-le, le-of-eq}
 use native.Mathlib.Omega.{arith}
 use lib.IntN.{ℤ}
-use lib.ListN.{length, take, drop, getD, set, drop-of-length-le}
+use lib.ListN.{length, take, drop, getD, set, length-append, drop-of-length-le}
 use lib.Seq.{sets, drop-drop}
 use Rattle.lists.specs.Parts.{parts, parts-append}
 use Rattle.lists.specs.Pasted.{sets-out}
@@ -20,6 +21,7 @@ use Rattle.rules.specs.Limits.{relationLength}
 use Rattle.rules.specs.Numbers.{lines}
 use Rattle.rules.specs.Sheets.{relationLine}
 use Rattle.rules.specs.Stores.{relationOf, relationsOf}
+use Rattle.writing.specs.LineLengths.{linesLength}
 use Rattle.writing.specs.Writer.{lines-append}
 
 -- ---- a text
@@ -57,6 +59,15 @@ lines-given l first count store h =
     (sym (map-append relationOf front rest)
     ∙ ap (map relationOf)
     (sym (parts-append relationLength first (count - first) store) ∙ ap (λ n. parts relationLength n store) (add-sub-of-le h))))
+
+pub lines-length-given : (l : ℤ) (n first count : ℕ) (rows store : List ℤ) (text : List ℕ) → first ≤ count
+    → text ≡ lines (map (relationLine l) (relationsOf first store))
+    → linesLength l n count rows store ≡ length text + linesLength l n (count - first) rows (drop (first * relationLength) store)
+unfolding linesLength
+lines-length-given l n first count rows store text h e =
+    let front = lines (map (relationLine l) (relationsOf first store)) in
+    let rest = lines (map (relationLine l) (relationsOf (count - first) (drop (first * relationLength) store))) in
+    omega (arith, ap length e, ap length (lines-given l first count store h), length-append front rest)
 
 pub parts-behind : {A : Type 0} (P : List A → Type 0) (k first count : ℕ) (l : List A) → ((i : ℕ) → i < count → P (take k (drop (i * k) l)))
     → (i : ℕ) → i < count - first → P (take k (drop (i * k) (drop (first * k) l)))

@@ -11,7 +11,8 @@
 --   given-first, given-few   the columns that are given come first in the order argument
 --   sheet-given       the sheet that is written is the definition's
 --   call-refused, call-checked, written-short, written-whole   the cases of a call
-use mathlib.Core.Path.{_≡_, refl, sym, _∙_, ap}
+--   put-whole, put-short, put-counted   the same, by what was put into the store
+use mathlib.Core.Path.{_≡_, refl, sym, _∙_, ap, ap₂}
 use mathlib.Core.Bool.{Bool, true, false, _&&_, cond}
 use mathlib.Core.Logic.{_↔_, _≢_}
 use mathlib.Core.List.{List, [], _∷_, _++_}
@@ -33,8 +34,10 @@ use Rattle.rules.specs.Stores.{sizesRight, countRight, unusedZero, rowRight, re
 use Rattle.rules.specs.Layout.{StoresRight, NumbersRight, SizeBounds, checkStores-zero, numbersRight-iff, size-bounds}
 use Rattle.rules.specs.Layout.{countRight-iff, lengthsRight-iff, coefficientsOf-rowOf-all, block-place}
 use Rattle.lists.specs.Overwritten.{overwrite}
+use Rattle.lists.specs.Pasted.{sets-out}
 use Rattle.rules.specs.Sheets.{writeSheet}
 use Rattle.lists.specs.Parts.{held-every}
+use Rattle.number_texts.specs.Runs.{Put}
 use Rattle.writing.specs.Writer.{SmallParts, Unused, UnusedParts, unused, sheetGiven}
 use Rattle.writing.specs.declared.writer.WriteResult as declared
 use Rattle.rules.specs.SheetCalls.{WriteCall, orderRight, orderGiven, checkWrite, sheetOf, unwritten, written, afterWriteCheck, writeCall}
@@ -214,3 +217,40 @@ written-whole bytes byteStore h =
   where
     whole : sets byteStore 0 bytes ≡ bytes ++ drop (length bytes) byteStore
     whole = sets-eq bytes byteStore 0 (omega arith) ∙ ap (λ n. bytes ++ drop n byteStore) (zero-add (length bytes))
+
+-- What is put from the start of a store on is the sheet: with the n columns that the order argument gives.
+module _ (z : Sizes) (count : ℕ) (order : List ℕ) (rowStore relationStore : List ℤ) (n : ℕ) (given : n ≡ length (orderGiven order)) where
+  abbrev bytes : List ℕ
+  bytes = writeSheet (sheetGiven z count (take n order) rowStore relationStore)
+
+  abbrev sheet : List ℕ
+  sheet = writeSheet (sheetOf z count order rowStore relationStore)
+
+  same : bytes ≡ sheet
+  same = sheet-given z count order rowStore relationStore n given
+
+  -- It was put whole, which gave e.
+  pub put-whole : {d e : List ℕ} {k next : ℕ} (byteStore : List ℕ) → checkWrite z count order rowStore relationStore ≡ 0 → Put d 0 bytes k e next
+      → d ≡ byteStore → length bytes ≤ length byteStore
+      → _≡_ {A = WriteCall} (record { refusal = 0; length = next; byteStore = e }) (writeCall z count order rowStore relationStore byteStore)
+  put-whole {d} {e} {k} {next} byteStore right put from whole =
+      (λ i. record { refusal = 0; length = passed i; byteStore = stored i })
+      ∙ written-whole sheet byteStore (omega (arith, ap length same))
+      ∙ call-checked z count order rowStore relationStore byteStore right
+    where
+      passed : next ≡ length sheet
+      passed = put .passed ∙ zero-add (length bytes) ∙ ap length same
+
+      stored : e ≡ sets byteStore 0 sheet
+      stored = put .stored ∙ ap₂ (λ l xs. sets l 0 xs) from same
+
+  -- It is too long, and nothing was put.
+  pub put-short : {e : List ℕ} (byteStore : List ℕ) → checkWrite z count order rowStore relationStore ≡ 0 → e ≡ byteStore
+      → length byteStore < length bytes → unwritten 1 e ≡ writeCall z count order rowStore relationStore byteStore
+  put-short byteStore right kept short =
+      ap (unwritten 1) kept ∙ written-short sheet byteStore (omega (arith, ap length same))
+      ∙ call-checked z count order rowStore relationStore byteStore right
+
+-- On an empty store bytes are counted, and nothing is stored.
+pub put-counted : {d e bytes : List ℕ} {k next : ℕ} → Put d 0 bytes k e next → length d ≡ 0 → (e ≡ d) × (next ≡ length bytes)
+put-counted {d} {e} {bytes} put none = (put .stored ∙ sets-out d 0 bytes (omega arith), put .passed ∙ zero-add (length bytes))

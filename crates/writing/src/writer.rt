@@ -499,28 +499,6 @@ fn put_given_sheet(
     put_fifth(bytes, after_order, rows, equations, relations, count)
 }
 
-// The same with every line written.
-fn put_sheet(
-    bytes: &mut [u8],
-    rows: &[i64],
-    relations: &[i64],
-    sizes: stores::validity::Sizes,
-    count: usize,
-    columns: &[usize],
-) -> usize
-    requires { ⌜ Checked (sizesOf sizes) count (now rows) (now relations) × (length (now columns) ≤ columnCount) ⌝ }
-    ensures { λ r. ⌜
-        Put (now (bytes .entry)) 0
-        (writeSheet (sheetGiven (sizesOf sizes) count (now (columns .entry)) (now (rows .entry)) (now (relations .entry))))
-        (sheetBytes (linesLength (sizesOf sizes .l) (equations (sizesOf sizes)) count (now (rows .entry)) (now (relations .entry)))
-        (equations (sizesOf sizes)) count)
-        (now (bytes .exit)) r ⌝ }
-{
-    let store = [0u8; 1];
-    let text = &store[..];
-    put_given_sheet(bytes, rows, relations, sizes, count, columns, &text[..0], 0)
-}
-
 // The refusal and the length of the sheet, 0 on a refusal (SCOPE 4.51, 6.31).
 pub struct WriteResult {
     pub refusal: u8,
@@ -595,8 +573,87 @@ fn plainly_fits(
     others + NUMBER_BYTES * (most + numbers) <= room
 }
 
-// The sheet of a system that passes the checks; refusal 1 where it is longer than the byte store (SCOPE 4.54). It is counted first where it is
-// not plain that it fits. No public entry point: the caller knows that the checks pass.
+// The same where a text has the lines of the first relations: these take the bytes that it has, and their right sides.
+fn given_fits(
+    rows: &[i64],
+    equations: usize,
+    relations: &[i64],
+    count: usize,
+    given: &[u8],
+    first: usize,
+    room: usize,
+) -> bool
+    requires { ⌜ (equations ≤ mostEquations) × (equations * rowLength ≤ length (now rows)) × SmallParts rowLength equations (now rows) ⌝ }
+    requires { ⌜ (count ≤ mostRelations) × (count * relationLength ≤ length (now relations))
+        × SmallParts relationLength count (now relations) × (first ≤ count) ⌝ }
+    ensures { λ r. ⌜
+        (T r → (l : ℤ) → natAbs l ≤ blockBound
+        → now (given .entry) ≡ lines (map (relationLine l) (relationsOf first (now (relations .entry))))
+        → sheetBytes (linesLength l equations count (now (rows .entry)) (now (relations .entry))) equations count ≤ room) ⌝ }
+{
+    let start = first * RELATION;
+    let taken = given.len() + first * SIDE_BYTES;
+    if room < taken {
+        return false;
+    }
+    plainly_fits(
+        rows,
+        equations,
+        &relations[start..],
+        count - first,
+        room - taken,
+    )
+}
+
+// The sheet of a system that passes the checks, and whose first relations a text has, line by line, as a sheet that was read gave them: these
+// are copied. Refusal 1 where it is longer than the byte store (SCOPE 4.54). It is counted first where it is not plain that it fits.
+// No public entry point: the caller knows that the checks pass.
+pub fn write_given(
+    rows: &[i64],
+    relations: &[i64],
+    sizes: stores::validity::Sizes,
+    count: usize,
+    order: [usize; COLUMNS],
+    given: &[u8],
+    first: usize,
+    bytes: &mut [u8],
+) -> WriteResult
+    requires { ⌜ checkWrite (sizesOf sizes) count order (now rows) (now relations) ≡ 0 ⌝ }
+    requires { ⌜
+        (first ≤ count) × (now given ≡ lines (map (relationLine (sizesOf sizes .l)) (relationsOf first (now relations)))) ⌝ }
+    ensures { λ r. ⌜
+        callOf r (now (bytes .exit))
+        ≡ writeCall (sizesOf sizes) count order (now (rows .entry)) (now (relations .entry)) (now (bytes .entry)) ⌝ }
+{
+    let equations = sizes.equations;
+    let n = checks::order_length(order);
+    let all = &order[..];
+    let columns = &all[..n];
+    if given_fits(rows, equations, relations, count, given, first, bytes.len()) {
+        let length = put_given_sheet(bytes, rows, relations, sizes, count, columns, given, first);
+        return WriteResult { refusal: 0, length };
+    }
+    let needed = put_given_sheet(
+        &mut bytes[..0],
+        rows,
+        relations,
+        sizes,
+        count,
+        columns,
+        given,
+        first,
+    );
+    if bytes.len() < needed {
+        return WriteResult {
+            refusal: 1,
+            length: 0,
+        };
+    }
+    let length = put_given_sheet(bytes, rows, relations, sizes, count, columns, given, first);
+    WriteResult { refusal: 0, length }
+}
+
+// The same with every relation written.
 pub fn write_checked(
     rows: &[i64],
     relations: &[i64],
@@ -610,22 +667,9 @@ pub fn write_checked(
         callOf r (now (bytes .exit))
         ≡ writeCall (sizesOf sizes) count order (now (rows .entry)) (now (relations .entry)) (now (bytes .entry)) ⌝ }
 {
-    let equations = sizes.equations;
-    let n = checks::order_length(order);
-    let all = &order[..];
-    if plainly_fits(rows, equations, relations, count, bytes.len()) {
-        let length = put_sheet(bytes, rows, relations, sizes, count, &all[..n]);
-        return WriteResult { refusal: 0, length };
-    }
-    let length = put_sheet(&mut bytes[..0], rows, relations, sizes, count, &all[..n]);
-    if bytes.len() < length {
-        return WriteResult {
-            refusal: 1,
-            length: 0,
-        };
-    }
-    let length = put_sheet(bytes, rows, relations, sizes, count, &all[..n]);
-    WriteResult { refusal: 0, length }
+    let store = [0u8; 1];
+    let text = &store[..];
+    write_given(rows, relations, sizes, count, order, &text[..0], 0, bytes)
 }
 
 // The system of the stores and its column order as a sheet: the order's four numbers are different columns of 1..m and zeros
