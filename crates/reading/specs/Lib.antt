@@ -4,6 +4,7 @@ pub mod Equations
 pub mod Sections
 pub mod OrderLine
 pub mod Sides
+pub mod RelationLines
 pub mod WholeSheet
 pub mod ReadCalls
 pub mod OwnStores

@@ -231,7 +231,7 @@ into-fault width from k others none store bytes {n} e =
     by (got ps rest) e = absurd (got-not-fault e)
     by (fault m) e = cc
 
-sides-long : (k others : ℕ) (none : Bool) (bytes : List ℕ) {ps : List Polynomial} {rest : List ℕ} → readSides k others none bytes ≡ got ps rest
+pub sides-long : (k others : ℕ) (none : Bool) (bytes : List ℕ) {ps : List Polynomial} {rest : List ℕ} → readSides k others none bytes ≡ got ps rest
     → (length ps ≡ k) × All (λ p. length p ≡ coefficientCount) ps
 unfolding readSides All
 sides-long zero others none bytes {ps} e = rw (← got-value e) (refl, tt)

@@ -14,6 +14,7 @@ ghost use Rattle.rules.specs.SheetCalls.{readRefusal, readCall};
 ghost use Rattle.stores.specs.Validity.{sizesOf};
 ghost use Rattle.reading.specs.WholeSheet.{resultOf, HeadTo, HeadRead, SheetRead};
 ghost use Rattle.reading.specs.ReadCalls.{callOf};
+ghost use Rattle.reading.specs.RelationLines.{RelationLines};
 
 // What reading a sheet gives: a refusal has its number, and 0 in all other fields (SCOPE 6.31). The order holds columns
 // counted from 1, zeros past its end (SCOPE 4.41).
@@ -95,38 +96,57 @@ pub(crate) fn head_at(bytes: &[u8], rows: &mut [i64]) -> SheetHead
     }
 }
 
+// The rest of a sheet: what reading it gives, and the place behind the lines of its relations.
+pub(crate) struct RestRead {
+    pub sheet: SheetResult,
+    pub end: usize,
+}
+
+fn no_rest(refusal: u8) -> RestRead
+    ensures { λ r. ⌜ resultOf (r .sheet) ≡ readRefusal refusal ⌝ }
+{
+    RestRead {
+        sheet: refused(refusal),
+        end: 0,
+    }
+}
+
 // The relations, read into `relations`, the column order, and the right sides of all, read into `rows` and `relations`, where the
-// sheet has them.
+// sheet has them. The lines of the relations end at `end`.
 pub(crate) fn rest_at(
     bytes: &[u8],
     h: SheetHead,
     rows: &mut [i64],
     relations: &mut [i64],
-) -> SheetResult
+) -> RestRead
     requires { ⌜ HeadTo (now bytes) (sizesOf (h .sizes)) (h .relations) (h .at) (now rows) ⌝ }
     requires { ⌜ (equations (sizesOf (h .sizes)) * rowLength ≤ length (now rows)) × (now relations ≡ zeros (h .relations * relationLength)) ⌝ }
-    ensures { λ r. ⌜ SheetRead (now (bytes .entry)) (resultOf r) (now (rows .exit)) (now (relations .exit)) ⌝ }
-    ensures { λ r. ⌜ (r .refusal ≡ 0 → (equations (sizesOf (r .sizes)) ≡ equations (sizesOf (h .sizes))) × (r .relations ≡ h .relations)) ⌝ }
+    ensures { λ r. ⌜ SheetRead (now (bytes .entry)) (resultOf (r .sheet)) (now (rows .exit)) (now (relations .exit)) ⌝ }
+    ensures { λ r. ⌜ (r .sheet .refusal ≡ 0 → (sizesOf (r .sheet .sizes) ≡ sizesOf (h .sizes)) × (r .sheet .relations ≡ h .relations)
+        × RelationLines (now (bytes .entry)) (sizesOf (h .sizes)) (h .relations) (now (relations .exit)) (h .at) (r .end)) ⌝ }
 {
     let sizes = h.sizes;
     let s = crate::sections::relations_at(bytes, h.at, sizes, h.relations, relations);
     if s.refusal != 0 {
-        return refused(s.refusal);
+        return no_rest(s.refusal);
     }
     let o = crate::order::order_at(bytes, s.at, sizes.m);
     if o.refusal != 0 {
-        return refused(o.refusal);
+        return no_rest(o.refusal);
     }
     let e = crate::sides::end_at(bytes, o.at, sizes.equations, h.relations, rows, relations);
     if e != 0 {
-        return refused(e);
+        return no_rest(e);
     }
     let order = o.order;
-    SheetResult {
-        refusal: 0,
-        sizes,
-        relations: h.relations,
-        order,
+    RestRead {
+        sheet: SheetResult {
+            refusal: 0,
+            sizes,
+            relations: h.relations,
+            order,
+        },
+        end: s.at,
     }
 }
 
@@ -164,7 +184,8 @@ pub(crate) fn fill(
     ensures { λ r. ⌜ callOf r (now (rows .exit)) (now (relations .exit))
         ≡ readCall (now (bytes .entry)) (now (rows .entry)) (now (relations .entry)) ⌝ }
 {
-    let r = rest_at(bytes, h, equations, scratch);
+    let rest = rest_at(bytes, h, equations, scratch);
+    let r = rest.sheet;
     if r.refusal != 0 {
         return refused(r.refusal);
     }

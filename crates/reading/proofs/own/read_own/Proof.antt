@@ -1,7 +1,7 @@
 -- `reading::own::read_own` meets its contract: the sheet is refused and what was written of it is cleared, or the stores hold it.
 -- Assumes nothing.
 use mathlib.Core.List.{List, _++_}
-use mathlib.Core.Path.{_≡_, refl, sym, ap, ap₂, _∙_}
+use mathlib.Core.Path.{_≡_, refl, sym, ap, ap₂, _∙_, subst}
 use Prim.Native.Nat.{ℕ, _*_, _≤_}
 use native.Mathlib.Nat.{le-of-eq}
 use native.Mathlib.Omega.{arith}
@@ -12,12 +12,14 @@ use lib.ListN.{length, take, drop, replicate, length-append, length-drop, take-a
 use lib.Seq.{paste, drop-at, length-take-le}
 use Rattle.reading.specs.OwnStores.{head-front, sheet-front, call-holds}
 use Rattle.reading.specs.ReadCalls.{callOf, call-unread, call-faults, call-refuses}
-use Rattle.reading.specs.WholeSheet.{resultOf, HeadTo, SheetRead}
+use Rattle.reading.specs.RelationLines.{RelationLines, lines-front}
+use Rattle.reading.specs.WholeSheet.{resultOf, refused-nonzero, HeadTo, SheetRead}
+use Rattle.reading.specs.declared.own.OwnRead.{OwnRead}
 use Rattle.reading.specs.Zeros.{length-zeros, take-zeros, zero-again}
 use Rattle.rules.specs.Calls.{zeros}
 use Rattle.rules.specs.Limits.{mostEquations, rowLength, relationLength}
-use Rattle.rules.specs.SheetCalls.{readCall}
-use Rattle.rules.specs.Stores.{equations, rowNeed, largestRows, relationNeed}
+use Rattle.rules.specs.SheetCalls.{readRefusal, readCall}
+use Rattle.rules.specs.Stores.{Sizes, equations, rowNeed, largestRows, relationNeed}
 use Rattle.stores.specs.Validity.{sizesOf}
 use Rattle.reading.proofs.own.read_own.Statement.{statement}
 use Rattle.reading.proofs.own.read_own.Tie as tie
@@ -63,19 +65,26 @@ clear-requires c κs =
     let h = c .before .before .before .before .before in
     omega (arith, h .head-at .ensures .1 .0, rows-long h)
 
-refused-requires : tie.Need-refused-requires
-refused-requires c κs = search needs
+unread-requires : tie.Need-unread-requires
+unread-requires c κs = search needs
 
 same-length : tie.Need-same-length
 same-length c = search needs
+
+-- A refusal gives no lines.
+refuses : (r : OwnRead) {n : ℕ} {A : Type 0} → resultOf (r .sheet) ≡ readRefusal n → (n ≡ 0 → ⊥) → r .sheet .refusal ≡ 0 → A
+refuses r e h z = absurd (refused-nonzero (r .sheet) _ e h z)
 
 returns : tie.Need-returns
 returns c =
     let clear = c .before .before in
     let h = clear .before .before .before .before .before .before in
-    ap (λ l. callOf (c .refused .result) l (now (start h .args .relations))) (clear .clear .ensures ∙ rows-cleared h)
-    ∙ call-unread _ _ _ _ (c .refused .ensures)
-    ∙ sym (call-faults _ _ _ _ (h .head-at .ensures .0 .refused (clear .before .before .before .if1 .taken)))
+    let none = clear .before .before .before .if1 .taken in (
+      ap (λ l. callOf (c .unread .result .sheet) l (now (start h .args .relations))) (clear .clear .ensures ∙ rows-cleared h)
+          ∙ call-unread _ _ _ _ (c .unread .ensures)
+          ∙ sym (call-faults _ _ _ _ (h .head-at .ensures .0 .refused none)),
+      refuses (c .unread .result) (c .unread .ensures) none,
+    )
 
 -- The head of the sheet, and the parts of the stores that are lent for its sides and its relations.
 module _ (c : tie.Else1) where
@@ -158,11 +167,11 @@ module _ (c : tie.After-rest-at) where
   part-long : length part ≡ used e
   part-long = c .rest-at .kept .1 .1 .1 .0 ∙ ap length (lent e) ∙ length-zeros _
 
-  read : SheetRead (now (start (from e) .args .bytes)) (resultOf (c .rest-at .result)) rows-after part
+  read : SheetRead (now (start (from e) .args .bytes)) (resultOf (c .rest-at .result .sheet)) rows-after part
   unfolding equations resultOf sizesOf rowNeed
   read =
       sheet-front (drop (filled e) (rows (from e))) (c .rest-at .ensures .0)
-      (λ z. rows-part-long ∙ ap (λ k. k * rowLength) (sym (c .rest-at .ensures .1 z .0)))
+      (λ z. rows-part-long ∙ ap (λ k. k .equations * rowLength) (sym (c .rest-at .ensures .1 z .0)))
 
   rows-after-long : length rows-after ≡ largestRows
   rows-after-long =
@@ -186,21 +195,21 @@ module _ (c : tie.After-rest-at) where
 
 clear-requires-2 : tie.Need-clear-requires-2
 clear-requires-2 c κs =
-    let r = c .before .before .before .before .before in
+    let r = c .before .before .before .before .before .before in
     omega (arith, length-append (rows-part r) (drop (filled (e r)) (rows (from (e r)))), rows-part-long r)
 
 clear-requires-3 : tie.Need-clear-requires-3
 clear-requires-3 c κs =
-    let r = c .before .before .before .before .before .before .before .before in
+    let r = c .before .before .before .before .before .before .before .before .before in
     omega (arith, length-append (part r) (drop (used (e r)) (now (start (from (e r)) .args .relations))), part-long r)
 
-refused-requires-2 : tie.Need-refused-requires-2
-refused-requires-2 c κs = search needs
+unread-requires-2 : tie.Need-unread-requires-2
+unread-requires-2 c κs = search needs
 
 same-length-2 : tie.Need-same-length-2
 same-length-2 c =
     let first = c .before .before .before .before .before in
-    ap length (first .clear2 .ensures ∙ rows-again (first .before .before .before .before .before .before))
+    ap length (first .clear2 .ensures ∙ rows-again (first .before .before .before .before .before .before .before))
 
 same-length-3 : tie.Need-same-length-3
 same-length-3 c = search needs
@@ -210,10 +219,13 @@ unfolding resultOf sizesOf
 returns-2 c =
     let last = c .before .before in
     let first = last .before .before .before in
-    let r = first .before .before .before .before .before .before in
-    ap₂ (callOf (c .refused2 .result)) (first .clear2 .ensures ∙ rows-again r) (last .clear3 .ensures ∙ relations-cleared r)
-    ∙ call-unread _ _ _ _ (c .refused2 .ensures)
-    ∙ sym (call-refuses _ _ _ _ (read r) _ _ (first .before .before .if2 .taken))
+    let r = first .before .before .before .before .before .before .before in
+    let none = first .before .before .if2 .taken in (
+      ap₂ (callOf (c .unread2 .result .sheet)) (first .clear2 .ensures ∙ rows-again r) (last .clear3 .ensures ∙ relations-cleared r)
+          ∙ call-unread _ _ _ _ (c .unread2 .ensures)
+          ∙ sym (call-refuses _ _ _ _ (read r) _ _ none),
+      refuses (c .unread2 .result) (c .unread2 .ensures) none,
+    )
 
 same-length-4 : tie.Need-same-length-4
 same-length-4 c = search needs
@@ -221,16 +233,25 @@ same-length-4 c = search needs
 same-length-5 : tie.Need-same-length-5
 same-length-5 c = search needs
 
+-- The sizes and the number of the relations are those of the head.
+lines-same : {z z' : Sizes} {n n' : ℕ} {bytes : List ℕ} {store : List ℤ} {from to : ℕ} → z ≡ z' → n ≡ n'
+    → RelationLines bytes z n store from to → RelationLines bytes z' n' store from to
+lines-same {z} {n' = n'} {bytes} {store} {from} {to} e f l =
+    subst (λ z. RelationLines bytes z n' store from to) e (subst (λ n. RelationLines bytes z n store from to) f l)
+
 returns-3 : tie.Need-returns-3
 unfolding callOf equations resultOf sizesOf
 returns-3 c =
-    let r = c .before .before .before .before in
+    let r = c .before .before .before .before .before in
     let s = start (from (e r)) in
     let same = r .rest-at .ensures .1 (c .if2 .left) in
-    ap₂ (λ k l. callOf (r .rest-at .result) (rows-after r) (part r ++ drop (k * relationLength) l)) (sym (same .1)) (s .pre .1)
-    ∙ call-holds _ _ _ _ (read r) (c .if2 .left) (rows-after-long r) (rows-after-rest r _ (same .0))
-    (part-long r ∙ ap (λ k. k * relationLength) (sym (same .1)))
-    ∙ ap₂ (readCall (now (s .args .bytes))) (sym (s .pre .0)) (sym (s .pre .1))
+    let lines = lines-front (part r) (drop (used (e r)) (now (s .args .relations))) (part-long r) (same .2) in (
+      ap₂ (λ k l. callOf (r .rest-at .result .sheet) (rows-after r) (part r ++ drop (k * relationLength) l)) (sym (same .1)) (s .pre .1)
+          ∙ call-holds _ _ _ _ (read r) (c .if2 .left) (rows-after-long r) (rows-after-rest r _ (ap (λ z. z .equations) (same .0)))
+          (part-long r ∙ ap (λ k. k * relationLength) (sym (same .1)))
+          ∙ ap₂ (readCall (now (s .args .bytes))) (sym (s .pre .0)) (sym (s .pre .1)),
+      λ _. lines-same (sym (same .0)) (sym (same .1)) lines,
+    )
 
 pub read-own-spec : {M : Type 1} → statement M
 read-own-spec =
@@ -239,7 +260,7 @@ read-own-spec =
     head-at-requires
     mul-clear
     clear-requires
-    refused-requires
+    unread-requires
     same-length
     returns
     mul-filled
@@ -251,7 +272,7 @@ read-own-spec =
     rest-at-requires
     clear-requires-2
     clear-requires-3
-    refused-requires-2
+    unread-requires-2
     same-length-2
     same-length-3
     returns-2

@@ -31,11 +31,11 @@ module _ (d : tie.After-rest-at) where
   abbrev start : tie.Start
   start = d .before .before .before .before
 
-  read : SheetRead (now (start .args .bytes)) (resultOf (d .rest-at .result)) (d .rest-at .last .1 .1 .0) (d .rest-at .last .1 .1 .1 .0)
+  read : SheetRead (now (start .args .bytes)) (resultOf (d .rest-at .result .sheet)) (d .rest-at .last .1 .1 .0) (d .rest-at .last .1 .1 .1 .0)
   read = d .rest-at .ensures .0
 
 abbrev rest : tie.After-lengths-right → tie.After-rest-at
-rest c = c .before .before .before .before .before .before .before
+rest c = c .before .before .before .before .before .before .before .before
 
 refused-requires : tie.Need-refused-requires
 refused-requires c κs = search needs
@@ -50,12 +50,12 @@ returns : tie.Need-returns
 unfolding resultOf
 returns c =
     call-unread _ _ _ _ (c .refused .ensures)
-    ∙ sym (call-refuses _ _ _ _ (read (c .before .before .before .before .before)) _ _ (c .before .if1 .taken))
+    ∙ sym (call-refuses _ _ _ _ (read (c .before .before .before .before .before .before)) _ _ (c .before .if1 .taken))
 
 lengths-right-requires : tie.Need-lengths-right-requires
 unfolding equations resultOf sizesOf
 lengths-right-requires c κs =
-    read (c .before .before .before .before .before .before) .few-rows (c .before .before .if1 .left)
+    read (c .before .before .before .before .before .before .before) .few-rows (c .before .before .if1 .left)
 
 refused-requires-2 : tie.Need-refused-requires-2
 refused-requires-2 c κs = search needs
@@ -119,7 +119,7 @@ unfolding callOf equations resultOf sizesOf
 returns-3 c =
     let e = c .before .before .before .before .before .before .before .before in
     let l = e .before in
-    ap₂ (λ rows relations. callOf (rest l .rest-at .result) rows relations)
+    ap₂ (λ rows relations. callOf (rest l .rest-at .result .sheet) rows relations)
     (c .before .before .before .before .before .fill-rows .ensures) (c .before .fill-relations .ensures)
     ∙ sym (call-fills _ _ _ _ (read (rest l)) _ _ (l .before .before .before .if1 .left)
     (sym (l .lengths-right .ensures) ∙ not-false _ (e .if2 .left)))

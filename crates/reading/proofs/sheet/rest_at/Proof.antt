@@ -8,6 +8,7 @@ use denote.Ref.{now}
 use lib.ListN.{length, drop}
 use Rattle.reading.specs.WholeSheet.{resultOf, sheet, padSheet, relations-fault, order-fault, order-got, refused-nonzero, sheet-refuses}
 use Rattle.reading.specs.WholeSheet.{sheet-gives, end-fault, end-got}
+use Rattle.reading.specs.RelationLines.{rest-lefts}
 use Rattle.reading.specs.Zeros.{length-zeros}
 use Rattle.rules.specs.Layout.{size-bounds, length-rowsOf, length-relationsOf}
 use Rattle.rules.specs.Limits.{mostEquations}
@@ -22,8 +23,8 @@ use Rattle.reading.proofs.sheet.rest_at.Tie as tie
 relations-at-requires : tie.Need-relations-at-requires
 relations-at-requires c κs = search needs
 
-refused-requires : tie.Need-refused-requires
-refused-requires c κs = search needs
+no-rest-requires : tie.Need-no-rest-requires
+no-rest-requires c κs = search needs
 
 same-length : tie.Need-same-length
 same-length c = search needs
@@ -39,8 +40,8 @@ returns : tie.Need-returns
 returns c =
     let r = c .before .before .before .before in
     let h = c .before .if1 .taken in (
-      sheet-refuses _ _ _ _ _ (c .refused .ensures) h (relations-fault (start r .pre .0) (answer-fault h (r .relations-at .ensures))),
-      λ z. absurd (refused-nonzero (c .refused .result) _ (c .refused .ensures) h z),
+      sheet-refuses _ _ _ _ _ (c .no-rest .ensures) h (relations-fault (start r .pre .0) (answer-fault h (r .relations-at .ensures))),
+      λ z. absurd (refused-nonzero (c .no-rest .result .sheet) _ (c .no-rest .ensures) h z),
     )
 
 order-at-requires : tie.Need-order-at-requires
@@ -49,8 +50,8 @@ order-at-requires c κs =
     let r = c .before .before .before in
     (r .relations-at .ensures .within, size-bounds _ (start r .pre .0 .right) .few)
 
-refused-requires-2 : tie.Need-refused-requires-2
-refused-requires-2 c κs = search needs
+no-rest-requires-2 : tie.Need-no-rest-requires-2
+no-rest-requires-2 c κs = search needs
 
 same-length-2 : tie.Need-same-length-2
 same-length-2 c = search needs
@@ -65,10 +66,10 @@ returns-2 c =
     let o = c .before .before .before in
     let r = relations-read o in
     let h = c .before .if2 .taken in (
-      sheet-refuses _ _ _ _ _ (c .refused2 .ensures) h
+      sheet-refuses _ _ _ _ _ (c .no-rest2 .ensures) h
           (order-fault (start r .pre .0) _ _ (answer-got (o .before .if1 .left) (r .relations-at .ensures))
           (answer-fault h (o .order-at .ensures))),
-      λ z. absurd (refused-nonzero (c .refused2 .result) _ (c .refused2 .ensures) h z),
+      λ z. absurd (refused-nonzero (c .no-rest2 .result .sheet) _ (c .no-rest2 .ensures) h z),
     )
 
 end-at-requires : tie.Need-end-at-requires
@@ -81,8 +82,8 @@ end-at-requires c κs =
       (s .pre .1 .0, le-of-eq (sym (r .relations-at .kept .1 .1 .1 .1 .0 ∙ ap length (s .pre .1 .1) ∙ length-zeros _))),
     )
 
-refused-requires-3 : tie.Need-refused-requires-3
-refused-requires-3 c κs = search needs
+no-rest-requires-3 : tie.Need-no-rest-requires-3
+no-rest-requires-3 c κs = search needs
 
 same-length-3 : tie.Need-same-length-3
 same-length-3 c = search needs
@@ -111,10 +112,10 @@ returns-3 c =
     let n = c .before .before .before .before in
     let o = n .before .before .before .before .before in
     let h = c .before .if3 .taken in (
-      sheet-refuses _ _ _ _ _ (c .refused3 .ensures) h
+      sheet-refuses _ _ _ _ _ (c .no-rest3 .ensures) h
           (to-end o (n .before .before .before .if2 .left)
           ∙ end-fault _ _ _ _ _ _ (length-rowsOf _ _) (length-relationsOf _ _) _ (answer-fault h (record { answer = n .end-at .ensures; within = le-refl _ }))),
-      λ z. absurd (refused-nonzero (c .refused3 .result) _ (c .refused3 .ensures) h z),
+      λ z. absurd (refused-nonzero (c .no-rest3 .result .sheet) _ (c .no-rest3 .ensures) h z),
     )
 
 same-length-5 : tie.Need-same-length-5
@@ -134,7 +135,18 @@ returns-4 c =
           ∙ end-got _ _ _ _ _ _ (length-rowsOf _ _) (length-relationsOf _ _) _
           (answer-got (c .before .if3 .left) (record { answer = n .end-at .ensures; within = le-refl _ })))
           (few-rows r) (start r .pre .0 .few),
-      λ _. (refl, refl),
+      λ _. (
+        refl,
+        refl,
+        record {
+          begins = start r .pre .0 .within;
+          ends = r .relations-at .ensures .within;
+          given = relationsOf (start r .args .h .relations) (r .relations-at .last .1 .1 .1 .1 .0);
+          read = answer-got (o .before .if1 .left) (r .relations-at .ensures);
+          same = sym (rest-lefts _ _ _ _ (length-relationsOf _ _) _
+              (answer-got (c .before .if3 .left) (record { answer = n .end-at .ensures; within = le-refl _ })));
+        },
+      ),
     )
 
 pub rest-at-spec : {M : Type 1} → statement M
@@ -142,15 +154,15 @@ rest-at-spec =
     tie.close
     (tie.spec
     relations-at-requires
-    refused-requires
+    no-rest-requires
     same-length
     returns
     order-at-requires
-    refused-requires-2
+    no-rest-requires-2
     same-length-2
     returns-2
     end-at-requires
-    refused-requires-3
+    no-rest-requires-3
     same-length-3
     same-length-4
     returns-3
