@@ -2,6 +2,7 @@
 -- Assumes nothing.
 use borrow.Author.Needs.{needs}
 use mathlib.Core.List.{List}
+use native.Mathlib.Omega.{arith}
 use denote.Ref.{now}
 use lib.IntN.{ℤ}
 use Rattle.rules.specs.Elimination.{trailing}
@@ -58,7 +59,7 @@ mirror-relations-requires c κs =
     let s = start at in
     let more = listed-more (s .args .equations) (s .args .span) (s .args .count) (now (s .args .rows)) (now (s .args .relations)) _ _ _
     (s .pre .1) (mirrored at .mirror-rows .ensures) (at .run .result) (ran at) (tested .if1 .left) in
-    (s .pre .1, more, ran at .reached .ready .listing)
+    (s .pre .1, omega (arith, more), ran at .reached .ready .listing)
 
 same-length-3 : tie.Need-same-length-3
 same-length-3 c = search needs
