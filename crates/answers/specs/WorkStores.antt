@@ -1,13 +1,14 @@
 -- The work stores of an answer are zero before it and zero again after it: what reading a sheet and running on it leave in them.
 --
 -- Main definitions
---   Used d               past the rows and the relations that an accepting run leaves, the stores are zero
+--   Used n l d           past the rows and the relations that an accepting run leaves, the stores are zero, and its first n relations are
+--                        those of the store l
 --
 -- Main statements
 --   unread-same          a sheet that is refused leaves the stores as they were
 --   read-rest            reading a sheet leaves what lies past its rows
 --   refused-zero         a run that is refused leaves zeros
---   accepted-used        a run that accepts leaves zeros past its rows and its relations
+--   accepted-used        a run that accepts leaves zeros past its rows and its relations, and the relations that it was given
 use Prim.Native.Nat.{ℕ, suc, _+_, _*_, _-_, _≤_}
 use native.Mathlib.Nat.{le-refl, le-of-eq, suc-ne-zero}
 use native.Mathlib.Omega.{arith}
@@ -15,23 +16,26 @@ use mathlib.Core.Path.{_≡_, refl, sym, ap, _∙_, subst}
 use mathlib.Core.Logic.{_≢_}
 use mathlib.Core.Bool.{Bool, true, false, cond}
 use mathlib.Core.List.{List, _++_, map, flatten, append-nil, append-assoc}
-use lib.ListN.{length, drop, replicate, length-append, length-replicate, drop-of-length-le, replicate-append-replicate}
-use lib.Seq.{drop-at}
+use lib.ListN.{length, take, drop, replicate, length-append, length-replicate, drop-of-length-le, replicate-append-replicate}
+use lib.Seq.{take-at, drop-at}
 use lib.IntN.{ℤ, pos}
 use Rattle.rules.specs.Limits.{rowLength, relationLength, mostRelations, mostEquations}
 use Rattle.rules.specs.Rows.{Row, Relation}
 use Rattle.lists.specs.Everywhere.{All}
+use Rattle.lists.specs.Images.{map-take}
+use Rattle.lists.specs.Parts.{parts, take-parts}
 use Rattle.rules.specs.Elimination.{leading, State, Outcome, done, refused, rank, wholeRun}
-use Rattle.rules.specs.Stores.{Sizes, equations, span, rowsOf, relationsOf, relationNumbers, rowStoreOf, checkStores, StoreRow, Valid}
+use Rattle.rules.specs.Stores.{Sizes, equations, span, rowsOf, relationOf, relationsOf, relationNumbers, rowStoreOf, checkStores, StoreRow, Valid}
 use Rattle.rules.specs.Stores.{rowNeed, largestRows, relationNeed, rowStoreFor, relationStoreOf, lengthsRight}
 use Rattle.rules.specs.Layout.{StoreRelation, stores-valid, size-bounds, countRight-iff, length-rowStoreOf, length-relationStoreOf}
-use Rattle.rules.specs.Layout.{length-rowStoreFor}
+use Rattle.rules.specs.Layout.{length-rowStoreFor, length-relationsOf, relationsOf-relationStoreOf}
 use Rattle.rules.specs.Calls.{zeros, callRun, afterCheck, afterRun, acceptance, cleared, refusal}
 use Rattle.lists.specs.Overwritten.{overwrite, overwrite-paste, drop-overwrite}
 use Rattle.rules.specs.Numbers.{Read, got, fault}
 use Rattle.rules.specs.Sheets.{Sheet, readSheet}
 use Rattle.rules.specs.SheetCalls.{ReadCall, readCall, afterRead, filled, unread, readRefusal}
 use Rattle.theory.specs.Demands.{Accepted, Ended, run-ends, seven, eight, nine, ten, diagonal-nonzero, rank-few, output-valid}
+use Rattle.theory.specs.Demands.{relations-listed}
 use Rattle.theory.specs.Demands as Demands
 use Rattle.runs.specs.Unreported.{UnreportedCall, unreportedCall}
 use Rattle.reading.specs.Zeros.{length-zeros, take-zeros, drop-zeros, zero-again}
@@ -148,12 +152,31 @@ module _ (bytes : List ℕ) (rows relations : List ℤ) (c : ReadCall) (e : c �
 
 -- ---- a run that accepted, or was refused
 
-pub record Used (d : UnreportedCall) : Type 0 where
+pub record Used (count : ℕ) (relations : List ℤ) (d : UnreportedCall) : Type 0 where
   pub few-rows : d .result .rank ≤ mostEquations
   pub few : d .result .relations ≤ mostRelations
   pub rows-rest : drop (d .result .rank * rowLength) (d .rowStore) ≡ drop (d .result .rank * rowLength) (zeros largestRows)
   pub relations-rest : drop (d .result .relations * relationLength) (d .relationStore)
       ≡ drop (d .result .relations * relationLength) (zeros relationNeed)
+  pub kept : count ≤ d .result .relations
+  pub same : relationsOf count (d .relationStore) ≡ relationsOf count relations
+
+-- The first relations of a store.
+relationsOf-take : (k n : ℕ) (store : List ℤ) → k ≤ n → relationsOf k store ≡ take k (relationsOf n store)
+unfolding relationsOf
+relationsOf-take k n store h =
+    ap (map relationOf) (sym (take-parts relationLength n k store h)) ∙ sym (map-take relationOf k (parts relationLength n store))
+
+-- Relations that stand first in a store stay the same where others are put behind them (SCOPE 2.3).
+front-same : (k : ℕ) (es given more : List Relation) (store : List ℤ) → es ≡ given ++ more → length given ≡ k → All StoreRelation es
+    → (k ≤ length es) × (relationsOf k (overwrite (relationStoreOf es) store) ≡ given)
+unfolding overwrite
+front-same k es given more store e long shapes =
+    let few : k ≤ length es = omega (arith, long, ap length e, length-append given more) in (
+      few,
+      relationsOf-take k (length es) (overwrite (relationStoreOf es) store) few
+          ∙ ap (take k) (relationsOf-relationStoreOf es (drop (length (relationStoreOf es)) store) shapes ∙ e) ∙ take-at given more k long,
+    )
 
 module _ (z : Sizes) (count : ℕ) (rows relations : List ℤ) (checked : checkStores z count rows relations ≡ 0)
     (rest : drop (equations z * rowLength) rows ≡ drop (equations z * rowLength) (zeros largestRows))
@@ -198,28 +221,33 @@ module _ (z : Sizes) (count : ℕ) (rows relations : List ℤ) (checked : checkS
       go o f nine = zero 9 f
       go o f ten = zero 10 f
 
-  pub accepted-used : d .result .refusal ≡ 0 → Used d
+  pub accepted-used : d .result .refusal ≡ 0 → Used count relations d
   unfolding afterRun acceptance cleared refusal rank
   accepted-used h = go outcome refl (run-ends leading valid)
     where
       clash : (n : ℕ) → outcome ≡ refused (suc n) → ⊥
       clash n f = suc-ne-zero n (sym (ap (λ d. d .result .refusal) (ran-by (refused (suc n)) f)) ∙ h)
 
-      leaves : (s : State) → outcome ≡ done s → Used (unreportedCall (afterRun leading z (done s) rows relations))
+      leaves : (s : State) → outcome ≡ done s → Used count relations (unreportedCall (afterRun leading z (done s) rows relations))
       leaves s f =
           let accepts : Accepted leading z _ _ s = record { valid = valid; accepts = f } in
           let v = output-valid accepts in
           let few = countRight-iff (length (s .relations)) .0 (v .relation-count) in
+          let (more, behind, _) = relations-listed accepts in
+          let front = front-same count (s .relations) (relationsOf count relations) more relations behind (length-relationsOf count relations)
+          (v .relation-shapes) in
           record {
             few-rows = omega (arith, few-rows, rank-few accepts);
             few = few;
             rows-rest = past-left (equations z) (s .rows) rows (rank s) (diagonal-nonzero accepts .row-count) (rank-few accepts) few-rows
                 (v .row-shapes) rest;
             relations-rest = past-relations (s .relations) relations few (v .relation-shapes) long;
+            kept = front .0;
+            same = front .1;
           }
 
-      go : (o : Outcome) → outcome ≡ o → Ended o → Used d
-      go o f (Demands.accepted s) = subst Used (sym (ran-by (done s) f)) (leaves s f)
+      go : (o : Outcome) → outcome ≡ o → Ended o → Used count relations d
+      go o f (Demands.accepted s) = subst (Used count relations) (sym (ran-by (done s) f)) (leaves s f)
       go o f seven = absurd (clash 6 f)
       go o f eight = absurd (clash 7 f)
       go o f nine = absurd (clash 8 f)

@@ -46,7 +46,8 @@ fn with_equations(sizes: Sizes, equations: usize) -> Sizes
 }
 
 // The answer, worked out in stores of the largest sizes that are zero, and are zero again afterwards: only what was used is cleared.
-// What was read passes the checks of a run, and what a run that accepts leaves passes those of the writer, so neither checks again.
+// What was read passes the checks of a run, and what a run that accepts leaves passes those of the writer, so neither checks again. A
+// run leaves the relations that it was given as they are (SCOPE 2.3), so their lines are copied from the sheet.
 pub fn answer_in(
     bytes: &[u8],
     rows: &mut [i64],
@@ -57,7 +58,8 @@ pub fn answer_in(
     ensures { λ r. ⌜ callOf r (now (output .exit)) ≡ answerCall (now (bytes .entry)) (now (output .entry)) ⌝ }
     ensures { λ r. ⌜ (now (rows .exit) ≡ now (rows .entry)) × (now (relations .exit) ≡ now (relations .entry)) ⌝ }
 {
-    let sheet = reading::own::read_own(bytes, rows, relations);
+    let own = reading::own::read_own(bytes, rows, relations);
+    let sheet = own.sheet;
     if sheet.refusal != 0 {
         return no_answer(sheet.refusal);
     }
@@ -69,12 +71,16 @@ pub fn answer_in(
     let order = run.order;
     let kept = with_equations(sizes, run.rank);
     let lent = lent_bytes(output.len());
-    let written = writing::writer::write_checked(
+    let from = own.from;
+    let to = own.to;
+    let written = writing::writer::write_given(
         rows,
         relations,
         kept,
         run.relations,
         order,
+        &bytes[from..to],
+        sheet.relations,
         &mut output[..lent],
     );
     stores::rows::clear(rows, 0, run.rank * ROW);

@@ -5,22 +5,28 @@ use Prim.Native.Nat.{ℕ, _*_, _≤_}
 use native.Mathlib.Omega.{arith}
 use mathlib.Core.Path.{_≡_, sym, _∙_, ap}
 use mathlib.Core.Logic.{_≢_}
-use mathlib.Core.List.{List}
+use mathlib.Core.List.{List, map}
 use denote.Ref.{now}
 use lib.IntN.{ℤ}
 use lib.ListN.{length, take, drop}
 use lib.Seq.{length-take-le}
-use Rattle.rules.specs.Stores.{equations, largestRows, relationNeed, checkStores}
+use Rattle.rules.specs.Stores.{equations, withEquations, relationsOf, largestRows, relationNeed, checkStores}
+use Rattle.rules.specs.Layout.{SizeBounds, size-bounds, stores-valid}
+use Rattle.rules.specs.Numbers.{lines}
+use Rattle.rules.specs.Sheets.{relationLine}
 use Rattle.rules.specs.Calls.{zeros}
 use Rattle.rules.specs.SheetCalls.{ReadCall, WriteCall}
 use Rattle.stores.specs.Validity.{sizesOf}
 use Rattle.reading.specs.Zeros.{length-zeros, zero-again}
 use Rattle.reading.specs.WholeSheet.{resultOf}
 use Rattle.reading.specs.ReadCalls as ReadCalls
+use Rattle.reading.specs.RelationLines.{RelationLines}
+use Rattle.reading.specs.declared.own.OwnRead.{OwnRead}
 use Rattle.runs.specs.Unreported.{UnreportedCall, unreportedCallOf}
 use Rattle.writing.specs.WriterChecks as WriterChecks
 use Rattle.answers.specs.Answers.{callOf, unanswered, checkIn, writeIn, call-unread, call-refused, call-written, call-checked-read}
 use Rattle.answers.specs.Answers.{call-checked-run}
+use Rattle.answers.specs.GivenLines.{given-ordered, given-text}
 use Rattle.answers.specs.WorkStores.{Used, unread-same, read-rest, refused-zero, accepted-used}
 use borrow.Author.Needs.{needs}
 use Rattle.rules.specs.Limits.{rowLength, relationLength}
@@ -59,14 +65,14 @@ module _ (c : tie.After-read-own) where
   relations = c .read-own .last .1 .1 .0
 
   abbrev readBy : ReadCall
-  readBy = ReadCalls.callOf (c .read-own .result) rows relations
+  readBy = ReadCalls.callOf (c .read-own .result .sheet) rows relations
 
 -- The other two calls.
 abbrev ranBy : tie.After-leading-run → UnreportedCall
 ranBy c = unreportedCallOf (c .leading-run .result) (c .leading-run .last .0) (c .leading-run .last .1 .0)
 
-abbrev wroteBy : tie.After-write-checked → WriteCall
-wroteBy c = WriterChecks.callOf (c .write-checked .result) (c .write-checked .last .1 .1 .1 .1 .1 .0)
+abbrev wroteBy : tie.After-write-given → WriteCall
+wroteBy c = WriterChecks.callOf (c .write-given .result) (c .write-given .last .1 .1 .1 .1 .1 .1 .1 .0)
 
 read-own-requires : tie.Need-read-own-requires
 read-own-requires c κs = c .before .before .before .before .pre
@@ -83,24 +89,24 @@ same-length-2 c = search needs
 returns : tie.Need-returns
 unfolding callOf unanswered ReadCalls.callOf resultOf
 returns c =
-    let r = c .before .before .before .before .before in
+    let r = c .before .before .before .before .before .before in
     let s = start r in (
       ap (λ a. callOf a (output s)) (c .no-answer .ensures)
-          ∙ call-unread (bytes s) (output s) (rows₀ s) (relations₀ s) (rows-long s) (relations-long s) (readBy r) (r .read-own .ensures)
+          ∙ call-unread (bytes s) (output s) (rows₀ s) (relations₀ s) (rows-long s) (relations-long s) (readBy r) (r .read-own .ensures .0)
           (c .before .if1 .taken),
-      unread-same (bytes s) (rows₀ s) (relations₀ s) (readBy r) (r .read-own .ensures) (c .before .if1 .taken),
+      unread-same (bytes s) (rows₀ s) (relations₀ s) (readBy r) (r .read-own .ensures .0) (c .before .if1 .taken),
     )
 
 -- The sheet that was read passes the checks of a run.
 module _ (c : tie.Else1) where
   abbrev r : tie.After-read-own
-  r = c .before .before .before .before
+  r = c .before .before .before .before .before
 
-  checked : checkStores (sizesOf (r .read-own .result .sizes)) (r .read-own .result .relations) (rows r) (relations r) ≡ 0
+  checked : checkStores (sizesOf (r .read-own .result .sheet .sizes)) (r .read-own .result .sheet .relations) (rows r) (relations r) ≡ 0
   unfolding ReadCalls.callOf resultOf
   checked =
       let s = start r in
-      call-checked-read (bytes s) (output s) (rows₀ s) (relations₀ s) (rows-long s) (relations-long s) (readBy r) (r .read-own .ensures)
+      call-checked-read (bytes s) (output s) (rows₀ s) (relations₀ s) (rows-long s) (relations-long s) (readBy r) (r .read-own .ensures .0)
       (c .if1 .left)
 
 leading-run-requires : tie.Need-leading-run-requires
@@ -116,12 +122,12 @@ module _ (c : tie.After-leading-run) where
 
   -- the number of equations
   abbrev n : ℕ
-  n = r e .read-own .result .sizes .equations
+  n = r e .read-own .result .sheet .sizes .equations
 
   rest : drop (n * rowLength) (rows (r e)) ≡ drop (n * rowLength) (zeros largestRows)
   unfolding equations ReadCalls.callOf resultOf sizesOf
   rest =
-      read-rest (bytes s) (rows₀ s) (relations₀ s) (readBy (r e)) (r e .read-own .ensures) ∙ ap (drop (n * rowLength)) (s .pre .0)
+      read-rest (bytes s) (rows₀ s) (relations₀ s) (readBy (r e)) (r e .read-own .ensures .0) ∙ ap (drop (n * rowLength)) (s .pre .0)
 
   long : length (relations (r e)) ≡ relationNeed
   long = r e .read-own .kept .1 .1 .0 ∙ ap length (s .pre .1) ∙ length-zeros relationNeed
@@ -136,7 +142,7 @@ module _ (c : tie.After-leading-run) where
   unfolding equations sizesOf
   zero = refused-zero _ _ _ _ (checked e) rest long (ranBy c) (c .leading-run .ensures)
 
-  used : ranBy c .result .refusal ≡ 0 → Used (ranBy c)
+  used : ranBy c .result .refusal ≡ 0 → Used (r e .read-own .result .sheet .relations) (relations (r e)) (ranBy c)
   unfolding equations sizesOf
   used = accepted-used _ _ _ _ (checked e) rest long (ranBy c) (c .leading-run .ensures)
 
@@ -157,7 +163,7 @@ returns-2 c =
     let both = zero d (c .before .if2 .taken) in (
       ap (λ q. callOf q (output a)) (c .no-answer2 .ensures)
           ∙ call-refused (bytes a) (output a) (rows₀ a) (relations₀ a) (rows-long a) (relations-long a) (readBy (r (e d)))
-          (r (e d) .read-own .ensures) (e d .if1 .left) (ranBy d) (d .leading-run .ensures) (c .before .if2 .taken),
+          (r (e d) .read-own .ensures .0) (e d .if1 .left) (ranBy d) (d .leading-run .ensures) (c .before .if2 .taken),
       (both .0 ∙ sym (a .pre .0), both .1 ∙ sym (a .pre .1)),
     )
 
@@ -167,34 +173,78 @@ with-equations-requires c κs = search needs
 lent-bytes-requires : tie.Need-lent-bytes-requires
 lent-bytes-requires c κs = search needs
 
-slice-relend-prefix-write-checked : tie.Need-slice-relend-prefix-write-checked
-slice-relend-prefix-write-checked c = search needs
+-- The lines of the relations that the sheet gives.
+module _ (c : tie.Else2) where
+  abbrev ran : tie.After-leading-run
+  ran = c .before .before .before .before
 
-slice-aggregate-write-checked : tie.Need-slice-aggregate-write-checked
-slice-aggregate-write-checked c =
-    let lent = c .before .before .before .lent-bytes in
-    let d = c .before .before .before .before .before .before .before .before .before .before in
+  abbrev own : tie.After-read-own
+  own = r (e ran)
+
+  abbrev given : OwnRead
+  given = own .read-own .result
+
+  lines-read : RelationLines (bytes (start own)) (sizesOf (given .sheet .sizes)) (given .sheet .relations) (relations own) (given .from)
+      (given .to)
+  lines-read = own .read-own .ensures .1 (e ran .if1 .left)
+
+  bounds : SizeBounds (sizesOf (given .sheet .sizes))
+  bounds = size-bounds _ (stores-valid _ _ _ _ (checked (e ran)) .sizes)
+
+  kept : Used (given .sheet .relations) (relations own) (ranBy ran)
+  kept = used ran (c .if2 .left)
+
+sub-write-given : tie.Need-sub-write-given
+sub-write-given c =
+    let f = c .before .before .before .before .before in
+    given-ordered (lines-read f) (bounds f)
+
+part-write-given-start : tie.Need-part-write-given-start
+part-write-given-start c =
+    let f = c .before .before .before .before .before in
+    given-ordered (lines-read f) (bounds f)
+
+part-write-given-end : tie.Need-part-write-given-end
+part-write-given-end c =
+    let f = c .before .before .before .before .before in
+    lines-read f .ends
+
+slice-relend-prefix-write-given : tie.Need-slice-relend-prefix-write-given
+slice-relend-prefix-write-given c = search needs
+
+slice-aggregate-write-given : tie.Need-slice-aggregate-write-given
+slice-aggregate-write-given c =
+    let lent = c .before .before .before .before .lent-bytes in
+    let d = c .before .before .before .before .before .before .before .before .before .before .before in
     sym (length-take-le (lent .result) (output (s d)) (omega (arith, lent .ensures)))
 
-write-checked-requires : tie.Need-write-checked-requires
-unfolding ReadCalls.callOf resultOf
-write-checked-requires c κs =
-    let f = c .before .before .before .before .before .before in
+write-given-requires : tie.Need-write-given-requires
+unfolding ReadCalls.callOf resultOf withEquations
+write-given-requires c κs =
+    let f = c .before .before .before .before .before .before .before in
     let d = f .before .before .before .before in
     let a = s d in
-    ap (λ z. checkIn z (ranBy d)) (c .before .before .before .before .with-equations .ensures)
-    ∙ call-checked-run (bytes a) (output a) (rows₀ a) (relations₀ a) (rows-long a) (relations-long a) (readBy (r (e d)))
-    (r (e d) .read-own .ensures) (e d .if1 .left) (ranBy d) (d .leading-run .ensures) (f .if2 .left)
+    let equal = c .before .before .before .before .before .with-equations .ensures in (
+      ap (λ z. checkIn z (ranBy d)) equal
+          ∙ call-checked-run (bytes a) (output a) (rows₀ a) (relations₀ a) (rows-long a) (relations-long a) (readBy (r (e d)))
+          (r (e d) .read-own .ensures .0) (e d .if1 .left) (ranBy d) (d .leading-run .ensures) (f .if2 .left),
+      (
+        kept f .kept,
+        given-text (lines-read f) (bounds f)
+            ∙ ap (λ es. lines (map (relationLine (sizesOf (given f .sheet .sizes) .l)) es)) (sym (kept f .same))
+            ∙ ap (λ z. lines (map (relationLine (z .l)) (relationsOf (given f .sheet .relations) (ranBy d .relationStore)))) (sym equal),
+      ),
+    )
 
 -- What the run has left is cleared.
-module _ (c : tie.After-write-checked) where
+module _ (c : tie.After-write-given) where
   abbrev f : tie.Else2
-  f = c .before .before .before .before .before .before .before
+  f = c .before .before .before .before .before .before .before .before
 
   abbrev d : tie.After-leading-run
   d = f .before .before .before .before
 
-  left : Used (ranBy d)
+  left : Used (r (e d) .read-own .result .sheet .relations) (relations (r (e d))) (ranBy d)
   left = used d (f .if2 .left)
 
 mul-clear : tie.Need-mul-clear
@@ -215,7 +265,7 @@ clear-requires-2 c κs =
 
 -- The stores are as they were lent.
 module _ (c : tie.After-relations3) where
-  abbrev w : tie.After-write-checked
+  abbrev w : tie.After-write-given
   w = c .before .before .before .before .before .before .before .before .before .before
 
   rows-back : c .before .before .before .before .before .clear .last .0 ≡ rows₀ (s (d w))
@@ -245,16 +295,16 @@ same-length-7 c = search needs
 returns-3 : tie.Need-returns-3
 unfolding callOf ReadCalls.callOf resultOf sizesOf
 returns-3 c =
-    let lent = w c .before .before .before .before .lent-bytes in
-    let kept = w c .before .before .before .before .before .with-equations .ensures in
+    let lent = w c .before .before .before .before .before .lent-bytes in
+    let equal = w c .before .before .before .before .before .before .with-equations .ensures in
     let g = d (w c) in
     let a = s g in (
       call-written (bytes a) (output a) (rows₀ a) (relations₀ a) (rows-long a) (relations-long a) (readBy (r (e g)))
-          (r (e g) .read-own .ensures) (e g .if1 .left) (ranBy g) (g .leading-run .ensures) (f (w c) .if2 .left) (lent .result)
+          (r (e g) .read-own .ensures .0) (e g .if1 .left) (ranBy g) (g .leading-run .ensures) (f (w c) .if2 .left) (lent .result)
           (lent .ensures)
           (wroteBy (w c))
-          (w c .write-checked .ensures
-          ∙ ap (λ z. writeIn z (ranBy g) (take (lent .result) (output a))) kept),
+          (w c .write-given .ensures
+          ∙ ap (λ z. writeIn z (ranBy g) (take (lent .result) (output a))) equal),
       (rows-back c, relations-back c),
     )
 
@@ -274,9 +324,12 @@ answer-in-spec =
     returns-2
     with-equations-requires
     lent-bytes-requires
-    slice-relend-prefix-write-checked
-    slice-aggregate-write-checked
-    write-checked-requires
+    sub-write-given
+    part-write-given-start
+    part-write-given-end
+    slice-relend-prefix-write-given
+    slice-aggregate-write-given
+    write-given-requires
     mul-clear
     clear-requires
     mul-clear-2
