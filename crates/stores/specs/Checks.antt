@@ -5,6 +5,7 @@
 --   placeRight m D l q   is it zero if so, and otherwise within ±C?
 --
 -- Main statements
+--   zero-small           zeros are within ±C
 --   row-true, row-false  a row passes its check exactly if every polynomial of its left part passes and its right side is within ±C
 use Prim.Native.Nat.{ℕ, suc, _+_, _*_, _/_, _%_, _≤_, _<_, zero-le}
 use native.Mathlib.Nat.{eq-or-lt-of-le, le-of-suc-le-suc}
@@ -56,7 +57,7 @@ chosen : (o s t : Bool) → (T s → T t) → T (cond o s t) ↔ ((T o → T s) 
 chosen true s t f = (λ h. (λ _. h, f h), λ h. h .0 tt)
 chosen false s t f = (λ h. (λ e. absurd e, h), λ h. h .1)
 
-zero-small : (p : List ℤ) → T (isZero p) → T (every small p)
+pub zero-small : (p : List ℤ) → T (isZero p) → T (every small p)
 unfolding every small
 zero-small [] h = tt
 zero-small (a ∷ p) h =

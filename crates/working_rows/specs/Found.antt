@@ -11,28 +11,30 @@
 --   getD-entriesAt                         the leading entry at a column of the order
 --   column-none, column-some               the first nonzero column of a row, by its first nonzero number
 --   widthOf-zero, widthOf-nonzero          the width with one block more, zero or nonzero
-use Prim.Native.Nat.{ℕ, zero, suc, _+_, _*_, _-_, _/_, _%_, _≤_, _<_}
-use native.Mathlib.Nat.{not-suc-le-zero, le-of-suc-le-suc, add-sub-of-le}
+--   zero-later, zero-from                  zeros from a place on are zeros from any later one on; a list is zero from part b on where its parts from there on are zero
+--   width-most, width-rest                 a left part is no wider than its blocks, and zero past its width
+use Prim.Native.Nat.{ℕ, zero, suc, _+_, _*_, _-_, _/_, _%_, _≤_, _<_, zero-le}
+use native.Mathlib.Nat.{not-suc-le-zero, le-of-suc-le-suc, le-refl, le-of-eq, zero-add, suc-mul, add-sub-of-le}
 use native.Mathlib.Omega.{arith}
-use mathlib.Core.Path.{_≡_, refl, sym, _∙_, ap}
+use mathlib.Core.Path.{_≡_, refl, sym, _∙_, ap, subst}
 use mathlib.Core.Logic.{_≢_}
-use mathlib.Core.Bool.{true, false, _&&_, cond}
+use mathlib.Core.Bool.{Bool, true, false, _&&_, cond}
 use mathlib.Core.List.{List, [], _∷_, _++_, map}
 use mathlib.Core.Option.{Option, none, some, Option·map}
-use lib.Dec.{eqb, eqb·suc-zero, lit<, lit≤}
+use lib.Dec.{T, eqb, eqb·suc-zero, lit<, lit≤}
 use lib.IntN.{ℤ, pos}
-use lib.ListN.{length, take, drop, getD, length-map, List·getD-map}
+use lib.ListN.{length, take, drop, getD, length-map, List·getD-map, drop-of-length-le}
 use lib.Seq.{take-add, length-take-le, getD-take, getD-drop}
 use Rattle.algebra.specs.Polynomials.{Polynomial, isZeroℤ, isZero, isZero-append}
-use Rattle.lists.specs.Tests.{both-true, every, every-longer}
+use Rattle.lists.specs.Tests.{T-&&, true-T, both-true, every, every-longer}
 use Rattle.polynomials.specs.Content.{isZero-false}
-use Rattle.rules.specs.Rows.{Block, Row, zeroBlock, widthOf, leadingBlock, entry, firstNonzero}
+use Rattle.rules.specs.Rows.{Block, Row, zeroBlock, width, widthOf, leadingBlock, entry, firstNonzero}
 use Rattle.lists.specs.Everywhere.{All}
 use Rattle.lists.specs.Places.{getD-default}
 use Rattle.rules.specs.Stores.{rowOf}
 use Rattle.lists.specs.Parts.{parts, take-parts, parts-length, getD-parts, parts-take}
-use Rattle.stores.specs.Flat.{isZero-every, every-parts, block-at}
-use Rattle.rules.specs.Limits.{coefficientCount, columnCount, blockLength}
+use Rattle.stores.specs.Flat.{isZero-every, isZero-split, every-parts, length-blocks, block-at, zeroBlock-at}
+use Rattle.rules.specs.Limits.{coefficientCount, columnCount, blockCount, blockLength, entriesLength}
 use Rattle.rules.specs.Layout.{blockOf, coefficientsAt}
 
 unfoldable pub foundOr : ℕ → Option ℕ → ℕ
@@ -151,3 +153,54 @@ widthOf-nonzero (b ∷ bs) zero h z = ap (λ t. cond t 0 1) z
 widthOf-nonzero (b ∷ bs) (suc n) h z =
     ap (λ w. cond (eqb w 0 && zeroBlock b) 0 (suc w)) (widthOf-nonzero bs n (le-of-suc-le-suc h) z)
     ∙ ap (λ t. cond (t && zeroBlock b) 0 (suc (suc n))) (eqb·suc-zero n)
+
+-- No row is wider than its blocks, and past the width these are zero.
+widthOf-le : (bs : List Block) → widthOf bs ≤ length bs
+unfolding widthOf
+widthOf-le [] = zero-le
+widthOf-le (b ∷ bs) = cases (eqb (widthOf bs) 0 && zeroBlock b) (widthOf-le bs)
+  where
+    cases : {k n : ℕ} (t : Bool) → k ≤ n → cond t 0 (suc k) ≤ suc n
+    cases true h = zero-le
+    cases false h = omega arith
+
+widthOf-past : (bs : List Block) (n : ℕ) → n < length bs → widthOf bs ≤ n → zeroBlock (getD bs n []) ≡ true
+unfolding widthOf
+widthOf-past [] n h w = absurd (not-suc-le-zero h)
+widthOf-past (b ∷ bs) zero h w = cases (widthOf bs) (zeroBlock b) w
+  where
+    cases : (k : ℕ) (t : Bool) → cond (eqb k 0 && t) 0 (suc k) ≤ 0 → t ≡ true
+    cases zero true g = refl
+    cases zero false g = absurd (not-suc-le-zero g)
+    cases (suc k) t g = absurd (not-suc-le-zero (rw (eqb·suc-zero k) at g))
+widthOf-past (b ∷ bs) (suc n) h w = widthOf-past bs n (le-of-suc-le-suc h) (cases (widthOf bs) (zeroBlock b) w)
+  where
+    cases : (k : ℕ) (t : Bool) → cond (eqb k 0 && t) 0 (suc k) ≤ suc n → k ≤ n
+    cases zero t g = zero-le
+    cases (suc k) t g = le-of-suc-le-suc (rw (eqb·suc-zero k) at g)
+
+-- Zeros from a place on are zeros from any later one on.
+pub zero-later : (a b : ℕ) (l : List ℤ) → a ≤ b → T (isZero (drop a l)) → T (isZero (drop b l))
+zero-later a b l h z =
+    subst (λ i. T (isZero (drop i l))) (add-sub-of-le h)
+    (T-&& (isZero (take (b - a) (drop a l))) (isZero (drop (a + (b - a)) l)) .0 (subst T (isZero-split (b - a) a l) z) .1)
+
+-- A list of parts of width k that are zero from part b on, and zero past part n too.
+pub zero-from : (k n : ℕ) (l : List ℤ) → T (isZero (drop (n * k) l)) → (j b : ℕ) → j + b ≡ n
+    → ((i : ℕ) → b ≤ i → i < n → T (isZero (take k (drop (i * k) l)))) → T (isZero (drop (b * k) l))
+zero-from k n l past zero b e h = subst (λ i. T (isZero (drop (i * k) l))) (sym e ∙ zero-add b) past
+zero-from k n l past (suc j) b e h =
+    let later = zero-from k n l past j (suc b) (omega arith) (λ i g. h i (omega arith)) in
+    let next : b * k + k ≡ suc b * k = omega (arith, suc-mul b k) in
+    rw (isZero-split k (b * k) l, next) (T-&& (isZero (take k (drop (b * k) l))) (isZero (drop (suc b * k) l)) .1 (h b (le-refl b) (omega arith), later))
+
+pub width-most : (l : List ℤ) → width (rowOf l) ≤ blockCount
+unfolding width
+width-most l = subst (λ n. width (rowOf l) ≤ n) (length-blocks l) (widthOf-le (rowOf l .blocks))
+
+pub width-rest : (l : List ℤ) → length l ≡ entriesLength → T (isZero (drop (width (rowOf l) * blockLength) l))
+unfolding width isZero
+width-rest l long =
+    let none = subst (λ r. T (isZero r)) (sym (drop-of-length-le l (le-of-eq long))) tt in
+    zero-from blockLength blockCount l none (blockCount - width (rowOf l)) (width (rowOf l)) (omega (arith, width-most l))
+    (λ b h i. true-T _ (sym (zeroBlock-at l b i) ∙ widthOf-past (rowOf l .blocks) b (rw (length-blocks l) i) h))

@@ -2,36 +2,47 @@
 --
 -- Main definitions
 --   movedCount        the number of polynomials that move
+--   overFront l d n   the list d, whose first n numbers are overwritten with those of l
 --
 -- Main statements
 --   coeff-shift-front, shift-past   the coefficients up to the highest nonzero one have the shift of all, and past it there is none
---   length-shiftUp    those of the left part are as many as a left part has
+--   length-shiftUp, length-shifted   those of the left part are as many as a left part has, and all as many as a row has
 --   shiftUp-part      polynomial e is p(n + 1) for the polynomial p one block further down
 --   shiftUp-rest      the last block is zero
---   shifted-apart     the left part and the right side are shifted apart
+--   shiftUp-past      with n + 1 for n, what comes past the last block in use is zero
+--   shifted-numbers, shifted-apart   the left part and the right side are shifted apart
 --   shifted-held      a shifted row within the limit is held by its numbers
+--   length-over, over-next, small-next   as long as before; one polynomial more is overwritten
+--   over-cleared, over-side, small-front   the last block in use made zero, the right side, and which numbers decide the limit
 use mathlib.Core.Path.{_≡_, refl, sym, _∙_, ap, ap₂, subst}
-use mathlib.Core.List.{List, [], _∷_, _++_, map, flatten, append-nil, map-append}
-use Prim.Native.Nat.{ℕ, _+_, _*_, _≤_, _<_}
-use native.Mathlib.Nat.{add-comm}
+use mathlib.Core.Bool.{_&&_, and-true}
+use mathlib.Core.List.{List, [], _∷_, _++_, map, flatten, append-nil, append-assoc, map-append}
+use borrow.Rule.Slice.PartMut.{putMid}
+use Prim.Native.Nat.{ℕ, _+_, _*_, _-_, _≤_, _<_}
+use native.Mathlib.Nat.{add-comm, le-of-eq}
 use native.Mathlib.Omega.{arith}
 use lib.Dec.{T}
 use lib.IntN.{ℤ, pos, _*ℤ_, *ℤ-zero}
-use lib.ListN.{length, take, drop, length-append, length-take, length-drop, length-map, List·getD-map}
-use lib.Seq.{drop-at, drop-drop, length-take-le}
-use Rattle.algebra.specs.Polynomials.{Polynomial, coeff, degree, isZero, shift, shiftBy, length-shift, isZero-append, isZero-shift, coeff-isZero}
+use lib.ListN.{length, take, drop, replicate, length-append, length-take, length-drop, length-map, length-replicate, List·getD-map}
+use lib.ListN.{take-append-drop, drop-of-length-le, replicate-append-replicate}
+use lib.Seq.{paste, take-at, take-all, take-add, drop-at, drop-drop, drop-append-le, length-take-le}
+use Rattle.algebra.specs.Polynomials.{Polynomial, coeff, degree, isZero, shift, shiftBy, length-shift}
+use Rattle.algebra.specs.Polynomials.{isZero-append, isZero-shift, coeff-isZero, zero-list}
 use Rattle.algebra.specs.Sums.{sumBelow, sumBelow-congr, sumBelow-extend}
 use Rattle.algebra.specs.Coefficients.{coeff-take, coeff-drop, coeff-past-length, coeff-past-degree}
 use Rattle.algebra.specs.Binomials.{binomial, coeff-shift}
-use Rattle.lists.specs.Tests.{T-&&}
+use Rattle.lists.specs.Tests.{true-of, T-&&, every, every-append}
 use Rattle.rules.specs.Rows.{Block, Row, mapRow, coefficientsOf, blank, leadingBlock, shiftUp}
 use Rattle.lists.specs.Everywhere.{All, append-all, map-keeps}
 use Rattle.lists.specs.Joined.{flatten-append, length-flatten, flatten-map}
-use Rattle.rules.specs.Limits.{rowLength, coefficientCount, columnCount, mostSpan, polynomialCount, blockLength, entriesLength}
+use Rattle.rules.specs.Limits.{rowLength, coefficientCount, columnCount, mostSpan, blockCount, polynomialCount, blockLength, entriesLength, small}
 use Rattle.rules.specs.Stores.{rowOf, StoreRow}
 use Rattle.lists.specs.Parts.{parts, parts-length, parts-width, getD-parts, part-flatten, parts-parts}
 use Rattle.rules.specs.Elimination.{within, limitCoefficients}
-use Rattle.rules.specs.Layout.{rowOf-coefficientsOf, blockOf, coefficientsAt}
+use Rattle.rules.specs.Layout.{rowOf-coefficientsOf, length-coefficientsOf, blockOf, coefficientsAt}
+use Rattle.stores.specs.Flat.{isZero-split}
+use Rattle.stores.specs.Checks.{zero-small}
+use Rattle.working_rows.specs.Found.{zero-later, zero-from}
 use Rattle.working_rows.specs.Working.{leftPart, blocks-held, right-held}
 use Rattle.working_rows.specs.Worked.{Held, held, store-row}
 
@@ -169,18 +180,126 @@ module _ (l : List ℤ) (long : length l ≡ rowLength) where
       (last-width l enough)))
       (side-width, tt))
 
+  pub length-shifted : length (coefficientsOf (shiftUp (rowOf l))) ≡ rowLength
+  length-shifted = length-coefficientsOf (shiftUp (rowOf l)) StoreRow-shiftUp
+
   -- A shifted row within the limit is held by its numbers.
   pub shifted-held : (r : Row) → limitCoefficients (shiftUp (rowOf l)) ≡ within r → Held r
   shifted-held r e = held (shiftUp (rowOf l)) r StoreRow-shiftUp e
 
 -- The entries and the right side are shifted apart.
-pub shifted-apart : (e s : List ℤ) → length e ≡ entriesLength → length s ≡ coefficientCount
-    → rowOf (leftPart (shiftUp (rowOf e)) ++ shift s) ≡ shiftUp (rowOf (e ++ s))
-unfolding shiftUp mapRow leadingBlock coefficientsOf
-shifted-apart e s h k =
-    ap rowOf (ap₂ (λ a b. a ++ shift b) (sym left) (sym (right-held e s h k)))
-    ∙ rowOf-coefficientsOf (shiftUp (rowOf (e ++ s)))
-    (StoreRow-shiftUp (e ++ s) (length-append e s ∙ ap₂ _+_ h k))
-  where
-    left : leftPart (shiftUp (rowOf (e ++ s))) ≡ leftPart (shiftUp (rowOf e))
-    left = ap (λ bs. leftPart (shiftUp (record { blocks = bs; right = [] }))) (blocks-held e s h)
+module _ (e s : List ℤ) (h : length e ≡ entriesLength) (k : length s ≡ coefficientCount) where
+  pub shifted-numbers : coefficientsOf (shiftUp (rowOf (e ++ s))) ≡ leftPart (shiftUp (rowOf e)) ++ shift s
+  unfolding shiftUp mapRow leadingBlock coefficientsOf
+  shifted-numbers = ap₂ (λ a b. a ++ shift b) left (right-held e s h k)
+    where
+      left : leftPart (shiftUp (rowOf (e ++ s))) ≡ leftPart (shiftUp (rowOf e))
+      left = ap (λ bs. leftPart (shiftUp (record { blocks = bs; right = [] }))) (blocks-held e s h)
+
+  pub shifted-apart : rowOf (leftPart (shiftUp (rowOf e)) ++ shift s) ≡ shiftUp (rowOf (e ++ s))
+  shifted-apart =
+      ap rowOf (sym shifted-numbers)
+      ∙ rowOf-coefficientsOf (shiftUp (rowOf (e ++ s))) (StoreRow-shiftUp (e ++ s) (length-append e s ∙ ap₂ _+_ h k))
+
+-- ---- a shift written over the row
+
+abbrev pub overFront : List ℤ → List ℤ → ℕ → List ℤ
+overFront l d n = take n l ++ drop n d
+
+pub length-over : (l d : List ℤ) (n : ℕ) → n ≤ length l → n ≤ length d → length (overFront l d n) ≡ length d
+length-over l d n h g = simp (length-append, length-drop, length-take-le n l h) (omega arith)
+
+module _ (l d : List ℤ) (e : ℕ) (inside : e * coefficientCount + coefficientCount ≤ length l) where
+  abbrev at : ℕ
+  at = e * coefficientCount
+
+  abbrev next : ℕ
+  next = (e + 1) * coefficientCount
+
+  sum : next ≡ at + coefficientCount
+  sum = omega arith
+
+  -- The next polynomial in its place.
+  pub over-next : (w : ℕ) → w ≡ coefficientCount → putMid at w (overFront l d at) (coefficientsAt l e) ≡ overFront l d next
+  over-next w wide =
+      let long = length-take-le at l (omega arith) in
+      ap₂ (λ a b. a ++ (coefficientsAt l e ++ drop w b)) (take-at (take at l) (drop at d) at long) (drop-at (take at l) (drop at d) at long)
+      ∙ ap (λ b. take at l ++ (coefficientsAt l e ++ b)) (drop-drop w at d ∙ ap (λ n. drop n d) (ap (λ n. at + n) wide ∙ sym sum))
+      ∙ sym (append-assoc (take at l) (coefficientsAt l e) (drop next d))
+      ∙ ap (λ a. a ++ drop next d) (sym (take-add at coefficientCount l) ∙ ap (λ n. take n l) (sym sum))
+
+  pub small-next : every small (take next l) ≡ (every small (take at l) && every small (coefficientsAt l e))
+  small-next =
+      ap (λ n. every small (take n l)) sum ∙ ap (every small) (take-add at coefficientCount l)
+      ∙ every-append small (take at l) (coefficientsAt l e)
+
+-- A part past a place from which on there are zeros.
+zero-part : (a b n : ℕ) (l : List ℤ) → a ≤ b → T (isZero (drop a l)) → T (isZero (take n (drop b l)))
+zero-part a b n l h z =
+    T-&& (isZero (take n (drop b l))) (isZero (drop (b + n) l)) .0 (subst T (isZero-split n b l) (zero-later a b l h z)) .0
+
+-- A row that is zero past its first blocks, of which the last is not counted here.
+module _ (e s : List ℤ) (long : length e ≡ entriesLength) (blocks : ℕ) (few : blocks < blockCount)
+    (rest : T (isZero (drop ((blocks + 1) * blockLength) e))) where
+  abbrev shifted : List ℤ
+  shifted = leftPart (shiftUp (rowOf e))
+
+  abbrev front : ℕ
+  front = blocks * blockLength
+
+  enough : entriesLength ≤ length e
+  enough = le-of-eq (sym long)
+
+  shifted-long : length shifted ≡ entriesLength
+  shifted-long = length-shiftUp e enough
+
+  pub shiftUp-past : T (isZero (drop front shifted))
+  shiftUp-past =
+      let places : blocks * columnCount * coefficientCount ≡ front = omega arith in
+      subst (λ n. T (isZero (drop n shifted))) places
+      (zero-from coefficientCount movedCount shifted (shiftUp-rest e enough) (movedCount - blocks * columnCount) (blocks * columnCount)
+      (omega arith)
+      (λ i h inside. rw (shiftUp-part e enough i inside, isZero-shift)
+      (zero-part ((blocks + 1) * blockLength) (i * coefficientCount + blockLength) coefficientCount e (omega arith) rest)))
+
+  pub over-cleared : paste (overFront shifted (e ++ s) front) front (replicate blockLength (pos 0)) blockLength ≡ shifted ++ s
+  over-cleared =
+      let taken = length-take-le front shifted (omega (arith, shifted-long)) in
+      let written = overFront shifted (e ++ s) front in
+      let past : drop (front + blockLength) written ≡ drop (front + blockLength) e ++ s =
+      sym (drop-drop blockLength front written) ∙ ap (drop blockLength) (drop-at (take front shifted) (drop front (e ++ s)) front taken)
+      ∙ drop-drop blockLength front (e ++ s) ∙ drop-append-le (front + blockLength) e s (omega arith)
+      in
+      ap₂ (λ a b. a ++ take blockLength (replicate blockLength (pos 0)) ++ b)
+      (take-at (take front shifted) (drop front (e ++ s)) front taken) past
+      ∙ ap (λ z. take front shifted ++ z ++ (drop (front + blockLength) e ++ s))
+      (take-all blockLength (replicate blockLength (pos 0)) (le-of-eq (length-replicate blockLength (pos 0))))
+      ∙ append-assoc (take front shifted) zeros (drop (front + blockLength) e ++ s)
+      ∙ ap (λ r. take front shifted ++ r) (sym (append-assoc zeros (drop (front + blockLength) e) s) ∙ ap (λ r. r ++ s) (sym past-zeros))
+      ∙ sym (append-assoc (take front shifted) (drop front shifted) s) ∙ ap (λ r. r ++ s) (take-append-drop front shifted)
+    where
+      zeros : List ℤ
+      zeros = replicate blockLength (pos 0)
+
+      past-zeros : drop front shifted ≡ zeros ++ drop (front + blockLength) e
+      past-zeros =
+          let behind : (blocks + 1) * blockLength ≡ front + blockLength = omega arith in
+          let none : T (isZero (drop (front + blockLength) e)) = subst (λ n. T (isZero (drop n e))) behind rest in
+          let count : length (drop front shifted) ≡ blockLength + length (drop (front + blockLength) e) =
+          simp length-drop (omega (arith, shifted-long)) in
+          zero-list (drop front shifted) shiftUp-past ∙ ap (λ n. replicate n (pos 0)) count
+          ∙ sym (replicate-append-replicate blockLength (length (drop (front + blockLength) e)) (pos 0))
+          ∙ ap (λ r. zeros ++ r) (sym (zero-list (drop (front + blockLength) e) none))
+
+  pub over-side : (n : ℕ) → length s ≤ n → putMid entriesLength n (shifted ++ s) (shift s) ≡ shifted ++ shift s
+  over-side n h =
+      ap₂ (λ a b. a ++ (shift s ++ drop n b)) (take-at shifted s entriesLength shifted-long) (drop-at shifted s entriesLength shifted-long)
+      ∙ ap (λ b. shifted ++ (shift s ++ b)) (drop-of-length-le s h) ∙ ap (λ b. shifted ++ b) (append-nil (shift s))
+
+  pub small-front : every small (shifted ++ shift s) ≡ (every small (take front shifted) && every small (shift s))
+  small-front =
+      every-append small shifted (shift s)
+      ∙ ap (λ t. t && every small (shift s))
+      (ap (every small) (sym (take-append-drop front shifted)) ∙ every-append small (take front shifted) (drop front shifted)
+      ∙ ap (λ t. every small (take front shifted) && t) (true-of _ (zero-small (drop front shifted) shiftUp-past))
+      ∙ and-true (every small (take front shifted)))
