@@ -9,13 +9,15 @@
 --   full-worked             the working row of a new row is full
 --   row-room                row i of equations rows has room in a store for equations rows
 --   saved-none, saved-same  a refusal stores nothing, and equal numbers the same
+--   saved-lent              a new row that was put in its place where it was lent
 --   saved-outcome, saved-within, saved-kept   what storing the new row does
-use Prim.Native.Nat.{ℕ, zero, suc, _+_, _*_, _≤_, _<_}
+use Prim.Native.Nat.{ℕ, zero, suc, _+_, _*_, _-_, _≤_, _<_}
 use native.Mathlib.Nat.{suc-mul, le-of-eq, not-suc-le-zero, mul-le-mul-right}
 use native.Mathlib.Omega.{arith}
 use mathlib.Core.Path.{_≡_, refl, sym, _∙_, ap}
 use mathlib.Core.Bool.{Bool, true, false, cond}
 use mathlib.Core.List.{List}
+use borrow.Rule.Slice.PartMut.{midOf, putMid, put-same}
 use lib.Dec.{lit<}
 use lib.IntN.{ℤ, pos}
 use lib.ListN.{length, take, set, length-replicate}
@@ -26,8 +28,9 @@ use Rattle.rules.specs.Rows.{Row, coefficientsOf, contradicts, combine, primiti
 use Rattle.rules.specs.Elimination.{Limited, within, beyond, limitCoefficients, limitDegrees, consistent, going, putRow, putLimited}
 use Rattle.rules.specs.Stores.{rowOf, rowsOf, relationsOf, rowNeed, Shaped}
 use Rattle.rules.specs.Layout.{entries-rowOf, StoreRow-rowOf}
+use Rattle.stores.specs.LentParts.{lent-back}
 use Rattle.working_rows.specs.Working.{leftPart, Full}
-use Rattle.working_rows.specs.Worked.{Held, refusalOf, numbersOf, workedRow}
+use Rattle.working_rows.specs.Worked.{Held, refusalOf, numbersOf, numbersOr, workedRow}
 use Rattle.combinations.specs.Combination.{combined-held}
 use Rattle.working_rows.specs.Shifting.{shifted-held}
 use Rattle.reduction.specs.declared.step.Progress.{Progress}
@@ -115,6 +118,16 @@ pub saved-same : (store : List ℤ) (i n : ℕ) (numbers others : List ℤ) → 
 unfolding saved
 saved-same store i zero numbers others e = ap (λ l. paste store (i * rowLength) l rowLength) (e refl)
 saved-same store i (suc n) numbers others e = refl
+
+-- The place of row i, lent and back with the new row in it or, with a refusal, as it was.
+pub saved-lent : (store : List ℤ) (i : ℕ) (x : Limited) → Storable x
+    → putMid (i * rowLength) (i * rowLength + rowLength - i * rowLength) store
+    (numbersOr (midOf (i * rowLength) (i * rowLength + rowLength - i * rowLength) store) x)
+    ≡ saved store i (refusalOf x) (numbersOf x)
+unfolding Storable saved refusalOf numbersOf numbersOr
+saved-lent store i (within r) h = lent-back store (i * rowLength) rowLength (coefficientsOf r) (h .long)
+saved-lent store i (beyond zero) h = absurd (not-suc-le-zero h)
+saved-lent store i (beyond (suc n)) h = put-same (i * rowLength) (i * rowLength + rowLength - i * rowLength) store
 
 -- Row i of equations rows in a store within ±C, in whose place a new row is put.
 module _ (equations i : ℕ) (store : List ℤ) (w : Within (rowNeed equations) store) (inside : i < equations) where

@@ -24,7 +24,7 @@ ghost use Rattle.sides.specs.Lent.{sideOf};
 ghost use Rattle.reduction.specs.Progress.{Ready, Reached, stateOf, answerOf, droppedProgress, settledProgress, shiftedProgress};
 ghost use Rattle.reduction.specs.NewRows.{saved};
 ghost use Rattle.reduction.specs.Dropping.{dropped};
-ghost use Rattle.reduction.specs.StoreExchange.{numbersAt, narrowed};
+ghost use Rattle.reduction.specs.StoreExchange.{numbersAt, narrowed, Loaded};
 ghost use Rattle.reduction.specs.StepLaws.{metEntries, shiftedRow};
 
 // How far a run has come: the rows that are left, the settled ones with their columns, counted from 0, the relations listed and the
@@ -121,7 +121,7 @@ fn settled(c: usize, p: Progress) -> Progress
 // Rule 6: the blocks move up by one, with n + 1 for n, and the shift is counted (SCOPE 2.61, 2.63, 2.65).
 fn shift_step(rows: &mut [i64], row: WorkingRow, p: Progress) -> Outcome
     requires { ⌜
-        (p .settled * rowLength + rowLength ≤ length (now rows)) × Full row × T (every small (numbersHeld row))
+        (p .settled * rowLength + rowLength ≤ length (now rows)) × Loaded (now rows) (p .settled) row × T (every small (numbersHeld row))
         × (p .shifts < 2 ^ 32) ⌝ }
     ensures { λ _. ⌜ now (rows .exit)
         ≡ saved (now (rows .entry)) (p .settled) (refusalOf (shiftedRow (numbersHeld row))) (numbersOf (shiftedRow (numbersHeld row))) ⌝ }
@@ -136,7 +136,12 @@ fn shift_step(rows: &mut [i64], row: WorkingRow, p: Progress) -> Outcome
         count: p.count,
         shifts: p.shifts + 1,
     };
-    put_limited(rows, i, working_rows::shifting::shifted(row), next)
+    let from = i * ROW;
+    let to = from + ROW;
+    answer(
+        working_rows::shifting::shift_into(&mut rows[from..to], row),
+        next,
+    )
 }
 
 // Rule 1: the row that is worked on is dropped; the later ones move up, and the place of the last one holds 0 (SCOPE 2.11).

@@ -1,28 +1,57 @@
--- `reduction::step::shift_step` meets its contract.
+-- `reduction::step::shift_step` meets its contract: the place of the row is lent, and is back with the shifted row or as it was.
 -- Assumes nothing.
-use mathlib.Core.Path.{sym, _∙_, ap, ap₂, subst}
-use borrow.Author.Needs.{needs}
+use mathlib.Core.Path.{_≡_, sym, _∙_, ap}
+use Prim.Native.Nat.{_+_, _*_, _-_}
+use native.Mathlib.Omega.{arith}
+use borrow.Rule.Slice.PartMut.{putMid}
 use denote.Ref.{now}
-use Rattle.working_rows.specs.Working.{numbersHeld, Full, length-held}
-use Rattle.working_rows.specs.Worked.{numbers-worked}
-use Rattle.reduction.specs.NewRows.{saved, shifted-storable, full-worked}
+use lib.ListN.{take, drop}
+use borrow.Author.Needs.{needs}
+use Rattle.rules.specs.Limits.{rowLength}
+use Rattle.rules.specs.Rows.{width}
+use Rattle.rules.specs.Stores.{rowOf}
+use Rattle.working_rows.specs.Working.{numbersHeld, length-held, width-held}
+use Rattle.reduction.specs.NewRows.{shifted-storable, saved-lent}
 use Rattle.reduction.specs.StepLaws.{shiftedRow}
 use Rattle.reduction.specs.Progress.{answerOf, shiftedProgress}
 use Rattle.reduction.proofs.step.shift_step.Statement.{statement}
 use Rattle.reduction.proofs.step.shift_step.Tie as tie
 
-add-t7 : tie.Need-add-t7
-add-t7 c = search needs
+add-shift-into : tie.Need-add-shift-into
+add-shift-into c = search needs
 
-shifted-requires : tie.Need-shifted-requires
-shifted-requires c κs = search needs
+mul-from : tie.Need-mul-from
+mul-from c = search needs
 
-put-limited-requires : tie.Need-put-limited-requires
-put-limited-requires c κs =
-    let start = c .before .before .before .before in
+add-to : tie.Need-add-to
+add-to c = search needs
+
+mul-shift-into : tie.Need-mul-shift-into
+mul-shift-into c = search needs
+
+sub-shift-into : tie.Need-sub-shift-into
+sub-shift-into c = search needs
+
+part-shift-into-start : tie.Need-part-shift-into-start
+part-shift-into-start c = search needs
+
+part-shift-into-end : tie.Need-part-shift-into-end
+part-shift-into-end c = search needs
+
+shift-into-requires : tie.Need-shift-into-requires
+shift-into-requires c κs =
+    let start = c .before .before .before in
     let row = start .args .row in
-    let storable = shifted-storable (numbersHeld row) (length-held row (start .pre .1)) in
-    (start .pre .0, subst Full (sym (c .shifted .ensures .1)) (full-worked (shiftedRow (numbersHeld row)) storable))
+    let from = start .args .p .settled * rowLength in
+    let loaded = start .pre .1 in
+    let size : from + rowLength - from ≡ rowLength = omega arith in (
+      (loaded .full, start .pre .2, ap (λ n. take n (drop from (now (start .args .rows)))) size ∙ sym (loaded .numbers)),
+      loaded .width-is ∙ ap (λ l. width (rowOf l)) (sym (loaded .numbers))
+          ∙ width-held (row .entries) (row .right) (loaded .full .entries-long),
+    )
+
+answer-requires : tie.Need-answer-requires
+answer-requires c κs = search needs
 
 same-length : tie.Need-same-length
 same-length c = search needs
@@ -30,13 +59,27 @@ same-length c = search needs
 returns : tie.Need-returns
 returns c =
     let start = c .before .before .before .before .before .before in
-    let put = c .before .put-limited in
-    let new = c .before .before .shifted .ensures in (
-      put .ensures .0 ∙ ap₂ (saved (now (start .args .rows)) (start .args .p .settled)) (new .0)
-          (ap numbersHeld (new .1) ∙ numbers-worked (shiftedRow (numbersHeld (start .args .row)))),
-      put .ensures .1 ∙ ap (λ n. answerOf n (shiftedProgress (start .args .p))) (new .0),
+    let row = start .args .row in
+    let from = start .args .p .settled * rowLength in
+    let new = c .before .before .shift-into .ensures in
+    let storable = shifted-storable (numbersHeld row) (length-held row (start .pre .1 .full)) in (
+      ap (putMid from (from + rowLength - from) (now (start .args .rows))) (new .1)
+          ∙ saved-lent (now (start .args .rows)) (start .args .p .settled) (shiftedRow (numbersHeld row)) storable,
+      c .answer .ensures ∙ ap (λ n. answerOf n (shiftedProgress (start .args .p))) (new .0),
     )
 
 pub shift-step-spec : {M : Type 1} → statement M
 shift-step-spec =
-    tie.close (tie.spec add-t7 shifted-requires put-limited-requires same-length returns)
+    tie.close
+    (tie.spec
+    add-shift-into
+    mul-from
+    add-to
+    mul-shift-into
+    sub-shift-into
+    part-shift-into-start
+    part-shift-into-end
+    shift-into-requires
+    answer-requires
+    same-length
+    returns)

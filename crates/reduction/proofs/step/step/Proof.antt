@@ -217,7 +217,7 @@ shift-step-requires c κs =
     let l = c .before in
     let b = origin (searched l) in
     let numbers = small-numbersAt (n b) (rows b) (ready b .rows-within) (i b) (inside b) in
-    (row-room-here b, loaded l .full, subst (λ n. T (every small n)) (sym (loaded l .numbers)) numbers, b .pre .2)
+    (row-room-here b, loaded l, subst (λ n. T (every small n)) (sym (loaded l .numbers)) numbers, b .pre .2)
 
 same-length-5 : tie.Need-same-length-5
 same-length-5 c = search needs
