@@ -9,9 +9,9 @@
 --   lowered-refused      one is refused where the other is
 --   raised-long, raised-small, lowered-worked   and otherwise the mirror of the one is the other
 use Prim.Native.Nat.{_+_, _≤_}
-use native.Mathlib.Nat.{zero-add, le-of-eq, le-refl}
+use native.Mathlib.Nat.{le-of-eq, le-refl}
 use native.Mathlib.Omega.{arith}
-use mathlib.Core.Path.{_≡_, refl, sym, _∙_, ap, ap₂, subst}
+use mathlib.Core.Path.{_≡_, refl, sym, _∙_, ap, subst}
 use mathlib.Core.Logic.{_≢_}
 use mathlib.Core.List.{List}
 use lib.Dec.{T}
@@ -21,12 +21,12 @@ use Rattle.lists.specs.Tests.{every}
 use Rattle.rules.specs.Limits.{mostSpan, blockCount, columnCount, coefficientCount, entriesLength, rowLength, small}
 use Rattle.rules.specs.Rows.{Row, coefficientsOf, smallRow, shiftUp, mirrorRow}
 use Rattle.rules.specs.Stores.{rowOf, StoreRow, Shaped}
-use Rattle.rules.specs.Layout.{entries-rowOf, StoreRow-rowOf}
+use Rattle.rules.specs.Layout.{StoreRow-rowOf}
 use Rattle.rules.specs.Elimination.{Limited, within, beyond, limitCoefficients}
 use Rattle.stores.specs.Flat.{length-blocks}
 use Rattle.theory.specs.ShiftUp.{shiftUp-shaped}
 use Rattle.theory.specs.ShiftDown.{shiftDown}
-use Rattle.working_rows.specs.Working.{leftPart, workingOf}
+use Rattle.working_rows.specs.Working.{loaded-row, workingOf}
 use Rattle.working_rows.specs.Worked.{Held, refusalOf, numbersOf, workedRow, limit-zero}
 use Rattle.working_rows.specs.Mirroring.{length-mirrorRow, rowOf-mirrorRow, small-mirrorRow}
 use Rattle.working_rows.specs.Shifting.{shifted-held}
@@ -36,15 +36,6 @@ refused-mirrored : (x : Limited) → refusalOf x ≢ 0 → mirrorLimited x ≡ x
 unfolding mirrorLimited refusalOf
 refused-mirrored (within r) n = absurd (n refl)
 refused-mirrored (beyond k) n = refl
-
--- A row that its numbers hold, as it is loaded.
-loaded-row : (r : Row) → rowOf (coefficientsOf r) ≡ r
-    → workingOf (take entriesLength (drop 0 (coefficientsOf r))) (take coefficientCount (drop (0 + entriesLength) (coefficientsOf r)))
-    ≡ workingOf (leftPart r) (r .right)
-unfolding rowOf
-loaded-row r e =
-    ap₂ workingOf (sym (entries-rowOf (coefficientsOf r)) ∙ ap leftPart e)
-    (ap (λ k. take coefficientCount (drop k (coefficientsOf r))) (zero-add entriesLength) ∙ ap (λ q. q .right) e)
 
 module _ (l : List ℤ) (long : length l ≡ rowLength) (bounded : T (every small l)) where
   abbrev pub mirrorNumbers : List ℤ

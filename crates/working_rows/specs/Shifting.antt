@@ -10,7 +10,7 @@
 --   shiftUp-part      polynomial e is p(n + 1) for the polynomial p one block further down
 --   shiftUp-rest      the last block is zero
 --   shiftUp-past      with n + 1 for n, what comes past the last block in use is zero
---   shifted-numbers, shifted-apart   the left part and the right side are shifted apart
+--   shifted-numbers   the left part and the right side are shifted apart
 --   shifted-held      a shifted row within the limit is held by its numbers
 --   length-over, over-next, small-next   as long as before; one polynomial more is overwritten
 --   over-cleared, over-side, small-front   the last block in use made zero, the right side, and which numbers decide the limit
@@ -39,7 +39,7 @@ use Rattle.rules.specs.Limits.{rowLength, coefficientCount, columnCount, mostSp
 use Rattle.rules.specs.Stores.{rowOf, StoreRow}
 use Rattle.lists.specs.Parts.{parts, parts-length, parts-width, getD-parts, part-flatten, parts-parts}
 use Rattle.rules.specs.Elimination.{within, limitCoefficients}
-use Rattle.rules.specs.Layout.{rowOf-coefficientsOf, length-coefficientsOf, blockOf, coefficientsAt}
+use Rattle.rules.specs.Layout.{length-coefficientsOf, blockOf, coefficientsAt}
 use Rattle.stores.specs.Flat.{isZero-split}
 use Rattle.stores.specs.Checks.{zero-small}
 use Rattle.working_rows.specs.Found.{zero-later, zero-from}
@@ -195,11 +195,6 @@ module _ (e s : List ℤ) (h : length e ≡ entriesLength) (k : length s ≡ coe
     where
       left : leftPart (shiftUp (rowOf (e ++ s))) ≡ leftPart (shiftUp (rowOf e))
       left = ap (λ bs. leftPart (shiftUp (record { blocks = bs; right = [] }))) (blocks-held e s h)
-
-  pub shifted-apart : rowOf (leftPart (shiftUp (rowOf e)) ++ shift s) ≡ shiftUp (rowOf (e ++ s))
-  shifted-apart =
-      ap rowOf (sym shifted-numbers)
-      ∙ rowOf-coefficientsOf (shiftUp (rowOf (e ++ s))) (StoreRow-shiftUp (e ++ s) (length-append e s ∙ ap₂ _+_ h k))
 
 -- ---- a shift written over the row
 

@@ -11,6 +11,7 @@
 -- Main statements
 --   numbers-worked the numbers of that working row
 --   limit-within, limit-beyond   the answer for numbers that are all within ±C, and for others
+--   refused-beyond a refusal is the number of a limit
 --   limit-zero, consistent-passed, consistent-kept   the answer of the test behind the limit
 --   held           a row of a store's shape that is within the limit is held by its numbers
 --   store-row      that shape, by the polynomials of the row
@@ -87,6 +88,12 @@ limit-zero r e = go (smallRow r) e
     go : (t : Bool) → refusalOf (cond t (within r) (beyond 8)) ≡ 0 → cond t (within r) (beyond 8) ≡ within r
     go true h = refl
     go false h = absurd (omega arith)
+
+-- A refusal is all that is left of a row past the limit.
+pub refused-beyond : (x : Limited) → (refusalOf x ≡ 0 → ⊥) → x ≡ beyond (refusalOf x)
+unfolding refusalOf
+refused-beyond (within r) h = absurd (h refl)
+refused-beyond (beyond n) h = refl
 
 -- What it lets through is tested.
 pub consistent-passed : (r : Row) → refusalOf (limitCoefficients r) ≡ 0

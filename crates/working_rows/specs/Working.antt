@@ -5,17 +5,18 @@
 --   workingOf e s        the working row of the entries e and the right side s
 --   numbersHeld w        the numbers of a working row: its entries, then its right side
 --   Full w               its arrays are full
+--   loaded store at      the row that a store holds from a place on
 --
 -- Main statements
---   full-of, full-loaded, numbers-loaded   a row made of full arrays, and one loaded from a store
+--   full-of, width-of, full-loaded, numbers-loaded, loaded-row   a row made of full arrays, and one loaded from a store
 --   length-held          a full row has the numbers of a row
 --   small-apart          both parts are within ±C where all the numbers are
---   blocks-held, right-held, left-held, width-held, leading-held, entry-held   what its numbers hold
+--   blocks-held, right-held, width-held, leading-held, entry-held   what its numbers hold
 --   left-long, width-left, leading-left, entry-left, behind-all, right-behind   what the two parts of a row hold, where they stand
 --   width-zero           the width is 0 exactly if the left part is zero
 --   paste-joined         two lists put into a store one behind the other
 use Prim.Native.Nat.{ℕ, suc, _+_, _-_, _≤_}
-use native.Mathlib.Nat.{le-of-eq, le-refl, add-assoc}
+use native.Mathlib.Nat.{zero-add, le-of-eq, le-refl, add-assoc}
 use native.Mathlib.Omega.{arith}
 use mathlib.Core.Path.{_≡_, refl, sym, _∙_, ap, ap₂, subst}
 use mathlib.Core.Bool.{Bool, true, false, _&&_, cond}
@@ -27,7 +28,7 @@ use lib.Seq.{paste, take-at, take-all, take-add, drop-at, drop-drop, take-paste,
 use Rattle.lists.specs.Parts.{parts, parts-take}
 use Rattle.lists.specs.Tests.{T-&&, every, every-append}
 use Rattle.rules.specs.Limits.{coefficientCount, blockCount, blockLength, entriesLength, rowLength, small}
-use Rattle.rules.specs.Rows.{Block, Row, zeroBlock, zeroLeft, width, widthOf, leadingBlock, entry}
+use Rattle.rules.specs.Rows.{Block, Row, coefficientsOf, zeroBlock, zeroLeft, width, widthOf, leadingBlock, entry}
 use Rattle.rules.specs.Stores.{rowOf}
 use Rattle.rules.specs.Layout.{blockOf, entries-rowOf}
 use Rattle.working_rows.specs.declared.WorkingRow.{WorkingRow}
@@ -48,9 +49,12 @@ pub record Full (w : WorkingRow) : Type 0 where
 pub full-of : (e s : List ℤ) → length e ≡ entriesLength → length s ≡ coefficientCount → Full (workingOf e s)
 full-of e s h k = record { entries-long = h; right-long = k }
 
+pub width-of : (w : WorkingRow) (e s : List ℤ) → w ≡ workingOf e s → w .width ≡ width (rowOf (w .entries))
+width-of w e s h = ap (λ v. v .width) h ∙ sym (ap (λ v. width (rowOf (v .entries))) h)
+
 -- The row that a store holds from a place on.
 module _ (store : List ℤ) (at : ℕ) where
-  abbrev loaded : WorkingRow
+  abbrev pub loaded : WorkingRow
   loaded = workingOf (take entriesLength (drop at store)) (take coefficientCount (drop (at + entriesLength) store))
 
   pub full-loaded : at + rowLength ≤ length store → Full loaded
@@ -63,6 +67,13 @@ module _ (store : List ℤ) (at : ℕ) where
   numbers-loaded =
       ap (λ l. take entriesLength (drop at store) ++ take coefficientCount l) (sym (drop-drop entriesLength at store))
       ∙ sym (take-add entriesLength coefficientCount (drop at store))
+
+-- A row that its numbers hold, as it is loaded.
+pub loaded-row : (r : Row) → rowOf (coefficientsOf r) ≡ r → loaded (coefficientsOf r) 0 ≡ workingOf (leftPart r) (r .right)
+unfolding rowOf
+loaded-row r e =
+    ap₂ workingOf (sym (entries-rowOf (coefficientsOf r)) ∙ ap leftPart e)
+    (ap (λ k. take coefficientCount (drop k (coefficientsOf r))) (zero-add entriesLength) ∙ ap (λ q. q .right) e)
 
 pub length-held : (w : WorkingRow) → Full w → length (numbersHeld w) ≡ rowLength
 length-held w h = length-append (w .entries) (w .right) ∙ ap₂ _+_ (h .entries-long) (h .right-long)
@@ -84,9 +95,6 @@ module _ (e s : List ℤ) (long : length e ≡ entriesLength) where
   pub right-held : length s ≡ coefficientCount → rowOf (e ++ s) .right ≡ s
   unfolding rowOf
   right-held h = ap (take coefficientCount) (drop-at e s entriesLength long) ∙ take-all coefficientCount s (le-of-eq h)
-
-  pub left-held : leftPart (rowOf (e ++ s)) ≡ e
-  left-held = entries-rowOf (e ++ s) ∙ take-at e s entriesLength long
 
   pub width-held : width (rowOf (e ++ s)) ≡ width (rowOf e)
   unfolding width

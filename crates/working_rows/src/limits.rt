@@ -3,7 +3,6 @@ use crate::WorkingRow;
 use polynomials::lengths::COEFFICIENTS;
 use stores::lengths::ENTRIES;
 ghost use mathlib.Core.Path.{_≡_};
-ghost use mathlib.Core.List.{_++_};
 ghost use lib.ListN.{length};
 ghost use Rattle.rules.specs.Limits.{rowLength};
 ghost use Rattle.rules.specs.Stores.{rowOf};
@@ -26,28 +25,6 @@ pub fn broken(refusal: u8) -> Worked
         width: 0,
     };
     Worked { refusal, row }
-}
-
-// A coefficient past ±C, on the right side too, is refused with 8 (SCOPE 2.44, 2.63).
-pub fn limited(entries: [i64; ENTRIES], right: [i64; COEFFICIENTS]) -> Worked
-    ensures { λ r. ⌜ r .refusal ≡ refusalOf (limitCoefficients (rowOf (entries ++ right))) ⌝ }
-    ensures { λ r. ⌜ r .row ≡ workedRow (limitCoefficients (rowOf (entries ++ right))) ⌝ }
-{
-    if !stores::checks::all_small(&entries[..]) {
-        return broken(8);
-    }
-    if !stores::checks::all_small(&right[..]) {
-        return broken(8);
-    }
-    let width = crate::entries::width(&entries[..]);
-    Worked {
-        refusal: 0,
-        row: WorkingRow {
-            entries,
-            right,
-            width,
-        },
-    }
 }
 
 // The number of the limit that the numbers of a new row break, or 0: a coefficient past ±C, on the right side too, is 8 (SCOPE 2.44), and

@@ -12,7 +12,7 @@ use lib.IntN.{ℤ}
 use Rattle.lists.specs.Tests.{every}
 use Rattle.rules.specs.Limits.{small}
 use Rattle.rules.specs.Elimination.{Limited}
-use Rattle.working_rows.specs.Working.{numbersHeld, Full}
+use Rattle.working_rows.specs.Working.{numbersHeld, Full, width-of}
 use Rattle.working_rows.specs.Worked.{refusalOf, numbersOf, workedRow, numbers-worked}
 use Rattle.reduction.specs.declared.step.Progress.{Progress}
 use Rattle.reduction.specs.Progress.{answerOf, shiftedProgress}
@@ -115,7 +115,7 @@ add-t13 : tie.Need-add-t13
 add-t13 c = search needs
 
 shifted-requires : tie.Need-shifted-requires
-shifted-requires c κs = let l = c .before .before .before in (loaded l .full, bounded l)
+shifted-requires c κs = let l = c .before .before .before in (loaded l .full, bounded l, width-of (l .load .result) _ _ (l .load .ensures))
 
 put-limited-requires : tie.Need-put-limited-requires
 put-limited-requires c κs =

@@ -16,7 +16,7 @@ use Rattle.rules.specs.Limits.{rowLength, small, entriesLength, coefficientCoun
 use Rattle.rules.specs.Rows.{shiftUp, mirrorRow, coefficientsOf}
 use Rattle.rules.specs.Stores.{rowOf}
 use Rattle.rules.specs.Elimination.{limitCoefficients}
-use Rattle.working_rows.specs.Working.{numbersHeld, Full, workingOf, full-loaded, numbers-loaded, length-held}
+use Rattle.working_rows.specs.Working.{numbersHeld, Full, workingOf, width-of, full-loaded, numbers-loaded, length-held}
 use Rattle.working_rows.specs.Worked.{Shown, refusalOf, workedRow, numbersOf, numbers-worked}
 use Rattle.reduction.specs.NewRows.{full-worked, shifted-storable}
 use Rattle.logs.specs.LoweredRows.{mirrorNumbers, mirror-long, mirror-small, raised, lowered-refused, raised-long, raised-small}
@@ -108,8 +108,11 @@ load-requires c κs =
     omega (arith, ap length (c .before .mirrored .ensures), mirror-long (l s) (long s) (s .pre))
 
 shifted-requires : tie.Need-shifted-requires
-shifted-requires c κs =
-    (full c, subst (λ k. T (every small k)) (sym (numbers c)) (mirror-small (l (start c)) (long (start c)) (start c .pre)))
+shifted-requires c κs = (
+  full c,
+  subst (λ k. T (every small k)) (sym (numbers c)) (mirror-small (l (start c)) (long (start c)) (start c .pre)),
+  width-of (c .load .result) _ _ (c .load .ensures),
+)
 
 returns : tie.Need-returns
 returns c =

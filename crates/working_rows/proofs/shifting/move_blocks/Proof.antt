@@ -1,7 +1,7 @@
 -- `working_rows::shifting::move_blocks` meets its contract. The loop's invariant: the first e polynomials are those of the shifted row, the
 -- numbers past them are as they were, and `within` is the test of what is written.
 -- Assumes nothing.
-use mathlib.Core.Path.{_≡_, refl, sym, _∙_, ap, ap₂, subst}
+use mathlib.Core.Path.{_≡_, refl, sym, _∙_, ap, ap₂}
 use mathlib.Core.Logic.{⊎-elim}
 use mathlib.Core.Bool.{_&&_, and-true, and-false}
 use mathlib.Core.List.{List}

@@ -1,57 +1,102 @@
--- `working_rows::shifting::shifted` meets its contract. The entries and the right side are shifted apart.
+-- `working_rows::shifting::shifted` meets its contract: the row is saved, shifted where it was saved, and loaded.
 -- Assumes nothing.
-use mathlib.Core.Path.{_∙_, ap, ap₂, subst}
-use mathlib.Core.List.{_++_}
+use mathlib.Core.Path.{_≡_, sym, _∙_, ap}
+use native.Mathlib.Nat.{le-of-eq}
+use lib.IntN.{pos}
+use lib.ListN.{replicate, length-replicate}
 use borrow.Author.Needs.{needs}
+use Rattle.lists.specs.Pasted.{paste-whole}
+use Rattle.rules.specs.Limits.{rowLength}
+use Rattle.rules.specs.Rows.{Row, coefficientsOf, shiftUp}
 use Rattle.rules.specs.Stores.{rowOf}
-use Rattle.rules.specs.Elimination.{limitCoefficients}
-use Rattle.working_rows.specs.Working.{small-apart}
-use Rattle.working_rows.specs.Worked.{Shown}
-use Rattle.working_rows.specs.Shifting.{shifted-apart}
+use Rattle.rules.specs.Elimination.{Limited, within, beyond, limitCoefficients}
+use Rattle.working_rows.specs.Working.{numbersHeld, loaded, loaded-row, length-held}
+use Rattle.working_rows.specs.Worked.{refusalOf, numbersOr, workedRow, limit-zero, refused-beyond}
+use Rattle.working_rows.specs.Shifting.{shifted-held}
 use Rattle.working_rows.proofs.shifting.shifted.Statement.{statement}
 use Rattle.working_rows.proofs.shifting.shifted.Tie as tie
 
-pascal-requires : tie.Need-pascal-requires
-pascal-requires c κs = search needs
+-- the row as it is saved
+saved : (c : tie.After-save) → c .save .last .0 ≡ numbersHeld (c .before .before .args .row)
+saved c =
+    let start = c .before .before in
+    c .save .ensures
+    ∙ paste-whole (replicate rowLength (pos 0)) (numbersHeld (start .args .row)) rowLength (le-of-eq (length-replicate rowLength (pos 0)))
+    (length-held (start .args .row) (start .pre .0))
 
-slice-aggregate-moved-side : tie.Need-slice-aggregate-moved-side
-slice-aggregate-moved-side c = search needs
+-- its shift
+module _ (c : tie.After-shift-into) where
+  abbrev start : tie.Start
+  start = c .before .before .before .before .before
 
-moved-side-requires : tie.Need-moved-side-requires
-moved-side-requires c κs =
-    let start = c .before .before .before .before .before in
-    (search needs, start .pre .0 .right-long, small-apart (start .args .row) (start .pre .1) .1)
+  abbrev row : Row
+  row = shiftUp (rowOf (numbersHeld (start .args .row)))
 
-slice-aggregate-moved-up : tie.Need-slice-aggregate-moved-up
-slice-aggregate-moved-up c = search needs
+  abbrev new : Limited
+  new = limitCoefficients row
 
-moved-up-requires : tie.Need-moved-up-requires
-moved-up-requires c κs =
-    let start = c .before .before .before .before .before .before .before .before in
-    (search needs, start .pre .0 .entries-long, small-apart (start .args .row) (start .pre .1) .0)
+  refusal-is : c .shift-into .result ≡ refusalOf new
+  refusal-is = c .shift-into .ensures .0
 
-limited-requires : tie.Need-limited-requires
-limited-requires c κs = search needs
+  module _ (passed : new ≡ within row) where
+    numbers : c .shift-into .last .0 ≡ coefficientsOf row
+    unfolding numbersOr
+    numbers = c .shift-into .ensures .1 ∙ ap (numbersOr (c .before .before .before .save .last .0)) passed
+
+    loaded-is : loaded (c .shift-into .last .0) 0 ≡ workedRow new
+    unfolding workedRow
+    loaded-is =
+        let held = shifted-held (numbersHeld (start .args .row)) (length-held (start .args .row) (start .pre .0)) row passed in
+        ap (λ l. loaded l 0) numbers ∙ loaded-row row (held .numbers) ∙ sym (ap workedRow passed)
+
+slice-aggregate-save : tie.Need-slice-aggregate-save
+slice-aggregate-save c = search needs
+
+save-requires : tie.Need-save-requires
+save-requires c κs = search needs
+
+slice-aggregate-shift-into : tie.Need-slice-aggregate-shift-into
+slice-aggregate-shift-into c = search needs
+
+shift-into-requires : tie.Need-shift-into-requires
+shift-into-requires c κs =
+    let stored = c .before .before in
+    let pre = stored .before .before .pre in ((pre .0, pre .1, saved stored), pre .2)
+
+broken-requires : tie.Need-broken-requires
+broken-requires c κs = search needs
 
 returns : tie.Need-returns
 returns c =
-    let shifted-side = c .before .before .before .before in
-    let start = shifted-side .before .before .before .before .before .before in
-    let row = start .args .row in
-    let full = start .pre .0 in
-    let new = ap₂ (λ a b. rowOf (a ++ b)) (c .before .moved-up .ensures) (shifted-side .moved-side .ensures)
-    ∙ shifted-apart (row .entries) (row .right) (full .entries-long) (full .right-long)
-    in
-    subst (Shown _ _) (ap limitCoefficients new) (c .limited .ensures)
+    let d = c .before .before .before in
+    let refused = refused-beyond (new d) (λ e. c .before .if1 .taken (refusal-is d ∙ e)) in (
+      c .broken .ensures .0 ∙ refusal-is d,
+      c .broken .ensures .1 ∙ ap (λ n. workedRow (beyond n)) (refusal-is d) ∙ sym (ap workedRow refused),
+    )
+
+slice-aggregate-load : tie.Need-slice-aggregate-load
+slice-aggregate-load c = search needs
+
+load-requires : tie.Need-load-requires
+load-requires c κs = search needs
+
+returns-2 : tie.Need-returns-2
+returns-2 c =
+    let tested = c .before .before in
+    let d = tested .before .before in
+    let none = sym (refusal-is d) ∙ tested .if1 .left in
+    (sym none, c .load .ensures ∙ loaded-is d (limit-zero (row d) none))
 
 pub shifted-spec : {M : Type 1} → statement M
 shifted-spec =
     tie.close
     (tie.spec
-    pascal-requires
-    slice-aggregate-moved-side
-    moved-side-requires
-    slice-aggregate-moved-up
-    moved-up-requires
-    limited-requires
-    returns)
+    slice-aggregate-save
+    save-requires
+    slice-aggregate-shift-into
+    shift-into-requires
+    broken-requires
+    returns
+    slice-aggregate-load
+    load-requires
+    returns-2)

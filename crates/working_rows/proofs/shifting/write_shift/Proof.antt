@@ -1,11 +1,11 @@
 -- `working_rows::shifting::write_shift` meets its contract: blocks moved up, the last one in use cleared, and the right side shifted make the
 -- shifted row, and past the blocks that were moved it has only zeros, which are within ±C.
 -- Assumes nothing.
-use mathlib.Core.Path.{_≡_, sym, _∙_, ap, ap₂, subst}
+use mathlib.Core.Path.{_≡_, sym, _∙_, ap, ap₂}
 use mathlib.Core.Logic.{⊎-elim}
 use mathlib.Core.Bool.{_&&_}
 use mathlib.Core.List.{List, _++_}
-use Prim.Native.Nat.{ℕ, _+_, _*_, _-_, _≤_, _<_}
+use Prim.Native.Nat.{ℕ, _+_, _*_, _-_, _<_}
 use native.Mathlib.Nat.{le-of-eq}
 use native.Mathlib.Omega.{arith}
 use borrow.Rule.Slice.PartMut.{putMid}
@@ -17,7 +17,7 @@ use lib.Seq.{paste}
 use borrow.Author.Needs.{needs}
 use Rattle.algebra.specs.Polynomials.{isZero, shift}
 use Rattle.lists.specs.Tests.{every}
-use Rattle.rules.specs.Limits.{coefficientCount, blockCount, blockLength, entriesLength, rowLength, small}
+use Rattle.rules.specs.Limits.{blockCount, blockLength, entriesLength, rowLength, small}
 use Rattle.rules.specs.Rows.{coefficientsOf, shiftUp, width}
 use Rattle.rules.specs.Stores.{rowOf}
 use Rattle.working_rows.specs.Found.{zero-later, width-most, width-rest}
