@@ -23,8 +23,9 @@ use Rattle.rules.specs.Stores.{Sizes, Valid, equations, rowsOf, relationsOf, ro
 use Rattle.rules.specs.Stores.{lengthsRight, numbersRight}
 use Rattle.rules.specs.Layout.{NumbersRight, lengthsRight-iff, numbersRight-iff}
 use Rattle.solutions.specs.SolutionAnswers.{Answer, refusedWith, noneListed, listed, homogeneous, answer}
-use Rattle.solutions.specs.SolutionCalls.{Work, listColumns, listNeed, matrixNeed, allLengths, checkCall, listStoreOf, unlisted, resultOf}
-use Rattle.solutions.specs.SolutionCalls.{listIn, workAfter}
+use Rattle.solutions.specs.SolutionCalls.{Work, allLengths, checkCall, unlisted, resultOf, listIn, workAfter}
+use Rattle.constant_rows.specs.ListLengths.{listColumns, listNeed, matrixNeed}
+use Rattle.back_substitution.specs.Listed.{listStoreOf}
 use Rattle.solutions.specs.AnswerNumbers.{Number, answer-number}
 use Rattle.solutions.specs.CallPromises.{answered, call-checked}
 use Rattle.solutions.specs.ListPromises as Promises

@@ -18,12 +18,13 @@ use lib.IntN.{ℤ, pos, _*ℤ_}
 use Rattle.rules.specs.Stores.{Sizes, equations, rowsOf, relationsOf, rowNeed, relationNeed}
 use Rattle.rules.specs.Layout.{NumbersRight}
 use Rattle.rules.specs.Sequences.{Sequence}
-use Rattle.solutions.specs.Constants.{columnsOf}
-use Rattle.solutions.specs.Eliminated.{Pivot}
-use Rattle.solutions.specs.Listed.{freeColumns}
+use Rattle.constant_rows.specs.Constants.{columnsOf}
+use Rattle.echelon.specs.Eliminated.{Pivot}
+use Rattle.back_substitution.specs.Listed.{freeColumns, listStoreOf}
 use Rattle.solutions.specs.Extent.{ZeroAt}
 use Rattle.solutions.specs.SolutionAnswers.{Answer, homogeneous, answer}
-use Rattle.solutions.specs.SolutionCalls.{Work, Call, matrixNeed, listNeed, listStoreOf, resultOf, workAfter}
+use Rattle.solutions.specs.SolutionCalls.{Work, Call, resultOf, workAfter}
+use Rattle.constant_rows.specs.ListLengths.{matrixNeed, listNeed}
 use Rattle.solutions.specs.ListPromises.{ListedAt, Finite, sumOf}
 use Rattle.exported_solutions.specs.SolutionNumbers.{Solved, solutionNeed, solved, unsolved, exportSolutions}
 use Rattle.claims.specs.RunWords.{Rewritten, Cleared, InRange, LongEnough, Solves}

@@ -30,13 +30,14 @@ use Rattle.rules.specs.Calls.{zeros}
 use Rattle.rules.specs.Rows.{Row, Relation}
 use Rattle.rules.specs.Stores.{Sizes, Valid, equations, rowsOf, relationsOf, sizesRight, countRight, numbersRight, checkStores}
 use Rattle.rules.specs.Layout.{size-bounds}
-use Rattle.solutions.specs.Constants.{columnsOf}
-use Rattle.solutions.specs.Listed.{isFree, freeColumns}
-use Rattle.solutions.specs.SolutionAnswers.{Answer, refusedWith, noneListed, listed, largestIndex, homogeneous, answer}
-use Rattle.solutions.specs.SolutionCalls.{Result, Work, Call, listColumns, allLengths, checkCall, unlisted, resultOf, workAfter}
-use Rattle.solutions.specs.SolutionCalls.{afterCheck, solutionsCall}
+use Rattle.constant_rows.specs.Constants.{columnsOf}
+use Rattle.back_substitution.specs.Listed.{isFree, freeColumns}
+use Rattle.solutions.specs.SolutionAnswers.{Answer, refusedWith, noneListed, listed, homogeneous, answer}
+use Rattle.constant_rows.specs.ListLengths.{largestIndex, listColumns}
+use Rattle.solutions.specs.SolutionCalls.{Result, Work, Call, allLengths, checkCall, unlisted, resultOf, workAfter, afterCheck}
+use Rattle.solutions.specs.SolutionCalls.{solutionsCall}
 use Rattle.solutions.specs.Course.{listed-course}
-use Rattle.solutions.specs.Bounds.{columns-bound}
+use Rattle.constant_rows.specs.RowCounts.{columns-bound}
 use Rattle.solutions.specs.ListPromises.{pivots, listed-one-each}
 use Rattle.solutions.specs.CallPromises.{answered, checked-valid, call-checked, call-refused}
 use Rattle.export_results.specs.Results.{none-checked}

@@ -9,13 +9,10 @@ use Prim.Native.Nat.{ℕ}
 use mathlib.Core.Path.{_≡_, refl, subst}
 use mathlib.Core.Logic.{_⊎_, inl, inr, ⊎-elim}
 use mathlib.Core.Bool.{Bool, true, false, cond}
-use mathlib.Core.List.{List, [], _∷_}
+use mathlib.Core.List.{List, []}
 use mathlib.Core.Option.{Option, none, some}
 use lib.Dec.{T, eqb, leb}
 use lib.IntN.{ℤ, pos, negsuc, _+ℤ_}
-use Rattle.algebra.specs.Polynomials.{isZeroℤ}
-use Rattle.lists.specs.Tests.{every}
-use Rattle.rules.specs.Limits.{small}
 use Rattle.rules.specs.Rows.{Row, Relation}
 use Rattle.rules.specs.Elimination.{trailing, Outcome, going, done, refused, rank, wholeRun, trailingRun, run, enough, mirrorState, start}
 use Rattle.rules.specs.Stores.{Sizes, span, Valid}
@@ -23,82 +20,16 @@ use Rattle.theory.specs.Steps.{run-refused, step-refused}
 use Rattle.theory.specs.Ending.{mirrorOutcome-refused}
 use Rattle.theory.specs.LimitsKept.{valid-rows}
 use Rattle.theory.specs.Trailing.{trailing-inconsistent}
-use Rattle.solutions.specs.Constants.{Judged, fine, passed, andOn, each, judgeValue, entryAt, constantRow, constantRows, columnsOf}
-use Rattle.solutions.specs.Eliminated.{Pivot, at, pivotOf, factorsOf, combined, whole, limited, reduceBy, reduceAll, settleAt}
-use Rattle.solutions.specs.Eliminated.{firstAt, eliminate}
-use Rattle.evaluation.specs.Evaluated.{horner}
-use Rattle.solutions.specs.Constants.{columnPolynomial, asked}
-use Rattle.algebra.specs.Sums.{countFrom}
-use Rattle.solutions.specs.Listed.{vectorAt, freeColumns, sequences}
-use Rattle.solutions.specs.SolutionAnswers.{Answer, refusedWith, noneListed, listed, largestIndex, homogeneous, lastRoot, answerOf, listFor}
-use Rattle.solutions.specs.SolutionAnswers.{answerAt}
-use Rattle.solutions.specs.SolutionAnswers.{answerFor, afterTrailing, answer}
+use Rattle.constant_rows.specs.Constants.{Judged, fine, passed, andOn, constantRows, columnsOf}
+use Rattle.constant_rows.specs.ListLengths.{largestIndex}
+use Rattle.constant_rows.specs.RowLimits.{Limit, Limits, andOn-limits, each-limits, rows-limits}
+use Rattle.echelon.specs.EliminatedLimits.{limited-limits, eliminate-limits}
+use Rattle.echelon.specs.Eliminated.{limited}
+use Rattle.echelon.specs.Eliminated.{eliminate}
+use Rattle.back_substitution.specs.Listed.{vectorAt, freeColumns, sequences}
+use Rattle.solutions.specs.SolutionAnswers.{Answer, refusedWith, noneListed, listed, homogeneous, lastRoot, answerOf, listFor}
+use Rattle.solutions.specs.SolutionAnswers.{answerAt, answerFor, afterTrailing, answer}
 use Rattle.solutions.specs.Extent.{nothing, nothing-satisfies}
-
--- 12 or 8.
-abbrev pub Limit : ℕ → Type 0
-Limit n = (n ≡ 8) ⊎ (n ≡ 12)
-
--- What is judged passes no other limit.
-abbrev pub Limits : {A : Type 0} → Judged A → Type 0
-Limits (fine a) = Unit {0}
-Limits (passed n) = Limit n
-
-andOn-limits : {A B : Type 0} (o : Judged A) (f : A → Judged B) → Limits o → ((a : A) → Limits (f a)) → Limits (andOn o f)
-unfolding andOn
-andOn-limits (fine a) f h k = k a
-andOn-limits (passed n) f h k = h
-
-pub each-limits : {A B : Type 0} (f : A → Judged B) → ((x : A) → Limits (f x)) → (l : List A) → Limits (each f l)
-unfolding each
-each-limits f h [] = tt
-each-limits f h (x ∷ l) =
-    andOn-limits (f x) (λ y. andOn (each f l) (λ ys. fine (y ∷ ys))) (h x)
-    (λ y. andOn-limits (each f l) (λ ys. fine (y ∷ ys)) (each-limits f h l) (λ ys. tt))
-
-cond-limits : {A : Type 0} (t : Bool) (x y : Judged A) → Limits x → Limits y → Limits (cond t x y)
-cond-limits true x y h k = h
-cond-limits false x y h k = k
-
-limited-limits : (r : List ℤ) → Limits (limited r)
-unfolding limited
-limited-limits r = cond-limits (every small r) (fine r) (passed 8) tt (inl refl)
-
-value-limits : (o : Option ℤ) → Limits (judgeValue o)
-unfolding judgeValue
-value-limits none = inr refl
-value-limits (some v) = cond-limits (small v) (fine v) (passed 8) tt (inl refl)
-
-pub row-limits : (m : ℕ) (l : ℤ) (N : ℕ) (r : Row) (n : ℤ) → Limits (constantRow m l N r n)
-unfolding constantRow entryAt
-row-limits m l N r n =
-    each-limits (λ j. entryAt n (columnPolynomial m l r n j)) (λ j. value-limits (horner n (columnPolynomial m l r n j)))
-    (countFrom 0 (columnsOf m N))
-
-pub rows-limits : (z : Sizes) (N : ℕ) (rows : List Row) (relations : List Relation) → Limits (constantRows z N rows relations)
-unfolding constantRows
-rows-limits z N rows relations =
-    each-limits (λ e. constantRow (z .m) (z .l) N (e .row) (e .index)) (λ e. row-limits (z .m) (z .l) N (e .row) (e .index))
-    (asked z N rows relations)
-
-reduceBy-limits : (p : Pivot) (r : List ℤ) → Limits (reduceBy p r)
-unfolding reduceBy
-reduceBy-limits p r =
-    cond-limits (isZeroℤ (at r (p .column))) (fine r)
-    (limited (whole (combined (factorsOf (pivotOf p) (at r (p .column))) r (p .numbers)))) tt
-    (limited-limits (whole (combined (factorsOf (pivotOf p) (at r (p .column))) r (p .numbers))))
-
-reduceAll-limits : (ps : List Pivot) (r : List ℤ) → Limits (reduceAll ps r)
-unfolding reduceAll
-reduceAll-limits [] r = tt
-reduceAll-limits (p ∷ ps) r = andOn-limits (reduceBy p r) (reduceAll ps) (reduceBy-limits p r) (reduceAll-limits ps)
-
-pub eliminate-limits : (rows : List (List ℤ)) (ps : List Pivot) → Limits (eliminate ps rows)
-unfolding eliminate
-eliminate-limits [] ps = tt
-eliminate-limits (r ∷ rows) ps =
-    andOn-limits (reduceAll ps r) (λ q. eliminate (settleAt ps q (firstAt q)) rows) (reduceAll-limits ps r)
-    (λ q. eliminate-limits rows (settleAt ps q (firstAt q)))
 
 pub list-numbers : (z : Sizes) (N : ℕ) (rows : List Row) (relations : List Relation) → Limits (listFor z N rows relations)
 unfolding listFor sequences

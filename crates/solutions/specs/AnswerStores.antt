@@ -27,14 +27,16 @@ use Rattle.rules.specs.Elimination.{trailing, Outcome, going, done, refused, ra
 use Rattle.rules.specs.Rows.{Row, Relation}
 use Rattle.rules.specs.Stores.{Sizes, equations, span, rowsOf, relationsOf, rowNeed, relationNeed}
 use Rattle.solutions.specs.AnswerNumbers.{list-numbers}
-use Rattle.solutions.specs.ConstantStores.{reports-made, reports-passed}
-use Rattle.solutions.specs.LastIndices.{LastIndex, refusedIndex, lastIndex, indexAt, indexFor, indexAfter, answerWith}
-use Rattle.solutions.specs.LastIndices.{indexOf, answer-with}
-use Rattle.solutions.specs.Matrices.{Reports}
-use Rattle.solutions.specs.SolutionAnswers.{Answer, refusedWith, noneListed, listed, largestIndex, homogeneous, lastRoot}
-use Rattle.solutions.specs.SolutionAnswers.{answerOf, listFor, answer}
-use Rattle.solutions.specs.SolutionCalls.{Result, Work, Call, listColumns, listNeed, matrixNeed, listStoreOf, unlisted, resultOf}
-use Rattle.solutions.specs.SolutionCalls.{listIn, workAfter, checkCall, afterCheck, solutionsCall}
+use Rattle.constant_rows.specs.ConstantStores.{reports-made, reports-passed}
+use Rattle.solutions.specs.LastIndices.{LastIndex, refusedIndex, lastIndex, indexAt, indexFor, indexAfter, answerWith, indexOf}
+use Rattle.solutions.specs.LastIndices.{answer-with}
+use Rattle.constant_rows.specs.Matrices.{Reports}
+use Rattle.solutions.specs.SolutionAnswers.{Answer, refusedWith, noneListed, listed, homogeneous, lastRoot, answerOf, listFor}
+use Rattle.solutions.specs.SolutionAnswers.{answer}
+use Rattle.constant_rows.specs.ListLengths.{largestIndex, listColumns, listNeed, matrixNeed}
+use Rattle.solutions.specs.SolutionCalls.{Result, Work, Call, unlisted, resultOf, listIn, workAfter, checkCall, afterCheck}
+use Rattle.solutions.specs.SolutionCalls.{solutionsCall}
+use Rattle.back_substitution.specs.Listed.{listStoreOf}
 use Rattle.solutions.specs.SolutionChecks.{checkCall-zero}
 use Rattle.solutions.specs.declared.SolutionsResult.{SolutionsResult}
 

@@ -21,8 +21,10 @@ use Rattle.lists.specs.Tests.{T-&&, cond-zero}
 use Rattle.rules.specs.Stores.{Sizes, equations, rowsOf, relationsOf, sizesRight, countRight, lengthsRight, numbersRight, Valid}
 use Rattle.rules.specs.Layout.{checkStores-zero, stores-valid}
 use Rattle.solutions.specs.SolutionAnswers.{Answer, refusedWith, noneListed, listed, homogeneous, answer}
-use Rattle.solutions.specs.SolutionCalls.{listNeed, matrixNeed, Work, Call, allLengths, checkCall, listStoreOf, unlisted, resultOf}
-use Rattle.solutions.specs.SolutionCalls.{listIn, workAfter, afterCheck, solutionsCall}
+use Rattle.constant_rows.specs.ListLengths.{listNeed, matrixNeed}
+use Rattle.solutions.specs.SolutionCalls.{Work, Call, allLengths, checkCall, unlisted, resultOf, listIn, workAfter, afterCheck}
+use Rattle.solutions.specs.SolutionCalls.{solutionsCall}
+use Rattle.back_substitution.specs.Listed.{listStoreOf}
 use Rattle.solutions.specs.AnswerNumbers.{Number, answer-number}
 
 -- The answer is a list, which stands in the list store and whose N and count come back.

@@ -18,13 +18,13 @@ use lib.IntN.{ℤ, pos, negsuc, _+ℤ_}
 use Rattle.rules.specs.Rows.{Row, Relation}
 use Rattle.rules.specs.Elimination.{trailing, State, Outcome, going, done, refused, rank, wholeRun}
 use Rattle.rules.specs.Stores.{Sizes, span}
-use Rattle.solutions.specs.Constants.{Judged, fine, passed, andOn, columnsOf, constantRows}
-use Rattle.solutions.specs.Eliminated.{Pivot, eliminate}
-use Rattle.solutions.specs.Listed.{sequences}
-use Rattle.solutions.specs.SolutionAnswers.{Answer, refusedWith, noneListed, listed, largestIndex, homogeneous, lastRoot, answerOf, listFor}
-use Rattle.solutions.specs.SolutionAnswers.{answerAt}
-use Rattle.solutions.specs.SolutionAnswers.{answerFor, afterTrailing, answer}
-use Rattle.solutions.specs.KernelKept.{andOn-fine}
+use Rattle.constant_rows.specs.Constants.{Judged, fine, passed, andOn, columnsOf, constantRows}
+use Rattle.echelon.specs.Eliminated.{Pivot, eliminate}
+use Rattle.back_substitution.specs.Listed.{sequences}
+use Rattle.solutions.specs.SolutionAnswers.{Answer, refusedWith, noneListed, listed, homogeneous, lastRoot, answerOf, listFor}
+use Rattle.solutions.specs.SolutionAnswers.{answerAt, answerFor, afterTrailing, answer}
+use Rattle.constant_rows.specs.ListLengths.{largestIndex}
+use Rattle.echelon.specs.KernelKept.{andOn-fine}
 
 pub record Begun (z : Sizes) (rows : List Row) (relations : List Relation) (s : State) : Type 0 where
   pub sides : T (homogeneous rows relations)

@@ -24,16 +24,16 @@ use Rattle.rules.specs.Limits.{small}
 use Rattle.rules.specs.Rows.{Row, Relation}
 use Rattle.rules.specs.Stores.{Sizes, span}
 use Rattle.solutions.specs.Asked.{rows-length}
-use Rattle.solutions.specs.Bounds.{asked-length}
-use Rattle.solutions.specs.Constants.{Judged, fine, passed, andOn, judgeValue, entryAt, columnsOf, columnPolynomial, constantRow}
-use Rattle.solutions.specs.Constants.{asked, constantRows}
-use Rattle.solutions.specs.ConstantStores.{reports-passed, passed-reports}
-use Rattle.solutions.specs.Eliminated.{Pivot, eliminate}
-use Rattle.solutions.specs.Listed.{sequences}
-use Rattle.solutions.specs.Matrices.{Reports}
+use Rattle.constant_rows.specs.RowCounts.{asked-length}
+use Rattle.constant_rows.specs.Constants.{Judged, fine, passed, andOn, judgeValue, entryAt, columnsOf, columnPolynomial, constantRow}
+use Rattle.constant_rows.specs.Constants.{asked, constantRows}
+use Rattle.constant_rows.specs.ConstantStores.{reports-passed, passed-reports}
+use Rattle.echelon.specs.Eliminated.{Pivot, eliminate}
+use Rattle.back_substitution.specs.Listed.{sequences}
+use Rattle.constant_rows.specs.Matrices.{Reports}
 use Rattle.solutions.specs.RowMeaning.{each-length, each-all}
 use Rattle.solutions.specs.SolutionAnswers.{listFor}
-use Rattle.solutions.specs.SoundRows.{Sound, sound-none, eliminate-sound}
+use Rattle.echelon.specs.SoundRows.{Sound, sound-none, eliminate-sound}
 
 -- A limit that a part passes is what all of it passes.
 pub reports-refused : {A B : Type 0} (P : A → Type 0) (Q : B → Type 0) (j : Judged A) (k : A → Judged B) (n : ℕ) → Reports P j n → n ≢ 0

@@ -51,8 +51,9 @@ use Rattle.reduction.specs.Progress.{outcomeAt, outcomeOf, stateOf}
 use Rattle.reduction.specs.declared.step.Progress.{Progress}
 use Rattle.reduction.specs.declared.step.Outcome as Run
 use Rattle.runs.specs.CallLaws.{Final}
-use Rattle.solutions.specs.SolutionAnswers.{Answer, refusedWith, noneListed, largestIndex, lastRoot, answerOf, listFor, answerAt}
-use Rattle.solutions.specs.SolutionAnswers.{answerFor, afterTrailing}
+use Rattle.solutions.specs.SolutionAnswers.{Answer, refusedWith, noneListed, lastRoot, answerOf, listFor, answerAt, answerFor}
+use Rattle.solutions.specs.SolutionAnswers.{afterTrailing}
+use Rattle.constant_rows.specs.ListLengths.{largestIndex}
 use Rattle.solutions.specs.declared.trailing.Last.{Last}
 
 -- ---- which N there is

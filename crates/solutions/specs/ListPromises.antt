@@ -37,12 +37,12 @@ use Rattle.rules.specs.Elimination.{trailing, State}
 use Rattle.rules.specs.Stores.{Sizes, Valid}
 use Rattle.rules.specs.Sequences.{Sequence, Satisfies, Same}
 use Rattle.theory.specs.Demands.{Accepted}
-use Rattle.solutions.specs.Constants.{Judged, fine, andOn, each, columnsOf}
-use Rattle.solutions.specs.Eliminated.{Pivot, at, limited}
-use Rattle.solutions.specs.Listed.{isFree, freeColumns, vectorAt, sequences}
+use Rattle.constant_rows.specs.Constants.{Judged, fine, andOn, each, columnsOf}
+use Rattle.echelon.specs.Eliminated.{Pivot, at, limited}
+use Rattle.back_substitution.specs.Listed.{isFree, freeColumns, vectorAt, sequences}
 use Rattle.solutions.specs.SolutionAnswers.{noneListed, listed, answer}
-use Rattle.solutions.specs.KernelKept.{andOn-fine, limited-fine, Echelon, KillsAll, Settled, eliminate-settled}
-use Rattle.solutions.specs.Substituted.{Free, isFree-iff, Solves, vector-solves}
+use Rattle.echelon.specs.KernelKept.{andOn-fine, limited-fine, Echelon, KillsAll, Settled, eliminate-settled}
+use Rattle.back_substitution.specs.Substituted.{Free, isFree-iff, Solves, vector-solves}
 use Rattle.solutions.specs.Spanned.{combination, spanned, solves-unique}
 use Rattle.solutions.specs.Extent.{ZeroAt, ZeroAbove, ends-at, ends-nowhere}
 use Rattle.solutions.specs.RowMeaning.{sequenceOf, vectorOf, sequence-same, column-inside}

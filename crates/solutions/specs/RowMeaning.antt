@@ -32,12 +32,11 @@ use Rattle.rules.specs.Rows.{Block, Row}
 use Rattle.rules.specs.Sequences.{Sequence, blockValue, blocksValue, leftValue, Same}
 use Rattle.theory.specs.Values.{delta, delta-here, delta-index, delta-column, left-delta, left-nothing}
 use Rattle.evaluation.specs.Evaluated.{horner, horner-eval}
-use Rattle.solutions.specs.Constants.{Judged, fine, passed, andOn, each, judgeValue, entryAt}
-use Rattle.solutions.specs.Constants.{columnsOf}
-use Rattle.solutions.specs.Constants.{columnPolynomial, constantRow}
-use Rattle.solutions.specs.Eliminated.{at}
-use Rattle.solutions.specs.Pairing.{pair, Kills, pair-congr}
-use Rattle.solutions.specs.KernelKept.{andOn-fine}
+use Rattle.constant_rows.specs.Constants.{Judged, fine, passed, andOn, each, judgeValue, entryAt, columnsOf, columnPolynomial}
+use Rattle.constant_rows.specs.Constants.{constantRow}
+use Rattle.echelon.specs.Eliminated.{at}
+use Rattle.echelon.specs.Pairing.{pair, Kills, pair-congr}
+use Rattle.echelon.specs.KernelKept.{andOn-fine}
 
 -- ---- the values
 

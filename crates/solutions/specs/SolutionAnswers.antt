@@ -19,9 +19,10 @@ use Rattle.rules.specs.Rows.{Row, Relation}
 use Rattle.rules.specs.Elimination.{leading, trailing, State, Outcome, going, done, refused, rank, wholeRun, diagonal, furthest}
 use Rattle.rules.specs.Elimination.{neverNumber}
 use Rattle.rules.specs.Stores.{Sizes, span}
-use Rattle.solutions.specs.Constants.{Judged, fine, passed, andOn, columnsOf, constantRows}
-use Rattle.solutions.specs.Eliminated.{eliminate}
-use Rattle.solutions.specs.Listed.{sequences}
+use Rattle.constant_rows.specs.Constants.{Judged, fine, passed, andOn, columnsOf, constantRows}
+use Rattle.constant_rows.specs.ListLengths.{largestIndex}
+use Rattle.echelon.specs.Eliminated.{eliminate}
+use Rattle.back_substitution.specs.Listed.{sequences}
 
 -- Of equations and relations (SCOPE 14.11).
 unfoldable pub homogeneous : List Row → List Relation → Bool
@@ -37,10 +38,6 @@ pub data Answer : Type 0 where
   refusedWith : ℕ → Answer
   noneListed : Answer
   listed : ℕ → List (List ℤ) → Answer
-
--- The largest N (SCOPE 14.22).
-abbrev pub largestIndex : ℕ
-largestIndex = 15
 
 unfoldable pub answerOf : ℕ → Judged (List (List ℤ)) → Answer
 answerOf N (fine l) = listed N l

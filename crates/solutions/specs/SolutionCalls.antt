@@ -1,40 +1,23 @@
 -- The call on stores: its result and the contents of each lent store afterwards (SCOPE 14.6).
 --
 -- Main definitions
---   listColumns, listNeed, matrixNeed   64 numbers a sequence; the numbers of the list store and of the work matrix
 --   Result, Work, Call   what the call returns; the stores that it may write; both
 --   unlisted             a result without a list
 --   checkCall            the checks before the work: sizes, lengths, numbers, right sides
---   listStoreOf          the list in its store, one sequence a row
 --   solutionsCall        the call as a whole
-use Prim.Native.Nat.{ℕ, zero, suc, _+_, _*_}
+use Prim.Native.Nat.{ℕ, zero, suc}
 use mathlib.Core.Bool.{Bool, true, false, _&&_, cond}
-use mathlib.Core.List.{List, map, flatten}
+use mathlib.Core.List.{List}
 use lib.Dec.{leb}
 use lib.ListN.{length}
-use lib.IntN.{ℤ, pos}
-use Rattle.lists.specs.Padded.{padTo}
+use lib.IntN.{ℤ}
 use Rattle.lists.specs.Overwritten.{overwrite}
-use Rattle.rules.specs.Limits.{columnCount, mostSpan, mostEquations, mostRelations}
 use Rattle.rules.specs.Stores.{Sizes, equations, rowsOf, relationsOf, rowNeed, relationNeed, sizesRight, countRight, lengthsRight}
 use Rattle.rules.specs.Stores.{numbersRight}
 use Rattle.rules.specs.Calls.{zeros}
-use Rattle.solutions.specs.SolutionAnswers.{Answer, refusedWith, noneListed, listed, largestIndex, homogeneous, answer}
-
--- 16 indices of four unknowns (SCOPE 14.61).
-abbrev pub listColumns : ℕ
-listColumns = suc largestIndex * columnCount
-
--- 64 × 64 numbers: there are no more sequences than columns (SCOPE 14.61).
-abbrev pub listNeed : ℕ
-listNeed = listColumns * listColumns
-
--- Six equations at N - t + l + 1 indices, 20 at most, and 16 relations: 136 rows of 64 numbers (SCOPE 14.61).
-abbrev pub mostRows : ℕ
-mostRows = (suc largestIndex + mostSpan) * mostEquations + mostRelations
-
-abbrev pub matrixNeed : ℕ
-matrixNeed = mostRows * listColumns
+use Rattle.constant_rows.specs.ListLengths.{listNeed, matrixNeed}
+use Rattle.back_substitution.specs.Listed.{listStoreOf}
+use Rattle.solutions.specs.SolutionAnswers.{Answer, refusedWith, noneListed, listed, homogeneous, answer}
 
 -- "begun" from the trailing run on, so that a refusal of the checks is told from a later one; "found" where 0 ≤ N, otherwise all numbers
 -- are 0 (SCOPE 14.64).
@@ -73,11 +56,6 @@ checkCall z count rowStore relationStore w =
     let numbers : ℕ = cond (numbersRight z count rowStore relationStore) sides 5 in
     let lengths : ℕ = cond (allLengths z rowStore relationStore w) numbers 1 in
     cond (sizesRight z && countRight count) lengths 2
-
--- One sequence a row, 0 elsewhere (SCOPE 14.63).
-unfoldable pub listStoreOf : List (List ℤ) → List ℤ
-unfolding padTo flatten
-listStoreOf l = padTo listNeed (pos 0) (flatten (map (padTo listColumns (pos 0)) l))
 
 -- A refusal, or "no" with 0.
 abbrev pub unlisted : Bool → ℕ → Result

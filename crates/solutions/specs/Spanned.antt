@@ -25,11 +25,11 @@ use Rattle.algebra.specs.Polynomials.{scale, coeff}
 use Rattle.algebra.specs.Coefficients.{coeff-scale}
 use Rattle.lists.specs.Everywhere.{All, all-mono, all-both, all-always}
 use Rattle.lists.specs.Sifted.{keep}
-use Rattle.solutions.specs.Eliminated.{Pivot, at, pivotOf}
-use Rattle.solutions.specs.Listed.{isFree, freeColumns, vectorAt}
-use Rattle.solutions.specs.Pairing.{pair, Kills, pair-congr, pair-right, pair-only}
-use Rattle.solutions.specs.KernelKept.{Echelon, KillsAll}
-use Rattle.solutions.specs.Substituted.{Free, isFree-iff, place-below, Solves, vector-solves}
+use Rattle.echelon.specs.Eliminated.{Pivot, at, pivotOf}
+use Rattle.back_substitution.specs.Listed.{isFree, freeColumns, vectorAt}
+use Rattle.echelon.specs.Pairing.{pair, Kills, pair-congr, pair-right, pair-only}
+use Rattle.echelon.specs.KernelKept.{Echelon, KillsAll}
+use Rattle.back_substitution.specs.Substituted.{Free, isFree-iff, place-below, Solves, vector-solves}
 
 -- ---- a vector in the kernel that is zero at all free columns
 

@@ -1,6 +1,6 @@
 // The checks of the call: sizes (2), lengths (1), numbers (5), right sides (14) (SCOPE 14.62).
-use crate::lengths::LIST_COLUMNS;
-use crate::lengths::MATRIX_ROWS;
+use constant_rows::lengths::LIST_COLUMNS;
+use constant_rows::lengths::MATRIX_ROWS;
 use polynomials::lengths::COEFFICIENTS;
 use stores::lengths::ENTRIES;
 use stores::lengths::RELATION;
@@ -13,6 +13,7 @@ ghost use lib.ListN.{length};
 ghost use Rattle.rules.specs.Limits.{coefficientCount, relationLength, mostEquations, mostRelations};
 ghost use Rattle.rules.specs.Stores as Stores;
 ghost use Rattle.stores.specs.Validity.{sizesOf};
+ghost use Rattle.constant_rows.specs.ListLengths.{listNeed, matrixNeed};
 ghost use Rattle.solutions.specs.SolutionAnswers as Answers;
 ghost use Rattle.solutions.specs.SolutionCalls as Calls;
 ghost use Rattle.solutions.specs.SolutionChecks.{sidesZero};
@@ -57,7 +58,7 @@ fn lent_long(
 ) -> bool
     requires { ⌜ equations ≤ mostEquations ⌝ }
     ensures { λ r. ⌜ r ≡ (Stores.lengthsRight equations (now (rows .entry)) (now (relations .entry))
-        && leb Calls.matrixNeed (length (now (matrix .entry))) && leb Calls.listNeed (length (now (list .entry)))) ⌝ }
+        && leb matrixNeed (length (now (matrix .entry))) && leb listNeed (length (now (list .entry)))) ⌝ }
 {
     if !stores::validity::lengths_right(rows, relations, equations) {
         return false;

@@ -1,7 +1,7 @@
 // Polynomial solutions: which sequences satisfy a system and are zero outside the indices 0 to N. `solutions` is the public entry point: no
 // `requires`, and a contract that gives the result and every store that it may write by one equation.
-use lengths::LIST_COLUMNS;
-use lengths::MATRIX_ROWS;
+use constant_rows::lengths::LIST_COLUMNS;
+use constant_rows::lengths::MATRIX_ROWS;
 use trailing::Last;
 ghost use mathlib.Core.Path.{_≡_};
 ghost use mathlib.Core.Bool.{true};
@@ -11,17 +11,13 @@ ghost use Rattle.rules.specs.Calls.{zeros};
 ghost use Rattle.rules.specs.Stores as Stores;
 ghost use Rattle.stores.specs.Validity.{sizesOf};
 ghost use Rattle.sides.specs.Lent.{Kept};
-ghost use Rattle.solutions.specs.SolutionAnswers.{largestIndex};
+ghost use Rattle.constant_rows.specs.ListLengths.{largestIndex, listNeed, matrixNeed};
 ghost use Rattle.solutions.specs.SolutionCalls as Calls;
 ghost use Rattle.solutions.specs.LastIndices.{lastOf, answerWith};
 ghost use Rattle.solutions.specs.AnswerStores.{solutionsOf, workOf, callOf, AnswerLeft};
 
 mod checks;
 mod course;
-mod eliminating;
-mod lengths;
-mod listing;
-mod rows;
 mod trailing;
 
 // The number of the refusal or 0; whether the work began, which writes the stores; whether there is an N from 0 on, and which; and the
@@ -60,11 +56,11 @@ fn answer_for(
 ) -> SolutionsResult
     requires { ⌜ (Stores.checkStores (sizesOf sizes) count (now rows) (now relations) ≡ 0)
         × (reached .found ≡ true → reached .index ≤ largestIndex) ⌝ }
-    requires { ⌜ (Calls.matrixNeed ≤ length (now matrix)) × (Calls.listNeed ≤ length (now list))
-        × (take Calls.listNeed (now list) ≡ zeros Calls.listNeed) ⌝ }
+    requires { ⌜ (matrixNeed ≤ length (now matrix)) × (listNeed ≤ length (now list))
+        × (take listNeed (now list) ≡ zeros listNeed) ⌝ }
     ensures { λ r. ⌜ AnswerLeft (answerWith (sizesOf sizes) (Stores.rowsOf (sizes .equations) (now (rows .entry)))
         (Stores.relationsOf count (now (relations .entry))) (lastOf reached)) r (now (list .entry)) (now (list .exit)) ⌝ }
-    ensures { λ _. ⌜ Kept Calls.matrixNeed (now (matrix .entry)) (now (matrix .exit)) ⌝ }
+    ensures { λ _. ⌜ Kept matrixNeed (now (matrix .entry)) (now (matrix .exit)) ⌝ }
 {
     if !reached.found {
         return unlisted(reached.refusal, true);

@@ -14,7 +14,8 @@ use Rattle.stores.specs.Validity.{sizesOf}
 use Rattle.sides.specs.StoreStates.{kept-same}
 use Rattle.solutions.specs.AnswerStores.{solutionsOf, left-unlisted, left-refused, left-listed}
 use Rattle.solutions.specs.TrailingCopies.{cleared}
-use Rattle.solutions.specs.SolutionCalls.{listNeed, resultOf}
+use Rattle.constant_rows.specs.ListLengths.{listNeed}
+use Rattle.solutions.specs.SolutionCalls.{resultOf}
 use Rattle.solutions.proofs.answer_for.Statement.{statement}
 use Rattle.solutions.proofs.answer_for.Tie as tie
 

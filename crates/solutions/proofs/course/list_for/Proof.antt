@@ -17,16 +17,18 @@ use Rattle.stores.specs.Validity.{sizesOf}
 use Rattle.sides.specs.Lent.{Kept}
 use Rattle.sides.specs.StoreStates.{kept-same, kept-then}
 use Rattle.runs.specs.CallLaws.{Checked, checked, few-blocks}
-use Rattle.solutions.specs.AnswerNumbers.{rows-limits, eliminate-limits}
-use Rattle.solutions.specs.Constants.{fine, columnsOf, constantRows}
-use Rattle.solutions.specs.ConstantStores.{reports-made}
+use Rattle.constant_rows.specs.RowLimits.{rows-limits}
+use Rattle.echelon.specs.EliminatedLimits.{eliminate-limits}
+use Rattle.constant_rows.specs.Constants.{fine, columnsOf, constantRows}
+use Rattle.constant_rows.specs.ConstantStores.{reports-made}
 use Rattle.solutions.specs.CourseLaws.{reports-refused, rows-small, rows-count, rest, left, sound}
-use Rattle.solutions.specs.Eliminated.{Pivot, eliminate}
-use Rattle.solutions.specs.Listed.{sequences}
-use Rattle.solutions.specs.Matrices.{matrixRows, pivotsIn, Reports}
+use Rattle.echelon.specs.Eliminated.{Pivot, eliminate}
+use Rattle.back_substitution.specs.Listed.{sequences}
+use Rattle.constant_rows.specs.Matrices.{matrixRows, Reports}
+use Rattle.echelon.specs.MatrixTurns.{pivotsIn}
 use Rattle.solutions.specs.SolutionAnswers.{listFor}
-use Rattle.solutions.specs.SolutionCalls.{listColumns, matrixNeed}
-use Rattle.solutions.specs.SoundRows.{Sound}
+use Rattle.constant_rows.specs.ListLengths.{listColumns, matrixNeed}
+use Rattle.echelon.specs.SoundRows.{Sound}
 use Rattle.solutions.proofs.course.list_for.Statement.{statement}
 use Rattle.solutions.proofs.course.list_for.Tie as tie
 
