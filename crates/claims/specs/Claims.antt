@@ -136,7 +136,8 @@ use Rattle.exported_steps.specs.StateNumbers.{stateNeed, StatePrepared, heldIn}
 use Rattle.exported_steps.specs.StepNumbers.{stepsNeed, checkSteps, Stepped}
 use Rattle.claims.specs.StepWords.{ExportedPrepare, ExportedSteps, PrepareLong, PrepareCourse, StateFault, StepsNumber, stepsTold}
 use Rattle.claims.specs.StepWords.{StepsGives, Successive, SameEnd}
-use Rattle.logs.specs.LogCalls.{ownNeed, LoggedCall}
+use Rattle.log_steps.specs.Logs.{ownNeed}
+use Rattle.logs.specs.LogCalls.{LoggedCall}
 use Rattle.logs.specs.LogCallLaws.{ReplayNumber}
 use Rattle.exported_logs.specs.LogNumbers.{LoggedExport, loggedNeed}
 use Rattle.claims.specs.LogWords.{Replayed, ExportedReplay, ExportedLogged, ReplayRange, ReplayLong, LoggedLong, ReplayReturns}

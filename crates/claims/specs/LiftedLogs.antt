@@ -33,10 +33,11 @@ use Rattle.rules.specs.Calls.{Result, Call, afterRun, unchanged, cleared, refus
 use Rattle.rules.specs.Sequences.{Sequence, Satisfies, Dependent}
 use Rattle.theory.specs.Steps.{going≢done, going≢refused}
 use Rattle.theory.specs.ListedOrder.{Listed}
-use Rattle.logs.specs.Logs.{mostSteps, stepLength, stepsIn, numbersIn, orderHolds, columnsOf, replayed, ordered, withOrder, replay}
-use Rattle.logs.specs.LogCalls.{logNeed, ownNeed, checkReplay, replayStores, afterReplayCheck, replayCall, LoggedCall, loggedAfter}
-use Rattle.logs.specs.LogCalls.{afterLoggedCheck, loggedCall}
-use Rattle.logs.specs.Own.{ownChanges}
+use Rattle.log_steps.specs.Logs.{mostSteps, stepLength, stepsIn, numbersIn, orderHolds, columnsOf, replayed, ordered, withOrder}
+use Rattle.log_steps.specs.Logs.{replay, logNeed, ownNeed}
+use Rattle.logs.specs.LogCalls.{checkReplay, replayStores, afterReplayCheck, replayCall, LoggedCall, loggedAfter, afterLoggedCheck}
+use Rattle.logs.specs.LogCalls.{loggedCall}
+use Rattle.own_logs.specs.Own.{ownChanges}
 use Rattle.logs.specs.LogCallLaws.{ReplayNumber, replay-refused, check-right, accepted-call, own-call}
 use Rattle.logs.specs.AcceptedLogs as Logged
 use Rattle.logs.specs.AcceptedLogs.{AcceptedLog}

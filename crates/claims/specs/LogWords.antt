@@ -19,8 +19,8 @@ use Rattle.rules.specs.Elimination.{leading, refused}
 use Rattle.rules.specs.Stores.{Sizes, equations, rowNeed, relationNeed}
 use Rattle.rules.specs.Layout.{NumbersRight}
 use Rattle.rules.specs.Calls.{Call, zeros}
-use Rattle.logs.specs.Logs.{mostSteps}
-use Rattle.logs.specs.LogCalls.{logNeed, ownNeed, replayStores, replayCall, LoggedCall, loggedCall}
+use Rattle.log_steps.specs.Logs.{mostSteps, logNeed, ownNeed}
+use Rattle.logs.specs.LogCalls.{replayStores, replayCall, LoggedCall, loggedCall}
 use Rattle.logs.specs.LogCallLaws.{ReplayNumber}
 use Rattle.export_results.specs.Results.{Exported, kept, runNeed}
 use Rattle.exported_runs.specs.Runs.{ran, runNumbers}

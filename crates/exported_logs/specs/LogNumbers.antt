@@ -37,13 +37,13 @@ use Rattle.rules.specs.Stores.{sizesRight, countRight, lengthsRight, numbersRig
 use Rattle.rules.specs.Layout.{size-bounds, checkStores-zero, stores-valid}
 use Rattle.rules.specs.Calls.{Call, callRun, afterCheck, afterRun, unchanged, cleared, refusal, acceptance}
 use Rattle.theory.specs.Steps.{going-injective, done-injective, going≢done, going≢refused, done≢refused}
-use Rattle.logs.specs.Logs.{mostSteps, stepLength, changeOf, changedIf, replayed, withOrder, ordered, orderHolds, columnsOf, replay}
-use Rattle.logs.specs.Logs.{stepsIn}
-use Rattle.logs.specs.Changes.{Changed, swapped, combined, raised, lowered, omitted, changed-view, replayed-not-done}
-use Rattle.logs.specs.Own.{ownChanges}
+use Rattle.log_steps.specs.Logs.{mostSteps, stepLength, changeOf, changedIf, replayed, withOrder, ordered, orderHolds, columnsOf}
+use Rattle.log_steps.specs.Logs.{replay, stepsIn, logNeed}
+use Rattle.log_steps.specs.Changes.{Changed, swapped, combined, raised, lowered, omitted, changed-view, replayed-not-done}
+use Rattle.own_logs.specs.Own.{ownChanges}
 use Rattle.logs.specs.OwnRuns.{own-few}
 use Rattle.logs.specs.AcceptedLogs.{AcceptedLog, diagonal-nonzero, output-valid}
-use Rattle.logs.specs.LogCalls.{logNeed, checkReplay, replayStores, afterReplayCheck, replayCall, LoggedCall, loggedAfter, afterLoggedCheck}
+use Rattle.logs.specs.LogCalls.{checkReplay, replayStores, afterReplayCheck, replayCall, LoggedCall, loggedAfter, afterLoggedCheck}
 use Rattle.logs.specs.LogCalls.{loggedCall}
 use Rattle.logs.specs.LogCallLaws.{check-right, accepted-call}
 use Rattle.steps.specs.HeldCalls.{pivotsRight}

@@ -6,7 +6,7 @@ ghost use lib.IntN.{pos};
 ghost use lib.ListN.{length};
 ghost use Rattle.stores.specs.Validity.{sizesOf};
 ghost use Rattle.runs.specs.CallLaws.{resultOf};
-ghost use Rattle.logs.specs.Logs.{mostSteps};
+ghost use Rattle.log_steps.specs.Logs.{mostSteps};
 ghost use Rattle.logs.specs.LogCalls.{checkReplay};
 ghost use Rattle.exported_runs.specs.Runs.{runNumbers, SmallResult};
 ghost use Rattle.export_results.specs.Results.{keptOr};

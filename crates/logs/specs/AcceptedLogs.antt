@@ -38,9 +38,9 @@ use Rattle.theory.specs.Report.{Past, Rootless, FurthestRoot, report-none, repo
 use Rattle.theory.specs.Dependence.{settled-independent}
 use Rattle.theory.specs.ListedOrder.{Listed}
 use Rattle.theory.specs.Mirror.{span-sum}
-use Rattle.logs.specs.Logs.{stepLength, replayed, orderHolds, columnsOf, withOrder, ordered, replay}
+use Rattle.log_steps.specs.Logs.{stepLength, replayed, orderHolds, columnsOf, withOrder, ordered, replay}
 use Rattle.steps.specs.HeldCalls.{pivotsRight}
-use Rattle.logs.specs.Changes.{Replay, replayed-view, replayed-not-done}
+use Rattle.log_steps.specs.Changes.{Replay, replayed-view, replayed-not-done}
 use Rattle.logs.specs.LogKept.{replay-valid, replay-solutions, replay-length, replay-listed}
 use Rattle.steps.specs.SoundStates.{pivots-right}
 

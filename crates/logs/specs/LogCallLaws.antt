@@ -35,17 +35,16 @@ use Rattle.theory.specs.ShiftDown.{shiftDown}
 use Rattle.theory.specs.Steps.{going≢refused, done≢refused, refused-injective, limitDegrees-beyond, limitCoefficients-beyond}
 use Rattle.theory.specs.Steps.{Refusal, run-refused, step-refused}
 use Rattle.theory.specs.Demands.{Accepted}
-use Rattle.logs.specs.Logs.{Change, exchanging, combining, raising, lowering, dropping, stepLength, mostSteps, stepsIn, numbersIn}
-use Rattle.logs.specs.Logs.{changeOf}
-use Rattle.logs.specs.Logs.{dividedRow, allowed, applied, combineRows, lowerRow, changed, changedIf, replayed, orderHolds}
-use Rattle.logs.specs.Logs.{columnsOf}
-use Rattle.logs.specs.Logs.{withOrder, ordered, replay}
+use Rattle.log_steps.specs.Logs.{Change, exchanging, combining, raising, lowering, dropping, stepLength, mostSteps, stepsIn, numbersIn}
+use Rattle.log_steps.specs.Logs.{changeOf, dividedRow, allowed, applied, combineRows, lowerRow, changed, changedIf, replayed}
+use Rattle.log_steps.specs.Logs.{orderHolds, columnsOf, withOrder, ordered, replay}
 use Rattle.steps.specs.HeldCalls.{pivotsRight}
-use Rattle.logs.specs.Own.{ownChanges, ownNumbers, logOf}
+use Rattle.own_logs.specs.Own.{ownChanges, ownNumbers, logOf, ownStore}
 use Rattle.logs.specs.OwnRuns.{own-accepted, own-few, own-read, own-order}
 use Rattle.logs.specs.AcceptedLogs.{AcceptedLog}
-use Rattle.logs.specs.LogCalls.{logNeed, ownNeed, checkReplay, replayStores, afterReplayCheck, replayCall, ownStore, LoggedCall}
-use Rattle.logs.specs.LogCalls.{loggedAfter, afterLoggedCheck, loggedCall}
+use Rattle.log_steps.specs.Logs.{logNeed, ownNeed}
+use Rattle.logs.specs.LogCalls.{checkReplay, replayStores, afterReplayCheck, replayCall, LoggedCall, loggedAfter}
+use Rattle.logs.specs.LogCalls.{afterLoggedCheck, loggedCall}
 
 -- ---- the refusals of a replay
 

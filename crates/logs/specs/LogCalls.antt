@@ -1,31 +1,21 @@
 -- The calls on lent stores: the replay of a log, and our own run with its log (SCOPE 13.4, 13.5).
 --
 -- Main definitions
---   logNeed count, ownNeed     the numbers that a log's store needs, for so many steps and for our own log
 --   checkReplay                the checks before the work: sizes (2), lengths (1), numbers (5)
 --   replayCall                 the replay on lent stores; the log's store is only read
---   ownStore, LoggedCall, loggedCall   our own run with its log
-use Prim.Native.Nat.{ℕ, zero, suc, _+_, _*_, _-_}
+--   LoggedCall, loggedCall     our own run with its log
+use Prim.Native.Nat.{ℕ, zero, suc}
 use mathlib.Core.Bool.{_&&_, cond}
-use mathlib.Core.List.{List, _++_}
+use mathlib.Core.List.{List}
 use lib.Dec.{leb}
 use lib.ListN.{length}
 use lib.IntN.{ℤ}
 use Rattle.lists.specs.Overwritten.{overwrite}
-use Rattle.rules.specs.Limits.{columnCount}
 use Rattle.rules.specs.Elimination.{Outcome, going, done, refused, leading, wholeRun}
 use Rattle.rules.specs.Stores.{Sizes, equations, span, rowsOf, relationsOf, sizesRight, countRight, lengthsRight, numbersRight}
 use Rattle.rules.specs.Calls.{Call, afterRun, unchanged, zeros}
-use Rattle.logs.specs.Logs.{Change, stepLength, mostSteps, stepsIn, numbersIn, replay}
-use Rattle.logs.specs.Own.{ownChanges, ownNumbers, logOf}
-
--- The steps and the four numbers (SCOPE 13.1).
-unfoldable pub logNeed : ℕ → ℕ
-logNeed count = count * stepLength + columnCount
-
--- Room for the longest log (SCOPE 13.52).
-abbrev pub ownNeed : ℕ
-ownNeed = mostSteps * stepLength + columnCount
+use Rattle.log_steps.specs.Logs.{Change, mostSteps, stepsIn, numbersIn, logNeed, ownNeed, replay}
+use Rattle.own_logs.specs.Own.{ownChanges, ownNumbers, ownStore}
 
 -- Sizes and the number of steps (2), the lengths of rows, relations and log (1), the system's numbers (5) (SCOPE 13.41).
 unfoldable pub checkReplay : Sizes → ℕ → ℕ → List ℤ → List ℤ → List ℤ → ℕ
@@ -61,11 +51,6 @@ pub record LoggedCall : Type 0 where
   pub call : Call
   pub steps : ℕ
   pub log : List ℤ
-
--- Zeros past the log (SCOPE 13.52).
-unfoldable pub ownStore : List Change → List ℤ → List ℤ
-unfolding logOf zeros
-ownStore changes numbers = logOf changes numbers ++ zeros (ownNeed - length (logOf changes numbers))
 
 -- On a refusal during the work the log's store is zero in its needed part (SCOPE 13.52).
 unfoldable pub loggedAfter : Sizes → Outcome → List Change → List ℤ → List ℤ → List ℤ → LoggedCall

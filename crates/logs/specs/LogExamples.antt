@@ -19,8 +19,8 @@ use Rattle.rules.specs.Elimination.{Outcome, going, done, refused, leadingRun}
 use Rattle.rules.specs.Rows.{mapRow, blank}
 use Rattle.algebra.specs.Polynomials.{shiftBy}
 use Rattle.theory.specs.ShiftDown.{shiftDown, lastBlock}
-use Rattle.logs.specs.Logs.{replay}
-use Rattle.logs.specs.Own.{changeNumbers, ownChanges, ownNumbers}
+use Rattle.log_steps.specs.Logs.{replay}
+use Rattle.own_logs.specs.Own.{changeNumbers, ownChanges, ownNumbers}
 
 -- The kind, i, j and the integer, then the coefficients of g and h up to the last that is not 0.
 unfoldable pub fields : List ℤ → List ℤ → List ℤ → List ℤ

@@ -40,8 +40,8 @@ use Rattle.theory.specs.LimitsKept.{ValidRows, rowRight-iff, relationRight-iff,
 use Rattle.theory.specs.Mirror.{storeRow-reaches}
 use Rattle.theory.specs.ListedOrder.{OneMultiplier, Listed}
 use Rattle.theory.specs.Steps.{limitCoefficients-within, limitDegrees-within}
-use Rattle.logs.specs.Logs.{dividedRow}
-use Rattle.logs.specs.Changes.{TwoRows, Multiplied, Changed, swapped, combined, raised, lowered, omitted, Replay, here, before}
+use Rattle.log_steps.specs.Logs.{dividedRow}
+use Rattle.log_steps.specs.Changes.{TwoRows, Multiplied, Changed, swapped, combined, raised, lowered, omitted, Replay, here, before}
 
 -- ---- a valid system
 

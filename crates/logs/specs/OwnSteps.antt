@@ -39,10 +39,10 @@ use Rattle.theory.specs.Triangular.{Triangular, multipliersFor-nonzero}
 use Rattle.theory.specs.Multipliers.{multipliers-small}
 use Rattle.theory.specs.LimitsKept.{ValidRows, rowRight-iff, entry-small, multipliersFor-lengths}
 use Rattle.theory.specs.Solutions.{shifted-zeros}
-use Rattle.logs.specs.Logs.{Change, exchanging, raising, dropping, dividesAll, twoRows, dividedRow, allowed, applied}
-use Rattle.logs.specs.Logs.{combineRows, changed, withOrder}
-use Rattle.logs.specs.Changes.{Formed, exchange-formed, combination-formed, raise-formed, drop-formed}
-use Rattle.logs.specs.Own.{divisorOf, combinationChange, eliminateChanges, shiftChanges, meetChanges, workChanges, stepChanges}
+use Rattle.log_steps.specs.Logs.{Change, exchanging, raising, dropping, dividesAll, twoRows, dividedRow, allowed, applied, combineRows}
+use Rattle.log_steps.specs.Logs.{changed, withOrder}
+use Rattle.log_steps.specs.Changes.{Formed, exchange-formed, combination-formed, raise-formed, drop-formed}
+use Rattle.own_logs.specs.Own.{divisorOf, combinationChange, eliminateChanges, shiftChanges, meetChanges, workChanges, stepChanges}
 use Rattle.logs.specs.Written.{changes}
 
 -- ---- the number that a combination is divided by

@@ -24,12 +24,11 @@ use Rattle.algebra.specs.Polynomials.{isZero}
 use Rattle.rules.specs.Limits.{coefficientCount, small}
 use Rattle.rules.specs.Calls.{zeros}
 use Rattle.rules.specs.Elimination.{State, Outcome, going, done, refused, andThen}
-use Rattle.logs.specs.Logs.{Change, exchanging, combining, raising, lowering, dropping, counted, placeOf, multiplierG, multiplierH}
-use Rattle.logs.specs.Logs.{changeOf, changeOfKind, ofRow, exchangeOf, twoPlaces, combinationOf, combinationRight, changed}
-use Rattle.logs.specs.Logs.{changedIf}
-use Rattle.logs.specs.Logs.{replayed, stepLength}
-use Rattle.logs.specs.Changes.{Formed, combination-formed}
-use Rattle.logs.specs.Own.{changeNumbers}
+use Rattle.log_steps.specs.Logs.{Change, exchanging, combining, raising, lowering, dropping, counted, placeOf, multiplierG}
+use Rattle.log_steps.specs.Logs.{multiplierH, changeOf, changeOfKind, ofRow, exchangeOf, twoPlaces, combinationOf, combinationRight}
+use Rattle.log_steps.specs.Logs.{changed, changedIf, replayed, stepLength}
+use Rattle.log_steps.specs.Changes.{Formed, combination-formed}
+use Rattle.own_logs.specs.Own.{changeNumbers}
 
 counted-suc : (n : ℕ) → T (counted (pos (suc n)))
 unfolding counted

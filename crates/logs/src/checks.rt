@@ -1,12 +1,10 @@
 // The checks before a replay: sizes and steps (2), the lengths of the three stores (1), the system's numbers (5) (SCOPE 13.41).
-use crate::given::STEP;
+use log_steps::lengths::STEP;
+use log_steps::lengths::STEPS;
 use stores::lengths::COLUMNS;
 ghost use mathlib.Core.Path.{_≡_};
 ghost use Rattle.stores.specs.Validity.{sizesOf};
 ghost use Rattle.logs.specs.LogCalls as LogCalls;
-
-// The largest number of steps (SCOPE 13.1).
-pub(crate) const STEPS: usize = 1000;
 
 // The number of the first check that fails, or 0.
 pub(crate) fn check(

@@ -9,14 +9,7 @@ ghost use Rattle.runs.specs.CallLaws as RunLaws;
 ghost use Rattle.logs.specs.LogCalls as LogCalls;
 ghost use Rattle.logs.specs.LoggedRuns.{loggedOf};
 
-mod changing;
 mod checks;
-mod combining;
-mod ending;
-mod given;
-mod lowering;
-mod own;
-mod replaying;
 mod written;
 
 // The result of our own run, and the steps of the log that it has written (SCOPE 13.5).
@@ -65,7 +58,7 @@ fn checked_replay(
         shifts: 0,
     };
     let span = stores::validity::span(sizes);
-    let o = replaying::replay_on(rows, relations, sizes.m, span, steps, log, first);
+    let o = replays::replay_on(rows, relations, sizes.m, span, steps, log, first);
     let refusal = o.refusal;
     if refusal != 0 {
         return runs::refused(refusal);

@@ -15,7 +15,6 @@ use mir.Facts.{toZ-ofZ}
 use Rattle.algebra.specs.Sums.{countFrom}
 use Rattle.rules.specs.Layout.{size-bounds}
 use Rattle.rules.specs.Stores.{rowOf}
-use Rattle.rules.specs.Stores as Stores
 use Rattle.stores.specs.Validity.{sizesOf}
 use Rattle.constant_rows.specs.Constants.{Judged, fine, each, entryAt, columnPolynomial, columnsOf, constantRow}
 use Rattle.constant_rows.specs.RowCounts.{columns-bound}

@@ -1,9 +1,8 @@
 -- `logs::checked_replay` meets its contract.
 -- Assumes nothing.
-use mathlib.Core.Path.{_≡_, refl, sym, _∙_, ap, subst}
+use mathlib.Core.Path.{refl, sym, _∙_, ap, subst}
 use mathlib.Core.List.{List}
-use Prim.Native.Nat.{ℕ, _≤_}
-use native.Mathlib.Omega.{arith}
+use Prim.Native.Nat.{ℕ}
 use borrow.Author.Needs.{needs}
 use denote.Ref.{now}
 use lib.IntN.{ℤ}
@@ -17,7 +16,8 @@ use Rattle.sides.specs.Lent.{Within}
 use Rattle.sides.specs.ReportLaws.{settledState}
 use Rattle.reduction.specs.Progress.{stateOf, startProgress}
 use Rattle.runs.specs.CallLaws.{few-blocks}
-use Rattle.logs.specs.ReplayCalls.{Checked, Left, outcomeOf, checked, first-ready, call-cleared, call-accepted, replay-nonzero}
+use Rattle.logs.specs.ReplayCalls.{Checked, checked, first-ready, call-cleared, call-accepted, replay-nonzero}
+use Rattle.replays.specs.ReplayWork.{Left, outcomeOf}
 use Rattle.logs.proofs.checked_replay.Statement.{statement}
 use Rattle.logs.proofs.checked_replay.Tie as tie
 

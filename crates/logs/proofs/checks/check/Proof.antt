@@ -1,11 +1,10 @@
 -- `logs::checks::check` meets its contract.
 -- Assumes nothing.
-use mathlib.Core.Path.{_∙_, ap}
-use native.Mathlib.Omega.{arith}
+use mathlib.Core.Path.{_∙_}
 use borrow.Author.Needs.{needs}
 use denote.Ref.{now}
 use Rattle.stores.specs.Validity.{sizesOf}
-use Rattle.logs.specs.LogCalls.{logNeed}
+use Rattle.log_steps.specs.Logs.{logNeed}
 use Rattle.logs.specs.ReplayCalls.{steps-checked, sizes-checked, log-checked, stores-checked}
 use mathlib.Core.Path.{sym}
 use Rattle.logs.proofs.checks.check.Statement.{statement}

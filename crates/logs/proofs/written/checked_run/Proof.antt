@@ -21,11 +21,12 @@ use Rattle.reduction.specs.declared.step.Outcome as Answer
 use Rattle.reduction.specs.Progress.{stateOf, outcomeOf}
 use Rattle.reduction.specs.Ran.{Ran}
 use Rattle.runs.specs.CallLaws.{few-equations, Checked, checked, Final, final-run, call-run, resultOf, resultAfter, callOf}
-use Rattle.logs.specs.Logs.{mostSteps, stepLength}
-use Rattle.logs.specs.LogCalls.{logNeed, ownNeed}
+use Rattle.log_steps.specs.Logs.{mostSteps, stepLength, logNeed, ownNeed}
 use Rattle.logs.specs.LogCallLaws.{check-right}
-use Rattle.logs.specs.Own.{ownChanges}
-use Rattle.logs.specs.LoggedRuns.{LogLeft, closed, closed-own, reported-few, logged-done, logged-stopped, outcome-refused}
+use Rattle.own_logs.specs.Own.{ownChanges}
+use Rattle.own_logs.specs.LogStores.{LogLeft, closed, closed-own, reported-few}
+use Rattle.logs.specs.LoggedRuns.{logged-done, logged-stopped}
+use Rattle.replays.specs.ReplayWork.{outcome-refused}
 use Rattle.logs.proofs.written.checked_run.Statement.{statement}
 use Rattle.logs.proofs.written.checked_run.Tie as tie
 

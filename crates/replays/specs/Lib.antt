@@ -1,0 +1,4 @@
+pub mod ReplayWork
+pub mod Given
+pub mod Replays
+pub mod Endings
