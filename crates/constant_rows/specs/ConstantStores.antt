@@ -2,16 +2,19 @@
 --
 -- Main definitions
 --   judgedOf e           what an `Entry` says: its value, or the limit that it passes
+--   polynomialThere l r n i c   what stands in an equation at n, at index i and unknown c
 --   rowAt z N e          the constant row of an equation at its n, or of a relation
 --   atIndex n rows       the equations at n
 --   groups z N rows      the equations at each n that is asked for
 --
 -- Main statements
+--   column-polynomial    what stands at a column, by its index and its unknown
 --   each-both, each-stops, each-stopped, each-one   what is made of two lists, one behind the other
 --   reports-made, reports-passed   what a refusal number tells
 --   matrix-put           the rows of a store after a part of it was written
-use Prim.Native.Nat.{ℕ, suc, _+_, _*_, _-_, _/_, _%_, _≤_, _<_}
-use native.Mathlib.Nat.{le-refl, zero-add, add-zero, suc-mul, mul-assoc, not-suc-le-zero}
+use Prim.Native.Nat.{ℕ, suc, _+_, _*_, _-_, _≤_, _<_, zero-le}
+use native.Mathlib.Nat.{le-refl, lt-of-le-of-lt, zero-add, add-zero, suc-mul, mul-assoc, not-suc-le-zero, mul-add-div-right, div-eq-of-lt}
+use native.Mathlib.Nat.{mul-add-mod-self-right, mod-eq-of-lt}
 use native.Mathlib.Numerals.{add-one}
 use native.Mathlib.Omega.{arith}
 use borrow.Rule.Slice.PartMut.{putMid, postOf, same-len-mid, mid-len, drop-put}
@@ -84,35 +87,48 @@ entry-zero n p h = ap judgeValue (none-left p h)
 abbrev pub blockOf : ℤ → ℤ → ℕ → ℤ
 blockOf n l i = (l +ℤ n) -ℤ pos i
 
-module _ (m : ℕ) (l : ℤ) (r : Row) (n : ℤ) (j : ℕ) where
+-- What stands in a row at an index and an unknown.
+module _ (l : ℤ) (r : Row) (n : ℤ) (i c : ℕ) where
   abbrev meets : ℤ
-  meets = blockOf n l (j / m)
+  meets = blockOf n l i
 
-  column-at : columnPolynomial m l r n j ≡ getD (blockFrom (r .blocks) meets) (j % m) []
-  unfolding columnPolynomial polynomialAt
-  column-at = ap (λ s. getD (blockFrom (r .blocks) s) (j % m) []) (turned l n (pos (j / m)))
+  abbrev pub polynomialThere : Polynomial
+  polynomialThere = polynomialAt l r (pos i -ℤ n) c
+
+  column-at : polynomialThere ≡ getD (blockFrom (r .blocks) meets) c []
+  unfolding polynomialAt
+  column-at = ap (λ s. getD (blockFrom (r .blocks) s) c []) (turned l n (pos i))
     where
       turned : (a b c : ℤ) → (a -ℤ (c -ℤ b)) ≡ ((a +ℤ b) -ℤ c)
       turned a b c = simp ringℤ
 
-  pub column-below : (k : ℕ) → meets ≡ negsuc k → columnPolynomial m l r n j ≡ []
+  pub column-below : (k : ℕ) → meets ≡ negsuc k → polynomialThere ≡ []
   unfolding blockFrom
-  column-below k e = column-at ∙ ap (λ s. getD (blockFrom (r .blocks) s) (j % m) []) e
+  column-below k e = column-at ∙ ap (λ s. getD (blockFrom (r .blocks) s) c []) e
 
-  pub column-in : (b : ℕ) → meets ≡ pos b → columnPolynomial m l r n j ≡ getD (getD (r .blocks) b []) (j % m) []
+  pub column-in : (b : ℕ) → meets ≡ pos b → polynomialThere ≡ getD (getD (r .blocks) b []) c []
   unfolding blockFrom
-  column-in b e = column-at ∙ ap (λ s. getD (blockFrom (r .blocks) s) (j % m) []) e
+  column-in b e = column-at ∙ ap (λ s. getD (blockFrom (r .blocks) s) c []) e
 
   -- A block past t is zero, and so is what is outside a row.
   pub column-past : (D b : ℕ) → T (every zeroBlock (drop (suc D) (r .blocks))) → meets ≡ pos b → D < b
-      → T (isZero (columnPolynomial m l r n j))
+      → T (isZero polynomialThere)
   unfolding zeroBlock
   column-past D b h e k =
       let (d, same) : (d : ℕ) × (b ≡ suc D + d) = (b - suc D, omega arith) in
       let block : T (zeroBlock (getD (r .blocks) b [])) =
       subst (λ i. T (zeroBlock (getD (r .blocks) i []))) (sym same)
       (subst (λ x. T (zeroBlock x)) (getD-drop (suc D) (r .blocks) d []) (every-getD zeroBlock (drop (suc D) (r .blocks)) [] tt h d)) in
-      subst (λ p. T (isZero p)) (sym (column-in b e)) (every-getD isZero (getD (r .blocks) b []) [] tt block (j % m))
+      subst (λ p. T (isZero p)) (sym (column-in b e)) (every-getD isZero (getD (r .blocks) b []) [] tt block c)
+
+-- Column i × m + c is that of index i and unknown c.
+pub column-polynomial : (m : ℕ) (l : ℤ) (r : Row) (n : ℤ) (i c : ℕ) → c < m
+    → columnPolynomial m l r n (i * m + c) ≡ polynomialThere l r n i c
+unfolding columnPolynomial
+column-polynomial m l r n i c h =
+    ap₂ (λ a b. polynomialAt l r (pos a -ℤ n) b)
+    (mul-add-div-right (lt-of-le-of-lt zero-le h) i c ∙ ap (λ k. i + k) (div-eq-of-lt h) ∙ add-zero i)
+    (mul-add-mod-self-right i m c ∙ mod-eq-of-lt h)
 
 -- An equation that meets an index of the list does so near 0.
 pub near : (n l : ℤ) (i b : ℕ) → blockOf n l i ≡ pos b → natAbs n ≤ b + i + natAbs l

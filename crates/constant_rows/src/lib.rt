@@ -21,7 +21,7 @@ ghost use Rattle.stores.specs.Validity.{sizesOf};
 ghost use Rattle.constant_rows.specs.Constants as Constants;
 ghost use Rattle.constant_rows.specs.ListLengths.{largestIndex, listColumns, matrixNeed};
 ghost use Rattle.constant_rows.specs.Matrices.{matrixRows, Reports};
-ghost use Rattle.constant_rows.specs.ConstantStores.{judgedOf, rowAt, atIndex};
+ghost use Rattle.constant_rows.specs.ConstantStores.{judgedOf, rowAt, atIndex, polynomialThere};
 
 pub mod lengths;
 
@@ -64,15 +64,21 @@ fn block_entry(row: &[i64], n: i64, block: usize, column: usize) -> Entry
     entry_value(&row[from..to], n)
 }
 
-// The entry of a column: that of its index and its unknown, 0 where the equation has no block for that index (SCOPE 14.32).
-fn column_entry(row: &[i64], n: i64, sizes: stores::validity::Sizes, j: usize) -> Entry
+// The entry of a column, by its index and its unknown: 0 where the equation has no block for that index (SCOPE 14.32).
+fn column_entry(
+    row: &[i64],
+    n: i64,
+    sizes: stores::validity::Sizes,
+    index: usize,
+    unknown: usize,
+) -> Entry
     requires { ⌜ T (Stores.sizesRight (sizesOf sizes)) × T (Stores.rowRight (sizesOf sizes) (Stores.rowOf (now row))) ⌝ }
-    requires { ⌜ T (every small (now row)) × (length (now row) ≡ rowLength) × (natAbs n ≤ bound) × (j < listColumns) ⌝ }
+    requires { ⌜ T (every small (now row)) × (length (now row) ≡ rowLength) × (natAbs n ≤ bound) ⌝ }
+    requires { ⌜ (index < listColumns) × (unknown < columnCount) ⌝ }
     ensures { λ r. ⌜ judgedOf r
-        ≡ Constants.entryAt n (Constants.columnPolynomial (sizes .m) (sizes .l) (Stores.rowOf (now (row .entry))) n j) ⌝ }
+        ≡ Constants.entryAt n (polynomialThere (sizes .l) (Stores.rowOf (now (row .entry))) n index unknown) ⌝ }
 {
-    let m = sizes.m;
-    let block = block_at(n, sizes.l, j / m);
+    let block = block_at(n, sizes.l, index);
     if block < 0 {
         return Entry::Fine(0);
     }
@@ -80,10 +86,11 @@ fn column_entry(row: &[i64], n: i64, sizes: stores::validity::Sizes, j: usize) -
     if stores::validity::span(sizes) < place {
         return Entry::Fine(0);
     }
-    block_entry(row, n, place, j % m)
+    block_entry(row, n, place, unknown)
 }
 
-// Entry by entry, in the order of the columns (SCOPE 14.32, 14.34).
+// Entry by entry, in the order of the columns (SCOPE 14.32, 14.34). Index and unknown are counted along: a division for each column would
+// cost more than most of the entries, which are 0.
 fn constant_row(
     place: &mut [i64],
     row: &[i64],
@@ -97,14 +104,22 @@ fn constant_row(
     ensures { λ r. ⌜ Reports (λ v. take (Constants.columnsOf (sizes .m) last) (now (place .exit)) ≡ v)
         (Constants.constantRow (sizes .m) (sizes .l) last (Stores.rowOf (now (row .entry))) n) r ⌝ }
 {
-    let columns = (last + 1) * sizes.m;
+    let m = sizes.m;
+    let columns = (last + 1) * m;
+    let mut index = 0;
+    let mut unknown = 0;
     let mut j = 0;
     while j < columns {
-        match column_entry(row, n, sizes, j) {
+        match column_entry(row, n, sizes, index, unknown) {
             Entry::Fine(value) => place[j] = value,
             Entry::Passed(limit) => return limit,
         }
         j += 1;
+        unknown += 1;
+        if unknown == m {
+            unknown = 0;
+            index += 1;
+        }
     }
     0
 }
