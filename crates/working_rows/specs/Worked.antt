@@ -12,7 +12,7 @@
 --   numbers-worked the numbers of that working row
 --   limit-within, limit-beyond   the answer for numbers that are all within ±C, and for others
 --   refused-beyond a refusal is the number of a limit
---   limit-zero, consistent-passed, consistent-kept   the answer of the test behind the limit
+--   limit-zero     a row that is let through is the row itself
 --   held           a row of a store's shape that is within the limit is held by its numbers
 --   store-row      that shape, by the polynomials of the row
 use mathlib.Core.Path.{_≡_, refl, sym, _∙_, ap, subst}
@@ -24,7 +24,7 @@ use lib.Dec.{T}
 use lib.IntN.{ℤ, pos}
 use lib.ListN.{length, replicate, replicate-append-replicate}
 use Rattle.rules.specs.Limits.{entriesLength, rowLength, small, coefficientCount, columnCount, blockCount}
-use Rattle.rules.specs.Rows.{Block, Row, coefficientsOf, contradicts, smallRow}
+use Rattle.rules.specs.Rows.{Block, Row, coefficientsOf, smallRow}
 use Rattle.lists.specs.Everywhere.{All}
 use Rattle.lists.specs.Tests.{every}
 use Rattle.rules.specs.Stores.{rowOf, Shaped, StoreRow}
@@ -32,7 +32,7 @@ use Rattle.rules.specs.Layout.{rowOf-coefficientsOf, length-coefficientsOf}
 use Rattle.stores.specs.Flat.{polynomialsOf}
 use Rattle.working_rows.specs.declared.WorkingRow.{WorkingRow}
 use Rattle.working_rows.specs.Working.{leftPart, workingOf, numbersHeld}
-use Rattle.rules.specs.Elimination.{Limited, within, beyond, limitCoefficients, consistent}
+use Rattle.rules.specs.Elimination.{Limited, within, beyond, limitCoefficients}
 
 unfoldable pub refusalOf : Limited → ℕ
 refusalOf (within r) = 0
@@ -78,8 +78,6 @@ module _ (r : Row) (l : List ℤ) (held : coefficientsOf r ≡ l) where
   pub limit-beyond : every small l ≡ false → limitCoefficients r ≡ beyond 8
   limit-beyond e = limit-is ∙ ap (λ t. cond t (within r) (beyond 8)) e
 
--- ---- the test behind the limit
-
 -- A row within the limit is the row itself.
 pub limit-zero : (r : Row) → refusalOf (limitCoefficients r) ≡ 0 → limitCoefficients r ≡ within r
 unfolding refusalOf limitCoefficients
@@ -94,21 +92,6 @@ pub refused-beyond : (x : Limited) → (refusalOf x ≡ 0 → ⊥) → x ≡ bey
 unfolding refusalOf
 refused-beyond (within r) h = absurd (h refl)
 refused-beyond (beyond n) h = refl
-
--- What it lets through is tested.
-pub consistent-passed : (r : Row) → refusalOf (limitCoefficients r) ≡ 0
-    → consistent (limitCoefficients r) ≡ cond (contradicts r) (beyond 10) (within r)
-unfolding consistent
-consistent-passed r e = ap consistent (limit-zero r e)
-
--- A row that contradicts nothing passes as it is.
-pub consistent-kept : (r : Row) → contradicts r ≡ false → consistent (limitCoefficients r) ≡ limitCoefficients r
-unfolding consistent limitCoefficients
-consistent-kept r e = go (smallRow r)
-  where
-    go : (t : Bool) → consistent (cond t (within r) (beyond 8)) ≡ cond t (within r) (beyond 8)
-    go true = ap (λ t. cond t (beyond 10) (within r)) e
-    go false = refl
 
 -- ---- rows within the limits
 

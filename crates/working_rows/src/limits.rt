@@ -6,7 +6,7 @@ ghost use mathlib.Core.Path.{_≡_};
 ghost use lib.ListN.{length};
 ghost use Rattle.rules.specs.Limits.{rowLength};
 ghost use Rattle.rules.specs.Stores.{rowOf};
-ghost use Rattle.rules.specs.Elimination.{limitCoefficients, consistent, beyond};
+ghost use Rattle.rules.specs.Elimination.{limitCoefficients, consistent, within, beyond};
 ghost use Rattle.working_rows.specs.Worked.{refusalOf, workedRow};
 
 // A new row, or the number of the limit that it breaks and zeros.
@@ -27,15 +27,11 @@ pub fn broken(refusal: u8) -> Worked
     Worked { refusal, row }
 }
 
-// The number of the limit that the numbers of a new row break, or 0: a coefficient past ±C, on the right side too, is 8 (SCOPE 2.44), and
-// behind it a row whose left part alone is zero 10 (SCOPE 2.46). Without a right side there is none.
-pub fn refusal(numbers: &[i64]) -> u8
+// The numbers of a row within ±C whose left part alone is zero are refused with 10 (SCOPE 2.46). Without a right side there is none.
+pub fn contradiction(numbers: &[i64]) -> u8
     requires { ⌜ length (now numbers) ≡ rowLength ⌝ }
-    ensures { λ r. ⌜ r ≡ refusalOf (consistent (limitCoefficients (rowOf (now (numbers .entry))))) ⌝ }
+    ensures { λ r. ⌜ r ≡ refusalOf (consistent (within (rowOf (now (numbers .entry))))) ⌝ }
 {
-    if !stores::checks::all_small(numbers) {
-        return 8;
-    }
     if polynomials::content::is_zero(&numbers[ENTRIES..]) {
         return 0;
     }
@@ -43,4 +39,16 @@ pub fn refusal(numbers: &[i64]) -> u8
         return 0;
     }
     10
+}
+
+// The number of the limit that the numbers of a new row break, or 0: a coefficient past ±C, on the right side too, is 8 (SCOPE 2.44), and
+// behind it a row whose left part alone is zero 10.
+pub fn refusal(numbers: &[i64]) -> u8
+    requires { ⌜ length (now numbers) ≡ rowLength ⌝ }
+    ensures { λ r. ⌜ r ≡ refusalOf (consistent (limitCoefficients (rowOf (now (numbers .entry))))) ⌝ }
+{
+    if !stores::checks::all_small(numbers) {
+        return 8;
+    }
+    contradiction(numbers)
 }
