@@ -1,2 +1,3 @@
 pub mod Combination
 pub mod Primitive
+pub mod InPlace

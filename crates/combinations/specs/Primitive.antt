@@ -2,9 +2,11 @@
 --
 -- Main definitions
 --   primitiveNumbers l    the numbers divided by their content; zeros are not divided
+--   dividedTo d l k       the first k numbers divided by d, and the others as they are
 --
 -- Main statements
 --   primitive-divided, primitive-kept   what the numbers become, by their content
+--   divided-zeros, divided-front, divided-whole, divided-next   the division of zeros, of a front, of all, and part by part
 --   content-below         the content is at most as large as the numbers
 --   degree-kept           the division does not change which polynomials have degrees up to 15
 --   content-cut           where all have, the row that is cut to 16 coefficients has the content of the row
@@ -13,18 +15,19 @@
 --   degrees-within        a row within both limits is within that of the coefficients
 use mathlib.Core.Path.{_≡_, refl, sym, _∙_, ap, ap₂, subst}
 use mathlib.Core.Bool.{Bool, true, false, _&&_, cond}
-use mathlib.Core.List.{List, [], _∷_, _++_, map, flatten}
-use Prim.Native.Nat.{ℕ, zero, suc, _≤_, _<_, _∣_}
-use native.Mathlib.Nat.{zero-lt-suc, dvd-refl, dvd-trans}
+use mathlib.Core.List.{List, [], _∷_, _++_, map, flatten, append-nil, append-assoc, map-append}
+use Prim.Native.Nat.{ℕ, zero, suc, _+_, _≤_, _<_, _∣_}
+use native.Mathlib.Nat.{zero-lt-suc, zero-div, dvd-refl, dvd-trans}
 use native.Mathlib.Omega.{arith}
 use lib.Dec.{T}
 use lib.IntN.{ℤ, pos, natAbs}
-use lib.ListN.{take, drop, take-append-drop}
+use lib.ListN.{length, take, drop, take-append-drop, drop-of-length-le}
+use lib.Seq.{take-all, take-add, take-at, drop-at, drop-drop, length-take-le}
 use lib.Signed.{quotZ}
 use Rattle.algebra.specs.Gcd.{gcd, content, divideBy, gcd-zero, gcd-divides-left, gcd-divides-right, gcd-le-right, content-append}
 use Rattle.algebra.specs.Gcd.{content-zero}
-use Rattle.algebra.specs.Gcd.{dividesAll-of-content, isZero-divideBy, divideBy-one}
-use Rattle.algebra.specs.Polynomials.{Polynomial, isZero}
+use Rattle.algebra.specs.Gcd.{dividesAll-of-content, isZero-divideBy, divideBy-one, length-divideBy}
+use Rattle.algebra.specs.Polynomials.{Polynomial, isZero, isZero-cons}
 use Rattle.lists.specs.Tests.{T-&&, every, every-append, every-flatten}
 use Rattle.polynomials.specs.Content.{Below}
 use Rattle.rules.specs.Rows.{Row, mapRow, coefficientsOf, primitive, lowDegrees, cut, contradicts, smallRow}
@@ -60,6 +63,49 @@ primitive-kept l h = go (content l) h
     go zero h = refl
     go (suc zero) h = divideBy-one l
     go (suc (suc d)) h = absurd (omega arith)
+
+-- ---- the division, part by part
+
+divided-append : (d : ℕ) (p q : List ℤ) → divideBy d (p ++ q) ≡ divideBy d p ++ divideBy d q
+unfolding divideBy
+divided-append d p q = map-append (λ a. quotZ a (pos d)) p q
+
+-- Zeros stay.
+pub divided-zeros : (d : ℕ) (l : List ℤ) → T (isZero l) → divideBy d l ≡ l
+unfolding divideBy
+divided-zeros d [] z = refl
+divided-zeros d (a ∷ l) z =
+    let both = isZero-cons a l .0 z in
+    ap₂ _∷_ (ap (λ b. quotZ b (pos d)) (both .0) ∙ ap pos (zero-div d) ∙ sym (both .0)) (divided-zeros d l (both .1))
+
+-- The first k numbers are divided.
+abbrev pub dividedTo : ℕ → List ℤ → ℕ → List ℤ
+dividedTo d l k = divideBy d (take k l) ++ drop k l
+
+pub divided-front : (d : ℕ) (l : List ℤ) (k : ℕ) → T (isZero (drop k l)) → dividedTo d l k ≡ divideBy d l
+divided-front d l k z =
+    ap (λ r. divideBy d (take k l) ++ r) (sym (divided-zeros d (drop k l) z)) ∙ sym (divided-append d (take k l) (drop k l))
+    ∙ ap (divideBy d) (take-append-drop k l)
+
+pub divided-whole : (d : ℕ) (l : List ℤ) (k : ℕ) → length l ≤ k → dividedTo d l k ≡ divideBy d l
+divided-whole d l k h =
+    ap₂ (λ x y. divideBy d x ++ y) (take-all k l h) (drop-of-length-le l h) ∙ append-nil (divideBy d l)
+
+-- The next w numbers are divided where they stand.
+module _ (d : ℕ) (l : List ℤ) (k w : ℕ) (inside : k ≤ length l) where
+  front-long : length (divideBy d (take k l)) ≡ k
+  front-long = length-divideBy d (take k l) ∙ length-take-le k l inside
+
+  pub divided-rest : drop k (dividedTo d l k) ≡ drop k l
+  divided-rest = drop-at (divideBy d (take k l)) (drop k l) k front-long
+
+  pub divided-next : take k (dividedTo d l k) ++ (divideBy d (take w (drop k l)) ++ drop w (drop k (dividedTo d l k)))
+      ≡ dividedTo d l (k + w)
+  divided-next =
+      ap₂ (λ x y. x ++ (divideBy d (take w (drop k l)) ++ drop w y)) (take-at (divideBy d (take k l)) (drop k l) k front-long) divided-rest
+      ∙ sym (append-assoc (divideBy d (take k l)) (divideBy d (take w (drop k l))) (drop w (drop k l)))
+      ∙ ap₂ (λ x y. x ++ y) (sym (divided-append d (take k l) (take w (drop k l))) ∙ ap (divideBy d) (sym (take-add k w l)))
+      (drop-drop w k l)
 
 -- ---- the size of the content
 

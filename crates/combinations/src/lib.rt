@@ -2,21 +2,24 @@
 use polynomials::lengths::COEFFICIENTS;
 use stores::lengths::ROW;
 ghost use mathlib.Core.Path.{_≡_};
-ghost use mathlib.Core.Bool.{false, not, _&&_};
+ghost use mathlib.Core.Bool.{false, not, _&&_, cond};
 ghost use Prim.Native.Nat.{_+_, _*_, _/_, _^_, _≤_, _<_};
 ghost use lib.Dec.{T};
-ghost use lib.IntN.{pos};
+ghost use lib.IntN.{pos, natAbs};
 ghost use lib.ListN.{length, take, replicate};
+ghost use lib.Signed.{ltZ};
 ghost use Rattle.algebra.specs.Polynomials.{isZero, add, mul};
-ghost use Rattle.algebra.specs.Gcd.{content};
+ghost use Rattle.algebra.specs.Gcd.{gcd, content, divideBy};
 ghost use Rattle.rules.specs.Limits.{small, coefficientCount, rowLength};
 ghost use Rattle.rules.specs.Rows.{combine, primitive};
 ghost use Rattle.lists.specs.Tests.{every};
 ghost use Rattle.rules.specs.Stores.{rowOf};
-ghost use Rattle.rules.specs.Elimination.{limitDegrees, consistent};
+ghost use Rattle.rules.specs.Elimination.{limitCoefficients, limitDegrees, consistent};
+ghost use Rattle.stores.specs.Flat.{partCount};
 ghost use Rattle.working_rows.specs.Worked.{refusalOf, numbersOf};
 ghost use Rattle.combinations.specs.Combination.{trim, Shortened, lowPart, combinations, lowNumbers, Counted, highest};
 ghost use Rattle.combinations.specs.Primitive.{isLow, primitiveNumbers};
+ghost use Rattle.combinations.specs.InPlace.{partAt, rowAt, sumAt, withPart, placed, PartMade, RowMade};
 ghost use Rattle.polynomials.specs.Content.{Below};
 
 // The coefficients up to the highest nonzero one.
@@ -166,62 +169,188 @@ pub fn low_combination(
     false
 }
 
-// The content of a row's numbers, the right side's too: polynomial by polynomial, so that nothing is done for those that are zero.
-fn row_content(numbers: &[i64]) -> u64
-    requires { ⌜ length (now numbers) ≡ rowLength ⌝ }
-    ensures { λ r. ⌜ r ≡ content (now (numbers .entry)) ⌝ }
+// What is known of the polynomials that a combination has made: whether one has a degree past 15; if none has, their content, and whether their
+// coefficients are within ±C.
+pub struct Made {
+    pub beyond: bool,
+    pub content: u64,
+    pub within: bool,
+}
+
+// The polynomial at place `a` of a store combined with that at place `b`, where it stands, unless its degree is past 15: is it?
+fn combine_part(rows: &mut [i64], a: usize, b: usize, g: &[i64], h: &[i64]) -> bool
+    requires { ⌜ (a + coefficientCount ≤ length (now rows)) × (b + coefficientCount ≤ length (now rows)) ⌝ }
+    requires { ⌜ T (every small (partAt (now rows) a)) × T (every small (partAt (now rows) b)) × Counted (now g) × Counted (now h) ⌝ }
+    ensures { λ r. ⌜ r ≡ not (isLow (sumAt (now (g .entry)) (now (h .entry)) (now (rows .entry)) a b)) ⌝ }
+    ensures { λ r. ⌜ now (rows .exit) ≡ cond r (now (rows .entry))
+        (withPart (now (rows .entry)) a (lowPart (sumAt (now (g .entry)) (now (h .entry)) (now (rows .entry)) a b))) ⌝ }
 {
+    let mut place = [0i64; COEFFICIENTS];
+    let end = a + COEFFICIENTS;
+    let last = b + COEFFICIENTS;
+    if put_low(
+        &mut place,
+        g,
+        shortened(&rows[a..end]),
+        h,
+        shortened(&rows[b..last]),
+    ) {
+        return true;
+    }
+    stores::rows::save(rows, a, &place[..]);
+    false
+}
+
+// The content of more numbers, where that of the others is d: once it is 1, they do not matter.
+fn content_with(p: &[i64], d: u64) -> u64
+    ensures { λ r. ⌜ r ≡ gcd (content (now (p .entry))) d ⌝ }
+{
+    if d == 1 {
+        return 1;
+    }
+    integers::gcd(polynomials::content::content(p), d)
+}
+
+// The same, with what is known of the polynomial afterwards and of those before it, whose content is d. Nothing is done where both are zero.
+fn add_part(
+    rows: &mut [i64],
+    a: usize,
+    b: usize,
+    g: &[i64],
+    h: &[i64],
+    d: u64,
+    within: bool,
+) -> Made
+    requires { ⌜ (a + coefficientCount ≤ length (now rows)) × (b + coefficientCount ≤ length (now rows)) ⌝ }
+    requires { ⌜ T (every small (partAt (now rows) a)) × T (every small (partAt (now rows) b)) × Counted (now g) × Counted (now h) ⌝ }
+    ensures { λ r. ⌜
+        PartMade (sumAt (now (g .entry)) (now (h .entry)) (now (rows .entry)) a b) d within a (now (rows .entry)) (now (rows .exit)) r ⌝ }
+{
+    let end = a + COEFFICIENTS;
+    let last = b + COEFFICIENTS;
+    if both_zero(&rows[a..end], &rows[b..last]) {
+        return Made {
+            beyond: false,
+            content: d,
+            within,
+        };
+    }
+    if combine_part(rows, a, b, g, h) {
+        return Made {
+            beyond: true,
+            content: d,
+            within,
+        };
+    }
+    let p = &rows[a..end];
+    Made {
+        beyond: false,
+        content: content_with(p, d),
+        within: within && stores::checks::all_small(p),
+    }
+}
+
+// The polynomials of the row at a place of a store combined with those of a row before it, where they stand, up to the first whose degree is
+// past 15.
+fn combine_parts(rows: &mut [i64], at: usize, from: usize, g: &[i64], h: &[i64]) -> Made
+    requires { ⌜
+        (length (now g) ≡ coefficientCount) × T (every small (now g)) × (length (now h) ≡ coefficientCount) × T (every small (now h)) ⌝ }
+    requires { ⌜
+        (from + rowLength ≤ at) × (at + rowLength ≤ length (now rows)) × T (every small (rowAt (now rows) at))
+        × T (every small (rowAt (now rows) from)) ⌝ }
+    ensures { λ r. ⌜ RowMade (combinations partCount (now (g .entry)) (now (h .entry)) (rowAt (now (rows .entry)) at)
+        (rowAt (now (rows .entry)) from)) at (now (rows .entry)) (now (rows .exit)) r ⌝ }
+{
+    let a = trimmed(g);
+    let b = trimmed(h);
     let mut d = 0;
+    let mut within = true;
+    let mut e = 0;
+    while e < PARTS {
+        let k = e * COEFFICIENTS;
+        let made = add_part(rows, at + k, from + k, a, b, d, within);
+        if made.beyond {
+            return made;
+        }
+        d = made.content;
+        within = made.within;
+        e += 1;
+    }
+    Made {
+        beyond: false,
+        content: d,
+        within,
+    }
+}
+
+// The coefficients up to the highest nonzero one divided by d; the zeros behind stay.
+fn divide_part(p: &mut [i64], d: i64)
+    requires { ⌜ (0 < length (now p)) × Below (2 ^ 63) (now p) × T (ltZ (pos 0) d) ⌝ }
+    ensures { λ _. ⌜ now (p .exit) ≡ divideBy (natAbs d) (now (p .entry)) ⌝ }
+{
+    if polynomials::content::zero_throughout(p) {
+        return;
+    }
+    let n = polynomials::content::degree(p) + 1;
+    polynomials::content::divide_in_place(&mut p[..n], d);
+}
+
+// The numbers of a row divided by d, polynomial by polynomial.
+fn divide_parts(numbers: &mut [i64], d: i64)
+    requires { ⌜ (length (now numbers) ≡ rowLength) × Below (2 ^ 63) (now numbers) × T (ltZ (pos 0) d) ⌝ }
+    ensures { λ _. ⌜ now (numbers .exit) ≡ divideBy (natAbs d) (now (numbers .entry)) ⌝ }
+{
     let mut e = 0;
     while e < PARTS {
         let from = e * COEFFICIENTS;
         let to = from + COEFFICIENTS;
-        let p = &numbers[from..to];
-        if !polynomials::content::zero_throughout(p) {
-            d = integers::gcd(polynomials::content::content(p), d);
-            if d == 1 {
-                return 1;
-            }
-        }
+        divide_part(&mut numbers[from..to], d);
         e += 1;
     }
-    d
 }
 
-// Divided by the largest number that divides all of them; zeros stay (SCOPE 2.42).
-fn divide_by_content(numbers: &mut [i64])
+// The numbers of a new row divided by their content d (SCOPE 2.42), and the number of the limit that they break then, or 0. `within` says
+// whether they are within ±C before the division; where there is none, they need not be looked through again.
+fn limit_row(numbers: &mut [i64], d: u64, within: bool) -> u8
     requires { ⌜ (length (now numbers) ≡ rowLength) × Below (2 ^ 63) (now numbers) ⌝ }
+    requires { ⌜ (d ≡ content (now numbers)) × (within ≡ every small (now numbers)) ⌝ }
+    ensures { λ r. ⌜ r ≡ refusalOf (consistent (limitCoefficients (rowOf (primitiveNumbers (now (numbers .entry)))))) ⌝ }
     ensures { λ _. ⌜ now (numbers .exit) ≡ primitiveNumbers (now (numbers .entry)) ⌝ }
 {
-    let d = row_content(numbers);
     if 1 < d {
-        polynomials::content::divide_in_place(numbers, d as i64);
+        divide_parts(numbers, d as i64);
+        return working_rows::limits::refusal(numbers);
     }
+    if !within {
+        return 8;
+    }
+    working_rows::limits::contradiction(numbers)
 }
 
-// The numbers of g × target + h × pivot, divided by their content, over zeros (SCOPE 2.41, 2.42). A degree past 15 is refused with 7; if
-// there is none, a coefficient past ±C with 8; a row whose left part alone is zero with 10 (SCOPE 2.43, 2.44, 2.46). The division does not
-// change a degree, so the degrees are looked at first.
-pub fn put_combined_row(
-    place: &mut [i64],
-    g: &[i64],
-    h: &[i64],
-    target: &[i64],
-    pivot: &[i64],
-) -> u8
+// The row at place `at` of a store becomes g × itself + h × the row at `from`, which stands before it, divided by the content (SCOPE 2.41,
+// 2.42). A degree past 15 is refused with 7; if there is none, a coefficient past ±C with 8; a row whose left part alone is zero with 10
+// (SCOPE 2.43, 2.44, 2.46). A refusal leaves zeros in its place. The division does not change a degree, so the degrees are looked at first.
+pub fn combine_rows(rows: &mut [i64], at: usize, from: usize, g: &[i64], h: &[i64]) -> u8
     requires { ⌜
         (length (now g) ≡ coefficientCount) × T (every small (now g)) × (length (now h) ≡ coefficientCount) × T (every small (now h)) ⌝ }
     requires { ⌜
-        (length (now target) ≡ rowLength) × (length (now pivot) ≡ rowLength) × T (every small (now target)) × T (every small (now pivot))
-        × (now place ≡ replicate rowLength (pos 0)) ⌝ }
-    ensures { λ r. ⌜ r ≡ refusalOf (consistent (limitDegrees (primitive
-        (combine (now (g .entry)) (now (h .entry)) (rowOf (now (target .entry))) (rowOf (now (pivot .entry))))))) ⌝ }
-    ensures { λ r. ⌜ (r ≡ 0 → now (place .exit) ≡ numbersOf (consistent (limitDegrees (primitive
-        (combine (now (g .entry)) (now (h .entry)) (rowOf (now (target .entry))) (rowOf (now (pivot .entry)))))))) ⌝ }
+        (from + rowLength ≤ at) × (at + rowLength ≤ length (now rows)) × T (every small (rowAt (now rows) at))
+        × T (every small (rowAt (now rows) from)) ⌝ }
+    ensures { λ r. ⌜ r ≡ refusalOf (consistent (limitDegrees (primitive (combine (now (g .entry)) (now (h .entry))
+        (rowOf (rowAt (now (rows .entry)) at)) (rowOf (rowAt (now (rows .entry)) from)))))) ⌝ }
+    ensures { λ r. ⌜ now (rows .exit) ≡ placed (now (rows .entry)) at r
+        (numbersOf (consistent (limitDegrees (primitive (combine (now (g .entry)) (now (h .entry))
+        (rowOf (rowAt (now (rows .entry)) at)) (rowOf (rowAt (now (rows .entry)) from))))))) ⌝ }
 {
-    if low_combination(place, g, h, target, pivot) {
+    let made = combine_parts(rows, at, from, g, h);
+    if made.beyond {
+        stores::rows::clear(rows, at, ROW);
         return 7;
     }
-    divide_by_content(place);
-    working_rows::limits::refusal(place)
+    let end = at + ROW;
+    let refusal = limit_row(&mut rows[at..end], made.content, made.within);
+    if refusal != 0 {
+        stores::rows::clear(rows, at, ROW);
+    }
+    refusal
 }

@@ -8,9 +8,10 @@
 --   combined-storable, shifted-storable   the new rows of rules 4 and 6
 --   full-worked             the working row of a new row is full
 --   row-room                row i of equations rows has room in a store for equations rows
---   saved-none, saved-same  a refusal stores nothing, and equal numbers the same
+--   saved-none              a refusal stores nothing
 --   saved-lent              a new row that was put in its place where it was lent
 --   saved-outcome, saved-within, saved-kept   what storing the new row does
+--   placed-outcome, placed-within, placed-kept   the same of a row that is made in its place, where a refusal leaves zeros
 use Prim.Native.Nat.{ℕ, zero, suc, _+_, _*_, _-_, _≤_, _<_}
 use native.Mathlib.Nat.{suc-mul, le-of-eq, not-suc-le-zero, mul-le-mul-right}
 use native.Mathlib.Omega.{arith}
@@ -20,10 +21,11 @@ use mathlib.Core.List.{List}
 use borrow.Rule.Slice.PartMut.{midOf, putMid, put-same}
 use lib.Dec.{lit<}
 use lib.IntN.{ℤ, pos}
-use lib.ListN.{length, take, set, length-replicate}
+use lib.ListN.{length, take, set, replicate, length-replicate}
 use lib.Seq.{paste, length-take-le}
 use Rattle.algebra.specs.Polynomials.{Polynomial}
-use Rattle.rules.specs.Limits.{coefficientCount, entriesLength, rowLength}
+use Rattle.lists.specs.Tests.{every}
+use Rattle.rules.specs.Limits.{coefficientCount, entriesLength, rowLength, small}
 use Rattle.rules.specs.Rows.{Row, coefficientsOf, contradicts, combine, primitive, cut, shiftUp, smallRow, lowDegrees}
 use Rattle.rules.specs.Elimination.{Limited, within, beyond, limitCoefficients, limitDegrees, consistent, going, putRow, putLimited}
 use Rattle.rules.specs.Stores.{rowOf, rowsOf, relationsOf, rowNeed, Shaped}
@@ -32,6 +34,7 @@ use Rattle.stores.specs.LentParts.{lent-back}
 use Rattle.working_rows.specs.Working.{leftPart, Full}
 use Rattle.working_rows.specs.Worked.{Held, refusalOf, numbersOf, numbersOr, workedRow}
 use Rattle.combinations.specs.Combination.{combined-held}
+use Rattle.combinations.specs.InPlace.{placed}
 use Rattle.working_rows.specs.Shifting.{shifted-held}
 use Rattle.reduction.specs.declared.step.Progress.{Progress}
 use Rattle.sides.specs.Lent.{Within, Kept}
@@ -112,13 +115,6 @@ unfolding saved
 saved-none store i zero numbers h = absurd (h refl)
 saved-none store i (suc n) numbers h = refl
 
--- The numbers matter only where there is no refusal.
-pub saved-same : (store : List ℤ) (i n : ℕ) (numbers others : List ℤ) → (n ≡ 0 → numbers ≡ others)
-    → saved store i n numbers ≡ saved store i n others
-unfolding saved
-saved-same store i zero numbers others e = ap (λ l. paste store (i * rowLength) l rowLength) (e refl)
-saved-same store i (suc n) numbers others e = refl
-
 -- The place of row i, lent and back with the new row in it or, with a refusal, as it was.
 pub saved-lent : (store : List ℤ) (i : ℕ) (x : Limited) → Storable x
     → putMid (i * rowLength) (i * rowLength + rowLength - i * rowLength) store
@@ -153,6 +149,30 @@ module _ (equations i : ℕ) (store : List ℤ) (w : Within (rowNeed equations) 
   saved-kept (beyond zero) h = absurd (not-suc-le-zero h)
   saved-kept (beyond (suc n)) h = kept-same (rowNeed equations) store
 
+  -- The new row made in its place.
+  abbrev made : Limited → List ℤ
+  made x = placed store (i * rowLength) (refusalOf x) (numbersOf x)
+
+  zeros-long : rowLength ≤ length (replicate rowLength (pos 0))
+  zeros-long = le-of-eq (sym (length-replicate rowLength (pos 0)))
+
+  pub placed-within : (x : Limited) → Storable x → Within (rowNeed equations) (made x)
+  unfolding Storable placed refusalOf numbersOf every small
+  placed-within (within r) h =
+      within-paste (rowNeed equations) store w (i * rowLength) (coefficientsOf r) rowLength (le-of-eq (sym (h .long))) row-room
+      (h .within-bound)
+  placed-within (beyond zero) h = absurd (not-suc-le-zero h)
+  placed-within (beyond (suc n)) h =
+      within-paste (rowNeed equations) store w (i * rowLength) (replicate rowLength (pos 0)) rowLength zeros-long row-room tt
+
+  pub placed-kept : (x : Limited) → Storable x → Kept (rowNeed equations) store (made x)
+  unfolding Storable placed refusalOf numbersOf
+  placed-kept (within r) h =
+      kept-paste (rowNeed equations) store w (i * rowLength) (coefficientsOf r) rowLength (le-of-eq (sym (h .long))) row-room
+  placed-kept (beyond zero) h = absurd (not-suc-le-zero h)
+  placed-kept (beyond (suc n)) h =
+      kept-paste (rowNeed equations) store w (i * rowLength) (replicate rowLength (pos 0)) rowLength zeros-long row-room
+
 pub saved-outcome : (p : Progress) (i : ℕ) (store relations : List ℤ) → Within (rowNeed (p .rows)) store → i < p .rows
     → (x : Limited) → Storable x
     → outcomeOf (refusalOf x) false (stateOf (saved store i (refusalOf x) (numbersOf x)) relations p)
@@ -163,3 +183,12 @@ saved-outcome p i store relations w inside (within r) h =
     (rowsOf-paste (p .rows) store (coefficientsOf r) i (h .long) (w .long) inside ∙ ap (set (rowsOf (p .rows) store) i) (h .numbers))
 saved-outcome p i store relations w inside (beyond zero) h = absurd (not-suc-le-zero h)
 saved-outcome p i store relations w inside (beyond (suc n)) h = refl
+
+pub placed-outcome : (p : Progress) (i : ℕ) (store relations : List ℤ) → Within (rowNeed (p .rows)) store → i < p .rows
+    → (x : Limited) → Storable x
+    → outcomeOf (refusalOf x) false (stateOf (placed store (i * rowLength) (refusalOf x) (numbersOf x)) relations p)
+    ≡ putLimited (stateOf store relations p) i x
+unfolding Storable saved placed refusalOf numbersOf outcomeOf putLimited
+placed-outcome p i store relations w inside (within r) h = saved-outcome p i store relations w inside (within r) h
+placed-outcome p i store relations w inside (beyond zero) h = absurd (not-suc-le-zero h)
+placed-outcome p i store relations w inside (beyond (suc n)) h = refl

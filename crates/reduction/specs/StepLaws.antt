@@ -13,11 +13,12 @@
 --   multipliers-in                   the multipliers of the state are those of the store
 --   combine-refused, combine-reached rules 3 and 4
 --   shift-reached                    rule 6
-use Prim.Native.Nat.{ℕ, suc, _+_, _-_, _≤_, _<_}
+use Prim.Native.Nat.{ℕ, suc, _+_, _*_, _-_, _≤_, _<_}
 use native.Mathlib.Nat.{le-refl}
 use native.Mathlib.Numerals.{add-one}
 use native.Mathlib.Omega.{arith}
 use mathlib.Core.Path.{_≡_, refl, sym, _∙_, ap, ap₂, subst, subst₂}
+use mathlib.Core.Bool.{false}
 use mathlib.Core.List.{List, _++_}
 use borrow.Author.Tests.{le-leb, lt-leb}
 use lib.IntN.{ℤ}
@@ -25,6 +26,7 @@ use lib.ListN.{length, take, getD, length-append, length-map}
 use lib.Seq.{getD-take}
 use Rattle.algebra.specs.Polynomials.{Polynomial}
 use Rattle.algebra.specs.Roots.{roots}
+use Rattle.rules.specs.Limits.{rowLength}
 use Rattle.rules.specs.Rows.{entry, combine, primitive, shiftUp}
 use Rattle.rules.specs.Stores.{rowOf, rowsOf, relationsOf, relationNeed, rowNeed}
 use Rattle.rules.specs.Elimination.{Side, State, Outcome, going, refused, dropRow, Limited, limitDegrees, consistent, rowAt, putLimited}
@@ -34,13 +36,15 @@ use Rattle.rules.specs.Layout.{length-relationsOf}
 use Rattle.working_rows.specs.Worked.{refusalOf, numbersOf}
 use Rattle.reduction.specs.declared.step.Progress.{Progress}
 use Rattle.reduction.specs.declared.step.Outcome as Answer
-use Rattle.sides.specs.Lent.{Kept}
+use Rattle.combinations.specs.InPlace.{placed}
+use Rattle.sides.specs.Lent.{Within, Kept}
 use Rattle.reduction.specs.Progress.{Ready, Reached, state, stateOf, outcomeOf, answerOf}
 use Rattle.reduction.specs.Progress.{droppedProgress, listedProgress, shiftedProgress, ready-with}
 use Rattle.sides.specs.StoreStates.{kept-same, kept-then}
 use Rattle.sides.specs.Relations.{Relisted, length-listing}
 use Rattle.reduction.specs.Dropping.{dropped, dropped-state, dropped-within, dropped-kept, dropped-freed, freed-none}
 use Rattle.reduction.specs.NewRows.{Storable, saved, saved-within, saved-kept, saved-outcome, shifted-storable}
+use Rattle.reduction.specs.NewRows.{placed-within, placed-kept, placed-outcome}
 use Rattle.reduction.specs.StoreExchange.{numbersAt, length-numbersAt, row-of}
 
 -- ---- what a step gives
@@ -82,22 +86,23 @@ refused-reached {rows} {relations} {p} r n =
       ready = r;
     }
 
--- The new row in the place of the row that is worked on, or the refusal, after relations have been listed.
-put-reached : {rows relations relations' : List ℤ} (p next : Progress) (x : Limited) → p .settled < next .rows → Storable x
+-- The new row in the place of the row that is worked on, or the refusal, after relations have been listed: `after` is what the row store
+-- holds then.
+put-reached : {rows relations after relations' : List ℤ} (p next : Progress) (x : Limited)
+    → outcomeOf (refusalOf x) false (stateOf after relations' next) ≡ putLimited (stateOf rows relations' next) (p .settled) x
+    → Within (rowNeed (next .rows)) after → Kept (rowNeed (next .rows)) rows after
     → Kept relationNeed relations relations' → Ready rows relations' next → next .shifts ≤ p .shifts + 1
-    → Reached (next .rows) rows relations (saved rows (p .settled) (refusalOf x) (numbersOf x)) relations' (p .shifts + 1)
+    → Reached (next .rows) rows relations after relations' (p .shifts + 1)
     (answerOf (refusalOf x) next) (putLimited (stateOf rows relations' next) (p .settled) x)
-put-reached {rows} {relations} {relations'} p next x b h k r s =
-    let n = next .rows in
-    let w = r .rows-within in
+put-reached {after = after} p next x e w stays k r s =
     record {
-      outcome = saved-outcome next (p .settled) rows relations' w b x h;
-      fewer = le-refl n;
-      freed = freed-none n (saved rows (p .settled) (refusalOf x) (numbersOf x));
-      rows-kept = saved-kept n (p .settled) rows w b x h;
+      outcome = e;
+      fewer = le-refl (next .rows);
+      freed = freed-none (next .rows) after;
+      rows-kept = stays;
       relations-kept = k;
       few-shifts = s;
-      ready = ready-with r (saved-within n (p .settled) rows w b x h) (r .listing);
+      ready = ready-with r w (r .listing);
     }
 
 -- ---- rule 1
@@ -203,11 +208,14 @@ module _ (side : Side) {rows relations : List ℤ} {p : Progress} (ready : Ready
           (ap₂ (λ a b. consistent (limitDegrees (primitive (combine (x .g) (x .h) a b)))) i-row j-row))
 
       pub combine-reached : p .count + more ≤ 16 → Storable new
-          → Reached (p .rows) rows relations (saved rows i (refusalOf new) (numbersOf new)) relations' (p .shifts + 1)
+          → Reached (p .rows) rows relations (placed rows (i * rowLength) (refusalOf new) (numbersOf new)) relations' (p .shifts + 1)
           (answerOf (refusalOf new) (listedProgress p more)) (combineStep side before i j x)
       combine-reached few h =
           let next = ready-with ready (ready .rows-within) (rw (length-listing side (roots (x .g))) at (l .listing)) in
-          reached-same refl refl (combine-listed few) (put-reached p (listedProgress p more) new inside h (l .kept) next (omega arith))
+          let w = ready .rows-within in
+          reached-same refl refl (combine-listed few)
+          (put-reached p (listedProgress p more) new (placed-outcome (listedProgress p more) i rows relations' w inside new h)
+          (placed-within (p .rows) i rows w inside new h) (placed-kept (p .rows) i rows w inside new h) (l .kept) next (omega arith))
 
 -- ---- rule 6
 
@@ -221,13 +229,17 @@ pub shift-reached : {rows relations : List ℤ} {p : Progress} → Ready rows re
 unfolding shiftStep countShift stateOf
 shift-reached {rows} {relations} {p} r inside =
     reached-same refl refl same
-    (put-reached p (shiftedProgress p) (shiftedRow (numbersAt rows i)) inside storable (kept-same relationNeed relations)
-    (ready-with r (r .rows-within) (r .listing)) (omega arith))
+    (put-reached p (shiftedProgress p) new (saved-outcome (shiftedProgress p) i rows relations (r .rows-within) inside new storable)
+    (saved-within (p .rows) i rows (r .rows-within) inside new storable) (saved-kept (p .rows) i rows (r .rows-within) inside new storable)
+    (kept-same relationNeed relations) (ready-with r (r .rows-within) (r .listing)) (omega arith))
   where
     i : ℕ
     i = p .settled
 
-    storable : Storable (shiftedRow (numbersAt rows i))
+    new : Limited
+    new = shiftedRow (numbersAt rows i)
+
+    storable : Storable new
     storable = shifted-storable (numbersAt rows i) (length-numbersAt (p .rows) rows (r .rows-within) i inside)
 
     withShifts : ℕ → State

@@ -75,19 +75,6 @@ pub fn put_limited(
     answer(0, next)
 }
 
-// The same of a new row that is there by its numbers.
-fn put_numbers(rows: &mut [i64], i: usize, refusal: u8, numbers: &[i64], next: Progress) -> Outcome
-    requires { ⌜ (i * rowLength + rowLength ≤ length (now rows)) × (length (now numbers) ≡ rowLength) ⌝ }
-    ensures { λ _. ⌜ now (rows .exit) ≡ saved (now (rows .entry)) i refusal (now (numbers .entry)) ⌝ }
-    ensures { λ r. ⌜ r ≡ answerOf refusal next ⌝ }
-{
-    if refusal != 0 {
-        return answer(refusal, next);
-    }
-    stores::rows::save(rows, i * ROW, numbers);
-    answer(0, next)
-}
-
 // The multipliers of rule 2, from the entries of both rows in column c, and the roots of g (SCOPE 2.23 to 2.28).
 pub fn multipliers_at(target: &[i64], pivot: &[i64], c: usize) -> common_roots::Amended
     requires { ⌜ (c < columnCount) × (entriesLength ≤ length (now target)) × (entriesLength ≤ length (now pivot)) ⌝ }
@@ -194,8 +181,7 @@ fn combine_step(
         return answer(9, p);
     }
     sides::listing::list_roots(relations, p.count, found, side, target);
-    let mut new = [0i64; ROW];
-    let refusal = combinations::put_combined_row(&mut new, &g[..], &h[..], target, pivot);
+    let refusal = combinations::combine_rows(rows, i * ROW, j * ROW, &g[..], &h[..]);
     let next = Progress {
         rows: p.rows,
         settled: i,
@@ -203,7 +189,7 @@ fn combine_step(
         count,
         shifts: p.shifts,
     };
-    put_numbers(rows, i, refusal, &new[..], next)
+    answer(refusal, next)
 }
 
 // Rule 2 for the row that is worked on and settled row j: if the settled row is the wider, the two change places first (SCOPE 2.22).

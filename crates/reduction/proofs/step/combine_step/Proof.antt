@@ -9,7 +9,7 @@ use native.Mathlib.Omega.{arith}
 use borrow.Author.Needs.{needs}
 use denote.Ref.{now}
 use lib.Dec.{T}
-use lib.IntN.{ℤ, pos}
+use lib.IntN.{ℤ}
 use lib.ListN.{length, getD, length-append, length-replicate}
 use Rattle.algebra.specs.Polynomials.{isZero}
 use Rattle.algebra.specs.Roots.{roots}
@@ -20,6 +20,7 @@ use Rattle.rules.specs.Stores.{rowOf}
 use Rattle.rules.specs.Elimination.{Side, Limited, limitDegrees, consistent, Multipliers, multipliers, multipliersAt, listing, combineStep}
 use Rattle.roots.specs.declared.RootList.{RootList}
 use Rattle.roots.specs.RootSearch.{listed, held, held-of, roots-few}
+use Rattle.combinations.specs.InPlace.{placed}
 use Rattle.working_rows.specs.Found.{Columns-at}
 use Rattle.working_rows.specs.Worked.{refusalOf, numbersOf}
 use Rattle.reduction.specs.declared.step.Progress.{Progress}
@@ -27,7 +28,7 @@ use Rattle.sides.specs.Lent.{sideOf}
 use Rattle.reduction.specs.Progress.{Ready, stateOf, answerOf, listedProgress}
 use Rattle.sides.specs.Relations.{Relisted}
 use Rattle.reduction.specs.MultiplierSizes.{Sixteen, multipliers-fit, roots-small}
-use Rattle.reduction.specs.NewRows.{Storable, saved, saved-same, row-room, combined-storable}
+use Rattle.reduction.specs.NewRows.{Storable, row-room, combined-storable}
 use Rattle.reduction.specs.StoreExchange.{numbersAt, length-numbersAt, small-numbersAt, length-entry, small-entry}
 use Rattle.reduction.specs.StepLaws.{multipliersIn, newRow, multipliers-in, combine-refused, combine-reached}
 use Rattle.reduction.specs.StepLaws.{refused-reached, reached-same}
@@ -178,7 +179,7 @@ module _ (c : tie.After-found) where
   held-is = held-of (roots (x base .g)) found-is
 
 -- the relations, and the new row
-module _ (c : tie.After-put-combined-row) where
+module _ (c : tie.After-combine-rows) where
   abbrev listing-call : tie.After-list-roots
   listing-call = c .before .before .before .before .before
 
@@ -196,23 +197,19 @@ module _ (c : tie.After-put-combined-row) where
       subst₂ (λ t l. Relisted (p origin .count) t (listing (side origin) l) (relations origin) after)
       (target-is (multiplied rooted)) (held-is rooted) (listing-call .list-roots .ensures)
 
-  -- the code's multipliers and rows are those of the definition
+  -- the code's multipliers are those of the definition
   new-is : consistent (limitDegrees (primitive (combine (multiplied rooted .multipliers-at .result .g)
-      (multiplied rooted .multipliers-at .result .h)
-      (rowOf (now (multiplied rooted .before .before .row-at .result))) (rowOf (now (multiplied rooted .before .row-at2 .result))))))
+      (multiplied rooted .multipliers-at .result .h) (rowOf (target origin)) (rowOf (pivot origin)))))
       ≡ new origin
   new-is =
-      λ k. consistent (limitDegrees (primitive (combine (g-is (multiplied rooted) k) (h-is (multiplied rooted) k)
-      (rowOf (target-is (multiplied rooted) k)) (rowOf (pivot-is (multiplied rooted) k)))))
+      ap₂ (λ g h. consistent (limitDegrees (primitive (combine g h (rowOf (target origin)) (rowOf (pivot origin))))))
+      (g-is (multiplied rooted)) (h-is (multiplied rooted))
 
-  refusal-is : c .put-combined-row .result ≡ refusalOf (new origin)
-  refusal-is = c .put-combined-row .ensures .0 ∙ ap refusalOf new-is
+  refusal-is : c .combine-rows .result ≡ refusalOf (new origin)
+  refusal-is = c .combine-rows .ensures .0 ∙ ap refusalOf new-is
 
-  numbers-are : c .put-combined-row .result ≡ 0 → c .put-combined-row .last .0 ≡ numbersOf (new origin)
-  numbers-are z = c .put-combined-row .ensures .1 z ∙ ap numbersOf new-is
-
-  numbers-long : length (c .put-combined-row .last .0) ≡ rowLength
-  numbers-long = c .put-combined-row .kept .0 ∙ length-replicate rowLength (pos 0)
+  rows-are : c .combine-rows .last .0 ≡ placed (rows origin) (i origin * rowLength) (refusalOf (new origin)) (numbersOf (new origin))
+  rows-are = c .combine-rows .ensures .1 ∙ ap₂ (λ n x. placed (rows origin) (i origin * rowLength) n (numbersOf x)) refusal-is new-is
 
 mul-c : tie.Need-mul-c
 mul-c c = search needs
@@ -276,39 +273,30 @@ list-roots-requires c κs =
       (subst Small (sym (held-is e)) (roots-small (x b .g) (fits b .0 .1)), row, t .1),
     )
 
-slice-aggregate-put-combined-row : tie.Need-slice-aggregate-put-combined-row
-slice-aggregate-put-combined-row c = search needs
+mul-combine-rows : tie.Need-mul-combine-rows
+mul-combine-rows c = search needs
 
-slice-aggregate-put-combined-row-2 : tie.Need-slice-aggregate-put-combined-row-2
-slice-aggregate-put-combined-row-2 c =
-    let e = multiplied (c .before .before .before .before .before .before .before .before) in
-    sym (ap length (g-is e) ∙ fits (start e) .0 .0)
+mul-combine-rows-2 : tie.Need-mul-combine-rows-2
+mul-combine-rows-2 c = search needs
 
-slice-aggregate-put-combined-row-3 : tie.Need-slice-aggregate-put-combined-row-3
-slice-aggregate-put-combined-row-3 c =
-    let e = multiplied (c .before .before .before .before .before .before .before .before .before) in
-    sym (ap length (h-is e) ∙ fits (start e) .1 .0)
+slice-aggregate-combine-rows : tie.Need-slice-aggregate-combine-rows
+slice-aggregate-combine-rows c = search needs
 
-put-combined-row-requires : tie.Need-put-combined-row-requires
-put-combined-row-requires c κs =
+slice-aggregate-combine-rows-2 : tie.Need-slice-aggregate-combine-rows-2
+slice-aggregate-combine-rows-2 c = search needs
+
+combine-rows-requires : tie.Need-combine-rows-requires
+combine-rows-requires c κs =
     let e = multiplied (c .before .before .before .before .before .before .before .before .before) in
     let b = start e in
-    let t = e .before .before .row-at .ensures in
-    let q = e .before .row-at2 .ensures in
     let g-fits = subst Sixteen (sym (g-is e)) (fits b .0) in
     let h-fits = subst Sixteen (sym (h-is e)) (fits b .1) in (
       (g-fits .0, g-fits .1, h-fits .0, h-fits .1),
-      (t .1, q .1, subst Small (sym (t .0)) (target-small b), subst Small (sym (q .0)) (pivot-small b), refl),
+      (omega (arith, settled b), room b (i b) (inside b), target-small b, pivot-small b),
     )
 
-slice-aggregate-put-numbers : tie.Need-slice-aggregate-put-numbers
-slice-aggregate-put-numbers c = sym (numbers-long (c .before .before .before))
-
-put-numbers-requires : tie.Need-put-numbers-requires
-put-numbers-requires c κs =
-    let d = c .before .before .before in
-    let b = origin d in
-    (room b (i b) (inside b), numbers-long d)
+answer-requires-2 : tie.Need-answer-requires-2
+answer-requires-2 c κs = search needs
 
 same-length-2 : tie.Need-same-length-2
 same-length-2 c = search needs
@@ -318,19 +306,15 @@ same-length-3 c = search needs
 
 returns-2 : tie.Need-returns-2
 returns-2 c =
-    let d = c .before .before .before .before .before in
+    let d = c .before .before in
     let b = origin d in
-    let put = c .before .put-numbers .ensures in
-    let made = d .put-combined-row in
     let passed = listing-call d .before .before .if1 .left in
     let room : p b .count + length (roots (x b .g)) ≤ 16 = omega (arith, count-is (rooted d), passed) in (
-      reached-same
-          (put .0 ∙ saved-same (rows b) (i b) (made .result) (made .last .0) (numbersOf (new b)) (numbers-are d)
-          ∙ ap (λ n. saved (rows b) (i b) n (numbersOf (new b))) (refusal-is d))
-          (put .1 ∙ ap₂ (λ n k. answerOf n (listedProgress (p b) k)) (refusal-is d) (count-is (rooted d)))
+      reached-same (rows-are d)
+          (c .answer2 .ensures ∙ ap₂ (λ n k. answerOf n (listedProgress (p b) k)) (refusal-is d) (count-is (rooted d)))
           (combine-is b)
           (combine-reached (side b) (ready b) (j b) (inside b) (settled b) (x b) (relisted d) room (storable b)),
-      ap (λ o. o .done) (put .1),
+      ap (λ o. o .done) (c .answer2 .ensures),
     )
 
 pub combine-step-spec : {M : Type 1} → statement M
@@ -349,12 +333,12 @@ combine-step-spec =
     same-length
     returns
     list-roots-requires
-    slice-aggregate-put-combined-row
-    slice-aggregate-put-combined-row-2
-    slice-aggregate-put-combined-row-3
-    put-combined-row-requires
-    slice-aggregate-put-numbers
-    put-numbers-requires
+    mul-combine-rows
+    mul-combine-rows-2
+    slice-aggregate-combine-rows
+    slice-aggregate-combine-rows-2
+    combine-rows-requires
+    answer-requires-2
     same-length-2
     same-length-3
     returns-2)
