@@ -17,7 +17,7 @@ use Rattle.algebra.specs.Coefficients.{coeff-drop, coeff-past-degree}
 use Rattle.algebra.specs.Gcd.{divideBy}
 use Rattle.algebra.specs.Polynomials.{Polynomial, isZero, coeff-isZero}
 use Rattle.polynomials.specs.Content.{degree-below}
-use Rattle.polynomials.specs.Product.{below-part}
+use Rattle.products.specs.Product.{below-part}
 use Rattle.combinations.specs.Primitive.{divided-zeros, divided-front}
 use borrow.Author.Needs.{needs}
 use Rattle.combinations.proofs.divide_part.Statement.{statement}

@@ -15,7 +15,7 @@ use mir.Val.{toZ, ofZ}
 use mir.Facts.{toZ-ofZ}
 use Rattle.algebra.specs.Gcd.{divideBy}
 use Rattle.polynomials.specs.Content.{Below}
-use Rattle.polynomials.specs.Product.{below-part}
+use Rattle.products.specs.Product.{below-part}
 use Rattle.rules.specs.Limits.{coefficientCount}
 use Rattle.stores.specs.Flat.{partCount}
 use Rattle.combinations.specs.Primitive.{dividedTo, divided-rest, divided-next, divided-whole}
