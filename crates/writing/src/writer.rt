@@ -363,13 +363,13 @@ fn put_order(bytes: &mut [u8], at: usize, order: &[usize]) -> usize
 }
 
 fn put_sizes(bytes: &mut [u8], at: usize, m: usize, l: i64, t: i64) -> usize
-    requires { ⌜ (at + sizesRoom < 2 ^ 64) × T (small l) × T (small t) ⌝ }
+    requires { ⌜ (at + sizesRoom < 2 ^ 64) × (natAbs l ≤ blockBound) × (natAbs t ≤ blockBound) ⌝ }
     ensures { λ r. ⌜ Put (now (bytes .entry)) at (line (pos 3 ∷ pos m ∷ l ∷ t ∷ [])) sizesBytes (now (bytes .exit)) r ⌝ }
 {
     let after_form = number_texts::put_byte(bytes, at, 51);
     let after_m = number_texts::put_next_count(bytes, after_form, m);
-    let after_l = number_texts::put_next(bytes, after_m, l);
-    let after_t = number_texts::put_next(bytes, after_l, t);
+    let after_l = number_texts::put_next_short(bytes, after_m, l);
+    let after_t = number_texts::put_next_short(bytes, after_l, t);
     number_texts::put_byte(bytes, after_t, 10)
 }
 

@@ -19,7 +19,6 @@ use Rattle.rules.specs.Stores.{span, equations, rowsOf, relationsOf}
 use Rattle.stores.specs.Validity.{sizesOf}
 use Rattle.number_texts.specs.Runs.{Put, put-same, put-then, put-few, put-wide, put-length}
 use Rattle.number_texts.specs.TextBytes.{countBytes}
-use Rattle.number_texts.specs.Texts.{small-pair}
 use Rattle.writing.specs.LineLengths.{linesLength}
 use Rattle.writing.specs.SheetBytes.{sizesBytes, equationBytes, relationBytes, orderBytes}
 use Rattle.writing.specs.Writer.{UnusedParts, sidesGiven, sheet-bytes}
@@ -128,8 +127,8 @@ put-sizes-requires c κs =
     let told = c .before .before in
     let ready = start told .pre .0 .0 in (
       search needs,
-      rw (back-l told) (small-pair (l told) (omega (arith, ready .blocks))),
-      rw (back-t told) (small-pair (t told) (omega (arith, ready .low))),
+      rw (back-l told) (ready .blocks),
+      rw (back-t told) (ready .low),
     )
 
 put-count-requires : tie.Need-put-count-requires

@@ -3,6 +3,7 @@
 use mathlib.Core.Path.{_∙_, ap₂}
 use mathlib.Core.List.{List, [], _∷_, _++_}
 use Prim.Native.Nat.{ℕ}
+use native.Mathlib.Omega.{arith}
 use lib.IntN.{ℤ, pos}
 use mir.Facts.{toZ-ofZ}
 use Rattle.rules.specs.Numbers.{newline}
@@ -19,15 +20,15 @@ put-byte-requires c κs = search needs
 put-next-count-requires : tie.Need-put-next-count-requires
 put-next-count-requires c κs = search needs
 
-put-next-requires : tie.Need-put-next-requires
-put-next-requires c κs =
+put-next-short-requires : tie.Need-put-next-short-requires
+put-next-short-requires c κs =
     let start = c .before .before .before .before .before .before .before .before .before .before in
-    (rw (toZ-ofZ (start .fits .l)) (start .pre .1), search needs)
+    (rw (toZ-ofZ (start .fits .l)) (omega (arith, start .pre .1)), search needs)
 
-put-next-requires-2 : tie.Need-put-next-requires-2
-put-next-requires-2 c κs =
+put-next-short-requires-2 : tie.Need-put-next-short-requires-2
+put-next-short-requires-2 c κs =
     let start = c .before .before .before .before .before .before .before .before .before .before .before .before .before .before in
-    (rw (toZ-ofZ (start .fits .t)) (start .pre .2), search needs)
+    (rw (toZ-ofZ (start .fits .t)) (omega (arith, start .pre .2)), search needs)
 
 put-byte-requires-2 : tie.Need-put-byte-requires-2
 put-byte-requires-2 c κs = search needs
@@ -48,7 +49,7 @@ returns c =
     (put-then
     (put-then (after-form .put-byte .ensures)
     (spaced-then (pos m ∷ []) (_ ∷ _ ∷ []) (after-m .put-next-count .ensures)
-    (spaced-then (_ ∷ []) (_ ∷ []) (after-l .put-next .ensures) (after-t .put-next2 .ensures))))
+    (spaced-then (_ ∷ []) (_ ∷ []) (after-l .put-next-short .ensures) (after-t .put-next-short2 .ensures))))
     (c .before .before .put-byte2 .ensures))
     (ap₂ bytes (toZ-ofZ (start .fits .l)) (toZ-ofZ (start .fits .t)) ∙ sizes-line m (start .args .l) (start .args .t))
 
@@ -58,8 +59,8 @@ put-sizes-spec =
     (tie.spec
     put-byte-requires
     put-next-count-requires
-    put-next-requires
-    put-next-requires-2
+    put-next-short-requires
+    put-next-short-requires-2
     put-byte-requires-2
     same-length
     returns)
