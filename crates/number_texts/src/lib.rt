@@ -209,10 +209,10 @@ fn put_size(bytes: &mut [u8], at: usize, start: usize, n: u64) -> usize
     requires { ⌜ (n ≤ bound) × (at < start) × (start + 9 ≤ length (now bytes)) ⌝ }
     ensures { λ r. ⌜ (r ≡ start + length (digitsOf n)) × Ends (now (bytes .entry)) at r n (now (bytes .exit)) ⌝ }
 {
-    if n < 100 {
-        return put_short(bytes, start, n);
-    }
     if n < 10000 {
+        if n < 100 {
+            return put_short(bytes, start, n);
+        }
         return put_middle(bytes, start, n);
     }
     let end = start + few_digits(n);

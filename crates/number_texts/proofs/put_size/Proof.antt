@@ -17,7 +17,7 @@ same-length c = search needs
 returns : tie.Need-returns
 returns c =
     let stored = c .before .before .put-short in
-    (stored .ensures .0, stored .ensures .1 (c .before .before .before .before .before .before .args .at))
+    (stored .ensures .0, stored .ensures .1 (c .before .before .before .before .before .before .before .args .at))
 
 put-middle-requires : tie.Need-put-middle-requires
 put-middle-requires c κs = search needs
@@ -36,7 +36,7 @@ few-digits-requires c κs = search needs
 -- the number of digits
 module _ (c : tie.After-few-digits) where
   abbrev begin : tie.Start
-  begin = c .before .before .before .before
+  begin = c .before .before .before
 
   few : length (digitsOf (begin .args .n)) ≤ 9
   few = nine-digits (begin .args .n) (begin .pre .0)
