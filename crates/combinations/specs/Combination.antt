@@ -3,11 +3,14 @@
 -- Main definitions
 --   combinations, lowNumbers   the combinations of the polynomials of two lists of numbers, and the numbers of their low parts
 --   Trimmed            the trimmed multipliers and the trimmed parts of two lists at one place
+--   few                most polynomials have no more coefficients
+--   allShort           four factors have as many
 --   trim p             the coefficients of p up to the highest nonzero one
 --   Shortened r p      r is a front of p with only zeros behind it
 --   lowPart p          the first 16 coefficients
 --
 -- Main statements
+--   short-lengths      how long these are
 --   combined-same      factors with the same coefficients have a combination with the same coefficients
 --   shortened-trim, shortened-front, shortened-fits   what is shortened, and that it stays within the limits
 --   lowPart-at, lowPart-take    coefficient k of the low part; the low part is the front where there are 16 coefficients
@@ -23,13 +26,13 @@
 --   numbers-below      the numbers of the low parts are in the range of an i64
 use mathlib.Core.Path.{_≡_, refl, sym, _∙_, ap, ap₂, subst, fun-ext}
 use mathlib.Core.Logic.{_↔_, _≢_}
-use mathlib.Core.Bool.{true, false, _&&_}
+use mathlib.Core.Bool.{Bool, true, false, _&&_}
 use mathlib.Core.List.{List, [], _∷_, _++_, map, flatten, zipWith, append-nil}
 use Prim.Native.Nat.{ℕ, zero, suc, _+_, _*_, _-_, _^_, _≤_, _<_, max}
 use native.Mathlib.Nat.{not-suc-le-zero, zero-add}
 use native.Mathlib.Omega.{arith}
 use native.Mathlib.Decide.{decLe, decLt}
-use lib.Dec.{T, lit<}
+use lib.Dec.{T, lit<, eqb, eqb→eq}
 use lib.IntN.{ℤ, pos, natAbs, _+ℤ_, _*ℤ_}
 use lib.ListN.{length, take, drop, getD, length-take, length-drop, length-map}
 use lib.Seq.{ext-getD, getD-take, length-take-le}
@@ -70,6 +73,21 @@ mul-same g g′ p p′ s t k =
 
 add-same : (p p′ q q′ : Polynomial) → Same p p′ → Same q q′ → Same (add p q) (add p′ q′)
 add-same p p′ q q′ s t k = coeff-add p q k ∙ ap₂ _+ℤ_ (s k) (t k) ∙ sym (coeff-add p′ q′ k)
+
+abbrev pub few : ℕ
+few = 4
+
+unfoldable pub allShort : Polynomial → Polynomial → Polynomial → Polynomial → Bool
+allShort g p h q = eqb (length g) few && (eqb (length p) few && (eqb (length h) few && eqb (length q) few))
+
+pub short-lengths : (g p h q : Polynomial) → T (allShort g p h q)
+    → (length g ≡ few) × (length p ≡ few) × (length h ≡ few) × (length q ≡ few)
+unfolding allShort
+short-lengths g p h q t =
+    let first = T-&& (eqb (length g) few) _ .0 t in
+    let second = T-&& (eqb (length p) few) _ .0 (first .1) in
+    let third = T-&& (eqb (length h) few) _ .0 (second .1) in
+    (eqb→eq (length g) few (first .0), eqb→eq (length p) few (second .0), eqb→eq (length h) few (third .0), eqb→eq (length q) few (third .1))
 
 unfoldable pub trim : Polynomial → Polynomial
 trim p = take (degree p + 1) p
@@ -415,12 +433,12 @@ module _ (g h : Polynomial) (t u : List ℤ) where
 
 -- ---- the polynomial at place e, made of trimmed parts
 
--- Multipliers g and h, trimmed, and the parts of t and u at place e of k, shortened; n is the width of a part as the code computes it.
+-- Multipliers g and h, and the parts of t and u at place e of k, all shortened; n is the width of a part as the code computes it.
 pub record Trimmed (k : ℕ) (g h : Polynomial) (t u : List ℤ) (e n : ℕ) (a p b q : Polynomial) : Type 0 where
   pub below : e < k
   pub width : n ≡ coefficientCount
-  pub at-g : a ≡ trim g
-  pub at-h : b ≡ trim h
+  pub at-g : Shortened a g
+  pub at-h : Shortened b h
   pub at-t : Shortened p (take n (drop (e * coefficientCount) t))
   pub at-u : Shortened q (take n (drop (e * coefficientCount) u))
 
@@ -428,8 +446,7 @@ module _ {k : ℕ} {g h : Polynomial} {t u : List ℤ} {e n : ℕ} {a p b q : Po
   trimmed-same : Same (add (mul a p) (mul b q)) (entryAt k g h t u e)
   trimmed-same i =
       combined-same a g p (take n (drop (e * coefficientCount) t)) b h q (take n (drop (e * coefficientCount) u))
-      (λ k. ap (λ s. coeff s k) (made .at-g) ∙ coeff-trim g k) (made .at-t .same)
-      (λ k. ap (λ s. coeff s k) (made .at-h) ∙ coeff-trim h k) (made .at-u .same) i
+      (made .at-g .same) (made .at-t .same) (made .at-h .same) (made .at-u .same) i
       ∙ ap (λ m. coeff (add (mul g (take m (drop (e * coefficientCount) t))) (mul h (take m (drop (e * coefficientCount) u)))) i)
       (made .width)
 
@@ -454,8 +471,8 @@ module _ {k : ℕ} {g h : Polynomial} {t u : List ℤ} {e n : ℕ} {a p b q : Po
         rw (length-take, length-drop) (omega (arith, made .width)),
         every-part small (e * coefficientCount) n v s,
       ) in (
-        shortened-fits a g (shortened-trim g a (omega arith) (made .at-g)) (omega arith, omega arith, m .1),
+        shortened-fits a g (made .at-g) (omega arith, omega arith, m .1),
         shortened-fits p _ (made .at-t) (part t (l .0) (r .0)),
-        shortened-fits b h (shortened-trim h b (omega arith) (made .at-h)) (omega arith, omega arith, m .3),
+        shortened-fits b h (made .at-h) (omega arith, omega arith, m .3),
         shortened-fits q _ (made .at-u) (part u (l .1) (r .1)),
       )

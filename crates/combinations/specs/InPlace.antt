@@ -35,7 +35,7 @@ use Rattle.rules.specs.Layout.{coefficientsAt}
 use Rattle.stores.specs.Flat.{partCount}
 use Rattle.combinations.specs.declared.Made.{Made}
 use Rattle.combinations.specs.Primitive.{isLow}
-use Rattle.combinations.specs.Combination.{trim, lowPart, length-lowPart, lowPart-zero, combinations, lowNumbers, length-low}
+use Rattle.combinations.specs.Combination.{lowPart, length-lowPart, lowPart-zero, combinations, lowNumbers, length-low}
 use Rattle.combinations.specs.Combination.{combined-same, high-zero, Counted, Shortened, Trimmed, trimmed-high, trimmed-low, trimmed-fit}
 
 abbrev pub partAt : List ℤ → ℕ → List ℤ
@@ -203,8 +203,8 @@ module _ (g h : Polynomial) (store : List ℤ) (at from : ℕ) (before : from + 
     pivot-some : 0 < length (coefficientsAt pivot e)
     pivot-some = rw (length-take, length-drop, length-take, length-drop) (omega arith)
 
-    -- a and b are the trimmed multipliers
-    module _ (a b : Polynomial) (at-g : a ≡ trim g) (at-h : b ≡ trim h) where
+    -- a and b are the shortened multipliers
+    module _ (a b : Polynomial) (at-g : Shortened a g) (at-h : Shortened b h) where
       trimmed : Trimmed partCount g h target pivot e coefficientCount a (coefficientsAt target e) b (coefficientsAt pivot e)
       trimmed = record {
         below = inside;

@@ -17,7 +17,7 @@ ghost use Rattle.rules.specs.Stores.{rowOf};
 ghost use Rattle.rules.specs.Elimination.{limitCoefficients, limitDegrees, consistent};
 ghost use Rattle.stores.specs.Flat.{partCount};
 ghost use Rattle.working_rows.specs.Worked.{refusalOf, numbersOf};
-ghost use Rattle.combinations.specs.Combination.{trim, Shortened, lowPart, combinations, lowNumbers, Counted, highest};
+ghost use Rattle.combinations.specs.Combination.{few, allShort, trim, Shortened, lowPart, combinations, lowNumbers, Counted, highest};
 ghost use Rattle.combinations.specs.Primitive.{isLow, primitiveNumbers};
 ghost use Rattle.combinations.specs.InPlace.{partAt, rowAt, sumAt, withPart, placed, PartMade, RowMade};
 ghost use Rattle.polynomials.specs.Content.{Below};
@@ -131,6 +131,48 @@ fn put_low(place: &mut [i64], g: &[i64], p: &[i64], h: &[i64], q: &[i64]) -> boo
     false
 }
 
+// Has each of the four factors four coefficients?
+fn all_short(g: &[i64], p: &[i64], h: &[i64], q: &[i64]) -> bool
+    ensures { λ r. ⌜ r ≡ allShort (now (g .entry)) (now (p .entry)) (now (h .entry)) (now (q .entry)) ⌝ }
+{
+    if g.len() != SHORT {
+        return false;
+    }
+    if p.len() != SHORT {
+        return false;
+    }
+    if h.len() != SHORT {
+        return false;
+    }
+    q.len() == SHORT
+}
+
+// The coefficients of g·p + h·q where each has four: no length has to be foretold, and past power 6 there are zeros.
+fn short_sums(g: &[i64], p: &[i64], h: &[i64], q: &[i64]) -> [i64; COEFFICIENTS]
+    requires { ⌜ Counted (now g) × Counted (now p) × Counted (now h) × Counted (now q) ⌝ }
+    requires { ⌜ (length (now g) ≡ few) × (length (now p) ≡ few) × (length (now h) ≡ few) × (length (now q) ≡ few) ⌝ }
+    ensures { λ r. ⌜ r ≡ lowPart (add (mul (now (g .entry)) (now (p .entry))) (mul (now (h .entry)) (now (q .entry)))) ⌝ }
+{
+    [
+        products::combined_coefficient(g, p, h, q, 0),
+        products::combined_coefficient(g, p, h, q, 1),
+        products::combined_coefficient(g, p, h, q, 2),
+        products::combined_coefficient(g, p, h, q, 3),
+        products::combined_coefficient(g, p, h, q, 4),
+        products::combined_coefficient(g, p, h, q, 5),
+        products::combined_coefficient(g, p, h, q, 6),
+        0,
+        0,
+        0,
+        0,
+        0,
+        0,
+        0,
+        0,
+        0,
+    ]
+}
+
 // The low coefficients of the combinations of the polynomials of two lists of numbers, over zeros, up to the first whose degree is past 15:
 // is there one? Nothing is done for polynomials that are zero in both.
 pub fn low_combination(
@@ -185,16 +227,17 @@ fn combine_part(rows: &mut [i64], a: usize, b: usize, g: &[i64], h: &[i64]) -> b
     ensures { λ r. ⌜ now (rows .exit) ≡ cond r (now (rows .entry))
         (withPart (now (rows .entry)) a (lowPart (sumAt (now (g .entry)) (now (h .entry)) (now (rows .entry)) a b))) ⌝ }
 {
-    let mut place = [0i64; COEFFICIENTS];
     let end = a + COEFFICIENTS;
     let last = b + COEFFICIENTS;
-    if put_low(
-        &mut place,
-        g,
-        shortened(&rows[a..end]),
-        h,
-        shortened(&rows[b..last]),
-    ) {
+    let p = shortened(&rows[a..end]);
+    let q = shortened(&rows[b..last]);
+    if all_short(g, p, h, q) {
+        let sums = short_sums(g, p, h, q);
+        stores::rows::save(rows, a, &sums[..]);
+        return false;
+    }
+    let mut place = [0i64; COEFFICIENTS];
+    if put_low(&mut place, g, p, h, q) {
         return true;
     }
     stores::rows::save(rows, a, &place[..]);
@@ -261,8 +304,8 @@ fn combine_parts(rows: &mut [i64], at: usize, from: usize, g: &[i64], h: &[i64])
     ensures { λ r. ⌜ RowMade (combinations partCount (now (g .entry)) (now (h .entry)) (rowAt (now (rows .entry)) at)
         (rowAt (now (rows .entry)) from)) at (now (rows .entry)) (now (rows .exit)) r ⌝ }
 {
-    let a = trimmed(g);
-    let b = trimmed(h);
+    let a = shortened(g);
+    let b = shortened(h);
     let mut d = 0;
     let mut within = true;
     let mut e = 0;

@@ -11,10 +11,10 @@ use lib.IntN.{ℤ, pos}
 use lib.ListN.{length, take, drop, length-replicate, length-drop}
 use lib.Seq.{paste, length-take-le}
 use Rattle.algebra.specs.Polynomials.{Polynomial, add, mul}
-use Rattle.lists.specs.Tests.{every}
+use Rattle.lists.specs.Tests.{true-T, every}
 use Rattle.rules.specs.Limits.{small, coefficientCount}
 use Rattle.combinations.specs.Primitive.{isLow}
-use Rattle.combinations.specs.Combination.{Counted, Shortened, shortened-fits, lowPart, lowPart-same, high-same}
+use Rattle.combinations.specs.Combination.{Counted, Shortened, short-lengths, shortened-fits, lowPart, length-lowPart, lowPart-same, high-same, high-free}
 use Rattle.combinations.specs.InPlace.{partAt, sumAt, sum-shortened}
 use borrow.Author.Needs.{needs}
 use Rattle.combinations.proofs.combine_part.Statement.{statement}
@@ -28,7 +28,7 @@ counted l a room s =
 -- the shortened polynomials
 module _ (c : tie.After-shortened2) where
   abbrev start : tie.Start
-  start = c .before .before .before .before .before .before
+  start = c .before .before .before .before .before
 
   abbrev rows : List ℤ
   rows = now (start .args .rows)
@@ -79,9 +79,6 @@ add-end c = search needs
 add-last : tie.Need-add-last
 add-last c = search needs
 
-slice-aggregate-put-low : tie.Need-slice-aggregate-put-low
-slice-aggregate-put-low c = search needs
-
 mul-shortened : tie.Need-mul-shortened
 mul-shortened c = search needs
 
@@ -112,25 +109,24 @@ part-shortened-end-2 c = search needs
 shortened-requires-2 : tie.Need-shortened-requires-2
 shortened-requires-2 c κs = search needs
 
-put-low-requires : tie.Need-put-low-requires
-put-low-requires c κs =
+-- what the calls below ask of the factors
+factors : (c : tie.After-shortened2) → Counted (g c) × Counted (p c) × Counted (h c) × Counted (q c)
+factors c =
     let s = start c in (
-      refl,
-      (
-        s .pre .1 .2,
-        shortened-fits (p c) (partAt (rows c) (a c)) (first c) (counted (rows c) (a c) (s .pre .0 .0) (s .pre .1 .0)),
-        s .pre .1 .3,
-        shortened-fits (q c) (partAt (rows c) (b c)) (second c) (counted (rows c) (b c) (s .pre .0 .1) (s .pre .1 .1)),
-      ),
+      s .pre .1 .2,
+      shortened-fits (p c) (partAt (rows c) (a c)) (first c) (counted (rows c) (a c) (s .pre .0 .0) (s .pre .1 .0)),
+      s .pre .1 .3,
+      shortened-fits (q c) (partAt (rows c) (b c)) (second c) (counted (rows c) (b c) (s .pre .0 .1) (s .pre .1 .1)),
     )
 
-same-length : tie.Need-same-length
-same-length c = search needs
+all-short-requires : tie.Need-all-short-requires
+all-short-requires c κs = search needs
 
-returns : tie.Need-returns
-returns c =
-    let d = c .before .before in
-    (sym (c .if1 .taken) ∙ d .put-low .ensures .0 ∙ ap not (high-is (d .before)), refl)
+short-sums-requires : tie.Need-short-sums-requires
+short-sums-requires c κs =
+    let tested = c .before in
+    let s = tested .before in
+    (factors s, short-lengths (g s) (p s) (h s) (q s) (true-T _ (sym (tested .all-short .ensures) ∙ c .if1 .taken)))
 
 slice-aggregate-save : tie.Need-slice-aggregate-save
 slice-aggregate-save c = search needs
@@ -138,17 +134,52 @@ slice-aggregate-save c = search needs
 save-requires : tie.Need-save-requires
 save-requires c κs = search needs
 
+same-length : tie.Need-same-length
+same-length c = search needs
+
+returns : tie.Need-returns
+returns c =
+    let made = c .before .before .before .before in
+    let tested = made .before .before in
+    let s = tested .before in
+    let lengths = short-lengths (g s) (p s) (h s) (q s) (true-T _ (sym (tested .all-short .ensures) ∙ made .before .if1 .taken)) in (
+      ap not (sym (high-free (g s) (p s) (h s) (q s) (factors s) coefficientCount (omega (arith, lengths)) (λ j below above. absurd (omega arith)))
+          ∙ high-is s),
+      c .before .save .ensures
+          ∙ ap₂ (paste (rows s) (a s)) (made .short-sums .ensures ∙ low-is s) (ap length (made .short-sums .ensures) ∙ length-lowPart (short s)),
+    )
+
+slice-aggregate-put-low : tie.Need-slice-aggregate-put-low
+slice-aggregate-put-low c = search needs
+
+put-low-requires : tie.Need-put-low-requires
+put-low-requires c κs = (refl, factors (c .before .before .before))
+
 same-length-2 : tie.Need-same-length-2
 same-length-2 c = search needs
 
 returns-2 : tie.Need-returns-2
 returns-2 c =
+    let d = c .before .before in
+    (sym (c .if2 .taken) ∙ d .put-low .ensures .0 ∙ ap not (high-is (d .before .before .before .before)), refl)
+
+slice-aggregate-save-2 : tie.Need-slice-aggregate-save-2
+slice-aggregate-save-2 c = search needs
+
+save-requires-2 : tie.Need-save-requires-2
+save-requires-2 c κs = search needs
+
+same-length-3 : tie.Need-same-length-3
+same-length-3 c = search needs
+
+returns-3 : tie.Need-returns-3
+returns-3 c =
     let passed = c .before .before .before .before in
     let d = passed .before .before in
-    let s = d .before in (
-      sym (passed .if1 .left) ∙ d .put-low .ensures .0 ∙ ap not (high-is s),
-      c .before .save .ensures
-          ∙ ap₂ (paste (rows s) (a s)) (d .put-low .ensures .1 (passed .if1 .left) ∙ low-is s)
+    let s = d .before .before .before .before in (
+      sym (passed .if2 .left) ∙ d .put-low .ensures .0 ∙ ap not (high-is s),
+      c .before .save2 .ensures
+          ∙ ap₂ (paste (rows s) (a s)) (d .put-low .ensures .1 (passed .if2 .left) ∙ low-is s)
           (d .put-low .kept .0 ∙ length-replicate coefficientCount (pos 0)),
     )
 
@@ -158,7 +189,6 @@ combine-part-spec =
     (tie.spec
     add-end
     add-last
-    slice-aggregate-put-low
     mul-shortened
     sub-shortened
     part-shortened-start
@@ -169,10 +199,17 @@ combine-part-spec =
     part-shortened-start-2
     part-shortened-end-2
     shortened-requires-2
-    put-low-requires
-    same-length
-    returns
+    all-short-requires
+    short-sums-requires
     slice-aggregate-save
     save-requires
+    same-length
+    returns
+    slice-aggregate-put-low
+    put-low-requires
     same-length-2
-    returns-2)
+    returns-2
+    slice-aggregate-save-2
+    save-requires-2
+    same-length-3
+    returns-3)

@@ -70,10 +70,10 @@ module _ (c : tie.In-loop Inv-loop μ-loop) where
   h = now (start .args .h)
 
   abbrev a : Polynomial
-  a = now (loop-at .before .before .trimmed .result)
+  a = now (loop-at .before .before .shortened .result)
 
   abbrev b : Polynomial
-  b = now (loop-at .before .trimmed2 .result)
+  b = now (loop-at .before .shortened2 .result)
 
   abbrev e : ℕ
   e = loop-at .loop .e
@@ -112,8 +112,8 @@ module _ (c : tie.In-loop Inv-loop μ-loop) where
   fit =
       let long = length-written g h store at from before-at room k (omega arith) in (
         (omega (arith, long), omega (arith, long)),
-        sum-fits g h store at from before-at room e inside a b (loop-at .before .before .trimmed .ensures)
-            (loop-at .before .trimmed2 .ensures) (start .pre .0) (start .pre .1 .2, start .pre .1 .3),
+        sum-fits g h store at from before-at room e inside a b (loop-at .before .before .shortened .ensures)
+            (loop-at .before .shortened2 .ensures) (start .pre .0) (start .pre .1 .2, start .pre .1 .3),
       )
 
 -- it is combined
@@ -136,12 +136,12 @@ module _ (c : tie.After-add-part Inv-loop μ-loop) where
   degree-is =
       made .degree
       ∙ ap not (sum-high (g here) (h here) (store here) (at here) (from here) (before-at here) (room here) (e here) (inside here)
-      (a here) (b here) (loop-at here .before .before .trimmed .ensures) (loop-at here .before .trimmed2 .ensures))
+      (a here) (b here) (loop-at here .before .before .shortened .ensures) (loop-at here .before .shortened2 .ensures))
 
   low-is : lowPart (sum here) ≡ coefficientsAt (numbers here) (e here)
   low-is =
       sum-low (g here) (h here) (store here) (at here) (from here) (before-at here) (room here) (e here) (inside here)
-      (a here) (b here) (loop-at here .before .before .trimmed .ensures) (loop-at here .before .trimmed2 .ensures)
+      (a here) (b here) (loop-at here .before .before .shortened .ensures) (loop-at here .before .shortened2 .ensures)
 
   store-is : (t : Bool) → r .beyond ≡ t
       → after ≡ cond t (written here (k here)) (withPart (written here (k here)) (at here + k here) (lowPart (sum here)))
@@ -149,11 +149,11 @@ module _ (c : tie.After-add-part Inv-loop μ-loop) where
       made .store
       ∙ ap (λ t. cond t (written here (k here)) (withPart (written here (k here)) (at here + k here) (lowPart (sum here)))) q
 
-trimmed-requires : tie.Need-trimmed-requires Inv-loop μ-loop
-trimmed-requires c κs = search needs
+shortened-requires : tie.Need-shortened-requires Inv-loop μ-loop
+shortened-requires c κs = search needs
 
-trimmed-requires-2 : tie.Need-trimmed-requires-2 Inv-loop μ-loop
-trimmed-requires-2 c κs = search needs
+shortened-requires-2 : tie.Need-shortened-requires-2 Inv-loop μ-loop
+shortened-requires-2 c κs = search needs
 
 loop-holds : tie.Need-loop-holds Inv-loop μ-loop
 unfolding every content
@@ -255,8 +255,8 @@ combine-parts-spec =
     (tie.spec
     Inv-loop
     μ-loop
-    trimmed-requires
-    trimmed-requires-2
+    shortened-requires
+    shortened-requires-2
     loop-holds
     mul-k
     add-add-part

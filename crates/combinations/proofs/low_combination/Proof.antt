@@ -20,7 +20,7 @@ use Rattle.rules.specs.Limits.{coefficientCount}
 use Rattle.rules.specs.Layout.{coefficientsAt}
 use Rattle.stores.specs.OverZeros.{front, length-front, front-none, front-whole, front-put, front-skip, front-rest}
 use Rattle.combinations.specs.Combination.{lowPart, combinations, lowNumbers, length-combinations, length-low, trimmed-high, trimmed-low}
-use Rattle.combinations.specs.Combination.{zero-part, zero-low, Trimmed, trimmed-fit}
+use Rattle.combinations.specs.Combination.{zero-part, zero-low, shortened-trim, Trimmed, trimmed-fit}
 use Rattle.combinations.specs.Primitive.{isLow}
 use Rattle.combinations.proofs.low_combination.Statement.{statement}
 use Rattle.combinations.proofs.low_combination.Tie as tie
@@ -122,8 +122,8 @@ module _ (d : tie.After-shortened2 Inv-loop μ-loop) where
   made = record {
     below = inside here;
     width = omega arith;
-    at-g = at here .before .before .trimmed .ensures;
-    at-h = at here .before .trimmed2 .ensures;
+    at-g = shortened-trim _ _ (omega (arith, start here .pre .0)) (at here .before .before .trimmed .ensures);
+    at-h = shortened-trim _ _ (omega (arith, start here .pre .0)) (at here .before .trimmed2 .ensures);
     at-t = d .before .shortened .ensures;
     at-u = d .shortened2 .ensures;
   }
