@@ -4,13 +4,14 @@
 --   combinations, lowNumbers   the combinations of the polynomials of two lists of numbers, and the numbers of their low parts
 --   Trimmed            the trimmed multipliers and the trimmed parts of two lists at one place
 --   few                most polynomials have no more coefficients
---   allShort           four factors have as many
+--   lengthsAre j k g p h q   the multipliers g and h have j coefficients, and p and q have k
+--   commonLength g h   how many coefficients are taken of two multipliers
 --   trim p             the coefficients of p up to the highest nonzero one
 --   Shortened r p      r is a front of p with only zeros behind it
 --   lowPart p          the first 16 coefficients
 --
 -- Main statements
---   short-lengths      how long these are
+--   lengths-are, common-length   what these tell
 --   combined-same      factors with the same coefficients have a combination with the same coefficients
 --   shortened-trim, shortened-front, shortened-fits   what is shortened, and that it stays within the limits
 --   lowPart-at, lowPart-take    coefficient k of the low part; the low part is the front where there are 16 coefficients
@@ -26,7 +27,7 @@
 --   numbers-below      the numbers of the low parts are in the range of an i64
 use mathlib.Core.Path.{_≡_, refl, sym, _∙_, ap, ap₂, subst, fun-ext}
 use mathlib.Core.Logic.{_↔_, _≢_}
-use mathlib.Core.Bool.{Bool, true, false, _&&_}
+use mathlib.Core.Bool.{Bool, true, false, _&&_, cond}
 use mathlib.Core.List.{List, [], _∷_, _++_, map, flatten, zipWith, append-nil}
 use Prim.Native.Nat.{ℕ, zero, suc, _+_, _*_, _-_, _^_, _≤_, _<_, max}
 use native.Mathlib.Nat.{not-suc-le-zero, zero-add}
@@ -34,7 +35,7 @@ use native.Mathlib.Omega.{arith}
 use native.Mathlib.Decide.{decLe, decLt}
 use lib.Dec.{T, lit<, eqb, eqb→eq}
 use lib.IntN.{ℤ, pos, natAbs, _+ℤ_, _*ℤ_}
-use lib.ListN.{length, take, drop, getD, length-take, length-drop, length-map}
+use lib.ListN.{length, take, drop, getD, length-take, length-drop, length-map, drop-of-length-le}
 use lib.Seq.{ext-getD, getD-take, length-take-le}
 use Rattle.algebra.specs.Integers.{natAbs-+ℤ}
 use Rattle.algebra.specs.Gcd.{content, divideBy, length-divideBy}
@@ -77,17 +78,47 @@ add-same p p′ q q′ s t k = coeff-add p q k ∙ ap₂ _+ℤ_ (s k) (t k) ∙ 
 abbrev pub few : ℕ
 few = 4
 
-unfoldable pub allShort : Polynomial → Polynomial → Polynomial → Polynomial → Bool
-allShort g p h q = eqb (length g) few && (eqb (length p) few && (eqb (length h) few && eqb (length q) few))
+unfoldable pub lengthsAre : ℕ → ℕ → Polynomial → Polynomial → Polynomial → Polynomial → Bool
+lengthsAre j k g p h q = eqb (length g) j && (eqb (length p) k && (eqb (length h) j && eqb (length q) k))
 
-pub short-lengths : (g p h q : Polynomial) → T (allShort g p h q)
-    → (length g ≡ few) × (length p ≡ few) × (length h ≡ few) × (length q ≡ few)
-unfolding allShort
-short-lengths g p h q t =
-    let first = T-&& (eqb (length g) few) _ .0 t in
-    let second = T-&& (eqb (length p) few) _ .0 (first .1) in
-    let third = T-&& (eqb (length h) few) _ .0 (second .1) in
-    (eqb→eq (length g) few (first .0), eqb→eq (length p) few (second .0), eqb→eq (length h) few (third .0), eqb→eq (length q) few (third .1))
+pub lengths-are : (j k : ℕ) (g p h q : Polynomial) → T (lengthsAre j k g p h q)
+    → (length g ≡ j) × (length p ≡ k) × (length h ≡ j) × (length q ≡ k)
+unfolding lengthsAre
+lengths-are j k g p h q t =
+    let first = T-&& (eqb (length g) j) _ .0 t in
+    let second = T-&& (eqb (length p) k) _ .0 (first .1) in
+    let third = T-&& (eqb (length h) j) _ .0 (second .1) in
+    (eqb→eq (length g) j (first .0), eqb→eq (length p) k (second .0), eqb→eq (length h) j (third .0), eqb→eq (length q) k (third .1))
+
+-- Have both only zeros past the first n coefficients?
+abbrev pub bothWithin : ℕ → Polynomial → Polynomial → Bool
+bothWithin n g h = isZero (drop n g) && isZero (drop n h)
+
+unfoldable pub commonLength : Polynomial → Polynomial → ℕ
+unfolding isZero
+commonLength g h = cond (bothWithin 1 g h) 1 (cond (bothWithin few g h) few coefficientCount)
+
+pub common-length : (g h : Polynomial) → (length g ≡ coefficientCount) × (length h ≡ coefficientCount) → let n = commonLength g h in
+    (0 < n) × (n ≤ coefficientCount) × T (isZero (drop n g)) × T (isZero (drop n h))
+unfolding commonLength isZero
+common-length g h e = go (bothWithin 1 g h) (bothWithin few g h) (λ t. t) (λ t. t)
+  where
+    Right : ℕ → Type 0
+    Right n = (0 < n) × (n ≤ coefficientCount) × T (isZero (drop n g)) × T (isZero (drop n h))
+
+    both : (n : ℕ) → 0 < n → n ≤ coefficientCount → T (bothWithin n g h) → Right n
+    both n some less t = let two = T-&& (isZero (drop n g)) (isZero (drop n h)) .0 t in (some, less, two .0, two .1)
+
+    all : Right coefficientCount
+    all = (omega arith, omega arith, none g (e .0), none h (e .1))
+      where
+        none : (p : Polynomial) → length p ≡ coefficientCount → T (isZero (drop coefficientCount p))
+        none p long = rw (drop-of-length-le p {i = coefficientCount} (omega arith)) tt
+
+    go : (s t : Bool) → (T s → T (bothWithin 1 g h)) → (T t → T (bothWithin few g h)) → Right (cond s 1 (cond t few coefficientCount))
+    go true t one four = both 1 (omega arith) (omega arith) (one tt)
+    go false true one four = both few (omega arith) (omega arith) (four tt)
+    go false false one four = all
 
 unfoldable pub trim : Polynomial → Polynomial
 trim p = take (degree p + 1) p

@@ -6,7 +6,7 @@ ghost use mathlib.Core.Bool.{false, not, _&&_, cond};
 ghost use Prim.Native.Nat.{_+_, _*_, _/_, _^_, _≤_, _<_};
 ghost use lib.Dec.{T};
 ghost use lib.IntN.{pos, natAbs};
-ghost use lib.ListN.{length, take, replicate};
+ghost use lib.ListN.{length, take, drop, replicate};
 ghost use lib.Signed.{ltZ};
 ghost use Rattle.algebra.specs.Polynomials.{isZero, add, mul};
 ghost use Rattle.algebra.specs.Gcd.{gcd, content, divideBy};
@@ -17,7 +17,7 @@ ghost use Rattle.rules.specs.Stores.{rowOf};
 ghost use Rattle.rules.specs.Elimination.{limitCoefficients, limitDegrees, consistent};
 ghost use Rattle.stores.specs.Flat.{partCount};
 ghost use Rattle.working_rows.specs.Worked.{refusalOf, numbersOf};
-ghost use Rattle.combinations.specs.Combination.{few, allShort, trim, Shortened, lowPart, combinations, lowNumbers, Counted, highest};
+ghost use Rattle.combinations.specs.Combination.{few, lengthsAre, bothWithin, commonLength, trim, Shortened, lowPart, combinations, lowNumbers, Counted, highest};
 ghost use Rattle.combinations.specs.Primitive.{isLow, primitiveNumbers};
 ghost use Rattle.combinations.specs.InPlace.{partAt, rowAt, sumAt, withPart, placed, PartMade, RowMade};
 ghost use Rattle.polynomials.specs.Content.{Below};
@@ -45,6 +45,39 @@ fn shortened(p: &[i64]) -> &[i64]
 {
     if polynomials::content::all_zero(&p[SHORT..]) {
         return &p[..SHORT];
+    }
+    trimmed(p)
+}
+
+// Are all coefficients of both past the first so many zero?
+fn both_within(g: &[i64], h: &[i64], n: usize) -> bool
+    requires { ⌜ (n ≤ length (now g)) × (n ≤ length (now h)) ⌝ }
+    ensures { λ r. ⌜ r ≡ bothWithin n (now (g .entry)) (now (h .entry)) ⌝ }
+{
+    polynomials::content::all_zero(&g[n..]) && polynomials::content::all_zero(&h[n..])
+}
+
+// How many coefficients are taken of two multipliers: one, four or all, with only zeros behind them in both.
+fn common_length(g: &[i64], h: &[i64]) -> usize
+    requires { ⌜ (length (now g) ≡ coefficientCount) × (length (now h) ≡ coefficientCount) ⌝ }
+    ensures { λ r. ⌜ r ≡ commonLength (now (g .entry)) (now (h .entry)) ⌝ }
+{
+    if both_within(g, h, 1) {
+        return 1;
+    }
+    if both_within(g, h, SHORT) {
+        return SHORT;
+    }
+    COEFFICIENTS
+}
+
+// So many coefficients of a multiplier, or those up to its highest nonzero one where they are not few.
+fn front_of(p: &[i64], n: usize) -> &[i64]
+    requires { ⌜ (length (now p) ≡ coefficientCount) × (0 < n) × (n ≤ coefficientCount) × T (isZero (drop n (now p))) ⌝ }
+    ensures { λ r. ⌜ Shortened (now r) (now (p .entry)) ⌝ }
+{
+    if n <= SHORT {
+        return &p[..n];
     }
     trimmed(p)
 }
@@ -133,7 +166,7 @@ fn put_low(place: &mut [i64], g: &[i64], p: &[i64], h: &[i64], q: &[i64]) -> boo
 
 // Has each of the four factors four coefficients?
 fn all_short(g: &[i64], p: &[i64], h: &[i64], q: &[i64]) -> bool
-    ensures { λ r. ⌜ r ≡ allShort (now (g .entry)) (now (p .entry)) (now (h .entry)) (now (q .entry)) ⌝ }
+    ensures { λ r. ⌜ r ≡ lengthsAre few few (now (g .entry)) (now (p .entry)) (now (h .entry)) (now (q .entry)) ⌝ }
 {
     if g.len() != SHORT {
         return false;
@@ -161,6 +194,48 @@ fn short_sums(g: &[i64], p: &[i64], h: &[i64], q: &[i64]) -> [i64; COEFFICIENTS]
         products::combined_coefficient(g, p, h, q, 4),
         products::combined_coefficient(g, p, h, q, 5),
         products::combined_coefficient(g, p, h, q, 6),
+        0,
+        0,
+        0,
+        0,
+        0,
+        0,
+        0,
+        0,
+        0,
+    ]
+}
+
+// Has each multiplier one coefficient, and each of the others four?
+fn numbers_by_short(g: &[i64], p: &[i64], h: &[i64], q: &[i64]) -> bool
+    ensures { λ r. ⌜ r ≡ lengthsAre 1 few (now (g .entry)) (now (p .entry)) (now (h .entry)) (now (q .entry)) ⌝ }
+{
+    if g.len() != 1 {
+        return false;
+    }
+    if p.len() != SHORT {
+        return false;
+    }
+    if h.len() != 1 {
+        return false;
+    }
+    q.len() == SHORT
+}
+
+// The same where the multipliers are numbers, which is most often the case: past power 3 there are zeros.
+fn number_sums(g: &[i64], p: &[i64], h: &[i64], q: &[i64]) -> [i64; COEFFICIENTS]
+    requires { ⌜ Counted (now g) × Counted (now p) × Counted (now h) × Counted (now q) ⌝ }
+    requires { ⌜ (length (now g) ≡ 1) × (length (now p) ≡ few) × (length (now h) ≡ 1) × (length (now q) ≡ few) ⌝ }
+    ensures { λ r. ⌜ r ≡ lowPart (add (mul (now (g .entry)) (now (p .entry))) (mul (now (h .entry)) (now (q .entry)))) ⌝ }
+{
+    [
+        products::combined_coefficient(g, p, h, q, 0),
+        products::combined_coefficient(g, p, h, q, 1),
+        products::combined_coefficient(g, p, h, q, 2),
+        products::combined_coefficient(g, p, h, q, 3),
+        0,
+        0,
+        0,
         0,
         0,
         0,
@@ -231,6 +306,11 @@ fn combine_part(rows: &mut [i64], a: usize, b: usize, g: &[i64], h: &[i64]) -> b
     let last = b + COEFFICIENTS;
     let p = shortened(&rows[a..end]);
     let q = shortened(&rows[b..last]);
+    if numbers_by_short(g, p, h, q) {
+        let sums = number_sums(g, p, h, q);
+        stores::rows::save(rows, a, &sums[..]);
+        return false;
+    }
     if all_short(g, p, h, q) {
         let sums = short_sums(g, p, h, q);
         stores::rows::save(rows, a, &sums[..]);
@@ -304,8 +384,9 @@ fn combine_parts(rows: &mut [i64], at: usize, from: usize, g: &[i64], h: &[i64])
     ensures { λ r. ⌜ RowMade (combinations partCount (now (g .entry)) (now (h .entry)) (rowAt (now (rows .entry)) at)
         (rowAt (now (rows .entry)) from)) at (now (rows .entry)) (now (rows .exit)) r ⌝ }
 {
-    let a = shortened(g);
-    let b = shortened(h);
+    let n = common_length(g, h);
+    let a = front_of(g, n);
+    let b = front_of(h, n);
     let mut d = 0;
     let mut within = true;
     let mut e = 0;

@@ -5,24 +5,24 @@ use borrow.Author.Tests.{eq-eqb, ne-eqb}
 use borrow.Author.Needs.{needs}
 use denote.Ref.{now}
 use lib.ListN.{length}
-use Rattle.combinations.specs.Combination.{few, allShort}
+use Rattle.combinations.specs.Combination.{few, lengthsAre}
 use Rattle.combinations.proofs.all_short.Statement.{statement}
 use Rattle.combinations.proofs.all_short.Tie as tie
 
 returns : tie.Need-returns
-unfolding allShort
+unfolding lengthsAre
 returns c = rw (ne-eqb _ few (c .if1 .taken)) refl
 
 returns-2 : tie.Need-returns-2
-unfolding allShort
+unfolding lengthsAre
 returns-2 c = rw (eq-eqb _ few (c .before .if1 .left), ne-eqb _ few (c .if2 .taken)) refl
 
 returns-3 : tie.Need-returns-3
-unfolding allShort
+unfolding lengthsAre
 returns-3 c = rw (eq-eqb _ few (c .before .before .if1 .left), eq-eqb _ few (c .before .if2 .left), ne-eqb _ few (c .if3 .taken)) refl
 
 returns-4 : tie.Need-returns-4
-unfolding allShort
+unfolding lengthsAre
 returns-4 c = rw (eq-eqb _ few (c .before .before .if1 .left), eq-eqb _ few (c .before .if2 .left), eq-eqb _ few (c .if3 .left)) refl
 
 pub all-short-spec : {M : Type 1} → statement M

@@ -1,7 +1,7 @@
 -- `combinations::combine_part` meets its contract.
 -- Assumes nothing.
 use mathlib.Core.Path.{_≡_, refl, sym, _∙_, ap, ap₂, subst}
-use mathlib.Core.Bool.{not}
+use mathlib.Core.Bool.{true, not}
 use mathlib.Core.List.{List}
 use Prim.Native.Nat.{ℕ, _+_, _-_, _≤_}
 use native.Mathlib.Omega.{arith}
@@ -14,7 +14,7 @@ use Rattle.algebra.specs.Polynomials.{Polynomial, add, mul}
 use Rattle.lists.specs.Tests.{true-T, every}
 use Rattle.rules.specs.Limits.{small, coefficientCount}
 use Rattle.combinations.specs.Primitive.{isLow}
-use Rattle.combinations.specs.Combination.{Counted, Shortened, short-lengths, shortened-fits, lowPart, length-lowPart, lowPart-same, high-same, high-free}
+use Rattle.combinations.specs.Combination.{few, Counted, Shortened, lengths-are, shortened-fits, lowPart, length-lowPart, lowPart-same, high-same, high-free}
 use Rattle.combinations.specs.InPlace.{partAt, sumAt, sum-shortened}
 use borrow.Author.Needs.{needs}
 use Rattle.combinations.proofs.combine_part.Statement.{statement}
@@ -119,14 +119,25 @@ factors c =
       shortened-fits (q c) (partAt (rows c) (b c)) (second c) (counted (rows c) (b c) (s .pre .0 .1) (s .pre .1 .1)),
     )
 
-all-short-requires : tie.Need-all-short-requires
-all-short-requires c κs = search needs
+-- what is known where the lengths are j and k
+module _ (c : tie.After-shortened2) (j k : ℕ) (few-powers : j + k ≤ coefficientCount + 1)
+    (lengths : (length (g c) ≡ j) × (length (p c) ≡ k) × (length (h c) ≡ j) × (length (q c) ≡ k)) where
+  low : isLow (sum c) ≡ true
+  low =
+      sym (high-is c)
+      ∙ high-free (g c) (p c) (h c) (q c) (factors c) coefficientCount (omega (arith, lengths)) (λ i below above. absurd (omega arith))
 
-short-sums-requires : tie.Need-short-sums-requires
-short-sums-requires c κs =
-    let tested = c .before in
-    let s = tested .before in
-    (factors s, short-lengths (g s) (p s) (h s) (q s) (true-T _ (sym (tested .all-short .ensures) ∙ c .if1 .taken)))
+numbers-by-short-requires : tie.Need-numbers-by-short-requires
+numbers-by-short-requires c κs = search needs
+
+number-lengths : (c : tie.Then1) → let s = c .before .before in
+    (length (g s) ≡ 1) × (length (p s) ≡ few) × (length (h s) ≡ 1) × (length (q s) ≡ few)
+number-lengths c =
+    let s = c .before .before in
+    lengths-are 1 few (g s) (p s) (h s) (q s) (true-T _ (sym (c .before .numbers-by-short .ensures) ∙ c .if1 .taken))
+
+number-sums-requires : tie.Need-number-sums-requires
+number-sums-requires c κs = (factors (c .before .before), number-lengths c)
 
 slice-aggregate-save : tie.Need-slice-aggregate-save
 slice-aggregate-save c = search needs
@@ -140,28 +151,23 @@ same-length c = search needs
 returns : tie.Need-returns
 returns c =
     let made = c .before .before .before .before in
-    let tested = made .before .before in
-    let s = tested .before in
-    let lengths = short-lengths (g s) (p s) (h s) (q s) (true-T _ (sym (tested .all-short .ensures) ∙ made .before .if1 .taken)) in (
-      ap not (sym (high-free (g s) (p s) (h s) (q s) (factors s) coefficientCount (omega (arith, lengths)) (λ j below above. absurd (omega arith)))
-          ∙ high-is s),
+    let s = made .before .before .before in (
+      ap not (sym (low s 1 few (omega arith) (number-lengths (made .before)))),
       c .before .save .ensures
-          ∙ ap₂ (paste (rows s) (a s)) (made .short-sums .ensures ∙ low-is s) (ap length (made .short-sums .ensures) ∙ length-lowPart (short s)),
+          ∙ ap₂ (paste (rows s) (a s)) (made .number-sums .ensures ∙ low-is s) (ap length (made .number-sums .ensures) ∙ length-lowPart (short s)),
     )
 
-slice-aggregate-put-low : tie.Need-slice-aggregate-put-low
-slice-aggregate-put-low c = search needs
+all-short-requires : tie.Need-all-short-requires
+all-short-requires c κs = search needs
 
-put-low-requires : tie.Need-put-low-requires
-put-low-requires c κs = (refl, factors (c .before .before .before))
+short-lengths : (c : tie.Then2) → let s = c .before .before .before .before in
+    (length (g s) ≡ few) × (length (p s) ≡ few) × (length (h s) ≡ few) × (length (q s) ≡ few)
+short-lengths c =
+    let s = c .before .before .before .before in
+    lengths-are few few (g s) (p s) (h s) (q s) (true-T _ (sym (c .before .all-short .ensures) ∙ c .if2 .taken))
 
-same-length-2 : tie.Need-same-length-2
-same-length-2 c = search needs
-
-returns-2 : tie.Need-returns-2
-returns-2 c =
-    let d = c .before .before in
-    (sym (c .if2 .taken) ∙ d .put-low .ensures .0 ∙ ap not (high-is (d .before .before .before .before)), refl)
+short-sums-requires : tie.Need-short-sums-requires
+short-sums-requires c κs = (factors (c .before .before .before .before), short-lengths c)
 
 slice-aggregate-save-2 : tie.Need-slice-aggregate-save-2
 slice-aggregate-save-2 c = search needs
@@ -169,17 +175,49 @@ slice-aggregate-save-2 c = search needs
 save-requires-2 : tie.Need-save-requires-2
 save-requires-2 c κs = search needs
 
+same-length-2 : tie.Need-same-length-2
+same-length-2 c = search needs
+
+returns-2 : tie.Need-returns-2
+returns-2 c =
+    let made = c .before .before .before .before in
+    let s = made .before .before .before .before .before in (
+      ap not (sym (low s few few (omega arith) (short-lengths (made .before)))),
+      c .before .save2 .ensures
+          ∙ ap₂ (paste (rows s) (a s)) (made .short-sums .ensures ∙ low-is s) (ap length (made .short-sums .ensures) ∙ length-lowPart (short s)),
+    )
+
+slice-aggregate-put-low : tie.Need-slice-aggregate-put-low
+slice-aggregate-put-low c = search needs
+
+put-low-requires : tie.Need-put-low-requires
+put-low-requires c κs = (refl, factors (c .before .before .before .before .before))
+
 same-length-3 : tie.Need-same-length-3
 same-length-3 c = search needs
 
 returns-3 : tie.Need-returns-3
 returns-3 c =
+    let d = c .before .before in
+    (sym (c .if3 .taken) ∙ d .put-low .ensures .0 ∙ ap not (high-is (d .before .before .before .before .before .before)), refl)
+
+slice-aggregate-save-3 : tie.Need-slice-aggregate-save-3
+slice-aggregate-save-3 c = search needs
+
+save-requires-3 : tie.Need-save-requires-3
+save-requires-3 c κs = search needs
+
+same-length-4 : tie.Need-same-length-4
+same-length-4 c = search needs
+
+returns-4 : tie.Need-returns-4
+returns-4 c =
     let passed = c .before .before .before .before in
     let d = passed .before .before in
-    let s = d .before .before .before .before in (
-      sym (passed .if2 .left) ∙ d .put-low .ensures .0 ∙ ap not (high-is s),
-      c .before .save2 .ensures
-          ∙ ap₂ (paste (rows s) (a s)) (d .put-low .ensures .1 (passed .if2 .left) ∙ low-is s)
+    let s = d .before .before .before .before .before .before in (
+      sym (passed .if3 .left) ∙ d .put-low .ensures .0 ∙ ap not (high-is s),
+      c .before .save3 .ensures
+          ∙ ap₂ (paste (rows s) (a s)) (d .put-low .ensures .1 (passed .if3 .left) ∙ low-is s)
           (d .put-low .kept .0 ∙ length-replicate coefficientCount (pos 0)),
     )
 
@@ -199,17 +237,23 @@ combine-part-spec =
     part-shortened-start-2
     part-shortened-end-2
     shortened-requires-2
-    all-short-requires
-    short-sums-requires
+    numbers-by-short-requires
+    number-sums-requires
     slice-aggregate-save
     save-requires
     same-length
     returns
-    slice-aggregate-put-low
-    put-low-requires
-    same-length-2
-    returns-2
+    all-short-requires
+    short-sums-requires
     slice-aggregate-save-2
     save-requires-2
+    same-length-2
+    returns-2
+    slice-aggregate-put-low
+    put-low-requires
     same-length-3
-    returns-3)
+    returns-3
+    slice-aggregate-save-3
+    save-requires-3
+    same-length-4
+    returns-4)

@@ -10,17 +10,17 @@ use borrow.Author.Tests.{not-true, not-false}
 use denote.Ref.{now}
 use lib.Dec.{T}
 use lib.IntN.{ℤ}
-use lib.ListN.{length, take, getD}
+use lib.ListN.{length, take, drop, getD}
 use lib.Seq.{paste, paste-zero, take-all}
 use Rattle.algebra.specs.Gcd.{gcd, content}
-use Rattle.algebra.specs.Polynomials.{Polynomial}
+use Rattle.algebra.specs.Polynomials.{Polynomial, isZero}
 use Rattle.lists.specs.Tests.{every, every-longer, every-false}
 use Rattle.rules.specs.Limits.{small, coefficientCount, rowLength}
 use Rattle.rules.specs.Layout.{coefficientsAt}
 use Rattle.stores.specs.Flat.{partCount}
 use Rattle.combinations.specs.declared.Made.{Made}
 use Rattle.combinations.specs.Primitive.{isLow}
-use Rattle.combinations.specs.Combination.{Counted, lowPart, length-combinations, length-low}
+use Rattle.combinations.specs.Combination.{Counted, common-length, lowPart, length-combinations, length-low}
 use Rattle.combinations.specs.InPlace.{partAt, rowAt, sumAt, withPart, PartMade, Outside, rowSums, rowNumbers, writtenTo}
 use Rattle.combinations.specs.InPlace.{sum-high, sum-low, sum-fits, written-next, content-next, small-next}
 use Rattle.combinations.specs.InPlace.{length-written, outside-written}
@@ -29,13 +29,13 @@ use Rattle.combinations.proofs.combine_parts.Statement.{statement}
 use Rattle.combinations.proofs.combine_parts.Tie as tie
 
 abbrev Inv-loop : tie.InvT-loop
-Inv-loop rows₀ at from g h a b d₀ within₀ e₀ rows d within e =
+Inv-loop rows₀ at from g h n a b d₀ within₀ e₀ rows d within e =
     (e ≤ partCount) × (rows ≡ writtenTo g h rows₀ at from (e * coefficientCount)) × (every isLow (take e (rowSums g h rows₀ at from)) ≡ true)
     × (d ≡ content (take (e * coefficientCount) (rowNumbers g h rows₀ at from)))
     × (within ≡ every small (take (e * coefficientCount) (rowNumbers g h rows₀ at from)))
 
 abbrev μ-loop : tie.MeasureT-loop
-μ-loop rows₀ at from g h a b d₀ within₀ e₀ rows d within e = partCount - e
+μ-loop rows₀ at from g h n a b d₀ within₀ e₀ rows d within e = partCount - e
 
 never : _≡_ {A = Bool} true false → ⊥
 never e = let z : _≡_ {A = ℕ} 0 1 = cc in omega arith
@@ -52,7 +52,7 @@ module _ (c : tie.In-loop Inv-loop μ-loop) where
   loop-at = c .before
 
   abbrev start : tie.Start Inv-loop μ-loop
-  start = loop-at .before .before .before
+  start = loop-at .before .before .before .before
 
   abbrev store : List ℤ
   store = now (start .args .rows)
@@ -70,10 +70,10 @@ module _ (c : tie.In-loop Inv-loop μ-loop) where
   h = now (start .args .h)
 
   abbrev a : Polynomial
-  a = now (loop-at .before .before .shortened .result)
+  a = now (loop-at .before .before .front-of .result)
 
   abbrev b : Polynomial
-  b = now (loop-at .before .shortened2 .result)
+  b = now (loop-at .before .front-of2 .result)
 
   abbrev e : ℕ
   e = loop-at .loop .e
@@ -112,8 +112,8 @@ module _ (c : tie.In-loop Inv-loop μ-loop) where
   fit =
       let long = length-written g h store at from before-at room k (omega arith) in (
         (omega (arith, long), omega (arith, long)),
-        sum-fits g h store at from before-at room e inside a b (loop-at .before .before .shortened .ensures)
-            (loop-at .before .shortened2 .ensures) (start .pre .0) (start .pre .1 .2, start .pre .1 .3),
+        sum-fits g h store at from before-at room e inside a b (loop-at .before .before .front-of .ensures)
+            (loop-at .before .front-of2 .ensures) (start .pre .0) (start .pre .1 .2, start .pre .1 .3),
       )
 
 -- it is combined
@@ -136,12 +136,12 @@ module _ (c : tie.After-add-part Inv-loop μ-loop) where
   degree-is =
       made .degree
       ∙ ap not (sum-high (g here) (h here) (store here) (at here) (from here) (before-at here) (room here) (e here) (inside here)
-      (a here) (b here) (loop-at here .before .before .shortened .ensures) (loop-at here .before .shortened2 .ensures))
+      (a here) (b here) (loop-at here .before .before .front-of .ensures) (loop-at here .before .front-of2 .ensures))
 
   low-is : lowPart (sum here) ≡ coefficientsAt (numbers here) (e here)
   low-is =
       sum-low (g here) (h here) (store here) (at here) (from here) (before-at here) (room here) (e here) (inside here)
-      (a here) (b here) (loop-at here .before .before .shortened .ensures) (loop-at here .before .shortened2 .ensures)
+      (a here) (b here) (loop-at here .before .before .front-of .ensures) (loop-at here .before .front-of2 .ensures)
 
   store-is : (t : Bool) → r .beyond ≡ t
       → after ≡ cond t (written here (k here)) (withPart (written here (k here)) (at here + k here) (lowPart (sum here)))
@@ -149,16 +149,34 @@ module _ (c : tie.After-add-part Inv-loop μ-loop) where
       made .store
       ∙ ap (λ t. cond t (written here (k here)) (withPart (written here (k here)) (at here + k here) (lowPart (sum here)))) q
 
-shortened-requires : tie.Need-shortened-requires Inv-loop μ-loop
-shortened-requires c κs = search needs
+common-length-requires : tie.Need-common-length-requires Inv-loop μ-loop
+common-length-requires c κs = search needs
 
-shortened-requires-2 : tie.Need-shortened-requires-2 Inv-loop μ-loop
-shortened-requires-2 c κs = search needs
+-- how many coefficients are taken of the multipliers
+taken : (c : tie.After-common-length Inv-loop μ-loop) → let n = c .common-length .result in
+    (0 < n) × (n ≤ coefficientCount) × T (isZero (drop n (now (c .before .args .g)))) × T (isZero (drop n (now (c .before .args .h))))
+taken c =
+    let args = c .before .args in
+    let pre = c .before .pre .0 in
+    subst
+    (λ n. (0 < n) × (n ≤ coefficientCount) × T (isZero (drop n (now (args .g)))) × T (isZero (drop n (now (args .h)))))
+    (sym (c .common-length .ensures)) (common-length (now (args .g)) (now (args .h)) (pre .0, pre .2))
+
+front-of-requires : tie.Need-front-of-requires Inv-loop μ-loop
+front-of-requires c κs =
+    let t = taken c in
+    (c .before .pre .0 .0, t .0, t .1, t .2)
+
+front-of-requires-2 : tie.Need-front-of-requires-2 Inv-loop μ-loop
+front-of-requires-2 c κs =
+    let d = c .before in
+    let t = taken d in
+    (d .before .pre .0 .2, t .0, t .1, t .3)
 
 loop-holds : tie.Need-loop-holds Inv-loop μ-loop
 unfolding every content
 loop-holds c =
-    let args = c .before .before .args in
+    let args = c .before .before .before .args in
     (omega arith, paste-zero (now (args .rows)) (args .at) (rowNumbers (now (args .g)) (now (args .h)) (now (args .rows)) (args .at) (args .from)), refl, refl, refl)
 
 mul-k : tie.Need-mul-k Inv-loop μ-loop
@@ -220,7 +238,7 @@ loop-again c =
 
 same-length-2 : tie.Need-same-length-2 Inv-loop μ-loop
 same-length-2 c =
-    let s = c .before .before .before .before in
+    let s = c .before .before .before .before .before in
     let loop = c .before .loop in
     ap length (loop .inv .1)
     ∙ length-written (now (s .args .g)) (now (s .args .h)) (now (s .args .rows)) (s .args .at) (s .args .from) (s .pre .1 .0) (s .pre .1 .1)
@@ -228,7 +246,7 @@ same-length-2 c =
 
 returns-2 : tie.Need-returns-2 Inv-loop μ-loop
 returns-2 c =
-    let s = c .before .before .before .before in
+    let s = c .before .before .before .before .before in
     let loop = c .before .loop in
     let store = now (s .args .rows) in
     let at = s .args .at in
@@ -255,8 +273,9 @@ combine-parts-spec =
     (tie.spec
     Inv-loop
     μ-loop
-    shortened-requires
-    shortened-requires-2
+    common-length-requires
+    front-of-requires
+    front-of-requires-2
     loop-holds
     mul-k
     add-add-part
