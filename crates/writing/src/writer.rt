@@ -591,7 +591,7 @@ fn given_fits(
         → now (given .entry) ≡ lines (map (relationLine l) (relationsOf first (now (relations .entry))))
         → sheetBytes (linesLength l equations count (now (rows .entry)) (now (relations .entry))) equations count ≤ room) ⌝ }
 {
-    let start = first * RELATION;
+    let behind = first * RELATION;
     let taken = given.len() + first * SIDE_BYTES;
     if room < taken {
         return false;
@@ -599,7 +599,7 @@ fn given_fits(
     plainly_fits(
         rows,
         equations,
-        &relations[start..],
+        &relations[behind..],
         count - first,
         room - taken,
     )

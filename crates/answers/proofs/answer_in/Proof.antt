@@ -197,12 +197,12 @@ module _ (c : tie.Else2) where
 sub-write-given : tie.Need-sub-write-given
 sub-write-given c =
     let f = c .before .before .before .before .before in
-    given-ordered (lines-read f) (bounds f)
+    omega (arith, given-ordered (lines-read f) (bounds f))
 
 part-write-given-start : tie.Need-part-write-given-start
 part-write-given-start c =
     let f = c .before .before .before .before .before in
-    given-ordered (lines-read f) (bounds f)
+    omega (arith, given-ordered (lines-read f) (bounds f))
 
 part-write-given-end : tie.Need-part-write-given-end
 part-write-given-end c =

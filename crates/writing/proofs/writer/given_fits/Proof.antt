@@ -18,8 +18,8 @@ use Rattle.writing.proofs.writer.given_fits.Tie as tie
 enough : (c : tie.Start) → c .args .first * relationLength ≤ length (now (c .args .relations))
 enough c = omega (arith, c .pre .1 .1, c .pre .1 .3)
 
-mul-start : tie.Need-mul-start
-mul-start c = search needs
+mul-behind : tie.Need-mul-behind
+mul-behind c = search needs
 
 mul-taken : tie.Need-mul-taken
 mul-taken c = search needs
@@ -78,7 +78,7 @@ pub given-fits-spec : {M : Type 1} → statement M
 given-fits-spec =
     tie.close
     (tie.spec
-    mul-start
+    mul-behind
     mul-taken
     add-taken
     returns
