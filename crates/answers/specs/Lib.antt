@@ -1,4 +1,4 @@
 pub mod Faults
 pub mod Answers
 pub mod WorkStores
-pub mod GivenLines
+pub mod CopiedLines

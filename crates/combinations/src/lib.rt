@@ -34,6 +34,9 @@ fn trimmed(p: &[i64]) -> &[i64]
 // Most polynomials have no more coefficients than this.
 const SHORT: usize = 4;
 
+// A multiplier that is a number has one.
+const SINGLE: usize = 1;
+
 // The polynomials of a row: the right side is the last.
 const PARTS: usize = ROW / COEFFICIENTS;
 
@@ -62,8 +65,8 @@ fn common_length(g: &[i64], h: &[i64]) -> usize
     requires { ⌜ (length (now g) ≡ coefficientCount) × (length (now h) ≡ coefficientCount) ⌝ }
     ensures { λ r. ⌜ r ≡ commonLength (now (g .entry)) (now (h .entry)) ⌝ }
 {
-    if both_within(g, h, 1) {
-        return 1;
+    if both_within(g, h, SINGLE) {
+        return SINGLE;
     }
     if both_within(g, h, SHORT) {
         return SHORT;
@@ -164,17 +167,17 @@ fn put_low(place: &mut [i64], g: &[i64], p: &[i64], h: &[i64], q: &[i64]) -> boo
     false
 }
 
-// Has each of the four factors four coefficients?
-fn all_short(g: &[i64], p: &[i64], h: &[i64], q: &[i64]) -> bool
-    ensures { λ r. ⌜ r ≡ lengthsAre few few (now (g .entry)) (now (p .entry)) (now (h .entry)) (now (q .entry)) ⌝ }
+// Have both multipliers so many coefficients, and both polynomials four?
+fn lengths_are(g: &[i64], p: &[i64], h: &[i64], q: &[i64], n: usize) -> bool
+    ensures { λ r. ⌜ r ≡ lengthsAre n few (now (g .entry)) (now (p .entry)) (now (h .entry)) (now (q .entry)) ⌝ }
 {
-    if g.len() != SHORT {
+    if g.len() != n {
         return false;
     }
     if p.len() != SHORT {
         return false;
     }
-    if h.len() != SHORT {
+    if h.len() != n {
         return false;
     }
     q.len() == SHORT
@@ -204,22 +207,6 @@ fn short_sums(g: &[i64], p: &[i64], h: &[i64], q: &[i64]) -> [i64; COEFFICIENTS]
         0,
         0,
     ]
-}
-
-// Has each multiplier one coefficient, and each of the others four?
-fn numbers_by_short(g: &[i64], p: &[i64], h: &[i64], q: &[i64]) -> bool
-    ensures { λ r. ⌜ r ≡ lengthsAre 1 few (now (g .entry)) (now (p .entry)) (now (h .entry)) (now (q .entry)) ⌝ }
-{
-    if g.len() != 1 {
-        return false;
-    }
-    if p.len() != SHORT {
-        return false;
-    }
-    if h.len() != 1 {
-        return false;
-    }
-    q.len() == SHORT
 }
 
 // The same where the multipliers are numbers, which is most often the case: past power 3 there are zeros.
@@ -306,12 +293,12 @@ fn combine_part(rows: &mut [i64], a: usize, b: usize, g: &[i64], h: &[i64]) -> b
     let last = b + COEFFICIENTS;
     let p = shortened(&rows[a..end]);
     let q = shortened(&rows[b..last]);
-    if numbers_by_short(g, p, h, q) {
+    if lengths_are(g, p, h, q, SINGLE) {
         let sums = number_sums(g, p, h, q);
         stores::rows::save(rows, a, &sums[..]);
         return false;
     }
-    if all_short(g, p, h, q) {
+    if lengths_are(g, p, h, q, SHORT) {
         let sums = short_sums(g, p, h, q);
         stores::rows::save(rows, a, &sums[..]);
         return false;

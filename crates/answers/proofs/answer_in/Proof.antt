@@ -26,7 +26,7 @@ use Rattle.runs.specs.Unreported.{UnreportedCall, unreportedCallOf}
 use Rattle.writing.specs.WriterChecks as WriterChecks
 use Rattle.answers.specs.Answers.{callOf, unanswered, checkIn, writeIn, call-unread, call-refused, call-written, call-checked-read}
 use Rattle.answers.specs.Answers.{call-checked-run}
-use Rattle.answers.specs.GivenLines.{given-ordered, given-text}
+use Rattle.answers.specs.CopiedLines.{given-ordered, given-text}
 use Rattle.answers.specs.WorkStores.{Used, unread-same, read-rest, refused-zero, accepted-used}
 use borrow.Author.Needs.{needs}
 use Rattle.rules.specs.Limits.{rowLength, relationLength}

@@ -127,14 +127,14 @@ module _ (c : tie.After-shortened2) (j k : ℕ) (few-powers : j + k ≤ coeffici
       sym (high-is c)
       ∙ high-free (g c) (p c) (h c) (q c) (factors c) coefficientCount (omega (arith, lengths)) (λ i below above. absurd (omega arith))
 
-numbers-by-short-requires : tie.Need-numbers-by-short-requires
-numbers-by-short-requires c κs = search needs
+lengths-are-requires : tie.Need-lengths-are-requires
+lengths-are-requires c κs = search needs
 
 number-lengths : (c : tie.Then1) → let s = c .before .before in
     (length (g s) ≡ 1) × (length (p s) ≡ few) × (length (h s) ≡ 1) × (length (q s) ≡ few)
 number-lengths c =
     let s = c .before .before in
-    lengths-are 1 few (g s) (p s) (h s) (q s) (true-T _ (sym (c .before .numbers-by-short .ensures) ∙ c .if1 .taken))
+    lengths-are 1 few (g s) (p s) (h s) (q s) (true-T _ (sym (c .before .lengths-are .ensures) ∙ c .if1 .taken))
 
 number-sums-requires : tie.Need-number-sums-requires
 number-sums-requires c κs = (factors (c .before .before), number-lengths c)
@@ -157,14 +157,14 @@ returns c =
           ∙ ap₂ (paste (rows s) (a s)) (made .number-sums .ensures ∙ low-is s) (ap length (made .number-sums .ensures) ∙ length-lowPart (short s)),
     )
 
-all-short-requires : tie.Need-all-short-requires
-all-short-requires c κs = search needs
+lengths-are-requires-2 : tie.Need-lengths-are-requires-2
+lengths-are-requires-2 c κs = search needs
 
 short-lengths : (c : tie.Then2) → let s = c .before .before .before .before in
     (length (g s) ≡ few) × (length (p s) ≡ few) × (length (h s) ≡ few) × (length (q s) ≡ few)
 short-lengths c =
     let s = c .before .before .before .before in
-    lengths-are few few (g s) (p s) (h s) (q s) (true-T _ (sym (c .before .all-short .ensures) ∙ c .if2 .taken))
+    lengths-are few few (g s) (p s) (h s) (q s) (true-T _ (sym (c .before .lengths-are2 .ensures) ∙ c .if2 .taken))
 
 short-sums-requires : tie.Need-short-sums-requires
 short-sums-requires c κs = (factors (c .before .before .before .before), short-lengths c)
@@ -237,13 +237,13 @@ combine-part-spec =
     part-shortened-start-2
     part-shortened-end-2
     shortened-requires-2
-    numbers-by-short-requires
+    lengths-are-requires
     number-sums-requires
     slice-aggregate-save
     save-requires
     same-length
     returns
-    all-short-requires
+    lengths-are-requires-2
     short-sums-requires
     slice-aggregate-save-2
     save-requires-2
