@@ -6,6 +6,7 @@
 --   pivotAt r c               a settled row with its column
 --   Settled n ps              settled rows within ±C that can be substituted back
 --   FreeColumn n ps f         and a column without a pivot
+--   MetBelow matrix f count r   of the rows of a store below `count`, those from r on are 0 at the column f
 --   Filled r w v              the test whether w is within ±C; v is w if it is
 --   back n ps f i             the vector of the column f behind the settled rows from i on
 -- Main statements
@@ -15,28 +16,30 @@
 --   substitute-none, none-small                   a step whose sum is 0
 --   pivots-length, pivot-at, free-columns         the settled rows of a store, one of them, and their columns
 --   back-none, back-next, back-all   the back substitution row by row
+--   met-next, back-unmet      one row more is 0 at the column; behind the last row that meets the column the vector is the first one
 --   back-solves, back-small   its vectors solve the rows; what is within ±C at the end was so on the way
 --   row-ready                 what a step asks of its row
 --   filled-all, filled-not    the two ends of the back substitution
-use Prim.Native.Nat.{ℕ, zero, suc, _+_, _*_, _≤_, _<_}
+use Prim.Native.Nat.{ℕ, zero, suc, _+_, _*_, _-_, _≤_, _<_}
 use mathlib.Core.Path.{_≡_, refl, sym, _∙_, ap, ap₂, subst}
-use mathlib.Core.Logic.{_≢_}
+use mathlib.Core.Logic.{_≢_, by-cases}
 use mathlib.Core.Bool.{Bool, true, false, not, cond, _&&_}
 use mathlib.Core.List.{List, [], _∷_, _++_, zipWith}
-use native.Mathlib.Nat.{pos-of-ne-zero, le-trans, mul-le-mul, mul-le-mul-right}
+use native.Mathlib.Nat.{pos-of-ne-zero, le-refl, le-trans, mul-le-mul, mul-le-mul-right}
 use native.Mathlib.Numerals.{add-one}
+use native.Mathlib.Decide.{ℕ-discrete}
 use native.Mathlib.Omega.{arith}
 use lib.Dec.{T, eqb}
 use lib.ListN.{length, getD, set, take, drop, replicate, length-map, take-append-drop, drop-of-length-le}
-use lib.Seq.{take-take}
-use lib.IntN.{ℤ, pos, negℤ, natAbs, _+ℤ_, _*ℤ_}
+use lib.Seq.{take-take, set-getD, getD-take, getD-drop}
+use lib.IntN.{ℤ, pos, negℤ, natAbs, _+ℤ_, _*ℤ_, *ℤ-zero, zero-*ℤ}
 use lib.Signed.{ltZ, quotZ}
 use Rattle.algebra.specs.Integers.{ringℤ, natAbs-*ℤ, natAbs-zero}
 use Rattle.algebra.specs.Division.{quotZ-le, quotZ-exact}
 use Rattle.algebra.specs.Polynomials.{scale, scale-one, coeff}
 use Rattle.algebra.specs.Coefficients.{coeff-scale}
 use Rattle.algebra.specs.Gcd.{gcd, gcd-zero, gcd-pos-left, gcd-le-left}
-use Rattle.algebra.specs.Sums.{sumBelow, sumBelow-last, natAbs-sumBelow}
+use Rattle.algebra.specs.Sums.{sumBelow, sumBelow-last, sumBelow-zeros, natAbs-sumBelow}
 use Rattle.lists.specs.Everywhere.{All, all-drop, all-set, all-replicate}
 use Rattle.lists.specs.Images.{length-zipWith, getD-zipWith, getD-map}
 use Rattle.lists.specs.Parts.{parts, parts-length, getD-parts}
@@ -47,7 +50,7 @@ use Rattle.rules.specs.Limits.{bound, small}
 use Rattle.echelon.specs.Eliminated.{Pivot, at, pivotOf}
 use Rattle.back_substitution.specs.Listed.{dot, solved, isFree, unit, substitute, substituteAll, vectorAt}
 use Rattle.echelon.specs.Pairing.{pair}
-use Rattle.back_substitution.specs.Substituted.{dot-pair, Free, Solves, vector-solves}
+use Rattle.back_substitution.specs.Substituted.{dot-pair, Free, Solves, unit-solves, vector-solves}
 use Rattle.constant_rows.specs.ListLengths.{listColumns}
 use Rattle.constant_rows.specs.Matrices.{matrixRows}
 use Rattle.echelon.specs.MatrixTurns.{pivotsIn}
@@ -115,6 +118,19 @@ pub record Settled (n : ℕ) (ps : List Pivot) : Type 0 where
 pub record FreeColumn (n : ℕ) (ps : List Pivot) (f : ℕ) : Type 0 where
   pub settled : Settled n ps
   pub free : Free ps f
+
+pub record MetBelow (matrix : List ℤ) (f count r : ℕ) : Type 0 where
+  pub few : r ≤ count
+  pub unmet : (k : ℕ) → r ≤ k → k < count → getD matrix (k * listColumns + f) (pos 0) ≡ pos 0
+
+pub met-next : {matrix : List ℤ} {f count i : ℕ} → MetBelow matrix f count i → 0 < i
+    → getD matrix ((i - 1) * listColumns + f) (pos 0) ≡ pos 0 → MetBelow matrix f count (i - 1)
+met-next {matrix} {f} {count} {i} met some e =
+    record {
+      few = omega (arith, met .few);
+      unmet = λ k h below. by-cases (ℕ-discrete k (i - 1)) (λ s. ap (λ j. getD matrix (j * listColumns + f) (pos 0)) s ∙ e)
+          (λ s. met .unmet k (omega arith) below);
+    }
 
 pub record Filled (r : Bool) (w v : List ℤ) : Type 0 where
   pub judged : r ≡ every small w
@@ -259,6 +275,30 @@ module _ (n : ℕ) (ps : List Pivot) (f : ℕ) (below : f < n) (c : FreeColumn n
       (all-drop (λ p. T (every small (p .numbers)) × (p .column < n)) i ps (c .settled .within)) in
       (t .0, w .0 .1, w .0 .0, t .1)
 
+  -- A row that is 0 at the column leaves the first vector as it is.
+  back-passed : (i : ℕ) (r : List ℤ) (k : ℕ) → drop i ps ≡ pivotAt r k ∷ drop (i + 1) ps → getD r f (pos 0) ≡ pos 0
+      → back n ps f (i + 1) ≡ unit n f → back n ps f i ≡ unit n f
+  unfolding All Free at product unit
+  back-passed i r k e apart same =
+      back-next n ps f i (pivotAt r k) e ∙ ap (substitute (pivotAt r k)) same
+      ∙ substitute-none r (unit n f) k (row-ready i r k e .3) (dot-sum r (unit n f) ∙ sumBelow-zeros (length r) (product r (unit n f)) none)
+      ∙ ap (set (unit n f) k) (sym away) ∙ set-getD (unit n f) k (pos 0)
+    where
+      elsewhere : (j : ℕ) → j ≢ f → getD (unit n f) j (pos 0) ≡ pos 0
+      elsewhere j h = unit-solves n f below .elsewhere j h tt
+
+      other : k ≢ f
+      other = subst (All (λ p. p .column ≢ f)) e (all-drop (λ p. p .column ≢ f) i ps (c .free)) .0
+
+      away : getD (unit n f) k (pos 0) ≡ pos 0
+      away = elsewhere k other
+
+      none : (j : ℕ) → j < length r → product r (unit n f) j ≡ pos 0
+      none j h = by-cases (ℕ-discrete j f)
+          (λ s. ap (λ a. a *ℤ getD (unit n f) j (pos 0)) (ap (λ i. getD r i (pos 0)) s ∙ apart)
+          ∙ zero-*ℤ (getD (unit n f) j (pos 0)))
+          (λ s. ap (λ a. getD r j (pos 0) *ℤ a) (elsewhere j s) ∙ *ℤ-zero (getD r j (pos 0)))
+
   pub filled-all : (i : ℕ) (v : List ℤ) → i ≡ 0 → v ≡ back n ps f i → T (every small v) → Filled true (vectorAt n ps f) v
   filled-all i v z e h =
       let is = e ∙ back-all n ps f i z in
@@ -270,3 +310,19 @@ module _ (n : ℕ) (ps : List Pivot) (f : ℕ) (below : f < n) (c : FreeColumn n
         judged = sym (false-of (every small (vectorAt n ps f)) (λ t. subst T (ap (every small) (sym e) ∙ h) (back-small i t)));
         same = λ z. absurd (subst T (sym z) tt);
       }
+
+-- Behind the last row of a store that meets the column.
+pub back-unmet : (n f : ℕ) (columns : List ℕ) (matrix : List ℤ) (r : ℕ) → n ≤ listColumns → f < n
+    → FreeColumn n (pivotsIn n columns matrix) f → MetBelow matrix f (length columns) r → back n (pivotsIn n columns matrix) f r ≡ unit n f
+back-unmet n f columns matrix r h below c met = go (length columns - r) r (omega (arith, met .few)) (le-refl r)
+  where
+    ps : List Pivot
+    ps = pivotsIn n columns matrix
+
+    go : (d i : ℕ) → i + d ≡ length columns → r ≤ i → back n ps f i ≡ unit n f
+    go zero i e k = back-none n ps f i (rw pivots-length (omega arith))
+    go (suc d) i e k =
+        let inside : i < length columns = omega arith in
+        let entry = getD-take n (drop (i * listColumns) matrix) f (pos 0) below ∙ getD-drop (i * listColumns) matrix f (pos 0) in
+        back-passed n ps f below c i (take n (drop (i * listColumns) matrix)) (getD columns i 0) (pivot-at n columns matrix i h inside)
+        (entry ∙ met .unmet i k inside) (go d (i + 1) (omega arith) (omega arith))

@@ -310,7 +310,7 @@ substitute-away p v j h =
     let k : ℤ = pos (times (pivotOf p) (dot (p .numbers) v)) in
     getD-set-other (scale k v) (p .column) j (solved (pivotOf p) (dot (p .numbers) v)) (pos 0) h ∙ coeff-scale k v j
 
-unit-solves : (n f : ℕ) → f < n → Solves n [] f (unit n f)
+pub unit-solves : (n f : ℕ) → f < n → Solves n [] f (unit n f)
 unfolding unit All Free at
 unit-solves n f h =
     record {

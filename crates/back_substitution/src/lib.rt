@@ -22,7 +22,7 @@ ghost use Rattle.echelon.specs.MatrixTurns.{pivotsIn};
 ghost use Rattle.constant_rows.specs.Matrices.{Reports};
 ghost use Rattle.constant_rows.specs.ListLengths.{listColumns, listNeed, matrixNeed};
 ghost use Rattle.back_substitution.specs.Listed.{listStoreOf};
-ghost use Rattle.back_substitution.specs.BackSubstitution.{pivotAt, Settled, FreeColumn, Filled};
+ghost use Rattle.back_substitution.specs.BackSubstitution.{pivotAt, Settled, FreeColumn, MetBelow, Filled};
 ghost use Rattle.back_substitution.specs.ListRows.{Placed, Written, Stepped};
 
 // The sum of the products of a row's entries with the numbers of a vector: at most 64 C², so it fits (SCOPE 14.52).
@@ -120,13 +120,31 @@ fn substituted(row: &[i64], column: usize, v: &mut [i64]) -> bool
     stores::checks::all_small(v)
 }
 
-// Back through the settled rows, from the last; a value past ±C on the way leads to one past ±C at the end (SCOPE 14.52, 14.53).
+// How many settled rows there are up to the last that meets a column, none if no row does. Behind it the back substitution leaves the
+// vector with 1 at that column and 0 elsewhere as it is, and most vectors are never met.
+fn rows_meeting(matrix: &[i64], count: usize, f: usize) -> usize
+    requires { ⌜ (count * listColumns ≤ length (now matrix)) × (f < listColumns) ⌝ }
+    ensures { λ r. ⌜ MetBelow (now (matrix .entry)) f count r ⌝ }
+{
+    let mut i = count;
+    while 0 < i {
+        let last = i - 1;
+        if matrix[last * LIST_COLUMNS + f] != 0 {
+            return i;
+        }
+        i = last;
+    }
+    i
+}
+
+// Back through the settled rows, from the last that meets the column; a value past ±C on the way leads to one past ±C at the end
+// (SCOPE 14.52, 14.53).
 fn substitute_all(matrix: &[i64], n: usize, columns: &[usize], f: usize, v: &mut [i64]) -> bool
     requires { ⌜ (n ≤ listColumns) × (f < n) × (now v ≡ Listed.unit n f) × (length (now columns) * listColumns ≤ length (now matrix)) ⌝ }
     requires { ⌜ FreeColumn n (pivotsIn n (now columns) (now matrix)) f ⌝ }
     ensures { λ r. ⌜ Filled r (Listed.vectorAt n (pivotsIn n (now (columns .entry)) (now (matrix .entry))) f) (now (v .exit)) ⌝ }
 {
-    let mut i = columns.len();
+    let mut i = rows_meeting(matrix, columns.len(), f);
     while 0 < i {
         i -= 1;
         let from = i * LIST_COLUMNS;

@@ -5,16 +5,18 @@
 --   polynomialThere l r n i c   what stands in an equation at n, at index i and unknown c
 --   rowAt z N e          the constant row of an equation at its n, or of a relation
 --   atIndex n rows       the equations at n
+--   Clamped x last r     r is x, or the end of 0 to last + 1 that is nearer to it
 --   groups z N rows      the equations at each n that is asked for
 --
 -- Main statements
 --   column-polynomial    what stands at a column, by its index and its unknown
 --   each-both, each-stops, each-stopped, each-one   what is made of two lists, one behind the other
+--   unmet-before, unmet-behind, zeros-made   the entries of columns that an equation does not meet are 0, and made by zeros
 --   reports-made, reports-passed   what a refusal number tells
 --   matrix-put           the rows of a store after a part of it was written
-use Prim.Native.Nat.{ℕ, suc, _+_, _*_, _-_, _≤_, _<_, zero-le}
+use Prim.Native.Nat.{ℕ, zero, suc, _+_, _*_, _-_, _/_, _%_, _≤_, _<_, zero-le}
 use native.Mathlib.Nat.{le-refl, lt-of-le-of-lt, zero-add, add-zero, suc-mul, mul-assoc, not-suc-le-zero, mul-add-div-right, div-eq-of-lt}
-use native.Mathlib.Nat.{mul-add-mod-self-right, mod-eq-of-lt}
+use native.Mathlib.Nat.{mul-add-mod-self-right, mod-eq-of-lt, le-of-eq, div-lt-iff-lt-mul, le-div-iff-mul-le}
 use native.Mathlib.Numerals.{add-one}
 use native.Mathlib.Omega.{arith}
 use borrow.Rule.Slice.PartMut.{putMid, postOf, same-len-mid, mid-len, drop-put}
@@ -23,9 +25,9 @@ use mathlib.Core.Logic.{_≢_, ⊎-elim}
 use mathlib.Core.List.{List, [], _∷_, _++_, map, map-append, flatten, append-nil}
 use mathlib.Core.Option.{some}
 use lib.Dec.{T}
-use lib.ListN.{length, take, drop, getD, take-append-drop, length-map, length-drop}
-use lib.Seq.{take-at, drop-at, length-take-le, take-length, take-suc, getD-drop, drop-drop}
-use lib.Signed.{ltZ, nonNeg, leZ-yes}
+use lib.ListN.{length, take, drop, getD, replicate, take-append-drop, length-map, length-drop, length-replicate}
+use lib.Seq.{take-at, drop-at, length-take-le, take-length, take-suc, getD-take, getD-drop, drop-drop, paste, take-paste}
+use lib.Signed.{_≤ℤ_, ltZ, nonNeg, leZ-yes}
 use borrow.Author.Tests.{ltb-true}
 use mathlib.Core.Bool.{true, false}
 use lib.IntN.{ℤ, pos, negsuc, natAbs, _+ℤ_, _-ℤ_, _*ℤ_, *ℤ-zero, negℤ, +ℤ-comm, -ℤ-+ℤ-cancel, +ℤ-negℤ-cancel}
@@ -37,15 +39,16 @@ use Rattle.lists.specs.Tests.{T-&&, every, every-getD}
 use Rattle.rules.specs.Limits.{small, blockBound, mostSpan, rowLength, relationLength}
 use Rattle.rules.specs.Sequences.{blockFrom, polynomialAt}
 use Rattle.lists.specs.Joined.{flatten-append}
+use Rattle.lists.specs.Padded.{getD-replicate-each}
 use Rattle.lists.specs.Parts.{parts, parts-length, parts-append, parts-take, held-next, held-every}
 use Rattle.lists.specs.Images.{getD-map}
 use Rattle.lists.specs.Taken.{drop-next}
 use Rattle.rules.specs.Rows.{Row, Relation, noRow, zeroBlock, smallRow}
-use Rattle.rules.specs.Stores.{Sizes, span, rowOf, rowsOf, rowRight, relationOf, relationsOf, relationRight}
+use Rattle.rules.specs.Stores.{Sizes, sizesRight, span, rowOf, rowsOf, rowRight, relationOf, relationsOf, relationRight}
 use Rattle.sides.specs.Lent.{Kept}
 use Rattle.stores.specs.Validity.{index-at, row-after}
-use Rattle.rules.specs.Layout.{SizeBounds, row-at, length-rowsOf, coefficientsOf-rowOf-all}
-use Rattle.algebra.specs.Order.{≤ℤ-trans, ≤ℤ-difference, natAbs-≤-iff}
+use Rattle.rules.specs.Layout.{SizeBounds, size-bounds, row-at, length-rowsOf, coefficientsOf-rowOf-all}
+use Rattle.algebra.specs.Order.{≤ℤ-trans, ≤ℤ-witness, ≤ℤ-difference, pos-≤ℤ, pos-natAbs-nonneg, natAbs-≤-iff}
 use Rattle.constant_rows.specs.Constants.{Judged, fine, passed, andOn, each, judgeValue, entryAt, columnPolynomial, constantRow}
 use Rattle.constant_rows.specs.Constants.{rowIndices}
 use Rattle.constant_rows.specs.ListLengths.{listColumns}
@@ -142,6 +145,9 @@ near n l i b e =
 pub l-near : (z : Sizes) → SizeBounds z → natAbs (z .l) ≤ blockBound
 l-near z b = natAbs-≤-iff (z .l) .1 (≤ℤ-trans (b .low) (b .ordered), b .high)
 
+pub t-near : (z : Sizes) → SizeBounds z → natAbs (z .t) ≤ blockBound
+t-near z b = natAbs-≤-iff (z .t) .1 (b .low, ≤ℤ-trans (b .ordered) (b .high))
+
 pub span-few : (z : Sizes) → SizeBounds z → span z ≤ mostSpan
 unfolding span
 span-few z b = natAbs-≤-iff (z .l -ℤ z .t) .1 (≤ℤ-trans (leZ-yes tt) (≤ℤ-difference .0 (b .ordered)), b .narrow)
@@ -209,6 +215,108 @@ all-columns f j n h =
 pub next-column : {B : Type 0} (f : ℕ → Judged B) (j : ℕ) → each f (countFrom 0 (j + 1)) ≡ each f (countFrom 0 j ++ (j ∷ []))
 unfolding countFrom
 next-column f j = ap (each f) (countFrom-append 0 j 1 ∙ ap (λ k. countFrom 0 j ++ (k ∷ [])) (zero-add j))
+
+-- ---- the columns that an equation does not meet
+
+pub record Clamped (x : ℤ) (last r : ℕ) : Type 0 where
+  pub few : r ≤ suc last
+  pub before : (i : ℕ) → i < r → (d : ℕ) × (x ≡ pos (suc (i + d)))
+  pub behind : (i : ℕ) → r ≤ i → i ≤ last → x ≤ℤ pos i
+
+pub clamped-none : (x : ℤ) (last : ℕ) → ltZ x (pos 0) ≡ true → Clamped x last 0
+clamped-none (pos n) last h = absurd (not-suc-le-zero (ltb-true n 0 h))
+clamped-none (negsuc n) last h =
+    record { few = zero-le; before = λ i below. absurd (not-suc-le-zero below); behind = λ i _ _. leZ-yes tt }
+
+pub clamped-past : (x : ℤ) (last : ℕ) → x ≡ pos (natAbs x) → last < natAbs x → Clamped x last (suc last)
+clamped-past x last e h =
+    record {
+      few = le-refl (suc last);
+      before = λ i below. (natAbs x - suc i, e ∙ ap pos (omega arith));
+      behind = λ i above inside. absurd (omega arith);
+    }
+
+pub clamped-here : (x : ℤ) (last : ℕ) → x ≡ pos (natAbs x) → natAbs x ≤ last → Clamped x last (natAbs x)
+clamped-here x last e h =
+    record {
+      few = omega arith;
+      before = λ i below. (natAbs x - suc i, e ∙ ap pos (omega arith));
+      behind = λ i above _. subst (λ a. a ≤ℤ pos i) (sym e) (pos-≤ℤ .1 above);
+    }
+
+-- Before n + t the blocks are past t, behind n + l there are none.
+module _ (z : Sizes) (r : Row) (n : ℤ) (last : ℕ) (right : T (sizesRight z)) where
+  abbrev entryOf : ℕ → Judged ℤ
+  entryOf k = entryAt n (columnPolynomial (z .m) (z .l) r n k)
+
+  abbrev any : 1 ≤ z .m
+  any = size-bounds z right .some
+
+  pub unmet-before : (first k : ℕ) → T (every zeroBlock (drop (suc (span z)) (r .blocks))) → Clamped (n +ℤ z .t) last first
+      → k < first * z .m → entryOf k ≡ fine (pos 0)
+  unfolding columnPolynomial span
+  unmet-before first k unused c h =
+      let i = k / z .m in
+      let (d, e) = c .before i (div-lt-iff-lt-mul any .1 h) in
+      let whole : suc (i + d) + span z ≡ span z + suc d + i = omega arith in
+      let width : pos (span z) ≡ z .l -ℤ z .t = pos-natAbs-nonneg (≤ℤ-difference .0 (size-bounds z right .ordered)) in
+      let meets : blockOf n (z .l) i ≡ pos (span z + suc d) =
+      ap (λ a. a -ℤ pos i) (turned (z .l) (z .t) n) ∙ ap₂ (λ a b. (a +ℤ b) -ℤ pos i) e (sym width)
+      ∙ ap (λ a. pos a -ℤ pos i) whole ∙ +ℤ-negℤ-cancel (pos (span z + suc d)) (pos i) in
+      entry-zero n _ (column-past (z .l) r n i (k % z .m) (span z) (span z + suc d) unused meets (omega arith))
+    where
+      turned : (a b c : ℤ) → (a +ℤ c) ≡ ((c +ℤ b) +ℤ (a -ℤ b))
+      turned a b c = ap (λ x. x +ℤ c) (sym (-ℤ-+ℤ-cancel a b)) ∙ moved (a -ℤ b) b c
+        where
+          moved : (a b c : ℤ) → ((a +ℤ b) +ℤ c) ≡ ((c +ℤ b) +ℤ a)
+          moved a b c = simp ringℤ
+
+  pub unmet-behind : (past k : ℕ) → Clamped ((n +ℤ z .l) +ℤ pos 1) last past → past * z .m ≤ k → k < suc last * z .m
+      → entryOf k ≡ fine (pos 0)
+  unfolding columnPolynomial
+  unmet-behind past k c h below =
+      let i = k / z .m in
+      let inside : i < suc last = div-lt-iff-lt-mul any .1 below in
+      let (d, e) = ≤ℤ-witness (c .behind i (le-div-iff-mul-le any .1 h) (omega arith)) in
+      let one-more : 1 + d ≡ suc d = omega arith in
+      let meets : blockOf n (z .l) i ≡ negsuc d =
+      less (z .l +ℤ n) (pos 1 +ℤ pos d) (pos i) (turned (z .l) n (pos d) ∙ e) ∙ ap (λ a. negℤ (pos a)) one-more in
+      ap (entryAt n) (column-below (z .l) r n i (k % z .m) d meets) ∙ entry-none n
+    where
+      turned : (a b c : ℤ) → ((a +ℤ b) +ℤ (pos 1 +ℤ c)) ≡ (((b +ℤ a) +ℤ pos 1) +ℤ c)
+      turned a b c = simp ringℤ
+
+      less : (a b c : ℤ) → a +ℤ b ≡ c → (a -ℤ c) ≡ negℤ b
+      less a b c e =
+          ap (λ x. x -ℤ c) (sym (+ℤ-negℤ-cancel a b) ∙ ap (λ x. x -ℤ b) e ∙ +ℤ-comm c (negℤ b)) ∙ +ℤ-negℤ-cancel (negℤ b) c
+
+-- Zeros in the places of columns whose entries are 0.
+pub zeros-made : (f : ℕ → Judged ℤ) (place : List ℤ) (j d : ℕ) → j + d ≤ length place
+    → ((k : ℕ) → j ≤ k → k < j + d → (f k ≡ fine (pos 0)) × (getD place k (pos 0) ≡ pos 0))
+    → each f (countFrom 0 j) ≡ fine (take j place) → each f (countFrom 0 (j + d)) ≡ fine (take (j + d) place)
+zeros-made f place j zero h none made = subst (λ k. each f (countFrom 0 k) ≡ fine (take k place)) (sym (add-zero j)) made
+zeros-made f place j (suc d) h none made =
+    subst (λ k. each f (countFrom 0 k) ≡ fine (take k place)) next
+    (zeros-made f place (j + 1) d (omega arith) (λ k a b. none k (omega arith) (omega arith))
+    (next-column f j ∙ each-both f (countFrom 0 j) (j ∷ []) _ _ made (each-one f j (pos 0) (here .0)) ∙ ap fine (sym longer)))
+  where
+    next : j + 1 + d ≡ j + suc d
+    next = omega arith
+
+    here : (f j ≡ fine (pos 0)) × (getD place j (pos 0) ≡ pos 0)
+    here = none j (le-refl j) (omega arith)
+
+    longer : take (j + 1) place ≡ take j place ++ (pos 0 ∷ [])
+    longer =
+        ap (λ i. take i place) (add-one j) ∙ take-suc place j (pos 0) (omega arith) ∙ ap (λ a. take j place ++ (a ∷ [])) (here .1)
+
+pub cleared-at : (place : List ℤ) (n k : ℕ) → k < n → getD (paste place 0 (replicate n (pos 0)) n) k (pos 0) ≡ pos 0
+cleared-at place n k h =
+    let long = le-of-eq (sym (length-replicate n (pos 0))) in
+    let all = replicate n (pos 0) in
+    sym (getD-take n (paste place 0 all n) k (pos 0) h)
+    ∙ ap (λ l. getD l k (pos 0)) (ap (λ m. take m (paste place 0 all n)) (sym (zero-add n)) ∙ take-paste place 0 all n zero-le long)
+    ∙ getD-take n all k (pos 0) h ∙ getD-replicate-each (λ a. a ≡ pos 0) n (pos 0) (pos 0) k refl refl
 
 -- ---- what a refusal number tells
 

@@ -21,7 +21,7 @@ ghost use Rattle.stores.specs.Validity.{sizesOf};
 ghost use Rattle.constant_rows.specs.Constants as Constants;
 ghost use Rattle.constant_rows.specs.ListLengths.{largestIndex, listColumns, matrixNeed};
 ghost use Rattle.constant_rows.specs.Matrices.{matrixRows, Reports};
-ghost use Rattle.constant_rows.specs.ConstantStores.{judgedOf, rowAt, atIndex, polynomialThere};
+ghost use Rattle.constant_rows.specs.ConstantStores.{judgedOf, rowAt, atIndex, polynomialThere, Clamped};
 
 pub mod lengths;
 
@@ -89,8 +89,23 @@ fn column_entry(
     block_entry(row, n, place, unknown)
 }
 
-// Entry by entry, in the order of the columns (SCOPE 14.32, 14.34). Index and unknown are counted along: a division for each column would
-// cost more than most of the entries, which are 0.
+// A number from 0 to one past the last index: 0 for one below, and one past the last index for one above.
+fn clamped(x: i64, last: usize) -> usize
+    requires { ⌜ last ≤ largestIndex ⌝ }
+    ensures { λ r. ⌜ Clamped x last r ⌝ }
+{
+    if x < 0 {
+        return 0;
+    }
+    let index = x as usize;
+    if last < index {
+        return last + 1;
+    }
+    index
+}
+
+// Zeros first, and then entry by entry at the indices that the equation meets, n + t to n + l, in the order of the columns (SCOPE 14.32,
+// 14.34). Index and unknown are counted along, since a division for each column would cost more than most of the entries.
 fn constant_row(
     place: &mut [i64],
     row: &[i64],
@@ -105,11 +120,13 @@ fn constant_row(
         (Constants.constantRow (sizes .m) (sizes .l) last (Stores.rowOf (now (row .entry))) n) r ⌝ }
 {
     let m = sizes.m;
-    let columns = (last + 1) * m;
-    let mut index = 0;
+    stores::rows::clear(place, 0, (last + 1) * m);
+    let first = clamped(n + sizes.t, last);
+    let end = clamped(n + sizes.l + 1, last) * m;
+    let mut index = first;
     let mut unknown = 0;
-    let mut j = 0;
-    while j < columns {
+    let mut j = first * m;
+    while j < end {
         match column_entry(row, n, sizes, index, unknown) {
             Entry::Fine(value) => place[j] = value,
             Entry::Passed(limit) => return limit,

@@ -6,26 +6,27 @@
 -- Main statements
 --   rowsOf-same, relationsOf-same   rows and relations are those of the needed parts
 --   copy-checked, copy-ran  a copy of the needed parts passes the checks, and the run on it
---   cleared                 a needed part that is cleared after it was used
-use Prim.Native.Nat.{ℕ, _*_, _≤_, zero-le}
-use native.Mathlib.Nat.{le-refl, le-of-eq, zero-add}
+--   cleared, cleared-used   a needed part that is cleared after it was used, whole or as far as it is not 0
+use Prim.Native.Nat.{ℕ, _*_, _-_, _≤_}
+use native.Mathlib.Nat.{le-refl, le-trans, le-of-eq, zero-add, add-sub-of-le}
 use native.Mathlib.Omega.{arith}
 use mathlib.Core.Path.{_≡_, sym, _∙_, ap, ap₂, subst, subst₂}
 use mathlib.Core.List.{List, _++_, map}
 use lib.Dec.{T}
 use lib.IntN.{ℤ, pos}
-use lib.ListN.{length, take, drop, replicate, length-replicate}
-use lib.Seq.{paste, length-paste, take-paste, drop-paste, take-all, length-take-le}
-use Rattle.algebra.specs.Polynomials.{isZero}
+use lib.ListN.{length, take, drop, replicate, length-drop, length-replicate, take-append-drop, replicate-append-replicate}
+use lib.Seq.{paste, length-paste, take-all, take-at, drop-at, length-take-le}
+use Rattle.algebra.specs.Polynomials.{isZero, isZero-replicate, zero-list}
 use Rattle.lists.specs.Overwritten.{overwrite, overwrite-paste}
 use Rattle.lists.specs.Parts.{parts, parts-take}
+use Rattle.lists.specs.Pasted.{paste-first, paste-rest, take-paste-within}
 use Rattle.lists.specs.Tests.{every}
 use Rattle.rules.specs.Limits.{rowLength, relationLength, mostRelations, small}
 use Rattle.rules.specs.Calls.{zeros}
 use Rattle.rules.specs.Elimination.{trailing, wholeRun, trailingRun}
 use Rattle.rules.specs.Stores.{Sizes, equations, span, rowOf, rowsOf, relationOf, relationsOf, rowNeed, relationNeed}
 use Rattle.rules.specs.Stores.{Valid, checkStores}
-use Rattle.sides.specs.Lent.{Kept}
+use Rattle.sides.specs.Lent.{Listing, Kept}
 use Rattle.sides.specs.StoreStates.{kept-then}
 use Rattle.reduction.specs.Progress.{outcomeAt}
 use Rattle.reduction.specs.Ran.{Ran}
@@ -69,31 +70,29 @@ checked-copy z count rows relations rows' relations' c rows-long relations-long 
           };
     }
 
--- The needed part of another store, copied to the front.
-module _ (need : ℕ) (from store store' : List ℤ) (source : need ≤ length from) (long : need ≤ length store)
-    (e : store' ≡ paste store 0 (take need from) (length (take need from))) where
-  abbrev part : List ℤ
-  part = take need from
-
-  exact : length part ≡ need
-  exact = length-take-le need from source
-
-  pasted : store' ≡ paste store 0 part need
-  pasted = e ∙ ap (paste store 0 part) exact
-
-  copied-front : take need store' ≡ part
-  copied-front =
-      ap₂ take (sym (zero-add need)) pasted ∙ take-paste store 0 part need zero-le (le-of-eq (sym exact))
-      ∙ take-all need part (le-of-eq exact)
-
-  copied-kept : Kept need store store'
-  copied-kept =
+-- Numbers put to the front of a store, no more than are needed.
+module _ (used need : ℕ) (store part : List ℤ) (inside : used ≤ need) (long : need ≤ length store) (exact : length part ≡ used) where
+  front-kept : Kept need store (paste store 0 part used)
+  front-kept =
+      let enough = le-of-eq (sym exact) in
       record {
-        same-length = ap length pasted ∙ length-paste store 0 part need (omega arith) (le-of-eq (sym exact));
-        same-rest =
-            ap₂ drop (sym (zero-add need)) pasted ∙ drop-paste store 0 part need zero-le (le-of-eq (sym exact))
-            ∙ ap (λ k. drop k store) (zero-add need);
+        same-length = length-paste store 0 part used (omega arith) enough;
+        same-rest = paste-rest store 0 part used need (omega arith) enough (rw zero-add inside);
       }
+
+  -- Where the places behind them hold 0.
+  front-used : T (isZero (drop used (take need store))) → take need (paste store 0 part used) ≡ part ++ zeros (need - used)
+  unfolding zeros
+  front-used unused =
+      let rest = drop used (take need store) in
+      let size : length rest ≡ need - used =
+      length-drop used (take need store) ∙ ap (λ n. n - used) (length-take-le need store long) in
+      take-paste-within store 0 part used need (le-of-eq (sym exact)) (rw zero-add inside) long
+      ∙ paste-first (take need store) part used exact ∙ ap (λ l. part ++ l) (zero-list rest unused ∙ ap zeros size)
+
+-- All that are needed.
+front-whole : (need : ℕ) (store part : List ℤ) → length part ≡ need → take need (paste store 0 part need) ≡ part
+front-whole need store part exact = ap (take need) (paste-first store part need exact) ∙ take-at part (drop need store) need exact
 
 pub record CopyRan (z : Sizes) (count : ℕ) (rows relations workRows workRelations workRows' workRelations' : List ℤ) (o : Run.Outcome)
     : Type 0 where
@@ -102,26 +101,80 @@ pub record CopyRan (z : Sizes) (count : ℕ) (rows relations workRows workRelati
   pub final : Final trailing (span z) workRows' o
   pub rows-kept : Kept (rowNeed (equations z)) workRows workRows'
   pub relations-kept : Kept relationNeed workRelations workRelations'
+  pub listing : Listing (o .progress .count) workRelations'
 
-module _ (z : Sizes) (count : ℕ) (rows relations workRows workRelations rows₁ relations₁ : List ℤ)
+module _ (z : Sizes) (count : ℕ) (rows relations workRows workRelations rows₁ empty relations₁ : List ℤ)
     (right : checkStores z count rows relations ≡ 0)
     (rows-long : rowNeed (equations z) ≤ length workRows) (relations-long : relationNeed ≤ length workRelations)
     (e : let part = take (rowNeed (equations z)) rows in rows₁ ≡ paste workRows 0 part (length part))
-    (f : let part = take relationNeed relations in relations₁ ≡ paste workRelations 0 part (length part)) where
+    (cleared-first : empty ≡ paste workRelations 0 (replicate relationNeed (pos 0)) relationNeed)
+    (f : let part = take (count * relationLength) relations in relations₁ ≡ paste empty 0 part (length part)) where
   ok : Checked z count rows relations
   ok = checked z count rows relations right
 
-  rows-front : take (rowNeed (equations z)) rows₁ ≡ take (rowNeed (equations z)) rows
-  rows-front = copied-front (rowNeed (equations z)) rows workRows rows₁ (ok .rows-within .long) rows-long e
+  -- The rows.
+  abbrev need : ℕ
+  need = rowNeed (equations z)
+
+  given-rows : length (take need rows) ≡ need
+  given-rows = length-take-le need rows (ok .rows-within .long)
+
+  rows₁-is : rows₁ ≡ paste workRows 0 (take need rows) need
+  rows₁-is = e ∙ ap (paste workRows 0 (take need rows)) given-rows
+
+  rows-front : take need rows₁ ≡ take need rows
+  rows-front = ap (take need) rows₁-is ∙ front-whole need workRows (take need rows) given-rows
+
+  rows-first : Kept need workRows rows₁
+  rows-first =
+      subst (Kept need workRows) (sym rows₁-is)
+      (front-kept need need workRows (take need rows) (le-refl need) rows-long given-rows)
+
+  -- The relations, and zeros behind them.
+  abbrev used : ℕ
+  used = count * relationLength
+
+  abbrev given : List ℤ
+  given = take used relations
+
+  inside : used ≤ relationNeed
+  inside = omega (arith, ok .listing .few)
+
+  given-relations : length given ≡ used
+  given-relations = length-take-le used relations (le-trans inside (ok .listing .within .long))
+
+  empty-kept : Kept relationNeed workRelations empty
+  empty-kept =
+      subst (Kept relationNeed workRelations) (sym cleared-first)
+      (front-kept relationNeed relationNeed workRelations (replicate relationNeed (pos 0)) (le-refl relationNeed) relations-long
+      (length-replicate relationNeed (pos 0)))
+
+  empty-long : relationNeed ≤ length empty
+  empty-long = rw (empty-kept .same-length) relations-long
+
+  empty-unused : T (isZero (drop used (take relationNeed empty)))
+  empty-unused =
+      subst (λ l. T (isZero l)) (sym (ap (drop used) (ap (take relationNeed) cleared-first
+      ∙ front-whole relationNeed workRelations (replicate relationNeed (pos 0)) (length-replicate relationNeed (pos 0))
+      ∙ ap (λ n. replicate n (pos 0)) (sym (add-sub-of-le inside)) ∙ sym (replicate-append-replicate used (relationNeed - used) (pos 0)))
+      ∙ drop-at (replicate used (pos 0)) _ used (length-replicate used (pos 0))))
+      (isZero-replicate (relationNeed - used))
+
+  relations₁-is : relations₁ ≡ paste empty 0 given used
+  relations₁-is = f ∙ ap (paste empty 0 given) given-relations
 
   relations-front : take relationNeed relations₁ ≡ take relationNeed relations
-  relations-front = copied-front relationNeed relations workRelations relations₁ (ok .listing .within .long) relations-long f
-
-  rows-first : Kept (rowNeed (equations z)) workRows rows₁
-  rows-first = copied-kept (rowNeed (equations z)) rows workRows rows₁ (ok .rows-within .long) rows-long e
+  relations-front =
+      let same : paste relations 0 given used ≡ relations =
+      paste-first relations given used given-relations ∙ take-append-drop used relations in
+      ap (take relationNeed) relations₁-is ∙ front-used used relationNeed empty given inside empty-long given-relations empty-unused
+      ∙ sym (front-used used relationNeed relations given inside (ok .listing .within .long) given-relations (ok .listing .unused))
+      ∙ ap (take relationNeed) same
 
   relations-first : Kept relationNeed workRelations relations₁
-  relations-first = copied-kept relationNeed relations workRelations relations₁ (ok .listing .within .long) relations-long f
+  relations-first =
+      kept-then empty-kept
+      (subst (Kept relationNeed empty) (sym relations₁-is) (front-kept used relationNeed empty given inside empty-long given-relations))
 
   pub copy-checked : Checked z count rows₁ relations₁
   copy-checked =
@@ -142,6 +195,7 @@ module _ (z : Sizes) (count : ℕ) (rows relations workRows workRelations rows�
         final = final-run trailing z count rows₁ relations₁ rows₂ relations₂ o copy-checked r;
         rows-kept = kept-then rows-first (r .reached .rows-kept);
         relations-kept = kept-then relations-first (r .reached .relations-kept);
+        listing = r .reached .ready .listing;
       }
 
 -- ---- zeros at the end
@@ -155,3 +209,18 @@ cleared need store store' store'' kept e =
     e ∙ overwrite-paste store' (zeros need) need (le-of-eq (sym size))
     ∙ ap (λ l. overwrite l store') (take-all need (zeros need) (le-of-eq size))
     ∙ ap (λ l. zeros need ++ l) (ap (λ n. drop n store') size ∙ kept .same-rest ∙ ap (λ n. drop n store) (sym size))
+
+-- One of which only the used places are cleared, where those behind them hold 0.
+pub cleared-used : (used need : ℕ) (store store' store'' : List ℤ) → used ≤ need → need ≤ length store'
+    → T (isZero (drop used (take need store'))) → Kept need store store' → store'' ≡ paste store' 0 (replicate used (pos 0)) used
+    → store'' ≡ overwrite (zeros need) store
+unfolding zeros overwrite
+cleared-used used need store store' store'' inside long unused kept e =
+    let part = replicate used (pos 0) in
+    let exact = length-replicate used (pos 0) in
+    e ∙ sym (take-append-drop need (paste store' 0 part used))
+    ∙ ap₂ (λ k l. k ++ l)
+    (front-used used need store' part inside long exact unused ∙ replicate-append-replicate used (need - used) (pos 0)
+    ∙ ap zeros (add-sub-of-le inside))
+    (front-kept used need store' part inside long exact .same-rest ∙ kept .same-rest
+    ∙ ap (λ n. drop n store) (sym (length-replicate need (pos 0))))

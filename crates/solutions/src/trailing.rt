@@ -2,6 +2,7 @@
 use polynomials::lengths::COEFFICIENTS;
 use sides::Side;
 use stores::lengths::COLUMNS;
+use stores::lengths::RELATION;
 use stores::lengths::RELATIONS;
 use stores::lengths::ROW;
 ghost use mathlib.Core.Path.{_≡_};
@@ -142,7 +143,8 @@ fn index_after(rows: &[i64], sizes: stores::validity::Sizes, o: reduction::step:
     index_at(answer.root + sizes.t)
 }
 
-// The trailing run on a copy of the system's stores.
+// The trailing run on a copy of the system's stores. The relations that are not there are zeros (SCOPE 3.13), which are written and not
+// copied.
 fn copy_run(
     rows: &[i64],
     relations: &[i64],
@@ -159,12 +161,15 @@ fn copy_run(
     let equations = sizes.equations;
     let need = equations * ROW;
     stores::rows::save(work_rows, 0, &rows[..need]);
-    stores::rows::save(work_relations, 0, &relations[..RELATIONS]);
+    stores::rows::clear(work_relations, 0, RELATIONS);
+    let given = count * RELATION;
+    stores::rows::save(work_relations, 0, &relations[..given]);
     let span = stores::validity::span(sizes);
     runs::trailing_run(work_rows, work_relations, equations, span, count)
 }
 
-// N, by the trailing run in stores of its own, which end as zeros (SCOPE 14.2, 14.63).
+// N, by the trailing run in stores of its own, which end as zeros: the run leaves zeros behind the relations that it lists (SCOPE 14.2,
+// 14.63).
 pub(crate) fn last_index(
     rows: &[i64],
     relations: &[i64],
@@ -181,8 +186,10 @@ pub(crate) fn last_index(
     ensures { λ _. ⌜ now («work_relations» .exit) ≡ overwrite (zeros Stores.relationNeed) (now («work_relations» .entry)) ⌝ }
 {
     let o = copy_run(rows, relations, sizes, count, work_rows, work_relations);
+    let p = o.progress;
+    let listed = p.count * RELATION;
     let last = index_after(work_rows, sizes, o);
     stores::rows::clear(work_rows, 0, sizes.equations * ROW);
-    stores::rows::clear(work_relations, 0, RELATIONS);
+    stores::rows::clear(work_relations, 0, listed);
     last
 }

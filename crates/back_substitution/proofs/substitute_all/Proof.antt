@@ -18,7 +18,7 @@ use Rattle.echelon.specs.Eliminated.{Pivot}
 use Rattle.back_substitution.specs.Listed as Listed
 use Rattle.echelon.specs.MatrixTurns.{pivotsIn}
 use Rattle.constant_rows.specs.ListLengths.{listColumns}
-use Rattle.back_substitution.specs.BackSubstitution.{pivotAt, pivots-length, pivot-at, back, back-none, back-next, unit-small}
+use Rattle.back_substitution.specs.BackSubstitution.{pivotAt, pivot-at, back, back-unmet, back-next, unit-small}
 use Rattle.back_substitution.specs.BackSubstitution.{back-solves, row-ready, filled-all, filled-not}
 use Rattle.back_substitution.proofs.substitute_all.Statement.{statement}
 use Rattle.back_substitution.proofs.substitute_all.Tie as tie
@@ -33,7 +33,7 @@ abbrev μ-loop : tie.MeasureT-loop
 -- settled row i - 1
 module _ (c : tie.In-loop Inv-loop μ-loop) where
   abbrev start : tie.Start Inv-loop μ-loop
-  start = c .before .before .before
+  start = c .before .before .before .before
 
   abbrev matrix : List ℤ
   matrix = now (start .args .matrix)
@@ -99,13 +99,16 @@ module _ (c : tie.After-substituted Inv-loop μ-loop) where
       ∙ ap₂ (λ r w. Listed.substitute (pivotAt r (getD (columns at) (i at) 0)) w) (lent at) (v-is at)
       ∙ sym (back-next (n at) (ps at) (f at) (i at) (pivotAt (row at) (getD (columns at) (i at) 0)) (pivot at))
 
+rows-meeting-requires : tie.Need-rows-meeting-requires Inv-loop μ-loop
+rows-meeting-requires c κs = let s = c .before in (s .pre .0 .3, omega (arith, s .pre .0 .0, s .pre .0 .1))
+
 loop-holds : tie.Need-loop-holds Inv-loop μ-loop
 loop-holds c =
-    let s = c .before in
-    let P = pivotsIn (s .args .n) (now (s .args .columns)) (now (s .args .matrix)) in
-    let none = back-none (s .args .n) P (s .args .f) (length (now (s .args .columns)))
-    (rw pivots-length (omega arith)) in
-    (omega arith, refl, s .pre .0 .2 ∙ sym none, rw (s .pre .0 .2) (unit-small (s .args .n) (s .args .f)))
+    let s = c .before .before in
+    let met = c .rows-meeting .ensures in
+    let unmet =
+    back-unmet (s .args .n) (s .args .f) (now (s .args .columns)) (now (s .args .matrix)) _ (s .pre .0 .0) (s .pre .0 .1) (s .pre .1) met in
+    (met .few, refl, s .pre .0 .2 ∙ sym unmet, rw (s .pre .0 .2) (unit-small (s .args .n) (s .args .f)))
 
 sub-i : tie.Need-sub-i Inv-loop μ-loop
 sub-i c = search needs
@@ -167,7 +170,7 @@ same-length-2 c = search needs
 
 returns-2 : tie.Need-returns-2 Inv-loop μ-loop
 returns-2 c =
-    let s = c .before .before .before in
+    let s = c .before .before .before .before in
     let P = pivotsIn (s .args .n) (now (s .args .columns)) (now (s .args .matrix)) in
     let at = c .before .loop in
     filled-all (s .args .n) P (s .args .f) (s .pre .0 .1) (s .pre .1) (at .i) (at .v) (omega arith) (at .inv .2) (at .inv .3)
@@ -178,6 +181,7 @@ substitute-all-spec =
     (tie.spec
     Inv-loop
     μ-loop
+    rows-meeting-requires
     loop-holds
     sub-i
     mul-from
