@@ -12,21 +12,26 @@
 --   within-yes, within-no, within-size   a value that is kept is within the limit
 --   after-some                  what comes after a value that is there
 --   used-length, used-zero      no more than there are, and only zeros behind them
+--   reach-none, reach-same, reach-next, reach-used   how far the coefficients that are not 0 reach, one looked at after the other
+--   horner-last                 the highest coefficient is the first value
 --   horner-zero, horner-front   zeros leave the value at 0, and those at the top leave it as it is
 --   horner-next, horner-past    a coefficient more, at the low end; what is past the limit stays so
 --   horner-size                 a value that is formed is within the limit
 --   horner-eval                 where Horner's rule gives a value, it is that of the polynomial
-use Prim.Native.Nat.{ℕ, zero, suc, _+_, _≤_, _<_, zero-le}
+use Prim.Native.Nat.{ℕ, zero, suc, _+_, _-_, _≤_, _<_, zero-le}
+use native.Mathlib.Decide.{decLt}
 use native.Mathlib.Omega.{arith}
 use mathlib.Core.Path.{_≡_, refl, sym, _∙_, ap}
 use mathlib.Core.Bool.{Bool, true, false, cond}
+use mathlib.Core.Logic.{_≢_}
 use mathlib.Core.List.{[], _∷_}
 use mathlib.Core.Option.{Option, none, some}
 use lib.Dec.{T, leb, leb→le, le→leb, lit≤}
 use lib.ListN.{length, take, drop, getD}
-use lib.IntN.{ℤ, pos, natAbs, _+ℤ_, _*ℤ_, *ℤ-zero}
-use Rattle.algebra.specs.Coefficients.{coeff-drop, coeff-past-degree}
-use Rattle.algebra.specs.Polynomials.{Polynomial, eval, isZero, degree, isZero-cons, coeff-isZero}
+use lib.Seq.{drop-length}
+use lib.IntN.{ℤ, pos, natAbs, _+ℤ_, _*ℤ_, *ℤ-zero, +ℤ-idr}
+use Rattle.algebra.specs.Coefficients.{coeff-drop, coeff-past-degree, coeff-past-length, degree-unique}
+use Rattle.algebra.specs.Polynomials.{Polynomial, coeff, eval, isZero, degree, isZero-cons, isZero-coeff, coeff-isZero}
 use Rattle.lists.specs.Taken.{drop-next}
 use Rattle.lists.specs.Tests.{true-of, false-of}
 use Rattle.polynomials.specs.Content.{degree-below}
@@ -133,6 +138,59 @@ used-zero p = go (isZero p) (λ z. z)
     go true z = z tt
     go false z =
         coeff-isZero (drop (suc (degree p)) p) (λ k. coeff-drop (suc (degree p)) p k ∙ coeff-past-degree p (suc (degree p) + k) (omega arith))
+
+-- Among the first i coefficients the last that is not 0 is the one before r; there is none where r is 0.
+pub record Reaches (p : Polynomial) (i r : ℕ) : Type 0 where
+  pub few : r ≤ i
+  pub zeros : (k : ℕ) → r ≤ k → k < i → coeff p k ≡ pos 0
+  pub last : 0 < r → coeff p (r - 1) ≢ pos 0
+
+pub reach-none : (p : Polynomial) → Reaches p 0 0
+reach-none p = record { few = zero-le; zeros = λ k h l. absurd (omega arith); last = λ h. absurd (omega arith) }
+
+pub reach-same : (p : Polynomial) (i r : ℕ) → Reaches p i r → coeff p i ≡ pos 0 → Reaches p (i + 1) r
+reach-same p i r w e = record { few = omega (arith, w .few); zeros = zeros; last = w .last }
+  where
+    zeros : (k : ℕ) → r ≤ k → k < i + 1 → coeff p k ≡ pos 0
+    zeros k h l = cases (decLt k i)
+      where
+        cases : Dec (k < i) → coeff p k ≡ pos 0
+        cases (yes below) = w .zeros k h below
+        cases (no other) = let z : k ≡ i = omega arith in ap (coeff p) z ∙ e
+
+pub reach-next : (p : Polynomial) (i : ℕ) → coeff p i ≢ pos 0 → Reaches p (i + 1) (i + 1)
+reach-next p i h =
+    let z : i + 1 - 1 ≡ i = omega arith in
+    record { few = omega arith; zeros = λ k l m. absurd (omega arith); last = λ l e. h (ap (coeff p) (sym z) ∙ e) }
+
+pub reach-used : (p : Polynomial) (i r : ℕ) → length p ≤ i → Reaches p i r → r ≡ used p
+unfolding used
+reach-used p i r h w = cases r w
+  where
+    past : (r : ℕ) → Reaches p i r → (k : ℕ) → r ≤ k → coeff p k ≡ pos 0
+    past r w k l = cases (decLt k i)
+      where
+        cases : Dec (k < i) → coeff p k ≡ pos 0
+        cases (yes below) = w .zeros k l below
+        cases (no other) = coeff-past-length p k (omega arith)
+
+    cases : (r : ℕ) → Reaches p i r → r ≡ cond (isZero p) 0 (suc (degree p))
+    cases zero w = sym (ap (λ t. cond t 0 (suc (degree p))) (true-of (isZero p) (coeff-isZero p (λ k. past zero w k zero-le))))
+    cases (suc r) w =
+        let z : suc r - 1 ≡ r = omega arith in
+        let last : coeff p r ≢ pos 0 = λ e. w .last (omega arith) (ap (coeff p) z ∙ e) in
+        ap suc (sym (degree-unique p r last (λ k l. past (suc r) w k (omega arith))))
+        ∙ sym (ap (λ t. cond t 0 (suc (degree p))) (false-of (isZero p) (λ t. last (isZero-coeff p t r))))
+
+-- The highest coefficient is the first value.
+pub horner-last : (n : ℤ) (p : Polynomial) (i : ℕ) → i + 1 ≡ length p → natAbs (getD p i (pos 0)) ≤ valueLimit
+    → horner n (drop i p) ≡ some (getD p i (pos 0))
+unfolding horner
+horner-last n p i e h =
+    let a = getD p i (pos 0) in
+    let none-left : horner n (drop (i + 1) p) ≡ some (pos 0) = ap (λ k. horner n (drop k p)) e ∙ ap (horner n) (drop-length p) in
+    horner-next n p i (pos 0) (omega arith) none-left
+    ∙ ap within (ap (λ b. a +ℤ b) (*ℤ-zero n) ∙ +ℤ-idr a) ∙ within-yes a h
 
 pub horner-past : (n : ℤ) (p : Polynomial) (i : ℕ) → horner n (drop i p) ≡ none → horner n p ≡ none
 unfolding horner after

@@ -17,24 +17,33 @@ pub enum Formed {
     Past,
 }
 
-// How many coefficients there are up to the highest that is not 0: those above leave the value at 0. A polynomial of zeros only, which is the
-// most frequent, has none.
+// How many coefficients there are up to the highest that is not 0: those above leave the value at 0. All are looked at, with no stop: where
+// the highest stands cannot be foreseen.
 pub fn used(p: &[i64]) -> usize
     ensures { λ r. ⌜ r ≡ Evaluated.used (now (p .entry)) ⌝ }
 {
-    if polynomials::content::all_zero(p) {
-        return 0;
+    let mut reached = 0;
+    let mut i = 0;
+    while i < p.len() {
+        if p[i] != 0 {
+            reached = i + 1;
+        }
+        i += 1;
     }
-    polynomials::content::degree(p) + 1
+    reached
 }
 
-// Horner's rule, from the highest power down, over all coefficients that are there (SCOPE 12.31).
+// Horner's rule, from the highest power down, over all coefficients that are there (SCOPE 12.31). It begins with the highest coefficient,
+// which is within ±C and so within the limit.
 pub fn evaluate(p: &[i64], n: i64) -> Formed
     requires { ⌜ T (every small (now p)) × (natAbs n ≤ Evaluated.farthest) ⌝ }
     ensures { λ r. ⌜ Evaluated.formedOf r ≡ Evaluated.horner n (now (p .entry)) ⌝ }
 {
-    let mut i = p.len();
-    let mut value: i64 = 0;
+    if p.len() == 0 {
+        return Formed::Value(0);
+    }
+    let mut i = p.len() - 1;
+    let mut value = p[i];
     while 0 < i {
         i -= 1;
         value = p[i] + n * value;

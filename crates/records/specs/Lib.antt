@@ -3,6 +3,7 @@ pub mod RecordSums
 pub mod Terms
 pub mod RecordPlaces
 pub mod RecordAnswers
+pub mod Successive
 pub mod RecordChecks
 pub mod RecordMeaning
 pub mod Outcomes

@@ -6,6 +6,7 @@
 --
 -- Main statements
 --   answer-past, answer-zero, answer-fails   a test past the limit, one with sum zero, and one that fails
+--   answer-fits         "fits" says that each sum is zero
 --   answer-append, stays   tests in two parts
 --   answer-count        "fits" counts the tests
 --   rows-next, relations-next, row-tests-next, relation-tests-next   one row, or one relation, more
@@ -70,6 +71,21 @@ module _ (k : ℕ) (t : Tested) (ts : List Tested) where
   pub answer-zero : t .sum ≡ some (pos 0) → answerTo k (t ∷ ts) ≡ answerTo (k + 1) ts
   unfolding isZeroℤ
   answer-zero e = at-sum (pos 0) e ∙ ap (λ j. answerTo j ts) (sym (add-one k))
+
+  -- Where the answer is "fits", the sum of the first test is zero.
+  pub answer-fits : (j : ℕ) → answerTo k (t ∷ ts) ≡ fits j → (t .sum ≡ some (pos 0)) × (answerTo (k + 1) ts ≡ fits j)
+  answer-fits j e = go (t .sum) refl
+    where
+      sums : (s : ℤ) → t .sum ≡ some s → (b : Bool) → isZeroℤ s ≡ b → (t .sum ≡ some (pos 0)) × (answerTo (k + 1) ts ≡ fits j)
+      sums s f true z =
+          let zero-sum : t .sum ≡ some (pos 0) = f ∙ ap some (isZeroℤ-iff s .0 (rw z tt)) in (zero-sum, sym (answer-zero zero-sum) ∙ e)
+      sums s f false z =
+          let other = sym (at-sum s f ∙ ap (λ b. cond b (answerTo (suc k) ts) (fails (t .which) (t .index) s)) z) ∙ e in
+          absurd (let z : _≡_ {A = ℕ} 0 1 = cc in omega arith)
+
+      go : (o : Option ℤ) → t .sum ≡ o → (t .sum ≡ some (pos 0)) × (answerTo (k + 1) ts ≡ fits j)
+      go none f = let past = sym (answer-past f) ∙ e in absurd (let z : _≡_ {A = ℕ} 0 1 = cc in omega arith)
+      go (some s) f = sums s f (isZeroℤ s) refl
 
   pub answer-fails : (s : ℤ) → t .sum ≡ some s → s ≢ pos 0 → answerTo k (t ∷ ts) ≡ fails (t .which) (t .index) s
   answer-fails s e d =
@@ -268,7 +284,7 @@ pub l-near : (z : Sizes) → SizeBounds z → natAbs (z .l) ≤ blockBound
 l-near z b = natAbs-≤-iff (z .l) .1 (≤ℤ-trans (b .low) (b .ordered), b .high)
 
 pub index-size : (z : Sizes) (first : ℤ) (j : ℕ) → SizeBounds z → natAbs first ≤ indexBound → j ≤ mostVectors
-    → natAbs (indexFrom z first j) ≤ farthest
+    → natAbs (indexFrom z first j) + mostVectors ≤ farthest
 unfolding indexFrom
 index-size z first j b h k =
     omega (arith, natAbs-+ℤ (first -ℤ z .t) (pos j), natAbs-+ℤ first (negℤ (z .t)), natAbs-negℤ (z .t), t-near z b)

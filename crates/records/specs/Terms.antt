@@ -6,32 +6,28 @@
 --   withProduct, termSum        a sum with a polynomial's product added; the sum of the first terms
 --   Fine                        the terms lie in the row, and their numbers among so many
 --   Listed                      what the terms listed behind others add to every sum
---   Shaped, AllShaped           a shape is that of a row; shapes are those of the rows of a store
+--   Shaped                      a shape is that of a row
 --
 -- Main statements
 --   numbers-room                the numbers of the terms are there
---   sum-next, sum-stop          one term more
---   sum-past                    what is past the limit stays so
---   column-skipped, column-listed   a zero polynomial is left out, any other is listed
+--   column-skipped, column-listed   a zero polynomial does not count, any other is listed
 --   listed-none, listed-column  columns listed one after the other
 --   blocks-none, blocks-listed  blocks listed one after the other
---   blocks-shaped, shapes-next  the shape of a row, and those of the rows one after the other
+--   blocks-shaped               the shape of a row
 use Prim.Native.Nat.{ℕ, zero, suc, pred, _+_, _*_, _-_, _≤_, _<_, zero-le}
-use native.Mathlib.Nat.{add-zero, zero-add, sub-zero, add-mul, one-mul, suc-mul, mul-le-mul, le-refl}
+use native.Mathlib.Nat.{add-zero, sub-zero, add-mul, one-mul, suc-mul, mul-le-mul, le-refl}
 use native.Mathlib.Numerals.{add-one}
-use native.Mathlib.Decide.{decLe, decLt}
+use native.Mathlib.Decide.{decLt}
 use native.Mathlib.Omega.{arith}
 use mathlib.Core.Path.{_≡_, refl, sym, _∙_, ap, ap₂, subst}
 use mathlib.Core.List.{List, [], _∷_, _++_, map, map-append}
 use mathlib.Core.Option.{Option, none, some}
-use borrow.Rule.Slice.PartMut.{putMid, postOf}
 use lib.Dec.{T}
-use lib.ListN.{length, take, drop, getD, set, length-set, length-take, length-drop, length-map}
-use lib.Seq.{getD-set-same, getD-set-other, take-take, drop-drop, length-take-le, drop-append-le, take-append-le, drop-at, take-at}
+use lib.ListN.{length, take, drop, getD, set, length-set, length-take, length-map}
+use lib.Seq.{getD-set-same, getD-set-other, take-take, drop-drop}
 use lib.IntN.{ℤ, pos, _+ℤ_, _*ℤ_, zero-*ℤ, +ℤ-idr}
 use Rattle.algebra.specs.Polynomials.{Polynomial, isZero}
 use Rattle.lists.specs.Parts.{parts, parts-length, parts-more}
-use Rattle.lists.specs.Taken.{part-of-part}
 use Rattle.rules.specs.Layout.{blockOf}
 use Rattle.rules.specs.Limits.{coefficientCount, columnCount, polynomialCount, mostSpan, blockLength, entriesLength, rowLength}
 use Rattle.rules.specs.Rows.{Block}
@@ -47,6 +43,10 @@ termLength = 3
 -- Behind the terms stand how many there are and where the right side ends.
 abbrev pub shapeLength : ℕ
 shapeLength = polynomialCount * termLength + 2
+
+-- Where it stands how many there are.
+abbrev pub countPlace : ℕ
+countPlace = polynomialCount * termLength
 
 -- The coefficients from the place where a term's polynomial begins to the place where it ends.
 unfoldable pub termPolynomial : List ℤ → List ℕ → ℕ → Polynomial
@@ -96,20 +96,17 @@ pub record Shaped (m span : ℕ) (row : List ℤ) (shape : List ℕ) : Type 0 wh
   pub right : (n : ℤ) → horner n (take (getD shape (polynomialCount * termLength + 1) 0 - entriesLength) (drop entriesLength row))
       ≡ horner n (rowOf row .right)
 
--- Each row of a store has its shape.
-abbrev pub AllShaped : ℕ → ℕ → ℕ → List ℤ → List ℕ → Type 0
-AllShaped m span equations rows shapes =
-    (i : ℕ) → i < equations → Shaped m span (take rowLength (drop (i * rowLength) rows)) (take shapeLength (drop (i * shapeLength) shapes))
-
--- The numbers that the blocks meet are there where vector `top` is.
-pub numbers-room : (m span top n : ℕ) → span ≤ top → (top + 1) * m ≤ n → (top - span) * m + (span + 1) * m ≤ n
-numbers-room m span top n h room =
-    let e : top - span + (span + 1) ≡ top + 1 = omega arith in
-    omega (arith, sym (add-mul (top - span) (span + 1) m) ∙ ap (λ k. k * m) e)
+-- The numbers that the blocks meet at so many successive n are there where the vectors that block l meets are.
+pub numbers-room : (m span top tests n : ℕ) → span ≤ top → 0 < tests → (top + tests) * m ≤ n
+    → (top - span) * m + (tests - 1) * m + (span + 1) * m ≤ n
+numbers-room m span top tests n h some-tests room =
+    let e : top - span + (tests - 1) + (span + 1) ≡ top + tests = omega arith in
+    let parts = add-mul (top - span + (tests - 1)) (span + 1) m in
+    omega (arith, parts, add-mul (top - span) (tests - 1) m, ap (λ k. k * m) e)
 
 -- ---- what follows a value
 
-after-same : {A B : Type 0} (f g : A → Option B) → ((x : A) → f x ≡ g x) → (o : Option A) → after f o ≡ after g o
+pub after-same : {A B : Type 0} (f g : A → Option B) → ((x : A) → f x ≡ g x) → (o : Option A) → after f o ≡ after g o
 unfolding after
 after-same f g h none = refl
 after-same f g h (some v) = h v
@@ -152,36 +149,6 @@ pub fine-wider : (long width more : ℕ) (shape : List ℕ) (count : ℕ) → wi
 fine-wider long width more shape count h f k l =
     record { order = f k l .order; inside = f k l .inside; number = omega (arith, f k l .number) }
 
--- One term more, whose value is formed or not.
-pub sum-next : (n : ℤ) (row values : List ℤ) (base : ℕ) (shape : List ℕ) (k : ℕ) (s v : ℤ) → termSum n row values base shape k ≡ some s
-    → horner n (termPolynomial row shape k) ≡ some v
-    → termSum n row values base shape (k + 1) ≡ some (s +ℤ v *ℤ getD values (base + getD shape (k * termLength + 2) 0) (pos 0))
-unfolding termSum withProduct after
-sum-next n row values base shape k s v e f =
-    let place = base + getD shape (k * termLength + 2) 0 in
-    ap (termSum n row values base shape) (add-one k) ∙ ap (after (withProduct n values place (termPolynomial row shape k))) e
-    ∙ ap (after (λ v. some (s +ℤ v *ℤ getD values place (pos 0)))) f
-
-pub sum-stop : (n : ℤ) (row values : List ℤ) (base : ℕ) (shape : List ℕ) (k : ℕ) (s : ℤ) → termSum n row values base shape k ≡ some s
-    → horner n (termPolynomial row shape k) ≡ none → termSum n row values base shape (k + 1) ≡ none
-unfolding termSum withProduct after
-sum-stop n row values base shape k s e f =
-    let place = base + getD shape (k * termLength + 2) 0 in
-    ap (termSum n row values base shape) (add-one k) ∙ ap (after (withProduct n values place (termPolynomial row shape k))) e
-    ∙ ap (after (λ v. some (s +ℤ v *ℤ getD values place (pos 0)))) f
-
--- What is past the limit stays so.
-pub sum-past : (n : ℤ) (row values : List ℤ) (base : ℕ) (shape : List ℕ) (k count : ℕ) → k ≤ count
-    → termSum n row values base shape k ≡ none → termSum n row values base shape count ≡ none
-unfolding termSum after
-sum-past n row values base shape k zero h e = let z : k ≡ 0 = omega arith in subst (λ j. termSum n row values base shape j ≡ none) z e
-sum-past n row values base shape k (suc c) h e = cases (decLe k c) (λ l. sum-past n row values base shape k c l e)
-  where
-    cases : Dec (k ≤ c) → (k ≤ c → termSum n row values base shape c ≡ none) → termSum n row values base shape (suc c) ≡ none
-    cases (yes l) r =
-        ap (after (withProduct n values (base + getD shape (c * termLength + 2) 0) (termPolynomial row shape c))) (r l)
-    cases (no f) r = let z : k ≡ suc c = omega arith in subst (λ j. termSum n row values base shape j ≡ none) z e
-
 -- ---- one column
 
 -- The product of a zero polynomial adds nothing.
@@ -198,15 +165,6 @@ module _ (row : List ℤ) (shape : List ℕ) (count from number : ℕ) where
   abbrev added : ℤ → List ℤ → ℕ → ℤ → Option ℤ
   added n values base s = withProduct n values (base + number) columnAt s
 
-  pub column-skipped : T (isZero columnAt) → Listed row shape count shape count 1 (number + 1) added
-  column-skipped z = record {
-    same-length = refl;
-    few = omega arith;
-    fine = λ width h f. f;
-    sums = λ n values base.
-        sym (after-keep (added n values base) (product-zero n values (base + number) columnAt z) (termSum n row values base shape count));
-  }
-
   -- The shape with where the polynomial begins, then with where it ends, and then with its number: the term behind the first ones.
   abbrev begun : List ℕ
   begun = set shape (count * termLength) from
@@ -222,6 +180,16 @@ module _ (row : List ℤ) (shape : List ℕ) (count from number : ℕ) where
       getD-set-other ended (count * termLength + 2) i number 0 (λ e. absurd (omega arith))
       ∙ getD-set-other begun (count * termLength + 1) i (from + used columnAt) 0 (λ e. absurd (omega arith))
       ∙ getD-set-other shape (count * termLength) i from 0 (λ e. absurd (omega arith))
+
+  pub column-skipped : T (isZero columnAt) → Listed row shape count withTerm count 1 (number + 1) added
+  column-skipped z = record {
+    same-length = simp length-set;
+    few = omega arith;
+    fine = λ width h f. fine-same (length row) width shape withTerm count terms-before f;
+    sums = λ n values base.
+        sum-same n row values base shape withTerm count terms-before
+        ∙ sym (after-keep (added n values base) (product-zero n values (base + number) columnAt z) (termSum n row values base shape count));
+  }
 
   module _ (room : count * termLength + termLength ≤ length shape) where
     begins : getD withTerm (count * termLength) 0 ≡ from
@@ -496,35 +464,3 @@ module _ (m span : ℕ) (row : List ℤ) (shape : List ℕ) (count : ℕ) (narro
     right-to = omega (arith, end-is, right-few);
     right = right-kept;
   }
-
--- ---- the shapes of the rows
-
--- A part before the one that is put, and that one.
-put-before : (at width j w : ℕ) (l q : List ℕ) → j + w ≤ at → at ≤ length l → take w (drop j (putMid at width l q)) ≡ take w (drop j l)
-put-before at width j w l q h room =
-    let long : length (take at l) ≡ at = length-take-le at l room in
-    ap (take w) (drop-append-le j (take at l) (q ++ postOf at width l) (omega arith))
-    ∙ take-append-le w (drop j (take at l)) (q ++ postOf at width l) (omega (arith, length-drop j (take at l)))
-    ∙ part-of-part 0 j w at l h ∙ ap (λ k. take w (drop k l)) (zero-add j)
-
-put-here : (at width w : ℕ) (l q : List ℕ) → length q ≡ w → at ≤ length l → take w (drop at (putMid at width l q)) ≡ q
-put-here at width w l q long room =
-    ap (take w) (drop-at (take at l) (q ++ postOf at width l) at (length-take-le at l room)) ∙ take-at q (postOf at width l) w long
-
--- One shape more in its place.
-pub shapes-next : (m span i : ℕ) (rows : List ℤ) (shapes shape : List ℕ) (width : ℕ) → i * shapeLength ≤ length shapes
-    → AllShaped m span i rows shapes → Shaped m span (take rowLength (drop (i * rowLength) rows)) shape
-    → AllShaped m span (i + 1) rows (putMid (i * shapeLength) width shapes shape)
-shapes-next m span i rows shapes shape width room all here k l = cases (decLt k i)
-  where
-    cases : Dec (k < i) → Shaped m span (take rowLength (drop (k * rowLength) rows))
-        (take shapeLength (drop (k * shapeLength) (putMid (i * shapeLength) width shapes shape)))
-    cases (yes below) =
-        subst (Shaped m span (take rowLength (drop (k * rowLength) rows)))
-        (sym (put-before (i * shapeLength) width (k * shapeLength) shapeLength shapes shape (omega arith) room)) (all k below)
-    cases (no other) =
-        let e : i ≡ k = omega arith in
-        subst (λ j. Shaped m span (take rowLength (drop (j * rowLength) rows))
-        (take shapeLength (drop (j * shapeLength) (putMid (i * shapeLength) width shapes shape)))) e
-        (subst (Shaped m span (take rowLength (drop (i * rowLength) rows)))
-        (sym (put-here (i * shapeLength) width shapeLength shapes shape (here .long) room)) here)

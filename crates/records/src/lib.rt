@@ -1,10 +1,9 @@
 // Recorded vectors: does a system explain them? `check_record` is the public entry point: no `requires`, and a contract that gives the
 // answer by one equation. It only reads what it is lent.
-use evaluation::Formed;
 use stores::lengths::EQUATIONS;
 use stores::lengths::RELATION;
 use stores::lengths::ROW;
-use terms::SHAPE;
+use sums::TESTS;
 ghost use mathlib.Core.Path.{_≡_};
 ghost use mathlib.Core.Bool.{_&&_};
 ghost use mathlib.Core.List.{[], _∷_};
@@ -21,7 +20,7 @@ ghost use Rattle.stores.specs.Validity.{sizesOf};
 ghost use Rattle.evaluation.specs.Evaluated.{farthest};
 ghost use Rattle.records.specs.Records as Records;
 ghost use Rattle.records.specs.RecordAnswers.{answerOf};
-ghost use Rattle.records.specs.Terms.{shapeLength, AllShaped};
+ghost use Rattle.records.specs.Successive.{ZerosAt, AllKnown, storedTests};
 
 mod checks;
 mod sums;
@@ -39,43 +38,63 @@ pub enum Answer {
     Refused(u8),
 }
 
-// The equations at n, by number, after so many tests (SCOPE 12.22).
-fn equations_at(
+// The sums of the equations at so many successive n, those of an equation behind those of the one before, and at how many n each is formed.
+fn equation_sums(
+    sums: &mut [i64],
+    formed: &mut [usize],
+    tests: usize,
     rows: &[i64],
-    shapes: &[usize],
     equations: usize,
     n: i64,
     values: &[i64],
     m: usize,
     span: usize,
-    top: usize,
-    before: usize,
-) -> Answer
+)
     requires { ⌜ (Stores.rowNeed equations ≤ length (now rows)) × T (every smallRow (Stores.rowsOf equations (now rows)))
-        × (natAbs n ≤ farthest) ⌝ }
-    requires { ⌜ T (Records.valuesRight (now values)) × ((top + 1) * m ≤ length (now values))
-        × (m ≤ columnCount) × (span ≤ mostSpan) × (span ≤ top) ⌝ }
-    requires { ⌜ (equations ≤ mostEquations) × (mostEquations * shapeLength ≤ length (now shapes))
-        × AllShaped m span equations (now rows) (now shapes) ⌝ }
-    requires { ⌜ before + equations ≤ 1000 ⌝ }
-    ensures { λ r. ⌜ answerOf r ≡ Records.answerTo before
-        (Records.rowTests m span (now (values .entry)) top n 1 (Stores.rowsOf equations (now (rows .entry)))) ⌝ }
+        × (natAbs n + tests ≤ farthest) ⌝ }
+    requires { ⌜ T (Records.valuesRight (now values)) × ((span + tests) * m ≤ length (now values))
+        × (m ≤ columnCount) × (span ≤ mostSpan) × (0 < tests) ⌝ }
+    requires { ⌜ (equations ≤ mostEquations) × (tests ≤ Records.mostVectors) × (length (now formed) ≡ mostEquations)
+        × ZerosAt (now sums) 0 (mostEquations * Records.mostVectors) ⌝ }
+    ensures { λ _. ⌜ AllKnown m span n (now (values .entry)) (now (rows .entry)) tests (now (sums .exit)) (now (formed .exit)) equations ⌝ }
 {
     let mut i = 0;
     while i < equations {
-        let at = i * SHAPE;
-        let end = at + SHAPE;
-        let Formed::Value(sum) = sums::row_sum(
+        formed[i] = sums::row_sums(
+            sums,
+            i * TESTS,
+            tests,
             stores::rows::row_at(rows, i * ROW),
-            &shapes[at..end],
             n,
             values,
+            span,
             m,
             span,
-            top,
-        ) else {
+        );
+        i += 1;
+    }
+}
+
+// The equations at one n, that of number j, by number, after so many tests (SCOPE 12.22): their sums are there.
+fn equations_at(
+    sums: &[i64],
+    formed: &[usize],
+    equations: usize,
+    j: usize,
+    n: i64,
+    before: usize,
+) -> Answer
+    requires { ⌜ (equations ≤ mostEquations) × (length (now formed) ≡ mostEquations) × (before + equations ≤ 1000) ⌝ }
+    requires { ⌜ (mostEquations * Records.mostVectors ≤ length (now sums)) × (j < Records.mostVectors) ⌝ }
+    ensures { λ r. ⌜ answerOf r
+        ≡ Records.answerTo before (storedTests n (now (sums .entry)) (now (formed .entry)) j 0 equations) ⌝ }
+{
+    let mut i = 0;
+    while i < equations {
+        if formed[i] <= j {
             return Answer::Refused(LIMIT_PASSED);
-        };
+        }
+        let sum = sums[i * TESTS + j];
         if sum != 0 {
             return Answer::Equation(i + 1, n, sum);
         }
@@ -88,7 +107,7 @@ fn equations_at(
 fn index_from(sizes: stores::validity::Sizes, first: i64, j: usize) -> i64
     requires { ⌜ T (Stores.sizesRight (sizesOf sizes)) × (natAbs first ≤ Records.indexBound) × (j ≤ Records.mostVectors) ⌝ }
     ensures { λ r. ⌜ r ≡ Records.indexFrom (sizesOf sizes) first j ⌝ }
-    ensures { λ r. ⌜ natAbs r ≤ farthest ⌝ }
+    ensures { λ r. ⌜ natAbs r + Records.mostVectors ≤ farthest ⌝ }
 {
     first - sizes.t + j as i64
 }
@@ -112,23 +131,28 @@ fn equations_fit(
     let m = sizes.m;
     let equations = sizes.equations;
     let span = stores::validity::span(sizes);
-    let mut shapes = [0usize; EQUATIONS * SHAPE];
-    terms::row_shapes(&mut shapes, rows, equations, m, span);
+    if vectors <= span {
+        return Answer::Fits(0);
+    }
+    let tests = vectors - span;
+    let mut sums = [0i64; EQUATIONS * TESTS];
+    let mut formed = [0usize; EQUATIONS];
+    equation_sums(
+        &mut sums,
+        &mut formed,
+        tests,
+        rows,
+        equations,
+        index_from(sizes, first, 0),
+        values,
+        m,
+        span,
+    );
     let mut tested = 0;
     let mut j = 0;
-    while j + span < vectors {
+    while j < tests {
         let n = index_from(sizes, first, j);
-        let answer = equations_at(
-            rows,
-            &shapes,
-            equations,
-            n,
-            values,
-            m,
-            span,
-            j + span,
-            tested,
-        );
+        let answer = equations_at(&sums, &formed, equations, j, n, tested);
         let Answer::Fits(k) = answer else {
             return answer;
         };
@@ -175,11 +199,11 @@ fn relation_at(
     let span = stores::validity::span(sizes);
     let top = (n + l - first) as usize;
     let row = stores::rows::row_at(relations, at + 1);
-    let mut shape = [0usize; SHAPE];
-    terms::row_shape(&mut shape, row, m, span);
-    let Formed::Value(sum) = sums::row_sum(row, &shape, n, values, m, span, top) else {
+    let mut sums = [0i64; 1];
+    if sums::row_sums(&mut sums, 0, 1, row, n, values, top, m, span) == 0 {
         return Answer::Refused(LIMIT_PASSED);
-    };
+    }
+    let sum = sums[0];
     if sum != 0 {
         return Answer::Relation(number, n, sum);
     }

@@ -4,13 +4,11 @@ use polynomials::lengths::COEFFICIENTS;
 use stores::lengths::BLOCK;
 use stores::lengths::ENTRIES;
 use stores::lengths::POLYNOMIALS;
-use stores::lengths::ROW;
 ghost use mathlib.Core.Path.{_≡_};
 ghost use Prim.Native.Nat.{_+_, _*_, _-_, _≤_, _<_};
 ghost use lib.ListN.{length, take, drop};
-ghost use Rattle.rules.specs.Limits.{coefficientCount, columnCount, polynomialCount, blockLength, rowLength, mostSpan, mostEquations};
-ghost use Rattle.rules.specs.Stores as Stores;
-ghost use Rattle.records.specs.Terms.{shapeLength, withProduct, columnsAdded, Listed, BlocksListed, Shaped, AllShaped};
+ghost use Rattle.rules.specs.Limits.{coefficientCount, columnCount, polynomialCount, blockLength, rowLength, mostSpan};
+ghost use Rattle.records.specs.Terms.{shapeLength, withProduct, columnsAdded, Listed, BlocksListed, Shaped};
 
 // A term: where its polynomial begins in the row, where its coefficients end, the last being not 0, and which of the numbers that the
 // row's blocks meet multiplies it, those of the lowest block first.
@@ -25,7 +23,7 @@ pub const RIGHT_END: usize = COUNT + 1;
 // The numbers of a row's shape.
 pub const SHAPE: usize = RIGHT_END + 1;
 
-// The term of the polynomial from a place on, behind the others; none where it is zero. How many there are then?
+// The term of the polynomial from a place on, behind the others; it counts unless the polynomial is zero. How many there are then?
 fn column_term(shape: &mut [usize], row: &[i64], from: usize, number: usize, count: usize) -> usize
     requires { ⌜ (from + coefficientCount ≤ length (now row)) × (length (now row) ≡ rowLength) ⌝ }
     requires { ⌜ (length (now shape) ≡ shapeLength) × (count < polynomialCount) ⌝ }
@@ -34,14 +32,11 @@ fn column_term(shape: &mut [usize], row: &[i64], from: usize, number: usize, cou
 {
     let to = from + COEFFICIENTS;
     let used = evaluation::used(&row[from..to]);
-    if used == 0 {
-        return count;
-    }
     let at = count * TERM;
     shape[at] = from;
     shape[at + 1] = from + used;
     shape[at + 2] = number;
-    count + 1
+    if used == 0 { count } else { count + 1 }
 }
 
 // The terms of a block's m columns: its numbers stand from `at` on, those of its vector are counted from `number` on.
@@ -90,30 +85,4 @@ pub(crate) fn row_shape(shape: &mut [usize], row: &[i64], m: usize, span: usize)
     let right = evaluation::used(&row[ENTRIES..]);
     shape[COUNT] = count;
     shape[RIGHT_END] = ENTRIES + right;
-}
-
-// The shapes of the equations.
-pub(crate) fn row_shapes(
-    shapes: &mut [usize],
-    rows: &[i64],
-    equations: usize,
-    m: usize,
-    span: usize,
-)
-    requires { ⌜ (Stores.rowNeed equations ≤ length (now rows)) × (m ≤ columnCount) × (span ≤ mostSpan) ⌝ }
-    requires { ⌜ (equations ≤ mostEquations) × (length (now shapes) ≡ mostEquations * shapeLength) ⌝ }
-    ensures { λ _. ⌜ AllShaped m span equations (now (rows .entry)) (now (shapes .exit)) ⌝ }
-{
-    let mut i = 0;
-    while i < equations {
-        let at = i * SHAPE;
-        let end = at + SHAPE;
-        row_shape(
-            &mut shapes[at..end],
-            stores::rows::row_at(rows, i * ROW),
-            m,
-            span,
-        );
-        i += 1;
-    }
 }

@@ -1,43 +1,71 @@
--- `evaluation::used` meets its contract.
+-- `evaluation::used` meets its contract. The invariant: how far the coefficients before i that are not 0 reach.
 -- Assumes nothing.
-use mathlib.Core.Path.{_≡_, sym, _∙_, ap}
-use mathlib.Core.Bool.{cond}
-use Prim.Native.Nat.{suc}
-use native.Mathlib.Numerals.{add-one}
+use mathlib.Core.Path.{subst, sym}
+use mathlib.Core.Logic.{⊎-elim}
+use Prim.Native.Nat.{ℕ, _+_, _-_, _≤_}
 use native.Mathlib.Omega.{arith}
-use borrow.Author.Needs.{needs}
+use borrow.Author.Needs.{needs, sfits-of}
 use denote.Ref.{now}
-use Rattle.algebra.specs.Polynomials.{Polynomial, degree}
-use Rattle.evaluation.specs.Evaluated.{used, used-length}
+use lib.ListN.{length}
+use Rattle.algebra.specs.Polynomials.{Polynomial, coeff}
+use Rattle.polynomials.specs.Content.{zero-bits, nonzero-bits}
+use Rattle.evaluation.specs.Evaluated.{Reaches, reach-none, reach-same, reach-next, reach-used}
 use Rattle.evaluation.proofs.used.Statement.{statement}
 use Rattle.evaluation.proofs.used.Tie as tie
 
-all-zero-requires : tie.Need-all-zero-requires
-all-zero-requires c κs = search needs
+abbrev Inv-loop : tie.InvT-loop
+Inv-loop p reached₀ i₀ reached i = (i ≤ length p) × Reaches p i reached
 
-returns : tie.Need-returns
-unfolding used
-returns c =
-    let p = now (c .before .before .args .p) in
-    sym (ap (λ t. cond t 0 (suc (degree p))) (sym (c .before .all-zero .ensures) ∙ c .if1 .taken))
+abbrev μ-loop : tie.MeasureT-loop
+μ-loop p reached₀ i₀ reached i = length p - i
 
-degree-requires : tie.Need-degree-requires
-degree-requires c κs = search needs
+loop-holds : tie.Need-loop-holds Inv-loop μ-loop
+loop-holds c = (search needs, reach-none (now (c .args .p)))
 
--- A coefficient is not 0: they are as many as the degree and one more.
-module _ (c : tie.After-degree) where
+mul-if1 : tie.Need-mul-if1 Inv-loop μ-loop
+mul-if1 c = search needs
+
+shared-slice-copy-out-if1 : tie.Need-shared-slice-copy-out-if1 Inv-loop μ-loop
+shared-slice-copy-out-if1 c = search needs
+
+add-reached : tie.Need-add-reached Inv-loop μ-loop
+add-reached c = search needs
+
+add-i : tie.Need-add-i Inv-loop μ-loop
+add-i c = search needs
+
+loop-less : tie.Need-loop-less Inv-loop μ-loop
+loop-less c = search needs
+
+-- Coefficient i was looked at.
+module _ (c : tie.Joined1 Inv-loop μ-loop) where
+  abbrev head : tie.At-loop Inv-loop μ-loop
+  head = c .before .before .before
+
   abbrev p : Polynomial
-  p = now (c .before .before .before .args .p)
+  p = now (head .before .args .p)
 
-  used-is : used p ≡ suc (degree p)
-  unfolding used
-  used-is = ap (λ t. cond t 0 (suc (degree p))) (sym (c .before .before .all-zero .ensures) ∙ c .before .if1 .left)
+  abbrev i : ℕ
+  i = head .loop .i
 
-add-result : tie.Need-add-result
-add-result c = omega (arith, c .degree .ensures, used-is c, used-length (p c))
+  reaches : Reaches p (i + 1) (c .if1 .reached)
+  unfolding coeff
+  reaches =
+      ⊎-elim
+      (λ t. subst (Reaches p (i + 1)) (sym (t .1)) (reach-next p i (nonzero-bits (t .0 .taken))))
+      (λ t. subst (Reaches p (i + 1)) (sym (t .1))
+      (reach-same p i (head .loop .reached) (head .loop .inv .1) (zero-bits (sfits-of (c .before .if12 .given)) (t .0 .left))))
+      (c .if1 .came)
 
-returns-2 : tie.Need-returns-2
-returns-2 c = omega (arith, c .degree .ensures, used-is c, add-one (c .degree .result))
+loop-again : tie.Need-loop-again Inv-loop μ-loop
+loop-again c = (omega (arith, c .before .before .loop-test .taken), reaches c)
+
+returns : tie.Need-returns Inv-loop μ-loop
+returns c =
+    let head = c .before in
+    reach-used (now (head .before .args .p)) (head .loop .i) (head .loop .reached) (c .loop-test .left) (head .loop .inv .1)
 
 pub used-spec : {M : Type 1} → statement M
-used-spec = tie.close (tie.spec all-zero-requires returns degree-requires add-result returns-2)
+used-spec =
+    tie.close
+    (tie.spec Inv-loop μ-loop loop-holds mul-if1 shared-slice-copy-out-if1 add-reached add-i loop-less loop-again returns)

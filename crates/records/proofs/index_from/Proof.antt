@@ -1,7 +1,7 @@
 -- `records::index_from` meets its contract. Right sizes and a right record keep n small.
 -- Assumes nothing.
 use mathlib.Core.Path.{_≡_, refl}
-use Prim.Native.Nat.{_≤_}
+use Prim.Native.Nat.{_+_, _≤_}
 use native.Mathlib.Omega.{arith}
 use borrow.Author.Needs.{needs}
 use lib.Dec.{lit<}
@@ -15,7 +15,7 @@ use Rattle.rules.specs.Layout.{SizeBounds, size-bounds}
 use Rattle.stores.specs.declared.validity.Sizes.{Sizes}
 use Rattle.stores.specs.Validity.{sizesOf}
 use Rattle.evaluation.specs.Evaluated.{farthest}
-use Rattle.records.specs.Records.{indexFrom}
+use Rattle.records.specs.Records.{indexFrom, mostVectors}
 use Rattle.records.specs.RecordAnswers.{t-near, index-size}
 use Rattle.records.proofs.index_from.Statement.{statement}
 use Rattle.records.proofs.index_from.Tie as tie
@@ -48,12 +48,12 @@ module _ (c : tie.After-struct-told) where
       sfits-size (first -ℤ sizes .t) {k = farthest}
       (omega (arith, natAbs-+ℤ first (negℤ (sizes .t)), natAbs-negℤ (sizes .t), t-small, s .pre .1)) (lit< tt)
 
-  index-small : natAbs ((first -ℤ sizes .t) +ℤ pos (s .args .j)) ≤ farthest
+  index-small : natAbs ((first -ℤ sizes .t) +ℤ pos (s .args .j)) + mostVectors ≤ farthest
   unfolding indexFrom sizesOf
   index-small = index-size (sizesOf sizes) first (s .args .j) bounds (s .pre .1) (s .pre .2)
 
   index-fits : SFits w64 ((first -ℤ sizes .t) +ℤ pos (s .args .j))
-  index-fits = sfits-size ((first -ℤ sizes .t) +ℤ pos (s .args .j)) index-small (lit< tt)
+  index-fits = sfits-size ((first -ℤ sizes .t) +ℤ pos (s .args .j)) {k = farthest} (omega (arith, index-small)) (lit< tt)
 
 sub-result : tie.Need-sub-result
 sub-result c = simp (toZ-ofZ (s c .fits .first), t-back c) (low-fits c)

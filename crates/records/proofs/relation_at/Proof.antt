@@ -5,14 +5,14 @@ use mathlib.Core.Path.{_≡_, sym, _∙_, ap, ap₂, subst}
 use mathlib.Core.Logic.{_≢_}
 use mathlib.Core.Bool.{true}
 use mathlib.Core.List.{List, [], _∷_}
-use mathlib.Core.Option.{some}
+use mathlib.Core.Option.{Option, none, some}
 use Prim.Native.Nat.{ℕ, _+_, _*_, _≤_, _<_}
-use native.Mathlib.Nat.{mul-le-mul, le-refl, le-trans}
+use native.Mathlib.Nat.{add-zero, mul-le-mul, le-refl, le-trans}
 use native.Mathlib.Omega.{arith}
-use borrow.Author.Needs.{needs}
+use borrow.Author.Needs.{needs, sfits-of}
 use borrow.Author.Tests.{not-true, not-false}
 use lib.Dec.{T, lit<}
-use lib.IntN.{ℤ, pos, negℤ, natAbs, _+ℤ_, _-ℤ_}
+use lib.IntN.{ℤ, pos, negℤ, natAbs, _+ℤ_, _-ℤ_, +ℤ-idr}
 use lib.ListN.{length, take, drop, getD}
 use lib.Signed.{nonNeg, yes-nonNeg}
 use mir.Syntax.{w64}
@@ -22,19 +22,20 @@ use Rattle.algebra.specs.Integers.{natAbs-+ℤ, natAbs-negℤ}
 use Rattle.algebra.specs.Order.{≤ℤ-difference, ≤ℤ-+ℤ-pos}
 use Rattle.integers.specs.Ranges.{sfits-size, ofZ-inj}
 use Rattle.lists.specs.Tests.{true-T}
-use Rattle.rules.specs.Limits.{relationLength}
+use Rattle.rules.specs.Limits.{rowLength, relationLength}
 use Rattle.rules.specs.Layout.{SizeBounds, size-bounds}
 use Rattle.rules.specs.Rows.{Relation}
 use Rattle.rules.specs.Stores as Stores
 use Rattle.rules.specs.Stores.{rowOf, relationOf}
 use Rattle.stores.specs.Validity.{sizesOf, index-at, row-after}
-use Rattle.evaluation.specs.Evaluated.{formedOf, farthest}
+use Rattle.evaluation.specs.Evaluated.{farthest}
 use Rattle.records.specs.Records.{Tested, relation, fits, sumAt, rowSum, topAt, indexFrom, inside, relationTests, answerTo}
+use Rattle.records.specs.Records.{mostVectors}
 use Rattle.records.specs.RecordPlaces.{inside-index, top-index, top-at}
 use Rattle.records.specs.RecordAnswers.{answerOf, answer-past, answer-zero, answer-fails, relation-inside, relation-outside}
 use Rattle.records.specs.RecordAnswers.{span-few}
 use Rattle.records.specs.RecordAnswers.{t-near, l-near, index-size}
-use Rattle.evaluation.specs.declared.Formed.the-variants.{Value, Past}
+use Rattle.records.specs.Successive.{Known, zeros-there}
 use Rattle.records.proofs.relation_at.Statement.{statement}
 use Rattle.records.proofs.relation_at.Tie as tie
 
@@ -146,7 +147,7 @@ module _ (d : tie.Else1) where
       rw (ap (λ k. (k +ℤ l s) -ℤ first s) (place .1) ∙ ap (λ k. k -ℤ first s) (top-index (z s) (first s) (bounds s .ordered) (place .0)))
       (yes-nonNeg (≤ℤ-difference .0 (≤ℤ-+ℤ-pos (first s) (place .0 + Stores.span (z s)))))
 
-  near : natAbs (n s) ≤ farthest
+  near : natAbs (n s) + mostVectors ≤ farthest
   near = rw (place .1) (index-size (z s) (first s) (place .0) (bounds s) (s .pre .0 .1) (omega (arith, place .2, s .pre .0 .2)))
 
   abbrev test : Tested
@@ -188,29 +189,18 @@ add-row-at c = search needs
 row-at-requires : tie.Need-row-at-requires
 row-at-requires c κs = search needs
 
-slice-aggregate-row-shape : tie.Need-slice-aggregate-row-shape
-slice-aggregate-row-shape c = search needs
+slice-aggregate-row-sums : tie.Need-slice-aggregate-row-sums
+slice-aggregate-row-sums c = search needs
 
-row-shape-requires : tie.Need-row-shape-requires
-unfolding sizesOf
-row-shape-requires c κs =
-    let r = c .before in
-    let st = s (r .before .before) in
-    (r .row-at .ensures .1, bounds st .few, omega (arith, r .before .span .ensures, span-few (z st) (bounds st)), search needs)
-
-slice-aggregate-row-sum : tie.Need-slice-aggregate-row-sum
-slice-aggregate-row-sum c = search needs
-
-row-sum-requires : tie.Need-row-sum-requires
+row-sums-requires : tie.Need-row-sums-requires
 unfolding topAt sizesOf
-row-sum-requires c κs =
-    let h = c .before .before in
-    let r = h .before .before in
+row-sums-requires c κs =
+    let r = c .before in
     let w = r .before in
     let d = w .before in
     let st = s d in
     simp (toZ-ofZ (n-fits st), toZ-ofZ (l-fits st), toZ-ofZ (high-fits st), toZ-ofZ (st .fits .first), toZ-ofZ (top-fits st)) (
-      (rw (r .row-at .ensures .0) (st .pre .1 .0 .2), r .row-at .ensures .1, near d),
+      (rw (r .row-at .ensures .0) (st .pre .1 .0 .2), r .row-at .ensures .1, omega (arith, near d)),
       (
         (
           st .pre .1 .1 .0,
@@ -218,71 +208,87 @@ row-sum-requires c κs =
           bounds st .few,
           omega (arith, w .span .ensures, span-few (z st) (bounds st)),
           omega (arith, w .span .ensures, top-is d),
+          omega arith,
         ),
-        h .row-shape .ensures,
+        zeros-there 1,
       ),
     )
 
 -- The sum of the relation's row.
-sum-is : (w : tie.After-row-sum)
-    → let d = w .before .before .before .before .before .before .before in
-    formedOf (w .row-sum .result) ≡ test d .sum
-unfolding sumAt topAt sizesOf
-sum-is w =
-    let r = w .before .before .before .before .before in
-    let a = r .before in
-    let d = a .before in
-    let st = s d in
-    (simp (toZ-ofZ (n-fits st), toZ-ofZ (l-fits st), toZ-ofZ (high-fits st), toZ-ofZ (st .fits .first), toZ-ofZ (top-fits st)) at
-    (w .row-sum .ensures))
-    ∙ ap₂ (λ k r. rowSum (st .args .sizes .m) k (st .args .values .now) (topAt (z st) (first st) (n st)) r (n st)) (a .span .ensures)
-    (ap rowOf (r .row-at .ensures .0) ∙ sym (row-after (store st) (st .args .at)))
-
-enum-known-sum : tie.Need-enum-known-sum
-enum-known-sum c = search needs
-
-enum-told : tie.Need-enum-told
-enum-told c = search needs
-
-returns-2 : tie.Need-returns-2
-unfolding formedOf answerOf
-returns-2 c =
-    let w = c .before .before in
-    let d = w .before .before .before .before .before .before .before in
-    let st = s d in
-    let told : w .row-sum .result ≡ Past = c .enum-told .given .1 in
-    sym (ap (answerTo (st .args .before)) (tests-are d)
-    ∙ answer-past (st .args .before) (test d) [] (sym (sym (ap formedOf told) ∙ sum-is w)))
-
--- A sum that is formed.
-module _ (k : tie.After-known-told) where
-  abbrev w : tie.After-row-sum
-  w = k .before .before .before
+module _ (w : tie.After-row-sums) where
+  abbrev r : tie.After-row-at
+  r = w .before .before
 
   abbrev d : tie.Else1
-  d = w .before .before .before .before .before .before .before
+  d = r .before .before
+
+  abbrev st : tie.Start
+  st = s d
+
+  abbrev numbers : List ℤ
+  numbers = take rowLength (drop (st .args .at + 1) (store st))
 
   abbrev sum : ℤ
-  sum = k .before .sum .given .0 .0
+  sum = getD (w .row-sums .last .0) 0 (pos 0)
 
-  sum-found : test d .sum ≡ some sum
-  unfolding formedOf
-  sum-found =
-      let known : w .row-sum .result ≡ Value sum = k .before .sum .given .1 in
-      sym (sym (ap formedOf known) ∙ sum-is w)
+  abbrev sums : ℕ → Option ℤ
+  sums j =
+      rowSum (st .args .sizes .m) (r .before .span .result) (st .args .values .now) (topAt (z st) (first st) (n st) + j) (rowOf numbers)
+      (n st +ℤ pos j)
 
-  sum-fits : SFits w64 sum
-  sum-fits = search needs
+  known : Known sums 1 0 (w .row-sums .last .0) (w .row-sums .result)
+  unfolding topAt sizesOf
+  known =
+      simp (
+        toZ-ofZ (n-fits st),
+        toZ-ofZ (l-fits st),
+        toZ-ofZ (high-fits st),
+        toZ-ofZ (st .fits .first),
+        toZ-ofZ (top-fits st),
+        r .row-at .ensures .0,
+      ) at (w .row-sums .ensures .1)
+
+  sum-is : sums 0 ≡ test d .sum
+  unfolding sumAt sizesOf
+  sum-is =
+      let m = st .args .sizes .m in
+      let values = st .args .values .now in
+      let top = topAt (z st) (first st) (n st) in
+      ap₂ (λ k i. rowSum m (r .before .span .result) values k (rowOf numbers) i) (add-zero top) (+ℤ-idr (n st))
+      ∙ ap₂ (λ k r. rowSum m k values top r (n st)) (r .before .span .ensures) (sym (row-after (store st) (st .args .at)))
+
+returns-2 : tie.Need-returns-2
+unfolding answerOf
+returns-2 c =
+    let w = c .before .before in
+    let none-formed : w .row-sums .result ≡ 0 = c .if2 .taken in
+    let past = subst (λ k. sums w k ≡ none) none-formed (known w .stop (omega arith)) in
+    sym (ap (answerTo (st w .args .before)) (tests-are (d w))
+    ∙ answer-past (st w .args .before) (test (d w)) [] (sym (sum-is w) ∙ past))
+
+array-copy-out-sum : tie.Need-array-copy-out-sum
+array-copy-out-sum c = search needs
+
+-- A sum that is formed.
+module _ (k : tie.After-sum) where
+  abbrev w : tie.After-row-sums
+  w = k .before .before .before
+
+  sum-found : test (d w) .sum ≡ some (sum w)
+  sum-found = sym (sum-is w) ∙ known w .there 0 (omega (arith, k .before .if2 .left))
+
+  sum-fits : SFits w64 (sum w)
+  sum-fits = sfits-of (k .sum .given)
 
 returns-3 : tie.Need-returns-3
 unfolding answerOf
 returns-3 c =
     let k = c .before in
-    let st = s (d k) in
-    let nonzero : sum k ≢ pos 0 = λ e. c .if2 .taken (ap (ofZ w64) e) in
-    simp (toZ-ofZ (n-fits st), toZ-ofZ (sum-fits k))
-    (sym (ap (answerTo (st .args .before)) (tests-are (d k))
-    ∙ answer-fails (st .args .before) (test (d k)) [] (sum k) (sum-found k) nonzero))
+    let e = st (w k) in
+    let nonzero : sum (w k) ≢ pos 0 = λ z. c .if3 .taken (ap (ofZ w64) z) in
+    simp (toZ-ofZ (n-fits e), toZ-ofZ (sum-fits k))
+    (sym (ap (answerTo (e .args .before)) (tests-are (d (w k)))
+    ∙ answer-fails (e .args .before) (test (d (w k))) [] (sum (w k)) (sum-found k) nonzero))
 
 add-t18 : tie.Need-add-t18
 add-t18 c = search needs
@@ -291,10 +297,10 @@ returns-4 : tie.Need-returns-4
 unfolding answerOf answerTo
 returns-4 c =
     let k = c .before in
-    let st = s (d k) in
-    let zero-sum : sum k ≡ pos 0 = ofZ-inj (sum-fits k) (sfits-lit tt) (c .if2 .left) in
-    sym (ap (answerTo (st .args .before)) (tests-are (d k))
-    ∙ answer-zero (st .args .before) (test (d k)) [] (sum-found k ∙ ap some zero-sum))
+    let e = st (w k) in
+    let zero-sum : sum (w k) ≡ pos 0 = ofZ-inj (sum-fits k) (sfits-lit tt) (c .if3 .left) in
+    sym (ap (answerTo (e .args .before)) (tests-are (d (w k)))
+    ∙ answer-zero (e .args .before) (test (d (w k))) [] (sum-found k ∙ ap some zero-sum))
 
 pub relation-at-spec : {M : Type 1} → statement M
 relation-at-spec =
@@ -310,13 +316,10 @@ relation-at-spec =
     cast-top
     add-row-at
     row-at-requires
-    slice-aggregate-row-shape
-    row-shape-requires
-    slice-aggregate-row-sum
-    row-sum-requires
-    enum-known-sum
-    enum-told
+    slice-aggregate-row-sums
+    row-sums-requires
     returns-2
+    array-copy-out-sum
     returns-3
     add-t18
     returns-4)

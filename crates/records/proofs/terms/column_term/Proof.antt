@@ -55,13 +55,6 @@ module _ (w : tie.After-used) where
   used-few : w .used .result ≤ coefficientCount
   used-few = omega (arith, used-is, used-length column, length-take coefficientCount (drop (s .args .from) row))
 
-returns : tie.Need-returns
-returns c =
-    let w = c .before in
-    let none-used : used (column w) ≡ 0 = omega (arith, used-is w, c .if1 .taken) in
-    column-skipped (row w) (shape w) (s w .args .count) (s w .args .from) (s w .args .number)
-    (subst (λ k. T (isZero (drop k (column w)))) none-used (used-zero (column w)))
-
 mul-at : tie.Need-mul-at
 mul-at c = search needs
 
@@ -72,7 +65,7 @@ slice-write-shape : tie.Need-slice-write-shape
 slice-write-shape c = search needs
 
 add-shape : tie.Need-add-shape
-add-shape c = let w = c .before in omega (arith, used-few w, s w .pre .0)
+add-shape c = omega (arith, used-few c, s c .pre .0)
 
 add-shape-2 : tie.Need-add-shape-2
 add-shape-2 c = search needs
@@ -81,7 +74,7 @@ mul-shape-2 : tie.Need-mul-shape-2
 mul-shape-2 c = search needs
 
 slice-write-shape-2 : tie.Need-slice-write-shape-2
-slice-write-shape-2 c = let w = c .before in simp length-set (omega (arith, s w .pre .1))
+slice-write-shape-2 c = simp length-set (omega (arith, s c .pre .1))
 
 add-shape-3 : tie.Need-add-shape-3
 add-shape-3 c = search needs
@@ -90,13 +83,24 @@ mul-shape-3 : tie.Need-mul-shape-3
 mul-shape-3 c = search needs
 
 slice-write-shape-3 : tie.Need-slice-write-shape-3
-slice-write-shape-3 c = let w = c .before in simp length-set (omega (arith, s w .pre .1))
+slice-write-shape-3 c = simp length-set (omega (arith, s c .pre .1))
 
 add-result : tie.Need-add-result
 add-result c = search needs
 
 same-length : tie.Need-same-length
 same-length c = search needs
+
+returns : tie.Need-returns
+returns c =
+    let w = c .before in
+    let none-used : used (column w) ≡ 0 = omega (arith, used-is w, c .if1 .taken) in
+    simp (used-is w)
+    (column-skipped (row w) (shape w) (s w .args .count) (s w .args .from) (s w .args .number)
+    (subst (λ k. T (isZero (drop k (column w)))) none-used (used-zero (column w))))
+
+same-length-2 : tie.Need-same-length-2
+same-length-2 c = search needs
 
 returns-2 : tie.Need-returns-2
 returns-2 c =
@@ -114,7 +118,6 @@ column-term-spec =
     part-used-start
     part-used-end
     used-requires
-    returns
     mul-at
     mul-shape
     slice-write-shape
@@ -127,4 +130,6 @@ column-term-spec =
     slice-write-shape-3
     add-result
     same-length
+    returns
+    same-length-2
     returns-2)
