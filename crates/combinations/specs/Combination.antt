@@ -4,14 +4,15 @@
 --   combinations, lowNumbers   the combinations of the polynomials of two lists of numbers, and the numbers of their low parts
 --   Trimmed            the trimmed multipliers and the trimmed parts of two lists at one place
 --   few                most polynomials have no more coefficients
---   lengthsAre j k g p h q   the multipliers g and h have j coefficients, and p and q have k
---   commonLength g h   how many coefficients are taken of two multipliers
+--   bothWithin n g h   all coefficients of both past the first n are zero
 --   trim p             the coefficients of p up to the highest nonzero one
 --   Shortened r p      r is a front of p with only zeros behind it
 --   lowPart p          the first 16 coefficients
+--   lowSums n g p h q  the lowest coefficients of g·p + h·q, as many as it can have where g and h have n and p and q few
 --
 -- Main statements
---   lengths-are, common-length   what these tell
+--   within-next        one coefficient more of both is joined
+--   worth              a coefficient that was worked out, and read again
 --   combined-same      factors with the same coefficients have a combination with the same coefficients
 --   shortened-trim, shortened-front, shortened-fits   what is shortened, and that it stays within the limits
 --   lowPart-at, lowPart-take    coefficient k of the low part; the low part is the front where there are 16 coefficients
@@ -19,7 +20,8 @@
 --   high-free, high-found   the test of the coefficients past power 15
 --   combination-at, polynomials-combination, length-combinations   the polynomials of a combination of rows
 --   low-degrees, trimmed-high   which of them have a degree past 15
---   length-low, trimmed-low   the numbers of the low parts, and each part
+--   length-low, low-part, trimmed-low   the numbers of the low parts, and each part
+--   shortened-combinations   combinations by shortened multipliers
 --   zero-part, zero-low   where both parts are zero, so is that of the combination
 --   trimmed-fit        what is trimmed stays within the limits
 --   cut-low, StoreRow-cut   the low parts are the cut of the combination
@@ -27,16 +29,18 @@
 --   numbers-below      the numbers of the low parts are in the range of an i64
 use mathlib.Core.Path.{_≡_, refl, sym, _∙_, ap, ap₂, subst, fun-ext}
 use mathlib.Core.Logic.{_↔_, _≢_}
-use mathlib.Core.Bool.{Bool, true, false, _&&_, cond}
+use mathlib.Core.Bool.{Bool, true, false, _&&_, and-assoc, and-comm}
 use mathlib.Core.List.{List, [], _∷_, _++_, map, flatten, zipWith, append-nil}
 use Prim.Native.Nat.{ℕ, zero, suc, _+_, _*_, _-_, _^_, _≤_, _<_, max}
 use native.Mathlib.Nat.{not-suc-le-zero, zero-add}
 use native.Mathlib.Omega.{arith}
 use native.Mathlib.Decide.{decLe, decLt}
-use lib.Dec.{T, lit<, eqb, eqb→eq}
+use lib.Bits.{bitOr}
+use lib.Dec.{T, lit<, eqb}
 use lib.IntN.{ℤ, pos, natAbs, _+ℤ_, _*ℤ_}
-use lib.ListN.{length, take, drop, getD, length-take, length-drop, length-map, drop-of-length-le}
+use lib.ListN.{length, take, drop, getD, length-take, length-drop, length-map}
 use lib.Seq.{ext-getD, getD-take, length-take-le}
+use lib.Signed.{mag}
 use Rattle.algebra.specs.Integers.{natAbs-+ℤ}
 use Rattle.algebra.specs.Gcd.{content, divideBy, length-divideBy}
 use Rattle.algebra.specs.Sums.{countFrom, sumBelow, length-countFrom, getD-countFrom}
@@ -46,7 +50,9 @@ use Rattle.algebra.specs.Polynomials.{coeff-isZero}
 use Rattle.algebra.specs.Polynomials.{isZero-add, isZero-mul-right, length-add, length-scale}
 use Rattle.algebra.specs.Coefficients.{coeff-add, coeff-mul, coeff-take, coeff-drop, coeff-past-length, coeff-past-degree}
 use Rattle.algebra.specs.Coefficients.{mul-within}
-use Rattle.polynomials.specs.Content.{Below}
+use mir.Syntax.{w64}
+use mir.Val.{SFits, ofZ, toZ}
+use Rattle.polynomials.specs.Content.{Below, read-back, join-next}
 use Rattle.products.specs.Product.{product-size}
 use Rattle.rules.specs.Limits.{rowLength, small, coefficientCount, columnCount}
 use Rattle.rules.specs.Rows.{Row, mapRow, coefficientsOf, combine, primitive, lowDegrees, cut}
@@ -78,47 +84,24 @@ add-same p p′ q q′ s t k = coeff-add p q k ∙ ap₂ _+ℤ_ (s k) (t k) ∙ 
 abbrev pub few : ℕ
 few = 4
 
-unfoldable pub lengthsAre : ℕ → ℕ → Polynomial → Polynomial → Polynomial → Polynomial → Bool
-lengthsAre j k g p h q = eqb (length g) j && (eqb (length p) k && (eqb (length h) j && eqb (length q) k))
-
-pub lengths-are : (j k : ℕ) (g p h q : Polynomial) → T (lengthsAre j k g p h q)
-    → (length g ≡ j) × (length p ≡ k) × (length h ≡ j) × (length q ≡ k)
-unfolding lengthsAre
-lengths-are j k g p h q t =
-    let first = T-&& (eqb (length g) j) _ .0 t in
-    let second = T-&& (eqb (length p) k) _ .0 (first .1) in
-    let third = T-&& (eqb (length h) j) _ .0 (second .1) in
-    (eqb→eq (length g) j (first .0), eqb→eq (length p) k (second .0), eqb→eq (length h) j (third .0), eqb→eq (length q) k (third .1))
-
 -- Have both only zeros past the first n coefficients?
 abbrev pub bothWithin : ℕ → Polynomial → Polynomial → Bool
 bothWithin n g h = isZero (drop n g) && isZero (drop n h)
 
-unfoldable pub commonLength : Polynomial → Polynomial → ℕ
-unfolding isZero
-commonLength g h = cond (bothWithin 1 g h) 1 (cond (bothWithin few g h) few coefficientCount)
-
-pub common-length : (g h : Polynomial) → (length g ≡ coefficientCount) × (length h ≡ coefficientCount) → let n = commonLength g h in
-    (0 < n) × (n ≤ coefficientCount) × T (isZero (drop n g)) × T (isZero (drop n h))
-unfolding commonLength isZero
-common-length g h e = go (bothWithin 1 g h) (bothWithin few g h) (λ t. t) (λ t. t)
-  where
-    Right : ℕ → Type 0
-    Right n = (0 < n) × (n ≤ coefficientCount) × T (isZero (drop n g)) × T (isZero (drop n h))
-
-    both : (n : ℕ) → 0 < n → n ≤ coefficientCount → T (bothWithin n g h) → Right n
-    both n some less t = let two = T-&& (isZero (drop n g)) (isZero (drop n h)) .0 t in (some, less, two .0, two .1)
-
-    all : Right coefficientCount
-    all = (omega arith, omega arith, none g (e .0), none h (e .1))
-      where
-        none : (p : Polynomial) → length p ≡ coefficientCount → T (isZero (drop coefficientCount p))
-        none p long = rw (drop-of-length-le p {i = coefficientCount} (omega arith)) tt
-
-    go : (s t : Bool) → (T s → T (bothWithin 1 g h)) → (T t → T (bothWithin few g h)) → Right (cond s 1 (cond t few coefficientCount))
-    go true t one four = both 1 (omega arith) (omega arith) (one tt)
-    go false true one four = both few (omega arith) (omega arith) (four tt)
-    go false false one four = all
+-- One coefficient more of both is joined.
+pub within-next : (n joined : ℕ) (g h : Polynomial) → n < length g → n < length h
+    → SFits w64 (getD g n (pos 0)) → SFits w64 (getD h n (pos 0))
+    → (eqb joined 0 && bothWithin n g h)
+    ≡ (eqb (bitOr (bitOr joined (ofZ w64 (getD g n (pos 0)))) (ofZ w64 (getD h n (pos 0)))) 0 && bothWithin (n + 1) g h)
+within-next n joined g h in-g in-h fit-g fit-h =
+    let first = bitOr joined (ofZ w64 (getD g n (pos 0))) in
+    let both = eqb (bitOr first (ofZ w64 (getD h n (pos 0)))) 0 in
+    let x = isZero (drop (n + 1) g) in
+    let y = isZero (drop (n + 1) h) in
+    sym (and-assoc (eqb joined 0) (isZero (drop n g)) (isZero (drop n h)))
+    ∙ ap (λ t. t && isZero (drop n h)) (join-next joined g n in-g fit-g ∙ and-comm (eqb first 0) x)
+    ∙ and-assoc x (eqb first 0) (isZero (drop n h)) ∙ ap (λ t. x && t) (join-next first h n in-h fit-h)
+    ∙ sym (and-assoc x both y) ∙ ap (λ t. t && y) (and-comm x both) ∙ and-assoc both x y
 
 unfoldable pub trim : Polynomial → Polynomial
 trim p = take (degree p + 1) p
@@ -177,8 +160,15 @@ shortened-front p r n some few e z = record {
 
 -- ---- the coefficients up to power 15 and those past it
 
+-- A coefficient that was worked out, and read again.
+pub worth : {a b : ℤ} → mag a < 2 ^ 63 → a ≡ b → toZ w64 (ofZ w64 a) ≡ b
+worth {a} h e = read-back a h ∙ e
+
 unfoldable pub lowPart : Polynomial → List ℤ
 lowPart p = map (coeff p) (countFrom 0 coefficientCount)
+
+abbrev pub lowSums : ℕ → Polynomial → Polynomial → Polynomial → Polynomial → List ℤ
+lowSums n g p h q = take (n + few - 1) (lowPart (add (mul g p) (mul h q)))
 
 pub length-lowPart : (p : Polynomial) → length (lowPart p) ≡ coefficientCount
 unfolding lowPart
@@ -337,6 +327,27 @@ unfoldable pub combinations : ℕ → Polynomial → Polynomial → List ℤ →
 unfolding zipWith parts
 combinations k g h t u = zipWith (λ p q. add (mul g p) (mul h q)) (parts coefficientCount k t) (parts coefficientCount k u)
 
+-- Combinations by shortened multipliers have the same degrees up to 15 and the same low parts.
+module _ (a g b h : Polynomial) (x : Shortened a g) (y : Shortened b h) where
+  same-sums : (ps qs : List Polynomial) → let s = zipWith (λ p q. add (mul a p) (mul b q)) ps qs in
+      let t = zipWith (λ p q. add (mul g p) (mul h q)) ps qs in
+      (every isLow s ≡ every isLow t) × (map lowPart s ≡ map lowPart t)
+  unfolding zipWith every
+  same-sums [] qs = (refl, refl)
+  same-sums (p ∷ ps) [] = (refl, refl)
+  same-sums (p ∷ ps) (q ∷ qs) =
+      let one = combined-same a g p p b h q q (x .same) (λ k. refl) (y .same) (λ k. refl) in
+      let others = same-sums ps qs in (
+        ap₂ _&&_ (high-same (add (mul a p) (mul b q)) (add (mul g p) (mul h q)) one) (others .0),
+        ap₂ _∷_ (lowPart-same (add (mul a p) (mul b q)) (add (mul g p) (mul h q)) one) (others .1),
+      )
+
+  pub shortened-combinations : (k : ℕ) (t u : List ℤ)
+      → (every isLow (combinations k a b t u) ≡ every isLow (combinations k g h t u))
+      × (map lowPart (combinations k a b t u) ≡ map lowPart (combinations k g h t u))
+  unfolding combinations
+  shortened-combinations k t u = same-sums (parts coefficientCount k t) (parts coefficientCount k u)
+
 low-width : (ps : List Polynomial) → All (λ p. length p ≡ coefficientCount) (map lowPart ps)
 unfolding All
 low-width [] = tt
@@ -370,7 +381,7 @@ module _ (k : ℕ) (g h : Polynomial) (t u : List ℤ) where
       length-flatten coefficientCount (map lowPart (combinations k g h t u)) (low-width (combinations k g h t u))
       ∙ ap (λ n. n * coefficientCount) (length-map (combinations k g h t u) lowPart ∙ length-combinations)
 
-  low-part : (e : ℕ) → e < k → coefficientsAt (lowNumbers k g h t u) e ≡ lowPart (entryAt e)
+  pub low-part : (e : ℕ) → e < k → coefficientsAt (lowNumbers k g h t u) e ≡ lowPart (entryAt e)
   low-part e l =
       ap (λ r. coefficientsAt r e) (sym (append-nil (lowNumbers k g h t u)))
       ∙ part-flatten coefficientCount k (map lowPart (combinations k g h t u)) []

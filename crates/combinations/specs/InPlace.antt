@@ -5,38 +5,41 @@
 --   sumAt g h l a b      the combination of the polynomials at two places
 --   withPart l a p       the store with the numbers p of a polynomial from a place on
 --   placed l at n m      the store with the numbers m as the row at a place, if n, the refusal, is 0, and with zeros there otherwise
---   PartMade, RowMade    what is known once a polynomial, or a row, has been combined
+--   PartFits, RowsFit    what is asked where a polynomial, or a row, is combined
+--   Known, PartMade, RowMade   what is known once numbers, a polynomial or a row have been made
 --
 -- Main statements
---   paste-own, paste-there   what stands at a place, pasted there, and what is pasted
+--   paste-own, paste-there, paste-more   what stands at a place, pasted there, what is pasted, and more of the same numbers
 --   sum-shortened        the combination of shortened polynomials
---   zero-high, zero-content, zero-low-part   where both polynomials are zero, their combination is what stands there already
---   sum-high, sum-low, sum-fits   the combination at place e is polynomial e of the combination of the rows, and its factors fit
+--   zero-made            where both polynomials are zero, their combination is what stands there already
+--   target-part, pivot-part   the polynomials at place e are those of the rows, as far as the combination has come
+--   sum-high, sum-low, sum-fits   the combination at place e is polynomial e of the combination of the rows, and its factors are within ±C
 --   written-next, content-next, small-next   one polynomial more
 --   outside-paste, length-written, outside-written   the store outside of the row
+--   shortened-made       a row made by shortened multipliers
 --   replaced, cleared, placed-new   the row afterwards
 use mathlib.Core.Path.{_≡_, refl, sym, _∙_, ap, ap₂, subst}
-use mathlib.Core.Bool.{Bool, true, false, not, _&&_, cond}
+use mathlib.Core.Bool.{Bool, true, false, not, _&&_, and-true, cond}
 use mathlib.Core.List.{List, [], _++_, map, flatten, append-assoc}
 use Prim.Native.Nat.{ℕ, zero, suc, _+_, _*_, _≤_, _<_}
 use native.Mathlib.Nat.{add-zero, zero-add, add-assoc, le-refl, le-of-eq}
 use native.Mathlib.Omega.{arith}
 use lib.Dec.{T}
 use lib.IntN.{ℤ, pos}
-use lib.ListN.{length, take, drop, getD, replicate, length-take, length-drop, take-append-drop}
+use lib.ListN.{length, take, drop, getD, replicate, length-drop, take-append-drop}
 use lib.Seq.{paste, length-paste, take-paste, drop-paste, take-add, take-all, take-at, take-take, drop-drop, length-take-le}
 use Rattle.lists.specs.Pasted.{paste-first, paste-rest, take-paste-later, drop-paste-later}
 use Rattle.lists.specs.Taken.{part-of-part}
-use Rattle.lists.specs.Tests.{T-&&, true-of, every, every-append}
-use Rattle.algebra.specs.Gcd.{gcd, content, gcd-comm, content-zero, content-append}
+use Rattle.lists.specs.Tests.{T-&&, true-of, every, every-append, every-part}
+use Rattle.algebra.specs.Gcd.{gcd, content, gcd-comm, zero-gcd, content-zero, content-append}
 use Rattle.algebra.specs.Polynomials.{Polynomial, coeff, isZero, add, mul, zero-list, isZero-coeff, isZero-add, isZero-mul-right}
 use Rattle.rules.specs.Limits.{rowLength, small, coefficientCount}
 use Rattle.rules.specs.Layout.{coefficientsAt}
 use Rattle.stores.specs.Flat.{partCount}
 use Rattle.combinations.specs.declared.Made.{Made}
 use Rattle.combinations.specs.Primitive.{isLow}
-use Rattle.combinations.specs.Combination.{lowPart, length-lowPart, lowPart-zero, combinations, lowNumbers, length-low}
-use Rattle.combinations.specs.Combination.{combined-same, high-zero, Counted, Shortened, Trimmed, trimmed-high, trimmed-low, trimmed-fit}
+use Rattle.combinations.specs.Combination.{lowPart, length-lowPart, lowPart-zero, combinations, lowNumbers, length-low, low-part}
+use Rattle.combinations.specs.Combination.{combined-same, high-zero, Counted, Shortened, combination-at, shortened-combinations}
 
 abbrev pub partAt : List ℤ → ℕ → List ℤ
 partAt l a = take coefficientCount (drop a l)
@@ -54,12 +57,30 @@ unfoldable pub placed : List ℤ → ℕ → ℕ → List ℤ → List ℤ
 placed l at zero m = paste l at m rowLength
 placed l at (suc n) m = paste l at (replicate rowLength (pos 0)) rowLength
 
+-- What is asked where the polynomial at place a is combined with that at place b.
+abbrev pub PartFits : ℕ → ℕ → Polynomial → Polynomial → List ℤ → Type 0
+PartFits a b g h l =
+    ((a + coefficientCount ≤ length l) × (b + coefficientCount ≤ length l))
+    × (T (every small (partAt l a)) × T (every small (partAt l b)) × Counted g × Counted h)
+
+-- What is asked where the row at place `at` is combined with that at place `from`.
+abbrev pub RowsFit : ℕ → ℕ → Polynomial → Polynomial → List ℤ → Type 0
+RowsFit at from g h l =
+    (Counted g × Counted h)
+    × ((from + rowLength ≤ at) × (at + rowLength ≤ length l) × T (every small (rowAt l at)) × T (every small (rowAt l from)))
+
 -- The polynomial at place a is combined to `sum`; those before it have the content d, and t says whether they are within ±C.
 pub record PartMade (sum : Polynomial) (d : ℕ) (t : Bool) (a : ℕ) (before after : List ℤ) (r : Made) : Type 0 where
   pub degree : r .beyond ≡ not (isLow sum)
   pub store : after ≡ cond (r .beyond) before (withPart before a (lowPart sum))
   pub content-is : r .beyond ≡ false → r .content ≡ gcd (content (lowPart sum)) d
   pub within-is : r .beyond ≡ false → r .within ≡ (t && every small (lowPart sum))
+
+-- The numbers p are made; those before them have the content d, and t says whether they are within ±C.
+pub record Known (p : List ℤ) (d : ℕ) (t : Bool) (r : Made) : Type 0 where
+  pub low : r .beyond ≡ false
+  pub content-is : r .content ≡ gcd (content p) d
+  pub within-is : r .within ≡ (t && every small p)
 
 -- The stores agree outside of the row at a place.
 abbrev pub Outside : ℕ → List ℤ → List ℤ → Type 0
@@ -102,7 +123,7 @@ module _ (d : List ℤ) (at : ℕ) (s : List ℤ) (k : ℕ) where
       same = ap (λ j. take at (paste d j s k)) (sym (add-zero at)) ∙ take-paste-later d at 0 s k room
 
   -- More of the same numbers behind them.
-  paste-more : (w : ℕ) → at + k + w ≤ length d → k + w ≤ length s
+  pub paste-more : (w : ℕ) → at + k + w ≤ length d → k + w ≤ length s
       → paste (paste d at s k) (at + k) (take w (drop k s)) w ≡ paste d at s (k + w)
   paste-more w room long =
       ap₂ (λ x y. x ++ take w (take w (drop k s)) ++ y) (take-paste d at s k (omega arith) (omega arith))
@@ -121,9 +142,6 @@ outside-paste d at s k room h long = (
 
 -- ---- one polynomial
 
-itself : (p : Polynomial) → 0 < length p → Shortened p p
-itself p some = record { some = some; few = le-refl (length p); same = λ k. refl; within = λ h. h }
-
 -- The combination of shortened polynomials is that of the polynomials.
 module _ (g h : Polynomial) (p r q s : Polynomial) (x : Shortened p r) (y : Shortened q s) where
   pub sum-shortened : (k : ℕ) → coeff (add (mul g p) (mul h q)) k ≡ coeff (add (mul g r) (mul h s)) k
@@ -140,17 +158,27 @@ module _ (g h : Polynomial) (l : List ℤ) (a b : ℕ) (room : a + coefficientCo
       isZero-add (mul g (partAt l a)) (mul h (partAt l b)) (isZero-mul-right g (partAt l a) (both .0))
       (isZero-mul-right h (partAt l b) (both .1))
 
-  pub zero-high : isLow (sumAt g h l a b) ≡ true
+  zero-high : isLow (sumAt g h l a b) ≡ true
   zero-high = true-of _ (high-zero (sumAt g h l a b) .1 (λ i m. isZero-coeff (sumAt g h l a b) zero-sum i))
 
-  pub zero-content : content (lowPart (sumAt g h l a b)) ≡ 0
+  zero-content : content (lowPart (sumAt g h l a b)) ≡ 0
   zero-content = content-zero (lowPart (sumAt g h l a b)) .1 (lowPart-zero (sumAt g h l a b) zero-sum)
 
-  pub zero-low-part : lowPart (sumAt g h l a b) ≡ partAt l a
+  zero-low-part : lowPart (sumAt g h l a b) ≡ partAt l a
   zero-low-part =
       zero-list (lowPart (sumAt g h l a b)) (lowPart-zero (sumAt g h l a b) zero-sum)
-      ∙ ap (λ n. replicate n (pos 0)) (length-lowPart (sumAt g h l a b) ∙ sym (length-take-le coefficientCount (drop a l) (rw length-drop (omega arith))))
+      ∙ ap (λ n. replicate n (pos 0))
+      (length-lowPart (sumAt g h l a b) ∙ sym (length-take-le coefficientCount (drop a l) (rw length-drop (omega arith))))
       ∙ sym (zero-list (partAt l a) (both .0))
+
+  pub zero-made : T (every small (partAt l a)) → (d : ℕ) (t : Bool)
+      → PartMade (sumAt g h l a b) d t a l l (record { beyond = false; content = d; within = t })
+  zero-made within d t = record {
+    degree = ap not (sym zero-high);
+    store = sym (ap (withPart l a) zero-low-part ∙ paste-own l a coefficientCount);
+    content-is = λ e. sym (ap (λ m. gcd m d) zero-content ∙ zero-gcd d);
+    within-is = λ e. sym (ap (λ u. t && u) (ap (every small) zero-low-part ∙ true-of _ within) ∙ and-true t);
+  }
 
 -- ---- the polynomials of a row
 
@@ -187,58 +215,34 @@ module _ (g h : Polynomial) (store : List ℤ) (at from : ℕ) (before : from + 
     below : e * coefficientCount + coefficientCount ≤ rowLength
     below = omega arith
 
-    target-part : partAt (written k) (at + k) ≡ coefficientsAt target e
+    pub target-part : partAt (written k) (at + k) ≡ coefficientsAt target e
     target-part =
         ap (take coefficientCount) (drop-paste store at numbers k (omega arith) (omega (arith, numbers-long)))
         ∙ sym (part-of-part at k coefficientCount rowLength store below)
 
-    pivot-part : partAt (written k) (from + k) ≡ coefficientsAt pivot e
+    pub pivot-part : partAt (written k) (from + k) ≡ coefficientsAt pivot e
     pivot-part =
         part-before store at numbers k (from + k) coefficientCount (omega arith) (omega arith)
         ∙ sym (part-of-part from k coefficientCount rowLength store below)
 
-    target-some : 0 < length (coefficientsAt target e)
-    target-some = rw (length-take, length-drop, length-take, length-drop) (omega arith)
+    abbrev pub sum : Polynomial
+    sum = sumAt g h (written k) (at + k) (from + k)
 
-    pivot-some : 0 < length (coefficientsAt pivot e)
-    pivot-some = rw (length-take, length-drop, length-take, length-drop) (omega arith)
+    sum-is : sum ≡ add (mul g (coefficientsAt target e)) (mul h (coefficientsAt pivot e))
+    sum-is = ap₂ (λ p q. add (mul g p) (mul h q)) target-part pivot-part
 
-    -- a and b are the shortened multipliers
-    module _ (a b : Polynomial) (at-g : Shortened a g) (at-h : Shortened b h) where
-      trimmed : Trimmed partCount g h target pivot e coefficientCount a (coefficientsAt target e) b (coefficientsAt pivot e)
-      trimmed = record {
-        below = inside;
-        width = refl;
-        at-g = at-g;
-        at-h = at-h;
-        at-t = itself (coefficientsAt target e) target-some;
-        at-u = itself (coefficientsAt pivot e) pivot-some;
-      }
+    pub sum-high : isLow sum ≡ isLow (getD (rowSums g h store at from) e [])
+    sum-high = ap isLow (sum-is ∙ sym (combination-at partCount g h target pivot e inside))
 
-      abbrev pub sum : Polynomial
-      sum = sumAt a b (written k) (at + k) (from + k)
+    pub sum-low : lowPart sum ≡ coefficientsAt numbers e
+    sum-low = ap lowPart sum-is ∙ sym (low-part partCount g h target pivot e inside)
 
-      sum-is : sum ≡ add (mul a (coefficientsAt target e)) (mul b (coefficientsAt pivot e))
-      sum-is = ap₂ (λ p q. add (mul a p) (mul b q)) target-part pivot-part
-
-      pub sum-high : isLow sum ≡ isLow (getD (rowSums g h store at from) e [])
-      sum-high = ap isLow sum-is ∙ trimmed-high trimmed
-
-      pub sum-low : lowPart sum ≡ coefficientsAt numbers e
-      sum-low = ap lowPart sum-is ∙ trimmed-low trimmed
-
-      pub sum-fits : (length g ≡ coefficientCount) × T (every small g) × (length h ≡ coefficientCount) × T (every small h)
-          → T (every small target) × T (every small pivot)
-          → T (every small (partAt (written k) (at + k))) × T (every small (partAt (written k) (from + k))) × Counted a × Counted b
-      sum-fits m r =
-          let long : (i : ℕ) → i + rowLength ≤ length store → k + coefficientCount ≤ length (rowAt store i)
-          = λ i b. rw (length-take, length-drop) (omega arith) in
-          let fit = trimmed-fit trimmed m (long at room, long from (omega arith)) r in (
-            subst (λ p. T (every small p)) (sym target-part) (fit .1 .2),
-            subst (λ p. T (every small p)) (sym pivot-part) (fit .3 .2),
-            fit .0,
-            fit .2,
-          )
+    pub sum-fits : T (every small target) × T (every small pivot)
+        → T (every small (partAt (written k) (at + k))) × T (every small (partAt (written k) (from + k)))
+    sum-fits r = (
+      subst (λ p. T (every small p)) (sym target-part) (every-part small k coefficientCount target (r .0)),
+      subst (λ p. T (every small p)) (sym pivot-part) (every-part small k coefficientCount pivot (r .1)),
+    )
 
     next-is : k + coefficientCount ≡ (e + 1) * coefficientCount
     next-is = omega arith
@@ -265,6 +269,18 @@ module _ (g h : Polynomial) (store : List ℤ) (at from : ℕ) (before : from + 
 
   pub outside-written : (k : ℕ) → k ≤ rowLength → Outside at store (written k)
   outside-written k h = outside-paste store at numbers k room h (omega (arith, numbers-long))
+
+-- Shortened multipliers make the same row.
+pub shortened-made : (a g b h : Polynomial) → Shortened a g → Shortened b h → (store : List ℤ) (at from : ℕ) (after : List ℤ) (r : Made)
+    → RowMade (rowSums a b store at from) at store after r → RowMade (rowSums g h store at from) at store after r
+shortened-made a g b h x y store at from after r made =
+    let same = shortened-combinations a g b h x y partCount (rowAt store at) (rowAt store from) in record {
+      degrees = made .degrees ∙ ap not (same .0);
+      outside = made .outside;
+      store = λ low. made .store low ∙ ap (λ m. paste store at (flatten m) rowLength) (same .1);
+      content-is = λ low. made .content-is low ∙ ap (λ m. content (flatten m)) (same .1);
+      within-is = λ low. made .within-is low ∙ ap (λ m. every small (flatten m)) (same .1);
+    }
 
 -- ---- the row afterwards
 

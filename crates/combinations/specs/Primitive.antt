@@ -6,7 +6,9 @@
 --
 -- Main statements
 --   primitive-divided, primitive-kept   what the numbers become, by their content
+--   primitive-small       numbers within ±C stay so
 --   divided-zeros, divided-front, divided-whole, divided-next   the division of zeros, of a front, of all, and part by part
+--   content-take          zeros at the end do not change the content
 --   content-below         the content is at most as large as the numbers
 --   degree-kept           the division does not change which polynomials have degrees up to 15
 --   content-cut           where all have, the row that is cut to 16 coefficients has the content of the row
@@ -17,14 +19,15 @@ use mathlib.Core.Path.{_≡_, refl, sym, _∙_, ap, ap₂, subst}
 use mathlib.Core.Bool.{Bool, true, false, _&&_, cond}
 use mathlib.Core.List.{List, [], _∷_, _++_, map, flatten, append-nil, append-assoc, map-append}
 use Prim.Native.Nat.{ℕ, zero, suc, _+_, _≤_, _<_, _∣_}
-use native.Mathlib.Nat.{zero-lt-suc, zero-div, dvd-refl, dvd-trans}
+use native.Mathlib.Nat.{zero-lt-suc, zero-div, dvd-refl, dvd-trans, le-trans}
 use native.Mathlib.Omega.{arith}
-use lib.Dec.{T}
+use lib.Dec.{T, le→leb, leb→le}
 use lib.IntN.{ℤ, pos, natAbs}
 use lib.ListN.{length, take, drop, take-append-drop, drop-of-length-le}
 use lib.Seq.{take-all, take-add, take-at, drop-at, drop-drop, length-take-le}
 use lib.Signed.{quotZ}
 use Rattle.algebra.specs.Gcd.{gcd, content, divideBy, gcd-zero, gcd-divides-left, gcd-divides-right, gcd-le-right, content-append}
+use Rattle.algebra.specs.Division.{quotZ-le}
 use Rattle.algebra.specs.Gcd.{content-zero}
 use Rattle.algebra.specs.Gcd.{dividesAll-of-content, isZero-divideBy, divideBy-one, length-divideBy}
 use Rattle.algebra.specs.Polynomials.{Polynomial, isZero, isZero-cons}
@@ -32,7 +35,7 @@ use Rattle.lists.specs.Tests.{T-&&, every, every-append, every-flatten}
 use Rattle.polynomials.specs.Content.{Below}
 use Rattle.rules.specs.Rows.{Row, mapRow, coefficientsOf, primitive, lowDegrees, cut, contradicts, smallRow}
 use Rattle.lists.specs.Images.{map-take, map-drop}
-use Rattle.rules.specs.Limits.{coefficientCount}
+use Rattle.rules.specs.Limits.{bound, small, coefficientCount}
 use Rattle.rules.specs.Elimination.{within, beyond, limitCoefficients, limitDegrees, consistent}
 use Rattle.stores.specs.Flat.{polynomialsOf, polynomials-mapRow, numbers-polynomials, numbers-mapRow}
 use Rattle.lists.specs.Joined.{flatten-map}
@@ -54,6 +57,23 @@ primitive-divided l h = go (content l) h
     go : (d : ℕ) → 1 < d → divideUnlessZero d l ≡ divideBy d l
     go zero h = absurd (omega arith)
     go (suc d) h = refl
+
+-- The division makes no number larger.
+divided-small : (d : ℕ) (l : List ℤ) → T (every small l) → T (every small (divideBy d l))
+unfolding divideBy every small
+divided-small d [] h = tt
+divided-small d (a ∷ l) h =
+    let both = T-&& (small a) (every small l) .0 h in
+    T-&& (small (quotZ a (pos d))) (every small (divideBy d l)) .1
+    (le→leb (natAbs (quotZ a (pos d))) bound (le-trans (quotZ-le a (pos d)) (leb→le (natAbs a) bound (both .0))), divided-small d l (both .1))
+
+pub primitive-small : (l : List ℤ) → T (every small l) → T (every small (primitiveNumbers l))
+unfolding primitiveNumbers
+primitive-small l h = go (content l)
+  where
+    go : (d : ℕ) → T (every small (divideUnlessZero d l))
+    go zero = h
+    go (suc d) = divided-small (suc d) l h
 
 pub primitive-kept : (l : List ℤ) → content l ≤ 1 → primitiveNumbers l ≡ l
 unfolding primitiveNumbers
@@ -126,7 +146,7 @@ divides-append d p q h =
     (dvd-trans d both (gcd-divides-left (content p) (content q)), dvd-trans d both (gcd-divides-right (content p) (content q)))
 
 -- Zeros at the end do not change the content.
-content-take : (n : ℕ) (p : Polynomial) → T (isZero (drop n p)) → content (take n p) ≡ content p
+pub content-take : (n : ℕ) (p : Polynomial) → T (isZero (drop n p)) → content (take n p) ≡ content p
 content-take n p z =
     sym (ap content (sym (take-append-drop n p)) ∙ content-append (take n p) (drop n p)
     ∙ ap (gcd (content (take n p))) (content-zero (drop n p) .1 z) ∙ gcd-zero (content (take n p)))

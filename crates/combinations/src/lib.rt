@@ -1,5 +1,7 @@
 // Rule 4: a combination of two rows, its division by the content and its limits.
 use polynomials::lengths::COEFFICIENTS;
+use stores::lengths::COLUMNS;
+use stores::lengths::POLYNOMIALS;
 use stores::lengths::ROW;
 ghost use mathlib.Core.Path.{_≡_};
 ghost use mathlib.Core.Bool.{false, not, _&&_, cond};
@@ -17,9 +19,13 @@ ghost use Rattle.rules.specs.Stores.{rowOf};
 ghost use Rattle.rules.specs.Elimination.{limitCoefficients, limitDegrees, consistent};
 ghost use Rattle.stores.specs.Flat.{partCount};
 ghost use Rattle.working_rows.specs.Worked.{refusalOf, numbersOf};
-ghost use Rattle.combinations.specs.Combination.{few, lengthsAre, bothWithin, commonLength, trim, Shortened, lowPart, combinations, lowNumbers, Counted, highest};
+ghost use Rattle.combinations.specs.Combination.{few, bothWithin, trim, Shortened, lowPart, lowSums, Counted, highest};
+ghost use Rattle.combinations.specs.Combination.{combinations, lowNumbers};
 ghost use Rattle.combinations.specs.Primitive.{isLow, primitiveNumbers};
-ghost use Rattle.combinations.specs.InPlace.{partAt, rowAt, sumAt, withPart, placed, PartMade, RowMade};
+ghost use Rattle.combinations.specs.InPlace.{partAt, rowAt, sumAt, withPart, placed, Known, PartFits, PartMade};
+ghost use Rattle.combinations.specs.InPlace.{RowsFit, RowMade, rowSums};
+ghost use Rattle.combinations.specs.ByParts.{Past, RowsUnused};
+ghost use Rattle.combinations.specs.Short.{SumsSaved};
 ghost use Rattle.polynomials.specs.Content.{Below};
 
 // The coefficients up to the highest nonzero one.
@@ -37,6 +43,16 @@ const SHORT: usize = 4;
 // A multiplier that is a number has one.
 const SINGLE: usize = 1;
 
+// One of degree 1 has two.
+const PAIR: usize = 2;
+
+// How many coefficients a product can have of a multiplier of one, two or four and of a polynomial of four.
+const NUMBER_SUMS: usize = SINGLE + SHORT - 1;
+
+const PAIR_SUMS: usize = PAIR + SHORT - 1;
+
+const FOUR_SUMS: usize = SHORT + SHORT - 1;
+
 // The polynomials of a row: the right side is the last.
 const PARTS: usize = ROW / COEFFICIENTS;
 
@@ -52,37 +68,20 @@ fn shortened(p: &[i64]) -> &[i64]
     trimmed(p)
 }
 
-// Are all coefficients of both past the first so many zero?
+// Are all coefficients of both past the first so many zero? The bits of all are joined in one loop, with no stop, which the machine does
+// for several numbers at once.
 fn both_within(g: &[i64], h: &[i64], n: usize) -> bool
-    requires { ⌜ (n ≤ length (now g)) × (n ≤ length (now h)) ⌝ }
+    requires { ⌜ (length (now g) ≡ coefficientCount) × (length (now h) ≡ coefficientCount) × (n ≤ coefficientCount) ⌝ }
     ensures { λ r. ⌜ r ≡ bothWithin n (now (g .entry)) (now (h .entry)) ⌝ }
 {
-    polynomials::content::all_zero(&g[n..]) && polynomials::content::all_zero(&h[n..])
-}
-
-// How many coefficients are taken of two multipliers: one, four or all, with only zeros behind them in both.
-fn common_length(g: &[i64], h: &[i64]) -> usize
-    requires { ⌜ (length (now g) ≡ coefficientCount) × (length (now h) ≡ coefficientCount) ⌝ }
-    ensures { λ r. ⌜ r ≡ commonLength (now (g .entry)) (now (h .entry)) ⌝ }
-{
-    if both_within(g, h, SINGLE) {
-        return SINGLE;
+    let mut joined = 0;
+    let mut i = n;
+    while i < COEFFICIENTS {
+        joined |= g[i];
+        joined |= h[i];
+        i += 1;
     }
-    if both_within(g, h, SHORT) {
-        return SHORT;
-    }
-    COEFFICIENTS
-}
-
-// So many coefficients of a multiplier, or those up to its highest nonzero one where they are not few.
-fn front_of(p: &[i64], n: usize) -> &[i64]
-    requires { ⌜ (length (now p) ≡ coefficientCount) × (0 < n) × (n ≤ coefficientCount) × T (isZero (drop n (now p))) ⌝ }
-    ensures { λ r. ⌜ Shortened (now r) (now (p .entry)) ⌝ }
-{
-    if n <= SHORT {
-        return &p[..n];
-    }
-    trimmed(p)
+    joined == 0
 }
 
 // No coefficient of g·p + h·q past this power is left.
@@ -167,74 +166,6 @@ fn put_low(place: &mut [i64], g: &[i64], p: &[i64], h: &[i64], q: &[i64]) -> boo
     false
 }
 
-// Have both multipliers so many coefficients, and both polynomials four?
-fn lengths_are(g: &[i64], p: &[i64], h: &[i64], q: &[i64], n: usize) -> bool
-    ensures { λ r. ⌜ r ≡ lengthsAre n few (now (g .entry)) (now (p .entry)) (now (h .entry)) (now (q .entry)) ⌝ }
-{
-    if g.len() != n {
-        return false;
-    }
-    if p.len() != SHORT {
-        return false;
-    }
-    if h.len() != n {
-        return false;
-    }
-    q.len() == SHORT
-}
-
-// The coefficients of g·p + h·q where each has four: no length has to be foretold, and past power 6 there are zeros.
-fn short_sums(g: &[i64], p: &[i64], h: &[i64], q: &[i64]) -> [i64; COEFFICIENTS]
-    requires { ⌜ Counted (now g) × Counted (now p) × Counted (now h) × Counted (now q) ⌝ }
-    requires { ⌜ (length (now g) ≡ few) × (length (now p) ≡ few) × (length (now h) ≡ few) × (length (now q) ≡ few) ⌝ }
-    ensures { λ r. ⌜ r ≡ lowPart (add (mul (now (g .entry)) (now (p .entry))) (mul (now (h .entry)) (now (q .entry)))) ⌝ }
-{
-    [
-        products::combined_coefficient(g, p, h, q, 0),
-        products::combined_coefficient(g, p, h, q, 1),
-        products::combined_coefficient(g, p, h, q, 2),
-        products::combined_coefficient(g, p, h, q, 3),
-        products::combined_coefficient(g, p, h, q, 4),
-        products::combined_coefficient(g, p, h, q, 5),
-        products::combined_coefficient(g, p, h, q, 6),
-        0,
-        0,
-        0,
-        0,
-        0,
-        0,
-        0,
-        0,
-        0,
-    ]
-}
-
-// The same where the multipliers are numbers, which is most often the case: past power 3 there are zeros.
-fn number_sums(g: &[i64], p: &[i64], h: &[i64], q: &[i64]) -> [i64; COEFFICIENTS]
-    requires { ⌜ Counted (now g) × Counted (now p) × Counted (now h) × Counted (now q) ⌝ }
-    requires { ⌜ (length (now g) ≡ 1) × (length (now p) ≡ few) × (length (now h) ≡ 1) × (length (now q) ≡ few) ⌝ }
-    ensures { λ r. ⌜ r ≡ lowPart (add (mul (now (g .entry)) (now (p .entry))) (mul (now (h .entry)) (now (q .entry)))) ⌝ }
-{
-    [
-        products::combined_coefficient(g, p, h, q, 0),
-        products::combined_coefficient(g, p, h, q, 1),
-        products::combined_coefficient(g, p, h, q, 2),
-        products::combined_coefficient(g, p, h, q, 3),
-        0,
-        0,
-        0,
-        0,
-        0,
-        0,
-        0,
-        0,
-        0,
-        0,
-        0,
-        0,
-    ]
-}
-
 // The low coefficients of the combinations of the polynomials of two lists of numbers, over zeros, up to the first whose degree is past 15:
 // is there one? Nothing is done for polynomials that are zero in both.
 pub fn low_combination(
@@ -281,28 +212,25 @@ pub struct Made {
     pub within: bool,
 }
 
+// So many numbers of a store from a place on, where they stand.
+fn numbers_at(store: &[i64], at: usize, n: usize) -> &[i64]
+    requires { ⌜ at + n ≤ length (now store) ⌝ }
+    ensures { λ r. ⌜ now r ≡ take n (drop at (now (store .entry))) ⌝ }
+    ensures { λ r. ⌜ length (now r) ≡ n ⌝ }
+{
+    let end = at + n;
+    &store[at..end]
+}
+
 // The polynomial at place `a` of a store combined with that at place `b`, where it stands, unless its degree is past 15: is it?
 fn combine_part(rows: &mut [i64], a: usize, b: usize, g: &[i64], h: &[i64]) -> bool
-    requires { ⌜ (a + coefficientCount ≤ length (now rows)) × (b + coefficientCount ≤ length (now rows)) ⌝ }
-    requires { ⌜ T (every small (partAt (now rows) a)) × T (every small (partAt (now rows) b)) × Counted (now g) × Counted (now h) ⌝ }
+    requires { ⌜ PartFits a b (now g) (now h) (now rows) ⌝ }
     ensures { λ r. ⌜ r ≡ not (isLow (sumAt (now (g .entry)) (now (h .entry)) (now (rows .entry)) a b)) ⌝ }
     ensures { λ r. ⌜ now (rows .exit) ≡ cond r (now (rows .entry))
         (withPart (now (rows .entry)) a (lowPart (sumAt (now (g .entry)) (now (h .entry)) (now (rows .entry)) a b))) ⌝ }
 {
-    let end = a + COEFFICIENTS;
-    let last = b + COEFFICIENTS;
-    let p = shortened(&rows[a..end]);
-    let q = shortened(&rows[b..last]);
-    if lengths_are(g, p, h, q, SINGLE) {
-        let sums = number_sums(g, p, h, q);
-        stores::rows::save(rows, a, &sums[..]);
-        return false;
-    }
-    if lengths_are(g, p, h, q, SHORT) {
-        let sums = short_sums(g, p, h, q);
-        stores::rows::save(rows, a, &sums[..]);
-        return false;
-    }
+    let p = shortened(numbers_at(rows, a, COEFFICIENTS));
+    let q = shortened(numbers_at(rows, b, COEFFICIENTS));
     let mut place = [0i64; COEFFICIENTS];
     if put_low(&mut place, g, p, h, q) {
         return true;
@@ -321,6 +249,17 @@ fn content_with(p: &[i64], d: u64) -> u64
     integers::gcd(polynomials::content::content(p), d)
 }
 
+// What is known of numbers and of those before them, whose content is d.
+fn made_of(p: &[i64], d: u64, within: bool) -> Made
+    ensures { λ r. ⌜ Known (now (p .entry)) d within r ⌝ }
+{
+    Made {
+        beyond: false,
+        content: content_with(p, d),
+        within: within && stores::checks::all_small(p),
+    }
+}
+
 // The same, with what is known of the polynomial afterwards and of those before it, whose content is d. Nothing is done where both are zero.
 fn add_part(
     rows: &mut [i64],
@@ -331,14 +270,14 @@ fn add_part(
     d: u64,
     within: bool,
 ) -> Made
-    requires { ⌜ (a + coefficientCount ≤ length (now rows)) × (b + coefficientCount ≤ length (now rows)) ⌝ }
-    requires { ⌜ T (every small (partAt (now rows) a)) × T (every small (partAt (now rows) b)) × Counted (now g) × Counted (now h) ⌝ }
+    requires { ⌜ PartFits a b (now g) (now h) (now rows) ⌝ }
     ensures { λ r. ⌜
         PartMade (sumAt (now (g .entry)) (now (h .entry)) (now (rows .entry)) a b) d within a (now (rows .entry)) (now (rows .exit)) r ⌝ }
 {
-    let end = a + COEFFICIENTS;
-    let last = b + COEFFICIENTS;
-    if both_zero(&rows[a..end], &rows[b..last]) {
+    if both_zero(
+        numbers_at(rows, a, COEFFICIENTS),
+        numbers_at(rows, b, COEFFICIENTS),
+    ) {
         return Made {
             beyond: false,
             content: d,
@@ -352,34 +291,207 @@ fn add_part(
             within,
         };
     }
-    let p = &rows[a..end];
-    Made {
-        beyond: false,
-        content: content_with(p, d),
-        within: within && stores::checks::all_small(p),
+    made_of(numbers_at(rows, a, COEFFICIENTS), d, within)
+}
+
+// Have the polynomials at two places of a store no more than four coefficients?
+fn both_short(rows: &[i64], a: usize, b: usize) -> bool
+    requires { ⌜ (a + coefficientCount ≤ length (now rows)) × (b + coefficientCount ≤ length (now rows)) ⌝ }
+    ensures { λ r. ⌜ r ≡ bothWithin few (partAt (now (rows .entry)) a) (partAt (now (rows .entry)) b) ⌝ }
+{
+    both_within(
+        numbers_at(rows, a, COEFFICIENTS),
+        numbers_at(rows, b, COEFFICIENTS),
+        SHORT,
+    )
+}
+
+// The sums in their place, with their content and that of the numbers before them, d, and whether all are within ±C.
+fn save_sums(rows: &mut [i64], a: usize, sums: &[i64], d: u64, within: bool) -> Made
+    requires { ⌜ a + length (now sums) ≤ length (now rows) ⌝ }
+    ensures { λ r. ⌜ SumsSaved (now (sums .entry)) d within a (now (rows .entry)) (now (rows .exit)) r ⌝ }
+{
+    stores::rows::save(rows, a, sums);
+    made_of(sums, d, within)
+}
+
+// The lowest coefficients of g·p + h·q, as many as it can have where the multipliers are numbers and the polynomials have four.
+fn number_sums(g: &[i64], p: &[i64], h: &[i64], q: &[i64]) -> [i64; NUMBER_SUMS]
+    requires { ⌜ Counted (now g) × Counted (now p) × Counted (now h) × Counted (now q) ⌝ }
+    ensures { λ r. ⌜ r ≡ lowSums 1 (now (g .entry)) (now (p .entry)) (now (h .entry)) (now (q .entry)) ⌝ }
+{
+    [
+        products::combined_coefficient(g, p, h, q, 0),
+        products::combined_coefficient(g, p, h, q, 1),
+        products::combined_coefficient(g, p, h, q, 2),
+        products::combined_coefficient(g, p, h, q, 3),
+    ]
+}
+
+// The same for multipliers of two coefficients.
+fn pair_sums(g: &[i64], p: &[i64], h: &[i64], q: &[i64]) -> [i64; PAIR_SUMS]
+    requires { ⌜ Counted (now g) × Counted (now p) × Counted (now h) × Counted (now q) ⌝ }
+    ensures { λ r. ⌜ r ≡ lowSums 2 (now (g .entry)) (now (p .entry)) (now (h .entry)) (now (q .entry)) ⌝ }
+{
+    [
+        products::combined_coefficient(g, p, h, q, 0),
+        products::combined_coefficient(g, p, h, q, 1),
+        products::combined_coefficient(g, p, h, q, 2),
+        products::combined_coefficient(g, p, h, q, 3),
+        products::combined_coefficient(g, p, h, q, 4),
+    ]
+}
+
+// The same for multipliers of four.
+fn four_sums(g: &[i64], p: &[i64], h: &[i64], q: &[i64]) -> [i64; FOUR_SUMS]
+    requires { ⌜ Counted (now g) × Counted (now p) × Counted (now h) × Counted (now q) ⌝ }
+    ensures { λ r. ⌜ r ≡ lowSums few (now (g .entry)) (now (p .entry)) (now (h .entry)) (now (q .entry)) ⌝ }
+{
+    [
+        products::combined_coefficient(g, p, h, q, 0),
+        products::combined_coefficient(g, p, h, q, 1),
+        products::combined_coefficient(g, p, h, q, 2),
+        products::combined_coefficient(g, p, h, q, 3),
+        products::combined_coefficient(g, p, h, q, 4),
+        products::combined_coefficient(g, p, h, q, 5),
+        products::combined_coefficient(g, p, h, q, 6),
+    ]
+}
+
+// The same as `add_part` where the multipliers are numbers. Where the polynomials have four coefficients, which is most often the case, no
+// length has to be foretold, the sums are few, and behind them there are zeros already.
+fn number_part(
+    rows: &mut [i64],
+    a: usize,
+    b: usize,
+    g: &[i64],
+    h: &[i64],
+    d: u64,
+    within: bool,
+) -> Made
+    requires { ⌜ PartFits a b (now g) (now h) (now rows) ⌝ }
+    requires { ⌜ (length (now g) ≡ 1) × (length (now h) ≡ 1) ⌝ }
+    ensures { λ r. ⌜
+        PartMade (sumAt (now (g .entry)) (now (h .entry)) (now (rows .entry)) a b) d within a (now (rows .entry)) (now (rows .exit)) r ⌝ }
+{
+    if !both_short(rows, a, b) {
+        return add_part(rows, a, b, g, h, d, within);
     }
+    let p = numbers_at(rows, a, SHORT);
+    let q = numbers_at(rows, b, SHORT);
+    if both_zero(p, q) {
+        return Made {
+            beyond: false,
+            content: d,
+            within,
+        };
+    }
+    let sums = number_sums(g, p, h, q);
+    save_sums(rows, a, &sums[..], d, within)
+}
+
+// The same for multipliers of two coefficients.
+fn pair_part(
+    rows: &mut [i64],
+    a: usize,
+    b: usize,
+    g: &[i64],
+    h: &[i64],
+    d: u64,
+    within: bool,
+) -> Made
+    requires { ⌜ PartFits a b (now g) (now h) (now rows) ⌝ }
+    requires { ⌜ (length (now g) ≡ 2) × (length (now h) ≡ 2) ⌝ }
+    ensures { λ r. ⌜
+        PartMade (sumAt (now (g .entry)) (now (h .entry)) (now (rows .entry)) a b) d within a (now (rows .entry)) (now (rows .exit)) r ⌝ }
+{
+    if !both_short(rows, a, b) {
+        return add_part(rows, a, b, g, h, d, within);
+    }
+    let p = numbers_at(rows, a, SHORT);
+    let q = numbers_at(rows, b, SHORT);
+    if both_zero(p, q) {
+        return Made {
+            beyond: false,
+            content: d,
+            within,
+        };
+    }
+    let sums = pair_sums(g, p, h, q);
+    save_sums(rows, a, &sums[..], d, within)
+}
+
+// The same for multipliers of four.
+fn four_part(
+    rows: &mut [i64],
+    a: usize,
+    b: usize,
+    g: &[i64],
+    h: &[i64],
+    d: u64,
+    within: bool,
+) -> Made
+    requires { ⌜ PartFits a b (now g) (now h) (now rows) ⌝ }
+    requires { ⌜ (length (now g) ≡ few) × (length (now h) ≡ few) ⌝ }
+    ensures { λ r. ⌜
+        PartMade (sumAt (now (g .entry)) (now (h .entry)) (now (rows .entry)) a b) d within a (now (rows .entry)) (now (rows .exit)) r ⌝ }
+{
+    if !both_short(rows, a, b) {
+        return add_part(rows, a, b, g, h, d, within);
+    }
+    let p = numbers_at(rows, a, SHORT);
+    let q = numbers_at(rows, b, SHORT);
+    if both_zero(p, q) {
+        return Made {
+            beyond: false,
+            content: d,
+            within,
+        };
+    }
+    let sums = four_sums(g, p, h, q);
+    save_sums(rows, a, &sums[..], d, within)
+}
+
+// Is the polynomial at a place of a row in use, where the first m columns of the first span + 1 blocks are? The right side, the last, is.
+fn in_use(e: usize, m: usize, span: usize) -> bool
+    requires { ⌜ e < partCount ⌝ }
+    ensures { λ r. ⌜ (r ≡ false → Past m span e) ⌝ }
+{
+    if e == POLYNOMIALS {
+        return true;
+    }
+    if span < e / COLUMNS {
+        return false;
+    }
+    e % COLUMNS < m
 }
 
 // The polynomials of the row at a place of a store combined with those of a row before it, where they stand, up to the first whose degree is
-// past 15.
-fn combine_parts(rows: &mut [i64], at: usize, from: usize, g: &[i64], h: &[i64]) -> Made
-    requires { ⌜
-        (length (now g) ≡ coefficientCount) × T (every small (now g)) × (length (now h) ≡ coefficientCount) × T (every small (now h)) ⌝ }
-    requires { ⌜
-        (from + rowLength ≤ at) × (at + rowLength ≤ length (now rows)) × T (every small (rowAt (now rows) at))
-        × T (every small (rowAt (now rows) from)) ⌝ }
-    ensures { λ r. ⌜ RowMade (combinations partCount (now (g .entry)) (now (h .entry)) (rowAt (now (rows .entry)) at)
-        (rowAt (now (rows .entry)) from)) at (now (rows .entry)) (now (rows .exit)) r ⌝ }
+// past 15. Those that are not in use stay.
+fn combine_by_any(
+    rows: &mut [i64],
+    at: usize,
+    from: usize,
+    g: &[i64],
+    h: &[i64],
+    m: usize,
+    span: usize,
+) -> Made
+    requires { ⌜ RowsFit at from (now g) (now h) (now rows) ⌝ }
+    requires { ⌜ RowsUnused m span at from (now rows) ⌝ }
+    ensures { λ r. ⌜
+        RowMade (rowSums (now (g .entry)) (now (h .entry)) (now (rows .entry)) at from) at (now (rows .entry)) (now (rows .exit)) r ⌝ }
 {
-    let n = common_length(g, h);
-    let a = front_of(g, n);
-    let b = front_of(h, n);
     let mut d = 0;
     let mut within = true;
     let mut e = 0;
     while e < PARTS {
+        if !in_use(e, m, span) {
+            e += 1;
+            continue;
+        }
         let k = e * COEFFICIENTS;
-        let made = add_part(rows, at + k, from + k, a, b, d, within);
+        let made = add_part(rows, at + k, from + k, g, h, d, within);
         if made.beyond {
             return made;
         }
@@ -392,6 +504,158 @@ fn combine_parts(rows: &mut [i64], at: usize, from: usize, g: &[i64], h: &[i64])
         content: d,
         within,
     }
+}
+
+// The same where the multipliers are numbers. There is a loop for each length of the multipliers, which is tested once for the row and not
+// for each polynomial.
+fn combine_by_numbers(
+    rows: &mut [i64],
+    at: usize,
+    from: usize,
+    g: &[i64],
+    h: &[i64],
+    m: usize,
+    span: usize,
+) -> Made
+    requires { ⌜ RowsFit at from (now g) (now h) (now rows) ⌝ }
+    requires { ⌜ RowsUnused m span at from (now rows) ⌝ }
+    requires { ⌜ (length (now g) ≡ 1) × (length (now h) ≡ 1) ⌝ }
+    ensures { λ r. ⌜
+        RowMade (rowSums (now (g .entry)) (now (h .entry)) (now (rows .entry)) at from) at (now (rows .entry)) (now (rows .exit)) r ⌝ }
+{
+    let mut d = 0;
+    let mut within = true;
+    let mut e = 0;
+    while e < PARTS {
+        if !in_use(e, m, span) {
+            e += 1;
+            continue;
+        }
+        let k = e * COEFFICIENTS;
+        let made = number_part(rows, at + k, from + k, g, h, d, within);
+        if made.beyond {
+            return made;
+        }
+        d = made.content;
+        within = made.within;
+        e += 1;
+    }
+    Made {
+        beyond: false,
+        content: d,
+        within,
+    }
+}
+
+// The same for multipliers of two coefficients.
+fn combine_by_pairs(
+    rows: &mut [i64],
+    at: usize,
+    from: usize,
+    g: &[i64],
+    h: &[i64],
+    m: usize,
+    span: usize,
+) -> Made
+    requires { ⌜ RowsFit at from (now g) (now h) (now rows) ⌝ }
+    requires { ⌜ RowsUnused m span at from (now rows) ⌝ }
+    requires { ⌜ (length (now g) ≡ 2) × (length (now h) ≡ 2) ⌝ }
+    ensures { λ r. ⌜
+        RowMade (rowSums (now (g .entry)) (now (h .entry)) (now (rows .entry)) at from) at (now (rows .entry)) (now (rows .exit)) r ⌝ }
+{
+    let mut d = 0;
+    let mut within = true;
+    let mut e = 0;
+    while e < PARTS {
+        if !in_use(e, m, span) {
+            e += 1;
+            continue;
+        }
+        let k = e * COEFFICIENTS;
+        let made = pair_part(rows, at + k, from + k, g, h, d, within);
+        if made.beyond {
+            return made;
+        }
+        d = made.content;
+        within = made.within;
+        e += 1;
+    }
+    Made {
+        beyond: false,
+        content: d,
+        within,
+    }
+}
+
+// The same for multipliers of four.
+fn combine_by_fours(
+    rows: &mut [i64],
+    at: usize,
+    from: usize,
+    g: &[i64],
+    h: &[i64],
+    m: usize,
+    span: usize,
+) -> Made
+    requires { ⌜ RowsFit at from (now g) (now h) (now rows) ⌝ }
+    requires { ⌜ RowsUnused m span at from (now rows) ⌝ }
+    requires { ⌜ (length (now g) ≡ few) × (length (now h) ≡ few) ⌝ }
+    ensures { λ r. ⌜
+        RowMade (rowSums (now (g .entry)) (now (h .entry)) (now (rows .entry)) at from) at (now (rows .entry)) (now (rows .exit)) r ⌝ }
+{
+    let mut d = 0;
+    let mut within = true;
+    let mut e = 0;
+    while e < PARTS {
+        if !in_use(e, m, span) {
+            e += 1;
+            continue;
+        }
+        let k = e * COEFFICIENTS;
+        let made = four_part(rows, at + k, from + k, g, h, d, within);
+        if made.beyond {
+            return made;
+        }
+        d = made.content;
+        within = made.within;
+        e += 1;
+    }
+    Made {
+        beyond: false,
+        content: d,
+        within,
+    }
+}
+
+// The same by the loop that fits the multipliers.
+fn combine_parts(
+    rows: &mut [i64],
+    at: usize,
+    from: usize,
+    g: &[i64],
+    h: &[i64],
+    m: usize,
+    span: usize,
+) -> Made
+    requires { ⌜
+        (length (now g) ≡ coefficientCount) × T (every small (now g)) × (length (now h) ≡ coefficientCount) × T (every small (now h)) ⌝ }
+    requires { ⌜
+        (from + rowLength ≤ at) × (at + rowLength ≤ length (now rows)) × T (every small (rowAt (now rows) at))
+        × T (every small (rowAt (now rows) from)) ⌝ }
+    requires { ⌜ RowsUnused m span at from (now rows) ⌝ }
+    ensures { λ r. ⌜ RowMade (combinations partCount (now (g .entry)) (now (h .entry)) (rowAt (now (rows .entry)) at)
+        (rowAt (now (rows .entry)) from)) at (now (rows .entry)) (now (rows .exit)) r ⌝ }
+{
+    if both_within(g, h, SINGLE) {
+        return combine_by_numbers(rows, at, from, &g[..SINGLE], &h[..SINGLE], m, span);
+    }
+    if both_within(g, h, PAIR) {
+        return combine_by_pairs(rows, at, from, &g[..PAIR], &h[..PAIR], m, span);
+    }
+    if both_within(g, h, SHORT) {
+        return combine_by_fours(rows, at, from, &g[..SHORT], &h[..SHORT], m, span);
+    }
+    combine_by_any(rows, at, from, trimmed(g), trimmed(h), m, span)
 }
 
 // The coefficients up to the highest nonzero one divided by d; the zeros behind stay.
@@ -421,7 +685,7 @@ fn divide_parts(numbers: &mut [i64], d: i64)
 }
 
 // The numbers of a new row divided by their content d (SCOPE 2.42), and the number of the limit that they break then, or 0. `within` says
-// whether they are within ±C before the division; where there is none, they need not be looked through again.
+// whether they are within ±C before the division; where they are, they are so behind it, and need not be looked through again.
 fn limit_row(numbers: &mut [i64], d: u64, within: bool) -> u8
     requires { ⌜ (length (now numbers) ≡ rowLength) × Below (2 ^ 63) (now numbers) ⌝ }
     requires { ⌜ (d ≡ content (now numbers)) × (within ≡ every small (now numbers)) ⌝ }
@@ -430,7 +694,10 @@ fn limit_row(numbers: &mut [i64], d: u64, within: bool) -> u8
 {
     if 1 < d {
         divide_parts(numbers, d as i64);
-        return working_rows::limits::refusal(numbers);
+        if !within {
+            return working_rows::limits::refusal(numbers);
+        }
+        return working_rows::limits::contradiction(numbers);
     }
     if !within {
         return 8;
@@ -441,19 +708,29 @@ fn limit_row(numbers: &mut [i64], d: u64, within: bool) -> u8
 // The row at place `at` of a store becomes g × itself + h × the row at `from`, which stands before it, divided by the content (SCOPE 2.41,
 // 2.42). A degree past 15 is refused with 7; if there is none, a coefficient past ±C with 8; a row whose left part alone is zero with 10
 // (SCOPE 2.43, 2.44, 2.46). A refusal leaves zeros in its place. The division does not change a degree, so the degrees are looked at first.
-pub fn combine_rows(rows: &mut [i64], at: usize, from: usize, g: &[i64], h: &[i64]) -> u8
+// Only the first m columns of the first span + 1 blocks are in use.
+pub fn combine_rows(
+    rows: &mut [i64],
+    at: usize,
+    from: usize,
+    g: &[i64],
+    h: &[i64],
+    m: usize,
+    span: usize,
+) -> u8
     requires { ⌜
         (length (now g) ≡ coefficientCount) × T (every small (now g)) × (length (now h) ≡ coefficientCount) × T (every small (now h)) ⌝ }
     requires { ⌜
         (from + rowLength ≤ at) × (at + rowLength ≤ length (now rows)) × T (every small (rowAt (now rows) at))
         × T (every small (rowAt (now rows) from)) ⌝ }
+    requires { ⌜ RowsUnused m span at from (now rows) ⌝ }
     ensures { λ r. ⌜ r ≡ refusalOf (consistent (limitDegrees (primitive (combine (now (g .entry)) (now (h .entry))
         (rowOf (rowAt (now (rows .entry)) at)) (rowOf (rowAt (now (rows .entry)) from)))))) ⌝ }
     ensures { λ r. ⌜ now (rows .exit) ≡ placed (now (rows .entry)) at r
         (numbersOf (consistent (limitDegrees (primitive (combine (now (g .entry)) (now (h .entry))
         (rowOf (rowAt (now (rows .entry)) at)) (rowOf (rowAt (now (rows .entry)) from))))))) ⌝ }
 {
-    let made = combine_parts(rows, at, from, g, h);
+    let made = combine_parts(rows, at, from, g, h, m, span);
     if made.beyond {
         stores::rows::clear(rows, at, ROW);
         return 7;

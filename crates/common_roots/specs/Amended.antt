@@ -2,7 +2,6 @@
 --
 -- Main definitions
 --   both a b              the entries a, of row j, and b, of row i
---   withRoots x           multipliers with the roots of g
 --   rootsAlone w          what the finder lists, without how often each root occurs
 --
 -- Main statements
@@ -38,7 +37,6 @@ use Rattle.roots.specs.declared.RootList.{RootList}
 use Rattle.roots.specs.RootSearch.{listed, roots-constant, roots-few}
 use Rattle.multiplicities.specs.declared.RootsWith.{RootsWith}
 use Rattle.multiplicities.specs.Counts.{listedWith, timesIn, roots-within}
-use Rattle.common_roots.specs.declared.Amended.{Amended}
 use Rattle.common_roots.specs.Divisions.{vanishesAt}
 use Rattle.common_roots.specs.Kept.{length-keep, every-keep, roots-reduced, roots-ratio}
 
@@ -67,10 +65,6 @@ times-at p rs e i h =
 
     size : length pairs ≡ length rs
     size = length-map rs (λ r. (r, multiplicity p r))
-
--- The multipliers with the roots of g.
-abbrev pub withRoots : Multipliers → Amended
-withRoots x = record { g = x .g; h = x .h; roots = listed (roots (x .g)) }
 
 module _ (a b : Polynomial) where
   pub reduced-each : length a ≡ coefficientCount → divideEach coefficientCount (commonRoots (both a b)) (both a b) ≡ reduced (both a b)

@@ -1,5 +1,5 @@
 // Common roots leave the multipliers: both leading entries are divided by n - r for each common integer root r before rule 2's
-// multipliers are taken. Every function but `multipliers` is private; each contract gives the result by an equation with a definition
+// multipliers are taken. Every function but `put_multipliers` is private; each contract gives the result by an equation with a definition
 // of `rules` or of `specs/`.
 use multiplicities::RootsWith;
 use polynomials::lengths::COEFFICIENTS;
@@ -20,7 +20,7 @@ ghost use Rattle.rules.specs.CommonRoots as CommonRoots;
 ghost use Rattle.roots.specs.RootSearch.{held, listed};
 ghost use Rattle.rules.specs.Elimination as Elimination;
 ghost use Rattle.multiplicities.specs.Counts.{listedWith, timesIn};
-ghost use Rattle.common_roots.specs.Amended.{both, withRoots};
+ghost use Rattle.common_roots.specs.Amended.{both};
 ghost use Rattle.common_roots.specs.Divisions.{Sixteen, Fits, Divided, entriesOf, vanishesAt};
 
 // A polynomial divided by n - r, where that may be done: `exact` says so.
@@ -143,46 +143,48 @@ fn reduced(a: &[i64], b: &[i64], common: RootList) -> Entries
     )
 }
 
-// Rule 2's multipliers, and the integer roots of g, ascending.
-pub struct Amended {
-    pub g: [i64; COEFFICIENTS],
-    pub h: [i64; COEFFICIENTS],
-    pub roots: RootList,
-}
-
 // Where there are common roots. What is left of a has no root that a has not, so no root is searched again.
-fn divided_multipliers(a: &[i64], b: &[i64], found: RootList, common: RootList) -> Amended
+fn put_divided(
+    g: &mut [i64],
+    h: &mut [i64],
+    a: &[i64],
+    b: &[i64],
+    found: RootList,
+    common: RootList,
+) -> RootList
+    requires { ⌜ (length (now g) ≡ coefficientCount) × (length (now h) ≡ coefficientCount) ⌝ }
     requires { ⌜ Sixteen (now a) × T (not (isZero (now a))) × (found ≡ listed (Roots.roots (now a))) ⌝ }
     requires { ⌜ Sixteen (now b) × (common ≡ listed (commonRoots (both (now a) (now b)))) ⌝ }
-    ensures { λ r. ⌜ r ≡ withRoots (Elimination.multipliers (now (a .entry)) (now (b .entry))) ⌝ }
+    ensures { λ _. ⌜ now (g .exit) ≡ Elimination.multipliers (now (a .entry)) (now (b .entry)) .g ⌝ }
+    ensures { λ _. ⌜ now (h .exit) ≡ Elimination.multipliers (now (a .entry)) (now (b .entry)) .h ⌝ }
+    ensures { λ r. ⌜ r ≡ listed (Roots.roots (Elimination.multipliers (now (a .entry)) (now (b .entry)) .g)) ⌝ }
 {
     let e = reduced(a, b, common);
     let pivot = e.pivot;
     let target = e.target;
-    let x = polynomials::content::multipliers_of(&pivot[..], &target[..]);
-    let g = x.g;
-    let h = x.h;
-    let roots = kept(&pivot[..], found);
-    Amended { g, h, roots }
+    polynomials::content::put_multipliers(g, h, &pivot[..], &target[..]);
+    kept(&pivot[..], found)
 }
 
-// The multipliers of a and b as they are have the roots of a. Where there are none, or b vanishes at none of them, they are the answer.
-pub fn multipliers(a: &[i64], b: &[i64]) -> Amended
+// Rule 2's multipliers put into g and h: the integer roots of g, ascending. The multipliers of a and b as they are have the roots of a.
+// Where there are none, or b vanishes at none of them, they are the answer.
+pub fn put_multipliers(g: &mut [i64], h: &mut [i64], a: &[i64], b: &[i64]) -> RootList
+    requires { ⌜ (length (now g) ≡ coefficientCount) × (length (now h) ≡ coefficientCount) ⌝ }
     requires { ⌜ Sixteen (now a) × T (not (isZero (now a ++ now b))) ⌝ }
     requires { ⌜ Sixteen (now b) ⌝ }
-    ensures { λ r. ⌜ r ≡ withRoots (Elimination.multipliers (now (a .entry)) (now (b .entry))) ⌝ }
+    ensures { λ _. ⌜ now (g .exit) ≡ Elimination.multipliers (now (a .entry)) (now (b .entry)) .g ⌝ }
+    ensures { λ _. ⌜ now (h .exit) ≡ Elimination.multipliers (now (a .entry)) (now (b .entry)) .h ⌝ }
+    ensures { λ r. ⌜ r ≡ listed (Roots.roots (Elimination.multipliers (now (a .entry)) (now (b .entry)) .g)) ⌝ }
 {
-    let x = polynomials::content::multipliers_of(a, b);
-    let g = x.g;
-    let h = x.h;
-    let roots = roots::roots(&g[..]);
-    if roots.count == 0 {
-        return Amended { g, h, roots };
+    polynomials::content::put_multipliers(g, h, a, b);
+    let found = roots::roots(g);
+    if found.count == 0 {
+        return found;
     }
-    let common = kept(b, roots);
+    let common = kept(b, found);
     if common.count == 0 {
-        Amended { g, h, roots }
+        found
     } else {
-        divided_multipliers(a, b, roots, common)
+        put_divided(g, h, a, b, found, common)
     }
 }

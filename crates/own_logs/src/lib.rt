@@ -3,6 +3,7 @@ use lines::Lines;
 use log_steps::lengths::LOG;
 use log_steps::lengths::STEP;
 use reduction::step::Outcome;
+use reduction::step::SPAN;
 use sides::Side;
 use stores::lengths::COLUMNS;
 use stores::lengths::RELATION;
@@ -72,7 +73,7 @@ fn steps(
         let lines = lines::step_lines(rows, p);
         put_lines(log, k, lines);
         k += lines.count;
-        let o = reduction::step::step(rows, relations, Side::Leading, p);
+        let o = reduction::step::step(rows, relations, Side::Leading, COLUMNS, SPAN, p);
         refusal = o.refusal;
         p = o.progress;
         left -= 1;

@@ -4,6 +4,7 @@ use log_steps::lengths::H;
 use log_steps::lengths::STEP;
 use polynomials::lengths::COEFFICIENTS;
 use reduction::step::Progress;
+use reduction::step::SPAN;
 use stores::lengths::COLUMNS;
 use stores::lengths::ROW;
 ghost use mathlib.Core.Path.{_≡_};
@@ -137,9 +138,9 @@ fn combination(i: usize, j: usize, c: usize, target: &[i64], pivot: &[i64]) -> [
     requires { ⌜ T (not (isZero (entry (rowOf (now pivot)) c ++ entry (rowOf (now target)) c))) ⌝ }
     ensures { λ r. ⌜ CombinationLine i j c (rowOf (now (target .entry))) (rowOf (now (pivot .entry))) r ⌝ }
 {
-    let x = reduction::step::multipliers_at(target, pivot, c);
-    let g = x.g;
-    let h = x.h;
+    let mut g = [0; COEFFICIENTS];
+    let mut h = [0; COEFFICIENTS];
+    reduction::step::put_multipliers_at(&mut g, &mut h, target, pivot, c);
     let content = combined_content(&g[..], &h[..], target, pivot);
     let divisor = if content == 0 { 1 } else { content };
     combining(i + 1, j + 1, divisor, &g[..], &h[..])
@@ -158,7 +159,7 @@ fn elimination(rows: &[i64], j: usize, width: usize, p: Progress) -> Lines
     let c = order[j];
     let row = stores::rows::row_at(rows, i * ROW);
     let other = stores::rows::row_at(rows, j * ROW);
-    if width < reduction::looking::width_at(rows, j) {
+    if width < reduction::looking::width_at(rows, j, SPAN) {
         let first = plain(EXCHANGE, i + 1, j + 1);
         let second = combination(i, j, c, other, row);
         return Lines {
@@ -176,7 +177,7 @@ pub(crate) fn step_lines(rows: &[i64], p: Progress) -> Lines
     ensures { λ r. ⌜ StepLines (now (rows .entry)) p r ⌝ }
 {
     let i = p.settled;
-    let width = reduction::looking::width_at(rows, i);
+    let width = reduction::looking::width_at(rows, i, SPAN);
     if width == 0 {
         return one(plain(DROP, i + 1, 0));
     }

@@ -10,25 +10,24 @@
 --   isZero-false, lowest-first   a nonzero coefficient makes p nonzero; at the front it is the lowest
 --   or-zero, join-next     joined bits are 0 exactly if both are; one coefficient more is joined
 --   degree-below           there is a coefficient at the degree
---   within-down, within-part, degree-bottom   one zero coefficient less from the top, and several; none left past power 0: the degree is 0
+--   zeros-part, zeros-within   several zero coefficients less from the top; no power past the others
+--   within-down, degree-bottom   one zero coefficient less from the top; none left past power 0: the degree is 0
 --   content-next, one-gcd  a coefficient joins the greatest common divisor of those passed; 1 stays 1
 --   quotient-stored        the quotient by a positive i64, stored, is a coefficient of `divideBy`
 --   small-at, below-of-small, below-divideBy   sizes of coefficients and of quotients
 --   content-bounds         the content of two polynomials within ±C that are not both zero is positive and at most C
---   ratio-primitive        rule 2's multipliers of two polynomials whose common content is 1
 --   signs-turned, signs-kept   the two cases of rule 2's signs
-use mathlib.Core.Path.{_≡_, refl, sym, _∙_, ap, ap₂}
+use mathlib.Core.Path.{_≡_, refl, sym, _∙_, ap, ap₂, subst}
 use mathlib.Core.Logic.{_≢_, ⊎-elim}
 use mathlib.Core.Bool.{Bool, true, false, not, cond, _&&_, and-assoc}
 use mathlib.Core.List.{[], _∷_, _++_}
 use Prim.Native.Nat.{ℕ, zero, suc, _+_, _-_, _^_, _≤_, _<_}
 use native.Mathlib.Nat.{pos-of-ne-zero, le-trans, le-of-dvd, dvd-one, eq-or-lt-of-le, not-suc-le-zero}
 use native.Mathlib.Omega.{arith}
-use native.Mathlib.Decide.{decLt}
 use lib.Bits.{bitOr, and-le-r, or-add-and}
 use lib.Dec.{T, eqb, ltb→lt, leb→le, eqb·suc-zero}
 use lib.IntN.{ℤ, pos, negsuc, natAbs}
-use lib.ListN.{length, getD, take, drop}
+use lib.ListN.{length, getD, take, drop, take-append-drop}
 use lib.Signed.{mag, ltZ, quotZ}
 use mir.Syntax.{w64}
 use mir.Val.{SFits, ofZ, toZ}
@@ -36,14 +35,14 @@ use mir.Facts.{sfits-lit, toZ-ofZ}
 use borrow.Author.Needs.{sfits-of}
 use borrow.Author.Tests.{ne-eqb}
 use Rattle.algebra.specs.Integers.{natAbs-zero}
-use Rattle.algebra.specs.Polynomials.{Polynomial, coeff, negate, isZeroℤ, isZero, lead, lowest, degree, isZeroℤ-not-iff, isZero-coeff}
-use Rattle.algebra.specs.Coefficients.{Within, coeff-take, coeff-drop, coeff-degree, lead-nonzero, degree-le, degree-lt-length}
+use Rattle.algebra.specs.Polynomials.{Polynomial, coeff, negate, isZeroℤ, isZero, lead, lowest, degree, isZeroℤ-not-iff, isZero-coeff, isZero-append}
+use Rattle.algebra.specs.Coefficients.{Within, coeff-drop, coeff-degree, lead-nonzero, degree-le, degree-lt-length}
 use Rattle.algebra.specs.Gcd.{gcd, content, divideBy, gcd-comm, gcd-assoc, gcd-divides-left}
-use Rattle.algebra.specs.Gcd.{content-divides, content-pos, divideBy-getD, divideBy-le, divideBy-one}
+use Rattle.algebra.specs.Gcd.{content-divides, content-pos, divideBy-getD, divideBy-le}
 use Rattle.rules.specs.Limits.{bound, small}
-use Rattle.lists.specs.Tests.{every, every-getD, every-join}
-use Rattle.lists.specs.Taken.{drop-next}
-use Rattle.rules.specs.Elimination.{turnSigns, ratio}
+use Rattle.lists.specs.Tests.{every, every-getD, every-join, T-&&}
+use Rattle.lists.specs.Taken.{drop-next, rest-past}
+use Rattle.rules.specs.Elimination.{turnSigns}
 use Rattle.integers.specs.Ranges.{ofZ-inj, ofZ-zero}
 
 -- Every coefficient has a size below n.
@@ -121,15 +120,19 @@ within-down p n h w e k l = ⊎-elim at-top (w k) (eq-or-lt-of-le (omega arith))
     at-top t = rw t at e
 
 -- Zeros taken off the top, from `from` on.
-pub within-part : (p : Polynomial) (from n : ℕ) → Within p (n - 1) → T (isZero (take (n - from) (drop from p))) → Within p (from - 1)
-within-part p from n w z k l = cases (decLt k n)
-  where
-    cases : Dec (k < n) → coeff p k ≡ pos 0
-    cases (yes m) =
-        let place : from + (k - from) ≡ k = omega arith in
-        ap (coeff p) (sym place) ∙ sym (coeff-drop from p (k - from))
-        ∙ sym (coeff-take (n - from) (drop from p) (k - from) (omega arith)) ∙ isZero-coeff (take (n - from) (drop from p)) z (k - from)
-    cases (no m) = w k (omega arith)
+pub zeros-part : (p : Polynomial) (from n : ℕ) → from ≤ n → T (isZero (take (n - from) (drop from p))) → T (isZero (drop n p))
+    → T (isZero (drop from p))
+zeros-part p from n h part rest =
+    let first = take (n - from) (drop from p) in
+    let last = drop (n - from) (drop from p) in
+    subst (λ q. T (isZero q)) (take-append-drop (n - from) (drop from p))
+    (rw (isZero-append first last) (T-&& (isZero first) (isZero last) .1 (part, rw (rest-past from n h p) at rest)))
+
+-- Where the coefficients from n on are zero, no power past n - 1 is left.
+pub zeros-within : (p : Polynomial) (n : ℕ) → T (isZero (drop n p)) → Within p (n - 1)
+zeros-within p n z k l =
+    let place : n + (k - n) ≡ k = omega arith in
+    ap (coeff p) (sym place) ∙ sym (coeff-drop n p (k - n)) ∙ isZero-coeff (drop n p) z (k - n)
 
 -- There is a coefficient at the degree.
 pub degree-below : (p : Polynomial) → 0 < length p → degree p < length p
@@ -173,13 +176,6 @@ content-le p h n =
 pub content-bounds : (a b : Polynomial) → T (every small a) → T (every small b) → T (not (isZero (a ++ b)))
     → (0 < content (a ++ b)) × (content (a ++ b) ≤ bound)
 content-bounds a b h g n = (content-pos (a ++ b) n, content-le (a ++ b) (every-join small a b h g) n)
-
--- Where the common content is 1, nothing is divided.
-pub ratio-primitive : (a b : Polynomial) → content (a ++ b) ≡ 1 → ratio a b ≡ turnSigns a (negate b)
-unfolding ratio
-ratio-primitive a b e =
-    ap (λ d. turnSigns (divideBy d a) (negate (divideBy d b))) e
-    ∙ ap₂ (λ x y. turnSigns x (negate y)) (divideBy-one a) (divideBy-one b)
 
 pub signs-turned : (g h : Polynomial) → ltZ (lead g) (pos 0) ≡ true → turnSigns g h ≡ record { g = negate g; h = negate h }
 unfolding turnSigns

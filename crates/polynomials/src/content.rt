@@ -7,9 +7,8 @@ ghost use Prim.Native.Nat.{_-_, _^_, _≤_, _<_};
 ghost use lib.Dec.{T};
 ghost use lib.IntN.{pos, natAbs};
 ghost use lib.Signed.{ltZ};
-ghost use lib.ListN.{length};
+ghost use lib.ListN.{length, drop};
 ghost use Rattle.algebra.specs.Polynomials as Polynomials;
-ghost use Rattle.algebra.specs.Coefficients.{Within};
 ghost use Rattle.algebra.specs.Gcd as Gcd;
 ghost use Rattle.polynomials.specs.Content.{Below};
 ghost use Rattle.rules.specs.Limits.{small, coefficientCount};
@@ -59,7 +58,7 @@ pub fn zero_throughout(p: &[i64]) -> bool
 // How many coefficients are left when those at the top are taken off four at a time as long as all four are zero: most polynomials are far
 // shorter than their places.
 fn without_fours(p: &[i64]) -> usize
-    ensures { λ r. ⌜ (r ≤ length (now (p .entry))) × Within (now (p .entry)) (r - 1) ⌝ }
+    ensures { λ r. ⌜ (r ≤ length (now (p .entry))) × T (Polynomials.isZero (drop r (now (p .entry)))) ⌝ }
 {
     let mut n = p.len();
     while 4 < n {
@@ -118,13 +117,14 @@ fn with_divisor(d: u64, a: i64) -> u64
     integers::gcd(integers::magnitude(a), d)
 }
 
-// Once the greatest common divisor is 1, the coefficients that are left do not matter.
+// Once the greatest common divisor is 1, the coefficients that are left do not matter; nor do zeros at the top.
 pub fn content(p: &[i64]) -> u64
     ensures { λ r. ⌜ r ≡ Gcd.content (now (p .entry)) ⌝ }
 {
+    let n = without_fours(p);
     let mut d = 0;
     let mut i = 0;
-    while i < p.len() {
+    while i < n {
         d = with_divisor(d, p[i]);
         if d == 1 {
             return 1;
@@ -145,21 +145,7 @@ pub fn content_of_both(a: &[i64], b: &[i64]) -> u64
     integers::gcd(first, content(b))
 }
 
-// Every coefficient divided by d, toward zero: exact where d divides them all.
-pub fn divided(p: &[i64], d: i64) -> [i64; COEFFICIENTS]
-    requires { ⌜ (length (now p) ≡ coefficientCount) × Below (2 ^ 63) (now p) × T (ltZ (pos 0) d) ⌝ }
-    ensures { λ r. ⌜ r ≡ Gcd.divideBy (natAbs d) (now (p .entry)) ⌝ }
-{
-    let mut q = [0; COEFFICIENTS];
-    let mut i = 0;
-    while i < COEFFICIENTS {
-        q[i] = integers::quotient(p[i], d);
-        i += 1;
-    }
-    q
-}
-
-// The same of any number of coefficients, where they stand.
+// Every coefficient divided by d, toward zero, where it stands: exact where d divides them all.
 pub fn divide_in_place(p: &mut [i64], d: i64)
     requires { ⌜ Below (2 ^ 63) (now p) × T (ltZ (pos 0) d) ⌝ }
     ensures { λ _. ⌜ now (p .exit) ≡ Gcd.divideBy (natAbs d) (now (p .entry)) ⌝ }
@@ -171,72 +157,77 @@ pub fn divide_in_place(p: &mut [i64], d: i64)
     }
 }
 
-// The sixteen coefficients in an array.
+// The sixteen coefficients put into a place.
+fn put_copied(place: &mut [i64], p: &[i64])
+    requires { ⌜ (length (now place) ≡ coefficientCount) × (length (now p) ≡ coefficientCount) ⌝ }
+    ensures { λ _. ⌜ now (place .exit) ≡ now (p .entry) ⌝ }
+{
+    let mut i = 0;
+    while i < COEFFICIENTS {
+        place[i] = p[i];
+        i += 1;
+    }
+}
+
+// The same in an array.
 pub fn copied(p: &[i64]) -> [i64; COEFFICIENTS]
     requires { ⌜ length (now p) ≡ coefficientCount ⌝ }
     ensures { λ q. ⌜ q ≡ now (p .entry) ⌝ }
 {
     let mut q = [0; COEFFICIENTS];
-    let mut i = 0;
-    while i < COEFFICIENTS {
-        q[i] = p[i];
-        i += 1;
-    }
+    put_copied(&mut q, p);
     q
 }
 
-pub fn negated(p: &[i64]) -> [i64; COEFFICIENTS]
+// The sixteen coefficients divided by d and put into a place; most often d is 1, and they are copied.
+fn put_divided(place: &mut [i64], p: &[i64], d: i64)
+    requires { ⌜
+        (length (now place) ≡ coefficientCount) × (length (now p) ≡ coefficientCount) × Below (2 ^ 63) (now p) × T (ltZ (pos 0) d) ⌝ }
+    ensures { λ _. ⌜ now (place .exit) ≡ Gcd.divideBy (natAbs d) (now (p .entry)) ⌝ }
+{
+    put_copied(place, p);
+    if d != 1 {
+        divide_in_place(place, d);
+    }
+}
+
+// Sixteen coefficients with the other sign, where they stand.
+fn negate_in_place(p: &mut [i64])
     requires { ⌜ (length (now p) ≡ coefficientCount) × Below (2 ^ 63) (now p) ⌝ }
-    ensures { λ r. ⌜ r ≡ Polynomials.negate (now (p .entry)) ⌝ }
+    ensures { λ _. ⌜ now (p .exit) ≡ Polynomials.negate (now (p .entry)) ⌝ }
 {
-    let mut q = [0; COEFFICIENTS];
     let mut i = 0;
     while i < COEFFICIENTS {
-        q[i] = integers::negated(p[i]);
+        p[i] = integers::negated(p[i]);
         i += 1;
     }
-    q
 }
 
-pub struct Multipliers {
-    pub g: [i64; COEFFICIENTS],
-    pub h: [i64; COEFFICIENTS],
-}
-
-// g = a and h = -b, both with the other sign if a's highest coefficient is negative (SCOPE 2.25): either way one of both is a copy.
-fn signed_multipliers(a: &[i64], b: &[i64]) -> Multipliers
-    requires { ⌜ (length (now a) ≡ coefficientCount) × Below (2 ^ 63) (now a) ⌝ }
-    requires { ⌜ (length (now b) ≡ coefficientCount) × Below (2 ^ 63) (now b) ⌝ }
-    ensures { λ r. ⌜ r .g ≡ Elimination.turnSigns (now (a .entry)) (Polynomials.negate (now (b .entry))) .g ⌝ }
-    ensures { λ r. ⌜ r .h ≡ Elimination.turnSigns (now (a .entry)) (Polynomials.negate (now (b .entry))) .h ⌝ }
+// g and -h, both with the other sign if g's highest coefficient is negative (SCOPE 2.25): either way one of both stays as it is.
+fn turn_signs(g: &mut [i64], h: &mut [i64])
+    requires { ⌜ (length (now g) ≡ coefficientCount) × Below (2 ^ 63) (now g) ⌝ }
+    requires { ⌜ (length (now h) ≡ coefficientCount) × Below (2 ^ 63) (now h) ⌝ }
+    ensures { λ _. ⌜ now (g .exit) ≡ Elimination.turnSigns (now (g .entry)) (Polynomials.negate (now (h .entry))) .g ⌝ }
+    ensures { λ _. ⌜ now (h .exit) ≡ Elimination.turnSigns (now (g .entry)) (Polynomials.negate (now (h .entry))) .h ⌝ }
 {
-    if lead(a) < 0 {
-        Multipliers {
-            g: negated(a),
-            h: copied(b),
-        }
+    if lead(g) < 0 {
+        negate_in_place(g);
     } else {
-        Multipliers {
-            g: copied(a),
-            h: negated(b),
-        }
+        negate_in_place(h);
     }
 }
 
 // Rule 2: g = a/d and h = -b/d, both with the other sign if g's highest coefficient is negative (SCOPE 2.23 to 2.25).
-// The content d is at most C, since a and b are not both zero; most often it is 1, and nothing is divided.
-pub fn multipliers_of(a: &[i64], b: &[i64]) -> Multipliers
+// The content d is at most C, since a and b are not both zero.
+pub fn put_multipliers(g: &mut [i64], h: &mut [i64], a: &[i64], b: &[i64])
+    requires { ⌜ (length (now g) ≡ coefficientCount) × (length (now h) ≡ coefficientCount) ⌝ }
     requires { ⌜ (length (now a) ≡ coefficientCount) × T (every small (now a)) × T (not (Polynomials.isZero (now a ++ now b))) ⌝ }
     requires { ⌜ (length (now b) ≡ coefficientCount) × T (every small (now b)) ⌝ }
-    ensures { λ r. ⌜ r .g ≡ Elimination.ratio (now (a .entry)) (now (b .entry)) .g ⌝ }
-    ensures { λ r. ⌜ r .h ≡ Elimination.ratio (now (a .entry)) (now (b .entry)) .h ⌝ }
+    ensures { λ _. ⌜ now (g .exit) ≡ Elimination.ratio (now (a .entry)) (now (b .entry)) .g ⌝ }
+    ensures { λ _. ⌜ now (h .exit) ≡ Elimination.ratio (now (a .entry)) (now (b .entry)) .h ⌝ }
 {
-    let d = content_of_both(a, b);
-    if d == 1 {
-        return signed_multipliers(a, b);
-    }
-    let divisor = d as i64;
-    let p = divided(a, divisor);
-    let q = divided(b, divisor);
-    signed_multipliers(&p[..], &q[..])
+    let divisor = content_of_both(a, b) as i64;
+    put_divided(g, a, divisor);
+    put_divided(h, b, divisor);
+    turn_signs(g, h);
 }

@@ -7,3 +7,4 @@ pub mod StepLaws
 pub mod StepCases
 pub mod RunLaws
 pub mod Ran
+pub mod Unused

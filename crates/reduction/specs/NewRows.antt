@@ -9,7 +9,7 @@
 --   full-worked             the working row of a new row is full
 --   row-room                row i of equations rows has room in a store for equations rows
 --   saved-none              a refusal stores nothing
---   saved-lent              a new row that was put in its place where it was lent
+--   placed-lent             a new row that was put in its place where it was lent
 --   saved-outcome, saved-within, saved-kept   what storing the new row does
 --   placed-outcome, placed-within, placed-kept   the same of a row that is made in its place, where a refusal leaves zeros
 use Prim.Native.Nat.{ℕ, zero, suc, _+_, _*_, _-_, _≤_, _<_}
@@ -18,7 +18,7 @@ use native.Mathlib.Omega.{arith}
 use mathlib.Core.Path.{_≡_, refl, sym, _∙_, ap}
 use mathlib.Core.Bool.{Bool, true, false, cond}
 use mathlib.Core.List.{List}
-use borrow.Rule.Slice.PartMut.{midOf, putMid, put-same}
+use borrow.Rule.Slice.PartMut.{putMid}
 use lib.Dec.{lit<}
 use lib.IntN.{ℤ, pos}
 use lib.ListN.{length, take, set, replicate, length-replicate}
@@ -32,7 +32,7 @@ use Rattle.rules.specs.Stores.{rowOf, rowsOf, relationsOf, rowNeed, Shaped}
 use Rattle.rules.specs.Layout.{entries-rowOf, StoreRow-rowOf}
 use Rattle.stores.specs.LentParts.{lent-back}
 use Rattle.working_rows.specs.Working.{leftPart, Full}
-use Rattle.working_rows.specs.Worked.{Held, refusalOf, numbersOf, numbersOr, workedRow}
+use Rattle.working_rows.specs.Worked.{Held, refusalOf, numbersOf, workedRow}
 use Rattle.combinations.specs.Combination.{combined-held}
 use Rattle.combinations.specs.InPlace.{placed}
 use Rattle.working_rows.specs.Shifting.{shifted-held}
@@ -115,15 +115,15 @@ unfolding saved
 saved-none store i zero numbers h = absurd (h refl)
 saved-none store i (suc n) numbers h = refl
 
--- The place of row i, lent and back with the new row in it or, with a refusal, as it was.
-pub saved-lent : (store : List ℤ) (i : ℕ) (x : Limited) → Storable x
-    → putMid (i * rowLength) (i * rowLength + rowLength - i * rowLength) store
-    (numbersOr (midOf (i * rowLength) (i * rowLength + rowLength - i * rowLength) store) x)
-    ≡ saved store i (refusalOf x) (numbersOf x)
-unfolding Storable saved refusalOf numbersOf numbersOr
-saved-lent store i (within r) h = lent-back store (i * rowLength) rowLength (coefficientsOf r) (h .long)
-saved-lent store i (beyond zero) h = absurd (not-suc-le-zero h)
-saved-lent store i (beyond (suc n)) h = put-same (i * rowLength) (i * rowLength + rowLength - i * rowLength) store
+-- The place of row i, lent and back with the new row in it or, with a refusal, with zeros.
+pub placed-lent : (store : List ℤ) (i : ℕ) (x : Limited) → Storable x
+    → putMid (i * rowLength) (i * rowLength + rowLength - i * rowLength) store (numbersOf x)
+    ≡ placed store (i * rowLength) (refusalOf x) (numbersOf x)
+unfolding Storable placed refusalOf numbersOf
+placed-lent store i (within r) h = lent-back store (i * rowLength) rowLength (coefficientsOf r) (h .long)
+placed-lent store i (beyond zero) h = absurd (not-suc-le-zero h)
+placed-lent store i (beyond (suc n)) h =
+    lent-back store (i * rowLength) rowLength (replicate rowLength (pos 0)) (length-replicate rowLength (pos 0))
 
 -- Row i of equations rows in a store within ±C, in whose place a new row is put.
 module _ (equations i : ℕ) (store : List ℤ) (w : Within (rowNeed equations) store) (inside : i < equations) where

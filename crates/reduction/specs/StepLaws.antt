@@ -2,7 +2,7 @@
 --
 -- Main definitions
 --   metEntries rows p j      the two entries of rule 2: of settled row j and of the row that is worked on
---   multipliersIn rows p j   their multipliers
+--   multipliersOf c target pivot, multipliersIn rows p j   the multipliers of two rows in column c, and of those two entries
 --   newRow x target pivot    the new row of rule 4
 --   shiftedRow l             the new row of rule 6
 --
@@ -43,8 +43,7 @@ use Rattle.reduction.specs.Progress.{droppedProgress, listedProgress, sh
 use Rattle.sides.specs.StoreStates.{kept-same, kept-then}
 use Rattle.sides.specs.Relations.{Relisted, length-listing}
 use Rattle.reduction.specs.Dropping.{dropped, dropped-state, dropped-within, dropped-kept, dropped-freed, freed-none}
-use Rattle.reduction.specs.NewRows.{Storable, saved, saved-within, saved-kept, saved-outcome, shifted-storable}
-use Rattle.reduction.specs.NewRows.{placed-within, placed-kept, placed-outcome}
+use Rattle.reduction.specs.NewRows.{Storable, shifted-storable, placed-within, placed-kept, placed-outcome}
 use Rattle.reduction.specs.StoreExchange.{numbersAt, length-numbersAt, row-of}
 
 -- ---- what a step gives
@@ -141,9 +140,11 @@ abbrev pub metEntries : List ℤ → Progress → ℕ → Polynomial
 metEntries rows p j =
     let c = getD (p .order) j 0 in entry (rowOf (numbersAt rows j)) c ++ entry (rowOf (numbersAt rows (p .settled))) c
 
+abbrev pub multipliersOf : ℕ → List ℤ → List ℤ → Multipliers
+multipliersOf c target pivot = multipliers (entry (rowOf pivot) c) (entry (rowOf target) c)
+
 abbrev pub multipliersIn : List ℤ → Progress → ℕ → Multipliers
-multipliersIn rows p j =
-    let c = getD (p .order) j 0 in multipliers (entry (rowOf (numbersAt rows j)) c) (entry (rowOf (numbersAt rows (p .settled))) c)
+multipliersIn rows p j = multipliersOf (getD (p .order) j 0) (numbersAt rows (p .settled)) (numbersAt rows j)
 
 abbrev pub newRow : Multipliers → List ℤ → List ℤ → Limited
 newRow x target pivot = consistent (limitDegrees (primitive (combine (x .g) (x .h) (rowOf target) (rowOf pivot))))
@@ -224,23 +225,26 @@ shiftedRow l = limitCoefficients (shiftUp (rowOf l))
 
 pub shift-reached : {rows relations : List ℤ} {p : Progress} → Ready rows relations p → p .settled < p .rows
     → let new = shiftedRow (numbersAt rows (p .settled)) in
-    Reached (p .rows) rows relations (saved rows (p .settled) (refusalOf new) (numbersOf new)) relations (p .shifts + 1)
+    Reached (p .rows) rows relations (placed rows (p .settled * rowLength) (refusalOf new) (numbersOf new)) relations (p .shifts + 1)
     (answerOf (refusalOf new) (shiftedProgress p)) (shiftStep (stateOf rows relations p) (p .settled))
 unfolding shiftStep countShift stateOf
 shift-reached {rows} {relations} {p} r inside =
     reached-same refl refl same
-    (put-reached p (shiftedProgress p) new (saved-outcome (shiftedProgress p) i rows relations (r .rows-within) inside new storable)
-    (saved-within (p .rows) i rows (r .rows-within) inside new storable) (saved-kept (p .rows) i rows (r .rows-within) inside new storable)
-    (kept-same relationNeed relations) (ready-with r (r .rows-within) (r .listing)) (omega arith))
+    (put-reached p (shiftedProgress p) new (placed-outcome (shiftedProgress p) i rows relations w inside new storable)
+    (placed-within (p .rows) i rows w inside new storable) (placed-kept (p .rows) i rows w inside new storable)
+    (kept-same relationNeed relations) (ready-with r w (r .listing)) (omega arith))
   where
     i : ℕ
     i = p .settled
+
+    w : Within (rowNeed (p .rows)) rows
+    w = r .rows-within
 
     new : Limited
     new = shiftedRow (numbersAt rows i)
 
     storable : Storable new
-    storable = shifted-storable (numbersAt rows i) (length-numbersAt (p .rows) rows (r .rows-within) i inside)
+    storable = shifted-storable (numbersAt rows i) (length-numbersAt (p .rows) rows w i inside)
 
     withShifts : ℕ → State
     withShifts n = state (rowsOf (p .rows) rows) (relationsOf (p .count) relations) (take i (p .order)) n

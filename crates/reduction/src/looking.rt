@@ -6,19 +6,21 @@ ghost use mathlib.Core.Path.{_≡_};
 ghost use Prim.Native.Nat.{_+_, _*_, _≤_};
 ghost use lib.ListN.{length};
 ghost use Rattle.algebra.specs.Polynomials.{isZero};
-ghost use Rattle.rules.specs.Limits.{columnCount, rowLength};
+ghost use Rattle.rules.specs.Limits.{columnCount, mostSpan, rowLength};
 ghost use Rattle.rules.specs.Rows as Rows;
 ghost use Rattle.rules.specs.Stores.{rowOf};
 ghost use Rattle.working_rows.specs.Found.{foundOr, entriesAt, Columns};
 ghost use Rattle.reduction.specs.StoreExchange.{numbersAt};
 
-// Its width (SCOPE 2.1).
-pub fn width_at(rows: &[i64], i: usize) -> usize
-    requires { ⌜ i * rowLength + rowLength ≤ length (now rows) ⌝ }
+// Its width (SCOPE 2.1), where only its first span + 1 blocks are in use.
+pub fn width_at(rows: &[i64], i: usize, span: usize) -> usize
+    requires { ⌜
+        (i * rowLength + rowLength ≤ length (now rows)) × (span ≤ mostSpan)
+        × (Rows.width (rowOf (numbersAt (now rows) i)) ≤ span + 1) ⌝ }
     ensures { λ r. ⌜ r ≡ Rows.width (rowOf (numbersAt (now (rows .entry)) i)) ⌝ }
 {
     let row = stores::rows::row_at(rows, i * ROW);
-    working_rows::entries::width(&row[..ENTRIES])
+    working_rows::entries::width_within(&row[..ENTRIES], span + 1)
 }
 
 // Whether its right side is zero (SCOPE 2.11).

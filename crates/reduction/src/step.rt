@@ -1,9 +1,10 @@
 // One step of the elimination over the lent stores: what `step` of `rules` says of the state that the stores hold.
 use polynomials::lengths::COEFFICIENTS;
+use roots::RootList;
 use sides::Side;
+use stores::lengths::BLOCKS;
 use stores::lengths::COLUMNS;
 use stores::lengths::ROW;
-use working_rows::WorkingRow;
 ghost use mathlib.Core.Path.{_≡_};
 ghost use mathlib.Core.Bool.{false, not};
 ghost use mathlib.Core.List.{_++_};
@@ -11,21 +12,27 @@ ghost use Prim.Native.Nat.{_+_, _*_, _-_, _^_, _≤_, _<_};
 ghost use lib.Dec.{T};
 ghost use lib.ListN.{length};
 ghost use Rattle.algebra.specs.Polynomials.{isZero};
-ghost use Rattle.rules.specs.Limits.{columnCount, mostEquations, entriesLength, rowLength, small};
+ghost use Rattle.algebra.specs.Roots.{roots};
+ghost use Rattle.rules.specs.Limits.{coefficientCount, columnCount, mostEquations, mostSpan, entriesLength, rowLength, small};
 ghost use Rattle.rules.specs.Rows.{entry};
 ghost use Rattle.rules.specs.Rows as Rows;
 ghost use Rattle.lists.specs.Tests.{every};
 ghost use Rattle.rules.specs.Elimination as Elimination;
 ghost use Rattle.rules.specs.Stores.{rowOf};
-ghost use Rattle.common_roots.specs.Amended.{withRoots};
+ghost use Rattle.roots.specs.RootSearch.{listed};
 ghost use Rattle.working_rows.specs.Working.{numbersHeld, Full};
 ghost use Rattle.working_rows.specs.Worked.{refusalOf, numbersOf};
+ghost use Rattle.combinations.specs.InPlace.{placed};
 ghost use Rattle.sides.specs.Lent.{sideOf};
 ghost use Rattle.reduction.specs.Progress.{Ready, Reached, stateOf, answerOf, droppedProgress, settledProgress, shiftedProgress};
 ghost use Rattle.reduction.specs.NewRows.{saved};
 ghost use Rattle.reduction.specs.Dropping.{dropped};
-ghost use Rattle.reduction.specs.StoreExchange.{numbersAt, narrowed, Loaded};
-ghost use Rattle.reduction.specs.StepLaws.{metEntries, shiftedRow};
+ghost use Rattle.reduction.specs.StoreExchange.{numbersAt, narrowed};
+ghost use Rattle.reduction.specs.StepLaws.{metEntries, multipliersOf, shiftedRow};
+ghost use Rattle.reduction.specs.Unused.{Unused};
+
+// The largest D (SCOPE 1.2).
+pub const SPAN: usize = BLOCKS - 1;
 
 // How far a run has come: the rows that are left, the settled ones with their columns, counted from 0, the relations listed and the
 // shifts made.
@@ -75,17 +82,25 @@ pub fn put_limited(
     answer(0, next)
 }
 
-// The multipliers of rule 2, from the entries of both rows in column c, and the roots of g (SCOPE 2.23 to 2.28).
-pub fn multipliers_at(target: &[i64], pivot: &[i64], c: usize) -> common_roots::Amended
+// The multipliers of rule 2, from the entries of both rows in column c, put into g and h: the roots of g (SCOPE 2.23 to 2.28).
+pub fn put_multipliers_at(
+    g: &mut [i64],
+    h: &mut [i64],
+    target: &[i64],
+    pivot: &[i64],
+    c: usize,
+) -> RootList
+    requires { ⌜ (length (now g) ≡ coefficientCount) × (length (now h) ≡ coefficientCount) ⌝ }
     requires { ⌜ (c < columnCount) × (entriesLength ≤ length (now target)) × (entriesLength ≤ length (now pivot)) ⌝ }
     requires { ⌜ T (every small (now target)) × T (every small (now pivot)) ⌝ }
     requires { ⌜ T (not (isZero (entry (rowOf (now pivot)) c ++ entry (rowOf (now target)) c))) ⌝ }
-    ensures { λ r. ⌜ r
-        ≡ withRoots (Elimination.multipliers (entry (rowOf (now (pivot .entry))) c) (entry (rowOf (now (target .entry))) c)) ⌝ }
+    ensures { λ _. ⌜ now (g .exit) ≡ multipliersOf c (now (target .entry)) (now (pivot .entry)) .g ⌝ }
+    ensures { λ _. ⌜ now (h .exit) ≡ multipliersOf c (now (target .entry)) (now (pivot .entry)) .h ⌝ }
+    ensures { λ r. ⌜ r ≡ listed (roots (multipliersOf c (now (target .entry)) (now (pivot .entry)) .g)) ⌝ }
 {
     let from = c * COEFFICIENTS;
     let to = from + COEFFICIENTS;
-    common_roots::multipliers(&pivot[from..to], &target[from..to])
+    common_roots::put_multipliers(g, h, &pivot[from..to], &target[from..to])
 }
 
 // Rule 5: the row in turn is settled at c, the lowest column with a nonzero leading entry (SCOPE 2.51).
@@ -106,13 +121,14 @@ fn settled(c: usize, p: Progress) -> Progress
 }
 
 // Rule 6: the blocks move up by one, with n + 1 for n, and the shift is counted (SCOPE 2.61, 2.63, 2.65).
-fn shift_step(rows: &mut [i64], row: WorkingRow, p: Progress) -> Outcome
+fn shift_step(rows: &mut [i64], width: usize, p: Progress) -> Outcome
     requires { ⌜
-        (p .settled * rowLength + rowLength ≤ length (now rows)) × Loaded (now rows) (p .settled) row × T (every small (numbersHeld row))
-        × (p .shifts < 2 ^ 32) ⌝ }
+        (p .settled * rowLength + rowLength ≤ length (now rows)) × T (every small (numbersAt (now rows) (p .settled)))
+        × (width ≡ Rows.width (rowOf (numbersAt (now rows) (p .settled)))) × (p .shifts < 2 ^ 32) ⌝ }
     ensures { λ _. ⌜ now (rows .exit)
-        ≡ saved (now (rows .entry)) (p .settled) (refusalOf (shiftedRow (numbersHeld row))) (numbersOf (shiftedRow (numbersHeld row))) ⌝ }
-    ensures { λ r. ⌜ r ≡ answerOf (refusalOf (shiftedRow (numbersHeld row))) (shiftedProgress p) ⌝ }
+        ≡ placed (now (rows .entry)) (p .settled * rowLength) (refusalOf (shiftedRow (numbersAt (now (rows .entry)) (p .settled))))
+        (numbersOf (shiftedRow (numbersAt (now (rows .entry)) (p .settled)))) ⌝ }
+    ensures { λ r. ⌜ r ≡ answerOf (refusalOf (shiftedRow (numbersAt (now (rows .entry)) (p .settled)))) (shiftedProgress p) ⌝ }
 {
     let i = p.settled;
     let order = p.order;
@@ -126,7 +142,7 @@ fn shift_step(rows: &mut [i64], row: WorkingRow, p: Progress) -> Outcome
     let from = i * ROW;
     let to = from + ROW;
     answer(
-        working_rows::shifting::shift_into(&mut rows[from..to], row),
+        working_rows::shifting::shift_into(&mut rows[from..to], width),
         next,
     )
 }
@@ -158,10 +174,13 @@ fn combine_step(
     relations: &mut [i64],
     side: Side,
     j: usize,
+    m: usize,
+    span: usize,
     p: Progress,
 ) -> Outcome
     requires { ⌜ Ready (now rows) (now relations) p × (p .settled < p .rows) × (j < p .settled) ⌝ }
-    requires { ⌜ T (not (isZero (metEntries (now rows) p j))) ⌝ }
+    requires { ⌜
+        T (not (isZero (metEntries (now rows) p j))) × (span ≤ mostSpan) × Unused m span (stateOf (now rows) (now relations) p) ⌝ }
     ensures { λ r. ⌜ Reached (p .rows) (now (rows .entry)) (now (relations .entry)) (now (rows .exit)) (now (relations .exit)) (p .shifts + 1) r
         (Elimination.combineStep (sideOf side) (stateOf (now (rows .entry)) (now (relations .entry)) p) (p .settled) j
         (Elimination.multipliersAt (stateOf (now (rows .entry)) (now (relations .entry)) p) (p .settled) j)) ⌝ }
@@ -172,16 +191,15 @@ fn combine_step(
     let c = order[j];
     let target = stores::rows::row_at(rows, i * ROW);
     let pivot = stores::rows::row_at(rows, j * ROW);
-    let x = multipliers_at(target, pivot, c);
-    let g = x.g;
-    let h = x.h;
-    let found = x.roots;
+    let mut g = [0; COEFFICIENTS];
+    let mut h = [0; COEFFICIENTS];
+    let found = put_multipliers_at(&mut g, &mut h, target, pivot, c);
     let count = p.count + found.count;
     if 16 < count {
         return answer(9, p);
     }
     sides::listing::list_roots(relations, p.count, found, side, target);
-    let refusal = combinations::combine_rows(rows, i * ROW, j * ROW, &g[..], &h[..]);
+    let refusal = combinations::combine_rows(rows, i * ROW, j * ROW, &g[..], &h[..], m, span);
     let next = Progress {
         rows: p.rows,
         settled: i,
@@ -199,12 +217,16 @@ fn eliminate_step(
     side: Side,
     j: usize,
     width: usize,
+    m: usize,
+    span: usize,
     p: Progress,
 ) -> Outcome
     requires { ⌜
         Ready (now rows) (now relations) p × (p .settled < p .rows) × (j < p .settled)
         × (width ≡ Rows.width (rowOf (numbersAt (now rows) (p .settled)))) ⌝ }
-    requires { ⌜ T (not (isZero (metEntries (narrowed (now rows) (p .settled) j) p j))) ⌝ }
+    requires { ⌜
+        T (not (isZero (metEntries (narrowed (now rows) (p .settled) j) p j))) × (span ≤ mostSpan)
+        × Unused m span (stateOf (now rows) (now relations) p) ⌝ }
     ensures { λ r. ⌜ Reached (p .rows) (now (rows .entry)) (now (relations .entry)) (now (rows .exit)) (now (relations .exit)) (p .shifts + 1) r
         (Elimination.combineStep (sideOf side)
         (stateOf (narrowed (now (rows .entry)) (p .settled) j) (now (relations .entry)) p) (p .settled) j
@@ -212,22 +234,30 @@ fn eliminate_step(
         (stateOf (narrowed (now (rows .entry)) (p .settled) j) (now (relations .entry)) p) (p .settled) j)) ⌝ }
     ensures { λ r. ⌜ r .done ≡ false ⌝ }
 {
-    if width < crate::looking::width_at(rows, j) {
+    if width < crate::looking::width_at(rows, j, span) {
         crate::exchanging::exchange(rows, p.settled, j);
     }
-    combine_step(rows, relations, side, j, p)
+    combine_step(rows, relations, side, j, m, span, p)
 }
 
 // One dropped row, one exchange with its combination, one combination, one settling or one shift (SCOPE 2.2, 2.11, 2.12, 2.26). A step
-// is taken only where a row is not settled.
-pub fn step(rows: &mut [i64], relations: &mut [i64], side: Side, p: Progress) -> Outcome
+// is taken only where a row is not settled. Of a row only the first m columns of the first span + 1 blocks are in use.
+pub fn step(
+    rows: &mut [i64],
+    relations: &mut [i64],
+    side: Side,
+    m: usize,
+    span: usize,
+    p: Progress,
+) -> Outcome
     requires { ⌜ Ready (now rows) (now relations) p × (p .settled < p .rows) × (p .shifts < 2 ^ 32) ⌝ }
+    requires { ⌜ (span ≤ mostSpan) × Unused m span (stateOf (now rows) (now relations) p) ⌝ }
     ensures { λ r. ⌜ Reached (p .rows) (now (rows .entry)) (now (relations .entry)) (now (rows .exit)) (now (relations .exit)) (p .shifts + 1) r
         (Elimination.step (sideOf side) (stateOf (now (rows .entry)) (now (relations .entry)) p)) ⌝ }
     ensures { λ r. ⌜ r .done ≡ false ⌝ }
 {
     let i = p.settled;
-    let width = crate::looking::width_at(rows, i);
+    let width = crate::looking::width_at(rows, i, span);
     if width == 0 {
         if crate::looking::side_zero_at(rows, i) {
             return drop_step(rows, p);
@@ -237,13 +267,12 @@ pub fn step(rows: &mut [i64], relations: &mut [i64], side: Side, p: Progress) ->
     let order = p.order;
     let j = crate::looking::met_at(rows, i, order, i);
     if j < i {
-        return eliminate_step(rows, relations, side, j, width, p);
+        return eliminate_step(rows, relations, side, j, width, m, span, p);
     }
     let c = crate::looking::column_at(rows, i);
     if c < COLUMNS {
         answer(0, settled(c, p))
     } else {
-        let row = working_rows::stored::load(rows, i * ROW);
-        shift_step(rows, row, p)
+        shift_step(rows, width, p)
     }
 }

@@ -12,6 +12,7 @@
 --   few-equations, few-blocks     the equations and D of right sizes are few
 --   accepted-result               the result of a run that accepts
 --   ended-refused, ended-accepted the result after the run, from the answer and the stores
+--   rows-unused                   the unused places of rows that pass the checks are zero
 --   checked                       what the checks let through
 --   final-run                     a whole run ends, and one that accepts has settled every row that is left
 --   call-left, call-run, call-refused   the whole call
@@ -170,6 +171,15 @@ pub record Checked (z : Sizes) (count : ℕ) (rows relations : List ℤ) : Type 
   pub valid : Valid z (rowsOf (equations z) rows) (relationsOf count relations)
   pub rows-within : Within (rowNeed (equations z)) rows
   pub listing : Listing count relations
+
+-- Rows that pass the check of the numbers have zeros at their unused places.
+pub rows-unused : (z : Sizes) (rows : List Row) → T (every (rowRight z) rows) → T (every (unusedZero (z .m) (span z)) rows)
+unfolding every rowRight
+rows-unused z [] h = tt
+rows-unused z (r ∷ rows) h =
+    let both = T-&& (rowRight z r) (every (rowRight z) rows) .0 h in
+    T-&& (unusedZero (z .m) (span z) r) (every (unusedZero (z .m) (span z)) rows) .1
+    (T-&& (smallRow r) (unusedZero (z .m) (span z) r) .0 (both .0) .1, rows-unused z rows (both .1))
 
 -- The numbers of things that pass a test, end to end.
 every-number : {A : Type 0} (t : A → Bool) (f : A → List ℤ) → ((x : A) → T (t x) → T (every small (f x)))

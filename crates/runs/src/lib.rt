@@ -1,6 +1,8 @@
 // A run on stores: their checks, the run on the side asked for, and what it leaves in them and gives back. `elimination` has the public
 // entry points.
+use reduction::step::SPAN;
 use sides::Side;
+use stores::lengths::COLUMNS;
 ghost use mathlib.Core.Path.{_≡_};
 ghost use mathlib.Core.Bool.{true};
 ghost use mathlib.Core.List.{List};
@@ -10,7 +12,8 @@ ghost use lib.IntN.{ℤ};
 ghost use lib.ListN.{length, take};
 ghost use Rattle.rules.specs.Limits.{columnCount, mostEquations};
 ghost use Rattle.rules.specs.Elimination as Elimination;
-ghost use Rattle.rules.specs.Stores.{rowsOf, relationsOf, rowNeed, sizesRight, span, checkStores};
+ghost use Rattle.lists.specs.Tests.{every};
+ghost use Rattle.rules.specs.Stores.{rowsOf, relationsOf, rowNeed, sizesRight, span, unusedZero, checkStores};
 ghost use Rattle.rules.specs.Calls as Calls;
 ghost use Rattle.working_rows.specs.Found.{Columns};
 ghost use Rattle.stores.specs.Validity.{sizesOf};
@@ -104,7 +107,15 @@ pub fn trailing_run(
         (Elimination.trailingRun span (rowsOf equations (now (rows .entry))) (relationsOf count (now (relations .entry)))) ⌝ }
 {
     sides::mirror::mirror_rows(rows, equations, span);
-    let o = reduction::run::run(rows, relations, equations, Side::Trailing, count);
+    let o = reduction::run::run(
+        rows,
+        relations,
+        equations,
+        Side::Trailing,
+        count,
+        COLUMNS,
+        SPAN,
+    );
     let refusal = o.refusal;
     if refusal != 0 {
         return o;
@@ -122,13 +133,23 @@ fn whole_run(
     span: usize,
     side: Side,
     count: usize,
+    m: usize,
 ) -> reduction::step::Outcome
     requires { ⌜ (equations ≤ mostEquations) × (span ≤ 4) × Within (rowNeed equations) (now rows) × Listing count (now relations) ⌝ }
+    requires { ⌜ T (every (unusedZero m span) (rowsOf equations (now rows))) ⌝ }
     ensures { λ r. ⌜ Ran equations (now (rows .entry)) (now (relations .entry)) (now (rows .exit)) (now (relations .exit)) r
         (Elimination.wholeRun (sideOf side) span (rowsOf equations (now (rows .entry))) (relationsOf count (now (relations .entry)))) ⌝ }
 {
     match side {
-        Side::Leading => reduction::run::run(rows, relations, equations, Side::Leading, count),
+        Side::Leading => reduction::run::run(
+            rows,
+            relations,
+            equations,
+            Side::Leading,
+            count,
+            m,
+            span,
+        ),
         Side::Trailing => trailing_run(rows, relations, equations, span, count),
     }
 }
@@ -167,7 +188,7 @@ fn checked_run(
 {
     let equations = sizes.equations;
     let span = stores::validity::span(sizes);
-    whole_run(rows, relations, equations, span, side, count)
+    whole_run(rows, relations, equations, span, side, count, sizes.m)
 }
 
 // A run on lent stores: the checks, and the run (SCOPE 3.21, 3.31).

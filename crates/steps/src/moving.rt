@@ -1,6 +1,7 @@
 // Steps over checked stores: at most as many as a budget says, and what is left of a run that is refused.
 use reduction::step::Outcome;
 use reduction::step::Progress;
+use reduction::step::SPAN;
 use sides::Side;
 use stores::lengths::COLUMNS;
 use stores::lengths::RELATION;
@@ -23,7 +24,7 @@ fn take_steps(rows: &mut [i64], relations: &mut [i64], first: Progress, budget: 
     let mut p = first;
     let mut taken = 0;
     while taken < budget && p.settled < p.rows {
-        let o = reduction::step::step(rows, relations, Side::Leading, p);
+        let o = reduction::step::step(rows, relations, Side::Leading, COLUMNS, SPAN, p);
         if o.refusal != 0 {
             return Moved { outcome: o, taken };
         }

@@ -6,6 +6,7 @@
 --
 -- Main statements
 --   zero-small           zeros are within ±C
+--   unused-iff           unused places are zero exactly if the polynomials outside the blocks and columns are
 --   row-true, row-false  a row passes its check exactly if every polynomial of its left part passes and its right side is within ±C
 use Prim.Native.Nat.{ℕ, suc, _+_, _*_, _/_, _%_, _≤_, _<_, zero-le}
 use native.Mathlib.Nat.{eq-or-lt-of-le, le-of-suc-le-suc}
@@ -127,7 +128,7 @@ module _ (m D : ℕ) (l : List ℤ) where
       let place : b * blockLength + c * coefficientCount ≡ (b * columnCount + c) * coefficientCount = omega arith in
       polynomial-at-row l b c hb hc ∙ ap (λ n. take coefficientCount (drop n l)) place
 
-  unused-iff : T (unusedZero m D (rowOf l))
+  pub unused-iff : T (unusedZero m D (rowOf l))
       ↔ ((q : ℕ) → q < polynomialCount → (D < q / columnCount) ⊎ (m ≤ q % columnCount) → T (isZero (part q)))
   unused-iff = (forth, λ h. places-unused (back h))
     where

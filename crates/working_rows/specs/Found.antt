@@ -11,6 +11,7 @@
 --   getD-entriesAt                         the leading entry at a column of the order
 --   column-none, column-some               the first nonzero column of a row, by its first nonzero number
 --   widthOf-zero, widthOf-nonzero          the width with one block more, zero or nonzero
+--   widthOf-within                         the width of the first blocks, past which there are zeros
 --   zero-later, zero-from                  zeros from a place on are zeros from any later one on; a list is zero from part b on where its parts from there on are zero
 --   width-most, width-rest                 a left part is no wider than its blocks, and zero past its width
 use Prim.Native.Nat.{ℕ, zero, suc, _+_, _*_, _-_, _/_, _%_, _≤_, _<_, zero-le}
@@ -153,6 +154,19 @@ widthOf-nonzero (b ∷ bs) zero h z = ap (λ t. cond t 0 1) z
 widthOf-nonzero (b ∷ bs) (suc n) h z =
     ap (λ w. cond (eqb w 0 && zeroBlock b) 0 (suc w)) (widthOf-nonzero bs n (le-of-suc-le-suc h) z)
     ∙ ap (λ t. cond (t && zeroBlock b) 0 (suc (suc n))) (eqb·suc-zero n)
+
+-- The blocks past the width do not count.
+pub widthOf-within : (bs : List Block) (n : ℕ) → widthOf bs ≤ n → widthOf (take n bs) ≡ widthOf bs
+unfolding widthOf
+widthOf-within [] zero h = refl
+widthOf-within [] (suc n) h = refl
+widthOf-within (b ∷ bs) zero h = omega arith
+widthOf-within (b ∷ bs) (suc n) h =
+    ap (λ w. cond (eqb w 0 && zeroBlock b) 0 (suc w)) (widthOf-within bs n (cases (widthOf bs) (zeroBlock b) h))
+  where
+    cases : (k : ℕ) (t : Bool) → cond (eqb k 0 && t) 0 (suc k) ≤ suc n → k ≤ n
+    cases zero t g = zero-le
+    cases (suc k) t g = le-of-suc-le-suc (rw (eqb·suc-zero k) at g)
 
 -- No row is wider than its blocks, and past the width these are zero.
 widthOf-le : (bs : List Block) → widthOf bs ≤ length bs

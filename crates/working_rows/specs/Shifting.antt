@@ -10,22 +10,21 @@
 --   shiftUp-part      polynomial e is p(n + 1) for the polynomial p one block further down
 --   shiftUp-rest      the last block is zero
 --   shiftUp-past      with n + 1 for n, what comes past the last block in use is zero
---   shifted-numbers   the left part and the right side are shifted apart
+--   shifted-left, shifted-numbers   the left part and the right side are shifted apart
 --   shifted-held      a shifted row within the limit is held by its numbers
---   length-over, over-next, small-next   as long as before; one polynomial more is overwritten
---   over-cleared, over-side, small-front   the last block in use made zero, the right side, and which numbers decide the limit
+--   length-over, over-behind, over-next, small-next   as long as before, and the same behind; one polynomial more is overwritten
+--   over-cleared, side-behind, over-side, small-front   the last block in use made zero, the right side, and which numbers decide the limit
 use mathlib.Core.Path.{_≡_, refl, sym, _∙_, ap, ap₂, subst}
 use mathlib.Core.Bool.{_&&_, and-true}
 use mathlib.Core.List.{List, [], _∷_, _++_, map, flatten, append-nil, append-assoc, map-append}
-use borrow.Rule.Slice.PartMut.{putMid}
 use Prim.Native.Nat.{ℕ, _+_, _*_, _-_, _≤_, _<_}
-use native.Mathlib.Nat.{add-comm, le-of-eq}
+use native.Mathlib.Nat.{add-comm, le-refl, le-of-eq}
 use native.Mathlib.Omega.{arith}
 use lib.Dec.{T}
 use lib.IntN.{ℤ, pos, _*ℤ_, *ℤ-zero}
 use lib.ListN.{length, take, drop, replicate, length-append, length-take, length-drop, length-map, length-replicate, List·getD-map}
 use lib.ListN.{take-append-drop, drop-of-length-le, replicate-append-replicate}
-use lib.Seq.{paste, take-at, take-all, take-add, drop-at, drop-drop, drop-append-le, length-take-le}
+use lib.Seq.{paste, take-at, take-all, take-add, take-take, drop-at, drop-drop, drop-append-le, length-take-le}
 use Rattle.algebra.specs.Polynomials.{Polynomial, coeff, degree, isZero, shift, shiftBy, length-shift}
 use Rattle.algebra.specs.Polynomials.{isZero-append, isZero-shift, coeff-isZero, zero-list}
 use Rattle.algebra.specs.Sums.{sumBelow, sumBelow-congr, sumBelow-extend}
@@ -188,21 +187,31 @@ module _ (l : List ℤ) (long : length l ≡ rowLength) where
   shifted-held r e = held (shiftUp (rowOf l)) r StoreRow-shiftUp e
 
 -- The entries and the right side are shifted apart.
-module _ (e s : List ℤ) (h : length e ≡ entriesLength) (k : length s ≡ coefficientCount) where
-  pub shifted-numbers : coefficientsOf (shiftUp (rowOf (e ++ s))) ≡ leftPart (shiftUp (rowOf e)) ++ shift s
+module _ (e s : List ℤ) (h : length e ≡ entriesLength) where
+  pub shifted-left : leftPart (shiftUp (rowOf (e ++ s))) ≡ leftPart (shiftUp (rowOf e))
+  unfolding shiftUp mapRow leadingBlock
+  shifted-left = ap (λ bs. leftPart (shiftUp (record { blocks = bs; right = [] }))) (blocks-held e s h)
+
+  pub shifted-numbers : length s ≡ coefficientCount → coefficientsOf (shiftUp (rowOf (e ++ s))) ≡ leftPart (shiftUp (rowOf e)) ++ shift s
   unfolding shiftUp mapRow leadingBlock coefficientsOf
-  shifted-numbers = ap₂ (λ a b. a ++ shift b) left (right-held e s h k)
-    where
-      left : leftPart (shiftUp (rowOf (e ++ s))) ≡ leftPart (shiftUp (rowOf e))
-      left = ap (λ bs. leftPart (shiftUp (record { blocks = bs; right = [] }))) (blocks-held e s h)
+  shifted-numbers k = ap₂ (λ a b. a ++ shift b) shifted-left (right-held e s h k)
 
 -- ---- a shift written over the row
 
 abbrev pub overFront : List ℤ → List ℤ → ℕ → List ℤ
 overFront l d n = take n l ++ drop n d
 
-pub length-over : (l d : List ℤ) (n : ℕ) → n ≤ length l → n ≤ length d → length (overFront l d n) ≡ length d
-length-over l d n h g = simp (length-append, length-drop, length-take-le n l h) (omega arith)
+module _ (l d : List ℤ) (n : ℕ) (h : n ≤ length l) where
+  pub length-over : n ≤ length d → length (overFront l d n) ≡ length d
+  length-over g = simp (length-append, length-drop, length-take-le n l h) (omega arith)
+
+  -- What is not overwritten yet.
+  pub over-behind : (k : ℕ) → n ≤ k → drop k (overFront l d n) ≡ drop k d
+  over-behind k g =
+      let all : n + (k - n) ≡ k = omega arith in
+      ap (λ j. drop j (overFront l d n)) (sym all) ∙ sym (drop-drop (k - n) n (overFront l d n))
+      ∙ ap (drop (k - n)) (drop-at (take n l) (drop n d) n (length-take-le n l h))
+      ∙ drop-drop (k - n) n d ∙ ap (λ j. drop j d) all
 
 module _ (l d : List ℤ) (e : ℕ) (inside : e * coefficientCount + coefficientCount ≤ length l) where
   abbrev at : ℕ
@@ -215,12 +224,12 @@ module _ (l d : List ℤ) (e : ℕ) (inside : e * coefficientCount + coefficient
   sum = omega arith
 
   -- The next polynomial in its place.
-  pub over-next : (w : ℕ) → w ≡ coefficientCount → putMid at w (overFront l d at) (coefficientsAt l e) ≡ overFront l d next
-  over-next w wide =
-      let long = length-take-le at l (omega arith) in
-      ap₂ (λ a b. a ++ (coefficientsAt l e ++ drop w b)) (take-at (take at l) (drop at d) at long) (drop-at (take at l) (drop at d) at long)
-      ∙ ap (λ b. take at l ++ (coefficientsAt l e ++ b)) (drop-drop w at d ∙ ap (λ n. drop n d) (ap (λ n. at + n) wide ∙ sym sum))
-      ∙ sym (append-assoc (take at l) (coefficientsAt l e) (drop next d))
+  pub over-next : paste (overFront l d at) at (coefficientsAt l e) coefficientCount ≡ overFront l d next
+  over-next =
+      ap₂ (λ a b. a ++ take coefficientCount (coefficientsAt l e) ++ b)
+      (take-at (take at l) (drop at d) at (length-take-le at l (omega arith)))
+      (over-behind l d at (omega arith) (at + coefficientCount) (omega arith) ∙ ap (λ n. drop n d) (sym sum))
+      ∙ ap (λ p. take at l ++ p ++ drop next d) (take-take coefficientCount coefficientCount (drop at l) (le-refl coefficientCount))
       ∙ ap (λ a. a ++ drop next d) (sym (take-add at coefficientCount l) ∙ ap (λ n. take n l) (sym sum))
 
   pub small-next : every small (take next l) ≡ (every small (take at l) && every small (coefficientsAt l e))
@@ -286,10 +295,18 @@ module _ (e s : List ℤ) (long : length e ≡ entriesLength) (blocks : ℕ) (fe
           ∙ sym (replicate-append-replicate blockLength (length (drop (front + blockLength) e)) (pos 0))
           ∙ ap (λ r. zeros ++ r) (sym (zero-list (drop (front + blockLength) e) none))
 
-  pub over-side : (n : ℕ) → length s ≤ n → putMid entriesLength n (shifted ++ s) (shift s) ≡ shifted ++ shift s
-  over-side n h =
-      ap₂ (λ a b. a ++ (shift s ++ drop n b)) (take-at shifted s entriesLength shifted-long) (drop-at shifted s entriesLength shifted-long)
-      ∙ ap (λ b. shifted ++ (shift s ++ b)) (drop-of-length-le s h) ∙ ap (λ b. shifted ++ b) (append-nil (shift s))
+  -- The right side behind the shifted left part, before its shift is put in its place and then.
+  module _ (size : length s ≡ coefficientCount) where
+    pub side-behind : take coefficientCount (drop entriesLength (shifted ++ s)) ≡ s
+    side-behind = ap (take coefficientCount) (drop-at shifted s entriesLength shifted-long) ∙ take-all coefficientCount s (le-of-eq size)
+
+    pub over-side : paste (shifted ++ s) entriesLength (shift s) coefficientCount ≡ shifted ++ shift s
+    over-side =
+        ap₂ (λ a b. a ++ b ++ drop (entriesLength + coefficientCount) (shifted ++ s)) (take-at shifted s entriesLength shifted-long)
+        (take-all coefficientCount (shift s) (le-of-eq (length-shift s ∙ size)))
+        ∙ ap (λ b. shifted ++ shift s ++ b)
+        (drop-of-length-le (shifted ++ s) (le-of-eq (length-append shifted s ∙ ap₂ _+_ shifted-long size)))
+        ∙ append-nil (shifted ++ shift s)
 
   pub small-front : every small (shifted ++ shift s) ≡ (every small (take front shifted) && every small (shift s))
   small-front =

@@ -3,7 +3,6 @@
 -- Main definitions
 --   refusalOf x    0, or the number of the limit
 --   numbersOf x    the numbers of the new row, or zeros
---   numbersOr l x  the numbers of the new row, or l
 --   workedRow x    the working row of the new row, or zeros
 --   Shown n w x    the code's refusal number n and working row w are those of x
 --   Held r         the numbers of r hold it, and they are within ±C
@@ -42,12 +41,6 @@ unfoldable pub numbersOf : Limited → List ℤ
 unfolding coefficientsOf
 numbersOf (within r) = coefficientsOf r
 numbersOf (beyond n) = replicate rowLength (pos 0)
-
--- What a place holds in which the new row is put, where it held l.
-unfoldable pub numbersOr : List ℤ → Limited → List ℤ
-unfolding coefficientsOf
-numbersOr l (within r) = coefficientsOf r
-numbersOr l (beyond n) = l
 
 -- The working row of the new row, or zeros.
 unfoldable pub workedRow : Limited → WorkingRow

@@ -7,18 +7,18 @@ ghost use mathlib.Core.Path.{_≡_};
 ghost use mathlib.Core.List.{map};
 ghost use Prim.Native.Nat.{_≤_};
 ghost use lib.ListN.{length, take};
-ghost use Rattle.rules.specs.Limits.{columnCount, entriesLength};
+ghost use Rattle.rules.specs.Limits.{blockCount, columnCount, entriesLength};
 ghost use Rattle.rules.specs.Rows as Rows;
 ghost use Rattle.rules.specs.Stores.{rowOf};
 ghost use Rattle.working_rows.specs.Found.{foundOr, Columns};
 
 // The blocks from l down to the lowest nonzero one are counted; there is none where the left part is
-// zero, and the right side does not count (SCOPE 2.1).
-pub fn width(entries: &[i64]) -> usize
-    requires { ⌜ length (now entries) ≡ entriesLength ⌝ }
+// zero, and the right side does not count (SCOPE 2.1). Past the first `most` blocks there are zeros only, and they are not looked at.
+pub fn width_within(entries: &[i64], most: usize) -> usize
+    requires { ⌜ (length (now entries) ≡ entriesLength) × (most ≤ blockCount) × (Rows.width (rowOf (now entries)) ≤ most) ⌝ }
     ensures { λ r. ⌜ r ≡ Rows.width (rowOf (now (entries .entry))) ⌝ }
 {
-    let mut blocks = BLOCKS;
+    let mut blocks = most;
     while 0 < blocks {
         let from = (blocks - 1) * BLOCK;
         let to = blocks * BLOCK;
@@ -28,6 +28,14 @@ pub fn width(entries: &[i64]) -> usize
         blocks -= 1;
     }
     0
+}
+
+// The same, where any block may be in use.
+pub fn width(entries: &[i64]) -> usize
+    requires { ⌜ length (now entries) ≡ entriesLength ⌝ }
+    ensures { λ r. ⌜ r ≡ Rows.width (rowOf (now (entries .entry))) ⌝ }
+{
+    width_within(entries, BLOCKS)
 }
 
 // The lowest column with a nonzero leading entry (SCOPE 2.51) comes out of the loop by break (SCOPE 8.8); COLUMNS if the

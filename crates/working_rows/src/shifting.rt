@@ -7,20 +7,20 @@ use stores::lengths::COLUMNS;
 use stores::lengths::ENTRIES;
 use stores::lengths::ROW;
 ghost use mathlib.Core.Path.{_≡_};
-ghost use mathlib.Core.List.{_++_};
 ghost use Prim.Native.Nat.{_+_, _*_, _≤_};
 ghost use lib.Dec.{T};
 ghost use lib.IntN.{pos};
-ghost use lib.ListN.{length, take, replicate};
+ghost use lib.ListN.{length, take, drop, replicate};
+ghost use lib.Seq.{paste};
 ghost use Rattle.algebra.specs.Polynomials.{shift};
-ghost use Rattle.rules.specs.Limits.{entriesLength, rowLength, blockLength, mostSpan, small, coefficientCount};
+ghost use Rattle.rules.specs.Limits.{rowLength, blockLength, mostSpan, small, coefficientCount};
 ghost use Rattle.rules.specs.Rows.{coefficientsOf, shiftUp};
 ghost use Rattle.rules.specs.Rows as Rows;
 ghost use Rattle.lists.specs.Tests.{every};
 ghost use Rattle.rules.specs.Stores.{rowOf};
 ghost use Rattle.rules.specs.Elimination.{limitCoefficients};
 ghost use Rattle.polynomials.specs.Shift.{followsRule};
-ghost use Rattle.working_rows.specs.Worked.{refusalOf, numbersOr, workedRow};
+ghost use Rattle.working_rows.specs.Worked.{refusalOf, numbersOf, workedRow};
 ghost use Rattle.working_rows.specs.Shifting.{overFront};
 ghost use Rattle.working_rows.specs.Working.{leftPart, numbersHeld, Full};
 
@@ -41,44 +41,51 @@ fn put_shifted(place: &mut [i64], table: &[[i64; COEFFICIENTS]; COEFFICIENTS], p
     }
 }
 
-// The coefficients of p(n + 1) over those of another polynomial: are all of them within ±C? Nothing is worked out for a zero polynomial.
-fn put_moved(place: &mut [i64], table: &[[i64; COEFFICIENTS]; COEFFICIENTS], p: &[i64]) -> bool
+// The coefficients of p(n + 1) from one place of a row on, those of p from another: are all of them within ±C? Nothing is worked out for a
+// zero polynomial.
+fn put_moved(
+    place: &mut [i64],
+    at: usize,
+    table: &[[i64; COEFFICIENTS]; COEFFICIENTS],
+    below: usize,
+) -> bool
     requires { ⌜
-        T (followsRule (now table)) × (length (now place) ≡ coefficientCount) × (length (now p) ≡ coefficientCount)
-        × T (every small (now p)) ⌝ }
-    ensures { λ _. ⌜ now (place .exit) ≡ shift (now (p .entry)) ⌝ }
-    ensures { λ r. ⌜ r ≡ every small (shift (now (p .entry))) ⌝ }
+        T (followsRule (now table)) × (at + coefficientCount ≤ length (now place)) × (below + coefficientCount ≤ length (now place))
+        × T (every small (take coefficientCount (drop below (now place)))) ⌝ }
+    ensures { λ _. ⌜ now (place .exit)
+        ≡ paste (now (place .entry)) at (shift (take coefficientCount (drop below (now (place .entry))))) coefficientCount ⌝ }
+    ensures { λ r. ⌜ r ≡ every small (shift (take coefficientCount (drop below (now (place .entry))))) ⌝ }
 {
-    stores::rows::clear(place, 0, COEFFICIENTS);
-    if polynomials::content::is_zero(p) {
+    let to = below + COEFFICIENTS;
+    if polynomials::content::is_zero(&place[below..to]) {
+        stores::rows::clear(place, at, COEFFICIENTS);
         return true;
     }
-    put_shifted(place, table, p);
-    stores::checks::all_small(place)
+    let mut moved = [0i64; COEFFICIENTS];
+    put_shifted(&mut moved, table, &place[below..to]);
+    stores::rows::save(place, at, &moved[..]);
+    stores::checks::all_small(&moved[..])
 }
 
-// So many blocks of a row's place are overwritten with the blocks one further down, with n + 1 for n: are all coefficients within ±C?
+// So many blocks of a row are overwritten with the blocks one further down, with n + 1 for n, the first one first, so that each is read
+// before it is overwritten: are all coefficients within ±C?
 fn move_blocks(
     place: &mut [i64],
     table: &[[i64; COEFFICIENTS]; COEFFICIENTS],
-    entries: &[i64],
     blocks: usize,
 ) -> bool
-    requires { ⌜ T (followsRule (now table)) × (length (now entries) ≡ entriesLength) × T (every small (now entries)) ⌝ }
-    requires { ⌜ (length (now place) ≡ rowLength) × (blocks ≤ mostSpan) ⌝ }
+    requires { ⌜ T (followsRule (now table)) × (length (now place) ≡ rowLength) × T (every small (now place)) × (blocks ≤ mostSpan) ⌝ }
     ensures { λ _. ⌜ now (place .exit)
-        ≡ overFront (leftPart (shiftUp (rowOf (now (entries .entry))))) (now (place .entry)) (blocks * blockLength) ⌝ }
-    ensures { λ r. ⌜ r ≡ every small (take (blocks * blockLength) (leftPart (shiftUp (rowOf (now (entries .entry)))))) ⌝ }
+        ≡ overFront (leftPart (shiftUp (rowOf (now (place .entry))))) (now (place .entry)) (blocks * blockLength) ⌝ }
+    ensures { λ r. ⌜ r ≡ every small (take (blocks * blockLength) (leftPart (shiftUp (rowOf (now (place .entry)))))) ⌝ }
 {
     let count = blocks * COLUMNS;
     let mut within = true;
     let mut e = 0;
     while e < count {
         let at = e * COEFFICIENTS;
-        let end = at + COEFFICIENTS;
         let below = at + BLOCK;
-        let to = below + COEFFICIENTS;
-        if !put_moved(&mut place[at..end], table, &entries[below..to]) {
+        if !put_moved(place, at, table, below) {
             within = false;
         }
         e += 1;
@@ -88,33 +95,31 @@ fn move_blocks(
 
 // The shift of a row over the row itself, block by block as far as its width goes, and its right side: are all coefficients within ±C? The
 // last block in use becomes zero, and past it there are zeros already (SCOPE 2.61, 2.63).
-fn write_shift(place: &mut [i64], entries: &[i64], right: &[i64], width: usize) -> bool
-    requires { ⌜ (length (now entries) ≡ entriesLength) × (length (now right) ≡ coefficientCount) × (now place ≡ now entries ++ now right) ⌝ }
-    requires { ⌜ T (every small (now entries)) × T (every small (now right)) ⌝ }
-    requires { ⌜ width ≡ Rows.width (rowOf (now entries)) ⌝ }
+fn write_shift(place: &mut [i64], width: usize) -> bool
+    requires { ⌜
+        (length (now place) ≡ rowLength) × T (every small (now place)) × (width ≡ Rows.width (rowOf (now place))) ⌝ }
     ensures { λ _. ⌜ now (place .exit) ≡ coefficientsOf (shiftUp (rowOf (now (place .entry)))) ⌝ }
     ensures { λ r. ⌜ r ≡ every small (coefficientsOf (shiftUp (rowOf (now (place .entry))))) ⌝ }
 {
     let table = polynomials::shift::pascal();
     let last = if 0 < width { width - 1 } else { 0 };
-    let left_within = move_blocks(place, &table, entries, last);
+    let left_within = move_blocks(place, &table, last);
     stores::rows::clear(place, last * BLOCK, BLOCK);
-    let right_within = put_moved(&mut place[ENTRIES..], &table, right);
+    let right_within = put_moved(place, ENTRIES, &table, ENTRIES);
     left_within && right_within
 }
 
-// The same of a row that is handed in by value. A coefficient past ±C is refused with 8, and the row is put back as it was.
-pub fn shift_into(place: &mut [i64], row: WorkingRow) -> u8
-    requires { ⌜ Full row × T (every small (numbersHeld row)) × (now place ≡ numbersHeld row) ⌝ }
-    requires { ⌜ row .width ≡ Rows.width (rowOf (row .entries)) ⌝ }
-    ensures { λ r. ⌜ r ≡ refusalOf (limitCoefficients (shiftUp (rowOf (numbersHeld row)))) ⌝ }
-    ensures { λ _. ⌜ now (place .exit) ≡ numbersOr (now (place .entry)) (limitCoefficients (shiftUp (rowOf (numbersHeld row)))) ⌝ }
+// The same with the limit: a coefficient past ±C is refused with 8, and leaves zeros in the place of the row.
+pub fn shift_into(place: &mut [i64], width: usize) -> u8
+    requires { ⌜
+        (length (now place) ≡ rowLength) × T (every small (now place)) × (width ≡ Rows.width (rowOf (now place))) ⌝ }
+    ensures { λ r. ⌜ r ≡ refusalOf (limitCoefficients (shiftUp (rowOf (now (place .entry))))) ⌝ }
+    ensures { λ _. ⌜ now (place .exit) ≡ numbersOf (limitCoefficients (shiftUp (rowOf (now (place .entry))))) ⌝ }
 {
-    let right = row.right;
-    if write_shift(place, &row.entries, &right[..], row.width) {
+    if write_shift(place, width) {
         return 0;
     }
-    crate::stored::save(place, 0, row);
+    stores::rows::clear(place, 0, ROW);
     8
 }
 
@@ -126,7 +131,7 @@ pub fn shifted(row: WorkingRow) -> Worked
 {
     let mut numbers = [0i64; ROW];
     crate::stored::save(&mut numbers, 0, row);
-    let refusal = shift_into(&mut numbers, row);
+    let refusal = shift_into(&mut numbers, row.width);
     if refusal != 0 {
         return crate::limits::broken(refusal);
     }

@@ -1,77 +1,82 @@
--- `combinations::both_within` meets its contract.
+-- `combinations::both_within` meets its contract. The loop's invariant: both have only zeros past the first n coefficients exactly if the
+-- joined bits are 0 and both have only zeros past the first i.
 -- Assumes nothing.
-use mathlib.Core.Path.{_≡_, sym, _∙_, ap}
-use mathlib.Core.Bool.{_&&_}
-use borrow.Author.Needs.{needs}
+use mathlib.Core.Path.{_≡_, sym, _∙_, ap₂}
+use mathlib.Core.Bool.{_&&_, and-true}
+use Prim.Native.Nat.{_≤_, _-_}
+use native.Mathlib.Omega.{arith}
+use borrow.Author.Needs.{needs, sfits-of}
 use denote.Ref.{now}
-use lib.ListN.{length, drop}
+use lib.Dec.{eqb}
+use lib.ListN.{drop-of-length-le}
 use Rattle.algebra.specs.Polynomials.{isZero}
-use Rattle.lists.specs.Taken.{whole-part}
+use Rattle.rules.specs.Limits.{coefficientCount}
+use Rattle.combinations.specs.Combination.{bothWithin, within-next}
 use Rattle.combinations.proofs.both_within.Statement.{statement}
 use Rattle.combinations.proofs.both_within.Tie as tie
 
-mul-all-zero : tie.Need-mul-all-zero
-mul-all-zero c = search needs
+abbrev Inv-loop : tie.InvT-loop
+Inv-loop g h n joined₀ i₀ joined i = (i ≤ coefficientCount) × (bothWithin n g h ≡ (eqb joined 0 && bothWithin i g h))
 
-sub-all-zero : tie.Need-sub-all-zero
-sub-all-zero c = search needs
+abbrev μ-loop : tie.MeasureT-loop
+μ-loop g h n joined₀ i₀ joined i = coefficientCount - i
 
-part-all-zero-start : tie.Need-part-all-zero-start
-part-all-zero-start c = search needs
+loop-holds : tie.Need-loop-holds Inv-loop μ-loop
+loop-holds c = search needs
 
-part-all-zero-end : tie.Need-part-all-zero-end
-part-all-zero-end c = search needs
+mul-joined : tie.Need-mul-joined Inv-loop μ-loop
+mul-joined c = search needs
 
-all-zero-requires : tie.Need-all-zero-requires
-all-zero-requires c κs = search needs
+shared-slice-copy-out-joined : tie.Need-shared-slice-copy-out-joined Inv-loop μ-loop
+shared-slice-copy-out-joined c = search needs
 
-mul-all-zero-2 : tie.Need-mul-all-zero-2
-mul-all-zero-2 c = search needs
+mul-joined-2 : tie.Need-mul-joined-2 Inv-loop μ-loop
+mul-joined-2 c = search needs
 
-sub-all-zero-2 : tie.Need-sub-all-zero-2
-sub-all-zero-2 c = search needs
+shared-slice-copy-out-joined-2 : tie.Need-shared-slice-copy-out-joined-2 Inv-loop μ-loop
+shared-slice-copy-out-joined-2 c = search needs
 
-part-all-zero-start-2 : tie.Need-part-all-zero-start-2
-part-all-zero-start-2 c = search needs
+add-i : tie.Need-add-i Inv-loop μ-loop
+add-i c = search needs
 
-part-all-zero-end-2 : tie.Need-part-all-zero-end-2
-part-all-zero-end-2 c = search needs
+loop-less : tie.Need-loop-less Inv-loop μ-loop
+loop-less c = search needs
 
-all-zero-requires-2 : tie.Need-all-zero-requires-2
-all-zero-requires-2 c κs = search needs
+loop-again : tie.Need-loop-again Inv-loop μ-loop
+loop-again c =
+    let at = c .before .before .before in
+    let start = at .before in
+    let inside = c .before .before .loop-test .taken in (
+      omega arith,
+      at .loop .inv .1
+          ∙ within-next (at .loop .i) (at .loop .joined) (now (start .args .g)) (now (start .args .h)) (omega (arith, start .pre, inside))
+          (omega (arith, start .pre, inside)) (sfits-of (c .before .joined .given)) (sfits-of (c .joined2 .given)),
+    )
 
--- what the first test tells
-first : (c : tie.After-all-zero) → c .all-zero .result ≡ isZero (drop (c .before .before .args .n) (now (c .before .before .args .g)))
-first c =
-    let start = c .before .before in
-    c .all-zero .ensures ∙ ap isZero (whole-part (now (start .args .g)) (start .args .n) (start .pre .0) .0)
-
-returns : tie.Need-returns
+returns : tie.Need-returns Inv-loop μ-loop
+unfolding isZero
 returns c =
-    let then = c .before .before in
-    let start = then .before .before .before in
-    let args = start .args in
-    c .all-zero2 .ensures ∙ ap isZero (whole-part (now (args .h)) (args .n) (start .pre .1) .0)
-    ∙ sym (ap (λ b. b && isZero (drop (args .n) (now (args .h)))) (sym (first (then .before)) ∙ then .if1 .taken))
-
-returns-2 : tie.Need-returns-2
-returns-2 c =
-    let args = c .before .before .before .args in
-    c .if1 .left ∙ sym (ap (λ b. b && isZero (drop (args .n) (now (args .h)))) (sym (first (c .before)) ∙ c .if1 .left))
+    let at = c .before in
+    let start = at .before in
+    let joined = eqb (at .loop .joined) 0 in
+    sym (at .loop .inv .1
+    ∙ ap₂ (λ p q. joined && (isZero p && isZero q))
+    (drop-of-length-le (now (start .args .g)) {i = at .loop .i} (omega (arith, start .pre, c .loop-test .left)))
+    (drop-of-length-le (now (start .args .h)) {i = at .loop .i} (omega (arith, start .pre, c .loop-test .left)))
+    ∙ and-true joined)
 
 pub both-within-spec : {M : Type 1} → statement M
 both-within-spec =
     tie.close
     (tie.spec
-    mul-all-zero
-    sub-all-zero
-    part-all-zero-start
-    part-all-zero-end
-    all-zero-requires
-    mul-all-zero-2
-    sub-all-zero-2
-    part-all-zero-start-2
-    part-all-zero-end-2
-    all-zero-requires-2
-    returns
-    returns-2)
+    Inv-loop
+    μ-loop
+    loop-holds
+    mul-joined
+    shared-slice-copy-out-joined
+    mul-joined-2
+    shared-slice-copy-out-joined-2
+    add-i
+    loop-less
+    loop-again
+    returns)

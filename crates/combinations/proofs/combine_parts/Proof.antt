@@ -1,290 +1,207 @@
--- `combinations::combine_parts` meets its contract. The loop's invariant: the first e polynomials of the row have degrees up to 15 and are combined, d is their
--- content, and `within` says whether they are within ±C.
+-- `combinations::combine_parts` meets its contract: shortened multipliers make the same row.
 -- Assumes nothing.
-use mathlib.Core.Path.{_≡_, refl, sym, _∙_, ap, ap₂, subst}
-use mathlib.Core.Bool.{Bool, true, false, not, _&&_, cond}
-use mathlib.Core.List.{List, []}
-use Prim.Native.Nat.{ℕ, _+_, _*_, _-_, _≤_, _<_}
+use mathlib.Core.Path.{_≡_, refl, sym, _∙_}
+use mathlib.Core.Bool.{true}
+use mathlib.Core.List.{List}
+use Prim.Native.Nat.{ℕ, _≤_, _<_}
 use native.Mathlib.Omega.{arith}
-use borrow.Author.Tests.{not-true, not-false}
-use denote.Ref.{now}
-use lib.Dec.{T}
-use lib.IntN.{ℤ}
-use lib.ListN.{length, take, drop, getD}
-use lib.Seq.{paste, paste-zero, take-all}
-use Rattle.algebra.specs.Gcd.{gcd, content}
-use Rattle.algebra.specs.Polynomials.{Polynomial, isZero}
-use Rattle.lists.specs.Tests.{every, every-longer, every-false}
-use Rattle.rules.specs.Limits.{small, coefficientCount, rowLength}
-use Rattle.rules.specs.Layout.{coefficientsAt}
-use Rattle.stores.specs.Flat.{partCount}
-use Rattle.combinations.specs.declared.Made.{Made}
-use Rattle.combinations.specs.Primitive.{isLow}
-use Rattle.combinations.specs.Combination.{Counted, common-length, lowPart, length-combinations, length-low}
-use Rattle.combinations.specs.InPlace.{partAt, rowAt, sumAt, withPart, PartMade, Outside, rowSums, rowNumbers, writtenTo}
-use Rattle.combinations.specs.InPlace.{sum-high, sum-low, sum-fits, written-next, content-next, small-next}
-use Rattle.combinations.specs.InPlace.{length-written, outside-written}
 use borrow.Author.Needs.{needs}
+use denote.Ref.{now}
+use lib.IntN.{ℤ}
+use lib.ListN.{length, take, drop}
+use lib.Seq.{length-take-le}
+use Rattle.algebra.specs.Polynomials.{Polynomial, isZero}
+use Rattle.lists.specs.Tests.{T-&&, true-T}
+use Rattle.rules.specs.Limits.{coefficientCount}
+use Rattle.combinations.specs.declared.Made.{Made}
+use Rattle.combinations.specs.Combination.{few, bothWithin, Shortened, shortened-front, shortened-trim, shortened-fits}
+use Rattle.combinations.specs.InPlace.{RowsFit, RowMade, rowSums, shortened-made}
 use Rattle.combinations.proofs.combine_parts.Statement.{statement}
 use Rattle.combinations.proofs.combine_parts.Tie as tie
 
-abbrev Inv-loop : tie.InvT-loop
-Inv-loop rows₀ at from g h n a b d₀ within₀ e₀ rows d within e =
-    (e ≤ partCount) × (rows ≡ writtenTo g h rows₀ at from (e * coefficientCount)) × (every isLow (take e (rowSums g h rows₀ at from)) ≡ true)
-    × (d ≡ content (take (e * coefficientCount) (rowNumbers g h rows₀ at from)))
-    × (within ≡ every small (take (e * coefficientCount) (rowNumbers g h rows₀ at from)))
-
-abbrev μ-loop : tie.MeasureT-loop
-μ-loop rows₀ at from g h n a b d₀ within₀ e₀ rows d within e = partCount - e
-
-never : _≡_ {A = Bool} true false → ⊥
-never e = let z : _≡_ {A = ℕ} 0 1 = cc in omega arith
-
--- What the call for one polynomial asks of a store.
-abbrev Fit : ℕ → ℕ → Polynomial → Polynomial → List ℤ → Type 0
-Fit x y a b l =
-    ((x + coefficientCount ≤ length l) × (y + coefficientCount ≤ length l))
-    × (T (every small (partAt l x)) × T (every small (partAt l y)) × Counted a × Counted b)
-
--- polynomial e
-module _ (c : tie.In-loop Inv-loop μ-loop) where
-  abbrev loop-at : tie.At-loop Inv-loop μ-loop
-  loop-at = c .before
-
-  abbrev start : tie.Start Inv-loop μ-loop
-  start = loop-at .before .before .before .before
-
-  abbrev store : List ℤ
-  store = now (start .args .rows)
+module _ (s : tie.Start) where
+  abbrev rows : List ℤ
+  rows = now (s .args .rows)
 
   abbrev at : ℕ
-  at = start .args .at
+  at = s .args .at
 
   abbrev from : ℕ
-  from = start .args .from
+  from = s .args .from
 
   abbrev g : Polynomial
-  g = now (start .args .g)
+  g = now (s .args .g)
 
   abbrev h : Polynomial
-  h = now (start .args .h)
+  h = now (s .args .h)
 
-  abbrev a : Polynomial
-  a = now (loop-at .before .before .front-of .result)
+  -- shortened multipliers
+  module _ {a b : Polynomial} (x : Shortened a g) (y : Shortened b h) where
+    fits : RowsFit at from a b rows
+    fits =
+        let pre = s .pre .0 in (
+          (shortened-fits a g x (omega arith, omega arith, pre .1), shortened-fits b h y (omega arith, omega arith, pre .3)),
+          s .pre .1 .0,
+        )
 
-  abbrev b : Polynomial
-  b = now (loop-at .before .front-of2 .result)
+    made : {after : List ℤ} {r : Made} → RowMade (rowSums a b rows at from) at rows after r
+        → RowMade (rowSums g h rows at from) at rows after r
+    made {after} {r} m = shortened-made a g b h x y rows at from after r m
 
-  abbrev e : ℕ
-  e = loop-at .loop .e
+  -- the first n coefficients
+  abbrev Taken : ℕ → Type 0
+  Taken n = ((length (take n g) ≡ n) × (length (take n h) ≡ n)) × (Shortened (take n g) g × Shortened (take n h) h)
 
-  abbrev k : ℕ
-  k = e * coefficientCount
-
-  abbrev written : ℕ → List ℤ
-  written n = writtenTo g h store at from n
-
-  abbrev numbers : List ℤ
-  numbers = rowNumbers g h store at from
-
-  abbrev ps : List Polynomial
-  ps = rowSums g h store at from
-
-  abbrev sum : Polynomial
-  sum = sumAt a b (written k) (at + k) (from + k)
-
-  before-at : from + rowLength ≤ at
-  before-at = start .pre .1 .0
-
-  room : at + rowLength ≤ length store
-  room = start .pre .1 .1
-
-  inside : e < partCount
-  inside = c .loop-test .taken
-
-  some-left : e < length ps
-  some-left = rw length-combinations inside
-
-  rows-are : loop-at .loop .rows ≡ written k
-  rows-are = loop-at .loop .inv .1
-
-  fit : Fit (at + k) (from + k) a b (written k)
-  fit =
-      let long = length-written g h store at from before-at room k (omega arith) in (
-        (omega (arith, long), omega (arith, long)),
-        sum-fits g h store at from before-at room e inside a b (loop-at .before .before .front-of .ensures)
-            (loop-at .before .front-of2 .ensures) (start .pre .0) (start .pre .1 .2, start .pre .1 .3),
+  taken : (n : ℕ) → 0 < n → n ≤ coefficientCount → bothWithin n g h ≡ true → Taken n
+  taken n some inside t =
+      let both = T-&& (isZero (drop n g)) (isZero (drop n h)) .0 (true-T _ t) in
+      let long-g : n ≤ length g = omega (arith, s .pre .0) in
+      let long-h : n ≤ length h = omega (arith, s .pre .0) in (
+        (length-take-le n g long-g, length-take-le n h long-h),
+        (shortened-front g (take n g) n some long-g refl (both .0), shortened-front h (take n h) n some long-h refl (both .1)),
       )
 
--- it is combined
-module _ (c : tie.After-add-part Inv-loop μ-loop) where
-  abbrev here : tie.In-loop Inv-loop μ-loop
-  here = c .before .before
+both-within-requires : tie.Need-both-within-requires
+both-within-requires c κs = search needs
 
-  abbrev r : Made
-  r = c .add-part .result
+numbers : (c : tie.Then1) → Taken (c .before .before) 1
+numbers c = taken (c .before .before) 1 (omega arith) (omega arith) (sym (c .before .both-within .ensures) ∙ c .if1 .taken)
 
-  abbrev after : List ℤ
-  after = c .add-part .last .0
+slice-aggregate-combine-by-numbers : tie.Need-slice-aggregate-combine-by-numbers
+slice-aggregate-combine-by-numbers c = sym (numbers (c .before .before) .0 .0)
 
-  made : PartMade (sum here) (loop-at here .loop .d) (loop-at here .loop .within) (at here + k here) (written here (k here)) after r
-  made =
-      subst (λ l. PartMade (sumAt (a here) (b here) l (at here + k here) (from here + k here)) (loop-at here .loop .d)
-      (loop-at here .loop .within) (at here + k here) l after r) (rows-are here) (c .add-part .ensures)
+slice-aggregate-combine-by-numbers-2 : tie.Need-slice-aggregate-combine-by-numbers-2
+slice-aggregate-combine-by-numbers-2 c = sym (numbers (c .before .before .before) .0 .1)
 
-  degree-is : r .beyond ≡ not (isLow (getD (ps here) (e here) []))
-  degree-is =
-      made .degree
-      ∙ ap not (sum-high (g here) (h here) (store here) (at here) (from here) (before-at here) (room here) (e here) (inside here)
-      (a here) (b here) (loop-at here .before .before .front-of .ensures) (loop-at here .before .front-of2 .ensures))
+combine-by-numbers-requires : tie.Need-combine-by-numbers-requires
+combine-by-numbers-requires c κs =
+    let then = c .before .before .before in
+    let short = numbers then in
+    (fits (then .before .before) (short .1 .0) (short .1 .1), (then .before .before .pre .1 .1, short .0))
 
-  low-is : lowPart (sum here) ≡ coefficientsAt (numbers here) (e here)
-  low-is =
-      sum-low (g here) (h here) (store here) (at here) (from here) (before-at here) (room here) (e here) (inside here)
-      (a here) (b here) (loop-at here .before .before .front-of .ensures) (loop-at here .before .front-of2 .ensures)
+same-length : tie.Need-same-length
+same-length c = search needs
 
-  store-is : (t : Bool) → r .beyond ≡ t
-      → after ≡ cond t (written here (k here)) (withPart (written here (k here)) (at here + k here) (lowPart (sum here)))
-  store-is t q =
-      made .store
-      ∙ ap (λ t. cond t (written here (k here)) (withPart (written here (k here)) (at here + k here) (lowPart (sum here)))) q
-
-common-length-requires : tie.Need-common-length-requires Inv-loop μ-loop
-common-length-requires c κs = search needs
-
--- how many coefficients are taken of the multipliers
-taken : (c : tie.After-common-length Inv-loop μ-loop) → let n = c .common-length .result in
-    (0 < n) × (n ≤ coefficientCount) × T (isZero (drop n (now (c .before .args .g)))) × T (isZero (drop n (now (c .before .args .h))))
-taken c =
-    let args = c .before .args in
-    let pre = c .before .pre .0 in
-    subst
-    (λ n. (0 < n) × (n ≤ coefficientCount) × T (isZero (drop n (now (args .g)))) × T (isZero (drop n (now (args .h)))))
-    (sym (c .common-length .ensures)) (common-length (now (args .g)) (now (args .h)) (pre .0, pre .2))
-
-front-of-requires : tie.Need-front-of-requires Inv-loop μ-loop
-front-of-requires c κs =
-    let t = taken c in
-    (c .before .pre .0 .0, t .0, t .1, t .2)
-
-front-of-requires-2 : tie.Need-front-of-requires-2 Inv-loop μ-loop
-front-of-requires-2 c κs =
-    let d = c .before in
-    let t = taken d in
-    (d .before .pre .0 .2, t .0, t .1, t .3)
-
-loop-holds : tie.Need-loop-holds Inv-loop μ-loop
-unfolding every content
-loop-holds c =
-    let args = c .before .before .before .args in
-    (omega arith, paste-zero (now (args .rows)) (args .at) (rowNumbers (now (args .g)) (now (args .h)) (now (args .rows)) (args .at) (args .from)), refl, refl, refl)
-
-mul-k : tie.Need-mul-k Inv-loop μ-loop
-mul-k c = search needs
-
-add-add-part : tie.Need-add-add-part Inv-loop μ-loop
-add-add-part c = omega (arith, room (c .before), inside (c .before))
-
-add-add-part-2 : tie.Need-add-add-part-2 Inv-loop μ-loop
-add-add-part-2 c = omega (arith, before-at (c .before), room (c .before), inside (c .before))
-
-add-part-requires : tie.Need-add-part-requires Inv-loop μ-loop
-add-part-requires c κs =
-    let w = c .before in
-    subst (Fit (at w + k w) (from w + k w) (a w) (b w)) (sym (rows-are w)) (fit w)
-
-same-length : tie.Need-same-length Inv-loop μ-loop
-same-length c =
-    let d = c .before .before in
-    let w = here d in
-    d .add-part .kept .0 ∙ ap length (rows-are w)
-    ∙ length-written (g w) (h w) (store w) (at w) (from w) (before-at w) (room w) (k w) (omega (arith, inside w))
-
-returns : tie.Need-returns Inv-loop μ-loop
+returns : tie.Need-returns
 returns c =
-    let d = c .before .before in
-    let w = here d in
-    let failed = not-true _ (sym (degree-is d) ∙ c .if1 .taken) in
-    record {
-      degrees = c .if1 .taken ∙ ap not (sym (every-false isLow (ps w) (e w) [] (some-left w) failed));
-      outside = subst (Outside (at w) (store w)) (sym (store-is d true (c .if1 .taken)))
-          (outside-written (g w) (h w) (store w) (at w) (from w) (before-at w) (room w) (k w) (omega (arith, inside w)));
-      store = λ low. absurd (never (sym (c .if1 .taken) ∙ low));
-      content-is = λ low. absurd (never (sym (c .if1 .taken) ∙ low));
-      within-is = λ low. absurd (never (sym (c .if1 .taken) ∙ low));
-    }
+    let then = c .before .before .before .before .before in
+    let short = numbers then in
+    made (then .before .before) (short .1 .0) (short .1 .1) (c .before .combine-by-numbers .ensures)
 
-add-e : tie.Need-add-e Inv-loop μ-loop
-add-e c = search needs
+both-within-requires-2 : tie.Need-both-within-requires-2
+both-within-requires-2 c κs = search needs
 
-loop-less : tie.Need-loop-less Inv-loop μ-loop
-loop-less c = search needs
+pairs : (c : tie.Then2) → Taken (c .before .before .before .before) 2
+pairs c = taken (c .before .before .before .before) 2 (omega arith) (omega arith) (sym (c .before .both-within2 .ensures) ∙ c .if2 .taken)
 
-loop-again : tie.Need-loop-again Inv-loop μ-loop
-loop-again c =
-    let d = c .before .before in
-    let w = here d in
-    let low = c .if1 .left in
-    let passed = not-false _ (sym (degree-is d) ∙ low) in (
-      omega (arith, inside w),
-      store-is d false low ∙ ap (withPart (written w (k w)) (at w + k w)) (low-is d)
-          ∙ written-next (g w) (h w) (store w) (at w) (from w) (before-at w) (room w) (e w) (inside w),
-      every-longer isLow (ps w) (e w) [] (some-left w) (loop-at w .loop .inv .2) passed,
-      made d .content-is low ∙ ap₂ (λ l m. gcd (content l) m) (low-is d) (loop-at w .loop .inv .3)
-          ∙ content-next (g w) (h w) (store w) (at w) (from w) (before-at w) (room w) (e w) (inside w),
-      made d .within-is low ∙ ap₂ (λ t l. t && every small l) (loop-at w .loop .inv .4) (low-is d)
-          ∙ small-next (g w) (h w) (store w) (at w) (from w) (before-at w) (room w) (e w) (inside w),
-    )
+slice-aggregate-combine-by-pairs : tie.Need-slice-aggregate-combine-by-pairs
+slice-aggregate-combine-by-pairs c = sym (pairs (c .before .before) .0 .0)
 
-same-length-2 : tie.Need-same-length-2 Inv-loop μ-loop
-same-length-2 c =
-    let s = c .before .before .before .before .before in
-    let loop = c .before .loop in
-    ap length (loop .inv .1)
-    ∙ length-written (now (s .args .g)) (now (s .args .h)) (now (s .args .rows)) (s .args .at) (s .args .from) (s .pre .1 .0) (s .pre .1 .1)
-    (loop .e * coefficientCount) (omega (arith, loop .inv .0))
+slice-aggregate-combine-by-pairs-2 : tie.Need-slice-aggregate-combine-by-pairs-2
+slice-aggregate-combine-by-pairs-2 c = sym (pairs (c .before .before .before) .0 .1)
 
-returns-2 : tie.Need-returns-2 Inv-loop μ-loop
+combine-by-pairs-requires : tie.Need-combine-by-pairs-requires
+combine-by-pairs-requires c κs =
+    let then = c .before .before .before in
+    let short = pairs then in
+    (fits (then .before .before .before .before) (short .1 .0) (short .1 .1), (then .before .before .before .before .pre .1 .1, short .0))
+
+same-length-2 : tie.Need-same-length-2
+same-length-2 c = search needs
+
+returns-2 : tie.Need-returns-2
 returns-2 c =
-    let s = c .before .before .before .before .before in
-    let loop = c .before .loop in
-    let store = now (s .args .rows) in
-    let at = s .args .at in
-    let ps = rowSums (now (s .args .g)) (now (s .args .h)) store at (s .args .from) in
-    let numbers = rowNumbers (now (s .args .g)) (now (s .args .h)) store at (s .args .from) in
-    let long : length numbers ≡ rowLength = length-low partCount (now (s .args .g)) (now (s .args .h)) (rowAt store at)
-    (rowAt store (s .args .from)) in
-    let ended : loop .e * coefficientCount ≡ rowLength = omega (arith, loop .inv .0, c .loop-test .left) in
-    let whole = take-all (loop .e * coefficientCount) numbers (omega (arith, long, ended)) in
-    let none : length ps ≤ loop .e = rw length-combinations (c .loop-test .left) in
-    record {
-      degrees = ap not (sym (ap (every isLow) (sym (take-all (loop .e) ps none)) ∙ loop .inv .2));
-      outside = subst (Outside at store) (sym (loop .inv .1))
-          (outside-written (now (s .args .g)) (now (s .args .h)) store at (s .args .from) (s .pre .1 .0) (s .pre .1 .1)
-          (loop .e * coefficientCount) (omega (arith, ended)));
-      store = λ low. loop .inv .1 ∙ ap (paste store at numbers) ended;
-      content-is = λ low. loop .inv .3 ∙ ap content whole;
-      within-is = λ low. loop .inv .4 ∙ ap (every small) whole;
-    }
+    let then = c .before .before .before .before .before in
+    let short = pairs then in
+    made (then .before .before .before .before) (short .1 .0) (short .1 .1) (c .before .combine-by-pairs .ensures)
+
+both-within-requires-3 : tie.Need-both-within-requires-3
+both-within-requires-3 c κs = search needs
+
+fours : (c : tie.Then3) → Taken (c .before .before .before .before .before .before) few
+fours c =
+    let s = c .before .before .before .before .before .before in
+    taken s few (omega arith) (omega arith) (sym (c .before .both-within3 .ensures) ∙ c .if3 .taken)
+
+slice-aggregate-combine-by-fours : tie.Need-slice-aggregate-combine-by-fours
+slice-aggregate-combine-by-fours c = sym (fours (c .before .before) .0 .0)
+
+slice-aggregate-combine-by-fours-2 : tie.Need-slice-aggregate-combine-by-fours-2
+slice-aggregate-combine-by-fours-2 c = sym (fours (c .before .before .before) .0 .1)
+
+combine-by-fours-requires : tie.Need-combine-by-fours-requires
+combine-by-fours-requires c κs =
+    let then = c .before .before .before in
+    let short = fours then in
+    (fits (then .before .before .before .before .before .before) (short .1 .0) (short .1 .1), (then .before .before .before .before .before .before .pre .1 .1, short .0))
+
+same-length-3 : tie.Need-same-length-3
+same-length-3 c = search needs
+
+returns-3 : tie.Need-returns-3
+returns-3 c =
+    let then = c .before .before .before .before .before in
+    let short = fours then in
+    made (then .before .before .before .before .before .before) (short .1 .0) (short .1 .1) (c .before .combine-by-fours .ensures)
+
+trimmed-requires : tie.Need-trimmed-requires
+trimmed-requires c κs = search needs
+
+trimmed-requires-2 : tie.Need-trimmed-requires-2
+trimmed-requires-2 c κs = search needs
+
+-- the multipliers up to their highest nonzero coefficients
+module _ (c : tie.After-trimmed2) where
+  abbrev start : tie.Start
+  start = c .before .before .before .before .before .before .before .before .before
+
+  abbrev a : Polynomial
+  a = now (c .before .trimmed .result)
+
+  abbrev b : Polynomial
+  b = now (c .trimmed2 .result)
+
+  at-g : Shortened a (g start)
+  at-g = shortened-trim (g start) a (omega (arith, start .pre .0)) (c .before .trimmed .ensures)
+
+  at-h : Shortened b (h start)
+  at-h = shortened-trim (h start) b (omega (arith, start .pre .0)) (c .trimmed2 .ensures)
+
+combine-by-any-requires : tie.Need-combine-by-any-requires
+combine-by-any-requires c κs = (fits (start c) (at-g c) (at-h c), start c .pre .1 .1)
+
+same-length-4 : tie.Need-same-length-4
+same-length-4 c = search needs
+
+returns-4 : tie.Need-returns-4
+returns-4 c =
+    let d = c .before .before in
+    made (start d) (at-g d) (at-h d) (c .before .combine-by-any .ensures)
 
 pub combine-parts-spec : {M : Type 1} → statement M
 combine-parts-spec =
     tie.close
     (tie.spec
-    Inv-loop
-    μ-loop
-    common-length-requires
-    front-of-requires
-    front-of-requires-2
-    loop-holds
-    mul-k
-    add-add-part
-    add-add-part-2
-    add-part-requires
+    both-within-requires
+    slice-aggregate-combine-by-numbers
+    slice-aggregate-combine-by-numbers-2
+    combine-by-numbers-requires
     same-length
     returns
-    add-e
-    loop-less
-    loop-again
+    both-within-requires-2
+    slice-aggregate-combine-by-pairs
+    slice-aggregate-combine-by-pairs-2
+    combine-by-pairs-requires
     same-length-2
-    returns-2)
+    returns-2
+    both-within-requires-3
+    slice-aggregate-combine-by-fours
+    slice-aggregate-combine-by-fours-2
+    combine-by-fours-requires
+    same-length-3
+    returns-3
+    trimmed-requires
+    trimmed-requires-2
+    combine-by-any-requires
+    same-length-4
+    returns-4)

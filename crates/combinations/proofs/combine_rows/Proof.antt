@@ -62,7 +62,7 @@ module _ (c : tie.Start) where
   numbers = lowNumbers partCount g h target pivot
 
   room : at + rowLength ≤ length store
-  room = c .pre .1 .1
+  room = c .pre .1 .0 .1
 
   some : 0 < length g
   some = omega (arith, c .pre .0 .0)
@@ -76,7 +76,7 @@ module _ (c : tie.Start) where
   below : Below (2 ^ 63) numbers
   below =
       numbers-below g h target pivot partCount
-      (le-of-eq (c .pre .0 .0), le-of-eq (c .pre .0 .2), c .pre .0 .1, c .pre .0 .3, c .pre .1 .2, c .pre .1 .3)
+      (le-of-eq (c .pre .0 .0), le-of-eq (c .pre .0 .2), c .pre .0 .1, c .pre .0 .3, c .pre .1 .0 .2, c .pre .1 .0 .3)
 
 -- the polynomials of the combination
 module _ (c : tie.After-combine-parts) where

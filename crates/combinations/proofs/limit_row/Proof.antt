@@ -9,17 +9,19 @@ use borrow.Author.Tests.{not-true, not-false}
 use denote.Ref.{now}
 use lib.Dec.{T, lt→ltb, lit<}
 use lib.IntN.{ℤ, pos, natAbs}
+use lib.ListN.{length}
 use lib.Signed.{ltZ}
 use mir.Syntax.{w64}
 use mir.Val.{SFits, toZ}
 use mir.Facts.{toZ-ofZ}
 use Rattle.algebra.specs.Gcd.{content, divideBy}
 use Rattle.integers.specs.Ranges.{sfits-size}
-use Rattle.rules.specs.Elimination.{limitCoefficients, consistent}
+use Rattle.lists.specs.Tests.{true-T, true-of}
+use Rattle.rules.specs.Elimination.{limitCoefficients, within, consistent}
 use Rattle.rules.specs.Layout.{coefficientsOf-rowOf-all}
 use Rattle.rules.specs.Stores.{rowOf}
 use Rattle.working_rows.specs.Worked.{refusalOf, limit-within, limit-beyond}
-use Rattle.combinations.specs.Primitive.{primitiveNumbers, content-below, primitive-divided, primitive-kept}
+use Rattle.combinations.specs.Primitive.{primitiveNumbers, content-below, primitive-divided, primitive-small, primitive-kept}
 use borrow.Author.Needs.{needs}
 use Rattle.combinations.proofs.limit_row.Statement.{statement}
 use Rattle.combinations.proofs.limit_row.Tie as tie
@@ -59,23 +61,18 @@ refusal-requires c κs = search needs
 same-length : tie.Need-same-length
 same-length c = search needs
 
+-- the numbers that have been divided
+divided : (c : tie.After-divide-parts)
+    → c .divide-parts .last .0 ≡ primitiveNumbers (l (c .before .before .before))
+divided c =
+    let s = c .before .before .before in
+    let many : 1 < content (l s) = omega (arith, c .before .before .if1 .taken, s .pre .1 .0) in
+    c .divide-parts .ensures ∙ ap (λ z. divideBy (natAbs z) (l s)) (divisor s) ∙ sym (primitive-divided (l s) many)
+
 returns : tie.Need-returns
 returns c =
-    let call = c .before .before .before in
-    let s = call .before .before .before in
-    let many : 1 < content (l s) = omega (arith, call .before .before .if1 .taken, s .pre .1 .0) in
-    let numbers = call .divide-parts .ensures ∙ ap (λ z. divideBy (natAbs z) (l s)) (divisor s) ∙ sym (primitive-divided (l s) many) in
+    let numbers = divided (c .before .before .before .before) in
     (c .refusal .ensures ∙ ap refusalFor numbers, numbers)
-
-returns-2 : tie.Need-returns-2
-unfolding refusalOf consistent
-returns-2 c =
-    let s = c .before .before in
-    let failed = sym (s .pre .1 .1) ∙ not-true _ (c .if2 .taken) in (
-      sym (ap refusalFor (kept (c .before))
-          ∙ ap (λ x. refusalOf (consistent x)) (limit-beyond (rowOf (l s)) (l s) (coefficientsOf-rowOf-all (l s) (s .pre .0 .0)) failed)),
-      sym (kept (c .before)),
-    )
 
 contradiction-requires : tie.Need-contradiction-requires
 contradiction-requires c κs = search needs
@@ -83,12 +80,42 @@ contradiction-requires c κs = search needs
 same-length-2 : tie.Need-same-length-2
 same-length-2 c = search needs
 
+returns-2 : tie.Need-returns-2
+returns-2 c =
+    let passed = c .before .before in
+    let call = passed .before .before in
+    let s = call .before .before .before in
+    let numbers = divided call in
+    let smallest = primitive-small (l s) (true-T _ (sym (s .pre .1 .1) ∙ not-false _ (passed .if2 .left))) in
+    let whole = coefficientsOf-rowOf-all (primitiveNumbers (l s)) (ap length (sym numbers) ∙ call .divide-parts .kept .0 ∙ s .pre .0 .0) in (
+      c .contradiction .ensures ∙ ap (λ l. refusalOf (consistent (within (rowOf l)))) numbers
+          ∙ sym (ap (λ x. refusalOf (consistent x))
+          (limit-within (rowOf (primitiveNumbers (l s))) (primitiveNumbers (l s)) whole (true-of _ smallest))),
+      numbers,
+    )
+
 returns-3 : tie.Need-returns-3
+unfolding refusalOf consistent
 returns-3 c =
+    let s = c .before .before in
+    let failed = sym (s .pre .1 .1) ∙ not-true _ (c .if3 .taken) in (
+      sym (ap refusalFor (kept (c .before))
+          ∙ ap (λ x. refusalOf (consistent x)) (limit-beyond (rowOf (l s)) (l s) (coefficientsOf-rowOf-all (l s) (s .pre .0 .0)) failed)),
+      sym (kept (c .before)),
+    )
+
+contradiction-requires-2 : tie.Need-contradiction-requires-2
+contradiction-requires-2 c κs = search needs
+
+same-length-3 : tie.Need-same-length-3
+same-length-3 c = search needs
+
+returns-4 : tie.Need-returns-4
+returns-4 c =
     let passed = c .before .before in
     let s = passed .before .before in
-    let smallest = sym (s .pre .1 .1) ∙ not-false _ (passed .if2 .left) in (
-      c .contradiction .ensures
+    let smallest = sym (s .pre .1 .1) ∙ not-false _ (passed .if3 .left) in (
+      c .contradiction2 .ensures
           ∙ sym (ap refusalFor (kept (passed .before))
           ∙ ap (λ x. refusalOf (consistent x)) (limit-within (rowOf (l s)) (l s) (coefficientsOf-rowOf-all (l s) (s .pre .0 .0)) smallest)),
       sym (kept (passed .before)),
@@ -103,7 +130,10 @@ limit-row-spec =
     refusal-requires
     same-length
     returns
-    returns-2
     contradiction-requires
     same-length-2
-    returns-3)
+    returns-2
+    returns-3
+    contradiction-requires-2
+    same-length-3
+    returns-4)

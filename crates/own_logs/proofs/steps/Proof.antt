@@ -13,6 +13,7 @@ use Rattle.rules.specs.Stores.{rowsOf, relationsOf}
 use Rattle.rules.specs.Elimination as Elimination
 use Rattle.reduction.specs.Progress.{stateOf}
 use Rattle.reduction.specs.RunLaws.{Running, Stopped, run-starts, run-goes, run-stops}
+use Rattle.reduction.specs.Unused.{none-unused}
 use Rattle.log_steps.specs.Logs.{ownNeed}
 use Rattle.own_logs.specs.Own.{ownChanges}
 use Rattle.own_logs.specs.LoggedSteps.{Noting, noting-starts, noting-goes, noting-stops}
@@ -85,7 +86,7 @@ step-requires : tie.Need-step-requires Inv-loop μ-loop
 step-requires c κs =
     let turn = c .before .before .before .before .before .before .before .before in
     let at = head turn .loop .inv .0 in
-    (at .reached .ready, one-left turn, omega (arith, at .reached .few-shifts))
+    ((at .reached .ready, one-left turn, omega (arith, at .reached .few-shifts)), (omega arith, none-unused _ _ (head turn .loop .p)))
 
 -- the calls of a turn
 module _ (c : tie.After-p Inv-loop μ-loop) where

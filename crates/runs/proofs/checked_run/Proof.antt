@@ -5,9 +5,9 @@ use Prim.Native.Nat.{ℕ}
 use borrow.Author.Needs.{needs}
 use denote.Ref.{now}
 use lib.IntN.{ℤ}
-use Rattle.rules.specs.Stores.{Sizes, equations}
+use Rattle.rules.specs.Stores.{Sizes, equations, rowsOf}
 use Rattle.stores.specs.Validity.{sizesOf}
-use Rattle.runs.specs.CallLaws.{few-equations, few-blocks, Checked, checked}
+use Rattle.runs.specs.CallLaws.{few-equations, few-blocks, rows-unused, Checked, checked}
 use Rattle.runs.proofs.checked_run.Statement.{statement}
 use Rattle.runs.proofs.checked_run.Tie as tie
 
@@ -36,7 +36,10 @@ unfolding equations sizesOf
 whole-run-requires c κs =
     let s = c .before .before .before in
     let ok = stores s in
-    (few-equations (z s) (ok .sizes), rw (c .before .before .span .ensures) (few-blocks (z s) (ok .sizes)), ok .rows-within, ok .listing)
+    let span-is = c .before .before .span .ensures in (
+      (few-equations (z s) (ok .sizes), rw span-is (few-blocks (z s) (ok .sizes)), ok .rows-within, ok .listing),
+      rw span-is (rows-unused (z s) (rowsOf (equations (z s)) (rows s)) (ok .valid .rows-right)),
+    )
 
 same-length : tie.Need-same-length
 same-length c = search needs

@@ -7,6 +7,7 @@ use denote.Ref.{now}
 use lib.IntN.{ℤ}
 use Rattle.rules.specs.Elimination.{trailing}
 use Rattle.reduction.specs.Ran.{Ran, runOf}
+use Rattle.reduction.specs.Unused.{unused-none}
 use Rattle.runs.specs.TrailingLaws.{listed-more, trailing-refused, trailing-held}
 use Rattle.runs.proofs.trailing_run.Statement.{statement}
 use Rattle.runs.proofs.trailing_run.Tie as tie
@@ -32,7 +33,7 @@ mirror-rows-requires : tie.Need-mirror-rows-requires
 mirror-rows-requires c κs = search needs
 
 run-requires : tie.Need-run-requires
-run-requires c κs = search needs
+run-requires c κs = search (needs, unused-none)
 
 same-length : tie.Need-same-length
 same-length c = search needs

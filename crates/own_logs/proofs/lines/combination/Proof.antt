@@ -1,6 +1,6 @@
 -- `own_logs::lines::combination` meets its contract: multipliers and content are those of the definition.
 -- Assumes nothing.
-use mathlib.Core.Path.{_≡_, sym, _∙_, ap, ap₂, subst, subst₂}
+use mathlib.Core.Path.{_≡_, refl, sym, _∙_, ap, ap₂, subst, subst₂}
 use mathlib.Core.Logic.{⊎-elim}
 use mathlib.Core.Bool.{true}
 use mathlib.Core.List.{List, _∷_, _++_}
@@ -52,25 +52,31 @@ module _ (c : tie.Start) where
   result = combine (x .g) (x .h) (rowOf target) (rowOf pivot)
 
 -- the multipliers
-module _ (c : tie.After-multipliers-at) where
+module _ (c : tie.After-put-multipliers-at) where
   abbrev start : tie.Start
-  start = c .before
+  start = c .before .before .before
 
-  g-is : c .multipliers-at .result .g ≡ x start .g
-  g-is = ap (λ y. y .g) (c .multipliers-at .ensures)
+  abbrev g : List ℤ
+  g = c .put-multipliers-at .last .0
 
-  h-is : c .multipliers-at .result .h ≡ x start .h
-  h-is = ap (λ y. y .h) (c .multipliers-at .ensures)
+  abbrev h : List ℤ
+  h = c .put-multipliers-at .last .1 .0
 
-  g-fits : Sixteen (c .multipliers-at .result .g)
+  g-is : g ≡ x start .g
+  g-is = c .put-multipliers-at .ensures .0
+
+  h-is : h ≡ x start .h
+  h-is = c .put-multipliers-at .ensures .1 .0
+
+  g-fits : Sixteen g
   g-fits = subst Sixteen (sym g-is) (fits start .0)
 
-  h-fits : Sixteen (c .multipliers-at .result .h)
+  h-fits : Sixteen h
   h-fits = subst Sixteen (sym h-is) (fits start .1)
 
 -- the content
 module _ (c : tie.After-combined-content) where
-  abbrev multiplied : tie.After-multipliers-at
+  abbrev multiplied : tie.After-put-multipliers-at
   multiplied = c .before .before .before .before .before
 
   abbrev base : tie.Start
@@ -93,11 +99,18 @@ module _ (c : tie.Joined1) where
       ⊎-elim (λ w. w .1 ∙ sym (divisor-zero r (sym same ∙ w .0 .taken)))
       (λ w. w .1 ∙ same ∙ sym (divisor-some r (λ e. w .0 .left (same ∙ e)))) (c .if1 .came)
 
-multipliers-at-requires : tie.Need-multipliers-at-requires
-multipliers-at-requires c κs =
-    let rows = c .pre .1 .0 in (
-      (c .pre .0 .2, omega (arith, rows .0), omega (arith, rows .1)),
-      ((rows .2, rows .3), c .pre .1 .1),
+slice-aggregate-put-multipliers-at : tie.Need-slice-aggregate-put-multipliers-at
+slice-aggregate-put-multipliers-at c = search needs
+
+slice-aggregate-put-multipliers-at-2 : tie.Need-slice-aggregate-put-multipliers-at-2
+slice-aggregate-put-multipliers-at-2 c = search needs
+
+put-multipliers-at-requires : tie.Need-put-multipliers-at-requires
+put-multipliers-at-requires c κs =
+    let pre = c .before .before .pre in
+    let rows = pre .1 .0 in (
+      (refl, refl),
+      ((pre .0 .2, omega (arith, rows .0), omega (arith, rows .1)), ((rows .2, rows .3), pre .1 .1)),
     )
 
 slice-aggregate-combined-content : tie.Need-slice-aggregate-combined-content
@@ -141,7 +154,7 @@ returns c =
       long =
           ap length made
           ∙ ap (λ n. suc (suc (suc (suc n))))
-          (length-append (e .multipliers-at .result .g) (e .multipliers-at .result .h) ∙ ap₂ _+_ (g-fits e .0) (h-fits e .0));
+          (length-append (g e) (h e) ∙ ap₂ _+_ (g-fits e .0) (h-fits e .0));
       said =
           λ low. made
           ∙ (λ k. pos 2 ∷ pos (add-one (b .args .i) k) ∷ pos (add-one (b .args .j) k) ∷ pos (divisor-is joined low k)
@@ -152,7 +165,9 @@ pub combination-spec : {M : Type 1} → statement M
 combination-spec =
     tie.close
     (tie.spec
-    multipliers-at-requires
+    slice-aggregate-put-multipliers-at
+    slice-aggregate-put-multipliers-at-2
+    put-multipliers-at-requires
     slice-aggregate-combined-content
     slice-aggregate-combined-content-2
     combined-content-requires

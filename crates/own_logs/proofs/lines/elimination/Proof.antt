@@ -19,7 +19,7 @@ use Rattle.rules.specs.Limits.{coefficientCount, columnCount, entriesLength, mo
 use Rattle.rules.specs.Rows.{width, entry}
 use Rattle.rules.specs.Stores.{rowOf, rowNeed}
 use Rattle.sides.specs.Lent.{Within}
-use Rattle.working_rows.specs.Found.{Columns-at}
+use Rattle.working_rows.specs.Found.{Columns-at, width-most}
 use Rattle.working_rows.specs.Working.{workingOf}
 use Rattle.reduction.specs.declared.step.Progress.{Progress}
 use Rattle.reduction.specs.Progress.{Ready}
@@ -207,7 +207,9 @@ row-at-requires-2 : tie.Need-row-at-requires-2
 row-at-requires-2 c κs = let b = c .before .before in room b (j b) (other b)
 
 width-at-requires : tie.Need-width-at-requires
-width-at-requires c κs = let b = c .before .before .before in room b (j b) (other b)
+width-at-requires c κs =
+    let b = c .before .before .before in
+    (room b (j b) (other b), omega arith, omega (arith, width-most (numbersAt (rows b) (j b))))
 
 add-plain : tie.Need-add-plain
 add-plain c = search needs

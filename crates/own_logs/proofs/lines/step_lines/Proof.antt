@@ -18,7 +18,7 @@ use Rattle.rules.specs.Rows.{Row, zeroLeft, width, leadingBlock, firstNonzero}
 use Rattle.rules.specs.Stores.{rowOf}
 use Rattle.rules.specs.Elimination.{State, going, leading, step}
 use Rattle.theory.specs.Steps.{going≢refused}
-use Rattle.working_rows.specs.Found.{foundOr, entriesAt}
+use Rattle.working_rows.specs.Found.{foundOr, entriesAt, width-most}
 use Rattle.working_rows.specs.Working.{width-zero}
 use Rattle.reduction.specs.declared.step.Progress.{Progress}
 use Rattle.reduction.specs.Progress.{Ready, stateOf}
@@ -110,7 +110,7 @@ module _ (c : tie.After-column-at) where
   column-is = sym (c .column-at .ensures)
 
 width-at-requires : tie.Need-width-at-requires
-width-at-requires c κs = room c
+width-at-requires c κs = (room c, omega arith, omega (arith, width-most (numbersAt (rows c) (i c))))
 
 add-plain : tie.Need-add-plain
 add-plain c = search needs

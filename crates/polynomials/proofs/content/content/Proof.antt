@@ -8,22 +8,22 @@ use native.Mathlib.Omega.{arith}
 use borrow.Author.Needs.{needs}
 use denote.Ref.{now}
 use lib.IntN.{ℤ, pos, natAbs}
-use lib.ListN.{length, getD, drop, drop-of-length-le}
-use Rattle.algebra.specs.Gcd.{gcd, content, zero-gcd, gcd-zero}
+use lib.ListN.{getD, drop}
+use Rattle.algebra.specs.Gcd.{gcd, content, content-zero, zero-gcd, gcd-zero}
 use Rattle.polynomials.specs.Content.{read-back, content-next, one-gcd}
 use Rattle.polynomials.proofs.content.content.Statement.{statement}
 use Rattle.polynomials.proofs.content.content.Tie as tie
 
 abbrev Inv-loop : tie.InvT-loop
-Inv-loop p d₀ i₀ d i = (i ≤ length p) × (content p ≡ gcd d (content (drop i p)))
+Inv-loop p n d₀ i₀ d i = (i ≤ n) × (content p ≡ gcd d (content (drop i p)))
 
 abbrev μ-loop : tie.MeasureT-loop
-μ-loop p d₀ i₀ d i = length p - i
+μ-loop p n d₀ i₀ d i = n - i
 
 -- the content, with coefficient i joined to d
 module _ (c : tie.After-with-divisor Inv-loop μ-loop) where
   abbrev p : List ℤ
-  p = now (c .before .before .before .before .args .p)
+  p = now (c .before .before .before .before .before .args .p)
 
   abbrev i : ℕ
   i = c .before .before .before .loop .i
@@ -34,12 +34,15 @@ module _ (c : tie.After-with-divisor Inv-loop μ-loop) where
   joined : content p ≡ gcd (c .with-divisor .result) rest
   joined =
       let d = c .before .before .before .loop .d in
-      c .before .before .before .loop .inv .1 ∙ content-next d p i (c .before .before .loop-test .taken)
+      c .before .before .before .loop .inv .1 ∙ content-next d p i (omega (arith, c .before .before .loop-test .taken, c .before .before .before .before .without-fours .ensures .0))
       ∙ ap (λ e. gcd e rest)
       (sym (c .with-divisor .ensures ∙ ap (λ a. gcd (natAbs a) d) (read-back (getD p i (pos 0)) (c .before .with-divisor-arg .given))))
 
+without-fours-requires : tie.Need-without-fours-requires Inv-loop μ-loop
+without-fours-requires c κs = search needs
+
 loop-holds : tie.Need-loop-holds Inv-loop μ-loop
-loop-holds c = (omega arith, sym (zero-gcd (content (now (c .args .p)))))
+loop-holds c = (omega arith, sym (zero-gcd (content (now (c .before .args .p)))))
 
 mul-with-divisor : tie.Need-mul-with-divisor Inv-loop μ-loop
 mul-with-divisor c = search needs
@@ -63,11 +66,13 @@ loop-again : tie.Need-loop-again Inv-loop μ-loop
 loop-again c = (omega arith, joined (c .before))
 
 returns-2 : tie.Need-returns-2 Inv-loop μ-loop
-unfolding content
 returns-2 c =
-    let d = c .before .loop .d in
-    sym (c .before .loop .inv .1 ∙ ap (λ q. gcd d (content q)) (drop-of-length-le (now (c .before .before .args .p)) (c .loop-test .left))
-    ∙ gcd-zero d)
+    let loop = c .before .loop in
+    let front = c .before .before .without-fours in
+    let p = now (c .before .before .before .args .p) in
+    let end : loop .i ≡ front .result = omega (arith, loop .inv .0, c .loop-test .left) in
+    sym (loop .inv .1 ∙ ap (λ k. gcd (loop .d) (content (drop k p))) end
+    ∙ ap (gcd (loop .d)) (content-zero (drop (front .result) p) .1 (front .ensures .1)) ∙ gcd-zero (loop .d))
 
 pub content-spec : {M : Type 1} → statement M
 content-spec =
@@ -75,6 +80,7 @@ content-spec =
     (tie.spec
     Inv-loop
     μ-loop
+    without-fours-requires
     loop-holds
     mul-with-divisor
     shared-slice-copy-out-with-divisor

@@ -8,7 +8,7 @@ use denote.Ref.{now}
 use lib.ListN.{length}
 use Rattle.algebra.specs.Polynomials.{coeff}
 use Rattle.algebra.specs.Coefficients.{Within, degree-unique}
-use Rattle.polynomials.specs.Content.{zero-bits, nonzero-bits, within-down, degree-bottom}
+use Rattle.polynomials.specs.Content.{zero-bits, nonzero-bits, zeros-within, within-down, degree-bottom}
 use Rattle.polynomials.proofs.content.degree.Statement.{statement}
 use Rattle.polynomials.proofs.content.degree.Tie as tie
 
@@ -22,7 +22,9 @@ without-fours-requires : tie.Need-without-fours-requires Inv-loop μ-loop
 without-fours-requires c κs = search needs
 
 loop-holds : tie.Need-loop-holds Inv-loop μ-loop
-loop-holds c = c .without-fours .ensures
+loop-holds c =
+    let e = c .without-fours .ensures in
+    (e .0, zeros-within (now (c .before .args .p)) (c .without-fours .result) (e .1))
 
 sub-if1 : tie.Need-sub-if1 Inv-loop μ-loop
 sub-if1 c = search needs

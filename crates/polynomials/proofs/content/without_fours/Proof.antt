@@ -1,26 +1,30 @@
--- `polynomials::content::without_fours` meets its contract. The loop's invariant: no coefficient past power n - 1 is left.
+-- `polynomials::content::without_fours` meets its contract. The loop's invariant: the coefficients from n on are zero.
 -- Assumes nothing.
 use mathlib.Core.Path.{_≡_, sym, _∙_, subst}
 use Prim.Native.Nat.{_≤_, _-_}
+use native.Mathlib.Nat.{le-refl}
 use native.Mathlib.Omega.{arith}
 use borrow.Author.Needs.{needs}
 use borrow.Author.Tests.{not-false}
 use denote.Ref.{now}
 use lib.Dec.{T}
-use lib.ListN.{length}
-use Rattle.algebra.specs.Coefficients.{Within, coeff-past-length}
-use Rattle.polynomials.specs.Content.{within-part}
+use lib.ListN.{length, drop, drop-of-length-le}
+use Rattle.algebra.specs.Polynomials.{isZero}
+use Rattle.polynomials.specs.Content.{zeros-part}
 use Rattle.polynomials.proofs.content.without_fours.Statement.{statement}
 use Rattle.polynomials.proofs.content.without_fours.Tie as tie
 
 abbrev Inv-loop : tie.InvT-loop
-Inv-loop p n₀ n = (n ≤ length p) × Within p (n - 1)
+Inv-loop p n₀ n = (n ≤ length p) × T (isZero (drop n p))
 
 abbrev μ-loop : tie.MeasureT-loop
 μ-loop p n₀ n = n
 
 loop-holds : tie.Need-loop-holds Inv-loop μ-loop
-loop-holds c = (omega arith, λ k h. coeff-past-length (now (c .args .p)) k (omega arith))
+unfolding isZero
+loop-holds c =
+    let p = now (c .args .p) in
+    (omega arith, subst (λ q. T (isZero q)) (sym (drop-of-length-le p (le-refl (length p)))) tt)
 
 sub-from : tie.Need-sub-from Inv-loop μ-loop
 sub-from c = search needs
@@ -51,7 +55,7 @@ loop-again c =
     let at = c .before .before .before .before in
     let p = now (at .before .args .p) in
     let zeros = subst T (sym (sym (c .before .all-zero .ensures) ∙ not-false _ (c .if1 .left))) tt in
-    (omega (arith, at .loop .inv .0), within-part p (at .loop .n - 4) (at .loop .n) (at .loop .inv .1) zeros)
+    (omega (arith, at .loop .inv .0), zeros-part p (at .loop .n - 4) (at .loop .n) (omega arith) zeros (at .loop .inv .1))
 
 returns-2 : tie.Need-returns-2 Inv-loop μ-loop
 returns-2 c = c .before .loop .inv

@@ -22,7 +22,7 @@ same-length-2 c = search needs
 returns : tie.Need-returns
 returns c =
     let ended = c .before .before .before in
-    let ran = ran-held (ended .before .before .before .pre .1 .long) (ended .steps .ensures) (c .if1 .taken) in
+    let ran = ran-held (ended .before .before .before .pre .0 .1 .long) (ended .steps .ensures) (c .if1 .taken) in
     (ran .answer, (ran .rows-after, (ran .relations-after, ran .reached)))
 
 mul-clear : tie.Need-mul-clear
@@ -32,7 +32,7 @@ clear-requires : tie.Need-clear-requires
 unfolding rowNeed
 clear-requires c κs =
     let ended = c .before .before .before .before .before in
-    omega (arith, ended .before .before .before .pre .1 .long, ended .steps .ensures .rows-kept .same-length)
+    omega (arith, ended .before .before .before .pre .0 .1 .long, ended .steps .ensures .rows-kept .same-length)
 
 mul-clear-2 : tie.Need-mul-clear-2
 mul-clear-2 c = search needs
@@ -61,7 +61,7 @@ returns-2 c =
     let answer = c .answer .ensures ∙ ap (answerOf (ended .steps .result .refusal)) (c .before .start .ensures) in
     let refused = first .before .before .before .if1 .left in
     let asked = ended .before .before .before .pre in
-    let ran = ran-cleared (asked .0) (asked .1 .long) (ended .steps .ensures) refused (first .clear .ensures) (listed .clear2 .ensures)
+    let ran = ran-cleared (asked .0 .0) (asked .0 .1 .long) (ended .steps .ensures) refused (first .clear .ensures) (listed .clear2 .ensures)
     answer in
     (ran .answer, (ran .rows-after, (ran .relations-after, ran .reached)))
 

@@ -1,6 +1,7 @@
 -- `reduction::run::steps` meets its contract. The loop's invariant: at most `left` steps more from the progress that is reached give what
 -- the whole run gives.
 -- Assumes nothing.
+use mathlib.Core.Path.{_≡_}
 use mathlib.Core.Logic.{inl, inr}
 use Prim.Native.Nat.{_<_}
 use native.Mathlib.Omega.{arith}
@@ -10,32 +11,38 @@ use denote.Ref.{now}
 use Rattle.rules.specs.Stores.{rowsOf, relationsOf}
 use Rattle.rules.specs.Elimination as Elimination
 use Rattle.sides.specs.Lent.{sideOf}
+use Rattle.reduction.specs.Progress.{stateOf}
+use Rattle.reduction.specs.Unused.{Unused, unused-after}
 use Rattle.reduction.specs.RunLaws.{Running, Stopped, run-starts, run-goes, run-stops}
 use Rattle.reduction.proofs.run.steps.Statement.{statement}
 use Rattle.reduction.proofs.run.steps.Tie as tie
 
 abbrev Inv-loop : tie.InvT-loop
-Inv-loop rows₀ relations₀ equations side count p₀ refusal₀ left₀ rows relations p refusal left =
+Inv-loop rows₀ relations₀ equations side count m span p₀ refusal₀ left₀ rows relations p refusal left =
     Running (sideOf side) equations rows₀ relations₀ rows relations refusal p left
     (Elimination.run (sideOf side) (Elimination.enough (rowsOf equations rows₀))
     (Elimination.start (rowsOf equations rows₀) (relationsOf count relations₀)))
+    × (refusal ≡ 0 → Unused m span (stateOf rows relations p))
 
 abbrev μ-loop : tie.MeasureT-loop
-μ-loop rows₀ relations₀ equations side count p₀ refusal₀ left₀ rows relations p refusal left = left
+μ-loop rows₀ relations₀ equations side count m span p₀ refusal₀ left₀ rows relations p refusal left = left
 
 start-requires : tie.Need-start-requires Inv-loop μ-loop
 start-requires c κs = search needs
 
 enough-requires : tie.Need-enough-requires Inv-loop μ-loop
-enough-requires c κs = c .before .pre .0
+enough-requires c κs = c .before .pre .0 .0
 
 loop-holds : tie.Need-loop-holds Inv-loop μ-loop
+unfolding stateOf
 loop-holds c =
     let start = c .before .before in
     let args = start .args in
-    rw (c .before .start .ensures)
-    (run-starts (sideOf (args .side)) (args .equations) (args .count) (c .enough .result) (now (args .rows)) (now (args .relations))
-    (start .pre .0) (start .pre .1) (start .pre .2) (c .enough .ensures))
+    rw (c .before .start .ensures) (
+      run-starts (sideOf (args .side)) (args .equations) (args .count) (c .enough .result) (now (args .rows)) (now (args .relations))
+          (start .pre .0 .0) (start .pre .0 .1) (start .pre .0 .2) (c .enough .ensures),
+      λ e. start .pre .1 .1,
+    )
 
 -- what the tests of a turn say
 module _ (c : tie.Then2 Inv-loop μ-loop) where
@@ -48,8 +55,10 @@ module _ (c : tie.Then2 Inv-loop μ-loop) where
 step-requires : tie.Need-step-requires Inv-loop μ-loop
 step-requires c κs =
     let turn = c .before .before in
-    let at = head turn .loop .inv in
-    (at .reached .ready, one-left turn, omega (arith, at .reached .few-shifts))
+    let at = head turn .loop .inv in (
+      (at .0 .reached .ready, one-left turn, omega (arith, at .0 .reached .few-shifts)),
+      (head turn .before .before .before .pre .1 .0, at .1 (eqb-true _ _ (turn .before .before .if1 .taken))),
+    )
 
 sub-left : tie.Need-sub-left Inv-loop μ-loop
 sub-left c = let turn = c .before .before .before .before .before .before in omega (arith, turn .before .before .before .loop-test .taken)
@@ -62,8 +71,12 @@ loop-again c =
     let step = c .before .before .before .step in
     let turn = c .before .before .before .before .before .before in
     let asked = turn .before .before in
-    run-goes (head turn .loop .inv) (asked .before .loop-test .taken) (eqb-true _ _ (asked .if1 .taken)) (one-left turn) (step .ensures .0)
-    (step .ensures .1)
+    let at = head turn .loop .inv in
+    let args = head turn .before .before .before .args in
+    let fine = eqb-true _ _ (asked .if1 .taken) in (
+      run-goes (at .0) (asked .before .loop-test .taken) fine (one-left turn) (step .ensures .0) (step .ensures .1),
+      λ e. unused-after (args .m) (args .span) (at .0 .reached .ready) (sideOf (args .side)) (one-left turn) (step .ensures .0) (step .ensures .1) e (at .1 fine),
+    )
 
 -- what the loop's end says
 stopped : (c : tie.Left-loop Inv-loop μ-loop)
@@ -75,13 +88,13 @@ stopped c = elim (c .loop-test .came) [
 ]
 
 same-length : tie.Need-same-length Inv-loop μ-loop
-same-length c = c .before .before .loop .inv .reached .rows-kept .same-length
+same-length c = c .before .before .loop .inv .0 .reached .rows-kept .same-length
 
 same-length-2 : tie.Need-same-length-2 Inv-loop μ-loop
-same-length-2 c = c .before .before .loop .inv .reached .relations-kept .same-length
+same-length-2 c = c .before .before .loop .inv .0 .reached .relations-kept .same-length
 
 returns : tie.Need-returns Inv-loop μ-loop
-returns c = run-stops (c .before .before .loop .inv) (stopped (c .before))
+returns c = run-stops (c .before .before .loop .inv .0) (stopped (c .before))
 
 pub steps-spec : {M : Type 1} → statement M
 steps-spec =

@@ -16,8 +16,8 @@ use Rattle.algebra.specs.Roots.{roots}
 use Rattle.rules.specs.Limits.{columnCount, rowLength, small}
 use Rattle.rules.specs.Rows.{entry, combine, primitive}
 use Rattle.lists.specs.Tests.{every}
-use Rattle.rules.specs.Stores.{rowOf}
-use Rattle.rules.specs.Elimination.{Side, Limited, limitDegrees, consistent, Multipliers, multipliers, multipliersAt, listing, combineStep}
+use Rattle.rules.specs.Stores.{rowOf, unusedZero}
+use Rattle.rules.specs.Elimination.{Side, Limited, limitDegrees, consistent, Multipliers, multipliersAt, listing, combineStep}
 use Rattle.roots.specs.declared.RootList.{RootList}
 use Rattle.roots.specs.RootSearch.{listed, held, held-of, roots-few}
 use Rattle.combinations.specs.InPlace.{placed}
@@ -30,16 +30,14 @@ use Rattle.sides.specs.Relations.{Relisted}
 use Rattle.reduction.specs.MultiplierSizes.{Sixteen, multipliers-fit, roots-small}
 use Rattle.reduction.specs.NewRows.{Storable, row-room, combined-storable}
 use Rattle.reduction.specs.StoreExchange.{numbersAt, length-numbersAt, small-numbersAt, length-entry, small-entry}
-use Rattle.reduction.specs.StepLaws.{multipliersIn, newRow, multipliers-in, combine-refused, combine-reached}
+use Rattle.reduction.specs.StepLaws.{multipliersOf, multipliersIn, newRow, multipliers-in, combine-refused, combine-reached}
 use Rattle.reduction.specs.StepLaws.{refused-reached, reached-same}
+use Rattle.reduction.specs.Unused.{unused-row}
 use Rattle.reduction.proofs.step.combine_step.Statement.{statement}
 use Rattle.reduction.proofs.step.combine_step.Tie as tie
 
 abbrev Small : List ℤ → Type 0
 Small l = T (every small l)
-
-abbrev multipliersOf : ℕ → List ℤ → List ℤ → Multipliers
-multipliersOf c target pivot = multipliers (entry (rowOf pivot) c) (entry (rowOf target) c)
 
 abbrev NotBoth : ℕ → List ℤ → List ℤ → Type 0
 NotBoth c target pivot = T (not (isZero (entry (rowOf pivot) c ++ entry (rowOf target) c)))
@@ -84,6 +82,10 @@ module _ (c : tie.Start) where
 
   room : (k : ℕ) → k < n → k * rowLength + rowLength ≤ length rows
   room k h = omega (arith, row-room n k rows (ready .rows-within) h, ready .rows-within .long)
+
+  -- the places of a row that are not in use
+  unused : (k : ℕ) → k < n → T (unusedZero (c .args .m) (c .args .span) (rowOf (numbersAt rows k)))
+  unused k h = unused-row (c .args .m) (c .args .span) ready k h (c .pre .1 .2)
 
   -- the two rows and their entries
   abbrev target : List ℤ
@@ -134,60 +136,61 @@ module _ (c : tie.Start) where
   storable : Storable new
   storable = combined-storable (x .g) (x .h) target pivot (omega (arith, fits .0 .0)) target-long
 
--- the multipliers
-module _ (c : tie.After-multipliers-at) where
+-- the multipliers and their roots
+module _ (c : tie.After-put-multipliers-at) where
   abbrev start : tie.Start
-  start = c .before .before .before .before .before
+  start = c .before .before .before .before .before .before .before
 
   -- the rows, where they stand
-  target-is : now (c .before .before .row-at .result) ≡ target start
-  target-is = c .before .before .row-at .ensures .0
+  abbrev target-read : tie.After-row-at
+  target-read = c .before .before .before .before
 
-  pivot-is : now (c .before .row-at2 .result) ≡ pivot start
-  pivot-is = c .before .row-at2 .ensures .0
+  abbrev pivot-read : tie.After-row-at2
+  pivot-read = c .before .before .before
 
-  multipliers-are : multipliersOf (column start) (now (c .before .before .row-at .result)) (now (c .before .row-at2 .result)) ≡ x start
+  target-is : now (target-read .row-at .result) ≡ target start
+  target-is = target-read .row-at .ensures .0
+
+  pivot-is : now (pivot-read .row-at2 .result) ≡ pivot start
+  pivot-is = pivot-read .row-at2 .ensures .0
+
+  multipliers-are : multipliersOf (column start) (now (target-read .row-at .result)) (now (pivot-read .row-at2 .result)) ≡ x start
   multipliers-are = ap₂ (multipliersOf (column start)) target-is pivot-is
 
-  g-is : c .multipliers-at .result .g ≡ x start .g
-  g-is = ap (λ y. y .g) (c .multipliers-at .ensures) ∙ ap (λ y. y .g) multipliers-are
+  abbrev g : List ℤ
+  g = c .put-multipliers-at .last .0
 
-  h-is : c .multipliers-at .result .h ≡ x start .h
-  h-is = ap (λ y. y .h) (c .multipliers-at .ensures) ∙ ap (λ y. y .h) multipliers-are
-
-  roots-are : c .multipliers-at .result .roots ≡ listed (roots (x start .g))
-  roots-are = ap (λ y. y .roots) (c .multipliers-at .ensures) ∙ ap (λ y. listed (roots (y .g))) multipliers-are
-
--- the roots
-module _ (c : tie.After-found) where
-  abbrev multiplied : tie.After-multipliers-at
-  multiplied = c .before .before .before
-
-  abbrev base : tie.Start
-  base = start multiplied
+  abbrev h : List ℤ
+  h = c .put-multipliers-at .last .1 .0
 
   abbrev found : RootList
-  found = multiplied .multipliers-at .result .roots
+  found = c .put-multipliers-at .result
 
-  found-is : found ≡ listed (roots (x base .g))
-  found-is = roots-are multiplied
+  g-is : g ≡ x start .g
+  g-is = c .put-multipliers-at .ensures .0 ∙ ap (λ y. y .g) multipliers-are
 
-  count-is : found .count ≡ length (roots (x base .g))
+  h-is : h ≡ x start .h
+  h-is = c .put-multipliers-at .ensures .1 .0 ∙ ap (λ y. y .h) multipliers-are
+
+  found-is : found ≡ listed (roots (x start .g))
+  found-is = c .put-multipliers-at .ensures .1 .1 ∙ ap (λ y. listed (roots (y .g))) multipliers-are
+
+  count-is : found .count ≡ length (roots (x start .g))
   count-is = ap (λ f. f .count) found-is
 
-  held-is : held found ≡ roots (x base .g)
-  held-is = held-of (roots (x base .g)) found-is
+  held-is : held found ≡ roots (x start .g)
+  held-is = held-of (roots (x start .g)) found-is
 
 -- the relations, and the new row
 module _ (c : tie.After-combine-rows) where
   abbrev listing-call : tie.After-list-roots
   listing-call = c .before .before .before .before .before
 
-  abbrev rooted : tie.After-found
-  rooted = listing-call .before .before .before .before .before
+  abbrev multiplied : tie.After-put-multipliers-at
+  multiplied = listing-call .before .before .before .before .before .before .before
 
   abbrev origin : tie.Start
-  origin = base rooted
+  origin = start multiplied
 
   abbrev after : List ℤ
   after = listing-call .list-roots .last .0
@@ -195,15 +198,14 @@ module _ (c : tie.After-combine-rows) where
   relisted : Relisted (p origin .count) (target origin) (listing (side origin) (roots (x origin .g))) (relations origin) after
   relisted =
       subst₂ (λ t l. Relisted (p origin .count) t (listing (side origin) l) (relations origin) after)
-      (target-is (multiplied rooted)) (held-is rooted) (listing-call .list-roots .ensures)
+      (target-is multiplied) (held-is multiplied) (listing-call .list-roots .ensures)
 
   -- the code's multipliers are those of the definition
-  new-is : consistent (limitDegrees (primitive (combine (multiplied rooted .multipliers-at .result .g)
-      (multiplied rooted .multipliers-at .result .h) (rowOf (target origin)) (rowOf (pivot origin)))))
+  new-is : consistent (limitDegrees (primitive (combine (g multiplied) (h multiplied) (rowOf (target origin)) (rowOf (pivot origin)))))
       ≡ new origin
   new-is =
-      ap₂ (λ g h. consistent (limitDegrees (primitive (combine g h (rowOf (target origin)) (rowOf (pivot origin))))))
-      (g-is (multiplied rooted)) (h-is (multiplied rooted))
+      ap₂ (λ a b. consistent (limitDegrees (primitive (combine a b (rowOf (target origin)) (rowOf (pivot origin))))))
+      (g-is multiplied) (h-is multiplied)
 
   refusal-is : c .combine-rows .result ≡ refusalOf (new origin)
   refusal-is = c .combine-rows .ensures .0 ∙ ap refusalOf new-is
@@ -229,28 +231,40 @@ mul-row-at-2 c = search needs
 row-at-requires-2 : tie.Need-row-at-requires-2
 row-at-requires-2 c κs = let b = c .before .before .before in room b (j b) (other b)
 
-multipliers-at-requires : tie.Need-multipliers-at-requires
-multipliers-at-requires c κs =
-    let b = c .before .before .before .before in
-    let t = c .before .row-at .ensures in
-    let q = c .row-at2 .ensures in (
-      (below b, omega (arith, t .1), omega (arith, q .1)),
+slice-aggregate-put-multipliers-at : tie.Need-slice-aggregate-put-multipliers-at
+slice-aggregate-put-multipliers-at c = search needs
+
+slice-aggregate-put-multipliers-at-2 : tie.Need-slice-aggregate-put-multipliers-at-2
+slice-aggregate-put-multipliers-at-2 c = search needs
+
+put-multipliers-at-requires : tie.Need-put-multipliers-at-requires
+put-multipliers-at-requires c κs =
+    let read = c .before .before in
+    let b = read .before .before .before .before in
+    let t = read .before .row-at .ensures in
+    let q = read .row-at2 .ensures in (
+      (refl, refl),
       (
-        (subst Small (sym (t .0)) (target-small b), subst Small (sym (q .0)) (pivot-small b)),
-        subst₂ (NotBoth (column b)) (sym (t .0)) (sym (q .0)) (b .pre .1),
+        (below b, omega (arith, t .1), omega (arith, q .1)),
+        (
+          (subst Small (sym (t .0)) (target-small b), subst Small (sym (q .0)) (pivot-small b)),
+          subst₂ (NotBoth (column b)) (sym (t .0)) (sym (q .0)) (b .pre .1 .0),
+        ),
       ),
     )
 
 add-count : tie.Need-add-count
-add-count c = let e = c .before .before in omega (arith, few (base e), count-is e, ready (base e) .listing .few)
+add-count c =
+    let e = c .before .before .before .before in
+    omega (arith, few (start e), count-is e, ready (start e) .listing .few)
 
 answer-requires : tie.Need-answer-requires
 answer-requires c κs = search needs
 
 returns : tie.Need-returns
 returns c =
-    let e = c .before .before .before .before in
-    let b = base e in
+    let e = c .before .before .before .before .before .before in
+    let b = start e in
     let many : 16 < p b .count + length (roots (x b .g)) = omega (arith, count-is e, c .before .if1 .taken) in (
       reached-same refl (c .answer .ensures)
           (combine-is b ∙ combine-refused (side b) (ready b) (j b) (inside b) (settled b) (x b) many)
@@ -264,9 +278,9 @@ same-length c = search needs
 list-roots-requires : tie.Need-list-roots-requires
 list-roots-requires c κs =
     let passed = c .before in
-    let e = passed .before .before .before in
-    let b = base e in
-    let t = multiplied e .before .before .row-at .ensures in
+    let e = passed .before .before .before .before .before in
+    let b = start e in
+    let t = target-read e .row-at .ensures in
     let row = subst Small (sym (t .0)) (target-small b) in
     let values = ap (λ f. length (f .values)) (found-is e) ∙ listed-length (roots (x b .g)) (omega (arith, few b)) in (
       (ready b .listing, omega (arith, passed .if1 .left), values),
@@ -287,12 +301,15 @@ slice-aggregate-combine-rows-2 c = search needs
 
 combine-rows-requires : tie.Need-combine-rows-requires
 combine-rows-requires c κs =
-    let e = multiplied (c .before .before .before .before .before .before .before .before .before) in
+    let e = c .before .before .before .before .before .before .before .before .before .before .before in
     let b = start e in
     let g-fits = subst Sixteen (sym (g-is e)) (fits b .0) in
     let h-fits = subst Sixteen (sym (h-is e)) (fits b .1) in (
       (g-fits .0, g-fits .1, h-fits .0, h-fits .1),
-      (omega (arith, settled b), room b (i b) (inside b), target-small b, pivot-small b),
+      (
+        (omega (arith, settled b), room b (i b) (inside b), target-small b, pivot-small b),
+        (unused b (i b) (inside b), unused b (j b) (other b)),
+      ),
     )
 
 answer-requires-2 : tie.Need-answer-requires-2
@@ -309,9 +326,9 @@ returns-2 c =
     let d = c .before .before in
     let b = origin d in
     let passed = listing-call d .before .before .if1 .left in
-    let room : p b .count + length (roots (x b .g)) ≤ 16 = omega (arith, count-is (rooted d), passed) in (
+    let room : p b .count + length (roots (x b .g)) ≤ 16 = omega (arith, count-is (multiplied d), passed) in (
       reached-same (rows-are d)
-          (c .answer2 .ensures ∙ ap₂ (λ n k. answerOf n (listedProgress (p b) k)) (refusal-is d) (count-is (rooted d)))
+          (c .answer2 .ensures ∙ ap₂ (λ n k. answerOf n (listedProgress (p b) k)) (refusal-is d) (count-is (multiplied d)))
           (combine-is b)
           (combine-reached (side b) (ready b) (j b) (inside b) (settled b) (x b) (relisted d) room (storable b)),
       ap (λ o. o .done) (c .answer2 .ensures),
@@ -327,7 +344,9 @@ combine-step-spec =
     row-at-requires
     mul-row-at-2
     row-at-requires-2
-    multipliers-at-requires
+    slice-aggregate-put-multipliers-at
+    slice-aggregate-put-multipliers-at-2
+    put-multipliers-at-requires
     add-count
     answer-requires
     same-length

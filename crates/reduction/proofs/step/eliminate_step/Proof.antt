@@ -12,7 +12,7 @@ use lib.Dec.{T}
 use lib.IntN.{ℤ}
 use lib.ListN.{length}
 use Rattle.algebra.specs.Polynomials.{isZero}
-use Rattle.rules.specs.Limits.{rowLength}
+use Rattle.rules.specs.Limits.{mostSpan, rowLength}
 use Rattle.rules.specs.Rows.{width}
 use Rattle.rules.specs.Stores.{rowOf}
 use Rattle.rules.specs.Elimination.{Side, multipliersAt, combineStep}
@@ -25,6 +25,7 @@ use Rattle.reduction.specs.StoreExchange.{numbersAt, narrowed}
 use Rattle.reduction.specs.StoreExchange.{narrowed-exchanged, narrowed-same, narrowed-kept}
 use Rattle.reduction.specs.StepLaws.{metEntries, reached-after}
 use Rattle.reduction.specs.StepCases.{narrowed-ready}
+use Rattle.reduction.specs.Unused.{Unused, unused-width, narrowed-unused}
 use Rattle.reduction.proofs.step.eliminate_step.Statement.{statement}
 use Rattle.reduction.proofs.step.eliminate_step.Tie as tie
 
@@ -71,13 +72,20 @@ module _ (c : tie.Start) where
 
   -- what a combination asks of the store
   abbrev Asked : List ℤ → Type 0
-  Asked r = (Ready r relations p × (i < n) × (j < i)) × T (not (isZero (metEntries r p j)))
+  Asked r =
+      (Ready r relations p × (i < n) × (j < i))
+      × (T (not (isZero (metEntries r p j))) × (c .args .span ≤ mostSpan) × Unused (c .args .m) (c .args .span) (stateOf r relations p))
 
   asked : (r : List ℤ) → r ≡ narrowed rows i j → Asked r
-  asked r e = (
-    (subst (λ d. Ready d relations p) (sym e) (narrowed-ready side ready inside j settled), inside, settled),
-    subst (λ d. T (not (isZero (metEntries d p j)))) (sym e) (c .pre .1),
-  )
+  asked r e =
+      subst Asked (sym e) (
+        (narrowed-ready side ready inside j settled, inside, settled),
+        (
+          c .pre .1 .0,
+          c .pre .1 .1,
+          narrowed-unused (c .args .m) (c .args .span) ready i j inside other (c .pre .1 .2),
+        ),
+      )
 
   -- the outcome, for a store that is the narrowed one
   reached : (r rows' relations' : List ℤ) (o : Answer.Outcome) → r ≡ narrowed rows i j
@@ -107,7 +115,10 @@ module _ (c : tie.Joined1) where
       (c .if1 .came)
 
 width-at-requires : tie.Need-width-at-requires
-width-at-requires c κs = let b = c .before in room b (j b) (other b)
+width-at-requires c κs =
+    let b = c .before in
+    let used = b .pre .1 in
+    (room b (j b) (other b), used .1, unused-width (b .args .m) (b .args .span) (ready b) (j b) (other b) (used .2))
 
 exchange-requires : tie.Need-exchange-requires
 exchange-requires c κs = let b = c .before .before .before .before in (room b (i b) (inside b), room b (j b) (other b))

@@ -1,21 +1,38 @@
--- `reduction::step::shift_step` meets its contract: the place of the row is lent, and is back with the shifted row or as it was.
+-- `reduction::step::shift_step` meets its contract: the place of the row is lent, and is back with the shifted row or with zeros.
 -- Assumes nothing.
-use mathlib.Core.Path.{_≡_, sym, _∙_, ap}
-use Prim.Native.Nat.{_+_, _*_, _-_}
+use mathlib.Core.Path.{_≡_, sym, _∙_, ap, subst}
+use mathlib.Core.List.{List}
+use Prim.Native.Nat.{ℕ, _+_, _*_, _-_}
 use native.Mathlib.Omega.{arith}
 use borrow.Rule.Slice.PartMut.{putMid}
 use denote.Ref.{now}
-use lib.ListN.{take, drop}
+use lib.Dec.{T}
+use lib.IntN.{ℤ}
+use lib.ListN.{length, take, drop}
 use borrow.Author.Needs.{needs}
-use Rattle.rules.specs.Limits.{rowLength}
+use Rattle.lists.specs.Tests.{every}
+use Rattle.rules.specs.Limits.{rowLength, small}
 use Rattle.rules.specs.Rows.{width}
 use Rattle.rules.specs.Stores.{rowOf}
-use Rattle.working_rows.specs.Working.{numbersHeld, length-held, width-held}
-use Rattle.reduction.specs.NewRows.{shifted-storable, saved-lent}
+use Rattle.stores.specs.LentParts.{lent-long}
+use Rattle.working_rows.specs.Worked.{refusalOf, numbersOf}
+use Rattle.reduction.specs.NewRows.{shifted-storable, placed-lent}
 use Rattle.reduction.specs.StepLaws.{shiftedRow}
+use Rattle.reduction.specs.StoreExchange.{numbersAt}
 use Rattle.reduction.specs.Progress.{answerOf, shiftedProgress}
 use Rattle.reduction.proofs.step.shift_step.Statement.{statement}
 use Rattle.reduction.proofs.step.shift_step.Tie as tie
+
+-- the place of the row
+module _ (c : tie.Start) where
+  abbrev rows : List ℤ
+  rows = now (c .args .rows)
+
+  abbrev from : ℕ
+  from = c .args .p .settled * rowLength
+
+  lent-is : take (from + rowLength - from) (drop from rows) ≡ numbersAt rows (c .args .p .settled)
+  lent-is = let size : from + rowLength - from ≡ rowLength = omega arith in ap (λ n. take n (drop from rows)) size
 
 add-shift-into : tie.Need-add-shift-into
 add-shift-into c = search needs
@@ -40,14 +57,10 @@ part-shift-into-end c = search needs
 
 shift-into-requires : tie.Need-shift-into-requires
 shift-into-requires c κs =
-    let start = c .before .before .before in
-    let row = start .args .row in
-    let from = start .args .p .settled * rowLength in
-    let loaded = start .pre .1 in
-    let size : from + rowLength - from ≡ rowLength = omega arith in (
-      (loaded .full, start .pre .2, ap (λ n. take n (drop from (now (start .args .rows)))) size ∙ sym (loaded .numbers)),
-      loaded .width-is ∙ ap (λ l. width (rowOf l)) (sym (loaded .numbers))
-          ∙ width-held (row .entries) (row .right) (loaded .full .entries-long),
+    let s = c .before .before .before in (
+      lent-long (rows s) (from s) rowLength (s .pre .0),
+      subst (λ l. T (every small l)) (sym (lent-is s)) (s .pre .1),
+      s .pre .2 ∙ ap (λ l. width (rowOf l)) (sym (lent-is s)),
     )
 
 answer-requires : tie.Need-answer-requires
@@ -58,14 +71,14 @@ same-length c = search needs
 
 returns : tie.Need-returns
 returns c =
-    let start = c .before .before .before .before .before .before in
-    let row = start .args .row in
-    let from = start .args .p .settled * rowLength in
+    let s = c .before .before .before .before .before .before in
+    let i = s .args .p .settled in
     let new = c .before .before .shift-into .ensures in
-    let storable = shifted-storable (numbersHeld row) (length-held row (start .pre .1 .full)) in (
-      ap (putMid from (from + rowLength - from) (now (start .args .rows))) (new .1)
-          ∙ saved-lent (now (start .args .rows)) (start .args .p .settled) (shiftedRow (numbersHeld row)) storable,
-      c .answer .ensures ∙ ap (λ n. answerOf n (shiftedProgress (start .args .p))) (new .0),
+    let long = ap length (sym (lent-is s)) ∙ lent-long (rows s) (from s) rowLength (s .pre .0) in (
+      ap (putMid (from s) (from s + rowLength - from s) (rows s)) (new .1 ∙ ap (λ l. numbersOf (shiftedRow l)) (lent-is s))
+          ∙ placed-lent (rows s) i (shiftedRow (numbersAt (rows s) i)) (shifted-storable (numbersAt (rows s) i) long),
+      c .answer .ensures
+          ∙ ap (λ n. answerOf n (shiftedProgress (s .args .p))) (new .0 ∙ ap (λ l. refusalOf (shiftedRow l)) (lent-is s)),
     )
 
 pub shift-step-spec : {M : Type 1} → statement M

@@ -1,6 +1,6 @@
 -- `reduction::step::step` meets its contract: each way of the code is one case of the step.
 -- Assumes nothing.
-use mathlib.Core.Path.{_≡_, refl, sym, _∙_, ap, subst}
+use mathlib.Core.Path.{_≡_, refl, sym, _∙_, ap}
 use mathlib.Core.Bool.{true, false}
 use mathlib.Core.List.{List}
 use Prim.Native.Nat.{ℕ, _+_, _*_, _≤_, _<_}
@@ -8,24 +8,22 @@ use native.Mathlib.Omega.{arith}
 use borrow.Author.Needs.{needs}
 use borrow.Author.Tests.{eq-eqb, ne-eqb}
 use denote.Ref.{now}
-use lib.Dec.{T}
 use lib.IntN.{ℤ}
 use lib.ListN.{length}
-use Rattle.rules.specs.Limits.{columnCount, rowLength, small}
+use Rattle.rules.specs.Limits.{columnCount, rowLength}
 use Rattle.rules.specs.Rows.{Row, zeroLeft, width, leadingBlock, firstNonzero}
-use Rattle.lists.specs.Tests.{every}
 use Rattle.rules.specs.Stores.{rowOf, rowNeed}
 use Rattle.rules.specs.Elimination.{Side}
 use Rattle.working_rows.specs.Found.{foundOr, entriesAt}
 use Rattle.working_rows.specs.Working.{width-zero}
-use Rattle.working_rows.specs.Worked.{refusalOf, numbersOf}
 use Rattle.reduction.specs.declared.step.Progress.{Progress}
 use Rattle.sides.specs.Lent.{sideOf}
-use Rattle.reduction.specs.Progress.{Ready, answerOf, shiftedProgress}
-use Rattle.reduction.specs.NewRows.{saved, row-room}
-use Rattle.reduction.specs.StoreExchange.{numbersAt, Loaded, loaded-from, small-numbersAt}
-use Rattle.reduction.specs.StepLaws.{shiftedRow, reached-same, refused-reached, drop-reached, shift-reached}
+use Rattle.reduction.specs.Progress.{Ready, answerOf}
+use Rattle.reduction.specs.NewRows.{row-room}
+use Rattle.reduction.specs.StoreExchange.{numbersAt, small-numbersAt}
+use Rattle.reduction.specs.StepLaws.{reached-same, refused-reached, drop-reached, shift-reached}
 use Rattle.reduction.specs.StepCases.{step-zero, step-contradicts, step-met, met-nonzero, room-left, settled-reached, step-shift}
+use Rattle.reduction.specs.Unused.{unused-width}
 use Rattle.reduction.proofs.step.step.Statement.{statement}
 use Rattle.reduction.proofs.step.step.Tie as tie
 
@@ -56,13 +54,13 @@ module _ (c : tie.Start) where
   met = foundOr i (firstNonzero (entriesAt row (p .order) i))
 
   ready : Ready rows relations p
-  ready = c .pre .0
+  ready = c .pre .0 .0
 
   room : (k : ℕ) → k < n → k * rowLength + rowLength ≤ length rows
   room k h = omega (arith, row-room n k rows (ready .rows-within) h, ready .rows-within .long)
 
   inside : i < n
-  inside = c .pre .1
+  inside = c .pre .0 .1
 
   row-room-here : i * rowLength + rowLength ≤ length rows
   row-room-here = room i inside
@@ -106,16 +104,11 @@ module _ (c : tie.After-column-at) where
   column-is : foundOr columnCount (firstNonzero (leadingBlock (row origin))) ≡ c .column-at .result
   column-is = sym (c .column-at .ensures)
 
--- the row that is shifted
-module _ (c : tie.After-load) where
-  abbrev searched : tie.After-column-at
-  searched = c .before .before .before
-
-  loaded : Loaded (rows (origin searched)) (i (origin searched)) (c .load .result)
-  loaded = let b = origin searched in loaded-from (rows b) (i b) (c .load .result) (row-room-here b) (c .load .ensures)
-
 width-at-requires : tie.Need-width-at-requires
-width-at-requires c κs = row-room-here (c .before)
+width-at-requires c κs =
+    let b = c .before in
+    let used = b .pre .1 in
+    (row-room-here b, used .0, unused-width (b .args .m) (b .args .span) (ready b) (i b) (inside b) (used .1))
 
 side-zero-at-requires : tie.Need-side-zero-at-requires
 side-zero-at-requires c κs = row-room-here (start (c .before .before))
@@ -124,7 +117,7 @@ drop-step-requires : tie.Need-drop-step-requires
 unfolding rowNeed
 drop-step-requires c κs =
     let b = start (c .before .before .before .before .before) in
-    (ready b .few-rows, b .pre .1, ready b .rows-within .long)
+    (ready b .few-rows, inside b, ready b .rows-within .long)
 
 same-length : tie.Need-same-length
 same-length c = search needs
@@ -171,7 +164,11 @@ eliminate-step-requires c κs =
     let b = base d in
     let met-j = passed .if3 .taken in (
       (ready b, inside b, met-j, tested d .before .width-at .ensures),
-      met-nonzero (side b) (ready b) (inside b) (nonzero d) (d .met-at .result) (met-is d) met-j,
+      (
+        met-nonzero (side b) (ready b) (inside b) (nonzero d) (d .met-at .result) (met-is d) met-j,
+        b .pre .1 .0,
+        b .pre .1 .1,
+      ),
     )
 
 same-length-3 : tie.Need-same-length-3
@@ -206,18 +203,15 @@ settled-requires c κs =
 answer-requires-2 : tie.Need-answer-requires-2
 answer-requires-2 c κs = search needs
 
-mul-load : tie.Need-mul-load
-mul-load c = search needs
-
-load-requires : tie.Need-load-requires
-load-requires c κs = row-room-here (origin (c .before .before))
-
 shift-step-requires : tie.Need-shift-step-requires
 shift-step-requires c κs =
-    let l = c .before in
-    let b = origin (searched l) in
-    let numbers = small-numbersAt (n b) (rows b) (ready b .rows-within) (i b) (inside b) in
-    (row-room-here b, loaded l, subst (λ n. T (every small n)) (sym (loaded l .numbers)) numbers, b .pre .2)
+    let d = c .before .before in
+    let b = origin d in (
+      row-room-here b,
+      small-numbersAt (n b) (rows b) (ready b .rows-within) (i b) (inside b),
+      tested (unmet d) .before .width-at .ensures,
+      b .pre .0 .2,
+    )
 
 same-length-5 : tie.Need-same-length-5
 same-length-5 c = search needs
@@ -238,15 +232,12 @@ same-length-6 c = search needs
 
 returns-5 : tie.Need-returns-5
 returns-5 c =
-    let l = c .before .before .before in
-    let d = searched l in
+    let passed = c .before .before .before in
+    let d = passed .before in
     let b = origin d in
-    let shift = c .before .shift-step .ensures in
-    let e = loaded l .numbers in (
-      reached-same (shift .0 ∙ ap (λ l. saved (rows b) (i b) (refusalOf (shiftedRow l)) (numbersOf (shiftedRow l))) e)
-          (shift .1 ∙ ap (λ l. answerOf (refusalOf (shiftedRow l)) (shiftedProgress (p b))) e)
-          (step-shift (side b) (ready b) (inside b) (nonzero (unmet d)) (none-met d)
-          (omega (arith, column-is d, l .before .before .if4 .left)))
+    let shift = c .before .shift-step .ensures in (
+      reached-same (shift .0) (shift .1)
+          (step-shift (side b) (ready b) (inside b) (nonzero (unmet d)) (none-met d) (omega (arith, column-is d, passed .if4 .left)))
           (shift-reached (ready b) (inside b)),
       ap (λ o. o .done) (shift .1),
     )
@@ -271,8 +262,6 @@ step-spec =
     column-at-requires
     settled-requires
     answer-requires-2
-    mul-load
-    load-requires
     shift-step-requires
     same-length-5
     returns-4

@@ -7,6 +7,7 @@ use native.Mathlib.Omega.{arith}
 use borrow.Author.Needs.{needs}
 use borrow.Author.Tests.{ltb-true, ltb-false}
 use denote.Ref.{now}
+use Rattle.reduction.specs.Unused.{none-unused}
 use Rattle.steps.specs.Moving.{Moving, move-starts, moving-shifts, move-goes, move-refused, move-stops}
 use Rattle.steps.proofs.moving.take_steps.Statement.{statement}
 use Rattle.steps.proofs.moving.take_steps.Tie as tie
@@ -33,8 +34,10 @@ step-requires : tie.Need-step-requires Inv-loop μ-loop
 step-requires c κs =
     let turn = c .before .before in
     let base = head turn .before in
-    let at = head turn .loop .inv .0 in
-    (at .reached .ready, one-left turn, omega (arith, moving-shifts (base .pre .0) (base .pre .1) at))
+    let at = head turn .loop .inv .0 in (
+      (at .reached .ready, one-left turn, omega (arith, moving-shifts (base .pre .0) (base .pre .1) at)),
+      (omega arith, none-unused _ _ (head turn .loop .p)),
+    )
 
 returns : tie.Need-returns Inv-loop μ-loop
 returns c =

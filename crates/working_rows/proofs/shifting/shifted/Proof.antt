@@ -1,17 +1,19 @@
 -- `working_rows::shifting::shifted` meets its contract: the row is saved, shifted where it was saved, and loaded.
 -- Assumes nothing.
-use mathlib.Core.Path.{_≡_, sym, _∙_, ap}
+use mathlib.Core.Path.{_≡_, sym, _∙_, ap, subst}
 use native.Mathlib.Nat.{le-of-eq}
+use lib.Dec.{T}
 use lib.IntN.{pos}
-use lib.ListN.{replicate, length-replicate}
+use lib.ListN.{length, replicate, length-replicate}
 use borrow.Author.Needs.{needs}
+use Rattle.lists.specs.Tests.{every}
 use Rattle.lists.specs.Pasted.{paste-whole}
-use Rattle.rules.specs.Limits.{rowLength}
-use Rattle.rules.specs.Rows.{Row, coefficientsOf, shiftUp}
+use Rattle.rules.specs.Limits.{rowLength, small}
+use Rattle.rules.specs.Rows.{Row, coefficientsOf, shiftUp, width}
 use Rattle.rules.specs.Stores.{rowOf}
 use Rattle.rules.specs.Elimination.{Limited, within, beyond, limitCoefficients}
-use Rattle.working_rows.specs.Working.{numbersHeld, loaded, loaded-row, length-held}
-use Rattle.working_rows.specs.Worked.{refusalOf, numbersOr, workedRow, limit-zero, refused-beyond}
+use Rattle.working_rows.specs.Working.{numbersHeld, loaded, loaded-row, length-held, width-held}
+use Rattle.working_rows.specs.Worked.{refusalOf, numbersOf, workedRow, limit-zero, refused-beyond}
 use Rattle.working_rows.specs.Shifting.{shifted-held}
 use Rattle.working_rows.proofs.shifting.shifted.Statement.{statement}
 use Rattle.working_rows.proofs.shifting.shifted.Tie as tie
@@ -35,13 +37,16 @@ module _ (c : tie.After-shift-into) where
   abbrev new : Limited
   new = limitCoefficients row
 
+  held-there : c .before .before .before .save .last .0 ≡ numbersHeld (start .args .row)
+  held-there = saved (c .before .before .before)
+
   refusal-is : c .shift-into .result ≡ refusalOf new
-  refusal-is = c .shift-into .ensures .0
+  refusal-is = c .shift-into .ensures .0 ∙ ap (λ l. refusalOf (limitCoefficients (shiftUp (rowOf l)))) held-there
 
   module _ (passed : new ≡ within row) where
     numbers : c .shift-into .last .0 ≡ coefficientsOf row
-    unfolding numbersOr
-    numbers = c .shift-into .ensures .1 ∙ ap (numbersOr (c .before .before .before .save .last .0)) passed
+    unfolding numbersOf
+    numbers = c .shift-into .ensures .1 ∙ ap numbersOf (ap (λ l. limitCoefficients (shiftUp (rowOf l))) held-there ∙ passed)
 
     loaded-is : loaded (c .shift-into .last .0) 0 ≡ workedRow new
     unfolding workedRow
@@ -61,7 +66,12 @@ slice-aggregate-shift-into c = search needs
 shift-into-requires : tie.Need-shift-into-requires
 shift-into-requires c κs =
     let stored = c .before .before in
-    let pre = stored .before .before .pre in ((pre .0, pre .1, saved stored), pre .2)
+    let row = stored .before .before .args .row in
+    let pre = stored .before .before .pre in (
+      ap length (saved stored) ∙ length-held row (pre .0),
+      subst (λ l. T (every small l)) (sym (saved stored)) (pre .1),
+      pre .2 ∙ sym (ap (λ l. width (rowOf l)) (saved stored) ∙ width-held (row .entries) (row .right) (pre .0 .entries-long)),
+    )
 
 broken-requires : tie.Need-broken-requires
 broken-requires c κs = search needs

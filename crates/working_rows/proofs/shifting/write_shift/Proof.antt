@@ -1,50 +1,62 @@
--- `working_rows::shifting::write_shift` meets its contract: blocks moved up, the last one in use cleared, and the right side shifted make the
--- shifted row, and past the blocks that were moved it has only zeros, which are within ±C.
+-- `working_rows::shifting::write_shift` meets its contract: blocks moved up, the last one in use cleared, and the right side shifted make
+-- the shifted row, and past the blocks that were moved it has only zeros, which are within ±C.
 -- Assumes nothing.
-use mathlib.Core.Path.{_≡_, sym, _∙_, ap, ap₂}
+use mathlib.Core.Path.{_≡_, sym, _∙_, ap, ap₂, subst}
 use mathlib.Core.Logic.{⊎-elim}
 use mathlib.Core.Bool.{_&&_}
 use mathlib.Core.List.{List, _++_}
-use Prim.Native.Nat.{ℕ, _+_, _*_, _-_, _<_}
+use Prim.Native.Nat.{ℕ, _+_, _*_, _-_, _≤_, _<_}
 use native.Mathlib.Nat.{le-of-eq}
 use native.Mathlib.Omega.{arith}
-use borrow.Rule.Slice.PartMut.{putMid}
 use denote.Ref.{now}
 use lib.Dec.{T}
 use lib.IntN.{ℤ, pos}
-use lib.ListN.{length, drop, replicate, length-append, length-take, length-drop}
+use lib.ListN.{length, take, drop, replicate, length-append, length-drop, take-append-drop}
 use lib.Seq.{paste}
 use borrow.Author.Needs.{needs}
 use Rattle.algebra.specs.Polynomials.{isZero, shift}
-use Rattle.lists.specs.Tests.{every}
-use Rattle.rules.specs.Limits.{blockCount, blockLength, entriesLength, rowLength, small}
+use Rattle.lists.specs.Tests.{every, every-drop}
+use Rattle.rules.specs.Limits.{coefficientCount, blockCount, blockLength, entriesLength, rowLength, small}
 use Rattle.rules.specs.Rows.{coefficientsOf, shiftUp, width}
 use Rattle.rules.specs.Stores.{rowOf}
 use Rattle.working_rows.specs.Found.{zero-later, width-most, width-rest}
-use Rattle.working_rows.specs.Working.{leftPart}
-use Rattle.working_rows.specs.Shifting.{overFront, length-shiftUp, length-over, over-cleared, over-side, small-front, shifted-numbers}
+use Rattle.working_rows.specs.Working.{leftPart, left-long, width-left}
+use Rattle.working_rows.specs.Shifting.{overFront, length-shiftUp, shifted-left, shifted-numbers}
+use Rattle.working_rows.specs.Shifting.{over-cleared, side-behind, over-side, small-front}
 use Rattle.working_rows.proofs.shifting.write_shift.Statement.{statement}
 use Rattle.working_rows.proofs.shifting.write_shift.Tie as tie
 
--- the row
+-- the row, its left part and its right side
 module _ (c : tie.Start) where
+  abbrev row : List ℤ
+  row = now (c .args .place)
+
   abbrev e : List ℤ
-  e = now (c .args .entries)
+  e = take entriesLength row
 
   abbrev s : List ℤ
-  s = now (c .args .right)
+  s = drop entriesLength row
 
   abbrev full : List ℤ
   full = leftPart (shiftUp (rowOf e))
 
+  parts : e ++ s ≡ row
+  parts = take-append-drop entriesLength row
+
   long : length e ≡ entriesLength
-  long = c .pre .0 .0
+  long = left-long row (c .pre .0)
+
+  side-long : length s ≡ coefficientCount
+  side-long = rw length-drop (omega (arith, c .pre .0))
 
   full-long : length full ≡ entriesLength
   full-long = length-shiftUp e (le-of-eq (sym long))
 
-  place-long : length (now (c .args .place)) ≡ rowLength
-  place-long = ap length (c .pre .0 .2) ∙ length-append e s ∙ ap₂ _+_ long (c .pre .0 .1)
+  left-is : leftPart (shiftUp (rowOf row)) ≡ full
+  left-is = ap (λ l. leftPart (shiftUp (rowOf l))) (sym parts) ∙ shifted-left e s long
+
+  width-is : c .args .width ≡ width (rowOf e)
+  width-is = c .pre .2 ∙ sym (width-left row (c .pre .0))
 
 -- the blocks that move up
 module _ (c : tie.Joined1) where
@@ -58,12 +70,12 @@ module _ (c : tie.Joined1) where
   blocks-are = ⊎-elim (λ w. w .1) (λ w. w .1 ∙ omega (arith, w .0 .left)) (c .if1 .came)
 
   few : blocks < blockCount
-  few = omega (arith, width-most (e origin), origin .pre .1 .1, blocks-are)
+  few = omega (arith, width-most (e origin), width-is origin, blocks-are)
 
   rest : T (isZero (drop ((blocks + 1) * blockLength) (e origin)))
   rest =
-      zero-later (width (rowOf (e origin)) * blockLength) ((blocks + 1) * blockLength) (e origin) (omega (arith, origin .pre .1 .1, blocks-are))
-      (width-rest (e origin) (long origin))
+      zero-later (width (rowOf (e origin)) * blockLength) ((blocks + 1) * blockLength) (e origin)
+      (omega (arith, width-is origin, blocks-are)) (width-rest (e origin) (long origin))
 
 -- the blocks moved up
 module _ (c : tie.After-move-blocks) where
@@ -73,12 +85,13 @@ module _ (c : tie.After-move-blocks) where
   abbrev start : tie.Start
   start = origin chosen
 
+  moved-is : c .move-blocks .last .0 ≡ overFront (full start) (e start ++ s start) (blocks chosen * blockLength)
+  moved-is =
+      c .move-blocks .ensures .0
+      ∙ ap₂ (λ l d. overFront l d (blocks chosen * blockLength)) (left-is start) (sym (parts start))
+
   moved-long : length (c .move-blocks .last .0) ≡ rowLength
-  moved-long =
-      ap length (c .move-blocks .ensures .0)
-      ∙ length-over (full start) (now (start .args .place)) (blocks chosen * blockLength) (omega (arith, few chosen, full-long start))
-      (omega (arith, few chosen, place-long start))
-      ∙ place-long start
+  moved-long = c .move-blocks .kept .0 ∙ start .pre .0
 
 -- the last block in use cleared
 module _ (c : tie.After-clear) where
@@ -94,12 +107,16 @@ module _ (c : tie.After-clear) where
   cleared : c .clear .last .0 ≡ full base ++ s base
   cleared =
       c .clear .ensures
-      ∙ ap (λ d. paste d (blocks counted * blockLength) (replicate blockLength (pos 0)) blockLength)
-      (moved .move-blocks .ensures .0 ∙ ap (λ d. overFront (full base) d (blocks counted * blockLength)) (base .pre .0 .2))
+      ∙ ap (λ d. paste d (blocks counted * blockLength) (replicate blockLength (pos 0)) blockLength) (moved-is moved)
       ∙ over-cleared (e base) (s base) (long base) (blocks counted) (few counted) (rest counted)
 
   cleared-long : length (c .clear .last .0) ≡ rowLength
-  cleared-long = ap length cleared ∙ length-append (full base) (s base) ∙ ap₂ _+_ (full-long base) (base .pre .0 .1)
+  cleared-long = ap length cleared ∙ length-append (full base) (s base) ∙ ap₂ _+_ (full-long base) (side-long base)
+
+  side-is : take coefficientCount (drop entriesLength (c .clear .last .0)) ≡ s base
+  side-is =
+      ap (λ l. take coefficientCount (drop entriesLength l)) cleared
+      ∙ side-behind (e base) (s base) (long base) (blocks counted) (few counted) (rest counted) (side-long base)
 
 -- the right side shifted
 module _ (c : tie.After-put-moved) where
@@ -113,25 +130,26 @@ module _ (c : tie.After-put-moved) where
   known = counted behind
 
   abbrev new : List ℤ
-  new = coefficientsOf (shiftUp (rowOf (now (first .args .place))))
+  new = coefficientsOf (shiftUp (rowOf (row first)))
 
   numbers : full first ++ shift (s first) ≡ new
   numbers =
-      sym (shifted-numbers (e first) (s first) (long first) (first .pre .0 .1))
-      ∙ ap (λ l. coefficientsOf (shiftUp (rowOf l))) (sym (first .pre .0 .2))
+      sym (shifted-numbers (e first) (s first) (long first) (side-long first))
+      ∙ ap (λ l. coefficientsOf (shiftUp (rowOf l))) (parts first)
 
-  written : putMid entriesLength (length (behind .clear .last .0) - entriesLength) (behind .clear .last .0) (c .put-moved .last .0) ≡ new
+  written : c .put-moved .last .0 ≡ new
   written =
-      ap₂ (putMid entriesLength (length (behind .clear .last .0) - entriesLength)) (cleared behind) (c .put-moved .ensures .0)
-      ∙ over-side (e first) (s first) (long first) (blocks known) (few known) (rest known) (length (behind .clear .last .0) - entriesLength)
-      (omega (arith, cleared-long behind, first .pre .0 .1))
-      ∙ numbers
+      c .put-moved .ensures .0
+      ∙ ap₂ (λ l q. paste l entriesLength (shift q) coefficientCount) (cleared behind) (side-is behind)
+      ∙ over-side (e first) (s first) (long first) (blocks known) (few known) (rest known) (side-long first) ∙ numbers
 
   within : every small new ≡ (moved behind .move-blocks .result && c .put-moved .result)
   within =
       ap (every small) (sym numbers)
       ∙ small-front (e first) (s first) (long first) (blocks known) (few known) (rest known)
-      ∙ ap₂ _&&_ (sym (moved behind .move-blocks .ensures .1)) (sym (c .put-moved .ensures .1))
+      ∙ ap₂ _&&_
+      (sym (moved behind .move-blocks .ensures .1 ∙ ap (λ l. every small (take (blocks known * blockLength) l)) (left-is first)))
+      (sym (c .put-moved .ensures .1 ∙ ap (λ q. every small (shift q)) (side-is behind)))
 
 pascal-requires : tie.Need-pascal-requires
 pascal-requires c κs = search needs
@@ -142,7 +160,7 @@ sub-last c = search needs
 move-blocks-requires : tie.Need-move-blocks-requires
 move-blocks-requires c κs =
     let d = c .before .before in
-    let b = origin d in ((d .before .pascal .ensures, long b, b .pre .1 .0 .0), (place-long b, omega (arith, few d)))
+    let pre = origin d .pre in (d .before .pascal .ensures, pre .0, pre .1, omega (arith, few d))
 
 mul-clear : tie.Need-mul-clear
 mul-clear c = let h = few (chosen (c .before .before .before)) in search needs
@@ -150,21 +168,16 @@ mul-clear c = let h = few (chosen (c .before .before .before)) in search needs
 clear-requires : tie.Need-clear-requires
 clear-requires c κs = let m = c .before .before .before in omega (arith, moved-long m, few (chosen m))
 
-sub-put-moved : tie.Need-sub-put-moved
-sub-put-moved c = omega (arith, cleared-long (c .before))
-
-part-put-moved-start : tie.Need-part-put-moved-start
-part-put-moved-start c = omega (arith, cleared-long (c .before))
-
-part-put-moved-end : tie.Need-part-put-moved-end
-part-put-moved-end c = search needs
-
 put-moved-requires : tie.Need-put-moved-requires
 put-moved-requires c κs =
     let d = c .before .before .before in
-    let m = moved d in
-    let b = base d in
-    (chosen m .before .pascal .ensures, rw (length-take, length-drop) (omega (arith, cleared-long d)), b .pre .0 .1, b .pre .1 .0 .1)
+    let room : entriesLength + coefficientCount ≤ length (d .clear .last .0) = omega (arith, cleared-long d) in
+    let b = base d in (
+      counted d .before .pascal .ensures,
+      room,
+      room,
+      subst (λ l. T (every small l)) (sym (side-is d)) (every-drop small entriesLength (row b) (b .pre .1)),
+    )
 
 same-length : tie.Need-same-length
 same-length c = search needs
@@ -191,9 +204,6 @@ write-shift-spec =
     move-blocks-requires
     mul-clear
     clear-requires
-    sub-put-moved
-    part-put-moved-start
-    part-put-moved-end
     put-moved-requires
     same-length
     returns
