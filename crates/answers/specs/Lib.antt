@@ -2,3 +2,4 @@ pub mod Faults
 pub mod Answers
 pub mod WorkStores
 pub mod CopiedLines
+pub mod ClearedRecords

@@ -1,15 +1,22 @@
 // The answer to one sheet: read, run on the leading side and written, in stores that the caller lends. `batches` has the public entry
 // point.
+use polynomials::lengths::COEFFICIENTS;
+use stores::lengths::BLOCK;
 use stores::lengths::RELATION;
 use stores::lengths::ROW;
 use stores::validity::Sizes;
 ghost use mathlib.Core.Path.{_≡_};
-ghost use Prim.Native.Nat.{min};
+ghost use Prim.Native.Nat.{_+_, _*_, _≤_, min};
+ghost use lib.IntN.{pos};
+ghost use lib.ListN.{length, replicate};
+ghost use lib.Seq.{paste};
+ghost use Rattle.rules.specs.Limits.{coefficientCount, relationLength, mostRelations};
 ghost use Rattle.rules.specs.Stores.{withEquations, largestRows, relationNeed};
 ghost use Rattle.rules.specs.Calls.{zeros};
 ghost use Rattle.rules.specs.Batch.{mostBytes};
 ghost use Rattle.stores.specs.Validity.{sizesOf};
 ghost use Rattle.answers.specs.Answers.{callOf, answerCall};
+ghost use Rattle.answers.specs.ClearedRecords.{ZeroBetween};
 
 // The bytes of the largest sheet that answers (SCOPE 5.13).
 pub const SHEET: usize = 65536;
@@ -42,6 +49,22 @@ fn with_equations(sizes: Sizes, equations: usize) -> Sizes
         equations,
         l: sizes.l,
         t: sizes.t,
+    }
+}
+
+// So many records of one length cleared: of each its first numbers in use and its right side, between which it is zero.
+fn clear_records(store: &mut [i64], size: usize, used: usize, count: usize)
+    requires { ⌜ (used + coefficientCount ≤ size) × (size ≤ relationLength) × (count ≤ mostRelations) ⌝ }
+    requires { ⌜ (count * size ≤ length (now store)) × ZeroBetween size used count (now store) ⌝ }
+    ensures { λ _. ⌜ now (store .exit) ≡ paste (now (store .entry)) 0 (replicate (count * size) (pos 0)) (count * size) ⌝ }
+{
+    let mut i = 0;
+    while i < count {
+        let at = i * size;
+        stores::rows::clear(store, at, used);
+        let side = at + (size - COEFFICIENTS);
+        stores::rows::clear(store, side, COEFFICIENTS);
+        i += 1;
     }
 }
 
@@ -83,8 +106,9 @@ pub fn answer_in(
         sheet.relations,
         &mut output[..lent],
     );
-    stores::rows::clear(rows, 0, run.rank * ROW);
-    stores::rows::clear(relations, 0, run.relations * RELATION);
+    let blocks = (stores::validity::span(kept) + 1) * BLOCK;
+    clear_records(rows, ROW, blocks, run.rank);
+    clear_records(relations, RELATION, 1 + blocks, run.relations);
     AnswerResult {
         refusal: written.refusal,
         length: written.length,

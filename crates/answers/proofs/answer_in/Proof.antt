@@ -1,16 +1,16 @@
 -- `answers::answer_in` meets its contract: the sheet is read into the stores, run and written, or refused on the way, and the stores
 -- are zero again: a refusal has left them so, and after an answer what the run has left is cleared.
 -- Assumes nothing.
-use Prim.Native.Nat.{ℕ, _*_, _≤_}
+use Prim.Native.Nat.{ℕ, suc, _+_, _*_, _≤_}
 use native.Mathlib.Omega.{arith}
-use mathlib.Core.Path.{_≡_, sym, _∙_, ap}
+use mathlib.Core.Path.{_≡_, sym, _∙_, ap, subst}
 use mathlib.Core.Logic.{_≢_}
 use mathlib.Core.List.{List, map}
 use denote.Ref.{now}
 use lib.IntN.{ℤ}
 use lib.ListN.{length, take, drop}
 use lib.Seq.{length-take-le}
-use Rattle.rules.specs.Stores.{equations, withEquations, relationsOf, largestRows, relationNeed, checkStores}
+use Rattle.rules.specs.Stores.{Sizes, equations, withEquations, span, relationsOf, largestRows, relationNeed, checkStores}
 use Rattle.rules.specs.Layout.{SizeBounds, size-bounds, stores-valid}
 use Rattle.rules.specs.Numbers.{lines}
 use Rattle.rules.specs.Sheets.{relationLine}
@@ -26,10 +26,11 @@ use Rattle.runs.specs.Unreported.{UnreportedCall, unreportedCallOf}
 use Rattle.writing.specs.WriterChecks as WriterChecks
 use Rattle.answers.specs.Answers.{callOf, unanswered, checkIn, writeIn, call-unread, call-refused, call-written, call-checked-read}
 use Rattle.answers.specs.Answers.{call-checked-run}
+use Rattle.answers.specs.ClearedRecords.{ZeroBetween, blocks-fit, rows-between, relations-between}
 use Rattle.answers.specs.CopiedLines.{given-ordered, given-text}
 use Rattle.answers.specs.WorkStores.{Used, unread-same, read-rest, refused-zero, accepted-used}
 use borrow.Author.Needs.{needs}
-use Rattle.rules.specs.Limits.{rowLength, relationLength}
+use Rattle.rules.specs.Limits.{blockLength, entriesLength, rowLength, relationLength}
 use Rattle.answers.proofs.answer_in.Statement.{statement}
 use Rattle.answers.proofs.answer_in.Tie as tie
 
@@ -218,67 +219,123 @@ slice-aggregate-write-given c =
     let d = c .before .before .before .before .before .before .before .before .before .before .before in
     sym (length-take-le (lent .result) (output (s d)) (omega (arith, lent .ensures)))
 
+-- What the run leaves passes the checks of the writer.
+module _ (c : tie.After-with-equations) where
+  abbrev runs : tie.Else2
+  runs = c .before .before
+
+  abbrev sizes-kept : Sizes
+  sizes-kept = sizesOf (c .with-equations .result)
+
+  rank-rows : equations sizes-kept ≡ ran runs .leading-run .result .rank
+  unfolding equations withEquations
+  rank-rows = ap equations (c .with-equations .ensures)
+
+  checks : checkIn sizes-kept (ranBy (ran runs)) ≡ 0
+  unfolding ReadCalls.callOf resultOf withEquations
+  checks =
+      let d = ran runs in
+      let a = s d in
+      ap (λ z. checkIn z (ranBy d)) (c .with-equations .ensures)
+      ∙ call-checked-run (bytes a) (output a) (rows₀ a) (relations₀ a) (rows-long a) (relations-long a) (readBy (r (e d)))
+      (r (e d) .read-own .ensures .0) (e d .if1 .left) (ranBy d) (d .leading-run .ensures) (runs .if2 .left)
+
 write-given-requires : tie.Need-write-given-requires
-unfolding ReadCalls.callOf resultOf withEquations
+unfolding withEquations
 write-given-requires c κs =
-    let f = c .before .before .before .before .before .before .before in
-    let d = f .before .before .before .before in
-    let a = s d in
-    let equal = c .before .before .before .before .before .with-equations .ensures in (
-      ap (λ z. checkIn z (ranBy d)) equal
-          ∙ call-checked-run (bytes a) (output a) (rows₀ a) (relations₀ a) (rows-long a) (relations-long a) (readBy (r (e d)))
-          (r (e d) .read-own .ensures .0) (e d .if1 .left) (ranBy d) (d .leading-run .ensures) (f .if2 .left),
+    let q = c .before .before .before .before .before in
+    let f = runs q in
+    let equal = q .with-equations .ensures in (
+      checks q,
       (
         kept f .kept,
         given-text (lines-read f) (bounds f)
             ∙ ap (λ es. lines (map (relationLine (sizesOf (given f .sheet .sizes) .l)) es)) (sym (kept f .same))
-            ∙ ap (λ z. lines (map (relationLine (z .l)) (relationsOf (given f .sheet .relations) (ranBy d .relationStore)))) (sym equal),
+            ∙ ap (λ z. lines (map (relationLine (z .l)) (relationsOf (given f .sheet .relations) (ranBy (ran f) .relationStore)))) (sym equal),
       ),
     )
 
 -- What the run has left is cleared.
 module _ (c : tie.After-write-given) where
+  abbrev q : tie.After-with-equations
+  q = c .before .before .before .before .before .before
+
   abbrev f : tie.Else2
-  f = c .before .before .before .before .before .before .before .before
+  f = runs q
 
   abbrev d : tie.After-leading-run
-  d = f .before .before .before .before
+  d = ran f
 
   left : Used (r (e d) .read-own .result .sheet .relations) (relations (r (e d))) (ranBy d)
   left = used d (f .if2 .left)
 
-mul-clear : tie.Need-mul-clear
+span-requires : tie.Need-span-requires
+span-requires c κs = WriterChecks.checked _ _ _ _ _ (checks (q (c .before .before))) .sizes
+
+-- The numbers of the blocks in use.
+module _ (c : tie.After-span) where
+  abbrev wrote : tie.After-write-given
+  wrote = c .before .before .before
+
+  abbrev blocks : ℕ
+  blocks = (c .span .result + 1) * blockLength
+
+  many : blocks ≡ suc (span (sizes-kept (q wrote))) * blockLength
+  many = omega (arith, c .span .ensures)
+
+  fit : blocks ≤ entriesLength
+  fit = blocks-fit _ _ _ _ _ (checks (q wrote)) blocks many
+
+  rows-zero : ZeroBetween rowLength blocks (d wrote .leading-run .result .rank) (ranBy (d wrote) .rowStore)
+  rows-zero =
+      subst (λ n. ZeroBetween rowLength blocks n (ranBy (d wrote) .rowStore)) (rank-rows (q wrote))
+      (rows-between _ _ _ _ _ (checks (q wrote)) blocks many)
+
+  relations-zero : ZeroBetween relationLength (1 + blocks) (d wrote .leading-run .result .relations) (ranBy (d wrote) .relationStore)
+  relations-zero = relations-between _ _ _ _ _ (checks (q wrote)) blocks many
+
+add-blocks : tie.Need-add-blocks
+add-blocks c = omega (arith, fit c)
+
+mul-blocks : tie.Need-mul-blocks
+mul-blocks c = omega (arith, fit c)
+
+clear-records-requires : tie.Need-clear-records-requires
 unfolding equations sizesOf
-mul-clear c = omega (arith, left (c .before .before .before .before) .few-rows)
+clear-records-requires c κs =
+    let p = c .before in
+    let w = wrote p in (
+      (omega (arith, fit p), omega arith, omega (arith, left w .few-rows)),
+      (omega (arith, left w .few-rows, rows-after (d w)), rows-zero p),
+    )
 
-clear-requires : tie.Need-clear-requires
-unfolding equations sizesOf
-clear-requires c κs = let w = c .before .before .before .before in omega (arith, left w .few-rows, rows-after (d w))
+add-clear-records : tie.Need-add-clear-records
+add-clear-records c = omega (arith, fit (c .before .before .before .before))
 
-mul-clear-2 : tie.Need-mul-clear-2
-mul-clear-2 c = omega (arith, left (c .before .before .before .before .before .before .before .before) .few)
-
-clear-requires-2 : tie.Need-clear-requires-2
-clear-requires-2 c κs =
-    let w = c .before .before .before .before .before .before .before .before in
-    omega (arith, left w .few, relations-after (d w))
+clear-records-requires-2 : tie.Need-clear-records-requires-2
+clear-records-requires-2 c κs =
+    let p = c .before .before .before .before in
+    let w = wrote p in (
+      (omega (arith, fit p), omega arith, left w .few),
+      (omega (arith, left w .few, relations-after (d w)), relations-zero p),
+    )
 
 -- The stores are as they were lent.
 module _ (c : tie.After-relations3) where
   abbrev w : tie.After-write-given
-  w = c .before .before .before .before .before .before .before .before .before .before
+  w = c .before .before .before .before .before .before .before .before .before
 
-  rows-back : c .before .before .before .before .before .clear .last .0 ≡ rows₀ (s (d w))
+  rows-back : c .before .before .before .before .clear-records .last .0 ≡ rows₀ (s (d w))
   unfolding equations sizesOf
   rows-back =
-      c .before .before .before .before .before .clear .ensures
+      c .before .before .before .before .clear-records .ensures
       ∙ zero-again (d w .leading-run .result .rank * rowLength) largestRows _ (omega (arith, left w .few-rows)) (left w .rows-rest)
       ∙ sym (s (d w) .pre .0)
 
-  relations-back : c .before .clear2 .last .0 ≡ relations₀ (s (d w))
+  relations-back : c .before .clear-records2 .last .0 ≡ relations₀ (s (d w))
   unfolding sizesOf
   relations-back =
-      c .before .clear2 .ensures
+      c .before .clear-records2 .ensures
       ∙ zero-again (d w .leading-run .result .relations * relationLength) relationNeed _ (omega (arith, left w .few))
       (left w .relations-rest)
       ∙ sym (s (d w) .pre .1)
@@ -330,10 +387,12 @@ answer-in-spec =
     slice-relend-prefix-write-given
     slice-aggregate-write-given
     write-given-requires
-    mul-clear
-    clear-requires
-    mul-clear-2
-    clear-requires-2
+    span-requires
+    add-blocks
+    mul-blocks
+    clear-records-requires
+    add-clear-records
+    clear-records-requires-2
     same-length-5
     same-length-6
     same-length-7
