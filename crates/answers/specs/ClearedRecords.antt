@@ -22,7 +22,8 @@ use Rattle.lists.specs.Parts.{held-every}
 use Rattle.lists.specs.Pasted.{paste-rest}
 use Rattle.lists.specs.Taken.{drop-take, part-of-part}
 use Rattle.algebra.specs.Polynomials.{isZero, zero-list}
-use Rattle.rules.specs.Limits.{coefficientCount, columnCount, polynomialCount, blockCount, blockLength, entriesLength, rowLength, relationLength}
+use Rattle.rules.specs.Limits.{coefficientCount, columnCount, polynomialCount, blockCount, blockLength, entriesLength, rowLength}
+use Rattle.rules.specs.Limits.{relationLength}
 use Rattle.rules.specs.Calls.{zeros}
 use Rattle.rules.specs.Stores.{Sizes, equations, span, rowOf, rowsOf, relationOf, relationsOf, rowRight, relationRight}
 use Rattle.rules.specs.Layout.{NumbersRight, numbersRight-iff, coefficientsAt}

@@ -251,7 +251,8 @@ write-given-requires c κs =
         kept f .kept,
         given-text (lines-read f) (bounds f)
             ∙ ap (λ es. lines (map (relationLine (sizesOf (given f .sheet .sizes) .l)) es)) (sym (kept f .same))
-            ∙ ap (λ z. lines (map (relationLine (z .l)) (relationsOf (given f .sheet .relations) (ranBy (ran f) .relationStore)))) (sym equal),
+            ∙ ap (λ z. lines (map (relationLine (z .l)) (relationsOf (given f .sheet .relations) (ranBy (ran f) .relationStore))))
+            (sym equal),
       ),
     )
 

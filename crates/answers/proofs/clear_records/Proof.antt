@@ -15,7 +15,8 @@ use Rattle.answers.proofs.clear_records.Statement.{statement}
 use Rattle.answers.proofs.clear_records.Tie as tie
 
 abbrev Inv-loop : tie.InvT-loop
-Inv-loop store₀ size used count i₀ store i = (i ≤ count) × ((length store ≡ length store₀) × (store ≡ clearedTo store₀ size count (i * size)))
+Inv-loop store₀ size used count i₀ store i =
+    (i ≤ count) × ((length store ≡ length store₀) × (store ≡ clearedTo store₀ size count (i * size)))
 
 abbrev μ-loop : tie.MeasureT-loop
 μ-loop store₀ size used count i₀ store i = count - i
