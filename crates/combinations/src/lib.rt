@@ -246,7 +246,7 @@ fn content_with(p: &[i64], d: u64) -> u64
     if d == 1 {
         return 1;
     }
-    integers::gcd(polynomials::content::content(p), d)
+    polynomials::content::content_with(d, p)
 }
 
 // What is known of numbers and of those before them, whose content is d.

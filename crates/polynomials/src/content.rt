@@ -117,12 +117,13 @@ fn with_divisor(d: u64, a: i64) -> u64
     integers::gcd(integers::magnitude(a), d)
 }
 
-// Once the greatest common divisor is 1, the coefficients that are left do not matter; nor do zeros at the top.
-pub fn content(p: &[i64]) -> u64
-    ensures { λ r. ⌜ r ≡ Gcd.content (now (p .entry)) ⌝ }
+// The greatest common divisor of a number and all coefficients. Once it is 1, those that are left do not matter; below the zeros at the top
+// there are few.
+pub fn content_with(start: u64, p: &[i64]) -> u64
+    ensures { λ r. ⌜ r ≡ Gcd.gcd start (Gcd.content (now (p .entry))) ⌝ }
 {
     let n = without_fours(p);
-    let mut d = 0;
+    let mut d = start;
     let mut i = 0;
     while i < n {
         d = with_divisor(d, p[i]);
@@ -134,6 +135,13 @@ pub fn content(p: &[i64]) -> u64
     d
 }
 
+// That of the coefficients alone.
+pub fn content(p: &[i64]) -> u64
+    ensures { λ r. ⌜ r ≡ Gcd.content (now (p .entry)) ⌝ }
+{
+    content_with(0, p)
+}
+
 // Where that of a is 1, b does not matter.
 pub fn content_of_both(a: &[i64], b: &[i64]) -> u64
     ensures { λ r. ⌜ r ≡ Gcd.content (now (a .entry) ++ now (b .entry)) ⌝ }
@@ -142,7 +150,7 @@ pub fn content_of_both(a: &[i64], b: &[i64]) -> u64
     if first == 1 {
         return 1;
     }
-    integers::gcd(first, content(b))
+    content_with(first, b)
 }
 
 // Every coefficient divided by d, toward zero, where it stands: exact where d divides them all.

@@ -13,16 +13,13 @@ returns c =
     let p = content (now (c .before .args .p)) in
     sym (ap (gcd p) (c .if1 .taken) ∙ gcd-comm p 1 ∙ one-gcd p)
 
-content-requires : tie.Need-content-requires
-content-requires c κs = search needs
-
-gcd-requires : tie.Need-gcd-requires
-gcd-requires c κs = search needs
+content-with-requires : tie.Need-content-with-requires
+content-with-requires c κs = search needs
 
 returns-2 : tie.Need-returns-2
 returns-2 c =
-    let d = c .before .before .before .args .d in
-    c .gcd .ensures ∙ ap (λ m. gcd m d) (c .before .content .ensures)
+    let s = c .before .before in
+    c .content-with .ensures ∙ gcd-comm (s .args .d) (content (now (s .args .p)))
 
 pub content-with-spec : {M : Type 1} → statement M
-content-with-spec = tie.close (tie.spec returns content-requires gcd-requires returns-2)
+content-with-spec = tie.close (tie.spec returns content-with-requires returns-2)

@@ -29,16 +29,11 @@ returns c =
     let first = c .before in
     sym (joined first ∙ ap (λ n. gcd n (content (b first))) (c .if1 .taken) ∙ one-gcd (content (b first)))
 
-content-requires-2 : tie.Need-content-requires-2
-content-requires-2 c κs = search needs
-
-gcd-requires : tie.Need-gcd-requires
-gcd-requires c κs = search needs
+content-with-requires : tie.Need-content-with-requires
+content-with-requires c κs = search needs
 
 returns-2 : tie.Need-returns-2
-returns-2 c =
-    let first = c .before .before .before in
-    c .gcd .ensures ∙ ap (gcd (first .content .result)) (c .before .content2 .ensures) ∙ sym (joined first)
+returns-2 c = c .content-with .ensures ∙ sym (joined (c .before .before))
 
 pub content-of-both-spec : {M : Type 1} → statement M
-content-of-both-spec = tie.close (tie.spec content-requires returns content-requires-2 gcd-requires returns-2)
+content-of-both-spec = tie.close (tie.spec content-requires returns content-with-requires returns-2)
