@@ -1,7 +1,10 @@
 // Prints what the library gives on systems of known result (SCOPE 7). Standard input has the cases: for each a line
 // `leading BYTES` or `trailing BYTES` and a sheet of that many bytes. Each is read, run on that side, and answered by a
-// line `leading REFUSAL relations R shifts S root N rank W mult M` or `trailing REFUSAL shifts S root N rank W mult M`, N a number
-// or `none` and M how often it occurs, and, where the refusal is 0, by the sheet that the run leaves: W equations, and their column order.
+// line `leading REFUSAL relations R shifts S root N rank W mult M` or `trailing REFUSAL shifts S root N rank W mult M`,
+// N a number or `none` and M how often it occurs. Where the refusal is 0, more lines follow: `diagonal J: COEFFICIENTS`
+// for each of the W equations, then `right J: COEFFICIENTS` for each, its diagonal polynomial and its right side from
+// power 0 up, as the access to the row store gives them (SCOPE 3.41, 3.45); then the sheet that the run leaves: W
+// equations, and their column order.
 use elimination::RunResult;
 use printing::print;
 use printing::print_signed;
@@ -104,11 +107,58 @@ fn print_result(r: RunResult, trailing: bool) {
     print(b"\n");
 }
 
+// The coefficients from power 0 up to the highest that is not 0; that of power 0 in any case.
+fn print_polynomial(p: &[i64]) {
+    let degree = polynomials::content::degree(p);
+    let mut power = 0;
+    while power < p.len() && power <= degree {
+        print_signed(p[power]);
+        power += 1;
+    }
+    print(b"\n");
+}
+
+// The word and number that a line begins with.
+fn print_label(word: &[u8], row: usize) {
+    print(word);
+    print_size(row as u64);
+    print(b":");
+}
+
+// The polynomial of each row in the block and in the row's own column (SCOPE 2.72, 2.93).
+fn print_diagonal(rows: &[i64], sizes: Sizes, block: i64, order: [usize; 4]) {
+    let mut row = 0;
+    while row < 4 && row < sizes.equations {
+        let column = order[row];
+        row += 1;
+        print_label(b"diagonal", row);
+        print_polynomial(elimination::polynomial(rows, sizes, row, block, column));
+    }
+}
+
+fn print_right_sides(rows: &[i64], sizes: Sizes) {
+    let mut row = 0;
+    while row < sizes.equations {
+        row += 1;
+        print_label(b"right", row);
+        print_polynomial(elimination::right_side(rows, sizes, row));
+    }
+}
+
 fn print_sheet(rows: &[i64], relations: &[i64], sizes: Sizes, count: usize, order: [usize; 4]) {
     let mut bytes = io::large_buffer();
     let written = sheets::write_sheet(rows, relations, sizes, count, order, &mut bytes);
     let length = written.length;
     print(&bytes[..length]);
+}
+
+// What an accepted run leaves: on the leading side the diagonal stands in block l, on the trailing side in block t.
+fn print_accepted(rows: &[i64], relations: &[i64], sizes: Sizes, r: RunResult, trailing: bool) {
+    let order = r.order;
+    let block = if trailing { sizes.t } else { sizes.l };
+    print_diagonal(rows, sizes, block, order);
+    print_right_sides(rows, sizes);
+    print_sheet(rows, relations, sizes, r.relations, order);
 }
 
 fn run_side(
@@ -151,14 +201,13 @@ fn run_sheet(sheet: &[u8], trailing: bool) {
     let r = run_side(&mut rows, &mut relations, sizes, read.relations, trailing);
     print_result(r, trailing);
     if r.refusal == 0 {
-        let order = r.order;
         let kept = Sizes {
             m: sizes.m,
             equations: r.rank,
             l: sizes.l,
             t: sizes.t,
         };
-        print_sheet(&rows, &relations, kept, r.relations, order);
+        print_accepted(&rows, &relations, kept, r, trailing);
     }
 }
 
