@@ -1,6 +1,7 @@
 // The batch program (SCOPE 5.41): each piece of standard input is handed to `batches::piece`, and what comes out is
 // written before more is read. What is written for which input is proved of the calls of `batches`; that these loops
-// hand over every byte that was read, in order, and write every byte that came out, is for the reader's eye.
+// hand over every byte that was read, in order, and write every byte that came out, is for the reader's eye. A read
+// that fails is not the end of the input: nothing is written after it.
 use batches::ANSWER;
 use batches::HELD;
 use libc::STDERR_FILENO;
@@ -26,6 +27,19 @@ fn room() -> [u8; 2 * ANSWER]
     [0; 2 * ANSWER]
 }
 
+// Input, read into the store: the number of bytes, 0 at the end of the input. Where that fails, the number is negative,
+// and standard error says so.
+fn get(input: &mut [u8]) -> isize {
+    let got = libc::read(STDIN_FILENO, input);
+    if got < 0 {
+        io::write_all(
+            STDERR_FILENO,
+            b"regularise: standard input cannot be read\n",
+        );
+    }
+    got
+}
+
 // Output, written at once. Where that fails, standard error says so.
 fn put(text: &[u8]) -> bool {
     let written = io::write_all(STDOUT_FILENO, text);
@@ -38,10 +52,10 @@ fn put(text: &[u8]) -> bool {
     written
 }
 
-// How the batch stands, and whether all output could be written.
+// How the batch stands, and whether a read or a write has failed.
 struct Passed {
     stream: batches::Stream,
-    written: bool,
+    failed: bool,
 }
 
 // A piece of the input, handed over in as many calls as its answers need.
@@ -59,13 +73,13 @@ fn pass(start: batches::Stream, held: &mut [u8], input: &[u8], output: &mut [u8]
         if !put(&output[..length]) {
             return Passed {
                 stream,
-                written: false,
+                failed: true,
             };
         }
     }
     Passed {
         stream,
-        written: true,
+        failed: false,
     }
 }
 
@@ -77,24 +91,26 @@ fn over(stage: batches::Stage) -> bool {
     }
 }
 
-// A proved loop has to end, and nothing says that the input does: the turns are counted down from a number that no run uses up.
+// A proved loop has to end, and nothing says that the input does: the turns are counted down from a number that no run
+// uses up.
 fn pass_all(held: &mut [u8], input: &mut [u8], output: &mut [u8]) -> Passed
     requires { ⌜ (heldNeed ≤ length (now held)) × (answerRoom ≤ length (now output)) ⌝ }
 {
     let mut passed = Passed {
         stream: batches::start(),
-        written: true,
+        failed: false,
     };
     let mut turns = u64::MAX;
     while 0 < turns {
-        let got = libc::read(STDIN_FILENO, input);
-        let count = io::count(got, input);
-        if count == 0 {
+        let got = get(input);
+        if got <= 0 {
+            passed.failed = got < 0;
             return passed;
         }
+        let count = io::count(got, input);
         let stream = passed.stream;
         passed = pass(stream, held, &input[..count], output);
-        if !passed.written {
+        if passed.failed {
             return passed;
         }
         let after = passed.stream;
@@ -112,7 +128,7 @@ fn main() {
     let mut input = io::large_buffer();
     let mut output = room();
     let passed = pass_all(&mut held, &mut input, &mut output);
-    if passed.written {
+    if !passed.failed {
         let last = batches::finish(passed.stream, &mut output);
         put(&output[..last.length]);
     }

@@ -1,4 +1,4 @@
--- `induce::main` is safe and ends: the line and the sheet lie in their stores.
+-- `induce::answer` is safe and ends: the line and the sheet lie in their stores.
 -- Assumes nothing.
 use Prim.Native.Nat.{_≤_}
 use mathlib.Core.Path.{_≡_, sym, _∙_}
@@ -9,29 +9,14 @@ use lib.Seq.{length-take-le}
 use Rattle.frames.specs.Pieces.{refusalLine, textRoom}
 use Rattle.frames.specs.PieceSizes.{text-fits}
 use Rattle.differential.specs.SheetCalls.{recurrence-length}
-use Rattle.induce.proofs.main.Statement.{statement}
-use Rattle.induce.proofs.main.Tie as tie
-
-input-requires : tie.Need-input-requires
-input-requires c κs = search needs
-
-slice-aggregate-read-full : tie.Need-slice-aggregate-read-full
-slice-aggregate-read-full c = search needs
-
-read-full-requires : tie.Need-read-full-requires
-read-full-requires c κs = search needs
+use Rattle.induce.proofs.answer.Statement.{statement}
+use Rattle.induce.proofs.answer.Tie as tie
 
 room-requires : tie.Need-room-requires
 room-requires c κs = search needs
 
-array-share-prefix-sheet : tie.Need-array-share-prefix-sheet
-array-share-prefix-sheet c = search needs
-
 slice-aggregate-write-recurrence : tie.Need-slice-aggregate-write-recurrence
 slice-aggregate-write-recurrence c = search needs
-
-slice-aggregate-write-recurrence-2 : tie.Need-slice-aggregate-write-recurrence-2
-slice-aggregate-write-recurrence-2 c = search needs
 
 write-recurrence-requires : tie.Need-write-recurrence-requires
 write-recurrence-requires c κs = search needs
@@ -84,17 +69,12 @@ returns c = search needs
 returns-2 : tie.Need-returns-2
 returns-2 c = search needs
 
-pub main-spec : {M : Type 1} → statement M
-main-spec =
+pub answer-spec : {M : Type 1} → statement M
+answer-spec =
     tie.close
     (tie.spec
-    input-requires
-    slice-aggregate-read-full
-    read-full-requires
     room-requires
-    array-share-prefix-sheet
     slice-aggregate-write-recurrence
-    slice-aggregate-write-recurrence-2
     write-recurrence-requires
     refusal-line-requires
     array-share-prefix-text
