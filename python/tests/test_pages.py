@@ -9,7 +9,8 @@ import unittest
 import made
 import wurgalm
 
-MODULES = ["wurgalm", *(f"wurgalm.{name}" for name in ("calls", "differential", "library", "logs", "refusals", "systems"))]
+NAMES = ("arguments", "calls", "differential", "library", "logs", "refusals", "systems")
+MODULES = ["wurgalm", *(f"wurgalm.{name}" for name in NAMES)]
 WITH_SYMPY = ["wurgalm.expressions"]
 
 
