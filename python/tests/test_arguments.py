@@ -1,9 +1,11 @@
 """What is no argument is refused by its name, with a TypeError or a ValueError, and never read as something else."""
 import subprocess
 import sys
+import tempfile
 import unittest
 from array import array
 from fractions import Fraction
+from pathlib import Path
 
 import made
 import wurgalm
@@ -303,6 +305,16 @@ class Missing(unittest.TestCase):
             files = [line for line in frames if line.lstrip().startswith("File ")]
             self.assertTrue(len(files) == 2 and files[1].split('"')[1].endswith("wurgalm/__init__.py"), done.stderr)
             self.assertNotIn("During handling", done.stderr)
+
+    def test_a_package_without_its_library(self):
+        with tempfile.TemporaryDirectory() as folder:
+            for path in library.path().parent.glob("*.py"):
+                (Path(folder) / "wurgalm").mkdir(exist_ok=True)
+                (Path(folder) / "wurgalm" / path.name).write_bytes(path.read_bytes())
+            words = [sys.executable, "-B", "-S", "-c", "import wurgalm.calls"]
+            done = subprocess.run(words, env={"PYTHONPATH": folder}, capture_output=True, text=True)
+            last = done.stderr.splitlines()[-1]
+            self.assertRegex(last, "^ImportError: .*/wurgalm/libwurgalm.so is not there: run `rt check exports")
 
     def test_a_library_without_the_calls(self):
         import _ctypes

@@ -4,10 +4,12 @@ exception.
 Differential equations are taken wherever a system is worked, as the recurrence for the coefficients of their series,
 which the library makes (`read_differential`). Each call has stores of its own, so calls in several threads do not meet.
 """
+import os
 from collections.abc import Iterable, Iterator, Sequence
 from dataclasses import dataclass
 from threading import Lock
 from typing import Any, Literal
+from weakref import WeakSet
 
 from . import library
 from .arguments import instance, shown, wanted, whole
@@ -238,9 +240,7 @@ class Steps:
 
     def __init__(self, system: System, state: State) -> None:
         """The run that goes on from this state. What no run can go on from is refused with 11."""
-        self.progress = run_steps(system, state, 0)
-        self._refused: Refused | None = None
-        self._taking = Lock()
+        self.__setstate__((run_steps(system, state, 0), None))
 
     @property
     def finished(self) -> bool:
@@ -272,7 +272,17 @@ class Steps:
 
     def __setstate__(self, kept: tuple[Progress, Refused | None]) -> None:
         self.progress, self._refused = kept
+        self._free()
+        _RUNS.add(self)
+
+    def _free(self) -> None:
         self._taking = Lock()
+
+
+_RUNS: "WeakSet[Steps]" = WeakSet()
+if hasattr(os, "register_at_fork"):
+    # A thread that was taking steps is not there in a forked process, and the run is as it was before its call.
+    os.register_at_fork(after_in_child=lambda: [steps._free() for steps in _RUNS])
 
 
 def prepare(system: System | Differential) -> Steps:
