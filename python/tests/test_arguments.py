@@ -1,4 +1,5 @@
 """What is no argument is refused by its name, with a TypeError or a ValueError, and never read as something else."""
+import ast
 import subprocess
 import sys
 import tempfile
@@ -124,6 +125,16 @@ class Limits(Refusing):
         self.told("there are 17 relations", wurgalm.run, System(1, 0, 0, (), [(0, {})] * 17))
         long = System(1, 0, 0, [{}, {(0, 1): [1] * 17}])
         self.told("equations[1].terms[0, 1] has 17 coefficients", wurgalm.run, long)
+
+    def test_other_arguments(self):
+        self.told("first is 2097152, and there are 1 vectors", wurgalm.check_record, made.K2, 2**21, [[0, 0]])
+        self.told("first is 0, and there are 65 vectors", wurgalm.check_record, made.K2, 0, [[0, 0]] * 65)
+        self.told("a number of vectors is past 65536", wurgalm.check_record, made.K2, 0, [[0, 65_537]])
+        self.told("log has 1001 steps", wurgalm.replay, made.K2, Log([Up(1)] * 1001, [1]))
+        self.told("order is 3", wurgalm.write_sheet, System(2, 0, 0, order=[3]))
+        self.told("order is 1, 1", wurgalm.write_sheet, System(2, 0, 0, order=[1, 1]))
+        self.told("order is 0, an integer of", wurgalm.write_sheet, System(2, 0, 0, order=[0, 10**5000]))
+        self.told("unknowns is 5", wurgalm.write_sheet, System(5, 0, 0))
 
     def test_numbers(self):
         large = System(1, 0, 0, [{}, {(0, 1): [0, 2**28]}])
@@ -284,6 +295,16 @@ class Models(Refusing):
         self.refused(ValueError, "side", wurgalm.run, made.K2, "middle")
         self.refused(TypeError, "log", wurgalm.replay, made.K2, "order 1 2\n")
         self.refused(TypeError, "state", Steps, made.K2, STATE.numbers())
+
+
+class Sources(unittest.TestCase):
+    def test_nothing_runs_or_parses_code(self):
+        """No module names what would: neither Python's own nor SymPy's."""
+        parsers = {"eval", "exec", "compile", "__import__", "loads", "sympify", "S", "parse_expr", "lambdify"}
+        for path in (made.ROOT / "python/wurgalm").glob("*.py"):
+            for node in ast.walk(ast.parse(path.read_text(encoding="utf-8"))):
+                name = getattr(node, "attr", None) or getattr(node, "id", None) or getattr(node, "name", None)
+                self.assertNotIn(name, parsers, path.name)
 
 
 class Missing(unittest.TestCase):

@@ -294,6 +294,16 @@ class Attacks(unittest.TestCase):
         self.holds(lambda given: expressions_of(given, [u], n))
         self.holds(lambda given: differential_expressions_of(given, [u], x))
 
+    def test_objects_with_parts_that_are_text(self):
+        u = FUNCTIONS[0]
+        code = f"__import__('pathlib').Path({str(self.mark)!r}).touch()"
+        for kind in (u, sympy.Add, sympy.Mul, sympy.Pow, sympy.Eq, sympy.sin):
+            for whole in (sympy.Basic.__new__(kind, code), sympy.Basic.__new__(kind, u(n), code)):
+                for given in (whole, sympy.Basic.__new__(sympy.Add, u(n), whole)):
+                    self.assertRaisesRegex(TypeError, r"equations\[0\]", system_of, [given], [u], n)
+                    self.assertRaisesRegex(TypeError, r"equations\[0\]", differential_of, [given], [u], n)
+                    self.assertFalse(self.mark.exists())
+
     def test_names_are_names(self):
         """An unknown or a variable may be named as it likes: its name is never read."""
         code = f"__import__('pathlib').Path({str(self.mark)!r}).touch()"

@@ -5,7 +5,7 @@ Differential equations are taken wherever a system is worked, as the recurrence 
 which the library makes (`read_differential`). Each call has stores of its own, so calls in several threads do not meet.
 """
 import os
-from collections.abc import Iterable, Iterator, Sequence
+from collections.abc import Callable, Iterable, Iterator, Sequence
 from dataclasses import dataclass
 from threading import Lock
 from typing import Any, Literal
@@ -90,14 +90,15 @@ def write_sheet(system: System) -> bytes:
     """
     how = "; a Differential writes itself with sheet(), and its recurrence with write_recurrence"
     stores = Stores(instance(system, System, "system", how))
+    told = f"order is {', '.join(map(shown, system.order))}"
     if len(system.order) > COLUMNS or 0 in system.order:
-        raise Refused.of(2, f"order is {system.order[:COLUMNS + 1]}")
+        raise Refused.of(2, told)
     order = library.numbers([*system.order, *([0] * (COLUMNS - len(system.order)))], 2, "order")
 
     def write(output: Any, result: Any) -> int:
         return library.number("write_sheet", *stores.arguments(), order, output, result)
 
-    return _written(write, _SHEET, 1 << 22)
+    return _written(write, _SHEET, 1 << 22, lambda number: stores.refused(number, {2: told}))
 
 
 def write_recurrence(data: bytes | Differential) -> bytes:
@@ -107,7 +108,11 @@ def write_recurrence(data: bytes | Differential) -> bytes:
     b'3 1 1 0\\n1\\n2 1 1 2 1 1 0 1 1 -1\\n0\\n0\\n'
     """
     sheet = library.octets(data.sheet() if isinstance(data, Differential) else data)
-    return _written(lambda output, result: library.number("write_recurrence", sheet, output, result), _SHEET, _SHEET)
+
+    def write(output: Any, result: Any) -> int:
+        return library.number("write_recurrence", sheet, output, result)
+
+    return _written(write, _SHEET, _SHEET)
 
 
 def batch(data: bytes) -> bytes:
@@ -117,10 +122,14 @@ def batch(data: bytes) -> bytes:
     [b'0', b'3 1 0 0']
     """
     given = library.octets(data)
-    return _written(lambda output, result: library.number("batch", given, output, result), 1 << 20, _MOST_SHEETS * _ANSWER + _CLIENTS)
+
+    def write(output: Any, result: Any) -> int:
+        return library.number("batch", given, output, result)
+
+    return _written(write, 1 << 20, _MOST_SHEETS * _ANSWER + _CLIENTS)
 
 
-def _written(write: Any, length: int, most: int) -> bytes:
+def _written(write: Any, length: int, most: int, refused: Callable[[int], Refused] = Refused.of) -> bytes:
     """What a call writes, with a longer store as long as it says that the store is too short."""
     while True:
         output, result = library.octets(bytes(length)), library.zeros(1)
@@ -128,7 +137,7 @@ def _written(write: Any, length: int, most: int) -> bytes:
         if refusal == 0:
             return bytes(output[:result[0]])
         if refusal != 1 or length >= most:
-            raise Refused.of(refusal)
+            raise refused(refusal)
         length = min(8 * length, most)
 
 
@@ -350,7 +359,8 @@ def check_record(system: System | Differential, first: int, vectors: Sequence[Se
         if len(vector) != stores.unknowns:
             raise ValueError(f"vectors[{place}]: it has {len(vector)} numbers, and the unknowns are {stores.unknowns}")
     values = library.numbers([number for vector in recorded for number in vector], 5, "a number of vectors")
-    stores.call("check_record", begin, len(recorded), values, result)
+    told = {2: f"first is {begin}, and there are {len(recorded)} vectors", 5: "a number of vectors is past 65536"}
+    stores.call("check_record", begin, len(recorded), values, result, told=told)
     kind, number, at, total = result
     return Fits(number) if kind == 0 else Misfit("equation" if kind == 1 else "relation", number, at, total)
 
@@ -381,7 +391,8 @@ def replay(system: System | Differential, log: Log) -> Run:
     """
     stores, result = Stores(_worked(system)), library.zeros(10)
     steps = len(instance(log, Log, "log", "; Log.parse reads a text").steps)
-    stores.call("replay", steps, library.numbers(log.numbers(), 13, "a number of log"), result)
+    numbers = library.numbers(log.numbers(), 13, "a number of log")
+    stores.call("replay", steps, numbers, result, told={2: f"log has {steps} steps"})
     return _report(stores, result[:])
 
 

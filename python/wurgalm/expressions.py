@@ -148,6 +148,9 @@ def _expression(given: Any, name: str) -> Any:
     if not isinstance(given, sympy.Basic):
         how = "; write sympy.Eq(a, b) for a = b" if isinstance(given, bool) else ""
         raise wanted(name, "an expression or Eq of SymPy, an int or a Fraction", given, how)
+    # A part that is none of SymPy's objects would be parsed when the whole is made anew.
+    if not all(isinstance(part, sympy.Basic) for part in sympy.preorder_traversal(given)):
+        raise TypeError(f"{name}: a part of it is no object of SymPy")
     if given == sympy.true:  # what SymPy makes of Eq(a, a)
         return sympy.Integer(0)
     if not isinstance(given, sympy.Expr | sympy.Equality):

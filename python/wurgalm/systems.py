@@ -290,11 +290,15 @@ class Stores:
         """The stores and sizes in the order in which every call on a system takes them."""
         return self.rows, self.relations, self.unknowns, self.equations, self.highest, self.lowest, self.count
 
-    def call(self, name: str, *others: Any) -> None:
-        """The call of this name on the system. A refusal that an argument explains names it."""
+    def call(self, name: str, *others: Any, told: Mapping[int, str] | None = None) -> None:
+        """The call of this name on the system."""
         number = library.number(name, *self.arguments(), *others)
         if number:
-            raise Refused.of(number, _blamed(self.given, number))
+            raise self.refused(number, told)
+
+    def refused(self, number: int, told: Mapping[int, str] | None = None) -> Refused:
+        """The refusal of a call, with the argument of the system that explains it, or what is told of the others."""
+        return Refused.of(number, _blamed(self.given, number) or (told or {}).get(number, ""))
 
     def system(self, equations: int, count: int, order: Iterable[int] = ()) -> System:
         """The system that the stores hold, with so many equations and relations."""
