@@ -244,6 +244,9 @@ class Meanings(Refusing):
         fibonacci = System(1, 2, 0, [{(2, 1): [1], (1, 1): [-1], (0, 1): [-1]}])
         self.refused(ValueError, "vector", wurgalm.satisfied, fibonacci, [-1], [[0], [1], [1], [0]])
         self.assertTrue(wurgalm.satisfied(fibonacci, [-1], {-1: [1], 0: [0], 1: [1]}))
+        for vector in ([[0], [1]], {0: [0], 1: [1]}, [[0], [1], []], {0: 0, 1: 1, 2: 1}, {}):
+            self.refused(ValueError, "vector", wurgalm.satisfied, fibonacci, [0], vector)
+        self.refused(TypeError, "vector", wurgalm.satisfied, fibonacci, [0], 7)
 
     def test_numbers_that_are_no_log(self):
         for numbers in ([7, 1] + [0] * 38, [3, 1, 9] + [0] * 37, [3, 1] + [0] * 35 + [1, 0, 0], [3, 1]):

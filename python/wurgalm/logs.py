@@ -4,10 +4,10 @@ from dataclasses import dataclass
 from itertools import zip_longest
 from typing import Any, TypeAlias
 
-from .arguments import instance, short, shown, wanted, whole
+from .arguments import instance, members, short, shown, wanted, whole
 from .library import COEFFICIENTS, COLUMNS, LOG_STEP
 from .refusals import Refused
-from .systems import Polynomial, each, polynomial
+from .systems import Polynomial, each, listed
 
 
 class _Rows:
@@ -39,8 +39,8 @@ class Combine:
     def __init__(self, i: int, j: int, integer: int, g: Iterable[int], h: Iterable[int]) -> None:
         for name, number in (("i", i), ("j", j), ("integer", integer)):
             object.__setattr__(self, name, whole(number, name))
-        object.__setattr__(self, "g", polynomial(g, "g"))
-        object.__setattr__(self, "h", polynomial(h, "h"))
+        object.__setattr__(self, "g", listed(g, "g"))
+        object.__setattr__(self, "h", listed(h, "h"))
 
 
 @dataclass(frozen=True)
@@ -98,13 +98,15 @@ class Log:
     @staticmethod
     def of_numbers(steps: int, numbers: Sequence[int]) -> "Log":
         """The log of so many steps at the beginning of a store that `run_logged` has written; else a ValueError."""
-        behind = whole(steps, "steps") * LOG_STEP
-        given = [whole(number, "numbers") for number in numbers[:behind + COLUMNS]]
-        if steps < 0 or len(given) < behind + COLUMNS:
-            told = f"there are {len(numbers)}, and {shown(steps)} steps have 36 each, with four behind them"
+        count = whole(steps, "steps")
+        behind = count * LOG_STEP
+        given = [whole(number, "numbers") for number in members(numbers, "numbers")]
+        if count < 0 or len(given) < behind + COLUMNS:
+            told = f"there are {len(given)}, and {shown(count)} steps have 36 each, with four behind them"
             raise ValueError(f"numbers: {told}")
-        found = Log([_step(given[at:at + LOG_STEP]) for at in range(0, behind, LOG_STEP)], filter(None, given[behind:]))
-        if found.numbers() != given:
+        order = given[behind:behind + COLUMNS]
+        found = Log([_step(given[at:at + LOG_STEP]) for at in range(0, behind, LOG_STEP)], filter(None, order))
+        if found.numbers() != given[:behind + COLUMNS]:
             raise ValueError("numbers: a kind, an order or a field that a step does not use is not as in a log")
         return found
 

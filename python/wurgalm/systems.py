@@ -17,8 +17,8 @@ _LIMIT = 2**28 - 1  # of a coefficient and of n0 (SCOPE 1.4)
 _FARTHEST = 64  # of a block (SCOPE 1.2)
 
 
-def polynomial(coefficients: Iterable[int], name: str = "coefficients") -> Polynomial:
-    """The coefficients without zeros past the last that counts; `name` is what a message calls them.
+def polynomial(coefficients: Iterable[int]) -> Polynomial:
+    """The coefficients without zeros past the last that counts.
 
     >>> polynomial([0, 1, 0])
     (0, 1)
@@ -26,6 +26,11 @@ def polynomial(coefficients: Iterable[int], name: str = "coefficients") -> Polyn
     Traceback (most recent call last):
     TypeError: coefficients[0]: an int is wanted, not float
     """
+    return listed(coefficients, "coefficients")
+
+
+def listed(coefficients: Any, name: str) -> Polynomial:
+    """The polynomial of these coefficients; a message calls them by the name."""
     found = list(members(coefficients, name))
     if any(type(coefficient) is not int for coefficient in found):
         found = [whole(coefficient, f"{name}[{power}]") for power, coefficient in enumerate(found)]
@@ -44,6 +49,10 @@ def value(coefficients: Polynomial, n: int) -> int:
     >>> value((1, 0, 2), 3)
     19
     """
+    return _value(polynomial(coefficients), whole(n, "n"))
+
+
+def _value(coefficients: Polynomial, n: int) -> int:
     total = 0
     for coefficient in reversed(coefficients):
         total = total * n + coefficient
@@ -65,12 +74,12 @@ class Equation:
 
     def __init__(self, terms: Mapping[Place, Iterable[int]], right: Iterable[int] = ()) -> None:
         given = instance(terms, Mapping, "terms", "; its keys are blocks with columns, its values coefficients")
-        found = {(place := _place(key)): polynomial(p, f"terms[{_told(place)}]") for key, p in given.items()}
+        found = {(place := _place(key)): listed(p, f"terms[{_told(place)}]") for key, p in given.items()}
         if len(found) < len(given):
             raise ValueError("terms: a block and column is there twice")
         ordered = sorted(found, key=lambda place: (-place[0], place[1]))
         object.__setattr__(self, "terms", {place: found[place] for place in ordered if found[place]})
-        object.__setattr__(self, "right", polynomial(right, "right"))
+        object.__setattr__(self, "right", listed(right, "right"))
 
     def __hash__(self) -> int:
         return hash((tuple(self.terms.items()), self.right))
@@ -82,8 +91,8 @@ class Equation:
         0
         """
         n = whole(n, "n")
-        total = sum(value(p, n) * _at(vector, n + block)[column - 1] for (block, column), p in self.terms.items())
-        return total - value(self.right, n)
+        total = sum(_value(p, n) * _at(vector, n + block, column) for (block, column), p in self.terms.items())
+        return total - _value(self.right, n)
 
 
 @dataclass(frozen=True)
@@ -232,11 +241,16 @@ def _told(place: Place) -> str:
     return ", ".join(map(shown, place))
 
 
-def _at(vector: Any, i: int) -> Any:
-    """What a sequence has at an index. A list has nothing below 0, where Python would count from its end."""
-    if i < 0 and isinstance(vector, Sequence):
-        raise ValueError(f"vector: there is none at index {i}; give a mapping from indices to vectors")
-    return vector[i]
+def _at(vector: Any, i: int, column: int) -> Any:
+    """What a sequence has at an index and column. A list has nothing below 0, where Python would count from its end."""
+    if not isinstance(vector, Mapping | Sequence):
+        raise wanted("vector", "a mapping from indices to vectors, or a list of vectors from index 0 on", vector)
+    try:
+        if i >= 0 or isinstance(vector, Mapping):
+            return vector[i][column - 1]
+    except (LookupError, TypeError):
+        pass
+    raise ValueError(f"vector: there is none at index {shown(i)} and column {shown(column)}")
 
 
 def _shown(equation: Equation) -> str:
