@@ -189,3 +189,45 @@ fn a_builder_takes_numbers_of_any_size() {
         assert_eq!((equation.entry(block, 1), equation.entry(0, usize::MAX)), (&[][..], &[][..]));
     }
 }
+
+/// Whatever report is settled in the stores of whatever run, what is taken is what the stores hold: the rows and the order of
+/// the run, and its relations, perhaps with some behind them that say 0 = 0.
+#[test]
+fn reports_of_the_examples_are_not_exchanged() {
+    let folder = concat!(env!("CARGO_MANIFEST_DIR"), "/../../examples");
+    let files = std::fs::read_dir(folder).expect("the examples").map(|file| file.expect("a file").path());
+    let sheets: Vec<Vec<u8>> = files
+        .filter(|path| path.extension().is_some_and(|kind| kind == "sheet"))
+        .map(|path| std::fs::read(path).expect("a sheet"))
+        .collect();
+    let ran: Vec<(System, Report)> = sheets
+        .iter()
+        .filter(|sheet| system(sheet).run_leading().is_ok())
+        .map(|sheet| {
+            let mut system = system(sheet);
+            let report = run_in_stores(&mut system);
+            (system, report)
+        })
+        .collect();
+    assert!(ran.len() > 8);
+    let mut refused = 0;
+    for (before, own) in &ran {
+        for (_, other) in &ran {
+            let mut system = before.clone();
+            match system.settle(other) {
+                Ok(()) => {
+                    assert_eq!((other.rank, other.order), (own.rank, own.order));
+                    let more = (own.relations + 1..=other.relations).map(|number| system.relation(number).unwrap());
+                    assert!(own.relations <= other.relations);
+                    more.for_each(|(n0, equation)| assert_eq!((n0, equation.terms().count()), (0, 0)));
+                }
+                Err(refusal) => {
+                    refused += 1;
+                    assert_eq!((refusal, &system), (Refusal(11), before));
+                    assert_ne!(other, own);
+                }
+            }
+        }
+    }
+    assert!(refused > ran.len());
+}
