@@ -190,8 +190,8 @@ fn a_builder_takes_numbers_of_any_size() {
     }
 }
 
-/// Whatever report is settled in the stores of whatever run, what is taken is what the stores hold: the rows and the order of
-/// the run, and its relations, perhaps with some behind them that say 0 = 0.
+/// Whatever report is settled in the stores of whatever run, what is taken is what the stores hold: the rows and the
+/// order of the run, and its relations, perhaps with some behind them that say 0 = 0.
 #[test]
 fn reports_of_the_examples_are_not_exchanged() {
     let folder = concat!(env!("CARGO_MANIFEST_DIR"), "/../../examples");
