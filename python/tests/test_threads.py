@@ -9,7 +9,7 @@ from random import Random
 
 import made
 import wurgalm
-from wurgalm import System
+from wurgalm import System, systems
 
 THREADS = 4
 CALLS = 10_000  # of each thread
@@ -83,17 +83,17 @@ class Threads(unittest.TestCase):
         self.assertGreater(counts["answers"], THREADS * CALLS // 40)
 
     def test_one_system_in_four_threads(self):
-        systems = [LONG, made.K2, *made.accepted_systems(8, 6)]
+        models = [LONG, made.K2, *made.accepted_systems(8, 6)]
 
         def answers(s):
             return wurgalm.run(s), wurgalm.run(s, "trailing"), wurgalm.run_logged(s), wurgalm.write_sheet(s)
 
-        expected = [answers(s) for s in systems]
+        expected = [answers(s) for s in models]
 
         def work(number):
             for call in range(200):
-                which = (call + number) % len(systems)
-                self.assertTrue(answers(systems[which]) == expected[which], "another answer")
+                which = (call + number) % len(models)
+                self.assertTrue(answers(models[which]) == expected[which], "another answer")
 
         self.assertEqual(in_threads(work), [])
 
@@ -163,6 +163,8 @@ class Copies(unittest.TestCase):
         steps = wurgalm.prepare(LONG)
         steps.take(2)
         self.assertEqual(sorted(vars(steps)), ["_refused", "_taking", "progress"])
+        for copied in self.COPIES:
+            self.assertRaisesRegex(TypeError, "Stores", copied, systems.Stores(LONG))
 
 
 @unittest.skipUnless(hasattr(os, "fork"), "there is no fork")

@@ -7,6 +7,7 @@ which the library makes (`read_differential`). Each call has stores of its own, 
 import os
 from collections.abc import Callable, Iterable, Iterator, Sequence
 from dataclasses import dataclass
+from functools import partial
 from threading import Lock
 from typing import Any, Literal
 from weakref import WeakSet
@@ -94,10 +95,7 @@ def write_sheet(system: System) -> bytes:
     if len(system.order) > COLUMNS or 0 in system.order:
         raise Refused.of(2, told)
     order = library.numbers([*system.order, *([0] * (COLUMNS - len(system.order)))], 2, "order")
-
-    def write(output: Any, result: Any) -> int:
-        return library.number("write_sheet", *stores.arguments(), order, output, result)
-
+    write = partial(library.number, "write_sheet", *stores.arguments(), order)
     return _written(write, _SHEET, 1 << 22, lambda number: stores.refused(number, {2: told}))
 
 
@@ -108,11 +106,7 @@ def write_recurrence(data: bytes | Differential) -> bytes:
     b'3 1 1 0\\n1\\n2 1 1 2 1 1 0 1 1 -1\\n0\\n0\\n'
     """
     sheet = library.octets(data.sheet() if isinstance(data, Differential) else data)
-
-    def write(output: Any, result: Any) -> int:
-        return library.number("write_recurrence", sheet, output, result)
-
-    return _written(write, _SHEET, _SHEET)
+    return _written(partial(library.number, "write_recurrence", sheet), _SHEET, _SHEET)
 
 
 def batch(data: bytes) -> bytes:
@@ -121,15 +115,13 @@ def batch(data: bytes) -> bytes:
     >>> batch(b"1\\n2 14\\n3 1 0 0\\n0\\n0\\n0\\n").splitlines()[:2]
     [b'0', b'3 1 0 0']
     """
-    given = library.octets(data)
-
-    def write(output: Any, result: Any) -> int:
-        return library.number("batch", given, output, result)
-
-    return _written(write, 1 << 20, _MOST_SHEETS * _ANSWER + _CLIENTS)
+    most = _MOST_SHEETS * _ANSWER + _CLIENTS
+    return _written(partial(library.number, "batch", library.octets(data)), 1 << 20, most)
 
 
-def _written(write: Any, length: int, most: int, refused: Callable[[int], Refused] = Refused.of) -> bytes:
+def _written(
+    write: Callable[..., int], length: int, most: int, refused: Callable[[int], Refused] = Refused.of
+) -> bytes:
     """What a call writes, with a longer store as long as it says that the store is too short."""
     while True:
         output, result = library.octets(bytes(length)), library.zeros(1)

@@ -300,6 +300,9 @@ class Stores:
             _put(store, at, p, f"{name}.terms[{_told((block, column))}]")
         _put(store, begin + RIGHT_SIDE, equation.right, f"{name}.right")
 
+    def __reduce__(self) -> Any:
+        raise TypeError("Stores: a copy would share them; make others of the system")
+
     def arguments(self) -> tuple[Any, ...]:
         """The stores and sizes in the order in which every call on a system takes them."""
         return self.rows, self.relations, self.unknowns, self.equations, self.highest, self.lowest, self.count
