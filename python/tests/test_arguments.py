@@ -244,6 +244,16 @@ class Meanings(Refusing):
         fibonacci = System(1, 2, 0, [{(2, 1): [1], (1, 1): [-1], (0, 1): [-1]}])
         self.refused(ValueError, "vector", wurgalm.satisfied, fibonacci, [-1], [[0], [1], [1], [0]])
         self.assertTrue(wurgalm.satisfied(fibonacci, [-1], {-1: [1], 0: [0], 1: [1]}))
+
+        class Fibonacci:
+            """A sequence that has no end, on either side."""
+
+            def __getitem__(self, i):
+                if i in (0, 1):
+                    return [i]
+                return [self[i + 2][0] - self[i + 1][0] if i < 0 else self[i - 1][0] + self[i - 2][0]]
+
+        self.assertTrue(wurgalm.satisfied(fibonacci, range(-6, 6), Fibonacci()))
         for vector in ([[0], [1]], {0: [0], 1: [1]}, [[0], [1], []], {0: 0, 1: 1, 2: 1}, {}):
             self.refused(ValueError, "vector", wurgalm.satisfied, fibonacci, [0], vector)
         self.refused(TypeError, "vector", wurgalm.satisfied, fibonacci, [0], 7)

@@ -324,7 +324,11 @@ class Attacks(unittest.TestCase):
         u = FUNCTIONS[0]
         self.assertEqual(system_of([Fraction(0), 0], [u], n), System(1, 0, 0, [{}, {}]))
         self.assertEqual(system_of([Fraction(3, 2)], [u], n).equations, (Equation({}, [-3]),))
-        for wrong in (True, 0.5, float("nan"), 1j, None, u, sympy.Matrix([u(n)])):
+
+        class Text(Fraction):
+            numerator = property(lambda self: "__import__('os')")
+
+        for wrong in (True, 0.5, float("nan"), 1j, None, u, sympy.Matrix([u(n)]), Text(1, 2)):
             self.assertRaisesRegex(TypeError, r"equations\[0\]", system_of, [wrong], [u], n)
         for wrong in (u(n) / 3.0, sympy.Float(0.1) * u(n), sympy.Eq(u(n), 1e-30)):
             self.assertRaisesRegex(ValueError, "float", system_of, [wrong], [u], n)

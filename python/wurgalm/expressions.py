@@ -144,7 +144,7 @@ def _expression(given: Any, name: str) -> Any:
     if isinstance(given, int) and not isinstance(given, bool):
         return sympy.Integer(whole(given, name))
     if isinstance(given, Fraction):
-        return sympy.Rational(given.numerator, given.denominator)
+        return sympy.Rational(whole(given.numerator, name), whole(given.denominator, name))
     if not isinstance(given, sympy.Basic):
         how = "; write sympy.Eq(a, b) for a = b" if isinstance(given, bool) else ""
         raise wanted(name, "an expression or Eq of SymPy, an int or a Fraction", given, how)

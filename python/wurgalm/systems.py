@@ -208,7 +208,7 @@ def each(judged: Callable[[Any, str], Any], given: Any, name: str) -> tuple[Any,
         except (TypeError, ValueError) as wrong:
             if isinstance(wrong, Refused) or str(wrong).startswith(where):
                 raise
-            raise type(wrong)(f"{where}: {wrong}") from None
+            raise (TypeError if isinstance(wrong, TypeError) else ValueError)(f"{where}: {wrong}") from None
     return tuple(found)
 
 
@@ -243,10 +243,10 @@ def _told(place: Place) -> str:
 
 def _at(vector: Any, i: int, column: int) -> Any:
     """What a sequence has at an index and column. A list has nothing below 0, where Python would count from its end."""
-    if not isinstance(vector, Mapping | Sequence):
+    if not hasattr(vector, "__getitem__"):
         raise wanted("vector", "a mapping from indices to vectors, or a list of vectors from index 0 on", vector)
     try:
-        if i >= 0 or isinstance(vector, Mapping):
+        if i >= 0 or isinstance(vector, Mapping) or not hasattr(vector, "__len__"):
             return vector[i][column - 1]
     except (LookupError, TypeError):
         pass
