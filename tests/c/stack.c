@@ -16,6 +16,7 @@
 #include <sys/mman.h>
 
 #define SYSTEMS 400
+#define FACTORS 10
 #define SHEET 32768
 #define SHEETS 20
 #define PAGE 4096
@@ -61,10 +62,25 @@ static void polynomial(int64_t *coefficients) {
     }
 }
 
-static void fill(System *system) {
+/* (n^2 + a n + 2^27) x(n) + y(n) = 0 and x(n) + (n + 1) y(n) = 0, in one order or the other. The search for roots
+ * calls itself once for each prime factor of a lowest coefficient, and none has more of them than 2^27: with an a
+ * below 2^20 it tries all products of them. */
+static void fill_factors(System *system, int64_t a, size_t first) {
+    size_t second = 3 - first;
+    int64_t *pivot = system->rows + WURGALM_POLYNOMIAL_AT(0, first, 0, 1);
+    system->m = system->equations = 2;
+    pivot[0] = (int64_t)1 << 27;
+    pivot[1] = a;
+    pivot[2] = 1;
+    system->rows[WURGALM_POLYNOMIAL_AT(0, first, 0, 2)] = 1;
+    system->rows[WURGALM_POLYNOMIAL_AT(0, second, 0, 1)] = 1;
+    system->rows[WURGALM_POLYNOMIAL_AT(0, second, 0, 2)] = 1;
+    system->rows[WURGALM_POLYNOMIAL_AT(0, second, 0, 2) + 1] = 1;
+}
+
+static void fill_any(System *system) {
     size_t row, column;
-    int64_t block, order[4] = {0, 0, 0, 0};
-    memset(system, 0, sizeof *system);
+    int64_t block;
     system->m = (size_t)below(4) + 1;
     system->equations = (size_t)below((int64_t)system->m + 3);
     system->l = below(5) - 2;
@@ -80,6 +96,17 @@ static void fill(System *system) {
         if (below(4) == 0) {
             polynomial(system->rows + WURGALM_RIGHT_SIDE_AT(row));
         }
+    }
+}
+
+/* Some systems with many factors, and any others; with the sheet of each. */
+static void fill(System *system, int64_t number) {
+    int64_t order[4] = {0, 0, 0, 0};
+    memset(system, 0, sizeof *system);
+    if (number < FACTORS) {
+        fill_factors(system, ((int64_t)1 << (20 - number / 2)) - 16385, (size_t)(number % 2) + 1);
+    } else {
+        fill_any(system);
     }
     memset(relations, 0, sizeof relations);
     if (wurgalm_write_sheet(system->rows, LENGTH(system->rows), relations, WURGALM_RELATIONS, SIZES(system), order, 4,
@@ -268,7 +295,7 @@ int main(void) {
     };
     size_t i, largest = 0;
     for (i = 0; i < SYSTEMS; i++) {
-        fill(&systems[i]);
+        fill(&systems[i], (int64_t)i);
         fill_differential(&systems[i]);
     }
     fill_batch();
