@@ -15,7 +15,7 @@
  * Where one of these does not hold there is no refusal: as with memcpy, what the call does then is undefined. A call
  * reads and writes nothing but its stores, and nothing is kept between two calls, so that calls on different stores
  * may be made by several threads at once. A call takes at most WURGALM_STACK bytes of stack, `wurgalm_batch`
- * WURGALM_BATCH_STACK, both as measured by tests/c/stack.c, and no memory beside that.
+ * WURGALM_BATCH_STACK, both as tests/c/stack.c measures them on x86-64 with some to spare, and no memory beside that.
  *
  * The row store needs 336 numbers for each equation: for each row five blocks from block l downward, in each block four columns, in
  * each column 16 coefficients from power 0 upward; behind those 320 the 16 coefficients of the right side
