@@ -16,11 +16,7 @@ static int64_t relations[WURGALM_RELATIONS];
 
 /* The exit status of a refusal, after a message. */
 static int refused(uint8_t refusal) {
-    if (refusal == WURGALM_REFUSED_INCONSISTENT) {
-        fprintf(stderr, "no sequence satisfies the system\n");
-    } else {
-        fprintf(stderr, "refused with %u\n", (unsigned)refusal);
-    }
+    fprintf(stderr, "refused with %u: %s\n", (unsigned)refusal, wurgalm_refusal_sentence(refusal));
     return 1;
 }
 

@@ -2,16 +2,28 @@
  * the beginning of README.md build. Their contracts are proved: crates/exports/src/lib.rt. What they promise stands in
  * docs/SCOPE.md, whose rules are cited here by their numbers. examples/run.c is an example program.
  *
- * A store is lent as a pointer and the number of its members. The pointer is not null, also where that number is 0, and
- * is aligned; no two stores of one call overlap. A store that a function takes as `const` is only read. A store of
- * numbers may be longer than needed: members past the needed part make no difference, and stay (SCOPE 3.12).
+ * A store is lent as a pointer and the number of its members. A store that a function takes as `const` is only read. A
+ * store of numbers may be longer than needed: members past the needed part make no difference, and stay (SCOPE 3.12).
+ *
+ * Whatever numbers and bytes the arguments have, they are worked or refused. What no call can see is the caller's to
+ * keep:
+ *   - a pointer is not null, also where the number of members is 0;
+ *   - a store of numbers is aligned: its address is a multiple of 8;
+ *   - so many members lie behind the pointer, and may be read, and written where the store is not `const`;
+ *   - no two stores of one call overlap, not even in one byte;
+ *   - while a call lasts, no other thread writes to its stores, or reads those that it may write.
+ * Where one of these does not hold there is no refusal: as with memcpy, what the call does then is undefined. A call
+ * reads and writes nothing but its stores, and nothing is kept between two calls, so that calls on different stores
+ * may be made by several threads at once. A call takes at most WURGALM_STACK bytes of stack, `wurgalm_batch`
+ * WURGALM_BATCH_STACK, both as tests/c/stack.c measures them on x86-64 with some to spare, and no memory beside that.
  *
  * The row store needs 336 numbers for each equation: for each row five blocks from block l downward, in each block four columns, in
  * each column 16 coefficients from power 0 upward; behind those 320 the 16 coefficients of the right side
  * (SCOPE 3.2, 3.11). The relation store needs 16 x 337: `count` relations, each n0 and then a row, and zeros at the
  * places past them (SCOPE 3.4, 3.13). Positions of blocks below t and of columns above m hold 0 (SCOPE 3.3).
  *
- * Every function returns the number of a refusal, or 0 (SCOPE 6.1 to 6.14; 6 does not occur):
+ * Every function returns the number of a refusal, or 0 (SCOPE 6.1 to 6.14; 6 does not occur), of which
+ * `wurgalm_refusal_sentence` tells the meaning in words:
  *   1  a store has too few members
  *   2  a size, block, column, count or order is out of its range
  *   3  something in a sheet is not a number; or a separator, the order of the terms or a zero last coefficient is wrong,
@@ -72,6 +84,10 @@ extern "C" {
 #define WURGALM_LIST 4096 /* 64 x 64 */
 #define WURGALM_MATRIX 8704 /* 136 x 64 */
 
+/* Bytes of stack that a call takes at most, and those of `wurgalm_batch`. A thread needs some more for itself. */
+#define WURGALM_STACK 65536
+#define WURGALM_BATCH_STACK 155648
+
 /* Where the 16 coefficients of the right side begin in a row; in a relation, one place later. */
 #define WURGALM_RIGHT_SIDE 320
 
@@ -98,6 +114,42 @@ enum wurgalm_refusal {
     WURGALM_REFUSED_LOG = 13,
     WURGALM_REFUSED_LIST = 14
 };
+
+/* What a refusal means, as a sentence without its point; the text is never null, and lasts. */
+static inline const char *wurgalm_refusal_sentence(int refusal) {
+    switch (refusal) {
+    case WURGALM_ACCEPTED:
+        return "accepted";
+    case WURGALM_REFUSED_SHORT:
+        return "a store is too short, or the answer has more than 65,536 bytes";
+    case WURGALM_REFUSED_RANGE:
+        return "a size, block, column, count or order is out of its range";
+    case WURGALM_REFUSED_FORM:
+        return "something is not a number, or stands in a wrong form or order";
+    case WURGALM_REFUSED_END:
+        return "the bytes end early, or go on behind the last section";
+    case WURGALM_REFUSED_NUMBER:
+        return "a number is past its limit";
+    case WURGALM_REFUSED_DEGREE:
+        return "a degree has passed 15";
+    case WURGALM_REFUSED_COEFFICIENT:
+        return "a coefficient has passed 268,435,455 in the course of the run";
+    case WURGALM_REFUSED_RELATIONS:
+        return "more than 16 relations would have to be listed";
+    case WURGALM_REFUSED_INCONSISTENT:
+        return "no sequence satisfies the system";
+    case WURGALM_REFUSED_STATE:
+        return "the state that was handed in is not right";
+    case WURGALM_REFUSED_VALUE:
+        return "a value of Horner's rule has passed 2^40";
+    case WURGALM_REFUSED_LOG:
+        return "a step of the log, or its end, is not right";
+    case WURGALM_REFUSED_LIST:
+        return "the system is not one whose polynomial solutions are listed";
+    default:
+        return "no call gives this number";
+    }
+}
 
 /* One polynomial and one right side: where their 16 coefficients begin in the row store of a system with highest block l. Rows and
  * columns count from 1, the block is one of t to l (SCOPE 3.2). In the relation store, relation r begins at

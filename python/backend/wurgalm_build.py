@@ -24,6 +24,7 @@ PROJECT = tomllib.loads((HERE / "pyproject.toml").read_text(encoding="utf-8"))["
 NAME = f"{PROJECT['name']}-{PROJECT['version']}"
 ARCHIVE = "libexports.a"
 SHARED = "libwurgalm.so"
+HOW = "run `rt check exports && rt staticlib exports` in the repository's root"
 
 
 def get_requires_for_build_wheel(config_settings=None):
@@ -42,7 +43,7 @@ def library():
         if place.is_file():
             return place
     tried = ", ".join(map(str, places))
-    raise SystemExit(f"wurgalm: the proved library is not built (looked for {tried}): run `rt check exports && rt staticlib exports`")
+    raise SystemExit(f"wurgalm: the proved library is not built (looked for {tried}): {HOW}")
 
 
 def shared_library():
@@ -56,7 +57,8 @@ def shared_library():
     with tempfile.TemporaryDirectory() as folder:
         linked = Path(folder) / SHARED
         whole = ["-Wl,--whole-archive", str(found), "-Wl,--no-whole-archive"]
-        subprocess.run([compiler, "-shared", "-o", str(linked), *whole], check=True)
+        if subprocess.run([compiler, "-shared", "-o", str(linked), *whole]).returncode:
+            raise SystemExit(f"wurgalm: {compiler} cannot link {found}: {HOW}")
         return linked.read_bytes()
 
 

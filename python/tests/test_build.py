@@ -67,12 +67,19 @@ class Build(unittest.TestCase):
 
     def test_a_missing_library(self):
         with mock.patch.dict(os.environ, {"WURGALM_LIBRARY": str(self.folder / "none.a")}):
-            with self.assertRaisesRegex(SystemExit, "rt staticlib exports"):
+            with self.assertRaisesRegex(SystemExit, "run `rt check exports && rt staticlib exports`"):
                 wurgalm_build.build_wheel(self.folder)
-        with mock.patch.dict(os.environ, {"WURGALM_LIBRARY": str(self.folder / "none.so")}):
-            library._library.cache_clear()
-            self.addCleanup(library._library.cache_clear)
-            self.assertRaisesRegex(ImportError, "none.so is not there", wurgalm.run, made.K2)
+
+    def test_an_archive_that_cannot_be_linked(self):
+        broken = self.folder / "libexports.a"
+        broken.write_bytes(b"no archive")
+        environment = {**os.environ, "WURGALM_LIBRARY": str(broken), "PYTHONPATH": str(made.ROOT / "python/backend")}
+        code = "import wurgalm_build, sys; wurgalm_build.build_wheel(sys.argv[1])"
+        words = [sys.executable, "-B", "-c", code, str(self.folder)]
+        done = subprocess.run(words, env=environment, capture_output=True, text=True)
+        self.assertEqual(done.returncode, 1)
+        self.assertIn("cannot link", done.stderr.splitlines()[-1])
+        self.assertNotIn("Traceback", done.stderr)
 
     def test_a_missing_compiler(self):
         archive = str(made.ROOT / "target/staticlib/libexports.a")

@@ -9,7 +9,8 @@ import unittest
 import made
 import wurgalm
 
-MODULES = ["wurgalm", *(f"wurgalm.{name}" for name in ("calls", "differential", "library", "logs", "refusals", "systems"))]
+NAMES = ("arguments", "calls", "differential", "library", "logs", "refusals", "systems")
+MODULES = ["wurgalm", *(f"wurgalm.{name}" for name in NAMES)]
 WITH_SYMPY = ["wurgalm.expressions"]
 
 
@@ -67,10 +68,21 @@ class Pages(unittest.TestCase):
                 self.assertEqual(untyped, [])
 
     def test_sentences(self):
-        """A refusal says what it says in the Rust crate and the command."""
-        meanings = (made.ROOT / "rust/wurgalm/src/refusal.rs").read_text(encoding="utf-8")
-        told = {int(number): sentence for number, sentence in re.findall(r"^ +(\d+) => \"(.*)\",$", meanings, re.M)}
-        self.assertEqual({number: refusal.sentence for number, refusal in wurgalm.REFUSALS.items()}, told)
+        """A refusal says here what it says in the Rust crate and the command, in the header and on its page."""
+
+        def found(path, pattern):
+            return re.findall(pattern, (made.ROOT / path).read_text(encoding="utf-8"), re.M)
+
+        told = {number: refusal.sentence for number, refusal in wurgalm.REFUSALS.items()}
+        crate = found("rust/wurgalm/src/refusal.rs", r"^ +(\d+) => \"(.*)\",$")
+        self.assertEqual({int(number): sentence for number, sentence in crate}, told)
+        numbers = dict(found("include/wurgalm.h", r"^    (WURGALM_\w+) = (\d+),?$"))
+        header = found("include/wurgalm.h", r"^    case (WURGALM_\w+):\n        return \"(.*)\";$")
+        self.assertEqual({int(numbers[name]): sentence for name, sentence in header}, {0: "accepted", **told})
+        page = found("docs/REFUSALS.md", r"^## (\d+) (.*)$")
+        self.assertEqual({int(number): sentence[0].lower() + sentence[1:] for number, sentence in page}, told)
+        for path in ("rust/wurgalm/src/refusal.rs", "include/wurgalm.h"):
+            self.assertEqual(len(found(path, f"\"{wurgalm.Refused.sentence}\"")), 1 if path.endswith(".h") else 2)
 
     @unittest.skipIf(has_sympy(), "SymPy is there")
     def test_expressions_say_what_they_need(self):

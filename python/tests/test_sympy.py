@@ -1,7 +1,10 @@
 """The calls against SymPy's exact arithmetic. Where SymPy is missing, all of this is left out."""
+import tempfile
 import unittest
 from collections import Counter
+from fractions import Fraction
 from math import prod
+from pathlib import Path
 
 import made
 import wurgalm
@@ -206,6 +209,134 @@ class Expressions(unittest.TestCase):
     def test_a_derivative_that_is_too_high(self):
         u = FUNCTIONS[0]
         self.assertRaises(wurgalm.OutOfRange, wurgalm.read_differential, differential_of([u(x).diff(x, 3)], [u], x))
+
+
+class Printed:
+    """Its text is code."""
+
+    def __init__(self, code):
+        self.code = code
+
+    def __str__(self):
+        return self.code
+
+    __repr__ = __str__
+
+
+class Named(str):
+    """A text that SymPy would take for an object of its own."""
+
+    def _sympy_(self):
+        return sympy.sympify(str(self))
+
+
+ARGUMENT = r"^(equations|relations|functions|blocks|system|differential|coefficients|n|x)\b"
+
+
+class Attacks(unittest.TestCase):
+    """Nothing that is given is run: where SymPy would parse it, it is refused by the name of its argument."""
+
+    def setUp(self):
+        folder = tempfile.TemporaryDirectory()
+        self.addCleanup(folder.cleanup)
+        self.mark = Path(folder.name) / "mark"
+        touch = f"__import__('pathlib').Path({str(self.mark)!r}).touch()"
+        codes = [f"{touch} * 0", touch, f"({touch} or 0)", f"[{touch}]", f"lambda: {touch}", f"x.__class__({touch})"]
+        codes += [f"u(n) + ({touch} or 0)", f"Symbol({touch})", f"({touch}, 1)[1]", f"Integer(1) if {touch} else 0"]
+        kinds = (str, str.encode, Printed, Named, lambda code: [code], lambda code: (code, 1))
+        self.given = [given(code) for code in codes for given in kinds]
+        self.given += [{"equations": codes[0]}, {codes[0]}, lambda: self.mark.touch()]
+
+    def holds(self, call):
+        """The call is refused for everything that is code, and nothing was run."""
+        for given in self.given:
+            with self.assertRaises((TypeError, ValueError)) as caught:
+                call(given)
+            self.assertRegex(str(caught.exception), ARGUMENT)
+            self.assertFalse(self.mark.exists(), f"{type(given)} was run")
+
+    def test_equations(self):
+        u = FUNCTIONS[0]
+        self.holds(lambda given: system_of([given], [u], n))
+        self.holds(lambda given: system_of(given, [u], n))
+        self.holds(lambda given: system_of([u(n), [given]], [u], n))
+        self.holds(lambda given: differential_of([given], [u], x))
+        self.holds(lambda given: differential_of(given, [u], x))
+
+    def test_the_two_of_the_report(self):
+        code = f"__import__('os').system('touch {self.mark}') * 0"
+        self.assertRaisesRegex(TypeError, r"equations\[0\]: .* not str", system_of, [code], [FUNCTIONS[0]], n)
+        self.assertRaisesRegex(TypeError, r"equations\[0\]: .* not str", differential_of, [code], [FUNCTIONS[0]], x)
+        self.assertFalse(self.mark.exists())
+
+    def test_relations_and_blocks(self):
+        u = FUNCTIONS[0]
+        self.holds(lambda given: system_of([u(n)], [u], n, [(0, given)]))
+        self.holds(lambda given: system_of([u(n)], [u], n, [(given, u(n))]))
+        self.holds(lambda given: system_of([u(n)], [u], n, [given]))
+        self.holds(lambda given: system_of([u(n)], [u], n, (), (given, 0)))
+        self.holds(lambda given: system_of([u(n)], [u], n, (), (0, given)))
+
+    def test_unknowns_and_variables(self):
+        u = FUNCTIONS[0]
+        equations = Differential(1, 1, 1, [{(1, 0, 1): 1, (0, 1, 1): -1}])
+        for put in (lambda given: given, lambda given: [given]):
+            self.holds(lambda given: system_of([u(n)], put(given), n))
+            self.holds(lambda given: differential_of([u(x)], put(given), x))
+            self.holds(lambda given: expressions_of(made.K2, put(given), n))
+            self.holds(lambda given: differential_expressions_of(equations, put(given), x))
+        self.holds(lambda given: system_of([u(n)], [u], given))
+        self.holds(lambda given: differential_of([u(x)], [u], given))
+        self.holds(lambda given: expressions_of(made.K2, FUNCTIONS[:2], given))
+        self.holds(lambda given: differential_expressions_of(equations, [u], given))
+        self.holds(lambda given: in_n([1, 2], given))
+        self.holds(lambda given: in_n([given], n))
+        self.holds(lambda given: expressions_of(given, [u], n))
+        self.holds(lambda given: differential_expressions_of(given, [u], x))
+
+    def test_objects_with_parts_that_are_text(self):
+        u = FUNCTIONS[0]
+        code = f"__import__('pathlib').Path({str(self.mark)!r}).touch()"
+        for kind in (u, sympy.Add, sympy.Mul, sympy.Pow, sympy.Eq, sympy.sin):
+            for whole in (sympy.Basic.__new__(kind, code), sympy.Basic.__new__(kind, u(n), code)):
+                for given in (whole, sympy.Basic.__new__(sympy.Add, u(n), whole)):
+                    self.assertRaisesRegex(TypeError, r"equations\[0\]", system_of, [given], [u], n)
+                    self.assertRaisesRegex(TypeError, r"equations\[0\]", differential_of, [given], [u], n)
+                    self.assertFalse(self.mark.exists())
+
+    def test_names_are_names(self):
+        """An unknown or a variable may be named as it likes: its name is never read."""
+        code = f"__import__('pathlib').Path({str(self.mark)!r}).touch()"
+        for name in (code, "", " ", "u(n)", "\x1b[31m", "'", "lambda", "\n", "u" * 10_000):
+            odd, variable = Function(name), sympy.Symbol(f"{name}?")
+            system = system_of([variable * odd(variable + 1) - odd(variable)], [odd], variable)
+            self.assertEqual(system, System(1, 1, 0, [{(1, 1): [0, 1], (0, 1): [-1]}]))
+            self.assertEqual(system_of(expressions_of(system, [odd], variable)[0], [odd], variable), system)
+            equations = differential_of([odd(variable).diff(variable) - odd(variable)], [odd], variable)
+            written = differential_expressions_of(equations, [odd], variable)
+            self.assertEqual(differential_of(written, [odd], variable), equations)
+            with self.assertRaises(ValueError) as caught:
+                system_of([odd(variable) ** 2], [odd], variable)
+            self.assertTrue(str(caught.exception).isprintable() and len(str(caught.exception)) < 300)
+        self.assertFalse(self.mark.exists())
+
+    def test_exact_numbers_alone(self):
+        u = FUNCTIONS[0]
+        self.assertEqual(system_of([Fraction(0), 0], [u], n), System(1, 0, 0, [{}, {}]))
+        self.assertEqual(system_of([Fraction(3, 2)], [u], n).equations, (Equation({}, [-3]),))
+
+        class Text(Fraction):
+            numerator = property(lambda self: "__import__('os')")
+
+        for wrong in (True, 0.5, float("nan"), 1j, None, u, sympy.Matrix([u(n)]), Text(1, 2)):
+            self.assertRaisesRegex(TypeError, r"equations\[0\]", system_of, [wrong], [u], n)
+        for wrong in (u(n) / 3.0, sympy.Float(0.1) * u(n), sympy.Eq(u(n), 1e-30)):
+            self.assertRaisesRegex(ValueError, "float", system_of, [wrong], [u], n)
+        self.assertRaisesRegex(TypeError, r"relations\[0\]\[0\]", system_of, [u(n)], [u], n, [(1.9, u(n))])
+        self.assertRaisesRegex(TypeError, r"blocks\[0\]", system_of, [u(n)], [u], n, (), (True, 0))
+        self.assertRaisesRegex(ValueError, "blocks", system_of, [u(n)], [u], n, (), (1, 0, -1))
+        self.assertRaisesRegex(ValueError, "functions", system_of, [u(n)], [u, u], n)
+        self.assertRaisesRegex(ValueError, "functions", expressions_of, made.K2, [u], n)
 
 
 class Polynomials(unittest.TestCase):

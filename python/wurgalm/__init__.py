@@ -9,7 +9,13 @@ Traceback (most recent call last):
 wurgalm.refusals.NoSolution: refused with 10: no sequence satisfies the system
 
 `wurgalm.expressions` makes systems of SymPy's expressions; it needs SymPy, and nothing else here does.
+Where the shared library is missing, the import says so, and which commands make it.
 """
+from . import library
+
+if library.MISSING:
+    raise ImportError(library.MISSING, name=__name__)
+
 from .calls import (
     Fits, Misfit, Progress, Run, Solutions, State, Steps, batch, check_record, prepare, read_differential, read_sheet, replay, run,
     run_leading, run_logged, run_steps, run_trailing, satisfied, solutions, write_recurrence, write_sheet,

@@ -1,11 +1,12 @@
-"""The shared library, found and called. Stores are ctypes arrays of 64-bit numbers or of bytes, lent with their lengths."""
+"""The shared library, found and called. Stores are ctypes arrays of 64-bit numbers or of bytes, lent by length.
+Each call makes its own, and no object keeps one, so that threads share none."""
 import ctypes
 import os
 from collections.abc import Iterable
-from functools import cache
 from pathlib import Path
 from typing import Any
 
+from .arguments import shown, wanted
 from .refusals import Refused
 
 ROW = 336
@@ -22,6 +23,11 @@ LIST = 64 * 64
 MATRIX = 136 * 64
 
 _SHARED = "libwurgalm.so"
+_HOW = (
+    "run `rt check exports && rt staticlib exports` and then `pip install --no-index python/` in the repository, "
+    "or name a shared library in WURGALM_LIBRARY"
+)
+_OCTETS = "bytes (or a buffer of unsigned bytes)"
 _SIZES = "ziiz"  # after m: equations, l, t, count
 
 # The arguments of each function: `n` a store of numbers, `b` a store of bytes, `i` a signed number, `z` a size. Whether the function
@@ -57,18 +63,23 @@ def path() -> Path:
     return Path(named) if named and not named.endswith(".a") else Path(__file__).with_name(_SHARED)
 
 
-@cache
-def _library() -> ctypes.CDLL:
+def _loaded() -> tuple[ctypes.CDLL | None, str]:
+    """The library with its functions declared; or none, and the sentence that says what to do."""
     found = path()
     if not found.is_file():
-        how = "install the package (`pip install python/`), or name the shared library in WURGALM_LIBRARY"
-        raise ImportError(f"{found} is not there: {how}")
-    library = ctypes.CDLL(str(found))
-    for name, arguments in _FUNCTIONS.items():
-        function = getattr(library, f"wurgalm_{name}")
-        function.argtypes = [kind for argument in arguments for kind in _TYPES[argument]]
-        function.restype = ctypes.c_uint8
-    return library
+        return None, f"{found} is not there: {_HOW}"
+    try:
+        library = ctypes.CDLL(str(found))
+        for name, arguments in _FUNCTIONS.items():
+            function = getattr(library, f"wurgalm_{name}")
+            function.argtypes = [kind for argument in arguments for kind in _TYPES[argument]]
+            function.restype = ctypes.c_uint8
+    except (OSError, AttributeError) as wrong:
+        return None, f"{found} is not the shared library of wurgalm ({wrong}): {_HOW}"
+    return library, ""
+
+
+_LIBRARY, MISSING = _loaded()
 
 
 def number(name: str, *arguments: Any) -> int:
@@ -85,7 +96,7 @@ def number(name: str, *arguments: Any) -> int:
             lent += [argument if len(argument) else spare(), len(argument)]
         else:
             lent.append(argument)
-    return int(getattr(_library(), f"wurgalm_{name}")(*lent))
+    return int(getattr(_LIBRARY, f"wurgalm_{name}")(*lent))
 
 
 def call(name: str, *arguments: Any) -> None:
@@ -100,26 +111,40 @@ def zeros(length: int) -> "ctypes.Array[ctypes.c_int64]":
     return (ctypes.c_int64 * length)()
 
 
-def numbers(values: Iterable[int], refusal: int) -> "ctypes.Array[ctypes.c_int64]":
+def numbers(values: Iterable[int], refusal: int, name: str) -> "ctypes.Array[ctypes.c_int64]":
     """A store of these numbers. A number past 64 bits gets the refusal that the call would give to one past its limit."""
-    members = [word(value, refusal) for value in values]
+    members = [word(value, refusal, name) for value in values]
     return (ctypes.c_int64 * len(members))(*members)
 
 
-def octets(data: bytes) -> "ctypes.Array[ctypes.c_uint8]":
-    """A store of these bytes."""
-    return (ctypes.c_uint8 * len(data)).from_buffer_copy(data)
+def octets(data: Any, name: str = "data") -> "ctypes.Array[ctypes.c_uint8]":
+    """A store of these bytes: a copy, so that the call has them as they are now.
+
+    >>> import array
+    >>> octets(array.array("H", [3]))
+    Traceback (most recent call last):
+    TypeError: data: bytes (or a buffer of unsigned bytes) is wanted, not array
+    """
+    try:
+        view = memoryview(data)
+    except TypeError:
+        raise wanted(name, _OCTETS, data, "; encode it" if isinstance(data, str) else "") from None
+    # Members of two bytes would count as one each, and other shapes and orders are not the bytes of a text.
+    if view.format != "B" or view.ndim != 1 or not view.c_contiguous:
+        raise wanted(name, _OCTETS, data)
+    found = view.tobytes()
+    return (ctypes.c_uint8 * len(found)).from_buffer_copy(found)
 
 
-def word(value: int, refusal: int) -> int:
-    """The number, where it has a place in 64 bits."""
+def word(value: int, refusal: int, name: str) -> int:
+    """The number, where it has a place in 64 bits; else the refusal, which names it."""
     if not -(2**63) <= value < 2**63:
-        raise Refused.of(refusal)
+        raise Refused.of(refusal, f"{name} is {shown(value)}")
     return value
 
 
-def size(value: int) -> int:
+def size(value: int, name: str) -> int:
     """The number as a size: one below 0 or past 64 bits is out of every range."""
     if not 0 <= value < 2**63:
-        raise Refused.of(2)
+        raise Refused.of(2, f"{name} is {shown(value)}")
     return value

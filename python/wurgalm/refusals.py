@@ -1,29 +1,34 @@
 """What a refusal says: an exception for each number that a call gives (SCOPE 6.1 to 6.13)."""
 
 
-class Refused(Exception):
+class Refused(ValueError):
     """A call was refused. `number` says why, `sentence` says it in words, and each number has a class of its own.
+    `argument` says which argument is meant, where that can be told.
 
     >>> Refused.of(10)
     NoSolution(10)
     >>> print(Refused.of(7))
     refused with 7: a degree has passed 15
+    >>> print(Refused.of(2, "unknowns is 5"))
+    refused with 2: a size, block, column, count or order is out of its range (unknowns is 5)
     """
 
     number: int = 0
     sentence: str = "no call gives this number"
 
-    def __init__(self, number: int | None = None) -> None:
+    def __init__(self, number: int | None = None, argument: str = "") -> None:
         self.number = type(self).number if number is None else number
-        super().__init__(self.number)
+        self.argument = argument
+        super().__init__(self.number, *filter(None, [argument]))
 
     def __str__(self) -> str:
-        return f"refused with {self.number}: {self.sentence}"
+        told = f"refused with {self.number}: {self.sentence}"
+        return f"{told} ({self.argument})" if self.argument else told
 
     @staticmethod
-    def of(number: int) -> "Refused":
+    def of(number: int, argument: str = "") -> "Refused":
         """The exception of a number."""
-        return REFUSALS[number]() if number in REFUSALS else Refused(number)
+        return REFUSALS.get(number, Refused)(number, argument)
 
 
 class StoreTooShort(Refused):

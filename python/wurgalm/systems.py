@@ -1,10 +1,10 @@
 """Systems: equations with polynomial coefficients and right sides, relations, and the stores that hold them."""
-from collections.abc import Iterable, Mapping, Sequence
+from collections.abc import Callable, Iterable, Mapping, Sequence
 from dataclasses import dataclass
-from operator import index
 from typing import Any, TypeAlias
 
 from . import library
+from .arguments import instance, members, pair, shown, wanted, whole
 from .library import BLOCKS, COEFFICIENTS, COLUMNS, EQUATIONS, RELATION, RELATIONS, RIGHT_SIDE, ROW
 from .refusals import Refused
 
@@ -13,16 +13,34 @@ Polynomial: TypeAlias = tuple[int, ...]
 Place: TypeAlias = tuple[int, int]
 
 
+_LIMIT = 2**28 - 1  # of a coefficient and of n0 (SCOPE 1.4)
+_FARTHEST = 64  # of a block (SCOPE 1.2)
+
+
 def polynomial(coefficients: Iterable[int]) -> Polynomial:
     """The coefficients without zeros past the last that counts.
 
     >>> polynomial([0, 1, 0])
     (0, 1)
+    >>> polynomial([0.5])
+    Traceback (most recent call last):
+    TypeError: coefficients[0]: an int is wanted, not float
     """
-    found = [index(coefficient) for coefficient in coefficients]
-    while found and found[-1] == 0:
-        found.pop()
-    return tuple(found)
+    return listed(coefficients, "coefficients")
+
+
+def listed(coefficients: Any, name: str) -> Polynomial:
+    """The polynomial of these coefficients; a message calls them by the name."""
+    found = list(members(coefficients, name))
+    if any(type(coefficient) is not int for coefficient in found):
+        found = [whole(coefficient, f"{name}[{power}]") for power, coefficient in enumerate(found)]
+    return _trimmed(found)
+
+
+def _trimmed(coefficients: list[int]) -> Polynomial:
+    while coefficients and coefficients[-1] == 0:
+        coefficients.pop()
+    return tuple(coefficients)
 
 
 def value(coefficients: Polynomial, n: int) -> int:
@@ -31,6 +49,10 @@ def value(coefficients: Polynomial, n: int) -> int:
     >>> value((1, 0, 2), 3)
     19
     """
+    return _value(polynomial(coefficients), whole(n, "n"))
+
+
+def _value(coefficients: Polynomial, n: int) -> int:
     total = 0
     for coefficient in reversed(coefficients):
         total = total * n + coefficient
@@ -51,10 +73,13 @@ class Equation:
     right: Polynomial = ()
 
     def __init__(self, terms: Mapping[Place, Iterable[int]], right: Iterable[int] = ()) -> None:
-        found = {(index(block), index(column)): polynomial(p) for (block, column), p in terms.items()}
+        given = instance(terms, Mapping, "terms", "; its keys are blocks with columns, its values coefficients")
+        found = {(place := _place(key)): listed(p, f"terms[{_told(place)}]") for key, p in given.items()}
+        if len(found) < len(given):
+            raise ValueError("terms: a block and column is there twice")
         ordered = sorted(found, key=lambda place: (-place[0], place[1]))
         object.__setattr__(self, "terms", {place: found[place] for place in ordered if found[place]})
-        object.__setattr__(self, "right", polynomial(right))
+        object.__setattr__(self, "right", listed(right, "right"))
 
     def __hash__(self) -> int:
         return hash((tuple(self.terms.items()), self.right))
@@ -65,8 +90,9 @@ class Equation:
         >>> Equation({(1, 1): [0, 1], (0, 2): [-1]}, [3]).sum(2, {2: (1, 5), 3: (4, 0)})
         0
         """
-        total = sum(value(p, n) * vector[n + block][column - 1] for (block, column), p in self.terms.items())
-        return total - value(self.right, n)
+        n = whole(n, "n")
+        total = sum(_value(p, n) * _at(vector, n + block, column) for (block, column), p in self.terms.items())
+        return total - _value(self.right, n)
 
 
 @dataclass(frozen=True)
@@ -75,6 +101,10 @@ class Relation:
 
     n0: int
     equation: Equation
+
+    def __post_init__(self) -> None:
+        object.__setattr__(self, "n0", whole(self.n0, "n0"))
+        instance(self.equation, Equation, "equation")
 
 
 @dataclass(frozen=True)
@@ -108,10 +138,10 @@ class System:
         order: Iterable[int] = (),
     ) -> None:
         for name, number in (("unknowns", unknowns), ("highest", highest), ("lowest", lowest)):
-            object.__setattr__(self, name, index(number))
-        object.__setattr__(self, "equations", tuple(map(_equation, equations)))
-        object.__setattr__(self, "relations", tuple(map(_relation, relations)))
-        object.__setattr__(self, "order", tuple(map(index, order)))
+            object.__setattr__(self, name, whole(number, name))
+        object.__setattr__(self, "equations", each(_equation, equations, "equations"))
+        object.__setattr__(self, "relations", each(_relation, relations, "relations"))
+        object.__setattr__(self, "order", each(whole, order, "order"))
 
     @staticmethod
     def of_lists(
@@ -127,17 +157,19 @@ class System:
         >>> System.of_lists(1, [[[[0, 1]], [[-1]]]], [[2]]).equations
         (Equation(terms={(1, 1): (0, 1), (0, 1): (-1,)}, right=(2,)),)
         """
-        blocks = {len(row) for row in rows}
-        columns = {len(block) for row in rows for block in row}
+        highest = whole(highest, "highest")
+        table = each(lambda row, name: each(members, row, name), rows, "rows")
+        blocks, columns = {len(row) for row in table}, {len(block) for row in table for block in row}
         if len(blocks) != 1 or len(columns) != 1:
-            raise ValueError("there is no equation, or the equations have not all the same blocks and columns")
+            raise ValueError("rows: there is no equation, or the equations have not all the same blocks and columns")
         (depth,), (unknowns,) = blocks, columns
-        if len(right_sides) > len(rows):
-            raise ValueError("there are more right sides than equations")
-        sides = [*right_sides, *([()] * (len(rows) - len(right_sides)))]
+        sides = list(members(right_sides, "right_sides"))
+        if len(sides) > len(table):
+            raise ValueError(f"right_sides: there are {len(sides)}, and {len(table)} equations")
+        sides += [()] * (len(table) - len(sides))
         equations = [
             Equation({(highest - b, c): p for b, block in enumerate(row) for c, p in enumerate(block, 1)}, side)
-            for row, side in zip(rows, sides)
+            for row, side in zip(table, sides)
         ]
         return System(unknowns, highest, highest - depth + 1, equations, relations, order)
 
@@ -166,17 +198,59 @@ class System:
         return "\n".join(lines)
 
 
-def _equation(given: Any) -> Equation:
+def each(judged: Callable[[Any, str], Any], given: Any, name: str) -> tuple[Any, ...]:
+    """What each member of a list is judged to be. A message says which member it is about."""
+    found = []
+    for number, member in enumerate(members(given, name)):
+        where = f"{name}[{number}]"
+        try:
+            found.append(judged(member, where))
+        except (TypeError, ValueError) as wrong:
+            if isinstance(wrong, Refused) or str(wrong).startswith(where):
+                raise
+            raise (TypeError if isinstance(wrong, TypeError) else ValueError)(f"{where}: {wrong}") from None
+    return tuple(found)
+
+
+def _equation(given: Any, name: str) -> Equation:
     if isinstance(given, Equation):
         return given
-    return Equation(given) if isinstance(given, Mapping) else Equation(*given)
+    if isinstance(given, Mapping):
+        return Equation(given)
+    if not isinstance(given, tuple | list):
+        raise wanted(name, "an Equation, a mapping of its terms or a pair of that and a right side", given)
+    return Equation(*pair(given, name, "the terms and the right side"))
 
 
-def _relation(given: Any) -> Relation:
+def _relation(given: Any, name: str) -> Relation:
     if isinstance(given, Relation):
         return given
-    n0, equation = given
-    return Relation(index(n0), _equation(equation))
+    n0, equation = pair(given, name, "n0 and an equation")
+    return Relation(n0, _equation(equation, f"{name}[1]"))
+
+
+def _place(given: Any) -> Place:
+    block, column = pair(given, "terms", "block and column")
+    block, column = whole(block, "terms: a block"), whole(column, "terms: a column")
+    if column < 1:
+        raise ValueError(f"terms: columns count from 1, and {shown(column)} is given")
+    return block, column
+
+
+def _told(place: Place) -> str:
+    return ", ".join(map(shown, place))
+
+
+def _at(vector: Any, i: int, column: int) -> Any:
+    """What a sequence has at an index and column. A list has nothing below 0, where Python would count from its end."""
+    if not hasattr(vector, "__getitem__"):
+        raise wanted("vector", "a mapping from indices to vectors, or a list of vectors from index 0 on", vector)
+    try:
+        if i >= 0 or isinstance(vector, Mapping) or not hasattr(vector, "__len__"):
+            return vector[i][column - 1]
+    except (LookupError, TypeError):
+        pass
+    raise ValueError(f"vector: there is none at index {shown(i)} and column {shown(column)}")
 
 
 def _shown(equation: Equation) -> str:
@@ -196,43 +270,91 @@ def _in_n(p: Polynomial) -> str:
 
 
 class Stores:
-    """The row store, the relation store and the sizes of a system, as the calls take them (SCOPE 3.2, 3.4)."""
+    """The row store, the relation store and the sizes of a system, as the calls take them (SCOPE 3.2, 3.4), lent
+    to one call; they belong to no other object."""
 
     def __init__(self, system: System) -> None:
-        self.unknowns = library.size(system.unknowns)
-        self.highest = library.word(system.highest, 2)
-        self.lowest = library.word(system.lowest, 2)
+        self.unknowns = library.size(system.unknowns, "unknowns")
+        self.highest = library.word(system.highest, 2, "highest")
+        self.lowest = library.word(system.lowest, 2, "lowest")
         self.equations = len(system.equations)
         self.count = len(system.relations)
+        self.given = system
         self.rows = library.zeros(ROW * max(self.equations, EQUATIONS))
         self.relations = library.zeros(RELATION * max(self.count, RELATIONS))
         for number, equation in enumerate(system.equations):
-            self._put(self.rows, number * ROW, equation)
+            self._put(self.rows, number * ROW, equation, f"equations[{number}]")
         for number, relation in enumerate(system.relations):
-            self.relations[number * RELATION] = library.word(relation.n0, 5)
-            self._put(self.relations, number * RELATION + 1, relation.equation)
+            name = f"relations[{number}]"
+            self.relations[number * RELATION] = library.word(relation.n0, 5, f"{name}.n0")
+            self._put(self.relations, number * RELATION + 1, relation.equation, f"{name}.equation")
 
-    def _put(self, store: Any, begin: int, equation: Equation) -> None:
+    def _put(self, store: Any, begin: int, equation: Equation, name: str) -> None:
         for (block, column), p in equation.terms.items():
             # What has no place in the store is out of range, as it would be in a sheet.
-            within = self.lowest <= block <= self.highest < block + BLOCKS and 1 <= column <= min(self.unknowns, COLUMNS)
-            if not within or len(p) > COEFFICIENTS:
-                raise Refused.of(2)
+            if not self.lowest <= block <= self.highest < block + BLOCKS:
+                raise Refused.of(2, f"{name} has the block {shown(block)}")
+            if not 1 <= column <= min(self.unknowns, COLUMNS):
+                raise Refused.of(2, f"{name} has the column {shown(column)}")
             at = begin + ((self.highest - block) * COLUMNS + column - 1) * COEFFICIENTS
-            for power, coefficient in enumerate(p):
-                store[at + power] = library.word(coefficient, 5)
-        if len(equation.right) > COEFFICIENTS:
-            raise Refused.of(2)
-        for power, coefficient in enumerate(equation.right):
-            store[begin + RIGHT_SIDE + power] = library.word(coefficient, 5)
+            _put(store, at, p, f"{name}.terms[{_told((block, column))}]")
+        _put(store, begin + RIGHT_SIDE, equation.right, f"{name}.right")
+
+    def __reduce__(self) -> Any:
+        raise TypeError("Stores: a copy would share them; make others of the system")
 
     def arguments(self) -> tuple[Any, ...]:
         """The stores and sizes in the order in which every call on a system takes them."""
         return self.rows, self.relations, self.unknowns, self.equations, self.highest, self.lowest, self.count
 
+    def call(self, name: str, *others: Any, told: Mapping[int, str] | None = None) -> None:
+        """The call of this name on the system."""
+        number = library.number(name, *self.arguments(), *others)
+        if number:
+            raise self.refused(number, told)
+
+    def refused(self, number: int, told: Mapping[int, str] | None = None) -> Refused:
+        """The refusal of a call, with the argument of the system that explains it, or what is told of the others."""
+        return Refused.of(number, _blamed(self.given, number) or (told or {}).get(number, ""))
+
     def system(self, equations: int, count: int, order: Iterable[int] = ()) -> System:
         """The system that the stores hold, with so many equations and relations."""
         return held(self.rows, self.relations, self.unknowns, equations, self.highest, self.lowest, count, order)
+
+
+def _put(store: Any, at: int, p: Polynomial, name: str) -> None:
+    if len(p) > COEFFICIENTS:
+        raise Refused.of(2, f"{name} has {len(p)} coefficients")
+    for power, coefficient in enumerate(p):
+        store[at + power] = library.word(coefficient, 5, f"{name}[{power}]")
+
+
+def _blamed(system: System, number: int) -> str:
+    """The first argument that explains a refusal with 2 or 5; nothing where none of the system's does."""
+    if number == 2:
+        equations, relations = len(system.equations), len(system.relations)
+        faults = [
+            (1 <= system.unknowns <= COLUMNS, f"unknowns is {system.unknowns}"),
+            (equations <= EQUATIONS, f"there are {equations} equations"),
+            (abs(system.highest) <= _FARTHEST, f"highest is {system.highest}"),
+            (abs(system.lowest) <= _FARTHEST, f"lowest is {system.lowest}"),
+            (0 <= system.highest - system.lowest < BLOCKS, f"highest is {system.highest} and lowest {system.lowest}"),
+            (relations <= RELATIONS, f"there are {relations} relations"),
+        ]
+        return next((told for holds, told in faults if not holds), "")
+    if number == 5:
+        numbers = [(f"equations[{i}]{where}", a) for i, e in enumerate(system.equations) for where, a in _numbers(e)]
+        for i, relation in enumerate(system.relations):
+            numbers.append((f"relations[{i}].n0", relation.n0))
+            numbers += [(f"relations[{i}].equation{where}", a) for where, a in _numbers(relation.equation)]
+        return next((f"{name} is {a}" for name, a in numbers if abs(a) > _LIMIT), "")
+    return ""
+
+
+def _numbers(equation: Equation) -> Iterable[tuple[str, int]]:
+    for (block, column), p in equation.terms.items():
+        yield from ((f".terms[{_told((block, column))}][{power}]", a) for power, a in enumerate(p))
+    yield from ((f".right[{power}]", a) for power, a in enumerate(equation.right))
 
 
 def held(
@@ -240,14 +362,20 @@ def held(
 ) -> System:
     """The system that a row store and a relation store hold."""
 
+    places = [(block, column) for block in range(highest, lowest - 1, -1) for column in range(1, unknowns + 1)]
+
     def equation(store: Any, begin: int) -> Equation:
-        terms = {}
-        for block in range(lowest, highest + 1):
-            for column in range(1, unknowns + 1):
-                at = begin + ((highest - block) * COLUMNS + column - 1) * COEFFICIENTS
-                terms[block, column] = store[at:at + COEFFICIENTS]
-        at = begin + RIGHT_SIDE
-        return Equation(terms, store[at:at + COEFFICIENTS])
+        """What the library has written is right as it stands, so it is not judged as what a caller gives."""
+        found = object.__new__(Equation)
+        row, terms = store[begin:begin + ROW], {}
+        for block, column in places:
+            at = ((highest - block) * COLUMNS + column - 1) * COEFFICIENTS
+            p = _trimmed(row[at:at + COEFFICIENTS])
+            if p:
+                terms[block, column] = p
+        object.__setattr__(found, "terms", terms)
+        object.__setattr__(found, "right", _trimmed(row[RIGHT_SIDE:]))
+        return found
 
     listed = [Relation(relations[i * RELATION], equation(relations, i * RELATION + 1)) for i in range(count)]
     columns = [column for column in order if column]

@@ -1189,7 +1189,32 @@ static void systems_not_written(void) {
     unwritten(&stores, call, none, 5, "a number past the relations");
 }
 
+/* Each refusal has a sentence of its own, and every other number the same one. python/tests/test_pages.py holds them
+ * against those of Rust, Python and docs/REFUSALS.md. */
+static void sentences(void) {
+    const char *const none = wurgalm_refusal_sentence(6);
+    Stores stores;
+    int a, b, holds = 1;
+    check(strcmp(none, "no call gives this number") == 0, "the sentence of no refusal");
+    for (a = 0; a <= 14; a++) {
+        for (b = 0; b < a; b++) {
+            holds = holds && strcmp(wurgalm_refusal_sentence(a), wurgalm_refusal_sentence(b)) != 0;
+        }
+    }
+    check(holds, "two refusals have two sentences");
+    for (a = 15; a <= 300; a++) {
+        holds = holds && strcmp(wurgalm_refusal_sentence(a), none) == 0;
+        holds = holds && strcmp(wurgalm_refusal_sentence(-a), none) == 0;
+    }
+    check(holds, "every other number has the sentence of no refusal");
+    prepare(&stores, 9);
+    check(strcmp(wurgalm_refusal_sentence(read_sheet("3 1 0 0\n", &stores, asked())),
+                 "the bytes end early, or go on behind the last section") == 0,
+          "the sentence of what a call returns");
+}
+
 int main(void) {
+    sentences();
     k2_read_run_written();
     k11_on_both_sides();
     k8_on_one_side(wurgalm_run_leading, 1, 1);

@@ -177,11 +177,11 @@ fn program(name: &str, variable: &str) -> PathBuf {
 }
 
 impl Library {
-    /// The library and the programs, `None` where one of them is not built. WURGALM_PROGRAM names another batch program,
-    /// WURGALM_INDUCE another `induce`.
+    /// The library and the programs, `None` where one of these is not built. WURGALM_PROGRAM names another batch
+    /// program, WURGALM_INDUCE another `induce`.
     pub fn found() -> Option<Library> {
         let (program, induce) = (program("regularise", "WURGALM_PROGRAM"), program("induce", "WURGALM_INDUCE"));
-        if wurgalm::LINKED && program.exists() && induce.exists() {
+        if program.exists() && induce.exists() {
             Some(Library { program, induce })
         } else {
             None
@@ -191,8 +191,7 @@ impl Library {
     /// As [`Library::found`], or a message and the end of the program.
     pub fn needed() -> Library {
         Library::found().unwrap_or_else(|| {
-            eprintln!("needs target/staticlib/libwurgalm.a (`rt staticlib exports`), target/bin/regularise and target/bin/induce");
-            eprintln!("(`rt check regularise induce`), and a build of this crate after them");
+            eprintln!("needs target/bin/regularise and target/bin/induce: run `rt check regularise induce`");
             std::process::exit(2)
         })
     }

@@ -100,7 +100,7 @@ fn taken(mut system: System, state: State, file: &str, options: Options) -> Outc
         return kept(&mut system, &state);
     }
     let Some(report) = report else { return Err(End::Refused(format!("{file}: the run did not finish"))) };
-    system.settle(&report);
+    system.settle(&report).map_err(|refusal| refused(refusal, file))?;
     Ok(answer(&system, &report, false, &options.names).into_bytes())
 }
 

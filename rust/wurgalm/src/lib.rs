@@ -23,9 +23,6 @@ pub use solutions::{solutions, Solutions, LIST_STORE, MATRIX_STORE, SEQUENCE};
 pub use steps::{prepare, run_steps, Progress, Refused, Run, State, Steps};
 pub use system::{Builder, Equation, System, Term};
 
-/// Whether the static library was there when this crate was built. Without it every call panics.
-pub const LINKED: bool = cfg!(archive);
-
 /// Numbers that hold one polynomial, from power 0 upward.
 pub const COEFFICIENTS: usize = 16;
 /// Numbers that hold the entries of one row; its right side begins behind them.
@@ -46,16 +43,30 @@ const HEADING: usize = 9;
 /// Numbers that the answer to a record has.
 const RECORD: usize = 4;
 
+/// The most sheets of a batch.
+pub const SHEETS: usize = 1_000;
 /// Bytes that are enough for the sheet of any recurrence, which is proved (SCOPE 10.42).
 pub const RECURRENCE: usize = 25_223;
 
-/// Numbers that the row store of a system with so many equations needs.
+/// Numbers that the row store of a system with so many equations needs. No system has more than [`EQUATIONS`], and a
+/// store for those is long enough for every call: it refuses a larger number with 2.
 ///
 /// ```
 /// assert_eq!(wurgalm::row_store(2), 2 * wurgalm::ROW);
+/// let (mut rows, mut relations) = (vec![0; wurgalm::row_store(usize::MAX)], vec![0; wurgalm::RELATION_STORE]);
+/// let sizes = wurgalm::Sizes { m: 1, equations: usize::MAX, l: 0, t: 0 };
+/// assert_eq!(wurgalm::run_leading(&mut rows, &mut relations, sizes, 0), Err(wurgalm::Refusal(2)));
 /// ```
 pub const fn row_store(equations: usize) -> usize {
-    equations * ROW
+    at_most(equations, EQUATIONS) * ROW
+}
+
+const fn at_most(count: usize, most: usize) -> usize {
+    if count < most {
+        count
+    } else {
+        most
+    }
 }
 
 /// Unknowns, equations, highest block, lowest block. There may be fewer equations than unknowns, or more.
@@ -323,12 +334,14 @@ pub fn batch(input: &[u8], output: &mut [u8]) -> Result<usize, Refusal> {
     accepted(number, result[0] as usize)
 }
 
-/// Bytes that are enough for the output of a batch of so many sheets.
+/// Bytes that are enough for the output of a batch of so many sheets. No batch has more than [`SHEETS`], and the bytes
+/// for those are enough for every input: one that names more is broken, and its output ends in the line `3`.
 ///
 /// ```
 /// let mut output = vec![0; wurgalm::batch_output(0)];
 /// assert_eq!(wurgalm::batch(b"0\n", &mut output), Ok(32)); // eight lines `0 0`
+/// assert_eq!(wurgalm::batch_output(usize::MAX), wurgalm::batch_output(wurgalm::SHEETS));
 /// ```
 pub const fn batch_output(sheets: usize) -> usize {
-    sheets * (2 + 65_536) + 8 * 24
+    at_most(sheets, SHEETS) * (2 + 65_536) + 8 * 24
 }

@@ -242,7 +242,7 @@ impl System {
     /// let mut system = wurgalm::System::from_sheet(b"3 1 0 0\n1\n1 0 1 1 5\n0\n0\n").unwrap(); // 5 x(n) = 0
     /// let (rows, relations, heading) = system.stores();
     /// let report = wurgalm::run_leading(rows, relations, heading.sizes, heading.relations).unwrap();
-    /// system.settle(&report); // the system takes the rank, the relations and the order of the run
+    /// system.settle(&report).unwrap(); // the system takes the rank, the relations and the order of the run
     /// assert_eq!(system.order(), [1]);
     /// ```
     pub fn stores(&mut self) -> (&mut [i64], &mut [i64], Heading) {
@@ -322,26 +322,60 @@ impl System {
     /// A run or a replay that was refused on its way leaves zeros, one that its checks refused leaves all as it was.
     fn settle_answer(&mut self, answer: Result<Report, Refusal>) -> Result<Report, Refusal> {
         match answer {
-            Ok(report) => self.settle(&report),
+            Ok(report) => self.take(&report),
             Err(Refusal(1..=5)) => {}
             Err(_) => {
-                self.settle(&Report { relations: 0, shifts: 0, order: [0; 4], root: None, rank: 0, multiplicity: 0 })
+                self.take(&Report { relations: 0, shifts: 0, order: [0; 4], root: None, rank: 0, multiplicity: 0 })
             }
         }
         answer
     }
 
-    /// Takes the sizes of what a run has left in the stores.
+    /// Takes the sizes of what a run has left in the stores. Where the stores do not hold what the report tells, it is
+    /// that of another system: it is refused with 11, and the system stays as it was.
     ///
     /// ```
     /// let mut system = wurgalm::System::from_sheet(b"3 1 0 0\n2\n1 0 1 1 5\n1 0 1 1 5\n0\n0\n").unwrap();
     /// let (rows, relations, heading) = system.stores(); // 5 x(n) = 0, two times
     /// let mut run = wurgalm::Run::prepare(rows, relations, heading.sizes, heading.relations).unwrap();
     /// let report = run.advance(252).unwrap().report.unwrap();
-    /// system.settle(&report);
+    /// system.settle(&report).unwrap();
     /// assert_eq!(system.to_sheet().unwrap(), b"3 1 0 0\n1\n1 0 1 1 5\n0\n1 1\n");
+    /// let mut other = wurgalm::System::from_sheet(b"3 1 0 0\n2\n1 0 1 1 5\n1 0 1 1 5\n0\n0\n").unwrap();
+    /// assert_eq!(other.settle(&report), Err(wurgalm::Refusal(11))); // it was not run: two rows are left
     /// ```
-    pub fn settle(&mut self, report: &Report) {
+    pub fn settle(&mut self, report: &Report) -> Result<(), Refusal> {
+        if !self.holds(report) {
+            return Err(Refusal(11));
+        }
+        self.take(report);
+        Ok(())
+    }
+
+    /// Whether the stores hold what a run with this report leaves: so many rows, triangular in its order on one side,
+    /// so many relations, those of before among them, and zeros past them.
+    fn holds(&self, report: &Report) -> bool {
+        let (Sizes { m, equations, l, t }, Report { rank, relations, order, .. }) = (self.heading.sizes, *report);
+        if rank > equations.min(COLUMNS) || !(self.heading.relations..=RELATIONS).contains(&relations) {
+            return false;
+        }
+        let (columns, behind) = order.split_at(rank);
+        let is_column = |(i, c): (usize, &i64)| (1..=m as i64).contains(c) && !columns[..i].contains(c);
+        let unused = [&self.rows[rank * ROW..], &self.relations[relations * RELATION..], behind];
+        columns.iter().enumerate().all(is_column)
+            && unused.into_iter().flatten().all(|&number| number == 0)
+            && (self.is_triangular(l, columns) || self.is_triangular(t, columns))
+    }
+
+    /// Whether in this block each row has an entry in its own column, and no later row has one there.
+    fn is_triangular(&self, block: i64, columns: &[i64]) -> bool {
+        columns.iter().enumerate().all(|(i, &column)| {
+            let mut entries = self.equations().skip(i).map(|equation| equation.entry(block, column as usize));
+            entries.next().is_some_and(|diagonal| !diagonal.is_empty()) && entries.all(|below| below.is_empty())
+        })
+    }
+
+    fn take(&mut self, report: &Report) {
         self.heading.sizes.equations = report.rank;
         self.heading.relations = report.relations;
         self.heading.order = report.order;

@@ -1,4 +1,4 @@
-//! K2, K8 and K11 (SCOPE 7.2, 7.8, 7.11) through the library. Where it is not built a call panics, so every test here fails.
+//! K2, K8 and K11 (SCOPE 7.2, 7.8, 7.11) through the library.
 
 use wurgalm::{batch, batch_output, read_differential, read_sheet, right_side, row_store, run_leading, run_trailing};
 use wurgalm::{write_recurrence, write_sheet, Heading, Refusal, Report, Sizes};

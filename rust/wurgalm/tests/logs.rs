@@ -1,4 +1,4 @@
-//! Elimination logs (02, U12) through the library. Where it is not built a call panics, so every test here that makes one fails.
+//! Elimination logs (02, U12) through the library.
 
 use std::fs;
 use std::path::Path;

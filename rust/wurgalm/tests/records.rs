@@ -1,4 +1,4 @@
-//! Records (02, U10) through the library. Where it is not built a call panics, so every test here fails.
+//! Records (02, U10) through the library.
 
 use std::fs;
 use std::path::Path;

@@ -1,4 +1,4 @@
-//! Polynomial solutions (02, U13) through the library. Where it is not built a call panics, so every test here fails.
+//! Polynomial solutions (02, U13) through the library.
 
 use std::fs;
 use std::path::Path;

@@ -1,4 +1,4 @@
-//! The leading run by steps (02, U9) through the library. Where it is not built a call panics, so every test here fails.
+//! The leading run by steps (02, U9) through the library.
 
 use std::fs;
 use std::path::Path;
