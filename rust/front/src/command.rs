@@ -1,8 +1,8 @@
 //! The dispatch: which subcommand, its arguments, its exit status.
 
-use crate::{batch, check, fits, help, induce, log, replay, run, series, show, solutions, steps, type_in};
+use crate::{batch, check, fits, help, induce, log, output, replay, run, series, show, solutions, steps, type_in};
 use std::ffi::OsString;
-use std::io::{self, Read, Write};
+use std::io::{self, Read};
 use std::process::ExitCode;
 use std::{fs, path::Path};
 use wurgalm::Refusal;
@@ -12,8 +12,12 @@ use wurgalm::Refusal;
 pub enum End {
     /// The input is refused: exit status 1.
     Refused(String),
-    /// The command is used wrongly, or a file cannot be read: exit status 2.
+    /// The command is used wrongly: exit status 2, and its usage behind the message.
     Misused(String),
+    /// A file cannot be read or written, or the answer cannot: exit status 2.
+    Failed(String),
+    /// Nobody reads the answer any more: exit status 141, and no message.
+    Closed,
 }
 
 impl From<Refusal> for End {
@@ -152,17 +156,15 @@ fn dispatch(mut words: Vec<String>) -> Outcome {
 /// Runs the command: its answer to standard output, messages to standard error; 0 accepted, 1 refused, 2 wrong use.
 pub fn main(arguments: Vec<OsString>) -> ExitCode {
     let words = arguments.into_iter().map(|word| word.to_string_lossy().into_owned()).collect();
-    match dispatch(words) {
-        Ok(answer) => match io::stdout().lock().write_all(&answer) {
-            Ok(()) => ExitCode::SUCCESS,
-            Err(error) => ended(2, &format!("the answer cannot be written: {error}")),
-        },
+    match dispatch(words).and_then(|answer| output::write(&answer)) {
+        Ok(()) => ExitCode::SUCCESS,
         Err(End::Refused(message)) => ended(1, &message),
-        Err(End::Misused(message)) => ended(2, &message),
+        Err(End::Misused(message) | End::Failed(message)) => ended(2, &message),
+        Err(End::Closed) => ExitCode::from(output::CLOSED),
     }
 }
 
 fn ended(status: u8, message: &str) -> ExitCode {
-    eprintln!("wurgalm: {message}");
+    output::say(&format!("wurgalm: {message}\n"));
     ExitCode::from(status)
 }
