@@ -10,6 +10,7 @@ mod check;
 pub mod command;
 pub mod differentials;
 pub mod expressions;
+mod files;
 mod fits;
 pub mod frames;
 mod help;

@@ -69,7 +69,8 @@ pub fn command(words: &[String], sheet: &[u8]) -> Result<String, Told> {
         End::Refused(message) if message.contains("refused with ") => Told::Refused,
         End::Refused(message) if message.contains(", too far from ") => Told::Far,
         End::Refused(message) => Told::Cannot(message),
-        End::Misused(message) => Told::Misused(message),
+        End::Misused(message) | End::Failed(message) => Told::Misused(message),
+        End::Closed => Told::Misused("closed".into()),
     })
 }
 
@@ -467,10 +468,10 @@ impl Tested {
         random: &mut Random,
         series: Series,
     ) -> Result<(), Fault> {
-        let places: Vec<Place> = case.places().collect();
+        let mut places: Vec<Place> = case.places().collect();
         let mut start: Vec<String> = Vec::new();
-        for _ in 0..1 + random.below(4) {
-            let (place, value) = (random.pick(&places), fraction(random));
+        for _ in 0..(1 + random.below(4)).min(places.len()) {
+            let (place, value) = (places.swap_remove(random.below(places.len())), fraction(random));
             let given = Fraction::read(&value).expect("a fraction");
             start.push(format!("{}={value}", text::named(place)));
             let added = known.add(&Sum::single(place, given.numerator, given.denominator))?;
