@@ -1,7 +1,8 @@
 //! The help of each subcommand.
 
 const TAIL: &str =
-    "Exit status: 0 accepted, 1 refused, 2 wrong use. Messages are on standard error. `-` is standard input.\n";
+    "Exit status: 0 accepted, 1 refused, 2 wrong use or a file that cannot be read or written, 141 where nobody reads the\n\
+     answer. Messages are on standard error. `-` is standard input; behind `--` every word is a file.\n";
 
 /// Name, arguments, and what it does.
 const PAGES: &[(&str, &str, &str)] = &[
@@ -82,6 +83,21 @@ const PAGES: &[(&str, &str, &str)] = &[
          standard error where that is a terminal, or with --progress. A broken batch has exit status 1, and its place is told.\n",
     ),
 ];
+
+/// The parts of all usages between brackets and bars: an option and its value, an option alone, or files.
+fn parts() -> impl Iterator<Item = &'static str> {
+    PAGES.iter().flat_map(|(_, arguments, _)| arguments.split(['[', ']', '|'])).map(str::trim)
+}
+
+/// Whether some subcommand has that option.
+pub fn is_option(option: &str) -> bool {
+    option.starts_with('-') && parts().any(|part| part.split(' ').next() == Some(option))
+}
+
+/// Whether an option has a value behind it: its usage says what.
+pub fn takes_value(option: &str) -> bool {
+    is_option(option) && !parts().any(|part| part == option)
+}
 
 pub fn overview() -> String {
     let mut text = String::from("wurgalm SUBCOMMAND ..: the recurrence regulariser\n\n");
