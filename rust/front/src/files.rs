@@ -1,6 +1,6 @@
 //! Files that the command writes: whole or not at all, and never over what it reads.
 
-use crate::command::{named, End};
+use crate::command::{named, End, FileName};
 use crate::output::shown_name;
 use std::fs::{self, File, Metadata, OpenOptions};
 use std::io::{self, ErrorKind, Write};
@@ -15,17 +15,13 @@ fn failed<T>(path: &str, why: impl std::fmt::Display) -> Result<T, End> {
     Err(End::Failed(format!("{}: {why}", shown_name(path))))
 }
 
-/// An input as the system names it.
-fn input(path: &str) -> &str {
-    if path == "-" {
-        "/dev/stdin"
-    } else {
-        path
-    }
+/// What stands behind the name of an input.
+fn input(file: &FileName) -> io::Result<Metadata> {
+    fs::metadata(if &**file == "-" { Path::new("/dev/stdin") } else { file.as_ref() })
 }
 
 /// The file that is to be written, behind all links, and what stands there. It is none of the inputs, and may be replaced.
-pub fn target(path: &str, inputs: &[&str]) -> Result<(PathBuf, Option<Metadata>), End> {
+pub fn target(path: &str, inputs: &[&FileName]) -> Result<(PathBuf, Option<Metadata>), End> {
     let there = match fs::metadata(path) {
         Ok(there) => there,
         Err(error) if error.kind() == ErrorKind::NotFound && fs::symlink_metadata(path).is_err() => {
@@ -34,7 +30,7 @@ pub fn target(path: &str, inputs: &[&str]) -> Result<(PathBuf, Option<Metadata>)
         Err(error) => return failed(path, error),
     };
     let is_there = |input: &Metadata| (input.dev(), input.ino()) == (there.dev(), there.ino());
-    if let Some(same) = inputs.iter().find(|path| fs::metadata(input(path)).is_ok_and(|input| is_there(&input))) {
+    if let Some(same) = inputs.iter().find(|file| input(file).is_ok_and(|input| is_there(&input))) {
         return failed(path, format_args!("is the file that is read as {}, and is left as it is", named(same)));
     }
     if !there.is_file() {
@@ -79,7 +75,7 @@ fn replace(path: &Path, there: Option<Metadata>, bytes: &[u8]) -> io::Result<()>
 }
 
 /// Writes a file whole or not at all, and over none of the inputs.
-pub fn write(path: &str, bytes: &[u8], inputs: &[&str]) -> Result<(), End> {
+pub fn write(path: &str, bytes: &[u8], inputs: &[&FileName]) -> Result<(), End> {
     let (place, there) = target(path, inputs)?;
     replace(&place, there, bytes).or_else(|error| failed(path, error))
 }

@@ -13,7 +13,7 @@ use std::os::unix::fs::{FileTypeExt, OpenOptionsExt};
 use std::path::Path;
 use std::process;
 use std::sync::atomic::{AtomicBool, Ordering};
-use std::sync::{Arc, Mutex, OnceLock};
+use std::sync::Arc;
 use std::thread;
 use std::time::Duration;
 
@@ -47,17 +47,11 @@ fn unwritten(why: impl std::fmt::Display) -> End {
 }
 
 /// Standard output itself: `Stdout` would take a stream that is not open for writing for one that is.
-fn standard_output() -> Result<&'static Mutex<File>, End> {
-    static STREAM: OnceLock<Mutex<File>> = OnceLock::new();
+pub fn stream() -> Result<File, End> {
     if IS_CLOSED.load(Ordering::Relaxed) {
         return Err(unwritten("standard output is closed"));
     }
-    if STREAM.get().is_none() {
-        let stream = io::stdout().as_fd().try_clone_to_owned().map_err(unwritten)?;
-        // Where two threads come here at once, one of the two streams is dropped.
-        let _ = STREAM.set(Mutex::new(stream.into()));
-    }
-    STREAM.get().ok_or_else(|| unwritten("standard output is lost"))
+    io::stdout().as_fd().try_clone_to_owned().map(File::from).map_err(unwritten)
 }
 
 /// Writes and flushes a piece of the answer to standard output, at once.
@@ -65,9 +59,7 @@ pub fn write(bytes: &[u8]) -> Result<(), End> {
     if bytes.is_empty() {
         return Ok(());
     }
-    let stream = standard_output()?;
-    let mut stream = stream.lock().unwrap_or_else(|poisoned| poisoned.into_inner());
-    write_to(&mut *stream, bytes)
+    write_to(&mut stream()?, bytes)
 }
 
 /// Writes and flushes bytes, however slowly they are taken.

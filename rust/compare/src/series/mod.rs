@@ -70,7 +70,7 @@ pub fn command(words: &[String], sheet: &[u8]) -> Result<String, Told> {
         End::Refused(message) if message.contains(", too far from ") => Told::Far,
         End::Refused(message) => Told::Cannot(message),
         End::Misused(message) | End::Failed(message) => Told::Misused(message),
-        End::Closed => Told::Misused("closed".into()),
+        End::Closed => Told::Misused("nobody reads the answer".into()),
     })
 }
 

@@ -12,7 +12,7 @@ pub mod solver;
 mod text;
 pub mod watch;
 
-use crate::command::{is_differential, last, named, Arguments, End, Outcome};
+use crate::command::{is_differential, last, named, Arguments, End, FileName, Outcome};
 use crate::run::{consequence, counted, refused, system_of};
 use crate::{files, output};
 use asked::{column, Asked, Start};
@@ -43,7 +43,7 @@ pub fn of_sheet(words: &[String], sheet: &[u8]) -> Outcome {
     let asked = Asked::new(&mut arguments, false)?;
     arguments.files(0, 0)?;
     let (watch, mut text) = (Watch::quiet(asked.limit), Vec::new());
-    Answer::new(&asked, System::from_sheet(sheet)?, "-", &watch)?.write(&mut |piece| {
+    Answer::new(&asked, System::from_sheet(sheet)?, &FileName::from("-"), &watch)?.write(&mut |piece| {
         text.extend_from_slice(piece);
         Ok(())
     })?;
@@ -63,7 +63,7 @@ fn not_run(unrun: Unrun, file: &str) -> End {
 /// All that is asked of a model, the starting values put in.
 struct Answer<'a> {
     asked: &'a Asked,
-    file: &'a str,
+    file: &'a FileName,
     watch: &'a Watch,
     model: Model,
     names: &'a [String],
@@ -83,7 +83,7 @@ enum Form {
 }
 
 impl<'a> Answer<'a> {
-    fn new(asked: &'a Asked, input: System, file: &'a str, watch: &'a Watch) -> Result<Answer<'a>, End> {
+    fn new(asked: &'a Asked, input: System, file: &'a FileName, watch: &'a Watch) -> Result<Answer<'a>, End> {
         let names = &asked.names[..input.sizes().m];
         let model = Model::new(input, asked.kind).map_err(|unrun| not_run(unrun, file))?;
         let begin = model.begin(asked.kind);
