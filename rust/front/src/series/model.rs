@@ -145,15 +145,16 @@ impl Model {
         for (n0, _, _) in self.relations(kind).filter(|(n0, _, row)| ties(row, *n0)) {
             (low, high) = (low.min(n0 + sizes.t), high.max(n0 + sizes.l));
         }
+        let (up, down) = (self.report.shifts as i64, self.trailing.as_ref().map_or(0, |(_, report)| report.shifts as i64));
         if let Some((_, report)) = &self.trailing {
-            low = low.min(report.root.map_or(low, |root| root + sizes.t)) - report.shifts as i64;
+            low = low.min(report.root.map_or(low, |root| root + sizes.t)) - down;
         }
         low = match kind {
             Kind::TwoSided => low - span - 1,
             Kind::First(k) => k + sizes.t,
             Kind::ZeroBelow(index) => index - span,
         };
-        high = high.saturating_add(span + 1).max(low + span) + self.report.shifts as i64;
+        high = high.saturating_add(span + 1).max(low + span + down) + up;
         if first - low > REACH || high - last > REACH {
             let told =
                 format!("the roots and relations reach from index {low} to {high}, too far from {first} to {last}");
