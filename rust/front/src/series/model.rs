@@ -63,6 +63,8 @@ pub enum Unrun {
     Trailing(Refusal),
 }
 
+const RELATION: &str = "relation";
+
 /// An equation or a relation as messages name it.
 pub struct Named {
     what: &'static str,
@@ -86,7 +88,7 @@ fn equations<'a>(of: &'static str, system: &'a System) -> impl Iterator<Item = (
 }
 
 fn relations<'a>(of: &'static str, system: &'a System) -> impl Iterator<Item = (i64, Named, Equation<'a>)> {
-    let named = move |number| Named { what: "relation", number, of };
+    let named = move |number| Named { what: RELATION, number, of };
     system.relations().enumerate().map(move |(at, (n0, row))| (n0, named(at + 1), row))
 }
 
@@ -112,6 +114,20 @@ impl Model {
     /// The relations that count, with the n of each.
     pub fn relations(&self, kind: Kind) -> impl Iterator<Item = (i64, Named, Equation<'_>)> {
         self.systems().flat_map(|(of, system)| relations(of, system)).filter(move |(n0, ..)| kind.counts(*n0))
+    }
+
+    /// The shifts of the leading and of the trailing run.
+    fn shifts(&self) -> (i64, i64) {
+        (self.report.shifts as i64, self.trailing.as_ref().map_or(0, |(_, report)| report.shifts as i64))
+    }
+
+    /// What has to hold at n, where all from `first` on are held: from the shifts of both runs on, the leading run's equations
+    /// imply the others.
+    pub fn needed_at(&self, n: i64, first: i64, kind: Kind) -> impl Iterator<Item = Equation<'_>> {
+        let (up, down) = self.shifts();
+        let is_first = n < first + up + down;
+        let others = self.said_at(n, kind).filter(move |(named, _)| is_first || named.what == RELATION);
+        others.map(|(_, row)| row).chain(self.leading.equations().filter(move |_| !is_first))
     }
 
     /// What is said at n: the equations, and the relations behind them.
@@ -145,7 +161,7 @@ impl Model {
         for (n0, _, _) in self.relations(kind).filter(|(n0, _, row)| ties(row, *n0)) {
             (low, high) = (low.min(n0 + sizes.t), high.max(n0 + sizes.l));
         }
-        let (up, down) = (self.report.shifts as i64, self.trailing.as_ref().map_or(0, |(_, report)| report.shifts as i64));
+        let (up, down) = self.shifts();
         if let Some((_, report)) = &self.trailing {
             low = low.min(report.root.map_or(low, |root| root + sizes.t)) - down;
         }

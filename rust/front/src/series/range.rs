@@ -13,7 +13,7 @@
 use super::fractions::Fraction;
 use super::integers::Integer;
 use super::model::{Kind, Lacking, Model};
-use super::solver::{Row, Solver};
+use super::solver::{Conditions, Row, Solver};
 use super::watch::{Late, Watch};
 use std::ops::RangeInclusive;
 use wurgalm::{Equation, Sizes};
@@ -67,18 +67,27 @@ impl Places {
 
     /// Holds what is said at n.
     fn hold(&self, solver: &mut Solver, model: &Model, n: i64, watch: &Watch) -> Result<(), Stop> {
-        for (_, equation) in model.said_at(n, self.kind) {
+        for equation in model.needed_at(n, self.window.0 - self.sizes.t, self.kind) {
             solver.hold(self.row(&equation, n), watch)?;
         }
         Ok(())
     }
 
-    /// Holds what the leading run says at n.
-    fn follow(&self, solver: &mut Solver, model: &Model, n: i64, watch: &Watch) -> Result<(), Stop> {
-        for equation in model.leading.equations() {
-            solver.hold(self.row(&equation, n), watch)?;
+    /// Takes what is said at n into conditions, and forgets a vector with it; gives how many of its values nothing gives.
+    fn pass(&self, by: &mut Conditions, model: &Model, (n, index): (i64, i64), watch: &Watch) -> Result<usize, Stop> {
+        let mut solver = Solver::default();
+        self.hold(&mut solver, model, n, watch)?;
+        self.leave(by, solver, index, watch)
+    }
+
+    /// Forgets a vector, with what a solver says of it.
+    fn leave(&self, by: &mut Conditions, solver: Solver, index: i64, watch: &Watch) -> Result<usize, Stop> {
+        let free = by.pass(solver, (1..=self.sizes.m).map(|column| self.unknown(index, column)), watch)?;
+        match free {
+            None => Err(Stop::Contradiction),
+            Some(_) if self.kind.is_zero(index) => Ok(0),
+            Some(free) => Ok(free),
         }
-        Ok(())
     }
 
     /// Forgets a vector of which nothing more is said, and counts those of its values that nothing gives.
@@ -169,19 +178,31 @@ impl Range {
             return Err(Stop::Contradiction);
         }
         // Of the vectors from here on the equations above the range speak too.
-        let (mut forgotten, kept) = (places.window.0, first.min(last + 1 - (sizes.l - sizes.t)));
-        for n in places.ns(self.worked) {
-            watch.tell(|| format!("index {} of {} to {}", n + sizes.l, places.window.0, places.window.1));
-            match n <= *ns.end() {
-                true => places.hold(&mut self.solver, model, n, watch)?,
-                false => places.follow(&mut self.solver, model, n, watch)?,
-            }
-            for index in forgotten..kept.min(n + sizes.t + 1) {
-                self.elsewhere += places.forget(&mut self.solver, index);
-                forgotten = index + 1;
-            }
+        let kept = first.min(last + 1 - (sizes.l - sizes.t));
+        let (mut below, mut forgotten) = (Conditions::default(), places.window.0);
+        let told = |n: i64| format!("index {} of {} to {}", n + sizes.l, places.window.0, places.window.1);
+        for n in places.ns(self.worked).take_while(|n| n + sizes.t < kept) {
+            watch.tell(|| told(n));
+            self.elsewhere += places.pass(&mut below, model, (n, n + sizes.t), watch)?;
+            forgotten = n + sizes.t + 1;
         }
-        for row in self.from_above(model, high, watch)?.into_rows() {
+        let mut above = Conditions::default();
+        let top = (*ns.start()).max(last - sizes.l + 1);
+        for n in (top..=*ns.end()).rev() {
+            watch.tell(|| told(n));
+            self.elsewhere += places.pass(&mut above, model, (n, n + sizes.l), watch)?;
+        }
+        for index in (last + 1..high.min(top - 1 + sizes.l) + 1).rev() {
+            self.elsewhere += places.leave(&mut above, Solver::default(), index, watch)?;
+        }
+        for row in below.into_rows() {
+            self.solver.hold(row, watch)?;
+        }
+        for n in forgotten - sizes.t..=self.worked - sizes.l {
+            watch.tell(|| told(n));
+            places.hold(&mut self.solver, model, n, watch)?;
+        }
+        for row in above.into_rows() {
             self.solver.hold(row, watch)?;
         }
         for index in forgotten..first {
@@ -190,27 +211,11 @@ impl Range {
         Ok(())
     }
 
-    /// The conditions on the range from what is said above it, worked downwards from index `high`.
-    fn from_above(&mut self, model: &Model, high: i64, watch: &Watch) -> Result<Solver, Stop> {
-        let (places, sizes, last) = (self.places, self.places.sizes, self.places.shown.1);
-        let (ns, mut solver, mut top) = (places.ns(high), Solver::default(), high);
-        for n in (*ns.start().max(&(last - sizes.l + 1))..=*ns.end()).rev() {
-            watch.tell(|| format!("index {} of {} to {}", n + sizes.l, places.window.0, places.window.1));
-            places.hold(&mut solver, model, n, watch)?;
-            self.elsewhere += places.forget(&mut solver, top);
-            top -= 1;
-        }
-        for index in last + 1..=top {
-            self.elsewhere += places.forget(&mut solver, index);
-        }
-        Ok(solver)
-    }
-
     /// Works the values out up to an index, each vector from those before it.
     pub fn go_on(&mut self, model: &Model, index: i64, watch: &Watch) -> Result<(), Lacking> {
         let (places, l) = (self.places, self.places.sizes.l);
         for index in self.worked + 1..=index {
-            match places.follow(&mut self.solver, model, index - l, watch) {
+            match places.hold(&mut self.solver, model, index - l, watch) {
                 Ok(()) => self.worked = index,
                 Err(Stop::Late) => return Err(Lacking::Late),
                 Err(Stop::Contradiction) => {

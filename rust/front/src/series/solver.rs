@@ -41,6 +41,20 @@ impl Row {
         self.right = self.right.plus(&factor.times(&other.right));
     }
 
+    /// Takes an unknown out by a row that has it too.
+    fn eliminate(&mut self, unknown: usize, by: &Row) {
+        let (Some(factor), Some(below)) = (self.factors.get(&unknown), by.factors.get(&unknown)) else { return };
+        let divisor = factor.common_divisor(below);
+        let (factor, times) = (factor.divided(&divisor).0, below.divided(&divisor).0);
+        self.multiply(&times);
+        self.take(&factor, by);
+    }
+
+    /// The bits of its longest number.
+    fn bits(&self) -> u64 {
+        self.factors.values().chain([&self.right]).map(Integer::bits).max().unwrap_or(0)
+    }
+
     /// Divides by the greatest common divisor, with the sign that makes the first factor positive.
     fn shorten(&mut self) {
         let mut numbers: Vec<&Integer> = self.factors.values().chain([&self.right]).collect();
@@ -105,16 +119,13 @@ impl Solver {
         let mut new = self.reduced(row);
         let Some((&unknown, _)) = new.factors.first_key_value() else { return Ok(new.right.is_zero()) };
         new.shorten();
-        let below = &new.factors[&unknown];
         // A row has no unknown that is lower than the one it gives.
         for known in self.rows.range_mut(..unknown).map(|(_, known)| known) {
-            let Some(factor) = known.factors.get(&unknown) else { continue };
-            let divisor = factor.common_divisor(below);
-            let (factor, by) = (factor.divided(&divisor).0, below.divided(&divisor).0);
-            known.multiply(&by);
-            known.take(&factor, &new);
-            known.shorten();
-            watch.look()?;
+            if known.factors.contains_key(&unknown) {
+                known.eliminate(unknown, &new);
+                known.shorten();
+                watch.look()?;
+            }
         }
         self.rows.insert(unknown, new);
         Ok(true)
@@ -130,7 +141,64 @@ impl Solver {
         self.rows.remove(&unknown)
     }
 
+}
+
+/// Rows that are carried from vector to vector. They are not put into one another, so that the numbers of each grow by what is passed
+/// alone.
+#[derive(Default)]
+pub struct Conditions {
+    /// Each with the bits that it had when it was shortened.
+    rows: Vec<(Row, u64)>,
+}
+
+impl Conditions {
+    /// Takes what a solver knows at one place into account and forgets some unknowns, the lowest of it; gives how many of them nothing
+    /// gives, or none where there is a contradiction.
+    pub fn pass(
+        &mut self,
+        mut said: Solver,
+        unknowns: impl Iterator<Item = usize>,
+        watch: &Watch,
+    ) -> Result<Option<usize>, Late> {
+        for (row, _) in &mut self.rows {
+            *row = said.reduced(std::mem::take(row));
+            watch.look()?;
+        }
+        let mut free = 0;
+        for unknown in unknowns {
+            if said.remove(unknown).is_some() {
+                continue;
+            }
+            let Some(at) = self.rows.iter().position(|(row, _)| row.factors.contains_key(&unknown)) else {
+                free += 1;
+                continue;
+            };
+            let (by, _) = self.rows.swap_remove(at);
+            for (row, _) in &mut self.rows {
+                row.eliminate(unknown, &by);
+                watch.look()?;
+            }
+        }
+        self.rows.extend(said.rows.into_values().map(|row| (row, 0)));
+        if self.rows.iter().any(|(row, _)| row.factors.is_empty() && !row.right.is_zero()) {
+            return Ok(None);
+        }
+        self.rows.retain(|(row, _)| !row.factors.is_empty());
+        self.shorten();
+        Ok(Some(free))
+    }
+
+    /// Shortens the rows that are twice as long as they were.
+    fn shorten(&mut self) {
+        for (row, bits) in &mut self.rows {
+            if row.bits() > 2 * *bits + 1_024 {
+                row.shorten();
+                *bits = row.bits();
+            }
+        }
+    }
+
     pub fn into_rows(self) -> impl Iterator<Item = Row> {
-        self.rows.into_values()
+        self.rows.into_iter().map(|(row, _)| row)
     }
 }
