@@ -103,8 +103,9 @@ impl Case {
         }
         let begin = n + system.sizes.t;
         let kind = random.pick(&[Kind::TwoSided, Kind::First(n), Kind::ZeroBelow(begin)]);
-        let first = begin + random.pick(&[0, 0, 0, 2]);
-        let last = first + random.below(system.sizes.d() as usize + 6) as i64;
+        // Behind the first terms are those that follow from D vectors, where the roots and relations are passed.
+        let first = begin + random.pick(&[0, 0, 0, 2, 2, 14]);
+        let last = first + random.below(system.sizes.d() as usize + 6) as i64 + random.pick(&[0, 0, 0, 0, 0, 12]);
         (Case { system, kind, shown: (first, last) }, random)
     }
 
@@ -555,6 +556,16 @@ mod tests {
         let counts = [tested.sums, tested.solved, tested.free, tested.forced, tested.following, tested.counted];
         assert!(counts.iter().all(|&count| count > 50), "{tested:?}");
         assert!(tested.contradictions > 5 && tested.refused_starts > 20 && tested.too_large < 10, "{tested:?}");
+    }
+
+    /// Ten times as many as the comparison takes, on request.
+    #[test]
+    #[ignore]
+    fn many() {
+        let mut tested = Tested::default();
+        tested.test(10_000, &command);
+        tested.print();
+        assert_eq!(tested.differences, Vec::<String>::new());
     }
 
     #[test]
