@@ -31,8 +31,8 @@ pub fn series(mut arguments: Arguments) -> Outcome {
     if let Some(plot) = &asked.plot {
         files::target(plot, &[&file])?;
     }
-    let watch = Watch::new(asked.limit);
     let input = system_of(&file, is_differential)?;
+    let watch = Watch::new(asked.limit);
     Answer::new(&asked, input, &file, &watch)?.write(&mut output::write)?;
     Ok(Vec::new())
 }

@@ -296,8 +296,10 @@ fn contradiction(places: Places, model: &Model, high: i64, watch: &Watch) -> Res
     let (before, behind) = (*ns.start(), *ns.end());
     let said = |n: i64| model.said_at(n, kind).map(move |(named, row)| (n, named, row));
     let inside = ns.flat_map(said);
-    let below = model.relations(kind).filter(|(n0, ..)| *n0 < before);
-    let above = model.relations(kind).filter(|(n0, ..)| *n0 > behind);
+    let mut relations: Vec<_> = model.relations(kind).collect();
+    relations.sort_by_key(|(n0, ..)| *n0);
+    let above = relations.split_off(relations.partition_point(|(n0, ..)| *n0 <= behind));
+    let below = relations.into_iter().filter(|(n0, ..)| *n0 < before);
     let mut forgotten = low;
     for (n, named, equation) in below.chain(inside).chain(above) {
         watch.tell(|| format!("n = {n} of {before} to {behind}"));
