@@ -236,8 +236,8 @@ pub fn answers_with(
     Ok(ended)
 }
 
-/// Works the sheets with several threads: one reads, one writes, and so many work. Nothing has been read where the one that
-/// writes cannot be started.
+/// Works the sheets with several threads: one reads, one writes, and so many work. Nothing has been read where the one
+/// that writes cannot be started.
 fn threaded<Writer: Write + Send>(
     start: Start,
     input: &mut impl Read,
@@ -250,7 +250,8 @@ fn threaded<Writer: Write + Send>(
     let (turns, ordered) = sync_channel(AHEAD * jobs);
     let works = Mutex::new(works);
     thread::scope(|scope| {
-        let writing = start().and_then(|thread| thread.spawn_scoped(scope, move || answers.write_all(&ordered))).ok()?;
+        let writing =
+            start().and_then(|thread| thread.spawn_scoped(scope, move || answers.write_all(&ordered))).ok()?;
         let mut threads = Threads { scope, jobs: &works, start, most: jobs, started: 0, work, turns };
         let ended = read_sheets(input, frames, |sheet, of| threads.hand_out(sheet, of));
         drop(threads);
