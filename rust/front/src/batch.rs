@@ -112,7 +112,7 @@ impl<Writer: Write> Answers<Writer> {
     /// Writes the answer to the next sheet of so many.
     fn write(&mut self, output: Answer, of: usize) -> Result<(), End> {
         let output = output?;
-        let Some((answer, tally)) = parted(&output) else { return Err(End::Refused("an answer has no tally".into())) };
+        let Some((answer, tally)) = parted(&output) else { return Err(End::Failed("an answer has no tally".into())) };
         write_to(&mut self.writer, answer)?;
         for (total, count) in self.totals.iter_mut().flatten().zip(tally.iter().flatten()) {
             *total += count;
@@ -126,7 +126,7 @@ impl<Writer: Write> Answers<Writer> {
     fn write_all(&mut self, turns: &Receiver<Turn>) -> Result<(), End> {
         for turn in turns {
             let answer = turn.answer.recv();
-            self.write(answer.map_err(|_| End::Refused("a thread has ended without its answer".into()))?, turn.of)?;
+            self.write(answer.map_err(|_| End::Failed("a thread has ended without its answer".into()))?, turn.of)?;
         }
         Ok(())
     }
@@ -255,7 +255,7 @@ fn threaded<Writer: Write + Send>(
         let mut threads = Threads { scope, jobs: &works, start, most: jobs, started: 0, work, turns };
         let ended = read_sheets(input, frames, |sheet, of| threads.hand_out(sheet, of));
         drop(threads);
-        let lost = |_| Err(End::Refused("the answers have not all been written".into()));
+        let lost = |_| Err(End::Failed("the answers have not all been written".into()));
         Some(writing.join().unwrap_or_else(lost).map(|()| ended))
     })
 }
