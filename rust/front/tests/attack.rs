@@ -296,13 +296,13 @@ fn is_plain(text: &str) -> bool {
     !text.chars().any(|character| character.is_control() && character != '\n' || character == '\u{202e}')
 }
 
-/// What is wrong with an end, if something is.
-fn fault(answer: &Result<Vec<u8>, Ended>) -> Option<&'static str> {
+/// What is wrong with an end, if something is. An answer may have been written as far as it was found.
+fn fault(answer: &Result<Vec<u8>, Ended>, is_written: bool) -> Option<&'static str> {
     match answer {
         Ok(answer) => match std::str::from_utf8(answer) {
             Err(_) => Some("the answer is no UTF-8 text"),
             Ok(text) if !is_plain(text) => Some("the answer has a control character"),
-            Ok("") => Some("there is no answer"),
+            Ok("") if !is_written => Some("there is no answer"),
             Ok(_) => None,
         },
         Err(Ended { status, message }) => {
@@ -342,7 +342,7 @@ fn attacked(number: usize, folder: &Folder, left_out: &str) -> (String, Option<S
     let fault = match &answer {
         Err(_) => Some("a panic"),
         Ok(_) if begin.elapsed() > TIME => Some("it takes too long"),
-        Ok(answer) => fault(answer),
+        Ok(answer) => fault(answer, name == "series"),
     };
     let ended = match &answer {
         Ok(Ok(_)) => format!("{name} 0"),
