@@ -112,7 +112,7 @@ impl<Writer: Write> Answers<Writer> {
     /// Writes the answer to the next sheet of so many.
     fn write(&mut self, output: Answer, of: usize) -> Result<(), End> {
         let output = output?;
-        let Some((answer, tally)) = parted(&output) else { return Err(End::Refused("an answer has no tally".into())) };
+        let Some((answer, tally)) = parted(&output) else { return Err(End::Failed("an answer has no tally".into())) };
         write_to(&mut self.writer, answer)?;
         for (total, count) in self.totals.iter_mut().flatten().zip(tally.iter().flatten()) {
             *total += count;
@@ -126,7 +126,7 @@ impl<Writer: Write> Answers<Writer> {
     fn write_all(&mut self, turns: &Receiver<Turn>) -> Result<(), End> {
         for turn in turns {
             let answer = turn.answer.recv();
-            self.write(answer.map_err(|_| End::Refused("a thread has ended without its answer".into()))?, turn.of)?;
+            self.write(answer.map_err(|_| End::Failed("a thread has ended without its answer".into()))?, turn.of)?;
         }
         Ok(())
     }
@@ -236,8 +236,8 @@ pub fn answers_with(
     Ok(ended)
 }
 
-/// Works the sheets with several threads: one reads, one writes, and so many work. Nothing has been read where the one that
-/// writes cannot be started.
+/// Works the sheets with several threads: one reads, one writes, and so many work. Nothing has been read where the one
+/// that writes cannot be started.
 fn threaded<Writer: Write + Send>(
     start: Start,
     input: &mut impl Read,
@@ -250,11 +250,12 @@ fn threaded<Writer: Write + Send>(
     let (turns, ordered) = sync_channel(AHEAD * jobs);
     let works = Mutex::new(works);
     thread::scope(|scope| {
-        let writing = start().and_then(|thread| thread.spawn_scoped(scope, move || answers.write_all(&ordered))).ok()?;
+        let writing =
+            start().and_then(|thread| thread.spawn_scoped(scope, move || answers.write_all(&ordered))).ok()?;
         let mut threads = Threads { scope, jobs: &works, start, most: jobs, started: 0, work, turns };
         let ended = read_sheets(input, frames, |sheet, of| threads.hand_out(sheet, of));
         drop(threads);
-        let lost = |_| Err(End::Refused("the answers have not all been written".into()));
+        let lost = |_| Err(End::Failed("the answers have not all been written".into()));
         Some(writing.join().unwrap_or_else(lost).map(|()| ended))
     })
 }

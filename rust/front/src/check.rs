@@ -36,8 +36,8 @@ fn other_kind(sheet: &[u8], is_differential: bool) -> &'static str {
         (Err(_), _) => "",
         (Ok(_), false) => "; this is a differential sheet, which --differential reads as one",
         (Ok(_), true) => {
-            "; this is the sheet of a recurrence, which is read as one without --differential and under a name that does \
-             not end in .differential, or as standard input"
+            "; this is the sheet of a recurrence, which is read as one without --differential and under a name that \
+             does not end in .differential, or as standard input"
         }
     }
 }

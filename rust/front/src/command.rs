@@ -93,7 +93,7 @@ fn option_of(word: &OsStr) -> Option<(String, Option<OsString>)> {
 }
 
 impl Arguments {
-    /// Words in any order. An option that takes a value has it behind `=`, or as the next word; behind `--` all are files.
+    /// Words in any order. An option that takes a value has it behind `=` or as the next word; behind `--` are files.
     pub fn new<Word: Into<OsString>>(words: Vec<Word>) -> Arguments {
         let mut arguments = Arguments { options: Vec::new(), files: Vec::new(), fault: None };
         let mut words = words.into_iter().map(Into::into);
@@ -324,9 +324,9 @@ pub fn dispatch(mut words: Vec<OsString>) -> Result<Vec<u8>, Ended> {
     })
 }
 
-/// Runs the command: its answer to standard output, messages to standard error. The exit status is 0 where it is accepted
-/// and the whole answer is written, 1 where it is refused, 2 for wrong use and for what cannot be read or written, 141 where
-/// nobody reads the answer.
+/// Runs the command: its answer to standard output, messages to standard error. The exit status is 0 where the input is
+/// accepted and the whole answer is written, 1 where it is refused, 2 for wrong use and for what cannot be read or
+/// written, 141 where nobody reads the answer.
 pub fn main(words: Vec<OsString>) -> ExitCode {
     match dispatch(words).and_then(|answer| output::write(&answer).map_err(|end| end.ended(""))) {
         Ok(()) => ExitCode::SUCCESS,

@@ -19,11 +19,12 @@ fn number(text: &str, line: usize) -> Result<i64, String> {
     text.trim().parse().map_err(|_| format!("line {line}: `{}` is not a number", shown(text.trim())))
 }
 
-/// The text of a record. What some programs put in front of UTF-8, a byte order mark, is left out; a line ends as on any
-/// machine.
+/// The text of a record. What some programs put in front of UTF-8, a byte order mark, is left out; a line ends as on
+/// any machine.
 fn text_of(bytes: Vec<u8>) -> Result<String, String> {
     let text = String::from_utf8(bytes).map_err(|error| {
-        let line = 1 + error.as_bytes()[..error.utf8_error().valid_up_to()].iter().filter(|&&byte| byte == b'\n').count();
+        let line =
+            1 + error.as_bytes()[..error.utf8_error().valid_up_to()].iter().filter(|&&byte| byte == b'\n').count();
         format!("line {line}: a record is UTF-8 text, and here are bytes that are not")
     })?;
     let text = text.strip_prefix('\u{feff}').unwrap_or(&text);

@@ -1,8 +1,8 @@
 //! The help of each subcommand.
 
 const TAIL: &str =
-    "Exit status: 0 accepted, 1 refused, 2 wrong use or a file that cannot be read or written, 141 where nobody reads the\n\
-     answer. Messages are on standard error. `-` is standard input; behind `--` every word is a file.\n";
+    "Exit status: 0 accepted, 1 refused, 2 wrong use or a file that cannot be read or written, 141 where nobody reads\n\
+     the answer. Messages are on standard error. `-` is standard input; behind `--` every word is a file.\n";
 
 /// Name, arguments, and what it does.
 const PAGES: &[(&str, &str, &str)] = &[
@@ -40,7 +40,8 @@ const PAGES: &[(&str, &str, &str)] = &[
         "steps",
         "[--budget N] [--keep] [--resume] [--differential] [--names X,Y,..] FILE",
         "Takes the leading run by N steps at a time, 1 where none is given, with a progress line on standard error after each. --keep\n\
-         takes N steps and writes the run as it stands then, a sheet and a line with the shifts; --resume goes on with such a file.\n",
+         takes N steps and writes the run as it stands then, a sheet, a line with the shifts and a line `end`; --resume goes on\n\
+         with such a file.\n",
     ),
     (
         "fits",

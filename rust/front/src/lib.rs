@@ -1,7 +1,8 @@
 //! The command `wurgalm`: systems typed, shown, checked and run, over the calls of the crate `wurgalm` alone.
 //!
 //! A module for each subcommand; [`writing`] has systems as text, [`expressions`] and [`typing`] read that text, [`places`] finds
-//! the first fault of a sheet, [`log_places`] that of a log, [`frames`] takes a batch apart. `docs/wurgalm.1` is the manual.
+//! the first fault of a sheet, [`log_places`] that of a log, [`frames`] takes a batch apart, [`output`] writes answers and
+//! messages. `docs/wurgalm.1` is the manual.
 
 #![forbid(unsafe_code)]
 

@@ -6,10 +6,10 @@
 //! `Stdout`.
 
 use crate::command::End;
-use std::fs::{self, File, OpenOptions};
+use std::fs::{self, File};
 use std::io::{self, ErrorKind, Write};
-use std::os::fd::AsFd;
-use std::os::unix::fs::{FileTypeExt, OpenOptionsExt};
+use std::os::fd::{AsFd, OwnedFd};
+use std::os::unix::fs::FileTypeExt;
 use std::path::Path;
 use std::process;
 use std::sync::atomic::{AtomicBool, Ordering};
@@ -27,9 +27,6 @@ const MESSAGE: usize = 4_000;
 const BUSY: Duration = Duration::from_millis(5);
 /// How often a pipe is looked at that nothing is written to.
 const LOOK: Duration = Duration::from_millis(50);
-/// `O_NONBLOCK` and "no such device or address" of Linux.
-const NONBLOCK: i32 = 0o4000;
-const NO_READER: i32 = 6;
 /// Where Linux has the streams of a process.
 const STREAMS: &str = "/proc/self/fd";
 const OUTPUT: &str = "/proc/self/fd/1";
@@ -142,23 +139,25 @@ impl Drop for Watch {
     }
 }
 
-/// Ends the command where standard output is a pipe that nobody reads any more, though nothing is written to it. A pipe
-/// that is opened once more for writing, without waiting, is refused where it has no reader. Elsewhere than on Linux, and
-/// where no thread can be started, only a write tells.
+/// Ends the command where standard output is a pipe that nobody reads any more, though nothing is written to it.
+/// Copying from a pipe that has ended writes nothing, and Linux refuses it all the same where the other has no reader.
+/// Elsewhere, and where no thread can be started, only a write tells. What is no pipe is not copied to: Linux would set
+/// the place of a file back that another thread has written to in the meantime.
 pub fn watch() -> Watch {
     let is_watched = Arc::new(AtomicBool::new(true));
-    let is_pipe = fs::metadata(OUTPUT).is_ok_and(|stream| stream.file_type().is_fifo());
-    if cfg!(target_os = "linux") && is_pipe {
-        let is_watched = Arc::clone(&is_watched);
-        let _ = thread::Builder::new().stack_size(65_536).spawn(move || look_after(&is_watched));
+    let watch = Watch(Arc::clone(&is_watched));
+    let is_pipe = |output: &File| output.metadata().is_ok_and(|stream| stream.file_type().is_fifo());
+    if let (Ok((ended, _)), Some(output)) = (io::pipe(), stream().ok().filter(is_pipe)) {
+        let look = move || look_after(&is_watched, File::from(OwnedFd::from(ended)), output);
+        let _ = thread::Builder::new().stack_size(65_536).spawn(look);
     }
-    Watch(is_watched)
+    watch
 }
 
-fn look_after(is_watched: &AtomicBool) {
+fn look_after(is_watched: &AtomicBool, mut ended: File, mut output: File) {
     while is_watched.load(Ordering::Relaxed) {
-        let opened = OpenOptions::new().write(true).custom_flags(NONBLOCK).open(OUTPUT);
-        if opened.is_err_and(|error| error.raw_os_error() == Some(NO_READER)) && is_watched.load(Ordering::Relaxed) {
+        let is_closed = io::copy(&mut ended, &mut output).is_err_and(|error| error.kind() == ErrorKind::BrokenPipe);
+        if is_closed && is_watched.load(Ordering::Relaxed) {
             process::exit(i32::from(CLOSED));
         }
         thread::sleep(LOOK);

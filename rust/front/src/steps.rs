@@ -26,9 +26,9 @@ struct Options {
     names: Vec<String>,
 }
 
-/// A run as it was kept: the sheet of its rows and relations, whose order line has the columns of the settled rows, behind
-/// it the line with the shifts, and a line that shows that nothing is missing. The state of a run has no other numbers
-/// (SCOPE 11.11).
+/// A run as it was kept: the sheet of its rows and relations, whose order line has the columns of the settled rows,
+/// behind it the line with the shifts, and a line that shows that nothing is missing. The state of a run has no other
+/// numbers (SCOPE 11.11).
 fn kept(system: &mut System, state: &State) -> Outcome {
     let heading = Heading { sizes: state.sizes, relations: state.relations, order: state.order };
     let (rows, relations, _) = system.stores();
