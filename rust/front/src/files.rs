@@ -20,7 +20,8 @@ fn input(file: &FileName) -> io::Result<Metadata> {
     fs::metadata(if &**file == "-" { Path::new("/dev/stdin") } else { file.as_ref() })
 }
 
-/// The file that is to be written, behind all links, and what stands there. It is none of the inputs, and may be replaced.
+/// The file that is to be written, behind all links, and what stands there. It is none of the inputs, and may be
+/// replaced.
 pub fn target(path: &str, inputs: &[&FileName]) -> Result<(PathBuf, Option<Metadata>), End> {
     let there = match fs::metadata(path) {
         Ok(there) => there,

@@ -1,14 +1,14 @@
-//! `wurgalm series`: known systems by hand, its arithmetic and its pictures. Random systems are held against the input's equations by the
-//! comparison (`rust/compare/src/series`).
+//! `wurgalm series`: known systems by hand, its arithmetic and its pictures. Random systems are held against the
+//! input's equations by the comparison (`rust/compare/src/series`).
 
 use compare::random::Random;
 use compare::series::whole::Whole;
 use front::command::End;
-use front::series::of_sheet;
 use front::series::fractions::Fraction;
 use front::series::integers::Integer;
-use front::series::plot::{points, Picture, STEPS};
 use front::series::model::{Kind, Lacking, Model};
+use front::series::of_sheet;
+use front::series::plot::{points, Picture, STEPS};
 use front::series::range::{Range, Value};
 use front::series::watch::Watch;
 use wurgalm::System;
@@ -72,9 +72,8 @@ fn the_loaded_beam_has_two_constants() {
 fn no_series_below_a_load() {
     let kind = Kind::ZeroBelow(0);
     let model = Model::new(example("loaded.sheet"), kind).unwrap();
-    assert!(
-        matches!(range(&model, kind, (0, 4)), Err(Lacking::None(told)) if told.contains("equation 3") && told.contains("n = -2"))
-    );
+    let is_told = |told: &str| told.contains("equation 3") && told.contains("n = -2");
+    assert!(matches!(range(&model, kind, (0, 4)), Err(Lacking::None(told)) if is_told(&told)));
 }
 
 // ---- arithmetic ----
@@ -138,7 +137,8 @@ fn whole(number: &Integer) -> Whole {
     Whole::read(&number.to_string()).unwrap()
 }
 
-/// Products by halves, divisors by many steps at once and digits by halves, against numbers that share nothing with them.
+/// Products by halves, divisors by many steps at once and digits by halves, against numbers that share nothing with
+/// them.
 #[test]
 fn long_integers_agree_with_others() {
     let mut random = Random::new(313);
@@ -169,7 +169,8 @@ fn long_integers_agree_with_others() {
 fn polynomials_have_their_values() {
     let mut random = Random::new(314);
     for _ in 0..2_000 {
-        let coefficients: Vec<i64> = (0..random.below(17)).map(|_| random.between(-(1 << 28), 1 << 28) as i64).collect();
+        let coefficients: Vec<i64> =
+            (0..random.below(17)).map(|_| random.between(-(1 << 28), 1 << 28) as i64).collect();
         let size = 1 << random.below(21);
         let n = random.between(-size, size) as i64;
         let wide: Vec<i128> = coefficients.iter().map(|&a| a.into()).collect();
@@ -210,7 +211,8 @@ fn row(random: &mut Random, m: usize, (l, t): (i64, i64), degree: usize, size: i
     format!("{}{}\n", terms.len(), terms.concat())
 }
 
-/// Sheets of up to four unknowns, D up to 4, degrees up to 15, with roots and relations hundreds of indices away: such took minutes.
+/// Sheets of up to four unknowns, D up to 4, degrees up to 15, with roots and relations hundreds of indices away: such
+/// took minutes.
 #[test]
 fn far_roots_take_no_long_time() {
     let mut random = Random::new(315);
@@ -308,7 +310,8 @@ fn the_picture_has_the_computed_points() {
     }
 }
 
-/// The exponential series at -80 has terms of size 10^33 and the sum 10^-35: more bits are taken than a number of the machine has.
+/// The exponential series at -80 has terms of size 10^33 and the sum 10^-35: more bits are taken than a number of the
+/// machine has.
 #[test]
 fn a_sum_that_cancels_is_right() {
     let (mut values, mut factorial) = (vec![fraction("1")], Fraction::from(1));
@@ -326,7 +329,12 @@ fn a_sum_that_cancels_is_right() {
 fn what_cannot_be_drawn() {
     let (one, ten) = ([fraction("1")], |digits: usize| format!("1{}", "0".repeat(digits)));
     let (large, next) = (ten(20), format!("{}1", &ten(20)[..20]));
-    let intervals = [(large, next), ("0".into(), ten(305)), (format!("-{}", ten(308)), ten(308)), ("0".into(), format!("1/{}", ten(320)))];
+    let intervals = [
+        (large, next),
+        ("0".into(), ten(305)),
+        (format!("-{}", ten(308)), ten(308)),
+        ("0".into(), format!("1/{}", ten(320))),
+    ];
     for (from, to) in intervals {
         let told = points(0, &one, &(fraction(&from), fraction(&to))).unwrap_err();
         assert!(told.contains("interval cannot be drawn"), "{told}");

@@ -131,19 +131,26 @@ fn a_picture_is_whole_or_not_there() {
         assert_eq!(output.status.code(), Some(1));
         assert!(told(&output).ends_with("x(1) = 2 cannot be: x(1) is 1 by what stands before it"));
     }
-    assert_eq!((folder.names(), fs::read_to_string(&old).unwrap()), (vec!["a.sheet".into(), "old.svg".into()], "old".into()));
+    assert_eq!(
+        (folder.names(), fs::read_to_string(&old).unwrap()),
+        (vec!["a.sheet".into(), "old.svg".into()], "old".into())
+    );
     // An answer that cannot be written has none either.
     let full = fs::OpenOptions::new().write(true).open("/dev/full").unwrap();
     let output = command().args(start).args(["--plot", &plot, &sheet]).stdout(full).output().unwrap();
     assert_eq!((output.status.code(), Path::new(&plot).exists()), (Some(2), false));
     // A disk that is full after a kilobyte leaves nothing, and what was there.
     for plot in [&plot, &old] {
-        let words = format!("trap '' XFSZ; ulimit -f 1; exec \"$0\" series --start 'x(0)=1,y(0)=1' --plot {plot} {sheet}");
+        let words =
+            format!("trap '' XFSZ; ulimit -f 1; exec \"$0\" series --start 'x(0)=1,y(0)=1' --plot {plot} {sheet}");
         let output = Command::new("bash").args(["-c", &words, env!("CARGO_BIN_EXE_wurgalm")]).output().unwrap();
         assert_eq!(output.status.code(), Some(2), "{}", told(&output));
         assert!(told(&output).contains("File too large"), "{}", told(&output));
     }
-    assert_eq!((folder.names(), fs::read_to_string(&old).unwrap()), (vec!["a.sheet".into(), "old.svg".into()], "old".into()));
+    assert_eq!(
+        (folder.names(), fs::read_to_string(&old).unwrap()),
+        (vec!["a.sheet".into(), "old.svg".into()], "old".into())
+    );
     // What is read-only stays, what is a folder stays, a link is written through.
     fs::set_permissions(&old, fs::Permissions::from_mode(0o444)).unwrap();
     assert_eq!(run(&[&start[..], &["--plot", &old, &sheet]].concat()).status.code(), Some(2));

@@ -108,13 +108,13 @@ impl Asked {
 
 /// The column of a name of the model, or a sentence with those there are.
 pub fn column(name: &str, names: &[String]) -> Result<usize, End> {
+    let known = match names {
+        [one] => format!("the one name is {one}"),
+        all => format!("the names are {}", all.join(", ")),
+    };
     match names.iter().position(|known| known == name) {
         Some(at) => Ok(at + 1),
-        None => {
-            let all = if names.len() == 1 { "is" } else { "are" };
-            let told = format!("there is no unknown `{}`: the names {all} {}", shown(name), names.join(", "));
-            misused(told.replace("the names is", "the one name is"))
-        }
+        None => misused(format!("there is no unknown `{}`: {known}", shown(name))),
     }
 }
 

@@ -1,5 +1,5 @@
-//! Numbers with a given number of bits and an exponent, for pictures: no exponent that occurs is too large, and as many bits
-//! can be had as a sum needs.
+//! Numbers with a given number of bits and an exponent, for pictures: no exponent that occurs is too large, and as many
+//! bits can be had as a sum needs.
 
 use super::fractions::Fraction;
 use super::integers::Integer;

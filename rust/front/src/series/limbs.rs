@@ -255,8 +255,8 @@ fn top(a: &[u64], limbs: usize, zeros: u32) -> i64 {
     (both << zeros >> 66) as i64
 }
 
-/// Steps of Euclid's that the highest bits of two sizes settle: x a - y b and v b - u a, where the signs are such that both
-/// are not negative, or the other way round. None where not even one is settled.
+/// Steps of Euclid's that the highest bits of two sizes settle: x a - y b and v b - u a, where the signs are such that
+/// both are not negative, or the other way round. None where not even one is settled.
 fn steps(mut a: i64, mut b: i64) -> Option<[i64; 4]> {
     let [mut x, mut y, mut u, mut v] = [1, 0, 0, 1];
     while b + u != 0 && b + v != 0 {
@@ -297,7 +297,8 @@ pub fn common_divisor(mut a: Vec<u64>, mut b: Vec<u64>) -> Vec<u64> {
             return vec![short_divisor(last, rest)];
         }
         let zeros = a[a.len() - 1].leading_zeros();
-        let settled = if a.len() > b.len() + 1 { None } else { steps(top(&a, a.len(), zeros), top(&b, a.len(), zeros)) };
+        let settled =
+            if a.len() > b.len() + 1 { None } else { steps(top(&a, a.len(), zeros), top(&b, a.len(), zeros)) };
         (a, b) = match settled {
             Some([x, y, u, v]) => (combined(&a, x, &b, y), combined(&a, u, &b, v)),
             None => {

@@ -1,4 +1,5 @@
-//! `wurgalm series`: the first terms of the sequences of a system, which of them are free, and partial sums as a picture.
+//! `wurgalm series`: the first terms of the sequences of a system, which of them are free, and partial sums as a
+//! picture.
 
 mod asked;
 pub mod floats;
@@ -52,10 +53,10 @@ pub fn of_sheet(words: &[String], sheet: &[u8]) -> Outcome {
 
 fn not_run(unrun: Unrun, file: &str) -> End {
     match unrun {
-        Unrun::Trailing(refusal) if refusal != Refusal(10) => End::Refused(format!(
-            "{}: the trailing run, which two-sided sequences need, is {refusal}; --first K asks for those from an index on",
-            named(file)
-        )),
+        Unrun::Trailing(refusal) if refusal != Refusal(10) => {
+            let told = format!("the trailing run, which two-sided sequences need, is {refusal}");
+            End::Refused(format!("{}: {told}; --first K asks for those from an index on", named(file)))
+        }
         Unrun::Leading(refusal) | Unrun::Trailing(refusal) => refused(refusal, file),
     }
 }
@@ -99,8 +100,7 @@ impl<'a> Answer<'a> {
         let until = starts.iter().flat_map(|start| &start.values).map(|(index, ..)| *index).max().unwrap_or(first);
         let range = Range::new(&model, asked.kind, indices, until, watch);
         let range = range.map_err(|lacking| told(lacking, asked, file, "before the first term is settled"))?;
-        let mut answer =
-            Answer { asked, file, watch, model, names, indices, range, starts: Vec::new(), drawn };
+        let mut answer = Answer { asked, file, watch, model, names, indices, range, starts: Vec::new(), drawn };
         for start in starts {
             let range = answer.started(&start)?;
             answer.starts.push((start.text, range));

@@ -93,7 +93,8 @@ fn relations<'a>(of: &'static str, system: &'a System) -> impl Iterator<Item = (
 }
 
 impl Model {
-    /// Runs the leading side, and for two-sided sequences the trailing side: without it nothing bounds the indices that matter.
+    /// Runs the leading side, and for two-sided sequences the trailing side: without it nothing bounds the indices that
+    /// matter.
     pub fn new(input: System, kind: Kind) -> Result<Model, Unrun> {
         let mut leading = input.clone();
         let report = leading.run_leading().map_err(Unrun::Leading)?;
@@ -121,8 +122,8 @@ impl Model {
         (self.report.shifts as i64, self.trailing.as_ref().map_or(0, |(_, report)| report.shifts as i64))
     }
 
-    /// What has to hold at n, where all from `first` on are held: from the shifts of both runs on, the leading run's equations
-    /// imply the others.
+    /// What has to hold at n, where all from `first` on are held: from the shifts of both runs on, the leading run's
+    /// equations imply the others.
     pub fn needed_at(&self, n: i64, first: i64, kind: Kind) -> impl Iterator<Item = Equation<'_>> {
         let (up, down) = self.shifts();
         let is_first = n < first + up + down;
@@ -152,8 +153,8 @@ impl Model {
         }
     }
 
-    /// The lowest and the highest index that matter to a range: those of the roots and the relations, and so many more that
-    /// nothing beyond them ties a value between them.
+    /// The lowest and the highest index that matter to a range: those of the roots and the relations, and so many more
+    /// that nothing beyond them ties a value between them.
     pub fn reach(&self, kind: Kind, (first, last): (i64, i64)) -> Result<(i64, i64), Lacking> {
         let sizes = self.input.sizes();
         let span = sizes.l - sizes.t;

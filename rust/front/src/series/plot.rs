@@ -69,9 +69,13 @@ impl Sum {
     }
 }
 
-/// The points of the sum of value × x^index over an interval, from the exact values: as many bits are taken as the curve
-/// needs. Or why it cannot be drawn.
-pub fn points(first: i64, values: &[Fraction], interval: &(Fraction, Fraction)) -> Result<Vec<(f64, f64)>, &'static str> {
+/// The points of the sum of value × x^index over an interval, from the exact values: as many bits are taken as the
+/// curve needs. Or why it cannot be drawn.
+pub fn points(
+    first: i64,
+    values: &[Fraction],
+    interval: &(Fraction, Fraction),
+) -> Result<Vec<(f64, f64)>, &'static str> {
     let xs: Vec<Fraction> = (0..=STEPS).map(|step| place(interval, step)).collect();
     let across: Vec<f64> = xs.iter().map(|x| Float::of(x, 64).rounded()).collect();
     let (left, right) = (across[0], across[STEPS as usize]);

@@ -1,14 +1,14 @@
-//! Which values of a range of indices are free, and what the others are: the equations and relations of the input and of
-//! its runs, at every n whose blocks lie in a window around the range, as exact linear equations.
+//! Which values of a range of indices are free, and what the others are: the equations and relations of the input and
+//! of its runs, at every n whose blocks lie in a window around the range, as exact linear equations.
 //!
-//! The unknowns outside the range are given first and the latest of the range next, so that what is left without a row are
-//! the earliest values of the range that can be. The window reaches past the last root of the leading run, and on the other
-//! side past the first root of the trailing one: there each vector follows from its neighbours (SCOPE 2.116, 2.117) and
-//! nothing outside ties a value inside.
+//! The unknowns outside the range are given first and the latest of the range next, so that what is left without a row
+//! are the earliest values of the range that can be. The window reaches past the last root of the leading run, and on
+//! the other side past the first root of the trailing one: there each vector follows from its neighbours (SCOPE 2.116,
+//! 2.117) and nothing outside ties a value inside.
 //!
-//! Both sides of the range are worked towards it, and a vector outside is forgotten with the last equation that speaks of
-//! it: what is left are the conditions on the D vectors beside it. Past all roots and relations the leading run alone gives
-//! one vector after the other and changes none before it, so that those terms are there as they are found.
+//! Both sides of the range are worked towards it, and a vector outside is forgotten with the last equation that speaks
+//! of it: what is left are the conditions on the D vectors beside it. Past all roots and relations the leading run
+//! alone gives one vector after the other and changes none before it, so that those terms are there as they are found.
 
 use super::fractions::Fraction;
 use super::integers::Integer;
@@ -65,6 +65,11 @@ impl Places {
         self.window.0 - self.sizes.t..=high - self.sizes.l
     }
 
+    /// How far the work has come at n.
+    fn told(&self, n: i64) -> String {
+        format!("index {} of {} to {}", n + self.sizes.l, self.window.0, self.window.1)
+    }
+
     /// Holds what is said at n.
     fn hold(&self, solver: &mut Solver, model: &Model, n: i64, watch: &Watch) -> Result<(), Stop> {
         for equation in model.needed_at(n, self.window.0 - self.sizes.t, self.kind) {
@@ -73,7 +78,8 @@ impl Places {
         Ok(())
     }
 
-    /// Takes what is said at n into conditions, and forgets a vector with it; gives how many of its values nothing gives.
+    /// Takes what is said at n into conditions, and forgets a vector with it; gives how many of its values nothing
+    /// gives.
     fn pass(&self, by: &mut Conditions, model: &Model, (n, index): (i64, i64), watch: &Watch) -> Result<usize, Stop> {
         let mut solver = Solver::default();
         self.hold(&mut solver, model, n, watch)?;
@@ -144,15 +150,9 @@ pub enum Value {
 }
 
 impl Range {
-    /// What is known of the values at the indices of a range. Those that roots and relations matter to are worked out, and those up
-    /// to the index `until`.
-    pub fn new(
-        model: &Model,
-        kind: Kind,
-        shown: (i64, i64),
-        until: i64,
-        watch: &Watch,
-    ) -> Result<Range, Lacking> {
+    /// What is known of the values at the indices of a range. Those that roots and relations matter to are worked out,
+    /// and those up to the index `until`.
+    pub fn new(model: &Model, kind: Kind, shown: (i64, i64), until: i64, watch: &Watch) -> Result<Range, Lacking> {
         let (sizes, (low, high)) = (model.input.sizes(), model.reach(kind, shown)?);
         if let Kind::ZeroBelow(index) = kind {
             model.below(index)?;
@@ -170,45 +170,57 @@ impl Range {
 
     /// Holds everything that is said of the window up to index `high`, and works the values out.
     fn work(&mut self, model: &Model, high: i64, watch: &Watch) -> Result<(), Stop> {
-        let (places, sizes, (first, last)) = (self.places, self.places.sizes, self.places.shown);
-        let ns = places.ns(high);
+        let (places, sizes, ns) = (self.places, self.places.sizes, self.places.ns(high));
         // A relation elsewhere is of no value of the window.
         let is_unheld = |n0: i64, row: &Equation| !ns.contains(&n0) && !Integer::value(row.right(), n0).is_zero();
         if model.relations(places.kind).any(|(n0, _, row)| is_unheld(n0, &row)) {
             return Err(Stop::Contradiction);
         }
-        // Of the vectors from here on the equations above the range speak too.
-        let kept = first.min(last + 1 - (sizes.l - sizes.t));
-        let (mut below, mut forgotten) = (Conditions::default(), places.window.0);
-        let told = |n: i64| format!("index {} of {} to {}", n + sizes.l, places.window.0, places.window.1);
-        for n in places.ns(self.worked).take_while(|n| n + sizes.t < kept) {
-            watch.tell(|| told(n));
-            self.elsewhere += places.pass(&mut below, model, (n, n + sizes.t), watch)?;
-            forgotten = n + sizes.t + 1;
-        }
-        let mut above = Conditions::default();
-        let top = (*ns.start()).max(last - sizes.l + 1);
-        for n in (top..=*ns.end()).rev() {
-            watch.tell(|| told(n));
-            self.elsewhere += places.pass(&mut above, model, (n, n + sizes.l), watch)?;
-        }
-        for index in (last + 1..high.min(top - 1 + sizes.l) + 1).rev() {
-            self.elsewhere += places.leave(&mut above, Solver::default(), index, watch)?;
-        }
+        let (below, kept) = self.from_below(model, watch)?;
+        let above = self.from_above(model, high, watch)?;
         for row in below.into_rows() {
             self.solver.hold(row, watch)?;
         }
-        for n in forgotten - sizes.t..=self.worked - sizes.l {
-            watch.tell(|| told(n));
+        for n in kept - sizes.t..=self.worked - sizes.l {
+            watch.tell(|| places.told(n));
             places.hold(&mut self.solver, model, n, watch)?;
         }
         for row in above.into_rows() {
             self.solver.hold(row, watch)?;
         }
-        for index in forgotten..first {
+        for index in kept..places.shown.0 {
             self.elsewhere += places.forget(&mut self.solver, index);
         }
         Ok(())
+    }
+
+    /// The conditions on the range from what is said below it, worked upwards, and the first index that they speak of.
+    fn from_below(&mut self, model: &Model, watch: &Watch) -> Result<(Conditions, i64), Stop> {
+        let (places, sizes, (first, last)) = (self.places, self.places.sizes, self.places.shown);
+        let (mut below, mut kept) = (Conditions::default(), places.window.0);
+        // Of the last D vectors the equations above the range speak too.
+        let most = first.min(last + 1 - (sizes.l - sizes.t));
+        for n in places.ns(self.worked).take_while(|n| n + sizes.t < most) {
+            watch.tell(|| places.told(n));
+            self.elsewhere += places.pass(&mut below, model, (n, n + sizes.t), watch)?;
+            kept = n + sizes.t + 1;
+        }
+        Ok((below, kept))
+    }
+
+    /// The conditions on the range from what is said above it, worked downwards from index `high`.
+    fn from_above(&mut self, model: &Model, high: i64, watch: &Watch) -> Result<Conditions, Stop> {
+        let (places, l, last) = (self.places, self.places.sizes.l, self.places.shown.1);
+        let (ns, mut above, mut kept) = (places.ns(high), Conditions::default(), high);
+        for n in ns.rev().take_while(|n| n + l > last) {
+            watch.tell(|| places.told(n));
+            self.elsewhere += places.pass(&mut above, model, (n, n + l), watch)?;
+            kept = n + l - 1;
+        }
+        for index in (last + 1..=kept).rev() {
+            self.elsewhere += places.leave(&mut above, Solver::default(), index, watch)?;
+        }
+        Ok(above)
     }
 
     /// Works the values out up to an index, each vector from those before it.
@@ -270,8 +282,8 @@ impl Range {
     }
 }
 
-/// The columns that the leading run leaves free at an index past all roots: those that the numbers of its rows there leave without a
-/// row.
+/// The columns that the leading run leaves free at an index past all roots: those that the numbers of its rows there
+/// leave without a row.
 fn free_at(model: &Model, index: i64, watch: &Watch) -> Result<impl Iterator<Item = usize>, Late> {
     let (sizes, mut solver) = (model.leading.sizes(), Solver::default());
     if model.report.rank < sizes.m {

@@ -1,6 +1,7 @@
 //! Exact linear equations, one after another: which unknowns are free, and what the others are.
 //!
-//! A row has integers, and no common divisor: the factor of the unknown that it gives is the one denominator of all its numbers.
+//! A row has integers, and no common divisor: the factor of the unknown that it gives is the one denominator of all its
+//! numbers.
 
 use super::integers::Integer;
 use super::watch::{Late, Watch};
@@ -77,8 +78,8 @@ impl Row {
     }
 }
 
-/// Rows by the unknown that each gives, which stands in no other row and is the lowest of its row. So where an unknown is given, no row
-/// could give a higher one instead of it.
+/// Rows by the unknown that each gives, which stands in no other row and is the lowest of its row. So where an unknown
+/// is given, no row could give a higher one instead of it.
 #[derive(Clone, Default)]
 pub struct Solver {
     rows: BTreeMap<usize, Row>,
@@ -140,11 +141,10 @@ impl Solver {
     pub fn remove(&mut self, unknown: usize) -> Option<Row> {
         self.rows.remove(&unknown)
     }
-
 }
 
-/// Rows that are carried from vector to vector. They are not put into one another, so that the numbers of each grow by what is passed
-/// alone.
+/// Rows that are carried from vector to vector. They are not put into one another, so that the numbers of each grow by
+/// what is passed alone.
 #[derive(Default)]
 pub struct Conditions {
     /// Each with the bits that it had when it was shortened.
@@ -152,8 +152,8 @@ pub struct Conditions {
 }
 
 impl Conditions {
-    /// Takes what a solver knows at one place into account and forgets some unknowns, the lowest of it; gives how many of them nothing
-    /// gives, or none where there is a contradiction.
+    /// Takes what a solver knows at one place into account and forgets some unknowns, the lowest of it; gives how many
+    /// of them nothing gives, or none where there is a contradiction.
     pub fn pass(
         &mut self,
         mut said: Solver,

@@ -60,8 +60,8 @@ pub fn verdicts(range: &Range, index: i64, names: &[String]) -> String {
 /// Where an answer goes.
 pub type Sink<'a> = &'a mut dyn FnMut(&[u8]) -> Result<(), End>;
 
-/// An answer on its way. It is held back so that the columns of a table get the width of their widest cell, but not past so many
-/// characters or so much time: then what there is goes out, and each line behind it as it is found.
+/// An answer on its way. It is held back so that the columns of a table get the width of their widest cell, but not
+/// past so many characters or so much time: then what there is goes out, and each line behind it as it is found.
 pub struct Writer<'a> {
     sink: Sink<'a>,
     watch: &'a Watch,
