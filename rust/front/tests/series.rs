@@ -4,13 +4,13 @@
 use compare::random::Random;
 use compare::series::whole::Whole;
 use front::command::End;
+use front::series::clock::Clock;
 use front::series::fractions::Fraction;
 use front::series::integers::Integer;
 use front::series::model::{Kind, Lacking, Model};
 use front::series::of_sheet;
 use front::series::plot::{points, Picture, STEPS};
 use front::series::range::{Range, Value};
-use front::series::watch::Watch;
 use wurgalm::System;
 
 // ---- by hand ----
@@ -24,15 +24,15 @@ fn example(name: &str) -> System {
 
 /// A range that is worked out to its end.
 fn range(model: &Model, kind: Kind, shown: (i64, i64)) -> Result<Range, Lacking> {
-    Range::new(model, kind, shown, shown.1, &Watch::quiet(None))
+    Range::new(model, kind, shown, shown.1, &Clock::quiet(None))
 }
 
 fn free(model: &Model, range: &Range) -> Vec<(i64, usize)> {
-    range.free(model, &Watch::quiet(None)).unwrap()
+    range.free(model, &Clock::quiet(None)).unwrap()
 }
 
 fn set(range: &mut Range, index: i64, column: usize, value: &str) -> bool {
-    range.set(index, column, &fraction(value), &Watch::quiet(None)).unwrap()
+    range.set(index, column, &fraction(value), &Clock::quiet(None)).unwrap()
 }
 
 fn fraction(text: &str) -> Fraction {

@@ -2,6 +2,7 @@
 //! picture.
 
 mod asked;
+pub mod clock;
 pub mod floats;
 pub mod fractions;
 pub mod integers;
@@ -11,18 +12,17 @@ pub mod plot;
 pub mod range;
 pub mod solver;
 mod text;
-pub mod watch;
 
 use crate::command::{is_differential, last, named, Arguments, End, FileName, Outcome};
 use crate::run::{consequence, counted, refused, system_of};
 use crate::{files, output};
 use asked::{column, Asked, Start};
+use clock::{Clock, Late};
 use fractions::Fraction;
 use model::{Kind, Lacking, Model, Unrun};
 use plot::Picture;
 use range::{Range, Value};
 use text::{Sink, Writer};
-use watch::{Late, Watch};
 use wurgalm::{Refusal, System};
 
 pub fn series(mut arguments: Arguments) -> Outcome {
@@ -33,8 +33,8 @@ pub fn series(mut arguments: Arguments) -> Outcome {
         files::target(plot, &[&file])?;
     }
     let input = system_of(&file, is_differential)?;
-    let watch = Watch::new(asked.limit);
-    Answer::new(&asked, input, &file, &watch)?.write(&mut output::write)?;
+    let clock = Clock::new(asked.limit);
+    Answer::new(&asked, input, &file, &clock)?.write(&mut output::write)?;
     Ok(Vec::new())
 }
 
@@ -43,8 +43,8 @@ pub fn of_sheet(words: &[String], sheet: &[u8]) -> Outcome {
     let mut arguments = Arguments::new(words.to_vec());
     let asked = Asked::new(&mut arguments, false)?;
     arguments.files(0, 0)?;
-    let (watch, mut text) = (Watch::quiet(asked.limit), Vec::new());
-    Answer::new(&asked, System::from_sheet(sheet)?, &FileName::from("-"), &watch)?.write(&mut |piece| {
+    let (clock, mut text) = (Clock::quiet(asked.limit), Vec::new());
+    Answer::new(&asked, System::from_sheet(sheet)?, &FileName::from("-"), &clock)?.write(&mut |piece| {
         text.extend_from_slice(piece);
         Ok(())
     })?;
@@ -65,7 +65,7 @@ fn not_run(unrun: Unrun, file: &str) -> End {
 struct Answer<'a> {
     asked: &'a Asked,
     file: &'a FileName,
-    watch: &'a Watch,
+    clock: &'a Clock,
     model: Model,
     names: &'a [String],
     indices: (i64, i64),
@@ -84,7 +84,7 @@ enum Form {
 }
 
 impl<'a> Answer<'a> {
-    fn new(asked: &'a Asked, input: System, file: &'a FileName, watch: &'a Watch) -> Result<Answer<'a>, End> {
+    fn new(asked: &'a Asked, input: System, file: &'a FileName, clock: &'a Clock) -> Result<Answer<'a>, End> {
         let names = &asked.names[..input.sizes().m];
         let model = Model::new(input, asked.kind).map_err(|unrun| not_run(unrun, file))?;
         let begin = model.begin(asked.kind);
@@ -98,9 +98,9 @@ impl<'a> Answer<'a> {
         let of = asked.of.as_ref().map_or(Ok(1), |name| column(name, names))?;
         let drawn = asked.plot.is_some().then_some(of);
         let until = starts.iter().flat_map(|start| &start.values).map(|(index, ..)| *index).max().unwrap_or(first);
-        let range = Range::new(&model, asked.kind, indices, until, watch);
+        let range = Range::new(&model, asked.kind, indices, until, clock);
         let range = range.map_err(|lacking| told(lacking, asked, file, "before the first term is settled"))?;
-        let mut answer = Answer { asked, file, watch, model, names, indices, range, starts: Vec::new(), drawn };
+        let mut answer = Answer { asked, file, clock, model, names, indices, range, starts: Vec::new(), drawn };
         for start in starts {
             let range = answer.started(&start)?;
             answer.starts.push((start.text, range));
@@ -116,7 +116,7 @@ impl<'a> Answer<'a> {
     fn started(&self, start: &Start) -> Result<Range, End> {
         let mut range = self.range.clone();
         for (index, column, value) in &start.values {
-            if range.set(*index, *column, value, self.watch).map_err(|late| self.late(late))? {
+            if range.set(*index, *column, value, self.clock).map_err(|late| self.late(late))? {
                 continue;
             }
             let is = match range.value(*index, *column) {
@@ -132,7 +132,7 @@ impl<'a> Answer<'a> {
 
     /// How many constants are free, and what they are.
     fn count(&self) -> Result<String, End> {
-        let (sizes, free) = (self.model.input.sizes(), self.range.free(&self.model, self.watch));
+        let (sizes, free) = (self.model.input.sizes(), self.range.free(&self.model, self.clock));
         let free = free.map_err(|late| self.late(late))?;
         let naive = (sizes.l - sizes.t) as usize * sizes.m;
         let place = |(index, column): &(i64, usize)| format!("{}({index})", self.names[column - 1]);
@@ -154,7 +154,7 @@ impl<'a> Answer<'a> {
 
     /// Writes everything; the picture comes last.
     fn write(mut self, sink: Sink) -> Result<(), End> {
-        let (mut writer, mut curves) = (Writer::new(sink, self.watch), Vec::new());
+        let (mut writer, mut curves) = (Writer::new(sink, self.clock), Vec::new());
         writer.text(&self.count()?)?;
         let starts = std::mem::take(&mut self.starts);
         let form = match (self.asked.is_free, starts.is_empty()) {
@@ -205,9 +205,9 @@ impl<'a> Answer<'a> {
             writer.line(text::heading(self.names))?;
         }
         for index in first..=last {
-            self.watch.tell(|| format!("term {index} of {first} to {last}"));
-            let worked = range.go_on(&self.model, index, self.watch);
-            let looked = worked.and_then(|()| self.watch.look().map_err(Lacking::from));
+            self.clock.tell(|| format!("term {index} of {first} to {last}"));
+            let worked = range.go_on(&self.model, index, self.clock);
+            let looked = worked.and_then(|()| self.clock.look().map_err(Lacking::from));
             if let Err(lacking) = looked {
                 writer.finish()?;
                 return Err(told(lacking, self.asked, self.file, &format!("at index {index}")));

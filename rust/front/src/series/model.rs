@@ -1,7 +1,7 @@
 //! A system with its runs, which sequences of it are meant, and how far its roots and relations reach.
 
+use super::clock::Late;
 use super::integers::Integer;
-use super::watch::Late;
 use std::fmt;
 use wurgalm::{Equation, Refusal, Report, System};
 

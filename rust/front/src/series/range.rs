@@ -10,11 +10,11 @@
 //! of it: what is left are the conditions on the D vectors beside it. Past all roots and relations the leading run
 //! alone gives one vector after the other and changes none before it, so that those terms are there as they are found.
 
+use super::clock::{Clock, Late};
 use super::fractions::Fraction;
 use super::integers::Integer;
 use super::model::{Kind, Lacking, Model};
 use super::solver::{Conditions, Row, Solver};
-use super::watch::{Late, Watch};
 use std::ops::RangeInclusive;
 use wurgalm::{Equation, Sizes};
 
@@ -71,24 +71,24 @@ impl Places {
     }
 
     /// Holds what is said at n.
-    fn hold(&self, solver: &mut Solver, model: &Model, n: i64, watch: &Watch) -> Result<(), Stop> {
+    fn hold(&self, solver: &mut Solver, model: &Model, n: i64, clock: &Clock) -> Result<(), Stop> {
         for equation in model.needed_at(n, self.window.0 - self.sizes.t, self.kind) {
-            solver.hold(self.row(&equation, n), watch)?;
+            solver.hold(self.row(&equation, n), clock)?;
         }
         Ok(())
     }
 
     /// Takes what is said at n into conditions, and forgets a vector with it; gives how many of its values nothing
     /// gives.
-    fn pass(&self, by: &mut Conditions, model: &Model, (n, index): (i64, i64), watch: &Watch) -> Result<usize, Stop> {
+    fn pass(&self, by: &mut Conditions, model: &Model, (n, index): (i64, i64), clock: &Clock) -> Result<usize, Stop> {
         let mut solver = Solver::default();
-        self.hold(&mut solver, model, n, watch)?;
-        self.leave(by, solver, index, watch)
+        self.hold(&mut solver, model, n, clock)?;
+        self.leave(by, solver, index, clock)
     }
 
     /// Forgets a vector, with what a solver says of it.
-    fn leave(&self, by: &mut Conditions, solver: Solver, index: i64, watch: &Watch) -> Result<usize, Stop> {
-        let free = by.pass(solver, (1..=self.sizes.m).map(|column| self.unknown(index, column)), watch)?;
+    fn leave(&self, by: &mut Conditions, solver: Solver, index: i64, clock: &Clock) -> Result<usize, Stop> {
+        let free = by.pass(solver, (1..=self.sizes.m).map(|column| self.unknown(index, column)), clock)?;
         match free {
             None => Err(Stop::Contradiction),
             Some(_) if self.kind.is_zero(index) => Ok(0),
@@ -122,8 +122,8 @@ impl From<Late> for Stop {
 }
 
 impl Solver {
-    fn hold(&mut self, row: Row, watch: &Watch) -> Result<(), Stop> {
-        match self.add(row, watch)? {
+    fn hold(&mut self, row: Row, clock: &Clock) -> Result<(), Stop> {
+        match self.add(row, clock)? {
             true => Ok(()),
             false => Err(Stop::Contradiction),
         }
@@ -152,7 +152,7 @@ pub enum Value {
 impl Range {
     /// What is known of the values at the indices of a range. Those that roots and relations matter to are worked out,
     /// and those up to the index `until`.
-    pub fn new(model: &Model, kind: Kind, shown: (i64, i64), until: i64, watch: &Watch) -> Result<Range, Lacking> {
+    pub fn new(model: &Model, kind: Kind, shown: (i64, i64), until: i64, clock: &Clock) -> Result<Range, Lacking> {
         let (sizes, (low, high)) = (model.input.sizes(), model.reach(kind, shown)?);
         if let Kind::ZeroBelow(index) = kind {
             model.below(index)?;
@@ -161,32 +161,32 @@ impl Range {
         // The vectors below the range are done with where D of the range are worked out.
         let worked = shown.1.min(until.max(high).max(shown.0 - 1 + sizes.l - sizes.t));
         let mut range = Range { places, solver: Solver::default(), worked, elsewhere: 0 };
-        match range.work(model, high, watch) {
+        match range.work(model, high, clock) {
             Ok(()) => Ok(range),
             Err(Stop::Late) => Err(Lacking::Late),
-            Err(Stop::Contradiction) => Err(contradiction(places, model, high, watch)?),
+            Err(Stop::Contradiction) => Err(contradiction(places, model, high, clock)?),
         }
     }
 
     /// Holds everything that is said of the window up to index `high`, and works the values out.
-    fn work(&mut self, model: &Model, high: i64, watch: &Watch) -> Result<(), Stop> {
+    fn work(&mut self, model: &Model, high: i64, clock: &Clock) -> Result<(), Stop> {
         let (places, sizes, ns) = (self.places, self.places.sizes, self.places.ns(high));
         // A relation elsewhere is of no value of the window.
         let is_unheld = |n0: i64, row: &Equation| !ns.contains(&n0) && !Integer::value(row.right(), n0).is_zero();
         if model.relations(places.kind).any(|(n0, _, row)| is_unheld(n0, &row)) {
             return Err(Stop::Contradiction);
         }
-        let (below, kept) = self.from_below(model, watch)?;
-        let above = self.from_above(model, high, watch)?;
+        let (below, kept) = self.from_below(model, clock)?;
+        let above = self.from_above(model, high, clock)?;
         for row in below.into_rows() {
-            self.solver.hold(row, watch)?;
+            self.solver.hold(row, clock)?;
         }
         for n in kept - sizes.t..=self.worked - sizes.l {
-            watch.tell(|| places.told(n));
-            places.hold(&mut self.solver, model, n, watch)?;
+            clock.tell(|| places.told(n));
+            places.hold(&mut self.solver, model, n, clock)?;
         }
         for row in above.into_rows() {
-            self.solver.hold(row, watch)?;
+            self.solver.hold(row, clock)?;
         }
         for index in kept..places.shown.0 {
             self.elsewhere += places.forget(&mut self.solver, index);
@@ -195,39 +195,39 @@ impl Range {
     }
 
     /// The conditions on the range from what is said below it, worked upwards, and the first index that they speak of.
-    fn from_below(&mut self, model: &Model, watch: &Watch) -> Result<(Conditions, i64), Stop> {
+    fn from_below(&mut self, model: &Model, clock: &Clock) -> Result<(Conditions, i64), Stop> {
         let (places, sizes, (first, last)) = (self.places, self.places.sizes, self.places.shown);
         let (mut below, mut kept) = (Conditions::default(), places.window.0);
         // Of the last D vectors the equations above the range speak too.
         let most = first.min(last + 1 - (sizes.l - sizes.t));
         for n in places.ns(self.worked).take_while(|n| n + sizes.t < most) {
-            watch.tell(|| places.told(n));
-            self.elsewhere += places.pass(&mut below, model, (n, n + sizes.t), watch)?;
+            clock.tell(|| places.told(n));
+            self.elsewhere += places.pass(&mut below, model, (n, n + sizes.t), clock)?;
             kept = n + sizes.t + 1;
         }
         Ok((below, kept))
     }
 
     /// The conditions on the range from what is said above it, worked downwards from index `high`.
-    fn from_above(&mut self, model: &Model, high: i64, watch: &Watch) -> Result<Conditions, Stop> {
+    fn from_above(&mut self, model: &Model, high: i64, clock: &Clock) -> Result<Conditions, Stop> {
         let (places, l, last) = (self.places, self.places.sizes.l, self.places.shown.1);
         let (ns, mut above, mut kept) = (places.ns(high), Conditions::default(), high);
         for n in ns.rev().take_while(|n| n + l > last) {
-            watch.tell(|| places.told(n));
-            self.elsewhere += places.pass(&mut above, model, (n, n + l), watch)?;
+            clock.tell(|| places.told(n));
+            self.elsewhere += places.pass(&mut above, model, (n, n + l), clock)?;
             kept = n + l - 1;
         }
         for index in (last + 1..=kept).rev() {
-            self.elsewhere += places.leave(&mut above, Solver::default(), index, watch)?;
+            self.elsewhere += places.leave(&mut above, Solver::default(), index, clock)?;
         }
         Ok(above)
     }
 
     /// Works the values out up to an index, each vector from those before it.
-    pub fn go_on(&mut self, model: &Model, index: i64, watch: &Watch) -> Result<(), Lacking> {
+    pub fn go_on(&mut self, model: &Model, index: i64, clock: &Clock) -> Result<(), Lacking> {
         let (places, l) = (self.places, self.places.sizes.l);
         for index in self.worked + 1..=index {
-            match places.hold(&mut self.solver, model, index - l, watch) {
+            match places.hold(&mut self.solver, model, index - l, clock) {
                 Ok(()) => self.worked = index,
                 Err(Stop::Late) => return Err(Lacking::Late),
                 Err(Stop::Contradiction) => {
@@ -261,21 +261,21 @@ impl Range {
     }
 
     /// Sets a value of the range, which is worked out; false, and nothing is set, where it cannot be that.
-    pub fn set(&mut self, index: i64, column: usize, value: &Fraction, watch: &Watch) -> Result<bool, Late> {
+    pub fn set(&mut self, index: i64, column: usize, value: &Fraction, clock: &Clock) -> Result<bool, Late> {
         let mut row = Row { right: value.numerator().clone(), ..Row::default() };
         row.add(self.places.unknown(index, column), value.denominator());
-        self.solver.add(row, watch)
+        self.solver.add(row, clock)
     }
 
     /// The free values of the range, by index and column.
-    pub fn free(&self, model: &Model, watch: &Watch) -> Result<Vec<(i64, usize)>, Late> {
+    pub fn free(&self, model: &Model, clock: &Clock) -> Result<Vec<(i64, usize)>, Late> {
         let (m, (first, last), mut free) = (self.places.sizes.m, self.places.shown, Vec::new());
         for index in first..=last {
             if index <= self.worked {
                 let is_free = |column: &usize| self.solver.given(self.places.unknown(index, *column)).is_none();
                 free.extend((1..=m).filter(is_free).map(|column| (index, column)));
             } else {
-                free.extend(free_at(model, index, watch)?.map(|column| (index, column)));
+                free.extend(free_at(model, index, clock)?.map(|column| (index, column)));
             }
         }
         Ok(free)
@@ -284,7 +284,7 @@ impl Range {
 
 /// The columns that the leading run leaves free at an index past all roots: those that the numbers of its rows there
 /// leave without a row.
-fn free_at(model: &Model, index: i64, watch: &Watch) -> Result<impl Iterator<Item = usize>, Late> {
+fn free_at(model: &Model, index: i64, clock: &Clock) -> Result<impl Iterator<Item = usize>, Late> {
     let (sizes, mut solver) = (model.leading.sizes(), Solver::default());
     if model.report.rank < sizes.m {
         for equation in model.leading.equations() {
@@ -292,7 +292,7 @@ fn free_at(model: &Model, index: i64, watch: &Watch) -> Result<impl Iterator<Ite
             for (_, c, p) in equation.terms().filter(|(s, ..)| *s == sizes.l) {
                 row.add(sizes.m - c, &Integer::value(p, index - sizes.l));
             }
-            solver.add(row, watch)?;
+            solver.add(row, clock)?;
         }
     }
     let is_whole = model.report.rank == sizes.m;
@@ -300,7 +300,7 @@ fn free_at(model: &Model, index: i64, watch: &Watch) -> Result<impl Iterator<Ite
 }
 
 /// The first of all that is said, from the lowest n on, that cannot hold beside what stands before it.
-fn contradiction(places: Places, model: &Model, high: i64, watch: &Watch) -> Result<Lacking, Late> {
+fn contradiction(places: Places, model: &Model, high: i64, clock: &Clock) -> Result<Lacking, Late> {
     let (low, kind, t) = (places.window.0, places.kind, places.sizes.t);
     // With no index shown the unknowns go from the bottom up, as the n do.
     let places = Places { window: (low, high), shown: (high + 1, high), ..places };
@@ -314,12 +314,12 @@ fn contradiction(places: Places, model: &Model, high: i64, watch: &Watch) -> Res
     let below = relations.into_iter().filter(|(n0, ..)| *n0 < before);
     let mut forgotten = low;
     for (n, named, equation) in below.chain(inside).chain(above) {
-        watch.tell(|| format!("n = {n} of {before} to {behind}"));
+        clock.tell(|| format!("n = {n} of {before} to {behind}"));
         for index in forgotten..(n + t).min(high) {
             places.forget(&mut solver, index);
             forgotten = index + 1;
         }
-        if !solver.add(places.row(&equation, n), watch)? {
+        if !solver.add(places.row(&equation, n), clock)? {
             let told = format!("no such sequence: {named} cannot hold at n = {n} beside what stands before it");
             return Ok(Lacking::None(told));
         }

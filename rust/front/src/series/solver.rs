@@ -3,8 +3,8 @@
 //! A row has integers, and no common divisor: the factor of the unknown that it gives is the one denominator of all its
 //! numbers.
 
+use super::clock::{Clock, Late};
 use super::integers::Integer;
-use super::watch::{Late, Watch};
 use std::collections::BTreeMap;
 
 /// A sum of unknowns, each with its factor, that comes to a number. No factor is 0.
@@ -115,8 +115,8 @@ impl Solver {
     }
 
     /// Adds a row; false, and nothing is added, where it contradicts those before it.
-    pub fn add(&mut self, row: Row, watch: &Watch) -> Result<bool, Late> {
-        watch.look()?;
+    pub fn add(&mut self, row: Row, clock: &Clock) -> Result<bool, Late> {
+        clock.look()?;
         let mut new = self.reduced(row);
         let Some((&unknown, _)) = new.factors.first_key_value() else { return Ok(new.right.is_zero()) };
         new.shorten();
@@ -125,7 +125,7 @@ impl Solver {
             if known.factors.contains_key(&unknown) {
                 known.eliminate(unknown, &new);
                 known.shorten();
-                watch.look()?;
+                clock.look()?;
             }
         }
         self.rows.insert(unknown, new);
@@ -158,11 +158,11 @@ impl Conditions {
         &mut self,
         mut said: Solver,
         unknowns: impl Iterator<Item = usize>,
-        watch: &Watch,
+        clock: &Clock,
     ) -> Result<Option<usize>, Late> {
         for (row, _) in &mut self.rows {
             *row = said.reduced(std::mem::take(row));
-            watch.look()?;
+            clock.look()?;
         }
         let mut free = 0;
         for unknown in unknowns {
@@ -176,7 +176,7 @@ impl Conditions {
             let (by, _) = self.rows.swap_remove(at);
             for (row, _) in &mut self.rows {
                 row.eliminate(unknown, &by);
-                watch.look()?;
+                clock.look()?;
             }
         }
         self.rows.extend(said.rows.into_values().map(|row| (row, 0)));

@@ -1,7 +1,7 @@
 //! Values and tables as text, written as they are found.
 
+use super::clock::Clock;
 use super::range::{Range, Value};
-use super::watch::Watch;
 use crate::command::End;
 use std::time::{Duration, Instant};
 
@@ -64,7 +64,7 @@ pub type Sink<'a> = &'a mut dyn FnMut(&[u8]) -> Result<(), End>;
 /// past so many characters or so much time: then what there is goes out, and each line behind it as it is found.
 pub struct Writer<'a> {
     sink: Sink<'a>,
-    watch: &'a Watch,
+    clock: &'a Clock,
     held: String,
     /// The lines of the table at the end of what is held, and the width of each column so far.
     lines: Vec<Vec<String>>,
@@ -75,9 +75,9 @@ pub struct Writer<'a> {
 }
 
 impl<'a> Writer<'a> {
-    pub fn new(sink: Sink<'a>, watch: &'a Watch) -> Writer<'a> {
+    pub fn new(sink: Sink<'a>, clock: &'a Clock) -> Writer<'a> {
         let (held, lines, widths) = Default::default();
-        Writer { sink, watch, held, lines, widths, size: 0, since: Instant::now(), is_through: false }
+        Writer { sink, clock, held, lines, widths, size: 0, since: Instant::now(), is_through: false }
     }
 
     /// Adds text behind a table.
@@ -103,7 +103,7 @@ impl<'a> Writer<'a> {
     /// Lets everything out that is held.
     pub fn finish(&mut self) -> Result<(), End> {
         self.end_table();
-        self.watch.clear();
+        self.clock.clear();
         (self.sink)(std::mem::take(&mut self.held).as_bytes())
     }
 

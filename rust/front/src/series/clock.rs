@@ -14,7 +14,7 @@ const STANDS: Duration = Duration::from_millis(200);
 #[derive(Debug)]
 pub struct Late;
 
-pub struct Watch {
+pub struct Clock {
     begin: Instant,
     limit: Option<Duration>,
     /// When the last line was told, where lines are told.
@@ -22,20 +22,20 @@ pub struct Watch {
     is_line: Cell<bool>,
 }
 
-impl Watch {
+impl Clock {
     /// Tells where standard error is a terminal.
-    pub fn new(limit: Option<Duration>) -> Watch {
-        Watch::telling(limit, io::stderr().is_terminal())
+    pub fn new(limit: Option<Duration>) -> Clock {
+        Clock::telling(limit, io::stderr().is_terminal())
     }
 
     /// Tells nothing.
-    pub fn quiet(limit: Option<Duration>) -> Watch {
-        Watch::telling(limit, false)
+    pub fn quiet(limit: Option<Duration>) -> Clock {
+        Clock::telling(limit, false)
     }
 
-    fn telling(limit: Option<Duration>, is_telling: bool) -> Watch {
+    fn telling(limit: Option<Duration>, is_telling: bool) -> Clock {
         let told = is_telling.then(|| Cell::new(QUIET - STANDS));
-        Watch { begin: Instant::now(), limit, told, is_line: Cell::new(false) }
+        Clock { begin: Instant::now(), limit, told, is_line: Cell::new(false) }
     }
 
     /// Whether there is time left.
@@ -65,7 +65,7 @@ impl Watch {
     }
 }
 
-impl Drop for Watch {
+impl Drop for Clock {
     fn drop(&mut self) {
         self.clear();
     }
