@@ -4,13 +4,14 @@
 //! call; the answers are written in the order of the sheets, as soon as all before them are, and the tallies add up. What is left at
 //! the end goes to the proved call as well. At most [`AHEAD`] sheets for each thread are held at a time.
 
-use crate::command::{named, Arguments, End, Outcome};
+use crate::command::{named, unread, Arguments, End, FileName, Outcome, Patient};
 use crate::frames::{Broken, Frames, Next};
+use crate::output::{self, say, write_to};
 use std::fs::File;
-use std::io::{self, ErrorKind, IsTerminal, Read, Write};
+use std::io::{self, IsTerminal, Read, Write};
 use std::sync::mpsc::{channel, sync_channel, Receiver, Sender, SyncSender};
 use std::sync::Mutex;
-use std::thread::{self, Scope};
+use std::thread::{self, Builder, Scope};
 use wurgalm::{batch as work, batch_output, Refusal};
 
 /// The clients are 1 to so many (SCOPE 5.2).
@@ -47,7 +48,7 @@ pub enum Ended {
 }
 
 /// What the proved call writes on a batch of at most one sheet.
-fn output(input: &[u8]) -> Answer {
+fn answer_to(input: &[u8]) -> Answer {
     let mut output = vec![0; batch_output(1)];
     let length = work(input, &mut output)?;
     output.truncate(length);
@@ -80,7 +81,7 @@ impl Bar {
         let step = (of / 100).max(1);
         if self.is_shown && (done.is_multiple_of(step) || done == of) {
             let full = 40 * done / of.max(1);
-            eprint!("\r[{}{}] {done} of {of}", "#".repeat(full), ".".repeat(40 - full));
+            say(&format!("\r[{}{}] {done} of {of}", "#".repeat(full), ".".repeat(40 - full)));
             self.is_open = true;
         }
     }
@@ -89,8 +90,45 @@ impl Bar {
 impl Drop for Bar {
     fn drop(&mut self) {
         if self.is_open {
-            eprintln!();
+            say("\n");
         }
+    }
+}
+
+/// The answers that are written: their tallies, and how many they are.
+struct Answers<Writer> {
+    writer: Writer,
+    totals: Tally,
+    written: usize,
+    bar: Bar,
+}
+
+impl<Writer: Write> Answers<Writer> {
+    fn new(writer: Writer, is_shown: bool) -> Answers<Writer> {
+        let bar = Bar { is_shown, is_open: false };
+        Answers { writer, totals: Tally::default(), written: 0, bar }
+    }
+
+    /// Writes the answer to the next sheet of so many.
+    fn write(&mut self, output: Answer, of: usize) -> Result<(), End> {
+        let output = output?;
+        let Some((answer, tally)) = parted(&output) else { return Err(End::Failed("an answer has no tally".into())) };
+        write_to(&mut self.writer, answer)?;
+        for (total, count) in self.totals.iter_mut().flatten().zip(tally.iter().flatten()) {
+            *total += count;
+        }
+        self.written += 1;
+        self.bar.show(self.written, of);
+        Ok(())
+    }
+
+    /// Writes the answers in their order, as soon as they are there.
+    fn write_all(&mut self, turns: &Receiver<Turn>) -> Result<(), End> {
+        for turn in turns {
+            let answer = turn.answer.recv();
+            self.write(answer.map_err(|_| End::Failed("a thread has ended without its answer".into()))?, turn.of)?;
+        }
+        Ok(())
     }
 }
 
@@ -100,36 +138,7 @@ fn work_sheets(jobs: &Mutex<Receiver<Job>>) {
         let job = jobs.lock().unwrap_or_else(|poisoned| poisoned.into_inner()).recv();
         let Ok(Job { sheet, answer }) = job else { return };
         // Nobody waits for it where writing has failed.
-        let _ = answer.send(output(&sheet));
-    }
-}
-
-/// Writes the answers in their order, and adds up their tallies.
-fn write_answers(turns: &Receiver<Turn>, writer: &mut impl Write, is_shown: bool) -> Result<Tally, End> {
-    let (mut totals, mut bar) = ([[0; 2]; CLIENTS], Bar { is_shown, is_open: false });
-    for (before, turn) in turns.iter().enumerate() {
-        let output = turn.answer.recv().map_err(|_| End::Refused("a thread has ended without its answer".into()))??;
-        let Some((answer, tally)) = parted(&output) else { return Err(End::Refused("an answer has no tally".into())) };
-        writer.write_all(answer).and_then(|()| writer.flush()).map_err(unwritten)?;
-        for (total, count) in totals.iter_mut().flatten().zip(tally.iter().flatten()) {
-            *total += count;
-        }
-        bar.show(before + 1, turn.of);
-    }
-    Ok(totals)
-}
-
-fn unwritten(error: io::Error) -> End {
-    End::Misused(format!("the answer cannot be written: {error}"))
-}
-
-/// The next bytes of the input, none at its end.
-fn read_piece(input: &mut impl Read, piece: &mut [u8]) -> io::Result<usize> {
-    loop {
-        match input.read(piece) {
-            Err(error) if error.kind() == ErrorKind::Interrupted => {}
-            read => return read,
-        }
+        let _ = answer.send(answer_to(&sheet));
     }
 }
 
@@ -141,7 +150,7 @@ fn read_sheets(
 ) -> Ended {
     let mut piece = vec![0; PIECE];
     loop {
-        let read = match read_piece(input, &mut piece) {
+        let read = match input.read(&mut piece) {
             Ok(0) => return frames.ends_early().map_or(Ended::Whole, Ended::Broken),
             Ok(read) => read,
             Err(error) => return Ended::Unread(error),
@@ -162,10 +171,11 @@ fn read_sheets(
     }
 }
 
-/// The threads of a batch: as many as there are sheets, up to a number.
+/// The threads of a batch: as many as there are sheets, up to a number, or to as many as can be started.
 struct Threads<'scope, 'env> {
     scope: &'scope Scope<'scope, 'env>,
     jobs: &'env Mutex<Receiver<Job>>,
+    start: Start,
     most: usize,
     started: usize,
     work: Sender<Job>,
@@ -173,52 +183,101 @@ struct Threads<'scope, 'env> {
 }
 
 impl Threads<'_, '_> {
-    /// Hands out a sheet once there is room for it; nothing where its answer cannot be written any more.
-    fn hand_out(&mut self, sheet: Vec<u8>, of: usize) -> Option<()> {
+    /// Starts one more thread, if one more may be and can be started.
+    fn start_one(&mut self) {
         if self.started < self.most {
             let jobs = self.jobs;
-            self.scope.spawn(move || work_sheets(jobs));
-            self.started += 1;
+            match (self.start)().and_then(|thread| thread.spawn_scoped(self.scope, move || work_sheets(jobs))) {
+                Ok(_) => self.started += 1,
+                Err(_) => self.most = self.started,
+            }
         }
+    }
+
+    /// Hands out a sheet once there is room for it; nothing where its answer cannot be written any more.
+    fn hand_out(&mut self, sheet: Vec<u8>, of: usize) -> Option<()> {
+        self.start_one();
         let (answer, turn) = channel();
         self.turns.send(Turn { answer: turn, of }).ok()?;
+        if self.started == 0 {
+            return answer.send(answer_to(&sheet)).ok();
+        }
         self.work.send(Job { sheet, answer }).ok()
     }
 }
 
-/// Works a batch as it comes, and writes what the batch program writes.
-pub fn answers(mut input: impl Read, mut writer: impl Write + Send, jobs: usize, is_shown: bool) -> Result<Ended, End> {
+/// What begins a thread, or why none can be.
+pub type Start = fn() -> io::Result<Builder>;
+
+/// Works a batch as it comes, with so many threads, and writes what the batch program writes.
+pub fn answers(input: impl Read, writer: impl Write + Send, jobs: usize, is_shown: bool) -> Result<Ended, End> {
+    answers_with(|| Ok(Builder::new()), input, writer, jobs, is_shown)
+}
+
+/// Works a batch with as many of so many threads as can be started, and with none where none can.
+pub fn answers_with(
+    start: Start,
+    input: impl Read,
+    writer: impl Write + Send,
+    jobs: usize,
+    is_shown: bool,
+) -> Result<Ended, End> {
+    let (mut input, mut frames, mut answers) = (Patient(input), Frames::new(), Answers::new(writer, is_shown));
+    let ended = match threaded(start, &mut input, &mut frames, &mut answers, jobs) {
+        Some(ended) => ended?,
+        None => alone(&mut input, &mut frames, &mut answers)?,
+    };
+    // The eight lines, or `3`.
+    let mut last = answer_to(&frames.left_over())?;
+    if last == tally_lines(&Tally::default()).as_bytes() {
+        last = tally_lines(&answers.totals).into_bytes();
+    }
+    write_to(&mut answers.writer, &last)?;
+    Ok(ended)
+}
+
+/// Works the sheets with several threads: one reads, one writes, and so many work. Nothing has been read where the one
+/// that writes cannot be started.
+fn threaded<Writer: Write + Send>(
+    start: Start,
+    input: &mut impl Read,
+    frames: &mut Frames,
+    answers: &mut Answers<Writer>,
+    jobs: usize,
+) -> Option<Result<Ended, End>> {
     // The turns bound the sheets that wait for a thread too.
     let (work, works) = channel();
     let (turns, ordered) = sync_channel(AHEAD * jobs);
     let works = Mutex::new(works);
-    let mut frames = Frames::new();
-    let (ended, totals) = thread::scope(|scope| {
-        let writer = &mut writer;
-        let writing = scope.spawn(move || write_answers(&ordered, writer, is_shown));
-        let mut threads = Threads { scope, jobs: &works, most: jobs, started: 0, work, turns };
-        let ended = read_sheets(&mut input, &mut frames, |sheet, of| threads.hand_out(sheet, of));
+    thread::scope(|scope| {
+        let writing =
+            start().and_then(|thread| thread.spawn_scoped(scope, move || answers.write_all(&ordered))).ok()?;
+        let mut threads = Threads { scope, jobs: &works, start, most: jobs, started: 0, work, turns };
+        let ended = read_sheets(input, frames, |sheet, of| threads.hand_out(sheet, of));
         drop(threads);
-        let lost = |_| Err(End::Refused("the answers have not all been written".into()));
-        (ended, writing.join().unwrap_or_else(lost))
+        let lost = |_| Err(End::Failed("the answers have not all been written".into()));
+        Some(writing.join().unwrap_or_else(lost).map(|()| ended))
+    })
+}
+
+/// Works the sheets one after the other.
+fn alone(input: &mut impl Read, frames: &mut Frames, answers: &mut Answers<impl Write>) -> Result<Ended, End> {
+    let mut failed = Ok(());
+    let ended = read_sheets(input, frames, |sheet, of| {
+        failed = answers.write(answer_to(&sheet), of);
+        failed.is_ok().then_some(())
     });
-    let totals = totals?;
-    // The eight lines, or `3`.
-    let mut last = output(&frames.left_over())?;
-    if last == tally_lines(&Tally::default()).as_bytes() {
-        last = tally_lines(&totals).into_bytes();
-    }
-    writer.write_all(&last).and_then(|()| writer.flush()).map_err(unwritten)?;
-    Ok(ended)
+    failed.map(|()| ended)
 }
 
 /// A batch of a file, or of standard input for `-`.
-fn answers_of(file: &str, jobs: usize, is_shown: bool) -> Result<Ended, End> {
-    if file == "-" {
-        return answers(io::stdin().lock(), io::stdout(), jobs, is_shown);
+fn answers_of(file: &FileName, jobs: usize, is_shown: bool) -> Result<Ended, End> {
+    let _watch = output::watch();
+    let writer = output::stream()?;
+    if &**file == "-" {
+        return answers(io::stdin().lock(), writer, jobs, is_shown);
     }
-    let input = File::open(file).map_err(|error| End::Misused(format!("{file}: {error}")))?;
-    answers(input, io::stdout(), jobs, is_shown)
+    answers(File::open(file).map_err(|error| unread(file, error))?, writer, jobs, is_shown)
 }
 
 pub fn batch(mut arguments: Arguments) -> Outcome {
@@ -236,6 +295,6 @@ pub fn batch(mut arguments: Arguments) -> Outcome {
             let place = format!("{}: line {line}, column {column}", named(&file));
             Err(End::Refused(format!("{place}: {reason} (the batch is broken, its answers end in 3)")))
         }
-        Ended::Unread(error) => Err(End::Misused(format!("{}: {error}", named(&file)))),
+        Ended::Unread(error) => Err(unread(&file, error)),
     }
 }

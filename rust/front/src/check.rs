@@ -30,6 +30,18 @@ pub fn with_place(refusal: Refusal, file: &str, sheet: &[u8], is_differential: b
     }
 }
 
+/// What to do where the bytes are a sheet of the other kind; no bytes are one of both.
+fn other_kind(sheet: &[u8], is_differential: bool) -> &'static str {
+    match (Judge::new(!is_differential).read(sheet), is_differential) {
+        (Err(_), _) => "",
+        (Ok(_), false) => "; this is a differential sheet, which --differential reads as one",
+        (Ok(_), true) => {
+            "; this is the sheet of a recurrence, which is read as one without --differential and under a name that \
+             does not end in .differential, or as standard input"
+        }
+    }
+}
+
 /// The numbers that may stand behind a beginning, with either separator, in words.
 fn allowed(judge: &mut Judge, beginning: &[u8]) -> String {
     let mut fits = |number: i64| {
@@ -79,5 +91,6 @@ pub fn told(file: &str, sheet: &[u8], fault: Fault, is_differential: bool) -> St
         }
         What::GoesOn => format!("{text} behind the end of the sheet: right would be nothing"),
     };
-    format!("{}: line {line}, column {column}: {reason} (refusal {})", named(file), refusal.0)
+    let other = other_kind(sheet, is_differential);
+    format!("{}: line {line}, column {column}: {reason} (refusal {}){other}", named(file), refusal.0)
 }

@@ -4,7 +4,8 @@
 //! vector, the index first and the values of the unknowns behind it, with a line of names above them or without.
 
 use crate::command::{bytes_of, first, is_differential, named, Arguments, End, Outcome};
-use crate::run::{refused, system_of};
+use crate::output::shown;
+use crate::run::{counted, refused, system_of};
 use wurgalm::{Answer, Record};
 
 /// A record that owns its values.
@@ -15,15 +16,34 @@ struct Recorded {
 }
 
 fn number(text: &str, line: usize) -> Result<i64, String> {
-    text.trim().parse().map_err(|_| format!("line {line}: `{}` is not a number", text.trim()))
+    text.trim().parse().map_err(|_| format!("line {line}: `{}` is not a number", shown(text.trim())))
+}
+
+/// The text of a record. What some programs put in front of UTF-8, a byte order mark, is left out; a line ends as on
+/// any machine.
+fn text_of(bytes: Vec<u8>) -> Result<String, String> {
+    let text = String::from_utf8(bytes).map_err(|error| {
+        let line =
+            1 + error.as_bytes()[..error.utf8_error().valid_up_to()].iter().filter(|&&byte| byte == b'\n').count();
+        format!("line {line}: a record is UTF-8 text, and here are bytes that are not")
+    })?;
+    let text = text.strip_prefix('\u{feff}').unwrap_or(&text);
+    Ok(text.replace("\r\n", "\n").replace('\r', "\n"))
+}
+
+/// Whether a field is the name of a column: a letter begins it, in quotation marks or not, and it is no number.
+fn is_name(field: &str) -> bool {
+    let field = field.trim().trim_matches('"');
+    field.starts_with(|first: char| first.is_alphabetic() || first == '_') && field.parse::<f64>().is_err()
 }
 
 /// A record in CSV.
 fn of_csv(text: &str, m: usize) -> Result<Recorded, String> {
     let mut recorded = Recorded { first: 0, vectors: 0, values: Vec::new() };
-    for (at, content) in text.lines().enumerate().filter(|(_, content)| !content.trim().is_empty()) {
+    let lines = text.lines().enumerate().filter(|(_, content)| !content.trim().is_empty());
+    for (place, (at, content)) in lines.enumerate() {
         let (line, fields): (usize, Vec<&str>) = (at + 1, content.split(',').collect());
-        if recorded.vectors == 0 && at == 0 && fields[0].trim().parse::<i64>().is_err() {
+        if place == 0 && fields.len() == m + 1 && fields.iter().all(|field| is_name(field)) {
             continue; // names of the columns
         }
         let numbers = fields.iter().map(|field| number(field, line)).collect::<Result<Vec<i64>, _>>()?;
@@ -67,14 +87,21 @@ pub fn fits(mut arguments: Arguments) -> Outcome {
     let files = arguments.files(2, 2)?;
     let [model, record] = &files[..] else { return Err(End::Misused("MODEL and RECORD".into())) };
     let system = system_of(model, is_differential)?;
-    let text = String::from_utf8_lossy(&bytes_of(record)?).into_owned();
-    let m = system.sizes().m;
-    let recorded = if as_csv || text.contains(',') { of_csv(&text, m) } else { of_text(&text, m) };
-    let name = named(record);
-    let recorded = recorded.map_err(|reason| End::Refused(format!("{name}: {reason}")))?;
+    let (bytes, sizes, name) = (bytes_of(record)?, system.sizes(), named(record));
+    let read = |text: String| {
+        let reader = if as_csv || text.contains(',') { of_csv } else { of_text };
+        reader(&text, sizes.m)
+    };
+    let recorded = text_of(bytes).and_then(read).map_err(|reason| End::Refused(format!("{name}: {reason}")))?;
     let Recorded { first, vectors, values } = &recorded;
     let answer = system.explains(&Record { first: *first, vectors: *vectors, values });
     match answer.map_err(|refusal| refused(refusal, record))? {
+        // Nothing tested is no success.
+        Answer::Fits { tested: 0 } => Err(End::Refused(format!(
+            "{name}: nothing is tested: the record has {}, and an equation is tested where {} follow one another",
+            counted(*vectors, "vector"),
+            sizes.l - sizes.t + 1
+        ))),
         Answer::Fits { tested } => Ok(format!("fits: {tested} tested, every sum is zero\n").into_bytes()),
         Answer::Equation { number, n, sum } => {
             Err(End::Refused(format!("{name}: equation {number} does not hold at n = {n}: its sum is {sum}")))

@@ -1,7 +1,8 @@
 //! The help of each subcommand.
 
 const TAIL: &str =
-    "Exit status: 0 accepted, 1 refused, 2 wrong use. Messages are on standard error. `-` is standard input.\n";
+    "Exit status: 0 accepted, 1 refused, 2 wrong use or a file that cannot be read or written, 141 where nobody reads\n\
+     the answer. Messages are on standard error. `-` is standard input; behind `--` every word is a file.\n";
 
 /// Name, arguments, and what it does.
 const PAGES: &[(&str, &str, &str)] = &[
@@ -39,7 +40,8 @@ const PAGES: &[(&str, &str, &str)] = &[
         "steps",
         "[--budget N] [--keep] [--resume] [--differential] [--names X,Y,..] FILE",
         "Takes the leading run by N steps at a time, 1 where none is given, with a progress line on standard error after each. --keep\n\
-         takes N steps and writes the run as it stands then, a sheet and a line with the shifts; --resume goes on with such a file.\n",
+         takes N steps and writes the run as it stands then, a sheet, a line with the shifts and a line `end`; --resume goes on\n\
+         with such a file.\n",
     ),
     (
         "fits",
@@ -69,11 +71,12 @@ const PAGES: &[(&str, &str, &str)] = &[
     (
         "series",
         "[--first K | --zero-below A] [--from A] [--terms N] [--start X(0)=1,..].. [--free] [--plot FILE.svg] [--over A:B] [--of X]\n\
-         \x20      [--differential] [--names X,Y,..] FILE",
+         \x20      [--limit TIME] [--differential] [--names X,Y,..] FILE",
         "Writes the first N terms of the sequences of a system, exact, and which of them are free. The equations hold at every n; with\n\
          --first at n >= K; with --zero-below, and for a differential sheet with 0, the values below A are 0. --start gives values, and\n\
          may stand several times; --free tells of each value whether it is free, forced or follows; --plot draws the sum of X(n) x^n\n\
-         over an interval, a curve for each --start. docs/SERIES.md has examples.\n",
+         over an interval, a curve for each --start. Terms are written as they are found where that takes longer than a second; --limit\n\
+         10s, 500ms or 2m ends the work after that time, with exit status 1. docs/SERIES.md has examples.\n",
     ),
     (
         "batch",
@@ -82,6 +85,21 @@ const PAGES: &[(&str, &str, &str)] = &[
          standard error where that is a terminal, or with --progress. A broken batch has exit status 1, and its place is told.\n",
     ),
 ];
+
+/// The parts of all usages between brackets and bars: an option and its value, an option alone, or files.
+fn parts() -> impl Iterator<Item = &'static str> {
+    PAGES.iter().flat_map(|(_, arguments, _)| arguments.split(['[', ']', '|'])).map(str::trim)
+}
+
+/// Whether some subcommand has that option.
+pub fn is_option(option: &str) -> bool {
+    option.starts_with('-') && parts().any(|part| part.split(' ').next() == Some(option))
+}
+
+/// Whether an option has a value behind it: its usage says what.
+pub fn takes_value(option: &str) -> bool {
+    is_option(option) && !parts().any(|part| part == option)
+}
 
 pub fn overview() -> String {
     let mut text = String::from("wurgalm SUBCOMMAND ..: the recurrence regulariser\n\n");

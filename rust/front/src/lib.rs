@@ -1,7 +1,8 @@
 //! The command `wurgalm`: systems typed, shown, checked and run, over the calls of the crate `wurgalm` alone.
 //!
 //! A module for each subcommand; [`writing`] has systems as text, [`expressions`] and [`typing`] read that text, [`places`] finds
-//! the first fault of a sheet, [`log_places`] that of a log, [`frames`] takes a batch apart. `docs/wurgalm.1` is the manual.
+//! the first fault of a sheet, [`log_places`] that of a log, [`frames`] takes a batch apart, [`output`] writes answers and
+//! messages. `docs/wurgalm.1` is the manual.
 
 #![forbid(unsafe_code)]
 
@@ -10,6 +11,7 @@ mod check;
 pub mod command;
 pub mod differentials;
 pub mod expressions;
+mod files;
 mod fits;
 pub mod frames;
 mod help;
@@ -17,6 +19,7 @@ mod induce;
 mod json;
 mod log;
 pub mod log_places;
+pub mod output;
 pub mod places;
 mod replay;
 mod roles;

@@ -1,13 +1,13 @@
 //! `wurgalm run`: a whole run, its answer as equations, as a sheet or as JSON.
 
 use crate::check::with_place;
-use crate::command::{bytes_of, is_differential, last, named, Arguments, End, Outcome};
+use crate::command::{bytes_of, is_differential, last, named, Arguments, End, FileName, Outcome};
 use crate::writing::index;
 use crate::{differentials, json, writing};
 use wurgalm::{Refusal, Report, System};
 
 /// The system of a file: a sheet, or the recurrence of a differential sheet.
-pub fn system_of(file: &str, is_differential: bool) -> Result<System, End> {
+pub fn system_of(file: &FileName, is_differential: bool) -> Result<System, End> {
     let sheet = bytes_of(file)?;
     let read = if is_differential { System::from_differential } else { System::from_sheet };
     read(&sheet).map_err(|refusal| with_place(refusal, file, &sheet, is_differential))

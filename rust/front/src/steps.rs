@@ -1,9 +1,10 @@
 //! `wurgalm steps`: the leading run by steps, with a progress line on standard error. It can be kept between two steps and gone on with.
 
 use crate::check::with_place;
-use crate::command::{bytes_of, is_differential, last, named, Arguments, End, Outcome};
+use crate::command::{bytes_of, is_differential, last, named, Arguments, End, FileName, Outcome};
+use crate::output::say;
 use crate::run::{answer, names_for, refused, system_of};
-use std::io::{self, IsTerminal, Write};
+use std::io::{self, IsTerminal};
 use wurgalm::{prepare, write_sheet, Heading, Progress, Run, State, System};
 
 /// Bytes that are enough for any sheet.
@@ -25,28 +26,34 @@ struct Options {
     names: Vec<String>,
 }
 
-/// A run as it was kept: the sheet of its rows and relations, whose order line has the columns of the settled rows, and behind it the line
-/// with the shifts. The state of a run has no other numbers (SCOPE 11.11).
+/// A run as it was kept: the sheet of its rows and relations, whose order line has the columns of the settled rows,
+/// behind it the line with the shifts, and a line that shows that nothing is missing. The state of a run has no other
+/// numbers (SCOPE 11.11).
 fn kept(system: &mut System, state: &State) -> Outcome {
     let heading = Heading { sizes: state.sizes, relations: state.relations, order: state.order };
     let (rows, relations, _) = system.stores();
     let mut bytes = vec![0; KEPT];
     let length = write_sheet(rows, relations, &heading, &mut bytes)?;
     bytes.truncate(length);
-    bytes.extend(format!("shifts {}\n", state.shifts).bytes());
+    bytes.extend(format!("shifts {}\nend\n", state.shifts).bytes());
     Ok(bytes)
 }
 
+/// The sheet and the shifts of a run that was kept, if it is written as it was and all of it is there.
+fn parted(bytes: &[u8]) -> Option<(&[u8], usize)> {
+    let lines = bytes.strip_suffix(b"\nend\n")?;
+    let (sheet, last) = lines.split_at(lines.iter().rposition(|&byte| byte == b'\n')? + 1);
+    let number = std::str::from_utf8(last.strip_prefix(b"shifts ")?).ok()?;
+    let shifts: usize = number.parse().ok()?;
+    (shifts.to_string() == number).then_some((sheet, shifts))
+}
+
 /// The system and the state of a run that was kept. What is wrong with the state is for the call that goes on with it.
-fn resumed(file: &str) -> Result<(System, State), End> {
+fn resumed(file: &FileName) -> Result<(System, State), End> {
     let bytes = bytes_of(file)?;
-    let text = bytes.strip_suffix(b"\n").unwrap_or(&bytes);
-    let (sheet, last) = text.split_at(text.iter().rposition(|&byte| byte == b'\n').map_or(0, |at| at + 1));
-    let number = last.strip_prefix(b"shifts ").and_then(|number| std::str::from_utf8(number).ok()?.parse().ok());
-    let Some(shifts) = number else {
-        let line = 1 + sheet.iter().filter(|&&byte| byte == b'\n').count();
-        let right = "right would be `shifts` and their number, behind a sheet";
-        return Err(End::Refused(format!("{}: line {line} is not that of a run that was kept: {right}", named(file))));
+    let Some((sheet, shifts)) = parted(&bytes) else {
+        let right = "right at its end would be a line `shifts` with their number and a line `end`";
+        return Err(End::Refused(format!("{}: no run that was kept, or not all of one: {right}", named(file))));
     };
     let mut system = System::from_sheet(sheet).map_err(|refusal| with_place(refusal, file, sheet, false))?;
     let settled = system.order().len();
@@ -55,7 +62,7 @@ fn resumed(file: &str) -> Result<(System, State), End> {
 }
 
 /// The system of a sheet, and the state before the first step.
-fn begun(file: &str, is_differential: bool) -> Result<(System, State), End> {
+fn begun(file: &FileName, is_differential: bool) -> Result<(System, State), End> {
     let mut system = system_of(file, is_differential)?;
     let (rows, relations, heading) = system.stores();
     let state = prepare(rows, relations, heading.sizes, heading.relations)?;
@@ -107,16 +114,15 @@ fn taken(mut system: System, state: State, file: &str, options: Options) -> Outc
 /// The last line stays on a terminal.
 fn line_ended() {
     if io::stderr().is_terminal() {
-        eprintln!();
+        say("\n");
     }
 }
 
 /// On a terminal one line overwrites the other.
 fn shown(line: &str) {
     if io::stderr().is_terminal() {
-        eprint!("\r{line}\x1b[K");
-        let _ = io::stderr().flush();
+        say(&format!("\r{line}\x1b[K"));
     } else {
-        eprintln!("{line}");
+        say(&format!("{line}\n"));
     }
 }

@@ -3,12 +3,13 @@
 use compare::batches::{batch, framed};
 use compare::random::Random;
 use compare::sheets::sheet;
-use front::batch::{answers, Ended};
+use front::batch::{answers, answers_with, Ended, Start};
+use front::command::End;
 use front::typing::sheet_of;
 use std::io::{self, Read, Write};
 use std::sync::atomic::{AtomicUsize, Ordering};
 use std::sync::mpsc::{sync_channel, Receiver, SyncSender};
-use std::thread;
+use std::thread::{self, Builder};
 use std::time::Duration;
 
 const BATCHES: usize = 1_000;
@@ -36,7 +37,7 @@ fn same(input: &[u8], jobs: usize) {
     assert_eq!(is_whole, !is_broken, "{}", String::from_utf8_lossy(input));
 }
 
-/// Bytes that come in pieces of any size, with interruptions, and now and then late.
+/// Bytes that come in pieces of any size, with interruptions, and now and then late, or not yet.
 struct Slow<'a> {
     left: &'a [u8],
     random: Random,
@@ -47,6 +48,7 @@ impl Read for Slow<'_> {
         match self.random.below(40) {
             0 => return Err(io::ErrorKind::Interrupted.into()),
             1 => thread::sleep(Duration::from_micros(200)),
+            2 if self.random.one_in(10) => return Err(io::ErrorKind::WouldBlock.into()),
             _ => {}
         }
         let size = self.random.pick(&[1, 2, 3, 7, 50, 1_000]).min(self.left.len()).min(piece.len());
@@ -165,6 +167,35 @@ fn a_writer_that_fails_ends_the_work() {
     // Far more than is held at a time: it ends without reading them all.
     while send.send(b"1 3\n3 1".repeat(100)).is_ok() {}
     assert!(working.join().unwrap().is_err());
+}
+
+/// Threads that can still be started.
+static LEFT: AtomicUsize = AtomicUsize::new(0);
+
+fn few() -> io::Result<Builder> {
+    let taken = LEFT.fetch_update(Ordering::Relaxed, Ordering::Relaxed, |left| left.checked_sub(1));
+    taken.map(|_| Builder::new()).map_err(|_| io::ErrorKind::WouldBlock.into())
+}
+
+#[test]
+fn threads_that_cannot_be_started() {
+    let mut random = Random::new(38);
+    let start: Start = few;
+    for round in 0..BATCHES {
+        let (input, mut output) = (batch(&mut random), Vec::new());
+        LEFT.store(round % 5, Ordering::Relaxed);
+        answers_with(start, &input[..], &mut output, 4, false).unwrap();
+        assert!(output == whole(&input), "{} threads: {}", round % 5, String::from_utf8_lossy(&input));
+    }
+}
+
+#[test]
+fn a_writer_that_fails_ends_the_work_of_one_thread() {
+    let (written, receive) = sync_channel(100);
+    drop(receive);
+    let none: Start = || Err(io::ErrorKind::WouldBlock.into());
+    let input = [b"1000\n".to_vec(), b"1 3\n3 1".repeat(1_000)].concat();
+    assert!(matches!(answers_with(none, &input[..], Written(written), 1, false), Err(End::Closed)));
 }
 
 #[test]

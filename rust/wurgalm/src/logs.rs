@@ -126,7 +126,9 @@ fn multiplier(coefficients: &[i64]) -> Option<[i64; COEFFICIENTS]> {
 /// The steps of an elimination, and the columns in whose order the leading matrix is triangular at its end, zeros past them.
 ///
 /// As text a log has a line for each step, `exchange I J`, `up I`, `down I`, `drop I`, or `combine I J INTEGER` with each multiplier as the
-/// number of its coefficients and those, lowest power first; the last line is `order` and the columns.
+/// number of its coefficients and those, lowest power first; the last line is `order` and the columns. It is read as it is
+/// written and not otherwise: one space between two words, no sign `+`, no zero that could be left out, and each line with
+/// its end, so that a log of which a part is missing is none.
 ///
 /// ```
 /// let log: wurgalm::Log = "up 2\ncombine 2 1 1 1 2 2 0 -1\norder 1 2\n".parse().unwrap(); // 2 × row 2 - n × row 1
@@ -134,6 +136,9 @@ fn multiplier(coefficients: &[i64]) -> Option<[i64; COEFFICIENTS]> {
 /// assert_eq!(log.order, [1, 2, 0, 0]);
 /// assert_eq!(log.numbers().len(), 2 * wurgalm::LOG_STEP + 4);
 /// assert_eq!(wurgalm::Log::of_numbers(2, &log.numbers()), Ok(log));
+/// for text in ["up 2\norder 1", "up 2\n", "up +2\norder 1\n", "up  2\norder 1\n", "order1\n", "order 1 0\n"] {
+///     assert_eq!(text.parse::<wurgalm::Log>(), Err(wurgalm::Malformed));
+/// }
 /// ```
 #[derive(Clone, Debug, PartialEq, Eq, Default)]
 pub struct Log {
@@ -207,19 +212,28 @@ impl FromStr for LogStep {
         let kind = words.next().ok_or(Malformed)?;
         let numbers: Vec<i64> = words.map(|word| word.parse().map_err(|_| Malformed)).collect::<Result<_, _>>()?;
         let row = |number: i64| usize::try_from(number).map_err(|_| Malformed);
-        match (kind, &numbers[..]) {
-            ("exchange", &[i, j]) => Ok(LogStep::Exchange { i: row(i)?, j: row(j)? }),
+        let step = match (kind, &numbers[..]) {
+            ("exchange", &[i, j]) => LogStep::Exchange { i: row(i)?, j: row(j)? },
             ("combine", &[i, j, integer, ref multipliers @ ..]) => {
                 let (g, rest) = counted(multipliers)?;
-                let (h, rest) = counted(rest)?;
-                let step = LogStep::combine(row(i)?, row(j)?, integer, g, h);
-                step.filter(|_| rest.is_empty()).ok_or(Malformed)
+                let (h, _) = counted(rest)?;
+                LogStep::combine(row(i)?, row(j)?, integer, g, h).ok_or(Malformed)?
             }
-            ("up", &[i]) => Ok(LogStep::Up { i: row(i)? }),
-            ("down", &[i]) => Ok(LogStep::Down { i: row(i)? }),
-            ("drop", &[i]) => Ok(LogStep::Drop { i: row(i)? }),
-            _ => Err(Malformed),
-        }
+            ("up", &[i]) => LogStep::Up { i: row(i)? },
+            ("down", &[i]) => LogStep::Down { i: row(i)? },
+            ("drop", &[i]) => LogStep::Drop { i: row(i)? },
+            _ => return Err(Malformed),
+        };
+        as_written(step, line)
+    }
+}
+
+/// What was read of a text, if that is how it is written.
+fn as_written<Read: fmt::Display>(read: Read, text: &str) -> Result<Read, Malformed> {
+    if read.to_string() == text {
+        Ok(read)
+    } else {
+        Err(Malformed)
     }
 }
 
@@ -241,7 +255,7 @@ impl FromStr for Log {
         for (k, column) in columns.split_ascii_whitespace().enumerate() {
             *order.get_mut(k).ok_or(Malformed)? = column.parse().map_err(|_| Malformed)?;
         }
-        Ok(Log { steps, order })
+        as_written(Log { steps, order }, text)
     }
 }
 

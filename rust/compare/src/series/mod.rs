@@ -69,7 +69,8 @@ pub fn command(words: &[String], sheet: &[u8]) -> Result<String, Told> {
         End::Refused(message) if message.contains("refused with ") => Told::Refused,
         End::Refused(message) if message.contains(", too far from ") => Told::Far,
         End::Refused(message) => Told::Cannot(message),
-        End::Misused(message) => Told::Misused(message),
+        End::Misused(message) | End::Failed(message) => Told::Misused(message),
+        End::Closed => Told::Misused("nobody reads the answer".into()),
     })
 }
 
@@ -102,8 +103,9 @@ impl Case {
         }
         let begin = n + system.sizes.t;
         let kind = random.pick(&[Kind::TwoSided, Kind::First(n), Kind::ZeroBelow(begin)]);
-        let first = begin + random.pick(&[0, 0, 0, 2]);
-        let last = first + random.below(system.sizes.d() as usize + 6) as i64;
+        // Behind the first terms are those that follow from D vectors, where the roots and relations are passed.
+        let first = begin + random.pick(&[0, 0, 0, 2, 2, 14]);
+        let last = first + random.below(system.sizes.d() as usize + 6) as i64 + random.pick(&[0, 0, 0, 0, 0, 12]);
         (Case { system, kind, shown: (first, last) }, random)
     }
 
@@ -467,10 +469,10 @@ impl Tested {
         random: &mut Random,
         series: Series,
     ) -> Result<(), Fault> {
-        let places: Vec<Place> = case.places().collect();
+        let mut places: Vec<Place> = case.places().collect();
         let mut start: Vec<String> = Vec::new();
-        for _ in 0..1 + random.below(4) {
-            let (place, value) = (random.pick(&places), fraction(random));
+        for _ in 0..(1 + random.below(4)).min(places.len()) {
+            let (place, value) = (places.swap_remove(random.below(places.len())), fraction(random));
             let given = Fraction::read(&value).expect("a fraction");
             start.push(format!("{}={value}", text::named(place)));
             let added = known.add(&Sum::single(place, given.numerator, given.denominator))?;
@@ -554,6 +556,16 @@ mod tests {
         let counts = [tested.sums, tested.solved, tested.free, tested.forced, tested.following, tested.counted];
         assert!(counts.iter().all(|&count| count > 50), "{tested:?}");
         assert!(tested.contradictions > 5 && tested.refused_starts > 20 && tested.too_large < 10, "{tested:?}");
+    }
+
+    /// Ten times as many as the comparison takes, on request.
+    #[test]
+    #[ignore]
+    fn many() {
+        let mut tested = Tested::default();
+        tested.test(10_000, &command);
+        tested.print();
+        assert_eq!(tested.differences, Vec::<String>::new());
     }
 
     #[test]

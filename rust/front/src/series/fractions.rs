@@ -23,8 +23,8 @@ impl From<Integer> for Fraction {
 }
 
 impl Fraction {
-    /// In lowest terms; the denominator is not 0.
-    fn of(numerator: Integer, denominator: Integer) -> Fraction {
+    /// The quotient of two integers, the second of which is not 0.
+    pub fn of(numerator: Integer, denominator: Integer) -> Fraction {
         if denominator.is_one() {
             return Fraction { numerator, denominator };
         }
@@ -34,6 +34,11 @@ impl Fraction {
             return Fraction { numerator, denominator };
         }
         Fraction { numerator: numerator.divided(&divisor).0, denominator: denominator.divided(&divisor).0 }
+    }
+
+    /// The quotient of two integers without a common divisor, the second of which is positive.
+    pub fn lowest(numerator: Integer, denominator: Integer) -> Fraction {
+        Fraction { numerator, denominator }
     }
 
     /// `3`, `-3/4` or `0.25`.
@@ -46,9 +51,8 @@ impl Fraction {
         if decimals.is_empty() || decimals.starts_with('-') {
             return None;
         }
-        let (above, ten) = (Integer::read(&format!("{whole}{decimals}"))?, Integer::from(10));
-        let below = decimals.bytes().fold(Integer::from(1), |below, _| below.times(&ten));
-        Some(Fraction::of(above, below))
+        let above = Integer::read(&format!("{whole}{decimals}"))?;
+        Some(Fraction::of(above, Integer::read(&format!("1{}", "0".repeat(decimals.len())))?))
     }
 
     pub fn is_zero(&self) -> bool {
@@ -76,22 +80,17 @@ impl Fraction {
         Fraction::of(self.numerator.times(&other.numerator), self.denominator.times(&other.denominator))
     }
 
+    pub fn numerator(&self) -> &Integer {
+        &self.numerator
+    }
+
+    pub fn denominator(&self) -> &Integer {
+        &self.denominator
+    }
+
     /// The quotient by a fraction that is not 0.
     pub fn over(&self, other: &Fraction) -> Fraction {
         Fraction::of(self.numerator.times(&other.denominator), self.denominator.times(&other.numerator))
-    }
-
-    /// The value of a polynomial, lowest power first, at an integer.
-    pub fn value(coefficients: &[i64], n: i64) -> Fraction {
-        let n = Integer::from(n);
-        let horner = |value: Integer, &a: &i64| value.times(&n).plus(&Integer::from(a));
-        Fraction::from(coefficients.iter().rev().fold(Integer::default(), horner))
-    }
-
-    /// The nearest number of the machine, or nearly so.
-    pub fn rounded(&self) -> f64 {
-        let ((a, up), (b, down)) = (self.numerator.rounded(), self.denominator.rounded());
-        a / b * 2f64.powi(up - down)
     }
 }
 

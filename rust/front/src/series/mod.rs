@@ -1,283 +1,266 @@
-//! `wurgalm series`: the first terms of the sequences of a system, which of them are free, and partial sums as a picture.
+//! `wurgalm series`: the first terms of the sequences of a system, which of them are free, and partial sums as a
+//! picture.
 
+mod asked;
+pub mod clock;
+pub mod floats;
 pub mod fractions;
 pub mod integers;
+mod limbs;
+pub mod model;
 pub mod plot;
 pub mod range;
 pub mod solver;
+mod text;
 
-use crate::command::{is_differential, last, Arguments, End, Outcome};
-use crate::run::{consequence, counted, names_for, refused, system_of};
+use crate::command::{is_differential, last, named, Arguments, End, FileName, Outcome};
+use crate::run::{consequence, counted, refused, system_of};
+use crate::{files, output};
+use asked::{column, Asked, Start};
+use clock::{Clock, Late};
 use fractions::Fraction;
+use model::{Kind, Lacking, Model, Unrun};
 use plot::Picture;
-use range::{Kind, Lacking, Model, Range, Unrun, Value};
-use std::fs;
+use range::{Range, Value};
+use text::{Sink, Writer};
 use wurgalm::{Refusal, System};
-
-/// The most terms.
-const TERMS: i64 = 400;
-/// Terms where no number is given.
-const FEW: i64 = 8;
-/// Indices are within ± this.
-const INDEX: i64 = 1_048_576;
-
-/// Starting values: index, column, value.
-type Start = Vec<(i64, usize, Fraction)>;
-
-fn number(text: &str, option: &str, least: i64, most: i64) -> Result<i64, End> {
-    match text.parse() {
-        Ok(number) if (least..=most).contains(&number) => Ok(number),
-        _ => Err(End::Misused(format!("{option} wants a number from {least} to {most}"))),
-    }
-}
-
-fn integer(arguments: &mut Arguments, option: &str, least: i64, most: i64) -> Result<Option<i64>, End> {
-    arguments.value(option)?.map(|text| number(&text, option, least, most)).transpose()
-}
-
-/// `x(0)=1,y(0)=1/2` by the names of the unknowns.
-fn start(text: &str, names: &[String]) -> Result<Start, End> {
-    let wrong = |part: &str| End::Misused(format!("--start wants `x(0)=1,y(0)=1/2`, and `{part}` is none of it"));
-    let each = |part: &str| {
-        let part = part.trim();
-        let (place, value) = part.split_once('=').ok_or_else(|| wrong(part))?;
-        let (name, index) =
-            place.trim().strip_suffix(')').and_then(|p| p.split_once('(')).ok_or_else(|| wrong(part))?;
-        let column = names.iter().position(|known| known == name.trim()).ok_or_else(|| wrong(part))? + 1;
-        let index = number(index.trim(), "the index of a starting value", -INDEX, INDEX)?;
-        Ok((index, column, Fraction::read(value.trim()).ok_or_else(|| wrong(part))?))
-    };
-    text.split(',').map(each).collect()
-}
-
-/// What the arguments ask for.
-struct Asked {
-    kind: Kind,
-    from: Option<i64>,
-    terms: i64,
-    names: Vec<String>,
-    starts: Vec<(String, Start)>,
-    is_free: bool,
-    plot: Option<String>,
-    over: (Fraction, Fraction),
-    of: usize,
-}
-
-fn interval(text: Option<String>) -> Result<(Fraction, Fraction), End> {
-    let Some(text) = text else { return Ok((Fraction::from(0), Fraction::from(1))) };
-    let ends = text.split_once(':').and_then(|(from, to)| Some((Fraction::read(from)?, Fraction::read(to)?)));
-    let rising = |ends: &(Fraction, Fraction)| ends.0.plus(&ends.1.clone().negated()).is_negative();
-    ends.filter(rising).ok_or_else(|| End::Misused("--over wants an interval such as 0:3/2".into()))
-}
-
-fn asked(arguments: &mut Arguments, is_differential: bool) -> Result<Asked, End> {
-    let (first, below) =
-        (integer(arguments, "--first", -INDEX, INDEX)?, integer(arguments, "--zero-below", -INDEX, INDEX)?);
-    let kind = match (first, below) {
-        (Some(_), Some(_)) => return Err(End::Misused("either --first or --zero-below".into())),
-        (Some(k), None) => Kind::First(k),
-        (None, Some(index)) => Kind::ZeroBelow(index),
-        (None, None) if is_differential => Kind::ZeroBelow(0),
-        (None, None) => Kind::TwoSided,
-    };
-    let (from, terms) = (integer(arguments, "--from", -INDEX, INDEX)?, integer(arguments, "--terms", 1, TERMS)?);
-    let names = names_for(arguments.value("--names")?, is_differential)?;
-    let mut starts = Vec::new();
-    while let Some(text) = arguments.value("--start")? {
-        starts.push((text.clone(), start(&text, &names)?));
-    }
-    let (is_free, plot) = (arguments.flag("--free"), arguments.value("--plot")?);
-    let over = interval(arguments.value("--over")?)?;
-    let of = arguments.value("--of")?;
-    let column = |name: String| names.iter().position(|known| *known == name).map(|at| at + 1);
-    let of = of.map_or(Some(1), column).ok_or_else(|| End::Misused("--of wants the name of an unknown".into()))?;
-    Ok(Asked { kind, from, terms: terms.unwrap_or(FEW), names, starts, is_free, plot, over, of })
-}
-
-/// A value as text.
-fn shown(value: &Value, place: (i64, usize), names: &[String]) -> String {
-    let named = |(index, column): (i64, usize)| format!("{}({index})", names[column - 1]);
-    let Value::Given(number, others) = value else { return named(place) };
-    let mut sum = if number.is_zero() && !others.is_empty() { String::new() } else { number.to_string() };
-    for (other, factor) in others {
-        let size = if factor.is_negative() { factor.clone().negated() } else { factor.clone() };
-        sum += match (sum.is_empty(), factor.is_negative()) {
-            (true, true) => "-",
-            (true, false) => "",
-            (false, true) => " - ",
-            (false, false) => " + ",
-        };
-        if !size.is_one() {
-            sum += &format!("{size} ");
-        }
-        sum += &named(*other);
-    }
-    sum
-}
-
-/// Lines of words, in columns.
-fn table(lines: &[Vec<String>]) -> String {
-    let width = |at: usize| lines.iter().map(|line| line[at].len()).max().unwrap_or(0);
-    let mut text = String::new();
-    for line in lines {
-        let cells: Vec<String> = line.iter().enumerate().map(|(at, cell)| format!("{cell:0$}", width(at))).collect();
-        text += cells.join("  ").trim_end();
-        text.push('\n');
-    }
-    text
-}
-
-/// The terms of a range, a line for each index.
-fn terms(range: &Range, (first, last): (i64, i64), m: usize, names: &[String]) -> String {
-    let mut lines = vec![std::iter::once("n".to_string()).chain(names[..m].iter().cloned()).collect()];
-    for index in first..=last {
-        let value = |column| shown(&range.value(index, column), (index, column), names);
-        lines.push(std::iter::once(index.to_string()).chain((1..=m).map(value)).collect::<Vec<String>>());
-    }
-    table(&lines)
-}
-
-/// What is free, what is forced and what follows, a line for each value.
-fn verdicts(range: &Range, (first, last): (i64, i64), m: usize, names: &[String]) -> String {
-    let mut text = String::new();
-    for (index, column) in (first..=last).flat_map(|index| (1..=m).map(move |column| (index, column))) {
-        let value = range.value(index, column);
-        let told = match &value {
-            Value::Free => "is free".into(),
-            Value::Given(number, others) if others.is_empty() => format!("is {number}, forced"),
-            _ => format!("follows: {}", shown(&value, (index, column), names)),
-        };
-        text += &format!("{}({index}) {told}\n", names[column - 1]);
-    }
-    text
-}
-
-/// How many constants are free, and what they are.
-fn count(model: &Model, range: &Range, names: &[String]) -> String {
-    let (sizes, free) = (model.input.sizes(), range.free());
-    let naive = (sizes.l - sizes.t) as usize * sizes.m;
-    let listed: Vec<String> = free.iter().map(|(index, column)| format!("{}({index})", names[column - 1])).collect();
-    let listed = if listed.is_empty() { String::new() } else { format!(": {}", listed.join(", ")) };
-    let vectors = counted((sizes.l - sizes.t) as usize, "vector");
-    let mut text = format!(
-        "{} free{listed}\nthe naive recurrence takes {naive}, {vectors} of {}\n",
-        counted(free.len(), "constant"),
-        counted(sizes.m, "value")
-    );
-    match (range.is_settled, range.elsewhere()) {
-        (true, 0) => {}
-        (true, more) => text += &format!("{} more, on which no value shown depends\n", counted(more, "constant")),
-        (false, _) => text += "the count is that of the indices shown\n",
-    }
-    text
-}
-
-fn not_run(unrun: Unrun, file: &str) -> End {
-    match unrun {
-        Unrun::Trailing(refusal) if refusal != Refusal(10) => End::Refused(format!(
-            "{}: the trailing run, which two-sided sequences need, is {refusal}; --first K asks for those from an index on",
-            crate::command::named(file)
-        )),
-        Unrun::Leading(refusal) | Unrun::Trailing(refusal) => refused(refusal, file),
-    }
-}
-
-fn lacking(lacking: Lacking, file: &str) -> End {
-    match lacking {
-        Lacking::None(told) | Lacking::Far(told) => End::Refused(format!("{}: {told}", crate::command::named(file))),
-    }
-}
-
-/// A range with starting values put in; the first one that cannot be is told.
-fn started(range: &Range, start: &Start, names: &[String], file: &str, shown: (i64, i64)) -> Result<Range, End> {
-    let mut range = range.clone();
-    for (index, column, value) in start {
-        let named = format!("{}({index})", names[column - 1]);
-        if !(shown.0..=shown.1).contains(index) {
-            return Err(End::Misused(format!("{named} is outside the indices {} to {}", shown.0, shown.1)));
-        }
-        if !range.set(*index, *column, value) {
-            let is = match range.value(*index, *column) {
-                Value::Given(number, _) => number.to_string(),
-                Value::Free => "free".into(),
-            };
-            let file = crate::command::named(file);
-            return Err(End::Refused(format!(
-                "{file}: {named} = {value} cannot be: {named} is {is} by what stands before it"
-            )));
-        }
-    }
-    Ok(range)
-}
-
-/// The points of a curve: the partial sum of one unknown.
-fn curve(range: &Range, (first, last): (i64, i64), asked: &Asked) -> Result<Vec<(f64, f64)>, End> {
-    let name = &asked.names[asked.of - 1];
-    let number = |index: i64| match range.value(index, asked.of) {
-        Value::Given(number, others) if others.is_empty() => Ok(number),
-        _ => Err(End::Misused(format!("{name}({index}) is not settled: --start has to give the free constants"))),
-    };
-    let values: Vec<Fraction> = (first..=last).map(number).collect::<Result<_, _>>()?;
-    let points = plot::points(first, &values, &asked.over)
-        .ok_or_else(|| End::Misused("the series has negative powers: --over an interval without 0".into()))?;
-    if !points.iter().all(|(x, y)| x.is_finite() && y.is_finite()) {
-        return Err(End::Misused("the sum is too large to be drawn: --over a shorter interval".into()));
-    }
-    Ok(points)
-}
 
 pub fn series(mut arguments: Arguments) -> Outcome {
     let is_differential = is_differential(&mut arguments, last);
-    let asked = asked(&mut arguments, is_differential)?;
+    let asked = Asked::new(&mut arguments, is_differential)?;
     let file = arguments.files(1, 1)?.remove(0);
-    answered(&asked, system_of(&file, is_differential)?, &file)
+    if let Some(plot) = &asked.plot {
+        files::target(plot, &[&file])?;
+    }
+    let input = system_of(&file, is_differential)?;
+    let clock = Clock::new(asked.limit);
+    Answer::new(&asked, input, &file, &clock)?.write(&mut output::write)?;
+    Ok(Vec::new())
 }
 
 /// What the command writes with such arguments before the file, for the bytes of a sheet.
 pub fn of_sheet(words: &[String], sheet: &[u8]) -> Outcome {
     let mut arguments = Arguments::new(words.to_vec());
-    let asked = asked(&mut arguments, false)?;
+    let asked = Asked::new(&mut arguments, false)?;
     arguments.files(0, 0)?;
-    answered(&asked, System::from_sheet(sheet)?, "-")
+    let (clock, mut text) = (Clock::quiet(asked.limit), Vec::new());
+    Answer::new(&asked, System::from_sheet(sheet)?, &FileName::from("-"), &clock)?.write(&mut |piece| {
+        text.extend_from_slice(piece);
+        Ok(())
+    })?;
+    Ok(text)
 }
 
-fn answered(asked: &Asked, input: System, file: &str) -> Outcome {
-    let model = Model::new(input, asked.kind).map_err(|unrun| not_run(unrun, file))?;
-    let begin = model.begin(asked.kind);
-    let first = asked.from.unwrap_or(begin);
-    if first < begin && asked.kind != Kind::TwoSided {
-        return Err(End::Misused(format!("--from is {begin} at least here")));
-    }
-    let indices = (first, first + asked.terms - 1);
-    let range = model.range(asked.kind, indices).map_err(|told| lacking(told, file))?;
-    let (names, m) = (&asked.names, model.input.sizes().m);
-    let mut text = count(&model, &range, names);
-    if !asked.is_free && asked.starts.is_empty() {
-        text += &format!("{}\n\n", consequence(&model.leading, &model.report, false, names));
-        text += &terms(&range, indices, m, names);
-    } else if asked.is_free {
-        text += &format!("\n{}", verdicts(&range, indices, m, names));
-    }
-    let mut curves = Vec::new();
-    for (given, start) in &asked.starts {
-        let range = started(&range, start, names, file, indices)?;
-        if !asked.is_free {
-            text += &format!("\nwith {given}\n{}", terms(&range, indices, m, names));
+fn not_run(unrun: Unrun, file: &str) -> End {
+    match unrun {
+        Unrun::Trailing(refusal) if refusal != Refusal(10) => {
+            let told = format!("the trailing run, which two-sided sequences need, is {refusal}");
+            End::Refused(format!("{}: {told}; --first K asks for those from an index on", named(file)))
         }
-        if asked.plot.is_some() {
-            curves.push((given.replace('=', " = ").replace(',', ", "), curve(&range, indices, asked)?));
+        Unrun::Leading(refusal) | Unrun::Trailing(refusal) => refused(refusal, file),
+    }
+}
+
+/// All that is asked of a model, the starting values put in.
+struct Answer<'a> {
+    asked: &'a Asked,
+    file: &'a FileName,
+    clock: &'a Clock,
+    model: Model,
+    names: &'a [String],
+    indices: (i64, i64),
+    range: Range,
+    starts: Vec<(String, Range)>,
+    /// The column that is drawn.
+    drawn: Option<usize>,
+}
+
+/// What is written of a range.
+#[derive(Clone, Copy, PartialEq)]
+enum Form {
+    Table,
+    Verdicts,
+    Nothing,
+}
+
+impl<'a> Answer<'a> {
+    fn new(asked: &'a Asked, input: System, file: &'a FileName, clock: &'a Clock) -> Result<Answer<'a>, End> {
+        let names = &asked.names[..input.sizes().m];
+        let model = Model::new(input, asked.kind).map_err(|unrun| not_run(unrun, file))?;
+        let begin = model.begin(asked.kind);
+        let first = asked.from.unwrap_or(begin);
+        if first < begin && asked.kind != Kind::TwoSided {
+            return Err(End::Misused(format!("--from is {begin} at least here")));
+        }
+        let indices = (first, first + asked.terms - 1);
+        let start = |text: &String| Start::new(text, names, indices);
+        let starts: Vec<Start> = asked.starts.iter().map(start).collect::<Result<_, _>>()?;
+        let of = asked.of.as_ref().map_or(Ok(1), |name| column(name, names))?;
+        let drawn = asked.plot.is_some().then_some(of);
+        let until = starts.iter().flat_map(|start| &start.values).map(|(index, ..)| *index).max().unwrap_or(first);
+        let range = Range::new(&model, asked.kind, indices, until, clock);
+        let range = range.map_err(|lacking| told(lacking, asked, file, "before the first term is settled"))?;
+        let mut answer = Answer { asked, file, clock, model, names, indices, range, starts: Vec::new(), drawn };
+        for start in starts {
+            let range = answer.started(&start)?;
+            answer.starts.push((start.text, range));
+        }
+        Ok(answer)
+    }
+
+    fn late(&self, _: Late) -> End {
+        told(Lacking::Late, self.asked, self.file, "before the first term is settled")
+    }
+
+    /// The range with starting values put in; the first one that cannot be is told.
+    fn started(&self, start: &Start) -> Result<Range, End> {
+        let mut range = self.range.clone();
+        for (index, column, value) in &start.values {
+            if range.set(*index, *column, value, self.clock).map_err(|late| self.late(late))? {
+                continue;
+            }
+            let is = match range.value(*index, *column) {
+                Value::Given(number, _) => number.to_string(),
+                Value::Free => "free".into(),
+            };
+            let (file, place) = (named(self.file), format!("{}({index})", self.names[column - 1]));
+            let told = format!("{file}: {place} = {value} cannot be: {place} is {is} by what stands before it");
+            return Err(End::Refused(told));
+        }
+        Ok(range)
+    }
+
+    /// How many constants are free, and what they are.
+    fn count(&self) -> Result<String, End> {
+        let (sizes, free) = (self.model.input.sizes(), self.range.free(&self.model, self.clock));
+        let free = free.map_err(|late| self.late(late))?;
+        let naive = (sizes.l - sizes.t) as usize * sizes.m;
+        let place = |(index, column): &(i64, usize)| format!("{}({index})", self.names[column - 1]);
+        let listed: Vec<String> = free.iter().map(place).collect();
+        let listed = if listed.is_empty() { String::new() } else { format!(": {}", listed.join(", ")) };
+        let vectors = counted((sizes.l - sizes.t) as usize, "vector");
+        let mut text = format!(
+            "{} free{listed}\nthe naive recurrence takes {naive}, {vectors} of {}\n",
+            counted(free.len(), "constant"),
+            counted(sizes.m, "value")
+        );
+        match (self.model.is_settled(self.asked.kind), self.range.elsewhere) {
+            (true, 0) => {}
+            (true, more) => text += &format!("{} more, on which no value shown depends\n", counted(more, "constant")),
+            (false, _) => text += "the count is that of the indices shown\n",
+        }
+        Ok(text)
+    }
+
+    /// Writes everything; the picture comes last.
+    fn write(mut self, sink: Sink) -> Result<(), End> {
+        let (mut writer, mut curves) = (Writer::new(sink, self.clock), Vec::new());
+        writer.text(&self.count()?)?;
+        let starts = std::mem::take(&mut self.starts);
+        let form = match (self.asked.is_free, starts.is_empty()) {
+            (true, _) => Form::Verdicts,
+            (false, true) => Form::Table,
+            (false, false) => Form::Nothing,
+        };
+        match form {
+            Form::Verdicts => writer.text("\n")?,
+            Form::Table => {
+                let model = &self.model;
+                writer.text(&format!("{}\n\n", consequence(&model.leading, &model.report, false, self.names)))?;
+            }
+            Form::Nothing => {}
+        }
+        let drawn = self.drawn.filter(|_| starts.is_empty());
+        let values = self.walk(self.range.clone(), form, drawn, &mut writer)?;
+        if let Some(of) = drawn {
+            curves.push((self.names[of - 1].clone(), self.points(&values)?));
+        }
+        for (text, range) in starts {
+            let form = if self.asked.is_free { Form::Nothing } else { Form::Table };
+            if form == Form::Table {
+                writer.text(&format!("\nwith {text}\n"))?;
+            }
+            let values = self.walk(range, form, self.drawn, &mut writer)?;
+            if self.drawn.is_some() {
+                curves.push((text.replace('=', " = ").replace(',', ", "), self.points(&values)?));
+            }
+        }
+        writer.finish()?;
+        self.draw(curves)
+    }
+
+    /// Writes what is asked of a range, index by index, and gives the values of the column that is drawn.
+    fn walk(
+        &self,
+        mut range: Range,
+        form: Form,
+        drawn: Option<usize>,
+        writer: &mut Writer,
+    ) -> Result<Vec<Fraction>, End> {
+        let (mut values, (first, last)) = (Vec::new(), self.indices);
+        if form == Form::Nothing && drawn.is_none() {
+            return Ok(values);
+        }
+        if form == Form::Table {
+            writer.line(text::heading(self.names))?;
+        }
+        for index in first..=last {
+            self.clock.tell(|| format!("term {index} of {first} to {last}"));
+            let worked = range.go_on(&self.model, index, self.clock);
+            let looked = worked.and_then(|()| self.clock.look().map_err(Lacking::from));
+            if let Err(lacking) = looked {
+                writer.finish()?;
+                return Err(told(lacking, self.asked, self.file, &format!("at index {index}")));
+            }
+            match form {
+                Form::Table => writer.line(text::line(&range, index, self.names))?,
+                Form::Verdicts => writer.text(&text::verdicts(&range, index, self.names))?,
+                Form::Nothing => {}
+            }
+            if let Some(of) = drawn {
+                values.push(self.number(&range, index, of)?);
+            }
+            range.forget(index);
+        }
+        Ok(values)
+    }
+
+    /// A value that is drawn.
+    fn number(&self, range: &Range, index: i64, of: usize) -> Result<Fraction, End> {
+        match range.value(index, of) {
+            Value::Given(number, others) if others.is_empty() => Ok(number),
+            _ => {
+                let name = &self.names[of - 1];
+                let told = format!("{name}({index}) is not settled: --start has to give the free constants");
+                Err(End::Misused(told))
+            }
         }
     }
-    if let Some(plot) = &asked.plot {
-        if curves.is_empty() {
-            curves.push((names[asked.of - 1].clone(), curve(&range, indices, asked)?));
-        }
-        let variable = if names.iter().take(m).any(|name| name == "x") { "s" } else { "x" };
-        let name = &names[asked.of - 1];
-        let title = format!("Sum of {name}(n) {variable}ⁿ, n from {} to {}", indices.0, indices.1);
-        let vertical = name.clone();
-        let picture = Picture { title, horizontal: variable.into(), vertical, curves };
-        fs::write(plot, picture.svg()).map_err(|error| End::Misused(format!("{plot}: {error}")))?;
+
+    /// The points of a curve: the partial sum of one unknown.
+    fn points(&self, values: &[Fraction]) -> Result<Vec<(f64, f64)>, End> {
+        plot::points(self.indices.0, values, &self.asked.over).map_err(|why| End::Misused(why.into()))
     }
-    Ok(text.into_bytes())
+
+    /// Writes the picture.
+    fn draw(&self, curves: Vec<(String, Vec<(f64, f64)>)>) -> Result<(), End> {
+        let (Some(plot), Some(of)) = (&self.asked.plot, self.drawn) else { return Ok(()) };
+        let variable = if self.names.iter().any(|name| name == "x") { "s" } else { "x" };
+        let (name, (first, last)) = (&self.names[of - 1], self.indices);
+        let title = format!("Sum of {name}(n) {variable}ⁿ, n from {first} to {last}");
+        let picture = Picture { title, horizontal: variable.into(), vertical: name.clone(), curves };
+        files::write(plot, picture.svg().as_bytes(), &[self.file])
+    }
+}
+
+/// Why there is no answer, or no more of it.
+fn told(lacking: Lacking, asked: &Asked, file: &str, place: &str) -> End {
+    let file = named(file);
+    End::Refused(match lacking {
+        Lacking::None(told) | Lacking::Far(told) => format!("{file}: {told}"),
+        Lacking::Late => {
+            let limit = asked.limit.unwrap_or_default();
+            format!("{file}: the limit of {limit:?} is over {place}; --limit gives more time, --terms asks for less")
+        }
+    })
 }

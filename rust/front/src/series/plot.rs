@@ -1,5 +1,6 @@
 //! Partial sums over an interval, as a picture in SVG.
 
+use super::floats::Float;
 use super::fractions::Fraction;
 use std::fmt::Write;
 
@@ -14,6 +15,15 @@ const COLOURS: [&str; 6] = ["#1f5fa8", "#c2451e", "#2b8a4b", "#7d3fa0", "#a87b00
 const DASHES: [&str; 3] = ["none", "8 4", "2 3"];
 /// Characters of a curve's name that have room.
 const NAME: usize = 72;
+/// The largest size that is drawn, and the smallest.
+const LARGE: f64 = 1e300;
+const SMALL: f64 = 1e-300;
+/// The narrowest interval that is drawn, and the lowest curve, as a part of the numbers that it goes through.
+const NARROW: f64 = 1e-9;
+/// Bits of a sum to begin with, and the most.
+const BITS: (i64, i64) = (128, 8_192);
+/// Bits of the largest value of a curve that have to be right.
+const RIGHT: i64 = 56;
 
 /// What belongs to one picture.
 pub struct Picture {
@@ -30,30 +40,80 @@ fn place((from, to): &(Fraction, Fraction), step: i64) -> Fraction {
     from.plus(&whole.times(&Fraction::from(step)).over(&Fraction::from(STEPS)))
 }
 
-/// The points of the sum of value × x^index over an interval, exact before they are rounded; none where a power of 0 is not there.
-pub fn points(first: i64, values: &[Fraction], interval: &(Fraction, Fraction)) -> Option<Vec<(f64, f64)>> {
+/// The sum of value × x^index, and how far it may be wrong.
+struct Sum {
+    value: Float,
+    error: Float,
+}
+
+impl Sum {
+    /// Horner's way with so many bits. Each step is wrong by 4 units in the last place of the sum of all sizes at most.
+    fn new(first: i64, values: &[Float], x: &Fraction, bits: i64) -> Sum {
+        if x.is_zero() {
+            let value = usize::try_from(-first).ok().and_then(|at| values.get(at)).cloned().unwrap_or_default();
+            return Sum { value, error: Float::default() };
+        }
+        let at = Float::of(x, bits);
+        let size = at.clone().size();
+        let (mut value, mut sizes) = (Float::default(), Float::default());
+        for a in values.iter().rev() {
+            value = value.times(&at, bits).plus(a, bits);
+            sizes = sizes.times(&size, 64).plus(&a.clone().size(), 64);
+        }
+        let base = if first < 0 { Float::of(&Fraction::from(1).over(x), bits) } else { at };
+        let power = base.power(first.unsigned_abs(), bits);
+        let steps = values.len() as i64 + first.abs() + 32;
+        let units = Float::of(&Fraction::from(8 * steps), 64).lowered(bits);
+        let error = sizes.times(&power.clone().size(), 64).times(&units, 64);
+        Sum { value: value.times(&power, bits), error }
+    }
+}
+
+/// The points of the sum of value × x^index over an interval, from the exact values: as many bits are taken as the
+/// curve needs. Or why it cannot be drawn.
+pub fn points(
+    first: i64,
+    values: &[Fraction],
+    interval: &(Fraction, Fraction),
+) -> Result<Vec<(f64, f64)>, &'static str> {
+    let xs: Vec<Fraction> = (0..=STEPS).map(|step| place(interval, step)).collect();
+    let across: Vec<f64> = xs.iter().map(|x| Float::of(x, 64).rounded()).collect();
+    let (left, right) = (across[0], across[STEPS as usize]);
+    let size = left.abs().max(right.abs());
+    if size > LARGE || right - left < SMALL || right - left < size * NARROW {
+        return Err("this interval cannot be drawn: --over a shorter or a wider one, nearer to 0");
+    }
     let has_negative = values.iter().zip(first..0).any(|(value, _)| !value.is_zero());
-    (0..=STEPS)
-        .map(|step| {
-            let x = place(interval, step);
-            if x.is_zero() && has_negative {
-                return None;
-            }
-            let horner = |sum: Fraction, value: &Fraction| sum.times(&x).plus(value);
-            let mut sum = values.iter().rev().fold(Fraction::from(0), horner);
-            for _ in 0..first {
-                sum = sum.times(&x);
-            }
-            if x.is_zero() && first < 0 {
-                sum = values.get(first.unsigned_abs() as usize).cloned().unwrap_or_else(|| Fraction::from(0));
-            } else {
-                for _ in first..0 {
-                    sum = sum.over(&x);
-                }
-            }
-            Some((x.rounded(), sum.rounded()))
-        })
-        .collect()
+    if has_negative && xs.iter().any(Fraction::is_zero) {
+        return Err("the series has negative powers: --over an interval without 0");
+    }
+    let sums = sums(first, values, &xs);
+    let largest = sums.iter().map(|value| value.rounded().abs()).fold(0.0, f64::max);
+    if largest > LARGE {
+        return Err("the sum is too large to be drawn: --over a shorter interval");
+    }
+    if largest < SMALL && sums.iter().any(|value| !value.is_zero()) {
+        return Err("the sum is too small to be drawn: --over a longer interval");
+    }
+    Ok(across.into_iter().zip(sums.iter().map(Float::rounded)).collect())
+}
+
+/// The sums at some places, right in the first bits of the largest of them.
+fn sums(first: i64, values: &[Fraction], xs: &[Fraction]) -> Vec<Float> {
+    let mut bits = BITS.0;
+    loop {
+        let floats: Vec<Float> = values.iter().map(|value| Float::of(value, bits)).collect();
+        let sums: Vec<Sum> = xs.iter().map(|x| Sum::new(first, &floats, x, bits)).collect();
+        let tops = sums.iter().filter(|sum| !sum.value.is_zero()).map(|sum| sum.value.top());
+        let largest = tops.max().unwrap_or(i64::MIN);
+        let is_right = |sum: &Sum| sum.error.is_zero() || sum.error.top() < largest.saturating_sub(RIGHT);
+        if bits >= BITS.1 || sums.iter().all(is_right) {
+            // What is below its error with so many bits is 0.
+            let is_sure = |sum: &Sum| sum.error.is_zero() || sum.value.top() > sum.error.top();
+            return sums.into_iter().map(|sum| if is_sure(&sum) { sum.value } else { Float::default() }).collect();
+        }
+        bits *= 4;
+    }
 }
 
 /// Round numbers between two, about six of them.
@@ -64,6 +124,14 @@ fn ticks(low: f64, high: f64) -> Vec<f64> {
     let first = (low / step).ceil() as i64;
     let last = (high / step).floor() as i64;
     (first..=last).map(|at| at as f64 * step).collect()
+}
+
+/// Ticks as text, with so many digits that no two of them are the same.
+fn labels(ticks: &[f64]) -> Vec<String> {
+    let all = |label: &dyn Fn(f64) -> String| ticks.iter().map(|&value| label(value)).collect::<Vec<String>>();
+    let ways = (2..17).map(|digits| all(&move |value| format!("{value:.digits$e}")));
+    let mut ways = std::iter::once(all(&tick)).chain(ways);
+    ways.find(|labels| labels.windows(2).all(|pair| pair[0] != pair[1])).unwrap_or_else(|| all(&tick))
 }
 
 /// A tick as text: no more decimals than it needs.
@@ -84,7 +152,10 @@ fn short(name: &str) -> String {
     name.chars().take(NAME - 3).chain(" ..".chars()).collect()
 }
 
+/// Text within XML: what is no character of XML, or a control character, is replaced.
 fn escaped(text: &str) -> String {
+    let is_none = |c: char| c.is_control() || matches!(c, '\u{fffe}' | '\u{ffff}');
+    let text: String = text.chars().map(|c| if is_none(c) { '\u{fffd}' } else { c }).collect();
     text.replace('&', "&amp;").replace('<', "&lt;").replace('>', "&gt;")
 }
 
@@ -96,11 +167,15 @@ fn ends(values: impl Iterator<Item = f64>) -> (f64, f64) {
         (_, true) if high < 0.0 => (low, 0.0),
         _ => (low, high),
     };
-    match (low.is_finite() && high.is_finite(), high - low) {
-        (false, _) => (0.0, 1.0),
-        (_, 0.0) => (low - 1.0, high + 1.0),
-        (_, whole) => (low - whole * 0.05, high + whole * 0.05),
+    if !low.is_finite() || !high.is_finite() {
+        return (0.0, 1.0);
     }
+    let (whole, size) = (high - low, low.abs().max(high.abs()));
+    if whole <= size * NARROW {
+        let room = if size > 1.0 { size / 2.0 } else { 1.0 };
+        return (low - room, high + room);
+    }
+    (low - whole * 0.05, high + whole * 0.05)
 }
 
 impl Picture {
@@ -120,14 +195,16 @@ impl Picture {
         let (low, high) = ends(all().map(|point| point.1));
         let left = all().map(|point| point.0).fold(f64::INFINITY, f64::min);
         let right = all().map(|point| point.0).fold(f64::NEG_INFINITY, f64::max);
-        for x in ticks(left, right) {
-            let (h, label) = (at(x, low).0, tick(x));
+        let across = ticks(left, right);
+        for (&x, label) in across.iter().zip(labels(&across)) {
+            let h = at(x, low).0;
             let _ = writeln!(svg, "<line x1=\"{h:.2}\" y1=\"{y0}\" x2=\"{h:.2}\" y2=\"{y1}\" stroke=\"#e3e3e3\"/>");
             let below = y1 + 18.0;
             let _ = writeln!(svg, "<text x=\"{h:.2}\" y=\"{below}\" text-anchor=\"middle\">{label}</text>");
         }
-        for y in ticks(low, high) {
-            let (v, label) = (at(left, y).1, tick(y));
+        let up = ticks(low, high);
+        for (&y, label) in up.iter().zip(labels(&up)) {
+            let v = at(left, y).1;
             let colour = if y == 0.0 { "#777777" } else { "#e3e3e3" };
             let _ = writeln!(svg, "<line x1=\"{x0}\" y1=\"{v:.2}\" x2=\"{x1}\" y2=\"{v:.2}\" stroke=\"{colour}\"/>");
             let (beside, v) = (x0 - 8.0, v + 4.0);

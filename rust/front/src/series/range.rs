@@ -1,55 +1,144 @@
-//! Which values of a range of indices are free, and what the others are: the equations and relations of the input and of its runs,
-//! at every n whose blocks lie in a window around the range, as exact linear equations.
+//! Which values of a range of indices are free, and what the others are: the equations and relations of the input and
+//! of its runs, at every n whose blocks lie in a window around the range, as exact linear equations.
 //!
-//! The unknowns outside the range are given first and the latest of the range next, so that what is left without a row are the earliest
-//! values of the range that can be. The window reaches past the last root of the leading run, and on the other side past the first root of
-//! the trailing one: there each vector follows from its neighbours (SCOPE 2.116, 2.117) and nothing outside ties a value inside.
+//! The unknowns outside the range are given first and the latest of the range next, so that what is left without a row
+//! are the earliest values of the range that can be. The window reaches past the last root of the leading run, and on
+//! the other side past the first root of the trailing one: there each vector follows from its neighbours (SCOPE 2.116,
+//! 2.117) and nothing outside ties a value inside.
+//!
+//! Both sides of the range are worked towards it, and a vector outside is forgotten with the last equation that speaks
+//! of it: what is left are the conditions on the D vectors beside it. Past all roots and relations the leading run
+//! alone gives one vector after the other and changes none before it, so that those terms are there as they are found.
 
+use super::clock::{Clock, Late};
 use super::fractions::Fraction;
-use super::solver::{Row, Solver};
-use wurgalm::{Equation, Refusal, Report, System};
+use super::integers::Integer;
+use super::model::{Kind, Lacking, Model};
+use super::solver::{Conditions, Row, Solver};
+use std::ops::RangeInclusive;
+use wurgalm::{Equation, Sizes};
 
-/// Which sequences are meant.
-#[derive(Clone, Copy, Debug, PartialEq, Eq)]
-pub enum Kind {
-    /// The equations hold at every n.
-    TwoSided,
-    /// The equations hold at every n from k on (SCOPE 1.25).
-    First(i64),
-    /// The equations hold at every n, and the values below an index are 0.
-    ZeroBelow(i64),
+/// The indices of a window, and how their values are numbered as unknowns.
+#[derive(Clone, Copy)]
+struct Places {
+    sizes: Sizes,
+    window: (i64, i64),
+    shown: (i64, i64),
+    kind: Kind,
 }
 
-/// How far a window may reach past its range.
-const REACH: i64 = 512;
+impl Places {
+    /// The unknown of a value: those above the range come first, then those below it, then the range from its end.
+    fn unknown(&self, index: i64, column: usize) -> usize {
+        let (m, (low, high), (first, last)) = (self.sizes.m, self.window, self.shown);
+        let vectors = if index > last {
+            high - index
+        } else if index < first {
+            high - last + index - low
+        } else {
+            high - last + first - low + last - index
+        };
+        vectors as usize * m + m - column
+    }
 
-/// A system with its runs.
-pub struct Model {
-    pub input: System,
-    pub leading: System,
-    pub report: Report,
-    trailing: Option<(System, Report)>,
+    /// The index and the column of an unknown of the range.
+    fn place(&self, unknown: usize) -> (i64, usize) {
+        let (m, (low, high), (first, last)) = (self.sizes.m, self.window, self.shown);
+        let at = unknown - (high - last + first - low) as usize * m;
+        (last - (at / m) as i64, m - at % m)
+    }
+
+    /// An equation at n as a row.
+    fn row(&self, equation: &Equation, n: i64) -> Row {
+        let mut row = Row { right: Integer::value(equation.right(), n), ..Row::default() };
+        for (s, c, p) in equation.terms().filter(|(s, ..)| !self.kind.is_zero(n + s)) {
+            let factor = Integer::value(p, n);
+            if !factor.is_zero() {
+                row.add(self.unknown(n + s, c), &factor);
+            }
+        }
+        row
+    }
+
+    /// Every n at which all is said of the window up to an index.
+    fn ns(&self, high: i64) -> RangeInclusive<i64> {
+        self.window.0 - self.sizes.t..=high - self.sizes.l
+    }
+
+    /// How far the work has come at n.
+    fn told(&self, n: i64) -> String {
+        format!("index {} of {} to {}", n + self.sizes.l, self.window.0, self.window.1)
+    }
+
+    /// Holds what is said at n.
+    fn hold(&self, solver: &mut Solver, model: &Model, n: i64, clock: &Clock) -> Result<(), Stop> {
+        for equation in model.needed_at(n, self.window.0 - self.sizes.t, self.kind) {
+            solver.hold(self.row(&equation, n), clock)?;
+        }
+        Ok(())
+    }
+
+    /// Takes what is said at n into conditions, and forgets a vector with it; gives how many of its values nothing
+    /// gives.
+    fn pass(&self, by: &mut Conditions, model: &Model, (n, index): (i64, i64), clock: &Clock) -> Result<usize, Stop> {
+        let mut solver = Solver::default();
+        self.hold(&mut solver, model, n, clock)?;
+        self.leave(by, solver, index, clock)
+    }
+
+    /// Forgets a vector, with what a solver says of it.
+    fn leave(&self, by: &mut Conditions, solver: Solver, index: i64, clock: &Clock) -> Result<usize, Stop> {
+        let free = by.pass(solver, (1..=self.sizes.m).map(|column| self.unknown(index, column)), clock)?;
+        match free {
+            None => Err(Stop::Contradiction),
+            Some(_) if self.kind.is_zero(index) => Ok(0),
+            Some(free) => Ok(free),
+        }
+    }
+
+    /// Forgets a vector of which nothing more is said, and counts those of its values that nothing gives.
+    fn forget(&self, solver: &mut Solver, index: i64) -> usize {
+        let is_free = |column: &usize| solver.remove(self.unknown(index, *column)).is_none();
+        let free = (1..=self.sizes.m).filter(is_free).count();
+        if self.kind.is_zero(index) {
+            0
+        } else {
+            free
+        }
+    }
 }
 
-/// Why there is no answer.
-#[derive(Debug)]
-pub enum Lacking {
-    /// No sequence: the sentence says which equation cannot hold.
-    None(String),
-    /// The root or relation is too far away.
-    Far(String),
+/// What ends the work.
+enum Stop {
+    /// What is said contradicts itself.
+    Contradiction,
+    Late,
+}
+
+impl From<Late> for Stop {
+    fn from(_: Late) -> Stop {
+        Stop::Late
+    }
+}
+
+impl Solver {
+    fn hold(&mut self, row: Row, clock: &Clock) -> Result<(), Stop> {
+        match self.add(row, clock)? {
+            true => Ok(()),
+            false => Err(Stop::Contradiction),
+        }
+    }
 }
 
 /// A range of indices with what is known of its values.
 #[derive(Clone)]
 pub struct Range {
+    places: Places,
     solver: Solver,
-    m: usize,
-    window: (i64, i64),
-    shown: (i64, i64),
-    kind: Kind,
-    /// Whether the window settles everything: each unknown is given by a row, on each side that matters.
-    pub is_settled: bool,
+    /// Values up to this index are worked out.
+    worked: i64,
+    /// How many constants are free that no value of the range depends on.
+    pub elsewhere: usize,
 }
 
 /// A value of the range.
@@ -60,208 +149,180 @@ pub enum Value {
     Given(Fraction, Vec<((i64, usize), Fraction)>),
 }
 
-/// A run that was refused.
-#[derive(Debug)]
-pub enum Unrun {
-    Leading(Refusal),
-    Trailing(Refusal),
-}
-
-/// Whether an equation says something of some value at n.
-fn ties(equation: &Equation, n: i64) -> bool {
-    equation.terms().any(|(_, _, p)| !Fraction::value(p, n).is_zero())
-}
-
-impl Model {
-    /// Runs the leading side, and for two-sided sequences the trailing side: without it nothing bounds the indices that matter.
-    pub fn new(input: System, kind: Kind) -> Result<Model, Unrun> {
-        let mut leading = input.clone();
-        let report = leading.run_leading().map_err(Unrun::Leading)?;
-        if kind != Kind::TwoSided {
-            return Ok(Model { input, leading, report, trailing: None });
-        }
-        let mut trailing = input.clone();
-        let below = trailing.run_trailing().map_err(Unrun::Trailing)?;
-        Ok(Model { input, leading, report, trailing: Some((trailing, below)) })
-    }
-
-    /// The input and its runs, each with its name.
-    fn systems(&self) -> Vec<(&'static str, &System)> {
-        let runs = [("input", &self.input), ("leading run", &self.leading)].into_iter();
-        runs.chain(self.trailing.as_ref().map(|(system, _)| ("trailing run", system))).collect()
-    }
-
-    /// The first index of a range where none is given.
-    pub fn begin(&self, kind: Kind) -> i64 {
-        match kind {
-            Kind::TwoSided => 0,
-            Kind::First(k) => k + self.input.sizes().t,
-            Kind::ZeroBelow(index) => index,
-        }
-    }
-
-    /// The lowest and highest index that matters: those of the roots and the relations.
-    pub fn reach(&self, kind: Kind, (first, last): (i64, i64)) -> Result<(i64, i64), Lacking> {
-        let sizes = self.input.sizes();
-        let span = sizes.l - sizes.t;
-        let (mut low, mut high) = (first, last);
-        for (_, system) in self.systems() {
-            for (n0, _) in system.relations().filter(|(n0, row)| kind.counts(*n0) && ties(row, *n0)) {
-                (low, high) = (low.min(n0 + sizes.t), high.max(n0 + sizes.l));
-            }
-        }
-        if let Some((_, report)) = &self.trailing {
-            low = low.min(report.root.map_or(low, |root| root + sizes.t)) - report.shifts as i64;
-        }
-        high = high.max(self.report.root.map_or(high, |root| root + sizes.l)) + self.report.shifts as i64 + span + 1;
-        low = match kind {
-            Kind::TwoSided => low - span - 1,
-            Kind::First(k) => k + sizes.t,
-            Kind::ZeroBelow(index) => index - span,
-        };
-        high = high.max(low + span + self.report.shifts as i64);
-        if first - low > REACH || high - last > REACH {
-            let told =
-                format!("the roots and relations reach from index {low} to {high}, too far from {first} to {last}");
-            return Err(Lacking::Far(told));
-        }
-        Ok((low, high))
-    }
-
-    /// What is known of the values at the indices of a range.
-    pub fn range(&self, kind: Kind, shown: (i64, i64)) -> Result<Range, Lacking> {
-        let (sizes, window) = (self.input.sizes(), self.reach(kind, shown)?);
-        let trailing_rank = self.trailing.as_ref().map(|(_, report)| report.rank);
-        let is_settled = self.report.rank == sizes.m && (kind != Kind::TwoSided || trailing_rank == Some(sizes.m));
-        let mut range = Range { solver: Solver::default(), m: sizes.m, window, shown, kind, is_settled };
-        if let Kind::ZeroBelow(index) = kind {
-            self.below(index)?;
-        }
-        let ns = window.0 - sizes.t..=window.1 - sizes.l;
-        range.relations(self, |n0| n0 < *ns.start())?;
-        for n in ns.clone() {
-            for (of, system) in self.systems() {
-                for (at, equation) in system.equations().enumerate() {
-                    range.hold(&equation, n, &format!("equation {} of the {of}", at + 1))?;
-                }
-            }
-            range.relations(self, |n0| n0 == n)?;
-        }
-        range.relations(self, |n0| n0 > *ns.end())?;
-        Ok(range)
-    }
-
-    /// Where all values are 0, right sides have to be.
-    fn below(&self, index: i64) -> Result<(), Lacking> {
-        let last = index - self.input.sizes().l - 1;
-        for (at, equation) in self.input.equations().enumerate() {
-            let is_zero = |n: &i64| Fraction::value(equation.right(), *n).is_zero();
-            // A polynomial of degree 15 that is 0 at 16 places is 0.
-            if let Some(n) = (0..16).map(|back| last - back).find(|n| !is_zero(n)) {
-                let told = format!("equation {} cannot hold at n = {n}, where all its values are 0", at + 1);
-                return Err(Lacking::None(told));
-            }
-        }
-        Ok(())
-    }
-}
-
-impl Kind {
-    /// Whether a relation at n0 counts.
-    fn counts(self, n0: i64) -> bool {
-        !matches!(self, Kind::First(k) if n0 < k)
-    }
-}
-
 impl Range {
-    fn is_shown(&self, index: i64) -> bool {
-        (self.shown.0..=self.shown.1).contains(&index)
-    }
-
-    /// The unknown of a value: those above the range come first, then those below it, then the range from its end.
-    fn unknown(&self, index: i64, column: usize) -> usize {
-        let (m, (low, high), (first, last)) = (self.m, self.window, self.shown);
-        let above = (high - last) as usize * m;
-        if index > last {
-            (high - index) as usize * m + m - column
-        } else if index < first {
-            above + (index - low) as usize * m + m - column
-        } else {
-            above + ((first - low) + (last - index)) as usize * m + m - column
+    /// What is known of the values at the indices of a range. Those that roots and relations matter to are worked out,
+    /// and those up to the index `until`.
+    pub fn new(model: &Model, kind: Kind, shown: (i64, i64), until: i64, clock: &Clock) -> Result<Range, Lacking> {
+        let (sizes, (low, high)) = (model.input.sizes(), model.reach(kind, shown)?);
+        if let Kind::ZeroBelow(index) = kind {
+            model.below(index)?;
+        }
+        let places = Places { sizes, window: (low, high.max(shown.1)), shown, kind };
+        // The vectors below the range are done with where D of the range are worked out.
+        let worked = shown.1.min(until.max(high).max(shown.0 - 1 + sizes.l - sizes.t));
+        let mut range = Range { places, solver: Solver::default(), worked, elsewhere: 0 };
+        match range.work(model, high, clock) {
+            Ok(()) => Ok(range),
+            Err(Stop::Late) => Err(Lacking::Late),
+            Err(Stop::Contradiction) => Err(contradiction(places, model, high, clock)?),
         }
     }
 
-    /// The index and the column of an unknown of the range.
-    fn place(&self, unknown: usize) -> (i64, usize) {
-        let ((low, high), (first, last)) = (self.window, self.shown);
-        let at = unknown - ((high - last) + (first - low)) as usize * self.m;
-        (last - (at / self.m) as i64, self.m - at % self.m)
-    }
-
-    /// An equation at n as a row.
-    fn row(&self, equation: &Equation, n: i64) -> Row {
-        let mut row = Row { right: Fraction::value(equation.right(), n), ..Row::new() };
-        for (s, c, p) in equation.terms() {
-            let (is_zero, factor) =
-                (matches!(self.kind, Kind::ZeroBelow(index) if n + s < index), Fraction::value(p, n));
-            if !is_zero && !factor.is_zero() {
-                row.add(self.unknown(n + s, c), &factor);
-            }
+    /// Holds everything that is said of the window up to index `high`, and works the values out.
+    fn work(&mut self, model: &Model, high: i64, clock: &Clock) -> Result<(), Stop> {
+        let (places, sizes, ns) = (self.places, self.places.sizes, self.places.ns(high));
+        // A relation elsewhere is of no value of the window.
+        let is_unheld = |n0: i64, row: &Equation| !ns.contains(&n0) && !Integer::value(row.right(), n0).is_zero();
+        if model.relations(places.kind).any(|(n0, _, row)| is_unheld(n0, &row)) {
+            return Err(Stop::Contradiction);
         }
-        row
-    }
-
-    fn hold(&mut self, equation: &Equation, n: i64, named: &str) -> Result<(), Lacking> {
-        if self.solver.add(&self.row(equation, n)) {
-            return Ok(());
+        let (below, kept) = self.from_below(model, clock)?;
+        let above = self.from_above(model, high, clock)?;
+        for row in below.into_rows() {
+            self.solver.hold(row, clock)?;
         }
-        Err(Lacking::None(format!("no such sequence: {named} cannot hold at n = {n} beside what stands before it")))
+        for n in kept - sizes.t..=self.worked - sizes.l {
+            clock.tell(|| places.told(n));
+            places.hold(&mut self.solver, model, n, clock)?;
+        }
+        for row in above.into_rows() {
+            self.solver.hold(row, clock)?;
+        }
+        for index in kept..places.shown.0 {
+            self.elsewhere += places.forget(&mut self.solver, index);
+        }
+        Ok(())
     }
 
-    /// Holds the relations at some n0.
-    fn relations(&mut self, model: &Model, at: impl Fn(i64) -> bool) -> Result<(), Lacking> {
-        for (of, system) in model.systems() {
-            for (number, (n0, equation)) in system.relations().enumerate() {
-                if at(n0) && self.kind.counts(n0) {
-                    self.hold(&equation, n0, &format!("relation {} of the {of}", number + 1))?;
+    /// The conditions on the range from what is said below it, worked upwards, and the first index that they speak of.
+    fn from_below(&mut self, model: &Model, clock: &Clock) -> Result<(Conditions, i64), Stop> {
+        let (places, sizes, (first, last)) = (self.places, self.places.sizes, self.places.shown);
+        let (mut below, mut kept) = (Conditions::default(), places.window.0);
+        // Of the last D vectors the equations above the range speak too.
+        let most = first.min(last + 1 - (sizes.l - sizes.t));
+        for n in places.ns(self.worked).take_while(|n| n + sizes.t < most) {
+            clock.tell(|| places.told(n));
+            self.elsewhere += places.pass(&mut below, model, (n, n + sizes.t), clock)?;
+            kept = n + sizes.t + 1;
+        }
+        Ok((below, kept))
+    }
+
+    /// The conditions on the range from what is said above it, worked downwards from index `high`.
+    fn from_above(&mut self, model: &Model, high: i64, clock: &Clock) -> Result<Conditions, Stop> {
+        let (places, l, last) = (self.places, self.places.sizes.l, self.places.shown.1);
+        let (ns, mut above, mut kept) = (places.ns(high), Conditions::default(), high);
+        for n in ns.rev().take_while(|n| n + l > last) {
+            clock.tell(|| places.told(n));
+            self.elsewhere += places.pass(&mut above, model, (n, n + l), clock)?;
+            kept = n + l - 1;
+        }
+        for index in (last + 1..=kept).rev() {
+            self.elsewhere += places.leave(&mut above, Solver::default(), index, clock)?;
+        }
+        Ok(above)
+    }
+
+    /// Works the values out up to an index, each vector from those before it.
+    pub fn go_on(&mut self, model: &Model, index: i64, clock: &Clock) -> Result<(), Lacking> {
+        let (places, l) = (self.places, self.places.sizes.l);
+        for index in self.worked + 1..=index {
+            match places.hold(&mut self.solver, model, index - l, clock) {
+                Ok(()) => self.worked = index,
+                Err(Stop::Late) => return Err(Lacking::Late),
+                Err(Stop::Contradiction) => {
+                    return Err(Lacking::None(format!("no such sequence: it ends at index {index}")))
                 }
             }
         }
         Ok(())
     }
 
-    /// The indices of which the equations speak that are looked at, the first and the last.
-    pub fn window(&self) -> (i64, i64) {
-        self.window
+    /// Forgets the values at an index of the range, if no vector has to be worked out from them any more.
+    pub fn forget(&mut self, index: i64) {
+        if index <= self.worked - (self.places.sizes.l - self.places.sizes.t) {
+            self.places.forget(&mut self.solver, index);
+        }
     }
 
-    /// A value of the range, from what is known.
+    /// A value of the range, which is worked out.
     pub fn value(&self, index: i64, column: usize) -> Value {
-        let Some(row) = self.solver.given(self.unknown(index, column)) else { return Value::Free };
+        let unknown = self.places.unknown(index, column);
+        let Some(row) = self.solver.given(unknown) else { return Value::Free };
+        let below = &row.factors[&unknown];
+        if row.factors.len() == 1 {
+            // A row has no common divisor.
+            return Value::Given(Fraction::lowest(row.right.clone(), below.clone()), Vec::new());
+        }
+        let over = |number: &Integer| Fraction::of(number.clone(), below.clone());
         let others = row.factors.iter().skip(1).rev();
-        let others = others.map(|(&unknown, factor)| (self.place(unknown), factor.clone().negated())).collect();
-        Value::Given(row.right.clone(), others)
+        let others = others.map(|(&unknown, factor)| (self.places.place(unknown), over(factor).negated())).collect();
+        Value::Given(over(&row.right), others)
     }
 
-    /// Sets a value of the range; false, and nothing is set, where it cannot be that.
-    pub fn set(&mut self, index: i64, column: usize, value: &Fraction) -> bool {
-        let mut row = Row { right: value.clone(), ..Row::new() };
-        row.add(self.unknown(index, column), &Fraction::from(1));
-        self.is_shown(index) && self.solver.add(&row)
+    /// Sets a value of the range, which is worked out; false, and nothing is set, where it cannot be that.
+    pub fn set(&mut self, index: i64, column: usize, value: &Fraction, clock: &Clock) -> Result<bool, Late> {
+        let mut row = Row { right: value.numerator().clone(), ..Row::default() };
+        row.add(self.places.unknown(index, column), value.denominator());
+        self.solver.add(row, clock)
     }
 
     /// The free values of the range, by index and column.
-    pub fn free(&self) -> Vec<(i64, usize)> {
-        let places = (self.shown.0..=self.shown.1).flat_map(|index| (1..=self.m).map(move |column| (index, column)));
-        places.filter(|&(index, column)| self.value(index, column) == Value::Free).collect()
+    pub fn free(&self, model: &Model, clock: &Clock) -> Result<Vec<(i64, usize)>, Late> {
+        let (m, (first, last), mut free) = (self.places.sizes.m, self.places.shown, Vec::new());
+        for index in first..=last {
+            if index <= self.worked {
+                let is_free = |column: &usize| self.solver.given(self.places.unknown(index, *column)).is_none();
+                free.extend((1..=m).filter(is_free).map(|column| (index, column)));
+            } else {
+                free.extend(free_at(model, index, clock)?.map(|column| (index, column)));
+            }
+        }
+        Ok(free)
     }
+}
 
-    /// How many constants are free that no value of the range depends on.
-    pub fn elsewhere(&self) -> usize {
-        let (low, high) = self.window;
-        let is_zero = |index: i64| matches!(self.kind, Kind::ZeroBelow(first) if index < first);
-        let outside = (low..=high).filter(|&index| !self.is_shown(index) && !is_zero(index));
-        let places = outside.flat_map(|index| (1..=self.m).map(move |column| (index, column)));
-        places.filter(|&(index, column)| self.solver.given(self.unknown(index, column)).is_none()).count()
+/// The columns that the leading run leaves free at an index past all roots: those that the numbers of its rows there
+/// leave without a row.
+fn free_at(model: &Model, index: i64, clock: &Clock) -> Result<impl Iterator<Item = usize>, Late> {
+    let (sizes, mut solver) = (model.leading.sizes(), Solver::default());
+    if model.report.rank < sizes.m {
+        for equation in model.leading.equations() {
+            let mut row = Row::default();
+            for (_, c, p) in equation.terms().filter(|(s, ..)| *s == sizes.l) {
+                row.add(sizes.m - c, &Integer::value(p, index - sizes.l));
+            }
+            solver.add(row, clock)?;
+        }
     }
+    let is_whole = model.report.rank == sizes.m;
+    Ok((1..=sizes.m).filter(move |column| !is_whole && solver.given(sizes.m - column).is_none()))
+}
+
+/// The first of all that is said, from the lowest n on, that cannot hold beside what stands before it.
+fn contradiction(places: Places, model: &Model, high: i64, clock: &Clock) -> Result<Lacking, Late> {
+    let (low, kind, t) = (places.window.0, places.kind, places.sizes.t);
+    // With no index shown the unknowns go from the bottom up, as the n do.
+    let places = Places { window: (low, high), shown: (high + 1, high), ..places };
+    let (ns, mut solver) = (places.ns(high), Solver::default());
+    let (before, behind) = (*ns.start(), *ns.end());
+    let said = |n: i64| model.said_at(n, kind).map(move |(named, row)| (n, named, row));
+    let inside = ns.flat_map(said);
+    let mut relations: Vec<_> = model.relations(kind).collect();
+    relations.sort_by_key(|(n0, ..)| *n0);
+    let above = relations.split_off(relations.partition_point(|(n0, ..)| *n0 <= behind));
+    let below = relations.into_iter().filter(|(n0, ..)| *n0 < before);
+    let mut forgotten = low;
+    for (n, named, equation) in below.chain(inside).chain(above) {
+        clock.tell(|| format!("n = {n} of {before} to {behind}"));
+        for index in forgotten..(n + t).min(high) {
+            places.forget(&mut solver, index);
+            forgotten = index + 1;
+        }
+        if !solver.add(places.row(&equation, n), clock)? {
+            let told = format!("no such sequence: {named} cannot hold at n = {n} beside what stands before it");
+            return Ok(Lacking::None(told));
+        }
+    }
+    Ok(Lacking::None("no such sequence".into()))
 }
