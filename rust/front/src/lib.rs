@@ -17,6 +17,7 @@ mod induce;
 mod json;
 mod log;
 pub mod log_places;
+mod names;
 pub mod places;
 mod replay;
 mod roles;
