@@ -9,6 +9,8 @@ use std::collections::BTreeMap;
 const DEPTH: usize = 64;
 /// Past this power nothing is worked out: 15 is the most that a system can have.
 const POWER: usize = 64;
+/// Blocks are within ± this (SCOPE 1.2).
+pub const BLOCK: i64 = 64;
 /// No coefficient on the way is past ± this, so that sums of products stay far from the end of i128.
 const LARGEST: u128 = 1 << 100;
 
@@ -414,22 +416,22 @@ impl Reader {
             return unread(*place, format!("{other} in an index: an index is {wanted}{hint}"));
         }
         let index = self.bracket(place)?;
-        let number = |value: i128| i64::try_from(value).ok().filter(|value| value.abs() < 1 << 40);
-        let block = match (&index.free[..], at) {
+        let block = match (&index.free[..], at.map(i128::from)) {
             _ if !index.terms.is_empty() => None,
-            ([0, 1], _) => Some(0),
-            ([block, 1], _) => number(*block),
+            ([block, 1], _) => Some(*block),
             ([], Some(n0)) => Some(-n0),
-            ([index], Some(n0)) => number(*index).map(|index| index - n0),
+            ([index], Some(n0)) => Some(index - n0),
             _ => None,
         };
-        let relation =
-            |value: i128| format!("; a value at one index is a relation: at n = {value}: {name}({value}) = ..");
-        let hint = match (&index.free[..], at) {
-            ([], None) => relation(0),
-            ([value], None) => relation(*value),
-            _ => String::new(),
+        let Some(block) = block else {
+            let value = index.free.first().unwrap_or(&0);
+            let relation = format!("; a value at one index is a relation: at n = {value}: {name}({value}) = ..");
+            let hint = if at.is_none() && index.free.len() < 2 { &relation[..] } else { "" };
+            return unread(place, format!("an index is {wanted}{hint}"));
         };
-        block.map_or_else(|| unread(place, format!("an index is {wanted}{hint}")), Ok)
+        match i64::try_from(block) {
+            Ok(block) if (-BLOCK..=BLOCK).contains(&block) => Ok(block),
+            _ => unread(named, format!("n{block:+}: an index is at most {BLOCK} away from n")),
+        }
     }
 }

@@ -168,7 +168,7 @@ impl Names {
             let Some(before) = factors[at].clone() else { continue };
             let rest = &name[at..];
             for word in self.words.iter().filter(|word| *word != name && rest.starts_with(&word[..])) {
-                factors[at + word.len()] = Some([&before[..], &[word.clone()]].concat());
+                factors[at + word.len()] = Some([&before[..], std::slice::from_ref(word)].concat());
             }
             let digits = rest.bytes().take_while(u8::is_ascii_digit).count();
             if digits > 0 && before.last().is_some_and(|last| last == self.variable) {

@@ -1,7 +1,7 @@
 //! Equations as a person writes them, made a sheet or a differential sheet.
 
 use crate::differentials;
-use crate::expressions::{fitting, Kind, Linear, Polynomial, Reader};
+use crate::expressions::{fitting, Kind, Linear, Polynomial, Reader, BLOCK};
 use crate::tokens::{unread, words, Place, Unread, Word};
 use wurgalm::System;
 
@@ -11,8 +11,6 @@ const LONGEST: usize = 1 << 20;
 const C: i128 = 268_435_455;
 /// The highest power of n (SCOPE 1.4).
 const DEGREE: usize = 15;
-/// Blocks are within ± this (SCOPE 1.2).
-const BLOCK: i64 = 64;
 /// Highest minus lowest block is at most this (SCOPE 1.2).
 const SPAN: i64 = 4;
 /// The most equations (SCOPE 1.1) and the most relations (SCOPE 1.23).
@@ -264,9 +262,6 @@ fn blocks(heading: &Heading, statements: &[Statement]) -> Result<(i64, i64), Unr
     let l = l.or(t).unwrap_or(0);
     let t = t.unwrap_or(l);
     for ((s, _), (_, place)) in occurring(statements) {
-        if s.abs() > BLOCK {
-            return unread(*place, format!("n{s:+}: an index is at most 64 away from n"));
-        }
         if !(t..=l).contains(s) {
             return unread(*place, format!("n{s:+} is outside the first line's l = {l} and t = {t}"));
         }
