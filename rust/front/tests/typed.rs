@@ -1,6 +1,8 @@
 //! What a person may type, and the place of what cannot be read.
 
+use compare::random::Random;
 use front::typing::sheet_of;
+use wurgalm::System;
 
 fn typed(text: &str) -> String {
     String::from_utf8(sheet_of(text, false).unwrap()).unwrap()
@@ -164,62 +166,97 @@ fn doubts() {
     }
 }
 
-/// Whatever stands in a text, it is read or refused.
+/// Overflow ends this build, so that the fuzz below would see one.
 #[test]
-fn any_text_ends() {
-    let mut random = compare::random::Random::new(37);
-    let parts = [
-        "x",
-        "y",
-        "n",
-        "(",
-        ")",
-        "+",
-        "-",
-        "*",
-        "^",
-        "=",
-        ";",
-        ":",
-        ",",
-        "'",
-        "\n",
-        " ",
-        "0",
-        "1",
-        "2",
-        "7",
-        "99999999999",
-        "at n = ",
-        "unknowns ",
-        "l = ",
-        "t = ",
-        "order ",
-        "derivatives ",
-        "powers ",
-        "none",
-        "x(n+1)",
-        "y(n)",
-        "x(n-64)",
-        "n^15",
-        "#",
-        "\u{e9}",
-        "/",
-        "\0",
-        "(n + 1)^64",
-        " = 0\n",
-    ];
-    let mut accepted = 0;
-    for _ in 0..100_000 {
-        let text: String = (0..1 + random.below(14)).map(|_| random.pick(&parts)).collect();
-        for is_differential in [false, true] {
-            if let Ok(sheet) = sheet_of(&text, is_differential) {
-                accepted += 1;
-                let is_right =
-                    wurgalm::System::from_sheet(&sheet).is_ok() || wurgalm::System::from_differential(&sheet).is_ok();
-                assert!(is_right, "{text}");
-            }
+fn overflow_is_checked() {
+    let is_checked = std::panic::catch_unwind(|| std::hint::black_box(i128::MAX) + std::hint::black_box(1)).is_err();
+    assert!(is_checked, "rust/Cargo.toml has no overflow-checks for this package");
+}
+
+/// A sheet is made, which the proved reader takes, or the text is refused with a place. Whether it is made.
+fn ends(text: &str, is_differential: bool) -> bool {
+    match front::typing::read(text, is_differential) {
+        Ok(typed) if typed.is_differential => assert!(System::from_differential(&typed.sheet).is_ok(), "{text}"),
+        Ok(typed) => assert!(System::from_sheet(&typed.sheet).is_ok(), "{text}"),
+        Err(unread) => {
+            assert!(unread.place.line > 0 && unread.place.column > 0 && !unread.reason.is_empty(), "{text}");
+            assert!(!unread.reason.contains(char::is_control), "{text}");
+            return false;
         }
     }
-    assert!(accepted > 100);
+    true
+}
+
+/// Parts of texts, put together at random.
+#[rustfmt::skip]
+const PARTS: &[&str] = &[
+    "x", "y", "n", "(", ")", "+", "-", "*", "^", "=", ";", ":", ",", "'", "\n", " ", "0", "1", "2", "7", "99999999999",
+    "at n = ", "unknowns ", "l = ", "t = ", "order ", "derivatives ", "powers ", "none", "x(n+1)", "y(n)", "x(n-64)", "n^15", "#",
+    "\u{e9}", "/", "\0", "(n + 1)^64", " = 0\n", "y''", "y(x)", "y(0)", "xy", "sin(x)", "1e-3", "e", "\r", "\u{feff}",
+];
+
+#[test]
+fn any_text_ends() {
+    let mut random = Random::new(37);
+    let mut taken = 0;
+    for _ in 0..100_000 {
+        let text: String = (0..1 + random.below(14)).map(|_| random.pick(PARTS)).collect();
+        taken += usize::from(ends(&text, false)) + usize::from(ends(&text, true));
+    }
+    assert!(taken > 100, "{taken}");
+}
+
+/// Factors whose products come to the limits of every type.
+const LARGE: &[&str] = &[
+    "2^63",
+    "2^64",
+    "(-2)^63",
+    "(-2)^64",
+    "(-2)^31",
+    "2^36",
+    "2^27",
+    "999999999999",
+    "268435455",
+    "(-1)",
+    "0",
+    "(n + 1)^30",
+    "n^64",
+    "(x - 1)^33",
+    "(2^50 - 1)",
+    "(2^50 + 2^50)",
+    "(1 - 2^63)",
+    "3",
+    "x^2",
+    "n",
+];
+
+/// Large factors in each place that has numbers.
+#[test]
+fn large_numbers_end() {
+    let mut random = Random::new(45);
+    let mut told = 0;
+    for _ in 0..100_000 {
+        let mut factors = || (0..1 + random.below(4)).map(|_| random.pick(LARGE)).collect::<Vec<_>>().join("*");
+        let (a, b, c) = (factors(), factors(), factors());
+        let text = match random.below(5) {
+            0 => format!("x(n+1) + {a}*x(n) - {b}*x(n) = {c}"),
+            1 => format!("x(n + {a}) = {b} - {c}"),
+            2 => format!("at n = 5: {a} x({b}) = {c}; x(n) = 0"),
+            3 => format!("{a}*y'' = {b}*y' - ({c})*y"),
+            _ => format!("unknowns x; l = {a}; t = {b}\n{c} = x(n)"),
+        };
+        ends(&text, false);
+        told += usize::from(sheet_of(&text, false).is_err_and(|unread| unread.reason.starts_with("too large")));
+    }
+    assert!(told > 1_000, "{told}");
+}
+
+/// Texts as they are made for the two readers.
+#[test]
+fn near_misses_end() {
+    let mut random = Random::new(46);
+    for _ in 0..20_000 {
+        let text = compare::typed::texts::some(&mut random);
+        ends(&text, random.one_in(3));
+    }
 }
