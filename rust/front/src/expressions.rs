@@ -243,8 +243,8 @@ impl Reader {
             (Some(Word::Name(name)), Word::Number(0), Word::Sign(')')) => {
                 let over = ["", "", "/2", "/6"].get(primes).copied().unwrap_or("/k! for k primes");
                 format!(
-                    "a value at 0, or a product: equations hold at every x; `wurgalm series` takes the value as --start \
-                     '{name}({primes})=VALUE{over}'"
+                    "a value at 0, or a product: equations hold at every x; `wurgalm series` takes the value as \
+                     --start '{name}({primes})=VALUE{over}'"
                 )
             }
             (_, Word::Number(_), Word::Sign(')')) => {

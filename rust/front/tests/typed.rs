@@ -191,8 +191,9 @@ fn ends(text: &str, is_differential: bool) -> bool {
 #[rustfmt::skip]
 const PARTS: &[&str] = &[
     "x", "y", "n", "(", ")", "+", "-", "*", "^", "=", ";", ":", ",", "'", "\n", " ", "0", "1", "2", "7", "99999999999",
-    "at n = ", "unknowns ", "l = ", "t = ", "order ", "derivatives ", "powers ", "none", "x(n+1)", "y(n)", "x(n-64)", "n^15", "#",
-    "\u{e9}", "/", "\0", "(n + 1)^64", " = 0\n", "y''", "y(x)", "y(0)", "xy", "sin(x)", "1e-3", "e", "\r", "\u{feff}",
+    "at n = ", "unknowns ", "l = ", "t = ", "order ", "derivatives ", "powers ", "none", "x(n+1)", "y(n)", "x(n-64)",
+    "n^15", "#", "\u{e9}", "/", "\0", "(n + 1)^64", " = 0\n", "y''", "y(x)", "y(0)", "xy", "sin(x)", "1e-3",
+    "e", "\r", "\u{feff}",
 ];
 
 #[test]

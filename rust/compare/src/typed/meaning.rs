@@ -5,28 +5,8 @@ use super::wide::Wide;
 use super::{Broken, Meaning, Powers, Row};
 use std::collections::BTreeMap;
 
-const FUNCTIONS: [&str; 20] = [
-    "abs",
-    "acos",
-    "arccos",
-    "arcsin",
-    "arctan",
-    "asin",
-    "atan",
-    "cos",
-    "cosh",
-    "cot",
-    "derivative",
-    "diff",
-    "exp",
-    "ln",
-    "log",
-    "sin",
-    "sinh",
-    "sqrt",
-    "tan",
-    "tanh",
-];
+const FUNCTIONS: &str =
+    "abs acos arccos arcsin arctan asin atan cos cosh cot derivative diff exp ln log sin sinh sqrt tan tanh";
 const NEVER: [&str; 5] = ["at", "derivatives", "n", "none", "unknowns"];
 /// The largest coefficient of a sheet (SCOPE 1.4), and of a differential one (SCOPE 10.5).
 const LARGEST: [i64; 2] = [268_435_455, 1_048_576];
@@ -138,7 +118,7 @@ impl Names<'_> {
             return Ok(at + 1);
         }
         let is_number = self.text.is_differential && matches!(name, "e" | "pi") && !self.text.marked.contains(name);
-        let is_function = FUNCTIONS.iter().any(|function| function.eq_ignore_ascii_case(name));
+        let is_function = FUNCTIONS.split(' ').any(|function| function.eq_ignore_ascii_case(name));
         let is_closed = self.text.heading.is_some() || self.unknowns.len() == 4;
         if is_closed || self.is_never(name) || is_number || is_function || self.is_product(name) {
             return Err(Broken("a name"));
