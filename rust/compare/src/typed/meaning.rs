@@ -92,7 +92,7 @@ impl Names<'_> {
                 }
                 _ => return Err(Broken("a part of the first line")),
             }
-            if letters.next().is_some() {
+            if letters.letter().is_some() {
                 return Err(Broken("behind a part of the first line"));
             }
         }

@@ -162,7 +162,7 @@ fn statement(piece: &[char], is_differential: bool) -> Result<Statement, Broken>
     let left = letters.sum()?;
     letters.sign('=')?;
     let right = letters.sum()?;
-    match letters.next() {
+    match letters.letter() {
         None => Ok(Statement { n0, is_zero_left: before.chars().all(|c| c == '0'), left, right }),
         Some(_) => Err(Broken("behind the equation")),
     }
@@ -182,7 +182,7 @@ impl<'a> Letters<'a> {
     }
 
     /// The next letter that is no blank.
-    pub fn next(&mut self) -> Option<char> {
+    pub fn letter(&mut self) -> Option<char> {
         while self.left.first() == Some(&' ') {
             self.left = &self.left[1..];
         }
@@ -190,7 +190,7 @@ impl<'a> Letters<'a> {
     }
 
     fn has(&mut self, sign: char) -> bool {
-        let found = self.next() == Some(sign);
+        let found = self.letter() == Some(sign);
         if found {
             self.left = &self.left[1..];
         }
@@ -215,7 +215,7 @@ impl<'a> Letters<'a> {
 
     /// A name, if one stands here.
     pub fn name(&mut self) -> Result<Option<String>, Broken> {
-        if !self.next().is_some_and(|c| in_name(c) && !c.is_ascii_digit()) {
+        if !self.letter().is_some_and(|c| in_name(c) && !c.is_ascii_digit()) {
             return Ok(None);
         }
         let width = self.left.iter().take_while(|c| in_name(**c)).count();
@@ -229,7 +229,7 @@ impl<'a> Letters<'a> {
 
     /// The digits of a number.
     fn number(&mut self) -> Result<u64, Broken> {
-        self.next();
+        self.letter();
         let width = self.left.iter().take_while(|c| c.is_ascii_digit()).count();
         let (digits, left) = self.left.split_at(width);
         let behind: String = left.iter().take(3).collect();
@@ -260,7 +260,7 @@ impl<'a> Letters<'a> {
         let mut parts = Vec::new();
         loop {
             parts.push((is_minus, self.product()?));
-            is_minus = match self.next() {
+            is_minus = match self.letter() {
                 Some('+') => false,
                 Some('-') => true,
                 _ => return Ok(Tree::Sum(parts)),
@@ -274,7 +274,7 @@ impl<'a> Letters<'a> {
         loop {
             if !self.has('*') {
                 let behind_unknown = factors.last().is_some_and(Tree::has_unknown);
-                match self.next() {
+                match self.letter() {
                     Some(c) if c.is_ascii_digit() => return Err(Broken("a number behind a factor")),
                     Some('(') if self.is_differential && behind_unknown => {
                         return Err(Broken("a bracket behind an unknown"))
@@ -304,7 +304,7 @@ impl<'a> Letters<'a> {
     }
 
     fn base(&mut self) -> Result<Tree, Broken> {
-        match self.next() {
+        match self.letter() {
             Some('(') => self.bracket(),
             Some(c) if c.is_ascii_digit() => Ok(Tree::Number(self.number()?)),
             _ => match self.name()? {
@@ -339,7 +339,7 @@ impl<'a> Letters<'a> {
         let mut tried = self.clone();
         if tried.has('(') {
             let is_variable = tried.clone().name()?.as_deref() == Some(self.variable());
-            let is_number = tried.next().is_some_and(|c| c.is_ascii_digit());
+            let is_number = tried.letter().is_some_and(|c| c.is_ascii_digit());
             let is_alone = if is_variable {
                 tried.name()?;
                 tried.has(')')

@@ -197,13 +197,18 @@ pub fn whole(random: &mut Random) -> String {
     Maker { random, is_differential, names }.text()
 }
 
-/// A text with one or two of the pieces that are often meant otherwise.
+/// A text with one or two of the pieces that are often meant otherwise, inside it or as an equation at its end.
 fn near_miss(random: &mut Random) -> String {
     let mut text = whole(random);
     for _ in 0..1 + random.below(2) {
+        let miss = random.pick(MISSES);
+        if random.one_in(3) {
+            text += &format!("{miss}{}\n", random.pick(&["", " = 0", " = e'", "*y' = y", "*x(n) = 0"]));
+            continue;
+        }
         let places: Vec<usize> = text.char_indices().map(|(at, _)| at).filter(|_| random.one_in(3)).collect();
         let at = if places.is_empty() { 0 } else { random.pick(&places) };
-        text.insert_str(at, random.pick(MISSES));
+        text.insert_str(at, miss);
     }
     text
 }
